@@ -24,9 +24,9 @@ use Rattle.bl_emit_functions.specs.Functions.{members_of, memory_name, params_fr
 use Rattle.bl_machine_transitions.specs.Runs.{run_number}
 use Rattle.bl_machine_transitions.specs.Told.{NumberedTransition}
 use Rattle.bl_emit_spec.specs.Blocks.{ActivityView, Sizes, counter_value, name_in}
-use Rattle.bl_emit_spec.specs.Names.{callee_name, counter_place, ended_name, flag_place, frame_name}
-use Rattle.bl_emit_spec.specs.Activities.{RunAt, blocks_code, copies_of, counter_member, given_local, over_param, pointer_param}
-use Rattle.bl_emit_spec.specs.Activities.{rested_code, rested_local, result_params, scalar_local, struct_member}
+use Rattle.bl_emit_spec.specs.Names.{callee_name, counter_place, flag_place, frame_name}
+use Rattle.bl_emit_spec.specs.Activities.{RunAt, blocks_code, copies_of, counter_member, ended_local, given_local, over_param, pointer_param}
+use Rattle.bl_emit_spec.specs.Activities.{rested_code, rested_local, result_params, scalar_local, struct_member, word_of_run}
 use Rattle.bl_emit_blocks.specs.Numbered.{numbered_turn}
 use Rattle.bl_emit_tables.specs.Told.{flags_told, marks_told, read_told, runs_told}
 
@@ -58,7 +58,7 @@ view_told a = record {
 
 -- the struct member for where the activity that a `run` calls rests
 abbrev pub frame_member_told : List UnitDef → RunAt → CMember
-frame_member_told earlier run = struct_member (callee_name run.number) (frame_name (name_in (slice_get earlier run.unit)))
+frame_member_told earlier run = struct_member (callee_name (word_of_run earlier run)) (frame_name (name_in (slice_get earlier run.unit)))
 
 -- the struct of where an activity of this name rests: its counters, and the structs of the activities that it runs
 abbrev pub frame_by : List UnitDef → Text → Sizes → List RunAt → CStruct
@@ -76,7 +76,7 @@ frame_told a = frame_by a.earlier a.unit.name a.sizes (runs_told a.rules)
 abbrev pub memory_member_told : List UnitDef → List Bool → RunAt → List CMember
 memory_member_told earlier remember run =
     if unwrap_or (slice_get remember run.unit) false
-    then struct_member (callee_name run.number) (memory_name (name_in (slice_get earlier run.unit))) ∷ []
+    then struct_member (callee_name (word_of_run earlier run)) (memory_name (name_in (slice_get earlier run.unit))) ∷ []
     else []
 
 -- what an activity with these `run`s remembers: its variables, and what the activities that it runs remember
@@ -120,16 +120,16 @@ copy_told unit k = scalar_local (c_scalar (scalar_at (slice_get unit.vars k))) (
 abbrev pub copied_told : UnitDef → List ℕ
 copied_told unit = filter (is_copied (copies_of unit)) (up_to (length unit.vars))
 
--- the locals for a `run`: whether what it calls has ended, and its result
+-- the local for the result of what a `run` calls, where it has one
 abbrev pub run_locals_told : List UnitDef → RunAt → List CLocal
-run_locals_told earlier run =
-    scalar_local OfBool (ended_name run.number) ∷ given_local run.number (option_and_then (λ unit. unit.result) (slice_get earlier run.unit))
+run_locals_told earlier run = given_local (word_of_run earlier run) (option_and_then (λ unit. unit.result) (slice_get earlier run.unit))
 
--- the locals of the activity's function: copies of counters, flags of the first nodes of blocks, marks, copies of variables, and those of each `run`
+-- the locals of the activity's function: copies of counters, flags of the first nodes of blocks, marks, copies of variables, whether what was called has
+-- ended, and the results of `run`s
 abbrev pub locals_by : List UnitDef → UnitDef → Sizes → List NumberedTransition → List (List ℕ) → List ℕ → List ℕ → List RunAt → List CLocal
 locals_by earlier unit sizes rules blocks counters copied runs =
     map (rested_local sizes) counters
-    ++ (flags_told rules blocks ++ (marks_told rules ++ (map (copy_told unit) copied ++ joined (map (run_locals_told earlier) runs))))
+    ++ (flags_told rules blocks ++ (marks_told rules ++ (map (copy_told unit) copied ++ (ended_local runs ++ joined (map (run_locals_told earlier) runs)))))
 
 -- the locals of the activity
 abbrev pub locals_told : ActivityInput → List CLocal

@@ -13,7 +13,7 @@ use crate::chosen::{count_of, is_set};
 use crate::names::{counter_type, name_of};
 use crate::parts::member;
 use crate::runs::RunAt;
-use bl_emit_acts::parts::{NOWHERE, numbered, prefixed};
+use bl_emit_acts::parts::{NOWHERE, numbered, prefixed, worded};
 use bl_emit_functions::memory;
 use bl_tree::c::{CMember, CStruct, CType};
 use bl_tree::tree::{StructDef, Unit};
@@ -47,8 +47,9 @@ fn counters(alloc: Global, sizes: &[u32], count: u32) -> Result<List<CMember>, N
 fn callee_frame(alloc: Global, earlier: &[Unit], run: RunAt) -> Result<CMember, NoMemory>
     ensures { IfOk result (λ made. made ≡ frame_member_told earlier.now (run_in run)) }
 {
-    let name = numbered(alloc, "x", u64::from(run.number))?;
-    let of = prefixed(alloc, "f_", name_of(earlier, run.unit))?;
+    let word = name_of(earlier, run.unit);
+    let name = worded(alloc, "x", u64::from(run.number), word)?;
+    let of = prefixed(alloc, "f_", word)?;
     Ok(member(name, of))
 }
 
@@ -97,8 +98,9 @@ fn add_memory(
     ensures { OnOk result (members.new ≡ members.old ++ memory_member_told earlier.now remember.now (run_in run)) }
 {
     if is_set(remember, run.unit as usize) {
-        let name = numbered(alloc, "x", u64::from(run.number))?;
-        let of = prefixed(alloc, "m_", name_of(earlier, run.unit))?;
+        let word = name_of(earlier, run.unit);
+        let name = worded(alloc, "x", u64::from(run.number), word)?;
+        let of = prefixed(alloc, "m_", word)?;
         members.push(member(name, of))?;
     }
     Ok(())

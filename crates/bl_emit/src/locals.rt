@@ -3,21 +3,21 @@
 ghost use Rattle.std.specs.Prelude.{◌≡◌, ◌++◌, IfOk, OnOk, map, option_and_then, slice_get};
 ghost use Rattle.bl_tree.specs.Reduce.{joined};
 ghost use Rattle.bl_machine_transitions.specs.Told.{rule_in};
-ghost use Rattle.bl_emit_spec.specs.Activities.{given_local, rested_local};
+ghost use Rattle.bl_emit_spec.specs.Activities.{ended_local, given_local, rested_local};
 ghost use Rattle.bl_emit.specs.Activities.{copy_told, locals_by, run_locals_told};
 ghost use Rattle.bl_emit.specs.Kept.{run_in};
 
-use crate::names::{counter_type, scalar_of_variable};
+use crate::names::{counter_type, name_of, scalar_of_variable};
 use crate::parts::local;
 use crate::registers::{add_flags, add_marks};
 use crate::runs::RunAt;
-use bl_emit_acts::parts::{named, numbered};
+use bl_emit_acts::parts::{named, numbered, worded};
 use bl_emit_acts::scalar_in_c;
 use bl_machine_transitions::Transition;
 use bl_tree::c::CLocal;
 use bl_tree::slices::element;
 use bl_tree::tree::Unit;
-use bl_tree::{List, NoMemory, Scalar};
+use bl_tree::{List, NoMemory, Scalar, Text};
 use std::alloc::Global;
 
 /// The local of what a counter held when the tick began.
@@ -76,14 +76,15 @@ fn result_of(units: &[Unit], k: u32) -> Option<Scalar>
 fn add_given(
     alloc: Global,
     number: u32,
+    word: &str,
     ty: Option<Scalar>,
     locals: &mut List<CLocal>,
 ) -> Result<(), NoMemory>
-    ensures { OnOk result (locals.new ≡ locals.old ++ given_local number ty) }
+    ensures { OnOk result (locals.new ≡ locals.old ++ given_local (record { number = number; word = word.now }) ty) }
 {
     match ty {
         Some(s) => {
-            let name = numbered(alloc, "r", u64::from(number))?;
+            let name = worded(alloc, "r", u64::from(number), word)?;
             locals.push(local(scalar_in_c(s), name))?;
             Ok(())
         }
@@ -91,7 +92,7 @@ fn add_given(
     }
 }
 
-/// Appends the locals for a `run`.
+/// Appends the local for the result of what a `run` calls.
 fn add_run(
     alloc: Global,
     earlier: &[Unit],
@@ -100,12 +101,29 @@ fn add_run(
 ) -> Result<(), NoMemory>
     ensures { OnOk result (locals.new ≡ locals.old ++ run_locals_told earlier.now (run_in run)) }
 {
-    let name = numbered(alloc, "e", u64::from(run.number))?;
-    locals.push(local(Scalar::Bool, name))?;
-    add_given(alloc, run.number, result_of(earlier, run.unit), locals)
+    let word = name_of(earlier, run.unit);
+    add_given(
+        alloc,
+        run.number,
+        word,
+        result_of(earlier, run.unit),
+        locals,
+    )
 }
 
-/// Appends the locals for the `run`s.
+/// Appends the local that tells whether what was called last has ended, where there are `run`s.
+fn add_ended(alloc: Global, runs: &[RunAt], locals: &mut List<CLocal>) -> Result<(), NoMemory>
+    ensures { OnOk result (locals.new ≡ locals.old ++ ended_local (map run_in runs.now)) }
+{
+    if runs.is_empty() {
+        return Ok(());
+    }
+    let name = Text::copy_of(alloc, "ended")?;
+    locals.push(local(Scalar::Bool, name))?;
+    Ok(())
+}
+
+/// Appends the locals for the results of what the `run`s call.
 fn add_runs(
     alloc: Global,
     earlier: &[Unit],
@@ -121,7 +139,7 @@ fn add_runs(
 }
 
 /// The locals of the function of an activity: what the counters held, flags of the first nodes of blocks, marks, copies of the
-/// variables, and those of each `run`.
+/// variables, whether what was called has ended, and the results of `run`s.
 pub fn locals(
     alloc: Global,
     earlier: &[Unit],
@@ -140,6 +158,7 @@ pub fn locals(
     add_flags(alloc, rules, blocks, &mut made)?;
     add_marks(alloc, rules, &mut made)?;
     add_copies(alloc, unit, copied, &mut made)?;
+    add_ended(alloc, runs, &mut made)?;
     add_runs(alloc, earlier, runs, &mut made)?;
     Ok(made)
 }

@@ -1,19 +1,21 @@
 //! The functions that begin a program and take one tick.
 
-ghost use Rattle.std.specs.Prelude.{◌≡◌, ◌∷◌, ◌++◌, [], IfOk, None, OnOk, Some, codes, if◌then◌else◌, map, true};
+ghost use Rattle.std.specs.Prelude.{◌≡◌, ◌∷◌, ◌++◌, [], IfOk, None, OnOk, Some, codes, false, if◌then◌else◌, map, true};
 ghost use Rattle.bl_tree.specs.declared.c.CArg.TheVariants.{Address};
 ghost use Rattle.bl_tree.specs.declared.scalar.Scalar.TheVariants.{Nat};
 ghost use Rattle.bl_tree.specs.declared.scalar.Width.TheVariants.{W32};
-ghost use Rattle.bl_emit_acts.specs.Trees.{c_literal, c_place, c_step};
+ghost use Rattle.bl_emit_acts.specs.Trees.{c_literal, c_place, c_read, c_step};
 ghost use Rattle.bl_emit_functions.specs.Trees.{c_if, c_return};
 ghost use Rattle.bl_emit_spec.specs.Activities.{pointer_param};
+ghost use Rattle.bl_emit_spec.specs.Blocks.{unit_may_end, stmt_where};
 ghost use Rattle.bl_emit_spec.specs.Programs as programs;
 
 use crate::interface::{inputs, outputs};
 use crate::parts::{local, pointer};
 use bl_emit_acts::parts::{
-    NOWHERE, clear, literal, member_at, prefixed, read, single, statement, whole,
+    NOWHERE, clear, joined, literal, member_at, prefixed, read, single, statement, whole,
 };
+use bl_emit_blocks::{statement_where, unit_may_end};
 use bl_emit_functions::parts::{choice, returning};
 use bl_tree::c::{CArg, CCall, CExpr, CFunc, CParam, CStmt, CStmtKind};
 use bl_tree::tree::{Unit, Var};
@@ -127,17 +129,26 @@ fn returned_where(alloc: Global, test: CExpr) -> Result<CStmt, NoMemory>
     choice(alloc, test, body, None)
 }
 
+/// What a tick returns behind the call of the entry.
+fn answers(alloc: Global, unit: &Unit) -> Result<List<CStmt>, NoMemory>
+    ensures { IfOk result (λ made. made ≡ stmt_where (unit_may_end unit.now) (c_if (c_read (c_place false (codes "e") [])) (programs.c_returned 1 ∷ []) None)
+        ++ programs.c_returned 0 ∷ []) }
+{
+    let ended = read(whole(alloc, false, Text::copy_of(alloc, "e")?));
+    let asked = returned_where(alloc, ended)?;
+    let mut made = statement_where(alloc, unit_may_end(unit), asked)?;
+    made.push(returned(alloc, 0)?)?;
+    Ok(made)
+}
+
 /// The body of a tick.
 fn body(alloc: Global, unit: &Unit, remembers: bool) -> Result<List<CStmt>, NoMemory>
     ensures { IfOk result (λ made. made ≡ (programs.tick_function unit.now remembers).body) }
 {
     let name = prefixed(alloc, "a_", unit.name.as_str())?;
     let args = args(alloc, unit, remembers)?;
-    let ended = read(whole(alloc, false, Text::copy_of(alloc, "e")?));
-    let mut made = single(alloc, statement(CStmtKind::Call(CCall { name, args })))?;
-    made.push(returned_where(alloc, ended)?)?;
-    made.push(returned(alloc, 0)?)?;
-    Ok(made)
+    let call = single(alloc, statement(CStmtKind::Call(CCall { name, args })))?;
+    joined(call, answers(alloc, unit)?)
 }
 
 /// The parameters of a tick.

@@ -1,6 +1,6 @@
 //! Small parts of C trees. What is made has no place in a text.
 
-ghost use Rattle.std.specs.Prelude.{◌≡◌, ◌∷◌, ◌++◌, [], IfOk, slice_get, true};
+ghost use Rattle.std.specs.Prelude.{◌≡◌, ◌∷◌, ◌++◌, [], IfOk, codes, slice_get, true};
 ghost use Rattle.std.specs.Fmt.{decimal};
 ghost use Rattle.bl_emit_acts.specs.Acts.{c_clear, c_set, c_stmt};
 ghost use Rattle.bl_emit_acts.specs.Trees.{c_called, c_element, c_index, c_literal, c_not, c_place, c_read, c_step, c_two};
@@ -45,20 +45,33 @@ fn source_name(vars: &[Var], k: usize) -> &str
     }
 }
 
+/// A letter, digits, `_` and a word.
+fn spelled(alloc: Global, letter: &str, digits: &str, word: &str) -> Result<Text, NoMemory>
+    ensures { IfOk result (λ text. text ≡ letter.now ++ (digits.now ++ (codes "_" ++ word.now))) }
+{
+    let length = (letter.len().saturating_add(digits.len())).saturating_add(word.len());
+    let mut text = String::with_capacity(alloc, length.saturating_add(1))?;
+    text.push_str(letter)?;
+    text.push_str(digits)?;
+    text.push_str("_")?;
+    text.push_str(word)?;
+    Ok(Text::from_string(text))
+}
+
+/// A letter, a number, `_` and a word.
+pub fn worded(alloc: Global, letter: &str, number: u64, word: &str) -> Result<Text, NoMemory>
+    ensures { IfOk result (λ text. text ≡ letter.now ++ (decimal number ++ (codes "_" ++ word.now))) }
+{
+    let mut buffer = Buffer::new();
+    spelled(alloc, letter, buffer.format(number), word)
+}
+
 /// The name in C of the variable at a position, or of a copy of it: a letter, the position, and the name in the source.
 pub fn named(alloc: Global, letter: &str, vars: &[Var], k: usize) -> Result<Text, NoMemory>
     ensures { IfOk result (λ text. text ≡ letter.now ++ numbered_name vars.now k) }
 {
     let mut buffer = Buffer::new();
-    let number = buffer.format(k);
-    let name = source_name(vars, k);
-    let length = (letter.len().saturating_add(number.len())).saturating_add(name.len());
-    let mut text = String::with_capacity(alloc, length.saturating_add(1))?;
-    text.push_str(letter)?;
-    text.push_str(number)?;
-    text.push_str("_")?;
-    text.push_str(name)?;
-    Ok(Text::from_string(text))
+    spelled(alloc, letter, buffer.format(k), source_name(vars, k))
 }
 
 /// A member, which is no array.

@@ -8,6 +8,7 @@ use Rattle.std.specs.Char.{digit_value}
 use Rattle.std.specs.Fmt.{decimal}
 use Rattle.std.specs.Prelude.{bytes_eq, nat_eq, slice_get}
 use Rattle.std.specs.Str.Parse.{AllDigits}
+use Rattle.bl_tree.specs.declared.text.Text.{Text}
 use Rattle.bl_tree.specs.declared.tree.Var.{Var}
 use Rattle.bl_emit_acts.specs.Types.{numbered_name, source_name}
 
@@ -27,20 +28,25 @@ front_is [] more h = refl
 front_is (c ∷ ds) more h =
     ap (λ b. if b then c ∷ front (ds ++ 95 ∷ more) else []) (digit_other c h.0) ∙ ap (λ rest. c ∷ rest) (front_is ds more h.1)
 
-number_before : (vars : List Var) (k : ℕ) → k < 2 ^ 64 → front (numbered_name vars k) ≡ decimal k
-number_before vars k less =
-    let numeral = decimal_is_IsNumeral k less in front_is (decimal k) (source_name (slice_get vars k)) numeral.0.1
+number_before : (k : ℕ) (word : Text) → k < 2 ^ 64 → front (decimal k ++ 95 ∷ word) ≡ decimal k
+number_before k word less = let numeral = decimal_is_IsNumeral k less in front_is (decimal k) word numeral.0.1
+
+-- names of one letter with different numbers differ, whatever words stand behind the numbers
+pub words_differ : (letter j k : ℕ) (one other : Text) → j < 2 ^ 64 → k < 2 ^ 64 → (j ≡ k → ⊥) →
+    bytes_eq (letter ∷ (decimal j ++ 95 ∷ one)) (letter ∷ (decimal k ++ 95 ∷ other)) ≡ false
+words_differ letter j k one other less most differ = by (bytes_eq (letter ∷ (decimal j ++ 95 ∷ one)) (letter ∷ (decimal k ++ 95 ∷ other))) refl
+  where
+    by : (same : Bool) → bytes_eq (letter ∷ (decimal j ++ 95 ∷ one)) (letter ∷ (decimal k ++ 95 ∷ other)) ≡ same → same ≡ false
+    by false is = refl
+    by true is =
+        let text : letter ∷ (decimal j ++ 95 ∷ one) ≡ letter ∷ (decimal k ++ 95 ∷ other) =
+        (bytes_eq-Decides (letter ∷ (decimal j ++ 95 ∷ one)) (letter ∷ (decimal k ++ 95 ∷ other))).0 is in
+        let numbers : decimal j ≡ decimal k =
+        sym (number_before j one less) ∙ ap (λ name. front (drop 1 name)) text ∙ number_before k other most in
+        absurd (differ (decimal_injective j k less most numbers))
 
 -- names of variables at different positions, or of their copies, differ
 pub names_differ : (letter : ℕ) (vars : List Var) (j k : ℕ) → j < 2 ^ 64 → k < 2 ^ 64 → (j ≡ k → ⊥) →
     bytes_eq (letter ∷ numbered_name vars j) (letter ∷ numbered_name vars k) ≡ false
-names_differ letter vars j k less most differ = by (bytes_eq (letter ∷ numbered_name vars j) (letter ∷ numbered_name vars k)) refl
-  where
-    by : (same : Bool) → bytes_eq (letter ∷ numbered_name vars j) (letter ∷ numbered_name vars k) ≡ same → same ≡ false
-    by false is = refl
-    by true is =
-        let text : letter ∷ numbered_name vars j ≡ letter ∷ numbered_name vars k =
-        (bytes_eq-Decides (letter ∷ numbered_name vars j) (letter ∷ numbered_name vars k)).0 is in
-        let numbers : decimal j ≡ decimal k =
-        sym (number_before vars j less) ∙ ap (λ name. front (drop 1 name)) text ∙ number_before vars k most in
-        absurd (differ (decimal_injective j k less most numbers))
+names_differ letter vars j k less most differ =
+    words_differ letter j k (source_name (slice_get vars j)) (source_name (slice_get vars k)) less most differ

@@ -1,3 +1,4 @@
+mod Ending
 mod Same
 mod Trees
 mod Turns

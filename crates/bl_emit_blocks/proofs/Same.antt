@@ -20,9 +20,10 @@ use Rattle.bl_machine_transitions.specs.declared.transition.Condition.TheVariant
 use Rattle.bl_machine_transitions.specs.declared.transition.Change.{Change}
 use Rattle.bl_machine_transitions.specs.declared.transition.Change.TheVariants as change
 use Rattle.bl_machine_transitions.specs.Told.{Acts, Enters, Nothing, NumberedTransition, Resumes, Task, Tests}
-use Rattle.bl_emit_spec.specs.Blocks.{ActivityView, NodeCode, Sizes, acted, all_tests, arg_where, at_slot, forgotten, has_result}
-use Rattle.bl_emit_spec.specs.Blocks.{choice_code, layer_acted, name_in, rested_in, run_code, some_test, spelled_truth, target_code}
-use Rattle.bl_emit_spec.specs.Names.{callee_frame, callee_memory, ended_place, frame_name, given_place}
+use Rattle.bl_emit_spec.specs.Blocks.{ActivityView, NodeCode, Sizes, acted, all_tests, arg_where, at_slot, forgotten, has_result, may_end_in}
+use Rattle.bl_emit_spec.specs.Blocks.{choice_code, layer_acted, name_in, rested_in, run_code, run_word}
+use Rattle.bl_emit_spec.specs.Blocks.{some_test, spelled_truth, stmt_where, target_code, word_at}
+use Rattle.bl_emit_spec.specs.Names.{NumberedWord, callee_frame, callee_memory, ended_place, frame_name, given_place}
 use Rattle.bl_emit_blocks.specs.Laws.{BlocksAlike}
 use Rattle.bl_emit_blocks.specs.Numbered.{numbered_aged, numbered_begun, numbered_change, numbered_changes}
 use Rattle.bl_emit_blocks.specs.Numbered.{numbered_control, numbered_guard, numbered_own, numbered_resumed, numbered_tested, numbered_turn}
@@ -79,37 +80,39 @@ module _ (site : TypingContext) (copies : List Bool) (sizes : Sizes) (number oth
 
   -- ---- runs
 
-  run_same : (k a : ℕ) (arguments : Arguments) → run_code v k a arguments ≡ run_code w k a arguments
+  run_same : (k : NumberedWord) (a : ℕ) (arguments : Arguments) → run_code v k a arguments ≡ run_code w k a arguments
   run_same k a arguments =
       ap (λ (remembers : Bool).
-      c_set (ended_place k) (c_truth false)
+      c_set ended_place (c_truth false)
       ∷ c_calling (c_call (name_of_callee (slice_get site.earlier a))
       (Address (callee_frame k)
       ∷ (arg_where remembers (Address (callee_memory k))
       ++ (call_args site arguments.inputs arguments.outputs
-      ++ (arg_where (has_result (slice_get site.earlier a)) (Address (given_place k)) ++ Address (ended_place k) ∷ []))))) ∷ [])
+      ++ (arg_where (has_result (slice_get site.earlier a)) (Address (given_place k)) ++ Address ended_place ∷ []))))) ∷ [])
       (keeps a)
 
-  target_same : (k : ℕ) (target : Option Path) → target_code v k target ≡ target_code w k target
+  target_same : (k : NumberedWord) (target : Option Path) → target_code v k target ≡ target_code w k target
   target_same k (Some path) = refl
   target_same k None = refl
 
-  begun_same : (k a : ℕ) (arguments : Arguments) (on_true : List Change) → numbered_begun v k a arguments on_true ≡ numbered_begun w k a arguments on_true
+  begun_same : (k : NumberedWord) (a : ℕ) (arguments : Arguments) (on_true : List Change) →
+      numbered_begun v k a arguments on_true ≡ numbered_begun w k a arguments on_true
   begun_same k a arguments on_true =
       ap (λ code. c_clear (callee_frame k) (frame_name (name_in (slice_get site.earlier a))) ∷ (code ++ numbered_changes v on_true))
       (run_same k a arguments)
       ∙ ap (λ code. c_clear (callee_frame k) (frame_name (name_in (slice_get site.earlier a))) ∷ (run_code w k a arguments ++ code))
       (changes_same on_true)
 
-  resumed_same : (k a : ℕ) (arguments : Arguments) (on_true : List Change) →
+  -- what is done where the activity has ended
+  abbrev asked : ℕ → List CStmt → List CStmt
+  asked a code = stmt_where (may_end_in (slice_get site.earlier a)) (c_if (c_read ended_place) code None)
+
+  resumed_same : (k : NumberedWord) (a : ℕ) (arguments : Arguments) (on_true : List Change) →
       numbered_resumed v k a arguments on_true ≡ numbered_resumed w k a arguments on_true
   resumed_same k a arguments on_true =
-      ap (λ code. code ++ c_if (c_read (ended_place k)) (target_code v k arguments.target ++ numbered_changes v on_true) None ∷ [])
-      (run_same k a arguments)
-      ∙ (ap (λ code. run_code w k a arguments ++ c_if (c_read (ended_place k)) (code ++ numbered_changes v on_true) None ∷ [])
-      (target_same k arguments.target)
-      ∙ ap (λ code. run_code w k a arguments ++ c_if (c_read (ended_place k)) (target_code w k arguments.target ++ code) None ∷ [])
-      (changes_same on_true))
+      ap (λ code. code ++ asked a (target_code v k arguments.target ++ numbered_changes v on_true)) (run_same k a arguments)
+      ∙ (ap (λ code. run_code w k a arguments ++ asked a (code ++ numbered_changes v on_true)) (target_same k arguments.target)
+      ∙ ap (λ code. run_code w k a arguments ++ asked a (target_code w k arguments.target ++ code)) (changes_same on_true))
 
   -- ---- blocks
 
@@ -148,9 +151,9 @@ module _ (site : TypingContext) (copies : List Bool) (sizes : Sizes) (number oth
   control_same rule (Acts s) = changes_same rule.on_true
   control_same rule (Tests e) = tested_same (code_made site e) rule
   control_same rule (Enters at a arguments) =
-      begun_same (run at) a arguments rule.on_true ∙ ap (λ k. numbered_begun w k a arguments rule.on_true) (runs at)
+      begun_same (word_at v at a) a arguments rule.on_true ∙ ap (λ n. numbered_begun w (run_word site.earlier n a) a arguments rule.on_true) (runs at)
   control_same rule (Resumes at a arguments) =
-      resumed_same (run at) a arguments rule.on_true ∙ ap (λ k. numbered_resumed w k a arguments rule.on_true) (runs at)
+      resumed_same (word_at v at a) a arguments rule.on_true ∙ ap (λ n. numbered_resumed w (run_word site.earlier n a) a arguments rule.on_true) (runs at)
 
   abbrev turn : CExpr → List CStmt → List CStmt → NodeCode
   turn test own control = record { test = test; own = own; control = control }

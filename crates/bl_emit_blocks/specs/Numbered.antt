@@ -15,9 +15,9 @@ use Rattle.bl_machine_transitions.specs.declared.transition.Change.{Change}
 use Rattle.bl_machine_transitions.specs.declared.transition.Change.TheVariants as change
 use Rattle.bl_machine_transitions.specs.declared.transition.Needed.{Needed}
 use Rattle.bl_machine_transitions.specs.Told.{Acts, Enters, Nothing, NumberedTransition, Resumes, Task, Tests}
-use Rattle.bl_emit_spec.specs.Blocks.{ActivityView, NodeCode, acted, all_tests, at_slot, choice_code, counter_value, forgotten, freed, name_in}
-use Rattle.bl_emit_spec.specs.Blocks.{rested_at, rested_in, run_code, some_test, spelled_truth, target_code}
-use Rattle.bl_emit_spec.specs.Names.{callee_frame, counter_place, ended_place, flag_place, frame_name, mark_place, over_place}
+use Rattle.bl_emit_spec.specs.Blocks.{ActivityView, NodeCode, acted, all_tests, at_slot, choice_code, counter_value, forgotten, freed, may_end_in, name_in}
+use Rattle.bl_emit_spec.specs.Blocks.{rested_at, rested_in, run_code, some_test, spelled_truth, stmt_where, target_code, word_at}
+use Rattle.bl_emit_spec.specs.Names.{NumberedWord, callee_frame, counter_place, ended_place, flag_place, frame_name, mark_place, over_place}
 
 -- ---- guards
 
@@ -69,17 +69,18 @@ abbrev pub numbered_tested : ActivityView → CExpr → NumberedTransition → L
 numbered_tested view test rule =
     choice_code test (spelled_truth test) (numbered_changes view rule.on_true) (numbered_changes view rule.on_false)
 
--- the C of a `run` that begins, by the number of its place and the position of the activity that it calls
-abbrev pub numbered_begun : ActivityView → ℕ → ℕ → Arguments → List Change → List CStmt
+-- the C of a `run` that begins, by the number and word in its C names and the position of the activity that it calls
+abbrev pub numbered_begun : ActivityView → NumberedWord → ℕ → Arguments → List Change → List CStmt
 numbered_begun view k a arguments on_true =
     c_clear (callee_frame k) (frame_name (name_in (slice_get view.site.earlier a)))
     ∷ (run_code view k a arguments ++ numbered_changes view on_true)
 
--- the C of a `run` that goes on, by the number of its place and the position of the activity that it calls
-abbrev pub numbered_resumed : ActivityView → ℕ → ℕ → Arguments → List Change → List CStmt
+-- the C of a `run` that goes on, by the number and word in its C names and the position of the activity that it calls
+abbrev pub numbered_resumed : ActivityView → NumberedWord → ℕ → Arguments → List Change → List CStmt
 numbered_resumed view k a arguments on_true =
     run_code view k a arguments
-    ++ c_if (c_read (ended_place k)) (target_code view k arguments.target ++ numbered_changes view on_true) None ∷ []
+    ++ stmt_where (may_end_in (slice_get view.site.earlier a))
+    (c_if (c_read ended_place) (target_code view k arguments.target ++ numbered_changes view on_true) None)
 
 -- what a node does itself, by what is done there
 abbrev pub numbered_own : ActivityView → Task → List CStmt
@@ -94,8 +95,8 @@ abbrev pub numbered_control : ActivityView → NumberedTransition → Task → L
 numbered_control view rule Nothing = numbered_changes view rule.on_true
 numbered_control view rule (Acts s) = numbered_changes view rule.on_true
 numbered_control view rule (Tests e) = numbered_tested view (code_made view.site e) rule
-numbered_control view rule (Enters at a arguments) = numbered_begun view (view.run at) a arguments rule.on_true
-numbered_control view rule (Resumes at a arguments) = numbered_resumed view (view.run at) a arguments rule.on_true
+numbered_control view rule (Enters at a arguments) = numbered_begun view (word_at view at a) a arguments rule.on_true
+numbered_control view rule (Resumes at a arguments) = numbered_resumed view (word_at view at a) a arguments rule.on_true
 
 -- the turn of a rule: what is asked before its node, what that does itself, and how it goes on
 abbrev pub numbered_turn : ActivityView → NumberedTransition → NodeCode

@@ -6,6 +6,7 @@
 mod blocks;
 mod changes;
 mod counters;
+mod ends;
 mod guards;
 mod laws;
 mod merging;
@@ -17,6 +18,7 @@ mod tests;
 mod turn;
 mod view;
 
+pub use ends::{statement_where, unit_may_end};
 pub use laws::blocks_alike;
 pub use merging::merged;
 pub use view::ActivityView;

@@ -3,7 +3,7 @@
 ghost use Rattle.std.specs.Prelude.{◌≡◌, IfOk};
 ghost use Rattle.bl_emit_spec.specs.Names as names;
 
-use bl_emit_acts::parts::{member_at, numbered, whole};
+use bl_emit_acts::parts::{member_at, numbered, whole, worded};
 use bl_tree::c::CPlace;
 use bl_tree::{NoMemory, Text};
 use std::alloc::Global;
@@ -50,30 +50,30 @@ pub fn returned(alloc: Global) -> Result<CPlace, NoMemory>
     Ok(whole(alloc, true, Text::copy_of(alloc, "r")?))
 }
 
-/// Whether the body of the activity that a `run` calls has ended, by the number of the place of the `run`.
-pub fn ended(alloc: Global, k: u32) -> Result<CPlace, NoMemory>
-    ensures { IfOk result (λ place. place ≡ names.ended_place k) }
+/// Whether the body of the activity that was called last has ended.
+pub fn ended(alloc: Global) -> Result<CPlace, NoMemory>
+    ensures { IfOk result (λ place. place ≡ names.ended_place) }
 {
-    Ok(whole(alloc, false, numbered(alloc, "e", u64::from(k))?))
+    Ok(whole(alloc, false, Text::copy_of(alloc, "ended")?))
 }
 
-/// Its result.
-pub fn given(alloc: Global, k: u32) -> Result<CPlace, NoMemory>
-    ensures { IfOk result (λ place. place ≡ names.given_place k) }
+/// The result of the activity that a `run` calls, by the number of the place of the `run` and the name of the activity.
+pub fn given(alloc: Global, k: u32, word: &str) -> Result<CPlace, NoMemory>
+    ensures { IfOk result (λ place. place ≡ names.given_place (record { number = k; word = word.now })) }
 {
-    Ok(whole(alloc, false, numbered(alloc, "r", u64::from(k))?))
+    Ok(whole(alloc, false, worded(alloc, "r", u64::from(k), word)?))
 }
 
 /// Where the activity that a `run` calls rests.
-pub fn callee_frame(alloc: Global, k: u32) -> Result<CPlace, NoMemory>
-    ensures { IfOk result (λ place. place ≡ names.callee_frame k) }
+pub fn callee_frame(alloc: Global, k: u32, word: &str) -> Result<CPlace, NoMemory>
+    ensures { IfOk result (λ place. place ≡ names.callee_frame (record { number = k; word = word.now })) }
 {
-    member_at(alloc, "f", numbered(alloc, "x", u64::from(k))?)
+    member_at(alloc, "f", worded(alloc, "x", u64::from(k), word)?)
 }
 
 /// What it remembers.
-pub fn callee_memory(alloc: Global, k: u32) -> Result<CPlace, NoMemory>
-    ensures { IfOk result (λ place. place ≡ names.callee_memory k) }
+pub fn callee_memory(alloc: Global, k: u32, word: &str) -> Result<CPlace, NoMemory>
+    ensures { IfOk result (λ place. place ≡ names.callee_memory (record { number = k; word = word.now })) }
 {
-    member_at(alloc, "m", numbered(alloc, "x", u64::from(k))?)
+    member_at(alloc, "m", worded(alloc, "x", u64::from(k), word)?)
 }

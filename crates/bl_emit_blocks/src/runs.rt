@@ -1,18 +1,20 @@
 //! What a `run` does at a node.
 
-ghost use Rattle.std.specs.Prelude.{◌≡◌, ◌++◌, ◌∷◌, IfOk, map, option_map, slice_get};
+ghost use Rattle.std.specs.Prelude.{◌≡◌, ◌++◌, ◌∷◌, IfOk, None, map, slice_get};
 ghost use Rattle.bl_tree.specs.declared.c.CArg.TheVariants.{Address};
 ghost use Rattle.bl_emit_acts.specs.Acts.{c_calling, name_of_callee, output_arg};
 ghost use Rattle.bl_emit_acts.specs.Expressions.{arg_of, made_of};
 ghost use Rattle.bl_emit_acts.specs.Sites.{site_in};
-ghost use Rattle.bl_emit_acts.specs.Trees.{c_call};
+ghost use Rattle.bl_emit_acts.specs.Trees.{c_call, c_read};
 ghost use Rattle.bl_emit_blocks.specs.Numbered as numbered;
 ghost use Rattle.bl_emit_blocks.specs.Views.{view_in};
+ghost use Rattle.bl_emit_functions.specs.Trees.{c_if};
 ghost use Rattle.bl_emit_spec.specs.Blocks as blocks;
 ghost use Rattle.bl_emit_spec.specs.Names as names;
 ghost use Rattle.bl_machine_transitions.specs.Told.{arguments_in};
 
 use crate::changes::changes;
+use crate::ends::{statement_where, unit_may_end};
 use crate::places::{callee_frame, callee_memory, ended, given};
 use crate::view::ActivityView;
 use bl_emit_acts::parts::{clear, joined, prefixed, read, set, single, statement};
@@ -47,6 +49,16 @@ fn remembers(view: &ActivityView, a: u32) -> bool
     }
 }
 
+/// Whether it may end.
+fn ends(view: &ActivityView, a: u32) -> bool
+    ensures { result ≡ blocks.may_end_in (slice_get (view_in view.entry.now).site.earlier a) }
+{
+    match element(view.site.earlier, a as usize) {
+        Some(unit) => unit_may_end(unit),
+        None => true,
+    }
+}
+
 /// The name of its function.
 fn callee(alloc: Global, view: &ActivityView, a: u32) -> Result<Text, NoMemory>
     ensures { IfOk result (λ name. name ≡ name_of_callee (slice_get (view_in view.entry.now).site.earlier a)) }
@@ -57,14 +69,21 @@ fn callee(alloc: Global, view: &ActivityView, a: u32) -> Result<Text, NoMemory>
     }
 }
 
-/// The name of the struct of where it rests.
-fn frame(alloc: Global, view: &ActivityView, a: u32) -> Result<Text, NoMemory>
-    ensures { IfOk result (λ name. name ≡ names.frame_name (blocks.name_in (slice_get (view_in view.entry.now).site.earlier a))) }
+/// Its name in the source.
+fn name<'a>(view: &ActivityView<'a>, a: u32) -> &'a str
+    ensures { result.now ≡ blocks.name_in (slice_get (view_in view.entry.now).site.earlier a) }
 {
     match element(view.site.earlier, a as usize) {
-        Some(unit) => prefixed(alloc, "f_", unit.name.as_str()),
-        None => prefixed(alloc, "f_", ""),
+        Some(unit) => unit.name.as_str(),
+        None => "",
     }
+}
+
+/// The name of the struct of where it rests.
+fn frame(alloc: Global, view: &ActivityView, a: u32) -> Result<Text, NoMemory>
+    ensures { IfOk result (λ text. text ≡ names.frame_name (blocks.name_in (slice_get (view_in view.entry.now).site.earlier a))) }
+{
+    prefixed(alloc, "f_", name(view, a))
 }
 
 // ---- arguments
@@ -114,26 +133,30 @@ fn with_outputs(
 
 /// Where the activity rests, and what it remembers, by the number of the `run`.
 fn first_args(alloc: Global, view: &ActivityView, k: u32, run: &Run) -> Result<List<CArg>, NoMemory>
-    ensures { IfOk result (λ args. args ≡ Address (names.callee_frame k)
-        ∷ blocks.arg_where ((view_in view.entry.now).remembers run.entry.now.unit) (Address (names.callee_memory k))) }
+    ensures { IfOk result (λ args. args ≡ Address (names.callee_frame (blocks.run_word (view_in view.entry.now).site.earlier k run.entry.now.unit))
+        ∷ blocks.arg_where ((view_in view.entry.now).remembers run.entry.now.unit)
+        (Address (names.callee_memory (blocks.run_word (view_in view.entry.now).site.earlier k run.entry.now.unit)))) }
 {
+    let word = name(view, run.unit);
     let mut args = List::new(alloc);
-    args.push(CArg::Address(callee_frame(alloc, k)?))?;
-    let memory = callee_memory(alloc, k)?;
+    args.push(CArg::Address(callee_frame(alloc, k, word)?))?;
+    let memory = callee_memory(alloc, k, word)?;
     with_address(args, remembers(view, run.unit), memory)
 }
 
 /// The arguments of the call of an activity.
 fn run_args(alloc: Global, view: &ActivityView, k: u32, run: &Run) -> Result<List<CArg>, NoMemory>
     ensures { IfOk result (λ args. args
-        ≡ blocks.run_args (view_in view.entry.now) k run.entry.now.unit (arguments_in run.entry.now)) }
+        ≡ blocks.run_args (view_in view.entry.now) (blocks.run_word (view_in view.entry.now).site.earlier k run.entry.now.unit)
+        run.entry.now.unit (arguments_in run.entry.now)) }
 {
     let args = first_args(alloc, view, k, run)?;
     let args = with_inputs(alloc, args, &view.site, run.inputs)?;
     let args = with_outputs(alloc, args, &view.site, run.outputs)?;
-    let result = given(alloc, k)?;
+    let word = name(view, run.unit);
+    let result = given(alloc, k, word)?;
     let args = with_address(args, has_result(view, run.unit), result)?;
-    with_address(args, true, ended(alloc, k)?)
+    with_address(args, true, ended(alloc)?)
 }
 
 // ---- calls
@@ -141,7 +164,8 @@ fn run_args(alloc: Global, view: &ActivityView, k: u32, run: &Run) -> Result<Lis
 /// The call of an activity.
 fn called(alloc: Global, view: &ActivityView, k: u32, run: &Run) -> Result<CStmt, NoMemory>
     ensures { IfOk result (λ s. s ≡ c_calling (c_call (name_of_callee (slice_get (view_in view.entry.now).site.earlier run.entry.now.unit))
-        (blocks.run_args (view_in view.entry.now) k run.entry.now.unit (arguments_in run.entry.now)))) }
+        (blocks.run_args (view_in view.entry.now) (blocks.run_word (view_in view.entry.now).site.earlier k run.entry.now.unit)
+        run.entry.now.unit (arguments_in run.entry.now)))) }
 {
     let name = callee(alloc, view, run.unit)?;
     let args = run_args(alloc, view, k, run)?;
@@ -151,9 +175,10 @@ fn called(alloc: Global, view: &ActivityView, k: u32, run: &Run) -> Result<CStmt
 /// The call, before which the activity hasn't ended.
 fn run_code(alloc: Global, view: &ActivityView, k: u32, run: &Run) -> Result<List<CStmt>, NoMemory>
     ensures { IfOk result (λ code. code
-        ≡ blocks.run_code (view_in view.entry.now) k run.entry.now.unit (arguments_in run.entry.now)) }
+        ≡ blocks.run_code (view_in view.entry.now) (blocks.run_word (view_in view.entry.now).site.earlier k run.entry.now.unit)
+        run.entry.now.unit (arguments_in run.entry.now)) }
 {
-    let going = set(alloc, ended(alloc, k)?, truth(false))?;
+    let going = set(alloc, ended(alloc)?, truth(false))?;
     let mut code = single(alloc, going)?;
     code.push(called(alloc, view, k, run)?)?;
     Ok(code)
@@ -164,18 +189,41 @@ fn target_code(
     alloc: Global,
     view: &ActivityView,
     k: u32,
-    target: Option<&Path>,
+    run: &Run,
 ) -> Result<List<CStmt>, NoMemory>
     ensures { IfOk result (λ code. code
-        ≡ blocks.target_code (view_in view.entry.now) k (option_map (λ path. path.now) target.entry)) }
+        ≡ blocks.target_code (view_in view.entry.now) (blocks.run_word (view_in view.entry.now).site.earlier k run.entry.now.unit)
+        (arguments_in run.entry.now).target) }
 {
-    match target {
+    match run.target {
         Some(path) => {
             let at = place(alloc, &view.site, path)?;
-            single(alloc, set(alloc, at, read(given(alloc, k)?))?)
+            let value = read(given(alloc, k, name(view, run.unit))?);
+            single(alloc, set(alloc, at, value)?)
         }
         None => Ok(List::new(alloc)),
     }
+}
+
+/// What is done where the activity has ended, if it may end.
+fn ended_code(
+    alloc: Global,
+    view: &ActivityView,
+    k: u32,
+    run: &Run,
+    on_true: &[Change],
+) -> Result<List<CStmt>, NoMemory>
+    ensures { IfOk result (λ code. code
+        ≡ blocks.stmt_where (blocks.may_end_in (slice_get (view_in view.entry.now).site.earlier run.entry.now.unit))
+        (c_if (c_read names.ended_place)
+        (blocks.target_code (view_in view.entry.now) (blocks.run_word (view_in view.entry.now).site.earlier k run.entry.now.unit)
+        (arguments_in run.entry.now).target ++ numbered.numbered_changes (view_in view.entry.now) on_true.now) None)) }
+{
+    let target = target_code(alloc, view, k, run)?;
+    let then = joined(target, changes(alloc, view, on_true)?)?;
+    let test = read(ended(alloc)?);
+    let asked = choice(alloc, test, then, None)?;
+    statement_where(alloc, ends(view, run.unit), asked)
 }
 
 /// What a `run` does where it begins.
@@ -186,10 +234,11 @@ pub fn begun(
     on_true: &[Change],
 ) -> Result<List<CStmt>, NoMemory>
     ensures { IfOk result (λ code. code
-        ≡ numbered.numbered_begun (view_in view.entry.now) ((view_in view.entry.now).run run.entry.now.place) run.entry.now.unit (arguments_in run.entry.now) on_true.now) }
+        ≡ numbered.numbered_begun (view_in view.entry.now) (blocks.word_at (view_in view.entry.now) run.entry.now.place run.entry.now.unit)
+        run.entry.now.unit (arguments_in run.entry.now) on_true.now) }
 {
     let k = view.runs.find(run.place);
-    let at = callee_frame(alloc, k)?;
+    let at = callee_frame(alloc, k, name(view, run.unit))?;
     let start = single(alloc, clear(alloc, at, frame(alloc, view, run.unit)?)?)?;
     let rest = joined(
         run_code(alloc, view, k, run)?,
@@ -206,12 +255,10 @@ pub fn resumed(
     on_true: &[Change],
 ) -> Result<List<CStmt>, NoMemory>
     ensures { IfOk result (λ code. code
-        ≡ numbered.numbered_resumed (view_in view.entry.now) ((view_in view.entry.now).run run.entry.now.place) run.entry.now.unit (arguments_in run.entry.now) on_true.now) }
+        ≡ numbered.numbered_resumed (view_in view.entry.now) (blocks.word_at (view_in view.entry.now) run.entry.now.place run.entry.now.unit)
+        run.entry.now.unit (arguments_in run.entry.now) on_true.now) }
 {
     let k = view.runs.find(run.place);
     let call = run_code(alloc, view, k, run)?;
-    let target = target_code(alloc, view, k, run.target)?;
-    let then = joined(target, changes(alloc, view, on_true)?)?;
-    let test = read(ended(alloc, k)?);
-    joined(call, single(alloc, choice(alloc, test, then, None)?)?)
+    joined(call, ended_code(alloc, view, k, run, on_true)?)
 }

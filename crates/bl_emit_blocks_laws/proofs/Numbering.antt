@@ -31,9 +31,9 @@ use Rattle.bl_machine_pass.specs.Numbered.{slots_of}
 use Rattle.bl_machine_transitions.specs.Callees.{callees_in}
 use Rattle.bl_machine_transitions_laws.specs.Laws.{RulesAreListed}
 use Rattle.bl_machine_transitions.specs.Told.{all_told, task_at, told_change, told_condition, told_rule}
-use Rattle.bl_emit_spec.specs.Blocks.{ActivityView, NodeCode, change_code, changes_code, choice_code, control_code, guard_of, name_in, node_turn}
-use Rattle.bl_emit_spec.specs.Blocks.{own_code, run_code, spelled_truth, target_code, turns_of}
-use Rattle.bl_emit_spec.specs.Names.{callee_frame, ended_place, frame_name}
+use Rattle.bl_emit_spec.specs.Blocks.{ActivityView, NodeCode, change_code, changes_code, choice_code, control_code, guard_of, may_end_in, name_in, node_turn}
+use Rattle.bl_emit_spec.specs.Blocks.{own_code, run_code, spelled_truth, stmt_where, target_code, turns_of, word_at}
+use Rattle.bl_emit_spec.specs.Names.{NumberedWord, callee_frame, ended_place, frame_name}
 use Rattle.bl_emit_blocks.specs.Numbered.{numbered_change, numbered_changes, numbered_control, numbered_guard, numbered_own, numbered_turn}
 use Rattle.bl_emit_blocks_laws.specs.Laws.{BlocksAreNumbered, BodiesAreNumbered}
 
@@ -71,13 +71,14 @@ module _ (view : ActivityView) where
       ap (λ x. test_with (code_made view.site e) x on_false) one ∙ ap (λ x. test_with (code_made view.site e) to x) two
 
   -- a `run` that begins, and one that goes on, by what changes then
-  abbrev begun_with : ℕ → ℕ → Arguments → List CStmt → List CStmt
+  abbrev begun_with : ℕ → NumberedWord → Arguments → List CStmt → List CStmt
   begun_with unit k arguments on_true =
       c_clear (callee_frame k) (frame_name (name_in (slice_get view.site.earlier unit))) ∷ (run_code view k unit arguments ++ on_true)
 
-  abbrev resumed_with : ℕ → ℕ → Arguments → List CStmt → List CStmt
+  abbrev resumed_with : ℕ → NumberedWord → Arguments → List CStmt → List CStmt
   resumed_with unit k arguments on_true =
-      run_code view k unit arguments ++ c_if (c_read (ended_place k)) (target_code view k arguments.target ++ on_true) None ∷ []
+      run_code view k unit arguments
+      ++ stmt_where (may_end_in (slice_get view.site.earlier unit)) (c_if (c_read ended_place) (target_code view k arguments.target ++ on_true) None)
 
   own_is : (unit : ℕ) (n : Node) → own_code view n ≡ numbered_own view (task_at view.number unit n)
   own_is unit (ActAt l s) = refl
@@ -99,8 +100,8 @@ module _ (view : ActivityView) where
   control_is unit rule (ActAt l s) = changes_are rule.on_true
   control_is unit rule (TestAt l at e) = test_is e _ _ _ _ (changes_are rule.on_true) (changes_are rule.on_false)
   control_is unit rule (CheckAt l at e) = test_is e _ _ _ _ (changes_are rule.on_true) (changes_are rule.on_false)
-  control_is unit rule (EnterAt l at arguments) = ap (begun_with unit (view.run at) arguments) (changes_are rule.on_true)
-  control_is unit rule (ResumeAt l at arguments) = ap (resumed_with unit (view.run at) arguments) (changes_are rule.on_true)
+  control_is unit rule (EnterAt l at arguments) = ap (begun_with unit (word_at view at unit) arguments) (changes_are rule.on_true)
+  control_is unit rule (ResumeAt l at arguments) = ap (resumed_with unit (word_at view at unit) arguments) (changes_are rule.on_true)
   control_is unit rule (PauseAt l at) = changes_are rule.on_true
   control_is unit rule (HeadAt l at) = changes_are rule.on_true
   control_is unit rule (StartAt l at) = changes_are rule.on_true

@@ -32,8 +32,8 @@ use Rattle.bl_emit_functions.specs.Functions.{members_of, memory_name, params_fr
 use Rattle.bl_machine_pass.specs.Transitions.{Change, Condition, Transition}
 use Rattle.bl_machine_pass.specs.Transitions.{Ended, Flagged, Rested, RestedIn, SetsMark, rules}
 pub use Rattle.bl_machine_transitions.specs.Callees.{callees_in, node_number}
-use Rattle.bl_emit_spec.specs.Blocks.{ActivityView, NodeCode, Sizes, counter_type, counter_value, merged_code, name_in, turns_of}
-use Rattle.bl_emit_spec.specs.Names.{callee_name, counter_name, counter_place, ended_name, flag_name, flag_place, frame_name}
+use Rattle.bl_emit_spec.specs.Blocks.{ActivityView, NodeCode, Sizes, counter_type, counter_value, merged_code, name_in, run_word, turns_of}
+use Rattle.bl_emit_spec.specs.Names.{NumberedWord, callee_name, counter_name, counter_place, ended_name, flag_name, flag_place, frame_name}
 use Rattle.bl_emit_spec.specs.Names.{given_name, mark_name, rested_name, rested_place}
 use Rattle.bl_machine_prevs.specs.Prevs.{prevs_of}
 
@@ -149,6 +149,10 @@ one_a_place (run ∷ rest) = run ∷ filter (λ other. not (same_place run.place
 abbrev pub runs_in_body : Activity → List RunAt
 runs_in_body a = one_a_place (runs_at (activity_view a).number (callees_in (body_of a)) (rules_at a))
 
+-- the number and word in the C names of a `run`
+abbrev pub word_of_run : List UnitDef → RunAt → NumberedWord
+word_of_run earlier run = run_word earlier run.number run.unit
+
 -- ---- structs
 
 -- a member that is a struct
@@ -161,7 +165,7 @@ counter_member sizes k = record { ty = OfScalar (counter_type sizes k); name = c
 
 -- the struct member for where the activity that a `run` calls rests
 abbrev pub frame_member : Activity → RunAt → CMember
-frame_member a run = struct_member (callee_name run.number) (frame_name (name_in (slice_get a.earlier run.unit)))
+frame_member a run = struct_member (callee_name (word_of_run a.earlier run)) (frame_name (name_in (slice_get a.earlier run.unit)))
 
 -- the struct of where an activity rests: its counters, and the structs of the activities that it runs
 abbrev pub frame_struct : Activity → CStruct
@@ -175,7 +179,7 @@ frame_struct a = record {
 abbrev pub memory_member : Activity → RunAt → List CMember
 memory_member a run =
     if (activity_view a).remembers run.unit
-    then struct_member (callee_name run.number) (memory_name (name_in (slice_get a.earlier run.unit))) ∷ []
+    then struct_member (callee_name (word_of_run a.earlier run)) (memory_name (name_in (slice_get a.earlier run.unit))) ∷ []
     else []
 
 -- what an activity remembers: its variables, and what the activities that it runs remember
@@ -251,22 +255,26 @@ abbrev pub copied_in : Activity → List ℕ
 copied_in a = filter (is_copied (copies_of a.unit)) (up_to (length a.unit.vars))
 
 -- the local for the result of a unit, where it has one
-abbrev pub given_local : ℕ → Option Scalar → List CLocal
+abbrev pub given_local : NumberedWord → Option Scalar → List CLocal
 given_local k (Some s) = scalar_local (c_scalar s) (given_name k) ∷ []
 given_local k None = []
 
--- the locals for a `run`: whether what it calls has ended, and its result
-abbrev pub run_locals : Activity → RunAt → List CLocal
-run_locals a run =
-    scalar_local OfBool (ended_name run.number) ∷ given_local run.number (option_and_then (λ unit. unit.result) (slice_get a.earlier run.unit))
+-- the local that tells whether what was called last has ended, where there are `run`s
+abbrev pub ended_local : List RunAt → List CLocal
+ended_local [] = []
+ended_local (run ∷ rest) = scalar_local OfBool ended_name ∷ []
 
--- the locals: what counters held, flags of the first nodes of blocks, marks, copies, and those of each `run`
+-- the local for the result of what a `run` calls, where it has one
+abbrev pub run_locals : Activity → RunAt → List CLocal
+run_locals a run = given_local (word_of_run a.earlier run) (option_and_then (λ unit. unit.result) (slice_get a.earlier run.unit))
+
+-- the locals: what counters held, flags of the first nodes of blocks, marks, copies, whether what was called has ended, and the results of `run`s
 abbrev pub activity_locals : Activity → List CLocal
 activity_locals a =
     map (rested_local a.sizes) (counters_read a)
     ++ (joined (map (flag_local (activity_view a).number) (first_rules a))
     ++ (joined (map (mark_locals (activity_view a).number) (rules_at a))
-    ++ (map (copy_local a) (copied_in a) ++ joined (map (run_locals a) (runs_in_body a)))))
+    ++ (map (copy_local a) (copied_in a) ++ (ended_local (runs_in_body a) ++ joined (map (run_locals a) (runs_in_body a))))))
 
 -- what a counter holds as the tick begins is copied
 abbrev pub rested_code : ℕ → CStmt

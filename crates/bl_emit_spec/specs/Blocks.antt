@@ -1,6 +1,6 @@
 -- The C of the blocks of a pass: one `if` for each block, with what its nodes do, and what changes behind the last of them.
 use Rattle.std.specs.Prelude.{ℕ, zero, suc, pos, Bool, true, false, List, [], ◌∷◌, ◌++◌, map, Option, Some, None, if◌then◌else◌}
-use Rattle.std.specs.Prelude.{◌&&◌, length, is_some, nat_eq, nat_le, slice_get, unwrap_or}
+use Rattle.std.specs.Prelude.{◌&&◌, not, length, is_some, nat_eq, nat_le, slice_get, unwrap_or}
 use Rattle.bl_tree.specs.declared.text.Text.{Text}
 use Rattle.bl_tree.specs.declared.c.CArg.{CArg}
 use Rattle.bl_tree.specs.declared.c.CArg.TheVariants.{Address}
@@ -19,6 +19,7 @@ use Rattle.bl_tree.specs.declared.tree.StmtKind.{out-StmtKind}
 use Rattle.bl_tree.specs.declared.tree.StmtKind.TheOpen.{StmtKind-F}
 use Rattle.bl_tree.specs.declared.tree.Unit.{Unit as UnitDef}
 use Rattle.bl_tree.specs.Numbers.{is_one}
+use Rattle.bl_tree.specs.Returns.{last_of}
 use Rattle.bl_tree.specs.Typing.{TypingContext}
 use Rattle.bl_graph_nodes.specs.Nodes.{ActAt, Arguments, CheckAt, EnterAt, Node, ResumeAt, TestAt}
 use Rattle.bl_machine.specs.declared.slots.Slot.{Slot}
@@ -30,7 +31,7 @@ use Rattle.bl_emit_functions.specs.Trees.{c_if, c_truth}
 use Rattle.bl_machine_pass.specs.Transitions.{Age, Change, Condition, Needed, Transition}
 use Rattle.bl_machine_pass.specs.Transitions.{ClearsBoth, ClearsCounter, Ended, EndsWhen, Finishes, Flagged, IsAny, IsNew, IsOld, Rested, RestedIn}
 use Rattle.bl_machine_pass.specs.Transitions.{SetsCounter, SetsFlag, SetsMark}
-use Rattle.bl_emit_spec.specs.Names.{callee_frame, callee_memory, counter_place, ended_place, flag_place, frame_name, given_place}
+use Rattle.bl_emit_spec.specs.Names.{NumberedWord, callee_frame, callee_memory, counter_place, ended_place, flag_place, frame_name, given_place}
 use Rattle.bl_emit_spec.specs.Names.{mark_place, over_place, rested_place, result_place}
 
 -- ---- numbers of counters
@@ -211,27 +212,58 @@ abbrev pub name_in : Option UnitDef → Text
 name_in (Some unit) = unit.name
 name_in None = []
 
+-- the number and word in the C names of a `run`: the number of its place, and the name of the activity that it calls
+abbrev pub run_word : List UnitDef → ℕ → ℕ → NumberedWord
+run_word earlier number a = record { number = number; word = name_in (slice_get earlier a) }
+
+-- the number and word in the C names of a `run` at the place that calls the activity
+abbrev pub word_at : ActivityView → Place → ℕ → NumberedWord
+word_at view at a = run_word view.site.earlier (view.run at) a
+
 -- an argument, where the test is true
 abbrev pub arg_where : Bool → CArg → List CArg
 arg_where true arg = arg ∷ []
 arg_where false arg = []
 
 -- the arguments of the call of an activity: where it rests, what it remembers, its inputs and outputs, its result, and whether it has ended
-abbrev pub run_args : ActivityView → ℕ → ℕ → Arguments → List CArg
+abbrev pub run_args : ActivityView → NumberedWord → ℕ → Arguments → List CArg
 run_args view k a arguments =
     Address (callee_frame k)
     ∷ (arg_where (view.remembers a) (Address (callee_memory k))
     ++ (call_args view.site arguments.inputs arguments.outputs
-    ++ (arg_where (has_result (slice_get view.site.earlier a)) (Address (given_place k)) ++ Address (ended_place k) ∷ [])))
+    ++ (arg_where (has_result (slice_get view.site.earlier a)) (Address (given_place k)) ++ Address ended_place ∷ [])))
 
 -- the call: the activity hasn't ended before it
-abbrev pub run_code : ActivityView → ℕ → ℕ → Arguments → List CStmt
+abbrev pub run_code : ActivityView → NumberedWord → ℕ → Arguments → List CStmt
 run_code view k a arguments =
-    c_set (ended_place k) (c_truth false)
+    c_set ended_place (c_truth false)
     ∷ c_calling (c_call (name_of_callee (slice_get view.site.earlier a)) (run_args view k a arguments)) ∷ []
 
+-- whether a kind of statement is a `repeat` without a condition, which never ends
+abbrev pub layer_endless : {A B C D : Type 0} → StmtKind-F A B C D → Bool
+layer_endless (StmtKind-F.Repeat body) = true
+layer_endless _ = false
+
+-- whether a statement is a `repeat` without a condition
+abbrev pub is_endless : Stmt → Bool
+is_endless s = layer_endless (out-StmtKind (out-Stmt s).what)
+
+-- whether a unit may end: the last statement of its body isn't a `repeat` without a condition
+abbrev pub unit_may_end : UnitDef → Bool
+unit_may_end unit = not (last_of (map is_endless unit.body))
+
+-- whether the unit may end, where there is one
+abbrev pub may_end_in : Option UnitDef → Bool
+may_end_in (Some unit) = unit_may_end unit
+may_end_in None = true
+
+-- a statement, where the test is true
+abbrev pub stmt_where : Bool → CStmt → List CStmt
+stmt_where true s = s ∷ []
+stmt_where false s = []
+
 -- the target gets the result
-abbrev pub target_code : ActivityView → ℕ → Option Path → List CStmt
+abbrev pub target_code : ActivityView → NumberedWord → Option Path → List CStmt
 target_code view k (Some path) = c_set (stands view.site path).place (c_read (given_place k)) ∷ []
 target_code view k None = []
 
@@ -265,16 +297,18 @@ choice_code test (Some false) on_true on_false = on_false
 abbrev pub test_code : ActivityView → CExpr → Transition → List CStmt
 test_code view test rule = choice_code test (spelled_truth test) (changes_code view rule.on_true) (changes_code view rule.on_false)
 
--- what a `run` at a node does where it begins, and where it goes on; the number is that of its place
-abbrev pub begun_code : ActivityView → ℕ → ℕ → Arguments → Transition → List CStmt
+-- what a `run` at a node does where it begins, and where it goes on; its C names have the number and word
+abbrev pub begun_code : ActivityView → NumberedWord → ℕ → Arguments → Transition → List CStmt
 begun_code view k a arguments rule =
     c_clear (callee_frame k) (frame_name (name_in (slice_get view.site.earlier a)))
     ∷ (run_code view k a arguments ++ changes_code view rule.on_true)
 
-abbrev pub resumed_code : ActivityView → ℕ → ℕ → Arguments → Transition → List CStmt
+-- where it goes on, it is asked whether what it calls has ended. Of an activity that never ends this isn't asked
+abbrev pub resumed_code : ActivityView → NumberedWord → ℕ → Arguments → Transition → List CStmt
 resumed_code view k a arguments rule =
     run_code view k a arguments
-    ++ c_if (c_read (ended_place k)) (target_code view k arguments.target ++ changes_code view rule.on_true) None ∷ []
+    ++ stmt_where (may_end_in (slice_get view.site.earlier a))
+    (c_if (c_read ended_place) (target_code view k arguments.target ++ changes_code view rule.on_true) None)
 
 -- what a node does itself, before it is decided which nodes have their turns next: an act is done
 abbrev pub own_code : ActivityView → Node → List CStmt
@@ -285,8 +319,8 @@ own_code view n = []
 abbrev pub control_code : ActivityView → ℕ → Transition → Node → List CStmt
 control_code view a rule (TestAt l at e) = test_code view (code_made view.site e) rule
 control_code view a rule (CheckAt l at e) = test_code view (code_made view.site e) rule
-control_code view a rule (EnterAt l at arguments) = begun_code view (view.run at) a arguments rule
-control_code view a rule (ResumeAt l at arguments) = resumed_code view (view.run at) a arguments rule
+control_code view a rule (EnterAt l at arguments) = begun_code view (word_at view at a) a arguments rule
+control_code view a rule (ResumeAt l at arguments) = resumed_code view (word_at view at a) a arguments rule
 control_code view a rule n = changes_code view rule.on_true
 
 -- what a node does in its turn, by its rule

@@ -5,6 +5,17 @@ use Rattle.bl_tree.specs.declared.text.Text.{Text}
 use Rattle.bl_tree.specs.declared.c.CPlace.{CPlace}
 use Rattle.bl_emit_acts.specs.Trees.{c_place, c_step}
 
+-- ---- numbers with words
+
+-- a number and a word, of which a name is made: the number tells names apart, and the word leads back to the source
+pub record NumberedWord : Type 0 where
+  pub number : ℕ
+  pub word : Text
+
+-- the number, `_`, and the word
+abbrev pub numbered_word : NumberedWord → Text
+numbered_word k = decimal k.number ++ (codes "_" ++ k.word)
+
 -- ---- structs and functions
 
 -- the struct of where an activity rests: its counters, and the like structs of the activities that it runs
@@ -15,10 +26,10 @@ frame_name name = codes "f_" ++ name
 abbrev pub counter_name : ℕ → Text
 counter_name k = codes "c" ++ decimal k
 
--- the member for what the `run`s of one place keep, by the number of the place: in the struct of counters its callee's counters, in the
--- struct of variables its callee's variables
-abbrev pub callee_name : ℕ → Text
-callee_name k = codes "x" ++ decimal k
+-- the member for what the `run`s of one place keep, by the number of the place and the name of the activity that they call: in the struct of counters
+-- its callee's counters, in the struct of variables its callee's variables
+abbrev pub callee_name : NumberedWord → Text
+callee_name k = codes "x" ++ numbered_word k
 
 -- ---- locals
 
@@ -34,13 +45,13 @@ flag_name k = codes "g" ++ decimal k
 abbrev pub mark_name : ℕ → Text
 mark_name k = codes "u" ++ decimal k
 
--- whether the body of the activity that a `run` calls has ended, by the number of the place of the `run`
-abbrev pub ended_name : ℕ → Text
-ended_name k = codes "e" ++ decimal k
+-- whether the body of the activity that was called last has ended: one local for all `run`s
+abbrev pub ended_name : Text
+ended_name = codes "ended"
 
--- the name of the result of the activity that a `run` calls, by the number of the place of the `run`
-abbrev pub given_name : ℕ → Text
-given_name k = codes "r" ++ decimal k
+-- the name of the result of the activity that a `run` calls, by the number of the place of the `run` and the name of the activity
+abbrev pub given_name : NumberedWord → Text
+given_name k = codes "r" ++ numbered_word k
 
 -- ---- places
 
@@ -68,18 +79,18 @@ over_place = c_place true (codes "e") []
 abbrev pub result_place : CPlace
 result_place = c_place true (codes "r") []
 
--- whether the body of the activity that a `run` calls has ended, by the number of the place of the `run`
-abbrev pub ended_place : ℕ → CPlace
-ended_place k = c_place false (ended_name k) []
+-- the place of whether the body of the activity that was called last has ended
+abbrev pub ended_place : CPlace
+ended_place = c_place false ended_name []
 
--- the place of the result of the activity that a `run` calls, by the number of the place of the `run`
-abbrev pub given_place : ℕ → CPlace
+-- the place of the result of the activity that a `run` calls
+abbrev pub given_place : NumberedWord → CPlace
 given_place k = c_place false (given_name k) []
 
 -- the place of where the activity that a `run` calls rests
-abbrev pub callee_frame : ℕ → CPlace
+abbrev pub callee_frame : NumberedWord → CPlace
 callee_frame k = c_place true (codes "f") (c_step (callee_name k) ∷ [])
 
 -- the place of what the activity that a `run` calls remembers
-abbrev pub callee_memory : ℕ → CPlace
+abbrev pub callee_memory : NumberedWord → CPlace
 callee_memory k = c_place true (codes "m") (c_step (callee_name k) ∷ [])

@@ -33,6 +33,7 @@ use Rattle.bl_machine.specs.Blocks.{up_to}
 use Rattle.bl_machine_pass.specs.Numbered.{sizes_of, slots_of}
 use Rattle.bl_emit_spec.specs.Activities.{Activity, activity_function, frame_struct, pointer_param, remembered_struct, remembers_any, scalar_local}
 use Rattle.bl_emit_spec.specs.Activities.{struct_member}
+use Rattle.bl_emit_spec.specs.Blocks.{unit_may_end, stmt_where}
 use Rattle.bl_emit_spec.specs.Names.{frame_name}
 
 -- ---- which units are needed
@@ -177,7 +178,7 @@ tick_args unit remembers =
 abbrev pub c_returned : ℕ → CStmt
 c_returned n = c_return (Some (c_literal (Nat W32) (pos n)))
 
--- one tick: 1 where the entry has ended, else 0
+-- one tick: 1 where the entry has ended, else 0. Of an entry that never ends this isn't asked
 abbrev pub tick_function : UnitDef → Bool → CFunc
 tick_function unit remembers = record {
   place = nowhere;
@@ -187,7 +188,7 @@ tick_function unit remembers = record {
   params = pointer_param (codes "s") (codes "bl_state") ∷ pointer_param (codes "i") (codes "bl_in") ∷ pointer_param (codes "o") (codes "bl_out") ∷ [];
   locals = scalar_local OfBool (codes "e") ∷ [];
   body = c_calling (c_call (unit_name unit.name) (tick_args unit remembers))
-      ∷ c_if (c_read (c_place false (codes "e") [])) (c_returned 1 ∷ []) None ∷ c_returned 0 ∷ [];
+      ∷ (stmt_where (unit_may_end unit) (c_if (c_read (c_place false (codes "e") [])) (c_returned 1 ∷ []) None) ++ c_returned 0 ∷ []);
 }
 
 -- the structs of the interface

@@ -6,6 +6,7 @@ pub mod Bodies
 pub mod Cells
 pub mod Changes
 pub mod Choices
+pub mod Endless
 pub mod Foreign
 pub mod Points
 pub mod Quiet

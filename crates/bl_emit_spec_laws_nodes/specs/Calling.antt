@@ -28,7 +28,7 @@ use Rattle.bl_emit_acts.specs.Types.{unit_name}
 use Rattle.bl_emit_acts_laws_simulation.specs.Encodes.{copied_in, copied_in_path, home_at, location_in, way_to}
 use Rattle.bl_emit_spec.specs.Activities.{activity_view, copies_of, remembers_any}
 use Rattle.bl_emit_spec.specs.Blocks.{run_args}
-use Rattle.bl_emit_spec.specs.Names.{ended_name, given_name}
+use Rattle.bl_emit_spec.specs.Names.{NumberedWord, ended_name, given_name}
 use Rattle.bl_emit_spec_laws.specs.Registers.Registers.{frame_at}
 use Rattle.bl_emit_acts_laws_simulation.specs.Frames.{remembered_at}
 use Rattle.bl_machine.specs.declared.machine.Activity.{Activity as InMachine}
@@ -66,15 +66,15 @@ pub record RunsStand (units : List UnitDef) : Type 0 where
 
 -- ---- what the call is given
 
--- the places that a `run` with this number gives in its function, with these inputs, and these places of outputs
-abbrev pub given_by : Scope → ℕ → List ArgumentValue → List Location → CallAddresses
+-- the places that a `run` with this number and word gives in its function, with these inputs, and these places of outputs
+abbrev pub given_by : Scope → NumberedWord → List ArgumentValue → List Location → CallAddresses
 given_by scope n inputs outputs = record {
   frame = inner (frame_at scope) n;
   memory = inner (remembered_at scope) n;
   inputs = inputs;
   outputs = outputs;
   result = named_location scope false (given_name n);
-  over = named_location scope false (ended_name n);
+  over = named_location scope false ended_name;
 }
 
 -- the place is that of the part of a variable to which a path of names leads
@@ -84,20 +84,20 @@ pub record PlaceLeads (site : TypingContext) (scope : Scope) (path : Path) (plac
   pub is : place ≡ location_in scope site (static_of path).root (way_to site.structs (static_of path).fields (Some var.ty))
 
 -- what a call of the callee's function does that is given these inputs and these places of outputs
-abbrev pub call_given : Setting → Activities → ℕ → UnitDef → Scope → ℕ → List ArgumentValue → List Location → Memory → CallResult
+abbrev pub call_given : Setting → Activities → ℕ → UnitDef → Scope → NumberedWord → List ArgumentValue → List Location → Memory → CallResult
 call_given w activities j other scope n inputs outputs here =
     applied (scope.known (unit_name other.name)) (scope.depth + 1)
     (passed_to other (remembers_any (activity_at w activities j)) (given_by scope n inputs outputs)) here
 
 -- the call that is written for a `run`
-abbrev pub call_written : Setting → Activities → ℕ → ℕ → ℕ → Arguments → Scope → Memory → CallResult
+abbrev pub call_written : Setting → Activities → ℕ → NumberedWord → ℕ → Arguments → Scope → Memory → CallResult
 call_written w activities i n u arguments scope here =
     let view = activity_view (activity_at w activities i) in
     call_c (c_call (name_of_callee (slice_get view.site.earlier u)) (run_args view n u arguments)) scope here
 
 -- memory at the call of a `run` represents what a pass of the callee begins with. The places that it hands over are apart, and outputs are where their paths
 -- lead
-pub record RunEstablishes (w : Setting) (activities : Activities) (i : ℕ) (scope : Scope) (n : ℕ) (arguments : Arguments) (j : ℕ) (other : UnitDef)
+pub record RunEstablishes (w : Setting) (activities : Activities) (i : ℕ) (scope : Scope) (n : NumberedWord) (arguments : Arguments) (j : ℕ) (other : UnitDef)
     (frames : Frames) (given : Store) (here : Memory) : Type 0 where
   pub inputs : List ArgumentValue
   pub outputs : List Location
@@ -109,16 +109,16 @@ pub record RunEstablishes (w : Setting) (activities : Activities) (i : ℕ) (sco
   pub may : MayGive other (remembers_any (activity_at w activities j)) scope.depth (given_by scope n inputs outputs)
   pub begins : CallBegins w activities j other scope.depth (given_by scope n inputs outputs) frames given here
 
--- the local that tells whether the callee's body has ended is false
-abbrev pub NotEnded : Scope → ℕ → Memory → Type 0
-NotEnded scope n here = scalar_number (value_at here (named_location scope false (ended_name n))) ≡ pos 0
+-- the local that tells whether what was called last has ended is false
+abbrev pub NotEnded : Scope → Memory → Type 0
+NotEnded scope here = scalar_number (value_at here (named_location scope false ended_name)) ≡ pos 0
 
 -- the call of each `run` establishes what a pass of the callee begins with, and traps where its inputs do
 pub record RunsEstablish (structs : List StructDef) (units : List UnitDef) (entry : ℕ) (machine : List InMachine) (activities : Activities) : Type 0 where
   pub gives : (i : ℕ) (unit : UnitDef) (scope : Scope) (frames : Frames) (store : Store) (copies : List Value) (r : Registers) (here : Memory)
       (l : Label) (at : Place) (arguments : Arguments) (j : ℕ) (other : UnitDef) (given : Store) → let w = setting_of structs units entry in
       Midway structs units entry machine activities i unit scope frames store copies r here → RunOf w activities i unit l at arguments j other →
-      NotEnded scope (run_by w activities i at) here → CopiesMatch w i (EnterAt l at arguments) store copies →
+      NotEnded scope here → CopiesMatch w i (EnterAt l at arguments) store copies →
       DeedYields w (deed i at (Copies j arguments.inputs)) store true given →
       RunEstablishes w activities i scope (run_by w activities i at) arguments j other frames given here
   pub stops : (i : ℕ) (unit : UnitDef) (scope : Scope) (frames : Frames) (store : Store) (copies : List Value) (r : Registers) (here : Memory)
@@ -130,11 +130,11 @@ pub record RunsEstablish (structs : List StructDef) (units : List UnitDef) (entr
 -- ---- what it leaves
 
 -- memory after the call of a `run` represents what the callee's pass leaves, whether its body has ended, and its result
-pub record RunLeaves (w : Setting) (activities : Activities) (i : ℕ) (unit : UnitDef) (scope : Scope) (n : ℕ) (j : ℕ) (other : UnitDef)
+pub record RunLeaves (w : Setting) (activities : Activities) (i : ℕ) (unit : UnitDef) (scope : Scope) (n : NumberedWord) (j : ℕ) (other : UnitDef)
     (frames : Frames) (left : Store) (copies : List Value) (r : Registers) (ended : Bool) (here after : Memory) : Type 0 where
   pub stands : PassRepresents w activities i unit scope frames left copies r after
   pub kept : PassKeepsFrame (site_at w activities i) unit (remembers_any (activity_at w activities i)) scope here after
-  pub over : scalar_number (value_at after (named_location scope false (ended_name n))) ≡ number_of ended
+  pub over : scalar_number (value_at after (named_location scope false ended_name)) ≡ number_of ended
   pub result : (value : Value) → ended ≡ true → is_some other.result ≡ true → result_at left j ≡ Some value →
       scalar_number (value_at after (named_location scope false (given_name n))) ≡ number_or_zero value
 

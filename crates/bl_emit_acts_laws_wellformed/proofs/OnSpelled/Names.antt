@@ -121,7 +121,7 @@ plain_bytes : (text : List ℕ) → words.is_plain_word text ≡ true → list_a
 plain_bytes [] h = refl
 plain_bytes (b ∷ bs) h = and-snd (not (is_ascii_digit b)) (list_all words.is_word_byte (b ∷ bs)) h
 
-name_bytes : (name : Text) → words.is_name name ≡ true → all_of (map is_word_byte name) ≡ true
+pub name_bytes : (name : Text) → words.is_name name ≡ true → all_of (map is_word_byte name) ≡ true
 name_bytes name h = word_bytes name (plain_bytes name (and-fst (words.is_plain_word name) _ h))
 
 -- what a variable's name has in C of its name in the source
@@ -137,14 +137,18 @@ bytes_behind [] more all h = h
 bytes_behind (c ∷ ds) more all h =
     both (is_word_byte c) (all_of (map is_word_byte (ds ++ more))) (word_digit c all.0) (bytes_behind ds more all.1 h)
 
+-- a letter, a number, `_`, and a word
+pub worded-name : (b k : ℕ) (word : Text) → is_word_byte b ≡ true → is_ascii_digit b ≡ false → all_of (map is_word_byte word) ≡ true → k < 2 ^ 64 →
+    is_name (b ∷ (decimal k ++ 95 ∷ word)) ≡ true
+worded-name b k word h i all small =
+    let numeral = decimal_is_IsNumeral k small in
+    lettered-name b (decimal k ++ 95 ∷ word) h i (digits_begin (decimal k) (95 ∷ word) numeral.0.0 numeral.0.1)
+    (bytes_behind (decimal k) (95 ∷ word) numeral.0.1 (both (is_word_byte 95) _ refl all))
+
 -- a letter, the position of a variable, `_`, and its name in the source
 source-name : (b : ℕ) (vars : List Var) (k : ℕ) → is_word_byte b ≡ true → is_ascii_digit b ≡ false → list_all words.is_name (names_of vars) ≡ true →
     k < 2 ^ 64 → is_name (b ∷ numbered_name vars k) ≡ true
-source-name b vars k h i all small =
-    let numeral = decimal_is_IsNumeral k small in
-    let behind : List ℕ = 95 ∷ source_name (slice_get vars k) in
-    lettered-name b (numbered_name vars k) h i (digits_begin (decimal k) behind numeral.0.0 numeral.0.1)
-    (bytes_behind (decimal k) behind numeral.0.1 (both (is_word_byte 95) _ refl (named_bytes vars k all)))
+source-name b vars k h i all small = worded-name b k (source_name (slice_get vars k)) h i (named_bytes vars k all) small
 
 -- ---- names that are made
 

@@ -65,6 +65,7 @@ use Rattle.bl_emit_functions_laws_wellformed.proofs.OnFiles.Shapes.{
 }
 use Rattle.bl_emit_functions_laws_wellformed.proofs.OnFormed.Turns.{one-turns, return-turns}
 use Rattle.bl_emit_spec.specs.Names.{frame_name}
+use Rattle.bl_emit_spec.specs.Blocks.{unit_may_end, stmt_where}
 use Rattle.bl_emit_spec.specs.Programs.{c_returned, init_function, input_arg, output_arg, port_member, port_struct, state_struct, tick_args, tick_function}
 use Rattle.bl_emit_spec_laws_wellformed_bodies.specs.Cells.{ports_of}
 use Rattle.bl_emit_spec_laws_wellformed_bodies.proofs.OnSigned.Turns.{call-turns, clear-turns, if-turns}
@@ -170,16 +171,27 @@ module _ (unit : UnitDef) (remembers : Bool) where
       if-calls (c_read ended) (c_returned 1 ∷ []) None
       ∙ (λ i. ((read-calls ended ∙ root_calls_none false (codes "e")) i ++ (returned_silent 1 i ++ [])) ++ [])
 
+  -- what stands behind the call, by whether the entry may end
+  abbrev answers : Bool → List CStmt
+  answers ends = stmt_where ends choice ++ c_returned 0 ∷ []
+
+  answers_call : (ends : Bool) → calls_in_block (answers ends) ≡ []
+  answers_call true = λ i. choice_calls i ++ (returned_silent 0 i ++ [])
+  answers_call false = λ i. returned_silent 0 i ++ []
+
   tick_calls : calls_in_block tick.body ≡ unit_name unit.name ∷ []
-  tick_calls = (λ i. call_calls i ++ (choice_calls i ++ (returned_silent 0 i ++ [])))
+  tick_calls = λ i. call_calls i ++ answers_call (unit_may_end unit) i
 
   returned_turns : (n : ℕ) → turns_in (c_returned n) ≡ []
   returned_turns n = return-turns (Some (c_literal (Nat W32) (pos n)))
 
+  answers_turns : (ends : Bool) → turns_in_block (answers ends) ≡ []
+  answers_turns true =
+      λ i. if-turns (c_read ended) (c_returned 1 ∷ []) None (one-turns (c_returned 1) [] (returned_turns 1)) refl i ++ (returned_turns 0 i ++ [])
+  answers_turns false = λ i. returned_turns 0 i ++ []
+
   tick_turns : turns_in_block tick.body ≡ []
-  tick_turns =
-      (λ i. call-turns (c_call (unit_name unit.name) (tick_args unit remembers)) i
-      ++ (if-turns (c_read ended) (c_returned 1 ∷ []) None (one-turns (c_returned 1) [] (returned_turns 1)) refl i ++ (returned_turns 0 i ++ [])))
+  tick_turns = λ i. call-turns (c_call (unit_name unit.name) (tick_args unit remembers)) i ++ answers_turns (unit_may_end unit) i
 
   pub tick_cells : (known : Sizes) (chains : Table ℕ) → chain_cells known chains tick ≤ entry_or 0 chains (unit_name unit.name) + 4
   tick_cells known chains =

@@ -61,24 +61,28 @@ use Rattle.bl_emit_spec.specs.Blocks.{
   arg_where,
   begun_code,
   changes_code,
+  choice_code,
   control_code,
   counter_value,
   fused_code,
   has_result,
   layer_acted,
+  may_end_in,
   merged_code,
   name_in,
   own_code,
   resumed_code,
   run_args,
   run_code,
-  target_code,
-  choice_code,
   spelled_truth,
+  stmt_where,
+  target_code,
   test_code,
   turns_of,
+  word_at,
 }
 use Rattle.bl_emit_spec.specs.Names.{
+  NumberedWord,
   callee_frame,
   callee_memory,
   callee_name,
@@ -117,6 +121,7 @@ use Rattle.bl_emit_laws.proofs.OnCounters.Statements.{
   one_stmt,
   set-fine,
   then_code,
+  where_code,
   truth-fine,
 }
 
@@ -170,51 +175,52 @@ module _ (P : CPath → Type 0) (plain : (place : CPath) → names_counter place
   where_fine true place one = first-arg P plain (Address place) [] (address-fine P plain place one) tt
   where_fine false place one = tt
 
-  frame_fine : (k : ℕ) → PlaceFine P plain (callee_frame k)
+  frame_fine : (k : NumberedWord) → PlaceFine P plain (callee_frame k)
   frame_fine k = under-fine P plain (codes "f") (callee_name k) refl
 
-  runs_fine : (k a : ℕ) (arguments : Arguments) → ArgsFine P plain (run_args view k a arguments)
+  runs_fine : (k : NumberedWord) (a : ℕ) (arguments : Arguments) → ArgsFine P plain (run_args view k a arguments)
   runs_fine k a arguments =
       let result = has_result (slice_get view.site.earlier a) in
       let given = call_args view.site arguments.inputs arguments.outputs in
-      let last = arg_where result (Address (given_place k)) ++ arg_where true (Address (ended_place k)) in
+      let last = arg_where result (Address (given_place k)) ++ arg_where true (Address ended_place) in
       first-arg P plain (Address (callee_frame k)) (arg_where (view.remembers a) (Address (callee_memory k)) ++ (given ++ last))
       (address-fine P plain (callee_frame k) (frame_fine k))
       (both-fine P places_in_arg (arg_where (view.remembers a) (Address (callee_memory k))) (given ++ last)
       (where_fine (view.remembers a) (callee_memory k) (under-fine P plain (codes "m") (callee_name k) refl))
       (both-fine P places_in_arg given last (call_args_fine P plain view.site arguments.inputs arguments.outputs)
-      (both-fine P places_in_arg (arg_where result (Address (given_place k))) (arg_where true (Address (ended_place k)))
+      (both-fine P places_in_arg (arg_where result (Address (given_place k))) (arg_where true (Address ended_place))
       (where_fine result (given_place k) (local_fine P plain own (given_name k)))
-      (where_fine true (ended_place k) (local_fine P plain own (ended_name k))))))
+      (where_fine true ended_place (local_fine P plain own ended_name)))))
 
-  run_fine : (k a : ℕ) (arguments : Arguments) → CodeFine P plain (run_code view k a arguments)
+  run_fine : (k : NumberedWord) (a : ℕ) (arguments : Arguments) → CodeFine P plain (run_code view k a arguments)
   run_fine k a arguments =
       let call : CStmt = c_calling (c_call (name_of_callee (slice_get view.site.earlier a)) (run_args view k a arguments)) in
-      first_stmt P plain (c_set (ended_place k) (c_truth false)) (call ∷ [])
-      (set-fine P plain (ended_place k) (c_truth false) (local_fine P plain own (ended_name k)) (truth-fine P plain false))
+      first_stmt P plain (c_set ended_place (c_truth false)) (call ∷ [])
+      (set-fine P plain ended_place (c_truth false) (local_fine P plain own ended_name) (truth-fine P plain false))
       (one_stmt P plain call
       (calling-fine P plain (name_of_callee (slice_get view.site.earlier a)) (run_args view k a arguments) (runs_fine k a arguments)))
 
-  target_fine : (k : ℕ) (target : Option Path) → CodeFine P plain (target_code view k target)
+  target_fine : (k : NumberedWord) (target : Option Path) → CodeFine P plain (target_code view k target)
   target_fine k (Some path) =
       one_stmt P plain (c_set (stands view.site path).place (c_read (given_place k)))
       (set-fine P plain (stands view.site path).place (c_read (given_place k)) (path_fine P plain view.site path)
       (local_read P plain own (given_name k)))
   target_fine k None = tt
 
-  begun_fine : (k a : ℕ) (arguments : Arguments) (rule : Transition) → CodeFine P plain (begun_code view k a arguments rule)
+  begun_fine : (k : NumberedWord) (a : ℕ) (arguments : Arguments) (rule : Transition) → CodeFine P plain (begun_code view k a arguments rule)
   begun_fine k a arguments rule =
       let name = frame_name (name_in (slice_get view.site.earlier a)) in
       first_stmt P plain (c_clear (callee_frame k) name) (run_code view k a arguments ++ changes_code view rule.on_true)
       (clear-fine P plain (callee_frame k) name (frame_fine k))
       (then_code P plain (run_code view k a arguments) (changes_code view rule.on_true) (run_fine k a arguments) (changes_fine P plain own view rule.on_true))
 
-  resumed_fine : (k a : ℕ) (arguments : Arguments) (rule : Transition) → CodeFine P plain (resumed_code view k a arguments rule)
+  resumed_fine : (k : NumberedWord) (a : ℕ) (arguments : Arguments) (rule : Transition) → CodeFine P plain (resumed_code view k a arguments rule)
   resumed_fine k a arguments rule =
       let block : List CStmt = target_code view k arguments.target ++ changes_code view rule.on_true in
-      then_code P plain (run_code view k a arguments) (c_if (c_read (ended_place k)) block None ∷ []) (run_fine k a arguments)
-      (one_stmt P plain (c_if (c_read (ended_place k)) block None)
-      (if-fine P plain (c_read (ended_place k)) block None (local_read P plain own (ended_name k))
+      let ends : Bool = may_end_in (slice_get view.site.earlier a) in
+      then_code P plain (run_code view k a arguments) (stmt_where ends (c_if (c_read ended_place) block None)) (run_fine k a arguments)
+      (where_code P plain ends (c_if (c_read ended_place) block None)
+      (if-fine P plain (c_read ended_place) block None (local_read P plain own ended_name)
       (then_code P plain (target_code view k arguments.target) (changes_code view rule.on_true) (target_fine k arguments.target)
       (changes_fine P plain own view rule.on_true)) tt))
 
@@ -239,8 +245,8 @@ module _ (P : CPath → Type 0) (plain : (place : CPath) → names_counter place
   control_fine a rule (ActAt l s) = changes_fine P plain own view rule.on_true
   control_fine a rule (TestAt l at e) = tested_fine e rule
   control_fine a rule (CheckAt l at e) = tested_fine e rule
-  control_fine a rule (EnterAt l at arguments) = begun_fine (view.run at) a arguments rule
-  control_fine a rule (ResumeAt l at arguments) = resumed_fine (view.run at) a arguments rule
+  control_fine a rule (EnterAt l at arguments) = begun_fine (word_at view at a) a arguments rule
+  control_fine a rule (ResumeAt l at arguments) = resumed_fine (word_at view at a) a arguments rule
   control_fine a rule (PauseAt l at) = changes_fine P plain own view rule.on_true
   control_fine a rule (HeadAt l at) = changes_fine P plain own view rule.on_true
   control_fine a rule (StartAt l at) = changes_fine P plain own view rule.on_true

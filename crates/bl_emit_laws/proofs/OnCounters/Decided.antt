@@ -49,18 +49,21 @@ use Rattle.bl_emit_spec.specs.Blocks.{
   forgotten,
   fused_code,
   layer_acted,
+  may_end_in,
   name_in,
   own_code,
   run_args,
   run_code,
   spelled_in_kind,
   spelled_truth,
+  stmt_where,
   target_code,
   test_code,
   node_turn,
   turns_of,
+  word_at,
 }
-use Rattle.bl_emit_spec.specs.Names.{callee_frame, counter_place, ended_name, ended_place, frame_name, mark_name, mark_place, rested_place}
+use Rattle.bl_emit_spec.specs.Names.{NumberedWord, callee_frame, counter_place, ended_name, ended_place, frame_name, mark_name, mark_place, rested_place}
 use Rattle.bl_emit_laws.specs.Counters.Flags.{decides, flags_read, is_decided_here, is_flag_name, optional_answers}
 use Rattle.bl_emit_laws.specs.Counters.Own.{names_counter}
 use Rattle.bl_emit_laws.specs.Counters.Places.{CPath, CPaths, places_in}
@@ -280,15 +283,19 @@ module _ (view : ActivityView) where
       by (Some true) is = changes_decide rule.on_true
       by (Some false) is = changes_decide rule.on_false
 
-  run_decides : (k a : ℕ) (arguments : Arguments) → Decide (run_code view k a arguments)
+  run_decides : (k : NumberedWord) (a : ℕ) (arguments : Arguments) → Decide (run_code view k a arguments)
   run_decides k a arguments =
       let call : CCall = c_call (name_of_callee (slice_get view.site.earlier a)) (run_args view k a arguments) in
-      first_decides (c_set (ended_place k) (c_truth false)) (c_calling call ∷ []) (set_decides (ended_place k) (c_truth false))
+      first_decides (c_set ended_place (c_truth false)) (c_calling call ∷ []) (set_decides ended_place (c_truth false))
       (one_decides (c_calling call) (call_decides call))
 
-  target_decides : (k : ℕ) (target : Option Path) → Decide (target_code view k target)
+  target_decides : (k : NumberedWord) (target : Option Path) → Decide (target_code view k target)
   target_decides k (Some path) = sets_decide _ _
   target_decides k None = refl
+
+  where_decides : (test : Bool) (s : CStmt) → Decide (s ∷ []) → Decide (stmt_where test s)
+  where_decides true s decides = decides
+  where_decides false s decides = refl
 
   own_decides : (n : Node) → Decide (own_code view n)
   own_decides (ActAt l s) = acted_by s (out-StmtKind (out-Stmt s).what)
@@ -310,18 +317,20 @@ module _ (view : ActivityView) where
   control_decides a rule (TestAt l at e) = tested_decide e rule
   control_decides a rule (CheckAt l at e) = tested_decide e rule
   control_decides a rule (EnterAt l at arguments) =
-      let k : ℕ = view.run at in
+      let k : NumberedWord = word_at view at a in
       let name : Text = frame_name (name_in (slice_get view.site.earlier a)) in
       first_decides (c_clear (callee_frame k) name) (run_code view k a arguments ++ changes_code view rule.on_true) (clear_decides (callee_frame k) name)
       (then_decide (run_code view k a arguments) (changes_code view rule.on_true) (run_decides k a arguments) (changes_decide rule.on_true))
   control_decides a rule (ResumeAt l at arguments) =
-      let k : ℕ = view.run at in
+      let k : NumberedWord = word_at view at a in
       let code : List CStmt = target_code view k arguments.target ++ changes_code view rule.on_true in
-      then_decide (run_code view k a arguments) (c_if (c_read (ended_place k)) code None ∷ []) (run_decides k a arguments)
-      (one_decides (c_if (c_read (ended_place k)) code None)
-      (if_decides (c_read (ended_place k)) code None (local_decides (ended_name k) refl)
+      let ends : Bool = may_end_in (slice_get view.site.earlier a) in
+      then_decide (run_code view k a arguments) (stmt_where ends (c_if (c_read ended_place) code None)) (run_decides k a arguments)
+      (where_decides ends (c_if (c_read ended_place) code None)
+      (one_decides (c_if (c_read ended_place) code None)
+      (if_decides (c_read ended_place) code None (local_decides ended_name refl)
       (then_decide (target_code view k arguments.target) (changes_code view rule.on_true) (target_decides k arguments.target)
-      (changes_decide rule.on_true)) refl))
+      (changes_decide rule.on_true)) refl)))
   control_decides a rule (PauseAt l at) = changes_decide rule.on_true
   control_decides a rule (HeadAt l at) = changes_decide rule.on_true
   control_decides a rule (StartAt l at) = changes_decide rule.on_true

@@ -51,6 +51,8 @@ use Rattle.bl_emit_spec.specs.Activities.{
   run_locals,
   runs_in_body,
   scalar_local,
+  word_of_run,
+  ended_local,
 }
 use Rattle.bl_emit_spec.specs.Blocks.{
   ActivityView,
@@ -80,7 +82,7 @@ use Rattle.bl_emit_spec.specs.Blocks.{
   some_test,
   turns_of,
 }
-use Rattle.bl_emit_spec.specs.Names.{counter_name, counter_place, flag_name, flag_place, mark_name, mark_place, rested_name, rested_place}
+use Rattle.bl_emit_spec.specs.Names.{NumberedWord, counter_name, counter_place, flag_name, flag_place, mark_name, mark_place, rested_name, rested_place}
 use Rattle.bl_emit_spec_laws.proofs.OnPlaced.Lists.{picked_first, some_is, there_at}
 use Rattle.bl_emit_spec_laws_wellformed.proofs.OnNumbers.Firsts.{picked-all}
 use Rattle.bl_emit_laws.specs.Counters.Flags.{decides, flags_asked, flags_read, inside, is_flag_name, kind_block, kind_flags}
@@ -198,7 +200,7 @@ copies_none : (a : Activity) (ks : List ℕ) → named (map (copy_local a) ks) �
 copies_none a [] = refl
 copies_none a (k ∷ ks) = copies_none a ks
 
-given_none : (k : ℕ) (result : Option ScalarType) → named (given_local k result) ≡ []
+given_none : (k : NumberedWord) (result : Option ScalarType) → named (given_local k result) ≡ []
 given_none k (Some s) = refl
 given_none k None = refl
 
@@ -206,7 +208,11 @@ runs_none : (a : Activity) (runs : List RunAt) → named (joined (map (run_local
 runs_none a [] = refl
 runs_none a (run ∷ runs) =
     named_both (run_locals a run) (joined (map (run_locals a) runs))
-    ∙ (λ i. given_none run.number (option_and_then (λ (unit : UnitDef). unit.result) (slice_get a.earlier run.unit)) i ++ runs_none a runs i)
+    ∙ (λ i. given_none (word_of_run a.earlier run) (option_and_then (λ (unit : UnitDef). unit.result) (slice_get a.earlier run.unit)) i ++ runs_none a runs i)
+
+ended_none : (runs : List RunAt) → named (ended_local runs) ≡ []
+ended_none [] = refl
+ended_none (run ∷ runs) = refl
 
 -- the flags of an activity's function are those that the rules of first nodes ask for
 pub locals_are : (a : Activity) → named (activity_locals a) ≡ joined (map (asked_by (activity_view a).number) (first_rules a))
@@ -216,12 +222,14 @@ locals_are a =
     let flags : List CLocal = joined (map (flag_local number) (first_rules a)) in
     let marks : List CLocal = joined (map (mark_locals number) (rules_at a)) in
     let copies : List CLocal = map (copy_local a) (copied_in a) in
-    let runs : List CLocal = joined (map (run_locals a) (runs_in_body a)) in
+    let results : List CLocal = joined (map (run_locals a) (runs_in_body a)) in
+    let runs : List CLocal = ended_local (runs_in_body a) ++ results in
     named_both rested (flags ++ (marks ++ (copies ++ runs)))
     ∙ (λ i. resteds_none a.sizes (counters_read a) i ++ named_both flags (marks ++ (copies ++ runs)) i)
     ∙ (λ i. flags_are number (first_rules a) i ++ named_both marks (copies ++ runs) i)
     ∙ (λ i. joined (map (asked_by number) (first_rules a)) ++ (marks_none number (rules_at a) i ++ named_both copies runs i))
-    ∙ (λ i. joined (map (asked_by number) (first_rules a)) ++ (copies_none a (copied_in a) i ++ runs_none a (runs_in_body a) i))
+    ∙ (λ i. joined (map (asked_by number) (first_rules a)) ++ (copies_none a (copied_in a) i ++ named_both (ended_local (runs_in_body a)) results i))
+    ∙ (λ i. joined (map (asked_by number) (first_rules a)) ++ (ended_none (runs_in_body a) i ++ runs_none a (runs_in_body a) i))
     ∙ append-nil (joined (map (asked_by number) (first_rules a)))
 
 -- they are as many as rules that ask for a flag

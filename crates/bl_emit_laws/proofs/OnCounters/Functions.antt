@@ -19,10 +19,11 @@ use Rattle.bl_emit_acts.specs.Places.{home_of, place_in}
 use Rattle.bl_emit_acts.specs.Trees.{c_call, c_literal, c_place, c_read, c_step}
 use Rattle.bl_emit_acts.specs.Types.{c_scalar, unit_name, variable_name}
 use Rattle.bl_emit_functions.specs.Functions.{body_code, body_coded, c_input_copied, copies_from, end_code, function_code, input_copied, none_taken}
-use Rattle.bl_emit_functions.specs.Functions.{returns_last}
+use Rattle.bl_emit_functions.specs.Functions.{code_returns}
 use Rattle.bl_emit_functions.specs.Functions.{c_set_again, first_held, read_code}
 use Rattle.bl_emit_functions.specs.Trees.{c_if, c_return_zero}
 use Rattle.bl_emit_functions.specs.Reads.{reads_in_block}
+use Rattle.bl_emit_spec.specs.Blocks.{unit_may_end, stmt_where}
 use Rattle.bl_emit_spec.specs.Programs.{c_returned, init_function, input_arg, output_arg, tick_args, tick_function}
 use Rattle.bl_emit_laws.specs.Counters.Own.{is_counter_name, names_counter}
 use Rattle.bl_emit_laws.specs.Counters.Places.{CPath, places_in_arg, places_named}
@@ -30,7 +31,7 @@ use Rattle.bl_emit_laws.proofs.OnCounters.Expressions.{ArgsFine, PlaceFine, addr
 use Rattle.bl_emit_laws.proofs.OnCounters.Expressions.{read-fine, root-fine, value-fine}
 use Rattle.bl_emit_laws.proofs.OnCounters.Fine.{Fine, both-fine}
 use Rattle.bl_emit_laws.proofs.OnCounters.Statements.{CodeFine, body_fine, calling-fine, clear-fine, first_stmt, if-fine, one_stmt, return-fine, set-fine}
-use Rattle.bl_emit_laws.proofs.OnCounters.Statements.{then_code}
+use Rattle.bl_emit_laws.proofs.OnCounters.Statements.{then_code, where_code}
 
 module _ (P : CPath → Type 0) (plain : (place : CPath) → names_counter place ≡ false → P place) where
   -- ---- functions of functions
@@ -66,10 +67,10 @@ module _ (P : CPath → Type 0) (plain : (place : CPath) → names_counter place
 
   body_named : (site : TypingContext) (unit : UnitDef) → CodeFine P plain (body_code site unit)
   body_named site unit =
-      then_code P plain (copies_from site 0 (inputs_of unit)) ((body_coded site unit).code ++ end_code unit.result (returns_last false unit.body))
+      then_code P plain (copies_from site 0 (inputs_of unit)) ((body_coded site unit).code ++ end_code unit.result (code_returns (body_coded site unit).code))
       (inputs_fine site 0 (inputs_of unit))
-      (then_code P plain (body_coded site unit).code (end_code unit.result (returns_last false unit.body)) (body_fine P plain site unit.body none_taken)
-      (end_fine unit.result (returns_last false unit.body)))
+      (then_code P plain (body_coded site unit).code (end_code unit.result (code_returns (body_coded site unit).code)) (body_fine P plain site unit.body none_taken)
+      (end_fine unit.result (code_returns (body_coded site unit).code)))
 
   pub function-fine : (structs : List StructDef) (earlier : List UnitDef) (unit : UnitDef) → Fine P (places_named (function_code structs earlier unit))
   function-fine structs earlier unit =
@@ -134,9 +135,10 @@ module _ (P : CPath → Type 0) (plain : (place : CPath) → names_counter place
 
   pub tick-fine : (unit : UnitDef) (remembers : Bool) → Fine P (places_named (tick_function unit remembers))
   tick-fine unit remembers =
-      let ends : List CStmt = c_if (c_read (c_place false (codes "e") [])) (c_returned 1 ∷ []) None ∷ c_returned 0 ∷ [] in
-      first_stmt P plain (c_calling (c_call (unit_name unit.name) (tick_args unit remembers))) ends
+      let asked : CStmt = c_if (c_read (c_place false (codes "e") [])) (c_returned 1 ∷ []) None in
+      first_stmt P plain (c_calling (c_call (unit_name unit.name) (tick_args unit remembers))) (stmt_where (unit_may_end unit) asked ++ c_returned 0 ∷ [])
       (calling-fine P plain (unit_name unit.name) (tick_args unit remembers) (args_given unit remembers))
-      (first_stmt P plain (c_if (c_read (c_place false (codes "e") [])) (c_returned 1 ∷ []) None) (c_returned 0 ∷ [])
+      (then_code P plain (stmt_where (unit_may_end unit) asked) (c_returned 0 ∷ [])
+      (where_code P plain (unit_may_end unit) asked
       (if-fine P plain (c_read (c_place false (codes "e") [])) (c_returned 1 ∷ []) None
-      (read-fine P plain (c_place false (codes "e") []) (root-fine P plain false (codes "e"))) (returned_fine 1) tt) (returned_fine 0))
+      (read-fine P plain (c_place false (codes "e") []) (root-fine P plain false (codes "e"))) (returned_fine 1) tt)) (returned_fine 0))

@@ -29,9 +29,10 @@ use Rattle.bl_emit_acts.specs.Types.{c_scalar, copy_name, type_name}
 use Rattle.bl_emit_functions.specs.declared.coded.Coded.{Coded}
 use Rattle.bl_emit_functions.specs.declared.coded.Free.{Free}
 use Rattle.bl_emit_functions.specs.Statements.{ArmCodes, Codes, arm_codes, arms_taken, block_codes, branch_codes, break_code, choice_code, codes_of}
-use Rattle.bl_emit_functions.specs.Statements.{codes_of_arm, else_code, flag_taken, flagged_code, kind_codes, loop_code, stmt_codes, turn_taken}
-use Rattle.bl_emit_functions.specs.Statements.{untaken_code}
+use Rattle.bl_emit_functions.specs.Statements.{codes_of_arm, either_code, else_code, flag_taken, flagged_code, kind_codes, loop_code, stmt_codes}
+use Rattle.bl_emit_functions.specs.Statements.{turn_taken, untaken_code}
 use Rattle.bl_emit_functions.specs.Trees.{c_break, c_if, c_loop, c_return, c_truth, flag_name, flag_place, turn_name}
+use Rattle.bl_emit_spec.specs.Blocks.{stmt_where}
 use Rattle.bl_emit_laws.specs.Counters.Own.{names_counter}
 use Rattle.bl_emit_laws.specs.Counters.Places.{CPath, places_in, places_in_arg, places_in_block, places_in_call, places_in_place, places_in_stmt}
 use Rattle.bl_emit_laws.specs.Counters.Places.{places_of_option}
@@ -55,6 +56,10 @@ module _ (P : CPath → Type 0) (plain : (place : CPath) → names_counter place
 
   pub then_code : (first second : List CStmt) → CodeFine first → CodeFine second → CodeFine (first ++ second)
   then_code first second one other = both-fine P places_in_stmt first second one other
+
+  pub where_code : (test : Bool) (s : CStmt) → StmtFine s → CodeFine (stmt_where test s)
+  where_code true s one = one_stmt s one
+  where_code false s one = tt
 
   -- ---- single statements
 
@@ -138,13 +143,18 @@ module _ (P : CPath → Type 0) (plain : (place : CPath) → names_counter place
       (then_code inner.code (untaken_code free.flags (other inner.free).code) (arms_fine free.flags arms all (flag_taken free))
       (untaken_fine free.flags (other inner.free).code (more inner.free)))
 
+  either_fine : (arm : ArmCodes) (other : Codes) → ArmFine arm → CodesFine other → CodesFine (either_code arm other)
+  either_fine arm other one more free =
+      one_stmt (c_if arm.test (arm.body free).code (else_code (other (arm.body free).free).code))
+      (if-fine arm.test (arm.body free).code (else_code (other (arm.body free).free).code) one.0 (one.1 free)
+      (else-fine (other (arm.body free).free).code (more (arm.body free).free)))
+
   choice_fine : (arms : List ArmCodes) (other : Codes) → ArmsFine arms → CodesFine other → CodesFine (choice_code arms other)
   choice_fine [] other all more free = flagged_fine [] other all more free
-  choice_fine (arm ∷ []) other all more free =
-      one_stmt (c_if arm.test (arm.body free).code (else_code (other (arm.body free).free).code))
-      (if-fine arm.test (arm.body free).code (else_code (other (arm.body free).free).code) all.0.0 (all.0.1 free)
-      (else-fine (other (arm.body free).free).code (more (arm.body free).free)))
-  choice_fine (arm ∷ second ∷ rest) other all more free = flagged_fine (arm ∷ second ∷ rest) other all more free
+  choice_fine (arm ∷ []) other all more free = either_fine arm other all.0 more free
+  choice_fine (arm ∷ second ∷ []) other all more free =
+      either_fine arm (either_code second other) all.0 (either_fine second other all.1.0 more) free
+  choice_fine (arm ∷ second ∷ third ∷ rest) other all more free = flagged_fine (arm ∷ second ∷ third ∷ rest) other all more free
 
   loop_fine : (turn : ℕ) (test : CExpr) (last : List CStmt) (body : Coded) → ExprFine P plain test → CodeFine last → CodeFine body.code →
       CodeFine (loop_code turn test last body).code

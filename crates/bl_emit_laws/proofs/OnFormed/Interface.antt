@@ -28,7 +28,8 @@ use Rattle.bl_tree.specs.Typing.{inputs_of, outputs_of}
 use Rattle.bl_tree.specs.Words.{are_distinct}
 use Rattle.bl_ctext_semantics.specs.Calls.{calls_in_arg, calls_in_block, calls_in_place, calls_in_stmt, most}
 use Rattle.bl_ctext_semantics.specs.Faults.{Context, Signature, Variable, bool_type, context_in, declared_before, depth_of_function, distinct_names}
-use Rattle.bl_ctext_semantics.specs.Faults.{faults_in_function, member_of, member_table, names_table, repeated, returns_result, short_chain, signature_as}
+use Rattle.bl_ctext_semantics.specs.Faults.{faults_in_function, last_returns, member_of, member_table, names_table}
+use Rattle.bl_ctext_semantics.specs.Faults.{repeated, returns_result, short_chain, signature_as}
 use Rattle.bl_ctext_semantics.specs.Faults.{signature_of, surely_returns, variable_names}
 use Rattle.bl_ctext_semantics.specs.Loops.{turns_in, turns_in_block}
 use Rattle.bl_ctext_semantics.specs.Tables.{Table, entry_or}
@@ -48,6 +49,7 @@ use Rattle.bl_emit_functions_laws_wellformed.proofs.OnFiles.Shapes.{read-calls, 
 use Rattle.bl_emit_functions_laws_wellformed.proofs.OnFormed.Shapes.{if-is, return-is}
 use Rattle.bl_emit_functions_laws_wellformed.proofs.OnFormed.Turns.{one-turns, return-turns}
 use Rattle.bl_emit_spec.specs.Names.{frame_name}
+use Rattle.bl_emit_spec.specs.Blocks.{unit_may_end, stmt_where}
 use Rattle.bl_emit_spec.specs.Programs.{c_returned, init_function, input_arg, output_arg, port_struct, state_struct, tick_args, tick_function}
 use Rattle.bl_emit_spec_laws_wellformed_bodies.proofs.OnSigned.Turns.{call-turns, clear-turns, if-turns}
 use Rattle.bl_emit_spec_laws_wellformed_bodies.proofs.OnBodies.Calls.{Suit, suit-address, suit-append}
@@ -278,13 +280,21 @@ module _ (structs : List StructDef) (unit : UnitDef) (remembers : Bool) (table :
   returned_is : (n : ℕ) → StmtIs in_tick (c_returned n)
   returned_is n = return-is in_tick (c_literal (Nat W32) (pos n)) (Nat W32) refl (literal-is in_tick (Nat W32) (pos n))
 
+  choice_is : StmtIs in_tick choice
+  choice_is =
+      if-is in_tick (c_read ended) (c_returned 1 ∷ []) None (read-is in_tick false bool_type ended ended_is)
+      (block_one in_tick (c_returned 1) (returned_is 1)) (λ looped. refl)
+
+  -- what stands behind the call, by whether the entry may end
+  abbrev answers : Bool → List CStmt
+  answers ends = stmt_where ends choice ++ c_returned 0 ∷ []
+
+  answers_are : (ends : Bool) → BlockIs in_tick (answers ends)
+  answers_are true = block_cons in_tick choice (c_returned 0 ∷ []) choice_is (block_one in_tick (c_returned 0) (returned_is 0))
+  answers_are false = block_one in_tick (c_returned 0) (returned_is 0)
+
   tick_body : BlockIs in_tick tick.body
-  tick_body =
-      block_cons in_tick call (choice ∷ c_returned 0 ∷ []) call_is
-      (block_cons in_tick choice (c_returned 0 ∷ [])
-      (if-is in_tick (c_read ended) (c_returned 1 ∷ []) None (read-is in_tick false bool_type ended ended_is)
-      (block_one in_tick (c_returned 1) (returned_is 1)) (λ looped. refl))
-      (block_one in_tick (c_returned 0) (returned_is 0)))
+  tick_body = block_cons in_tick call (answers (unit_may_end unit)) call_is (answers_are (unit_may_end unit))
 
   call_calls : calls_in_stmt call ≡ unit_name unit.name ∷ []
   call_calls =
@@ -296,8 +306,12 @@ module _ (structs : List StructDef) (unit : UnitDef) (remembers : Bool) (table :
       if-calls (c_read ended) (c_returned 1 ∷ []) None
       ∙ (λ i. ((read-calls ended ∙ root_calls_none false (codes "e")) i ++ (returned_silent 1 i ++ [])) ++ [])
 
+  answers_call : (ends : Bool) → calls_in_block (answers ends) ≡ []
+  answers_call true = λ i. choice_calls i ++ (returned_silent 0 i ++ [])
+  answers_call false = λ i. returned_silent 0 i ++ []
+
   tick_calls : calls_in_block tick.body ≡ unit_name unit.name ∷ []
-  tick_calls = (λ i. call_calls i ++ (choice_calls i ++ (returned_silent 0 i ++ [])))
+  tick_calls = λ i. call_calls i ++ answers_call (unit_may_end unit) i
 
   tick_depth : depth_of_function depths tick ≤ 300
   tick_depth =
@@ -307,10 +321,18 @@ module _ (structs : List StructDef) (unit : UnitDef) (remembers : Bool) (table :
   returned_turns : (n : ℕ) → turns_in (c_returned n) ≡ []
   returned_turns n = return-turns (Some (c_literal (Nat W32) (pos n)))
 
+  answers_turns : (ends : Bool) → turns_in_block (answers ends) ≡ []
+  answers_turns true =
+      λ i. if-turns (c_read ended) (c_returned 1 ∷ []) None (one-turns (c_returned 1) [] (returned_turns 1)) refl i ++ (returned_turns 0 i ++ [])
+  answers_turns false = λ i. returned_turns 0 i ++ []
+
   tick_turns : turns_in_block tick.body ≡ []
-  tick_turns =
-      (λ i. call-turns (c_call (unit_name unit.name) (tick_args unit remembers)) i
-      ++ (if-turns (c_read ended) (c_returned 1 ∷ []) None (one-turns (c_returned 1) [] (returned_turns 1)) refl i ++ (returned_turns 0 i ++ [])))
+  tick_turns = λ i. call-turns (c_call (unit_name unit.name) (tick_args unit remembers)) i ++ answers_turns (unit_may_end unit) i
+
+  -- the last statement returns
+  answers_return : (ends : Bool) → last_returns (map surely_returns (call ∷ answers ends)) ≡ true
+  answers_return true = return-returns (Some (c_literal (Nat W32) (pos 0)))
+  answers_return false = return-returns (Some (c_literal (Nat W32) (pos 0)))
 
   pub tick-fine : functions (codes "bl_tick") ≡ None → faults_in_function table functions depths true tick ≡ []
   tick-fine new =
@@ -319,7 +341,7 @@ module _ (structs : List StructDef) (unit : UnitDef) (remembers : Bool) (table :
       declared_before nowhere
       (all_there (table (codes "bl_state")) (table (codes "bl_in")) (table (codes "bl_out")) (ap is_some e.state) (ap is_some e.ins) (ap is_some e.outs)) in
       let six = kept (nat_le (depth_of_function depths tick) 300) short_chain nowhere (at_most (depth_of_function depths tick) tick_depth) in
-      let seven = kept (surely_returns (c_returned 0)) returns_result nowhere (return-returns (Some (c_literal (Nat W32) (pos 0)))) in
+      let seven = kept (last_returns (map surely_returns tick.body)) returns_result nowhere (answers_return (unit_may_end unit)) in
       let body = tick_body false in
       (λ i. (one i ++ ([] ++ (three i ++ ([] ++ ([] ++ (six i ++ seven i))))))
       ++ (repeated (names_table (variable_names tick)) (tick_turns i) ++ body i))

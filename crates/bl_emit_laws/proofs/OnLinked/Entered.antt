@@ -35,6 +35,7 @@ use Rattle.bl_emit_functions_laws_wellformed.proofs.OnFiles.Shapes.{address-call
 use Rattle.bl_emit_functions_laws_wellformed.proofs.OnFiles.Shapes.{return-calls, step-calls, value-calls}
 use Rattle.bl_emit_functions_laws_simulation.specs.Units.{known_after}
 use Rattle.bl_emit_spec.specs.Activities.{activity_function, remembers_any}
+use Rattle.bl_emit_spec.specs.Blocks.{unit_may_end, stmt_where}
 use Rattle.bl_emit_spec.specs.Programs.{c_returned, init_function, input_arg, needed_units, output_arg, tick_args, tick_function}
 use Rattle.bl_emit_spec_laws.specs.Calls.Built.{Activities}
 use Rattle.bl_emit_laws.specs.Linked.{FilesEnter, table_of_needed}
@@ -86,7 +87,7 @@ returned_quiet n = return-calls (Some (c_literal (Nat W32) (pos n))) ∙ literal
 
 -- it calls the function of the entry alone
 tick_calls : (unit : UnitDef) (remembers : Bool) → calls_in_block (tick_function unit remembers).body ≡ unit_name unit.name ∷ []
-tick_calls unit remembers = λ i. called i ++ (tested i ++ (returned_quiet 0 i ++ []))
+tick_calls unit remembers = λ i. called i ++ answered (unit_may_end unit) i
   where
     called : calls_in_stmt (c_calling (c_call (unit_name unit.name) (tick_args unit remembers))) ≡ unit_name unit.name ∷ []
     called =
@@ -100,6 +101,11 @@ tick_calls unit remembers = λ i. called i ++ (tested i ++ (returned_quiet 0 i +
     tested =
         if-calls (c_read (c_place false (codes "e") [])) (c_returned 1 ∷ []) None
         ∙ (λ i. (over i ++ (returned_quiet 1 i ++ [])) ++ [])
+
+    answered : (ends : Bool) →
+        calls_in_block (stmt_where ends (c_if (c_read (c_place false (codes "e") [])) (c_returned 1 ∷ []) None) ++ c_returned 0 ∷ []) ≡ []
+    answered true = λ i. tested i ++ (returned_quiet 0 i ++ [])
+    answered false = λ i. returned_quiet 0 i ++ []
 
 -- ---- what is found in a file
 

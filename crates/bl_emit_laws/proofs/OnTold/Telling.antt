@@ -28,7 +28,7 @@ use Rattle.bl_machine_transitions_laws.specs.Laws.{RulesAreListed, entries, firs
 use Rattle.bl_emit_functions.specs.Functions.{params_from, struct_of}
 use Rattle.bl_emit_spec.specs.Activities.{Activity, RunAt, activity_function, blocks_code, entry_code, first_rules, first_positions, flag_local, is_flagged}
 use Rattle.bl_emit_spec.specs.Activities.{is_read_by, mark_local, mark_locals, memory_params, picked, reads_counter, remembered, rested_code}
-use Rattle.bl_emit_spec.specs.Activities.{enters_at, one_a_place, rested_local, run_at, run_number_in}
+use Rattle.bl_emit_spec.specs.Activities.{ended_local, enters_at, one_a_place, rested_local, run_at, run_number_in}
 use Rattle.bl_emit_spec.specs.Activities.{activity_view, over_param, pointer_param, result_params, runs_at, runs_in_body, scalar_local}
 use Rattle.bl_emit_spec.specs.Blocks.{ActivityView, NodeCode, Sizes}
 use Rattle.bl_emit_spec.specs.Names.{flag_name, frame_name}
@@ -239,11 +239,12 @@ module _ (law : RulesAreListed) (bodies : BodiesAreNumbered) (alike : BlocksAlik
   locals_so =
       ap₂ (λ (counters : List ℕ) (flags : List CLocal). map (rested_local t.sizes) counters
       ++ (flags
-      ++ (marks_told t.rules ++ (map (copy_told unit) (copied_told unit) ++ joined (map (run_locals_told earlier) (runs_told t.rules))))))
+      ++ (marks_told t.rules ++ (map (copy_told unit) (copied_told unit)
+      ++ (ended_local (runs_told t.rules) ++ joined (map (run_locals_told earlier) (runs_told t.rules)))))))
       counters_so flags_so
       ∙ ap₂ (λ (marks : List CLocal) (runs : List RunAt). map (rested_local t.sizes) (filter (is_read_by rules) (up_to (length t.sizes)))
       ++ (joined (map (flag_local number) (first_rules a))
-      ++ (marks ++ (map (copy_told unit) (copied_told unit) ++ joined (map (run_locals_told earlier) runs))))) marks_so runs_so
+      ++ (marks ++ (map (copy_told unit) (copied_told unit) ++ (ended_local runs ++ joined (map (run_locals_told earlier) runs)))))) marks_so runs_so
 
   remembers_so : remembers_told t ≡ nat_lt 0 (length (remembered a))
   remembers_so = ap (λ (members : List CMember). nat_lt 0 (length members)) remembered_so

@@ -36,8 +36,8 @@ use Rattle.bl_machine.specs.declared.slots.Slot.{Slot}
 use Rattle.bl_machine.specs.Blocks.{up_to}
 use Rattle.bl_machine.specs.Slots.{counters_at, numbered_after, numbered_slots, times}
 use Rattle.bl_machine_pass.specs.Numbered.{sizes_for, sizes_of}
-use Rattle.bl_emit_spec.specs.Activities.{Activity, counter_member, frame_member, frame_struct, runs_in_body}
-use Rattle.bl_emit_spec.specs.Names.{callee_name, counter_name}
+use Rattle.bl_emit_spec.specs.Activities.{Activity, counter_member, frame_member, frame_struct, runs_in_body, word_of_run}
+use Rattle.bl_emit_spec.specs.Names.{NumberedWord, callee_name, counter_name}
 use Rattle.bl_emit_laws.specs.Counters.Own.{is_digit_run, is_counter_name}
 use Rattle.bl_emit_laws.specs.Width.{is_counter}
 
@@ -75,7 +75,7 @@ decimal_digits n small =
 counter_named : (k : ℕ) → k < 2 ^ 64 → is_counter_name (counter_name k) ≡ true
 counter_named k small = decimal_digits k small
 
-callee_named : (k : ℕ) → is_counter_name (callee_name k) ≡ false
+callee_named : (k : NumberedWord) → is_counter_name (callee_name k) ≡ false
 callee_named k = refl
 
 -- ---- members
@@ -109,7 +109,8 @@ frame_counts a small =
     let own : List CMember = map (counter_member a.sizes) (up_to (length a.sizes)) in
     let called : List CMember = map (frame_member a) (runs_in_body a) in
     ap length (filter-append is_counter own called)
-    ∙ ap (λ rest. length (filter is_counter own ++ rest)) (none_pass is_counter (frame_member a) (runs_in_body a) (λ run. callee_named run.number))
+    ∙ ap (λ rest. length (filter is_counter own ++ rest))
+    (none_pass is_counter (frame_member a) (runs_in_body a) (λ run. callee_named (word_of_run a.earlier run)))
     ∙ ap length (append-nil (filter is_counter own))
     ∙ all_pass is_counter (counter_member a.sizes) (length a.sizes) (λ k less. counter_named k (small k less))
 

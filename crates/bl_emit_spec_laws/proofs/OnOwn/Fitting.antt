@@ -410,11 +410,11 @@ module _ (slots : Slots) (all : List Transition) (S : Slot → Type 0) where
     rules_of_fit (Act l s) next there placed rows fits = (flagged_fits (ActAt l s) (next ∷ []) (fits, tt), tt)
     rules_of_fit (Await l at e) next there placed rows fits = (
       flagged_fits (PauseAt l at) (SetsCounter (slots.rest l) ∷ []) (placed.0, tt),
-      (record { on_true = (counter_fits (slots.rest l) placed.0, (fits, tt)); on_false = tt; condition = placed.0 }, tt),
+      (record { on_true = (fits, tt); on_false = tt; condition = placed.0 }, tt),
     )
     rules_of_fit (RunOf l at target a inputs outputs) next there placed rows fits = (
       flagged_fits (EnterAt l at (arguments_of target inputs outputs)) (SetsCounter (slots.rest l) ∷ []) (placed.0, tt),
-      (record { on_true = (counter_fits (slots.rest l) placed.0, (fits, tt)); on_false = tt; condition = placed.0 }, tt),
+      (record { on_true = (fits, tt); on_false = tt; condition = placed.0 }, tt),
     )
     rules_of_fit (If l at e body other) next there placed rows fits =
         let first = there_left (rules_in slots body next) (rules_in slots other next) there.1 in

@@ -31,7 +31,7 @@ use Rattle.bl_ctree_laws_traces.proofs.OnBounded.Statements.{body_few}
 use Rattle.bl_machine.specs.declared.machine.Activity.{Activity as InMachine}
 use Rattle.bl_machine_pass_laws.specs.Turns.Laws.{StaysPlaced}
 use Rattle.bl_machine_transitions.specs.Callees.{callees_in}
-use Rattle.bl_emit_spec.specs.Activities.{Activity, RunAt, activity_view, body_of, memory_member, remembered, remembers_any, runs_in_body}
+use Rattle.bl_emit_spec.specs.Activities.{word_of_run, Activity, RunAt, activity_view, body_of, memory_member, remembered, remembers_any, runs_in_body}
 use Rattle.bl_emit_functions.specs.Functions.{members_of, memory_name}
 use Rattle.bl_emit_spec.specs.Activities.{struct_member}
 use Rattle.bl_emit_spec.specs.Blocks.{name_in}
@@ -90,7 +90,8 @@ shown false x on = absurd cc
 
 member_there : (a : Activity) (run : RunAt) → (activity_view a).remembers run.unit ≡ true → 0 < length (memory_member a run)
 member_there a run on =
-    shown ((activity_view a).remembers run.unit) (struct_member (callee_name run.number) (memory_name (name_in (slice_get a.earlier run.unit)))) on
+    shown ((activity_view a).remembers run.unit)
+    (struct_member (callee_name (word_of_run a.earlier run)) (memory_name (name_in (slice_get a.earlier run.unit)))) on
 
 joined_there : (a : Activity) (u : ℕ) (runs : List RunAt) → HasRun u runs → (activity_view a).remembers u ≡ true →
     0 < length (joined (map (memory_member a) runs))

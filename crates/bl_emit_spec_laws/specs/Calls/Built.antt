@@ -11,7 +11,7 @@ use Rattle.bl_graph_nodes.specs.Nodes.{Node}
 use Rattle.bl_graph_nodes.specs.Plain.{plain_body}
 use Rattle.bl_cause.specs.Activities.{graph_position}
 use Rattle.bl_ctree.specs.declared.instance.Origin.{Origin}
-use Rattle.bl_ctree.specs.Instances.{Setting}
+use Rattle.bl_ctree.specs.Instances.{Setting, callee_of}
 use Rattle.bl_ctree.specs.Store.{depth_at}
 use Rattle.bl_machine.specs.declared.machine.Activity.{Activity as InMachine}
 use Rattle.bl_machine.specs.Uses.{Slots}
@@ -19,6 +19,8 @@ use Rattle.bl_machine_pass.specs.Numbered.{sizes_of, slots_of}
 use Rattle.bl_machine_pass.specs.Transitions.{Change, SetsMark, Transition}
 use Rattle.bl_machine_pass_laws_execution.specs.Frames.{Frames}
 use Rattle.bl_emit_spec.specs.Activities.{Activity, activity_view, first_rules, is_flagged, picked, remembers_any, rules_at}
+use Rattle.bl_emit_spec.specs.Blocks.{word_at}
+use Rattle.bl_emit_spec.specs.Names.{NumberedWord}
 use Rattle.bl_emit_spec_laws.specs.Registers.Registers.{Registered}
 
 -- ---- activities
@@ -43,9 +45,13 @@ site_at w activities i = (activity_view (activity_at w activities i)).site
 abbrev pub rank_by : Setting → Activities → ℕ → Node → ℕ
 rank_by w activities i = (activity_view (activity_at w activities i)).number
 
--- the numbers of `run`s in C, by their places
-abbrev pub run_by : Setting → Activities → ℕ → Place → ℕ
-run_by w activities i = (activity_view (activity_at w activities i)).run
+-- the position of the unit that an instance runs at a place
+abbrev pub callee_unit : Setting → ℕ → Place → ℕ
+callee_unit w i at = unwrap_or (option_map (unit_number w) (callee_of w i at)) 0
+
+-- the numbers and words in the C names of `run`s, by their places
+abbrev pub run_by : Setting → Activities → ℕ → Place → NumberedWord
+run_by w activities i at = word_at (activity_view (activity_at w activities i)) at (callee_unit w i at)
 
 -- the numbers of resting places in C
 abbrev pub slots_by : Setting → Activities → ℕ → Slots

@@ -14,12 +14,12 @@ use Rattle.bl_ctree.specs.Store.{Store, view_at}
 use Rattle.bl_emit_acts.specs.declared.home.Home.TheVariants.{Held}
 use Rattle.bl_emit_acts.specs.Types.{variable_name}
 use Rattle.bl_emit_acts_laws_simulation.specs.Encodes.{Encodes, home_at}
-use Rattle.bl_emit_spec.specs.Names.{callee_name, counter_name}
+use Rattle.bl_emit_spec.specs.Names.{NumberedWord, callee_name, counter_name}
 use Rattle.bl_machine_pass_laws_execution.specs.Frames.{Frames}
 use Rattle.bl_emit_spec_laws.specs.Calls.Built.{Activities, activity_at, run_by, site_at}
 
--- the part of a struct, of counters or of variables, that belongs to the `run`s of the place with this number
-abbrev pub inner : Location → ℕ → Location
+-- the part of a struct, of counters or of variables, that belongs to the `run`s with this number and word
+abbrev pub inner : Location → NumberedWord → Location
 inner place n = further place (member (callee_name n) ∷ [])
 
 -- Nests w activities i f m k f' m': in the instance i, counters at f and memory at m; in the instance k, at f' and m'. The instance k is i, or called by it at

@@ -19,7 +19,7 @@ use Rattle.bl_emit_acts.specs.Types.{variable_name}
 use Rattle.bl_emit_acts_laws_simulation.specs.Frames.{is_older}
 use Rattle.bl_emit_acts_laws_simulation.specs.Encodes.{Encodes, home_at, way_to}
 use Rattle.bl_emit_spec.specs.Activities.{remembers_any}
-use Rattle.bl_emit_spec.specs.Names.{counter_name}
+use Rattle.bl_emit_spec.specs.Names.{NumberedWord, counter_name}
 use Rattle.bl_machine.specs.declared.machine.Activity.{Activity as InMachine}
 use Rattle.bl_machine_pass_laws_execution.specs.Frames.{Frames}
 use Rattle.bl_emit_spec_laws.specs.Calls.Built.{Activities, activity_at, run_by, site_at}
@@ -68,7 +68,7 @@ module _ (structs : List StructDef) (units : List UnitDef) (entry : ℕ) (machin
       (memory_older : remembers_any (activity_at (setting_of structs units entry) activities i) ≡ true → is_older depth m.root ≡ true)
       (l : Label) (at : Place) (arguments : Arguments) (j : ℕ) (within : Contains (nodes_in (plain_body unit.body)) (EnterAt l at arguments))
       (calls : callee_of (setting_of structs units entry) i at ≡ Some j) where
-    abbrev n : ℕ
+    abbrev n : NumberedWord
     n = run_by W activities i at
 
     counters_kept : (k : ℕ) (f' m' : Location) → Nests W activities j (inner f n) (inner m2 n) k f' m' → (c : ℕ) → c

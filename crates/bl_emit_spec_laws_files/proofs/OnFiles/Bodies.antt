@@ -57,6 +57,7 @@ use Rattle.bl_emit_acts.specs.Acts.{c_calling}
 use Rattle.bl_emit_acts.specs.Trees.{c_call, c_literal, c_place, c_read, c_step, nowhere}
 use Rattle.bl_emit_acts.specs.Types.{unit_name}
 use Rattle.bl_emit_functions.specs.Trees.{c_if, c_return}
+use Rattle.bl_emit_spec.specs.Blocks.{unit_may_end, stmt_where}
 use Rattle.bl_emit_spec.specs.Programs.{c_returned, input_arg, output_arg, tick_args, tick_function}
 use Rattle.bl_emit_spec_laws_files.proofs.OnBegins.Evaluated.{call-does, literal-value, passes, place-location, read-value, step-way, value-arg}
 use Rattle.bl_emit_spec_laws_files.proofs.OnBegins.Statements.{if-runs}
@@ -276,8 +277,8 @@ module _ (known : Table Meaning) (unit : UnitDef) (remembers : Bool) (resultless
         ∙ ap (λ b. later_call 0 (called_as b (known (unit_name unit.name)) 1 (passed_to unit remembers (tick_gives unit here)) here)) own_name)
 
     -- behind it
-    abbrev rest_runs : Outcome Memory
-    rest_runs = block_c (c_if (c_read (c_place false (codes "e") [])) (c_returned 1 ∷ []) None ∷ c_returned 0 ∷ []) S here
+    abbrev asking_runs : Outcome Memory
+    asking_runs = block_c (c_if (c_read (c_place false (codes "e") [])) (c_returned 1 ∷ []) None ∷ c_returned 0 ∷ []) S here
 
     over_read : value_c (c_read (c_place false (codes "e") [])) S here ≡ given (Some (value_at here over_place))
     over_read = read-value S here (c_place false (codes "e") []) ∙ ap (λ (c : Counted Location). next c (λ p. given (Some (value_at here p))))
@@ -313,14 +314,34 @@ module _ (known : Table Meaning) (unit : UnitDef) (remembers : Bool) (resultless
     truth true = refl
     truth false = refl
 
-    rest_is : (over : Bool) → scalar_number (value_at here over_place) ≡ number_of over → rest_runs ≡ chosen over
+    rest_is : (over : Bool) → scalar_number (value_at here over_place) ≡ number_of over → asking_runs ≡ chosen over
     rest_is over is =
         ap (λ (o : Outcome Memory). following o (λ m. block_c (c_returned 0 ∷ []) S m))
         (if-runs S here (c_read (c_place false (codes "e") [])) (c_returned 1 ∷ []) None ∙ ap if_by over_read)
         ∙ ap chosen (ap is_one is ∙ truth over)
 
-    pub rest_answers : (over : Bool) → scalar_number (value_at here over_place) ≡ number_of over → Answers rest_runs over
-    rest_answers over is = subst (λ (o : Outcome Memory). Answers o over) (sym (rest_is over is)) (by_over over)
+    -- behind the call, by whether the entry may end
+    abbrev runs_by : Bool → Outcome Memory
+    runs_by ends = block_c (stmt_where ends (c_if (c_read (c_place false (codes "e") [])) (c_returned 1 ∷ []) None) ++ c_returned 0 ∷ []) S here
+
+    abbrev rest_runs : Outcome Memory
+    rest_runs = runs_by (unit_may_end unit)
+
+    -- nothing is asked
+    none_asked : Answers (runs_by false) false
+    none_asked =
+        let e = returned_runs S here 0 in record {
+          result = ap (λ (o : Outcome Memory). result_at (following o (λ m. block_c [] S m)).end) e;
+          memory = ap (λ (o : Outcome Memory). (following o (λ m. block_c [] S m)).memory) e;
+        }
+
+    pub rest_answers : (over : Bool) → scalar_number (value_at here over_place) ≡ number_of over → (unit_may_end unit ≡ false → over ≡ false) →
+        Answers rest_runs over
+    rest_answers over is ends = by (unit_may_end unit) ends
+      where
+        by : (b : Bool) → (b ≡ false → over ≡ false) → Answers (runs_by b) over
+        by true ends = subst (λ (o : Outcome Memory). Answers o over) (sym (rest_is over is)) (by_over over)
+        by false ends = subst (Answers (runs_by false)) (sym (ends refl)) none_asked
 
   -- ---- a tick
 
@@ -353,20 +374,20 @@ module _ (known : Table Meaning) (unit : UnitDef) (remembers : Bool) (resultless
     pub memory : called.memory ≡ without_frame 0 after
 
   answered : (c : CallResult) (over : Bool) → c.result ≡ Some (pos 0) → scalar_number (value_at c.memory over_place) ≡ number_of over →
-      Replies (as_called (then_rest c)) over c.memory
-  answered c over is told = by c.result is
+      (unit_may_end unit ≡ false → over ≡ false) → Replies (as_called (then_rest c)) over c.memory
+  answered c over is told ends = by c.result is
     where
       by : (result : Option ℤ) → result ≡ Some (pos 0) →
           Replies (as_called (following (record { memory = c.memory; end = call_end result; count = 1 + (0 + c.count) }) rest_runs)) over c.memory
       by None h = absurd (cc)
       by (Some n) h =
-          let a = rest_answers c.memory over told in
+          let a = rest_answers c.memory over told ends in
           record { result = a.result; memory = ap (without_frame 0) a.memory }
 
   -- else it tells whether the entry has ended
   pub tick_replies : (here : Memory) (over : Bool) → (entry_called (without_frame 0 here)).result ≡ Some (pos 0) →
-      scalar_number (value_at (entry_called (without_frame 0 here)).memory over_place) ≡ number_of over →
+      scalar_number (value_at (entry_called (without_frame 0 here)).memory over_place) ≡ number_of over → (unit_may_end unit ≡ false → over ≡ false) →
       Replies (ticked here) over (entry_called (without_frame 0 here)).memory
-  tick_replies here over is told =
+  tick_replies here over is told ends =
       subst (λ (called : CallResult). Replies called over (entry_called (without_frame 0 here)).memory) (sym (ticked_is here))
-      (answered (entry_called (without_frame 0 here)) over is told)
+      (answered (entry_called (without_frame 0 here)) over is told ends)

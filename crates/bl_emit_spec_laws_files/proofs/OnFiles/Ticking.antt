@@ -1,5 +1,5 @@
 -- A C file run over rows, tick by tick beside a run of passes by rules.
-use Rattle.std.proofs.Common.{◌≡◌, inl, inr, ℕ, ℤ, zero, suc, ◌+◌, ◌≤◌, pos, Bool, true, ◌&&◌, List, []}
+use Rattle.std.proofs.Common.{◌≡◌, inl, inr, ℕ, ℤ, zero, suc, ◌+◌, ◌≤◌, pos, Bool, true, false, ◌&&◌, List, []}
 use Rattle.std.proofs.Common.{◌∷◌, ◌++◌, map, length, take, drop}
 use Rattle.std.proofs.Common.{Option, Some, None, refl, sym, ap, ap₂, ◌∙◌, subst, arith}
 use Rattle.std.proofs.lemmas.Bool.{leb-true}
@@ -45,7 +45,7 @@ use Rattle.bl_emit_acts_laws_simulation.specs.Acts.{OutputsEncoded}
 use Rattle.bl_emit_acts_laws_simulation.specs.Encodes.{Encodes}
 use Rattle.bl_emit_acts_laws_simulation.specs.Simulation.{ArgumentsEncoded}
 use Rattle.bl_emit_spec.specs.Activities.{remembers_any}
-use Rattle.bl_emit_spec.specs.Blocks.{greatest_value}
+use Rattle.bl_emit_spec.specs.Blocks.{greatest_value, unit_may_end}
 use Rattle.bl_emit_spec.specs.Names.{counter_name}
 use Rattle.bl_emit_spec.specs.Programs.{port_member}
 use Rattle.bl_machine.specs.declared.machine.Activity.{Activity as InMachine}
@@ -65,6 +65,7 @@ use Rattle.bl_emit_spec_laws.specs.Registers.Laws.{RegistersWithin}
 use Rattle.bl_emit_spec_laws.specs.Within.{AllStayWithin}
 use Rattle.bl_emit_spec_laws.proofs.OnWithin.Changing.{none_within}
 use Rattle.bl_emit_spec_laws.proofs.OnWithin.Passing.{frame_within, starts_within}
+use Rattle.bl_emit_spec_laws_nodes.proofs.OnPoints.Endless.{pass_open}
 use Rattle.bl_emit_spec_laws_files.specs.States.Cells.{regained}
 use Rattle.bl_emit_spec_laws_files.specs.States.States.{StateKept, frame_place, memory_place, output_place}
 use Rattle.bl_emit_spec_laws_files.specs.Files.{FileShows, FileStands, FilesShow}
@@ -361,6 +362,11 @@ module _ (out : HomesLeadOut) (orderly : AcceptedIsOrderly) (keep : PassesKeepTy
       pass_starts r (run.begins none) = inl (refl, between.begins none)
       pass_starts r (run.goes_on some) = inr (refl, some)
 
+      -- no pass has ended as it begins
+      starts_open : (r : Registers) → TickStarts (rank_by W activities) unit frames r → r.over ≡ false
+      starts_open r (run.begins none) = refl
+      starts_open r (run.goes_on some) = refl
+
       abbrev may : MayGive unit remembers 0 (tick_gives unit begun_memory)
       may = may_give unit remembers begun_memory resultless outputs_distinct
 
@@ -389,7 +395,9 @@ module _ (out : HomesLeadOut) (orderly : AcceptedIsOrderly) (keep : PassesKeepTy
           let leaves = comes.executes 0 unit (tick_gives unit begun_memory) frames (woken_store row s) r inner left r' begun_memory at_entry is may
           call_begins
           (pass_starts r starts) pass in
-          let replies = tick_replies known unit remembers resultless (set row here) r'.over leaves.returned leaves.over in
+          let ends : unit_may_end unit ≡ false → r'.over ≡ false =
+          λ never. pass_open W (rank_by W activities) (slots_by W activities) (cleared W) unit never is pass (starts_open r starts) in
+          let replies = tick_replies known unit remembers resultless (set row here) r'.over leaves.returned leaves.over ends in
           let after = without_frame 0 c.memory in
           let fits : StoreFits W left =
           (keep structs units entry compiled.well_typed).executes (rank_by W activities) (slots_by W activities) (cleared W) 0 0 frames

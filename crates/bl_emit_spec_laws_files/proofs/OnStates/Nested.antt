@@ -35,9 +35,10 @@ use Rattle.bl_emit_spec.specs.Activities.{
   remembers_any,
   runs_in_body,
   struct_member,
+  word_of_run,
 }
 use Rattle.bl_emit_spec.specs.Blocks.{name_in}
-use Rattle.bl_emit_spec.specs.Names.{callee_name, frame_name}
+use Rattle.bl_emit_spec.specs.Names.{NumberedWord, callee_name, frame_name}
 use Rattle.bl_emit_spec.specs.Programs.{state_struct}
 use Rattle.bl_machine.specs.declared.machine.Activity.{Activity as InMachine}
 use Rattle.bl_machine.specs.Blocks.{up_to}
@@ -49,6 +50,7 @@ use Rattle.bl_emit_spec_laws.specs.Calls.Memories.{Nests, inner}
 use Rattle.bl_emit_spec_laws.proofs.OnRunPlaces.Sharing.{run_kept}
 use Rattle.bl_emit_spec_laws_files.specs.States.States.{FramesDeclared, RunFound, RunsFound, frame_place, memory_of_activity, memory_place}
 use Rattle.bl_emit_spec_laws_files.proofs.OnStates.Declared.{member_step, stands_somewhere}
+use Rattle.bl_emit_spec_laws.proofs.OnRunPlaces.Words.{run_word}
 
 -- ---- members of lists
 
@@ -162,13 +164,16 @@ module _ (orderly : AcceptedIsOrderly) (placed : StaysPlaced) (structs : List St
     found : RunFound W u l at arguments i j
     found = runs i j u l at arguments is within calls
 
-    n : ℕ
-    n = run_by W activities i at
+    abbrev run : RunAt
+    run = record { place = at; number = (activity_view (A i)).run at; unit = unit_number W j }
 
-    run : RunAt
-    run = record { place = at; number = run_by W activities i at; unit = unit_number W j }
+    abbrev word : NumberedWord
+    word = word_of_run (A i).earlier run
 
-    run_within : Contains (runs_in_body (A i)) (record { place = at; number = run_by W activities i at; unit = unit_number W j })
+    word_is : run_by W activities i at ≡ word
+    word_is = run_word W activities i j at calls
+
+    run_within : Contains (runs_in_body (A i)) run
     run_within =
         let called = subst (λ (x : UnitDef). Rattle.bl_emit_spec_laws.specs.Calls.Laws.CalledAt (plain_body x.body) (EnterAt l at arguments)
         (unit_number W j)) (sym (own_unit i u is)) found.called in
@@ -183,14 +188,15 @@ module _ (orderly : AcceptedIsOrderly) (placed : StaysPlaced) (structs : List St
     named : name_in (slice_get (A i).earlier (unit_number W j)) ≡ (A j).unit.name
     named = ap name_in earlier_is ∙ ap (λ (x : UnitDef). x.name) (sym (own_unit j found.other found.is_there))
 
-    frame_step : step_in (struct_table file.structs) (whole (OfStruct (frame_struct (A i)).name)) (member (callee_name (run_by W activities i at))) ≡ Some (whole (OfStruct (frame_struct (A j)).name))
+    frame_step : step_in (struct_table file.structs) (whole (OfStruct (frame_struct (A i)).name)) (member (callee_name word))
+        ≡ Some (whole (OfStruct (frame_struct (A j)).name))
     frame_step =
         member_step file formed (frame_struct (A i))
-        (frame_member (A i) (record { place = at; number = run_by W activities i at; unit = unit_number W j })) (declared.frames i u is)
+        (frame_member (A i) run) (declared.frames i u is)
         (in_right (map (counter_member (A i).sizes) (up_to (length (A i).sizes))) (map (frame_member (A i)) (runs_in_body (A i)))
-        (frame_member (A i) (record { place = at; number = run_by W activities i at; unit = unit_number W j }))
+        (frame_member (A i) run)
         (in_mapped (frame_member (A i)) (runs_in_body (A i))
-        (record { place = at; number = run_by W activities i at; unit = unit_number W j }) run_within))
+        run run_within))
         ∙ ap (λ (name : Text). Some (whole (OfStruct (frame_name name)))) named
 
     module _ (remembers : remembers_any (A j) ≡ true) where
@@ -202,48 +208,49 @@ module _ (orderly : AcceptedIsOrderly) (placed : StaysPlaced) (structs : List St
           ∙ ap₂ (λ a b. a && b) active remembers
 
       the_member : CMember
-      the_member = struct_member (callee_name (run_by W activities i at)) (memory_name (name_in (slice_get (A i).earlier (unit_number
+      the_member = struct_member (callee_name word) (memory_name (name_in (slice_get (A i).earlier (unit_number
           W j))))
 
-      member_within : Contains (remembered (A i)) (struct_member (callee_name (run_by W activities i at))
+      member_within : Contains (remembered (A i)) (struct_member (callee_name word)
           (memory_name (name_in (slice_get (A i).earlier (unit_number W j)))))
       member_within =
           in_right (members_of (A i).structs (A i).earlier (A i).unit) (joined (map (memory_member (A i)) (runs_in_body (A i))))
-          (struct_member (callee_name (run_by W activities i at)) (memory_name (name_in (slice_get (A i).earlier (unit_number W j)))))
-          (in_joined (memory_member (A i)) (runs_in_body (A i)) (record { place = at; number = run_by W activities i at; unit = unit_number W j })
-          (struct_member (callee_name (run_by W activities i at)) (memory_name (name_in (slice_get (A i).earlier (unit_number W j)))))
+          (struct_member (callee_name word) (memory_name (name_in (slice_get (A i).earlier (unit_number W j)))))
+          (in_joined (memory_member (A i)) (runs_in_body (A i)) run
+          (struct_member (callee_name word) (memory_name (name_in (slice_get (A i).earlier (unit_number W j)))))
           run_within
-          (subst (λ (b : Bool). Contains (if b then struct_member (callee_name (run_by W activities i at))
+          (subst (λ (b : Bool). Contains (if b then struct_member (callee_name word)
           (memory_name (name_in (slice_get (A i).earlier (unit_number W j)))) ∷ [] else [])
-          (struct_member (callee_name (run_by W activities i at)) (memory_name (name_in (slice_get (A i).earlier (unit_number W j))))))
-          (sym told) (here (struct_member (callee_name (run_by W activities i at))
+          (struct_member (callee_name word) (memory_name (name_in (slice_get (A i).earlier (unit_number W j))))))
+          (sym told) (here (struct_member (callee_name word)
           (memory_name (name_in (slice_get (A i).earlier (unit_number W j))))) [])))
 
       outer_remembers : remembers_any (A i) ≡ true
       outer_remembers =
-          some_long (remembered (A i)) (struct_member (callee_name (run_by W activities i at))
+          some_long (remembered (A i)) (struct_member (callee_name word)
           (memory_name (name_in (slice_get (A i).earlier (unit_number W j))))) member_within
 
-      memory_step : step_in (struct_table file.structs) (whole (OfStruct (memory_of_activity (A i)).name)) (member (callee_name (run_by W activities i at))) ≡ Some (whole (OfStruct (memory_of_activity (A j)).name))
+      memory_step : step_in (struct_table file.structs) (whole (OfStruct (memory_of_activity (A i)).name)) (member (callee_name word))
+          ≡ Some (whole (OfStruct (memory_of_activity (A j)).name))
       memory_step =
           member_step file formed (memory_of_activity (A i))
-          (struct_member (callee_name (run_by W activities i at)) (memory_name (name_in (slice_get (A i).earlier (unit_number W j)))))
+          (struct_member (callee_name word) (memory_name (name_in (slice_get (A i).earlier (unit_number W j)))))
           (declared.memories i u is outer_remembers) member_within
           ∙ ap (λ (name : Text). Some (whole (OfStruct (memory_name name)))) named
 
     pub inner_stands : (f m : Location) → StandsAt i f m →
         StandsAt j (inner f (run_by W activities i at)) (inner m (run_by W activities i at))
-    inner_stands f m stands = record {
+    inner_stands f m stands = subst (λ (n : NumberedWord). StandsAt j (inner f n) (inner m n)) (sym word_is) (record {
       other = found.other;
       is_there = found.is_there;
       frame_root = stands.frame_root;
       memory_root = stands.memory_root;
-      frame = along f.parts (member (callee_name (run_by W activities i at)) ∷ []) (whole (OfStruct (frame_struct (A i)).name))
+      frame = along f.parts (member (callee_name word) ∷ []) (whole (OfStruct (frame_struct (A i)).name))
           (whole (OfStruct (frame_struct (A j)).name)) stands.frame frame_step;
       memory = λ remembers.
-          along m.parts (member (callee_name (run_by W activities i at)) ∷ []) (whole (OfStruct (memory_of_activity (A i)).name))
+          along m.parts (member (callee_name word) ∷ []) (whole (OfStruct (memory_of_activity (A i)).name))
           (whole (OfStruct (memory_of_activity (A j)).name)) (stands.memory (outer_remembers remembers)) (memory_step remembers);
-    }
+    })
 
   pub nested : {i k : ℕ} {f m f' m' : Location} → Nests W activities i f m k f' m' → StandsAt i f m → StandsAt k f' m'
   nested memories.here stands = stands

@@ -57,7 +57,7 @@ use Rattle.bl_emit_acts_laws_simulation.specs.Encodes.{CopiesEncoded, VariablesE
 use Rattle.bl_emit_acts_laws_simulation.specs.Laws.{ActsSimulate, BesideActs, FramesApart}
 use Rattle.bl_emit_spec.specs.Activities.{copies_of, remembers_any}
 use Rattle.bl_emit_spec.specs.Blocks.{ActivityView, layer_acted}
-use Rattle.bl_emit_spec.specs.Names.{callee_name, counter_name}
+use Rattle.bl_emit_spec.specs.Names.{NumberedWord, callee_name, counter_name}
 use Rattle.bl_emit_spec_laws.specs.Registers.Laws.{RegistersKeepApart}
 use Rattle.bl_emit_spec_laws.specs.Registers.Registers.{RegistersApart, RegistersBeside, frame_at, register_at}
 use Rattle.bl_machine.specs.declared.machine.Activity.{Activity as InMachine}
@@ -369,7 +369,7 @@ module _ (frames_apart : FramesApart) (keep : RegistersKeepApart) (structs : Lis
 
     module _ (m : Label) (at : Place) (arguments : Arguments) (j : ℕ) (there : Contains (nodes_in (plain_body unit.body)) (EnterAt m at arguments))
         (called : callee_of w i at ≡ Some j) where
-      abbrev n : ℕ
+      abbrev n : NumberedWord
       n = run_by w activities i at
 
       abbrev f : Location

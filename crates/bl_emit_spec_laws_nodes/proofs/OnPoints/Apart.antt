@@ -12,7 +12,7 @@ use Rattle.bl_ctree.specs.Instances.{Setting}
 use Rattle.bl_emit_acts_laws_simulation.specs.Acts.{lies_in}
 use Rattle.bl_emit_acts_laws_simulation.specs.Frames.{is_older}
 use Rattle.bl_emit_acts_laws_simulation.specs.Encodes.{are_apart, ways_part}
-use Rattle.bl_emit_spec.specs.Names.{callee_name, counter_name, flag_name, mark_name, rested_name}
+use Rattle.bl_emit_spec.specs.Names.{NumberedWord, callee_name, counter_name, flag_name, mark_name, rested_name}
 use Rattle.bl_emit_spec_laws.specs.Registers.Registers.{Before, Counter, Flag, FramePointersAreValid, Mark, Outside, Over, Register, Registered, RegistersEncodedAfter}
 use Rattle.bl_emit_spec_laws.specs.Registers.Registers.{frame_at, has_register, over_at, register_at}
 use Rattle.bl_machine_pass.specs.Registers.{Registers}
@@ -107,7 +107,7 @@ module _ (scope : Scope) where
   register_stands site place stands = register_apart place stands.older stands.frame stands.over
 
   -- registers are apart from the counters of what is called
-  pub register_inner : FramePointersAreValid scope → (n : ℕ) (more : List Projection) (x : Register) →
+  pub register_inner : FramePointersAreValid scope → (n : NumberedWord) (more : List Projection) (x : Register) →
       are_apart (register_at scope x) (further (frame_at scope) (member (callee_name n) ∷ more)) ≡ true
   register_inner frame n more (Counter k) =
       let start = frame_at scope in
@@ -168,7 +168,7 @@ nests_beyond w activities i k f m f' m' (memories.inside {j = j} {l = l} {at = a
     )
 
 -- what lies further on from such a place
-pub inner_is : (base f' : Location) (n : ℕ) (far : Beyond (inner base n) f') (more : List Projection) →
+pub inner_is : (base f' : Location) (n : NumberedWord) (far : Beyond (inner base n) f') (more : List Projection) →
     further f' more ≡ further base (member (callee_name n) ∷ (far.0 ++ more))
 inner_is base f' n far more =
     ap (λ (place : Location). further place more) (far.1 ∙ further_twice base (member (callee_name n) ∷ []) far.0)

@@ -73,10 +73,10 @@ fine_at (first ∷ all) rule h (suc k, within, is) = fine_at all rule (and_right
 
 -- ---- the last statement
 
-abbrev made : Place → StmtKind-F StmtKind Arm Branch Stmt → Stmt
+abbrev pub made : Place → StmtKind-F StmtKind Arm Branch Stmt → Stmt
 made place layer = roll-Stmt (record { place = place; what = roll-StmtKind layer })
 
-made_is : (s : Stmt) → made (out-Stmt s).place (out-StmtKind (out-Stmt s).what) ≡ s
+pub made_is : (s : Stmt) → made (out-Stmt s).place (out-StmtKind (out-Stmt s).what) ≡ s
 made_is s =
     ap (λ (what : StmtKind). roll-Stmt (record { place = (out-Stmt s).place; what = what })) (roll-out-StmtKind (out-Stmt s).what) ∙ roll-out-Stmt s
 

@@ -19,7 +19,7 @@ use Rattle.bl_emit_acts_laws_simulation.specs.Frames.{remembered_at}
 use Rattle.bl_emit_acts_laws_simulation.specs.Encodes.{CopiesEncoded, Encodes, VariablesEncoded, are_apart, location_in}
 use Rattle.bl_emit_spec.specs.Activities.{activity_view, copies_of, remembers_any}
 use Rattle.bl_emit_spec.specs.Blocks.{changes_code}
-use Rattle.bl_emit_spec.specs.Names.{callee_name, counter_name}
+use Rattle.bl_emit_spec.specs.Names.{NumberedWord, callee_name, counter_name}
 use Rattle.bl_emit_spec_laws.specs.Registers.Laws.{ChangesSimulate, RegistersKeepApart}
 use Rattle.bl_emit_spec_laws.specs.Registers.Registers.{PointersOlder, Register, Registered, RegistersBeside, RegistersEncodedAfter}
 use Rattle.bl_emit_spec_laws.specs.Registers.Registers.{frame_at, register_at}
@@ -80,7 +80,7 @@ module _ (w : Setting) (activities : Activities) (i : ℕ) (unit : UnitDef) (sco
 
   module _ (l : Label) (at : Place) (arguments : Arguments) (j : ℕ) (there : Contains (nodes_in (plain_body unit.body)) (EnterAt l at arguments))
       (called : callee_of w i at ≡ Some j) (is_there : unit_at w i ≡ Some unit) where
-    abbrev n : ℕ
+    abbrev n : NumberedWord
     n = run_by w activities i at
 
     abbrev f : Location

@@ -16,7 +16,7 @@ use Rattle.bl_emit_acts.specs.Types.{copy_name, variable_name}
 use Rattle.bl_emit_acts_laws_simulation.specs.Acts.{Foreign, copy_location, lies_in}
 use Rattle.bl_emit_acts_laws_simulation.specs.Frames.{is_older, lent_at, remembered_at}
 use Rattle.bl_emit_acts_laws_simulation.specs.Encodes.{are_apart, home_at, is_live, lead_in, location_in, start_in, ways_part}
-use Rattle.bl_emit_spec.specs.Names.{callee_name}
+use Rattle.bl_emit_spec.specs.Names.{NumberedWord, callee_name}
 use Rattle.bl_emit_spec_laws.specs.Registers.Registers.{Register, RegistersApart, RegistersBeside, Registered, frame_at, register_at}
 use Rattle.bl_emit_spec_laws.specs.Calls.Laws.{PassOutside}
 use Rattle.bl_emit_spec_laws.specs.Calls.Invariant.{PlacesAreSeparate, result_at_c}
@@ -101,7 +101,7 @@ module _ (site : TypingContext) (unit : UnitDef) (remembers : Bool) (scope : Sco
       (last_further (remembered_at scope) (frame_at scope) more
       (apart_flip (frame_at scope) (remembered_at scope) (places.frame_apart.remembered k var there is active))))
 
-  pub foreign_memory : remembers ≡ true → (n : ℕ) (more : List Projection) (way : List Projection) →
+  pub foreign_memory : remembers ≡ true → (n : NumberedWord) (more : List Projection) (way : List Projection) →
       Foreign site copied scope (further (remembered_at scope) (member (callee_name n) ∷ more)).root
       ((further (remembered_at scope) (member (callee_name n) ∷ more)).parts ++ way)
   foreign_memory its n more =

@@ -140,7 +140,7 @@ joins_quiet slots l bodies age n next rest h more =
 
 -- a node at which the instance rested
 abbrev rules_behind : Node → Slot → Change → Transition
-rules_behind n slot next = record { node = n; condition = Rested slot; on_true = ClearsCounter slot.counter ∷ next ∷ []; on_false = [] }
+rules_behind n slot next = record { node = n; condition = Rested slot; on_true = next ∷ []; on_false = [] }
 
 -- ---- statements
 
@@ -150,13 +150,11 @@ mutual
   quiet_of slots (Await l at e) next h =
       flagged_quiet (PauseAt l at) (SetsCounter (slots.rest l) ∷ []) (rules_behind (TestAt l at e) (slots.rest l) next ∷ [])
       (one_quiet (SetsCounter (slots.rest l)) refl)
-      (quiet_cons (rules_behind (TestAt l at e) (slots.rest l) next) []
-      (first_quiet (ClearsCounter (slots.rest l).counter) (next ∷ []) refl (one_quiet next h)) no_changes no_rules)
+      (quiet_cons (rules_behind (TestAt l at e) (slots.rest l) next) [] (one_quiet next h) no_changes no_rules)
   quiet_of slots (RunOf l at target a inputs outputs) next h =
       flagged_quiet (EnterAt l at (arguments_of target inputs outputs)) (SetsCounter (slots.rest l) ∷ [])
       (rules_behind (ResumeAt l at (arguments_of target inputs outputs)) (slots.rest l) next ∷ []) (one_quiet (SetsCounter (slots.rest l)) refl)
-      (quiet_cons (rules_behind (ResumeAt l at (arguments_of target inputs outputs)) (slots.rest l) next) []
-      (first_quiet (ClearsCounter (slots.rest l).counter) (next ∷ []) refl (one_quiet next h)) no_changes no_rules)
+      (quiet_cons (rules_behind (ResumeAt l at (arguments_of target inputs outputs)) (slots.rest l) next) [] (one_quiet next h) no_changes no_rules)
   quiet_of slots (If l at e body other) next h =
       quiet_cons (record { node = TestAt l at e; condition = Flagged; on_true = enter body next ∷ []; on_false = enter other next ∷ [] })
       (rules_in slots body next ++ rules_in slots other next)

@@ -21,7 +21,7 @@ use Rattle.bl_emit_acts_laws_simulation.specs.Acts.{copy_location}
 use Rattle.bl_emit_acts_laws_simulation.specs.Frames.{remembered_at}
 use Rattle.bl_emit_acts_laws_simulation.specs.Encodes.{CopiesEncoded, VariablesEncoded, are_apart, home_at, location_in}
 use Rattle.bl_emit_spec.specs.Activities.{copies_of, remembers_any}
-use Rattle.bl_emit_spec.specs.Names.{callee_name, counter_name}
+use Rattle.bl_emit_spec.specs.Names.{NumberedWord, callee_name, counter_name}
 use Rattle.bl_emit_spec_laws.specs.Registers.Registers.{frame_at, register_at}
 use Rattle.bl_machine_pass.specs.Registers.{Registers}
 use Rattle.bl_machine_pass_laws_execution.specs.Frames.{Frames}
@@ -95,7 +95,7 @@ module _ (w : Setting) (activities : Activities) (i : ℕ) (unit : UnitDef) (sco
 
   module _ (m : Label) (at : Place) (arguments : Arguments) (j : ℕ) (there : Contains (nodes_in (plain_body unit.body)) (EnterAt m at arguments))
       (called : callee_of w i at ≡ Some j) where
-    abbrev n : ℕ
+    abbrev n : NumberedWord
     n = run_by w activities i at
 
     abbrev f : Location

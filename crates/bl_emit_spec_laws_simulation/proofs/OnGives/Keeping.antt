@@ -17,7 +17,7 @@ use Rattle.bl_emit_acts_laws_simulation.specs.Acts.{MayPass, all_apart, places_i
 use Rattle.bl_emit_acts_laws_simulation.specs.Arguments.{ApartFromVariables}
 use Rattle.bl_emit_acts_laws_simulation.specs.Frames.{is_older, lent_at, remembered_at}
 use Rattle.bl_emit_acts_laws_simulation.specs.Encodes.{are_apart, home_at, is_live, lead_in, start_in, ways_part}
-use Rattle.bl_emit_spec.specs.Names.{callee_name, ended_name, given_name}
+use Rattle.bl_emit_spec.specs.Names.{NumberedWord, callee_name, ended_name, given_name}
 use Rattle.bl_emit_spec_laws.specs.Registers.Registers.{frame_at}
 use Rattle.bl_emit_spec_laws.specs.Calls.Calls.{MayGive, where_true, written_by}
 use Rattle.bl_emit_spec_laws.specs.Calls.Memories.{inner}
@@ -121,7 +121,7 @@ own_live : (depth : ℕ) → nat_le depth depth ≡ true
 own_live depth = le-leb depth depth (omega arith)
 
 module _ (site : TypingContext) (unit : UnitDef) (remembers : Bool) (scope : Scope) (places : PlacesAreSeparate site unit remembers scope)
-    (active : is_activity site.kind ≡ true) (n : ℕ) where
+    (active : is_activity site.kind ≡ true) (n : NumberedWord) where
   -- ---- where a `run` of the function keeps what it hands over
 
   abbrev pub frame : Location
@@ -134,7 +134,7 @@ module _ (site : TypingContext) (unit : UnitDef) (remembers : Bool) (scope : Sco
   result = named_location scope false (given_name n)
 
   abbrev pub over : Location
-  over = named_location scope false (ended_name n)
+  over = named_location scope false ended_name
 
   abbrev place_of : Bool → Home → ℕ → Location
   place_of activity home k = further (start_in scope activity home site.vars k) (lead_in home site.vars k ++ [])
@@ -203,7 +203,7 @@ module _ (site : TypingContext) (unit : UnitDef) (remembers : Bool) (scope : Sco
   result_variables = local_variables (given_name n) (λ k. refl)
 
   pub over_variables : ApartFromVariables site scope over
-  over_variables = local_variables (ended_name n) (λ k. refl)
+  over_variables = local_variables ended_name (λ k. refl)
 
   -- ---- among themselves
 
@@ -214,7 +214,7 @@ module _ (site : TypingContext) (unit : UnitDef) (remembers : Bool) (scope : Sco
       (apart_flip (remembered_at scope) (frame_at scope) (places.memory its).frame))
 
   result_over : are_apart result over ≡ true
-  result_over = locals_apart scope.depth result over (given_name n) (ended_name n) refl refl refl
+  result_over = locals_apart scope.depth result over (given_name n) ended_name refl refl refl
 
   abbrev written : UnitDef → Bool → List ArgumentValue → List Location → List Location
   written other has inputs outputs = written_by other has (given_by scope n inputs outputs)
@@ -232,7 +232,7 @@ module _ (site : TypingContext) (unit : UnitDef) (remembers : Bool) (scope : Sco
       let older_last : (place : Location) → is_older scope.depth place.root ≡ true → list_all (are_apart place) last ≡ true =
       λ place older. append_all (are_apart place) (where_true (is_some other.result) result) (over ∷ [])
       (where_all (are_apart place) (is_some other.result) result (λ one. older_apart place (given_name n) [] older))
-      (single_all (are_apart place) over (older_apart place (ended_name n) [] older)) in
+      (single_all (are_apart place) over (older_apart place ended_name [] older)) in
       let last_apart : all_apart last ≡ true =
       append_apart (where_true (is_some other.result) result) (over ∷ []) (where_apart (is_some other.result) result) refl
       (where_parted (is_some other.result) result (over ∷ []) (λ one. single_all (are_apart result) over result_over)) in

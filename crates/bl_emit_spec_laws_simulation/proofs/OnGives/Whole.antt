@@ -69,6 +69,7 @@ use Rattle.bl_emit_spec_laws_simulation.proofs.OnGives.Roles.{held_behind, held_
 use Rattle.bl_emit_spec_laws_simulation.proofs.OnGives.Stored.{Copied, copied, inputs_are, kept_seen, output_seen}
 use Rattle.bl_emit_spec_laws_simulation.proofs.OnGives.Values.{values_same}
 use Rattle.bl_emit_spec_laws_simulation.proofs.OnGives.Writing.{written_given, written_traps}
+use Rattle.bl_emit_spec.specs.Names.{NumberedWord}
 
 -- the laws on which all stands
 pub record Laws (structs : List StructDef) (units : List UnitDef) (entry : ℕ) : Type 0 where
@@ -101,7 +102,7 @@ module _ (structs : List StructDef) (units : List UnitDef) (entry : ℕ) (laws :
   abbrev u : ℕ
   u = unit_number w j
 
-  abbrev n : ℕ
+  abbrev n : NumberedWord
   n = run_by w activities i at
 
   abbrev site : TypingContext
@@ -185,7 +186,7 @@ module _ (structs : List StructDef) (units : List UnitDef) (entry : ℕ) (laws :
 
   -- ---- what it is given
 
-  module _ (given : Store) (does : DeedYields w (deed i at (Copies j arguments.inputs)) store true given) (not_ended : NotEnded scope n here) where
+  module _ (given : Store) (does : DeedYields w (deed i at (Copies j arguments.inputs)) store true given) (not_ended : NotEnded scope here) where
     abbrev c : Copied w i j arguments.inputs store given
     c = copied w i j at arguments.inputs store given does
 

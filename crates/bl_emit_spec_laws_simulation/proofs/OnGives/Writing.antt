@@ -23,7 +23,7 @@ use Rattle.bl_emit_acts_laws_simulation.proofs.Evaluated.{call-does, passes, pla
 use Rattle.bl_emit_acts_laws_simulation.proofs.Passing.{joined_answer, pass_both}
 use Rattle.bl_emit_acts_laws_simulation.proofs.Places.{listed-answer}
 use Rattle.bl_emit_spec.specs.Blocks.{ActivityView, arg_where, has_result, run_args}
-use Rattle.bl_emit_spec.specs.Names.{callee_frame, callee_memory, ended_name, ended_place, given_name, given_place}
+use Rattle.bl_emit_spec.specs.Names.{NumberedWord, callee_frame, callee_memory, ended_name, ended_place, given_name, given_place}
 use Rattle.bl_emit_spec_laws.specs.Registers.Registers.{frame_at}
 use Rattle.bl_emit_spec_laws.specs.Calls.Calls.{passed_to, where_true}
 use Rattle.bl_emit_spec_laws.specs.Calls.Memories.{inner}
@@ -59,29 +59,29 @@ module _ (structs : List StructDef) (scope : Scope) (here : Memory) where
   where_answer false place at is = refl
 
   -- what the arguments of a `run` pass
-  abbrev run_answer : ℕ → Bool → Bool → Option (List ArgumentValue) → Option (List ArgumentValue)
+  abbrev run_answer : NumberedWord → Bool → Bool → Option (List ArgumentValue) → Option (List ArgumentValue)
   run_answer n remembers result between =
       joined_answer (Some (by_address (inner (frame_at scope) n) ∷ []))
       (joined_answer (Some (where_true remembers (by_address (inner (remembered_at scope) n))))
       (joined_answer between
       (joined_answer (Some (where_true result (by_address (named_location scope false (given_name n)))))
-      (Some (by_address (named_location scope false (ended_name n)) ∷ [])))))
+      (Some (by_address (named_location scope false ended_name) ∷ [])))))
 
-  args_answer : (n : ℕ) (remembers result : Bool) (between : List CArg) →
+  args_answer : (n : NumberedWord) (remembers result : Bool) (between : List CArg) →
       (pass_all structs scope here
       (Address (callee_frame n) ∷ (arg_where remembers (Address (callee_memory n))
-      ++ (between ++ (arg_where result (Address (given_place n)) ++ Address (ended_place n) ∷ []))))).answer
+      ++ (between ++ (arg_where result (Address (given_place n)) ++ Address ended_place ∷ []))))).answer
       ≡ run_answer n remembers result (pass_all structs scope here between).answer
   args_answer n remembers result between =
-      let last : List CArg = arg_where result (Address (given_place n)) ++ Address (ended_place n) ∷ [] in
+      let last : List CArg = arg_where result (Address (given_place n)) ++ Address ended_place ∷ [] in
       let frame : List CArg = Address (callee_frame n) ∷ [] in
       let memory : List CArg = arg_where remembers (Address (callee_memory n)) in
       let lasts : (pass_all structs scope here last).answer
       ≡ joined_answer (Some (where_true result (by_address (named_location scope false (given_name n)))))
-      (Some (by_address (named_location scope false (ended_name n)) ∷ [])) =
-      pass_both structs scope here (arg_where result (Address (given_place n))) (Address (ended_place n) ∷ [])
+      (Some (by_address (named_location scope false ended_name) ∷ [])) =
+      pass_both structs scope here (arg_where result (Address (given_place n))) (Address ended_place ∷ [])
       ∙ ap₂ joined_answer (where_answer result (given_place n) (named_location scope false (given_name n)) (local_answer (given_name n)))
-      (address_answer (ended_place n) (named_location scope false (ended_name n)) (local_answer (ended_name n))) in
+      (address_answer ended_place (named_location scope false ended_name) (local_answer ended_name)) in
       pass_both structs scope here frame (memory ++ (between ++ last))
       ∙ ap₂ joined_answer
       (address_answer (callee_frame n) (inner (frame_at scope) n) (member_answer (codes "f") _))
@@ -92,7 +92,7 @@ module _ (structs : List StructDef) (scope : Scope) (here : Memory) where
 
 -- ---- the call
 
-module _ (view : ActivityView) (n u : ℕ) (arguments : Arguments) (other : UnitDef) (remembers : Bool) (scope : Scope) (here : Memory)
+module _ (view : ActivityView) (n : NumberedWord) (u : ℕ) (arguments : Arguments) (other : UnitDef) (remembers : Bool) (scope : Scope) (here : Memory)
     (earlier_is : slice_get view.site.earlier u ≡ Some other) (remembers_is : view.remembers u ≡ remembers) where
   abbrev written : CallResult
   written = call_c (c_call (name_of_callee (slice_get view.site.earlier u)) (run_args view n u arguments)) scope here

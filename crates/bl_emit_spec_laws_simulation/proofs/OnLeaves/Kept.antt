@@ -20,7 +20,7 @@ use Rattle.bl_emit_acts_laws_simulation.specs.Acts.{Foreign, UnchangedOutside, c
 use Rattle.bl_emit_acts_laws_simulation.specs.Frames.{is_older, lent_at, remembered_at}
 use Rattle.bl_emit_acts_laws_simulation.specs.Encodes.{are_apart, home_at, is_live, lead_in, location_in, start_in, ways_part}
 use Rattle.bl_emit_acts_laws_simulation.proofs.Cells.{lies_inside}
-use Rattle.bl_emit_spec.specs.Names.{callee_name, ended_name, flag_name, given_name, mark_name, rested_name}
+use Rattle.bl_emit_spec.specs.Names.{NumberedWord, callee_name, ended_name, flag_name, given_name, mark_name, rested_name}
 use Rattle.bl_emit_spec_laws.specs.Registers.Registers.{Before, Counter, Flag, Mark, Over, Register, Registered}
 use Rattle.bl_emit_spec_laws.specs.Registers.Registers.{RegistersApart, RegistersBeside, frame_at, register_at}
 use Rattle.bl_emit_spec_laws_nodes.specs.Calling.{given_by}
@@ -70,7 +70,7 @@ pub record PlaceIn (site : TypingContext) (scope : Scope) (place : Location) : T
 module _ (site : TypingContext) (unit : UnitDef) (remembers : Bool) (scope : Scope) (places : PlacesAreSeparate site unit remembers scope)
     (active : is_activity site.kind ≡ true)
     (held_here : (k : ℕ) (var : Var) → var_at site k ≡ Some var → home_at site k ≡ Held → remembers ≡ true) (other : UnitDef)
-    (takes : Bool) (so : takes ≡ true → remembers ≡ true) (n : ℕ) (inputs : List ArgumentValue) (outputs : List Location)
+    (takes : Bool) (so : takes ≡ true → remembers ≡ true) (n : NumberedWord) (inputs : List ArgumentValue) (outputs : List Location)
     (within : (o : ℕ) (place : Location) → slice_get outputs o ≡ Some place → PlaceIn site scope place) (here after : Memory)
     (kept : UnchangedOutside scope.depth (written_by other takes (given_by scope n inputs outputs)) here after) where
   abbrev f : Location
@@ -83,7 +83,7 @@ module _ (site : TypingContext) (unit : UnitDef) (remembers : Bool) (scope : Sco
   given = named_location scope false (given_name n)
 
   abbrev ended : Location
-  ended = named_location scope false (ended_name n)
+  ended = named_location scope false ended_name
 
   -- no variable is copied as far as this is concerned
   abbrev none : ℕ → Bool
@@ -159,7 +159,7 @@ module _ (site : TypingContext) (unit : UnitDef) (remembers : Bool) (scope : Sco
   older_same : (p : Location) → is_older scope.depth p.root ≡ true → ((way : List Projection) → Foreign site none scope p.root (p.parts ++ way)) →
       are_apart f p ≡ true → (takes ≡ true → are_apart m p ≡ true) → (way : List Projection) → value_at after p way ≡ value_at here p way
   older_same p older foreign frame memory =
-      place_same p foreign frame memory (local_older (given_name n) p older) (local_older (ended_name n) p older)
+      place_same p foreign frame memory (local_older (given_name n) p older) (local_older ended_name p older)
 
   -- ---- registers
 
@@ -171,11 +171,11 @@ module _ (site : TypingContext) (unit : UnitDef) (remembers : Bool) (scope : Sco
   register_given Over = local_older (given_name n) (register_at scope Over) places.frame.over_older
 
   register_ended : (x : Register) → are_apart ended (register_at scope x) ≡ true
-  register_ended (Counter k) = local_older (ended_name n) (register_at scope (Counter k)) places.frame.frame_older
-  register_ended (Before k) = local_local (ended_name n) (rested_name k) refl
-  register_ended (Flag k) = local_local (ended_name n) (flag_name k) refl
-  register_ended (Mark k) = local_local (ended_name n) (mark_name k) refl
-  register_ended Over = local_older (ended_name n) (register_at scope Over) places.frame.over_older
+  register_ended (Counter k) = local_older ended_name (register_at scope (Counter k)) places.frame.frame_older
+  register_ended (Before k) = local_local ended_name (rested_name k) refl
+  register_ended (Flag k) = local_local ended_name (flag_name k) refl
+  register_ended (Mark k) = local_local ended_name (mark_name k) refl
+  register_ended Over = local_older ended_name (register_at scope Over) places.frame.over_older
 
   pub register_same : (has : Registered) → RegistersApart has scope → RegistersBeside site scope → (x : Register) (way : List Projection) →
       value_at after (register_at scope x) way ≡ value_at here (register_at scope x) way
@@ -202,7 +202,7 @@ module _ (site : TypingContext) (unit : UnitDef) (remembers : Bool) (scope : Sco
         copies = λ j its. absurd cc;
       })
       (older_local f (copy_name site.vars k) places.frame.frame_older) (λ it. older_local m (copy_name site.vars k) (memory_older it))
-      (local_local (given_name n) (copy_name site.vars k) refl) (local_local (ended_name n) (copy_name site.vars k) refl)
+      (local_local (given_name n) (copy_name site.vars k) refl) (local_local ended_name (copy_name site.vars k) refl)
 
   -- ---- the result
 
@@ -218,7 +218,7 @@ module _ (site : TypingContext) (unit : UnitDef) (remembers : Bool) (scope : Sco
 
   -- ---- other callees
 
-  module _ (k : ℕ) (differ : bytes_eq (callee_name n) (callee_name k) ≡ false) where
+  module _ (k : NumberedWord) (differ : bytes_eq (callee_name n) (callee_name k) ≡ false) where
     members_part : (base : Location) (more : List Projection) →
         are_apart (inner base n) (further base (member (callee_name k) ∷ more)) ≡ true
     members_part base more =
@@ -272,7 +272,7 @@ module _ (site : TypingContext) (unit : UnitDef) (remembers : Bool) (scope : Sco
         no_memory = λ it. lies_further (remembered_at scope) (member (callee_name n) ∷ []) root way (outside.memory (so it));
         no_output = no_outputs root way foreign.variables;
         no_given = ap (λ same. same && is_some (left_after [] way)) (older_differs scope.depth (given_name n) root older);
-        no_ended = ap (λ same. same && is_some (left_after [] way)) (older_differs scope.depth (ended_name n) root older);
+        no_ended = ap (λ same. same && is_some (left_after [] way)) (older_differs scope.depth ended_name root older);
       })
 
   -- ---- variables
@@ -324,5 +324,5 @@ module _ (site : TypingContext) (unit : UnitDef) (remembers : Bool) (scope : Sco
             (behind_front (remembered_at scope).parts (member (variable_name site.vars k) ∷ []) (member (callee_name n) ∷ []))) k var there));
         no_output = clear;
         no_given = lies_apart given p way (local_variable (given_name n) (λ k. refl) k var there);
-        no_ended = lies_apart ended p way (local_variable (ended_name n) (λ k. refl) k var there);
+        no_ended = lies_apart ended p way (local_variable ended_name (λ k. refl) k var there);
       })

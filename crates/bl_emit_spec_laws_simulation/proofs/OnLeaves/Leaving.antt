@@ -44,7 +44,7 @@ use Rattle.bl_emit_acts_laws_simulation.specs.Frames.{FrameApart, remembered_at}
 use Rattle.bl_emit_acts_laws_simulation.specs.Encodes.{CopiesEncoded, Encodes, VariablesEncoded, home_at, location_in, number_within, way_to}
 use Rattle.bl_emit_acts_laws_simulation.specs.Laws.{FramesApart}
 use Rattle.bl_emit_spec.specs.Activities.{Activity, copies_of, remembers_any}
-use Rattle.bl_emit_spec.specs.Names.{callee_name, counter_name}
+use Rattle.bl_emit_spec.specs.Names.{NumberedWord, callee_name, counter_name}
 use Rattle.bl_emit_spec_laws.specs.Registers.Laws.{RegistersKeepApart}
 use Rattle.bl_emit_spec_laws.specs.Registers.Registers.{RegistersApart, RegistersBeside, frame_at}
 use Rattle.bl_machine.specs.declared.machine.Activity.{Activity as InMachine}
@@ -139,7 +139,7 @@ module _ (laws : Laws) (structs : List StructDef) (units : List UnitDef) (entry 
   abbrev W : Setting
   W = setting_of structs units entry
 
-  abbrev n : ℕ
+  abbrev n : NumberedWord
   n = run_by W activities i at
 
   abbrev k : ℕ
@@ -388,7 +388,7 @@ module _ (laws : Laws) (structs : List StructDef) (units : List UnitDef) (entry 
   first_in at' first = contains_at (nodes_in (plain_body a.unit.body)) first.position (EnterAt first.label at' first.arguments) first.is_there
 
   number_small : (l' : Label) (at' : Place) (arguments' : Arguments) → Contains (nodes_in (plain_body unit.body)) (EnterAt l' at' arguments') →
-      run_by W activities i at' < 2 ^ 64
+      (run_by W activities i at').number < 2 ^ 64
   number_small l' at' arguments' is =
       let first = first_here l' at' arguments' is in
       subst (λ m. m < 2 ^ 64) (sym first.number_is)
@@ -397,7 +397,7 @@ module _ (laws : Laws) (structs : List StructDef) (units : List UnitDef) (entry 
 
   module _ (l' : Label) (at' : Place) (arguments' : Arguments) (c : ℕ)
       (is : Contains (nodes_in (plain_body unit.body)) (EnterAt l' at' arguments')) (calls : callee_of W i at' ≡ Some c) where
-    abbrev n' : ℕ
+    abbrev n' : NumberedWord
     n' = run_by W activities i at'
 
     abbrev f : Location
@@ -406,7 +406,7 @@ module _ (laws : Laws) (structs : List StructDef) (units : List UnitDef) (entry 
     abbrev q : Location
     q = inner (remembered_at scope) n'
 
-    abbrev Held_left : ℕ → ℕ → Type 0
+    abbrev Held_left : ℕ → NumberedWord → Type 0
     Held_left c n = MemoryEncodes W activities c (inner (frame_at scope) n) (inner (remembered_at scope) n) (with_at j r'.counters frames') left after
 
     -- the callee itself
@@ -417,7 +417,7 @@ module _ (laws : Laws) (structs : List StructDef) (units : List UnitDef) (entry 
         subst (λ c. Held_left c n') (sym same) (subst (λ n. Held_left j n) numbers called.memory)
 
     module _ (apart : c ≡ j → ⊥) where
-      differ_numbers : n ≡ n' → ⊥
+      differ_numbers : n.number ≡ n'.number → ⊥
       differ_numbers same =
           let first = first_here l at arguments run.node in
           let second = first_here l' at' arguments' is in

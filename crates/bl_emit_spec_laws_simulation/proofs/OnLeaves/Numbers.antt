@@ -32,7 +32,7 @@ use Rattle.bl_graph_nodes.specs.Plain.{
   plain_body,
 }
 use Rattle.bl_emit_spec.specs.Activities.{is_flagged}
-use Rattle.bl_emit_spec.specs.Names.{callee_name}
+use Rattle.bl_emit_spec.specs.Names.{NumberedWord, callee_name}
 use Rattle.bl_machine.specs.Blocks.{up_to}
 use Rattle.bl_machine.specs.Uses.{Slots}
 use Rattle.bl_machine_pass.specs.Numbered.{position_where}
@@ -46,6 +46,7 @@ use Rattle.bl_machine_transitions_laws.proofs.Agreeing.{Agrees}
 use Rattle.bl_machine_transitions_laws.proofs.Standing.{nodes_stand}
 use Rattle.bl_emit_spec_laws.specs.Calls.Built.{asks_flag}
 use Rattle.bl_emit_spec_laws.proofs.OnPlaced.Lists.{contains_at, found_at, number_once, number_there, some_is, stands_at, within_at}
+use Rattle.bl_emit_acts_laws_simulation.proofs.NumberedNames.{words_differ}
 
 -- ---- numbers
 
@@ -118,11 +119,6 @@ rule_of placed slots body n there =
 -- ---- names
 
 -- the members of `run`s with different numbers have different names
-pub callees_differ : (j k : ℕ) → j < 2 ^ 64 → k < 2 ^ 64 → (j ≡ k → ⊥) → bytes_eq (callee_name j) (callee_name k) ≡ false
-callees_differ j k less most differ = by (bytes_eq (callee_name j) (callee_name k)) refl
-  where
-    by : (same : Bool) → bytes_eq (callee_name j) (callee_name k) ≡ same → same ≡ false
-    by false is = refl
-    by true is =
-        let text : callee_name j ≡ callee_name k = (bytes_eq-Decides (callee_name j) (callee_name k)).0 is in
-        absurd (differ (decimal_injective j k less most (ap (drop 1) text)))
+pub callees_differ : (j k : NumberedWord) → j.number < 2 ^ 64 → k.number < 2 ^ 64 → (j.number ≡ k.number → ⊥) →
+    bytes_eq (callee_name j) (callee_name k) ≡ false
+callees_differ j k less most differ = words_differ 120 j.number k.number j.word k.word less most differ

@@ -29,8 +29,9 @@ use Rattle.bl_emit_acts.specs.Trees.{c_read}
 use Rattle.bl_emit_acts_laws_simulation.specs.Laws.{FramesApart, PlacesSimulate, WritesEncode}
 use Rattle.bl_emit_functions.specs.Trees.{c_if, c_truth}
 use Rattle.bl_emit_spec.specs.Activities.{activity_view, remembers_any}
-use Rattle.bl_emit_spec.specs.Blocks.{ActivityView, changes_code, name_in, node_code, target_code}
-use Rattle.bl_emit_spec.specs.Names.{callee_frame, ended_name, ended_place, frame_name}
+use Rattle.bl_emit_spec.specs.Blocks.{ActivityView, begun_code, changes_code, unit_may_end, may_end_in, name_in}
+use Rattle.bl_emit_spec.specs.Blocks.{node_code, resumed_code, stmt_where, target_code, word_at}
+use Rattle.bl_emit_spec.specs.Names.{NumberedWord, callee_frame, ended_name, ended_place, frame_name}
 use Rattle.bl_emit_spec_laws.specs.Registers.Laws.{RegistersKeepApart}
 use Rattle.bl_emit_spec_laws.specs.Registers.Registers.{frame_at}
 use Rattle.bl_machine.specs.declared.machine.Activity.{Activity as InMachine}
@@ -67,17 +68,20 @@ use Rattle.bl_emit_spec_laws_nodes.specs.Points.Laws.{ChangesSimulateInPass, Res
 use Rattle.bl_emit_spec_laws_nodes.specs.Points.Points.{BodiesEnd, PointsStand}
 use Rattle.bl_emit_spec_laws_nodes.proofs.OnPoints.ActNodes.{append_goes}
 use Rattle.bl_emit_spec_laws_nodes.proofs.OnPoints.Choices.{Alike, Chosen, if_alone}
+use Rattle.bl_emit_spec_laws_nodes.proofs.OnPoints.Endless.{pass_open}
 use Rattle.bl_emit_spec_laws_nodes.proofs.OnPoints.Shown.{ends_true}
 use Rattle.bl_emit_spec_laws_nodes.proofs.OnPoints.Silent.{comes_as, either, no_such, not_so, over_after}
+use Rattle.bl_emit_spec_laws_simulation.proofs.OnGives.Lists.{get_taken}
 use Rattle.bl_emit_spec_laws_simulation.proofs.OnRuns.Asking.{resumes_quiet}
 use Rattle.bl_emit_spec_laws_simulation.proofs.OnRuns.Calls.{after_call, call_comes, call_left, given_fits, inputs_trap, pass_traps, written}
 use Rattle.bl_emit_spec_laws_simulation.proofs.OnRuns.Clearing.{cleared_keeps, cleared_midway, ended_keeps, ended_midway, not_ended}
 use Rattle.bl_emit_spec_laws.proofs.OnRunPlaces.Entered.{node_by}
 use Rattle.bl_emit_spec_laws_simulation.proofs.OnRuns.Inner.{cleared_own}
-use Rattle.bl_emit_spec_laws_simulation.proofs.OnRuns.Running.{CallsUnit, node_calls}
+use Rattle.bl_emit_spec_laws_simulation.proofs.OnRuns.Running.{CallsUnit, node_calls, unit_there}
 use Rattle.bl_emit_spec_laws_simulation.proofs.OnRuns.Statements.{clear_ends, ended_ends, ended_truth, frame_answer, step_goes, step_traps}
 use Rattle.bl_emit_spec_laws_simulation.proofs.OnRuns.Targets.{target_comes, target_typed}
 use Rattle.bl_ctree_laws_confluence.specs.Deeds.Nesting as nesting
+use Rattle.bl_emit_spec_laws.proofs.OnRunPlaces.Words.{run_word}
 
 -- no changes are none where they are shown
 none_shown : (last : Bool) (changes : List Change) → changes ≡ [] → (if last then changes else []) ≡ []
@@ -159,14 +163,41 @@ module _ (orderly : AcceptedIsOrderly) (callers : InstancesHaveCallers) (nests :
     module _ (l : Label) (at : Place) (arguments : Arguments) (j : ℕ) (other : UnitDef) (run : RunOf w activities i unit l at arguments j other)
         (is_number : unit_number w j ≡ u)
       where
-        abbrev n : ℕ
+        abbrev n : NumberedWord
         n = run_by w activities i at
 
+        word_is : n ≡ word_at view at u
+        word_is = run_word w activities i j at run.callee ∙ ap (word_at view at) is_number
+
+        chosen_begun : (is : rule.node ≡ EnterAt l at arguments) → (block.end ≡ (block_c (begun_code view n u arguments rule) scope here).end)
+            × (block.memory ≡ (block_c (begun_code view n u arguments rule) scope here).memory)
+        chosen_begun is =
+            subst (λ (k : NumberedWord). (block.end ≡ (block_c (begun_code view k u arguments rule) scope here).end)
+            × (block.memory ≡ (block_c (begun_code view k u arguments rule) scope here).memory)) (sym word_is) (chosen (EnterAt l at arguments) is)
+
+        chosen_resumed : (is : rule.node ≡ ResumeAt l at arguments) → (block.end ≡ (block_c (resumed_code view n u arguments rule) scope here).end)
+            × (block.memory ≡ (block_c (resumed_code view n u arguments rule) scope here).memory)
+        chosen_resumed is =
+            subst (λ (k : NumberedWord). (block.end ≡ (block_c (resumed_code view k u arguments rule) scope here).end)
+            × (block.memory ≡ (block_c (resumed_code view k u arguments rule) scope here).memory)) (sym word_is) (chosen (ResumeAt l at arguments) is)
+
+        -- whether what is called may end
+        abbrev may : Bool
+        may = may_end_in (slice_get view.site.earlier u)
+
+        may_is : may ≡ unit_may_end other
+        may_is =
+            let called = unit_number w j in
+            let there : slice_get view.site.earlier called ≡ Some other =
+            ap (λ earlier. slice_get earlier called) (midway.compiled.built.earlier k unit midway.function.is_there)
+            ∙ (get_taken units k called run.earlier ∙ unit_there w j other run.is_there) in
+            ap may_end_in (subst (λ u. slice_get view.site.earlier u ≡ Some other) is_number there)
+
         abbrev forget : CStmt
-        forget = c_set (ended_place n) (c_truth false)
+        forget = c_set ended_place (c_truth false)
 
         abbrev forgotten : Memory → Memory
-        forgotten m = set_at m (named_location scope false (ended_name n)) (scalar (pos 0))
+        forgotten m = set_at m (named_location scope false ended_name) (scalar (pos 0))
 
         -- ---- it begins
 
@@ -188,7 +219,7 @@ module _ (orderly : AcceptedIsOrderly) (callers : InstancesHaveCallers) (nests :
           mid_begun : Midway structs units entry machine activities i unit scope begun_frames store copies r (forgotten cleared_here)
           mid_begun =
               ended_midway orderly callers clearing keys placed structs units entry (nests structs units entry) machine activities points.remembering i
-              unit scope begun_frames store copies r cleared_here mid_cleared n
+              unit scope begun_frames store copies r cleared_here mid_cleared
 
           sees_begun : CopiesMatch w i (EnterAt l at arguments) store copies
           sees_begun = subst (λ n. CopiesMatch w i n store copies) is sees
@@ -199,7 +230,7 @@ module _ (orderly : AcceptedIsOrderly) (callers : InstancesHaveCallers) (nests :
               (cleared_keeps orderly callers clearing keys placed structs units entry (nests structs units entry) machine activities points.remembering i
               unit scope frames store copies r here midway l at arguments j run.node run.callee)
               (ended_keeps orderly callers clearing keys placed structs units entry (nests structs units entry) machine activities points.remembering i
-              unit scope begun_frames store copies r cleared_here mid_cleared n)
+              unit scope begun_frames store copies r cleared_here mid_cleared)
 
           abbrev call : CStmt
           call = c_calling (written structs units entry machine activities gives leaves i unit scope begun_frames store copies r (forgotten cleared_here)
@@ -208,10 +239,10 @@ module _ (orderly : AcceptedIsOrderly) (callers : InstancesHaveCallers) (nests :
           starts_begun : PassStarts w activities j other begun_frames (begun_registers (rank_by w activities) j other)
           starts_begun = inl (refl, λ c. cleared_own callers clearing structs units entry j frames j nesting.itself c)
 
-          not_ended_begun : NotEnded scope n (forgotten cleared_here)
+          not_ended_begun : NotEnded scope (forgotten cleared_here)
           not_ended_begun =
               not_ended orderly callers clearing keys placed structs units entry (nests structs units entry) machine activities points.remembering i
-              unit scope begun_frames store copies r cleared_here mid_cleared n
+              unit scope begun_frames store copies r cleared_here mid_cleared
 
           -- what stands before the call
           before_call : (rest : List CStmt) → Alike (block_c (clear ∷ forget ∷ rest) scope here) (block_c rest scope (forgotten cleared_here))
@@ -219,13 +250,13 @@ module _ (orderly : AcceptedIsOrderly) (callers : InstancesHaveCallers) (nests :
               let one = step_goes scope clear (forget ∷ rest) here cleared_here
               (clear_ends scope here (callee_frame n) (frame_name (name_in (slice_get view.site.earlier u))) (inner (frame_at scope) n)
               (frame_answer scope here n)) in
-              let two = step_goes scope forget rest cleared_here (forgotten cleared_here) (ended_ends scope cleared_here n) in
+              let two = step_goes scope forget rest cleared_here (forgotten cleared_here) (ended_ends scope cleared_here) in
               (one.0 ∙ two.0, one.1 ∙ two.1)
 
           trapped : (runs : End) → runs ≡ traps →
               runs ≡ (runs_c call scope (forgotten cleared_here)).end → block.end ≡ traps
           trapped runs traps_so same =
-              (chosen (EnterAt l at arguments) is).0
+              (chosen_begun is).0
               ∙ ((before_call (call ∷ changes_code view rule.on_true)).0
               ∙ step_traps scope call (changes_code view rule.on_true) (forgotten cleared_here) (sym same ∙ traps_so))
 
@@ -258,7 +289,7 @@ module _ (orderly : AcceptedIsOrderly) (callers : InstancesHaveCallers) (nests :
                 (forgotten cleared_here) mid_begun l at arguments j other run u is_number sees_begun given not_ended_begun copied begun starts_begun
                 frames' left r' executed in
                 let changes = changes_code view rule.on_true in
-                let so = chosen (EnterAt l at arguments) is in
+                let so = chosen_begun is in
                 let before = before_call (call ∷ changes) in
                 let called_so = step_goes scope call changes (forgotten cleared_here) after goes in
                 comes_as w activities i unit scope (with_at j r'.counters frames') left copies (all_changed number rule.on_true r) here block
@@ -272,7 +303,7 @@ module _ (orderly : AcceptedIsOrderly) (callers : InstancesHaveCallers) (nests :
           mid_resumed : Midway structs units entry machine activities i unit scope frames store copies r (forgotten here)
           mid_resumed =
               ended_midway orderly callers clearing keys placed structs units entry (nests structs units entry) machine activities points.remembering i
-              unit scope frames store copies r here midway n
+              unit scope frames store copies r here midway
 
           sees_resumed : CopiesMatch w i (EnterAt l at arguments) store copies
           sees_resumed = subst (λ n. CopiesMatch w i n store copies) is sees
@@ -280,12 +311,12 @@ module _ (orderly : AcceptedIsOrderly) (callers : InstancesHaveCallers) (nests :
           kept_resumed : Keeping here (forgotten here)
           kept_resumed =
               ended_keeps orderly callers clearing keys placed structs units entry (nests structs units entry) machine activities points.remembering i
-              unit scope frames store copies r here midway n
+              unit scope frames store copies r here midway
 
-          not_ended_resumed : NotEnded scope n (forgotten here)
+          not_ended_resumed : NotEnded scope (forgotten here)
           not_ended_resumed =
               not_ended orderly callers clearing keys placed structs units entry (nests structs units entry) machine activities points.remembering i
-              unit scope frames store copies r here midway n
+              unit scope frames store copies r here midway
 
           abbrev calls : CStmt
           calls = c_calling (written structs units entry machine activities gives leaves i unit scope frames store copies r (forgotten here)
@@ -295,16 +326,20 @@ module _ (orderly : AcceptedIsOrderly) (callers : InstancesHaveCallers) (nests :
           told = target_code view n arguments.target ++ changes_code view rule.on_true
 
           abbrev asked : CStmt
-          asked = c_if (c_read (ended_place n)) told None
+          asked = c_if (c_read ended_place) told None
+
+          -- what stands behind the call, by whether what is called may end
+          abbrev asked_by : Bool → List CStmt
+          asked_by may = stmt_where may asked
 
           forget_goes : (rest : List CStmt) → Alike (block_c (forget ∷ rest) scope here) (block_c rest scope (forgotten here))
-          forget_goes rest = step_goes scope forget rest here (forgotten here) (ended_ends scope here n)
+          forget_goes rest = step_goes scope forget rest here (forgotten here) (ended_ends scope here)
 
           stopped : (runs : End) → runs ≡ traps → runs ≡ (runs_c calls scope (forgotten here)).end →
               block.end ≡ traps
           stopped runs traps_so same =
-              (chosen (ResumeAt l at arguments) is).0
-              ∙ ((forget_goes (calls ∷ asked ∷ [])).0 ∙ step_traps scope calls (asked ∷ []) (forgotten here) (sym same ∙ traps_so))
+              (chosen_resumed is).0
+              ∙ ((forget_goes (calls ∷ asked_by may)).0 ∙ step_traps scope calls (asked_by may) (forgotten here) (sym same ∙ traps_so))
 
           pub resume_inputs : done_by w (deed i at (Copies j arguments.inputs)) store ≡ None → block.end ≡ traps
           resume_inputs did =
@@ -342,24 +377,42 @@ module _ (orderly : AcceptedIsOrderly) (callers : InstancesHaveCallers) (nests :
                 kept_after : Keeping here after
                 kept_after = keeping here (forgotten here) after kept_resumed ended.kept
 
-                -- what is done where the answer is asked for
-                asked_so : (block.end ≡ (block_c (asked ∷ []) scope after).end) × (block.memory ≡ (block_c (asked ∷ []) scope after).memory)
+                -- what is done behind the call
+                asked_so : (block.end ≡ (block_c (asked_by may) scope after).end) × (block.memory ≡ (block_c (asked_by may) scope after).memory)
                 asked_so =
-                    let so = chosen (ResumeAt l at arguments) is in
-                    let before = forget_goes (calls ∷ asked ∷ []) in
-                    let called_so = step_goes scope calls (asked ∷ []) (forgotten here) after
+                    let so = chosen_resumed is in
+                    let before = forget_goes (calls ∷ asked_by may) in
+                    let called_so = step_goes scope calls (asked_by may) (forgotten here) after
                     (call_comes structs units entry machine activities gives leaves i unit scope frames store copies r
                     (forgotten here) mid_resumed l at arguments j other run u is_number sees_resumed given not_ended_resumed copied
                     (resumed_registers frames j) starts_resumed frames' left r' executed) in
                     (so.0 ∙ (before.0 ∙ called_so.0), so.1 ∙ (before.1 ∙ called_so.1))
 
+                -- where it hasn't ended, nothing is done
+                asked_not : r'.over ≡ false → (b : Bool) →
+                    ((block_c (asked_by b) scope after).end ≡ goes_on) × ((block_c (asked_by b) scope after).memory ≡ after)
+                asked_not over true =
+                    let truth = ended_truth scope after false (ended.over ∙ ap number_of over) in
+                    if_alone scope after (λ e m. (e ≡ goes_on) × (m ≡ after)) (c_read ended_place) told None
+                    (subst (Chosen scope after (λ e m. (e ≡ goes_on) × (m ≡ after)) told None) (sym truth) (refl, refl))
+                asked_not over false = (refl, refl)
+
+                -- what never ends hasn't ended
+                over_asked : r'.over ≡ true → may ≡ true
+                over_asked over = by may may_is
+                  where
+                    by : (b : Bool) → b ≡ unit_may_end other → b ≡ true
+                    by true same = refl
+                    by false same =
+                        absurd (no_such
+                        (sym over
+                        ∙ pass_open w (rank_by w activities) (slots_by w activities) (cleared w) other (sym same) run.is_there executed refl))
+
                 -- the body of what is called hasn't ended
                 pub resume_comes : r'.over ≡ false →
                     PartSimulates w activities i unit scope new_frames left copies (after_rule number rule false r) here block
                 resume_comes over =
-                    let truth = ended_truth scope after n false (ended.over ∙ ap number_of over) in
-                    let rest = if_alone scope after (λ e m. (e ≡ goes_on) × (m ≡ after)) (c_read (ended_place n)) told None
-                    (subst (Chosen scope after (λ e m. (e ≡ goes_on) × (m ≡ after)) told None) (sym truth) (refl, refl)) in
+                    let rest = asked_not over may in
                     let quiet : rule.on_false ≡ [] =
                     ap (λ (t : Transition). t.on_false) there.is
                     ∙ none_shown there.last there.rule.on_false
@@ -435,10 +488,14 @@ module _ (orderly : AcceptedIsOrderly) (callers : InstancesHaveCallers) (nests :
                 pub return_comes : r'.over ≡ true → (last : Store) → DeedYields w (deed i at (Gives j arguments.target)) left true last →
                     PartSimulates w activities i unit scope new_frames last copies (after_rule number rule true r) here block
                 return_comes over last did =
-                    let truth = ended_truth scope after n true (ended.over ∙ ap number_of over) in
+                    let truth = ended_truth scope after true (ended.over ∙ ap number_of over) in
                     let inside = block_c told scope after in
-                    let rest = if_alone scope after (λ e m. (e ≡ inside.end) × (m ≡ inside.memory)) (c_read (ended_place n)) told None
+                    let asks : ((block_c (asked ∷ []) scope after).end ≡ inside.end) × ((block_c (asked ∷ []) scope after).memory ≡ inside.memory) =
+                    if_alone scope after (λ e m. (e ≡ inside.end) × (m ≡ inside.memory)) (c_read ended_place) told None
                     (subst (Chosen scope after (λ e m. (e ≡ inside.end) × (m ≡ inside.memory)) told None) (sym truth) (refl, refl)) in
+                    let rest =
+                    subst (λ b. ((block_c (asked_by b) scope after).end ≡ inside.end) × ((block_c (asked_by b) scope after).memory ≡ inside.memory))
+                    (sym (over_asked over)) asks in
                     let set = targeted over arguments.target refl last did in
                     let changes = changes_code view rule.on_true in
                     let alike = append_goes scope (target_code view n arguments.target) changes after set.goes in

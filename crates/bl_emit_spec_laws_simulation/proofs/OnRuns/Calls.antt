@@ -33,6 +33,7 @@ use Rattle.bl_emit_spec_laws_nodes.specs.Calling.{NotEnded, RunEstablishes, RunL
 use Rattle.bl_emit_spec_laws_nodes.proofs.OnPoints.Sets.{Ends}
 use Rattle.bl_emit_spec_laws_simulation.proofs.OnRuns.Running.{unit_there}
 use Rattle.bl_emit_spec_laws_simulation.proofs.OnRuns.Statements.{call_goes, call_traps}
+use Rattle.bl_emit_spec.specs.Names.{NumberedWord}
 
 module _ (structs : List StructDef) (units : List UnitDef) (entry : ℕ) (machine : List InMachine) (activities : Activities)
     (gives : RunsEstablish structs units entry machine activities) (leaves : RunsLeave structs units entry machine activities) (i : ℕ) (unit : UnitDef)
@@ -45,7 +46,7 @@ module _ (structs : List StructDef) (units : List UnitDef) (entry : ℕ) (machin
     abbrev w : Setting
     w = setting_of structs units entry
 
-    abbrev n : ℕ
+    abbrev n : NumberedWord
     n = run_by w activities i at
 
     -- the call as it is written
@@ -63,7 +64,7 @@ module _ (structs : List StructDef) (units : List UnitDef) (entry : ℕ) (machin
         (subst (λ u. (call_written w activities i n u arguments scope here).result ≡ None) number
         (gives.stops i unit scope frames store copies r here l at arguments j other midway run sees did))
 
-    module _ (given : Store) (not_ended : NotEnded scope n here) (copied : DeedYields w (deed i at (Copies j arguments.inputs)) store true given) (begun : Registers)
+    module _ (given : Store) (not_ended : NotEnded scope here) (copied : DeedYields w (deed i at (Copies j arguments.inputs)) store true given) (begun : Registers)
         (starts : PassStarts w activities j other frames begun)
       where
         pub gave : RunEstablishes w activities i scope n arguments j other frames given here

@@ -33,7 +33,7 @@ use Rattle.bl_emit_acts.specs.Types.{variable_name}
 use Rattle.bl_emit_acts_laws_simulation.specs.Frames.{remembered_at}
 use Rattle.bl_emit_acts_laws_simulation.specs.Encodes.{Encodes, are_apart, home_at, ways_part}
 use Rattle.bl_emit_spec.specs.Activities.{remembers_any}
-use Rattle.bl_emit_spec.specs.Names.{callee_name, counter_name, ended_name}
+use Rattle.bl_emit_spec.specs.Names.{NumberedWord, callee_name, counter_name, ended_name}
 use Rattle.bl_emit_spec_laws.specs.Registers.Registers.{frame_at}
 use Rattle.bl_machine.specs.declared.machine.Activity.{Activity as InMachine}
 use Rattle.bl_machine_pass.specs.Registers.{Registers}
@@ -103,7 +103,7 @@ module _ (orderly : AcceptedIsOrderly) (callers : InstancesHaveCallers) (clearin
     module _ (place : Location) (held : CValue) (l : Label) (at : Place) (arguments : Arguments) (j : ℕ)
         (there : Contains (nodes_in (plain_body unit.body)) (EnterAt l at arguments)) (called : callee_of W i at ≡ Some j)
       where
-        abbrev n : ℕ
+        abbrev n : NumberedWord
         n = run_by W activities i at
 
         abbrev f : Location
@@ -172,31 +172,30 @@ module _ (orderly : AcceptedIsOrderly) (callers : InstancesHaveCallers) (clearin
           set_elsewhere here local held root way
           (ap (λ same. same && is_some (left_after [] way)) (older_differs scope.depth name root older))
 
-    -- ---- the local of a `run` that tells whether what it calls has ended
+    -- ---- the local that tells whether what was called last has ended
 
-    module _ (n : ℕ) where
-      abbrev over_local : Location
-      over_local = named_location scope false (ended_name n)
+    abbrev over_local : Location
+    over_local = named_location scope false ended_name
 
-      ended_other : OtherName site unit remembers scope places active_site (ended_name n)
-      ended_other = record { rested = λ k. refl; flag = λ k. refl; mark = λ k. refl; variable = λ k. refl; copy = λ k. refl }
+    ended_other : OtherName site unit remembers scope places active_site ended_name
+    ended_other = record { rested = λ k. refl; flag = λ k. refl; mark = λ k. refl; variable = λ k. refl; copy = λ k. refl }
 
-      pub ended_midway : Midway structs units entry machine activities i unit scope frames store copies r
-          (set_at here (named_location scope false (ended_name n)) (scalar (pos 0)))
-      ended_midway = local_midway (ended_name n) ended_other (scalar (pos 0))
+    pub ended_midway : Midway structs units entry machine activities i unit scope frames store copies r
+        (set_at here (named_location scope false ended_name) (scalar (pos 0)))
+    ended_midway = local_midway ended_name ended_other (scalar (pos 0))
 
-      pub ended_keeps : PassKeepsFrame site unit remembers scope here (set_at here (named_location scope false (ended_name n)) (scalar (pos 0)))
-      ended_keeps = local_keeps (ended_name n) ended_other (scalar (pos 0))
+    pub ended_keeps : PassKeepsFrame site unit remembers scope here (set_at here (named_location scope false ended_name) (scalar (pos 0)))
+    ended_keeps = local_keeps ended_name ended_other (scalar (pos 0))
 
-      pub not_ended : NotEnded scope n (set_at here (named_location scope false (ended_name n)) (scalar (pos 0)))
-      not_ended = same_object here over_local (scalar (pos 0)) []
+    pub not_ended : NotEnded scope (set_at here (named_location scope false ended_name) (scalar (pos 0)))
+    not_ended = same_object here over_local (scalar (pos 0)) []
 
     -- ---- the counters of a callee are cleared
 
     module _ (l : Label) (at : Place) (arguments : Arguments) (j : ℕ)
         (there : Contains (nodes_in (plain_body unit.body)) (EnterAt l at arguments)) (called : callee_of W i at ≡ Some j)
       where
-        abbrev own : ℕ
+        abbrev own : NumberedWord
         own = run_by W activities i at
 
         abbrev place : Location
@@ -215,7 +214,7 @@ module _ (orderly : AcceptedIsOrderly) (callers : InstancesHaveCallers) (clearin
         module _ (l' : Label) (at' : Place) (arguments' : Arguments) (j' : ℕ)
             (there' : Contains (nodes_in (plain_body unit.body)) (EnterAt l' at' arguments')) (called' : callee_of W i at' ≡ Some j')
           where
-            abbrev n2 : ℕ
+            abbrev n2 : NumberedWord
             n2 = run_by W activities i at'
 
             abbrev f2 : Location

@@ -30,28 +30,18 @@ use Rattle.bl_machine_transitions.specs.Listed.{layout_of}
 use Rattle.bl_machine_transitions_laws.proofs.Agreeing.{Agrees}
 use Rattle.bl_machine_transitions_laws.proofs.Standing.{nodes_stand}
 use Rattle.bl_emit_spec.specs.Activities.{Activity, activity_view, is_flagged, rules_at}
-use Rattle.bl_emit_spec.specs.Names.{callee_name}
+use Rattle.bl_emit_spec.specs.Names.{NumberedWord, callee_name}
 use Rattle.bl_emit_spec_laws.specs.Calls.Built.{Activities, activity_at, asks_flag, rank_by, run_by, unit_number}
 use Rattle.bl_emit_spec_laws.specs.Calls.Laws.{CompilationContext}
 use Rattle.bl_emit_spec_laws.proofs.OnPlaced.Lists.{contains_at, found_at, number_once, number_there, stands_at, within_at}
 use Rattle.bl_emit_spec_laws.proofs.OnRunPlaces.Sharing.{FirstNode, first_node}
 use Rattle.bl_emit_spec_laws_simulation.proofs.OnRuns.Running.{unit_there}
+use Rattle.bl_emit_spec_laws_simulation.proofs.OnLeaves.Numbers.{callees_differ as callees_apart}
 
 -- ---- names
 
 no_such : true ≡ false → ⊥
 no_such h = cc
-
--- names of one letter with different numbers differ
-names_differ : (letter : ℕ) (j k : ℕ) → j < 2 ^ 64 → k < 2 ^ 64 → (j ≡ k → ⊥) →
-    bytes_eq (letter ∷ decimal j) (letter ∷ decimal k) ≡ false
-names_differ letter j k less most differ = by (bytes_eq (letter ∷ decimal j) (letter ∷ decimal k)) refl
-  where
-    by : (same : Bool) → bytes_eq (letter ∷ decimal j) (letter ∷ decimal k) ≡ same → same ≡ false
-    by false is = refl
-    by true is =
-        let text : letter ∷ decimal j ≡ letter ∷ decimal k = (bytes_eq-Decides (letter ∷ decimal j) (letter ∷ decimal k)).0 is in
-        absurd (differ (decimal_injective j k less most (ap (drop 1) text)))
 
 -- ---- numbers
 
@@ -143,7 +133,7 @@ module _ (keys : NodesHaveKeys) (placed : StaysPlaced) (structs : List StructDef
 
     -- the number of a place of `run`s fits a name
     run_small : (l : Label) (at : Place) (arguments : Arguments) → Contains (nodes_in (plain_body unit.body)) (EnterAt l at arguments) →
-        run_by w activities i at < 2 ^ 64
+        (run_by w activities i at).number < 2 ^ 64
     run_small l at arguments within =
         let first = first_here l at arguments within in
         subst (λ m. m < 2 ^ 64) (sym first.number_is) (rank_small first.label at first.arguments (first_in at first))
@@ -155,6 +145,6 @@ module _ (keys : NodesHaveKeys) (placed : StaysPlaced) (structs : List StructDef
     callees_differ l m at by x y one two differ =
         let first = first_here l at x one in
         let second = first_here m by y two in
-        names_differ 120 (run_by w activities i at) (run_by w activities i by) (run_small l at x one) (run_small m by y two)
+        callees_apart (run_by w activities i at) (run_by w activities i by) (run_small l at x one) (run_small m by y two)
         (λ same. differ (ap place_of_node (ranks_tell (EnterAt first.label at first.arguments) (EnterAt second.label by second.arguments)
         (first_in at first) (first_in by second) (sym first.number_is ∙ (same ∙ second.number_is)))))

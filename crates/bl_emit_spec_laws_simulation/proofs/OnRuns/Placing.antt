@@ -20,7 +20,7 @@ use Rattle.bl_emit_acts.specs.Types.{copy_name, variable_name}
 use Rattle.bl_emit_acts_laws_simulation.specs.Acts.{copy_location}
 use Rattle.bl_emit_acts_laws_simulation.specs.Frames.{is_older, remembered_at}
 use Rattle.bl_emit_acts_laws_simulation.specs.Encodes.{are_apart, home_at, lead_in, location_in, start_in, ways_part}
-use Rattle.bl_emit_spec.specs.Names.{callee_name, flag_name, mark_name, rested_name}
+use Rattle.bl_emit_spec.specs.Names.{NumberedWord, callee_name, flag_name, mark_name, rested_name}
 use Rattle.bl_emit_spec_laws.specs.Registers.Registers.{Before, Counter, Flag, Mark, Over, Register, frame_at, register_at}
 use Rattle.bl_machine_pass.specs.Registers.{Registers}
 use Rattle.bl_machine_pass_laws_execution.specs.Frames.{Frames}
@@ -139,7 +139,7 @@ module _ (site : TypingContext) (unit : UnitDef) (remembers : Bool) (scope : Sco
 
     -- ---- the counters of what a `run` calls
 
-    module _ (n : ℕ) where
+    module _ (n : NumberedWord) where
       abbrev place : Location
       place = inner (frame_at scope) n
 

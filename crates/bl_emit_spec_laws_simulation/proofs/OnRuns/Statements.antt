@@ -16,7 +16,7 @@ use Rattle.bl_ctext_semantics.specs.Memory.{CValue, Location, Memory, Projection
 use Rattle.bl_emit_acts.specs.Acts.{c_calling, c_clear, c_set}
 use Rattle.bl_emit_acts.specs.Trees.{c_read, c_step, nowhere}
 use Rattle.bl_emit_functions.specs.Trees.{c_truth}
-use Rattle.bl_emit_spec.specs.Names.{callee_frame, callee_name, ended_name, ended_place, given_name, given_place}
+use Rattle.bl_emit_spec.specs.Names.{NumberedWord, callee_frame, callee_name, ended_name, ended_place, given_name, given_place}
 use Rattle.bl_emit_spec_laws.specs.Registers.Registers.{frame_at}
 use Rattle.bl_emit_spec_laws_files.proofs.OnBegins.Evaluated.{literal-value, place-location, step-way}
 use Rattle.bl_emit_spec_laws_files.proofs.OnBegins.Setting.{local_answer, read_answer}
@@ -107,18 +107,18 @@ module _ (scope : Scope) (here : Memory) where
       (next (next first (λ a. next (each_of [] scope here) (λ others. given (Some (a ∷ others)))))
       (λ ways. given (Some (further start (way_of ways))))).answer
 
-  pub frame_answer : (n : ℕ) → (location_c (callee_frame n) scope here).answer ≡ Some (inner (frame_at scope) n)
+  pub frame_answer : (n : NumberedWord) → (location_c (callee_frame n) scope here).answer ≡ Some (inner (frame_at scope) n)
   frame_answer n =
       ap (λ (c : Counted Location). c.answer) (place-location scope here true (codes "f") (c_step (callee_name n) ∷ []))
       ∙ ap (stepped (named_location scope true (codes "f"))) (step-way scope here (callee_name n))
 
   -- the callee hasn't ended
-  pub ended_ends : (n : ℕ) → Ends (runs_c (c_set (ended_place n) (c_truth false)) scope here)
-      (Some (set_at here (named_location scope false (ended_name n)) (scalar (pos 0))))
-  ended_ends n =
-      let place = ended_place n in
+  pub ended_ends : Ends (runs_c (c_set ended_place (c_truth false)) scope here)
+      (Some (set_at here (named_location scope false ended_name) (scalar (pos 0))))
+  ended_ends =
+      let place = ended_place in
       let o = runs_c (c_set place (c_truth false)) scope here in
-      let at : (location_c place scope here).answer ≡ Some (named_location scope false (ended_name n)) = local_answer scope here (ended_name n) in
+      let at : (location_c place scope here).answer ≡ Some (named_location scope false ended_name) = local_answer scope here ended_name in
       let value : (value_c (c_truth false) scope here).answer ≡ Some (scalar (pos 0)) =
       ap (λ (c : Counted CValue). c.answer) (literal-value scope here OfBool (pos 0)) in
       subst (λ (at : Option Location). Ends o (set_after scope here at (Some (scalar (pos 0))))) at
@@ -126,18 +126,18 @@ module _ (scope : Scope) (here : Memory) where
       (set_ends scope here place (c_truth false)))
 
   -- what is told of its end
-  pub ended_value : (n : ℕ) → (value_c (c_read (ended_place n)) scope here).answer ≡ Some (value_at here (named_location scope false (ended_name n)))
-  ended_value n = read_answer scope here (ended_place n) (named_location scope false (ended_name n)) (local_answer scope here (ended_name n))
+  pub ended_value : (value_c (c_read ended_place) scope here).answer ≡ Some (value_at here (named_location scope false ended_name))
+  ended_value = read_answer scope here ended_place (named_location scope false ended_name) (local_answer scope here ended_name)
 
   is_bit : (b : Bool) → is_one (number_of b) ≡ b
   is_bit true = refl
   is_bit false = refl
 
-  pub ended_truth : (n : ℕ) (over : Bool) → scalar_number (value_at here (named_location scope false (ended_name n))) ≡ number_of over →
-      truth_c scope (c_read (ended_place n)) here ≡ Some over
-  ended_truth n over is =
-      ap (option_map (λ v. is_one (scalar_number v))) (ended_value n) ∙ ap Some (ap is_one is ∙ is_bit over)
+  pub ended_truth : (over : Bool) → scalar_number (value_at here (named_location scope false ended_name)) ≡ number_of over →
+      truth_c scope (c_read ended_place) here ≡ Some over
+  ended_truth over is =
+      ap (option_map (λ v. is_one (scalar_number v))) ended_value ∙ ap Some (ap is_one is ∙ is_bit over)
 
   -- its result
-  pub given_value : (n : ℕ) → (value_c (c_read (given_place n)) scope here).answer ≡ Some (value_at here (named_location scope false (given_name n)))
+  pub given_value : (n : NumberedWord) → (value_c (c_read (given_place n)) scope here).answer ≡ Some (value_at here (named_location scope false (given_name n)))
   given_value n = read_answer scope here (given_place n) (named_location scope false (given_name n)) (local_answer scope here (given_name n))

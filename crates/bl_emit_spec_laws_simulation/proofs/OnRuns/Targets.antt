@@ -43,7 +43,7 @@ use Rattle.bl_emit_acts_laws_simulation.specs.Encodes.{Encodes, VariablesEncoded
 use Rattle.bl_emit_acts_laws_simulation.specs.Laws.{FramesApart, PlacesSimulate, WritesEncode}
 use Rattle.bl_emit_acts_laws_simulation.specs.Simulation.{PlaceSimulates}
 use Rattle.bl_emit_spec.specs.Activities.{activity_view, copies_of, remembers_any}
-use Rattle.bl_emit_spec.specs.Names.{given_name, given_place}
+use Rattle.bl_emit_spec.specs.Names.{NumberedWord, given_name, given_place}
 use Rattle.bl_emit_spec_laws.specs.Registers.Laws.{RegistersKeepApart}
 use Rattle.bl_machine.specs.declared.machine.Activity.{Activity as InMachine}
 use Rattle.bl_machine_laws.specs.Passes.Follows.{DeedYields}
@@ -137,7 +137,7 @@ module _ (frames_apart : FramesApart) (keep : RegistersKeepApart) (structs : Lis
     (copies : List Value) (r : Registers) (here : Memory)
     (midway : Midway structs units entry machine activities i unit scope frames store copies r here)
     (l : Label) (at : Place) (arguments : Arguments) (j : ℕ) (other : UnitDef)
-    (run : RunOf (setting_of structs units entry) activities i unit l at arguments j other) (n : ℕ)
+    (run : RunOf (setting_of structs units entry) activities i unit l at arguments j other) (n : NumberedWord)
     (told : (value : Value) → is_some other.result ≡ true → result_at store j ≡ Some value →
     scalar_number (value_at here (named_location scope false (given_name n))) ≡ number_or_zero value)
   where

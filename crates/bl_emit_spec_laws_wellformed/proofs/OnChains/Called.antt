@@ -134,9 +134,8 @@ use Rattle.bl_emit_spec.specs.Activities.{
   turns_in_source,
 }
 use Rattle.bl_emit_spec.specs.Blocks.{
-  is_greatest,
-  NodeCode,
   ActivityView,
+  NodeCode,
   acted,
   aged_test,
   all_tests,
@@ -145,6 +144,7 @@ use Rattle.bl_emit_spec.specs.Blocks.{
   begun_code,
   change_code,
   changes_code,
+  choice_code,
   control_code,
   counter_type,
   counter_value,
@@ -157,14 +157,17 @@ use Rattle.bl_emit_spec.specs.Blocks.{
   has_result,
   in_pairs,
   in_tree,
+  is_greatest,
   last_value,
   layer_acted,
+  may_end_in,
   merged_code,
   name_in,
+  node_turn,
   own_code,
   rested_at,
-  rested_by,
   rested_between,
+  rested_by,
   rested_from,
   rested_in,
   rested_since,
@@ -174,12 +177,12 @@ use Rattle.bl_emit_spec.specs.Blocks.{
   run_args,
   run_code,
   some_test,
-  target_code,
-  choice_code,
   spelled_truth,
+  stmt_where,
+  target_code,
   test_code,
-  node_turn,
   turns_of,
+  word_at,
 }
 use Rattle.bl_emit_spec.specs.Names.{
   callee_frame,
@@ -200,6 +203,7 @@ use Rattle.bl_emit_spec.specs.Names.{
   rested_name,
   rested_place,
   result_place,
+  NumberedWord,
 }
 use Rattle.bl_emit_spec_laws_wellformed.proofs.OnChains.Nodes.{AllUnder, node_calls}
 
@@ -556,47 +560,51 @@ module _ (weight : Text → ℕ) (prelude : (word : Text) (s : ScalarType) → w
         (same-light weight prelude n (calls_in_arg (Address place)) (calls_in_place place) (address-calls place) one) (none-under weight n)
     where_few false place one = none-under weight n
 
-    runs_few : (k a : ℕ) (arguments : Arguments) → Under by n (argument_calls arguments.inputs arguments.outputs) →
+    runs_few : (k : NumberedWord) (a : ℕ) (arguments : Arguments) → Under by n (argument_calls arguments.inputs arguments.outputs) →
         Light weight prelude n (joined (map calls_in_arg (run_args view k a arguments)))
     runs_few k a arguments few =
         let result = has_result (slice_get view.site.earlier a) in
         both-under weight n calls_in_arg (arg_where true (Address (callee_frame k)))
         (arg_where (view.remembers a) (Address (callee_memory k))
         ++ (call_args view.site arguments.inputs arguments.outputs
-        ++ (arg_where result (Address (given_place k)) ++ arg_where true (Address (ended_place k)))))
+        ++ (arg_where result (Address (given_place k)) ++ arg_where true (Address ended_place))))
         (where_few true (callee_frame k) (member_few (codes "f") (callee_name k)))
         (both-under weight n calls_in_arg (arg_where (view.remembers a) (Address (callee_memory k)))
         (call_args view.site arguments.inputs arguments.outputs
-        ++ (arg_where result (Address (given_place k)) ++ arg_where true (Address (ended_place k))))
+        ++ (arg_where result (Address (given_place k)) ++ arg_where true (Address ended_place)))
         (where_few (view.remembers a) (callee_memory k) (member_few (codes "m") (callee_name k)))
         (both-under weight n calls_in_arg (call_args view.site arguments.inputs arguments.outputs)
-        (arg_where result (Address (given_place k)) ++ arg_where true (Address (ended_place k)))
+        (arg_where result (Address (given_place k)) ++ arg_where true (Address ended_place))
         (args_few arguments.inputs arguments.outputs few)
-        (both-under weight n calls_in_arg (arg_where result (Address (given_place k))) (arg_where true (Address (ended_place k)))
-        (where_few result (given_place k) (local_few (given_name k))) (where_few true (ended_place k) (local_few (ended_name k))))))
+        (both-under weight n calls_in_arg (arg_where result (Address (given_place k))) (arg_where true (Address ended_place))
+        (where_few result (given_place k) (local_few (given_name k))) (where_few true ended_place (local_few ended_name)))))
 
-    run_few : (k a : ℕ) (arguments : Arguments) →
+    run_few : (k : NumberedWord) (a : ℕ) (arguments : Arguments) →
         Under by n (a ∷ (target_calls arguments.target ++ argument_calls arguments.inputs arguments.outputs)) →
         CodeFew (run_code view k a arguments)
     run_few k a arguments few =
         let rest = tail-under by n a (target_calls arguments.target ++ argument_calls arguments.inputs arguments.outputs) few in
         let call = c_calling (c_call (name_of_callee (slice_get view.site.earlier a)) (run_args view k a arguments)) in
-        first_few weight prelude n (c_set (ended_place k) (c_truth false)) (call ∷ [])
-        (sets_few (ended_place k) (c_truth false) (local_few (ended_name k)) (truth_few false))
+        first_few weight prelude n (c_set ended_place (c_truth false)) (call ∷ [])
+        (sets_few ended_place (c_truth false) (local_few ended_name) (truth_few false))
         (one_few weight prelude n call
         (calling_few a (run_args view k a arguments)
         (head-under by n a (target_calls arguments.target ++ argument_calls arguments.inputs arguments.outputs) few)
         (runs_few k a arguments
         (back-under by n (target_calls arguments.target) (argument_calls arguments.inputs arguments.outputs) rest))))
 
-    target_few : (k : ℕ) (target : Option Path) → Under by n (target_calls target) → CodeFew (target_code view k target)
+    target_few : (k : NumberedWord) (target : Option Path) → Under by n (target_calls target) → CodeFew (target_code view k target)
     target_few k (Some path) few =
         one_few weight prelude n (c_set (stands view.site path).place (c_read (given_place k)))
         (sets_few (stands view.site path).place (c_read (given_place k)) (path_few path few)
         (reads_few (given_place k) (local_few (given_name k))))
     target_few k None few = none_few weight prelude n
 
-    begun_few : (k a : ℕ) (arguments : Arguments) (rule : Transition) →
+    where_few_code : (test : Bool) (s : CStmt) → StmtFew s → CodeFew (stmt_where test s)
+    where_few_code true s few = one_few weight prelude n s few
+    where_few_code false s few = none_few weight prelude n
+
+    begun_few : (k : NumberedWord) (a : ℕ) (arguments : Arguments) (rule : Transition) →
         Under by n (a ∷ (target_calls arguments.target ++ argument_calls arguments.inputs arguments.outputs)) →
         CodeFew (begun_code view k a arguments rule)
     begun_few k a arguments rule few =
@@ -606,15 +614,16 @@ module _ (weight : Text → ℕ) (prelude : (word : Text) (s : ScalarType) → w
         (clear-calls (callee_frame k) (frame_name (name_in (slice_get view.site.earlier a)))) (member_few (codes "f") (callee_name k)))
         (then_few weight prelude n (run_code view k a arguments) (changes_code view rule.on_true) (run_few k a arguments few) (changes_few view rule.on_true))
 
-    resumed_few : (k a : ℕ) (arguments : Arguments) (rule : Transition) →
+    resumed_few : (k : NumberedWord) (a : ℕ) (arguments : Arguments) (rule : Transition) →
         Under by n (a ∷ (target_calls arguments.target ++ argument_calls arguments.inputs arguments.outputs)) →
         CodeFew (resumed_code view k a arguments rule)
     resumed_few k a arguments rule few =
         let rest = tail-under by n a (target_calls arguments.target ++ argument_calls arguments.inputs arguments.outputs) few in
         let block = target_code view k arguments.target ++ changes_code view rule.on_true in
-        then_few weight prelude n (run_code view k a arguments) (c_if (c_read (ended_place k)) block None ∷ []) (run_few k a arguments few)
-        (one_few weight prelude n (c_if (c_read (ended_place k)) block None)
-        (if_few (c_read (ended_place k)) block None (reads_few (ended_place k) (local_few (ended_name k)))
+        let ends : Bool = may_end_in (slice_get view.site.earlier a) in
+        then_few weight prelude n (run_code view k a arguments) (stmt_where ends (c_if (c_read ended_place) block None)) (run_few k a arguments few)
+        (where_few_code ends (c_if (c_read ended_place) block None)
+        (if_few (c_read ended_place) block None (reads_few ended_place (local_few ended_name))
         (then_few weight prelude n (target_code view k arguments.target) (changes_code view rule.on_true)
         (target_few k arguments.target
         (front-under by n (target_calls arguments.target) (argument_calls arguments.inputs arguments.outputs) rest))
@@ -641,8 +650,8 @@ module _ (weight : Text → ℕ) (prelude : (word : Text) (s : ScalarType) → w
     control_few a rule (ActAt l s) few = changes_few view rule.on_true
     control_few a rule (TestAt l at e) few = tested_few e rule few
     control_few a rule (CheckAt l at e) few = tested_few e rule few
-    control_few a rule (EnterAt l at arguments) few = begun_few (view.run at) a arguments rule few
-    control_few a rule (ResumeAt l at arguments) few = resumed_few (view.run at) a arguments rule few
+    control_few a rule (EnterAt l at arguments) few = begun_few (word_at view at a) a arguments rule few
+    control_few a rule (ResumeAt l at arguments) few = resumed_few (word_at view at a) a arguments rule few
     control_few a rule (PauseAt l at) few = changes_few view rule.on_true
     control_few a rule (HeadAt l at) few = changes_few view rule.on_true
     control_few a rule (StartAt l at) few = changes_few view rule.on_true

@@ -1,6 +1,6 @@
 -- No two parameters and locals of the C function of an activity have one name.
 use Rattle.std.proofs.Common.{◌≡◌, ℕ, zero, suc, ◌+◌, ◌<◌, ◌≤◌, ◌^◌, Bool, true, false}
-use Rattle.std.proofs.Common.{not, ◌||◌, List, [], ◌∷◌, ◌++◌, map, take, drop}
+use Rattle.std.proofs.Common.{not, ◌&&◌, ◌||◌, List, [], ◌∷◌, ◌++◌, map, take, drop}
 use Rattle.std.proofs.Common.{length, Option, Some, None, refl, sym, ap, ◌∙◌, arith, codes}
 use Rattle.std.proofs.lemmas.Bool.Decides.{nat_tests}
 use Rattle.std.proofs.lemmas.Fmt.{decimal_injective}
@@ -8,7 +8,7 @@ use Rattle.std.proofs.lemmas.List.{append-nil, append_assoc, map-append}
 use Rattle.std.proofs.lemmas.Slice.Eq.{bytes_eq-Decides}
 use Rattle.std.specs.Fmt.{decimal}
 use Rattle.std.specs.List.{list_any}
-use Rattle.std.specs.Prelude.{bytes_eq, nat_eq, nat_lt, option_and_then, slice_get, if◌then◌else◌}
+use Rattle.std.specs.Prelude.{bytes_eq, is_some, nat_eq, option_and_then, slice_get, if◌then◌else◌}
 use Rattle.bl_tree.specs.declared.text.Text.{Text}
 use Rattle.bl_tree.specs.declared.c.CLocal.{CLocal}
 use Rattle.bl_tree.specs.declared.c.CMember.{CMember}
@@ -41,6 +41,7 @@ use Rattle.bl_emit_spec.specs.Activities.{
   copy_local,
   counter_member,
   counters_read,
+  ended_local,
   first_rules,
   flag_local,
   frame_member,
@@ -61,12 +62,14 @@ use Rattle.bl_emit_spec.specs.Activities.{
   runs_in_body,
   scalar_local,
   struct_member,
+  word_of_run,
 }
 use Rattle.bl_emit_spec.specs.Blocks.{Sizes, name_in}
-use Rattle.bl_emit_spec.specs.Names.{callee_name, flag_name}
+use Rattle.bl_emit_spec.specs.Names.{NumberedWord, callee_name, ended_name, flag_name, numbered_word}
 use Rattle.bl_emit_spec_laws_wellformed.specs.Names.{FrameDiffers, LocalsDiffer, MemoryDiffers, NumbersDiffer}
 use Rattle.bl_emit_spec_laws_wellformed.specs.Names.{are_numbers, flag_number, mark_number, mark_numbers}
-use Rattle.bl_emit_spec_laws_wellformed.proofs.OnNames.Names.{among-both, and-left, and-right, begins-append}
+use Rattle.bl_emit_spec_laws_wellformed.proofs.OnNames.Names.{word_family, word_family-begins, word_family-distinct, word_letter-new}
+use Rattle.bl_emit_spec_laws_wellformed.proofs.OnNames.Names.{words_apart, among-both, and-left, and-right, begins-append}
 use Rattle.bl_emit_spec_laws_wellformed.proofs.OnNames.Names.{both, family, family-begins, family-distinct, named_family, named_family-begins}
 use Rattle.bl_emit_spec_laws_wellformed.proofs.OnNames.Names.{named_family-distinct, named_letter-new}
 use Rattle.bl_emit_spec_laws_wellformed.proofs.OnNames.Names.{letter-new, neither, not-among, not-false, one-distinct, some_begins}
@@ -145,127 +148,95 @@ mark_names number (rule ∷ rules) =
 
 -- ---- the locals of `run`s
 
-distinct_text : (b c j k : ℕ) → j < 2 ^ 64 → k < 2 ^ 64 → nat_eq j k ≡ false → bytes_eq (b ∷ decimal j) (c ∷ decimal k) ≡ false
-distinct_text b c j k less least other = by (bytes_eq (b ∷ decimal j) (c ∷ decimal k)) refl
-  where
-    by : (t : Bool) → bytes_eq (b ∷ decimal j) (c ∷ decimal k) ≡ t → t ≡ false
-    by false is = refl
-    by true is =
-        let text : (b ∷ decimal j) ≡ (c ∷ decimal k) = (bytes_eq-Decides (b ∷ decimal j) (c ∷ decimal k)).0 is in
-        let same : j ≡ k = decimal_injective j k less least (ap (drop 1) text) in
-        absurd (let no : nat_eq j j ≡ false = ap (nat_eq j) same ∙ other in grind (arith, nat_tests, no))
-
-low : (k : ℕ) → nat_lt k (2 ^ 64) ≡ true → k < 2 ^ 64
-low k h = grind (arith, nat_tests)
-
-later_none : (p q : Bool) → (p || q) ≡ false → q ≡ false
-later_none false q h = h
-later_none true q h = absurd (cc)
-
-first_none : (p q : Bool) → (p || q) ≡ false → p ≡ false
-first_none false q h = refl
-first_none true q h = absurd (cc)
-
 module _ (a : Activity) where
   abbrev result_at : RunAt → Option ScalarType
   result_at run = option_and_then (λ (unit : UnitDef). unit.result) (slice_get a.earlier run.unit)
 
-  abbrev names_of_run : RunAt → List Text
-  names_of_run run = local_names (run_locals a run)
-
-  abbrev names_of_runs : List RunAt → List Text
-  names_of_runs runs = local_names (joined (map (run_locals a) runs))
+  abbrev word : RunAt → NumberedWord
+  word run = word_of_run a.earlier run
 
   abbrev run_numbers : List RunAt → List ℕ
   run_numbers runs = map (λ (run : RunAt). run.number) runs
 
-  runs_split : (run : RunAt) (runs : List RunAt) → names_of_runs (run ∷ runs) ≡ names_of_run run ++ names_of_runs runs
-  runs_split run runs = locals_append (run_locals a run) (joined (map (run_locals a) runs))
+  one_family : (c : ℕ) (runs : List RunAt) → are_numbers (run_numbers runs) ≡ true → are_distinct (word_family word c runs) ≡ true
+  one_family c runs all = ap are_distinct (sym (append-nil (word_family word c runs))) ∙ word_family-distinct word c runs [] all refl refl
+
+  -- the `run`s that pass a test
+  abbrev those : (RunAt → Bool) → List RunAt → List RunAt
+  those test [] = []
+  those test (run ∷ runs) = (if test run then run ∷ [] else []) ++ those test runs
+
+  those_chosen : (test : RunAt → Bool) (runs : List RunAt) → run_numbers (those test runs) ≡ chosen test (λ (run : RunAt). run.number) runs
+  those_chosen test [] = refl
+  those_chosen test (run ∷ runs) = by (test run) (those_chosen test runs)
+    where
+      by : (b : Bool) → run_numbers (those test runs) ≡ chosen test (λ (run : RunAt). run.number) runs →
+          run_numbers ((if b then run ∷ [] else []) ++ those test runs)
+          ≡ (if b then run.number ∷ [] else []) ++ chosen test (λ (run : RunAt). run.number) runs
+      by true rest = ap (λ numbers. run.number ∷ numbers) rest
+      by false rest = rest
+
+  those_numbers : (test : RunAt → Bool) (runs : List RunAt) → are_numbers (run_numbers runs) ≡ true → are_numbers (run_numbers (those test runs)) ≡ true
+  those_numbers test runs all = ap are_numbers (those_chosen test runs) ∙ chosen-numbers test (λ (run : RunAt). run.number) runs all
+
+  -- the `run`s of activities with a result
+  abbrev with_result : List RunAt → List RunAt
+  with_result runs = those (λ run. is_some (result_at run)) runs
+
+  abbrev ended_names : List RunAt → List Text
+  ended_names runs = local_names (ended_local runs)
+
+  abbrev names_of_runs : List RunAt → List Text
+  names_of_runs runs = ended_names runs ++ word_family word 114 (with_result runs)
+
+  result_names : (runs : List RunAt) → local_names (joined (map (run_locals a) runs)) ≡ word_family word 114 (with_result runs)
+  result_names [] = refl
+  result_names (run ∷ runs) =
+      locals_append (run_locals a run) (joined (map (run_locals a) runs))
+      ∙ (λ i. by (result_at run) i ++ result_names runs i)
+      ∙ sym (map-append (λ (run : RunAt). 114 ∷ numbered_word (word run)) (if is_some (result_at run) then run ∷ [] else []) (with_result runs))
+    where
+      by : (o : Option ScalarType) → local_names (given_local (word run) o) ≡ word_family word 114 (if is_some o then run ∷ [] else [])
+      by (Some s) = refl
+      by None = refl
+
+  run_names : (runs : List RunAt) → local_names (ended_local runs ++ joined (map (run_locals a) runs)) ≡ names_of_runs runs
+  run_names runs = locals_append (ended_local runs) (joined (map (run_locals a) runs)) ∙ ap (λ rest. ended_names runs ++ rest) (result_names runs)
 
   -- one of other letters
-  given_begins : (b n : ℕ) (o : Option ScalarType) → nat_eq b 114 ≡ false → some_begins b (local_names (given_local n o)) ≡ false
-  given_begins b n None other = refl
-  given_begins b n (Some s) other = neither (nat_eq b 114) false other refl
-
-  run_begins : (b : ℕ) (run : RunAt) → nat_eq b 101 ≡ false → nat_eq b 114 ≡ false → some_begins b (names_of_run run) ≡ false
-  run_begins b run one other =
-      neither (nat_eq b 101) (some_begins b (local_names (given_local run.number (result_at run)))) one
-      (given_begins b run.number (result_at run) other)
+  ended_begins : (b : ℕ) (runs : List RunAt) → nat_eq b 101 ≡ false → some_begins b (ended_names runs) ≡ false
+  ended_begins b [] other = refl
+  ended_begins b (run ∷ runs) other = neither (nat_eq b 101) false other refl
 
   runs_begin : (b : ℕ) (runs : List RunAt) → nat_eq b 101 ≡ false → nat_eq b 114 ≡ false → some_begins b (names_of_runs runs) ≡ false
-  runs_begin b [] one other = refl
-  runs_begin b (run ∷ runs) one other =
-      ap (some_begins b) (runs_split run runs)
-      ∙ begins-append b (names_of_run run) (names_of_runs runs) (run_begins b run one other) (runs_begin b runs one other)
-
-  -- one of another number
-  given_other : (b j n : ℕ) (o : Option ScalarType) → j < 2 ^ 64 → n < 2 ^ 64 → nat_eq j n ≡ false →
-      is_among (b ∷ decimal j) (local_names (given_local n o)) ≡ false
-  given_other b j n None less least other = refl
-  given_other b j n (Some s) less least other =
-      neither (bytes_eq (b ∷ decimal j) (114 ∷ decimal n)) false (distinct_text b 114 j n less least other) refl
-
-  runs_other : (b j : ℕ) (runs : List RunAt) → j < 2 ^ 64 → are_numbers (run_numbers runs) ≡ true →
-      list_any (nat_eq j) (run_numbers runs) ≡ false →
-      is_among (b ∷ decimal j) (names_of_runs runs) ≡ false
-  runs_other b j [] less all none = refl
-  runs_other b j (run ∷ runs) less all none =
-      let n : ℕ = run.number in
-      let least : n < 2 ^ 64 = low n (and-left (nat_lt n (2 ^ 64)) _ all) in
-      let rest : are_numbers (run_numbers runs) ≡ true =
-      and-right (not (list_any (nat_eq n) (run_numbers runs))) (are_numbers (run_numbers runs)) (and-right (nat_lt n (2 ^ 64)) _ all) in
-      let other : nat_eq j n ≡ false = first_none (nat_eq j n) (list_any (nat_eq j) (run_numbers runs)) none in
-      ap (is_among (b ∷ decimal j)) (runs_split run runs)
-      ∙ among-both (b ∷ decimal j) (names_of_run run) (names_of_runs runs)
-      (neither (bytes_eq (b ∷ decimal j) (101 ∷ decimal n)) (is_among (b ∷ decimal j) (local_names (given_local n (result_at run))))
-      (distinct_text b 101 j n less least other) (given_other b j n (result_at run) less least other))
-      (runs_other b j runs less rest (later_none (nat_eq j n) (list_any (nat_eq j) (run_numbers runs)) none))
+  runs_begin b runs one other =
+      begins-append b (ended_names runs) (word_family word 114 (with_result runs)) (ended_begins b runs one)
+      (word_family-begins word b 114 (with_result runs) other)
 
   -- one letter alone
-  given_letter : (b n : ℕ) (o : Option ScalarType) → n < 2 ^ 64 → are_numbers (n ∷ []) ≡ true →
-      is_among (b ∷ []) (local_names (given_local n o)) ≡ false
-  given_letter b n None least one = refl
-  given_letter b n (Some s) least one = letter-new b 114 (n ∷ []) one
+  ended_letter : (b : ℕ) (runs : List RunAt) → is_among (b ∷ []) (ended_names runs) ≡ false
+  ended_letter b [] = refl
+  ended_letter b (run ∷ runs) = by (nat_eq b 101)
+    where
+      by : (t : Bool) → ((t && false) || false) ≡ false
+      by true = refl
+      by false = refl
 
   runs_letter : (b : ℕ) (runs : List RunAt) → are_numbers (run_numbers runs) ≡ true → is_among (b ∷ []) (names_of_runs runs) ≡ false
-  runs_letter b [] all = refl
-  runs_letter b (run ∷ runs) all =
-      let n : ℕ = run.number in
-      let own : nat_lt n (2 ^ 64) ≡ true = and-left (nat_lt n (2 ^ 64)) _ all in
-      let least : n < 2 ^ 64 = low n own in
-      let one : are_numbers (n ∷ []) ≡ true = both (nat_lt n (2 ^ 64)) true own refl in
-      let rest : are_numbers (run_numbers runs) ≡ true =
-      and-right (not (list_any (nat_eq n) (run_numbers runs))) (are_numbers (run_numbers runs)) (and-right (nat_lt n (2 ^ 64)) _ all) in
-      ap (is_among (b ∷ [])) (runs_split run runs)
-      ∙ among-both (b ∷ []) (names_of_run run) (names_of_runs runs)
-      (among-both (b ∷ []) ((101 ∷ decimal n) ∷ []) (local_names (given_local n (result_at run))) (letter-new b 101 (n ∷ []) one)
-      (given_letter b n (result_at run) least one))
-      (runs_letter b runs rest)
+  runs_letter b runs all =
+      among-both (b ∷ []) (ended_names runs) (word_family word 114 (with_result runs)) (ended_letter b runs)
+      (word_letter-new word b 114 (with_result runs) (those_numbers (λ run. is_some (result_at run)) runs all))
 
   -- all differ
-  given_distinct : (n : ℕ) (o : Option ScalarType) (others : List Text) → is_among (101 ∷ decimal n) others ≡ false →
-      is_among (114 ∷ decimal n) others ≡ false → are_distinct others ≡ true →
-      are_distinct ((101 ∷ decimal n) ∷ (local_names (given_local n o) ++ others)) ≡ true
-  given_distinct n None others one other differ = one-distinct (101 ∷ decimal n) others one differ
-  given_distinct n (Some s) others one other differ =
-      one-distinct (101 ∷ decimal n) ((114 ∷ decimal n) ∷ others)
-      (neither (bytes_eq (101 ∷ decimal n) (114 ∷ decimal n)) (is_among (101 ∷ decimal n) others) refl one)
-      (one-distinct (114 ∷ decimal n) others other differ)
+  ended_distinct : (runs : List RunAt) (others : List Text) → some_begins 101 others ≡ false → are_distinct others ≡ true →
+      are_distinct (ended_names runs ++ others) ≡ true
+  ended_distinct [] others none differ = differ
+  ended_distinct (run ∷ runs) others none differ = one-distinct ended_name others (not-among 101 ended_name others refl none) differ
 
   runs_distinct : (runs : List RunAt) → are_numbers (run_numbers runs) ≡ true → are_distinct (names_of_runs runs) ≡ true
-  runs_distinct [] all = refl
-  runs_distinct (run ∷ runs) all =
-      let n : ℕ = run.number in
-      let least : n < 2 ^ 64 = low n (and-left (nat_lt n (2 ^ 64)) _ all) in
-      let more = and-right (nat_lt n (2 ^ 64)) _ all in
-      let new : list_any (nat_eq n) (run_numbers runs) ≡ false =
-      not-false (list_any (nat_eq n) (run_numbers runs))
-      (and-left (not (list_any (nat_eq n) (run_numbers runs))) (are_numbers (run_numbers runs)) more) in
-      let rest : are_numbers (run_numbers runs) ≡ true =
-      and-right (not (list_any (nat_eq n) (run_numbers runs))) (are_numbers (run_numbers runs)) more in
-      ap are_distinct (runs_split run runs)
-      ∙ given_distinct n (result_at run) (names_of_runs runs) (runs_other 101 n runs least rest new) (runs_other 114 n runs least rest new)
-      (runs_distinct runs rest)
+  runs_distinct runs all =
+      ended_distinct runs (word_family word 114 (with_result runs)) (word_family-begins word 101 114 (with_result runs) refl)
+      (one_family 114 (with_result runs) (those_numbers (λ run. is_some (result_at run)) runs all))
 
   -- ---- all locals
 
@@ -296,7 +267,7 @@ module _ (a : Activity) where
 
     locals_are : local_names (activity_locals a) ≡ all_locals
     locals_are =
-        let of_runs : List CLocal = joined (map (run_locals a) runs) in
+        let of_runs : List CLocal = ended_local runs ++ joined (map (run_locals a) runs) in
         let of_copies : List CLocal = map (copy_local a) (copied_in a) in
         let of_marks : List CLocal = joined (map (mark_locals number) (rules_at a)) in
         let of_flags : List CLocal = joined (map (flag_local number) (first_rules a)) in
@@ -304,7 +275,7 @@ module _ (a : Activity) where
         ∙ (λ i. rested_names a.sizes (counters_read a) i ++ locals_append of_flags (of_marks ++ (of_copies ++ of_runs)) i)
         ∙ (λ i. family 119 (counters_read a) ++ (flag_names number (first_rules a) i ++ locals_append of_marks (of_copies ++ of_runs) i))
         ∙ (λ i. family 119 (counters_read a) ++ (family 103 flags ++ (mark_names number (rules_at a) i ++ locals_append of_copies of_runs i)))
-        ∙ (λ i. family 119 (counters_read a) ++ (family 103 flags ++ (family 117 marks ++ (copy_names a (copied_in a) i ++ names_of_runs runs))))
+        ∙ (λ i. family 119 (counters_read a) ++ (family 103 flags ++ (family 117 marks ++ (copy_names a (copied_in a) i ++ run_names runs i))))
 
     copies_numbers : are_numbers (copied_in a) ≡ true
     copies_numbers = filtered-numbers (is_copied (copies_of a.unit)) (length a.unit.vars) differ.variables
@@ -464,20 +435,17 @@ module _ (a : Activity) where
     counter_names sizes [] = refl
     counter_names sizes (k ∷ ks) = ap (λ rest. (99 ∷ decimal k) ∷ rest) (counter_names sizes ks)
 
-    frame_names : (runs : List RunAt) → member_names (map (frame_member a) runs) ≡ family 120 (run_numbers runs)
+    frame_names : (runs : List RunAt) → member_names (map (frame_member a) runs) ≡ word_family word 120 runs
     frame_names [] = refl
-    frame_names (run ∷ runs) = ap (λ rest. (120 ∷ decimal run.number) ∷ rest) (frame_names runs)
-
-    one_family : (c : ℕ) (ks : List ℕ) → are_numbers ks ≡ true → are_distinct (family c ks) ≡ true
-    one_family c ks all = ap are_distinct (sym (append-nil (family c ks))) ∙ family-distinct c ks [] all refl refl
+    frame_names (run ∷ runs) = ap (λ rest. (120 ∷ numbered_word (word run)) ∷ rest) (frame_names runs)
 
     frame_distinct : are_distinct (member_names (frame_struct a).members) ≡ true
     frame_distinct =
         ap are_distinct
         (members_append (map (counter_member a.sizes) (up_to (length a.sizes))) (map (frame_member a) runs)
         ∙ (λ i. counter_names a.sizes (up_to (length a.sizes)) i ++ frame_names runs i))
-        ∙ family-distinct 99 (up_to (length a.sizes)) (family 120 (run_numbers runs)) (first-numbers (length a.sizes) differ.counters)
-        (family-begins 99 120 (run_numbers runs) refl) (one_family 120 (run_numbers runs) differ.runs)
+        ∙ family-distinct 99 (up_to (length a.sizes)) (word_family word 120 runs) (first-numbers (length a.sizes) differ.counters)
+        (word_family-begins word 99 120 runs refl) (one_family 120 runs differ.runs)
 
     held_names : (site : TypingContext) (k : ℕ) (vars : List Var) →
         member_names (members_from site k vars) ≡ named_family site.vars 118 (positions (λ (v : Var). is_held (home_of site (Some v))) k vars)
@@ -492,34 +460,35 @@ module _ (a : Activity) where
         by true = refl
         by false = refl
 
-    memory_names : (runs : List RunAt) → member_names (joined (map (memory_member a) runs))
-        ≡ family 120 (chosen (λ (run : RunAt). (activity_view a).remembers run.unit) (λ (run : RunAt). run.number) runs)
+    -- the `run`s of activities that remember variables
+    abbrev remembering : List RunAt → List RunAt
+    remembering runs = those (λ run. (activity_view a).remembers run.unit) runs
+
+    memory_names : (runs : List RunAt) → member_names (joined (map (memory_member a) runs)) ≡ word_family word 120 (remembering runs)
     memory_names [] = refl
     memory_names (run ∷ runs) =
         members_append (memory_member a run) (joined (map (memory_member a) runs))
         ∙ (λ i. by ((activity_view a).remembers run.unit) i ++ memory_names runs i)
-        ∙ sym (family_append 120 (if (activity_view a).remembers run.unit then run.number ∷ [] else [])
-        (chosen (λ (run : RunAt). (activity_view a).remembers run.unit) (λ (run : RunAt). run.number) runs))
+        ∙ sym (map-append (λ (run : RunAt). 120 ∷ numbered_word (word run)) (if (activity_view a).remembers run.unit then run ∷ [] else []) (remembering runs))
       where
-        by : (b : Bool) → member_names (if b then struct_member (callee_name run.number)
+        by : (b : Bool) → member_names (if b then struct_member (callee_name (word run))
             (memory_name (name_in (slice_get a.earlier run.unit))) ∷ [] else [])
-            ≡ family 120 (if b then run.number ∷ [] else [])
+            ≡ word_family word 120 (if b then run ∷ [] else [])
         by true = refl
         by false = refl
 
     remembered_distinct : are_distinct (member_names (remembered a)) ≡ true
     remembered_distinct =
         let site : TypingContext = site_of a.structs a.earlier a.unit in
-        let remembering : List ℕ = chosen (λ (run : RunAt). (activity_view a).remembers run.unit) (λ (run : RunAt). run.number) runs in
         let few = differ.variables in
         let room : 0 + length a.unit.vars ≤ 2 ^ 64 = omega (arith, few) in
         ap are_distinct
         (members_append (members_of a.structs a.earlier a.unit) (joined (map (memory_member a) runs))
         ∙ (λ i. held_names (site_of a.structs a.earlier a.unit) 0 a.unit.vars i ++ memory_names runs i))
-        ∙ named_family-distinct a.unit.vars 118 (positions (λ (v : Var). is_held (home_of site (Some v))) 0 a.unit.vars) (family 120 remembering)
-        (position-numbers (λ (v : Var). is_held (home_of site (Some v))) 0 a.unit.vars room) (family-begins 118 120 remembering refl)
-        (one_family 120 remembering
-        (chosen-numbers (λ (run : RunAt). (activity_view a).remembers run.unit) (λ (run : RunAt). run.number) runs differ.runs))
+        ∙ named_family-distinct a.unit.vars 118 (positions (λ (v : Var). is_held (home_of site (Some v))) 0 a.unit.vars)
+        (word_family word 120 (remembering runs))
+        (position-numbers (λ (v : Var). is_held (home_of site (Some v))) 0 a.unit.vars room) (word_family-begins word 118 120 (remembering runs) refl)
+        (one_family 120 (remembering runs) (those_numbers (λ run. (activity_view a).remembers run.unit) runs differ.runs))
 
 pub locals : LocalsDiffer
 locals a differ = all_distinct a differ

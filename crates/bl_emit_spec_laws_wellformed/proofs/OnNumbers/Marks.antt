@@ -94,10 +94,8 @@ module _ (number : Node → ℕ) where
   mutual
     pub of_plain : (slots : Slots) (s : Plain) (next : Change) → Plainly next → AllOwn (rules_of slots s next)
     of_plain slots (Act l s) next plain = (None_set (single_plain next plain), tt)
-    of_plain slots (Await l at e) next plain =
-        (None_set refl, (None_set (first_plain (ClearsCounter (slots.rest l).counter) (next ∷ []) refl (single_plain next plain)), tt))
-    of_plain slots (Run l at target a inputs outputs) next plain =
-        (None_set refl, (None_set (first_plain (ClearsCounter (slots.rest l).counter) (next ∷ []) refl (single_plain next plain)), tt))
+    of_plain slots (Await l at e) next plain = (None_set refl, (None_set (single_plain next plain), tt))
+    of_plain slots (Run l at target a inputs outputs) next plain = (None_set refl, (None_set (single_plain next plain), tt))
     of_plain slots (If l at e body other) next plain = (
       None_set (single_plain (enter body next) (enter_plain body next plain)),
       own_append (rules_in slots body next) (rules_in slots other next) (of_block slots body next plain) (of_block slots other next plain),

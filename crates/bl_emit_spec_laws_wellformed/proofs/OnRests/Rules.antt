@@ -394,14 +394,13 @@ module _ (slots : Slots) (sizes : Sizes) where
 
   -- a rest that is over
   abbrev rested_rule : Label → Node → Change → Transition
-  rested_rule l n next = record { node = n; condition = Rested (slots.rest l); on_true = ClearsCounter (slots.rest l).counter ∷ next ∷ []; on_false = [] }
+  rested_rule l n next = record { node = n; condition = Rested (slots.rest l); on_true = next ∷ []; on_false = [] }
 
   rested_fits : (l : Label) (n : Node) (next : Change) → slot_fits sizes (slots.rest l) ≡ true → change_fits sizes next ≡ true →
       rule_fits sizes (rested_rule l n next)
       ≡ true
   rested_fits l n next fit h =
-      made (rested_rule l n next) fit
-      (both (low (slots.rest l).counter) (list_all (change_fits sizes) (next ∷ [])) (counter_low (slots.rest l) fit) (one next h)) refl
+      made (rested_rule l n next) fit (one next h) refl
 
   tested_fits : (n : Node) (on_true on_false : Change) → change_fits sizes on_true ≡ true → change_fits sizes on_false ≡ true →
       rule_fits sizes (record { node = n; condition = Flagged; on_true = on_true ∷ []; on_false = on_false ∷ [] }) ≡ true

@@ -3,31 +3,36 @@ use Rattle.std.proofs.Common.{◌≡◌, ℕ, zero, suc, ◌+◌, ◌*◌, ◌^�
 use Rattle.std.proofs.Common.{List, [], ◌∷◌, map, length, Some, refl, sym, ap, subst, arith, codes}
 use Rattle.std.proofs.lemmas.Bool.{eqb-true}
 use Rattle.std.proofs.lemmas.Bool.Decides.{nat_tests}
+use Rattle.std.specs.Char.{is_ascii_digit}
 use Rattle.std.specs.List.{list_all}
 use Rattle.std.specs.Prelude.{nat_eq, nat_le, nat_lt, slice_get, unwrap_or, if◌then◌else◌}
 use Rattle.bl_tree.specs.declared.c.CExpr.{CExpr}
+use Rattle.bl_tree.specs.declared.c.CStmt.{CStmt}
 use Rattle.bl_tree.specs.declared.scalar.Op.{Op}
 use Rattle.bl_tree.specs.declared.scalar.Op.TheVariants.{And, Eq, Ge, Le, Ne, Or}
 use Rattle.bl_tree.specs.declared.scalar.Scalar.{Scalar as ScalarType}
 use Rattle.bl_tree.specs.declared.scalar.Scalar.TheVariants.{Bool as OfBool, Nat}
 use Rattle.bl_tree.specs.declared.scalar.Width.TheVariants.{W8, W16, W32}
 use Rattle.bl_tree.specs.Numbers.{takes_two}
+use Rattle.bl_tree.specs.Reduce.{all_of}
 use Rattle.bl_tree.specs.Scalar.{in_range}
 use Rattle.bl_tree.specs.Types.{scalar}
 use Rattle.bl_eval.proofs.PassLemmas.{and_left, and_right, both}
 use Rattle.bl_ctext.specs.Names.{is_among, is_name}
+use Rattle.bl_ctext.specs.Token.{is_word_byte}
 use Rattle.bl_ctext.specs.Spellable.{is_c_operator, is_c_scalar, is_literal}
 use Rattle.bl_ctext.specs.inner.Fits.{expr_fits, place_fits, step_fits, stmt_fits, stmts_fit}
 use Rattle.bl_ctext.proofs.Fitting.{expr_fits-more, literal-fits, place-fits, read-fits, set-fits, step-fits, two-fits}
 use Rattle.bl_graph_nodes.specs.Nodes.{Node}
 use Rattle.bl_machine.specs.declared.slots.Slot.{Slot}
 use Rattle.bl_machine_pass.specs.Transitions.{Age, Change, Condition, Needed}
-use Rattle.bl_machine_pass.specs.Transitions.{ClearsBoth, ClearsCounter, Ended, EndsWhen, Finishes, Flagged, IsAny, IsNew, IsOld, Rested, RestedIn, SetsCounter, SetsFlag, SetsMark}
+use Rattle.bl_machine_pass.specs.Transitions.{ClearsBoth, ClearsCounter, Ended, EndsWhen, Finishes, Flagged, IsAny}
+use Rattle.bl_machine_pass.specs.Transitions.{IsNew, IsOld, Rested, RestedIn, SetsCounter, SetsFlag, SetsMark}
 use Rattle.bl_emit_acts.specs.Acts.{c_set}
 use Rattle.bl_emit_acts.specs.Expressions.{c_both, c_compare}
 use Rattle.bl_emit_acts.specs.Trees.{c_not, c_read, c_step, c_two, nowhere}
 use Rattle.bl_emit_acts_laws_wellformed.proofs.OnSpelled.Literals.{literal-stands}
-use Rattle.bl_emit_acts_laws_wellformed.proofs.OnSpelled.Names.{numbered-name}
+use Rattle.bl_emit_acts_laws_wellformed.proofs.OnSpelled.Names.{numbered-name, worded-name}
 use Rattle.bl_emit_acts_laws_wellformed.proofs.OnSpelled.Operators.{both-fits, code-fits}
 use Rattle.bl_emit_acts_laws_wellformed.proofs.OnSpelled.Shapes.{not-fits}
 use Rattle.bl_emit_functions.specs.Trees.{c_if, c_truth}
@@ -35,9 +40,8 @@ use Rattle.bl_emit_functions_laws_wellformed.proofs.OnSpelled.Acts.{one-fits}
 use Rattle.bl_emit_functions_laws_wellformed.proofs.OnSpelled.Shapes.{else-fits}
 use Rattle.bl_emit_functions_laws_wellformed.proofs.OnSpelled.Types.{all_append}
 use Rattle.bl_emit_spec.specs.Blocks.{
-  is_greatest,
-  Sizes,
   ActivityView,
+  Sizes,
   aged_test,
   all_tests,
   at_slot,
@@ -52,19 +56,22 @@ use Rattle.bl_emit_spec.specs.Blocks.{
   guard_of,
   in_pairs,
   in_tree,
+  is_greatest,
   last_value,
   rested_at,
-  rested_by,
   rested_between,
+  rested_by,
   rested_from,
   rested_in,
   rested_since,
   rested_to,
   rested_within,
   some_test,
+  stmt_where,
   type_for,
 }
-use Rattle.bl_emit_spec.specs.Names.{counter_name, counter_place, ended_name, ended_place, flag_name, flag_place, given_name, given_place}
+use Rattle.bl_emit_spec.specs.Names.{NumberedWord, numbered_word, counter_name, counter_place, ended_name}
+use Rattle.bl_emit_spec.specs.Names.{ended_place, flag_name, flag_place, given_name, given_place}
 use Rattle.bl_emit_spec.specs.Names.{mark_name, mark_place, over_place, rested_name, rested_place, result_place}
 use Rattle.bl_emit_spec_laws_wellformed.specs.Spelled.{change_fits, condition_fits, slot_fits, slots_fit}
 
@@ -78,12 +85,30 @@ pub end-letter : is_name (codes "e") ≡ true
 unfolding is_name is_among
 end-letter = refl
 
+pub ended-word : is_name ended_name ≡ true
+unfolding is_name is_among
+ended-word = refl
+
 pub result-letter : is_name (codes "r") ≡ true
 unfolding is_name is_among
 result-letter = refl
 
 low : (k : ℕ) → nat_lt k (2 ^ 64) ≡ true → k < 2 ^ 64
 low k h = grind (arith, nat_tests)
+
+-- a statement that is left out fits too
+pub where-fits : (d : ℕ) (test : Bool) (s : CStmt) → stmt_fits d s ≡ true → stmts_fit d (stmt_where test s) ≡ true
+where-fits d true s fit = one-fits d s fit
+where-fits d false s fit = refl
+
+-- the number is small, and the word has letters, digits and `_` alone
+pub record Spells (k : NumberedWord) : Type 0 where
+  pub small : k.number < 2 ^ 64
+  pub word : all_of (map is_word_byte k.word) ≡ true
+
+-- a letter, such a number and word
+pub spelled-name : (b : ℕ) (k : NumberedWord) → is_word_byte b ≡ true → is_ascii_digit b ≡ false → Spells k → is_name (b ∷ numbered_word k) ≡ true
+spelled-name b k h i its = worded-name b k.number k.word h i its.word its.small
 
 -- ---- places
 
@@ -101,11 +126,11 @@ flag-fits d k some small = place-fits d false (flag_name k) [] some (numbered-na
 pub mark-fits : (d k : ℕ) → 1 ≤ d → k < 2 ^ 64 → place_fits d (mark_place k) ≡ true
 mark-fits d k some small = place-fits d false (mark_name k) [] some (numbered-name 117 k refl refl small) refl
 
-pub ended-fits : (d k : ℕ) → 1 ≤ d → k < 2 ^ 64 → place_fits d (ended_place k) ≡ true
-ended-fits d k some small = place-fits d false (ended_name k) [] some (numbered-name 101 k refl refl small) refl
+pub ended-fits : (d : ℕ) → 1 ≤ d → place_fits d ended_place ≡ true
+ended-fits d some = place-fits d false ended_name [] some ended-word refl
 
-pub given-fits : (d k : ℕ) → 1 ≤ d → k < 2 ^ 64 → place_fits d (given_place k) ≡ true
-given-fits d k some small = place-fits d false (given_name k) [] some (numbered-name 114 k refl refl small) refl
+pub given-fits : (d : ℕ) (k : NumberedWord) → 1 ≤ d → Spells k → place_fits d (given_place k) ≡ true
+given-fits d k some small = place-fits d false (given_name k) [] some (spelled-name 114 k refl refl small) refl
 
 pub over-fits : (d : ℕ) → 1 ≤ d → place_fits d over_place ≡ true
 over-fits d some = place-fits d true (codes "e") [] some end-letter refl

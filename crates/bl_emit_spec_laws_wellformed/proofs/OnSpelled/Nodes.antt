@@ -42,7 +42,7 @@ use Rattle.bl_machine_pass.specs.Transitions.{Transition}
 use Rattle.bl_emit_acts.specs.Acts.{act_code, c_calling, c_clear, c_set, call_args, code_made, name_of_callee}
 use Rattle.bl_emit_acts.specs.Expressions.{stands}
 use Rattle.bl_emit_acts.specs.Trees.{c_call, c_read, c_step, nowhere}
-use Rattle.bl_emit_acts_laws_wellformed.proofs.OnSpelled.Names.{callee-name, memory-name, numbered-name}
+use Rattle.bl_emit_acts_laws_wellformed.proofs.OnSpelled.Names.{callee-name, memory-name, name_bytes}
 use Rattle.bl_emit_functions.specs.Statements.{else_code}
 use Rattle.bl_emit_functions.specs.Trees.{c_if, c_truth}
 use Rattle.bl_emit_functions_laws_wellformed.proofs.OnSpelled.Acts.{arguments-fit, one-fits, room}
@@ -55,27 +55,31 @@ use Rattle.bl_emit_spec.specs.Blocks.{
   arg_where,
   begun_code,
   changes_code,
+  choice_code,
   control_code,
   fused_code,
   guard_of,
   has_result,
   layer_acted,
+  may_end_in,
   merged_code,
   name_in,
+  node_turn,
   own_code,
   resumed_code,
   run_args,
   run_code,
-  target_code,
-  choice_code,
   spelled_truth,
+  stmt_where,
+  target_code,
   test_code,
-  node_turn,
   turns_of,
+  word_at,
 }
-use Rattle.bl_emit_spec.specs.Names.{callee_frame, callee_memory, callee_name, ended_place, frame_name, given_place, result_place}
+use Rattle.bl_emit_spec.specs.Names.{NumberedWord, callee_frame, callee_memory, callee_name, ended_place, frame_name, given_place, result_place}
 use Rattle.bl_emit_spec_laws_wellformed.specs.Spelled.{all_fit, change_fits, condition_fits, node_fits, rule_fits, run_stands}
-use Rattle.bl_emit_spec_laws_wellformed.proofs.OnSpelled.Guards.{changes-fit, ended-fits, frame-letter, given-fits, guard-fits, result-fits, truth-fits}
+use Rattle.bl_emit_spec_laws_wellformed.proofs.OnSpelled.Guards.{Spells, changes-fit, ended-fits, frame-letter}
+use Rattle.bl_emit_spec_laws_wellformed.proofs.OnSpelled.Guards.{given-fits, guard-fits, result-fits, spelled-name, truth-fits, where-fits}
 
 -- what a turn asks and does fits inside its `if`
 abbrev pub turn_fits : NodeCode → Bool
@@ -87,15 +91,15 @@ shallow n h = grind (arith, nat_tests)
 pub frame-named : (name : Text) → words.is_name name ≡ true → is_name (frame_name name) ≡ true
 frame-named name h = name-with_prefix (codes "f_") name refl (source_name name h)
 
-pub callee-named : (k : ℕ) → k < 2 ^ 64 → is_name (callee_name k) ≡ true
-callee-named k small = numbered-name 120 k refl refl small
+pub callee-named : (k : NumberedWord) → Spells k → is_name (callee_name k) ≡ true
+callee-named k small = spelled-name 120 k refl refl small
 
-callee-frame-fits : (d k : ℕ) → 1 ≤ d → k < 2 ^ 64 → place_fits d (callee_frame k) ≡ true
+callee-frame-fits : (d : ℕ) (k : NumberedWord) → 1 ≤ d → Spells k → place_fits d (callee_frame k) ≡ true
 callee-frame-fits d k some small =
     place-fits d true (codes "f") (c_step (callee_name k) ∷ []) some frame-letter
     (both (step_fits d (c_step (callee_name k))) true (step-fits d (callee_name k) (callee-named k small)) refl)
 
-callee-memory-fits : (d k : ℕ) → 1 ≤ d → k < 2 ^ 64 → place_fits d (callee_memory k) ≡ true
+callee-memory-fits : (d : ℕ) (k : NumberedWord) → 1 ≤ d → Spells k → place_fits d (callee_memory k) ≡ true
 callee-memory-fits d k some small =
     place-fits d true (codes "m") (c_step (callee_name k) ∷ []) some memory-name
     (both (step_fits d (c_step (callee_name k))) true (step-fits d (callee_name k) (callee-named k small)) refl)
@@ -240,14 +244,14 @@ module _ (view : ActivityView) (few : length view.site.vars ≤ 2 ^ 64)
         let found = run-callee view.site arguments.target arguments.inputs arguments.outputs (slice_get view.site.earlier a) is_fitted in
         some_there (slice_get view.site.earlier a) found.0 found.1
 
-    call-is : (k : ℕ) → k < 2 ^ 64 → stmts_fit 403 (run_code view k a arguments) ≡ true
+    call-is : (k : NumberedWord) → Spells k → stmts_fit 403 (run_code view k a arguments) ≡ true
     call-is k small =
         let parts = run_arguments arguments.target arguments.inputs arguments.outputs (slice_get view.site.earlier a) is_fitted in
         let within : room (arguments_depth arguments.inputs arguments.outputs) ≤ 402 = omega (arith, deep) in
         let args = arguments-fit view.site few names named vars_named typed_vars exprs paths 402 arguments.inputs arguments.outputs parts.0 parts.1 within in
-        both (stmt_fits 403 (c_set (ended_place k) (c_truth false)))
+        both (stmt_fits 403 (c_set ended_place (c_truth false)))
         (stmts_fit 403 (c_calling (c_call (name_of_callee (slice_get view.site.earlier a)) (run_args view k a arguments)) ∷ []))
-        (set-fits 403 nowhere (ended_place k) (c_truth false) (ended-fits 403 k (omega arith) small) (truth-fits 403 false (omega arith)))
+        (set-fits 403 nowhere ended_place (c_truth false) (ended-fits 403 (omega arith)) (truth-fits 403 false (omega arith)))
         (one-fits 403 (c_calling (c_call (name_of_callee (slice_get view.site.earlier a)) (run_args view k a arguments)))
         (call_stmt-fits 403 nowhere (c_call (name_of_callee (slice_get view.site.earlier a)) (run_args view k a arguments))
         (call-fits 402 403 (name_of_callee (slice_get view.site.earlier a)) (run_args view k a arguments) (omega arith)
@@ -255,17 +259,17 @@ module _ (view : ActivityView) (few : length view.site.vars ≤ 2 ^ 64)
         (both (arg_fits 402 (Address (callee_frame k))) _ (address-fits 402 (callee_frame k) (callee-frame-fits 402 k (omega arith) small))
         (all_append (arg_fits 402) (arg_where (view.remembers a) (Address (callee_memory k)))
         (call_args view.site arguments.inputs arguments.outputs
-        ++ (arg_where (has_result (slice_get view.site.earlier a)) (Address (given_place k)) ++ Address (ended_place k) ∷ []))
+        ++ (arg_where (has_result (slice_get view.site.earlier a)) (Address (given_place k)) ++ Address ended_place ∷ []))
         (address 402 (view.remembers a) (Address (callee_memory k))
         (address-fits 402 (callee_memory k) (callee-memory-fits 402 k (omega arith) small)))
         (all_append (arg_fits 402) (call_args view.site arguments.inputs arguments.outputs)
-        (arg_where (has_result (slice_get view.site.earlier a)) (Address (given_place k)) ++ Address (ended_place k) ∷ []) args
-        (all_append (arg_fits 402) (arg_where (has_result (slice_get view.site.earlier a)) (Address (given_place k))) (Address (ended_place k) ∷ [])
+        (arg_where (has_result (slice_get view.site.earlier a)) (Address (given_place k)) ++ Address ended_place ∷ []) args
+        (all_append (arg_fits 402) (arg_where (has_result (slice_get view.site.earlier a)) (Address (given_place k))) (Address ended_place ∷ [])
         (address 402 (has_result (slice_get view.site.earlier a)) (Address (given_place k))
         (address-fits 402 (given_place k) (given-fits 402 k (omega arith) small)))
-        (both (arg_fits 402 (Address (ended_place k))) true (address-fits 402 (ended_place k) (ended-fits 402 k (omega arith) small)) refl))))))))
+        (both (arg_fits 402 (Address ended_place)) true (address-fits 402 ended_place (ended-fits 402 (omega arith))) refl))))))))
 
-    target-by : (k : ℕ) → k < 2 ^ 64 → (result : Option ScalarType) (target : Option Path) → target_fits view.site result target ≡ true →
+    target-by : (k : NumberedWord) → Spells k → (result : Option ScalarType) (target : Option Path) → target_fits view.site result target ≡ true →
         target_depth target ≤ 200 → stmts_fit 403 (target_code view k target) ≡ true
     target-by k small result None h le = refl
     target-by k small None (Some path) h le = absurd (cc)
@@ -276,7 +280,7 @@ module _ (view : ActivityView) (few : length view.site.vars ≤ 2 ^ 64)
         (place_fits-more (room (path_depth path)) 403 (stands view.site path).place (omega (arith, le)) (paths path found.0 found.1))
         (read-fits 403 nowhere (given_place k) (given-fits 403 k (omega arith) small)))
 
-    target-is : (k : ℕ) → k < 2 ^ 64 → stmts_fit 403 (target_code view k arguments.target) ≡ true
+    target-is : (k : NumberedWord) → Spells k → stmts_fit 403 (target_code view k arguments.target) ≡ true
     target-is k small =
         let parts = run_arguments arguments.target arguments.inputs arguments.outputs (slice_get view.site.earlier a) is_fitted in
         target-by k small parts.0.result arguments.target parts.2 (omega (arith, deep))
@@ -351,7 +355,7 @@ module _ (view : ActivityView) (few : length view.site.vars ≤ 2 ^ 64)
   only : (rule : Transition) → rule_fits view.sizes rule ≡ true → stmts_fit 404 (changes_code view rule.on_true) ≡ true
   only rule h = stmts_fit-more 3 404 (changes_code view rule.on_true) (omega arith) (on_true-fits rule h)
 
-  begun-fits : (k a : ℕ) (arguments : Arguments) (rule : Transition) → k < 2 ^ 64 → rule_fits view.sizes rule ≡ true →
+  begun-fits : (k : NumberedWord) (a : ℕ) (arguments : Arguments) (rule : Transition) → Spells k → rule_fits view.sizes rule ≡ true →
       run_stands view.site a arguments ≡ true → stmts_fit 404 (begun_code view k a arguments rule) ≡ true
   begun-fits k a arguments rule small h stand =
       let name : Text = name_in (slice_get view.site.earlier a) in
@@ -362,17 +366,25 @@ module _ (view : ActivityView) (few : length view.site.vars ≤ 2 ^ 64)
       (behind (run_code view k a arguments) rule h
       (stmts_fit-more 403 404 (run_code view k a arguments) (omega arith) (call-is a arguments stand k small)))
 
-  resumed-fits : (k a : ℕ) (arguments : Arguments) (rule : Transition) → k < 2 ^ 64 → rule_fits view.sizes rule ≡ true →
+  resumed-fits : (k : NumberedWord) (a : ℕ) (arguments : Arguments) (rule : Transition) → Spells k → rule_fits view.sizes rule ≡ true →
       run_stands view.site a arguments ≡ true → stmts_fit 404 (resumed_code view k a arguments rule) ≡ true
   resumed-fits k a arguments rule small h stand =
       let code : List CStmt = target_code view k arguments.target ++ changes_code view rule.on_true in
-      all_append (stmt_fits 404) (run_code view k a arguments) (c_if (c_read (ended_place k)) code None ∷ [])
+      let ends : Bool = may_end_in (slice_get view.site.earlier a) in
+      all_append (stmt_fits 404) (run_code view k a arguments) (stmt_where ends (c_if (c_read ended_place) code None))
       (stmts_fit-more 403 404 (run_code view k a arguments) (omega arith) (call-is a arguments stand k small))
-      (one-fits 404 (c_if (c_read (ended_place k)) code None)
-      (if-fits 403 404 nowhere (c_read (ended_place k)) code (omega arith)
-      (read-fits 403 nowhere (ended_place k) (ended-fits 403 k (omega arith) small))
+      (where-fits 404 ends (c_if (c_read ended_place) code None)
+      (if-fits 403 404 nowhere (c_read ended_place) code (omega arith)
+      (read-fits 403 nowhere ended_place (ended-fits 403 (omega arith)))
       (all_append (stmt_fits 403) (target_code view k arguments.target) (changes_code view rule.on_true) (target-is a arguments stand k small)
       (stmts_fit-more 3 403 (changes_code view rule.on_true) (omega arith) (on_true-fits rule h)))))
+
+  -- the number and word in the C names of a `run`
+  spells : (at : Place) (a : ℕ) (arguments : Arguments) → run_stands view.site a arguments ≡ true → Spells (word_at view at a)
+  spells at a arguments stand = record {
+    small = places at;
+    word = name_bytes (name_in (slice_get view.site.earlier a)) (name_known (slice_get view.site.earlier a) a refl (known a arguments stand));
+  }
 
   own-is : (a : ℕ) (n : Node) → node_fits view.site a n ≡ true → stmts_fit 404 (own_code view n) ≡ true
   own-is a (ActAt l s) fit = acted_by s (out-StmtKind (out-Stmt s).what) refl fit
@@ -395,9 +407,9 @@ module _ (view : ActivityView) (few : length view.site.vars ≤ 2 ^ 64)
   control-is a rule (TestAt l at e) h fit = tested-fits e rule h (test-fits e fit)
   control-is a rule (CheckAt l at e) h fit = tested-fits e rule h (test-fits e fit)
   control-is a rule (EnterAt l at arguments) h fit =
-      begun-fits (view.run at) a arguments rule (places at) h fit
+      begun-fits (word_at view at a) a arguments rule (spells at a arguments fit) h fit
   control-is a rule (ResumeAt l at arguments) h fit =
-      resumed-fits (view.run at) a arguments rule (places at) h fit
+      resumed-fits (word_at view at a) a arguments rule (spells at a arguments fit) h fit
   control-is a rule (PauseAt l at) h fit = only rule h
   control-is a rule (HeadAt l at) h fit = only rule h
   control-is a rule (StartAt l at) h fit = only rule h

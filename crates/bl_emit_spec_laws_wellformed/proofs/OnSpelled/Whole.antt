@@ -46,7 +46,7 @@ use Rattle.bl_emit_acts.specs.Trees.{c_place, c_read, c_two, nowhere}
 use Rattle.bl_emit_acts.specs.Types.{c_scalar, copy_name, unit_name}
 use Rattle.bl_emit_acts_laws_wellformed.specs.Spelled.{ExpressionsFit, PlacesFit}
 use Rattle.bl_emit_acts_laws_wellformed.proofs.OnFormed.Units.{vars_named}
-use Rattle.bl_emit_acts_laws_wellformed.proofs.OnSpelled.Names.{copy-name, memory-name, numbered-name}
+use Rattle.bl_emit_acts_laws_wellformed.proofs.OnSpelled.Names.{name_bytes, copy-name, memory-name, numbered-name}
 use Rattle.bl_emit_functions.specs.Functions.{members_of, memory_name, params_from, struct_of}
 use Rattle.bl_emit_functions_laws_wellformed.specs.Spelled.{ActsFit, MembersSpelled}
 use Rattle.bl_emit_functions_laws_wellformed.proofs.OnSpelled.Acts.{one-fits, own-fits, room}
@@ -101,12 +101,15 @@ use Rattle.bl_emit_spec.specs.Activities.{
   scalar_local,
   struct_member,
   turns_in_source,
+  word_of_run,
+  ended_local,
 }
 use Rattle.bl_emit_spec.specs.Blocks.{NodeCode, counter_value, merged_code, name_in}
-use Rattle.bl_emit_spec.specs.Names.{callee_name, counter_name, counter_place, ended_name, flag_name, flag_place, frame_name, given_name}
+use Rattle.bl_emit_spec.specs.Names.{NumberedWord, callee_name, counter_name, counter_place, ended_name, flag_name, flag_place, frame_name, given_name}
 use Rattle.bl_emit_spec.specs.Names.{mark_name, rested_name, rested_place}
 use Rattle.bl_emit_spec_laws_wellformed.specs.Spelled.{ActivitiesFit, FramesSpelled, RememberedSpelled, all_fit, node_fits, rule_fits}
-use Rattle.bl_emit_spec_laws_wellformed.proofs.OnSpelled.Guards.{counter-fits, end-letter, flag-fits, frame-letter, nothing-fits, rested-fits, result-letter}
+use Rattle.bl_emit_spec_laws_wellformed.proofs.OnSpelled.Guards.{Spells, spelled-name, counter-fits, end-letter}
+use Rattle.bl_emit_spec_laws_wellformed.proofs.OnSpelled.Guards.{flag-fits, frame-letter, ended-word, nothing-fits, rested-fits, result-letter}
 use Rattle.bl_emit_spec_laws_wellformed.proofs.OnSpelled.Guards.{type-spelled}
 use Rattle.bl_emit_spec_laws_wellformed.proofs.OnSpelled.Nodes.{callee-named, frame-named, merged-fits, run-callee, turn_fits, turns-fit}
 
@@ -285,6 +288,14 @@ module _ (units : List UnitDef) (entry k : ℕ) (a : Activity) (keeps : IsWellTy
   unfolding run_ok
   run_named run h = and_right (nat_lt run.number (2 ^ 64)) (words.is_name (name_in (slice_get a.earlier run.unit))) h
 
+  -- the number and word in the C names of a `run`
+  abbrev word : RunAt → NumberedWord
+  word run = word_of_run a.earlier run
+
+  run_spells : (run : RunAt) → run_ok run ≡ true → Spells (word run)
+  run_spells run ok =
+      record { small = run_low run ok; word = name_bytes (name_in (slice_get a.earlier run.unit)) (run_named run ok) }
+
   -- ---- structs
 
   struct_type : (name : Text) → is_name name ≡ true → spells_type (OfStruct name) ≡ true
@@ -312,7 +323,7 @@ module _ (units : List UnitDef) (entry k : ℕ) (a : Activity) (keeps : IsWellTy
       by (run ∷ runs) all =
           let own = and_left (run_ok run) (list_all run_ok runs) all in
           both (spells_member (frame_member a run)) (list_all spells_member (map (frame_member a) runs))
-          (member_is (callee_name run.number) (frame_name (name_in (slice_get a.earlier run.unit))) (callee-named run.number (run_low run own))
+          (member_is (callee_name (word run)) (frame_name (name_in (slice_get a.earlier run.unit))) (callee-named (word run) (run_spells run own))
           (frame-named (name_in (slice_get a.earlier run.unit)) (run_named run own)))
           (by runs (and_right (run_ok run) (list_all run_ok runs) all))
 
@@ -325,10 +336,10 @@ module _ (units : List UnitDef) (entry k : ℕ) (a : Activity) (keeps : IsWellTy
   memory_is run ok = by ((activity_view a).remembers run.unit)
     where
       by : (b : Bool) → list_all spells_member
-          (if b then struct_member (callee_name run.number) (memory_name (name_in (slice_get a.earlier run.unit))) ∷ [] else []) ≡ true
+          (if b then struct_member (callee_name (word run)) (memory_name (name_in (slice_get a.earlier run.unit))) ∷ [] else []) ≡ true
       by true =
-          both (spells_member (struct_member (callee_name run.number) (memory_name (name_in (slice_get a.earlier run.unit))))) true
-          (member_is (callee_name run.number) (memory_name (name_in (slice_get a.earlier run.unit))) (callee-named run.number (run_low run ok))
+          both (spells_member (struct_member (callee_name (word run)) (memory_name (name_in (slice_get a.earlier run.unit))))) true
+          (member_is (callee_name (word run)) (memory_name (name_in (slice_get a.earlier run.unit))) (callee-named (word run) (run_spells run ok))
           (memory-named (name_in (slice_get a.earlier run.unit)) (run_named run ok))) refl
       by false = refl
 
@@ -398,20 +409,22 @@ module _ (units : List UnitDef) (entry k : ℕ) (a : Activity) (keeps : IsWellTy
   mark_is Finishes = refl
 
   run_locals_are : (run : RunAt) → run_ok run ≡ true → list_all spells_local (run_locals a run) ≡ true
-  run_locals_are run ok =
-      both (spells_local (scalar_local OfBool (ended_name run.number))) _
-      (local_is OfBool (ended_name run.number) refl (numbered-name 101 run.number refl refl (run_low run ok)))
-      (by (option_and_then (λ (unit : UnitDef). unit.result) (slice_get a.earlier run.unit)))
+  run_locals_are run ok = by (option_and_then (λ (unit : UnitDef). unit.result) (slice_get a.earlier run.unit))
     where
-      by : (o : Option ScalarType) → list_all spells_local (given_local run.number o) ≡ true
+      by : (o : Option ScalarType) → list_all spells_local (given_local (word run) o) ≡ true
       by None = refl
       by (Some s) =
-          both (spells_local (scalar_local (c_scalar s) (given_name run.number))) true
-          (local_is (c_scalar s) (given_name run.number) (scalar_spelled s) (numbered-name 114 run.number refl refl (run_low run ok))) refl
+          both (spells_local (scalar_local (c_scalar s) (given_name (word run)))) true
+          (local_is (c_scalar s) (given_name (word run)) (scalar_spelled s) (spelled-name 114 (word run) refl refl (run_spells run ok))) refl
+
+  ended_is : (runs : List RunAt) → list_all spells_local (ended_local runs) ≡ true
+  ended_is [] = refl
+  ended_is (run ∷ runs) = both (spells_local (scalar_local OfBool ended_name)) true (local_is OfBool ended_name refl ended-word) refl
 
   locals_are : list_all spells_local (activity_locals a) ≡ true
   locals_are =
-      let of_runs : List CLocal = joined (map (run_locals a) (runs_in_body a)) in
+      let of_results : List CLocal = joined (map (run_locals a) (runs_in_body a)) in
+      let of_runs : List CLocal = ended_local (runs_in_body a) ++ of_results in
       let of_copies : List CLocal = map (copy_local a) (copied_in a) in
       let of_marks : List CLocal = joined (map (mark_locals number) (rules_at a)) in
       let of_flags : List CLocal = joined (map (flag_local number) (first_rules a)) in
@@ -426,7 +439,8 @@ module _ (units : List UnitDef) (entry k : ℕ) (a : Activity) (keeps : IsWellTy
       (all_mapped spells_local (copy_local a) (copied_in a)
       (all_filtered (λ j. spells_local (copy_local a j)) _ (up_to (length a.unit.vars))
       (all_below (λ j. spells_local (copy_local a j)) (length a.unit.vars) copy_is)))
-      (joined_where spells_local (run_locals a) run_ok run_locals_are (runs_in_body a) runs_ok))))
+      (all_append spells_local (ended_local (runs_in_body a)) of_results (ended_is (runs_in_body a))
+      (joined_where spells_local (run_locals a) run_ok run_locals_are (runs_in_body a) runs_ok)))))
     where
       rested_is : (j : ℕ) → j < length a.sizes → spells_local (rested_local a.sizes j) ≡ true
       rested_is j less =

@@ -34,6 +34,7 @@ use Rattle.bl_emit_functions_laws_wellformed.proofs.OnSpelled.Functions.{memory-
 use Rattle.bl_emit_functions_laws_wellformed.proofs.OnSpelled.Shapes.{clear-fits}
 use Rattle.bl_emit_functions_laws_wellformed.proofs.OnSpelled.Types.{all_append, source_name}
 use Rattle.bl_emit_spec.specs.Activities.{struct_member}
+use Rattle.bl_emit_spec.specs.Blocks.{unit_may_end, stmt_where}
 use Rattle.bl_emit_spec.specs.Names.{frame_name}
 use Rattle.bl_emit_spec.specs.Programs.{
   c_returned,
@@ -47,7 +48,7 @@ use Rattle.bl_emit_spec.specs.Programs.{
   tick_args,
   tick_function,
 }
-use Rattle.bl_emit_spec_laws_wellformed.proofs.OnSpelled.Guards.{end-letter, frame-letter}
+use Rattle.bl_emit_spec_laws_wellformed.proofs.OnSpelled.Guards.{end-letter, frame-letter, where-fits}
 use Rattle.bl_emit_spec_laws_wellformed.proofs.OnSpelled.Nodes.{frame-named}
 
 -- ---- names
@@ -222,9 +223,10 @@ module _ (structs : List StructDef) (typed : (var : Var) → type_stands (length
         both (stmt_fits 1999 (c_calling (c_call (unit_name unit.name) (tick_args unit remembers)))) _
         (call_stmt-fits 1999 nowhere (c_call (unit_name unit.name) (tick_args unit remembers))
         (call-fits 2 1999 (unit_name unit.name) (tick_args unit remembers) (omega arith) (call-name named) tick-args))
-        (both (stmt_fits 1999 (c_if (c_read (c_place false (codes "e") [])) (c_returned 1 ∷ []) None)) _
+        (all_append (stmt_fits 1999) (stmt_where (unit_may_end unit) (c_if (c_read (c_place false (codes "e") [])) (c_returned 1 ∷ []) None)) (c_returned 0 ∷ [])
+        (where-fits 1999 (unit_may_end unit) (c_if (c_read (c_place false (codes "e") [])) (c_returned 1 ∷ []) None)
         (if-fits 2 1999 nowhere (c_read (c_place false (codes "e") [])) (c_returned 1 ∷ []) (omega arith)
-        (read-fits 2 nowhere (c_place false (codes "e") []) end-place) (one-fits 2 (c_returned 1) (returned-fits 2 1 (omega arith) refl)))
+        (read-fits 2 nowhere (c_place false (codes "e") []) end-place) (one-fits 2 (c_returned 1) (returned-fits 2 1 (omega arith) refl))))
         (one-fits 1999 (c_returned 0) (returned-fits 1999 0 (omega arith) refl)))
 
     pub tick-fits : func_fits 2000 (tick_function unit remembers) ≡ true

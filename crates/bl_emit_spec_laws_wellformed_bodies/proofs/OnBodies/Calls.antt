@@ -47,9 +47,9 @@ use Rattle.bl_emit_acts_laws_wellformed.proofs.OnFormed.Parts.{c_scalar_type}
 use Rattle.bl_emit_acts_laws_wellformed.proofs.OnFormed.Prelude.{type_same, unit_named}
 use Rattle.bl_emit_acts_laws_wellformed.proofs.OnFormed.Typed.{PathIs, inputs_suit, made_typed, place_typed}
 use Rattle.bl_graph_nodes.specs.Nodes.{Arguments}
-use Rattle.bl_emit_spec.specs.Activities.{Activity, RunAt, activity_view, runs_in_body}
+use Rattle.bl_emit_spec.specs.Activities.{word_of_run, Activity, RunAt, activity_view, runs_in_body}
 use Rattle.bl_emit_spec.specs.Blocks.{arg_where, has_result, name_in, run_args, run_code, target_code}
-use Rattle.bl_emit_spec.specs.Names.{callee_frame, callee_memory, ended_place, frame_name, given_place}
+use Rattle.bl_emit_spec.specs.Names.{NumberedWord, callee_frame, callee_memory, ended_place, frame_name, given_place}
 use Rattle.bl_emit_spec_laws_wellformed_bodies.specs.Bodies.{memory_given, result_given, signature_of_activity}
 use Rattle.bl_emit_spec_laws_wellformed_bodies.proofs.OnBodies.Guards.{put-is}
 use Rattle.bl_emit_spec_laws_wellformed_bodies.proofs.OnBodies.Variables.{Here, context, copied, declared_here, earlier_here, ended-is, frame_at-is, given-is}
@@ -204,9 +204,12 @@ module _ (units : List UnitDef) (entry k : ℕ) (a : Activity) (table : Table (T
       (suit-append here (params_for (inputs_of callee)) (params_for (outputs_of callee)) (map arg_of (map (made_of my_site) inputs))
       (map (output_arg my_site) outputs) one other)
 
-  module _ (at : Place) (n u : ℕ) (has : Contains (runs_in_body a) (record { place = at; number = n; unit = u })) (arguments : Arguments) where
+  module _ (at : Place) (number u : ℕ) (has : Contains (runs_in_body a) (record { place = at; number = number; unit = u })) (arguments : Arguments) where
     abbrev run : RunAt
-    run = record { place = at; number = n; unit = u }
+    run = record { place = at; number = number; unit = u }
+
+    abbrev n : NumberedWord
+    n = word_of_run a.earlier run
 
     memory-suits : (callee : UnitDef) → slice_get a.earlier u ≡ Some callee → (b : Bool) → (activity_view a).remembers u ≡ b →
         Suit here (memory_given callee b) (arg_where b (Address (callee_memory n)))
@@ -228,7 +231,7 @@ module _ (units : List UnitDef) (entry k : ℕ) (a : Activity) (table : Table (T
         Address (callee_frame n)
         ∷ (arg_where ((activity_view a).remembers u) (Address (callee_memory n))
         ++ (call_args my_site arguments.inputs arguments.outputs
-        ++ (arg_where (has_result o) (Address (given_place n)) ++ Address (ended_place n) ∷ [])))
+        ++ (arg_where (has_result o) (Address (given_place n)) ++ Address ended_place ∷ [])))
 
     call-by : (o : Option UnitDef) → slice_get a.earlier u ≡ o → run_fits my_site arguments.target arguments.inputs arguments.outputs o ≡ true →
         all_of (map (copied_in mine) arguments.inputs) ≡ true → StmtIs here (c_calling (c_call (name_of_callee o) (args_of o)))
@@ -240,7 +243,7 @@ module _ (units : List UnitDef) (entry k : ℕ) (a : Activity) (table : Table (T
         and_right (target_fits my_site callee.result arguments.target) _ (and_right (is_activity my_site.kind && is_activity callee.kind) _ fits) in
         let remembers : Bool = (activity_view a).remembers u in
         let behind : List Variable = result_given callee.result ++ variable_of true bool_type ∷ [] in
-        let last : List CArg = arg_where (is_some callee.result) (Address (given_place n)) ++ Address (ended_place n) ∷ [] in
+        let last : List CArg = arg_where (is_some callee.result) (Address (given_place n)) ++ Address ended_place ∷ [] in
         let suits : Suit here (signature_of_activity a.structs callee remembers).params (args_of (Some callee)) =
         suit-append here (variable_of true (OfStruct (frame_name callee.name)) ∷ [])
         (memory_given callee remembers ++ (params_for (parameters_of callee) ++ behind)) (Address (callee_frame n) ∷ [])
@@ -252,8 +255,8 @@ module _ (units : List UnitDef) (entry k : ℕ) (a : Activity) (table : Table (T
         (suit-append here (params_for (parameters_of callee)) behind (call_args my_site arguments.inputs arguments.outputs) last
         (arguments-suit u callee arguments.inputs arguments.outputs there shape named)
         (suit-append here (result_given callee.result) (variable_of true bool_type ∷ []) (arg_where (is_some callee.result) (Address (given_place n)))
-        (Address (ended_place n) ∷ []) (result-suits callee there callee.result refl)
-        (suit-address here false bool_type (ended_place n) (ended-is units entry k a table known h run has))))) in
+        (Address ended_place ∷ []) (result-suits callee there callee.result refl)
+        (suit-address here false bool_type ended_place (ended-is units entry k a table known h run has))))) in
         let signed : signature_of here (unit_name callee.name) ≡ Some (signature_of_activity a.structs callee remembers) =
         ap (λ o. signature_as o (here.functions (unit_name callee.name))) (unit_named callee.name) ∙ h.stands.called u callee there active in
         calling-is here (unit_name callee.name) (args_of (Some callee)) (signature_of_activity a.structs callee remembers) signed suits.0 suits.1 refl
@@ -263,8 +266,8 @@ module _ (units : List UnitDef) (entry k : ℕ) (a : Activity) (table : Table (T
         all_of (map (copied_in mine) arguments.inputs) ≡ true → BlockIs here (run_code (activity_view a) n u arguments)
     call-is fits named =
         let call = c_calling (c_call (name_of_callee (slice_get a.earlier u)) (run_args (activity_view a) n u arguments)) in
-        block_cons here (c_set (ended_place n) (c_truth false)) (call ∷ [])
-        (put-is units entry k a table known h false bool_type (ended_place n) (c_truth false) (ended-is units entry k a table known h run has)
+        block_cons here (c_set ended_place (c_truth false)) (call ∷ [])
+        (put-is units entry k a table known h false bool_type ended_place (c_truth false) (ended-is units entry k a table known h run has)
         (literal-is here _ _))
         (block_one here call (call-by (slice_get a.earlier u) refl fits named))
 

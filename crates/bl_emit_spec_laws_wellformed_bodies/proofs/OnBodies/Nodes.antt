@@ -44,7 +44,8 @@ use Rattle.bl_emit_acts_laws_wellformed.proofs.OnFormed.Judged.{read-is}
 use Rattle.bl_emit_acts_laws_wellformed.proofs.OnFormed.Parts.{c_scalar_type}
 use Rattle.bl_emit_acts_laws_wellformed.proofs.OnFormed.SiteActs.{code_typed}
 use Rattle.bl_emit_functions_laws_wellformed.proofs.OnFormed.Shapes.{OtherIn, if-is}
-use Rattle.bl_emit_spec.specs.Activities.{Activity, RunAt, activity_view, blocks_code, body_of, callees_in, copies_of, first_positions, picked, rules_at}
+use Rattle.bl_emit_spec.specs.Activities.{word_of_run, Activity, RunAt, activity_view, blocks_code}
+use Rattle.bl_emit_spec.specs.Activities.{body_of, callees_in, copies_of, first_positions, picked, rules_at}
 use Rattle.bl_emit_spec.specs.Activities.{runs_in_body, turns_in_source}
 use Rattle.bl_emit_spec.specs.Blocks.{
   ActivityView,
@@ -52,22 +53,25 @@ use Rattle.bl_emit_spec.specs.Blocks.{
   acted,
   begun_code,
   changes_code,
+  choice_code,
   control_code,
   fused_code,
   layer_acted,
+  may_end_in,
   merged_code,
   name_in,
+  node_turn,
   own_code,
   resumed_code,
   run_code,
-  target_code,
-  choice_code,
+  run_word,
   spelled_truth,
+  stmt_where,
+  target_code,
   test_code,
-  node_turn,
   turns_of,
 }
-use Rattle.bl_emit_spec.specs.Names.{callee_frame, ended_place, frame_name, result_place}
+use Rattle.bl_emit_spec.specs.Names.{NumberedWord, callee_frame, ended_place, frame_name, result_place}
 use Rattle.bl_emit_spec_laws.specs.Calls.Built.{last_of, last_rules, last_positions}
 use Rattle.bl_emit_spec_laws.proofs.OnOwn.Members.{contains_at, further, here as first_here}
 use Rattle.bl_emit_spec_laws.proofs.OnPlaced.Lists.{picked_first, there_at}
@@ -276,34 +280,41 @@ module _ (units : List UnitDef) (entry k : ℕ) (a : Activity) (table : Table (T
         by (Some true) = on_true-is
         by (Some false) = other
 
-    begun-is : (at : Place) (n u : ℕ) (arguments : Arguments) → Contains (runs_in_body a) (record { place = at; number = n; unit = u }) →
+    where-is : (test : Bool) (s : CStmt) → StmtIs here s → BlockIs here (stmt_where test s)
+    where-is true s is = block_one here s is
+    where-is false s is = block_nil here
+
+    begun-is : (at : Place) (number u : ℕ) (arguments : Arguments) → Contains (runs_in_body a) (record { place = at; number = number; unit = u }) →
         run_stands view.site u arguments ≡ true → all_of (map (copied_in mine) arguments.inputs) ≡ true →
-        BlockIs here (begun_code view n u arguments rule)
-    begun-is at n u arguments runs stand named =
-        let run : RunAt = record { place = at; number = n; unit = u } in
+        BlockIs here (begun_code view (run_word a.earlier number u) u arguments rule)
+    begun-is at number u arguments runs stand named =
+        let run : RunAt = record { place = at; number = number; unit = u } in
+        let n : NumberedWord = word_of_run a.earlier run in
         let code : List CStmt = run_code view n u arguments in
         block_cons here (c_clear (callee_frame n) (frame_name (name_in (slice_get a.earlier u)))) (code ++ changes_code view rule.on_true)
         (clear-is here true (callee_frame n) (frame_name (name_in (slice_get a.earlier u))) (frame_at-is units entry k a table known h run runs)
         (h.stands.frames run runs) refl)
         (block_append here code (changes_code view rule.on_true)
-        (call-is units entry k a table known h at n u runs arguments
+        (call-is units entry k a table known h at number u runs arguments
         (and_left (run_fits view.site arguments.target arguments.inputs arguments.outputs (slice_get a.earlier u)) _ stand) named) on_true-is)
 
-    resumed-is : (at : Place) (n u : ℕ) (arguments : Arguments) → Contains (runs_in_body a) (record { place = at; number = n; unit = u }) →
+    resumed-is : (at : Place) (number u : ℕ) (arguments : Arguments) → Contains (runs_in_body a) (record { place = at; number = number; unit = u }) →
         run_stands view.site u arguments ≡ true → all_of (map (copied_in mine) arguments.inputs) ≡ true →
-        BlockIs here (resumed_code view n u arguments rule)
-    resumed-is at n u arguments runs stand named =
-        let run : RunAt = record { place = at; number = n; unit = u } in
+        BlockIs here (resumed_code view (run_word a.earlier number u) u arguments rule)
+    resumed-is at number u arguments runs stand named =
+        let run : RunAt = record { place = at; number = number; unit = u } in
+        let n : NumberedWord = word_of_run a.earlier run in
         let fitted : run_fits view.site arguments.target arguments.inputs arguments.outputs (slice_get a.earlier u) ≡ true =
         and_left (run_fits view.site arguments.target arguments.inputs arguments.outputs (slice_get a.earlier u)) _ stand in
         let code : List CStmt = target_code view n arguments.target ++ changes_code view rule.on_true in
-        block_append here (run_code view n u arguments) (c_if (c_read (ended_place n)) code None ∷ [])
-        (call-is units entry k a table known h at n u runs arguments fitted named)
-        (block_one here (c_if (c_read (ended_place n)) code None)
-        (if-is here (c_read (ended_place n)) code None
-        (read-is here false bool_type (ended_place n) (ended-is units entry k a table known h run runs))
+        let ends : Bool = may_end_in (slice_get a.earlier u) in
+        block_append here (run_code view n u arguments) (stmt_where ends (c_if (c_read ended_place) code None))
+        (call-is units entry k a table known h at number u runs arguments fitted named)
+        (where-is ends (c_if (c_read ended_place) code None)
+        (if-is here (c_read ended_place) code None
+        (read-is here false bool_type ended_place (ended-is units entry k a table known h run runs))
         (block_append here (target_code view n arguments.target) (changes_code view rule.on_true)
-        (target-is units entry k a table known h at n u runs arguments fitted) on_true-is) (λ looped. refl)))
+        (target-is units entry k a table known h at number u runs arguments fitted) on_true-is) (λ looped. refl)))
 
     control-is : (u : ℕ) (n : Node) → node_fits view.site u n ≡ true → named_there mine n ≡ true → HasRun view.run (runs_in_body a) u n →
         BlockIs here (control_code view u rule n)

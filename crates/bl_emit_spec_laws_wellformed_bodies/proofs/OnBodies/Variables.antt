@@ -52,13 +52,14 @@ use Rattle.bl_emit_acts_laws_wellformed.proofs.OnFormed.Parts.{c_scalar_type, in
 use Rattle.bl_emit_acts_laws_wellformed.proofs.OnFormed.SiteActs.{EarlierStand}
 use Rattle.bl_emit_acts_laws_wellformed.proofs.OnFormed.Typed.{pointer_place, variable_place}
 use Rattle.bl_emit_acts_laws_wellformed.proofs.OnFormed.Units.{roles_at, taken_there, vars_stand}
-use Rattle.bl_emit_spec.specs.Activities.{Activity, RunAt, activity_function, activity_locals, activity_params, copied_in, copies_of, copy_local}
+use Rattle.bl_emit_spec.specs.Activities.{word_of_run, Activity, RunAt, activity_function, activity_locals, activity_params, copied_in, copies_of, copy_local}
 use Rattle.bl_emit_spec.specs.Activities.{counter_member, counters_read, first_rules, flag_local, frame_member, frame_struct, given_local, is_flagged}
-use Rattle.bl_emit_spec.specs.Activities.{mark_local}
+use Rattle.bl_emit_spec.specs.Activities.{ended_local, mark_local}
 use Rattle.bl_emit_spec.specs.Activities.{mark_locals, memory_member, memory_params, over_param, pointer_param, remembered, remembers_any}
 use Rattle.bl_emit_spec.specs.Activities.{activity_view, rested_local, result_params, rules_at, run_locals, runs_in_body, scalar_local, struct_member}
 use Rattle.bl_emit_spec.specs.Blocks.{counter_type, name_in}
-use Rattle.bl_emit_spec.specs.Names.{callee_frame, callee_memory, callee_name, counter_name, counter_place, ended_name, ended_place, flag_name, flag_place}
+use Rattle.bl_emit_spec.specs.Names.{NumberedWord, callee_frame, callee_memory, callee_name, counter_name}
+use Rattle.bl_emit_spec.specs.Names.{counter_place, ended_name, ended_place, flag_name, flag_place}
 use Rattle.bl_emit_spec.specs.Names.{frame_name, given_name, given_place, mark_name, mark_place, over_place, rested_name, rested_place, result_place}
 use Rattle.bl_emit_spec_laws.specs.Calls.Built.{asks_flag, registered, sets_mark}
 use Rattle.bl_emit_spec_laws_wellformed.specs.Names.{FrameDiffers, LocalsDiffer, MemoryDiffers, NumbersDiffer}
@@ -66,6 +67,7 @@ use Rattle.bl_emit_spec_laws.proofs.OnOwn.Members.{any_found, contains_mapped, h
 use Rattle.bl_emit_spec_laws_wellformed.specs.Spelled.{all_fit}
 use Rattle.bl_emit_spec.specs.Activities.{body_of, callees_in}
 use Rattle.bl_emit_spec_laws_wellformed_bodies.specs.Bodies.{ActivityStands, CopiesSuffice, OwnsRules}
+use Rattle.bl_emit_spec_laws_wellformed_bodies.proofs.OnStructs.Lists.{none_has}
 use Rattle.bl_emit_spec_laws_wellformed_bodies.proofs.OnBodies.Lists.{filter-has, found-one, joined-has, names_of_entries, up-has}
 
 -- what is known where the C function of an activity stands
@@ -296,8 +298,11 @@ module _ (units : List UnitDef) (entry k : ℕ) (a : Activity) (table : Table (T
   abbrev of_copies : List CLocal
   of_copies = map (copy_local a) (copied_in a)
 
+  abbrev of_results : List CLocal
+  of_results = joined (map (run_locals a) (runs_in_body a))
+
   abbrev of_runs : List CLocal
-  of_runs = joined (map (run_locals a) (runs_in_body a))
+  of_runs = ended_local (runs_in_body a) ++ of_results
 
   abbrev of_rested : List CLocal
   of_rested = map (rested_local a.sizes) (counters_read a)
@@ -373,45 +378,58 @@ module _ (units : List UnitDef) (entry k : ℕ) (a : Activity) (table : Table (T
 
   -- ---- `run`s
 
-  run_local : (run : RunAt) (l : CLocal) → Contains (runs_in_body a) run → Contains (run_locals a run) l → Contains (activity_locals a) l
-  run_local run l has has_local =
+  abbrev word : RunAt → NumberedWord
+  word run = word_of_run a.earlier run
+
+  run_local : (l : CLocal) → Contains of_runs l → Contains (activity_locals a) l
+  run_local l has =
       Contains-append_right of_rested (of_flags ++ (of_marks ++ (of_copies ++ of_runs))) l
       (Contains-append_right of_flags (of_marks ++ (of_copies ++ of_runs)) l
       (Contains-append_right of_marks (of_copies ++ of_runs) l
-      (Contains-append_right of_copies of_runs l (joined-has (run_locals a) (runs_in_body a) run l has has_local))))
+      (Contains-append_right of_copies of_runs l has)))
 
-  pub ended-is : (run : RunAt) → Contains (runs_in_body a) run → PlaceIs context false bool_type (ended_place run.number)
-  ended-is run has = local-place OfBool (ended_name run.number) (run_local run (scalar_local OfBool (ended_name run.number)) has (here _ _))
+  pub ended-is : (run : RunAt) → Contains (runs_in_body a) run → PlaceIs context false bool_type ended_place
+  ended-is run has =
+      let l : CLocal = scalar_local OfBool ended_name in
+      local-place OfBool ended_name (run_local l (Contains-append_left (ended_local (runs_in_body a)) of_results l (by (runs_in_body a) has)))
+    where
+      by : (runs : List RunAt) → Contains runs run → Contains (ended_local runs) (scalar_local OfBool ended_name)
+      by [] none = absurd (none_has run none)
+      by (first ∷ rest) some = here (scalar_local OfBool ended_name) []
 
   pub given-is : (run : RunAt) (callee : UnitDef) (s : ScalarType) → Contains (runs_in_body a) run → slice_get a.earlier run.unit ≡ Some callee →
-      callee.result ≡ Some s → PlaceIs context false (OfScalar (c_scalar s)) (given_place run.number)
+      callee.result ≡ Some s → PlaceIs context false (OfScalar (c_scalar s)) (given_place (word run))
   given-is run callee s has there result =
-      local-place (c_scalar s) (given_name run.number)
-      (run_local run (scalar_local (c_scalar s) (given_name run.number)) has
-      (further (scalar_local OfBool (ended_name run.number)) (given_local run.number _) (scalar_local (c_scalar s) (given_name run.number))
-      (subst (λ o. Contains (given_local run.number o) (scalar_local (c_scalar s) (given_name run.number)))
-      (sym (ap (option_and_then (λ (unit : UnitDef). unit.result)) there ∙ result)) (here _ []))))
+      local-place (c_scalar s) (given_name (word_of_run a.earlier run))
+      (run_local l
+      (Contains-append_right (ended_local (runs_in_body a)) of_results l
+      (joined-has (run_locals a) (runs_in_body a) run l has
+      (subst (λ o. Contains (given_local (word_of_run a.earlier run) o) l)
+      (sym (ap (option_and_then (λ (unit : UnitDef). unit.result)) there ∙ result)) (here _ [])))))
+    where
+      l : CLocal
+      l = scalar_local (c_scalar s) (given_name (word_of_run a.earlier run))
 
   pub frame_at-is : (run : RunAt) → Contains (runs_in_body a) run →
-      PlaceIs context true (OfStruct (frame_name (name_in (slice_get a.earlier run.unit)))) (callee_frame run.number)
+      PlaceIs context true (OfStruct (frame_name (name_in (slice_get a.earlier run.unit)))) (callee_frame (word run))
   frame_at-is run has =
-      frame_place (callee_name run.number) (OfStruct (frame_name (name_in (slice_get a.earlier run.unit))))
+      frame_place (callee_name (word run)) (OfStruct (frame_name (name_in (slice_get a.earlier run.unit))))
       (Contains-append_right (map (counter_member a.sizes) (up_to (length a.sizes))) (map (frame_member a) (runs_in_body a)) (frame_member a run)
       (contains_mapped (frame_member a) (runs_in_body a) run has))
 
   pub memory_at-is : (run : RunAt) → Contains (runs_in_body a) run → (activity_view a).remembers run.unit ≡ true →
-      PlaceIs context true (OfStruct (memory_name (name_in (slice_get a.earlier run.unit)))) (callee_memory run.number)
+      PlaceIs context true (OfStruct (memory_name (name_in (slice_get a.earlier run.unit)))) (callee_memory (word run))
   memory_at-is run has on =
-      let m : CMember = struct_member (callee_name run.number) (memory_name (name_in (slice_get a.earlier run.unit))) in
+      let m : CMember = struct_member (callee_name (word run)) (memory_name (name_in (slice_get a.earlier run.unit))) in
       let inside : Contains (remembered a) m =
       Contains-append_right (members_of a.structs a.earlier a.unit) (joined (map (memory_member a) (runs_in_body a))) m
       (joined-has (memory_member a) (runs_in_body a) run m has (by ((activity_view a).remembers run.unit) on)) in
-      member_place context (codes "m") (memory_name a.unit.name) (callee_name run.number) (OfStruct (memory_name (name_in (slice_get a.earlier run.unit))))
+      member_place context (codes "m") (memory_name a.unit.name) (callee_name (word run)) (OfStruct (memory_name (name_in (slice_get a.earlier run.unit))))
       (memory_variable m inside) (memory_member_of m inside)
     where
       by : (b : Bool) → b ≡ true → Contains
-          (if b then struct_member (callee_name run.number) (memory_name (name_in (slice_get a.earlier run.unit))) ∷ [] else [])
-          (struct_member (callee_name run.number) (memory_name (name_in (slice_get a.earlier run.unit))))
+          (if b then struct_member (callee_name (word run)) (memory_name (name_in (slice_get a.earlier run.unit))) ∷ [] else [])
+          (struct_member (callee_name (word run)) (memory_name (name_in (slice_get a.earlier run.unit))))
       by true is = here _ []
       by false is = absurd (cc)
 

@@ -10,7 +10,7 @@ use Rattle.bl_tree.specs.Reduce.{greatest, joined, total}
 use Rattle.bl_ctext_semantics.specs.Sizes.{Sizes, size_of_member}
 use Rattle.bl_ctext_semantics.specs.Tables.{entry_or}
 use Rattle.bl_emit_functions.specs.Functions.{memory_name}
-use Rattle.bl_emit_spec.specs.Activities.{Activity, RunAt, activity_view, frame_member, memory_member, struct_member}
+use Rattle.bl_emit_spec.specs.Activities.{word_of_run, Activity, RunAt, activity_view, frame_member, memory_member, struct_member}
 use Rattle.bl_emit_spec.specs.Blocks.{name_in}
 use Rattle.bl_emit_spec.specs.Names.{callee_name, frame_name}
 use Rattle.bl_emit_spec_laws_wellformed_bodies.proofs.OnCells.Locals.{total-append}
@@ -82,7 +82,7 @@ module _ (known : Sizes) (a : Activity) where
 
   abbrev where_remembered : Bool → RunAt → List CMember
   where_remembered b run =
-      if b then struct_member (callee_name run.number) (memory_name (name_in (slice_get a.earlier run.unit))) ∷ [] else []
+      if b then struct_member (callee_name (word_of_run a.earlier run)) (memory_name (name_in (slice_get a.earlier run.unit))) ∷ [] else []
 
   memory-one : (b : Bool) (run : RunAt) → member_cells (where_remembered b run) ≤ memory_at run.unit
   memory-one true run = omega arith

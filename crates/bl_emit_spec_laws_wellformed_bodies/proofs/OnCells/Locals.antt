@@ -40,11 +40,14 @@ use Rattle.bl_emit_spec.specs.Activities.{
   rules_at,
   run_locals,
   runs_in_body,
+  word_of_run,
+  ended_local,
 }
 use Rattle.bl_emit_acts.specs.Acts.{is_copied}
 use Rattle.bl_emit_spec_laws_wellformed.proofs.OnNumbers.Whole.{first-less}
 use Rattle.bl_emit_spec_laws_wellformed.specs.Costs.{extras, marks_in}
 use Rattle.bl_emit_spec_laws_wellformed.specs.Numbers.{EachStandsOnce}
+use Rattle.bl_emit_spec.specs.Names.{NumberedWord}
 
 -- ---- sums
 
@@ -118,17 +121,28 @@ module _ (known : Sizes) where
       let rest = extras-many number listed in
       omega (arith, flags, marks, mark, rest)
 
-  given-one : (k : ℕ) (o : Option ScalarType) → cells (given_local k o) ≤ 1
+  given-one : (k : NumberedWord) (o : Option ScalarType) → cells (given_local k o) ≤ 1
   given-one k (Some s) = omega arith
   given-one k None = omega arith
 
-  runs-few : (a : Activity) (runs : List RunAt) → cells (joined (map (run_locals a) runs)) ≤ 2 * length runs
-  runs-few a [] = omega arith
-  runs-few a (run ∷ runs) =
+  results-few : (a : Activity) (runs : List RunAt) → cells (joined (map (run_locals a) runs)) ≤ length runs
+  results-few a [] = omega arith
+  results-few a (run ∷ runs) =
       let split = cells-append (run_locals a run) (joined (map (run_locals a) runs)) in
-      let given = given-one run.number (option_and_then (λ (unit : UnitDef). unit.result) (slice_get a.earlier run.unit)) in
-      let rest = runs-few a runs in
+      let given = given-one (word_of_run a.earlier run) (option_and_then (λ (unit : UnitDef). unit.result) (slice_get a.earlier run.unit)) in
+      let rest = results-few a runs in
       omega (arith, split, given, rest)
+
+  ended-few : (runs : List RunAt) → cells (ended_local runs) ≤ length runs
+  ended-few [] = omega arith
+  ended-few (run ∷ runs) = omega arith
+
+  runs-few : (a : Activity) (runs : List RunAt) → cells (ended_local runs ++ joined (map (run_locals a) runs)) ≤ 2 * length runs
+  runs-few a runs =
+      let split = cells-append (ended_local runs) (joined (map (run_locals a) runs)) in
+      let ended = ended-few runs in
+      let results = results-few a runs in
+      omega (arith, split, ended, results)
 
   pub locals-few : (a : Activity) → EachStandsOnce a →
       cells (activity_locals a) ≤ length a.sizes + extras (rules_at a) + length a.unit.vars + 2 * length (runs_in_body a)
@@ -138,7 +152,7 @@ module _ (known : Sizes) where
       let flags = joined (map (flag_local number) (first_rules a)) in
       let marks = joined (map (mark_locals number) (rules_at a)) in
       let copies = map (copy_local a) (copied_in a) in
-      let runs = joined (map (run_locals a) (runs_in_body a)) in
+      let runs = ended_local (runs_in_body a) ++ joined (map (run_locals a) (runs_in_body a)) in
       let first = cells-append rested (flags ++ (marks ++ (copies ++ runs))) in
       let second = cells-append flags (marks ++ (copies ++ runs)) in
       let third = cells-append marks (copies ++ runs) in

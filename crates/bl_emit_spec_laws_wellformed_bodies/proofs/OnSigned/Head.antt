@@ -78,8 +78,10 @@ use Rattle.bl_emit_spec.specs.Activities.{
   run_locals,
   runs_in_body,
   scalar_local,
+  word_of_run,
+  ended_local,
 }
-use Rattle.bl_emit_spec.specs.Names.{flag_name, frame_name}
+use Rattle.bl_emit_spec.specs.Names.{NumberedWord, flag_name, frame_name}
 use Rattle.bl_emit_spec_laws_wellformed.specs.Names.{LocalsDiffer, NumbersDiffer}
 use Rattle.bl_emit_spec_laws.proofs.OnOwn.Members.{here}
 use Rattle.bl_emit_spec_laws_wellformed_bodies.specs.Bodies.{ActivityBodiesWellFormed, ActivityStands, memory_given, result_given}
@@ -179,17 +181,22 @@ module _ (table : Table (Table CMember)) where
   mark_fine number (EndsWhen start surface depth) = refl
   mark_fine number Finishes = refl
 
-  given_fine : (n : ℕ) (o : Option ScalarType) → list_all fine (given_local n o) ≡ true
+  given_fine : (n : NumberedWord) (o : Option ScalarType) → list_all fine (given_local n o) ≡ true
   given_fine n (Some s) = refl
   given_fine n None = refl
 
   run_fine : (a : Activity) (run : RunAt) → list_all fine (run_locals a run) ≡ true
-  run_fine a run = given_fine run.number (option_and_then (λ (unit : UnitDef). unit.result) (slice_get a.earlier run.unit))
+  run_fine a run = given_fine (word_of_run a.earlier run) (option_and_then (λ (unit : UnitDef). unit.result) (slice_get a.earlier run.unit))
+
+  ended_fine : (runs : List RunAt) → list_all fine (ended_local runs) ≡ true
+  ended_fine [] = refl
+  ended_fine (run ∷ runs) = refl
 
   locals-fine : (a : Activity) → list_all fine (activity_locals a) ≡ true
   locals-fine a =
       let number : Node → ℕ = (activity_view a).number in
-      let of_runs : List CLocal = joined (map (run_locals a) (runs_in_body a)) in
+      let of_results : List CLocal = joined (map (run_locals a) (runs_in_body a)) in
+      let of_runs : List CLocal = ended_local (runs_in_body a) ++ of_results in
       let of_copies : List CLocal = map (copy_local a) (copied_in a) in
       let of_marks : List CLocal = joined (map (mark_locals number) (rules_at a)) in
       let of_flags : List CLocal = joined (map (flag_local number) (first_rules a)) in
@@ -199,7 +206,8 @@ module _ (table : Table (Table CMember)) where
       (all_append fine of_marks (of_copies ++ of_runs)
       (all_joined fine (mark_locals number) (rules_at a) (λ rule. all_joined fine (mark_local number) rule.on_true (mark_fine number)))
       (all_append fine of_copies of_runs (all_mapped fine (copy_local a) (copied_in a) (λ j. refl))
-      (all_joined fine (run_locals a) (runs_in_body a) (run_fine a)))))
+      (all_append fine (ended_local (runs_in_body a)) of_results (ended_fine (runs_in_body a))
+      (all_joined fine (run_locals a) (runs_in_body a) (run_fine a))))))
 
 -- ---- the function
 

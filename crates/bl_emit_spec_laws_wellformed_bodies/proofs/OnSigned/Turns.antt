@@ -24,7 +24,7 @@ use Rattle.bl_ctext_semantics.specs.Loops.{LoopCounters, turns_in, turns_in_bloc
 use Rattle.bl_emit_acts.specs.Acts.{act_code, c_calling, c_clear, c_copied, c_set, c_zeroed, copy_code, initial_code, is_copied, layer_code, zeroed}
 use Rattle.bl_emit_acts.specs.Expressions.{type_at}
 use Rattle.bl_emit_acts.specs.Places.{place_in}
-use Rattle.bl_emit_acts.specs.Trees.{nowhere}
+use Rattle.bl_emit_acts.specs.Trees.{c_read, nowhere}
 use Rattle.bl_emit_functions.specs.Statements.{else_code}
 use Rattle.bl_emit_functions.specs.Trees.{c_if}
 use Rattle.bl_emit_functions_laws_wellformed.proofs.OnFormed.Turns.{block-turns, one-turns, set-turns}
@@ -49,9 +49,11 @@ use Rattle.bl_emit_spec.specs.Activities.{
   rules_at,
   turns_in_source,
 }
-use Rattle.bl_emit_spec.specs.Blocks.{ActivityView, NodeCode, acted, change_code, changes_code, control_code, flagged_now, forgotten, fused_code}
-use Rattle.bl_emit_spec.specs.Blocks.{choice_code, layer_acted, merged_code, own_code, run_code, spelled_truth, target_code, test_code, turns_of}
+use Rattle.bl_emit_spec.specs.Blocks.{word_at, ActivityView, NodeCode, acted, change_code, changes_code, control_code, flagged_now, forgotten, fused_code}
+use Rattle.bl_emit_spec.specs.Blocks.{choice_code, layer_acted, may_end_in, merged_code, own_code, run_code}
+use Rattle.bl_emit_spec.specs.Blocks.{spelled_truth, stmt_where, target_code, test_code, turns_of}
 use Rattle.bl_emit_spec_laws_wellformed_bodies.specs.Signed.{NoneLoops}
+use Rattle.bl_emit_spec.specs.Names.{NumberedWord, ended_place}
 
 abbrev what : CStmtKind-F CStmtKind CStmt → CStmt
 what layer = roll-CStmt (record { place = nowhere; what = roll-CStmtKind layer })
@@ -199,10 +201,14 @@ module _ (view : ActivityView) where
 
   -- ---- nodes
 
-  run-quiet : (n u : ℕ) (arguments : Arguments) → Quiet (run_code view n u arguments)
+  run-quiet : (n : NumberedWord) (u : ℕ) (arguments : Arguments) → Quiet (run_code view n u arguments)
   run-quiet n u arguments = cons-quiet _ _ (set-still _ _) (one-quiet _ (call-still _))
 
-  target-quiet : (n : ℕ) (target : Option Path) → Quiet (target_code view n target)
+  where-quiet : (test : Bool) (s : CStmt) → Still s → Quiet (stmt_where test s)
+  where-quiet true s still = one-quiet s still
+  where-quiet false s still = nothing
+
+  target-quiet : (n : NumberedWord) (target : Option Path) → Quiet (target_code view n target)
   target-quiet n None = nothing
   target-quiet n (Some path) = set-quiet _ _
 
@@ -237,14 +243,15 @@ module _ (view : ActivityView) where
   control-quiet u rule (TestAt l at e) = tested-quiet _ rule
   control-quiet u rule (CheckAt l at e) = tested-quiet _ rule
   control-quiet u rule (EnterAt l at arguments) =
-      let n : ℕ = view.run at in
+      let n : NumberedWord = word_at view at u in
       cons-quiet _ (run_code view n u arguments ++ changes_code view rule.on_true) (clear-still _ _)
       (append-quiet (run_code view n u arguments) (changes_code view rule.on_true) (run-quiet n u arguments) (changes-quiet rule.on_true))
   control-quiet u rule (ResumeAt l at arguments) =
-      let n : ℕ = view.run at in
+      let n : NumberedWord = word_at view at u in
       let code : List CStmt = target_code view n arguments.target ++ changes_code view rule.on_true in
-      append-quiet (run_code view n u arguments) (c_if _ code None ∷ []) (run-quiet n u arguments)
-      (one-quiet (c_if _ code None)
+      let ends : Bool = may_end_in (slice_get view.site.earlier u) in
+      append-quiet (run_code view n u arguments) (stmt_where ends (c_if (c_read ended_place) code None)) (run-quiet n u arguments)
+      (where-quiet ends (c_if (c_read ended_place) code None)
       (if-still _ code None
       (append-quiet (target_code view n arguments.target) (changes_code view rule.on_true) (target-quiet n arguments.target) (changes-quiet rule.on_true)) refl))
   control-quiet u rule (PauseAt l at) = changes-quiet rule.on_true

@@ -40,6 +40,7 @@ use Rattle.bl_emit_spec.specs.Activities.{
   remembered_struct,
   remembers_any,
   runs_in_body,
+  word_of_run,
 }
 use Rattle.bl_emit_spec.specs.Blocks.{name_in}
 use Rattle.bl_emit_spec.specs.Names.{callee_name, frame_name}
@@ -277,7 +278,7 @@ module _ (structs : List StructDef) (units : List UnitDef) (entry : ℕ) (types 
           by : (r : RunAt) → Contains (runs_in_body a) r → (b : Bool) → (activity_view a).remembers r.unit ≡ b →
               Contains (if b then record {
                 ty = OfStruct (memory_name (name_in (slice_get (take k units) r.unit)));
-                name = callee_name r.number;
+                name = callee_name (word_of_run a.earlier r);
                 length = None;
               } ∷ [] else []) m → Callee m
           by r among true tells has = record {
