@@ -2,7 +2,6 @@
 use Rattle.std.proofs.Common.{◌≡◌, ◌≤◌, ℕ, zero, suc, ◌+◌, ℤ, Bool, true, false, List, [], ◌∷◌, ◌++◌, length, Option, Some, None, refl, ap, sym, ◌∙◌, subst}
 use Rattle.std.proofs.Common.{add-zero, append_assoc, length-append, arith}
 use Rattle.std.specs.Prelude.{◌&&◌, is_some, nat_lt, slice_set, if◌then◌else◌}
-use Rattle.std.specs.List.{list_all}
 use Rattle.std.proofs.lemmas.Bool.Decides.{nat_tests}
 use Rattle.bl_tree.specs.declared.text.Text.{Text}
 use Rattle.bl_tree.specs.Ports.{in_ranges}
@@ -19,7 +18,7 @@ use Rattle.bl_crun_code.specs.declared.instruction.Act.TheVariants as act
 use Rattle.bl_crun_code.specs.declared.instruction.Caller.{Caller}
 use Rattle.bl_crun_code.specs.declared.instruction.Operand.{Operand}
 use Rattle.bl_crun_code.specs.declared.instruction.Operand.TheVariants as op
-use Rattle.bl_crun_code.specs.Code.{Code, FunctionEntry, Valued, args_code, with_begun, call_into, call_valued, depth_behind, ending_with, known_call, pair_code, uncounted}
+use Rattle.bl_crun_code.specs.Code.{Code, FunctionEntry, Valued, args_calm, args_code, with_begun, call_into, call_valued, depth_behind, ending_with, known_call, pair_code, uncounted}
 use Rattle.bl_crun_code.specs.Vm.{StepResult, args_in, caller_resumed, entering, goes, operand_number, trapped, with_number}
 use Rattle.bl_crun_code.specs.Laws.{Arrives, entry_state}
 use Rattle.bl_crun_code.proofs.Runs.{After, From, Goes, GoesOn, Kept, Run, Span, acted, acts, arrives-now, begun-zero, fits-fewer, fits-to, goes-map, goes-next}
@@ -75,9 +74,6 @@ each-many (evaluate ∷ rest) base cells =
 many : (n : ℕ) (answer : Option (List ℤ)) (ns : List ℤ) → Many n answer → answer ≡ Some ns → length ns ≡ n
 many n None ns h is = cc
 many n (Some ms) ns h is = let same : ms ≡ ns = cc in subst (λ xs. length xs ≡ n) same h
-
-abbrev args_calm : List Valued → Bool
-args_calm args = list_all (λ a. a.calm) args
 
 -- calm arguments change no cells
 args-keep : (r : Run) (ws : List Valued) (fs : List (Evaluates ℤ)) → Args (Values r) ws fs → args_calm ws ≡ true → (base : ℕ) (cells : Cells) →
@@ -300,7 +296,7 @@ pub record Knows (r : Run) (entries : Table FunctionEntry) (routines : Table Rou
 room-for : (n room calls : ℕ) → suc (n + calls) ≤ room → nat_lt n room ≡ true
 room-for n room calls h = grind (arith, nat_tests)
 
-module _ (r : Run) (here : Ground FunctionEntry) (late : Bool) (depth : ℕ) (into : Operand) where
+module _ (r : Run) (here : Ground FunctionEntry) (depth : ℕ) (into : Operand) where
   enters : (entry : FunctionEntry) (n p : ℕ) (cells : Cells) (temps : List ℤ) (count : ℕ) (ns : List ℤ) (end : StepResult) → args_in temps depth n ≡ ns →
       Arrives r.code (entry_state entry (capped (r.base + here.frame)) ns cells temps (record { back = p + 1; base = r.base; into = into } ∷ r.callers) r.room count)
       end →
@@ -315,12 +311,12 @@ module _ (r : Run) (here : Ground FunctionEntry) (late : Bool) (depth : ℕ) (in
       (subst (λ xs. Arrives r.code (entry_state entry (capped (r.base + here.frame)) xs cells temps
       (record { back = p + 1; base = r.base; into = into } ∷ r.callers) r.room count) end) (sym is) h)
 
-  known-writes : (ws : List Valued) (fs : List (Evaluates ℤ)) → Args (Values r) ws fs → (late ≡ true → args_calm ws ≡ true) → (entry : FunctionEntry) (routine : Routine) →
+  known-writes : (ws : List Valued) (fs : List (Evaluates ℤ)) → Args (Values r) ws fs → (entry : FunctionEntry) (routine : Routine) →
       Serves r.code r.top r.calls entry routine →
-      Writes r (args_code late depth ws ++ uncounted (known_call here depth (length ws) into (Some entry)) ∷ []) depth (call_value here.frame fs None (Some routine))
-      into
-  known-writes ws fs args calm entry routine h p m q rest cells temps count end span fits next =
-      let first : Code = args_code late depth ws in
+      Writes r (args_code (args_calm ws) depth ws ++ uncounted (known_call here depth (length ws) into (Some entry)) ∷ []) depth
+      (call_value here.frame fs None (Some routine)) into
+  known-writes ws fs args entry routine h p m q rest cells temps count end span fits next =
+      let first : Code = args_code (args_calm ws) depth ws in
       let call : Code = uncounted (known_call here depth (length ws) into (Some entry)) ∷ [] in
       let whole : length (first ++ call) ≡ length first + 1 = length-append first call in
       let over : p + length (first ++ call) ≡ p + length first + 1 = omega arith in
@@ -332,7 +328,7 @@ module _ (r : Run) (here : Ground FunctionEntry) (late : Bool) (depth : ℕ) (in
       let chain : suc (length r.callers + r.calls) ≤ r.room = r.chain in
       let Next : Cells → ℕ → ℤ → Type 0 = λ c n v. (after : List ℤ) → Kept r depth temps after → Span r.code (p + length (first ++ call)) rest q →
       Arrives r.code (with_number (st r (p + length (first ++ call)) c after n) into v) end in
-      args-give r late depth ws fs args calm p m q (call ++ rest) cells temps count end
+      args-give r (args_calm ws) depth ws fs args (λ is. is) p m q (call ++ rest) cells temps count end
       (span-is r.code p _ _ q (ap (with_begun m) (append_assoc first call rest)) span)
       (fits-fewer r depth (length (first ++ call)) (length first) temps fits (omega arith))
       (goes-next r end (DueGives r depth (λ cells temps ns. args_in temps depth (length ws) ≡ ns) (p + length first) q (call ++ rest) temps end) Next count l
@@ -363,10 +359,6 @@ and-both true true h = refl
 and-both true false h = h
 and-both false b h = h
 
-calm-builtin : (builtin : Option Builtin) (rest : Bool) → is_some builtin && rest ≡ true → rest ≡ true
-calm-builtin (Some b) rest h = h
-calm-builtin None rest h = cc
-
 module _ (r : Run) (here : Ground FunctionEntry) where
   call-filled : (builtin : Option Builtin) (entry : Option FunctionEntry) (ws : List Valued) (late : Bool) (depth : ℕ) (into : Operand) →
       1 ≤ length (call_into here builtin entry ws late depth into)
@@ -376,7 +368,7 @@ module _ (r : Run) (here : Ground FunctionEntry) where
   call-filled (Some b) entry (x ∷ y ∷ z ∷ ws) late depth into =
       omega (arith, length-append (args_code late depth (x ∷ y ∷ z ∷ ws)) (uncounted act.Stop ∷ []))
   call-filled None entry ws late depth into =
-      omega (arith, length-append (args_code late depth ws) (uncounted (known_call here depth (length ws) into entry) ∷ []))
+      omega (arith, length-append (args_code (args_calm ws) depth ws) (uncounted (known_call here depth (length ws) into entry) ∷ []))
 
   prelude-writes : (b : Builtin) (entry : Option FunctionEntry) (routine : Option Routine) (ws : List Valued) (fs : List (Evaluates ℤ)) → Args (Values r) ws fs →
       (late : Bool) (depth : ℕ) (into : Operand) → (late ≡ true → args_calm ws ≡ true) →
@@ -399,9 +391,9 @@ module _ (r : Run) (here : Ground FunctionEntry) where
       Writes r (call_into here builtin entry ws late depth into) depth (call_value here.frame fs builtin routine) into
   call-writes (Some b) entry routine both ws fs args late depth into calm = prelude-writes b entry routine ws fs args late depth into calm
   call-writes None None None both ws fs args late depth into calm =
-      stop-writes r late depth into ws fs args (λ is. calm-builtin None (args_calm ws) (calm is)) (λ ns. None) (λ ns long. refl)
+      stop-writes r (args_calm ws) depth into ws fs args (λ is. is) (λ ns. None) (λ ns long. refl)
   call-writes None (Some entry) (Some routine) both ws fs args late depth into calm =
-      known-writes r here late depth into ws fs args (λ is. calm-builtin None (args_calm ws) (calm is)) entry routine both
+      known-writes r here depth into ws fs args entry routine both
   call-writes None None (Some routine) both ws fs args late depth into calm = absurd both
   call-writes None (Some entry) None both ws fs args late depth into calm = absurd both
 

@@ -245,6 +245,10 @@ two_valued op first second =
 
 -- ---- calls
 
+-- whether arguments call no function of the file
+abbrev pub args_calm : List Valued → Bool
+args_calm args = list_all (λ a. a.calm) args
+
 -- code that makes arguments the numbers of temporaries, one behind the other
 abbrev pub args_code : Bool → ℕ → List Valued → Code
 args_code late depth [] = []
@@ -256,16 +260,16 @@ known_call here first args into None = act.Stop
 known_call here first args into (Some known) =
     act.Call (record { entry = known.entry; first = first; args = args; passed = here.frame; frame = known.frame; into = into })
 
--- the code of a call whose result is written, of the prelude first
+-- the code of a call whose result is written, of the prelude first. Where no argument of a function of the file calls another one, all of them are read late
 abbrev pub call_into : Ground FunctionEntry → Option Builtin → Option FunctionEntry → List Valued → Bool → ℕ → Operand → Code
 call_into here (Some builtin) known (a ∷ []) late depth into = ending_with (a.ready late depth) (λ x. act.One builtin into x)
 call_into here (Some builtin) known (a ∷ b ∷ []) late depth into = pair_code a b late depth (λ x y. act.Both builtin into x y)
 call_into here (Some builtin) known args late depth into = args_code late depth args ++ uncounted act.Stop ∷ []
-call_into here None known args late depth into = args_code late depth args ++ uncounted (known_call here depth (length args) into known) ∷ []
+call_into here None known args late depth into = args_code (args_calm args) depth args ++ uncounted (known_call here depth (length args) into known) ∷ []
 
 -- a call
 abbrev pub call_valued : Ground FunctionEntry → Option Builtin → Option FunctionEntry → List Valued → Valued
-call_valued here builtin known args = written_valued (is_some builtin && list_all (λ a. a.calm) args) (call_into here builtin known args)
+call_valued here builtin known args = written_valued (is_some builtin && args_calm args) (call_into here builtin known args)
 
 -- a part of an expression, where each part within it is compiled so
 abbrev pub Coding : OpenPart → Type 0

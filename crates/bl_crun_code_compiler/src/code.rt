@@ -75,7 +75,8 @@ pub struct Compiled {
     pub tick: Option<Entry>,
 }
 
-/// The code of structs and functions, taken as those of a file.
+/// The code of structs and functions, taken as those of a file. It fails for want of memory, and where a number of an
+/// instruction would need more than 32 bits.
 pub fn compile(alloc: Global, structs: &[CStruct], funcs: &[CFunc]) -> Result<Compiled, NoMemory>
     ensures code { IfOk result (λ c. c.code.items ≡ code_of_file structs.now funcs.now) }
     ensures init { IfOk result (λ c. option_map entry_for c.init ≡ entry_in_file structs.now funcs.now (codes "bl_init")) }

@@ -1,6 +1,4 @@
-//! The compiler from C files to the code of `bl_crun_code`. `compile` gives exactly the specified code and the entries
-//! of `bl_init` and `bl_tick` (`Laws.antt` of `bl_crun_code`: `code_of_file`, `entry_in_file`), for all structs and
-//! functions. It fails for want of memory alone, and also reports that where a number would need more than 32 bits.
+//! The compiler from C files to the code and the entries that `Laws.antt` of `bl_crun_code` defines for them.
 #![tactic(auto)]
 
 mod code;

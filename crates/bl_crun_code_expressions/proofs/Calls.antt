@@ -8,12 +8,12 @@ use Rattle.bl_tree.specs.declared.c.CCall.{CCall, fold-roll-CCall, out-CCall, ro
 use Rattle.bl_ctext_semantics.specs.Builtin.{builtin_of}
 use Rattle.bl_ctext_semantics_laws.specs.Reaching.{Ground}
 use Rattle.bl_crun_code.specs.declared.instruction.Operand.{Operand}
-use Rattle.bl_crun_code.specs.declared.instruction.Act.{Act}
 use Rattle.bl_crun_code.specs.Code.{
   Code,
   FunctionEntry,
   Valued,
   arg_code,
+  args_calm,
   args_code,
   call_into,
   call_valued,
@@ -38,7 +38,7 @@ module _ (here : Ground FunctionEntry) (called : CCall) (late : Bool) (depth : �
 
   -- a call of a function of the file
   known-called : builtin_of (out-CCall called).name ≡ None →
-      args_code late depth given
+      args_code (args_calm given) depth given
       ++ uncounted (known_call here depth (length (out-CCall called).args) into (here.known (out-CCall called).name)) ∷ []
       ≡ (code_of_call called here).into late depth into
   known-called is =
@@ -46,21 +46,19 @@ module _ (here : Ground FunctionEntry) (called : CCall) (late : Bool) (depth : �
       let args : List CArg = (out-CCall called).args in
       let long : length args ≡ length given =
       sym (length-map args arg_code) ∙ sym (length-map (map arg_code args) (λ arg. arg here)) in
-      ap (λ n. args_code late depth given ++ uncounted (known_call here depth n into known) ∷ []) long
+      ap (λ n. args_code (args_calm given) depth given ++ uncounted (known_call here depth n into known) ∷ []) long
       ∙ ap (λ b. call_into here b known given late depth into) (sym is)
       ∙ ap (λ (v : Valued). v.into late depth into) (sym (call-is here called))
 
   -- a call of a function of the file is over
-  pub known-done : (args : List CArg) (name found : Text) (n : ℕ) (does : Act) (old put new : Code) → builtin_of found ≡ None →
-      found ≡ (out-CCall called).name → name ≡ (out-CCall called).name → args ≡ (out-CCall called).args → n ≡ length (out-CCall called).args →
-      does ≡ known_call here depth n into (here.known name) → put ≡ uncounted does ∷ old →
-      new ≡ args_code late depth (args_of here args) ++ put → new ≡ (code_of_call called here).into late depth into ++ old
-  known-done args name found n does old put new none found-is name-is args-are n-is does-is put-is new-is =
-      let whole : does ≡ known_call here depth (length (out-CCall called).args) into (here.known (out-CCall called).name) =
-      does-is ∙ ap (λ m. known_call here depth m into (here.known name)) n-is
-      ∙ ap (λ x. known_call here depth (length (out-CCall called).args) into (here.known x)) name-is in
+  pub known-done : (asked args : List CArg) (found : Text) (calm : Bool) (old put new : Code) → builtin_of found ≡ None →
+      found ≡ (out-CCall called).name → asked ≡ (out-CCall called).args → args ≡ (out-CCall called).args → calm ≡ args_calm (args_of here asked) →
+      put ≡ uncounted (known_call here depth (length (out-CCall called).args) into (here.known (out-CCall called).name)) ∷ old →
+      new ≡ args_code calm depth (args_of here args) ++ put → new ≡ (code_of_call called here).into late depth into ++ old
+  known-done asked args found calm old put new none found-is asked-are args-are calm-is put-is new-is =
       let last : Code = uncounted (known_call here depth (length (out-CCall called).args) into (here.known (out-CCall called).name)) ∷ [] in
-      new-is ∙ ap (λ l. args_code late depth (args_of here l) ++ put) args-are
-      ∙ ap (λ c. args_code late depth given ++ c) (put-is ∙ ap (λ x. uncounted x ∷ old) whole)
-      ∙ sym (append_assoc (args_code late depth given) last old)
+      new-is ∙ ap (λ l. args_code calm depth (args_of here l) ++ put) args-are
+      ∙ ap (λ b. args_code b depth given ++ put) (calm-is ∙ ap (λ l. args_calm (args_of here l)) asked-are)
+      ∙ ap (λ c. args_code (args_calm given) depth given ++ c) put-is
+      ∙ sym (append_assoc (args_code (args_calm given) depth given) last old)
       ∙ ap (λ c. c ++ old) (known-called (sym (ap builtin_of found-is) ∙ none))

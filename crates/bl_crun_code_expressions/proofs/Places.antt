@@ -42,13 +42,15 @@ written-of false (Some (OfScalar s)) reach late depth into = refl
 written-of false (Some (OfStruct n)) reach late depth into = refl
 written-of false None reach late depth into = refl
 
-module _ (here : Ground FunctionEntry) (at : CPlace) (walk : Walk) (is : IsWalkTo here at walk) (address : Bool) (fetched : Bool)
-    (fetched-is : fetched ≡ is_fetched address (option_map (λ t. t.now) walk.ty)) where
+module _ (here : Ground FunctionEntry) (at : CPlace) (walk : Walk) (is : IsWalkTo here at walk) (address : Bool) where
+  abbrev fetched : Bool
+  fetched = is_fetched address (option_map (λ t. t.now) walk.ty)
+
   abbrev reach : Reach Valued
   reach = reach_of_place at here
 
   fetched-so : fetched ≡ is_fetched address reach.ty
-  fetched-so = fetched-is ∙ ap (is_fetched address) is.ty
+  fetched-so = ap (is_fetched address) is.ty
 
   pub seen-written-is : (late : Bool) (depth : ℕ) (into : Operand) →
       taken_code fetched into (walk_ready here at walk late depth) ≡ (seen address reach).into late depth into
@@ -57,26 +59,25 @@ module _ (here : Ground FunctionEntry) (at : CPlace) (walk : Walk) (is : IsWalkT
       ∙ written-of address reach.ty reach late depth into ∙ ap (λ (v : Valued). v.into late depth into) (seen-is address reach)
 
   -- what is seen is written
-  pub seen-done : (late : Bool) (depth : ℕ) (into o a : Operand) (old put new : Code) → o ≡ (walk_ready here at walk late depth).it → a ≡ taken fetched o →
-      put ≡ uncounted (act.Move into a) ∷ old → new ≡ (walk_ready here at walk late depth).code ++ put →
+  pub seen-done : (late : Bool) (depth : ℕ) (into : Operand) (old put new : Code) →
+      put ≡ uncounted (act.Move into (taken fetched (walk_ready here at walk late depth).it)) ∷ old → new ≡ (walk_ready here at walk late depth).code ++ put →
       new ≡ (seen address reach).into late depth into ++ old
-  seen-done late depth into o a old put new o-is a-is put-is new-is =
+  seen-done late depth into old put new put-is new-is =
       let place : Ready = walk_ready here at walk late depth in
-      new-is ∙ ap (λ c. place.code ++ c) (put-is ∙ ap (λ x. uncounted (act.Move into x) ∷ old) (a-is ∙ ap (taken fetched) o-is))
+      new-is ∙ ap (λ c. place.code ++ c) put-is
       ∙ sym (append_assoc place.code (uncounted (act.Move into (taken fetched place.it)) ∷ []) old)
       ∙ ap (λ c. c ++ old) (seen-written-is late depth into)
 
 -- ---- an index
 
 -- an index whose element is taken
-pub element-done : (value : Valued) (term : IndexTerm) (late behind-late : Bool) (depth behind : ℕ) (base a : Operand) (old put new : Code) →
-    behind-late ≡ late → behind ≡ depth_behind depth base → a ≡ (value.ready behind-late behind).it →
-    put ≡ uncounted (act.Element depth base a term.length term.size) ∷ old → new ≡ (value.ready behind-late behind).code ++ put →
-    new ≡ element_code late depth base (term_with term value) ++ old
-element-done value term late behind-late depth behind base a old put new same behind-is a-is put-is new-is =
+pub element-done : (value : Valued) (term : IndexTerm) (late behind-late : Bool) (depth behind : ℕ) (base : Operand) (old put new : Code) →
+    behind-late ≡ late → behind ≡ depth_behind depth base →
+    put ≡ uncounted (act.Element depth base (value.ready behind-late behind).it term.length term.size) ∷ old →
+    new ≡ (value.ready behind-late behind).code ++ put → new ≡ element_code late depth base (term_with term value) ++ old
+element-done value term late behind-late depth behind base old put new same behind-is put-is new-is =
     let with_index : Ready → Code = λ r. r.code ++ uncounted (act.Element depth base r.it term.length term.size) ∷ [] in
-    new-is ∙ ap (λ c. (value.ready behind-late behind).code ++ c)
-    (put-is ∙ ap (λ x. uncounted (act.Element depth base x term.length term.size) ∷ old) a-is)
+    new-is ∙ ap (λ c. (value.ready behind-late behind).code ++ c) put-is
     ∙ sym (append_assoc (value.ready behind-late behind).code
     (uncounted (act.Element depth base (value.ready behind-late behind).it term.length term.size) ∷ []) old)
     ∙ ap (λ l. with_index (value.ready l behind) ++ old) same

@@ -8,6 +8,7 @@ use Rattle.bl_ctext.specs.declared.builtin.Builtin.{Builtin}
 use Rattle.bl_ctext_semantics_laws.specs.Reaching.{Ground, Reach, Term}
 use Rattle.bl_crun_code.specs.declared.instruction.Operand.{Operand}
 use Rattle.bl_crun_code.specs.declared.instruction.Operand.TheVariants as op
+use Rattle.bl_crun_code.specs.declared.instruction.Act.{Act}
 use Rattle.bl_crun_code.specs.declared.instruction.Act.TheVariants as act
 use Rattle.bl_crun_code.specs.Code.{Code, FunctionEntry, Ready, Valued, address_in, address_valued, along_ready, arg_code, args_code, depth_behind, ending_with, pair_code, read_valued, start_ready, uncounted}
 use Rattle.bl_crun_code_layout.specs.declared.place.IndexTerm.{IndexTerm}
@@ -21,6 +22,10 @@ pub record IsPair (first second : Valued) (late : Bool) (depth : ℕ) (pair : Pa
   pub as_late : pair.second.late ≡ late
   pub behind : pair.second.depth ≡ depth_behind depth (first.ready late depth).it
   pub right : pair.right ≡ (second.ready late (depth_behind depth (first.ready late depth).it)).it
+
+-- the instruction that reads two values, the left one first
+abbrev pub pair_act : Valued → Valued → Bool → ℕ → (Operand → Operand → Act) → Act
+pair_act first second late depth does = does (first.ready late depth).it (second.ready late (depth_behind depth (first.ready late depth).it)).it
 
 -- what is seen at a place: the number of its first cell, or what is read there
 abbrev pub seen : Bool → Reach Valued → Valued

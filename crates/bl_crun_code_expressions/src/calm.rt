@@ -1,9 +1,10 @@
-//! Whether expressions call no function of the file, so that the operands around them may be read late.
+//! Whether expressions call no function of the file, so that the operands around them may be read late. Each search ends
+//! at the first such call, so asking for the arguments of every call takes linear time.
 
 ghost use Rattle.std.specs.Prelude.{◌≡◌, IfOk, map};
 ghost use Rattle.std.specs.List.{list_all};
 ghost use Rattle.bl_tree.specs.declared.c.CPlace.{out-CPlace};
-ghost use Rattle.bl_crun_code.specs.Code.{arg_code, code_of_call, expr_valued, reach_calm, reach_of_place};
+ghost use Rattle.bl_crun_code.specs.Code.{arg_code, args_calm, code_of_call, expr_valued, reach_calm, reach_of_place};
 ghost use Rattle.bl_crun_code_layout.specs.Places.{term_of};
 ghost use Rattle.bl_crun_code_layout.specs.Views.{ground_of};
 ghost use Rattle.bl_crun_code_expressions.specs.Parts.{args_of};
@@ -24,9 +25,11 @@ pub fn is_calm(here: &Here<'_, '_>, e: &CExpr) -> Result<bool, NoMemory>
         CExprKind::Call(called) => is_call_calm(here, called),
         CExprKind::Not(of) => is_calm(here, of),
         CExprKind::Two(_, left, right) => {
-            let first = is_calm(here, left)?;
-            let second = is_calm(here, right)?;
-            Ok(first && second)
+            if is_calm(here, left)? {
+                is_calm(here, right)
+            } else {
+                Ok(false)
+            }
         }
     }
 }
@@ -45,12 +48,12 @@ fn is_place_calm(here: &Here<'_, '_>, at: &CPlace) -> Result<bool, NoMemory>
 pub fn is_walk_calm(here: &Here<'_, '_>, at: &CPlace, walk: &Walk<'_>) -> Result<bool, NoMemory>
     ensures { IfOk result (λ b. b ≡ list_all (λ term. term.index.calm) (map (term_of (ground_of here.now) (out-CPlace at.now).steps) walk.now.terms.items)) }
 {
-    let mut calm = true;
     for term in walk.terms.iter() {
-        let this = is_term_calm(here, at, *term)?;
-        calm = calm && this;
+        if !is_term_calm(here, at, *term)? {
+            return Ok(false);
+        }
     }
-    Ok(calm)
+    Ok(true)
 }
 
 #[cycle(calmness)]
@@ -79,16 +82,17 @@ pub fn is_call_calm(here: &Here<'_, '_>, called: &CCall) -> Result<bool, NoMemor
     }
 }
 
+/// Whether arguments call no function of the file.
 #[cycle(calmness)]
-fn are_args_calm(here: &Here<'_, '_>, args: &[CArg]) -> Result<bool, NoMemory>
-    ensures { IfOk result (λ b. b ≡ list_all (λ arg. arg.calm) (args_of (ground_of here.now) args.now)) }
+pub fn are_args_calm(here: &Here<'_, '_>, args: &[CArg]) -> Result<bool, NoMemory>
+    ensures { IfOk result (λ b. b ≡ args_calm (args_of (ground_of here.now) args.now)) }
 {
-    let mut calm = true;
     for arg in args {
-        let this = is_arg_calm(here, arg)?;
-        calm = calm && this;
+        if !is_arg_calm(here, arg)? {
+            return Ok(false);
+        }
     }
-    Ok(calm)
+    Ok(true)
 }
 
 #[cycle(calmness)]

@@ -5,14 +5,15 @@ ghost use Rattle.bl_tree.specs.declared.c.CPlace.{out-CPlace};
 ghost use Rattle.bl_crun_code.specs.Code.{arg_code, args_code, code_of_call, expr_valued, or_else, reach_of_place};
 ghost use Rattle.bl_crun_code_layout.specs.Places.{term_of};
 ghost use Rattle.bl_crun_code_layout.specs.Views.{ground_of};
-ghost use Rattle.bl_crun_code_expressions.specs.Parts.{args_of, element_code, IsPair, prelude_code, seen, term_with, walk_ready};
+ghost use Rattle.bl_crun_code_expressions.specs.Parts.{args_of, element_code, prelude_code, seen, term_with, walk_ready};
 
-use crate::calling::calling;
+use crate::calm::are_args_calm;
 use crate::front::Front;
 use crate::mode::Mode;
-use crate::operand::{
-    arg_operand, arg_pair_of, base_of_term, first_element, is_read, number_code, pair_of,
-    place_operand, start_code, taken_at, value_operand,
+use crate::operand::{base_of_term, first_element, is_read, number_code, start_code};
+use crate::puts::{
+    put_both, put_call, put_comparison, put_element, put_negation, put_one, put_operator, put_seen,
+    put_test,
 };
 use bl_crun_code::instruction::{Act, Operand};
 use bl_crun_code_layout::here::Here;
@@ -38,8 +39,7 @@ pub fn written(
         CExprKind::Read(at) => seen_written(here, code, at, false, mode, into),
         CExprKind::Call(called) => call(here, code, called, mode, into),
         CExprKind::Not(of) => {
-            let a = value_operand(here, of, mode)?;
-            code.put(Act::Negate(into, a))?;
+            put_negation(here, code, of, mode, into)?;
             ready(here, code, of, mode)
         }
         CExprKind::Two(Op::And, left, right) => {
@@ -51,9 +51,8 @@ pub fn written(
             tested(here, code, left, mode, passed, 0)
         }
         CExprKind::Two(op, left, right) => {
-            let pair = pair_of(here, left, right, mode)?;
-            code.put(Act::Two(*op, into, pair.left, pair.right))?;
-            ready(here, code, right, pair.second)?;
+            let second = put_operator(here, code, *op, left, right, mode, into)?;
+            ready(here, code, right, second)?;
             ready(here, code, left, mode)
         }
     }
@@ -94,14 +93,12 @@ pub fn tested(
             tested(here, code, left, mode, passed, 0)
         }
         CExprKind::Two(op, left, right) => {
-            let pair = pair_of(here, left, right, mode)?;
-            code.put(Act::Compare(*op, pair.left, pair.right, hold, fail))?;
-            ready(here, code, right, pair.second)?;
+            let second = put_comparison(here, code, *op, left, right, mode, hold, fail)?;
+            ready(here, code, right, second)?;
             ready(here, code, left, mode)
         }
         _ => {
-            let a = value_operand(here, e, mode)?;
-            code.put(Act::Test(a, hold, fail))?;
+            put_test(here, code, e, mode, hold, fail)?;
             ready(here, code, e, mode)
         }
     }
@@ -162,8 +159,7 @@ fn indexed(
     ensures { OnOk result (code.new ≡ element_code mode.late mode.depth base (term_with term (expr_valued e.now (ground_of here.now))) ++ code.old) }
 {
     let behind = mode.behind(base)?;
-    let a = value_operand(here, e, behind)?;
-    code.put(Act::Element(mode.depth, base, a, term.length, term.size))?;
+    put_element(here, code, e, term, base, mode.depth, behind)?;
     ready(here, code, e, behind)
 }
 
@@ -222,8 +218,7 @@ fn seen_written(
     ensures { OnOk result (code.new ≡ (seen address (reach_of_place at.now (ground_of here.now))).into mode.late mode.depth into ++ code.old) }
 {
     let walk = walk_to(here, at)?;
-    let a = taken_at(is_read(&walk, address), place_operand(&walk, mode));
-    code.put(Act::Move(into, a))?;
+    put_seen(code, &walk, address, mode, into)?;
     place(here, code, at, &walk, mode)
 }
 
@@ -283,7 +278,12 @@ fn arg_ready(here: &Here<'_, '_>, code: &mut Front, arg: &CArg, mode: Mode) -> R
 
 /// Code that makes arguments the numbers of temporaries, one behind the other.
 #[cycle(expressions)]
-fn args(here: &Here<'_, '_>, code: &mut Front, args: &[CArg], mode: Mode) -> Result<(), NoMemory>
+fn args_written(
+    here: &Here<'_, '_>,
+    code: &mut Front,
+    args: &[CArg],
+    mode: Mode,
+) -> Result<(), NoMemory>
     ensures { OnOk result (code.new ≡ args_code mode.late mode.depth (args_of (ground_of here.now) args.now) ++ code.old) }
 {
     for k in (0..args.len()).rev() {
@@ -314,19 +314,17 @@ fn prelude(
 {
     match list {
         [only] => {
-            let a = arg_operand(here, only, mode)?;
-            code.put(Act::One(builtin, into, a))?;
+            put_one(here, code, builtin, only, mode, into)?;
             arg_ready(here, code, only, mode)
         }
         [first, second] => {
-            let pair = arg_pair_of(here, first, second, mode)?;
-            code.put(Act::Both(builtin, into, pair.left, pair.right))?;
-            arg_ready(here, code, second, pair.second)?;
+            let behind = put_both(here, code, builtin, first, second, mode, into)?;
+            arg_ready(here, code, second, behind)?;
             arg_ready(here, code, first, mode)
         }
         list => {
             code.put(Act::Stop)?;
-            args(here, code, list, mode)
+            args_written(here, code, list, mode)
         }
     }
 }
@@ -345,9 +343,10 @@ pub fn call(
     match here.builtins.find(&called.name) {
         Some(builtin) => prelude(here, code, builtin, &called.args, mode, into),
         None => {
-            let act = calling(here, &called.name, called.args.len(), mode, into)?;
-            code.put(act)?;
-            args(here, code, &called.args, mode)
+            let late = are_args_calm(here, &called.args)?;
+            put_call(here, code, called, mode, into)?;
+            let depth = mode.depth;
+            args_written(here, code, &called.args, Mode { late, depth })
         }
     }
 }

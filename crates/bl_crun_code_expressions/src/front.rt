@@ -1,4 +1,4 @@
-//! Code that is made from its end on.
+//! Code that is made from its end on, so that jump targets are known.
 
 ghost use Rattle.std.specs.Prelude.{◌≡◌, ◌<◌, ◌≤◌, [], ◌∷◌, ◌++◌, length, List, OnOk};
 ghost use Rattle.bl_crun_code.specs.declared.instruction.Instruction.{Instruction as Step};
@@ -28,6 +28,7 @@ impl Model for Front {
 }
 
 impl Front {
+    /// No code yet.
     pub fn new(alloc: Global) -> Front
         ensures { result ≡ [] }
     {
@@ -36,6 +37,7 @@ impl Front {
         }
     }
 
+    /// How many instructions stand there.
     pub fn len(&self) -> usize
         ensures { result ≡ length self.now }
     {
@@ -94,6 +96,7 @@ impl Front {
         self.reversed[behind] = Instruction { statements: 0, act };
     }
 
+    /// The instructions, the first one first.
     pub fn finish(self) -> Vec<Instruction>
         ensures { result.items ≡ self }
     {

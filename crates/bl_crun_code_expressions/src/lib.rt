@@ -1,8 +1,4 @@
-//! The code of C expressions, places and calls, made from its end to its front, so jump targets are already known.
-//! What is put before the rest of the code is exactly what `Code.antt` of `bl_crun_code` defines for an expression, by
-//! the use that is made of it: as an operand, written, or tested (`expr_valued`, `arg_code`, `code_of_call`,
-//! `reach_ready`). It fails for want of memory alone, and also reports that where an operand would need more than 32
-//! bits.
+//! The compiler from C expressions, places and calls to the code that `Code.antt` of `bl_crun_code` defines for them.
 #![tactic(auto)]
 
 mod calling;
@@ -11,3 +7,4 @@ pub mod expr;
 pub mod front;
 pub mod mode;
 pub mod operand;
+mod puts;

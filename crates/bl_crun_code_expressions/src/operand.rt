@@ -48,7 +48,7 @@ pub fn address_of(operand: Operand) -> Operand
 }
 
 /// The operand of a place without indices, once it stands.
-fn start_operand(start: Operand, mode: Mode) -> Operand
+fn settled_operand(start: Operand, mode: Mode) -> Operand
     ensures { result ≡ (start_ready mode.late mode.depth start).it }
 {
     match start {
@@ -75,7 +75,7 @@ pub fn base_of_term(k: usize, start: Operand, mode: Mode) -> Operand
     ensures { result ≡ base_at k mode.late mode.depth start }
 {
     if k == 0 {
-        address_of(start_operand(start, mode))
+        address_of(settled_operand(start, mode))
     } else {
         Operand::Temporary(mode.depth)
     }
@@ -99,7 +99,7 @@ pub fn place_operand(walk: &Walk<'_>, mode: Mode) -> Operand
     ensures { (here : Ground FunctionEntry) (at : Place) → result ≡ (walk_ready here at walk.now mode.late mode.depth).it }
 {
     if walk.terms.is_empty() {
-        start_operand(walk.start, mode)
+        settled_operand(walk.start, mode)
     } else {
         Operand::Indirect(mode.depth)
     }

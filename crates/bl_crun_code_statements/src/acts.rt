@@ -20,8 +20,8 @@ use bl_crun_code_layout::place::walk_to;
 use bl_tree::c::{CCall, CExpr, CPlace, CType};
 use bl_tree::{Box, NoMemory};
 
-/// A value is written at a place of a type, or a struct is copied there.
-fn value(
+/// The code that writes a value at a place of a type, or copies a struct there.
+fn value_written(
     here: &Here<'_, '_>,
     code: &mut Front,
     ty: Option<&CType>,
@@ -44,7 +44,7 @@ fn value(
 }
 
 /// The code of an assignment.
-pub fn set(
+pub fn assign(
     here: &Here<'_, '_>,
     code: &mut Front,
     at: &CPlace,
@@ -64,7 +64,7 @@ pub fn set(
         depth,
     };
     let it = place_operand(&walk, mode);
-    value(here, code, walk.ty, to, it, mode.behind(it)?)?;
+    value_written(here, code, walk.ty, to, it, mode.behind(it)?)?;
     place(here, code, at, &walk, mode)?;
     code.begin(end)
 }

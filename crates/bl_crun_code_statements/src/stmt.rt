@@ -4,29 +4,29 @@ ghost use Rattle.std.specs.Prelude.{◌≡◌, ◌≤◌, ◌-◌, ◌++◌, len
 ghost use Rattle.bl_crun_code.specs.Code.{code_of_block, code_of_stmt};
 ghost use Rattle.bl_crun_code_layout.specs.Views.{ground_of};
 
-use crate::acts::{call_alone, clear, give_back, set};
-use crate::turns::{choosing, passing, turning};
+use crate::acts::{assign, call_alone, clear, give_back};
+use crate::turns::{choosing, leaving, passing, turning};
 use bl_crun_code::instruction::Act;
 use bl_crun_code_expressions::front::Front;
 use bl_crun_code_layout::here::Here;
-use bl_crun_code_layout::numbers::{next, small};
+use bl_crun_code_layout::numbers::next;
 use bl_tree::NoMemory;
 use bl_tree::c::{CStmt, CStmtKind};
 
 /// The code of a statement. Behind the loop around it stands so much code.
 #[cycle(statements)]
-fn stmt(
+fn statement(
     here: &Here<'_, '_>,
     code: &mut Front,
-    stmt: &CStmt,
+    this: &CStmt,
     depth: u32,
     end: usize,
 ) -> Result<(), NoMemory>
     requires { end ≤ length code.old }
-    ensures { OnOk result (code.new ≡ code_of_stmt stmt.now (ground_of here.now) depth (length code.old - end) ++ code.old) }
+    ensures { OnOk result (code.new ≡ code_of_stmt this.now (ground_of here.now) depth (length code.old - end) ++ code.old) }
 {
-    match &stmt.what {
-        CStmtKind::Set(at, value) => set(here, code, at, value, depth),
+    match &this.what {
+        CStmtKind::Set(at, value) => assign(here, code, at, value, depth),
         CStmtKind::Clear(at, name) => clear(here, code, at, name, depth),
         CStmtKind::Call(called) => call_alone(here, code, called, depth),
         CStmtKind::If(condition, block, None) => {
@@ -49,15 +49,13 @@ fn stmt(
             statements(here, code, body, inner, over)?;
             turning(here, code, condition, depth, over)
         }
-        CStmtKind::Break => {
-            let passed = small(code.len() - end)?;
-            code.put_begun(Act::Skip(passed))
-        }
+        CStmtKind::Break => leaving(code, end),
         CStmtKind::Return(value) => give_back(here, code, value, depth),
     }
 }
 
-/// The code of the statements of a block.
+/// The code of the statements of a block. It fails for want of memory, and where a number of an instruction would need
+/// more than 32 bits.
 #[cycle(statements)]
 pub fn statements(
     here: &Here<'_, '_>,
@@ -70,7 +68,7 @@ pub fn statements(
     ensures { OnOk result (code.new ≡ code_of_block block.now (ground_of here.now) depth (length code.old - end) ++ code.old) }
 {
     for k in (0..block.len()).rev() {
-        stmt(here, code, &block[k], depth, end)?;
+        statement(here, code, &block[k], depth, end)?;
     }
     Ok(())
 }

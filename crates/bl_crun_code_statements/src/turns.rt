@@ -1,8 +1,10 @@
 //! What stands before the parts that a condition chooses.
 
 ghost use Rattle.std.specs.Prelude.{◌≡◌, ◌≤◌, ◌<◌, ◌+◌, ◌-◌, ◌∷◌, ◌++◌, IfOk, length, List, OnOk};
+ghost use Rattle.bl_crun_code.specs.declared.instruction.Act.TheVariants as act;
 ghost use Rattle.bl_crun_code.specs.declared.instruction.Instruction.{Instruction as Step};
 ghost use Rattle.bl_crun_code.specs.Code.{before_else, code_of_loop, else_code, expr_valued, with_begun};
+ghost use Rattle.bl_crun_code_expressions.specs.Begun.{counted_once};
 ghost use Rattle.bl_crun_code_layout.specs.Views.{ground_of};
 
 use bl_crun_code::instruction::{Act, Operand};
@@ -14,6 +16,15 @@ use bl_crun_code_layout::here::Here;
 use bl_crun_code_layout::numbers::{more, next, small};
 use bl_tree::NoMemory;
 use bl_tree::c::CExpr;
+
+/// The code of a `break`. Behind the loop around it stands so much code.
+pub fn leaving(code: &mut Front, end: usize) -> Result<(), NoMemory>
+    requires { end ≤ length code.old }
+    ensures { OnOk result (code.new ≡ counted_once (act.Skip (length code.old - end)) ∷ code.old) }
+{
+    let passed = small(code.len() - end)?;
+    code.put_begun(Act::Skip(passed))
+}
 
 /// What stands before the other block of an `if`, behind which so much code stands, and how many instructions that is.
 pub fn passing(code: &mut Front, behind: usize) -> Result<u32, NoMemory>

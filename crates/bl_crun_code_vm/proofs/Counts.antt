@@ -1,5 +1,5 @@
 -- What a machine does depends on no count of statements, but for the counts that it leaves.
-use Rattle.std.proofs.Common.{◌≡◌, ℕ, ◌+◌, ℤ, Bool, true, false, List, [], ◌∷◌, length, Option, Some, None, sym, ◌∙◌, ap, refl}
+use Rattle.std.proofs.Common.{◌≡◌, ℕ, ◌+◌, ℤ, Bool, true, false, List, [], ◌∷◌, length, Option, Some, None, refl}
 use Rattle.std.specs.Prelude.{if◌then◌else◌, nat_lt, not}
 use Rattle.bl_tree.specs.Numbers.{is_one, number_of}
 use Rattle.bl_ctext_semantics_laws.specs.Flat.{compared, prelude_value}
@@ -11,7 +11,7 @@ use Rattle.bl_crun_code.specs.declared.instruction.Caller.{Caller}
 use Rattle.bl_crun_code.specs.declared.instruction.Operand.{Operand}
 use Rattle.bl_crun_code.specs.declared.instruction.Operand.TheVariants as op
 use Rattle.bl_crun_code.specs.Laws.{entry_state}
-use Rattle.bl_crun_code.specs.Vm.{StepResult, VmState, ahead, args_in, caller_resumed, passing_by, does, done, element, entering, written_if, goes, next_turn, operand_in, passing, stops, trapped}
+use Rattle.bl_crun_code.specs.Vm.{StepResult, VmState, ahead, args_in, caller_resumed, passing_by, does, done, element, entering, written_if, goes, next_turn, operand_in, stops, trapped}
 use Rattle.bl_crun_code.specs.Vm.{with_number}
 
 -- a state with another count

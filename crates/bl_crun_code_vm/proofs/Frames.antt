@@ -23,13 +23,15 @@ use Rattle.std.proofs.Common.{
   get_or,
   min,
   ◌^◌,
+  ◌≢◌,
+  length-set,
   ⊎_elim,
 }
 use Rattle.std.proofs.str.Laws.{order}
 use Rattle.std.specs.Prelude.{slice_set}
-use Rattle.std.proofs.lemmas.List.{set_past, drop_all}
+use Rattle.std.proofs.lemmas.List.{set-set, set_comm, set_past, drop_all}
 use Rattle.std.proofs.Math.Seq.{drop-cons}
-use Rattle.bl_ctext_semantics_laws.specs.Flat.{Cells, with_args, zeroed}
+use Rattle.bl_ctext_semantics_laws.specs.Flat.{Cells, frame_begun, with_args, zeroed}
 
 pub zeroed-past : (n at : ℕ) (cells : Cells) → length cells ≤ at → zeroed n at cells ≡ cells
 zeroed-past zero at cells h = refl
@@ -96,3 +98,45 @@ put-last at k args cells all end small low h =
     (λ less. let past : length cells ≤ k = omega (arith, less) in sym (with_args-past k (drop (k - at) args) cells past) ∙ h)
     (λ more. let e : drop (k - at) args ≡ [] = drop_all (k - at) args (omega (arith, more)) in ap (λ (a : List ℤ). with_args k a cells) (sym e) ∙ h)
     (order k (at + length args))
+
+-- ---- frames: arguments first, and 0 behind them
+
+set-zeroed : (m at k : ℕ) (n : ℤ) (cells : Cells) → k < at → slice_set (zeroed m at cells) k n ≡ zeroed m at (slice_set cells k n)
+set-zeroed zero at k n cells h = refl
+set-zeroed (suc m) at k n cells h =
+    let next : k < suc at = omega arith in
+    let other : at ≢ k = omega arith in
+    set-zeroed m (suc at) k n (slice_set cells at (pos 0)) next
+    ∙ ap (λ (c : Cells). zeroed m (suc at) c) (set_comm cells at k (pos 0) n other)
+
+pub frame-begun : (args : List ℤ) (size base : ℕ) (cells : Cells) →
+    with_args base args (zeroed size base cells) ≡ zeroed (size - length args) (base + length args) (with_args base args cells)
+frame-begun [] size base cells =
+    let a : size - 0 ≡ size = omega arith in
+    let b : base + 0 ≡ base = omega arith in
+    rw (a, b) refl
+frame-begun (n ∷ args) zero base cells =
+    let a : 0 - length (n ∷ args) ≡ 0 = omega arith in
+    rw a refl
+frame-begun (n ∷ args) (suc size) base cells =
+    let a : suc size - length (n ∷ args) ≡ size - length args = omega arith in
+    let b : base + length (n ∷ args) ≡ suc base + length args = omega arith in
+    let below : base < suc base = omega arith in
+    ap (λ (c : Cells). with_args (suc base) args c)
+    (set-zeroed size (suc base) base n (slice_set cells base (pos 0)) below ∙ ap (λ (c : Cells). zeroed size (suc base) c) (set-set cells base (pos 0) n))
+    ∙ frame-begun args size (suc base) (slice_set cells base n)
+    ∙ sym (ap (λ (k : ℕ). zeroed k (base + length (n ∷ args)) (with_args (suc base) args (slice_set cells base n))) a
+    ∙ ap (λ (k : ℕ). zeroed (size - length args) k (with_args (suc base) args (slice_set cells base n))) b)
+
+-- ---- no change of cells changes how many there are
+
+pub length-zeroed : (n at : ℕ) (cells : Cells) → length (zeroed n at cells) ≡ length cells
+length-zeroed zero at cells = refl
+length-zeroed (suc n) at cells = length-zeroed n (suc at) (slice_set cells at (pos 0)) ∙ length-set cells at (pos 0)
+
+pub length-with_args : (at : ℕ) (args : List ℤ) (cells : Cells) → length (with_args at args cells) ≡ length cells
+length-with_args at [] cells = refl
+length-with_args at (n ∷ args) cells = length-with_args (suc at) args (slice_set cells at n) ∙ length-set cells at n
+
+pub length-frame : (size base : ℕ) (args : List ℤ) (cells : Cells) → length (frame_begun size base args cells) ≡ length cells
+length-frame size base args cells = length-with_args base args (zeroed size base cells) ∙ length-zeroed size base cells

@@ -31,7 +31,7 @@ use Rattle.std.proofs.Common.{
 }
 use Rattle.std.specs.Prelude.{if◌then◌else◌, nat_lt, not, slice_get}
 use Rattle.bl_tree.specs.Numbers.{is_one, number_of}
-use Rattle.bl_ctext_semantics_laws.specs.Flat.{Cells, cell_at, compared, prelude_value}
+use Rattle.bl_ctext_semantics_laws.specs.Flat.{Cells, cell_at, compared, frame_begun, prelude_value}
 use Rattle.bl_ctext_semantics_laws.specs.Layout.{capped}
 use Rattle.bl_crun_code.specs.declared.instruction.Act.{Act}
 use Rattle.bl_crun_code.specs.declared.instruction.Act.TheVariants as act
@@ -41,13 +41,17 @@ use Rattle.bl_crun_code.specs.declared.instruction.Operand.{Operand}
 use Rattle.bl_crun_code.specs.declared.instruction.Operand.TheVariants as op
 use Rattle.bl_crun_code.specs.Code.{Code}
 use Rattle.bl_crun_code.specs.Laws.{Arrives, entry_state}
-use Rattle.bl_crun_code.specs.Vm.{StepResult, RunsTo, VmState, ahead, args_in, caller_resumed, passing_by, does, done, entering, written_if, goes, last, more, next_turn, vm_step, step_at, stops}
+use Rattle.bl_crun_code.specs.Vm.{StepResult, RunsTo, VmState, ahead, args_in, caller_resumed, passing_by, does, done, written_if, goes, last, more, next_turn, vm_step, step_at, stops}
 use Rattle.bl_crun_code.specs.Vm.{element, operand_in, trapped, with_number}
 use Rattle.bl_crun_code_vm.specs.declared.flow.Flow.{Flow}
 use Rattle.bl_crun_code_vm.specs.declared.flow.Flow.TheVariants as flow
 use Rattle.bl_crun_code_vm.specs.Ends.{Ended, Halts, IsEnd}
 use Rattle.bl_crun_code_vm.specs.Steps.{shown_count}
+use Rattle.bl_crun_code_vm.specs.inner.Running.{CanRun}
+use Rattle.bl_crun_code_vm.specs.inner.State.{Queue, RegisterState, run_start, rested, state_of}
 use Rattle.bl_crun_code_vm.specs.inner.Stepping.{Came, StepDone, shown_step}
+use Rattle.bl_crun_code_vm.proofs.Counted.{shown-sum, shown-twice}
+use Rattle.bl_crun_code_vm.proofs.Frames.{length-frame}
 use Rattle.bl_crun_code_vm.proofs.Counts.{counting, does-counts, recounted}
 
 -- ---- a run has one end
@@ -75,18 +79,6 @@ abbrev pub as_result : StepResult → StepResult
 as_result (goes s) = goes (as_shown s)
 as_result (done cells count result) = done cells (shown_count count) result
 as_result (trapped cells count) = trapped cells (shown_count count)
-
-min-sum : (n k m : ℕ) → min (min n m + k) m ≡ min (n + k) m
-min-sum n k m = omega arith
-
-shown-sum : (n k : ℕ) → shown_count (shown_count n + k) ≡ shown_count (n + k)
-shown-sum n k = min-sum n k (2 ^ 128 - 1)
-
-min-twice : (n m : ℕ) → min (min n m) m ≡ min n m
-min-twice n m = omega arith
-
-shown-twice : (n : ℕ) → shown_count (shown_count n) ≡ shown_count n
-shown-twice n = min-twice n (2 ^ 128 - 1)
 
 min-zero : (m : ℕ) → min 0 m ≡ 0
 min-zero m = omega arith
@@ -348,3 +340,60 @@ ends code steps first from m n answer o g a c end arrives over =
     let temps : length m.temps ≡ length from.temps = ap (λ (x : VmState). length x.temps) g.shows ∙ g.temps_stay in
     let room : m.room ≡ from.room = ap (λ (x : VmState). x.room) g.shows ∙ g.room_stays in
     came-end from m end answer o n temps room a (subst (λ (x : StepResult). Came m (as_result x) answer n) same came)
+
+-- ---- a machine at rest
+
+pub ended-rests : (first : VmState) (end : StepResult) (o answer : Option ℤ) (r : RegisterState) (count : ℕ) (cells : Cells) (temps : List ℤ) (w : Queue) →
+    Ended first end o (state_of r cells temps w) → answer ≡ o → count ≡ r.count → Ended first end answer (rested count cells temps w)
+ended-rests first (goes s) None answer r count cells temps w e a h = absurd e
+ended-rests first (goes s) (Some x) answer r count cells temps w e a h = absurd e
+ended-rests first (done c k v) None answer r count cells temps w e a h = absurd e
+ended-rests first (done c k v) (Some x) answer r count cells temps w e a h =
+    subst (λ (p : Option ℤ). Ended first (done c k v) p (rested count cells temps w)) (sym a) (
+      record {
+        cells_are = e.0.cells_are;
+        count_is = ap shown_count h ∙ e.0.count_is;
+        temps_stay = e.0.temps_stay;
+        room_stays = e.0.room_stays;
+      },
+      e.1,
+    )
+ended-rests first (trapped c k) None answer r count cells temps w e a h =
+    subst (λ (p : Option ℤ). Ended first (trapped c k) p (rested count cells temps w)) (sym a)
+    (record {
+      cells_are = e.cells_are;
+      count_is = ap shown_count h ∙ e.count_is;
+      temps_stay = e.temps_stay;
+      room_stays = e.room_stays;
+    })
+ended-rests first (trapped c k) (Some x) answer r count cells temps w e a h = absurd e
+
+pub ended-from : (a b : VmState) (end : StepResult) (answer : Option ℤ) (m : VmState) → length a.temps ≡ length b.temps → a.room ≡ b.room →
+    Ended a end answer m → Ended b end answer m
+ended-from a b (goes s) None m t r e = absurd e
+ended-from a b (goes s) (Some x) m t r e = absurd e
+ended-from a b (done c k v) None m t r e = absurd e
+ended-from a b (done c k v) (Some x) m t r e = (
+  record { cells_are = e.0.cells_are; count_is = e.0.count_is; temps_stay = e.0.temps_stay ∙ t; room_stays = e.0.room_stays ∙ r },
+  e.1,
+)
+ended-from a b (trapped c k) None m t r e =
+    record { cells_are = e.cells_are; count_is = e.count_is; temps_stay = e.temps_stay ∙ t; room_stays = e.room_stays ∙ r }
+ended-from a b (trapped c k) (Some x) m t r e = absurd e
+
+pub begun-is : (entry frame base : ℕ) (args : List ℤ) (cells after : Cells) (temps : List ℤ) (w left : Queue) → after ≡ frame_begun frame base args cells →
+    left ≡ record w { callers = [] } →
+    run_start entry base after temps left ≡ entry_state (record { entry = entry; frame = frame }) base args cells temps [] w.room 0
+begun-is entry frame base args cells after temps w left e f =
+    ap (λ (x : Cells). run_start entry base x temps left) e ∙ ap (λ (x : Queue). run_start entry base (frame_begun frame base args cells) temps x) f
+
+pub can_run : (code : Code) (steps entry frame base : ℕ) (args : List ℤ) (cells these : Cells) (temps those : List ℤ) (room places : ℕ) → these ≡ cells →
+    those ≡ temps → places ≡ room → length these ≤ 4294967295 →
+    Halts code steps (entry_state (record { entry = entry; frame = frame }) base args cells temps [] room 0) →
+    CanRun code steps (entry_state (record { entry = entry; frame = frame }) base args these those [] places 0)
+can_run code steps entry frame base args cells these temps those room places a b r few halts = record {
+  halts = subst (λ (x : ℕ). Halts code steps (entry_state (record { entry = entry; frame = frame }) base args these those [] x 0)) (sym r)
+      (subst (λ (x : List ℤ). Halts code steps (entry_state (record { entry = entry; frame = frame }) base args these x [] room 0)) (sym b)
+      (subst (λ (x : Cells). Halts code steps (entry_state (record { entry = entry; frame = frame }) base args x temps [] room 0)) (sym a) halts));
+  few = omega (arith, length-frame frame base args these, few);
+}

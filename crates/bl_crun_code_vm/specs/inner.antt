@@ -1,1 +1,4 @@
+pub mod Ranges
+pub mod Running
+pub mod State
 pub mod Stepping

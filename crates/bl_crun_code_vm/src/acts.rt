@@ -1,198 +1,218 @@
-//! Instructions that write, choose and jump.
+//! Frequent instructions, which write a number or choose where to go on.
 
-ghost use Rattle.std.specs.Prelude.{◌≡◌};
-ghost use Rattle.bl_ctext_semantics_laws.specs.Flat.{compared};
-ghost use Rattle.bl_crun_code.specs.Vm.{next_turn};
+ghost use Rattle.std.specs.Prelude.{◌≡◌, List, ℤ, option_map, if◌then◌else◌};
+ghost use Rattle.bl_tree.specs.Numbers.{is_one};
+ghost use Rattle.bl_ctext_semantics_laws.specs.Flat.{Cells, compared};
+ghost use Rattle.bl_crun_code.specs.Vm.{next_turn, written_if};
+ghost use Rattle.bl_crun_code.specs.declared.instruction.Act.TheVariants as act;
+ghost use Rattle.bl_crun_code_vm.specs.inner.State.{IsNear, IsReady, Queue, state_of};
+ghost use Rattle.bl_crun_code_vm.specs.inner.Stepping.{ActDone, Came, GoesIf, PassesIf};
 
 use crate::flow::Flow;
-use crate::vm::Vm;
-use crate::{address, prelude};
+use crate::operands::{number, write_if};
+use crate::registers::Registers;
+use crate::{address, cells, prelude};
 use bl_crun_code::instruction::Operand;
 use bl_ctext::Builtin;
 use bl_tree::Op;
 
-impl Vm {
-    ghost use Rattle.bl_crun_code.specs.Vm.{ahead, passing_by, written_if, goes, passing, with_number};
-    ghost use Rattle.bl_crun_code.specs.declared.instruction.Act.TheVariants as act;
-    ghost use Rattle.bl_crun_code_vm.specs.inner.Stepping.{ActDone, Came, IsNear};
-
-    /// Writes a number and goes on with the next instruction.
-    #[inline(always)]
-    fn give(&mut self, into: Operand, n: i128) -> Flow
-        requires { IsNear self.old }
-        ensures { Came self.old (goes (with_number (ahead self.old) into n)) result self.new }
-    {
-        self.go_to(self.at() + 1);
-        self.write(into, n);
+/// Goes on with the next instruction, where this one hasn't trapped.
+#[inline(always)]
+pub fn go_if(registers: &mut Registers, goes: bool) -> Flow
+    requires { IsNear registers.old }
+    ensures { GoesIf registers.old goes result registers.new }
+{
+    if goes {
+        registers.go_to(registers.at() + 1);
         Flow::Goes
+    } else {
+        Flow::Trapped
     }
+}
 
-    /// Writes an answer and goes on; traps where there is none.
-    #[inline(always)]
-    fn give_if(&mut self, into: Operand, answer: Option<i128>) -> Flow
-        requires { IsNear self.old }
-        ensures { Came self.old (written_if self.old into answer) result self.new }
-    {
-        match answer {
-            None => Flow::Trapped,
-            Some(n) => self.give(into, n),
+/// Writes an answer and goes on; traps where there is none.
+#[inline(always)]
+fn give_if(
+    registers: &mut Registers,
+    cells: &mut [i128],
+    temps: &mut [i128],
+    into: &Operand,
+    answer: Option<i128>,
+) -> Flow
+    requires near { IsNear registers.old }
+    requires ready { IsReady registers.old cells.old }
+    ensures did { (w : Queue) → Came (state_of registers.old cells.old temps.old w) (written_if (state_of registers.old cells.old temps.old w) into.now answer) result (state_of registers.new cells.new temps.new w) }
+    ensures ready { IsReady registers.new cells.new }
+{
+    let wrote = write_if(registers, cells, temps, into, answer);
+    go_if(registers, wrote)
+}
+
+#[inline(always)]
+pub fn write_number(
+    registers: &mut Registers,
+    cells: &mut [i128],
+    temps: &mut [i128],
+    into: &Operand,
+    a: &Operand,
+) -> Flow
+    requires near { IsNear registers.old }
+    requires ready { IsReady registers.old cells.old }
+    ensures did { (w : Queue) → ActDone (act.Move into.now a.now) (state_of registers.old cells.old temps.old w) result (state_of registers.new cells.new temps.new w) }
+    ensures ready { IsReady registers.new cells.new }
+{
+    let n = number(registers, cells, temps, a);
+    give_if(registers, cells, temps, into, Some(n))
+}
+
+#[inline(always)]
+pub fn both(
+    registers: &mut Registers,
+    cells: &mut [i128],
+    temps: &mut [i128],
+    builtin: Builtin,
+    into: &Operand,
+    a: &Operand,
+    b: &Operand,
+) -> Flow
+    requires near { IsNear registers.old }
+    requires ready { IsReady registers.old cells.old }
+    ensures did { (w : Queue) → ActDone (act.Both builtin into.now a.now b.now) (state_of registers.old cells.old temps.old w) result (state_of registers.new cells.new temps.new w) }
+    ensures ready { IsReady registers.new cells.new }
+{
+    let left = number(registers, cells, temps, a);
+    let right = number(registers, cells, temps, b);
+    let answer = prelude::of_two(builtin, left, right);
+    give_if(registers, cells, temps, into, answer)
+}
+
+#[inline(always)]
+pub fn write_element(
+    registers: &mut Registers,
+    cells: &mut [i128],
+    temps: &mut [i128],
+    j: u32,
+    at: &Operand,
+    i: &Operand,
+    length: u32,
+    size: u32,
+) -> Flow
+    requires near { IsNear registers.old }
+    requires ready { IsReady registers.old cells.old }
+    ensures did { (w : Queue) → ActDone (act.Element j at.now i.now length size) (state_of registers.old cells.old temps.old w) result (state_of registers.new cells.new temps.new w) }
+    ensures ready { IsReady registers.new cells.new }
+{
+    let first = number(registers, cells, temps, at);
+    let index = number(registers, cells, temps, i);
+    let answer = address::element(length, size, first, index);
+    give_if(registers, cells, temps, &Operand::Temporary(j), answer)
+}
+
+#[inline(always)]
+pub fn turn(registers: &mut Registers, cells: &mut [i128], temps: &mut [i128], j: u32) -> Flow
+    requires near { IsNear registers.old }
+    requires ready { IsReady registers.old cells.old }
+    ensures did { (w : Queue) → ActDone (act.Turn j) (state_of registers.old cells.old temps.old w) result (state_of registers.new cells.new temps.new w) }
+    ensures ready { IsReady registers.new cells.new }
+{
+    let answer = next_turn(cells::get(temps, j as usize));
+    give_if(registers, cells, temps, &Operand::Temporary(j), answer)
+}
+
+/// Passes so many instructions; traps where there is no number.
+#[inline(always)]
+fn pass_if(registers: &mut Registers, n: Option<u32>) -> Flow
+    requires { IsNear registers.old }
+    ensures { PassesIf registers.old n result registers.new }
+{
+    match n {
+        None => Flow::Trapped,
+        Some(n) => {
+            registers.go_to(registers.at() + 1 + n as usize);
+            Flow::Goes
         }
     }
+}
 
-    /// Passes so many instructions.
-    #[inline(always)]
-    fn pass(&mut self, n: u32) -> Flow
-        requires { IsNear self.old }
-        ensures { Came self.old (passing self.old n) result self.new }
-    {
-        self.go_to(self.at() + 1 + n as usize);
-        Flow::Goes
-    }
+/// Passes so many instructions.
+#[inline(always)]
+pub fn skip(registers: &mut Registers, n: u32) -> Flow
+    requires { IsNear registers.old }
+    ensures did { (cells : Cells) (temps : List ℤ) (w : Queue) → ActDone (act.Skip n) (state_of registers.old cells temps w) result (state_of registers.new cells temps w) }
+    ensures ready { (cells : Cells) → IsReady registers.old cells → IsReady registers.new cells }
+{
+    registers.go_to(registers.at() + 1 + n as usize);
+    Flow::Goes
+}
 
-    #[inline(always)]
-    pub(crate) fn write_number(&mut self, into: Operand, a: Operand) -> Flow
-        requires { IsNear self.old }
-        ensures { ActDone (act.Move into a) self.old result self.new }
-    {
-        let n = self.number(a);
-        self.give(into, n)
-    }
+/// Goes back so many instructions.
+#[inline(always)]
+pub fn again(registers: &mut Registers, n: u32) -> Flow
+    ensures did { (cells : Cells) (temps : List ℤ) (w : Queue) → ActDone (act.Again n) (state_of registers.old cells temps w) result (state_of registers.new cells temps w) }
+    ensures ready { (cells : Cells) → IsReady registers.old cells → IsReady registers.new cells }
+{
+    registers.go_to(registers.at().saturating_sub(n as usize));
+    Flow::Goes
+}
 
-    #[inline(always)]
-    pub(crate) fn write_constant(&mut self, into: Operand, n: i128) -> Flow
-        requires { IsNear self.old }
-        ensures { ActDone (act.Constant into n) self.old result self.new }
-    {
-        self.give(into, n)
-    }
+#[inline(always)]
+pub fn test(
+    registers: &mut Registers,
+    cells: &[i128],
+    temps: &[i128],
+    a: &Operand,
+    yes: u32,
+    no: u32,
+) -> Flow
+    requires near { IsNear registers.old }
+    requires ready { IsReady registers.old cells.now }
+    ensures did { (w : Queue) → ActDone (act.Test a.now yes no) (state_of registers.old cells.now temps.now w) result (state_of registers.new cells.now temps.now w) }
+    ensures ready { IsReady registers.new cells.now }
+{
+    let n = number(registers, cells, temps, a);
+    let passed = chosen(n, yes, no);
+    pass_if(registers, Some(passed))
+}
 
-    #[inline(always)]
-    pub(crate) fn write_element(
-        &mut self,
-        j: u32,
-        at: Operand,
-        i: Operand,
-        length: u32,
-        size: u32,
-    ) -> Flow
-        requires { IsNear self.old }
-        ensures { ActDone (act.Element j at i length size) self.old result self.new }
-    {
-        let first = self.number(at);
-        let index = self.number(i);
-        self.give_if(
-            Operand::Temporary(j),
-            address::element(length, size, first, index),
-        )
-    }
+#[inline(always)]
+pub fn compare(
+    registers: &mut Registers,
+    cells: &[i128],
+    temps: &[i128],
+    op: Op,
+    a: &Operand,
+    b: &Operand,
+    yes: u32,
+    no: u32,
+) -> Flow
+    requires near { IsNear registers.old }
+    requires ready { IsReady registers.old cells.now }
+    ensures did { (w : Queue) → ActDone (act.Compare op a.now b.now yes no) (state_of registers.old cells.now temps.now w) result (state_of registers.new cells.now temps.now w) }
+    ensures ready { IsReady registers.new cells.now }
+{
+    let left = number(registers, cells, temps, a);
+    let right = number(registers, cells, temps, b);
+    let passed = passed(op, left, right, yes, no);
+    pass_if(registers, passed)
+}
 
-    #[inline(always)]
-    pub(crate) fn copy(&mut self, at: Operand, from: Operand, size: u32) -> Flow
-        requires { IsNear self.old }
-        ensures { ActDone (act.Copy at from size) self.old result self.new }
-    {
-        let first = address::cell(self.number(from));
-        let to = address::cell(self.number(at));
-        self.copy_cells(first, to, size);
-        self.go_to(self.at() + 1);
-        Flow::Goes
+/// How many instructions a comparison passes; `None` for any other operator.
+#[inline(always)]
+fn passed(op: Op, a: i128, b: i128, yes: u32, no: u32) -> Option<u32>
+    ensures { result ≡ option_map (λ c. if is_one c then yes else no) (compared op a b) }
+{
+    match compared(op, a, b) {
+        None => None,
+        Some(n) => Some(chosen(n, yes, no)),
     }
+}
 
-    #[inline(always)]
-    pub(crate) fn zero(&mut self, at: Operand, size: u32) -> Flow
-        requires { IsNear self.old }
-        ensures { ActDone (act.Zero at size) self.old result self.new }
-    {
-        let first = address::cell(self.number(at));
-        self.zero_cells(first, size);
-        self.go_to(self.at() + 1);
-        Flow::Goes
-    }
-
-    #[inline(always)]
-    pub(crate) fn negate(&mut self, into: Operand, a: Operand) -> Flow
-        requires { IsNear self.old }
-        ensures { ActDone (act.Negate into a) self.old result self.new }
-    {
-        let n = self.number(a);
-        self.give(into, i128::from(n != 1))
-    }
-
-    #[inline(always)]
-    pub(crate) fn two(&mut self, op: Op, into: Operand, a: Operand, b: Operand) -> Flow
-        requires { IsNear self.old }
-        ensures { ActDone (act.Two op into a b) self.old result self.new }
-    {
-        let left = self.number(a);
-        let right = self.number(b);
-        self.give_if(into, compared(op, left, right))
-    }
-
-    #[inline(always)]
-    pub(crate) fn one(&mut self, builtin: Builtin, into: Operand, a: Operand) -> Flow
-        requires { IsNear self.old }
-        ensures { ActDone (act.One builtin into a) self.old result self.new }
-    {
-        let n = self.number(a);
-        self.give_if(into, prelude::of_one(builtin, n))
-    }
-
-    #[inline(always)]
-    pub(crate) fn both(&mut self, builtin: Builtin, into: Operand, a: Operand, b: Operand) -> Flow
-        requires { IsNear self.old }
-        ensures { ActDone (act.Both builtin into a b) self.old result self.new }
-    {
-        let left = self.number(a);
-        let right = self.number(b);
-        self.give_if(into, prelude::of_two(builtin, left, right))
-    }
-
-    #[inline(always)]
-    pub(crate) fn skip(&mut self, n: u32) -> Flow
-        requires { IsNear self.old }
-        ensures { ActDone (act.Skip n) self.old result self.new }
-    {
-        self.pass(n)
-    }
-
-    #[inline(always)]
-    pub(crate) fn again(&mut self, n: u32) -> Flow
-        ensures { ActDone (act.Again n) self.old result self.new }
-    {
-        self.go_to(self.at().saturating_sub(n as usize));
-        Flow::Goes
-    }
-
-    #[inline(always)]
-    pub(crate) fn test(&mut self, a: Operand, yes: u32, no: u32) -> Flow
-        requires { IsNear self.old }
-        ensures { ActDone (act.Test a yes no) self.old result self.new }
-    {
-        let n = self.number(a);
-        self.pass(if n == 1 { yes } else { no })
-    }
-
-    #[inline(always)]
-    pub(crate) fn compare(&mut self, op: Op, a: Operand, b: Operand, yes: u32, no: u32) -> Flow
-        requires { IsNear self.old }
-        ensures { ActDone (act.Compare op a b yes no) self.old result self.new }
-    {
-        let left = self.number(a);
-        let right = self.number(b);
-        match compared(op, left, right) {
-            None => Flow::Trapped,
-            Some(n) => self.pass(if n == 1 { yes } else { no }),
-        }
-    }
-
-    #[inline(always)]
-    pub(crate) fn turn(&mut self, j: u32) -> Flow
-        requires { IsNear self.old }
-        ensures { ActDone (act.Turn j) self.old result self.new }
-    {
-        let n = self.temp(j);
-        self.give_if(Operand::Temporary(j), next_turn(n))
-    }
+/// How many instructions a condition passes.
+#[inline(always)]
+fn chosen(condition: i128, yes: u32, no: u32) -> u32
+    ensures { result ≡ (if is_one condition then yes else no) }
+{
+    if condition == 1 { yes } else { no }
 }
 
 /// The next turn of a loop; `None` where 65,536 have begun.
@@ -205,7 +225,7 @@ fn next_turn(n: i128) -> Option<i128>
 
 /// What a comparison gives; `None` for any other operator.
 #[inline(always)]
-fn compared(op: Op, a: i128, b: i128) -> Option<i128>
+pub fn compared(op: Op, a: i128, b: i128) -> Option<i128>
     ensures { result ≡ compared op a b }
 {
     let holds = match op {

@@ -4,10 +4,10 @@ ghost use Rattle.std.specs.Prelude.{◌≡◌, length};
 ghost use Rattle.bl_ctext_semantics_laws.specs.Flat.{copied, frame_begun, with_args, zeroed};
 
 /// Sets so many cells from one on to 0, as far as there are cells.
-pub fn zero(cells: &mut [i128], at: usize, size: u32)
+pub fn zero(cells: &mut [i128], at: usize, size: usize)
     ensures { cells.new ≡ zeroed size at cells.old }
 {
-    let end = at.saturating_add(size as usize).min(cells.len());
+    let end = at.saturating_add(size).min(cells.len());
     for k in at..end {
         cells[k] = 0;
     }
@@ -24,12 +24,15 @@ pub fn copy(cells: &mut [i128], from: usize, at: usize, size: u32)
     }
 }
 
-/// The frame of a function as it begins: all 0 but for the arguments.
-pub fn begin(cells: &mut Vec<i128>, base: u32, size: u32, args: &[i128])
-    ensures { cells.new.items ≡ frame_begun size base args.now cells.old.items }
+/// The frame of a function as it begins: all 0 but for the arguments, which stand first.
+pub fn begin(cells: &mut [i128], base: u32, size: u32, args: &[i128])
+    ensures { cells.new ≡ frame_begun size base args.now cells.old }
 {
-    zero(cells, base as usize, size);
-    put(cells, base as usize, args);
+    let at = base as usize;
+    let count = args.len();
+    let rest = (size as usize).saturating_sub(count);
+    put(cells, at, args);
+    zero(cells, at + count, rest);
 }
 
 /// Puts arguments into the cells from one on, as far as there are cells.

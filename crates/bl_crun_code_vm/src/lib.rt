@@ -5,12 +5,18 @@
 
 mod acts;
 mod address;
+mod arithmetic;
 mod calls;
+mod cells;
 mod flow;
 mod frame;
 mod operands;
 mod prelude;
+mod ranges;
+mod rare;
+mod registers;
 mod run;
 pub mod vm;
+mod waiting;
 
 pub use vm::Vm;

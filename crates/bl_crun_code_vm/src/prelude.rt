@@ -6,8 +6,10 @@ ghost use Rattle.bl_tree.specs.Numbers.{checked_of, checked_one_of, fitted, take
 ghost use Rattle.bl_ctext_semantics.specs.Builtin.{builtin_value, in_c, widest};
 ghost use Rattle.bl_ctext_semantics_laws.specs.Flat.{prelude_value};
 
+use crate::arithmetic;
+use crate::ranges::holds;
 use bl_ctext::Builtin;
-use bl_tree::{Op, Scalar, Width, checked, checked_one};
+use bl_tree::{Scalar, Width};
 
 /// What a function of the prelude gives for one number; `None`, a trap, also for a number outside of its parameter's
 /// type and for an operator on a type that it doesn't take.
@@ -15,7 +17,7 @@ pub fn of_one(builtin: Builtin, a: i128) -> Option<i128>
     ensures { result ≡ prelude_value builtin (a ∷ []) }
 {
     match builtin {
-        Builtin::One(op, t) => one(op, t, a),
+        Builtin::One(op, t) => arithmetic::one(op, t, a),
         Builtin::Cast(signed, t) => cast(signed, t, a),
         Builtin::Turn => turn(a),
         Builtin::Two(..) | Builtin::Index(_) | Builtin::Stop => None,
@@ -23,31 +25,15 @@ pub fn of_one(builtin: Builtin, a: i128) -> Option<i128>
 }
 
 /// The same for two numbers.
+#[inline(always)]
 pub fn of_two(builtin: Builtin, a: i128, b: i128) -> Option<i128>
     ensures { result ≡ prelude_value builtin (a ∷ b ∷ []) }
 {
     match builtin {
-        Builtin::Two(op, t) => two(op, t, a, b),
+        Builtin::Two(op, t) => arithmetic::two(op, t, a, b),
         Builtin::Index(signed) => index(signed, a, b),
         Builtin::One(..) | Builtin::Cast(..) | Builtin::Turn | Builtin::Stop => None,
     }
-}
-
-/// Whether the number is in the range of the type.
-fn holds(t: Scalar, n: i128) -> bool
-    ensures { result ≡ in_range t n }
-{
-    let range = t.range();
-    range.low <= n && n <= range.high
-}
-
-/// The same; C has the same range for bits as for nat.
-fn holds_in_c(t: Scalar, n: i128) -> bool
-    ensures value { result ≡ in_range (in_c t) n }
-    ensures fact { IsTrue result ↔ InRange t n }
-{
-    let range = t.range();
-    range.low <= n && n <= range.high
 }
 
 fn widest(signed: bool) -> Scalar
@@ -57,26 +43,6 @@ fn widest(signed: bool) -> Scalar
         Scalar::Int(Width::W64)
     } else {
         Scalar::Nat(Width::W64)
-    }
-}
-
-fn two(op: Op, t: Scalar, a: i128, b: i128) -> Option<i128>
-    ensures { result ≡ prelude_value (Builtin.Two op t) (a ∷ b ∷ []) }
-{
-    if op.takes_two(t) && holds_in_c(t, a) && holds_in_c(t, b) {
-        checked(op, t, a, b)
-    } else {
-        None
-    }
-}
-
-fn one(op: Op, t: Scalar, a: i128) -> Option<i128>
-    ensures { result ≡ prelude_value (Builtin.One op t) (a ∷ []) }
-{
-    if op.takes_one(t) && holds_in_c(t, a) {
-        checked_one(op, t, a)
-    } else {
-        None
     }
 }
 

@@ -1,81 +1,178 @@
-//! Runs of the machine.
+//! Runs of the machine over its parts.
 
-ghost use Rattle.std.specs.Prelude.{ℕ, [], ◌≤◌, ◌<◌, ◌^◌, length};
+ghost use Rattle.std.specs.Prelude.{ℕ, ◌≡◌, [], Some};
 ghost use Rattle.bl_crun_code.specs.Laws.{Arrives, entry_state};
-ghost use Rattle.bl_crun_code.specs.Vm.{StepResult, vm_step};
+ghost use Rattle.bl_crun_code.specs.Vm.{StepResult};
+ghost use Rattle.bl_crun_code_vm.specs.Ends.{Ended, IsEnd};
+ghost use Rattle.bl_crun_code_vm.specs.inner.State.{IsNear, IsReady, Queue, run_start, rested, state_of};
+ghost use Rattle.bl_crun_code_vm.specs.inner.Running.{CanRun};
+ghost use Rattle.bl_crun_code_vm.specs.inner.Stepping.{ActDone, Came, IsRare, StepDone, shown_step};
 
 use crate::flow::Flow;
-use crate::vm::Vm;
+use crate::registers::Registers;
+use crate::waiting::Waiting;
+use crate::{acts, address, calls, frame, rare};
 use bl_crun_code::instruction::{Act, Instruction};
 
-impl Vm {
-    ghost use Rattle.bl_crun_code_vm.specs.Ends.{Ended, Halts, IsEnd};
-    ghost use Rattle.bl_crun_code_vm.specs.inner.Stepping.{ActDone, IsNear, StepDone};
+/// How a run ends.
+#[derive(Clone, Copy)]
+pub struct End {
+    /// The result of the first function, and `None` where it trapped.
+    pub answer: Option<i128>,
+    /// How many statements have begun, or the greatest number.
+    pub count: u128,
+}
 
-    /// Runs a function of the code, whose frame begins at a cell, and gives its result, `None` where it traps. It takes
-    /// no memory. The function comes to its end in a number of steps that only the contract names.
-    pub fn run(
-        &mut self,
-        code: &[Instruction],
-        entry: usize,
-        frame: u32,
-        base: u32,
-        args: &[i128],
-    ) -> Option<i128>
-        ghost steps: { ℕ }
-        requires { Halts code.now steps (entry_state (record { entry = entry; frame = frame }) base args.now self.old.cells self.old.temps [] self.old.room 0) }
-        ensures { (end : StepResult) →
-            Arrives code.now (entry_state (record { entry = entry; frame = frame }) base args.now self.old.cells self.old.temps [] self.old.room 0) end →
-            IsEnd end → Ended self.old end result self.new }
-    {
-        self.begin(entry, frame, base, args);
-        loop {
-            match self.step(code) {
-                Flow::Goes => {}
-                Flow::Done(answer) => return Some(answer),
-                Flow::Trapped => return None,
-            }
+/// Runs a function of the code up to its end, where its frame begins at a cell.
+pub fn run_function(
+    code: &[Instruction],
+    entry: usize,
+    frame: u32,
+    base: u32,
+    args: &[i128],
+    cells: &mut [i128],
+    temps: &mut [i128],
+    waiting: &mut Waiting,
+) -> End
+    ghost steps: { ℕ }
+    requires { CanRun code.now steps (entry_state (record { entry = entry; frame = frame }) base args.now cells.old temps.old [] waiting.old.room 0) }
+    ensures { (end : StepResult) →
+        Arrives code.now (entry_state (record { entry = entry; frame = frame }) base args.now cells.old temps.old [] waiting.old.room 0) end →
+        IsEnd end → Ended (rested 0 cells.old temps.old waiting.old) end result.answer (rested result.count cells.new temps.new waiting.new) }
+{
+    frame::begin(cells, base, frame, args);
+    waiting.clear();
+    run(code, entry, base, cells, temps, waiting)
+}
+
+/// Runs code from an entry up to its end, where a frame begins at a cell.
+#[inline(never)]
+fn run(
+    code: &[Instruction],
+    entry: usize,
+    base: u32,
+    cells: &mut [i128],
+    temps: &mut [i128],
+    waiting: &mut Waiting,
+) -> End
+    ghost steps: { ℕ }
+    requires { CanRun code.now steps (run_start entry base cells.old temps.old waiting.old) }
+    ensures { (end : StepResult) → Arrives code.now (run_start entry base cells.old temps.old waiting.old) end → IsEnd end →
+        Ended (run_start entry base cells.old temps.old waiting.old) end result.answer (rested result.count cells.new temps.new waiting.new) }
+{
+    let first = address::first(base, cells);
+    let mut registers = Registers::new(entry, base, first);
+    loop {
+        match step(code, &mut registers, cells, temps, waiting) {
+            Flow::Goes => {}
+            Flow::Done(answer) => return ended(Some(answer), &registers),
+            Flow::Trapped => return ended(None, &registers),
         }
     }
+}
 
-    /// One step.
-    #[inline(always)]
-    fn step(&mut self, code: &[Instruction]) -> Flow
-        ensures { StepDone code.now self.old result self.new }
-    {
-        match code.get(self.at()) {
-            None => Flow::Trapped,
-            Some(instruction) => {
-                self.add_statements(instruction.statements);
-                self.take(&instruction.act)
-            }
-        }
+/// The end of a run with an answer.
+#[inline(always)]
+fn ended(answer: Option<i128>, registers: &Registers) -> End
+    ensures answer { result.answer ≡ answer }
+    ensures count { result.count ≡ registers.now.count }
+{
+    End {
+        answer,
+        count: registers.count(),
     }
+}
 
-    /// What an instruction does once its statements are counted.
-    #[inline(always)]
-    fn take(&mut self, act: &Act) -> Flow
-        requires { IsNear self.old }
-        ensures { ActDone act.now self.old result self.new }
-    {
-        match act {
-            Act::Move(into, a) => self.write_number(*into, *a),
-            Act::Constant(into, n) => self.write_constant(*into, *n),
-            Act::Element(j, at, i, length, size) => self.write_element(*j, *at, *i, *length, *size),
-            Act::Copy(at, from, size) => self.copy(*at, *from, *size),
-            Act::Zero(at, size) => self.zero(*at, *size),
-            Act::Negate(into, a) => self.negate(*into, *a),
-            Act::Two(op, into, a, b) => self.two(*op, *into, *a, *b),
-            Act::One(builtin, into, a) => self.one(*builtin, *into, *a),
-            Act::Both(builtin, into, a, b) => self.both(*builtin, *into, *a, *b),
-            Act::Skip(n) => self.skip(*n),
-            Act::Again(n) => self.again(*n),
-            Act::Test(a, yes, no) => self.test(*a, *yes, *no),
-            Act::Compare(op, a, b, yes, no) => self.compare(*op, *a, *b, *yes, *no),
-            Act::Turn(j) => self.turn(*j),
-            Act::Call(callee) => self.call(*callee),
-            Act::Return(a) => self.end(*a),
-            Act::Stop => Flow::Trapped,
-        }
+/// One step.
+#[inline(always)]
+fn step(
+    code: &[Instruction],
+    registers: &mut Registers,
+    cells: &mut [i128],
+    temps: &mut [i128],
+    waiting: &mut Waiting,
+) -> Flow
+    requires { IsReady registers.old cells.old }
+    ensures did { StepDone code.now (state_of registers.old cells.old temps.old waiting.old) result (state_of registers.new cells.new temps.new waiting.new) }
+    ensures ready { IsReady registers.new cells.new }
+{
+    match code.get(registers.at()) {
+        None => Flow::Trapped,
+        Some(instruction) => obey(instruction, registers, cells, temps, waiting),
     }
+}
+
+/// An instruction is counted and done.
+#[inline(always)]
+fn obey(
+    instruction: &Instruction,
+    registers: &mut Registers,
+    cells: &mut [i128],
+    temps: &mut [i128],
+    waiting: &mut Waiting,
+) -> Flow
+    requires near { IsNear registers.old }
+    requires ready { IsReady registers.old cells.old }
+    ensures did { Came (state_of registers.old cells.old temps.old waiting.old) (shown_step (state_of registers.old cells.old temps.old waiting.old) (Some instruction.now)) result (state_of registers.new cells.new temps.new waiting.new) }
+    ensures ready { IsReady registers.new cells.new }
+{
+    registers.add_statements(instruction.statements);
+    take(&instruction.act, registers, cells, temps, waiting)
+}
+
+/// What an instruction does once its statements are counted.
+#[inline(always)]
+fn take(
+    act: &Act,
+    registers: &mut Registers,
+    cells: &mut [i128],
+    temps: &mut [i128],
+    waiting: &mut Waiting,
+) -> Flow
+    requires near { IsNear registers.old }
+    requires ready { IsReady registers.old cells.old }
+    ensures did { ActDone act.now (state_of registers.old cells.old temps.old waiting.old) result (state_of registers.new cells.new temps.new waiting.new) }
+    ensures ready { IsReady registers.new cells.new }
+{
+    match act {
+        Act::Move(into, a) => acts::write_number(registers, cells, temps, into, a),
+        Act::Both(builtin, into, a, b) => {
+            acts::both(registers, cells, temps, *builtin, into, a, b)
+        }
+        Act::Element(j, at, i, length, size) => {
+            acts::write_element(registers, cells, temps, *j, at, i, *length, *size)
+        }
+        Act::Skip(n) => acts::skip(registers, *n),
+        Act::Again(n) => acts::again(registers, *n),
+        Act::Test(a, yes, no) => acts::test(registers, cells, temps, a, *yes, *no),
+        Act::Compare(op, a, b, yes, no) => {
+            acts::compare(registers, cells, temps, *op, a, b, *yes, *no)
+        }
+        Act::Turn(j) => acts::turn(registers, cells, temps, *j),
+        Act::Call(callee) => calls::call(callee, registers, cells, temps, waiting),
+        Act::Return(a) => calls::end(a, registers, cells, temps, waiting),
+        Act::Stop => Flow::Trapped,
+        Act::Constant(..) => rarely(act, registers, cells, temps),
+        Act::Copy(..) => rarely(act, registers, cells, temps),
+        Act::Zero(..) => rarely(act, registers, cells, temps),
+        Act::Negate(..) => rarely(act, registers, cells, temps),
+        Act::Two(..) => rarely(act, registers, cells, temps),
+        Act::One(..) => rarely(act, registers, cells, temps),
+    }
+}
+
+/// Does what a rare instruction does.
+#[inline(always)]
+fn rarely(act: &Act, registers: &mut Registers, cells: &mut [i128], temps: &mut [i128]) -> Flow
+    requires near { IsNear registers.old }
+    requires rare { IsRare act.now }
+    requires ready { IsReady registers.old cells.old }
+    ensures did { (w : Queue) → ActDone act.now (state_of registers.old cells.old temps.old w) result (state_of registers.new cells.new temps.new w) }
+    ensures ready { IsReady registers.new cells.new }
+{
+    let base = registers.base();
+    let wrote = rare::write_rare(act, base, registers.first(), cells, temps);
+    let first = address::first(base, cells);
+    registers.lead_to(first);
+    acts::go_if(registers, wrote)
 }

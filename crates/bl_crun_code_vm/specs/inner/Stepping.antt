@@ -1,18 +1,14 @@
 -- What a machine shows after a step.
-use Rattle.std.specs.Prelude.{List, [], ◌∷◌, None, Option, Some, slice_get, ℕ, ◌+◌, ◌<◌, ◌^◌, ◌≡◌}
+use Rattle.std.specs.Prelude.{List, None, Option, Some, slice_get, ℕ, ◌+◌, ◌≡◌, Bool, true, false, ⊤}
 use Rattle.bl_ctext_semantics_laws.specs.Flat.{Cells}
 use Rattle.bl_crun_code.specs.declared.instruction.Act.{Act}
-use Rattle.bl_crun_code.specs.declared.instruction.Caller.{Caller}
-use Rattle.bl_crun_code.specs.declared.instruction.Operand.{Operand}
+use Rattle.bl_crun_code.specs.declared.instruction.Act.TheVariants as act
 use Rattle.bl_crun_code.specs.declared.instruction.Instruction.{Instruction}
 use Rattle.bl_crun_code.specs.Vm.{StepResult, VmState, does, done, goes, stops, trapped}
 use Rattle.bl_crun_code_vm.specs.declared.flow.Flow.{Flow}
 use Rattle.bl_crun_code_vm.specs.declared.flow.Flow.TheVariants as flow
 use Rattle.bl_crun_code_vm.specs.Steps.{shown_count}
-
--- a position behind which code can go on
-abbrev pub IsNear : VmState → Type 0
-IsNear m = m.at < 2 ^ 63
+use Rattle.bl_crun_code_vm.specs.inner.State.{RegisterState}
 
 -- a machine has come to an end with these cells and this count, and with its temporaries and its room
 pub record Rests (from : VmState) (cells : Cells) (count : ℕ) (m : VmState) : Type 0 where
@@ -41,12 +37,24 @@ shown_step s (Some i) = does (record s { count = shown_count (s.count + i.statem
 abbrev pub StepDone : List Instruction → VmState → Flow → VmState → Type 0
 StepDone code from answer m = Came from (shown_step from (slice_get code from.at)) answer m
 
--- the first of these functions has gone on
-abbrev pub ResumedAt : VmState → List Caller → Operand → VmState → Type 0
-ResumedAt from [] into m = ⊥
-ResumedAt from (w ∷ rest) into m = (into ≡ w.into) × (m ≡ record from { at = w.back; base = w.base; callers = rest })
+-- a machine goes on with the next instruction, where the last one hasn't trapped
+abbrev pub GoesIf : RegisterState → Bool → Flow → RegisterState → Type 0
+GoesIf r true flow.Goes after = after ≡ record r { at = r.at + 1 }
+GoesIf r false flow.Trapped after = after ≡ r
+GoesIf r _ _ after = ⊥
 
--- the last function that waits has gone on, and tells where it wants the result; without one, nothing has changed
-abbrev pub Resumed : VmState → Option Operand → VmState → Type 0
-Resumed from None m = (from.callers ≡ []) × (m ≡ from)
-Resumed from (Some into) m = ResumedAt from from.callers into m
+-- a machine passes so many instructions, or traps without a number
+abbrev pub PassesIf : RegisterState → Option ℕ → Flow → RegisterState → Type 0
+PassesIf r (Some n) flow.Goes after = after ≡ record r { at = r.at + 1 + n }
+PassesIf r None flow.Trapped after = after ≡ r
+PassesIf r _ _ after = ⊥
+
+-- the instruction is one of those that write and are rare
+abbrev pub IsRare : Act → Type 0
+IsRare (act.Constant into n) = ⊤
+IsRare (act.Copy at from size) = ⊤
+IsRare (act.Zero at size) = ⊤
+IsRare (act.Negate into a) = ⊤
+IsRare (act.Two op into a b) = ⊤
+IsRare (act.One builtin into a) = ⊤
+IsRare _ = ⊥

@@ -11,6 +11,6 @@ invariant-place-loop-k l =
     l.code ≡ along_code l.mode.late l.mode.depth (base_at l.k l.mode.late l.mode.depth l.walk.start)
     (map (term_of (ground_of l.here) (out-CPlace l.at).steps) (drop l.k l.walk.terms.items)) ++ l.fn.code
 
-abbrev pub invariant-args-loop-k : goal.invariant-args-loop-k
-invariant-args-loop-k l =
+abbrev pub invariant-args_written-loop-k : goal.invariant-args_written-loop-k
+invariant-args_written-loop-k l =
     l.code ≡ args_code l.mode.late (l.k + l.mode.depth) (args_of (ground_of l.here) (drop l.k l.args)) ++ l.fn.code

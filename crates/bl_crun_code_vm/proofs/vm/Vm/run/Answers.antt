@@ -1,39 +1,13 @@
-use Rattle.std.proofs.Common.{[], Some, None, ap, refl, rules}
-use Rattle.std.specs.Int.{w128}
-use Rattle.std.proofs.lemmas.Int.{to_z-of_z}
-use Rattle.bl_crun_code.specs.Laws.{entry_state}
-use Rattle.bl_crun_code_vm.specs.declared.flow.Flow.TheVariants as flow
-use Rattle.bl_crun_code_vm.proofs.Running.{begins, ends, goes-less, goes-on}
+use Rattle.std.proofs.Common.{◌∙◌, ◌≤◌, ap, length, subst, sym}
+use Rattle.bl_ctext_semantics_laws.specs.Flat.{Cells}
+use Rattle.bl_crun_code.specs.Vm.{VmState}
+use Rattle.bl_crun_code_vm.proofs.Running.{can_run}
 use Rattle.bl_crun_code_vm.proofs.vm.Vm.run.Goals as goal
 
-pub loop-answer-smaller : goal.loop-answer-smaller
-loop-answer-smaller g c =
-    goes-less c.args.code.now g.steps
-    (entry_state (record { entry = c.args.entry; frame = c.args.frame }) c.args.base c.args.args.now c.args.self.now.cells c.args.self.now.temps []
-    c.args.self.now.room 0) c.args.self.now
-    c.loop-answer.self c.step.new.self
-    c.loop-answer.invariant c.in-Goes.ensures
-
-pub loop-answer-preserved : goal.loop-answer-preserved
-loop-answer-preserved g c =
-    goes-on c.args.code.now g.steps
-    (entry_state (record { entry = c.args.entry; frame = c.args.frame }) c.args.base c.args.args.now c.args.self.now.cells c.args.self.now.temps []
-    c.args.self.now.room 0) c.args.self.now
-    c.loop-answer.self c.step.new.self
-    c.loop-answer.invariant c.in-Goes.ensures
-
-pub returns-in-Done : goal.returns-in-Done
-returns-in-Done g c =
-    ends c.args.code.now g.steps
-    (entry_state (record { entry = c.args.entry; frame = c.args.frame }) c.args.base c.args.args.now c.args.self.now.cells c.args.self.now.temps []
-    c.args.self.now.room 0)
-    c.args.self.now c.loop-answer.self c.step.new.self
-    (flow.Done c.in-Done.answer) _ c.loop-answer.invariant (ap Some (to_z-of_z w128 c.in-Done.answer (search rules))) c.in-Done.ensures
-
-pub returns-in-Trapped : goal.returns-in-Trapped
-returns-in-Trapped g c =
-    ends c.args.code.now g.steps
-    (entry_state (record { entry = c.args.entry; frame = c.args.frame }) c.args.base c.args.args.now c.args.self.now.cells c.args.self.now.temps []
-    c.args.self.now.room 0)
-    c.args.self.now c.loop-answer.self c.step.new.self
-    flow.Trapped None c.loop-answer.invariant refl c.in-Trapped.ensures
+pub run_function-end-requires : goal.run_function-end-requires
+run_function-end-requires g c =
+    can_run c.args.code.now g.steps c.args.entry c.args.frame c.args.base c.args.args.now c.args.self.now.cells c.deref_mut.result.now
+    c.args.self.now.temps c.deref_mut-2.result.now c.args.self.now.room c.self.inside.waiting.room
+    (c.deref_mut.ensures.value ∙ ap (λ (m : VmState). m.cells) c.self.view_is)
+    (c.deref_mut-2.ensures.value ∙ ap (λ (m : VmState). m.temps) c.self.view_is) (ap (λ (m : VmState). m.room) c.self.view_is)
+    (subst (λ (x : Cells). length x ≤ 4294967295) (sym c.deref_mut.ensures.value) c.self.invariant) c.requires
