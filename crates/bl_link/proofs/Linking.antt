@@ -5,13 +5,14 @@ use Rattle.bl_joined.specs.declared.joined.Joined.{Joined}
 use Rattle.bl_joined.specs.Joined.{IsJoinedOf}
 use Rattle.bl_lex.specs.Tokens.{Lexes}
 use Rattle.bl_link.proofs.Answers.{told_stops}
-use Rattle.bl_link.proofs.Trees.{JoinedLex, JoinedPass, joined_lexes, tokens_pass}
+use Rattle.bl_link.proofs.Trees.{joined_lexes, part_tokens_pass}
 use Rattle.bl_link.proofs.Turns.{good_parts}
 use Rattle.bl_link.specs.declared.fault.LinkFault.{LinkFault}
 use Rattle.bl_link.specs.Fits.{PartsFit, faces_of, part_texts}
 use Rattle.bl_link.specs.inner.Whole.{ArePartsOf, IsOfFew, IsReadable, TellsIn}
 use Rattle.bl_link.specs.Linked.{AreLinked, HaveTree, LinkStops}
 use Rattle.bl_module.specs.Parts.{SeenPart}
+use Rattle.bl_module_laws.proofs.Read.{JoinedLex, JoinedPass}
 use Rattle.bl_module_laws.specs.Files.{AreGoodFiles}
 use Rattle.bl_module_laws.specs.Laws.{GoodFilesPass}
 use Rattle.bl_parse_tree.specs.declared.raw.Raw.{Raw}
@@ -29,7 +30,7 @@ readable lex pass one parts joined is are short =
     let lexes = joined_lexes lex (part_texts parts) joined is in record {
       short = short;
       lexes = lexes;
-      passes = tokens_pass lex pass parts are one joined.tokens.items
+      passes = part_tokens_pass lex pass one parts are joined.tokens.items
           (subst (λ (text : List ℕ). Lexes text joined.tokens.items) is.text lexes);
     }
 

@@ -6,11 +6,9 @@ ghost use Rattle.bl_link_files.specs.inner.Fronts.{AreFirstTexts};
 ghost use Rattle.bl_module_files.specs.Turns.{StandFurther};
 
 use bl_io::{Files, IoFault, read_up_to};
+use bl_module_files::FILE_LIMIT;
 use bl_tree::List;
 use std::alloc::Global;
-
-/// How far a file is read: one byte past the longest that is taken.
-const LIMIT: usize = 1_048_577;
 
 /// The texts of the first files, as far as they are read, and why the next one has none.
 #[derive(Drop)]
@@ -28,7 +26,7 @@ pub fn texts_of<F: Files>(alloc: Global, names: &[String], files: &mut F) -> Fir
 {
     let mut texts = List::new(alloc);
     for k in 0..names.len() {
-        match read_up_to(alloc, files, names[k].as_str(), LIMIT) {
+        match read_up_to(alloc, files, names[k].as_str(), FILE_LIMIT) {
             Ok(text) => {
                 if texts.push(List::from_vec(text)).is_err() {
                     return stopped(texts, IoFault::NoMemory);

@@ -1,5 +1,31 @@
 -- Texts that stand alone, joined one after another.
-use Rattle.std.proofs.Common.{◌≡◌, ◌∙◌, ℕ, ◌+◌, ◌*◌, ◌<◌, ◌≤◌, ◌^◌, Bool, true, false, List, [], ◌∷◌, ◌++◌, ap, arith, get_or, inl, inr, length, refl, subst, sym, take}
+use Rattle.std.proofs.Common.{
+  ◌≡◌,
+  ◌∙◌,
+  ℕ,
+  ◌+◌,
+  ◌*◌,
+  ◌<◌,
+  ◌≤◌,
+  ◌^◌,
+  Bool,
+  true,
+  false,
+  List,
+  [],
+  ◌∷◌,
+  ◌++◌,
+  ap,
+  arith,
+  get_or,
+  inl,
+  inr,
+  length,
+  refl,
+  subst,
+  sym,
+  take,
+}
 use Rattle.std.proofs.lemmas.Bool.{cases_order}
 use Rattle.std.proofs.lemmas.Bool.Decides.{nat_tests}
 use Rattle.std.proofs.lemmas.List.{length-take-le, take_all}
@@ -14,10 +40,11 @@ use Rattle.bl_lex.specs.Tokens.{Lexes}
 use Rattle.bl_link.proofs.Joining.{text_short}
 use Rattle.bl_link.proofs.Linking.{of_small, tree_in}
 use Rattle.bl_link.proofs.Lists.{get-end, get-take, take-next}
-use Rattle.bl_link.proofs.Trees.{JoinedLex, joined_lexes}
+use Rattle.bl_link.proofs.Trees.{joined_lexes}
 use Rattle.bl_link.specs.Files.{AreFilesOf}
 use Rattle.bl_link_together.specs.Alone.{AreJoinedAlone, EachStandsAlone, StandsAlone}
 use Rattle.bl_module.specs.Rules.{is_marked}
+use Rattle.bl_module_laws.proofs.Read.{JoinedLex}
 use Rattle.bl_module_laws.specs.Laws.{MarksAreInLast, ParsesAlone, PassingFilesAreGood}
 use Rattle.bl_parse.specs.Programs.{Spells}
 use Rattle.bl_parse_syntax.specs.Rules.{Passes as TokensPass}

@@ -6,9 +6,9 @@ ghost use Rattle.bl_link_together.specs.Alone.{IsTreeAlone, StandsAlone};
 ghost use Rattle.bl_module.specs.Rules.{is_marked};
 
 use bl_lex::laws::tokens_are_one;
+use bl_module::has_mark;
 use bl_parse_laws::spelled::a_text_has_one_tree;
 use bl_parse_tree::Raw;
-use bl_parse_tree::item::RawItem;
 use std::alloc::Global;
 
 /// Whether the text keeps the rules from Size to Syntax by itself, and has the mark of an entry point only as the last file. It may be
@@ -45,26 +45,5 @@ fn tree_alone(alloc: Global, text: &[u8]) -> Option<Raw>
     match bl_parse::parse(alloc, text, &tokens) {
         Ok(raw) => Some(raw),
         Err(_) => None,
-    }
-}
-
-/// Whether one of the items is a unit with the mark of an entry point.
-fn has_mark(items: &[RawItem]) -> bool
-    ensures { result ≡ list_any is_marked items.now }
-{
-    for item in items {
-        if is_marked(item) {
-            return true;
-        }
-    }
-    false
-}
-
-fn is_marked(item: &RawItem) -> bool
-    ensures { result ≡ is_marked item.now }
-{
-    match item {
-        RawItem::Unit(unit) => unit.entry,
-        RawItem::Struct(_) | RawItem::Constant(_) => false,
     }
 }

@@ -42,11 +42,8 @@ use Rattle.bl_module.specs.Own.{IsFaceOf}
 use Rattle.bl_module.specs.Parts.{IsGoodBehind}
 use Rattle.bl_module.specs.Rules.{PassesIn}
 use Rattle.bl_module.specs.declared.taken.Taken.{Taken}
-use Rattle.bl_module.specs.declared.fault.PartFault.{PartFault}
-use Rattle.bl_module.specs.declared.fault.PartFault.TheVariants as fault
-use Rattle.bl_module.specs.inner.Bad.{IsBadAt}
 use Rattle.bl_module.specs.declared.walk.Walk.{Walk}
-use Rattle.bl_module.specs.Faces.{IsBadFace, StopsAtFace, all_items, items_of}
+use Rattle.bl_module.specs.Faces.{IsBadFace, all_items, items_of}
 
 one_more : (k : ℕ) → k + 1 ≡ suc k
 one_more k = omega arith
@@ -89,8 +86,8 @@ array-append [] ys inner = refl
 array-append (x ∷ xs) ys inner = ap (λ it. roll-Ty (Ty-F.Array x it)) (array-append xs ys inner)
 
 -- arrays in arrays, made from the innermost: one array more around the type
-pub array-next : (lengths : List ℕ) (k n d : ℕ) (element inner made : Ty) → 0 < k → k ≤ length lengths → n ≡ slice_index_or lengths (k - 1) d → inner ≡ element →
-    made ≡ ty.Array n inner → array_of (take (k - 1) lengths) made ≡ array_of (take k lengths) element
+pub array-next : (lengths : List ℕ) (k n d : ℕ) (element inner made : Ty) → 0 < k → k ≤ length lengths → n ≡ slice_index_or lengths (k - 1) d →
+    inner ≡ element → made ≡ ty.Array n inner → array_of (take (k - 1) lengths) made ≡ array_of (take k lengths) element
 array-next lengths zero n d element inner made some within is same made_is = absurd (omega (arith, some))
 array-next lengths (suc k) n d element inner made some within is same made_is =
     let less : k < length lengths = omega (arith, within) in
@@ -139,27 +136,18 @@ walked_next faces k face items walk next within is same walked stands goes = rec
 }
 
 -- a face that can't stand behind the first k
-bad_next : (faces : List Face) (k : ℕ) (face : Face) (items : List FaceItem) (walk : Walk) (number : ℕ) → k < length faces → face ≡ get_or faces k face →
-    items ≡ face.items → Walked faces k walk → false ≡ items_stand walk items → number ≡ k + 1 → IsBadFace faces number
-bad_next faces k face items walk number within is same walked fails number_is =
-    subst (IsBadFace faces) (sym number_is)
-    (record {
-      counted = omega arith;
-      is_there = omega (arith, within);
-      stand = subst (λ n. items_stand before_items (all_items (take n faces)) ≡ true) back walked.stand;
-      fails = stand_next faces k face within is
-          ∙ none_of (items_stand before_items (all_items (take k faces))) _ (sym (fails ∙ (λ i. items_stand (walked.walk_is i) (same i))));
-    })
+pub bad_next : (faces : List Face) (k : ℕ) (face : Face) (items : List FaceItem) (walk : Walk) → k < length faces → face ≡ get_or faces k face →
+    items ≡ face.items → Walked faces k walk → false ≡ items_stand walk items → IsBadFace faces (k + 1)
+bad_next faces k face items walk within is same walked fails = record {
+  counted = omega arith;
+  is_there = omega (arith, within);
+  stand = subst (λ n. items_stand before_items (all_items (take n faces)) ≡ true) back walked.stand;
+  fails = stand_next faces k face within is
+      ∙ none_of (items_stand before_items (all_items (take k faces))) _ (sym (fails ∙ (λ i. items_stand (walked.walk_is i) (same i))));
+}
   where
     back : k ≡ k + 1 - 1
     back = omega arith
-
-pub stops_next : (faces : List Face) (k : ℕ) (face : Face) (items : List FaceItem) (walk : Walk) (told : PartFault) → k < length faces →
-    face ≡ get_or faces k face → items ≡ face.items → Walked faces k walk → false ≡ items_stand walk items → IsBadAt k told → StopsAtFace faces told
-stops_next faces k face items walk (fault.BadFace number) within is same walked fails bad =
-    bad_next faces k face items walk number within is same walked fails bad
-stops_next faces k face items walk (fault.Rule rule place also) within is same walked fails bad = bad
-stops_next faces k face items walk fault.NoMemory within is same walked fails bad = tt
 
 -- ---- faces with the same items
 

@@ -11,7 +11,18 @@ use Rattle.bl_tree.specs.declared.tree.Var.{Var}
 use Rattle.bl_face.specs.Keeps.{Keeps, base_is_named, field_is_named, has_field, item_keeps}
 use Rattle.bl_face.specs.declared.item.FaceField.{FaceField}
 use Rattle.bl_face.specs.declared.item.FaceItem.{FaceItem}
-use Rattle.bl_parse_tree.specs.Names.{field_named, is_filled, item_stands, length_named, optional, param_named, struct_stands, stmt_stands, type_named, unit_stands}
+use Rattle.bl_parse_tree.specs.Names.{
+  field_named,
+  is_filled,
+  item_stands,
+  length_named,
+  optional,
+  param_named,
+  struct_stands,
+  stmt_stands,
+  type_named,
+  unit_stands,
+}
 use Rattle.bl_parse_tree.specs.declared.item.RawField.{RawField}
 use Rattle.bl_parse_tree.specs.declared.item.RawItem.{RawItem}
 use Rattle.bl_parse_tree.specs.declared.item.RawItem.TheVariants.{Struct, Constant, Unit as UnitItem}

@@ -1,4 +1,5 @@
--- How a text fails the rules behind a start, and the first rule that fails. The start is what is declared before the text. Only what stands in the text is judged.
+-- How a text fails the rules behind a start, and the first rule that fails. The start is what is declared before the text. Only what stands in the text is
+-- judged.
 use Rattle.std.specs.Prelude.{◌≡◌, ℕ, Bool, false, not, List, drop, filter, length}
 use Rattle.std.specs.List.{list_any}
 use Rattle.bl_cause_trees.specs.Rules.{Fails as GraphsFail, Passes as GraphsPass}

@@ -7,7 +7,7 @@ use bl_tree::{List, NoMemory, Place, Rule};
 pub enum PartFault {
     /// The face of this number, counted from 1, can't stand behind those before it.
     BadFace {
-        face: u32,
+        face: usize,
     },
     /// The first rule that fails, its place in the text, and the further places in the text that its line names.
     Rule {

@@ -26,7 +26,6 @@ mod types;
 mod walk;
 
 pub use compiled::{compile, face_behind};
-pub use faces::check_faces;
 pub use fault::PartFault;
 pub use part::Part;
-pub use taken::Taken;
+pub use taken::{Taken, has_mark};

@@ -27,7 +27,7 @@ pub fn is_last(taken: Taken, raw: &Raw) -> bool
 }
 
 /// Whether one of the items is a unit with the mark of an entry point.
-fn has_mark(items: &[RawItem]) -> bool
+pub fn has_mark(items: &[RawItem]) -> bool
     ensures { result ≡ list_any is_marked items.now }
 {
     for item in items {

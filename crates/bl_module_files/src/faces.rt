@@ -12,8 +12,8 @@ use bl_face::{Face, FaceFault, read_face};
 use bl_io::{Files, IoFault, read_up_to};
 use std::alloc::Global;
 
-/// How far a file is read: one byte past the longest that is taken.
-pub const LIMIT: usize = 1_048_577;
+/// How far a source or an interface is read: one byte past the longest that is taken.
+pub const FILE_LIMIT: usize = 1_048_577;
 
 /// The faces of the files of these names, or why there are none.
 pub fn faces_of<F: Files>(
@@ -53,7 +53,7 @@ fn face_in<F: Files>(
     ensures others { KeepsOthers name.now (F.left files.old) (F.left files.new) }
     ensures file_counts { NeverFell (F.faults files.old) (F.faults files.new) }
 {
-    let text = match read_up_to(alloc, files, name, LIMIT) {
+    let text = match read_up_to(alloc, files, name, FILE_LIMIT) {
         Ok(text) => text,
         Err(fault) => return Err(unread(fault)),
     };

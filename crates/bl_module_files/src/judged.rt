@@ -5,7 +5,7 @@ ghost use Rattle.bl_io.specs.Count.{NeverFell};
 ghost use Rattle.bl_module_files.specs.Judged.{FilesStop, IsFaceOfFile};
 ghost use Rattle.bl_module_files.specs.Turns.{StandFurther};
 
-use crate::faces::{LIMIT, faces_of, unread};
+use crate::faces::{FILE_LIMIT, faces_of, unread};
 use crate::fault::FilesFault;
 use bl_face::Face;
 use bl_io::{Files, read_up_to};
@@ -25,7 +25,7 @@ pub fn face_of_file<F: Files>(
     ensures reads { StandFurther (source.now ∷ map string_bytes names.now) (F.left files.old) (F.left files.new) }
     ensures file_counts { NeverFell (F.faults files.old) (F.faults files.new) }
 {
-    let text = match read_up_to(alloc, files, source, LIMIT) {
+    let text = match read_up_to(alloc, files, source, FILE_LIMIT) {
         Ok(text) => text,
         Err(fault) => return Err(unread(fault)),
     };

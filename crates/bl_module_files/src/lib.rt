@@ -11,5 +11,6 @@ mod fault;
 mod judged;
 pub mod laws;
 
+pub use faces::FILE_LIMIT;
 pub use fault::FilesFault;
 pub use judged::face_of_file;

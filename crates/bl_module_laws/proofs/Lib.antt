@@ -8,7 +8,7 @@ mod Nesting
 mod Next
 mod Parts
 mod Passing
-mod Read
+pub mod Read
 mod Steps
 mod Together
 mod Turns

@@ -12,18 +12,30 @@ use Rattle.bl_rules.proofs.Layers.{TokensAreOne, TreesAreOne, one_tree}
 use Rattle.bl_rules.specs.Rules.{Parses}
 use Rattle.bl_tree.specs.declared.token.Token.{Token}
 
+-- the joined text has the joined tokens
+abbrev pub JoinedLex : Type 0
+JoinedLex =
+    (files : List LexedText) → All (λ file. Lexes file.text file.tokens) files → Lexes (joined_text (texts_of files)) (joined_tokens files)
+
+-- the joined tokens keep the rules Depth and Syntax
+abbrev pub JoinedPass : Type 0
+JoinedPass =
+    (files : List ReadText) → All IsRead files → All (λ file. PassesDepth file.tokens) files → TokensPass (joined_tokens (all_lexed files))
+
+-- the joined tokens spell the joined items
+abbrev pub JoinedSpell : Type 0
+JoinedSpell =
+    (files : List ReadText) → All IsRead files →
+    SpellsItems (joined_text (texts_of (all_lexed files))) (joined_tokens (all_lexed files)) (joined_items files) 0
+    (length (joined_tokens (all_lexed files)))
+
 -- the laws of joined texts
 pub record TextLaws : Type 0 where
   pub tokens_one : TokensAreOne
   pub trees_one : TreesAreOne
-  -- the joined text has the joined tokens
-  pub lex : (files : List LexedText) → All (λ file. Lexes file.text file.tokens) files → Lexes (joined_text (texts_of files)) (joined_tokens files)
-  -- the joined tokens keep the rules Depth and Syntax
-  pub pass : (files : List ReadText) → All IsRead files → All (λ file. PassesDepth file.tokens) files → TokensPass (joined_tokens (all_lexed files))
-  -- the joined tokens spell the joined items
-  pub spell : (files : List ReadText) → All IsRead files →
-      SpellsItems (joined_text (texts_of (all_lexed files))) (joined_tokens (all_lexed files)) (joined_items files) 0
-      (length (joined_tokens (all_lexed files)))
+  pub lex : JoinedLex
+  pub pass : JoinedPass
+  pub spell : JoinedSpell
 
 -- a text with its tree
 pub record Parsed (text : List ℕ) : Type 0 where
@@ -66,28 +78,43 @@ same_texts : (texts : List (List ℕ)) (parsed : AllParsed texts) → texts_of (
 same_texts [] parsed = refl
 same_texts (text ∷ texts) parsed = ap (λ (rest : List (List ℕ)). text ∷ rest) (same_texts texts parsed.1)
 
-module _ (laws : TextLaws) (texts : List (List ℕ)) (parsed : AllParsed texts) where
+-- the tree with the items of all texts
+abbrev pub tree_of : (texts : List (List ℕ)) → AllParsed texts → Raw
+tree_of texts parsed = record { items = joined_items (files_read texts parsed); bytes = length (joined_text texts) }
+
+module _ (lex : JoinedLex) (pass : JoinedPass) (texts : List (List ℕ)) (parsed : AllParsed texts) where
   abbrev files : List ReadText
   files = files_read texts parsed
 
   abbrev tokens : List Token
   tokens = joined_tokens (all_lexed files)
 
-  abbrev tree : Raw
-  tree = record { items = joined_items files; bytes = length (joined_text texts) }
+  lexes : Lexes (joined_text texts) tokens
+  lexes = subst (λ (them : List (List ℕ)). Lexes (joined_text them) tokens) (same_texts texts parsed) (lex (all_lexed files) (are_lexed texts parsed))
 
-  joined_parses : Parses (joined_text texts) tree
-  joined_parses = record {
+  passes : TokensPass tokens
+  passes = pass files (are_read texts parsed) (are_shallow texts parsed)
+
+  -- the tokens of the joined texts keep the rules Depth and Syntax
+  pub tokens_pass : TokensAreOne → (others : List Token) → Lexes (joined_text texts) others → TokensPass others
+  tokens_pass one others read = subst TokensPass (one (joined_text texts) tokens others lexes read) passes
+
+  pub joined_parses : JoinedSpell → Parses (joined_text texts) (tree_of texts parsed)
+  joined_parses spell = record {
     tokens = tokens;
-    lexes = subst (λ (them : List (List ℕ)). Lexes (joined_text them) tokens) (same_texts texts parsed) (laws.lex (all_lexed files) (are_lexed texts parsed));
-    passes = laws.pass files (are_read texts parsed) (are_shallow texts parsed);
+    lexes = lexes;
+    passes = passes;
     spells = record {
       items = subst (λ (them : List (List ℕ)). SpellsItems (joined_text them) tokens (joined_items files) 0 (length tokens)) (same_texts texts parsed)
-          (laws.spell files (are_read texts parsed));
+          (spell files (are_read texts parsed));
       bytes = refl;
     };
   }
 
-  -- the tree of the joined texts has the items of all
-  pub joined_tree : (raw : Raw) → Parses (joined_text texts) raw → raw.items ≡ joined_items files
-  joined_tree raw parses = ap (λ (it : Raw). it.items) (one_tree laws.tokens_one laws.trees_one (joined_text texts) raw tree parses joined_parses)
+-- each tree of the joined texts has the items of all
+pub joined_tree : (laws : TextLaws) (texts : List (List ℕ)) (parsed : AllParsed texts) (raw : Raw) → Parses (joined_text texts) raw →
+    raw.items ≡ joined_items (files_read texts parsed)
+joined_tree laws texts parsed raw parses =
+    ap (λ (it : Raw). it.items)
+    (one_tree laws.tokens_one laws.trees_one (joined_text texts) raw (tree_of texts parsed) parses
+    (joined_parses laws.lex laws.pass texts parsed laws.spell))

@@ -110,7 +110,8 @@ module _ (names : NameLaws) (types : TypeLaws) (laws : UnitLaws) (named : Named)
   A = alike names types named front f raw rest is behind border names_here
 
   -- what is known behind all items extends what is known behind these
-  grown : KnownAfter (known_behind_items named (front ++ own)) (known_behind_items named all) (declared_globals_with (after file_scope (marks_of (front ++ own))) rest)
+  grown : KnownAfter (known_behind_items named (front ++ own)) (known_behind_items named all)
+      (declared_globals_with (after file_scope (marks_of (front ++ own))) rest)
   grown = rest_known names types named (front ++ own) rest is_all all_passes.names
 
   none_front : (after_items named (order_of (front ++ own)) fresh).failures ≡ []

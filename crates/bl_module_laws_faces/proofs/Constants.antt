@@ -127,7 +127,8 @@ module _ (named : Named) (known : Known) (from_structs from_units : ℕ) where
       let more = nil_right first.failures (after_items named (order_of items) first.env).failures none in
       let front : known.globals ≡ walk.behind.constants ++ (c ∷ [] ++ others) =
       globals ∙ ap (λ found. walk.behind.constants ++ (cons_option found [] ++ others)) (get_behind env.constants c []) in
-      let it : FaceItem = shows.Constant def.name.text (fit named known from_structs from_units def items scopes env walk here agrees one others front).ty c.value in
+      let it : FaceItem =
+      shows.Constant def.name.text (fit named known from_structs from_units def items scopes env walk here agrees one others front).ty c.value in
       subst (Adds named known from_structs from_units (item.Constant def ∷ items) walk)
       (items_are named known from_structs from_units def items scopes env walk here agrees one others front)
       (adds_first named known from_structs from_units (item.Constant def) items walk it (items_from known (next_at first.env (walk_on walk it)) items)

@@ -11,7 +11,19 @@ use Rattle.bl_names.proofs.PlacedExpr.{earlier}
 use Rattle.bl_names.proofs.PlacedItem.{UnitHolds, struct_is, unit_holds}
 use Rattle.bl_names.proofs.PlacedStmt.{Within, closed_is}
 use Rattle.bl_names.proofs.StillLemmas.{after-append, still_value}
-use Rattle.bl_names.specs.Named.{along, block_piece, constants_in_unit, constants_of, named_constant, named_struct, named_unit, opened, params_piece, structs_of, units_of}
+use Rattle.bl_names.specs.Named.{
+  along,
+  block_piece,
+  constants_in_unit,
+  constants_of,
+  named_constant,
+  named_struct,
+  named_unit,
+  opened,
+  params_piece,
+  structs_of,
+  units_of,
+}
 use Rattle.bl_names_scopes.specs.declared.kind.Kind.TheVariants as kinds
 use Rattle.bl_names_scopes.specs.declared.scopes.Counts.{Counts}
 use Rattle.bl_names_scopes.specs.Marks.{constant_marks, declares, expr_marks, kind_of_unit, marks_of, optional, struct_marks, type_marks, unit_marks}
@@ -94,8 +106,8 @@ module _ (named : Named) (def : RawStruct) (items : List RawItem) (scopes : Scop
               on.more_constants at.constants;
           units = ends_on named.units scopes.counts.units behind_struct.counts.units [] (along units_of behind_struct items) on.more_units at.units;
           counts = same_counts (after_struct new_struct env).env behind_struct
-              (one_more env.structs (struct_of env new_struct) scopes.counts.structs behind_struct.counts.structs (ap (λ (e : DeclaredBefore). e.structs) at.counts)
-              on.more_structs)
+              (one_more env.structs (struct_of env new_struct) scopes.counts.structs behind_struct.counts.structs
+              (ap (λ (e : DeclaredBefore). e.structs) at.counts) on.more_structs)
               (no_more (length env.constants) scopes.counts.constants behind_struct.counts.constants (ap (λ (e : DeclaredBefore). e.constants) at.counts)
               on.more_constants)
               (no_more (length env.units) scopes.counts.units behind_struct.counts.units (ap (λ (e : DeclaredBefore). e.units) at.counts) on.more_units)
@@ -156,7 +168,8 @@ module _ (named : Named) (def : RawConstant) (items : List RawItem) (scopes : Sc
               (along constants_of behind_constant items) on.more_constants at.constants;
           units = ends_on named.units scopes.counts.units behind_constant.counts.units [] (along units_of behind_constant items) on.more_units at.units;
           counts = same_counts (after_constant new_constant env).env behind_constant
-              (no_more (length env.structs) scopes.counts.structs behind_constant.counts.structs (ap (λ (e : DeclaredBefore). e.structs) at.counts) on.more_structs)
+              (no_more (length env.structs) scopes.counts.structs behind_constant.counts.structs (ap (λ (e : DeclaredBefore). e.structs) at.counts)
+              on.more_structs)
               (one_more env.constants (constant_of new_constant.value (initial env new_constant.ty new_constant.value).valued) scopes.counts.constants
               behind_constant.counts.constants (ap (λ (e : DeclaredBefore). e.constants) at.counts) on.more_constants)
               (no_more (length env.units) scopes.counts.units behind_constant.counts.units (ap (λ (e : DeclaredBefore). e.units) at.counts) on.more_units)

@@ -1,5 +1,29 @@
 -- What faces that stand declare, as a text behind them begins with it.
-use Rattle.std.proofs.Common.{◌≡◌, ℕ, ◌+◌, ◌<◌, true, List, [], ◌∷◌, ◌++◌, length, map, inr, Option, Some, None, refl, sym, ap, subst, ◌∙◌, append-nil, append_assoc, arith}
+use Rattle.std.proofs.Common.{
+  ◌≡◌,
+  ℕ,
+  ◌+◌,
+  ◌<◌,
+  true,
+  List,
+  [],
+  ◌∷◌,
+  ◌++◌,
+  length,
+  map,
+  inr,
+  Option,
+  Some,
+  None,
+  refl,
+  sym,
+  ap,
+  subst,
+  ◌∙◌,
+  append-nil,
+  append_assoc,
+  arith,
+}
 use Rattle.std.specs.Prelude.{Bool, ℤ, ◌&&◌, is_none, nat_le, nat_lt, slice_get, slice_index}
 use Rattle.std.specs.List.{list_all}
 use Rattle.std.proofs.lemmas.Bool.{le-leb, lt-ltb}
@@ -230,7 +254,8 @@ blank_kind Activity name = refl
 
 module _ (nestings : List ℕ) (walk : Walk) (scopes : Scopes) (begins : Begins nestings walk scopes) where
   absent : (text : List ℕ) → is_new walk.names text ≡ true → found scopes.inner text ≡ None
-  absent text new = absent_alike text walk.names scopes.inner (texts_back scopes.inner walk.names begins.names.texts) (none_of (referent_of walk.names text) new)
+  absent text new =
+      absent_alike text walk.names scopes.inner (texts_back scopes.inner walk.names begins.names.texts) (none_of (referent_of walk.names text) new)
 
   -- ---- a struct
 

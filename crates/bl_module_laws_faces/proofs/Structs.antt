@@ -44,7 +44,20 @@ use Rattle.bl_types.specs.Declarations.{Declaring, after_struct, field_of, struc
 use Rattle.bl_types.specs.Programs.{after_items}
 use Rattle.bl_types_laws.proofs.Forms.{nil_left, nil_right}
 use Rattle.bl_types_laws_places.specs.Agree.{unplaced}
-use Rattle.bl_module_laws_faces.proofs.Adding.{Adding, Adds, Agrees, Shallow, absent_behind, adds_first, by_first, get_behind, next_at, one_behind, pushed, same_long}
+use Rattle.bl_module_laws_faces.proofs.Adding.{
+  Adding,
+  Adds,
+  Agrees,
+  Shallow,
+  absent_behind,
+  adds_first,
+  by_first,
+  get_behind,
+  next_at,
+  one_behind,
+  pushed,
+  same_long,
+}
 use Rattle.bl_module_laws_faces.proofs.Elements.{FieldsShown}
 
 still_types : (fields : List RawField) → Still (joined (map field_type_marks fields))
@@ -70,8 +83,8 @@ known_are : (env : Environment) (scopes : Scopes) (fields : List RawField) →
 known_are env scopes [] = refl
 known_are env scopes (field ∷ fields) = ap (λ rest. typed_field env.constants scopes field ∷ rest) (known_are env scopes fields)
 
-module _ (named : Named) (known : Known) (from_structs from_units : ℕ) (shallow : Shallow named known from_structs from_units) (def : RawStruct) (items : List RawItem)
-    (scopes : Scopes) (env : Environment) (walk : Walk) (here : Here named scopes (item.Struct def ∷ items) env)
+module _ (named : Named) (known : Known) (from_structs from_units : ℕ) (shallow : Shallow named known from_structs from_units) (def : RawStruct)
+    (items : List RawItem) (scopes : Scopes) (env : Environment) (walk : Walk) (here : Here named scopes (item.Struct def ∷ items) env)
     (agrees : Agrees named known from_structs from_units scopes env walk) where
   abbrev nestings : List ℕ
   nestings = struct_nestings known.structs

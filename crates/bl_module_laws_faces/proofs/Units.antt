@@ -18,7 +18,19 @@ use Rattle.bl_module_laws_faces.proofs.Elements.{params_are, params_shown, shown
 use Rattle.bl_module_laws_faces.proofs.Fresh.{Fresh, fresh_first, fresh_second}
 use Rattle.bl_module_laws_faces.proofs.Goes.{goes}
 use Rattle.bl_module_laws_faces.proofs.Heads.{gives_once_is, head_is, placed_again}
-use Rattle.bl_module_laws_faces.proofs.Here.{Here, body_end, here_unit, passed, step_there, structs_still, unit_behind, unit_chosen, unit_fits, unit_fresh, units_are}
+use Rattle.bl_module_laws_faces.proofs.Here.{
+  Here,
+  body_end,
+  here_unit,
+  passed,
+  step_there,
+  structs_still,
+  unit_behind,
+  unit_chosen,
+  unit_fits,
+  unit_fresh,
+  units_are,
+}
 use Rattle.bl_module_laws_faces.proofs.Scoped.{NamesAgree, names_next, new_alike, resolves_opened}
 use Rattle.bl_module_laws_faces.proofs.Variables.{VariablesAre, variables_are}
 use Rattle.bl_names.proofs.FitLemmas.{Fits, fits_first, fits_second}
@@ -76,8 +88,8 @@ shown_long : (constants : List KnownConstant) (params : List RawParam) (scopes :
 shown_long constants [] scopes = refl
 shown_long constants (param ∷ params) scopes = ap suc (shown_long constants params (after scopes (param_marks param)))
 
-module _ (named : Named) (known : Known) (from_structs from_units : ℕ) (shallow : Shallow named known from_structs from_units) (def : RawUnit) (items : List RawItem)
-    (scopes : Scopes) (env : Environment) (walk : Walk) (here : Here named scopes (item.Unit def ∷ items) env)
+module _ (named : Named) (known : Known) (from_structs from_units : ℕ) (shallow : Shallow named known from_structs from_units) (def : RawUnit)
+    (items : List RawItem) (scopes : Scopes) (env : Environment) (walk : Walk) (here : Here named scopes (item.Unit def ∷ items) env)
     (agrees : Agrees named known from_structs from_units scopes env walk) where
   abbrev nestings : List ℕ
   nestings = struct_nestings known.structs
@@ -210,7 +222,8 @@ module _ (named : Named) (known : Known) (from_structs from_units : ℕ) (shallo
     is_shown : unit_item def (slice_get known.units (length env.units)) ≡ shows_unit
     is_shown =
         ap (unit_item def) there
-        ∙ ap (λ vars. shows.Head def.kind def.name.text (params_known_from 0 vars def.inputs) (params_known_from (length def.inputs) vars def.outputs) made.result)
+        ∙ ap
+        (λ vars. shows.Head def.kind def.name.text (params_known_from 0 vars def.inputs) (params_known_from (length def.inputs) vars def.outputs) made.result)
         vars.are
         ∙ (λ i. shows.Head def.kind def.name.text (params_are env.constants role.Input begun def.inputs [] (typed_outs ++ vars.more) 0 refl i)
         (params_are env.constants role.Output between def.outputs typed_ins vars.more (length def.inputs)
@@ -262,7 +275,8 @@ module _ (named : Named) (known : Known) (from_structs from_units : ℕ) (shallo
     next_agrees = record {
       names = subst (λ structs. NamesAgree nestings (length structs) next.names (after scopes (unit_marks def))) (sym structs_kept) names_agree;
       structs = subst (SameStructs walk.behind.structs) (sym structs_kept) agrees.structs;
-      units = subst (SameHeads next.behind.units) (sym units_now) (sym (pushed head_of_unit walk.behind.units env.units head made (sym agrees.units) same_head));
+      units = subst (SameHeads next.behind.units) (sym units_now)
+          (sym (pushed head_of_unit walk.behind.units env.units head made (sym agrees.units) same_head));
       own_structs = subst (λ structs. from_structs ≤ length structs) (sym structs_kept) agrees.own_structs;
       own_units = subst (λ units. from_units ≤ length units) (sym units_now)
           (let own = agrees.own_units in let more = one_behind env.units made in omega (arith, own, more));
@@ -272,7 +286,11 @@ module _ (named : Named) (known : Known) (from_structs from_units : ℕ) (shallo
     items_are = λ i.
         sym is_shown i
         ∷ items_from known
-        (record { structs = length (structs_kept i); constants = length walk.behind.constants; units = (ap length units_now ∙ sym (one_behind env.units made)) i })
+        (record {
+          structs = length (structs_kept i);
+          constants = length walk.behind.constants;
+          units = (ap length units_now ∙ sym (one_behind env.units made)) i;
+        })
         items
 
 module _ (named : Named) (known : Known) (from_structs from_units : ℕ) (shallow : Shallow named known from_structs from_units) where

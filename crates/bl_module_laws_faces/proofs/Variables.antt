@@ -15,7 +15,20 @@ use Rattle.bl_names_scopes.specs.Scopes.{Scopes, after}
 use Rattle.bl_names_tree.specs.declared.item.NamedConstant.{NamedConstant}
 use Rattle.bl_names_tree.specs.declared.item.NamedUnit.{NamedUnit}
 use Rattle.bl_names_tree.specs.declared.item.NamedVar.{NamedVar}
-use Rattle.bl_names_tree.specs.Placed.{DeclaredBefore, behind_unit, head_placed, holds_if, in_turn, parameters, roles_placed, stmt_step, type_placed, unit_step, var_placed, with_parameters}
+use Rattle.bl_names_tree.specs.Placed.{
+  DeclaredBefore,
+  behind_unit,
+  head_placed,
+  holds_if,
+  in_turn,
+  parameters,
+  roles_placed,
+  stmt_step,
+  type_placed,
+  unit_step,
+  var_placed,
+  with_parameters,
+}
 use Rattle.bl_parse_tree.specs.declared.item.RawParam.{RawParam}
 use Rattle.bl_parse_tree.specs.declared.item.RawUnit.{RawUnit}
 use Rattle.bl_tree.specs.declared.tree.Role.{Role}
@@ -105,7 +118,8 @@ module _ (constants : List NamedConstant) (scopes : Scopes) (def : RawUnit) (env
       let roles : roles_placed unit ≡ true = and_left (roles_placed unit) (list_all (var_placed earlier) (take (parameters unit) unit.vars)
       && holds_if (type_placed earlier) unit.result) holds.0 in
       let all : list_all is_local (drop (parameters unit) unit.vars) ≡ true =
-      and_right outputs rest (and_right inputs (outputs && rest) (and_right (nat_le (parameters unit) (length unit.vars)) (inputs && (outputs && rest)) roles)) in
+      and_right outputs rest
+      (and_right inputs (outputs && rest) (and_right (nat_le (parameters unit) (length unit.vars)) (inputs && (outputs && rest)) roles)) in
       ap (list_all is_local) (sym (drop-append_seam params locals) ∙ ap (λ n. drop n unit.vars) (head_long def (opened scopes))) ∙ all
 
   inside_is : (after_parameters unit.vars start).env ≡ (after_parameters params start).env

@@ -40,7 +40,7 @@ fn fails(part: &Result<Part, PartFault>, rule: Rule, start: u32, end: u32) -> bo
 }
 
 /// Whether the face of this number can't stand.
-fn is_bad(part: &Result<Part, PartFault>, number: u32) -> bool {
+fn is_bad(part: &Result<Part, PartFault>, number: usize) -> bool {
     match part {
         Err(PartFault::BadFace { face }) => *face == number,
         _ => false,

@@ -19,8 +19,7 @@ OnePlace file = (bytes : List ℕ) (here there : ℕ) → ShowsBadState file byt
 abbrev pub ShortStates : Parts → Type 0
 ShortStates file = WellFormed file → (numbers : List ℤ) (bytes : List ℕ) → SavedState file numbers bytes → length bytes ≤ 8 * cells_needed file + 10
 
--- a run of a file whose start doesn't trap can be stopped while open and continued: the trace over all rows is the first, followed by that from the cells that
--- they leave
+-- where the start doesn't trap: if a run is open after its first rows, the trace over all rows is theirs, followed by that from the cells they leave
 abbrev pub TraceGoesOn : Parts → Type 0
 TraceGoesOn file = (first rest : List (List ℤ)) → start_succeeds file ≡ true → (c_trace file first).last ≡ Open →
     c_trace file (first ++ rest) ≡ trace_then (c_trace file first) (c_trace_from file rest (cells_after file first (start_cells file)))

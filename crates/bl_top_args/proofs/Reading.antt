@@ -33,7 +33,25 @@ use Rattle.clap.specs.declared.error.kind.ErrorKind.TheVariants.{OutOfMemory}
 use Rattle.clap.proofs.OnLiterals.{clap_on_literals}
 use Rattle.bl_top_args.specs.inner.FirstWords.{behind_first, first_is}
 use Rattle.bl_top_args.specs.inner.CommandLine.{command_line, job_read, named_read, one_if_read, one_read, three_read, two_or_three_read, two_read}
-use Rattle.bl_top_args.specs.Jobs.{JobSpec, Word, bound, build, check, count, driven, exec, faced, is_plain_word, job_of, linked, of_one, of_one_if, of_three, of_two, other_job}
+use Rattle.bl_top_args.specs.Jobs.{
+  JobSpec,
+  Word,
+  bound,
+  build,
+  check,
+  count,
+  driven,
+  exec,
+  faced,
+  is_plain_word,
+  job_of,
+  linked,
+  of_one,
+  of_one_if,
+  of_three,
+  of_two,
+  other_job,
+}
 use Rattle.bl_top_args.specs.Jobs.{of_two_or_three, resumed, run, save, save_from, seeded, staged}
 use Rattle.bl_top_args.proofs.Program.{ReadsAs, commands, name_refused, others_plain, program, takes_reads}
 use Rattle.bl_top_args.proofs.Values.{one, one_if_taken, one_taken, three, three_taken, two, two_or_three, two_or_three_taken, two_taken}

@@ -67,8 +67,7 @@ ResumeEnds c text state rows = FromStateEnds c text state
 abbrev pub IsStateAfter : Parts → List ℤ → List (List ℤ) → List ℕ → Type 0
 IsStateAfter file numbers rows written = SavedState file (cells_after file rows numbers) written
 
--- the status and the line with which the rows left of a file are run from these numbers of the cells. Only the state after them grows on `out`, or a front of
--- it where the write ends early
+-- how a run of the rows left of a file ends, from these numbers of the cells: status and line. Only the state after it, or a front of that, grows on `out`
 pub data SavesOver (file : Parts) (numbers : List ℤ) (left rest : Option (List ℕ)) (rows : Count) (out : Output) : Status → List ℕ → Type 0 where
   -- all rows are good and leave the run open
   saved : {ended : Status} (bytes : List ℕ) → AreLeft left bytes → (rows_of bytes (inputs_of file)).fault ≡ None →

@@ -79,10 +79,10 @@ fn end_at_part(alloc: Global, fault: &PartFault) -> Outcome
     }
 }
 
-fn bad_face(alloc: Global, file: u32) -> Outcome
+fn bad_face(alloc: Global, file: usize) -> Outcome
     ensures { IsTold Status.NotFace (bad_face_line file) result }
 {
-    Outcome::numbered(alloc, Status::NotFace, "not face: file ", u64::from(file))
+    Outcome::numbered(alloc, Status::NotFace, "not face: file ", file as u64)
 }
 
 fn no_face(alloc: Global, file: usize, at: u32) -> Outcome

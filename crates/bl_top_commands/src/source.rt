@@ -12,12 +12,10 @@ use crate::outcome::Outcome;
 use crate::refusal::line;
 use crate::status::Status;
 use bl_io::{Files, IoFault, read_up_to};
+use bl_module_files::FILE_LIMIT;
 use bl_rules::{AcceptedSource, accept};
 use bl_tree::{Place, Refusal, Rule};
 use std::alloc::Global;
-
-/// How far a source is read: one byte past the longest that is accepted.
-const LIMIT: usize = 1_048_577;
 
 /// The program of a source that no rule refuses, or how the job ends.
 pub fn accepted_of<F: Files>(
@@ -33,7 +31,7 @@ pub fn accepted_of<F: Files>(
     ensures others { KeepsOthers source.now (F.left files.old) (F.left files.new) }
     ensures file_counts { NeverFell (F.faults files.old) (F.faults files.new) }
 {
-    let bytes = match read_up_to(alloc, files, source, LIMIT) {
+    let bytes = match read_up_to(alloc, files, source, FILE_LIMIT) {
         Ok(bytes) => bytes,
         Err(IoFault::Failed) => return Err(Outcome::plain(alloc, Status::ReadFault)),
         Err(IoFault::NoMemory) => return Err(Outcome::plain(alloc, Status::NoMemory)),

@@ -100,7 +100,8 @@ pub record GoesTo (course : Course) (bytes : List ℕ) (last : Last) (why : Opti
 module _ (course : Course) (source bytes : List ℕ) (trace : Trace) (to : RunsTo source bytes trace)
     (has : HasCourse (typed_of to.tree).structs (typed_of to.tree).units (typed_of to.tree).entry course) where
   columns_are : course.ins ≡ input_columns to.entry
-  columns_are = has.inputs ∙ ap input_columns (one_unit (slice_get (typed_of to.tree).units (typed_of to.tree).entry) has.unit to.entry has.is_entry to.is_entry)
+  columns_are =
+      has.inputs ∙ ap input_columns (one_unit (slice_get (typed_of to.tree).units (typed_of to.tree).entry) has.unit to.entry has.is_entry to.is_entry)
 
   means_over : Means (typed_of to.tree).structs (typed_of to.tree).units (typed_of to.tree).entry (rows_of bytes course.ins).rows (shown_trace trace)
   means_over =

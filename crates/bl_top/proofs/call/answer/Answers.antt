@@ -83,13 +83,15 @@ returns-in-Ok-Some-Face-clause-answers g c = λ notes.
 pub link-requires-clause-some : goal.link-requires-clause-some
 link-requires-clause-some g c =
     let asked : job_of (map string_bytes c.args.words.now) ≡ Some (link (map string_bytes c.in-Ok-Some-Link.sources.now)) = search rules in
-    let counted = sources_asked (job_of (map string_bytes c.args.words.now)) (map string_bytes c.in-Ok-Some-Link.sources.now) asked c.jobs_are_counted.ensures in
+    let counted =
+    sources_asked (job_of (map string_bytes c.args.words.now)) (map string_bytes c.in-Ok-Some-Link.sources.now) asked c.jobs_are_counted.ensures in
     let same = length-map c.in-Ok-Some-Link.sources.now string_bytes in omega (arith, same, counted.0)
 
 pub link-requires-clause-few : goal.link-requires-clause-few
 link-requires-clause-few g c =
     let asked : job_of (map string_bytes c.args.words.now) ≡ Some (link (map string_bytes c.in-Ok-Some-Link.sources.now)) = search rules in
-    let counted = sources_asked (job_of (map string_bytes c.args.words.now)) (map string_bytes c.in-Ok-Some-Link.sources.now) asked c.jobs_are_counted.ensures in
+    let counted =
+    sources_asked (job_of (map string_bytes c.args.words.now)) (map string_bytes c.in-Ok-Some-Link.sources.now) asked c.jobs_are_counted.ensures in
     let same = length-map c.in-Ok-Some-Link.sources.now string_bytes in omega (arith, same, counted.1)
 
 pub returns-in-Ok-Some-Link-clause-answers : goal.returns-in-Ok-Some-Link-clause-answers
