@@ -24,11 +24,12 @@ use Rattle.bl_emit_functions.specs.Functions.{members_of, memory_name, params_fr
 use Rattle.bl_machine_transitions.specs.Runs.{run_number}
 use Rattle.bl_machine_transitions.specs.Told.{NumberedTransition}
 use Rattle.bl_emit_spec.specs.Blocks.{ActivityView, Sizes, counter_value, name_in}
-use Rattle.bl_emit_spec.specs.Names.{callee_name, counter_place, flag_place, frame_name}
+use Rattle.bl_emit_spec.specs.Names.{callee_name, counter_place, flag_place, frame_name, with_word}
 use Rattle.bl_emit_spec.specs.Activities.{RunAt, blocks_code, copies_of, counter_member, ended_local, given_local, over_param, pointer_param}
 use Rattle.bl_emit_spec.specs.Activities.{rested_code, rested_local, result_params, scalar_local, struct_member, word_of_run}
 use Rattle.bl_emit_blocks.specs.Numbered.{numbered_turn}
 use Rattle.bl_emit_tables.specs.Told.{flags_told, marks_told, read_told, runs_told}
+use Rattle.bl_emit_tables.specs.Words.{word_told}
 
 -- what C is made of: a unit with the structs and units before it, its rules in source order, and the blocks of their nodes
 pub record ActivityInput : Type 0 where
@@ -42,12 +43,13 @@ pub record ActivityInput : Type 0 where
   -- whether each of the earlier units remembers variables
   pub remember : List Bool
 
--- the view that blocks have of the activity, without numbers of nodes, but with those of `run`s
+-- the view that blocks have of the activity, without numbers of nodes, but with the words of these numbers, and with those of `run`s
 abbrev pub view_told : ActivityInput → ActivityView
 view_told a = record {
   site = site_of a.structs a.earlier a.unit;
   copies = copies_of a.unit;
   number = λ n. 0;
+  word = word_told (site_of a.structs a.earlier a.unit) a.rules;
   run = run_number a.rules;
   sizes = a.sizes;
   is_read = read_told a.rules;
@@ -126,34 +128,35 @@ run_locals_told earlier run = given_local (word_of_run earlier run) (option_and_
 
 -- the locals of the activity's function: copies of counters, flags of the first nodes of blocks, marks, copies of variables, whether what was called has
 -- ended, and the results of `run`s
-abbrev pub locals_by : List UnitDef → UnitDef → Sizes → List NumberedTransition → List (List ℕ) → List ℕ → List ℕ → List RunAt → List CLocal
-locals_by earlier unit sizes rules blocks counters copied runs =
-    map (rested_local sizes) counters
-    ++ (flags_told rules blocks ++ (marks_told rules ++ (map (copy_told unit) copied ++ (ended_local runs ++ joined (map (run_locals_told earlier) runs)))))
+abbrev pub locals_by : List UnitDef → UnitDef → ActivityView → List NumberedTransition → List (List ℕ) → List ℕ → List ℕ → List RunAt → List CLocal
+locals_by earlier unit view rules blocks counters copied runs =
+    map (rested_local view.sizes) counters
+    ++ (flags_told view.word rules blocks
+    ++ (marks_told view.word rules ++ (map (copy_told unit) copied ++ (ended_local runs ++ joined (map (run_locals_told earlier) runs)))))
 
 -- the locals of the activity
 abbrev pub locals_told : ActivityInput → List CLocal
-locals_told a = locals_by a.earlier a.unit a.sizes a.rules a.blocks (counters_told a.sizes a.rules) (copied_told a.unit) (runs_told a.rules)
+locals_told a = locals_by a.earlier a.unit (view_told a) a.rules a.blocks (counters_told a.sizes a.rules) (copied_told a.unit) (runs_told a.rules)
 
 -- the node with the number waits where the first counter holds 0: the body begins
-abbrev pub entry_at : Sizes → ℕ → CStmt
-entry_at sizes number = c_set (flag_place number) (c_two Eq (c_read (counter_place 0)) (counter_value sizes 0 0))
+abbrev pub entry_at : ActivityView → ℕ → CStmt
+entry_at view number = c_set (flag_place (with_word view.word number)) (c_two Eq (c_read (counter_place 0)) (counter_value view.sizes 0 0))
 
 -- the C of an optional entry
-abbrev pub entry_where : Sizes → Option NumberedTransition → List CStmt
-entry_where sizes (Some rule) = entry_at sizes rule.number ∷ []
-entry_where sizes None = []
+abbrev pub entry_where : ActivityView → Option NumberedTransition → List CStmt
+entry_where view (Some rule) = entry_at view rule.number ∷ []
+entry_where view None = []
 
 -- the entry is the first node; a body without statements has none
-abbrev pub entry_told : Sizes → List NumberedTransition → List CStmt
-entry_told sizes [] = []
-entry_told sizes (rule ∷ rest) = entry_at sizes rule.number ∷ []
+abbrev pub entry_told : ActivityView → List NumberedTransition → List CStmt
+entry_told view [] = []
+entry_told view (rule ∷ rest) = entry_at view rule.number ∷ []
 
 -- the body: copies of what these counters held and of these variables when the tick began, and the blocks in their order
 abbrev pub code_by : ActivityView → List NumberedTransition → List (List ℕ) → List ℕ → List ℕ → List CStmt
 code_by view rules blocks counters copied =
     map rested_code counters
-    ++ (entry_told view.sizes rules ++ (map (c_copied view.site) copied ++ blocks_code (map (numbered_turn view) rules) blocks))
+    ++ (entry_told view rules ++ (map (c_copied view.site) copied ++ blocks_code (map (numbered_turn view) rules) blocks))
 
 -- the body of the activity
 abbrev pub code_told : ActivityInput → List CStmt
@@ -178,5 +181,5 @@ function_told a = function_by a.structs a.unit (remembers_told a) (locals_told a
 -- a C function of the activity, as its blocks see it, where these counters are asked for, these variables copied and these are its `run`s
 abbrev pub function_viewed : ActivityInput → ActivityView → List ℕ → List ℕ → List RunAt → Bool → CFunc
 function_viewed a view counters copied runs remembers =
-    function_by a.structs a.unit remembers (locals_by a.earlier a.unit a.sizes a.rules a.blocks counters copied runs)
+    function_by a.structs a.unit remembers (locals_by a.earlier a.unit view a.rules a.blocks counters copied runs)
     (code_by view a.rules a.blocks counters copied)

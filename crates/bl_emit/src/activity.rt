@@ -22,7 +22,7 @@ use crate::runs::{RunAt, runs_of};
 use bl_emit_acts::UnitSite;
 use bl_emit_acts::parts::{NOWHERE, joined, prefixed, single};
 use bl_emit_blocks::ActivityView;
-use bl_emit_tables::{copies_of, read_by};
+use bl_emit_tables::{copies_of, read_by, words_of};
 use bl_machine_transitions::{RunNumbers, Transition};
 use bl_tree::c::{CFunc, CLocal, CMember, CStmt, CStruct};
 use bl_tree::tree::{StructDef, Unit};
@@ -108,7 +108,7 @@ fn viewed(
         alloc,
         told.earlier,
         told.unit,
-        told.sizes,
+        view,
         told.rules,
         told.blocks,
         counters,
@@ -137,9 +137,12 @@ fn function(
     let counters = chosen(alloc, &read, count)?;
     let many = count_of(&told.unit.vars)?;
     let copied = chosen(alloc, &copies, many)?;
+    let site = site(told);
+    let words = words_of(alloc, &site, told.rules)?;
     let view = ActivityView {
-        site: site(told),
+        site,
         copies: &copies,
+        words: &words,
         runs: numbers,
         sizes: told.sizes,
         read: &read,

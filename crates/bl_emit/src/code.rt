@@ -14,6 +14,7 @@ use crate::parts::equal;
 use bl_emit_acts::copied as copy_set;
 use bl_emit_acts::parts::{literal, member_at, numbered, read, set, whole};
 use bl_emit_blocks::{ActivityView, merged};
+use bl_emit_tables::node_named;
 use bl_machine_transitions::Transition;
 use bl_tree::c::CStmt;
 use bl_tree::slices::element;
@@ -41,27 +42,27 @@ fn all_rested(alloc: Global, counters: &[u32]) -> Result<List<CStmt>, NoMemory>
 }
 
 /// The node with the number waits where the first counter holds 0.
-fn entered(alloc: Global, sizes: &[u32], number: u32) -> Result<CStmt, NoMemory>
-    ensures { IfOk result (λ s. s ≡ entry_at sizes.now number) }
+fn entered(alloc: Global, view: &ActivityView, number: u32) -> Result<CStmt, NoMemory>
+    ensures { IfOk result (λ s. s ≡ entry_at (view_in view.entry.now) number) }
 {
-    let at = whole(alloc, false, numbered(alloc, "g", u64::from(number))?);
+    let at = whole(alloc, false, node_named(alloc, "g", view.words, number)?);
     let counter = member_at(alloc, "f", numbered(alloc, "c", 0)?)?;
-    let none = literal(counter_type(sizes, 0), 0);
+    let none = literal(counter_type(view.sizes, 0), 0);
     set(alloc, at, equal(alloc, read(counter), none)?)
 }
 
 /// Appends that the node of the rule waits where the first counter holds 0.
 fn add_entered(
     alloc: Global,
-    sizes: &[u32],
+    view: &ActivityView,
     rule: Option<&Transition>,
     code: &mut List<CStmt>,
 ) -> Result<(), NoMemory>
-    ensures { OnOk result (code.new ≡ code.old ++ entry_where sizes.now (option_map rule_in (option_map (λ rule. rule.now) rule.entry))) }
+    ensures { OnOk result (code.new ≡ code.old ++ entry_where (view_in view.entry.now) (option_map rule_in (option_map (λ rule. rule.now) rule.entry))) }
 {
     match rule {
         Some(rule) => {
-            code.push(entered(alloc, sizes, rule.number)?)?;
+            code.push(entered(alloc, view, rule.number)?)?;
             Ok(())
         }
         None => Ok(()),
@@ -72,13 +73,13 @@ fn add_entered(
 #[tactic(auto, using(crate::proofs::RuleLemmas::entry_is))]
 fn add_entry(
     alloc: Global,
-    sizes: &[u32],
+    view: &ActivityView,
     rules: &[Transition],
     code: &mut List<CStmt>,
 ) -> Result<(), NoMemory>
-    ensures { OnOk result (code.new ≡ code.old ++ entry_told sizes.now (map rule_in rules.now)) }
+    ensures { OnOk result (code.new ≡ code.old ++ entry_told (view_in view.entry.now) (map rule_in rules.now)) }
 {
-    add_entered(alloc, sizes, element(rules, 0), code)
+    add_entered(alloc, view, element(rules, 0), code)
 }
 
 /// Appends that the copies of the variables become what these are.
@@ -142,7 +143,7 @@ pub fn code(
     ensures { IfOk result (λ made. made ≡ code_by (view_in view.entry.now) (map rule_in rules.now) blocks.now counters.now copied.now) }
 {
     let mut made = all_rested(alloc, counters)?;
-    add_entry(alloc, view.sizes, rules, &mut made)?;
+    add_entry(alloc, view, rules, &mut made)?;
     add_copies(alloc, view, copied, &mut made)?;
     add_blocks(alloc, view, rules, blocks, &mut made)?;
     Ok(made)

@@ -3,6 +3,7 @@
 ghost use Rattle.std.specs.Prelude.{◌≡◌, ◌++◌, IfOk, OnOk, map, option_and_then, slice_get};
 ghost use Rattle.bl_tree.specs.Reduce.{joined};
 ghost use Rattle.bl_machine_transitions.specs.Told.{rule_in};
+ghost use Rattle.bl_emit_blocks.specs.Views.{view_in};
 ghost use Rattle.bl_emit_spec.specs.Activities.{ended_local, given_local, rested_local};
 ghost use Rattle.bl_emit.specs.Activities.{copy_told, locals_by, run_locals_told};
 ghost use Rattle.bl_emit.specs.Kept.{run_in};
@@ -13,6 +14,7 @@ use crate::registers::{add_flags, add_marks};
 use crate::runs::RunAt;
 use bl_emit_acts::parts::{named, numbered, worded};
 use bl_emit_acts::scalar_in_c;
+use bl_emit_blocks::ActivityView;
 use bl_machine_transitions::Transition;
 use bl_tree::c::CLocal;
 use bl_tree::slices::element;
@@ -144,19 +146,19 @@ pub fn locals(
     alloc: Global,
     earlier: &[Unit],
     unit: &Unit,
-    sizes: &[u32],
+    view: &ActivityView,
     rules: &[Transition],
     blocks: &[List<u32>],
     counters: &[u32],
     copied: &[u32],
     runs: &[RunAt],
 ) -> Result<List<CLocal>, NoMemory>
-    ensures { IfOk result (λ made. made ≡ locals_by earlier.now unit.now sizes.now (map rule_in rules.now) blocks.now counters.now copied.now
+    ensures { IfOk result (λ made. made ≡ locals_by earlier.now unit.now (view_in view.entry.now) (map rule_in rules.now) blocks.now counters.now copied.now
         (map run_in runs.now)) }
 {
-    let mut made = all_rested(alloc, sizes, counters)?;
-    add_flags(alloc, rules, blocks, &mut made)?;
-    add_marks(alloc, rules, &mut made)?;
+    let mut made = all_rested(alloc, view.sizes, counters)?;
+    add_flags(alloc, view.words, rules, blocks, &mut made)?;
+    add_marks(alloc, view.words, rules, &mut made)?;
     add_copies(alloc, unit, copied, &mut made)?;
     add_ended(alloc, runs, &mut made)?;
     add_runs(alloc, earlier, runs, &mut made)?;

@@ -30,7 +30,7 @@ fn add_run(number: u32, task: &Task, runs: &mut List<RunAt>) -> Result<(), NoMem
     ensures { OnOk result (map run_in runs.new ≡ map run_in runs.old ++ run_told number (task_in task.now)) }
 {
     match task {
-        Task::Nothing | Task::Act(_) | Task::Test(_) | Task::Resume(_) => Ok(()),
+        Task::Nothing(_) | Task::Act(_) | Task::Test(_) | Task::Resume(_) => Ok(()),
         Task::Enter(run) => {
             runs.push(RunAt {
                 place: run.place,

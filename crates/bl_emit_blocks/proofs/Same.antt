@@ -1,6 +1,7 @@
 -- Views that differ at most in the numbers of nodes give the same turns.
 use Rattle.std.proofs.Common.{◌≡◌, ◌∙◌, ℕ, Bool, true, false, List, [], ◌∷◌, ◌++◌, Option, Some, None}
 use Rattle.std.proofs.Common.{map, slice_get, refl, ap, if◌then◌else◌}
+use Rattle.bl_tree.specs.declared.text.Text.{Text}
 use Rattle.bl_tree.specs.declared.c.CArg.TheVariants.{Address}
 use Rattle.bl_tree.specs.declared.c.CExpr.{CExpr}
 use Rattle.bl_tree.specs.declared.c.CStmt.{CStmt}
@@ -15,6 +16,8 @@ use Rattle.bl_machine.specs.declared.slots.Slot.{Slot}
 use Rattle.bl_emit_acts.specs.Acts.{c_calling, c_clear, c_set, call_args, code_made, name_of_callee}
 use Rattle.bl_emit_acts.specs.Trees.{c_call, c_read}
 use Rattle.bl_emit_functions.specs.Trees.{c_if, c_truth}
+use Rattle.bl_machine_transitions.specs.declared.transition.Age.{Age}
+use Rattle.bl_machine_transitions.specs.declared.transition.Age.TheVariants as age
 use Rattle.bl_machine_transitions.specs.declared.transition.Condition.{Condition}
 use Rattle.bl_machine_transitions.specs.declared.transition.Condition.TheVariants as condition
 use Rattle.bl_machine_transitions.specs.declared.transition.Change.{Change}
@@ -25,16 +28,16 @@ use Rattle.bl_emit_spec.specs.Blocks.{choice_code, layer_acted, name_in, rested_
 use Rattle.bl_emit_spec.specs.Blocks.{some_test, spelled_truth, stmt_where, target_code, word_at}
 use Rattle.bl_emit_spec.specs.Names.{NumberedWord, callee_frame, callee_memory, ended_place, frame_name, given_place}
 use Rattle.bl_emit_blocks.specs.Laws.{BlocksAlike}
-use Rattle.bl_emit_blocks.specs.Numbered.{numbered_aged, numbered_begun, numbered_change, numbered_changes}
+use Rattle.bl_emit_blocks.specs.Numbered.{numbered_aged, numbered_begun, numbered_change, numbered_changes, numbered_ends}
 use Rattle.bl_emit_blocks.specs.Numbered.{numbered_control, numbered_guard, numbered_own, numbered_resumed, numbered_tested, numbered_turn}
 
-module _ (site : TypingContext) (copies : List Bool) (sizes : Sizes) (number other : Node → ℕ) (run same : Place → ℕ) (read seen held kept : ℕ → Bool)
-    (runs : (at : Place) → run at ≡ same at) (reads : (k : ℕ) → read k ≡ seen k) (keeps : (k : ℕ) → held k ≡ kept k) where
+module _ (site : TypingContext) (copies : List Bool) (word : ℕ → Text) (sizes : Sizes) (number other : Node → ℕ) (run same : Place → ℕ)
+    (read seen held kept : ℕ → Bool) (runs : (at : Place) → run at ≡ same at) (reads : (k : ℕ) → read k ≡ seen k) (keeps : (k : ℕ) → held k ≡ kept k) where
   abbrev v : ActivityView
-  v = record { site = site; copies = copies; number = number; run = run; sizes = sizes; is_read = read; remembers = held }
+  v = record { site = site; copies = copies; number = number; word = word; run = run; sizes = sizes; is_read = read; remembers = held }
 
   abbrev w : ActivityView
-  w = record { site = site; copies = copies; number = other; run = same; sizes = sizes; is_read = seen; remembers = kept }
+  w = record { site = site; copies = copies; number = other; word = word; run = same; sizes = sizes; is_read = seen; remembers = kept }
 
   -- ---- guards
 
@@ -52,11 +55,17 @@ module _ (site : TypingContext) (copies : List Bool) (sizes : Sizes) (number oth
       ≡ (if all then all_tests (map (at_slot w) slots) else some_test (map (at_slot w) slots))
   ends_by all slots = ap (λ tests. if all then all_tests tests else some_test tests) (slots_same slots)
 
+  aged_same : (age : Age) (ends : CExpr) → numbered_aged v age ends ≡ numbered_aged w age ends
+  aged_same (age.New k) ends = refl
+  aged_same (age.Old k) ends = refl
+  aged_same age.Any ends = refl
+
   guard_same : (k : ℕ) (condition : Condition) → numbered_guard v k condition ≡ numbered_guard w k condition
   guard_same k condition.Flagged = refl
   guard_same k (condition.Rested slot) = refl
   guard_same k (condition.RestedIn slots) = rested_same slots
-  guard_same k (condition.Ended age needed) = ap (numbered_aged age) (ends_by needed.all needed.slots)
+  guard_same k (condition.Ended age needed) =
+      ap (numbered_aged v age) (ends_by needed.all needed.slots) ∙ aged_same age (numbered_ends w needed)
 
   -- ---- changes
 
@@ -140,14 +149,14 @@ module _ (site : TypingContext) (copies : List Bool) (sizes : Sizes) (number oth
       ∙ ap (λ other. choice_code test (spelled_truth test) (numbered_changes w rule.on_true) other) (changes_same rule.on_false)
 
   own_same : (task : Task) → numbered_own v task ≡ numbered_own w task
-  own_same Nothing = refl
+  own_same (Nothing kind) = refl
   own_same (Acts s) = acted_same s
   own_same (Tests e) = refl
   own_same (Enters at a arguments) = refl
   own_same (Resumes at a arguments) = refl
 
   control_same : (rule : NumberedTransition) (task : Task) → numbered_control v rule task ≡ numbered_control w rule task
-  control_same rule Nothing = changes_same rule.on_true
+  control_same rule (Nothing kind) = changes_same rule.on_true
   control_same rule (Acts s) = changes_same rule.on_true
   control_same rule (Tests e) = tested_same (code_made site e) rule
   control_same rule (Enters at a arguments) =
@@ -168,11 +177,20 @@ module _ (site : TypingContext) (copies : List Bool) (sizes : Sizes) (number oth
 -- the same of any two such views
 pub blocks_alike : BlocksAlike
 blocks_alike v w alike rule =
-    turn_same v.site v.copies v.sizes v.number w.number v.run w.run v.is_read w.is_read v.remembers w.remembers alike.run alike.is_read
+    turn_same v.site v.copies v.word v.sizes v.number w.number v.run w.run v.is_read w.is_read v.remembers w.remembers alike.run alike.is_read
     alike.remembers rule
-    ∙ (ap (λ (site : TypingContext). numbered_turn (viewed site v.copies v.sizes) rule) alike.site
-    ∙ (ap (λ (copies : List Bool). numbered_turn (viewed w.site copies v.sizes) rule) alike.copies
-    ∙ ap (λ (sizes : Sizes). numbered_turn (viewed w.site w.copies sizes) rule) alike.sizes)) where
-      viewed : TypingContext → List Bool → Sizes → ActivityView
-      viewed site copies sizes =
-          record { site = site; copies = copies; number = w.number; run = w.run; sizes = sizes; is_read = w.is_read; remembers = w.remembers }
+    ∙ (ap (λ (site : TypingContext). numbered_turn (viewed site v.copies v.word v.sizes) rule) alike.site
+    ∙ (ap (λ (copies : List Bool). numbered_turn (viewed w.site copies v.word v.sizes) rule) alike.copies
+    ∙ (ap (λ (word : ℕ → Text). numbered_turn (viewed w.site w.copies word v.sizes) rule) (λ i k. alike.word k i)
+    ∙ ap (λ (sizes : Sizes). numbered_turn (viewed w.site w.copies w.word sizes) rule) alike.sizes))) where
+      viewed : TypingContext → List Bool → (ℕ → Text) → Sizes → ActivityView
+      viewed site copies word sizes = record {
+        site = site;
+        copies = copies;
+        number = w.number;
+        word = word;
+        run = w.run;
+        sizes = sizes;
+        is_read = w.is_read;
+        remembers = w.remembers;
+      }

@@ -9,6 +9,7 @@ use Rattle.bl_emit_blocks.specs.Numbered.{numbered_turn}
 pub record Alike (v w : ActivityView) : Type 0 where
   pub site : v.site ≡ w.site
   pub copies : v.copies ≡ w.copies
+  pub word : (k : ℕ) → v.word k ≡ w.word k
   pub run : (at : Place) → v.run at ≡ w.run at
   pub sizes : v.sizes ≡ w.sizes
   pub is_read : (k : ℕ) → v.is_read k ≡ w.is_read k

@@ -17,7 +17,7 @@ use Rattle.bl_machine_transitions.specs.declared.transition.Needed.{Needed}
 use Rattle.bl_machine_transitions.specs.Told.{Acts, Enters, Nothing, NumberedTransition, Resumes, Task, Tests}
 use Rattle.bl_emit_spec.specs.Blocks.{ActivityView, NodeCode, acted, all_tests, at_slot, choice_code, counter_value, forgotten, freed, may_end_in, name_in}
 use Rattle.bl_emit_spec.specs.Blocks.{rested_at, rested_in, run_code, some_test, spelled_truth, stmt_where, target_code, word_at}
-use Rattle.bl_emit_spec.specs.Names.{NumberedWord, callee_frame, counter_place, ended_place, flag_place, frame_name, mark_place, over_place}
+use Rattle.bl_emit_spec.specs.Names.{NumberedWord, callee_frame, counter_place, ended_place, flag_place, frame_name, mark_place, over_place, with_word}
 
 -- ---- guards
 
@@ -27,34 +27,34 @@ numbered_ends view needed =
     if needed.all then all_tests (map (at_slot view) needed.slots) else some_test (map (at_slot view) needed.slots)
 
 -- the test whether enough branches of a `cobegin` of that age have ended
-abbrev pub numbered_aged : Age → CExpr → CExpr
-numbered_aged (age.New k) ends = c_two And (c_read (mark_place k)) ends
-numbered_aged (age.Old k) ends = c_two And (c_not (c_read (mark_place k))) ends
-numbered_aged age.Any ends = ends
+abbrev pub numbered_aged : ActivityView → Age → CExpr → CExpr
+numbered_aged view (age.New k) ends = c_two And (c_read (mark_place (with_word view.word k))) ends
+numbered_aged view (age.Old k) ends = c_two And (c_not (c_read (mark_place (with_word view.word k)))) ends
+numbered_aged view age.Any ends = ends
 
 -- what is asked before the node with this number acts
 abbrev pub numbered_guard : ActivityView → ℕ → Condition → CExpr
-numbered_guard view k condition.Flagged = c_read (flag_place k)
+numbered_guard view k condition.Flagged = c_read (flag_place (with_word view.word k))
 numbered_guard view k (condition.Rested slot) = rested_at view slot
 numbered_guard view k (condition.RestedIn slots) = rested_in view slots
-numbered_guard view k (condition.Ended age needed) = numbered_aged age (numbered_ends view needed)
+numbered_guard view k (condition.Ended age needed) = numbered_aged view age (numbered_ends view needed)
 
 -- ---- changes
 
 -- the flag of a number is set
-abbrev pub flag_set : ℕ → CStmt
-flag_set k = c_set (flag_place k) (c_truth true)
+abbrev pub flag_set : ActivityView → ℕ → CStmt
+flag_set view k = c_set (flag_place (with_word view.word k)) (c_truth true)
 
 -- the C of a change
 abbrev pub numbered_change : ActivityView → Change → List CStmt
-numbered_change view (change.SetFlag k) = flag_set k ∷ []
+numbered_change view (change.SetFlag k) = flag_set view k ∷ []
 numbered_change view (change.SetCounter slot) =
     c_set (counter_place slot.counter) (counter_value view.sizes slot.counter slot.value) ∷ []
 numbered_change view (change.ClearCounter k) = freed view k ∷ []
 numbered_change view (change.ClearBoth k) = forgotten view k (view.is_read k)
-numbered_change view (change.SetMark k) = c_set (mark_place k) (c_truth true) ∷ []
+numbered_change view (change.SetMark k) = c_set (mark_place (with_word view.word k)) (c_truth true) ∷ []
 numbered_change view (change.EndWhen start surface depth) =
-    c_if (c_read (mark_place start)) (flag_set surface ∷ []) (Some (flag_set depth ∷ [])) ∷ []
+    c_if (c_read (mark_place (with_word view.word start))) (flag_set view surface ∷ []) (Some (flag_set view depth ∷ [])) ∷ []
 numbered_change view change.Finish = c_set over_place (c_truth true) ∷ []
 
 -- the C of changes one after another
@@ -84,7 +84,7 @@ numbered_resumed view k a arguments on_true =
 
 -- what a node does itself, by what is done there
 abbrev pub numbered_own : ActivityView → Task → List CStmt
-numbered_own view Nothing = []
+numbered_own view (Nothing kind) = []
 numbered_own view (Acts s) = acted view s
 numbered_own view (Tests e) = []
 numbered_own view (Enters at a arguments) = []
@@ -92,7 +92,7 @@ numbered_own view (Resumes at a arguments) = []
 
 -- how a node goes on, by what is done there
 abbrev pub numbered_control : ActivityView → NumberedTransition → Task → List CStmt
-numbered_control view rule Nothing = numbered_changes view rule.on_true
+numbered_control view rule (Nothing kind) = numbered_changes view rule.on_true
 numbered_control view rule (Acts s) = numbered_changes view rule.on_true
 numbered_control view rule (Tests e) = numbered_tested view (code_made view.site e) rule
 numbered_control view rule (Enters at a arguments) = numbered_begun view (word_at view at a) a arguments rule.on_true

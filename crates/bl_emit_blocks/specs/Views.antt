@@ -5,6 +5,7 @@ use Rattle.bl_machine_transitions.specs.Runs.{kept_number}
 use Rattle.bl_emit_spec.specs.Blocks.{ActivityView, NodeCode}
 use Rattle.bl_emit_blocks.specs.declared.turn.NodeCode.{NodeCode as KeptTurn}
 use Rattle.bl_emit_blocks.specs.declared.view.ActivityView.{ActivityView as Kept}
+use Rattle.bl_emit_tables.specs.Words.{kept_word}
 
 -- the view that numbered blocks have of their activity; it has no numbers of nodes
 abbrev pub view_in : Kept → ActivityView
@@ -12,6 +13,7 @@ view_in view = record {
   site = site_in view.site;
   copies = view.copies.now;
   number = λ n. 0;
+  word = kept_word view.words.now;
   run = kept_number view.runs.now;
   sizes = view.sizes.now;
   is_read = λ k. unwrap_or (slice_get view.read.now k) false;

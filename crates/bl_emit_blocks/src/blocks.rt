@@ -92,7 +92,7 @@ fn own(alloc: Global, view: &ActivityView, task: &Task) -> Result<List<CStmt>, N
 {
     match task {
         Task::Act(s) => acted(alloc, view, s),
-        Task::Nothing | Task::Test(_) | Task::Enter(_) | Task::Resume(_) => Ok(List::new(alloc)),
+        Task::Nothing(_) | Task::Test(_) | Task::Enter(_) | Task::Resume(_) => Ok(List::new(alloc)),
     }
 }
 
@@ -102,7 +102,7 @@ fn control(alloc: Global, view: &ActivityView, rule: &Transition) -> Result<List
         ≡ numbered.numbered_control (view_in view.entry.now) (rule_in rule.entry.now) (task_in rule.entry.now.task)) }
 {
     match &rule.task {
-        Task::Nothing | Task::Act(_) => changes(alloc, view, &rule.on_true),
+        Task::Nothing(_) | Task::Act(_) => changes(alloc, view, &rule.on_true),
         Task::Test(e) => tested(alloc, view, e, rule),
         Task::Enter(run) => begun(alloc, view, run, &rule.on_true),
         Task::Resume(run) => resumed(alloc, view, run, &rule.on_true),

@@ -7,7 +7,7 @@ ghost use Rattle.bl_emit_blocks.specs.Numbered as numbered;
 ghost use Rattle.bl_emit_blocks.specs.Views.{view_in};
 ghost use Rattle.bl_emit_functions.specs.Trees.{c_if};
 ghost use Rattle.bl_emit_spec.specs.Blocks as blocks;
-ghost use Rattle.bl_emit_spec.specs.Names.{counter_place, mark_place};
+ghost use Rattle.bl_emit_spec.specs.Names.{counter_place, mark_place, with_word};
 
 use crate::counters::value_of;
 use crate::places::{counter, flag, mark, over, rested};
@@ -21,10 +21,10 @@ use bl_tree::{List, NoMemory};
 use std::alloc::Global;
 
 /// The flag of a number is set.
-fn flag_set(alloc: Global, k: u32) -> Result<CStmt, NoMemory>
-    ensures { IfOk result (λ s. s ≡ numbered.flag_set k) }
+fn flag_set(alloc: Global, view: &ActivityView, k: u32) -> Result<CStmt, NoMemory>
+    ensures { IfOk result (λ s. s ≡ numbered.flag_set (view_in view.entry.now) k) }
 {
-    set(alloc, flag(alloc, k)?, truth(true))
+    set(alloc, flag(alloc, view, k)?, truth(true))
 }
 
 /// The instance rests at a number, or no longer at the counter where that is 0.
@@ -61,12 +61,19 @@ fn is_read(view: &ActivityView, k: u32) -> bool
 }
 
 /// A `when` that begins at the first node ends.
-fn ended(alloc: Global, start: u32, surface: u32, depth: u32) -> Result<CStmt, NoMemory>
-    ensures { IfOk result (λ s. s ≡ c_if (c_read (mark_place start)) (numbered.flag_set surface ∷ []) (Some (numbered.flag_set depth ∷ []))) }
+fn ended(
+    alloc: Global,
+    view: &ActivityView,
+    start: u32,
+    surface: u32,
+    depth: u32,
+) -> Result<CStmt, NoMemory>
+    ensures { IfOk result (λ s. s ≡ c_if (c_read (mark_place (with_word (view_in view.entry.now).word start)))
+        (numbered.flag_set (view_in view.entry.now) surface ∷ []) (Some (numbered.flag_set (view_in view.entry.now) depth ∷ []))) }
 {
-    let test = read(mark(alloc, start)?);
-    let new = single(alloc, flag_set(alloc, surface)?)?;
-    let old = single(alloc, flag_set(alloc, depth)?)?;
+    let test = read(mark(alloc, view, start)?);
+    let new = single(alloc, flag_set(alloc, view, surface)?)?;
+    let old = single(alloc, flag_set(alloc, view, depth)?)?;
     choice(alloc, test, new, Some(old))
 }
 
@@ -75,15 +82,15 @@ fn change(alloc: Global, view: &ActivityView, change: Change) -> Result<List<CSt
     ensures { IfOk result (λ code. code ≡ numbered.numbered_change (view_in view.entry.now) change) }
 {
     match change {
-        Change::SetFlag(k) => single(alloc, flag_set(alloc, k)?),
+        Change::SetFlag(k) => single(alloc, flag_set(alloc, view, k)?),
         Change::SetCounter(slot) => {
             single(alloc, counter_set(alloc, view, slot.counter, slot.value)?)
         }
         Change::ClearCounter(k) => single(alloc, counter_set(alloc, view, k, 0)?),
         Change::ClearBoth(k) => forgotten(alloc, view, k, is_read(view, k)),
-        Change::SetMark(k) => single(alloc, set(alloc, mark(alloc, k)?, truth(true))?),
+        Change::SetMark(k) => single(alloc, set(alloc, mark(alloc, view, k)?, truth(true))?),
         Change::EndWhen(start, surface, depth) => {
-            single(alloc, ended(alloc, start, surface, depth)?)
+            single(alloc, ended(alloc, view, start, surface, depth)?)
         }
         Change::Finish => single(alloc, set(alloc, over(alloc)?, truth(true))?),
     }

@@ -15,13 +15,13 @@ use bl_tree::{NoMemory, Op};
 use std::alloc::Global;
 
 /// A test, of a `cobegin` of that age.
-fn aged(alloc: Global, age: Age, ends: CExpr) -> Result<CExpr, NoMemory>
-    ensures { IfOk result (λ e. e ≡ numbered.numbered_aged age ends) }
+fn aged(alloc: Global, view: &ActivityView, age: Age, ends: CExpr) -> Result<CExpr, NoMemory>
+    ensures { IfOk result (λ e. e ≡ numbered.numbered_aged (view_in view.entry.now) age ends) }
 {
     match age {
-        Age::New(k) => two(alloc, Op::And, read(mark(alloc, k)?), ends),
+        Age::New(k) => two(alloc, Op::And, read(mark(alloc, view, k)?), ends),
         Age::Old(k) => {
-            let marked = read(mark(alloc, k)?);
+            let marked = read(mark(alloc, view, k)?);
             two(alloc, Op::And, negated(alloc, marked)?, ends)
         }
         Age::Any => Ok(ends),
@@ -38,9 +38,9 @@ pub fn guard(
     ensures { IfOk result (λ e. e ≡ numbered.numbered_guard (view_in view.entry.now) number condition.now) }
 {
     match condition {
-        Condition::Flagged => Ok(read(flag(alloc, number)?)),
+        Condition::Flagged => Ok(read(flag(alloc, view, number)?)),
         Condition::Rested(slot) => rested_at(alloc, view, *slot),
         Condition::RestedIn(slots) => rested_in(alloc, view, slots),
-        Condition::Ended(age, needed) => aged(alloc, *age, ends(alloc, view, needed)?),
+        Condition::Ended(age, needed) => aged(alloc, view, *age, ends(alloc, view, needed)?),
     }
 }

@@ -1,9 +1,12 @@
 //! Where the C function of an activity keeps the registers of a pass.
 
 ghost use Rattle.std.specs.Prelude.{◌≡◌, IfOk};
+ghost use Rattle.bl_emit_blocks.specs.Views.{view_in};
 ghost use Rattle.bl_emit_spec.specs.Names as names;
 
+use crate::view::ActivityView;
 use bl_emit_acts::parts::{member_at, numbered, whole, worded};
+use bl_emit_tables::node_named;
 use bl_tree::c::CPlace;
 use bl_tree::{NoMemory, Text};
 use std::alloc::Global;
@@ -23,17 +26,19 @@ pub fn rested(alloc: Global, k: u32) -> Result<CPlace, NoMemory>
 }
 
 /// The flag of the node with this number.
-pub fn flag(alloc: Global, k: u32) -> Result<CPlace, NoMemory>
-    ensures { IfOk result (λ place. place ≡ names.flag_place k) }
+pub fn flag(alloc: Global, view: &ActivityView, k: u32) -> Result<CPlace, NoMemory>
+    ensures { IfOk result (λ place. place ≡ names.flag_place (names.with_word (view_in view.entry.now).word k)) }
 {
-    Ok(whole(alloc, false, numbered(alloc, "g", u64::from(k))?))
+    let name = node_named(alloc, "g", view.words, k)?;
+    Ok(whole(alloc, false, name))
 }
 
 /// The mark of the `cobegin` or `when` that begins at the node with this number.
-pub fn mark(alloc: Global, k: u32) -> Result<CPlace, NoMemory>
-    ensures { IfOk result (λ place. place ≡ names.mark_place k) }
+pub fn mark(alloc: Global, view: &ActivityView, k: u32) -> Result<CPlace, NoMemory>
+    ensures { IfOk result (λ place. place ≡ names.mark_place (names.with_word (view_in view.entry.now).word k)) }
 {
-    Ok(whole(alloc, false, numbered(alloc, "u", u64::from(k))?))
+    let name = node_named(alloc, "u", view.words, k)?;
+    Ok(whole(alloc, false, name))
 }
 
 /// Whether the body has ended: the caller's variable.

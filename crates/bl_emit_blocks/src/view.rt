@@ -2,6 +2,7 @@
 
 use bl_emit_acts::UnitSite;
 use bl_machine_transitions::RunNumbers;
+use bl_tree::Text;
 
 /// An activity as its blocks see it.
 #[derive(Clone, Copy)]
@@ -10,6 +11,8 @@ pub struct ActivityView<'a> {
     pub site: UnitSite<'a>,
     /// Which of its variables have a copy of what they were when the tick began.
     pub copies: &'a [bool],
+    /// The words of its nodes by their numbers.
+    pub words: &'a [Text],
     /// The numbers of its `run`s.
     pub runs: &'a RunNumbers,
     /// How many values its counters have.

@@ -32,9 +32,10 @@ use Rattle.bl_emit_functions.specs.Functions.{members_of, memory_name, params_fr
 use Rattle.bl_machine_pass.specs.Transitions.{Change, Condition, Transition}
 use Rattle.bl_machine_pass.specs.Transitions.{Ended, Flagged, Rested, RestedIn, SetsMark, rules}
 pub use Rattle.bl_machine_transitions.specs.Callees.{callees_in, node_number}
-use Rattle.bl_emit_spec.specs.Blocks.{ActivityView, NodeCode, Sizes, counter_type, counter_value, merged_code, name_in, run_word, turns_of}
+use Rattle.bl_emit_spec.specs.Blocks.{ActivityView, NodeCode, Sizes, counter_type, counter_value, merged_code, name_in, node_word, run_word, turns_of}
 use Rattle.bl_emit_spec.specs.Names.{NumberedWord, callee_name, counter_name, counter_place, ended_name, flag_name, flag_place, frame_name}
 use Rattle.bl_emit_spec.specs.Names.{given_name, mark_name, rested_name, rested_place}
+use Rattle.bl_emit_spec.specs.Words.{word_in}
 use Rattle.bl_machine_prevs.specs.Prevs.{prevs_of}
 
 -- ---- runs
@@ -121,6 +122,7 @@ activity_view a = record {
   site = site_of a.structs a.earlier a.unit;
   copies = copies_of a.unit;
   number = node_number a.order (body_of a);
+  word = word_in (site_of a.structs a.earlier a.unit) (node_number a.order (body_of a)) (callees_in (body_of a)) (rules_at a);
   run = run_number_in (node_number a.order (body_of a)) (rules_at a);
   sizes = a.sizes;
   is_read = is_read_by (rules_at a);
@@ -234,17 +236,17 @@ abbrev pub rested_local : Sizes → ℕ → CLocal
 rested_local sizes k = scalar_local (counter_type sizes k) (rested_name k)
 
 -- the local for the flag of a node that waits by one
-abbrev pub flag_local : (Node → ℕ) → Transition → List CLocal
-flag_local number rule = if is_flagged rule.condition then scalar_local OfBool (flag_name (number rule.node)) ∷ [] else []
+abbrev pub flag_local : ActivityView → Transition → List CLocal
+flag_local view rule = if is_flagged rule.condition then scalar_local OfBool (flag_name (node_word view rule.node)) ∷ [] else []
 
 -- the local for a mark that a change sets
-abbrev pub mark_local : (Node → ℕ) → Change → List CLocal
-mark_local number (SetsMark n) = scalar_local OfBool (mark_name (number n)) ∷ []
-mark_local number change = []
+abbrev pub mark_local : ActivityView → Change → List CLocal
+mark_local view (SetsMark n) = scalar_local OfBool (mark_name (node_word view n)) ∷ []
+mark_local view change = []
 
 -- the locals for the marks that a rule sets
-abbrev pub mark_locals : (Node → ℕ) → Transition → List CLocal
-mark_locals number rule = joined (map (mark_local number) rule.on_true)
+abbrev pub mark_locals : ActivityView → Transition → List CLocal
+mark_locals view rule = joined (map (mark_local view) rule.on_true)
 
 -- the local for the copy of a variable
 abbrev pub copy_local : Activity → ℕ → CLocal
@@ -272,8 +274,8 @@ run_locals a run = given_local (word_of_run a.earlier run) (option_and_then (λ 
 abbrev pub activity_locals : Activity → List CLocal
 activity_locals a =
     map (rested_local a.sizes) (counters_read a)
-    ++ (joined (map (flag_local (activity_view a).number) (first_rules a))
-    ++ (joined (map (mark_locals (activity_view a).number) (rules_at a))
+    ++ (joined (map (flag_local (activity_view a)) (first_rules a))
+    ++ (joined (map (mark_locals (activity_view a)) (rules_at a))
     ++ (map (copy_local a) (copied_in a) ++ (ended_local (runs_in_body a) ++ joined (map (run_locals a) (runs_in_body a))))))
 
 -- what a counter holds as the tick begins is copied
@@ -284,7 +286,7 @@ rested_code k = c_set (rested_place k) (c_read (counter_place k))
 abbrev pub entry_code : ActivityView → Block → List CStmt
 entry_code view Done = []
 entry_code view (Then s rest) =
-    c_set (flag_place (view.number (entry s))) (c_two Eq (c_read (counter_place 0)) (counter_value view.sizes 0 0)) ∷ []
+    c_set (flag_place (node_word view (entry s))) (c_two Eq (c_read (counter_place 0)) (counter_value view.sizes 0 0)) ∷ []
 
 -- the turns of nodes in source order
 abbrev pub turns_in_source : Activity → List NodeCode

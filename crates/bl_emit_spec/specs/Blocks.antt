@@ -32,7 +32,7 @@ use Rattle.bl_machine_pass.specs.Transitions.{Age, Change, Condition, Needed, Tr
 use Rattle.bl_machine_pass.specs.Transitions.{ClearsBoth, ClearsCounter, Ended, EndsWhen, Finishes, Flagged, IsAny, IsNew, IsOld, Rested, RestedIn}
 use Rattle.bl_machine_pass.specs.Transitions.{SetsCounter, SetsFlag, SetsMark}
 use Rattle.bl_emit_spec.specs.Names.{NumberedWord, callee_frame, callee_memory, counter_place, ended_place, flag_place, frame_name, given_place}
-use Rattle.bl_emit_spec.specs.Names.{mark_place, over_place, rested_place, result_place}
+use Rattle.bl_emit_spec.specs.Names.{mark_place, over_place, rested_place, result_place, with_word}
 
 -- ---- numbers of counters
 
@@ -62,6 +62,8 @@ pub record ActivityView : Type 0 where
   pub copies : List Bool
   -- the numbers of the activity's nodes in C names
   pub number : Node → ℕ
+  -- the words of these numbers in C names
+  pub word : ℕ → Text
   -- the numbers of its `run`s in C names, by their places
   pub run : Place → ℕ
   -- how many values each counter has
@@ -70,6 +72,10 @@ pub record ActivityView : Type 0 where
   pub is_read : ℕ → Bool
   -- whether a unit before it, an activity, remembers variables
   pub remembers : ℕ → Bool
+
+-- the number and word in the C names of a node's flag and mark
+abbrev pub node_word : ActivityView → Node → NumberedWord
+node_word view n = with_word view.word (view.number n)
 
 -- ---- guards
 
@@ -158,13 +164,13 @@ ends_test view needed =
 
 -- the test whether enough branches of a `cobegin` of that age have ended
 abbrev pub aged_test : ActivityView → Age → CExpr → CExpr
-aged_test view (IsNew n) ends = c_two And (c_read (mark_place (view.number n))) ends
-aged_test view (IsOld n) ends = c_two And (c_not (c_read (mark_place (view.number n)))) ends
+aged_test view (IsNew n) ends = c_two And (c_read (mark_place (node_word view n))) ends
+aged_test view (IsOld n) ends = c_two And (c_not (c_read (mark_place (node_word view n)))) ends
 aged_test view IsAny ends = ends
 
 -- what is asked before the node acts
 abbrev pub guard_of : ActivityView → Node → Condition → CExpr
-guard_of view n Flagged = c_read (flag_place (view.number n))
+guard_of view n Flagged = c_read (flag_place (node_word view n))
 guard_of view n (Rested slot) = rested_at view slot
 guard_of view n (RestedIn slots) = rested_in view slots
 guard_of view n (Ended age needed) = aged_test view age (ends_test view needed)
@@ -182,7 +188,7 @@ forgotten view k false = freed view k ∷ []
 
 -- a flag or a mark is set
 abbrev pub flagged_now : ActivityView → Node → CStmt
-flagged_now view n = c_set (flag_place (view.number n)) (c_truth true)
+flagged_now view n = c_set (flag_place (node_word view n)) (c_truth true)
 
 -- the C of a change
 abbrev pub change_code : ActivityView → Change → List CStmt
@@ -190,9 +196,9 @@ change_code view (SetsFlag n) = flagged_now view n ∷ []
 change_code view (SetsCounter slot) = c_set (counter_place slot.counter) (counter_value view.sizes slot.counter slot.value) ∷ []
 change_code view (ClearsCounter k) = freed view k ∷ []
 change_code view (ClearsBoth k) = forgotten view k (view.is_read k)
-change_code view (SetsMark n) = c_set (mark_place (view.number n)) (c_truth true) ∷ []
+change_code view (SetsMark n) = c_set (mark_place (node_word view n)) (c_truth true) ∷ []
 change_code view (EndsWhen start surface depth) =
-    c_if (c_read (mark_place (view.number start))) (flagged_now view surface ∷ []) (Some (flagged_now view depth ∷ [])) ∷ []
+    c_if (c_read (mark_place (node_word view start))) (flagged_now view surface ∷ []) (Some (flagged_now view depth ∷ [])) ∷ []
 change_code view Finishes = c_set over_place (c_truth true) ∷ []
 
 -- the C of changes one after another

@@ -2,3 +2,4 @@ pub mod Activities
 pub mod Blocks
 pub mod Names
 pub mod Programs
+pub mod Words

@@ -16,6 +16,10 @@ pub record NumberedWord : Type 0 where
 abbrev pub numbered_word : NumberedWord → Text
 numbered_word k = decimal k.number ++ (codes "_" ++ k.word)
 
+-- a number and the word that belongs to it
+abbrev pub with_word : (ℕ → Text) → ℕ → NumberedWord
+with_word word k = record { number = k; word = word k }
+
 -- ---- structs and functions
 
 -- the struct of where an activity rests: its counters, and the like structs of the activities that it runs
@@ -37,13 +41,13 @@ callee_name k = codes "x" ++ numbered_word k
 abbrev pub rested_name : ℕ → Text
 rested_name k = codes "w" ++ decimal k
 
--- the flag of the node with this number
-abbrev pub flag_name : ℕ → Text
-flag_name k = codes "g" ++ decimal k
+-- the flag of the node with this number and word
+abbrev pub flag_name : NumberedWord → Text
+flag_name k = codes "g" ++ numbered_word k
 
--- the mark of the `cobegin` or `when` that begins at the node with this number
-abbrev pub mark_name : ℕ → Text
-mark_name k = codes "u" ++ decimal k
+-- the mark of the `cobegin` or `when` that begins at the node with this number and word
+abbrev pub mark_name : NumberedWord → Text
+mark_name k = codes "u" ++ numbered_word k
 
 -- whether the body of the activity that was called last has ended: one local for all `run`s
 abbrev pub ended_name : Text
@@ -63,12 +67,12 @@ counter_place k = c_place true (codes "f") (c_step (counter_name k) ∷ [])
 abbrev pub rested_place : ℕ → CPlace
 rested_place k = c_place false (rested_name k) []
 
--- the flag of the node with this number
-abbrev pub flag_place : ℕ → CPlace
+-- the flag of the node with this number and word
+abbrev pub flag_place : NumberedWord → CPlace
 flag_place k = c_place false (flag_name k) []
 
--- the mark of the `cobegin` or `when` that begins at the node with this number
-abbrev pub mark_place : ℕ → CPlace
+-- the mark of the `cobegin` or `when` that begins at the node with this number and word
+abbrev pub mark_place : NumberedWord → CPlace
 mark_place k = c_place false (mark_name k) []
 
 -- whether the body has ended: the caller's variable

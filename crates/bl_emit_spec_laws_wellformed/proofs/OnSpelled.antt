@@ -1,3 +1,4 @@
 pub mod Guards
 pub mod Nodes
 pub mod Whole
+pub mod Words

@@ -35,7 +35,7 @@ grown_long none (suc n) (x ∷ table) = let more = grown_long none n table in om
 abbrev pub entry_at : {X : Type 0} → X → List X → ℕ → X
 entry_at none table k = unwrap_or (slice_get table k) none
 
-grown_same : {X : Type 0} (none : X) (n : ℕ) (table : List X) (k : ℕ) → entry_at none (grown none n table) k ≡ entry_at none table k
+pub grown_same : {X : Type 0} (none : X) (n : ℕ) (table : List X) (k : ℕ) → entry_at none (grown none n table) k ≡ entry_at none table k
 grown_same none zero table k = refl
 grown_same none (suc n) [] zero = refl
 grown_same none (suc n) [] (suc k) = grown_same none n [] k
@@ -44,7 +44,7 @@ grown_same none (suc n) (x ∷ table) (suc k) = grown_same none n table k
 
 -- ---- tests
 
-nat_eq_suc : (j k : ℕ) → nat_eq (suc j) (suc k) ≡ nat_eq j k
+pub nat_eq_suc : (j k : ℕ) → nat_eq (suc j) (suc k) ≡ nat_eq j k
 nat_eq_suc j k = by (nat_eq j k) refl
   where
     by : (t : Bool) → nat_eq j k ≡ t → nat_eq (suc j) (suc k) ≡ nat_eq j k

@@ -1,2 +1,3 @@
 mod GrowLemmas
 mod SetLemmas
+mod WordLemmas

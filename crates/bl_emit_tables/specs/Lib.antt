@@ -1,3 +1,4 @@
 pub mod Needed
 pub mod Sizes
 pub mod Told
+pub mod Words

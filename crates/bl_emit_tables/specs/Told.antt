@@ -1,6 +1,7 @@
 -- What the rules of an activity tell, by numbers, of the registers of its passes.
 use Rattle.std.specs.Prelude.{ℕ, Bool, true, false, List, [], ◌∷◌, ◌++◌, map, nat_eq, Option, Some, None, slice_get, if◌then◌else◌}
 use Rattle.std.specs.List.{list_any}
+use Rattle.bl_tree.specs.declared.text.Text.{Text}
 use Rattle.bl_tree.specs.declared.c.CLocal.{CLocal}
 use Rattle.bl_tree.specs.declared.scalar.Scalar.TheVariants.{Bool as OfBool}
 use Rattle.bl_tree.specs.Reduce.{joined}
@@ -10,7 +11,7 @@ use Rattle.bl_machine_transitions.specs.declared.transition.Change.{Change}
 use Rattle.bl_machine_transitions.specs.declared.transition.Change.TheVariants.{ClearBoth, ClearCounter, EndWhen, Finish, SetCounter, SetFlag, SetMark}
 use Rattle.bl_machine_transitions.specs.Told.{Acts, Enters, Nothing, NumberedTransition, Resumes, Task, Tests}
 use Rattle.bl_emit_spec.specs.Activities.{RunAt, one_a_place, scalar_local}
-use Rattle.bl_emit_spec.specs.Names.{flag_name, mark_name}
+use Rattle.bl_emit_spec.specs.Names.{flag_name, mark_name, with_word}
 
 -- ---- counters
 
@@ -29,7 +30,7 @@ read_told rules k = list_any (λ rule. asks_counter k rule.condition) rules
 
 -- a `run`, where one begins at the node with the number
 abbrev pub run_told : ℕ → Task → List RunAt
-run_told number Nothing = []
+run_told number (Nothing kind) = []
 run_told number (Acts s) = []
 run_told number (Tests e) = []
 run_told number (Enters at a arguments) = record { place = at; number = number; unit = a } ∷ []
@@ -43,7 +44,7 @@ all_runs_told rules = joined (map (λ rule. run_told rule.number rule.task) rule
 abbrev pub runs_told : List NumberedTransition → List RunAt
 runs_told rules = one_a_place (all_runs_told rules)
 
--- ---- flags and marks
+-- ---- flags and marks, where numbers of nodes have these words
 
 -- whether the rule asks for a flag
 abbrev pub asks_flag : Condition → Bool
@@ -53,38 +54,38 @@ asks_flag (RestedIn slots) = false
 asks_flag (Ended age needed) = false
 
 -- the local for the flag of a node that waits by one
-abbrev pub flag_told : NumberedTransition → List CLocal
-flag_told rule = if asks_flag rule.condition then scalar_local OfBool (flag_name rule.number) ∷ [] else []
+abbrev pub flag_told : (ℕ → Text) → NumberedTransition → List CLocal
+flag_told word rule = if asks_flag rule.condition then scalar_local OfBool (flag_name (with_word word rule.number)) ∷ [] else []
 
 -- the local for the flag of an optional node
-abbrev pub flag_where : Option NumberedTransition → List CLocal
-flag_where (Some rule) = flag_told rule
-flag_where None = []
+abbrev pub flag_where : (ℕ → Text) → Option NumberedTransition → List CLocal
+flag_where word (Some rule) = flag_told word rule
+flag_where word None = []
 
 -- the local for the flag of the first node of a block, which has nodes by their positions
-abbrev pub first_flag_told : List NumberedTransition → List ℕ → List CLocal
-first_flag_told rules [] = []
-first_flag_told rules (k ∷ block) = flag_where (slice_get rules k)
+abbrev pub first_flag_told : (ℕ → Text) → List NumberedTransition → List ℕ → List CLocal
+first_flag_told word rules [] = []
+first_flag_told word rules (k ∷ block) = flag_where word (slice_get rules k)
 
 -- the locals for the flags of the first nodes of blocks
-abbrev pub flags_told : List NumberedTransition → List (List ℕ) → List CLocal
-flags_told rules [] = []
-flags_told rules (block ∷ rest) = first_flag_told rules block ++ flags_told rules rest
+abbrev pub flags_told : (ℕ → Text) → List NumberedTransition → List (List ℕ) → List CLocal
+flags_told word rules [] = []
+flags_told word rules (block ∷ rest) = first_flag_told word rules block ++ flags_told word rules rest
 
 -- the local for a mark that a change sets
-abbrev pub mark_told : Change → List CLocal
-mark_told (SetFlag k) = []
-mark_told (SetCounter slot) = []
-mark_told (ClearCounter k) = []
-mark_told (ClearBoth k) = []
-mark_told (SetMark k) = scalar_local OfBool (mark_name k) ∷ []
-mark_told (EndWhen start surface depth) = []
-mark_told Finish = []
+abbrev pub mark_told : (ℕ → Text) → Change → List CLocal
+mark_told word (SetFlag k) = []
+mark_told word (SetCounter slot) = []
+mark_told word (ClearCounter k) = []
+mark_told word (ClearBoth k) = []
+mark_told word (SetMark k) = scalar_local OfBool (mark_name (with_word word k)) ∷ []
+mark_told word (EndWhen start surface depth) = []
+mark_told word Finish = []
 
 -- the locals for the marks that a rule sets
-abbrev pub rule_marks_told : NumberedTransition → List CLocal
-rule_marks_told rule = joined (map mark_told rule.on_true)
+abbrev pub rule_marks_told : (ℕ → Text) → NumberedTransition → List CLocal
+rule_marks_told word rule = joined (map (mark_told word) rule.on_true)
 
 -- the locals for the marks that all rules set
-abbrev pub marks_told : List NumberedTransition → List CLocal
-marks_told rules = joined (map rule_marks_told rules)
+abbrev pub marks_told : (ℕ → Text) → List NumberedTransition → List CLocal
+marks_told word rules = joined (map (rule_marks_told word) rules)

@@ -21,6 +21,7 @@ use Rattle.bl_machine_transitions.specs.Listed.{Layout, endings, enter_block, en
 use Rattle.bl_machine_transitions.specs.Listed.{when_rules as guarded_in}
 use Rattle.bl_machine_transitions.specs.Listed.{nodes_within, place_count, places_in_branches, places_within, rests_in}
 use Rattle.bl_machine_transitions.specs.Listed.{rests_in_first, rests_of, rules_in, rules_in_each, rules_of, strong_endings, tested_rule}
+use Rattle.bl_machine_transitions.specs.declared.transition.Silent.TheVariants as silent
 use Rattle.bl_machine_transitions.specs.Told.{Nothing, Task, Tests}
 use Rattle.bl_machine_transitions.specs.inner.Joined.{enter_unless_empty, fired, looked, watched}
 use Rattle.bl_machine_transitions.specs.inner.Parts.{ArmPart, BranchPart, Part, arm_of, arm_part, branch_of, chain, condition_part, each, ends, entry_changes}
@@ -152,13 +153,13 @@ pub watched_alike : (layout : Layout) (instant : Bool) (k p : ℕ) (guard : Guar
     AlikeIn body a → guarded_in layout instant k p guard task body next
     ≡ watched layout k p guard task a.empty (record { nodes = a.size.nodes; places = a.size.places; instant = instant }) (a.rests layout p) next
 watched_alike layout true k p guard task body a next h = λ i.
-    flagged_rule layout k Nothing (SetMark (layout.number k) ∷ h.enters layout (k + 4) (when_body_end layout k true) i ∷ [])
-    ∷ flagged_rule layout (k + 1) Nothing (next ∷ [])
+    flagged_rule layout k (Nothing silent.Start) (SetMark (layout.number k) ∷ h.enters layout (k + 4) (when_body_end layout k true) i ∷ [])
+    ∷ flagged_rule layout (k + 1) (Nothing silent.End) (next ∷ [])
     ∷ looked layout (k + 2) p (h.places i) (h.rests layout p i) task (fires_alike layout (k + 4) guard body a (when_body_end layout k true) next h i)
-    ∷ flagged_rule layout (k + 3) Nothing (next ∷ [])
+    ∷ flagged_rule layout (k + 3) (Nothing silent.End) (next ∷ [])
     ∷ []
 watched_alike layout false k p guard task body a next h = λ i.
-    flagged_rule layout k Nothing (h.enters layout (k + 3) (when_body_end layout k false) i ∷ [])
+    flagged_rule layout k (Nothing silent.Start) (h.enters layout (k + 3) (when_body_end layout k false) i ∷ [])
     ∷ looked layout (k + 1) p (h.places i) (h.rests layout p i) task (fires_alike layout (k + 3) guard body a (when_body_end layout k false) next h i)
-    ∷ flagged_rule layout (k + 2) Nothing (next ∷ [])
+    ∷ flagged_rule layout (k + 2) (Nothing silent.End) (next ∷ [])
     ∷ []

@@ -25,6 +25,7 @@ use Rattle.bl_machine_transitions.specs.declared.transition.Change.TheVariants.{
 use Rattle.bl_machine_transitions.specs.declared.transition.Needed.{Needed}
 use Rattle.bl_machine_transitions.specs.Listed.{Layout, flagged_rule, fork_nodes, guard_nodes, joins_of, mark_change, needed, tested_rule, when_body_end}
 use Rattle.bl_machine_transitions.specs.Listed.{endings, strong_endings}
+use Rattle.bl_machine_transitions.specs.declared.transition.Silent.TheVariants as silent
 use Rattle.bl_machine_transitions.specs.Told.{Nothing, Tests}
 use Rattle.bl_machine_transitions.specs.inner.Joined.{all_joined, fork_instant, joined}
 use Rattle.bl_machine_transitions.specs.inner.Parts.{ArmPart, BranchPart, Part, act, arm_of, branch_of, branch_part, part_of_block}
@@ -153,7 +154,7 @@ cobegin_alike l at bodies all h =
       instant = instant;
       rests = h.rests;
       rules = λ layout k p next i.
-          flagged_rule layout k Nothing (mark_change (instant i) (layout.number k) (h.begin layout (k + fork_nodes (instant i)) p i))
+          flagged_rule layout k (Nothing silent.Fork) (mark_change (instant i) (layout.number k) (h.begin layout (k + fork_nodes (instant i)) p i))
           ∷ (joins_alike layout (instant i) k p bodies all next h i ++ h.rules layout (k + fork_nodes (instant i)) p i);
     }
 
@@ -192,7 +193,8 @@ endless_alike l at body a h = record {
   instant = refl;
   rests = h.rests;
   rules = λ layout k p next i.
-      flagged_rule layout k Nothing (h.enters layout (k + 1) (SetFlag (layout.number k)) i ∷ []) ∷ h.rules layout (k + 1) p (SetFlag (layout.number k)) i;
+      flagged_rule layout k (Nothing silent.Head) (h.enters layout (k + 1) (SetFlag (layout.number k)) i ∷ [])
+      ∷ h.rules layout (k + 1) p (SetFlag (layout.number k)) i;
 }
 
 until_alike : (l : Label) (at : Place) (body : Block) (e : Expr) (a : Part) → AlikeIn body a → Alike (Until l at body e) (until a e)
@@ -203,7 +205,7 @@ until_alike l at body e a h = record {
   instant = h.instant;
   rests = h.rests;
   rules = λ layout k p next i.
-      flagged_rule layout k Nothing (h.enters layout (k + 2) (SetFlag (layout.number (k + 1))) i ∷ [])
+      flagged_rule layout k (Nothing silent.Head) (h.enters layout (k + 2) (SetFlag (layout.number (k + 1))) i ∷ [])
       ∷ tested_rule layout (k + 1) (Tests e) (next ∷ []) (SetFlag (layout.number k) ∷ [])
       ∷ h.rules layout (k + 2) p (SetFlag (layout.number (k + 1))) i;
 }

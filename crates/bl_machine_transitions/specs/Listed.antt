@@ -33,6 +33,7 @@ use Rattle.bl_machine_transitions.specs.declared.transition.Condition.TheVariant
 use Rattle.bl_machine_transitions.specs.declared.transition.Change.{Change}
 use Rattle.bl_machine_transitions.specs.declared.transition.Change.TheVariants.{SetFlag, SetCounter, ClearCounter, ClearBoth, SetMark, EndWhen, Finish}
 use Rattle.bl_machine_transitions.specs.declared.transition.Needed.{Needed}
+use Rattle.bl_machine_transitions.specs.declared.transition.Silent.TheVariants as silent
 use Rattle.bl_machine_transitions.specs.Told.{Acts, Enters, Nothing, NumberedTransition, Resumes, Task, Tests}
 
 -- ---- positions
@@ -174,7 +175,7 @@ abbrev pub joining_rule : Layout → ℕ → ℕ → Bodies → Age → Change �
 joining_rule layout k p bodies age next = record {
   number = layout.number k;
   condition = Ended age (needed layout p bodies);
-  task = Nothing;
+  task = Nothing silent.Join;
   on_true = freed layout p (places_in_branches bodies) ++ next ∷ [];
   on_false = [];
 }
@@ -198,21 +199,21 @@ checked layout k inner p guard task body ends next = record {
 -- the rules of the nodes of a `when` itself, which begins at the node with the position
 abbrev pub when_rules : Layout → Bool → ℕ → ℕ → Guard → Task → Block → Change → List NumberedTransition
 when_rules layout true k p guard task body next =
-    flagged_rule layout k Nothing (SetMark (layout.number k) ∷ enter_block layout (k + 4) body (when_body_end layout k true) ∷ [])
-    ∷ flagged_rule layout (k + 1) Nothing (next ∷ [])
+    flagged_rule layout k (Nothing silent.Start) (SetMark (layout.number k) ∷ enter_block layout (k + 4) body (when_body_end layout k true) ∷ [])
+    ∷ flagged_rule layout (k + 1) (Nothing silent.End) (next ∷ [])
     ∷ checked layout (k + 2) (k + 4) p guard task body (when_body_end layout k true) next
-    ∷ flagged_rule layout (k + 3) Nothing (next ∷ [])
+    ∷ flagged_rule layout (k + 3) (Nothing silent.End) (next ∷ [])
     ∷ []
 when_rules layout false k p guard task body next =
-    flagged_rule layout k Nothing (enter_block layout (k + 3) body (when_body_end layout k false) ∷ [])
+    flagged_rule layout k (Nothing silent.Start) (enter_block layout (k + 3) body (when_body_end layout k false) ∷ [])
     ∷ checked layout (k + 1) (k + 3) p guard task body (when_body_end layout k false) next
-    ∷ flagged_rule layout (k + 2) Nothing (next ∷ [])
+    ∷ flagged_rule layout (k + 2) (Nothing silent.End) (next ∷ [])
     ∷ []
 
 -- the rules of the nodes of a loop with its test at the end, which the change flags
 abbrev pub loop_rules : Layout → ℕ → Task → Block → Change → Change → List NumberedTransition
 loop_rules layout k task body test next =
-    flagged_rule layout k Nothing (enter_block layout (k + 2) body test ∷ [])
+    flagged_rule layout k (Nothing silent.Head) (enter_block layout (k + 2) body test ∷ [])
     ∷ tested_rule layout (k + 1) task (next ∷ []) (SetFlag (layout.number k) ∷ [])
     ∷ []
 
@@ -230,7 +231,7 @@ abbrev mutual
   pub rules_of : Layout → ℕ → ℕ → Plain → Change → List NumberedTransition
   rules_of layout k p (Act l s) next = flagged_rule layout k (Acts s) (next ∷ []) ∷ []
   rules_of layout k p (Await l at e) next =
-      flagged_rule layout k Nothing (SetCounter (layout.slot p) ∷ []) ∷ resting_rule layout (k + 1) (layout.slot p) (Tests e) next ∷ []
+      flagged_rule layout k (Nothing silent.Pause) (SetCounter (layout.slot p) ∷ []) ∷ resting_rule layout (k + 1) (layout.slot p) (Tests e) next ∷ []
   rules_of layout k p (RunOf l at target a inputs outputs) next =
       let arguments = arguments_of target inputs outputs in
       flagged_rule layout k (Enters at a arguments) (SetCounter (layout.slot p) ∷ [])
@@ -243,13 +244,13 @@ abbrev mutual
   rules_of layout k p (Cobegin l at bodies) next =
       let instant = is_instant (Cobegin l at bodies) in
       let inner = k + fork_nodes instant in
-      flagged_rule layout k Nothing (mark_change instant (layout.number k) (enter_each layout inner p bodies))
+      flagged_rule layout k (Nothing silent.Fork) (mark_change instant (layout.number k) (enter_each layout inner p bodies))
       ∷ (joins_of layout instant k p bodies next ++ rules_in_each layout inner p bodies)
   rules_of layout k p (When l at guard e body) next =
       let instant = are_instant body in
       when_rules layout instant k p guard (Tests e) body next ++ rules_in layout (k + guard_nodes instant) p body (when_body_end layout k instant)
   rules_of layout k p (Repeat l at body) next =
-      flagged_rule layout k Nothing (enter_block layout (k + 1) body (SetFlag (layout.number k)) ∷ [])
+      flagged_rule layout k (Nothing silent.Head) (enter_block layout (k + 1) body (SetFlag (layout.number k)) ∷ [])
       ∷ rules_in layout (k + 1) p body (SetFlag (layout.number k))
   rules_of layout k p (Until l at body e) next =
       loop_rules layout k (Tests e) body (SetFlag (layout.number (k + 1))) next ++ rules_in layout (k + 2) p body (SetFlag (layout.number (k + 1)))

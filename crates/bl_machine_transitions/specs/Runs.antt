@@ -10,7 +10,7 @@ use Rattle.bl_machine_transitions.specs.Told.{Acts, Enters, Nothing, NumberedTra
 
 -- whether a `run` at the place begins where the task is done
 abbrev pub begins_run : Place → Task → Bool
-begins_run at Nothing = false
+begins_run at (Nothing kind) = false
 begins_run at (Acts s) = false
 begins_run at (Tests e) = false
 begins_run at (Enters place a arguments) = same_place place at

@@ -3,7 +3,8 @@ use Rattle.std.specs.Prelude.{ℕ, List, [], ◌∷◌, map, option_map}
 use Rattle.bl_tree.specs.declared.place.Place.{Place}
 use Rattle.bl_tree.specs.declared.tree.Expr.{Expr}
 use Rattle.bl_tree.specs.declared.tree.Stmt.{Stmt}
-use Rattle.bl_graph_nodes.specs.Nodes.{ActAt, Arguments, CheckAt, EnterAt, Node, ResumeAt, TestAt}
+use Rattle.bl_graph_nodes.specs.Nodes.{ActAt, Arguments, CheckAt, DepthEndAt, DepthJoinAt, EnterAt, ForkAt, HeadAt, Node, PauseAt, ResumeAt, StartAt}
+use Rattle.bl_graph_nodes.specs.Nodes.{SurfaceEndAt, SurfaceJoinAt, TestAt}
 use Rattle.bl_machine_pass.specs.Transitions as nodes
 use Rattle.bl_machine_pass.specs.Transitions.{ClearsBoth, ClearsCounter, Ended, EndsWhen, Finishes, Flagged, IsAny, IsNew, IsOld, Rested, RestedIn, SetsCounter, SetsFlag, SetsMark}
 use Rattle.bl_machine_transitions.specs.declared.transition.Age.{Age}
@@ -15,6 +16,8 @@ use Rattle.bl_machine_transitions.specs.declared.transition.Change.TheVariants a
 use Rattle.bl_machine_transitions.specs.declared.transition.Needed.{Needed}
 use Rattle.bl_machine_transitions.specs.declared.transition.Transition.{Transition as Kept}
 use Rattle.bl_machine_transitions.specs.declared.transition.Run.{Run as KeptRun}
+use Rattle.bl_machine_transitions.specs.declared.transition.Silent.{Silent}
+use Rattle.bl_machine_transitions.specs.declared.transition.Silent.TheVariants as silent
 use Rattle.bl_machine_transitions.specs.declared.transition.Task.{Task as KeptTask}
 use Rattle.bl_machine_transitions.specs.declared.transition.Task.TheVariants as task
 
@@ -22,7 +25,7 @@ use Rattle.bl_machine_transitions.specs.declared.transition.Task.TheVariants as 
 
 -- what is done at a node: of a `run` with its place, and the position of the activity that it calls
 pub data Task : Type 0 where
-  Nothing : Task
+  Nothing : Silent → Task
   Acts : Stmt → Task
   Tests : Expr → Task
   Enters : Place → ℕ → Arguments → Task
@@ -44,7 +47,7 @@ arguments_in run = record { target = option_map (λ path. path.now) run.target; 
 
 -- what is done
 abbrev pub task_in : KeptTask → Task
-task_in task.Nothing = Nothing
+task_in (task.Nothing kind) = Nothing kind
 task_in (task.Act s) = Acts s.now
 task_in (task.Test e) = Tests e.now
 task_in (task.Enter run) = Enters run.place run.unit (arguments_in run)
@@ -90,7 +93,14 @@ task_at number unit (TestAt l at e) = Tests e
 task_at number unit (CheckAt l at e) = Tests e
 task_at number unit (EnterAt l at arguments) = Enters at unit arguments
 task_at number unit (ResumeAt l at arguments) = Resumes at unit arguments
-task_at number unit n = Nothing
+task_at number unit (PauseAt l at) = Nothing silent.Pause
+task_at number unit (HeadAt l at) = Nothing silent.Head
+task_at number unit (StartAt l at) = Nothing silent.Start
+task_at number unit (SurfaceEndAt l at) = Nothing silent.End
+task_at number unit (DepthEndAt l at) = Nothing silent.End
+task_at number unit (ForkAt l at) = Nothing silent.Fork
+task_at number unit (SurfaceJoinAt l at) = Nothing silent.Join
+task_at number unit (DepthJoinAt l at) = Nothing silent.Join
 
 -- the rule of a node
 abbrev pub told_rule : (Node → ℕ) → ℕ → nodes.Transition → NumberedTransition

@@ -11,7 +11,7 @@ use crate::changes::{entered, freed};
 use crate::nodes::{later, put};
 use crate::size::{after, is_bare, of_block, of_branches};
 use crate::table::Table;
-use crate::transition::{Age, Change, Condition, Needed, Task, Transition};
+use crate::transition::{Age, Change, Condition, Needed, Silent, Task, Transition};
 use bl_machine::Slot;
 use bl_tree::tree::Branch;
 use bl_tree::{List, NoMemory};
@@ -130,7 +130,7 @@ fn put_joined<'a>(
         Transition {
             number: t.number(k),
             condition: Condition::Ended(age, needed),
-            task: Task::Nothing,
+            task: Task::Nothing(Silent::Join),
             on_true: freed(alloc, t, p, places, next)?,
             on_false: List::new(alloc),
         },

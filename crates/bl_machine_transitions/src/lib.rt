@@ -15,5 +15,5 @@ mod transition;
 mod walk;
 
 pub use numbers::RunNumbers;
-pub use transition::{Age, Change, Condition, Needed, Run, Task, Transition};
+pub use transition::{Age, Change, Condition, Needed, Run, Silent, Task, Transition};
 pub use walk::rules;

@@ -3,13 +3,14 @@
 ghost use Rattle.std.specs.Prelude.{◌≡◌, ◌∷◌, ◌++◌, [], map, IfOk, OnOk};
 ghost use Rattle.bl_graph_nodes.specs.Nodes.{arguments_of};
 ghost use Rattle.bl_machine_transitions.specs.Listed.{flagged_rule, guard_nodes, mark_change, resting_rule, tested_rule};
+ghost use Rattle.bl_machine_transitions.specs.declared.transition.Silent.TheVariants as silent;
 ghost use Rattle.bl_machine_transitions.specs.Told.{Acts, Enters, Nothing, Resumes, Tests, rule_in, task_in};
 ghost use Rattle.bl_machine_transitions.specs.inner.Joined.{last, later, layout_in, looked, paused, turned, watched, where_so};
 
 use crate::changes::{body_ends, entered, fired, forgotten, one, two};
 use crate::size::{Size, after};
 use crate::table::Table;
-use crate::transition::{Change, Condition, Run, Task, Transition};
+use crate::transition::{Change, Condition, Run, Silent, Task, Transition};
 use bl_machine::Slot;
 use bl_tree::tree::{Expr, Guard, Path, Stmt};
 use bl_tree::{List, NoMemory, Place};
@@ -147,9 +148,10 @@ pub fn put_await<'a>(
     into: &mut List<Transition<'a>>,
 ) -> Result<(), NoMemory>
     ensures { OnOk result (map rule_in into.new
-        ≡ map rule_in into.old ++ paused (layout_in t.now) k p Nothing (Tests e.now) next) }
+        ≡ map rule_in into.old ++ paused (layout_in t.now) k p (Nothing silent.Pause) (Tests e.now) next) }
 {
-    put_paused(alloc, t, Task::Nothing, Task::Test(e), k, p, next, into)
+    let pause = Task::Nothing(Silent::Pause);
+    put_paused(alloc, t, pause, Task::Test(e), k, p, next, into)
 }
 
 /// Of a `run`.
@@ -215,7 +217,7 @@ fn put_looked<'a>(
     )
 }
 
-/// Of the node by which what may end at once does, where the test is true.
+/// Of the node by which a `when` that may end at once does, where the test is true.
 fn put_where<'a>(
     alloc: Global,
     t: &Table<'_>,
@@ -225,10 +227,11 @@ fn put_where<'a>(
     into: &mut List<Transition<'a>>,
 ) -> Result<(), NoMemory>
     ensures { OnOk result (map rule_in into.new
-        ≡ map rule_in into.old ++ where_so test (flagged_rule (layout_in t.now) k Nothing (next ∷ []))) }
+        ≡ map rule_in into.old ++ where_so test (flagged_rule (layout_in t.now) k (Nothing silent.End) (next ∷ []))) }
 {
     if test {
-        put_flagged(alloc, t, k, Task::Nothing, one(alloc, next)?, into)?;
+        let end = Task::Nothing(Silent::End);
+        put_flagged(alloc, t, k, end, one(alloc, next)?, into)?;
     }
     Ok(())
 }
@@ -291,13 +294,15 @@ pub fn put_watched<'a>(
     let ends = body_ends(t, k, instant)?;
     let inner = after(k, guard_nodes(instant))?;
     let first = begun(alloc, instant, t.number(k), entered(t, empty, inner, ends))?;
-    put_flagged(alloc, t, k, Task::Nothing, first, into)?;
+    let start = Task::Nothing(Silent::Start);
+    put_flagged(alloc, t, k, start, first, into)?;
     put_where(alloc, t, instant, after(k, 1)?, next, into)?;
     let fires = fired(t, inner, guard, empty, ends, next);
     let check = after(k, later(instant))?;
     put_looked(alloc, t, check, p, body.places, rests, e, fires, into)?;
     let ending = after(k, last(instant))?;
-    put_flagged(alloc, t, ending, Task::Nothing, one(alloc, next)?, into)
+    let end = Task::Nothing(Silent::End);
+    put_flagged(alloc, t, ending, end, one(alloc, next)?, into)
 }
 
 /// Of the nodes of a loop with its test at the end.
@@ -314,6 +319,7 @@ pub fn put_turned<'a>(
 {
     let test = after(k, 1)?;
     let first = entered(t, empty, after(k, 2)?, Change::SetFlag(t.number(test)));
-    put_flagged(alloc, t, k, Task::Nothing, one(alloc, first)?, into)?;
+    let head = Task::Nothing(Silent::Head);
+    put_flagged(alloc, t, k, head, one(alloc, first)?, into)?;
     put_tested(alloc, t, test, e, next, Change::SetFlag(t.number(k)), into)
 }

@@ -60,7 +60,7 @@ impl RunNumbers {
         ensures { OnOk result ((q : _) → kept_number self.new q ≡ cond (begins_run q (task_in task.now)) number (kept_number self.old q)) }
     {
         match task {
-            Task::Nothing | Task::Act(_) | Task::Test(_) | Task::Resume(_) => Ok(()),
+            Task::Nothing(_) | Task::Act(_) | Task::Test(_) | Task::Resume(_) => Ok(()),
             Task::Enter(run) => self.put(run.place, number),
         }
     }

@@ -66,10 +66,27 @@ pub struct Run<'a> {
     pub outputs: &'a [Path],
 }
 
+/// A node that does nothing but change what a pass keeps, by its place in its statement.
+#[derive(Clone, Copy, PartialEq, Eq, Debug)]
+pub enum Silent {
+    /// An `await` is reached.
+    Pause,
+    /// A turn of a loop begins.
+    Head,
+    /// A `when` begins.
+    Start,
+    /// A `when` ends.
+    End,
+    /// A `cobegin` begins.
+    Fork,
+    /// A `cobegin` ends.
+    Join,
+}
+
 /// What is done at a node.
 #[derive(Clone, Copy)]
 pub enum Task<'a> {
-    Nothing,
+    Nothing(Silent),
     Act(&'a Stmt),
     Test(&'a Expr),
     /// A `run` begins.

@@ -17,7 +17,7 @@ use crate::ranks::{counted, ranks};
 use crate::rests;
 use crate::size::{after, fork_instant, is_bare, of_block, of_branches, of_statement};
 use crate::table::Table;
-use crate::transition::{Change, Task, Transition};
+use crate::transition::{Change, Silent, Task, Transition};
 use bl_graph_nodes::plain_statements;
 use bl_machine::Slot;
 use bl_tree::tree::{Arm, Branch, Expr, Guard, Stmt, StmtKind};
@@ -151,7 +151,8 @@ fn in_cobegin<'a>(
     let instant = fork_instant(fork);
     let inner = after(k, fork_nodes(instant))?;
     let first = begun_branches(alloc, t, branches, instant, t.number(k), inner, p)?;
-    put_flagged(alloc, t, k, Task::Nothing, first, into)?;
+    let begins = Task::Nothing(Silent::Fork);
+    put_flagged(alloc, t, k, begins, first, into)?;
     put_joins(alloc, t, branches, instant, k, p, fork.places, next, into)?;
     in_branches(alloc, t, branches, inner, p, into)
 }
@@ -225,7 +226,8 @@ fn in_endless<'a>(
     let inner = after(k, 1)?;
     let again = Change::SetFlag(t.number(k));
     let first = one(alloc, entered(t, is_bare(body), inner, again))?;
-    put_flagged(alloc, t, k, Task::Nothing, first, into)?;
+    let head = Task::Nothing(Silent::Head);
+    put_flagged(alloc, t, k, head, first, into)?;
     in_block(alloc, t, body, inner, p, again, into)
 }
 

@@ -40,6 +40,7 @@ use Rattle.bl_machine_transitions.specs.Callees.{zero_where}
 use Rattle.bl_machine_transitions.specs.Listed.{Layout, enter_block, enter_each, fires, flagged_rule, forgotten, fork_nodes, freed, guard_nodes, when_body_end}
 use Rattle.bl_machine_transitions.specs.Listed.{when_rules}
 use Rattle.bl_machine_transitions.specs.Listed.{joining_rule, joins_of, mark_change, needed, node_count, place_count, places_in_branches, rests_in}
+use Rattle.bl_machine_transitions.specs.declared.transition.Silent.TheVariants as silent
 use Rattle.bl_machine_transitions.specs.Told.{Nothing, NumberedTransition, Task, Tests, task_at, told_age, told_change, told_needed, told_rule}
 use Rattle.bl_machine_transitions_laws.proofs.Agreeing.{Agrees, Tells, after, in_first, in_second_at, rule_is}
 use Rattle.bl_machine_transitions_laws.proofs.Places.{Placed, cons_is, counters_each_told, counters_told, further, joined_is, needed_told, pair_is}
@@ -146,13 +147,13 @@ module _ (number : Node → ℕ) (slots : Slots) (layout : Layout) where
       (after number layout.number (ForkAt l at) (DepthJoinAt l at ∷ xs) k (k + 1) one agrees)
 
   joins_told : (l : Label) (bodies : Bodies) (n : Node) (k p : ℕ) (old : nodes.Age) (age : Age) (next : nodes.Change) (goes : Change) →
-      number n ≡ layout.number k → task_at number 0 n ≡ Nothing → Placed slots layout p (spots_in_each l 0 bodies) →
+      number n ≡ layout.number k → task_at number 0 n ≡ Nothing silent.Join → Placed slots layout p (spots_in_each l 0 bodies) →
       told_age number old ≡ age →
       told_change number next ≡ goes → told_rule number 0 (nodes.joins slots l bodies old n next) ≡ joining_rule layout k p bodies age goes
   joins_told l bodies n k p old age next goes is tasks placed aged nexts =
       let ends : told_needed (nodes.needed slots l bodies) ≡ needed layout p bodies = needed_told slots layout l bodies p placed in
       rule_is (number n) (layout.number k) (condition.Ended (told_age number old) (told_needed (nodes.needed slots l bodies)))
-      (condition.Ended age (needed layout p bodies)) (task_at number 0 n) Nothing
+      (condition.Ended age (needed layout p bodies)) (task_at number 0 n) (Nothing silent.Join)
       (map (told_change number) (map ClearsCounter (once (nodes.counters_in_each slots l 0 bodies)) ++ next ∷ []))
       (freed layout p (places_in_branches bodies) ++ goes ∷ []) [] [] is
       (ap (λ a. condition.Ended a (told_needed (nodes.needed slots l bodies))) aged ∙ ap (condition.Ended age) ends) tasks
@@ -168,7 +169,7 @@ module _ (number : Node → ℕ) (slots : Slots) (layout : Layout) where
       ∷ (rule_where instant (nodes.joins slots l bodies (IsNew (ForkAt l at)) (SurfaceJoinAt l at) next)
       ++ nodes.joins slots l bodies (age_of instant (ForkAt l at)) (DepthJoinAt l at) next
       ∷ rs))
-      (flagged_rule layout k Nothing (mark_change instant (layout.number k) (enter_each layout (k + fork_nodes instant) p bodies))
+      (flagged_rule layout k (Nothing silent.Fork) (mark_change instant (layout.number k) (enter_each layout (k + fork_nodes instant) p bodies))
       ∷ (joins_of layout instant k p bodies goes ++ os))
   fork_told true l at bodies k p next goes cs rs os w agrees placed is tells =
       let one : suc k ≡ k + 1 = omega arith in
@@ -177,7 +178,7 @@ module _ (number : Node → ℕ) (slots : Slots) (layout : Layout) where
       let third = after number layout.number (SurfaceJoinAt l at) (DepthJoinAt l at ∷ nodes_in_each bodies) (k + 1) (k + 2) two second in
       let entered = enter_each_told l 0 bodies (k + 3) p w (fork_inner true l at (nodes_in_each bodies) k agrees) placed in (
         flagged_told 0 (ForkAt l at) k (nodes.marked true (ForkAt l at) (nodes.enter_each slots l 0 bodies))
-            (mark_change true (layout.number k) (enter_each layout (k + 3) p bodies)) Nothing agrees.0 refl
+            (mark_change true (layout.number k) (enter_each layout (k + 3) p bodies)) (Nothing silent.Fork) agrees.0 refl
             (cons_is (change.SetMark (number (ForkAt l at))) (change.SetMark (layout.number k))
             (map (told_change number) (nodes.enter_each slots l 0 bodies))
             (enter_each layout (k + 3) p bodies) (ap change.SetMark agrees.0) entered),
@@ -195,7 +196,7 @@ module _ (number : Node → ℕ) (slots : Slots) (layout : Layout) where
       let one : suc k ≡ k + 1 = omega arith in
       let second = after number layout.number (ForkAt l at) (DepthJoinAt l at ∷ nodes_in_each bodies) k (k + 1) one agrees in
       let entered = enter_each_told l 0 bodies (k + 2) p w (fork_inner false l at (nodes_in_each bodies) k agrees) placed in (
-        flagged_told 0 (ForkAt l at) k (nodes.enter_each slots l 0 bodies) (enter_each layout (k + 2) p bodies) Nothing agrees.0 refl entered,
+        flagged_told 0 (ForkAt l at) k (nodes.enter_each slots l 0 bodies) (enter_each layout (k + 2) p bodies) (Nothing silent.Fork) agrees.0 refl entered,
         (joins_told l bodies (DepthJoinAt l at) (k + 1) p IsAny age.Any next goes second.0 refl placed refl is, tells),
       )
 
@@ -304,15 +305,15 @@ module _ (number : Node → ℕ) (slots : Slots) (layout : Layout) where
       let third = after number layout.number (SurfaceEndAt l at) (CheckAt l at e ∷ DepthEndAt l at ∷ inner) (k + 1) (k + 2) two second in
       let fourth = after number layout.number (CheckAt l at e) (DepthEndAt l at ∷ inner) (k + 2) (k + 3) three third in (
         flagged_told 0 (StartAt l at) k (nodes.marked true (StartAt l at) (begun ∷ []))
-            (change.SetMark (layout.number k) ∷ enter_block layout (k + 4) body (when_body_end layout k true) ∷ []) Nothing agrees.0 refl
+            (change.SetMark (layout.number k) ∷ enter_block layout (k + 4) body (when_body_end layout k true) ∷ []) (Nothing silent.Start) agrees.0 refl
             (pair_is (change.SetMark (number (StartAt l at))) (change.SetMark (layout.number k)) (told_change number begun)
             (enter_block layout (k + 4) body (when_body_end layout k true)) (ap change.SetMark agrees.0) begins),
         (
-          flagged_told 0 (SurfaceEndAt l at) (k + 1) (next ∷ []) (goes ∷ []) Nothing second.0 refl (single_is (told_change number next) goes is),
+          flagged_told 0 (SurfaceEndAt l at) (k + 1) (next ∷ []) (goes ∷ []) (Nothing silent.End) second.0 refl (single_is (told_change number next) goes is),
           (
             check_told l at e body (k + 2) p fired (fires layout (k + 4) guard body (when_body_end layout k true) goes) third.0 placed fires_so,
             (
-              flagged_told 0 (DepthEndAt l at) (k + 3) (next ∷ []) (goes ∷ []) Nothing fourth.0 refl
+              flagged_told 0 (DepthEndAt l at) (k + 3) (next ∷ []) (goes ∷ []) (Nothing silent.End) fourth.0 refl
                   (single_is (told_change number next) goes is),
               tells,
             ),
@@ -325,12 +326,12 @@ module _ (number : Node → ℕ) (slots : Slots) (layout : Layout) where
       let inner : List Node = nodes_in body in
       let second = after number layout.number (StartAt l at) (CheckAt l at e ∷ DepthEndAt l at ∷ inner) k (k + 1) one agrees in
       let third = after number layout.number (CheckAt l at e) (DepthEndAt l at ∷ inner) (k + 1) (k + 2) two second in (
-        flagged_told 0 (StartAt l at) k (begun ∷ []) (enter_block layout (k + 3) body (when_body_end layout k false) ∷ []) Nothing agrees.0 refl
+        flagged_told 0 (StartAt l at) k (begun ∷ []) (enter_block layout (k + 3) body (when_body_end layout k false) ∷ []) (Nothing silent.Start) agrees.0 refl
             (single_is (told_change number begun) (enter_block layout (k + 3) body (when_body_end layout k false)) begins),
         (
           check_told l at e body (k + 1) p fired (fires layout (k + 3) guard body (when_body_end layout k false) goes) second.0 placed fires_so,
           (
-            flagged_told 0 (DepthEndAt l at) (k + 2) (next ∷ []) (goes ∷ []) Nothing third.0 refl
+            flagged_told 0 (DepthEndAt l at) (k + 2) (next ∷ []) (goes ∷ []) (Nothing silent.End) third.0 refl
                 (single_is (told_change number next) goes is),
             tells,
           ),

@@ -55,6 +55,7 @@ use Rattle.bl_machine_transitions.specs.Callees.{callees_in, callees_in_each, ca
 use Rattle.bl_machine_transitions.specs.Listed.{Layout, enter_block, fork_nodes, guard_nodes, layout_of, listed, node_count, nodes_within, when_body_end}
 use Rattle.bl_machine_transitions.specs.Listed.{when_rules}
 use Rattle.bl_machine_transitions.specs.Listed.{place_count, places_within, rules_in, rules_in_each, rules_of, tested_rule}
+use Rattle.bl_machine_transitions.specs.declared.transition.Silent.TheVariants as silent
 use Rattle.bl_machine_transitions.specs.Told.{Acts, Enters, Nothing, NumberedTransition, Resumes, Task, Tests, task_at, told_change, told_rule}
 use Rattle.bl_machine_transitions_laws.specs.Laws.{RulesAreListed, entries, first_number}
 use Rattle.bl_machine_transitions_laws.proofs.Agreeing.{Tells, after, in_first, in_second_at, rule_is, tells_all, tells_append, tells_each}
@@ -105,7 +106,7 @@ module _ (number : Node → ℕ) (slots : Slots) (layout : Layout) where
       (record {
         number = layout.number k;
         condition = condition.Flagged;
-        task = Nothing;
+        task = Nothing silent.Head;
         on_true = enter_block layout (k + 2) body (change.SetFlag (layout.number (k + 1))) ∷ [];
         on_false = [];
       }
@@ -117,7 +118,7 @@ module _ (number : Node → ℕ) (slots : Slots) (layout : Layout) where
       let second = after number layout.number (HeadAt l at) (TestAt l at e ∷ nodes_in body) k (k + 1) one agrees in
       let inner = after number layout.number (TestAt l at e) (nodes_in body) (k + 1) (k + 2) two second in (
         flagged_told number slots layout 0 (HeadAt l at) k (nodes.enter body (SetsFlag (TestAt l at e)) ∷ [])
-            (enter_block layout (k + 2) body (change.SetFlag (layout.number (k + 1))) ∷ []) Nothing agrees.0 refl
+            (enter_block layout (k + 2) body (change.SetFlag (layout.number (k + 1))) ∷ []) (Nothing silent.Head) agrees.0 refl
             (single_is (change_told (nodes.enter body (SetsFlag (TestAt l at e)))) (enter_block layout (k + 2) body (change.SetFlag (layout.number (k + 1))))
             (enter_told number slots layout body (k + 2) (SetsFlag (TestAt l at e)) (change.SetFlag (layout.number (k + 1))) w inner
             (ap change.SetFlag second.0))),
@@ -148,7 +149,8 @@ module _ (number : Node → ℕ) (slots : Slots) (layout : Layout) where
     of_statement (Await l at e) k p next goes w agrees placed is =
         let one : suc k ≡ k + 1 = omega arith in
         let second = after number layout.number (PauseAt l at) (TestAt l at e ∷ []) k (k + 1) one agrees in (
-          flagged_told number slots layout 0 (PauseAt l at) k (SetsCounter (slots.rest l) ∷ []) (change.SetCounter (layout.slot p) ∷ []) Nothing agrees.0 refl
+          flagged_told number slots layout 0 (PauseAt l at) k (SetsCounter (slots.rest l) ∷ []) (change.SetCounter (layout.slot p) ∷ [])
+              (Nothing silent.Pause) agrees.0 refl
               (single_is (change.SetCounter (slots.rest l)) (change.SetCounter (layout.slot p)) (ap change.SetCounter placed.0)),
           (woken_told 0 (TestAt l at e) (k + 1) (slots.rest l) (layout.slot p) (Tests e) next goes second.0 refl placed.0 is, tt),
         )
@@ -206,7 +208,7 @@ module _ (number : Node → ℕ) (slots : Slots) (layout : Layout) where
         let one : suc k ≡ k + 1 = omega arith in
         let inner = after number layout.number (HeadAt l at) (nodes_in body) k (k + 1) one agrees in (
           flagged_told number slots layout 0 (HeadAt l at) k (nodes.enter body (SetsFlag (HeadAt l at)) ∷ [])
-              (enter_block layout (k + 1) body (change.SetFlag (layout.number k)) ∷ []) Nothing agrees.0 refl
+              (enter_block layout (k + 1) body (change.SetFlag (layout.number k)) ∷ []) (Nothing silent.Head) agrees.0 refl
               (single_is (change_told (nodes.enter body (SetsFlag (HeadAt l at)))) (enter_block layout (k + 1) body (change.SetFlag (layout.number k)))
               (enter_told number slots layout body (k + 1) (SetsFlag (HeadAt l at)) (change.SetFlag (layout.number k)) w inner (ap change.SetFlag agrees.0))),
           of_block body (k + 1) p (SetsFlag (HeadAt l at)) (change.SetFlag (layout.number k)) w inner placed (ap change.SetFlag agrees.0),

@@ -70,6 +70,7 @@ use Rattle.bl_emit_spec.specs.Blocks.{
   may_end_in,
   merged_code,
   name_in,
+  node_word,
   own_code,
   resumed_code,
   run_args,
@@ -316,9 +317,9 @@ module _ (P : CPath → Type 0) (plain : (place : CPath) → names_counter place
   entry_fine : (body : Block) → CodeFine P plain (entry_code view body)
   entry_fine Done = tt
   entry_fine (Then s rest) =
-      one_stmt P plain (c_set (flag_place (view.number (entry s))) (c_two Eq (c_read (counter_place 0)) (counter_value view.sizes 0 0)))
-      (set-fine P plain (flag_place (view.number (entry s))) (c_two Eq (c_read (counter_place 0)) (counter_value view.sizes 0 0))
-      (local_fine P plain own (flag_name (view.number (entry s))))
+      one_stmt P plain (c_set (flag_place (node_word view (entry s))) (c_two Eq (c_read (counter_place 0)) (counter_value view.sizes 0 0)))
+      (set-fine P plain (flag_place (node_word view (entry s))) (c_two Eq (c_read (counter_place 0)) (counter_value view.sizes 0 0))
+      (local_fine P plain own (flag_name (node_word view (entry s))))
       (two-fine P plain Eq (c_read (counter_place 0)) (counter_value view.sizes 0 0) (counter_read P plain own 0) (value_fine P plain own view 0 0)))
 
   copies_fine : (ks : List ℕ) → CodeFine P plain (map (c_copied view.site) ks)

@@ -106,7 +106,7 @@ module _ (placed : StaysPlaced) (listed : RulesAreListed) (a : Activity) (unit :
         let own = locals_are a in
         record {
           asked = ap (λ (ifs : List CStmt). joined (map flags_asked ifs)) (ifs_are a) ∙ blocks_ask view callees (rules_at a) many a.blocks within ∙ sym own;
-          many = ap (λ (names : List Text). length names) own ∙ asked_many view.number (first_rules a)
+          many = ap (λ (names : List Text). length names) own ∙ asked_many view (first_rules a)
               ∙ ap (λ (some : List Transition). length (filter (λ (rule : Transition). is_flagged rule.condition) some)) (first_are blocks_are);
           decided = ap (λ (ifs : List CStmt). list_all decides (joined (map inside ifs))) (ifs_are a)
               ∙ blocks_decide (turns_in_source a) a.blocks (turns_decide view callees (rules_at a));

@@ -51,6 +51,7 @@ use Rattle.bl_emit_spec.specs.Blocks.{
   layer_acted,
   may_end_in,
   name_in,
+  node_word,
   own_code,
   run_args,
   run_code,
@@ -254,9 +255,9 @@ module _ (view : ActivityView) where
   change_decides (ClearsBoth k) = forgotten_decide k (view.is_read k)
   change_decides (SetsMark n) = sets_decide _ _
   change_decides (EndsWhen start surface depth) =
-      one_decides (c_if (c_read (mark_place (view.number start))) (flagged_now view surface ∷ []) (Some (flagged_now view depth ∷ [])))
-      (if_decides (c_read (mark_place (view.number start))) (flagged_now view surface ∷ []) (Some (flagged_now view depth ∷ []))
-      (local_decides (mark_name (view.number start)) refl) (sets_decide _ _)
+      one_decides (c_if (c_read (mark_place (node_word view start))) (flagged_now view surface ∷ []) (Some (flagged_now view depth ∷ [])))
+      (if_decides (c_read (mark_place (node_word view start))) (flagged_now view surface ∷ []) (Some (flagged_now view depth ∷ []))
+      (local_decides (mark_name (node_word view start)) refl) (sets_decide _ _)
       (all_answers (flagged_now view depth ∷ []) (sets_decide _ _)))
   change_decides Finishes = sets_decide _ _
 

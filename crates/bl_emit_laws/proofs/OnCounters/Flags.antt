@@ -1,5 +1,5 @@
 -- The `if`s of an activity's function ask for its flags, one after another.
-use Rattle.std.proofs.Common.{◌≡◌, ℕ, zero, suc, ◌+◌, ◌/◌, ◌%◌, ◌<◌, Bool, true, false, ◌&&◌, cond, List, [], ◌∷◌, ◌++◌, Contains, map, length}
+use Rattle.std.proofs.Common.{◌≡◌, ℕ, zero, suc, ◌+◌, ◌/◌, ◌%◌, ◌<◌, Bool, true, false, ◌&&◌, ◌||◌, cond, List, [], ◌∷◌, ◌++◌, Contains, map, length}
 use Rattle.std.proofs.Common.{Option, Some, None, refl, sym, ap, ◌∙◌, arith}
 use Rattle.std.proofs.lemmas.Bool.Decides.{nat_tests}
 use Rattle.std.proofs.lemmas.List.{append-nil, map-append}
@@ -72,6 +72,7 @@ use Rattle.bl_emit_spec.specs.Blocks.{
   last_value,
   merged_code,
   node_turn,
+  node_word,
   rested_at,
   rested_by,
   rested_from,
@@ -85,8 +86,8 @@ use Rattle.bl_emit_spec.specs.Blocks.{
 use Rattle.bl_emit_spec.specs.Names.{NumberedWord, counter_name, counter_place, flag_name, flag_place, mark_name, mark_place, rested_name, rested_place}
 use Rattle.bl_emit_spec_laws.proofs.OnPlaced.Lists.{picked_first, some_is, there_at}
 use Rattle.bl_emit_spec_laws_wellformed.proofs.OnNumbers.Firsts.{picked-all}
-use Rattle.bl_emit_laws.specs.Counters.Flags.{decides, flags_asked, flags_read, inside, is_flag_name, kind_block, kind_flags}
-use Rattle.bl_emit_laws.specs.Counters.Own.{is_digit_run}
+use Rattle.bl_emit_laws.specs.Counters.Flags.{decides, flags_asked, flags_read, inside, is_digits_and_word, is_flag_name, is_numbered_word, kind_block}
+use Rattle.bl_emit_laws.specs.Counters.Flags.{kind_flags}
 use Rattle.bl_emit_laws.specs.Counters.Places.{CPath, places_in}
 use Rattle.bl_emit_laws.proofs.OnCounters.Decided.{IsNoFlag, NoFlag, begins, fused_decides, local-read, none-read, turn_decides, variables}
 use Rattle.bl_emit_laws.proofs.OnCounters.Fine.{Fine, same-fine}
@@ -111,38 +112,46 @@ glyph_so n =
     ap (λ (b : Bool). is_ascii_digit (if b then 48 + n % 10 else 87 + n % 10)) (less_so (n % 10) 10 (below_ten n))
     ∙ digit_so (n % 10) (below_ten n)
 
-all_of_run : (digits : Text) → is_digit_run digits ≡ true → list_all is_ascii_digit digits ≡ true
-all_of_run [] run = refl
-all_of_run (first ∷ rest) run = run
-
-one_more : (n : ℕ) (digits : Text) → list_all is_ascii_digit digits ≡ true → is_digit_run (digit_glyph false (n % 10) ∷ digits) ≡ true
-one_more n digits all = both (is_ascii_digit (digit_glyph false (n % 10))) (list_all is_ascii_digit digits) (glyph_so n) all
-
-more_digits : (k n : ℕ) (digits : Text) → is_digit_run digits ≡ true → is_digit_run (digits_onto k 10 false n digits) ≡ true
-more_digits zero n digits run = run
-more_digits (suc k) n digits run = by (n / 10 == 0) (more_digits k (n / 10) (digit_glyph false (n % 10) ∷ digits) so)
+-- digits before a text
+put_digit : (n : ℕ) (behind : Text) → is_digits_and_word behind ≡ true → is_digits_and_word (digit_glyph false (n % 10) ∷ behind) ≡ true
+put_digit n behind is = either (digit_glyph false (n % 10) == 95) (is_ascii_digit (digit_glyph false (n % 10))) (is_digits_and_word behind) (glyph_so n) is
   where
-    so : is_digit_run (digit_glyph false (n % 10) ∷ digits) ≡ true
-    so = one_more n digits (all_of_run digits run)
+    either : (b p q : Bool) → p ≡ true → q ≡ true → (b || (p && q)) ≡ true
+    either true p q one two = refl
+    either false p q one two = both p q one two
 
-    by : (b : Bool) → is_digit_run (digits_onto k 10 false (n / 10) (digit_glyph false (n % 10) ∷ digits)) ≡ true →
-        is_digit_run (if b then digit_glyph false (n % 10) ∷ digits else digits_onto k 10 false (n / 10) (digit_glyph false (n % 10) ∷ digits)) ≡ true
+more_digits : (k n : ℕ) (digits word : Text) → is_numbered_word (digits ++ 95 ∷ word) ≡ true → is_digits_and_word (digits ++ 95 ∷ word) ≡ true →
+    is_numbered_word (digits_onto k 10 false n digits ++ 95 ∷ word) ≡ true
+more_digits zero n digits word run is = run
+more_digits (suc k) n digits word run is = by (n / 10 == 0) (more_digits k (n / 10) next word so (put_digit n (digits ++ 95 ∷ word) is))
+  where
+    next : Text
+    next = digit_glyph false (n % 10) ∷ digits
+
+    so : is_numbered_word (digit_glyph false (n % 10) ∷ (digits ++ 95 ∷ word)) ≡ true
+    so = both (is_ascii_digit (digit_glyph false (n % 10))) (is_digits_and_word (digits ++ 95 ∷ word)) (glyph_so n) is
+
+    by : (b : Bool) → is_numbered_word (digits_onto k 10 false (n / 10) next ++ 95 ∷ word) ≡ true →
+        is_numbered_word ((if b then next else digits_onto k 10 false (n / 10) next) ++ 95 ∷ word) ≡ true
     by true more = so
     by false more = more
 
-some_digits : (k n : ℕ) → is_digit_run (digits_onto (suc k) 10 false n []) ≡ true
-some_digits k n = by (n / 10 == 0)
+some_digits : (k n : ℕ) (word : Text) → is_numbered_word (digits_onto (suc k) 10 false n [] ++ 95 ∷ word) ≡ true
+some_digits k n word = by (n / 10 == 0)
   where
     next : Text
     next = digit_glyph false (n % 10) ∷ []
 
-    by : (b : Bool) → is_digit_run (if b then next else digits_onto k 10 false (n / 10) next) ≡ true
-    by true = one_more n [] refl
-    by false = more_digits k (n / 10) next (one_more n [] refl)
+    so : is_numbered_word (next ++ 95 ∷ word) ≡ true
+    so = both (is_ascii_digit (digit_glyph false (n % 10))) true (glyph_so n) refl
 
-flag_named : (n : ℕ) → is_flag_name (flag_name n) ≡ true
+    by : (b : Bool) → is_numbered_word ((if b then next else digits_onto k 10 false (n / 10) next) ++ 95 ∷ word) ≡ true
+    by true = so
+    by false = more_digits k (n / 10) next word so (put_digit n (95 ∷ word) refl)
+
+flag_named : (k : NumberedWord) → is_flag_name (flag_name k) ≡ true
 unfolding digits
-flag_named n = some_digits 63 n
+flag_named k = some_digits 63 k.number k.word
 
 -- ---- the locals that are flags
 
@@ -156,24 +165,24 @@ named_both xs ys =
     ∙ filter-append is_flag_name (map (λ (local : CLocal). local.name) xs) (map (λ (local : CLocal). local.name) ys)
 
 -- the flag that a rule asks for
-abbrev asked_by : (Node → ℕ) → Transition → List Text
-asked_by number rule = if is_flagged rule.condition then flag_name (number rule.node) ∷ [] else []
+abbrev asked_by : ActivityView → Transition → List Text
+asked_by view rule = if is_flagged rule.condition then flag_name (node_word view rule.node) ∷ [] else []
 
-module _ (number : Node → ℕ) where
-  flag_is : (rule : Transition) → named (flag_local number rule) ≡ asked_by number rule
+module _ (view : ActivityView) where
+  flag_is : (rule : Transition) → named (flag_local view rule) ≡ asked_by view rule
   flag_is rule = by (is_flagged rule.condition)
     where
-      by : (b : Bool) → named (if b then scalar_local OfBool (flag_name (number rule.node)) ∷ [] else [])
-          ≡ (if b then flag_name (number rule.node) ∷ [] else [])
-      by true = ap (λ (b : Bool). cond b (flag_name (number rule.node) ∷ []) []) (flag_named (number rule.node))
+      by : (b : Bool) → named (if b then scalar_local OfBool (flag_name (node_word view rule.node)) ∷ [] else [])
+          ≡ (if b then flag_name (node_word view rule.node) ∷ [] else [])
+      by true = ap (λ (b : Bool). cond b (flag_name (node_word view rule.node) ∷ []) []) (flag_named (node_word view rule.node))
       by false = refl
 
-  flags_are : (rules : List Transition) → named (joined (map (flag_local number) rules)) ≡ joined (map (asked_by number) rules)
+  flags_are : (rules : List Transition) → named (joined (map (flag_local view) rules)) ≡ joined (map (asked_by view) rules)
   flags_are [] = refl
   flags_are (rule ∷ rules) =
-      named_both (flag_local number rule) (joined (map (flag_local number) rules)) ∙ (λ i. flag_is rule i ++ flags_are rules i)
+      named_both (flag_local view rule) (joined (map (flag_local view) rules)) ∙ (λ i. flag_is rule i ++ flags_are rules i)
 
-  mark_none : (change : Change) → named (mark_local number change) ≡ []
+  mark_none : (change : Change) → named (mark_local view change) ≡ []
   mark_none (SetsMark n) = refl
   mark_none (SetsFlag n) = refl
   mark_none (SetsCounter slot) = refl
@@ -182,15 +191,15 @@ module _ (number : Node → ℕ) where
   mark_none (EndsWhen start surface depth) = refl
   mark_none Finishes = refl
 
-  changes_none : (changes : List Change) → named (joined (map (mark_local number) changes)) ≡ []
+  changes_none : (changes : List Change) → named (joined (map (mark_local view) changes)) ≡ []
   changes_none [] = refl
   changes_none (change ∷ changes) =
-      named_both (mark_local number change) (joined (map (mark_local number) changes)) ∙ (λ i. mark_none change i ++ changes_none changes i)
+      named_both (mark_local view change) (joined (map (mark_local view) changes)) ∙ (λ i. mark_none change i ++ changes_none changes i)
 
-  marks_none : (rules : List Transition) → named (joined (map (mark_locals number) rules)) ≡ []
+  marks_none : (rules : List Transition) → named (joined (map (mark_locals view) rules)) ≡ []
   marks_none [] = refl
   marks_none (rule ∷ rules) =
-      named_both (mark_locals number rule) (joined (map (mark_locals number) rules)) ∙ (λ i. changes_none rule.on_true i ++ marks_none rules i)
+      named_both (mark_locals view rule) (joined (map (mark_locals view) rules)) ∙ (λ i. changes_none rule.on_true i ++ marks_none rules i)
 
 resteds_none : (sizes : Sizes) (ks : List ℕ) → named (map (rested_local sizes) ks) ≡ []
 resteds_none sizes [] = refl
@@ -215,37 +224,37 @@ ended_none [] = refl
 ended_none (run ∷ runs) = refl
 
 -- the flags of an activity's function are those that the rules of first nodes ask for
-pub locals_are : (a : Activity) → named (activity_locals a) ≡ joined (map (asked_by (activity_view a).number) (first_rules a))
+pub locals_are : (a : Activity) → named (activity_locals a) ≡ joined (map (asked_by (activity_view a)) (first_rules a))
 locals_are a =
-    let number : Node → ℕ = (activity_view a).number in
+    let view : ActivityView = activity_view a in
     let rested : List CLocal = map (rested_local a.sizes) (counters_read a) in
-    let flags : List CLocal = joined (map (flag_local number) (first_rules a)) in
-    let marks : List CLocal = joined (map (mark_locals number) (rules_at a)) in
+    let flags : List CLocal = joined (map (flag_local view) (first_rules a)) in
+    let marks : List CLocal = joined (map (mark_locals view) (rules_at a)) in
     let copies : List CLocal = map (copy_local a) (copied_in a) in
     let results : List CLocal = joined (map (run_locals a) (runs_in_body a)) in
     let runs : List CLocal = ended_local (runs_in_body a) ++ results in
     named_both rested (flags ++ (marks ++ (copies ++ runs)))
     ∙ (λ i. resteds_none a.sizes (counters_read a) i ++ named_both flags (marks ++ (copies ++ runs)) i)
-    ∙ (λ i. flags_are number (first_rules a) i ++ named_both marks (copies ++ runs) i)
-    ∙ (λ i. joined (map (asked_by number) (first_rules a)) ++ (marks_none number (rules_at a) i ++ named_both copies runs i))
-    ∙ (λ i. joined (map (asked_by number) (first_rules a)) ++ (copies_none a (copied_in a) i ++ named_both (ended_local (runs_in_body a)) results i))
-    ∙ (λ i. joined (map (asked_by number) (first_rules a)) ++ (ended_none (runs_in_body a) i ++ runs_none a (runs_in_body a) i))
-    ∙ append-nil (joined (map (asked_by number) (first_rules a)))
+    ∙ (λ i. flags_are view (first_rules a) i ++ named_both marks (copies ++ runs) i)
+    ∙ (λ i. joined (map (asked_by view) (first_rules a)) ++ (marks_none view (rules_at a) i ++ named_both copies runs i))
+    ∙ (λ i. joined (map (asked_by view) (first_rules a)) ++ (copies_none a (copied_in a) i ++ named_both (ended_local (runs_in_body a)) results i))
+    ∙ (λ i. joined (map (asked_by view) (first_rules a)) ++ (ended_none (runs_in_body a) i ++ runs_none a (runs_in_body a) i))
+    ∙ append-nil (joined (map (asked_by view) (first_rules a)))
 
 -- they are as many as rules that ask for a flag
-pub asked_many : (number : Node → ℕ) (rules : List Transition) →
-    length (joined (map (asked_by number) rules)) ≡ length (filter (λ (rule : Transition). is_flagged rule.condition) rules)
-asked_many number [] = refl
-asked_many number (rule ∷ rules) = by (is_flagged rule.condition) (asked_many number rules)
+pub asked_many : (view : ActivityView) (rules : List Transition) →
+    length (joined (map (asked_by view) rules)) ≡ length (filter (λ (rule : Transition). is_flagged rule.condition) rules)
+asked_many view [] = refl
+asked_many view (rule ∷ rules) = by (is_flagged rule.condition) (asked_many view rules)
   where
     later : List Text
-    later = joined (map (asked_by number) rules)
+    later = joined (map (asked_by view) rules)
 
     kept : List Transition
     kept = filter (λ (rule : Transition). is_flagged rule.condition) rules
 
     by : (b : Bool) → length later ≡ length kept →
-        length ((if b then flag_name (number rule.node) ∷ [] else []) ++ later) ≡ length (cond b (rule ∷ kept) kept)
+        length ((if b then flag_name (node_word view rule.node) ∷ [] else []) ++ later) ≡ length (cond b (rule ∷ kept) kept)
     by true same = ap suc same
     by false same = same
 
@@ -348,17 +357,17 @@ module _ (view : ActivityView) where
       by true = tree_plain (c_truth true) (truth_plain true) And (length tests) tests (slots_plain needed.slots)
       by false = tree_plain (c_truth false) (truth_plain false) Or (length tests) tests (slots_plain needed.slots)
 
-  mark_plain : (n : Node) → Plain (c_read (mark_place (view.number n)))
-  mark_plain n = local-read (mark_name (view.number n)) refl
+  mark_plain : (n : Node) → Plain (c_read (mark_place (node_word view n)))
+  mark_plain n = local-read (mark_name (node_word view n)) refl
 
   aged_plain : (age : Age) (ends : CExpr) → Plain ends → Plain (aged_test view age ends)
-  aged_plain (IsNew n) ends all = two_plain And (c_read (mark_place (view.number n))) ends (mark_plain n) all
+  aged_plain (IsNew n) ends all = two_plain And (c_read (mark_place (node_word view n))) ends (mark_plain n) all
   aged_plain (IsOld n) ends all =
-      two_plain And (c_not (c_read (mark_place (view.number n)))) ends
-      (not-fine IsNoFlag NoFlag variables begins (c_read (mark_place (view.number n))) (mark_plain n)) all
+      two_plain And (c_not (c_read (mark_place (node_word view n)))) ends
+      (not-fine IsNoFlag NoFlag variables begins (c_read (mark_place (node_word view n))) (mark_plain n)) all
   aged_plain IsAny ends all = all
 
-  flag_read : (k : ℕ) → flags_read (c_read (flag_place k)) ≡ flag_name k ∷ []
+  flag_read : (k : NumberedWord) → flags_read (c_read (flag_place k)) ≡ flag_name k ∷ []
   flag_read k =
       ap (λ (places : List CPath). filter is_flag_name (map (λ (path : CPath). path.name) places))
       (read-names (flag_place k) ∙ place-names false (flag_name k) [])
@@ -366,8 +375,8 @@ module _ (view : ActivityView) where
 
   -- a guard reads the flag that its rule asks for, and no other
   guard_reads : (n : Node) (condition : Condition) →
-      flags_read (guard_of view n condition) ≡ (if is_flagged condition then flag_name (view.number n) ∷ [] else [])
-  guard_reads n Flagged = flag_read (view.number n)
+      flags_read (guard_of view n condition) ≡ (if is_flagged condition then flag_name (node_word view n) ∷ [] else [])
+  guard_reads n Flagged = flag_read (node_word view n)
   guard_reads n (Rested slot) = none-read (rested_at view slot) (at_plain slot)
   guard_reads n (RestedIn slots) = none-read (rested_in view slots) (in_plain slots)
   guard_reads n (Ended age needed) =
@@ -401,7 +410,7 @@ module _ (view : ActivityView) (callees : List ℕ) (rules : List Transition) (e
 
   -- the `if`s of blocks ask for the flags of first nodes, one after another
   pub blocks_ask : (blocks : List (List ℕ)) → ((k : ℕ) → Contains (joined blocks) k → k < length rules) →
-      joined (map flags_asked (blocks_code turns blocks)) ≡ joined (map (asked_by view.number) (picked rules (first_positions blocks)))
+      joined (map flags_asked (blocks_code turns blocks)) ≡ joined (map (asked_by view) (picked rules (first_positions blocks)))
   blocks_ask [] within = refl
   blocks_ask ([] ∷ rest) within = blocks_ask rest within
   blocks_ask ((k ∷ block) ∷ rest) within =
@@ -414,7 +423,7 @@ module _ (view : ActivityView) (callees : List ℕ) (rules : List Transition) (e
       ap (λ (some : List NodeCode). joined (map flags_asked (merged_code some ++ blocks_code turns rest))) (picked_first turns k block turn at)
       ∙ (λ i. (asks_so turn.test (fused_code turn (picked turns block)) ∙ guard_reads view rule.0.node rule.0.condition) i
       ++ blocks_ask rest (λ j there. within j (Contains-append_right (k ∷ block) (joined rest) j there)) i)
-      ∙ sym (ap (λ (some : List Transition). joined (map (asked_by view.number) some)) (picked_first rules k (first_positions rest) rule.0 rule.1))
+      ∙ sym (ap (λ (some : List Transition). joined (map (asked_by view) some)) (picked_first rules k (first_positions rest) rule.0 rule.1))
 
 -- what stands in the `if`s of blocks decides
 pub blocks_decide : (all : List NodeCode) (blocks : List (List ℕ)) → list_all turn_decides all ≡ true →

@@ -32,6 +32,7 @@ use Rattle.bl_emit_spec.specs.Blocks.{
   in_tree,
   is_greatest,
   last_value,
+  node_word,
   rested_at,
   rested_by,
   rested_between,
@@ -155,18 +156,18 @@ module _ (P : CPath → Type 0) (plain : (place : CPath) → names_counter place
       by true = tree_fine (c_truth true) (truth-fine P plain true) And (length tests) tests (slots_fine view needed.slots)
       by false = tree_fine (c_truth false) (truth-fine P plain false) Or (length tests) tests (slots_fine view needed.slots)
 
-  mark_read : (view : ActivityView) (m : Node) → ExprFine P plain (c_read (mark_place (view.number m)))
-  mark_read view m = local_read (mark_name (view.number m))
+  mark_read : (view : ActivityView) (m : Node) → ExprFine P plain (c_read (mark_place (node_word view m)))
+  mark_read view m = local_read (mark_name (node_word view m))
 
   aged_fine : (view : ActivityView) (age : Age) (ends : CExpr) → ExprFine P plain ends → ExprFine P plain (aged_test view age ends)
-  aged_fine view (IsNew m) ends all = two-fine P plain And (c_read (mark_place (view.number m))) ends (mark_read view m) all
+  aged_fine view (IsNew m) ends all = two-fine P plain And (c_read (mark_place (node_word view m))) ends (mark_read view m) all
   aged_fine view (IsOld m) ends all =
-      two-fine P plain And (c_not (c_read (mark_place (view.number m)))) ends
-      (not-fine P plain (c_read (mark_place (view.number m))) (mark_read view m)) all
+      two-fine P plain And (c_not (c_read (mark_place (node_word view m)))) ends
+      (not-fine P plain (c_read (mark_place (node_word view m))) (mark_read view m)) all
   aged_fine view IsAny ends all = all
 
   pub guard_fine : (view : ActivityView) (m : Node) (condition : Condition) → ExprFine P plain (guard_of view m condition)
-  guard_fine view m Flagged = local_read (flag_name (view.number m))
+  guard_fine view m Flagged = local_read (flag_name (node_word view m))
   guard_fine view m (Rested slot) = rested_fine view slot
   guard_fine view m (RestedIn slots) = in_fine view slots
   guard_fine view m (Ended age needed) = aged_fine view age (ends_test view needed) (ends_fine view needed)
@@ -174,7 +175,7 @@ module _ (P : CPath → Type 0) (plain : (place : CPath) → names_counter place
   -- ---- changes
 
   flag_fine : (view : ActivityView) (m : Node) → StmtFine P plain (flagged_now view m)
-  flag_fine view m = set-fine P plain (flag_place (view.number m)) (c_truth true) (local_fine (flag_name (view.number m))) (truth-fine P plain true)
+  flag_fine view m = set-fine P plain (flag_place (node_word view m)) (c_truth true) (local_fine (flag_name (node_word view m))) (truth-fine P plain true)
 
   freed_fine : (view : ActivityView) (k : ℕ) → StmtFine P plain (freed view k)
   freed_fine view k = set-fine P plain (counter_place k) (counter_value view.sizes k 0) (counter_fine k) (value_fine view k 0)
@@ -195,11 +196,11 @@ module _ (P : CPath → Type 0) (plain : (place : CPath) → names_counter place
   change_fine view (ClearsCounter k) = one_stmt P plain (freed view k) (freed_fine view k)
   change_fine view (ClearsBoth k) = forgotten_fine view k (view.is_read k)
   change_fine view (SetsMark m) =
-      one_stmt P plain (c_set (mark_place (view.number m)) (c_truth true))
-      (set-fine P plain (mark_place (view.number m)) (c_truth true) (local_fine (mark_name (view.number m))) (truth-fine P plain true))
+      one_stmt P plain (c_set (mark_place (node_word view m)) (c_truth true))
+      (set-fine P plain (mark_place (node_word view m)) (c_truth true) (local_fine (mark_name (node_word view m))) (truth-fine P plain true))
   change_fine view (EndsWhen start surface depth) =
-      one_stmt P plain (c_if (c_read (mark_place (view.number start))) (flagged_now view surface ∷ []) (Some (flagged_now view depth ∷ [])))
-      (if-fine P plain (c_read (mark_place (view.number start))) (flagged_now view surface ∷ []) (Some (flagged_now view depth ∷ []))
+      one_stmt P plain (c_if (c_read (mark_place (node_word view start))) (flagged_now view surface ∷ []) (Some (flagged_now view depth ∷ [])))
+      (if-fine P plain (c_read (mark_place (node_word view start))) (flagged_now view surface ∷ []) (Some (flagged_now view depth ∷ []))
       (mark_read view start) (one_stmt P plain (flagged_now view surface) (flag_fine view surface))
       (one_stmt P plain (flagged_now view depth) (flag_fine view depth)))
   change_fine view Finishes =

@@ -1,7 +1,8 @@
 -- What the list of rules tells of an activity is what the rules of its nodes do.
 use Rattle.std.proofs.Common.{◌≡◌, ℕ, zero, suc, Bool, true, false, ◌||◌, List, [], ◌∷◌, ◌++◌, length, map, filter, Option, Some, None}
 use Rattle.std.proofs.Common.{append-nil, refl, sym, ap, ap₂, ◌∙◌, arith}
-use Rattle.std.specs.Prelude.{codes, if◌then◌else◌, nat_lt, option_to_list, slice_get}
+use Rattle.std.specs.Prelude.{codes, if◌then◌else◌, nat_eq, nat_lt, option_to_list, slice_get}
+use Rattle.bl_tree.specs.declared.text.Text.{Text}
 use Rattle.bl_tree.specs.declared.c.CFunc.{CFunc}
 use Rattle.bl_tree.specs.declared.c.CLocal.{CLocal}
 use Rattle.bl_tree.specs.declared.c.CMember.{CMember}
@@ -14,6 +15,7 @@ use Rattle.bl_tree.specs.declared.tree.StructDef.{StructDef}
 use Rattle.bl_tree.specs.declared.tree.Unit.{Unit as UnitDef}
 use Rattle.bl_tree.specs.Program.{parameters_of}
 use Rattle.bl_tree.specs.Reduce.{joined}
+use Rattle.bl_tree.specs.Typing.{TypingContext, site_of}
 use Rattle.bl_graph_nodes.specs.Nodes.{ActAt, CheckAt, EnterAt, Node, ResumeAt, TestAt}
 use Rattle.bl_graph_nodes.specs.Plain.{Block, Done, Then, plain_body}
 use Rattle.bl_machine.specs.declared.machine.Activity.{Activity as InMachine}
@@ -30,15 +32,17 @@ use Rattle.bl_emit_spec.specs.Activities.{Activity, RunAt, activity_function, bl
 use Rattle.bl_emit_spec.specs.Activities.{is_read_by, mark_local, mark_locals, memory_params, picked, reads_counter, remembered, rested_code}
 use Rattle.bl_emit_spec.specs.Activities.{ended_local, enters_at, one_a_place, rested_local, run_at, run_number_in}
 use Rattle.bl_emit_spec.specs.Activities.{activity_view, over_param, pointer_param, result_params, runs_at, runs_in_body, scalar_local}
-use Rattle.bl_emit_spec.specs.Blocks.{ActivityView, NodeCode, Sizes}
+use Rattle.bl_emit_spec.specs.Blocks.{ActivityView, NodeCode, node_word}
 use Rattle.bl_emit_spec.specs.Names.{flag_name, frame_name}
 use Rattle.bl_emit_spec.specs.Programs.{ProgramParts, activity_of, parts_of_activity}
+use Rattle.bl_emit_spec.specs.Words.{word_in, word_of_node}
 use Rattle.bl_emit_acts.specs.Acts.{c_copied}
 use Rattle.bl_emit_blocks.specs.Laws.{Alike, BlocksAlike}
 use Rattle.bl_emit_blocks.specs.Numbered.{numbered_turn}
 use Rattle.bl_emit_blocks_laws.specs.Laws.{BodiesAreNumbered}
 use Rattle.bl_emit_tables.specs.Told.{asks_counter, asks_flag, flag_where, flags_told, mark_told, marks_told, read_told, run_told}
 use Rattle.bl_emit_tables.specs.Told.{all_runs_told, runs_told}
+use Rattle.bl_emit_tables.specs.Words.{task_word, word_told}
 use Rattle.bl_emit.specs.Activities.{ActivityInput, code_told, copied_told, copy_told, counters_told, entry_at, entry_told, frame_by, function_by}
 use Rattle.bl_emit.specs.Activities.{function_told, locals_told, memory_params_told, params_told, remembered_by, remembers_told}
 use Rattle.bl_emit.specs.Activities.{run_locals_told, view_told}
@@ -84,52 +88,6 @@ module _ (number : Node → ℕ) where
   asked_is (RestedIn slots) = refl
   asked_is (Ended age needed) = refl
 
-  -- the local for the flag of the node at a position
-  flag_at : (units : List ℕ) (rules : List nodes.Transition) → length units ≡ length rules → (k : ℕ) →
-      joined (map (flag_local number) (option_to_list (slice_get rules k))) ≡ flag_where (slice_get (all_told number units rules) k)
-  flag_at [] [] same k = refl
-  flag_at [] (rule ∷ rules) same k = absurd (omega (arith, same))
-  flag_at (unit ∷ units) [] same k = refl
-  flag_at (unit ∷ units) (rule ∷ rules) same zero =
-      append-nil (flag_local number rule)
-      ∙ ap (λ (b : Bool). if b then scalar_local OfBool (flag_name (number rule.node)) ∷ [] else []) (asked_is rule.condition)
-  flag_at (unit ∷ units) (rule ∷ rules) same (suc k) = flag_at units rules (omega (arith, same)) k
-
-  flags_both : (found : Option nodes.Transition) (rest : List nodes.Transition) →
-      joined (map (flag_local number) (option_to_list found ++ rest))
-      ≡ joined (map (flag_local number) (option_to_list found)) ++ joined (map (flag_local number) rest)
-  flags_both None rest = refl
-  flags_both (Some rule) rest =
-      ap (λ (flags : List CLocal). flags ++ joined (map (flag_local number) rest)) (sym (append-nil (flag_local number rule)))
-
-  flags_are : (units : List ℕ) (rules : List nodes.Transition) → length units ≡ length rules → (blocks : List (List ℕ)) →
-      joined (map (flag_local number) (picked rules (first_positions blocks))) ≡ flags_told (all_told number units rules) blocks
-  flags_are units rules same [] = refl
-  flags_are units rules same ([] ∷ rest) = flags_are units rules same rest
-  flags_are units rules same ((k ∷ block) ∷ rest) =
-      flags_both (slice_get rules k) (picked rules (first_positions rest)) ∙ ap₂ ◌++◌ (flag_at units rules same k) (flags_are units rules same rest)
-
-  mark_is : (change : nodes.Change) → mark_local number change ≡ mark_told (told_change number change)
-  mark_is (SetsFlag n) = refl
-  mark_is (SetsCounter slot) = refl
-  mark_is (ClearsCounter k) = refl
-  mark_is (ClearsBoth k) = refl
-  mark_is (SetsMark n) = refl
-  mark_is (EndsWhen start surface depth) = refl
-  mark_is Finishes = refl
-
-  rule_marks : (changes : List nodes.Change) →
-      joined (map (mark_local number) changes) ≡ joined (map mark_told (map (told_change number) changes))
-  rule_marks [] = refl
-  rule_marks (change ∷ rest) = ap₂ ◌++◌ (mark_is change) (rule_marks rest)
-
-  marks_are : (units : List ℕ) (rules : List nodes.Transition) → length units ≡ length rules →
-      joined (map (mark_locals number) rules) ≡ marks_told (all_told number units rules)
-  marks_are [] [] same = refl
-  marks_are [] (rule ∷ rules) same = absurd (omega (arith, same))
-  marks_are (unit ∷ units) [] same = refl
-  marks_are (unit ∷ units) (rule ∷ rules) same = ap₂ ◌++◌ (rule_marks rule.on_true) (marks_are units rules (omega (arith, same)))
-
   counter_is : (k : ℕ) (condition : nodes.Condition) → reads_counter k condition ≡ asks_counter k (told_condition number condition)
   counter_is k Flagged = refl
   counter_is k (Rested slot) = refl
@@ -143,15 +101,79 @@ module _ (number : Node → ℕ) where
   reads_are (unit ∷ units) [] same k = refl
   reads_are (unit ∷ units) (rule ∷ rules) same k = ap₂ ◌||◌ (counter_is k rule.condition) (reads_are units rules (omega (arith, same)) k)
 
+  word_is : (site : TypingContext) (unit : ℕ) (n : Node) → word_of_node site unit n ≡ task_word site (task_at number unit n)
+  word_is site unit (ActAt l s) = refl
+  word_is site unit (TestAt l at e) = refl
+  word_is site unit (CheckAt l at e) = refl
+  word_is site unit (EnterAt l at arguments) = refl
+  word_is site unit (ResumeAt l at arguments) = refl
+  word_is site unit n = refl
+
+  words_are : (site : TypingContext) (units : List ℕ) (rules : List nodes.Transition) (k : ℕ) →
+      word_in site number units rules k ≡ word_told site (all_told number units rules) k
+  words_are site [] rules k = refl
+  words_are site (unit ∷ units) [] k = refl
+  words_are site (unit ∷ units) (rule ∷ rules) k =
+      ap₂ (λ (word more : Text). if nat_eq (number rule.node) k then word else more) (word_is site unit rule.node) (words_are site units rules k)
+
+-- ---- flags and marks
+
+module _ (view : ActivityView) where
+  -- the local for the flag of the node at a position
+  flag_at : (units : List ℕ) (rules : List nodes.Transition) → length units ≡ length rules → (k : ℕ) →
+      joined (map (flag_local view) (option_to_list (slice_get rules k))) ≡ flag_where view.word (slice_get (all_told view.number units rules) k)
+  flag_at [] [] same k = refl
+  flag_at [] (rule ∷ rules) same k = absurd (omega (arith, same))
+  flag_at (unit ∷ units) [] same k = refl
+  flag_at (unit ∷ units) (rule ∷ rules) same zero =
+      append-nil (flag_local view rule)
+      ∙ ap (λ (b : Bool). if b then scalar_local OfBool (flag_name (node_word view rule.node)) ∷ [] else []) (asked_is view.number rule.condition)
+  flag_at (unit ∷ units) (rule ∷ rules) same (suc k) = flag_at units rules (omega (arith, same)) k
+
+  flags_both : (found : Option nodes.Transition) (rest : List nodes.Transition) →
+      joined (map (flag_local view) (option_to_list found ++ rest))
+      ≡ joined (map (flag_local view) (option_to_list found)) ++ joined (map (flag_local view) rest)
+  flags_both None rest = refl
+  flags_both (Some rule) rest =
+      ap (λ (flags : List CLocal). flags ++ joined (map (flag_local view) rest)) (sym (append-nil (flag_local view rule)))
+
+  flags_are : (units : List ℕ) (rules : List nodes.Transition) → length units ≡ length rules → (blocks : List (List ℕ)) →
+      joined (map (flag_local view) (picked rules (first_positions blocks))) ≡ flags_told view.word (all_told view.number units rules) blocks
+  flags_are units rules same [] = refl
+  flags_are units rules same ([] ∷ rest) = flags_are units rules same rest
+  flags_are units rules same ((k ∷ block) ∷ rest) =
+      flags_both (slice_get rules k) (picked rules (first_positions rest)) ∙ ap₂ ◌++◌ (flag_at units rules same k) (flags_are units rules same rest)
+
+  mark_is : (change : nodes.Change) → mark_local view change ≡ mark_told view.word (told_change view.number change)
+  mark_is (SetsFlag n) = refl
+  mark_is (SetsCounter slot) = refl
+  mark_is (ClearsCounter k) = refl
+  mark_is (ClearsBoth k) = refl
+  mark_is (SetsMark n) = refl
+  mark_is (EndsWhen start surface depth) = refl
+  mark_is Finishes = refl
+
+  rule_marks : (changes : List nodes.Change) →
+      joined (map (mark_local view) changes) ≡ joined (map (mark_told view.word) (map (told_change view.number) changes))
+  rule_marks [] = refl
+  rule_marks (change ∷ rest) = ap₂ ◌++◌ (mark_is change) (rule_marks rest)
+
+  marks_are : (units : List ℕ) (rules : List nodes.Transition) → length units ≡ length rules →
+      joined (map (mark_locals view) rules) ≡ marks_told view.word (all_told view.number units rules)
+  marks_are [] [] same = refl
+  marks_are [] (rule ∷ rules) same = absurd (omega (arith, same))
+  marks_are (unit ∷ units) [] same = refl
+  marks_are (unit ∷ units) (rule ∷ rules) same = ap₂ ◌++◌ (rule_marks rule.on_true) (marks_are units rules (omega (arith, same)))
+
 -- ---- the entry
 
-entries_are : (view : ActivityView) (body : Block) → entry_code view body ≡ map (entry_at view.sizes) (map view.number (entries body))
+entries_are : (view : ActivityView) (body : Block) → entry_code view body ≡ map (entry_at view) (map view.number (entries body))
 entries_are view Done = refl
 entries_are view (Then s rest) = refl
 
-first_is : (sizes : Sizes) (rules : List NumberedTransition) → entry_told sizes rules ≡ map (entry_at sizes) (first_number rules)
-first_is sizes [] = refl
-first_is sizes (rule ∷ rest) = refl
+first_is : (view : ActivityView) (rules : List NumberedTransition) → entry_told view rules ≡ map (entry_at view) (first_number rules)
+first_is view [] = refl
+first_is view (rule ∷ rest) = refl
 
 memory_is : (a : Activity) (remembers : Bool) → memory_params a remembers ≡ memory_params_told a.unit.name remembers
 memory_is a true = refl
@@ -166,6 +188,9 @@ module _ (law : RulesAreListed) (bodies : BodiesAreNumbered) (alike : BlocksAlik
 
   abbrev t : ActivityInput
   t = told_of structs earlier remember unit one
+
+  abbrev site : TypingContext
+  site = site_of structs earlier unit
 
   abbrev number : Node → ℕ
   number = node_number (joined one.blocks) (plain_body unit.body)
@@ -188,12 +213,23 @@ module _ (law : RulesAreListed) (bodies : BodiesAreNumbered) (alike : BlocksAlik
   runs_so : runs_told t.rules ≡ runs_in_body a
   runs_so = sym (ap one_a_place (runs_are number calls rules ∙ ap all_runs_told told_is))
 
-  flags_so : flags_told t.rules t.blocks ≡ joined (map (flag_local number) (first_rules a))
-  flags_so =
-      sym (flags_are number calls rules each t.blocks ∙ ap (λ (rules : List NumberedTransition). flags_told rules t.blocks) told_is)
+  word_at : (k : ℕ) → (view_told t).word k ≡ (activity_view a).word k
+  word_at k =
+      sym (words_are number site calls rules k ∙ ap (λ (rules : List NumberedTransition). word_told site rules k) told_is)
 
-  marks_so : marks_told t.rules ≡ joined (map (mark_locals number) rules)
-  marks_so = sym (marks_are number calls rules each ∙ ap marks_told told_is)
+  word_so : (view_told t).word ≡ (activity_view a).word
+  word_so = λ i k. word_at k i
+
+  flags_so : flags_told (view_told t).word t.rules t.blocks ≡ joined (map (flag_local (activity_view a)) (first_rules a))
+  flags_so =
+      ap (λ (word : ℕ → Text). flags_told word t.rules t.blocks) word_so
+      ∙ sym (flags_are (activity_view a) calls rules each t.blocks
+      ∙ ap (λ (rules : List NumberedTransition). flags_told (activity_view a).word rules t.blocks) told_is)
+
+  marks_so : marks_told (view_told t).word t.rules ≡ joined (map (mark_locals (activity_view a)) rules)
+  marks_so =
+      ap (λ (word : ℕ → Text). marks_told word t.rules) word_so
+      ∙ sym (marks_are (activity_view a) calls rules each ∙ ap (marks_told (activity_view a).word) told_is)
 
   read_at : (k : ℕ) → read_told t.rules k ≡ is_read_by rules k
   read_at k = sym (reads_are number calls rules each k ∙ ap (λ (rules : List NumberedTransition). read_told rules k) told_is)
@@ -207,16 +243,22 @@ module _ (law : RulesAreListed) (bodies : BodiesAreNumbered) (alike : BlocksAlik
   remembered_so : remembered_by structs earlier remember unit (runs_told t.rules) ≡ remembered a
   remembered_so = ap (remembered_by structs earlier remember unit) runs_so
 
-  entry_so : entry_told t.sizes t.rules ≡ entry_code (activity_view a) (plain_body unit.body)
+  -- the C of an entry, where numbers of nodes have these words
+  abbrev entry_with : (ℕ → Text) → ℕ → CStmt
+  entry_with word = entry_at (record (view_told t) { word = word })
+
+  entry_so : entry_told (view_told t) t.rules ≡ entry_code (activity_view a) (plain_body unit.body)
   entry_so =
-      first_is t.sizes t.rules
-      ∙ (ap (map (entry_at t.sizes)) (sym (law.begins unit.body (joined one.blocks) one.slots))
-      ∙ sym (entries_are (activity_view a) (plain_body unit.body)))
+      first_is (view_told t) t.rules
+      ∙ (ap (map (entry_at (view_told t))) (sym (law.begins unit.body (joined one.blocks) one.slots))
+      ∙ (ap (λ (word : ℕ → Text). map (entry_with word) (map number (entries (plain_body unit.body)))) word_so
+      ∙ sym (entries_are (activity_view a) (plain_body unit.body))))
 
   views : Alike (view_told t) (activity_view a)
   views = record {
     site = refl;
     copies = refl;
+    word = word_at;
     run = λ at. ap (λ (run : Place → ℕ). run at) (sym run_so);
     sizes = refl;
     is_read = read_at;
@@ -239,11 +281,11 @@ module _ (law : RulesAreListed) (bodies : BodiesAreNumbered) (alike : BlocksAlik
   locals_so =
       ap₂ (λ (counters : List ℕ) (flags : List CLocal). map (rested_local t.sizes) counters
       ++ (flags
-      ++ (marks_told t.rules ++ (map (copy_told unit) (copied_told unit)
+      ++ (marks_told (view_told t).word t.rules ++ (map (copy_told unit) (copied_told unit)
       ++ (ended_local (runs_told t.rules) ++ joined (map (run_locals_told earlier) (runs_told t.rules)))))))
       counters_so flags_so
       ∙ ap₂ (λ (marks : List CLocal) (runs : List RunAt). map (rested_local t.sizes) (filter (is_read_by rules) (up_to (length t.sizes)))
-      ++ (joined (map (flag_local number) (first_rules a))
+      ++ (joined (map (flag_local (activity_view a)) (first_rules a))
       ++ (marks ++ (map (copy_told unit) (copied_told unit) ++ (ended_local runs ++ joined (map (run_locals_told earlier) runs)))))) marks_so runs_so
 
   remembers_so : remembers_told t ≡ nat_lt 0 (length (remembered a))

@@ -1,5 +1,6 @@
 -- Which flags the C function of an activity has, and what asks for them.
-use Rattle.std.specs.Prelude.{◌≡◌, Bool, true, false, ◌&&◌, ◌==◌, not, List, [], ◌∷◌, map, Option, Some, None, filter, is_some, length, nat_eq}
+use Rattle.std.specs.Prelude.{◌≡◌, Bool, true, false, ◌&&◌, ◌||◌, ◌==◌, not, List, [], ◌∷◌, map, Option, Some, None, filter, is_some, length, nat_eq}
+use Rattle.std.specs.Char.{is_ascii_digit}
 use Rattle.std.specs.List.{list_all}
 use Rattle.bl_tree.specs.declared.text.Text.{Text}
 use Rattle.bl_tree.specs.declared.c.CExpr.{CExpr}
@@ -16,15 +17,24 @@ use Rattle.bl_machine_pass.specs.Numbered.{slots_of}
 use Rattle.bl_machine_pass.specs.Transitions.{Transition, rules}
 use Rattle.bl_emit_spec.specs.Activities.{first_positions, is_flagged, picked}
 use Rattle.bl_emit_spec.specs.Blocks.{spelled_truth}
-use Rattle.bl_emit_laws.specs.Counters.Own.{is_digit_run}
 use Rattle.bl_emit_laws.specs.Counters.Places.{CPath, places_in}
 
 -- ---- names of flags
 
--- whether a local has the name of a flag: `g` and one or more digits
+-- whether digits, `_` and a word make a text, where there may be no digits
+abbrev pub is_digits_and_word : Text → Bool
+is_digits_and_word [] = false
+is_digits_and_word (first ∷ rest) = first == 95 || (is_ascii_digit first && is_digits_and_word rest)
+
+-- whether a text is one or more digits, `_`, and a word
+abbrev pub is_numbered_word : Text → Bool
+is_numbered_word [] = false
+is_numbered_word (first ∷ rest) = is_ascii_digit first && is_digits_and_word rest
+
+-- whether a local has the name of a flag: `g`, one or more digits, `_`, and a word
 abbrev pub is_flag_name : Text → Bool
 is_flag_name [] = false
-is_flag_name (first ∷ rest) = first == 103 && is_digit_run rest
+is_flag_name (first ∷ rest) = first == 103 && is_numbered_word rest
 
 -- the names of the locals that are flags, in order
 abbrev pub flags_of : CFunc → List Text

@@ -17,7 +17,8 @@ use Rattle.bl_emit_acts.specs.Types.{copy_name, variable_name}
 use Rattle.bl_emit_acts_laws_simulation.specs.Acts.{copy_location}
 use Rattle.bl_emit_acts_laws_simulation.specs.Frames.{is_older, lent_at, remembered_at}
 use Rattle.bl_emit_acts_laws_simulation.specs.Encodes.{are_apart, home_at, is_live, lead_in, start_in, ways_part}
-use Rattle.bl_emit_spec.specs.Names.{counter_name, flag_name, mark_name, rested_name}
+use Rattle.bl_emit_acts_laws_simulation.proofs.NumberedNames.{words_differ}
+use Rattle.bl_emit_spec.specs.Names.{counter_name, flag_name, mark_name, numbered_word, rested_name, with_word}
 use Rattle.bl_emit_spec_laws.specs.Registers.Registers.{ApartFromPointers, FewRegisters, FramePointersAreValid, PointersOlder, Registered, RegistersApart}
 use Rattle.bl_emit_spec_laws.specs.Registers.Registers.{RegistersBeside}
 use Rattle.bl_emit_spec_laws.specs.Registers.Registers.{Before, Counter, Flag, Mark, Over, Register, frame_at, has_register, over_at, register_at}
@@ -39,6 +40,12 @@ names_differ letter j k less most differ = by (bytes_eq (letter ∷ decimal j) (
     by true is =
         let text : letter ∷ decimal j ≡ letter ∷ decimal k = (bytes_eq-Decides (letter ∷ decimal j) (letter ∷ decimal k)).0 is in
         absurd (no_such (sym (eq-eqb j k (decimal_injective j k less most (ap (drop 1) text))) ∙ differ))
+
+-- so do names with words
+worded_differ : (letter : ℕ) (words : ℕ → Text) (j k : ℕ) → j < 2 ^ 64 → k < 2 ^ 64 → nat_eq j k ≡ false →
+    bytes_eq (letter ∷ numbered_word (with_word words j)) (letter ∷ numbered_word (with_word words k)) ≡ false
+worded_differ letter words j k less most differ =
+    words_differ letter j k (words j) (words k) less most (λ same. no_such (sym (eq-eqb j k same) ∙ differ))
 
 and_false : (b : Bool) → (b && false) ≡ false
 and_false true = refl
@@ -94,9 +101,16 @@ module _ (scope : Scope) (frame : FramePointersAreValid scope) where
   older_local : (place : Location) (name : Text) → is_older scope.depth place.root ≡ true → are_apart place (local_at name) ≡ true
   older_local place name older = apart_flip (local_at name) place (local_older name place older)
 
+  -- the names of the flag and the mark of a number
+  abbrev flag : Registered → ℕ → Text
+  flag has k = flag_name (with_word has.words k)
+
+  abbrev mark : Registered → ℕ → Text
+  mark has k = mark_name (with_word has.words k)
+
   module _ (has : Registered) (few : FewRegisters has) where
     abbrev Differ : Register → Register → Type 0
-    Differ x y = are_apart (register_at scope x) (register_at scope y) ≡ true
+    Differ x y = are_apart (register_at has scope x) (register_at has scope y) ≡ true
 
     counters_differ : (j k : ℕ) → has.counters j ≡ true → has.counters k ≡ true → nat_eq j k ≡ false → Differ (Counter j) (Counter k)
     counters_differ j k its other differ =
@@ -106,17 +120,17 @@ module _ (scope : Scope) (frame : FramePointersAreValid scope) where
         (behind_front start.parts (member (counter_name j) ∷ []) (member (counter_name k) ∷ [])
         ∙ ap (λ b. not b || false) (names_differ 99 j k (few.counters j its) (few.counters k other) differ))
 
-    counter_local : (k : ℕ) (name : Text) → are_apart (register_at scope (Counter k)) (local_at name) ≡ true
-    counter_local k name = older_local (register_at scope (Counter k)) name frame.frame_older
+    counter_local : (k : ℕ) (name : Text) → are_apart (register_at has scope (Counter k)) (local_at name) ≡ true
+    counter_local k name = older_local (register_at has scope (Counter k)) name frame.frame_older
 
-    local_counter : (name : Text) (k : ℕ) → are_apart (local_at name) (register_at scope (Counter k)) ≡ true
-    local_counter name k = local_older name (register_at scope (Counter k)) frame.frame_older
+    local_counter : (name : Text) (k : ℕ) → are_apart (local_at name) (register_at has scope (Counter k)) ≡ true
+    local_counter name k = local_older name (register_at has scope (Counter k)) frame.frame_older
 
-    over_local : (name : Text) → are_apart (register_at scope Over) (local_at name) ≡ true
-    over_local name = older_local (register_at scope Over) name frame.over_older
+    over_local : (name : Text) → are_apart (register_at has scope Over) (local_at name) ≡ true
+    over_local name = older_local (register_at has scope Over) name frame.over_older
 
-    local_over : (name : Text) → are_apart (local_at name) (register_at scope Over) ≡ true
-    local_over name = local_older name (register_at scope Over) frame.over_older
+    local_over : (name : Text) → are_apart (local_at name) (register_at has scope Over) ≡ true
+    local_over name = local_older name (register_at has scope Over) frame.over_older
 
     counter_over : (k : ℕ) → Differ (Counter k) Over
     counter_over k = further_apart (frame_at scope) (over_at scope) (member (counter_name k) ∷ []) [] frame.apart
@@ -124,35 +138,35 @@ module _ (scope : Scope) (frame : FramePointersAreValid scope) where
     registers_differ : (x y : Register) → has_register has x ≡ true → has_register has y ≡ true → same_register x y ≡ false → Differ x y
     registers_differ (Counter j) (Counter k) its other differ = counters_differ j k its other differ
     registers_differ (Counter j) (Before k) its other differ = counter_local j (rested_name k)
-    registers_differ (Counter j) (Flag k) its other differ = counter_local j (flag_name k)
-    registers_differ (Counter j) (Mark k) its other differ = counter_local j (mark_name k)
+    registers_differ (Counter j) (Flag k) its other differ = counter_local j (flag has k)
+    registers_differ (Counter j) (Mark k) its other differ = counter_local j (mark has k)
     registers_differ (Counter j) Over its other differ = counter_over j
     registers_differ (Before j) (Counter k) its other differ = local_counter (rested_name j) k
     registers_differ (Before j) (Before k) its other differ =
         local_local (rested_name j) (rested_name k) (names_differ 119 j k (few.copied j its) (few.copied k other) differ)
-    registers_differ (Before j) (Flag k) its other differ = local_local (rested_name j) (flag_name k) refl
-    registers_differ (Before j) (Mark k) its other differ = local_local (rested_name j) (mark_name k) refl
+    registers_differ (Before j) (Flag k) its other differ = local_local (rested_name j) (flag has k) refl
+    registers_differ (Before j) (Mark k) its other differ = local_local (rested_name j) (mark has k) refl
     registers_differ (Before j) Over its other differ = local_over (rested_name j)
-    registers_differ (Flag j) (Counter k) its other differ = local_counter (flag_name j) k
-    registers_differ (Flag j) (Before k) its other differ = local_local (flag_name j) (rested_name k) refl
+    registers_differ (Flag j) (Counter k) its other differ = local_counter (flag has j) k
+    registers_differ (Flag j) (Before k) its other differ = local_local (flag has j) (rested_name k) refl
     registers_differ (Flag j) (Flag k) its other differ =
-        local_local (flag_name j) (flag_name k) (names_differ 103 j k (few.flags j its) (few.flags k other) differ)
-    registers_differ (Flag j) (Mark k) its other differ = local_local (flag_name j) (mark_name k) refl
-    registers_differ (Flag j) Over its other differ = local_over (flag_name j)
-    registers_differ (Mark j) (Counter k) its other differ = local_counter (mark_name j) k
-    registers_differ (Mark j) (Before k) its other differ = local_local (mark_name j) (rested_name k) refl
-    registers_differ (Mark j) (Flag k) its other differ = local_local (mark_name j) (flag_name k) refl
+        local_local (flag has j) (flag has k) (worded_differ 103 has.words j k (few.flags j its) (few.flags k other) differ)
+    registers_differ (Flag j) (Mark k) its other differ = local_local (flag has j) (mark has k) refl
+    registers_differ (Flag j) Over its other differ = local_over (flag has j)
+    registers_differ (Mark j) (Counter k) its other differ = local_counter (mark has j) k
+    registers_differ (Mark j) (Before k) its other differ = local_local (mark has j) (rested_name k) refl
+    registers_differ (Mark j) (Flag k) its other differ = local_local (mark has j) (flag has k) refl
     registers_differ (Mark j) (Mark k) its other differ =
-        local_local (mark_name j) (mark_name k) (names_differ 117 j k (few.marks j its) (few.marks k other) differ)
-    registers_differ (Mark j) Over its other differ = local_over (mark_name j)
+        local_local (mark has j) (mark has k) (worded_differ 117 has.words j k (few.marks j its) (few.marks k other) differ)
+    registers_differ (Mark j) Over its other differ = local_over (mark has j)
     registers_differ Over (Counter k) its other differ =
-        apart_flip (register_at scope (Counter k)) (register_at scope Over) (counter_over k)
+        apart_flip (register_at has scope (Counter k)) (register_at has scope Over) (counter_over k)
     registers_differ Over (Before k) its other differ = over_local (rested_name k)
-    registers_differ Over (Flag k) its other differ = over_local (flag_name k)
-    registers_differ Over (Mark k) its other differ = over_local (mark_name k)
+    registers_differ Over (Flag k) its other differ = over_local (flag has k)
+    registers_differ Over (Mark k) its other differ = over_local (mark has k)
     registers_differ Over Over its other differ = absurd (no_such differ)
 
-    registers_live : (x : Register) → is_live scope.depth (register_at scope x).root ≡ true
+    registers_live : (x : Register) → is_live scope.depth (register_at has scope x).root ≡ true
     registers_live (Counter k) = older_live scope.depth (frame_at scope).root frame.frame_older
     registers_live (Before k) = number_itself scope.depth
     registers_live (Flag k) = number_itself scope.depth
@@ -194,28 +208,28 @@ module _ (scope : Scope) (frame : FramePointersAreValid scope) where
     behind_by place more old from k var there activity Lent kind is =
         further_apart place (lent_at scope site.vars k) more (lead_in Lent site.vars k ++ []) (from.lent k var there is)
 
-    variables_apart : (x : Register) (k : ℕ) (var : Var) → var_at site k ≡ Some var →
-        are_apart (register_at scope x) (place_of (is_activity site.kind) (home_at site k) k) ≡ true
-    variables_apart (Counter j) k var there =
+    variables_apart : (has : Registered) (x : Register) (k : ℕ) (var : Var) → var_at site k ≡ Some var →
+        are_apart (register_at has scope x) (place_of (is_activity site.kind) (home_at site k) k) ≡ true
+    variables_apart has (Counter j) k var there =
         behind_by (frame_at scope) (member (counter_name j) ∷ []) frame.frame_older from_frame k var there (is_activity site.kind) (home_at site k)
         refl refl
-    variables_apart (Before j) k var there = local_by (rested_name j) k var there refl refl (is_activity site.kind) (home_at site k) refl refl
-    variables_apart (Flag j) k var there = local_by (flag_name j) k var there refl refl (is_activity site.kind) (home_at site k) refl refl
-    variables_apart (Mark j) k var there = local_by (mark_name j) k var there refl refl (is_activity site.kind) (home_at site k) refl refl
-    variables_apart Over k var there =
+    variables_apart has (Before j) k var there = local_by (rested_name j) k var there refl refl (is_activity site.kind) (home_at site k) refl refl
+    variables_apart has (Flag j) k var there = local_by (flag has j) k var there refl refl (is_activity site.kind) (home_at site k) refl refl
+    variables_apart has (Mark j) k var there = local_by (mark has j) k var there refl refl (is_activity site.kind) (home_at site k) refl refl
+    variables_apart has Over k var there =
         behind_by (over_at scope) [] frame.over_older from_over k var there (is_activity site.kind) (home_at site k) refl refl
 
-  copies_apart : (vars : List Var) (x : Register) (k : ℕ) → are_apart (register_at scope x) (copy_location scope vars k) ≡ true
-  copies_apart vars (Counter j) k = older_local (register_at scope (Counter j)) (copy_name vars k) frame.frame_older
-  copies_apart vars (Before j) k = local_local (rested_name j) (copy_name vars k) refl
-  copies_apart vars (Flag j) k = local_local (flag_name j) (copy_name vars k) refl
-  copies_apart vars (Mark j) k = local_local (mark_name j) (copy_name vars k) refl
-  copies_apart vars Over k = older_local (register_at scope Over) (copy_name vars k) frame.over_older
+  copies_apart : (has : Registered) (vars : List Var) (x : Register) (k : ℕ) → are_apart (register_at has scope x) (copy_location scope vars k) ≡ true
+  copies_apart has vars (Counter j) k = older_local (register_at has scope (Counter j)) (copy_name vars k) frame.frame_older
+  copies_apart has vars (Before j) k = local_local (rested_name j) (copy_name vars k) refl
+  copies_apart has vars (Flag j) k = local_local (flag has j) (copy_name vars k) refl
+  copies_apart has vars (Mark j) k = local_local (mark has j) (copy_name vars k) refl
+  copies_apart has vars Over k = older_local (register_at has scope Over) (copy_name vars k) frame.over_older
 
 pub keep_apart : (site : TypingContext) (has : Registered) (scope : Scope) → FewRegisters has → FramePointersAreValid scope → PointersOlder site scope →
     ApartFromPointers site scope (frame_at scope) → ApartFromPointers site scope (over_at scope) →
-    RegistersApart has scope × RegistersBeside site scope
+    RegistersApart has scope × RegistersBeside has site scope
 keep_apart site has scope few frame older from_frame from_over = (
   record { each = registers_differ scope frame has few; live = registers_live scope frame has few },
-  record { variables = variables_apart scope frame site older from_frame from_over; copies = copies_apart scope frame site.vars },
+  record { variables = variables_apart scope frame site older from_frame from_over has; copies = copies_apart scope frame has site.vars },
 )

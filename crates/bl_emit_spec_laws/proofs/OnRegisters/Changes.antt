@@ -19,12 +19,13 @@ use Rattle.bl_emit_spec_laws.proofs.OnRegisters.Statements.{Chosen, alone_alike,
 use Rattle.bl_machine_pass.specs.Registers.{Registers, all_changed, changed, finished, with_at, with_counter, with_flag, with_mark, with_none}
 use Rattle.bl_machine_pass.specs.Transitions.{Change}
 use Rattle.bl_machine_pass.specs.Transitions.{ClearsBoth, ClearsCounter, EndsWhen, Finishes, SetsCounter, SetsFlag, SetsMark}
-use Rattle.bl_emit_spec.specs.Blocks.{ActivityView, change_code, changes_code, counter_value, flagged_now, forgotten, freed}
-use Rattle.bl_emit_spec.specs.Names.{counter_place, flag_name, flag_place, mark_name, mark_place, over_place, rested_name, rested_place}
-use Rattle.bl_emit_spec_laws.specs.Registers.Laws.{CopiesAgree, changes_its_own}
+use Rattle.bl_emit_spec.specs.Blocks.{ActivityView, change_code, changes_code, counter_value, flagged_now, forgotten, freed, node_word}
+use Rattle.bl_emit_spec.specs.Names.{counter_place, flag_place, mark_place, over_place, rested_name, rested_place}
+use Rattle.bl_emit_spec_laws.specs.Registers.Laws.{CopiesAgree, WordsAgree, changes_its_own}
 use Rattle.bl_emit_spec_laws.specs.Registers.Registers.{Before, Counter, Flag, Mark, Over, Register, Registered, RegistersApart, RegistersEncoded, RegistersEncodedAfter}
 use Rattle.bl_emit_spec_laws.specs.Registers.Registers.{has_register, held_in, register_at, same_register}
-use Rattle.bl_emit_spec_laws.proofs.OnRegisters.Setting.{GoesTo, SetIn, counter_answer, local_answer, over_answer, read_answer, set_comes, then_goes}
+use Rattle.bl_emit_spec_laws.proofs.OnRegisters.Setting.{GoesTo, SetIn, counter_answer, flag_answer, local_answer, mark_answer, over_answer, read_answer}
+use Rattle.bl_emit_spec_laws.proofs.OnRegisters.Setting.{set_comes, then_goes}
 
 -- ---- functions with another value at one number
 
@@ -107,7 +108,8 @@ module _ (has : Registered) where
 truth_answer : (scope : Scope) (m : Memory) → (value_c (c_truth true) scope m).answer ≡ Some (scalar (pos 1))
 truth_answer scope m = ap (λ (c : Counted CValue). c.answer) (literal-value scope m _ (pos 1))
 
-module _ (view : ActivityView) (has : Registered) (scope : Scope) (agree : CopiesAgree view has) (apart : RegistersApart has scope) where
+module _ (view : ActivityView) (has : Registered) (scope : Scope) (agree : CopiesAgree view has) (words : WordsAgree view has)
+    (apart : RegistersApart has scope) where
   abbrev Leaves : Registers → Memory → List CStmt → Type 0
   Leaves r m code = GoesTo (RegistersEncodedAfter has scope r m) (block_c code scope m)
 
@@ -127,8 +129,8 @@ module _ (view : ActivityView) (has : Registered) (scope : Scope) (agree : Copie
   module _ (r : Registers) (m : Memory) (hold : RegistersEncoded has scope r m) where
     flag_comes : (n : Node) → has.flags (view.number n) ≡ true → Leaves (with_flag (view.number n) r) m (flagged_now view n ∷ [])
     flag_comes n its =
-        set_comes has scope apart m r (with_flag (view.number n) r) (Flag (view.number n)) (pos 1) (flag_place (view.number n)) (c_truth true)
-        (local_answer scope m (flag_name (view.number n))) (truth_answer scope m) its hold (flag_in has (view.number n) r)
+        set_comes has scope apart m r (with_flag (view.number n) r) (Flag (view.number n)) (pos 1) (flag_place (node_word view n)) (c_truth true)
+        (flag_answer scope m has view.word (view.number n) (words (view.number n))) (truth_answer scope m) its hold (flag_in has (view.number n) r)
 
     counter_comes : (after : Registers) (k v : ℕ) → has.counters k ≡ true → SetIn has r after (Counter k) (pos v) →
         Leaves after m (c_set (counter_place k) (counter_value view.sizes k v) ∷ [])
@@ -137,10 +139,10 @@ module _ (view : ActivityView) (has : Registered) (scope : Scope) (agree : Copie
         (value_answer m k v) its hold set
 
     mark_comes : (n : Node) → has.marks (view.number n) ≡ true → Leaves (with_mark (view.number n) r) m
-        (c_set (mark_place (view.number n)) (c_truth true) ∷ [])
+        (c_set (mark_place (node_word view n)) (c_truth true) ∷ [])
     mark_comes n its =
-        set_comes has scope apart m r (with_mark (view.number n) r) (Mark (view.number n)) (pos 1) (mark_place (view.number n)) (c_truth true)
-        (local_answer scope m (mark_name (view.number n))) (truth_answer scope m) its hold (mark_in has (view.number n) r)
+        set_comes has scope apart m r (with_mark (view.number n) r) (Mark (view.number n)) (pos 1) (mark_place (node_word view n)) (c_truth true)
+        (mark_answer scope m has view.word (view.number n) (words (view.number n))) (truth_answer scope m) its hold (mark_in has (view.number n) r)
 
     over_comes : Leaves (finished r) m (c_set over_place (c_truth true) ∷ [])
     over_comes =
@@ -173,11 +175,11 @@ module _ (view : ActivityView) (has : Registered) (scope : Scope) (agree : Copie
     is_bit true = refl
     is_bit false = refl
 
-    mark_truth : truth_c scope (c_read (mark_place (view.number start))) m ≡ Some (r.marks (view.number start))
+    mark_truth : truth_c scope (c_read (mark_place (node_word view start))) m ≡ Some (r.marks (view.number start))
     mark_truth =
         ap (option_map (λ v. is_one (scalar_number v)))
-        (read_answer scope m (mark_place (view.number start)) (register_at scope (Mark (view.number start)))
-        (local_answer scope m (mark_name (view.number start))))
+        (read_answer scope m (mark_place (node_word view start)) (register_at has scope (Mark (view.number start)))
+        (mark_answer scope m has view.word (view.number start) (words (view.number start))))
         ∙ ap Some (ap is_one (hold.each (Mark (view.number start)) marks) ∙ is_bit (r.marks (view.number start)))
 
     ends_by : (begun : Bool) → r.marks (view.number start) ≡ begun →
@@ -187,7 +189,7 @@ module _ (view : ActivityView) (has : Registered) (scope : Scope) (agree : Copie
     ends_by false is = flag_comes r m hold depth last
 
     abbrev test : CExpr
-    test = c_read (mark_place (view.number start))
+    test = c_read (mark_place (node_word view start))
 
     ends_come : Leaves (changed view.number (EndsWhen start surface depth) r) m (change_code view (EndsWhen start surface depth))
     ends_come =

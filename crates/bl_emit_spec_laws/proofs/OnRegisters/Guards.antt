@@ -23,14 +23,14 @@ use Rattle.bl_machine_pass.specs.Registers.{Registers, are_ended, is_aged, is_at
 use Rattle.bl_machine_pass.specs.Transitions.{Age, Needed}
 use Rattle.bl_machine_pass.specs.Transitions.{IsAny, IsNew, IsOld}
 use Rattle.bl_emit_spec.specs.Blocks.{ActivityView, aged_test, at_slot, counter_value, ends_test, greatest_value, in_pairs, in_tree, is_greatest, rested_at, rested_by}
-use Rattle.bl_emit_spec.specs.Blocks.{rested_from, rested_since}
-use Rattle.bl_emit_spec.specs.Names.{counter_place, flag_name, flag_place, mark_name, mark_place, rested_name, rested_place}
-use Rattle.bl_emit_spec_laws.specs.Registers.Laws.{RestsWithin, has_age}
+use Rattle.bl_emit_spec.specs.Blocks.{node_word, rested_from, rested_since}
+use Rattle.bl_emit_spec.specs.Names.{counter_place, flag_place, mark_place, rested_name, rested_place, with_word}
+use Rattle.bl_emit_spec_laws.specs.Registers.Laws.{RestsWithin, WordsAgree, has_age}
 use Rattle.bl_emit_spec_laws.specs.Registers.Registers.{Before, Counter, Flag, Mark, Registered, RegistersEncoded, register_at}
 use Rattle.bl_emit_spec_laws.proofs.OnRegisters.Cells.{and_both}
 use Rattle.bl_emit_spec_laws.proofs.OnRegisters.Evaluated.{literal-value}
 use Rattle.bl_emit_spec_laws.proofs.OnRegisters.Numbers.{and-number, compare-number, gives, not-number, or-number}
-use Rattle.bl_emit_spec_laws.proofs.OnRegisters.Setting.{counter_answer, local_answer, read_answer}
+use Rattle.bl_emit_spec_laws.proofs.OnRegisters.Setting.{counter_answer, flag_answer, local_answer, mark_answer, read_answer}
 
 -- ---- truths, two by two
 
@@ -219,22 +219,26 @@ module _ (scope : Scope) (here : Memory) where
   module _ (view : ActivityView) (has : Registered) (r : Registers) (hold : RegistersEncoded has scope r here) where
     counter_gives : (k : ℕ) → has.counters k ≡ true → gives scope here (c_read (counter_place k)) ≡ Some (pos (r.counters k))
     counter_gives k its =
-        ap (option_map scalar_number) (read_answer scope here (counter_place k) (register_at scope (Counter k)) (counter_answer scope here k))
+        ap (option_map scalar_number) (read_answer scope here (counter_place k) (register_at has scope (Counter k)) (counter_answer scope here k))
         ∙ ap Some (hold.each (Counter k) its)
 
     pub rested_gives : (k : ℕ) → has.copied k ≡ true → gives scope here (c_read (rested_place k)) ≡ Some (pos (r.rested k))
     rested_gives k its =
-        ap (option_map scalar_number) (read_answer scope here (rested_place k) (register_at scope (Before k)) (local_answer scope here (rested_name k)))
+        ap (option_map scalar_number) (read_answer scope here (rested_place k) (register_at has scope (Before k)) (local_answer scope here (rested_name k)))
         ∙ ap Some (hold.each (Before k) its)
 
-    pub flag_shows : (k : ℕ) → has.flags k ≡ true → Shows (c_read (flag_place k)) (r.flags k)
-    flag_shows k its =
-        ap (option_map scalar_number) (read_answer scope here (flag_place k) (register_at scope (Flag k)) (local_answer scope here (flag_name k)))
+    pub flag_shows : WordsAgree view has → (k : ℕ) → has.flags k ≡ true → Shows (c_read (flag_place (with_word view.word k))) (r.flags k)
+    flag_shows words k its =
+        ap (option_map scalar_number)
+        (read_answer scope here (flag_place (with_word view.word k)) (register_at has scope (Flag k))
+        (flag_answer scope here has view.word k (words k)))
         ∙ ap Some (hold.each (Flag k) its)
 
-    mark_shows : (k : ℕ) → has.marks k ≡ true → Shows (c_read (mark_place k)) (r.marks k)
-    mark_shows k its =
-        ap (option_map scalar_number) (read_answer scope here (mark_place k) (register_at scope (Mark k)) (local_answer scope here (mark_name k)))
+    mark_shows : WordsAgree view has → (k : ℕ) → has.marks k ≡ true → Shows (c_read (mark_place (with_word view.word k))) (r.marks k)
+    mark_shows words k its =
+        ap (option_map scalar_number)
+        (read_answer scope here (mark_place (with_word view.word k)) (register_at has scope (Mark k))
+        (mark_answer scope here has view.word k (words k)))
         ∙ ap Some (hold.each (Mark k) its)
 
     pub since_shows : (k least : ℕ) → has.copied k ≡ true → Shows (rested_since view k least) (nat_le least (r.rested k))
@@ -285,14 +289,14 @@ module _ (scope : Scope) (here : Memory) where
         (map (at_slot view) slots) (map (is_at r.counters) slots) (omega arith) (slots_show slots its)
         ∙ ap (λ b. Some (number_of b)) (any_reduced (is_at r.counters) slots)
 
-    pub aged_shows : (age : Age) (ends : CExpr) (ended : Bool) → has_age view.number has age ≡ true → Shows ends ended →
+    pub aged_shows : WordsAgree view has → (age : Age) (ends : CExpr) (ended : Bool) → has_age view.number has age ≡ true → Shows ends ended →
         Shows (aged_test view age ends) (is_aged view.number r.marks age && ended)
-    aged_shows (IsNew n) ends ended its h =
-        and_shows (c_read (mark_place (view.number n))) ends (r.marks (view.number n)) ended (mark_shows (view.number n) its) h
-    aged_shows (IsOld n) ends ended its h =
-        and_shows (c_not (c_read (mark_place (view.number n)))) ends (not (r.marks (view.number n))) ended
-        (not_shows (c_read (mark_place (view.number n))) (r.marks (view.number n)) (mark_shows (view.number n) its)) h
-    aged_shows IsAny ends ended its h = h
+    aged_shows words (IsNew n) ends ended its h =
+        and_shows (c_read (mark_place (node_word view n))) ends (r.marks (view.number n)) ended (mark_shows words (view.number n) its) h
+    aged_shows words (IsOld n) ends ended its h =
+        and_shows (c_not (c_read (mark_place (node_word view n)))) ends (not (r.marks (view.number n))) ended
+        (not_shows (c_read (mark_place (node_word view n))) (r.marks (view.number n)) (mark_shows words (view.number n) its)) h
+    aged_shows words IsAny ends ended its h = h
 
     pub ends_show : (needed : Needed) → list_all (λ slot. has.counters slot.counter) needed.slots ≡ true →
         Shows (ends_test view needed) (are_ended r.counters needed)

@@ -31,7 +31,7 @@ use Rattle.bl_machine_pass.specs.Transitions.{Ended, Flagged, Rested, RestedIn}
 use Rattle.bl_emit_spec.specs.Blocks.{ActivityView, counter_type, counter_value, ends_test, greatest_value, guard_of, is_greatest, last_value}
 use Rattle.bl_emit_spec.specs.Blocks.{rested_between, rested_in, rested_to, rested_within, type_for}
 use Rattle.bl_emit_spec.specs.Names.{rested_place}
-use Rattle.bl_emit_spec_laws.specs.Registers.Laws.{RestsWithin, are_in_a_row, asks_its_own, fits_counter, follow_on, has_age}
+use Rattle.bl_emit_spec_laws.specs.Registers.Laws.{RestsWithin, WordsAgree, are_in_a_row, asks_its_own, fits_counter, follow_on, has_age}
 use Rattle.bl_emit_spec_laws.specs.Registers.Registers.{Registered, RegistersEncoded}
 use Rattle.bl_emit_spec_laws.proofs.OnRegisters.Cells.{and_both}
 use Rattle.bl_emit_spec_laws.proofs.OnRegisters.Guards.{Shows, aged_shows, and_shows, ends_show, flag_shows}
@@ -235,15 +235,15 @@ module _ (scope : Scope) (here : Memory) where
 
     -- ---- guards
 
-    pub guard_shows : (n : Node) (condition : Condition) → asks_its_own view has n condition ≡ true →
+    pub guard_shows : WordsAgree view has → (n : Node) (condition : Condition) → asks_its_own view has n condition ≡ true →
         Shows scope here (guard_of view n condition) (due_by view.number r n condition)
-    guard_shows n Flagged its = flag_shows scope here view has r hold (view.number n) its
-    guard_shows n (Rested slot) its = rested_shows scope here view has r hold within slot its
-    guard_shows n (RestedIn slots) its =
+    guard_shows words n Flagged its = flag_shows scope here view has r hold words (view.number n) its
+    guard_shows words n (Rested slot) its = rested_shows scope here view has r hold within slot its
+    guard_shows words n (RestedIn slots) its =
         let found = and_both (list_all (λ slot. has.copied slot.counter) slots) (list_all (fits_counter view.sizes) slots && are_in_a_row slots) its in
         let more = and_both (list_all (fits_counter view.sizes) slots) (are_in_a_row slots) found.1 in
         row_shows slots found.0 more.0 more.1
-    guard_shows n (Ended age needed) its =
+    guard_shows words n (Ended age needed) its =
         let found = and_both (has_age view.number has age) (list_all (λ slot. has.counters slot.counter) needed.slots) its in
-        aged_shows scope here view has r hold age (ends_test view needed) (are_ended r.counters needed) found.0
+        aged_shows scope here view has r hold words age (ends_test view needed) (are_ended r.counters needed) found.0
         (ends_show scope here view has r hold needed found.1)

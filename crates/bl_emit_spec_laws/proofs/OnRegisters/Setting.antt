@@ -8,14 +8,14 @@ use Rattle.bl_tree.specs.declared.c.CExpr.{CExpr}
 use Rattle.bl_tree.specs.declared.c.CPlace.{CPlace}
 use Rattle.bl_tree.specs.declared.c.CStmt.{CStmt}
 use Rattle.bl_ctext_semantics.specs.Course.{End, Outcome, breaks, following_end, goes_on, returns, traps}
-use Rattle.bl_ctext_semantics.specs.Memory.{CValue, Location, Memory, Projection, left_after, number_or, scalar, scalar_number, set_at, value_at}
+use Rattle.bl_ctext_semantics.specs.Memory.{CValue, Location, Memory, Projection, left_after, member, number_or, scalar, scalar_number, set_at, value_at}
 use Rattle.bl_ctext_semantics.specs.Meaning.{Counted, Scope, block_c, each_of, further, given, location_c, named_location, next, runs_c, value_c, way_of}
 use Rattle.bl_emit_acts.specs.Acts.{c_set}
 use Rattle.bl_emit_acts.specs.Trees.{c_place, c_read, c_step}
 use Rattle.bl_machine_pass.specs.Registers.{Registers}
-use Rattle.bl_emit_spec.specs.Names.{counter_name, counter_place, over_place}
+use Rattle.bl_emit_spec.specs.Names.{counter_name, counter_place, flag_name, flag_place, mark_name, mark_place, over_place, with_word}
 use Rattle.bl_emit_spec_laws.specs.Registers.Registers.{Before, Counter, Flag, Mark, Over, Register, Registered, RegistersApart, RegistersEncoded}
-use Rattle.bl_emit_spec_laws.specs.Registers.Registers.{RegistersEncodedAfter, has_register, held_in, register_at, same_register}
+use Rattle.bl_emit_spec_laws.specs.Registers.Registers.{RegistersEncodedAfter, frame_at, has_register, held_in, over_at, register_at, same_register}
 use Rattle.bl_emit_spec_laws.proofs.OnRegisters.Cells.{apart_flip, apart_same, left_behind, same_object, set_elsewhere}
 use Rattle.bl_emit_spec_laws.proofs.OnRegisters.Evaluated.{place-location, read-value, step-way}
 use Rattle.bl_emit_spec_laws.proofs.OnRegisters.Statements.{Ends, alone_alike, set_after, set_ends}
@@ -53,7 +53,7 @@ module _ (scope : Scope) (m : Memory) where
   pub local_answer : (name : Text) → (location_c (c_place false name []) scope m).answer ≡ Some (named_location scope false name)
   local_answer name = ap (λ (c : Counted Location). c.answer) (place-location scope m false name [])
 
-  pub over_answer : (location_c over_place scope m).answer ≡ Some (register_at scope Over)
+  pub over_answer : (location_c over_place scope m).answer ≡ Some (further (over_at scope) [])
   over_answer = ap (λ (c : Counted Location). c.answer) (place-location scope m true _ [])
 
   abbrev stepped : Location → Counted (List Projection) → Option Location
@@ -61,10 +61,22 @@ module _ (scope : Scope) (m : Memory) where
       (next (next first (λ a. next (each_of [] scope m) (λ others. given (Some (a ∷ others)))))
       (λ ways. given (Some (further start (way_of ways))))).answer
 
-  pub counter_answer : (k : ℕ) → (location_c (counter_place k) scope m).answer ≡ Some (register_at scope (Counter k))
+  pub counter_answer : (k : ℕ) → (location_c (counter_place k) scope m).answer ≡ Some (further (frame_at scope) (member (counter_name k) ∷ []))
   counter_answer k =
       ap (λ (c : Counted Location). c.answer) (place-location scope m true _ (c_step (counter_name k) ∷ []))
       ∙ ap (stepped (named_location scope true _)) (step-way scope m (counter_name k))
+
+  -- a flag and a mark have the words that the registers have
+  module _ (has : Registered) (word : ℕ → Text) (k : ℕ) (same : word k ≡ has.words k) where
+    pub flag_answer : (location_c (flag_place (with_word word k)) scope m).answer ≡ Some (register_at has scope (Flag k))
+    flag_answer =
+        local_answer (flag_name (with_word word k))
+        ∙ ap (λ (own : Text). Some (named_location scope false (flag_name (record { number = k; word = own })))) same
+
+    pub mark_answer : (location_c (mark_place (with_word word k)) scope m).answer ≡ Some (register_at has scope (Mark k))
+    mark_answer =
+        local_answer (mark_name (with_word word k))
+        ∙ ap (λ (own : Text). Some (named_location scope false (mark_name (record { number = k; word = own })))) same
 
   -- what stands at a place
   pub read_answer : (place : CPlace) (at : Location) → (location_c place scope m).answer ≡ Some at → (value_c (c_read place) scope m).answer
@@ -107,11 +119,11 @@ SetIn has r after x n =
 module _ (has : Registered) (scope : Scope) (apart : RegistersApart has scope) where
   -- memory once a register is set
   abbrev pub set_to : Memory → Register → ℤ → Memory
-  set_to m x n = set_at m (register_at scope x) (scalar n)
+  set_to m x n = set_at m (register_at has scope x) (scalar n)
 
-  own_number : (m : Memory) (x : Register) (n : ℤ) → scalar_number (value_at (set_to m x n) (register_at scope x)) ≡ n
+  own_number : (m : Memory) (x : Register) (n : ℤ) → scalar_number (value_at (set_to m x n) (register_at has scope x)) ≡ n
   own_number m x n =
-      let place = register_at scope x in
+      let place = register_at has scope x in
       same_object m place (scalar n) (place.parts ++ [])
       ∙ ap (λ left. number_or left (scalar n) (m place.root (place.parts ++ [])))
       (ap (λ front. left_after front (place.parts ++ [])) (sym (append-nil place.parts)) ∙ left_behind place.parts [] [])
@@ -120,22 +132,22 @@ module _ (has : Registered) (scope : Scope) (apart : RegistersApart has scope) w
       SetIn has r after x n → RegistersEncodedAfter has scope after m (set_to m x n)
   set_leaves m r after x n there hold set = record {
     registers = record { each = λ y its. by y its (same_register y x) refl };
-    kept = λ root way outside. set_elsewhere m (register_at scope x) (scalar n) root way (outside.each x there);
+    kept = λ root way outside. set_elsewhere m (register_at has scope x) (scalar n) root way (outside.each x there);
   }
     where
       by : (y : Register) → has_register has y ≡ true → (same : Bool) → same_register y x ≡ same →
-          scalar_number (value_at (set_to m x n) (register_at scope y)) ≡ held_in after y
+          scalar_number (value_at (set_to m x n) (register_at has scope y)) ≡ held_in after y
       by y its true is =
-          subst (λ (y : Register). scalar_number (value_at (set_to m x n) (register_at scope y)) ≡ held_in after y) (sym (register_is y x is))
+          subst (λ (y : Register). scalar_number (value_at (set_to m x n) (register_at has scope y)) ≡ held_in after y) (sym (register_is y x is))
           (own_number m x n ∙ sym set.0)
       by y its false is =
-          apart_same m (register_at scope x) (scalar n) (register_at scope y)
-          (apart_flip (register_at scope y) (register_at scope x) (apart.each y x its there is)) []
+          apart_same m (register_at has scope x) (scalar n) (register_at has scope y)
+          (apart_flip (register_at has scope y) (register_at has scope x) (apart.each y x its there is)) []
           ∙ (hold.each y its ∙ sym (set.1 y its is))
 
   -- the C that sets a register
   pub set_comes : (m : Memory) (r after : Registers) (x : Register) (n : ℤ) (place : CPlace) (value : CExpr) →
-      (location_c place scope m).answer ≡ Some (register_at scope x) → (value_c value scope m).answer ≡ Some
+      (location_c place scope m).answer ≡ Some (register_at has scope x) → (value_c value scope m).answer ≡ Some
       (scalar n) → has_register has x ≡ true →
       RegistersEncoded has scope r m → SetIn has r after x n → GoesTo (RegistersEncodedAfter has scope after m) (block_c (c_set place value ∷ []) scope m)
   set_comes m r after x n place value at is there hold set =

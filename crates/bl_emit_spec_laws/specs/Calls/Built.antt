@@ -106,13 +106,14 @@ sets_mark number k (SetsMark n) = nat_eq k (number n)
 sets_mark number k _ = false
 
 -- the registers that the activity's function has: its counters, copies of those that some rule asks for, the flags that the rules of blocks' first nodes
--- ask for, and the marks that rules set
+-- ask for, and the marks that rules set, with the words of the activity's nodes
 abbrev pub registered : Activity → Registered
 registered a = record {
   counters = λ k. nat_lt k (length a.sizes);
   copied = (activity_view a).is_read;
   flags = λ k. list_any (asks_flag (activity_view a).number k) (first_rules a);
   marks = λ k. list_any (λ rule. list_any (sets_mark (activity_view a).number k) rule.on_true) (rules_at a);
+  words = (activity_view a).word;
 }
 
 -- ---- what the start of a `run` clears

@@ -31,11 +31,15 @@ changes_its_own number has Finishes = true
 abbrev pub CopiesAgree : ActivityView → Registered → Type 0
 CopiesAgree view has = (k : ℕ) → view.is_read k ≡ has.copied k
 
+-- flags and marks have the words that they have in C
+abbrev pub WordsAgree : ActivityView → Registered → Type 0
+WordsAgree view has = (k : ℕ) → view.word k ≡ has.words k
+
 -- the C of changes goes on, and leaves memory that holds the changed registers, and all else as it was
 abbrev pub ChangesSimulate : Type 0
 ChangesSimulate =
     (view : ActivityView) (has : Registered) (scope : Scope) (changes : List Change) (r : Registers) (here : Memory) → CopiesAgree view has →
-    RegistersApart has scope → RegistersEncoded has scope r here → list_all (changes_its_own view.number has) changes ≡ true →
+    WordsAgree view has → RegistersApart has scope → RegistersEncoded has scope r here → list_all (changes_its_own view.number has) changes ≡ true →
     ((block_c (changes_code view changes) scope here).end ≡ goes_on)
     × RegistersEncodedAfter has scope (all_changed view.number changes r) here (block_c (changes_code view changes) scope here).memory
 
@@ -82,7 +86,7 @@ asks_its_own view has n (Ended age needed) = has_age view.number has age && list
 abbrev pub GuardsEvaluate : Type 0
 GuardsEvaluate =
     (view : ActivityView) (has : Registered) (scope : Scope) (n : Node) (condition : Condition) (r : Registers) (here : Memory) →
-    RegistersEncoded has scope r here → RestsWithin view.sizes r → asks_its_own view has n condition ≡ true →
+    WordsAgree view has → RegistersEncoded has scope r here → RestsWithin view.sizes r → asks_its_own view has n condition ≡ true →
     option_map scalar_number (value_c (guard_of view n condition) scope here).answer ≡ Some (number_of (due_by view.number r n condition))
 
 -- ---- what keeps apart
@@ -92,4 +96,4 @@ abbrev pub RegistersKeepApart : Type 0
 RegistersKeepApart =
     (site : TypingContext) (has : Registered) (scope : Scope) → FewRegisters has → FramePointersAreValid scope → PointersOlder site scope →
     ApartFromPointers site scope (frame_at scope) → ApartFromPointers site scope (over_at scope) →
-    RegistersApart has scope × RegistersBeside site scope
+    RegistersApart has scope × RegistersBeside has site scope

@@ -1,5 +1,6 @@
 -- Where the registers of a pass stand in the memory of C, and when memory holds them.
 use Rattle.std.specs.Prelude.{◌≡◌, ℕ, ℤ, pos, ◌<◌, ◌^◌, Bool, true, false, nat_eq, [], ◌∷◌, List, Some, codes}
+use Rattle.bl_tree.specs.declared.text.Text.{Text}
 use Rattle.bl_tree.specs.declared.tree.Var.{Var}
 use Rattle.bl_tree.specs.Numbers.{number_of}
 use Rattle.bl_tree.specs.Typing.{TypingContext, is_activity, var_at}
@@ -10,7 +11,7 @@ use Rattle.bl_emit_acts_laws_simulation.specs.Acts.{copy_location, lies_in}
 use Rattle.bl_emit_acts_laws_simulation.specs.Frames.{is_older, lent_at, remembered_at}
 use Rattle.bl_emit_acts_laws_simulation.specs.Encodes.{are_apart, home_at, is_live, location_in}
 use Rattle.bl_machine_pass.specs.Registers.{Registers}
-use Rattle.bl_emit_spec.specs.Names.{counter_name, flag_name, mark_name, rested_name}
+use Rattle.bl_emit_spec.specs.Names.{counter_name, flag_name, mark_name, rested_name, with_word}
 
 -- one register of a pass in C
 pub data Register : Type 0 where
@@ -41,6 +42,8 @@ pub record Registered : Type 0 where
   pub copied : ℕ → Bool
   pub flags : ℕ → Bool
   pub marks : ℕ → Bool
+  -- the words in the C names of flags and marks, by the numbers of nodes
+  pub words : ℕ → Text
 
 -- whether a register is one of the activity's
 abbrev pub has_register : Registered → Register → Bool
@@ -61,12 +64,12 @@ abbrev pub over_at : Scope → Location
 over_at scope = named_location scope true (codes "e")
 
 -- the place of a register
-abbrev pub register_at : Scope → Register → Location
-register_at scope (Counter k) = further (frame_at scope) (member (counter_name k) ∷ [])
-register_at scope (Before k) = named_location scope false (rested_name k)
-register_at scope (Flag k) = named_location scope false (flag_name k)
-register_at scope (Mark k) = named_location scope false (mark_name k)
-register_at scope Over = further (over_at scope) []
+abbrev pub register_at : Registered → Scope → Register → Location
+register_at has scope (Counter k) = further (frame_at scope) (member (counter_name k) ∷ [])
+register_at has scope (Before k) = named_location scope false (rested_name k)
+register_at has scope (Flag k) = named_location scope false (flag_name (with_word has.words k))
+register_at has scope (Mark k) = named_location scope false (mark_name (with_word has.words k))
+register_at has scope Over = further (over_at scope) []
 
 -- ---- what memory holds
 
@@ -80,11 +83,11 @@ held_in r Over = number_of r.over
 
 -- each register of an activity has its number at its place
 pub record RegistersEncoded (has : Registered) (scope : Scope) (r : Registers) (here : Memory) : Type 0 where
-  pub each : (x : Register) → has_register has x ≡ true → scalar_number (value_at here (register_at scope x)) ≡ held_in r x
+  pub each : (x : Register) → has_register has x ≡ true → scalar_number (value_at here (register_at has scope x)) ≡ held_in r x
 
 -- a number of memory, at a way from a root, that belongs to no register
 pub record Outside (has : Registered) (scope : Scope) (root : Root) (way : List Projection) : Type 0 where
-  pub each : (x : Register) → has_register has x ≡ true → lies_in (register_at scope x) root way ≡ false
+  pub each : (x : Register) → has_register has x ≡ true → lies_in (register_at has scope x) root way ≡ false
 
 -- memory holds registers, and all numbers that belong to no register are as they were
 pub record RegistersEncodedAfter (has : Registered) (scope : Scope) (r : Registers) (here after : Memory) : Type 0 where
@@ -103,14 +106,14 @@ pub record FewRegisters (has : Registered) : Type 0 where
 -- the places of different registers have nothing in common, and are there
 pub record RegistersApart (has : Registered) (scope : Scope) : Type 0 where
   pub each : (x y : Register) → has_register has x ≡ true → has_register has y ≡ true → same_register x y ≡ false →
-      are_apart (register_at scope x) (register_at scope y) ≡ true
-  pub live : (x : Register) → is_live scope.depth (register_at scope x).root ≡ true
+      are_apart (register_at has scope x) (register_at has scope y) ≡ true
+  pub live : (x : Register) → is_live scope.depth (register_at has scope x).root ≡ true
 
 -- the places of registers are apart from those of variables and copies
-pub record RegistersBeside (site : TypingContext) (scope : Scope) : Type 0 where
+pub record RegistersBeside (has : Registered) (site : TypingContext) (scope : Scope) : Type 0 where
   pub variables : (x : Register) (k : ℕ) (var : Var) → var_at site k ≡ Some var →
-      are_apart (register_at scope x) (location_in scope site k []) ≡ true
-  pub copies : (x : Register) (k : ℕ) → are_apart (register_at scope x) (copy_location scope site.vars k) ≡ true
+      are_apart (register_at has scope x) (location_in scope site k []) ≡ true
+  pub copies : (x : Register) (k : ℕ) → are_apart (register_at has scope x) (copy_location scope site.vars k) ≡ true
 
 -- the pointers to the counters and to the end lead to what was there before the function began, and apart from each other
 pub record FramePointersAreValid (scope : Scope) : Type 0 where

@@ -32,7 +32,7 @@ use Rattle.bl_emit_acts_laws_simulation.specs.Laws.{CopiesBegin, FramesApart}
 use Rattle.bl_emit_functions_laws_simulation.specs.Calls.{CallsKeepFrame, HandsOver, memory_begun}
 use Rattle.bl_emit_spec.specs.Activities.{Activity, activity_function, body_of, copied_in, copies_of, counters_read, entry_code, remembers_any}
 use Rattle.bl_emit_spec.specs.Activities.{activity_view, rested_code}
-use Rattle.bl_emit_spec.specs.Names.{counter_name, flag_name, mark_name, rested_name}
+use Rattle.bl_emit_spec.specs.Names.{counter_name, flag_name, mark_name, rested_name, with_word}
 use Rattle.bl_emit_spec_laws.specs.Registers.Laws.{GuardsEvaluate, RegistersKeepApart, RegistersWithin}
 use Rattle.bl_emit_spec_laws.specs.Registers.Registers.{Before, Counter, FewRegisters, Flag, Mark, Over, PointersOlder, Register, Registered, RegistersApart}
 use Rattle.bl_emit_spec_laws.specs.Registers.Registers.{RegistersBeside, frame_at, has_register, held_in, register_at}
@@ -135,13 +135,13 @@ module _ (structs : List StructDef) (units : List UnitDef) (entry_at : ℕ) (ord
   pointers_older : PointersOlder site scope
   pointers_older = record { lent = places.pointers.lent_older; remembered = places.pointers.held_older }
 
-  kept_apart : RegistersApart has scope × RegistersBeside site scope
+  kept_apart : RegistersApart has scope × RegistersBeside has site scope
   kept_apart = keep_apart site has scope few_registers places.frame pointers_older places.frame_apart places.over_apart
 
   apart : RegistersApart has scope
   apart = kept_apart.0
 
-  beside : RegistersBeside site scope
+  beside : RegistersBeside has site scope
   beside = kept_apart.1
 
   -- ---- the memory in which it begins
@@ -173,14 +173,14 @@ module _ (structs : List StructDef) (units : List UnitDef) (entry_at : ℕ) (ord
       here name differ way)
 
   first_holds : (x : Register) → has_register has x ≡ true →
-      scalar_number (value_at begun (register_at scope x)) ≡ held_in (at_first (frames i)) x
+      scalar_number (value_at begun (register_at has scope x)) ≡ held_in (at_first (frames i)) x
   first_holds (Counter c) its =
       ap (λ (p : Location). scalar_number (value_at begun (further p (member (counter_name c) ∷ [])))) go.frame
       ∙ (begun_older given.frame.root ((given.frame.parts ++ member (counter_name c) ∷ []) ++ []) frame_older
       ∙ begins.memory.counters i given.frame given.memory memories.here c (ltb-true c (length a.sizes) its))
   first_holds (Before k) its = zero_at (rested_name k) (λ j. refl) []
-  first_holds (Flag k) its = zero_at (flag_name k) (λ j. refl) []
-  first_holds (Mark k) its = zero_at (mark_name k) (λ j. refl) []
+  first_holds (Flag k) its = zero_at (flag_name (with_word has.words k)) (λ j. refl) []
+  first_holds (Mark k) its = zero_at (mark_name (with_word has.words k)) (λ j. refl) []
   first_holds Over its =
       ap (λ (p : Location). scalar_number (value_at begun (further p []))) go.over
       ∙ (ap (λ (parts : List Projection). begun given.over.root (parts ++ [])) (append-nil given.over.parts)
@@ -240,7 +240,7 @@ module _ (structs : List StructDef) (units : List UnitDef) (entry_at : ℕ) (ord
 
   entry_done : (m : Memory) → Mid second m → GoesTo (Mid third) (block_c (entry_code (activity_view a) (body_of a)) scope m)
   entry_done m stands =
-      entry_goes has site scope apart beside now begun (activity_view a) guards (lt-ltb 0 (length a.sizes) suffice.some) (body_of a) second m
+      entry_goes has site scope apart beside now begun (activity_view a) (λ k. refl) guards (lt-ltb 0 (length a.sizes) suffice.some) (body_of a) second m
       (λ s rest is. entry_flagged s rest (ap (λ (u : UnitDef). plain_body u.body) (sym is_unit) ∙ is))
       second_within.rested stands
 
@@ -340,11 +340,11 @@ module _ (structs : List StructDef) (units : List UnitDef) (entry_at : ℕ) (ord
           (λ k. ap (λ b. b && is_some (left_after [] way)) (older_differs (depth + 1) (copy_name site.vars k) root older)))
           ∙ stands.older root way older
 
-      after_holds : (x : Register) → has_register has x ≡ true → scalar_number (value_at after (register_at scope x)) ≡ held_in r x
+      after_holds : (x : Register) → has_register has x ≡ true → scalar_number (value_at after (register_at has scope x)) ≡ held_in r x
       after_holds x its =
-          left.kept (register_at scope x).root ((register_at scope x).parts ++ [])
-          (any_false (λ k. lies_in (copy_location scope site.vars k) (register_at scope x).root ((register_at scope x).parts ++ [])) Copied
-          (λ k. apart_lies (register_at scope x) (copy_location scope site.vars k) [] (beside.copies x k)))
+          left.kept (register_at has scope x).root ((register_at has scope x).parts ++ [])
+          (any_false (λ k. lies_in (copy_location scope site.vars k) (register_at has scope x).root ((register_at has scope x).parts ++ [])) Copied
+          (λ k. apart_lies (register_at has scope x) (copy_location scope site.vars k) [] (beside.copies x k)))
           ∙ (stands.hold.each x its ∙ same x its)
 
       after_copied : CopiesEncoded site now (is_copied (copies_of unit)) scope after

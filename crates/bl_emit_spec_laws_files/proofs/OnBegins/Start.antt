@@ -27,15 +27,16 @@ use Rattle.bl_emit_acts.specs.Trees.{c_read, c_two}
 use Rattle.bl_emit_acts_laws_simulation.specs.Frames.{is_older}
 use Rattle.bl_emit_acts_laws_simulation.specs.Encodes.{Encodes, VariablesEncoded, location_in, way_to}
 use Rattle.bl_emit_spec.specs.Activities.{entry_code, rested_code}
-use Rattle.bl_emit_spec.specs.Blocks.{ActivityView, Sizes, counter_value}
-use Rattle.bl_emit_spec.specs.Names.{counter_place, flag_name, flag_place, rested_name, rested_place}
-use Rattle.bl_emit_spec_laws.specs.Registers.Laws.{GuardsEvaluate, RegistersWithin, RestsWithin}
+use Rattle.bl_emit_spec.specs.Blocks.{ActivityView, Sizes, counter_value, node_word}
+use Rattle.bl_emit_spec.specs.Names.{counter_place, flag_name, flag_place, rested_name, rested_place, with_word}
+use Rattle.bl_emit_spec_laws.specs.Registers.Laws.{GuardsEvaluate, RegistersWithin, RestsWithin, WordsAgree}
 use Rattle.bl_emit_spec_laws.specs.Registers.Registers.{Before, Counter, Flag, Mark, Over, Register, Registered, RegistersApart, RegistersBeside, RegistersEncoded}
 use Rattle.bl_emit_spec_laws.specs.Registers.Registers.{has_register, held_in, register_at, same_register}
 use Rattle.bl_machine_pass.specs.Registers.{Registers, with_at}
 use Rattle.bl_machine_pass.specs.Transitions.{Change, Condition, Ended, IsAny, Transition, enter, rules_in, rules_of}
 use Rattle.bl_machine_pass_laws.specs.Turns.Laws.{entry_flag}
 use Rattle.bl_emit_spec_laws.specs.Calls.Built.{asks_flag}
+use Rattle.bl_emit_spec_laws.proofs.OnRegisters.Setting.{flag_answer}
 use Rattle.bl_emit_spec_laws.proofs.OnWithin.Changing.{with_within}
 use Rattle.bl_emit_spec_laws_files.proofs.OnBegins.Cells.{apart_flip, apart_same, left_behind, same_object}
 use Rattle.bl_emit_spec_laws_files.proofs.OnBegins.Places.{older_differs}
@@ -93,23 +94,23 @@ pub record Stands (has : Registered) (site : TypingContext) (scope : Scope) (now
   pub older : (root : Root) (way : List Projection) → is_older scope.depth root ≡ true → m root way ≡ begun root way
   pub vars : VariablesEncoded site now scope m
 
-module _ (has : Registered) (site : TypingContext) (scope : Scope) (apart : RegistersApart has scope) (beside : RegistersBeside site scope) (now : List Value)
-    (begun : Memory) where
+module _ (has : Registered) (site : TypingContext) (scope : Scope) (apart : RegistersApart has scope) (beside : RegistersBeside has site scope)
+    (now : List Value) (begun : Memory) where
   abbrev Mid : Registers → Memory → Type 0
   Mid = Stands has site scope now begun
 
-  own_number : (m : Memory) (x : Register) (held : CValue) → scalar_number (value_at (set_at m (register_at scope x) held) (register_at scope x))
+  own_number : (m : Memory) (x : Register) (held : CValue) → scalar_number (value_at (set_at m (register_at has scope x) held) (register_at has scope x))
       ≡ scalar_number held
   own_number m x held =
-      let place = register_at scope x in
+      let place = register_at has scope x in
       same_object m place held (place.parts ++ [])
       ∙ ap (λ left. number_or left held (m place.root (place.parts ++ [])))
       (ap (λ front. left_after front (place.parts ++ [])) (sym (append-nil place.parts)) ∙ left_behind place.parts [] [])
 
   -- a register that is a variable of the function is set
   set_stands : (m : Memory) (r after : Registers) (x : Register) (name : List ℕ) (held : CValue) → has_register has x ≡ true →
-      register_at scope x ≡ named_location scope false name → SetIn has r after x (scalar_number held) → Mid r m → Mid after
-      (set_at m (register_at scope x) held)
+      register_at has scope x ≡ named_location scope false name → SetIn has r after x (scalar_number held) → Mid r m → Mid after
+      (set_at m (register_at has scope x) held)
   set_stands m r after x name held there is set stands = record {
     hold = record { each = λ y its. by y its (same_register y x) refl };
     older = λ root way old.
@@ -118,31 +119,31 @@ module _ (has : Registered) (site : TypingContext) (scope : Scope) (apart : Regi
     vars = record {
       each = λ k var value at known.
           holds_same site.structs var.ty value (value_at m (location_in scope site k []))
-          (value_at (set_at m (register_at scope x) held) (location_in scope site k []))
-          (λ way. sym (apart_same m (register_at scope x) held (location_in scope site k []) (beside.variables x k var at) way))
+          (value_at (set_at m (register_at has scope x) held) (location_in scope site k []))
+          (λ way. sym (apart_same m (register_at has scope x) held (location_in scope site k []) (beside.variables x k var at) way))
           (stands.vars.each k var value at known);
     };
   }
     where
       by : (y : Register) → has_register has y ≡ true → (same : Bool) → same_register y x ≡ same →
-          scalar_number (value_at (set_at m (register_at scope x) held) (register_at scope y)) ≡ held_in after y
+          scalar_number (value_at (set_at m (register_at has scope x) held) (register_at has scope y)) ≡ held_in after y
       by y its true same =
-          subst (λ (y : Register). scalar_number (value_at (set_at m (register_at scope x) held) (register_at scope y)) ≡ held_in after y)
+          subst (λ (y : Register). scalar_number (value_at (set_at m (register_at has scope x) held) (register_at has scope y)) ≡ held_in after y)
           (sym (register_is y x same)) (own_number m x held ∙ sym set.0)
       by y its false differ =
-          apart_same m (register_at scope x) held (register_at scope y)
-          (apart_flip (register_at scope y) (register_at scope x) (apart.each y x its there differ)) []
+          apart_same m (register_at has scope x) held (register_at has scope y)
+          (apart_flip (register_at has scope y) (register_at has scope x) (apart.each y x its there differ)) []
           ∙ (stands.hold.each y its ∙ sym (set.1 y its differ))
 
   -- the C that does that
   set_goes : (m : Memory) (r after : Registers) (x : Register) (name : List ℕ) (held : CValue) (place : CPlace) (value : CExpr) →
-      has_register has x ≡ true → register_at scope x ≡ named_location scope false name →
-      (location_c place scope m).answer ≡ Some (register_at scope x) → (value_c value scope m).answer ≡ Some held →
+      has_register has x ≡ true → register_at has scope x ≡ named_location scope false name →
+      (location_c place scope m).answer ≡ Some (register_at has scope x) → (value_c value scope m).answer ≡ Some held →
       SetIn has r after x (scalar_number held) → Mid r m → GoesTo (Mid after) (block_c (c_set place value ∷ []) scope m)
   set_goes m r after x name held place value there local at is set stands =
       let o = runs_c (c_set place value) scope m in
       let alone = alone_alike scope (c_set place value) m in
-      let ends : Ends o (Some (set_at m (register_at scope x) held)) =
+      let ends : Ends o (Some (set_at m (register_at has scope x) held)) =
       subst (λ (at : Option Location). Ends o (set_after scope m at (Some held))) at
       (subst (λ (is : Option CValue). Ends o (set_after scope m (location_c place scope m).answer is)) is (set_ends scope m place value)) in
       (alone.0 ∙ ends.0, subst (Mid after) (sym (alone.1 ∙ ends.1)) (set_stands m r after x name held there local set stands))
@@ -168,10 +169,10 @@ module _ (has : Registered) (site : TypingContext) (scope : Scope) (apart : Regi
   rested_goes (k ∷ ks) r m counters copied stands =
       let counted : has.counters k ≡ true = and_left (has.counters k) (list_all has.counters ks) counters in
       then_goes scope (rested_code k ∷ []) (map rested_code ks) m (Mid (with_rested (k ∷ []) r)) (Mid (with_rested (k ∷ ks) r))
-      (set_goes m r (with_rested (k ∷ []) r) (Before k) (rested_name k) (value_at m (register_at scope (Counter k))) (rested_place k)
+      (set_goes m r (with_rested (k ∷ []) r) (Before k) (rested_name k) (value_at m (register_at has scope (Counter k))) (rested_place k)
       (c_read (counter_place k)) (and_left (has.copied k) (list_all has.copied ks) copied) refl (local_answer scope m (rested_name k))
-      (read_answer scope m (counter_place k) (register_at scope (Counter k)) (counter_answer scope m k))
-      (rested_sets k r (scalar_number (value_at m (register_at scope (Counter k)))) (stands.hold.each (Counter k) counted)) stands)
+      (read_answer scope m (counter_place k) (register_at has scope (Counter k)) (counter_answer scope m k))
+      (rested_sets k r (scalar_number (value_at m (register_at has scope (Counter k)))) (stands.hold.each (Counter k) counted)) stands)
       (λ m' next. rested_goes ks (with_rested (k ∷ []) r) m' (and_right (has.counters k) (list_all has.counters ks) counters)
       (and_right (has.copied k) (list_all has.copied ks) copied) next)
 
@@ -200,7 +201,7 @@ module _ (has : Registered) (site : TypingContext) (scope : Scope) (apart : Regi
       others (Mark j) its differ = refl
       others Over its differ = refl
 
-  module _ (view : ActivityView) (guards : GuardsEvaluate) (first : has.counters 0 ≡ true) where
+  module _ (view : ActivityView) (words : WordsAgree view has) (guards : GuardsEvaluate) (first : has.counters 0 ≡ true) where
     -- the first number of the first counter, as a guard asks it
     abbrev none_yet : Condition
     none_yet = Ended IsAny (record { all = true; slots = record { counter = 0; value = 0 } ∷ [] })
@@ -212,13 +213,13 @@ module _ (has : Registered) (site : TypingContext) (scope : Scope) (apart : Regi
     entry_goes (Then s rest) r m flagged within stands =
         let shows : option_map scalar_number (value_c (c_two Eq (c_read (counter_place 0)) (counter_value view.sizes 0 0)) scope m).answer
         ≡ Some (number_of (nat_eq (r.counters 0) 0)) =
-        guards view has scope (entry s) none_yet r m stands.hold within (ap (λ b. b && true) first)
+        guards view has scope (entry s) none_yet r m words stands.hold within (ap (λ b. b && true) first)
         ∙ ap (λ b. Some (number_of b)) (and_true (nat_eq (r.counters 0) 0)) in
         let found = number_is (value_c (c_two Eq (c_read (counter_place 0)) (counter_value view.sizes 0 0)) scope m).answer
         (number_of (nat_eq (r.counters 0) 0)) shows in
-        set_goes m r (with_entry view (Then s rest) r) (Flag (view.number (entry s))) (flag_name (view.number (entry s))) found.0
-        (flag_place (view.number (entry s))) (c_two Eq (c_read (counter_place 0)) (counter_value view.sizes 0 0)) (flagged s rest refl) refl
-        (local_answer scope m (flag_name (view.number (entry s)))) found.1
+        set_goes m r (with_entry view (Then s rest) r) (Flag (view.number (entry s))) (flag_name (with_word has.words (view.number (entry s)))) found.0
+        (flag_place (node_word view (entry s))) (c_two Eq (c_read (counter_place 0)) (counter_value view.sizes 0 0)) (flagged s rest refl) refl
+        (flag_answer scope m has view.word (view.number (entry s)) (words (view.number (entry s)))) found.1
         (entry_sets (view.number (entry s)) r (with_entry view (Then s rest) r) (nat_eq (r.counters 0) 0) refl (scalar_number found.0) found.2) stands
 
 -- ---- what the registers hold then

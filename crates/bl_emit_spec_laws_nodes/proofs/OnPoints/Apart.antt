@@ -12,7 +12,7 @@ use Rattle.bl_ctree.specs.Instances.{Setting}
 use Rattle.bl_emit_acts_laws_simulation.specs.Acts.{lies_in}
 use Rattle.bl_emit_acts_laws_simulation.specs.Frames.{is_older}
 use Rattle.bl_emit_acts_laws_simulation.specs.Encodes.{are_apart, ways_part}
-use Rattle.bl_emit_spec.specs.Names.{NumberedWord, callee_name, counter_name, flag_name, mark_name, rested_name}
+use Rattle.bl_emit_spec.specs.Names.{NumberedWord, callee_name, counter_name, flag_name, mark_name, rested_name, with_word}
 use Rattle.bl_emit_spec_laws.specs.Registers.Registers.{Before, Counter, Flag, FramePointersAreValid, Mark, Outside, Over, Register, Registered, RegistersEncodedAfter}
 use Rattle.bl_emit_spec_laws.specs.Registers.Registers.{frame_at, has_register, over_at, register_at}
 use Rattle.bl_machine_pass.specs.Registers.{Registers}
@@ -87,28 +87,28 @@ lies_further p more root way h = by (same_root p.root root) h
 
 -- ---- registers
 
-module _ (scope : Scope) where
+module _ (scope : Scope) (has : Registered) where
   local_apart : (name : List ℕ) (place : Location) → is_older scope.depth place.root ≡ true →
       are_apart (record { root = variable scope.depth name; parts = [] }) place ≡ true
   local_apart name place older = ap (λ same. not same || ways_part [] place.parts) (older_differs scope.depth name place.root older)
 
   -- a place that is older and apart from counters and end is apart from registers
   pub register_apart : (place : Location) → is_older scope.depth place.root ≡ true → are_apart place (frame_at scope) ≡ true →
-      are_apart place (over_at scope) ≡ true → (x : Register) → are_apart (register_at scope x) place ≡ true
+      are_apart place (over_at scope) ≡ true → (x : Register) → are_apart (register_at has scope x) place ≡ true
   register_apart place older frame over (Counter k) =
       first_further (frame_at scope) place (member (counter_name k) ∷ []) (apart_flip place (frame_at scope) frame)
   register_apart place older frame over (Before k) = local_apart (rested_name k) place older
-  register_apart place older frame over (Flag k) = local_apart (flag_name k) place older
-  register_apart place older frame over (Mark k) = local_apart (mark_name k) place older
+  register_apart place older frame over (Flag k) = local_apart (flag_name (with_word has.words k)) place older
+  register_apart place older frame over (Mark k) = local_apart (mark_name (with_word has.words k)) place older
   register_apart place older frame over Over = first_further (over_at scope) place [] (apart_flip place (over_at scope) over)
 
   pub register_stands : (site : TypingContext) (place : Location) → PlaceIsSeparate site scope place → (x : Register) →
-      are_apart (register_at scope x) place ≡ true
+      are_apart (register_at has scope x) place ≡ true
   register_stands site place stands = register_apart place stands.older stands.frame stands.over
 
   -- registers are apart from the counters of what is called
   pub register_inner : FramePointersAreValid scope → (n : NumberedWord) (more : List Projection) (x : Register) →
-      are_apart (register_at scope x) (further (frame_at scope) (member (callee_name n) ∷ more)) ≡ true
+      are_apart (register_at has scope x) (further (frame_at scope) (member (callee_name n) ∷ more)) ≡ true
   register_inner frame n more (Counter k) =
       let start = frame_at scope in
       or_last (not (same_root start.root start.root))
@@ -117,32 +117,32 @@ module _ (scope : Scope) where
   register_inner frame n more (Before k) =
       local_apart (rested_name k) (further (frame_at scope) (member (callee_name n) ∷ more)) frame.frame_older
   register_inner frame n more (Flag k) =
-      local_apart (flag_name k) (further (frame_at scope) (member (callee_name n) ∷ more)) frame.frame_older
+      local_apart (flag_name (with_word has.words k)) (further (frame_at scope) (member (callee_name n) ∷ more)) frame.frame_older
   register_inner frame n more (Mark k) =
-      local_apart (mark_name k) (further (frame_at scope) (member (callee_name n) ∷ more)) frame.frame_older
+      local_apart (mark_name (with_word has.words k)) (further (frame_at scope) (member (callee_name n) ∷ more)) frame.frame_older
   register_inner frame n more Over =
       first_further (over_at scope) (further (frame_at scope) (member (callee_name n) ∷ more)) []
       (last_further (over_at scope) (frame_at scope) (member (callee_name n) ∷ more) (apart_flip (frame_at scope) (over_at scope) frame.apart))
 
   -- numbers outside of where the pointers lead that belonged to older roots belong to no register
-  pub outside_all : (has : Registered) (root : Root) (way : List Projection) → is_older scope.depth root ≡ true →
+  pub outside_all : (root : Root) (way : List Projection) → is_older scope.depth root ≡ true →
       lies_in (frame_at scope) root way ≡ false →
       lies_in (over_at scope) root way ≡ false → Outside has scope root way
-  outside_all has root way older frame over = record { each = λ x its. by x }
+  outside_all root way older frame over = record { each = λ x its. by x }
     where
-      by : (x : Register) → lies_in (register_at scope x) root way ≡ false
+      by : (x : Register) → lies_in (register_at has scope x) root way ≡ false
       by (Counter k) = lies_further (frame_at scope) (member (counter_name k) ∷ []) root way frame
       by (Before k) = ap (λ same. same && is_some (left_after [] way)) (older_differs scope.depth (rested_name k) root older)
-      by (Flag k) = ap (λ same. same && is_some (left_after [] way)) (older_differs scope.depth (flag_name k) root older)
-      by (Mark k) = ap (λ same. same && is_some (left_after [] way)) (older_differs scope.depth (mark_name k) root older)
+      by (Flag k) = ap (λ same. same && is_some (left_after [] way)) (older_differs scope.depth (flag_name (with_word has.words k)) root older)
+      by (Mark k) = ap (λ same. same && is_some (left_after [] way)) (older_differs scope.depth (mark_name (with_word has.words k)) root older)
       by Over = lies_further (over_at scope) [] root way over
 
   -- a place that is apart from registers has what it had
-  pub place_kept : (has : Registered) (r : Registers) (here after : Memory) (place : Location) → RegistersEncodedAfter has scope r here after →
-      ((x : Register) → has_register has x ≡ true → are_apart (register_at scope x) place ≡ true) → (way : List Projection) →
+  pub place_kept : (r : Registers) (here after : Memory) (place : Location) → RegistersEncodedAfter has scope r here after →
+      ((x : Register) → has_register has x ≡ true → are_apart (register_at has scope x) place ≡ true) → (way : List Projection) →
       value_at after place way ≡ value_at here place way
-  place_kept has r here after place left apart way =
-      left.kept place.root (place.parts ++ way) (record { each = λ x its. lies_apart (register_at scope x) place way (apart x its) })
+  place_kept r here after place left apart way =
+      left.kept place.root (place.parts ++ way) (record { each = λ x its. lies_apart (register_at has scope x) place way (apart x its) })
 
 -- ---- places of what is called
 

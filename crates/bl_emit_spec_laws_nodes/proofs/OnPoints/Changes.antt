@@ -48,7 +48,7 @@ pointers_older site unit remembers scope places =
 module _ (w : Setting) (activities : Activities) (i : ℕ) (unit : UnitDef) (scope : Scope)
     (frames : Frames) (store : Store) (copies : List Value) (r after_r : Registers) (here after : Memory)
     (places : PlacesAreSeparate (site_at w activities i) unit (remembers_any (activity_at w activities i)) scope)
-    (beside : RegistersBeside (site_at w activities i) scope) (remembering : Remembering w activities)
+    (beside : RegistersBeside (registered (activity_at w activities i)) (site_at w activities i) scope) (remembering : Remembering w activities)
     (stands : PassRepresents w activities i unit scope frames store copies r here)
     (left : RegistersEncodedAfter (registered (activity_at w activities i)) scope after_r here after) where
   abbrev has : Registered
@@ -58,7 +58,7 @@ module _ (w : Setting) (activities : Activities) (i : ℕ) (unit : UnitDef) (sco
   site = site_at w activities i
 
   -- a place that no register has anything in common with
-  kept_at : (place : Location) → ((x : Register) → are_apart (register_at scope x) place ≡ true) → (way : List Projection) →
+  kept_at : (place : Location) → ((x : Register) → are_apart (register_at has scope x) place ≡ true) → (way : List Projection) →
       value_at after place way ≡ value_at here place way
   kept_at place apart = place_kept scope has after_r here after place left (λ x its. apart x)
 
@@ -93,18 +93,18 @@ module _ (w : Setting) (activities : Activities) (i : ℕ) (unit : UnitDef) (sco
         value_at after (further f' more) way ≡ value_at here (further f' more) way
     inner_counter f' far more =
         kept_at (further f' more)
-        (λ x. subst (λ (place : Location). are_apart (register_at scope x) place ≡ true)
+        (λ x. subst (λ (place : Location). are_apart (register_at has scope x) place ≡ true)
         (sym (inner_is (frame_at scope) f' n far more))
-        (register_inner scope places.frame n (far.0 ++ more) x))
+        (register_inner scope has places.frame n (far.0 ++ more) x))
 
     inner_variable : remembers_any (activity_at w activities i) ≡ true → (m' : Location) → Beyond m m' → (more : List Projection) (way : List Projection) →
         value_at after (further m' more) way ≡ value_at here (further m' more) way
     inner_variable remembers m' far more =
         kept_at (further m' more)
-        (λ x. subst (λ (place : Location). are_apart (register_at scope x) place ≡ true)
+        (λ x. subst (λ (place : Location). are_apart (register_at has scope x) place ≡ true)
         (sym (inner_is (remembered_at scope) m' n far more))
-        (last_further (register_at scope x) (remembered_at scope) (member (callee_name n) ∷ (far.0 ++ more))
-        (register_stands scope site (remembered_at scope) (places.memory remembers) x)))
+        (last_further (register_at has scope x) (remembered_at scope) (member (callee_name n) ∷ (far.0 ++ more))
+        (register_stands scope has site (remembered_at scope) (places.memory remembers) x)))
 
     callee_kept : MemoryEncodes w activities j f m frames store after
     callee_kept = record {
@@ -130,7 +130,7 @@ module _ (w : Setting) (activities : Activities) (i : ℕ) (unit : UnitDef) (sco
     copied = copied;
     callees = λ l at arguments j there called. callee_kept l at arguments j there called is_there;
     result = λ value over has_one is.
-        kept_at (result_at_c scope) (register_stands scope site (result_at_c scope) (places.result has_one)) []
+        kept_at (result_at_c scope) (register_stands scope has site (result_at_c scope) (places.result has_one)) []
         ∙ told value over has_one is;
   }
 
@@ -147,7 +147,7 @@ all_stand come keep structs units entry machine activities i unit scope frames s
     let apart =
     keep site (registered a) scope (compiled.registers (unit_number w i) unit function.is_there function.active) places.frame
     (pointers_older site unit (remembers_any a) scope places) places.frame_apart places.over_apart in
-    let came = come (activity_view a) (registered a) scope changes r here (λ k. refl) apart.0 stands.registers own in
+    let came = come (activity_view a) (registered a) scope changes r here (λ k. refl) (λ k. refl) apart.0 stands.registers own in
     let after_r = all_changed (rank_by w activities i) changes r in
     let after = (block_c (changes_code (activity_view a) changes) scope here).memory in
     record {

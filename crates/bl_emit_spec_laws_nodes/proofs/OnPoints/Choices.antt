@@ -204,7 +204,8 @@ module _ (show : GuardsEvaluate) (structs : List StructDef) (units : List UnitDe
   chosen i unit scope frames store copies r rule code here midway there first b due Q so =
       let a = activity_at w activities i in
       let asks = own.asks i unit rule midway.is_there there first in
-      let shown = show (activity_view a) (registered a) scope rule.node rule.condition r here midway.stands.registers midway.within.rested asks in
+      let shown =
+      show (activity_view a) (registered a) scope rule.node rule.condition r here (λ k. refl) midway.stands.registers midway.within.rested asks in
       if_block scope here Q (guard_of (activity_view a) rule.node rule.condition) code None b (shown ∙ ap (λ b. Some (number_of b)) due) so
 
 pub guards_choose : GuardsEvaluate → GuardsSimulate

@@ -83,12 +83,12 @@ module _ (site : TypingContext) (unit : UnitDef) (remembers : Bool) (scope : Sco
 
   -- ---- registers, what is called, and the result
 
-  pub foreign_register : (has : Registered) → RegistersApart has scope → RegistersBeside site scope → (x : Register) (way : List Projection) →
-      Foreign site copied scope (register_at scope x).root ((register_at scope x).parts ++ way)
+  pub foreign_register : (has : Registered) → RegistersApart has scope → RegistersBeside has site scope → (x : Register) (way : List Projection) →
+      Foreign site copied scope (register_at has scope x).root ((register_at has scope x).parts ++ way)
   foreign_register has apart beside x =
-      foreign_place (register_at scope x) (apart.live x)
-      (λ k var there. apart_flip (register_at scope x) (location_in scope site k []) (beside.variables x k var there))
-      (λ k. apart_flip (register_at scope x) (copy_location scope site.vars k) (beside.copies x k))
+      foreign_place (register_at has scope x) (apart.live x)
+      (λ k var there. apart_flip (register_at has scope x) (location_in scope site k []) (beside.variables x k var there))
+      (λ k. apart_flip (register_at has scope x) (copy_location scope site.vars k) (beside.copies x k))
 
   pub foreign_counter : (more : List Projection) (way : List Projection) →
       Foreign site copied scope (further (frame_at scope) more).root ((further (frame_at scope) more).parts ++ way)

@@ -22,10 +22,10 @@ use Rattle.bl_emit_acts_laws_simulation.specs.Frames.{remembered_at}
 use Rattle.bl_emit_acts_laws_simulation.specs.Encodes.{CopiesEncoded, VariablesEncoded, are_apart, home_at, location_in}
 use Rattle.bl_emit_spec.specs.Activities.{copies_of, remembers_any}
 use Rattle.bl_emit_spec.specs.Names.{NumberedWord, callee_name, counter_name}
-use Rattle.bl_emit_spec_laws.specs.Registers.Registers.{frame_at, register_at}
+use Rattle.bl_emit_spec_laws.specs.Registers.Registers.{Registered, frame_at, register_at}
 use Rattle.bl_machine_pass.specs.Registers.{Registers}
 use Rattle.bl_machine_pass_laws_execution.specs.Frames.{Frames}
-use Rattle.bl_emit_spec_laws.specs.Calls.Built.{Activities, activity_at, run_by, site_at}
+use Rattle.bl_emit_spec_laws.specs.Calls.Built.{Activities, activity_at, registered, run_by, site_at}
 use Rattle.bl_emit_spec_laws.specs.Calls.Laws.{PassKeepsFrame}
 use Rattle.bl_emit_spec_laws.specs.Calls.Memories as memories
 use Rattle.bl_emit_spec_laws.specs.Calls.Memories.{MemoryEncodes, inner}
@@ -48,6 +48,9 @@ module _ (w : Setting) (activities : Activities) (i : ℕ) (unit : UnitDef) (sco
 
   abbrev remembers : Bool
   remembers = remembers_any (activity_at w activities i)
+
+  abbrev has : Registered
+  has = registered (activity_at w activities i)
 
   -- where the result is set
   abbrev at_c : Location
@@ -144,8 +147,8 @@ module _ (w : Setting) (activities : Activities) (i : ℕ) (unit : UnitDef) (sco
   return_stands = record {
     registers = record {
       each = λ x its.
-          kept_at (register_at scope x)
-          (apart_flip (register_at scope x) (result_at_c scope) (register_stands scope site (result_at_c scope) (places.result one) x)) []
+          kept_at (register_at has scope x)
+          (apart_flip (register_at has scope x) (result_at_c scope) (register_stands scope has site (result_at_c scope) (places.result one) x)) []
           ∙ stands.registers.each x its;
     };
     variables = variables;

@@ -20,7 +20,7 @@ use Rattle.bl_emit_acts_laws_simulation.specs.Acts.{Foreign, UnchangedOutside, c
 use Rattle.bl_emit_acts_laws_simulation.specs.Frames.{is_older, lent_at, remembered_at}
 use Rattle.bl_emit_acts_laws_simulation.specs.Encodes.{are_apart, home_at, is_live, lead_in, location_in, start_in, ways_part}
 use Rattle.bl_emit_acts_laws_simulation.proofs.Cells.{lies_inside}
-use Rattle.bl_emit_spec.specs.Names.{NumberedWord, callee_name, ended_name, flag_name, given_name, mark_name, rested_name}
+use Rattle.bl_emit_spec.specs.Names.{NumberedWord, callee_name, ended_name, flag_name, given_name, mark_name, rested_name, with_word}
 use Rattle.bl_emit_spec_laws.specs.Registers.Registers.{Before, Counter, Flag, Mark, Over, Register, Registered}
 use Rattle.bl_emit_spec_laws.specs.Registers.Registers.{RegistersApart, RegistersBeside, frame_at, register_at}
 use Rattle.bl_emit_spec_laws_nodes.specs.Calling.{given_by}
@@ -163,30 +163,31 @@ module _ (site : TypingContext) (unit : UnitDef) (remembers : Bool) (scope : Sco
 
   -- ---- registers
 
-  register_given : (x : Register) → are_apart given (register_at scope x) ≡ true
-  register_given (Counter k) = local_older (given_name n) (register_at scope (Counter k)) places.frame.frame_older
-  register_given (Before k) = local_local (given_name n) (rested_name k) refl
-  register_given (Flag k) = local_local (given_name n) (flag_name k) refl
-  register_given (Mark k) = local_local (given_name n) (mark_name k) refl
-  register_given Over = local_older (given_name n) (register_at scope Over) places.frame.over_older
+  register_given : (has : Registered) (x : Register) → are_apart given (register_at has scope x) ≡ true
+  register_given has (Counter k) = local_older (given_name n) (register_at has scope (Counter k)) places.frame.frame_older
+  register_given has (Before k) = local_local (given_name n) (rested_name k) refl
+  register_given has (Flag k) = local_local (given_name n) (flag_name (with_word has.words k)) refl
+  register_given has (Mark k) = local_local (given_name n) (mark_name (with_word has.words k)) refl
+  register_given has Over = local_older (given_name n) (register_at has scope Over) places.frame.over_older
 
-  register_ended : (x : Register) → are_apart ended (register_at scope x) ≡ true
-  register_ended (Counter k) = local_older ended_name (register_at scope (Counter k)) places.frame.frame_older
-  register_ended (Before k) = local_local ended_name (rested_name k) refl
-  register_ended (Flag k) = local_local ended_name (flag_name k) refl
-  register_ended (Mark k) = local_local ended_name (mark_name k) refl
-  register_ended Over = local_older ended_name (register_at scope Over) places.frame.over_older
+  register_ended : (has : Registered) (x : Register) → are_apart ended (register_at has scope x) ≡ true
+  register_ended has (Counter k) = local_older ended_name (register_at has scope (Counter k)) places.frame.frame_older
+  register_ended has (Before k) = local_local ended_name (rested_name k) refl
+  register_ended has (Flag k) = local_local ended_name (flag_name (with_word has.words k)) refl
+  register_ended has (Mark k) = local_local ended_name (mark_name (with_word has.words k)) refl
+  register_ended has Over = local_older ended_name (register_at has scope Over) places.frame.over_older
 
-  pub register_same : (has : Registered) → RegistersApart has scope → RegistersBeside site scope → (x : Register) (way : List Projection) →
-      value_at after (register_at scope x) way ≡ value_at here (register_at scope x) way
+  pub register_same : (has : Registered) → RegistersApart has scope → RegistersBeside has site scope → (x : Register) (way : List Projection) →
+      value_at after (register_at has scope x) way ≡ value_at here (register_at has scope x) way
   register_same has apart beside x =
-      let p = register_at scope x in
+      let p = register_at has scope x in
       place_same p (foreign_register site unit remembers scope places active held_here none has apart beside x)
-      (apart_flip p f (register_inner scope places.frame n [] x))
+      (apart_flip p f (register_inner scope has places.frame n [] x))
       (λ it.
       apart_flip p m
-      (last_further p (remembered_at scope) (member (callee_name n) ∷ []) (register_stands scope site (remembered_at scope) (places.memory (so it)) x)))
-      (register_given x) (register_ended x)
+      (last_further p (remembered_at scope) (member (callee_name n) ∷ [])
+      (register_stands scope has site (remembered_at scope) (places.memory (so it)) x)))
+      (register_given has x) (register_ended has x)
 
   -- ---- copies
 

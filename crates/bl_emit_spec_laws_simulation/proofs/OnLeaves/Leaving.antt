@@ -199,7 +199,7 @@ module _ (laws : Laws) (structs : List StructDef) (units : List UnitDef) (entry 
       (λ x var there held.
       remembering.each i i (frame_at scope) (remembered_at scope) (frame_at scope) (remembered_at scope) x var memories.here there held)
 
-  registers_stand : RegistersApart (registered a) scope × RegistersBeside site scope
+  registers_stand : RegistersApart (registered a) scope × RegistersBeside (registered a) site scope
   registers_stand =
       laws.registers site (registered a) scope (compiled.registers k unit there active) places.frame
       (pointers_older site unit remembers scope places) places.frame_apart places.over_apart

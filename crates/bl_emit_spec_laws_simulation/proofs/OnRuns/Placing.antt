@@ -20,11 +20,11 @@ use Rattle.bl_emit_acts.specs.Types.{copy_name, variable_name}
 use Rattle.bl_emit_acts_laws_simulation.specs.Acts.{copy_location}
 use Rattle.bl_emit_acts_laws_simulation.specs.Frames.{is_older, remembered_at}
 use Rattle.bl_emit_acts_laws_simulation.specs.Encodes.{are_apart, home_at, lead_in, location_in, start_in, ways_part}
-use Rattle.bl_emit_spec.specs.Names.{NumberedWord, callee_name, flag_name, mark_name, rested_name}
-use Rattle.bl_emit_spec_laws.specs.Registers.Registers.{Before, Counter, Flag, Mark, Over, Register, frame_at, register_at}
+use Rattle.bl_emit_spec.specs.Names.{NumberedWord, callee_name, flag_name, mark_name, rested_name, with_word}
+use Rattle.bl_emit_spec_laws.specs.Registers.Registers.{Before, Counter, Flag, Mark, Over, Register, Registered, frame_at, register_at}
 use Rattle.bl_machine_pass.specs.Registers.{Registers}
 use Rattle.bl_machine_pass_laws_execution.specs.Frames.{Frames}
-use Rattle.bl_emit_spec_laws.specs.Calls.Built.{Activities, run_by, site_at}
+use Rattle.bl_emit_spec_laws.specs.Calls.Built.{Activities, activity_at, registered, run_by, site_at}
 use Rattle.bl_emit_spec_laws.specs.Calls.Memories.{MemoryEncodes, inner}
 use Rattle.bl_emit_spec_laws.specs.Calls.Invariant.{PassRepresents, PlacesAreSeparate, result_at_c}
 use Rattle.bl_emit_spec_laws_nodes.proofs.OnPoints.Apart.{first_further, last_further, lies_apart, older_differs, register_inner}
@@ -33,7 +33,7 @@ use Rattle.bl_emit_spec_laws_nodes.proofs.OnPoints.Changes.{holds_same}
 
 -- a place has nothing in common with registers, variables, copies and the result
 pub record Beside (site : TypingContext) (unit : UnitDef) (scope : Scope) (place : Location) : Type 0 where
-  pub registers : (x : Register) → are_apart place (register_at scope x) ≡ true
+  pub registers : (has : Registered) (x : Register) → are_apart place (register_at has scope x) ≡ true
   pub variables : (k : ℕ) (var : Var) → var_at site k ≡ Some var → are_apart place (location_in scope site k []) ≡ true
   pub copies : (k : ℕ) → are_apart place (copy_location scope site.vars k) ≡ true
   pub result : is_some unit.result ≡ true → are_apart place (result_at_c scope) ≡ true
@@ -57,7 +57,10 @@ stands_beside w activities i unit scope frames after_frames store copies r here 
     let site = site_at w activities i in
     let after = set_at here place held in record {
       registers = record {
-        each = λ x its. kept_at here place held (register_at scope x) (beside.registers x) [] ∙ stands.registers.each x its;
+        each = λ x its.
+            kept_at here place held (register_at (registered (activity_at w activities i)) scope x)
+            (beside.registers (registered (activity_at w activities i)) x) []
+            ∙ stands.registers.each x its;
       };
       variables = record {
         each = λ k var value there is.
@@ -104,18 +107,18 @@ module _ (site : TypingContext) (unit : UnitDef) (remembers : Bool) (scope : Sco
     -- a local whose name is none of these
     pub record OtherName (name : Text) : Type 0 where
       pub rested : (k : ℕ) → bytes_eq name (rested_name k) ≡ false
-      pub flag : (k : ℕ) → bytes_eq name (flag_name k) ≡ false
-      pub mark : (k : ℕ) → bytes_eq name (mark_name k) ≡ false
+      pub flag : (k : NumberedWord) → bytes_eq name (flag_name k) ≡ false
+      pub mark : (k : NumberedWord) → bytes_eq name (mark_name k) ≡ false
       pub variable : (k : ℕ) → bytes_eq name (variable_name site.vars k) ≡ false
       pub copy : (k : ℕ) → bytes_eq name (copy_name site.vars k) ≡ false
 
     module _ (name : Text) (other : OtherName name) where
-      local_register : (x : Register) → are_apart (named_location scope false name) (register_at scope x) ≡ true
-      local_register (Counter k) = local_older scope name (register_at scope (Counter k)) places.frame.frame_older
-      local_register (Before k) = local_local scope name (rested_name k) (other.rested k)
-      local_register (Flag k) = local_local scope name (flag_name k) (other.flag k)
-      local_register (Mark k) = local_local scope name (mark_name k) (other.mark k)
-      local_register Over = local_older scope name (register_at scope Over) places.frame.over_older
+      local_register : (has : Registered) (x : Register) → are_apart (named_location scope false name) (register_at has scope x) ≡ true
+      local_register has (Counter k) = local_older scope name (register_at has scope (Counter k)) places.frame.frame_older
+      local_register has (Before k) = local_local scope name (rested_name k) (other.rested k)
+      local_register has (Flag k) = local_local scope name (flag_name (with_word has.words k)) (other.flag (with_word has.words k))
+      local_register has (Mark k) = local_local scope name (mark_name (with_word has.words k)) (other.mark (with_word has.words k))
+      local_register has Over = local_older scope name (register_at has scope Over) places.frame.over_older
 
       local_variable : (k : ℕ) (var : Var) → var_at site k ≡ Some var → are_apart (named_location scope false name) (location_in scope site k []) ≡ true
       local_variable k var there = by (is_activity site.kind) (home_at site k) refl refl
@@ -168,7 +171,7 @@ module _ (site : TypingContext) (unit : UnitDef) (remembers : Bool) (scope : Sco
 
       pub frame_beside : Beside site unit scope place
       frame_beside = record {
-        registers = λ x. apart_flip (register_at scope x) place (register_inner scope places.frame n [] x);
+        registers = λ has x. apart_flip (register_at has scope x) place (register_inner scope has places.frame n [] x);
         variables = frame_variable;
         copies = λ k. older_local (copy_name site.vars k);
         result = λ one. inside (result_at_c scope) (apart_flip (result_at_c scope) (frame_at scope) (places.result one).frame);

@@ -85,7 +85,8 @@ module _ (frames_apart : FramesApart) (keep : RegistersKeepApart) (structs : Lis
         (λ x var there held.
         remembering.each i i (frame_at scope) (remembered_at scope) (frame_at scope) (remembered_at scope) x var memories.here there held)
 
-    registers_stand : RegistersApart (registered (activity_at w activities i)) scope × RegistersBeside site scope
+    registers_stand : RegistersApart (registered (activity_at w activities i)) scope
+        × RegistersBeside (registered (activity_at w activities i)) site scope
     registers_stand =
         keep site (registered (activity_at w activities i)) scope
         (midway.compiled.registers k unit midway.function.is_there midway.function.active) places.frame
@@ -183,7 +184,7 @@ module _ (frames_apart : FramesApart) (keep : RegistersKeepApart) (structs : Lis
         written_stands variables inside result = record {
           registers = record {
             each = λ x its.
-                same_at (register_at scope x)
+                same_at (register_at (registered (activity_at w activities i)) scope x)
                 (foreign_register site unit remembers scope places midway.function.active held_here copied
                 (registered (activity_at w activities i)) registers_stand.0 registers_stand.1 x) []
                 ∙ midway.stands.registers.each x its;

@@ -163,6 +163,7 @@ use Rattle.bl_emit_spec.specs.Blocks.{
   may_end_in,
   merged_code,
   name_in,
+  node_word,
   node_turn,
   own_code,
   rested_at,
@@ -361,19 +362,19 @@ module _ (weight : Text → ℕ) (prelude : (word : Text) (s : ScalarType) → w
       by true = tree_few (c_truth true) (truth_few true) And (length tests) tests (slots_few view needed.slots)
       by false = tree_few (c_truth false) (truth_few false) Or (length tests) tests (slots_few view needed.slots)
 
-  mark_few : (view : ActivityView) (m : Node) → ExprFew (c_read (mark_place (view.number m)))
-  mark_few view m = reads_few (mark_place (view.number m)) (local_few (mark_name (view.number m)))
+  mark_few : (view : ActivityView) (m : Node) → ExprFew (c_read (mark_place (node_word view m)))
+  mark_few view m = reads_few (mark_place (node_word view m)) (local_few (mark_name (node_word view m)))
 
   aged_few : (view : ActivityView) (age : Age) (ends : CExpr) → ExprFew ends → ExprFew (aged_test view age ends)
-  aged_few view (IsNew m) ends all = two-light weight prelude n And (c_read (mark_place (view.number m))) ends (mark_few view m) all
+  aged_few view (IsNew m) ends all = two-light weight prelude n And (c_read (mark_place (node_word view m))) ends (mark_few view m) all
   aged_few view (IsOld m) ends all =
-      two-light weight prelude n And (c_not (c_read (mark_place (view.number m)))) ends
-      (same-light weight prelude n (calls_in (c_not (c_read (mark_place (view.number m))))) (calls_in (c_read (mark_place (view.number m))))
-      (not-calls (c_read (mark_place (view.number m)))) (mark_few view m)) all
+      two-light weight prelude n And (c_not (c_read (mark_place (node_word view m)))) ends
+      (same-light weight prelude n (calls_in (c_not (c_read (mark_place (node_word view m))))) (calls_in (c_read (mark_place (node_word view m))))
+      (not-calls (c_read (mark_place (node_word view m)))) (mark_few view m)) all
   aged_few view IsAny ends all = all
 
   guard_few : (view : ActivityView) (m : Node) (condition : Condition) → ExprFew (guard_of view m condition)
-  guard_few view m Flagged = reads_few (flag_place (view.number m)) (local_few (flag_name (view.number m)))
+  guard_few view m Flagged = reads_few (flag_place (node_word view m)) (local_few (flag_name (node_word view m)))
   guard_few view m (Rested slot) = rested_few view slot
   guard_few view m (RestedIn slots) = in_few view slots
   guard_few view m (Ended age needed) = aged_few view age (ends_test view needed) (ends_few view needed)
@@ -392,7 +393,7 @@ module _ (weight : Text → ℕ) (prelude : (word : Text) (s : ScalarType) → w
   sets_few place e one other = set_few weight prelude n place e one other
 
   flag_few : (view : ActivityView) (m : Node) → StmtFew (flagged_now view m)
-  flag_few view m = sets_few (flag_place (view.number m)) (c_truth true) (local_few (flag_name (view.number m))) (truth_few true)
+  flag_few view m = sets_few (flag_place (node_word view m)) (c_truth true) (local_few (flag_name (node_word view m))) (truth_few true)
 
   freed_few : (view : ActivityView) (k : ℕ) → StmtFew (freed view k)
   freed_few view k = sets_few (counter_place k) (counter_value view.sizes k 0) (member_few (codes "f") (counter_name k)) (value_few view k 0)
@@ -413,12 +414,12 @@ module _ (weight : Text → ℕ) (prelude : (word : Text) (s : ScalarType) → w
   change_few view (ClearsCounter k) = one_few weight prelude n (freed view k) (freed_few view k)
   change_few view (ClearsBoth k) = forgotten_few view k (view.is_read k)
   change_few view (SetsMark m) =
-      one_few weight prelude n (c_set (mark_place (view.number m)) (c_truth true))
-      (sets_few (mark_place (view.number m)) (c_truth true) (local_few (mark_name (view.number m))) (truth_few true))
+      one_few weight prelude n (c_set (mark_place (node_word view m)) (c_truth true))
+      (sets_few (mark_place (node_word view m)) (c_truth true) (local_few (mark_name (node_word view m))) (truth_few true))
   change_few view (EndsWhen start surface depth) =
       one_few weight prelude n
-      (c_if (c_read (mark_place (view.number start))) (flagged_now view surface ∷ []) (Some (flagged_now view depth ∷ [])))
-      (if_few (c_read (mark_place (view.number start))) (flagged_now view surface ∷ []) (Some (flagged_now view depth ∷ [])) (mark_few view start)
+      (c_if (c_read (mark_place (node_word view start))) (flagged_now view surface ∷ []) (Some (flagged_now view depth ∷ [])))
+      (if_few (c_read (mark_place (node_word view start))) (flagged_now view surface ∷ []) (Some (flagged_now view depth ∷ [])) (mark_few view start)
       (one_few weight prelude n (flagged_now view surface) (flag_few view surface))
       (one_few weight prelude n (flagged_now view depth) (flag_few view depth)))
   change_few view Finishes =
@@ -724,9 +725,9 @@ module _ (weight : Text → ℕ) (prelude : (word : Text) (s : ScalarType) → w
     entry_few : (body : Block) → CodeFew (entry_code view body)
     entry_few Done = none_few weight prelude n
     entry_few (Then s rest) =
-        one_few weight prelude n (c_set (flag_place (view.number (entry s))) (c_two Eq (c_read (counter_place 0)) (counter_value view.sizes 0 0)))
-        (sets_few (flag_place (view.number (entry s))) (c_two Eq (c_read (counter_place 0)) (counter_value view.sizes 0 0))
-        (local_few (flag_name (view.number (entry s))))
+        one_few weight prelude n (c_set (flag_place (node_word view (entry s))) (c_two Eq (c_read (counter_place 0)) (counter_value view.sizes 0 0)))
+        (sets_few (flag_place (node_word view (entry s))) (c_two Eq (c_read (counter_place 0)) (counter_value view.sizes 0 0))
+        (local_few (flag_name (node_word view (entry s))))
         (two-light weight prelude n Eq (c_read (counter_place 0)) (counter_value view.sizes 0 0)
         (reads_few (counter_place 0) (member_few (codes "f") (counter_name 0))) (value_few view 0 0)))
 

@@ -64,14 +64,15 @@ use Rattle.bl_emit_spec.specs.Activities.{
   struct_member,
   word_of_run,
 }
-use Rattle.bl_emit_spec.specs.Blocks.{Sizes, name_in}
-use Rattle.bl_emit_spec.specs.Names.{NumberedWord, callee_name, ended_name, flag_name, numbered_word}
+use Rattle.bl_emit_spec.specs.Blocks.{ActivityView, Sizes, name_in, node_word}
+use Rattle.bl_emit_spec.specs.Names.{NumberedWord, callee_name, ended_name, flag_name, numbered_word, with_word}
 use Rattle.bl_emit_spec_laws_wellformed.specs.Names.{FrameDiffers, LocalsDiffer, MemoryDiffers, NumbersDiffer}
 use Rattle.bl_emit_spec_laws_wellformed.specs.Names.{are_numbers, flag_number, mark_number, mark_numbers}
 use Rattle.bl_emit_spec_laws_wellformed.proofs.OnNames.Names.{word_family, word_family-begins, word_family-distinct, word_letter-new}
 use Rattle.bl_emit_spec_laws_wellformed.proofs.OnNames.Names.{words_apart, among-both, and-left, and-right, begins-append}
 use Rattle.bl_emit_spec_laws_wellformed.proofs.OnNames.Names.{both, family, family-begins, family-distinct, named_family, named_family-begins}
 use Rattle.bl_emit_spec_laws_wellformed.proofs.OnNames.Names.{named_family-distinct, named_letter-new}
+use Rattle.bl_emit_spec_laws_wellformed.proofs.OnNames.Names.{worded_family, worded_family-begins, worded_family-distinct, worded_letter-new}
 use Rattle.bl_emit_spec_laws_wellformed.proofs.OnNames.Names.{letter-new, neither, not-among, not-false, one-distinct, some_begins}
 use Rattle.bl_emit_spec_laws_wellformed.proofs.OnNames.Numbers.{chosen, chosen-numbers, filtered-numbers, first-numbers, position-numbers, positions}
 
@@ -93,6 +94,10 @@ members_append xs ys = map-append (λ (m : CMember). m.name) xs ys
 family_append : (b : ℕ) (xs ys : List ℕ) → family b (xs ++ ys) ≡ family b xs ++ family b ys
 family_append b xs ys = map-append (λ k. b ∷ decimal k) xs ys
 
+worded_family_append : (words : ℕ → Text) (b : ℕ) (xs ys : List ℕ) →
+    worded_family words b (xs ++ ys) ≡ worded_family words b xs ++ worded_family words b ys
+worded_family_append words b xs ys = map-append (λ k. b ∷ numbered_word (with_word words k)) xs ys
+
 named_family_append : (vars : List Var) (b : ℕ) (xs ys : List ℕ) → named_family vars b (xs ++ ys) ≡ named_family vars b xs ++ named_family vars b ys
 named_family_append vars b xs ys = map-append (λ k. b ∷ numbered_name vars k) xs ys
 
@@ -106,45 +111,47 @@ copy_names : (a : Activity) (ks : List ℕ) → local_names (map (copy_local a) 
 copy_names a [] = refl
 copy_names a (k ∷ ks) = ap (λ rest. (112 ∷ numbered_name a.unit.vars k) ∷ rest) (copy_names a ks)
 
-flag_names : (number : Node → ℕ) (rules : List Transition) →
-    local_names (joined (map (flag_local number) rules)) ≡ family 103 (joined (map (flag_number number) rules))
-flag_names number [] = refl
-flag_names number (rule ∷ rules) =
-    locals_append (flag_local number rule) (joined (map (flag_local number) rules))
-    ∙ (λ i. one i ++ flag_names number rules i) ∙ sym (family_append 103 (flag_number number rule) (joined (map (flag_number number) rules)))
+flag_names : (view : ActivityView) (rules : List Transition) →
+    local_names (joined (map (flag_local view) rules)) ≡ worded_family view.word 103 (joined (map (flag_number view.number) rules))
+flag_names view [] = refl
+flag_names view (rule ∷ rules) =
+    locals_append (flag_local view rule) (joined (map (flag_local view) rules))
+    ∙ (λ i. one i ++ flag_names view rules i)
+    ∙ sym (worded_family_append view.word 103 (flag_number view.number rule) (joined (map (flag_number view.number) rules)))
   where
-    one : local_names (flag_local number rule) ≡ family 103 (flag_number number rule)
-    one = by (is_flagged rule.condition) (scalar_local OfBool (flag_name (number rule.node))) refl
+    one : local_names (flag_local view rule) ≡ worded_family view.word 103 (flag_number view.number rule)
+    one = by (is_flagged rule.condition) (scalar_local OfBool (flag_name (node_word view rule.node))) refl
       where
-        by : (b : Bool) (l : CLocal) → l.name ≡ 103 ∷ decimal (number rule.node) →
-            local_names (if b then l ∷ [] else []) ≡ family 103 (if b then number rule.node ∷ [] else [])
+        by : (b : Bool) (l : CLocal) → l.name ≡ 103 ∷ numbered_word (node_word view rule.node) →
+            local_names (if b then l ∷ [] else []) ≡ worded_family view.word 103 (if b then view.number rule.node ∷ [] else [])
         by true l is = ap (λ name. name ∷ []) is
         by false l is = refl
 
-change_names : (number : Node → ℕ) (change : Change) → local_names (mark_local number change) ≡ family 117 (mark_number number change)
-change_names number (SetsFlag n) = refl
-change_names number (SetsCounter slot) = refl
-change_names number (ClearsCounter k) = refl
-change_names number (ClearsBoth k) = refl
-change_names number (SetsMark n) = refl
-change_names number (EndsWhen start surface depth) = refl
-change_names number Finishes = refl
+change_names : (view : ActivityView) (change : Change) →
+    local_names (mark_local view change) ≡ worded_family view.word 117 (mark_number view.number change)
+change_names view (SetsFlag n) = refl
+change_names view (SetsCounter slot) = refl
+change_names view (ClearsCounter k) = refl
+change_names view (ClearsBoth k) = refl
+change_names view (SetsMark n) = refl
+change_names view (EndsWhen start surface depth) = refl
+change_names view Finishes = refl
 
-changes_names : (number : Node → ℕ) (changes : List Change) →
-    local_names (joined (map (mark_local number) changes)) ≡ family 117 (joined (map (mark_number number) changes))
-changes_names number [] = refl
-changes_names number (change ∷ changes) =
-    locals_append (mark_local number change) (joined (map (mark_local number) changes))
-    ∙ (λ i. change_names number change i ++ changes_names number changes i)
-    ∙ sym (family_append 117 (mark_number number change) (joined (map (mark_number number) changes)))
+changes_names : (view : ActivityView) (changes : List Change) →
+    local_names (joined (map (mark_local view) changes)) ≡ worded_family view.word 117 (joined (map (mark_number view.number) changes))
+changes_names view [] = refl
+changes_names view (change ∷ changes) =
+    locals_append (mark_local view change) (joined (map (mark_local view) changes))
+    ∙ (λ i. change_names view change i ++ changes_names view changes i)
+    ∙ sym (worded_family_append view.word 117 (mark_number view.number change) (joined (map (mark_number view.number) changes)))
 
-mark_names : (number : Node → ℕ) (rules : List Transition) →
-    local_names (joined (map (mark_locals number) rules)) ≡ family 117 (joined (map (mark_numbers number) rules))
-mark_names number [] = refl
-mark_names number (rule ∷ rules) =
-    locals_append (mark_locals number rule) (joined (map (mark_locals number) rules))
-    ∙ (λ i. changes_names number rule.on_true i ++ mark_names number rules i)
-    ∙ sym (family_append 117 (mark_numbers number rule) (joined (map (mark_numbers number) rules)))
+mark_names : (view : ActivityView) (rules : List Transition) →
+    local_names (joined (map (mark_locals view) rules)) ≡ worded_family view.word 117 (joined (map (mark_numbers view.number) rules))
+mark_names view [] = refl
+mark_names view (rule ∷ rules) =
+    locals_append (mark_locals view rule) (joined (map (mark_locals view) rules))
+    ∙ (λ i. changes_names view rule.on_true i ++ mark_names view rules i)
+    ∙ sym (worded_family_append view.word 117 (mark_numbers view.number rule) (joined (map (mark_numbers view.number) rules)))
 
 -- ---- the locals of `run`s
 
@@ -241,14 +248,14 @@ module _ (a : Activity) where
   -- ---- all locals
 
   module _ (differ : NumbersDiffer a) where
-    abbrev number : Node → ℕ
-    number = (activity_view a).number
+    abbrev view : ActivityView
+    view = activity_view a
 
     abbrev flags : List ℕ
-    flags = joined (map (flag_number number) (first_rules a))
+    flags = joined (map (flag_number view.number) (first_rules a))
 
     abbrev marks : List ℕ
-    marks = joined (map (mark_numbers number) (rules_at a))
+    marks = joined (map (mark_numbers view.number) (rules_at a))
 
     abbrev runs : List RunAt
     runs = runs_in_body a
@@ -257,10 +264,10 @@ module _ (a : Activity) where
     from_copies = named_family a.unit.vars 112 (copied_in a) ++ names_of_runs runs
 
     abbrev from_marks : List Text
-    from_marks = family 117 marks ++ from_copies
+    from_marks = worded_family view.word 117 marks ++ from_copies
 
     abbrev from_flags : List Text
-    from_flags = family 103 flags ++ from_marks
+    from_flags = worded_family view.word 103 flags ++ from_marks
 
     abbrev all_locals : List Text
     all_locals = family 119 (counters_read a) ++ from_flags
@@ -269,13 +276,15 @@ module _ (a : Activity) where
     locals_are =
         let of_runs : List CLocal = ended_local runs ++ joined (map (run_locals a) runs) in
         let of_copies : List CLocal = map (copy_local a) (copied_in a) in
-        let of_marks : List CLocal = joined (map (mark_locals number) (rules_at a)) in
-        let of_flags : List CLocal = joined (map (flag_local number) (first_rules a)) in
+        let of_marks : List CLocal = joined (map (mark_locals view) (rules_at a)) in
+        let of_flags : List CLocal = joined (map (flag_local view) (first_rules a)) in
         locals_append (map (rested_local a.sizes) (counters_read a)) (of_flags ++ (of_marks ++ (of_copies ++ of_runs)))
         ∙ (λ i. rested_names a.sizes (counters_read a) i ++ locals_append of_flags (of_marks ++ (of_copies ++ of_runs)) i)
-        ∙ (λ i. family 119 (counters_read a) ++ (flag_names number (first_rules a) i ++ locals_append of_marks (of_copies ++ of_runs) i))
-        ∙ (λ i. family 119 (counters_read a) ++ (family 103 flags ++ (mark_names number (rules_at a) i ++ locals_append of_copies of_runs i)))
-        ∙ (λ i. family 119 (counters_read a) ++ (family 103 flags ++ (family 117 marks ++ (copy_names a (copied_in a) i ++ run_names runs i))))
+        ∙ (λ i. family 119 (counters_read a) ++ (flag_names view (first_rules a) i ++ locals_append of_marks (of_copies ++ of_runs) i))
+        ∙ (λ i. family 119 (counters_read a)
+        ++ (worded_family view.word 103 flags ++ (mark_names view (rules_at a) i ++ locals_append of_copies of_runs i)))
+        ∙ (λ i. family 119 (counters_read a)
+        ++ (worded_family view.word 103 flags ++ (worded_family view.word 117 marks ++ (copy_names a (copied_in a) i ++ run_names runs i))))
 
     copies_numbers : are_numbers (copied_in a) ≡ true
     copies_numbers = filtered-numbers (is_copied (copies_of a.unit)) (length a.unit.vars) differ.variables
@@ -289,8 +298,8 @@ module _ (a : Activity) where
         nat_eq b 114 ≡ false → some_begins b all_locals ≡ false
     none_begins b w g u p e r =
         begins-append b (family 119 (counters_read a)) from_flags (family-begins b 119 (counters_read a) w)
-        (begins-append b (family 103 flags) from_marks (family-begins b 103 flags g)
-        (begins-append b (family 117 marks) from_copies (family-begins b 117 marks u)
+        (begins-append b (worded_family view.word 103 flags) from_marks (worded_family-begins view.word b 103 flags g)
+        (begins-append b (worded_family view.word 117 marks) from_copies (worded_family-begins view.word b 117 marks u)
         (begins-append b (named_family a.unit.vars 112 (copied_in a)) (names_of_runs runs) (named_family-begins a.unit.vars b 112 (copied_in a) p)
         (runs_begin b runs e r))))
 
@@ -298,23 +307,23 @@ module _ (a : Activity) where
     letter_none : (b : ℕ) → is_among (b ∷ []) all_locals ≡ false
     letter_none b =
         among-both (b ∷ []) (family 119 (counters_read a)) from_flags (letter-new b 119 (counters_read a) read_numbers)
-        (among-both (b ∷ []) (family 103 flags) from_marks (letter-new b 103 flags differ.flags)
-        (among-both (b ∷ []) (family 117 marks) from_copies (letter-new b 117 marks differ.marks)
+        (among-both (b ∷ []) (worded_family view.word 103 flags) from_marks (worded_letter-new view.word b 103 flags differ.flags)
+        (among-both (b ∷ []) (worded_family view.word 117 marks) from_copies (worded_letter-new view.word b 117 marks differ.marks)
         (among-both (b ∷ []) (named_family a.unit.vars 112 (copied_in a)) (names_of_runs runs) (named_letter-new a.unit.vars b 112 (copied_in a) copies_numbers)
         (runs_letter b runs differ.runs))))
 
     locals_distinct : are_distinct all_locals ≡ true
     locals_distinct =
         family-distinct 119 (counters_read a) from_flags read_numbers
-        (begins-append 119 (family 103 flags) from_marks (family-begins 119 103 flags refl)
-        (begins-append 119 (family 117 marks) from_copies (family-begins 119 117 marks refl)
+        (begins-append 119 (worded_family view.word 103 flags) from_marks (worded_family-begins view.word 119 103 flags refl)
+        (begins-append 119 (worded_family view.word 117 marks) from_copies (worded_family-begins view.word 119 117 marks refl)
         (begins-append 119 (named_family a.unit.vars 112 (copied_in a)) (names_of_runs runs) (named_family-begins a.unit.vars 119 112 (copied_in a) refl)
         (runs_begin 119 runs refl refl))))
-        (family-distinct 103 flags from_marks differ.flags
-        (begins-append 103 (family 117 marks) from_copies (family-begins 103 117 marks refl)
+        (worded_family-distinct view.word 103 flags from_marks differ.flags
+        (begins-append 103 (worded_family view.word 117 marks) from_copies (worded_family-begins view.word 103 117 marks refl)
         (begins-append 103 (named_family a.unit.vars 112 (copied_in a)) (names_of_runs runs) (named_family-begins a.unit.vars 103 112 (copied_in a) refl)
         (runs_begin 103 runs refl refl)))
-        (family-distinct 117 marks from_copies differ.marks
+        (worded_family-distinct view.word 117 marks from_copies differ.marks
         (begins-append 117 (named_family a.unit.vars 112 (copied_in a)) (names_of_runs runs) (named_family-begins a.unit.vars 117 112 (copied_in a) refl)
         (runs_begin 117 runs refl refl))
         (named_family-distinct a.unit.vars 112 (copied_in a) (names_of_runs runs) copies_numbers (runs_begin 112 runs refl refl)

@@ -14,7 +14,7 @@ use Rattle.bl_tree.specs.declared.tree.Var.{Var}
 use Rattle.bl_tree.specs.Words.{are_distinct, is_among}
 use Rattle.bl_emit_acts.specs.Types.{numbered_name, source_name}
 use Rattle.bl_emit_acts_laws_simulation.proofs.NumberedNames.{names_differ, words_differ}
-use Rattle.bl_emit_spec.specs.Names.{NumberedWord, numbered_word}
+use Rattle.bl_emit_spec.specs.Names.{NumberedWord, numbered_word, with_word}
 use Rattle.bl_emit_spec_laws_wellformed.specs.Names.{are_numbers}
 
 pub and-left : (a b : Bool) → (a && b) ≡ true → a ≡ true
@@ -253,6 +253,21 @@ module _ {X : Type 0} (word : X → NumberedWord) where
 
   pub word_letter-new : (b c : ℕ) (xs : List X) → are_numbers (map (λ x. (word x).number) xs) ≡ true → is_among (b ∷ []) (word_family c xs) ≡ false
   word_letter-new = lettered-longer text_of (λ x. (word x).number) (λ b x y. words_apart b b (word x) (word y)) word_some
+
+-- the names that are a letter with one of some numbers and its word
+abbrev pub worded_family : (ℕ → Text) → ℕ → List ℕ → List Text
+worded_family words b ks = word_family (with_word words) b ks
+
+pub worded_family-begins : (words : ℕ → Text) (b c : ℕ) (ks : List ℕ) → nat_eq b c ≡ false → some_begins b (worded_family words c ks) ≡ false
+worded_family-begins words = word_family-begins (with_word words)
+
+pub worded_family-distinct : (words : ℕ → Text) (b : ℕ) (ks : List ℕ) (others : List Text) → are_numbers ks ≡ true → some_begins b others ≡ false →
+    are_distinct others ≡ true → are_distinct (worded_family words b ks ++ others) ≡ true
+worded_family-distinct words b ks others all =
+    word_family-distinct (with_word words) b ks others (ap are_numbers (itself ks) ∙ all)
+
+pub worded_letter-new : (words : ℕ → Text) (b c : ℕ) (ks : List ℕ) → are_numbers ks ≡ true → is_among (b ∷ []) (worded_family words c ks) ≡ false
+worded_letter-new words b c ks all = word_letter-new (with_word words) b c ks (ap are_numbers (itself ks) ∙ all)
 
 -- a name before others
 pub one-distinct : (x : Text) (others : List Text) → is_among x others ≡ false → are_distinct others ≡ true →

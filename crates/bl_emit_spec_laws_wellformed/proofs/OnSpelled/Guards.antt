@@ -58,6 +58,7 @@ use Rattle.bl_emit_spec.specs.Blocks.{
   in_tree,
   is_greatest,
   last_value,
+  node_word,
   rested_at,
   rested_between,
   rested_by,
@@ -120,11 +121,11 @@ counter-fits d k some small =
 pub rested-fits : (d k : ℕ) → 1 ≤ d → k < 2 ^ 64 → place_fits d (rested_place k) ≡ true
 rested-fits d k some small = place-fits d false (rested_name k) [] some (numbered-name 119 k refl refl small) refl
 
-pub flag-fits : (d k : ℕ) → 1 ≤ d → k < 2 ^ 64 → place_fits d (flag_place k) ≡ true
-flag-fits d k some small = place-fits d false (flag_name k) [] some (numbered-name 103 k refl refl small) refl
+pub flag-fits : (d : ℕ) (k : NumberedWord) → 1 ≤ d → Spells k → place_fits d (flag_place k) ≡ true
+flag-fits d k some its = place-fits d false (flag_name k) [] some (spelled-name 103 k refl refl its) refl
 
-pub mark-fits : (d k : ℕ) → 1 ≤ d → k < 2 ^ 64 → place_fits d (mark_place k) ≡ true
-mark-fits d k some small = place-fits d false (mark_name k) [] some (numbered-name 117 k refl refl small) refl
+pub mark-fits : (d : ℕ) (k : NumberedWord) → 1 ≤ d → Spells k → place_fits d (mark_place k) ≡ true
+mark-fits d k some its = place-fits d false (mark_name k) [] some (spelled-name 117 k refl refl its) refl
 
 pub ended-fits : (d : ℕ) → 1 ≤ d → place_fits d ended_place ≡ true
 ended-fits d some = place-fits d false ended_name [] some ended-word refl
@@ -349,20 +350,20 @@ in-fits view (slot ∷ more ∷ rest) h =
     within-fits view slot.counter slot.value (last_value more.value rest) (slot_low view.sizes slot first) (slot_value view.sizes slot first)
     (last_fits view.sizes slot.counter slot.value (more ∷ rest) (slot_value view.sizes slot first) others same)
 
-module _ (view : ActivityView) (numbers : (n : Node) → view.number n < 2 ^ 64) where
+module _ (view : ActivityView) (spells : (n : Node) → Spells (node_word view n)) where
   aged-fits : (age : Age) (ends : CExpr) → expr_fits 67 ends ≡ true → expr_fits 68 (aged_test view age ends) ≡ true
   aged-fits (IsNew n) ends fit =
-      two-fits 67 68 nowhere And (c_read (mark_place (view.number n))) ends (omega arith) refl
-      (read-fits 67 nowhere (mark_place (view.number n)) (mark-fits 67 (view.number n) (omega arith) (numbers n))) fit
+      two-fits 67 68 nowhere And (c_read (mark_place (node_word view n))) ends (omega arith) refl
+      (read-fits 67 nowhere (mark_place (node_word view n)) (mark-fits 67 (node_word view n) (omega arith) (spells n))) fit
   aged-fits (IsOld n) ends fit =
-      two-fits 67 68 nowhere And (c_not (c_read (mark_place (view.number n)))) ends (omega arith) refl
-      (not-fits 66 67 (c_read (mark_place (view.number n))) (omega arith)
-      (read-fits 66 nowhere (mark_place (view.number n)) (mark-fits 66 (view.number n) (omega arith) (numbers n)))) fit
+      two-fits 67 68 nowhere And (c_not (c_read (mark_place (node_word view n)))) ends (omega arith) refl
+      (not-fits 66 67 (c_read (mark_place (node_word view n))) (omega arith)
+      (read-fits 66 nowhere (mark_place (node_word view n)) (mark-fits 66 (node_word view n) (omega arith) (spells n)))) fit
   aged-fits IsAny ends fit = expr_fits-more 67 68 ends (omega arith) fit
 
   -- what is asked before a node acts
   pub guard-fits : (n : Node) (condition : Condition) → condition_fits view.sizes condition ≡ true → expr_fits 68 (guard_of view n condition) ≡ true
-  guard-fits n Flagged h = read-fits 68 nowhere (flag_place (view.number n)) (flag-fits 68 (view.number n) (omega arith) (numbers n))
+  guard-fits n Flagged h = read-fits 68 nowhere (flag_place (node_word view n)) (flag-fits 68 (node_word view n) (omega arith) (spells n))
   guard-fits n (Rested slot) h = expr_fits-more 3 68 (rested_at view slot) (omega arith) (slot-rested view slot h)
   guard-fits n (RestedIn slots) h = expr_fits-more 5 68 (rested_in view slots) (omega arith) (in-fits view slots h)
   guard-fits n (Ended age needed) h =
@@ -375,7 +376,7 @@ module _ (view : ActivityView) (numbers : (n : Node) → view.number n < 2 ^ 64)
   flagged-fits : (d : ℕ) (n : Node) → 2 ≤ d → stmt_fits d (flagged_now view n) ≡ true
   flagged-fits d n some =
       let one : 1 ≤ d = omega (arith, some) in
-      set-fits d nowhere (flag_place (view.number n)) (c_truth true) (flag-fits d (view.number n) one (numbers n)) (truth-fits d true some)
+      set-fits d nowhere (flag_place (node_word view n)) (c_truth true) (flag-fits d (node_word view n) one (spells n)) (truth-fits d true some)
 
   freed-fits : (d k : ℕ) → 2 ≤ d → k < 2 ^ 64 → stmt_fits d (freed view k) ≡ true
   freed-fits d k some small =
@@ -400,13 +401,13 @@ module _ (view : ActivityView) (numbers : (n : Node) → view.number n < 2 ^ 64)
   change-is (ClearsCounter k) h = one-fits 3 (freed view k) (freed-fits 3 k (omega arith) (low k h))
   change-is (ClearsBoth k) h = forgotten-fits 3 k (view.is_read k) (omega arith) (low k h)
   change-is (SetsMark n) h =
-      one-fits 3 (c_set (mark_place (view.number n)) (c_truth true))
-      (set-fits 3 nowhere (mark_place (view.number n)) (c_truth true) (mark-fits 3 (view.number n) (omega arith) (numbers n))
+      one-fits 3 (c_set (mark_place (node_word view n)) (c_truth true))
+      (set-fits 3 nowhere (mark_place (node_word view n)) (c_truth true) (mark-fits 3 (node_word view n) (omega arith) (spells n))
       (truth-fits 3 true (omega arith)))
   change-is (EndsWhen start surface depth) h =
-      one-fits 3 (c_if (c_read (mark_place (view.number start))) (flagged_now view surface ∷ []) (Some (flagged_now view depth ∷ [])))
-      (else-fits 2 3 (c_read (mark_place (view.number start))) (flagged_now view surface ∷ []) (flagged_now view depth ∷ []) (omega arith)
-      (read-fits 2 nowhere (mark_place (view.number start)) (mark-fits 2 (view.number start) (omega arith) (numbers start)))
+      one-fits 3 (c_if (c_read (mark_place (node_word view start))) (flagged_now view surface ∷ []) (Some (flagged_now view depth ∷ [])))
+      (else-fits 2 3 (c_read (mark_place (node_word view start))) (flagged_now view surface ∷ []) (flagged_now view depth ∷ []) (omega arith)
+      (read-fits 2 nowhere (mark_place (node_word view start)) (mark-fits 2 (node_word view start) (omega arith) (spells start)))
       (one-fits 2 (flagged_now view surface) (flagged-fits 2 surface (omega arith)))
       (one-fits 2 (flagged_now view depth) (flagged-fits 2 depth (omega arith))))
   change-is Finishes h =

@@ -65,6 +65,7 @@ use Rattle.bl_emit_spec.specs.Blocks.{
   merged_code,
   name_in,
   node_turn,
+  node_word,
   own_code,
   resumed_code,
   run_args,
@@ -162,7 +163,7 @@ returned-fits site exprs s e is h =
     by (Some r) h = same_there (Some (scalar r)) (type_of site e) h
 
 module _ (view : ActivityView) (few : length view.site.vars ≤ 2 ^ 64)
-    (numbers : (n : Node) → view.number n < 2 ^ 64) (places : (at : Place) → view.run at < 2 ^ 64)
+    (node_spells : (n : Node) → Spells (node_word view n)) (places : (at : Place) → view.run at < 2 ^ 64)
     (names : list_all words.is_name (map (λ (def : StructDef). def.name) view.site.structs) ≡ true)
     (named : (f : ℕ) (callee : UnitDef) → slice_get view.site.earlier f ≡ Some callee → words.is_name callee.name ≡ true)
     (vars_named : list_all words.is_name (names_of view.site.vars) ≡ true)
@@ -313,13 +314,13 @@ module _ (view : ActivityView) (few : length view.site.vars ≤ 2 ^ 64)
   -- the changes of a rule
   on_true-fits : (rule : Transition) → rule_fits view.sizes rule ≡ true → stmts_fit 3 (changes_code view rule.on_true) ≡ true
   on_true-fits rule h =
-      changes-fit view numbers rule.on_true
+      changes-fit view node_spells rule.on_true
       (and_left (list_all (change_fits view.sizes) rule.on_true) (list_all (change_fits view.sizes) rule.on_false)
       (and_right (condition_fits view.sizes rule.condition) _ h))
 
   on_false-fits : (rule : Transition) → rule_fits view.sizes rule ≡ true → stmts_fit 3 (changes_code view rule.on_false) ≡ true
   on_false-fits rule h =
-      changes-fit view numbers rule.on_false
+      changes-fit view node_spells rule.on_false
       (and_right (list_all (change_fits view.sizes) rule.on_true) (list_all (change_fits view.sizes) rule.on_false)
       (and_right (condition_fits view.sizes rule.condition) _ h))
 
@@ -425,7 +426,7 @@ module _ (view : ActivityView) (few : length view.site.vars ≤ 2 ^ 64)
       both (expr_fits 404 (guard_of view rule.node rule.condition))
       (stmts_fit 404 (own_code view rule.node) && stmts_fit 404 (control_code view a rule rule.node))
       (expr_fits-more 68 404 (guard_of view rule.node rule.condition) (omega arith)
-      (guard-fits view numbers rule.node rule.condition (and_left (condition_fits view.sizes rule.condition) _ h)))
+      (guard-fits view node_spells rule.node rule.condition (and_left (condition_fits view.sizes rule.condition) _ h)))
       (both (stmts_fit 404 (own_code view rule.node)) (stmts_fit 404 (control_code view a rule rule.node)) (own-is a rule.node fit)
       (control-is a rule rule.node h fit))
 

@@ -104,7 +104,7 @@ use Rattle.bl_emit_spec.specs.Activities.{
   word_of_run,
   ended_local,
 }
-use Rattle.bl_emit_spec.specs.Blocks.{NodeCode, counter_value, merged_code, name_in}
+use Rattle.bl_emit_spec.specs.Blocks.{ActivityView, NodeCode, counter_value, merged_code, name_in, node_word}
 use Rattle.bl_emit_spec.specs.Names.{NumberedWord, callee_name, counter_name, counter_place, ended_name, flag_name, flag_place, frame_name, given_name}
 use Rattle.bl_emit_spec.specs.Names.{mark_name, rested_name, rested_place}
 use Rattle.bl_emit_spec_laws_wellformed.specs.Spelled.{ActivitiesFit, FramesSpelled, RememberedSpelled, all_fit, node_fits, rule_fits}
@@ -112,6 +112,7 @@ use Rattle.bl_emit_spec_laws_wellformed.proofs.OnSpelled.Guards.{Spells, spelled
 use Rattle.bl_emit_spec_laws_wellformed.proofs.OnSpelled.Guards.{flag-fits, frame-letter, ended-word, nothing-fits, rested-fits, result-letter}
 use Rattle.bl_emit_spec_laws_wellformed.proofs.OnSpelled.Guards.{type-spelled}
 use Rattle.bl_emit_spec_laws_wellformed.proofs.OnSpelled.Nodes.{callee-named, frame-named, merged-fits, run-callee, turn_fits, turns-fit}
+use Rattle.bl_emit_spec_laws_wellformed.proofs.OnSpelled.Words.{number-word}
 
 -- ---- lists
 
@@ -296,6 +297,13 @@ module _ (units : List UnitDef) (entry k : ℕ) (a : Activity) (keeps : IsWellTy
   run_spells run ok =
       record { small = run_low run ok; word = name_bytes (name_in (slice_get a.earlier run.unit)) (run_named run ok) }
 
+  -- the view that blocks have of the activity, and the number and word in the C names of a node
+  abbrev view : ActivityView
+  view = activity_view a
+
+  spells : (n : Node) → Spells (node_word view n)
+  spells n = record { small = numbers n; word = number-word site named own_vars number (callees_in (body_of a)) (rules_at a) (number n) }
+
   -- ---- structs
 
   struct_type : (name : Text) → is_name name ≡ true → spells_type (OfStruct name) ≡ true
@@ -388,19 +396,19 @@ module _ (units : List UnitDef) (entry k : ℕ) (a : Activity) (keeps : IsWellTy
   local_is : (s : ScalarType) (name : Text) → is_c_scalar s ≡ true → is_name name ≡ true → spells_local (scalar_local s name) ≡ true
   local_is s name one other = both (is_c_scalar s) (is_name name) one other
 
-  flag_is : (rule : Transition) → list_all spells_local (flag_local number rule) ≡ true
+  flag_is : (rule : Transition) → list_all spells_local (flag_local view rule) ≡ true
   flag_is rule = by (is_flagged rule.condition)
     where
-      by : (b : Bool) → list_all spells_local (if b then scalar_local OfBool (flag_name (number rule.node)) ∷ [] else []) ≡ true
+      by : (b : Bool) → list_all spells_local (if b then scalar_local OfBool (flag_name (node_word view rule.node)) ∷ [] else []) ≡ true
       by true =
-          both (spells_local (scalar_local OfBool (flag_name (number rule.node)))) true
-          (local_is OfBool (flag_name (number rule.node)) refl (numbered-name 103 (number rule.node) refl refl (numbers rule.node))) refl
+          both (spells_local (scalar_local OfBool (flag_name (node_word view rule.node)))) true
+          (local_is OfBool (flag_name (node_word view rule.node)) refl (spelled-name 103 (node_word view rule.node) refl refl (spells rule.node))) refl
       by false = refl
 
-  mark_is : (change : Change) → list_all spells_local (mark_local number change) ≡ true
+  mark_is : (change : Change) → list_all spells_local (mark_local view change) ≡ true
   mark_is (SetsMark n) =
-      both (spells_local (scalar_local OfBool (mark_name (number n)))) true
-      (local_is OfBool (mark_name (number n)) refl (numbered-name 117 (number n) refl refl (numbers n))) refl
+      both (spells_local (scalar_local OfBool (mark_name (node_word view n)))) true
+      (local_is OfBool (mark_name (node_word view n)) refl (spelled-name 117 (node_word view n) refl refl (spells n))) refl
   mark_is (SetsFlag n) = refl
   mark_is (SetsCounter slot) = refl
   mark_is (ClearsCounter j) = refl
@@ -426,15 +434,15 @@ module _ (units : List UnitDef) (entry k : ℕ) (a : Activity) (keeps : IsWellTy
       let of_results : List CLocal = joined (map (run_locals a) (runs_in_body a)) in
       let of_runs : List CLocal = ended_local (runs_in_body a) ++ of_results in
       let of_copies : List CLocal = map (copy_local a) (copied_in a) in
-      let of_marks : List CLocal = joined (map (mark_locals number) (rules_at a)) in
-      let of_flags : List CLocal = joined (map (flag_local number) (first_rules a)) in
+      let of_marks : List CLocal = joined (map (mark_locals view) (rules_at a)) in
+      let of_flags : List CLocal = joined (map (flag_local view) (first_rules a)) in
       all_append spells_local (map (rested_local a.sizes) (counters_read a)) (of_flags ++ (of_marks ++ (of_copies ++ of_runs)))
       (all_mapped spells_local (rested_local a.sizes) (counters_read a)
       (all_filtered (λ j. spells_local (rested_local a.sizes j)) (activity_view a).is_read (up_to (length a.sizes))
       (all_below (λ j. spells_local (rested_local a.sizes j)) (length a.sizes) rested_is)))
-      (all_append spells_local of_flags (of_marks ++ (of_copies ++ of_runs)) (joined_each spells_local (flag_local number) flag_is (first_rules a))
+      (all_append spells_local of_flags (of_marks ++ (of_copies ++ of_runs)) (joined_each spells_local (flag_local view) flag_is (first_rules a))
       (all_append spells_local of_marks (of_copies ++ of_runs)
-      (joined_each spells_local (mark_locals number) (λ rule. joined_each spells_local (mark_local number) mark_is rule.on_true) (rules_at a))
+      (joined_each spells_local (mark_locals view) (λ rule. joined_each spells_local (mark_local view) mark_is rule.on_true) (rules_at a))
       (all_append spells_local of_copies of_runs
       (all_mapped spells_local (copy_local a) (copied_in a)
       (all_filtered (λ j. spells_local (copy_local a j)) _ (up_to (length a.unit.vars))
@@ -482,9 +490,9 @@ module _ (units : List UnitDef) (entry k : ℕ) (a : Activity) (keeps : IsWellTy
     entry_is Done = refl
     entry_is (Then s rest) =
         let first : 0 < 2 ^ 64 = omega arith in
-        one-fits 405 (c_set (flag_place (number (entry_node s))) (c_two Eq (c_read (counter_place 0)) (counter_value a.sizes 0 0)))
-        (set-fits 405 nowhere (flag_place (number (entry_node s))) (c_two Eq (c_read (counter_place 0)) (counter_value a.sizes 0 0))
-        (flag-fits 405 (number (entry_node s)) (omega arith) (numbers (entry_node s)))
+        one-fits 405 (c_set (flag_place (node_word view (entry_node s))) (c_two Eq (c_read (counter_place 0)) (counter_value a.sizes 0 0)))
+        (set-fits 405 nowhere (flag_place (node_word view (entry_node s))) (c_two Eq (c_read (counter_place 0)) (counter_value a.sizes 0 0))
+        (flag-fits 405 (node_word view (entry_node s)) (omega arith) (spells (entry_node s)))
         (two-fits 2 405 nowhere Eq (c_read (counter_place 0)) (counter_value a.sizes 0 0) (omega arith) refl
         (read-fits 2 nowhere (counter_place 0) (counter-fits 2 0 (omega arith) first)) (nothing-fits 2 a.sizes 0 (omega arith))))
 
@@ -502,7 +510,7 @@ module _ (units : List UnitDef) (entry k : ℕ) (a : Activity) (keeps : IsWellTy
         (all_filtered (λ j. stmt_fits 405 (c_copied site j)) _ (up_to (length a.unit.vars))
         (all_below (λ j. stmt_fits 405 (c_copied site j)) (length a.unit.vars) copied_is)))
         (blocks-fit (turns_in_source a) a.blocks
-        (turns-fit (activity_view a) few numbers (place_small (rules_at a)) names named own_vars typed_here exprs paths acts (callees_in (body_of a))
+        (turns-fit (activity_view a) few spells (place_small (rules_at a)) names named own_vars typed_here exprs paths acts (callees_in (body_of a))
         (rules_at a) fitted))))
 
     pub activity-fits : func_fits 2000 (activity_function a) ≡ true

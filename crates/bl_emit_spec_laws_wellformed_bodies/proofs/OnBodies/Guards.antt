@@ -34,9 +34,9 @@ use Rattle.bl_emit_acts_laws_wellformed.proofs.OnFormed.Prelude.{type_same}
 use Rattle.bl_emit_functions_laws_wellformed.proofs.OnFormed.Shapes.{if-is}
 use Rattle.bl_emit_spec.specs.Activities.{Activity, activity_view}
 use Rattle.bl_emit_spec.specs.Blocks.{ActivityView, all_tests, at_slot, change_code, changes_code, counter_type, counter_value, ends_test, flagged_now}
-use Rattle.bl_emit_spec.specs.Blocks.{forgotten, freed, guard_of, in_pairs, in_tree, is_greatest, last_value, rested_at, rested_by, rested_from}
+use Rattle.bl_emit_spec.specs.Blocks.{forgotten, freed, guard_of, in_pairs, in_tree, is_greatest, last_value, node_word, rested_at, rested_by, rested_from}
 use Rattle.bl_emit_spec.specs.Blocks.{rested_in, rested_since, rested_to, rested_within, some_test, type_for}
-use Rattle.bl_emit_spec.specs.Names.{counter_place, flag_place, mark_place, over_place, rested_place}
+use Rattle.bl_emit_spec.specs.Names.{counter_place, flag_place, mark_place, over_place, rested_place, with_word}
 use Rattle.bl_emit_spec_laws.specs.Registers.Laws.{asks_its_own, changes_its_own}
 use Rattle.bl_emit_spec_laws.specs.Calls.Built.{registered}
 use Rattle.bl_emit_spec_laws_wellformed_bodies.proofs.OnBodies.Variables.{Here, context, counter-is, flag-is, mark-is, over-is, rested-is, site}
@@ -182,22 +182,22 @@ module _ (units : List UnitDef) (entry k : ℕ) (a : Activity) (table : Table (T
       by false =
           tree-is here (c_truth false) Or _ (map (at_slot view) needed.slots) refl (truth-is here false) (ends-are needed.slots all)
 
-  read-mark : (n : ℕ) → (registered a).marks n ≡ true → ExprIs here bool_type (c_read (mark_place n))
-  read-mark n on = read-is here false bool_type (mark_place n) (mark-is units entry k a table known h n on)
+  read-mark : (n : ℕ) → (registered a).marks n ≡ true → ExprIs here bool_type (c_read (mark_place (with_word view.word n)))
+  read-mark n on = read-is here false bool_type (mark_place (with_word view.word n)) (mark-is units entry k a table known h n on)
 
   -- what is asked before a node acts
   pub guard-is : (n : Node) (condition : Condition) → asks_its_own view (registered a) n condition ≡ true → ExprIs here bool_type (guard_of view n condition)
   guard-is n Flagged on =
-      read-is here false bool_type (flag_place (view.number n)) (flag-is units entry k a table known h (view.number n) on)
+      read-is here false bool_type (flag_place (node_word view n)) (flag-is units entry k a table known h (view.number n) on)
   guard-is n (Rested slot) on = slot-rested slot on
   guard-is n (RestedIn slots) on = in-is slots (and_left (list_all (λ (slot : Slot). view.is_read slot.counter) slots) _ on)
   guard-is n (Ended (IsNew m) needed) on =
-      two-is here And bool_type (c_read (mark_place (view.number m))) (ends_test view needed) refl refl
+      two-is here And bool_type (c_read (mark_place (node_word view m))) (ends_test view needed) refl refl
       (read-mark (view.number m) (and_left ((registered a).marks (view.number m)) _ on))
       (ends-is needed (and_right ((registered a).marks (view.number m)) _ on))
   guard-is n (Ended (IsOld m) needed) on =
-      two-is here And bool_type (c_not (c_read (mark_place (view.number m)))) (ends_test view needed) refl refl
-      (not-is here (c_read (mark_place (view.number m))) (read-mark (view.number m) (and_left ((registered a).marks (view.number m)) _ on)))
+      two-is here And bool_type (c_not (c_read (mark_place (node_word view m)))) (ends_test view needed) refl refl
+      (not-is here (c_read (mark_place (node_word view m))) (read-mark (view.number m) (and_left ((registered a).marks (view.number m)) _ on)))
       (ends-is needed (and_right ((registered a).marks (view.number m)) _ on))
   guard-is n (Ended IsAny needed) on = ends-is needed on
 
@@ -205,7 +205,7 @@ module _ (units : List UnitDef) (entry k : ℕ) (a : Activity) (table : Table (T
 
   pub flagged-is : (n : Node) → (registered a).flags (view.number n) ≡ true → StmtIs here (flagged_now view n)
   flagged-is n on =
-      put-is false bool_type (flag_place (view.number n)) (c_truth true) (flag-is units entry k a table known h (view.number n) on) (truth-is here true)
+      put-is false bool_type (flag_place (node_word view n)) (c_truth true) (flag-is units entry k a table known h (view.number n) on) (truth-is here true)
 
   freed-is : (c : ℕ) → (registered a).counters c ≡ true → StmtIs here (freed view c)
   freed-is c on = put-is true (kind c) (counter_place c) (counter_value a.sizes c 0) (counter-is units entry k a table known h c on) (value-is c 0)
@@ -226,16 +226,16 @@ module _ (units : List UnitDef) (entry k : ℕ) (a : Activity) (table : Table (T
   change-is (ClearsCounter c) on = block_one here (freed view c) (freed-is c on)
   change-is (ClearsBoth c) on = forgotten-is c (view.is_read c) refl on
   change-is (SetsMark n) on =
-      block_one here (c_set (mark_place (view.number n)) (c_truth true))
-      (put-is false bool_type (mark_place (view.number n)) (c_truth true) (mark-is units entry k a table known h (view.number n) on) (truth-is here true))
+      block_one here (c_set (mark_place (node_word view n)) (c_truth true))
+      (put-is false bool_type (mark_place (node_word view n)) (c_truth true) (mark-is units entry k a table known h (view.number n) on) (truth-is here true))
   change-is (EndsWhen start surface depth) on =
       let marks : Bool = (registered a).marks (view.number start) in
       let first : Bool = (registered a).flags (view.number surface) in
       let second : Bool = (registered a).flags (view.number depth) in
       let other : BlockIs here (flagged_now view depth ∷ []) =
       block_one here (flagged_now view depth) (flagged-is depth (and_right first second (and_right marks (first && second) on))) in
-      block_one here (c_if (c_read (mark_place (view.number start))) (flagged_now view surface ∷ []) (Some (flagged_now view depth ∷ [])))
-      (if-is here (c_read (mark_place (view.number start))) (flagged_now view surface ∷ []) (Some (flagged_now view depth ∷ []))
+      block_one here (c_if (c_read (mark_place (node_word view start))) (flagged_now view surface ∷ []) (Some (flagged_now view depth ∷ [])))
+      (if-is here (c_read (mark_place (node_word view start))) (flagged_now view surface ∷ []) (Some (flagged_now view depth ∷ []))
       (read-mark (view.number start) (and_left marks (first && second) on))
       (block_one here (flagged_now view surface) (flagged-is surface (and_left first second (and_right marks (first && second) on))))
       (λ looped. other looped))

@@ -57,10 +57,10 @@ use Rattle.bl_emit_spec.specs.Activities.{counter_member, counters_read, first_r
 use Rattle.bl_emit_spec.specs.Activities.{ended_local, mark_local}
 use Rattle.bl_emit_spec.specs.Activities.{mark_locals, memory_member, memory_params, over_param, pointer_param, remembered, remembers_any}
 use Rattle.bl_emit_spec.specs.Activities.{activity_view, rested_local, result_params, rules_at, run_locals, runs_in_body, scalar_local, struct_member}
-use Rattle.bl_emit_spec.specs.Blocks.{counter_type, name_in}
+use Rattle.bl_emit_spec.specs.Blocks.{ActivityView, counter_type, name_in}
 use Rattle.bl_emit_spec.specs.Names.{NumberedWord, callee_frame, callee_memory, callee_name, counter_name}
 use Rattle.bl_emit_spec.specs.Names.{counter_place, ended_name, ended_place, flag_name, flag_place}
-use Rattle.bl_emit_spec.specs.Names.{frame_name, given_name, given_place, mark_name, mark_place, over_place, rested_name, rested_place, result_place}
+use Rattle.bl_emit_spec.specs.Names.{frame_name, given_name, given_place, mark_name, mark_place, over_place, rested_name, rested_place, result_place, with_word}
 use Rattle.bl_emit_spec_laws.specs.Calls.Built.{asks_flag, registered, sets_mark}
 use Rattle.bl_emit_spec_laws_wellformed.specs.Names.{FrameDiffers, LocalsDiffer, MemoryDiffers, NumbersDiffer}
 use Rattle.bl_emit_spec_laws.proofs.OnOwn.Members.{any_found, contains_mapped, here, further}
@@ -172,6 +172,9 @@ module _ (units : List UnitDef) (entry k : ℕ) (a : Activity) (table : Table (T
     (h : Here units entry k a table known) where
   abbrev pub site : TypingContext
   site = (activity_view a).site
+
+  abbrev view : ActivityView
+  view = activity_view a
 
   abbrev pub number : Node → ℕ
   number = (activity_view a).number
@@ -290,10 +293,10 @@ module _ (units : List UnitDef) (entry k : ℕ) (a : Activity) (table : Table (T
       low j n less = grind (arith, nat_tests)
 
   abbrev of_flags : List CLocal
-  of_flags = joined (map (flag_local number) (first_rules a))
+  of_flags = joined (map (flag_local view) (first_rules a))
 
   abbrev of_marks : List CLocal
-  of_marks = joined (map (mark_locals number) (rules_at a))
+  of_marks = joined (map (mark_locals view) (rules_at a))
 
   abbrev of_copies : List CLocal
   of_copies = map (copy_local a) (copied_in a)
@@ -319,27 +322,32 @@ module _ (units : List UnitDef) (entry k : ℕ) (a : Activity) (table : Table (T
   both_ends true false is = absurd (cc)
   both_ends false y is = absurd (cc)
 
-  pub flag-is : (n : ℕ) → (registered a).flags n ≡ true → PlaceIs context false bool_type (flag_place n)
+  -- the locals for the flag and the mark of a number
+  abbrev flag : ℕ → CLocal
+  flag n = scalar_local OfBool (flag_name (with_word view.word n))
+
+  abbrev mark : ℕ → CLocal
+  mark n = scalar_local OfBool (mark_name (with_word view.word n))
+
+  pub flag-is : (n : ℕ) → (registered a).flags n ≡ true → PlaceIs context false bool_type (flag_place (with_word view.word n))
   flag-is n on =
       let one = any_found (asks_flag number n) (first_rules a) on in
       let tests = both_ends (is_flagged one.one.condition) (nat_eq n (number one.one.node)) one.on in
       let same : n ≡ number one.one.node = eqb-true n (number one.one.node) tests.1 in
-      local-place OfBool (flag_name n)
-      (Contains-append_right of_rested (of_flags ++ (of_marks ++ (of_copies ++ of_runs))) (scalar_local OfBool (flag_name n))
-      (Contains-append_left of_flags (of_marks ++ (of_copies ++ of_runs)) (scalar_local OfBool (flag_name n))
-      (joined-has (flag_local number) (first_rules a) one.one (scalar_local OfBool (flag_name n)) one.there
-      (subst (λ m. Contains (flag_local number one.one) (scalar_local OfBool (flag_name m))) (sym same)
+      local-place OfBool (flag_name (with_word view.word n))
+      (Contains-append_right of_rested (of_flags ++ (of_marks ++ (of_copies ++ of_runs))) (flag n)
+      (Contains-append_left of_flags (of_marks ++ (of_copies ++ of_runs)) (flag n)
+      (joined-has (flag_local view) (first_rules a) one.one (flag n) one.there
+      (subst (λ m. Contains (flag_local view one.one) (flag m)) (sym same)
       (by one.one (is_flagged one.one.condition) tests.0)))))
     where
-      by : (rule : Transition) (b : Bool) → b ≡ true → Contains (if b then scalar_local OfBool (flag_name (number rule.node)) ∷ [] else [])
-          (scalar_local OfBool (flag_name (number rule.node)))
-      by rule true is = here (scalar_local OfBool (flag_name (number rule.node))) []
+      by : (rule : Transition) (b : Bool) → b ≡ true → Contains (if b then flag (number rule.node) ∷ [] else []) (flag (number rule.node))
+      by rule true is = here (flag (number rule.node)) []
       by rule false is = absurd (cc)
 
-  marks_there : (n : ℕ) (change : Change) → sets_mark number n change ≡ true → Contains (mark_local number change) (scalar_local OfBool (mark_name n))
+  marks_there : (n : ℕ) (change : Change) → sets_mark number n change ≡ true → Contains (mark_local view change) (mark n)
   marks_there n (SetsMark m) on =
-      subst (λ j. Contains (scalar_local OfBool (mark_name (number m)) ∷ []) (scalar_local OfBool (mark_name j)))
-      (sym (eqb-true n (number m) on)) (here (scalar_local OfBool (mark_name (number m))) [])
+      subst (λ j. Contains (mark (number m) ∷ []) (mark j)) (sym (eqb-true n (number m) on)) (here (mark (number m)) [])
   marks_there n (SetsFlag m) on = absurd (cc)
   marks_there n (SetsCounter slot) on = absurd (cc)
   marks_there n (ClearsCounter j) on = absurd (cc)
@@ -347,16 +355,16 @@ module _ (units : List UnitDef) (entry k : ℕ) (a : Activity) (table : Table (T
   marks_there n (EndsWhen start surface depth) on = absurd (cc)
   marks_there n Finishes on = absurd (cc)
 
-  pub mark-is : (n : ℕ) → (registered a).marks n ≡ true → PlaceIs context false bool_type (mark_place n)
+  pub mark-is : (n : ℕ) → (registered a).marks n ≡ true → PlaceIs context false bool_type (mark_place (with_word view.word n))
   mark-is n on =
       let one = any_found (λ (rule : Transition). list_any (sets_mark number n) rule.on_true) (rules_at a) on in
       let change = any_found (sets_mark number n) one.one.on_true one.on in
-      local-place OfBool (mark_name n)
-      (Contains-append_right of_rested (of_flags ++ (of_marks ++ (of_copies ++ of_runs))) (scalar_local OfBool (mark_name n))
-      (Contains-append_right of_flags (of_marks ++ (of_copies ++ of_runs)) (scalar_local OfBool (mark_name n))
-      (Contains-append_left of_marks (of_copies ++ of_runs) (scalar_local OfBool (mark_name n))
-      (joined-has (mark_locals number) (rules_at a) one.one (scalar_local OfBool (mark_name n)) one.there
-      (joined-has (mark_local number) one.one.on_true change.one (scalar_local OfBool (mark_name n)) change.there (marks_there n change.one change.on))))))
+      local-place OfBool (mark_name (with_word view.word n))
+      (Contains-append_right of_rested (of_flags ++ (of_marks ++ (of_copies ++ of_runs))) (mark n)
+      (Contains-append_right of_flags (of_marks ++ (of_copies ++ of_runs)) (mark n)
+      (Contains-append_left of_marks (of_copies ++ of_runs) (mark n)
+      (joined-has (mark_locals view) (rules_at a) one.one (mark n) one.there
+      (joined-has (mark_local view) one.one.on_true change.one (mark n) change.there (marks_there n change.one change.on))))))
 
   pub over-is : PlaceIs context true bool_type over_place
   over-is =

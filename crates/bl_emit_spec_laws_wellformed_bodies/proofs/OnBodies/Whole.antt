@@ -50,7 +50,7 @@ use Rattle.bl_emit_spec.specs.Activities.{
   runs_in_body,
   turns_in_source,
 }
-use Rattle.bl_emit_spec.specs.Blocks.{ActivityView, counter_type, counter_value}
+use Rattle.bl_emit_spec.specs.Blocks.{ActivityView, counter_type, counter_value, node_word}
 use Rattle.bl_emit_spec.specs.Names.{counter_place, flag_place, rested_place}
 use Rattle.bl_emit_spec_laws.specs.Calls.Built.{registered}
 use Rattle.bl_emit_spec_laws_wellformed.specs.Names.{FrameDiffers, LocalsDiffer, MemoryDiffers}
@@ -130,9 +130,9 @@ module _ (units : List UnitDef) (entry k : ℕ) (a : Activity) (table : Table (T
   entry-is Done is = block_nil here
   entry-is (Then s rest) is =
       let flag : (registered a).flags (view.number (entry_of s)) ≡ true = h.owns.begins s rest is in
-      let set : CStmt = c_set (flag_place (view.number (entry_of s))) (c_two Eq (c_read (counter_place 0)) (counter_value a.sizes 0 0)) in
+      let set : CStmt = c_set (flag_place (node_word view (entry_of s))) (c_two Eq (c_read (counter_place 0)) (counter_value a.sizes 0 0)) in
       block_one here set
-      (put-is units entry k a table known h false bool_type (flag_place (view.number (entry_of s)))
+      (put-is units entry k a table known h false bool_type (flag_place (node_word view (entry_of s)))
       (c_two Eq (c_read (counter_place 0)) (counter_value a.sizes 0 0))
       (flag-is units entry k a table known h (view.number (entry_of s)) flag)
       (begins-is units entry k a table known h (is_below 0 (length a.sizes) h.owns.some)))

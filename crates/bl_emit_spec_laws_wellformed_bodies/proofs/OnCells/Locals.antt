@@ -10,7 +10,6 @@ use Rattle.bl_tree.specs.declared.scalar.Scalar.{Scalar as ScalarType}
 use Rattle.bl_tree.specs.declared.tree.Unit.{Unit as UnitDef}
 use Rattle.bl_tree.specs.Program.{parameters_of}
 use Rattle.bl_tree.specs.Reduce.{joined, total}
-use Rattle.bl_graph_nodes.specs.Nodes.{Node}
 use Rattle.bl_machine.specs.Blocks.{up_to}
 use Rattle.bl_machine_pass.specs.Transitions.{Change, ClearsBoth, ClearsCounter, EndsWhen, Finishes, SetsCounter, SetsFlag, SetsMark, Transition}
 use Rattle.bl_ctext_semantics.specs.Sizes.{Sizes, size_of_member, size_of_param, size_of_type}
@@ -47,6 +46,7 @@ use Rattle.bl_emit_acts.specs.Acts.{is_copied}
 use Rattle.bl_emit_spec_laws_wellformed.proofs.OnNumbers.Whole.{first-less}
 use Rattle.bl_emit_spec_laws_wellformed.specs.Costs.{extras, marks_in}
 use Rattle.bl_emit_spec_laws_wellformed.specs.Numbers.{EachStandsOnce}
+use Rattle.bl_emit_spec.specs.Blocks.{ActivityView}
 use Rattle.bl_emit_spec.specs.Names.{NumberedWord}
 
 -- ---- sums
@@ -85,40 +85,40 @@ module _ (known : Sizes) where
       by true rest = let first = one k in omega (arith, first, rest)
       by false rest = omega (arith, rest)
 
-  flag-one : (number : Node → ℕ) (rule : Transition) → cells (flag_local number rule) ≡ one_where (is_flagged rule.condition)
-  flag-one number rule = by (is_flagged rule.condition) _ refl
+  flag-one : (view : ActivityView) (rule : Transition) → cells (flag_local view rule) ≡ one_where (is_flagged rule.condition)
+  flag-one view rule = by (is_flagged rule.condition) _ refl
     where
       by : (b : Bool) (l : CLocal) → size_of_type known l.ty ≡ 1 → cells (if b then l ∷ [] else []) ≡ one_where b
       by true l one = omega (arith, one)
       by false l one = refl
 
-  marks-many : (number : Node → ℕ) (changes : List Change) → cells (joined (map (mark_local number) changes)) ≡ marks_in changes
-  marks-many number [] = refl
-  marks-many number (SetsMark n ∷ rest) = let later = marks-many number rest in omega (arith, later)
-  marks-many number (SetsFlag n ∷ rest) = marks-many number rest
-  marks-many number (SetsCounter slot ∷ rest) = marks-many number rest
-  marks-many number (ClearsCounter k ∷ rest) = marks-many number rest
-  marks-many number (ClearsBoth k ∷ rest) = marks-many number rest
-  marks-many number (EndsWhen start surface depth ∷ rest) = marks-many number rest
-  marks-many number (Finishes ∷ rest) = marks-many number rest
+  marks-many : (view : ActivityView) (changes : List Change) → cells (joined (map (mark_local view) changes)) ≡ marks_in changes
+  marks-many view [] = refl
+  marks-many view (SetsMark n ∷ rest) = let later = marks-many view rest in omega (arith, later)
+  marks-many view (SetsFlag n ∷ rest) = marks-many view rest
+  marks-many view (SetsCounter slot ∷ rest) = marks-many view rest
+  marks-many view (ClearsCounter k ∷ rest) = marks-many view rest
+  marks-many view (ClearsBoth k ∷ rest) = marks-many view rest
+  marks-many view (EndsWhen start surface depth ∷ rest) = marks-many view rest
+  marks-many view (Finishes ∷ rest) = marks-many view rest
 
   -- 1 for a rule that asks for its flag
   abbrev flags_in : Transition → ℕ
   flags_in rule = one_where (is_flagged rule.condition)
 
-  flags-many : (number : Node → ℕ) (listed : List Transition) → cells (joined (map (flag_local number) listed)) ≡ sum_by flags_in listed
-  flags-many number [] = refl
-  flags-many number (rule ∷ listed) =
-      cells-append (flag_local number rule) (joined (map (flag_local number) listed))
-      ∙ (λ i. flag-one number rule i + flags-many number listed i) ∙ sym (sum_by-cons flags_in rule listed)
+  flags-many : (view : ActivityView) (listed : List Transition) → cells (joined (map (flag_local view) listed)) ≡ sum_by flags_in listed
+  flags-many view [] = refl
+  flags-many view (rule ∷ listed) =
+      cells-append (flag_local view rule) (joined (map (flag_local view) listed))
+      ∙ (λ i. flag-one view rule i + flags-many view listed i) ∙ sym (sum_by-cons flags_in rule listed)
 
-  extras-many : (number : Node → ℕ) (listed : List Transition) → sum_by flags_in listed + cells (joined (map (mark_locals number) listed)) ≡ extras listed
-  extras-many number [] = refl
-  extras-many number (rule ∷ listed) =
+  extras-many : (view : ActivityView) (listed : List Transition) → sum_by flags_in listed + cells (joined (map (mark_locals view) listed)) ≡ extras listed
+  extras-many view [] = refl
+  extras-many view (rule ∷ listed) =
       let flags = sum_by-cons flags_in rule listed in
-      let marks = cells-append (mark_locals number rule) (joined (map (mark_locals number) listed)) in
-      let mark = marks-many number rule.on_true in
-      let rest = extras-many number listed in
+      let marks = cells-append (mark_locals view rule) (joined (map (mark_locals view) listed)) in
+      let mark = marks-many view rule.on_true in
+      let rest = extras-many view listed in
       omega (arith, flags, marks, mark, rest)
 
   given-one : (k : NumberedWord) (o : Option ScalarType) → cells (given_local k o) ≤ 1
@@ -147,10 +147,10 @@ module _ (known : Sizes) where
   pub locals-few : (a : Activity) → EachStandsOnce a →
       cells (activity_locals a) ≤ length a.sizes + extras (rules_at a) + length a.unit.vars + 2 * length (runs_in_body a)
   locals-few a once =
-      let number = (activity_view a).number in
+      let view = activity_view a in
       let rested = map (rested_local a.sizes) (counters_read a) in
-      let flags = joined (map (flag_local number) (first_rules a)) in
-      let marks = joined (map (mark_locals number) (rules_at a)) in
+      let flags = joined (map (flag_local view) (first_rules a)) in
+      let marks = joined (map (mark_locals view) (rules_at a)) in
       let copies = map (copy_local a) (copied_in a) in
       let runs = ended_local (runs_in_body a) ++ joined (map (run_locals a) (runs_in_body a)) in
       let first = cells-append rested (flags ++ (marks ++ (copies ++ runs))) in
@@ -159,9 +159,9 @@ module _ (known : Sizes) where
       let fourth = cells-append copies runs in
       let held = some-few (rested_local a.sizes) (λ k. refl) (activity_view a).is_read (up_to (length a.sizes)) in
       let counters = up-length (length a.sizes) in
-      let flagged = flags-many number (first_rules a) in
+      let flagged = flags-many view (first_rules a) in
       let fewer = first-less flags_in a once in
-      let extra = extras-many number (rules_at a) in
+      let extra = extras-many view (rules_at a) in
       let copied = some-few (copy_local a) (λ k. refl) (is_copied (copies_of a.unit)) (up_to (length a.unit.vars)) in
       let vars = up-length (length a.unit.vars) in
       let run = runs-few a (runs_in_body a) in

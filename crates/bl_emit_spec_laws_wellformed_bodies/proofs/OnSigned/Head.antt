@@ -48,7 +48,6 @@ use Rattle.bl_emit_acts_laws_wellformed.proofs.OnFormed.Parts.{c_scalar_type, jo
 use Rattle.bl_emit_acts_laws_wellformed.proofs.OnFormed.TypeNames.{type_declared, whole_type}
 use Rattle.bl_emit_acts_laws_wellformed.proofs.OnFormed.Units.{taken_there, vars_stand}
 use Rattle.bl_emit_structs_laws_wellformed.proofs.OnFormed.Faultless.{all_differ}
-use Rattle.bl_graph_nodes.specs.Nodes.{Node}
 use Rattle.bl_machine_pass.specs.Transitions.{Change, Transition}
 use Rattle.bl_machine_pass.specs.Transitions.{ClearsBoth, ClearsCounter, EndsWhen, Finishes, SetsCounter, SetsFlag, SetsMark}
 use Rattle.bl_emit_spec.specs.Activities.{
@@ -81,6 +80,7 @@ use Rattle.bl_emit_spec.specs.Activities.{
   word_of_run,
   ended_local,
 }
+use Rattle.bl_emit_spec.specs.Blocks.{ActivityView, node_word}
 use Rattle.bl_emit_spec.specs.Names.{NumberedWord, flag_name, frame_name}
 use Rattle.bl_emit_spec_laws_wellformed.specs.Names.{LocalsDiffer, NumbersDiffer}
 use Rattle.bl_emit_spec_laws.proofs.OnOwn.Members.{here}
@@ -165,21 +165,21 @@ module _ (table : Table (Table CMember)) where
   abbrev fine : CLocal → Bool
   fine l = is_declared table l.ty
 
-  flag_fine : (number : Node → ℕ) (rule : Transition) → list_all fine (flag_local number rule) ≡ true
-  flag_fine number rule = by (is_flagged rule.condition) (flag_name (number rule.node))
+  flag_fine : (view : ActivityView) (rule : Transition) → list_all fine (flag_local view rule) ≡ true
+  flag_fine view rule = by (is_flagged rule.condition) (flag_name (node_word view rule.node))
     where
       by : (b : Bool) (name : Text) → list_all fine (if b then scalar_local OfBool name ∷ [] else []) ≡ true
       by true name = refl
       by false name = refl
 
-  mark_fine : (number : Node → ℕ) (change : Change) → list_all fine (mark_local number change) ≡ true
-  mark_fine number (SetsMark n) = refl
-  mark_fine number (SetsFlag n) = refl
-  mark_fine number (SetsCounter slot) = refl
-  mark_fine number (ClearsCounter c) = refl
-  mark_fine number (ClearsBoth c) = refl
-  mark_fine number (EndsWhen start surface depth) = refl
-  mark_fine number Finishes = refl
+  mark_fine : (view : ActivityView) (change : Change) → list_all fine (mark_local view change) ≡ true
+  mark_fine view (SetsMark n) = refl
+  mark_fine view (SetsFlag n) = refl
+  mark_fine view (SetsCounter slot) = refl
+  mark_fine view (ClearsCounter c) = refl
+  mark_fine view (ClearsBoth c) = refl
+  mark_fine view (EndsWhen start surface depth) = refl
+  mark_fine view Finishes = refl
 
   given_fine : (n : NumberedWord) (o : Option ScalarType) → list_all fine (given_local n o) ≡ true
   given_fine n (Some s) = refl
@@ -194,17 +194,17 @@ module _ (table : Table (Table CMember)) where
 
   locals-fine : (a : Activity) → list_all fine (activity_locals a) ≡ true
   locals-fine a =
-      let number : Node → ℕ = (activity_view a).number in
+      let view : ActivityView = activity_view a in
       let of_results : List CLocal = joined (map (run_locals a) (runs_in_body a)) in
       let of_runs : List CLocal = ended_local (runs_in_body a) ++ of_results in
       let of_copies : List CLocal = map (copy_local a) (copied_in a) in
-      let of_marks : List CLocal = joined (map (mark_locals number) (rules_at a)) in
-      let of_flags : List CLocal = joined (map (flag_local number) (first_rules a)) in
+      let of_marks : List CLocal = joined (map (mark_locals view) (rules_at a)) in
+      let of_flags : List CLocal = joined (map (flag_local view) (first_rules a)) in
       all_append fine (map (rested_local a.sizes) (counters_read a)) (of_flags ++ (of_marks ++ (of_copies ++ of_runs)))
       (all_mapped fine (rested_local a.sizes) (counters_read a) (λ c. refl))
-      (all_append fine of_flags (of_marks ++ (of_copies ++ of_runs)) (all_joined fine (flag_local number) (first_rules a) (flag_fine number))
+      (all_append fine of_flags (of_marks ++ (of_copies ++ of_runs)) (all_joined fine (flag_local view) (first_rules a) (flag_fine view))
       (all_append fine of_marks (of_copies ++ of_runs)
-      (all_joined fine (mark_locals number) (rules_at a) (λ rule. all_joined fine (mark_local number) rule.on_true (mark_fine number)))
+      (all_joined fine (mark_locals view) (rules_at a) (λ rule. all_joined fine (mark_local view) rule.on_true (mark_fine view)))
       (all_append fine of_copies of_runs (all_mapped fine (copy_local a) (copied_in a) (λ j. refl))
       (all_append fine (ended_local (runs_in_body a)) of_results (ended_fine (runs_in_body a))
       (all_joined fine (run_locals a) (runs_in_body a) (run_fine a))))))

@@ -28,6 +28,7 @@ use Rattle.bl_machine_transitions.specs.Listed.{
   tested_rule,
   resting_rule,
 }
+use Rattle.bl_machine_transitions.specs.declared.transition.Silent.TheVariants as silent
 use Rattle.bl_machine_transitions.specs.Told.{Nothing, NumberedTransition, Task}
 
 -- the numbers that a table has
@@ -116,7 +117,7 @@ abbrev pub joined : Layout → ℕ → ℕ → ℕ → Needed → Age → Change
 joined layout k p places needed age next = record {
   number = layout.number k;
   condition = Ended age needed;
-  task = Nothing;
+  task = Nothing silent.Join;
   on_true = freed layout p places ++ next ∷ [];
   on_false = [];
 }
@@ -157,10 +158,10 @@ abbrev pub watched : Layout → ℕ → ℕ → Guard → Task → Bool → Size
 watched layout k p guard task empty body rests next =
     let ends = when_body_end layout k body.instant in
     let inner = k + guard_nodes body.instant in
-    flagged_rule layout k Nothing (mark_change body.instant (layout.number k) (enter_unless_empty layout empty inner ends ∷ []))
-    ∷ (where_so body.instant (flagged_rule layout (k + 1) Nothing (next ∷ []))
+    flagged_rule layout k (Nothing silent.Start) (mark_change body.instant (layout.number k) (enter_unless_empty layout empty inner ends ∷ []))
+    ∷ (where_so body.instant (flagged_rule layout (k + 1) (Nothing silent.End) (next ∷ []))
     ++ looked layout (k + later body.instant) p body.places rests task (fired layout inner guard empty ends next)
-    ∷ flagged_rule layout (k + last body.instant) Nothing (next ∷ [])
+    ∷ flagged_rule layout (k + last body.instant) (Nothing silent.End) (next ∷ [])
     ∷ [])
 
 -- a node that waits, and one at which the activity is woken
@@ -171,6 +172,6 @@ paused layout k p first second next =
 -- the nodes of a loop with its test at the end
 abbrev pub turned : Layout → ℕ → Task → Bool → Change → List NumberedTransition
 turned layout k task empty next =
-    flagged_rule layout k Nothing (enter_unless_empty layout empty (k + 2) (SetFlag (layout.number (k + 1))) ∷ [])
+    flagged_rule layout k (Nothing silent.Head) (enter_unless_empty layout empty (k + 2) (SetFlag (layout.number (k + 1))) ∷ [])
     ∷ tested_rule layout (k + 1) task (next ∷ []) (SetFlag (layout.number k) ∷ [])
     ∷ []

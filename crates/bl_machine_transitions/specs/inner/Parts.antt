@@ -17,6 +17,7 @@ use Rattle.bl_machine_transitions.specs.declared.transition.Needed.{Needed}
 use Rattle.bl_machine_transitions.specs.declared.size.Fork.{Fork}
 use Rattle.bl_machine_transitions.specs.declared.size.Size.{Size}
 use Rattle.bl_machine_transitions.specs.Listed.{Layout, flagged_rule, fork_nodes, guard_nodes, mark_change, tested_rule, when_body_end}
+use Rattle.bl_machine_transitions.specs.declared.transition.Silent.TheVariants as silent
 use Rattle.bl_machine_transitions.specs.Told.{Acts, Enters, Nothing, NumberedTransition, Resumes, Task, Tests}
 use Rattle.bl_machine_transitions.specs.inner.Joined.{
   all_joined,
@@ -147,7 +148,7 @@ endless body = record {
   empty = false;
   size = sized 1 false body.size;
   rests = body.rests;
-  rules = λ layout k p next. flagged_rule layout k Nothing (enter_unless_empty layout body.empty (k + 1) (SetFlag (layout.number k)) ∷ [])
+  rules = λ layout k p next. flagged_rule layout k (Nothing silent.Head) (enter_unless_empty layout body.empty (k + 1) (SetFlag (layout.number k)) ∷ [])
       ∷ body.rules layout (k + 1) p (SetFlag (layout.number k));
 }
 
@@ -220,7 +221,7 @@ cobegin branches = record {
   rules = λ layout k p next.
       let instant = fork_instant (forked branches) in
       let inner = k + fork_nodes instant in
-      flagged_rule layout k Nothing (mark_change instant (layout.number k) (entry_changes layout inner p branches))
+      flagged_rule layout k (Nothing silent.Fork) (mark_change instant (layout.number k) (entry_changes layout inner p branches))
       ∷ (all_joined layout instant k p (forked branches).places (needs layout p branches) next ++ each layout inner p branches);
 }
 
@@ -231,7 +232,7 @@ abbrev pub kind_part : StmtKind-F (Place → Part) ArmPart BranchPart Part → P
 kind_part (StmtKind-F.Declare k initial) place = act (stmt place (StmtKind-F.Declare k initial))
 kind_part (StmtKind-F.Assign path e) place = act (stmt place (StmtKind-F.Assign path e))
 kind_part (StmtKind-F.Call f inputs outputs) place = act (stmt place (StmtKind-F.Call f inputs outputs))
-kind_part (StmtKind-F.Await e) place = resting_part Nothing (Tests e)
+kind_part (StmtKind-F.Await e) place = resting_part (Nothing silent.Pause) (Tests e)
 kind_part (StmtKind-F.Run target a inputs outputs) place =
     resting_part (Enters place a (arguments_of target inputs outputs)) (Resumes place a (arguments_of target inputs outputs))
 kind_part (StmtKind-F.If arms other) place = if_part place arms (part_of_block other)
