@@ -23,10 +23,10 @@ use Rattle.bl_emit_acts.specs.Types.{c_scalar, copy_name, unit_name}
 use Rattle.bl_emit_functions.specs.Functions.{members_of, memory_name, params_from, struct_of}
 use Rattle.bl_machine_transitions.specs.Runs.{run_number}
 use Rattle.bl_machine_transitions.specs.Told.{NumberedTransition}
-use Rattle.bl_emit_spec.specs.Blocks.{ActivityView, Sizes, counter_value, name_in}
-use Rattle.bl_emit_spec.specs.Names.{callee_name, counter_place, flag_place, frame_name, with_word}
-use Rattle.bl_emit_spec.specs.Activities.{RunAt, blocks_code, copies_of, counter_member, ended_local, given_local, over_param, pointer_param}
-use Rattle.bl_emit_spec.specs.Activities.{rested_code, rested_local, result_params, scalar_local, struct_member, word_of_run}
+use Rattle.bl_emit_spec.specs.Blocks.{ActivityView, Sizes, counter_value, name_in, unit_may_end}
+use Rattle.bl_emit_spec.specs.Names.{callee_name, flag_place, frame_name, with_word}
+use Rattle.bl_emit_spec.specs.Activities.{RunAt, blocks_code, copies_of, counter_member, ended_local, first_place, given_local, over_params, pointer_param}
+use Rattle.bl_emit_spec.specs.Activities.{rested_code, rested_local, result_params, scalar_local, some_ends, struct_member, word_of_run}
 use Rattle.bl_emit_blocks.specs.Numbered.{numbered_turn}
 use Rattle.bl_emit_tables.specs.Told.{flags_told, marks_told, read_told, runs_told}
 use Rattle.bl_emit_tables.specs.Words.{word_told}
@@ -103,12 +103,13 @@ remembers_told a = nat_lt 0 (length (remembered_told a))
 abbrev pub memory_params_told : Text → Bool → List CParam
 memory_params_told name remembers = if remembers then pointer_param (codes "m") (memory_name name) ∷ [] else []
 
--- the parameters of the activity's function: for where it rests, what it remembers, its inputs and outputs, its result, and whether it has ended
+-- the parameters of the activity's function: for where it rests, what it remembers, its inputs and outputs, its result, and whether it has ended, where it
+-- may end
 abbrev pub params_told : List StructDef → UnitDef → Bool → List CParam
 params_told structs unit remembers =
     pointer_param (codes "f") (frame_name unit.name)
     ∷ (memory_params_told unit.name remembers
-    ++ (params_from structs unit.vars 0 (parameters_of unit) ++ (result_params unit.result ++ over_param ∷ [])))
+    ++ (params_from structs unit.vars 0 (parameters_of unit) ++ (result_params unit.result ++ over_params (unit_may_end unit))))
 
 -- the counters of which some rule asks what they held, in order
 abbrev pub counters_told : Sizes → List NumberedTransition → List ℕ
@@ -127,20 +128,22 @@ abbrev pub run_locals_told : List UnitDef → RunAt → List CLocal
 run_locals_told earlier run = given_local (word_of_run earlier run) (option_and_then (λ unit. unit.result) (slice_get earlier run.unit))
 
 -- the locals of the activity's function: copies of counters, flags of the first nodes of blocks, marks, copies of variables, whether what was called has
--- ended, and the results of `run`s
+-- ended, where it may, and the results of `run`s
 abbrev pub locals_by : List UnitDef → UnitDef → ActivityView → List NumberedTransition → List (List ℕ) → List ℕ → List ℕ → List RunAt → List CLocal
 locals_by earlier unit view rules blocks counters copied runs =
     map (rested_local view.sizes) counters
     ++ (flags_told view.word rules blocks
-    ++ (marks_told view.word rules ++ (map (copy_told unit) copied ++ (ended_local runs ++ joined (map (run_locals_told earlier) runs)))))
+    ++ (marks_told view.word rules
+    ++ (map (copy_told unit) copied ++ (ended_local (some_ends earlier runs) ++ joined (map (run_locals_told earlier) runs)))))
 
 -- the locals of the activity
 abbrev pub locals_told : ActivityInput → List CLocal
 locals_told a = locals_by a.earlier a.unit (view_told a) a.rules a.blocks (counters_told a.sizes a.rules) (copied_told a.unit) (runs_told a.rules)
 
--- the node with the number waits where the first counter holds 0: the body begins
+-- the node with the number waits where the first counter held 0: the body begins
 abbrev pub entry_at : ActivityView → ℕ → CStmt
-entry_at view number = c_set (flag_place (with_word view.word number)) (c_two Eq (c_read (counter_place 0)) (counter_value view.sizes 0 0))
+entry_at view number =
+    c_set (flag_place (with_word view.word number)) (c_two Eq (c_read (first_place (view.is_read 0))) (counter_value view.sizes 0 0))
 
 -- the C of an optional entry
 abbrev pub entry_where : ActivityView → Option NumberedTransition → List CStmt

@@ -4,11 +4,12 @@ ghost use Rattle.std.specs.Prelude.{◌≡◌, ◌++◌, IfOk, OnOk, map, option
 ghost use Rattle.bl_emit_acts.specs.Acts.{c_copied};
 ghost use Rattle.bl_emit_blocks.specs.Numbered.{numbered_turn};
 ghost use Rattle.bl_emit_blocks.specs.Views.{view_in};
-ghost use Rattle.bl_emit_spec.specs.Activities.{blocks_code, picked, rested_code};
+ghost use Rattle.bl_emit_spec.specs.Activities.{blocks_code, first_place, picked, rested_code};
 ghost use Rattle.bl_emit_spec.specs.Blocks.{merged_code};
 ghost use Rattle.bl_machine_transitions.specs.Told.{rule_in};
 ghost use Rattle.bl_emit.specs.Activities.{code_by, entry_at, entry_told, entry_where};
 
+use crate::chosen::is_set;
 use crate::names::counter_type;
 use crate::parts::equal;
 use bl_emit_acts::copied as copy_set;
@@ -16,7 +17,7 @@ use bl_emit_acts::parts::{literal, member_at, numbered, read, set, whole};
 use bl_emit_blocks::{ActivityView, merged};
 use bl_emit_tables::node_named;
 use bl_machine_transitions::Transition;
-use bl_tree::c::CStmt;
+use bl_tree::c::{CPlace, CStmt};
 use bl_tree::slices::element;
 use bl_tree::{List, NoMemory};
 use std::alloc::Global;
@@ -41,17 +42,28 @@ fn all_rested(alloc: Global, counters: &[u32]) -> Result<List<CStmt>, NoMemory>
     Ok(made)
 }
 
-/// The node with the number waits where the first counter holds 0.
+/// Where it stands what the first counter held when the tick began: its copy, where it has one.
+fn first(alloc: Global, copied: bool) -> Result<CPlace, NoMemory>
+    ensures { IfOk result (λ place. place ≡ first_place copied) }
+{
+    if copied {
+        Ok(whole(alloc, false, numbered(alloc, "w", 0)?))
+    } else {
+        member_at(alloc, "f", numbered(alloc, "c", 0)?)
+    }
+}
+
+/// The node with the number waits where the first counter held 0.
 fn entered(alloc: Global, view: &ActivityView, number: u32) -> Result<CStmt, NoMemory>
     ensures { IfOk result (λ s. s ≡ entry_at (view_in view.entry.now) number) }
 {
     let at = whole(alloc, false, node_named(alloc, "g", view.words, number)?);
-    let counter = member_at(alloc, "f", numbered(alloc, "c", 0)?)?;
+    let held = first(alloc, is_set(view.read, 0))?;
     let none = literal(counter_type(view.sizes, 0), 0);
-    set(alloc, at, equal(alloc, read(counter), none)?)
+    set(alloc, at, equal(alloc, read(held), none)?)
 }
 
-/// Appends that the node of the rule waits where the first counter holds 0.
+/// Appends that the node of the rule waits where the first counter held 0.
 fn add_entered(
     alloc: Global,
     view: &ActivityView,
@@ -69,7 +81,7 @@ fn add_entered(
     }
 }
 
-/// Appends that the entry waits where the first counter holds 0.
+/// Appends that the entry waits where the first counter held 0.
 #[tactic(auto, using(crate::proofs::RuleLemmas::entry_is))]
 fn add_entry(
     alloc: Global,

@@ -4,7 +4,7 @@ ghost use Rattle.std.specs.Prelude.{◌≡◌, ◌++◌, IfOk, OnOk, map, option
 ghost use Rattle.bl_tree.specs.Reduce.{joined};
 ghost use Rattle.bl_machine_transitions.specs.Told.{rule_in};
 ghost use Rattle.bl_emit_blocks.specs.Views.{view_in};
-ghost use Rattle.bl_emit_spec.specs.Activities.{ended_local, given_local, rested_local};
+ghost use Rattle.bl_emit_spec.specs.Activities.{ended_local, given_local, rested_local, some_ends};
 ghost use Rattle.bl_emit.specs.Activities.{copy_told, locals_by, run_locals_told};
 ghost use Rattle.bl_emit.specs.Kept.{run_in};
 
@@ -14,7 +14,7 @@ use crate::registers::{add_flags, add_marks};
 use crate::runs::RunAt;
 use bl_emit_acts::parts::{named, numbered, worded};
 use bl_emit_acts::scalar_in_c;
-use bl_emit_blocks::ActivityView;
+use bl_emit_blocks::{ActivityView, may_end_at};
 use bl_machine_transitions::Transition;
 use bl_tree::c::CLocal;
 use bl_tree::slices::element;
@@ -113,15 +113,26 @@ fn add_run(
     )
 }
 
-/// Appends the local that tells whether what was called last has ended, where there are `run`s.
-fn add_ended(alloc: Global, runs: &[RunAt], locals: &mut List<CLocal>) -> Result<(), NoMemory>
-    ensures { OnOk result (locals.new ≡ locals.old ++ ended_local (map run_in runs.now)) }
+/// Whether some `run` calls an activity that may end.
+fn some_ends(earlier: &[Unit], runs: &[RunAt]) -> bool
+    ensures { result ≡ some_ends earlier.now (map run_in runs.now) }
 {
-    if runs.is_empty() {
-        return Ok(());
+    for run in runs {
+        if may_end_at(earlier, run.unit) {
+            return true;
+        }
     }
-    let name = Text::copy_of(alloc, "ended")?;
-    locals.push(local(Scalar::Bool, name))?;
+    false
+}
+
+/// Appends the local that tells whether what was called last has ended, where that may be.
+fn add_ended(alloc: Global, ends: bool, locals: &mut List<CLocal>) -> Result<(), NoMemory>
+    ensures { OnOk result (locals.new ≡ locals.old ++ ended_local ends) }
+{
+    if ends {
+        let name = Text::copy_of(alloc, "ended")?;
+        locals.push(local(Scalar::Bool, name))?;
+    }
     Ok(())
 }
 
@@ -141,7 +152,7 @@ fn add_runs(
 }
 
 /// The locals of the function of an activity: what the counters held, flags of the first nodes of blocks, marks, copies of the
-/// variables, whether what was called has ended, and the results of `run`s.
+/// variables, whether what was called has ended, where it may, and the results of `run`s.
 pub fn locals(
     alloc: Global,
     earlier: &[Unit],
@@ -160,7 +171,7 @@ pub fn locals(
     add_flags(alloc, view.words, rules, blocks, &mut made)?;
     add_marks(alloc, view.words, rules, &mut made)?;
     add_copies(alloc, unit, copied, &mut made)?;
-    add_ended(alloc, runs, &mut made)?;
+    add_ended(alloc, some_ends(earlier, runs), &mut made)?;
     add_runs(alloc, earlier, runs, &mut made)?;
     Ok(made)
 }

@@ -1,13 +1,14 @@
 //! The parameters of the function of an activity.
 
 ghost use Rattle.std.specs.Prelude.{◌≡◌, ◌∷◌, ◌++◌, [], IfOk, OnOk, codes};
-ghost use Rattle.bl_emit_spec.specs.Activities.{over_param, pointer_param, result_params};
+ghost use Rattle.bl_emit_spec.specs.Activities.{over_params, pointer_param, result_params};
 ghost use Rattle.bl_emit_spec.specs.Names.{frame_name};
 ghost use Rattle.bl_emit.specs.Activities.{memory_params_told, params_told};
 
 use crate::parts::pointer;
 use bl_emit_acts::parts::{joined, prefixed, single};
 use bl_emit_acts::scalar_in_c;
+use bl_emit_blocks::unit_may_end;
 use bl_emit_functions::params as parameters;
 use bl_tree::c::{CParam, CType};
 use bl_tree::tree::{StructDef, Unit};
@@ -48,16 +49,19 @@ fn add_result(alloc: Global, ty: Option<Scalar>, params: &mut List<CParam>) -> R
     }
 }
 
-/// The parameter by which an activity tells that its body has ended.
-fn over(alloc: Global) -> Result<CParam, NoMemory>
-    ensures { IfOk result (λ made. made ≡ over_param) }
+/// Appends the parameter by which an activity tells that its body has ended.
+fn add_over(alloc: Global, ends: bool, params: &mut List<CParam>) -> Result<(), NoMemory>
+    ensures { OnOk result (params.new ≡ params.old ++ over_params ends) }
 {
-    let name = Text::copy_of(alloc, "e")?;
-    Ok(CParam {
-        ty: CType::Scalar(Scalar::Bool),
-        pointer: true,
-        name,
-    })
+    if ends {
+        let name = Text::copy_of(alloc, "e")?;
+        params.push(CParam {
+            ty: CType::Scalar(Scalar::Bool),
+            pointer: true,
+            name,
+        })?;
+    }
+    Ok(())
 }
 
 /// The parameter for where an activity rests, alone.
@@ -68,7 +72,7 @@ fn frame_alone(alloc: Global, name: &str) -> Result<List<CParam>, NoMemory>
     single(alloc, pointer(alloc, "f", of)?)
 }
 
-/// Where an activity rests, what it remembers, its inputs and outputs, its result, and whether it has ended.
+/// Where an activity rests, what it remembers, its inputs and outputs, its result, and whether it has ended, where it may end.
 pub fn params(
     alloc: Global,
     structs: &[StructDef],
@@ -82,6 +86,6 @@ pub fn params(
     add_memory(alloc, name, remembers, &mut first)?;
     let mut params = joined(first, parameters(alloc, structs, unit)?)?;
     add_result(alloc, unit.result, &mut params)?;
-    params.push(over(alloc)?)?;
+    add_over(alloc, unit_may_end(unit), &mut params)?;
     Ok(params)
 }

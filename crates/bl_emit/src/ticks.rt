@@ -7,7 +7,7 @@ ghost use Rattle.bl_tree.specs.declared.scalar.Width.TheVariants.{W32};
 ghost use Rattle.bl_emit_acts.specs.Trees.{c_literal, c_place, c_read, c_step};
 ghost use Rattle.bl_emit_functions.specs.Trees.{c_if, c_return};
 ghost use Rattle.bl_emit_spec.specs.Activities.{pointer_param};
-ghost use Rattle.bl_emit_spec.specs.Blocks.{unit_may_end, stmt_where};
+ghost use Rattle.bl_emit_spec.specs.Blocks.{arg_where, stmt_where, unit_may_end};
 ghost use Rattle.bl_emit_spec.specs.Programs as programs;
 
 use crate::interface::{inputs, outputs};
@@ -17,7 +17,7 @@ use bl_emit_acts::parts::{
 };
 use bl_emit_blocks::{statement_where, unit_may_end};
 use bl_emit_functions::parts::{choice, returning};
-use bl_tree::c::{CArg, CCall, CExpr, CFunc, CParam, CStmt, CStmtKind};
+use bl_tree::c::{CArg, CCall, CExpr, CFunc, CLocal, CParam, CStmt, CStmtKind};
 use bl_tree::tree::{Unit, Var};
 use bl_tree::{List, NoMemory, Scalar, Text, Width};
 use std::alloc::Global;
@@ -102,6 +102,16 @@ fn add_memory(alloc: Global, remembers: bool, args: &mut List<CArg>) -> Result<(
     Ok(())
 }
 
+/// Appends the place of whether the entry has ended.
+fn add_end(alloc: Global, ends: bool, args: &mut List<CArg>) -> Result<(), NoMemory>
+    ensures { OnOk result (args.new ≡ args.old ++ arg_where ends (Address (c_place false (codes "e") []))) }
+{
+    if ends {
+        args.push(CArg::Address(whole(alloc, false, Text::copy_of(alloc, "e")?)))?;
+    }
+    Ok(())
+}
+
 /// The arguments with which a tick calls the entry.
 fn args(alloc: Global, unit: &Unit, remembers: bool) -> Result<List<CArg>, NoMemory>
     ensures { IfOk result (λ args. args ≡ programs.tick_args unit.now remembers) }
@@ -110,7 +120,7 @@ fn args(alloc: Global, unit: &Unit, remembers: bool) -> Result<List<CArg>, NoMem
     add_memory(alloc, remembers, &mut args)?;
     add_inputs(alloc, inputs(unit), &mut args)?;
     add_outputs(alloc, outputs(unit), &mut args)?;
-    args.push(CArg::Address(whole(alloc, false, Text::copy_of(alloc, "e")?)))?;
+    add_end(alloc, unit_may_end(unit), &mut args)?;
     Ok(args)
 }
 
@@ -162,12 +172,23 @@ fn params(alloc: Global) -> Result<List<CParam>, NoMemory>
     Ok(made)
 }
 
+/// The local of a tick that tells whether the entry has ended, where it may end.
+fn locals(alloc: Global, ends: bool) -> Result<List<CLocal>, NoMemory>
+    ensures { IfOk result (λ made. made ≡ programs.tick_locals ends) }
+{
+    if ends {
+        single(alloc, local(Scalar::Bool, Text::copy_of(alloc, "e")?))
+    } else {
+        Ok(List::new(alloc))
+    }
+}
+
 /// One tick: 1 where the entry has ended, else 0. Fails only for want of memory.
 pub fn tick(alloc: Global, unit: &Unit, remembers: bool) -> Result<CFunc, NoMemory>
     ensures { IfOk result (λ made. made ≡ programs.tick_function unit.now remembers) }
 {
     let params = params(alloc)?;
-    let locals = single(alloc, local(Scalar::Bool, Text::copy_of(alloc, "e")?))?;
+    let locals = locals(alloc, unit_may_end(unit))?;
     let body = body(alloc, unit, remembers)?;
     Ok(CFunc {
         place: NOWHERE,

@@ -92,12 +92,13 @@ module _ (site : TypingContext) (copies : List Bool) (word : ℕ → Text) (size
   run_same : (k : NumberedWord) (a : ℕ) (arguments : Arguments) → run_code v k a arguments ≡ run_code w k a arguments
   run_same k a arguments =
       ap (λ (remembers : Bool).
-      c_set ended_place (c_truth false)
-      ∷ c_calling (c_call (name_of_callee (slice_get site.earlier a))
+      stmt_where (may_end_in (slice_get site.earlier a)) (c_set ended_place (c_truth false))
+      ++ c_calling (c_call (name_of_callee (slice_get site.earlier a))
       (Address (callee_frame k)
       ∷ (arg_where remembers (Address (callee_memory k))
       ++ (call_args site arguments.inputs arguments.outputs
-      ++ (arg_where (has_result (slice_get site.earlier a)) (Address (given_place k)) ++ Address ended_place ∷ []))))) ∷ [])
+      ++ (arg_where (has_result (slice_get site.earlier a)) (Address (given_place k))
+      ++ arg_where (may_end_in (slice_get site.earlier a)) (Address ended_place)))))) ∷ [])
       (keeps a)
 
   target_same : (k : NumberedWord) (target : Option Path) → target_code v k target ≡ target_code w k target

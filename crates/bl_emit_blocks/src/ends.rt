@@ -1,10 +1,11 @@
 //! Which units may end, and what stands in the C of those alone.
 
-ghost use Rattle.std.specs.Prelude.{◌≡◌, IfOk};
+ghost use Rattle.std.specs.Prelude.{◌≡◌, IfOk, slice_get};
 ghost use Rattle.bl_emit_spec.specs.Blocks as blocks;
 
 use bl_emit_acts::parts::single;
 use bl_tree::c::CStmt;
+use bl_tree::slices::element;
 use bl_tree::tree::{Stmt, StmtKind, Unit};
 use bl_tree::{List, NoMemory};
 use std::alloc::Global;
@@ -22,6 +23,16 @@ pub fn unit_may_end(unit: &Unit) -> bool
 {
     match unit.body.as_slice().last() {
         Some(s) => !is_endless(s),
+        None => true,
+    }
+}
+
+/// Whether the unit at a position may end, or is missing.
+pub fn may_end_at(units: &[Unit], k: u32) -> bool
+    ensures { result ≡ blocks.may_end_in (slice_get units.now k) }
+{
+    match element(units, k as usize) {
+        Some(unit) => unit_may_end(unit),
         None => true,
     }
 }

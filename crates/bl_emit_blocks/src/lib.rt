@@ -18,7 +18,7 @@ mod tests;
 mod turn;
 mod view;
 
-pub use ends::{statement_where, unit_may_end};
+pub use ends::{may_end_at, statement_where, unit_may_end};
 pub use laws::blocks_alike;
 pub use merging::merged;
 pub use view::ActivityView;

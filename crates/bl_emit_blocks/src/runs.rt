@@ -14,7 +14,7 @@ ghost use Rattle.bl_emit_spec.specs.Names as names;
 ghost use Rattle.bl_machine_transitions.specs.Told.{arguments_in};
 
 use crate::changes::changes;
-use crate::ends::{statement_where, unit_may_end};
+use crate::ends::{may_end_at, statement_where};
 use crate::places::{callee_frame, callee_memory, ended, given};
 use crate::view::ActivityView;
 use bl_emit_acts::parts::{clear, joined, prefixed, read, set, single, statement};
@@ -53,10 +53,7 @@ fn remembers(view: &ActivityView, a: u32) -> bool
 fn ends(view: &ActivityView, a: u32) -> bool
     ensures { result ≡ blocks.may_end_in (slice_get (view_in view.entry.now).site.earlier a) }
 {
-    match element(view.site.earlier, a as usize) {
-        Some(unit) => unit_may_end(unit),
-        None => true,
-    }
+    may_end_at(view.site.earlier, a)
 }
 
 /// The name of its function.
@@ -156,7 +153,7 @@ fn run_args(alloc: Global, view: &ActivityView, k: u32, run: &Run) -> Result<Lis
     let word = name(view, run.unit);
     let result = given(alloc, k, word)?;
     let args = with_address(args, has_result(view, run.unit), result)?;
-    with_address(args, true, ended(alloc)?)
+    with_address(args, ends(view, run.unit), ended(alloc)?)
 }
 
 // ---- calls
@@ -172,14 +169,14 @@ fn called(alloc: Global, view: &ActivityView, k: u32, run: &Run) -> Result<CStmt
     Ok(statement(CStmtKind::Call(CCall { name, args })))
 }
 
-/// The call, before which the activity hasn't ended.
+/// The call, before which an activity that may end hasn't ended.
 fn run_code(alloc: Global, view: &ActivityView, k: u32, run: &Run) -> Result<List<CStmt>, NoMemory>
     ensures { IfOk result (λ code. code
         ≡ blocks.run_code (view_in view.entry.now) (blocks.run_word (view_in view.entry.now).site.earlier k run.entry.now.unit)
         run.entry.now.unit (arguments_in run.entry.now)) }
 {
     let going = set(alloc, ended(alloc)?, truth(false))?;
-    let mut code = single(alloc, going)?;
+    let mut code = statement_where(alloc, ends(view, run.unit), going)?;
     code.push(called(alloc, view, k, run)?)?;
     Ok(code)
 }

@@ -7,6 +7,7 @@ use Rattle.bl_tree.specs.declared.c.CFunc.{CFunc}
 use Rattle.bl_tree.specs.declared.c.CLocal.{CLocal}
 use Rattle.bl_tree.specs.declared.c.CMember.{CMember}
 use Rattle.bl_tree.specs.declared.c.CParam.{CParam}
+use Rattle.bl_tree.specs.declared.c.CPlace.{CPlace}
 use Rattle.bl_tree.specs.declared.c.CStmt.{CStmt}
 use Rattle.bl_tree.specs.declared.c.CStruct.{CStruct}
 use Rattle.bl_tree.specs.declared.c.CType.TheVariants.{Scalar as OfScalar, Struct as OfStruct}
@@ -32,7 +33,8 @@ use Rattle.bl_emit_functions.specs.Functions.{members_of, memory_name, params_fr
 use Rattle.bl_machine_pass.specs.Transitions.{Change, Condition, Transition}
 use Rattle.bl_machine_pass.specs.Transitions.{Ended, Flagged, Rested, RestedIn, SetsMark, rules}
 pub use Rattle.bl_machine_transitions.specs.Callees.{callees_in, node_number}
-use Rattle.bl_emit_spec.specs.Blocks.{ActivityView, NodeCode, Sizes, counter_type, counter_value, merged_code, name_in, node_word, run_word, turns_of}
+use Rattle.bl_emit_spec.specs.Blocks.{ActivityView, NodeCode, Sizes, counter_type, counter_value, may_end_in, merged_code, name_in, node_word, run_word, turns_of}
+use Rattle.bl_emit_spec.specs.Blocks.{unit_may_end}
 use Rattle.bl_emit_spec.specs.Names.{NumberedWord, callee_name, counter_name, counter_place, ended_name, flag_name, flag_place, frame_name}
 use Rattle.bl_emit_spec.specs.Names.{given_name, mark_name, rested_name, rested_place}
 use Rattle.bl_emit_spec.specs.Words.{word_in}
@@ -207,21 +209,23 @@ abbrev pub result_params : Option Scalar → List CParam
 result_params (Some s) = record { ty = OfScalar (c_scalar s); pointer = true; name = codes "r" } ∷ []
 result_params None = []
 
--- the parameter that tells whether the activity's body has ended
-abbrev pub over_param : CParam
-over_param = record { ty = OfScalar OfBool; pointer = true; name = codes "e" }
+-- the parameter that tells whether the activity's body has ended, where it may end
+abbrev pub over_params : Bool → List CParam
+over_params true = record { ty = OfScalar OfBool; pointer = true; name = codes "e" } ∷ []
+over_params false = []
 
 -- the parameter for what an activity remembers, if anything
 abbrev pub memory_params : Activity → Bool → List CParam
 memory_params a true = pointer_param (codes "m") (memory_name a.unit.name) ∷ []
 memory_params a false = []
 
--- the parameters of an activity's function: for where it rests, what it remembers, its inputs and outputs, its result, and whether it has ended
+-- the parameters of an activity's function: for where it rests, what it remembers, its inputs and outputs, its result, and whether it has ended, where it
+-- may end
 abbrev pub activity_params : Activity → List CParam
 activity_params a =
     pointer_param (codes "f") (frame_name a.unit.name)
     ∷ (memory_params a (remembers_any a)
-    ++ (params_from a.structs a.unit.vars 0 (parameters_of a.unit) ++ (result_params a.unit.result ++ over_param ∷ [])))
+    ++ (params_from a.structs a.unit.vars 0 (parameters_of a.unit) ++ (result_params a.unit.result ++ over_params (unit_may_end a.unit))))
 
 -- a local that is a number or a bool
 abbrev pub scalar_local : Scalar → Text → CLocal
@@ -261,32 +265,42 @@ abbrev pub given_local : NumberedWord → Option Scalar → List CLocal
 given_local k (Some s) = scalar_local (c_scalar s) (given_name k) ∷ []
 given_local k None = []
 
--- the local that tells whether what was called last has ended, where there are `run`s
-abbrev pub ended_local : List RunAt → List CLocal
-ended_local [] = []
-ended_local (run ∷ rest) = scalar_local OfBool ended_name ∷ []
+-- whether some `run` calls an activity that may end
+abbrev pub some_ends : List UnitDef → List RunAt → Bool
+some_ends earlier runs = list_any (λ run. may_end_in (slice_get earlier run.unit)) runs
+
+-- the local that tells whether what was called last has ended, where the test is true
+abbrev pub ended_local : Bool → List CLocal
+ended_local true = scalar_local OfBool ended_name ∷ []
+ended_local false = []
 
 -- the local for the result of what a `run` calls, where it has one
 abbrev pub run_locals : Activity → RunAt → List CLocal
 run_locals a run = given_local (word_of_run a.earlier run) (option_and_then (λ unit. unit.result) (slice_get a.earlier run.unit))
 
--- the locals: what counters held, flags of the first nodes of blocks, marks, copies, whether what was called has ended, and the results of `run`s
+-- the locals: what counters held, flags of the first nodes of blocks, marks, copies, whether what was called has ended, where it may, and the results of
+-- `run`s
 abbrev pub activity_locals : Activity → List CLocal
 activity_locals a =
     map (rested_local a.sizes) (counters_read a)
     ++ (joined (map (flag_local (activity_view a)) (first_rules a))
     ++ (joined (map (mark_locals (activity_view a)) (rules_at a))
-    ++ (map (copy_local a) (copied_in a) ++ (ended_local (runs_in_body a) ++ joined (map (run_locals a) (runs_in_body a))))))
+    ++ (map (copy_local a) (copied_in a) ++ (ended_local (some_ends a.earlier (runs_in_body a)) ++ joined (map (run_locals a) (runs_in_body a))))))
 
 -- what a counter holds as the tick begins is copied
 abbrev pub rested_code : ℕ → CStmt
 rested_code k = c_set (rested_place k) (c_read (counter_place k))
 
--- the entry waits where the first counter holds 0: the body begins
+-- where it stands what the first counter held when the tick began: in the copy of the counter, where the test is true, else in the counter itself
+abbrev pub first_place : Bool → CPlace
+first_place true = rested_place 0
+first_place false = counter_place 0
+
+-- the entry waits where the first counter held 0: the body begins
 abbrev pub entry_code : ActivityView → Block → List CStmt
 entry_code view Done = []
 entry_code view (Then s rest) =
-    c_set (flag_place (node_word view (entry s))) (c_two Eq (c_read (counter_place 0)) (counter_value view.sizes 0 0)) ∷ []
+    c_set (flag_place (node_word view (entry s))) (c_two Eq (c_read (first_place (view.is_read 0))) (counter_value view.sizes 0 0)) ∷ []
 
 -- the turns of nodes in source order
 abbrev pub turns_in_source : Activity → List NodeCode

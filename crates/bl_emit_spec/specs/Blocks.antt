@@ -231,20 +231,6 @@ abbrev pub arg_where : Bool → CArg → List CArg
 arg_where true arg = arg ∷ []
 arg_where false arg = []
 
--- the arguments of the call of an activity: where it rests, what it remembers, its inputs and outputs, its result, and whether it has ended
-abbrev pub run_args : ActivityView → NumberedWord → ℕ → Arguments → List CArg
-run_args view k a arguments =
-    Address (callee_frame k)
-    ∷ (arg_where (view.remembers a) (Address (callee_memory k))
-    ++ (call_args view.site arguments.inputs arguments.outputs
-    ++ (arg_where (has_result (slice_get view.site.earlier a)) (Address (given_place k)) ++ Address ended_place ∷ [])))
-
--- the call: the activity hasn't ended before it
-abbrev pub run_code : ActivityView → NumberedWord → ℕ → Arguments → List CStmt
-run_code view k a arguments =
-    c_set ended_place (c_truth false)
-    ∷ c_calling (c_call (name_of_callee (slice_get view.site.earlier a)) (run_args view k a arguments)) ∷ []
-
 -- whether a kind of statement is a `repeat` without a condition, which never ends
 abbrev pub layer_endless : {A B C D : Type 0} → StmtKind-F A B C D → Bool
 layer_endless (StmtKind-F.Repeat body) = true
@@ -267,6 +253,22 @@ may_end_in None = true
 abbrev pub stmt_where : Bool → CStmt → List CStmt
 stmt_where true s = s ∷ []
 stmt_where false s = []
+
+-- the arguments of the call of an activity: where it rests, what it remembers, its inputs and outputs, its result, and whether it has ended, where it
+-- may end
+abbrev pub run_args : ActivityView → NumberedWord → ℕ → Arguments → List CArg
+run_args view k a arguments =
+    Address (callee_frame k)
+    ∷ (arg_where (view.remembers a) (Address (callee_memory k))
+    ++ (call_args view.site arguments.inputs arguments.outputs
+    ++ (arg_where (has_result (slice_get view.site.earlier a)) (Address (given_place k))
+    ++ arg_where (may_end_in (slice_get view.site.earlier a)) (Address ended_place))))
+
+-- the call: an activity that may end hasn't ended before it
+abbrev pub run_code : ActivityView → NumberedWord → ℕ → Arguments → List CStmt
+run_code view k a arguments =
+    stmt_where (may_end_in (slice_get view.site.earlier a)) (c_set ended_place (c_truth false))
+    ++ c_calling (c_call (name_of_callee (slice_get view.site.earlier a)) (run_args view k a arguments)) ∷ []
 
 -- the target gets the result
 abbrev pub target_code : ActivityView → NumberedWord → Option Path → List CStmt

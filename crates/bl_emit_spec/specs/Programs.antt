@@ -7,6 +7,7 @@ use Rattle.bl_tree.specs.declared.text.Text.{Text}
 use Rattle.bl_tree.specs.declared.c.CArg.{CArg}
 use Rattle.bl_tree.specs.declared.c.CArg.TheVariants.{Address, Value}
 use Rattle.bl_tree.specs.declared.c.CFunc.{CFunc}
+use Rattle.bl_tree.specs.declared.c.CLocal.{CLocal}
 use Rattle.bl_tree.specs.declared.c.CMember.{CMember}
 use Rattle.bl_tree.specs.declared.c.CStmt.{CStmt}
 use Rattle.bl_tree.specs.declared.c.CStruct.{CStruct}
@@ -33,7 +34,7 @@ use Rattle.bl_machine.specs.Blocks.{up_to}
 use Rattle.bl_machine_pass.specs.Numbered.{sizes_of, slots_of}
 use Rattle.bl_emit_spec.specs.Activities.{Activity, activity_function, frame_struct, pointer_param, remembered_struct, remembers_any, scalar_local}
 use Rattle.bl_emit_spec.specs.Activities.{struct_member}
-use Rattle.bl_emit_spec.specs.Blocks.{unit_may_end, stmt_where}
+use Rattle.bl_emit_spec.specs.Blocks.{arg_where, stmt_where, unit_may_end}
 use Rattle.bl_emit_spec.specs.Names.{frame_name}
 
 -- ---- which units are needed
@@ -167,16 +168,22 @@ input_arg var = Value (c_read (c_place true (codes "i") (c_step (codes "i_" ++ v
 abbrev pub output_arg : Var → CArg
 output_arg var = Address (c_place true (codes "o") (c_step (codes "o_" ++ var.name) ∷ []))
 
--- the arguments with which a tick calls the entry
+-- the arguments with which a tick calls the entry: where it has ended is told in a local, if it may end
 abbrev pub tick_args : UnitDef → Bool → List CArg
 tick_args unit remembers =
     Address (c_place true (codes "s") (c_step (codes "f") ∷ []))
     ∷ ((if remembers then Address (c_place true (codes "s") (c_step (codes "m") ∷ [])) ∷ [] else [])
-    ++ (map input_arg (inputs_of unit) ++ (map output_arg (outputs_of unit) ++ Address (c_place false (codes "e") []) ∷ [])))
+    ++ (map input_arg (inputs_of unit)
+    ++ (map output_arg (outputs_of unit) ++ arg_where (unit_may_end unit) (Address (c_place false (codes "e") [])))))
 
 -- a number that a tick returns
 abbrev pub c_returned : ℕ → CStmt
 c_returned n = c_return (Some (c_literal (Nat W32) (pos n)))
+
+-- the local that tells whether the entry has ended, where it may end
+abbrev pub tick_locals : Bool → List CLocal
+tick_locals true = scalar_local OfBool (codes "e") ∷ []
+tick_locals false = []
 
 -- one tick: 1 where the entry has ended, else 0. Of an entry that never ends this isn't asked
 abbrev pub tick_function : UnitDef → Bool → CFunc
@@ -186,7 +193,7 @@ tick_function unit remembers = record {
   result = Some (Nat W32);
   name = codes "bl_tick";
   params = pointer_param (codes "s") (codes "bl_state") ∷ pointer_param (codes "i") (codes "bl_in") ∷ pointer_param (codes "o") (codes "bl_out") ∷ [];
-  locals = scalar_local OfBool (codes "e") ∷ [];
+  locals = tick_locals (unit_may_end unit);
   body = c_calling (c_call (unit_name unit.name) (tick_args unit remembers))
       ∷ (stmt_where (unit_may_end unit) (c_if (c_read (c_place false (codes "e") [])) (c_returned 1 ∷ []) None) ++ c_returned 0 ∷ []);
 }

@@ -1,7 +1,9 @@
 pub mod Counting
+pub mod Endless
 pub mod Few
 pub mod Fitting
 pub mod InRow
 pub mod Members
 pub mod Owning
 pub mod Programs
+pub mod Quiet

@@ -16,6 +16,7 @@ use Rattle.bl_emit_acts.specs.Types.{unit_name}
 use Rattle.bl_emit_acts_laws_simulation.specs.Frames.{lent_at, remembered_at}
 use Rattle.bl_emit_functions_laws_simulation.specs.Units.{AllAgree, FunctionsSimulate}
 use Rattle.bl_emit_spec.specs.Activities.{activity_function, remembers_any}
+use Rattle.bl_emit_spec.specs.Blocks.{unit_may_end}
 use Rattle.bl_emit_spec_laws.specs.Registers.Registers.{frame_at, over_at}
 use Rattle.bl_machine.specs.declared.machine.Activity.{Activity as InMachine}
 use Rattle.bl_machine_pass_laws_execution.specs.Frames.{Frames}
@@ -29,7 +30,7 @@ use Rattle.bl_emit_spec_laws.specs.Calls.Invariant.{result_at_c}
 -- the pointers of the called function lead to the places that it was given
 pub record PointersLead (w : Setting) (activities : Activities) (i : ℕ) (unit : UnitDef) (scope : Scope) (given : CallAddresses) : Type 0 where
   pub frame : frame_at scope ≡ given.frame
-  pub over : over_at scope ≡ given.over
+  pub over : unit_may_end unit ≡ true → over_at scope ≡ given.over
   pub memory : remembers_any (activity_at w activities i) ≡ true → remembered_at scope ≡ given.memory
   pub result : is_some unit.result ≡ true → result_at_c scope ≡ given.result
   pub outputs : (k : ℕ) (place : Location) → slice_get given.outputs k ≡ Some place → lent_at scope (site_at w activities i).vars (unit.inputs + k) ≡ place

@@ -9,7 +9,6 @@ pub mod Choices
 pub mod Endless
 pub mod Foreign
 pub mod Points
-pub mod Quiet
 pub mod Results
 pub mod ReturnBlocks
 pub mod Returned

@@ -27,7 +27,7 @@ use Rattle.bl_emit_acts.specs.Trees.{c_call}
 use Rattle.bl_emit_acts.specs.Types.{unit_name}
 use Rattle.bl_emit_acts_laws_simulation.specs.Encodes.{copied_in, copied_in_path, home_at, location_in, way_to}
 use Rattle.bl_emit_spec.specs.Activities.{activity_view, copies_of, remembers_any}
-use Rattle.bl_emit_spec.specs.Blocks.{run_args}
+use Rattle.bl_emit_spec.specs.Blocks.{run_args, unit_may_end}
 use Rattle.bl_emit_spec.specs.Names.{NumberedWord, ended_name, given_name}
 use Rattle.bl_emit_spec_laws.specs.Registers.Registers.{frame_at}
 use Rattle.bl_emit_acts_laws_simulation.specs.Frames.{remembered_at}
@@ -109,16 +109,16 @@ pub record RunEstablishes (w : Setting) (activities : Activities) (i : ℕ) (sco
   pub may : MayGive other (remembers_any (activity_at w activities j)) scope.depth (given_by scope n inputs outputs)
   pub begins : CallBegins w activities j other scope.depth (given_by scope n inputs outputs) frames given here
 
--- the local that tells whether what was called last has ended is false
-abbrev pub NotEnded : Scope → Memory → Type 0
-NotEnded scope here = scalar_number (value_at here (named_location scope false ended_name)) ≡ pos 0
+-- the local that tells whether what was called last has ended is false, where the unit that is called may end
+abbrev pub NotEnded : UnitDef → Scope → Memory → Type 0
+NotEnded other scope here = unit_may_end other ≡ true → scalar_number (value_at here (named_location scope false ended_name)) ≡ pos 0
 
 -- the call of each `run` establishes what a pass of the callee begins with, and traps where its inputs do
 pub record RunsEstablish (structs : List StructDef) (units : List UnitDef) (entry : ℕ) (machine : List InMachine) (activities : Activities) : Type 0 where
   pub gives : (i : ℕ) (unit : UnitDef) (scope : Scope) (frames : Frames) (store : Store) (copies : List Value) (r : Registers) (here : Memory)
       (l : Label) (at : Place) (arguments : Arguments) (j : ℕ) (other : UnitDef) (given : Store) → let w = setting_of structs units entry in
       Midway structs units entry machine activities i unit scope frames store copies r here → RunOf w activities i unit l at arguments j other →
-      NotEnded scope here → CopiesMatch w i (EnterAt l at arguments) store copies →
+      NotEnded other scope here → CopiesMatch w i (EnterAt l at arguments) store copies →
       DeedYields w (deed i at (Copies j arguments.inputs)) store true given →
       RunEstablishes w activities i scope (run_by w activities i at) arguments j other frames given here
   pub stops : (i : ℕ) (unit : UnitDef) (scope : Scope) (frames : Frames) (store : Store) (copies : List Value) (r : Registers) (here : Memory)
@@ -129,12 +129,12 @@ pub record RunsEstablish (structs : List StructDef) (units : List UnitDef) (entr
 
 -- ---- what it leaves
 
--- memory after the call of a `run` represents what the callee's pass leaves, whether its body has ended, and its result
+-- memory after the call of a `run` represents what the callee's pass leaves, whether its body has ended, where that may be, and its result
 pub record RunLeaves (w : Setting) (activities : Activities) (i : ℕ) (unit : UnitDef) (scope : Scope) (n : NumberedWord) (j : ℕ) (other : UnitDef)
     (frames : Frames) (left : Store) (copies : List Value) (r : Registers) (ended : Bool) (here after : Memory) : Type 0 where
   pub stands : PassRepresents w activities i unit scope frames left copies r after
   pub kept : PassKeepsFrame (site_at w activities i) unit (remembers_any (activity_at w activities i)) scope here after
-  pub over : scalar_number (value_at after (named_location scope false ended_name)) ≡ number_of ended
+  pub over : unit_may_end other ≡ true → scalar_number (value_at after (named_location scope false ended_name)) ≡ number_of ended
   pub result : (value : Value) → ended ≡ true → is_some other.result ≡ true → result_at left j ≡ Some value →
       scalar_number (value_at after (named_location scope false (given_name n))) ≡ number_or_zero value
 

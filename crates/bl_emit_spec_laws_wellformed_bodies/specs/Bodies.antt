@@ -42,7 +42,7 @@ use Rattle.bl_emit_spec.specs.Activities.{
   rules_at,
   runs_in_body,
 }
-use Rattle.bl_emit_spec.specs.Blocks.{name_in}
+use Rattle.bl_emit_spec.specs.Blocks.{name_in, unit_may_end}
 use Rattle.bl_emit_spec.specs.Names.{frame_name}
 use Rattle.bl_emit_spec_laws.specs.Registers.Laws.{asks_its_own, changes_its_own}
 use Rattle.bl_emit_spec_laws.specs.Calls.Built.{last_rules, registered}
@@ -62,13 +62,18 @@ abbrev pub result_given : Option Scalar → List Variable
 result_given (Some s) = variable_of true (OfScalar (c_scalar s)) ∷ []
 result_given None = []
 
+-- the variable of the pointer to whether the activity has ended, where the test is true
+abbrev pub over_given : Bool → List Variable
+over_given true = variable_of true bool_type ∷ []
+over_given false = []
+
 -- the parameters of the C function of an activity, which has no result of its own; the test says whether the activity remembers anything
 abbrev pub signature_of_activity : List StructDef → UnitDef → Bool → Signature
 signature_of_activity structs unit remembers = record {
   widens = false;
   params = variable_of true (OfStruct (frame_name unit.name))
       ∷ (memory_given unit remembers
-      ++ (map (parameter_for structs) (parameters_of unit) ++ (result_given unit.result ++ variable_of true bool_type ∷ [])));
+      ++ (map (parameter_for structs) (parameters_of unit) ++ (result_given unit.result ++ over_given (unit_may_end unit))));
   result = None;
 }
 

@@ -24,6 +24,7 @@ use Rattle.std.proofs.Common.{Some, None, refl, sym, ap, ◌∙◌, codes}
 use Rattle.std.proofs.lemmas.List.{map-append}
 use Rattle.std.specs.List.{list_all}
 use Rattle.std.specs.Prelude.{if◌then◌else◌}
+use Rattle.bl_tree.specs.declared.c.CLocal.{CLocal}
 use Rattle.bl_tree.specs.declared.c.CArg.{CArg}
 use Rattle.bl_tree.specs.declared.c.CArg.TheVariants.{Address}
 use Rattle.bl_tree.specs.declared.c.CFunc.{CFunc}
@@ -42,7 +43,7 @@ use Rattle.bl_eval.proofs.PassLemmas.{and_left, and_right, both}
 use Rattle.bl_limits_measures.specs.Types.{size}
 use Rattle.bl_ctext_semantics.specs.Calls.{calls_in_arg, calls_in_block, calls_in_place, calls_in_stmt, most}
 use Rattle.bl_ctext_semantics.specs.Loops.{turns_in, turns_in_block}
-use Rattle.bl_ctext_semantics.specs.Sizes.{Sizes, chain_cells, size_of_member, size_of_struct}
+use Rattle.bl_ctext_semantics.specs.Sizes.{Sizes, chain_cells, size_of_member, size_of_struct, size_of_type}
 use Rattle.bl_ctext_semantics.specs.Tables.{Table, entry_or}
 use Rattle.bl_emit_acts.specs.Acts.{c_calling, c_clear}
 use Rattle.bl_emit_acts.specs.Trees.{c_call, c_literal, c_place, c_read, c_step}
@@ -65,8 +66,9 @@ use Rattle.bl_emit_functions_laws_wellformed.proofs.OnFiles.Shapes.{
 }
 use Rattle.bl_emit_functions_laws_wellformed.proofs.OnFormed.Turns.{one-turns, return-turns}
 use Rattle.bl_emit_spec.specs.Names.{frame_name}
-use Rattle.bl_emit_spec.specs.Blocks.{unit_may_end, stmt_where}
+use Rattle.bl_emit_spec.specs.Blocks.{unit_may_end, stmt_where, arg_where}
 use Rattle.bl_emit_spec.specs.Programs.{c_returned, init_function, input_arg, output_arg, port_member, port_struct, state_struct, tick_args, tick_function}
+use Rattle.bl_emit_spec.specs.Programs.{tick_locals}
 use Rattle.bl_emit_spec_laws_wellformed_bodies.specs.Cells.{ports_of}
 use Rattle.bl_emit_spec_laws_wellformed_bodies.proofs.OnSigned.Turns.{call-turns, clear-turns, if-turns}
 
@@ -120,6 +122,11 @@ memory_silent true =
     (address-calls (c_place true (codes "s") (c_step (codes "m") ∷ [])) ∙ step_calls_none true (codes "s") (codes "m")) refl
 memory_silent false = refl
 
+end_silent : (ends : Bool) → Silent (arg_where ends (Address (c_place false (codes "e") [])))
+end_silent true =
+    silent-cons (Address (c_place false (codes "e") [])) [] (address-calls (c_place false (codes "e") []) ∙ root_calls_none false (codes "e")) refl
+end_silent false = refl
+
 tick_silent : (unit : UnitDef) (remembers : Bool) → Silent (tick_args unit remembers)
 tick_silent unit remembers =
     silent-cons (Address (c_place true (codes "s") (c_step (codes "f") ∷ []))) _
@@ -127,8 +134,7 @@ tick_silent unit remembers =
     (silent-append (memory_args remembers) _ (memory_silent remembers)
     (silent-append (map input_arg (inputs_of unit)) _ (inputs_silent (inputs_of unit))
     (silent-append (map output_arg (outputs_of unit)) _ (outputs_silent (outputs_of unit))
-    (silent-cons (Address (c_place false (codes "e") [])) []
-    (address-calls (c_place false (codes "e") []) ∙ root_calls_none false (codes "e")) refl))))
+    (end_silent (unit_may_end unit)))))
 
 returned_silent : (n : ℕ) → calls_in_stmt (c_returned n) ≡ []
 returned_silent n = return-calls (Some (c_literal (Nat W32) (pos n))) ∙ literal-calls (Nat W32) (pos n)
@@ -197,7 +203,12 @@ module _ (unit : UnitDef) (remembers : Bool) where
   tick_cells known chains =
       let turns : length (turns_in_block tick.body) ≡ 0 = ap length tick_turns in
       let one : most chains (calls_in_block tick.body) ≡ most chains (unit_name unit.name ∷ []) = ap (most chains) tick_calls in
-      omega (arith, turns, one)
+      let local : total (map (λ (l : CLocal). size_of_type known l.ty) tick.locals) ≤ 1 = local_few (unit_may_end unit) in
+      omega (arith, turns, one, local)
+    where
+      local_few : (ends : Bool) → total (map (λ (l : CLocal). size_of_type known l.ty) (tick_locals ends)) ≤ 1
+      local_few true = omega arith
+      local_few false = omega arith
 
   -- ---- what is kept from tick to tick
 

@@ -49,6 +49,7 @@ use Rattle.bl_emit_spec.specs.Activities.{
   copied_in,
   counters_read,
   entry_code,
+  first_place,
   picked,
   rested_code,
   rules_at,
@@ -183,21 +184,24 @@ module _ (P : CPath → Type 0) (plain : (place : CPath) → names_counter place
   runs_fine k a arguments =
       let result = has_result (slice_get view.site.earlier a) in
       let given = call_args view.site arguments.inputs arguments.outputs in
-      let last = arg_where result (Address (given_place k)) ++ arg_where true (Address ended_place) in
+      let ends = may_end_in (slice_get view.site.earlier a) in
+      let last = arg_where result (Address (given_place k)) ++ arg_where ends (Address ended_place) in
       first-arg P plain (Address (callee_frame k)) (arg_where (view.remembers a) (Address (callee_memory k)) ++ (given ++ last))
       (address-fine P plain (callee_frame k) (frame_fine k))
       (both-fine P places_in_arg (arg_where (view.remembers a) (Address (callee_memory k))) (given ++ last)
       (where_fine (view.remembers a) (callee_memory k) (under-fine P plain (codes "m") (callee_name k) refl))
       (both-fine P places_in_arg given last (call_args_fine P plain view.site arguments.inputs arguments.outputs)
-      (both-fine P places_in_arg (arg_where result (Address (given_place k))) (arg_where true (Address ended_place))
+      (both-fine P places_in_arg (arg_where result (Address (given_place k))) (arg_where ends (Address ended_place))
       (where_fine result (given_place k) (local_fine P plain own (given_name k)))
-      (where_fine true ended_place (local_fine P plain own ended_name)))))
+      (where_fine ends ended_place (local_fine P plain own ended_name)))))
 
   run_fine : (k : NumberedWord) (a : ℕ) (arguments : Arguments) → CodeFine P plain (run_code view k a arguments)
   run_fine k a arguments =
       let call : CStmt = c_calling (c_call (name_of_callee (slice_get view.site.earlier a)) (run_args view k a arguments)) in
-      first_stmt P plain (c_set ended_place (c_truth false)) (call ∷ [])
-      (set-fine P plain ended_place (c_truth false) (local_fine P plain own ended_name) (truth-fine P plain false))
+      let ends : Bool = may_end_in (slice_get view.site.earlier a) in
+      then_code P plain (stmt_where ends (c_set ended_place (c_truth false))) (call ∷ [])
+      (where_code P plain ends (c_set ended_place (c_truth false))
+      (set-fine P plain ended_place (c_truth false) (local_fine P plain own ended_name) (truth-fine P plain false)))
       (one_stmt P plain call
       (calling-fine P plain (name_of_callee (slice_get view.site.earlier a)) (run_args view k a arguments) (runs_fine k a arguments)))
 
@@ -314,13 +318,18 @@ module _ (P : CPath → Type 0) (plain : (place : CPath) → names_counter place
       (set-fine P plain (rested_place k) (c_read (counter_place k)) (local_fine P plain own (rested_name k)) (counter_read P plain own k))
       (resteds_fine rest)
 
+  first_read : (copied : Bool) → ExprFine P plain (c_read (first_place copied))
+  first_read true = local_read P plain own (rested_name 0)
+  first_read false = counter_read P plain own 0
+
   entry_fine : (body : Block) → CodeFine P plain (entry_code view body)
   entry_fine Done = tt
   entry_fine (Then s rest) =
-      one_stmt P plain (c_set (flag_place (node_word view (entry s))) (c_two Eq (c_read (counter_place 0)) (counter_value view.sizes 0 0)))
-      (set-fine P plain (flag_place (node_word view (entry s))) (c_two Eq (c_read (counter_place 0)) (counter_value view.sizes 0 0))
+      let first : CExpr = c_read (first_place (view.is_read 0)) in
+      one_stmt P plain (c_set (flag_place (node_word view (entry s))) (c_two Eq first (counter_value view.sizes 0 0)))
+      (set-fine P plain (flag_place (node_word view (entry s))) (c_two Eq first (counter_value view.sizes 0 0))
       (local_fine P plain own (flag_name (node_word view (entry s))))
-      (two-fine P plain Eq (c_read (counter_place 0)) (counter_value view.sizes 0 0) (counter_read P plain own 0) (value_fine P plain own view 0 0)))
+      (two-fine P plain Eq first (counter_value view.sizes 0 0) (first_read (view.is_read 0)) (value_fine P plain own view 0 0)))
 
   copies_fine : (ks : List ℕ) → CodeFine P plain (map (c_copied view.site) ks)
   copies_fine [] = tt

@@ -284,19 +284,21 @@ module _ (view : ActivityView) where
       by (Some true) is = changes_decide rule.on_true
       by (Some false) is = changes_decide rule.on_false
 
+  where_decides : (test : Bool) (s : CStmt) → Decide (s ∷ []) → Decide (stmt_where test s)
+  where_decides true s decides = decides
+  where_decides false s decides = refl
+
   run_decides : (k : NumberedWord) (a : ℕ) (arguments : Arguments) → Decide (run_code view k a arguments)
   run_decides k a arguments =
       let call : CCall = c_call (name_of_callee (slice_get view.site.earlier a)) (run_args view k a arguments) in
-      first_decides (c_set ended_place (c_truth false)) (c_calling call ∷ []) (set_decides ended_place (c_truth false))
+      let ends : Bool = may_end_in (slice_get view.site.earlier a) in
+      then_decide (stmt_where ends (c_set ended_place (c_truth false))) (c_calling call ∷ [])
+      (where_decides ends (c_set ended_place (c_truth false)) (sets_decide ended_place (c_truth false)))
       (one_decides (c_calling call) (call_decides call))
 
   target_decides : (k : NumberedWord) (target : Option Path) → Decide (target_code view k target)
   target_decides k (Some path) = sets_decide _ _
   target_decides k None = refl
-
-  where_decides : (test : Bool) (s : CStmt) → Decide (s ∷ []) → Decide (stmt_where test s)
-  where_decides true s decides = decides
-  where_decides false s decides = refl
 
   own_decides : (n : Node) → Decide (own_code view n)
   own_decides (ActAt l s) = acted_by s (out-StmtKind (out-Stmt s).what)

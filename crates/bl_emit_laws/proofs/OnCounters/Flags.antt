@@ -53,6 +53,7 @@ use Rattle.bl_emit_spec.specs.Activities.{
   scalar_local,
   word_of_run,
   ended_local,
+  some_ends,
 }
 use Rattle.bl_emit_spec.specs.Blocks.{
   ActivityView,
@@ -219,9 +220,9 @@ runs_none a (run ∷ runs) =
     named_both (run_locals a run) (joined (map (run_locals a) runs))
     ∙ (λ i. given_none (word_of_run a.earlier run) (option_and_then (λ (unit : UnitDef). unit.result) (slice_get a.earlier run.unit)) i ++ runs_none a runs i)
 
-ended_none : (runs : List RunAt) → named (ended_local runs) ≡ []
-ended_none [] = refl
-ended_none (run ∷ runs) = refl
+ended_none : (ends : Bool) → named (ended_local ends) ≡ []
+ended_none true = refl
+ended_none false = refl
 
 -- the flags of an activity's function are those that the rules of first nodes ask for
 pub locals_are : (a : Activity) → named (activity_locals a) ≡ joined (map (asked_by (activity_view a)) (first_rules a))
@@ -232,13 +233,14 @@ locals_are a =
     let marks : List CLocal = joined (map (mark_locals view) (rules_at a)) in
     let copies : List CLocal = map (copy_local a) (copied_in a) in
     let results : List CLocal = joined (map (run_locals a) (runs_in_body a)) in
-    let runs : List CLocal = ended_local (runs_in_body a) ++ results in
+    let ends : Bool = some_ends a.earlier (runs_in_body a) in
+    let runs : List CLocal = ended_local ends ++ results in
     named_both rested (flags ++ (marks ++ (copies ++ runs)))
     ∙ (λ i. resteds_none a.sizes (counters_read a) i ++ named_both flags (marks ++ (copies ++ runs)) i)
     ∙ (λ i. flags_are view (first_rules a) i ++ named_both marks (copies ++ runs) i)
     ∙ (λ i. joined (map (asked_by view) (first_rules a)) ++ (marks_none view (rules_at a) i ++ named_both copies runs i))
-    ∙ (λ i. joined (map (asked_by view) (first_rules a)) ++ (copies_none a (copied_in a) i ++ named_both (ended_local (runs_in_body a)) results i))
-    ∙ (λ i. joined (map (asked_by view) (first_rules a)) ++ (ended_none (runs_in_body a) i ++ runs_none a (runs_in_body a) i))
+    ∙ (λ i. joined (map (asked_by view) (first_rules a)) ++ (copies_none a (copied_in a) i ++ named_both (ended_local ends) results i))
+    ∙ (λ i. joined (map (asked_by view) (first_rules a)) ++ (ended_none ends i ++ runs_none a (runs_in_body a) i))
     ∙ append-nil (joined (map (asked_by view) (first_rules a)))
 
 -- they are as many as rules that ask for a flag

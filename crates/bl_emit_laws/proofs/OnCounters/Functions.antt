@@ -23,7 +23,7 @@ use Rattle.bl_emit_functions.specs.Functions.{code_returns}
 use Rattle.bl_emit_functions.specs.Functions.{c_set_again, first_held, read_code}
 use Rattle.bl_emit_functions.specs.Trees.{c_if, c_return_zero}
 use Rattle.bl_emit_functions.specs.Reads.{reads_in_block}
-use Rattle.bl_emit_spec.specs.Blocks.{unit_may_end, stmt_where}
+use Rattle.bl_emit_spec.specs.Blocks.{unit_may_end, stmt_where, arg_where}
 use Rattle.bl_emit_spec.specs.Programs.{c_returned, init_function, input_arg, output_arg, tick_args, tick_function}
 use Rattle.bl_emit_laws.specs.Counters.Own.{is_counter_name, names_counter}
 use Rattle.bl_emit_laws.specs.Counters.Places.{CPath, places_in_arg, places_named}
@@ -113,21 +113,22 @@ module _ (P : CPath → Type 0) (plain : (place : CPath) → names_counter place
       (address-fine P plain (c_place true (codes "s") (c_step (codes "m") ∷ [])) (under-fine (codes "s") (codes "m") refl)) tt
   memory_fine false = tt
 
-  ended_given : ArgsFine P plain (Address (c_place false (codes "e") []) ∷ [])
-  ended_given =
+  ended_given : (ends : Bool) → ArgsFine P plain (arg_where ends (Address (c_place false (codes "e") [])))
+  ended_given false = tt
+  ended_given true =
       first-arg P plain (Address (c_place false (codes "e") [])) []
       (address-fine P plain (c_place false (codes "e") []) (root-fine P plain false (codes "e"))) tt
 
   args_given : (unit : UnitDef) (remembers : Bool) → ArgsFine P plain (tick_args unit remembers)
   args_given unit remembers =
-      let last : List CArg = Address (c_place false (codes "e") []) ∷ [] in
+      let last : List CArg = arg_where (unit_may_end unit) (Address (c_place false (codes "e") [])) in
       first-arg P plain (Address (c_place true (codes "s") (c_step (codes "f") ∷ [])))
       (memory_given remembers ++ (map input_arg (inputs_of unit) ++ (map output_arg (outputs_of unit) ++ last)))
       (address-fine P plain (c_place true (codes "s") (c_step (codes "f") ∷ [])) (under-fine (codes "s") (codes "f") refl))
       (both-fine P places_in_arg (memory_given remembers) (map input_arg (inputs_of unit) ++ (map output_arg (outputs_of unit) ++ last))
       (memory_fine remembers)
       (both-fine P places_in_arg (map input_arg (inputs_of unit)) (map output_arg (outputs_of unit) ++ last) (inputs_given (inputs_of unit))
-      (both-fine P places_in_arg (map output_arg (outputs_of unit)) last (outputs_given (outputs_of unit)) ended_given)))
+      (both-fine P places_in_arg (map output_arg (outputs_of unit)) last (outputs_given (outputs_of unit)) (ended_given (unit_may_end unit)))))
 
   returned_fine : (n : ℕ) → CodeFine P plain (c_returned n ∷ [])
   returned_fine n =

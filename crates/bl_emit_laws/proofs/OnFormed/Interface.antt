@@ -5,6 +5,7 @@ use Rattle.std.proofs.lemmas.Bool.Decides.{nat_tests}
 use Rattle.std.proofs.lemmas.List.{map-append}
 use Rattle.std.specs.Prelude.{is_none, is_some, nat_le, option_and_then, if◌then◌else◌}
 use Rattle.std.specs.List.{list_all}
+use Rattle.bl_tree.specs.declared.c.CLocal.{CLocal}
 use Rattle.bl_tree.specs.declared.text.Text.{Text}
 use Rattle.bl_tree.specs.declared.c.CArg.{CArg}
 use Rattle.bl_tree.specs.declared.c.CArg.TheVariants.{Address}
@@ -30,9 +31,9 @@ use Rattle.bl_ctext_semantics.specs.Calls.{calls_in_arg, calls_in_block, calls_i
 use Rattle.bl_ctext_semantics.specs.Faults.{Context, Signature, Variable, bool_type, context_in, declared_before, depth_of_function, distinct_names}
 use Rattle.bl_ctext_semantics.specs.Faults.{faults_in_function, last_returns, member_of, member_table, names_table}
 use Rattle.bl_ctext_semantics.specs.Faults.{repeated, returns_result, short_chain, signature_as}
-use Rattle.bl_ctext_semantics.specs.Faults.{signature_of, surely_returns, variable_names}
+use Rattle.bl_ctext_semantics.specs.Faults.{all_distinct, is_declared, signature_of, surely_returns, variable_names}
 use Rattle.bl_ctext_semantics.specs.Loops.{turns_in, turns_in_block}
-use Rattle.bl_ctext_semantics.specs.Tables.{Table, entry_or}
+use Rattle.bl_ctext_semantics.specs.Tables.{Table, entry_or, no_entries}
 use Rattle.bl_emit_acts.specs.Acts.{c_calling, c_clear}
 use Rattle.bl_emit_acts.specs.Trees.{c_call, c_literal, c_place, c_read, c_step, nowhere}
 use Rattle.bl_emit_acts.specs.Types.{unit_name}
@@ -49,12 +50,12 @@ use Rattle.bl_emit_functions_laws_wellformed.proofs.OnFiles.Shapes.{read-calls, 
 use Rattle.bl_emit_functions_laws_wellformed.proofs.OnFormed.Shapes.{if-is, return-is}
 use Rattle.bl_emit_functions_laws_wellformed.proofs.OnFormed.Turns.{one-turns, return-turns}
 use Rattle.bl_emit_spec.specs.Names.{frame_name}
-use Rattle.bl_emit_spec.specs.Blocks.{unit_may_end, stmt_where}
-use Rattle.bl_emit_spec.specs.Programs.{c_returned, init_function, input_arg, output_arg, port_struct, state_struct, tick_args, tick_function}
+use Rattle.bl_emit_spec.specs.Blocks.{unit_may_end, stmt_where, arg_where}
+use Rattle.bl_emit_spec.specs.Programs.{c_returned, init_function, input_arg, output_arg, port_struct, state_struct, tick_args, tick_function, tick_locals}
 use Rattle.bl_emit_spec_laws_wellformed_bodies.proofs.OnSigned.Turns.{call-turns, clear-turns, if-turns}
 use Rattle.bl_emit_spec_laws_wellformed_bodies.proofs.OnBodies.Calls.{Suit, suit-address, suit-append}
 use Rattle.bl_emit_spec_laws_wellformed_bodies.proofs.OnBodies.Variables.{member_place}
-use Rattle.bl_emit_spec_laws_wellformed_bodies.specs.Bodies.{memory_given, result_given, signature_of_activity}
+use Rattle.bl_emit_spec_laws_wellformed_bodies.specs.Bodies.{memory_given, over_given, result_given, signature_of_activity}
 use Rattle.bl_emit_laws.proofs.OnFormed.Ports.{inputs-suit, outputs-suit, port-place}
 
 -- what the functions of the interface need, of an entry
@@ -136,6 +137,11 @@ memory_silent true =
     (address-calls (c_place true (codes "s") (c_step (codes "m") ∷ [])) ∙ step_calls_none true (codes "s") (codes "m")) refl
 memory_silent false = refl
 
+end_silent : (ends : Bool) → Silent (arg_where ends (Address (c_place false (codes "e") [])))
+end_silent true =
+    silent-cons (Address (c_place false (codes "e") [])) [] (address-calls (c_place false (codes "e") []) ∙ root_calls_none false (codes "e")) refl
+end_silent false = refl
+
 tick_silent : (unit : UnitDef) (remembers : Bool) → Silent (tick_args unit remembers)
 tick_silent unit remembers =
     silent-cons (Address (c_place true (codes "s") (c_step (codes "f") ∷ []))) _
@@ -143,8 +149,7 @@ tick_silent unit remembers =
     (silent-append (memory_args remembers) _ (memory_silent remembers)
     (silent-append (map input_arg (inputs_of unit)) _ (inputs_silent (inputs_of unit))
     (silent-append (map output_arg (outputs_of unit)) _ (outputs_silent (outputs_of unit))
-    (silent-cons (Address (c_place false (codes "e") [])) []
-    (address-calls (c_place false (codes "e") []) ∙ root_calls_none false (codes "e")) refl))))
+    (end_silent (unit_may_end unit)))))
 
 returned_silent : (n : ℕ) → calls_in_stmt (c_returned n) ≡ []
 returned_silent n = return-calls (Some (c_literal (Nat W32) (pos n))) ∙ literal-calls (Nat W32) (pos n)
@@ -233,35 +238,50 @@ module _ (structs : List StructDef) (unit : UnitDef) (remembers : Bool) (table :
   abbrev ended : CPlace
   ended = c_place false (codes "e") []
 
-  ended_is : PlaceIs in_tick false bool_type ended
-  ended_is = variable_place in_tick (codes "e") bool_type refl
+  -- a tick with the local for the end, where the test is true
+  abbrev tick_with : Bool → CFunc
+  tick_with ends = record tick { locals = tick_locals ends }
+
+  ended_there : (ends : Bool) → ends ≡ true → (context_in table functions (tick_with ends)).variables (codes "e") ≡ Some (variable_of false bool_type)
+  ended_there true is = refl
+  ended_there false is = absurd (cc)
+
+  ended_is : unit_may_end unit ≡ true → PlaceIs in_tick false bool_type ended
+  ended_is ends = variable_place in_tick (codes "e") bool_type (ended_there (unit_may_end unit) ends)
+
+  abbrev end_arg : Bool → List CArg
+  end_arg ends = arg_where ends (Address ended)
+
+  end_suits : (b : Bool) → (b ≡ true → unit_may_end unit ≡ true) → Suit in_tick (over_given b) (end_arg b)
+  end_suits true ends = suit-address in_tick false bool_type ended (ended_is (ends refl))
+  end_suits false ends = (refl, refl)
 
   abbrev outs_args : List CArg
-  outs_args = map output_arg (outputs_of unit) ++ Address ended ∷ []
+  outs_args = map output_arg (outputs_of unit) ++ end_arg (unit_may_end unit)
 
-  abbrev over : Variable
-  over = variable_of true bool_type
+  abbrev over : List Variable
+  over = over_given (unit_may_end unit)
 
-  params_are : params_for (parameters_of unit) ++ (result_given unit.result ++ over ∷ [])
-      ≡ params_for (inputs_of unit) ++ (params_for (outputs_of unit) ++ over ∷ [])
+  params_are : params_for (parameters_of unit) ++ (result_given unit.result ++ over)
+      ≡ params_for (inputs_of unit) ++ (params_for (outputs_of unit) ++ over)
   params_are =
-      (λ i. parameters_are i ++ (result_given (e.result i) ++ over ∷ []))
-      ∙ append_assoc (params_for (inputs_of unit)) (params_for (outputs_of unit)) (over ∷ [])
+      (λ i. parameters_are i ++ (result_given (e.result i) ++ over))
+      ∙ append_assoc (params_for (inputs_of unit)) (params_for (outputs_of unit)) over
 
   args_suit : Suit in_tick (signature_of_activity structs unit remembers).params (tick_args unit remembers)
   args_suit =
       suit-append in_tick (variable_of true (OfStruct (frame_name unit.name)) ∷ [])
-      (memory_given unit remembers ++ (params_for (parameters_of unit) ++ (result_given unit.result ++ over ∷ [])))
+      (memory_given unit remembers ++ (params_for (parameters_of unit) ++ (result_given unit.result ++ over)))
       (Address (c_place true (codes "s") (c_step (codes "f") ∷ [])) ∷ []) (memory_args remembers ++ (map input_arg (inputs_of unit) ++ outs_args))
       (suit-address in_tick true (OfStruct (frame_name unit.name)) (c_place true (codes "s") (c_step (codes "f") ∷ []))
       (member_place in_tick (codes "s") (codes "bl_state") (codes "f") (OfStruct (frame_name unit.name)) refl (frame_member in_tick refl)))
-      (suit-append in_tick (memory_given unit remembers) (params_for (parameters_of unit) ++ (result_given unit.result ++ over ∷ []))
+      (suit-append in_tick (memory_given unit remembers) (params_for (parameters_of unit) ++ (result_given unit.result ++ over))
       (memory_args remembers) (map input_arg (inputs_of unit) ++ outs_args) (memory_found remembers refl)
       (subst (λ ps. Suit in_tick ps (map input_arg (inputs_of unit) ++ outs_args)) (sym params_are)
-      (suit-append in_tick (params_for (inputs_of unit)) (params_for (outputs_of unit) ++ over ∷ [])
+      (suit-append in_tick (params_for (inputs_of unit)) (params_for (outputs_of unit) ++ over)
       (map input_arg (inputs_of unit)) outs_args ports_suit
-      (suit-append in_tick (params_for (outputs_of unit)) (over ∷ []) (map output_arg (outputs_of unit)) (Address ended ∷ [])
-      outs_suit (suit-address in_tick false bool_type ended ended_is)))))
+      (suit-append in_tick (params_for (outputs_of unit)) over (map output_arg (outputs_of unit)) (end_arg (unit_may_end unit))
+      outs_suit (end_suits (unit_may_end unit) (λ ends. ends))))))
 
   abbrev call : CStmt
   call = c_calling (c_call (unit_name unit.name) (tick_args unit remembers))
@@ -280,21 +300,21 @@ module _ (structs : List StructDef) (unit : UnitDef) (remembers : Bool) (table :
   returned_is : (n : ℕ) → StmtIs in_tick (c_returned n)
   returned_is n = return-is in_tick (c_literal (Nat W32) (pos n)) (Nat W32) refl (literal-is in_tick (Nat W32) (pos n))
 
-  choice_is : StmtIs in_tick choice
-  choice_is =
-      if-is in_tick (c_read ended) (c_returned 1 ∷ []) None (read-is in_tick false bool_type ended ended_is)
+  choice_is : unit_may_end unit ≡ true → StmtIs in_tick choice
+  choice_is ends =
+      if-is in_tick (c_read ended) (c_returned 1 ∷ []) None (read-is in_tick false bool_type ended (ended_is ends))
       (block_one in_tick (c_returned 1) (returned_is 1)) (λ looped. refl)
 
   -- what stands behind the call, by whether the entry may end
   abbrev answers : Bool → List CStmt
   answers ends = stmt_where ends choice ++ c_returned 0 ∷ []
 
-  answers_are : (ends : Bool) → BlockIs in_tick (answers ends)
-  answers_are true = block_cons in_tick choice (c_returned 0 ∷ []) choice_is (block_one in_tick (c_returned 0) (returned_is 0))
-  answers_are false = block_one in_tick (c_returned 0) (returned_is 0)
+  answers_are : (b : Bool) → (b ≡ true → unit_may_end unit ≡ true) → BlockIs in_tick (answers b)
+  answers_are true ends = block_cons in_tick choice (c_returned 0 ∷ []) (choice_is (ends refl)) (block_one in_tick (c_returned 0) (returned_is 0))
+  answers_are false ends = block_one in_tick (c_returned 0) (returned_is 0)
 
   tick_body : BlockIs in_tick tick.body
-  tick_body = block_cons in_tick call (answers (unit_may_end unit)) call_is (answers_are (unit_may_end unit))
+  tick_body = block_cons in_tick call (answers (unit_may_end unit)) call_is (answers_are (unit_may_end unit) (λ ends. ends))
 
   call_calls : calls_in_stmt call ≡ unit_name unit.name ∷ []
   call_calls =
@@ -337,18 +357,29 @@ module _ (structs : List StructDef) (unit : UnitDef) (remembers : Bool) (table :
   pub tick-fine : functions (codes "bl_tick") ≡ None → faults_in_function table functions depths true tick ≡ []
   tick-fine new =
       let one = kept (is_none (functions (codes "bl_tick"))) distinct_names nowhere (absent (functions (codes "bl_tick")) new) in
-      let three = kept ((is_some (table (codes "bl_state")) && (is_some (table (codes "bl_in")) && (is_some (table (codes "bl_out")) && true))) && true)
-      declared_before nowhere
-      (all_there (table (codes "bl_state")) (table (codes "bl_in")) (table (codes "bl_out")) (ap is_some e.state) (ap is_some e.ins) (ap is_some e.outs)) in
+      let two = kept (all_distinct no_entries (variable_names tick)) distinct_names nowhere (names_differ (unit_may_end unit)) in
+      let three = kept ((is_some (table (codes "bl_state")) && (is_some (table (codes "bl_in")) && (is_some (table (codes "bl_out")) && true)))
+      && list_all (λ (l : CLocal). is_declared table l.ty) tick.locals) declared_before nowhere
+      (all_there (table (codes "bl_state")) (table (codes "bl_in")) (table (codes "bl_out"))
+      (list_all (λ (l : CLocal). is_declared table l.ty) tick.locals) (ap is_some e.state) (ap is_some e.ins) (ap is_some e.outs)
+      (locals_fine (unit_may_end unit))) in
       let six = kept (nat_le (depth_of_function depths tick) 300) short_chain nowhere (at_most (depth_of_function depths tick) tick_depth) in
       let seven = kept (last_returns (map surely_returns tick.body)) returns_result nowhere (answers_return (unit_may_end unit)) in
       let body = tick_body false in
-      (λ i. (one i ++ ([] ++ (three i ++ ([] ++ ([] ++ (six i ++ seven i))))))
+      (λ i. (one i ++ (two i ++ (three i ++ ([] ++ ([] ++ (six i ++ seven i))))))
       ++ (repeated (names_table (variable_names tick)) (tick_turns i) ++ body i))
     where
-      all_there : {A : Type 0} (x y z : Option A) → is_some x ≡ true → is_some y ≡ true → is_some z ≡ true →
-          ((is_some x && (is_some y && (is_some z && true))) && true) ≡ true
-      all_there (Some x) (Some y) (Some z) one two three = refl
-      all_there None y z one two three = absurd (cc)
-      all_there (Some x) None z one two three = absurd (cc)
-      all_there (Some x) (Some y) None one two three = absurd (cc)
+      all_there : {A : Type 0} (x y z : Option A) (rest : Bool) → is_some x ≡ true → is_some y ≡ true → is_some z ≡ true → rest ≡ true →
+          ((is_some x && (is_some y && (is_some z && true))) && rest) ≡ true
+      all_there (Some x) (Some y) (Some z) rest one two three four = four
+      all_there None y z rest one two three four = absurd (cc)
+      all_there (Some x) None z rest one two three four = absurd (cc)
+      all_there (Some x) (Some y) None rest one two three four = absurd (cc)
+
+      names_differ : (ends : Bool) → all_distinct no_entries (variable_names (tick_with ends)) ≡ true
+      names_differ true = refl
+      names_differ false = refl
+
+      locals_fine : (ends : Bool) → list_all (λ (l : CLocal). is_declared table l.ty) (tick_locals ends) ≡ true
+      locals_fine true = refl
+      locals_fine false = refl

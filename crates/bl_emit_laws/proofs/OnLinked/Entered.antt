@@ -35,7 +35,7 @@ use Rattle.bl_emit_functions_laws_wellformed.proofs.OnFiles.Shapes.{address-call
 use Rattle.bl_emit_functions_laws_wellformed.proofs.OnFiles.Shapes.{return-calls, step-calls, value-calls}
 use Rattle.bl_emit_functions_laws_simulation.specs.Units.{known_after}
 use Rattle.bl_emit_spec.specs.Activities.{activity_function, remembers_any}
-use Rattle.bl_emit_spec.specs.Blocks.{unit_may_end, stmt_where}
+use Rattle.bl_emit_spec.specs.Blocks.{unit_may_end, stmt_where, arg_where}
 use Rattle.bl_emit_spec.specs.Programs.{c_returned, init_function, input_arg, needed_units, output_arg, tick_args, tick_function}
 use Rattle.bl_emit_spec_laws.specs.Calls.Built.{Activities}
 use Rattle.bl_emit_laws.specs.Linked.{FilesEnter, table_of_needed}
@@ -74,13 +74,17 @@ value_quiet name member =
 over_quiet : calls_in_arg (Address (c_place false (codes "e") [])) ≡ []
 over_quiet = address-calls (c_place false (codes "e") []) ∙ place-calls false (codes "e") []
 
+end_quiet : (ends : Bool) → Quiet (arg_where ends (Address (c_place false (codes "e") [])))
+end_quiet true = quiet_more (Address (c_place false (codes "e") [])) [] over_quiet refl
+end_quiet false = refl
+
 args_quiet : (unit : UnitDef) (remembers : Bool) → Quiet (tick_args unit remembers)
 args_quiet unit remembers =
     quiet_more _ _ (address_quiet (codes "s") (codes "f"))
     (quiet_where remembers _ _ (address_quiet (codes "s") (codes "m"))
     (quiet_map input_arg (inputs_of unit) _ (λ var. value_quiet (codes "i") (codes "i_" ++ var.name))
     (quiet_map output_arg (outputs_of unit) _ (λ var. address_quiet (codes "o") (codes "o_" ++ var.name))
-    (quiet_more (Address (c_place false (codes "e") [])) [] over_quiet refl))))
+    (end_quiet (unit_may_end unit)))))
 
 returned_quiet : (n : ℕ) → calls_in_stmt (c_returned n) ≡ []
 returned_quiet n = return-calls (Some (c_literal (Nat W32) (pos n))) ∙ literal-calls (Nat W32) (pos n)

@@ -31,8 +31,8 @@ use Rattle.bl_emit_functions.specs.Functions.{params_from, struct_of}
 use Rattle.bl_emit_spec.specs.Activities.{Activity, RunAt, activity_function, blocks_code, entry_code, first_rules, first_positions, flag_local, is_flagged}
 use Rattle.bl_emit_spec.specs.Activities.{is_read_by, mark_local, mark_locals, memory_params, picked, reads_counter, remembered, rested_code}
 use Rattle.bl_emit_spec.specs.Activities.{ended_local, enters_at, one_a_place, rested_local, run_at, run_number_in}
-use Rattle.bl_emit_spec.specs.Activities.{activity_view, over_param, pointer_param, result_params, runs_at, runs_in_body, scalar_local}
-use Rattle.bl_emit_spec.specs.Blocks.{ActivityView, NodeCode, node_word}
+use Rattle.bl_emit_spec.specs.Activities.{activity_view, over_params, pointer_param, result_params, runs_at, runs_in_body, scalar_local, some_ends}
+use Rattle.bl_emit_spec.specs.Blocks.{ActivityView, NodeCode, node_word, unit_may_end}
 use Rattle.bl_emit_spec.specs.Names.{flag_name, frame_name}
 use Rattle.bl_emit_spec.specs.Programs.{ProgramParts, activity_of, parts_of_activity}
 use Rattle.bl_emit_spec.specs.Words.{word_in, word_of_node}
@@ -243,16 +243,17 @@ module _ (law : RulesAreListed) (bodies : BodiesAreNumbered) (alike : BlocksAlik
   remembered_so : remembered_by structs earlier remember unit (runs_told t.rules) ≡ remembered a
   remembered_so = ap (remembered_by structs earlier remember unit) runs_so
 
-  -- the C of an entry, where numbers of nodes have these words
-  abbrev entry_with : (ℕ → Text) → ℕ → CStmt
-  entry_with word = entry_at (record (view_told t) { word = word })
+  -- the C of an entry, where numbers of nodes have these words, and the first counter has a copy if the test is true
+  abbrev entry_with : (ℕ → Text) → Bool → ℕ → CStmt
+  entry_with word copied = entry_at (record (view_told t) { word = word; is_read = λ k. copied })
 
   entry_so : entry_told (view_told t) t.rules ≡ entry_code (activity_view a) (plain_body unit.body)
   entry_so =
       first_is (view_told t) t.rules
       ∙ (ap (map (entry_at (view_told t))) (sym (law.begins unit.body (joined one.blocks) one.slots))
-      ∙ (ap (λ (word : ℕ → Text). map (entry_with word) (map number (entries (plain_body unit.body)))) word_so
-      ∙ sym (entries_are (activity_view a) (plain_body unit.body))))
+      ∙ (ap (λ (word : ℕ → Text). map (entry_with word (read_told t.rules 0)) (map number (entries (plain_body unit.body)))) word_so
+      ∙ (ap (λ (copied : Bool). map (entry_with (activity_view a).word copied) (map number (entries (plain_body unit.body)))) (read_at 0)
+      ∙ sym (entries_are (activity_view a) (plain_body unit.body)))))
 
   views : Alike (view_told t) (activity_view a)
   views = record {
@@ -282,11 +283,12 @@ module _ (law : RulesAreListed) (bodies : BodiesAreNumbered) (alike : BlocksAlik
       ap₂ (λ (counters : List ℕ) (flags : List CLocal). map (rested_local t.sizes) counters
       ++ (flags
       ++ (marks_told (view_told t).word t.rules ++ (map (copy_told unit) (copied_told unit)
-      ++ (ended_local (runs_told t.rules) ++ joined (map (run_locals_told earlier) (runs_told t.rules)))))))
+      ++ (ended_local (some_ends earlier (runs_told t.rules)) ++ joined (map (run_locals_told earlier) (runs_told t.rules)))))))
       counters_so flags_so
       ∙ ap₂ (λ (marks : List CLocal) (runs : List RunAt). map (rested_local t.sizes) (filter (is_read_by rules) (up_to (length t.sizes)))
       ++ (joined (map (flag_local (activity_view a)) (first_rules a))
-      ++ (marks ++ (map (copy_told unit) (copied_told unit) ++ (ended_local runs ++ joined (map (run_locals_told earlier) runs)))))) marks_so runs_so
+      ++ (marks ++ (map (copy_told unit) (copied_told unit) ++ (ended_local (some_ends earlier runs) ++ joined (map (run_locals_told earlier) runs))))))
+      marks_so runs_so
 
   remembers_so : remembers_told t ≡ nat_lt 0 (length (remembered a))
   remembers_so = ap (λ (members : List CMember). nat_lt 0 (length members)) remembered_so
@@ -294,7 +296,7 @@ module _ (law : RulesAreListed) (bodies : BodiesAreNumbered) (alike : BlocksAlik
   params_so : params_told structs unit (nat_lt 0 (length (remembered a))) ≡ (activity_function a).params
   params_so =
       ap (λ (memory : List CParam). pointer_param (codes "f") (frame_name unit.name)
-      ∷ (memory ++ (params_from structs unit.vars 0 (parameters_of unit) ++ (result_params unit.result ++ over_param ∷ []))))
+      ∷ (memory ++ (params_from structs unit.vars 0 (parameters_of unit) ++ (result_params unit.result ++ over_params (unit_may_end unit)))))
       (sym (memory_is a (nat_lt 0 (length (remembered a)))))
 
   function_so : function_told t ≡ activity_function a

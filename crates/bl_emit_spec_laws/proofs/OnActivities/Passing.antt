@@ -1,5 +1,5 @@
 -- A call of the C function of an activity leaves what the pass of its instance leaves.
-use Rattle.std.proofs.Common.{◌≡◌, ℕ, ◌+◌, ◌<◌, Bool, true, false, List, [], ◌∷◌}
+use Rattle.std.proofs.Common.{◌≡◌, ℕ, ◌+◌, ◌<◌, Bool, true, false, List, []}
 use Rattle.std.proofs.Common.{◌++◌, length, map, drop, Some, None}
 use Rattle.std.proofs.Common.{refl, sym, ap, ◌∙◌, subst, arith, append-nil, append_assoc}
 use Rattle.std.proofs.lemmas.Bool.{leb-true, lt-ltb}
@@ -43,6 +43,7 @@ use Rattle.bl_emit_spec.specs.Activities.{
   rested_code,
 }
 use Rattle.bl_emit_acts.specs.Acts.{c_copied}
+use Rattle.bl_emit_spec.specs.Blocks.{unit_may_end}
 use Rattle.bl_emit_spec_laws.specs.Registers.Registers.{Over, over_at}
 use Rattle.bl_machine.specs.declared.machine.Activity.{Activity as InMachine}
 use Rattle.bl_machine_pass.specs.Registers.{Registers}
@@ -179,12 +180,13 @@ module _ (structs : List StructDef) (units : List UnitDef) (entry : ℕ) (machin
           scalar_number (value_at called.memory place) ≡ scalar_number (value_at rest.memory place)
       spelled place older = kept_after place.root (place.parts ++ []) older
 
-      over_left : scalar_number (value_at called.memory given.over) ≡ number_of r'.over
-      over_left =
-          ap (λ (p : Location). scalar_number (value_at called.memory p)) (sym lead.over)
-          ∙ spelled (over_at scope) function.places.frame.over_older
+      over_left : unit_may_end unit ≡ true → scalar_number (value_at called.memory given.over) ≡ number_of r'.over
+      over_left ends =
+          ap (λ (p : Location). scalar_number (value_at called.memory p)) (sym (lead.over ends))
+          ∙ spelled (over_at scope) (function.places.frame.over_older ends)
           ∙ ap (λ (ps : List Projection). rest.memory (over_at scope).root (ps ++ [])) (sym (append-nil (over_at scope).parts))
-          ∙ part.stands.registers.each Over refl
+          ∙ part.stands.registers.each Over
+          (ap unit_may_end (compiled.built.unit (unit_number W i) unit (unit_there W i unit is_there)) ∙ ends)
 
       result_left : (value : Value) → r'.over ≡ true → is_some unit.result ≡ true → result_at left i ≡ Some value →
           scalar_number (value_at called.memory given.result) ≡ number_or_zero value
@@ -250,25 +252,26 @@ module _ (structs : List StructDef) (units : List UnitDef) (entry : ℕ) (machin
           let lies : Location → Bool = λ place. lies_in place root way in
           let memories = where_true (remembers_any a) given.memory in
           let results = where_true (is_some unit.result) given.result in
-          let behind = or_right (lies given.frame) (list_any lies (memories ++ (given.outputs ++ (results ++ given.over ∷ [])))) none in
-          let later = any_right lies memories (given.outputs ++ (results ++ given.over ∷ [])) behind in
-          let last = any_right lies given.outputs (results ++ given.over ∷ []) later in
-          let end = any_right lies results (given.over ∷ []) last in
+          let overs = where_true (unit_may_end unit) given.over in
+          let behind = or_right (lies given.frame) (list_any lies (memories ++ (given.outputs ++ (results ++ overs)))) none in
+          let later = any_right lies memories (given.outputs ++ (results ++ overs)) behind in
+          let last = any_right lies given.outputs (results ++ overs) later in
+          let end = any_right lies results overs last in
           let roles = unit_roles structs units entry (unit_number W i) unit compiled.well_typed (unit_there W i unit is_there) in
           record {
-            frame = ap lies lead.frame ∙ or_left (lies given.frame) (list_any lies (memories ++ (given.outputs ++ (results ++ given.over ∷ [])))) none;
-            over = ap lies lead.over ∙ or_left (lies given.over) false end;
+            frame = ap lies lead.frame ∙ or_left (lies given.frame) (list_any lies (memories ++ (given.outputs ++ (results ++ overs)))) none;
+            over = λ ends. ap lies (lead.over ends) ∙ any_at lies overs 0 given.over end (first_where (unit_may_end unit) given.over ends);
             memory = λ has. ap lies (lead.memory has)
-                ∙ any_at lies memories 0 given.memory (any_left lies memories (given.outputs ++ (results ++ given.over ∷ [])) behind)
+                ∙ any_at lies memories 0 given.memory (any_left lies memories (given.outputs ++ (results ++ overs)) behind)
                 (first_where (remembers_any a) given.memory has);
             result = λ has. ap lies (lead.result has)
-                ∙ any_at lies results 0 given.result (any_left lies results (given.over ∷ []) last) (first_where (is_some unit.result) given.result has);
+                ∙ any_at lies results 0 given.result (any_left lies results overs last) (first_where (is_some unit.result) given.result has);
             outputs = λ x var there lent input.
                 (let at = lent_output site unit x var roles same_vars there lent input in
                 let place = output_place structs here (outputs_of unit) (output_values W store i unit) given.outputs at.position var begins.outputs
                 at.there in
                 ap (λ (n : ℕ). lies (lent_at scope site.vars n)) at.is ∙ ap lies (lead.outputs at.position place.0 place.1)
-                ∙ any_at lies given.outputs at.position place.0 (any_left lies given.outputs (results ++ given.over ∷ []) later) place.1);
+                ∙ any_at lies given.outputs at.position place.0 (any_left lies given.outputs (results ++ overs) later) place.1);
           }
 
       pub left_by : rest.end ≡ goes_on → CallLeaves W activities i unit depth given frames' left r' here called

@@ -25,11 +25,12 @@ use Rattle.bl_machine_pass_laws.specs.Spots.{SpotsDiffer}
 use Rattle.bl_machine_transitions_laws.proofs.Agreeing.{each_agrees}
 use Rattle.bl_machine_pass_laws.proofs.OnSlots.Finding.{number_at}
 use Rattle.bl_emit_spec.specs.Activities.{Activity, activity_view, first_rules, is_flagged, reads_counter, rules_at}
-use Rattle.bl_emit_spec.specs.Blocks.{Sizes, type_for}
-use Rattle.bl_emit_spec_laws.specs.Registers.Laws.{are_in_a_row, asks_its_own, changes_its_own, fits_counter, has_age}
+use Rattle.bl_emit_spec.specs.Blocks.{Sizes, type_for, unit_may_end}
+use Rattle.bl_emit_spec_laws.specs.Registers.Laws.{are_in_a_row, asks_its_own, changes_its_own, ends_body, fits_counter, has_age}
 use Rattle.bl_emit_spec_laws.specs.Calls.Built.{asks_flag, registered, sets_mark}
 use Rattle.bl_emit_spec_laws.specs.Own.{PlaceCounts}
 use Rattle.bl_emit_spec_laws.proofs.OnOwn.Counting.{list_counts, size_few}
+use Rattle.bl_emit_spec_laws.proofs.OnOwn.Endless.{ends_of_unit}
 use Rattle.bl_emit_spec_laws.proofs.OnOwn.Fitting.{AgeFits, ChangeFits, ConditionFits, HasFlag, HasMark, IsCounter, RowsIn, RuleFits, entry_flag, rules_in_fit}
 use Rattle.bl_emit_spec_laws.proofs.OnOwn.InRow.{rows_in, spots_in_many, there_at}
 use Rattle.bl_emit_spec_laws.proofs.OnOwn.Members.{Every, all_true, any_found, any_true, both_true, contains_at, every_at, every_from, every_left}
@@ -158,34 +159,40 @@ module _ (a : Activity) (list : List Slot) (spots : SpotsDiffer) (slots_are : a.
     abbrev FlagsFirst : Change → Type 0
     FlagsFirst change = (other : Transition) → MayFlag change other.node → Contains all other → Contains (first_rules a) other
 
-    change_on : (change : Change) → ChangeFits a.slots all Listed change → FlagsFirst change → changes_its_own number (registered a) change ≡ true
-    change_on (SetsFlag n) fits first = flag_on n fits (first fits.rule fits.is fits.there)
-    change_on (SetsCounter slot) fits first = slot_on slot fits
-    change_on (ClearsCounter k) fits first = counter_on k fits
-    change_on (ClearsBoth k) fits first = counter_on k fits
-    change_on (SetsMark n) fits first = mark_on n fits
-    change_on (EndsWhen start surface depth) fits first =
+    -- the change ends the body only where the activity may end
+    abbrev EndsUnit : Change → Type 0
+    EndsUnit change = ends_body change ≡ true → unit_may_end a.unit ≡ true
+
+    change_on : (change : Change) → ChangeFits a.slots all Listed change → FlagsFirst change → EndsUnit change →
+        changes_its_own number (registered a) change ≡ true
+    change_on (SetsFlag n) fits first ends = flag_on n fits (first fits.rule fits.is fits.there)
+    change_on (SetsCounter slot) fits first ends = slot_on slot fits
+    change_on (ClearsCounter k) fits first ends = counter_on k fits
+    change_on (ClearsBoth k) fits first ends = counter_on k fits
+    change_on (SetsMark n) fits first ends = mark_on n fits
+    change_on (EndsWhen start surface depth) fits first ends =
         both_true ((registered a).marks (number start)) ((registered a).flags (number surface) && (registered a).flags (number depth))
         (mark_on start fits.0)
         (both_true ((registered a).flags (number surface)) ((registered a).flags (number depth))
         (flag_on surface fits.1 (first fits.1.rule (inl fits.1.is) fits.1.there))
         (flag_on depth fits.2 (first fits.2.rule (inr fits.2.is) fits.2.there)))
-    change_on Finishes fits first = refl
+    change_on Finishes fits first ends = ends refl
 
     each_on : (changes : List Change) → Every (ChangeFits a.slots all Listed) changes → ((change : Change) → Contains changes change → FlagsFirst change) →
-        list_all (changes_its_own number (registered a)) changes ≡ true
-    each_on changes fits first =
+        ((change : Change) → Contains changes change → EndsUnit change) → list_all (changes_its_own number (registered a)) changes ≡ true
+    each_on changes fits first ends =
         all_true (Contains changes) (changes_its_own number (registered a)) changes
-        (λ change there. change_on change (every_at (ChangeFits a.slots all Listed) changes change fits there) (first change there))
+        (λ change there. change_on change (every_at (ChangeFits a.slots all Listed) changes change fits there) (first change there) (ends change there))
         (every_from (Contains changes) changes (λ change there. there))
 
     pub changes_on : (rule : Transition) → Contains all rule →
         ((change : Change) → Contains rule.on_true change ⊎ Contains rule.on_false change → FlagsFirst change) →
         (list_all (changes_its_own number (registered a)) rule.on_true ≡ true) × (list_all (changes_its_own number (registered a)) rule.on_false ≡ true)
     changes_on rule there first =
-        let fits = rule_fits rule there in (
-          each_on rule.on_true fits.on_true (λ change among. first change (inl among)),
-          each_on rule.on_false fits.on_false (λ change among. first change (inr among)),
+        let fits = rule_fits rule there in
+        let ends = ends_of_unit a.slots a.unit rule in (
+          each_on rule.on_true fits.on_true (λ change among. first change (inl among)) (λ change among. ends change there (inl among)),
+          each_on rule.on_false fits.on_false (λ change among. first change (inr among)) (λ change among. ends change there (inr among)),
         )
 
     -- ---- values that counters come to hold

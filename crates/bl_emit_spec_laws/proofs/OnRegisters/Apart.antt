@@ -88,7 +88,7 @@ further_apart p q xs ys h =
 
 -- ---- where registers stand
 
-module _ (scope : Scope) (frame : FramePointersAreValid scope) where
+module _ (scope : Scope) (has : Registered) (frame : FramePointersAreValid has.over scope) where
   abbrev local_at : Text → Location
   local_at name = named_location scope false name
 
@@ -102,13 +102,13 @@ module _ (scope : Scope) (frame : FramePointersAreValid scope) where
   older_local place name older = apart_flip (local_at name) place (local_older name place older)
 
   -- the names of the flag and the mark of a number
-  abbrev flag : Registered → ℕ → Text
-  flag has k = flag_name (with_word has.words k)
+  abbrev flag : ℕ → Text
+  flag k = flag_name (with_word has.words k)
 
-  abbrev mark : Registered → ℕ → Text
-  mark has k = mark_name (with_word has.words k)
+  abbrev mark : ℕ → Text
+  mark k = mark_name (with_word has.words k)
 
-  module _ (has : Registered) (few : FewRegisters has) where
+  module _ (few : FewRegisters has) where
     abbrev Differ : Register → Register → Type 0
     Differ x y = are_apart (register_at has scope x) (register_at has scope y) ≡ true
 
@@ -126,57 +126,57 @@ module _ (scope : Scope) (frame : FramePointersAreValid scope) where
     local_counter : (name : Text) (k : ℕ) → are_apart (local_at name) (register_at has scope (Counter k)) ≡ true
     local_counter name k = local_older name (register_at has scope (Counter k)) frame.frame_older
 
-    over_local : (name : Text) → are_apart (register_at has scope Over) (local_at name) ≡ true
-    over_local name = older_local (register_at has scope Over) name frame.over_older
+    over_local : (name : Text) → has.over ≡ true → are_apart (register_at has scope Over) (local_at name) ≡ true
+    over_local name ends = older_local (register_at has scope Over) name (frame.over_older ends)
 
-    local_over : (name : Text) → are_apart (local_at name) (register_at has scope Over) ≡ true
-    local_over name = local_older name (register_at has scope Over) frame.over_older
+    local_over : (name : Text) → has.over ≡ true → are_apart (local_at name) (register_at has scope Over) ≡ true
+    local_over name ends = local_older name (register_at has scope Over) (frame.over_older ends)
 
-    counter_over : (k : ℕ) → Differ (Counter k) Over
-    counter_over k = further_apart (frame_at scope) (over_at scope) (member (counter_name k) ∷ []) [] frame.apart
+    counter_over : (k : ℕ) → has.over ≡ true → Differ (Counter k) Over
+    counter_over k ends = further_apart (frame_at scope) (over_at scope) (member (counter_name k) ∷ []) [] (frame.apart ends)
 
     registers_differ : (x y : Register) → has_register has x ≡ true → has_register has y ≡ true → same_register x y ≡ false → Differ x y
     registers_differ (Counter j) (Counter k) its other differ = counters_differ j k its other differ
     registers_differ (Counter j) (Before k) its other differ = counter_local j (rested_name k)
-    registers_differ (Counter j) (Flag k) its other differ = counter_local j (flag has k)
-    registers_differ (Counter j) (Mark k) its other differ = counter_local j (mark has k)
-    registers_differ (Counter j) Over its other differ = counter_over j
+    registers_differ (Counter j) (Flag k) its other differ = counter_local j (flag k)
+    registers_differ (Counter j) (Mark k) its other differ = counter_local j (mark k)
+    registers_differ (Counter j) Over its other differ = counter_over j other
     registers_differ (Before j) (Counter k) its other differ = local_counter (rested_name j) k
     registers_differ (Before j) (Before k) its other differ =
         local_local (rested_name j) (rested_name k) (names_differ 119 j k (few.copied j its) (few.copied k other) differ)
-    registers_differ (Before j) (Flag k) its other differ = local_local (rested_name j) (flag has k) refl
-    registers_differ (Before j) (Mark k) its other differ = local_local (rested_name j) (mark has k) refl
-    registers_differ (Before j) Over its other differ = local_over (rested_name j)
-    registers_differ (Flag j) (Counter k) its other differ = local_counter (flag has j) k
-    registers_differ (Flag j) (Before k) its other differ = local_local (flag has j) (rested_name k) refl
+    registers_differ (Before j) (Flag k) its other differ = local_local (rested_name j) (flag k) refl
+    registers_differ (Before j) (Mark k) its other differ = local_local (rested_name j) (mark k) refl
+    registers_differ (Before j) Over its other differ = local_over (rested_name j) other
+    registers_differ (Flag j) (Counter k) its other differ = local_counter (flag j) k
+    registers_differ (Flag j) (Before k) its other differ = local_local (flag j) (rested_name k) refl
     registers_differ (Flag j) (Flag k) its other differ =
-        local_local (flag has j) (flag has k) (worded_differ 103 has.words j k (few.flags j its) (few.flags k other) differ)
-    registers_differ (Flag j) (Mark k) its other differ = local_local (flag has j) (mark has k) refl
-    registers_differ (Flag j) Over its other differ = local_over (flag has j)
-    registers_differ (Mark j) (Counter k) its other differ = local_counter (mark has j) k
-    registers_differ (Mark j) (Before k) its other differ = local_local (mark has j) (rested_name k) refl
-    registers_differ (Mark j) (Flag k) its other differ = local_local (mark has j) (flag has k) refl
+        local_local (flag j) (flag k) (worded_differ 103 has.words j k (few.flags j its) (few.flags k other) differ)
+    registers_differ (Flag j) (Mark k) its other differ = local_local (flag j) (mark k) refl
+    registers_differ (Flag j) Over its other differ = local_over (flag j) other
+    registers_differ (Mark j) (Counter k) its other differ = local_counter (mark j) k
+    registers_differ (Mark j) (Before k) its other differ = local_local (mark j) (rested_name k) refl
+    registers_differ (Mark j) (Flag k) its other differ = local_local (mark j) (flag k) refl
     registers_differ (Mark j) (Mark k) its other differ =
-        local_local (mark has j) (mark has k) (worded_differ 117 has.words j k (few.marks j its) (few.marks k other) differ)
-    registers_differ (Mark j) Over its other differ = local_over (mark has j)
+        local_local (mark j) (mark k) (worded_differ 117 has.words j k (few.marks j its) (few.marks k other) differ)
+    registers_differ (Mark j) Over its other differ = local_over (mark j) other
     registers_differ Over (Counter k) its other differ =
-        apart_flip (register_at has scope (Counter k)) (register_at has scope Over) (counter_over k)
-    registers_differ Over (Before k) its other differ = over_local (rested_name k)
-    registers_differ Over (Flag k) its other differ = over_local (flag has k)
-    registers_differ Over (Mark k) its other differ = over_local (mark has k)
+        apart_flip (register_at has scope (Counter k)) (register_at has scope Over) (counter_over k its)
+    registers_differ Over (Before k) its other differ = over_local (rested_name k) its
+    registers_differ Over (Flag k) its other differ = over_local (flag k) its
+    registers_differ Over (Mark k) its other differ = over_local (mark k) its
     registers_differ Over Over its other differ = absurd (no_such differ)
 
-    registers_live : (x : Register) → is_live scope.depth (register_at has scope x).root ≡ true
-    registers_live (Counter k) = older_live scope.depth (frame_at scope).root frame.frame_older
-    registers_live (Before k) = number_itself scope.depth
-    registers_live (Flag k) = number_itself scope.depth
-    registers_live (Mark k) = number_itself scope.depth
-    registers_live Over = older_live scope.depth (over_at scope).root frame.over_older
+    registers_live : (x : Register) → has_register has x ≡ true → is_live scope.depth (register_at has scope x).root ≡ true
+    registers_live (Counter k) its = older_live scope.depth (frame_at scope).root frame.frame_older
+    registers_live (Before k) its = number_itself scope.depth
+    registers_live (Flag k) its = number_itself scope.depth
+    registers_live (Mark k) its = number_itself scope.depth
+    registers_live Over its = older_live scope.depth (over_at scope).root (frame.over_older its)
 
   -- ---- beside variables
 
   module _ (site : TypingContext) (older : PointersOlder site scope) (from_frame : ApartFromPointers site scope (frame_at scope))
-      (from_over : ApartFromPointers site scope (over_at scope)) where
+      (from_over : has.over ≡ true → ApartFromPointers site scope (over_at scope)) where
     -- where a variable of a home stands
     abbrev place_of : Bool → Home → ℕ → Location
     place_of activity home k = further (start_in scope activity home site.vars k) (lead_in home site.vars k ++ [])
@@ -208,28 +208,30 @@ module _ (scope : Scope) (frame : FramePointersAreValid scope) where
     behind_by place more old from k var there activity Lent kind is =
         further_apart place (lent_at scope site.vars k) more (lead_in Lent site.vars k ++ []) (from.lent k var there is)
 
-    variables_apart : (has : Registered) (x : Register) (k : ℕ) (var : Var) → var_at site k ≡ Some var →
+    variables_apart : (x : Register) (k : ℕ) (var : Var) → has_register has x ≡ true → var_at site k ≡ Some var →
         are_apart (register_at has scope x) (place_of (is_activity site.kind) (home_at site k) k) ≡ true
-    variables_apart has (Counter j) k var there =
+    variables_apart (Counter j) k var its there =
         behind_by (frame_at scope) (member (counter_name j) ∷ []) frame.frame_older from_frame k var there (is_activity site.kind) (home_at site k)
         refl refl
-    variables_apart has (Before j) k var there = local_by (rested_name j) k var there refl refl (is_activity site.kind) (home_at site k) refl refl
-    variables_apart has (Flag j) k var there = local_by (flag has j) k var there refl refl (is_activity site.kind) (home_at site k) refl refl
-    variables_apart has (Mark j) k var there = local_by (mark has j) k var there refl refl (is_activity site.kind) (home_at site k) refl refl
-    variables_apart has Over k var there =
-        behind_by (over_at scope) [] frame.over_older from_over k var there (is_activity site.kind) (home_at site k) refl refl
+    variables_apart (Before j) k var its there = local_by (rested_name j) k var there refl refl (is_activity site.kind) (home_at site k) refl refl
+    variables_apart (Flag j) k var its there = local_by (flag j) k var there refl refl (is_activity site.kind) (home_at site k) refl refl
+    variables_apart (Mark j) k var its there = local_by (mark j) k var there refl refl (is_activity site.kind) (home_at site k) refl refl
+    variables_apart Over k var its there =
+        behind_by (over_at scope) [] (frame.over_older its) (from_over its) k var there (is_activity site.kind) (home_at site k) refl refl
 
-  copies_apart : (has : Registered) (vars : List Var) (x : Register) (k : ℕ) → are_apart (register_at has scope x) (copy_location scope vars k) ≡ true
-  copies_apart has vars (Counter j) k = older_local (register_at has scope (Counter j)) (copy_name vars k) frame.frame_older
-  copies_apart has vars (Before j) k = local_local (rested_name j) (copy_name vars k) refl
-  copies_apart has vars (Flag j) k = local_local (flag has j) (copy_name vars k) refl
-  copies_apart has vars (Mark j) k = local_local (mark has j) (copy_name vars k) refl
-  copies_apart has vars Over k = older_local (register_at has scope Over) (copy_name vars k) frame.over_older
+  copies_apart : (vars : List Var) (x : Register) (k : ℕ) → has_register has x ≡ true →
+      are_apart (register_at has scope x) (copy_location scope vars k) ≡ true
+  copies_apart vars (Counter j) k its = older_local (register_at has scope (Counter j)) (copy_name vars k) frame.frame_older
+  copies_apart vars (Before j) k its = local_local (rested_name j) (copy_name vars k) refl
+  copies_apart vars (Flag j) k its = local_local (flag j) (copy_name vars k) refl
+  copies_apart vars (Mark j) k its = local_local (mark j) (copy_name vars k) refl
+  copies_apart vars Over k its = older_local (register_at has scope Over) (copy_name vars k) (frame.over_older its)
 
-pub keep_apart : (site : TypingContext) (has : Registered) (scope : Scope) → FewRegisters has → FramePointersAreValid scope → PointersOlder site scope →
-    ApartFromPointers site scope (frame_at scope) → ApartFromPointers site scope (over_at scope) →
+pub keep_apart : (site : TypingContext) (has : Registered) (scope : Scope) → FewRegisters has → FramePointersAreValid has.over scope →
+    PointersOlder site scope →
+    ApartFromPointers site scope (frame_at scope) → (has.over ≡ true → ApartFromPointers site scope (over_at scope)) →
     RegistersApart has scope × RegistersBeside has site scope
 keep_apart site has scope few frame older from_frame from_over = (
-  record { each = registers_differ scope frame has few; live = registers_live scope frame has few },
-  record { variables = variables_apart scope frame site older from_frame from_over has; copies = copies_apart scope frame has site.vars },
+  record { each = registers_differ scope has frame few; live = registers_live scope has frame few },
+  record { variables = variables_apart scope has frame site older from_frame from_over; copies = copies_apart scope has frame site.vars },
 )

@@ -144,9 +144,9 @@ module _ (view : ActivityView) (has : Registered) (scope : Scope) (agree : Copie
         set_comes has scope apart m r (with_mark (view.number n) r) (Mark (view.number n)) (pos 1) (mark_place (node_word view n)) (c_truth true)
         (mark_answer scope m has view.word (view.number n) (words (view.number n))) (truth_answer scope m) its hold (mark_in has (view.number n) r)
 
-    over_comes : Leaves (finished r) m (c_set over_place (c_truth true) ∷ [])
-    over_comes =
-        set_comes has scope apart m r (finished r) Over (pos 1) over_place (c_truth true) (over_answer scope m) (truth_answer scope m) refl hold
+    over_comes : has.over ≡ true → Leaves (finished r) m (c_set over_place (c_truth true) ∷ [])
+    over_comes its =
+        set_comes has scope apart m r (finished r) Over (pos 1) over_place (c_truth true) (over_answer scope m) (truth_answer scope m) its hold
         (over_in has r)
 
   copy_comes : (r : Registers) (k : ℕ) (m : Memory) → RegistersEncoded has scope (with_counter k 0 r) m → has.copied k ≡ true →
@@ -218,7 +218,7 @@ module _ (view : ActivityView) (has : Registered) (scope : Scope) (agree : Copie
       let found = and_both (has.marks (view.number start)) (has.flags (view.number surface) && has.flags (view.number depth)) its in
       let flags = and_both (has.flags (view.number surface)) (has.flags (view.number depth)) found.1 in
       ends_come r m hold start surface depth found.0 flags.0 flags.1
-  one_comes Finishes r m hold its = over_comes r m hold
+  one_comes Finishes r m hold its = over_comes r m hold its
 
   pub compiled_simulate : (changes : List Change) (r : Registers) (m : Memory) → RegistersEncoded has scope r m →
       list_all (changes_its_own view.number has) changes ≡ true → Leaves (all_changed view.number changes r) m (changes_code view changes)

@@ -158,7 +158,7 @@ module _ (scope : Scope) (here : Memory) where
       by true = refl
       by false = refl
 
-  eq_shows : (e f : CExpr) (k l : ℕ) → gives scope here e ≡ Some (pos k) → gives scope here f ≡ Some (pos l) → Shows (c_two Eq e f) (nat_eq k l)
+  pub eq_shows : (e f : CExpr) (k l : ℕ) → gives scope here e ≡ Some (pos k) → gives scope here f ≡ Some (pos l) → Shows (c_two Eq e f) (nat_eq k l)
   eq_shows e f k l first second =
       compare-number scope here Eq e f (λ l r. refl)
       ∙ (ap₂ (λ (x y : Option ℤ). option_and_then (λ x. option_and_then (checked_of Eq OfBool x) y) x) first second

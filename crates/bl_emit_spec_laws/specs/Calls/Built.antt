@@ -19,7 +19,7 @@ use Rattle.bl_machine_pass.specs.Numbered.{sizes_of, slots_of}
 use Rattle.bl_machine_pass.specs.Transitions.{Change, SetsMark, Transition}
 use Rattle.bl_machine_pass_laws_execution.specs.Frames.{Frames}
 use Rattle.bl_emit_spec.specs.Activities.{Activity, activity_view, first_rules, is_flagged, picked, remembers_any, rules_at}
-use Rattle.bl_emit_spec.specs.Blocks.{word_at}
+use Rattle.bl_emit_spec.specs.Blocks.{unit_may_end, word_at}
 use Rattle.bl_emit_spec.specs.Names.{NumberedWord}
 use Rattle.bl_emit_spec_laws.specs.Registers.Registers.{Registered}
 
@@ -106,7 +106,7 @@ sets_mark number k (SetsMark n) = nat_eq k (number n)
 sets_mark number k _ = false
 
 -- the registers that the activity's function has: its counters, copies of those that some rule asks for, the flags that the rules of blocks' first nodes
--- ask for, and the marks that rules set, with the words of the activity's nodes
+-- ask for, and the marks that rules set, with the words of the activity's nodes, and whether its body has ended, where it may end
 abbrev pub registered : Activity → Registered
 registered a = record {
   counters = λ k. nat_lt k (length a.sizes);
@@ -114,6 +114,7 @@ registered a = record {
   flags = λ k. list_any (asks_flag (activity_view a).number k) (first_rules a);
   marks = λ k. list_any (λ rule. list_any (sets_mark (activity_view a).number k) rule.on_true) (rules_at a);
   words = (activity_view a).word;
+  over = unit_may_end a.unit;
 }
 
 -- ---- what the start of a `run` clears

@@ -37,7 +37,7 @@ use Rattle.bl_emit_acts_laws_simulation.specs.Acts.{OutputsEncoded, UnchangedOut
 use Rattle.bl_emit_acts_laws_simulation.specs.Encodes.{are_apart, is_live}
 use Rattle.bl_emit_acts_laws_simulation.specs.Simulation.{ArgumentsEncoded}
 use Rattle.bl_emit_spec.specs.Activities.{remembers_any}
-use Rattle.bl_emit_spec.specs.Blocks.{greatest_value}
+use Rattle.bl_emit_spec.specs.Blocks.{greatest_value, unit_may_end}
 use Rattle.bl_machine_pass.specs.Registers.{Registers, with_at}
 use Rattle.bl_machine_pass_laws_execution.specs.Executes.{Executes, PassTraps, begun_registers, resumed_registers}
 use Rattle.bl_machine_pass_laws_execution.specs.Frames.{Frames}
@@ -47,7 +47,7 @@ use Rattle.bl_emit_spec_laws.specs.Calls.Memories.{MemoryEncodes}
 -- ---- what a call is given
 
 -- the places that the function of an activity is given: of the counters, of what it remembers, of the outputs, of the result and of whether its body
--- has ended; and the inputs
+-- has ended; and the inputs. Which of these places matter depends on the activity
 pub record CallAddresses : Type 0 where
   pub frame : Location
   pub memory : Location
@@ -60,20 +60,21 @@ pub record CallAddresses : Type 0 where
 abbrev pub where_true : {X : Type 0} → Bool → X → List X
 where_true test x = if test then x ∷ [] else []
 
--- the arguments, in the order of parameters: an activity that remembers nothing has no place for that, and one without a result none for that
+-- the arguments, in the order of parameters: an activity that remembers nothing has no place for that, one without a result none for that, and one that
+-- never ends none for its end
 abbrev pub passed_to : UnitDef → Bool → CallAddresses → List ArgumentValue
 passed_to unit remembers given =
     by_address given.frame
     ∷ (where_true remembers (by_address given.memory)
     ++ ((given.inputs ++ map by_address given.outputs)
-    ++ (where_true (is_some unit.result) (by_address given.result) ++ by_address given.over ∷ [])))
+    ++ (where_true (is_some unit.result) (by_address given.result) ++ where_true (unit_may_end unit) (by_address given.over))))
 
 -- the places that the call may write
 abbrev pub written_by : UnitDef → Bool → CallAddresses → List Location
 written_by unit remembers given =
     given.frame
     ∷ (where_true remembers given.memory
-    ++ (given.outputs ++ (where_true (is_some unit.result) given.result ++ given.over ∷ [])))
+    ++ (given.outputs ++ (where_true (is_some unit.result) given.result ++ where_true (unit_may_end unit) given.over)))
 
 -- a function at this depth may give these places: those that may be written are live, and apart from each other and from the inputs
 pub record MayGive (unit : UnitDef) (remembers : Bool) (depth : ℕ) (given : CallAddresses) : Type 0 where
@@ -92,13 +93,14 @@ output_values w store i unit = take unit.outputs (drop unit.inputs (view_at w st
 abbrev pub FramesWithin : Setting → Activities → Frames → Type 0
 FramesWithin w activities frames = (i c : ℕ) → frames i c ≤ greatest_value (activity_at w activities i).sizes c
 
--- memory at the start of a call encodes where the instance rests, what it remembers, and its inputs and outputs. The body hasn't ended
+-- memory at the start of a call encodes where the instance rests, what it remembers, and its inputs and outputs. Where the body may end, memory tells that it
+-- hasn't
 pub record CallBegins (w : Setting) (activities : Activities) (i : ℕ) (unit : UnitDef) (depth : ℕ) (given : CallAddresses) (frames : Frames) (store : Store)
     (here : Memory) : Type 0 where
   pub memory : MemoryEncodes w activities i given.frame given.memory frames store here
   pub inputs : ArgumentsEncoded w.structs depth here (inputs_of unit) (input_values w store i unit) given.inputs
   pub outputs : OutputsEncoded w.structs here (outputs_of unit) (output_values w store i unit) given.outputs
-  pub over : scalar_number (value_at here given.over) ≡ pos 0
+  pub over : unit_may_end unit ≡ true → scalar_number (value_at here given.over) ≡ pos 0
   -- all values are of their types, and no counter holds more than its greatest value
   pub fits : StoreFits w store
   pub within : FramesWithin w activities frames
@@ -111,13 +113,14 @@ PassStarts w activities i unit frames r =
 
 -- ---- what a call leaves
 
--- memory after a call encodes what a pass by rules leaves, at the same places, and older memory is unchanged elsewhere
+-- memory after a call encodes what a pass by rules leaves, at the same places, and older memory is unchanged elsewhere. Whether the body has ended it tells
+-- where that may be
 pub record CallLeaves (w : Setting) (activities : Activities) (i : ℕ) (unit : UnitDef) (depth : ℕ) (given : CallAddresses) (frames : Frames) (left : Store)
     (r : Registers) (here : Memory) (called : CallResult) : Type 0 where
   pub returned : called.result ≡ Some (pos 0)
   pub memory : MemoryEncodes w activities i given.frame given.memory (with_at i r.counters frames) left called.memory
   pub outputs : OutputsEncoded w.structs called.memory (outputs_of unit) (output_values w left i unit) given.outputs
-  pub over : scalar_number (value_at called.memory given.over) ≡ number_of r.over
+  pub over : unit_may_end unit ≡ true → scalar_number (value_at called.memory given.over) ≡ number_of r.over
   -- the result is there where the body has ended
   pub result : (value : Value) → r.over ≡ true → is_some unit.result ≡ true → result_at left i ≡ Some value →
       scalar_number (value_at called.memory given.result) ≡ number_or_zero value

@@ -19,6 +19,7 @@ use Rattle.bl_emit_acts_laws_simulation.specs.Frames.{PointersAreValid, is_older
 use Rattle.bl_emit_acts_laws_simulation.specs.Encodes.{CopiesEncoded, VariablesEncoded, are_apart, home_at}
 use Rattle.bl_emit_functions_laws_simulation.specs.Units.{AllAgree}
 use Rattle.bl_emit_spec.specs.Activities.{copies_of, remembers_any}
+use Rattle.bl_emit_spec.specs.Blocks.{unit_may_end}
 use Rattle.bl_emit_spec_laws.specs.Registers.Registers.{ApartFromPointers, FramePointersAreValid, RegistersEncoded, frame_at, over_at}
 use Rattle.bl_machine_pass.specs.Registers.{Registers}
 use Rattle.bl_machine_pass_laws_execution.specs.Frames.{Frames}
@@ -32,22 +33,22 @@ use Rattle.bl_emit_spec_laws.specs.Calls.Memories.{MemoryEncodes, inner}
 abbrev pub result_at_c : Scope → Location
 result_at_c scope = named_location scope true (codes "r")
 
--- a place is older than the function's call, and apart from its counters, its end flag, and what the pointers for variables lead to
-pub record PlaceIsSeparate (site : TypingContext) (scope : Scope) (place : Location) : Type 0 where
+-- a place is older than the function's call, and apart from its counters, its end flag, if its body may end, and what the pointers for variables lead to
+pub record PlaceIsSeparate (site : TypingContext) (may_end : Bool) (scope : Scope) (place : Location) : Type 0 where
   pub older : is_older scope.depth place.root ≡ true
   pub frame : are_apart place (frame_at scope) ≡ true
-  pub over : are_apart place (over_at scope) ≡ true
+  pub over : may_end ≡ true → are_apart place (over_at scope) ≡ true
   pub lent : (k : ℕ) (var : Var) → var_at site k ≡ Some var → home_at site k ≡ Lent → are_apart place (lent_at scope site.vars k) ≡ true
 
 -- all pointers of the function lead to what was there before, and those through which is written apart from all others
 pub record PlacesAreSeparate (site : TypingContext) (unit : UnitDef) (remembers : Bool) (scope : Scope) : Type 0 where
   pub pointers : PointersAreValid site scope
-  pub frame : FramePointersAreValid scope
+  pub frame : FramePointersAreValid (unit_may_end unit) scope
   pub frame_apart : ApartFromPointers site scope (frame_at scope)
-  pub over_apart : ApartFromPointers site scope (over_at scope)
+  pub over_apart : unit_may_end unit ≡ true → ApartFromPointers site scope (over_at scope)
   -- the place of what the activity remembers, itself or in what it calls, is separate
-  pub memory : remembers ≡ true → PlaceIsSeparate site scope (remembered_at scope)
-  pub result : is_some unit.result ≡ true → PlaceIsSeparate site scope (result_at_c scope)
+  pub memory : remembers ≡ true → PlaceIsSeparate site (unit_may_end unit) scope (remembered_at scope)
+  pub result : is_some unit.result ≡ true → PlaceIsSeparate site (unit_may_end unit) scope (result_at_c scope)
   pub result_apart : is_some unit.result ≡ true → remembers ≡ true → are_apart (result_at_c scope) (remembered_at scope) ≡ true
 
 -- ---- what the function knows

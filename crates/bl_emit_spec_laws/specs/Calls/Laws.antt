@@ -44,7 +44,7 @@ use Rattle.bl_emit_spec.specs.Activities.{
   rested_code,
 }
 use Rattle.bl_emit_functions.specs.Trees.{c_if}
-use Rattle.bl_emit_spec.specs.Blocks.{ActivityView, guard_of, node_code}
+use Rattle.bl_emit_spec.specs.Blocks.{ActivityView, guard_of, node_code, unit_may_end}
 use Rattle.bl_emit_spec_laws.specs.Registers.Laws.{RegistersWithin}
 use Rattle.bl_emit_spec_laws.specs.Registers.Registers.{FewRegisters, frame_at, over_at}
 use Rattle.bl_machine.specs.declared.machine.Activity.{Activity as InMachine}
@@ -78,7 +78,7 @@ pub record CompilationContext (structs : List StructDef) (units : List UnitDef) 
 -- a number of memory that the function of an activity may not write: it lies in none of the places to which its pointers lead, but for the inputs'
 pub record PassOutside (site : TypingContext) (unit : UnitDef) (remembers : Bool) (scope : Scope) (root : Root) (way : List Projection) : Type 0 where
   pub frame : lies_in (frame_at scope) root way ≡ false
-  pub over : lies_in (over_at scope) root way ≡ false
+  pub over : unit_may_end unit ≡ true → lies_in (over_at scope) root way ≡ false
   pub memory : remembers ≡ true → lies_in (remembered_at scope) root way ≡ false
   pub result : is_some unit.result ≡ true → lies_in (result_at_c scope) root way ≡ false
   pub outputs : (k : ℕ) (var : Var) → var_at site k ≡ Some var → home_at site k ≡ Lent → is_input var.role ≡ false →

@@ -1,5 +1,5 @@
 -- What holds of the C of a pass, beside the registers of the pass.
-use Rattle.std.specs.Prelude.{◌≡◌, ℕ, suc, ◌≤◌, pos, Bool, true, ◌&&◌, List, [], ◌∷◌, Some, nat_eq, option_map}
+use Rattle.std.specs.Prelude.{◌≡◌, ℕ, suc, ◌≤◌, pos, Bool, true, false, ◌&&◌, List, [], ◌∷◌, Some, nat_eq, option_map}
 use Rattle.std.specs.List.{list_all}
 use Rattle.bl_tree.specs.Numbers.{number_of}
 use Rattle.bl_tree.specs.Scalar.{in_range}
@@ -17,6 +17,11 @@ use Rattle.bl_emit_spec_laws.specs.Registers.Registers.{ApartFromPointers, FewRe
 use Rattle.bl_emit_spec_laws.specs.Registers.Registers.{RegistersBeside}
 use Rattle.bl_emit_spec_laws.specs.Registers.Registers.{RegistersEncoded, RegistersEncodedAfter, frame_at, over_at}
 
+-- whether a change ends the body
+abbrev pub ends_body : Change → Bool
+ends_body Finishes = true
+ends_body _ = false
+
 -- whether all that a change sets or looks at is a register of the activity
 abbrev pub changes_its_own : (Node → ℕ) → Registered → Change → Bool
 changes_its_own number has (SetsFlag n) = has.flags (number n)
@@ -25,7 +30,7 @@ changes_its_own number has (ClearsCounter k) = has.counters k
 changes_its_own number has (ClearsBoth k) = has.counters k
 changes_its_own number has (SetsMark n) = has.marks (number n)
 changes_its_own number has (EndsWhen start surface depth) = has.marks (number start) && (has.flags (number surface) && has.flags (number depth))
-changes_its_own number has Finishes = true
+changes_its_own number has Finishes = has.over
 
 -- the counters that have copies are those that C copies
 abbrev pub CopiesAgree : ActivityView → Registered → Type 0
@@ -94,6 +99,6 @@ GuardsEvaluate =
 -- the places of registers are apart from one another, from variables and from copies, where the pointers are valid
 abbrev pub RegistersKeepApart : Type 0
 RegistersKeepApart =
-    (site : TypingContext) (has : Registered) (scope : Scope) → FewRegisters has → FramePointersAreValid scope → PointersOlder site scope →
-    ApartFromPointers site scope (frame_at scope) → ApartFromPointers site scope (over_at scope) →
+    (site : TypingContext) (has : Registered) (scope : Scope) → FewRegisters has → FramePointersAreValid has.over scope → PointersOlder site scope →
+    ApartFromPointers site scope (frame_at scope) → (has.over ≡ true → ApartFromPointers site scope (over_at scope)) →
     RegistersApart has scope × RegistersBeside has site scope

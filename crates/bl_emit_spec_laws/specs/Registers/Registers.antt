@@ -44,6 +44,8 @@ pub record Registered : Type 0 where
   pub marks : ℕ → Bool
   -- the words in the C names of flags and marks, by the numbers of nodes
   pub words : ℕ → Text
+  -- whether its body may end, which a register tells then
+  pub over : Bool
 
 -- whether a register is one of the activity's
 abbrev pub has_register : Registered → Register → Bool
@@ -51,7 +53,7 @@ has_register has (Counter k) = has.counters k
 has_register has (Before k) = has.copied k
 has_register has (Flag k) = has.flags k
 has_register has (Mark k) = has.marks k
-has_register has Over = true
+has_register has Over = has.over
 
 -- ---- places
 
@@ -107,19 +109,19 @@ pub record FewRegisters (has : Registered) : Type 0 where
 pub record RegistersApart (has : Registered) (scope : Scope) : Type 0 where
   pub each : (x y : Register) → has_register has x ≡ true → has_register has y ≡ true → same_register x y ≡ false →
       are_apart (register_at has scope x) (register_at has scope y) ≡ true
-  pub live : (x : Register) → is_live scope.depth (register_at has scope x).root ≡ true
+  pub live : (x : Register) → has_register has x ≡ true → is_live scope.depth (register_at has scope x).root ≡ true
 
 -- the places of registers are apart from those of variables and copies
 pub record RegistersBeside (has : Registered) (site : TypingContext) (scope : Scope) : Type 0 where
-  pub variables : (x : Register) (k : ℕ) (var : Var) → var_at site k ≡ Some var →
+  pub variables : (x : Register) (k : ℕ) (var : Var) → has_register has x ≡ true → var_at site k ≡ Some var →
       are_apart (register_at has scope x) (location_in scope site k []) ≡ true
-  pub copies : (x : Register) (k : ℕ) → are_apart (register_at has scope x) (copy_location scope site.vars k) ≡ true
+  pub copies : (x : Register) (k : ℕ) → has_register has x ≡ true → are_apart (register_at has scope x) (copy_location scope site.vars k) ≡ true
 
--- the pointers to the counters and to the end lead to what was there before the function began, and apart from each other
-pub record FramePointersAreValid (scope : Scope) : Type 0 where
+-- the pointers to the counters and to the end, if the body may end, lead to what was there before the function began, and apart from each other
+pub record FramePointersAreValid (may_end : Bool) (scope : Scope) : Type 0 where
   pub frame_older : is_older scope.depth (frame_at scope).root ≡ true
-  pub over_older : is_older scope.depth (over_at scope).root ≡ true
-  pub apart : are_apart (frame_at scope) (over_at scope) ≡ true
+  pub over_older : may_end ≡ true → is_older scope.depth (over_at scope).root ≡ true
+  pub apart : may_end ≡ true → are_apart (frame_at scope) (over_at scope) ≡ true
 
 -- A place has nothing in common with what the pointers for a unit's variables lead to. They lead to what was there before the function
 -- began; of these a pointer to what an activity remembers matters only where it remembers a variable

@@ -32,9 +32,10 @@ use Rattle.bl_emit_acts_laws_simulation.specs.Laws.{CopiesBegin, FramesApart}
 use Rattle.bl_emit_functions_laws_simulation.specs.Calls.{CallsKeepFrame, HandsOver, memory_begun}
 use Rattle.bl_emit_spec.specs.Activities.{Activity, activity_function, body_of, copied_in, copies_of, counters_read, entry_code, remembers_any}
 use Rattle.bl_emit_spec.specs.Activities.{activity_view, rested_code}
+use Rattle.bl_emit_spec.specs.Blocks.{unit_may_end}
 use Rattle.bl_emit_spec.specs.Names.{counter_name, flag_name, mark_name, rested_name, with_word}
 use Rattle.bl_emit_spec_laws.specs.Registers.Laws.{GuardsEvaluate, RegistersKeepApart, RegistersWithin}
-use Rattle.bl_emit_spec_laws.specs.Registers.Registers.{Before, Counter, FewRegisters, Flag, Mark, Over, PointersOlder, Register, Registered, RegistersApart}
+use Rattle.bl_emit_spec_laws.specs.Registers.Registers.{Before, Counter, FewRegisters, Flag, Mark, Over, Register, Registered, RegistersApart}
 use Rattle.bl_emit_spec_laws.specs.Registers.Registers.{RegistersBeside, frame_at, has_register, held_in, register_at}
 use Rattle.bl_machine.specs.Blocks.{up_to}
 use Rattle.bl_machine.specs.declared.machine.Activity.{Activity as InMachine}
@@ -51,6 +52,7 @@ use Rattle.bl_emit_spec_laws.specs.Calls.Memories.{MemoryEncodes, inner}
 use Rattle.bl_emit_spec_laws.specs.Calls.Invariant.{PassRepresents, PlacesAreSeparate}
 use Rattle.bl_emit_spec_laws.specs.Activities.{CalleesRemember, PointersLead}
 use Rattle.bl_emit_spec_laws.proofs.OnWithin.Changing.{none_within}
+use Rattle.bl_emit_spec_laws_nodes.proofs.OnPoints.Changes.{registers_keep}
 use Rattle.bl_emit_spec_laws_files.specs.Begins.{CountersSuffice, FunctionsBeginWhere}
 use Rattle.bl_emit_spec_laws_files.proofs.OnBegins.Callees.{callee_kept}
 use Rattle.bl_emit_spec_laws_files.proofs.OnBegins.Cells.{apart_flip, left_apart}
@@ -132,11 +134,8 @@ module _ (structs : List StructDef) (units : List UnitDef) (entry_at : ℕ) (ord
       (stands_there structs units entry_at orderly hands machine activities i unit known depth given frames store here compiled there may begins)
       (kind_is structs units entry_at orderly hands machine activities i unit known depth given frames store here compiled there may begins)
 
-  pointers_older : PointersOlder site scope
-  pointers_older = record { lent = places.pointers.lent_older; remembered = places.pointers.held_older }
-
   kept_apart : RegistersApart has scope × RegistersBeside has site scope
-  kept_apart = keep_apart site has scope few_registers places.frame pointers_older places.frame_apart places.over_apart
+  kept_apart = registers_keep keep_apart site unit (remembers_any a) scope a is_unit few_registers places
 
   apart : RegistersApart has scope
   apart = kept_apart.0
@@ -152,8 +151,8 @@ module _ (structs : List StructDef) (units : List UnitDef) (entry_at : ℕ) (ord
   frame_older : is_older (depth + 1) given.frame.root ≡ true
   frame_older = ap (λ (p : Location). is_older (depth + 1) p.root) (sym go.frame) ∙ places.frame.frame_older
 
-  over_older : is_older (depth + 1) given.over.root ≡ true
-  over_older = ap (λ (p : Location). is_older (depth + 1) p.root) (sym go.over) ∙ places.frame.over_older
+  over_older : unit_may_end unit ≡ true → is_older (depth + 1) given.over.root ≡ true
+  over_older ends = ap (λ (p : Location). is_older (depth + 1) p.root) (sym (go.over ends)) ∙ places.frame.over_older ends
 
   zero_at : (name : List ℕ) → ((k : ℕ) → bytes_eq (variable_name site.vars k) name ≡ false) → (way : List Projection)
       → begun (variable (depth + 1) name) way ≡ pos 0
@@ -182,9 +181,10 @@ module _ (structs : List StructDef) (units : List UnitDef) (entry_at : ℕ) (ord
   first_holds (Flag k) its = zero_at (flag_name (with_word has.words k)) (λ j. refl) []
   first_holds (Mark k) its = zero_at (mark_name (with_word has.words k)) (λ j. refl) []
   first_holds Over its =
-      ap (λ (p : Location). scalar_number (value_at begun (further p []))) go.over
+      let ends : unit_may_end unit ≡ true = ap unit_may_end (sym is_unit) ∙ its in
+      ap (λ (p : Location). scalar_number (value_at begun (further p []))) (go.over ends)
       ∙ (ap (λ (parts : List Projection). begun given.over.root (parts ++ [])) (append-nil given.over.parts)
-      ∙ (begun_older given.over.root (given.over.parts ++ []) over_older ∙ begins.over))
+      ∙ (begun_older given.over.root (given.over.parts ++ []) (over_older ends) ∙ begins.over ends))
 
   abbrev Mid : Registers → Memory → Type 0
   Mid = Stands has site scope now begun
@@ -238,10 +238,15 @@ module _ (structs : List StructDef) (units : List UnitDef) (entry_at : ℕ) (ord
       })
       is
 
+  first_copied : (activity_view a).is_read 0 ≡ true → (has.copied 0 ≡ true) × (second.rested 0 ≡ second.counters 0)
+  first_copied is =
+      let first : Registers = at_first (frames i) in
+      (is, comes_rested Read first 0 (copied_read 0 is) ∙ sym (ap (λ (held : ℕ → ℕ). held 0) (same_parts Read first).0))
+
   entry_done : (m : Memory) → Mid second m → GoesTo (Mid third) (block_c (entry_code (activity_view a) (body_of a)) scope m)
   entry_done m stands =
       entry_goes has site scope apart beside now begun (activity_view a) (λ k. refl) guards (lt-ltb 0 (length a.sizes) suffice.some) (body_of a) second m
-      (λ s rest is. entry_flagged s rest (ap (λ (u : UnitDef). plain_body u.body) (sym is_unit) ∙ is))
+      (λ s rest is. entry_flagged s rest (ap (λ (u : UnitDef). plain_body u.body) (sym is_unit) ∙ is)) first_copied
       second_within.rested stands
 
   -- ---- the copies of variables
@@ -344,7 +349,7 @@ module _ (structs : List StructDef) (units : List UnitDef) (entry_at : ℕ) (ord
       after_holds x its =
           left.kept (register_at has scope x).root ((register_at has scope x).parts ++ [])
           (any_false (λ k. lies_in (copy_location scope site.vars k) (register_at has scope x).root ((register_at has scope x).parts ++ [])) Copied
-          (λ k. apart_lies (register_at has scope x) (copy_location scope site.vars k) [] (beside.copies x k)))
+          (λ k. apart_lies (register_at has scope x) (copy_location scope site.vars k) [] (beside.copies x k its)))
           ∙ (stands.hold.each x its ∙ same x its)
 
       after_copied : CopiesEncoded site now (is_copied (copies_of unit)) scope after

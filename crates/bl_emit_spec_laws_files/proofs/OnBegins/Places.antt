@@ -19,6 +19,7 @@ use Rattle.bl_emit_acts_laws_simulation.specs.Frames.{PointersAreValid, is_older
 use Rattle.bl_emit_acts_laws_simulation.specs.Encodes.{are_apart, home_at, is_live, ways_part}
 use Rattle.bl_emit_functions_laws_simulation.specs.Calls.{HandedOver}
 use Rattle.bl_emit_spec.specs.Activities.{Activity, activity_view, remembers_any}
+use Rattle.bl_emit_spec.specs.Blocks.{unit_may_end}
 use Rattle.bl_emit_spec_laws.specs.Registers.Registers.{FramePointersAreValid, frame_at, over_at}
 use Rattle.bl_emit_spec_laws.specs.Calls.Calls.{CallAddresses, MayGive, where_true, written_by}
 use Rattle.bl_emit_spec_laws.specs.Calls.Invariant.{PlacesAreSeparate, result_at_c}
@@ -87,8 +88,11 @@ module _ (a : Activity) (standing : roles_stand a.unit ≡ true) (active : is_ac
   abbrev Results : List Location
   Results = where_true (is_some a.unit.result) given.result
 
+  abbrev Overs : List Location
+  Overs = where_true (unit_may_end a.unit) given.over
+
   abbrev Ends : List Location
-  Ends = Results ++ given.over ∷ []
+  Ends = Results ++ Overs
 
   abbrev Later : List Location
   Later = Memories ++ (given.outputs ++ Ends)
@@ -108,10 +112,11 @@ module _ (a : Activity) (standing : roles_stand a.unit ≡ true) (active : is_ac
       (all_front (are_apart given.frame) given.outputs Ends (all_front (are_apart given.frame) Memories (given.outputs ++ Ends) frame_all).1).1
 
   frame_results : list_all (are_apart given.frame) Results ≡ true
-  frame_results = (all_front (are_apart given.frame) Results (given.over ∷ []) frame_ends).0
+  frame_results = (all_front (are_apart given.frame) Results Overs frame_ends).0
 
-  frame_over : are_apart given.frame given.over ≡ true
-  frame_over = and_left (are_apart given.frame given.over) true (all_front (are_apart given.frame) Results (given.over ∷ []) frame_ends).1
+  frame_over : unit_may_end a.unit ≡ true → are_apart given.frame given.over ≡ true
+  frame_over ends =
+      one_where (are_apart given.frame) (unit_may_end a.unit) given.over ends (all_front (are_apart given.frame) Results Overs frame_ends).1
 
   later_parts : AllApart Memories (given.outputs ++ Ends) × (all_apart Memories ≡ true) × (all_apart (given.outputs ++ Ends) ≡ true)
   later_parts = apart_split Memories (given.outputs ++ Ends) (and_right (list_all (are_apart given.frame) Later) (all_apart Later) may.apart)
@@ -119,17 +124,17 @@ module _ (a : Activity) (standing : roles_stand a.unit ≡ true) (active : is_ac
   memory_parts : AllApart Memories given.outputs × AllApart Memories Ends
   memory_parts = apart_parts Memories given.outputs Ends later_parts.0
 
-  memory_ends : AllApart Memories Results × AllApart Memories (given.over ∷ [])
-  memory_ends = apart_parts Memories Results (given.over ∷ []) memory_parts.1
+  memory_ends : AllApart Memories Results × AllApart Memories Overs
+  memory_ends = apart_parts Memories Results Overs memory_parts.1
 
   output_parts : AllApart given.outputs Ends × (all_apart given.outputs ≡ true) × (all_apart Ends ≡ true)
   output_parts = apart_split given.outputs Ends later_parts.2
 
-  output_ends : AllApart given.outputs Results × AllApart given.outputs (given.over ∷ [])
-  output_ends = apart_parts given.outputs Results (given.over ∷ []) output_parts.0
+  output_ends : AllApart given.outputs Results × AllApart given.outputs Overs
+  output_ends = apart_parts given.outputs Results Overs output_parts.0
 
-  result_parts : AllApart Results (given.over ∷ []) × (all_apart Results ≡ true) × (all_apart (given.over ∷ []) ≡ true)
-  result_parts = apart_split Results (given.over ∷ []) output_parts.2
+  result_parts : AllApart Results Overs × (all_apart Results ≡ true) × (all_apart Overs ≡ true)
+  result_parts = apart_split Results Overs output_parts.2
 
   -- a test of all that may be written
   module _ (test : Location → Bool) (all : list_all test (written_by a.unit (remembers_any a) given) ≡ true) where
@@ -149,10 +154,10 @@ module _ (a : Activity) (standing : roles_stand a.unit ≡ true) (active : is_ac
     for_memory is = one_where test remembers given.memory is (all_front test Memories (given.outputs ++ Ends) later).0
 
     for_result : is_some a.unit.result ≡ true → test given.result ≡ true
-    for_result is = one_where test (is_some a.unit.result) given.result is (all_front test Results (given.over ∷ []) ends).0
+    for_result is = one_where test (is_some a.unit.result) given.result is (all_front test Results Overs ends).0
 
-    for_over : test given.over ≡ true
-    for_over = and_left (test given.over) true (all_front test Results (given.over ∷ []) ends).1
+    for_over : unit_may_end a.unit ≡ true → test given.over ≡ true
+    for_over may = one_where test (unit_may_end a.unit) given.over may (all_front test Results Overs ends).1
 
   abbrev FromInputs : Location → Bool
   FromInputs place = list_all (are_apart place) (places_in_args given.inputs)
@@ -205,13 +210,13 @@ module _ (a : Activity) (standing : roles_stand a.unit ≡ true) (active : is_ac
   frame_is : frame_at scope ≡ given.frame
   frame_is = frame_given a known (depth + 1) given as_many
 
-  over_is : over_at scope ≡ given.over
+  over_is : unit_may_end a.unit ≡ true → over_at scope ≡ given.over
   over_is = over_given a known (depth + 1) given as_many
 
-  memory_over : remembers ≡ true → are_apart given.memory given.over ≡ true
-  memory_over is =
-      and_left (are_apart given.memory given.over) true
-      (one_where (λ (x : Location). list_all (are_apart x) (given.over ∷ [])) remembers given.memory is memory_ends.1)
+  memory_over : remembers ≡ true → unit_may_end a.unit ≡ true → are_apart given.memory given.over ≡ true
+  memory_over is ends =
+      one_where (are_apart given.memory) (unit_may_end a.unit) given.over ends
+      (one_where (λ (x : Location). list_all (are_apart x) Overs) remembers given.memory is memory_ends.1)
 
   frame_from_memory : remembers ≡ true → are_apart given.frame given.memory ≡ true
   frame_from_memory is = one_where (are_apart given.frame) remembers given.memory is frame_memory
@@ -219,10 +224,10 @@ module _ (a : Activity) (standing : roles_stand a.unit ≡ true) (active : is_ac
   memory_outputs : remembers ≡ true → list_all (are_apart given.memory) given.outputs ≡ true
   memory_outputs is = one_where (λ (x : Location). list_all (are_apart x) given.outputs) remembers given.memory is memory_parts.0
 
-  result_over : is_some a.unit.result ≡ true → are_apart given.result given.over ≡ true
-  result_over is =
-      and_left (are_apart given.result given.over) true
-      (one_where (λ (x : Location). list_all (are_apart x) (given.over ∷ [])) (is_some a.unit.result) given.result is result_parts.0)
+  result_over : is_some a.unit.result ≡ true → unit_may_end a.unit ≡ true → are_apart given.result given.over ≡ true
+  result_over is ends =
+      one_where (are_apart given.result) (unit_may_end a.unit) given.over ends
+      (one_where (λ (x : Location). list_all (are_apart x) Overs) (is_some a.unit.result) given.result is result_parts.0)
 
   result_outputs : is_some a.unit.result ≡ true → list_all (are_apart given.result) given.outputs ≡ true
   result_outputs is = one_flip given.outputs given.result (to_one given.outputs (is_some a.unit.result) given.result is output_ends.0)
@@ -264,21 +269,22 @@ module _ (a : Activity) (standing : roles_stand a.unit ≡ true) (active : is_ac
     held_apart = λ active k var there home. memory_lent k var there home;
   }
 
-  frame_stands : FramePointersAreValid scope
+  frame_stands : FramePointersAreValid (unit_may_end a.unit) scope
   frame_stands = record {
     frame_older = older_place given.frame (frame_at scope) frame_is (for_frame IsLive may.live);
-    over_older = older_place given.over (over_at scope) over_is (for_over IsLive may.live);
-    apart = ap₂ are_apart frame_is over_is ∙ frame_over;
+    over_older = λ ends. older_place given.over (over_at scope) (over_is ends) (for_over IsLive may.live ends);
+    apart = λ ends. ap₂ are_apart frame_is (over_is ends) ∙ frame_over ends;
   }
 
   frame_lent : (k : ℕ) (var : Var) → var_at site k ≡ Some var → home_at site k ≡ Lent →
       are_apart (frame_at scope) (lent_at scope site.vars k) ≡ true
   frame_lent = lent_place given.frame (frame_at scope) frame_is (for_frame FromInputs may.inputs_apart) frame_outputs
 
-  over_lent : (k : ℕ) (var : Var) → var_at site k ≡ Some var → home_at site k ≡ Lent →
+  over_lent : unit_may_end a.unit ≡ true → (k : ℕ) (var : Var) → var_at site k ≡ Some var → home_at site k ≡ Lent →
       are_apart (over_at scope) (lent_at scope site.vars k) ≡ true
-  over_lent =
-      lent_place given.over (over_at scope) over_is (for_over FromInputs may.inputs_apart) (one_flip given.outputs given.over output_ends.1)
+  over_lent ends =
+      lent_place given.over (over_at scope) (over_is ends) (for_over FromInputs may.inputs_apart ends)
+      (one_flip given.outputs given.over (to_one given.outputs (unit_may_end a.unit) given.over ends output_ends.1))
 
   pub places_stand : PlacesAreSeparate (activity_view a).site a.unit (remembers_any a) (Begun a known (depth + 1) given as_many)
   places_stand = record {
@@ -290,23 +296,23 @@ module _ (a : Activity) (standing : roles_stand a.unit ≡ true) (active : is_ac
           let is : remembers ≡ true = holder_remembers a k var there home in
           ap₂ are_apart frame_is (memory_is is) ∙ frame_from_memory is;
     };
-    over_apart = record {
-      lent = over_lent;
+    over_apart = λ ends. record {
+      lent = over_lent ends;
       remembered = λ k var there home active.
           let is : remembers ≡ true = holder_remembers a k var there home in
-          ap₂ are_apart over_is (memory_is is) ∙ apart_flip given.memory given.over (memory_over is);
+          ap₂ are_apart (over_is ends) (memory_is is) ∙ apart_flip given.memory given.over (memory_over is ends);
     };
     memory = λ is. record {
       older = older_place given.memory (remembered_at scope) (memory_is is) (for_memory IsLive may.live is);
       frame = ap₂ are_apart (memory_is is) frame_is ∙ apart_flip given.frame given.memory (frame_from_memory is);
-      over = ap₂ are_apart (memory_is is) over_is ∙ memory_over is;
+      over = λ ends. ap₂ are_apart (memory_is is) (over_is ends) ∙ memory_over is ends;
       lent = memory_lent;
     };
     result = λ is. record {
       older = older_place given.result (result_at_c scope) (result_is is) (for_result IsLive may.live is);
       frame = ap₂ are_apart (result_is is) frame_is
           ∙ apart_flip given.frame given.result (one_where (are_apart given.frame) (is_some a.unit.result) given.result is frame_results);
-      over = ap₂ are_apart (result_is is) over_is ∙ result_over is;
+      over = λ ends. ap₂ are_apart (result_is is) (over_is ends) ∙ result_over is ends;
       lent = lent_place given.result (result_at_c scope) (result_is is) (for_result FromInputs may.inputs_apart is) (result_outputs is);
     };
     result_apart = λ is remember. ap₂ are_apart (result_is is) (memory_is remember)

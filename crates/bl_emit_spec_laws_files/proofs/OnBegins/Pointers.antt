@@ -15,7 +15,8 @@ use Rattle.bl_emit_acts.specs.Types.{variable_name}
 use Rattle.bl_emit_acts_laws_simulation.specs.Frames.{lent_at, remembered_at}
 use Rattle.bl_emit_functions.specs.Functions.{params_from}
 use Rattle.bl_emit_functions_laws_simulation.specs.Calls.{memory_begun, scope_begun}
-use Rattle.bl_emit_spec.specs.Activities.{Activity, activity_function, activity_params, memory_params, over_param, remembers_any, result_params}
+use Rattle.bl_emit_spec.specs.Activities.{Activity, activity_function, activity_params, memory_params, over_params, remembers_any, result_params}
+use Rattle.bl_emit_spec.specs.Blocks.{unit_may_end}
 use Rattle.bl_emit_spec_laws.specs.Registers.Registers.{frame_at, over_at}
 use Rattle.bl_emit_spec_laws.specs.Calls.Calls.{CallAddresses, passed_to, where_true}
 use Rattle.bl_emit_spec_laws.specs.Calls.Invariant.{result_at_c}
@@ -37,26 +38,39 @@ take_where : (b : Bool) (entry : Text × Location) (rest : Entries) (name : Text
 take_where true entry rest name is same = ap (λ b. if b then Some entry.1 else found name rest) same
 take_where false entry rest name is same = absurd (cc)
 
+skip_last : (b : Bool) (entry : Text × Location) (name : Text) → bytes_eq entry.0 name ≡ false → found name (where_true b entry) ≡ None
+skip_last true entry name differ = ap (λ b. if b then Some entry.1 else None) differ
+skip_last false entry name differ = refl
+
+take_last : (b : Bool) (entry : Text × Location) (name : Text) → b ≡ true → bytes_eq entry.0 name ≡ true →
+    found name (where_true b entry) ≡ Some entry.1
+take_last true entry name is same = ap (λ b. if b then Some entry.1 else None) same
+take_last false entry name is same = absurd (cc)
+
 memory_pointers : (a : Activity) (b : Bool) (m : Location) (ps : List CParam) (qs : List ArgumentValue) →
     pointers_of (memory_params a b ++ ps) (where_true b (by_address m) ++ qs) ≡ where_true b (codes "m", m) ++ pointers_of ps qs
 memory_pointers a true m ps qs = refl
 memory_pointers a false m ps qs = refl
 
-result_pointers : (result : Option Scalar) (r e : Location) →
-    pointers_of (result_params result ++ over_param ∷ []) (where_true (is_some result) (by_address r) ++ by_address e ∷ [])
-    ≡ where_true (is_some result) (codes "r", r) ++ (codes "e", e) ∷ []
-result_pointers None r e = refl
-result_pointers (Some s) r e = refl
+result_pointers : (result : Option Scalar) (ends : Bool) (r e : Location) →
+    pointers_of (result_params result ++ over_params ends) (where_true (is_some result) (by_address r) ++ where_true ends (by_address e))
+    ≡ where_true (is_some result) (codes "r", r) ++ where_true ends (codes "e", e)
+result_pointers None true r e = refl
+result_pointers None false r e = refl
+result_pointers (Some s) true r e = refl
+result_pointers (Some s) false r e = refl
 
 memory_values : (depth : ℕ) (a : Activity) (b : Bool) (m : Location) (ps : List CParam) (qs : List ArgumentValue) (here : Memory) →
     with_params depth (memory_params a b ++ ps) (where_true b (by_address m) ++ qs) here ≡ with_params depth ps qs here
 memory_values depth a true m ps qs here = refl
 memory_values depth a false m ps qs here = refl
 
-result_values : (depth : ℕ) (result : Option Scalar) (r e : Location) (here : Memory) →
-    with_params depth (result_params result ++ over_param ∷ []) (where_true (is_some result) (by_address r) ++ by_address e ∷ []) here ≡ here
-result_values depth None r e here = refl
-result_values depth (Some s) r e here = refl
+result_values : (depth : ℕ) (result : Option Scalar) (ends : Bool) (r e : Location) (here : Memory) →
+    with_params depth (result_params result ++ over_params ends) (where_true (is_some result) (by_address r) ++ where_true ends (by_address e)) here ≡ here
+result_values depth None true r e here = refl
+result_values depth None false r e here = refl
+result_values depth (Some s) true r e here = refl
+result_values depth (Some s) false r e here = refl
 
 -- ---- the whole
 
@@ -72,20 +86,26 @@ module _ (a : Activity) (known : Table Meaning) (depth : ℕ) (given : CallAddre
   abbrev Own : Entries
   Own = pointers_of (params_from a.structs a.unit.vars 0 (parameters_of a.unit)) Args
 
+  abbrev may_end : Bool
+  may_end = unit_may_end a.unit
+
+  abbrev Ends : Entries
+  Ends = where_true may_end (codes "e", given.over)
+
   abbrev Behind : Entries
-  Behind = where_true (is_some a.unit.result) (codes "r", given.result) ++ (codes "e", given.over) ∷ []
+  Behind = where_true (is_some a.unit.result) (codes "r", given.result) ++ Ends
 
   pointers_are : pointers_of (activity_params a) (passed_to a.unit (remembers_any a) given)
       ≡ (codes "f", given.frame) ∷ (where_true (remembers_any a) (codes "m", given.memory) ++ (Own ++ Behind))
   pointers_are =
       ap (λ (rest : Entries). (codes "f", given.frame) ∷ rest)
       (memory_pointers a (remembers_any a) given.memory
-      (params_from a.structs a.unit.vars 0 (parameters_of a.unit) ++ (result_params a.unit.result ++ over_param ∷ []))
-      (Args ++ (where_true (is_some a.unit.result) (by_address given.result) ++ by_address given.over ∷ []))
+      (params_from a.structs a.unit.vars 0 (parameters_of a.unit) ++ (result_params a.unit.result ++ over_params may_end))
+      (Args ++ (where_true (is_some a.unit.result) (by_address given.result) ++ where_true may_end (by_address given.over)))
       ∙ ap (λ (rest : Entries). where_true (remembers_any a) (codes "m", given.memory) ++ rest)
-      (pointers_both a.structs a.unit.vars depth (parameters_of a.unit) 0 Args (result_params a.unit.result ++ over_param ∷ [])
-      (where_true (is_some a.unit.result) (by_address given.result) ++ by_address given.over ∷ []) many
-      ∙ ap (λ (rest : Entries). Own ++ rest) (result_pointers a.unit.result given.result given.over)))
+      (pointers_both a.structs a.unit.vars depth (parameters_of a.unit) 0 Args (result_params a.unit.result ++ over_params may_end)
+      (where_true (is_some a.unit.result) (by_address given.result) ++ where_true may_end (by_address given.over)) many
+      ∙ ap (λ (rest : Entries). Own ++ rest) (result_pointers a.unit.result may_end given.result given.over)))
 
   abbrev Listed : Entries
   Listed = where_true (remembers_any a) (codes "m", given.memory) ++ (Own ++ Behind)
@@ -106,12 +126,13 @@ module _ (a : Activity) (known : Table Meaning) (depth : ℕ) (given : CallAddre
   frame_given =
       ap (λ o. unwrap_or o (record { root = variable depth (codes "f"); parts = [] })) (ap (found (codes "f")) pointers_are)
 
-  pub over_given : over_at Begun ≡ given.over
-  over_given =
+  pub over_given : unit_may_end a.unit ≡ true → over_at Begun ≡ given.over
+  over_given is =
       leads (codes "e") given.over refl
       (skip_where (remembers_any a) (codes "m", given.memory) (Own ++ Behind) (codes "e") refl
       ∙ (found_behind (codes "e") Own Behind (no_pointer a.structs a.unit.vars depth (parameters_of a.unit) 0 Args (codes "e") (λ i. refl))
-      ∙ skip_where (is_some a.unit.result) (codes "r", given.result) ((codes "e", given.over) ∷ []) (codes "e") refl))
+      ∙ (skip_where (is_some a.unit.result) (codes "r", given.result) Ends (codes "e") refl
+      ∙ take_last may_end (codes "e", given.over) (codes "e") is refl)))
 
   pub memory_given : remembers_any a ≡ true → remembered_at Begun ≡ given.memory
   memory_given is =
@@ -124,14 +145,15 @@ module _ (a : Activity) (known : Table Meaning) (depth : ℕ) (given : CallAddre
       nowhere_found (codes "m") refl
       (ap (λ b. found (codes "m") (where_true b (codes "m", given.memory) ++ (Own ++ Behind))) is
       ∙ (found_behind (codes "m") Own Behind (no_pointer a.structs a.unit.vars depth (parameters_of a.unit) 0 Args (codes "m") (λ i. refl))
-      ∙ skip_where (is_some a.unit.result) (codes "r", given.result) ((codes "e", given.over) ∷ []) (codes "m") refl))
+      ∙ (skip_where (is_some a.unit.result) (codes "r", given.result) Ends (codes "m") refl
+      ∙ skip_last may_end (codes "e", given.over) (codes "m") refl)))
 
   pub result_given : is_some a.unit.result ≡ true → result_at_c Begun ≡ given.result
   result_given is =
       leads (codes "r") given.result refl
       (skip_where (remembers_any a) (codes "m", given.memory) (Own ++ Behind) (codes "r") refl
       ∙ (found_behind (codes "r") Own Behind (no_pointer a.structs a.unit.vars depth (parameters_of a.unit) 0 Args (codes "r") (λ i. refl))
-      ∙ take_where (is_some a.unit.result) (codes "r", given.result) ((codes "e", given.over) ∷ []) (codes "r") is refl))
+      ∙ take_where (is_some a.unit.result) (codes "r", given.result) Ends (codes "r") is refl))
 
   pub lent_given : (j : ℕ) (at : Location) → length (parameters_of a.unit) ≤ 2 ^ 64 → j < length (parameters_of a.unit) →
       slice_get Args j ≡ Some (by_address at) → lent_at Begun a.unit.vars j ≡ at
@@ -147,11 +169,11 @@ module _ (a : Activity) (known : Table Meaning) (depth : ℕ) (given : CallAddre
       ≡ with_params depth (params_from a.structs a.unit.vars 0 (parameters_of a.unit)) Args (without_frame depth here)
   begun_is here =
       memory_values depth a (remembers_any a) given.memory
-      (params_from a.structs a.unit.vars 0 (parameters_of a.unit) ++ (result_params a.unit.result ++ over_param ∷ []))
-      (Args ++ (where_true (is_some a.unit.result) (by_address given.result) ++ by_address given.over ∷ [])) (without_frame depth here)
-      ∙ (values_both a.structs a.unit.vars depth (parameters_of a.unit) 0 Args (result_params a.unit.result ++ over_param ∷ [])
-      (where_true (is_some a.unit.result) (by_address given.result) ++ by_address given.over ∷ []) (without_frame depth here) many
-      ∙ result_values depth a.unit.result given.result given.over
+      (params_from a.structs a.unit.vars 0 (parameters_of a.unit) ++ (result_params a.unit.result ++ over_params may_end))
+      (Args ++ (where_true (is_some a.unit.result) (by_address given.result) ++ where_true may_end (by_address given.over))) (without_frame depth here)
+      ∙ (values_both a.structs a.unit.vars depth (parameters_of a.unit) 0 Args (result_params a.unit.result ++ over_params may_end)
+      (where_true (is_some a.unit.result) (by_address given.result) ++ where_true may_end (by_address given.over)) (without_frame depth here) many
+      ∙ result_values depth a.unit.result may_end given.result given.over
       (with_params depth (params_from a.structs a.unit.vars 0 (parameters_of a.unit)) Args (without_frame depth here)))
 
   -- what is no parameter begins at 0

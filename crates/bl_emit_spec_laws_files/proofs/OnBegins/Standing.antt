@@ -1,5 +1,5 @@
 -- The function of an activity stands as it begins.
-use Rattle.std.proofs.Common.{◌≡◌, ℕ, ◌+◌, ◌<◌, ◌≤◌, ◌^◌, arith, Bool, true, List, [], ◌∷◌, ◌++◌, length, map}
+use Rattle.std.proofs.Common.{◌≡◌, ℕ, ◌+◌, ◌<◌, ◌≤◌, ◌^◌, arith, Bool, true, List, ◌++◌, length, map}
 use Rattle.std.proofs.Common.{Option, Some, None, refl, sym, ap, ◌∙◌, subst}
 use Rattle.std.proofs.Math.Seq.{take-add}
 use Rattle.std.proofs.lemmas.Bool.{leb-true}
@@ -26,6 +26,7 @@ use Rattle.bl_emit_functions_laws_simulation.specs.Calls.{HandedOver, HandsOver}
 use Rattle.bl_emit_spec.specs.Activities.{Activity, remembers_any}
 use Rattle.bl_machine.specs.declared.machine.Activity.{Activity as InMachine}
 use Rattle.bl_machine_pass_laws_execution.specs.Frames.{Frames}
+use Rattle.bl_emit_spec.specs.Blocks.{unit_may_end}
 use Rattle.bl_emit_spec_laws.specs.Calls.Built.{Activities, activity_at, site_at, unit_number}
 use Rattle.bl_emit_spec_laws.specs.Calls.Calls.{CallAddresses, CallBegins, MayGive, input_values, output_values, where_true, written_by}
 use Rattle.bl_emit_spec_laws.specs.Calls.Laws.{CompilationContext, scope_in}
@@ -51,7 +52,7 @@ of_outputs : (test : Location → Bool) (unit : UnitDef) (remembers : Bool) (giv
     list_all test (written_by unit remembers given) ≡ true →
     list_all test given.outputs ≡ true
 of_outputs test unit remembers given all =
-    let ends = where_true (is_some unit.result) given.result ++ given.over ∷ [] in
+    let ends = where_true (is_some unit.result) given.result ++ where_true (unit_may_end unit) given.over in
     let rest = where_true remembers given.memory ++ (given.outputs ++ ends) in
     (all_front test given.outputs ends
     (all_front test (where_true remembers given.memory) (given.outputs ++ ends) (and_right (test given.frame) (list_all test rest) all)).1).0
@@ -60,7 +61,7 @@ of_outputs test unit remembers given all =
 may_pass : (unit : UnitDef) (remembers : Bool) (depth : ℕ) (given : CallAddresses) → MayGive unit remembers depth given →
     MayPass depth given.inputs given.outputs
 may_pass unit remembers depth given may =
-    let ends = where_true (is_some unit.result) given.result ++ given.over ∷ [] in
+    let ends = where_true (is_some unit.result) given.result ++ where_true (unit_may_end unit) given.over in
     let rest = where_true remembers given.memory ++ (given.outputs ++ ends) in
     record {
       apart =

@@ -26,7 +26,7 @@ use Rattle.bl_emit_acts.specs.Acts.{c_set}
 use Rattle.bl_emit_acts.specs.Trees.{c_read, c_two}
 use Rattle.bl_emit_acts_laws_simulation.specs.Frames.{is_older}
 use Rattle.bl_emit_acts_laws_simulation.specs.Encodes.{Encodes, VariablesEncoded, location_in, way_to}
-use Rattle.bl_emit_spec.specs.Activities.{entry_code, rested_code}
+use Rattle.bl_emit_spec.specs.Activities.{entry_code, first_place, rested_code}
 use Rattle.bl_emit_spec.specs.Blocks.{ActivityView, Sizes, counter_value, node_word}
 use Rattle.bl_emit_spec.specs.Names.{counter_place, flag_name, flag_place, rested_name, rested_place, with_word}
 use Rattle.bl_emit_spec_laws.specs.Registers.Laws.{GuardsEvaluate, RegistersWithin, RestsWithin, WordsAgree}
@@ -36,6 +36,7 @@ use Rattle.bl_machine_pass.specs.Registers.{Registers, with_at}
 use Rattle.bl_machine_pass.specs.Transitions.{Change, Condition, Ended, IsAny, Transition, enter, rules_in, rules_of}
 use Rattle.bl_machine_pass_laws.specs.Turns.Laws.{entry_flag}
 use Rattle.bl_emit_spec_laws.specs.Calls.Built.{asks_flag}
+use Rattle.bl_emit_spec_laws.proofs.OnRegisters.Guards.{eq_shows, literal_gives, rested_gives}
 use Rattle.bl_emit_spec_laws.proofs.OnRegisters.Setting.{flag_answer}
 use Rattle.bl_emit_spec_laws.proofs.OnWithin.Changing.{with_within}
 use Rattle.bl_emit_spec_laws_files.proofs.OnBegins.Cells.{apart_flip, apart_same, left_behind, same_object}
@@ -120,7 +121,7 @@ module _ (has : Registered) (site : TypingContext) (scope : Scope) (apart : Regi
       each = λ k var value at known.
           holds_same site.structs var.ty value (value_at m (location_in scope site k []))
           (value_at (set_at m (register_at has scope x) held) (location_in scope site k []))
-          (λ way. sym (apart_same m (register_at has scope x) held (location_in scope site k []) (beside.variables x k var at) way))
+          (λ way. sym (apart_same m (register_at has scope x) held (location_in scope site k []) (beside.variables x k var there at) way))
           (stands.vars.each k var value at known);
     };
   }
@@ -206,19 +207,36 @@ module _ (has : Registered) (site : TypingContext) (scope : Scope) (apart : Regi
     abbrev none_yet : Condition
     none_yet = Ended IsAny (record { all = true; slots = record { counter = 0; value = 0 } ∷ [] })
 
+    -- where the first counter has a copy, that holds what the counter holds
+    abbrev FirstCopied : Registers → Type 0
+    FirstCopied r = view.is_read 0 ≡ true → (has.copied 0 ≡ true) × (r.rested 0 ≡ r.counters 0)
+
+    first_shows : (n : Node) (r : Registers) (m : Memory) → FirstCopied r → RestsWithin view.sizes r → RegistersEncoded has scope r m →
+        option_map scalar_number (value_c (c_two Eq (c_read (first_place (view.is_read 0))) (counter_value view.sizes 0 0)) scope m).answer
+        ≡ Some (number_of (nat_eq (r.counters 0) 0))
+    first_shows n r m held within hold = by (view.is_read 0) refl
+      where
+        by : (copied : Bool) → view.is_read 0 ≡ copied →
+            option_map scalar_number (value_c (c_two Eq (c_read (first_place copied)) (counter_value view.sizes 0 0)) scope m).answer
+            ≡ Some (number_of (nat_eq (r.counters 0) 0))
+        by true is =
+            eq_shows scope m (c_read (rested_place 0)) (counter_value view.sizes 0 0) (r.rested 0) 0
+            (rested_gives scope m view has r hold 0 (held is).0) (literal_gives scope m _ (pos 0))
+            ∙ ap (λ k. Some (number_of (nat_eq k 0))) (held is).1
+        by false is =
+            guards view has scope n none_yet r m words hold within (ap (λ b. b && true) first)
+            ∙ ap (λ b. Some (number_of b)) (and_true (nat_eq (r.counters 0) 0))
+
     pub entry_goes : (body : Block) (r : Registers) (m : Memory) →
-        ((s : Plain) (rest : Block) → body ≡ Then s rest → has.flags (view.number (entry s)) ≡ true) → RestsWithin view.sizes r → Mid r m →
-        GoesTo (Mid (with_entry view body r)) (block_c (entry_code view body) scope m)
-    entry_goes Done r m flagged within stands = (refl, stands)
-    entry_goes (Then s rest) r m flagged within stands =
-        let shows : option_map scalar_number (value_c (c_two Eq (c_read (counter_place 0)) (counter_value view.sizes 0 0)) scope m).answer
-        ≡ Some (number_of (nat_eq (r.counters 0) 0)) =
-        guards view has scope (entry s) none_yet r m words stands.hold within (ap (λ b. b && true) first)
-        ∙ ap (λ b. Some (number_of b)) (and_true (nat_eq (r.counters 0) 0)) in
-        let found = number_is (value_c (c_two Eq (c_read (counter_place 0)) (counter_value view.sizes 0 0)) scope m).answer
-        (number_of (nat_eq (r.counters 0) 0)) shows in
+        ((s : Plain) (rest : Block) → body ≡ Then s rest → has.flags (view.number (entry s)) ≡ true) → FirstCopied r → RestsWithin view.sizes r →
+        Mid r m → GoesTo (Mid (with_entry view body r)) (block_c (entry_code view body) scope m)
+    entry_goes Done r m flagged held within stands = (refl, stands)
+    entry_goes (Then s rest) r m flagged held within stands =
+        let test : CExpr = c_two Eq (c_read (first_place (view.is_read 0))) (counter_value view.sizes 0 0) in
+        let found = number_is (value_c test scope m).answer (number_of (nat_eq (r.counters 0) 0))
+        (first_shows (entry s) r m held within stands.hold) in
         set_goes m r (with_entry view (Then s rest) r) (Flag (view.number (entry s))) (flag_name (with_word has.words (view.number (entry s)))) found.0
-        (flag_place (node_word view (entry s))) (c_two Eq (c_read (counter_place 0)) (counter_value view.sizes 0 0)) (flagged s rest refl) refl
+        (flag_place (node_word view (entry s))) test (flagged s rest refl) refl
         (flag_answer scope m has view.word (view.number (entry s)) (words (view.number (entry s)))) found.1
         (entry_sets (view.number (entry s)) r (with_entry view (Then s rest) r) (nat_eq (r.counters 0) 0) refl (scalar_number found.0) found.2) stands
 

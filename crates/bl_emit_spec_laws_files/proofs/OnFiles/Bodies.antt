@@ -57,7 +57,7 @@ use Rattle.bl_emit_acts.specs.Acts.{c_calling}
 use Rattle.bl_emit_acts.specs.Trees.{c_call, c_literal, c_place, c_read, c_step, nowhere}
 use Rattle.bl_emit_acts.specs.Types.{unit_name}
 use Rattle.bl_emit_functions.specs.Trees.{c_if, c_return}
-use Rattle.bl_emit_spec.specs.Blocks.{unit_may_end, stmt_where}
+use Rattle.bl_emit_spec.specs.Blocks.{arg_where, stmt_where, unit_may_end}
 use Rattle.bl_emit_spec.specs.Programs.{c_returned, input_arg, output_arg, tick_args, tick_function}
 use Rattle.bl_emit_spec_laws_files.proofs.OnBegins.Evaluated.{call-does, literal-value, passes, place-location, read-value, step-way, value-arg}
 use Rattle.bl_emit_spec_laws_files.proofs.OnBegins.Statements.{if-runs}
@@ -211,6 +211,10 @@ module _ (known : Table Meaning) (unit : UnitDef) (remembers : Bool) (resultless
     )
     memory_args false = tt
 
+    over_args : (b : Bool) → AllPass S here (arg_where b (Address (c_place false (codes "e") []))) (where_true b (by_address over_place))
+    over_args true = (address_passes S here (c_place false (codes "e") []) over_place (local_place S here (codes "e")), tt)
+    over_args false = tt
+
     input_passes : (var : Var) → passes (input_arg var) S here ≡ given (Some (input_passed here var))
     input_passes var =
         read_passes S here (c_place true (codes "i") (c_step (codes "i_" ++ var.name) ∷ [])) (input_place var)
@@ -221,42 +225,47 @@ module _ (known : Table Meaning) (unit : UnitDef) (remembers : Bool) (resultless
         address_passes S here (c_place true (codes "o") (c_step (codes "o_" ++ var.name) ∷ [])) (output_place var)
         (member_place S here (codes "o") (codes "o_" ++ var.name))
 
+    abbrev end_arg : List CArg
+    end_arg = arg_where (unit_may_end unit) (Address (c_place false (codes "e") []))
+
+    abbrev end_passed : List ArgumentValue
+    end_passed = where_true (unit_may_end unit) (by_address over_place)
+
     abbrev handed : List ArgumentValue
     handed =
         by_address frame_place
         ∷ (where_true remembers (by_address memory_place)
         ++ (map (input_passed here) (inputs_of unit)
-        ++ (map (λ var. by_address (output_place var)) (outputs_of unit) ++ by_address over_place ∷ [])))
+        ++ (map (λ var. by_address (output_place var)) (outputs_of unit) ++ end_passed)))
 
     args_pass : AllPass S here (tick_args unit remembers) handed
     args_pass = (
       address_passes S here (c_place true (codes "s") (c_step (codes "f") ∷ [])) frame_place (member_place S here (codes "s") (codes "f")),
       pass_append S here (if remembers then Address (c_place true (codes "s") (c_step (codes "m") ∷ [])) ∷ [] else [])
-          (map input_arg (inputs_of unit) ++ (map output_arg (outputs_of unit) ++ Address (c_place false (codes "e") []) ∷ []))
+          (map input_arg (inputs_of unit) ++ (map output_arg (outputs_of unit) ++ end_arg))
           (where_true remembers (by_address memory_place))
-          (map (input_passed here) (inputs_of unit)
-          ++ (map (λ var. by_address (output_place var)) (outputs_of unit) ++ by_address over_place ∷ []))
+          (map (input_passed here) (inputs_of unit) ++ (map (λ var. by_address (output_place var)) (outputs_of unit) ++ end_passed))
           (memory_args remembers)
-          (pass_append S here (map input_arg (inputs_of unit)) (map output_arg (outputs_of unit) ++ Address (c_place false (codes "e") []) ∷ [])
+          (pass_append S here (map input_arg (inputs_of unit)) (map output_arg (outputs_of unit) ++ end_arg)
           (map (input_passed here) (inputs_of unit))
-          (map (λ var. by_address (output_place var)) (outputs_of unit) ++ by_address over_place ∷ [])
+          (map (λ var. by_address (output_place var)) (outputs_of unit) ++ end_passed)
           (pass_mapped S here input_arg (input_passed here) input_passes (inputs_of unit))
-          (pass_append S here (map output_arg (outputs_of unit)) (Address (c_place false (codes "e") []) ∷ [])
-          (map (λ var. by_address (output_place var)) (outputs_of unit)) (by_address over_place ∷ [])
+          (pass_append S here (map output_arg (outputs_of unit)) end_arg
+          (map (λ var. by_address (output_place var)) (outputs_of unit)) end_passed
           (pass_mapped S here output_arg (λ var. by_address (output_place var)) output_passes (outputs_of unit))
-          (address_passes S here (c_place false (codes "e") []) over_place (local_place S here (codes "e")), tt))),
+          (over_args (unit_may_end unit)))),
     )
 
     handed_is : handed ≡ passed_to unit remembers (tick_gives unit here)
     handed_is =
         ap (λ (outs : List ArgumentValue). by_address frame_place ∷ (where_true remembers (by_address memory_place)
-        ++ (map (input_passed here) (inputs_of unit) ++ (outs ++ by_address over_place ∷ []))))
+        ++ (map (input_passed here) (inputs_of unit) ++ (outs ++ end_passed))))
         (sym (mapped_twice by_address output_place (outputs_of unit)))
         ∙ ap (λ (rest : List ArgumentValue). by_address frame_place ∷ (where_true remembers (by_address memory_place) ++ rest))
-        (sym (append_assoc (map (input_passed here) (inputs_of unit)) (map by_address (map output_place (outputs_of unit))) (by_address over_place ∷ [])))
+        (sym (append_assoc (map (input_passed here) (inputs_of unit)) (map by_address (map output_place (outputs_of unit))) end_passed))
         ∙ ap (λ (b : Bool). by_address frame_place ∷ (where_true remembers (by_address memory_place)
         ++ ((map (input_passed here) (inputs_of unit) ++ map by_address (map output_place (outputs_of unit)))
-        ++ (where_true b (by_address over_place) ++ by_address over_place ∷ []))))
+        ++ (where_true b (by_address over_place) ++ end_passed))))
         (sym (ap is_some resultless))
 
     -- what the call of the entry's function comes to
@@ -335,13 +344,16 @@ module _ (known : Table Meaning) (unit : UnitDef) (remembers : Bool) (resultless
           memory = ap (λ (o : Outcome Memory). (following o (λ m. block_c [] S m)).memory) e;
         }
 
-    pub rest_answers : (over : Bool) → scalar_number (value_at here over_place) ≡ number_of over → (unit_may_end unit ≡ false → over ≡ false) →
-        Answers rest_runs over
-    rest_answers over is ends = by (unit_may_end unit) ends
+    -- memory tells whether the entry has ended, where it may end, and else it hasn't
+    abbrev pub Told : Bool → Type 0
+    Told over = (unit_may_end unit ≡ true → scalar_number (value_at here over_place) ≡ number_of over) × (unit_may_end unit ≡ false → over ≡ false)
+
+    pub rest_answers : (over : Bool) → Told over → Answers rest_runs over
+    rest_answers over told = by (unit_may_end unit) told.0 told.1
       where
-        by : (b : Bool) → (b ≡ false → over ≡ false) → Answers (runs_by b) over
-        by true ends = subst (λ (o : Outcome Memory). Answers o over) (sym (rest_is over is)) (by_over over)
-        by false ends = subst (Answers (runs_by false)) (sym (ends refl)) none_asked
+        by : (b : Bool) → (b ≡ true → scalar_number (value_at here over_place) ≡ number_of over) → (b ≡ false → over ≡ false) → Answers (runs_by b) over
+        by true is ends = subst (λ (o : Outcome Memory). Answers o over) (sym (rest_is over (is refl))) (by_over over)
+        by false is ends = subst (Answers (runs_by false)) (sym (ends refl)) none_asked
 
   -- ---- a tick
 
@@ -373,21 +385,19 @@ module _ (known : Table Meaning) (unit : UnitDef) (remembers : Bool) (resultless
     pub result : called.result ≡ Some (number_of over)
     pub memory : called.memory ≡ without_frame 0 after
 
-  answered : (c : CallResult) (over : Bool) → c.result ≡ Some (pos 0) → scalar_number (value_at c.memory over_place) ≡ number_of over →
-      (unit_may_end unit ≡ false → over ≡ false) → Replies (as_called (then_rest c)) over c.memory
-  answered c over is told ends = by c.result is
+  answered : (c : CallResult) (over : Bool) → c.result ≡ Some (pos 0) → Told c.memory over → Replies (as_called (then_rest c)) over c.memory
+  answered c over is told = by c.result is
     where
       by : (result : Option ℤ) → result ≡ Some (pos 0) →
           Replies (as_called (following (record { memory = c.memory; end = call_end result; count = 1 + (0 + c.count) }) rest_runs)) over c.memory
       by None h = absurd (cc)
       by (Some n) h =
-          let a = rest_answers c.memory over told ends in
+          let a = rest_answers c.memory over told in
           record { result = a.result; memory = ap (without_frame 0) a.memory }
 
   -- else it tells whether the entry has ended
   pub tick_replies : (here : Memory) (over : Bool) → (entry_called (without_frame 0 here)).result ≡ Some (pos 0) →
-      scalar_number (value_at (entry_called (without_frame 0 here)).memory over_place) ≡ number_of over → (unit_may_end unit ≡ false → over ≡ false) →
-      Replies (ticked here) over (entry_called (without_frame 0 here)).memory
-  tick_replies here over is told ends =
+      Told (entry_called (without_frame 0 here)).memory over → Replies (ticked here) over (entry_called (without_frame 0 here)).memory
+  tick_replies here over is told =
       subst (λ (called : CallResult). Replies called over (entry_called (without_frame 0 here)).memory) (sym (ticked_is here))
-      (answered (entry_called (without_frame 0 here)) over is told ends)
+      (answered (entry_called (without_frame 0 here)) over is told)

@@ -353,7 +353,7 @@ module _ (out : HomesLeadOut) (orderly : AcceptedIsOrderly) (keep : PassesKeepTy
         outputs = subst (λ (values : List Value). OutputsEncoded structs begun_memory (outputs_of unit) values (map output_place (outputs_of unit)))
             (sym outputs_now) (outputs_moved structs (regained file here) begun_memory (outputs_of unit) (output_values W s 0 unit) outputs_kept
             (kept.outputs (output_values W s 0 unit) here between.outputs));
-        over = refl;
+        over = λ ends. refl;
         fits = woken_fits;
         within = between.within;
       }
@@ -397,7 +397,7 @@ module _ (out : HomesLeadOut) (orderly : AcceptedIsOrderly) (keep : PassesKeepTy
           (pass_starts r starts) pass in
           let ends : unit_may_end unit ≡ false → r'.over ≡ false =
           λ never. pass_open W (rank_by W activities) (slots_by W activities) (cleared W) unit never is pass (starts_open r starts) in
-          let replies = tick_replies known unit remembers resultless (set row here) r'.over leaves.returned leaves.over ends in
+          let replies = tick_replies known unit remembers resultless (set row here) r'.over leaves.returned (leaves.over, ends) in
           let after = without_frame 0 c.memory in
           let fits : StoreFits W left =
           (keep structs units entry compiled.well_typed).executes (rank_by W activities) (slots_by W activities) (cleared W) 0 0 frames

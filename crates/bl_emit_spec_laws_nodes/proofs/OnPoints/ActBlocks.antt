@@ -32,7 +32,8 @@ use Rattle.bl_emit_spec_laws.specs.Calls.Built.{Activities, activity_at, rank_by
 use Rattle.bl_emit_spec_laws.specs.Calls.Laws.{PartSimulates, block_done}
 use Rattle.bl_emit_spec_laws.specs.Calls.Invariant.{PassRepresents}
 use Rattle.bl_emit_spec_laws_nodes.specs.Points.Acts.{ActNodesSimulate}
-use Rattle.bl_emit_spec_laws_nodes.specs.Points.Laws.{ChangesSimulateInPass, ResultTold, ends_body, is_return_node}
+use Rattle.bl_emit_spec_laws.specs.Registers.Laws.{ends_body}
+use Rattle.bl_emit_spec_laws_nodes.specs.Points.Laws.{ChangesSimulateInPass, ResultTold, is_return_node}
 use Rattle.bl_emit_spec_laws_nodes.specs.Points.Nodes.{AgreeAt}
 use Rattle.bl_emit_spec_laws_nodes.proofs.OnPoints.ActNodes.{act_cut, act_did, act_goes, act_is, act_keeps, act_performs}
 use Rattle.bl_emit_spec_laws_nodes.proofs.OnPoints.ActNodes.{act_stands, act_stops, act_traps, acted_is}

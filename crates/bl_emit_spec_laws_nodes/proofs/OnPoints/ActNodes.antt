@@ -75,7 +75,7 @@ use Rattle.bl_emit_spec_laws_nodes.specs.Points.Laws.{Remembering}
 use Rattle.bl_emit_spec_laws_nodes.specs.Points.Nodes.{AgreeAt, NodesStand, PrevsAgree, ViewsFit, act_copied}
 use Rattle.bl_emit_spec_laws_nodes.proofs.OnPoints.Apart.{Beyond, inner_is, nests_beyond}
 use Rattle.bl_emit_spec_laws_nodes.proofs.OnPoints.Besides.{apart, beside, site_is}
-use Rattle.bl_emit_spec_laws_nodes.proofs.OnPoints.Changes.{holds_same, pointers_older}
+use Rattle.bl_emit_spec_laws_nodes.proofs.OnPoints.Changes.{holds_same, registers_keep}
 use Rattle.bl_emit_spec_laws_nodes.proofs.OnPoints.Choices.{Alike}
 use Rattle.bl_emit_spec_laws_nodes.proofs.OnPoints.Foreign.{foreign_counter, foreign_memory, foreign_outside, foreign_register, foreign_result}
 
@@ -358,9 +358,8 @@ module _ (frames_apart : FramesApart) (keep : RegistersKeepApart) (structs : Lis
     registers_stand : RegistersApart (registered (activity_at w activities i)) scope
         × RegistersBeside (registered (activity_at w activities i)) site scope
     registers_stand =
-        keep site (registered (activity_at w activities i)) scope
-        (midway.compiled.registers k unit midway.function.is_there midway.function.active) places.frame
-        (pointers_older site unit remembers scope places) places.frame_apart places.over_apart
+        registers_keep keep site unit remembers scope (activity_at w activities i) (midway.compiled.built.unit k unit midway.function.is_there)
+        (midway.compiled.registers k unit midway.function.is_there midway.function.active) places
 
     same_at : (place : Location) → ((way : List Projection) → Foreign site copied scope place.root (place.parts ++ way)) → (way : List Projection) →
         value_at o.memory place way ≡ value_at here place way
@@ -418,7 +417,7 @@ module _ (frames_apart : FramesApart) (keep : RegistersKeepApart) (structs : Lis
         each = λ x its.
             same_at (register_at (registered (activity_at w activities i)) scope x)
             (foreign_register site unit remembers scope places midway.function.active held_here copied (registered (activity_at w activities i))
-            registers_stand.0 registers_stand.1 x) []
+            registers_stand.0 registers_stand.1 x its) []
             ∙ midway.stands.registers.each x its;
       };
       variables =

@@ -94,48 +94,52 @@ module _ (scope : Scope) (has : Registered) where
 
   -- a place that is older and apart from counters and end is apart from registers
   pub register_apart : (place : Location) → is_older scope.depth place.root ≡ true → are_apart place (frame_at scope) ≡ true →
-      are_apart place (over_at scope) ≡ true → (x : Register) → are_apart (register_at has scope x) place ≡ true
-  register_apart place older frame over (Counter k) =
-      first_further (frame_at scope) place (member (counter_name k) ∷ []) (apart_flip place (frame_at scope) frame)
-  register_apart place older frame over (Before k) = local_apart (rested_name k) place older
-  register_apart place older frame over (Flag k) = local_apart (flag_name (with_word has.words k)) place older
-  register_apart place older frame over (Mark k) = local_apart (mark_name (with_word has.words k)) place older
-  register_apart place older frame over Over = first_further (over_at scope) place [] (apart_flip place (over_at scope) over)
-
-  pub register_stands : (site : TypingContext) (place : Location) → PlaceIsSeparate site scope place → (x : Register) →
+      (has.over ≡ true → are_apart place (over_at scope) ≡ true) → (x : Register) → has_register has x ≡ true →
       are_apart (register_at has scope x) place ≡ true
-  register_stands site place stands = register_apart place stands.older stands.frame stands.over
+  register_apart place older frame over (Counter k) its =
+      first_further (frame_at scope) place (member (counter_name k) ∷ []) (apart_flip place (frame_at scope) frame)
+  register_apart place older frame over (Before k) its = local_apart (rested_name k) place older
+  register_apart place older frame over (Flag k) its = local_apart (flag_name (with_word has.words k)) place older
+  register_apart place older frame over (Mark k) its = local_apart (mark_name (with_word has.words k)) place older
+  register_apart place older frame over Over its = first_further (over_at scope) place [] (apart_flip place (over_at scope) (over its))
+
+  pub register_stands : (site : TypingContext) (may_end : Bool) → has.over ≡ may_end → (place : Location) →
+      PlaceIsSeparate site may_end scope place → (x : Register) → has_register has x ≡ true → are_apart (register_at has scope x) place ≡ true
+  register_stands site may_end same place stands =
+      register_apart place stands.older stands.frame (λ ends. stands.over (sym same ∙ ends))
 
   -- registers are apart from the counters of what is called
-  pub register_inner : FramePointersAreValid scope → (n : NumberedWord) (more : List Projection) (x : Register) →
+  pub register_inner : (may_end : Bool) → has.over ≡ may_end → FramePointersAreValid may_end scope → (n : NumberedWord)
+      (more : List Projection) (x : Register) → has_register has x ≡ true →
       are_apart (register_at has scope x) (further (frame_at scope) (member (callee_name n) ∷ more)) ≡ true
-  register_inner frame n more (Counter k) =
+  register_inner may_end same frame n more (Counter k) its =
       let start = frame_at scope in
       or_last (not (same_root start.root start.root))
       (ways_part (start.parts ++ member (counter_name k) ∷ []) (start.parts ++ (member (callee_name n) ∷ more)))
       (behind_front start.parts (member (counter_name k) ∷ []) (member (callee_name n) ∷ more))
-  register_inner frame n more (Before k) =
+  register_inner may_end same frame n more (Before k) its =
       local_apart (rested_name k) (further (frame_at scope) (member (callee_name n) ∷ more)) frame.frame_older
-  register_inner frame n more (Flag k) =
+  register_inner may_end same frame n more (Flag k) its =
       local_apart (flag_name (with_word has.words k)) (further (frame_at scope) (member (callee_name n) ∷ more)) frame.frame_older
-  register_inner frame n more (Mark k) =
+  register_inner may_end same frame n more (Mark k) its =
       local_apart (mark_name (with_word has.words k)) (further (frame_at scope) (member (callee_name n) ∷ more)) frame.frame_older
-  register_inner frame n more Over =
+  register_inner may_end same frame n more Over its =
       first_further (over_at scope) (further (frame_at scope) (member (callee_name n) ∷ more)) []
-      (last_further (over_at scope) (frame_at scope) (member (callee_name n) ∷ more) (apart_flip (frame_at scope) (over_at scope) frame.apart))
+      (last_further (over_at scope) (frame_at scope) (member (callee_name n) ∷ more)
+      (apart_flip (frame_at scope) (over_at scope) (frame.apart (sym same ∙ its))))
 
   -- numbers outside of where the pointers lead that belonged to older roots belong to no register
   pub outside_all : (root : Root) (way : List Projection) → is_older scope.depth root ≡ true →
       lies_in (frame_at scope) root way ≡ false →
-      lies_in (over_at scope) root way ≡ false → Outside has scope root way
-  outside_all root way older frame over = record { each = λ x its. by x }
+      (has.over ≡ true → lies_in (over_at scope) root way ≡ false) → Outside has scope root way
+  outside_all root way older frame over = record { each = by }
     where
-      by : (x : Register) → lies_in (register_at has scope x) root way ≡ false
-      by (Counter k) = lies_further (frame_at scope) (member (counter_name k) ∷ []) root way frame
-      by (Before k) = ap (λ same. same && is_some (left_after [] way)) (older_differs scope.depth (rested_name k) root older)
-      by (Flag k) = ap (λ same. same && is_some (left_after [] way)) (older_differs scope.depth (flag_name (with_word has.words k)) root older)
-      by (Mark k) = ap (λ same. same && is_some (left_after [] way)) (older_differs scope.depth (mark_name (with_word has.words k)) root older)
-      by Over = lies_further (over_at scope) [] root way over
+      by : (x : Register) → has_register has x ≡ true → lies_in (register_at has scope x) root way ≡ false
+      by (Counter k) its = lies_further (frame_at scope) (member (counter_name k) ∷ []) root way frame
+      by (Before k) its = ap (λ same. same && is_some (left_after [] way)) (older_differs scope.depth (rested_name k) root older)
+      by (Flag k) its = ap (λ same. same && is_some (left_after [] way)) (older_differs scope.depth (flag_name (with_word has.words k)) root older)
+      by (Mark k) its = ap (λ same. same && is_some (left_after [] way)) (older_differs scope.depth (mark_name (with_word has.words k)) root older)
+      by Over its = lies_further (over_at scope) [] root way (over its)
 
   -- a place that is apart from registers has what it had
   pub place_kept : (r : Registers) (here after : Memory) (place : Location) → RegistersEncodedAfter has scope r here after →

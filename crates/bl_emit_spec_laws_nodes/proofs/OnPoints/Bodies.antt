@@ -11,8 +11,8 @@ use Rattle.bl_tree.specs.declared.scalar.Scalar.{Scalar as ScalarType}
 use Rattle.bl_tree.specs.declared.tree.Arm.{Arm}
 use Rattle.bl_tree.specs.declared.tree.Branch.{Branch}
 use Rattle.bl_tree.specs.declared.tree.Expr.{Expr}
-use Rattle.bl_tree.specs.declared.tree.Stmt.{Stmt, fold-roll-Stmt, out-Stmt, out-roll-Stmt, roll-Stmt, roll-out-Stmt}
-use Rattle.bl_tree.specs.declared.tree.StmtKind.{StmtKind, fold-roll-StmtKind, out-StmtKind, out-roll-StmtKind, roll-StmtKind, roll-out-StmtKind}
+use Rattle.bl_tree.specs.declared.tree.Stmt.{Stmt, fold-roll-Stmt, out-Stmt, out-roll-Stmt}
+use Rattle.bl_tree.specs.declared.tree.StmtKind.{StmtKind, fold-roll-StmtKind, out-StmtKind, out-roll-StmtKind, roll-StmtKind}
 use Rattle.bl_tree.specs.declared.tree.StmtKind.TheOpen.{StmtKind-F}
 use Rattle.bl_tree.specs.declared.tree.StructDef.{StructDef}
 use Rattle.bl_tree.specs.declared.tree.Unit.{Unit as UnitDef}
@@ -26,9 +26,11 @@ use Rattle.bl_tree.specs.Words.{are_distinct, is_name}
 use Rattle.bl_graph_nodes.specs.Plain.{Act, Plain, Position, block_from, label_at, plain_body, plain_stmt}
 use Rattle.bl_machine.specs.Uses.{Slots}
 use Rattle.bl_machine_pass.specs.Transitions.{Change, Finishes, Transition, enter, rules, rules_in, rules_of}
-use Rattle.bl_emit_spec_laws_nodes.specs.Points.Laws.{ends_body, is_return_node}
+use Rattle.bl_emit_spec_laws.specs.Registers.Laws.{ends_body}
+use Rattle.bl_emit_spec_laws_nodes.specs.Points.Laws.{is_return_node}
 use Rattle.bl_emit_spec_laws_nodes.specs.Points.Points.{BodiesEnd}
-use Rattle.bl_emit_spec_laws_nodes.proofs.OnPoints.Quiet.{is_quiet, quiet_of}
+use Rattle.bl_emit_spec_laws.proofs.OnOwn.Endless.{made, made_is}
+use Rattle.bl_emit_spec_laws.proofs.OnOwn.Quiet.{is_quiet, quiet_of}
 
 and_left : (a b : Bool) → (a && b) ≡ true → a ≡ true
 and_left true b h = refl
@@ -72,13 +74,6 @@ fine_at (first ∷ all) rule h (zero, within, is) = subst (λ (x : Transition). 
 fine_at (first ∷ all) rule h (suc k, within, is) = fine_at all rule (and_right (is_fine first) (list_all is_fine all) h) (k, omega arith, is)
 
 -- ---- the last statement
-
-abbrev pub made : Place → StmtKind-F StmtKind Arm Branch Stmt → Stmt
-made place layer = roll-Stmt (record { place = place; what = roll-StmtKind layer })
-
-pub made_is : (s : Stmt) → made (out-Stmt s).place (out-StmtKind (out-Stmt s).what) ≡ s
-made_is s =
-    ap (λ (what : StmtKind). roll-Stmt (record { place = (out-Stmt s).place; what = what })) (roll-out-StmtKind (out-Stmt s).what) ∙ roll-out-Stmt s
 
 kind_made : (place : Place) (layer : StmtKind-F StmtKind Arm Branch Stmt) → out-StmtKind (out-Stmt (made place layer)).what ≡ layer
 kind_made place layer =

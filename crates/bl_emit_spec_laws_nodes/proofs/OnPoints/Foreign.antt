@@ -17,7 +17,7 @@ use Rattle.bl_emit_acts_laws_simulation.specs.Acts.{Foreign, copy_location, lies
 use Rattle.bl_emit_acts_laws_simulation.specs.Frames.{is_older, lent_at, remembered_at}
 use Rattle.bl_emit_acts_laws_simulation.specs.Encodes.{are_apart, home_at, is_live, lead_in, location_in, start_in, ways_part}
 use Rattle.bl_emit_spec.specs.Names.{NumberedWord, callee_name}
-use Rattle.bl_emit_spec_laws.specs.Registers.Registers.{Register, RegistersApart, RegistersBeside, Registered, frame_at, register_at}
+use Rattle.bl_emit_spec_laws.specs.Registers.Registers.{Register, RegistersApart, RegistersBeside, Registered, frame_at, has_register, register_at}
 use Rattle.bl_emit_spec_laws.specs.Calls.Laws.{PassOutside}
 use Rattle.bl_emit_spec_laws.specs.Calls.Invariant.{PlacesAreSeparate, result_at_c}
 use Rattle.bl_emit_spec_laws_nodes.proofs.OnPoints.Apart.{first_further, last_further, lies_apart, lies_further, older_differs}
@@ -83,12 +83,12 @@ module _ (site : TypingContext) (unit : UnitDef) (remembers : Bool) (scope : Sco
 
   -- ---- registers, what is called, and the result
 
-  pub foreign_register : (has : Registered) → RegistersApart has scope → RegistersBeside has site scope → (x : Register) (way : List Projection) →
-      Foreign site copied scope (register_at has scope x).root ((register_at has scope x).parts ++ way)
-  foreign_register has apart beside x =
-      foreign_place (register_at has scope x) (apart.live x)
-      (λ k var there. apart_flip (register_at has scope x) (location_in scope site k []) (beside.variables x k var there))
-      (λ k. apart_flip (register_at has scope x) (copy_location scope site.vars k) (beside.copies x k))
+  pub foreign_register : (has : Registered) → RegistersApart has scope → RegistersBeside has site scope → (x : Register) → has_register has x ≡ true →
+      (way : List Projection) → Foreign site copied scope (register_at has scope x).root ((register_at has scope x).parts ++ way)
+  foreign_register has apart beside x its =
+      foreign_place (register_at has scope x) (apart.live x its)
+      (λ k var there. apart_flip (register_at has scope x) (location_in scope site k []) (beside.variables x k var its there))
+      (λ k. apart_flip (register_at has scope x) (copy_location scope site.vars k) (beside.copies x k its))
 
   pub foreign_counter : (more : List Projection) (way : List Projection) →
       Foreign site copied scope (further (frame_at scope) more).root ((further (frame_at scope) more).parts ++ way)

@@ -320,17 +320,17 @@ module _ (stand : ChangesSimulateInPass) (frames_apart : FramesApart) (structs :
         (same_number ∙ ap (option_map number_or_zero) is) in
         let ended = code_ends (Some found.0) found.1 in
         let frame = midway.fits.each i unit midway.is_there in
+        let is_unit : (activity_at w activities i).unit ≡ unit = midway.compiled.built.unit k unit midway.function.is_there in
         let active : is_activity (site_at w activities i).kind ≡ true =
-        subst (λ (unit : UnitDef). is_activity unit.kind ≡ true) (sym (midway.compiled.built.unit k unit midway.function.is_there))
-        midway.function.active in
+        subst (λ (unit : UnitDef). is_activity unit.kind ≡ true) (sym is_unit) midway.function.active in
         then_changes code (with_frame i (with_result value) store) (set_at here (further (result_at_c scope) []) found.0) ended.0 ended.1
-        (return_stands w activities i unit scope frames store copies r here midway.is_there one midway.function.places active remembering
+        (return_stands w activities i unit scope frames store copies r here midway.is_there one midway.function.places is_unit active remembering
         midway.stands
         frame.frame frame.is value found.0 found.2)
-        (return_keeps w activities i unit scope frames store copies r here midway.is_there one midway.function.places active remembering
+        (return_keeps w activities i unit scope frames store copies r here midway.is_there one midway.function.places is_unit active remembering
         midway.stands
         frame.frame frame.is value found.0 found.2)
-        (λ v over has at. told w activities i unit scope frames store copies r here midway.is_there one midway.function.places active remembering
+        (λ v over has at. told w activities i unit scope frames store copies r here midway.is_there one midway.function.places is_unit active remembering
         midway.stands frame.frame frame.is value found.0 found.2 v at)
 
     some_cut : value_there w store i e ≡ None → (block_c (code ++ changes_code view rule.on_true) scope here).end ≡ traps

@@ -21,6 +21,7 @@ use Rattle.bl_emit_acts_laws_simulation.specs.Acts.{copy_location}
 use Rattle.bl_emit_acts_laws_simulation.specs.Frames.{remembered_at}
 use Rattle.bl_emit_acts_laws_simulation.specs.Encodes.{CopiesEncoded, VariablesEncoded, are_apart, home_at, location_in}
 use Rattle.bl_emit_spec.specs.Activities.{copies_of, remembers_any}
+use Rattle.bl_emit_spec.specs.Blocks.{unit_may_end}
 use Rattle.bl_emit_spec.specs.Names.{NumberedWord, callee_name, counter_name}
 use Rattle.bl_emit_spec_laws.specs.Registers.Registers.{Registered, frame_at, register_at}
 use Rattle.bl_machine_pass.specs.Registers.{Registers}
@@ -40,7 +41,7 @@ use Rattle.bl_emit_spec_laws_nodes.proofs.OnPoints.Results.{result_own, view_sam
 module _ (w : Setting) (activities : Activities) (i : ℕ) (unit : UnitDef) (scope : Scope) (frames : Frames) (store : Store) (copies : List Value)
     (r : Registers) (here : Memory) (is_there : unit_at w i ≡ Some unit) (one : is_some unit.result ≡ true)
     (places : PlacesAreSeparate (site_at w activities i) unit (remembers_any (activity_at w activities i)) scope)
-    (active : is_activity (site_at w activities i).kind ≡ true) (remembering : Remembering w activities)
+    (is_unit : (activity_at w activities i).unit ≡ unit) (active : is_activity (site_at w activities i).kind ≡ true) (remembering : Remembering w activities)
     (stands : PassRepresents w activities i unit scope frames store copies r here) (frame : Frame) (has_frame : slice_get store i ≡ Some frame)
     (value : Value) (held : CValue) (number : scalar_number held ≡ number_or_zero value) where
   abbrev site : TypingContext
@@ -148,7 +149,8 @@ module _ (w : Setting) (activities : Activities) (i : ℕ) (unit : UnitDef) (sco
     registers = record {
       each = λ x its.
           kept_at (register_at has scope x)
-          (apart_flip (register_at has scope x) (result_at_c scope) (register_stands scope has site (result_at_c scope) (places.result one) x)) []
+          (apart_flip (register_at has scope x) (result_at_c scope) (register_stands scope has site (unit_may_end unit)
+          (ap unit_may_end is_unit) (result_at_c scope) (places.result one) x its)) []
           ∙ stands.registers.each x its;
     };
     variables = variables;

@@ -8,7 +8,8 @@ use Rattle.bl_ctree.specs.Instances.{Setting}
 use Rattle.bl_machine_pass.specs.Transitions.{Change, Transition}
 use Rattle.bl_emit_spec_laws.specs.Calls.Built.{Activities, unit_number}
 use Rattle.bl_emit_spec_laws.specs.Calls.Laws.{HasShownRule, shown_rule}
-use Rattle.bl_emit_spec_laws_nodes.specs.Points.Laws.{ReturnsEnd, ends_body, is_return_node}
+use Rattle.bl_emit_spec_laws.specs.Registers.Laws.{ends_body}
+use Rattle.bl_emit_spec_laws_nodes.specs.Points.Laws.{ReturnsEnd, is_return_node}
 
 -- changes that are left out end no body
 in_all : (last : Bool) (changes : List Change) → list_any ends_body (if last then changes else []) ≡ true → list_any ends_body changes ≡ true

@@ -40,8 +40,9 @@ use Rattle.bl_emit_spec_laws.specs.Calls.Built.{Activities, activity_at, cleared
 use Rattle.bl_emit_spec_laws.specs.Calls.Laws.{PartSimulates, PassKeepsFrame, block_done}
 use Rattle.bl_emit_spec_laws.specs.Calls.Invariant.{PassRepresents}
 use Rattle.bl_emit_spec_laws_nodes.proofs.OnPoints.Shown.{ends_true}
+use Rattle.bl_emit_spec_laws.specs.Registers.Laws.{ends_body}
 use Rattle.bl_emit_spec_laws_nodes.specs.Points.Laws.{ChangesSimulateInPass, IsSilent, ResultTold, SilentNodesSimulate}
-use Rattle.bl_emit_spec_laws_nodes.specs.Points.Laws.{ends_body, is_return_node}
+use Rattle.bl_emit_spec_laws_nodes.specs.Points.Laws.{is_return_node}
 
 pub no_such : true ≡ false → ⊥
 no_such h = cc

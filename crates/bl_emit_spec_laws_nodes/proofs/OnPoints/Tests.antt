@@ -56,8 +56,9 @@ use Rattle.bl_machine_pass_laws_execution.specs.Executes.{CopiesMatch, NodeTraps
 use Rattle.bl_machine_pass_laws_execution.specs.Frames.{Frames}
 use Rattle.bl_emit_spec_laws.specs.Calls.Built.{Activities, activity_at, cleared, rank_by, registered, slots_by, unit_number}
 use Rattle.bl_emit_spec_laws.specs.Calls.Laws.{CalledAt, HasShownRule, Midway, PartSimulates, block_done}
+use Rattle.bl_emit_spec_laws.specs.Registers.Laws.{ends_body}
 use Rattle.bl_emit_spec_laws_nodes.specs.Points.Laws.{ChangesSimulateInPass, Remembering, ResultTold, ReturnsEnd}
-use Rattle.bl_emit_spec_laws_nodes.specs.Points.Laws.{RulesOwn, ends_body, is_return_node}
+use Rattle.bl_emit_spec_laws_nodes.specs.Points.Laws.{RulesOwn, is_return_node}
 use Rattle.bl_emit_spec_laws_nodes.specs.Points.Nodes.{IsTest, NodesStand, PrevsAgree, TestNodesSimulate, ViewsFit, copied_there, fits_there}
 use Rattle.bl_emit_spec_laws_nodes.proofs.OnPoints.Besides.{beside, site_is, value_there_is}
 use Rattle.bl_emit_spec_laws_nodes.proofs.OnPoints.Choices.{Chosen, choice_alone, else_same, truth_c}

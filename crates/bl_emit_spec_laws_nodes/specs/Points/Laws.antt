@@ -31,10 +31,10 @@ use Rattle.bl_emit_acts.specs.declared.home.Home.TheVariants.{Held}
 use Rattle.bl_emit_acts_laws_simulation.specs.Encodes.{home_at}
 use Rattle.bl_emit_spec.specs.Activities.{activity_view, first_rules, remembers_any}
 use Rattle.bl_emit_spec.specs.Blocks.{changes_code}
-use Rattle.bl_emit_spec_laws.specs.Registers.Laws.{asks_its_own, changes_its_own}
+use Rattle.bl_emit_spec_laws.specs.Registers.Laws.{asks_its_own, changes_its_own, ends_body}
 use Rattle.bl_machine.specs.declared.machine.Activity.{Activity as InMachine}
 use Rattle.bl_machine_pass.specs.Registers.{Registers, all_changed}
-use Rattle.bl_machine_pass.specs.Transitions.{Change, Finishes, Transition, rules}
+use Rattle.bl_machine_pass.specs.Transitions.{Change, Transition, rules}
 use Rattle.bl_machine_pass_laws_execution.specs.Executes.{HasRule}
 use Rattle.bl_machine_pass_laws_execution.specs.Frames.{Frames}
 use Rattle.bl_emit_spec_laws.specs.Calls.Built.{Activities, activity_at, rank_by, registered, site_at, slots_by}
@@ -53,11 +53,6 @@ pub record RulesOwn (w : Setting) (activities : Activities) : Type 0 where
       list_all (changes_its_own (rank_by w activities i) (registered (activity_at w activities i))) rule.on_true ≡ true
   pub on_false : (i : ℕ) (unit : UnitDef) (rule : Transition) → unit_at w i ≡ Some unit → HasShownRule w activities i unit rule →
       list_all (changes_its_own (rank_by w activities i) (registered (activity_at w activities i))) rule.on_false ≡ true
-
--- whether a change ends the body
-abbrev pub ends_body : Change → Bool
-ends_body Finishes = true
-ends_body _ = false
 
 -- whether the node is a `return`
 abbrev pub is_return_node : Node → Bool

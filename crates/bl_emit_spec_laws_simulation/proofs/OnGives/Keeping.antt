@@ -17,6 +17,7 @@ use Rattle.bl_emit_acts_laws_simulation.specs.Acts.{MayPass, all_apart, places_i
 use Rattle.bl_emit_acts_laws_simulation.specs.Arguments.{ApartFromVariables}
 use Rattle.bl_emit_acts_laws_simulation.specs.Frames.{is_older, lent_at, remembered_at}
 use Rattle.bl_emit_acts_laws_simulation.specs.Encodes.{are_apart, home_at, is_live, lead_in, start_in, ways_part}
+use Rattle.bl_emit_spec.specs.Blocks.{unit_may_end}
 use Rattle.bl_emit_spec.specs.Names.{NumberedWord, callee_name, ended_name, given_name}
 use Rattle.bl_emit_spec_laws.specs.Registers.Registers.{frame_at}
 use Rattle.bl_emit_spec_laws.specs.Calls.Calls.{MayGive, where_true, written_by}
@@ -85,6 +86,11 @@ parted_where : (xs : List Location) (test : Bool) (y : Location) (ys : List Loca
     Parted xs ys → Parted xs (where_true test y ++ ys)
 parted_where xs true y ys one other = parted_more xs y ys (one refl) other
 parted_where xs false y ys one other = other
+
+parted_last : (xs : List Location) (test : Bool) (y : Location) → (test ≡ true → list_all (λ x. are_apart x y) xs ≡ true) →
+    Parted xs (where_true test y)
+parted_last xs true y one = parted_more xs y [] (one refl) (parted_nothing xs)
+parted_last xs false y one = parted_nothing xs
 
 where_parted : (test : Bool) (x : Location) (ys : List Location) → (test ≡ true → list_all (are_apart x) ys ≡ true) → Parted (where_true test x) ys
 where_parted true x ys one = both (list_all (are_apart x) ys) true (one refl) refl
@@ -227,19 +233,20 @@ module _ (site : TypingContext) (unit : UnitDef) (remembers : Bool) (scope : Sco
       ((place : Location) → ApartFromVariables site scope place → list_all (are_apart place) outputs ≡ true) →
       MayGive other has scope.depth (given_by scope n inputs outputs)
   may_give other has inputs outputs its may from_inputs from_outputs =
-      let last : List Location = where_true (is_some other.result) result ++ over ∷ [] in
+      let ends : List Location = where_true (unit_may_end other) over in
+      let last : List Location = where_true (is_some other.result) result ++ ends in
       let rest : List Location = outputs ++ last in
       let older_last : (place : Location) → is_older scope.depth place.root ≡ true → list_all (are_apart place) last ≡ true =
-      λ place older. append_all (are_apart place) (where_true (is_some other.result) result) (over ∷ [])
+      λ place older. append_all (are_apart place) (where_true (is_some other.result) result) ends
       (where_all (are_apart place) (is_some other.result) result (λ one. older_apart place (given_name n) [] older))
-      (single_all (are_apart place) over (older_apart place ended_name [] older)) in
+      (where_all (are_apart place) (unit_may_end other) over (λ may. older_apart place ended_name [] older)) in
       let last_apart : all_apart last ≡ true =
-      append_apart (where_true (is_some other.result) result) (over ∷ []) (where_apart (is_some other.result) result) refl
-      (where_parted (is_some other.result) result (over ∷ []) (λ one. single_all (are_apart result) over result_over)) in
+      append_apart (where_true (is_some other.result) result) ends (where_apart (is_some other.result) result) (where_apart (unit_may_end other) over)
+      (where_parted (is_some other.result) result ends (λ one. where_all (are_apart result) (unit_may_end other) over (λ may. result_over))) in
       let rest_apart : all_apart rest ≡ true =
       append_apart outputs last may.apart last_apart
-      (parted_where outputs (is_some other.result) result (over ∷ []) (λ one. flip_all result outputs (from_outputs result result_variables))
-      (parted_more outputs over [] (flip_all over outputs (from_outputs over over_variables)) (parted_nothing outputs))) in
+      (parted_where outputs (is_some other.result) result ends (λ one. flip_all result outputs (from_outputs result result_variables))
+      (parted_last outputs (unit_may_end other) over (λ may. flip_all over outputs (from_outputs over over_variables)))) in
       let memory_rest : has ≡ true → list_all (are_apart memory) rest ≡ true =
       λ one. append_all (are_apart memory) outputs last (from_outputs memory (memory_variables (its one)))
       (older_last memory (places.memory (its one)).older) in
@@ -255,14 +262,14 @@ module _ (site : TypingContext) (unit : UnitDef) (remembers : Bool) (scope : Sco
             (append_all apart_input (where_true has memory) rest
             (where_all apart_input has memory (λ one. from_inputs memory (memory_variables (its one))))
             (append_all apart_input outputs last may.inputs_apart
-            (append_all apart_input (where_true (is_some other.result) result) (over ∷ [])
+            (append_all apart_input (where_true (is_some other.result) result) ends
             (where_all apart_input (is_some other.result) result (λ one. from_inputs result result_variables))
-            (single_all apart_input over (from_inputs over over_variables)))));
+            (where_all apart_input (unit_may_end other) over (λ may. from_inputs over over_variables)))));
         live = both (live frame) (list_all live (where_true has memory ++ rest)) (older_live scope.depth frame.root frame_older)
             (append_all live (where_true has memory) rest
             (where_all live has memory (λ one. older_live scope.depth memory.root (places.memory (its one)).older))
             (append_all live outputs last may.live
-            (append_all live (where_true (is_some other.result) result) (over ∷ [])
+            (append_all live (where_true (is_some other.result) result) ends
             (where_all live (is_some other.result) result (λ one. own_live scope.depth))
-            (single_all live over (own_live scope.depth)))));
+            (where_all live (unit_may_end other) over (λ may. own_live scope.depth)))));
       }

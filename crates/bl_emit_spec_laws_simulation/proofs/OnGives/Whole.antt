@@ -186,7 +186,7 @@ module _ (structs : List StructDef) (units : List UnitDef) (entry : ℕ) (laws :
 
   -- ---- what it is given
 
-  module _ (given : Store) (does : DeedYields w (deed i at (Copies j arguments.inputs)) store true given) (not_ended : NotEnded scope here) where
+  module _ (given : Store) (does : DeedYields w (deed i at (Copies j arguments.inputs)) store true given) (not_ended : NotEnded other scope here) where
     abbrev c : Copied w i j arguments.inputs store given
     c = copied w i j at arguments.inputs store given does
 

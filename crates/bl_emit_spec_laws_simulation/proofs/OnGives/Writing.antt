@@ -22,7 +22,7 @@ use Rattle.bl_emit_acts_laws_simulation.proofs.Arguments.{own_name, pass_all, pa
 use Rattle.bl_emit_acts_laws_simulation.proofs.Evaluated.{call-does, passes, place-location, step-way}
 use Rattle.bl_emit_acts_laws_simulation.proofs.Passing.{joined_answer, pass_both}
 use Rattle.bl_emit_acts_laws_simulation.proofs.Places.{listed-answer}
-use Rattle.bl_emit_spec.specs.Blocks.{ActivityView, arg_where, has_result, run_args}
+use Rattle.bl_emit_spec.specs.Blocks.{ActivityView, arg_where, has_result, may_end_in, run_args, unit_may_end}
 use Rattle.bl_emit_spec.specs.Names.{NumberedWord, callee_frame, callee_memory, ended_name, ended_place, given_name, given_place}
 use Rattle.bl_emit_spec_laws.specs.Registers.Registers.{frame_at}
 use Rattle.bl_emit_spec_laws.specs.Calls.Calls.{passed_to, where_true}
@@ -59,29 +59,29 @@ module _ (structs : List StructDef) (scope : Scope) (here : Memory) where
   where_answer false place at is = refl
 
   -- what the arguments of a `run` pass
-  abbrev run_answer : NumberedWord → Bool → Bool → Option (List ArgumentValue) → Option (List ArgumentValue)
-  run_answer n remembers result between =
+  abbrev run_answer : NumberedWord → Bool → Bool → Bool → Option (List ArgumentValue) → Option (List ArgumentValue)
+  run_answer n remembers result ends between =
       joined_answer (Some (by_address (inner (frame_at scope) n) ∷ []))
       (joined_answer (Some (where_true remembers (by_address (inner (remembered_at scope) n))))
       (joined_answer between
       (joined_answer (Some (where_true result (by_address (named_location scope false (given_name n)))))
-      (Some (by_address (named_location scope false ended_name) ∷ [])))))
+      (Some (where_true ends (by_address (named_location scope false ended_name)))))))
 
-  args_answer : (n : NumberedWord) (remembers result : Bool) (between : List CArg) →
+  args_answer : (n : NumberedWord) (remembers result ends : Bool) (between : List CArg) →
       (pass_all structs scope here
       (Address (callee_frame n) ∷ (arg_where remembers (Address (callee_memory n))
-      ++ (between ++ (arg_where result (Address (given_place n)) ++ Address ended_place ∷ []))))).answer
-      ≡ run_answer n remembers result (pass_all structs scope here between).answer
-  args_answer n remembers result between =
-      let last : List CArg = arg_where result (Address (given_place n)) ++ Address ended_place ∷ [] in
+      ++ (between ++ (arg_where result (Address (given_place n)) ++ arg_where ends (Address ended_place)))))).answer
+      ≡ run_answer n remembers result ends (pass_all structs scope here between).answer
+  args_answer n remembers result ends between =
+      let last : List CArg = arg_where result (Address (given_place n)) ++ arg_where ends (Address ended_place) in
       let frame : List CArg = Address (callee_frame n) ∷ [] in
       let memory : List CArg = arg_where remembers (Address (callee_memory n)) in
       let lasts : (pass_all structs scope here last).answer
       ≡ joined_answer (Some (where_true result (by_address (named_location scope false (given_name n)))))
-      (Some (by_address (named_location scope false ended_name) ∷ [])) =
-      pass_both structs scope here (arg_where result (Address (given_place n))) (Address ended_place ∷ [])
+      (Some (where_true ends (by_address (named_location scope false ended_name)))) =
+      pass_both structs scope here (arg_where result (Address (given_place n))) (arg_where ends (Address ended_place))
       ∙ ap₂ joined_answer (where_answer result (given_place n) (named_location scope false (given_name n)) (local_answer (given_name n)))
-      (address_answer ended_place (named_location scope false ended_name) (local_answer ended_name)) in
+      (where_answer ends ended_place (named_location scope false ended_name) (local_answer ended_name)) in
       pass_both structs scope here frame (memory ++ (between ++ last))
       ∙ ap₂ joined_answer
       (address_answer (callee_frame n) (inner (frame_at scope) n) (member_answer (codes "f") _))
@@ -104,14 +104,15 @@ module _ (view : ActivityView) (n : NumberedWord) (u : ℕ) (arguments : Argumen
   counted = (pass_all view.site.structs scope here (run_args view n u arguments)).count
 
   written_after : written
-      ≡ called_after scope here (unit_name other.name) counted (run_answer view.site.structs scope here n remembers (is_some other.result) between)
+      ≡ called_after scope here (unit_name other.name) counted
+      (run_answer view.site.structs scope here n remembers (is_some other.result) (unit_may_end other) between)
   written_after =
       ap (λ o. call_c (c_call (name_of_callee o) (run_args view n u arguments)) scope here) earlier_is
       ∙ (call-does scope here (unit_name other.name) (run_args view n u arguments)
       ∙ ap (called_after scope here (unit_name other.name) counted)
       (args_answer view.site.structs scope here n (view.remembers u) (has_result (slice_get view.site.earlier u))
-      (call_args view.site arguments.inputs arguments.outputs)
-      ∙ ap₂ (λ m r. run_answer view.site.structs scope here n m r between) remembers_is (ap has_result earlier_is)))
+      (may_end_in (slice_get view.site.earlier u)) (call_args view.site arguments.inputs arguments.outputs)
+      ∙ ap₂ (λ m o. run_answer view.site.structs scope here n m (has_result o) (may_end_in o) between) remembers_is earlier_is))
 
   -- it is one of the callee's function
   pub written_given : (inputs : List ArgumentValue) (outputs : List Location) → between ≡ Some (inputs ++ map by_address outputs) →
@@ -120,7 +121,7 @@ module _ (view : ActivityView) (n : NumberedWord) (u : ℕ) (arguments : Argumen
   written_given inputs outputs is =
       written_after
       ∙ (ap (λ o. called_after scope here (unit_name other.name) counted
-      (run_answer view.site.structs scope here n remembers (is_some other.result) o)) is
+      (run_answer view.site.structs scope here n remembers (is_some other.result) (unit_may_end other) o)) is
       ∙ ap (λ (o : Option Builtin). later_call counted
       (called_as o (scope.known (unit_name other.name)) (scope.depth + 1) (passed_to other remembers (given_by scope n inputs outputs)) here))
       (own_name view.site.structs scope here other.name))
@@ -130,4 +131,4 @@ module _ (view : ActivityView) (n : NumberedWord) (u : ℕ) (arguments : Argumen
   written_traps is =
       ap (λ (c : CallResult). c.result)
       (written_after ∙ ap (λ o. called_after scope here (unit_name other.name) counted
-      (run_answer view.site.structs scope here n remembers (is_some other.result) o)) is)
+      (run_answer view.site.structs scope here n remembers (is_some other.result) (unit_may_end other) o)) is)

@@ -20,9 +20,10 @@ use Rattle.bl_emit_acts_laws_simulation.specs.Acts.{Foreign, UnchangedOutside, c
 use Rattle.bl_emit_acts_laws_simulation.specs.Frames.{is_older, lent_at, remembered_at}
 use Rattle.bl_emit_acts_laws_simulation.specs.Encodes.{are_apart, home_at, is_live, lead_in, location_in, start_in, ways_part}
 use Rattle.bl_emit_acts_laws_simulation.proofs.Cells.{lies_inside}
+use Rattle.bl_emit_spec.specs.Blocks.{unit_may_end}
 use Rattle.bl_emit_spec.specs.Names.{NumberedWord, callee_name, ended_name, flag_name, given_name, mark_name, rested_name, with_word}
 use Rattle.bl_emit_spec_laws.specs.Registers.Registers.{Before, Counter, Flag, Mark, Over, Register, Registered}
-use Rattle.bl_emit_spec_laws.specs.Registers.Registers.{RegistersApart, RegistersBeside, frame_at, register_at}
+use Rattle.bl_emit_spec_laws.specs.Registers.Registers.{RegistersApart, RegistersBeside, frame_at, has_register, register_at}
 use Rattle.bl_emit_spec_laws_nodes.specs.Calling.{given_by}
 use Rattle.bl_emit_spec_laws.specs.Calls.Calls.{where_true, written_by}
 use Rattle.bl_emit_spec_laws.specs.Calls.Laws.{PassKeepsFrame}
@@ -103,13 +104,14 @@ module _ (site : TypingContext) (unit : UnitDef) (remembers : Bool) (scope : Sco
   pub number_same : (root : Root) (way : List Projection) → Clear root way → after root way ≡ here root way
   number_same root way clear =
       let lies : Location → Bool = λ place. lies_in place root way in
-      let last : List Location = where_true (is_some other.result) given ++ ended ∷ [] in
+      let last : List Location = where_true (is_some other.result) given ++ where_true (unit_may_end other) ended in
       kept.each root way clear.live
       (neither (lies f) (list_any lies (where_true takes m ++ (outputs ++ last))) clear.no_frame
       (none_of_both lies (where_true takes m) (outputs ++ last) (none_where lies takes m clear.no_memory)
       (none_of_both lies outputs last clear.no_output
-      (none_of_both lies (where_true (is_some other.result) given) (ended ∷ []) (none_where lies (is_some other.result) given (λ one. clear.no_given))
-      (neither (lies ended) false clear.no_ended refl)))))
+      (none_of_both lies (where_true (is_some other.result) given) (where_true (unit_may_end other) ended)
+      (none_where lies (is_some other.result) given (λ one. clear.no_given))
+      (none_where lies (unit_may_end other) ended (λ may. clear.no_ended))))))
 
   -- no output is there where no variable that may be written is
   no_outputs : (root : Root) (way : List Projection) → ((k : ℕ) (var : Var) → var_at site k ≡ Some var → is_input var.role ≡ false →
@@ -163,31 +165,32 @@ module _ (site : TypingContext) (unit : UnitDef) (remembers : Bool) (scope : Sco
 
   -- ---- registers
 
-  register_given : (has : Registered) (x : Register) → are_apart given (register_at has scope x) ≡ true
-  register_given has (Counter k) = local_older (given_name n) (register_at has scope (Counter k)) places.frame.frame_older
-  register_given has (Before k) = local_local (given_name n) (rested_name k) refl
-  register_given has (Flag k) = local_local (given_name n) (flag_name (with_word has.words k)) refl
-  register_given has (Mark k) = local_local (given_name n) (mark_name (with_word has.words k)) refl
-  register_given has Over = local_older (given_name n) (register_at has scope Over) places.frame.over_older
+  module _ (has : Registered) (may_end : has.over ≡ unit_may_end unit) where
+    register_given : (x : Register) → has_register has x ≡ true → are_apart given (register_at has scope x) ≡ true
+    register_given (Counter k) its = local_older (given_name n) (register_at has scope (Counter k)) places.frame.frame_older
+    register_given (Before k) its = local_local (given_name n) (rested_name k) refl
+    register_given (Flag k) its = local_local (given_name n) (flag_name (with_word has.words k)) refl
+    register_given (Mark k) its = local_local (given_name n) (mark_name (with_word has.words k)) refl
+    register_given Over its = local_older (given_name n) (register_at has scope Over) (places.frame.over_older (sym may_end ∙ its))
 
-  register_ended : (has : Registered) (x : Register) → are_apart ended (register_at has scope x) ≡ true
-  register_ended has (Counter k) = local_older ended_name (register_at has scope (Counter k)) places.frame.frame_older
-  register_ended has (Before k) = local_local ended_name (rested_name k) refl
-  register_ended has (Flag k) = local_local ended_name (flag_name (with_word has.words k)) refl
-  register_ended has (Mark k) = local_local ended_name (mark_name (with_word has.words k)) refl
-  register_ended has Over = local_older ended_name (register_at has scope Over) places.frame.over_older
+    register_ended : (x : Register) → has_register has x ≡ true → are_apart ended (register_at has scope x) ≡ true
+    register_ended (Counter k) its = local_older ended_name (register_at has scope (Counter k)) places.frame.frame_older
+    register_ended (Before k) its = local_local ended_name (rested_name k) refl
+    register_ended (Flag k) its = local_local ended_name (flag_name (with_word has.words k)) refl
+    register_ended (Mark k) its = local_local ended_name (mark_name (with_word has.words k)) refl
+    register_ended Over its = local_older ended_name (register_at has scope Over) (places.frame.over_older (sym may_end ∙ its))
 
-  pub register_same : (has : Registered) → RegistersApart has scope → RegistersBeside has site scope → (x : Register) (way : List Projection) →
-      value_at after (register_at has scope x) way ≡ value_at here (register_at has scope x) way
-  register_same has apart beside x =
-      let p = register_at has scope x in
-      place_same p (foreign_register site unit remembers scope places active held_here none has apart beside x)
-      (apart_flip p f (register_inner scope has places.frame n [] x))
-      (λ it.
-      apart_flip p m
-      (last_further p (remembered_at scope) (member (callee_name n) ∷ [])
-      (register_stands scope has site (remembered_at scope) (places.memory (so it)) x)))
-      (register_given has x) (register_ended has x)
+    pub register_same : RegistersApart has scope → RegistersBeside has site scope → (x : Register) → has_register has x ≡ true → (way : List Projection) →
+        value_at after (register_at has scope x) way ≡ value_at here (register_at has scope x) way
+    register_same apart beside x its =
+        let p = register_at has scope x in
+        place_same p (foreign_register site unit remembers scope places active held_here none has apart beside x its)
+        (apart_flip p f (register_inner scope has (unit_may_end unit) may_end places.frame n [] x its))
+        (λ it.
+        apart_flip p m
+        (last_further p (remembered_at scope) (member (callee_name n) ∷ [])
+        (register_stands scope has site (unit_may_end unit) may_end (remembered_at scope) (places.memory (so it)) x its)))
+        (register_given x its) (register_ended x its)
 
   -- ---- copies
 

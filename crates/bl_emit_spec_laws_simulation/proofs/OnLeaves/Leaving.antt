@@ -45,6 +45,7 @@ use Rattle.bl_emit_acts_laws_simulation.specs.Encodes.{CopiesEncoded, Encodes, V
 use Rattle.bl_emit_acts_laws_simulation.specs.Laws.{FramesApart}
 use Rattle.bl_emit_spec.specs.Activities.{Activity, copies_of, remembers_any}
 use Rattle.bl_emit_spec.specs.Names.{NumberedWord, callee_name, counter_name}
+use Rattle.bl_emit_spec.specs.Blocks.{unit_may_end}
 use Rattle.bl_emit_spec_laws.specs.Registers.Laws.{RegistersKeepApart}
 use Rattle.bl_emit_spec_laws.specs.Registers.Registers.{RegistersApart, RegistersBeside, frame_at}
 use Rattle.bl_machine.specs.declared.machine.Activity.{Activity as InMachine}
@@ -71,7 +72,7 @@ use Rattle.bl_emit_spec_laws.specs.Cleared.{ClearingIsInside}
 use Rattle.bl_emit_spec_laws.proofs.OnPlaced.Lists.{contains_at}
 use Rattle.bl_emit_spec_laws_nodes.specs.Points.Laws.{Remembering}
 use Rattle.bl_emit_spec_laws_nodes.proofs.OnPoints.Apart.{nests_beyond}
-use Rattle.bl_emit_spec_laws_nodes.proofs.OnPoints.Changes.{holds_same, pointers_older}
+use Rattle.bl_emit_spec_laws_nodes.proofs.OnPoints.Changes.{holds_same, registers_keep}
 use Rattle.bl_emit_spec_laws.specs.Remember.{CallersRemember}
 use Rattle.bl_emit_spec_laws_nodes.specs.Views.{CalleesRemember, RememberingStands}
 use Rattle.bl_emit_spec_laws_nodes.proofs.OnViews.Leaving.{held_led, nests_inside, own_home, same_mapped}
@@ -199,10 +200,11 @@ module _ (laws : Laws) (structs : List StructDef) (units : List UnitDef) (entry 
       (λ x var there held.
       remembering.each i i (frame_at scope) (remembered_at scope) (frame_at scope) (remembered_at scope) x var memories.here there held)
 
+  is_unit : a.unit ≡ unit
+  is_unit = compiled.built.unit k unit there
+
   registers_stand : RegistersApart (registered a) scope × RegistersBeside (registered a) site scope
-  registers_stand =
-      laws.registers site (registered a) scope (compiled.registers k unit there active) places.frame
-      (pointers_older site unit remembers scope places) places.frame_apart places.over_apart
+  registers_stand = registers_keep laws.registers site unit remembers scope a is_unit (compiled.registers k unit there active) places
 
   -- ---- outputs
 
@@ -494,7 +496,7 @@ module _ (laws : Laws) (structs : List StructDef) (units : List UnitDef) (entry 
     registers = record {
       each = λ x its.
           register_same site unit remembers scope places active held_here other takes so n gives.inputs gives.outputs within here after called.kept
-          (registered a) registers_stand.0 registers_stand.1 x []
+          (registered a) (ap unit_may_end is_unit) registers_stand.0 registers_stand.1 x its []
           ∙ midway.stands.registers.each x its;
     };
     variables =

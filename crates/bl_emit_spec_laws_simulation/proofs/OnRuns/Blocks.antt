@@ -1,8 +1,9 @@
 -- The blocks of the nodes at which a `run` begins or goes on.
 use Rattle.std.proofs.Common.{◌≡◌, inl, inr, ℕ, Bool, true, false, List, [], ◌∷◌, ◌++◌, Option, Some, None, refl, sym, ap, ◌∙◌, subst}
+use Rattle.std.proofs.Common.{append_assoc}
 use Rattle.std.proofs.lemmas.Option.{same_Some}
 use Rattle.std.specs.List.{list_any}
-use Rattle.std.specs.Prelude.{pos, slice_get, take, if◌then◌else◌}
+use Rattle.std.specs.Prelude.{slice_get, take, if◌then◌else◌}
 use Rattle.bl_tree.specs.declared.c.CStmt.{CStmt}
 use Rattle.bl_tree.specs.declared.place.Place.{Place}
 use Rattle.bl_tree.specs.declared.tree.Path.{Path}
@@ -14,8 +15,8 @@ use Rattle.bl_tree.specs.Typing.{site_of, target_fits}
 use Rattle.bl_graph_nodes.specs.Nodes.{Arguments, EnterAt, Node, ResumeAt}
 use Rattle.bl_graph_nodes.specs.Plain.{Label, plain_body}
 use Rattle.bl_ctext_semantics.specs.Course.{End, Outcome, goes_on, traps}
-use Rattle.bl_ctext_semantics.specs.Meaning.{Scope, block_c, named_location, runs_c}
-use Rattle.bl_ctext_semantics.specs.Memory.{Memory, scalar, set_at, zeros}
+use Rattle.bl_ctext_semantics.specs.Meaning.{Scope, block_c, runs_c}
+use Rattle.bl_ctext_semantics.specs.Memory.{Memory, set_at, zeros}
 use Rattle.bl_ctree.specs.Actions.{Copies, Gives, Performed, done, given_to, result_at}
 use Rattle.bl_ctree.specs.Instances.{Setting, callee_of, setting_of}
 use Rattle.bl_ctree.specs.Store.{Store, view_at}
@@ -31,7 +32,7 @@ use Rattle.bl_emit_functions.specs.Trees.{c_if, c_truth}
 use Rattle.bl_emit_spec.specs.Activities.{activity_view, remembers_any}
 use Rattle.bl_emit_spec.specs.Blocks.{ActivityView, begun_code, changes_code, unit_may_end, may_end_in, name_in}
 use Rattle.bl_emit_spec.specs.Blocks.{node_code, resumed_code, stmt_where, target_code, word_at}
-use Rattle.bl_emit_spec.specs.Names.{NumberedWord, callee_frame, ended_name, ended_place, frame_name}
+use Rattle.bl_emit_spec.specs.Names.{NumberedWord, callee_frame, ended_place, frame_name}
 use Rattle.bl_emit_spec_laws.specs.Registers.Laws.{RegistersKeepApart}
 use Rattle.bl_emit_spec_laws.specs.Registers.Registers.{frame_at}
 use Rattle.bl_machine.specs.declared.machine.Activity.{Activity as InMachine}
@@ -64,7 +65,8 @@ use Rattle.bl_emit_spec_laws.specs.Cleared.{ClearingIsInside}
 use Rattle.bl_emit_spec_laws.specs.Registers.Laws.{RegistersWithin}
 use Rattle.bl_emit_spec_laws.specs.Within.{AllStayWithin}
 use Rattle.bl_emit_spec_laws.proofs.OnWithin.Passing.{frame_within, resumed_within}
-use Rattle.bl_emit_spec_laws_nodes.specs.Points.Laws.{ChangesSimulateInPass, ResultTold, ends_body, is_return_node}
+use Rattle.bl_emit_spec_laws.specs.Registers.Laws.{ends_body}
+use Rattle.bl_emit_spec_laws_nodes.specs.Points.Laws.{ChangesSimulateInPass, ResultTold, is_return_node}
 use Rattle.bl_emit_spec_laws_nodes.specs.Points.Points.{BodiesEnd, PointsStand}
 use Rattle.bl_emit_spec_laws_nodes.proofs.OnPoints.ActNodes.{append_goes}
 use Rattle.bl_emit_spec_laws_nodes.proofs.OnPoints.Choices.{Alike, Chosen, if_alone}
@@ -78,7 +80,7 @@ use Rattle.bl_emit_spec_laws_simulation.proofs.OnRuns.Clearing.{cleared_keeps, c
 use Rattle.bl_emit_spec_laws.proofs.OnRunPlaces.Entered.{node_by}
 use Rattle.bl_emit_spec_laws_simulation.proofs.OnRuns.Inner.{cleared_own}
 use Rattle.bl_emit_spec_laws_simulation.proofs.OnRuns.Running.{CallsUnit, node_calls, unit_there}
-use Rattle.bl_emit_spec_laws_simulation.proofs.OnRuns.Statements.{clear_ends, ended_ends, ended_truth, frame_answer, step_goes, step_traps}
+use Rattle.bl_emit_spec_laws_simulation.proofs.OnRuns.Statements.{clear_ends, ended_truth, forget_goes, forgotten_by, frame_answer, step_goes, step_traps}
 use Rattle.bl_emit_spec_laws_simulation.proofs.OnRuns.Targets.{target_comes, target_typed}
 use Rattle.bl_ctree_laws_confluence.specs.Deeds.Nesting as nesting
 use Rattle.bl_emit_spec_laws.proofs.OnRunPlaces.Words.{run_word}
@@ -197,7 +199,7 @@ module _ (orderly : AcceptedIsOrderly) (callers : InstancesHaveCallers) (nests :
         forget = c_set ended_place (c_truth false)
 
         abbrev forgotten : Memory → Memory
-        forgotten m = set_at m (named_location scope false ended_name) (scalar (pos 0))
+        forgotten m = forgotten_by may scope m
 
         -- ---- it begins
 
@@ -219,7 +221,7 @@ module _ (orderly : AcceptedIsOrderly) (callers : InstancesHaveCallers) (nests :
           mid_begun : Midway structs units entry machine activities i unit scope begun_frames store copies r (forgotten cleared_here)
           mid_begun =
               ended_midway orderly callers clearing keys placed structs units entry (nests structs units entry) machine activities points.remembering i
-              unit scope begun_frames store copies r cleared_here mid_cleared
+              unit scope begun_frames store copies r cleared_here mid_cleared may
 
           sees_begun : CopiesMatch w i (EnterAt l at arguments) store copies
           sees_begun = subst (λ n. CopiesMatch w i n store copies) is sees
@@ -230,7 +232,7 @@ module _ (orderly : AcceptedIsOrderly) (callers : InstancesHaveCallers) (nests :
               (cleared_keeps orderly callers clearing keys placed structs units entry (nests structs units entry) machine activities points.remembering i
               unit scope frames store copies r here midway l at arguments j run.node run.callee)
               (ended_keeps orderly callers clearing keys placed structs units entry (nests structs units entry) machine activities points.remembering i
-              unit scope begun_frames store copies r cleared_here mid_cleared)
+              unit scope begun_frames store copies r cleared_here mid_cleared may)
 
           abbrev call : CStmt
           call = c_calling (written structs units entry machine activities gives leaves i unit scope begun_frames store copies r (forgotten cleared_here)
@@ -239,24 +241,35 @@ module _ (orderly : AcceptedIsOrderly) (callers : InstancesHaveCallers) (nests :
           starts_begun : PassStarts w activities j other begun_frames (begun_registers (rank_by w activities) j other)
           starts_begun = inl (refl, λ c. cleared_own callers clearing structs units entry j frames j nesting.itself c)
 
-          not_ended_begun : NotEnded scope (forgotten cleared_here)
+          not_ended_begun : NotEnded other scope (forgotten cleared_here)
           not_ended_begun =
               not_ended orderly callers clearing keys placed structs units entry (nests structs units entry) machine activities points.remembering i
-              unit scope begun_frames store copies r cleared_here mid_cleared
+              unit scope begun_frames store copies r cleared_here mid_cleared other may may_is
 
           -- what stands before the call
-          before_call : (rest : List CStmt) → Alike (block_c (clear ∷ forget ∷ rest) scope here) (block_c rest scope (forgotten cleared_here))
+          before_call : (rest : List CStmt) →
+              Alike (block_c (clear ∷ (stmt_where may forget ++ rest)) scope here) (block_c rest scope (forgotten cleared_here))
           before_call rest =
-              let one = step_goes scope clear (forget ∷ rest) here cleared_here
+              let one = step_goes scope clear (stmt_where may forget ++ rest) here cleared_here
               (clear_ends scope here (callee_frame n) (frame_name (name_in (slice_get view.site.earlier u))) (inner (frame_at scope) n)
               (frame_answer scope here n)) in
-              let two = step_goes scope forget rest cleared_here (forgotten cleared_here) (ended_ends scope cleared_here) in
+              let two = forget_goes scope cleared_here may rest in
               (one.0 ∙ two.0, one.1 ∙ two.1)
+
+          abbrev behind : List CStmt
+          behind = changes_code view rule.on_true
+
+          -- the block does that, the call and the changes
+          begun_so : (block.end ≡ (block_c (clear ∷ (stmt_where may forget ++ call ∷ behind)) scope here).end)
+              × (block.memory ≡ (block_c (clear ∷ (stmt_where may forget ++ call ∷ behind)) scope here).memory)
+          begun_so =
+              subst (λ code. (block.end ≡ (block_c (clear ∷ code) scope here).end) × (block.memory ≡ (block_c (clear ∷ code) scope here).memory))
+              (append_assoc (stmt_where may forget) (call ∷ []) behind) (chosen_begun is)
 
           trapped : (runs : End) → runs ≡ traps →
               runs ≡ (runs_c call scope (forgotten cleared_here)).end → block.end ≡ traps
           trapped runs traps_so same =
-              (chosen_begun is).0
+              begun_so.0
               ∙ ((before_call (call ∷ changes_code view rule.on_true)).0
               ∙ step_traps scope call (changes_code view rule.on_true) (forgotten cleared_here) (sym same ∙ traps_so))
 
@@ -289,7 +302,7 @@ module _ (orderly : AcceptedIsOrderly) (callers : InstancesHaveCallers) (nests :
                 (forgotten cleared_here) mid_begun l at arguments j other run u is_number sees_begun given not_ended_begun copied begun starts_begun
                 frames' left r' executed in
                 let changes = changes_code view rule.on_true in
-                let so = chosen_begun is in
+                let so = begun_so in
                 let before = before_call (call ∷ changes) in
                 let called_so = step_goes scope call changes (forgotten cleared_here) after goes in
                 comes_as w activities i unit scope (with_at j r'.counters frames') left copies (all_changed number rule.on_true r) here block
@@ -303,7 +316,7 @@ module _ (orderly : AcceptedIsOrderly) (callers : InstancesHaveCallers) (nests :
           mid_resumed : Midway structs units entry machine activities i unit scope frames store copies r (forgotten here)
           mid_resumed =
               ended_midway orderly callers clearing keys placed structs units entry (nests structs units entry) machine activities points.remembering i
-              unit scope frames store copies r here midway
+              unit scope frames store copies r here midway may
 
           sees_resumed : CopiesMatch w i (EnterAt l at arguments) store copies
           sees_resumed = subst (λ n. CopiesMatch w i n store copies) is sees
@@ -311,12 +324,12 @@ module _ (orderly : AcceptedIsOrderly) (callers : InstancesHaveCallers) (nests :
           kept_resumed : Keeping here (forgotten here)
           kept_resumed =
               ended_keeps orderly callers clearing keys placed structs units entry (nests structs units entry) machine activities points.remembering i
-              unit scope frames store copies r here midway
+              unit scope frames store copies r here midway may
 
-          not_ended_resumed : NotEnded scope (forgotten here)
+          not_ended_resumed : NotEnded other scope (forgotten here)
           not_ended_resumed =
               not_ended orderly callers clearing keys placed structs units entry (nests structs units entry) machine activities points.remembering i
-              unit scope frames store copies r here midway
+              unit scope frames store copies r here midway other may may_is
 
           abbrev calls : CStmt
           calls = c_calling (written structs units entry machine activities gives leaves i unit scope frames store copies r (forgotten here)
@@ -332,14 +345,18 @@ module _ (orderly : AcceptedIsOrderly) (callers : InstancesHaveCallers) (nests :
           abbrev asked_by : Bool → List CStmt
           asked_by may = stmt_where may asked
 
-          forget_goes : (rest : List CStmt) → Alike (block_c (forget ∷ rest) scope here) (block_c rest scope (forgotten here))
-          forget_goes rest = step_goes scope forget rest here (forgotten here) (ended_ends scope here)
+          -- the block does the call, and what stands behind it
+          resumed_so : (block.end ≡ (block_c (stmt_where may forget ++ calls ∷ asked_by may) scope here).end)
+              × (block.memory ≡ (block_c (stmt_where may forget ++ calls ∷ asked_by may) scope here).memory)
+          resumed_so =
+              subst (λ code. (block.end ≡ (block_c code scope here).end) × (block.memory ≡ (block_c code scope here).memory))
+              (append_assoc (stmt_where may forget) (calls ∷ []) (asked_by may)) (chosen_resumed is)
 
           stopped : (runs : End) → runs ≡ traps → runs ≡ (runs_c calls scope (forgotten here)).end →
               block.end ≡ traps
           stopped runs traps_so same =
-              (chosen_resumed is).0
-              ∙ ((forget_goes (calls ∷ asked_by may)).0 ∙ step_traps scope calls (asked_by may) (forgotten here) (sym same ∙ traps_so))
+              resumed_so.0
+              ∙ ((forget_goes scope here may (calls ∷ asked_by may)).0 ∙ step_traps scope calls (asked_by may) (forgotten here) (sym same ∙ traps_so))
 
           pub resume_inputs : done_by w (deed i at (Copies j arguments.inputs)) store ≡ None → block.end ≡ traps
           resume_inputs did =
@@ -380,8 +397,8 @@ module _ (orderly : AcceptedIsOrderly) (callers : InstancesHaveCallers) (nests :
                 -- what is done behind the call
                 asked_so : (block.end ≡ (block_c (asked_by may) scope after).end) × (block.memory ≡ (block_c (asked_by may) scope after).memory)
                 asked_so =
-                    let so = chosen_resumed is in
-                    let before = forget_goes (calls ∷ asked_by may) in
+                    let so = resumed_so in
+                    let before = forget_goes scope here may (calls ∷ asked_by may) in
                     let called_so = step_goes scope calls (asked_by may) (forgotten here) after
                     (call_comes structs units entry machine activities gives leaves i unit scope frames store copies r
                     (forgotten here) mid_resumed l at arguments j other run u is_number sees_resumed given not_ended_resumed copied
@@ -389,13 +406,13 @@ module _ (orderly : AcceptedIsOrderly) (callers : InstancesHaveCallers) (nests :
                     (so.0 ∙ (before.0 ∙ called_so.0), so.1 ∙ (before.1 ∙ called_so.1))
 
                 -- where it hasn't ended, nothing is done
-                asked_not : r'.over ≡ false → (b : Bool) →
+                asked_not : r'.over ≡ false → (b : Bool) → b ≡ unit_may_end other →
                     ((block_c (asked_by b) scope after).end ≡ goes_on) × ((block_c (asked_by b) scope after).memory ≡ after)
-                asked_not over true =
-                    let truth = ended_truth scope after false (ended.over ∙ ap number_of over) in
+                asked_not over true same =
+                    let truth = ended_truth scope after false (ended.over (sym same) ∙ ap number_of over) in
                     if_alone scope after (λ e m. (e ≡ goes_on) × (m ≡ after)) (c_read ended_place) told None
                     (subst (Chosen scope after (λ e m. (e ≡ goes_on) × (m ≡ after)) told None) (sym truth) (refl, refl))
-                asked_not over false = (refl, refl)
+                asked_not over false same = (refl, refl)
 
                 -- what never ends hasn't ended
                 over_asked : r'.over ≡ true → may ≡ true
@@ -412,7 +429,7 @@ module _ (orderly : AcceptedIsOrderly) (callers : InstancesHaveCallers) (nests :
                 pub resume_comes : r'.over ≡ false →
                     PartSimulates w activities i unit scope new_frames left copies (after_rule number rule false r) here block
                 resume_comes over =
-                    let rest = asked_not over may in
+                    let rest = asked_not over may may_is in
                     let quiet : rule.on_false ≡ [] =
                     ap (λ (t : Transition). t.on_false) there.is
                     ∙ none_shown there.last there.rule.on_false
@@ -488,7 +505,7 @@ module _ (orderly : AcceptedIsOrderly) (callers : InstancesHaveCallers) (nests :
                 pub return_comes : r'.over ≡ true → (last : Store) → DeedYields w (deed i at (Gives j arguments.target)) left true last →
                     PartSimulates w activities i unit scope new_frames last copies (after_rule number rule true r) here block
                 return_comes over last did =
-                    let truth = ended_truth scope after true (ended.over ∙ ap number_of over) in
+                    let truth = ended_truth scope after true (ended.over (sym may_is ∙ over_asked over) ∙ ap number_of over) in
                     let inside = block_c told scope after in
                     let asks : ((block_c (asked ∷ []) scope after).end ≡ inside.end) × ((block_c (asked ∷ []) scope after).memory ≡ inside.memory) =
                     if_alone scope after (λ e m. (e ≡ inside.end) × (m ≡ inside.memory)) (c_read ended_place) told None

@@ -33,8 +33,9 @@ use Rattle.bl_emit_acts.specs.Types.{variable_name}
 use Rattle.bl_emit_acts_laws_simulation.specs.Frames.{remembered_at}
 use Rattle.bl_emit_acts_laws_simulation.specs.Encodes.{Encodes, are_apart, home_at, ways_part}
 use Rattle.bl_emit_spec.specs.Activities.{remembers_any}
+use Rattle.bl_emit_spec.specs.Blocks.{unit_may_end}
 use Rattle.bl_emit_spec.specs.Names.{NumberedWord, callee_name, counter_name, ended_name}
-use Rattle.bl_emit_spec_laws.specs.Registers.Registers.{frame_at}
+use Rattle.bl_emit_spec_laws.specs.Registers.Registers.{Registered, frame_at}
 use Rattle.bl_machine.specs.declared.machine.Activity.{Activity as InMachine}
 use Rattle.bl_machine_pass.specs.Registers.{Registers}
 use Rattle.bl_machine_pass_laws.specs.Turns.Laws.{StaysPlaced}
@@ -44,6 +45,7 @@ use Rattle.bl_emit_spec_laws.specs.Calls.Built.{
   Activities,
   activity_at,
   cleared,
+  registered,
   run_by,
   site_at,
   unit_number,
@@ -62,6 +64,7 @@ use Rattle.bl_emit_spec_laws_nodes.proofs.OnPoints.Cells.{apart_flip, behind_fro
 use Rattle.bl_emit_spec_laws_nodes.proofs.OnPoints.Changes.{holds_same}
 use Rattle.bl_emit_spec_laws_simulation.proofs.OnRuns.Inner.{cleared_other, cleared_own, nests_inside, one_place}
 use Rattle.bl_emit_spec_laws_simulation.proofs.OnRuns.Numbering.{callees_differ}
+use Rattle.bl_emit_spec_laws_simulation.proofs.OnRuns.Statements.{forgotten_by}
 use Rattle.bl_emit_spec_laws_simulation.proofs.OnRuns.Placing.{OtherName, frame_beside, kept_at, local_beside, local_older, stands_beside}
 
 no_such : true ≡ false → ⊥
@@ -93,10 +96,17 @@ module _ (orderly : AcceptedIsOrderly) (callers : InstancesHaveCallers) (clearin
     abbrev places : PlacesAreSeparate site unit remembers scope
     places = midway.function.places
 
+    is_unit : (activity_at W activities i).unit ≡ unit
+    is_unit = midway.compiled.built.unit (unit_number W i) unit midway.function.is_there
+
     pub active_site : is_activity site.kind ≡ true
-    active_site =
-        subst (λ (unit : UnitDef). is_activity unit.kind ≡ true) (sym (midway.compiled.built.unit (unit_number W i) unit midway.function.is_there))
-        midway.function.active
+    active_site = subst (λ (unit : UnitDef). is_activity unit.kind ≡ true) (sym is_unit) midway.function.active
+
+    abbrev has : Registered
+    has = registered (activity_at W activities i)
+
+    pub may_end : has.over ≡ unit_may_end unit
+    may_end = ap unit_may_end is_unit
 
     -- ---- what is called, where something is set that is apart from all that
 
@@ -146,7 +156,7 @@ module _ (orderly : AcceptedIsOrderly) (callers : InstancesHaveCallers) (clearin
 
     -- ---- a local is set
 
-    module _ (name : List ℕ) (other : OtherName site unit remembers scope places active_site name) (held : CValue) where
+    module _ (name : List ℕ) (other : OtherName site unit remembers scope places active_site has may_end name) (held : CValue) where
       abbrev local : Location
       local = named_location scope false name
 
@@ -157,7 +167,7 @@ module _ (orderly : AcceptedIsOrderly) (callers : InstancesHaveCallers) (clearin
         is_there = midway.is_there;
         function = midway.function;
         stands = stands_beside W activities i unit scope frames frames store copies r here local held
-            (local_beside site unit remembers scope places active_site name other) midway.stands
+            (local_beside site unit remembers scope places active_site has may_end name other) midway.stands
             (λ l at arguments j there called.
             callee_kept local held l at arguments j there called (local_older scope name (frame_at scope) places.frame.frame_older)
             (λ its. local_older scope name (remembered_at scope) (places.memory its).older));
@@ -177,18 +187,20 @@ module _ (orderly : AcceptedIsOrderly) (callers : InstancesHaveCallers) (clearin
     abbrev over_local : Location
     over_local = named_location scope false ended_name
 
-    ended_other : OtherName site unit remembers scope places active_site ended_name
+    ended_other : OtherName site unit remembers scope places active_site has may_end ended_name
     ended_other = record { rested = λ k. refl; flag = λ k. refl; mark = λ k. refl; variable = λ k. refl; copy = λ k. refl }
 
-    pub ended_midway : Midway structs units entry machine activities i unit scope frames store copies r
-        (set_at here (named_location scope false ended_name) (scalar (pos 0)))
-    ended_midway = local_midway ended_name ended_other (scalar (pos 0))
+    pub ended_midway : (may : Bool) → Midway structs units entry machine activities i unit scope frames store copies r (forgotten_by may scope here)
+    ended_midway true = local_midway ended_name ended_other (scalar (pos 0))
+    ended_midway false = midway
 
-    pub ended_keeps : PassKeepsFrame site unit remembers scope here (set_at here (named_location scope false ended_name) (scalar (pos 0)))
-    ended_keeps = local_keeps ended_name ended_other (scalar (pos 0))
+    pub ended_keeps : (may : Bool) → PassKeepsFrame site unit remembers scope here (forgotten_by may scope here)
+    ended_keeps true = local_keeps ended_name ended_other (scalar (pos 0))
+    ended_keeps false = λ root way older outside. refl
 
-    pub not_ended : NotEnded scope (set_at here (named_location scope false ended_name) (scalar (pos 0)))
-    not_ended = same_object here over_local (scalar (pos 0)) []
+    pub not_ended : (called : UnitDef) (may : Bool) → may ≡ unit_may_end called → NotEnded called scope (forgotten_by may scope here)
+    not_ended called true same ends = same_object here over_local (scalar (pos 0)) []
+    not_ended called false same ends = absurd (no_such (sym (same ∙ ends)))
 
     -- ---- the counters of a callee are cleared
 
@@ -285,7 +297,7 @@ module _ (orderly : AcceptedIsOrderly) (callers : InstancesHaveCallers) (clearin
           is_there = midway.is_there;
           function = midway.function;
           stands = stands_beside W activities i unit scope frames (cleared W j frames) store copies r here place zeros
-              (frame_beside site unit remembers scope places active_site own) midway.stands callee_cleared;
+              (frame_beside site unit remembers scope places active_site has may_end own) midway.stands callee_cleared;
           fits = midway.fits;
           copies_fit = midway.copies_fit;
           frames_within = clear_within W activities j frames midway.frames_within;

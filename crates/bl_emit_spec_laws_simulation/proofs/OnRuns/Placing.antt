@@ -20,8 +20,9 @@ use Rattle.bl_emit_acts.specs.Types.{copy_name, variable_name}
 use Rattle.bl_emit_acts_laws_simulation.specs.Acts.{copy_location}
 use Rattle.bl_emit_acts_laws_simulation.specs.Frames.{is_older, remembered_at}
 use Rattle.bl_emit_acts_laws_simulation.specs.Encodes.{are_apart, home_at, lead_in, location_in, start_in, ways_part}
+use Rattle.bl_emit_spec.specs.Blocks.{unit_may_end}
 use Rattle.bl_emit_spec.specs.Names.{NumberedWord, callee_name, flag_name, mark_name, rested_name, with_word}
-use Rattle.bl_emit_spec_laws.specs.Registers.Registers.{Before, Counter, Flag, Mark, Over, Register, Registered, frame_at, register_at}
+use Rattle.bl_emit_spec_laws.specs.Registers.Registers.{Before, Counter, Flag, Mark, Over, Register, Registered, frame_at, has_register, register_at}
 use Rattle.bl_machine_pass.specs.Registers.{Registers}
 use Rattle.bl_machine_pass_laws_execution.specs.Frames.{Frames}
 use Rattle.bl_emit_spec_laws.specs.Calls.Built.{Activities, activity_at, registered, run_by, site_at}
@@ -32,8 +33,8 @@ use Rattle.bl_emit_spec_laws_nodes.proofs.OnPoints.Cells.{apart_flip, set_elsewh
 use Rattle.bl_emit_spec_laws_nodes.proofs.OnPoints.Changes.{holds_same}
 
 -- a place has nothing in common with registers, variables, copies and the result
-pub record Beside (site : TypingContext) (unit : UnitDef) (scope : Scope) (place : Location) : Type 0 where
-  pub registers : (has : Registered) (x : Register) → are_apart place (register_at has scope x) ≡ true
+pub record Beside (has : Registered) (site : TypingContext) (unit : UnitDef) (scope : Scope) (place : Location) : Type 0 where
+  pub registers : (x : Register) → has_register has x ≡ true → are_apart place (register_at has scope x) ≡ true
   pub variables : (k : ℕ) (var : Var) → var_at site k ≡ Some var → are_apart place (location_in scope site k []) ≡ true
   pub copies : (k : ℕ) → are_apart place (copy_location scope site.vars k) ≡ true
   pub result : is_some unit.result ≡ true → are_apart place (result_at_c scope) ≡ true
@@ -46,7 +47,8 @@ module _ (here : Memory) (place : Location) (held : CValue) where
 
 -- where that is set memory stands for the same, but for what is kept of what is called
 pub stands_beside : (w : Setting) (activities : Activities) (i : ℕ) (unit : UnitDef) (scope : Scope) (frames after_frames : Frames) (store : Store)
-    (copies : List Value) (r : Registers) (here : Memory) (place : Location) (held : CValue) → Beside (site_at w activities i) unit scope place →
+    (copies : List Value) (r : Registers) (here : Memory) (place : Location) (held : CValue) →
+    Beside (registered (activity_at w activities i)) (site_at w activities i) unit scope place →
     PassRepresents w activities i unit scope frames store copies r here →
     ((l : Label) (at : Place) (arguments : Arguments) (j : ℕ) → Contains (nodes_in (plain_body unit.body)) (EnterAt l at arguments) →
     callee_of w i at ≡ Some j →
@@ -59,7 +61,7 @@ stands_beside w activities i unit scope frames after_frames store copies r here 
       registers = record {
         each = λ x its.
             kept_at here place held (register_at (registered (activity_at w activities i)) scope x)
-            (beside.registers (registered (activity_at w activities i)) x) []
+            (beside.registers x its) []
             ∙ stands.registers.each x its;
       };
       variables = record {
@@ -94,7 +96,7 @@ module _ (scope : Scope) where
       ∙ ap (λ same. not same || ways_part [] []) (none_of (scope.depth == scope.depth))
 
 module _ (site : TypingContext) (unit : UnitDef) (remembers : Bool) (scope : Scope) (places : PlacesAreSeparate site unit remembers scope)
-    (active : is_activity site.kind ≡ true)
+    (active : is_activity site.kind ≡ true) (has : Registered) (may_end : has.over ≡ unit_may_end unit)
   where
     abbrev place_of : Bool → Home → ℕ → Location
     place_of activity home k = further (start_in scope activity home site.vars k) (lead_in home site.vars k ++ [])
@@ -113,12 +115,12 @@ module _ (site : TypingContext) (unit : UnitDef) (remembers : Bool) (scope : Sco
       pub copy : (k : ℕ) → bytes_eq name (copy_name site.vars k) ≡ false
 
     module _ (name : Text) (other : OtherName name) where
-      local_register : (has : Registered) (x : Register) → are_apart (named_location scope false name) (register_at has scope x) ≡ true
-      local_register has (Counter k) = local_older scope name (register_at has scope (Counter k)) places.frame.frame_older
-      local_register has (Before k) = local_local scope name (rested_name k) (other.rested k)
-      local_register has (Flag k) = local_local scope name (flag_name (with_word has.words k)) (other.flag (with_word has.words k))
-      local_register has (Mark k) = local_local scope name (mark_name (with_word has.words k)) (other.mark (with_word has.words k))
-      local_register has Over = local_older scope name (register_at has scope Over) places.frame.over_older
+      local_register : (x : Register) → has_register has x ≡ true → are_apart (named_location scope false name) (register_at has scope x) ≡ true
+      local_register (Counter k) its = local_older scope name (register_at has scope (Counter k)) places.frame.frame_older
+      local_register (Before k) its = local_local scope name (rested_name k) (other.rested k)
+      local_register (Flag k) its = local_local scope name (flag_name (with_word has.words k)) (other.flag (with_word has.words k))
+      local_register (Mark k) its = local_local scope name (mark_name (with_word has.words k)) (other.mark (with_word has.words k))
+      local_register Over its = local_older scope name (register_at has scope Over) (places.frame.over_older (sym may_end ∙ its))
 
       local_variable : (k : ℕ) (var : Var) → var_at site k ≡ Some var → are_apart (named_location scope false name) (location_in scope site k []) ≡ true
       local_variable k var there = by (is_activity site.kind) (home_at site k) refl refl
@@ -132,7 +134,7 @@ module _ (site : TypingContext) (unit : UnitDef) (remembers : Bool) (scope : Sco
               (local_local scope name (variable_name site.vars k) (other.variable k))
           by activity Lent kind is = local_older scope name (place_of activity Lent k) (places.pointers.lent_older k var there is)
 
-      pub local_beside : Beside site unit scope (named_location scope false name)
+      pub local_beside : Beside has site unit scope (named_location scope false name)
       local_beside = record {
         registers = local_register;
         variables = local_variable;
@@ -169,9 +171,9 @@ module _ (site : TypingContext) (unit : UnitDef) (remembers : Bool) (scope : Sco
               last_further place (named_location scope true (variable_name site.vars k)) (lead_in Lent site.vars k ++ [])
               (inside (named_location scope true (variable_name site.vars k)) (places.frame_apart.lent k var there is))
 
-      pub frame_beside : Beside site unit scope place
+      pub frame_beside : Beside has site unit scope place
       frame_beside = record {
-        registers = λ has x. apart_flip (register_at has scope x) place (register_inner scope has places.frame n [] x);
+        registers = λ x its. apart_flip (register_at has scope x) place (register_inner scope has (unit_may_end unit) may_end places.frame n [] x its);
         variables = frame_variable;
         copies = λ k. older_local (copy_name site.vars k);
         result = λ one. inside (result_at_c scope) (apart_flip (result_at_c scope) (frame_at scope) (places.result one).frame);

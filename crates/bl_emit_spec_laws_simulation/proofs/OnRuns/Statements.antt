@@ -1,5 +1,5 @@
 -- What the C statements of a `run` do: its callee's counters are cleared, and its function is called.
-use Rattle.std.proofs.Common.{◌≡◌, ℕ, ℤ, Bool, true, false, List, [], ◌∷◌, Option, Some, None, refl, sym, ap, ◌∙◌, subst}
+use Rattle.std.proofs.Common.{◌≡◌, ℕ, ℤ, Bool, true, false, List, [], ◌∷◌, ◌++◌, Option, Some, None, refl, sym, ap, ◌∙◌, subst}
 use Rattle.std.specs.Prelude.{codes, option_map, pos}
 use Rattle.bl_tree.specs.declared.c.CCall.{CCall}
 use Rattle.bl_tree.specs.declared.c.CPlace.{CPlace}
@@ -16,6 +16,7 @@ use Rattle.bl_ctext_semantics.specs.Memory.{CValue, Location, Memory, Projection
 use Rattle.bl_emit_acts.specs.Acts.{c_calling, c_clear, c_set}
 use Rattle.bl_emit_acts.specs.Trees.{c_read, c_step, nowhere}
 use Rattle.bl_emit_functions.specs.Trees.{c_truth}
+use Rattle.bl_emit_spec.specs.Blocks.{stmt_where}
 use Rattle.bl_emit_spec.specs.Names.{NumberedWord, callee_frame, callee_name, ended_name, ended_place, given_name, given_place}
 use Rattle.bl_emit_spec_laws.specs.Registers.Registers.{frame_at}
 use Rattle.bl_emit_spec_laws_files.proofs.OnBegins.Evaluated.{literal-value, place-location, step-way}
@@ -26,6 +27,11 @@ use Rattle.bl_emit_spec_laws_nodes.proofs.OnPoints.Sets.{Ends, set_after, set_en
 
 abbrev what : CStmtKind-F CStmtKind CStmt → CStmt
 what layer = roll-CStmt (record { place = nowhere; what = roll-CStmtKind layer })
+
+-- memory once the local was set that tells that what is called hasn't ended, where the test is true
+abbrev pub forgotten_by : Bool → Scope → Memory → Memory
+forgotten_by true scope here = set_at here (named_location scope false ended_name) (scalar (pos 0))
+forgotten_by false scope here = here
 
 -- ---- one statement after another
 
@@ -124,6 +130,13 @@ module _ (scope : Scope) (here : Memory) where
       subst (λ (at : Option Location). Ends o (set_after scope here at (Some (scalar (pos 0))))) at
       (subst (λ (is : Option CValue). Ends o (set_after scope here (location_c place scope here).answer is)) value
       (set_ends scope here place (c_truth false)))
+
+  -- where it may end, that is set
+  pub forget_goes : (may : Bool) (rest : List CStmt) →
+      Alike (block_c (stmt_where may (c_set ended_place (c_truth false)) ++ rest) scope here) (block_c rest scope (forgotten_by may scope here))
+  forget_goes true rest =
+      step_goes scope (c_set ended_place (c_truth false)) rest here (set_at here (named_location scope false ended_name) (scalar (pos 0))) ended_ends
+  forget_goes false rest = (refl, refl)
 
   -- what is told of its end
   pub ended_value : (value_c (c_read ended_place) scope here).answer ≡ Some (value_at here (named_location scope false ended_name))

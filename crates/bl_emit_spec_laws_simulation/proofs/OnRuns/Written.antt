@@ -40,7 +40,7 @@ use Rattle.bl_emit_spec_laws_nodes.specs.Points.Nodes.{ViewsFit}
 use Rattle.bl_emit_spec_laws_nodes.proofs.OnPoints.Apart.{Beyond, first_further, further_twice, inner_is, lies_further, nests_beyond}
 use Rattle.bl_emit_spec_laws_nodes.proofs.OnPoints.Besides.{apart, site_is}
 use Rattle.bl_emit_spec_laws_nodes.proofs.OnPoints.Cells.{set_elsewhere}
-use Rattle.bl_emit_spec_laws_nodes.proofs.OnPoints.Changes.{holds_same, pointers_older}
+use Rattle.bl_emit_spec_laws_nodes.proofs.OnPoints.Changes.{holds_same, registers_keep}
 use Rattle.bl_emit_spec_laws_nodes.proofs.OnPoints.Foreign.{foreign_counter, foreign_memory, foreign_outside, foreign_register, foreign_result}
 use Rattle.bl_emit_spec_laws_simulation.proofs.OnRuns.Placing.{kept_at}
 
@@ -88,9 +88,8 @@ module _ (frames_apart : FramesApart) (keep : RegistersKeepApart) (structs : Lis
     registers_stand : RegistersApart (registered (activity_at w activities i)) scope
         × RegistersBeside (registered (activity_at w activities i)) site scope
     registers_stand =
-        keep site (registered (activity_at w activities i)) scope
-        (midway.compiled.registers k unit midway.function.is_there midway.function.active) places.frame
-        (pointers_older site unit remembers scope places) places.frame_apart places.over_apart
+        registers_keep keep site unit remembers scope (activity_at w activities i) (midway.compiled.built.unit k unit midway.function.is_there)
+        (midway.compiled.registers k unit midway.function.is_there midway.function.active) places
 
     module _ (left : Store) (root : ℕ) (var : Var) (way : List Projection) (held : CValue) (known : var_at site root ≡ Some var)
         (open_var : is_input var.role ≡ false)
@@ -186,7 +185,7 @@ module _ (frames_apart : FramesApart) (keep : RegistersKeepApart) (structs : Lis
             each = λ x its.
                 same_at (register_at (registered (activity_at w activities i)) scope x)
                 (foreign_register site unit remembers scope places midway.function.active held_here copied
-                (registered (activity_at w activities i)) registers_stand.0 registers_stand.1 x) []
+                (registered (activity_at w activities i)) registers_stand.0 registers_stand.1 x its) []
                 ∙ midway.stands.registers.each x its;
           };
           variables = subst (λ (site : TypingContext). VariablesEncoded site (view_at w left i).now scope after) (sym site_same) variables;

@@ -128,6 +128,7 @@ use Rattle.bl_emit_spec.specs.Activities.{
   copied_in,
   counters_read,
   entry_code,
+  first_place,
   picked,
   rested_code,
   rules_at,
@@ -565,20 +566,25 @@ module _ (weight : Text → ℕ) (prelude : (word : Text) (s : ScalarType) → w
         Light weight prelude n (joined (map calls_in_arg (run_args view k a arguments)))
     runs_few k a arguments few =
         let result = has_result (slice_get view.site.earlier a) in
+        let ends = may_end_in (slice_get view.site.earlier a) in
         both-under weight n calls_in_arg (arg_where true (Address (callee_frame k)))
         (arg_where (view.remembers a) (Address (callee_memory k))
         ++ (call_args view.site arguments.inputs arguments.outputs
-        ++ (arg_where result (Address (given_place k)) ++ arg_where true (Address ended_place))))
+        ++ (arg_where result (Address (given_place k)) ++ arg_where ends (Address ended_place))))
         (where_few true (callee_frame k) (member_few (codes "f") (callee_name k)))
         (both-under weight n calls_in_arg (arg_where (view.remembers a) (Address (callee_memory k)))
         (call_args view.site arguments.inputs arguments.outputs
-        ++ (arg_where result (Address (given_place k)) ++ arg_where true (Address ended_place)))
+        ++ (arg_where result (Address (given_place k)) ++ arg_where ends (Address ended_place)))
         (where_few (view.remembers a) (callee_memory k) (member_few (codes "m") (callee_name k)))
         (both-under weight n calls_in_arg (call_args view.site arguments.inputs arguments.outputs)
-        (arg_where result (Address (given_place k)) ++ arg_where true (Address ended_place))
+        (arg_where result (Address (given_place k)) ++ arg_where ends (Address ended_place))
         (args_few arguments.inputs arguments.outputs few)
-        (both-under weight n calls_in_arg (arg_where result (Address (given_place k))) (arg_where true (Address ended_place))
-        (where_few result (given_place k) (local_few (given_name k))) (where_few true ended_place (local_few ended_name)))))
+        (both-under weight n calls_in_arg (arg_where result (Address (given_place k))) (arg_where ends (Address ended_place))
+        (where_few result (given_place k) (local_few (given_name k))) (where_few ends ended_place (local_few ended_name)))))
+
+    where_few_code : (test : Bool) (s : CStmt) → StmtFew s → CodeFew (stmt_where test s)
+    where_few_code true s few = one_few weight prelude n s few
+    where_few_code false s few = none_few weight prelude n
 
     run_few : (k : NumberedWord) (a : ℕ) (arguments : Arguments) →
         Under by n (a ∷ (target_calls arguments.target ++ argument_calls arguments.inputs arguments.outputs)) →
@@ -586,8 +592,9 @@ module _ (weight : Text → ℕ) (prelude : (word : Text) (s : ScalarType) → w
     run_few k a arguments few =
         let rest = tail-under by n a (target_calls arguments.target ++ argument_calls arguments.inputs arguments.outputs) few in
         let call = c_calling (c_call (name_of_callee (slice_get view.site.earlier a)) (run_args view k a arguments)) in
-        first_few weight prelude n (c_set ended_place (c_truth false)) (call ∷ [])
-        (sets_few ended_place (c_truth false) (local_few ended_name) (truth_few false))
+        let ends = may_end_in (slice_get view.site.earlier a) in
+        then_few weight prelude n (stmt_where ends (c_set ended_place (c_truth false))) (call ∷ [])
+        (where_few_code ends (c_set ended_place (c_truth false)) (sets_few ended_place (c_truth false) (local_few ended_name) (truth_few false)))
         (one_few weight prelude n call
         (calling_few a (run_args view k a arguments)
         (head-under by n a (target_calls arguments.target ++ argument_calls arguments.inputs arguments.outputs) few)
@@ -600,10 +607,6 @@ module _ (weight : Text → ℕ) (prelude : (word : Text) (s : ScalarType) → w
         (sets_few (stands view.site path).place (c_read (given_place k)) (path_few path few)
         (reads_few (given_place k) (local_few (given_name k))))
     target_few k None few = none_few weight prelude n
-
-    where_few_code : (test : Bool) (s : CStmt) → StmtFew s → CodeFew (stmt_where test s)
-    where_few_code true s few = one_few weight prelude n s few
-    where_few_code false s few = none_few weight prelude n
 
     begun_few : (k : NumberedWord) (a : ℕ) (arguments : Arguments) (rule : Transition) →
         Under by n (a ∷ (target_calls arguments.target ++ argument_calls arguments.inputs arguments.outputs)) →
@@ -722,14 +725,19 @@ module _ (weight : Text → ℕ) (prelude : (word : Text) (s : ScalarType) → w
         (sets_few (rested_place k) (c_read (counter_place k)) (local_few (rested_name k))
         (reads_few (counter_place k) (member_few (codes "f") (counter_name k)))) (resteds_few rest)
 
+    first_few_place : (copied : Bool) → PlaceFew (first_place copied)
+    first_few_place true = local_few (rested_name 0)
+    first_few_place false = member_few (codes "f") (counter_name 0)
+
     entry_few : (body : Block) → CodeFew (entry_code view body)
     entry_few Done = none_few weight prelude n
     entry_few (Then s rest) =
-        one_few weight prelude n (c_set (flag_place (node_word view (entry s))) (c_two Eq (c_read (counter_place 0)) (counter_value view.sizes 0 0)))
-        (sets_few (flag_place (node_word view (entry s))) (c_two Eq (c_read (counter_place 0)) (counter_value view.sizes 0 0))
+        let first : CPlace = first_place (view.is_read 0) in
+        one_few weight prelude n (c_set (flag_place (node_word view (entry s))) (c_two Eq (c_read first) (counter_value view.sizes 0 0)))
+        (sets_few (flag_place (node_word view (entry s))) (c_two Eq (c_read first) (counter_value view.sizes 0 0))
         (local_few (flag_name (node_word view (entry s))))
-        (two-light weight prelude n Eq (c_read (counter_place 0)) (counter_value view.sizes 0 0)
-        (reads_few (counter_place 0) (member_few (codes "f") (counter_name 0))) (value_few view 0 0)))
+        (two-light weight prelude n Eq (c_read first) (counter_value view.sizes 0 0)
+        (reads_few first (first_few_place (view.is_read 0))) (value_few view 0 0)))
 
     copies_few : (ks : List ℕ) → CodeFew (map (c_copied view.site) ks)
     copies_few [] = none_few weight prelude n

@@ -42,6 +42,7 @@ use Rattle.bl_emit_spec.specs.Activities.{
   counter_member,
   counters_read,
   ended_local,
+  some_ends,
   first_rules,
   flag_local,
   frame_member,
@@ -52,7 +53,7 @@ use Rattle.bl_emit_spec.specs.Activities.{
   mark_locals,
   memory_member,
   memory_params,
-  over_param,
+  over_params,
   remembered,
   remembers_any,
   rested_local,
@@ -64,7 +65,7 @@ use Rattle.bl_emit_spec.specs.Activities.{
   struct_member,
   word_of_run,
 }
-use Rattle.bl_emit_spec.specs.Blocks.{ActivityView, Sizes, name_in, node_word}
+use Rattle.bl_emit_spec.specs.Blocks.{ActivityView, Sizes, name_in, node_word, unit_may_end}
 use Rattle.bl_emit_spec.specs.Names.{NumberedWord, callee_name, ended_name, flag_name, numbered_word, with_word}
 use Rattle.bl_emit_spec_laws_wellformed.specs.Names.{FrameDiffers, LocalsDiffer, MemoryDiffers, NumbersDiffer}
 use Rattle.bl_emit_spec_laws_wellformed.specs.Names.{are_numbers, flag_number, mark_number, mark_numbers}
@@ -190,11 +191,11 @@ module _ (a : Activity) where
   abbrev with_result : List RunAt → List RunAt
   with_result runs = those (λ run. is_some (result_at run)) runs
 
-  abbrev ended_names : List RunAt → List Text
-  ended_names runs = local_names (ended_local runs)
+  abbrev ended_names : Bool → List Text
+  ended_names ends = local_names (ended_local ends)
 
   abbrev names_of_runs : List RunAt → List Text
-  names_of_runs runs = ended_names runs ++ word_family word 114 (with_result runs)
+  names_of_runs runs = ended_names (some_ends a.earlier runs) ++ word_family word 114 (with_result runs)
 
   result_names : (runs : List RunAt) → local_names (joined (map (run_locals a) runs)) ≡ word_family word 114 (with_result runs)
   result_names [] = refl
@@ -207,23 +208,26 @@ module _ (a : Activity) where
       by (Some s) = refl
       by None = refl
 
-  run_names : (runs : List RunAt) → local_names (ended_local runs ++ joined (map (run_locals a) runs)) ≡ names_of_runs runs
-  run_names runs = locals_append (ended_local runs) (joined (map (run_locals a) runs)) ∙ ap (λ rest. ended_names runs ++ rest) (result_names runs)
+  run_names : (runs : List RunAt) →
+      local_names (ended_local (some_ends a.earlier runs) ++ joined (map (run_locals a) runs)) ≡ names_of_runs runs
+  run_names runs =
+      let ends : Bool = some_ends a.earlier runs in
+      locals_append (ended_local ends) (joined (map (run_locals a) runs)) ∙ ap (λ rest. ended_names ends ++ rest) (result_names runs)
 
   -- one of other letters
-  ended_begins : (b : ℕ) (runs : List RunAt) → nat_eq b 101 ≡ false → some_begins b (ended_names runs) ≡ false
-  ended_begins b [] other = refl
-  ended_begins b (run ∷ runs) other = neither (nat_eq b 101) false other refl
+  ended_begins : (b : ℕ) (ends : Bool) → nat_eq b 101 ≡ false → some_begins b (ended_names ends) ≡ false
+  ended_begins b false other = refl
+  ended_begins b true other = neither (nat_eq b 101) false other refl
 
   runs_begin : (b : ℕ) (runs : List RunAt) → nat_eq b 101 ≡ false → nat_eq b 114 ≡ false → some_begins b (names_of_runs runs) ≡ false
   runs_begin b runs one other =
-      begins-append b (ended_names runs) (word_family word 114 (with_result runs)) (ended_begins b runs one)
+      begins-append b (ended_names (some_ends a.earlier runs)) (word_family word 114 (with_result runs)) (ended_begins b (some_ends a.earlier runs) one)
       (word_family-begins word b 114 (with_result runs) other)
 
   -- one letter alone
-  ended_letter : (b : ℕ) (runs : List RunAt) → is_among (b ∷ []) (ended_names runs) ≡ false
-  ended_letter b [] = refl
-  ended_letter b (run ∷ runs) = by (nat_eq b 101)
+  ended_letter : (b : ℕ) (ends : Bool) → is_among (b ∷ []) (ended_names ends) ≡ false
+  ended_letter b false = refl
+  ended_letter b true = by (nat_eq b 101)
     where
       by : (t : Bool) → ((t && false) || false) ≡ false
       by true = refl
@@ -231,18 +235,18 @@ module _ (a : Activity) where
 
   runs_letter : (b : ℕ) (runs : List RunAt) → are_numbers (run_numbers runs) ≡ true → is_among (b ∷ []) (names_of_runs runs) ≡ false
   runs_letter b runs all =
-      among-both (b ∷ []) (ended_names runs) (word_family word 114 (with_result runs)) (ended_letter b runs)
+      among-both (b ∷ []) (ended_names (some_ends a.earlier runs)) (word_family word 114 (with_result runs)) (ended_letter b (some_ends a.earlier runs))
       (word_letter-new word b 114 (with_result runs) (those_numbers (λ run. is_some (result_at run)) runs all))
 
   -- all differ
-  ended_distinct : (runs : List RunAt) (others : List Text) → some_begins 101 others ≡ false → are_distinct others ≡ true →
-      are_distinct (ended_names runs ++ others) ≡ true
-  ended_distinct [] others none differ = differ
-  ended_distinct (run ∷ runs) others none differ = one-distinct ended_name others (not-among 101 ended_name others refl none) differ
+  ended_distinct : (ends : Bool) (others : List Text) → some_begins 101 others ≡ false → are_distinct others ≡ true →
+      are_distinct (ended_names ends ++ others) ≡ true
+  ended_distinct false others none differ = differ
+  ended_distinct true others none differ = one-distinct ended_name others (not-among 101 ended_name others refl none) differ
 
   runs_distinct : (runs : List RunAt) → are_numbers (run_numbers runs) ≡ true → are_distinct (names_of_runs runs) ≡ true
   runs_distinct runs all =
-      ended_distinct runs (word_family word 114 (with_result runs)) (word_family-begins word 101 114 (with_result runs) refl)
+      ended_distinct (some_ends a.earlier runs) (word_family word 114 (with_result runs)) (word_family-begins word 101 114 (with_result runs) refl)
       (one_family 114 (with_result runs) (those_numbers (λ run. is_some (result_at run)) runs all))
 
   -- ---- all locals
@@ -274,7 +278,7 @@ module _ (a : Activity) where
 
     locals_are : local_names (activity_locals a) ≡ all_locals
     locals_are =
-        let of_runs : List CLocal = ended_local runs ++ joined (map (run_locals a) runs) in
+        let of_runs : List CLocal = ended_local (some_ends a.earlier runs) ++ joined (map (run_locals a) runs) in
         let of_copies : List CLocal = map (copy_local a) (copied_in a) in
         let of_marks : List CLocal = joined (map (mark_locals view) (rules_at a)) in
         let of_flags : List CLocal = joined (map (flag_local view) (first_rules a)) in
@@ -351,30 +355,47 @@ module _ (a : Activity) where
         let room : 0 + length (parameters_of a.unit) ≤ 2 ^ 64 = omega (arith, some, few) in
         position-numbers (λ v. true) 0 (parameters_of a.unit) room
 
-    -- the names behind those of variables: that of the result, where there is one, and that of the end
-    abbrev last_names : Option ScalarType → List Text
-    last_names (Some s) = codes "r" ∷ codes "e" ∷ []
-    last_names None = codes "e" ∷ []
+    -- the name of the end, where the test is true
+    abbrev end_names : Bool → List Text
+    end_names true = codes "e" ∷ []
+    end_names false = []
+
+    -- the names behind those of variables: that of the result, where there is one, and that of the end, where the test is true
+    abbrev last_names : Option ScalarType → Bool → List Text
+    last_names (Some s) ends = codes "r" ∷ end_names ends
+    last_names None ends = end_names ends
+
+    abbrev may_end : Bool
+    may_end = unit_may_end a.unit
 
     abbrev first_names : Bool → List Text → List Text
     first_names true rest = codes "m" ∷ rest
     first_names false rest = rest
 
     abbrev after_variables : List Text
-    after_variables = last_names a.unit.result ++ all_locals
+    after_variables = last_names a.unit.result may_end ++ all_locals
 
-    last_distinct : (o : Option ScalarType) → are_distinct (last_names o ++ all_locals) ≡ true
-    last_distinct None = one-distinct (codes "e") all_locals (letter_none 101) locals_distinct
-    last_distinct (Some s) =
-        one-distinct (codes "r") (codes "e" ∷ all_locals)
-        (neither (bytes_eq (codes "r") (codes "e")) (is_among (codes "r") all_locals) refl (letter_none 114))
-        (one-distinct (codes "e") all_locals (letter_none 101) locals_distinct)
+    end_distinct : (ends : Bool) → are_distinct (end_names ends ++ all_locals) ≡ true
+    end_distinct true = one-distinct (codes "e") all_locals (letter_none 101) locals_distinct
+    end_distinct false = locals_distinct
 
-    last_begins : (b : ℕ) (o : Option ScalarType) → nat_eq b 101 ≡ false → nat_eq b 114 ≡ false → some_begins b all_locals ≡ false →
-        some_begins b (last_names o ++ all_locals) ≡ false
-    last_begins b None e r none = neither (nat_eq b 101) (some_begins b all_locals) e none
-    last_begins b (Some s) e r none =
-        neither (nat_eq b 114) (nat_eq b 101 || some_begins b all_locals) r (neither (nat_eq b 101) (some_begins b all_locals) e none)
+    end_letter : (ends : Bool) → is_among (codes "r") (end_names ends ++ all_locals) ≡ false
+    end_letter true = neither (bytes_eq (codes "r") (codes "e")) (is_among (codes "r") all_locals) refl (letter_none 114)
+    end_letter false = letter_none 114
+
+    last_distinct : (o : Option ScalarType) (ends : Bool) → are_distinct (last_names o ends ++ all_locals) ≡ true
+    last_distinct None ends = end_distinct ends
+    last_distinct (Some s) ends = one-distinct (codes "r") (end_names ends ++ all_locals) (end_letter ends) (end_distinct ends)
+
+    end_begins : (b : ℕ) (ends : Bool) → nat_eq b 101 ≡ false → some_begins b all_locals ≡ false → some_begins b (end_names ends ++ all_locals) ≡ false
+    end_begins b true e none = neither (nat_eq b 101) (some_begins b all_locals) e none
+    end_begins b false e none = none
+
+    last_begins : (b : ℕ) (o : Option ScalarType) (ends : Bool) → nat_eq b 101 ≡ false → nat_eq b 114 ≡ false → some_begins b all_locals ≡ false →
+        some_begins b (last_names o ends ++ all_locals) ≡ false
+    last_begins b None ends e r none = end_begins b ends e none
+    last_begins b (Some s) ends e r none =
+        neither (nat_eq b 114) (some_begins b (end_names ends ++ all_locals)) r (end_begins b ends e none)
 
     abbrev from_variables : List Text
     from_variables = named_family a.unit.vars 118 params ++ after_variables
@@ -382,12 +403,12 @@ module _ (a : Activity) where
     variables_distinct : are_distinct from_variables ≡ true
     variables_distinct =
         named_family-distinct a.unit.vars 118 params after_variables param_numbers
-        (last_begins 118 a.unit.result refl refl (none_begins 118 refl refl refl refl refl refl)) (last_distinct a.unit.result)
+        (last_begins 118 a.unit.result may_end refl refl (none_begins 118 refl refl refl refl refl refl)) (last_distinct a.unit.result may_end)
 
     begin_none : (b : ℕ) → nat_eq b 118 ≡ false → nat_eq b 101 ≡ false → nat_eq b 114 ≡ false → some_begins b all_locals ≡ false →
         some_begins b from_variables ≡ false
     begin_none b v e r none = begins-append b (named_family a.unit.vars 118 params) after_variables (named_family-begins a.unit.vars b 118 params v)
-        (last_begins b a.unit.result e r none)
+        (last_begins b a.unit.result may_end e r none)
 
     memory_distinct : (remembers : Bool) → are_distinct (first_names remembers from_variables) ≡ true
     memory_distinct false = variables_distinct
@@ -405,9 +426,11 @@ module _ (a : Activity) where
     params_append : (xs ys : List CParam) → param_names (xs ++ ys) ≡ param_names xs ++ param_names ys
     params_append xs ys = map-append (λ (p : CParam). p.name) xs ys
 
-    last_are : (o : Option ScalarType) → param_names (result_params o ++ over_param ∷ []) ≡ last_names o
-    last_are None = refl
-    last_are (Some s) = refl
+    last_are : (o : Option ScalarType) (ends : Bool) → param_names (result_params o ++ over_params ends) ≡ last_names o ends
+    last_are None true = refl
+    last_are None false = refl
+    last_are (Some s) true = refl
+    last_are (Some s) false = refl
 
     memory_are : (remembers : Bool) (rest : List CParam) →
         param_names (memory_params a remembers ++ rest) ≡ first_names remembers (param_names rest)
@@ -421,21 +444,21 @@ module _ (a : Activity) where
     abbrev variable_params : List CParam
     variable_params = params_from a.structs a.unit.vars 0 (parameters_of a.unit)
 
-    params_are : param_names (activity_params a) ≡ codes "f" ∷ first_names (remembers_any a) (named_family a.unit.vars 118 params ++ last_names a.unit.result)
+    params_are : param_names (activity_params a) ≡ codes "f" ∷ first_names (remembers_any a) (named_family a.unit.vars 118 params ++ last_names a.unit.result may_end)
     params_are =
         ap (λ rest. codes "f" ∷ rest)
-        (memory_are (remembers_any a) (variable_params ++ (result_params a.unit.result ++ over_param ∷ []))
+        (memory_are (remembers_any a) (variable_params ++ (result_params a.unit.result ++ over_params may_end))
         ∙ ap (first_names (remembers_any a))
-        (params_append variable_params (result_params a.unit.result ++ over_param ∷ [])
-        ∙ (λ i. params_names a.structs 0 (parameters_of a.unit) i ++ last_are a.unit.result i)))
+        (params_append variable_params (result_params a.unit.result ++ over_params may_end)
+        ∙ (λ i. params_names a.structs 0 (parameters_of a.unit) i ++ last_are a.unit.result may_end i)))
 
     all_distinct : are_distinct (param_names (activity_params a) ++ local_names (activity_locals a)) ≡ true
     all_distinct =
         ap are_distinct
         ((λ i. params_are i ++ locals_are i)
         ∙ ap (λ rest. codes "f" ∷ rest)
-        (first_append (remembers_any a) (named_family a.unit.vars 118 params ++ last_names a.unit.result) all_locals
-        ∙ ap (first_names (remembers_any a)) (append_assoc (named_family a.unit.vars 118 params) (last_names a.unit.result) all_locals)))
+        (first_append (remembers_any a) (named_family a.unit.vars 118 params ++ last_names a.unit.result may_end) all_locals
+        ∙ ap (first_names (remembers_any a)) (append_assoc (named_family a.unit.vars 118 params) (last_names a.unit.result may_end) all_locals)))
         ∙ one-distinct (codes "f") (first_names (remembers_any a) from_variables) (frame_new (remembers_any a)) (memory_distinct (remembers_any a))
 
     -- ---- members

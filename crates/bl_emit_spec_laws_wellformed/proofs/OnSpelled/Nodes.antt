@@ -250,9 +250,11 @@ module _ (view : ActivityView) (few : length view.site.vars ≤ 2 ^ 64)
         let parts = run_arguments arguments.target arguments.inputs arguments.outputs (slice_get view.site.earlier a) is_fitted in
         let within : room (arguments_depth arguments.inputs arguments.outputs) ≤ 402 = omega (arith, deep) in
         let args = arguments-fit view.site few names named vars_named typed_vars exprs paths 402 arguments.inputs arguments.outputs parts.0 parts.1 within in
-        both (stmt_fits 403 (c_set ended_place (c_truth false)))
-        (stmts_fit 403 (c_calling (c_call (name_of_callee (slice_get view.site.earlier a)) (run_args view k a arguments)) ∷ []))
-        (set-fits 403 nowhere ended_place (c_truth false) (ended-fits 403 (omega arith)) (truth-fits 403 false (omega arith)))
+        let ends : Bool = may_end_in (slice_get view.site.earlier a) in
+        all_append (stmt_fits 403) (stmt_where ends (c_set ended_place (c_truth false)))
+        (c_calling (c_call (name_of_callee (slice_get view.site.earlier a)) (run_args view k a arguments)) ∷ [])
+        (where-fits 403 ends (c_set ended_place (c_truth false))
+        (set-fits 403 nowhere ended_place (c_truth false) (ended-fits 403 (omega arith)) (truth-fits 403 false (omega arith))))
         (one-fits 403 (c_calling (c_call (name_of_callee (slice_get view.site.earlier a)) (run_args view k a arguments)))
         (call_stmt-fits 403 nowhere (c_call (name_of_callee (slice_get view.site.earlier a)) (run_args view k a arguments))
         (call-fits 402 403 (name_of_callee (slice_get view.site.earlier a)) (run_args view k a arguments) (omega arith)
@@ -260,15 +262,16 @@ module _ (view : ActivityView) (few : length view.site.vars ≤ 2 ^ 64)
         (both (arg_fits 402 (Address (callee_frame k))) _ (address-fits 402 (callee_frame k) (callee-frame-fits 402 k (omega arith) small))
         (all_append (arg_fits 402) (arg_where (view.remembers a) (Address (callee_memory k)))
         (call_args view.site arguments.inputs arguments.outputs
-        ++ (arg_where (has_result (slice_get view.site.earlier a)) (Address (given_place k)) ++ Address ended_place ∷ []))
+        ++ (arg_where (has_result (slice_get view.site.earlier a)) (Address (given_place k)) ++ arg_where ends (Address ended_place)))
         (address 402 (view.remembers a) (Address (callee_memory k))
         (address-fits 402 (callee_memory k) (callee-memory-fits 402 k (omega arith) small)))
         (all_append (arg_fits 402) (call_args view.site arguments.inputs arguments.outputs)
-        (arg_where (has_result (slice_get view.site.earlier a)) (Address (given_place k)) ++ Address ended_place ∷ []) args
-        (all_append (arg_fits 402) (arg_where (has_result (slice_get view.site.earlier a)) (Address (given_place k))) (Address ended_place ∷ [])
+        (arg_where (has_result (slice_get view.site.earlier a)) (Address (given_place k)) ++ arg_where ends (Address ended_place)) args
+        (all_append (arg_fits 402) (arg_where (has_result (slice_get view.site.earlier a)) (Address (given_place k)))
+        (arg_where ends (Address ended_place))
         (address 402 (has_result (slice_get view.site.earlier a)) (Address (given_place k))
         (address-fits 402 (given_place k) (given-fits 402 k (omega arith) small)))
-        (both (arg_fits 402 (Address ended_place)) true (address-fits 402 ended_place (ended-fits 402 (omega arith))) refl))))))))
+        (address 402 ends (Address ended_place) (address-fits 402 ended_place (ended-fits 402 (omega arith)))))))))))
 
     target-by : (k : NumberedWord) → Spells k → (result : Option ScalarType) (target : Option Path) → target_fits view.site result target ≡ true →
         target_depth target ≤ 200 → stmts_fit 403 (target_code view k target) ≡ true

@@ -9,6 +9,7 @@ use Rattle.std.specs.Prelude.{filter, nat_lt, option_and_then, slice_get, option
 use Rattle.bl_tree.specs.declared.text.Text.{Text}
 use Rattle.bl_tree.specs.declared.c.CLocal.{CLocal}
 use Rattle.bl_tree.specs.declared.c.CMember.{CMember}
+use Rattle.bl_tree.specs.declared.c.CPlace.{CPlace}
 use Rattle.bl_tree.specs.declared.c.CStmt.{CStmt}
 use Rattle.bl_tree.specs.declared.c.CType.TheVariants.{Struct as OfStruct}
 use Rattle.bl_tree.specs.declared.scalar.Op.TheVariants.{Eq}
@@ -73,6 +74,7 @@ use Rattle.bl_emit_spec.specs.Activities.{
   counters_read,
   enters_at,
   entry_code,
+  first_place,
   first_rules,
   flag_local,
   frame_member,
@@ -84,7 +86,7 @@ use Rattle.bl_emit_spec.specs.Activities.{
   memory_member,
   memory_params,
   one_a_place,
-  over_param,
+  over_params,
   picked,
   remembered,
   remembered_struct,
@@ -103,8 +105,9 @@ use Rattle.bl_emit_spec.specs.Activities.{
   turns_in_source,
   word_of_run,
   ended_local,
+  some_ends,
 }
-use Rattle.bl_emit_spec.specs.Blocks.{ActivityView, NodeCode, counter_value, merged_code, name_in, node_word}
+use Rattle.bl_emit_spec.specs.Blocks.{ActivityView, NodeCode, counter_value, merged_code, name_in, node_word, unit_may_end}
 use Rattle.bl_emit_spec.specs.Names.{NumberedWord, callee_name, counter_name, counter_place, ended_name, flag_name, flag_place, frame_name, given_name}
 use Rattle.bl_emit_spec.specs.Names.{mark_name, rested_name, rested_place}
 use Rattle.bl_emit_spec_laws_wellformed.specs.Spelled.{ActivitiesFit, FramesSpelled, RememberedSpelled, all_fit, node_fits, rule_fits}
@@ -376,12 +379,16 @@ module _ (units : List UnitDef) (entry k : ℕ) (a : Activity) (keeps : IsWellTy
       both (spells_param (record { ty = OfStruct (frame_name a.unit.name); pointer = true; name = codes "f" })) _
       (param_is (codes "f") (frame_name a.unit.name) frame-letter (frame-named a.unit.name own_name))
       (all_append spells_param (memory_params a (remembers_any a))
-      (params_from a.structs a.unit.vars 0 (parameters_of a.unit) ++ (result_params a.unit.result ++ over_param ∷ [])) (remembers (remembers_any a))
-      (all_append spells_param (params_from a.structs a.unit.vars 0 (parameters_of a.unit)) (result_params a.unit.result ++ over_param ∷ [])
+      (params_from a.structs a.unit.vars 0 (parameters_of a.unit) ++ (result_params a.unit.result ++ over_params (unit_may_end a.unit)))
+      (remembers (remembers_any a))
+      (all_append spells_param (params_from a.structs a.unit.vars 0 (parameters_of a.unit)) (result_params a.unit.result ++ over_params (unit_may_end a.unit))
       (params-spelled a.structs units entry k a.unit keeps there few)
-      (all_append spells_param (result_params a.unit.result) (over_param ∷ []) (result a.unit.result)
-      (both (spells_param over_param) true end-letter refl))))
+      (all_append spells_param (result_params a.unit.result) (over_params (unit_may_end a.unit)) (result a.unit.result) (over (unit_may_end a.unit)))))
     where
+      over : (ends : Bool) → list_all spells_param (over_params ends) ≡ true
+      over true = both (is_name (codes "e")) true end-letter refl
+      over false = refl
+
       remembers : (b : Bool) → list_all spells_param (memory_params a b) ≡ true
       remembers true =
           both (spells_param (record { ty = OfStruct (memory_name a.unit.name); pointer = true; name = codes "m" })) true
@@ -425,14 +432,15 @@ module _ (units : List UnitDef) (entry k : ℕ) (a : Activity) (keeps : IsWellTy
           both (spells_local (scalar_local (c_scalar s) (given_name (word run)))) true
           (local_is (c_scalar s) (given_name (word run)) (scalar_spelled s) (spelled-name 114 (word run) refl refl (run_spells run ok))) refl
 
-  ended_is : (runs : List RunAt) → list_all spells_local (ended_local runs) ≡ true
-  ended_is [] = refl
-  ended_is (run ∷ runs) = both (spells_local (scalar_local OfBool ended_name)) true (local_is OfBool ended_name refl ended-word) refl
+  ended_is : (ends : Bool) → list_all spells_local (ended_local ends) ≡ true
+  ended_is false = refl
+  ended_is true = both (spells_local (scalar_local OfBool ended_name)) true (local_is OfBool ended_name refl ended-word) refl
 
   locals_are : list_all spells_local (activity_locals a) ≡ true
   locals_are =
       let of_results : List CLocal = joined (map (run_locals a) (runs_in_body a)) in
-      let of_runs : List CLocal = ended_local (runs_in_body a) ++ of_results in
+      let ends : Bool = some_ends a.earlier (runs_in_body a) in
+      let of_runs : List CLocal = ended_local ends ++ of_results in
       let of_copies : List CLocal = map (copy_local a) (copied_in a) in
       let of_marks : List CLocal = joined (map (mark_locals view) (rules_at a)) in
       let of_flags : List CLocal = joined (map (flag_local view) (first_rules a)) in
@@ -447,7 +455,7 @@ module _ (units : List UnitDef) (entry k : ℕ) (a : Activity) (keeps : IsWellTy
       (all_mapped spells_local (copy_local a) (copied_in a)
       (all_filtered (λ j. spells_local (copy_local a j)) _ (up_to (length a.unit.vars))
       (all_below (λ j. spells_local (copy_local a j)) (length a.unit.vars) copy_is)))
-      (all_append spells_local (ended_local (runs_in_body a)) of_results (ended_is (runs_in_body a))
+      (all_append spells_local (ended_local ends) of_results (ended_is ends)
       (joined_where spells_local (run_locals a) run_ok run_locals_are (runs_in_body a) runs_ok)))))
     where
       rested_is : (j : ℕ) → j < length a.sizes → spells_local (rested_local a.sizes j) ≡ true
@@ -486,15 +494,19 @@ module _ (units : List UnitDef) (entry k : ℕ) (a : Activity) (keeps : IsWellTy
         (place-fits 405 false (copy_name a.unit.vars j) [] (omega arith) (copy-name a.unit.vars j own_vars small) refl)
         (read-fits 405 nowhere (place_in site j []) (own-fits site few names named own_vars typed_here exprs paths 405 j (omega arith) small))
 
+    first_is : (copied : Bool) → place_fits 2 (first_place copied) ≡ true
+    first_is true = rested-fits 2 0 (omega arith) (omega arith)
+    first_is false = counter-fits 2 0 (omega arith) (omega arith)
+
     entry_is : (body : Block) → stmts_fit 405 (entry_code (activity_view a) body) ≡ true
     entry_is Done = refl
     entry_is (Then s rest) =
-        let first : 0 < 2 ^ 64 = omega arith in
-        one-fits 405 (c_set (flag_place (node_word view (entry_node s))) (c_two Eq (c_read (counter_place 0)) (counter_value a.sizes 0 0)))
-        (set-fits 405 nowhere (flag_place (node_word view (entry_node s))) (c_two Eq (c_read (counter_place 0)) (counter_value a.sizes 0 0))
+        let first : CPlace = first_place ((activity_view a).is_read 0) in
+        one-fits 405 (c_set (flag_place (node_word view (entry_node s))) (c_two Eq (c_read first) (counter_value a.sizes 0 0)))
+        (set-fits 405 nowhere (flag_place (node_word view (entry_node s))) (c_two Eq (c_read first) (counter_value a.sizes 0 0))
         (flag-fits 405 (node_word view (entry_node s)) (omega arith) (spells (entry_node s)))
-        (two-fits 2 405 nowhere Eq (c_read (counter_place 0)) (counter_value a.sizes 0 0) (omega arith) refl
-        (read-fits 2 nowhere (counter_place 0) (counter-fits 2 0 (omega arith) first)) (nothing-fits 2 a.sizes 0 (omega arith))))
+        (two-fits 2 405 nowhere Eq (c_read first) (counter_value a.sizes 0 0) (omega arith) refl
+        (read-fits 2 nowhere first (first_is ((activity_view a).is_read 0))) (nothing-fits 2 a.sizes 0 (omega arith))))
 
     code_is : stmts_fit 405 (activity_code a) ≡ true
     code_is =

@@ -18,7 +18,7 @@ use Rattle.bl_tree.specs.Typing.{inputs_of, outputs_of}
 use Rattle.bl_tree.specs.Words as words
 use Rattle.bl_eval.proofs.PassLemmas.{and_left, and_right, both}
 use Rattle.bl_ctext.specs.Names.{is_among, is_callee, is_function_name, is_name, is_struct_name}
-use Rattle.bl_ctext.specs.Spellable.{is_literal, spells_member, spells_struct, spells_type}
+use Rattle.bl_ctext.specs.Spellable.{is_literal, spells_local, spells_member, spells_struct, spells_type}
 use Rattle.bl_ctext.specs.inner.Fits.{arg_fits, func_fits, place_fits, step_fits, stmt_fits, stmts_fit}
 use Rattle.bl_ctext.proofs.Fitting.{address-fits, call-fits, call_stmt-fits, func-fits, if-fits, literal-fits, place-fits}
 use Rattle.bl_ctext.proofs.Fitting.{read-fits, return-fits, step-fits, struct-spells, value-fits}
@@ -34,7 +34,7 @@ use Rattle.bl_emit_functions_laws_wellformed.proofs.OnSpelled.Functions.{memory-
 use Rattle.bl_emit_functions_laws_wellformed.proofs.OnSpelled.Shapes.{clear-fits}
 use Rattle.bl_emit_functions_laws_wellformed.proofs.OnSpelled.Types.{all_append, source_name}
 use Rattle.bl_emit_spec.specs.Activities.{struct_member}
-use Rattle.bl_emit_spec.specs.Blocks.{unit_may_end, stmt_where}
+use Rattle.bl_emit_spec.specs.Blocks.{unit_may_end, stmt_where, arg_where}
 use Rattle.bl_emit_spec.specs.Names.{frame_name}
 use Rattle.bl_emit_spec.specs.Programs.{
   c_returned,
@@ -46,6 +46,7 @@ use Rattle.bl_emit_spec.specs.Programs.{
   port_struct,
   state_struct,
   tick_args,
+  tick_locals,
   tick_function,
 }
 use Rattle.bl_emit_spec_laws_wellformed.proofs.OnSpelled.Guards.{end-letter, frame-letter, where-fits}
@@ -200,9 +201,17 @@ module _ (structs : List StructDef) (typed : (var : Var) → type_stands (length
     end-place : place_fits 2 (c_place false (codes "e") []) ≡ true
     end-place = place-fits 2 false (codes "e") [] (omega arith) end-letter refl
 
+    end-is : (ends : Bool) → list_all (arg_fits 2) (arg_where ends (Address (c_place false (codes "e") []))) ≡ true
+    end-is true = both (arg_fits 2 (Address (c_place false (codes "e") []))) true (address-fits 2 (c_place false (codes "e") []) end-place) refl
+    end-is false = refl
+
+    end-local : (ends : Bool) → list_all spells_local (tick_locals ends) ≡ true
+    end-local true = both (is_name (codes "e")) true end-letter refl
+    end-local false = refl
+
     tick-args : list_all (arg_fits 2) (tick_args unit remembers) ≡ true
     tick-args =
-        let last : List CArg = Address (c_place false (codes "e") []) ∷ [] in
+        let last : List CArg = arg_where (unit_may_end unit) (Address (c_place false (codes "e") [])) in
         both (arg_fits 2 (Address (c_place true (codes "s") (c_step (codes "f") ∷ [])))) _
         (address-fits 2 (c_place true (codes "s") (c_step (codes "f") ∷ [])) (part-fits (codes "s") (codes "f") s-named frame-letter))
         (all_append (arg_fits 2) (if remembers then Address (c_place true (codes "s") (c_step (codes "m") ∷ [])) ∷ [] else [])
@@ -210,7 +219,7 @@ module _ (structs : List StructDef) (typed : (var : Var) → type_stands (length
         (all_append (arg_fits 2) (map input_arg (inputs_of unit)) (map output_arg (outputs_of unit) ++ last)
         (args-are input_arg input-is (inputs_of unit) ins)
         (all_append (arg_fits 2) (map output_arg (outputs_of unit)) last (args-are output_arg output-is (outputs_of unit) outs)
-        (both (arg_fits 2 (Address (c_place false (codes "e") []))) true (address-fits 2 (c_place false (codes "e") []) end-place) refl))))
+        (end-is (unit_may_end unit)))))
 
     returned-fits : (d n : ℕ) → 2 ≤ d → is_literal (Nat W32) (pos n) ≡ true → stmt_fits d (c_returned n) ≡ true
     returned-fits d n some h = return-fits d nowhere (c_literal (Nat W32) (pos n)) (literal-fits d nowhere (Nat W32) (pos n) some h)
@@ -235,4 +244,4 @@ module _ (structs : List StructDef) (typed : (var : Var) → type_stands (length
         (both (spells_type (OfStruct (codes "bl_state")) && is_name (codes "s")) _ (param-is (codes "s") (codes "bl_state") s-named state-named)
         (both (spells_type (OfStruct (codes "bl_in")) && is_name (codes "i")) _ (param-is (codes "i") (codes "bl_in") i-named in-named)
         (both (spells_type (OfStruct (codes "bl_out")) && is_name (codes "o")) true (param-is (codes "o") (codes "bl_out") o-named out-named) refl)))
-        (both (is_name (codes "e")) true end-letter refl) tick-body
+        (end-local (unit_may_end unit)) tick-body

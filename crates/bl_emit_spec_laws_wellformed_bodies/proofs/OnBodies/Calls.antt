@@ -4,6 +4,7 @@ use Rattle.std.proofs.Common.{refl, sym, ap, ◌∙◌, subst, take-add}
 use Rattle.std.proofs.lemmas.List.{map-append}
 use Rattle.std.specs.Prelude.{Contains, is_none, is_some, slice_get}
 use Rattle.std.specs.List.{list_all}
+use Rattle.bl_tree.specs.declared.c.CStmt.{CStmt}
 use Rattle.bl_tree.specs.declared.place.Place.{Place}
 use Rattle.bl_tree.specs.declared.c.CArg.{CArg}
 use Rattle.bl_tree.specs.declared.c.CArg.TheVariants.{Address}
@@ -41,16 +42,16 @@ use Rattle.bl_emit_functions.specs.Trees.{c_truth}
 use Rattle.bl_emit_acts_laws_simulation.specs.Encodes.{copied_in, copied_in_path, expr_copied, kind_copied, part_copied, path_copied}
 use Rattle.bl_emit_acts_laws_wellformed.specs.Formed.Declared.{leads_through, parameter_for, variable_of}
 use Rattle.bl_emit_acts_laws_wellformed.specs.Formed.Formed.{BlockIs, PlaceIs, StmtIs, sound_place}
-use Rattle.bl_emit_acts_laws_wellformed.proofs.OnFormed.Acts.{block_cons, block_nil, block_one, calling-is}
+use Rattle.bl_emit_acts_laws_wellformed.proofs.OnFormed.Acts.{block_append, block_nil, block_one, calling-is}
 use Rattle.bl_emit_acts_laws_wellformed.proofs.OnFormed.Judged.{address_arg-is, faults_of_args, judged_args, literal-is, of_address, read-is}
 use Rattle.bl_emit_acts_laws_wellformed.proofs.OnFormed.Parts.{c_scalar_type}
 use Rattle.bl_emit_acts_laws_wellformed.proofs.OnFormed.Prelude.{type_same, unit_named}
 use Rattle.bl_emit_acts_laws_wellformed.proofs.OnFormed.Typed.{PathIs, inputs_suit, made_typed, place_typed}
 use Rattle.bl_graph_nodes.specs.Nodes.{Arguments}
 use Rattle.bl_emit_spec.specs.Activities.{word_of_run, Activity, RunAt, activity_view, runs_in_body}
-use Rattle.bl_emit_spec.specs.Blocks.{arg_where, has_result, name_in, run_args, run_code, target_code}
+use Rattle.bl_emit_spec.specs.Blocks.{arg_where, has_result, name_in, run_args, run_code, target_code, may_end_in, stmt_where, unit_may_end}
 use Rattle.bl_emit_spec.specs.Names.{NumberedWord, callee_frame, callee_memory, ended_place, frame_name, given_place}
-use Rattle.bl_emit_spec_laws_wellformed_bodies.specs.Bodies.{memory_given, result_given, signature_of_activity}
+use Rattle.bl_emit_spec_laws_wellformed_bodies.specs.Bodies.{memory_given, result_given, signature_of_activity, over_given}
 use Rattle.bl_emit_spec_laws_wellformed_bodies.proofs.OnBodies.Guards.{put-is}
 use Rattle.bl_emit_spec_laws_wellformed_bodies.proofs.OnBodies.Variables.{Here, context, copied, declared_here, earlier_here, ended-is, frame_at-is, given-is}
 use Rattle.bl_emit_spec_laws_wellformed_bodies.proofs.OnBodies.Variables.{memory_at-is, site}
@@ -183,6 +184,11 @@ module _ (units : List UnitDef) (entry k : ℕ) (a : Activity) (table : Table (T
   outputs-suit (path ∷ outputs) vars typed outlets roles =
       first-output path outputs (outputs-suit outputs) (type_of_path my_site path) refl vars typed outlets roles
 
+  -- a statement, where the test is true
+  pub where-is : (test : Bool) (s : CStmt) → (test ≡ true → StmtIs here s) → BlockIs here (stmt_where test s)
+  where-is true s is = block_one here s (is refl)
+  where-is false s is = block_nil here
+
   -- the arguments for inputs and outputs
   arguments-suit : (f : ℕ) (callee : UnitDef) (inputs : List Expr) (outputs : List Path) → slice_get a.earlier f ≡ Some callee →
       arguments_fit my_site inputs outputs callee ≡ true → all_of (map (copied_in mine) inputs) ≡ true →
@@ -225,13 +231,17 @@ module _ (units : List UnitDef) (entry k : ℕ) (a : Activity) (table : Table (T
         suit-address here false (OfScalar (c_scalar s)) (given_place n) (given-is units entry k a table known h run callee s has there is)
     result-suits callee there None is = (refl, refl)
 
+    over-suits : (b : Bool) → (b ≡ true → may_end_in (slice_get a.earlier u) ≡ true) → Suit here (over_given b) (arg_where b (Address ended_place))
+    over-suits true ends = suit-address here false bool_type ended_place (ended-is units entry k a table known h run has (ends refl))
+    over-suits false ends = (refl, refl)
+
     -- the arguments of the call of this activity
     abbrev args_of : Option UnitDef → List CArg
     args_of o =
         Address (callee_frame n)
         ∷ (arg_where ((activity_view a).remembers u) (Address (callee_memory n))
         ++ (call_args my_site arguments.inputs arguments.outputs
-        ++ (arg_where (has_result o) (Address (given_place n)) ++ Address ended_place ∷ [])))
+        ++ (arg_where (has_result o) (Address (given_place n)) ++ arg_where (may_end_in o) (Address ended_place))))
 
     call-by : (o : Option UnitDef) → slice_get a.earlier u ≡ o → run_fits my_site arguments.target arguments.inputs arguments.outputs o ≡ true →
         all_of (map (copied_in mine) arguments.inputs) ≡ true → StmtIs here (c_calling (c_call (name_of_callee o) (args_of o)))
@@ -242,8 +252,9 @@ module _ (units : List UnitDef) (entry k : ℕ) (a : Activity) (table : Table (T
         let shape : arguments_fit my_site arguments.inputs arguments.outputs callee ≡ true =
         and_right (target_fits my_site callee.result arguments.target) _ (and_right (is_activity my_site.kind && is_activity callee.kind) _ fits) in
         let remembers : Bool = (activity_view a).remembers u in
-        let behind : List Variable = result_given callee.result ++ variable_of true bool_type ∷ [] in
-        let last : List CArg = arg_where (is_some callee.result) (Address (given_place n)) ++ Address ended_place ∷ [] in
+        let ends : Bool = unit_may_end callee in
+        let behind : List Variable = result_given callee.result ++ over_given ends in
+        let last : List CArg = arg_where (is_some callee.result) (Address (given_place n)) ++ arg_where ends (Address ended_place) in
         let suits : Suit here (signature_of_activity a.structs callee remembers).params (args_of (Some callee)) =
         suit-append here (variable_of true (OfStruct (frame_name callee.name)) ∷ [])
         (memory_given callee remembers ++ (params_for (parameters_of callee) ++ behind)) (Address (callee_frame n) ∷ [])
@@ -254,21 +265,23 @@ module _ (units : List UnitDef) (entry k : ℕ) (a : Activity) (table : Table (T
         (call_args my_site arguments.inputs arguments.outputs ++ last) (memory-suits callee there remembers refl)
         (suit-append here (params_for (parameters_of callee)) behind (call_args my_site arguments.inputs arguments.outputs) last
         (arguments-suit u callee arguments.inputs arguments.outputs there shape named)
-        (suit-append here (result_given callee.result) (variable_of true bool_type ∷ []) (arg_where (is_some callee.result) (Address (given_place n)))
-        (Address ended_place ∷ []) (result-suits callee there callee.result refl)
-        (suit-address here false bool_type ended_place (ended-is units entry k a table known h run has))))) in
+        (suit-append here (result_given callee.result) (over_given ends) (arg_where (is_some callee.result) (Address (given_place n)))
+        (arg_where ends (Address ended_place)) (result-suits callee there callee.result refl)
+        (over-suits ends (λ may. ap may_end_in there ∙ may))))) in
         let signed : signature_of here (unit_name callee.name) ≡ Some (signature_of_activity a.structs callee remembers) =
         ap (λ o. signature_as o (here.functions (unit_name callee.name))) (unit_named callee.name) ∙ h.stands.called u callee there active in
         calling-is here (unit_name callee.name) (args_of (Some callee)) (signature_of_activity a.structs callee remembers) signed suits.0 suits.1 refl
 
-    -- the call, before which the activity hasn't ended
+    -- the call, before which an activity that may end hasn't ended
     pub call-is : run_fits my_site arguments.target arguments.inputs arguments.outputs (slice_get a.earlier u) ≡ true →
         all_of (map (copied_in mine) arguments.inputs) ≡ true → BlockIs here (run_code (activity_view a) n u arguments)
     call-is fits named =
         let call = c_calling (c_call (name_of_callee (slice_get a.earlier u)) (run_args (activity_view a) n u arguments)) in
-        block_cons here (c_set ended_place (c_truth false)) (call ∷ [])
-        (put-is units entry k a table known h false bool_type ended_place (c_truth false) (ended-is units entry k a table known h run has)
-        (literal-is here _ _))
+        let ends : Bool = may_end_in (slice_get a.earlier u) in
+        block_append here (stmt_where ends (c_set ended_place (c_truth false))) (call ∷ [])
+        (where-is ends (c_set ended_place (c_truth false))
+        (λ may. put-is units entry k a table known h false bool_type ended_place (c_truth false) (ended-is units entry k a table known h run has may)
+        (literal-is here _ _)))
         (block_one here call (call-by (slice_get a.earlier u) refl fits named))
 
     target-by : (o : Option UnitDef) (target : Option Path) → slice_get a.earlier u ≡ o →

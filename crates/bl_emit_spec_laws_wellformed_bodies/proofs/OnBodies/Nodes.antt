@@ -77,7 +77,7 @@ use Rattle.bl_emit_spec_laws.proofs.OnOwn.Members.{contains_at, further, here as
 use Rattle.bl_emit_spec_laws.proofs.OnPlaced.Lists.{picked_first, there_at}
 use Rattle.bl_emit_spec_laws_wellformed.specs.Spelled.{all_fit, node_fits, rule_fits, run_stands}
 use Rattle.bl_emit_spec_laws_wellformed_bodies.specs.Bodies.{act_named, named_there}
-use Rattle.bl_emit_spec_laws_wellformed_bodies.proofs.OnBodies.Calls.{call-is, same_types, target-is}
+use Rattle.bl_emit_spec_laws_wellformed_bodies.proofs.OnBodies.Calls.{call-is, same_types, target-is, where-is}
 use Rattle.bl_emit_spec_laws_wellformed_bodies.proofs.OnBodies.Guards.{changes-are, guard-is, put-is}
 use Rattle.bl_emit_spec_laws_wellformed_bodies.proofs.OnBodies.Running.{HasRun, Pairs, RuleRuns}
 use Rattle.bl_emit_spec_laws_wellformed_bodies.proofs.OnBodies.Variables.{Here, context, copied, declared_here, earlier_here, ended-is, frame_at-is, plain_here}
@@ -280,10 +280,6 @@ module _ (units : List UnitDef) (entry k : ℕ) (a : Activity) (table : Table (T
         by (Some true) = on_true-is
         by (Some false) = other
 
-    where-is : (test : Bool) (s : CStmt) → StmtIs here s → BlockIs here (stmt_where test s)
-    where-is true s is = block_one here s is
-    where-is false s is = block_nil here
-
     begun-is : (at : Place) (number u : ℕ) (arguments : Arguments) → Contains (runs_in_body a) (record { place = at; number = number; unit = u }) →
         run_stands view.site u arguments ≡ true → all_of (map (copied_in mine) arguments.inputs) ≡ true →
         BlockIs here (begun_code view (run_word a.earlier number u) u arguments rule)
@@ -310,9 +306,9 @@ module _ (units : List UnitDef) (entry k : ℕ) (a : Activity) (table : Table (T
         let ends : Bool = may_end_in (slice_get a.earlier u) in
         block_append here (run_code view n u arguments) (stmt_where ends (c_if (c_read ended_place) code None))
         (call-is units entry k a table known h at number u runs arguments fitted named)
-        (where-is ends (c_if (c_read ended_place) code None)
-        (if-is here (c_read ended_place) code None
-        (read-is here false bool_type ended_place (ended-is units entry k a table known h run runs))
+        (where-is units entry k a table known h ends (c_if (c_read ended_place) code None)
+        (λ may. if-is here (c_read ended_place) code None
+        (read-is here false bool_type ended_place (ended-is units entry k a table known h run runs may))
         (block_append here (target_code view n arguments.target) (changes_code view rule.on_true)
         (target-is units entry k a table known h at number u runs arguments fitted) on_true-is) (λ looped. refl)))
 

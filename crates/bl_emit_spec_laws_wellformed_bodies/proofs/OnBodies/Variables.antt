@@ -54,20 +54,19 @@ use Rattle.bl_emit_acts_laws_wellformed.proofs.OnFormed.Typed.{pointer_place, va
 use Rattle.bl_emit_acts_laws_wellformed.proofs.OnFormed.Units.{roles_at, taken_there, vars_stand}
 use Rattle.bl_emit_spec.specs.Activities.{word_of_run, Activity, RunAt, activity_function, activity_locals, activity_params, copied_in, copies_of, copy_local}
 use Rattle.bl_emit_spec.specs.Activities.{counter_member, counters_read, first_rules, flag_local, frame_member, frame_struct, given_local, is_flagged}
-use Rattle.bl_emit_spec.specs.Activities.{ended_local, mark_local}
-use Rattle.bl_emit_spec.specs.Activities.{mark_locals, memory_member, memory_params, over_param, pointer_param, remembered, remembers_any}
+use Rattle.bl_emit_spec.specs.Activities.{ended_local, mark_local, some_ends}
+use Rattle.bl_emit_spec.specs.Activities.{mark_locals, memory_member, memory_params, over_params, pointer_param, remembered, remembers_any}
 use Rattle.bl_emit_spec.specs.Activities.{activity_view, rested_local, result_params, rules_at, run_locals, runs_in_body, scalar_local, struct_member}
-use Rattle.bl_emit_spec.specs.Blocks.{ActivityView, counter_type, name_in}
+use Rattle.bl_emit_spec.specs.Blocks.{ActivityView, counter_type, may_end_in, name_in, unit_may_end}
 use Rattle.bl_emit_spec.specs.Names.{NumberedWord, callee_frame, callee_memory, callee_name, counter_name}
 use Rattle.bl_emit_spec.specs.Names.{counter_place, ended_name, ended_place, flag_name, flag_place}
 use Rattle.bl_emit_spec.specs.Names.{frame_name, given_name, given_place, mark_name, mark_place, over_place, rested_name, rested_place, result_place, with_word}
 use Rattle.bl_emit_spec_laws.specs.Calls.Built.{asks_flag, registered, sets_mark}
 use Rattle.bl_emit_spec_laws_wellformed.specs.Names.{FrameDiffers, LocalsDiffer, MemoryDiffers, NumbersDiffer}
-use Rattle.bl_emit_spec_laws.proofs.OnOwn.Members.{any_found, contains_mapped, here, further}
+use Rattle.bl_emit_spec_laws.proofs.OnOwn.Members.{any_found, any_true, contains_mapped, here, further}
 use Rattle.bl_emit_spec_laws_wellformed.specs.Spelled.{all_fit}
 use Rattle.bl_emit_spec.specs.Activities.{body_of, callees_in}
 use Rattle.bl_emit_spec_laws_wellformed_bodies.specs.Bodies.{ActivityStands, CopiesSuffice, OwnsRules}
-use Rattle.bl_emit_spec_laws_wellformed_bodies.proofs.OnStructs.Lists.{none_has}
 use Rattle.bl_emit_spec_laws_wellformed_bodies.proofs.OnBodies.Lists.{filter-has, found-one, joined-has, names_of_entries, up-has}
 
 -- what is known where the C function of an activity stands
@@ -213,7 +212,7 @@ module _ (units : List UnitDef) (entry k : ℕ) (a : Activity) (table : Table (T
   local-place s name has = variable_place context name (OfScalar s) (local-there (scalar_local s name) has)
 
   abbrev params_behind : List CParam
-  params_behind = params_from a.structs a.unit.vars 0 (parameters_of a.unit) ++ (result_params a.unit.result ++ over_param ∷ [])
+  params_behind = params_from a.structs a.unit.vars 0 (parameters_of a.unit) ++ (result_params a.unit.result ++ over_params (unit_may_end a.unit))
 
   behind_frame : (p : CParam) → Contains (memory_params a (remembers_any a) ++ params_behind) p → Contains (activity_params a) p
   behind_frame p has = further (pointer_param (codes "f") (frame_name a.unit.name)) (memory_params a (remembers_any a) ++ params_behind) p has
@@ -305,7 +304,7 @@ module _ (units : List UnitDef) (entry k : ℕ) (a : Activity) (table : Table (T
   of_results = joined (map (run_locals a) (runs_in_body a))
 
   abbrev of_runs : List CLocal
-  of_runs = ended_local (runs_in_body a) ++ of_results
+  of_runs = ended_local (some_ends a.earlier (runs_in_body a)) ++ of_results
 
   abbrev of_rested : List CLocal
   of_rested = map (rested_local a.sizes) (counters_read a)
@@ -366,13 +365,15 @@ module _ (units : List UnitDef) (entry k : ℕ) (a : Activity) (table : Table (T
       (joined-has (mark_locals view) (rules_at a) one.one (mark n) one.there
       (joined-has (mark_local view) one.one.on_true change.one (mark n) change.there (marks_there n change.one change.on))))))
 
-  pub over-is : PlaceIs context true bool_type over_place
-  over-is =
+  pub over-is : unit_may_end a.unit ≡ true → PlaceIs context true bool_type over_place
+  over-is ends =
+      let p : CParam = record { ty = OfScalar OfBool; pointer = true; name = codes "e" } in
       pointer_place context (codes "e") bool_type
-      (param-there over_param
-      (behind_memory over_param
-      (Contains-append_right (params_from a.structs a.unit.vars 0 (parameters_of a.unit)) (result_params a.unit.result ++ over_param ∷ []) over_param
-      (Contains-append_right (result_params a.unit.result) (over_param ∷ []) over_param (here over_param [])))))
+      (param-there p
+      (behind_memory p
+      (Contains-append_right (params_from a.structs a.unit.vars 0 (parameters_of a.unit)) (result_params a.unit.result ++ over_params (unit_may_end a.unit)) p
+      (Contains-append_right (result_params a.unit.result) (over_params (unit_may_end a.unit)) p
+      (subst (λ b. Contains (over_params b) p) (sym ends) (here p []))))))
 
   pub result-is : (s : ScalarType) → a.unit.result ≡ Some s → PlaceIs context true (OfScalar (c_scalar s)) result_place
   result-is s is =
@@ -380,8 +381,8 @@ module _ (units : List UnitDef) (entry k : ℕ) (a : Activity) (table : Table (T
       pointer_place context (codes "r") (OfScalar (c_scalar s))
       (param-there p
       (behind_memory p
-      (Contains-append_right (params_from a.structs a.unit.vars 0 (parameters_of a.unit)) (result_params a.unit.result ++ over_param ∷ []) p
-      (Contains-append_left (result_params a.unit.result) (over_param ∷ []) p
+      (Contains-append_right (params_from a.structs a.unit.vars 0 (parameters_of a.unit)) (result_params a.unit.result ++ over_params (unit_may_end a.unit)) p
+      (Contains-append_left (result_params a.unit.result) (over_params (unit_may_end a.unit)) p
       (subst (λ o. Contains (result_params o) p) (sym is) (here p []))))))
 
   -- ---- `run`s
@@ -396,21 +397,23 @@ module _ (units : List UnitDef) (entry k : ℕ) (a : Activity) (table : Table (T
       (Contains-append_right of_marks (of_copies ++ of_runs) l
       (Contains-append_right of_copies of_runs l has)))
 
-  pub ended-is : (run : RunAt) → Contains (runs_in_body a) run → PlaceIs context false bool_type ended_place
-  ended-is run has =
+  pub ended-is : (run : RunAt) → Contains (runs_in_body a) run → may_end_in (slice_get a.earlier run.unit) ≡ true →
+      PlaceIs context false bool_type ended_place
+  ended-is run has ends =
       let l : CLocal = scalar_local OfBool ended_name in
-      local-place OfBool ended_name (run_local l (Contains-append_left (ended_local (runs_in_body a)) of_results l (by (runs_in_body a) has)))
-    where
-      by : (runs : List RunAt) → Contains runs run → Contains (ended_local runs) (scalar_local OfBool ended_name)
-      by [] none = absurd (none_has run none)
-      by (first ∷ rest) some = here (scalar_local OfBool ended_name) []
+      let some : some_ends a.earlier (runs_in_body a) ≡ true =
+      any_true (λ (run : RunAt). may_end_in (slice_get a.earlier run.unit)) (runs_in_body a) run has ends in
+      local-place OfBool ended_name
+      (run_local l
+      (Contains-append_left (ended_local (some_ends a.earlier (runs_in_body a))) of_results l
+      (subst (λ b. Contains (ended_local b) l) (sym some) (here l []))))
 
   pub given-is : (run : RunAt) (callee : UnitDef) (s : ScalarType) → Contains (runs_in_body a) run → slice_get a.earlier run.unit ≡ Some callee →
       callee.result ≡ Some s → PlaceIs context false (OfScalar (c_scalar s)) (given_place (word run))
   given-is run callee s has there result =
       local-place (c_scalar s) (given_name (word_of_run a.earlier run))
       (run_local l
-      (Contains-append_right (ended_local (runs_in_body a)) of_results l
+      (Contains-append_right (ended_local (some_ends a.earlier (runs_in_body a))) of_results l
       (joined-has (run_locals a) (runs_in_body a) run l has
       (subst (λ o. Contains (given_local (word_of_run a.earlier run) o) l)
       (sym (ap (option_and_then (λ (unit : UnitDef). unit.result)) there ∙ result)) (here _ [])))))
@@ -474,7 +477,7 @@ module _ (units : List UnitDef) (entry k : ℕ) (a : Activity) (table : Table (T
       let none : 0 + j ≡ j = omega arith in
       param-there (param_of a.structs a.unit.vars j var)
       (behind_memory (param_of a.structs a.unit.vars j var)
-      (Contains-append_left (params_from a.structs a.unit.vars 0 (parameters_of a.unit)) (result_params a.unit.result ++ over_param ∷ [])
+      (Contains-append_left (params_from a.structs a.unit.vars 0 (parameters_of a.unit)) (result_params a.unit.result ++ over_params (unit_may_end a.unit))
       (param_of a.structs a.unit.vars j var)
       (subst (λ n. Contains (params_from a.structs a.unit.vars 0 (parameters_of a.unit)) (param_of a.structs a.unit.vars n var)) none
       (param-has a.structs a.unit.vars 0 (parameters_of a.unit) j var (parameter_at a.unit roles j var in_vars parameter)))))

@@ -5,6 +5,7 @@ use Rattle.std.proofs.lemmas.Bool.Decides.{nat_tests}
 use Rattle.std.proofs.lemmas.List.Elements.{Contains-push_cases}
 use Rattle.std.specs.Prelude.{Contains, filter, nat_lt, slice_get, if◌then◌else◌}
 use Rattle.bl_tree.specs.declared.c.CMember.{CMember}
+use Rattle.bl_tree.specs.declared.c.CExpr.{CExpr}
 use Rattle.bl_tree.specs.declared.c.CStmt.{CStmt}
 use Rattle.bl_tree.specs.declared.c.CType.TheVariants.{Scalar as OfScalar}
 use Rattle.bl_tree.specs.declared.scalar.Op.TheVariants.{Eq}
@@ -45,6 +46,7 @@ use Rattle.bl_emit_spec.specs.Activities.{
   copies_of,
   counters_read,
   entry_code,
+  first_place,
   rested_code,
   rules_at,
   runs_in_body,
@@ -130,10 +132,9 @@ module _ (units : List UnitDef) (entry k : ℕ) (a : Activity) (table : Table (T
   entry-is Done is = block_nil here
   entry-is (Then s rest) is =
       let flag : (registered a).flags (view.number (entry_of s)) ≡ true = h.owns.begins s rest is in
-      let set : CStmt = c_set (flag_place (node_word view (entry_of s))) (c_two Eq (c_read (counter_place 0)) (counter_value a.sizes 0 0)) in
-      block_one here set
-      (put-is units entry k a table known h false bool_type (flag_place (node_word view (entry_of s)))
-      (c_two Eq (c_read (counter_place 0)) (counter_value a.sizes 0 0))
+      let first : CExpr = c_two Eq (c_read (first_place (view.is_read 0))) (counter_value a.sizes 0 0) in
+      block_one here (c_set (flag_place (node_word view (entry_of s))) first)
+      (put-is units entry k a table known h false bool_type (flag_place (node_word view (entry_of s))) first
       (flag-is units entry k a table known h (view.number (entry_of s)) flag)
       (begins-is units entry k a table known h (is_below 0 (length a.sizes) h.owns.some)))
 

@@ -14,6 +14,7 @@ use Rattle.bl_machine.specs.Blocks.{up_to}
 use Rattle.bl_machine_pass.specs.Transitions.{Change, ClearsBoth, ClearsCounter, EndsWhen, Finishes, SetsCounter, SetsFlag, SetsMark, Transition}
 use Rattle.bl_ctext_semantics.specs.Sizes.{Sizes, size_of_member, size_of_param, size_of_type}
 use Rattle.bl_emit_functions.specs.Functions.{params_from}
+use Rattle.bl_emit_spec.specs.Blocks.{unit_may_end}
 use Rattle.bl_emit_spec.specs.Activities.{
   Activity,
   RunAt,
@@ -32,7 +33,7 @@ use Rattle.bl_emit_spec.specs.Activities.{
   mark_local,
   mark_locals,
   memory_params,
-  over_param,
+  over_params,
   remembers_any,
   rested_local,
   result_params,
@@ -41,6 +42,7 @@ use Rattle.bl_emit_spec.specs.Activities.{
   runs_in_body,
   word_of_run,
   ended_local,
+  some_ends,
 }
 use Rattle.bl_emit_acts.specs.Acts.{is_copied}
 use Rattle.bl_emit_spec_laws_wellformed.proofs.OnNumbers.Whole.{first-less}
@@ -133,14 +135,19 @@ module _ (known : Sizes) where
       let rest = results-few a runs in
       omega (arith, split, given, rest)
 
-  ended-few : (runs : List RunAt) → cells (ended_local runs) ≤ length runs
-  ended-few [] = omega arith
-  ended-few (run ∷ runs) = omega arith
+  ended-few : (earlier : List UnitDef) (runs : List RunAt) → cells (ended_local (some_ends earlier runs)) ≤ length runs
+  ended-few earlier [] = omega arith
+  ended-few earlier (run ∷ runs) = by (some_ends earlier (run ∷ runs))
+    where
+      by : (ends : Bool) → cells (ended_local ends) ≤ suc (length runs)
+      by true = omega arith
+      by false = omega arith
 
-  runs-few : (a : Activity) (runs : List RunAt) → cells (ended_local runs ++ joined (map (run_locals a) runs)) ≤ 2 * length runs
+  runs-few : (a : Activity) (runs : List RunAt) →
+      cells (ended_local (some_ends a.earlier runs) ++ joined (map (run_locals a) runs)) ≤ 2 * length runs
   runs-few a runs =
-      let split = cells-append (ended_local runs) (joined (map (run_locals a) runs)) in
-      let ended = ended-few runs in
+      let split = cells-append (ended_local (some_ends a.earlier runs)) (joined (map (run_locals a) runs)) in
+      let ended = ended-few a.earlier runs in
       let results = results-few a runs in
       omega (arith, split, ended, results)
 
@@ -152,7 +159,7 @@ module _ (known : Sizes) where
       let flags = joined (map (flag_local view) (first_rules a)) in
       let marks = joined (map (mark_locals view) (rules_at a)) in
       let copies = map (copy_local a) (copied_in a) in
-      let runs = ended_local (runs_in_body a) ++ joined (map (run_locals a) (runs_in_body a)) in
+      let runs = ended_local (some_ends a.earlier (runs_in_body a)) ++ joined (map (run_locals a) (runs_in_body a)) in
       let first = cells-append rested (flags ++ (marks ++ (copies ++ runs))) in
       let second = cells-append flags (marks ++ (copies ++ runs)) in
       let third = cells-append marks (copies ++ runs) in
@@ -183,18 +190,24 @@ module _ (known : Sizes) where
   result-one (Some s) = refl
   result-one None = refl
 
-  pub params-are : (a : Activity) → passed (activity_params a)
-      ≡ 2 + one_where (remembers_any a) + passed (params_from a.structs a.unit.vars 0 (parameters_of a.unit)) + one_where (is_some a.unit.result)
-  params-are a =
+  over-few : (ends : Bool) → passed (over_params ends) ≤ 1
+  over-few true = omega arith
+  over-few false = omega arith
+
+  pub params-few : (a : Activity) → passed (activity_params a)
+      ≤ 2 + one_where (remembers_any a) + passed (params_from a.structs a.unit.vars 0 (parameters_of a.unit)) + one_where (is_some a.unit.result)
+  params-few a =
       let memory = memory_params a (remembers_any a) in
       let ports = params_from a.structs a.unit.vars 0 (parameters_of a.unit) in
       let result = result_params a.unit.result in
-      let first = passed-append memory (ports ++ (result ++ over_param ∷ [])) in
-      let second = passed-append ports (result ++ over_param ∷ []) in
-      let third = passed-append result (over_param ∷ []) in
+      let over = over_params (unit_may_end a.unit) in
+      let first = passed-append memory (ports ++ (result ++ over)) in
+      let second = passed-append ports (result ++ over) in
+      let third = passed-append result over in
+      let last = over-few (unit_may_end a.unit) in
       let held = memory-one a (remembers_any a) in
       let given = result-one a.unit.result in
-      omega (arith, first, second, third, held, given)
+      omega (arith, first, second, third, last, held, given)
 
   -- ---- counters
 

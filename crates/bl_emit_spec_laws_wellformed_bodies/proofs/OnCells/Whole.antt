@@ -53,7 +53,7 @@ use Rattle.bl_emit_spec_laws_wellformed_bodies.proofs.OnCells.Callees.{
 }
 use Rattle.bl_emit_spec_laws_wellformed_bodies.proofs.OnCells.Callees.{memories-few, memories-less, memory_at, sums-less, taken_got}
 use Rattle.bl_emit_spec_laws_wellformed_bodies.proofs.OnCells.Held.{held, held-apart, members-few, members-less, params-less, taken-all}
-use Rattle.bl_emit_spec_laws_wellformed_bodies.proofs.OnCells.Locals.{cells, counters-are, locals-few, one_where, params-are, passed, total-append, up-length}
+use Rattle.bl_emit_spec_laws_wellformed_bodies.proofs.OnCells.Locals.{cells, counters-are, locals-few, one_where, params-few, passed, total-append, up-length}
 
 -- ---- numbers
 
@@ -215,7 +215,7 @@ module _ (units : List UnitDef) (entry : ℕ) (a : Activity) (keeps : IsWellType
       ≤ (2 + one_where (remembers_any a) + passed known (params_from a.structs a.unit.vars 0 (parameters_of a.unit)) + one_where (is_some a.unit.result))
       + (length a.sizes + extras (rules_at a) + length a.unit.vars + 2 * length rs)
   owns_so =
-      let params = params-are known a in
+      let params = params-few known a in
       let locals = locals-few known a sized.once in
       let none : length (turns_in_block (activity_code a)) ≡ 0 = ap length (quiet a) in
       let as_many = many in

@@ -50,6 +50,7 @@ use Rattle.bl_emit_acts_laws_wellformed.proofs.OnFormed.Units.{taken_there, vars
 use Rattle.bl_emit_structs_laws_wellformed.proofs.OnFormed.Faultless.{all_differ}
 use Rattle.bl_machine_pass.specs.Transitions.{Change, Transition}
 use Rattle.bl_machine_pass.specs.Transitions.{ClearsBoth, ClearsCounter, EndsWhen, Finishes, SetsCounter, SetsFlag, SetsMark}
+use Rattle.bl_emit_spec.specs.Blocks.{unit_may_end}
 use Rattle.bl_emit_spec.specs.Activities.{
   Activity,
   RunAt,
@@ -67,7 +68,7 @@ use Rattle.bl_emit_spec.specs.Activities.{
   mark_local,
   mark_locals,
   memory_params,
-  over_param,
+  over_params,
   pointer_param,
   remembered,
   remembers_any,
@@ -79,12 +80,13 @@ use Rattle.bl_emit_spec.specs.Activities.{
   scalar_local,
   word_of_run,
   ended_local,
+  some_ends,
 }
 use Rattle.bl_emit_spec.specs.Blocks.{ActivityView, node_word}
 use Rattle.bl_emit_spec.specs.Names.{NumberedWord, flag_name, frame_name}
 use Rattle.bl_emit_spec_laws_wellformed.specs.Names.{LocalsDiffer, NumbersDiffer}
 use Rattle.bl_emit_spec_laws.proofs.OnOwn.Members.{here}
-use Rattle.bl_emit_spec_laws_wellformed_bodies.specs.Bodies.{ActivityBodiesWellFormed, ActivityStands, memory_given, result_given}
+use Rattle.bl_emit_spec_laws_wellformed_bodies.specs.Bodies.{ActivityBodiesWellFormed, ActivityStands, memory_given, over_given, result_given}
 use Rattle.bl_emit_spec_laws_wellformed_bodies.specs.Signed.{ActivitiesSigned, ActivitiesWellFormed, NoneLoops}
 
 -- ---- parameters
@@ -105,19 +107,24 @@ result_are : (r : Option ScalarType) → map as_variable (result_params r) ≡ r
 result_are (Some s) = refl
 result_are None = refl
 
+over_are : (ends : Bool) → map as_variable (over_params ends) ≡ over_given ends
+over_are true = refl
+over_are false = refl
+
 pub signed : ActivitiesSigned
 signed a =
-    let behind : List CParam = result_params a.unit.result ++ over_param ∷ [] in
+    let ends : Bool = unit_may_end a.unit in
+    let behind : List CParam = result_params a.unit.result ++ over_params ends in
     let params : List CParam = params_from a.structs a.unit.vars 0 (parameters_of a.unit) in
     let whole : map as_variable (memory_params a (remembers_any a) ++ (params ++ behind))
     ≡ memory_given a.unit (remembers_any a) ++ (map (parameter_for a.structs) (parameters_of a.unit)
-    ++ (result_given a.unit.result ++ as_variable over_param ∷ [])) =
+    ++ (result_given a.unit.result ++ over_given ends)) =
     map-append as_variable (memory_params a (remembers_any a)) (params ++ behind)
     ∙ (λ i. memory_are a (remembers_any a) i ++ map-append as_variable params behind i)
     ∙ (λ i. memory_given a.unit (remembers_any a) ++ (params_are a.structs a.unit.vars 0 (parameters_of a.unit) i
-    ++ map-append as_variable (result_params a.unit.result) (over_param ∷ []) i))
+    ++ map-append as_variable (result_params a.unit.result) (over_params ends) i))
     ∙ (λ i. memory_given a.unit (remembers_any a) ++ (map (parameter_for a.structs) (parameters_of a.unit)
-    ++ (result_are a.unit.result i ++ as_variable over_param ∷ []))) in
+    ++ (result_are a.unit.result i ++ over_are ends i))) in
     ap (λ (rest : List Variable). record {
       widens = false;
       params = as_variable (pointer_param (codes "f") (frame_name a.unit.name)) ∷ rest;
@@ -188,15 +195,16 @@ module _ (table : Table (Table CMember)) where
   run_fine : (a : Activity) (run : RunAt) → list_all fine (run_locals a run) ≡ true
   run_fine a run = given_fine (word_of_run a.earlier run) (option_and_then (λ (unit : UnitDef). unit.result) (slice_get a.earlier run.unit))
 
-  ended_fine : (runs : List RunAt) → list_all fine (ended_local runs) ≡ true
-  ended_fine [] = refl
-  ended_fine (run ∷ runs) = refl
+  ended_fine : (ends : Bool) → list_all fine (ended_local ends) ≡ true
+  ended_fine true = refl
+  ended_fine false = refl
 
   locals-fine : (a : Activity) → list_all fine (activity_locals a) ≡ true
   locals-fine a =
       let view : ActivityView = activity_view a in
       let of_results : List CLocal = joined (map (run_locals a) (runs_in_body a)) in
-      let of_runs : List CLocal = ended_local (runs_in_body a) ++ of_results in
+      let ends : Bool = some_ends a.earlier (runs_in_body a) in
+      let of_runs : List CLocal = ended_local ends ++ of_results in
       let of_copies : List CLocal = map (copy_local a) (copied_in a) in
       let of_marks : List CLocal = joined (map (mark_locals view) (rules_at a)) in
       let of_flags : List CLocal = joined (map (flag_local view) (first_rules a)) in
@@ -206,7 +214,7 @@ module _ (table : Table (Table CMember)) where
       (all_append fine of_marks (of_copies ++ of_runs)
       (all_joined fine (mark_locals view) (rules_at a) (λ rule. all_joined fine (mark_local view) rule.on_true (mark_fine view)))
       (all_append fine of_copies of_runs (all_mapped fine (copy_local a) (copied_in a) (λ j. refl))
-      (all_append fine (ended_local (runs_in_body a)) of_results (ended_fine (runs_in_body a))
+      (all_append fine (ended_local ends) of_results (ended_fine ends)
       (all_joined fine (run_locals a) (runs_in_body a) (run_fine a))))))
 
 -- ---- the function
@@ -243,40 +251,45 @@ module _ (units : List UnitDef) (entry k : ℕ) (a : Activity) (keeps : IsWellTy
   memory_declared true is = both (is_some (table (memory_name a.unit.name))) true (any_there (remembered a) is stands.memory) refl
   memory_declared false is = refl
 
-  result_declared : (r : Option ScalarType) → list_all (λ (p : CParam). is_declared table p.ty) (result_params r ++ over_param ∷ []) ≡ true
-  result_declared (Some s) = refl
-  result_declared None = refl
+  result_declared : (r : Option ScalarType) (ends : Bool) → list_all (λ (p : CParam). is_declared table p.ty) (result_params r ++ over_params ends) ≡ true
+  result_declared (Some s) true = refl
+  result_declared (Some s) false = refl
+  result_declared None true = refl
+  result_declared None false = refl
 
   params_declared : list_all (λ (p : CParam). is_declared table p.ty) (activity_params a) ≡ true
   params_declared =
       let test : CParam → Bool = λ (p : CParam). is_declared table p.ty in
       let params : List CParam = params_from a.structs a.unit.vars 0 (parameters_of a.unit) in
-      let behind : List CParam = result_params a.unit.result ++ over_param ∷ [] in
+      let behind : List CParam = result_params a.unit.result ++ over_params (unit_may_end a.unit) in
       both (is_some (table (frame_name a.unit.name))) (list_all test (memory_params a (remembers_any a) ++ (params ++ behind)))
       (ap is_some stands.frame)
       (all_append test (memory_params a (remembers_any a)) (params ++ behind) (memory_declared (remembers_any a) refl)
       (all_append test params behind
       (params_all a.structs a.unit.vars test 0 (parameters_of a.unit)
       (λ i j var found. var_declared j var (taken_there a.unit.vars (a.unit.inputs + a.unit.outputs) j var found)))
-      (result_declared a.unit.result)))
+      (result_declared a.unit.result (unit_may_end a.unit))))
 
   memory_scalar : (b : Bool) → list_all (λ (p : CParam). p.pointer || is_scalar p.ty) (memory_params a b) ≡ true
   memory_scalar true = refl
   memory_scalar false = refl
 
-  result_scalar : (r : Option ScalarType) → list_all (λ (p : CParam). p.pointer || is_scalar p.ty) (result_params r ++ over_param ∷ []) ≡ true
-  result_scalar (Some s) = refl
-  result_scalar None = refl
+  result_scalar : (r : Option ScalarType) (ends : Bool) →
+      list_all (λ (p : CParam). p.pointer || is_scalar p.ty) (result_params r ++ over_params ends) ≡ true
+  result_scalar (Some s) true = refl
+  result_scalar (Some s) false = refl
+  result_scalar None true = refl
+  result_scalar None false = refl
 
   params_scalar : list_all (λ (p : CParam). p.pointer || is_scalar p.ty) (activity_params a) ≡ true
   params_scalar =
       let test : CParam → Bool = λ (p : CParam). p.pointer || is_scalar p.ty in
       let params : List CParam = params_from a.structs a.unit.vars 0 (parameters_of a.unit) in
-      let behind : List CParam = result_params a.unit.result ++ over_param ∷ [] in
+      let behind : List CParam = result_params a.unit.result ++ over_params (unit_may_end a.unit) in
       all_append test (memory_params a (remembers_any a)) (params ++ behind) (memory_scalar (remembers_any a))
       (all_append test params behind
       (params_all a.structs a.unit.vars test 0 (parameters_of a.unit) (λ i j var found. scalar_or_pointer a.structs var (scalar_in var.ty) refl))
-      (result_scalar a.unit.result))
+      (result_scalar a.unit.result (unit_may_end a.unit)))
 
   at_most : (n : ℕ) → n ≤ 300 → nat_le n 300 ≡ true
   at_most n le = grind (arith, nat_tests)

@@ -26,7 +26,7 @@ use Rattle.bl_emit_acts.specs.Expressions.{type_at}
 use Rattle.bl_emit_acts.specs.Places.{place_in}
 use Rattle.bl_emit_acts.specs.Trees.{c_read, nowhere}
 use Rattle.bl_emit_functions.specs.Statements.{else_code}
-use Rattle.bl_emit_functions.specs.Trees.{c_if}
+use Rattle.bl_emit_functions.specs.Trees.{c_if, c_truth}
 use Rattle.bl_emit_functions_laws_wellformed.proofs.OnFormed.Turns.{block-turns, one-turns, set-turns}
 use Rattle.bl_graph_nodes.specs.Nodes.{ActAt, Arguments, CheckAt, DepthEndAt, DepthJoinAt, EnterAt, ForkAt, HeadAt, Node, PauseAt}
 use Rattle.bl_graph_nodes.specs.Nodes.{ResumeAt, StartAt, SurfaceEndAt, SurfaceJoinAt, TestAt}
@@ -201,12 +201,14 @@ module _ (view : ActivityView) where
 
   -- ---- nodes
 
-  run-quiet : (n : NumberedWord) (u : ℕ) (arguments : Arguments) → Quiet (run_code view n u arguments)
-  run-quiet n u arguments = cons-quiet _ _ (set-still _ _) (one-quiet _ (call-still _))
-
   where-quiet : (test : Bool) (s : CStmt) → Still s → Quiet (stmt_where test s)
   where-quiet true s still = one-quiet s still
   where-quiet false s still = nothing
+
+  run-quiet : (n : NumberedWord) (u : ℕ) (arguments : Arguments) → Quiet (run_code view n u arguments)
+  run-quiet n u arguments =
+      append-quiet (stmt_where (may_end_in (slice_get view.site.earlier u)) (c_set ended_place (c_truth false))) _
+      (where-quiet (may_end_in (slice_get view.site.earlier u)) (c_set ended_place (c_truth false)) (set-still _ _)) (one-quiet _ (call-still _))
 
   target-quiet : (n : NumberedWord) (target : Option Path) → Quiet (target_code view n target)
   target-quiet n None = nothing

@@ -31,7 +31,7 @@ use Rattle.bl_machine.specs.Uses.{Slots}
 use Rattle.bl_machine_pass.specs.Transitions.{Age, Change, Transition}
 use Rattle.bl_machine_pass.specs.Transitions.{ClearsBoth, ClearsCounter, Flagged, IsNew, Rested, RestedIn, SetsCounter, SetsFlag, SetsMark, counters_in, counters_in_each, flagged, once}
 use Rattle.bl_machine_pass.specs.Transitions.{age_of, body_ends, enter, enter_each, fires, joins, marked, rests_in, rule_where, rules_in, rules_in_each, rules_of}
-use Rattle.bl_emit_spec_laws_nodes.specs.Points.Laws.{ends_body}
+use Rattle.bl_emit_spec_laws.specs.Registers.Laws.{ends_body}
 
 -- whether no change of a rule ends the body
 abbrev pub is_quiet : Transition → Bool
