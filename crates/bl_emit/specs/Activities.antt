@@ -159,7 +159,7 @@ entry_told view (rule ∷ rest) = entry_at view rule.number ∷ []
 abbrev pub code_by : ActivityView → List NumberedTransition → List (List ℕ) → List ℕ → List ℕ → List CStmt
 code_by view rules blocks counters copied =
     map rested_code counters
-    ++ (entry_told view rules ++ (map (c_copied view.site) copied ++ blocks_code (map (numbered_turn view) rules) blocks))
+    ++ (entry_told view rules ++ (map (c_copied view.site) copied ++ blocks_code view.word (map (numbered_turn view) rules) blocks))
 
 -- the body of the activity
 abbrev pub code_told : ActivityInput → List CStmt

@@ -2,10 +2,8 @@
 
 ghost use Rattle.std.specs.Prelude.{◌≡◌, ◌++◌, IfOk, OnOk, map, option_map};
 ghost use Rattle.bl_emit_acts.specs.Acts.{c_copied};
-ghost use Rattle.bl_emit_blocks.specs.Numbered.{numbered_turn};
 ghost use Rattle.bl_emit_blocks.specs.Views.{view_in};
-ghost use Rattle.bl_emit_spec.specs.Activities.{blocks_code, first_place, picked, rested_code};
-ghost use Rattle.bl_emit_spec.specs.Blocks.{merged_code};
+ghost use Rattle.bl_emit_spec.specs.Activities.{first_place, rested_code};
 ghost use Rattle.bl_machine_transitions.specs.Told.{rule_in};
 ghost use Rattle.bl_emit.specs.Activities.{code_by, entry_at, entry_told, entry_where};
 
@@ -14,7 +12,7 @@ use crate::names::counter_type;
 use crate::parts::equal;
 use bl_emit_acts::copied as copy_set;
 use bl_emit_acts::parts::{literal, member_at, numbered, read, set, whole};
-use bl_emit_blocks::{ActivityView, merged};
+use bl_emit_blocks::{ActivityView, add_blocks};
 use bl_emit_tables::node_named;
 use bl_machine_transitions::Transition;
 use bl_tree::c::{CPlace, CStmt};
@@ -105,40 +103,6 @@ fn add_copies(
 {
     for k in copied {
         code.push(copy_set(alloc, &view.site, *k)?)?;
-    }
-    Ok(())
-}
-
-/// Appends the `if` of a block, where that has a node.
-fn add_block(
-    alloc: Global,
-    view: &ActivityView,
-    rules: &[Transition],
-    block: &[u32],
-    code: &mut List<CStmt>,
-) -> Result<(), NoMemory>
-    ensures { OnOk result (code.new ≡ code.old
-        ++ merged_code (picked (map (numbered_turn (view_in view.entry.now)) (map rule_in rules.now)) block.now)) }
-{
-    if let Some(made) = merged(alloc, view, rules, block)? {
-        code.push(made)?;
-    }
-    Ok(())
-}
-
-/// Appends the `if`s of the blocks in their order.
-fn add_blocks(
-    alloc: Global,
-    view: &ActivityView,
-    rules: &[Transition],
-    blocks: &[List<u32>],
-    code: &mut List<CStmt>,
-) -> Result<(), NoMemory>
-    ensures { OnOk result (code.new ≡ code.old
-        ++ blocks_code (map (numbered_turn (view_in view.entry.now)) (map rule_in rules.now)) blocks.now) }
-{
-    for block in blocks {
-        add_block(alloc, view, rules, block, code)?;
     }
     Ok(())
 }

@@ -28,8 +28,8 @@ use Rattle.bl_emit_spec.specs.Blocks.{choice_code, layer_acted, name_in, rested_
 use Rattle.bl_emit_spec.specs.Blocks.{some_test, spelled_truth, stmt_where, target_code, word_at}
 use Rattle.bl_emit_spec.specs.Names.{NumberedWord, callee_frame, callee_memory, ended_place, frame_name, given_place}
 use Rattle.bl_emit_blocks.specs.Laws.{BlocksAlike}
-use Rattle.bl_emit_blocks.specs.Numbered.{numbered_aged, numbered_begun, numbered_change, numbered_changes, numbered_ends}
-use Rattle.bl_emit_blocks.specs.Numbered.{numbered_control, numbered_guard, numbered_own, numbered_resumed, numbered_tested, numbered_turn}
+use Rattle.bl_emit_blocks.specs.Numbered.{numbered_aged, numbered_begun, numbered_change, numbered_changes, numbered_control, numbered_ends, numbered_flag}
+use Rattle.bl_emit_blocks.specs.Numbered.{numbered_guard, numbered_own, numbered_part, numbered_resumed, numbered_tested, numbered_turn}
 
 module _ (site : TypingContext) (copies : List Bool) (word : ℕ → Text) (sizes : Sizes) (number other : Node → ℕ) (run same : Place → ℕ)
     (read seen held kept : ℕ → Bool) (runs : (at : Place) → run at ≡ same at) (reads : (k : ℕ) → read k ≡ seen k) (keeps : (k : ℕ) → held k ≡ kept k) where
@@ -105,13 +105,9 @@ module _ (site : TypingContext) (copies : List Bool) (word : ℕ → Text) (size
   target_same k (Some path) = refl
   target_same k None = refl
 
-  begun_same : (k : NumberedWord) (a : ℕ) (arguments : Arguments) (on_true : List Change) →
-      numbered_begun v k a arguments on_true ≡ numbered_begun w k a arguments on_true
-  begun_same k a arguments on_true =
-      ap (λ code. c_clear (callee_frame k) (frame_name (name_in (slice_get site.earlier a))) ∷ (code ++ numbered_changes v on_true))
-      (run_same k a arguments)
-      ∙ ap (λ code. c_clear (callee_frame k) (frame_name (name_in (slice_get site.earlier a))) ∷ (run_code w k a arguments ++ code))
-      (changes_same on_true)
+  begun_same : (k : NumberedWord) (a : ℕ) (on_true : List Change) → numbered_begun v k a on_true ≡ numbered_begun w k a on_true
+  begun_same k a on_true =
+      ap (λ code. c_clear (callee_frame k) (frame_name (name_in (slice_get site.earlier a))) ∷ code) (changes_same on_true)
 
   -- what is done where the activity has ended
   abbrev asked : ℕ → List CStmt → List CStmt
@@ -149,30 +145,38 @@ module _ (site : TypingContext) (copies : List Bool) (word : ℕ → Text) (size
       ap (λ on_true. choice_code test (spelled_truth test) on_true (numbered_changes v rule.on_false)) (changes_same rule.on_true)
       ∙ ap (λ other. choice_code test (spelled_truth test) (numbered_changes w rule.on_true) other) (changes_same rule.on_false)
 
-  own_same : (task : Task) → numbered_own v task ≡ numbered_own w task
-  own_same (Nothing kind) = refl
-  own_same (Acts s) = acted_same s
-  own_same (Tests e) = refl
-  own_same (Enters at a arguments) = refl
-  own_same (Resumes at a arguments) = refl
+  own_same : (rule : NumberedTransition) (task : Task) → numbered_own v rule task ≡ numbered_own w rule task
+  own_same rule (Nothing kind) = refl
+  own_same rule (Acts s) = acted_same s
+  own_same rule (Tests e) = refl
+  own_same rule (Enters at a arguments) =
+      begun_same (word_at v at a) a rule.on_true ∙ ap (λ n. numbered_begun w (run_word site.earlier n a) a rule.on_true) (runs at)
+  own_same rule (Resumes at a arguments) = refl
 
   control_same : (rule : NumberedTransition) (task : Task) → numbered_control v rule task ≡ numbered_control w rule task
   control_same rule (Nothing kind) = changes_same rule.on_true
   control_same rule (Acts s) = changes_same rule.on_true
   control_same rule (Tests e) = tested_same (code_made site e) rule
   control_same rule (Enters at a arguments) =
-      begun_same (word_at v at a) a arguments rule.on_true ∙ ap (λ n. numbered_begun w (run_word site.earlier n a) a arguments rule.on_true) (runs at)
+      run_same (word_at v at a) a arguments ∙ ap (λ n. run_code w (run_word site.earlier n a) a arguments) (runs at)
   control_same rule (Resumes at a arguments) =
       resumed_same (word_at v at a) a arguments rule.on_true ∙ ap (λ n. numbered_resumed w (run_word site.earlier n a) a arguments rule.on_true) (runs at)
 
-  abbrev turn : CExpr → List CStmt → List CStmt → NodeCode
-  turn test own control = record { test = test; own = own; control = control }
+  abbrev turn : NumberedTransition → CExpr → List CStmt → List CStmt → NodeCode
+  turn rule test own control = record {
+    test = test;
+    own = own;
+    control = control;
+    flag = numbered_flag rule.number rule.condition;
+    run = numbered_part rule.task;
+  }
 
   pub turn_same : (rule : NumberedTransition) → numbered_turn v rule ≡ numbered_turn w rule
   turn_same rule =
-      ap (λ (test : CExpr). turn test (numbered_own v rule.task) (numbered_control v rule rule.task)) (guard_same rule.number rule.condition)
-      ∙ (ap (λ (own : List CStmt). turn (numbered_guard w rule.number rule.condition) own (numbered_control v rule rule.task)) (own_same rule.task)
-      ∙ ap (λ (control : List CStmt). turn (numbered_guard w rule.number rule.condition) (numbered_own w rule.task) control)
+      ap (λ (test : CExpr). turn rule test (numbered_own v rule rule.task) (numbered_control v rule rule.task)) (guard_same rule.number rule.condition)
+      ∙ (ap (λ (own : List CStmt). turn rule (numbered_guard w rule.number rule.condition) own (numbered_control v rule rule.task))
+      (own_same rule rule.task)
+      ∙ ap (λ (control : List CStmt). turn rule (numbered_guard w rule.number rule.condition) (numbered_own w rule rule.task) control)
       (control_same rule rule.task))
 
 -- the same of any two such views

@@ -1,9 +1,8 @@
--- What blocks see of an activity, and turns, as the code has them.
+-- What blocks see of an activity, as the code has it.
 use Rattle.std.specs.Prelude.{false, slice_get, unwrap_or}
 use Rattle.bl_emit_acts.specs.Sites.{site_in}
 use Rattle.bl_machine_transitions.specs.Runs.{kept_number}
-use Rattle.bl_emit_spec.specs.Blocks.{ActivityView, NodeCode}
-use Rattle.bl_emit_blocks.specs.declared.turn.NodeCode.{NodeCode as KeptTurn}
+use Rattle.bl_emit_spec.specs.Blocks.{ActivityView}
 use Rattle.bl_emit_blocks.specs.declared.view.ActivityView.{ActivityView as Kept}
 use Rattle.bl_emit_tables.specs.Words.{kept_word}
 
@@ -19,7 +18,3 @@ view_in view = record {
   is_read = λ k. unwrap_or (slice_get view.read.now k) false;
   remembers = λ k. unwrap_or (slice_get view.remembers.now k) false;
 }
-
--- a turn
-abbrev pub turn_in : KeptTurn → NodeCode
-turn_in turn = record { test = turn.test; own = turn.own; control = turn.control }

@@ -1,23 +1,21 @@
-//! Blocks.
+//! What nodes do.
 
 ghost use Rattle.std.specs.Prelude.{◌≡◌, ◌∷◌, [], IfOk};
 ghost use Rattle.bl_emit_acts.specs.Acts.{c_set, code_made};
 ghost use Rattle.bl_emit_blocks.specs.Numbered as numbered;
-ghost use Rattle.bl_emit_blocks.specs.Views.{turn_in, view_in};
+ghost use Rattle.bl_emit_blocks.specs.Views.{view_in};
 ghost use Rattle.bl_emit_spec.specs.Blocks as blocks;
-ghost use Rattle.bl_emit_spec.specs.Blocks.{acted, turn_code};
+ghost use Rattle.bl_emit_spec.specs.Blocks.{acted};
 ghost use Rattle.bl_emit_spec.specs.Names.{result_place};
 ghost use Rattle.bl_machine_transitions.specs.Told.{rule_in, task_in};
 
 use crate::changes::changes;
-use crate::guards::guard;
 use crate::parts::{else_block, value};
 use crate::places::returned;
-use crate::runs::{begun, resumed};
-use crate::turn::NodeCode;
+use crate::runs::{begun, first_call, resumed};
 use crate::view::ActivityView;
 use bl_emit_acts::act;
-use bl_emit_acts::parts::{joined, set, single};
+use bl_emit_acts::parts::{set, single};
 use bl_emit_functions::parts::choice;
 use bl_machine_transitions::{Task, Transition};
 use bl_tree::c::{CExpr, CExprKind, CStmt};
@@ -87,41 +85,30 @@ fn tested(
 }
 
 /// What a node does itself.
-fn own(alloc: Global, view: &ActivityView, task: &Task) -> Result<List<CStmt>, NoMemory>
-    ensures { IfOk result (λ code. code ≡ numbered.numbered_own (view_in view.entry.now) (task_in task.now)) }
+pub fn own(alloc: Global, view: &ActivityView, rule: &Transition) -> Result<List<CStmt>, NoMemory>
+    ensures { IfOk result (λ code. code
+        ≡ numbered.numbered_own (view_in view.entry.now) (rule_in rule.entry.now) (task_in rule.entry.now.task)) }
 {
-    match task {
+    match &rule.task {
         Task::Act(s) => acted(alloc, view, s),
-        Task::Nothing(_) | Task::Test(_) | Task::Enter(_) | Task::Resume(_) => Ok(List::new(alloc)),
+        Task::Enter(run) => begun(alloc, view, run, &rule.on_true),
+        Task::Nothing(_) | Task::Test(_) | Task::Resume(_) => Ok(List::new(alloc)),
     }
 }
 
 /// How a node goes on.
-fn control(alloc: Global, view: &ActivityView, rule: &Transition) -> Result<List<CStmt>, NoMemory>
+pub fn control(
+    alloc: Global,
+    view: &ActivityView,
+    rule: &Transition,
+) -> Result<List<CStmt>, NoMemory>
     ensures { IfOk result (λ code. code
         ≡ numbered.numbered_control (view_in view.entry.now) (rule_in rule.entry.now) (task_in rule.entry.now.task)) }
 {
     match &rule.task {
         Task::Nothing(_) | Task::Act(_) => changes(alloc, view, &rule.on_true),
         Task::Test(e) => tested(alloc, view, e, rule),
-        Task::Enter(run) => begun(alloc, view, run, &rule.on_true),
+        Task::Enter(run) => first_call(alloc, view, run),
         Task::Resume(run) => resumed(alloc, view, run, &rule.on_true),
     }
-}
-
-/// The turn of a rule's node.
-pub fn turn(alloc: Global, view: &ActivityView, rule: &Transition) -> Result<NodeCode, NoMemory>
-    ensures { IfOk result (λ made. turn_in made ≡ numbered.numbered_turn (view_in view.entry.now) (rule_in rule.entry.now)) }
-{
-    let test = guard(alloc, view, rule.number, &rule.condition)?;
-    let own = own(alloc, view, &rule.task)?;
-    let control = control(alloc, view, rule)?;
-    Ok(NodeCode { test, own, control })
-}
-
-/// The `if` of a turn.
-pub fn turn_code(alloc: Global, turn: NodeCode) -> Result<CStmt, NoMemory>
-    ensures { IfOk result (λ made. made ≡ turn_code (turn_in turn)) }
-{
-    choice(alloc, turn.test, joined(turn.own, turn.control)?, None)
 }

@@ -3,6 +3,7 @@
 ghost use Rattle.std.specs.Prelude.{◌≡◌, IfOk};
 ghost use Rattle.bl_emit_blocks.specs.Numbered as numbered;
 ghost use Rattle.bl_emit_blocks.specs.Views.{view_in};
+ghost use Rattle.bl_emit_spec.specs.Blocks.{entered_by};
 
 use crate::counters::{rested_at, rested_in};
 use crate::places::{flag, mark};
@@ -42,5 +43,20 @@ pub fn guard(
         Condition::Rested(slot) => rested_at(alloc, view, *slot),
         Condition::RestedIn(slots) => rested_in(alloc, view, slots),
         Condition::Ended(age, needed) => aged(alloc, view, *age, ends(alloc, view, needed)?),
+    }
+}
+
+/// The test of a block, where the block before it may have left it a call: its own, or the flag of that block too.
+pub fn entered(
+    alloc: Global,
+    view: &ActivityView,
+    before: Option<u32>,
+    test: CExpr,
+) -> Result<CExpr, NoMemory>
+    ensures { IfOk result (λ e. e ≡ entered_by (view_in view.entry.now).word before test) }
+{
+    match before {
+        Some(k) => two(alloc, Op::Or, read(flag(alloc, view, k)?), test),
+        None => Ok(test),
     }
 }

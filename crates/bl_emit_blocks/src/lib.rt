@@ -1,5 +1,5 @@
-//! The C of the blocks of a pass (docs/C_SUBSET.md, "What `blechc` writes"). `merged` makes exactly the specified `if`
-//! of a block's nodes, by the turns of their rules (`specs/Numbered.antt`, `numbered_turn`); want of memory aside.
+//! The C of the blocks of a pass (docs/C_SUBSET.md, "What `blechc` writes"). `add_blocks` makes exactly the specified
+//! `if`s of blocks, by the turns of their nodes' rules (`specs/Numbered.antt`, `numbered_turn`); want of memory aside.
 //! `blocks_alike`: the result depends only on the fields in `Alike` (`specs/Laws.antt`).
 #![tactic(auto)]
 
@@ -15,10 +15,9 @@ mod parts;
 mod places;
 mod runs;
 mod tests;
-mod turn;
 mod view;
 
 pub use ends::{may_end_at, statement_where, unit_may_end};
 pub use laws::blocks_alike;
-pub use merging::merged;
+pub use merging::add_blocks;
 pub use view::ActivityView;

@@ -223,7 +223,7 @@ fn ended_code(
     statement_where(alloc, ends(view, run.unit), asked)
 }
 
-/// What a `run` does where it begins.
+/// What a `run` does where it begins, before its call.
 pub fn begun(
     alloc: Global,
     view: &ActivityView,
@@ -232,16 +232,21 @@ pub fn begun(
 ) -> Result<List<CStmt>, NoMemory>
     ensures { IfOk result (λ code. code
         ≡ numbered.numbered_begun (view_in view.entry.now) (blocks.word_at (view_in view.entry.now) run.entry.now.place run.entry.now.unit)
-        run.entry.now.unit (arguments_in run.entry.now) on_true.now) }
+        run.entry.now.unit on_true.now) }
 {
     let k = view.runs.find(run.place);
     let at = callee_frame(alloc, k, name(view, run.unit))?;
     let start = single(alloc, clear(alloc, at, frame(alloc, view, run.unit)?)?)?;
-    let rest = joined(
-        run_code(alloc, view, k, run)?,
-        changes(alloc, view, on_true)?,
-    )?;
-    joined(start, rest)
+    joined(start, changes(alloc, view, on_true)?)
+}
+
+/// The call of a `run` that begins.
+pub fn first_call(alloc: Global, view: &ActivityView, run: &Run) -> Result<List<CStmt>, NoMemory>
+    ensures { IfOk result (λ code. code
+        ≡ blocks.run_code (view_in view.entry.now) (blocks.word_at (view_in view.entry.now) run.entry.now.place run.entry.now.unit)
+        run.entry.now.unit (arguments_in run.entry.now)) }
+{
+    run_code(alloc, view, view.runs.find(run.place), run)
 }
 
 /// What it does where it goes on.

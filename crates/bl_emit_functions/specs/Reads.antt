@@ -1,5 +1,5 @@
 -- What C reads of the variables that a function holds, the members of its local `m`.
-use Rattle.std.specs.Prelude.{Bool, true, false, ◌||◌, List, map, Option, Some, None, bytes_eq, codes}
+use Rattle.std.specs.Prelude.{Bool, false, ◌||◌, List, map, Option, Some, None, bytes_eq, codes}
 use Rattle.bl_tree.specs.declared.text.Text.{Text}
 use Rattle.bl_tree.specs.declared.c.CArg.TheOpen.{CArg-F, CExprKind-F, CCall-F, CExpr-F, CIndex-F, CPlace-F, CStep-F}
 use Rattle.bl_tree.specs.declared.c.CArg.{CArg, fold-CArg}

@@ -1,4 +1,5 @@
 pub mod Activities
+pub mod Asked
 pub mod Blocks
 pub mod Decided
 pub mod Expressions

@@ -4,9 +4,10 @@
 //! `EachHasOneFunctionAndFrame`). A place that names a counter, a member `c` and digits, is `(*f).cN` in the function
 //! `a_A` whose `f` points to `struct f_A` (`CountersAreOwn`). So a counter of `struct f_A` is named in `a_A` alone
 //! (`CountersStandInOne`). The body of `a_A` is assignments, and then as many `if`s as the machine has blocks for A
-//! (`FilesHaveIfs`; `specs/Counters/Ifs.antt`, `HasIfForEach`). These `if`s ask for the flags of `a_A`, each for its
-//! own, and nothing in them asks for one. There is one flag for each block whose first node waits by its flag
-//! (`specs/Counters/Flags.antt`, `HasFlagForEach`).
+//! (`FilesHaveIfs`; `specs/Counters/Ifs.antt`, `HasIfForEach`). There is one flag for each block whose first node waits
+//! by its flag, and the `if` of that block asks for it (`specs/Counters/Flags.antt`, `HasFlagForEach`). The `if` of a
+//! block to which the block before leaves the call of a `run` asks first for the flag of that block. Nothing in these
+//! `if`s asks for a flag.
 
 ghost use Rattle.bl_emit_laws.specs.Counters.Laws.{FilesHaveIfs, FilesOwn};
 

@@ -33,8 +33,8 @@ use Rattle.bl_emit_functions.specs.Functions.{members_of, memory_name, params_fr
 use Rattle.bl_machine_pass.specs.Transitions.{Change, Condition, Transition}
 use Rattle.bl_machine_pass.specs.Transitions.{Ended, Flagged, Rested, RestedIn, SetsMark, rules}
 pub use Rattle.bl_machine_transitions.specs.Callees.{callees_in, node_number}
-use Rattle.bl_emit_spec.specs.Blocks.{ActivityView, NodeCode, Sizes, counter_type, counter_value, may_end_in, merged_code, name_in, node_word, run_word, turns_of}
-use Rattle.bl_emit_spec.specs.Blocks.{unit_may_end}
+use Rattle.bl_emit_spec.specs.Blocks.{ActivityView, NodeCode, Sizes, all_merged, counter_type, counter_value, may_end_in, name_in, node_word, run_word}
+use Rattle.bl_emit_spec.specs.Blocks.{turns_of, unit_may_end}
 use Rattle.bl_emit_spec.specs.Names.{NumberedWord, callee_name, counter_name, counter_place, ended_name, flag_name, flag_place, frame_name}
 use Rattle.bl_emit_spec.specs.Names.{given_name, mark_name, rested_name, rested_place}
 use Rattle.bl_emit_spec.specs.Words.{word_in}
@@ -307,13 +307,12 @@ abbrev pub turns_in_source : Activity → List NodeCode
 turns_in_source a = turns_of (activity_view a) (callees_in (body_of a)) (rules_at a)
 
 -- the `if`s of blocks, which have nodes by their positions
-abbrev pub blocks_code : List NodeCode → List (List ℕ) → List CStmt
-blocks_code turns [] = []
-blocks_code turns (block ∷ rest) = merged_code (picked turns block) ++ blocks_code turns rest
+abbrev pub blocks_code : (ℕ → Text) → List NodeCode → List (List ℕ) → List CStmt
+blocks_code word turns blocks = all_merged word None (map (picked turns) blocks)
 
 -- the `if`s of the activity's blocks, in order
 abbrev pub blocks_in_order : Activity → List CStmt
-blocks_in_order a = blocks_code (turns_in_source a) a.blocks
+blocks_in_order a = blocks_code (activity_view a).word (turns_in_source a) a.blocks
 
 -- the body: copies of what held when the tick began, and the blocks in their order
 abbrev pub activity_code : Activity → List CStmt

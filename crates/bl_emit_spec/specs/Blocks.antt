@@ -20,6 +20,7 @@ use Rattle.bl_tree.specs.declared.tree.StmtKind.TheOpen.{StmtKind-F}
 use Rattle.bl_tree.specs.declared.tree.Unit.{Unit as UnitDef}
 use Rattle.bl_tree.specs.Numbers.{is_one}
 use Rattle.bl_tree.specs.Returns.{last_of}
+use Rattle.bl_tree.specs.Rules.{same_place}
 use Rattle.bl_tree.specs.Typing.{TypingContext}
 use Rattle.bl_graph_nodes.specs.Nodes.{ActAt, Arguments, CheckAt, EnterAt, Node, ResumeAt, TestAt}
 use Rattle.bl_machine.specs.declared.slots.Slot.{Slot}
@@ -305,41 +306,61 @@ choice_code test (Some false) on_true on_false = on_false
 abbrev pub test_code : ActivityView → CExpr → Transition → List CStmt
 test_code view test rule = choice_code test (spelled_truth test) (changes_code view rule.on_true) (changes_code view rule.on_false)
 
--- what a `run` at a node does where it begins, and where it goes on; its C names have the number and word
-abbrev pub begun_code : ActivityView → NumberedWord → ℕ → Arguments → Transition → List CStmt
-begun_code view k a arguments rule =
-    c_clear (callee_frame k) (frame_name (name_in (slice_get view.site.earlier a)))
-    ∷ (run_code view k a arguments ++ changes_code view rule.on_true)
+-- what a `run` does where it begins, before its call: the callee's frame is cleared, and the changes are made. Its C names have the number and word
+abbrev pub begun_code : ActivityView → NumberedWord → ℕ → Transition → List CStmt
+begun_code view k a rule = c_clear (callee_frame k) (frame_name (name_in (slice_get view.site.earlier a))) ∷ changes_code view rule.on_true
 
--- where it goes on, it is asked whether what it calls has ended. Of an activity that never ends this isn't asked
+-- what a `run` does where it goes on: the call, behind which it is asked whether what it calls has ended. Of an activity that never ends this isn't asked
 abbrev pub resumed_code : ActivityView → NumberedWord → ℕ → Arguments → Transition → List CStmt
 resumed_code view k a arguments rule =
     run_code view k a arguments
     ++ stmt_where (may_end_in (slice_get view.site.earlier a))
     (c_if (c_read ended_place) (target_code view k arguments.target ++ changes_code view rule.on_true) None)
 
--- what a node does itself, before it is decided which nodes have their turns next: an act is done
-abbrev pub own_code : ActivityView → Node → List CStmt
-own_code view (ActAt l s) = acted view s
-own_code view n = []
+-- what a node does itself, before it is decided which nodes have their turns next: an act is done, and a `run` is made ready for its first call
+abbrev pub own_code : ActivityView → ℕ → Transition → Node → List CStmt
+own_code view a rule (ActAt l s) = acted view s
+own_code view a rule (EnterAt l at arguments) = begun_code view (word_at view at a) a rule
+own_code view a rule n = []
 
--- how a node goes on, by its rule: changes, a test, or a `run`; of a `run` the number tells the activity that it calls
+-- how a node goes on, by its rule: changes, a test, or the call of a `run`; of a `run` the number tells the activity that it calls
 abbrev pub control_code : ActivityView → ℕ → Transition → Node → List CStmt
 control_code view a rule (TestAt l at e) = test_code view (code_made view.site e) rule
 control_code view a rule (CheckAt l at e) = test_code view (code_made view.site e) rule
-control_code view a rule (EnterAt l at arguments) = begun_code view (word_at view at a) a arguments rule
+control_code view a rule (EnterAt l at arguments) = run_code view (word_at view at a) a arguments
 control_code view a rule (ResumeAt l at arguments) = resumed_code view (word_at view at a) a arguments rule
 control_code view a rule n = changes_code view rule.on_true
 
 -- what a node does in its turn, by its rule
 abbrev pub node_code : ActivityView → ℕ → Transition → Node → List CStmt
-node_code view a rule n = own_code view n ++ control_code view a rule n
+node_code view a rule n = own_code view a rule n ++ control_code view a rule n
+
+-- the part of a node in a `run`: none, or it begins the one at the place, or it goes on with it
+pub data RunPart : Type 0 where
+  NoRun : RunPart
+  Begins : Place → RunPart
+  GoesOn : Place → RunPart
+
+-- the part of a node in a `run`
+abbrev pub run_part : Node → RunPart
+run_part (EnterAt l at arguments) = Begins at
+run_part (ResumeAt l at arguments) = GoesOn at
+run_part n = NoRun
+
+-- whether the second part goes on with the `run` that the first one begins
+abbrev pub same_run : RunPart → RunPart → Bool
+same_run (Begins at) (GoesOn other) = same_place at other
+same_run _ _ = false
 
 -- the code of a node in C: the test that guards it, its own code, and the control code, which tells what goes on after it
 pub record NodeCode : Type 0 where
   pub test : CExpr
   pub own : List CStmt
   pub control : List CStmt
+  -- the number of the flag for which the test asks, where it asks for that of the node
+  pub flag : Option ℕ
+  -- its part in a `run`
+  pub run : RunPart
 
 -- all that a node does in its turn
 abbrev pub whole_code : NodeCode → List CStmt
@@ -349,23 +370,71 @@ whole_code turn = turn.own ++ turn.control
 abbrev pub turn_code : NodeCode → CStmt
 turn_code turn = c_if turn.test (whole_code turn) None
 
--- The code of a block from one of its nodes on: the own code of each node, and the control code of the last one. The control code of the others is left
--- out, since each of them leads to the node behind it and nowhere else
-abbrev pub fused_code : NodeCode → List NodeCode → List CStmt
-fused_code last [] = whole_code last
-fused_code turn (next ∷ rest) = turn.own ++ fused_code next rest
+-- the control code of a block's last node, unless the block leaves its call to the next one
+abbrev pub control_unless : Bool → NodeCode → List CStmt
+control_unless true turn = []
+control_unless false turn = turn.control
 
--- the `if` of a block: its condition is the test of the first node, and its statements are the code of all nodes
-abbrev pub merged_code : List NodeCode → List CStmt
-merged_code [] = []
-merged_code (first ∷ rest) = c_if first.test (fused_code first rest) None ∷ []
+-- The code of a block from one of its nodes on: the own code of each node, and the control code of the last one, unless the block leaves its call to the next
+-- one. The control code of the others is left out, since each of them leads to the node behind it and nowhere else
+abbrev pub fused_code : Bool → NodeCode → List NodeCode → List CStmt
+fused_code leaves last [] = last.own ++ control_unless leaves last
+fused_code leaves turn (next ∷ rest) = turn.own ++ fused_code leaves next rest
+
+-- the test of a block: that of its first node, or where the block before leaves its call, the flag of that block or the test. Numbers have these words
+abbrev pub entered_by : (ℕ → Text) → Option ℕ → CExpr → CExpr
+entered_by word None test = test
+entered_by word (Some k) test = c_two Or (c_read (flag_place (with_word word k))) test
+
+-- The `if` of a block: its condition is the test of the first node, and its statements are the code of all nodes. The number is that of the flag of the
+-- block before, where that leaves its call to this one; the test tells whether this one leaves its call
+abbrev pub merged_code : (ℕ → Text) → Option ℕ → Bool → List NodeCode → List CStmt
+merged_code word before leaves [] = []
+merged_code word before leaves (first ∷ rest) = c_if (entered_by word before first.test) (fused_code leaves first rest) None ∷ []
+
+-- the last of some turns
+abbrev pub last_turn : NodeCode → List NodeCode → NodeCode
+last_turn turn [] = turn
+last_turn turn (next ∷ rest) = last_turn next rest
+
+-- the first of some turns
+abbrev pub first_turn : List NodeCode → Option NodeCode
+first_turn [] = None
+first_turn (turn ∷ rest) = Some turn
+
+-- the first turn of the first one of some blocks
+abbrev pub next_turn : List (List NodeCode) → Option NodeCode
+next_turn [] = None
+next_turn (block ∷ rest) = first_turn block
+
+-- The flag of a block that leaves the call of its `run` to the next block: its last node begins the `run`, and the first node of the next block goes on with
+-- it. So the call stands there once. A flag has its value in the next block still, and another test may not. So only blocks behind a flag leave their calls
+abbrev pub leaving_flag : List NodeCode → Option NodeCode → Option ℕ
+leaving_flag (first ∷ rest) (Some next) = if same_run (last_turn first rest).run next.run then first.flag else None
+leaving_flag _ _ = None
+
+-- the `if`s of blocks. The number is that of the flag of the block before them, where that leaves its call to the first of them
+abbrev pub all_merged : (ℕ → Text) → Option ℕ → List (List NodeCode) → List CStmt
+all_merged word before [] = []
+all_merged word before (block ∷ rest) =
+    let left = leaving_flag block (next_turn rest) in
+    merged_code word before (is_some left) block ++ all_merged word left rest
+
+-- the number of the flag of a rule's node, where the rule asks for it
+abbrev pub flag_asked : ActivityView → Node → Condition → Option ℕ
+flag_asked view n Flagged = Some (view.number n)
+flag_asked view n (Rested slot) = None
+flag_asked view n (RestedIn slots) = None
+flag_asked view n (Ended age needed) = None
 
 -- the turn of a rule's node; of a `run` the number tells the activity that it calls
 abbrev pub node_turn : ActivityView → ℕ → Transition → NodeCode
 node_turn view a rule = record {
   test = guard_of view rule.node rule.condition;
-  own = own_code view rule.node;
+  own = own_code view a rule rule.node;
   control = control_code view a rule rule.node;
+  flag = flag_asked view rule.node rule.condition;
+  run = run_part rule.node;
 }
 
 -- the `if` of a rule's node

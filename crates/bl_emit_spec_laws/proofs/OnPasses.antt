@@ -1,4 +1,8 @@
+pub mod Asking
 pub mod Blocks
 pub mod Passing
+pub mod Same
+pub mod Standing
+pub mod Stepping
 pub mod Straight
 pub mod Turns

@@ -19,7 +19,7 @@ use Rattle.bl_machine_pass_laws_execution.specs.Frames.{Frames}
 use Rattle.bl_emit_spec.specs.Activities.{Activity, activity_view, first_rules, picked, turns_in_source}
 use Rattle.bl_emit_spec.specs.Blocks.{NodeCode, node_turn}
 use Rattle.bl_emit_spec_laws.specs.Calls.Built.{Activities, activity_at, cleared, last_rules, rank_by, registered, slots_by}
-use Rattle.bl_emit_spec_laws.specs.Calls.Laws.{BlocksSimulate, CalledAt, CompilationContext, GuardsChoose, PassesSimulate}
+use Rattle.bl_emit_spec_laws.specs.Calls.Laws.{BlocksSimulate, CalledAt, CompilationContext, GuardsChoose, PassesSimulate, StartsSimulate}
 use Rattle.bl_emit_spec_laws.specs.Within.{PassesStayWithin}
 
 -- ---- where blocks stand
@@ -110,11 +110,12 @@ pub record TurnsFit (structs : List StructDef) (units : List UnitDef) (entry : �
       CompilationContext structs units entry machine activities → unit_at w i ≡ Some unit → StoreFits w left → values_fit structs unit.vars copies ≡ true →
       values_fit structs unit.vars (recopied w i n left copies) ≡ true
 
--- the blocks of each function simulate a pass by rules, where the blocks of points and of `run`s simulate their nodes
+-- the blocks of each function simulate a pass by rules, where the blocks of points and of `run`s simulate their nodes, also where a start leaves its call
 abbrev pub BlocksPass : Type 0
 BlocksPass =
     (structs : List StructDef) (units : List UnitDef) (entry : ℕ) (machine : List InMachine) (activities : Activities) →
     BlocksPlaced structs units entry machine activities → TurnsFit structs units entry machine activities →
     PassesStayWithin structs units entry machine activities →
     BlocksSimulate structs units entry machine activities IsPoint → BlocksSimulate structs units entry machine activities (λ n. IsPoint n → ⊥) →
-    GuardsChoose structs units entry machine activities → PassesSimulate structs units entry machine activities
+    StartsSimulate structs units entry machine activities → GuardsChoose structs units entry machine activities →
+    PassesSimulate structs units entry machine activities

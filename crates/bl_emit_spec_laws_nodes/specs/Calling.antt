@@ -38,7 +38,7 @@ use Rattle.bl_machine_pass_laws_execution.specs.Executes.{CopiesMatch, Executes,
 use Rattle.bl_machine_pass_laws_execution.specs.Frames.{Frames}
 use Rattle.bl_emit_spec_laws.specs.Calls.Built.{Activities, activity_at, cleared, rank_by, run_by, site_at, slots_by, unit_number}
 use Rattle.bl_emit_spec_laws.specs.Calls.Calls.{CallAddresses, CallBegins, CallLeaves, MayGive, PassStarts, passed_to}
-use Rattle.bl_emit_spec_laws.specs.Calls.Laws.{BlocksSimulate, CompilationContext, Midway, PassKeepsFrame}
+use Rattle.bl_emit_spec_laws.specs.Calls.Laws.{BlocksSimulate, CompilationContext, Midway, PassKeepsFrame, StartsSimulate}
 use Rattle.bl_emit_spec_laws.specs.Calls.Memories.{Nests, inner}
 use Rattle.bl_emit_spec_laws.specs.Calls.Invariant.{PassRepresents}
 use Rattle.bl_emit_spec_laws_nodes.specs.Points.Points.{PointsStand}
@@ -183,10 +183,10 @@ pub record TargetsSeen (w : Setting) (activities : Activities) : Type 0 where
 
 -- ---- the blocks
 
--- the blocks of `run`s simulate them
+-- the blocks of `run`s simulate them, also where a start leaves its call to the next block
 abbrev pub RunsSimulate : List StructDef → List UnitDef → ℕ → Type 0
 RunsSimulate structs units entry =
     (machine : List InMachine) (activities : Activities) → RunsEstablish structs units entry machine activities →
     RunsLeave structs units entry machine activities → TargetsSeen (setting_of structs units entry) activities →
     (CompilationContext structs units entry machine activities → PointsStand structs units entry activities) →
-    BlocksSimulate structs units entry machine activities (λ n. IsPoint n → ⊥)
+    BlocksSimulate structs units entry machine activities (λ n. IsPoint n → ⊥) × StartsSimulate structs units entry machine activities

@@ -81,6 +81,9 @@ module _ (structs : List StructDef) (units : List UnitDef) (entry : ℕ) (parts 
     pub compiled_simulate : ActivitiesSimulate structs units entry machine activities
     compiled_simulate =
         let points = parts.points machine activities (λ ok. points_stand) in
+        let runs = parts.runs machine activities
+        (parts.given machine activities (parts.runs_copied structs units entry compiled.well_typed)) (parts.left structs units entry machine activities)
+        (parts.targets structs units entry machine activities compiled) (λ ok. points_stand) in
         parts.activities structs units entry machine activities parts.functions
         (parts.begin machine activities (parts.remember structs units entry machine activities)
         (parts.counters structs units entry machine activities compiled.well_typed compiled.passes compiled.agrees compiled.built))
@@ -88,10 +91,8 @@ module _ (structs : List StructDef) (units : List UnitDef) (entry : ℕ) (parts 
         (λ i unit store ok there fits. (parts.views structs units entry i unit store ok.well_typed there fits).now)
         (parts.remember structs units entry machine activities)
         (parts.pass structs units entry machine activities (parts.placed structs units entry machine activities)
-        (parts.turns structs units entry machine activities) (parts.stay structs units entry machine activities) points.0
-        (parts.runs machine activities
-        (parts.given machine activities (parts.runs_copied structs units entry compiled.well_typed)) (parts.left structs units entry machine activities)
-        (parts.targets structs units entry machine activities compiled) (λ ok. points_stand)) points.1)
+        (parts.turns structs units entry machine activities) (parts.stay structs units entry machine activities) points.0 runs.0
+        runs.1 points.1)
 
 pub whole : (structs : List StructDef) (units : List UnitDef) (entry : ℕ) → Parts structs units entry → CompiledSimulate structs units entry
 whole structs units entry parts machine activities limits compiled = compiled_simulate structs units entry parts machine activities limits compiled

@@ -1,12 +1,16 @@
-pub mod Asking
+pub mod Begun
 pub mod Blocks
+pub mod Called
 pub mod Calls
+pub mod Changing
 pub mod Clearing
 pub mod Inner
 pub mod Numbering
 pub mod Placing
 pub mod Plain
 pub mod Running
+pub mod Starts
+pub mod Stated
 pub mod Statements
 pub mod Targets
 pub mod Written

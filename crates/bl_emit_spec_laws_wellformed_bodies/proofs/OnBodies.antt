@@ -1,5 +1,6 @@
 pub mod Lists
 pub mod Running
+pub mod Starts
 pub mod Variables
 pub mod Guards
 pub mod Calls

@@ -1,2 +1,3 @@
+pub mod Beginning
 pub mod Executing
 pub mod Points

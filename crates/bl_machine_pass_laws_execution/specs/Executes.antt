@@ -8,6 +8,7 @@ use Rattle.bl_tree.specs.declared.tree.StmtKind.{out-StmtKind}
 use Rattle.bl_tree.specs.declared.tree.StmtKind.TheOpen.{StmtKind-F}
 use Rattle.bl_tree.specs.declared.tree.Unit.{Unit as UnitDef}
 use Rattle.bl_tree.specs.declared.value.Value.{Value}
+use Rattle.bl_tree.specs.Rules.{same_place}
 use Rattle.bl_graph_nodes.specs.Nodes.{
   ActAt,
   Arguments,
@@ -101,6 +102,17 @@ ClearsInside w clear = (i : ℕ) (frames : Frames) → ChangeOnly (Inside w i) f
 abbrev pub HasRule : (ℕ → Slots) → ℕ → UnitDef → Transition → Type 0
 HasRule slots i unit rule = Contains (rules (slots i) (plain_body unit.body)) rule
 
+-- the second node goes on with a `run` at the place at which the first one begins one
+abbrev pub IsSameRun : Node → Node → Type 0
+IsSameRun (EnterAt l at arguments) (ResumeAt l' at' arguments') = same_place at at' ≡ true
+IsSameRun _ _ = ⊥
+
+-- where the rule's node begins a `run`, no later node that goes on with a `run` at the same place is due
+abbrev pub BeginsAlone : (ℕ → Node → ℕ) → (ℕ → Slots) → ℕ → UnitDef → Transition → Registers → Type 0
+BeginsAlone rank slots i unit rule r =
+    (other : Transition) → HasRule slots i unit other → IsSameRun rule.node other.node → rank i rule.node < rank i other.node →
+    is_due (rank i) other r ≡ false
+
 mutual
   -- Executes w rank slots clear i k frames store copies r frames' left r': the nodes of the instance from the number k on have their turns in order. Each has
   -- its turn where its rule is due, and the copies hold what the node asks for. The store becomes `left`, the registers r', and the frames of called instances
@@ -117,11 +129,12 @@ mutual
         ((rule : Transition) → HasRule slots i unit rule → rank i rule.node ≡ k → is_due (rank i) rule r ≡ false) →
         Executes w rank slots clear i (suc k) frames store copies r frames' left r' →
         Executes w rank slots clear i k frames store copies r frames' left r'
-    -- the rule of the node is due: its deed is done, and the registers change as the rule says
+    -- the rule of the node is due: its deed is done, and the registers change as the rule says. Where a `run` begins, no later node that goes on with it is due
     acts : {i k : ℕ} {frames : Frames} {store : Store} {copies : List Value} {r : Registers} {answer : Bool} {inner : Frames} {between : Store}
         {frames' : Frames} {left : Store} {r' : Registers} {unit : UnitDef} → unit_at w i ≡ Some unit → (rule : Transition) → HasRule slots i unit rule →
         rank i rule.node ≡ k →
-        is_due (rank i) rule r ≡ true → CopiesMatch w i rule.node store copies → Performs w rank slots clear i rule.node frames store answer inner between →
+        is_due (rank i) rule r ≡ true → BeginsAlone rank slots i unit rule r → CopiesMatch w i rule.node store copies →
+        Performs w rank slots clear i rule.node frames store answer inner between →
         Executes w rank slots clear i (suc k) inner between (recopied w i rule.node between copies) (after_rule (rank i) rule answer r) frames' left r' →
         Executes w rank slots clear i k frames store copies r frames' left r'
 
@@ -160,7 +173,8 @@ mutual
         PassTraps w rank slots clear i (suc k) frames store copies r → PassTraps w rank slots clear i k frames store copies r
     goes_on : {i k : ℕ} {frames : Frames} {store : Store} {copies : List Value} {r : Registers} {answer : Bool} {inner : Frames} {between : Store}
         {unit : UnitDef} → unit_at w i ≡ Some unit → (rule : Transition) → HasRule slots i unit rule → rank i rule.node ≡ k →
-        is_due (rank i) rule r ≡ true → CopiesMatch w i rule.node store copies → Performs w rank slots clear i rule.node frames store answer inner between →
+        is_due (rank i) rule r ≡ true → BeginsAlone rank slots i unit rule r → CopiesMatch w i rule.node store copies →
+        Performs w rank slots clear i rule.node frames store answer inner between →
         PassTraps w rank slots clear i (suc k) inner between (recopied w i rule.node between copies) (after_rule (rank i) rule answer r) →
         PassTraps w rank slots clear i k frames store copies r
     traps : {i k : ℕ} {frames : Frames} {store : Store} {copies : List Value} {r : Registers} {unit : UnitDef} → unit_at w i ≡ Some unit →

@@ -21,19 +21,7 @@ use Rattle.bl_eval.proofs.PassLemmas.{both}
 use Rattle.bl_ctext.specs.declared.builtin.Builtin.{Builtin}
 use Rattle.bl_ctext.specs.declared.builtin.Builtin.TheVariants.{Two, One, Cast}
 use Rattle.bl_ctext_semantics.specs.Builtin.{builtin_of, in_c, widest}
-use Rattle.bl_ctext_semantics.specs.Faults.{
-  Context,
-  Signature,
-  bool_type,
-  builtin_signature,
-  by_value,
-  fit_each,
-  fits_param,
-  is_number_type,
-  signature_as,
-  signature_of,
-  takes,
-}
+use Rattle.bl_ctext_semantics.specs.Faults.{Context, bool_type, builtin_signature, by_value, fits_param, is_number_type, signature_as, signature_of, takes}
 use Rattle.bl_emit_acts.specs.declared.made.Made.{Made}
 use Rattle.bl_emit_acts.specs.declared.made.Made.TheVariants.{Number, Whole}
 use Rattle.bl_emit_acts.specs.Expressions.{

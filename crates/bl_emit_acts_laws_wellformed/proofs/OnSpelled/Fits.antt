@@ -40,7 +40,6 @@ use Rattle.bl_eval.proofs.FitLemmas.{same_scalar_is, same_type_is, structs_at}
 use Rattle.bl_eval.proofs.OperatorFits.{scalar_alone, some_found, where_holds}
 use Rattle.bl_eval.proofs.PartFits.{type_of_part}
 use Rattle.bl_eval.proofs.PassLemmas.{all_at, and_left, and_right, both}
-use Rattle.bl_ctext.specs.Names.{is_name}
 use Rattle.bl_ctext.specs.Spellable.{is_length}
 use Rattle.bl_ctext.specs.inner.Fits.{arg_fits, expr_fits, place_fits, step_fits}
 use Rattle.bl_ctext.specs.inner.Prefixes.{is_source_name}

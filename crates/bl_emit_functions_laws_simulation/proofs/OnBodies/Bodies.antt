@@ -25,7 +25,8 @@ use Rattle.bl_tree.proofs.StmtInduction.{Cases, Each, EachArm, induct, stmt}
 use Rattle.bl_effects.specs.Rules.{Aliased, aliases_in, arm_aliases, branch_aliases, kind_aliases, stmt_aliases}
 use Rattle.bl_eval.specs.Changes.{choice_of}
 use Rattle.bl_eval.specs.declared.datum.Datum.{Datum}
-use Rattle.bl_eval.specs.Functions.{Flow, GuardedBlock, StmtMeaning, condition, does, first_true_choice, flow_then, in_order, looped, most_turns, own, returned, truth}
+use Rattle.bl_eval.specs.Functions.{Flow, GuardedBlock, StmtMeaning, condition, does, first_true_choice, flow_then, in_order, looped, most_turns, own}
+use Rattle.bl_eval.specs.Functions.{returned, truth}
 use Rattle.bl_eval.specs.Meaning.{Scope as Sees, meaning_of}
 use Rattle.bl_eval.proofs.MeaningLemmas.{choice_out}
 use Rattle.bl_eval.proofs.PassLemmas.{and_left, and_right}
@@ -56,7 +57,8 @@ use Rattle.bl_emit_functions.specs.Statements.{
   turn_taken,
 }
 use Rattle.bl_emit_functions.specs.Trees.{c_break, c_if, c_loop, c_return, c_truth, turn_name}
-use Rattle.bl_emit_functions_laws_simulation.proofs.OnBodies.Courses.{Chosen, EndsAt, Leaves, Numbers, Tests, TurnAt, TurnOver, Turns, alone_alike, alone_leaves}
+use Rattle.bl_emit_functions_laws_simulation.proofs.OnBodies.Courses.{Chosen, EndsAt, Leaves, Numbers, Tests, TurnAt, TurnOver, Turns, alone_alike}
+use Rattle.bl_emit_functions_laws_simulation.proofs.OnBodies.Courses.{alone_leaves}
 use Rattle.bl_emit_functions_laws_simulation.proofs.OnBodies.Courses.{append_alike, break-runs, if_comes, if_leaves, loop_leaves, nothing_leaves, return_leaves}
 use Rattle.bl_emit_functions_laws_simulation.proofs.OnBodies.Courses.{return_none_leaves, seq_leaves, since}
 use Rattle.bl_emit_functions_laws_simulation.proofs.OnBodies.Flags.{ArmDoes, ArmsDo, arms_grow, flag_at, flag_in, flagged_leaves, truth-value}

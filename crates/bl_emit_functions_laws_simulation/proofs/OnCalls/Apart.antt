@@ -3,7 +3,8 @@ use Rattle.std.proofs.Common.{◌≡◌, ℕ, Bool, true, false, not, ◌&&◌, 
 use Rattle.std.proofs.lemmas.Bool.{eq-eqb, eqb-true}
 use Rattle.std.proofs.lemmas.Cmp.{nat_list_eq_equiv}
 use Rattle.std.specs.Prelude.{◌==◌}
-use Rattle.bl_ctext_semantics.specs.Memory.{Location, Projection, Root, element, input_object, member, output_object, same_part, same_root, state_object, variable}
+use Rattle.bl_ctext_semantics.specs.Memory.{Location, Projection, Root, element, input_object, member, output_object, same_part, same_root}
+use Rattle.bl_ctext_semantics.specs.Memory.{state_object, variable}
 use Rattle.bl_emit_acts_laws_simulation.specs.Encodes.{are_apart, ways_part}
 
 same_number_flip : (j k : ℕ) → (j == k) ≡ (k == j)

@@ -98,7 +98,8 @@ module _ (structs : List StructDef) (depth : ℕ) (here : Memory) where
     h.2,
   )
 
-  input_at : (vars : List Var) (values : List Value) (passed : List ArgumentValue) (j : ℕ) (var : Var) → ArgumentsEncoded structs depth here vars values passed →
+  input_at : (vars : List Var) (values : List Value) (passed : List ArgumentValue) (j : ℕ) (var : Var) →
+      ArgumentsEncoded structs depth here vars values passed →
       list_all (λ (var : Var). is_input var.role) vars ≡ true → slice_get vars j ≡ Some var → At values passed j var
   input_at [] values passed j var holds role there = absurd (cc)
   input_at (v ∷ vars) [] passed j var holds role there = absurd holds

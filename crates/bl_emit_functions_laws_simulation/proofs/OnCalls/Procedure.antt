@@ -28,7 +28,8 @@ use Rattle.bl_eval.proofs.PassLemmas.{all_drop, and_left, and_right, pass_append
 use Rattle.bl_eval.proofs.UnitFits.{sound_at}
 use Rattle.bl_ctext_semantics.specs.Course.{Outcome, result_at}
 use Rattle.bl_ctext_semantics.specs.Meaning.{ArgumentValue, CallResult, Meaning, Scope, block_c, by_address, function_c, further}
-use Rattle.bl_ctext_semantics.specs.Memory.{Location, Memory, Projection, Root, input_object, left_after, output_object, same_root, state_object, value_at, variable}
+use Rattle.bl_ctext_semantics.specs.Memory.{Location, Memory, Projection, Root, input_object, left_after, output_object, same_root, state_object}
+use Rattle.bl_ctext_semantics.specs.Memory.{value_at, variable}
 use Rattle.bl_ctext_semantics.specs.Tables.{Table}
 use Rattle.bl_emit_acts.specs.declared.home.Home.{Home}
 use Rattle.bl_emit_acts.specs.declared.home.Home.TheVariants.{Held, Given, Lent}
@@ -43,7 +44,8 @@ use Rattle.bl_emit_functions.specs.Functions.{first_held}
 use Rattle.bl_emit_functions.specs.Trees.{flag_name}
 use Rattle.bl_emit_functions.specs.Reads.{reads_in_block}
 use Rattle.bl_emit_functions_laws_simulation.specs.Bodies.{FlowSimulates, Represents, Spared, StatementsSimulate, number_back}
-use Rattle.bl_emit_functions_laws_simulation.specs.Calls.{EndsFor, FrameBegun, HandedOver, MayRun, ProceduresSimulate, is_copied_input, memory_begun, scope_begun}
+use Rattle.bl_emit_functions_laws_simulation.specs.Calls.{EndsFor, FrameBegun, HandedOver, MayRun, ProceduresSimulate, is_copied_input, memory_begun}
+use Rattle.bl_emit_functions_laws_simulation.specs.Calls.{scope_begun}
 use Rattle.bl_emit_functions_laws_simulation.proofs.OnCalls.Frame.{Where, frame_begun, holds_same, leads, where_is}
 use Rattle.bl_emit_functions_laws_simulation.proofs.OnCalls.Handing.{get_behind, handed_over, in_either, inputs_many, output_place}
 use Rattle.bl_emit_functions_laws_simulation.proofs.OnCalls.Kept.{keep, older_differs}
@@ -345,7 +347,8 @@ module _ (structs : List StructDef) (units : List UnitDef) (entry k : ℕ) (unit
       no_copy h = no_such (sym h)
 
   left : (now : List Value) → Represents site scope now done.memory → Spared site scope 0 begun done.memory → result_at done.end ≡ Some (pos 0) →
-      (result : Option Datum) → RepresentsAfterCall structs (outputs_of unit) depth outputs here (record { outputs = outputs_in unit now; result = result }) called
+      (result : Option Datum) →
+      RepresentsAfterCall structs (outputs_of unit) depth outputs here (record { outputs = outputs_in unit now; result = result }) called
   left now stand spared end result = record {
     returned = end;
     outputs =

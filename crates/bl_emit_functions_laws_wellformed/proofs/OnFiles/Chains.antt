@@ -61,7 +61,8 @@ module _ (weight : Text → ℕ) (prelude : (word : Text) (s : ScalarType) → w
 
   body_few_of : (unit : UnitDef) → Under by n (calls_of unit) → Few weight prelude n (body_code site unit)
   body_few_of unit few =
-      then_few weight prelude n (copies_from site 0 (inputs_of unit)) ((body_coded site unit).code ++ end_code unit.result (code_returns (body_coded site unit).code))
+      then_few weight prelude n (copies_from site 0 (inputs_of unit))
+      ((body_coded site unit).code ++ end_code unit.result (code_returns (body_coded site unit).code))
       (copies_few 0 (inputs_of unit))
       (then_few weight prelude n (body_coded site unit).code (end_code unit.result (code_returns (body_coded site unit).code))
       (body_few weight prelude site by callees unit.body n few none_taken) (end_few unit.result (code_returns (body_coded site unit).code)))

@@ -28,7 +28,8 @@ use Rattle.bl_emit_structs.specs.Structs.{each_once, structs_for}
 use Rattle.bl_emit_functions.specs.Functions.{memory_struct}
 use Rattle.bl_emit_structs_laws_wellformed.specs.Formed.{NestsAtMost, StructsThere, StructsWellFormed}
 use Rattle.bl_emit_functions_laws_wellformed.specs.Formed.{MemoriesHold}
-use Rattle.bl_emit_functions_laws_wellformed.specs.Files.List.{FunctionFilesWellFormed, FunctionListsWellFormed, StructsPrecede, memories_after, memory_where, structs_before}
+use Rattle.bl_emit_functions_laws_wellformed.specs.Files.List.{FunctionFilesWellFormed, FunctionListsWellFormed, StructsPrecede, memories_after}
+use Rattle.bl_emit_functions_laws_wellformed.specs.Files.List.{memory_where, structs_before}
 use Rattle.bl_emit_functions_laws_wellformed.proofs.OnFiles.Memories.{memories}
 use Rattle.bl_emit_functions_laws_wellformed.proofs.OnFiles.Walk.{drop_next, take_next}
 
@@ -88,7 +89,8 @@ module _ (structs : List StructDef) (units : List UnitDef) (start : ℕ) (passes
       ⊎_elim
       (λ (deep : 100 < slice_index (struct_nestings structs) k). ⊎_elim
       (λ (there : (def : StructDef) × (k < length structs) × (slice_get structs k ≡ Some def) × (get_or structs k def ≡ def)). absurd
-      (passes rule.Cells there.0.place [] (inr (inl (record { position = k; later = omega arith; def = there.0; is_there = there.2; deep = deep; at_name = refl })), refl)))
+      (passes rule.Cells there.0.place []
+      (inr (inl (record { position = k; later = omega arith; def = there.0; is_there = there.2; deep = deep; at_name = refl })), refl)))
       (λ (past : (length structs ≤ k) × (slice_get structs k ≡ None)). let long = length_answers fields_nesting [] structs in
       let few : length structs ≤ k = past.0 in
       let none : slice_index (struct_nestings structs) k ≡ 0 = get_or_past (answers fields_nesting structs) k 0 (omega (arith, long, few)) in

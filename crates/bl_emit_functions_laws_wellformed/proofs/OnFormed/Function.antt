@@ -154,7 +154,8 @@ module _ (structs : List StructDef) (units : List UnitDef) (entry k : ℕ) (unit
 
   body_is : BlockIs context (body_code site unit)
   body_is =
-      block_append context (copies_from site 0 (inputs_of unit)) ((body_coded site unit).code ++ end_code unit.result (code_returns (body_coded site unit).code))
+      block_append context (copies_from site 0 (inputs_of unit))
+      ((body_coded site unit).code ++ end_code unit.result (code_returns (body_coded site unit).code))
       (copies_are 0 (inputs_of unit) inputs_there)
       (block_append context (body_coded site unit).code (end_code unit.result (code_returns (body_coded site unit).code))
       (body_is_good.formed none_taken (omega arith)) (end_is unit.result (code_returns (body_coded site unit).code) refl))

@@ -211,7 +211,8 @@ module _ (site : TypingContext) where
       ≡ true
   surely read unit None = refl
   surely read unit (Some s) =
-      last_append false read (copies_from site 0 (inputs_of unit) ++ ((body_coded site unit).code ++ end_code (Some s) (code_returns (body_coded site unit).code)))
+      last_append false read
+      (copies_from site 0 (inputs_of unit) ++ ((body_coded site unit).code ++ end_code (Some s) (code_returns (body_coded site unit).code)))
       ∙ whole_returns (last_or false (map surely_returns read)) unit s (code_returns (body_coded site unit).code) refl
 
 -- ---- the head

@@ -8,7 +8,8 @@ use Rattle.bl_tree.specs.declared.c.CStmtKind.{CStmtKind, CStmtKind-F, fold-roll
 use Rattle.bl_tree.specs.declared.c.CStmtKind.TheVariants as statement
 use Rattle.bl_tree.specs.declared.c.CType.TheVariants.{Scalar as OfScalar}
 use Rattle.bl_tree.specs.declared.scalar.Scalar.{Scalar as ScalarType}
-use Rattle.bl_ctext_semantics.specs.Faults.{Context, Judged, agree, block_faults, bool_type, condition_faults, condition_type, faults_in_stmt, other_faults, return_faults, returns_result, same_type, unless}
+use Rattle.bl_ctext_semantics.specs.Faults.{Context, Judged, agree, block_faults, bool_type, condition_faults, condition_type, faults_in_stmt}
+use Rattle.bl_ctext_semantics.specs.Faults.{other_faults, return_faults, returns_result, same_type, unless}
 use Rattle.bl_emit_acts.specs.Trees.{nowhere}
 use Rattle.bl_emit_functions.specs.Trees.{c_break, c_if, c_loop, c_return}
 use Rattle.bl_emit_acts_laws_wellformed.specs.Formed.Formed.{BlockIs, ExprIs, StmtIs}

@@ -51,7 +51,8 @@ numbered structs units entry counts k unit keeps there small =
     let known : List ℕ = take k (all_cells structs units) in
     let is : cells_at structs units k ≡ cells_by (struct_sizes structs) known unit =
     answer_at (cells_by (struct_sizes structs)) units k unit 0 there in
-    let all = enough unit.kind (variables_of structs unit) (cell_statements_of unit) (total_at known (activities_by_place unit)) (greatest_at known (calls_of unit)) in
+    let all =
+    enough unit.kind (variables_of structs unit) (cell_statements_of unit) (total_at known (activities_by_place unit)) (greatest_at known (calls_of unit)) in
     let few : variables_of structs unit ≤ cells_at structs units k = subst (λ n. variables_of structs unit ≤ n) (sym is) all.0 in
     let short : cell_statements_of unit ≤ cells_at structs units k = subst (λ n. cell_statements_of unit ≤ n) (sym is) all.1 in
     counts k unit keeps there (omega (arith, few, small)) (omega (arith, short, small))

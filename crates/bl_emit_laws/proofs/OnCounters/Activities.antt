@@ -1,11 +1,11 @@
 -- The C function of an activity names its own counters alone.
 use Rattle.std.proofs.Common.{◌≡◌, ℕ, zero, suc, Bool, true, false, List, [], ◌∷◌, ◌++◌, map, Option, Some, None, refl, sym, ap, subst, codes}
-use Rattle.std.specs.Prelude.{option_to_list, slice_get}
+use Rattle.std.specs.Prelude.{is_some, option_to_list, slice_get}
 use Rattle.bl_tree.specs.declared.c.CArg.TheVariants.{Address}
 use Rattle.bl_tree.specs.declared.c.CExpr.{CExpr}
 use Rattle.bl_tree.specs.declared.c.CPlace.{CPlace}
 use Rattle.bl_tree.specs.declared.c.CStmt.{CStmt}
-use Rattle.bl_tree.specs.declared.scalar.Op.TheVariants.{Eq}
+use Rattle.bl_tree.specs.declared.scalar.Op.TheVariants.{Eq, Or}
 use Rattle.bl_tree.specs.declared.tree.Arm.{Arm}
 use Rattle.bl_tree.specs.declared.tree.Branch.{Branch}
 use Rattle.bl_tree.specs.declared.tree.Expr.{Expr}
@@ -42,7 +42,6 @@ use Rattle.bl_emit_spec.specs.Activities.{
   Activity,
   activity_function,
   activity_view,
-  blocks_code,
   blocks_in_order,
   body_of,
   callees_in,
@@ -59,18 +58,23 @@ use Rattle.bl_emit_spec.specs.Blocks.{
   ActivityView,
   NodeCode,
   acted,
+  all_merged,
   arg_where,
   begun_code,
   changes_code,
   choice_code,
   control_code,
+  control_unless,
   counter_value,
+  entered_by,
   fused_code,
   has_result,
   layer_acted,
+  leaving_flag,
   may_end_in,
   merged_code,
   name_in,
+  next_turn,
   node_word,
   own_code,
   resumed_code,
@@ -100,6 +104,7 @@ use Rattle.bl_emit_spec.specs.Names.{
   rested_name,
   rested_place,
   result_place,
+  with_word,
 }
 use Rattle.bl_emit_laws.specs.Counters.Own.{names_counter}
 use Rattle.bl_emit_laws.specs.Counters.Places.{CPath, places_in_arg, places_named}
@@ -212,12 +217,11 @@ module _ (P : CPath → Type 0) (plain : (place : CPath) → names_counter place
       (local_read P plain own (given_name k)))
   target_fine k None = tt
 
-  begun_fine : (k : NumberedWord) (a : ℕ) (arguments : Arguments) (rule : Transition) → CodeFine P plain (begun_code view k a arguments rule)
-  begun_fine k a arguments rule =
+  begun_fine : (k : NumberedWord) (a : ℕ) (rule : Transition) → CodeFine P plain (begun_code view k a rule)
+  begun_fine k a rule =
       let name = frame_name (name_in (slice_get view.site.earlier a)) in
-      first_stmt P plain (c_clear (callee_frame k) name) (run_code view k a arguments ++ changes_code view rule.on_true)
-      (clear-fine P plain (callee_frame k) name (frame_fine k))
-      (then_code P plain (run_code view k a arguments) (changes_code view rule.on_true) (run_fine k a arguments) (changes_fine P plain own view rule.on_true))
+      first_stmt P plain (c_clear (callee_frame k) name) (changes_code view rule.on_true) (clear-fine P plain (callee_frame k) name (frame_fine k))
+      (changes_fine P plain own view rule.on_true)
 
   resumed_fine : (k : NumberedWord) (a : ℕ) (arguments : Arguments) (rule : Transition) → CodeFine P plain (resumed_code view k a arguments rule)
   resumed_fine k a arguments rule =
@@ -231,26 +235,26 @@ module _ (P : CPath → Type 0) (plain : (place : CPath) → names_counter place
 
   -- ---- blocks
 
-  own_fine : (m : Node) → CodeFine P plain (own_code view m)
-  own_fine (ActAt l s) = acted_fine s
-  own_fine (TestAt l at e) = tt
-  own_fine (CheckAt l at e) = tt
-  own_fine (EnterAt l at arguments) = tt
-  own_fine (ResumeAt l at arguments) = tt
-  own_fine (PauseAt l at) = tt
-  own_fine (HeadAt l at) = tt
-  own_fine (StartAt l at) = tt
-  own_fine (SurfaceEndAt l at) = tt
-  own_fine (DepthEndAt l at) = tt
-  own_fine (ForkAt l at) = tt
-  own_fine (SurfaceJoinAt l at) = tt
-  own_fine (DepthJoinAt l at) = tt
+  own_fine : (a : ℕ) (rule : Transition) (m : Node) → CodeFine P plain (own_code view a rule m)
+  own_fine a rule (ActAt l s) = acted_fine s
+  own_fine a rule (TestAt l at e) = tt
+  own_fine a rule (CheckAt l at e) = tt
+  own_fine a rule (EnterAt l at arguments) = begun_fine (word_at view at a) a rule
+  own_fine a rule (ResumeAt l at arguments) = tt
+  own_fine a rule (PauseAt l at) = tt
+  own_fine a rule (HeadAt l at) = tt
+  own_fine a rule (StartAt l at) = tt
+  own_fine a rule (SurfaceEndAt l at) = tt
+  own_fine a rule (DepthEndAt l at) = tt
+  own_fine a rule (ForkAt l at) = tt
+  own_fine a rule (SurfaceJoinAt l at) = tt
+  own_fine a rule (DepthJoinAt l at) = tt
 
   control_fine : (a : ℕ) (rule : Transition) (m : Node) → CodeFine P plain (control_code view a rule m)
   control_fine a rule (ActAt l s) = changes_fine P plain own view rule.on_true
   control_fine a rule (TestAt l at e) = tested_fine e rule
   control_fine a rule (CheckAt l at e) = tested_fine e rule
-  control_fine a rule (EnterAt l at arguments) = begun_fine (word_at view at a) a arguments rule
+  control_fine a rule (EnterAt l at arguments) = run_fine (word_at view at a) a arguments
   control_fine a rule (ResumeAt l at arguments) = resumed_fine (word_at view at a) a arguments rule
   control_fine a rule (PauseAt l at) = changes_fine P plain own view rule.on_true
   control_fine a rule (HeadAt l at) = changes_fine P plain own view rule.on_true
@@ -274,7 +278,7 @@ module _ (P : CPath → Type 0) (plain : (place : CPath) → names_counter place
   each_fine [] listed = tt
   each_fine (a ∷ callees) [] = tt
   each_fine (a ∷ callees) (rule ∷ listed) =
-      ((guard_fine P plain own view rule.node rule.condition, (own_fine rule.node, control_fine a rule rule.node)), each_fine callees listed)
+      ((guard_fine P plain own view rule.node rule.condition, (own_fine a rule rule.node, control_fine a rule rule.node)), each_fine callees listed)
 
   append_fine : (turns more : List NodeCode) → EachFine turns → EachFine more → EachFine (turns ++ more)
   append_fine [] more all rest = rest
@@ -293,21 +297,35 @@ module _ (P : CPath → Type 0) (plain : (place : CPath) → names_counter place
   alone_fine : (test : CExpr) (code : List CStmt) → ExprFine P plain test → CodeFine P plain code → StmtFine P plain (c_if test code None)
   alone_fine test code is block = if-fine P plain test code None is block tt
 
-  fused_fine : (turn : NodeCode) (turns : List NodeCode) → TurnFine turn → EachFine turns → CodeFine P plain (fused_code turn turns)
-  fused_fine last [] one all = then_code P plain last.own last.control one.1.0 one.1.1
-  fused_fine turn (next ∷ rest) one all = then_code P plain turn.own (fused_code next rest) one.1.0 (fused_fine next rest all.0 all.1)
+  unless_fine : (leaves : Bool) (turn : NodeCode) → TurnFine turn → CodeFine P plain (control_unless leaves turn)
+  unless_fine true turn one = tt
+  unless_fine false turn one = one.1.1
 
-  merged_fine : (turns : List NodeCode) → EachFine turns → CodeFine P plain (merged_code turns)
-  merged_fine [] all = tt
-  merged_fine (first ∷ rest) all =
-      one_stmt P plain (c_if first.test (fused_code first rest) None)
-      (alone_fine first.test (fused_code first rest) all.0.0 (fused_fine first rest all.0 all.1))
+  fused_fine : (leaves : Bool) (turn : NodeCode) (turns : List NodeCode) → TurnFine turn → EachFine turns → CodeFine P plain (fused_code leaves turn turns)
+  fused_fine leaves last [] one all = then_code P plain last.own (control_unless leaves last) one.1.0 (unless_fine leaves last one)
+  fused_fine leaves turn (next ∷ rest) one all =
+      then_code P plain turn.own (fused_code leaves next rest) one.1.0 (fused_fine leaves next rest all.0 all.1)
 
-  blocks_fine : (turns : List NodeCode) (blocks : List (List ℕ)) → EachFine turns → CodeFine P plain (blocks_code turns blocks)
-  blocks_fine turns [] all = tt
-  blocks_fine turns (block ∷ rest) all =
-      then_code P plain (merged_code (picked turns block)) (blocks_code turns rest) (merged_fine (picked turns block) (picked_fine turns block all))
-      (blocks_fine turns rest all)
+  entered_fine : (before : Option ℕ) (test : CExpr) → ExprFine P plain test → ExprFine P plain (entered_by view.word before test)
+  entered_fine None test is = is
+  entered_fine (Some k) test is =
+      let k : NumberedWord = with_word view.word k in
+      two-fine P plain Or (c_read (flag_place k)) test (local_read P plain own (flag_name k)) is
+
+  merged_fine : (before : Option ℕ) (leaves : Bool) (turns : List NodeCode) → EachFine turns → CodeFine P plain (merged_code view.word before leaves turns)
+  merged_fine before leaves [] all = tt
+  merged_fine before leaves (first ∷ rest) all =
+      one_stmt P plain (c_if (entered_by view.word before first.test) (fused_code leaves first rest) None)
+      (alone_fine (entered_by view.word before first.test) (fused_code leaves first rest) (entered_fine before first.test all.0.0)
+      (fused_fine leaves first rest all.0 all.1))
+
+  blocks_fine : (turns : List NodeCode) (before : Option ℕ) (blocks : List (List ℕ)) → EachFine turns →
+      CodeFine P plain (all_merged view.word before (map (picked turns) blocks))
+  blocks_fine turns before [] all = tt
+  blocks_fine turns before (block ∷ rest) all =
+      let left : Option ℕ = leaving_flag (picked turns block) (next_turn (map (picked turns) rest)) in
+      then_code P plain (merged_code view.word before (is_some left) (picked turns block)) (all_merged view.word left (map (picked turns) rest))
+      (merged_fine before (is_some left) (picked turns block) (picked_fine turns block all)) (blocks_fine turns left rest all)
 
   -- ---- what stands before the blocks
 
@@ -347,4 +365,4 @@ activity-fine P plain own a =
     (resteds_fine P plain own view (counters_read a))
     (then_code P plain (entry_code view (body_of a)) (copies ++ blocks) (entry_fine P plain own view (body_of a))
     (then_code P plain copies blocks (copies_fine P plain own view (copied_in a))
-    (blocks_fine P plain own view (turns_in_source a) a.blocks (each_fine P plain own view (callees_in (body_of a)) (rules_at a)))))
+    (blocks_fine P plain own view (turns_in_source a) None a.blocks (each_fine P plain own view (callees_in (body_of a)) (rules_at a)))))

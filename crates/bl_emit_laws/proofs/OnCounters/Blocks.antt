@@ -41,12 +41,13 @@ use Rattle.bl_emit_spec_laws.specs.Tables.Laws.{ActivitiesBuilt}
 use Rattle.bl_emit_laws.specs.Kept.{FileEnds, FilesEnd, activities_in, written_file}
 use Rattle.bl_emit_laws.proofs.OnKept.Lists.{first_or, none_has}
 use Rattle.bl_emit_spec_laws_wellformed.proofs.OnNumbers.Whole.{many-rules}
-use Rattle.bl_emit_laws.specs.Counters.Flags.{HasFlagForEach, decides, flags_asked, inside, rules_first}
+use Rattle.bl_emit_laws.specs.Counters.Flags.{HasFlagForEach, decides, flags_asked, flags_in_turn, inside, own_many, rules_by, rules_first, rules_in_blocks}
 use Rattle.bl_emit_laws.specs.Counters.Ifs.{FunctionHasIfs, ifs_in}
 use Rattle.bl_emit_laws.specs.Counters.Laws.{FilesHaveIfs}
 use Rattle.bl_emit_laws.specs.Counters.Own.{functions_named}
+use Rattle.bl_emit_laws.proofs.OnCounters.Asked.{blocks_ask, blocks_decide, own_are, own_by, own_lengths}
 use Rattle.bl_emit_laws.proofs.OnCounters.Decided.{turns_decide}
-use Rattle.bl_emit_laws.proofs.OnCounters.Flags.{asked_many, blocks_ask, blocks_decide, locals_are}
+use Rattle.bl_emit_laws.proofs.OnCounters.Flags.{asked_many, locals_are}
 use Rattle.bl_emit_laws.proofs.OnCounters.Ifs.{blocks_many, body_has, ifs_are}
 use Rattle.bl_emit_laws.proofs.OnCounters.Once.{function_alone}
 use Rattle.bl_emit_laws.proofs.OnCounters.Whole.{function_there}
@@ -83,33 +84,37 @@ module _ (placed : StaysPlaced) (listed : RulesAreListed) (a : Activity) (unit :
 
     many_ifs : a.blocks ≡ one.blocks → Ordered (plain_body unit.body) one.blocks → length (blocks_in_order a) ≡ length one.blocks
     many_ifs blocks_are ordered =
-        ap (λ (blocks : List (List ℕ)). length (blocks_code (turns_in_source a) blocks)) blocks_are
-        ∙ blocks_many (turns_in_source a) one.blocks ordered.filled within
+        ap (λ (blocks : List (List ℕ)). length (blocks_code (activity_view a).word (turns_in_source a) blocks)) blocks_are
+        ∙ blocks_many (activity_view a).word (turns_in_source a) one.blocks ordered.filled within
       where
         within : (k : ℕ) → Contains (joined one.blocks) k → k < length (turns_in_source a)
         within k at =
             let stands = stands_at (joined one.blocks) k at in
             subst (λ n. k < n) (sym many_turns) (number_below (length (nodes_in body)) (joined one.blocks) ordered.all k stands.0 stands.1)
 
-    -- the rules of first nodes are those of the machine's blocks
-    first_are : a.blocks ≡ one.blocks → first_rules a ≡ rules_first unit one
-    first_are blocks_are =
-        ap (λ (u : UnitDef). picked (rules a.slots (plain_body u.body)) (first_positions a.blocks)) unit_is
-        ∙ ap (λ slots. picked (rules slots body) (first_positions a.blocks)) slots_are
-        ∙ ap (λ (blocks : List (List ℕ)). picked (rules (slots_of body one.slots) body) (first_positions blocks)) blocks_are
+    -- the rules of nodes are those by the machine
+    rules_are : rules_at a ≡ rules_by unit one
+    rules_are = ap (λ (u : UnitDef). rules a.slots (plain_body u.body)) unit_is ∙ ap (λ slots. rules slots body) slots_are
 
     flags_have : a.blocks ≡ one.blocks → Ordered body one.blocks → HasFlagForEach unit one (activity_function a) (ifs_in (activity_code a))
     flags_have blocks_are ordered =
         let view : ActivityView = activity_view a in
         let callees : List ℕ = callees_in (body_of a) in
         let many : length callees ≡ length (rules_at a) = callees_in_many (body_of a) ∙ sym (many-rules a) in
-        let own = locals_are a in
+        let locals = locals_are a in
+        let blocks : List (List Transition) = map (picked (rules_at a)) a.blocks in
+        let first_are : first_rules a ≡ rules_first unit one = λ i. picked (rules_are i) (first_positions (blocks_are i)) in
+        let these : blocks ≡ rules_in_blocks unit one = λ i. map (picked (rules_are i)) (blocks_are i) in
         record {
-          asked = ap (λ (ifs : List CStmt). joined (map flags_asked ifs)) (ifs_are a) ∙ blocks_ask view callees (rules_at a) many a.blocks within ∙ sym own;
-          many = ap (λ (names : List Text). length names) own ∙ asked_many view (first_rules a)
-              ∙ ap (λ (some : List Transition). length (filter (λ (rule : Transition). is_flagged rule.condition) some)) (first_are blocks_are);
+          own = map (own_by view) blocks;
+          each = own_lengths view blocks ∙ ap (map own_many) these;
+          all = own_are view callees (rules_at a) many a.blocks within ∙ sym locals;
+          many = ap (λ (names : List Text). length names) locals ∙ asked_many view (first_rules a)
+              ∙ ap (λ (some : List Transition). length (filter (λ (rule : Transition). is_flagged rule.condition) some)) first_are;
+          asked = ap (λ (ifs : List CStmt). map flags_asked ifs) (ifs_are a) ∙ blocks_ask view callees (rules_at a) many a.blocks filled within
+              ∙ ap (λ (rules : List (List Transition)). flags_in_turn [] [] rules (map (own_by view) blocks)) these;
           decided = ap (λ (ifs : List CStmt). list_all decides (joined (map inside ifs))) (ifs_are a)
-              ∙ blocks_decide (turns_in_source a) a.blocks (turns_decide view callees (rules_at a));
+              ∙ blocks_decide view.word (turns_in_source a) a.blocks (turns_decide view callees (rules_at a));
         }
       where
         once : IsPermutation (up_to (length (nodes_in (body_of a)))) (joined a.blocks)
@@ -121,6 +126,9 @@ module _ (placed : StaysPlaced) (listed : RulesAreListed) (a : Activity) (unit :
         within k at =
             let stands = stands_at (joined a.blocks) k at in
             subst (λ n. k < n) (sym (many-rules a)) (number_below (length (nodes_in (body_of a))) (joined a.blocks) once k stands.0 stands.1)
+
+        filled : (block : List ℕ) → Contains a.blocks block → 0 < length block
+        filled block at = ordered.filled block (subst (λ (blocks : List (List ℕ)). Contains blocks block) blocks_are at)
 
 -- ---- functions
 

@@ -44,6 +44,7 @@ use Rattle.bl_emit_spec.specs.Blocks.{
   changes_code,
   choice_code,
   control_code,
+  control_unless,
   counter_value,
   flagged_now,
   forgotten,
@@ -300,30 +301,29 @@ module _ (view : ActivityView) where
   target_decides k (Some path) = sets_decide _ _
   target_decides k None = refl
 
-  own_decides : (n : Node) → Decide (own_code view n)
-  own_decides (ActAt l s) = acted_by s (out-StmtKind (out-Stmt s).what)
-  own_decides (TestAt l at e) = refl
-  own_decides (CheckAt l at e) = refl
-  own_decides (EnterAt l at arguments) = refl
-  own_decides (ResumeAt l at arguments) = refl
-  own_decides (PauseAt l at) = refl
-  own_decides (HeadAt l at) = refl
-  own_decides (StartAt l at) = refl
-  own_decides (SurfaceEndAt l at) = refl
-  own_decides (DepthEndAt l at) = refl
-  own_decides (ForkAt l at) = refl
-  own_decides (SurfaceJoinAt l at) = refl
-  own_decides (DepthJoinAt l at) = refl
+  own_decides : (a : ℕ) (rule : Transition) (n : Node) → Decide (own_code view a rule n)
+  own_decides a rule (ActAt l s) = acted_by s (out-StmtKind (out-Stmt s).what)
+  own_decides a rule (TestAt l at e) = refl
+  own_decides a rule (CheckAt l at e) = refl
+  own_decides a rule (EnterAt l at arguments) =
+      let name : Text = frame_name (name_in (slice_get view.site.earlier a)) in
+      first_decides (c_clear (callee_frame (word_at view at a)) name) (changes_code view rule.on_true) (clear_decides (callee_frame (word_at view at a)) name)
+      (changes_decide rule.on_true)
+  own_decides a rule (ResumeAt l at arguments) = refl
+  own_decides a rule (PauseAt l at) = refl
+  own_decides a rule (HeadAt l at) = refl
+  own_decides a rule (StartAt l at) = refl
+  own_decides a rule (SurfaceEndAt l at) = refl
+  own_decides a rule (DepthEndAt l at) = refl
+  own_decides a rule (ForkAt l at) = refl
+  own_decides a rule (SurfaceJoinAt l at) = refl
+  own_decides a rule (DepthJoinAt l at) = refl
 
   control_decides : (a : ℕ) (rule : Transition) (n : Node) → Decide (control_code view a rule n)
   control_decides a rule (ActAt l s) = changes_decide rule.on_true
   control_decides a rule (TestAt l at e) = tested_decide e rule
   control_decides a rule (CheckAt l at e) = tested_decide e rule
-  control_decides a rule (EnterAt l at arguments) =
-      let k : NumberedWord = word_at view at a in
-      let name : Text = frame_name (name_in (slice_get view.site.earlier a)) in
-      first_decides (c_clear (callee_frame k) name) (run_code view k a arguments ++ changes_code view rule.on_true) (clear_decides (callee_frame k) name)
-      (then_decide (run_code view k a arguments) (changes_code view rule.on_true) (run_decides k a arguments) (changes_decide rule.on_true))
+  control_decides a rule (EnterAt l at arguments) = run_decides (word_at view at a) a arguments
   control_decides a rule (ResumeAt l at arguments) =
       let k : NumberedWord = word_at view at a in
       let code : List CStmt = target_code view k arguments.target ++ changes_code view rule.on_true in
@@ -354,17 +354,21 @@ turns_decide view [] rules = refl
 turns_decide view (a ∷ callees) [] = refl
 turns_decide view (a ∷ callees) (rule ∷ rules) =
     both (turn_decides (node_turn view a rule)) (list_all turn_decides (turns_of view callees rules))
-    (both (list_all decides (own_code view rule.node)) (list_all decides (control_code view a rule rule.node)) (own_decides view rule.node)
+    (both (list_all decides (own_code view a rule rule.node)) (list_all decides (control_code view a rule rule.node)) (own_decides view a rule rule.node)
     (control_decides view a rule rule.node))
     (turns_decide view callees rules)
 
+unless_decides : (leaves : Bool) (turn : NodeCode) → turn_decides turn ≡ true → Decide (control_unless leaves turn)
+unless_decides true turn own = refl
+unless_decides false turn own = and_right (list_all decides turn.own) (list_all decides turn.control) own
+
 -- what the turns of a block do decides
-pub fused_decides : (turn : NodeCode) (turns : List NodeCode) → turn_decides turn ≡ true → list_all turn_decides turns ≡ true →
-    Decide (fused_code turn turns)
-fused_decides last [] own all =
-    then_decide last.own last.control (and_left (list_all decides last.own) (list_all decides last.control) own)
-    (and_right (list_all decides last.own) (list_all decides last.control) own)
-fused_decides turn (next ∷ rest) own all =
-    then_decide turn.own (fused_code next rest) (and_left (list_all decides turn.own) (list_all decides turn.control) own)
-    (fused_decides next rest (and_left (turn_decides next) (list_all turn_decides rest) all)
+pub fused_decides : (leaves : Bool) (turn : NodeCode) (turns : List NodeCode) → turn_decides turn ≡ true → list_all turn_decides turns ≡ true →
+    Decide (fused_code leaves turn turns)
+fused_decides leaves last [] own all =
+    then_decide last.own (control_unless leaves last) (and_left (list_all decides last.own) (list_all decides last.control) own)
+    (unless_decides leaves last own)
+fused_decides leaves turn (next ∷ rest) own all =
+    then_decide turn.own (fused_code leaves next rest) (and_left (list_all decides turn.own) (list_all decides turn.control) own)
+    (fused_decides leaves next rest (and_left (turn_decides next) (list_all turn_decides rest) all)
     (and_right (turn_decides next) (list_all turn_decides rest) all))

@@ -1,10 +1,9 @@
--- The `if`s of an activity's function ask for its flags, one after another.
-use Rattle.std.proofs.Common.{◌≡◌, ℕ, zero, suc, ◌+◌, ◌/◌, ◌%◌, ◌<◌, Bool, true, false, ◌&&◌, ◌||◌, cond, List, [], ◌∷◌, ◌++◌, Contains, map, length}
-use Rattle.std.proofs.Common.{Option, Some, None, refl, sym, ap, ◌∙◌, arith}
+-- The flags of an activity's function, and what the guards of its nodes read.
+use Rattle.std.proofs.Common.{◌≡◌, ℕ, zero, suc, ◌+◌, ◌/◌, ◌%◌, ◌<◌, Bool, true, false, ◌&&◌, ◌||◌, cond, List, [], ◌∷◌, ◌++◌, map, length}
+use Rattle.std.proofs.Common.{Option, Some, None, refl, ap, ◌∙◌, arith}
 use Rattle.std.proofs.lemmas.Bool.Decides.{nat_tests}
 use Rattle.std.proofs.lemmas.List.{append-nil, map-append}
-use Rattle.std.proofs.lemmas.List.Elements.{Contains-append_right, filter-append}
-use Rattle.std.proofs.lemmas.List.Folds.{list_all-append}
+use Rattle.std.proofs.lemmas.List.Elements.{filter-append}
 use Rattle.std.specs.Char.{is_ascii_digit}
 use Rattle.std.specs.Fmt.{digit_glyph, digits, digits_onto}
 use Rattle.std.specs.List.{list_all}
@@ -12,90 +11,35 @@ use Rattle.std.specs.Prelude.{◌==◌, filter, nat_eq, nat_lt, option_and_then,
 use Rattle.bl_tree.specs.declared.text.Text.{Text}
 use Rattle.bl_tree.specs.declared.c.CExpr.{CExpr}
 use Rattle.bl_tree.specs.declared.c.CLocal.{CLocal}
-use Rattle.bl_tree.specs.declared.c.CStmt.{CStmt, out-roll-CStmt}
-use Rattle.bl_tree.specs.declared.c.CStmtKind.{CStmtKind-F, out-CStmtKind, out-roll-CStmtKind}
-use Rattle.bl_tree.specs.declared.c.CStmtKind.TheVariants as statement
 use Rattle.bl_tree.specs.declared.scalar.Op.{Op}
 use Rattle.bl_tree.specs.declared.scalar.Op.TheVariants.{And, Eq, Ge, Le, Ne, Or}
 use Rattle.bl_tree.specs.declared.scalar.Scalar.{Scalar as ScalarType}
 use Rattle.bl_tree.specs.declared.scalar.Scalar.TheVariants.{Bool as OfBool}
 use Rattle.bl_tree.specs.declared.tree.Unit.{Unit as UnitDef}
 use Rattle.bl_tree.specs.Reduce.{joined}
-use Rattle.bl_eval.proofs.PassLemmas.{and_left, and_right, both}
+use Rattle.bl_eval.proofs.PassLemmas.{both}
 use Rattle.bl_graph_nodes.specs.Nodes.{Node}
 use Rattle.bl_machine.specs.declared.slots.Slot.{Slot}
 use Rattle.bl_machine_pass.specs.Transitions.{Age, Change, Condition, Needed, Transition}
-use Rattle.bl_machine_pass.specs.Transitions.{ClearsBoth, ClearsCounter, Ended, EndsWhen, Finishes, Flagged, IsAny, IsNew, IsOld, Rested, RestedIn, SetsCounter, SetsFlag, SetsMark}
+use Rattle.bl_machine_pass.specs.Transitions.{ClearsBoth, ClearsCounter, Ended, EndsWhen, Finishes, Flagged, IsAny, IsNew, IsOld, Rested, RestedIn, SetsCounter}
+use Rattle.bl_machine_pass.specs.Transitions.{SetsFlag, SetsMark}
 use Rattle.bl_emit_acts.specs.Expressions.{c_compare}
-use Rattle.bl_emit_acts.specs.Trees.{c_not, c_read, c_two, nowhere}
-use Rattle.bl_emit_functions.specs.Trees.{c_if, c_truth}
-use Rattle.bl_emit_spec.specs.Activities.{
-  Activity,
-  RunAt,
-  activity_locals,
-  activity_view,
-  blocks_code,
-  copied_in,
-  copy_local,
-  counters_read,
-  first_rules,
-  first_positions,
-  flag_local,
-  given_local,
-  is_flagged,
-  mark_local,
-  mark_locals,
-  picked,
-  rested_local,
-  rules_at,
-  run_locals,
-  runs_in_body,
-  scalar_local,
-  word_of_run,
-  ended_local,
-  some_ends,
-}
-use Rattle.bl_emit_spec.specs.Blocks.{
-  ActivityView,
-  NodeCode,
-  Sizes,
-  aged_test,
-  all_tests,
-  at_slot,
-  counter_type,
-  counter_value,
-  ends_test,
-  fused_code,
-  guard_of,
-  in_pairs,
-  in_tree,
-  is_greatest,
-  last_value,
-  merged_code,
-  node_turn,
-  node_word,
-  rested_at,
-  rested_by,
-  rested_from,
-  rested_in,
-  rested_since,
-  rested_to,
-  rested_within,
-  some_test,
-  turns_of,
-}
+use Rattle.bl_emit_acts.specs.Trees.{c_not, c_read, c_two}
+use Rattle.bl_emit_functions.specs.Trees.{c_truth}
+use Rattle.bl_emit_spec.specs.Activities.{Activity, RunAt, activity_locals, activity_view, copied_in, copy_local, counters_read, first_rules, flag_local}
+use Rattle.bl_emit_spec.specs.Activities.{given_local, is_flagged, mark_local, mark_locals, rested_local, rules_at, run_locals, runs_in_body, scalar_local}
+use Rattle.bl_emit_spec.specs.Activities.{word_of_run, ended_local, some_ends}
+use Rattle.bl_emit_spec.specs.Blocks.{ActivityView, Sizes, aged_test, all_tests, at_slot, counter_type, counter_value, ends_test, guard_of, in_pairs, in_tree}
+use Rattle.bl_emit_spec.specs.Blocks.{is_greatest, last_value, node_word, rested_at, rested_by, rested_from, rested_in, rested_since, rested_to, rested_within}
+use Rattle.bl_emit_spec.specs.Blocks.{some_test}
 use Rattle.bl_emit_spec.specs.Names.{NumberedWord, counter_name, counter_place, flag_name, flag_place, mark_name, mark_place, rested_name, rested_place}
-use Rattle.bl_emit_spec_laws.proofs.OnPlaced.Lists.{picked_first, some_is, there_at}
-use Rattle.bl_emit_spec_laws_wellformed.proofs.OnNumbers.Firsts.{picked-all}
-use Rattle.bl_emit_laws.specs.Counters.Flags.{decides, flags_asked, flags_read, inside, is_digits_and_word, is_flag_name, is_numbered_word, kind_block}
-use Rattle.bl_emit_laws.specs.Counters.Flags.{kind_flags}
+use Rattle.bl_emit_laws.specs.Counters.Flags.{flags_read, is_digits_and_word, is_flag_name, is_numbered_word}
 use Rattle.bl_emit_laws.specs.Counters.Places.{CPath, places_in}
-use Rattle.bl_emit_laws.proofs.OnCounters.Decided.{IsNoFlag, NoFlag, begins, fused_decides, local-read, none-read, turn_decides, variables}
+use Rattle.bl_emit_laws.proofs.OnCounters.Decided.{IsNoFlag, NoFlag, begins, local-read, none-read, variables}
 use Rattle.bl_emit_laws.proofs.OnCounters.Fine.{Fine, same-fine}
 use Rattle.bl_emit_laws.proofs.OnCounters.Guards.{counter-names, own_counter}
-use Rattle.bl_emit_laws.proofs.OnCounters.Paths.{compare-fine, literal-fine, not-fine, read-fine, two-fine}
+use Rattle.bl_emit_laws.proofs.OnCounters.Paths.{compare-fine, literal-fine, not-fine, two-fine}
 use Rattle.bl_emit_laws.proofs.OnCounters.Shapes.{place-names, read-names}
-use Rattle.bl_emit_laws.proofs.OnKept.Lists.{further, here}
 
 -- ---- names of flags
 
@@ -166,7 +110,7 @@ named_both xs ys =
     ∙ filter-append is_flag_name (map (λ (local : CLocal). local.name) xs) (map (λ (local : CLocal). local.name) ys)
 
 -- the flag that a rule asks for
-abbrev asked_by : ActivityView → Transition → List Text
+abbrev pub asked_by : ActivityView → Transition → List Text
 asked_by view rule = if is_flagged rule.condition then flag_name (node_word view rule.node) ∷ [] else []
 
 module _ (view : ActivityView) where
@@ -369,79 +313,17 @@ module _ (view : ActivityView) where
       (not-fine IsNoFlag NoFlag variables begins (c_read (mark_place (node_word view n))) (mark_plain n)) all
   aged_plain IsAny ends all = all
 
-  flag_read : (k : NumberedWord) → flags_read (c_read (flag_place k)) ≡ flag_name k ∷ []
+  pub flag_read : (k : NumberedWord) → flags_read (c_read (flag_place k)) ≡ flag_name k ∷ []
   flag_read k =
       ap (λ (places : List CPath). filter is_flag_name (map (λ (path : CPath). path.name) places))
       (read-names (flag_place k) ∙ place-names false (flag_name k) [])
       ∙ ap (λ (b : Bool). cond b (flag_name k ∷ []) []) (flag_named k)
 
   -- a guard reads the flag that its rule asks for, and no other
-  guard_reads : (n : Node) (condition : Condition) →
+  pub guard_reads : (n : Node) (condition : Condition) →
       flags_read (guard_of view n condition) ≡ (if is_flagged condition then flag_name (node_word view n) ∷ [] else [])
   guard_reads n Flagged = flag_read (node_word view n)
   guard_reads n (Rested slot) = none-read (rested_at view slot) (at_plain slot)
   guard_reads n (RestedIn slots) = none-read (rested_in view slots) (in_plain slots)
   guard_reads n (Ended age needed) =
       none-read (aged_test view age (ends_test view needed)) (aged_plain age (ends_test view needed) (ends_plain needed))
-
--- ---- blocks
-
-asks_so : (test : CExpr) (block : List CStmt) → flags_asked (c_if test block None) ≡ flags_read test
-asks_so test block =
-    ap (λ s. kind_flags (out-CStmtKind s.what)) (out-roll-CStmt (record { place = nowhere; what = statement.If test block None }))
-    ∙ (ap (λ k. kind_flags (out-CStmtKind k)) (sym (statement.rolls-If test block None))
-    ∙ ap kind_flags (out-roll-CStmtKind (CStmtKind-F.If test block None)))
-
-inside_so : (test : CExpr) (block : List CStmt) → inside (c_if test block None) ≡ block
-inside_so test block =
-    ap (λ s. kind_block (out-CStmtKind s.what)) (out-roll-CStmt (record { place = nowhere; what = statement.If test block None }))
-    ∙ (ap (λ k. kind_block (out-CStmtKind k)) (sym (statement.rolls-If test block None))
-    ∙ ap kind_block (out-roll-CStmtKind (CStmtKind-F.If test block None)))
-
-turn_at : (view : ActivityView) (callees : List ℕ) (rules : List Transition) (k u : ℕ) (rule : Transition) → slice_get callees k ≡ Some u →
-    slice_get rules k ≡ Some rule → slice_get (turns_of view callees rules) k ≡ Some (node_turn view u rule)
-turn_at view [] rules k u rule one two = absurd (cc)
-turn_at view (c ∷ callees) [] k u rule one two = absurd (cc)
-turn_at view (c ∷ callees) (r ∷ rules) zero u rule one two =
-    ap (λ a. Some (node_turn view a r)) (some_is c u one) ∙ ap (λ r. Some (node_turn view u r)) (some_is r rule two)
-turn_at view (c ∷ callees) (r ∷ rules) (suc k) u rule one two = turn_at view callees rules k u rule one two
-
-module _ (view : ActivityView) (callees : List ℕ) (rules : List Transition) (each : length callees ≡ length rules) where
-  abbrev turns : List NodeCode
-  turns = turns_of view callees rules
-
-  -- the `if`s of blocks ask for the flags of first nodes, one after another
-  pub blocks_ask : (blocks : List (List ℕ)) → ((k : ℕ) → Contains (joined blocks) k → k < length rules) →
-      joined (map flags_asked (blocks_code turns blocks)) ≡ joined (map (asked_by view) (picked rules (first_positions blocks)))
-  blocks_ask [] within = refl
-  blocks_ask ([] ∷ rest) within = blocks_ask rest within
-  blocks_ask ((k ∷ block) ∷ rest) within =
-      let less = within k (here k (block ++ joined rest)) in
-      let many = each in
-      let rule = there_at rules k less in
-      let called = there_at callees k (omega (arith, less, many)) in
-      let turn : NodeCode = node_turn view called.0 rule.0 in
-      let at : slice_get turns k ≡ Some turn = turn_at view callees rules k called.0 rule.0 called.1 rule.1 in
-      ap (λ (some : List NodeCode). joined (map flags_asked (merged_code some ++ blocks_code turns rest))) (picked_first turns k block turn at)
-      ∙ (λ i. (asks_so turn.test (fused_code turn (picked turns block)) ∙ guard_reads view rule.0.node rule.0.condition) i
-      ++ blocks_ask rest (λ j there. within j (Contains-append_right (k ∷ block) (joined rest) j there)) i)
-      ∙ sym (ap (λ (some : List Transition). joined (map (asked_by view) some)) (picked_first rules k (first_positions rest) rule.0 rule.1))
-
--- what stands in the `if`s of blocks decides
-pub blocks_decide : (all : List NodeCode) (blocks : List (List ℕ)) → list_all turn_decides all ≡ true →
-    list_all decides (joined (map inside (blocks_code all blocks))) ≡ true
-blocks_decide all [] own = refl
-blocks_decide all (block ∷ rest) own = by (picked all block) (picked-all turn_decides all block own) (blocks_decide all rest own)
-  where
-    later : List CStmt
-    later = joined (map inside (blocks_code all rest))
-
-    by : (some : List NodeCode) → list_all turn_decides some ≡ true → list_all decides later ≡ true →
-        list_all decides (joined (map inside (merged_code some ++ blocks_code all rest))) ≡ true
-    by [] own more = more
-    by (first ∷ others) own more =
-        ap (λ (code : List CStmt). list_all decides (code ++ later)) (inside_so first.test (fused_code first others))
-        ∙ (list_all-append decides (fused_code first others) later
-        ∙ both (list_all decides (fused_code first others)) (list_all decides later)
-        (fused_decides first others (and_left (turn_decides first) (list_all turn_decides others) own)
-        (and_right (turn_decides first) (list_all turn_decides others) own)) more)

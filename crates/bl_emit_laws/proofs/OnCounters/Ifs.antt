@@ -4,7 +4,8 @@ use Rattle.std.proofs.Common.{Option, None, refl, sym, ap, subst, ◌∙◌, ari
 use Rattle.std.proofs.lemmas.List.{append_assoc}
 use Rattle.std.proofs.lemmas.List.Elements.{Contains-append_right, filter-append}
 use Rattle.std.specs.List.{list_all}
-use Rattle.std.specs.Prelude.{option_to_list}
+use Rattle.std.specs.Prelude.{is_some, option_to_list}
+use Rattle.bl_tree.specs.declared.text.Text.{Text}
 use Rattle.bl_tree.specs.declared.c.CExpr.{CExpr}
 use Rattle.bl_tree.specs.declared.c.CPlace.{CPlace}
 use Rattle.bl_tree.specs.declared.c.CStmt.{CStmt, fold-roll-CStmt}
@@ -20,9 +21,11 @@ use Rattle.bl_emit_acts.specs.Places.{place_in}
 use Rattle.bl_emit_acts.specs.Trees.{c_place, c_read, c_two}
 use Rattle.bl_emit_acts.specs.Types.{copy_name}
 use Rattle.bl_emit_functions.specs.Trees.{c_if}
-use Rattle.bl_emit_spec.specs.Activities.{Activity, activity_code, blocks_code, blocks_in_order, body_of, copied_in, counters_read, entry_code, first_place, picked}
+use Rattle.bl_emit_spec.specs.Activities.{Activity, activity_code, blocks_code, blocks_in_order, body_of, copied_in, counters_read, entry_code, first_place}
+use Rattle.bl_emit_spec.specs.Activities.{picked}
 use Rattle.bl_emit_spec.specs.Activities.{activity_view, rested_code, turns_in_source}
-use Rattle.bl_emit_spec.specs.Blocks.{ActivityView, NodeCode, counter_value, fused_code, merged_code, node_word}
+use Rattle.bl_emit_spec.specs.Blocks.{ActivityView, NodeCode, all_merged, counter_value, entered_by, fused_code, leaving_flag, merged_code, next_turn}
+use Rattle.bl_emit_spec.specs.Blocks.{node_word}
 use Rattle.bl_emit_spec.specs.Names.{counter_place, flag_place, rested_place}
 use Rattle.bl_emit_spec_laws.proofs.OnPlaced.Lists.{there_at}
 use Rattle.bl_emit_laws.proofs.OnKept.Lists.{further, here}
@@ -113,26 +116,33 @@ first_if test block code more =
     ∙ ap (λ (later : List CStmt). c_if test block None ∷ later) more
 
 -- nothing but `if`s stands there
-blocks_alone : (turns : List NodeCode) (blocks : List (List ℕ)) → ifs_in (blocks_code turns blocks) ≡ blocks_code turns blocks
-blocks_alone turns [] = refl
-blocks_alone turns (block ∷ rest) = by (picked turns block) (blocks_alone turns rest)
+blocks_alone : (word : ℕ → Text) (flag : Option ℕ) (blocks : List (List NodeCode)) → ifs_in (all_merged word flag blocks) ≡ all_merged word flag blocks
+blocks_alone word flag [] = refl
+blocks_alone word flag (block ∷ rest) =
+    let left : Option ℕ = leaving_flag block (next_turn rest) in by block (is_some left) (all_merged word left rest) (blocks_alone word left rest)
   where
-    by : (list : List NodeCode) → ifs_in (blocks_code turns rest) ≡ blocks_code turns rest →
-        ifs_in (merged_code list ++ blocks_code turns rest) ≡ merged_code list ++ blocks_code turns rest
-    by [] more = more
-    by (first ∷ others) more = first_if first.test (fused_code first others) (blocks_code turns rest) more
+    by : (list : List NodeCode) (leaves : Bool) (later : List CStmt) → ifs_in later ≡ later →
+        ifs_in (merged_code word flag leaves list ++ later) ≡ merged_code word flag leaves list ++ later
+    by [] leaves later more = more
+    by (first ∷ others) leaves later more = first_if (entered_by word flag first.test) (fused_code leaves first others) later more
 
 -- one for each block, where none is empty and each number is that of a turn
-pub blocks_many : (turns : List NodeCode) (blocks : List (List ℕ)) → ((block : List ℕ) → Contains blocks block → 0 < length block) →
-    ((k : ℕ) → Contains (joined blocks) k → k < length turns) → length (blocks_code turns blocks) ≡ length blocks
-blocks_many turns [] filled within = refl
-blocks_many turns ([] ∷ rest) filled within = absurd (let none : 0 < 0 = filled [] (here [] rest) in omega (arith, none))
-blocks_many turns ((k ∷ more) ∷ rest) filled within =
+merged_many : (word : ℕ → Text) (turns : List NodeCode) (flag : Option ℕ) (blocks : List (List ℕ)) →
+    ((block : List ℕ) → Contains blocks block → 0 < length block) →
+    ((k : ℕ) → Contains (joined blocks) k → k < length turns) → length (all_merged word flag (map (picked turns) blocks)) ≡ length blocks
+merged_many word turns flag [] filled within = refl
+merged_many word turns flag ([] ∷ rest) filled within = absurd (let none : 0 < 0 = filled [] (here [] rest) in omega (arith, none))
+merged_many word turns flag ((k ∷ more) ∷ rest) filled within =
     let found = there_at turns k (within k (here k (more ++ joined rest))) in
-    ap (λ (o : Option NodeCode). length (merged_code (option_to_list o ++ picked turns more) ++ blocks_code turns rest)) found.1
+    ap (λ (o : Option NodeCode). length (all_merged word flag ((option_to_list o ++ picked turns more) ∷ map (picked turns) rest))) found.1
     ∙ ap suc
-    (blocks_many turns rest (λ block at. filled block (further (k ∷ more) rest block at))
+    (merged_many word turns (leaving_flag (found.0 ∷ picked turns more) (next_turn (map (picked turns) rest))) rest
+    (λ block at. filled block (further (k ∷ more) rest block at))
     (λ j at. within j (Contains-append_right (k ∷ more) (joined rest) j at)))
+
+pub blocks_many : (word : ℕ → Text) (turns : List NodeCode) (blocks : List (List ℕ)) → ((block : List ℕ) → Contains blocks block → 0 < length block) →
+    ((k : ℕ) → Contains (joined blocks) k → k < length turns) → length (blocks_code word turns blocks) ≡ length blocks
+blocks_many word turns = merged_many word turns None
 
 -- ---- bodies
 
@@ -147,7 +157,8 @@ body_stands a =
 pub ifs_are : (a : Activity) → ifs_in (activity_code a) ≡ blocks_in_order a
 ifs_are a =
     ap ifs_in (body_stands a) ∙ filter-append is_if (before a) (blocks_in_order a)
-    ∙ ap (λ (ifs : List CStmt). ifs ++ ifs_in (blocks_in_order a)) (before_sets a).none ∙ blocks_alone (turns_in_source a) a.blocks
+    ∙ ap (λ (ifs : List CStmt). ifs ++ ifs_in (blocks_in_order a)) (before_sets a).none
+    ∙ blocks_alone (activity_view a).word None (map (picked (turns_in_source a)) a.blocks)
 
 -- a body whose blocks have one `if` each
 pub body_has : (a : Activity) (blocks : List (List ℕ)) → length (blocks_in_order a) ≡ length blocks → HasIfForEach blocks (activity_code a)

@@ -273,10 +273,11 @@ module _ (law : RulesAreListed) (bodies : BodiesAreNumbered) (alike : BlocksAlik
   code_so =
       ap₂ (λ (counters : List ℕ) (start : List CStmt). map rested_code counters
       ++ (start
-      ++ (map (c_copied (activity_view a).site) (copied_told unit) ++ blocks_code (map (numbered_turn (view_told t)) t.rules) t.blocks))) counters_so entry_so
-      ∙ ap (λ (turns : List NodeCode). map rested_code (filter (is_read_by rules) (up_to (length t.sizes)))
-      ++ (entry_code (activity_view a) (plain_body unit.body) ++ (map (c_copied (activity_view a).site) (copied_told unit) ++ blocks_code turns t.blocks)))
-      (turns_so ∙ sym (bodies (activity_view a) unit.body (joined one.blocks) one.slots refl))
+      ++ (map (c_copied (activity_view a).site) (copied_told unit) ++ blocks_code (view_told t).word (map (numbered_turn (view_told t)) t.rules) t.blocks)))
+      counters_so entry_so
+      ∙ ap₂ (λ (word : ℕ → Text) (turns : List NodeCode). map rested_code (filter (is_read_by rules) (up_to (length t.sizes)))
+      ++ (entry_code (activity_view a) (plain_body unit.body) ++ (map (c_copied (activity_view a).site) (copied_told unit) ++ blocks_code word turns t.blocks)))
+      word_so (turns_so ∙ sym (bodies (activity_view a) unit.body (joined one.blocks) one.slots refl))
 
   locals_so : locals_told t ≡ (activity_function a).locals
   locals_so =

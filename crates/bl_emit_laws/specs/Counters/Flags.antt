@@ -1,5 +1,6 @@
 -- Which flags the C function of an activity has, and what asks for them.
-use Rattle.std.specs.Prelude.{◌≡◌, Bool, true, false, ◌&&◌, ◌||◌, ◌==◌, not, List, [], ◌∷◌, map, Option, Some, None, filter, is_some, length, nat_eq}
+use Rattle.std.specs.Prelude.{◌≡◌, ℕ, Bool, true, false, ◌&&◌, ◌||◌, ◌==◌, not, List, [], ◌∷◌, ◌++◌, map, Option, Some, None, filter, is_some, length, nat_eq}
+use Rattle.std.specs.Prelude.{if◌then◌else◌}
 use Rattle.std.specs.Char.{is_ascii_digit}
 use Rattle.std.specs.List.{list_all}
 use Rattle.bl_tree.specs.declared.text.Text.{Text}
@@ -11,6 +12,8 @@ use Rattle.bl_tree.specs.declared.c.CStmtKind.{out-CStmtKind}
 use Rattle.bl_tree.specs.declared.c.CStmtKind.TheOpen.{CStmtKind-F, CStmt-F}
 use Rattle.bl_tree.specs.declared.tree.Unit.{Unit as UnitDef}
 use Rattle.bl_tree.specs.Reduce.{joined}
+use Rattle.bl_tree.specs.Rules.{same_place}
+use Rattle.bl_graph_nodes.specs.Nodes.{EnterAt, Node, ResumeAt}
 use Rattle.bl_graph_nodes.specs.Plain.{plain_body}
 use Rattle.bl_machine.specs.declared.machine.Activity.{Activity as InMachine}
 use Rattle.bl_machine_pass.specs.Numbered.{slots_of}
@@ -90,16 +93,52 @@ inside s = kind_block (out-CStmtKind (out-CStmt s).what)
 
 -- ---- functions
 
+-- the rules of an activity's nodes, by its part of a machine
+abbrev pub rules_by : UnitDef → InMachine → List Transition
+rules_by unit one = rules (slots_of (plain_body unit.body) one.slots) (plain_body unit.body)
+
 -- the rules of the nodes that stand first in the activity's blocks in a machine
 abbrev pub rules_first : UnitDef → InMachine → List Transition
-rules_first unit one = picked (rules (slots_of (plain_body unit.body) one.slots) (plain_body unit.body)) (first_positions one.blocks)
+rules_first unit one = picked (rules_by unit one) (first_positions one.blocks)
 
--- An activity's function has as many flags as there are blocks whose first node waits by a flag. The conditions of these `if`s read them, each once. No
--- condition of an `if` within them reads one
+-- the rules of the nodes of each of the activity's blocks in a machine
+abbrev pub rules_in_blocks : UnitDef → InMachine → List (List Transition)
+rules_in_blocks unit one = map (picked (rules_by unit one)) one.blocks
+
+-- how many flags a block has of its own: one if its first node waits by a flag
+abbrev pub own_many : List Transition → ℕ
+own_many [] = 0
+own_many (first ∷ rest) = if is_flagged first.condition then 1 else 0
+
+-- whether the second node goes on with the `run` that the first one begins
+abbrev pub goes_on_with : Node → Node → Bool
+goes_on_with (EnterAt l at arguments) (ResumeAt m place given) = same_place at place
+goes_on_with _ _ = false
+
+-- whether a block leaves the call of a `run` to the next one: the last node of the first begins it, and the first node of the second goes on with it
+abbrev pub leaves_call : List Transition → List Transition → Bool
+leaves_call (last ∷ []) (first ∷ rest) = goes_on_with last.node first.node
+leaves_call (rule ∷ more ∷ rest) block = leaves_call (more ∷ rest) block
+leaves_call _ _ = false
+
+-- The flags that the conditions of blocks read, block by block: those that the block has of its own, and before them those of the block before it, if that
+-- leaves it a call. The first two lists are the rules and the flags of the block before
+abbrev pub flags_in_turn : List Transition → List Text → List (List Transition) → List (List Text) → List (List Text)
+flags_in_turn before given (block ∷ blocks) (own ∷ rest) =
+    (if leaves_call before block then given ++ own else own) ∷ flags_in_turn block own blocks rest
+flags_in_turn before given _ _ = []
+
+-- An activity's function has as many flags as there are blocks whose first node waits by a flag. The condition of the `if` of such a block reads that flag. The
+-- condition of a block to which the block before leaves a call reads first the flag of that block. No condition reads another flag, and none of an `if` within
+-- these `if`s reads one
 pub record HasFlagForEach (unit : UnitDef) (one : InMachine) (function : CFunc) (blocks : List CStmt) : Type 0 where
-  -- the conditions of the `if`s read the flags one after another, in the order of the locals
-  pub asked : joined (map flags_asked blocks) ≡ flags_of function
+  -- the flags that each block has of its own, which are those of the function, in the order of the locals
+  pub own : List (List Text)
+  pub each : map (λ (flags : List Text). length flags) own ≡ map own_many (rules_in_blocks unit one)
+  pub all : joined own ≡ flags_of function
   -- there are as many flags as nodes that stand first in a block and wait by a flag
   pub many : length (flags_of function) ≡ length (filter (λ (rule : Transition). is_flagged rule.condition) (rules_first unit one))
+  -- the conditions of the `if`s read them
+  pub asked : map flags_asked blocks ≡ flags_in_turn [] [] (rules_in_blocks unit one) own
   -- the condition of each `if` within them is no literal, and reads no flag
   pub decided : list_all decides (joined (map inside blocks)) ≡ true

@@ -32,7 +32,7 @@ is_last (t ∷ ts) = false
 
 -- what an act or a head does itself is all that it does by a rule without changes
 pub own_alone : (view : ActivityView) (u : ℕ) (rule : Transition) (n : Node) → goes_straight n ≡ true →
-    node_code view u (shown_rule false rule) n ≡ own_code view n
+    node_code view u (shown_rule false rule) n ≡ own_code view u rule n
 own_alone view u rule (ActAt l s) straight = append-nil (acted view s)
 own_alone view u rule (HeadAt l at) straight = refl
 own_alone view u rule (TestAt l at e) straight = absurd (cc)

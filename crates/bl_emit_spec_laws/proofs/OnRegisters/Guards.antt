@@ -142,7 +142,7 @@ module _ (scope : Scope) (here : Memory) where
       by true = refl
       by false = refl
 
-  or_shows : (e f : CExpr) (a b : Bool) → Shows e a → Shows f b → Shows (c_two Or e f) (a || b)
+  pub or_shows : (e f : CExpr) (a b : Bool) → Shows e a → Shows f b → Shows (c_two Or e f) (a || b)
   or_shows e f a b first second =
       or-number scope here e f
       ∙ (ap₂ (λ (x y : Option ℤ). option_and_then (λ x. if is_one x then Some (pos 1) else y) x) first second ∙ by a)

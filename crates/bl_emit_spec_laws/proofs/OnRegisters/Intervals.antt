@@ -1,6 +1,6 @@
 -- The C that asks for one of several numbers of a counter, which follow one another, by the first and the last of them; and any guard.
 use Rattle.std.proofs.Common.{◌≡◌, ℕ, suc, ◌≤◌, ◌<◌, ℤ, pos, Bool, true, false, ◌&&◌, ◌||◌, List, [], ◌∷◌, Option}
-use Rattle.std.proofs.Common.{Some, refl, sym, ap, ap₂}
+use Rattle.std.proofs.Common.{None, Some, refl, sym, ap, ap₂}
 use Rattle.std.proofs.Common.{◌∙◌, arith, subst}
 use Rattle.std.proofs.lemmas.Bool.{eq-eqb, eqb-true, le-leb, leb-false, leb-true}
 use Rattle.std.specs.List.{list_all, list_any}
@@ -28,14 +28,14 @@ use Rattle.bl_emit_acts.specs.Trees.{c_literal, c_read, c_two, nowhere}
 use Rattle.bl_machine_pass.specs.Registers.{Registers, are_ended, due_by, is_at}
 use Rattle.bl_machine_pass.specs.Transitions.{Condition}
 use Rattle.bl_machine_pass.specs.Transitions.{Ended, Flagged, Rested, RestedIn}
-use Rattle.bl_emit_spec.specs.Blocks.{ActivityView, counter_type, counter_value, ends_test, greatest_value, guard_of, is_greatest, last_value}
+use Rattle.bl_emit_spec.specs.Blocks.{ActivityView, counter_type, counter_value, ends_test, entered_by, greatest_value, guard_of, is_greatest, last_value}
 use Rattle.bl_emit_spec.specs.Blocks.{rested_between, rested_in, rested_to, rested_within, type_for}
-use Rattle.bl_emit_spec.specs.Names.{rested_place}
-use Rattle.bl_emit_spec_laws.specs.Registers.Laws.{RestsWithin, WordsAgree, are_in_a_row, asks_its_own, fits_counter, follow_on, has_age}
+use Rattle.bl_emit_spec.specs.Names.{flag_place, rested_place, with_word}
+use Rattle.bl_emit_spec_laws.specs.Registers.Laws.{RestsWithin, WordsAgree, are_in_a_row, asks_its_own, fits_counter, follow_on, has_age, has_left, is_left}
 use Rattle.bl_emit_spec_laws.specs.Registers.Registers.{Registered, RegistersEncoded}
 use Rattle.bl_emit_spec_laws.proofs.OnRegisters.Cells.{and_both}
 use Rattle.bl_emit_spec_laws.proofs.OnRegisters.Guards.{Shows, aged_shows, and_shows, ends_show, flag_shows}
-use Rattle.bl_emit_spec_laws.proofs.OnRegisters.Guards.{literal_gives, or_false, rested_gives, rested_shows, since_shows, truth_shows}
+use Rattle.bl_emit_spec_laws.proofs.OnRegisters.Guards.{literal_gives, or_false, or_shows, rested_gives, rested_shows, since_shows, truth_shows}
 use Rattle.bl_emit_spec_laws.proofs.OnRegisters.Numbers.{compare-number, gives, one-number}
 
 -- ---- numbers in a row
@@ -235,7 +235,7 @@ module _ (scope : Scope) (here : Memory) where
 
     -- ---- guards
 
-    pub guard_shows : WordsAgree view has → (n : Node) (condition : Condition) → asks_its_own view has n condition ≡ true →
+    guard_shows : WordsAgree view has → (n : Node) (condition : Condition) → asks_its_own view has n condition ≡ true →
         Shows scope here (guard_of view n condition) (due_by view.number r n condition)
     guard_shows words n Flagged its = flag_shows scope here view has r hold words (view.number n) its
     guard_shows words n (Rested slot) its = rested_shows scope here view has r hold within slot its
@@ -247,3 +247,12 @@ module _ (scope : Scope) (here : Memory) where
         let found = and_both (has_age view.number has age) (list_all (λ slot. has.counters slot.counter) needed.slots) its in
         aged_shows scope here view has r hold words age (ends_test view needed) (are_ended r.counters needed) found.0
         (ends_show scope here view has r hold needed found.1)
+
+    -- where a block leaves its call, its flag is asked for too
+    pub guards_show : WordsAgree view has → (before : Option ℕ) (n : Node) (condition : Condition) → has_left has before ≡ true →
+        asks_its_own view has n condition ≡ true →
+        Shows scope here (entered_by view.word before (guard_of view n condition)) (is_left r before || due_by view.number r n condition)
+    guards_show words None n condition left its = guard_shows words n condition its
+    guards_show words (Some k) n condition left its =
+        or_shows scope here (c_read (flag_place (with_word view.word k))) (guard_of view n condition) (r.flags k) (due_by view.number r n condition)
+        (flag_shows scope here view has r hold words k left) (guard_shows words n condition its)

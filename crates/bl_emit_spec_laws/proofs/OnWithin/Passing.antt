@@ -115,7 +115,7 @@ module _ (orderly : AcceptedIsOrderly) (spots : SpotsDiffer) (structs : List Str
           {r' : Registers} → Executes W R S C i k frames store copies r frames' left r' → Held frames → Own i r → Held frames' × Own i r'
       pass_within (executes.ends is all) held own = (held, own)
       pass_within (executes.skips is none rest) held own = pass_within rest held own
-      pass_within (executes.acts {i = i} {r = r} {answer = answer} {unit = unit} is rule has numbered due sees performs rest) held own =
+      pass_within (executes.acts {i = i} {r = r} {answer = answer} {unit = unit} is rule has numbered due alone sees performs rest) held own =
           pass_within rest (turn_within performs held) (rule_within compiled i unit rule answer r is has own)
 
       turn_within : {i : ℕ} {n : Node} {frames : Frames} {store : Store} {answer : Bool} {frames' : Frames} {left : Store} →

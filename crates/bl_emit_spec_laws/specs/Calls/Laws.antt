@@ -1,5 +1,5 @@
 -- What holds of the C functions of a program's activities.
-use Rattle.std.specs.Prelude.{◌≡◌, ℕ, zero, suc, ◌+◌, ◌<◌, ◌≤◌, ◌^◌, Bool, true, false, List, [], ◌∷◌, ◌++◌, map, length}
+use Rattle.std.specs.Prelude.{◌≡◌, ℕ, zero, suc, ◌+◌, ◌<◌, ◌≤◌, ◌^◌, Bool, true, false, ◌||◌, List, [], ◌∷◌, ◌++◌, map, length, Option}
 use Rattle.std.specs.Prelude.{is_some, Contains, None, Some, if◌then◌else◌}
 use Rattle.std.specs.Prelude.{slice_get}
 use Rattle.bl_tree.specs.declared.c.CStmt.{CStmt}
@@ -44,14 +44,14 @@ use Rattle.bl_emit_spec.specs.Activities.{
   rested_code,
 }
 use Rattle.bl_emit_functions.specs.Trees.{c_if}
-use Rattle.bl_emit_spec.specs.Blocks.{ActivityView, guard_of, node_code, unit_may_end}
-use Rattle.bl_emit_spec_laws.specs.Registers.Laws.{RegistersWithin}
+use Rattle.bl_emit_spec.specs.Blocks.{ActivityView, entered_by, guard_of, node_code, own_code, unit_may_end}
+use Rattle.bl_emit_spec_laws.specs.Registers.Laws.{RegistersWithin, has_left, is_left}
 use Rattle.bl_emit_spec_laws.specs.Registers.Registers.{FewRegisters, frame_at, over_at}
 use Rattle.bl_machine.specs.declared.machine.Activity.{Activity as InMachine}
 use Rattle.bl_machine.specs.Machines.{AreActivitiesOf}
 use Rattle.bl_machine_pass.specs.Registers.{Registers, after_rule, is_due}
 use Rattle.bl_machine_pass.specs.Transitions.{Transition}
-use Rattle.bl_machine_pass_laws_execution.specs.Executes.{CopiesMatch, Executes, HasRule, NodeTraps, PassTraps, Performs, recopied}
+use Rattle.bl_machine_pass_laws_execution.specs.Executes.{CopiesMatch, Executes, HasRule, IsSameRun, NodeTraps, PassTraps, Performs, recopied}
 use Rattle.bl_machine_pass_laws_execution.specs.Frames.{Frames}
 use Rattle.bl_emit_spec_laws.specs.Calls.Built.{Activities, AreBuilt, activity_at, cleared, last_rules, rank_by, registered, site_at, slots_by, unit_number}
 use Rattle.bl_emit_spec_laws.specs.Calls.Calls.{ActivitySimulates, CallAddresses, CallBegins, FramesWithin, MayGive, PassStarts, passed_to}
@@ -137,9 +137,9 @@ pub record CalledAt (body : Block) (n : Node) (u : ℕ) : Type 0 where
   pub node : slice_get (nodes_in body) position ≡ Some n
   pub unit : slice_get (callees_in body) position ≡ Some u
 
--- an `if` by the guard of a rule
-abbrev pub guarded_by_rule : ActivityView → Transition → List CStmt → CStmt
-guarded_by_rule view rule code = c_if (guard_of view rule.node rule.condition) code None
+-- an `if` by the guard of a rule, where there is a number behind a block that leaves its call to it, whose flag this is
+abbrev pub guarded_by_rule : ActivityView → Option ℕ → Transition → List CStmt → CStmt
+guarded_by_rule view before rule code = c_if (entered_by view.word before (guard_of view rule.node rule.condition)) code None
 
 -- a rule as the C of its block has it: without its changes, where another node stands behind its own in the block
 abbrev pub shown_rule : Bool → Transition → Transition
@@ -195,21 +195,62 @@ pub record BlocksSimulate (structs : List StructDef) (units : List UnitDef) (ent
       CopiesMatch w i rule.node store copies → NodeTraps w (rank_by w activities) (slots_by w activities) (cleared w) i rule.node frames store →
       (block_done w activities i u rule scope here).end ≡ traps
 
--- an `if` by the guard of a rule, whose node is the first of its block, does what stands in it where the rule is due, and else nothing
+-- The own code of a start, which leaves its call to the next block, goes on. It leaves memory of the same pass with the start's changes over these frames,
+-- in which what it calls is cleared
+pub record CallIsLeft (structs : List StructDef) (units : List UnitDef) (entry : ℕ) (machine : List InMachine) (activities : Activities) (i : ℕ)
+    (unit : UnitDef) (scope : Scope) (store : Store) (copies : List Value) (r : Registers) (here : Memory) (o : Outcome Memory) : Type 0 where
+  pub ends : o.end ≡ goes_on
+  pub frames : Frames
+  pub stands : Midway structs units entry machine activities i unit scope frames store copies r o.memory
+  pub kept : PassKeepsFrame (site_at (setting_of structs units entry) activities i) unit
+      (remembers_any (activity_at (setting_of structs units entry) activities i)) scope here o.memory
+
+-- the outcome of what a node does itself
+abbrev pub own_done : Setting → Activities → ℕ → ℕ → Transition → Scope → Memory → Outcome Memory
+own_done w activities i u rule scope here =
+    block_c (own_code (activity_view (activity_at w activities i)) u rule rule.node) scope here
+
+-- What the C of a `run` does that calls once. The own code of its start leaves the call; then the code of the node that goes on with it does what the first
+-- pass of the callee does, and traps where that traps
+pub record StartsSimulate (structs : List StructDef) (units : List UnitDef) (entry : ℕ) (machine : List InMachine) (activities : Activities) : Type 0 where
+  pub acts : (i : ℕ) (unit : UnitDef) (scope : Scope) (frames : Frames) (store : Store) (copies : List Value) (r : Registers) (rule other : Transition)
+      (u v : ℕ) (answer : Bool) (frames' : Frames) (left : Store) (here : Memory) → let w = setting_of structs units entry in
+      Midway structs units entry machine activities i unit scope frames store copies r here → HasShownRule w activities i unit rule →
+      HasShownRule w activities i unit other → IsSameRun rule.node other.node → CalledAt (plain_body unit.body) rule.node u →
+      CalledAt (plain_body unit.body) other.node v → CopiesMatch w i rule.node store copies →
+      Performs w (rank_by w activities) (slots_by w activities) (cleared w) i rule.node frames store answer frames' left →
+      let own = own_done w activities i u rule scope here in
+      let after = after_rule (rank_by w activities i) rule answer r in
+      CallIsLeft structs units entry machine activities i unit scope store copies after here own
+      × PartSimulates w activities i unit scope frames' left (recopied w i rule.node left copies) after own.memory
+      (block_done w activities i v other scope own.memory)
+  pub stops : (i : ℕ) (unit : UnitDef) (scope : Scope) (frames : Frames) (store : Store) (copies : List Value) (r : Registers) (rule other : Transition)
+      (u v : ℕ) (here : Memory) → let w = setting_of structs units entry in
+      Midway structs units entry machine activities i unit scope frames store copies r here → HasShownRule w activities i unit rule →
+      HasShownRule w activities i unit other → IsSameRun rule.node other.node → CalledAt (plain_body unit.body) rule.node u →
+      CalledAt (plain_body unit.body) other.node v → CopiesMatch w i rule.node store copies →
+      NodeTraps w (rank_by w activities) (slots_by w activities) (cleared w) i rule.node frames store →
+      let own = own_done w activities i u rule scope here in
+      CallIsLeft structs units entry machine activities i unit scope store copies (after_rule (rank_by w activities i) rule true r) here own
+      × ((block_done w activities i v other scope own.memory).end ≡ traps)
+
+-- An `if` by the guard of a rule, whose node is the first of its block, does what stands in it where the rule is due, or the block before has left it its
+-- call, and else nothing
 pub record GuardsChoose (structs : List StructDef) (units : List UnitDef) (entry : ℕ) (machine : List InMachine) (activities : Activities) : Type 0 where
-  pub enters : (i : ℕ) (unit : UnitDef) (scope : Scope) (frames : Frames) (store : Store) (copies : List Value) (r : Registers) (rule : Transition)
-      (code : List CStmt) (here : Memory) → let w = setting_of structs units entry in
+  pub enters : (i : ℕ) (unit : UnitDef) (scope : Scope) (frames : Frames) (store : Store) (copies : List Value) (r : Registers) (before : Option ℕ)
+      (rule : Transition) (code : List CStmt) (here : Memory) → let w = setting_of structs units entry in
       Midway structs units entry machine activities i unit scope frames store copies r here → HasRule (slots_by w activities) i unit rule →
-      Contains (first_rules (activity_at w activities i)) rule →
-      is_due (rank_by w activities i) rule r ≡ true →
-      let o = block_c (guarded_by_rule (activity_view (activity_at w activities i)) rule code ∷ []) scope here in
+      Contains (first_rules (activity_at w activities i)) rule → has_left (registered (activity_at w activities i)) before ≡ true →
+      (is_left r before || is_due (rank_by w activities i) rule r) ≡ true →
+      let o = block_c (guarded_by_rule (activity_view (activity_at w activities i)) before rule code ∷ []) scope here in
       (o.end ≡ (block_c code scope here).end) × (o.memory ≡ (block_c code scope here).memory)
-  pub skips : (i : ℕ) (unit : UnitDef) (scope : Scope) (frames : Frames) (store : Store) (copies : List Value) (r : Registers) (rule : Transition)
-      (code : List CStmt) (here : Memory) → let w = setting_of structs units entry in
+  pub skips : (i : ℕ) (unit : UnitDef) (scope : Scope) (frames : Frames) (store : Store) (copies : List Value) (r : Registers) (before : Option ℕ)
+      (rule : Transition) (code : List CStmt) (here : Memory) → let w = setting_of structs units entry in
       Midway structs units entry machine activities i unit scope frames store copies r here → HasRule (slots_by w activities) i unit rule →
-      Contains (first_rules (activity_at w activities i)) rule →
-      is_due (rank_by w activities i) rule r ≡ false →
-      let o = block_c (guarded_by_rule (activity_view (activity_at w activities i)) rule code ∷ []) scope here in (o.end ≡ goes_on) × (o.memory ≡ here)
+      Contains (first_rules (activity_at w activities i)) rule → has_left (registered (activity_at w activities i)) before ≡ true →
+      (is_left r before || is_due (rank_by w activities i) rule r) ≡ false →
+      let o = block_c (guarded_by_rule (activity_view (activity_at w activities i)) before rule code ∷ []) scope here in
+      (o.end ≡ goes_on) × (o.memory ≡ here)
 
 -- ---- the whole pass
 

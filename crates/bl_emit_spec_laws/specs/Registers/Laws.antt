@@ -1,5 +1,5 @@
 -- What holds of the C of a pass, beside the registers of the pass.
-use Rattle.std.specs.Prelude.{◌≡◌, ℕ, suc, ◌≤◌, pos, Bool, true, false, ◌&&◌, List, [], ◌∷◌, Some, nat_eq, option_map}
+use Rattle.std.specs.Prelude.{◌≡◌, ℕ, suc, ◌≤◌, pos, Bool, true, false, ◌&&◌, ◌||◌, List, [], ◌∷◌, Option, None, Some, nat_eq, option_map}
 use Rattle.std.specs.List.{list_all}
 use Rattle.bl_tree.specs.Numbers.{number_of}
 use Rattle.bl_tree.specs.Scalar.{in_range}
@@ -12,7 +12,7 @@ use Rattle.bl_ctext_semantics.specs.Memory.{Memory, scalar_number}
 use Rattle.bl_machine_pass.specs.Registers.{Registers, all_changed, due_by}
 use Rattle.bl_machine_pass.specs.Transitions.{Age, Change, Condition}
 use Rattle.bl_machine_pass.specs.Transitions.{ClearsBoth, ClearsCounter, Ended, EndsWhen, Finishes, Flagged, IsAny, IsNew, IsOld, Rested, RestedIn, SetsCounter, SetsFlag, SetsMark}
-use Rattle.bl_emit_spec.specs.Blocks.{ActivityView, Sizes, changes_code, counter_type, greatest_value, guard_of}
+use Rattle.bl_emit_spec.specs.Blocks.{ActivityView, Sizes, changes_code, counter_type, entered_by, greatest_value, guard_of}
 use Rattle.bl_emit_spec_laws.specs.Registers.Registers.{ApartFromPointers, FewRegisters, FramePointersAreValid, PointersOlder, Registered, RegistersApart}
 use Rattle.bl_emit_spec_laws.specs.Registers.Registers.{RegistersBeside}
 use Rattle.bl_emit_spec_laws.specs.Registers.Registers.{RegistersEncoded, RegistersEncodedAfter, frame_at, over_at}
@@ -87,12 +87,23 @@ asks_its_own view has n (RestedIn slots) =
     list_all (λ slot. has.copied slot.counter) slots && (list_all (fits_counter view.sizes) slots && are_in_a_row slots)
 asks_its_own view has n (Ended age needed) = has_age view.number has age && list_all (λ slot. has.counters slot.counter) needed.slots
 
--- the C of a guard doesn't trap, and is 1 where the guard holds, and 0 where it doesn't
+-- whether the flag of a block that leaves its call is a register of the activity, where there is a number
+abbrev pub has_left : Registered → Option ℕ → Bool
+has_left has None = true
+has_left has (Some k) = has.flags k
+
+-- whether that flag is set
+abbrev pub is_left : Registers → Option ℕ → Bool
+is_left r None = false
+is_left r (Some k) = r.flags k
+
+-- the C of a guard doesn't trap, and is 1 where the guard holds, or the flag of the block before that leaves its call, and 0 where neither does
 abbrev pub GuardsEvaluate : Type 0
 GuardsEvaluate =
-    (view : ActivityView) (has : Registered) (scope : Scope) (n : Node) (condition : Condition) (r : Registers) (here : Memory) →
-    WordsAgree view has → RegistersEncoded has scope r here → RestsWithin view.sizes r → asks_its_own view has n condition ≡ true →
-    option_map scalar_number (value_c (guard_of view n condition) scope here).answer ≡ Some (number_of (due_by view.number r n condition))
+    (view : ActivityView) (has : Registered) (scope : Scope) (before : Option ℕ) (n : Node) (condition : Condition) (r : Registers) (here : Memory) →
+    WordsAgree view has → RegistersEncoded has scope r here → RestsWithin view.sizes r → has_left has before ≡ true → asks_its_own view has n condition ≡ true →
+    option_map scalar_number (value_c (entered_by view.word before (guard_of view n condition)) scope here).answer
+    ≡ Some (number_of (is_left r before || due_by view.number r n condition))
 
 -- ---- what keeps apart
 

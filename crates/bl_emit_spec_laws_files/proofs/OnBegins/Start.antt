@@ -224,7 +224,7 @@ module _ (has : Registered) (site : TypingContext) (scope : Scope) (apart : Regi
             (rested_gives scope m view has r hold 0 (held is).0) (literal_gives scope m _ (pos 0))
             ∙ ap (λ k. Some (number_of (nat_eq k 0))) (held is).1
         by false is =
-            guards view has scope n none_yet r m words hold within (ap (λ b. b && true) first)
+            guards view has scope None n none_yet r m words hold within refl (ap (λ b. b && true) first)
             ∙ ap (λ b. Some (number_of b)) (and_true (nat_eq (r.counters 0) 0))
 
     pub entry_goes : (body : Block) (r : Registers) (m : Memory) →

@@ -21,7 +21,8 @@ use Rattle.bl_emit_spec.specs.Activities.{Activity, activity_view, copies_of, re
 use Rattle.bl_emit_spec.specs.Blocks.{changes_code, unit_may_end}
 use Rattle.bl_emit_spec.specs.Names.{NumberedWord, callee_name, counter_name}
 use Rattle.bl_emit_spec_laws.specs.Registers.Laws.{ChangesSimulate, RegistersKeepApart}
-use Rattle.bl_emit_spec_laws.specs.Registers.Registers.{FewRegisters, FramePointersAreValid, Register, Registered, RegistersApart, RegistersBeside, RegistersEncodedAfter}
+use Rattle.bl_emit_spec_laws.specs.Registers.Registers.{FewRegisters, FramePointersAreValid, Register, Registered, RegistersApart, RegistersBeside}
+use Rattle.bl_emit_spec_laws.specs.Registers.Registers.{RegistersEncodedAfter}
 use Rattle.bl_emit_spec_laws.specs.Registers.Registers.{frame_at, has_register, register_at}
 use Rattle.bl_machine_pass.specs.Registers.{Registers, all_changed}
 use Rattle.bl_machine_pass_laws_execution.specs.Frames.{Frames}

@@ -1,6 +1,6 @@
 -- What an `if` comes to.
 use Rattle.std.proofs.Common.{◌≡◌, ℕ, ◌+◌, ℤ, Bool, true, false, List, [], ◌∷◌, map, Option, Some, None, refl, sym, ap, ◌∙◌, subst}
-use Rattle.std.specs.Prelude.{Contains, option_map, unwrap_or, if◌then◌else◌}
+use Rattle.std.specs.Prelude.{Contains, ◌||◌, option_map, unwrap_or, if◌then◌else◌}
 use Rattle.bl_tree.specs.declared.place.Place.{Place}
 use Rattle.bl_tree.specs.declared.c.CArg.{CArg}
 use Rattle.bl_tree.specs.declared.c.CCall.{CCall}
@@ -21,8 +21,8 @@ use Rattle.bl_emit_acts.specs.Trees.{nowhere}
 use Rattle.bl_emit_functions.specs.Statements.{else_code}
 use Rattle.bl_emit_functions.specs.Trees.{c_if}
 use Rattle.bl_emit_spec.specs.Activities.{activity_view, first_rules}
-use Rattle.bl_emit_spec.specs.Blocks.{choice_code, guard_of, spelled_in_kind, spelled_truth}
-use Rattle.bl_emit_spec_laws.specs.Registers.Laws.{GuardsEvaluate}
+use Rattle.bl_emit_spec.specs.Blocks.{choice_code, entered_by, guard_of, spelled_in_kind, spelled_truth}
+use Rattle.bl_emit_spec_laws.specs.Registers.Laws.{GuardsEvaluate, has_left, is_left}
 use Rattle.bl_ctree.specs.Instances.{Setting, setting_of}
 use Rattle.bl_ctree.specs.Store.{Store}
 use Rattle.bl_emit_spec_laws.specs.Calls.Built.{Activities, activity_at, rank_by, registered, slots_by}
@@ -189,31 +189,34 @@ choice_alone scope here Q test on_true other chosen = by (spelled_truth test) re
 
 -- ---- blocks
 
--- an `if` by the guard of a rule, where it is known whether the rule is due
+-- an `if` by the guard of a rule, where it is known whether it is entered
 module _ (show : GuardsEvaluate) (structs : List StructDef) (units : List UnitDef) (entry : ℕ) (machine : List InMachine) (activities : Activities)
     (own : RulesOwn (setting_of structs units entry) activities) where
   abbrev w : Setting
   w = setting_of structs units entry
 
-  chosen : (i : ℕ) (unit : UnitDef) (scope : Scope) (frames : Frames) (store : Store) (copies : List Value) (r : Registers) (rule : Transition)
-      (code : List CStmt) (here : Memory) → Midway structs units entry machine activities i unit scope frames store copies r here →
-      HasRule (slots_by w activities) i unit rule → Contains (first_rules (activity_at w activities i)) rule → (b : Bool) → is_due (rank_by w activities i) rule r ≡ b → (Q : End → Memory → Type 0) →
-      Chosen scope here Q code None (Some b) →
-      Q (block_c (guarded_by_rule (activity_view (activity_at w activities i)) rule code ∷ []) scope here).end
-      (block_c (guarded_by_rule (activity_view (activity_at w activities i)) rule code ∷ []) scope here).memory
-  chosen i unit scope frames store copies r rule code here midway there first b due Q so =
+  chosen : (i : ℕ) (unit : UnitDef) (scope : Scope) (frames : Frames) (store : Store) (copies : List Value) (r : Registers) (before : Option ℕ)
+      (rule : Transition) (code : List CStmt) (here : Memory) → Midway structs units entry machine activities i unit scope frames store copies r here →
+      HasRule (slots_by w activities) i unit rule → Contains (first_rules (activity_at w activities i)) rule →
+      has_left (registered (activity_at w activities i)) before ≡ true → (b : Bool) →
+      (is_left r before || is_due (rank_by w activities i) rule r) ≡ b → (Q : End → Memory → Type 0) → Chosen scope here Q code None (Some b) →
+      Q (block_c (guarded_by_rule (activity_view (activity_at w activities i)) before rule code ∷ []) scope here).end
+      (block_c (guarded_by_rule (activity_view (activity_at w activities i)) before rule code ∷ []) scope here).memory
+  chosen i unit scope frames store copies r before rule code here midway there first left b due Q so =
       let a = activity_at w activities i in
       let asks = own.asks i unit rule midway.is_there there first in
       let shown =
-      show (activity_view a) (registered a) scope rule.node rule.condition r here (λ k. refl) midway.stands.registers midway.within.rested asks in
-      if_block scope here Q (guard_of (activity_view a) rule.node rule.condition) code None b (shown ∙ ap (λ b. Some (number_of b)) due) so
+      show (activity_view a) (registered a) scope before rule.node rule.condition r here (λ k. refl) midway.stands.registers midway.within.rested left asks
+      in
+      if_block scope here Q (entered_by (activity_view a).word before (guard_of (activity_view a) rule.node rule.condition)) code None b
+      (shown ∙ ap (λ b. Some (number_of b)) due) so
 
 pub guards_choose : GuardsEvaluate → GuardsSimulate
 guards_choose show structs units entry machine activities own = record {
-  enters = λ i unit scope frames store copies r rule code here midway there first due.
-      chosen show structs units entry machine activities own i unit scope frames store copies r rule code here midway there first true due
+  enters = λ i unit scope frames store copies r before rule code here midway there first left due.
+      chosen show structs units entry machine activities own i unit scope frames store copies r before rule code here midway there first left true due
       (λ e m. (e ≡ (block_c code scope here).end) × (m ≡ (block_c code scope here).memory)) (refl, refl);
-  skips = λ i unit scope frames store copies r rule code here midway there first due.
-      chosen show structs units entry machine activities own i unit scope frames store copies r rule code here midway there first false due
+  skips = λ i unit scope frames store copies r before rule code here midway there first left due.
+      chosen show structs units entry machine activities own i unit scope frames store copies r before rule code here midway there first left false due
       (λ e m. (e ≡ goes_on) × (m ≡ here)) (refl, refl);
 }

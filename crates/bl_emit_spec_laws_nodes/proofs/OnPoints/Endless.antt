@@ -49,7 +49,7 @@ module _ (w : Setting) (rank : ℕ → Node → ℕ) (slots : ℕ → Slots) (cl
       unit_at w i ≡ Some unit → Executes w rank slots clear i k frames store copies r frames' left r' → r.over ≡ false → r'.over ≡ false
   pass_open is (executes.ends of below) going = going
   pass_open is (executes.skips of due more) going = pass_open is more going
-  pass_open is (executes.acts {i = i} {r = r} {answer = answer} {unit = other} of rule has at due sees performs more) going =
+  pass_open is (executes.acts {i = i} {r = r} {answer = answer} {unit = other} of rule has at due alone sees performs more) going =
       pass_open is more
       (rule_open (rank i) rule answer r
       (unit_quiet (slots i) unit rule never (subst (λ (unit : UnitDef). HasRule slots i unit rule) (same_Some other unit (sym of ∙ is)) has)) going)

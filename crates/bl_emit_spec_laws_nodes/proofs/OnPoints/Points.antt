@@ -143,11 +143,11 @@ points_simulate silent choose structs units entry test act return_done end machi
         there called sees point);
   },
   record {
-    enters = λ i unit scope frames store copies r rule code here midway there first due.
-        (choose structs units entry machine activities (stands midway.compiled).own).enters i unit scope frames store copies r rule code here midway
-        there first due;
-    skips = λ i unit scope frames store copies r rule code here midway there first due.
-        (choose structs units entry machine activities (stands midway.compiled).own).skips i unit scope frames store copies r rule code here midway
-        there first due;
+    enters = λ i unit scope frames store copies r before rule code here midway there first left due.
+        (choose structs units entry machine activities (stands midway.compiled).own).enters i unit scope frames store copies r before rule code here midway
+        there first left due;
+    skips = λ i unit scope frames store copies r before rule code here midway there first left due.
+        (choose structs units entry machine activities (stands midway.compiled).own).skips i unit scope frames store copies r before rule code here midway
+        there first left due;
   },
 )

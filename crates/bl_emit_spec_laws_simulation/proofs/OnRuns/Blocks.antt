@@ -1,8 +1,6 @@
 -- The blocks of the nodes at which a `run` begins or goes on.
-use Rattle.std.proofs.Common.{◌≡◌, inl, inr, ℕ, Bool, true, false, List, [], ◌∷◌, ◌++◌, Option, Some, None, refl, sym, ap, ◌∙◌, subst}
-use Rattle.std.proofs.Common.{append_assoc}
+use Rattle.std.proofs.Common.{◌≡◌, inl, inr, ℕ, Bool, true, false, List, [], ◌∷◌, ◌++◌, Option, Some, None, append-nil, refl, sym, ap, ◌∙◌, subst}
 use Rattle.std.proofs.lemmas.Option.{same_Some}
-use Rattle.std.specs.List.{list_any}
 use Rattle.std.specs.Prelude.{slice_get, take, if◌then◌else◌}
 use Rattle.bl_tree.specs.declared.c.CStmt.{CStmt}
 use Rattle.bl_tree.specs.declared.place.Place.{Place}
@@ -14,9 +12,9 @@ use Rattle.bl_tree.specs.Numbers.{number_of}
 use Rattle.bl_tree.specs.Typing.{site_of, target_fits}
 use Rattle.bl_graph_nodes.specs.Nodes.{Arguments, EnterAt, Node, ResumeAt}
 use Rattle.bl_graph_nodes.specs.Plain.{Label, plain_body}
-use Rattle.bl_ctext_semantics.specs.Course.{End, Outcome, goes_on, traps}
-use Rattle.bl_ctext_semantics.specs.Meaning.{Scope, block_c, runs_c}
-use Rattle.bl_ctext_semantics.specs.Memory.{Memory, set_at, zeros}
+use Rattle.bl_ctext_semantics.specs.Course.{Outcome, goes_on, traps}
+use Rattle.bl_ctext_semantics.specs.Meaning.{Scope, block_c}
+use Rattle.bl_ctext_semantics.specs.Memory.{Memory}
 use Rattle.bl_ctree.specs.Actions.{Copies, Gives, Performed, done, given_to, result_at}
 use Rattle.bl_ctree.specs.Instances.{Setting, callee_of, setting_of}
 use Rattle.bl_ctree.specs.Store.{Store, view_at}
@@ -25,16 +23,14 @@ use Rattle.bl_ctree_laws.specs.Pending.{deed}
 use Rattle.bl_ctree_laws_confluence.specs.Deeds.Nesting.{ProgramsNest}
 use Rattle.bl_ctree_laws_confluence.specs.Deeds.Orderly.{AcceptedIsOrderly}
 use Rattle.bl_ctree_laws_confluence.specs.Deeds.Origins.{InstancesHaveCallers}
-use Rattle.bl_emit_acts.specs.Acts.{c_calling, c_clear, c_set}
 use Rattle.bl_emit_acts.specs.Trees.{c_read}
 use Rattle.bl_emit_acts_laws_simulation.specs.Laws.{FramesApart, PlacesSimulate, WritesEncode}
-use Rattle.bl_emit_functions.specs.Trees.{c_if, c_truth}
+use Rattle.bl_emit_functions.specs.Trees.{c_if}
 use Rattle.bl_emit_spec.specs.Activities.{activity_view, remembers_any}
-use Rattle.bl_emit_spec.specs.Blocks.{ActivityView, begun_code, changes_code, unit_may_end, may_end_in, name_in}
-use Rattle.bl_emit_spec.specs.Blocks.{node_code, resumed_code, stmt_where, target_code, word_at}
-use Rattle.bl_emit_spec.specs.Names.{NumberedWord, callee_frame, ended_place, frame_name}
+use Rattle.bl_emit_spec.specs.Blocks.{ActivityView, changes_code, unit_may_end, may_end_in, node_code, own_code}
+use Rattle.bl_emit_spec.specs.Blocks.{resumed_code, run_code, stmt_where, target_code, word_at}
+use Rattle.bl_emit_spec.specs.Names.{NumberedWord, ended_place}
 use Rattle.bl_emit_spec_laws.specs.Registers.Laws.{RegistersKeepApart}
-use Rattle.bl_emit_spec_laws.specs.Registers.Registers.{frame_at}
 use Rattle.bl_machine.specs.declared.machine.Activity.{Activity as InMachine}
 use Rattle.bl_machine_laws.specs.Passes.Follows.{DeedYields}
 use Rattle.bl_machine_pass.specs.Registers.{Registers, after_rule, all_changed, with_at}
@@ -57,32 +53,30 @@ use Rattle.bl_machine_pass_laws_execution.specs.Frames.{Frames}
 use Rattle.bl_machine_pass_laws.specs.Keys.{NodesHaveKeys}
 use Rattle.bl_emit_spec_laws.specs.Calls.Built.{Activities, activity_at, cleared, rank_by, run_by, site_at, slots_by, unit_number}
 use Rattle.bl_emit_spec_laws.specs.Calls.Calls.{FramesWithin, PassStarts}
-use Rattle.bl_emit_spec_laws.specs.Calls.Laws.{CalledAt, HasShownRule, Midway, PartSimulates, PassKeepsFrame, block_done}
-use Rattle.bl_emit_spec_laws.specs.Calls.Memories.{inner}
+use Rattle.bl_emit_spec_laws.specs.Calls.Laws.{BlocksSimulate, CalledAt, CompilationContext, HasShownRule, Midway, PartSimulates, PassKeepsFrame, block_done}
+use Rattle.bl_emit_spec_laws.specs.Calls.Laws.{own_done}
 use Rattle.bl_emit_spec_laws.specs.Calls.Invariant.{PassRepresents}
-use Rattle.bl_emit_spec_laws_nodes.specs.Calling.{NotEnded, RunLeaves, RunOf, RunsEstablish, RunsLeave, RunsSimulate, TargetsSeen}
+use Rattle.bl_emit_spec_laws_nodes.specs.Calling.{RunLeaves, RunOf, RunsEstablish, RunsLeave, TargetsSeen}
 use Rattle.bl_emit_spec_laws.specs.Cleared.{ClearingIsInside}
 use Rattle.bl_emit_spec_laws.specs.Registers.Laws.{RegistersWithin}
 use Rattle.bl_emit_spec_laws.specs.Within.{AllStayWithin}
 use Rattle.bl_emit_spec_laws.proofs.OnWithin.Passing.{frame_within, resumed_within}
-use Rattle.bl_emit_spec_laws.specs.Registers.Laws.{ends_body}
-use Rattle.bl_emit_spec_laws_nodes.specs.Points.Laws.{ChangesSimulateInPass, ResultTold, is_return_node}
+use Rattle.bl_emit_spec_laws_nodes.specs.Points.Laws.{ChangesSimulateInPass, is_return_node}
 use Rattle.bl_emit_spec_laws_nodes.specs.Points.Points.{BodiesEnd, PointsStand}
 use Rattle.bl_emit_spec_laws_nodes.proofs.OnPoints.ActNodes.{append_goes}
 use Rattle.bl_emit_spec_laws_nodes.proofs.OnPoints.Choices.{Alike, Chosen, if_alone}
 use Rattle.bl_emit_spec_laws_nodes.proofs.OnPoints.Endless.{pass_open}
-use Rattle.bl_emit_spec_laws_nodes.proofs.OnPoints.Shown.{ends_true}
-use Rattle.bl_emit_spec_laws_nodes.proofs.OnPoints.Silent.{comes_as, either, no_such, not_so, over_after}
+use Rattle.bl_emit_spec_laws_nodes.proofs.OnPoints.Silent.{comes_as, no_such}
 use Rattle.bl_emit_spec_laws_simulation.proofs.OnGives.Lists.{get_taken}
-use Rattle.bl_emit_spec_laws_simulation.proofs.OnRuns.Asking.{resumes_quiet}
-use Rattle.bl_emit_spec_laws_simulation.proofs.OnRuns.Calls.{after_call, call_comes, call_left, given_fits, inputs_trap, pass_traps, written}
-use Rattle.bl_emit_spec_laws_simulation.proofs.OnRuns.Clearing.{cleared_keeps, cleared_midway, ended_keeps, ended_midway, not_ended}
+use Rattle.bl_emit_spec_laws.proofs.OnPasses.Asking.{resumes_quiet}
+use Rattle.bl_emit_spec_laws_simulation.proofs.OnRuns.Begun.{first_comes, first_inputs, first_stops, own_comes}
+use Rattle.bl_emit_spec_laws_simulation.proofs.OnRuns.Called.{after, call_goes_on, ended, forgotten, inputs_fit, inputs_stop, kept_after, pass_stops}
+use Rattle.bl_emit_spec_laws_simulation.proofs.OnRuns.Called.{unasked}
+use Rattle.bl_emit_spec_laws_simulation.proofs.OnRuns.Changing.{changes_behind, keeping}
 use Rattle.bl_emit_spec_laws.proofs.OnRunPlaces.Entered.{node_by}
-use Rattle.bl_emit_spec_laws_simulation.proofs.OnRuns.Inner.{cleared_own}
 use Rattle.bl_emit_spec_laws_simulation.proofs.OnRuns.Running.{CallsUnit, node_calls, unit_there}
-use Rattle.bl_emit_spec_laws_simulation.proofs.OnRuns.Statements.{clear_ends, ended_truth, forget_goes, forgotten_by, frame_answer, step_goes, step_traps}
+use Rattle.bl_emit_spec_laws_simulation.proofs.OnRuns.Statements.{ended_truth, step_goes}
 use Rattle.bl_emit_spec_laws_simulation.proofs.OnRuns.Targets.{target_comes, target_typed}
-use Rattle.bl_ctree_laws_confluence.specs.Deeds.Nesting as nesting
 use Rattle.bl_emit_spec_laws.proofs.OnRunPlaces.Words.{run_word}
 
 -- no changes are none where they are shown
@@ -120,36 +114,12 @@ module _ (orderly : AcceptedIsOrderly) (callers : InstancesHaveCallers) (nests :
     abbrev Keeping : Memory → Memory → Type 0
     Keeping = PassKeepsFrame (site_at w activities i) unit (remembers_any (activity_at w activities i)) scope
 
-    -- one after the other
-    keeping : (a b c : Memory) → Keeping a b → Keeping b c → Keeping a c
-    keeping a b c one two root way older outside = two root way older outside ∙ one root way older outside
-
     -- the block does what the C of its node does
     chosen : (n : Node) → rule.node ≡ n → (block.end ≡ (block_c (node_code view u rule n) scope here).end)
         × (block.memory ≡ (block_c (node_code view u rule n) scope here).memory)
     chosen n is =
         let code = ap (node_code view u rule) is in
         (ap (λ code. (block_c code scope here).end) code, ap (λ code. (block_c code scope here).memory) code)
-
-    -- changes behind what was done
-    changes_behind : (frames' : Frames) (left : Store) (after : Memory) → is_return_node rule.node ≡ false → Keeping here after →
-        PassRepresents w activities i unit scope frames' left copies r after →
-        PartSimulates w activities i unit scope frames' left copies (all_changed number rule.on_true r) here (block_c (changes_code view rule.on_true) scope after)
-    changes_behind frames' left after no_return kept stands =
-        let told : ResultTold unit i scope left (all_changed number rule.on_true r) after =
-        λ value over one is. stands.result value
-        (either r.over (list_any ends_body rule.on_true) (over_after number rule.on_true r over)
-        (not_so (list_any ends_body rule.on_true)
-        (λ ending. no_such
-        (sym (ends_true activities units (end activities midway.compiled.well_typed) i unit w rule there midway.function.is_there midway.function.active one
-        ending) ∙ no_return))))
-        one is in
-        let changed = stand structs units entry machine activities i unit scope frames' left copies r after rule.on_true midway.compiled midway.function
-        midway.is_there points.remembering stands (points.own.on_true i unit rule midway.is_there there) told in record {
-          ends = changed.ends;
-          stands = changed.stands;
-          kept = keeping here after _ kept changed.kept;
-        }
 
     -- ---- one `run`
 
@@ -171,12 +141,6 @@ module _ (orderly : AcceptedIsOrderly) (callers : InstancesHaveCallers) (nests :
         word_is : n ≡ word_at view at u
         word_is = run_word w activities i j at run.callee ∙ ap (word_at view at) is_number
 
-        chosen_begun : (is : rule.node ≡ EnterAt l at arguments) → (block.end ≡ (block_c (begun_code view n u arguments rule) scope here).end)
-            × (block.memory ≡ (block_c (begun_code view n u arguments rule) scope here).memory)
-        chosen_begun is =
-            subst (λ (k : NumberedWord). (block.end ≡ (block_c (begun_code view k u arguments rule) scope here).end)
-            × (block.memory ≡ (block_c (begun_code view k u arguments rule) scope here).memory)) (sym word_is) (chosen (EnterAt l at arguments) is)
-
         chosen_resumed : (is : rule.node ≡ ResumeAt l at arguments) → (block.end ≡ (block_c (resumed_code view n u arguments rule) scope here).end)
             × (block.memory ≡ (block_c (resumed_code view n u arguments rule) scope here).memory)
         chosen_resumed is =
@@ -195,145 +159,67 @@ module _ (orderly : AcceptedIsOrderly) (callers : InstancesHaveCallers) (nests :
             ∙ (get_taken units k called run.earlier ∙ unit_there w j other run.is_there) in
             ap may_end_in (subst (λ u. slice_get view.site.earlier u ≡ Some other) is_number there)
 
-        abbrev forget : CStmt
-        forget = c_set ended_place (c_truth false)
-
-        abbrev forgotten : Memory → Memory
-        forgotten m = forgotten_by may scope m
-
         -- ---- it begins
 
         module _ (is : rule.node ≡ EnterAt l at arguments) where
-          abbrev clear : CStmt
-          clear = c_clear (callee_frame n) (frame_name (name_in (slice_get view.site.earlier u)))
+          -- the outcome of what its node does itself
+          abbrev own : Outcome Memory
+          own = own_done w activities i u rule scope here
 
-          abbrev cleared_here : Memory
-          cleared_here = set_at here (inner (frame_at scope) n) zeros
+          own_part : PartSimulates w activities i unit scope (cleared w j frames) store copies (after_rule number rule true r) here own
+          own_part =
+              own_comes orderly callers nests clearing stand stay keys placed structs units entry end machine activities gives leaves i unit scope frames
+              store copies r rule u here points midway there l at arguments j other run is_number sees is
 
-          abbrev begun_frames : Frames
-          begun_frames = cleared w j frames
-
-          mid_cleared : Midway structs units entry machine activities i unit scope begun_frames store copies r cleared_here
-          mid_cleared =
-              cleared_midway orderly callers clearing keys placed structs units entry (nests structs units entry) machine activities points.remembering i
-              unit scope frames store copies r here midway l at arguments j run.node run.callee
-
-          mid_begun : Midway structs units entry machine activities i unit scope begun_frames store copies r (forgotten cleared_here)
-          mid_begun =
-              ended_midway orderly callers clearing keys placed structs units entry (nests structs units entry) machine activities points.remembering i
-              unit scope begun_frames store copies r cleared_here mid_cleared may
-
-          sees_begun : CopiesMatch w i (EnterAt l at arguments) store copies
-          sees_begun = subst (λ n. CopiesMatch w i n store copies) is sees
-
-          kept_begun : Keeping here (forgotten cleared_here)
-          kept_begun =
-              keeping here cleared_here (forgotten cleared_here)
-              (cleared_keeps orderly callers clearing keys placed structs units entry (nests structs units entry) machine activities points.remembering i
-              unit scope frames store copies r here midway l at arguments j run.node run.callee)
-              (ended_keeps orderly callers clearing keys placed structs units entry (nests structs units entry) machine activities points.remembering i
-              unit scope begun_frames store copies r cleared_here mid_cleared may)
-
-          abbrev call : CStmt
-          call = c_calling (written structs units entry machine activities gives leaves i unit scope begun_frames store copies r (forgotten cleared_here)
-              mid_begun l at arguments j other run u is_number sees_begun)
-
-          starts_begun : PassStarts w activities j other begun_frames (begun_registers (rank_by w activities) j other)
-          starts_begun = inl (refl, λ c. cleared_own callers clearing structs units entry j frames j nesting.itself c)
-
-          not_ended_begun : NotEnded other scope (forgotten cleared_here)
-          not_ended_begun =
-              not_ended orderly callers clearing keys placed structs units entry (nests structs units entry) machine activities points.remembering i
-              unit scope begun_frames store copies r cleared_here mid_cleared other may may_is
-
-          -- what stands before the call
-          before_call : (rest : List CStmt) →
-              Alike (block_c (clear ∷ (stmt_where may forget ++ rest)) scope here) (block_c rest scope (forgotten cleared_here))
-          before_call rest =
-              let one = step_goes scope clear (stmt_where may forget ++ rest) here cleared_here
-              (clear_ends scope here (callee_frame n) (frame_name (name_in (slice_get view.site.earlier u))) (inner (frame_at scope) n)
-              (frame_answer scope here n)) in
-              let two = forget_goes scope cleared_here may rest in
-              (one.0 ∙ two.0, one.1 ∙ two.1)
-
-          abbrev behind : List CStmt
-          behind = changes_code view rule.on_true
-
-          -- the block does that, the call and the changes
-          begun_so : (block.end ≡ (block_c (clear ∷ (stmt_where may forget ++ call ∷ behind)) scope here).end)
-              × (block.memory ≡ (block_c (clear ∷ (stmt_where may forget ++ call ∷ behind)) scope here).memory)
-          begun_so =
-              subst (λ code. (block.end ≡ (block_c (clear ∷ code) scope here).end) × (block.memory ≡ (block_c (clear ∷ code) scope here).memory))
-              (append_assoc (stmt_where may forget) (call ∷ []) behind) (chosen_begun is)
-
-          trapped : (runs : End) → runs ≡ traps →
-              runs ≡ (runs_c call scope (forgotten cleared_here)).end → block.end ≡ traps
-          trapped runs traps_so same =
-              begun_so.0
-              ∙ ((before_call (call ∷ changes_code view rule.on_true)).0
-              ∙ step_traps scope call (changes_code view rule.on_true) (forgotten cleared_here) (sym same ∙ traps_so))
+          -- the call stands behind it
+          called_so : Alike block (block_c (run_code view n u arguments ++ []) scope own.memory)
+          called_so =
+              let so = chosen (EnterAt l at arguments) is in
+              let code : node_code view u rule (EnterAt l at arguments) ≡ own_code view u rule rule.node ++ run_code view n u arguments =
+              ap (λ own. own ++ run_code view (word_at view at u) u arguments) (ap (own_code view u rule) (sym is))
+              ∙ ap (λ k. own_code view u rule rule.node ++ run_code view k u arguments) (sym word_is) in
+              let both = append_goes scope (own_code view u rule rule.node) (run_code view n u arguments) here own_part.ends in
+              let alone : run_code view n u arguments ≡ run_code view n u arguments ++ [] = sym (append-nil (run_code view n u arguments)) in (
+                so.0 ∙ (ap (λ code. (block_c code scope here).end) code ∙ (both.0 ∙ ap (λ code. (block_c code scope own.memory).end) alone)),
+                so.1 ∙ (ap (λ code. (block_c code scope here).memory) code ∙ (both.1 ∙ ap (λ code. (block_c code scope own.memory).memory) alone)),
+              )
 
           pub enter_inputs : done_by w (deed i at (Copies j arguments.inputs)) store ≡ None → block.end ≡ traps
           enter_inputs did =
-              trapped _ (inputs_trap structs units entry machine activities gives leaves i unit scope begun_frames store copies r
-              (forgotten cleared_here) mid_begun l at arguments j other run u is_number sees_begun did) refl
+              called_so.0
+              ∙ first_inputs orderly callers nests clearing stand stay keys placed structs units entry end machine activities gives leaves i unit scope
+              frames store copies r rule u here points midway there l at arguments j other run is_number sees is [] did
 
           module _ (given : Store) (copied : DeedYields w (deed i at (Copies j arguments.inputs)) store true given) where
-            pub enter_cut : PassTraps w (rank_by w activities) (slots_by w activities) (cleared w) j 0 begun_frames given (view_at w given j).now
-                (begun_registers (rank_by w activities) j other) → block.end ≡ traps
+            pub enter_cut : PassTraps w (rank_by w activities) (slots_by w activities) (cleared w) j 0 (cleared w j frames) given
+                (view_at w given j).now (begun_registers (rank_by w activities) j other) → block.end ≡ traps
             enter_cut cut =
-                trapped _ (pass_traps structs units entry machine activities gives leaves i unit scope begun_frames store copies r
-                (forgotten cleared_here) mid_begun l at arguments j other run u is_number sees_begun given not_ended_begun copied
-                (begun_registers (rank_by w activities) j other) starts_begun cut) refl
+                called_so.0
+                ∙ first_stops orderly callers nests clearing stand stay keys placed structs units entry end machine activities gives leaves i unit scope
+                frames store copies r rule u here points midway there l at arguments j other run is_number sees is given copied [] cut
 
             pub enter_comes : (frames' : Frames) (left : Store) (r' : Registers) →
-                Executes w (rank_by w activities) (slots_by w activities) (cleared w) j 0 begun_frames given (view_at w given j).now
+                Executes w (rank_by w activities) (slots_by w activities) (cleared w) j 0 (cleared w j frames) given (view_at w given j).now
                 (begun_registers (rank_by w activities) j other) frames' left r' →
                 PartSimulates w activities i unit scope (with_at j r'.counters frames') left copies (after_rule number rule true r) here block
             enter_comes frames' left r' executed =
-                let begun = begun_registers (rank_by w activities) j other in
-                let after = after_call structs units entry machine activities gives leaves i unit scope begun_frames store copies r
-                (forgotten cleared_here) mid_begun l at arguments j other run u is_number sees_begun given not_ended_begun copied begun starts_begun
-                frames' left r' executed in
-                let goes = call_comes structs units entry machine activities gives leaves i unit scope begun_frames store copies r
-                (forgotten cleared_here) mid_begun l at arguments j other run u is_number sees_begun given not_ended_begun copied begun starts_begun
-                frames' left r' executed in
-                let ended = call_left structs units entry machine activities gives leaves i unit scope begun_frames store copies r
-                (forgotten cleared_here) mid_begun l at arguments j other run u is_number sees_begun given not_ended_begun copied begun starts_begun
-                frames' left r' executed in
-                let changes = changes_code view rule.on_true in
-                let so = begun_so in
-                let before = before_call (call ∷ changes) in
-                let called_so = step_goes scope call changes (forgotten cleared_here) after goes in
-                comes_as w activities i unit scope (with_at j r'.counters frames') left copies (all_changed number rule.on_true r) here block
-                (block_c changes scope after) (so.0 ∙ (before.0 ∙ called_so.0)) (so.1 ∙ (before.1 ∙ called_so.1))
-                (changes_behind (with_at j r'.counters frames') left after (ap is_return_node is)
-                (keeping here (forgotten cleared_here) after kept_begun ended.kept) ended.stands)
+                let part = first_comes orderly callers nests clearing stand stay keys placed structs units entry end machine activities gives leaves i unit
+                scope frames store copies r rule u here points midway there l at arguments j other run is_number sees is given copied frames' left r'
+                executed in
+                let o = block_c (run_code view n u arguments ++ []) scope own.memory in
+                comes_as w activities i unit scope (with_at j r'.counters frames') left copies (after_rule number rule true r) here block o called_so.0
+                called_so.1
+                (record {
+                  ends = part.ends;
+                  stands = part.stands;
+                  kept = λ root way older outside. part.kept root way older outside ∙ own_part.kept root way older outside;
+                })
 
         -- ---- it goes on
 
         module _ (is : rule.node ≡ ResumeAt l at arguments) where
-          mid_resumed : Midway structs units entry machine activities i unit scope frames store copies r (forgotten here)
-          mid_resumed =
-              ended_midway orderly callers clearing keys placed structs units entry (nests structs units entry) machine activities points.remembering i
-              unit scope frames store copies r here midway may
-
           sees_resumed : CopiesMatch w i (EnterAt l at arguments) store copies
           sees_resumed = subst (λ n. CopiesMatch w i n store copies) is sees
-
-          kept_resumed : Keeping here (forgotten here)
-          kept_resumed =
-              ended_keeps orderly callers clearing keys placed structs units entry (nests structs units entry) machine activities points.remembering i
-              unit scope frames store copies r here midway may
-
-          not_ended_resumed : NotEnded other scope (forgotten here)
-          not_ended_resumed =
-              not_ended orderly callers clearing keys placed structs units entry (nests structs units entry) machine activities points.remembering i
-              unit scope frames store copies r here midway other may may_is
-
-          abbrev calls : CStmt
-          calls = c_calling (written structs units entry machine activities gives leaves i unit scope frames store copies r (forgotten here)
-              mid_resumed l at arguments j other run u is_number sees_resumed)
 
           abbrev told : List CStmt
           told = target_code view n arguments.target ++ changes_code view rule.on_true
@@ -345,23 +231,11 @@ module _ (orderly : AcceptedIsOrderly) (callers : InstancesHaveCallers) (nests :
           abbrev asked_by : Bool → List CStmt
           asked_by may = stmt_where may asked
 
-          -- the block does the call, and what stands behind it
-          resumed_so : (block.end ≡ (block_c (stmt_where may forget ++ calls ∷ asked_by may) scope here).end)
-              × (block.memory ≡ (block_c (stmt_where may forget ++ calls ∷ asked_by may) scope here).memory)
-          resumed_so =
-              subst (λ code. (block.end ≡ (block_c code scope here).end) × (block.memory ≡ (block_c code scope here).memory))
-              (append_assoc (stmt_where may forget) (calls ∷ []) (asked_by may)) (chosen_resumed is)
-
-          stopped : (runs : End) → runs ≡ traps → runs ≡ (runs_c calls scope (forgotten here)).end →
-              block.end ≡ traps
-          stopped runs traps_so same =
-              resumed_so.0
-              ∙ ((forget_goes scope here may (calls ∷ asked_by may)).0 ∙ step_traps scope calls (asked_by may) (forgotten here) (sym same ∙ traps_so))
-
           pub resume_inputs : done_by w (deed i at (Copies j arguments.inputs)) store ≡ None → block.end ≡ traps
           resume_inputs did =
-              stopped _ (inputs_trap structs units entry machine activities gives leaves i unit scope frames store copies r
-              (forgotten here) mid_resumed l at arguments j other run u is_number sees_resumed did) refl
+              (chosen_resumed is).0
+              ∙ inputs_stop orderly callers nests clearing keys placed structs units entry machine activities gives leaves points.remembering i unit scope
+              frames store copies r here midway l at arguments j other run u is_number sees_resumed (asked_by may) did
 
           module _ (given : Store) (copied : DeedYields w (deed i at (Copies j arguments.inputs)) store true given) (runs : frames j 0 ≡ 0 → ⊥) where
             starts_resumed : PassStarts w activities j other frames (resumed_registers frames j)
@@ -370,9 +244,10 @@ module _ (orderly : AcceptedIsOrderly) (callers : InstancesHaveCallers) (nests :
             pub resume_cut : PassTraps w (rank_by w activities) (slots_by w activities) (cleared w) j 0 frames given (view_at w given j).now
                 (resumed_registers frames j) → block.end ≡ traps
             resume_cut cut =
-                stopped _ (pass_traps structs units entry machine activities gives leaves i unit scope frames store copies r
-                (forgotten here) mid_resumed l at arguments j other run u is_number sees_resumed given not_ended_resumed copied
-                (resumed_registers frames j) starts_resumed cut) refl
+                (chosen_resumed is).0
+                ∙ pass_stops orderly callers nests clearing keys placed structs units entry machine activities gives leaves points.remembering i unit scope
+                frames store copies r here midway l at arguments j other run u is_number sees_resumed given copied (resumed_registers frames j)
+                starts_resumed (asked_by may) cut
 
             module _ (frames' : Frames) (left : Store) (r' : Registers)
                 (executed : Executes w (rank_by w activities) (slots_by w activities) (cleared w) j 0 frames given (view_at w given j).now
@@ -381,38 +256,33 @@ module _ (orderly : AcceptedIsOrderly) (callers : InstancesHaveCallers) (nests :
                 abbrev new_frames : Frames
                 new_frames = with_at j r'.counters frames'
 
-                abbrev after : Memory
-                after = after_call structs units entry machine activities gives leaves i unit scope frames store copies r
-                    (forgotten here) mid_resumed l at arguments j other run u is_number sees_resumed given not_ended_resumed copied
+                abbrev called_after : Memory
+                called_after = after orderly callers nests clearing keys placed structs units entry machine activities gives leaves points.remembering i unit
+                    scope frames store copies r here midway l at arguments j other run u is_number sees_resumed given copied
                     (resumed_registers frames j) starts_resumed frames' left r' executed
 
-                ended : RunLeaves w activities i unit scope n j other new_frames left copies r r'.over (forgotten here) after
-                ended = call_left structs units entry machine activities gives leaves i unit scope frames store copies r
-                    (forgotten here) mid_resumed l at arguments j other run u is_number sees_resumed given not_ended_resumed copied
-                    (resumed_registers frames j) starts_resumed frames' left r' executed
+                call_ended : RunLeaves w activities i unit scope n j other new_frames left copies r r'.over (forgotten orderly callers nests clearing keys
+                    placed structs units entry machine activities gives leaves points.remembering i unit scope frames store copies r here midway l at
+                    arguments j other run u is_number sees_resumed) called_after
+                call_ended =
+                    ended orderly callers nests clearing keys placed structs units entry machine activities gives leaves points.remembering i unit scope
+                    frames store copies r here midway l at arguments j other run u is_number sees_resumed given copied (resumed_registers frames j)
+                    starts_resumed frames' left r' executed
 
-                kept_after : Keeping here after
-                kept_after = keeping here (forgotten here) after kept_resumed ended.kept
+                kept_called : Keeping here called_after
+                kept_called =
+                    kept_after orderly callers nests clearing keys placed structs units entry machine activities gives leaves points.remembering i unit scope
+                    frames store copies r here midway l at arguments j other run u is_number sees_resumed given copied (resumed_registers frames j)
+                    starts_resumed frames' left r' executed
 
                 -- what is done behind the call
-                asked_so : (block.end ≡ (block_c (asked_by may) scope after).end) × (block.memory ≡ (block_c (asked_by may) scope after).memory)
+                asked_so : (block.end ≡ (block_c (asked_by may) scope called_after).end) × (block.memory ≡ (block_c (asked_by may) scope called_after).memory)
                 asked_so =
-                    let so = resumed_so in
-                    let before = forget_goes scope here may (calls ∷ asked_by may) in
-                    let called_so = step_goes scope calls (asked_by may) (forgotten here) after
-                    (call_comes structs units entry machine activities gives leaves i unit scope frames store copies r
-                    (forgotten here) mid_resumed l at arguments j other run u is_number sees_resumed given not_ended_resumed copied
-                    (resumed_registers frames j) starts_resumed frames' left r' executed) in
-                    (so.0 ∙ (before.0 ∙ called_so.0), so.1 ∙ (before.1 ∙ called_so.1))
-
-                -- where it hasn't ended, nothing is done
-                asked_not : r'.over ≡ false → (b : Bool) → b ≡ unit_may_end other →
-                    ((block_c (asked_by b) scope after).end ≡ goes_on) × ((block_c (asked_by b) scope after).memory ≡ after)
-                asked_not over true same =
-                    let truth = ended_truth scope after false (ended.over (sym same) ∙ ap number_of over) in
-                    if_alone scope after (λ e m. (e ≡ goes_on) × (m ≡ after)) (c_read ended_place) told None
-                    (subst (Chosen scope after (λ e m. (e ≡ goes_on) × (m ≡ after)) told None) (sym truth) (refl, refl))
-                asked_not over false same = (refl, refl)
+                    let so = chosen_resumed is in
+                    let called = call_goes_on orderly callers nests clearing keys placed structs units entry machine activities gives leaves
+                    points.remembering i unit scope frames store copies r here midway l at arguments j other run u is_number sees_resumed given copied
+                    (resumed_registers frames j) starts_resumed frames' left r' executed (asked_by may) in
+                    (so.0 ∙ called.0, so.1 ∙ called.1)
 
                 -- what never ends hasn't ended
                 over_asked : r'.over ≡ true → may ≡ true
@@ -429,45 +299,47 @@ module _ (orderly : AcceptedIsOrderly) (callers : InstancesHaveCallers) (nests :
                 pub resume_comes : r'.over ≡ false →
                     PartSimulates w activities i unit scope new_frames left copies (after_rule number rule false r) here block
                 resume_comes over =
-                    let rest = asked_not over may may_is in
                     let quiet : rule.on_false ≡ [] =
                     ap (λ (t : Transition). t.on_false) there.is
                     ∙ none_shown there.last there.rule.on_false
                     (resumes_quiet (slots_by w activities i) (plain_body unit.body) there.rule there.there l at arguments
                     (sym (ap (λ (t : Transition). t.node) there.is) ∙ is)) in
                     let unchanged : r ≡ all_changed number rule.on_false r = ap (λ changes. all_changed number changes r) (sym quiet) in
-                    let memory : block.memory ≡ after = asked_so.1 ∙ rest.1 in
+                    let rest = unasked orderly callers nests clearing keys placed structs units entry machine activities gives leaves points.remembering i unit
+                    scope frames store copies r here midway l at arguments j other run u is_number sees_resumed given copied
+                    (resumed_registers frames j) starts_resumed frames' left r' executed over told in
+                    let memory : block.memory ≡ called_after = asked_so.1 ∙ rest.1 in
                     record {
                       ends = asked_so.0 ∙ rest.0;
                       stands = subst (PassRepresents w activities i unit scope new_frames left copies (all_changed number rule.on_false r)) (sym memory)
-                          (subst (λ r. PassRepresents w activities i unit scope new_frames left copies r after) unchanged ended.stands);
-                      kept = subst (Keeping here) (sym memory) kept_after;
+                          (subst (λ r. PassRepresents w activities i unit scope new_frames left copies r called_after) unchanged call_ended.stands);
+                      kept = subst (Keeping here) (sym memory) kept_called;
                     }
 
                 -- it has
                 record Targeted (last : Store) : Type 0 where
                   memory : Memory
-                  goes : (block_c (target_code view n arguments.target) scope after).end ≡ goes_on
-                  leaves_it : (block_c (target_code view n arguments.target) scope after).memory ≡ memory
+                  goes : (block_c (target_code view n arguments.target) scope called_after).end ≡ goes_on
+                  leaves_it : (block_c (target_code view n arguments.target) scope called_after).memory ≡ memory
                   stands : PassRepresents w activities i unit scope new_frames last copies r memory
-                  kept : Keeping after memory
+                  kept : Keeping called_after memory
 
                 within_after : FramesWithin w activities frames' × RegistersWithin (activity_at w activities j).sizes r'
                 within_after =
                     (stay structs units entry machine activities).executes j 0 frames given (view_at w given j).now (resumed_registers frames j) frames'
                     left r' midway.compiled midway.frames_within (resumed_within w activities j frames midway.frames_within) executed
 
-                mid_after : Midway structs units entry machine activities i unit scope new_frames left copies r after
+                mid_after : Midway structs units entry machine activities i unit scope new_frames left copies r called_after
                 mid_after = record {
                   compiled = midway.compiled;
                   is_there = midway.is_there;
                   function = midway.function;
-                  stands = ended.stands;
+                  stands = call_ended.stands;
                   fits = (fitting structs units entry midway.compiled.well_typed).executes (rank_by w activities) (slots_by w activities) (cleared w) j 0
                       frames given (view_at w given j).now (resumed_registers frames j) frames' left r'
-                      (given_fits structs units entry machine activities gives leaves i unit scope frames store copies r
-                      (forgotten here) mid_resumed l at arguments j other run u is_number sees_resumed given not_ended_resumed copied
-                      (resumed_registers frames j) starts_resumed) executed;
+                      (inputs_fit orderly callers nests clearing keys placed structs units entry machine activities gives leaves points.remembering i unit scope
+                      frames store copies r here midway l at arguments j other run u is_number sees_resumed given copied (resumed_registers frames j)
+                      starts_resumed) executed;
                   copies_fit = midway.copies_fit;
                   frames_within = frame_within w activities j r'.counters frames' within_after.1.counters within_after.0;
                   within = midway.within;
@@ -480,10 +352,10 @@ module _ (orderly : AcceptedIsOrderly) (callers : InstancesHaveCallers) (nests :
                     ap (λ (p : Performed). p.store)
                     (same_Some (done (given_to w i None (result_at left j) left)) (record { answer = true; store = last }) did) in
                     record {
-                      memory = after;
-                      goes = ap (λ target. (block_c (target_code view n target) scope after).end) none;
-                      leaves_it = ap (λ target. (block_c (target_code view n target) scope after).memory) none;
-                      stands = subst (λ store. PassRepresents w activities i unit scope new_frames store copies r after) same ended.stands;
+                      memory = called_after;
+                      goes = ap (λ target. (block_c (target_code view n target) scope called_after).end) none;
+                      leaves_it = ap (λ target. (block_c (target_code view n target) scope called_after).memory) none;
+                      stands = subst (λ store. PassRepresents w activities i unit scope new_frames store copies r called_after) same call_ended.stands;
                       kept = λ root way older outside. refl;
                     }
                 targeted over (Some path) some last did =
@@ -491,13 +363,13 @@ module _ (orderly : AcceptedIsOrderly) (callers : InstancesHaveCallers) (nests :
                     (site_of structs (take k units) unit) other.result target ≡ true) some
                     (target_typed callers structs units entry midway.compiled.well_typed activities i unit midway.is_there l at arguments j other run) in
                     let set = target_comes frames_apart keep structs units entry lead write points.views machine activities points.remembering seen i unit
-                    scope new_frames left copies r after mid_after l at arguments j other run n
-                    (λ value one is. ended.result value over one is) path last some did fit in
-                    let one = step_goes scope _ [] after set.after set.ends in
+                    scope new_frames left copies r called_after mid_after l at arguments j other run n
+                    (λ value one is. call_ended.result value over one is) path last some did fit in
+                    let one = step_goes scope _ [] called_after set.after set.ends in
                     record {
                       memory = set.after;
-                      goes = ap (λ target. (block_c (target_code view n target) scope after).end) some ∙ one.0;
-                      leaves_it = ap (λ target. (block_c (target_code view n target) scope after).memory) some ∙ one.1;
+                      goes = ap (λ target. (block_c (target_code view n target) scope called_after).end) some ∙ one.0;
+                      leaves_it = ap (λ target. (block_c (target_code view n target) scope called_after).memory) some ∙ one.1;
                       stands = set.stands;
                       kept = set.kept;
                     }
@@ -505,22 +377,25 @@ module _ (orderly : AcceptedIsOrderly) (callers : InstancesHaveCallers) (nests :
                 pub return_comes : r'.over ≡ true → (last : Store) → DeedYields w (deed i at (Gives j arguments.target)) left true last →
                     PartSimulates w activities i unit scope new_frames last copies (after_rule number rule true r) here block
                 return_comes over last did =
-                    let truth = ended_truth scope after true (ended.over (sym may_is ∙ over_asked over) ∙ ap number_of over) in
-                    let inside = block_c told scope after in
-                    let asks : ((block_c (asked ∷ []) scope after).end ≡ inside.end) × ((block_c (asked ∷ []) scope after).memory ≡ inside.memory) =
-                    if_alone scope after (λ e m. (e ≡ inside.end) × (m ≡ inside.memory)) (c_read ended_place) told None
-                    (subst (Chosen scope after (λ e m. (e ≡ inside.end) × (m ≡ inside.memory)) told None) (sym truth) (refl, refl)) in
+                    let truth = ended_truth scope called_after true (call_ended.over (sym may_is ∙ over_asked over) ∙ ap number_of over) in
+                    let inside = block_c told scope called_after in
+                    let asks : ((block_c (asked ∷ []) scope called_after).end ≡ inside.end) × ((block_c (asked ∷ []) scope called_after).memory ≡ inside.memory) =
+                    if_alone scope called_after (λ e m. (e ≡ inside.end) × (m ≡ inside.memory)) (c_read ended_place) told None
+                    (subst (Chosen scope called_after (λ e m. (e ≡ inside.end) × (m ≡ inside.memory)) told None) (sym truth) (refl, refl)) in
                     let rest =
-                    subst (λ b. ((block_c (asked_by b) scope after).end ≡ inside.end) × ((block_c (asked_by b) scope after).memory ≡ inside.memory))
+                    subst (λ b. ((block_c (asked_by b) scope called_after).end ≡ inside.end) × ((block_c (asked_by b) scope called_after).memory ≡ inside.memory))
                     (sym (over_asked over)) asks in
                     let set = targeted over arguments.target refl last did in
                     let changes = changes_code view rule.on_true in
-                    let alike = append_goes scope (target_code view n arguments.target) changes after set.goes in
+                    let alike = append_goes scope (target_code view n arguments.target) changes called_after set.goes in
                     let end_so = ap (λ (m : Memory). (block_c changes scope m).end) set.leaves_it in
                     let memory_so = ap (λ (m : Memory). (block_c changes scope m).memory) set.leaves_it in
                     comes_as w activities i unit scope new_frames last copies (all_changed number rule.on_true r) here block
                     (block_c changes scope set.memory) (asked_so.0 ∙ (rest.0 ∙ (alike.0 ∙ end_so))) (asked_so.1 ∙ (rest.1 ∙ (alike.1 ∙ memory_so)))
-                    (changes_behind new_frames last set.memory (ap is_return_node is) (keeping here after set.memory kept_after set.kept) set.stands)
+                    (changes_behind stand stay structs units entry end machine activities i unit scope frames store copies r rule here points midway there
+                    new_frames last set.memory (ap is_return_node is)
+                    (keeping stand stay structs units entry end machine activities i unit scope frames store copies r rule here points midway there here
+                    called_after set.memory kept_called set.kept) set.stands)
 
     -- ---- all nodes of `run`s
 
@@ -564,10 +439,14 @@ module _ (orderly : AcceptedIsOrderly) (callers : InstancesHaveCallers) (nests :
         let calls = run_at true l at arguments j is begins in
         resume_cut l at arguments j calls.other calls.run calls.number is given copied runs cut
 
-pub runs_simulate : AcceptedIsOrderly → InstancesHaveCallers → ProgramsNest → FramesApart → RegistersKeepApart → ClearingIsInside →
+pub blocks_simulate : AcceptedIsOrderly → InstancesHaveCallers → ProgramsNest → FramesApart → RegistersKeepApart → ClearingIsInside →
     ChangesSimulateInPass → PassesKeepTypes → AllStayWithin → NodesHaveKeys → StaysPlaced → (structs : List StructDef) (units : List UnitDef) (entry : ℕ) →
-    PlacesSimulate structs units entry → WritesEncode structs units entry → BodiesEnd structs units entry → RunsSimulate structs units entry
-runs_simulate orderly callers nests frames_apart keep clearing stand fitting stay keys placed structs units entry lead write end machine activities
+    PlacesSimulate structs units entry → WritesEncode structs units entry → BodiesEnd structs units entry → (machine : List InMachine)
+    (activities : Activities) → RunsEstablish structs units entry machine activities → RunsLeave structs units entry machine activities →
+    TargetsSeen (setting_of structs units entry) activities →
+    (CompilationContext structs units entry machine activities → PointsStand structs units entry activities) →
+    BlocksSimulate structs units entry machine activities (λ n. IsPoint n → ⊥)
+blocks_simulate orderly callers nests frames_apart keep clearing stand fitting stay keys placed structs units entry lead write end machine activities
     gives leaves seen points = record {
       acts = λ i unit scope frames store copies r rule u answer frames' left here midway there none called sees performs.
           turn_comes orderly callers nests frames_apart keep clearing stand fitting stay keys placed structs units entry lead write end machine

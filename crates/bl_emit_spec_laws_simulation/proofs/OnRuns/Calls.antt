@@ -64,8 +64,8 @@ module _ (structs : List StructDef) (units : List UnitDef) (entry : ℕ) (machin
         (subst (λ u. (call_written w activities i n u arguments scope here).result ≡ None) number
         (gives.stops i unit scope frames store copies r here l at arguments j other midway run sees did))
 
-    module _ (given : Store) (not_ended : NotEnded other scope here) (copied : DeedYields w (deed i at (Copies j arguments.inputs)) store true given) (begun : Registers)
-        (starts : PassStarts w activities j other frames begun)
+    module _ (given : Store) (not_ended : NotEnded other scope here) (copied : DeedYields w (deed i at (Copies j arguments.inputs)) store true given)
+        (begun : Registers) (starts : PassStarts w activities j other frames begun)
       where
         pub gave : RunEstablishes w activities i scope n arguments j other frames given here
         gave = gives.gives i unit scope frames store copies r here l at arguments j other given midway run not_ended sees copied

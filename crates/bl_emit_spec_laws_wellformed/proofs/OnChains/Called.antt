@@ -22,7 +22,7 @@ use Rattle.std.proofs.Common.{
 }
 use Rattle.std.proofs.Common.{arith, length, refl, sym, ap, subst, ◌∙◌, codes}
 use Rattle.std.proofs.lemmas.List.Elements.{All-cons, All-nil}
-use Rattle.std.specs.Prelude.{All, filter, nat_eq, option_to_list, slice_get, if◌then◌else◌}
+use Rattle.std.specs.Prelude.{All, filter, is_some, nat_eq, option_to_list, slice_get, if◌then◌else◌}
 use Rattle.bl_tree.specs.declared.text.Text.{Text}
 use Rattle.bl_tree.specs.declared.c.CArg.{CArg}
 use Rattle.bl_tree.specs.declared.c.CArg.TheVariants.{Address, Value}
@@ -139,6 +139,7 @@ use Rattle.bl_emit_spec.specs.Blocks.{
   NodeCode,
   acted,
   aged_test,
+  all_merged,
   all_tests,
   arg_where,
   at_slot,
@@ -147,9 +148,11 @@ use Rattle.bl_emit_spec.specs.Blocks.{
   changes_code,
   choice_code,
   control_code,
+  control_unless,
   counter_type,
   counter_value,
   ends_test,
+  entered_by,
   flagged_now,
   forgotten,
   freed,
@@ -161,9 +164,11 @@ use Rattle.bl_emit_spec.specs.Blocks.{
   is_greatest,
   last_value,
   layer_acted,
+  leaving_flag,
   may_end_in,
   merged_code,
   name_in,
+  next_turn,
   node_word,
   node_turn,
   own_code,
@@ -206,6 +211,7 @@ use Rattle.bl_emit_spec.specs.Names.{
   rested_place,
   result_place,
   NumberedWord,
+  with_word,
 }
 use Rattle.bl_emit_spec_laws_wellformed.proofs.OnChains.Nodes.{AllUnder, node_calls}
 
@@ -608,15 +614,13 @@ module _ (weight : Text → ℕ) (prelude : (word : Text) (s : ScalarType) → w
         (reads_few (given_place k) (local_few (given_name k))))
     target_few k None few = none_few weight prelude n
 
-    begun_few : (k : NumberedWord) (a : ℕ) (arguments : Arguments) (rule : Transition) →
-        Under by n (a ∷ (target_calls arguments.target ++ argument_calls arguments.inputs arguments.outputs)) →
-        CodeFew (begun_code view k a arguments rule)
-    begun_few k a arguments rule few =
+    begun_few : (k : NumberedWord) (a : ℕ) (rule : Transition) → CodeFew (begun_code view k a rule)
+    begun_few k a rule =
         let clear = c_clear (callee_frame k) (frame_name (name_in (slice_get view.site.earlier a))) in
-        first_few weight prelude n clear (run_code view k a arguments ++ changes_code view rule.on_true)
+        first_few weight prelude n clear (changes_code view rule.on_true)
         (same-light weight prelude n (calls_in_stmt clear) (calls_in_place (callee_frame k))
         (clear-calls (callee_frame k) (frame_name (name_in (slice_get view.site.earlier a)))) (member_few (codes "f") (callee_name k)))
-        (then_few weight prelude n (run_code view k a arguments) (changes_code view rule.on_true) (run_few k a arguments few) (changes_few view rule.on_true))
+        (changes_few view rule.on_true)
 
     resumed_few : (k : NumberedWord) (a : ℕ) (arguments : Arguments) (rule : Transition) →
         Under by n (a ∷ (target_calls arguments.target ++ argument_calls arguments.inputs arguments.outputs)) →
@@ -635,26 +639,26 @@ module _ (weight : Text → ℕ) (prelude : (word : Text) (s : ScalarType) → w
 
     -- ---- blocks
 
-    itself_few : (a : ℕ) (m : Node) → Under by n (node_calls a m) → CodeFew (own_code view m)
-    itself_few a (ActAt l s) few = acted_few s few
-    itself_few a (TestAt l at e) few = none_few weight prelude n
-    itself_few a (CheckAt l at e) few = none_few weight prelude n
-    itself_few a (EnterAt l at arguments) few = none_few weight prelude n
-    itself_few a (ResumeAt l at arguments) few = none_few weight prelude n
-    itself_few a (PauseAt l at) few = none_few weight prelude n
-    itself_few a (HeadAt l at) few = none_few weight prelude n
-    itself_few a (StartAt l at) few = none_few weight prelude n
-    itself_few a (SurfaceEndAt l at) few = none_few weight prelude n
-    itself_few a (DepthEndAt l at) few = none_few weight prelude n
-    itself_few a (ForkAt l at) few = none_few weight prelude n
-    itself_few a (SurfaceJoinAt l at) few = none_few weight prelude n
-    itself_few a (DepthJoinAt l at) few = none_few weight prelude n
+    itself_few : (a : ℕ) (rule : Transition) (m : Node) → Under by n (node_calls a m) → CodeFew (own_code view a rule m)
+    itself_few a rule (ActAt l s) few = acted_few s few
+    itself_few a rule (TestAt l at e) few = none_few weight prelude n
+    itself_few a rule (CheckAt l at e) few = none_few weight prelude n
+    itself_few a rule (EnterAt l at arguments) few = begun_few (word_at view at a) a rule
+    itself_few a rule (ResumeAt l at arguments) few = none_few weight prelude n
+    itself_few a rule (PauseAt l at) few = none_few weight prelude n
+    itself_few a rule (HeadAt l at) few = none_few weight prelude n
+    itself_few a rule (StartAt l at) few = none_few weight prelude n
+    itself_few a rule (SurfaceEndAt l at) few = none_few weight prelude n
+    itself_few a rule (DepthEndAt l at) few = none_few weight prelude n
+    itself_few a rule (ForkAt l at) few = none_few weight prelude n
+    itself_few a rule (SurfaceJoinAt l at) few = none_few weight prelude n
+    itself_few a rule (DepthJoinAt l at) few = none_few weight prelude n
 
     control_few : (a : ℕ) (rule : Transition) (m : Node) → Under by n (node_calls a m) → CodeFew (control_code view a rule m)
     control_few a rule (ActAt l s) few = changes_few view rule.on_true
     control_few a rule (TestAt l at e) few = tested_few e rule few
     control_few a rule (CheckAt l at e) few = tested_few e rule few
-    control_few a rule (EnterAt l at arguments) few = begun_few (word_at view at a) a arguments rule few
+    control_few a rule (EnterAt l at arguments) few = run_few (word_at view at a) a arguments few
     control_few a rule (ResumeAt l at arguments) few = resumed_few (word_at view at a) a arguments rule few
     control_few a rule (PauseAt l at) few = changes_few view rule.on_true
     control_few a rule (HeadAt l at) few = changes_few view rule.on_true
@@ -670,7 +674,7 @@ module _ (weight : Text → ℕ) (prelude : (word : Text) (s : ScalarType) → w
     TurnFew turn = ExprFew turn.test × (CodeFew turn.own × CodeFew turn.control)
 
     turn_few : (a : ℕ) (rule : Transition) → Under by n (node_calls a rule.node) → TurnFew (node_turn view a rule)
-    turn_few a rule few = (guard_few view rule.node rule.condition, (itself_few a rule.node few, control_few a rule rule.node few))
+    turn_few a rule few = (guard_few view rule.node rule.condition, (itself_few a rule rule.node few, control_few a rule rule.node few))
 
     -- each of some turns
     abbrev EachFew : List NodeCode → Type 0
@@ -700,21 +704,39 @@ module _ (weight : Text → ℕ) (prelude : (word : Text) (s : ScalarType) → w
     alone_few : (test : CExpr) (code : List CStmt) → ExprFew test → CodeFew code → StmtFew (c_if test code None)
     alone_few test code is one = if_few test code None is one (none-under weight n)
 
-    fused_few : (turn : NodeCode) (turns : List NodeCode) → TurnFew turn → EachFew turns → CodeFew (fused_code turn turns)
-    fused_few last [] own all = then_few weight prelude n last.own last.control own.1.0 own.1.1
-    fused_few turn (next ∷ rest) own all = then_few weight prelude n turn.own (fused_code next rest) own.1.0 (fused_few next rest all.0 all.1)
+    unless_few : (leaves : Bool) (turn : NodeCode) → CodeFew turn.control → CodeFew (control_unless leaves turn)
+    unless_few true turn all = none_few weight prelude n
+    unless_few false turn all = all
 
-    merged_few : (turns : List NodeCode) → EachFew turns → CodeFew (merged_code turns)
-    merged_few [] all = none_few weight prelude n
-    merged_few (first ∷ rest) all =
-        one_few weight prelude n (c_if first.test (fused_code first rest) None)
-        (alone_few first.test (fused_code first rest) all.0.0 (fused_few first rest all.0 all.1))
+    fused_few : (leaves : Bool) (turn : NodeCode) (turns : List NodeCode) → TurnFew turn → EachFew turns → CodeFew (fused_code leaves turn turns)
+    fused_few leaves last [] own all =
+        then_few weight prelude n last.own (control_unless leaves last) own.1.0 (unless_few leaves last own.1.1)
+    fused_few leaves turn (next ∷ rest) own all =
+        then_few weight prelude n turn.own (fused_code leaves next rest) own.1.0 (fused_few leaves next rest all.0 all.1)
 
-    blocks_few : (turns : List NodeCode) (blocks : List (List ℕ)) → EachFew turns → CodeFew (blocks_code turns blocks)
-    blocks_few turns [] all = none_few weight prelude n
-    blocks_few turns (block ∷ rest) all =
-        then_few weight prelude n (merged_code (picked turns block)) (blocks_code turns rest)
-        (merged_few (picked turns block) (picked_few turns block all)) (blocks_few turns rest all)
+    entered_few : (before : Option ℕ) (test : CExpr) → ExprFew test → ExprFew (entered_by view.word before test)
+    entered_few None test is = is
+    entered_few (Some k) test is =
+        let k : NumberedWord = with_word view.word k in
+        two-light weight prelude n Or (c_read (flag_place k)) test (reads_few (flag_place k) (local_few (flag_name k))) is
+
+    merged_few : (before : Option ℕ) (leaves : Bool) (turns : List NodeCode) → EachFew turns → CodeFew (merged_code view.word before leaves turns)
+    merged_few before leaves [] all = none_few weight prelude n
+    merged_few before leaves (first ∷ rest) all =
+        one_few weight prelude n (c_if (entered_by view.word before first.test) (fused_code leaves first rest) None)
+        (alone_few (entered_by view.word before first.test) (fused_code leaves first rest) (entered_few before first.test all.0.0)
+        (fused_few leaves first rest all.0 all.1))
+
+    merged_blocks_few : (turns : List NodeCode) → EachFew turns → (before : Option ℕ) (blocks : List (List ℕ)) →
+        CodeFew (all_merged view.word before (map (picked turns) blocks))
+    merged_blocks_few turns all before [] = none_few weight prelude n
+    merged_blocks_few turns all before (block ∷ rest) =
+        let left : Option ℕ = leaving_flag (picked turns block) (next_turn (map (picked turns) rest)) in
+        then_few weight prelude n (merged_code view.word before (is_some left) (picked turns block)) (all_merged view.word left (map (picked turns) rest))
+        (merged_few before (is_some left) (picked turns block) (picked_few turns block all)) (merged_blocks_few turns all left rest)
+
+    blocks_few : (turns : List NodeCode) (blocks : List (List ℕ)) → EachFew turns → CodeFew (blocks_code view.word turns blocks)
+    blocks_few turns blocks all = merged_blocks_few turns all None blocks
 
     -- ---- what stands before the blocks
 

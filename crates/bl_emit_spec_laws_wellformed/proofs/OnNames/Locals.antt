@@ -444,7 +444,8 @@ module _ (a : Activity) where
     abbrev variable_params : List CParam
     variable_params = params_from a.structs a.unit.vars 0 (parameters_of a.unit)
 
-    params_are : param_names (activity_params a) ≡ codes "f" ∷ first_names (remembers_any a) (named_family a.unit.vars 118 params ++ last_names a.unit.result may_end)
+    params_are : param_names (activity_params a)
+        ≡ codes "f" ∷ first_names (remembers_any a) (named_family a.unit.vars 118 params ++ last_names a.unit.result may_end)
     params_are =
         ap (λ rest. codes "f" ∷ rest)
         (memory_are (remembers_any a) (variable_params ++ (result_params a.unit.result ++ over_params may_end))

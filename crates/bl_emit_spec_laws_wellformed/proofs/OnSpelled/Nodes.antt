@@ -3,12 +3,13 @@ use Rattle.std.proofs.Common.{◌≡◌, ℕ, ◌+◌, ◌*◌, ◌^◌, ◌<◌
 use Rattle.std.proofs.Common.{List, [], ◌∷◌, ◌++◌, map, length, Option, Some, None, refl, sym, ap, ◌∙◌, arith, codes}
 use Rattle.std.proofs.lemmas.Bool.Decides.{nat_tests}
 use Rattle.std.specs.List.{list_all}
-use Rattle.std.specs.Prelude.{is_some, nat_le, slice_get}
+use Rattle.std.specs.Prelude.{is_some, nat_le, slice_get, if◌then◌else◌}
 use Rattle.bl_tree.specs.declared.text.Text.{Text}
 use Rattle.bl_tree.specs.declared.c.CArg.{CArg}
 use Rattle.bl_tree.specs.declared.c.CArg.TheVariants.{Address}
 use Rattle.bl_tree.specs.declared.c.CExpr.{CExpr}
 use Rattle.bl_tree.specs.declared.c.CStmt.{CStmt}
+use Rattle.bl_tree.specs.declared.scalar.Op.TheVariants.{Or}
 use Rattle.bl_tree.specs.declared.scalar.Scalar.{Scalar as ScalarType}
 use Rattle.bl_tree.specs.declared.place.Place.{Place}
 use Rattle.bl_tree.specs.declared.tree.Expr.{Expr}
@@ -34,11 +35,11 @@ use Rattle.bl_eval.proofs.PassLemmas.{and_left, and_right, both}
 use Rattle.bl_ctext.specs.Names.{is_callee, is_name}
 use Rattle.bl_ctext.specs.inner.Fits.{arg_fits, expr_fits, place_fits, step_fits, stmt_fits, stmts_fit}
 use Rattle.bl_ctext.proofs.Fitting.{address-fits, call-fits, call_stmt-fits, expr_fits-more, if-fits, place-fits}
-use Rattle.bl_ctext.proofs.Fitting.{place_fits-more, read-fits, set-fits, step-fits, stmts_fit-more}
+use Rattle.bl_ctext.proofs.Fitting.{place_fits-more, read-fits, set-fits, step-fits, stmts_fit-more, two-fits}
 use Rattle.bl_ctext.proofs.PrefixedNames.{name-struct, name-with_prefix}
 use Rattle.bl_graph_nodes.specs.Nodes.{ActAt, Arguments, CheckAt, DepthEndAt, DepthJoinAt, EnterAt, ForkAt, HeadAt, Node, PauseAt}
 use Rattle.bl_graph_nodes.specs.Nodes.{ResumeAt, StartAt, SurfaceEndAt, SurfaceJoinAt, TestAt}
-use Rattle.bl_machine_pass.specs.Transitions.{Transition}
+use Rattle.bl_machine_pass.specs.Transitions.{Condition, Ended, Flagged, Rested, RestedIn, Transition}
 use Rattle.bl_emit_acts.specs.Acts.{act_code, c_calling, c_clear, c_set, call_args, code_made, name_of_callee}
 use Rattle.bl_emit_acts.specs.Expressions.{stands}
 use Rattle.bl_emit_acts.specs.Trees.{c_call, c_read, c_step, nowhere}
@@ -52,24 +53,32 @@ use Rattle.bl_emit_spec.specs.Blocks.{
   ActivityView,
   NodeCode,
   acted,
+  all_merged,
   arg_where,
   begun_code,
   changes_code,
   choice_code,
   control_code,
+  control_unless,
+  entered_by,
+  flag_asked,
   fused_code,
   guard_of,
   has_result,
+  last_turn,
   layer_acted,
+  leaving_flag,
   may_end_in,
   merged_code,
   name_in,
+  next_turn,
   node_turn,
   node_word,
   own_code,
   resumed_code,
   run_args,
   run_code,
+  same_run,
   spelled_truth,
   stmt_where,
   target_code,
@@ -77,14 +86,20 @@ use Rattle.bl_emit_spec.specs.Blocks.{
   turns_of,
   word_at,
 }
-use Rattle.bl_emit_spec.specs.Names.{NumberedWord, callee_frame, callee_memory, callee_name, ended_place, frame_name, given_place, result_place}
+use Rattle.bl_emit_spec.specs.Names.{NumberedWord, callee_frame, callee_memory, callee_name, ended_place, flag_place, frame_name, given_place, result_place}
+use Rattle.bl_emit_spec.specs.Names.{with_word}
 use Rattle.bl_emit_spec_laws_wellformed.specs.Spelled.{all_fit, change_fits, condition_fits, node_fits, rule_fits, run_stands}
-use Rattle.bl_emit_spec_laws_wellformed.proofs.OnSpelled.Guards.{Spells, changes-fit, ended-fits, frame-letter}
+use Rattle.bl_emit_spec_laws_wellformed.proofs.OnSpelled.Guards.{Spells, changes-fit, ended-fits, flag-fits, frame-letter}
 use Rattle.bl_emit_spec_laws_wellformed.proofs.OnSpelled.Guards.{given-fits, guard-fits, result-fits, spelled-name, truth-fits, where-fits}
 
--- what a turn asks and does fits inside its `if`
-abbrev pub turn_fits : NodeCode → Bool
-turn_fits turn = expr_fits 404 turn.test && (stmts_fit 404 turn.own && stmts_fit 404 turn.control)
+-- a flag whose number has its word fits inside the test of a block
+abbrev pub flag_fits : (ℕ → Text) → Option ℕ → Bool
+flag_fits word (Some k) = expr_fits 403 (c_read (flag_place (with_word word k)))
+flag_fits word None = true
+
+-- what a turn asks fits inside the test of its `if`, and what it does inside the `if`
+abbrev pub turn_fits : (ℕ → Text) → NodeCode → Bool
+turn_fits word turn = (expr_fits 403 turn.test && flag_fits word turn.flag) && (stmts_fit 404 turn.own && stmts_fit 404 turn.control)
 
 shallow : (n : ℕ) → nat_le n 200 ≡ true → n ≤ 200
 shallow n h = grind (arith, nat_tests)
@@ -350,25 +365,21 @@ module _ (view : ActivityView) (few : length view.site.vars ≤ 2 ^ 64)
       by (Some true) = stmts_fit-more 3 404 (changes_code view rule.on_true) (omega arith) (on_true-fits rule h)
       by (Some false) = stmts_fit-more 3 404 (changes_code view rule.on_false) (omega arith) (on_false-fits rule h)
 
-  behind : (code : List CStmt) (rule : Transition) → rule_fits view.sizes rule ≡ true → stmts_fit 404 code ≡ true →
-      stmts_fit 404 (code ++ changes_code view rule.on_true) ≡ true
-  behind code rule h fit =
-      all_append (stmt_fits 404) code (changes_code view rule.on_true) fit
-      (stmts_fit-more 3 404 (changes_code view rule.on_true) (omega arith) (on_true-fits rule h))
-
   only : (rule : Transition) → rule_fits view.sizes rule ≡ true → stmts_fit 404 (changes_code view rule.on_true) ≡ true
   only rule h = stmts_fit-more 3 404 (changes_code view rule.on_true) (omega arith) (on_true-fits rule h)
 
   begun-fits : (k : NumberedWord) (a : ℕ) (arguments : Arguments) (rule : Transition) → Spells k → rule_fits view.sizes rule ≡ true →
-      run_stands view.site a arguments ≡ true → stmts_fit 404 (begun_code view k a arguments rule) ≡ true
+      run_stands view.site a arguments ≡ true → stmts_fit 404 (begun_code view k a rule) ≡ true
   begun-fits k a arguments rule small h stand =
       let name : Text = name_in (slice_get view.site.earlier a) in
-      both (stmt_fits 404 (c_clear (callee_frame k) (frame_name name))) (stmts_fit 404 (run_code view k a arguments ++ changes_code view rule.on_true))
+      both (stmt_fits 404 (c_clear (callee_frame k) (frame_name name))) (stmts_fit 404 (changes_code view rule.on_true))
       (clear-fits 404 (callee_frame k) (frame_name name) (omega arith)
       (name-struct (frame_name name) (frame-named name (name_known (slice_get view.site.earlier a) a refl (known a arguments stand))))
-      (callee-frame-fits 404 k (omega arith) small))
-      (behind (run_code view k a arguments) rule h
-      (stmts_fit-more 403 404 (run_code view k a arguments) (omega arith) (call-is a arguments stand k small)))
+      (callee-frame-fits 404 k (omega arith) small)) (only rule h)
+
+  called-fits : (k : NumberedWord) (a : ℕ) (arguments : Arguments) → Spells k → run_stands view.site a arguments ≡ true →
+      stmts_fit 404 (run_code view k a arguments) ≡ true
+  called-fits k a arguments small stand = stmts_fit-more 403 404 (run_code view k a arguments) (omega arith) (call-is a arguments stand k small)
 
   resumed-fits : (k : NumberedWord) (a : ℕ) (arguments : Arguments) (rule : Transition) → Spells k → rule_fits view.sizes rule ≡ true →
       run_stands view.site a arguments ≡ true → stmts_fit 404 (resumed_code view k a arguments rule) ≡ true
@@ -376,7 +387,7 @@ module _ (view : ActivityView) (few : length view.site.vars ≤ 2 ^ 64)
       let code : List CStmt = target_code view k arguments.target ++ changes_code view rule.on_true in
       let ends : Bool = may_end_in (slice_get view.site.earlier a) in
       all_append (stmt_fits 404) (run_code view k a arguments) (stmt_where ends (c_if (c_read ended_place) code None))
-      (stmts_fit-more 403 404 (run_code view k a arguments) (omega arith) (call-is a arguments stand k small))
+      (called-fits k a arguments small stand)
       (where-fits 404 ends (c_if (c_read ended_place) code None)
       (if-fits 403 404 nowhere (c_read ended_place) code (omega arith)
       (read-fits 403 nowhere ended_place (ended-fits 403 (omega arith)))
@@ -390,28 +401,28 @@ module _ (view : ActivityView) (few : length view.site.vars ≤ 2 ^ 64)
     word = name_bytes (name_in (slice_get view.site.earlier a)) (name_known (slice_get view.site.earlier a) a refl (known a arguments stand));
   }
 
-  own-is : (a : ℕ) (n : Node) → node_fits view.site a n ≡ true → stmts_fit 404 (own_code view n) ≡ true
-  own-is a (ActAt l s) fit = acted_by s (out-StmtKind (out-Stmt s).what) refl fit
-  own-is a (TestAt l at e) fit = refl
-  own-is a (CheckAt l at e) fit = refl
-  own-is a (EnterAt l at arguments) fit = refl
-  own-is a (ResumeAt l at arguments) fit = refl
-  own-is a (PauseAt l at) fit = refl
-  own-is a (HeadAt l at) fit = refl
-  own-is a (StartAt l at) fit = refl
-  own-is a (SurfaceEndAt l at) fit = refl
-  own-is a (DepthEndAt l at) fit = refl
-  own-is a (ForkAt l at) fit = refl
-  own-is a (SurfaceJoinAt l at) fit = refl
-  own-is a (DepthJoinAt l at) fit = refl
+  own-is : (a : ℕ) (rule : Transition) (n : Node) → rule_fits view.sizes rule ≡ true → node_fits view.site a n ≡ true →
+      stmts_fit 404 (own_code view a rule n) ≡ true
+  own-is a rule (ActAt l s) h fit = acted_by s (out-StmtKind (out-Stmt s).what) refl fit
+  own-is a rule (TestAt l at e) h fit = refl
+  own-is a rule (CheckAt l at e) h fit = refl
+  own-is a rule (EnterAt l at arguments) h fit = begun-fits (word_at view at a) a arguments rule (spells at a arguments fit) h fit
+  own-is a rule (ResumeAt l at arguments) h fit = refl
+  own-is a rule (PauseAt l at) h fit = refl
+  own-is a rule (HeadAt l at) h fit = refl
+  own-is a rule (StartAt l at) h fit = refl
+  own-is a rule (SurfaceEndAt l at) h fit = refl
+  own-is a rule (DepthEndAt l at) h fit = refl
+  own-is a rule (ForkAt l at) h fit = refl
+  own-is a rule (SurfaceJoinAt l at) h fit = refl
+  own-is a rule (DepthJoinAt l at) h fit = refl
 
   control-is : (a : ℕ) (rule : Transition) (n : Node) → rule_fits view.sizes rule ≡ true → node_fits view.site a n ≡ true →
       stmts_fit 404 (control_code view a rule n) ≡ true
   control-is a rule (ActAt l s) h fit = only rule h
   control-is a rule (TestAt l at e) h fit = tested-fits e rule h (test-fits e fit)
   control-is a rule (CheckAt l at e) h fit = tested-fits e rule h (test-fits e fit)
-  control-is a rule (EnterAt l at arguments) h fit =
-      begun-fits (word_at view at a) a arguments rule (spells at a arguments fit) h fit
+  control-is a rule (EnterAt l at arguments) h fit = called-fits (word_at view at a) a arguments (spells at a arguments fit) fit
   control-is a rule (ResumeAt l at arguments) h fit =
       resumed-fits (word_at view at a) a arguments rule (spells at a arguments fit) h fit
   control-is a rule (PauseAt l at) h fit = only rule h
@@ -423,24 +434,32 @@ module _ (view : ActivityView) (few : length view.site.vars ≤ 2 ^ 64)
   control-is a rule (SurfaceJoinAt l at) h fit = only rule h
   control-is a rule (DepthJoinAt l at) h fit = only rule h
 
+  asked-is : (n : Node) (condition : Condition) → flag_fits view.word (flag_asked view n condition) ≡ true
+  asked-is n Flagged = read-fits 403 nowhere (flag_place (node_word view n)) (flag-fits 403 (node_word view n) (omega arith) (node_spells n))
+  asked-is n (Rested slot) = refl
+  asked-is n (RestedIn slots) = refl
+  asked-is n (Ended age needed) = refl
+
   turn-is : (a : ℕ) (rule : Transition) → rule_fits view.sizes rule ≡ true → node_fits view.site a rule.node ≡ true →
-      turn_fits (node_turn view a rule) ≡ true
+      turn_fits view.word (node_turn view a rule) ≡ true
   turn-is a rule h fit =
-      both (expr_fits 404 (guard_of view rule.node rule.condition))
-      (stmts_fit 404 (own_code view rule.node) && stmts_fit 404 (control_code view a rule rule.node))
-      (expr_fits-more 68 404 (guard_of view rule.node rule.condition) (omega arith)
+      both (expr_fits 403 (guard_of view rule.node rule.condition) && flag_fits view.word (flag_asked view rule.node rule.condition))
+      (stmts_fit 404 (own_code view a rule rule.node) && stmts_fit 404 (control_code view a rule rule.node))
+      (both (expr_fits 403 (guard_of view rule.node rule.condition)) (flag_fits view.word (flag_asked view rule.node rule.condition))
+      (expr_fits-more 68 403 (guard_of view rule.node rule.condition) (omega arith)
       (guard-fits view node_spells rule.node rule.condition (and_left (condition_fits view.sizes rule.condition) _ h)))
-      (both (stmts_fit 404 (own_code view rule.node)) (stmts_fit 404 (control_code view a rule rule.node)) (own-is a rule.node fit)
-      (control-is a rule rule.node h fit))
+      (asked-is rule.node rule.condition))
+      (both (stmts_fit 404 (own_code view a rule rule.node)) (stmts_fit 404 (control_code view a rule rule.node))
+      (own-is a rule rule.node h fit) (control-is a rule rule.node h fit))
 
   -- the turns of all nodes fit
   pub turns-fit : (callees : List ℕ) (rules : List Transition) → all_fit view.sizes view.site callees rules ≡ true →
-      list_all turn_fits (turns_of view callees rules) ≡ true
+      list_all (turn_fits view.word) (turns_of view callees rules) ≡ true
   turns-fit [] rules all = refl
   turns-fit (a ∷ callees) [] all = refl
   turns-fit (a ∷ callees) (rule ∷ rules) all =
       let own = and_left (rule_fits view.sizes rule && node_fits view.site a rule.node) (all_fit view.sizes view.site callees rules) all in
-      both (turn_fits (node_turn view a rule)) (list_all turn_fits (turns_of view callees rules))
+      both (turn_fits view.word (node_turn view a rule)) (list_all (turn_fits view.word) (turns_of view callees rules))
       (turn-is a rule (and_left (rule_fits view.sizes rule) (node_fits view.site a rule.node) own)
       (and_right (rule_fits view.sizes rule) (node_fits view.site a rule.node) own))
       (turns-fit callees rules
@@ -448,24 +467,71 @@ module _ (view : ActivityView) (few : length view.site.vars ≤ 2 ^ 64)
 
 -- ---- blocks
 
--- what the turns of a block do fits as deep as what each of them does
-fused-fits : (turn : NodeCode) (turns : List NodeCode) → turn_fits turn ≡ true → list_all turn_fits turns ≡ true →
-    stmts_fit 404 (fused_code turn turns) ≡ true
-fused-fits last [] own all =
-    let codes = and_right (expr_fits 404 last.test) (stmts_fit 404 last.own && stmts_fit 404 last.control) own in
-    all_append (stmt_fits 404) last.own last.control (and_left (stmts_fit 404 last.own) (stmts_fit 404 last.control) codes)
-    (and_right (stmts_fit 404 last.own) (stmts_fit 404 last.control) codes)
-fused-fits turn (next ∷ rest) own all =
-    let codes = and_right (expr_fits 404 turn.test) (stmts_fit 404 turn.own && stmts_fit 404 turn.control) own in
-    all_append (stmt_fits 404) turn.own (fused_code next rest) (and_left (stmts_fit 404 turn.own) (stmts_fit 404 turn.control) codes)
-    (fused-fits next rest (and_left (turn_fits next) (list_all turn_fits rest) all) (and_right (turn_fits next) (list_all turn_fits rest) all))
+-- numbers of nodes have these words
+module _ (word : ℕ → Text) where
+  module _ (turn : NodeCode) (fit : turn_fits word turn ≡ true) where
+    abbrev asks : Bool
+    asks = expr_fits 403 turn.test && flag_fits word turn.flag
 
--- a block whose turns fit does so, one level deeper than each of them
-pub merged-fits : (turns : List NodeCode) → list_all turn_fits turns ≡ true → stmts_fit 405 (merged_code turns) ≡ true
-merged-fits [] all = refl
-merged-fits (first ∷ rest) all =
-    let own = and_left (turn_fits first) (list_all turn_fits rest) all in
-    one-fits 405 (c_if first.test (fused_code first rest) None)
-    (if-fits 404 405 nowhere first.test (fused_code first rest) (omega arith)
-    (and_left (expr_fits 404 first.test) (stmts_fit 404 first.own && stmts_fit 404 first.control) own)
-    (fused-fits first rest own (and_right (turn_fits first) (list_all turn_fits rest) all)))
+    abbrev does : Bool
+    does = stmts_fit 404 turn.own && stmts_fit 404 turn.control
+
+    test-of : expr_fits 403 turn.test ≡ true
+    test-of = and_left (expr_fits 403 turn.test) (flag_fits word turn.flag) (and_left asks does fit)
+
+    flag-of : flag_fits word turn.flag ≡ true
+    flag-of = and_right (expr_fits 403 turn.test) (flag_fits word turn.flag) (and_left asks does fit)
+
+    own-of : stmts_fit 404 turn.own ≡ true
+    own-of = and_left (stmts_fit 404 turn.own) (stmts_fit 404 turn.control) (and_right asks does fit)
+
+    -- with its call, or without it
+    control-of : (leaves : Bool) → stmts_fit 404 (control_unless leaves turn) ≡ true
+    control-of true = refl
+    control-of false = and_right (stmts_fit 404 turn.own) (stmts_fit 404 turn.control) (and_right asks does fit)
+
+  -- what the turns of a block do fits as deep as what each of them does
+  fused-fits : (leaves : Bool) (turn : NodeCode) (turns : List NodeCode) → turn_fits word turn ≡ true → list_all (turn_fits word) turns ≡ true →
+      stmts_fit 404 (fused_code leaves turn turns) ≡ true
+  fused-fits leaves last [] own all =
+      all_append (stmt_fits 404) last.own (control_unless leaves last) (own-of last own) (control-of last own leaves)
+  fused-fits leaves turn (next ∷ rest) own all =
+      all_append (stmt_fits 404) turn.own (fused_code leaves next rest) (own-of turn own)
+      (fused-fits leaves next rest (and_left (turn_fits word next) (list_all (turn_fits word) rest) all)
+      (and_right (turn_fits word next) (list_all (turn_fits word) rest) all))
+
+  entered-fits : (before : Option ℕ) (test : CExpr) → flag_fits word before ≡ true → expr_fits 403 test ≡ true →
+      expr_fits 404 (entered_by word before test) ≡ true
+  entered-fits None test flag fit = expr_fits-more 403 404 test (omega arith) fit
+  entered-fits (Some k) test flag fit = two-fits 403 404 nowhere Or (c_read (flag_place (with_word word k))) test (omega arith) refl flag fit
+
+  -- a block whose turns fit does so, one level deeper than each of them
+  merged-fits : (before : Option ℕ) (leaves : Bool) (turns : List NodeCode) → flag_fits word before ≡ true → list_all (turn_fits word) turns ≡ true →
+      stmts_fit 405 (merged_code word before leaves turns) ≡ true
+  merged-fits before leaves [] flag all = refl
+  merged-fits before leaves (first ∷ rest) flag all =
+      let own = and_left (turn_fits word first) (list_all (turn_fits word) rest) all in
+      one-fits 405 (c_if (entered_by word before first.test) (fused_code leaves first rest) None)
+      (if-fits 404 405 nowhere (entered_by word before first.test) (fused_code leaves first rest) (omega arith)
+      (entered-fits before first.test flag (test-of first own))
+      (fused-fits leaves first rest own (and_right (turn_fits word first) (list_all (turn_fits word) rest) all)))
+
+  left-fits : (block : List NodeCode) (next : Option NodeCode) → list_all (turn_fits word) block ≡ true → flag_fits word (leaving_flag block next) ≡ true
+  left-fits [] next all = refl
+  left-fits (first ∷ rest) None all = refl
+  left-fits (first ∷ rest) (Some next) all = by (same_run (last_turn first rest).run next.run)
+    where
+      by : (same : Bool) → flag_fits word (if same then first.flag else None) ≡ true
+      by true = flag-of first (and_left (turn_fits word first) (list_all (turn_fits word) rest) all)
+      by false = refl
+
+  -- blocks whose turns fit do so
+  pub all_merged-fit : (before : Option ℕ) (blocks : List (List NodeCode)) → flag_fits word before ≡ true → list_all (list_all (turn_fits word)) blocks ≡ true →
+      stmts_fit 405 (all_merged word before blocks) ≡ true
+  all_merged-fit before [] flag all = refl
+  all_merged-fit before (block ∷ rest) flag all =
+      let left : Option ℕ = leaving_flag block (next_turn rest) in
+      let own = and_left (list_all (turn_fits word) block) (list_all (list_all (turn_fits word)) rest) all in
+      all_append (stmt_fits 405) (merged_code word before (is_some left) block) (all_merged word left rest) (merged-fits before (is_some left) block flag own)
+      (all_merged-fit left rest (left-fits block (next_turn rest) own)
+      (and_right (list_all (turn_fits word) block) (list_all (list_all (turn_fits word)) rest) all))

@@ -107,14 +107,14 @@ use Rattle.bl_emit_spec.specs.Activities.{
   ended_local,
   some_ends,
 }
-use Rattle.bl_emit_spec.specs.Blocks.{ActivityView, NodeCode, counter_value, merged_code, name_in, node_word, unit_may_end}
+use Rattle.bl_emit_spec.specs.Blocks.{ActivityView, NodeCode, counter_value, name_in, node_word, unit_may_end}
 use Rattle.bl_emit_spec.specs.Names.{NumberedWord, callee_name, counter_name, counter_place, ended_name, flag_name, flag_place, frame_name, given_name}
 use Rattle.bl_emit_spec.specs.Names.{mark_name, rested_name, rested_place}
 use Rattle.bl_emit_spec_laws_wellformed.specs.Spelled.{ActivitiesFit, FramesSpelled, RememberedSpelled, all_fit, node_fits, rule_fits}
 use Rattle.bl_emit_spec_laws_wellformed.proofs.OnSpelled.Guards.{Spells, spelled-name, counter-fits, end-letter}
 use Rattle.bl_emit_spec_laws_wellformed.proofs.OnSpelled.Guards.{flag-fits, frame-letter, ended-word, nothing-fits, rested-fits, result-letter}
 use Rattle.bl_emit_spec_laws_wellformed.proofs.OnSpelled.Guards.{type-spelled}
-use Rattle.bl_emit_spec_laws_wellformed.proofs.OnSpelled.Nodes.{callee-named, frame-named, merged-fits, run-callee, turn_fits, turns-fit}
+use Rattle.bl_emit_spec_laws_wellformed.proofs.OnSpelled.Nodes.{all_merged-fit, callee-named, frame-named, run-callee, turn_fits, turns-fit}
 use Rattle.bl_emit_spec_laws_wellformed.proofs.OnSpelled.Words.{number-word}
 
 -- ---- lists
@@ -170,11 +170,15 @@ all_picked {A = A} p all (k ∷ ks) h =
     by None is = refl
     by (Some x) is = both (p x) true (all_at p all k x h is) refl
 
-blocks-fit : (turns : List NodeCode) (blocks : List (List ℕ)) → list_all turn_fits turns ≡ true → stmts_fit 405 (blocks_code turns blocks) ≡ true
-blocks-fit turns [] all = refl
-blocks-fit turns (block ∷ blocks) all =
-    all_append (stmt_fits 405) (merged_code (picked turns block)) (blocks_code turns blocks)
-    (merged-fits (picked turns block) (all_picked turn_fits turns block all)) (blocks-fit turns blocks all)
+blocks-fit : (word : ℕ → Text) (turns : List NodeCode) (blocks : List (List ℕ)) → list_all (turn_fits word) turns ≡ true →
+    stmts_fit 405 (blocks_code word turns blocks) ≡ true
+blocks-fit word turns blocks all = all_merged-fit word None (map (picked turns) blocks) refl (each blocks)
+  where
+    each : (blocks : List (List ℕ)) → list_all (list_all (turn_fits word)) (map (picked turns) blocks) ≡ true
+    each [] = refl
+    each (block ∷ blocks) =
+        both (list_all (turn_fits word) (picked turns block)) (list_all (list_all (turn_fits word)) (map (picked turns) blocks))
+        (all_picked (turn_fits word) turns block all) (each blocks)
 
 -- ---- an activity
 
@@ -521,7 +525,7 @@ module _ (units : List UnitDef) (entry k : ℕ) (a : Activity) (keeps : IsWellTy
         (all_mapped (stmt_fits 405) (c_copied site) (copied_in a)
         (all_filtered (λ j. stmt_fits 405 (c_copied site j)) _ (up_to (length a.unit.vars))
         (all_below (λ j. stmt_fits 405 (c_copied site j)) (length a.unit.vars) copied_is)))
-        (blocks-fit (turns_in_source a) a.blocks
+        (blocks-fit (activity_view a).word (turns_in_source a) a.blocks
         (turns-fit (activity_view a) few spells (place_small (rules_at a)) names named own_vars typed_here exprs paths acts (callees_in (body_of a))
         (rules_at a) fitted))))
 

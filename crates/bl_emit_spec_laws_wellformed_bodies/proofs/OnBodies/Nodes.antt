@@ -1,14 +1,17 @@
 -- Nothing fails in the blocks of an activity.
 use Rattle.std.proofs.Common.{◌≡◌, ℕ, zero, suc, ◌<◌, Bool, true, false, ◌&&◌, List, [], ◌∷◌, ◌++◌, map, length, Option, Some, None, refl}
-use Rattle.std.proofs.Common.{sym, ap, ◌∙◌, subst, arith}
+use Rattle.std.proofs.Common.{sym, ap, ◌∙◌, subst, arith, eq-eqb, lt-ltb}
 use Rattle.std.proofs.lemmas.List.Elements.{Contains-append_left, Contains-append_right}
 use Rattle.std.proofs.lemmas.Option.{same_Some}
-use Rattle.std.specs.Prelude.{Contains, is_some, option_and_then, option_to_list, slice_get, if◌then◌else◌}
+use Rattle.std.specs.List.{list_all}
+use Rattle.std.specs.Prelude.{Contains, is_some, nat_lt, option_and_then, option_to_list, slice_get, ⊤, if◌then◌else◌}
+use Rattle.bl_tree.specs.declared.text.Text.{Text}
 use Rattle.bl_tree.specs.declared.place.Place.{Place}
 use Rattle.bl_tree.specs.declared.c.CExpr.{CExpr}
 use Rattle.bl_tree.specs.declared.c.CMember.{CMember}
 use Rattle.bl_tree.specs.declared.c.CStmt.{CStmt}
 use Rattle.bl_tree.specs.declared.c.CType.TheVariants.{Scalar as OfScalar}
+use Rattle.bl_tree.specs.declared.scalar.Op.TheVariants.{Or}
 use Rattle.bl_tree.specs.declared.scalar.Scalar.{Scalar as ScalarType}
 use Rattle.bl_tree.specs.declared.scalar.Scalar.TheVariants.{Bool as OfBool, Int, Nat, Bits}
 use Rattle.bl_tree.specs.declared.tree.Arm.{Arm, fold-Arm}
@@ -29,7 +32,7 @@ use Rattle.bl_ctext_semantics.specs.Faults.{Context, Signature, bool_type}
 use Rattle.bl_ctext_semantics.specs.Tables.{Table}
 use Rattle.bl_graph_nodes.specs.Nodes.{ActAt, Arguments, CheckAt, DepthEndAt, DepthJoinAt, EnterAt, ForkAt, HeadAt, Node, PauseAt}
 use Rattle.bl_graph_nodes.specs.Nodes.{ResumeAt, StartAt, SurfaceEndAt, SurfaceJoinAt, TestAt}
-use Rattle.bl_machine_pass.specs.Transitions.{Transition}
+use Rattle.bl_machine_pass.specs.Transitions.{Condition, Ended, Flagged, Rested, RestedIn, Transition}
 use Rattle.bl_emit_acts.specs.Acts.{act_code, c_clear, c_set, code_made, layer_code}
 use Rattle.bl_emit_acts.specs.Trees.{c_read}
 use Rattle.bl_emit_acts.specs.Types.{c_scalar, c_type}
@@ -40,46 +43,56 @@ use Rattle.bl_emit_acts_laws_simulation.specs.Encodes.{copied_in}
 use Rattle.bl_emit_acts_laws_wellformed.specs.Formed.Declared.{InActivity}
 use Rattle.bl_emit_acts_laws_wellformed.specs.Formed.Formed.{BlockIs, ExprIs, StmtIs}
 use Rattle.bl_emit_acts_laws_wellformed.proofs.OnFormed.Acts.{block_append, block_cons, block_nil, block_one, clear-is}
-use Rattle.bl_emit_acts_laws_wellformed.proofs.OnFormed.Judged.{read-is}
+use Rattle.bl_emit_acts_laws_wellformed.proofs.OnFormed.Judged.{read-is, two-is}
 use Rattle.bl_emit_acts_laws_wellformed.proofs.OnFormed.Parts.{c_scalar_type}
 use Rattle.bl_emit_acts_laws_wellformed.proofs.OnFormed.SiteActs.{code_typed}
 use Rattle.bl_emit_functions_laws_wellformed.proofs.OnFormed.Shapes.{OtherIn, if-is}
 use Rattle.bl_emit_spec.specs.Activities.{word_of_run, Activity, RunAt, activity_view, blocks_code}
-use Rattle.bl_emit_spec.specs.Activities.{body_of, callees_in, copies_of, first_positions, picked, rules_at}
+use Rattle.bl_emit_spec.specs.Activities.{body_of, callees_in, copies_of, first_positions, picked, reads_counter, rules_at}
 use Rattle.bl_emit_spec.specs.Activities.{runs_in_body, turns_in_source}
 use Rattle.bl_emit_spec.specs.Blocks.{
   ActivityView,
   NodeCode,
   acted,
+  all_merged,
   begun_code,
   changes_code,
   choice_code,
   control_code,
+  control_unless,
+  entered_by,
+  flag_asked,
   fused_code,
+  last_turn,
   layer_acted,
+  leaving_flag,
   may_end_in,
   merged_code,
   name_in,
+  next_turn,
   node_turn,
   own_code,
   resumed_code,
   run_code,
   run_word,
+  same_run,
   spelled_truth,
   stmt_where,
   target_code,
   test_code,
   turns_of,
 }
-use Rattle.bl_emit_spec.specs.Names.{NumberedWord, callee_frame, ended_place, frame_name, result_place}
-use Rattle.bl_emit_spec_laws.specs.Calls.Built.{last_of, last_rules, last_positions}
-use Rattle.bl_emit_spec_laws.proofs.OnOwn.Members.{contains_at, further, here as first_here}
+use Rattle.bl_emit_spec.specs.Names.{NumberedWord, callee_frame, ended_place, flag_place, frame_name, result_place, with_word}
+use Rattle.bl_emit_spec_laws.specs.Registers.Laws.{asks_its_own, changes_its_own}
+use Rattle.bl_emit_spec_laws.specs.Calls.Built.{last_of, last_rules, last_positions, registered}
+use Rattle.bl_emit_spec_laws.proofs.OnOwn.Members.{any_true, both_true, contains_at, further, here as first_here}
 use Rattle.bl_emit_spec_laws.proofs.OnPlaced.Lists.{picked_first, there_at}
 use Rattle.bl_emit_spec_laws_wellformed.specs.Spelled.{all_fit, node_fits, rule_fits, run_stands}
 use Rattle.bl_emit_spec_laws_wellformed_bodies.specs.Bodies.{act_named, named_there}
 use Rattle.bl_emit_spec_laws_wellformed_bodies.proofs.OnBodies.Calls.{call-is, same_types, target-is, where-is}
 use Rattle.bl_emit_spec_laws_wellformed_bodies.proofs.OnBodies.Guards.{changes-are, guard-is, put-is}
 use Rattle.bl_emit_spec_laws_wellformed_bodies.proofs.OnBodies.Running.{HasRun, Pairs, RuleRuns}
+use Rattle.bl_emit_spec_laws_wellformed_bodies.proofs.OnBodies.Starts.{NodeSets, SetsAsked, start-sets}
 use Rattle.bl_emit_spec_laws_wellformed_bodies.proofs.OnBodies.Variables.{Here, context, copied, declared_here, earlier_here, ended-is, frame_at-is, plain_here}
 use Rattle.bl_emit_spec_laws_wellformed_bodies.proofs.OnBodies.Variables.{result-is, typed_here}
 
@@ -130,9 +143,30 @@ turns_many view (u ∷ callees) [] same = refl
 turns_many view (u ∷ callees) (rule ∷ rules) same =
     ap suc (turns_many view callees rules (let less : length callees ≡ length rules = omega (arith, same) in less))
 
-module _ (here : Context) where
+module _ (here : Context) (word : ℕ → Text) where
   if-alone : (test : CExpr) (code : List CStmt) → ExprIs here bool_type test → BlockIs here code → StmtIs here (c_if test code None)
   if-alone test code is block = if-is here test code None is block (λ looped. refl)
+
+  -- nothing fails in a flag that is asked for, and whose number has its word
+  abbrev pub FlagIs : Option ℕ → Type 0
+  FlagIs (Some k) = ExprIs here bool_type (c_read (flag_place (with_word word k)))
+  FlagIs None = ⊤
+
+  entered-is : (before : Option ℕ) (test : CExpr) → FlagIs before → ExprIs here bool_type test → ExprIs here bool_type (entered_by word before test)
+  entered-is None test flag is = is
+  entered-is (Some k) test flag is = two-is here Or bool_type (c_read (flag_place (with_word word k))) test refl refl flag is
+
+  unless-is : (leaves : Bool) (turn : NodeCode) → BlockIs here turn.control → BlockIs here (control_unless leaves turn)
+  unless-is true turn is = block_nil here
+  unless-is false turn is = is
+
+  left-is : (first : NodeCode) (rest : List NodeCode) (next : Option NodeCode) → FlagIs first.flag → FlagIs (leaving_flag (first ∷ rest) next)
+  left-is first rest None flag = tt
+  left-is first rest (Some next) flag = by (same_run (last_turn first rest).run next.run)
+    where
+      by : (same : Bool) → FlagIs (if same then first.flag else None)
+      by true = flag
+      by false = tt
 
   module _ (turns : List NodeCode) where
     -- the turn at a position has this
@@ -141,7 +175,7 @@ module _ (here : Context) where
 
     -- nothing fails in what is asked before a turn
     abbrev pub AskedIs : ℕ → Type 0
-    AskedIs = TurnAt (λ (turn : NodeCode). ExprIs here bool_type turn.test)
+    AskedIs = TurnAt (λ (turn : NodeCode). ExprIs here bool_type turn.test × FlagIs turn.flag)
 
     -- nothing fails in what its node does itself
     abbrev pub OwnIs : ℕ → Type 0
@@ -154,41 +188,62 @@ module _ (here : Context) where
     abbrev pub AllWithin : List ℕ → Type 0
     AllWithin ks = (k : ℕ) → Contains ks k → k < length turns
 
-    fused-is : ((k : ℕ) → OwnIs k) → (k : ℕ) (block : List ℕ) (turn : NodeCode) → slice_get turns k ≡ Some turn → AllWithin block →
-        ControlIs (last_of k block) → BlockIs here (fused_code turn (picked turns block))
-    fused-is own k [] turn at inside last = block_append here turn.own turn.control (own k turn at) (last turn at)
-    fused-is own k (j ∷ block) turn at inside last =
-        let next = there_at turns j (inside j (first_here j block)) in
-        subst (λ (more : List NodeCode). BlockIs here (fused_code turn more)) (sym (picked_first turns j block next.0 next.1))
-        (block_append here turn.own (fused_code next.0 (picked turns block)) (own k turn at)
-        (fused-is own j block next.0 next.1 (λ i there. inside i (further j block i there)) last))
+    abbrev blocks_at : List (List ℕ) → List (List NodeCode)
+    blocks_at blocks = map (picked turns) blocks
 
-    merged-is : ((k : ℕ) → OwnIs k) → (k : ℕ) (block : List ℕ) → AllWithin (k ∷ block) → AskedIs k → ControlIs (last_of k block) →
-        BlockIs here (merged_code (picked turns (k ∷ block)))
-    merged-is own k block inside asked last =
+    fused-is : ((k : ℕ) → OwnIs k) → (leaves : Bool) (k : ℕ) (block : List ℕ) (turn : NodeCode) → slice_get turns k ≡ Some turn → AllWithin block →
+        ControlIs (last_of k block) → BlockIs here (fused_code leaves turn (picked turns block))
+    fused-is own leaves k [] turn at inside last =
+        block_append here turn.own (control_unless leaves turn) (own k turn at) (unless-is leaves turn (last turn at))
+    fused-is own leaves k (j ∷ block) turn at inside last =
+        let next = there_at turns j (inside j (first_here j block)) in
+        subst (λ (more : List NodeCode). BlockIs here (fused_code leaves turn more)) (sym (picked_first turns j block next.0 next.1))
+        (block_append here turn.own (fused_code leaves next.0 (picked turns block)) (own k turn at)
+        (fused-is own leaves j block next.0 next.1 (λ i there. inside i (further j block i there)) last))
+
+    merged-is : ((k : ℕ) → OwnIs k) → (before : Option ℕ) (leaves : Bool) (k : ℕ) (block : List ℕ) → AllWithin (k ∷ block) → FlagIs before →
+        AskedIs k → ControlIs (last_of k block) → BlockIs here (merged_code word before leaves (picked turns (k ∷ block)))
+    merged-is own before leaves k block inside flag asked last =
         let first = there_at turns k (inside k (first_here k block)) in
-        let code : List CStmt = fused_code first.0 (picked turns block) in
-        subst (λ (some : List NodeCode). BlockIs here (merged_code some)) (sym (picked_first turns k block first.0 first.1))
-        (block_one here (c_if first.0.test code None)
-        (if-alone first.0.test code (asked first.0 first.1)
-        (fused-is own k block first.0 first.1 (λ i there. inside i (further k block i there)) last)))
+        let test : CExpr = entered_by word before first.0.test in
+        let code : List CStmt = fused_code leaves first.0 (picked turns block) in
+        subst (λ (some : List NodeCode). BlockIs here (merged_code word before leaves some)) (sym (picked_first turns k block first.0 first.1))
+        (block_one here (c_if test code None)
+        (if-alone test code (entered-is before first.0.test flag (asked first.0 first.1).0)
+        (fused-is own leaves k block first.0 first.1 (λ i there. inside i (further k block i there)) last)))
+
+    left_at-is : (k : ℕ) (block : List ℕ) (next : Option NodeCode) → AllWithin (k ∷ block) → AskedIs k →
+        FlagIs (leaving_flag (picked turns (k ∷ block)) next)
+    left_at-is k block next inside asked =
+        let first = there_at turns k (inside k (first_here k block)) in
+        subst (λ (some : List NodeCode). FlagIs (leaving_flag some next)) (sym (picked_first turns k block first.0 first.1))
+        (left-is first.0 (picked turns block) next (asked first.0 first.1).1)
+
+    all_merged-is : ((k : ℕ) → OwnIs k) → (before : Option ℕ) (blocks : List (List ℕ)) → FlagIs before → AllWithin (joined blocks) →
+        ((k : ℕ) → Contains (first_positions blocks) k → AskedIs k) → ((k : ℕ) → Contains (last_positions blocks) k → ControlIs k) →
+        BlockIs here (all_merged word before (blocks_at blocks))
+    all_merged-is own before [] flag inside asked last = block_nil here
+    all_merged-is own before ([] ∷ rest) flag inside asked last = all_merged-is own None rest tt inside asked last
+    all_merged-is own before ((k ∷ block) ∷ rest) flag inside asked last =
+        let left : Option ℕ = leaving_flag (picked turns (k ∷ block)) (next_turn (blocks_at rest)) in
+        let own_inside : AllWithin (k ∷ block) = λ i there. inside i (Contains-append_left (k ∷ block) (joined rest) i there) in
+        let own_asked : AskedIs k = asked k (first_here k (first_positions rest)) in
+        block_append here (merged_code word before (is_some left) (picked turns (k ∷ block))) (all_merged word left (blocks_at rest))
+        (merged-is own before (is_some left) k block own_inside flag own_asked
+        (last (last_of k block) (first_here (last_of k block) (last_positions rest))))
+        (all_merged-is own left rest (left_at-is k block (next_turn (blocks_at rest)) own_inside own_asked)
+        (λ i there. inside i (Contains-append_right (k ∷ block) (joined rest) i there))
+        (λ i there. asked i (further k (first_positions rest) i there)) (λ i there. last i (further (last_of k block) (last_positions rest) i there)))
 
     -- nothing fails in blocks of such turns
     pub blocks-are : ((k : ℕ) → OwnIs k) → (blocks : List (List ℕ)) → AllWithin (joined blocks) →
         ((k : ℕ) → Contains (first_positions blocks) k → AskedIs k) → ((k : ℕ) → Contains (last_positions blocks) k → ControlIs k) →
-        BlockIs here (blocks_code turns blocks)
-    blocks-are own [] inside asked last = block_nil here
-    blocks-are own ([] ∷ rest) inside asked last = blocks-are own rest inside asked last
-    blocks-are own ((k ∷ block) ∷ rest) inside asked last =
-        block_append here (merged_code (picked turns (k ∷ block))) (blocks_code turns rest)
-        (merged-is own k block (λ i there. inside i (Contains-append_left (k ∷ block) (joined rest) i there))
-        (asked k (first_here k (first_positions rest))) (last (last_of k block) (first_here (last_of k block) (last_positions rest))))
-        (blocks-are own rest (λ i there. inside i (Contains-append_right (k ∷ block) (joined rest) i there))
-        (λ i there. asked i (further k (first_positions rest) i there)) (λ i there. last i (further (last_of k block) (last_positions rest) i there)))
+        BlockIs here (blocks_code word turns blocks)
+    blocks-are own blocks inside asked last = all_merged-is own None blocks tt inside asked last
 
-  other-is : (block : List CStmt) → BlockIs here block → (looped : Bool) → OtherIn here looped (else_code block)
-  other-is [] is looped = refl
-  other-is (s ∷ rest) is looped = is looped
+other-is : (here : Context) (block : List CStmt) → BlockIs here block → (looped : Bool) → OtherIn here looped (else_code block)
+other-is here [] is looped = refl
+other-is here (s ∷ rest) is looped = is looped
 
 module _ (units : List UnitDef) (entry k : ℕ) (a : Activity) (table : Table (Table CMember)) (known : Table Signature)
     (h : Here units entry k a table known)
@@ -280,20 +335,6 @@ module _ (units : List UnitDef) (entry k : ℕ) (a : Activity) (table : Table (T
         by (Some true) = on_true-is
         by (Some false) = other
 
-    begun-is : (at : Place) (number u : ℕ) (arguments : Arguments) → Contains (runs_in_body a) (record { place = at; number = number; unit = u }) →
-        run_stands view.site u arguments ≡ true → all_of (map (copied_in mine) arguments.inputs) ≡ true →
-        BlockIs here (begun_code view (run_word a.earlier number u) u arguments rule)
-    begun-is at number u arguments runs stand named =
-        let run : RunAt = record { place = at; number = number; unit = u } in
-        let n : NumberedWord = word_of_run a.earlier run in
-        let code : List CStmt = run_code view n u arguments in
-        block_cons here (c_clear (callee_frame n) (frame_name (name_in (slice_get a.earlier u)))) (code ++ changes_code view rule.on_true)
-        (clear-is here true (callee_frame n) (frame_name (name_in (slice_get a.earlier u))) (frame_at-is units entry k a table known h run runs)
-        (h.stands.frames run runs) refl)
-        (block_append here code (changes_code view rule.on_true)
-        (call-is units entry k a table known h at number u runs arguments
-        (and_left (run_fits view.site arguments.target arguments.inputs arguments.outputs (slice_get a.earlier u)) _ stand) named) on_true-is)
-
     resumed-is : (at : Place) (number u : ℕ) (arguments : Arguments) → Contains (runs_in_body a) (record { place = at; number = number; unit = u }) →
         run_stands view.site u arguments ≡ true → all_of (map (copied_in mine) arguments.inputs) ≡ true →
         BlockIs here (resumed_code view (run_word a.earlier number u) u arguments rule)
@@ -319,7 +360,9 @@ module _ (units : List UnitDef) (entry k : ℕ) (a : Activity) (table : Table (T
         tested-is (code_made view.site e) (test-is e (and_left (is_truth (type_of view.site e)) _ fit) named)
     control-is u (CheckAt l at e) fit named runs =
         tested-is (code_made view.site e) (test-is e (and_left (is_truth (type_of view.site e)) _ fit) named)
-    control-is u (EnterAt l at arguments) fit named runs = begun-is at (view.run at) u arguments runs fit named
+    control-is u (EnterAt l at arguments) fit named runs =
+        call-is units entry k a table known h at (view.run at) u runs arguments
+        (and_left (run_fits view.site arguments.target arguments.inputs arguments.outputs (slice_get a.earlier u)) _ fit) named
     control-is u (ResumeAt l at arguments) fit named runs = resumed-is at (view.run at) u arguments runs fit named
     control-is u (PauseAt l at) fit named runs = on_true-is
     control-is u (HeadAt l at) fit named runs = on_true-is
@@ -330,20 +373,40 @@ module _ (units : List UnitDef) (entry k : ℕ) (a : Activity) (table : Table (T
     control-is u (SurfaceJoinAt l at) fit named runs = on_true-is
     control-is u (DepthJoinAt l at) fit named runs = on_true-is
 
-  own-is : (u : ℕ) (n : Node) → node_fits view.site u n ≡ true → named_there mine n ≡ true → BlockIs here (own_code view n)
-  own-is u (ActAt l s) fit named = acted-by s (out-StmtKind (out-Stmt s).what) refl (and_left (fits view.site s) _ fit) named
-  own-is u (TestAt l at e) fit named = block_nil here
-  own-is u (CheckAt l at e) fit named = block_nil here
-  own-is u (EnterAt l at arguments) fit named = block_nil here
-  own-is u (ResumeAt l at arguments) fit named = block_nil here
-  own-is u (PauseAt l at) fit named = block_nil here
-  own-is u (HeadAt l at) fit named = block_nil here
-  own-is u (StartAt l at) fit named = block_nil here
-  own-is u (SurfaceEndAt l at) fit named = block_nil here
-  own-is u (DepthEndAt l at) fit named = block_nil here
-  own-is u (ForkAt l at) fit named = block_nil here
-  own-is u (SurfaceJoinAt l at) fit named = block_nil here
-  own-is u (DepthJoinAt l at) fit named = block_nil here
+  -- the start of a `run` sets a counter of which a rule asks what it held
+  starts-own : (rule : Transition) → SetsAsked (rules_at a) rule.on_true → list_all (changes_its_own view.number (registered a)) rule.on_true ≡ true
+  starts-own rule sets =
+      let reads : view.is_read sets.slot.counter ≡ true =
+      any_true (λ (other : Transition). reads_counter sets.slot.counter other.condition) (rules_at a) sets.rule sets.there
+      (ap (reads_counter sets.slot.counter) sets.asks ∙ eq-eqb sets.slot.counter sets.slot.counter refl) in
+      ap (list_all (changes_its_own view.number (registered a))) sets.sets
+      ∙ both_true (nat_lt sets.slot.counter (length a.sizes)) true (lt-ltb sets.slot.counter (length a.sizes) (h.owns.read sets.slot.counter reads)) refl
+
+  begun-is : (at : Place) (number u : ℕ) (rule : Transition) → Contains (runs_in_body a) (record { place = at; number = number; unit = u }) →
+      SetsAsked (rules_at a) rule.on_true → BlockIs here (begun_code view (run_word a.earlier number u) u rule)
+  begun-is at number u rule runs sets =
+      let run : RunAt = record { place = at; number = number; unit = u } in
+      let n : NumberedWord = word_of_run a.earlier run in
+      let name : Text = frame_name (name_in (slice_get a.earlier u)) in
+      block_cons here (c_clear (callee_frame n) name) (changes_code view rule.on_true)
+      (clear-is here true (callee_frame n) name (frame_at-is units entry k a table known h run runs) (h.stands.frames run runs) refl)
+      (changes-are units entry k a table known h rule.on_true (starts-own rule sets))
+
+  own-is : (u : ℕ) (rule : Transition) (n : Node) → node_fits view.site u n ≡ true → named_there mine n ≡ true →
+      HasRun view.run (runs_in_body a) u n → NodeSets (rules_at a) n rule.on_true → BlockIs here (own_code view u rule n)
+  own-is u rule (ActAt l s) fit named runs sets = acted-by s (out-StmtKind (out-Stmt s).what) refl (and_left (fits view.site s) _ fit) named
+  own-is u rule (TestAt l at e) fit named runs sets = block_nil here
+  own-is u rule (CheckAt l at e) fit named runs sets = block_nil here
+  own-is u rule (EnterAt l at arguments) fit named runs sets = begun-is at (view.run at) u rule runs sets
+  own-is u rule (ResumeAt l at arguments) fit named runs sets = block_nil here
+  own-is u rule (PauseAt l at) fit named runs sets = block_nil here
+  own-is u rule (HeadAt l at) fit named runs sets = block_nil here
+  own-is u rule (StartAt l at) fit named runs sets = block_nil here
+  own-is u rule (SurfaceEndAt l at) fit named runs sets = block_nil here
+  own-is u rule (DepthEndAt l at) fit named runs sets = block_nil here
+  own-is u rule (ForkAt l at) fit named runs sets = block_nil here
+  own-is u rule (SurfaceJoinAt l at) fit named runs sets = block_nil here
+  own-is u rule (DepthJoinAt l at) fit named runs sets = block_nil here
 
   -- ---- turns by their positions
 
@@ -385,20 +448,27 @@ module _ (units : List UnitDef) (entry k : ℕ) (a : Activity) (table : Table (T
     named : (rule : Transition) (p : ℕ) → slice_get (rules_at a) p ≡ Some rule → named_there mine rule.node ≡ true
     named rule p at = h.copies.named rule (contains_at (rules_at a) p rule at)
 
-    pub owns-are : (p : ℕ) → OwnIs here turns p
+    pub owns-are : (p : ℕ) → OwnIs here view.word turns p
     owns-are p turn at =
         let found = of_turn p turn at in
         subst (λ (turn : NodeCode). BlockIs here turn.own) found.is
-        (own-is found.unit found.rule.node found.fit (named found.rule p found.at))
+        (own-is found.unit found.rule found.rule.node found.fit (named found.rule p found.at) found.runs
+        (start-sets a.slots (body_of a) found.rule (contains_at (rules_at a) p found.rule found.at)))
 
-    pub asked-are : (p : ℕ) → Contains (first_positions a.blocks) p → AskedIs here turns p
+    flag-of : (n : Node) (condition : Condition) → asks_its_own view (registered a) n condition ≡ true → FlagIs here view.word (flag_asked view n condition)
+    flag-of n Flagged on = guard-is units entry k a table known h n Flagged on
+    flag-of n (Rested slot) on = tt
+    flag-of n (RestedIn slots) on = tt
+    flag-of n (Ended age needed) on = tt
+
+    pub asked-are : (p : ℕ) → Contains (first_positions a.blocks) p → AskedIs here view.word turns p
     asked-are p first turn at =
         let found = of_turn p turn at in
-        subst (λ (turn : NodeCode). ExprIs here bool_type turn.test) found.is
-        (guard-is units entry k a table known h found.rule.node found.rule.condition
-        (h.owns.asks found.rule (picked-has (rules_at a) (first_positions a.blocks) p found.rule first found.at)))
+        let on = h.owns.asks found.rule (picked-has (rules_at a) (first_positions a.blocks) p found.rule first found.at) in
+        subst (λ (turn : NodeCode). ExprIs here bool_type turn.test × FlagIs here view.word turn.flag) found.is
+        (guard-is units entry k a table known h found.rule.node found.rule.condition on, flag-of found.rule.node found.rule.condition on)
 
-    pub controls-are : (p : ℕ) → Contains (last_positions a.blocks) p → ControlIs here turns p
+    pub controls-are : (p : ℕ) → Contains (last_positions a.blocks) p → ControlIs here view.word turns p
     controls-are p last turn at =
         let found = of_turn p turn at in
         subst (λ (turn : NodeCode). BlockIs here turn.control) found.is

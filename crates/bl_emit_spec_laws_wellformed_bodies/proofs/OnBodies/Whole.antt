@@ -161,7 +161,7 @@ module _ (units : List UnitDef) (entry k : ℕ) (a : Activity) (table : Table (T
       (block_append here (entry_code view (body_of a)) (copies ++ last) (entry-is (body_of a) refl)
       (block_append here copies last
       (filtered here mine (c_copied view.site) (up_to (length a.unit.vars)) (λ j there on. copied-code-is j (below (length a.unit.vars) j there) on))
-      (blocks-are here (turns_in_source a) (owns-are units entry k a table known h acts runs) a.blocks inside
+      (blocks-are here (activity_view a).word (turns_in_source a) (owns-are units entry k a table known h acts runs) a.blocks inside
       (asked-are units entry k a table known h acts runs) (controls-are units entry k a table known h acts runs))))
 
 module _ (units : List UnitDef) (entry k : ℕ) (a : Activity) (table : Table (Table CMember)) (known : Table Signature)

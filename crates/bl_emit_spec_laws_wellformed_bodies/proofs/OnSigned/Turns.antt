@@ -1,7 +1,7 @@
 -- The C of an activity has no loops.
 use Rattle.std.proofs.lemmas.Option.{same_Some}
 use Rattle.std.proofs.Common.{◌≡◌, ℕ, zero, suc, Bool, true, false, List, [], ◌∷◌, ◌++◌, map, Option, Some, None, refl, ◌∙◌, subst}
-use Rattle.std.specs.Prelude.{option_map, option_to_list, slice_get, ⊤}
+use Rattle.std.specs.Prelude.{is_some, option_map, option_to_list, slice_get, ⊤}
 use Rattle.bl_tree.specs.declared.text.Text.{Text}
 use Rattle.bl_tree.specs.declared.c.CCall.{CCall}
 use Rattle.bl_tree.specs.declared.c.CExpr.{CExpr}
@@ -50,7 +50,8 @@ use Rattle.bl_emit_spec.specs.Activities.{
   turns_in_source,
 }
 use Rattle.bl_emit_spec.specs.Blocks.{word_at, ActivityView, NodeCode, acted, change_code, changes_code, control_code, flagged_now, forgotten, fused_code}
-use Rattle.bl_emit_spec.specs.Blocks.{choice_code, layer_acted, may_end_in, merged_code, own_code, run_code}
+use Rattle.bl_emit_spec.specs.Blocks.{all_merged, choice_code, control_unless, entered_by, layer_acted, leaving_flag, may_end_in, merged_code, next_turn}
+use Rattle.bl_emit_spec.specs.Blocks.{own_code, run_code}
 use Rattle.bl_emit_spec.specs.Blocks.{spelled_truth, stmt_where, target_code, test_code, turns_of}
 use Rattle.bl_emit_spec_laws_wellformed_bodies.specs.Signed.{NoneLoops}
 use Rattle.bl_emit_spec.specs.Names.{NumberedWord, ended_place}
@@ -225,29 +226,27 @@ module _ (view : ActivityView) where
       by (Some true) = changes-quiet rule.on_true
       by (Some false) = changes-quiet rule.on_false
 
-  own-quiet : (n : Node) → Quiet (own_code view n)
-  own-quiet (ActAt l s) = acted-by s (out-StmtKind (out-Stmt s).what)
-  own-quiet (TestAt l at e) = nothing
-  own-quiet (CheckAt l at e) = nothing
-  own-quiet (EnterAt l at arguments) = nothing
-  own-quiet (ResumeAt l at arguments) = nothing
-  own-quiet (PauseAt l at) = nothing
-  own-quiet (HeadAt l at) = nothing
-  own-quiet (StartAt l at) = nothing
-  own-quiet (SurfaceEndAt l at) = nothing
-  own-quiet (DepthEndAt l at) = nothing
-  own-quiet (ForkAt l at) = nothing
-  own-quiet (SurfaceJoinAt l at) = nothing
-  own-quiet (DepthJoinAt l at) = nothing
+  own-quiet : (u : ℕ) (rule : Transition) (n : Node) → Quiet (own_code view u rule n)
+  own-quiet u rule (ActAt l s) = acted-by s (out-StmtKind (out-Stmt s).what)
+  own-quiet u rule (TestAt l at e) = nothing
+  own-quiet u rule (CheckAt l at e) = nothing
+  own-quiet u rule (EnterAt l at arguments) =
+      cons-quiet _ (changes_code view rule.on_true) (clear-still _ _) (changes-quiet rule.on_true)
+  own-quiet u rule (ResumeAt l at arguments) = nothing
+  own-quiet u rule (PauseAt l at) = nothing
+  own-quiet u rule (HeadAt l at) = nothing
+  own-quiet u rule (StartAt l at) = nothing
+  own-quiet u rule (SurfaceEndAt l at) = nothing
+  own-quiet u rule (DepthEndAt l at) = nothing
+  own-quiet u rule (ForkAt l at) = nothing
+  own-quiet u rule (SurfaceJoinAt l at) = nothing
+  own-quiet u rule (DepthJoinAt l at) = nothing
 
   control-quiet : (u : ℕ) (rule : Transition) (n : Node) → Quiet (control_code view u rule n)
   control-quiet u rule (ActAt l s) = changes-quiet rule.on_true
   control-quiet u rule (TestAt l at e) = tested-quiet _ rule
   control-quiet u rule (CheckAt l at e) = tested-quiet _ rule
-  control-quiet u rule (EnterAt l at arguments) =
-      let n : NumberedWord = word_at view at u in
-      cons-quiet _ (run_code view n u arguments ++ changes_code view rule.on_true) (clear-still _ _)
-      (append-quiet (run_code view n u arguments) (changes_code view rule.on_true) (run-quiet n u arguments) (changes-quiet rule.on_true))
+  control-quiet u rule (EnterAt l at arguments) = run-quiet (word_at view at u) u arguments
   control-quiet u rule (ResumeAt l at arguments) =
       let n : NumberedWord = word_at view at u in
       let code : List CStmt = target_code view n arguments.target ++ changes_code view rule.on_true in
@@ -277,7 +276,7 @@ module _ (view : ActivityView) where
   turns-quiet : (callees : List ℕ) (rules : List Transition) → Each (turns_of view callees rules)
   turns-quiet [] rules = tt
   turns-quiet (u ∷ callees) [] = tt
-  turns-quiet (u ∷ callees) (rule ∷ rules) = ((own-quiet rule.node, control-quiet u rule rule.node), turns-quiet callees rules)
+  turns-quiet (u ∷ callees) (rule ∷ rules) = ((own-quiet u rule rule.node, control-quiet u rule rule.node), turns-quiet callees rules)
 
   at-quiet : (turns : List NodeCode) (j : ℕ) (o : Option NodeCode) → Each turns → slice_get turns j ≡ o → Each (option_to_list o)
   at-quiet turns j None all is = tt
@@ -295,21 +294,31 @@ module _ (view : ActivityView) where
       append-each (option_to_list (slice_get turns j)) (picked turns block) (at-quiet turns j (slice_get turns j) all refl)
       (picked-quiet turns block all)
 
-  fused-quiet : (turn : NodeCode) (turns : List NodeCode) → TurnIs turn → Each turns → Quiet (fused_code turn turns)
-  fused-quiet last [] own all = append-quiet last.own last.control own.0 own.1
-  fused-quiet turn (next ∷ rest) own all = append-quiet turn.own (fused_code next rest) own.0 (fused-quiet next rest all.0 all.1)
+  unless-quiet : (leaves : Bool) (turn : NodeCode) → Quiet turn.control → Quiet (control_unless leaves turn)
+  unless-quiet true turn quiet = nothing
+  unless-quiet false turn quiet = quiet
 
-  merged-quiet : (turns : List NodeCode) → Each turns → Quiet (merged_code turns)
-  merged-quiet [] all = nothing
-  merged-quiet (first ∷ rest) all =
-      one-quiet (c_if first.test (fused_code first rest) None)
-      (if-still first.test (fused_code first rest) None (fused-quiet first rest all.0 all.1) refl)
+  fused-quiet : (leaves : Bool) (turn : NodeCode) (turns : List NodeCode) → TurnIs turn → Each turns → Quiet (fused_code leaves turn turns)
+  fused-quiet leaves last [] own all = append-quiet last.own (control_unless leaves last) own.0 (unless-quiet leaves last own.1)
+  fused-quiet leaves turn (next ∷ rest) own all =
+      append-quiet turn.own (fused_code leaves next rest) own.0 (fused-quiet leaves next rest all.0 all.1)
 
-  blocks-quiet : (turns : List NodeCode) (blocks : List (List ℕ)) → Each turns → Quiet (blocks_code turns blocks)
-  blocks-quiet turns [] all = nothing
-  blocks-quiet turns (block ∷ blocks) all =
-      append-quiet (merged_code (picked turns block)) (blocks_code turns blocks) (merged-quiet (picked turns block) (picked-quiet turns block all))
-      (blocks-quiet turns blocks all)
+  merged-quiet : (before : Option ℕ) (leaves : Bool) (turns : List NodeCode) → Each turns → Quiet (merged_code view.word before leaves turns)
+  merged-quiet before leaves [] all = nothing
+  merged-quiet before leaves (first ∷ rest) all =
+      one-quiet (c_if (entered_by view.word before first.test) (fused_code leaves first rest) None)
+      (if-still (entered_by view.word before first.test) (fused_code leaves first rest) None (fused-quiet leaves first rest all.0 all.1) refl)
+
+  all_merged-quiet : (turns : List NodeCode) → Each turns → (before : Option ℕ) (blocks : List (List ℕ)) →
+      Quiet (all_merged view.word before (map (picked turns) blocks))
+  all_merged-quiet turns all before [] = nothing
+  all_merged-quiet turns all before (block ∷ blocks) =
+      let left : Option ℕ = leaving_flag (picked turns block) (next_turn (map (picked turns) blocks)) in
+      append-quiet (merged_code view.word before (is_some left) (picked turns block)) (all_merged view.word left (map (picked turns) blocks))
+      (merged-quiet before (is_some left) (picked turns block) (picked-quiet turns block all)) (all_merged-quiet turns all left blocks)
+
+  blocks-quiet : (turns : List NodeCode) (blocks : List (List ℕ)) → Each turns → Quiet (blocks_code view.word turns blocks)
+  blocks-quiet turns blocks all = all_merged-quiet turns all None blocks
 
   entry-quiet : (body : Block) → Quiet (entry_code view body)
   entry-quiet Done = nothing

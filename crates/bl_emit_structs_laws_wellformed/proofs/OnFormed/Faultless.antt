@@ -21,22 +21,8 @@ use Rattle.bl_tree.specs.Types.{type_stands}
 use Rattle.bl_tree.specs.Words.{are_distinct, is_among}
 use Rattle.bl_eval.proofs.PassLemmas.{and_left, and_right, both}
 use Rattle.bl_limits_measures.specs.Types.{nesting}
-use Rattle.bl_ctext_semantics.specs.Faults.{
-  Fault,
-  all_distinct,
-  declared_before,
-  depth_of_struct,
-  depth_of_type,
-  distinct_names,
-  faults_in_struct,
-  interface_fits,
-  interface_members,
-  is_declared,
-  member_table,
-  short_chain,
-  struct_faults_after,
-  unless,
-}
+use Rattle.bl_ctext_semantics.specs.Faults.{all_distinct, declared_before, depth_of_struct, depth_of_type, distinct_names, faults_in_struct}
+use Rattle.bl_ctext_semantics.specs.Faults.{interface_fits, interface_members, is_declared, member_table, short_chain, struct_faults_after}
 use Rattle.bl_ctext_semantics.specs.Tables.{Table, entry_or, no_entries, with_entry}
 use Rattle.bl_emit_acts.specs.Types.{c_type, type_level, type_name}
 use Rattle.bl_emit_structs_laws_wellformed.specs.Names.{are_known, is_known, member_names}

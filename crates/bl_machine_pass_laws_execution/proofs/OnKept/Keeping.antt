@@ -165,7 +165,7 @@ module _ (w : Setting) (rank : ℕ → Node → ℕ) (slots : ℕ → Slots) (cl
           {r' : Registers} → Executes w rank slots clear i k frames store copies r frames' left r' → In i → P store → P left
       pass_through (ends is past) here h = h
       pass_through (skips is undue more) here h = pass_through more here h
-      pass_through (acts is rule has number due sees performs more) here h = pass_through more here (node_through performs here h)
+      pass_through (acts is rule has number due alone sees performs more) here h = pass_through more here (node_through performs here h)
 
       node_through : {i : ℕ} {n : Node} {frames : Frames} {store : Store} {answer : Bool} {frames' : Frames} {left : Store} →
           Performs w rank slots clear i n frames store answer frames' left → In i → P store → P left
@@ -198,7 +198,7 @@ module _ (w : Setting) (rank : ℕ → Node → ℕ) (slots : ℕ → Slots) (cl
           {r' : Registers} → Executes w rank slots clear i k frames store copies r frames' left r' → In i → ChangeOnly In frames frames'
       pass_counts (ends is past) here = λ k outside j. refl
       pass_counts (skips is undue more) here = pass_counts more here
-      pass_counts (acts is rule has number due sees performs more) here =
+      pass_counts (acts is rule has number due alone sees performs more) here =
           let one = node_counts performs here in
           let rest = pass_counts more here in
           λ k outside j. rest k outside j ∙ one k outside j

@@ -49,9 +49,10 @@ use Rattle.bl_machine_pass_laws_execution.specs.Fresh.Fresh.{locals}
 use Rattle.bl_machine_pass_laws_execution.specs.Fresh.Laws.{TreesAsk}
 use Rattle.bl_machine_pass_laws_execution.specs.Fresh.Senses.{Senses}
 use Rattle.bl_machine_pass_laws_execution.specs.Executes as executes
-use Rattle.bl_machine_pass_laws_execution.specs.Executes.{CopiesMatch, Executes, HasRule, NodeTraps, PassTraps, Performs, recopied}
+use Rattle.bl_machine_pass_laws_execution.specs.Executes.{BeginsAlone, CopiesMatch, Executes, HasRule, NodeTraps, PassTraps, Performs, recopied}
 use Rattle.bl_machine_pass_laws_execution.specs.Passes.Laws.{Executed, PassesExecute, TurnsPerform}
 use Rattle.bl_machine_pass_laws_execution.specs.Passes.Standing.{Standing}
+use Rattle.bl_machine_pass_laws_execution.proofs.OnPasses.Beginning.{never_both}
 
 -- ---- rules of nodes
 
@@ -164,6 +165,15 @@ module _ (within : (body : Block) → StaysWithin body) (waiting : TurnsWait) (q
         pass_invariant = now;
       }
 
+  -- where something waits at the node, a `run` that begins there isn't one that goes on later in the pass
+  alone_at : (frames : Frames) (k : ℕ) (c : Tree) (n : Node) (r : Registers) → Standing w slots i unit stood frames c → FitsBody (slots i) B c →
+      Waits c None n → (turn : Turn k c n r) → BeginsAlone rank slots i unit turn.rule r
+  alone_at frames k c n r standing stands waits turn = λ other has same later.
+      not_due (is_due (rank i) other r)
+      (λ is. never_both c turn.rule.node other.node standing.apart same (subst (λ x. Waits c None x) (sym turn.of_node) waits)
+      ((due w rank i (slots i) unit stood (rank i n) c other r given standing.lives stands has turn.pass_invariant
+      (let at : rank i turn.rule.node ≡ rank i n = subst (λ x. rank i turn.rule.node ≡ rank i x) turn.of_node refl in omega (arith, at, later))).0 is))
+
   rank_is : (n : Node) (rule : Transition) → rule.node ≡ n → rank i rule.node ≡ rank i n
   rank_is n rule is = subst (λ x. rank i rule.node ≡ rank i x) is refl
 
@@ -192,7 +202,8 @@ module _ (within : (body : Block) → StaysWithin body) (waiting : TurnsWait) (q
       (follows.goes {n = n} {c' = after} {between = store'} {c'' = end} least first takes more) frames known copies r
       stands keeps standing senses =
       let one = perform.takes frames c store known copies n after store' standing senses takes in
-      let own = turn_at frames k c n r standing stands keeps least first (waiting w rank i c one.done n after None one.turn) in
+      let waits = waiting w rank i c one.done n after None one.turn in
+      let own = turn_at frames k c n r standing stands keeps least first waits in
       let now = keep w rank i
       (slots i) unit stood c one.done n after own.rule r one.turn given standing.lives stands own.there own.of_node own.pass_invariant in
       let still = trees.turns w rank i (slots i) unit c one.done n after given.laid one.turn stands in
@@ -209,7 +220,8 @@ module _ (within : (body : Block) → StaysWithin body) (waiting : TurnsWait) (q
         registers = rest.registers;
         executes = skip_to way.steps k (rank i n) way.are frames store copies r rest.inner left rest.registers
             (none_before frames k c n r standing stands keeps first)
-            (executes.acts given.is own.rule own.there (rank_is n own.rule own.of_node) own.due_now sees performs rest.executes);
+            (executes.acts given.is own.rule own.there (rank_is n own.rule own.of_node) own.due_now
+            (alone_at frames k c n r standing stands waits own) sees performs rest.executes);
         counters = rest.counters;
         over = rest.over;
         change = λ k outside j. rest.change k outside j ∙ one.change k outside j;
@@ -237,7 +249,8 @@ module _ (within : (body : Block) → StaysWithin body) (waiting : TurnsWait) (q
   cut {k} {c} {store} (follows.goes_on {n = n} {c' = after} {between = store'} least first takes more) frames known copies r stands keeps standing
       senses =
       let one = perform.takes frames c store known copies n after store' standing senses takes in
-      let own = turn_at frames k c n r standing stands keeps least first (waiting w rank i c one.done n after None one.turn) in
+      let waits = waiting w rank i c one.done n after None one.turn in
+      let own = turn_at frames k c n r standing stands keeps least first waits in
       let now = keep w rank i
       (slots i) unit stood c one.done n after own.rule r one.turn given standing.lives stands own.there own.of_node own.pass_invariant in
       let still = trees.turns w rank i (slots i) unit c one.done n after given.laid one.turn stands in
@@ -247,7 +260,7 @@ module _ (within : (body : Block) → StaysWithin body) (waiting : TurnsWait) (q
       let performs : Performs w rank slots clear i own.rule.node frames store (answer_of one.turn) one.inner store' =
       subst (λ x. Performs w rank slots clear i x frames store (answer_of one.turn) one.inner store') (sym own.of_node) one.performs in
       skip_on way.steps k (rank i n) way.are frames store copies r (none_before frames k c n r standing stands keeps first)
-      (executes.goes_on given.is own.rule own.there (rank_is n own.rule own.of_node) own.due_now
+      (executes.goes_on given.is own.rule own.there (rank_is n own.rule own.of_node) own.due_now (alone_at frames k c n r standing stands waits own)
       (subst (λ x. CopiesMatch w i x store copies) (sym own.of_node) one.sees) performs
       (cut more one.inner one.known (recopied w i own.rule.node store' copies) (after_rule (rank i) own.rule (answer_of one.turn) r) still now
       one.standing sensed))

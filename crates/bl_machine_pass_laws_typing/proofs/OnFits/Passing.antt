@@ -151,14 +151,14 @@ module _ (callers : InstancesHaveCallers) (views : ViewsAreTyped) (placed : Stay
         {r' : Registers} → Executes W rank slots clear i k frames store copies r frames' left r' → (unit : UnitDef) × (unit_at W i ≡ Some unit)
     unit_of_pass (executes.ends {unit = unit} is all) = (unit, is)
     unit_of_pass (executes.skips {unit = unit} is none rest) = (unit, is)
-    unit_of_pass (executes.acts {unit = unit} is rule has numbered due sees performs rest) = (unit, is)
+    unit_of_pass (executes.acts {unit = unit} is rule has numbered due alone sees performs rest) = (unit, is)
 
     mutual
       pass_fits : {i k : ℕ} {frames : Frames} {store : Store} {copies : List Value} {r : Registers} {frames' : Frames} {left : Store}
           {r' : Registers} → Executes W rank slots clear i k frames store copies r frames' left r' → StoreFits W store → StoreFits W left
       pass_fits (executes.ends is all) fits = fits
       pass_fits (executes.skips is none rest) fits = pass_fits rest fits
-      pass_fits (executes.acts {i = i} {unit = unit} is rule has numbered due sees performs rest) fits =
+      pass_fits (executes.acts {i = i} {unit = unit} is rule has numbered due alone sees performs rest) fits =
           pass_fits rest (turn_fits performs unit is (node_fits slots i unit is rule has) fits)
 
       turn_fits : {i : ℕ} {n : Node} {frames : Frames} {store : Store} {answer : Bool} {frames' : Frames} {left : Store} →

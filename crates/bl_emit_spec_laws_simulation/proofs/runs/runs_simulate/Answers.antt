@@ -1,4 +1,4 @@
-use Rattle.bl_emit_spec_laws_simulation.proofs.OnRuns.Blocks.{runs_simulate}
+use Rattle.bl_emit_spec_laws_simulation.proofs.OnRuns.Starts.{runs_simulate}
 use Rattle.bl_emit_spec_laws_simulation.proofs.runs.runs_simulate.Goals as goal
 
 pub returns : goal.returns

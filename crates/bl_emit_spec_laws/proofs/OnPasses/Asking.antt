@@ -1,4 +1,4 @@
--- Rules of `run`s: where one begins a flag is asked for, and where one goes on nothing changes unless the body of what it calls has ended.
+-- Rules of `run`s: where one begins a counter is set, and where one goes on nothing changes unless the body of what it calls has ended.
 use Rattle.std.proofs.Common.{◌≡◌, ℕ, zero, suc, ◌<◌, Bool, true, false, ◌&&◌, List, [], ◌∷◌, ◌++◌, Contains}
 use Rattle.std.proofs.Common.{refl, sym, ap, subst, ◌∙◌, arith}
 use Rattle.std.specs.List.{list_all}
@@ -43,18 +43,31 @@ use Rattle.bl_graph_nodes.specs.Plain.{
   While,
 }
 use Rattle.bl_machine.specs.Uses.{Slots}
-use Rattle.bl_machine_pass.specs.Transitions.{Change, Finishes, SetsCounter, SetsFlag, Transition, body_ends, enter, flagged, rule_where, rules, rules_in, rules_in_each, rules_of}
-use Rattle.bl_machine_pass.specs.Transitions.{IsNew, age_of, joins}
+use Rattle.bl_machine_pass.specs.Registers.{Registers, after_rule, all_changed, due_by, is_at, is_due, with_counter}
+use Rattle.bl_machine_pass.specs.Transitions.{Change, Condition, Finishes, SetsCounter, SetsFlag, Transition, body_ends, enter, flagged, rule_where}
+use Rattle.bl_machine_pass.specs.Transitions.{ClearsBoth, ClearsCounter, Ended, EndsWhen, Flagged, IsNew, Rested, RestedIn, SetsMark, age_of, joins, rules}
+use Rattle.bl_machine_pass.specs.Transitions.{rules_in, rules_in_each, rules_of}
+use Rattle.bl_emit_spec_laws.proofs.OnOwn.Members.{both_first, both_second}
 
 -- whether there are no changes
 abbrev pub are_none : List Change → Bool
 are_none [] = true
 are_none (change ∷ rest) = false
 
+-- whether a change does no more than to set a counter
+abbrev sets_counter : Change → Bool
+sets_counter (SetsCounter slot) = true
+sets_counter _ = false
+
+-- whether it is asked whether the instance rested at one number
+abbrev asks_rest : Condition → Bool
+asks_rest (Rested slot) = true
+asks_rest _ = false
+
 -- what is told of the rule of a `run`'s node
 abbrev told_by : Node → Transition → Bool
-told_by (EnterAt l at arguments) rule = true
-told_by (ResumeAt l at arguments) rule = are_none rule.on_false
+told_by (EnterAt l at arguments) rule = list_all sets_counter rule.on_true && are_none rule.on_false
+told_by (ResumeAt l at arguments) rule = asks_rest rule.condition && are_none rule.on_false
 told_by (ActAt l s) rule = true
 told_by (TestAt l at e) rule = true
 told_by (PauseAt l at) rule = true
@@ -133,8 +146,46 @@ none_is : (changes : List Change) → are_none changes ≡ true → changes ≡ 
 none_is [] h = refl
 none_is (change ∷ rest) h = absurd (cc)
 
+set_none : (number : Node → ℕ) (changes : List Change) (r : Registers) → list_all sets_counter changes ≡ true →
+    (all_changed number changes r).rested ≡ r.rested
+set_none number [] r all = refl
+set_none number (SetsCounter slot ∷ rest) r all = set_none number rest (with_counter slot.counter slot.value r) all
+set_none number (SetsFlag n ∷ rest) r all = absurd (cc)
+set_none number (ClearsCounter k ∷ rest) r all = absurd (cc)
+set_none number (ClearsBoth k ∷ rest) r all = absurd (cc)
+set_none number (SetsMark n ∷ rest) r all = absurd (cc)
+set_none number (EndsWhen start surface depth ∷ rest) r all = absurd (cc)
+set_none number (Finishes ∷ rest) r all = absurd (cc)
+
+-- what is asked of what counters held depends on nothing else
+rest_same : (number : Node → ℕ) (n : Node) (condition : Condition) (r s : Registers) → asks_rest condition ≡ true → r.rested ≡ s.rested →
+    due_by number r n condition ≡ due_by number s n condition
+rest_same number n (Rested slot) r s asks same = ap (λ rested. is_at rested slot) same
+rest_same number n Flagged r s asks same = absurd (cc)
+rest_same number n (RestedIn slots) r s asks same = absurd (cc)
+rest_same number n (Ended age needed) r s asks same = absurd (cc)
+
 module _ (slots : Slots) (body : Block) (rule : Transition) (there : Contains (rules slots body) rule) (l : Label) (at : Place) (arguments : Arguments) where
+  told_of : (n : Node) → rule.node ≡ n → told_by n rule ≡ true
+  told_of n is = ap (λ n. told_by n rule) (sym is) ∙ of_member (rules slots body) rule (block_so slots body Finishes) there
+
   -- where it goes on nothing changes unless the answer is true
   pub resumes_quiet : rule.node ≡ ResumeAt l at arguments → rule.on_false ≡ []
-  resumes_quiet is =
-      none_is rule.on_false (ap (λ n. told_by n rule) (sym is) ∙ of_member (rules slots body) rule (block_so slots body Finishes) there)
+  resumes_quiet is = none_is rule.on_false (both_second (asks_rest rule.condition) (are_none rule.on_false) (told_of (ResumeAt l at arguments) is))
+
+  -- whether it goes on depends on what counters held alone
+  pub resumes_rested : (number : Node → ℕ) (r s : Registers) → rule.node ≡ ResumeAt l at arguments → r.rested ≡ s.rested →
+      is_due number rule r ≡ is_due number rule s
+  resumes_rested number r s is same =
+      rest_same number rule.node rule.condition r s
+      (both_first (asks_rest rule.condition) (are_none rule.on_false) (told_of (ResumeAt l at arguments) is)) same
+
+  -- where it begins that doesn't change
+  pub begins_quiet : (number : Node → ℕ) (answer : Bool) (r : Registers) → rule.node ≡ EnterAt l at arguments →
+      (after_rule number rule answer r).rested ≡ r.rested
+  begins_quiet number true r is =
+      set_none number rule.on_true r
+      (both_first (list_all sets_counter rule.on_true) (are_none rule.on_false) (told_of (EnterAt l at arguments) is))
+  begins_quiet number false r is =
+      ap (λ changes. (all_changed number changes r).rested)
+      (none_is rule.on_false (both_second (list_all sets_counter rule.on_true) (are_none rule.on_false) (told_of (EnterAt l at arguments) is)))
