@@ -1,9 +1,10 @@
 -- Which bytes may stand side by side in one token.
-use Rattle.std.proofs.Common.{◌≡◌, ◌⊎◌, ℕ, Bool, true, false, ◌&&◌, ◌||◌, refl, inl, inr, arith}
+use Rattle.std.specs.Prelude.{not}
+use Rattle.std.proofs.Common.{◌≡◌, ◌⊎◌, ℕ, ◌==◌, Bool, true, false, ◌&&◌, ◌||◌, refl, inl, inr, arith}
 use Rattle.std.proofs.Math.Bool.{and-false}
 use Rattle.std.proofs.lemmas.Bool.Decides.{nat_tests}
 use Rattle.bl_ctext.specs.Token.{is_blank, is_word_byte, is_sign_byte}
-use Rattle.bl_ctext.specs.inner.Cut.{joins}
+use Rattle.bl_ctext.specs.inner.Cut.{joins, may_follow}
 
 pub and-fst : (a b : Bool) → (a && b) ≡ true → a ≡ true
 and-fst true b h = refl
@@ -64,3 +65,33 @@ word_byte-not_blank a h = not_true (is_blank a) (λ (k : is_blank a ≡ true). l
 
 pub sign_byte-not_blank : (a : ℕ) → is_sign_byte a ≡ true → is_blank a ≡ false
 sign_byte-not_blank a h = not_true (is_blank a) (λ (k : is_blank a ≡ true). let e = no_sign a k in cc)
+
+negated : (b : Bool) → not b ≡ true → b ≡ false
+negated true h = cc
+negated false h = refl
+
+or-false-fst : (a b : Bool) → (a || b) ≡ false → a ≡ false
+or-false-fst true b h = h
+or-false-fst false b h = refl
+
+or-false-snd : (a b : Bool) → (a || b) ≡ false → b ≡ false
+or-false-snd true b h = cc
+or-false-snd false b h = h
+
+-- neither a word nor a double sign, where its second byte is of none
+neither : (a b c d w e m o : Bool) → w ≡ false → e ≡ false → m ≡ false → o ≡ false →
+    ((a && w) || ((b && e) || ((c && m) || (d && o)))) ≡ false
+neither a b c d w e m o h i j k = rw (h, i, j, k) (simp and-false)
+
+-- what may stand behind no byte in a token goes on none
+pub follows-none : (a b : ℕ) → not (may_follow b) ≡ true → joins a b ≡ false
+follows-none a b h =
+    let none : may_follow b ≡ false = negated (may_follow b) h in
+    let no_word : is_word_byte b ≡ false = or-false-fst (is_word_byte b) _ none in
+    let no_sign : (b == 61 || (b == 38 || b == 124)) ≡ false = or-false-snd (is_word_byte b) _ none in
+    let no_pair : (b == 38 || b == 124) ≡ false = or-false-snd (b == 61) _ no_sign in
+    neither (is_word_byte a) (a == 61 || a == 33 || a == 60 || a == 62) (a == 38) (a == 124) (is_word_byte b) (b == 61) (b == 38) (b == 124)
+    no_word
+    (or-false-fst (b == 61) _ no_sign)
+    (or-false-fst (b == 38) _ no_pair)
+    (or-false-snd (b == 38) _ no_pair)

@@ -26,8 +26,8 @@ use Rattle.std.specs.Prelude.{slice_get}
 use native.Mathlib.Numerals.{unary_clauses}
 use Rattle.bl_tree.specs.Reduce.{all_of}
 use Rattle.bl_ctext.specs.Token.{Token, is_blank, is_word_byte, is_word, is_sign, is_token}
-use Rattle.bl_ctext.specs.inner.Cut.{joins, may_continue, cut_before, tokens_in, may_merge}
-use Rattle.bl_ctext.proofs.Bytes.{joined-not_blank, joins-blank, word_byte-not_blank, sign_byte-not_blank, and-fst, and-snd, both, either, or-fst, or-snd}
+use Rattle.bl_ctext.specs.inner.Cut.{joins, may_continue, cut_before, tokens_in, may_merge, begins_apart}
+use Rattle.bl_ctext.proofs.Bytes.{follows-none, joined-not_blank, joins-blank, word_byte-not_blank, sign_byte-not_blank, and-fst, and-snd, both, either, or-fst, or-snd}
 
 -- whether the last byte of the first and the first of the second join
 pub meets-last : (xs ys : List ℕ) (a b : ℕ) → slice_get xs (length xs - 1) ≡ Some a → slice_get ys 0 ≡ Some b → may_merge xs ys ≡ joins a b
@@ -59,6 +59,13 @@ pub before_a_space : (xs : List ℕ) → may_merge xs (32 ∷ []) ≡ false
 before_a_space [] = refl
 before_a_space (x ∷ []) = joins-blank x 32 refl
 before_a_space (x ∷ z ∷ xs) = before_a_space (z ∷ xs)
+
+-- what begins apart goes on nothing
+pub meets-apart : (xs ys : List ℕ) → begins_apart ys ≡ true → may_merge xs ys ≡ false
+meets-apart [] ys h = refl
+meets-apart (x ∷ []) [] h = refl
+meets-apart (x ∷ []) (y ∷ ys) h = follows-none x y h
+meets-apart (x ∷ z ∷ xs) ys h = meets-apart (z ∷ xs) ys h
 
 -- a longer part of the bytes meets what the shorter meets
 pub meets-drop : (n : ℕ) (xs ys : List ℕ) → may_merge xs ys ≡ false → may_merge (drop n xs) ys ≡ false

@@ -23,9 +23,9 @@ use Rattle.std.proofs.lemmas.List.{drop-append-le}
 use Rattle.bl_ctext.specs.Prelude.{prelude}
 use Rattle.bl_ctext.specs.declared.prelude.TheConstants.{PRELUDE}
 use Rattle.bl_ctext.specs.Token.{Token, SpacedC}
-use Rattle.bl_ctext.specs.inner.Cut.{tokens_in, may_merge, are_tokens, parted, behind_prelude, IsText}
+use Rattle.bl_ctext.specs.inner.Cut.{tokens_in, may_merge, are_tokens, begins_apart, is_piece, parted, behind_prelude, IsText}
 use Rattle.bl_ctext.proofs.Bytes.{both, and-fst, and-snd}
-use Rattle.bl_ctext.proofs.Cutting.{meets-space, before_a_space, meets-drop, tokens_in-append}
+use Rattle.bl_ctext.proofs.Cutting.{meets-apart, meets-space, before_a_space, meets-drop, tokens_in-append}
 use Rattle.bl_ctext.proofs.Longest.{spaced}
 
 are_tokens-append : (xs ys : List Token) → are_tokens xs ≡ true → are_tokens ys ≡ true → are_tokens (xs ++ ys) ≡ true
@@ -95,6 +95,12 @@ grown bytes next front after text tokens e f =
     let (sum, whole) = grows_by (parted bytes next) next step.text step.apart tokens in
     let same : after ≡ parted bytes next ++ next = rw e at f in
     rw same (record { text = whole; tokens = sum ∙ ap (λ (ts : List Token). ts ++ tokens_in next) step.tokens })
+
+-- a piece is written as it is
+pub piece_grown : (bytes piece after : List ℕ) → IsText bytes → is_piece piece ≡ true → after ≡ bytes ++ piece → Grown bytes piece after
+piece_grown bytes piece after text h e =
+    let apart : may_merge bytes piece ≡ false = meets-apart bytes piece (and-fst (begins_apart piece) _ h) in
+    grown bytes piece bytes after text (and-snd (begins_apart piece) _ h) (parted_kept bytes piece apart) e
 
 pub parted_text : (bytes next front : List ℕ) → IsText bytes → front ≡ parted bytes next → IsText front
 parted_text bytes next front text e = let P : List ℕ → Type 0 = λ xs. IsText xs in subst P (sym e) (parts bytes next text).text

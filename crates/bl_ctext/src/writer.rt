@@ -3,7 +3,7 @@
 ghost use Rattle.std.specs.Prelude.{◌≡◌, ℕ, List, [], ◌∷◌, ◌++◌, IsTrue, IfOk, OnOk, OnErr};
 ghost use Rattle.bl_ctext.specs.Prelude.{prelude};
 ghost use Rattle.bl_ctext.specs.Token.{is_token, SpacedC};
-ghost use Rattle.bl_ctext.specs.inner.Cut.{joins, may_merge, tokens_in, are_tokens, parted};
+ghost use Rattle.bl_ctext.specs.inner.Cut.{joins, may_merge, tokens_in, are_tokens, is_piece, parted};
 
 use crate::prelude::PRELUDE;
 use crate::token_bytes::{is_double_sign, is_word_byte};
@@ -54,11 +54,29 @@ impl Writer {
         self.write(text)
     }
 
+    /// Writes bytes that go on no token, whatever stands before them.
+    pub fn piece(&mut self, text: &str) -> Result<(), NoMemory>
+        requires { IsTrue (is_piece text.now) }
+        ensures { OnOk result (self.new ≡ self.old ++ tokens_in text.now) }
+    {
+        self.text.extend_from_slice(text.as_bytes())?;
+        Ok(())
+    }
+
+    /// Writes one such byte, by fewer instructions than a text of it.
+    pub fn byte(&mut self, byte: u8) -> Result<(), NoMemory>
+        requires { IsTrue (is_piece (byte ∷ [])) }
+        ensures { OnOk result (self.new ≡ self.old ++ tokens_in (byte ∷ [])) }
+    {
+        put(&mut self.text, byte)?;
+        Ok(())
+    }
+
     /// Begins a line inside so many blocks.
     pub fn line(&mut self, level: u8) -> Result<(), NoMemory>
         ensures { OnOk result (self.new ≡ self.old) }
     {
-        self.write(indentation(level))
+        self.piece(indentation(level))
     }
 
     pub fn finish(self) -> Vec<u8>
@@ -72,7 +90,8 @@ impl Writer {
 /// A line feed and the blanks before a line inside so many blocks: at most 20 times four, so that the text stays linear in
 /// the size of its tree.
 fn indentation(level: u8) -> &'static str
-    ensures { tokens_in result.now ≡ [] }
+    ensures none { tokens_in result.now ≡ [] }
+    ensures apart { IsTrue (is_piece result.now) }
 {
     match level {
         0 => "\n",
@@ -97,6 +116,14 @@ fn indentation(level: u8) -> &'static str
         19 => "\n                                                                            ",
         _ => "\n                                                                                ",
     }
+}
+
+fn put(text: &mut Vec<u8>, byte: u8) -> Result<(), AllocError>
+    ensures ok { OnOk result (text.new.items ≡ text.old.items ++ byte ∷ []) }
+    ensures err { OnErr result (text.new.items ≡ text.old.items) }
+{
+    text.push(byte)?;
+    Ok(())
 }
 
 /// Writes a space where the next bytes would go on the last token.

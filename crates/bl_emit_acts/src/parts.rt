@@ -1,11 +1,12 @@
 //! Small parts of C trees. What is made has no place in a text.
 
-ghost use Rattle.std.specs.Prelude.{◌≡◌, ◌∷◌, ◌++◌, [], IfOk, codes, slice_get, true};
+ghost use Rattle.std.specs.Prelude.{◌≡◌, ◌∷◌, ◌++◌, [], IfOk, IfSome, codes, slice_get, true};
 ghost use Rattle.std.specs.Fmt.{decimal};
 ghost use Rattle.bl_emit_acts.specs.Acts.{c_clear, c_set, c_stmt};
 ghost use Rattle.bl_emit_acts.specs.Trees.{c_called, c_element, c_index, c_literal, c_not, c_place, c_read, c_step, c_two};
 ghost use Rattle.bl_emit_acts.specs.Types.{numbered_name, source_name as name_in_source};
 
+use arrayvec::ArrayString;
 use bl_tree::c::{CArg, CCall, CExpr, CExprKind, CIndex, CPlace, CStep, CStmt, CStmtKind};
 use bl_tree::slices::element as element_of;
 use bl_tree::tree::Var;
@@ -18,10 +19,26 @@ pub const NOWHERE: Place = Place { start: 0, end: 0 };
 
 // ---- names and places
 
+/// How many bytes a `Text` keeps in itself.
+const SHORT: usize = 16;
+
+/// Two pieces together, where they are so short that their text takes no memory.
+fn short(front: &str, back: &str) -> Option<ArrayString<SHORT>>
+    ensures { IfSome result (λ text. text.bytes ≡ front.now ++ back.now) }
+{
+    let mut text = ArrayString::new();
+    text.try_push_str(front).ok()?;
+    text.try_push_str(back).ok()?;
+    Some(text)
+}
+
 /// A prefix that keeps a name of the source apart from the names of C.
 pub fn prefixed(alloc: Global, prefix: &str, name: &str) -> Result<Text, NoMemory>
     ensures { IfOk result (λ text. text ≡ prefix.now ++ name.now) }
 {
+    if let Some(text) = short(prefix, name) {
+        return Ok(Text::copy_of(alloc, text.as_str())?);
+    }
     let mut text = String::with_capacity(alloc, prefix.len().saturating_add(name.len()))?;
     text.push_str(prefix)?;
     text.push_str(name)?;
@@ -45,10 +62,25 @@ fn source_name(vars: &[Var], k: usize) -> &str
     }
 }
 
+/// A letter, digits, `_` and a word, where they are so short that their text takes no memory.
+fn short_spelled(letter: &str, digits: &str, word: &str) -> Option<ArrayString<SHORT>>
+    ensures { IfSome result (λ text. text.bytes ≡ letter.now ++ (digits.now ++ (codes "_" ++ word.now))) }
+{
+    let mut text = ArrayString::new();
+    text.try_push_str(letter).ok()?;
+    text.try_push_str(digits).ok()?;
+    text.try_push_str("_").ok()?;
+    text.try_push_str(word).ok()?;
+    Some(text)
+}
+
 /// A letter, digits, `_` and a word.
 fn spelled(alloc: Global, letter: &str, digits: &str, word: &str) -> Result<Text, NoMemory>
     ensures { IfOk result (λ text. text ≡ letter.now ++ (digits.now ++ (codes "_" ++ word.now))) }
 {
+    if let Some(text) = short_spelled(letter, digits, word) {
+        return Ok(Text::copy_of(alloc, text.as_str())?);
+    }
     let length = (letter.len().saturating_add(digits.len())).saturating_add(word.len());
     let mut text = String::with_capacity(alloc, length.saturating_add(1))?;
     text.push_str(letter)?;
@@ -219,9 +251,8 @@ pub fn single<T: Drop>(alloc: Global, one: T) -> Result<List<T>, NoMemory>
 pub fn joined<T: Drop>(first: List<T>, rest: List<T>) -> Result<List<T>, NoMemory>
     ensures { IfOk result (λ all. all ≡ first ++ rest) }
 {
-    let mut all = first;
-    for one in rest.into_vec() {
-        all.push(one)?;
-    }
-    Ok(all)
+    let mut all = first.into_vec();
+    let mut behind = rest.into_vec();
+    all.append(&mut behind)?;
+    Ok(List::from_vec(all))
 }

@@ -9,7 +9,7 @@ ghost use Rattle.bl_emit_acts.specs.Sites.{site_in};
 ghost use Rattle.bl_emit_acts.specs.Trees.{c_place, c_step};
 
 use crate::home::Home;
-use crate::parts::{named, step, target};
+use crate::parts::{joined, named, single, step, target};
 use crate::site::UnitSite;
 use crate::types::scalar_in;
 use bl_tree::c::{CPlace, CStep};
@@ -96,11 +96,7 @@ pub fn variable(
 fn held(alloc: Global, through: bool, name: Text, steps: List<CStep>) -> Result<CPlace, NoMemory>
     ensures { IfOk result (λ place. place ≡ c_place through (codes "m") (c_step name ∷ steps)) }
 {
-    let mut all = List::new(alloc);
-    all.push(step(name))?;
-    for further in steps.into_vec() {
-        all.push(further)?;
-    }
+    let all = joined(single(alloc, step(name))?, steps)?;
     Ok(target(through, Text::copy_of(alloc, "m")?, all))
 }
 

@@ -1,5 +1,5 @@
 -- Bytes cut into tokens, as the writer sees what it has written.
-use Rattle.std.specs.Prelude.{Bool, IsTrue, List, cond, drop, false, length, map, true, ℕ, ◌&&◌, ◌++◌, ◌||◌, ◌∷◌, ◌≡◌, []}
+use Rattle.std.specs.Prelude.{Bool, IsTrue, List, cond, drop, false, length, map, not, true, ℕ, ◌&&◌, ◌++◌, ◌==◌, ◌||◌, ◌∷◌, ◌≡◌, []}
 use Rattle.bl_tree.specs.Reduce.{all_of}
 use Rattle.bl_ctext.specs.Prelude.{prelude}
 use Rattle.bl_ctext.specs.Token.{Token, is_blank, is_double_sign, is_token, is_word_byte}
@@ -34,6 +34,19 @@ abbrev pub may_merge : List ℕ → List ℕ → Bool
 may_merge [] next = false
 may_merge (b ∷ []) next = may_continue b next
 may_merge (b ∷ c ∷ bs) next = may_merge (c ∷ bs) next
+
+-- whether a byte may stand behind another one in a token
+abbrev pub may_follow : ℕ → Bool
+may_follow b = is_word_byte b || (b == 61 || (b == 38 || b == 124))
+
+-- whether bytes begin with none that may stand behind another one in a token
+abbrev pub begins_apart : List ℕ → Bool
+begins_apart [] = true
+begins_apart (b ∷ bs) = not (may_follow b)
+
+-- whether bytes hold tokens, whatever stands before them
+abbrev pub is_piece : List ℕ → Bool
+is_piece bytes = begins_apart bytes && are_tokens (tokens_in bytes)
 
 -- the bytes, and a space where the next bytes would continue their last token
 unfoldable pub parted : List ℕ → List ℕ → List ℕ

@@ -21,7 +21,7 @@ pub fn expr(out: &mut Writer, e: &CExpr) -> Result<(), NoMemory>
         CExprKind::Read(at) => place(out, at),
         CExprKind::Call(called) => call(out, called),
         CExprKind::Not(operand) => {
-            out.write("(!")?;
+            out.piece("(!")?;
             closed(out, operand)
         }
         CExprKind::Two(op, left, right) => {
@@ -38,7 +38,7 @@ fn opened(out: &mut Writer, operand: &CExpr) -> Result<(), NoMemory>
     requires { IsTrue (spells_expr operand.now) }
     ensures { OnOk result (out.new ≡ out.old ++ codes "(" ∷ expr_tokens operand.now) }
 {
-    out.write("(")?;
+    out.byte(b'(')?;
     expr(out, operand)
 }
 
@@ -49,7 +49,7 @@ fn closed(out: &mut Writer, operand: &CExpr) -> Result<(), NoMemory>
     ensures { OnOk result (out.new ≡ out.old ++ (expr_tokens operand.now ++ codes ")" ∷ [])) }
 {
     expr(out, operand)?;
-    out.write(")")
+    out.byte(b')')
 }
 
 #[cycle(expressions)]
@@ -69,7 +69,7 @@ fn member(out: &mut Writer, step: &CStep) -> Result<(), NoMemory>
     requires { IsTrue (spells_step step.now) }
     ensures { OnOk result (out.new ≡ out.old ++ step_tokens step.now) }
 {
-    out.write(".")?;
+    out.byte(b'.')?;
     name::name(out, step.member.as_str())?;
     match &step.index {
         Some(taken) => index(out, taken),
@@ -84,9 +84,9 @@ fn index(out: &mut Writer, taken: &CIndex) -> Result<(), NoMemory>
 {
     index_function(out, taken.signed)?;
     expr(out, &taken.at)?;
-    out.write(", ")?;
+    out.piece(", ")?;
     literal::number(out, taken.length as u64)?;
-    out.write(")]")
+    out.piece(")]")
 }
 
 #[cycle(expressions)]
@@ -95,14 +95,14 @@ pub fn call(out: &mut Writer, called: &CCall) -> Result<(), NoMemory>
     ensures { OnOk result (out.new ≡ out.old ++ ccall_tokens called.now) }
 {
     name::callee(out, called.name.as_str())?;
-    out.write("(")?;
+    out.byte(b'(')?;
     let mut first = true;
     for arg in called.args.iter() {
         comma(out, first)?;
         first = false;
         argument(out, arg)?;
     }
-    out.write(")")
+    out.byte(b')')
 }
 
 #[cycle(expressions)]
@@ -124,9 +124,7 @@ fn operator(out: &mut Writer, op: Op) -> Result<(), NoMemory>
     requires { IsTrue (is_c_operator op) }
     ensures { OnOk result (out.new ≡ out.old ++ operator_sign op ∷ []) }
 {
-    out.write(" ")?;
-    out.token(literal::operator_name(op))?;
-    out.write(" ")
+    out.piece(literal::operator_name(op))
 }
 
 /// What a place begins with.
@@ -137,20 +135,20 @@ fn root(out: &mut Writer, through: bool, name: &str) -> Result<(), NoMemory>
     if !through {
         return name::name(out, name);
     }
-    out.write("(*")?;
+    out.piece("(*")?;
     name::name(out, name)?;
-    out.write(")")
+    out.byte(b')')
 }
 
 fn index_function(out: &mut Writer, signed: bool) -> Result<(), NoMemory>
     ensures { OnOk result (out.new ≡ out.old ++ index_front signed) }
 {
-    out.write(if signed { "[bl_ix_s(" } else { "[bl_ix_u(" })
+    out.piece(if signed { "[bl_ix_s(" } else { "[bl_ix_u(" })
 }
 
 /// What stands before a part of a list: nothing before the first.
 pub fn comma(out: &mut Writer, first: bool) -> Result<(), NoMemory>
     ensures { OnOk result (out.new ≡ out.old ++ comma_before first) }
 {
-    if first { Ok(()) } else { out.write(", ") }
+    if first { Ok(()) } else { out.piece(", ") }
 }

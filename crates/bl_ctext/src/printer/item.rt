@@ -2,7 +2,7 @@
 
 ghost use Rattle.std.specs.Prelude.{◌≡◌, [], ◌∷◌, ◌++◌, map, codes, IsTrue, OnOk};
 ghost use Rattle.bl_tree.specs.Reduce.{all_of, joined};
-ghost use Rattle.bl_ctext.specs.Spelling.{with_commas, scalar_word, type_tokens, length_tokens, member_tokens, struct_tokens, param_tokens};
+ghost use Rattle.bl_ctext.specs.Spelling.{with_commas, scalar_word, type_tokens, length_tokens, member_tokens, struct_tokens, param_tokens, star_if};
 ghost use Rattle.bl_ctext.specs.Spelling.{zero_tokens, local_tokens, returned_tokens, func_front, func_rest, func_tokens};
 ghost use Rattle.bl_ctext.specs.Spellable.{is_c_scalar, spells_type, spells_length, spells_member, spells_struct, spells_param, spells_local};
 ghost use Rattle.bl_ctext.specs.Spellable.{spells_returned, spells_func};
@@ -36,11 +36,11 @@ fn structure(out: &mut Writer, s: &CStruct) -> Result<(), NoMemory>
     requires { IsTrue (spells_struct s.now) }
     ensures { OnOk result (out.new ≡ out.old ++ struct_tokens s.now) }
 {
-    out.write("\nstruct ")?;
+    out.piece("\nstruct ")?;
     name::struct_name(out, s.name.as_str())?;
-    out.write(" {")?;
+    out.piece(" {")?;
     members(out, &s.members)?;
-    out.write("\n};\n")
+    out.piece("\n};\n")
 }
 
 fn members(out: &mut Writer, members: &List<CMember>) -> Result<(), NoMemory>
@@ -59,10 +59,9 @@ fn member(out: &mut Writer, m: &CMember) -> Result<(), NoMemory>
 {
     out.line(1)?;
     type_name(out, &m.ty)?;
-    out.write(" ")?;
     name::name(out, m.name.as_str())?;
     length(out, m.length)?;
-    out.write(";")
+    out.byte(b';')
 }
 
 fn length(out: &mut Writer, length: Option<u32>) -> Result<(), NoMemory>
@@ -70,21 +69,23 @@ fn length(out: &mut Writer, length: Option<u32>) -> Result<(), NoMemory>
 {
     match length {
         Some(n) => {
-            out.write("[")?;
+            out.byte(b'[')?;
             literal::number(out, n as u64)?;
-            out.write("]")
+            out.byte(b']')
         }
         None => Ok(()),
     }
 }
 
+/// A scalar type and a space.
 fn scalar(out: &mut Writer, ty: Scalar) -> Result<(), NoMemory>
     requires { IsTrue (is_c_scalar ty) }
     ensures { OnOk result (out.new ≡ out.old ++ scalar_word ty ∷ []) }
 {
-    out.token(literal::scalar_name(ty))
+    out.write(literal::scalar_name(ty))
 }
 
+/// A type and a space.
 fn type_name(out: &mut Writer, ty: &CType) -> Result<(), NoMemory>
     requires { IsTrue (spells_type ty.now) }
     ensures { OnOk result (out.new ≡ out.old ++ type_tokens ty.now) }
@@ -93,7 +94,8 @@ fn type_name(out: &mut Writer, ty: &CType) -> Result<(), NoMemory>
         CType::Scalar(ty) => scalar(out, *ty),
         CType::Struct(of) => {
             out.write("struct ")?;
-            name::struct_name(out, of.as_str())
+            name::struct_name(out, of.as_str())?;
+            out.byte(b' ')
         }
     }
 }
@@ -104,7 +106,7 @@ fn func(out: &mut Writer, f: &CFunc) -> Result<(), NoMemory>
 {
     func_head(out, f)?;
     params(out, &f.params)?;
-    out.write(") {")?;
+    out.piece(") {")?;
     func_body(out, f)
 }
 
@@ -113,11 +115,10 @@ fn func_head(out: &mut Writer, f: &CFunc) -> Result<(), NoMemory>
     requires { IsTrue (spells_func f.now) }
     ensures { OnOk result (out.new ≡ out.old ++ func_front f.now) }
 {
-    out.write(if f.fixed { "\nstatic " } else { "\n" })?;
+    out.piece(if f.fixed { "\nstatic " } else { "\n" })?;
     returned(out, f.result)?;
-    out.write(" ")?;
     name::function_name(out, f.name.as_str())?;
-    out.write("(")
+    out.byte(b'(')
 }
 
 /// The locals and statements, and the brace behind them.
@@ -127,16 +128,17 @@ fn func_body(out: &mut Writer, f: &CFunc) -> Result<(), NoMemory>
 {
     locals(out, &f.locals)?;
     stmt::stmts(out, &f.body, 1)?;
-    out.write("\n}\n")
+    out.piece("\n}\n")
 }
 
+/// The type of what is returned, and a space.
 fn returned(out: &mut Writer, scalar_or_void: Option<Scalar>) -> Result<(), NoMemory>
     requires { IsTrue (spells_returned scalar_or_void) }
     ensures { OnOk result (out.new ≡ out.old ++ returned_tokens scalar_or_void) }
 {
     match scalar_or_void {
         Some(ty) => scalar(out, ty),
-        None => out.write("void"),
+        None => out.write("void "),
     }
 }
 
@@ -158,8 +160,15 @@ fn param(out: &mut Writer, p: &CParam) -> Result<(), NoMemory>
     ensures { OnOk result (out.new ≡ out.old ++ param_tokens p.now) }
 {
     type_name(out, &p.ty)?;
-    out.write(if p.pointer { " *" } else { " " })?;
+    star(out, p.pointer)?;
     name::name(out, p.name.as_str())
+}
+
+/// The star of a pointer.
+fn star(out: &mut Writer, pointer: bool) -> Result<(), NoMemory>
+    ensures { OnOk result (out.new ≡ out.old ++ star_if pointer) }
+{
+    if pointer { out.byte(b'*') } else { Ok(()) }
 }
 
 fn locals(out: &mut Writer, locals: &List<CLocal>) -> Result<(), NoMemory>
@@ -178,9 +187,8 @@ fn local(out: &mut Writer, x: &CLocal) -> Result<(), NoMemory>
 {
     out.line(1)?;
     type_name(out, &x.ty)?;
-    out.write(" ")?;
     name::name(out, x.name.as_str())?;
-    out.write(match &x.ty {
+    out.piece(match &x.ty {
         CType::Scalar(_) => " = 0;",
         CType::Struct(_) => " = {0};",
     })

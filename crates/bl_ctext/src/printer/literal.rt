@@ -3,73 +3,76 @@
 ghost use Rattle.std.specs.Prelude.{◌≡◌, ℕ, List, [], ◌∷◌, ◌++◌, codes, IsTrue, OnOk};
 ghost use Rattle.std.specs.Fmt.{decimal};
 ghost use Rattle.bl_ctext.specs.Token.{is_token};
-ghost use Rattle.bl_ctext.specs.Spelling.{scalar_word, constant_word, width_digits, negatives, negative_tokens, literal_tokens, constant_tokens, operator_sign};
+ghost use Rattle.bl_ctext.specs.inner.Cut.{tokens_in, are_tokens, is_piece};
+ghost use Rattle.bl_ctext.specs.Spelling.{scalar_word, constant_word, width_digits, negatives, negative_tokens, literal_tokens, operator_sign};
 ghost use Rattle.bl_ctext.specs.Spellable.{is_c_scalar, is_literal, is_c_operator};
 
 use crate::writer::Writer;
 use bl_tree::{NoMemory, Op, Scalar, Width};
 use itoa::Buffer;
 
-/// The word of a type that isn't a bits type.
+/// The word of a type that isn't a bits type, and a space.
 pub fn scalar_name(scalar: Scalar) -> &'static str
     requires { IsTrue (is_c_scalar scalar) }
-    ensures spelled { result.now ≡ scalar_word scalar }
-    ensures one { IsTrue (is_token result.now) }
+    ensures spelled { tokens_in result.now ≡ scalar_word scalar ∷ [] }
+    ensures tokens { IsTrue (are_tokens (tokens_in result.now)) }
 {
     match scalar {
-        Scalar::Bool => "bool",
-        Scalar::Int(Width::W8) => "int8_t",
-        Scalar::Int(Width::W16) => "int16_t",
-        Scalar::Int(Width::W32) => "int32_t",
-        Scalar::Int(Width::W64) => "int64_t",
-        Scalar::Nat(Width::W8) => "uint8_t",
-        Scalar::Nat(Width::W16) => "uint16_t",
-        Scalar::Nat(Width::W32) => "uint32_t",
-        Scalar::Nat(Width::W64) => "uint64_t",
+        Scalar::Bool => "bool ",
+        Scalar::Int(Width::W8) => "int8_t ",
+        Scalar::Int(Width::W16) => "int16_t ",
+        Scalar::Int(Width::W32) => "int32_t ",
+        Scalar::Int(Width::W64) => "int64_t ",
+        Scalar::Nat(Width::W8) => "uint8_t ",
+        Scalar::Nat(Width::W16) => "uint16_t ",
+        Scalar::Nat(Width::W32) => "uint32_t ",
+        Scalar::Nat(Width::W64) => "uint64_t ",
         Scalar::Bits(_) => unreachable!(),
     }
 }
 
-/// The sign of a comparison, of `Both` or of `Either`.
+/// The sign of a comparison, of `Both` or of `Either`, with a space on either side.
 pub fn operator_name(op: Op) -> &'static str
     requires { IsTrue (is_c_operator op) }
-    ensures spelled { result.now ≡ operator_sign op }
-    ensures one { IsTrue (is_token result.now) }
+    ensures spelled { tokens_in result.now ≡ operator_sign op ∷ [] }
+    ensures apart { IsTrue (is_piece result.now) }
 {
     match op {
-        Op::Eq => "==",
-        Op::Ne => "!=",
-        Op::Lt => "<",
-        Op::Le => "<=",
-        Op::Gt => ">",
-        Op::Ge => ">=",
-        Op::And => "&&",
-        Op::Or => "||",
+        Op::Eq => " == ",
+        Op::Ne => " != ",
+        Op::Lt => " < ",
+        Op::Le => " <= ",
+        Op::Gt => " > ",
+        Op::Ge => " >= ",
+        Op::And => " && ",
+        Op::Or => " || ",
         _ => unreachable!(),
     }
 }
 
+/// What stands before the digits of a constant.
 fn signed_constant(width: Width) -> &'static str
-    ensures spelled { result.now ≡ constant_word (codes "INT") width }
-    ensures one { IsTrue (is_token result.now) }
+    ensures spelled { tokens_in result.now ≡ constant_word (codes "INT") width ∷ codes "(" ∷ [] }
+    ensures tokens { IsTrue (are_tokens (tokens_in result.now)) }
 {
     match width {
-        Width::W8 => "INT8_C",
-        Width::W16 => "INT16_C",
-        Width::W32 => "INT32_C",
-        Width::W64 => "INT64_C",
+        Width::W8 => "INT8_C(",
+        Width::W16 => "INT16_C(",
+        Width::W32 => "INT32_C(",
+        Width::W64 => "INT64_C(",
     }
 }
 
+/// What stands before the digits of a constant without a sign.
 fn unsigned_constant(width: Width) -> &'static str
-    ensures spelled { result.now ≡ constant_word (codes "UINT") width }
-    ensures one { IsTrue (is_token result.now) }
+    ensures spelled { tokens_in result.now ≡ constant_word (codes "UINT") width ∷ codes "(" ∷ [] }
+    ensures tokens { IsTrue (are_tokens (tokens_in result.now)) }
 {
     match width {
-        Width::W8 => "UINT8_C",
-        Width::W16 => "UINT16_C",
-        Width::W32 => "UINT32_C",
-        Width::W64 => "UINT64_C",
+        Width::W8 => "UINT8_C(",
+        Width::W16 => "UINT16_C(",
+        Width::W32 => "UINT32_C(",
+        Width::W64 => "UINT64_C(",
     }
 }
 
@@ -104,14 +107,14 @@ pub fn number(out: &mut Writer, n: u64) -> Result<(), NoMemory>
     out.token(buffer.format(n))
 }
 
-fn constant(out: &mut Writer, word: &str, n: u64) -> Result<(), NoMemory>
-    requires { IsTrue (is_token word.now) }
-    ensures { OnOk result (out.new ≡ out.old ++ constant_tokens word.now n) }
+/// A constant behind what stands before its digits.
+fn constant(out: &mut Writer, front: &str, n: u64) -> Result<(), NoMemory>
+    requires { IsTrue (are_tokens (tokens_in front.now)) }
+    ensures { OnOk result (out.new ≡ out.old ++ (tokens_in front.now ++ decimal n ∷ codes ")" ∷ [])) }
 {
-    out.token(word)?;
-    out.write("(")?;
+    out.write(front)?;
     number(out, n)?;
-    out.write(")")
+    out.byte(b')')
 }
 
 /// The number below zero with this magnitude.
@@ -121,9 +124,9 @@ fn negative(out: &mut Writer, width: Width, magnitude: u64) -> Result<(), NoMemo
     if magnitude == negatives_of(width) {
         return out.token(least_name(width));
     }
-    out.write("(-")?;
+    out.piece("(-")?;
     constant(out, signed_constant(width), magnitude)?;
-    out.write(")")
+    out.byte(b')')
 }
 
 pub fn literal(out: &mut Writer, scalar: Scalar, n: i128) -> Result<(), NoMemory>

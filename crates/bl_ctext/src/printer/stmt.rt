@@ -3,8 +3,8 @@
 ghost use Rattle.std.specs.Prelude.{◌≡◌, [], ◌∷◌, ◌++◌, map, codes, IsTrue, OnOk};
 ghost use Rattle.bl_tree.specs.Reduce.{all_of, joined};
 ghost use Rattle.bl_ctext.specs.Names.{is_struct_name, is_turn_name};
-ghost use Rattle.bl_ctext.specs.Spelling.{expr_tokens, place_tokens, stmt_tokens, braced, condition_tokens, result_tokens, zeros_tokens};
-ghost use Rattle.bl_ctext.specs.Spelling.{turn_declared, turn_counted};
+ghost use Rattle.bl_ctext.specs.Spelling.{expr_tokens, place_tokens, stmt_tokens, result_tokens, zeros_tokens};
+ghost use Rattle.bl_ctext.specs.Spelling.{turn_declared};
 ghost use Rattle.bl_ctext.specs.Spellable.{spells_expr, spells_place, spells_stmt, spells_result};
 
 use crate::printer::{expr, name};
@@ -35,15 +35,15 @@ fn stmt(out: &mut Writer, s: &CStmt, level: u8) -> Result<(), NoMemory>
         CStmtKind::Clear(at, of) => clear(out, at, of),
         CStmtKind::Call(called) => {
             expr::call(out, called)?;
-            out.write(";")
+            out.byte(b';')
         }
         CStmtKind::If(test, then_part, else_part) => {
-            out.write("if ")?;
+            out.write("if (")?;
             condition(out, test)?;
             block(out, then_part, level)?;
             match else_part {
                 Some(part) => {
-                    out.write(" else ")?;
+                    out.piece(" else {")?;
                     block(out, part, level)
                 }
                 None => Ok(()),
@@ -52,8 +52,9 @@ fn stmt(out: &mut Writer, s: &CStmt, level: u8) -> Result<(), NoMemory>
         CStmtKind::Loop(turn, test, body) => {
             declare_turn(out, turn, level)?;
             condition(out, test)?;
-            count_turn(out, turn, level)?;
-            stmts(out, body, level.saturating_add(2))?;
+            let inside = level.saturating_add(2);
+            count_turn(out, turn.as_str(), inside)?;
+            stmts(out, body, inside)?;
             close_loop(out, level)
         }
         CStmtKind::Break => out.write("break;"),
@@ -61,15 +62,15 @@ fn stmt(out: &mut Writer, s: &CStmt, level: u8) -> Result<(), NoMemory>
     }
 }
 
+/// The statements of a block behind its `{`, up to its `}`.
 #[cycle(statements)]
 fn block(out: &mut Writer, body: &List<CStmt>, level: u8) -> Result<(), NoMemory>
     requires { IsTrue (all_of (map spells_stmt body.now)) }
-    ensures { OnOk result (out.new ≡ out.old ++ braced (map stmt_tokens body.now)) }
+    ensures { OnOk result (out.new ≡ out.old ++ (joined (map stmt_tokens body.now) ++ codes "}" ∷ [])) }
 {
-    out.write("{")?;
     stmts(out, body, level.saturating_add(1))?;
     out.line(level)?;
-    out.write("}")
+    out.byte(b'}')
 }
 
 fn set(out: &mut Writer, at: &CPlace, value: &CExpr) -> Result<(), NoMemory>
@@ -78,9 +79,9 @@ fn set(out: &mut Writer, at: &CPlace, value: &CExpr) -> Result<(), NoMemory>
     ensures { OnOk result (out.new ≡ out.old ++ (place_tokens at.now ++ (codes "=" ∷ (expr_tokens value.now ++ codes ";" ∷ [])))) }
 {
     expr::place(out, at)?;
-    out.write(" = ")?;
+    out.piece(" = ")?;
     expr::expr(out, value)?;
-    out.write(";")
+    out.byte(b';')
 }
 
 fn clear(out: &mut Writer, at: &CPlace, of: &Text) -> Result<(), NoMemory>
@@ -89,28 +90,29 @@ fn clear(out: &mut Writer, at: &CPlace, of: &Text) -> Result<(), NoMemory>
     ensures { OnOk result (out.new ≡ out.old ++ (place_tokens at.now ++ zeros_tokens of.now)) }
 {
     expr::place(out, at)?;
-    out.write(" = (struct ")?;
+    out.piece(" = (struct ")?;
     name::struct_name(out, of.as_str())?;
-    out.write("){0};")
+    out.piece("){0};")
 }
 
+/// A condition behind its `(`, and the `{` of what it guards.
 fn condition(out: &mut Writer, test: &CExpr) -> Result<(), NoMemory>
     requires { IsTrue (spells_expr test.now) }
-    ensures { OnOk result (out.new ≡ out.old ++ condition_tokens test.now) }
+    ensures { OnOk result (out.new ≡ out.old ++ (expr_tokens test.now ++ codes ")" ∷ codes "{" ∷ [])) }
 {
-    out.write("(")?;
     expr::expr(out, test)?;
-    out.write(") ")
+    out.piece(") {")
 }
 
+/// A loop up to the `(` of its condition.
 fn declare_turn(out: &mut Writer, turn: &Text, level: u8) -> Result<(), NoMemory>
     requires { IsTrue (is_turn_name turn.now) }
-    ensures { OnOk result (out.new ≡ out.old ++ turn_declared turn.now) }
+    ensures { OnOk result (out.new ≡ out.old ++ (turn_declared turn.now ++ codes "(" ∷ [])) }
 {
-    out.write("{")?;
+    out.byte(b'{')?;
     first_turn(out, turn.as_str(), level.saturating_add(1))?;
     out.line(level.saturating_add(1))?;
-    out.write("while ")
+    out.write("while (")
 }
 
 fn first_turn(out: &mut Writer, turn: &str, level: u8) -> Result<(), NoMemory>
@@ -120,35 +122,27 @@ fn first_turn(out: &mut Writer, turn: &str, level: u8) -> Result<(), NoMemory>
     out.line(level)?;
     out.write("uint32_t ")?;
     name::turn_name(out, turn)?;
-    out.write(" = 0;")
+    out.piece(" = 0;")
 }
 
-fn count_turn(out: &mut Writer, turn: &Text, level: u8) -> Result<(), NoMemory>
-    requires { IsTrue (is_turn_name turn.now) }
-    ensures { OnOk result (out.new ≡ out.old ++ turn_counted turn.now) }
-{
-    out.write("{")?;
-    out.line(level.saturating_add(2))?;
-    next_turn(out, turn.as_str())
-}
-
-fn next_turn(out: &mut Writer, turn: &str) -> Result<(), NoMemory>
+fn count_turn(out: &mut Writer, turn: &str, level: u8) -> Result<(), NoMemory>
     requires { IsTrue (is_turn_name turn.now) }
     ensures { OnOk result (out.new ≡ out.old ++ turn.now ∷ codes "=" ∷ codes "bl_turn" ∷ codes "(" ∷ turn.now ∷ codes ")" ∷ codes ";" ∷ []) }
 {
+    out.line(level)?;
     name::turn_name(out, turn)?;
-    out.write(" = bl_turn(")?;
+    out.piece(" = bl_turn(")?;
     name::turn_name(out, turn)?;
-    out.write(");")
+    out.piece(");")
 }
 
 fn close_loop(out: &mut Writer, level: u8) -> Result<(), NoMemory>
     ensures { OnOk result (out.new ≡ out.old ++ codes "}" ∷ codes "}" ∷ []) }
 {
     out.line(level.saturating_add(1))?;
-    out.write("}")?;
+    out.byte(b'}')?;
     out.line(level)?;
-    out.write("}")
+    out.byte(b'}')
 }
 
 fn returned(out: &mut Writer, value: &Option<Box<CExpr>>) -> Result<(), NoMemory>
@@ -159,7 +153,7 @@ fn returned(out: &mut Writer, value: &Option<Box<CExpr>>) -> Result<(), NoMemory
         Some(e) => {
             out.write("return ")?;
             expr::expr(out, e)?;
-            out.write(";")
+            out.byte(b';')
         }
         None => out.write("return;"),
     }

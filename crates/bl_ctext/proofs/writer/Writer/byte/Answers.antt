@@ -1,0 +1,13 @@
+use Rattle.std.proofs.Common.{rules, [], ◌∷◌}
+use Rattle.bl_ctext.proofs.Texts.{Grown, piece_grown}
+use Rattle.bl_ctext.proofs.writer.Writer.byte.Goals as goal
+
+-- what was written
+after : (c : goal.In_ok-put) → Grown c.self.inside.text.items (c.args.byte ∷ []) c.put.new.text.items
+after c = piece_grown c.self.inside.text.items (c.args.byte ∷ []) c.put.new.text.items c.self.invariant c.requires (search rules)
+
+pub invariant_of-self-2 : goal.invariant_of-self-2
+invariant_of-self-2 c = (after c).text
+
+pub returns : goal.returns
+returns c = rw c.self.view_is at (after c).tokens
