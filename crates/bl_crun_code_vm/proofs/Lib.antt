@@ -1,6 +1,6 @@
 pub mod Counted
 pub mod Counts
 pub mod Frames
-pub mod Naturals
+pub mod Operators
 pub mod Running
 pub mod Steps

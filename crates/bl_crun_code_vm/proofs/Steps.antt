@@ -1,5 +1,5 @@
 -- What steps over the parts of a machine do to its state.
-use Rattle.std.proofs.Common.{◌≡◌, ◌≢◌, ℕ, ◌+◌, ◌-◌, ◌≤◌, ◌<◌, ℤ, pos, Bool, true, false, List, [], ◌∷◌, length, Option, Some, None, arith, sym, ◌∙◌, ap, subst, refl, length-set, ⊎_elim}
+use Rattle.std.proofs.Common.{◌≡◌, ◌≢◌, ℕ, ◌+◌, ◌≤◌, ◌<◌, ℤ, pos, Bool, true, false, List, [], ◌∷◌, length, Option, Some, None, arith, sym, ◌∙◌, ap, subst, refl, length-set, ⊎_elim}
 use Rattle.std.proofs.lemmas.List.{get_or_past, get_or-set_other, set_past}
 use Rattle.std.proofs.str.Laws.{order}
 use Rattle.std.specs.Prelude.{if◌then◌else◌, nat_lt, option_map, slice_set}
@@ -16,7 +16,7 @@ use Rattle.bl_crun_code.specs.Vm.{StepResult, VmState, ahead, args_in, caller_re
 use Rattle.bl_crun_code_vm.specs.declared.flow.Flow.{Flow}
 use Rattle.bl_crun_code_vm.specs.declared.flow.Flow.TheVariants as flow
 use Rattle.bl_crun_code_vm.specs.inner.State.{IsReady, PoppedAt, Queue, RegisterState, MovesOn, state_over, state_of, written_cells, written_temps}
-use Rattle.bl_crun_code_vm.specs.inner.Stepping.{Came, GoesIf, PassesIf}
+use Rattle.bl_crun_code_vm.specs.inner.Stepping.{Came, PassesIf}
 use Rattle.bl_crun_code_vm.proofs.Frames.{length-frame}
 
 -- ---- cells
@@ -59,42 +59,22 @@ with-number s base cells temps (op.Indirect j) n = refl
 with-number s base cells temps (op.NearAddress k) n = refl
 with-number s base cells temps (op.ThroughAddress p k) n = refl
 
-pub wrote_some : (base : ℕ) (cells after : Cells) (temps left : List ℤ) (o : Operand) (n : ℤ) → after ≡ written_cells base cells temps o n →
-    left ≡ written_temps temps o n → MovesOn (λ (s : VmState). written_if s o (Some n)) base cells temps true after left
-wrote_some base cells after temps left o n a b s =
+pub wrote_number : (base : ℕ) (cells after : Cells) (temps left : List ℤ) (o : Operand) (n : ℤ) → after ≡ written_cells base cells temps o n →
+    left ≡ written_temps temps o n → MovesOn (λ (s : VmState). written_if s o (Some n)) base cells temps after left
+wrote_number base cells after temps left o n a b s =
     ap goes (with-number s base cells temps o n)
     ∙ ap (λ (x : Cells). goes (state_over (ahead s) base x (written_temps temps o n))) (sym a)
     ∙ ap (λ (x : List ℤ). goes (state_over (ahead s) base after x)) (sym b)
 
--- what a step has come to, where it goes on or traps
-pub came_by : (step : VmState → StepResult) (r mid last : RegisterState) (cells after : Cells) (temps left : List ℤ) (goes_on : Bool) (answer : Flow) →
-    MovesOn step r.base cells temps goes_on after left → mid ≡ record r { first = mid.first } → GoesIf mid goes_on answer last → (w : Queue) →
+-- what a step has come to that goes on
+pub came_by : (step : VmState → StepResult) (r mid last : RegisterState) (cells after : Cells) (temps left : List ℤ) (answer : Flow) →
+    MovesOn step r.base cells temps after left → mid ≡ record r { first = mid.first } → answer ≡ flow.Goes → last ≡ record mid { at = mid.at + 1 } →
+    (w : Queue) →
     Came (state_of r cells temps w) (step (state_of r cells temps w)) answer (state_of last after left w)
-came_by step r mid last cells after temps left true flow.Goes steps e g w =
-    subst (λ (x : StepResult). Came (state_of r cells temps w) x flow.Goes (state_of last after left w)) (sym (steps (state_of r cells temps w)))
-    (ap (λ (x : RegisterState). state_of x after left w) g ∙ ap (λ (x : RegisterState). state_of (record x { at = x.at + 1 }) after left w) e)
-came_by step r mid last cells after temps left true (flow.Done n) steps e g w = absurd g
-came_by step r mid last cells after temps left true flow.Trapped steps e g w = absurd g
-came_by step r mid last cells after temps left false flow.Goes steps e g w = absurd g
-came_by step r mid last cells after temps left false (flow.Done n) steps e g w = absurd g
-came_by step r mid last cells after temps left false flow.Trapped steps e g w =
-    subst (λ (x : StepResult). Came (state_of r cells temps w) x flow.Trapped (state_of last after left w))
-    (sym (steps.1.1 (state_of r cells temps w)))
-    (record {
-      cells_are = steps.0;
-      count_is = ap (λ (x : RegisterState). x.count) g ∙ ap (λ (x : RegisterState). x.count) e;
-      temps_are = steps.1.0;
-      room_is = refl;
-    })
-
-pub ready_if : (mid last : RegisterState) (cells : Cells) (goes_on : Bool) (answer : Flow) → IsReady mid cells → GoesIf mid goes_on answer last → IsReady last cells
-ready_if mid last cells true flow.Goes ready g =
-    subst (λ (x : RegisterState). IsReady x cells) (sym g) (record { few = ready.few; first_is = ready.first_is })
-ready_if mid last cells true (flow.Done n) ready g = absurd g
-ready_if mid last cells true flow.Trapped ready g = absurd g
-ready_if mid last cells false flow.Goes ready g = absurd g
-ready_if mid last cells false (flow.Done n) ready g = absurd g
-ready_if mid last cells false flow.Trapped ready g = subst (λ (x : RegisterState). IsReady x cells) (sym g) ready
+came_by step r mid last cells after temps left answer steps e f g w =
+    subst (λ (x : Flow). Came (state_of r cells temps w) (step (state_of r cells temps w)) x (state_of last after left w)) (sym f)
+    (subst (λ (x : StepResult). Came (state_of r cells temps w) x flow.Goes (state_of last after left w)) (sym (steps (state_of r cells temps w)))
+    (ap (λ (x : RegisterState). state_of x after left w) g ∙ ap (λ (x : RegisterState). state_of (record x { at = x.at + 1 }) after left w) e))
 
 pub ready_moved : (r last : RegisterState) (at : ℕ) (cells : Cells) → last ≡ record r { at = at } → IsReady r cells → IsReady last cells
 ready_moved r last at cells e ready =
@@ -221,11 +201,11 @@ ready_entered r last cells after size begins first at count args ready e f l = s
   first_is = f;
 })
 
-pub steps_as : (a b : Act) (base other : ℕ) (cells after : Cells) (temps left : List ℤ) (goes_on : Bool) → a ≡ b → other ≡ base →
-    MovesOn (λ (s : VmState). does s b) other cells temps goes_on after left → MovesOn (λ (s : VmState). does s a) base cells temps goes_on after left
-steps_as a b base other cells after temps left goes_on e f steps =
-    subst (λ (x : Act). MovesOn (λ (s : VmState). does s x) base cells temps goes_on after left) (sym e)
-    (subst (λ (x : ℕ). MovesOn (λ (s : VmState). does s b) x cells temps goes_on after left) f steps)
+pub steps_as : (a b : Act) (base other : ℕ) (cells after : Cells) (temps left : List ℤ) → a ≡ b → other ≡ base →
+    MovesOn (λ (s : VmState). does s b) other cells temps after left → MovesOn (λ (s : VmState). does s a) base cells temps after left
+steps_as a b base other cells after temps left e f steps =
+    subst (λ (x : Act). MovesOn (λ (s : VmState). does s x) base cells temps after left) (sym e)
+    (subst (λ (x : ℕ). MovesOn (λ (s : VmState). does s b) x cells temps after left) f steps)
 
 pub passed_as : (o : Op) (n : Option ℕ) (l r left right a b : ℤ) (hold fail : ℕ) → left ≡ l → right ≡ r → l ≡ a → r ≡ b →
     n ≡ option_map (λ (c : ℤ). if is_one c then hold else fail) (compared o left right) → n ≡ option_map (λ (c : ℤ). if is_one c then hold else fail) (compared o a b)

@@ -1,33 +1,31 @@
 //! Frequent instructions, which write a number or choose where to go on.
 
-ghost use Rattle.std.specs.Prelude.{◌≡◌, List, ℤ, option_map, if◌then◌else◌};
-ghost use Rattle.bl_tree.specs.Numbers.{is_one};
+ghost use Rattle.std.specs.Prelude.{◌≡◌, ◌+◌, List, ℤ, Some, not, option_map, if◌then◌else◌};
+ghost use Rattle.bl_tree.specs.Numbers.{is_one, number_of};
 ghost use Rattle.bl_ctext_semantics_laws.specs.Flat.{Cells, compared};
 ghost use Rattle.bl_crun_code.specs.Vm.{next_turn, written_if};
 ghost use Rattle.bl_crun_code.specs.declared.instruction.Act.TheVariants as act;
 ghost use Rattle.bl_crun_code_vm.specs.inner.State.{IsNear, IsReady, Queue, state_of};
-ghost use Rattle.bl_crun_code_vm.specs.inner.Stepping.{ActDone, Came, GoesIf, PassesIf};
+ghost use Rattle.bl_crun_code_vm.specs.inner.Stepping.{ActDone, Came, PassesIf};
+ghost use Rattle.bl_crun_code_vm.specs.declared.flow.Flow.TheVariants as flow;
 
 use crate::flow::Flow;
-use crate::operands::{number, write_if};
+use crate::operands::{number, write};
 use crate::registers::Registers;
 use crate::{address, cells, prelude};
 use bl_crun_code::instruction::Operand;
 use bl_ctext::Builtin;
 use bl_tree::Op;
 
-/// Goes on with the next instruction, where this one hasn't trapped.
+/// Goes on with the next instruction.
 #[inline(always)]
-pub fn go_if(registers: &mut Registers, goes: bool) -> Flow
+pub fn go_on(registers: &mut Registers) -> Flow
     requires { IsNear registers.old }
-    ensures { GoesIf registers.old goes result registers.new }
+    ensures flow { result ≡ flow.Goes }
+    ensures moved { registers.new ≡ record registers.old { at = registers.old.at + 1 } }
 {
-    if goes {
-        registers.go_to(registers.at() + 1);
-        Flow::Goes
-    } else {
-        Flow::Trapped
-    }
+    registers.go_to(registers.at() + 1);
+    Flow::Goes
 }
 
 /// Writes an answer and goes on; traps where there is none.
@@ -44,8 +42,28 @@ fn give_if(
     ensures did { (w : Queue) → Came (state_of registers.old cells.old temps.old w) (written_if (state_of registers.old cells.old temps.old w) into.now answer) result (state_of registers.new cells.new temps.new w) }
     ensures ready { IsReady registers.new cells.new }
 {
-    let wrote = write_if(registers, cells, temps, into, answer);
-    go_if(registers, wrote)
+    match answer {
+        None => Flow::Trapped,
+        Some(n) => give(registers, cells, temps, into, n),
+    }
+}
+
+/// Writes a number and goes on.
+#[inline(always)]
+fn give(
+    registers: &mut Registers,
+    cells: &mut [i128],
+    temps: &mut [i128],
+    into: &Operand,
+    n: i128,
+) -> Flow
+    requires near { IsNear registers.old }
+    requires ready { IsReady registers.old cells.old }
+    ensures did { (w : Queue) → Came (state_of registers.old cells.old temps.old w) (written_if (state_of registers.old cells.old temps.old w) into.now (Some n)) result (state_of registers.new cells.new temps.new w) }
+    ensures ready { IsReady registers.new cells.new }
+{
+    write(registers, cells, temps, into, n);
+    go_on(registers)
 }
 
 #[inline(always)]
@@ -62,7 +80,90 @@ pub fn write_number(
     ensures ready { IsReady registers.new cells.new }
 {
     let n = number(registers, cells, temps, a);
-    give_if(registers, cells, temps, into, Some(n))
+    give(registers, cells, temps, into, n)
+}
+
+/// Writes whether a condition isn't true.
+#[inline(always)]
+pub fn negate(
+    registers: &mut Registers,
+    cells: &mut [i128],
+    temps: &mut [i128],
+    into: &Operand,
+    a: &Operand,
+) -> Flow
+    requires near { IsNear registers.old }
+    requires ready { IsReady registers.old cells.old }
+    ensures did { (w : Queue) → ActDone (act.Negate into.now a.now) (state_of registers.old cells.old temps.old w) result (state_of registers.new cells.new temps.new w) }
+    ensures ready { IsReady registers.new cells.new }
+{
+    let n = number(registers, cells, temps, a);
+    give(registers, cells, temps, into, negated(n))
+}
+
+/// Whether a condition isn't true, as a number.
+#[inline(always)]
+fn negated(n: i128) -> i128
+    ensures { result ≡ number_of (not (is_one n)) }
+{
+    i128::from(n != 1)
+}
+
+/// Writes a number that the instruction has.
+#[inline(always)]
+pub fn write_constant(
+    registers: &mut Registers,
+    cells: &mut [i128],
+    temps: &mut [i128],
+    into: &Operand,
+    n: i128,
+) -> Flow
+    requires near { IsNear registers.old }
+    requires ready { IsReady registers.old cells.old }
+    ensures did { (w : Queue) → ActDone (act.Constant into.now n) (state_of registers.old cells.old temps.old w) result (state_of registers.new cells.new temps.new w) }
+    ensures ready { IsReady registers.new cells.new }
+{
+    give(registers, cells, temps, into, n)
+}
+
+#[inline(always)]
+pub fn two(
+    registers: &mut Registers,
+    cells: &mut [i128],
+    temps: &mut [i128],
+    op: Op,
+    into: &Operand,
+    a: &Operand,
+    b: &Operand,
+) -> Flow
+    requires near { IsNear registers.old }
+    requires ready { IsReady registers.old cells.old }
+    ensures did { (w : Queue) → ActDone (act.Two op into.now a.now b.now) (state_of registers.old cells.old temps.old w) result (state_of registers.new cells.new temps.new w) }
+    ensures ready { IsReady registers.new cells.new }
+{
+    let left = number(registers, cells, temps, a);
+    let right = number(registers, cells, temps, b);
+    let answer = compared(op, left, right);
+    give_if(registers, cells, temps, into, answer)
+}
+
+#[inline(always)]
+pub fn one(
+    registers: &mut Registers,
+    cells: &mut [i128],
+    temps: &mut [i128],
+    builtin: Builtin,
+    into: &Operand,
+    a: &Operand,
+) -> Flow
+    requires near { IsNear registers.old }
+    requires ready { IsReady registers.old cells.old }
+    ensures did { (w : Queue) → ActDone (act.One builtin into.now a.now) (state_of registers.old cells.old temps.old w) result (state_of registers.new cells.new temps.new w) }
+    ensures ready { IsReady registers.new cells.new }
+{
+    let n = number(registers, cells, temps, a);
+    let answer = prelude::of_one(builtin, n);
+    give_if(registers, cells, temps, into, answer)
 }
 
 #[inline(always)]

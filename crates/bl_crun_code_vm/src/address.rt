@@ -44,8 +44,7 @@ pub fn first_again(base: u32, cells: &[i128]) -> u32
 }
 
 /// The cell whose number stands so far behind a base.
-#[cold]
-#[inline(never)]
+#[inline(always)]
 pub fn led_to(base: u32, cells: &[i128], p: u32) -> u32
     ensures { result ≡ cell_number (cell_at cells.now (base + p)) }
 {

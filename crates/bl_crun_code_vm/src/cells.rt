@@ -8,6 +8,19 @@ ghost use Rattle.bl_ctext_semantics_laws.specs.Flat.{cell_at};
 pub fn get(cells: &[i128], k: usize) -> i128
     ensures { result ≡ cell_at cells.now k }
 {
+    if k < cells.len() {
+        cells[k]
+    } else {
+        beyond(cells, k)
+    }
+}
+
+/// The same for every cell, where it is rare.
+#[cold]
+#[inline(never)]
+fn beyond(cells: &[i128], k: usize) -> i128
+    ensures { result ≡ cell_at cells.now k }
+{
     match cells.get(k) {
         Some(n) => *n,
         None => 0,

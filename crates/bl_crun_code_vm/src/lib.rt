@@ -10,6 +10,7 @@ mod calls;
 mod cells;
 mod flow;
 mod frame;
+mod naturals;
 mod operands;
 mod prelude;
 mod ranges;

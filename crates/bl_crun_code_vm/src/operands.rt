@@ -3,8 +3,8 @@
 ghost use Rattle.std.specs.Prelude.{◌≡◌, ◌+◌, slice_set};
 ghost use Rattle.bl_ctext_semantics_laws.specs.Flat.{cell_at, cell_number};
 ghost use Rattle.bl_ctext_semantics_laws.specs.Layout.{capped};
-ghost use Rattle.bl_crun_code.specs.Vm.{operand_number, written_if};
-ghost use Rattle.bl_crun_code_vm.specs.inner.State.{IsReady, MovesOn, written_cells, written_temps};
+ghost use Rattle.bl_crun_code.specs.Vm.{operand_number};
+ghost use Rattle.bl_crun_code_vm.specs.inner.State.{IsReady, written_cells, written_temps};
 
 use crate::registers::Registers;
 use crate::{address, cells};
@@ -119,28 +119,4 @@ fn set(registers: &mut Registers, cells: &mut [i128], cell: usize, n: i128)
     }
     let first = address::first_again(base, cells);
     registers.lead_to(first);
-}
-
-/// Writes an answer, and tells whether there is one.
-#[inline(always)]
-#[tactic(auto, using(crate::proofs::Steps::wrote_some))]
-pub fn write_if(
-    registers: &mut Registers,
-    cells: &mut [i128],
-    temps: &mut [i128],
-    into: &Operand,
-    answer: Option<i128>,
-) -> bool
-    requires { IsReady registers.old cells.old }
-    ensures wrote { MovesOn (λ s. written_if s into.now answer) registers.old.base cells.old temps.old result cells.new temps.new }
-    ensures ready { IsReady registers.new cells.new }
-    ensures stays { registers.new ≡ record registers.old { first = registers.new.first } }
-{
-    match answer {
-        None => false,
-        Some(n) => {
-            write(registers, cells, temps, into, n);
-            true
-        }
-    }
 }

@@ -1,19 +1,54 @@
 //! The functions of the prelude.
 
-ghost use Rattle.std.specs.Prelude.{◌≡◌, ◌∷◌, [], ◌↔◌, pos, neg_ℤ, IsTrue, false};
+ghost use Rattle.std.specs.Prelude.{◌≡◌, ◌∷◌, [], ◌↔◌, pos, neg_ℤ, IsTrue, false, IfSome, Some};
 ghost use Rattle.bl_tree.specs.Scalar.{InRange, in_range};
 ghost use Rattle.bl_tree.specs.Numbers.{checked_of, checked_one_of, fitted, takes_two, takes_one};
 ghost use Rattle.bl_ctext_semantics.specs.Builtin.{builtin_value, in_c, widest};
 ghost use Rattle.bl_ctext_semantics_laws.specs.Flat.{prelude_value};
 
-use crate::arithmetic;
-use crate::ranges::holds;
+use crate::arithmetic::{self, below};
+use crate::ranges::{holds, limit};
 use bl_ctext::Builtin;
 use bl_tree::{Scalar, Width};
 
 /// What a function of the prelude gives for one number; `None`, a trap, also for a number outside of its parameter's
 /// type and for an operator on a type that it doesn't take.
+#[inline(always)]
 pub fn of_one(builtin: Builtin, a: i128) -> Option<i128>
+    ensures { result ≡ prelude_value builtin (a ∷ []) }
+{
+    match kept(builtin, a) {
+        Some(n) => Some(n),
+        None => any(builtin, a),
+    }
+}
+
+/// A natural number that a cast keeps; `None` for anything else.
+#[inline(always)]
+fn kept(builtin: Builtin, a: i128) -> Option<i128>
+    ensures { IfSome result (λ n. prelude_value builtin (a ∷ []) ≡ Some n) }
+{
+    match builtin {
+        Builtin::Cast(signed, t) => cast_natural(signed, t, a),
+        _ => None,
+    }
+}
+
+#[inline(always)]
+#[tactic(auto, using(crate::proofs::Operators::cast_keeps))]
+fn cast_natural(signed: bool, t: Scalar, a: i128) -> Option<i128>
+    ensures { IfSome result (λ n. prelude_value (Builtin.Cast signed t) (a ∷ []) ≡ Some n) }
+{
+    match below(limit(t), a) {
+        None => None,
+        Some(n) => Some(i128::from(n)),
+    }
+}
+
+/// What a function of the prelude gives for any number.
+#[cold]
+#[inline(never)]
+fn any(builtin: Builtin, a: i128) -> Option<i128>
     ensures { result ≡ prelude_value builtin (a ∷ []) }
 {
     match builtin {

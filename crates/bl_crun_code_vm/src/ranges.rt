@@ -3,7 +3,7 @@
 ghost use Rattle.std.specs.Prelude.{◌≡◌, ◌-◌, ◌≤◌, ◌^◌, ◌↔◌, IsTrue};
 ghost use Rattle.bl_tree.specs.Scalar.{InRange, bits_of, in_range};
 ghost use Rattle.bl_ctext_semantics.specs.Builtin.{in_c};
-ghost use Rattle.bl_crun_code_vm.specs.inner.Ranges.{common_of};
+ghost use Rattle.bl_crun_code_vm.specs.inner.Ranges.{limit_of, whole_width};
 
 use bl_tree::{Scalar, Width};
 
@@ -24,15 +24,16 @@ pub fn holds_in_c(t: Scalar, n: i128) -> bool
     range.low <= n && n <= range.high
 }
 
-/// A number below which int, nat and bits of a width have every number that isn't negative; 0 for bool.
+/// A number below which the type has every natural number; 0 for bool.
 #[inline(always)]
-pub fn common(t: Scalar) -> u64
-    ensures value { result ≡ common_of t }
+pub fn limit(t: Scalar) -> u64
+    ensures value { result ≡ limit_of t }
     ensures few { result ≤ 2 ^ 63 }
 {
     match t {
         Scalar::Bool => 0,
-        Scalar::Int(width) | Scalar::Nat(width) | Scalar::Bits(width) => half(width),
+        Scalar::Int(width) => half(width),
+        Scalar::Nat(width) | Scalar::Bits(width) => whole(width),
     }
 }
 
@@ -46,6 +47,20 @@ fn half(width: Width) -> u64
         Width::W8 => 0x80,
         Width::W16 => 0x8000,
         Width::W32 => 0x8000_0000,
+        Width::W64 => 0x8000_0000_0000_0000,
+    }
+}
+
+/// How many numbers a width has; half of them for the greatest one.
+#[inline(always)]
+fn whole(width: Width) -> u64
+    ensures value { result ≡ whole_width width }
+    ensures few { result ≤ 2 ^ 63 }
+{
+    match width {
+        Width::W8 => 0x100,
+        Width::W16 => 0x1_0000,
+        Width::W32 => 0x1_0000_0000,
         Width::W64 => 0x8000_0000_0000_0000,
     }
 }

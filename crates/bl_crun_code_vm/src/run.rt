@@ -6,7 +6,7 @@ ghost use Rattle.bl_crun_code.specs.Vm.{StepResult};
 ghost use Rattle.bl_crun_code_vm.specs.Ends.{Ended, IsEnd};
 ghost use Rattle.bl_crun_code_vm.specs.inner.State.{IsNear, IsReady, Queue, run_start, rested, state_of};
 ghost use Rattle.bl_crun_code_vm.specs.inner.Running.{CanRun};
-ghost use Rattle.bl_crun_code_vm.specs.inner.Stepping.{ActDone, Came, IsRare, StepDone, shown_step};
+ghost use Rattle.bl_crun_code_vm.specs.inner.Stepping.{ActDone, Came, IsComputed, IsOther, IsRare, StepDone, shown_step};
 
 use crate::flow::Flow;
 use crate::registers::Registers;
@@ -120,7 +120,8 @@ fn obey(
     take(&instruction.act, registers, cells, temps, waiting)
 }
 
-/// What an instruction does once its statements are counted.
+/// What an instruction does once its statements are counted. One function with all of them is too large to be inlined into
+/// the loop, so the most frequent ones stand here. The two functions for the others are inlined as they are called once.
 #[inline(always)]
 fn take(
     act: &Act,
@@ -136,15 +137,61 @@ fn take(
 {
     match act {
         Act::Move(into, a) => acts::write_number(registers, cells, temps, into, a),
-        Act::Both(builtin, into, a, b) => {
-            acts::both(registers, cells, temps, *builtin, into, a, b)
+        Act::Constant(into, n) => acts::write_constant(registers, cells, temps, into, *n),
+        Act::Test(a, yes, no) => acts::test(registers, cells, temps, a, *yes, *no),
+        Act::Skip(n) => acts::skip(registers, *n),
+        Act::Again(n) => acts::again(registers, *n),
+        Act::Element(..) | Act::Negate(..) | Act::Two(..) | Act::One(..) | Act::Both(..) => {
+            compute(act, registers, cells, temps)
         }
+        Act::Copy(..)
+        | Act::Zero(..)
+        | Act::Compare(..)
+        | Act::Turn(_)
+        | Act::Call(_)
+        | Act::Return(_)
+        | Act::Stop => take_other(act, registers, cells, temps, waiting),
+    }
+}
+
+/// Computes a number and writes it.
+fn compute(act: &Act, registers: &mut Registers, cells: &mut [i128], temps: &mut [i128]) -> Flow
+    requires near { IsNear registers.old }
+    requires computed { IsComputed act.now }
+    requires ready { IsReady registers.old cells.old }
+    ensures did { (w : Queue) → ActDone act.now (state_of registers.old cells.old temps.old w) result (state_of registers.new cells.new temps.new w) }
+    ensures ready { IsReady registers.new cells.new }
+{
+    match act {
         Act::Element(j, at, i, length, size) => {
             acts::write_element(registers, cells, temps, *j, at, i, *length, *size)
         }
-        Act::Skip(n) => acts::skip(registers, *n),
-        Act::Again(n) => acts::again(registers, *n),
-        Act::Test(a, yes, no) => acts::test(registers, cells, temps, a, *yes, *no),
+        Act::Negate(into, a) => acts::negate(registers, cells, temps, into, a),
+        Act::Two(op, into, a, b) => acts::two(registers, cells, temps, *op, into, a, b),
+        Act::One(builtin, into, a) => acts::one(registers, cells, temps, *builtin, into, a),
+        Act::Both(builtin, into, a, b) => {
+            acts::both(registers, cells, temps, *builtin, into, a, b)
+        }
+        _ => unreachable!(),
+    }
+}
+
+/// What the other instructions do.
+fn take_other(
+    act: &Act,
+    registers: &mut Registers,
+    cells: &mut [i128],
+    temps: &mut [i128],
+    waiting: &mut Waiting,
+) -> Flow
+    requires near { IsNear registers.old }
+    requires other { IsOther act.now }
+    requires ready { IsReady registers.old cells.old }
+    ensures did { ActDone act.now (state_of registers.old cells.old temps.old waiting.old) result (state_of registers.new cells.new temps.new waiting.new) }
+    ensures ready { IsReady registers.new cells.new }
+{
+    match act {
+        Act::Copy(..) | Act::Zero(..) => rarely(act, registers, cells, temps),
         Act::Compare(op, a, b, yes, no) => {
             acts::compare(registers, cells, temps, *op, a, b, *yes, *no)
         }
@@ -152,27 +199,22 @@ fn take(
         Act::Call(callee) => calls::call(callee, registers, cells, temps, waiting),
         Act::Return(a) => calls::end(a, registers, cells, temps, waiting),
         Act::Stop => Flow::Trapped,
-        Act::Constant(..) => rarely(act, registers, cells, temps),
-        Act::Copy(..) => rarely(act, registers, cells, temps),
-        Act::Zero(..) => rarely(act, registers, cells, temps),
-        Act::Negate(..) => rarely(act, registers, cells, temps),
-        Act::Two(..) => rarely(act, registers, cells, temps),
-        Act::One(..) => rarely(act, registers, cells, temps),
+        _ => unreachable!(),
     }
 }
 
 /// Does what a rare instruction does.
 #[inline(always)]
-fn rarely(act: &Act, registers: &mut Registers, cells: &mut [i128], temps: &mut [i128]) -> Flow
+fn rarely(act: &Act, registers: &mut Registers, cells: &mut [i128], temps: &[i128]) -> Flow
     requires near { IsNear registers.old }
     requires rare { IsRare act.now }
     requires ready { IsReady registers.old cells.old }
-    ensures did { (w : Queue) → ActDone act.now (state_of registers.old cells.old temps.old w) result (state_of registers.new cells.new temps.new w) }
+    ensures did { (w : Queue) → ActDone act.now (state_of registers.old cells.old temps.now w) result (state_of registers.new cells.new temps.now w) }
     ensures ready { IsReady registers.new cells.new }
 {
     let base = registers.base();
-    let wrote = rare::write_rare(act, base, registers.first(), cells, temps);
+    rare::write_rare(act, base, registers.first(), cells, temps);
     let first = address::first(base, cells);
     registers.lead_to(first);
-    acts::go_if(registers, wrote)
+    acts::go_on(registers)
 }

@@ -40,6 +40,7 @@ impl Vm {
     ghost use Rattle.bl_crun_code_vm.specs.Steps.{with_cells, shown_count};
 
     /// All cells are 0. There are so many temporaries, and there is room for so many waiting functions.
+    /// For 2^32 cells or more the answer is want of memory: a cell's number has 32 bits.
     pub fn new(alloc: Global, cells: usize, temps: usize, calls: usize) -> Result<Vm, NoMemory>
         ensures cells { IfOk result (λ m. m.cells ≡ replicate cells (pos 0)) }
         ensures temps { IfOk result (λ m. length m.temps ≡ temps) }

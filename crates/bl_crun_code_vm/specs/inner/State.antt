@@ -1,10 +1,10 @@
 -- What a machine that runs consists of.
-use Rattle.std.specs.Prelude.{◌≡◌, ℕ, ◌≤◌, ◌<◌, ◌^◌, ℤ, Bool, true, false, List, [], ◌∷◌, length, slice_set, Option, Some, None}
+use Rattle.std.specs.Prelude.{◌≡◌, ℕ, ◌≤◌, ◌<◌, ◌^◌, ℤ, List, [], ◌∷◌, length, slice_set, Option, Some, None}
 use Rattle.bl_ctext_semantics_laws.specs.Flat.{Cells, cell_at, cell_number}
 use Rattle.bl_crun_code.specs.declared.instruction.Caller.{Caller}
 use Rattle.bl_crun_code.specs.declared.instruction.Operand.{Operand}
 use Rattle.bl_crun_code.specs.declared.instruction.Operand.TheVariants as op
-use Rattle.bl_crun_code.specs.Vm.{StepResult, VmState, ahead, goes, near_cell, stops, through_cell}
+use Rattle.bl_crun_code.specs.Vm.{StepResult, VmState, ahead, goes, near_cell, through_cell}
 
 -- what the machine keeps of the running function: the position of the next instruction, the base of its frame, the cell that the
 -- frame's first cell tells, and how many statements have begun
@@ -57,11 +57,9 @@ written_temps temps _ n = temps
 abbrev pub state_over : VmState → ℕ → Cells → List ℤ → VmState
 state_over s base cells temps = record s { base = base; cells = cells; temps = temps }
 
--- a step from these cells and temporaries goes on with the next instruction, with those cells and temporaries, or traps and leaves all
-abbrev pub MovesOn : (VmState → StepResult) → ℕ → Cells → List ℤ → Bool → Cells → List ℤ → Type 0
-MovesOn step base cells temps true after left = (s : VmState) → step (state_over s base cells temps) ≡ goes (state_over (ahead s) base after left)
-MovesOn step base cells temps false after left =
-    (after ≡ cells) × ((left ≡ temps) × ((s : VmState) → step (state_over s base cells temps) ≡ stops (state_over s base cells temps)))
+-- a step from these cells and temporaries goes on with the next instruction, with those cells and temporaries
+abbrev pub MovesOn : (VmState → StepResult) → ℕ → Cells → List ℤ → Cells → List ℤ → Type 0
+MovesOn step base cells temps after left = (s : VmState) → step (state_over s base cells temps) ≡ goes (state_over (ahead s) base after left)
 
 -- the first of these functions has been taken out
 abbrev pub PoppedAt : Queue → List Caller → Caller → Queue → Type 0

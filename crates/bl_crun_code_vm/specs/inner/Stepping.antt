@@ -1,5 +1,5 @@
 -- What a machine shows after a step.
-use Rattle.std.specs.Prelude.{List, None, Option, Some, slice_get, ℕ, ◌+◌, ◌≡◌, Bool, true, false, ⊤}
+use Rattle.std.specs.Prelude.{List, None, Option, Some, slice_get, ℕ, ◌+◌, ◌≡◌, ⊤}
 use Rattle.bl_ctext_semantics_laws.specs.Flat.{Cells}
 use Rattle.bl_crun_code.specs.declared.instruction.Act.{Act}
 use Rattle.bl_crun_code.specs.declared.instruction.Act.TheVariants as act
@@ -37,24 +37,34 @@ shown_step s (Some i) = does (record s { count = shown_count (s.count + i.statem
 abbrev pub StepDone : List Instruction → VmState → Flow → VmState → Type 0
 StepDone code from answer m = Came from (shown_step from (slice_get code from.at)) answer m
 
--- a machine goes on with the next instruction, where the last one hasn't trapped
-abbrev pub GoesIf : RegisterState → Bool → Flow → RegisterState → Type 0
-GoesIf r true flow.Goes after = after ≡ record r { at = r.at + 1 }
-GoesIf r false flow.Trapped after = after ≡ r
-GoesIf r _ _ after = ⊥
-
 -- a machine passes so many instructions, or traps without a number
 abbrev pub PassesIf : RegisterState → Option ℕ → Flow → RegisterState → Type 0
 PassesIf r (Some n) flow.Goes after = after ≡ record r { at = r.at + 1 + n }
 PassesIf r None flow.Trapped after = after ≡ r
 PassesIf r _ _ after = ⊥
 
--- the instruction is one of those that write and are rare
+-- the instruction is one of those that are rare, and change many cells
 abbrev pub IsRare : Act → Type 0
-IsRare (act.Constant into n) = ⊤
 IsRare (act.Copy at from size) = ⊤
 IsRare (act.Zero at size) = ⊤
-IsRare (act.Negate into a) = ⊤
-IsRare (act.Two op into a b) = ⊤
-IsRare (act.One builtin into a) = ⊤
 IsRare _ = ⊥
+
+-- the instruction computes a number and writes it
+abbrev pub IsComputed : Act → Type 0
+IsComputed (act.Element j at i length size) = ⊤
+IsComputed (act.Negate into a) = ⊤
+IsComputed (act.Two op into a b) = ⊤
+IsComputed (act.One builtin into a) = ⊤
+IsComputed (act.Both builtin into a b) = ⊤
+IsComputed _ = ⊥
+
+-- the instruction is one of those that change many cells, compare, count a turn, call, return or trap
+abbrev pub IsOther : Act → Type 0
+IsOther (act.Copy at from size) = ⊤
+IsOther (act.Zero at size) = ⊤
+IsOther (act.Compare op a b hold fail) = ⊤
+IsOther (act.Turn j) = ⊤
+IsOther (act.Call callee) = ⊤
+IsOther (act.Return a) = ⊤
+IsOther act.Stop = ⊤
+IsOther _ = ⊥

@@ -9,6 +9,6 @@ use Rattle.bl_crun_code_vm.proofs.acts.write_number.Goals as goal
 pub returns-clause-did : goal.returns-clause-did
 returns-clause-did c = λ (w : Queue).
     let s : VmState = state_of c.args.registers.now c.args.cells.now c.args.temps.now w in
-    subst (λ (x : ℤ). Came s (goes (with_number (ahead s) c.args.into.now x)) c.give_if.result
-    (state_of c.give_if.new.registers c.give_if.new.cells c.give_if.new.temps w))
-    (to_z-of_z w128 c.number-n.result (search rules) ∙ c.number-n.ensures) (c.give_if.ensures.did w)
+    subst (λ (x : ℤ). Came s (goes (with_number (ahead s) c.args.into.now x)) c.give.result
+    (state_of c.give.new.registers c.give.new.cells c.give.new.temps w))
+    (to_z-of_z w128 c.number-n.result (search rules) ∙ c.number-n.ensures) (c.give.ensures.did w)
