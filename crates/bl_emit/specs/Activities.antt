@@ -8,7 +8,6 @@ use Rattle.bl_tree.specs.declared.c.CMember.{CMember}
 use Rattle.bl_tree.specs.declared.c.CParam.{CParam}
 use Rattle.bl_tree.specs.declared.c.CStmt.{CStmt}
 use Rattle.bl_tree.specs.declared.c.CStruct.{CStruct}
-use Rattle.bl_tree.specs.declared.scalar.Scalar.TheVariants.{Bool as OfBool}
 use Rattle.bl_tree.specs.declared.tree.StructDef.{StructDef}
 use Rattle.bl_tree.specs.declared.tree.Unit.{Unit as UnitDef}
 use Rattle.bl_tree.specs.declared.scalar.Op.TheVariants.{Eq}
@@ -25,7 +24,7 @@ use Rattle.bl_machine_transitions.specs.Runs.{run_number}
 use Rattle.bl_machine_transitions.specs.Told.{NumberedTransition}
 use Rattle.bl_emit_spec.specs.Blocks.{ActivityView, Sizes, counter_value, name_in, unit_may_end}
 use Rattle.bl_emit_spec.specs.Names.{callee_name, flag_place, frame_name, with_word}
-use Rattle.bl_emit_spec.specs.Activities.{RunAt, blocks_code, copies_of, counter_member, ended_local, first_place, given_local, over_params, pointer_param}
+use Rattle.bl_emit_spec.specs.Activities.{RunAt, blocks_code, copies_of, counter_member, ended_local, entry_place, given_local, over_params, pointer_param}
 use Rattle.bl_emit_spec.specs.Activities.{rested_code, rested_local, result_params, scalar_local, some_ends, struct_member, word_of_run}
 use Rattle.bl_emit_blocks.specs.Numbered.{numbered_turn}
 use Rattle.bl_emit_tables.specs.Told.{flags_told, marks_told, read_told, runs_told}
@@ -143,7 +142,7 @@ locals_told a = locals_by a.earlier a.unit (view_told a) a.rules a.blocks (count
 -- the node with the number waits where the first counter held 0: the body begins
 abbrev pub entry_at : ActivityView → ℕ → CStmt
 entry_at view number =
-    c_set (flag_place (with_word view.word number)) (c_two Eq (c_read (first_place (view.is_read 0))) (counter_value view.sizes 0 0))
+    c_set (flag_place (with_word view.word number)) (c_two Eq (c_read (entry_place (view.is_read 0))) (counter_value view.sizes 0 0))
 
 -- the C of an optional entry
 abbrev pub entry_where : ActivityView → Option NumberedTransition → List CStmt

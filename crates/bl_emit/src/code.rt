@@ -3,7 +3,7 @@
 ghost use Rattle.std.specs.Prelude.{◌≡◌, ◌++◌, IfOk, OnOk, map, option_map};
 ghost use Rattle.bl_emit_acts.specs.Acts.{c_copied};
 ghost use Rattle.bl_emit_blocks.specs.Views.{view_in};
-ghost use Rattle.bl_emit_spec.specs.Activities.{first_place, rested_code};
+ghost use Rattle.bl_emit_spec.specs.Activities.{entry_place, rested_code};
 ghost use Rattle.bl_machine_transitions.specs.Told.{rule_in};
 ghost use Rattle.bl_emit.specs.Activities.{code_by, entry_at, entry_told, entry_where};
 
@@ -42,7 +42,7 @@ fn all_rested(alloc: Global, counters: &[u32]) -> Result<List<CStmt>, NoMemory>
 
 /// Where it stands what the first counter held when the tick began: its copy, where it has one.
 fn first(alloc: Global, copied: bool) -> Result<CPlace, NoMemory>
-    ensures { IfOk result (λ place. place ≡ first_place copied) }
+    ensures { IfOk result (λ place. place ≡ entry_place copied) }
 {
     if copied {
         Ok(whole(alloc, false, numbered(alloc, "w", 0)?))

@@ -1,6 +1,6 @@
 //! The `if`s of blocks.
 
-ghost use Rattle.std.specs.Prelude.{◌≡◌, ◌++◌, IfOk, OnOk, None, drop, map, option_map, option_to_list, slice_get};
+ghost use Rattle.std.specs.Prelude.{◌≡◌, ◌++◌, IfOk, OnOk, drop, map, option_map, option_to_list, slice_get};
 ghost use Rattle.bl_emit_blocks.specs.Merging as merging;
 ghost use Rattle.bl_emit_blocks.specs.Numbered.{numbered_flag, numbered_part, numbered_turn};
 ghost use Rattle.bl_emit_blocks.specs.Views.{view_in};

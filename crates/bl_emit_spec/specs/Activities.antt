@@ -291,16 +291,16 @@ activity_locals a =
 abbrev pub rested_code : ℕ → CStmt
 rested_code k = c_set (rested_place k) (c_read (counter_place k))
 
--- where it stands what the first counter held when the tick began: in the copy of the counter, where the test is true, else in the counter itself
-abbrev pub first_place : Bool → CPlace
-first_place true = rested_place 0
-first_place false = counter_place 0
+-- the place of what the first counter held when the tick began: the copy of the counter, where the test is true, else the counter itself
+abbrev pub entry_place : Bool → CPlace
+entry_place true = rested_place 0
+entry_place false = counter_place 0
 
 -- the entry waits where the first counter held 0: the body begins
 abbrev pub entry_code : ActivityView → Block → List CStmt
 entry_code view Done = []
 entry_code view (Then s rest) =
-    c_set (flag_place (node_word view (entry s))) (c_two Eq (c_read (first_place (view.is_read 0))) (counter_value view.sizes 0 0)) ∷ []
+    c_set (flag_place (node_word view (entry s))) (c_two Eq (c_read (entry_place (view.is_read 0))) (counter_value view.sizes 0 0)) ∷ []
 
 -- the turns of nodes in source order
 abbrev pub turns_in_source : Activity → List NodeCode

@@ -1,9 +1,9 @@
 //! The C of nodes at which only registers change. Lemmas only (`specs/Points/Laws.antt`). In the middle of a pass,
 //! memory represents the changed registers after the C of changes, and all else as before (`ChangesSimulateInPass`). An
-//! `if` by the guard of a block's first node is taken iff the rule of that node is due (`GuardsSimulate`). The C of
-//! nodes with changes alone simulates them (`SilentNodesSimulate`). Rules must use only registers of their activity
-//! (`RulesOwn`). Only a `return` may end a body with a result (`ReturnsEnd`), and an activity must remember what its
-//! callees remember (`Remembering`).
+//! `if` by the guard of a block's first node is taken iff the rule of that node is due, or the block before leaves its
+//! call to this one and was taken (`GuardsSimulate`). The C of nodes with changes alone simulates them
+//! (`SilentNodesSimulate`). Rules must use only registers of their activity (`RulesOwn`). Only a `return` may end a body
+//! with a result (`ReturnsEnd`), and an activity must remember what its callees remember (`Remembering`).
 
 ghost use Rattle.bl_emit_spec_laws_nodes.specs.Points.Acts.{ActNodesSimulate, ReturnNodesSimulate};
 ghost use Rattle.bl_emit_spec_laws_nodes.specs.Points.Laws.{ChangesSimulateInPass, GuardsSimulate, SilentNodesSimulate};
@@ -22,7 +22,8 @@ pub fn changes_stand()
     registers_apart();
 }
 
-/// An `if` by the guard of a block's first node does what stands in it where the rule of that node is due, and else nothing.
+/// An `if` by the guard of a block's first node does what stands in it where the rule of that node is due or the block
+/// before has left its call, and else nothing.
 pub fn guards_choose()
     ensures { GuardsSimulate }
 {

@@ -1,6 +1,6 @@
 //! The blocks of `run`s. One lemma: the blocks of a `run`'s nodes simulate them (`RunsSimulate` of the crate
-//! `bl_emit_spec_laws_nodes`). The call must establish what a pass of the callee begins with, and leave what that pass
-//! leaves.
+//! `bl_emit_spec_laws_nodes`), also where the start leaves its call to the block that goes on with it. The call must
+//! establish what a pass of the callee begins with, and leave what that pass leaves.
 
 ghost use Rattle.bl_emit_spec_laws_nodes.specs.Calling.{RunsSimulate};
 

@@ -34,7 +34,8 @@ use Rattle.bl_emit_functions_laws_wellformed.specs.Cells.{CellsFollow, CellsGrow
 use Rattle.bl_emit_functions_laws_wellformed.proofs.OnFiles.Growing.{distinct_behind, names, one_place}
 use Rattle.bl_emit_spec.specs.Activities.{Activity, frame_struct, remembered, remembered_struct, remembers_any}
 use Rattle.bl_emit_spec.specs.Names.{frame_name}
-use Rattle.bl_emit_spec.specs.Programs.{ProgramParts, activity_of, needed_units, needs_of, parts_from, parts_of_function, parts_of_next, parts_then, where_needed}
+use Rattle.bl_emit_spec.specs.Programs.{ProgramParts, activity_of, needed_units, needs_of, parts_from, parts_of_function, parts_of_next, parts_then}
+use Rattle.bl_emit_spec.specs.Programs.{where_needed}
 use Rattle.bl_emit_spec_laws_wellformed.specs.Chains.{ActivitiesCallFew}
 use Rattle.bl_emit_spec_laws_wellformed_bodies.specs.Cells.{ActivityCells}
 use Rattle.bl_emit_spec_laws_wellformed_bodies.proofs.OnStructs.Lists.{first_or, get_behind, none_has, take_front}

@@ -48,7 +48,7 @@ use Rattle.bl_emit_spec.specs.Activities.{
   copied_in,
   counters_read,
   entry_code,
-  first_place,
+  entry_place,
   picked,
   rested_code,
   rules_at,
@@ -336,14 +336,14 @@ module _ (P : CPath → Type 0) (plain : (place : CPath) → names_counter place
       (set-fine P plain (rested_place k) (c_read (counter_place k)) (local_fine P plain own (rested_name k)) (counter_read P plain own k))
       (resteds_fine rest)
 
-  first_read : (copied : Bool) → ExprFine P plain (c_read (first_place copied))
+  first_read : (copied : Bool) → ExprFine P plain (c_read (entry_place copied))
   first_read true = local_read P plain own (rested_name 0)
   first_read false = counter_read P plain own 0
 
   entry_fine : (body : Block) → CodeFine P plain (entry_code view body)
   entry_fine Done = tt
   entry_fine (Then s rest) =
-      let first : CExpr = c_read (first_place (view.is_read 0)) in
+      let first : CExpr = c_read (entry_place (view.is_read 0)) in
       one_stmt P plain (c_set (flag_place (node_word view (entry s))) (c_two Eq first (counter_value view.sizes 0 0)))
       (set-fine P plain (flag_place (node_word view (entry s))) (c_two Eq first (counter_value view.sizes 0 0))
       (local_fine P plain own (flag_name (node_word view (entry s))))

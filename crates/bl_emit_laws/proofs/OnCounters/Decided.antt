@@ -1,6 +1,6 @@
 -- No `if` within a block has a literal as its condition, nor reads a flag.
 use Rattle.std.proofs.Common.{◌≡◌, ℕ, Bool, true, false, ◌&&◌, not, cond, List, [], ◌∷◌, ◌++◌, map, length, Option, Some, None, refl, sym, ap, ◌∙◌}
-use Rattle.std.proofs.Common.{subst, codes}
+use Rattle.std.proofs.Common.{subst}
 use Rattle.std.proofs.lemmas.List.Folds.{list_all-append}
 use Rattle.std.specs.List.{list_all}
 use Rattle.std.specs.Prelude.{filter, is_some, nat_eq, option_map, slice_get}
@@ -36,35 +36,9 @@ use Rattle.bl_emit_acts.specs.Places.{place_in}
 use Rattle.bl_emit_acts.specs.Trees.{c_call, c_place, c_read, nowhere}
 use Rattle.bl_emit_functions.specs.Statements.{else_code}
 use Rattle.bl_emit_functions.specs.Trees.{c_if, c_truth}
-use Rattle.bl_emit_spec.specs.Blocks.{
-  ActivityView,
-  NodeCode,
-  acted,
-  change_code,
-  changes_code,
-  choice_code,
-  control_code,
-  control_unless,
-  counter_value,
-  flagged_now,
-  forgotten,
-  fused_code,
-  layer_acted,
-  may_end_in,
-  name_in,
-  node_word,
-  own_code,
-  run_args,
-  run_code,
-  spelled_in_kind,
-  spelled_truth,
-  stmt_where,
-  target_code,
-  test_code,
-  node_turn,
-  turns_of,
-  word_at,
-}
+use Rattle.bl_emit_spec.specs.Blocks.{ActivityView, NodeCode, change_code, changes_code, choice_code, control_code, control_unless, counter_value}
+use Rattle.bl_emit_spec.specs.Blocks.{flagged_now, forgotten, fused_code, layer_acted, may_end_in, name_in, node_word, own_code, run_args, run_code}
+use Rattle.bl_emit_spec.specs.Blocks.{spelled_in_kind, spelled_truth, stmt_where, target_code, test_code, node_turn, turns_of, word_at}
 use Rattle.bl_emit_spec.specs.Names.{NumberedWord, callee_frame, counter_place, ended_name, ended_place, frame_name, mark_name, mark_place, rested_place}
 use Rattle.bl_emit_laws.specs.Counters.Flags.{decides, flags_read, is_decided_here, is_flag_name, optional_answers}
 use Rattle.bl_emit_laws.specs.Counters.Own.{names_counter}

@@ -6,7 +6,6 @@ use Rattle.std.proofs.lemmas.List.{append-nil, map-append}
 use Rattle.std.proofs.lemmas.List.Elements.{filter-append}
 use Rattle.std.specs.Char.{is_ascii_digit}
 use Rattle.std.specs.Fmt.{digit_glyph, digits, digits_onto}
-use Rattle.std.specs.List.{list_all}
 use Rattle.std.specs.Prelude.{◌==◌, filter, nat_eq, nat_lt, option_and_then, slice_get, if◌then◌else◌}
 use Rattle.bl_tree.specs.declared.text.Text.{Text}
 use Rattle.bl_tree.specs.declared.c.CExpr.{CExpr}

@@ -69,7 +69,8 @@ module _ (P : CPath → Type 0) (plain : (place : CPath) → names_counter place
   body_named site unit =
       then_code P plain (copies_from site 0 (inputs_of unit)) ((body_coded site unit).code ++ end_code unit.result (code_returns (body_coded site unit).code))
       (inputs_fine site 0 (inputs_of unit))
-      (then_code P plain (body_coded site unit).code (end_code unit.result (code_returns (body_coded site unit).code)) (body_fine P plain site unit.body none_taken)
+      (then_code P plain (body_coded site unit).code (end_code unit.result (code_returns (body_coded site unit).code))
+      (body_fine P plain site unit.body none_taken)
       (end_fine unit.result (code_returns (body_coded site unit).code)))
 
   pub function-fine : (structs : List StructDef) (earlier : List UnitDef) (unit : UnitDef) → Fine P (places_named (function_code structs earlier unit))

@@ -21,7 +21,7 @@ use Rattle.bl_emit_acts.specs.Places.{place_in}
 use Rattle.bl_emit_acts.specs.Trees.{c_place, c_read, c_two}
 use Rattle.bl_emit_acts.specs.Types.{copy_name}
 use Rattle.bl_emit_functions.specs.Trees.{c_if}
-use Rattle.bl_emit_spec.specs.Activities.{Activity, activity_code, blocks_code, blocks_in_order, body_of, copied_in, counters_read, entry_code, first_place}
+use Rattle.bl_emit_spec.specs.Activities.{Activity, activity_code, blocks_code, blocks_in_order, body_of, copied_in, counters_read, entry_code, entry_place}
 use Rattle.bl_emit_spec.specs.Activities.{picked}
 use Rattle.bl_emit_spec.specs.Activities.{activity_view, rested_code, turns_in_source}
 use Rattle.bl_emit_spec.specs.Blocks.{ActivityView, NodeCode, all_merged, counter_value, entered_by, fused_code, leaving_flag, merged_code, next_turn}
@@ -90,7 +90,7 @@ resteds (k ∷ rest) = first_setting (rested_place k) (c_read (counter_place k))
 entries : (view : ActivityView) (body : Block) → AreSettings (entry_code view body)
 entries view Done = no_settings
 entries view (Then s rest) =
-    first_setting (flag_place (node_word view (entry s))) (c_two Eq (c_read (first_place (view.is_read 0))) (counter_value view.sizes 0 0)) [] no_settings
+    first_setting (flag_place (node_word view (entry s))) (c_two Eq (c_read (entry_place (view.is_read 0))) (counter_value view.sizes 0 0)) [] no_settings
 
 copies : (site : TypingContext) (ks : List ℕ) → AreSettings (map (c_copied site) ks)
 copies site [] = no_settings

@@ -1,6 +1,6 @@
 -- The blocks of a function do what a pass by rules does.
 use Rattle.std.proofs.Common.{◌≡◌, ◌⊎◌, inl, inr, ℕ, suc, Bool, true, false, List, [], ◌++◌}
-use Rattle.std.proofs.Common.{drop, Option, Some, None, refl, sym, ap, subst}
+use Rattle.std.proofs.Common.{Some, None, refl, sym, ap, subst}
 use Rattle.std.proofs.Common.{◌∙◌, arith, ⊎_elim}
 use Rattle.std.proofs.lemmas.Option.{same_Some}
 use Rattle.bl_tree.specs.declared.c.CStmt.{CStmt}
@@ -25,7 +25,7 @@ use Rattle.bl_graph_nodes.specs.Nodes.{
   TestAt,
 }
 use Rattle.bl_graph_nodes.specs.Plain.{plain_body}
-use Rattle.bl_ctext_semantics.specs.Course.{goes_on, traps}
+use Rattle.bl_ctext_semantics.specs.Course.{traps}
 use Rattle.bl_ctext_semantics.specs.Meaning.{Scope, block_c}
 use Rattle.bl_ctext_semantics.specs.Memory.{Memory}
 use Rattle.bl_ctree.specs.Instances.{Setting, setting_of, unit_at}
@@ -37,9 +37,8 @@ use Rattle.bl_machine_pass.specs.Transitions.{Transition}
 use Rattle.bl_machine_pass_laws_execution.specs.Executes as executes
 use Rattle.bl_machine_pass_laws_execution.specs.Executes.{CopiesMatch, Executes, HasRule, IsPoint, NodeTraps, PassTraps, Performs, recopied}
 use Rattle.bl_machine_pass_laws_execution.specs.Frames.{Frames}
-use Rattle.bl_emit_spec.specs.Activities.{Activity, activity_view, blocks_in_order, remembers_any}
+use Rattle.bl_emit_spec.specs.Activities.{Activity, activity_view, remembers_any}
 use Rattle.bl_emit_spec_laws.specs.Calls.Built.{Activities, activity_at, cleared, rank_by, slots_by}
-use Rattle.bl_emit_spec_laws.specs.Calls.Calls.{PassStarts}
 use Rattle.bl_emit_spec_laws.specs.Calls.Laws.{BlocksSimulate, CalledAt, GuardsChoose, HasShownRule, Midway, PartSimulates, PassKeepsFrame, StartsSimulate}
 use Rattle.bl_emit_spec_laws.specs.Calls.Laws.{block_done, shown_rule}
 use Rattle.bl_emit_spec_laws.specs.Calls.Invariant.{PassRepresents}

@@ -16,9 +16,8 @@ use Rattle.bl_ctext_semantics.specs.Memory.{Memory}
 use Rattle.bl_tree.specs.Numbers.{number_of}
 use Rattle.bl_emit_spec_laws.specs.Registers.Registers.{Before, Counter, Flag, Mark, Over, Register, Registered, RegistersEncoded, has_register, held_in}
 use Rattle.bl_emit_spec.specs.Activities.{Activity, activity_view, first_rules, is_flagged}
-use Rattle.bl_emit_spec.specs.Blocks.{ActivityView, NodeCode, all_merged, control_unless, flag_asked, fused_code, last_turn, leaving_flag, merged_code}
-use Rattle.bl_emit_spec.specs.Blocks.{next_turn}
-use Rattle.bl_emit_spec.specs.Blocks.{same_run}
+use Rattle.bl_emit_spec.specs.Blocks.{ActivityView, NodeCode, all_merged, control_unless, flag_asked, fused_code, last_turn, leaving_flag}
+use Rattle.bl_emit_spec.specs.Blocks.{merged_code, next_turn, same_run}
 use Rattle.bl_emit_spec_laws.specs.Calls.Built.{asks_flag, registered}
 use Rattle.bl_emit_spec_laws.specs.Passes.{behind_firsts}
 use Rattle.bl_emit_spec_laws.proofs.OnOwn.Members.{any_true}

@@ -8,7 +8,7 @@ use Rattle.bl_graph_nodes.specs.Nodes.{nodes_in, nodes_in_each, nodes_of, where_
 use Rattle.bl_graph_nodes.specs.Plain.{Act, Again, Await, Block, Bodies, Body as BodyOf, Cobegin, Done, If, Label, Last, Plain, Repeat, Run as RunOf, Then, Until}
 use Rattle.bl_graph_nodes.specs.Plain.{When, While, is_empty}
 use Rattle.bl_graph.specs.Edges.{BodyEnd, Edge, EdgeAll, EdgeEach, Entry, Into, LoopEdge, Out, OutAll}
-use Rattle.bl_graph.proofs.Staying.{Has, edge_has, edge_in, entry_in, has_left, has_right, out_has, out_in}
+use Rattle.bl_graph.proofs.Staying.{Has, edge_has, edge_in, has_left, has_right, out_has, out_in}
 use Rattle.bl_machine.specs.Blocks.{goes_straight, is_join}
 use Rattle.bl_machine.specs.Uses.{Slots}
 use Rattle.bl_machine_pass.specs.Transitions.{Change, EndsWhen, Finishes, SetsCounter, SetsFlag, Transition, body_ends, enter, flagged, rule_where}

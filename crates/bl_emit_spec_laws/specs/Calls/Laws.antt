@@ -137,7 +137,7 @@ pub record CalledAt (body : Block) (n : Node) (u : ℕ) : Type 0 where
   pub node : slice_get (nodes_in body) position ≡ Some n
   pub unit : slice_get (callees_in body) position ≡ Some u
 
--- an `if` by the guard of a rule, where there is a number behind a block that leaves its call to it, whose flag this is
+-- an `if` by the guard of a rule. The number is that of the flag of the block before, where that leaves its call to this one
 abbrev pub guarded_by_rule : ActivityView → Option ℕ → Transition → List CStmt → CStmt
 guarded_by_rule view before rule code = c_if (entered_by view.word before (guard_of view rule.node rule.condition)) code None
 
@@ -195,8 +195,7 @@ pub record BlocksSimulate (structs : List StructDef) (units : List UnitDef) (ent
       CopiesMatch w i rule.node store copies → NodeTraps w (rank_by w activities) (slots_by w activities) (cleared w) i rule.node frames store →
       (block_done w activities i u rule scope here).end ≡ traps
 
--- The own code of a start, which leaves its call to the next block, goes on. It leaves memory of the same pass with the start's changes over these frames,
--- in which what it calls is cleared
+-- The own code of a start that leaves its call to the next block goes on. It leaves memory of the same pass behind the start's changes, over some frames
 pub record CallIsLeft (structs : List StructDef) (units : List UnitDef) (entry : ℕ) (machine : List InMachine) (activities : Activities) (i : ℕ)
     (unit : UnitDef) (scope : Scope) (store : Store) (copies : List Value) (r : Registers) (here : Memory) (o : Outcome Memory) : Type 0 where
   pub ends : o.end ≡ goes_on
@@ -210,8 +209,8 @@ abbrev pub own_done : Setting → Activities → ℕ → ℕ → Transition → 
 own_done w activities i u rule scope here =
     block_c (own_code (activity_view (activity_at w activities i)) u rule rule.node) scope here
 
--- What the C of a `run` does that calls once. The own code of its start leaves the call; then the code of the node that goes on with it does what the first
--- pass of the callee does, and traps where that traps
+-- What the C of a `run` does whose start leaves its call to the next block. The start's own code goes on. Then the code of the node that goes on with the
+-- `run` does what is to be done at the start, and traps where that traps
 pub record StartsSimulate (structs : List StructDef) (units : List UnitDef) (entry : ℕ) (machine : List InMachine) (activities : Activities) : Type 0 where
   pub acts : (i : ℕ) (unit : UnitDef) (scope : Scope) (frames : Frames) (store : Store) (copies : List Value) (r : Registers) (rule other : Transition)
       (u v : ℕ) (answer : Bool) (frames' : Frames) (left : Store) (here : Memory) → let w = setting_of structs units entry in
@@ -234,8 +233,8 @@ pub record StartsSimulate (structs : List StructDef) (units : List UnitDef) (ent
       CallIsLeft structs units entry machine activities i unit scope store copies (after_rule (rank_by w activities i) rule true r) here own
       × ((block_done w activities i v other scope own.memory).end ≡ traps)
 
--- An `if` by the guard of a rule, whose node is the first of its block, does what stands in it where the rule is due, or the block before has left it its
--- call, and else nothing
+-- An `if` by the guard of a rule, whose node is the first of its block, does what stands in it where the rule is due or the block before has left its call,
+-- and else nothing
 pub record GuardsChoose (structs : List StructDef) (units : List UnitDef) (entry : ℕ) (machine : List InMachine) (activities : Activities) : Type 0 where
   pub enters : (i : ℕ) (unit : UnitDef) (scope : Scope) (frames : Frames) (store : Store) (copies : List Value) (r : Registers) (before : Option ℕ)
       (rule : Transition) (code : List CStmt) (here : Memory) → let w = setting_of structs units entry in

@@ -87,17 +87,17 @@ asks_its_own view has n (RestedIn slots) =
     list_all (λ slot. has.copied slot.counter) slots && (list_all (fits_counter view.sizes) slots && are_in_a_row slots)
 asks_its_own view has n (Ended age needed) = has_age view.number has age && list_all (λ slot. has.counters slot.counter) needed.slots
 
--- whether the flag of a block that leaves its call is a register of the activity, where there is a number
+-- whether the flag of the block before is a register of the activity, where that block leaves its call
 abbrev pub has_left : Registered → Option ℕ → Bool
 has_left has None = true
 has_left has (Some k) = has.flags k
 
--- whether that flag is set
+-- whether the block before has left its call: its flag is set
 abbrev pub is_left : Registers → Option ℕ → Bool
 is_left r None = false
 is_left r (Some k) = r.flags k
 
--- the C of a guard doesn't trap, and is 1 where the guard holds, or the flag of the block before that leaves its call, and 0 where neither does
+-- the C of a block's test doesn't trap, and is 1 where the guard holds or the block before has left its call, and else 0
 abbrev pub GuardsEvaluate : Type 0
 GuardsEvaluate =
     (view : ActivityView) (has : Registered) (scope : Scope) (before : Option ℕ) (n : Node) (condition : Condition) (r : Registers) (here : Memory) →

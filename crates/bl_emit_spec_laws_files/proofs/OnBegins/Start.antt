@@ -15,9 +15,8 @@ use Rattle.bl_tree.specs.declared.tree.Ty.{Ty}
 use Rattle.bl_tree.specs.declared.value.Value.{Value}
 use Rattle.bl_tree.specs.Numbers.{number_of}
 use Rattle.bl_tree.specs.Typing.{TypingContext}
-use Rattle.bl_graph_nodes.specs.Nodes.{ActAt, EnterAt, ForkAt, HeadAt, Node, PauseAt, StartAt, TestAt, arguments_of, entry}
-use Rattle.bl_graph_nodes.specs.Plain.{Act, Again, Await, Block, Cobegin, Done, If, Plain, Repeat, Run, Then, Until, When, While}
-use Rattle.bl_machine.specs.Uses.{Slots}
+use Rattle.bl_graph_nodes.specs.Nodes.{Node, entry}
+use Rattle.bl_graph_nodes.specs.Plain.{Block, Done, Plain, Then}
 use Rattle.bl_eval.proofs.PassLemmas.{and_left, and_right}
 use Rattle.bl_ctext_semantics.specs.Meaning.{Scope, block_c, location_c, named_location, runs_c, value_c}
 use Rattle.bl_ctext_semantics.specs.Memory.{CValue, Location, Memory, Projection, Root, left_after, number_or, scalar_number, set_at, value_at}
@@ -26,16 +25,15 @@ use Rattle.bl_emit_acts.specs.Acts.{c_set}
 use Rattle.bl_emit_acts.specs.Trees.{c_read, c_two}
 use Rattle.bl_emit_acts_laws_simulation.specs.Frames.{is_older}
 use Rattle.bl_emit_acts_laws_simulation.specs.Encodes.{Encodes, VariablesEncoded, location_in, way_to}
-use Rattle.bl_emit_spec.specs.Activities.{entry_code, first_place, rested_code}
+use Rattle.bl_emit_spec.specs.Activities.{entry_code, entry_place, rested_code}
 use Rattle.bl_emit_spec.specs.Blocks.{ActivityView, Sizes, counter_value, node_word}
 use Rattle.bl_emit_spec.specs.Names.{counter_place, flag_name, flag_place, rested_name, rested_place, with_word}
 use Rattle.bl_emit_spec_laws.specs.Registers.Laws.{GuardsEvaluate, RegistersWithin, RestsWithin, WordsAgree}
 use Rattle.bl_emit_spec_laws.specs.Registers.Registers.{Before, Counter, Flag, Mark, Over, Register, Registered, RegistersApart, RegistersBeside, RegistersEncoded}
 use Rattle.bl_emit_spec_laws.specs.Registers.Registers.{has_register, held_in, register_at, same_register}
 use Rattle.bl_machine_pass.specs.Registers.{Registers, with_at}
-use Rattle.bl_machine_pass.specs.Transitions.{Change, Condition, Ended, IsAny, Transition, enter, rules_in, rules_of}
+use Rattle.bl_machine_pass.specs.Transitions.{Condition, Ended, IsAny}
 use Rattle.bl_machine_pass_laws.specs.Turns.Laws.{entry_flag}
-use Rattle.bl_emit_spec_laws.specs.Calls.Built.{asks_flag}
 use Rattle.bl_emit_spec_laws.proofs.OnRegisters.Guards.{eq_shows, literal_gives, rested_gives}
 use Rattle.bl_emit_spec_laws.proofs.OnRegisters.Setting.{flag_answer}
 use Rattle.bl_emit_spec_laws.proofs.OnWithin.Changing.{with_within}
@@ -212,12 +210,12 @@ module _ (has : Registered) (site : TypingContext) (scope : Scope) (apart : Regi
     FirstCopied r = view.is_read 0 ≡ true → (has.copied 0 ≡ true) × (r.rested 0 ≡ r.counters 0)
 
     first_shows : (n : Node) (r : Registers) (m : Memory) → FirstCopied r → RestsWithin view.sizes r → RegistersEncoded has scope r m →
-        option_map scalar_number (value_c (c_two Eq (c_read (first_place (view.is_read 0))) (counter_value view.sizes 0 0)) scope m).answer
+        option_map scalar_number (value_c (c_two Eq (c_read (entry_place (view.is_read 0))) (counter_value view.sizes 0 0)) scope m).answer
         ≡ Some (number_of (nat_eq (r.counters 0) 0))
     first_shows n r m held within hold = by (view.is_read 0) refl
       where
         by : (copied : Bool) → view.is_read 0 ≡ copied →
-            option_map scalar_number (value_c (c_two Eq (c_read (first_place copied)) (counter_value view.sizes 0 0)) scope m).answer
+            option_map scalar_number (value_c (c_two Eq (c_read (entry_place copied)) (counter_value view.sizes 0 0)) scope m).answer
             ≡ Some (number_of (nat_eq (r.counters 0) 0))
         by true is =
             eq_shows scope m (c_read (rested_place 0)) (counter_value view.sizes 0 0) (r.rested 0) 0
@@ -232,7 +230,7 @@ module _ (has : Registered) (site : TypingContext) (scope : Scope) (apart : Regi
         Mid r m → GoesTo (Mid (with_entry view body r)) (block_c (entry_code view body) scope m)
     entry_goes Done r m flagged held within stands = (refl, stands)
     entry_goes (Then s rest) r m flagged held within stands =
-        let test : CExpr = c_two Eq (c_read (first_place (view.is_read 0))) (counter_value view.sizes 0 0) in
+        let test : CExpr = c_two Eq (c_read (entry_place (view.is_read 0))) (counter_value view.sizes 0 0) in
         let found = number_is (value_c test scope m).answer (number_of (nat_eq (r.counters 0) 0))
         (first_shows (entry s) r m held within stands.hold) in
         set_goes m r (with_entry view (Then s rest) r) (Flag (view.number (entry s))) (flag_name (with_word has.words (view.number (entry s)))) found.0

@@ -7,7 +7,7 @@ use Rattle.bl_tree.specs.Typing.{is_activity}
 use Rattle.bl_ctree.specs.Instances.{Setting}
 use Rattle.bl_machine_pass.specs.Transitions.{Change, Transition}
 use Rattle.bl_emit_spec_laws.specs.Calls.Built.{Activities, unit_number}
-use Rattle.bl_emit_spec_laws.specs.Calls.Laws.{HasShownRule, shown_rule}
+use Rattle.bl_emit_spec_laws.specs.Calls.Laws.{HasShownRule}
 use Rattle.bl_emit_spec_laws.specs.Registers.Laws.{ends_body}
 use Rattle.bl_emit_spec_laws_nodes.specs.Points.Laws.{ReturnsEnd, is_return_node}
 

@@ -1,50 +1,22 @@
 -- No two nodes of a body have one number, and `run`s with different numbers have different names.
-use Rattle.std.proofs.Common.{◌≡◌, ℕ, zero, suc, ◌+◌, ◌<◌, ◌^◌, Bool, true, false}
-use Rattle.std.proofs.Common.{◌&&◌, ◌||◌, List, [], ◌∷◌, ◌++◌, Contains}
-use Rattle.std.proofs.Common.{Some, nat_eq, length, map, drop, refl, sym, ap, subst, ◌∙◌, arith}
-use Rattle.std.proofs.lemmas.Bool.{eq-eqb}
-use Rattle.std.proofs.lemmas.Fmt.{decimal_injective}
-use Rattle.std.proofs.lemmas.Slice.Eq.{bytes_eq-Decides}
-use Rattle.std.specs.List.{list_all, list_any}
+use Rattle.std.proofs.Common.{◌≡◌, ℕ, zero, suc, ◌+◌, ◌<◌, ◌^◌, false}
+use Rattle.std.proofs.Common.{List, [], ◌∷◌, Contains}
+use Rattle.std.proofs.Common.{Some, nat_eq, length, map, refl, sym, ap, ◌∙◌, arith}
 use Rattle.std.specs.Prelude.{IsPermutation, bytes_eq, slice_get}
-use Rattle.bl_tree.specs.declared.place.Place.{Place}
 use Rattle.bl_tree.specs.declared.tree.Stmt.{Stmt}
-use Rattle.bl_graph_nodes.specs.Nodes.{Arguments, DepthJoinAt, EnterAt, ForkAt, HeadAt, Node, SurfaceEndAt, SurfaceJoinAt, are_instant, is_instant, nodes_in}
-use Rattle.bl_graph_nodes.specs.Plain.{
-  Act,
-  Again,
-  Await,
-  Block,
-  Bodies,
-  Body as BodyOf,
-  Cobegin,
-  Done,
-  If,
-  Label,
-  Last,
-  Plain,
-  Repeat,
-  Run as RunOf,
-  Then,
-  Until,
-  When,
-  While,
-  plain_body,
-}
-use Rattle.bl_emit_spec.specs.Activities.{is_flagged}
+use Rattle.bl_graph_nodes.specs.Nodes.{Node, nodes_in}
+use Rattle.bl_graph_nodes.specs.Plain.{Block, plain_body}
 use Rattle.bl_emit_spec.specs.Names.{NumberedWord, callee_name}
 use Rattle.bl_machine.specs.Blocks.{up_to}
 use Rattle.bl_machine.specs.Uses.{Slots}
 use Rattle.bl_machine_pass.specs.Numbered.{position_where}
-use Rattle.bl_machine_pass.specs.Transitions.{Change, Condition, IsNew, SetsCounter, SetsFlag, Transition, age_of, body_ends, enter, flagged, joins, rule_where, rules}
-use Rattle.bl_machine_pass.specs.Transitions.{Finishes, rules_in, rules_in_each, rules_of}
+use Rattle.bl_machine_pass.specs.Transitions.{Transition, rules}
 use Rattle.bl_machine_pass_laws.specs.Turns.Laws.{StaysPlaced}
 use Rattle.bl_machine_pass_laws.specs.Keys.{NodesHaveKeys}
 use Rattle.bl_machine_transitions.specs.Callees.{node_number}
 use Rattle.bl_machine_transitions.specs.Listed.{layout_of}
 use Rattle.bl_machine_transitions_laws.proofs.Agreeing.{Agrees}
 use Rattle.bl_machine_transitions_laws.proofs.Standing.{nodes_stand}
-use Rattle.bl_emit_spec_laws.specs.Calls.Built.{asks_flag}
 use Rattle.bl_emit_spec_laws.proofs.OnPlaced.Lists.{contains_at, found_at, number_once, number_there, some_is, stands_at, within_at}
 use Rattle.bl_emit_acts_laws_simulation.proofs.NumberedNames.{words_differ}
 

@@ -1,5 +1,5 @@
 -- The blocks of the nodes at which a `run` begins or goes on.
-use Rattle.std.proofs.Common.{◌≡◌, inl, inr, ℕ, Bool, true, false, List, [], ◌∷◌, ◌++◌, Option, Some, None, append-nil, refl, sym, ap, ◌∙◌, subst}
+use Rattle.std.proofs.Common.{◌≡◌, inr, ℕ, Bool, true, false, List, [], ◌∷◌, ◌++◌, Option, Some, None, append-nil, refl, sym, ap, ◌∙◌, subst}
 use Rattle.std.proofs.lemmas.Option.{same_Some}
 use Rattle.std.specs.Prelude.{slice_get, take, if◌then◌else◌}
 use Rattle.bl_tree.specs.declared.c.CStmt.{CStmt}
@@ -276,7 +276,7 @@ module _ (orderly : AcceptedIsOrderly) (callers : InstancesHaveCallers) (nests :
                     starts_resumed frames' left r' executed
 
                 -- what is done behind the call
-                asked_so : (block.end ≡ (block_c (asked_by may) scope called_after).end) × (block.memory ≡ (block_c (asked_by may) scope called_after).memory)
+                asked_so : Alike block (block_c (asked_by may) scope called_after)
                 asked_so =
                     let so = chosen_resumed is in
                     let called = call_goes_on orderly callers nests clearing keys placed structs units entry machine activities gives leaves
@@ -379,11 +379,11 @@ module _ (orderly : AcceptedIsOrderly) (callers : InstancesHaveCallers) (nests :
                 return_comes over last did =
                     let truth = ended_truth scope called_after true (call_ended.over (sym may_is ∙ over_asked over) ∙ ap number_of over) in
                     let inside = block_c told scope called_after in
-                    let asks : ((block_c (asked ∷ []) scope called_after).end ≡ inside.end) × ((block_c (asked ∷ []) scope called_after).memory ≡ inside.memory) =
+                    let asks : Alike (block_c (asked ∷ []) scope called_after) inside =
                     if_alone scope called_after (λ e m. (e ≡ inside.end) × (m ≡ inside.memory)) (c_read ended_place) told None
                     (subst (Chosen scope called_after (λ e m. (e ≡ inside.end) × (m ≡ inside.memory)) told None) (sym truth) (refl, refl)) in
                     let rest =
-                    subst (λ b. ((block_c (asked_by b) scope called_after).end ≡ inside.end) × ((block_c (asked_by b) scope called_after).memory ≡ inside.memory))
+                    subst (λ b. Alike (block_c (asked_by b) scope called_after) inside)
                     (sym (over_asked over)) asks in
                     let set = targeted over arguments.target refl last did in
                     let changes = changes_code view rule.on_true in

@@ -1,12 +1,7 @@
 -- `run`s of different places of a body have different numbers, and names.
-use Rattle.std.proofs.Common.{◌≡◌, ℕ, zero, suc, ◌+◌, ◌<◌, ◌^◌, Bool, true, false, ◌&&◌, ◌||◌, List, [], ◌∷◌, Contains, Some}
-use Rattle.std.proofs.Common.{drop, length, map, nat_eq, refl, sym, ap, subst, ◌∙◌, arith}
-use Rattle.std.proofs.lemmas.Bool.{eq-eqb}
-use Rattle.std.proofs.lemmas.Fmt.{decimal_injective}
+use Rattle.std.proofs.Common.{◌≡◌, ℕ, zero, suc, ◌+◌, ◌<◌, ◌^◌, true, false, List, [], ◌∷◌, Contains, Some}
+use Rattle.std.proofs.Common.{length, nat_eq, sym, ap, subst, ◌∙◌, arith}
 use Rattle.std.proofs.lemmas.Option.{same_Some}
-use Rattle.std.proofs.lemmas.Slice.Eq.{bytes_eq-Decides}
-use Rattle.std.specs.Fmt.{decimal}
-use Rattle.std.specs.List.{list_any}
 use Rattle.std.specs.Prelude.{IsPermutation, bytes_eq, slice_get}
 use Rattle.bl_tree.specs.declared.place.Place.{Place}
 use Rattle.bl_tree.specs.declared.tree.StructDef.{StructDef}
@@ -22,16 +17,15 @@ use Rattle.bl_machine.specs.declared.machine.Activity.{Activity as InMachine}
 use Rattle.bl_machine.specs.Blocks.{Ordered, up_to}
 use Rattle.bl_machine.specs.Machines.{IsActivityOf}
 use Rattle.bl_machine_pass.specs.Numbered.{position_where}
-use Rattle.bl_machine_pass.specs.Transitions.{Transition}
 use Rattle.bl_machine_pass_laws.specs.Turns.Laws.{StaysPlaced}
 use Rattle.bl_machine_pass_laws.specs.Keys.{NodesHaveKeys}
 use Rattle.bl_machine_transitions.specs.Callees.{node_number}
 use Rattle.bl_machine_transitions.specs.Listed.{layout_of}
 use Rattle.bl_machine_transitions_laws.proofs.Agreeing.{Agrees}
 use Rattle.bl_machine_transitions_laws.proofs.Standing.{nodes_stand}
-use Rattle.bl_emit_spec.specs.Activities.{Activity, activity_view, is_flagged, rules_at}
-use Rattle.bl_emit_spec.specs.Names.{NumberedWord, callee_name}
-use Rattle.bl_emit_spec_laws.specs.Calls.Built.{Activities, activity_at, asks_flag, rank_by, run_by, unit_number}
+use Rattle.bl_emit_spec.specs.Activities.{Activity, activity_view}
+use Rattle.bl_emit_spec.specs.Names.{callee_name}
+use Rattle.bl_emit_spec_laws.specs.Calls.Built.{Activities, activity_at, rank_by, run_by, unit_number}
 use Rattle.bl_emit_spec_laws.specs.Calls.Laws.{CompilationContext}
 use Rattle.bl_emit_spec_laws.proofs.OnPlaced.Lists.{contains_at, found_at, number_once, number_there, stands_at, within_at}
 use Rattle.bl_emit_spec_laws.proofs.OnRunPlaces.Sharing.{FirstNode, first_node}

@@ -1,5 +1,5 @@
 -- A `run` whose start leaves its call to the block that goes on with it.
-use Rattle.std.proofs.Common.{◌≡◌, ℕ, ℤ, Bool, true, false, List, ◌∷◌, ◌++◌, Some, None, refl, sym, ap, ◌∙◌, subst}
+use Rattle.std.proofs.Common.{◌≡◌, ℕ, Bool, true, false, List, ◌++◌, Some, None, refl, sym, ap, ◌∙◌, subst}
 use Rattle.std.proofs.Math.Bool.{Bool-set}
 use Rattle.std.proofs.Math.IntN.{ℤ_set}
 use Rattle.std.proofs.Math.Logic.{∥∥₁_elim}
@@ -12,30 +12,25 @@ use Rattle.bl_tree.specs.declared.tree.Unit.{Unit as UnitDef}
 use Rattle.bl_tree.specs.declared.value.Value.{Value}
 use Rattle.bl_effects.proofs.EntryLemmas.{same_place_is}
 use Rattle.bl_graph_nodes.specs.Nodes.{Arguments, EnterAt, Node, ResumeAt, nodes_in, place_of_node}
-use Rattle.bl_graph_nodes.specs.Plain.{Label, plain_body}
+use Rattle.bl_graph_nodes.specs.Plain.{Block, Label, plain_body}
 use Rattle.bl_ctext_semantics.specs.Course.{End, Outcome, breaks, goes_on, returns, traps}
 use Rattle.bl_ctext_semantics.specs.Meaning.{Scope, block_c}
 use Rattle.bl_ctext_semantics.specs.Memory.{Memory, Projection, Root}
-use Rattle.bl_ctree.specs.Actions.{Copies}
 use Rattle.bl_ctree.specs.Instances.{Setting, callee_of, setting_of}
-use Rattle.bl_ctree.specs.Store.{Store, view_at}
-use Rattle.bl_ctree_laws.specs.Ends.{done_by}
-use Rattle.bl_ctree_laws.specs.Pending.{deed}
+use Rattle.bl_ctree.specs.Store.{Store}
 use Rattle.bl_ctree_laws.specs.Trees.{Call}
 use Rattle.bl_ctree_laws_confluence.specs.Deeds.Nesting.{ProgramsNest}
 use Rattle.bl_ctree_laws_confluence.specs.Deeds.Orderly.{AcceptedIsOrderly}
 use Rattle.bl_ctree_laws_confluence.specs.Deeds.Origins.{InstancesHaveCallers}
-use Rattle.bl_ctree_laws_traces.proofs.OnBounded.Calls.{calls_in}
 use Rattle.bl_ctree_laws_traces.proofs.OnBounded.Lists.{Among}
 use Rattle.bl_emit_acts.specs.Trees.{c_read}
 use Rattle.bl_emit_acts_laws_simulation.specs.Laws.{FramesApart, PlacesSimulate, WritesEncode}
 use Rattle.bl_emit_functions.specs.Trees.{c_if}
 use Rattle.bl_emit_spec.specs.Activities.{activity_view}
-use Rattle.bl_emit_spec.specs.Blocks.{ActivityView, changes_code, may_end_in, node_code, resumed_code, run_code, stmt_where, target_code, word_at}
-use Rattle.bl_emit_spec.specs.Names.{NumberedWord, ended_place}
+use Rattle.bl_emit_spec.specs.Blocks.{ActivityView, changes_code, may_end_in, node_code, resumed_code, stmt_where, target_code, word_at}
+use Rattle.bl_emit_spec.specs.Names.{ended_place}
 use Rattle.bl_emit_spec_laws.specs.Registers.Laws.{RegistersKeepApart}
 use Rattle.bl_machine.specs.declared.machine.Activity.{Activity as InMachine}
-use Rattle.bl_machine_laws.specs.Passes.Follows.{DeedYields}
 use Rattle.bl_machine_pass.specs.Registers.{Registers, after_rule}
 use Rattle.bl_machine_pass.specs.Transitions.{Transition}
 use Rattle.bl_machine_pass_laws_execution.specs.Executes as executes
@@ -46,14 +41,14 @@ use Rattle.bl_machine_pass_laws_execution.specs.Frames.{Frames}
 use Rattle.bl_machine_pass_laws.specs.Keys.{NodesHaveKeys}
 use Rattle.bl_machine_transitions.specs.Callees.{callees_in}
 use Rattle.bl_emit_spec_laws.specs.Calls.Built.{Activities, activity_at, cleared, rank_by, run_by, slots_by, unit_number}
-use Rattle.bl_emit_spec_laws.specs.Calls.Laws.{CallIsLeft, CalledAt, HasShownRule, Midway, PartSimulates, StartsSimulate, block_done, own_done}
+use Rattle.bl_emit_spec_laws.specs.Calls.Laws.{CallIsLeft, CalledAt, HasShownRule, Midway, PartSimulates, block_done, own_done}
 use Rattle.bl_emit_spec_laws.specs.Cleared.{ClearingIsInside}
 use Rattle.bl_emit_spec_laws.specs.Within.{AllStayWithin}
 use Rattle.bl_emit_spec_laws.proofs.OnPasses.Same.{OneRun, one_run}
 use Rattle.bl_emit_spec_laws.proofs.OnPlaced.Lists.{contains_at}
 use Rattle.bl_emit_spec_laws.proofs.OnRunPlaces.Entered.{call_there, calls_in_are, node_by}
 use Rattle.bl_emit_spec_laws.proofs.OnRunPlaces.Words.{run_word}
-use Rattle.bl_emit_spec_laws_nodes.specs.Calling.{RunOf, RunsEstablish, RunsLeave, RunsSimulate, TargetsSeen}
+use Rattle.bl_emit_spec_laws_nodes.specs.Calling.{RunOf, RunsEstablish, RunsLeave, RunsSimulate}
 use Rattle.bl_emit_spec_laws_nodes.specs.Points.Laws.{ChangesSimulateInPass}
 use Rattle.bl_emit_spec_laws_nodes.specs.Points.Points.{BodiesEnd, PointsStand}
 use Rattle.bl_emit_spec_laws_nodes.proofs.OnPoints.Silent.{comes_as}
@@ -130,6 +125,9 @@ module _ (orderly : AcceptedIsOrderly) (callers : InstancesHaveCallers) (nests :
     abbrev k : ℕ
     k = unit_number w i
 
+    abbrev body : Block
+    body = plain_body unit.body
+
     abbrev view : ActivityView
     view = activity_view (activity_at w activities i)
 
@@ -153,7 +151,7 @@ module _ (orderly : AcceptedIsOrderly) (callers : InstancesHaveCallers) (nests :
       abbrev start : Call
       start = record { label = l; place = at; unit = u; arguments = arguments }
 
-      start_node : slice_get (nodes_in (plain_body unit.body)) called.position ≡ Some (node_by false start)
+      start_node : slice_get (nodes_in body) called.position ≡ Some (node_by false start)
       start_node = called.node ∙ ap Some is
 
       -- the start calls the instance
@@ -171,7 +169,7 @@ module _ (orderly : AcceptedIsOrderly) (callers : InstancesHaveCallers) (nests :
       next_is : other.node ≡ node_by true next
       next_is = both.goes_on ∙ ap (λ (at : Place). ResumeAt both.second at both.given) place_is
 
-      next_node : slice_get (nodes_in (plain_body unit.body)) again.position ≡ Some (node_by true next)
+      next_node : slice_get (nodes_in body) again.position ≡ Some (node_by true next)
       next_node = again.node ∙ ap Some next_is
 
       -- so does the other node
@@ -189,8 +187,9 @@ module _ (orderly : AcceptedIsOrderly) (callers : InstancesHaveCallers) (nests :
       given_is : ∥ arguments ≡ both.given ∥₁
       given_is =
           same_arguments structs units entry midway.compiled.well_typed unit (contains_at units k unit midway.function.is_there) start next
-          (subst (Among start) (calls_in_are false (plain_body unit.body)) (call_there false (nodes_in (plain_body unit.body)) (callees_in (plain_body unit.body)) called.position start start_node called.unit))
-          (subst (Among next) (calls_in_are true (plain_body unit.body)) (call_there true (nodes_in (plain_body unit.body)) (callees_in (plain_body unit.body)) again.position next next_node again.unit)) refl
+          (subst (Among start) (calls_in_are false body) (call_there false (nodes_in body) (callees_in body) called.position start start_node
+          called.unit))
+          (subst (Among next) (calls_in_are true body) (call_there true (nodes_in body) (callees_in body) again.position next next_node again.unit)) refl
 
       -- what the next block does with these arguments
       abbrev does : Arguments → Outcome Memory

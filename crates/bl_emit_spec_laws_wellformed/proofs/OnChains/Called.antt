@@ -22,7 +22,7 @@ use Rattle.std.proofs.Common.{
 }
 use Rattle.std.proofs.Common.{arith, length, refl, sym, ap, subst, ◌∙◌, codes}
 use Rattle.std.proofs.lemmas.List.Elements.{All-cons, All-nil}
-use Rattle.std.specs.Prelude.{All, filter, is_some, nat_eq, option_to_list, slice_get, if◌then◌else◌}
+use Rattle.std.specs.Prelude.{All, is_some, nat_eq, option_to_list, slice_get, if◌then◌else◌}
 use Rattle.bl_tree.specs.declared.text.Text.{Text}
 use Rattle.bl_tree.specs.declared.c.CArg.{CArg}
 use Rattle.bl_tree.specs.declared.c.CArg.TheVariants.{Address, Value}
@@ -41,11 +41,10 @@ use Rattle.bl_tree.specs.declared.tree.Stmt.{Stmt, fold_out-Stmt, out-Stmt}
 use Rattle.bl_tree.specs.declared.tree.StmtKind.{StmtKind, fold-StmtKind, fold_out-StmtKind, map-StmtKind, out-StmtKind}
 use Rattle.bl_tree.specs.declared.tree.StmtKind.TheOpen.{StmtKind-F}
 use Rattle.bl_tree.specs.declared.tree.Ty.{Ty}
-use Rattle.bl_tree.specs.declared.tree.Unit.{Unit as UnitDef}
 use Rattle.bl_tree.specs.Reduce.{joined}
 use Rattle.bl_tree.specs.Scalar.{is_int}
 use Rattle.bl_tree.specs.Types.{scalar_in}
-use Rattle.bl_tree.specs.Typing.{TypingContext, var_at}
+use Rattle.bl_tree.specs.Typing.{var_at}
 use Rattle.bl_limits_measures.specs.Calls.{
   argument_calls,
   arm_calls,
@@ -79,27 +78,10 @@ use Rattle.bl_graph_nodes.specs.Nodes.{
   entry,
 }
 use Rattle.bl_graph_nodes.specs.Plain.{Block, Done, Then}
-use Rattle.bl_machine.specs.Blocks.{up_to}
 use Rattle.bl_machine.specs.declared.slots.Slot.{Slot}
 use Rattle.bl_ctext_semantics.specs.Calls.{calls_in, calls_in_arg, calls_in_block, calls_in_call, calls_in_place, calls_in_step, calls_in_stmt}
-use Rattle.bl_emit_acts.specs.Acts.{
-  act_code,
-  c_calling,
-  c_clear,
-  c_copied,
-  c_set,
-  c_zeroed,
-  call_args,
-  call_made,
-  code_made,
-  copy_code,
-  initial_code,
-  is_copied,
-  layer_code,
-  name_of_callee,
-  output_arg,
-  zeroed,
-}
+use Rattle.bl_emit_acts.specs.Acts.{c_calling, c_clear, c_copied, c_set, c_zeroed, call_args, call_made, code_made, copy_code, initial_code}
+use Rattle.bl_emit_acts.specs.Acts.{is_copied, layer_code, name_of_callee, output_arg, zeroed}
 use Rattle.bl_emit_acts.specs.Expressions.{arg_of, c_cast, c_compare, cast_word, code_of, function_name, hidden, is_constant, is_read, made_of, side}
 use Rattle.bl_emit_acts.specs.Expressions.{stands, type_at}
 use Rattle.bl_emit_acts.specs.Places.{place_in}
@@ -114,7 +96,7 @@ use Rattle.bl_emit_functions_laws_wellformed.proofs.OnFiles.Shapes.{not-calls, o
 use Rattle.bl_emit_functions_laws_wellformed.proofs.OnFiles.Shapes.{value-calls}
 use Rattle.bl_emit_functions_laws_wellformed.proofs.OnFiles.Statements.{Few, first_few, none_few, one_few, set_few, then_few}
 use Rattle.bl_emit_functions_laws_wellformed.proofs.OnFiles.Under.{Under, append-under, back-under, both-under, front-under, head-under, none-under, tail-under}
-use Rattle.bl_machine_pass.specs.Transitions.{Age, Change, Condition, Needed, Transition, rules}
+use Rattle.bl_machine_pass.specs.Transitions.{Age, Change, Condition, Needed, Transition}
 use Rattle.bl_machine_pass.specs.Transitions.{ClearsBoth, ClearsCounter, Ended, EndsWhen, Finishes, Flagged, IsAny, IsNew, IsOld, Rested, RestedIn}
 use Rattle.bl_machine_pass.specs.Transitions.{SetsCounter, SetsFlag, SetsMark}
 use Rattle.bl_machine_transitions.specs.Callees.{callees_in}
@@ -128,7 +110,7 @@ use Rattle.bl_emit_spec.specs.Activities.{
   copied_in,
   counters_read,
   entry_code,
-  first_place,
+  entry_place,
   picked,
   rested_code,
   rules_at,
@@ -747,14 +729,14 @@ module _ (weight : Text → ℕ) (prelude : (word : Text) (s : ScalarType) → w
         (sets_few (rested_place k) (c_read (counter_place k)) (local_few (rested_name k))
         (reads_few (counter_place k) (member_few (codes "f") (counter_name k)))) (resteds_few rest)
 
-    first_few_place : (copied : Bool) → PlaceFew (first_place copied)
+    first_few_place : (copied : Bool) → PlaceFew (entry_place copied)
     first_few_place true = local_few (rested_name 0)
     first_few_place false = member_few (codes "f") (counter_name 0)
 
     entry_few : (body : Block) → CodeFew (entry_code view body)
     entry_few Done = none_few weight prelude n
     entry_few (Then s rest) =
-        let first : CPlace = first_place (view.is_read 0) in
+        let first : CPlace = entry_place (view.is_read 0) in
         one_few weight prelude n (c_set (flag_place (node_word view (entry s))) (c_two Eq (c_read first) (counter_value view.sizes 0 0)))
         (sets_few (flag_place (node_word view (entry s))) (c_two Eq (c_read first) (counter_value view.sizes 0 0))
         (local_few (flag_name (node_word view (entry s))))

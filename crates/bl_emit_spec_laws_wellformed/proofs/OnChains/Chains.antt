@@ -23,9 +23,9 @@ use Rattle.bl_emit_acts.specs.Acts.{name_of_callee}
 use Rattle.bl_emit_acts.specs.Expressions.{function_name}
 use Rattle.bl_emit_acts.specs.Types.{unit_name}
 use Rattle.bl_emit_functions_laws_wellformed.proofs.OnFiles.Chains.{taken}
-use Rattle.bl_emit_functions_laws_wellformed.proofs.OnFiles.Under.{Under, back-under, front-under}
+use Rattle.bl_emit_functions_laws_wellformed.proofs.OnFiles.Under.{back-under, front-under}
 use Rattle.bl_emit_functions_laws_wellformed.specs.Files.Laws.{ChainsKnown}
-use Rattle.bl_emit_spec.specs.Activities.{Activity, activity_code, activity_function, rules_at}
+use Rattle.bl_emit_spec.specs.Activities.{Activity, activity_code, activity_function}
 use Rattle.bl_emit_spec.specs.Programs.{needs_of}
 use Rattle.bl_emit_spec_laws_wellformed.proofs.OnChains.Called.{activity_few}
 use Rattle.bl_emit_spec_laws_wellformed.proofs.OnChains.Nodes.{AllUnder, body_under}

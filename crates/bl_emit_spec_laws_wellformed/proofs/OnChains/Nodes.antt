@@ -1,5 +1,5 @@
 -- What is called at the nodes of a body is called or run by the body.
-use Rattle.std.proofs.Common.{◌≡◌, ℕ, zero, suc, ◌≤◌, Bool, true, false, List, [], ◌∷◌, ◌++◌, map, Option, refl, sym, subst, ◌∙◌}
+use Rattle.std.proofs.Common.{◌≡◌, ℕ, suc, Bool, true, false, List, [], ◌∷◌, ◌++◌, map, Option, refl, sym, subst}
 use Rattle.std.proofs.lemmas.List.Elements.{All-head, All-tail}
 use Rattle.bl_tree.specs.declared.place.Place.{Place}
 use Rattle.bl_tree.specs.declared.tree.Arm.{Arm, fold-Arm, fold_out-Arm, out-Arm}
@@ -38,28 +38,8 @@ use Rattle.bl_limits_measures.proofs.RunLemmas.{
   kind_activities as kind_runs,
   stmt_activities as stmt_layer_runs,
 }
-use Rattle.bl_graph_nodes.specs.Nodes.{
-  ActAt,
-  CheckAt,
-  DepthEndAt,
-  DepthJoinAt,
-  EnterAt,
-  ForkAt,
-  HeadAt,
-  Node,
-  PauseAt,
-  ResumeAt,
-  StartAt,
-  SurfaceEndAt,
-  SurfaceJoinAt,
-  TestAt,
-  are_instant,
-  is_instant,
-  nodes_in,
-  nodes_in_each,
-  nodes_of,
-  where_so,
-}
+use Rattle.bl_graph_nodes.specs.Nodes.{ActAt, CheckAt, DepthEndAt, DepthJoinAt, EnterAt, Node, ResumeAt, SurfaceEndAt, SurfaceJoinAt, TestAt}
+use Rattle.bl_graph_nodes.specs.Nodes.{are_instant, is_instant, nodes_in, nodes_in_each, nodes_of, where_so}
 use Rattle.bl_graph_nodes.specs.Plain.{Act, Arm as PlainArm, Await, Block, Bodies, Branch as PlainBranch, Cobegin, Done, If}
 use Rattle.bl_graph_nodes.specs.Plain.{Label, Plain, Position, Repeat, Run, Then, Until, When}
 use Rattle.bl_graph_nodes.specs.Plain.{While, arm_plain, block_at, block_from, bodies_from, branch_plain, else_at, if_with}

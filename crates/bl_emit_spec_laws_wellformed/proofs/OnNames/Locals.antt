@@ -1,13 +1,9 @@
 -- No two parameters and locals of the C function of an activity have one name.
-use Rattle.std.proofs.Common.{◌≡◌, ℕ, zero, suc, ◌+◌, ◌<◌, ◌≤◌, ◌^◌, Bool, true, false}
-use Rattle.std.proofs.Common.{not, ◌&&◌, ◌||◌, List, [], ◌∷◌, ◌++◌, map, take, drop}
+use Rattle.std.proofs.Common.{◌≡◌, ℕ, zero, suc, ◌+◌, ◌≤◌, ◌^◌, Bool, true, false}
+use Rattle.std.proofs.Common.{◌&&◌, ◌||◌, List, [], ◌∷◌, ◌++◌, map, take}
 use Rattle.std.proofs.Common.{length, Option, Some, None, refl, sym, ap, ◌∙◌, arith, codes}
-use Rattle.std.proofs.lemmas.Bool.Decides.{nat_tests}
-use Rattle.std.proofs.lemmas.Fmt.{decimal_injective}
 use Rattle.std.proofs.lemmas.List.{append-nil, append_assoc, map-append}
-use Rattle.std.proofs.lemmas.Slice.Eq.{bytes_eq-Decides}
 use Rattle.std.specs.Fmt.{decimal}
-use Rattle.std.specs.List.{list_any}
 use Rattle.std.specs.Prelude.{bytes_eq, is_some, nat_eq, option_and_then, slice_get, if◌then◌else◌}
 use Rattle.bl_tree.specs.declared.text.Text.{Text}
 use Rattle.bl_tree.specs.declared.c.CLocal.{CLocal}
@@ -23,7 +19,6 @@ use Rattle.bl_tree.specs.Reduce.{joined}
 use Rattle.bl_tree.specs.Typing.{TypingContext, site_of}
 use Rattle.bl_tree.specs.Words.{are_distinct, is_among}
 use Rattle.bl_machine.specs.Blocks.{up_to}
-use Rattle.bl_graph_nodes.specs.Nodes.{Node}
 use Rattle.bl_machine_pass.specs.Transitions.{Change, Transition}
 use Rattle.bl_machine_pass.specs.Transitions.{ClearsBoth, ClearsCounter, EndsWhen, Finishes, SetsCounter, SetsFlag, SetsMark}
 use Rattle.bl_emit_acts.specs.Acts.{is_copied}
@@ -70,11 +65,11 @@ use Rattle.bl_emit_spec.specs.Names.{NumberedWord, callee_name, ended_name, flag
 use Rattle.bl_emit_spec_laws_wellformed.specs.Names.{FrameDiffers, LocalsDiffer, MemoryDiffers, NumbersDiffer}
 use Rattle.bl_emit_spec_laws_wellformed.specs.Names.{are_numbers, flag_number, mark_number, mark_numbers}
 use Rattle.bl_emit_spec_laws_wellformed.proofs.OnNames.Names.{word_family, word_family-begins, word_family-distinct, word_letter-new}
-use Rattle.bl_emit_spec_laws_wellformed.proofs.OnNames.Names.{words_apart, among-both, and-left, and-right, begins-append}
-use Rattle.bl_emit_spec_laws_wellformed.proofs.OnNames.Names.{both, family, family-begins, family-distinct, named_family, named_family-begins}
+use Rattle.bl_emit_spec_laws_wellformed.proofs.OnNames.Names.{among-both, begins-append}
+use Rattle.bl_emit_spec_laws_wellformed.proofs.OnNames.Names.{family, family-begins, family-distinct, named_family, named_family-begins}
 use Rattle.bl_emit_spec_laws_wellformed.proofs.OnNames.Names.{named_family-distinct, named_letter-new}
 use Rattle.bl_emit_spec_laws_wellformed.proofs.OnNames.Names.{worded_family, worded_family-begins, worded_family-distinct, worded_letter-new}
-use Rattle.bl_emit_spec_laws_wellformed.proofs.OnNames.Names.{letter-new, neither, not-among, not-false, one-distinct, some_begins}
+use Rattle.bl_emit_spec_laws_wellformed.proofs.OnNames.Names.{letter-new, neither, not-among, one-distinct, some_begins}
 use Rattle.bl_emit_spec_laws_wellformed.proofs.OnNames.Numbers.{chosen, chosen-numbers, filtered-numbers, first-numbers, position-numbers, positions}
 
 abbrev local_names : List CLocal → List Text

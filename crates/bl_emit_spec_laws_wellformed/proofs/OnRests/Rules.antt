@@ -1,6 +1,6 @@
 -- The numbers in the rules of a part fit where those of its resting places do.
 use Rattle.std.proofs.Common.{◌≡◌, ℕ, suc, ◌+◌, ◌≤◌, ◌^◌, Bool, true, false, ◌&&◌, List, [], ◌∷◌, ◌++◌}
-use Rattle.std.proofs.Common.{map, length, refl, sym, ap, ◌∙◌, subst, arith, length-append}
+use Rattle.std.proofs.Common.{map, length, refl, sym, ◌∙◌, subst, arith, length-append}
 use Rattle.std.proofs.lemmas.Bool.{eqb-true}
 use Rattle.std.proofs.lemmas.Bool.Decides.{nat_tests}
 use Rattle.std.proofs.lemmas.List.Folds.{list_all-append}
@@ -18,11 +18,12 @@ use Rattle.bl_graph_nodes.specs.Plain.{Repeat, Run as RunOf, Then, Until, When, 
 use Rattle.bl_machine.specs.declared.slots.Slot.{Slot}
 use Rattle.bl_machine.specs.Uses.{Slots}
 use Rattle.bl_machine_pass.specs.SlotLayout.{BlockRestsAt, BranchesRestAt, EndOf, Spot, StatementRestsAt, slot_at, spots_in, spots_in_each, spots_of}
-use Rattle.bl_machine_pass.specs.Transitions.{Age, Change, ClearsBoth, ClearsCounter, Ended, EndsWhen, IsNew, Needed, SetsCounter, SetsFlag, SetsMark, Transition, age_of}
+use Rattle.bl_machine_pass.specs.Transitions.{Age, Change, ClearsBoth, ClearsCounter, Ended, EndsWhen, IsNew, SetsCounter, SetsFlag}
+use Rattle.bl_machine_pass.specs.Transitions.{Transition, age_of}
 use Rattle.bl_machine_pass.specs.Transitions.{body_ends, counters_in, counters_in_each, counters_of, endings, enter, enter_each, fires, flagged}
 use Rattle.bl_machine_pass.specs.Transitions.{joins, marked, needed, once, once_but, rests_in, rests_in_first, rests_of, rule_where, rules_in}
 use Rattle.bl_machine_pass.specs.Transitions.{Flagged, Rested, RestedIn, rules_in_each, rules_of, strong_endings}
-use Rattle.bl_emit_spec.specs.Blocks.{Sizes, counter_type}
+use Rattle.bl_emit_spec.specs.Blocks.{Sizes}
 use Rattle.bl_emit_spec_laws_wellformed.specs.Spelled.{change_fits, condition_fits, rule_fits, slot_fits, slots_fit}
 
 le_test : (n m : ℕ) → n ≤ m → nat_le n m ≡ true

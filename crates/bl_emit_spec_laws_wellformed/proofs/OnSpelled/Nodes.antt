@@ -49,43 +49,10 @@ use Rattle.bl_emit_functions.specs.Trees.{c_if, c_truth}
 use Rattle.bl_emit_functions_laws_wellformed.proofs.OnSpelled.Acts.{arguments-fit, one-fits, room}
 use Rattle.bl_emit_functions_laws_wellformed.proofs.OnSpelled.Shapes.{clear-fits, else-fits}
 use Rattle.bl_emit_functions_laws_wellformed.proofs.OnSpelled.Types.{all_append, source_name}
-use Rattle.bl_emit_spec.specs.Blocks.{
-  ActivityView,
-  NodeCode,
-  acted,
-  all_merged,
-  arg_where,
-  begun_code,
-  changes_code,
-  choice_code,
-  control_code,
-  control_unless,
-  entered_by,
-  flag_asked,
-  fused_code,
-  guard_of,
-  has_result,
-  last_turn,
-  layer_acted,
-  leaving_flag,
-  may_end_in,
-  merged_code,
-  name_in,
-  next_turn,
-  node_turn,
-  node_word,
-  own_code,
-  resumed_code,
-  run_args,
-  run_code,
-  same_run,
-  spelled_truth,
-  stmt_where,
-  target_code,
-  test_code,
-  turns_of,
-  word_at,
-}
+use Rattle.bl_emit_spec.specs.Blocks.{ActivityView, NodeCode, all_merged, arg_where, begun_code, changes_code, choice_code, control_code}
+use Rattle.bl_emit_spec.specs.Blocks.{control_unless, entered_by, flag_asked, fused_code, guard_of, has_result, last_turn, layer_acted, leaving_flag}
+use Rattle.bl_emit_spec.specs.Blocks.{may_end_in, merged_code, name_in, next_turn, node_turn, node_word, own_code, resumed_code, run_args, run_code}
+use Rattle.bl_emit_spec.specs.Blocks.{same_run, spelled_truth, stmt_where, target_code, test_code, turns_of, word_at}
 use Rattle.bl_emit_spec.specs.Names.{NumberedWord, callee_frame, callee_memory, callee_name, ended_place, flag_place, frame_name, given_place, result_place}
 use Rattle.bl_emit_spec.specs.Names.{with_word}
 use Rattle.bl_emit_spec_laws_wellformed.specs.Spelled.{all_fit, change_fits, condition_fits, node_fits, rule_fits, run_stands}

@@ -74,7 +74,7 @@ use Rattle.bl_emit_spec.specs.Activities.{
   counters_read,
   enters_at,
   entry_code,
-  first_place,
+  entry_place,
   first_rules,
   flag_local,
   frame_member,
@@ -498,14 +498,14 @@ module _ (units : List UnitDef) (entry k : ℕ) (a : Activity) (keeps : IsWellTy
         (place-fits 405 false (copy_name a.unit.vars j) [] (omega arith) (copy-name a.unit.vars j own_vars small) refl)
         (read-fits 405 nowhere (place_in site j []) (own-fits site few names named own_vars typed_here exprs paths 405 j (omega arith) small))
 
-    first_is : (copied : Bool) → place_fits 2 (first_place copied) ≡ true
+    first_is : (copied : Bool) → place_fits 2 (entry_place copied) ≡ true
     first_is true = rested-fits 2 0 (omega arith) (omega arith)
     first_is false = counter-fits 2 0 (omega arith) (omega arith)
 
     entry_is : (body : Block) → stmts_fit 405 (entry_code (activity_view a) body) ≡ true
     entry_is Done = refl
     entry_is (Then s rest) =
-        let first : CPlace = first_place ((activity_view a).is_read 0) in
+        let first : CPlace = entry_place ((activity_view a).is_read 0) in
         one-fits 405 (c_set (flag_place (node_word view (entry_node s))) (c_two Eq (c_read first) (counter_value a.sizes 0 0)))
         (set-fits 405 nowhere (flag_place (node_word view (entry_node s))) (c_two Eq (c_read first) (counter_value a.sizes 0 0))
         (flag-fits 405 (node_word view (entry_node s)) (omega arith) (spells (entry_node s)))

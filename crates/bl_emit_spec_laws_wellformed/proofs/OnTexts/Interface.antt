@@ -232,7 +232,8 @@ module _ (structs : List StructDef) (typed : (var : Var) → type_stands (length
         both (stmt_fits 1999 (c_calling (c_call (unit_name unit.name) (tick_args unit remembers)))) _
         (call_stmt-fits 1999 nowhere (c_call (unit_name unit.name) (tick_args unit remembers))
         (call-fits 2 1999 (unit_name unit.name) (tick_args unit remembers) (omega arith) (call-name named) tick-args))
-        (all_append (stmt_fits 1999) (stmt_where (unit_may_end unit) (c_if (c_read (c_place false (codes "e") [])) (c_returned 1 ∷ []) None)) (c_returned 0 ∷ [])
+        (all_append (stmt_fits 1999) (stmt_where (unit_may_end unit) (c_if (c_read (c_place false (codes "e") [])) (c_returned 1 ∷ []) None))
+        (c_returned 0 ∷ [])
         (where-fits 1999 (unit_may_end unit) (c_if (c_read (c_place false (codes "e") [])) (c_returned 1 ∷ []) None)
         (if-fits 2 1999 nowhere (c_read (c_place false (codes "e") [])) (c_returned 1 ∷ []) (omega arith)
         (read-fits 2 nowhere (c_place false (codes "e") []) end-place) (one-fits 2 (c_returned 1) (returned-fits 2 1 (omega arith) refl))))

@@ -32,7 +32,7 @@ use Rattle.bl_emit_acts_laws_wellformed.proofs.OnFormed.Judged.{literal-is, not-
 use Rattle.bl_emit_acts_laws_wellformed.proofs.OnFormed.Operators.{both_is}
 use Rattle.bl_emit_acts_laws_wellformed.proofs.OnFormed.Prelude.{type_same}
 use Rattle.bl_emit_functions_laws_wellformed.proofs.OnFormed.Shapes.{if-is}
-use Rattle.bl_emit_spec.specs.Activities.{Activity, activity_view, first_place}
+use Rattle.bl_emit_spec.specs.Activities.{Activity, activity_view, entry_place}
 use Rattle.bl_emit_spec.specs.Blocks.{ActivityView, all_tests, at_slot, change_code, changes_code, counter_type, counter_value, ends_test, flagged_now}
 use Rattle.bl_emit_spec.specs.Blocks.{forgotten, freed, guard_of, in_pairs, in_tree, is_greatest, last_value, node_word, rested_at, rested_by, rested_from}
 use Rattle.bl_emit_spec.specs.Blocks.{rested_in, rested_since, rested_to, rested_within, some_test, type_for}
@@ -105,14 +105,14 @@ module _ (units : List UnitDef) (entry k : ℕ) (a : Activity) (table : Table (T
   pub slot-at : (slot : Slot) → (registered a).counters slot.counter ≡ true → ExprIs here bool_type (at_slot view slot)
   slot-at slot on = equal-is slot.counter slot.value (c_read (counter_place slot.counter)) (read-counter slot.counter on)
 
-  first-is : (registered a).counters 0 ≡ true → (copied : Bool) → view.is_read 0 ≡ copied → ExprIs here (kind 0) (c_read (first_place copied))
+  first-is : (registered a).counters 0 ≡ true → (copied : Bool) → view.is_read 0 ≡ copied → ExprIs here (kind 0) (c_read (entry_place copied))
   first-is on true is = read-rested 0 is
   first-is on false is = read-counter 0 on
 
   -- the entry waits where the first counter held 0
   pub begins-is : (registered a).counters 0 ≡ true →
-      ExprIs here bool_type (c_two Eq (c_read (first_place (view.is_read 0))) (counter_value a.sizes 0 0))
-  begins-is on = equal-is 0 0 (c_read (first_place (view.is_read 0))) (first-is on (view.is_read 0) refl)
+      ExprIs here bool_type (c_two Eq (c_read (entry_place (view.is_read 0))) (counter_value a.sizes 0 0))
+  begins-is on = equal-is 0 0 (c_read (entry_place (view.is_read 0))) (first-is on (view.is_read 0) refl)
 
   since-is : (c v : ℕ) → view.is_read c ≡ true → ExprIs here bool_type (rested_since view c v)
   since-is c v on = by (nat_eq v 1)

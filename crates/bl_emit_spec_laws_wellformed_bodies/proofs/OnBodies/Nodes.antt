@@ -50,38 +50,10 @@ use Rattle.bl_emit_functions_laws_wellformed.proofs.OnFormed.Shapes.{OtherIn, if
 use Rattle.bl_emit_spec.specs.Activities.{word_of_run, Activity, RunAt, activity_view, blocks_code}
 use Rattle.bl_emit_spec.specs.Activities.{body_of, callees_in, copies_of, first_positions, picked, reads_counter, rules_at}
 use Rattle.bl_emit_spec.specs.Activities.{runs_in_body, turns_in_source}
-use Rattle.bl_emit_spec.specs.Blocks.{
-  ActivityView,
-  NodeCode,
-  acted,
-  all_merged,
-  begun_code,
-  changes_code,
-  choice_code,
-  control_code,
-  control_unless,
-  entered_by,
-  flag_asked,
-  fused_code,
-  last_turn,
-  layer_acted,
-  leaving_flag,
-  may_end_in,
-  merged_code,
-  name_in,
-  next_turn,
-  node_turn,
-  own_code,
-  resumed_code,
-  run_code,
-  run_word,
-  same_run,
-  spelled_truth,
-  stmt_where,
-  target_code,
-  test_code,
-  turns_of,
-}
+use Rattle.bl_emit_spec.specs.Blocks.{ActivityView, NodeCode, all_merged, begun_code, changes_code, choice_code, control_code, control_unless}
+use Rattle.bl_emit_spec.specs.Blocks.{entered_by, flag_asked, fused_code, last_turn, layer_acted, leaving_flag, may_end_in, merged_code, name_in}
+use Rattle.bl_emit_spec.specs.Blocks.{next_turn, node_turn, own_code, resumed_code, run_code, run_word, same_run, spelled_truth, stmt_where}
+use Rattle.bl_emit_spec.specs.Blocks.{target_code, test_code, turns_of}
 use Rattle.bl_emit_spec.specs.Names.{NumberedWord, callee_frame, ended_place, flag_place, frame_name, result_place, with_word}
 use Rattle.bl_emit_spec_laws.specs.Registers.Laws.{asks_its_own, changes_its_own}
 use Rattle.bl_emit_spec_laws.specs.Calls.Built.{last_of, last_rules, last_positions, registered}

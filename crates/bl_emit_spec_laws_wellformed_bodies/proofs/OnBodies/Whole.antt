@@ -1,6 +1,6 @@
 -- Nothing fails in the statements of the C function of an activity.
 use Rattle.std.proofs.Common.{◌≡◌, ℕ, zero, suc, ◌<◌, Bool, true, false, List, [], ◌∷◌, ◌++◌, map, length, Some, refl, sym}
-use Rattle.std.proofs.Common.{ap, subst, arith, ⊎_elim, ◌∙◌}
+use Rattle.std.proofs.Common.{subst, arith, ⊎_elim, ◌∙◌}
 use Rattle.std.proofs.lemmas.Bool.Decides.{nat_tests}
 use Rattle.std.proofs.lemmas.List.Elements.{Contains-push_cases}
 use Rattle.std.specs.Prelude.{Contains, filter, nat_lt, slice_get, if◌then◌else◌}
@@ -46,7 +46,7 @@ use Rattle.bl_emit_spec.specs.Activities.{
   copies_of,
   counters_read,
   entry_code,
-  first_place,
+  entry_place,
   rested_code,
   rules_at,
   runs_in_body,
@@ -132,7 +132,7 @@ module _ (units : List UnitDef) (entry k : ℕ) (a : Activity) (table : Table (T
   entry-is Done is = block_nil here
   entry-is (Then s rest) is =
       let flag : (registered a).flags (view.number (entry_of s)) ≡ true = h.owns.begins s rest is in
-      let first : CExpr = c_two Eq (c_read (first_place (view.is_read 0))) (counter_value a.sizes 0 0) in
+      let first : CExpr = c_two Eq (c_read (entry_place (view.is_read 0))) (counter_value a.sizes 0 0) in
       block_one here (c_set (flag_place (node_word view (entry_of s))) first)
       (put-is units entry k a table known h false bool_type (flag_place (node_word view (entry_of s))) first
       (flag-is units entry k a table known h (view.number (entry_of s)) flag)

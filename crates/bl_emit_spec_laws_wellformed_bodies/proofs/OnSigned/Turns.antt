@@ -49,7 +49,7 @@ use Rattle.bl_emit_spec.specs.Activities.{
   rules_at,
   turns_in_source,
 }
-use Rattle.bl_emit_spec.specs.Blocks.{word_at, ActivityView, NodeCode, acted, change_code, changes_code, control_code, flagged_now, forgotten, fused_code}
+use Rattle.bl_emit_spec.specs.Blocks.{word_at, ActivityView, NodeCode, change_code, changes_code, control_code, flagged_now, forgotten, fused_code}
 use Rattle.bl_emit_spec.specs.Blocks.{all_merged, choice_code, control_unless, entered_by, layer_acted, leaving_flag, may_end_in, merged_code, next_turn}
 use Rattle.bl_emit_spec.specs.Blocks.{own_code, run_code}
 use Rattle.bl_emit_spec.specs.Blocks.{spelled_truth, stmt_where, target_code, test_code, turns_of}
