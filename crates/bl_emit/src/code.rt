@@ -29,7 +29,7 @@ fn rested(alloc: Global, k: u32) -> Result<CStmt, NoMemory>
     set(alloc, to, read(from))
 }
 
-/// So it is for each of the counters.
+/// The copies of all these counters.
 fn all_rested(alloc: Global, counters: &[u32]) -> Result<List<CStmt>, NoMemory>
     ensures { IfOk result (λ made. made ≡ map rested_code counters.now) }
 {
@@ -40,7 +40,7 @@ fn all_rested(alloc: Global, counters: &[u32]) -> Result<List<CStmt>, NoMemory>
     Ok(made)
 }
 
-/// Where it stands what the first counter held when the tick began: its copy, where it has one.
+/// The place of what the first counter held when the tick began: its copy, if it has one, else the counter.
 fn first(alloc: Global, copied: bool) -> Result<CPlace, NoMemory>
     ensures { IfOk result (λ place. place ≡ entry_place copied) }
 {

@@ -151,8 +151,8 @@ fn add_runs(
     Ok(())
 }
 
-/// The locals of the function of an activity: what the counters held, flags of the first nodes of blocks, marks, copies of the
-/// variables, whether what was called has ended, where it may, and the results of `run`s.
+/// The locals of an activity's function: what counters held, flags of blocks' first nodes, marks, copies of variables, the end
+/// of what was called, if something that is called may end, and results of `run`s.
 pub fn locals(
     alloc: Global,
     earlier: &[Unit],

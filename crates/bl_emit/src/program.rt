@@ -69,7 +69,7 @@ fn file(alloc: Global, program: &Program, parts: Parts, unit: &Unit) -> Result<W
     })
 }
 
-/// The same, where the entry may be known.
+/// The file of a program whose entry may be absent.
 fn file_where(
     alloc: Global,
     program: &Program,

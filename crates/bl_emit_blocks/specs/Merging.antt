@@ -34,12 +34,12 @@ last_at rules block = last_behind rules None block
 
 -- ---- calls that are left to the next block
 
--- the number of the flag of a block with this first and last rule, where it leaves the call of its `run` to the block that begins with the third rule
+-- the number of a block's flag, by its first and its last rule, where it leaves its call to the block that begins with the third rule
 abbrev pub left_between : NumberedTransition → NumberedTransition → NumberedTransition → Option ℕ
 left_between first last next =
     if same_run (numbered_part last.task) (numbered_part next.task) then numbered_flag first.number first.condition else None
 
--- that number by optional rules, of which none may be absent
+-- the number of that flag by optional rules; there is none where one of the rules is absent
 abbrev pub left_where : Option NumberedTransition → Option NumberedTransition → Option NumberedTransition → Option ℕ
 left_where (Some first) (Some last) (Some next) = left_between first last next
 left_where _ _ _ = None

@@ -31,8 +31,8 @@ pub record ShowsProgram (structs : List StructDef) (units : List UnitDef) (entry
   -- the struct of each such activity has as many counters as the activity's width: the most places of it that can rest at once
   pub frames : EachFrameHasWidth structs units entry file
   -- the body of that function is assignments, and then as many `if`s as a machine with merged blocks has blocks for the activity. It has as many
-  -- flags as there are blocks whose first node waits by a flag. The condition of each of those `if`s reads the flag of its block, and before it that of
-  -- the block before, if that leaves it the call of a `run`. No condition of an `if` within them reads a flag
+  -- flags as there are blocks whose first node waits by a flag. The condition of such a block reads its flag. If the block before leaves it the call of
+  -- a `run`, a condition first reads the flag of that block. No condition reads another flag, and none of an `if` within them reads one
   pub blocks : HasMergedBlocks structs units entry file
   -- the semantics allows the trace of the file, and no other, over all rows that fit its inputs
   pub trace : (rows : List (List ℤ)) (shows : ShownTrace) → RowsFit (input_columns unit) rows →

@@ -1,6 +1,6 @@
 -- The C of the blocks of a pass: one `if` for each block, with what its nodes do, and what changes behind the last of them.
 use Rattle.std.specs.Prelude.{ℕ, zero, suc, pos, Bool, true, false, List, [], ◌∷◌, ◌++◌, map, Option, Some, None, if◌then◌else◌}
-use Rattle.std.specs.Prelude.{◌&&◌, not, length, is_some, nat_eq, nat_le, slice_get, unwrap_or}
+use Rattle.std.specs.Prelude.{not, length, is_some, nat_eq, nat_le, slice_get, unwrap_or}
 use Rattle.bl_tree.specs.declared.text.Text.{Text}
 use Rattle.bl_tree.specs.declared.c.CArg.{CArg}
 use Rattle.bl_tree.specs.declared.c.CArg.TheVariants.{Address}
@@ -245,7 +245,7 @@ is_endless s = layer_endless (out-StmtKind (out-Stmt s).what)
 abbrev pub unit_may_end : UnitDef → Bool
 unit_may_end unit = not (last_of (map is_endless unit.body))
 
--- whether the unit may end, where there is one
+-- whether the unit may end, where there is one; true where there is none
 abbrev pub may_end_in : Option UnitDef → Bool
 may_end_in (Some unit) = unit_may_end unit
 may_end_in None = true
@@ -386,8 +386,8 @@ abbrev pub entered_by : (ℕ → Text) → Option ℕ → CExpr → CExpr
 entered_by word None test = test
 entered_by word (Some k) test = c_two Or (c_read (flag_place (with_word word k))) test
 
--- The `if` of a block: its condition is the test of the first node, and its statements are the code of all nodes. The number is that of the flag of the
--- block before, where that leaves its call to this one; the test tells whether this one leaves its call
+-- The `if` of a block. Its condition is the test of the first node, or also the flag of the block before, if that leaves its call to this one: the number
+-- is that of this flag. Its statements are the code of all nodes, without the last call where the test says that this block leaves it
 abbrev pub merged_code : (ℕ → Text) → Option ℕ → Bool → List NodeCode → List CStmt
 merged_code word before leaves [] = []
 merged_code word before leaves (first ∷ rest) = c_if (entered_by word before first.test) (fused_code leaves first rest) None ∷ []

@@ -49,7 +49,7 @@ flag_name k = codes "g" ++ numbered_word k
 abbrev pub mark_name : NumberedWord → Text
 mark_name k = codes "u" ++ numbered_word k
 
--- whether the body of the activity that was called last has ended: one local for all `run`s
+-- whether the body of the activity that was called last has ended: one local for all `run`s of activities that may end
 abbrev pub ended_name : Text
 ended_name = codes "ended"
 

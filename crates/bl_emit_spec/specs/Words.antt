@@ -37,7 +37,7 @@ layer_word site _ = []
 abbrev pub act_word : TypingContext → Stmt → Text
 act_word site s = layer_word site (out-StmtKind (out-Stmt s).what)
 
--- the word of a node; of a `run` the number tells the activity that it calls
+-- the word of a node; of a `run` the number tells the activity that it calls. A node that goes on with a `run`, and a join, have no flag and no mark
 abbrev pub word_of_node : TypingContext → ℕ → Node → Text
 word_of_node site a (ActAt l s) = act_word site s
 word_of_node site a (TestAt l at e) = codes "test"

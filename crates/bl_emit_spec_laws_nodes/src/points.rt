@@ -1,7 +1,7 @@
-//! The C of nodes at which only registers change. Lemmas only (`specs/Points/Laws.antt`). In the middle of a pass,
+//! The C of all nodes but those of a `run`. Lemmas only (`specs/Points/Laws.antt`). In the middle of a pass,
 //! memory represents the changed registers after the C of changes, and all else as before (`ChangesSimulateInPass`). An
-//! `if` by the guard of a block's first node is taken iff the rule of that node is due, or the block before leaves its
-//! call to this one and was taken (`GuardsSimulate`). The C of nodes with changes alone simulates them
+//! `if` by the guard of a block's first node is taken iff the rule of that node is due, or the block before was taken and
+//! leaves its call (`GuardsSimulate`). The C of nodes with changes alone simulates them
 //! (`SilentNodesSimulate`). Rules must use only registers of their activity (`RulesOwn`). Only a `return` may end a body
 //! with a result (`ReturnsEnd`), and an activity must remember what its callees remember (`Remembering`).
 
@@ -22,8 +22,8 @@ pub fn changes_stand()
     registers_apart();
 }
 
-/// An `if` by the guard of a block's first node does what stands in it where the rule of that node is due or the block
-/// before has left its call, and else nothing.
+/// An `if` by the guard of a block's first node does what stands in it iff the rule of that node is due or the block
+/// before has left its call.
 pub fn guards_choose()
     ensures { GuardsSimulate }
 {

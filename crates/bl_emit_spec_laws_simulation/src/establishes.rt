@@ -1,6 +1,6 @@
 //! The precondition of the C call of a `run`. One lemma (`specs/Establishes.antt`, `AllRunsEstablish`). In the middle
 //! of a pass, the call hands over the callee's frame and memory, its inputs, and the places of the outputs, the result
-//! and the end flag. They are apart, and memory represents at them what a pass of the callee begins with. Where an
+//! and, if the callee may end, the end flag. They are apart, and memory represents at them what a pass of the callee begins with. Where an
 //! input traps, so does the call. A premise is that what the arguments name under a `prev` is copied.
 
 ghost use Rattle.bl_emit_spec_laws_simulation.specs.Establishes.{AllRunsEstablish};

@@ -1,7 +1,7 @@
 //! The postcondition of the C call of a `run`. One lemma (`specs/Leaves.antt`, `AllRunsLeave`). Once the callee's C
 //! function has simulated a pass, memory represents the caller again, with the variables, counters and results that the
-//! pass left. Nothing was written that the caller may not write. The locals of the `run` tell whether the callee's body
-//! has ended, and with which result.
+//! pass left. Nothing was written that the caller may not write. If the callee may end, the locals of the `run` tell
+//! whether its body has ended, and with which result.
 
 ghost use Rattle.bl_emit_spec_laws_simulation.specs.Leaves.{AllRunsLeave};
 

@@ -105,8 +105,8 @@ abbrev pub sets_mark : (Node → ℕ) → ℕ → Change → Bool
 sets_mark number k (SetsMark n) = nat_eq k (number n)
 sets_mark number k _ = false
 
--- the registers that the activity's function has: its counters, copies of those that some rule asks for, the flags that the rules of blocks' first nodes
--- ask for, and the marks that rules set, with the words of the activity's nodes, and whether its body has ended, where it may end
+-- The registers that the activity's function has: its counters, copies of those that some rule asks for, the flags of blocks' first nodes, and the marks that
+-- rules set. Flags and marks have the words of their nodes. Where the body may end, a register tells whether it has
 abbrev pub registered : Activity → Registered
 registered a = record {
   counters = λ k. nat_lt k (length a.sizes);

@@ -33,7 +33,8 @@ use Rattle.bl_emit_spec_laws.specs.Calls.Memories.{MemoryEncodes, inner}
 abbrev pub result_at_c : Scope → Location
 result_at_c scope = named_location scope true (codes "r")
 
--- a place is older than the function's call, and apart from its counters, its end flag, if its body may end, and what the pointers for variables lead to
+-- A place is older than the function's call. It is apart from the counters, from what the pointers for variables lead to, and, if the body may end, from the
+-- end flag
 pub record PlaceIsSeparate (site : TypingContext) (may_end : Bool) (scope : Scope) (place : Location) : Type 0 where
   pub older : is_older scope.depth place.root ≡ true
   pub frame : are_apart place (frame_at scope) ≡ true

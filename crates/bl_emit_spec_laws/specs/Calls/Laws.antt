@@ -233,8 +233,8 @@ pub record StartsSimulate (structs : List StructDef) (units : List UnitDef) (ent
       CallIsLeft structs units entry machine activities i unit scope store copies (after_rule (rank_by w activities i) rule true r) here own
       × ((block_done w activities i v other scope own.memory).end ≡ traps)
 
--- An `if` by the guard of a rule, whose node is the first of its block, does what stands in it where the rule is due or the block before has left its call,
--- and else nothing
+-- An `if` by the guard of the rule of a block's first node. It does what stands in it iff the rule is due or the block before has left its call, and else
+-- nothing
 pub record GuardsChoose (structs : List StructDef) (units : List UnitDef) (entry : ℕ) (machine : List InMachine) (activities : Activities) : Type 0 where
   pub enters : (i : ℕ) (unit : UnitDef) (scope : Scope) (frames : Frames) (store : Store) (copies : List Value) (r : Registers) (before : Option ℕ)
       (rule : Transition) (code : List CStmt) (here : Memory) → let w = setting_of structs units entry in
