@@ -11,7 +11,8 @@ use Rattle.bl_crun_code.specs.declared.instruction.Caller.{Caller}
 use Rattle.bl_crun_code.specs.declared.instruction.Operand.{Operand}
 use Rattle.bl_crun_code.specs.declared.instruction.Operand.TheVariants as op
 use Rattle.bl_crun_code.specs.Laws.{entry_state}
-use Rattle.bl_crun_code.specs.Vm.{StepResult, VmState, ahead, args_in, caller_resumed, passing_by, does, done, element, entering, written_if, goes, next_turn, operand_in, stops, trapped}
+use Rattle.bl_crun_code.specs.Vm.{StepResult, VmState, ahead, args_in, caller_resumed, passing_by, does, done, element, entering, written_if, goes, next_turn}
+use Rattle.bl_crun_code.specs.Vm.{operand_in, stops, trapped}
 use Rattle.bl_crun_code.specs.Vm.{with_number}
 
 -- a state with another count
@@ -37,7 +38,8 @@ given-counts : (n : ℕ) (s : VmState) (o : Operand) (answer : Option ℤ) → w
 given-counts n s o None = refl
 given-counts n s o (Some v) = written-counts n (ahead s) o v
 
-chosen-counts : (n : ℕ) (s : VmState) (answer : Option ℤ) (hold fail : ℕ) → passing_by (counting n s) answer hold fail ≡ recounted n (passing_by s answer hold fail)
+chosen-counts : (n : ℕ) (s : VmState) (answer : Option ℤ) (hold fail : ℕ) →
+    passing_by (counting n s) answer hold fail ≡ recounted n (passing_by s answer hold fail)
 chosen-counts n s None hold fail = refl
 chosen-counts n s (Some c) hold fail = refl
 
@@ -48,7 +50,8 @@ choice-counts n false s t = refl
 entering-counts : (n : ℕ) (s : VmState) (callee : Callee) → entering (counting n s) callee ≡ recounted n (entering s callee)
 entering-counts n s callee =
     choice-counts n (nat_lt (length s.callers) s.room)
-    (entry_state (record { entry = callee.entry; frame = callee.frame }) (capped (s.base + callee.passed)) (args_in s.temps callee.first callee.args) s.cells s.temps
+    (entry_state (record { entry = callee.entry; frame = callee.frame }) (capped (s.base + callee.passed))
+    (args_in s.temps callee.first callee.args) s.cells s.temps
     (record { back = s.at + 1; base = s.base; into = callee.into } ∷ s.callers) s.room s.count) s
 
 resumed-counts : (n : ℕ) (s : VmState) (v : ℤ) (callers : List Caller) → caller_resumed (counting n s) v callers ≡ recounted n (caller_resumed s v callers)

@@ -41,7 +41,8 @@ use Rattle.bl_crun_code.specs.declared.instruction.Operand.{Operand}
 use Rattle.bl_crun_code.specs.declared.instruction.Operand.TheVariants as op
 use Rattle.bl_crun_code.specs.Code.{Code}
 use Rattle.bl_crun_code.specs.Laws.{Arrives, entry_state}
-use Rattle.bl_crun_code.specs.Vm.{StepResult, RunsTo, VmState, ahead, args_in, caller_resumed, passing_by, does, done, written_if, goes, last, more, next_turn, vm_step, step_at, stops}
+use Rattle.bl_crun_code.specs.Vm.{StepResult, RunsTo, VmState, ahead, args_in, caller_resumed, passing_by, does, done, written_if, goes, last, more, next_turn}
+use Rattle.bl_crun_code.specs.Vm.{vm_step, step_at, stops}
 use Rattle.bl_crun_code.specs.Vm.{element, operand_in, trapped, with_number}
 use Rattle.bl_crun_code_vm.specs.declared.flow.Flow.{Flow}
 use Rattle.bl_crun_code_vm.specs.declared.flow.Flow.TheVariants as flow
@@ -183,7 +184,8 @@ does-stays s (act.Compare o a b hold fail) = chosen-stays s (compared o (operand
 does-stays s (act.Turn j) = given-stays s (op.Temporary j) (next_turn (cell_at s.temps j))
 does-stays s (act.Call callee) =
     choice-stays (nat_lt (length s.callers) s.room) s
-    (entry_state (record { entry = callee.entry; frame = callee.frame }) (capped (s.base + callee.passed)) (args_in s.temps callee.first callee.args) s.cells s.temps
+    (entry_state (record { entry = callee.entry; frame = callee.frame }) (capped (s.base + callee.passed))
+    (args_in s.temps callee.first callee.args) s.cells s.temps
     (record { back = s.at + 1; base = s.base; into = callee.into } ∷ s.callers) s.room s.count) (refl, refl)
 does-stays s (act.Return a) = resumed-stays s (operand_in s a) s.callers
 does-stays s act.Stop = tt
@@ -244,7 +246,8 @@ record Onward (code : Code) (k : ℕ) (s : VmState) (end : StepResult) (n : VmSt
   runs : RunsTo code rest t end
   shows : n ≡ as_shown t
 
-onward : (code : Code) (k : ℕ) (s : VmState) (end : StepResult) (m n : VmState) → RunsTo code k s end → IsEnd end → Came m (as_result (vm_step code s)) flow.Goes n →
+onward : (code : Code) (k : ℕ) (s : VmState) (end : StepResult) (m n : VmState) → RunsTo code k s end → IsEnd end →
+    Came m (as_result (vm_step code s)) flow.Goes n →
     Onward code k s end n
 onward code _ _ _ m n (last s end e) i c = absurd (no-goes m end n i (subst (λ (x : StepResult). Came m (as_result x) flow.Goes n) e c))
 onward code _ _ _ m n (more k s t end e r) i c =

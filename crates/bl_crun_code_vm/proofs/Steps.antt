@@ -1,5 +1,6 @@
 -- What steps over the parts of a machine do to its state.
-use Rattle.std.proofs.Common.{◌≡◌, ◌≢◌, ℕ, ◌+◌, ◌≤◌, ◌<◌, ℤ, pos, Bool, true, false, List, [], ◌∷◌, length, Option, Some, None, arith, sym, ◌∙◌, ap, subst, refl, length-set, ⊎_elim}
+use Rattle.std.proofs.Common.{◌≡◌, ◌≢◌, ℕ, ◌+◌, ◌≤◌, ◌<◌, ℤ, pos, Bool, true, false, List, [], ◌∷◌, length, Option, Some, None, arith, sym, ◌∙◌, ap, subst}
+use Rattle.std.proofs.Common.{refl, length-set, ⊎_elim}
 use Rattle.std.proofs.lemmas.List.{get_or_past, get_or-set_other, set_past}
 use Rattle.std.proofs.str.Laws.{order}
 use Rattle.std.specs.Prelude.{if◌then◌else◌, nat_lt, option_map, slice_set}
@@ -12,7 +13,8 @@ use Rattle.bl_crun_code.specs.declared.instruction.Callee.{Callee}
 use Rattle.bl_crun_code.specs.declared.instruction.Caller.{Caller}
 use Rattle.bl_crun_code.specs.declared.instruction.Operand.{Operand}
 use Rattle.bl_crun_code.specs.declared.instruction.Operand.TheVariants as op
-use Rattle.bl_crun_code.specs.Vm.{StepResult, VmState, ahead, args_in, caller_resumed, does, done, entering, goes, passing_by, stops, trapped, with_number, written_if}
+use Rattle.bl_crun_code.specs.Vm.{StepResult, VmState, ahead, args_in, caller_resumed, does, done, entering, goes, passing_by, stops, trapped, with_number}
+use Rattle.bl_crun_code.specs.Vm.{written_if}
 use Rattle.bl_crun_code_vm.specs.declared.flow.Flow.{Flow}
 use Rattle.bl_crun_code_vm.specs.declared.flow.Flow.TheVariants as flow
 use Rattle.bl_crun_code_vm.specs.inner.State.{IsReady, PoppedAt, Queue, RegisterState, MovesOn, state_over, state_of, written_cells, written_temps}
@@ -136,7 +138,8 @@ number-parts at base cells temps callers room count (op.Indirect j) n = refl
 number-parts at base cells temps callers room count (op.NearAddress k) n = refl
 number-parts at base cells temps callers room count (op.ThroughAddress p k) n = refl
 
-pub came_back : (r mid last : RegisterState) (cells after : Cells) (temps written : List ℤ) (w left : Queue) (n : ℤ) (first : ℕ) (caller : Caller) (callers : List Caller) →
+pub came_back : (r mid last : RegisterState) (cells after : Cells) (temps written : List ℤ) (w left : Queue) (n : ℤ) (first : ℕ) (caller : Caller)
+    (callers : List Caller) →
     PoppedAt w callers caller left → mid ≡ record { at = caller.back; base = caller.base; first = first; count = r.count } →
     last ≡ record mid { first = last.first } → after ≡ written_cells mid.base cells temps caller.into n → written ≡ written_temps temps caller.into n →
     Came (state_of r cells temps w) (caller_resumed (state_of r cells temps w) n callers) flow.Goes (state_of last after written left)
@@ -144,7 +147,8 @@ came_back r mid last cells after temps written w left n first caller [] h a b c 
 came_back r mid last cells after temps written w left n first caller (k ∷ ks) h a b c d =
     let base : mid.base ≡ caller.base = ap (λ (x : RegisterState). x.base) a in
     let s : VmState = record (state_of r cells temps w) { at = caller.back; base = caller.base; callers = ks } in
-    subst (λ (x : Caller). state_of last after written left ≡ with_number (record (state_of r cells temps w) { at = x.back; base = x.base; callers = ks }) x.into n) h.0
+    subst (λ (x : Caller). state_of last after written left
+    ≡ with_number (record (state_of r cells temps w) { at = x.back; base = x.base; callers = ks }) x.into n) h.0
     (ap (λ (x : RegisterState). state_of x after written left) b
     ∙ ap (λ (x : RegisterState). state_of x after written left) a
     ∙ ap (λ (x : Queue). state_of (record { at = caller.back; base = caller.base; first = 0; count = r.count }) after written x) h.1
@@ -208,7 +212,8 @@ steps_as a b base other cells after temps left e f steps =
     (subst (λ (x : ℕ). MovesOn (λ (s : VmState). does s b) x cells temps after left) f steps)
 
 pub passed_as : (o : Op) (n : Option ℕ) (l r left right a b : ℤ) (hold fail : ℕ) → left ≡ l → right ≡ r → l ≡ a → r ≡ b →
-    n ≡ option_map (λ (c : ℤ). if is_one c then hold else fail) (compared o left right) → n ≡ option_map (λ (c : ℤ). if is_one c then hold else fail) (compared o a b)
+    n ≡ option_map (λ (c : ℤ). if is_one c then hold else fail) (compared o left right) →
+    n ≡ option_map (λ (c : ℤ). if is_one c then hold else fail) (compared o a b)
 passed_as o n l r left right a b hold fail e f g h is =
     is
     ∙ ap (λ (x : ℤ). option_map (λ (c : ℤ). if is_one c then hold else fail) (compared o x right)) (e ∙ g)

@@ -1,4 +1,4 @@
-//! Frequent instructions, which write a number or choose where to go on.
+//! Instructions that write a number or choose where to go on.
 
 ghost use Rattle.std.specs.Prelude.{◌≡◌, ◌+◌, List, ℤ, Some, not, option_map, if◌then◌else◌};
 ghost use Rattle.bl_tree.specs.Numbers.{is_one, number_of};
@@ -39,7 +39,8 @@ fn give_if(
 ) -> Flow
     requires near { IsNear registers.old }
     requires ready { IsReady registers.old cells.old }
-    ensures did { (w : Queue) → Came (state_of registers.old cells.old temps.old w) (written_if (state_of registers.old cells.old temps.old w) into.now answer) result (state_of registers.new cells.new temps.new w) }
+    ensures did { (w : Queue) → Came (state_of registers.old cells.old temps.old w)
+        (written_if (state_of registers.old cells.old temps.old w) into.now answer) result (state_of registers.new cells.new temps.new w) }
     ensures ready { IsReady registers.new cells.new }
 {
     match answer {
@@ -59,7 +60,8 @@ fn give(
 ) -> Flow
     requires near { IsNear registers.old }
     requires ready { IsReady registers.old cells.old }
-    ensures did { (w : Queue) → Came (state_of registers.old cells.old temps.old w) (written_if (state_of registers.old cells.old temps.old w) into.now (Some n)) result (state_of registers.new cells.new temps.new w) }
+    ensures did { (w : Queue) → Came (state_of registers.old cells.old temps.old w)
+        (written_if (state_of registers.old cells.old temps.old w) into.now (Some n)) result (state_of registers.new cells.new temps.new w) }
     ensures ready { IsReady registers.new cells.new }
 {
     write(registers, cells, temps, into, n);
@@ -76,7 +78,8 @@ pub fn write_number(
 ) -> Flow
     requires near { IsNear registers.old }
     requires ready { IsReady registers.old cells.old }
-    ensures did { (w : Queue) → ActDone (act.Move into.now a.now) (state_of registers.old cells.old temps.old w) result (state_of registers.new cells.new temps.new w) }
+    ensures did { (w : Queue) → ActDone (act.Move into.now a.now) (state_of registers.old cells.old temps.old w) result
+        (state_of registers.new cells.new temps.new w) }
     ensures ready { IsReady registers.new cells.new }
 {
     let n = number(registers, cells, temps, a);
@@ -94,7 +97,8 @@ pub fn negate(
 ) -> Flow
     requires near { IsNear registers.old }
     requires ready { IsReady registers.old cells.old }
-    ensures did { (w : Queue) → ActDone (act.Negate into.now a.now) (state_of registers.old cells.old temps.old w) result (state_of registers.new cells.new temps.new w) }
+    ensures did { (w : Queue) → ActDone (act.Negate into.now a.now) (state_of registers.old cells.old temps.old w) result
+        (state_of registers.new cells.new temps.new w) }
     ensures ready { IsReady registers.new cells.new }
 {
     let n = number(registers, cells, temps, a);
@@ -120,7 +124,8 @@ pub fn write_constant(
 ) -> Flow
     requires near { IsNear registers.old }
     requires ready { IsReady registers.old cells.old }
-    ensures did { (w : Queue) → ActDone (act.Constant into.now n) (state_of registers.old cells.old temps.old w) result (state_of registers.new cells.new temps.new w) }
+    ensures did { (w : Queue) → ActDone (act.Constant into.now n) (state_of registers.old cells.old temps.old w) result
+        (state_of registers.new cells.new temps.new w) }
     ensures ready { IsReady registers.new cells.new }
 {
     give(registers, cells, temps, into, n)
@@ -138,7 +143,8 @@ pub fn two(
 ) -> Flow
     requires near { IsNear registers.old }
     requires ready { IsReady registers.old cells.old }
-    ensures did { (w : Queue) → ActDone (act.Two op into.now a.now b.now) (state_of registers.old cells.old temps.old w) result (state_of registers.new cells.new temps.new w) }
+    ensures did { (w : Queue) → ActDone (act.Two op into.now a.now b.now) (state_of registers.old cells.old temps.old w) result
+        (state_of registers.new cells.new temps.new w) }
     ensures ready { IsReady registers.new cells.new }
 {
     let left = number(registers, cells, temps, a);
@@ -158,7 +164,8 @@ pub fn one(
 ) -> Flow
     requires near { IsNear registers.old }
     requires ready { IsReady registers.old cells.old }
-    ensures did { (w : Queue) → ActDone (act.One builtin into.now a.now) (state_of registers.old cells.old temps.old w) result (state_of registers.new cells.new temps.new w) }
+    ensures did { (w : Queue) → ActDone (act.One builtin into.now a.now) (state_of registers.old cells.old temps.old w) result
+        (state_of registers.new cells.new temps.new w) }
     ensures ready { IsReady registers.new cells.new }
 {
     let n = number(registers, cells, temps, a);
@@ -178,7 +185,8 @@ pub fn both(
 ) -> Flow
     requires near { IsNear registers.old }
     requires ready { IsReady registers.old cells.old }
-    ensures did { (w : Queue) → ActDone (act.Both builtin into.now a.now b.now) (state_of registers.old cells.old temps.old w) result (state_of registers.new cells.new temps.new w) }
+    ensures did { (w : Queue) → ActDone (act.Both builtin into.now a.now b.now) (state_of registers.old cells.old temps.old w) result
+        (state_of registers.new cells.new temps.new w) }
     ensures ready { IsReady registers.new cells.new }
 {
     let left = number(registers, cells, temps, a);
@@ -200,7 +208,8 @@ pub fn write_element(
 ) -> Flow
     requires near { IsNear registers.old }
     requires ready { IsReady registers.old cells.old }
-    ensures did { (w : Queue) → ActDone (act.Element j at.now i.now length size) (state_of registers.old cells.old temps.old w) result (state_of registers.new cells.new temps.new w) }
+    ensures did { (w : Queue) → ActDone (act.Element j at.now i.now length size) (state_of registers.old cells.old temps.old w) result
+        (state_of registers.new cells.new temps.new w) }
     ensures ready { IsReady registers.new cells.new }
 {
     let first = number(registers, cells, temps, at);
@@ -239,7 +248,8 @@ fn pass_if(registers: &mut Registers, n: Option<u32>) -> Flow
 #[inline(always)]
 pub fn skip(registers: &mut Registers, n: u32) -> Flow
     requires { IsNear registers.old }
-    ensures did { (cells : Cells) (temps : List ℤ) (w : Queue) → ActDone (act.Skip n) (state_of registers.old cells temps w) result (state_of registers.new cells temps w) }
+    ensures did { (cells : Cells) (temps : List ℤ) (w : Queue) → ActDone (act.Skip n) (state_of registers.old cells temps w) result
+        (state_of registers.new cells temps w) }
     ensures ready { (cells : Cells) → IsReady registers.old cells → IsReady registers.new cells }
 {
     registers.go_to(registers.at() + 1 + n as usize);
@@ -249,7 +259,8 @@ pub fn skip(registers: &mut Registers, n: u32) -> Flow
 /// Goes back so many instructions.
 #[inline(always)]
 pub fn again(registers: &mut Registers, n: u32) -> Flow
-    ensures did { (cells : Cells) (temps : List ℤ) (w : Queue) → ActDone (act.Again n) (state_of registers.old cells temps w) result (state_of registers.new cells temps w) }
+    ensures did { (cells : Cells) (temps : List ℤ) (w : Queue) → ActDone (act.Again n) (state_of registers.old cells temps w) result
+        (state_of registers.new cells temps w) }
     ensures ready { (cells : Cells) → IsReady registers.old cells → IsReady registers.new cells }
 {
     registers.go_to(registers.at().saturating_sub(n as usize));
@@ -267,7 +278,8 @@ pub fn test(
 ) -> Flow
     requires near { IsNear registers.old }
     requires ready { IsReady registers.old cells.now }
-    ensures did { (w : Queue) → ActDone (act.Test a.now yes no) (state_of registers.old cells.now temps.now w) result (state_of registers.new cells.now temps.now w) }
+    ensures did { (w : Queue) → ActDone (act.Test a.now yes no) (state_of registers.old cells.now temps.now w) result
+        (state_of registers.new cells.now temps.now w) }
     ensures ready { IsReady registers.new cells.now }
 {
     let n = number(registers, cells, temps, a);
@@ -288,7 +300,8 @@ pub fn compare(
 ) -> Flow
     requires near { IsNear registers.old }
     requires ready { IsReady registers.old cells.now }
-    ensures did { (w : Queue) → ActDone (act.Compare op a.now b.now yes no) (state_of registers.old cells.now temps.now w) result (state_of registers.new cells.now temps.now w) }
+    ensures did { (w : Queue) → ActDone (act.Compare op a.now b.now yes no) (state_of registers.old cells.now temps.now w) result
+        (state_of registers.new cells.now temps.now w) }
     ensures ready { IsReady registers.new cells.now }
 {
     let left = number(registers, cells, temps, a);

@@ -34,7 +34,7 @@ pub fn first(base: u32, cells: &[i128]) -> u32
     cell(cells::get(cells, base as usize))
 }
 
-/// The same, where it is rare.
+/// The cell that the first cell of a frame tells, for callers that ask it rarely.
 #[cold]
 #[inline(never)]
 pub fn first_again(base: u32, cells: &[i128]) -> u32
@@ -63,7 +63,7 @@ pub fn cell(n: i128) -> u32
     }
 }
 
-/// The same for every number, where it is rare.
+/// The cell that any number tells: the first below 0, and the last above all cells.
 #[cold]
 #[inline(never)]
 fn nearest(n: i128) -> u32

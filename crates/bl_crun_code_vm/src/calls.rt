@@ -25,7 +25,8 @@ pub fn call(
 ) -> Flow
     requires near { IsNear registers.old }
     requires ready { IsReady registers.old cells.old }
-    ensures did { ActDone (act.Call callee.now) (state_of registers.old cells.old temps.now waiting.old) result (state_of registers.new cells.new temps.now waiting.new) }
+    ensures did { ActDone (act.Call callee.now) (state_of registers.old cells.old temps.now waiting.old) result
+        (state_of registers.new cells.new temps.now waiting.new) }
     ensures ready { IsReady registers.new cells.new }
 {
     if waiting.len() >= waiting.room() {
@@ -55,7 +56,8 @@ pub fn end(
     waiting: &mut Waiting,
 ) -> Flow
     requires { IsReady registers.old cells.old }
-    ensures did { ActDone (act.Return a.now) (state_of registers.old cells.old temps.old waiting.old) result (state_of registers.new cells.new temps.new waiting.new) }
+    ensures did { ActDone (act.Return a.now) (state_of registers.old cells.old temps.old waiting.old) result
+        (state_of registers.new cells.new temps.new waiting.new) }
     ensures ready { IsReady registers.new cells.new }
 {
     let answer = number(registers, cells, temps, a);

@@ -15,7 +15,7 @@ pub fn get(cells: &[i128], k: usize) -> i128
     }
 }
 
-/// The same for every cell, where it is rare.
+/// What any cell has, for the rare one behind the last: 0.
 #[cold]
 #[inline(never)]
 fn beyond(cells: &[i128], k: usize) -> i128

@@ -59,7 +59,7 @@ fn any(builtin: Builtin, a: i128) -> Option<i128>
     }
 }
 
-/// The same for two numbers.
+/// What a function of the prelude with two parameters gives for two numbers; none where it traps.
 #[inline(always)]
 pub fn of_two(builtin: Builtin, a: i128, b: i128) -> Option<i128>
     ensures { result ≡ prelude_value builtin (a ∷ b ∷ []) }

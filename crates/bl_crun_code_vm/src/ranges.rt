@@ -15,7 +15,7 @@ pub fn holds(t: Scalar, n: i128) -> bool
     range.low <= n && n <= range.high
 }
 
-/// The same; C has the same range for bits as for nat.
+/// Whether a number is in the range that a type has in C, where a bits type has that of the nat type of its width.
 pub fn holds_in_c(t: Scalar, n: i128) -> bool
     ensures value { result ≡ in_range (in_c t) n }
     ensures fact { IsTrue result ↔ InRange t n }

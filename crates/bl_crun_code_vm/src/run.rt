@@ -113,7 +113,8 @@ fn obey(
 ) -> Flow
     requires near { IsNear registers.old }
     requires ready { IsReady registers.old cells.old }
-    ensures did { Came (state_of registers.old cells.old temps.old waiting.old) (shown_step (state_of registers.old cells.old temps.old waiting.old) (Some instruction.now)) result (state_of registers.new cells.new temps.new waiting.new) }
+    ensures did { Came (state_of registers.old cells.old temps.old waiting.old)
+        (shown_step (state_of registers.old cells.old temps.old waiting.old) (Some instruction.now)) result (state_of registers.new cells.new temps.new waiting.new) }
     ensures ready { IsReady registers.new cells.new }
 {
     registers.add_statements(instruction.statements);

@@ -54,7 +54,7 @@ impl Writer {
         self.write(text)
     }
 
-    /// Writes bytes that go on no token, whatever stands before them.
+    /// Writes bytes that begin a token of their own, whatever stands before them.
     pub fn piece(&mut self, text: &str) -> Result<(), NoMemory>
         requires { IsTrue (is_piece text.now) }
         ensures { OnOk result (self.new ≡ self.old ++ tokens_in text.now) }
@@ -63,7 +63,7 @@ impl Writer {
         Ok(())
     }
 
-    /// Writes one such byte, by fewer instructions than a text of it.
+    /// Writes one byte that begins a token of its own, by fewer instructions than a text of it.
     pub fn byte(&mut self, byte: u8) -> Result<(), NoMemory>
         requires { IsTrue (is_piece (byte ∷ [])) }
         ensures { OnOk result (self.new ≡ self.old ++ tokens_in (byte ∷ [])) }

@@ -30,6 +30,7 @@ use crate::check::declared::declare_structs;
 use crate::check::first::{both, earlier, unless};
 use crate::check::functions::judge_functions;
 use crate::check::interface::{judge_interface, last_place};
+pub use crate::check::stmt::block_returns;
 use crate::check::structs::has_struct;
 use crate::maps::number_of;
 use crate::prelude::Builtins;

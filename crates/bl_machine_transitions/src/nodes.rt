@@ -47,7 +47,7 @@ pub fn put_flagged<'a>(
     )
 }
 
-/// Of one with a test.
+/// Appends the rule of a node with a test, which waits by its flag.
 pub fn put_tested<'a>(
     alloc: Global,
     t: &Table<'_>,
@@ -72,7 +72,7 @@ pub fn put_tested<'a>(
     )
 }
 
-/// Of one that is woken at the number.
+/// Appends the rule of a node that is woken where its counter held the number.
 fn put_woken<'a>(
     alloc: Global,
     t: &Table<'_>,
@@ -97,7 +97,7 @@ fn put_woken<'a>(
     )
 }
 
-/// Of an act.
+/// Appends the rule of an act.
 pub fn put_act<'a>(
     alloc: Global,
     t: &Table<'_>,
@@ -111,7 +111,7 @@ pub fn put_act<'a>(
     put_flagged(alloc, t, k, Task::Act(s), one(alloc, next)?, into)
 }
 
-/// The two rules of what rests at the place with the position.
+/// Appends the two rules of a statement that rests at the place with the position.
 fn put_paused<'a>(
     alloc: Global,
     t: &Table<'_>,
@@ -137,7 +137,7 @@ fn put_paused<'a>(
     put_woken(alloc, t, after(k, 1)?, slot, second, next, into)
 }
 
-/// Of an `await`.
+/// Appends the rules of an `await`.
 pub fn put_await<'a>(
     alloc: Global,
     t: &Table<'_>,
@@ -154,7 +154,7 @@ pub fn put_await<'a>(
     put_paused(alloc, t, pause, Task::Test(e), k, p, next, into)
 }
 
-/// Of a `run`.
+/// Appends the rules of a `run`.
 pub fn put_run<'a>(
     alloc: Global,
     t: &Table<'_>,
@@ -190,7 +190,7 @@ pub fn put_run<'a>(
     )
 }
 
-/// Of the check of a `when`.
+/// Appends the rule of the check of a `when`.
 fn put_looked<'a>(
     alloc: Global,
     t: &Table<'_>,
@@ -217,7 +217,7 @@ fn put_looked<'a>(
     )
 }
 
-/// Of the node by which a `when` that may end at once does, where the test is true.
+/// Appends the rule of the node by which a `when` ends in its first tick, where the test is true.
 fn put_where<'a>(
     alloc: Global,
     t: &Table<'_>,
@@ -243,7 +243,7 @@ pub fn later(instant: bool) -> u32
     if instant { 2 } else { 1 }
 }
 
-/// How far behind it stands the one by which it ends in a later tick.
+/// How far behind the first node of a construct the one stands by which it ends in a later tick.
 fn last(instant: bool) -> u32
     ensures { result ≡ last instant }
 {
@@ -273,7 +273,7 @@ fn begun(
     }
 }
 
-/// Of the nodes of a `when`, whose body may be empty and rests at these numbers.
+/// Appends the rules of a `when`, whose body may be empty and rests at these numbers.
 pub fn put_watched<'a>(
     alloc: Global,
     t: &Table<'_>,
@@ -305,7 +305,7 @@ pub fn put_watched<'a>(
     put_flagged(alloc, t, ending, end, one(alloc, next)?, into)
 }
 
-/// Of the nodes of a loop with its test at the end.
+/// Appends the rules of the two nodes of a loop with its test at the end.
 pub fn put_turned<'a>(
     alloc: Global,
     t: &Table<'_>,

@@ -10,7 +10,7 @@ use bl_machine::Slot;
 use bl_tree::tree::{Arm, Branch, Stmt, StmtKind};
 use bl_tree::{List, NoMemory};
 
-/// Appends those of a statement whose first resting place has the position, and tells the position behind its last one.
+/// Appends the numbers of a statement's resting places, the first of which has the position, and answers the position behind the last one.
 #[cycle(resting)]
 fn in_statement(t: &Table<'_>, s: &Stmt, p: u32, into: &mut List<Slot>) -> Result<u32, NoMemory>
     ensures next { IfOk result (λ next. next ≡ p + (part s.now).size.places) }
@@ -42,7 +42,7 @@ fn in_statement(t: &Table<'_>, s: &Stmt, p: u32, into: &mut List<Slot>) -> Resul
     }
 }
 
-/// The same of a block.
+/// Appends the numbers of a block's resting places, and answers the position behind the last one.
 #[cycle(resting)]
 pub fn in_block(
     t: &Table<'_>,
@@ -61,7 +61,7 @@ pub fn in_block(
     Ok(at)
 }
 
-/// Of the arms of an `if`.
+/// Appends the numbers of the resting places in the arms of an `if`.
 #[cycle(resting)]
 fn in_arms(t: &Table<'_>, arms: &[Arm], p: u32, into: &mut List<Slot>) -> Result<u32, NoMemory>
     ensures { IfOk result (λ next. ArmsRest (layout_in t.now) (map arm_part arms.now) p next into.old into.new) }
@@ -74,7 +74,7 @@ fn in_arms(t: &Table<'_>, arms: &[Arm], p: u32, into: &mut List<Slot>) -> Result
     Ok(at)
 }
 
-/// Of a `cobegin` the first branch tells it.
+/// Appends the numbers by which a `cobegin` is seen to rest: its own, and those of its first branch.
 #[cycle(resting)]
 fn in_branches(
     t: &Table<'_>,

@@ -53,7 +53,7 @@ pub fn in_block<'a>(
     Ok(())
 }
 
-/// Of a statement.
+/// Appends the rules of a statement.
 #[cycle(listing)]
 fn in_statement<'a>(
     alloc: Global,
@@ -97,7 +97,7 @@ fn in_statement<'a>(
     }
 }
 
-/// Of the arms of an `if`, where it is told whether its `else` part is empty; tells where the nodes and the places behind them stand.
+/// Appends the rules of the arms of an `if`, whose `else` part may be empty, and answers the positions of the node and the place behind them.
 #[cycle(listing)]
 fn in_arms<'a>(
     alloc: Global,
@@ -133,7 +133,7 @@ fn in_arms<'a>(
     Ok((node, place))
 }
 
-/// Of a `cobegin`.
+/// Appends the rules of a `cobegin`.
 #[cycle(listing)]
 fn in_cobegin<'a>(
     alloc: Global,
@@ -157,7 +157,7 @@ fn in_cobegin<'a>(
     in_branches(alloc, t, branches, inner, p, into)
 }
 
-/// Of the branches of a `cobegin`.
+/// Appends the rules of the branches of a `cobegin`.
 #[cycle(listing)]
 fn in_branches<'a>(
     alloc: Global,
@@ -184,7 +184,7 @@ fn in_branches<'a>(
     Ok(())
 }
 
-/// Of a `when`.
+/// Appends the rules of a `when`.
 #[cycle(listing)]
 fn in_guarded<'a>(
     alloc: Global,
@@ -210,7 +210,7 @@ fn in_guarded<'a>(
     in_block(alloc, t, body, inner, p, ends, into)
 }
 
-/// Of a loop without end.
+/// Appends the rules of a loop without end.
 #[cycle(listing)]
 fn in_endless<'a>(
     alloc: Global,
@@ -231,7 +231,7 @@ fn in_endless<'a>(
     in_block(alloc, t, body, inner, p, again, into)
 }
 
-/// Of a loop with its test at the end.
+/// Appends the rules of a loop with its test at the end.
 #[cycle(listing)]
 fn in_until<'a>(
     alloc: Global,
@@ -251,7 +251,7 @@ fn in_until<'a>(
     in_block(alloc, t, body, after(k, 2)?, p, test, into)
 }
 
-/// Of a loop with its test at the start.
+/// Appends the rules of a loop with its test at the start.
 #[cycle(listing)]
 fn in_while<'a>(
     alloc: Global,

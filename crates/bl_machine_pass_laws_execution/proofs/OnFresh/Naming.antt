@@ -42,9 +42,6 @@ use Rattle.bl_tree.specs.Within.{
   StandsIn,
   place_of,
 }
-use Rattle.bl_tree.proofs.StmtInduction.{
-  induct,
-}
 use Rattle.bl_effects.proofs.EntryLemmas.{same_place_is}
 use Rattle.bl_ctree.specs.declared.instance.Instance.{Instance}
 use Rattle.bl_ctree.specs.declared.instance.Origin.{Origin}

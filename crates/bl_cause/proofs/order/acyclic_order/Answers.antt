@@ -1,4 +1,3 @@
-use Rattle.std.proofs.Common.{subst, sym}
 use Rattle.bl_cause.proofs.RankLemmas.{ranks_seen}
 use Rattle.bl_cause.proofs.order.acyclic_order.Goals as goal
 

@@ -18,5 +18,6 @@ returns c =
           c.number-left.ensures c.number-right.ensures c.passed-passed.ensures)
           c.pass_if.ensures;
       ready =
-          ready_passing c.args.registers.now c.pass_if.new.registers c.args.cells.now c.passed-passed.result c.pass_if.result c.requires.ready c.pass_if.ensures;
+          ready_passing c.args.registers.now c.pass_if.new.registers c.args.cells.now c.passed-passed.result
+          c.pass_if.result c.requires.ready c.pass_if.ensures;
     }

@@ -18,5 +18,6 @@ returns c = record {
       ))
       c.pass_if.ensures;
   ready =
-      ready_passing c.args.registers.now c.pass_if.new.registers c.args.cells.now (Some c.chosen-passed.result) c.pass_if.result c.requires.ready c.pass_if.ensures;
+      ready_passing c.args.registers.now c.pass_if.new.registers c.args.cells.now (Some c.chosen-passed.result)
+      c.pass_if.result c.requires.ready c.pass_if.ensures;
 }

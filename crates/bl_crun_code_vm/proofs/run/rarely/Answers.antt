@@ -24,6 +24,7 @@ returns c =
             few = c.write_rare.ensures.few;
             first_is =
                 ap (λ (x : RegisterState). x.first) c.lead_to.ensures ∙ c.first-first.ensures
-                ∙ ap (λ (k : ℕ). cell_number (cell_at c.write_rare.new.cells k)) (c.base-base.ensures ∙ sym (ap (λ (x : RegisterState). x.base) c.lead_to.ensures));
+                ∙ ap (λ (k : ℕ). cell_number (cell_at c.write_rare.new.cells k))
+                (c.base-base.ensures ∙ sym (ap (λ (x : RegisterState). x.base) c.lead_to.ensures));
           });
     }
