@@ -1,14 +1,15 @@
 -- The C expressions of expressions, and the C places of paths.
-use Rattle.std.specs.Prelude.{ℕ, pos, Bool, true, false, ◌&&◌, ◌||◌, List, [], ◌∷◌, ◌++◌, map, Option, Some, None}
-use Rattle.std.specs.Prelude.{codes, option_and_then, option_map, slice_get, unwrap_or, if◌then◌else◌}
+use Rattle.std.specs.Prelude.{ℕ, ℤ, pos, Bool, true, false, ◌&&◌, ◌||◌, List, [], ◌∷◌, ◌++◌, map, Option, Some, None}
+use Rattle.std.specs.Prelude.{bytes_eq, codes, is_none, option_and_then, option_map, slice_get, unwrap_or, if◌then◌else◌}
+use Rattle.std.specs.Ordering.{int_eq}
 use Rattle.bl_tree.specs.declared.text.Text.{Text}
 use Rattle.bl_tree.specs.declared.c.CArg.{CArg}
 use Rattle.bl_tree.specs.declared.c.CArg.TheVariants.{Value, Address}
 use Rattle.bl_tree.specs.declared.c.CExpr.{CExpr, out-CExpr}
 use Rattle.bl_tree.specs.declared.c.CExprKind.{out-CExprKind}
 use Rattle.bl_tree.specs.declared.c.CArg.TheOpen.{CExprKind-F}
-use Rattle.bl_tree.specs.declared.c.CPlace.{CPlace}
-use Rattle.bl_tree.specs.declared.c.CStep.{CStep}
+use Rattle.bl_tree.specs.declared.c.CPlace.{CPlace, out-CPlace}
+use Rattle.bl_tree.specs.declared.c.CStep.{CStep, out-CStep}
 use Rattle.bl_tree.specs.declared.scalar.Op.{Op}
 use Rattle.bl_tree.specs.declared.scalar.Op.TheVariants.{
   Add,
@@ -45,7 +46,7 @@ use Rattle.bl_tree.specs.declared.tree.Ty.{Ty, out-Ty}
 use Rattle.bl_tree.specs.declared.tree.Ty.TheOpen.{Ty-F}
 use Rattle.bl_tree.specs.declared.tree.Unit.{Unit as UnitDef}
 use Rattle.bl_tree.specs.declared.tree.Var.{Var}
-use Rattle.bl_tree.specs.Scalar.{is_int}
+use Rattle.bl_tree.specs.Scalar.{high_of, is_int, low_of}
 use Rattle.bl_tree.specs.Types.{scalar_in}
 use Rattle.bl_tree.specs.Typing.{TypingContext, element_in, var_at}
 use Rattle.bl_emit_acts.specs.declared.made.Made.{Made}
@@ -107,8 +108,7 @@ cast_word false = codes "of_u"
 abbrev pub c_cast : ScalarType → ScalarType → CExpr → CExpr
 c_cast from to code = c_called (function_name (cast_word (is_int from)) to) (Value code ∷ [])
 
--- the expression in a form whose value a compiler can't tell: in `&& true`, or in a cast to its own type. Compilers warn of comparisons with constants and of
--- like sides
+-- the expression in a form whose value a compiler can't tell: in `&& true`, or in a cast to its own type. Compilers warn of comparisons that have one answer
 abbrev pub hidden : ScalarType → CExpr → CExpr
 hidden OfBool code = c_two And code (c_literal OfBool (pos 1))
 hidden s code = c_cast s s code
@@ -118,26 +118,70 @@ abbrev pub is_literal_kind : {A B C D E F G : Type 0} → CExprKind-F A B C D E 
 is_literal_kind (CExprKind-F.Literal s n) = true
 is_literal_kind _ = false
 
--- whether a kind of expression reads a place
-abbrev pub is_read_kind : {A B C D E F G : Type 0} → CExprKind-F A B C D E F G → Bool
-is_read_kind (CExprKind-F.Read place) = true
-is_read_kind _ = false
-
 -- whether an expression is a constant
 abbrev pub is_constant : CExpr → Bool
 is_constant code = is_literal_kind (out-CExprKind (out-CExpr code).what)
 
--- whether an expression reads a place
-abbrev pub is_read : CExpr → Bool
-is_read code = is_read_kind (out-CExprKind (out-CExpr code).what)
+-- whether all numbers of a type, on the left of the operator, compare with this one alike
+abbrev pub compares_alike : Op → ScalarType → ℤ → Bool
+compares_alike Lt t n = int_eq n (low_of t)
+compares_alike Ge t n = int_eq n (low_of t)
+compares_alike Gt t n = int_eq n (high_of t)
+compares_alike Le t n = int_eq n (high_of t)
+compares_alike _ t n = false
+
+-- whether a kind of expression is a constant with which all numbers of its type compare alike
+abbrev pub kind_compares_alike : {A B C D E F G : Type 0} → Op → CExprKind-F A B C D E F G → Bool
+kind_compares_alike op (CExprKind-F.Literal t n) = compares_alike op t n
+kind_compares_alike op _ = false
+
+-- whether all numbers, on the left of the operator, compare with the expression alike, since that is a constant at an end of its type
+abbrev pub is_decided : Op → CExpr → Bool
+is_decided op code = kind_compares_alike op (out-CExprKind (out-CExpr code).what)
+
+-- the operator that compares with its sides exchanged
+abbrev pub mirrored : Op → Op
+mirrored Lt = Gt
+mirrored Le = Ge
+mirrored Gt = Lt
+mirrored Ge = Le
+mirrored op = op
+
+-- whether two steps lead to the same member, which is no array
+abbrev pub same_step : CStep → CStep → Bool
+same_step p q =
+    bytes_eq (out-CStep p).member (out-CStep q).member && (is_none (out-CStep p).index && is_none (out-CStep q).index)
+
+-- whether steps lead to the same member, through no array
+abbrev pub same_steps : List CStep → List CStep → Bool
+same_steps [] [] = true
+same_steps (p ∷ ps) (q ∷ qs) = same_step p q && same_steps ps qs
+same_steps _ _ = false
+
+-- whether two places have one name and the same steps, through no array
+abbrev pub same_written : CPlace → CPlace → Bool
+same_written p q = bytes_eq (out-CPlace p).name (out-CPlace q).name && same_steps (out-CPlace p).steps (out-CPlace q).steps
+
+-- whether two kinds of expressions read places that are written alike
+abbrev pub same_kinds : {A B C D E F : Type 0} → CExprKind-F A B C D E CPlace F → CExprKind-F A B C D E CPlace F → Bool
+same_kinds (CExprKind-F.Read p) (CExprKind-F.Read q) = same_written p q
+same_kinds _ _ = false
+
+-- whether two expressions read places that are written alike
+abbrev pub same_read : CExpr → CExpr → Bool
+same_read a b = same_kinds (out-CExprKind (out-CExpr a).what) (out-CExprKind (out-CExpr b).what)
 
 -- a side of a comparison, hidden or as it is
 abbrev pub side : Bool → ScalarType → CExpr → CExpr
 side hides s code = if hides then hidden s code else code
 
--- a comparison of two numbers of a type
+-- whether the right side of a comparison is hidden: all compare with it alike, or both sides are constants, or both are written alike
+abbrev pub hides_right : Op → CExpr → CExpr → Bool
+hides_right op a b = is_decided op b || ((is_constant a && is_constant b) || same_read a b)
+
+-- a comparison of two numbers of a type. What compilers can tell from its text is hidden
 abbrev pub c_compare : Op → ScalarType → CExpr → CExpr → CExpr
-c_compare op s a b = c_two op (side (is_constant a) s a) (side (is_constant b || (is_read a && is_read b)) s b)
+c_compare op s a b = c_two op (side (is_decided (mirrored op) a) s a) (side (hides_right op a b) s b)
 
 -- an operator by the prelude's function of its name
 abbrev pub c_function : Op → ScalarType → List CArg → Made

@@ -3,6 +3,7 @@
 ghost use Rattle.std.specs.Prelude.{◌≡◌, Some, IfOk, slice_get};
 ghost use Rattle.bl_emit_acts.specs.Expressions as expressions;
 
+use crate::decided::{hides_right, is_decided, mirrored};
 use crate::made::Made;
 use crate::parts::{called, literal, negated, prefixed, read, single, two};
 use crate::site::UnitSite;
@@ -100,26 +101,14 @@ pub fn cast(alloc: Global, from: Scalar, to: Scalar, code: CExpr) -> Result<CExp
     Ok(called(name, single(alloc, CArg::Value(code))?))
 }
 
-/// A side of a comparison, which a compiler can't see through.
-fn hidden(alloc: Global, s: Scalar, code: CExpr) -> Result<CExpr, NoMemory>
+/// The expression in a form whose value a compiler can't tell. Fails only for want of memory.
+pub fn hidden(alloc: Global, s: Scalar, code: CExpr) -> Result<CExpr, NoMemory>
     ensures { IfOk result (λ e. e ≡ expressions.hidden s code) }
 {
     match s {
         Scalar::Bool => two(alloc, Op::And, code, literal(Scalar::Bool, 1)),
         _ => cast(alloc, s, s, code),
     }
-}
-
-fn is_constant(code: &CExpr) -> bool
-    ensures { result ≡ expressions.is_constant code.now }
-{
-    matches!(&code.what, CExprKind::Literal(_, _))
-}
-
-fn is_read(code: &CExpr) -> bool
-    ensures { result ≡ expressions.is_read code.now }
-{
-    matches!(&code.what, CExprKind::Read(_))
 }
 
 fn side(alloc: Global, hides: bool, s: Scalar, code: CExpr) -> Result<CExpr, NoMemory>
@@ -136,10 +125,10 @@ fn side(alloc: Global, hides: bool, s: Scalar, code: CExpr) -> Result<CExpr, NoM
 fn compare(alloc: Global, op: Op, s: Scalar, a: CExpr, b: CExpr) -> Result<CExpr, NoMemory>
     ensures { IfOk result (λ e. e ≡ expressions.c_compare op s a b) }
 {
-    let hides_left = is_constant(&a);
-    let hides_right = is_constant(&b) || (is_read(&a) && is_read(&b));
-    let left = side(alloc, hides_left, s, a)?;
-    let right = side(alloc, hides_right, s, b)?;
+    let left_hides = is_decided(mirrored(op), &a);
+    let right_hides = hides_right(op, &a, &b);
+    let left = side(alloc, left_hides, s, a)?;
+    let right = side(alloc, right_hides, s, b)?;
     two(alloc, op, left, right)
 }
 

@@ -1,5 +1,5 @@
 -- What is made of operators shows what they give.
-use Rattle.std.proofs.Common.{◌≡◌, ℤ, pos, Bool, true, false, ◌&&◌, ◌||◌, List, [], ◌∷◌, Option, Some, refl, sym, ap, ap₂}
+use Rattle.std.proofs.Common.{◌≡◌, ℤ, pos, Bool, true, false, List, [], ◌∷◌, Option, Some, refl, sym, ap, ap₂}
 use Rattle.std.proofs.Common.{◌∙◌, subst, IfSome}
 use Rattle.std.proofs.lemmas.Option.{same_Some}
 use Rattle.std.specs.Prelude.{option_and_then, if◌then◌else◌}
@@ -45,8 +45,8 @@ use Rattle.bl_ctext_semantics.specs.Memory.{CValue, Memory}
 use Rattle.bl_ctext_semantics.specs.Meaning.{Counted, Scope}
 use Rattle.bl_emit_acts.specs.declared.made.Made.{Made}
 use Rattle.bl_emit_acts.specs.declared.made.Made.TheVariants.{Number, Whole}
-use Rattle.bl_emit_acts.specs.Expressions.{c_both, c_cast, c_function, c_one, cast_word, code_of, function_name, hidden, is_constant, is_read, operator_word}
-use Rattle.bl_emit_acts.specs.Expressions.{side, type_made}
+use Rattle.bl_emit_acts.specs.Expressions.{c_both, c_cast, c_compare, c_function, c_one, cast_word, code_of, function_name, hidden, hides_right, is_decided}
+use Rattle.bl_emit_acts.specs.Expressions.{mirrored, operator_word, side, type_made}
 use Rattle.bl_emit_acts.specs.Trees.{c_literal, c_two}
 use Rattle.bl_emit_acts_laws_simulation.specs.Simulation.{ExpressionSimulates}
 use Rattle.bl_emit_acts_laws_simulation.proofs.Evaluated.{literal-value}
@@ -138,7 +138,7 @@ module _ (structs : List StructDef) (scope : Scope) (here : Memory) where
   literal_one : gives_of (c_literal OfBool (pos 1)) ≡ Some (pos 1)
   literal_one = ap (λ (c : Counted CValue). num c.answer) (literal-value scope here OfBool (pos 1))
 
-  hidden_same : (s : ScalarType) (code : CExpr) (datum : Option Datum) → Known s (gives_of code) datum → gives_of (hidden s code) ≡ gives_of code
+  pub hidden_same : (s : ScalarType) (code : CExpr) (datum : Option Datum) → Known s (gives_of code) datum → gives_of (hidden s code) ≡ gives_of code
   hidden_same OfBool code datum known =
       and-number scope here code (c_literal OfBool (pos 1))
       ∙ (ap (λ y. option_and_then (λ x. if is_one x then y else Some (pos 0)) (gives_of code)) literal_one
@@ -169,17 +169,22 @@ module _ (structs : List StructDef) (scope : Scope) (here : Memory) where
           looks,
     )
 
-    compared : (op : Op) (left right : Bool) →
-        ((e f : CExpr) → gives_of (c_two op e f) ≡ option_and_then (λ x. option_and_then (checked_of op OfBool x) (gives_of f)) (gives_of e)) →
-        gives_of (c_two op (side left s a) (side right s b))
-        ≡ option_and_then (λ x. option_and_then (checked_of op OfBool x) (gives_of b)) (gives_of a)
-    compared op left right compares =
-        compares (side left s a) (side right s b)
-        ∙ ap₂ (λ x y. option_and_then (λ x. option_and_then (checked_of op OfBool x) y) x) (side_same left s a first known)
-        (side_same right s b second other)
+    compare_shows : (op : Op) (ty : Ty) → takes_two op s ≡ true → ((n : ℤ) → decides op n ≡ false) →
+        ((e f : CExpr) → gives_of (c_two op e f) ≡ option_and_then (λ x. option_and_then (checked_of op s x) (gives_of f)) (gives_of e)) →
+        ty ≡ scalar OfBool → shows ty (Number OfBool (c_compare op s a b)) (means op)
+    compare_shows op ty takes looks compares is = (
+      scalar_type ty OfBool is,
+      compares (side left s a) (side right s b)
+          ∙ (ap₂ (λ x y. option_and_then (λ x. option_and_then (checked_of op s x) y) x) (side_same left s a first known)
+          (side_same right s b second other)
+          ∙ two_known op s (gives_of a) (gives_of b) first second known other takes looks),
+    )
+      where
+        left : Bool
+        left = is_decided (mirrored op) a
 
-    abbrev right_hides : Bool
-    right_hides = is_constant b || (is_read a && is_read b)
+        right : Bool
+        right = hides_right op a b
 
     pub both_shows : (op : Op) (ty : Ty) → takes_two op s ≡ true → ty ≡ scalar (type_of_result op s) → shows ty (c_both op s a b) (means op)
     both_shows Add ty takes is = function_shows Add ty takes (λ n. refl) (add_function s takes) is
@@ -192,36 +197,12 @@ module _ (structs : List StructDef) (scope : Scope) (here : Memory) where
     both_shows BitXor ty takes is = function_shows BitXor ty takes (λ n. refl) (xor_function s takes) is
     both_shows Shl ty takes is = function_shows Shl ty takes (λ n. refl) (shl_function s takes) is
     both_shows Shr ty takes is = function_shows Shr ty takes (λ n. refl) (shr_function s takes) is
-    both_shows Eq ty takes is = (
-      scalar_type ty OfBool is,
-      compared Eq (is_constant a) right_hides (λ e f. compare-number scope here Eq e f (λ l r. refl))
-          ∙ two_known Eq s (gives_of a) (gives_of b) first second known other takes (λ n. refl),
-    )
-    both_shows Ne ty takes is = (
-      scalar_type ty OfBool is,
-      compared Ne (is_constant a) right_hides (λ e f. compare-number scope here Ne e f (λ l r. refl))
-          ∙ two_known Ne s (gives_of a) (gives_of b) first second known other takes (λ n. refl),
-    )
-    both_shows Lt ty takes is = (
-      scalar_type ty OfBool is,
-      compared Lt (is_constant a) right_hides (λ e f. compare-number scope here Lt e f (λ l r. refl))
-          ∙ two_known Lt s (gives_of a) (gives_of b) first second known other takes (λ n. refl),
-    )
-    both_shows Le ty takes is = (
-      scalar_type ty OfBool is,
-      compared Le (is_constant a) right_hides (λ e f. compare-number scope here Le e f (λ l r. refl))
-          ∙ two_known Le s (gives_of a) (gives_of b) first second known other takes (λ n. refl),
-    )
-    both_shows Gt ty takes is = (
-      scalar_type ty OfBool is,
-      compared Gt (is_constant a) right_hides (λ e f. compare-number scope here Gt e f (λ l r. refl))
-          ∙ two_known Gt s (gives_of a) (gives_of b) first second known other takes (λ n. refl),
-    )
-    both_shows Ge ty takes is = (
-      scalar_type ty OfBool is,
-      compared Ge (is_constant a) right_hides (λ e f. compare-number scope here Ge e f (λ l r. refl))
-          ∙ two_known Ge s (gives_of a) (gives_of b) first second known other takes (λ n. refl),
-    )
+    both_shows Eq ty takes is = compare_shows Eq ty takes (λ n. refl) (λ e f. compare-number scope here Eq e f (λ l r. refl)) is
+    both_shows Ne ty takes is = compare_shows Ne ty takes (λ n. refl) (λ e f. compare-number scope here Ne e f (λ l r. refl)) is
+    both_shows Lt ty takes is = compare_shows Lt ty takes (λ n. refl) (λ e f. compare-number scope here Lt e f (λ l r. refl)) is
+    both_shows Le ty takes is = compare_shows Le ty takes (λ n. refl) (λ e f. compare-number scope here Le e f (λ l r. refl)) is
+    both_shows Gt ty takes is = compare_shows Gt ty takes (λ n. refl) (λ e f. compare-number scope here Gt e f (λ l r. refl)) is
+    both_shows Ge ty takes is = compare_shows Ge ty takes (λ n. refl) (λ e f. compare-number scope here Ge e f (λ l r. refl)) is
     both_shows And ty takes is = (
       scalar_type ty OfBool is,
       and-number scope here a b

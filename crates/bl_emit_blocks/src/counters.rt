@@ -1,20 +1,21 @@
 //! Numbers of counters, and comparisons of what counters held.
 
-ghost use Rattle.std.specs.Prelude.{◌≡◌, pos, false, IfOk};
+ghost use Rattle.std.specs.Prelude.{◌≡◌, IfOk};
 ghost use Rattle.bl_tree.specs.declared.scalar.Scalar.TheVariants.{Nat};
-ghost use Rattle.bl_emit_acts.specs.Expressions.{c_cast, c_compare, cast_word, function_name};
-ghost use Rattle.bl_emit_acts.specs.Trees.{c_literal, c_read};
+ghost use Rattle.bl_emit_acts.specs.Trees.{c_read, c_two};
 ghost use Rattle.bl_emit_blocks.specs.Views.{view_in};
 ghost use Rattle.bl_emit_spec.specs.Blocks as blocks;
+ghost use Rattle.bl_emit_spec.specs.Names.{rested_place};
 
 use crate::places::{counter, rested};
 use crate::view::ActivityView;
-use bl_emit_acts::parts::{called, literal, read, single, two};
+use bl_emit_acts::hidden;
+use bl_emit_acts::parts::{literal, read, two};
 use bl_emit_functions::parts::truth;
 use bl_machine::Slot;
-use bl_tree::c::{CArg, CExpr, CPlace};
+use bl_tree::c::CExpr;
 use bl_tree::slices::element;
-use bl_tree::{NoMemory, Op, Scalar, Text, Width};
+use bl_tree::{NoMemory, Op, Scalar, Width};
 use std::alloc::Global;
 
 /// The width of the narrowest unsigned type for a counter of so many values beside 0.
@@ -69,15 +70,21 @@ fn is_greatest(view: &ActivityView, k: u32, v: u32) -> bool
     greatest_value(view, k) <= v
 }
 
+/// A comparison of what a counter held when the tick began with a value.
+fn compared(alloc: Global, view: &ActivityView, op: Op, k: u32, v: u32) -> Result<CExpr, NoMemory>
+    ensures { IfOk result (λ e. e ≡ c_two op (c_read (rested_place k)) (blocks.counter_value (view_in view.entry.now).sizes k v)) }
+{
+    two(alloc, op, read(rested(alloc, k)?), value_of(view, k, v))
+}
+
 /// Whether the counter held the value or one above it when the tick began; of 1, whether it didn't hold 0.
 fn rested_since(alloc: Global, view: &ActivityView, k: u32, least: u32) -> Result<CExpr, NoMemory>
     ensures { IfOk result (λ e. e ≡ blocks.rested_since (view_in view.entry.now) k least) }
 {
-    let at = read(rested(alloc, k)?);
     if least == 1 {
-        two(alloc, Op::Ne, at, value_of(view, k, 0))
+        compared(alloc, view, Op::Ne, k, 0)
     } else {
-        two(alloc, Op::Ge, at, value_of(view, k, least))
+        compared(alloc, view, Op::Ge, k, least)
     }
 }
 
@@ -88,38 +95,8 @@ pub fn rested_at(alloc: Global, view: &ActivityView, slot: Slot) -> Result<CExpr
     if is_greatest(view, slot.counter, slot.value) {
         rested_since(alloc, view, slot.counter, slot.value)
     } else {
-        let at = read(rested(alloc, slot.counter)?);
-        two(alloc, Op::Eq, at, value_of(view, slot.counter, slot.value))
+        compared(alloc, view, Op::Eq, slot.counter, slot.value)
     }
-}
-
-/// The name of the prelude's function that makes a number of an unsigned type one of this type.
-fn cast_name(width: Width) -> &'static str
-    ensures { result.now ≡ function_name (cast_word false) (Nat width) }
-{
-    match width {
-        Width::W8 => "bl_of_u_n8",
-        Width::W16 => "bl_of_u_n16",
-        Width::W32 => "bl_of_u_n32",
-        Width::W64 => "bl_of_u_n64",
-    }
-}
-
-/// A number, in a cast to its own type.
-fn cast(alloc: Global, width: Width, code: CExpr) -> Result<CExpr, NoMemory>
-    ensures { IfOk result (λ e. e ≡ c_cast (Nat width) (Nat width) code) }
-{
-    let args = single(alloc, CArg::Value(code))?;
-    let name = Text::copy_of(alloc, cast_name(width))?;
-    Ok(called(name, args))
-}
-
-/// A comparison of what stands at a place with a number, which a compiler can't see through.
-fn compared(alloc: Global, op: Op, width: Width, at: CPlace, v: u32) -> Result<CExpr, NoMemory>
-    ensures { IfOk result (λ e. e ≡ c_compare op (Nat width) (c_read at) (c_literal (Nat width) (pos v))) }
-{
-    let number = cast(alloc, width, literal(Scalar::Nat(width), v as i128))?;
-    two(alloc, op, read(at), number)
 }
 
 /// Whether the counter held one of the values from the first to the last.
@@ -132,9 +109,10 @@ fn rested_between(
 ) -> Result<CExpr, NoMemory>
     ensures { IfOk result (λ e. e ≡ blocks.rested_between (view_in view.entry.now) k least greatest) }
 {
-    let width = width_of(view, k);
-    let from = compared(alloc, Op::Ge, width, rested(alloc, k)?, least)?;
-    let to = compared(alloc, Op::Le, width, rested(alloc, k)?, greatest)?;
+    let from = compared(alloc, view, Op::Ge, k, least)?;
+    let of = Scalar::Nat(width_of(view, k));
+    let last = hidden(alloc, of, value_of(view, k, greatest))?;
+    let to = two(alloc, Op::Le, read(rested(alloc, k)?), last)?;
     two(alloc, Op::And, from, to)
 }
 

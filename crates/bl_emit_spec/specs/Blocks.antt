@@ -25,7 +25,7 @@ use Rattle.bl_tree.specs.Typing.{TypingContext}
 use Rattle.bl_graph_nodes.specs.Nodes.{ActAt, Arguments, CheckAt, EnterAt, Node, ResumeAt, TestAt}
 use Rattle.bl_machine.specs.declared.slots.Slot.{Slot}
 use Rattle.bl_emit_acts.specs.Acts.{act_code, c_calling, c_clear, c_set, call_args, code_made, name_of_callee}
-use Rattle.bl_emit_acts.specs.Expressions.{c_compare, stands}
+use Rattle.bl_emit_acts.specs.Expressions.{hidden, stands}
 use Rattle.bl_emit_acts.specs.Trees.{c_call, c_literal, c_not, c_read, c_two}
 use Rattle.bl_emit_functions.specs.Statements.{else_code}
 use Rattle.bl_emit_functions.specs.Trees.{c_if, c_truth}
@@ -131,12 +131,12 @@ rested_by view slot false = c_two Eq (c_read (rested_place slot.counter)) (count
 abbrev pub rested_at : ActivityView → Slot → CExpr
 rested_at view slot = rested_by view slot (is_greatest view.sizes slot.counter slot.value)
 
--- whether the counter held one of the values from the first to the last
+-- whether the counter held one of the values from the first to the last. The last one is hidden: compilers join two comparisons with constants into one,
+-- and see then no more which values are left
 abbrev pub rested_between : ActivityView → ℕ → ℕ → ℕ → CExpr
 rested_between view k least greatest =
-    let s = counter_type view.sizes k in
-    c_two And (c_compare Ge s (c_read (rested_place k)) (counter_value view.sizes k least))
-    (c_compare Le s (c_read (rested_place k)) (counter_value view.sizes k greatest))
+    c_two And (c_two Ge (c_read (rested_place k)) (counter_value view.sizes k least))
+    (c_two Le (c_read (rested_place k)) (hidden (counter_type view.sizes k) (counter_value view.sizes k greatest)))
 
 -- whether the counter held the least value or one above it, where the test is true, and else whether it held one from the least to the greatest
 abbrev pub rested_to : ActivityView → ℕ → ℕ → ℕ → Bool → CExpr

@@ -1,5 +1,5 @@
 -- Operators on what has C types.
-use Rattle.std.proofs.Common.{◌≡◌, ℕ, pos, Bool, true, false, ◌&&◌, ◌||◌, [], ◌∷◌, Some, None, refl, ap, subst}
+use Rattle.std.proofs.Common.{◌≡◌, ℕ, pos, Bool, true, false, ◌&&◌, [], ◌∷◌, Some, None, refl, ap, subst}
 use Rattle.bl_tree.specs.declared.text.Text.{Text}
 use Rattle.bl_tree.specs.declared.c.CArg.TheVariants.{Value}
 use Rattle.bl_tree.specs.declared.c.CExpr.{CExpr}
@@ -32,8 +32,9 @@ use Rattle.bl_emit_acts.specs.Expressions.{
   cast_word,
   function_name,
   hidden,
-  is_constant,
-  is_read,
+  hides_right,
+  is_decided,
+  mirrored,
   operator_word,
   side,
 }
@@ -102,7 +103,7 @@ module _ (context : Context) where
 
   -- ---- comparisons
 
-  hidden_is : (s : ScalarType) (a : CExpr) → NumberIs s a → NumberIs s (hidden s a)
+  pub hidden_is : (s : ScalarType) (a : CExpr) → NumberIs s a → NumberIs s (hidden s a)
   hidden_is OfBool a one = two-is context And bool_type a (c_literal OfBool (pos 1)) refl refl one (literal-is context OfBool (pos 1))
   hidden_is (Int w) a one = cast_is (Int w) (Int w) a refl refl one
   hidden_is (Nat w) a one = cast_is (Nat w) (Nat w) a refl refl one
@@ -115,9 +116,9 @@ module _ (context : Context) where
   compare_is : (op : Op) (s : ScalarType) (a b : CExpr) → takes op (OfScalar (c_scalar s)) ≡ true → NumberIs s a → NumberIs s b →
       NumberIs OfBool (c_compare op s a b)
   compare_is op s a b taken one other =
-      two-is context op (OfScalar (c_scalar s)) (side (is_constant a) s a) (side (is_constant b || (is_read a && is_read b)) s b) taken
+      two-is context op (OfScalar (c_scalar s)) (side (is_decided (mirrored op) a) s a) (side (hides_right op a b) s b) taken
       (type_same (OfScalar (c_scalar s)))
-      (side_is (is_constant a) s a one) (side_is (is_constant b || (is_read a && is_read b)) s b other)
+      (side_is (is_decided (mirrored op) a) s a one) (side_is (hides_right op a b) s b other)
 
   -- a comparison by size takes numbers
   number_taken : (s : ScalarType) → is_whole s ≡ true → is_number_type (OfScalar (c_scalar s)) ≡ true

@@ -1,5 +1,5 @@
 -- Operators on what fits a depth.
-use Rattle.std.proofs.Common.{◌≡◌, ℕ, ◌+◌, ◌≤◌, pos, Bool, true, false, ◌&&◌, ◌||◌, List, [], ◌∷◌, Some, None, refl, arith}
+use Rattle.std.proofs.Common.{◌≡◌, ℕ, ◌+◌, ◌≤◌, pos, Bool, true, false, ◌&&◌, List, [], ◌∷◌, Some, None, refl, arith}
 use Rattle.std.specs.List.{list_all}
 use Rattle.bl_tree.specs.declared.text.Text.{Text}
 use Rattle.bl_tree.specs.declared.c.CArg.{CArg}
@@ -33,8 +33,9 @@ use Rattle.bl_emit_acts.specs.Expressions.{
   code_of,
   function_name,
   hidden,
-  is_constant,
-  is_read,
+  hides_right,
+  is_decided,
+  mirrored,
   operator_word,
   side,
 }
@@ -107,7 +108,7 @@ module _ (d e : ℕ) (low : 2 ≤ d) (room : d + 2 ≤ e) where
 
   -- ---- comparisons
 
-  hidden-fits : (s : ScalarType) (a : CExpr) → expr_fits d a ≡ true → expr_fits (d + 1) (hidden s a) ≡ true
+  pub hidden-fits : (s : ScalarType) (a : CExpr) → expr_fits d a ≡ true → expr_fits (d + 1) (hidden s a) ≡ true
   hidden-fits OfBool a one = two-fits d (d + 1) nowhere And a (c_literal OfBool (pos 1)) same refl one (literal-fits d nowhere OfBool (pos 1) low refl)
   hidden-fits (Int w) a one = cast_next (d + 1) same (Int w) (Int w) a refl one
   hidden-fits (Nat w) a one = cast_next (d + 1) same (Nat w) (Nat w) a refl one
@@ -121,8 +122,8 @@ module _ (d e : ℕ) (low : 2 ≤ d) (room : d + 2 ≤ e) where
       MadeFits e (scalar OfBool) (Number OfBool (c_compare op s a b))
   compared op s a b sign one other = (
     scalar_alone OfBool,
-    two-fits (d + 1) e nowhere op (side (is_constant a) s a) (side (is_constant b || (is_read a && is_read b)) s b) room_next sign
-        (side-fits (is_constant a) s a one) (side-fits (is_constant b || (is_read a && is_read b)) s b other),
+    two-fits (d + 1) e nowhere op (side (is_decided (mirrored op) a) s a) (side (hides_right op a b) s b) room_next sign
+        (side-fits (is_decided (mirrored op) a) s a one) (side-fits (hides_right op a b) s b other),
   )
 
   -- ---- all operators

@@ -13,7 +13,7 @@ use Rattle.bl_tree.specs.declared.tree.Expr.{Expr}
 use Rattle.bl_tree.specs.declared.tree.Path.{Path}
 use Rattle.bl_tree.specs.Reduce.{joined}
 use Rattle.bl_tree.specs.Typing.{TypingContext}
-use Rattle.bl_emit_acts.specs.Expressions.{arg_of, c_compare, code_of, made_of, stands}
+use Rattle.bl_emit_acts.specs.Expressions.{arg_of, code_of, hidden, made_of, stands}
 use Rattle.bl_emit_acts.specs.Places.{place_in}
 use Rattle.bl_emit_acts.specs.Trees.{c_call, c_literal, c_not, c_place, c_read, c_step, c_two}
 use Rattle.bl_emit_laws.specs.Counters.Own.{is_counter_name, names_counter}
@@ -77,8 +77,8 @@ module _ (P : CPath → Type 0) (plain : (place : CPath) → names_counter place
   pub first-arg : (arg : CArg) (args : List CArg) → Fine P (places_in_arg arg) → ArgsFine args → ArgsFine (arg ∷ args)
   first-arg = paths.first-arg P Any any plainly
 
-  pub compare-fine : (op : Op) (s : ScalarType) (a b : CExpr) → ExprFine a → ExprFine b → ExprFine (c_compare op s a b)
-  compare-fine = paths.compare-fine P Any any plainly
+  pub hidden-fine : (s : ScalarType) (a : CExpr) → ExprFine a → ExprFine (hidden s a)
+  hidden-fine = paths.hidden-fine P Any any plainly
 
   pub args_fine : (site : TypingContext) (inputs : List Expr) → All (λ e. ExprFine (code_of (made_of site e))) inputs →
       ArgsFine (map arg_of (map (made_of site) inputs))

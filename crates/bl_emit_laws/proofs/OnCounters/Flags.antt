@@ -22,7 +22,7 @@ use Rattle.bl_machine.specs.declared.slots.Slot.{Slot}
 use Rattle.bl_machine_pass.specs.Transitions.{Age, Change, Condition, Needed, Transition}
 use Rattle.bl_machine_pass.specs.Transitions.{ClearsBoth, ClearsCounter, Ended, EndsWhen, Finishes, Flagged, IsAny, IsNew, IsOld, Rested, RestedIn, SetsCounter}
 use Rattle.bl_machine_pass.specs.Transitions.{SetsFlag, SetsMark}
-use Rattle.bl_emit_acts.specs.Expressions.{c_compare}
+use Rattle.bl_emit_acts.specs.Expressions.{hidden}
 use Rattle.bl_emit_acts.specs.Trees.{c_not, c_read, c_two}
 use Rattle.bl_emit_functions.specs.Trees.{c_truth}
 use Rattle.bl_emit_spec.specs.Activities.{Activity, RunAt, activity_locals, activity_view, copied_in, copy_local, counters_read, first_rules, flag_local}
@@ -37,7 +37,7 @@ use Rattle.bl_emit_laws.specs.Counters.Places.{CPath, places_in}
 use Rattle.bl_emit_laws.proofs.OnCounters.Decided.{IsNoFlag, NoFlag, begins, local-read, none-read, variables}
 use Rattle.bl_emit_laws.proofs.OnCounters.Fine.{Fine, same-fine}
 use Rattle.bl_emit_laws.proofs.OnCounters.Guards.{counter-names, own_counter}
-use Rattle.bl_emit_laws.proofs.OnCounters.Paths.{compare-fine, literal-fine, not-fine, two-fine}
+use Rattle.bl_emit_laws.proofs.OnCounters.Paths.{hidden-fine, literal-fine, not-fine, two-fine}
 use Rattle.bl_emit_laws.proofs.OnCounters.Shapes.{place-names, read-names}
 
 -- ---- names of flags
@@ -272,20 +272,17 @@ module _ (view : ActivityView) where
           two_plain Eq (c_read (rested_place slot.counter)) (counter_value view.sizes slot.counter slot.value) (rested_plain slot.counter)
           (value_plain slot.counter slot.value)
 
-  compare_plain : (op : Op) (k v : ℕ) → Plain (c_compare op (counter_type view.sizes k) (c_read (rested_place k)) (counter_value view.sizes k v))
-  compare_plain op k v =
-      compare-fine IsNoFlag NoFlag variables begins op (counter_type view.sizes k) (c_read (rested_place k)) (counter_value view.sizes k v)
-      (rested_plain k) (value_plain k v)
-
   within_plain : (k least most : ℕ) → Plain (rested_within view k least most)
   within_plain k least most = by (is_greatest view.sizes k most)
     where
       by : (top : Bool) → Plain (rested_to view k least most top)
       by true = since_plain k least
       by false =
-          two_plain And (c_compare Ge (counter_type view.sizes k) (c_read (rested_place k)) (counter_value view.sizes k least))
-          (c_compare Le (counter_type view.sizes k) (c_read (rested_place k)) (counter_value view.sizes k most)) (compare_plain Ge k least)
-          (compare_plain Le k most)
+          let last = hidden (counter_type view.sizes k) (counter_value view.sizes k most) in
+          two_plain And (c_two Ge (c_read (rested_place k)) (counter_value view.sizes k least)) (c_two Le (c_read (rested_place k)) last)
+          (two_plain Ge (c_read (rested_place k)) (counter_value view.sizes k least) (rested_plain k) (value_plain k least))
+          (two_plain Le (c_read (rested_place k)) last (rested_plain k)
+          (hidden-fine IsNoFlag NoFlag variables begins (counter_type view.sizes k) (counter_value view.sizes k most) (value_plain k most)))
 
   in_plain : (slots : List Slot) → Plain (rested_in view slots)
   in_plain [] = truth_plain false

@@ -9,8 +9,8 @@ use Rattle.bl_tree.specs.declared.text.Text.{Text}
 use Rattle.bl_graph_nodes.specs.Nodes.{Node}
 use Rattle.bl_machine.specs.declared.slots.Slot.{Slot}
 use Rattle.bl_emit_acts.specs.Acts.{c_set}
-use Rattle.bl_emit_acts.specs.Expressions.{c_compare}
-use Rattle.bl_emit_acts.specs.Trees.{c_not, c_place, c_read, c_step}
+use Rattle.bl_emit_acts.specs.Expressions.{hidden}
+use Rattle.bl_emit_acts.specs.Trees.{c_not, c_place, c_read, c_step, c_two}
 use Rattle.bl_emit_functions.specs.Trees.{c_if, c_truth}
 use Rattle.bl_machine_pass.specs.Transitions.{Age, Change, Condition, Needed}
 use Rattle.bl_machine_pass.specs.Transitions.{ClearsBoth, ClearsCounter, Ended, EndsWhen, Finishes, Flagged, IsAny, IsNew, IsOld, Rested, RestedIn}
@@ -47,7 +47,7 @@ use Rattle.bl_emit_spec.specs.Blocks.{
 use Rattle.bl_emit_spec.specs.Names.{counter_name, counter_place, flag_name, flag_place, mark_name, mark_place, over_place, rested_name, rested_place}
 use Rattle.bl_emit_laws.specs.Counters.Own.{names_counter}
 use Rattle.bl_emit_laws.specs.Counters.Places.{CPath, StepParts, places_in_place}
-use Rattle.bl_emit_laws.proofs.OnCounters.Expressions.{ExprFine, PlaceFine, compare-fine, literal-fine, not-fine, read-fine, root-fine, two-fine}
+use Rattle.bl_emit_laws.proofs.OnCounters.Expressions.{ExprFine, PlaceFine, hidden-fine, literal-fine, not-fine, read-fine, root-fine, two-fine}
 use Rattle.bl_emit_laws.proofs.OnCounters.Fine.{same-fine}
 use Rattle.bl_emit_laws.proofs.OnCounters.Shapes.{place-names, step-passes}
 use Rattle.bl_emit_laws.proofs.OnCounters.Statements.{CodeFine, StmtFine, first_stmt, if-fine, one_stmt, set-fine, then_code, truth-fine}
@@ -128,12 +128,12 @@ module _ (P : CPath → Type 0) (plain : (place : CPath) → names_counter place
 
   between_fine : (view : ActivityView) (k least most : ℕ) → ExprFine P plain (rested_between view k least most)
   between_fine view k least most =
-      let s = counter_type view.sizes k in
       let here = local_read (rested_name k) in
-      two-fine P plain And (c_compare Ge s (c_read (rested_place k)) (counter_value view.sizes k least))
-      (c_compare Le s (c_read (rested_place k)) (counter_value view.sizes k most))
-      (compare-fine P plain Ge s (c_read (rested_place k)) (counter_value view.sizes k least) here (value_fine view k least))
-      (compare-fine P plain Le s (c_read (rested_place k)) (counter_value view.sizes k most) here (value_fine view k most))
+      let last = hidden (counter_type view.sizes k) (counter_value view.sizes k most) in
+      two-fine P plain And (c_two Ge (c_read (rested_place k)) (counter_value view.sizes k least)) (c_two Le (c_read (rested_place k)) last)
+      (two-fine P plain Ge (c_read (rested_place k)) (counter_value view.sizes k least) here (value_fine view k least))
+      (two-fine P plain Le (c_read (rested_place k)) last here
+      (hidden-fine P plain (counter_type view.sizes k) (counter_value view.sizes k most) (value_fine view k most)))
 
   within_fine : (view : ActivityView) (k least most : ℕ) → ExprFine P plain (rested_within view k least most)
   within_fine view k least most = by (is_greatest view.sizes k most)

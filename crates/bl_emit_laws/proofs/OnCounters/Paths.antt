@@ -1,5 +1,5 @@
 -- What is made of expressions and paths names no counter, and begins with names of variables.
-use Rattle.std.proofs.Common.{◌≡◌, ℕ, ℤ, pos, Bool, true, false, ◌&&◌, ◌||◌, List, [], ◌∷◌, ◌++◌, map, Option}
+use Rattle.std.proofs.Common.{◌≡◌, ℕ, ℤ, pos, Bool, true, false, ◌||◌, List, [], ◌∷◌, ◌++◌, map, Option}
 use Rattle.std.proofs.Common.{Some, None}
 use Rattle.std.proofs.Common.{refl, sym, ◌∙◌, subst, codes}
 use Rattle.std.proofs.lemmas.List.Elements.{All-head, All-tail}
@@ -31,12 +31,12 @@ use Rattle.bl_tree.specs.Types.{scalar_in}
 use Rattle.bl_tree.specs.Typing.{TypingContext, is_activity, var_at}
 use Rattle.bl_tree.proofs.ExprInduction.{Cases, EachIndex, OfIndex, expr, induct, induct_path}
 use Rattle.bl_emit_acts.specs.declared.home.Home.{Home}
-use Rattle.bl_emit_acts.specs.declared.home.Home.TheVariants.{Held, Given, Lent}
+use Rattle.bl_emit_acts.specs.declared.home.Home.TheVariants.{Held, Local, Lent}
 use Rattle.bl_emit_acts.specs.declared.made.Made.{Made}
 use Rattle.bl_emit_acts.specs.declared.made.Made.TheVariants.{Number, Whole}
-use Rattle.bl_emit_acts.specs.Expressions.{arg_of, c_both, c_cast, c_compare, c_function, c_one, cast_word, code_of, function_name, hidden, is_constant}
-use Rattle.bl_emit_acts.specs.Expressions.{field_at, is_read, length_at, made_at, made_call, made_of, name_of_field, operator_word, side, stands, step_typing}
-use Rattle.bl_emit_acts.specs.Expressions.{steps_of, type_at, type_made}
+use Rattle.bl_emit_acts.specs.Expressions.{arg_of, c_both, c_cast, c_compare, c_function, c_one, cast_word, code_of, function_name, hidden, hides_right}
+use Rattle.bl_emit_acts.specs.Expressions.{field_at, is_decided, length_at, made_at, made_call, made_of, mirrored, name_of_field, operator_word, side, stands}
+use Rattle.bl_emit_acts.specs.Expressions.{step_typing, steps_of, type_at, type_made}
 use Rattle.bl_emit_acts.specs.Places.{home_of, place_by_steps, place_in}
 use Rattle.bl_emit_acts.specs.Trees.{c_call, c_called, c_literal, c_not, c_place, c_read, c_step, c_two}
 use Rattle.bl_emit_acts.specs.Types.{c_scalar, copy_name, elements_name, field_name, unit_name, variable_name}
@@ -141,7 +141,7 @@ module _ (P : CPath → Type 0) (Named : Text → Type 0) (names : OfVariables N
   cast-fine : (from to : ScalarType) (a : CExpr) → ExprFine a → ExprFine (c_cast from to a)
   cast-fine from to a one = called-fine (function_name (cast_word (is_int from)) to) (Value a ∷ []) (one_arg a one)
 
-  hidden-fine : (s : ScalarType) (a : CExpr) → ExprFine a → ExprFine (hidden s a)
+  pub hidden-fine : (s : ScalarType) (a : CExpr) → ExprFine a → ExprFine (hidden s a)
   hidden-fine OfBool a one = two-fine And a (c_literal OfBool (pos 1)) one (literal-fine OfBool (pos 1))
   hidden-fine (Int w) a one = cast-fine (Int w) (Int w) a one
   hidden-fine (Nat w) a one = cast-fine (Nat w) (Nat w) a one
@@ -184,10 +184,10 @@ module _ (P : CPath → Type 0) (Named : Text → Type 0) (names : OfVariables N
   two_function : (op : Op) (s : ScalarType) (a b : CExpr) → ExprFine a → ExprFine b → MadeFine (c_function op s (Value a ∷ Value b ∷ []))
   two_function op s a b one other = called-fine (function_name (operator_word op) s) (Value a ∷ Value b ∷ []) (two_args a b one other)
 
-  pub compare-fine : (op : Op) (s : ScalarType) (a b : CExpr) → ExprFine a → ExprFine b → ExprFine (c_compare op s a b)
+  compare-fine : (op : Op) (s : ScalarType) (a b : CExpr) → ExprFine a → ExprFine b → ExprFine (c_compare op s a b)
   compare-fine op s a b one other =
-      two-fine op (side (is_constant a) s a) (side (is_constant b || (is_read a && is_read b)) s b) (side-fine (is_constant a) s a one)
-      (side-fine (is_constant b || (is_read a && is_read b)) s b other)
+      two-fine op (side (is_decided (mirrored op) a) s a) (side (hides_right op a b) s b) (side-fine (is_decided (mirrored op) a) s a one)
+      (side-fine (hides_right op a b) s b other)
 
   both_fine : (op : Op) (s : ScalarType) (a b : CExpr) → ExprFine a → ExprFine b → MadeFine (c_both op s a b)
   both_fine Eq s a b one other = compare-fine Eq s a b one other
@@ -293,7 +293,7 @@ module _ (P : CPath → Type 0) (Named : Text → Type 0) (names : OfVariables N
     home_fine : (activity : Bool) (home : Home) (k : ℕ) (steps : List CStep) → StepsFine steps → PlaceFine (place_by_steps activity home site.vars k steps)
     home_fine activity Held k steps all =
         place-fine activity (codes "m") (c_step (variable_name site.vars k) ∷ steps) names.memory (member-fine (variable_name site.vars k) refl, all)
-    home_fine activity Given k steps all = place-fine false (variable_name site.vars k) steps (names.variable site.vars k) all
+    home_fine activity Local k steps all = place-fine false (variable_name site.vars k) steps (names.variable site.vars k) all
     home_fine activity Lent k steps all = place-fine true (variable_name site.vars k) steps (names.variable site.vars k) all
 
     -- the place of a variable names no counter

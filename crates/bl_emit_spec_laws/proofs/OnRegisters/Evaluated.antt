@@ -1,14 +1,13 @@
 -- What the parts of made C texts come to.
-use Rattle.std.proofs.Common.{◌≡◌, ℤ, Bool, List, [], ◌∷◌, map, Some, refl, ap, ◌∙◌, subst}
+use Rattle.std.proofs.Common.{◌≡◌, ℤ, Bool, List, [], ◌∷◌, map, Some, refl, subst}
 use Rattle.std.specs.Prelude.{option_map}
 use Rattle.bl_tree.specs.declared.text.Text.{Text}
 use Rattle.bl_tree.specs.declared.scalar.Op.{Op}
 use Rattle.bl_tree.specs.declared.scalar.Op.TheVariants.{Not}
 use Rattle.bl_tree.specs.declared.scalar.Scalar.{Scalar}
 use Rattle.bl_tree.specs.declared.scalar.Scalar.TheVariants.{Bool as OfBool}
-use Rattle.bl_tree.specs.declared.c.CArg.{CArg, CArg-F, fold-CArg, fold-roll-CArg, roll-CArg}
-use Rattle.bl_tree.specs.declared.c.CArg.TheVariants as argument
-use Rattle.bl_tree.specs.declared.c.CCall.{CCall, fold-roll-CCall}
+use Rattle.bl_tree.specs.declared.c.CArg.{CArg}
+use Rattle.bl_tree.specs.declared.c.CCall.{CCall}
 use Rattle.bl_tree.specs.declared.c.CStep.{CStep, fold-CStep, fold-roll-CStep}
 use Rattle.bl_tree.specs.declared.c.CPlace.{CPlace, fold-roll-CPlace}
 use Rattle.bl_tree.specs.declared.c.CIndex.{CIndex}
@@ -17,10 +16,10 @@ use Rattle.bl_tree.specs.declared.c.CExprKind.{CExprKind, CExprKind-F, fold-roll
 use Rattle.bl_tree.specs.declared.c.CExprKind.TheVariants as expression
 use Rattle.bl_tree.specs.Numbers.{checked_one_of}
 use Rattle.bl_ctext_semantics.specs.Memory.{Projection, member, Location, CValue, Memory, scalar, scalar_number, value_at}
-use Rattle.bl_ctext_semantics.specs.Meaning.{Counted, Evaluates, given, next, ArgumentValue, by_value, CallResult}
+use Rattle.bl_ctext_semantics.specs.Meaning.{Counted, Evaluates, given, next, ArgumentValue, CallResult}
 use Rattle.bl_ctext_semantics.specs.Meaning.{Scope, value_c, location_c, each_of, further, named_location, two_values}
-use Rattle.bl_ctext_semantics.specs.Meaning.{call_c, called_after, result_of, way_of, arg_step, kind_step, call_step, expr_step, index_step, place_step, step_step}
-use Rattle.bl_emit_acts.specs.Trees.{nowhere, c_call, c_called, c_literal, c_not, c_place, c_read, c_step, c_two}
+use Rattle.bl_ctext_semantics.specs.Meaning.{way_of, arg_step, kind_step, call_step, expr_step, index_step, place_step, step_step}
+use Rattle.bl_emit_acts.specs.Trees.{nowhere, c_literal, c_not, c_place, c_read, c_step, c_two}
 
 abbrev kind : CExprKind-F CArg CExprKind CCall CExpr CIndex CPlace CStep → CExpr
 kind layer = roll-CExpr (record { place = nowhere; what = roll-CExprKind layer })
@@ -28,11 +27,6 @@ kind layer = roll-CExpr (record { place = nowhere; what = roll-CExprKind layer }
 -- what a step adds to a way
 abbrev ways : CStep → Evaluates (List Projection)
 ways = fold-CStep (Evaluates ArgumentValue) (Evaluates CValue) (Scope → Memory → CallResult) (Evaluates CValue) (Evaluates (List Projection))
-    (Evaluates Location) (Evaluates (List Projection)) arg_step kind_step call_step expr_step index_step place_step step_step
-
--- what an argument passes
-abbrev pub passes : CArg → Evaluates ArgumentValue
-passes = fold-CArg (Evaluates ArgumentValue) (Evaluates CValue) (Scope → Memory → CallResult) (Evaluates CValue) (Evaluates (List Projection))
     (Evaluates Location) (Evaluates (List Projection)) arg_step kind_step call_step expr_step index_step place_step step_step
 
 module _ (scope : Scope) (memory : Memory) where
@@ -76,31 +70,6 @@ module _ (scope : Scope) (memory : Memory) where
       subst (λ (k : CExprKind). value_c (roll-CExpr (record { place = nowhere; what = k })) scope memory
       ≡ two_values op (value_c left) (value_c right) scope memory)
       (expression.rolls-Two op left right) (two-open op left right)
-
-  -- ---- calls
-
-  abbrev calls : Text → Counted (List ArgumentValue) → CallResult
-  calls name passed = called_after scope memory name passed.count passed.answer
-
-  pub call-does : (name : Text) (args : List CArg) → call_c (c_call name args) scope memory ≡ calls name (each_of (map passes args) scope memory)
-  call-does name args = rw fold-roll-CCall refl
-
-  called-open : (call : CCall) → value_c (kind (CExprKind-F.Call call)) scope memory ≡ result_of (call_c call scope memory)
-  called-open call = rw (fold-roll-CExpr, fold-roll-CExprKind) refl
-
-  pub called-value : (name : Text) (args : List CArg) → value_c (c_called name args) scope memory
-      ≡ result_of (calls name (each_of (map passes args) scope memory))
-  called-value name args =
-      subst (λ (k : CExprKind). value_c (roll-CExpr (record { place = nowhere; what = k })) scope memory
-      ≡ result_of (call_c (c_call name args) scope memory))
-      (expression.rolls-Call (c_call name args)) (called-open (c_call name args)) ∙ ap result_of (call-does name args)
-
-  value_arg-open : (e : CExpr) → passes (roll-CArg (CArg-F.Value e)) scope memory ≡ next (value_c e scope memory) (λ v. given (Some (by_value v)))
-  value_arg-open e = rw fold-roll-CArg refl
-
-  pub value-arg : (e : CExpr) → passes (argument.Value e) scope memory ≡ next (value_c e scope memory) (λ v. given (Some (by_value v)))
-  value-arg e = subst (λ (a : CArg). passes a scope memory ≡ next (value_c e scope memory) (λ v. given (Some (by_value v))))
-      (argument.rolls-Value e) (value_arg-open e)
 
   -- ---- places
 

@@ -11,7 +11,7 @@ use Rattle.std.specs.Prelude.{length, nat_eq, nat_le, option_and_then, option_ma
 use Rattle.bl_tree.specs.Numbers.{checked_of, checked_one_of, is_one, number_of}
 use Rattle.bl_tree.specs.declared.c.CExpr.{CExpr}
 use Rattle.bl_tree.specs.declared.scalar.Op.{Op}
-use Rattle.bl_tree.specs.declared.scalar.Op.TheVariants.{And, Eq, Ge, Ne, Not, Or}
+use Rattle.bl_tree.specs.declared.scalar.Op.TheVariants.{And, Eq, Ge, Le, Ne, Not, Or}
 use Rattle.bl_tree.specs.declared.scalar.Scalar.{Scalar}
 use Rattle.bl_tree.specs.declared.scalar.Scalar.TheVariants.{Bool as OfBool}
 use Rattle.bl_machine.specs.declared.slots.Slot.{Slot}
@@ -171,11 +171,17 @@ module _ (scope : Scope) (here : Memory) where
       ∙ (ap₂ (λ (x y : Option ℤ). option_and_then (λ x. option_and_then (checked_of Ne OfBool x) y) x) first second
       ∙ ap (λ b. Some (number_of (not b))) (same_test k l))
 
-  no_less_shows : (e f : CExpr) (k l : ℕ) → gives scope here e ≡ Some (pos k) → gives scope here f ≡ Some (pos l) →
+  pub no_less_shows : (e f : CExpr) (k l : ℕ) → gives scope here e ≡ Some (pos k) → gives scope here f ≡ Some (pos l) →
       Shows (c_two Ge e f) (nat_le l k)
   no_less_shows e f k l first second =
       compare-number scope here Ge e f (λ l r. refl)
       ∙ ap₂ (λ (x y : Option ℤ). option_and_then (λ x. option_and_then (checked_of Ge OfBool x) y) x) first second
+
+  pub no_more_shows : (e f : CExpr) (k l : ℕ) → gives scope here e ≡ Some (pos k) → gives scope here f ≡ Some (pos l) →
+      Shows (c_two Le e f) (nat_le k l)
+  no_more_shows e f k l first second =
+      compare-number scope here Le e f (λ l r. refl)
+      ∙ ap₂ (λ (x y : Option ℤ). option_and_then (λ x. option_and_then (checked_of Le OfBool x) y) x) first second
 
   -- ---- trees of tests
 

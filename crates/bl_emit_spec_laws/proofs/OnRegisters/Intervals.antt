@@ -1,42 +1,33 @@
 -- The C that asks for one of several numbers of a counter, which follow one another, by the first and the last of them; and any guard.
-use Rattle.std.proofs.Common.{◌≡◌, ℕ, suc, ◌≤◌, ◌<◌, ℤ, pos, Bool, true, false, ◌&&◌, ◌||◌, List, [], ◌∷◌, Option}
+use Rattle.std.proofs.Common.{◌≡◌, ℕ, suc, ◌≤◌, ◌<◌, pos, Bool, true, false, ◌&&◌, ◌||◌, List, [], ◌∷◌, Option}
 use Rattle.std.proofs.Common.{None, Some, refl, sym, ap, ap₂}
 use Rattle.std.proofs.Common.{◌∙◌, arith, subst}
 use Rattle.std.proofs.lemmas.Bool.{eq-eqb, eqb-true, le-leb, leb-false, leb-true}
 use Rattle.std.specs.List.{list_all, list_any}
-use Rattle.std.specs.Prelude.{nat_eq, nat_le, option_and_then, slice_get, unwrap_or, if◌then◌else◌}
-use Rattle.bl_tree.specs.Numbers.{checked_of, number_of}
+use Rattle.std.specs.Prelude.{nat_eq, nat_le, option_map}
+use Rattle.bl_tree.specs.Numbers.{number_of}
 use Rattle.bl_tree.specs.Scalar.{in_range}
-use Rattle.bl_tree.specs.declared.c.CExpr.{out-roll-CExpr}
-use Rattle.bl_tree.specs.declared.c.CExprKind.{CExprKind-F, out-CExprKind, out-roll-CExprKind}
-use Rattle.bl_tree.specs.declared.c.CExprKind.TheVariants as expression
-use Rattle.bl_tree.specs.declared.c.CPlace.{CPlace}
-use Rattle.bl_tree.specs.declared.scalar.Op.{Op}
 use Rattle.bl_tree.specs.declared.scalar.Op.TheVariants.{Ge, Le}
-use Rattle.bl_tree.specs.declared.scalar.Scalar.{Scalar}
-use Rattle.bl_tree.specs.declared.scalar.Scalar.TheVariants.{Bool as OfBool, Nat}
-use Rattle.bl_tree.specs.declared.scalar.Width.{Width}
-use Rattle.bl_tree.specs.declared.scalar.Width.TheVariants.{W8, W16, W32, W64}
 use Rattle.bl_graph_nodes.specs.Nodes.{Node}
 use Rattle.bl_machine.specs.declared.slots.Slot.{Slot}
-use Rattle.bl_ctext.specs.declared.builtin.Builtin.TheVariants.{Cast}
-use Rattle.bl_ctext_semantics.specs.Builtin.{builtin_of, only_if}
-use Rattle.bl_ctext_semantics.specs.Memory.{Memory}
-use Rattle.bl_ctext_semantics.specs.Meaning.{Scope}
-use Rattle.bl_emit_acts.specs.Expressions.{c_compare, cast_word, function_name, hidden, is_constant, is_literal_kind, is_read, side}
-use Rattle.bl_emit_acts.specs.Trees.{c_literal, c_read, c_two, nowhere}
+use Rattle.bl_ctext_semantics.specs.Memory.{CValue, Memory, scalar, scalar_number}
+use Rattle.bl_ctext_semantics.specs.Meaning.{Counted, Scope}
+use Rattle.bl_emit_acts.specs.Expressions.{hidden}
+use Rattle.bl_emit_acts.specs.Trees.{c_read, c_two}
 use Rattle.bl_machine_pass.specs.Registers.{Registers, are_ended, due_by, is_at}
 use Rattle.bl_machine_pass.specs.Transitions.{Condition}
 use Rattle.bl_machine_pass.specs.Transitions.{Ended, Flagged, Rested, RestedIn}
 use Rattle.bl_emit_spec.specs.Blocks.{ActivityView, counter_type, counter_value, ends_test, entered_by, greatest_value, guard_of, is_greatest, last_value}
-use Rattle.bl_emit_spec.specs.Blocks.{rested_between, rested_in, rested_to, rested_within, type_for}
+use Rattle.bl_emit_spec.specs.Blocks.{rested_between, rested_in, rested_to, rested_within}
 use Rattle.bl_emit_spec.specs.Names.{flag_place, rested_place, with_word}
+use Rattle.bl_emit_acts_laws_simulation.proofs.Evaluated.{literal-value}
+use Rattle.bl_emit_acts_laws_simulation.proofs.Hiding.{hidden_gives}
 use Rattle.bl_emit_spec_laws.specs.Registers.Laws.{RestsWithin, WordsAgree, are_in_a_row, asks_its_own, fits_counter, follow_on, has_age, has_left, is_left}
 use Rattle.bl_emit_spec_laws.specs.Registers.Registers.{Registered, RegistersEncoded}
 use Rattle.bl_emit_spec_laws.proofs.OnRegisters.Cells.{and_both}
-use Rattle.bl_emit_spec_laws.proofs.OnRegisters.Guards.{Shows, aged_shows, and_shows, ends_show, flag_shows}
-use Rattle.bl_emit_spec_laws.proofs.OnRegisters.Guards.{literal_gives, or_false, or_shows, rested_gives, rested_shows, since_shows, truth_shows}
-use Rattle.bl_emit_spec_laws.proofs.OnRegisters.Numbers.{compare-number, gives, one-number}
+use Rattle.bl_emit_spec_laws.proofs.OnRegisters.Guards.{Shows, aged_shows, and_shows, ends_show, flag_shows, literal_gives, no_less_shows}
+use Rattle.bl_emit_spec_laws.proofs.OnRegisters.Guards.{no_more_shows, or_false, or_shows, rested_gives, rested_shows, since_shows, truth_shows}
+use Rattle.bl_emit_spec_laws.proofs.OnRegisters.Numbers.{gives}
 
 -- ---- numbers in a row
 
@@ -111,38 +102,7 @@ row_in counters k v (slot ∷ rest) h =
     ∙ (step_in v (counters k) (last_value (suc v) rest) (omega (arith, least))
     ∙ ap (λ n. nat_le v (counters k) && nat_le (counters k) (last_value n rest)) (sym is)))
 
--- ---- casts
-
-cast_named : (w : Width) → builtin_of (function_name (cast_word false) (Nat w)) ≡ Some (Cast false (Nat w))
-unfolding builtin_of
-cast_named W8 = refl
-cast_named W16 = refl
-cast_named W32 = refl
-cast_named W64 = refl
-
-type_is : (n : ℕ) → (w : Width) × (type_for n ≡ Nat w)
-type_is n = by (nat_le n 255) (nat_le n 65535)
-  where
-    by : (a b : Bool) → (w : Width) × ((if a then Nat W8 else if b then Nat W16 else Nat W32) ≡ Nat w)
-    by true b = (W8, refl)
-    by false true = (W16, refl)
-    by false false = (W32, refl)
-
-only_in : (holds : Bool) (n : ℤ) → holds ≡ true → only_if holds n ≡ Some n
-only_in true n h = refl
-only_in false n h = absurd (no_such (sym h))
-
-read_no_constant : (place : CPlace) → is_constant (c_read place) ≡ false
-read_no_constant place =
-    ap (λ e. is_literal_kind (out-CExprKind e.what)) (out-roll-CExpr (record { place = nowhere; what = expression.Read place }))
-    ∙ (ap (λ k. is_literal_kind (out-CExprKind k)) (sym (expression.rolls-Read place))
-    ∙ ap is_literal_kind (out-roll-CExprKind (CExprKind-F.Read place)))
-
-literal_constant : (ty : Scalar) (n : ℤ) → is_constant (c_literal ty n) ≡ true
-literal_constant ty n =
-    ap (λ e. is_literal_kind (out-CExprKind e.what)) (out-roll-CExpr (record { place = nowhere; what = expression.Literal ty n }))
-    ∙ (ap (λ k. is_literal_kind (out-CExprKind k)) (sym (expression.rolls-Literal ty n))
-    ∙ ap is_literal_kind (out-roll-CExprKind (CExprKind-F.Literal ty n)))
+-- ---- values in their types
 
 -- the value of the last of a row is a number of the counter's type, where all of them are
 last_fits : (view : ActivityView) (k v : ℕ) (rest : List Slot) → in_range (counter_type view.sizes k) (pos v) ≡ true →
@@ -158,101 +118,78 @@ last_fits view k v (slot ∷ rest) fits all h =
     (ap (λ k. in_range (counter_type view.sizes k) (pos slot.value)) (sym (eqb-true slot.counter k found.0)) ∙ within.0) within.1
     (ap (λ n. follow_on k (suc n) rest) is ∙ more.1)
 
-module _ (scope : Scope) (here : Memory) where
-  hidden_nat : (w : Width) (n : ℤ) → in_range (Nat w) n ≡ true → gives scope here (hidden (Nat w) (c_literal (Nat w) n)) ≡ Some n
-  hidden_nat w n fits =
-      one-number scope here (function_name (cast_word false) (Nat w)) (Cast false (Nat w)) (cast_named w) (c_literal (Nat w) n)
-      ∙ (ap (option_and_then (λ m. only_if (in_range (Nat w) m) m)) (literal_gives scope here (Nat w) n) ∙ only_in (in_range (Nat w) n) n fits)
+module _ (scope : Scope) (here : Memory) (view : ActivityView) (has : Registered) (r : Registers) (hold : RegistersEncoded has scope r here)
+    (within : RestsWithin view.sizes r) where
+  -- a hidden value gives its number
+  value_hidden : (k v : ℕ) → in_range (counter_type view.sizes k) (pos v) ≡ true →
+      gives scope here (hidden (counter_type view.sizes k) (counter_value view.sizes k v)) ≡ Some (pos v)
+  value_hidden k v fits =
+      let s = counter_type view.sizes k in
+      ap (option_map scalar_number)
+      (hidden_gives scope here s (counter_value view.sizes k v) (scalar (pos v))
+      (ap (λ (c : Counted CValue). c.answer) (literal-value scope here s (pos v))) fits)
 
-  hidden_gives : (s : Scalar) (w : Width) (n : ℤ) → s ≡ Nat w → in_range s n ≡ true → gives scope here (hidden s (c_literal s n)) ≡ Some n
-  hidden_gives s w n is fits =
-      subst (λ s. gives scope here (hidden s (c_literal s n)) ≡ Some n) (sym is) (hidden_nat w n (ap (λ s. in_range s n) (sym is) ∙ fits))
+  between_shows : (k least greatest : ℕ) → has.copied k ≡ true → in_range (counter_type view.sizes k) (pos greatest) ≡ true →
+      Shows scope here (rested_between view k least greatest) (nat_le least (r.rested k) && nat_le (r.rested k) greatest)
+  between_shows k least greatest its last =
+      let stands = rested_gives scope here view has r hold k its in
+      let most = hidden (counter_type view.sizes k) (counter_value view.sizes k greatest) in
+      and_shows scope here (c_two Ge (c_read (rested_place k)) (counter_value view.sizes k least)) (c_two Le (c_read (rested_place k)) most)
+      (nat_le least (r.rested k)) (nat_le (r.rested k) greatest)
+      (no_less_shows scope here (c_read (rested_place k)) (counter_value view.sizes k least) (r.rested k) least stands
+      (literal_gives scope here _ (pos least)))
+      (no_more_shows scope here (c_read (rested_place k)) most (r.rested k) greatest stands (value_hidden k greatest last))
 
-  -- a comparison of what stands at a place with a number
-  compared : (op : Op) (s : Scalar) (place : CPlace) (n : ℤ) → c_compare op s (c_read place) (c_literal s n)
-      ≡ c_two op (c_read place) (hidden s (c_literal s n))
-  compared op s place n =
-      ap₂ (λ x y. c_two op (side x s (c_read place)) (side (y || (is_read (c_read place) && is_read (c_literal s n))) s (c_literal s n)))
-      (read_no_constant place) (literal_constant s n)
+  -- a comparison with the greatest value says nothing
+  no_greater : (a : Bool) (w most last : ℕ) → w ≤ most → nat_le most last ≡ true → a ≡ (a && nat_le w last)
+  no_greater false w most last few is = refl
+  no_greater true w most last few is = let less : most ≤ last = leb-true most last is in sym (le-leb w last (omega (arith, few, less)))
 
-  module _ (s : Scalar) (place : CPlace) (n w : ℕ) (stands : gives scope here (c_read place) ≡ Some (pos w))
-      (told : gives scope here (hidden s (c_literal s (pos n))) ≡ Some (pos n)) where
-    ge_shows : Shows scope here (c_compare Ge s (c_read place) (c_literal s (pos n))) (nat_le n w)
-    ge_shows =
-        ap (gives scope here) (compared Ge s place (pos n))
-        ∙ (compare-number scope here Ge (c_read place) (hidden s (c_literal s (pos n))) (λ l r. refl)
-        ∙ ap₂ (λ (x y : Option ℤ). option_and_then (λ x. option_and_then (checked_of Ge OfBool x) y) x) stands told)
+  within_shows : (k least greatest : ℕ) → has.copied k ≡ true → in_range (counter_type view.sizes k) (pos greatest) ≡ true →
+      Shows scope here (rested_within view k least greatest) (nat_le least (r.rested k) && nat_le (r.rested k) greatest)
+  within_shows k least greatest its last = by (is_greatest view.sizes k greatest) refl
+    where
+      by : (top : Bool) → is_greatest view.sizes k greatest ≡ top →
+          Shows scope here (rested_to view k least greatest top) (nat_le least (r.rested k) && nat_le (r.rested k) greatest)
+      by true is =
+          since_shows scope here view has r hold k least its
+          ∙ ap (λ b. Some (number_of b))
+          (no_greater (nat_le least (r.rested k)) (r.rested k) (greatest_value view.sizes k) greatest (within k) is)
+      by false is = between_shows k least greatest its last
 
-    le_shows : Shows scope here (c_compare Le s (c_read place) (c_literal s (pos n))) (nat_le w n)
-    le_shows =
-        ap (gives scope here) (compared Le s place (pos n))
-        ∙ (compare-number scope here Le (c_read place) (hidden s (c_literal s (pos n))) (λ l r. refl)
-        ∙ ap₂ (λ (x y : Option ℤ). option_and_then (λ x. option_and_then (checked_of Le OfBool x) y) x) stands told)
+  row_shows : (slots : List Slot) → list_all (λ slot. has.copied slot.counter) slots ≡ true → list_all (fits_counter view.sizes) slots ≡ true →
+      are_in_a_row slots ≡ true → Shows scope here (rested_in view slots) (list_any (is_at r.rested) slots)
+  row_shows [] its fits row = truth_shows scope here false
+  row_shows (slot ∷ []) its fits row =
+      let found = and_both (has.copied slot.counter) true its in
+      rested_shows scope here view has r hold within slot found.0 ∙ ap (λ b. Some (number_of b)) (sym (or_false (is_at r.rested slot)))
+  row_shows (slot ∷ more ∷ rest) its fits row =
+      let found = and_both (has.copied slot.counter) (list_all (λ slot. has.copied slot.counter) (more ∷ rest)) its in
+      let fit = and_both (fits_counter view.sizes slot) (list_all (fits_counter view.sizes) (more ∷ rest)) fits in
+      within_shows slot.counter slot.value (last_value slot.value (more ∷ rest)) found.0
+      (last_fits view slot.counter slot.value (more ∷ rest) fit.0 fit.1 row)
+      ∙ ap (λ b. Some (number_of b)) (sym (row_in r.rested slot.counter slot.value (more ∷ rest) row))
 
-  module _ (view : ActivityView) (has : Registered) (r : Registers) (hold : RegistersEncoded has scope r here) (within : RestsWithin view.sizes r) where
-    between_shows : (k least greatest : ℕ) → has.copied k ≡ true → in_range (counter_type view.sizes k) (pos least) ≡ true →
-        in_range (counter_type view.sizes k) (pos greatest) ≡ true →
-        Shows scope here (rested_between view k least greatest) (nat_le least (r.rested k) && nat_le (r.rested k) greatest)
-    between_shows k least greatest its first last =
-        let s = counter_type view.sizes k in
-        let typed = type_is (unwrap_or (slice_get view.sizes k) 0) in
-        let stands = rested_gives scope here view has r hold k its in
-        and_shows scope here (c_compare Ge s (c_read (rested_place k)) (counter_value view.sizes k least))
-        (c_compare Le s (c_read (rested_place k)) (counter_value view.sizes k greatest)) (nat_le least (r.rested k)) (nat_le (r.rested k) greatest)
-        (ge_shows s (rested_place k) least (r.rested k) stands (hidden_gives s typed.0 (pos least) typed.1 first))
-        (le_shows s (rested_place k) greatest (r.rested k) stands (hidden_gives s typed.0 (pos greatest) typed.1 last))
+  -- ---- guards
 
-    -- a comparison with the greatest value says nothing
-    no_greater : (a : Bool) (w most last : ℕ) → w ≤ most → nat_le most last ≡ true → a ≡ (a && nat_le w last)
-    no_greater false w most last few is = refl
-    no_greater true w most last few is = let less : most ≤ last = leb-true most last is in sym (le-leb w last (omega (arith, few, less)))
+  guard_shows : WordsAgree view has → (n : Node) (condition : Condition) → asks_its_own view has n condition ≡ true →
+      Shows scope here (guard_of view n condition) (due_by view.number r n condition)
+  guard_shows words n Flagged its = flag_shows scope here view has r hold words (view.number n) its
+  guard_shows words n (Rested slot) its = rested_shows scope here view has r hold within slot its
+  guard_shows words n (RestedIn slots) its =
+      let found = and_both (list_all (λ slot. has.copied slot.counter) slots) (list_all (fits_counter view.sizes) slots && are_in_a_row slots) its in
+      let more = and_both (list_all (fits_counter view.sizes) slots) (are_in_a_row slots) found.1 in
+      row_shows slots found.0 more.0 more.1
+  guard_shows words n (Ended age needed) its =
+      let found = and_both (has_age view.number has age) (list_all (λ slot. has.counters slot.counter) needed.slots) its in
+      aged_shows scope here view has r hold words age (ends_test view needed) (are_ended r.counters needed) found.0
+      (ends_show scope here view has r hold needed found.1)
 
-    within_shows : (k least greatest : ℕ) → has.copied k ≡ true → in_range (counter_type view.sizes k) (pos least) ≡ true →
-        in_range (counter_type view.sizes k) (pos greatest) ≡ true →
-        Shows scope here (rested_within view k least greatest) (nat_le least (r.rested k) && nat_le (r.rested k) greatest)
-    within_shows k least greatest its first last = by (is_greatest view.sizes k greatest) refl
-      where
-        by : (top : Bool) → is_greatest view.sizes k greatest ≡ top →
-            Shows scope here (rested_to view k least greatest top) (nat_le least (r.rested k) && nat_le (r.rested k) greatest)
-        by true is =
-            since_shows scope here view has r hold k least its
-            ∙ ap (λ b. Some (number_of b))
-            (no_greater (nat_le least (r.rested k)) (r.rested k) (greatest_value view.sizes k) greatest (within k) is)
-        by false is = between_shows k least greatest its first last
-
-    row_shows : (slots : List Slot) → list_all (λ slot. has.copied slot.counter) slots ≡ true → list_all (fits_counter view.sizes) slots ≡ true →
-        are_in_a_row slots ≡ true → Shows scope here (rested_in view slots) (list_any (is_at r.rested) slots)
-    row_shows [] its fits row = truth_shows scope here false
-    row_shows (slot ∷ []) its fits row =
-        let found = and_both (has.copied slot.counter) true its in
-        rested_shows scope here view has r hold within slot found.0 ∙ ap (λ b. Some (number_of b)) (sym (or_false (is_at r.rested slot)))
-    row_shows (slot ∷ more ∷ rest) its fits row =
-        let found = and_both (has.copied slot.counter) (list_all (λ slot. has.copied slot.counter) (more ∷ rest)) its in
-        let fit = and_both (fits_counter view.sizes slot) (list_all (fits_counter view.sizes) (more ∷ rest)) fits in
-        within_shows slot.counter slot.value (last_value slot.value (more ∷ rest)) found.0 fit.0
-        (last_fits view slot.counter slot.value (more ∷ rest) fit.0 fit.1 row)
-        ∙ ap (λ b. Some (number_of b)) (sym (row_in r.rested slot.counter slot.value (more ∷ rest) row))
-
-    -- ---- guards
-
-    guard_shows : WordsAgree view has → (n : Node) (condition : Condition) → asks_its_own view has n condition ≡ true →
-        Shows scope here (guard_of view n condition) (due_by view.number r n condition)
-    guard_shows words n Flagged its = flag_shows scope here view has r hold words (view.number n) its
-    guard_shows words n (Rested slot) its = rested_shows scope here view has r hold within slot its
-    guard_shows words n (RestedIn slots) its =
-        let found = and_both (list_all (λ slot. has.copied slot.counter) slots) (list_all (fits_counter view.sizes) slots && are_in_a_row slots) its in
-        let more = and_both (list_all (fits_counter view.sizes) slots) (are_in_a_row slots) found.1 in
-        row_shows slots found.0 more.0 more.1
-    guard_shows words n (Ended age needed) its =
-        let found = and_both (has_age view.number has age) (list_all (λ slot. has.counters slot.counter) needed.slots) its in
-        aged_shows scope here view has r hold words age (ends_test view needed) (are_ended r.counters needed) found.0
-        (ends_show scope here view has r hold needed found.1)
-
-    -- where a block leaves its call, its flag is asked for too
-    pub guards_show : WordsAgree view has → (before : Option ℕ) (n : Node) (condition : Condition) → has_left has before ≡ true →
-        asks_its_own view has n condition ≡ true →
-        Shows scope here (entered_by view.word before (guard_of view n condition)) (is_left r before || due_by view.number r n condition)
-    guards_show words None n condition left its = guard_shows words n condition its
-    guards_show words (Some k) n condition left its =
-        or_shows scope here (c_read (flag_place (with_word view.word k))) (guard_of view n condition) (r.flags k) (due_by view.number r n condition)
-        (flag_shows scope here view has r hold words k left) (guard_shows words n condition its)
+  -- where a block leaves its call, its flag is asked for too
+  pub guards_show : WordsAgree view has → (before : Option ℕ) (n : Node) (condition : Condition) → has_left has before ≡ true →
+      asks_its_own view has n condition ≡ true →
+      Shows scope here (entered_by view.word before (guard_of view n condition)) (is_left r before || due_by view.number r n condition)
+  guards_show words None n condition left its = guard_shows words n condition its
+  guards_show words (Some k) n condition left its =
+      or_shows scope here (c_read (flag_place (with_word view.word k))) (guard_of view n condition) (r.flags k) (due_by view.number r n condition)
+      (flag_shows scope here view has r hold words k left) (guard_shows words n condition its)

@@ -1,21 +1,17 @@
--- The numbers that calls of the prelude's functions, comparisons, `!`, `&&` and `||` give.
-use Rattle.std.proofs.Common.{◌≡◌, ℕ, ◌+◌, ℤ, pos, Bool, true, false, List, [], ◌∷◌, map, Option, Some, None, refl, ap}
+-- The numbers that comparisons, `!`, `&&` and `||` give.
+use Rattle.std.proofs.Common.{◌≡◌, ℕ, ℤ, pos, Bool, true, false, Option, Some, None, refl, ap}
 use Rattle.std.proofs.Common.{◌∙◌}
 use Rattle.std.specs.Prelude.{option_and_then, option_map, if◌then◌else◌}
-use Rattle.bl_tree.specs.declared.text.Text.{Text}
 use Rattle.bl_tree.specs.declared.scalar.Op.{Op}
 use Rattle.bl_tree.specs.declared.scalar.Op.TheVariants.{And, Or, Not}
 use Rattle.bl_tree.specs.declared.scalar.Scalar.TheVariants.{Bool as OfBool}
-use Rattle.bl_tree.specs.declared.c.CArg.TheVariants.{Value}
 use Rattle.bl_tree.specs.declared.c.CExpr.{CExpr}
 use Rattle.bl_tree.specs.Numbers.{checked_of, checked_one_of, is_one}
-use Rattle.bl_ctext.specs.declared.builtin.Builtin.{Builtin}
-use Rattle.bl_ctext_semantics.specs.Builtin.{builtin_of, builtin_value}
 use Rattle.bl_ctext_semantics.specs.Memory.{CValue, Memory, scalar, scalar_number}
-use Rattle.bl_ctext_semantics.specs.Meaning.{ArgumentValue, Counted, Evaluates, Scope, at_once, by_value, called_after, called_as, given, next, number_of_passed, result_of}
+use Rattle.bl_ctext_semantics.specs.Meaning.{Counted, Evaluates, Scope, at_once, given, next}
 use Rattle.bl_ctext_semantics.specs.Meaning.{two_values, value_c}
-use Rattle.bl_emit_acts.specs.Trees.{c_called, c_not, c_two}
-use Rattle.bl_emit_spec_laws.proofs.OnRegisters.Evaluated.{called-value, not-value, passes, two-value, value-arg}
+use Rattle.bl_emit_acts.specs.Trees.{c_not, c_two}
+use Rattle.bl_emit_spec_laws.proofs.OnRegisters.Evaluated.{not-value, two-value}
 
 -- the number of an answer
 abbrev pub num : Option CValue → Option ℤ
@@ -29,42 +25,6 @@ module _ (scope : Scope) (memory : Memory) where
   -- the number that an expression gives
   abbrev pub gives : CExpr → Option ℤ
   gives e = num (value_c e scope memory).answer
-
-  -- ---- calls of the prelude's functions
-
-  abbrev valued : Counted CValue → Counted ArgumentValue
-  valued c = next c (λ v. given (Some (by_value v)))
-
-  abbrev one_more : Counted ArgumentValue → Counted (List ArgumentValue) → Counted (List ArgumentValue)
-  one_more first rest = next first (λ a. next rest (λ others. given (Some (a ∷ others))))
-
-  abbrev answer_of : Text → Counted (List ArgumentValue) → Option ℤ
-  answer_of name passed = num (result_of (called_after scope memory name passed.count passed.answer)).answer
-
-  module _ (name : Text) (b : Builtin) (is : builtin_of name ≡ Some b) where
-    built : (numbers : List ArgumentValue) →
-        num (option_map scalar (called_as (builtin_of name) (scope.known name) (scope.depth + 1) numbers memory).result)
-        ≡ builtin_value b (map number_of_passed numbers)
-    built numbers =
-        ap (λ (o : Option Builtin). num (option_map scalar (called_as o (scope.known name) (scope.depth + 1) numbers memory).result)) is
-        ∙ num-scalar (builtin_value b (map number_of_passed numbers))
-
-    one_by : (n : ℕ) (o : Option CValue) → answer_of name (one_more (valued (record { count = n; answer = o })) (given (Some [])))
-        ≡ option_and_then (λ m. builtin_value b (m ∷ [])) (num o)
-    one_by n None = refl
-    one_by n (Some v) = built (by_value v ∷ [])
-
-    one_passed : (first : Counted ArgumentValue) (c : Counted CValue) → first ≡ valued c →
-        answer_of name (one_more first (given (Some []))) ≡ option_and_then (λ m. builtin_value b (m ∷ [])) (num c.answer)
-    one_passed first c h = ap (λ first. answer_of name (one_more first (given (Some [])))) h ∙ one_by c.count c.answer
-
-    -- a function of one number
-    pub one-number : (e : CExpr) → gives (c_called name (Value e ∷ [])) ≡ option_and_then (λ m. builtin_value b (m ∷ [])) (gives e)
-    one-number e =
-        ap (λ (c : Counted CValue). num c.answer) (called-value scope memory name (Value e ∷ []))
-        ∙ one_passed (passes (Value e) scope memory) (value_c e scope memory) (value-arg scope memory e)
-
-  -- ---- C's own operators
 
   not_by : (n : ℕ) (o : Option CValue) →
       num (next (record { count = n; answer = o }) (λ a. given (option_map scalar (checked_one_of Not OfBool (scalar_number a))))).answer

@@ -9,8 +9,6 @@ use Rattle.std.proofs.Common.{
   Bool,
   true,
   false,
-  ◌&&◌,
-  ◌||◌,
   List,
   [],
   ◌∷◌,
@@ -20,19 +18,19 @@ use Rattle.std.proofs.Common.{
   Some,
   None,
 }
-use Rattle.std.proofs.Common.{arith, length, refl, sym, ap, subst, ◌∙◌, codes}
+use Rattle.std.proofs.Common.{length, refl, sym, ap, subst, ◌∙◌, codes}
 use Rattle.std.proofs.lemmas.List.Elements.{All-cons, All-nil}
 use Rattle.std.specs.Prelude.{All, is_some, nat_eq, option_to_list, slice_get, if◌then◌else◌}
 use Rattle.bl_tree.specs.declared.text.Text.{Text}
 use Rattle.bl_tree.specs.declared.c.CArg.{CArg}
-use Rattle.bl_tree.specs.declared.c.CArg.TheVariants.{Address, Value}
+use Rattle.bl_tree.specs.declared.c.CArg.TheVariants.{Address}
 use Rattle.bl_tree.specs.declared.c.CExpr.{CExpr}
 use Rattle.bl_tree.specs.declared.c.CPlace.{CPlace}
 use Rattle.bl_tree.specs.declared.c.CStmt.{CStmt}
 use Rattle.bl_tree.specs.declared.scalar.Op.{Op}
 use Rattle.bl_tree.specs.declared.scalar.Op.TheVariants.{And, Eq, Ge, Le, Ne, Or}
 use Rattle.bl_tree.specs.declared.scalar.Scalar.{Scalar as ScalarType}
-use Rattle.bl_tree.specs.declared.scalar.Scalar.TheVariants.{Bool as OfBool, Bits, Int, Nat}
+use Rattle.bl_tree.specs.declared.scalar.Scalar.TheVariants.{Bool as OfBool}
 use Rattle.bl_tree.specs.declared.tree.Arm.{Arm}
 use Rattle.bl_tree.specs.declared.tree.Branch.{Branch}
 use Rattle.bl_tree.specs.declared.tree.Expr.{Expr}
@@ -42,7 +40,6 @@ use Rattle.bl_tree.specs.declared.tree.StmtKind.{StmtKind, fold-StmtKind, fold_o
 use Rattle.bl_tree.specs.declared.tree.StmtKind.TheOpen.{StmtKind-F}
 use Rattle.bl_tree.specs.declared.tree.Ty.{Ty}
 use Rattle.bl_tree.specs.Reduce.{joined}
-use Rattle.bl_tree.specs.Scalar.{is_int}
 use Rattle.bl_tree.specs.Types.{scalar_in}
 use Rattle.bl_tree.specs.Typing.{var_at}
 use Rattle.bl_limits_measures.specs.Calls.{
@@ -79,21 +76,19 @@ use Rattle.bl_graph_nodes.specs.Nodes.{
 }
 use Rattle.bl_graph_nodes.specs.Plain.{Block, Done, Then}
 use Rattle.bl_machine.specs.declared.slots.Slot.{Slot}
-use Rattle.bl_ctext_semantics.specs.Calls.{calls_in, calls_in_arg, calls_in_block, calls_in_call, calls_in_place, calls_in_step, calls_in_stmt}
+use Rattle.bl_ctext_semantics.specs.Calls.{calls_in, calls_in_arg, calls_in_block, calls_in_place, calls_in_step, calls_in_stmt}
 use Rattle.bl_emit_acts.specs.Acts.{c_calling, c_clear, c_copied, c_set, c_zeroed, call_args, call_made, code_made, copy_code, initial_code}
 use Rattle.bl_emit_acts.specs.Acts.{is_copied, layer_code, name_of_callee, output_arg, zeroed}
-use Rattle.bl_emit_acts.specs.Expressions.{arg_of, c_cast, c_compare, cast_word, code_of, function_name, hidden, is_constant, is_read, made_of, side}
-use Rattle.bl_emit_acts.specs.Expressions.{stands, type_at}
+use Rattle.bl_emit_acts.specs.Expressions.{arg_of, code_of, function_name, hidden, made_of, stands, type_at}
 use Rattle.bl_emit_acts.specs.Places.{place_in}
 use Rattle.bl_emit_acts.specs.Trees.{c_call, c_literal, c_not, c_place, c_read, c_step, c_two}
 use Rattle.bl_emit_acts.specs.Types.{c_scalar, copy_name, type_name}
 use Rattle.bl_emit_functions.specs.Statements.{else_code}
 use Rattle.bl_emit_functions.specs.Trees.{c_if, c_truth}
 use Rattle.bl_emit_functions_laws_wellformed.proofs.OnFiles.Expressions.{Light, args_light, call-light, callee_light, expr_light, literal-light}
-use Rattle.bl_emit_functions_laws_wellformed.proofs.OnFiles.Expressions.{none-light, own_light, path_light, read-light, root-light, same-light, two-light}
-use Rattle.bl_emit_functions_laws_wellformed.proofs.OnFiles.Shapes.{address-calls, called-calls, calling-calls, clear-calls, if-calls}
+use Rattle.bl_emit_functions_laws_wellformed.proofs.OnFiles.Expressions.{hidden-light, none-light, own_light, path_light, read-light, root-light, same-light, two-light}
+use Rattle.bl_emit_functions_laws_wellformed.proofs.OnFiles.Shapes.{address-calls, calling-calls, clear-calls, if-calls}
 use Rattle.bl_emit_functions_laws_wellformed.proofs.OnFiles.Shapes.{not-calls, other_calls, place-calls, step-calls}
-use Rattle.bl_emit_functions_laws_wellformed.proofs.OnFiles.Shapes.{value-calls}
 use Rattle.bl_emit_functions_laws_wellformed.proofs.OnFiles.Statements.{Few, first_few, none_few, one_few, set_few, then_few}
 use Rattle.bl_emit_functions_laws_wellformed.proofs.OnFiles.Under.{Under, append-under, back-under, both-under, front-under, head-under, none-under, tail-under}
 use Rattle.bl_machine_pass.specs.Transitions.{Age, Change, Condition, Needed, Transition}
@@ -292,42 +287,17 @@ module _ (weight : Text → ℕ) (prelude : (word : Text) (s : ScalarType) → w
           two-light weight prelude n Eq (c_read (rested_place slot.counter)) (counter_value view.sizes slot.counter slot.value)
           (reads_few (rested_place slot.counter) (local_few (rested_name slot.counter))) (value_few view slot.counter slot.value)
 
-  -- ---- comparisons
-
-  cast_few : (from to : ScalarType) (e : CExpr) → ExprFew e → ExprFew (c_cast from to e)
-  cast_few from to e one =
-      let name = function_name (cast_word (is_int from)) to in
-      let none : weight name ≡ 0 = prelude (cast_word (is_int from)) to in
-      same-light weight prelude n (calls_in (c_cast from to e)) (calls_in_call (c_call name (Value e ∷ []))) (called-calls (c_call name (Value e ∷ [])))
-      (call-light weight prelude n name (Value e ∷ []) (omega (arith, none))
-      (append-under weight n (calls_in_arg (Value e)) []
-      (same-light weight prelude n (calls_in_arg (Value e)) (calls_in e) (value-calls e) one) (none-under weight n)))
-
-  hidden_few : (s : ScalarType) (e : CExpr) → ExprFew e → ExprFew (hidden s e)
-  hidden_few OfBool e one = two-light weight prelude n And e (c_literal OfBool (pos 1)) one (literal-light weight prelude n OfBool (pos 1))
-  hidden_few (Int w) e one = cast_few (Int w) (Int w) e one
-  hidden_few (Nat w) e one = cast_few (Nat w) (Nat w) e one
-  hidden_few (Bits w) e one = cast_few (Bits w) (Bits w) e one
-
-  side_few : (hides : Bool) (s : ScalarType) (e : CExpr) → ExprFew e → ExprFew (side hides s e)
-  side_few true s e one = hidden_few s e one
-  side_few false s e one = one
-
-  compare_few : (op : Op) (s : ScalarType) (a b : CExpr) → ExprFew a → ExprFew b → ExprFew (c_compare op s a b)
-  compare_few op s a b one other =
-      two-light weight prelude n op (side (is_constant a) s a) (side (is_constant b || (is_read a && is_read b)) s b)
-      (side_few (is_constant a) s a one) (side_few (is_constant b || (is_read a && is_read b)) s b other)
-
   -- ---- guards
 
   between_few : (view : ActivityView) (k least most : ℕ) → ExprFew (rested_between view k least most)
   between_few view k least most =
-      let s = counter_type view.sizes k in
       let here = reads_few (rested_place k) (local_few (rested_name k)) in
-      two-light weight prelude n And (c_compare Ge s (c_read (rested_place k)) (counter_value view.sizes k least))
-      (c_compare Le s (c_read (rested_place k)) (counter_value view.sizes k most))
-      (compare_few Ge s (c_read (rested_place k)) (counter_value view.sizes k least) here (value_few view k least))
-      (compare_few Le s (c_read (rested_place k)) (counter_value view.sizes k most) here (value_few view k most))
+      let s = counter_type view.sizes k in
+      let last = hidden s (counter_value view.sizes k most) in
+      two-light weight prelude n And (c_two Ge (c_read (rested_place k)) (counter_value view.sizes k least)) (c_two Le (c_read (rested_place k)) last)
+      (two-light weight prelude n Ge (c_read (rested_place k)) (counter_value view.sizes k least) here (value_few view k least))
+      (two-light weight prelude n Le (c_read (rested_place k)) last here
+      (hidden-light weight prelude n s (counter_value view.sizes k most) (value_few view k most)))
 
   within_few : (view : ActivityView) (k least most : ℕ) → ExprFew (rested_within view k least most)
   within_few view k least most = by (is_greatest view.sizes k most)

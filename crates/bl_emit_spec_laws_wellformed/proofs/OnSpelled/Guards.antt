@@ -13,10 +13,8 @@ use Rattle.bl_tree.specs.declared.scalar.Op.TheVariants.{And, Eq, Ge, Le, Ne, Or
 use Rattle.bl_tree.specs.declared.scalar.Scalar.{Scalar as ScalarType}
 use Rattle.bl_tree.specs.declared.scalar.Scalar.TheVariants.{Bool as OfBool, Nat}
 use Rattle.bl_tree.specs.declared.scalar.Width.TheVariants.{W8, W16, W32}
-use Rattle.bl_tree.specs.Numbers.{takes_two}
 use Rattle.bl_tree.specs.Reduce.{all_of}
 use Rattle.bl_tree.specs.Scalar.{in_range}
-use Rattle.bl_tree.specs.Types.{scalar}
 use Rattle.bl_eval.proofs.PassLemmas.{and_left, and_right, both}
 use Rattle.bl_ctext.specs.Names.{is_among, is_name}
 use Rattle.bl_ctext.specs.Token.{is_word_byte}
@@ -29,11 +27,11 @@ use Rattle.bl_machine_pass.specs.Transitions.{Age, Change, Condition, Needed}
 use Rattle.bl_machine_pass.specs.Transitions.{ClearsBoth, ClearsCounter, Ended, EndsWhen, Finishes, Flagged, IsAny}
 use Rattle.bl_machine_pass.specs.Transitions.{IsNew, IsOld, Rested, RestedIn, SetsCounter, SetsFlag, SetsMark}
 use Rattle.bl_emit_acts.specs.Acts.{c_set}
-use Rattle.bl_emit_acts.specs.Expressions.{c_both, c_compare}
+use Rattle.bl_emit_acts.specs.Expressions.{hidden}
 use Rattle.bl_emit_acts.specs.Trees.{c_not, c_read, c_step, c_two, nowhere}
 use Rattle.bl_emit_acts_laws_wellformed.proofs.OnSpelled.Literals.{literal-stands}
 use Rattle.bl_emit_acts_laws_wellformed.proofs.OnSpelled.Names.{numbered-name, worded-name}
-use Rattle.bl_emit_acts_laws_wellformed.proofs.OnSpelled.Operators.{both-fits, code-fits}
+use Rattle.bl_emit_acts_laws_wellformed.proofs.OnSpelled.Operators.{hidden-fits}
 use Rattle.bl_emit_acts_laws_wellformed.proofs.OnSpelled.Shapes.{not-fits}
 use Rattle.bl_emit_functions.specs.Trees.{c_if, c_truth}
 use Rattle.bl_emit_functions_laws_wellformed.proofs.OnSpelled.Acts.{one-fits}
@@ -214,31 +212,18 @@ slot-rested view slot h = by (is_greatest view.sizes slot.counter slot.value)
         two-fits 2 3 nowhere Eq (c_read (rested_place slot.counter)) (counter_value view.sizes slot.counter slot.value) (omega arith) refl read
         (value-fits 2 view.sizes slot.counter slot.value (omega arith) (slot_value view.sizes slot h))
 
-takes_type : (op : Op) (n : ℕ) → takes_two op (Nat W8) ≡ true → takes_two op (Nat W16) ≡ true → takes_two op (Nat W32) ≡ true →
-    takes_two op (type_for n) ≡ true
-takes_type op n one two three = by_type (λ s. takes_two op s ≡ true) one two three n
-
-compare-fits : (s : ScalarType) (a b : CExpr) → takes_two Ge s ≡ true → expr_fits 2 a ≡ true → expr_fits 2 b ≡ true →
-    expr_fits 4 (c_compare Ge s a b) ≡ true
-compare-fits s a b taken one other =
-    code-fits 4 (scalar OfBool) (c_both Ge s a b) (both-fits 2 4 (omega arith) (omega arith) Ge s a b taken one other)
-
-compare_less : (s : ScalarType) (a b : CExpr) → takes_two Le s ≡ true → expr_fits 2 a ≡ true → expr_fits 2 b ≡ true →
-    expr_fits 4 (c_compare Le s a b) ≡ true
-compare_less s a b taken one other =
-    code-fits 4 (scalar OfBool) (c_both Le s a b) (both-fits 2 4 (omega arith) (omega arith) Le s a b taken one other)
-
 between-fits : (view : ActivityView) (k least greatest : ℕ) → k < 2 ^ 64 → in_range (counter_type view.sizes k) (pos least) ≡ true →
     in_range (counter_type view.sizes k) (pos greatest) ≡ true → expr_fits 5 (rested_between view k least greatest) ≡ true
 between-fits view k least greatest small one other =
-    let s : ScalarType = counter_type view.sizes k in
-    let rested = read-fits 2 nowhere (rested_place k) (rested-fits 2 k (omega arith) small) in
-    two-fits 4 5 nowhere And (c_compare Ge s (c_read (rested_place k)) (counter_value view.sizes k least))
-    (c_compare Le s (c_read (rested_place k)) (counter_value view.sizes k greatest)) (omega arith) refl
-    (compare-fits s (c_read (rested_place k)) (counter_value view.sizes k least)
-    (takes_type Ge (unwrap_or (slice_get view.sizes k) 0) refl refl refl) rested (value-fits 2 view.sizes k least (omega arith) one))
-    (compare_less s (c_read (rested_place k)) (counter_value view.sizes k greatest)
-    (takes_type Le (unwrap_or (slice_get view.sizes k) 0) refl refl refl) rested (value-fits 2 view.sizes k greatest (omega arith) other))
+    let s = counter_type view.sizes k in
+    let last = hidden s (counter_value view.sizes k greatest) in
+    let read = read-fits 3 nowhere (rested_place k) (rested-fits 3 k (omega arith) small) in
+    two-fits 4 5 nowhere And (c_two Ge (c_read (rested_place k)) (counter_value view.sizes k least)) (c_two Le (c_read (rested_place k)) last)
+    (omega arith) refl
+    (two-fits 3 4 nowhere Ge (c_read (rested_place k)) (counter_value view.sizes k least) (omega arith) refl read
+    (value-fits 3 view.sizes k least (omega arith) one))
+    (two-fits 3 4 nowhere Le (c_read (rested_place k)) last (omega arith) refl read
+    (hidden-fits 2 4 (omega arith) (omega arith) s (counter_value view.sizes k greatest) (value-fits 2 view.sizes k greatest (omega arith) other)))
 
 within-fits : (view : ActivityView) (k least greatest : ℕ) → k < 2 ^ 64 → in_range (counter_type view.sizes k) (pos least) ≡ true →
     in_range (counter_type view.sizes k) (pos greatest) ≡ true → expr_fits 5 (rested_within view k least greatest) ≡ true

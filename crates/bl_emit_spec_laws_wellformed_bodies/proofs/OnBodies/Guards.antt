@@ -13,7 +13,6 @@ use Rattle.bl_tree.specs.declared.scalar.Scalar.{Scalar as ScalarType}
 use Rattle.bl_tree.specs.declared.scalar.Scalar.TheVariants.{Bool as OfBool, Nat}
 use Rattle.bl_tree.specs.declared.scalar.Width.TheVariants.{W8, W16, W32}
 use Rattle.bl_tree.specs.declared.tree.Unit.{Unit as UnitDef}
-use Rattle.bl_tree.specs.Numbers.{takes_two}
 use Rattle.bl_eval.proofs.PassLemmas.{and_left, and_right}
 use Rattle.bl_ctext_semantics.specs.Faults.{Context, Signature, bool_type, takes}
 use Rattle.bl_ctext_semantics.specs.Tables.{Table}
@@ -22,14 +21,14 @@ use Rattle.bl_machine.specs.declared.slots.Slot.{Slot}
 use Rattle.bl_machine_pass.specs.Transitions.{Change, Condition, Needed}
 use Rattle.bl_machine_pass.specs.Transitions.{ClearsBoth, ClearsCounter, Ended, EndsWhen, Finishes, Flagged, IsAny, IsNew, IsOld, Rested, RestedIn, SetsCounter, SetsFlag, SetsMark}
 use Rattle.bl_emit_acts.specs.Acts.{c_set}
-use Rattle.bl_emit_acts.specs.Expressions.{c_compare}
+use Rattle.bl_emit_acts.specs.Expressions.{hidden}
 use Rattle.bl_emit_acts.specs.Trees.{c_not, c_read, c_two}
 use Rattle.bl_emit_acts.specs.Types.{c_scalar}
 use Rattle.bl_emit_functions.specs.Trees.{c_if, c_truth}
 use Rattle.bl_emit_acts_laws_wellformed.specs.Formed.Formed.{BlockIs, ExprIs, PlaceIs, StmtIs}
 use Rattle.bl_emit_acts_laws_wellformed.proofs.OnFormed.Acts.{block_append, block_cons, block_nil, block_one, set-is}
 use Rattle.bl_emit_acts_laws_wellformed.proofs.OnFormed.Judged.{literal-is, not-is, read-is, two-is}
-use Rattle.bl_emit_acts_laws_wellformed.proofs.OnFormed.Operators.{both_is}
+use Rattle.bl_emit_acts_laws_wellformed.proofs.OnFormed.Operators.{hidden_is}
 use Rattle.bl_emit_acts_laws_wellformed.proofs.OnFormed.Prelude.{type_same}
 use Rattle.bl_emit_functions_laws_wellformed.proofs.OnFormed.Shapes.{if-is}
 use Rattle.bl_emit_spec.specs.Activities.{Activity, activity_view, entry_place}
@@ -39,7 +38,7 @@ use Rattle.bl_emit_spec.specs.Blocks.{rested_in, rested_since, rested_to, rested
 use Rattle.bl_emit_spec.specs.Names.{counter_place, flag_place, mark_place, over_place, rested_place, with_word}
 use Rattle.bl_emit_spec_laws.specs.Registers.Laws.{asks_its_own, changes_its_own}
 use Rattle.bl_emit_spec_laws.specs.Calls.Built.{registered}
-use Rattle.bl_emit_spec_laws_wellformed_bodies.proofs.OnBodies.Variables.{Here, context, counter-is, flag-is, mark-is, over-is, rested-is, site}
+use Rattle.bl_emit_spec_laws_wellformed_bodies.proofs.OnBodies.Variables.{Here, context, counter-is, flag-is, mark-is, over-is, rested-is}
 
 -- what holds of the three types that a counter may have
 by_type : (P : ScalarType → Type 0) → P (Nat W8) → P (Nat W16) → P (Nat W32) → (n : ℕ) → P (type_for n)
@@ -114,16 +113,38 @@ module _ (units : List UnitDef) (entry k : ℕ) (a : Activity) (table : Table (T
       ExprIs here bool_type (c_two Eq (c_read (entry_place (view.is_read 0))) (counter_value a.sizes 0 0))
   begins-is on = equal-is 0 0 (c_read (entry_place (view.is_read 0))) (first-is on (view.is_read 0) refl)
 
+  compare-is : (op : Op) (c v : ℕ) → takes op (kind c) ≡ true → view.is_read c ≡ true →
+      ExprIs here bool_type (c_two op (c_read (rested_place c)) (counter_value a.sizes c v))
+  compare-is op c v taken on =
+      two-is here op (kind c) (c_read (rested_place c)) (counter_value a.sizes c v) taken (type_same (kind c)) (read-rested c on) (value-is c v)
+
+  greater-is : (c v : ℕ) → view.is_read c ≡ true → ExprIs here bool_type (c_two Ge (c_read (rested_place c)) (counter_value a.sizes c v))
+  greater-is c v on =
+      compare-is Ge c v (by_type (λ s. takes Ge (OfScalar s) ≡ true) refl refl refl (unwrap_or (slice_get a.sizes c) 0)) on
+
+  same_counter : (c : ℕ) → c_scalar (counter_type a.sizes c) ≡ counter_type a.sizes c
+  same_counter c = by_type (λ s. c_scalar s ≡ s) refl refl refl (unwrap_or (slice_get a.sizes c) 0)
+
+  hidden-value-is : (c v : ℕ) → ExprIs here (kind c) (hidden (counter_type a.sizes c) (counter_value a.sizes c v))
+  hidden-value-is c v =
+      let s = counter_type a.sizes c in
+      subst (λ t. ExprIs here (OfScalar t) (hidden s (counter_value a.sizes c v))) (same_counter c)
+      (hidden_is here s (counter_value a.sizes c v)
+      (subst (λ t. ExprIs here (OfScalar t) (counter_value a.sizes c v)) (sym (same_counter c)) (value-is c v)))
+
+  less-is : (c v : ℕ) → view.is_read c ≡ true →
+      ExprIs here bool_type (c_two Le (c_read (rested_place c)) (hidden (counter_type a.sizes c) (counter_value a.sizes c v)))
+  less-is c v on =
+      two-is here Le (kind c) (c_read (rested_place c)) (hidden (counter_type a.sizes c) (counter_value a.sizes c v))
+      (by_type (λ s. takes Le (OfScalar s) ≡ true) refl refl refl (unwrap_or (slice_get a.sizes c) 0)) (type_same (kind c)) (read-rested c on)
+      (hidden-value-is c v)
+
   since-is : (c v : ℕ) → view.is_read c ≡ true → ExprIs here bool_type (rested_since view c v)
   since-is c v on = by (nat_eq v 1)
     where
       by : (one : Bool) → ExprIs here bool_type (rested_from view c v one)
-      by true =
-          two-is here Ne (kind c) (c_read (rested_place c)) (counter_value a.sizes c 0) refl (type_same (kind c)) (read-rested c on) (value-is c 0)
-      by false =
-          two-is here Ge (kind c) (c_read (rested_place c)) (counter_value a.sizes c v)
-          (by_type (λ s. takes Ge (OfScalar s) ≡ true) refl refl refl (unwrap_or (slice_get a.sizes c) 0)) (type_same (kind c)) (read-rested c on)
-          (value-is c v)
+      by true = compare-is Ne c 0 refl on
+      by false = greater-is c v on
 
   slot-rested : (slot : Slot) → view.is_read slot.counter ≡ true → ExprIs here bool_type (rested_at view slot)
   slot-rested slot on = by (is_greatest a.sizes slot.counter slot.value)
@@ -132,35 +153,15 @@ module _ (units : List UnitDef) (entry k : ℕ) (a : Activity) (table : Table (T
       by true = since-is slot.counter slot.value on
       by false = equal-is slot.counter slot.value (c_read (rested_place slot.counter)) (read-rested slot.counter on)
 
-  same_counter : (c : ℕ) → c_scalar (counter_type a.sizes c) ≡ counter_type a.sizes c
-  same_counter c = by_type (λ s. c_scalar s ≡ s) refl refl refl (unwrap_or (slice_get a.sizes c) 0)
-
-  as_number : (c : ℕ) (code : CExpr) → ExprIs here (kind c) code → ExprIs here (OfScalar (c_scalar (counter_type a.sizes c))) code
-  as_number c code is = subst (λ t. ExprIs here (OfScalar t) code) (sym (same_counter c)) is
-
-  greater-is : (c v : ℕ) → view.is_read c ≡ true →
-      ExprIs here bool_type (c_compare Ge (counter_type a.sizes c) (c_read (rested_place c)) (counter_value a.sizes c v))
-  greater-is c v on =
-      (both_is here (site units entry k a table known h) Ge (counter_type a.sizes c) (c_read (rested_place c)) (counter_value a.sizes c v)
-      (by_type (λ s. takes_two Ge s ≡ true) refl refl refl (unwrap_or (slice_get a.sizes c) 0))
-      (as_number c (c_read (rested_place c)) (read-rested c on)) (as_number c (counter_value a.sizes c v) (value-is c v))).1
-
-  less-is : (c v : ℕ) → view.is_read c ≡ true →
-      ExprIs here bool_type (c_compare Le (counter_type a.sizes c) (c_read (rested_place c)) (counter_value a.sizes c v))
-  less-is c v on =
-      (both_is here (site units entry k a table known h) Le (counter_type a.sizes c) (c_read (rested_place c)) (counter_value a.sizes c v)
-      (by_type (λ s. takes_two Le s ≡ true) refl refl refl (unwrap_or (slice_get a.sizes c) 0))
-      (as_number c (c_read (rested_place c)) (read-rested c on)) (as_number c (counter_value a.sizes c v) (value-is c v))).1
-
   between-is : (c least greatest : ℕ) → view.is_read c ≡ true → ExprIs here bool_type (rested_within view c least greatest)
   between-is c least greatest on = by (is_greatest a.sizes c greatest)
     where
       by : (top : Bool) → ExprIs here bool_type (rested_to view c least greatest top)
       by true = since-is c least on
       by false =
-          two-is here And bool_type (c_compare Ge (counter_type a.sizes c) (c_read (rested_place c)) (counter_value a.sizes c least))
-          (c_compare Le (counter_type a.sizes c) (c_read (rested_place c)) (counter_value a.sizes c greatest)) refl refl
-          (greater-is c least on) (less-is c greatest on)
+          two-is here And bool_type (c_two Ge (c_read (rested_place c)) (counter_value a.sizes c least))
+          (c_two Le (c_read (rested_place c)) (hidden (counter_type a.sizes c) (counter_value a.sizes c greatest))) refl refl (greater-is c least on)
+          (less-is c greatest on)
 
   in-is : (slots : List Slot) → list_all (λ (slot : Slot). view.is_read slot.counter) slots ≡ true → ExprIs here bool_type (rested_in view slots)
   in-is [] all = truth-is here false
