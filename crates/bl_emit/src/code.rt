@@ -8,7 +8,7 @@ ghost use Rattle.bl_machine_transitions.specs.Told.{rule_in};
 ghost use Rattle.bl_emit.specs.Activities.{code_by, entry_at, entry_told, entry_where};
 
 use crate::chosen::is_set;
-use crate::names::counter_type;
+use crate::counters::counter_type;
 use crate::parts::equal;
 use bl_emit_acts::copied as copy_set;
 use bl_emit_acts::parts::{literal, member_at, numbered, read, set, whole};

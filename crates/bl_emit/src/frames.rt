@@ -10,11 +10,12 @@ ghost use Rattle.bl_emit.specs.Kept.{run_in};
 ghost use Rattle.bl_emit.specs.inner.Members.{members_within};
 
 use crate::chosen::{count_of, is_set};
-use crate::names::{counter_type, name_of};
+use crate::counters::counter_type;
 use crate::parts::member;
 use crate::runs::RunAt;
 use bl_emit_acts::parts::{NOWHERE, numbered, prefixed, worded};
 use bl_emit_functions::memory;
+use bl_emit_tables::name_of;
 use bl_tree::c::{CMember, CStruct, CType};
 use bl_tree::tree::{StructDef, Unit};
 use bl_tree::{List, NoMemory};

@@ -6,10 +6,10 @@
 mod activity;
 mod chosen;
 mod code;
+mod counters;
 mod frames;
 mod interface;
 mod locals;
-mod names;
 mod params;
 mod parts;
 mod program;

@@ -8,13 +8,14 @@ ghost use Rattle.bl_emit_spec.specs.Activities.{ended_local, given_local, rested
 ghost use Rattle.bl_emit.specs.Activities.{copy_told, locals_by, run_locals_told};
 ghost use Rattle.bl_emit.specs.Kept.{run_in};
 
-use crate::names::{counter_type, name_of, scalar_of_variable};
+use crate::counters::counter_type;
 use crate::parts::local;
 use crate::registers::{add_flags, add_marks};
 use crate::runs::RunAt;
 use bl_emit_acts::parts::{named, numbered, worded};
-use bl_emit_acts::scalar_in_c;
+use bl_emit_acts::{scalar_in_c, scalar_of_variable};
 use bl_emit_blocks::{ActivityView, may_end_at};
+use bl_emit_tables::name_of;
 use bl_machine_transitions::Transition;
 use bl_tree::c::CLocal;
 use bl_tree::slices::element;

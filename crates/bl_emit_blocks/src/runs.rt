@@ -20,6 +20,7 @@ use crate::view::ActivityView;
 use bl_emit_acts::parts::{clear, joined, prefixed, read, set, single, statement};
 use bl_emit_acts::{UnitSite, argument, expression, place};
 use bl_emit_functions::parts::{choice, truth};
+use bl_emit_tables::name_of;
 use bl_machine_transitions::{Change, Run};
 use bl_tree::c::{CArg, CCall, CPlace, CStmt, CStmtKind};
 use bl_tree::slices::element;
@@ -66,21 +67,11 @@ fn callee(alloc: Global, view: &ActivityView, a: u32) -> Result<Text, NoMemory>
     }
 }
 
-/// Its name in the source.
-fn name<'a>(view: &ActivityView<'a>, a: u32) -> &'a str
-    ensures { result.now ≡ blocks.name_in (slice_get (view_in view.entry.now).site.earlier a) }
-{
-    match element(view.site.earlier, a as usize) {
-        Some(unit) => unit.name.as_str(),
-        None => "",
-    }
-}
-
 /// The name of the struct of where it rests.
 fn frame(alloc: Global, view: &ActivityView, a: u32) -> Result<Text, NoMemory>
     ensures { IfOk result (λ text. text ≡ names.frame_name (blocks.name_in (slice_get (view_in view.entry.now).site.earlier a))) }
 {
-    prefixed(alloc, "f_", name(view, a))
+    prefixed(alloc, "f_", name_of(view.site.earlier, a))
 }
 
 // ---- arguments
@@ -134,7 +125,7 @@ fn first_args(alloc: Global, view: &ActivityView, k: u32, run: &Run) -> Result<L
         ∷ blocks.arg_where ((view_in view.entry.now).remembers run.entry.now.unit)
         (Address (names.callee_memory (blocks.run_word (view_in view.entry.now).site.earlier k run.entry.now.unit)))) }
 {
-    let word = name(view, run.unit);
+    let word = name_of(view.site.earlier, run.unit);
     let mut args = List::new(alloc);
     args.push(CArg::Address(callee_frame(alloc, k, word)?))?;
     let memory = callee_memory(alloc, k, word)?;
@@ -150,7 +141,7 @@ fn run_args(alloc: Global, view: &ActivityView, k: u32, run: &Run) -> Result<Lis
     let args = first_args(alloc, view, k, run)?;
     let args = with_inputs(alloc, args, &view.site, run.inputs)?;
     let args = with_outputs(alloc, args, &view.site, run.outputs)?;
-    let word = name(view, run.unit);
+    let word = name_of(view.site.earlier, run.unit);
     let result = given(alloc, k, word)?;
     let args = with_address(args, has_result(view, run.unit), result)?;
     with_address(args, ends(view, run.unit), ended(alloc)?)
@@ -195,7 +186,7 @@ fn target_code(
     match run.target {
         Some(path) => {
             let at = place(alloc, &view.site, path)?;
-            let value = read(given(alloc, k, name(view, run.unit))?);
+            let value = read(given(alloc, k, name_of(view.site.earlier, run.unit))?);
             single(alloc, set(alloc, at, value)?)
         }
         None => Ok(List::new(alloc)),
@@ -235,7 +226,7 @@ pub fn begun(
         run.entry.now.unit on_true.now) }
 {
     let k = view.runs.find(run.place);
-    let at = callee_frame(alloc, k, name(view, run.unit))?;
+    let at = callee_frame(alloc, k, name_of(view.site.earlier, run.unit))?;
     let start = single(alloc, clear(alloc, at, frame(alloc, view, run.unit)?)?)?;
     joined(start, changes(alloc, view, on_true)?)
 }

@@ -18,4 +18,4 @@ pub use needed::needed_units;
 pub use prevs::prevs_of;
 pub use read::read_by;
 pub use sizes::sizes_of;
-pub use words::{node_named, words_of};
+pub use words::{name_of, node_named, words_of};

@@ -2,7 +2,6 @@
 
 ghost use Rattle.std.specs.Prelude.{◌≡◌, ◌++◌, [], ℕ, suc, IfOk, OnOk, cond, map, nat_eq, slice_get};
 ghost use Rattle.bl_emit_acts.specs.Sites.{site_in};
-ghost use Rattle.bl_emit_acts.specs.Types.{source_name};
 ghost use Rattle.bl_emit_spec.specs.Blocks.{name_in};
 ghost use Rattle.bl_emit_spec.specs.Names.{numbered_word, with_word};
 ghost use Rattle.bl_emit_spec.specs.Words.{act_word};
@@ -11,25 +10,15 @@ ghost use Rattle.bl_emit_tables.specs.Words.{kept_word, silent_word, task_word, 
 ghost use Rattle.bl_machine_transitions.specs.Told.{rule_in, task_in};
 
 use bl_emit_acts::UnitSite;
-use bl_emit_acts::parts::{prefixed, worded};
+use bl_emit_acts::parts::{prefixed, source_name, worded};
 use bl_machine_transitions::{Silent, Task, Transition};
 use bl_tree::slices::element;
-use bl_tree::tree::{Stmt, StmtKind, Unit, Var};
+use bl_tree::tree::{Stmt, StmtKind, Unit};
 use bl_tree::{List, NoMemory, Text};
 use std::alloc::Global;
 
-/// The name of the variable at a position.
-fn variable(vars: &[Var], k: u32) -> &str
-    ensures { result.now ≡ source_name (slice_get vars.now k) }
-{
-    match element(vars, k as usize) {
-        Some(var) => var.name.as_str(),
-        None => "",
-    }
-}
-
 /// The name of the unit at a position.
-fn unit(units: &[Unit], k: u32) -> &str
+pub fn name_of(units: &[Unit], k: u32) -> &str
     ensures { result.now ≡ name_in (slice_get units.now k) }
 {
     match element(units, k as usize) {
@@ -43,9 +32,12 @@ fn act_word(alloc: Global, site: &UnitSite, s: &Stmt) -> Result<Text, NoMemory>
     ensures { IfOk result (λ word. word ≡ act_word (site_in site.entry.now) s.now) }
 {
     match &s.what {
-        StmtKind::Declare(k, _) => prefixed(alloc, "var_", variable(site.vars, *k)),
-        StmtKind::Assign(path, _) => prefixed(alloc, "set_", variable(site.vars, path.root)),
-        StmtKind::Call(k, _, _) => prefixed(alloc, "call_", unit(site.earlier, *k)),
+        StmtKind::Declare(k, _) => prefixed(alloc, "var_", source_name(site.vars, *k as usize)),
+        StmtKind::Assign(path, _) => {
+            let name = source_name(site.vars, path.root as usize);
+            prefixed(alloc, "set_", name)
+        }
+        StmtKind::Call(k, _, _) => prefixed(alloc, "call_", name_of(site.earlier, *k)),
         StmtKind::Return(_) => Ok(Text::copy_of(alloc, "return")?),
         _ => Ok(Text::copy_of(alloc, "")?),
     }
@@ -73,8 +65,8 @@ fn task_word(alloc: Global, site: &UnitSite, task: &Task) -> Result<Text, NoMemo
         Task::Nothing(kind) => Ok(Text::copy_of(alloc, silent_word(*kind))?),
         Task::Act(s) => act_word(alloc, site, s),
         Task::Test(_) => Ok(Text::copy_of(alloc, "test")?),
-        Task::Enter(run) => prefixed(alloc, "run_", unit(site.earlier, run.unit)),
-        Task::Resume(run) => prefixed(alloc, "resume_", unit(site.earlier, run.unit)),
+        Task::Enter(run) => prefixed(alloc, "run_", name_of(site.earlier, run.unit)),
+        Task::Resume(run) => prefixed(alloc, "resume_", name_of(site.earlier, run.unit)),
     }
 }
 
