@@ -152,5 +152,5 @@ fn previous(alloc: Global, site: &UnitSite, k: u32) -> Result<Made, NoMemory>
         ≡ Number (scalar_at (var_at (site_in site.entry.now) k)) (c_read (c_place false (copy_name (site_in site.entry.now).vars k) []))) }
 {
     let at = whole(alloc, false, named(alloc, "p", site.vars, k as usize)?);
-    Ok(Made::Number(scalar_of_variable(site, k), read(at)))
+    Ok(Made::Number(scalar_of_variable(site.vars, k), read(at)))
 }

@@ -5,8 +5,8 @@
 pub enum Home {
     /// A member of the struct `m`, which has what the unit declares.
     Held,
-    /// A parameter by value.
-    Given,
+    /// A local of the C function: a parameter by value, or a variable that it declares.
+    Local,
     /// What a parameter points to.
     Lent,
 }

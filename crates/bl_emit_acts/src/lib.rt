@@ -7,6 +7,7 @@
 #![tactic(auto)]
 
 mod acts;
+mod decided;
 mod expressions;
 mod home;
 mod made;
@@ -21,8 +22,8 @@ pub use acts::{act, copied};
 pub use expressions::{expression, place};
 pub use home::Home;
 pub use made::Made;
-pub use operators::{argument, code};
-pub use places::{home_of_var, is_activity, variable};
+pub use operators::{argument, code, hidden};
+pub use places::{home_of_var, is_activity, is_alone, scalar_of_variable, variable};
 pub use site::UnitSite;
 pub use structs::{array, definition};
 pub use types::{c_type, scalar_in, scalar_in_c};

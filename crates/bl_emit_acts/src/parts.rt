@@ -53,7 +53,8 @@ pub fn numbered(alloc: Global, prefix: &str, number: u64) -> Result<Text, NoMemo
     prefixed(alloc, prefix, buffer.format(number))
 }
 
-fn source_name(vars: &[Var], k: usize) -> &str
+/// The name in the source of the variable at a position.
+pub fn source_name(vars: &[Var], k: usize) -> &str
     ensures { result.now ≡ name_in_source (slice_get vars.now k) }
 {
     match element_of(vars, k) {

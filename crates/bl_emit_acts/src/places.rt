@@ -1,6 +1,6 @@
 //! Where the variables of a unit stand.
 
-ghost use Rattle.std.specs.Prelude.{◌≡◌, ◌∷◌, codes, IfOk, Some, option_map};
+ghost use Rattle.std.specs.Prelude.{◌≡◌, ◌∷◌, codes, IfOk, Some, option_map, slice_get};
 ghost use Rattle.bl_tree.specs.declared.tree.Ty.{out-Ty};
 ghost use Rattle.bl_tree.specs.Typing as typing;
 ghost use Rattle.bl_emit_acts.specs.Expressions.{array_element_type, field_at, field_of_struct, length_at, scalar_at, type_at};
@@ -32,7 +32,7 @@ fn home_of_input(scalar: bool, copies: bool) -> Home
     ensures { result ≡ homes.home_of_input scalar copies }
 {
     if scalar {
-        Home::Given
+        Home::Local
     } else if copies {
         Home::Held
     } else {
@@ -40,13 +40,19 @@ fn home_of_input(scalar: bool, copies: bool) -> Home
     }
 }
 
-fn home_of_role(role: Role, scalar: bool, copies: bool) -> Home
-    ensures { result ≡ homes.home_of_role role scalar copies }
+fn home_of_declared(alone: bool) -> Home
+    ensures { result ≡ homes.home_of_declared alone }
+{
+    if alone { Home::Local } else { Home::Held }
+}
+
+fn home_of_role(alone: bool, role: Role, scalar: bool, copies: bool) -> Home
+    ensures { result ≡ homes.home_of_role alone role scalar copies }
 {
     match role {
         Role::Input => home_of_input(scalar, copies),
         Role::Output => Home::Lent,
-        Role::Variable | Role::Fixed => Home::Held,
+        Role::Variable | Role::Fixed => home_of_declared(alone),
     }
 }
 
@@ -57,12 +63,24 @@ fn copies_inputs(site: &UnitSite) -> bool
     !is_activity(site.kind) && site.result.is_some()
 }
 
+/// Whether a declared variable of a type is a local by itself: a scalar of a function is.
+pub fn is_alone(site: &UnitSite, ty: &Ty) -> bool
+    ensures { result ≡ homes.is_alone (site_in site.entry.now) ty.now }
+{
+    !is_activity(site.kind) && scalar_in(ty).is_some()
+}
+
 /// Where a variable of the unit stands.
 pub fn home_of_var(site: &UnitSite, var: &Var) -> Home
     ensures { result ≡ homes.home_of (site_in site.entry.now) (Some var.now) }
 {
     let scalar = scalar_in(&var.ty).is_some();
-    home_of_role(var.role, scalar, copies_inputs(site))
+    home_of_role(
+        is_alone(site, &var.ty),
+        var.role,
+        scalar,
+        copies_inputs(site),
+    )
 }
 
 /// Where the variable at a position stands.
@@ -87,7 +105,7 @@ pub fn variable(
     let name = named(alloc, "v", site.vars, k as usize)?;
     match home(site, k) {
         Home::Held => held(alloc, is_activity(site.kind), name, steps),
-        Home::Given => Ok(target(false, name, steps)),
+        Home::Local => Ok(target(false, name, steps)),
         Home::Lent => Ok(target(true, name, steps)),
     }
 }
@@ -111,11 +129,11 @@ pub fn type_of_variable<'a>(site: &UnitSite<'a>, k: u32) -> Option<&'a Ty>
 }
 
 /// The type of the variable at a position; bool where it has parts or isn't there.
-pub fn scalar_of_variable(site: &UnitSite, k: u32) -> Scalar
-    ensures { result ≡ scalar_at (typing.var_at (site_in site.entry.now) k) }
+pub fn scalar_of_variable(vars: &[Var], k: u32) -> Scalar
+    ensures { result ≡ scalar_at (slice_get vars.now k) }
 {
-    match type_of_variable(site, k) {
-        Some(ty) => scalar_in(ty).unwrap_or(Scalar::Bool),
+    match element(vars, k as usize) {
+        Some(var) => scalar_in(&var.ty).unwrap_or(Scalar::Bool),
         None => Scalar::Bool,
     }
 }

@@ -1,6 +1,6 @@
 //! The C types of types, and their names.
 
-ghost use Rattle.std.specs.Prelude.{◌≡◌, [], ◌++◌, IfOk, OnOk, string_bytes};
+ghost use Rattle.std.specs.Prelude.{◌≡◌, ◌++◌, IfOk, OnOk, string_bytes};
 ghost use Rattle.bl_tree.specs.Scalar as scalars;
 ghost use Rattle.bl_tree.specs.Types as types;
 ghost use Rattle.bl_emit_acts.specs.Types.{array_name, c_scalar, c_type as type_in_c, definition_name, type_name, type_word};

@@ -10,7 +10,7 @@ use Rattle.bl_tree.specs.Typing.{TypingContext, is_activity, var_at}
 use Rattle.bl_ctext_semantics.specs.Meaning.{Scope, further, named_location}
 use Rattle.bl_ctext_semantics.specs.Memory.{Location, Projection, Root, input_object, member, output_object, same_root, state_object, variable}
 use Rattle.bl_emit_acts.specs.declared.home.Home.{Home}
-use Rattle.bl_emit_acts.specs.declared.home.Home.TheVariants.{Held, Given, Lent}
+use Rattle.bl_emit_acts.specs.declared.home.Home.TheVariants.{Held, Local, Lent}
 use Rattle.bl_emit_acts.specs.Types.{copy_name, numbered_name, variable_name}
 use Rattle.bl_emit_acts_laws_simulation.specs.Acts.{copy_location}
 use Rattle.bl_emit_acts_laws_simulation.specs.Frames.{FrameApart, PointersAreValid, is_older, lent_at, remembered_at}
@@ -109,22 +109,22 @@ module _ (site : TypingContext) (copied : ℕ → Bool) (scope : Scope) (stand :
     apart_by : (activity : Bool) (x y : Home) → is_activity site.kind ≡ activity → home_at site j ≡ x → home_at site k ≡ y →
         are_apart (place_of activity x j) (place_of activity y k) ≡ true
     apart_by activity Held Held kind is at = held_held (named_location scope activity (codes "m"))
-    apart_by false Held Given kind is at = own_own (codes "m") (variable_name site.vars k) (place_of false Held j) (place_of false Given k) refl refl refl
-    apart_by true Held Given kind is at =
-        apart_flip (place_of true Given k) (place_of true Held j)
-        (own_older (variable_name site.vars k) (place_of true Given k) (place_of true Held j) refl (stand.held_older j a there is kind))
+    apart_by false Held Local kind is at = own_own (codes "m") (variable_name site.vars k) (place_of false Held j) (place_of false Local k) refl refl refl
+    apart_by true Held Local kind is at =
+        apart_flip (place_of true Local k) (place_of true Held j)
+        (own_older (variable_name site.vars k) (place_of true Local k) (place_of true Held j) refl (stand.held_older j a there is kind))
     apart_by false Held Lent kind is at =
         own_older (codes "m") (place_of false Held j) (place_of false Lent k) refl (stand.lent_older k b other at)
     apart_by true Held Lent kind is at =
         further_apart (remembered_at scope) (lent_at scope site.vars k) (lead_in Held site.vars j ++ []) (lead_in Lent site.vars k ++ [])
         (stand.held_apart kind k b other at)
-    apart_by false Given Held kind is at = own_own (variable_name site.vars j) (codes "m") (place_of false Given j) (place_of false Held k) refl refl refl
-    apart_by true Given Held kind is at =
-        own_older (variable_name site.vars j) (place_of true Given j) (place_of true Held k) refl (stand.held_older k b other at kind)
-    apart_by activity Given Given kind is at =
-        own_own (variable_name site.vars j) (variable_name site.vars k) (place_of activity Given j) (place_of activity Given k) refl refl v_differ
-    apart_by activity Given Lent kind is at =
-        own_older (variable_name site.vars j) (place_of activity Given j) (place_of activity Lent k) refl (stand.lent_older k b other at)
+    apart_by false Local Held kind is at = own_own (variable_name site.vars j) (codes "m") (place_of false Local j) (place_of false Held k) refl refl refl
+    apart_by true Local Held kind is at =
+        own_older (variable_name site.vars j) (place_of true Local j) (place_of true Held k) refl (stand.held_older k b other at kind)
+    apart_by activity Local Local kind is at =
+        own_own (variable_name site.vars j) (variable_name site.vars k) (place_of activity Local j) (place_of activity Local k) refl refl v_differ
+    apart_by activity Local Lent kind is at =
+        own_older (variable_name site.vars j) (place_of activity Local j) (place_of activity Lent k) refl (stand.lent_older k b other at)
     apart_by false Lent Held kind is at =
         apart_flip (place_of false Held k) (place_of false Lent j)
         (own_older (codes "m") (place_of false Held k) (place_of false Lent j) refl (stand.lent_older j a there is))
@@ -132,9 +132,9 @@ module _ (site : TypingContext) (copied : ℕ → Bool) (scope : Scope) (stand :
         apart_flip (place_of true Held k) (place_of true Lent j)
         (further_apart (remembered_at scope) (lent_at scope site.vars j) (lead_in Held site.vars k ++ []) (lead_in Lent site.vars j ++ [])
         (stand.held_apart kind j a there is))
-    apart_by activity Lent Given kind is at =
-        apart_flip (place_of activity Given k) (place_of activity Lent j)
-        (own_older (variable_name site.vars k) (place_of activity Given k) (place_of activity Lent j) refl (stand.lent_older j a there is))
+    apart_by activity Lent Local kind is at =
+        apart_flip (place_of activity Local k) (place_of activity Lent j)
+        (own_older (variable_name site.vars k) (place_of activity Local k) (place_of activity Lent j) refl (stand.lent_older j a there is))
     apart_by activity Lent Lent kind is at =
         further_apart (lent_at scope site.vars j) (lent_at scope site.vars k) (lead_in Lent site.vars j ++ []) (lead_in Lent site.vars k ++ [])
         (stand.lent_apart j k a b there other is at writable differ)
@@ -147,8 +147,8 @@ module _ (site : TypingContext) (copied : ℕ → Bool) (scope : Scope) (stand :
   copy_by j k var there true Held kind is =
       apart_flip (copy_location scope site.vars k) (place_of true Held j)
       (own_older (copy_name site.vars k) (copy_location scope site.vars k) (place_of true Held j) refl (stand.held_older j var there is kind))
-  copy_by j k var there activity Given kind is =
-      own_own (variable_name site.vars j) (copy_name site.vars k) (place_of activity Given j) (copy_location scope site.vars k) refl refl refl
+  copy_by j k var there activity Local kind is =
+      own_own (variable_name site.vars j) (copy_name site.vars k) (place_of activity Local j) (copy_location scope site.vars k) refl refl refl
   copy_by j k var there activity Lent kind is =
       apart_flip (copy_location scope site.vars k) (place_of activity Lent j)
       (own_older (copy_name site.vars k) (copy_location scope site.vars k) (place_of activity Lent j) refl (stand.lent_older j var there is))
@@ -158,7 +158,7 @@ module _ (site : TypingContext) (copied : ℕ → Bool) (scope : Scope) (stand :
       is_live scope.depth (place_of activity x k).root ≡ true
   live_by k var there false Held kind is = number_itself scope.depth
   live_by k var there true Held kind is = older_live scope.depth (remembered_at scope).root (stand.held_older k var there is kind)
-  live_by k var there activity Given kind is = number_itself scope.depth
+  live_by k var there activity Local kind is = number_itself scope.depth
   live_by k var there activity Lent kind is = older_live scope.depth (lent_at scope site.vars k).root (stand.lent_older k var there is)
 
   pub frame_apart : FrameApart site copied scope

@@ -1,6 +1,8 @@
 pub mod Arguments
 pub mod Evaluated
 mod Expressions
+pub mod Hiding
+pub mod Homes
 mod Names
 pub mod NumberedNames
 mod Numbers
@@ -21,7 +23,7 @@ mod Acts
 mod Aliases
 mod Calls
 mod Outlets
-mod Outputs
+pub mod Outputs
 mod WholeActs
 mod Frames
 mod Begun

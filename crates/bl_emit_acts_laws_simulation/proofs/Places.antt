@@ -11,7 +11,7 @@ use Rattle.bl_eval.specs.Values.{part_of, value_at}
 use Rattle.bl_ctext_semantics.specs.Memory.{Location, Memory, Projection, member}
 use Rattle.bl_ctext_semantics.specs.Meaning.{Counted, Scope, each_of, further, given, location_c, named_location, next, way_of}
 use Rattle.bl_emit_acts.specs.declared.home.Home.{Home}
-use Rattle.bl_emit_acts.specs.declared.home.Home.TheVariants.{Held, Given, Lent}
+use Rattle.bl_emit_acts.specs.declared.home.Home.TheVariants.{Held, Local, Lent}
 use Rattle.bl_emit_acts.specs.Places.{place_by_steps}
 use Rattle.bl_emit_acts.specs.Trees.{c_step}
 use Rattle.bl_emit_acts.specs.Types.{variable_name}
@@ -142,7 +142,7 @@ module _ (scope : Scope) (here : Memory) where
       ∙ (through_answer activity (codes "m") (c_step (variable_name vars k) ∷ steps)
       ∙ (ap (option_map (λ walked. further (named_location scope activity (codes "m")) (way_of walked))) (held_walks vars k steps)
       ∙ held_by activity vars k (walks steps).answer))
-  place_answer activity Given vars k steps =
+  place_answer activity Local vars k steps =
       ap (λ (c : Counted Location). c.answer) (place-location scope here false (variable_name vars k) steps) ∙ through_answer false (variable_name vars k) steps
   place_answer activity Lent vars k steps =
       ap (λ (c : Counted Location). c.answer) (place-location scope here true (variable_name vars k) steps) ∙ through_answer true (variable_name vars k) steps

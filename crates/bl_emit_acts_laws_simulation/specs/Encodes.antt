@@ -19,7 +19,7 @@ use Rattle.bl_ctext_semantics.specs.Meaning.{Scope, further, named_location}
 use Rattle.bl_ctext_semantics.specs.Memory.{CValue, Location, Memory, Projection, Root, element, member, variable}
 use Rattle.bl_ctext_semantics.specs.Memory as memory
 use Rattle.bl_emit_acts.specs.declared.home.Home.{Home}
-use Rattle.bl_emit_acts.specs.declared.home.Home.TheVariants.{Held, Given, Lent}
+use Rattle.bl_emit_acts.specs.declared.home.Home.TheVariants.{Held, Local, Lent}
 use Rattle.bl_emit_acts.specs.Expressions.{field_of_struct, name_of_field}
 use Rattle.bl_emit_acts.specs.Places.{home_of}
 use Rattle.bl_emit_acts.specs.Types.{copy_name, elements_name, field_name, variable_name}
@@ -71,13 +71,13 @@ pub record Encodes (structs : List StructDef) (ty : Ty) (value : Value) (held : 
 -- the location at which the place of the variable at a position among its unit's starts
 abbrev pub start_in : Scope → Bool → Home → List Var → ℕ → Location
 start_in scope activity Held vars k = named_location scope activity (codes "m")
-start_in scope activity Given vars k = named_location scope false (variable_name vars k)
+start_in scope activity Local vars k = named_location scope false (variable_name vars k)
 start_in scope activity Lent vars k = named_location scope true (variable_name vars k)
 
 -- the steps from the start of a variable's place to the variable, by its home
 abbrev pub lead_in : Home → List Var → ℕ → List Projection
 lead_in Held vars k = member (variable_name vars k) ∷ []
-lead_in Given vars k = []
+lead_in Local vars k = []
 lead_in Lent vars k = []
 
 -- the home of the variable at a position

@@ -1,1 +1,3 @@
+mod Among
 mod Choices
+mod Unread

@@ -1,5 +1,5 @@
 -- The C functions of functions.
-use Rattle.std.specs.Prelude.{ℕ, zero, suc, ◌+◌, Bool, true, false, ◌||◌, List, [], ◌∷◌, ◌++◌}
+use Rattle.std.specs.Prelude.{ℕ, zero, suc, ◌+◌, Bool, true, false, ◌&&◌, ◌||◌, List, [], ◌∷◌, ◌++◌}
 use Rattle.std.specs.Prelude.{map, Option, Some, None, codes, is_none, option_map, if◌then◌else◌}
 use Rattle.std.specs.List.{list_any}
 use Rattle.bl_tree.specs.declared.text.Text.{Text}
@@ -17,12 +17,13 @@ use Rattle.bl_tree.specs.declared.tree.Unit.{Unit as UnitDef}
 use Rattle.bl_tree.specs.declared.tree.Var.{Var}
 use Rattle.bl_tree.specs.Program.{is_output, parameters_of}
 use Rattle.bl_tree.specs.Types.{scalar_in}
-use Rattle.bl_tree.specs.Typing.{TypingContext, inputs_of, site_of}
+use Rattle.bl_tree.specs.Typing.{TypingContext, inputs_of, is_fixed, is_variable, site_of, var_at}
 use Rattle.bl_ctext_semantics.specs.Faults.{last_returns, surely_returns}
 use Rattle.bl_emit_acts.specs.Acts.{c_set}
 use Rattle.bl_emit_acts.specs.declared.home.Home.{Home}
-use Rattle.bl_emit_acts.specs.declared.home.Home.TheVariants.{Held, Given, Lent}
-use Rattle.bl_emit_acts.specs.Places.{home_of, place_in}
+use Rattle.bl_emit_acts.specs.declared.home.Home.TheVariants.{Held, Local, Lent}
+use Rattle.bl_emit_acts.specs.Expressions.{hidden, scalar_at}
+use Rattle.bl_emit_acts.specs.Places.{home_of, is_alone, place_in}
 use Rattle.bl_emit_acts.specs.Trees.{c_place, c_read, nowhere}
 use Rattle.bl_emit_acts.specs.Types.{c_scalar, c_type, unit_name, variable_name}
 use Rattle.bl_emit_functions.specs.declared.coded.Coded.{Coded}
@@ -52,7 +53,7 @@ held_member structs vars k var = record { ty = c_type structs var.ty; name = var
 -- whether the unit holds what has this home
 abbrev pub is_held : Home → Bool
 is_held Held = true
-is_held Given = false
+is_held Local = false
 is_held Lent = false
 
 -- the member of a variable that the unit holds; others have none
@@ -101,6 +102,28 @@ abbrev pub flag_locals : ℕ → List CLocal
 flag_locals zero = []
 flag_locals (suc n) = flag_locals n ++ flag_local n ∷ []
 
+-- whether the variable is a local that the function declares, a scalar of the body
+abbrev pub has_local : TypingContext → Var → Bool
+has_local site var = is_alone site var.ty && (is_variable var.role || is_fixed var.role)
+
+-- the variable at a position among all of its unit's, as a local
+abbrev pub variable_local : List StructDef → List Var → ℕ → Var → CLocal
+variable_local structs vars k var = record { ty = c_type structs var.ty; name = variable_name vars k }
+
+-- the local of a variable that has one; others have none
+abbrev pub local_of : Bool → List StructDef → List Var → ℕ → Var → List CLocal
+local_of true structs vars k var = variable_local structs vars k var ∷ []
+local_of false structs vars k var = []
+
+-- the locals of variables, the first of which is at this position
+abbrev pub locals_from : TypingContext → ℕ → List Var → List CLocal
+locals_from site k [] = []
+locals_from site k (var ∷ rest) = local_of (has_local site var) site.structs site.vars k var ++ locals_from site (k + 1) rest
+
+-- the locals of a function's variables: the struct, where it holds any, and those by themselves
+abbrev pub variable_locals : TypingContext → UnitDef → List CLocal
+variable_locals site unit = memory_local unit.name (holds_any site unit.vars) ++ locals_from site 0 unit.vars
+
 -- ---- bodies
 
 -- a variable becomes what the parameter of its name points to
@@ -110,7 +133,7 @@ c_input_copied site k = c_set (place_in site k []) (c_read (c_place true (variab
 -- an input that the unit holds is copied from what its parameter points to; others aren't
 abbrev pub input_copied : TypingContext → Home → ℕ → List CStmt
 input_copied site Held k = c_input_copied site k ∷ []
-input_copied site Given k = []
+input_copied site Local k = []
 input_copied site Lent k = []
 
 -- the statements that copy inputs, the first of which is at this position
@@ -156,9 +179,29 @@ read_code site None reads = []
 read_code site (Some k) true = []
 read_code site (Some k) false = c_set_again site k ∷ []
 
+-- a local is set to what it has, in a form of which compilers don't warn
+abbrev pub c_local_again : TypingContext → ℕ → CStmt
+c_local_again site k = c_set (place_in site k []) (hidden (scalar_at (var_at site k)) (c_read (place_in site k [])))
+
+-- the statement that reads the local at a position, where there is one (first) and the code doesn't (second)
+abbrev pub local_again : TypingContext → ℕ → Bool → Bool → List CStmt
+local_again site k true false = c_local_again site k ∷ []
+local_again site k true true = []
+local_again site k false reads = []
+
+-- the statements that read the locals that the code only sets, of variables from this position on: compilers warn of such locals
+abbrev pub locals_again : TypingContext → List CStmt → ℕ → List Var → List CStmt
+locals_again site code k [] = []
+locals_again site code k (var ∷ rest) =
+    local_again site k (has_local site var) (reads_in_block (variable_name site.vars k) code) ++ locals_again site code (k + 1) rest
+
+-- the statements that read what the code of a body only sets
+abbrev pub again_code : TypingContext → UnitDef → List CStmt → List CStmt
+again_code site unit code = read_code site (first_held site 0 unit.vars) (reads_in_block (codes "m") code) ++ locals_again site code 0 unit.vars
+
 -- the body of the C function of a function
 abbrev pub whole_code : TypingContext → UnitDef → List CStmt
-whole_code site unit = read_code site (first_held site 0 unit.vars) (reads_in_block (body_code site unit)) ++ body_code site unit
+whole_code site unit = again_code site unit (body_code site unit) ++ body_code site unit
 
 -- the C function of a function
 abbrev pub function_code : List StructDef → List UnitDef → UnitDef → CFunc
@@ -168,7 +211,6 @@ function_code structs earlier unit = record {
   result = option_map c_scalar unit.result;
   name = unit_name unit.name;
   params = params_from structs unit.vars 0 (parameters_of unit);
-  locals = memory_local unit.name (holds_any (site_of structs earlier unit) unit.vars)
-      ++ flag_locals (body_coded (site_of structs earlier unit) unit).free.flags;
+  locals = variable_locals (site_of structs earlier unit) unit ++ flag_locals (body_coded (site_of structs earlier unit) unit).free.flags;
   body = whole_code (site_of structs earlier unit) unit;
 }

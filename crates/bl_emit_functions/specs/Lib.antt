@@ -2,3 +2,4 @@ pub mod Functions
 pub mod Reads
 pub mod Statements
 pub mod Trees
+pub mod inner

@@ -1,5 +1,5 @@
--- What C reads of the variables that a function holds, the members of its local `m`.
-use Rattle.std.specs.Prelude.{Bool, false, ◌||◌, List, map, Option, Some, None, bytes_eq, codes}
+-- Whether C reads a local or a parameter of a name. An argument that hands on its place counts, and so does an index.
+use Rattle.std.specs.Prelude.{Bool, false, ◌||◌, List, map, Option, Some, None, bytes_eq}
 use Rattle.bl_tree.specs.declared.text.Text.{Text}
 use Rattle.bl_tree.specs.declared.c.CArg.TheOpen.{CArg-F, CExprKind-F, CCall-F, CExpr-F, CIndex-F, CPlace-F, CStep-F}
 use Rattle.bl_tree.specs.declared.c.CArg.{CArg, fold-CArg}
@@ -11,10 +11,6 @@ use Rattle.bl_tree.specs.declared.c.CStmt.{CStmt, fold-CStmt}
 use Rattle.bl_tree.specs.declared.c.CStmtKind.TheOpen.{CStmtKind-F, CStmt-F}
 use Rattle.bl_tree.specs.Reduce.{any_of}
 use Rattle.bl_ctext.specs.Folds.{EachIs}
-
--- whether the name is that of the local `m`, the struct of the variables
-abbrev pub is_memory : Text → Bool
-is_memory name = bytes_eq name (codes "m")
 
 -- ---- in one level, where it is known of the parts
 
@@ -48,9 +44,9 @@ expr_reads expr = expr.what
 abbrev pub index_reads : EachIs Bool CIndex-F → Bool
 index_reads index = index.at
 
--- a place that is read is a variable's, or has an index that reads one
-abbrev pub place_reads : EachIs Bool CPlace-F → Bool
-place_reads place = is_memory place.name || any_of place.steps
+-- a place that is read has the name, or an index that reads it
+abbrev pub place_reads : Text → EachIs Bool CPlace-F → Bool
+place_reads name place = bytes_eq place.name name || any_of place.steps
 
 -- a step reads what its index reads, where it has one
 abbrev pub step_reads : EachIs Bool CStep-F → Bool
@@ -58,58 +54,58 @@ step_reads step = or_nothing step.index
 
 -- ---- in expressions and statements
 
--- whether an expression reads a variable that the function holds
-abbrev pub reads_in : CExpr → Bool
-reads_in = fold-CExpr _ _ _ _ _ _ _ arg_reads kind_reads call_reads expr_reads index_reads place_reads step_reads
+-- whether an expression reads the name
+abbrev pub reads_in : Text → CExpr → Bool
+reads_in name = fold-CExpr _ _ _ _ _ _ _ arg_reads kind_reads call_reads expr_reads index_reads (place_reads name) step_reads
 
--- whether a place that is read is, or has in an index, a variable that the function holds
-abbrev pub reads_in_place : CPlace → Bool
-reads_in_place = fold-CPlace _ _ _ _ _ _ _ arg_reads kind_reads call_reads expr_reads index_reads place_reads step_reads
+-- whether a place that is read has the name, or an index that reads it
+abbrev pub reads_in_place : Text → CPlace → Bool
+reads_in_place name = fold-CPlace _ _ _ _ _ _ _ arg_reads kind_reads call_reads expr_reads index_reads (place_reads name) step_reads
 
--- whether a call reads a variable that the function holds
-abbrev pub reads_in_call : CCall → Bool
-reads_in_call = fold-CCall _ _ _ _ _ _ _ arg_reads kind_reads call_reads expr_reads index_reads place_reads step_reads
+-- whether a call reads the name
+abbrev pub reads_in_call : Text → CCall → Bool
+reads_in_call name = fold-CCall _ _ _ _ _ _ _ arg_reads kind_reads call_reads expr_reads index_reads (place_reads name) step_reads
 
--- whether an argument reads a variable that the function holds
-abbrev pub reads_in_arg : CArg → Bool
-reads_in_arg = fold-CArg _ _ _ _ _ _ _ arg_reads kind_reads call_reads expr_reads index_reads place_reads step_reads
+-- whether an argument reads the name
+abbrev pub reads_in_arg : Text → CArg → Bool
+reads_in_arg name = fold-CArg _ _ _ _ _ _ _ arg_reads kind_reads call_reads expr_reads index_reads (place_reads name) step_reads
 
--- whether a step reads a variable that the function holds
-abbrev pub reads_in_step : CStep → Bool
-reads_in_step = fold-CStep _ _ _ _ _ _ _ arg_reads kind_reads call_reads expr_reads index_reads place_reads step_reads
+-- whether a step reads the name
+abbrev pub reads_in_step : Text → CStep → Bool
+reads_in_step name = fold-CStep _ _ _ _ _ _ _ arg_reads kind_reads call_reads expr_reads index_reads (place_reads name) step_reads
 
--- whether a place that is set reads, in an index, a variable that the function holds
-abbrev pub reads_in_target : CPlace → Bool
-reads_in_target place = any_of (map reads_in_step (out-CPlace place).steps)
+-- whether a place that is set reads the name in an index
+abbrev pub reads_in_target : Text → CPlace → Bool
+reads_in_target name place = any_of (map (reads_in_step name) (out-CPlace place).steps)
 
--- whether an optional expression reads a variable that the function holds
-abbrev pub reads_in_option : Option CExpr → Bool
-reads_in_option None = false
-reads_in_option (Some e) = reads_in e
+-- whether an optional expression reads the name
+abbrev pub reads_in_option : Text → Option CExpr → Bool
+reads_in_option name None = false
+reads_in_option name (Some e) = reads_in name e
 
--- whether an optional block reads a variable that the function holds, from what is known of its statements
+-- whether an optional block reads something, from what is known of its statements
 abbrev pub block_or_nothing : Option (List Bool) → Bool
 block_or_nothing None = false
 block_or_nothing (Some block) = any_of block
 
 -- one step of the fold for statements
-abbrev pub stmt_kind_reads : CStmtKind-F Bool Bool → Bool
-stmt_kind_reads (CStmtKind-F.Set place e) = reads_in_target place || reads_in e
-stmt_kind_reads (CStmtKind-F.Clear place struct) = reads_in_target place
-stmt_kind_reads (CStmtKind-F.Call call) = reads_in_call call
-stmt_kind_reads (CStmtKind-F.If test block other) = reads_in test || (any_of block || block_or_nothing other)
-stmt_kind_reads (CStmtKind-F.Loop turn test body) = reads_in test || any_of body
-stmt_kind_reads CStmtKind-F.Break = false
-stmt_kind_reads (CStmtKind-F.Return e) = reads_in_option e
+abbrev pub stmt_kind_reads : Text → CStmtKind-F Bool Bool → Bool
+stmt_kind_reads name (CStmtKind-F.Set place e) = reads_in_target name place || reads_in name e
+stmt_kind_reads name (CStmtKind-F.Clear place struct) = reads_in_target name place
+stmt_kind_reads name (CStmtKind-F.Call call) = reads_in_call name call
+stmt_kind_reads name (CStmtKind-F.If test block other) = reads_in name test || (any_of block || block_or_nothing other)
+stmt_kind_reads name (CStmtKind-F.Loop turn test body) = reads_in name test || any_of body
+stmt_kind_reads name CStmtKind-F.Break = false
+stmt_kind_reads name (CStmtKind-F.Return e) = reads_in_option name e
 
 -- a statement reads what its form reads
 abbrev pub stmt_reads : CStmt-F Bool Bool → Bool
 stmt_reads stmt = stmt.what
 
--- whether a statement reads a variable that the function holds
-abbrev pub reads_in_stmt : CStmt → Bool
-reads_in_stmt = fold-CStmt Bool Bool stmt_kind_reads stmt_reads
+-- whether a statement reads the name
+abbrev pub reads_in_stmt : Text → CStmt → Bool
+reads_in_stmt name = fold-CStmt Bool Bool (stmt_kind_reads name) stmt_reads
 
--- whether statements do
-abbrev pub reads_in_block : List CStmt → Bool
-reads_in_block stmts = any_of (map reads_in_stmt stmts)
+-- whether statements read the name
+abbrev pub reads_in_block : Text → List CStmt → Bool
+reads_in_block name stmts = any_of (map (reads_in_stmt name) stmts)

@@ -1,12 +1,17 @@
 -- The C of the statements of a function.
-use Rattle.std.specs.Prelude.{ℕ, ◌+◌, true, false, List, [], ◌∷◌, ◌++◌, Option, Some, None, option_map}
+use Rattle.std.specs.Prelude.{ℕ, ◌+◌, Bool, true, false, not, ◌&&◌, nat_eq, List, [], ◌∷◌, ◌++◌, Option, Some, None, option_map, if◌then◌else◌}
 use Rattle.bl_tree.specs.declared.c.CExpr.{CExpr}
 use Rattle.bl_tree.specs.declared.c.CStmt.{CStmt}
 use Rattle.bl_tree.specs.declared.scalar.Op.TheVariants.{And}
 use Rattle.bl_tree.specs.declared.tree.Arm.{Arm, fold-Arm}
+use Rattle.bl_tree.specs.declared.tree.Expr.{Expr, out-Expr}
+use Rattle.bl_tree.specs.declared.tree.ExprKind.{out-ExprKind}
+use Rattle.bl_tree.specs.declared.tree.ExprKind.TheOpen.{ExprKind-F}
+use Rattle.bl_tree.specs.declared.tree.Path.{Path, out-Path}
 use Rattle.bl_tree.specs.declared.tree.Stmt.{Stmt, fold-Stmt}
 use Rattle.bl_tree.specs.declared.tree.StmtKind.TheOpen.{StmtKind-F, Arm-F, Branch-F, Stmt-F}
 use Rattle.bl_tree.specs.Typing.{TypingContext}
+use Rattle.bl_ctext.specs.Spellable.{has_any}
 use Rattle.bl_emit_acts.specs.Acts.{call_made, c_calling, c_set, code_made, declared_code}
 use Rattle.bl_emit_acts.specs.Expressions.{stands}
 use Rattle.bl_emit_acts.specs.Trees.{c_read, c_two}
@@ -131,6 +136,19 @@ break_code test = c_if test (c_break ∷ []) None ∷ []
 
 -- ---- all statements
 
+-- whether an expression's kind reads the whole variable at a position
+abbrev pub reads_whole : {A B C : Type 0} → ℕ → ExprKind-F A B C Path → Bool
+reads_whole k (ExprKind-F.Read path) = nat_eq k (out-Path path).root && not (has_any (out-Path path).parts)
+reads_whole k _ = false
+
+-- whether an assignment sets a whole variable to itself
+abbrev pub sets_itself : Path → Expr → Bool
+sets_itself path e = not (has_any (out-Path path).parts) && reads_whole (out-Path path).root (out-ExprKind (out-Expr e).what)
+
+-- the C of an assignment. One that sets a variable to itself has none, since compilers warn of it where the variable is a local
+abbrev pub assigned_code : TypingContext → Path → Expr → List CStmt
+assigned_code site path e = if sets_itself path e then [] else c_set (stands site path).place (code_made site e) ∷ []
+
 -- what is made of each kind of statement. `await`, `run`, `cobegin` and `when` stand in no function
 abbrev pub kind_codes : TypingContext → StmtKind-F Codes ArmCodes Codes Codes → Codes
 kind_codes site (StmtKind-F.If arms other) free = choice_code arms (block_codes other) free
@@ -139,7 +157,7 @@ kind_codes site (StmtKind-F.Until body e) free = loop_code free.turns (c_truth t
 kind_codes site (StmtKind-F.While e body) free = loop_code free.turns (code_made site e) [] (block_codes body (turn_taken free))
 kind_codes site (StmtKind-F.Return e) free = only_code (c_return (option_map (code_made site) e) ∷ []) free
 kind_codes site (StmtKind-F.Declare k initial) free = only_code (declared_code site [] k initial) free
-kind_codes site (StmtKind-F.Assign path e) free = only_code (c_set (stands site path).place (code_made site e) ∷ []) free
+kind_codes site (StmtKind-F.Assign path e) free = only_code (assigned_code site path e) free
 kind_codes site (StmtKind-F.Call f inputs outputs) free = only_code (c_calling (call_made site f inputs outputs) ∷ []) free
 kind_codes site _ free = only_code [] free
 

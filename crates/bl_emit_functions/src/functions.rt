@@ -1,27 +1,26 @@
 //! The C functions of functions, and the structs of their variables.
 
-ghost use Rattle.std.specs.Prelude.{◌≡◌, ◌∷◌, ◌++◌, [], IfOk, Some, false, map, option_map, take};
+ghost use Rattle.std.specs.Prelude.{◌≡◌, ◌++◌, IfOk, option_map, take};
 ghost use Rattle.bl_tree.specs.Program.{is_output, parameters_of};
 ghost use Rattle.bl_tree.specs.Typing.{inputs_of, site_of};
-ghost use Rattle.bl_emit_acts.specs.Places.{home_of};
 ghost use Rattle.bl_emit_acts.specs.Sites.{site_in};
 ghost use Rattle.bl_emit_acts.specs.Types.{c_scalar};
 ghost use Rattle.bl_emit_functions.specs.Functions as functions;
-ghost use Rattle.bl_emit_functions.specs.Reads.{reads_in_block};
 ghost use Rattle.bl_emit_functions.specs.Trees.{c_return_zero};
 
+use crate::again::again;
 use crate::coded::{Coded, Free};
 use crate::parts::returning;
-use crate::reads::in_block;
-use crate::returns::block_returns;
 use crate::statements::block;
+use crate::variables::{is_held, members, variable_locals};
+use bl_ctext_semantics::check::block_returns;
 use bl_emit_acts::parts::{
     NOWHERE, joined, literal, named, numbered, prefixed, read, set, single, whole,
 };
-use bl_emit_acts::{Home, UnitSite, c_type, home_of_var, scalar_in, scalar_in_c, variable};
-use bl_tree::c::{CFunc, CLocal, CMember, CParam, CStmt, CStruct, CType};
+use bl_emit_acts::{UnitSite, c_type, scalar_in, scalar_in_c, variable};
+use bl_tree::c::{CFunc, CLocal, CParam, CStmt, CStruct, CType};
 use bl_tree::tree::{Role, StructDef, Unit, Var};
-use bl_tree::{List, NoMemory, Scalar, Text};
+use bl_tree::{List, NoMemory, Scalar};
 use std::alloc::Global;
 
 /// The first so many variables.
@@ -160,88 +159,12 @@ pub fn memory(
     Ok(made)
 }
 
-/// The members of the variables that the unit holds.
-fn members(alloc: Global, site: &UnitSite, vars: &[Var]) -> Result<List<CMember>, NoMemory>
-    ensures { IfOk result (λ made. made ≡ functions.members_from (site_in site.entry.now) 0 vars.now) }
-{
-    let mut made = List::new(alloc);
-    let mut k: usize = 0;
-    for var in vars {
-        made = with_member(alloc, made, site, k, var)?;
-        k = k.checked_add(1).ok_or(NoMemory)?;
-    }
-    Ok(made)
-}
-
-/// Members, and behind them that of a variable, where the unit holds it.
-fn with_member(
-    alloc: Global,
-    members: List<CMember>,
-    site: &UnitSite,
-    k: usize,
-    var: &Var,
-) -> Result<List<CMember>, NoMemory>
-    ensures { IfOk result (λ made. made ≡ members
-        ++ functions.member_of (functions.is_held (home_of (site_in site.entry.now) (Some var.now)))
-        (site_in site.entry.now).structs (site_in site.entry.now).vars k var.now) }
-{
-    let mut made = members;
-    if is_held(site, var) {
-        made.push(member(alloc, site, k, var)?)?;
-    }
-    Ok(made)
-}
-
-fn is_held(site: &UnitSite, var: &Var) -> bool
-    ensures { result ≡ functions.is_held (home_of (site_in site.entry.now) (Some var.now)) }
-{
-    matches!(home_of_var(site, var), Home::Held)
-}
-
-fn member(alloc: Global, site: &UnitSite, k: usize, var: &Var) -> Result<CMember, NoMemory>
-    ensures { IfOk result (λ made. made
-        ≡ functions.held_member (site_in site.entry.now).structs (site_in site.entry.now).vars k var.now) }
-{
-    let ty = c_type(alloc, site.structs, &var.ty)?;
-    let name = named(alloc, "v", site.vars, k)?;
-    Ok(CMember {
-        ty,
-        name,
-        length: None,
-    })
-}
-
-fn holds_any(site: &UnitSite, vars: &[Var]) -> bool
-    ensures { result ≡ functions.holds_any (site_in site.entry.now) vars.now }
-{
-    for var in vars {
-        if is_held(site, var) {
-            return true;
-        }
-    }
-    false
-}
-
-/// The struct of the variables that the function holds, and so many flags.
+/// The locals of the variables, and so many flags.
 fn locals(alloc: Global, site: &UnitSite, unit: &Unit, flags: u64) -> Result<List<CLocal>, NoMemory>
-    ensures { IfOk result (λ made. made ≡ functions.memory_local unit.now.name (functions.holds_any (site_in site.entry.now) unit.now.vars)
-        ++ functions.flag_locals flags) }
+    ensures { IfOk result (λ made. made ≡ functions.variable_locals (site_in site.entry.now) unit.now ++ functions.flag_locals flags) }
 {
-    let made = memory_local(alloc, unit, holds_any(site, &unit.vars))?;
+    let made = variable_locals(alloc, site, unit)?;
     with_flags(alloc, made, flags)
-}
-
-fn memory_local(alloc: Global, unit: &Unit, holds: bool) -> Result<List<CLocal>, NoMemory>
-    ensures { IfOk result (λ made. made ≡ functions.memory_local unit.now.name holds) }
-{
-    let mut made = List::new(alloc);
-    if holds {
-        made.push(CLocal {
-            ty: CType::Struct(prefixed(alloc, "m_", unit.name.as_str())?),
-            name: Text::copy_of(alloc, "m")?,
-        })?;
-    }
-    Ok(made)
 }
 
 fn with_flags(alloc: Global, locals: List<CLocal>, flags: u64) -> Result<List<CLocal>, NoMemory>
@@ -306,57 +229,17 @@ fn copy(alloc: Global, site: &UnitSite, k: u32) -> Result<CStmt, NoMemory>
     set(alloc, to, read(from))
 }
 
-/// The whole body: a struct of variables that are only set is read first, since compilers warn of it.
+/// The body, and before it what reads what it only sets.
 fn whole_body(
     alloc: Global,
     site: &UnitSite,
     unit: &Unit,
     body: List<CStmt>,
 ) -> Result<List<CStmt>, NoMemory>
-    ensures { IfOk result (λ made. made
-        ≡ functions.read_code (site_in site.entry.now) (functions.first_held (site_in site.entry.now) 0 unit.now.vars) (reads_in_block body) ++ body) }
+    ensures { IfOk result (λ made. made ≡ functions.again_code (site_in site.entry.now) unit.now body ++ body) }
 {
-    let held = first_held(site, &unit.vars)?;
-    let reads = in_block(&body);
-    joined(reading(alloc, site, held, reads)?, body)
-}
-
-/// The position of the first variable that the unit holds.
-fn first_held(site: &UnitSite, vars: &[Var]) -> Result<Option<u32>, NoMemory>
-    ensures { IfOk result (λ held. held ≡ functions.first_held (site_in site.entry.now) 0 vars.now) }
-{
-    let mut k: u32 = 0;
-    for var in vars {
-        if is_held(site, var) {
-            return Ok(Some(k));
-        }
-        k = k.checked_add(1).ok_or(NoMemory)?;
-    }
-    Ok(None)
-}
-
-/// A statement that reads the struct of the variables, where there is one and no other statement does.
-fn reading(
-    alloc: Global,
-    site: &UnitSite,
-    held: Option<u32>,
-    reads: bool,
-) -> Result<List<CStmt>, NoMemory>
-    ensures { IfOk result (λ made. made ≡ functions.read_code (site_in site.entry.now) held reads) }
-{
-    match held {
-        Some(k) if !reads => single(alloc, set_again(alloc, site, k)?),
-        _ => Ok(List::new(alloc)),
-    }
-}
-
-/// The variable is set to what it has.
-fn set_again(alloc: Global, site: &UnitSite, k: u32) -> Result<CStmt, NoMemory>
-    ensures { IfOk result (λ s. s ≡ functions.c_set_again (site_in site.entry.now) k) }
-{
-    let to = variable(alloc, site, k, List::new(alloc))?;
-    let from = variable(alloc, site, k, List::new(alloc))?;
-    set(alloc, to, read(from))
+    let before = again(alloc, site, unit, &body)?;
+    joined(before, body)
 }
 
 /// A `return` of 0 or false for a function with a result, where its statements don't surely return.

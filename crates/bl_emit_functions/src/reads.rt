@@ -1,125 +1,147 @@
-//! Whether C reads something of the variables that a function holds.
+//! The names that C reads, in one pass.
 
-ghost use Rattle.std.specs.Prelude.{◌≡◌, map};
+ghost use Rattle.std.specs.Prelude.{◌≡◌, ◌||◌, IfOk, OnOk, map};
+ghost use Rattle.bl_tree.specs.declared.text.Text.{Text};
 ghost use Rattle.bl_tree.specs.Reduce.{any_of};
+ghost use Rattle.bl_tree.specs.Words.{is_among};
 ghost use Rattle.bl_emit_functions.specs.Reads as reads;
 
-use bl_tree::Text;
+use crate::names::Names;
+use bl_tree::NoMemory;
 use bl_tree::c::{CArg, CCall, CExpr, CExprKind, CPlace, CStep, CStmt, CStmtKind};
-
-/// Whether this is the name of the struct of the variables.
-fn is_memory(name: &Text) -> bool
-    ensures { result ≡ reads.is_memory name.now }
-{
-    name.as_str() == "m"
-}
+use std::alloc::Global;
 
 #[cycle(reading)]
-fn in_expr(e: &CExpr) -> bool
-    ensures { result ≡ reads.reads_in e.now }
+fn in_expr<'a>(e: &'a CExpr, into: &mut Names<'a>) -> Result<(), NoMemory>
+    ensures { OnOk result ((name : Text) → is_among name into.new ≡ is_among name into.old || reads.reads_in name e.now) }
 {
     match &e.what {
-        CExprKind::Literal(_, _) => false,
-        CExprKind::Read(place) => in_place(place),
-        CExprKind::Call(call) => in_call(call),
-        CExprKind::Not(operand) => in_expr(operand),
-        CExprKind::Two(_, left, right) => in_expr(left) || in_expr(right),
+        CExprKind::Literal(_, _) => Ok(()),
+        CExprKind::Read(place) => in_place(place, into),
+        CExprKind::Call(call) => in_call(call, into),
+        CExprKind::Not(operand) => in_expr(operand, into),
+        CExprKind::Two(_, left, right) => {
+            in_expr(left, into)?;
+            in_expr(right, into)?;
+            Ok(())
+        }
     }
 }
 
-/// Whether a place that is read is a variable's, or reads one in an index.
+/// Adds the name of a place that is read, and those that its indices read.
 #[cycle(reading)]
-fn in_place(place: &CPlace) -> bool
-    ensures { result ≡ reads.reads_in_place place.now }
+fn in_place<'a>(place: &'a CPlace, into: &mut Names<'a>) -> Result<(), NoMemory>
+    ensures { OnOk result ((name : Text) → is_among name into.new ≡ is_among name into.old || reads.reads_in_place name place.now) }
 {
-    is_memory(&place.name) || in_steps(&place.steps)
+    into.add(place.name.as_str())?;
+    in_steps(&place.steps, into)?;
+    Ok(())
 }
 
 #[cycle(reading)]
-fn in_steps(steps: &[CStep]) -> bool
-    ensures { result ≡ any_of (map reads.reads_in_step steps.now) }
+fn in_steps<'a>(steps: &'a [CStep], into: &mut Names<'a>) -> Result<(), NoMemory>
+    ensures { OnOk result ((name : Text) → is_among name into.new
+        ≡ is_among name into.old || any_of (map (reads.reads_in_step name) steps.now)) }
 {
     for step in steps {
-        if in_step(step) {
-            return true;
-        }
+        in_step(step, into)?;
     }
-    false
+    Ok(())
 }
 
 #[cycle(reading)]
-fn in_step(step: &CStep) -> bool
-    ensures { result ≡ reads.reads_in_step step.now }
+fn in_step<'a>(step: &'a CStep, into: &mut Names<'a>) -> Result<(), NoMemory>
+    ensures { OnOk result ((name : Text) → is_among name into.new ≡ is_among name into.old || reads.reads_in_step name step.now) }
 {
     match &step.index {
-        Some(index) => in_expr(&index.at),
-        None => false,
+        Some(index) => in_expr(&index.at, into),
+        None => Ok(()),
     }
 }
 
 #[cycle(reading)]
-fn in_call(call: &CCall) -> bool
-    ensures { result ≡ reads.reads_in_call call.now }
+fn in_call<'a>(call: &'a CCall, into: &mut Names<'a>) -> Result<(), NoMemory>
+    ensures { OnOk result ((name : Text) → is_among name into.new ≡ is_among name into.old || reads.reads_in_call name call.now) }
 {
-    in_args(&call.args)
+    in_args(&call.args, into)
 }
 
 #[cycle(reading)]
-fn in_args(args: &[CArg]) -> bool
-    ensures { result ≡ any_of (map reads.reads_in_arg args.now) }
+fn in_args<'a>(args: &'a [CArg], into: &mut Names<'a>) -> Result<(), NoMemory>
+    ensures { OnOk result ((name : Text) → is_among name into.new
+        ≡ is_among name into.old || any_of (map (reads.reads_in_arg name) args.now)) }
 {
     for arg in args {
-        if in_arg(arg) {
-            return true;
-        }
+        in_arg(arg, into)?;
     }
-    false
+    Ok(())
 }
 
 #[cycle(reading)]
-fn in_arg(arg: &CArg) -> bool
-    ensures { result ≡ reads.reads_in_arg arg.now }
+fn in_arg<'a>(arg: &'a CArg, into: &mut Names<'a>) -> Result<(), NoMemory>
+    ensures { OnOk result ((name : Text) → is_among name into.new ≡ is_among name into.old || reads.reads_in_arg name arg.now) }
 {
     match arg {
-        CArg::Value(value) => in_expr(value),
-        CArg::Address(place) => in_place(place),
+        CArg::Value(value) => in_expr(value, into),
+        CArg::Address(place) => in_place(place, into),
     }
 }
 
-/// Whether a place that is set reads a variable in an index.
-fn in_target(place: &CPlace) -> bool
-    ensures { result ≡ reads.reads_in_target place.now }
+/// Adds the names that the indices of a place that is set read.
+fn in_target<'a>(place: &'a CPlace, into: &mut Names<'a>) -> Result<(), NoMemory>
+    ensures { OnOk result ((name : Text) → is_among name into.new ≡ is_among name into.old || reads.reads_in_target name place.now) }
 {
-    in_steps(&place.steps)
+    in_steps(&place.steps, into)
 }
 
 #[cycle(reading_statements)]
-fn in_stmt(stmt: &CStmt) -> bool
-    ensures { result ≡ reads.reads_in_stmt stmt.now }
+fn in_stmt<'a>(stmt: &'a CStmt, into: &mut Names<'a>) -> Result<(), NoMemory>
+    ensures { OnOk result ((name : Text) → is_among name into.new ≡ is_among name into.old || reads.reads_in_stmt name stmt.now) }
 {
     match &stmt.what {
-        CStmtKind::Set(place, value) => in_target(place) || in_expr(value),
-        CStmtKind::Clear(place, _) => in_target(place),
-        CStmtKind::Call(call) => in_call(call),
-        CStmtKind::If(test, block, None) => in_expr(test) || in_block(block),
-        CStmtKind::If(test, block, Some(other)) => {
-            in_expr(test) || in_block(block) || in_block(other)
+        CStmtKind::Set(place, value) => {
+            in_target(place, into)?;
+            in_expr(value, into)?;
+            Ok(())
         }
-        CStmtKind::Loop(_, test, body) => in_expr(test) || in_block(body),
-        CStmtKind::Break | CStmtKind::Return(None) => false,
-        CStmtKind::Return(Some(value)) => in_expr(value),
+        CStmtKind::Clear(place, _) => in_target(place, into),
+        CStmtKind::Call(call) => in_call(call, into),
+        CStmtKind::If(test, block, None) => {
+            in_expr(test, into)?;
+            in_block(block, into)?;
+            Ok(())
+        }
+        CStmtKind::If(test, block, Some(other)) => {
+            in_expr(test, into)?;
+            in_block(block, into)?;
+            in_block(other, into)?;
+            Ok(())
+        }
+        CStmtKind::Loop(_, test, body) => {
+            in_expr(test, into)?;
+            in_block(body, into)?;
+            Ok(())
+        }
+        CStmtKind::Break | CStmtKind::Return(None) => Ok(()),
+        CStmtKind::Return(Some(value)) => in_expr(value, into),
     }
 }
 
-/// Whether statements read a variable that the function holds.
 #[cycle(reading_statements)]
-pub fn in_block(block: &[CStmt]) -> bool
-    ensures { result ≡ reads.reads_in_block block.now }
+fn in_block<'a>(block: &'a [CStmt], into: &mut Names<'a>) -> Result<(), NoMemory>
+    ensures { OnOk result ((name : Text) → is_among name into.new ≡ is_among name into.old || reads.reads_in_block name block.now) }
 {
     for stmt in block {
-        if in_stmt(stmt) {
-            return true;
-        }
+        in_stmt(stmt, into)?;
     }
-    false
+    Ok(())
+}
+
+/// The names that statements read. Fails only for want of memory.
+pub fn names_read<'a>(alloc: Global, block: &'a [CStmt]) -> Result<Names<'a>, NoMemory>
+    ensures { IfOk result (λ names. (name : Text) → is_among name names ≡ reads.reads_in_block name block.now) }
+{
+    let mut names = Names::new(alloc);
+    in_block(block, &mut names)?;
+    Ok(names)
 }

@@ -1,7 +1,9 @@
 //! The statements of a function.
 
 ghost use Rattle.std.specs.Prelude.{◌≡◌, ◌+◌, ◌∷◌, [], IfOk, map, option_map, true};
-ghost use Rattle.bl_emit_acts.specs.Acts.{act_code, code_made};
+ghost use Rattle.bl_tree.specs.declared.tree.Expr.{out-Expr};
+ghost use Rattle.bl_tree.specs.declared.tree.ExprKind.{out-ExprKind};
+ghost use Rattle.bl_emit_acts.specs.Acts.{code_made};
 ghost use Rattle.bl_emit_acts.specs.Sites.{site_in};
 ghost use Rattle.bl_emit_functions.specs.Statements as codes;
 ghost use Rattle.bl_emit_functions.specs.Trees.{c_return, c_truth};
@@ -11,7 +13,7 @@ use crate::parts::{both, choice, flag as flag_at, looping, returning, set_flag, 
 use bl_emit_acts::parts::{joined, read, single, statement as stated};
 use bl_emit_acts::{UnitSite, act, code, expression};
 use bl_tree::c::{CExpr, CStmt, CStmtKind};
-use bl_tree::tree::{Arm, Expr, Stmt, StmtKind};
+use bl_tree::tree::{Arm, Expr, ExprKind, Path, Stmt, StmtKind};
 use bl_tree::{List, NoMemory};
 use std::alloc::Global;
 
@@ -54,6 +56,23 @@ fn value(alloc: Global, site: &UnitSite, e: &Expr) -> Result<CExpr, NoMemory>
     Ok(code(expression(alloc, site, e)?))
 }
 
+/// Whether an expression reads the whole variable at a position.
+fn reads_whole(k: u32, e: &Expr) -> bool
+    ensures { result ≡ codes.reads_whole k (out-ExprKind (out-Expr e.now).what) }
+{
+    match &e.what {
+        ExprKind::Read(path) => k == path.root && path.parts.is_empty(),
+        _ => false,
+    }
+}
+
+/// Whether an assignment sets a whole variable to itself.
+fn sets_itself(path: &Path, e: &Expr) -> bool
+    ensures { result ≡ codes.sets_itself path.now e.now }
+{
+    path.parts.is_empty() && reads_whole(path.root, e)
+}
+
 /// The C of a statement of a function, from the numbers that are free before it. Fails only for want of memory.
 #[cycle(statements)]
 fn statement(alloc: Global, site: &UnitSite, s: &Stmt, free: Free) -> Result<Coded, NoMemory>
@@ -69,6 +88,7 @@ fn statement(alloc: Global, site: &UnitSite, s: &Stmt, free: Free) -> Result<Cod
         StmtKind::Until(body, e) => until(alloc, site, body, e, free),
         StmtKind::While(e, body) => while_true(alloc, site, body, e, free),
         StmtKind::Return(e) => returned(alloc, site, e, free),
+        StmtKind::Assign(path, e) if sets_itself(path, e) => Ok(only(List::new(alloc), free)),
         StmtKind::Declare(_, _) | StmtKind::Assign(_, _) | StmtKind::Call(_, _, _) => {
             Ok(only(act(alloc, site, &[], s)?, free))
         }

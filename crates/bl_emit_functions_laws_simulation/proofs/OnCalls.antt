@@ -4,6 +4,7 @@ pub mod Frame
 pub mod Handing
 pub mod Kept
 pub mod Lists
+pub mod Locals
 pub mod Params
 pub mod Procedure
 pub mod Standing

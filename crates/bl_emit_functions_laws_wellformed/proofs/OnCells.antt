@@ -1,3 +1,4 @@
 pub mod Chains
 pub mod Growing
 pub mod Sizes
+pub mod Totals

@@ -2,6 +2,8 @@ pub mod Counters
 pub mod Function
 pub mod Head
 pub mod Held
+pub mod Kept
+pub mod Locals
 pub mod Lookups
 pub mod Memories
 pub mod Shapes

@@ -3,9 +3,7 @@ pub mod Callees
 pub mod Cells
 pub mod Evaluated
 pub mod Given
-pub mod Holders
 pub mod Homes
-pub mod Lists
 pub mod Members
 pub mod Params
 pub mod Places

@@ -45,7 +45,7 @@ use Rattle.bl_ctext_semantics.specs.Faults.{Context, Judged, JudgedArg, Variable
 use Rattle.bl_ctext_semantics.specs.Faults.{same_type as same_c_type}
 use Rattle.bl_ctext_semantics.specs.Faults.{signature_as, signature_of}
 use Rattle.bl_emit_acts.specs.declared.home.Home.{Home}
-use Rattle.bl_emit_acts.specs.declared.home.Home.TheVariants.{Held, Given, Lent}
+use Rattle.bl_emit_acts.specs.declared.home.Home.TheVariants.{Held, Local, Lent}
 use Rattle.bl_emit_acts.specs.declared.made.Made.{Made}
 use Rattle.bl_emit_acts.specs.declared.made.Made.TheVariants.{Number, Whole}
 use Rattle.bl_emit_acts.specs.Expressions.{arg_of, c_both, c_cast, c_one, code_of, field_at, length_in, made_at, made_call, made_of, name_of_field}
@@ -109,7 +109,7 @@ module _ (context : Context) where
       (step-judged context (variable_name vars k) at (Some (OfStruct held.name))
       ∙ into_member context (variable_name vars k) (OfStruct held.name) ty at held.member)
       ∙ ends at)
-  home_place activity Given vars k ty last steps is ends =
+  home_place activity Local vars k ty last steps is ends =
       place-is context false (variable_name vars k) steps ty last (λ at. root_plain (variable_name vars k) ty at is) ends
   home_place activity Lent vars k ty last steps is ends =
       place-is context true (variable_name vars k) steps ty last (λ at. root_pointer (variable_name vars k) ty at is) ends

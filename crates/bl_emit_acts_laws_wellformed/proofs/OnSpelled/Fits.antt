@@ -45,7 +45,7 @@ use Rattle.bl_ctext.specs.inner.Fits.{arg_fits, expr_fits, place_fits, step_fits
 use Rattle.bl_ctext.specs.inner.Prefixes.{is_source_name}
 use Rattle.bl_ctext.proofs.Fitting.{expr_fits-more, literal-fits, place-fits, place_fits-more, read-fits, step-fits}
 use Rattle.bl_emit_acts.specs.declared.home.Home.{Home}
-use Rattle.bl_emit_acts.specs.declared.home.Home.TheVariants.{Held, Given, Lent}
+use Rattle.bl_emit_acts.specs.declared.home.Home.TheVariants.{Held, Local, Lent}
 use Rattle.bl_emit_acts.specs.declared.made.Made.{Made}
 use Rattle.bl_emit_acts.specs.declared.made.Made.TheVariants.{Number, Whole}
 use Rattle.bl_emit_acts.specs.Expressions.{arg_of, c_both, c_cast, c_one, code_of, field_at, field_of_struct, length_in, made_at, made_call, made_of}
@@ -421,7 +421,7 @@ module _ (site : TypingContext) (stand : structs_stand_from 0 site.structs ≡ t
       place-fits d activity (codes "m") (c_step (variable_name site.vars k) ∷ steps) low memory-name
       (both (step_fits d (c_step (variable_name site.vars k))) (list_all (step_fits d) steps)
       (step-fits d (variable_name site.vars k) (variable-name site.vars k vars_named small)) all)
-  home_fits d activity Given k steps low small all = place-fits d false (variable_name site.vars k) steps low (variable-name site.vars k vars_named small) all
+  home_fits d activity Local k steps low small all = place-fits d false (variable_name site.vars k) steps low (variable-name site.vars k vars_named small) all
   home_fits d activity Lent k steps low small all = place-fits d true (variable_name site.vars k) steps low (variable-name site.vars k vars_named small) all
 
   path_fits : (place : Place) (root : ℕ) (parts : List Part) (written : Ty) → EachIndex P parts →

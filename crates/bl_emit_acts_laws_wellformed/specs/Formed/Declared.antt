@@ -15,7 +15,7 @@ use Rattle.bl_tree.specs.Typing.{TypingContext, is_activity, is_function, var_at
 use Rattle.bl_ctext_semantics.specs.Faults.{Context, Signature, Variable, member_of, member_table}
 use Rattle.bl_ctext_semantics.specs.Tables.{Table}
 use Rattle.bl_emit_acts.specs.declared.home.Home.{Home}
-use Rattle.bl_emit_acts.specs.declared.home.Home.TheVariants.{Held, Given, Lent}
+use Rattle.bl_emit_acts.specs.declared.home.Home.TheVariants.{Held, Local, Lent}
 use Rattle.bl_emit_acts.specs.Places.{home_of}
 use Rattle.bl_emit_acts.specs.Types.{c_scalar, c_type, copy_name, unit_name, variable_name}
 use Rattle.bl_emit_structs.specs.Structs.{arrays_of, structs_for_definition}
@@ -54,13 +54,13 @@ pub record HeldIn (context : Context) (activity : Bool) (vars : List Var) (k : �
 -- the variable at a position among its unit's stands in C where its home is, with its C type
 abbrev pub IsDeclaredAt : Context → Bool → Home → List Var → ℕ → CType → Type 0
 IsDeclaredAt context activity Held vars k ty = HeldIn context activity vars k ty
-IsDeclaredAt context activity Given vars k ty = context.variables (variable_name vars k) ≡ Some (variable_of false ty)
+IsDeclaredAt context activity Local vars k ty = context.variables (variable_name vars k) ≡ Some (variable_of false ty)
 IsDeclaredAt context activity Lent vars k ty = context.variables (variable_name vars k) ≡ Some (variable_of true ty)
 
 -- whether the place of a variable with this home begins with what a pointer leads to
 abbrev pub home_leads : Bool → Home → Bool
 home_leads activity Held = activity
-home_leads activity Given = false
+home_leads activity Local = false
 home_leads activity Lent = true
 
 -- whether the place of the variable at a position begins with what a pointer leads to

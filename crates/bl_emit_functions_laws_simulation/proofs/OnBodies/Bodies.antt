@@ -33,14 +33,14 @@ use Rattle.bl_eval.proofs.PassLemmas.{and_left, and_right}
 use Rattle.bl_ctext_semantics.specs.Course.{End, Outcome, following_end}
 use Rattle.bl_ctext_semantics.specs.Memory.{CValue, Memory, scalar_number, set_at}
 use Rattle.bl_ctext_semantics.specs.Meaning.{Scope, block_c, runs_c}
-use Rattle.bl_emit_acts.specs.Acts.{call_made, c_calling, c_set, code_made, declared_code}
-use Rattle.bl_emit_acts.specs.Expressions.{stands}
+use Rattle.bl_emit_acts.specs.Acts.{call_made, c_calling, code_made, declared_code}
 use Rattle.bl_emit_functions.specs.declared.coded.Free.{Free}
 use Rattle.bl_emit_functions.specs.Statements.{
   ArmCodes,
   Codes,
   arm_codes,
   arms_taken,
+  assigned_code,
   block_codes,
   branch_codes,
   break_code,
@@ -255,7 +255,7 @@ module _ (number : Datum → ℤ) (Stand : List Value → Memory → Type 0) (Ke
         (declares : (place : Place) (k : ℕ) (initial : Option Expr) → fits site (stmt place (StmtKind-F.Declare k initial)) ≡ true → (n : ℕ) →
         Does_so n (does sees (stmt place (StmtKind-F.Declare k initial))) (block_c (declared_code site [] k initial) scope))
         (assigns : (place : Place) (path : Path) (e : Expr) → fits site (stmt place (StmtKind-F.Assign path e)) ≡ true → (n : ℕ) →
-        Does_so n (does sees (stmt place (StmtKind-F.Assign path e))) (block_c (c_set (stands site path).place (code_made site e) ∷ []) scope))
+        Does_so n (does sees (stmt place (StmtKind-F.Assign path e))) (block_c (assigned_code site path e) scope))
         (calls : (place : Place) (f : ℕ) (inputs : List Expr) (outputs : List Path) →
         fits site (stmt place (StmtKind-F.Call f inputs outputs)) ≡ true → aliases_in
         (stmt place (StmtKind-F.Call f inputs outputs)) ≡ [] → (n : ℕ) →

@@ -30,7 +30,7 @@ use Rattle.bl_ctext_semantics.specs.Memory.{
 }
 use Rattle.bl_emit_acts.specs.Acts.{is_copied}
 use Rattle.bl_emit_acts.specs.declared.home.Home.{Home}
-use Rattle.bl_emit_acts.specs.declared.home.Home.TheVariants.{Held, Given, Lent}
+use Rattle.bl_emit_acts.specs.declared.home.Home.TheVariants.{Held, Local, Lent}
 use Rattle.bl_emit_acts.specs.Types.{variable_name}
 use Rattle.bl_emit_acts_laws_simulation.specs.Acts.{lies_in}
 use Rattle.bl_emit_acts_laws_simulation.specs.Frames.{PointersAreValid, is_older}
@@ -130,7 +130,7 @@ module _ (site : TypingContext) (function : is_activity site.kind ≡ false) (sc
   home_differs : (j k : ℕ) (var : Var) → var_at site k ≡ Some var → (home : Home) → home_at site k ≡ home → (activity : Bool) →
       activity ≡ false → same_root (variable scope.depth (flag_name j)) (start_in scope activity home site.vars k).root ≡ false
   home_differs j k var there Held is false none = own_differ scope.depth (flag_name j) (codes "m") refl
-  home_differs j k var there Given is false none = own_differ scope.depth (flag_name j) (variable_name site.vars k) refl
+  home_differs j k var there Local is false none = own_differ scope.depth (flag_name j) (variable_name site.vars k) refl
   home_differs j k var there Lent is false none =
       older_differs scope.depth (flag_name j) (named_location scope true (variable_name site.vars k)).root (pointers.lent_older k var there is)
   home_differs j k var there home is true none = absurd (no_such none)

@@ -1,5 +1,5 @@
 -- The law of the statements of a whole program's functions.
-use Rattle.std.proofs.Common.{◌≡◌, ℕ, ◌≤◌, ◌^◌, Bool, true, ◌||◌, List, [], ◌∷◌, map, take, Option, Some, None, refl, sym}
+use Rattle.std.proofs.Common.{◌≡◌, ℕ, ◌≤◌, ◌^◌, Bool, true, false, ◌||◌, List, [], ◌∷◌, map, take, Option, Some, None, refl, sym}
 use Rattle.std.proofs.Common.{ap, ◌∙◌, subst, IfSome}
 use Rattle.std.proofs.lemmas.List.Elements.{All-cons, All-nil}
 use Rattle.std.proofs.lemmas.Option.{same_Some}
@@ -30,11 +30,12 @@ use Rattle.bl_effects.specs.Rules.{aliases_in}
 use Rattle.bl_eval.specs.declared.datum.Datum.{Datum}
 use Rattle.bl_eval.specs.declared.datum.Datum.TheVariants.{Scalar as OfScalar, Whole as OfWhole}
 use Rattle.bl_eval.specs.Functions.{Flow, acted, callees_of, does, in_order, own, scope_among, truth}
-use Rattle.bl_eval.specs.Meaning.{Scope as Sees, meaning_of, operand_in}
+use Rattle.bl_eval.specs.Meaning.{Scope as Sees, meaning_of, operand_in, path_meaning_of}
+use Rattle.bl_eval.specs.Values.{value_fits}
 use Rattle.bl_eval.proofs.ActFits.{AllFit, act_fits, same_found}
-use Rattle.bl_eval.proofs.ExprFits.{Sound, expr_fits}
+use Rattle.bl_eval.proofs.ExprFits.{Sound, expr_fits, spot_fits}
 use Rattle.bl_eval.proofs.OperatorFits.{DatumFits, scalar_alone}
-use Rattle.bl_eval.proofs.PassLemmas.{and_left, and_right}
+use Rattle.bl_eval.proofs.PassLemmas.{and_left, and_right, pass_at}
 use Rattle.bl_eval.proofs.UnitFits.{sound_at}
 use Rattle.bl_ctext_semantics.specs.Course.{Outcome}
 use Rattle.bl_ctext_semantics.specs.Memory.{CValue, Memory, scalar_number}
@@ -49,10 +50,11 @@ use Rattle.bl_emit_acts_laws_simulation.specs.Encodes.{copied_in}
 use Rattle.bl_emit_acts_laws_simulation.specs.Laws.{ActsSimulate, Beside, BesideActs, ExpressionsSimulate, FramesApart, overlaps_in}
 use Rattle.bl_emit_acts_laws_simulation.specs.Simulation.{ExpressionSimulates, number_given}
 use Rattle.bl_emit_functions.specs.declared.coded.Free.{Free}
-use Rattle.bl_emit_functions.specs.Statements.{block_codes, codes_of}
+use Rattle.bl_emit_functions.specs.Statements.{assigned_code, block_codes, codes_of, sets_itself}
 use Rattle.bl_emit_functions_laws_simulation.specs.Bodies.{FlowSimulates, FunctionIsRunning, Represents, Spared, StatementsSimulate}
 use Rattle.bl_emit_functions_laws_simulation.proofs.OnBodies.Bodies.{body_good}
 use Rattle.bl_emit_functions_laws_simulation.proofs.OnBodies.Courses.{EndsAt, truth_c}
+use Rattle.bl_emit_functions_laws_simulation.proofs.OnBodies.Itself.{itself_kept}
 use Rattle.bl_emit_functions_laws_simulation.proofs.OnBodies.Memories.{fewer, flag_kept, kept_set, no_copy, onward, same, stand_set}
 use Rattle.bl_emit_functions_laws_simulation.proofs.OnBodies.NoPrev.{both_true, expr_named, exprs_named, path_named, paths_named}
 
@@ -211,15 +213,27 @@ module _ (structs : List StructDef) (units : List UnitDef) (entry : ℕ) (k : �
         (declared_named j initial (var_at site j) (rw (fold-roll-Stmt, fold-roll-StmtKind) at fitted)) refl now here n stand)
 
     assign_at : (path : Path) (e : Expr) → fits site (stmt place (StmtKind-F.Assign path e)) ≡ true →
-        AtOf n here (does sees (stmt place (StmtKind-F.Assign path e)) now) (block_c (c_set (stands site path).place (code_made site e) ∷ []) scope here)
+        AtOf n here (does sees (stmt place (StmtKind-F.Assign path e)) now) (block_c (assigned_code site path e) scope here)
     assign_at path e fitted =
-        let typed = same_found (type_of_path site path) (type_of site e)
-        (and_right (is_assignable site path) (are_same (type_of_path site path) (type_of site e)) (rw (fold-roll-Stmt, fold-roll-StmtKind) at fitted)) in
-        rw (fold-roll-Stmt, fold-roll-StmtKind)
-        (act_at place (StmtKind-F.Assign path e) refl fitted
-        (both_true _ _ (path_named site runs.is_function copied path typed.0 typed.1) (expr_named site runs.is_function copied e typed.0 typed.2))
-        refl now here n
-        stand)
+        by (same_found (type_of_path site path) (type_of site e)
+        (and_right (is_assignable site path) (are_same (type_of_path site path) (type_of site e)) (rw (fold-roll-Stmt, fold-roll-StmtKind) at fitted)))
+        (sets_itself path e) refl
+      where
+        by : ((ty : Ty) × (type_of_path site path ≡ Some ty) × (type_of site e ≡ Some ty)) → (itself : Bool) → sets_itself path e ≡ itself →
+            AtOf n here (does sees (stmt place (StmtKind-F.Assign path e)) now)
+            (block_c (if itself then [] else c_set (stands site path).place (code_made site e) ∷ []) scope here)
+        by typed false itself =
+            rw (fold-roll-Stmt, fold-roll-StmtKind)
+            (act_at place (StmtKind-F.Assign path e) refl fitted
+            (both_true _ _ (path_named site runs.is_function copied path typed.0 typed.1) (expr_named site runs.is_function copied e typed.0 typed.2))
+            refl now here n
+            stand)
+        by typed true itself =
+            let spot = spot_fits structs (take k units) unit (callees_of structs (take k units)) sound (own now) stand.fits stand.fits path typed.0 typed.1 in
+            let stored = pass_at (λ (var : Var). value_fits structs var.ty) unit.vars now (path_meaning_of sees path).root spot.var stand.fits spot.is_there in
+            rw (fold-roll-Stmt, fold-roll-StmtKind)
+            (subst (λ made. AtOf n here (option_map Flow.On made) (block_c [] scope here)) (sym (itself_kept sees path e itself now stored.0 stored.1))
+            (refl, stand, same site runs.is_function scope runs.pointers n here))
 
     call_at : (f : ℕ) (inputs : List Expr) (outputs : List Path) → fits site (stmt place (StmtKind-F.Call f inputs outputs)) ≡ true →
         aliases_in (stmt place (StmtKind-F.Call f inputs outputs)) ≡ [] →

@@ -1,10 +1,10 @@
 -- The frame of a called function.
 use Rattle.std.proofs.Common.{◌≡◌, ℕ, ◌+◌, ◌<◌, ◌≤◌, ◌^◌, ℤ, pos, arith, Bool, true, false, not, ◌&&◌, ◌||◌}
 use Rattle.std.proofs.Common.{List, [], ◌∷◌, ◌++◌, length, map, take, Option, Some, None, refl, sym, ap, ◌∙◌, subst}
-use Rattle.std.proofs.lemmas.Bool.{eq-eqb, leb-true, ltb-false, ltb-true}
-use Rattle.std.proofs.lemmas.List.{append-nil, length-take}
+use Rattle.std.proofs.lemmas.Bool.{ltb-false, ltb-true}
+use Rattle.std.proofs.lemmas.List.{append-nil}
 use Rattle.std.proofs.lemmas.Option.{same_Some}
-use Rattle.std.specs.Prelude.{codes, is_none, is_some, nat_eq, nat_le, nat_lt, option_and_then, slice_get, unwrap_or, if◌then◌else◌}
+use Rattle.std.specs.Prelude.{codes, is_none, is_some, nat_eq, nat_le, nat_lt, option_and_then, slice_get, unwrap_or}
 use Rattle.std.specs.List.{list_all}
 use Rattle.bl_tree.specs.declared.c.CFunc.{CFunc}
 use Rattle.bl_tree.specs.declared.tree.Role.{Role}
@@ -20,22 +20,24 @@ use Rattle.bl_tree.specs.Types.{scalar_in}
 use Rattle.bl_tree.specs.Typing.{TypingContext, inputs_of, is_activity, is_fixed, is_function, is_variable, outputs_of, site_of, var_at}
 use Rattle.bl_eval.specs.Functions.{frame_of}
 use Rattle.bl_eval.specs.Values.{number_at as number_level, number_in, parts_at, value_at as value_within, zero_of}
-use Rattle.bl_eval.proofs.PassLemmas.{and_left, and_right, get_front, get_take}
+use Rattle.bl_eval.proofs.PassLemmas.{and_right, get_front, get_take}
 use Rattle.bl_ctext_semantics.specs.Meaning.{ArgumentValue, Meaning, Scope, by_address, by_value}
-use Rattle.bl_ctext_semantics.specs.Memory.{CValue, Location, Memory, Projection, member, value_at, variable, without_frame, zeros}
+use Rattle.bl_ctext_semantics.specs.Memory.{CValue, Location, Memory, Projection, member, value_at, variable, without_frame}
 use Rattle.bl_ctext_semantics.specs.Memory as memory
 use Rattle.bl_ctext_semantics.specs.Tables.{Table}
 use Rattle.bl_emit_acts.specs.declared.home.Home.{Home}
-use Rattle.bl_emit_acts.specs.declared.home.Home.TheVariants.{Held, Given, Lent}
-use Rattle.bl_emit_acts.specs.Places.{copies_inputs, home_of, home_of_role}
+use Rattle.bl_emit_acts.specs.declared.home.Home.TheVariants.{Held, Local, Lent}
+use Rattle.bl_emit_acts.specs.Places.{copies_inputs, home_of, home_of_declared, home_of_role, is_alone}
 use Rattle.bl_emit_acts.specs.Types.{variable_name}
 use Rattle.bl_emit_acts_laws_simulation.specs.Frames.{PointersAreValid, is_older, lent_at}
 use Rattle.bl_emit_acts_laws_simulation.specs.Encodes.{Encodes, are_apart, home_at, lead_in, location_in, number_within, start_in, way_to}
+use Rattle.bl_emit_acts_laws_simulation.proofs.Homes.{declared_home, declared_unlent}
 use Rattle.bl_emit_functions.specs.Functions.{function_code, is_held}
 use Rattle.bl_emit_functions_laws_simulation.specs.Calls.{ArgFor, FrameBegun, FramesBegin, Handed, HandedOver, is_copied_input, memory_begun, scope_begun}
 use Rattle.bl_emit_functions_laws_simulation.proofs.OnCalls.Kept.{keep}
-use Rattle.bl_emit_functions_laws_simulation.proofs.OnCalls.Lists.{front_all, made_behind, middle_all, rest_all}
-use Rattle.bl_emit_functions_laws_simulation.proofs.OnCalls.Params.{other_stays, pointer_given, value_given}
+use Rattle.bl_emit_functions_laws_simulation.proofs.OnCalls.Lists.{made_behind, rest_all}
+use Rattle.bl_emit_functions_laws_simulation.proofs.OnCalls.Locals.{begun_zero, behind_zero, parameter_role, parameters_many, parameters_within}
+use Rattle.bl_emit_functions_laws_simulation.proofs.OnCalls.Params.{pointer_given, value_given}
 use Rattle.bl_emit_functions_laws_simulation.proofs.OnCalls.Standing.{roles, stands_at}
 use Rattle.bl_emit_functions_laws_simulation.proofs.OnCalls.Zeros.{zero_holds}
 
@@ -71,58 +73,50 @@ number_alone structs ty value held is = record { each = each }
 
 pub data Where (site : TypingContext) (depth : ℕ) (here : Memory) (values : List Value) (passed : List ArgumentValue) (n j : ℕ) (var : Var) : Type 0 where
   number : (held : CValue) (value : Value) → slice_get passed j ≡ Some (by_value held) → slice_get values j ≡ Some value →
-      number_in value ≡ Some (memory.scalar_number held) → j < n → home_at site j ≡ Given → is_output var.role ≡ false →
+      number_in value ≡ Some (memory.scalar_number held) → j < n → home_at site j ≡ Local → is_output var.role ≡ false →
       Where site depth here values passed n j var
   place : (at : Location) (value : Value) → slice_get passed j ≡ Some (by_address at) → slice_get values j ≡ Some value →
       is_older depth at.root ≡ true → Encodes site.structs var.ty value (value_at here at) → j < n →
-      (home_at site j ≡ Given → ⊥) → (is_copied_input site j var ≡ false → home_at site j ≡ Lent)
+      (home_at site j ≡ Local → ⊥) → (is_copied_input site j var ≡ false → home_at site j ≡ Lent)
       → (is_input var.role || is_output var.role) ≡ true →
       Where site depth here values passed n j var
-  local : n ≤ j → is_input var.role ≡ false → home_at site j ≡ Held → Where site depth here values passed n j var
+  local : (alone : Bool) → n ≤ j → is_input var.role ≡ false → home_at site j ≡ home_of_declared alone → Where site depth here values passed n j var
 
-number_home : (role : Role) (scalar copies : Bool) → (is_input role || is_output role) ≡ true → is_output role ≡ false → scalar ≡ true →
-    home_of_role role scalar copies ≡ Given
-number_home Input true copies parameter isnt is = refl
-number_home Input false copies parameter isnt is = absurd (cc)
-number_home Output scalar copies parameter isnt is = absurd (cc)
-number_home Variable scalar copies parameter isnt is = absurd (cc)
-number_home Fixed scalar copies parameter isnt is = absurd (cc)
+number_home : (alone : Bool) (role : Role) (scalar copies : Bool) → (is_input role || is_output role) ≡ true → is_output role ≡ false → scalar ≡ true →
+    home_of_role alone role scalar copies ≡ Local
+number_home alone Input true copies parameter isnt is = refl
+number_home alone Input false copies parameter isnt is = absurd (cc)
+number_home alone Output scalar copies parameter isnt is = absurd (cc)
+number_home alone Variable scalar copies parameter isnt is = absurd (cc)
+number_home alone Fixed scalar copies parameter isnt is = absurd (cc)
 
-place_given : (role : Role) (scalar copies : Bool) → (is_output role || not scalar) ≡ true → home_of_role role scalar copies ≡ Given → ⊥
-place_given Input true copies pointer is = cc
-place_given Input false true pointer is = cc
-place_given Input false false pointer is = cc
-place_given Output scalar copies pointer is = cc
-place_given Variable scalar copies pointer is = cc
-place_given Fixed scalar copies pointer is = cc
+place_given : (alone : Bool) (role : Role) (scalar copies : Bool) → (is_input role || is_output role) ≡ true → (is_output role || not scalar) ≡ true →
+    home_of_role alone role scalar copies ≡ Local → ⊥
+place_given alone Input true copies parameter pointer is = cc
+place_given alone Input false true parameter pointer is = cc
+place_given alone Input false false parameter pointer is = cc
+place_given alone Output scalar copies parameter pointer is = cc
+place_given alone Variable scalar copies parameter pointer is = cc
+place_given alone Fixed scalar copies parameter pointer is = cc
 
-place_lent : (role : Role) (scalar copies : Bool) → (is_input role || is_output role) ≡ true → (is_output role || not scalar) ≡ true →
-    (is_input role && is_held (home_of_role role scalar copies)) ≡ false → home_of_role role scalar copies ≡ Lent
-place_lent Input true copies parameter pointer isnt = absurd (cc)
-place_lent Input false true parameter pointer isnt = absurd (cc)
-place_lent Input false false parameter pointer isnt = refl
-place_lent Output scalar copies parameter pointer isnt = refl
-place_lent Variable scalar copies parameter pointer isnt = absurd (cc)
-place_lent Fixed scalar copies parameter pointer isnt = absurd (cc)
+place_lent : (alone : Bool) (role : Role) (scalar copies : Bool) → (is_input role || is_output role) ≡ true → (is_output role || not scalar) ≡ true →
+    (is_input role && is_held (home_of_role alone role scalar copies)) ≡ false → home_of_role alone role scalar copies ≡ Lent
+place_lent alone Input true copies parameter pointer isnt = absurd (cc)
+place_lent alone Input false true parameter pointer isnt = absurd (cc)
+place_lent alone Input false false parameter pointer isnt = refl
+place_lent alone Output scalar copies parameter pointer isnt = refl
+place_lent alone Variable scalar copies parameter pointer isnt = absurd (cc)
+place_lent alone Fixed scalar copies parameter pointer isnt = absurd (cc)
 
-local_home : (role : Role) (scalar copies : Bool) → (is_variable role || is_fixed role) ≡ true →
-    (is_input role ≡ false) × (home_of_role role scalar copies ≡ Held)
-local_home Input scalar copies h = absurd (cc)
-local_home Output scalar copies h = absurd (cc)
-local_home Variable scalar copies h = (refl, refl)
-local_home Fixed scalar copies h = (refl, refl)
+declared_no_input : (role : Role) → (is_variable role || is_fixed role) ≡ true → is_input role ≡ false
+declared_no_input Input h = absurd (cc)
+declared_no_input Output h = absurd (cc)
+declared_no_input Variable h = refl
+declared_no_input Fixed h = refl
 
 none_not : {A : Type 0} (o : Option A) → is_none o ≡ not (is_some o)
 none_not None = refl
 none_not (Some x) = refl
-
-either_left : (a b : Bool) → a ≡ true → (a || b) ≡ true
-either_left true b h = refl
-either_left false b h = absurd (cc)
-
-either_right : (a b : Bool) → b ≡ true → (a || b) ≡ true
-either_right true b h = refl
-either_right false b h = h
 
 output_of : (role : Role) → (is_input role || is_output role) ≡ true → is_input role ≡ false → is_output role ≡ true
 output_of Input h isnt = absurd (cc)
@@ -152,30 +146,16 @@ module _ (structs : List StructDef) (earlier : List UnitDef) (unit : UnitDef) (s
   no_activity = not_false (is_activity unit.kind) function
 
   within : n ≤ length unit.vars
-  within = leb-true n (length unit.vars) (and_left _ _ standing)
+  within = parameters_within structs earlier unit standing
 
   parameters : length (parameters_of unit) ≡ n
-  parameters = omega (arith, length-take n unit.vars, within)
-
-  all_inputs : list_all (λ (var : Var). is_input var.role) (inputs_of unit) ≡ true
-  all_inputs = and_left _ _ (and_right _ _ standing)
-
-  all_outputs : list_all (λ (var : Var). is_output var.role) (outputs_of unit) ≡ true
-  all_outputs = and_left _ _ (and_right _ _ (and_right _ _ standing))
+  parameters = parameters_many structs earlier unit standing
 
   role_of : (j : ℕ) (var : Var) → var_at site j ≡ Some var → j < n → (is_input var.role || is_output var.role) ≡ true
-  role_of j var there less = by (nat_lt j unit.inputs) refl
-    where
-      by : (first : Bool) → nat_lt j unit.inputs ≡ first → (is_input var.role || is_output var.role) ≡ true
-      by true is =
-          either_left (is_input var.role) (is_output var.role)
-          (front_all (λ (var : Var). is_input var.role) unit.inputs unit.vars j var all_inputs there (ltb-true j unit.inputs is))
-      by false is =
-          either_right (is_input var.role) (is_output var.role)
-          (middle_all (λ (var : Var). is_output var.role) unit.inputs unit.outputs unit.vars j var all_outputs there
-          (ltb-false j unit.inputs is) less)
+  role_of = parameter_role structs earlier unit standing
 
-  home_is : (j : ℕ) (var : Var) → var_at site j ≡ Some var → home_at site j ≡ home_of_role var.role (is_some (scalar_in var.ty)) (copies_inputs site)
+  home_is : (j : ℕ) (var : Var) → var_at site j ≡ Some var →
+      home_at site j ≡ home_of_role (is_alone site var.ty) var.role (is_some (scalar_in var.ty)) (copies_inputs site)
   home_is j var there = ap (home_of site) there
 
   parameter_at : (j : ℕ) (var : Var) → var_at site j ≡ Some var → j < n → slice_get (parameters_of unit) j ≡ Some var
@@ -188,14 +168,17 @@ module _ (structs : List StructDef) (earlier : List UnitDef) (unit : UnitDef) (s
       slice_get values j ≡ Some value → ArgFor structs depth here var value arg → At j var
   by_arg j var there less (by_value held) value is_passed is_value fits =
       Where.number held value is_passed is_value fits.2 less
-      (home_is j var there ∙ number_home var.role (is_some (scalar_in var.ty)) (copies_inputs site) (role_of j var there less) fits.0 fits.1) fits.0
+      (home_is j var there ∙ number_home (is_alone site var.ty) var.role (is_some (scalar_in var.ty)) (copies_inputs site)
+      (role_of j var there less) fits.0 fits.1)
+      fits.0
   by_arg j var there less (by_address at) value is_passed is_value fits =
       let pointer : (is_output var.role || not (is_some (scalar_in var.ty))) ≡ true =
       ap (λ b. is_output var.role || b) (sym (none_not (scalar_in var.ty))) ∙ fits.0 in
       Where.place at value is_passed is_value fits.1 fits.2 less
-      (λ is. place_given var.role (is_some (scalar_in var.ty)) (copies_inputs site) pointer (sym (home_is j var there) ∙ is))
+      (λ is. place_given (is_alone site var.ty) var.role (is_some (scalar_in var.ty)) (copies_inputs site) (role_of j var there less) pointer
+      (sym (home_is j var there) ∙ is))
       (λ isnt. home_is j var there
-      ∙ place_lent var.role (is_some (scalar_in var.ty)) (copies_inputs site) (role_of j var there less) pointer
+      ∙ place_lent (is_alone site var.ty) var.role (is_some (scalar_in var.ty)) (copies_inputs site) (role_of j var there less) pointer
       (ap (λ home. is_input var.role && is_held home) (sym (home_is j var there)) ∙ isnt))
       (role_of j var there less)
 
@@ -216,10 +199,10 @@ module _ (structs : List StructDef) (earlier : List UnitDef) (unit : UnitDef) (s
           by_arg j var there less given.arg given.value given.is_passed given.is_value given.fits
       by false is =
           let more : n ≤ j = ltb-false j n is in
-          let found =
-          local_home var.role (is_some (scalar_in var.ty)) (copies_inputs site)
-          (rest_all (λ (var : Var). is_variable var.role || is_fixed var.role) n unit.vars j var all_locals there more) in
-          Where.local more found.0 (home_is j var there ∙ found.1)
+          let declared : (is_variable var.role || is_fixed var.role) ≡ true =
+          rest_all (λ (var : Var). is_variable var.role || is_fixed var.role) n unit.vars j var all_locals there more in
+          Where.local (is_alone site var.ty) more (declared_no_input var.role declared)
+          (home_is j var there ∙ declared_home (is_alone site var.ty) var.role (is_some (scalar_in var.ty)) (copies_inputs site) declared)
 
   -- ---- pointers
 
@@ -235,14 +218,15 @@ module _ (structs : List StructDef) (earlier : List UnitDef) (unit : UnitDef) (s
   lent_older : (j : ℕ) (var : Var) → home_at site j ≡ Lent → At j var → is_older depth (lent_at scope site.vars j).root ≡ true
   lent_older j var is (Where.number held value p v m less given isnt) = absurd (let isnt = sym given ∙ is in cc)
   lent_older j var is (Where.place at value p v older holds less isnt lent role) = ap (λ (l : Location). is_older depth l.root) (leads j at less p) ∙ older
-  lent_older j var is (Where.local more isnt held) = absurd (let isnt = sym held ∙ is in cc)
+  lent_older j var is (Where.local alone more isnt declared) = absurd (declared_unlent alone (sym declared ∙ is))
 
   lent_apart : (i j : ℕ) (a b : Var) → var_at site i ≡ Some a → home_at site i ≡ Lent → home_at site j ≡ Lent → is_input a.role ≡ false →
       nat_eq i j ≡ false → At i a → At j b → are_apart (lent_at scope site.vars i) (lent_at scope site.vars j) ≡ true
   lent_apart i j a b there is other writable differ (Where.number held value p v m less given isnt) second = absurd (let isnt = sym given ∙ is in cc)
-  lent_apart i j a b there is other writable differ (Where.local more isnt held) second = absurd (let isnt = sym held ∙ is in cc)
+  lent_apart i j a b there is other writable differ (Where.local alone more isnt declared) second = absurd (declared_unlent alone (sym declared ∙ is))
   lent_apart i j a b there is other writable differ first (Where.number held value p v m less given isnt) = absurd (let isnt = sym given ∙ other in cc)
-  lent_apart i j a b there is other writable differ first (Where.local more isnt held) = absurd (let isnt = sym held ∙ other in cc)
+  lent_apart i j a b there is other writable differ first (Where.local alone more isnt declared) =
+      absurd (declared_unlent alone (sym declared ∙ other))
   lent_apart i j a b there is other writable differ (Where.place at value p v older holds less isnt lent role)
       (Where.place to v2 q w older2 holds2 less2 no2 lent2 role2) =
       ap (λ l. are_apart l (lent_at scope site.vars j)) (leads i at less p) ∙ ap (are_apart at) (leads j to less2 q)
@@ -282,16 +266,18 @@ module _ (structs : List StructDef) (earlier : List UnitDef) (unit : UnitDef) (s
   frame_value j value known is at =
       same_Some known value (sym (get_front values (map (λ (var : Var). zero_of structs var.ty) (locals_of unit)) j known is) ∙ at)
 
-  memory_zero : (way : List Projection) → begun (variable depth (codes "m")) way ≡ pos 0
-  memory_zero way =
-      other_stays structs unit.vars depth (parameters_of unit) 0 passed (without_frame depth here) (codes "m") way (λ i more less. refl)
-      ∙ ap (λ b. (if b then zeros else here (variable depth (codes "m"))) way) (eq-eqb depth depth refl)
+  -- a variable that the body declares is 0, in the struct of variables or by itself
+  declared_zero : (j : ℕ) (var : Var) → var_at site j ≡ Some var → n ≤ j → (alone : Bool) (way : List Projection) →
+      value_at begun (stands_in false (home_of_declared alone) j) way ≡ pos 0
+  declared_zero j var there more true way = behind_zero structs earlier unit standing few depth passed here j var there more way
+  declared_zero j var there more false way =
+      begun_zero structs earlier unit standing few depth passed here (codes "m") ((member (variable_name site.vars j) ∷ []) ++ way) (λ i less. refl)
 
   variable_holds : (j : ℕ) (var : Var) (value : Value) → var_at site j ≡ Some var → slice_get (frame_of structs unit values) j ≡ Some value →
       is_copied_input site j var ≡ false → At j var → Encodes structs var.ty value (value_at begun (location_in scope site j []))
   variable_holds j var value there at isnt (Where.number held mine p v m less given role) =
-      same_home j Given var.ty value given
-      (holds_same structs var.ty value held (value_at begun (stands_in false Given j))
+      same_home j Local var.ty value given
+      (holds_same structs var.ty value held (value_at begun (stands_in false Local j))
       (λ way. sym (value_given structs unit.vars depth (parameters_of unit) 0 j j passed (without_frame depth here) held way (omega arith)
       (omega (arith, less, parameters))
       (omega (arith, few, parameters, within)) p))
@@ -302,11 +288,11 @@ module _ (structs : List StructDef) (earlier : List UnitDef) (unit : UnitDef) (s
       (holds_same structs var.ty value (value_at here to) (value_at begun (record { root = to.root; parts = to.parts ++ [] }))
       (λ way. sym (ap (λ parts. begun to.root (parts ++ way)) (append-nil to.parts) ∙ older_same to way older))
       (subst (λ value. Encodes structs var.ty value (value_at here to)) (frame_value j value mine v at) holds)))
-  variable_holds j var value there at isnt (Where.local more role held) =
-      same_home j Held var.ty value held
-      (subst (λ value. Encodes structs var.ty value (value_at begun (stands_in false Held j)))
+  variable_holds j var value there at isnt (Where.local alone more role declared) =
+      same_home j (home_of_declared alone) var.ty value declared
+      (subst (λ value. Encodes structs var.ty value (value_at begun (stands_in false (home_of_declared alone) j)))
       (made_behind (λ (var : Var). zero_of structs var.ty) values n unit.vars j value var handed.as_many more there at)
-      (zero_holds structs var.ty (value_at begun (stands_in false Held j)) (λ way. memory_zero ((member (variable_name site.vars j) ∷ []) ++ way))))
+      (zero_holds structs var.ty (value_at begun (stands_in false (home_of_declared alone) j)) (declared_zero j var there more alone)))
 
   and_first : (a b : Bool) → (a && b) ≡ true → a ≡ true
   and_first true b h = refl
@@ -314,7 +300,7 @@ module _ (structs : List StructDef) (earlier : List UnitDef) (unit : UnitDef) (s
 
   held_home : (home : Home) → is_held home ≡ true → home ≡ Held
   held_home Held h = refl
-  held_home Given h = absurd (cc)
+  held_home Local h = absurd (cc)
   held_home Lent h = absurd (cc)
 
   input_there : (j : ℕ) (var : Var) (value : Value) → slice_get (frame_of structs unit values) j ≡ Some value → is_copied_input site j var ≡ true →
@@ -322,7 +308,7 @@ module _ (structs : List StructDef) (earlier : List UnitDef) (unit : UnitDef) (s
   input_there j var value at is (Where.number held mine p v m less given role) =
       absurd (let held = held_home (home_at site j) (and_right (is_input var.role) (is_held (home_at site j)) is) in
       let isnt = sym given ∙ held in cc)
-  input_there j var value at is (Where.local more role held) =
+  input_there j var value at is (Where.local alone more role declared) =
       absurd (no_such (sym (and_first (is_input var.role) (is_held (home_at site j)) is) ∙ role))
   input_there j var value at is (Where.place to mine p v older holds less given lent role) = (
     ap (λ (l : Location). is_older depth l.root) (leads j to less p) ∙ older,

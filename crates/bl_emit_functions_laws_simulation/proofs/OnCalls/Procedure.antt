@@ -32,17 +32,16 @@ use Rattle.bl_ctext_semantics.specs.Memory.{Location, Memory, Projection, Root, 
 use Rattle.bl_ctext_semantics.specs.Memory.{value_at, variable}
 use Rattle.bl_ctext_semantics.specs.Tables.{Table}
 use Rattle.bl_emit_acts.specs.declared.home.Home.{Home}
-use Rattle.bl_emit_acts.specs.declared.home.Home.TheVariants.{Held, Given, Lent}
-use Rattle.bl_emit_acts.specs.Places.{copies_inputs, home_of, home_of_role}
+use Rattle.bl_emit_acts.specs.declared.home.Home.TheVariants.{Held, Local, Lent}
+use Rattle.bl_emit_acts.specs.Places.{copies_inputs, home_of, home_of_role, is_alone}
 use Rattle.bl_emit_acts.specs.Types.{variable_name}
 use Rattle.bl_emit_acts_laws_simulation.specs.Acts.{CallSimulates, MayPass, OutputsEncoded, RepresentsAfterCall, UnchangedOutside, lies_in}
 use Rattle.bl_emit_acts_laws_simulation.specs.Frames.{is_older, lent_at}
 use Rattle.bl_emit_acts_laws_simulation.specs.Encodes.{Encodes, home_at, is_live, lead_in, location_in, start_in}
 use Rattle.bl_emit_acts_laws_simulation.specs.Simulation.{ArgumentsEncoded}
+use Rattle.bl_emit_acts_laws_simulation.proofs.Homes.{declared_unlent, output_home}
 use Rattle.bl_emit_functions.specs.Functions.{body_code, body_coded, copies_from, end_code, function_code, input_copied, is_held, none_taken, code_returns}
-use Rattle.bl_emit_functions.specs.Functions.{first_held}
 use Rattle.bl_emit_functions.specs.Trees.{flag_name}
-use Rattle.bl_emit_functions.specs.Reads.{reads_in_block}
 use Rattle.bl_emit_functions_laws_simulation.specs.Bodies.{FlowSimulates, Represents, Spared, StatementsSimulate, number_back}
 use Rattle.bl_emit_functions_laws_simulation.specs.Calls.{EndsFor, FrameBegun, HandedOver, MayRun, ProceduresSimulate, is_copied_input, memory_begun}
 use Rattle.bl_emit_functions_laws_simulation.specs.Calls.{scope_begun}
@@ -50,8 +49,9 @@ use Rattle.bl_emit_functions_laws_simulation.proofs.OnCalls.Frame.{Where, frame_
 use Rattle.bl_emit_functions_laws_simulation.proofs.OnCalls.Handing.{get_behind, handed_over, in_either, inputs_many, output_place}
 use Rattle.bl_emit_functions_laws_simulation.proofs.OnCalls.Kept.{keep, older_differs}
 use Rattle.bl_emit_functions_laws_simulation.proofs.OnCalls.Lists.{all_at, front_all}
+use Rattle.bl_emit_functions_laws_simulation.proofs.OnCalls.Locals.{local_zero}
 use Rattle.bl_emit_functions_laws_simulation.proofs.OnCalls.Standing.{body_fits, end_all, roles, stands_at}
-use Rattle.bl_emit_functions_laws_simulation.proofs.OnBodies.Again.{read_alike}
+use Rattle.bl_emit_functions_laws_simulation.proofs.OnBodies.Again.{again_alike}
 
 no_such : true ≡ false → ⊥
 no_such h = cc
@@ -75,13 +75,13 @@ older_live depth output_object h = refl
 older_live depth (variable d name) h = let less : d < depth = ltb-true d depth h in le-leb d depth (omega (arith, less))
 
 -- without a result no input is copied
-not_copied : (role : Role) (scalar copies : Bool) → copies ≡ false → (is_input role && is_held (home_of_role role scalar copies)) ≡ false
-not_copied Input true copies h = refl
-not_copied Input false true h = absurd (no_such h)
-not_copied Input false false h = refl
-not_copied Output scalar copies h = refl
-not_copied Variable scalar copies h = refl
-not_copied Fixed scalar copies h = refl
+not_copied : (alone : Bool) (role : Role) (scalar copies : Bool) → copies ≡ false → (is_input role && is_held (home_of_role alone role scalar copies)) ≡ false
+not_copied alone Input true copies h = refl
+not_copied alone Input false true h = absurd (no_such h)
+not_copied alone Input false false h = refl
+not_copied alone Output scalar copies h = refl
+not_copied alone Variable scalar copies h = refl
+not_copied alone Fixed scalar copies h = refl
 
 outputs_hold : (structs : List StructDef) (m : Memory) (vars : List Var) (old values : List Value) (outputs : List Location) (here : Memory) →
     OutputsEncoded structs here vars old outputs → values_fit structs vars values ≡ true →
@@ -116,19 +116,6 @@ dropped_index zero xs j m x is h = ap (slice_get xs) (omega (arith, is)) ∙ h
 dropped_index (suc n) [] j m x is h = absurd (cc)
 dropped_index (suc n) (y ∷ xs) j zero x is h = absurd (omega (arith, is))
 dropped_index (suc n) (y ∷ xs) j (suc m) x is h = dropped_index n xs j m x (omega (arith, is)) h
-
-output_home : (role : Role) (scalar copies : Bool) → is_output role ≡ true → home_of_role role scalar copies ≡ Lent
-output_home Input scalar copies h = absurd (cc)
-output_home Output scalar copies h = refl
-output_home Variable scalar copies h = absurd (cc)
-output_home Fixed scalar copies h = absurd (cc)
-
--- what is lent and no input is an output
-pub lent_output : (role : Role) (scalar copies : Bool) → home_of_role role scalar copies ≡ Lent → is_input role ≡ false → is_output role ≡ true
-lent_output Input scalar copies h no_input = absurd (cc)
-lent_output Output scalar copies h no_input = refl
-lent_output Variable scalar copies h no_input = absurd (cc)
-lent_output Fixed scalar copies h no_input = absurd (cc)
 
 any_none : (test : Location → Bool) (xs : List Location) (j : ℕ) (x : Location)
     → list_any test xs ≡ false → slice_get xs j ≡ Some x → test x ≡ false
@@ -201,7 +188,7 @@ module _ (structs : List StructDef) (units : List UnitDef) (entry k : ℕ) (unit
   uncopied : (j : ℕ) (var : Var) → var_at site j ≡ Some var → is_copied_input site j var ≡ false
   uncopied j var known_at =
       ap (λ o. is_input var.role && is_held (home_of site o)) known_at
-      ∙ not_copied var.role (is_some (scalar_in var.ty)) (copies_inputs site) no_copies
+      ∙ not_copied (is_alone site var.ty) var.role (is_some (scalar_in var.ty)) (copies_inputs site) no_copies
 
   frame_fits : AllFit structs unit.vars frame
   frame_fits =
@@ -233,11 +220,11 @@ module _ (structs : List StructDef) (units : List UnitDef) (entry k : ℕ) (unit
     where
       one : (home : Home) → home_of site (Some var) ≡ home → input_copied site home j ≡ []
       one Held is = absurd (no_such (sym (both_true (is_input var.role) (is_held (home_of site (Some var))) (and_left _ _ h) (ap is_held is))
-          ∙ not_copied var.role (is_some (scalar_in var.ty)) (copies_inputs site) no_copies))
+          ∙ not_copied (is_alone site var.ty) var.role (is_some (scalar_in var.ty)) (copies_inputs site) no_copies))
         where
           both_true : (a b : Bool) → a ≡ true → b ≡ true → (a && b) ≡ true
           both_true a b x y = ap (λ a. a && b) x ∙ y
-      one Given is = refl
+      one Local is = refl
       one Lent is = refl
 
   all_inputs : list_all (λ (var : Var). is_input var.role) (inputs_of unit) ≡ true
@@ -279,7 +266,7 @@ module _ (structs : List StructDef) (units : List UnitDef) (entry k : ℕ) (unit
       dropped_index unit.inputs now j m value refl (taken_index unit.outputs (drop unit.inputs now) j value value_there) in
       let role : is_output var.role ≡ true = all_at (λ (var : Var). is_output var.role) (outputs_of unit) j var all_outputs var_there in
       let home : home_at site m ≡ Lent =
-      ap (home_of site) var_is ∙ output_home var.role (is_some (scalar_in var.ty)) (copies_inputs site) role in
+      ap (home_of site) var_is ∙ output_home (is_alone site var.ty) var.role (is_some (scalar_in var.ty)) (copies_inputs site) role in
       let less : j < unit.outputs = taken_less unit.outputs (drop unit.inputs unit.vars) j var var_there in
       let is_passed : slice_get args m ≡ Some (by_address place) =
       get_behind passed (map by_address outputs) unit.inputs j m (many ∙ input_count) refl
@@ -311,11 +298,11 @@ module _ (structs : List StructDef) (units : List UnitDef) (entry k : ℕ) (unit
       by false Held kind is found =
           ap (λ b. b && is_some (left_after (further (start_in scope false Held site.vars j) (lead_in Held site.vars j ++ [])).parts way))
           (older_differs (depth + 1) (codes "m") root older)
-      by false Given kind is found =
-          ap (λ b. b && is_some (left_after (further (start_in scope false Given site.vars j) (lead_in Given site.vars j ++ [])).parts way))
+      by false Local kind is found =
+          ap (λ b. b && is_some (left_after (further (start_in scope false Local site.vars j) (lead_in Local site.vars j ++ [])).parts way))
           (older_differs (depth + 1) (variable_name site.vars j) root older)
       by false Lent kind is (Where.number held value p v m less given_home role) = absurd (let other = sym given_home ∙ is in cc)
-      by false Lent kind is (Where.local more role held) = absurd (let other = sym held ∙ is in cc)
+      by false Lent kind is (Where.local alone more role declared) = absurd (declared_unlent alone (sym declared ∙ is))
       by false Lent kind is (Where.place at value p v older_at holds_at less given_home lent role) =
           ap (λ (l : Location). lies_in (further l []) root way) (leads_at j at less p)
           ∙ (ap (λ parts. same_root at.root root && is_some (left_after parts way)) (append-nil at.parts)
@@ -361,13 +348,16 @@ module _ (structs : List StructDef) (units : List UnitDef) (entry k : ℕ) (unit
       test : Var → Value → Bool
       test var = value_fits structs var.ty
 
-  -- the body without the statement that reads what the function holds
+  -- the body without the statements that read what it only sets
   abbrev inner : Outcome Memory
   inner = block_c (body_code site unit) scope begun
 
   flow_alike : (flow : Option Flow) → FlowSimulates site scope 0 begun flow inner → FlowSimulates site scope 0 begun flow done
   flow_alike flow h =
-      let alike = read_alike scope begun site (first_held site 0 unit.vars) (reads_in_block (body_code site unit)) (body_code site unit) in
+      let standing = roles structs (take k units) unit (stands_at structs units entry k unit keeps there) in
+      let alike =
+      again_alike scope begun structs (take k units) unit (body_code site unit) (body_code site unit)
+      (local_zero structs (take k units) unit standing may_run.vars (depth + 1) args here) in
       by flow alike.0 alike.1 h
     where
       by : (flow : Option Flow) → done.end ≡ inner.end → done.memory ≡ inner.memory → FlowSimulates site scope 0 begun flow inner →

@@ -31,7 +31,7 @@ use Rattle.bl_ctext_semantics.specs.Memory.{
   with_part,
 }
 use Rattle.bl_emit_acts.specs.declared.home.Home.{Home}
-use Rattle.bl_emit_acts.specs.declared.home.Home.TheVariants.{Held, Given, Lent}
+use Rattle.bl_emit_acts.specs.declared.home.Home.TheVariants.{Held, Local, Lent}
 use Rattle.bl_emit_acts.specs.Places.{home_of, place_in}
 use Rattle.bl_emit_acts.specs.Trees.{c_place, c_read}
 use Rattle.bl_emit_acts.specs.Types.{variable_name}
@@ -53,7 +53,7 @@ no_such h = cc
 
 held_home : (home : Home) → is_held home ≡ true → home ≡ Held
 held_home Held h = refl
-held_home Given h = absurd (cc)
+held_home Local h = absurd (cc)
 held_home Lent h = absurd (cc)
 
 -- ---- what is set in the struct of a function's variables
@@ -170,7 +170,7 @@ module _ (site : TypingContext) (function : is_activity site.kind ≡ false) (sc
     by_home k other known differ way false Held none is =
         other_member scope.depth site.vars j m lent k way
         (names_differ site.vars j k (below j var there) (below k other known) (λ same. differ (sym same)))
-    by_home k other known differ way false Given none is =
+    by_home k other known differ way false Local none is =
         other_root scope.depth site.vars j m lent (variable scope.depth (variable_name site.vars k)) way
         (own_differ scope.depth (codes "m") (variable_name site.vars k) refl)
     by_home k other known differ way false Lent none is =
@@ -306,8 +306,8 @@ module _ (site : TypingContext) (function : is_activity site.kind ≡ false) (sc
           (λ n is. subst (λ n. Ends (block_c (copies_from site (j + 1) vars) scope n) (Some after)) (same_Some next n is) (came.0, refl)) in
           at_home Held (ap (home_of site) (sym there) ∙ is)
           (ends.0, subst (Copied (j + length (var ∷ vars))) (sym ends.1) (subst (λ n. Copied n after) (omega arith) came.1))
-      by Given is rest =
-          at_home Given (ap (home_of site) (sym there) ∙ is)
+      by Local is rest =
+          at_home Local (ap (home_of site) (sym there) ∙ is)
           (counted (block_c (copies_from site (j + 1) vars) scope m)
           (rest m (passed_over j var m there (λ other. let no = sym is ∙ other in cc) before)))
       by Lent is rest =

@@ -29,21 +29,21 @@ use Rattle.bl_ctext_semantics.specs.Meaning.{ArgumentValue, CallResult, Meaning,
 use Rattle.bl_ctext_semantics.specs.Memory.{Memory, Projection, Root, left_after}
 use Rattle.bl_ctext_semantics.specs.Tables.{Table}
 use Rattle.bl_emit_acts.specs.declared.home.Home.{Home}
-use Rattle.bl_emit_acts.specs.declared.home.Home.TheVariants.{Held, Given, Lent}
-use Rattle.bl_emit_acts.specs.Places.{copies_inputs, home_of}
+use Rattle.bl_emit_acts.specs.declared.home.Home.TheVariants.{Held, Local, Lent}
+use Rattle.bl_emit_acts.specs.Places.{copies_inputs, home_of, is_alone}
 use Rattle.bl_emit_acts.specs.Types.{variable_name}
 use Rattle.bl_emit_acts_laws_simulation.specs.Acts.{OutputsEncoded, UnchangedOutside, lies_in}
 use Rattle.bl_emit_acts_laws_simulation.specs.Frames.{is_older}
 use Rattle.bl_emit_acts_laws_simulation.specs.Encodes.{home_at, lead_in, location_in, start_in}
 use Rattle.bl_emit_acts_laws_simulation.specs.Simulation.{ArgumentsEncoded}
+use Rattle.bl_emit_acts_laws_simulation.proofs.Homes.{lent_output}
 use Rattle.bl_emit_functions.specs.Functions.{body_coded, copies_from, end_code, function_code, is_held, none_taken, code_returns}
-use Rattle.bl_emit_functions.specs.Functions.{body_code, first_held}
+use Rattle.bl_emit_functions.specs.Functions.{body_code}
 use Rattle.bl_emit_functions.specs.Trees.{flag_name}
-use Rattle.bl_emit_functions.specs.Reads.{reads_in_block}
 use Rattle.bl_emit_functions_laws_simulation.specs.Bodies.{FlowSimulates, Spared, StatementsSimulate, Untouched, number_back}
 use Rattle.bl_emit_functions_laws_simulation.proofs.OnBodies.Courses.{Alike, append_alike}
 use Rattle.bl_emit_functions_laws_simulation.proofs.OnBodies.Courses.{alike_trans}
-use Rattle.bl_emit_functions_laws_simulation.proofs.OnBodies.Again.{read_alike}
+use Rattle.bl_emit_functions_laws_simulation.proofs.OnBodies.Again.{again_alike}
 use Rattle.bl_emit_functions_laws_simulation.specs.Calls.{
   BodiesEnd,
   CallKeepsFrame,
@@ -60,7 +60,8 @@ use Rattle.bl_emit_functions_laws_simulation.specs.Calls.{
 }
 use Rattle.bl_emit_functions_laws_simulation.proofs.OnCalls.Kept.{older_differs}
 use Rattle.bl_emit_functions_laws_simulation.proofs.OnCalls.Lists.{front_all, rest_all}
-use Rattle.bl_emit_functions_laws_simulation.proofs.OnCalls.Procedure.{lent_output, live_older, older_live}
+use Rattle.bl_emit_functions_laws_simulation.proofs.OnCalls.Locals.{local_zero}
+use Rattle.bl_emit_functions_laws_simulation.proofs.OnCalls.Procedure.{live_older, older_live}
 use Rattle.bl_emit_functions_laws_simulation.proofs.OnCalls.Standing.{body_fits, returns as returning, roles, stands_at}
 use Rattle.bl_emit_functions_laws_simulation.specs.Results.{CallReturns, InputsBegin, InputsBegun, ResultsSimulate}
 use Rattle.bl_emit_functions_laws_simulation.proofs.OnResults.Inputs.{all_inputs, all_locals, no_activity}
@@ -121,7 +122,7 @@ local_output Fixed h i = no_such (sym i)
 
 held_lent : (home : Home) → is_held home ≡ true → home ≡ Lent → ⊥
 held_lent Held h is = cc
-held_lent Given h is = cc
+held_lent Local h is = cc
 held_lent Lent h is = cc
 
 -- where there are no outputs, only inputs are lent
@@ -135,7 +136,7 @@ lent_input structs earlier unit standing none j var there writable lent = by (na
 
     output : is_output var.role ≡ true
     output =
-        lent_output var.role (is_some (scalar_in var.ty)) (copies_inputs (site_of structs earlier unit))
+        lent_output (is_alone site var.ty) var.role (is_some (scalar_in var.ty)) (copies_inputs (site_of structs earlier unit))
         (sym (ap (home_of (site_of structs earlier unit)) there) ∙ lent) writable
 
     by : (first : Bool) → nat_lt j unit.inputs ≡ first → ⊥
@@ -231,8 +232,8 @@ module _ (structs : List StructDef) (units : List UnitDef) (entry k : ℕ) (unit
       by false Held is isnt =
           ap (λ b. b && is_some (left_after (further (start_in scope false Held site.vars j) (lead_in Held site.vars j ++ [])).parts way))
           (older_differs (depth + 1) (codes "m") root older)
-      by false Given is isnt =
-          ap (λ b. b && is_some (left_after (further (start_in scope false Given site.vars j) (lead_in Given site.vars j ++ [])).parts way))
+      by false Local is isnt =
+          ap (λ b. b && is_some (left_after (further (start_in scope false Local site.vars j) (lead_in Local site.vars j ++ [])).parts way))
           (older_differs (depth + 1) (variable_name site.vars j) root older)
       by false Lent is isnt = absurd (isnt refl)
 
@@ -270,7 +271,8 @@ module _ (structs : List StructDef) (units : List UnitDef) (entry k : ℕ) (unit
   done_alike : (block_c copies scope begun).end ≡ goes_on → (ran.end ≡ goes_on → ⊥) → Alike done ran
   done_alike goes stops =
       alike_trans done (block_c (body_code site unit) scope begun) ran
-      (read_alike scope begun site (first_held site 0 unit.vars) (reads_in_block (body_code site unit)) (body_code site unit))
+      (again_alike scope begun structs (take k units) unit (body_code site unit) (body_code site unit)
+      (local_zero structs (take k units) unit standing may_run.vars (depth + 1) passed here))
       (body_alike scope copies (body_coded site unit).code (end_code unit.result (code_returns (body_coded site unit).code)) begun goes stops)
 
   by_flow : CallsKeepFrame → (block_c copies scope begun).end ≡ goes_on → InputsBegun site scope begun frame copied → (flow : Option Flow) →

@@ -1,8 +1,9 @@
 -- The chain that the C function of a function heads has no more cells than rule Cells counts.
 use Rattle.std.proofs.Common.{◌≡◌, ℕ, zero, suc, ◌+◌, ◌*◌, ◌<◌, ◌≤◌, Bool, true}
-use Rattle.std.proofs.Common.{false, not, ◌||◌, List, [], ◌∷◌, ◌++◌, map, take}
-use Rattle.std.proofs.Common.{length, Option, Some, None, refl, ap, ◌∙◌, arith}
-use Rattle.std.proofs.lemmas.List.{append-nil, get_or-take, map-append}
+use Rattle.std.proofs.Common.{false, not, ◌&&◌, ◌||◌, List, [], ◌∷◌, map, take}
+use Rattle.std.proofs.Common.{length, Option, Some, None, refl, sym, ap, ◌∙◌, subst, arith}
+use Rattle.std.proofs.lemmas.List.{get_or-take, take-append-drop}
+use Rattle.std.proofs.lemmas.List.Folds.{list_all-append}
 use Rattle.std.specs.List.{list_all}
 use Rattle.std.specs.Prelude.{is_none, slice_get, slice_index, unwrap_or, if◌then◌else◌}
 use Rattle.bl_tree.specs.declared.c.CLocal.{CLocal}
@@ -13,11 +14,11 @@ use Rattle.bl_tree.specs.declared.tree.Unit.{Unit as UnitDef}
 use Rattle.bl_tree.specs.declared.tree.UnitKind.{UnitKind}
 use Rattle.bl_tree.specs.declared.tree.UnitKind.TheVariants.{Function, Activity}
 use Rattle.bl_tree.specs.declared.tree.Var.{Var}
-use Rattle.bl_tree.specs.Program.{IsWellTyped, is_output, parameters_of}
+use Rattle.bl_tree.specs.Program.{IsWellTyped, is_output, locals_of, parameters_of}
 use Rattle.bl_tree.specs.Reduce.{greatest, total}
 use Rattle.bl_tree.specs.Types.{scalar_in, type_stands}
-use Rattle.bl_tree.specs.Typing.{TypingContext, inputs_of, is_activity, site_of}
-use Rattle.bl_eval.proofs.PassLemmas.{and_left, and_right, both}
+use Rattle.bl_tree.specs.Typing.{TypingContext, is_activity, site_of}
+use Rattle.bl_eval.proofs.PassLemmas.{all_at, and_left, and_right}
 use Rattle.bl_limits_measures.specs.Calls.{calls_of}
 use Rattle.bl_limits_measures.specs.Runs.{activities_by_place}
 use Rattle.bl_limits_measures.specs.Statements.{cell_statements_of}
@@ -28,128 +29,76 @@ use Rattle.bl_ctext_semantics.specs.Calls.{calls_in_block, most}
 use Rattle.bl_ctext_semantics.specs.Loops.{turns_in_block}
 use Rattle.bl_ctext_semantics.specs.Sizes.{Sizes, chain_cells, own_cells, size_of_param, size_of_type}
 use Rattle.bl_ctext_semantics.specs.Tables.{Table, entry_or}
-use Rattle.bl_emit_acts.specs.declared.home.Home.{Home}
-use Rattle.bl_emit_acts.specs.declared.home.Home.TheVariants.{Held, Given, Lent}
 use Rattle.bl_emit_acts.specs.Acts.{name_of_callee}
 use Rattle.bl_emit_acts.specs.Expressions.{function_name}
-use Rattle.bl_emit_acts.specs.Places.{home_of}
 use Rattle.bl_emit_acts.specs.Types.{c_type, unit_name}
-use Rattle.bl_emit_acts_laws_wellformed.proofs.OnFormed.Units.{vars_stand}
-use Rattle.bl_emit_functions.specs.Functions.{
-  body_code,
-  body_coded,
-  copies_from,
-  end_code,
-  flag_local,
-  flag_locals,
-  function_code,
-  holds_any,
-  input_copied,
-  memory_local,
-  memory_name,
-  none_taken,
-  param_of,
-  params_from,
-  code_returns,
-}
-use Rattle.bl_emit_functions.specs.Functions.{first_held, read_code, whole_code}
-use Rattle.bl_emit_functions.specs.Reads.{reads_in_block}
-use Rattle.bl_emit_functions_laws_wellformed.proofs.OnFormed.Turns.{block-turns, body_counted, numbered, one-turns, return-turns, set-turns}
+use Rattle.bl_emit_acts_laws_wellformed.proofs.OnFormed.Units.{roles_at, vars_stand}
+use Rattle.bl_emit_functions.specs.Functions.{body_coded, flag_local, flag_locals, function_code, has_local, holds_any, locals_from, memory_local}
+use Rattle.bl_emit_functions.specs.Functions.{memory_name, none_taken, param_of, params_from, variable_local, variable_locals, whole_code}
+use Rattle.bl_emit_functions_laws_wellformed.proofs.OnCells.Totals.{total-both, total-made, total-split}
+use Rattle.bl_emit_functions_laws_wellformed.proofs.OnFormed.Counters.{turns_are}
+use Rattle.bl_emit_functions_laws_wellformed.proofs.OnFormed.Kept.{every, locals_made, params_made}
+use Rattle.bl_emit_functions_laws_wellformed.proofs.OnFormed.Locals.{locals_behind}
+use Rattle.bl_emit_functions_laws_wellformed.proofs.OnFormed.Turns.{body_counted, numbered}
 use Rattle.bl_emit_functions_laws_wellformed.proofs.OnFiles.Chains.{code_few, taken}
 use Rattle.bl_emit_functions_laws_wellformed.specs.Numbered.{IsCounted, TypesHaveScalars, UnitsCounted}
 use Rattle.bl_emit_functions_laws_wellformed.specs.Cells.{CellsFollow, CellsKnown, SizesKnown}
 
 -- ---- turns
 
-copied-turns : (site : TypingContext) (home : Home) (k : ℕ) → turns_in_block (input_copied site home k) ≡ []
-copied-turns site Held k = one-turns _ [] (set-turns _ _)
-copied-turns site Given k = refl
-copied-turns site Lent k = refl
-
-copies-turns : (site : TypingContext) (base : ℕ) (vars : List Var) → turns_in_block (copies_from site base vars) ≡ []
-copies-turns site base [] = refl
-copies-turns site base (var ∷ rest) =
-    block-turns (input_copied site (home_of site (Some var)) base) (copies_from site (base + 1) rest)
-    ∙ (λ i. copied-turns site (home_of site (Some var)) base i ++ copies-turns site (base + 1) rest i)
-
-end-turns : (r : Option ScalarType) (returns : Bool) → turns_in_block (end_code r returns) ≡ []
-end-turns (Some s) false = one-turns _ [] (return-turns _)
-end-turns (Some s) true = refl
-end-turns None returns = refl
-
-read-turns : (site : TypingContext) (held : Option ℕ) (reads : Bool) → turns_in_block (read_code site held reads) ≡ []
-read-turns site None reads = refl
-read-turns site (Some k) true = refl
-read-turns site (Some k) false = one-turns _ [] (set-turns _ _)
-
 numbered-length : (t n : ℕ) → length (numbered t n) ≡ n
 numbered-length t zero = refl
 numbered-length t (suc n) = ap suc (numbered-length (t + 1) n)
 
 module _ (site : TypingContext) (unit : UnitDef) where
-  body-turns : turns_in_block (body_code site unit) ≡ numbered 0 ((body_counted site unit.body).count none_taken)
-  body-turns =
-      block-turns (copies_from site 0 (inputs_of unit)) ((body_coded site unit).code ++ end_code unit.result (code_returns (body_coded site unit).code))
-      ∙ (λ i. copies-turns site 0 (inputs_of unit) i
-      ++ block-turns (body_coded site unit).code (end_code unit.result (code_returns (body_coded site unit).code)) i)
-      ∙ (λ i. (body_counted site unit.body).are none_taken i ++ end-turns unit.result (code_returns (body_coded site unit).code) i)
-      ∙ append-nil (numbered 0 ((body_counted site unit.body).count none_taken))
-
-  turns-are : turns_in_block (whole_code site unit) ≡ numbered 0 ((body_counted site unit.body).count none_taken)
-  turns-are =
-      block-turns (read_code site (first_held site 0 unit.vars) (reads_in_block (body_code site unit))) (body_code site unit)
-      ∙ (λ i. read-turns site (first_held site 0 unit.vars) (reads_in_block (body_code site unit)) i ++ body-turns i)
-
   -- the loops are as many as the turns that are taken
   turns-count : length (turns_in_block (whole_code site unit)) ≡ (body_coded site unit).free.turns
   turns-count =
       let after = (body_counted site unit.body).after none_taken in
-      ap length turns-are ∙ numbered-length 0 ((body_counted site unit.body).count none_taken) ∙ omega (arith, after)
+      ap length (turns_are site unit) ∙ numbered-length 0 ((body_counted site unit.body).count none_taken) ∙ omega (arith, after)
 
 -- ---- parameters and locals
 
-total-append : (xs ys : List ℕ) → total (xs ++ ys) ≡ total xs + total ys
-total-append [] ys = omega arith
-total-append (x ∷ xs) ys = let rest = total-append xs ys in omega (arith, rest)
-
-taken-less : {A : Type 0} (f : A → ℕ) (n : ℕ) (xs : List A) → total (map f (take n xs)) ≤ total (map f xs)
-taken-less f zero xs = omega arith
-taken-less f (suc n) [] = omega arith
-taken-less f (suc n) (x ∷ xs) = let rest : total (map f (take n xs)) ≤ total (map f xs) = taken-less f n xs in omega (arith, rest)
-
-taken-all : {A : Type 0} (test : A → Bool) (n : ℕ) (xs : List A) → list_all test xs ≡ true → list_all test (take n xs) ≡ true
-taken-all test zero xs all = refl
-taken-all test (suc n) [] all = refl
-taken-all test (suc n) (x ∷ xs) all =
-    both (test x) (list_all test (take n xs)) (and_left (test x) (list_all test xs) all)
-    (taken-all test n xs (and_right (test x) (list_all test xs) all))
-
 module _ (structs : List StructDef) (units : List UnitDef) (entry : ℕ) (keeps : IsWellTyped structs units entry)
     (scalars : TypesHaveScalars structs units entry) (known : Sizes) (sizes : SizesKnown structs units known) where
-  param-by : (k : ℕ) (var : Var) (s : Option ScalarType) (out : Bool) → type_stands (length structs) var.ty ≡ true →
-      scalar_in var.ty ≡ s →
+  param-by : (var : Var) (s : Option ScalarType) (out : Bool) → type_stands (length structs) var.ty ≡ true → scalar_in var.ty ≡ s →
       (if out || is_none s then 1 else size_of_type known (c_type structs var.ty)) ≤ size structs var.ty
-  param-by k var None true stands is = scalars var.ty keeps stands
-  param-by k var None false stands is = scalars var.ty keeps stands
-  param-by k var (Some s) true stands is = scalars var.ty keeps stands
-  param-by k var (Some s) false stands is = sizes.types var.ty stands
+  param-by var None true stands is = scalars var.ty keeps stands
+  param-by var None false stands is = scalars var.ty keeps stands
+  param-by var (Some s) true stands is = scalars var.ty keeps stands
+  param-by var (Some s) false stands is = sizes.types var.ty stands
 
-  params-less : (all : List Var) (k : ℕ) (vars : List Var) → list_all (λ (var : Var). type_stands (length structs) var.ty) vars ≡ true →
-      total (map (size_of_param known) (params_from structs all k vars)) ≤ total (map (λ (var : Var). size_by (struct_sizes structs) var.ty) vars)
-  params-less all k [] stand = omega arith
-  params-less all k (var ∷ rest) stand =
-      let one : size_of_param known (param_of structs all k var) ≤ size structs var.ty =
-      param-by k var (scalar_in var.ty) (is_output var.role)
-      (and_left (type_stands (length structs) var.ty) (list_all (λ (var : Var). type_stands (length structs) var.ty) rest) stand) refl in
-      let later = params-less all (k + 1) rest
-      (and_right (type_stands (length structs) var.ty) (list_all (λ (var : Var). type_stands (length structs) var.ty) rest) stand) in
-      omega (arith, one, later)
+  -- how many scalars variables have together
+  abbrev scalars_in : List Var → ℕ
+  scalars_in vars = total (map (λ (var : Var). size_by (struct_sizes structs) var.ty) vars)
 
-  flags-count : (n : ℕ) → total (map (λ (l : CLocal). size_of_type known l.ty) (flag_locals n)) ≡ n
+  -- how many scalars a local has
+  abbrev local_size : CLocal → ℕ
+  local_size l = size_of_type known l.ty
+
+  -- whether a variable's type is one of the program's
+  abbrev is_standing : Var → Bool
+  is_standing var = type_stands (length structs) var.ty
+
+  params-less : (all vars : List Var) → list_all is_standing vars ≡ true →
+      total (map (size_of_param known) (params_from structs all 0 vars)) ≤ scalars_in vars
+  params-less all vars stand =
+      subst (λ params. total (map (size_of_param known) params) ≤ scalars_in vars) (sym (params_made structs all 0 vars))
+      (total-made (size_of_param known) (λ (var : Var). size_by (struct_sizes structs) var.ty) every (param_of structs all) 0 vars
+      (λ k j var found. param-by var (scalar_in var.ty) (is_output var.role) (all_at is_standing vars j var stand found) refl))
+
+  locals-less : (earlier : List UnitDef) (unit : UnitDef) (k : ℕ) (vars : List Var) → list_all is_standing vars ≡ true →
+      total (map local_size (locals_from (site_of structs earlier unit) k vars)) ≤ scalars_in vars
+  locals-less earlier unit k vars stand =
+      let site : TypingContext = site_of structs earlier unit in
+      subst (λ locals. total (map local_size locals) ≤ scalars_in vars) (sym (locals_made site k vars))
+      (total-made local_size (λ (var : Var). size_by (struct_sizes structs) var.ty) (has_local site) (variable_local structs unit.vars) k vars
+      (λ i j var found. sizes.types var.ty (all_at is_standing vars j var stand found)))
+
+  flags-count : (n : ℕ) → total (map local_size (flag_locals n)) ≡ n
   flags-count zero = refl
   flags-count (suc n) =
-      let split = ap total (map-append (λ (l : CLocal). size_of_type known l.ty) (flag_locals n) (flag_local n ∷ []))
-      ∙ total-append (map (λ (l : CLocal). size_of_type known l.ty) (flag_locals n)) (1 ∷ []) in
+      let split = total-both local_size (flag_locals n) (flag_local n ∷ []) in
       let rest = flags-count n in
       omega (arith, split, rest)
 
@@ -158,34 +107,41 @@ module _ (structs : List StructDef) (units : List UnitDef) (entry : ℕ) (keeps 
     abbrev site : TypingContext
     site = site_of structs (take k units) unit
 
-    stand : list_all (λ (var : Var). type_stands (length structs) var.ty) unit.vars ≡ true
-    stand = vars_stand structs units entry keeps k unit there
-
-    memory-less : (holds : Bool) → total (map (λ (l : CLocal). size_of_type known l.ty) (memory_local unit.name holds))
-        ≤ variables_of structs unit
+    memory-less : (holds : Bool) → total (map local_size (memory_local unit.name holds)) ≤ variables_of structs unit
     memory-less true =
         let own : entry_or 0 known (memory_name unit.name) ≤ variables_of structs unit = sizes.memories k unit there (ap not function) in
         omega (arith, own)
     memory-less false = omega arith
 
+    -- the locals of variables stand behind the parameters, so both count no more than all variables
+    single-less : total (map (size_of_param known) (params_from structs unit.vars 0 (parameters_of unit)))
+        + total (map local_size (locals_from site 0 unit.vars))
+        ≤ variables_of structs unit
+    single-less =
+        let n : ℕ = unit.inputs + unit.outputs in
+        let stand : (list_all is_standing (parameters_of unit) && list_all is_standing (locals_of unit)) ≡ true =
+        sym (list_all-append is_standing (parameters_of unit) (locals_of unit)) ∙ ap (list_all is_standing) (take-append-drop n unit.vars)
+        ∙ vars_stand structs units entry keeps k unit there in
+        let some = params-less unit.vars (parameters_of unit)
+        (and_left (list_all is_standing (parameters_of unit)) (list_all is_standing (locals_of unit)) stand) in
+        let others = locals-less (take k units) unit n (locals_of unit)
+        (and_right (list_all is_standing (parameters_of unit)) (list_all is_standing (locals_of unit)) stand) in
+        let behind : total (map local_size (locals_from site 0 unit.vars)) ≡ total (map local_size (locals_from site n (locals_of unit))) =
+        ap (λ locals. total (map local_size locals)) (locals_behind structs (take k units) unit (roles_at structs units entry keeps k unit there)) in
+        let all = total-split (λ (var : Var). size_by (struct_sizes structs) var.ty) n unit.vars in
+        omega (arith, some, others, behind, all)
+
     own-less : own_cells known (function_code structs (take k units) unit) ≤ 2 * variables_of structs unit + cell_statements_of unit
     own-less =
-        let n : ℕ = unit.inputs + unit.outputs in
         let flags : ℕ = (body_coded site unit).free.flags in
-        let some = params-less unit.vars 0 (parameters_of unit) (taken-all (λ (var : Var). type_stands (length structs) var.ty) n unit.vars stand) in
-        let all : total (map (λ (var : Var). size_by (struct_sizes structs) var.ty) (parameters_of unit)) ≤ variables_of structs unit =
-        taken-less (λ (var : Var). size_by (struct_sizes structs) var.ty) n unit.vars in
         let memory = memory-less (holds_any site unit.vars) in
+        let single = single-less in
         let flagged = flags-count flags in
-        let split : total (map (λ (l : CLocal). size_of_type known l.ty) (memory_local unit.name (holds_any site unit.vars) ++ flag_locals flags))
-        ≡ total (map (λ (l : CLocal). size_of_type known l.ty) (memory_local unit.name (holds_any site unit.vars)))
-        + total (map (λ (l : CLocal). size_of_type known l.ty) (flag_locals flags)) =
-        ap total (map-append (λ (l : CLocal). size_of_type known l.ty) (memory_local unit.name (holds_any site unit.vars)) (flag_locals flags))
-        ∙ total-append (map (λ (l : CLocal). size_of_type known l.ty) (memory_local unit.name (holds_any site unit.vars)))
-        (map (λ (l : CLocal). size_of_type known l.ty) (flag_locals flags)) in
+        let split = total-both local_size (variable_locals site unit) (flag_locals flags) in
+        let variables = total-both local_size (memory_local unit.name (holds_any site unit.vars)) (locals_from site 0 unit.vars) in
         let turns = turns-count site unit in
         let numbers = counted.numbers in
-        omega (arith, some, all, memory, flagged, split, turns, numbers)
+        omega (arith, single, memory, flagged, split, variables, turns, numbers)
 
     module _ (chains : Table ℕ) (cells : CellsKnown structs units chains) where
       abbrev weight : Text → ℕ

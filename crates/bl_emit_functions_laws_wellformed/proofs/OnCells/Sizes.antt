@@ -1,8 +1,8 @@
 -- The C structs of types and of variables have no more scalars than those.
-use Rattle.std.proofs.Common.{◌≡◌, ℕ, zero, suc, ◌+◌, ◌*◌, ◌<◌, ◌≤◌, Bool, true}
-use Rattle.std.proofs.Common.{false, ◌&&◌, List, [], ◌∷◌, ◌++◌, map, take, drop, length}
+use Rattle.std.proofs.Common.{◌≡◌, ℕ, zero, suc, ◌*◌, ◌<◌, ◌≤◌, Bool, true}
+use Rattle.std.proofs.Common.{false, ◌&&◌, List, [], ◌∷◌, map, take, drop, length}
 use Rattle.std.proofs.Common.{Option, Some, None, refl, sym, ap, ◌∙◌, subst, arith}
-use Rattle.std.proofs.lemmas.List.{get_or-take, map-append}
+use Rattle.std.proofs.lemmas.List.{get_or-take}
 use Rattle.std.proofs.lemmas.Nat.{mul-le}
 use Rattle.std.proofs.lemmas.Option.{same_Some, slice_get_within}
 use Rattle.std.proofs.lemmas.Slice.Eq.{bytes_eq-Decides}
@@ -26,13 +26,12 @@ use Rattle.bl_tree.specs.Reduce.{total}
 use Rattle.bl_tree.specs.Types.{type_stands}
 use Rattle.bl_tree.specs.Typing.{TypingContext, is_function, site_of}
 use Rattle.bl_eval.proofs.FitLemmas.{structs_at}
-use Rattle.bl_eval.proofs.PassLemmas.{and_left, and_right}
+use Rattle.bl_eval.proofs.PassLemmas.{all_at, and_left, and_right}
 use Rattle.bl_limits_measures.specs.Types.{fields_size, level_size, nesting, size, size_by, struct_nestings, struct_sizes}
 use Rattle.bl_limits_measures.specs.Units.{variables_of}
 use Rattle.bl_limits_measures.proofs.TableLemmas.{answer_at}
 use Rattle.bl_ctext_semantics.specs.Sizes.{Sizes, size_of_member, size_of_struct, size_of_type}
 use Rattle.bl_ctext_semantics.specs.Tables.{entry_or, no_entries, with_entry}
-use Rattle.bl_emit_acts.specs.Places.{home_of}
 use Rattle.bl_emit_acts.specs.Structs.{c_field}
 use Rattle.bl_emit_acts.specs.Types.{array_name, c_type, definition_name, struct_name, type_level, type_name, type_word}
 use Rattle.bl_emit_acts_laws_wellformed.proofs.OnFormed.Parts.{name_at}
@@ -42,8 +41,10 @@ use Rattle.bl_emit_structs_laws_wellformed.specs.Names.{TypesApart}
 use Rattle.bl_emit_structs_laws_wellformed.specs.Formed.{NestsAtMost}
 use Rattle.bl_emit_structs_laws_wellformed.proofs.OnFormed.Levels.{below, nesting_at, stands_at, stands_more}
 use Rattle.bl_emit_structs_laws_wellformed.proofs.OnFormed.Types.{StructOf, all_are, defined, struct_level}
-use Rattle.bl_emit_functions.specs.Functions.{is_held, member_of, members_from, members_of, memory_name, memory_struct, struct_of}
+use Rattle.bl_emit_functions.specs.Functions.{held_member, members_of, memory_name, memory_struct, struct_of}
+use Rattle.bl_emit_functions_laws_wellformed.proofs.OnCells.Totals.{total-made}
 use Rattle.bl_emit_functions_laws_wellformed.proofs.OnFiles.Growing.{distinct_behind, names, one_place}
+use Rattle.bl_emit_functions_laws_wellformed.proofs.OnFormed.Kept.{is_held_in, members_made}
 use Rattle.bl_emit_functions_laws_wellformed.specs.Cells.{NamesNone, SizesGrow, SizesKnown, SizesStand}
 
 -- ---- sizes, level by level
@@ -224,35 +225,17 @@ module _ (structs : List StructDef) (units : List UnitDef) (entry most : ℕ) (k
 
   -- ---- the struct of variables
 
-  member_less : (known : Sizes) → Bounded known → (held : Bool) (all : List Var) (k : ℕ) (var : Var) → type_stands (length structs) var.ty ≡ true →
-      total (map (size_of_member known) (member_of held structs all k var)) ≤ size structs var.ty
-  member_less known bounded true all k var stands =
-      let one : size_of_type known (c_type structs var.ty) ≤ size structs var.ty = bounded var.ty stands in omega (arith, one)
-  member_less known bounded false all k var stands = omega arith
-
-  total_append : (xs ys : List ℕ) → total (xs ++ ys) ≡ total xs + total ys
-  total_append [] ys = omega arith
-  total_append (x ∷ xs) ys = let rest = total_append xs ys in omega (arith, rest)
-
-  members_less : (known : Sizes) → Bounded known → (site : TypingContext) → site.structs ≡ structs → (k : ℕ) (vars : List Var) →
-      list_all (λ (var : Var). type_stands (length structs) var.ty) vars ≡ true →
-      total (map (size_of_member known) (members_from site k vars)) ≤ total (map (λ (var : Var). size_by (struct_sizes structs) var.ty) vars)
-  members_less known bounded site same k [] stand = omega arith
-  members_less known bounded site same k (var ∷ rest) stand =
-      let one : total (map (size_of_member known) (member_of (is_held (home_of site (Some var))) site.structs site.vars k var)) ≤ size structs var.ty =
-      subst (λ structs'. total (map (size_of_member known) (member_of (is_held (home_of site (Some var))) structs' site.vars k var)) ≤ size structs var.ty)
-      (sym same)
-      (member_less known bounded (is_held (home_of site (Some var))) site.vars k var
-      (and_left (type_stands (length structs) var.ty) (list_all (λ (var : Var). type_stands (length structs) var.ty) rest) stand)) in
-      let later = members_less known bounded site same (k + 1) rest
-      (and_right (type_stands (length structs) var.ty) (list_all (λ (var : Var). type_stands (length structs) var.ty) rest) stand) in
-      let split : total (map (size_of_member known) (members_from site k (var ∷ rest)))
-      ≡ total (map (size_of_member known) (member_of (is_held (home_of site (Some var))) site.structs site.vars k var))
-      + total (map (size_of_member known) (members_from site (k + 1) rest)) =
-      ap total (map-append (size_of_member known) (member_of (is_held (home_of site (Some var))) site.structs site.vars k var) (members_from site (k + 1) rest))
-      ∙ total_append (map (size_of_member known) (member_of (is_held (home_of site (Some var))) site.structs site.vars k var))
-      (map (size_of_member known) (members_from site (k + 1) rest)) in
-      omega (arith, one, later, split)
+  members_less : (known : Sizes) → Bounded known → (earlier : List UnitDef) (unit : UnitDef) →
+      list_all (λ (var : Var). type_stands (length structs) var.ty) unit.vars ≡ true →
+      total (map (size_of_member known) (members_of structs earlier unit)) ≤ variables_of structs unit
+  members_less known bounded earlier unit stand =
+      let site : TypingContext = site_of structs earlier unit in
+      subst (λ members. total (map (size_of_member known) members) ≤ variables_of structs unit) (sym (members_made site 0 unit.vars))
+      (total-made (size_of_member known) (λ (var : Var). size_by (struct_sizes structs) var.ty) (is_held_in site) (held_member structs unit.vars) 0 unit.vars
+      (λ k j var found.
+      let one : size_of_type known (c_type structs var.ty) ≤ size structs var.ty =
+      bounded var.ty (all_at (λ (var : Var). type_stands (length structs) var.ty) unit.vars j var stand found) in
+      omega (arith, one)))
 
   alone : {X : Type 0} (x y : X) → Contains (x ∷ []) y → x ≡ y
   alone x y has = by has.0 has.1 has.2
@@ -305,7 +288,7 @@ module _ (structs : List StructDef) (units : List UnitDef) (entry most : ℕ) (k
       let parts = members_in unit.name (members_of structs (take k units) unit) s has in
       let few : size_of_struct known s ≤ variables_of structs unit =
       subst (λ members. total (map (size_of_member known) members) ≤ variables_of structs unit) (sym parts.1)
-      (members_less known all.types (site_of structs (take k units) unit) refl 0 unit.vars (vars_stand structs units entry keeps k unit there)) in
+      (members_less known all.types (take k units) unit (vars_stand structs units entry keeps k unit there)) in
       record {
         types = joins known s.name (size_of_struct known s) all.types (λ ty stands named.
             absurd (type_memory ty (out-Ty ty) refl unit.name (sym parts.0 ∙ (bytes_eq-Decides s.name (type_name structs ty)).0 named)));

@@ -1,15 +1,16 @@
 -- How long the chains of calls are that the C functions of units head.
 use Rattle.std.proofs.Common.{◌≡◌, ℕ, zero, suc, ◌+◌, ◌<◌, ◌≤◌, max, Bool, true, false, List, [], ◌∷◌, ◌++◌, map, take}
-use Rattle.std.proofs.Common.{Option, Some, None, refl, arith, pos}
+use Rattle.std.proofs.Common.{Option, Some, None, refl, arith, codes, pos}
 use Rattle.std.proofs.lemmas.List.{get_or-take}
 use Rattle.std.specs.Prelude.{slice_get, slice_index, unwrap_or}
 use Rattle.bl_tree.specs.declared.text.Text.{Text}
+use Rattle.bl_tree.specs.declared.c.CStmt.{CStmt}
 use Rattle.bl_tree.specs.declared.scalar.Scalar.{Scalar as ScalarType}
 use Rattle.bl_tree.specs.declared.tree.StructDef.{StructDef}
 use Rattle.bl_tree.specs.declared.tree.Unit.{Unit as UnitDef}
 use Rattle.bl_tree.specs.declared.tree.Var.{Var}
 use Rattle.bl_tree.specs.Reduce.{greatest}
-use Rattle.bl_tree.specs.Typing.{TypingContext, inputs_of, site_of}
+use Rattle.bl_tree.specs.Typing.{TypingContext, inputs_of, site_of, var_at}
 use Rattle.bl_limits_measures.specs.Calls.{calls_of}
 use Rattle.bl_limits_measures.specs.Runs.{activities_run}
 use Rattle.bl_limits_measures.specs.Units.{all_chains, chain_at, chain_by, greatest_at}
@@ -18,19 +19,19 @@ use Rattle.bl_ctext_semantics.specs.Calls.{calls_in_block, most}
 use Rattle.bl_ctext_semantics.specs.Faults.{depth_of_function}
 use Rattle.bl_ctext_semantics.specs.Tables.{Table, entry_or}
 use Rattle.bl_emit_acts.specs.declared.home.Home.{Home}
-use Rattle.bl_emit_acts.specs.declared.home.Home.TheVariants.{Held, Given, Lent}
+use Rattle.bl_emit_acts.specs.declared.home.Home.TheVariants.{Held, Local, Lent}
 use Rattle.bl_emit_acts.specs.Acts.{name_of_callee}
-use Rattle.bl_emit_acts.specs.Expressions.{function_name}
+use Rattle.bl_emit_acts.specs.Expressions.{function_name, hidden, scalar_at}
 use Rattle.bl_emit_acts.specs.Places.{home_of, place_in}
 use Rattle.bl_emit_acts.specs.Trees.{c_literal, c_place, c_read}
 use Rattle.bl_emit_acts.specs.Types.{c_scalar, unit_name, variable_name}
-use Rattle.bl_emit_functions.specs.Functions.{body_code, body_coded, c_input_copied, copies_from}
-use Rattle.bl_emit_functions.specs.Functions.{end_code, function_code, input_copied, none_taken, code_returns}
-use Rattle.bl_emit_functions.specs.Functions.{c_set_again, first_held, read_code, whole_code}
+use Rattle.bl_emit_functions.specs.Functions.{again_code, body_code, body_coded, c_input_copied, c_local_again, c_set_again, code_returns, copies_from}
+use Rattle.bl_emit_functions.specs.Functions.{end_code, first_held, function_code, has_local, input_copied, local_again, locals_again, none_taken}
+use Rattle.bl_emit_functions.specs.Functions.{read_code, whole_code}
 use Rattle.bl_emit_functions.specs.Trees.{c_return_zero}
 use Rattle.bl_emit_functions.specs.Reads.{reads_in_block}
 use Rattle.bl_emit_functions_laws_wellformed.specs.Files.Laws.{ChainsFollow, ChainsKnown}
-use Rattle.bl_emit_functions_laws_wellformed.proofs.OnFiles.Expressions.{literal-light, read-light, root-light}
+use Rattle.bl_emit_functions_laws_wellformed.proofs.OnFiles.Expressions.{hidden-light, literal-light, read-light, root-light}
 use Rattle.bl_emit_functions_laws_wellformed.proofs.OnFiles.Statements.{Few, body_few, none_few, one_few, own_few, return_few, set_few, then_few}
 use Rattle.bl_emit_functions_laws_wellformed.proofs.OnFiles.Under.{Under}
 
@@ -43,7 +44,7 @@ module _ (weight : Text → ℕ) (prelude : (word : Text) (s : ScalarType) → w
       one_few weight prelude n (c_input_copied site k)
       (set_few weight prelude n (place_in site k []) (c_read (c_place true (variable_name site.vars k) [])) (own_few weight prelude site by callees n k)
       (read-light weight prelude n (c_place true (variable_name site.vars k) []) (root-light weight prelude n true (variable_name site.vars k))))
-  copied_few Given k = none_few weight prelude n
+  copied_few Local k = none_few weight prelude n
   copied_few Lent k = none_few weight prelude n
 
   copies_few : (k : ℕ) (vars : List Var) → Few weight prelude n (copies_from site k vars)
@@ -75,11 +76,31 @@ module _ (weight : Text → ℕ) (prelude : (word : Text) (s : ScalarType) → w
       one_few weight prelude n (c_set_again site k)
       (set_few weight prelude n (place_in site k []) (c_read (place_in site k [])) own (read-light weight prelude n (place_in site k []) own))
 
+  again_few : (k : ℕ) (local reads : Bool) → Few weight prelude n (local_again site k local reads)
+  again_few k true false =
+      let own = own_few weight prelude site by callees n k in
+      one_few weight prelude n (c_local_again site k)
+      (set_few weight prelude n (place_in site k []) (hidden (scalar_at (var_at site k)) (c_read (place_in site k []))) own
+      (hidden-light weight prelude n (scalar_at (var_at site k)) (c_read (place_in site k [])) (read-light weight prelude n (place_in site k []) own)))
+  again_few k true true = none_few weight prelude n
+  again_few k false reads = none_few weight prelude n
+
+  locals_few : (code : List CStmt) (k : ℕ) (vars : List Var) → Few weight prelude n (locals_again site code k vars)
+  locals_few code k [] = none_few weight prelude n
+  locals_few code k (var ∷ rest) =
+      let reads : Bool = reads_in_block (variable_name site.vars k) code in
+      then_few weight prelude n (local_again site k (has_local site var) reads) (locals_again site code (k + 1) rest)
+      (again_few k (has_local site var) reads) (locals_few code (k + 1) rest)
+
   -- the body of a unit's C function calls what the unit calls
   pub code_few : (unit : UnitDef) → Under by n (calls_of unit) → Few weight prelude n (whole_code site unit)
   code_few unit few =
-      then_few weight prelude n (read_code site (first_held site 0 unit.vars) (reads_in_block (body_code site unit))) (body_code site unit)
-      (read_few (first_held site 0 unit.vars) (reads_in_block (body_code site unit))) (body_few_of unit few)
+      let code : List CStmt = body_code site unit in
+      let reads : Bool = reads_in_block (codes "m") code in
+      then_few weight prelude n (again_code site unit code) code
+      (then_few weight prelude n (read_code site (first_held site 0 unit.vars) reads) (locals_again site code 0 unit.vars)
+      (read_few (first_held site 0 unit.vars) reads) (locals_few code 0 unit.vars))
+      (body_few_of unit few)
 
 -- ---- chains
 

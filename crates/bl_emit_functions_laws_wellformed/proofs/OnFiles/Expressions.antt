@@ -1,5 +1,5 @@
 -- What is made of an expression calls the prelude's functions, and the functions that the expression calls.
-use Rattle.std.proofs.Common.{◌≡◌, ℕ, ◌≤◌, ℤ, pos, Bool, true, false, ◌&&◌, ◌||◌, List, [], ◌∷◌, ◌++◌, map, Option}
+use Rattle.std.proofs.Common.{◌≡◌, ℕ, ◌≤◌, ℤ, pos, Bool, true, false, List, [], ◌∷◌, ◌++◌, map, Option}
 use Rattle.std.proofs.Common.{Some, None}
 use Rattle.std.proofs.Common.{sym, ◌∙◌, subst, arith, codes}
 use Rattle.std.proofs.lemmas.List.Elements.{All-head, All-tail}
@@ -31,12 +31,12 @@ use Rattle.bl_tree.proofs.ExprInduction.{Cases, EachIndex, OfIndex, expr, induct
 use Rattle.bl_limits_measures.specs.Calls.{calls_in_expr, calls_in_part, calls_in_path}
 use Rattle.bl_ctext_semantics.specs.Calls.{calls_in, calls_in_arg, calls_in_call, calls_in_place, calls_in_step}
 use Rattle.bl_emit_acts.specs.declared.home.Home.{Home}
-use Rattle.bl_emit_acts.specs.declared.home.Home.TheVariants.{Held, Given, Lent}
+use Rattle.bl_emit_acts.specs.declared.home.Home.TheVariants.{Held, Local, Lent}
 use Rattle.bl_emit_acts.specs.declared.made.Made.{Made}
 use Rattle.bl_emit_acts.specs.declared.made.Made.TheVariants.{Number, Whole}
 use Rattle.bl_emit_acts.specs.Acts.{name_of_callee}
-use Rattle.bl_emit_acts.specs.Expressions.{arg_of, c_both, c_cast, c_compare, c_function, c_one, cast_word, code_of, function_name, hidden, is_constant}
-use Rattle.bl_emit_acts.specs.Expressions.{is_read, length_at, made_at, made_call, made_of, operator_word, side, stands, step_typing, steps_of}
+use Rattle.bl_emit_acts.specs.Expressions.{arg_of, c_both, c_cast, c_compare, c_function, c_one, cast_word, code_of, function_name, hidden, hides_right}
+use Rattle.bl_emit_acts.specs.Expressions.{is_decided, length_at, made_at, made_call, made_of, mirrored, operator_word, side, stands, step_typing, steps_of}
 use Rattle.bl_emit_acts.specs.Expressions.{type_at, type_made}
 use Rattle.bl_emit_acts.specs.Places.{home_of, place_by_steps, place_in}
 use Rattle.bl_emit_acts.specs.Trees.{c_call, c_called, c_literal, c_not, c_place, c_read, c_step, c_two}
@@ -105,7 +105,7 @@ module _ (weight : Text → ℕ) (prelude : (word : Text) (s : ScalarType) → w
   cast-light n from to a one =
       called-light n (function_name (cast_word (is_int from)) to) (Value a ∷ []) (free n (cast_word (is_int from)) to) (one_arg n a one)
 
-  hidden-light : (n : ℕ) (s : ScalarType) (a : CExpr) → Light n (calls_in a) → Light n (calls_in (hidden s a))
+  pub hidden-light : (n : ℕ) (s : ScalarType) (a : CExpr) → Light n (calls_in a) → Light n (calls_in (hidden s a))
   hidden-light n OfBool a one = two-light n And a (c_literal OfBool (pos 1)) one (literal-light n OfBool (pos 1))
   hidden-light n (Int w) a one = cast-light n (Int w) (Int w) a one
   hidden-light n (Nat w) a one = cast-light n (Nat w) (Nat w) a one
@@ -153,8 +153,8 @@ module _ (weight : Text → ℕ) (prelude : (word : Text) (s : ScalarType) → w
 
   compared : (n : ℕ) (op : Op) (s : ScalarType) (a b : CExpr) → Light n (calls_in a) → Light n (calls_in b) → Light n (calls_in (c_compare op s a b))
   compared n op s a b one other =
-      two-light n op (side (is_constant a) s a) (side (is_constant b || (is_read a && is_read b)) s b) (side-light n (is_constant a) s a one)
-      (side-light n (is_constant b || (is_read a && is_read b)) s b other)
+      two-light n op (side (is_decided (mirrored op) a) s a) (side (hides_right op a b) s b) (side-light n (is_decided (mirrored op) a) s a one)
+      (side-light n (hides_right op a b) s b other)
 
   both_light : (n : ℕ) (op : Op) (s : ScalarType) (a b : CExpr) → Light n (calls_in a) → Light n (calls_in b) → MadeLight n (c_both op s a b)
   both_light n Eq s a b one other = compared n Eq s a b one other
@@ -286,7 +286,7 @@ module _ (weight : Text → ℕ) (prelude : (word : Text) (s : ScalarType) → w
         (place-calls activity (codes "m") (c_step (variable_name site.vars k) ∷ steps))
         (append-under weight n (calls_in_step (c_step (variable_name site.vars k))) (joined (map calls_in_step steps))
         (none-light n (calls_in_step (c_step (variable_name site.vars k))) (step-calls (variable_name site.vars k))) all)
-    home_light n activity Given k steps all =
+    home_light n activity Local k steps all =
         same-light n (calls_in_place (c_place false (variable_name site.vars k) steps)) (joined (map calls_in_step steps))
         (place-calls false (variable_name site.vars k) steps) all
     home_light n activity Lent k steps all =

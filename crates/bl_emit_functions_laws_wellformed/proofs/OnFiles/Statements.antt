@@ -2,7 +2,7 @@
 use Rattle.std.proofs.Common.{◌≡◌, ℕ, ◌≤◌, pos, Bool, true, false, List, [], ◌∷◌, ◌++◌, map, Option, Some, None}
 use Rattle.std.proofs.Common.{sym, subst}
 use Rattle.std.proofs.lemmas.List.Elements.{All-cons, All-head, All-nil, All-tail}
-use Rattle.std.specs.Prelude.{All, option_map, slice_get}
+use Rattle.std.specs.Prelude.{All, option_map, slice_get, if◌then◌else◌}
 use Rattle.bl_tree.specs.declared.text.Text.{Text}
 use Rattle.bl_tree.specs.declared.c.CExpr.{CExpr}
 use Rattle.bl_tree.specs.declared.c.CPlace.{CPlace}
@@ -32,9 +32,9 @@ use Rattle.bl_emit_acts.specs.Trees.{c_literal, c_place, c_read, c_two}
 use Rattle.bl_emit_acts.specs.Types.{c_scalar, copy_name, type_name}
 use Rattle.bl_emit_functions.specs.declared.coded.Coded.{Coded}
 use Rattle.bl_emit_functions.specs.declared.coded.Free.{Free}
-use Rattle.bl_emit_functions.specs.Statements.{ArmCodes, Codes, arm_codes, arms_taken, block_codes, branch_codes, break_code, choice_code, codes_of}
-use Rattle.bl_emit_functions.specs.Statements.{codes_of_arm, either_code, else_code, flag_taken, flagged_code, kind_codes, loop_code, stmt_codes}
-use Rattle.bl_emit_functions.specs.Statements.{turn_taken, untaken_code}
+use Rattle.bl_emit_functions.specs.Statements.{ArmCodes, Codes, arm_codes, arms_taken, assigned_code, block_codes, branch_codes, break_code, choice_code}
+use Rattle.bl_emit_functions.specs.Statements.{codes_of, codes_of_arm, either_code, else_code, flag_taken, flagged_code, kind_codes, loop_code}
+use Rattle.bl_emit_functions.specs.Statements.{sets_itself, stmt_codes, turn_taken, untaken_code}
 use Rattle.bl_emit_functions.specs.Trees.{c_break, c_if, c_loop, c_return, c_truth, flag_name, flag_place, turn_name}
 use Rattle.bl_emit_functions_laws_wellformed.proofs.OnFiles.Expressions.{Light, args_light, call-light, callee_light, expr_light, literal-light, none-light}
 use Rattle.bl_emit_functions_laws_wellformed.proofs.OnFiles.Expressions.{own_light}
@@ -213,6 +213,19 @@ module _ (weight : Text → ℕ) (prelude : (word : Text) (s : ScalarType) → w
         (read-light weight prelude n (place_in site k []) (own_few n k)))
     copy_few n k false = none_few n
 
+    -- ---- assignments
+
+    assigned_few : (n : ℕ) (path : Path) (e : Expr) → Under by n (calls_in_path path ++ calls_in_expr e) → Few n (assigned_code site path e)
+    assigned_few n path e all = each (sets_itself path e)
+      where
+        each : (itself : Bool) → Few n (if itself then [] else c_set (stands site path).place (code_made site e) ∷ [])
+        each true = none_few n
+        each false =
+            one_few n (c_set (stands site path).place (code_made site e))
+            (set_few n (stands site path).place (code_made site e)
+            (place_few n path (front-under by n (calls_in_path path) (calls_in_expr e) all))
+            (code_few n e (back-under by n (calls_in_path path) (calls_in_expr e) all)))
+
     -- ---- calls
 
     outputs_few : (n : ℕ) (outputs : List Path) → Under by n (joined (map calls_in_path outputs)) →
@@ -286,11 +299,7 @@ module _ (weight : Text → ℕ) (prelude : (word : Text) (s : ScalarType) → w
           (initial_few n k initial (rw (fold-roll-Stmt, fold-roll-StmtKind) at few)) (copy_few n k (is_copied [] k)));
       assign = λ place path e n few free.
           let all : Under by n (calls_in_path path ++ calls_in_expr e) = rw (fold-roll-Stmt, fold-roll-StmtKind) at few in
-          rw (fold-roll-Stmt, fold-roll-StmtKind)
-          (one_few n (c_set (stands site path).place (code_made site e))
-          (set_few n (stands site path).place (code_made site e)
-          (place_few n path (front-under by n (calls_in_path path) (calls_in_expr e) all))
-          (code_few n e (back-under by n (calls_in_path path) (calls_in_expr e) all))));
+          rw (fold-roll-Stmt, fold-roll-StmtKind) (assigned_few n path e all);
       call = λ place f inputs outputs n few free.
           rw (fold-roll-Stmt, fold-roll-StmtKind)
           (one_few n (c_calling (call_made site f inputs outputs)) (call_few n f inputs outputs (rw (fold-roll-Stmt, fold-roll-StmtKind) at few)));

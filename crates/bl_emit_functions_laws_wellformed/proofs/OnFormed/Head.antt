@@ -1,10 +1,11 @@
 -- No clause fails in the head of the C function of a function.
 use Rattle.std.proofs.Common.{◌≡◌, ℕ, zero, suc, ◌+◌, ◌<◌, ◌≤◌, ◌^◌, Bool, true, false, not, ◌&&◌, ◌||◌, List, []}
 use Rattle.std.proofs.Common.{◌∷◌, ◌++◌, map, take, length, Option, Some}
-use Rattle.std.proofs.Common.{None, refl, sym, ap, ◌∙◌, subst, arith, codes}
+use Rattle.std.proofs.Common.{None, refl, sym, ap, ◌∙◌, subst, arith, append_assoc, codes}
 use Rattle.std.proofs.lemmas.Bool.Decides.{nat_tests}
-use Rattle.std.proofs.lemmas.List.{map-append}
-use Rattle.std.proofs.lemmas.List.Folds.{list_all-append, list_any-append}
+use Rattle.std.proofs.lemmas.List.{length-drop, map-append}
+use Rattle.std.proofs.lemmas.List.Folds.{list_any-append}
+use Rattle.std.proofs.lemmas.Option.{slice_get_within}
 use Rattle.std.proofs.lemmas.Slice.Eq.{bytes_eq-Decides}
 use Rattle.std.specs.Prelude.{bytes_eq, is_none, is_some, nat_le, option_map, slice_get}
 use Rattle.std.specs.List.{list_all, list_any}
@@ -22,9 +23,9 @@ use Rattle.bl_tree.specs.declared.tree.StructDef.{StructDef}
 use Rattle.bl_tree.specs.declared.tree.Ty.{Ty}
 use Rattle.bl_tree.specs.declared.tree.Unit.{Unit as UnitDef}
 use Rattle.bl_tree.specs.declared.tree.Var.{Var}
-use Rattle.bl_tree.specs.Program.{IsWellTyped, is_output, parameters_of}
+use Rattle.bl_tree.specs.Program.{IsWellTyped, is_output, locals_of, parameters_of, roles_stand}
 use Rattle.bl_tree.specs.Types.{scalar_in, type_stands}
-use Rattle.bl_tree.specs.Typing.{TypingContext, inputs_of, is_activity, var_at}
+use Rattle.bl_tree.specs.Typing.{TypingContext, inputs_of, is_activity, site_of, var_at}
 use Rattle.bl_tree.specs.Words.{are_distinct, is_among}
 use Rattle.bl_eval.proofs.PassLemmas.{and_left, and_right, both}
 use Rattle.bl_ctext_semantics.specs.Faults.{Context, Signature, all_distinct, declared_before, depth_of_function, distinct_names, faults_in_head}
@@ -35,29 +36,29 @@ use Rattle.bl_emit_acts.specs.Places.{home_of}
 use Rattle.bl_emit_acts.specs.Trees.{nowhere}
 use Rattle.bl_emit_acts.specs.Types.{c_scalar, c_type, variable_name}
 use Rattle.bl_emit_structs.specs.Structs.{arrays_of}
-use Rattle.bl_emit_functions.specs.Functions.{body_code, body_coded, code_returns, copies_from, end_code, flag_local, flag_locals, function_code}
-use Rattle.bl_emit_functions.specs.Functions.{holds_any, is_held, member_of, members_from, memory_local, memory_name, param_of}
-use Rattle.bl_emit_functions.specs.Functions.{params_from, struct_of}
-use Rattle.bl_emit_functions.specs.Functions.{first_held, read_code}
+use Rattle.bl_emit_functions.specs.Functions.{again_code, body_code, body_coded, code_returns, copies_from, end_code, flag_local, flag_locals}
+use Rattle.bl_emit_functions.specs.Functions.{function_code, has_local, holds_any, is_held, locals_from, member_of, members_from, memory_local}
+use Rattle.bl_emit_functions.specs.Functions.{memory_name, param_of, params_from, struct_of, variable_local, variable_locals}
 use Rattle.bl_emit_functions.specs.Trees.{c_return, flag_name}
-use Rattle.bl_emit_functions.specs.Reads.{reads_in_block}
 use Rattle.bl_emit_acts_laws_wellformed.specs.Formed.Declared.{AreDeclared}
 use Rattle.bl_emit_acts_laws_wellformed.proofs.OnFormed.Judged.{kept}
 use Rattle.bl_emit_acts_laws_wellformed.proofs.OnFormed.Parts.{c_scalar_type}
 use Rattle.bl_emit_acts_laws_wellformed.proofs.OnFormed.TypeNames.{type_declared, whole_type}
-use Rattle.bl_emit_acts_laws_wellformed.proofs.OnFormed.Units.{taken_there}
+use Rattle.bl_emit_acts_laws_wellformed.proofs.OnFormed.Units.{roles_at, taken_there}
 use Rattle.bl_emit_structs_laws_wellformed.proofs.OnFormed.Faultless.{all_differ}
+use Rattle.bl_emit_functions_laws_simulation.proofs.OnCalls.Locals.{parameters_many, parameters_within}
 use Rattle.bl_emit_functions_laws_wellformed.specs.Formed.{IsNumbered, StandsBefore}
-use Rattle.bl_emit_functions_laws_wellformed.proofs.OnFormed.Lookups.{numbers_differ, variables_differ}
+use Rattle.bl_emit_functions_laws_wellformed.proofs.OnFormed.Kept.{all_made, every, false_both, kept_differ, locals_made, map_made, names_from}
+use Rattle.bl_emit_functions_laws_wellformed.proofs.OnFormed.Kept.{other_name, params_made, variables_differ}
+use Rattle.bl_emit_functions_laws_wellformed.proofs.OnFormed.Locals.{locals_behind}
+use Rattle.bl_emit_functions_laws_wellformed.proofs.OnFormed.Lookups.{numbers_differ}
 use Rattle.bl_emit_functions_laws_wellformed.proofs.OnFormed.Variables.{declared_here, my_context, my_site, typed_here}
+use Rattle.bl_emit_functions_laws_wellformed.proofs.OnSpelled.Types.{all_append}
 
 -- ---- names of parameters and locals differ
 
 abbrev local_names : List CLocal → List Text
 local_names locals = map (λ (l : CLocal). l.name) locals
-
-abbrev param_names : List StructDef → List Var → ℕ → List Var → List Text
-param_names structs all base vars = map (λ (p : CParam). p.name) (params_from structs all base vars)
 
 swapped : (a b : Text) → bytes_eq a b ≡ false → bytes_eq b a ≡ false
 swapped a b other = by (bytes_eq b a) refl
@@ -69,10 +70,6 @@ swapped a b other = by (bytes_eq b a) refl
 -- what is among neither is not among both
 among_neither : (x : Text) (xs ys : List Text) → is_among x xs ≡ false → is_among x ys ≡ false → is_among x (xs ++ ys) ≡ false
 among_neither x xs ys one other = list_any-append (bytes_eq x) xs ys ∙ (λ i. one i || other i)
-
-false_both : (a b : Bool) → a ≡ false → b ≡ false → (a || b) ≡ false
-false_both false b one other = other
-false_both true b one other = absurd (cc)
 
 false_first : (a b : Bool) → (a || b) ≡ false → a ≡ false
 false_first false b h = refl
@@ -114,49 +111,105 @@ flags_differ (suc n) few =
     (flags_other (flag_name n) n (λ k less. let small : n < 2 ^ 64 = omega (arith, few) in swapped (flag_name k)
     (flag_name n) (numbers_differ 113 k n less small)))
 
-locals_differ : (name : Text) (holds : Bool) (n : ℕ) → n ≤ 2 ^ 64 → are_distinct (local_names (memory_local name holds ++ flag_locals n)) ≡ true
-locals_differ name false n few = flags_differ n few
-locals_differ name true n few =
-    both (not (is_among (codes "m") (local_names (flag_locals n)))) (are_distinct (local_names (flag_locals n)))
-    (ap not (flags_other (codes "m") n (λ k less. refl))) (flags_differ n few)
+-- two lists of names that differ, none of which is in both
+distinct_append : (xs ys : List Text) → are_distinct xs ≡ true → are_distinct ys ≡ true → list_all (λ x. not (is_among x ys)) xs ≡ true →
+    are_distinct (xs ++ ys) ≡ true
+distinct_append [] ys one other apart = other
+distinct_append (x ∷ xs) ys one other apart =
+    both (not (is_among x (xs ++ ys))) (are_distinct (xs ++ ys))
+    (ap not (among_neither x xs ys (not_false (is_among x xs) (and_left (not (is_among x xs)) (are_distinct xs) one))
+    (not_false (is_among x ys) (and_left (not (is_among x ys)) (list_all (λ x. not (is_among x ys)) xs) apart))))
+    (distinct_append xs ys (and_right (not (is_among x xs)) (are_distinct xs) one) other
+    (and_right (not (is_among x ys)) (list_all (λ x. not (is_among x ys)) xs) apart))
 
-no_local : (all : List Var) (name : Text) (holds : Bool) (n k : ℕ) →
-    is_among (variable_name all k) (local_names (memory_local name holds ++ flag_locals n)) ≡ false
-no_local all name false n k = flags_other (variable_name all k) n (λ j less. refl)
-no_local all name true n k = flags_other (variable_name all k) n (λ j less. refl)
+module _ (structs : List StructDef) (earlier : List UnitDef) (unit : UnitDef) (roles : roles_stand unit ≡ true) (few : length unit.vars ≤ 2 ^ 64) where
+  abbrev here : TypingContext
+  here = site_of structs earlier unit
 
-module _ (structs : List StructDef) (all : List Var) where
-  later_params : (j base : ℕ) (vars : List Var) → j < base → base + length vars ≤ 2 ^ 64 → is_among
-      (variable_name all j) (param_names structs all base vars) ≡ false
-  later_params j base [] less few = refl
-  later_params j base (v ∷ vars) less few =
-      let small : base < 2 ^ 64 = omega (arith, few) in
-      let more : j < base + 1 = omega (arith, less) in
-      let room : (base + 1) + length vars ≤ 2 ^ 64 = omega (arith, few) in
-      false_both (bytes_eq (variable_name all j) (variable_name all base)) (is_among (variable_name all j) (param_names structs all (base + 1) vars))
-      (variables_differ all j base less small) (later_params j (base + 1) vars more room)
+  -- how many parameters the unit has
+  abbrev params : ℕ
+  params = unit.inputs + unit.outputs
 
-  params_differ : (base : ℕ) (vars : List Var) (others : List Text) → base + length vars ≤ 2 ^ 64 → are_distinct others ≡ true →
-      ((k : ℕ) → is_among (variable_name all k) others ≡ false) → are_distinct (param_names structs all base vars ++ others) ≡ true
-  params_differ base [] others few differ new = differ
-  params_differ base (v ∷ vars) others few differ new =
-      let own : base < base + 1 = omega arith in
-      let room : (base + 1) + length vars ≤ 2 ^ 64 = omega (arith, few) in
-      both (not (is_among (variable_name all base) (param_names structs all (base + 1) vars ++ others)))
-      (are_distinct (param_names structs all (base + 1) vars ++ others))
-      (ap not (among_neither (variable_name all base) (param_names structs all (base + 1) vars) others (later_params base (base + 1) vars own room) (new base)))
-      (params_differ (base + 1) vars others room differ new)
+  -- the names of the variables that are locals by themselves
+  abbrev variable_names_here : List Text
+  variable_names_here = names_from unit.vars (has_local here) params (locals_of unit)
 
-  -- ---- what holds of each parameter
+  room_behind : params + length (locals_of unit) ≤ 2 ^ 64
+  room_behind = let long = length-drop params unit.vars in let within = parameters_within structs earlier unit roles in omega (arith, few, long, within)
 
-  params_all : (test : CParam → Bool) (base : ℕ) (vars : List Var) →
-      ((k j : ℕ) (var : Var) → slice_get vars j ≡ Some var → test (param_of structs all k var) ≡ true)
-      → list_all test (params_from structs all base vars) ≡ true
-  params_all test base [] each = refl
-  params_all test base (v ∷ vars) each =
-      both (test (param_of structs all base v)) (list_all test (params_from structs all (base + 1) vars)) (each base 0 v refl)
-      (params_all test (base + 1) vars (λ k j var found. each k (suc j) var found))
+  -- the locals without the struct of variables: variables by themselves, and flags
+  abbrev single_locals : ℕ → List CLocal
+  single_locals n = locals_from here 0 unit.vars ++ flag_locals n
 
+  singles_named : (n : ℕ) → local_names (single_locals n) ≡ variable_names_here ++ local_names (flag_locals n)
+  singles_named n =
+      names_append (locals_from here 0 unit.vars) (flag_locals n)
+      ∙ ap (λ (locals : List CLocal). local_names locals ++ local_names (flag_locals n))
+      (locals_behind structs earlier unit roles ∙ locals_made here params (locals_of unit))
+      ∙ ap (λ (names : List Text). names ++ local_names (flag_locals n))
+      (map_made (λ (l : CLocal). l.name) (has_local here) (variable_local structs unit.vars) params (locals_of unit))
+
+  -- a name that neither a variable behind the parameters nor a flag has
+  single_other : (n : ℕ) (x : Text) → ((k : ℕ) → params ≤ k → k < 2 ^ 64 → bytes_eq x (variable_name unit.vars k) ≡ false) →
+      ((k : ℕ) → bytes_eq x (flag_name k) ≡ false) → is_among x (local_names (single_locals n)) ≡ false
+  single_other n x no_variable no_flag =
+      let room = room_behind in
+      ap (is_among x) (singles_named n)
+      ∙ among_neither x variable_names_here (local_names (flag_locals n))
+      (other_name unit.vars (has_local here) x params (locals_of unit) (λ k low high. no_variable k low (omega (arith, high, room))))
+      (flags_other x n (λ k less. no_flag k))
+
+  singles_differ : (n : ℕ) → n ≤ 2 ^ 64 → are_distinct (local_names (single_locals n)) ≡ true
+  singles_differ n most =
+      ap are_distinct (singles_named n)
+      ∙ distinct_append variable_names_here (local_names (flag_locals n))
+      (kept_differ unit.vars (has_local here) params (locals_of unit) room_behind) (flags_differ n most)
+      (all_made (λ x. not (is_among x (local_names (flag_locals n)))) (has_local here) (λ k var. variable_name unit.vars k) params (locals_of unit)
+      (λ k j var at found. ap not (flags_other (variable_name unit.vars k) n (λ i less. refl))))
+
+  locals_differ : (n : ℕ) → n ≤ 2 ^ 64 → (holds : Bool) → are_distinct (local_names (memory_local unit.name holds ++ single_locals n)) ≡ true
+  locals_differ n most false = singles_differ n most
+  locals_differ n most true =
+      both (not (is_among (codes "m") (local_names (single_locals n)))) (are_distinct (local_names (single_locals n)))
+      (ap not (single_other n (codes "m") (λ k low high. refl) (λ k. refl))) (singles_differ n most)
+
+  -- no parameter has a local's name
+  param_other : (n k : ℕ) → k < params → (holds : Bool) →
+      is_among (variable_name unit.vars k) (local_names (memory_local unit.name holds ++ single_locals n)) ≡ false
+  param_other n k less holds =
+      by holds
+      (single_other n (variable_name unit.vars k) (λ j low high. variables_differ unit.vars k j (omega (arith, less, low)) high) (λ j. refl))
+    where
+      by : (holds : Bool) → is_among (variable_name unit.vars k) (local_names (single_locals n)) ≡ false →
+          is_among (variable_name unit.vars k) (local_names (memory_local unit.name holds ++ single_locals n)) ≡ false
+      by true rest = rest
+      by false rest = rest
+
+  -- the names of parameters and locals
+  abbrev names_here : ℕ → Bool → List Text
+  names_here n holds = map (λ (p : CParam). p.name) (params_from structs unit.vars 0 (parameters_of unit))
+      ++ local_names (memory_local unit.name holds ++ single_locals n)
+
+  params_named : map (λ (p : CParam). p.name) (params_from structs unit.vars 0 (parameters_of unit))
+      ≡ names_from unit.vars every 0 (parameters_of unit)
+  params_named =
+      ap (map (λ (p : CParam). p.name)) (params_made structs unit.vars 0 (parameters_of unit))
+      ∙ map_made (λ (p : CParam). p.name) every (param_of structs unit.vars) 0 (parameters_of unit)
+
+  all_names_differ : (n : ℕ) → n ≤ 2 ^ 64 → (holds : Bool) → are_distinct (names_here n holds) ≡ true
+  all_names_differ n most holds =
+      let locals : List Text = local_names (memory_local unit.name holds ++ single_locals n) in
+      let within = parameters_within structs earlier unit roles in
+      let many : length (parameters_of unit) ≡ params = parameters_many structs earlier unit roles in
+      ap (λ (names : List Text). are_distinct (names ++ locals)) params_named
+      ∙ distinct_append (names_from unit.vars every 0 (parameters_of unit)) locals
+      (kept_differ unit.vars every 0 (parameters_of unit) (omega (arith, few, within, many))) (locals_differ n most holds)
+      (all_made (λ x. not (is_among x locals)) every (λ k var. variable_name unit.vars k) 0 (parameters_of unit)
+      (λ k j var at found.
+      let inside : j < length (parameters_of unit) = slice_get_within (parameters_of unit) j var found in
+      ap not (param_other n k (omega (arith, at, inside, many)) holds)))
+
+module _ (structs : List StructDef) where
   -- a parameter that is no pointer is a scalar
   scalar_or_pointer : (var : Var) (s : Option ScalarType) → scalar_in var.ty ≡ s →
       ((is_output var.role || is_none s) || is_scalar (c_type structs var.ty)) ≡ true
@@ -232,23 +285,13 @@ module _ (structs : List StructDef) (units : List UnitDef) (entry k : ℕ) (unit
 
   -- ---- names
 
-  few_params : 0 + length (parameters_of unit) ≤ 2 ^ 64
-  few_params =
-      let all = numbers.variables in
-      let some : length (parameters_of unit) ≤ length unit.vars = shorter (unit.inputs + unit.outputs) unit.vars in
-      omega (arith, all, some)
-    where
-      shorter : {A : Type 0} (n : ℕ) (xs : List A) → length (take n xs) ≤ length xs
-      shorter zero xs = omega arith
-      shorter (suc n) [] = omega arith
-      shorter (suc n) (x ∷ xs) = let rest : length (take n xs) ≤ length xs = shorter n xs in omega (arith, rest)
-
   names_differ : all_distinct no_entries (variable_names f) ≡ true
   names_differ =
       all_differ (variable_names f)
-      (params_differ structs unit.vars 0 (parameters_of unit) (local_names f.locals) few_params
-      (locals_differ unit.name (holds_any site unit.vars) (body_coded site unit).free.flags numbers.flags)
-      (no_local unit.vars unit.name (holds_any site unit.vars) (body_coded site unit).free.flags))
+      (ap (λ (locals : List CLocal). are_distinct (map (λ (p : CParam). p.name) f.params ++ local_names locals))
+      (append_assoc (memory_local unit.name (holds_any site unit.vars)) (locals_from site 0 unit.vars) (flag_locals (body_coded site unit).free.flags))
+      ∙ all_names_differ structs (take k units) unit (roles_at structs units entry keeps k unit there) numbers.variables
+      (body_coded site unit).free.flags numbers.flags (holds_any site unit.vars))
 
   -- ---- types
 
@@ -268,13 +311,15 @@ module _ (structs : List StructDef) (units : List UnitDef) (entry k : ℕ) (unit
 
   params_declared : list_all (λ (p : CParam). is_declared table p.ty) f.params ≡ true
   params_declared =
-      params_all structs unit.vars (λ (p : CParam). is_declared table p.ty) 0 (parameters_of unit)
-      (λ i j var found. var_declared j var (taken_there unit.vars (unit.inputs + unit.outputs) j var found))
+      ap (list_all (λ (p : CParam). is_declared table p.ty)) (params_made structs unit.vars 0 (parameters_of unit))
+      ∙ all_made (λ (p : CParam). is_declared table p.ty) every (param_of structs unit.vars) 0 (parameters_of unit)
+      (λ i j var at found. var_declared j var (taken_there unit.vars (unit.inputs + unit.outputs) j var found))
 
   params_scalar : list_all (λ (p : CParam). p.pointer || is_scalar p.ty) f.params ≡ true
   params_scalar =
-      params_all structs unit.vars (λ (p : CParam). p.pointer || is_scalar p.ty) 0 (parameters_of unit)
-      (λ i j var found. scalar_or_pointer structs unit.vars var (scalar_in var.ty) refl)
+      ap (list_all (λ (p : CParam). p.pointer || is_scalar p.ty)) (params_made structs unit.vars 0 (parameters_of unit))
+      ∙ all_made (λ (p : CParam). p.pointer || is_scalar p.ty) every (param_of structs unit.vars) 0 (parameters_of unit)
+      (λ i j var at found. scalar_or_pointer structs var (scalar_in var.ty) refl)
 
   -- a unit that holds a variable has a struct
   members_some : (base : ℕ) (vars : List Var) → list_any (λ (var : Var). is_held (home_of site (Some var))) vars ≡ true → (m : CMember) ×
@@ -297,19 +342,29 @@ module _ (structs : List StructDef) (units : List UnitDef) (entry k : ℕ) (unit
   flags_declared : (n : ℕ) → list_all (λ (l : CLocal). is_declared table l.ty) (flag_locals n) ≡ true
   flags_declared zero = refl
   flags_declared (suc n) =
-      list_all-append (λ (l : CLocal). is_declared table l.ty) (flag_locals n) (flag_local n ∷ [])
-      ∙ both (list_all (λ (l : CLocal). is_declared table l.ty) (flag_locals n)) true (flags_declared n) refl
+      all_append (λ (l : CLocal). is_declared table l.ty) (flag_locals n) (flag_local n ∷ []) (flags_declared n) refl
+
+  variables_declared : list_all (λ (l : CLocal). is_declared table l.ty) (locals_from site 0 unit.vars) ≡ true
+  variables_declared =
+      ap (list_all (λ (l : CLocal). is_declared table l.ty)) (locals_made site 0 unit.vars)
+      ∙ all_made (λ (l : CLocal). is_declared table l.ty) (has_local site) (variable_local structs unit.vars) 0 unit.vars
+      (λ i j var at found. var_declared j var found)
+
+  memory_declared : (holds : Bool) → holds_any site unit.vars ≡ holds →
+      list_all (λ (l : CLocal). is_declared table l.ty) (memory_local unit.name holds) ≡ true
+  memory_declared false is = refl
+  memory_declared true is =
+      let some = members_some 0 unit.vars is in
+      both (is_some (table (memory_name unit.name))) true
+      (memory_there (members_from site 0 unit.vars) some.0 some.1.0 some.1.1 before.memory) refl
 
   locals_declared : list_all (λ (l : CLocal). is_declared table l.ty) f.locals ≡ true
-  locals_declared = by (holds_any site unit.vars) refl
-    where
-      by : (b : Bool) → holds_any site unit.vars ≡ b →
-          list_all (λ (l : CLocal). is_declared table l.ty) (memory_local unit.name b ++ flag_locals (body_coded site unit).free.flags) ≡ true
-      by false is = flags_declared (body_coded site unit).free.flags
-      by true is =
-          let some = members_some 0 unit.vars is in
-          both (is_some (table (memory_name unit.name))) (list_all (λ (l : CLocal). is_declared table l.ty) (flag_locals (body_coded site unit).free.flags))
-          (memory_there (members_from site 0 unit.vars) some.0 some.1.0 some.1.1 before.memory) (flags_declared (body_coded site unit).free.flags)
+  locals_declared =
+      let memory : List CLocal = memory_local unit.name (holds_any site unit.vars) in
+      all_append (λ (l : CLocal). is_declared table l.ty) (variable_locals site unit) (flag_locals (body_coded site unit).free.flags)
+      (all_append (λ (l : CLocal). is_declared table l.ty) memory (locals_from site 0 unit.vars) (memory_declared (holds_any site unit.vars) refl)
+      variables_declared)
+      (flags_declared (body_coded site unit).free.flags)
 
   at_most : (n : ℕ) → n ≤ 300 → nat_le n 300 ≡ true
   at_most n le = grind (arith, nat_tests)
@@ -332,5 +387,5 @@ module _ (structs : List StructDef) (units : List UnitDef) (entry k : ℕ) (unit
       let four = kept (list_all (λ (p : CParam). p.pointer || is_scalar p.ty) f.params) scalar_parameter f.place params_scalar in
       let six = kept (nat_le (depth_of_function depths f) 300) short_chain f.place (at_most (depth_of_function depths f) short) in
       let seven = kept (is_none f.result || last_returns (map surely_returns f.body)) returns_result f.place
-      (surely site (read_code site (first_held site 0 unit.vars) (reads_in_block (body_code site unit))) unit unit.result) in
+      (surely site (again_code site unit (body_code site unit)) unit unit.result) in
       (λ i. one i ++ (two i ++ (three i ++ (four i ++ ([] ++ (six i ++ seven i))))))

@@ -5,7 +5,7 @@ use Rattle.std.specs.Prelude.{if◌then◌else◌, slice_get}
 use Rattle.bl_tree.specs.declared.tree.Var.{Var}
 use Rattle.bl_tree.specs.Typing.{TypingContext}
 use Rattle.bl_emit_acts.specs.declared.home.Home.{Home}
-use Rattle.bl_emit_acts.specs.declared.home.Home.TheVariants.{Held, Given, Lent}
+use Rattle.bl_emit_acts.specs.declared.home.Home.TheVariants.{Held, Local, Lent}
 use Rattle.bl_emit_acts.specs.Places.{home_of}
 use Rattle.bl_emit_functions.specs.Functions.{first_held, is_held}
 
@@ -30,7 +30,7 @@ found_from site base (var ∷ rest) k is = by (home_of site (Some var)) refl (λ
         (if is_held home then Some base else first_held site (base + 1) rest) ≡ Some k → Found site base (var ∷ rest) k
     by Held home later is =
         let same : base ≡ k = same_Some base k is in record { index = 0; var = var; at = omega (arith, same); is_there = refl; held = home }
-    by Given home later is = further (later is)
+    by Local home later is = further (later is)
     by Lent home later is = further (later is)
 
 -- it is there

@@ -1,9 +1,9 @@
 -- The struct of a function's variables has variables of the program as its members.
-use Rattle.std.proofs.Common.{◌≡◌, ℕ, zero, suc, ◌+◌, ◌<◌, ◌≤◌, ◌^◌, Bool, true, false, not, ◌||◌, List, [], ◌∷◌}
-use Rattle.std.proofs.Common.{◌++◌, map, take, length, Some}
-use Rattle.std.proofs.Common.{refl, sym, ap, subst, arith, ⊎_elim}
+use Rattle.std.proofs.Common.{◌≡◌, ℕ, zero, suc, ◌+◌, ◌<◌, ◌≤◌, ◌^◌, Bool, true, false, List, [], ◌∷◌}
+use Rattle.std.proofs.Common.{map, take, length, Some}
+use Rattle.std.proofs.Common.{refl, sym, ap, ◌∙◌, subst, arith, ⊎_elim}
 use Rattle.std.proofs.lemmas.List.Elements.{Contains-append_cases}
-use Rattle.std.specs.Prelude.{Contains, bytes_eq, get_or, slice_get}
+use Rattle.std.specs.Prelude.{Contains, get_or, slice_get}
 use Rattle.bl_tree.specs.declared.text.Text.{Text}
 use Rattle.bl_tree.specs.declared.c.CMember.{CMember}
 use Rattle.bl_tree.specs.declared.c.CStruct.{CStruct}
@@ -11,14 +11,13 @@ use Rattle.bl_tree.specs.declared.tree.StructDef.{StructDef}
 use Rattle.bl_tree.specs.declared.tree.Unit.{Unit as UnitDef}
 use Rattle.bl_tree.specs.declared.tree.Var.{Var}
 use Rattle.bl_tree.specs.Typing.{TypingContext, site_of}
-use Rattle.bl_tree.specs.Words.{are_distinct, is_among}
-use Rattle.bl_eval.proofs.PassLemmas.{both}
+use Rattle.bl_tree.specs.Words.{are_distinct}
 use Rattle.bl_emit_acts.specs.Places.{home_of}
-use Rattle.bl_emit_acts.specs.Types.{c_type, variable_name}
+use Rattle.bl_emit_acts.specs.Types.{c_type}
 use Rattle.bl_emit_functions.specs.Functions.{held_member, is_held, member_of, members_from, members_of, memory_struct, struct_of}
 use Rattle.bl_emit_structs_laws_wellformed.specs.Formed.{IsMemory, OfVariable}
 use Rattle.bl_emit_functions_laws_wellformed.specs.Formed.{MemoriesHold}
-use Rattle.bl_emit_functions_laws_wellformed.proofs.OnFormed.Lookups.{variables_differ}
+use Rattle.bl_emit_functions_laws_wellformed.proofs.OnFormed.Kept.{is_held_in, kept_differ, map_made, members_made}
 
 abbrev names : List CMember → List Text
 names members = map (λ (m : CMember). m.name) members
@@ -41,41 +40,11 @@ record OfList (structs : List StructDef) (vars : List Var) (m : CMember) : Type 
   is : m.ty ≡ c_type structs var.ty
 
 module _ (site : TypingContext) where
-  later_members : (j base : ℕ) (vars : List Var) → j < base → base + length vars ≤ 2 ^ 64 →
-      is_among (variable_name site.vars j) (names (members_from site base vars)) ≡ false
-  later_members j base [] less few = refl
-  later_members j base (v ∷ vars) less few =
-      let small : base < 2 ^ 64 = omega (arith, few) in
-      let more : j < base + 1 = omega (arith, less) in
-      let room : (base + 1) + length vars ≤ 2 ^ 64 = omega (arith, few) in
-      by (is_held (home_of site (Some v))) (variables_differ site.vars j base less small) (later_members j (base + 1) vars more room)
-    where
-      false_both : (a b : Bool) → a ≡ false → b ≡ false → (a || b) ≡ false
-      false_both false b one other = other
-      false_both true b one other = absurd (cc)
-
-      by : (b : Bool) → bytes_eq (variable_name site.vars j) (variable_name site.vars base) ≡ false → is_among (variable_name site.vars j)
-          (names (members_from site (base + 1) vars)) ≡ false →
-          is_among (variable_name site.vars j) (names (member_of b site.structs site.vars base v ++ members_from site (base + 1) vars)) ≡ false
-      by true one rest = false_both (bytes_eq (variable_name site.vars j) (variable_name site.vars base))
-          (is_among (variable_name site.vars j) (names (members_from site (base + 1) vars))) one rest
-      by false one rest = rest
-
-  members_differ : (base : ℕ) (vars : List Var) → base + length vars ≤ 2 ^ 64 → are_distinct (names (members_from site base vars)) ≡ true
-  members_differ base [] few = refl
-  members_differ base (v ∷ vars) few =
-      let own : base < base + 1 = omega arith in
-      let room : (base + 1) + length vars ≤ 2 ^ 64 = omega (arith, few) in
-      by (is_held (home_of site (Some v))) (later_members base (base + 1) vars own room) (members_differ (base + 1) vars room)
-    where
-      by : (b : Bool) → is_among (variable_name site.vars base) (names (members_from site (base + 1) vars)) ≡ false
-          → are_distinct (names (members_from site (base + 1) vars)) ≡ true →
-          are_distinct (names (member_of b site.structs site.vars base v ++ members_from site (base + 1) vars)) ≡ true
-      by true new rest =
-          both (not (is_among (variable_name site.vars base) (names (members_from site (base + 1) vars))))
-          (are_distinct (names (members_from site (base + 1) vars)))
-          (ap not new) rest
-      by false new rest = rest
+  members_differ : (vars : List Var) → length vars ≤ 2 ^ 64 → are_distinct (names (members_from site 0 vars)) ≡ true
+  members_differ vars few =
+      ap (λ members. are_distinct (names members)) (members_made site 0 vars)
+      ∙ ap are_distinct (map_made (λ (m : CMember). m.name) (is_held_in site) (held_member site.structs site.vars) 0 vars)
+      ∙ kept_differ site.vars (is_held_in site) 0 vars (omega (arith, few))
 
   members_are : (base : ℕ) (vars : List Var) (m : CMember) → Contains (members_from site base vars) m → OfList site.structs vars m
   members_are base [] m has = absurd (none_has m has)
@@ -103,8 +72,7 @@ module _ (structs : List StructDef) (units : List UnitDef) (k : ℕ) (unit : Uni
 
   pub memory_is : (s : CStruct) → Contains (memory_struct structs (take k units) unit) s → IsMemory structs units s
   memory_is =
-      let room : 0 + length unit.vars ≤ 2 ^ 64 = omega (arith, few) in
-      memory_by (members_of structs (take k units) unit) (members_differ site 0 unit.vars room)
+      memory_by (members_of structs (take k units) unit) (members_differ site unit.vars few)
       (λ m has. let found = members_are site 0 unit.vars m has in
       record { k = k; j = found.j; unit = unit; var = found.var; unit_there = there; var_there = found.there; is = found.is })
 

@@ -43,6 +43,7 @@ use Rattle.bl_emit_functions.specs.Statements.{
   arm_codes,
   arm_taken,
   arms_taken,
+  assigned_code,
   block_codes,
   branch_codes,
   break_code,
@@ -55,6 +56,7 @@ use Rattle.bl_emit_functions.specs.Statements.{
   flagged_code,
   kind_codes,
   loop_code,
+  sets_itself,
   stmt_codes,
   turn_taken,
   untaken_code,
@@ -305,6 +307,14 @@ module _ (context : Context) (most : ℕ) (flags : (k : ℕ) → k < most → co
     return_good None None is fitted =
         only_good (c_return None ∷ []) (block_one context (c_return None) (return_none-is context (result ∙ ap (option_map c_scalar) is)))
 
+    assigned_is : (path : Path) (e : Expr) → StmtIs context (c_set (stands site path).place (code_made site e)) →
+        BlockIs context (assigned_code site path e)
+    assigned_is path e is = by (sets_itself path e)
+      where
+        by : (itself : Bool) → BlockIs context (if itself then [] else c_set (stands site path).place (code_made site e) ∷ [])
+        by true = block_nil context
+        by false = block_one context (c_set (stands site path).place (code_made site e)) is
+
     never_activity : (b : Bool) → (is_activity site.kind && b) ≡ true → ⊥
     never_activity b h = let no = sym (and_left (is_activity site.kind) b h) ∙ function in cc
 
@@ -322,7 +332,7 @@ module _ (context : Context) (most : ℕ) (flags : (k : ℕ) → k < most → co
       declare_codes k initial = rw (fold-roll-Stmt, fold-roll-StmtKind) refl
 
       assign_codes : (path : Path) (e : Expr) → codes_of site (stmt place (StmtKind-F.Assign path e))
-          ≡ (λ free. record { code = c_set (stands site path).place (code_made site e) ∷ []; free = free })
+          ≡ (λ free. record { code = assigned_code site path e; free = free })
       assign_codes path e = rw (fold-roll-Stmt, fold-roll-StmtKind) refl
 
       call_codes : (f : ℕ) (inputs : List Expr) (outputs : List Path) → codes_of site (stmt place (StmtKind-F.Call f inputs outputs))
@@ -358,10 +368,9 @@ module _ (context : Context) (most : ℕ) (flags : (k : ℕ) → k < most → co
           (no_activity _) false (λ no. absurd (cc))));
       assign = λ place path e fitted.
           as_codes _ _ (assign_codes place path e)
-          (only_good (c_set (stands site path).place (code_made site e) ∷ [])
-          (block_one context (c_set (stands site path).place (code_made site e))
-          (assign_is site (is_copied []) context declared stand earlier typed_vars plain path e (rw (fold-roll-Stmt, fold-roll-StmtKind) at fitted)
-          (no_activity _) (no_activity _))));
+          (only_good (assigned_code site path e)
+          (assigned_is path e (assign_is site (is_copied []) context declared stand earlier typed_vars plain path e
+          (rw (fold-roll-Stmt, fold-roll-StmtKind) at fitted) (no_activity _) (no_activity _))));
       call = λ place f inputs outputs fitted.
           as_codes _ _ (call_codes place f inputs outputs)
           (only_good (c_calling (call_made site f inputs outputs) ∷ [])

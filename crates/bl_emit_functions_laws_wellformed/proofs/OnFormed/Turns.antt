@@ -43,6 +43,7 @@ use Rattle.bl_emit_functions.specs.Statements.{
   Codes,
   arm_codes,
   arms_taken,
+  assigned_code,
   block_codes,
   branch_codes,
   break_code,
@@ -55,6 +56,7 @@ use Rattle.bl_emit_functions.specs.Statements.{
   flagged_code,
   kind_codes,
   loop_code,
+  sets_itself,
   stmt_codes,
   turn_taken,
   untaken_code,
@@ -306,6 +308,13 @@ module _ (site : TypingContext) where
   declared-turns k initial =
       block-turns (initial_code site k initial) [] ∙ ap (λ turns. turns ++ []) (initial-turns k initial)
 
+  assigned-turns : (path : Path) (e : Expr) → turns_in_block (assigned_code site path e) ≡ []
+  assigned-turns path e = by (sets_itself path e)
+    where
+      by : (itself : Bool) → turns_in_block (if itself then [] else c_set (stands site path).place (code_made site e) ∷ []) ≡ []
+      by true = refl
+      by false = one-turns _ [] (set-turns _ _)
+
   abbrev S : Stmt → Type 0
   S s = Counted (codes_of site s)
 
@@ -339,7 +348,7 @@ module _ (site : TypingContext) where
     declare_codes k initial = rw (fold-roll-Stmt, fold-roll-StmtKind) refl
 
     assign_codes : (path : Path) (e : Expr) → codes_of site (stmt place (StmtKind-F.Assign path e))
-        ≡ (λ free. record { code = c_set (stands site path).place (code_made site e) ∷ []; free = free })
+        ≡ (λ free. record { code = assigned_code site path e; free = free })
     assign_codes path e = rw (fold-roll-Stmt, fold-roll-StmtKind) refl
 
     call_codes : (f : ℕ) (inputs : List Expr) (outputs : List Path) → codes_of site (stmt place (StmtKind-F.Call f inputs outputs))
@@ -383,7 +392,7 @@ module _ (site : TypingContext) where
   cases : Cases S
   cases = record {
     declare = λ place k initial. as_codes _ _ (declare_codes place k initial) (only_counted (declared_code site [] k initial) (declared-turns k initial));
-    assign = λ place path e. as_codes _ _ (assign_codes place path e) (only_counted _ (one-turns _ [] (set-turns _ _)));
+    assign = λ place path e. as_codes _ _ (assign_codes place path e) (only_counted _ (assigned-turns path e));
     call = λ place f inputs outputs. as_codes _ _ (call_codes place f inputs outputs) (only_counted _ (one-turns _ [] (call-turns _)));
     await = λ place e. as_codes _ _ (await_codes place e) (only_counted [] refl);
     run = λ place target a inputs outputs. as_codes _ _ (run_codes place target a inputs outputs) (only_counted [] refl);

@@ -29,13 +29,15 @@ use Rattle.bl_ctext_semantics.specs.Faults as faults
 use Rattle.bl_ctext_semantics.specs.Tables.{Table, found}
 use Rattle.bl_emit_acts.specs.Acts.{is_copied}
 use Rattle.bl_emit_acts.specs.declared.home.Home.{Home}
-use Rattle.bl_emit_acts.specs.declared.home.Home.TheVariants.{Held, Given, Lent}
-use Rattle.bl_emit_acts.specs.Places.{copies_inputs, home_of, home_of_role}
+use Rattle.bl_emit_acts.specs.declared.home.Home.TheVariants.{Held, Local, Lent}
+use Rattle.bl_emit_acts.specs.Places.{copies_inputs, home_of, home_of_declared, home_of_role, is_alone}
 use Rattle.bl_emit_acts.specs.Types.{c_scalar, c_type, variable_name}
 use Rattle.bl_emit_structs.specs.Structs.{arrays_of, structs_for_definition, structs_for_unit}
-use Rattle.bl_emit_functions.specs.Functions.{body_coded, flag_locals, function_code, holds_any, held_member, is_held, members_of, memory_local}
+use Rattle.bl_emit_functions.specs.Functions.{body_coded, flag_locals, function_code, has_local, is_held, locals_from, members_of, memory_local}
 use Rattle.bl_emit_functions.specs.Functions.{memory_name, struct_of}
 use Rattle.bl_emit_functions.specs.Trees.{flag_name}
+use Rattle.bl_emit_acts_laws_simulation.proofs.Homes.{declared_unlent}
+use Rattle.bl_emit_functions_laws_simulation.proofs.OnCalls.Locals.{local_parameter, parameters_many}
 use Rattle.bl_emit_acts_laws_wellformed.specs.Formed.Declared.{AreDeclared, Declared, HeldIn, IsDeclaredAt, home_leads, leads_through, parameter_for}
 use Rattle.bl_emit_acts_laws_wellformed.specs.Formed.Declared.{plain_member}
 use Rattle.bl_emit_acts_laws_wellformed.specs.Formed.Declared.{variable_of}
@@ -43,9 +45,10 @@ use Rattle.bl_emit_acts_laws_wellformed.proofs.OnFormed.Parts.{joined_has}
 use Rattle.bl_emit_acts_laws_wellformed.proofs.OnFormed.SiteActs.{EarlierStand}
 use Rattle.bl_emit_acts_laws_wellformed.proofs.OnFormed.Units.{roles_at, taken_there, unit_at, vars_stand}
 use Rattle.bl_emit_functions_laws_wellformed.specs.Formed.{IsNumbered, StandsBefore}
-use Rattle.bl_emit_functions_laws_wellformed.proofs.OnFormed.Lookups.{any_held, flag_found, found_behind, found_front, found_member, found_param, local_entries}
-use Rattle.bl_emit_functions_laws_wellformed.proofs.OnFormed.Lookups.{member_entries}
-use Rattle.bl_emit_functions_laws_wellformed.proofs.OnFormed.Lookups.{memory_found, no_param, param_entries}
+use Rattle.bl_emit_functions_laws_wellformed.proofs.OnFormed.Kept.{variables_differ}
+use Rattle.bl_emit_functions_laws_wellformed.proofs.OnFormed.Locals.{local_behind}
+use Rattle.bl_emit_functions_laws_wellformed.proofs.OnFormed.Lookups.{all_entries, any_held, flag_found, found_behind, found_front, found_member, found_param}
+use Rattle.bl_emit_functions_laws_wellformed.proofs.OnFormed.Lookups.{local_entries, member_entries, memory_found, no_param, param_entries, variable_found}
 
 last_of_four : (a b c d : Bool) → (a && (b && (c && d))) ≡ true → d ≡ true
 last_of_four true true true d h = h
@@ -104,33 +107,37 @@ module _ (structs : List StructDef) (units : List UnitDef) (entry k : ℕ) (unit
 
   -- the entries of the function's variables
   abbrev locals_here : List (Text × faults.Variable)
-  locals_here = local_entries (memory_local unit.name (holds_any my_site unit.vars) ++ flag_locals n_flags)
+  locals_here = all_entries my_site unit n_flags
 
   -- ---- parameters
 
   pub param_there : (j : ℕ) (var : Var) → slice_get (parameters_of unit) j ≡ Some var → slice_get unit.vars j ≡ Some var →
       my_context.variables (variable_name unit.vars j) ≡ Some (parameter_for structs var)
   param_there j var in_params in_vars =
-      found_front (variable_name unit.vars j) (param_entries structs unit.vars 0 (parameters_of unit)) locals_here (parameter_for structs var)
-      (subst (λ n. found (variable_name unit.vars n) (param_entries structs unit.vars 0 (parameters_of unit)) ≡ Some (parameter_for structs var)) none
-      (found_param structs unit.vars 0 (parameters_of unit) j var in_params low))
-    where
-      none : 0 + j ≡ j
-      none = omega arith
-
-      low : 0 + j < 2 ^ 64
-      low = let less = below j var in_vars in omega (arith, less)
+      found_front (variable_name unit.vars j) (param_entries structs unit.vars (parameters_of unit)) locals_here (parameter_for structs var)
+      (found_param structs unit.vars (parameters_of unit) j var in_params (below j var in_vars))
 
   -- a name that no parameter has is one of a local's
-  local_there : (name : Text) (x : faults.Variable) → ((j : ℕ) → bytes_eq (variable_name unit.vars j) name ≡ false) → found name locals_here ≡ Some x →
-      my_context.variables name ≡ Some x
+  local_there : (name : Text) (x : faults.Variable) → ((j : ℕ) → j < length (parameters_of unit) → bytes_eq (variable_name unit.vars j) name ≡ false) →
+      found name locals_here ≡ Some x → my_context.variables name ≡ Some x
   local_there name x other is =
-      found_behind name (param_entries structs unit.vars 0 (parameters_of unit)) locals_here (no_param structs unit.vars 0 (parameters_of unit) name other) ∙ is
+      found_behind name (param_entries structs unit.vars (parameters_of unit)) locals_here (no_param structs unit.vars (parameters_of unit) name other) ∙ is
 
   pub flag_there : (j : ℕ) → j < n_flags → my_context.variables (flag_name j) ≡ Some (variable_of false bool_type)
   flag_there j less =
-      local_there (flag_name j) (variable_of false bool_type) (λ i. refl)
-      (flag_found unit.name (holds_any my_site unit.vars) n_flags j less numbers.flags)
+      local_there (flag_name j) (variable_of false bool_type) (λ i within. refl) (flag_found my_site unit n_flags j less numbers.flags)
+
+  -- ---- variables that are locals by themselves
+
+  alone_there : (j : ℕ) (var : Var) → slice_get unit.vars j ≡ Some var → has_local my_site var ≡ true →
+      my_context.variables (variable_name unit.vars j) ≡ Some (variable_of false (c_type structs var.ty))
+  alone_there j var in_vars local =
+      let behind : unit.inputs + unit.outputs ≤ j = local_behind structs (take k units) unit roles j var in_vars local in
+      let many : length (parameters_of unit) ≡ unit.inputs + unit.outputs = parameters_many structs (take k units) unit roles in
+      let low : j < 2 ^ 64 = below j var in_vars in
+      local_there (variable_name unit.vars j) (variable_of false (c_type structs var.ty))
+      (λ i within. variables_differ unit.vars i j (omega (arith, within, many, behind)) low)
+      (variable_found my_site unit n_flags j var in_vars local low)
 
   -- ---- variables that the function holds
 
@@ -144,25 +151,17 @@ module _ (structs : List StructDef) (units : List UnitDef) (entry k : ℕ) (unit
       HeldIn my_context false unit.vars j (c_type structs var.ty)
   held_there j var in_vars held = record {
     name = memory_name unit.name;
-    memory = local_there (codes "m") (variable_of false (OfStruct (memory_name unit.name))) (λ i. refl)
-        (ap (λ b. found (codes "m") (local_entries (memory_local unit.name b ++ flag_locals n_flags))) (any_held my_site unit.vars j var in_vars held)
-        ∙ memory_found unit.name n_flags);
+    memory = local_there (codes "m") (variable_of false (OfStruct (memory_name unit.name))) (λ i within. refl)
+        (ap (λ b. found (codes "m") (local_entries ((memory_local unit.name b ++ locals_from my_site 0 unit.vars) ++ flag_locals n_flags)))
+        (any_held my_site unit.vars j var in_vars held)
+        ∙ memory_found unit.name (locals_from my_site 0 unit.vars ++ flag_locals n_flags));
     member = memory_is (members_of structs (take k units) unit) (variable_name unit.vars j)
         (plain_member (variable_name unit.vars j) (c_type structs var.ty)) member before.memory;
   }
     where
-      none : 0 + j ≡ j
-      none = omega arith
-
-      low : 0 + j < 2 ^ 64
-      low = let less = below j var in_vars in omega (arith, less)
-
       member : found (variable_name unit.vars j) (member_entries my_site (members_of structs (take k units) unit)) ≡ Some
           (plain_member (variable_name unit.vars j) (c_type structs var.ty))
-      member =
-          subst (λ n. found (variable_name unit.vars n) (member_entries my_site (members_of structs (take k units) unit)) ≡ Some
-          (held_member structs unit.vars n var)) none
-          (found_member my_site 0 unit.vars j var in_vars held low)
+      member = found_member my_site unit.vars j var in_vars held (below j var in_vars)
 
   -- ---- variables by their homes
 
@@ -170,36 +169,47 @@ module _ (structs : List StructDef) (units : List UnitDef) (entry k : ℕ) (unit
   abbrev pointer_of : Var → Bool
   pointer_of var = is_output var.role || is_none (scalar_in var.ty)
 
-  given_by : (role : Role) (s : Option ScalarType) (copies : Bool) → home_of_role role (is_some s) copies ≡ Given →
-      ((is_variable role || is_fixed role) ≡ false) × ((is_output role || is_none s) ≡ false)
-  given_by Input (Some s) copies is = (refl, refl)
-  given_by Input None true is = absurd (cc)
-  given_by Input None false is = absurd (cc)
-  given_by Output s copies is = absurd (cc)
-  given_by OfVariable s copies is = absurd (cc)
-  given_by Fixed s copies is = absurd (cc)
+  input_by : (role : Role) → is_input role ≡ true → (is_variable role || is_fixed role) ≡ false
+  input_by Input input = refl
+  input_by Output input = absurd (cc)
+  input_by OfVariable input = absurd (cc)
+  input_by Fixed input = absurd (cc)
 
-  lent_by : (role : Role) (s : Option ScalarType) (copies : Bool) → home_of_role role (is_some s) copies ≡ Lent →
+  value_by : (role : Role) (s : Option ScalarType) → is_input role ≡ true → is_some s ≡ true → (is_output role || is_none s) ≡ false
+  value_by Input (Some s) input is = refl
+  value_by Input None input is = absurd (cc)
+  value_by Output s input is = absurd (cc)
+  value_by OfVariable s input is = absurd (cc)
+  value_by Fixed s input is = absurd (cc)
+
+  lent_by : (alone : Bool) (role : Role) (s : Option ScalarType) (copies : Bool) → home_of_role alone role (is_some s) copies ≡ Lent →
       ((is_variable role || is_fixed role) ≡ false) × ((is_output role || is_none s) ≡ true)
-  lent_by Input (Some s) copies is = absurd (cc)
-  lent_by Input None true is = absurd (cc)
-  lent_by Input None false is = (refl, refl)
-  lent_by Output s copies is = (refl, refl)
-  lent_by OfVariable s copies is = absurd (cc)
-  lent_by Fixed s copies is = absurd (cc)
+  lent_by alone Input (Some s) copies is = absurd (cc)
+  lent_by alone Input None true is = absurd (cc)
+  lent_by alone Input None false is = (refl, refl)
+  lent_by alone Output s copies is = (refl, refl)
+  lent_by alone OfVariable s copies is = absurd (declared_unlent alone is)
+  lent_by alone Fixed s copies is = absurd (declared_unlent alone is)
 
   param_of_kind : (j : ℕ) (var : Var) (pointer : Bool) → slice_get unit.vars j ≡ Some var → (is_variable var.role || is_fixed var.role) ≡ false →
       pointer_of var ≡ pointer → my_context.variables (variable_name unit.vars j) ≡ Some (variable_of pointer (c_type structs var.ty))
   param_of_kind j var pointer in_vars parameter is =
       param_there j var (parameter_at unit roles j var in_vars parameter) in_vars ∙ ap (λ p. Some (variable_of p (c_type structs var.ty))) is
 
+  local_by : (j : ℕ) (var : Var) → slice_get unit.vars j ≡ Some var → home_of my_site (Some var) ≡ Local → (local : Bool) → has_local my_site var ≡ local →
+      my_context.variables (variable_name unit.vars j) ≡ Some (variable_of false (c_type structs var.ty))
+  local_by j var in_vars home true is = alone_there j var in_vars is
+  local_by j var in_vars home false is =
+      let given = local_parameter my_site var home is in
+      param_of_kind j var false in_vars (input_by var.role given.0) (value_by var.role (scalar_in var.ty) given.0 given.1)
+
   stands_by : (j : ℕ) (var : Var) (home : Home) → slice_get unit.vars j ≡ Some var → home_of my_site (Some var) ≡ home →
       IsDeclaredAt my_context false home unit.vars j (c_type structs var.ty)
   stands_by j var Held in_vars is = held_there j var in_vars (ap is_held is)
-  stands_by j var Given in_vars is =
-      let found = given_by var.role (scalar_in var.ty) (copies_inputs my_site) is in param_of_kind j var false in_vars found.0 found.1
+  stands_by j var Local in_vars is = local_by j var in_vars is (has_local my_site var) refl
   stands_by j var Lent in_vars is =
-      let found = lent_by var.role (scalar_in var.ty) (copies_inputs my_site) is in param_of_kind j var true in_vars found.0 found.1
+      let found = lent_by (is_alone my_site var.ty) var.role (scalar_in var.ty) (copies_inputs my_site) is in
+      param_of_kind j var true in_vars found.0 found.1
 
   pub variable_there : (j : ℕ) (var : Var) → var_at my_site j ≡ Some var →
       IsDeclaredAt my_context (is_activity unit.kind) (home_of my_site (Some var)) unit.vars j (c_type structs var.ty)
@@ -248,14 +258,18 @@ module _ (structs : List StructDef) (units : List UnitDef) (entry k : ℕ) (unit
   keeps_result None other h = absurd (cc)
   keeps_result (Some s) other h = refl
 
-  plain_by : (role : Role) (s : Option ScalarType) (copies : Bool) → copies ≡ true → is_output role ≡ false
-      → home_leads false (home_of_role role (is_some s) copies) ≡ false
-  plain_by Input (Some s) copies is other = refl
-  plain_by Input None true is other = refl
-  plain_by Input None false is other = absurd (cc)
-  plain_by Output s copies is other = absurd (cc)
-  plain_by OfVariable s copies is other = refl
-  plain_by Fixed s copies is other = refl
+  declared_plain : (alone : Bool) → home_leads false (home_of_declared alone) ≡ false
+  declared_plain true = refl
+  declared_plain false = refl
+
+  plain_by : (alone : Bool) (role : Role) (s : Option ScalarType) (copies : Bool) → copies ≡ true → is_output role ≡ false →
+      home_leads false (home_of_role alone role (is_some s) copies) ≡ false
+  plain_by alone Input (Some s) copies is other = refl
+  plain_by alone Input None true is other = refl
+  plain_by alone Input None false is other = absurd (cc)
+  plain_by alone Output s copies is other = absurd (cc)
+  plain_by alone OfVariable s copies is other = declared_plain alone
+  plain_by alone Fixed s copies is other = declared_plain alone
 
   not_output : (j : ℕ) (var : Var) → slice_get unit.vars j ≡ Some var → unit.outputs ≡ 0
       → (role : Role) → var.role ≡ role → is_output role ≡ false
@@ -277,7 +291,7 @@ module _ (structs : List StructDef) (units : List UnitDef) (entry k : ℕ) (unit
       let some : is_some unit.result ≡ true = keeps_result unit.result _ keeps_now in
       let copies : copies_inputs my_site ≡ true = both (is_function unit.kind) (is_some unit.result) (ap not function) some in
       (λ i. home_leads (function i) (home_of my_site (in_vars i)))
-      ∙ plain_by var.role (scalar_in var.ty) (copies_inputs my_site) copies
+      ∙ plain_by (is_alone my_site var.ty) var.role (scalar_in var.ty) (copies_inputs my_site) copies
       (not_output j var in_vars (no_output unit.result refl some) var.role refl)
 
   -- ---- earlier units

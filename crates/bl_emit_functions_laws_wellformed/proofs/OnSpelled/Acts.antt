@@ -29,7 +29,7 @@ use Rattle.bl_ctext.proofs.Fitting.{address-fits, call-fits, call_stmt-fits, exp
 use Rattle.bl_ctext.proofs.Fitting.{place-fits, place_fits-more, read-fits, set-fits}
 use Rattle.bl_ctext.proofs.Fitting.{step-fits, value-fits}
 use Rattle.bl_emit_acts.specs.declared.home.Home.{Home}
-use Rattle.bl_emit_acts.specs.declared.home.Home.TheVariants.{Held, Given, Lent}
+use Rattle.bl_emit_acts.specs.declared.home.Home.TheVariants.{Held, Local, Lent}
 use Rattle.bl_emit_acts.specs.declared.made.Made.{Made}
 use Rattle.bl_emit_acts.specs.declared.made.Made.TheVariants.{Number, Whole}
 use Rattle.bl_emit_acts.specs.Acts.{c_calling, c_copied, c_set, c_zeroed, call_args, call_made, code_made, copy_code, declared_code, initial_code}
@@ -75,7 +75,7 @@ home_fits : (vars : List Var) → list_all words.is_name (names_of vars) ≡ tru
 home_fits vars vars_named d activity Held k low small =
     place-fits d activity (codes "m") (c_step (variable_name vars k) ∷ []) low memory-name
     (both (step_fits d (c_step (variable_name vars k))) true (step-fits d (variable_name vars k) (variable-name vars k vars_named small)) refl)
-home_fits vars vars_named d activity Given k low small = place-fits d false (variable_name vars k) [] low (variable-name vars k vars_named small) refl
+home_fits vars vars_named d activity Local k low small = place-fits d false (variable_name vars k) [] low (variable-name vars k vars_named small) refl
 home_fits vars vars_named d activity Lent k low small = place-fits d true (variable_name vars k) [] low (variable-name vars k vars_named small) refl
 
 pub one-fits : (d : ℕ) (s : CStmt) → stmt_fits d s ≡ true → stmts_fit d (s ∷ []) ≡ true

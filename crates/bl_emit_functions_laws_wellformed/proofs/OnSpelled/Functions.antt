@@ -9,7 +9,10 @@ use Rattle.std.proofs.lemmas.Option.{slice_get_within}
 use Rattle.std.specs.Prelude.{nat_le, option_map, slice_get}
 use Rattle.std.specs.List.{list_all}
 use Rattle.bl_tree.specs.declared.text.Text.{Text}
+use Rattle.bl_tree.specs.declared.c.CExpr.{CExpr}
+use Rattle.bl_tree.specs.declared.c.CLocal.{CLocal}
 use Rattle.bl_tree.specs.declared.c.CMember.{CMember}
+use Rattle.bl_tree.specs.declared.c.CStmt.{CStmt}
 use Rattle.bl_tree.specs.declared.c.CType.{CType}
 use Rattle.bl_tree.specs.declared.c.CType.TheVariants.{Struct as OfStruct}
 use Rattle.bl_tree.specs.declared.scalar.Scalar.{Scalar as ScalarType}
@@ -23,28 +26,29 @@ use Rattle.bl_tree.specs.Program.{IsWellTyped, names_of, parameters_of, roles_st
 use Rattle.bl_tree.specs.Returns.{unit_returns}
 use Rattle.bl_tree.specs.Reduce.{all_of}
 use Rattle.bl_tree.specs.Types.{type_stands}
-use Rattle.bl_tree.specs.Typing.{TypingContext, fits, inputs_of, site_of}
+use Rattle.bl_tree.specs.Typing.{TypingContext, fits, inputs_of, site_of, var_at}
 use Rattle.bl_tree.specs.Words as words
 use Rattle.bl_tree.specs.Words.{are_distinct}
 use Rattle.bl_eval.proofs.PassLemmas.{all_at, and_left, and_right, both}
 use Rattle.bl_ctext.specs.Names.{is_name}
 use Rattle.bl_ctext.specs.Spellable.{spells_local, spells_member, spells_param, spells_returned, spells_struct, spells_type}
-use Rattle.bl_ctext.specs.inner.Fits.{func_fits, stmt_fits, stmts_fit}
-use Rattle.bl_ctext.proofs.Fitting.{func-fits, place-fits, read-fits, return-fits, set-fits, struct-spells}
+use Rattle.bl_ctext.specs.inner.Fits.{func_fits, place_fits, stmt_fits, stmts_fit}
+use Rattle.bl_ctext.proofs.Fitting.{expr_fits-more, func-fits, place-fits, read-fits, return-fits, set-fits, struct-spells}
 use Rattle.bl_ctext.proofs.PrefixedNames.{name-function, name-struct, name-with_prefix}
 use Rattle.bl_emit_acts.specs.declared.home.Home.{Home}
-use Rattle.bl_emit_acts.specs.declared.home.Home.TheVariants.{Held, Given, Lent}
+use Rattle.bl_emit_acts.specs.declared.home.Home.TheVariants.{Held, Local, Lent}
+use Rattle.bl_emit_acts.specs.Expressions.{hidden, scalar_at}
 use Rattle.bl_emit_acts.specs.Places.{home_of, place_in}
 use Rattle.bl_emit_acts.specs.Trees.{c_literal, c_place, c_read, nowhere}
 use Rattle.bl_emit_acts.specs.Types.{c_scalar, c_type, unit_name, variable_name}
 use Rattle.bl_emit_acts_laws_wellformed.proofs.OnFormed.Units.{body_stands, taken_there, unit_at, vars_named, vars_stand}
 use Rattle.bl_emit_acts_laws_wellformed.specs.Spelled.{ExpressionsFit, PlacesFit}
 use Rattle.bl_emit_acts_laws_wellformed.proofs.OnSpelled.Names.{memory-name, variable-name}
-use Rattle.bl_emit_functions.specs.Functions.{body_coded, c_input_copied, copies_from, end_code, flag_local, flag_locals}
-use Rattle.bl_emit_functions.specs.Functions.{function_code, held_member, holds_any, input_copied, is_held}
-use Rattle.bl_emit_functions.specs.Functions.{member_of, members_from, members_of, memory_local, memory_name, memory_struct}
-use Rattle.bl_emit_functions.specs.Functions.{none_taken, param_of, params_from, code_returns, struct_of}
-use Rattle.bl_emit_functions.specs.Functions.{body_code, c_set_again, first_held, read_code}
+use Rattle.bl_emit_acts_laws_wellformed.proofs.OnSpelled.Operators.{hidden-fits}
+use Rattle.bl_emit_functions.specs.Functions.{again_code, body_code, body_coded, c_input_copied, c_local_again, c_set_again, code_returns, copies_from}
+use Rattle.bl_emit_functions.specs.Functions.{end_code, first_held, flag_local, flag_locals, function_code, has_local, held_member, holds_any}
+use Rattle.bl_emit_functions.specs.Functions.{input_copied, local_again, locals_again, locals_from, members_of, memory_local, memory_name, memory_struct}
+use Rattle.bl_emit_functions.specs.Functions.{none_taken, param_of, params_from, read_code, struct_of, variable_local, variable_locals}
 use Rattle.bl_emit_functions.specs.Statements.{block_codes, codes_of}
 use Rattle.bl_emit_functions.specs.Trees.{c_return_zero}
 use Rattle.bl_emit_functions.specs.Reads.{reads_in_block}
@@ -54,19 +58,13 @@ use Rattle.bl_emit_functions_laws_wellformed.proofs.OnSpelled.Numbers.{flag-name
 use Rattle.bl_emit_functions_laws_wellformed.proofs.OnSpelled.Statements.{Good, body_good, space}
 use Rattle.bl_emit_functions_laws_wellformed.proofs.OnSpelled.Types.{all_append, scalar_spelled, source_name, struct_names, type-spelled}
 use Rattle.bl_emit_functions_laws_wellformed.proofs.OnFormed.Held.{held_there}
+use Rattle.bl_emit_functions_laws_wellformed.proofs.OnFormed.Kept.{all_made, every, is_held_in, locals_made, members_made, params_made}
 
 all_listed : (test : Stmt → Bool) (body : List Stmt) → list_all test body ≡ true → all_of (map test body) ≡ true
 all_listed test [] all = refl
 all_listed test (s ∷ body) all =
     both (test s) (all_of (map test body)) (and_left (test s) (list_all test body) all)
     (all_listed test body (and_right (test s) (list_all test body) all))
-
-taken_all : {A : Type 0} (test : A → Bool) (n : ℕ) (xs : List A) → list_all test xs ≡ true → list_all test (take n xs) ≡ true
-taken_all test zero xs all = refl
-taken_all test (suc n) [] all = refl
-taken_all test (suc n) (x ∷ xs) all =
-    both (test x) (list_all test (take n xs)) (and_left (test x) (list_all test xs) all)
-    (taken_all test n xs (and_right (test x) (list_all test xs) all))
 
 taken_few : {A : Type 0} (n : ℕ) (xs : List A) → length (take n xs) ≤ length xs
 taken_few zero xs = omega arith
@@ -118,31 +116,20 @@ module _ (structs : List StructDef) (units : List UnitDef) (entry k : ℕ) (unit
   spelled : (var : Var) → type_stands (length structs) var.ty ≡ true → spells_type (c_type structs var.ty) ≡ true
   spelled var h = let all : length structs ≤ length structs = omega arith in type-spelled structs names (length structs) all var.ty h
 
+  own_named : (i j : ℕ) (var : Var) → i ≡ 0 + j → slice_get unit.vars j ≡ Some var → is_name (variable_name unit.vars i) ≡ true
+  own_named i j var at found =
+      let within : j < length unit.vars = slice_get_within unit.vars j var found in
+      variable-name unit.vars i own_vars (omega (arith, at, within, few))
+
   -- ---- the variables that it holds
 
-  member_by : (held : Bool) (base : ℕ) (var : Var) → base < 2 ^ 64 → type_stands (length structs) var.ty ≡ true →
-      list_all spells_member (member_of held structs unit.vars base var) ≡ true
-  member_by false base var small h = refl
-  member_by true base var small h =
-      both (spells_member (held_member structs unit.vars base var)) true
-      (both (spells_type (c_type structs var.ty)) (is_name (variable_name unit.vars base) && true) (spelled var h)
-      (both (is_name (variable_name unit.vars base)) true (variable-name unit.vars base own_vars small) refl)) refl
-
-  members_by : (base : ℕ) (vars : List Var) → base + length vars ≤ 2 ^ 64 →
-      list_all (λ (var : Var). type_stands (length structs) var.ty) vars ≡ true →
-      list_all spells_member (members_from site base vars) ≡ true
-  members_by base [] room h = refl
-  members_by base (var ∷ rest) room h =
-      let small : base < 2 ^ 64 = omega (arith, room) in
-      let later : (base + 1) + length rest ≤ 2 ^ 64 = omega (arith, room) in
-      all_append spells_member (member_of (is_held (home_of site (Some var))) structs unit.vars base var) (members_from site (base + 1) rest)
-      (member_by (is_held (home_of site (Some var))) base var small
-      (and_left (type_stands (length structs) var.ty) (list_all (λ (var : Var). type_stands (length structs) var.ty) rest) h))
-      (members_by (base + 1) rest later
-      (and_right (type_stands (length structs) var.ty) (list_all (λ (var : Var). type_stands (length structs) var.ty) rest) h))
-
   pub members-spelled : list_all spells_member (members_of structs (take k units) unit) ≡ true
-  members-spelled = let room : 0 + length unit.vars ≤ 2 ^ 64 = omega (arith, few) in members_by 0 unit.vars room stand
+  members-spelled =
+      ap (list_all spells_member) (members_made site 0 unit.vars)
+      ∙ all_made spells_member (is_held_in site) (held_member structs unit.vars) 0 unit.vars
+      (λ i j var at found.
+      both (spells_type (c_type structs var.ty)) (is_name (variable_name unit.vars i) && true) (spelled var (typed j var found))
+      (both (is_name (variable_name unit.vars i)) true (own_named i j var at found) refl))
 
   struct_by : (members : List CMember) → list_all spells_member members ≡ true → list_all spells_struct (struct_of unit.name members) ≡ true
   struct_by [] h = refl
@@ -156,26 +143,20 @@ module _ (structs : List StructDef) (units : List UnitDef) (entry k : ℕ) (unit
 
   -- ---- parameters and locals
 
-  params_by : (base : ℕ) (vars : List Var) → base + length vars ≤ 2 ^ 64 →
-      list_all (λ (var : Var). type_stands (length structs) var.ty) vars ≡ true →
-      list_all spells_param (params_from structs unit.vars base vars) ≡ true
-  params_by base [] room h = refl
-  params_by base (var ∷ rest) room h =
-      let small : base < 2 ^ 64 = omega (arith, room) in
-      let later : (base + 1) + length rest ≤ 2 ^ 64 = omega (arith, room) in
-      both (spells_param (param_of structs unit.vars base var)) (list_all spells_param (params_from structs unit.vars (base + 1) rest))
-      (both (spells_type (c_type structs var.ty)) (is_name (variable_name unit.vars base))
-      (spelled var (and_left (type_stands (length structs) var.ty) (list_all (λ (var : Var). type_stands (length structs) var.ty) rest) h))
-      (variable-name unit.vars base own_vars small))
-      (params_by (base + 1) rest later
-      (and_right (type_stands (length structs) var.ty) (list_all (λ (var : Var). type_stands (length structs) var.ty) rest) h))
-
   pub params-spelled : list_all spells_param (params_from structs unit.vars 0 (parameters_of unit)) ≡ true
   params-spelled =
-      let some : length (parameters_of unit) ≤ length unit.vars = taken_few (unit.inputs + unit.outputs) unit.vars in
-      let room : 0 + length (parameters_of unit) ≤ 2 ^ 64 = omega (arith, some, few) in
-      params_by 0 (parameters_of unit) room
-      (taken_all (λ (var : Var). type_stands (length structs) var.ty) (unit.inputs + unit.outputs) unit.vars stand)
+      ap (list_all spells_param) (params_made structs unit.vars 0 (parameters_of unit))
+      ∙ all_made spells_param every (param_of structs unit.vars) 0 (parameters_of unit)
+      (λ i j var at found.
+      let in_vars : slice_get unit.vars j ≡ Some var = taken_there unit.vars (unit.inputs + unit.outputs) j var found in
+      both (spells_type (c_type structs var.ty)) (is_name (variable_name unit.vars i)) (spelled var (typed j var in_vars)) (own_named i j var at in_vars))
+
+  variables_by : list_all spells_local (locals_from site 0 unit.vars) ≡ true
+  variables_by =
+      ap (list_all spells_local) (locals_made site 0 unit.vars)
+      ∙ all_made spells_local (has_local site) (variable_local structs unit.vars) 0 unit.vars
+      (λ i j var at found.
+      both (spells_type (c_type structs var.ty)) (is_name (variable_name unit.vars i)) (spelled var (typed j var found)) (own_named i j var at found))
 
   flags_by : (n : ℕ) → n ≤ 2 ^ 64 → list_all spells_local (flag_locals n) ≡ true
   flags_by zero room = refl
@@ -192,6 +173,12 @@ module _ (structs : List StructDef) (units : List UnitDef) (entry k : ℕ) (unit
       both (spells_local (record { ty = of_struct; name = codes "m" })) true
       (both (spells_type of_struct) (is_name (codes "m")) (name-struct (memory_name unit.name) (memory-named unit.name own_name)) memory-name) refl
 
+  locals_by : (n : ℕ) → n ≤ 2 ^ 64 → list_all spells_local (variable_locals site unit ++ flag_locals n) ≡ true
+  locals_by n room =
+      let memory : List CLocal = memory_local unit.name (holds_any site unit.vars) in
+      all_append spells_local (variable_locals site unit) (flag_locals n)
+      (all_append spells_local memory (locals_from site 0 unit.vars) (memory_by (holds_any site unit.vars)) variables_by) (flags_by n room)
+
   returned_by : (r : Option ScalarType) → spells_returned (option_map c_scalar r) ≡ true
   returned_by None = refl
   returned_by (Some s) = scalar_spelled s
@@ -199,14 +186,17 @@ module _ (structs : List StructDef) (units : List UnitDef) (entry k : ℕ) (unit
   -- ---- statements
 
   module _ (fit : ExpressionsFit structs units entry) (fit_places : PlacesFit structs units entry) where
+    own_by : (d j : ℕ) → 1 ≤ d → j < 2 ^ 64 → place_fits d (place_in site j []) ≡ true
+    own_by d j low small =
+        own-fits site few names earlier_named own_vars typed (λ e ty typed. fit k unit e ty keeps there few typed)
+        (λ path ty typed. fit_places k unit path ty keeps there few typed) d j low small
+
     copied_by : (d base : ℕ) → 1 ≤ d → base < 2 ^ 64 → (home : Home) → stmts_fit d (input_copied site home base) ≡ true
-    copied_by d base low small Given = refl
+    copied_by d base low small Local = refl
     copied_by d base low small Lent = refl
     copied_by d base low small Held =
         one-fits d (c_input_copied site base)
-        (set-fits d nowhere (place_in site base []) (c_read (c_place true (variable_name unit.vars base) []))
-        (own-fits site few names earlier_named own_vars typed (λ e ty typed. fit k unit e ty keeps there few typed)
-        (λ path ty typed. fit_places k unit path ty keeps there few typed) d base low small)
+        (set-fits d nowhere (place_in site base []) (c_read (c_place true (variable_name unit.vars base) [])) (own_by d base low small)
         (read-fits d nowhere (c_place true (variable_name unit.vars base) [])
         (place-fits d true (variable_name unit.vars base) [] low (variable-name unit.vars base own_vars small) refl)))
 
@@ -231,12 +221,29 @@ module _ (structs : List StructDef) (units : List UnitDef) (entry k : ℕ) (unit
     read_by d low (Some j) false is =
         let found = held_there site unit.vars j is in
         let less : j < length unit.vars = slice_get_within unit.vars j found.0 found.1 in
-        let small : j < 2 ^ 64 = omega (arith, less, few) in
-        let own =
-        own-fits site few names earlier_named own_vars typed (λ e ty typed. fit k unit e ty keeps there few typed)
-        (λ path ty typed. fit_places k unit path ty keeps there few typed) d j low small in
+        let own = own_by d j low (omega (arith, less, few)) in
         one-fits d (c_set_again site j)
         (set-fits d nowhere (place_in site j []) (c_read (place_in site j [])) own (read-fits d nowhere (place_in site j []) own))
+
+    again_by : (d j : ℕ) → 3 ≤ d → j < 2 ^ 64 → (local reads : Bool) → stmts_fit d (local_again site j local reads) ≡ true
+    again_by d j low small true true = refl
+    again_by d j low small false reads = refl
+    again_by d j low small true false =
+        let s : ScalarType = scalar_at (var_at site j) in
+        let value : CExpr = hidden s (c_read (place_in site j [])) in
+        one-fits d (c_local_again site j)
+        (set-fits d nowhere (place_in site j []) value (own_by d j (omega (arith, low)) small)
+        (expr_fits-more (2 + 1) d value low
+        (hidden-fits 2 4 (omega arith) (omega arith) s (c_read (place_in site j []))
+        (read-fits 2 nowhere (place_in site j []) (own_by 2 j (omega arith) small)))))
+
+    locals_again_by : (d base : ℕ) (code : List CStmt) (vars : List Var) → 3 ≤ d → base + length vars ≤ 2 ^ 64 →
+        stmts_fit d (locals_again site code base vars) ≡ true
+    locals_again_by d base code [] low room = refl
+    locals_again_by d base code (var ∷ rest) low room =
+        let reads : Bool = reads_in_block (variable_name unit.vars base) code in
+        all_append (stmt_fits d) (local_again site base (has_local site var) reads) (locals_again site code (base + 1) rest)
+        (again_by d base low (omega (arith, room)) (has_local site var) reads) (locals_again_by d (base + 1) code rest low (omega (arith, room)))
 
     shallow : (nat_le (block 0 (map depth_of unit.body)).blocks 200 && nat_le (of_all (map depth_of unit.body)).exprs 200) ≡ true
     shallow =
@@ -268,14 +275,16 @@ module _ (structs : List StructDef) (units : List UnitDef) (entry k : ℕ) (unit
 
     pub function-fits : IsNumbered structs (take k units) unit → func_fits 2000 (function_code structs (take k units) unit) ≡ true
     function-fits numbers =
+        let code : List CStmt = body_code site unit in
         let some : length (inputs_of unit) ≤ length unit.vars = taken_few unit.inputs unit.vars in
         let room : 0 + length (inputs_of unit) ≤ 2 ^ 64 = omega (arith, some, few) in
         func-fits 1999 2000 (function_code structs (take k units) unit) (omega arith) (omega arith) (returned_by unit.result)
         (name-function (unit_name unit.name) (name-with_prefix (codes "a_") unit.name refl (source_name unit.name own_name))) params-spelled
-        (all_append spells_local (memory_local unit.name (holds_any site unit.vars)) (flag_locals (body_coded site unit).free.flags)
-        (memory_by (holds_any site unit.vars)) (flags_by (body_coded site unit).free.flags numbers.flags))
-        (all_append (stmt_fits 1999) (read_code site (first_held site 0 unit.vars) (reads_in_block (body_code site unit))) (body_code site unit)
-        (read_by 1999 (omega arith) (first_held site 0 unit.vars) (reads_in_block (body_code site unit)) refl)
+        (locals_by (body_coded site unit).free.flags numbers.flags)
+        (all_append (stmt_fits 1999) (again_code site unit code) code
+        (all_append (stmt_fits 1999) (read_code site (first_held site 0 unit.vars) (reads_in_block (codes "m") code)) (locals_again site code 0 unit.vars)
+        (read_by 1999 (omega arith) (first_held site 0 unit.vars) (reads_in_block (codes "m") code) refl)
+        (locals_again_by 1999 0 code unit.vars (omega arith) (omega (arith, few))))
         (all_append (stmt_fits 1999) (copies_from site 0 (inputs_of unit))
         ((body_coded site unit).code ++ end_code unit.result (code_returns (body_coded site unit).code))
         (copies_by 1999 0 (inputs_of unit) (omega arith) room)

@@ -3,7 +3,7 @@ use Rattle.std.proofs.Common.{◌≡◌, ℕ, zero, suc, ◌+◌, ◌*◌, ◌^�
 use Rattle.std.proofs.Common.{pos, Bool, true, false, ◌&&◌, List, [], ◌∷◌, ◌++◌, map}
 use Rattle.std.proofs.Common.{length, Option, Some, None, refl, sym, ◌∙◌, subst, arith}
 use Rattle.std.proofs.lemmas.List.Elements.{All-head, All-tail}
-use Rattle.std.specs.Prelude.{option_map, slice_get}
+use Rattle.std.specs.Prelude.{option_map, slice_get, if◌then◌else◌}
 use Rattle.std.specs.List.{list_all}
 use Rattle.bl_tree.specs.declared.c.CExpr.{CExpr}
 use Rattle.bl_tree.specs.declared.c.CStmt.{CStmt}
@@ -46,6 +46,7 @@ use Rattle.bl_emit_functions.specs.Statements.{
   arm_codes,
   arm_taken,
   arms_taken,
+  assigned_code,
   block_codes,
   branch_codes,
   break_code,
@@ -58,6 +59,7 @@ use Rattle.bl_emit_functions.specs.Statements.{
   flagged_code,
   kind_codes,
   loop_code,
+  sets_itself,
   stmt_codes,
   turn_taken,
   untaken_code,
@@ -355,6 +357,14 @@ module _ (site : TypingContext) (few : length site.vars ≤ 2 ^ 64)
   return_good d None (Some s) fitted le = absurd (cc)
   return_good d None None fitted le = only_good d (c_return None ∷ []) (one-fits d (c_return None) (end-fits d))
 
+  assigned_by : (d : ℕ) (path : Path) (e : Expr) → stmt_fits d (c_set (stands site path).place (code_made site e)) ≡ true →
+      stmts_fit d (assigned_code site path e) ≡ true
+  assigned_by d path e is = by (sets_itself path e)
+    where
+      by : (itself : Bool) → stmts_fit d (if itself then [] else c_set (stands site path).place (code_made site e) ∷ []) ≡ true
+      by true = refl
+      by false = one-fits d (c_set (stands site path).place (code_made site e)) is
+
   as_codes : (d : ℕ) (a b : Codes) → a ≡ b → Good d b → Good d a
   as_codes d a b is good = subst (Good d) (sym is) good
 
@@ -364,7 +374,7 @@ module _ (site : TypingContext) (few : length site.vars ≤ 2 ^ 64)
     declare_codes k initial = rw (fold-roll-Stmt, fold-roll-StmtKind) refl
 
     assign_codes : (path : Path) (e : Expr) → codes_of site (stmt place (StmtKind-F.Assign path e))
-        ≡ (λ free. record { code = c_set (stands site path).place (code_made site e) ∷ []; free = free })
+        ≡ (λ free. record { code = assigned_code site path e; free = free })
     assign_codes path e = rw (fold-roll-Stmt, fold-roll-StmtKind) refl
 
     call_codes : (f : ℕ) (inputs : List Expr) (outputs : List Path) → codes_of site (stmt place (StmtKind-F.Call f inputs outputs))
@@ -421,8 +431,8 @@ module _ (site : TypingContext) (few : length site.vars ≤ 2 ^ 64)
         let deep = rw (fold-roll-Stmt, fold-roll-StmtKind) at le in
         let room_for : room (max (path_depth path) (expr_depth e)) ≤ d = omega (arith, deep) in
         as_codes d _ _ (assign_codes path e)
-        (only_good d (c_set (stands site path).place (code_made site e) ∷ [])
-        (one-fits d (c_set (stands site path).place (code_made site e))
+        (only_good d (assigned_code site path e)
+        (assigned_by d path e
         (assigned-fits site few names named vars_named typed_vars exprs paths d path e (rw (fold-roll-Stmt, fold-roll-StmtKind) at fitted) room_for)))
 
     call_case : (f : ℕ) (inputs : List Expr) (outputs : List Path) → S (stmt place (StmtKind-F.Call f inputs outputs))

@@ -11,24 +11,24 @@ use Rattle.bl_tree.specs.declared.text.Text.{Text}
 use Rattle.bl_tree.specs.declared.tree.StructDef.{StructDef}
 use Rattle.bl_tree.specs.declared.tree.Unit.{Unit as UnitDef}
 use Rattle.bl_tree.specs.declared.tree.Var.{Var}
-use Rattle.bl_tree.specs.Typing.{TypingContext, inputs_of, outputs_of, site_of}
+use Rattle.bl_tree.specs.Typing.{TypingContext, inputs_of, outputs_of, site_of, var_at}
 use Rattle.bl_emit_acts.specs.declared.home.Home.{Home}
-use Rattle.bl_emit_acts.specs.declared.home.Home.TheVariants.{Held, Given, Lent}
+use Rattle.bl_emit_acts.specs.declared.home.Home.TheVariants.{Held, Local, Lent}
 use Rattle.bl_emit_acts.specs.Acts.{c_calling, c_clear}
+use Rattle.bl_emit_acts.specs.Expressions.{hidden, scalar_at}
 use Rattle.bl_emit_acts.specs.Places.{home_of, place_in}
 use Rattle.bl_emit_acts.specs.Trees.{c_call, c_literal, c_place, c_read, c_step}
 use Rattle.bl_emit_acts.specs.Types.{c_scalar, unit_name, variable_name}
-use Rattle.bl_emit_functions.specs.Functions.{body_code, body_coded, c_input_copied, copies_from, end_code, function_code, input_copied, none_taken}
-use Rattle.bl_emit_functions.specs.Functions.{code_returns}
-use Rattle.bl_emit_functions.specs.Functions.{c_set_again, first_held, read_code}
+use Rattle.bl_emit_functions.specs.Functions.{again_code, body_code, body_coded, c_input_copied, c_local_again, c_set_again, code_returns, copies_from}
+use Rattle.bl_emit_functions.specs.Functions.{end_code, first_held, function_code, has_local, input_copied, local_again, locals_again, none_taken, read_code}
 use Rattle.bl_emit_functions.specs.Trees.{c_if, c_return_zero}
 use Rattle.bl_emit_functions.specs.Reads.{reads_in_block}
 use Rattle.bl_emit_spec.specs.Blocks.{unit_may_end, stmt_where, arg_where}
 use Rattle.bl_emit_spec.specs.Programs.{c_returned, init_function, input_arg, output_arg, tick_args, tick_function}
 use Rattle.bl_emit_laws.specs.Counters.Own.{is_counter_name, names_counter}
 use Rattle.bl_emit_laws.specs.Counters.Places.{CPath, places_in_arg, places_named}
-use Rattle.bl_emit_laws.proofs.OnCounters.Expressions.{ArgsFine, PlaceFine, address-fine, first-arg, literal-fine, member-fine, own_fine, place-fine}
-use Rattle.bl_emit_laws.proofs.OnCounters.Expressions.{read-fine, root-fine, value-fine}
+use Rattle.bl_emit_laws.proofs.OnCounters.Expressions.{ArgsFine, PlaceFine, address-fine, first-arg, hidden-fine, literal-fine, member-fine, own_fine}
+use Rattle.bl_emit_laws.proofs.OnCounters.Expressions.{place-fine, read-fine, root-fine, value-fine}
 use Rattle.bl_emit_laws.proofs.OnCounters.Fine.{Fine, both-fine}
 use Rattle.bl_emit_laws.proofs.OnCounters.Statements.{CodeFine, body_fine, calling-fine, clear-fine, first_stmt, if-fine, one_stmt, return-fine, set-fine}
 use Rattle.bl_emit_laws.proofs.OnCounters.Statements.{then_code, where_code}
@@ -41,7 +41,7 @@ module _ (P : CPath → Type 0) (plain : (place : CPath) → names_counter place
       one_stmt P plain (c_input_copied site k)
       (set-fine P plain (place_in site k []) (c_read (c_place true (variable_name site.vars k) [])) (own_fine P plain site k)
       (read-fine P plain (c_place true (variable_name site.vars k) []) (root-fine P plain true (variable_name site.vars k))))
-  input_fine site Given k = tt
+  input_fine site Local k = tt
   input_fine site Lent k = tt
 
   inputs_fine : (site : TypingContext) (k : ℕ) (vars : List Var) → CodeFine P plain (copies_from site k vars)
@@ -65,6 +65,28 @@ module _ (P : CPath → Type 0) (plain : (place : CPath) → names_counter place
       (set-fine P plain (place_in site k []) (c_read (place_in site k [])) (own_fine P plain site k)
       (read-fine P plain (place_in site k []) (own_fine P plain site k)))
 
+  local_fine : (site : TypingContext) (k : ℕ) (local reads : Bool) → CodeFine P plain (local_again site k local reads)
+  local_fine site k true false =
+      let read = c_read (place_in site k []) in
+      one_stmt P plain (c_local_again site k)
+      (set-fine P plain (place_in site k []) (hidden (scalar_at (var_at site k)) read) (own_fine P plain site k)
+      (hidden-fine P plain (scalar_at (var_at site k)) read (read-fine P plain (place_in site k []) (own_fine P plain site k))))
+  local_fine site k true true = tt
+  local_fine site k false reads = tt
+
+  locals_fine : (site : TypingContext) (code : List CStmt) (k : ℕ) (vars : List Var) → CodeFine P plain (locals_again site code k vars)
+  locals_fine site code k [] = tt
+  locals_fine site code k (var ∷ rest) =
+      let reads : Bool = reads_in_block (variable_name site.vars k) code in
+      then_code P plain (local_again site k (has_local site var) reads) (locals_again site code (k + 1) rest) (local_fine site k (has_local site var) reads)
+      (locals_fine site code (k + 1) rest)
+
+  again_fine : (site : TypingContext) (unit : UnitDef) (code : List CStmt) → CodeFine P plain (again_code site unit code)
+  again_fine site unit code =
+      let held : List CStmt = read_code site (first_held site 0 unit.vars) (reads_in_block (codes "m") code) in
+      then_code P plain held (locals_again site code 0 unit.vars) (read_fine site (first_held site 0 unit.vars) (reads_in_block (codes "m") code))
+      (locals_fine site code 0 unit.vars)
+
   body_named : (site : TypingContext) (unit : UnitDef) → CodeFine P plain (body_code site unit)
   body_named site unit =
       then_code P plain (copies_from site 0 (inputs_of unit)) ((body_coded site unit).code ++ end_code unit.result (code_returns (body_coded site unit).code))
@@ -76,8 +98,7 @@ module _ (P : CPath → Type 0) (plain : (place : CPath) → names_counter place
   pub function-fine : (structs : List StructDef) (earlier : List UnitDef) (unit : UnitDef) → Fine P (places_named (function_code structs earlier unit))
   function-fine structs earlier unit =
       let site = site_of structs earlier unit in
-      then_code P plain (read_code site (first_held site 0 unit.vars) (reads_in_block (body_code site unit))) (body_code site unit)
-      (read_fine site (first_held site 0 unit.vars) (reads_in_block (body_code site unit))) (body_named site unit)
+      then_code P plain (again_code site unit (body_code site unit)) (body_code site unit) (again_fine site unit (body_code site unit)) (body_named site unit)
 
   -- ---- those of the interface
 

@@ -2,7 +2,7 @@
 use Rattle.std.proofs.Common.{◌≡◌, ℕ, pos, Bool, true, false, List, [], ◌∷◌, ◌++◌, map, Option, Some, None}
 use Rattle.std.proofs.Common.{sym, subst}
 use Rattle.std.proofs.lemmas.List.Elements.{All-cons, All-head, All-nil, All-tail}
-use Rattle.std.specs.Prelude.{All, option_map, slice_get}
+use Rattle.std.specs.Prelude.{All, option_map, slice_get, if◌then◌else◌}
 use Rattle.bl_tree.specs.declared.c.CArg.{CArg}
 use Rattle.bl_tree.specs.declared.c.CExpr.{CExpr}
 use Rattle.bl_tree.specs.declared.c.CPlace.{CPlace}
@@ -28,9 +28,9 @@ use Rattle.bl_emit_acts.specs.Trees.{c_call, c_literal, c_place, c_read, c_two}
 use Rattle.bl_emit_acts.specs.Types.{c_scalar, copy_name, type_name}
 use Rattle.bl_emit_functions.specs.declared.coded.Coded.{Coded}
 use Rattle.bl_emit_functions.specs.declared.coded.Free.{Free}
-use Rattle.bl_emit_functions.specs.Statements.{ArmCodes, Codes, arm_codes, arms_taken, block_codes, branch_codes, break_code, choice_code, codes_of}
-use Rattle.bl_emit_functions.specs.Statements.{codes_of_arm, either_code, else_code, flag_taken, flagged_code, kind_codes, loop_code, stmt_codes}
-use Rattle.bl_emit_functions.specs.Statements.{turn_taken, untaken_code}
+use Rattle.bl_emit_functions.specs.Statements.{ArmCodes, Codes, arm_codes, arms_taken, assigned_code, block_codes, branch_codes, break_code, choice_code}
+use Rattle.bl_emit_functions.specs.Statements.{codes_of, codes_of_arm, either_code, else_code, flag_taken, flagged_code, kind_codes, loop_code, sets_itself}
+use Rattle.bl_emit_functions.specs.Statements.{stmt_codes, turn_taken, untaken_code}
 use Rattle.bl_emit_functions.specs.Trees.{c_break, c_if, c_loop, c_return, c_truth, flag_name, flag_place, turn_name}
 use Rattle.bl_emit_spec.specs.Blocks.{stmt_where}
 use Rattle.bl_emit_laws.specs.Counters.Own.{names_counter}
@@ -208,6 +208,14 @@ module _ (P : CPath → Type 0) (plain : (place : CPath) → names_counter place
         one_stmt (c_set (stands site path).place (code_made site e))
         (set-fine (stands site path).place (code_made site e) (path_fine P plain site path) (code_fine e))
 
+    -- a function has no C for one that sets a variable to itself
+    assignment_fine : (path : Path) (e : Expr) → CodeFine (assigned_code site path e)
+    assignment_fine path e = by (sets_itself path e)
+      where
+        by : (itself : Bool) → CodeFine (if itself then [] else c_set (stands site path).place (code_made site e) ∷ [])
+        by true = tt
+        by false = assigned_fine path e
+
     -- ---- calls
 
     outputs_fine : (outputs : List Path) → ArgsFine P plain (map (output_arg site) outputs)
@@ -268,7 +276,7 @@ module _ (P : CPath → Type 0) (plain : (place : CPath) → names_counter place
     cases : Cases OfStmt
     cases = record {
       declare = λ place k initial free. rw (fold-roll-Stmt, fold-roll-StmtKind) (declared_fine [] k initial);
-      assign = λ place path e free. rw (fold-roll-Stmt, fold-roll-StmtKind) (assigned_fine path e);
+      assign = λ place path e free. rw (fold-roll-Stmt, fold-roll-StmtKind) (assignment_fine path e);
       call = λ place f inputs outputs free. rw (fold-roll-Stmt, fold-roll-StmtKind) (call_fine f inputs outputs);
       await = λ place e free. rw (fold-roll-Stmt, fold-roll-StmtKind) tt;
       run = λ place target a inputs outputs free. rw (fold-roll-Stmt, fold-roll-StmtKind) tt;

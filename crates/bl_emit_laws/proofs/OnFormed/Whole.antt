@@ -4,7 +4,7 @@ use Rattle.std.proofs.Common.{drop, length, Option, Some, None, refl, sym, ap, �
 use Rattle.std.proofs.lemmas.Bool.{cases_lt}
 use Rattle.std.proofs.lemmas.Option.{slice_get_within}
 use Rattle.std.specs.Option.{option_or}
-use Rattle.std.specs.Prelude.{is_none, is_some, slice_get, unwrap_or, if◌then◌else◌}
+use Rattle.std.specs.Prelude.{is_none, is_some, slice_get, unwrap_or}
 use Rattle.std.specs.List.{list_all}
 use Rattle.bl_tree.specs.declared.c.CFunc.{CFunc}
 use Rattle.bl_tree.specs.declared.c.CMember.{CMember}
@@ -22,7 +22,6 @@ use Rattle.bl_eval.proofs.PassLemmas.{and_left, and_right}
 use Rattle.bl_limits.specs.Rules.{Passes}
 use Rattle.bl_limits_measures.specs.Units.{chain_at}
 use Rattle.bl_ctext_semantics.specs.Faults.{
-  Fault,
   Signature,
   WellFormed,
   depth_of_function,
@@ -33,8 +32,6 @@ use Rattle.bl_ctext_semantics.specs.Faults.{
   last_two,
   faults_of_two,
   signature_in,
-  struct_faults_after,
-  struct_table,
   unless,
 }
 use Rattle.bl_ctext_semantics.specs.Faults as faults
@@ -67,10 +64,6 @@ two_last funcs f g =
     let long = two_length funcs f g in
     let same : length (funcs ++ f ∷ g ∷ []) - 2 ≡ length funcs = omega (arith, long) in
     ap (λ n. drop n (funcs ++ f ∷ g ∷ [])) same ∙ drop_front funcs (f ∷ g ∷ [])
-
-stays : {A : Type 0} (o : Option A) (b : Bool) (new s : A) → o ≡ Some s → option_or o (if b then Some new else None) ≡ Some s
-stays None b new s is = absurd (cc)
-stays (Some t) b new s is = is
 
 none_more : {A : Type 0} (o : Option A) → option_or o None ≡ o
 none_more None = refl

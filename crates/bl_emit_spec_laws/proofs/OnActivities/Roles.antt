@@ -5,8 +5,6 @@ use Rattle.std.proofs.Common.{refl, sym, ap, ◌∙◌, subst, arith}
 use Rattle.std.proofs.lemmas.Option.{same_Some}
 use Rattle.std.specs.List.{list_all}
 use Rattle.std.specs.Prelude.{is_some, nat_le, slice_get}
-use Rattle.bl_tree.specs.declared.tree.Role.{Role}
-use Rattle.bl_tree.specs.declared.tree.Role.TheVariants.{Input, Output, Variable, Fixed}
 use Rattle.bl_tree.specs.declared.tree.StructDef.{StructDef}
 use Rattle.bl_tree.specs.declared.tree.Unit.{Unit as UnitDef}
 use Rattle.bl_tree.specs.declared.tree.Var.{Var}
@@ -17,8 +15,9 @@ use Rattle.bl_tree.specs.Returns.{unit_returns}
 use Rattle.bl_tree.specs.Types.{scalar_in, type_stands}
 use Rattle.bl_tree.specs.Typing.{TypingContext, fits, inputs_of, is_fixed, is_variable, outputs_of, site_of, var_at}
 use Rattle.bl_tree.specs.Words.{are_distinct, is_name}
-use Rattle.bl_emit_acts.specs.Places.{copies_inputs, home_of, home_of_role}
-use Rattle.bl_emit_acts.specs.declared.home.Home.TheVariants.{Held, Lent}
+use Rattle.bl_emit_acts.specs.Places.{copies_inputs, home_of, is_alone}
+use Rattle.bl_emit_acts.specs.declared.home.Home.TheVariants.{Lent}
+use Rattle.bl_emit_acts_laws_simulation.proofs.Homes.{declared_home, declared_unlent, output_home}
 use Rattle.bl_emit_acts_laws_simulation.specs.Encodes.{home_at}
 use Rattle.bl_emit_spec_laws.proofs.OnActivities.Lists.{get_drop, get_take}
 
@@ -103,24 +102,8 @@ put_drop {A = A} (suc m) (y ∷ xs) k x there =
 
 -- an output of an activity is lent
 pub output_lent : (site : TypingContext) (x : ℕ) (var : Var) → var_at site x ≡ Some var → is_output var.role ≡ true → home_at site x ≡ Lent
-output_lent site x var there output = ap (home_of site) there ∙ by var.role output
-  where
-    by : (role : Role) → is_output role ≡ true → home_of_role role (is_some (scalar_in var.ty)) (copies_inputs site) ≡ Lent
-    by Input is = absurd (cc)
-    by Output is = refl
-    by Variable is = absurd (cc)
-    by Fixed is = absurd (cc)
-
--- and so stands at no local
-local_held : (site : TypingContext) (x : ℕ) (var : Var) → var_at site x ≡ Some var → (is_variable var.role || is_fixed var.role) ≡ true →
-    home_at site x ≡ Held
-local_held site x var there local = ap (home_of site) there ∙ by var.role local
-  where
-    by : (role : Role) → (is_variable role || is_fixed role) ≡ true → home_of_role role (is_some (scalar_in var.ty)) (copies_inputs site) ≡ Held
-    by Input is = absurd (cc)
-    by Output is = absurd (cc)
-    by Variable is = refl
-    by Fixed is = refl
+output_lent site x var there output =
+    ap (home_of site) there ∙ output_home (is_alone site var.ty) var.role (is_some (scalar_in var.ty)) (copies_inputs site) output
 
 no_such : true ≡ false → ⊥
 no_such h = cc
@@ -143,9 +126,6 @@ pub record OutputAt (unit : UnitDef) (x : ℕ) (var : Var) : Type 0 where
   pub position : ℕ
   pub is : x ≡ unit.inputs + position
   pub there : slice_get (outputs_of unit) position ≡ Some var
-
-held_lent : Held ≡ Lent → ⊥
-held_lent is = cc
 
 -- what is lent and no input is an output
 pub lent_output : (site : TypingContext) (unit : UnitDef) (x : ℕ) (var : Var) → Roles unit → site.vars ≡ unit.vars → var_at site x ≡ Some var →
@@ -176,7 +156,9 @@ lent_output site unit x var roles same there lent input = by (within x unit.inpu
         let is : x ≡ unit.inputs + unit.outputs + k = behind.1 in
         let one = all_at (λ (v : Var). is_variable v.role || is_fixed v.role) (locals_of unit) k var roles.locals
         (put_drop (unit.inputs + unit.outputs) unit.vars k var (subst (λ (n : ℕ). slice_get unit.vars n ≡ Some var) is is_there)) in
-        absurd (held_lent (sym (local_held site x var there one) ∙ lent))
+        absurd (declared_unlent (is_alone site var.ty)
+        (sym (declared_home (is_alone site var.ty) var.role (is_some (scalar_in var.ty)) (copies_inputs site) one)
+        ∙ sym (ap (home_of site) there) ∙ lent))
 
 -- an output at a position among the outputs stands so much further on
 pub output_at : (site : TypingContext) (unit : UnitDef) (k : ℕ) (var : Var) → Roles unit → site.vars ≡ unit.vars → slice_get (outputs_of unit) k

@@ -12,7 +12,7 @@ use Rattle.bl_tree.specs.Typing.{TypingContext, is_activity, var_at}
 use Rattle.bl_ctext_semantics.specs.Meaning.{Scope, further, named_location}
 use Rattle.bl_ctext_semantics.specs.Memory.{Location, Projection, Root, input_object, member, output_object, same_root, state_object, variable}
 use Rattle.bl_emit_acts.specs.declared.home.Home.{Home}
-use Rattle.bl_emit_acts.specs.declared.home.Home.TheVariants.{Held, Given, Lent}
+use Rattle.bl_emit_acts.specs.declared.home.Home.TheVariants.{Held, Local, Lent}
 use Rattle.bl_emit_acts.specs.Types.{copy_name, variable_name}
 use Rattle.bl_emit_acts_laws_simulation.specs.Acts.{copy_location}
 use Rattle.bl_emit_acts_laws_simulation.specs.Frames.{is_older, lent_at, remembered_at}
@@ -188,8 +188,8 @@ module _ (scope : Scope) (has : Registered) (frame : FramePointersAreValid has.o
     local_by name k var there no_m no_v false Held kind is =
         roots_differ (local_at name) (place_of false Held k) (own_differ scope.depth name (codes "m") no_m)
     local_by name k var there no_m no_v true Held kind is = local_older name (place_of true Held k) (older.remembered k var there is kind)
-    local_by name k var there no_m no_v activity Given kind is =
-        roots_differ (local_at name) (place_of activity Given k) (own_differ scope.depth name (variable_name site.vars k) no_v)
+    local_by name k var there no_m no_v activity Local kind is =
+        roots_differ (local_at name) (place_of activity Local k) (own_differ scope.depth name (variable_name site.vars k) no_v)
     local_by name k var there no_m no_v activity Lent kind is = local_older name (place_of activity Lent k) (older.lent k var there is)
 
     -- so does what lies behind a pointer that leads elsewhere
@@ -202,9 +202,9 @@ module _ (scope : Scope) (has : Registered) (frame : FramePointersAreValid has.o
         (roots_differ (place_of false Held k) (further place more) (older_differs scope.depth (codes "m") place.root old))
     behind_by place more old from k var there true Held kind is =
         further_apart place (remembered_at scope) more (lead_in Held site.vars k ++ []) (from.remembered k var there is kind)
-    behind_by place more old from k var there activity Given kind is =
-        apart_flip (place_of activity Given k) (further place more)
-        (roots_differ (place_of activity Given k) (further place more) (older_differs scope.depth (variable_name site.vars k) place.root old))
+    behind_by place more old from k var there activity Local kind is =
+        apart_flip (place_of activity Local k) (further place more)
+        (roots_differ (place_of activity Local k) (further place more) (older_differs scope.depth (variable_name site.vars k) place.root old))
     behind_by place more old from k var there activity Lent kind is =
         further_apart place (lent_at scope site.vars k) more (lead_in Lent site.vars k ++ []) (from.lent k var there is)
 

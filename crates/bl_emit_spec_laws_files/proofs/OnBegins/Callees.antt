@@ -1,5 +1,5 @@
 -- What an activity keeps of all that it calls, in other words.
-use Rattle.std.proofs.Common.{◌≡◌, ℕ, ◌<◌, pos, true, false, List, [], ◌∷◌, ◌++◌, length, Some}
+use Rattle.std.proofs.Common.{◌≡◌, ℕ, ◌<◌, pos, true, List, [], ◌∷◌, ◌++◌, length, Some}
 use Rattle.std.proofs.Common.{refl, ap, ◌∙◌, subst}
 use Rattle.std.specs.Prelude.{Contains, slice_get}
 use Rattle.bl_tree.specs.declared.place.Place.{Place}
@@ -27,10 +27,7 @@ use Rattle.bl_emit_spec_laws.specs.Calls.Laws.{CompilationContext}
 use Rattle.bl_emit_spec_laws.specs.Calls.Memories as memories
 use Rattle.bl_emit_spec_laws.specs.Calls.Memories.{MemoryEncodes, Nests, inner}
 use Rattle.bl_emit_spec_laws.specs.Activities.{CalleesRemember}
-use Rattle.bl_emit_spec_laws_files.proofs.OnBegins.Holders.{holder_remembers}
-
-no_such : true ≡ false → ⊥
-no_such h = cc
+use Rattle.bl_emit_spec_laws.proofs.OnActivities.Forgetting.{inner_remembers}
 
 module _ (w : Setting) (activities : Activities) where
   -- what lies inside has the same roots
@@ -50,14 +47,6 @@ module _ (structs : List StructDef) (units : List UnitDef) (entry : ℕ) (machin
     (compiled : CompilationContext structs units entry machine activities) (remember : CalleesRemember structs units entry machine activities) where
   abbrev W : Setting
   W = setting_of structs units entry
-
-  -- what holds a variable inside makes the activity remember
-  inner_remembers : {i k : ℕ} {f m f' m' : Location} → Nests W activities i f m k f' m' → (x : ℕ) (var : Var) →
-      var_at (site_at W activities k) x ≡ Some var → home_at (site_at W activities k) x ≡ Held →
-      remembers_any (activity_at W activities i) ≡ true
-  inner_remembers {i} memories.here x var there held = holder_remembers (activity_at W activities i) x var there held
-  inner_remembers {i} (memories.inside {j = j} {unit = unit} {l = l} {at = at} {arguments = arguments} is within calls rest) x var there held =
-      remember i j unit l at arguments compiled is within calls (inner_remembers rest x var there held)
 
   module _ (i : ℕ) (unit : UnitDef) (there : unit_at (setting_of structs units entry) i ≡ Some unit) (depth : ℕ) (frames : Frames)
       (store : Store)
@@ -87,7 +76,8 @@ module _ (structs : List StructDef) (units : List UnitDef) (entry : ℕ) (machin
         Encodes structs var.ty value (value_at after (further m' (member (variable_name (site_at W activities k).vars x) ∷ [])))
     variables_kept k f' m' nests x var value var_there held known =
         let remembers : remembers_any (activity_at W activities i) ≡ true =
-        remember i j unit l at arguments compiled there within calls (inner_remembers nests x var var_there held) in
+        remember i j unit l at arguments compiled there within calls
+        (inner_remembers structs units entry machine activities compiled remember nests x var var_there held) in
         let moved : Nests W activities j (inner f n) (inner m n) k f' m' =
         subst (λ (p : Location). Nests W activities j (inner f n) (inner p n) k f' m') (is remembers) nests in
         let before : Encodes structs var.ty value (value_at here (further m' (member (variable_name (site_at W activities k).vars x) ∷ []))) =

@@ -18,7 +18,7 @@ use Rattle.bl_emit_acts_laws_simulation.specs.Encodes.{are_apart, is_live}
 use Rattle.bl_emit_acts_laws_simulation.specs.Simulation.{ArgumentsEncoded}
 use Rattle.bl_emit_spec_laws.specs.Calls.Calls.{where_true}
 use Rattle.bl_emit_spec_laws_files.proofs.OnBegins.Cells.{apart_flip}
-use Rattle.bl_emit_spec_laws_files.proofs.OnBegins.Lists.{all_at}
+use Rattle.bl_emit_functions_laws_simulation.proofs.OnCalls.Lists.{all_at}
 
 -- ---- lists
 

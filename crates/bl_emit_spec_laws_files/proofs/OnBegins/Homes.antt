@@ -1,8 +1,7 @@
 -- Where each variable of a called activity stands, beside the argument that it gets.
-use Rattle.std.proofs.Common.{◌≡◌, ℕ, ◌+◌, ◌<◌, ◌≤◌, arith, Bool, true, false, not, ◌&&◌, ◌||◌, List, length}
+use Rattle.std.proofs.Common.{◌≡◌, ℕ, ◌+◌, ◌<◌, ◌≤◌, Bool, true, false, not, ◌&&◌, ◌||◌, List, length}
 use Rattle.std.proofs.Common.{Option, Some, None, refl, sym, ap, ◌∙◌}
-use Rattle.std.proofs.lemmas.Bool.{leb-true, ltb-false, ltb-true}
-use Rattle.std.proofs.lemmas.List.{length-take}
+use Rattle.std.proofs.lemmas.Bool.{ltb-false, ltb-true}
 use Rattle.std.specs.Prelude.{is_none, is_some, nat_eq, nat_le, nat_lt, slice_get}
 use Rattle.std.specs.List.{list_all}
 use Rattle.bl_tree.specs.declared.tree.Role.{Role}
@@ -15,23 +14,25 @@ use Rattle.bl_tree.specs.Program.{is_input, is_output, locals_of, parameters_of,
 use Rattle.bl_tree.specs.Types.{scalar_in}
 use Rattle.bl_tree.specs.Typing.{TypingContext, inputs_of, is_activity, is_fixed, is_variable, outputs_of, site_of, var_at}
 use Rattle.bl_eval.specs.Values.{number_in}
-use Rattle.bl_eval.proofs.PassLemmas.{and_left, and_right, get_take}
+use Rattle.bl_eval.proofs.PassLemmas.{and_right, get_take}
 use Rattle.bl_ctext_semantics.specs.Meaning.{ArgumentValue, by_address, by_value}
 use Rattle.bl_ctext_semantics.specs.Memory.{CValue, Location, Memory, value_at}
 use Rattle.bl_ctext_semantics.specs.Memory as memory
-use Rattle.bl_emit_acts.specs.declared.home.Home.TheVariants.{Held, Given, Lent}
-use Rattle.bl_emit_acts.specs.Places.{copies_inputs, home_of, home_of_role}
+use Rattle.bl_emit_acts.specs.declared.home.Home.TheVariants.{Held, Local, Lent}
+use Rattle.bl_emit_acts.specs.Places.{home_of, home_of_role}
 use Rattle.bl_emit_acts_laws_simulation.specs.Frames.{is_older}
 use Rattle.bl_emit_acts_laws_simulation.specs.Encodes.{Encodes, are_apart, home_at}
+use Rattle.bl_emit_acts_laws_simulation.proofs.Homes.{activity_home, declared_home}
 use Rattle.bl_emit_functions_laws_simulation.specs.Calls.{ArgFor, Handed, HandedOver}
-use Rattle.bl_emit_spec_laws_files.proofs.OnBegins.Lists.{front_all, middle_all, rest_all}
+use Rattle.bl_emit_functions_laws_simulation.proofs.OnCalls.Lists.{rest_all}
+use Rattle.bl_emit_functions_laws_simulation.proofs.OnCalls.Locals.{parameter_role}
 
 -- ---- homes
 
 -- a variable is a number that is given, or stands where a pointer leads that is given, or belongs to what the activity remembers
 pub data Where (site : TypingContext) (depth : ℕ) (here : Memory) (values : List Value) (passed : List ArgumentValue) (n j : ℕ) (var : Var) : Type 0 where
   number : (held : CValue) (value : Value) → slice_get passed j ≡ Some (by_value held) → slice_get values j ≡ Some value →
-      number_in value ≡ Some (memory.scalar_number held) → j < n → home_at site j ≡ Given → Where site depth here values passed n j var
+      number_in value ≡ Some (memory.scalar_number held) → j < n → home_at site j ≡ Local → Where site depth here values passed n j var
   place : (at : Location) (value : Value) → slice_get passed j ≡ Some (by_address at) → slice_get values j ≡ Some value →
       is_older depth at.root ≡ true → Encodes site.structs var.ty value (value_at here at) → j < n → home_at site j ≡ Lent →
       (is_input var.role || is_output var.role) ≡ true → Where site depth here values passed n j var
@@ -45,39 +46,25 @@ pub record LentTo (depth : ℕ) (passed : List ArgumentValue) (n j : ℕ) (var :
   pub less : j < n
   pub role : (is_input var.role || is_output var.role) ≡ true
 
-number_home : (role : Role) (scalar copies : Bool) → (is_input role || is_output role) ≡ true → is_output role ≡ false → scalar ≡ true →
-    home_of_role role scalar copies ≡ Given
-number_home Input true copies parameter isnt is = refl
-number_home Input false copies parameter isnt is = absurd (cc)
-number_home Output scalar copies parameter isnt is = absurd (cc)
-number_home Variable scalar copies parameter isnt is = absurd (cc)
-number_home Fixed scalar copies parameter isnt is = absurd (cc)
+number_home : (role : Role) (scalar : Bool) → (is_input role || is_output role) ≡ true → is_output role ≡ false → scalar ≡ true →
+    home_of_role false role scalar false ≡ Local
+number_home Input true parameter isnt is = refl
+number_home Input false parameter isnt is = absurd (cc)
+number_home Output scalar parameter isnt is = absurd (cc)
+number_home Variable scalar parameter isnt is = absurd (cc)
+number_home Fixed scalar parameter isnt is = absurd (cc)
 
 place_lent : (role : Role) (scalar : Bool) → (is_input role || is_output role) ≡ true → (is_output role || not scalar) ≡ true →
-    home_of_role role scalar false ≡ Lent
+    home_of_role false role scalar false ≡ Lent
 place_lent Input true parameter pointer = absurd (cc)
 place_lent Input false parameter pointer = refl
 place_lent Output scalar parameter pointer = refl
 place_lent Variable scalar parameter pointer = absurd (cc)
 place_lent Fixed scalar parameter pointer = absurd (cc)
 
-local_home : (role : Role) (scalar copies : Bool) → (is_variable role || is_fixed role) ≡ true → home_of_role role scalar copies ≡ Held
-local_home Input scalar copies h = absurd (cc)
-local_home Output scalar copies h = absurd (cc)
-local_home Variable scalar copies h = refl
-local_home Fixed scalar copies h = refl
-
 none_not : {A : Type 0} (o : Option A) → is_none o ≡ not (is_some o)
 none_not None = refl
 none_not (Some x) = refl
-
-either_left : (a b : Bool) → a ≡ true → (a || b) ≡ true
-either_left true b h = refl
-either_left false b h = absurd (cc)
-
-either_right : (a b : Bool) → b ≡ true → (a || b) ≡ true
-either_right true b h = refl
-either_right false b h = h
 
 output_of : (role : Role) → (is_input role || is_output role) ≡ true → is_input role ≡ false → is_output role ≡ true
 output_of Input h isnt = absurd (cc)
@@ -94,36 +81,11 @@ module _ (structs : List StructDef) (earlier : List UnitDef) (unit : UnitDef) (s
   abbrev n : ℕ
   n = unit.inputs + unit.outputs
 
-  no_copies : copies_inputs site ≡ false
-  no_copies = ap (λ activity. not activity && is_some unit.result) active
-
-  pub within : n ≤ length unit.vars
-  within = leb-true n (length unit.vars) (and_left _ _ standing)
-
-  pub parameters : length (parameters_of unit) ≡ n
-  parameters = omega (arith, length-take n unit.vars, within)
-
-  all_inputs : list_all (λ (var : Var). is_input var.role) (inputs_of unit) ≡ true
-  all_inputs = and_left _ _ (and_right _ _ standing)
-
-  all_outputs : list_all (λ (var : Var). is_output var.role) (outputs_of unit) ≡ true
-  all_outputs = and_left _ _ (and_right _ _ (and_right _ _ standing))
-
   role_of : (j : ℕ) (var : Var) → var_at site j ≡ Some var → j < n → (is_input var.role || is_output var.role) ≡ true
-  role_of j var there less = by (nat_lt j unit.inputs) refl
-    where
-      by : (first : Bool) → nat_lt j unit.inputs ≡ first → (is_input var.role || is_output var.role) ≡ true
-      by true is =
-          either_left (is_input var.role) (is_output var.role)
-          (front_all (λ (var : Var). is_input var.role) unit.inputs unit.vars j var all_inputs there (ltb-true j unit.inputs is))
-      by false is =
-          either_right (is_input var.role) (is_output var.role)
-          (middle_all (λ (var : Var). is_output var.role) unit.inputs unit.outputs unit.vars j var all_outputs there
-          (ltb-false j unit.inputs is) less)
+  role_of = parameter_role structs earlier unit standing
 
-  home_is : (j : ℕ) (var : Var) → var_at site j ≡ Some var →
-      home_at site j ≡ home_of_role var.role (is_some (scalar_in var.ty)) (copies_inputs site)
-  home_is j var there = ap (home_of site) there
+  home_is : (j : ℕ) (var : Var) → var_at site j ≡ Some var → home_at site j ≡ home_of_role false var.role (is_some (scalar_in var.ty)) false
+  home_is j var there = ap (home_of site) there ∙ activity_home site var active
 
   parameter_at : (j : ℕ) (var : Var) → var_at site j ≡ Some var → j < n → slice_get (parameters_of unit) j ≡ Some var
   parameter_at j var there less = get_take unit.vars n j less ∙ there
@@ -135,13 +97,12 @@ module _ (structs : List StructDef) (earlier : List UnitDef) (unit : UnitDef) (s
       slice_get values j ≡ Some value → ArgFor structs depth here var value arg → At j var
   by_arg j var there less (by_value held) value is_passed is_value fits =
       Where.number held value is_passed is_value fits.2 less
-      (home_is j var there ∙ number_home var.role (is_some (scalar_in var.ty)) (copies_inputs site) (role_of j var there less) fits.0 fits.1)
+      (home_is j var there ∙ number_home var.role (is_some (scalar_in var.ty)) (role_of j var there less) fits.0 fits.1)
   by_arg j var there less (by_address at) value is_passed is_value fits =
       let pointer : (is_output var.role || not (is_some (scalar_in var.ty))) ≡ true =
       ap (λ b. is_output var.role || b) (sym (none_not (scalar_in var.ty))) ∙ fits.0 in
       Where.place at value is_passed is_value fits.1 fits.2 less
-      (home_is j var there ∙ (ap (home_of_role var.role (is_some (scalar_in var.ty))) no_copies
-      ∙ place_lent var.role (is_some (scalar_in var.ty)) (role_of j var there less) pointer))
+      (home_is j var there ∙ place_lent var.role (is_some (scalar_in var.ty)) (role_of j var there less) pointer)
       (role_of j var there less)
 
   all_locals : list_all (λ (var : Var). is_variable var.role || is_fixed var.role) (locals_of unit) ≡ true
@@ -165,7 +126,7 @@ module _ (structs : List StructDef) (earlier : List UnitDef) (unit : UnitDef) (s
           let more : n ≤ j = ltb-false j n is in
           Where.local more
           (home_is j var there
-          ∙ local_home var.role (is_some (scalar_in var.ty)) (copies_inputs site)
+          ∙ declared_home false var.role (is_some (scalar_in var.ty)) false
           (rest_all (λ (var : Var). is_variable var.role || is_fixed var.role) n unit.vars j var all_locals there more))
 
   pub lent_to : (j : ℕ) (var : Var) → home_at site j ≡ Lent → At j var → LentTo depth passed n j var

@@ -18,23 +18,17 @@ use Rattle.bl_emit_acts_laws_simulation.specs.Acts.{all_apart, places_in_args}
 use Rattle.bl_emit_acts_laws_simulation.specs.Frames.{PointersAreValid, is_older, lent_at, remembered_at}
 use Rattle.bl_emit_acts_laws_simulation.specs.Encodes.{are_apart, home_at, is_live, ways_part}
 use Rattle.bl_emit_functions_laws_simulation.specs.Calls.{HandedOver}
+use Rattle.bl_emit_functions_laws_simulation.proofs.OnCalls.Locals.{parameters_many, parameters_within}
 use Rattle.bl_emit_spec.specs.Activities.{Activity, activity_view, remembers_any}
 use Rattle.bl_emit_spec.specs.Blocks.{unit_may_end}
 use Rattle.bl_emit_spec_laws.specs.Registers.Registers.{FramePointersAreValid, frame_at, over_at}
 use Rattle.bl_emit_spec_laws.specs.Calls.Calls.{CallAddresses, MayGive, where_true, written_by}
 use Rattle.bl_emit_spec_laws.specs.Calls.Invariant.{PlacesAreSeparate, result_at_c}
+use Rattle.bl_emit_spec_laws.proofs.OnActivities.Forgetting.{holder_remembers}
 use Rattle.bl_emit_spec_laws_files.proofs.OnBegins.Cells.{apart_flip}
 use Rattle.bl_emit_spec_laws_files.proofs.OnBegins.Given.{AllApart, all_front, apart_parts, apart_split, live_older, one_flip, one_where, place_where}
-use Rattle.bl_emit_spec_laws_files.proofs.OnBegins.Holders.{holder_remembers}
-use Rattle.bl_emit_spec_laws_files.proofs.OnBegins.Homes.{LentTo, lent_to, parameters, places_apart, where_is, within}
+use Rattle.bl_emit_spec_laws_files.proofs.OnBegins.Homes.{LentTo, lent_to, places_apart, where_is}
 use Rattle.bl_emit_spec_laws_files.proofs.OnBegins.Pointers.{Begun, frame_given, lent_given, memory_given, no_memory, over_given, result_given}
-
-no_such : true ≡ false → ⊥
-no_such h = cc
-
-and_false : (b : Bool) → (b && false) ≡ false
-and_false true = refl
-and_false false = refl
 
 pub older_differs : (depth : ℕ) (name : List ℕ) (root : Root) → is_older depth root ≡ true → same_root (variable depth name) root ≡ false
 older_differs depth name state_object h = refl
@@ -75,7 +69,7 @@ module _ (a : Activity) (standing : roles_stand a.unit ≡ true) (active : is_ac
   n = a.unit.inputs + a.unit.outputs
 
   pub as_many : length (given.inputs ++ map by_address given.outputs) ≡ length (parameters_of a.unit)
-  as_many = many ∙ sym (parameters a.structs a.earlier a.unit standing active (depth + 1) values Args here handed)
+  as_many = many ∙ sym (parameters_many a.structs a.earlier a.unit standing)
 
   abbrev scope : Scope
   scope = Begun a known (depth + 1) given as_many
@@ -173,8 +167,8 @@ module _ (a : Activity) (standing : roles_stand a.unit ≡ true) (active : is_ac
   pub lead_to : (j : ℕ) (at : Location) → j < a.unit.inputs + a.unit.outputs → slice_get (given.inputs ++ map by_address given.outputs) j
       ≡ Some (by_address at) → lent_at (Begun a known (depth + 1) given as_many) a.unit.vars j ≡ at
   lead_to j at less is =
-      let all : length (parameters_of a.unit) ≡ n = parameters a.structs a.earlier a.unit standing active (depth + 1) values Args here handed in
-      let most : n ≤ length a.unit.vars = within a.structs a.earlier a.unit standing active (depth + 1) values Args here handed in
+      let all : length (parameters_of a.unit) ≡ n = parameters_many a.structs a.earlier a.unit standing in
+      let most : n ≤ length a.unit.vars = parameters_within a.structs a.earlier a.unit standing in
       lent_given a known (depth + 1) given as_many j at (omega (arith, all, most, few)) (omega (arith, all, less)) is
 
   lent : (k : ℕ) (var : Var) → var_at site k ≡ Some var → home_at site k ≡ Lent → LentAt k var

@@ -24,20 +24,21 @@ use Rattle.bl_ctree.specs.Instances.{Setting, setting_of}
 use Rattle.bl_ctree.specs.Store.{view_at}
 use Rattle.bl_ctree_laws_confluence.specs.Deeds.Orderly.{AcceptedIsOrderly}
 use Rattle.bl_emit_acts.specs.declared.home.Home.{Home}
-use Rattle.bl_emit_acts.specs.declared.home.Home.TheVariants.{Held, Given as IsGiven, Lent}
+use Rattle.bl_emit_acts.specs.declared.home.Home.TheVariants.{Held, Local, Lent}
 use Rattle.bl_emit_acts.specs.Types.{variable_name}
 use Rattle.bl_emit_acts_laws_simulation.specs.Frames.{is_older}
 use Rattle.bl_emit_acts_laws_simulation.specs.Encodes.{Encodes, VariablesEncoded, home_at, lead_in, location_in, number_within, start_in, way_to}
 use Rattle.bl_emit_functions_laws_simulation.specs.Calls.{CallsKeepFrame, HandedOver, HandsOver, memory_begun}
+use Rattle.bl_emit_functions_laws_simulation.proofs.OnCalls.Locals.{parameters_many, parameters_within}
 use Rattle.bl_emit_spec.specs.Activities.{Activity, activity_function, activity_view, remembers_any}
 use Rattle.bl_emit_spec_laws.specs.Calls.Built.{site_at, unit_number}
 use Rattle.bl_emit_spec_laws.specs.Calls.Calls.{CallAddresses, MayGive, input_values, output_values, passed_to}
 use Rattle.bl_emit_spec_laws.specs.Calls.Laws.{memory_in, scope_in}
 use Rattle.bl_emit_spec_laws.specs.Calls.Memories as memories
+use Rattle.bl_emit_spec_laws.proofs.OnActivities.Forgetting.{holder_remembers}
 use Rattle.bl_emit_spec_laws_files.specs.Begins.{VariablesBegin}
-use Rattle.bl_emit_spec_laws_files.proofs.OnBegins.Holders.{holder_remembers}
 use Rattle.bl_emit_spec_laws_files.proofs.OnBegins.Homes as homes
-use Rattle.bl_emit_spec_laws_files.proofs.OnBegins.Homes.{Where, parameters, where_is, within}
+use Rattle.bl_emit_spec_laws_files.proofs.OnBegins.Homes.{Where, where_is}
 use Rattle.bl_emit_spec_laws_files.proofs.OnBegins.Params.{value_given}
 use Rattle.bl_emit_spec_laws_files.proofs.OnBegins.Places.{as_many, lead_to, memory_older}
 use Rattle.bl_emit_spec_laws_files.proofs.OnBegins.Pointers.{Begun, begun_is, memory_given}
@@ -111,8 +112,8 @@ module _ (a : Activity) (standing : roles_stand a.unit ≡ true) (active : is_ac
   value_stands : (j : ℕ) (value : CValue) (way : List memory.Projection) → j < n → slice_get Args j ≡ Some (by_value value) →
       begun (variable (depth + 1) (variable_name site.vars j)) way ≡ value way
   value_stands j value way less is =
-      let all : length (parameters_of a.unit) ≡ n = parameters a.structs a.earlier a.unit standing active (depth + 1) values Args here handed in
-      let most : n ≤ length a.unit.vars = within a.structs a.earlier a.unit standing active (depth + 1) values Args here handed in
+      let all : length (parameters_of a.unit) ≡ n = parameters_many a.structs a.earlier a.unit standing in
+      let most : n ≤ length a.unit.vars = parameters_within a.structs a.earlier a.unit standing in
       ap (λ (m : Memory). m (variable (depth + 1) (variable_name site.vars j)) way)
       (begun_is a known (depth + 1) given (as_many a standing active few known depth given values here handed many may) here)
       ∙ value_given a.structs a.unit.vars (depth + 1) (parameters_of a.unit) 0 j j Args (without_frame (depth + 1) here) value way (omega arith)
@@ -121,8 +122,8 @@ module _ (a : Activity) (standing : roles_stand a.unit ≡ true) (active : is_ac
   variable_holds : (j : ℕ) (var : Var) (value : Value) → var_at site j ≡ Some var → slice_get now j ≡ Some value →
       Where site (depth + 1) here values Args n j var → Encodes a.structs var.ty value (value_at begun (location_in scope site j []))
   variable_holds j var value there at (homes.number number mine p v m less home) =
-      same_home j IsGiven var.ty value home
-      (holds_same a.structs var.ty value number (value_at begun (stands_in true IsGiven j)) (λ way. sym (value_stands j number way less p))
+      same_home j Local var.ty value home
+      (holds_same a.structs var.ty value number (value_at begun (stands_in true Local j)) (λ way. sym (value_stands j number way less p))
       (number_alone a.structs var.ty value number (ap number_in (sym (same_value j mine value less v at)) ∙ m)))
   variable_holds j var value there at (homes.place to mine p v older holds less home role) =
       same_home j Lent var.ty value home

@@ -15,7 +15,7 @@ use Rattle.bl_tree.specs.Words.{are_distinct, is_among}
 use Rattle.bl_eval.specs.Values.{number_at, number_in}
 use Rattle.bl_eval.proofs.PassLemmas.{and_left, and_right}
 use Rattle.bl_ctext_semantics.specs.Cells.{with_inputs}
-use Rattle.bl_ctext_semantics.specs.Memory.{Location, Memory, Projection, input_object, member, output_object, scalar, set_at, state_object, value_at}
+use Rattle.bl_ctext_semantics.specs.Memory.{Memory, input_object, member, output_object, scalar, set_at, state_object}
 use Rattle.bl_ctext_semantics.specs.Memory as memory
 use Rattle.bl_emit_acts_laws_simulation.specs.Simulation.{ArgumentsEncoded}
 use Rattle.bl_emit_spec.specs.Programs.{port_member}

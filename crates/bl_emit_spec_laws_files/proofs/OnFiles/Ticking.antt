@@ -26,7 +26,7 @@ use Rattle.bl_eval.specs.Values.{is_number_of, number_at, tests_after, value_fit
 use Rattle.bl_eval.proofs.FitLemmas.{fits_scalar, scalar_is}
 use Rattle.bl_eval.proofs.PassLemmas.{and_left, and_right, both, pass_drop, pass_take}
 use Rattle.bl_ctext_semantics.specs.Cells as cells
-use Rattle.bl_ctext_semantics.specs.Cells.{cells_of, column_of, memory_of, numbers_of, outputs_in, ports_of, with_inputs}
+use Rattle.bl_ctext_semantics.specs.Cells.{cells_of, column_of, numbers_of, outputs_in, ports_of, with_inputs}
 use Rattle.bl_ctext_semantics.specs.Meaning.{CallResult, Meaning, applied, further}
 use Rattle.bl_ctext_semantics.specs.Memory.{cleared as cleared_memory}
 use Rattle.bl_ctext_semantics.specs.Memory.{Location, Memory, input_object, member, output_object, scalar_number, state_object, value_at, without_frame}
@@ -36,7 +36,7 @@ use Rattle.bl_ctext_semantics.specs.Trace.{Reply, TickOfFile, c_trace_from, call
 use Rattle.bl_ctext_semantics.specs.Trace.{tick_of, trace_after, traced}
 use Rattle.bl_ctree.specs.Instances.{Setting, setting_of, unit_at}
 use Rattle.bl_ctree.specs.Store as store
-use Rattle.bl_ctree.specs.Store.{Frame, Store, aged, first_frame, first_store, number_or_zero, outputs_of_frame, outputs_row, view_at, woken_store}
+use Rattle.bl_ctree.specs.Store.{Frame, Store, aged, first_store, number_or_zero, outputs_of_frame, outputs_row, view_at, woken_store}
 use Rattle.bl_ctree_laws_confluence.specs.Deeds.Orderly.{AcceptedIsOrderly}
 use Rattle.bl_ctree_laws_confluence.specs.Deeds.Origins.{HomesLeadOut}
 use Rattle.bl_ctree_laws_typing.specs.Fits.{HasFrame, StoreFits}

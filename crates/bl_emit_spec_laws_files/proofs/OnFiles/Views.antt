@@ -1,6 +1,6 @@
 -- What is seen in stores between ticks and as ticks begin.
-use Rattle.std.proofs.Common.{◌≡◌, ℕ, ℤ, zero, suc, ◌+◌, ◌-◌, ◌<◌, ◌≤◌, pos, Bool, true, false, ◌&&◌, ◌||◌, List}
-use Rattle.std.proofs.Common.{[], ◌∷◌, ◌++◌, map, length, take, drop}
+use Rattle.std.proofs.Common.{◌≡◌, ℕ, ℤ, zero, suc, ◌+◌, ◌-◌, ◌≤◌, Bool, true, false, ◌&&◌, ◌||◌, List}
+use Rattle.std.proofs.Common.{[], ◌∷◌, map, length}
 use Rattle.std.proofs.Common.{Option, Some, None, refl, sym, ap, ◌∙◌, subst, arith}
 use Rattle.std.proofs.lemmas.Bool.{le-ltb, ltb-false, ltb-true}
 use Rattle.std.proofs.lemmas.Option.{same_Some}
@@ -13,10 +13,10 @@ use Rattle.bl_tree.specs.declared.tree.Unit.{Unit as UnitDef}
 use Rattle.bl_tree.specs.declared.tree.Var.{Var}
 use Rattle.bl_tree.specs.declared.value.Value.{Value}
 use Rattle.bl_tree.specs.declared.value.Value.TheVariants.{Number, Parts}
-use Rattle.bl_tree.specs.Program.{is_input, is_output, locals_of, names_of, parameters_of, roles_stand}
+use Rattle.bl_tree.specs.Program.{is_input, is_output, names_of, parameters_of, roles_stand}
 use Rattle.bl_tree.specs.Static.{whole}
 use Rattle.bl_tree.specs.Types.{scalar_in}
-use Rattle.bl_tree.specs.Typing.{inputs_of, is_activity, is_fixed, is_function, is_variable, outputs_of, var_at}
+use Rattle.bl_tree.specs.Typing.{is_activity, var_at}
 use Rattle.bl_tree.specs.Words.{are_distinct, is_name}
 use Rattle.bl_eval.specs.Values.{value_at, zero_of}
 use Rattle.bl_eval.proofs.PassLemmas.{and_left, and_right}
@@ -26,10 +26,8 @@ use Rattle.bl_ctree.specs.Instances.{Setting, expanded, instances_below, runs_of
 use Rattle.bl_ctree.specs.Store as store
 use Rattle.bl_ctree.specs.Store.{
   Frame,
-  Location,
   Store,
   aged,
-  depth_at,
   first_frame,
   first_store,
   frame_at_first,
@@ -51,62 +49,27 @@ use Rattle.bl_ctree_laws_confluence.specs.Deeds.Orderly.{AcceptedIsOrderly}
 use Rattle.bl_ctree_laws_confluence.specs.Deeds.Origins.{HomesLeadOut}
 use Rattle.bl_ctree_laws_typing.proofs.OnViews.Running.{unit_stands_at}
 use Rattle.bl_emit_acts.specs.declared.home.Home.TheVariants.{Held}
-use Rattle.bl_emit_acts.specs.Places.{copies_inputs, home_of, home_of_role}
+use Rattle.bl_emit_acts.specs.Places.{home_of, home_of_role}
+use Rattle.bl_emit_acts_laws_simulation.proofs.Homes.{activity_home, input_unheld, output_unheld}
 use Rattle.bl_emit_acts_laws_simulation.specs.Encodes.{home_at}
 use Rattle.bl_machine.specs.declared.machine.Activity.{Activity as InMachine}
 use Rattle.bl_machine_pass_laws_typing.proofs.OnFits.Doing.{stands_at}
 use Rattle.bl_machine_pass_laws_execution.proofs.OnFresh.Lists.{behind_front, get_mapped, range_at}
-use Rattle.bl_emit_spec_laws_files.proofs.OnBegins.Lists.{front_all, middle_all}
+use Rattle.bl_emit_functions_laws_simulation.proofs.OnCalls.Locals.{parameter_role}
 use Rattle.bl_emit_spec_laws.specs.Calls.Built.{Activities, activity_at, site_at, unit_number}
 use Rattle.bl_emit_spec_laws.specs.Calls.Laws.{CompilationContext}
 use Rattle.bl_emit_spec_laws_files.proofs.OnFiles.Lists.{seen_from, there_below}
 
 -- ---- roles
 
-parameter_elsewhere : (role : Role) (scalar : Bool) → (is_input role || is_output role) ≡ true → home_of_role role scalar false ≡ Held → ⊥
-parameter_elsewhere Input true is held = cc
-parameter_elsewhere Input false is held = cc
-parameter_elsewhere Output scalar is held = cc
+parameter_elsewhere : (role : Role) (scalar : Bool) → (is_input role || is_output role) ≡ true → home_of_role false role scalar false ≡ Held → ⊥
+parameter_elsewhere Input scalar is held = input_unheld false Input scalar refl held
+parameter_elsewhere Output scalar is held = output_unheld false Output scalar false refl held
 parameter_elsewhere Variable scalar is held = cc
 parameter_elsewhere Fixed scalar is held = cc
 
-either_left : (a b : Bool) → a ≡ true → (a || b) ≡ true
-either_left true b is = refl
-either_left false b is = absurd (cc)
-
-either_right : (a b : Bool) → b ≡ true → (a || b) ≡ true
-either_right true b is = refl
-either_right false b is = is
-
 abbrev pub arity : UnitDef → ℕ
 arity unit = unit.inputs + unit.outputs
-
-module _ (unit : UnitDef) (standing : roles_stand unit ≡ true) where
-  abbrev inputs_are : Bool
-  inputs_are = list_all (λ (var : Var). is_input var.role) (inputs_of unit)
-
-  abbrev outputs_are : Bool
-  outputs_are = list_all (λ (var : Var). is_output var.role) (outputs_of unit)
-
-  abbrev locals_are : Bool
-  locals_are = list_all (λ (var : Var). is_variable var.role || is_fixed var.role) (locals_of unit)
-
-  abbrev behind : (inputs_are && (outputs_are && locals_are)) ≡ true
-  behind = and_right (nat_le (arity unit) (length unit.vars)) (inputs_are && (outputs_are && locals_are)) standing
-
-  -- a variable before the locals is a parameter
-  parameter_role : (x : ℕ) (var : Var) → slice_get unit.vars x ≡ Some var → x < arity unit → (is_input var.role || is_output var.role) ≡ true
-  parameter_role x var there less = by (nat_lt x unit.inputs) refl
-    where
-      by : (first : Bool) → nat_lt x unit.inputs ≡ first → (is_input var.role || is_output var.role) ≡ true
-      by true is =
-          either_left (is_input var.role) (is_output var.role)
-          (front_all (λ (var : Var). is_input var.role) unit.inputs unit.vars x var (and_left inputs_are (outputs_are && locals_are) behind) there
-          (ltb-true x unit.inputs is))
-      by false is =
-          either_right (is_input var.role) (is_output var.role)
-          (middle_all (λ (var : Var). is_output var.role) unit.inputs unit.outputs unit.vars x var
-          (and_left outputs_are locals_are (and_right inputs_are (outputs_are && locals_are) behind)) there (ltb-false x unit.inputs is) less)
 
 -- ---- homes
 
@@ -206,20 +169,9 @@ module _ (out : HomesLeadOut) (orderly : AcceptedIsOrderly) (structs : List Stru
     var_there : slice_get unit.vars x ≡ Some var
     var_there = subst (λ (u : UnitDef). slice_get u.vars x ≡ Some var) (own_unit i unit is) is_var
 
-    no_copies : copies_inputs (site_at W activities i) ≡ false
-    no_copies = by (site_at W activities i).kind (ap (λ (u : UnitDef). is_activity u.kind) (own_unit i unit is) ∙ active)
-      where
-        by_not : (b : Bool) → b ≡ true → (Rattle.std.proofs.Common.not b && is_some (site_at W activities i).result) ≡ false
-        by_not true h = refl
-        by_not false h = absurd (cc)
-
-        by : (kind : Rattle.bl_tree.specs.declared.tree.UnitKind.UnitKind) → is_activity kind ≡ true →
-            (is_function kind && is_some (site_at W activities i).result) ≡ false
-        by kind h = by_not (is_activity kind) h
-
-    held_role : home_of_role var.role (is_some (scalar_in var.ty)) false ≡ Held
+    held_role : home_of_role false var.role (is_some (scalar_in var.ty)) false ≡ Held
     held_role =
-        ap (home_of_role var.role (is_some (scalar_in var.ty))) (sym no_copies)
+        sym (activity_home (site_at W activities i) var (ap (λ (u : UnitDef). is_activity u.kind) (own_unit i unit is) ∙ active))
         ∙ sym (ap (home_of (site_at W activities i)) is_var) ∙ held
 
     pub behind_parameters : arity unit ≤ x
@@ -228,7 +180,7 @@ module _ (out : HomesLeadOut) (orderly : AcceptedIsOrderly) (structs : List Stru
         by : (b : Bool) → nat_lt x (arity unit) ≡ b → arity unit ≤ x
         by true e =
             absurd (parameter_elsewhere var.role (is_some (scalar_in var.ty))
-            (parameter_role unit (roles_at (unit_number W i) unit (unit_there i unit is)) x var var_there (ltb-true x (arity unit) e)) held_role)
+            (parameter_role structs [] unit (roles_at (unit_number W i) unit (unit_there i unit is)) x var var_there (ltb-true x (arity unit) e)) held_role)
         by false e = ltb-false x (arity unit) e
 
     own_home : home W (whole_of i x) ≡ whole_of i x

@@ -35,7 +35,7 @@ use Rattle.bl_emit_acts.specs.declared.home.Home.TheVariants.{Held}
 use Rattle.bl_emit_acts.specs.Places.{home_of}
 use Rattle.bl_emit_acts.specs.Types.{c_scalar, c_type, type_level, type_name, variable_name}
 use Rattle.bl_emit_acts_laws_simulation.specs.Acts.{OutputsEncoded}
-use Rattle.bl_emit_acts_laws_simulation.specs.Encodes.{Encodes, home_at, lead_level, part_level, part_type, way_to}
+use Rattle.bl_emit_acts_laws_simulation.specs.Encodes.{Encodes, home_at, lead_level, part_level, way_to}
 use Rattle.bl_emit_functions.specs.Functions.{held_member, is_held, member_of, members_from, members_of}
 use Rattle.bl_emit_spec.specs.Activities.{Activity, counter_member, frame_member, frame_struct, memory_member, remembered, remembers_any}
 use Rattle.bl_emit_spec.specs.Activities.{runs_in_body}

@@ -17,7 +17,7 @@ use Rattle.bl_ctext_semantics.specs.Memory.{same_root, scalar, set_at, state_obj
 use Rattle.bl_ctext_semantics.specs.Parts.{Parts}
 use Rattle.bl_ctext_semantics.specs.Sizes.{size_of_type, sizes}
 use Rattle.bl_ctext_semantics.specs.Tables.{Table}
-use Rattle.bl_ctext_semantics_laws.specs.Fitting.{ValueSpot, place_type, scalars, spot_if, step_in, walk, whole, whole_spot, whole_type}
+use Rattle.bl_ctext_semantics_laws.specs.Fitting.{ValueSpot, spot_if, walk, whole, whole_spot, whole_type}
 use Rattle.bl_ctext_semantics_laws.proofs.Entry.{Leads, Offset, Typed, shaped, struct-led}
 use Rattle.bl_ctext_semantics_laws.proofs.Layouts.{lists_of}
 use Rattle.bl_ctext_semantics_laws.proofs.Ways.{left-is, walk-append, walk-nowhere, walk-within, ways-apart}

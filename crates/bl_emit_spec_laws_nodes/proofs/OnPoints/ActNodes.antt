@@ -63,7 +63,7 @@ use Rattle.bl_emit_spec_laws.specs.Registers.Registers.{RegistersApart, Register
 use Rattle.bl_machine.specs.declared.machine.Activity.{Activity as InMachine}
 use Rattle.bl_machine_pass.specs.Registers.{Registers}
 use Rattle.bl_machine_pass_laws_execution.specs.Executes as executes
-use Rattle.bl_machine_pass_laws_execution.specs.Executes.{CopiesMatch, NodeTraps, Performs, deed_at, recopied, recopied_kind}
+use Rattle.bl_machine_pass_laws_execution.specs.Executes.{NodeTraps, Performs, deed_at, recopied_kind}
 use Rattle.bl_machine_pass_laws_execution.specs.Frames.{Frames}
 use Rattle.bl_emit_spec_laws.specs.Calls.Built.{Activities, activity_at, cleared, rank_by, registered, run_by, site_at, slots_by, unit_number}
 use Rattle.bl_emit_spec_laws.specs.Calls.Laws.{Midway, PassKeepsFrame}

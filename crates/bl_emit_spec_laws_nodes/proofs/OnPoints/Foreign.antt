@@ -11,7 +11,7 @@ use Rattle.bl_tree.specs.Typing.{TypingContext, is_activity, var_at}
 use Rattle.bl_ctext_semantics.specs.Meaning.{Scope, further}
 use Rattle.bl_ctext_semantics.specs.Memory.{Location, Projection, Root, input_object, left_after, member, output_object, same_root, state_object, variable}
 use Rattle.bl_emit_acts.specs.declared.home.Home.{Home}
-use Rattle.bl_emit_acts.specs.declared.home.Home.TheVariants.{Given, Held, Lent}
+use Rattle.bl_emit_acts.specs.declared.home.Home.TheVariants.{Held, Local, Lent}
 use Rattle.bl_emit_acts.specs.Types.{copy_name, variable_name}
 use Rattle.bl_emit_acts_laws_simulation.specs.Acts.{Foreign, copy_location, lies_in}
 use Rattle.bl_emit_acts_laws_simulation.specs.Frames.{is_older, lent_at, remembered_at}
@@ -59,7 +59,7 @@ module _ (site : TypingContext) (unit : UnitDef) (remembers : Bool) (scope : Sco
       by : (activity : Bool) (x : Home) → is_activity site.kind ≡ activity → home_at site k ≡ x → are_apart (place_of activity x k) place ≡ true
       by false Held kind is = absurd (no_such (sym kind ∙ active))
       by true Held kind is = held k var there is
-      by activity Given kind is = local_older (place_of activity Given k) place (variable_name site.vars k) refl older
+      by activity Local kind is = local_older (place_of activity Local k) place (variable_name site.vars k) refl older
       by activity Lent kind is = first_further (lent_at scope site.vars k) place [] (apart_flip place (lent_at scope site.vars k) (lent k var there is))
 
   -- so it is foreign
@@ -149,6 +149,6 @@ module _ (site : TypingContext) (unit : UnitDef) (remembers : Bool) (scope : Sco
       by k var there writable false Held kind is = absurd (no_such (sym kind ∙ active))
       by k var there writable true Held kind is =
           lies_further (remembered_at scope) (member (variable_name site.vars k) ∷ []) root way (outside.memory (held_here k var there is))
-      by k var there writable activity Given kind is =
+      by k var there writable activity Local kind is =
           ap (λ same. same && is_some (left_after [] way)) (older_differs scope.depth (variable_name site.vars k) root older)
       by k var there writable activity Lent kind is = lies_further (lent_at scope site.vars k) [] root way (outside.outputs k var there is writable)

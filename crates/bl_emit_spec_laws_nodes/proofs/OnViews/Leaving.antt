@@ -4,7 +4,7 @@ use Rattle.std.proofs.Common.{Option, Some, None, refl, sym, ap, ◌∙◌, subs
 use Rattle.std.proofs.lemmas.Bool.{eq-eqb, eqb-true}
 use Rattle.std.proofs.lemmas.Option.{same_Some, slice_get-map}
 use Rattle.std.specs.List.{range_with_len}
-use Rattle.std.specs.Prelude.{is_some, nat_eq, option_and_then, option_map, slice_get, unwrap_or, if◌then◌else◌}
+use Rattle.std.specs.Prelude.{nat_eq, option_and_then, option_map, slice_get, unwrap_or, if◌then◌else◌}
 use Rattle.bl_tree.specs.declared.place.Place.{Place}
 use Rattle.bl_tree.specs.declared.static_path.Static.{Static}
 use Rattle.bl_tree.specs.declared.tree.Arm.{Arm}
@@ -19,7 +19,6 @@ use Rattle.bl_tree.specs.declared.value.Value.{Value}
 use Rattle.bl_tree.specs.declared.value.Value.TheVariants.{Parts}
 use Rattle.bl_tree.specs.Effects.{writes}
 use Rattle.bl_tree.specs.Static.{overlaps, whole}
-use Rattle.bl_tree.specs.Types.{scalar_in}
 use Rattle.bl_tree.specs.Typing.{var_at}
 use Rattle.bl_eval.specs.Values.{value_at}
 use Rattle.bl_ctext_semantics.specs.Memory.{Location as CLocation}
@@ -35,7 +34,7 @@ use Rattle.bl_ctree_laws_confluence.specs.Deeds.Nesting.{Inside, InstancesNest, 
 use Rattle.bl_ctree_laws_confluence.specs.Deeds.Nesting as nesting
 use Rattle.bl_ctree_laws_confluence.specs.Stores.{PutsKeepOthers, RememberingKeepsOthers, now_of}
 use Rattle.bl_emit_acts.specs.declared.home.Home.TheVariants.{Held}
-use Rattle.bl_emit_acts.specs.Places.{copies_inputs, home_of}
+use Rattle.bl_emit_acts.specs.Places.{home_of}
 use Rattle.bl_emit_acts_laws_simulation.specs.Acts.{is_act}
 use Rattle.bl_emit_acts_laws_simulation.specs.Encodes.{home_at}
 use Rattle.bl_machine.specs.declared.machine.Activity.{Activity as InMachine}
@@ -194,9 +193,8 @@ module _ (structs : List StructDef) (units : List UnitDef) (entry : ℕ) (machin
         ap (λ o. unwrap_or (option_map (λ (instance : Instance). instance.unit) o) 0) is in
         let unit_is : (activities (unit_number w k)).unit ≡ unit =
         ap (λ k. (activities k).unit) number_is ∙ compiled.built.unit instance.unit unit there in
-        held_inside structs units entry instance.unit x unit var (is_some (scalar_in var.ty)) (copies_inputs (site_at w activities k))
-        compiled.well_typed
-        there (ap (λ (unit : UnitDef). slice_get unit.vars x) (sym unit_is) ∙ known)
+        held_inside structs units entry instance.unit x unit (site_at w activities k) var compiled.well_typed there
+        (ap (λ (unit : UnitDef). slice_get unit.vars x) (sym unit_is) ∙ known)
         (sym (ap (home_of (site_at w activities k)) known) ∙ held)
 
     -- so it leads to no caller

@@ -5,18 +5,18 @@ use Rattle.std.proofs.Common.{length, Some, None, refl, sym, ap, ◌∙◌, subs
 use Rattle.std.proofs.lemmas.Bool.{leb-true, ltb-true}
 use Rattle.std.proofs.lemmas.List.{append-nil}
 use Rattle.std.proofs.lemmas.Option.{same_Some}
-use Rattle.std.specs.Prelude.{nat_le, nat_lt, slice_get}
+use Rattle.std.specs.Prelude.{is_some, nat_le, nat_lt, slice_get}
 use Rattle.std.specs.List.{list_all}
-use Rattle.bl_tree.specs.declared.tree.Role.{Role}
-use Rattle.bl_tree.specs.declared.tree.Role.TheVariants.{Fixed, Input, Output, Variable}
 use Rattle.bl_tree.specs.declared.tree.StructDef.{StructDef}
 use Rattle.bl_tree.specs.declared.tree.Unit.{Unit as UnitDef}
 use Rattle.bl_tree.specs.declared.tree.Var.{Var}
 use Rattle.bl_tree.specs.Program.{IsWellTyped, is_input, is_output, locals_of, roles_stand, unit_stands, units_stand_after}
-use Rattle.bl_tree.specs.Typing.{inputs_of, is_fixed, is_variable, outputs_of}
+use Rattle.bl_tree.specs.Types.{scalar_in}
+use Rattle.bl_tree.specs.Typing.{TypingContext, inputs_of, is_fixed, is_variable, outputs_of}
 use Rattle.bl_ctree.specs.Store.{is_output_of}
 use Rattle.bl_emit_acts.specs.declared.home.Home.TheVariants.{Held}
-use Rattle.bl_emit_acts.specs.Places.{home_of_role}
+use Rattle.bl_emit_acts.specs.Places.{copies_inputs, home_of, is_alone}
+use Rattle.bl_emit_acts_laws_simulation.proofs.Homes.{output_unheld}
 
 and_left : (a b : Bool) → (a && b) ≡ true → a ≡ true
 and_left true b h = refl
@@ -100,20 +100,15 @@ output_role unit x var roles among there =
         (get_taken (drop unit.inputs unit.vars) unit.outputs j less
         ∙ (get_behind unit.vars unit.inputs j x (sym is) ∙ there))
 
-held_role : (role : Role) (scalar copies : Bool) → home_of_role role scalar copies ≡ Held → is_output role ≡ true → ⊥
-held_role Input scalar copies held is = cc
-held_role Output scalar copies held is = cc
-held_role Variable scalar copies held is = cc
-held_role Fixed scalar copies held is = cc
-
 not_so : (b : Bool) → (b ≡ true → ⊥) → b ≡ false
 not_so true never = absurd (never refl)
 not_so false never = refl
 
 -- so one that is remembered is none
-pub held_inside : (structs : List StructDef) (units : List UnitDef) (entry k x : ℕ) (unit : UnitDef) (var : Var) (scalar copies : Bool) →
+pub held_inside : (structs : List StructDef) (units : List UnitDef) (entry k x : ℕ) (unit : UnitDef) (site : TypingContext) (var : Var) →
     IsWellTyped structs units entry → slice_get units k ≡ Some unit → slice_get unit.vars x ≡ Some var →
-    home_of_role var.role scalar copies ≡ Held → is_output_of unit x ≡ false
-held_inside structs units entry k x unit var scalar copies keeps there known held =
+    home_of site (Some var) ≡ Held → is_output_of unit x ≡ false
+held_inside structs units entry k x unit site var keeps there known held =
     let roles = unit_roles structs (take k units) unit (unit_after structs [] units k unit keeps.units_stand there) in
-    not_so (is_output_of unit x) (λ among. held_role var.role scalar copies held (output_role unit x var roles among known))
+    not_so (is_output_of unit x) (λ among.
+    output_unheld (is_alone site var.ty) var.role (is_some (scalar_in var.ty)) (copies_inputs site) (output_role unit x var roles among known) held)

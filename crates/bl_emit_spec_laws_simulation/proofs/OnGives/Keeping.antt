@@ -11,7 +11,7 @@ use Rattle.bl_eval.proofs.PassLemmas.{and_left, and_right, both}
 use Rattle.bl_ctext_semantics.specs.Meaning.{ArgumentValue, Scope, further, named_location}
 use Rattle.bl_ctext_semantics.specs.Memory.{Location, Projection, Root, input_object, member, output_object, same_root, state_object, variable}
 use Rattle.bl_emit_acts.specs.declared.home.Home.{Home}
-use Rattle.bl_emit_acts.specs.declared.home.Home.TheVariants.{Given as ByValue, Held, Lent}
+use Rattle.bl_emit_acts.specs.declared.home.Home.TheVariants.{Held, Local, Lent}
 use Rattle.bl_emit_acts.specs.Types.{variable_name}
 use Rattle.bl_emit_acts_laws_simulation.specs.Acts.{MayPass, all_apart, places_in_args}
 use Rattle.bl_emit_acts_laws_simulation.specs.Arguments.{ApartFromVariables}
@@ -20,7 +20,7 @@ use Rattle.bl_emit_acts_laws_simulation.specs.Encodes.{are_apart, home_at, is_li
 use Rattle.bl_emit_spec.specs.Blocks.{unit_may_end}
 use Rattle.bl_emit_spec.specs.Names.{NumberedWord, callee_name, ended_name, given_name}
 use Rattle.bl_emit_spec_laws.specs.Registers.Registers.{frame_at}
-use Rattle.bl_emit_spec_laws.specs.Calls.Calls.{MayGive, where_true, written_by}
+use Rattle.bl_emit_spec_laws.specs.Calls.Calls.{MayGive, where_true}
 use Rattle.bl_emit_spec_laws.specs.Calls.Memories.{inner}
 use Rattle.bl_emit_spec_laws.specs.Calls.Invariant.{PlacesAreSeparate}
 use Rattle.bl_emit_spec_laws_nodes.specs.Calling.{given_by}
@@ -148,7 +148,7 @@ module _ (site : TypingContext) (unit : UnitDef) (remembers : Bool) (scope : Sco
   -- a place is apart from all variables where it is apart from what they may be
   apart_by : (place : Location) →
       ((k : ℕ) (var : Var) → var_at site k ≡ Some var → home_at site k ≡ Held → are_apart place (place_of true Held k) ≡ true) →
-      ((k : ℕ) → are_apart place (place_of true ByValue k) ≡ true) →
+      ((k : ℕ) → are_apart place (place_of true Local k) ≡ true) →
       ((k : ℕ) (var : Var) → var_at site k ≡ Some var → home_at site k ≡ Lent → are_apart place (lent_at scope site.vars k) ≡ true) →
       ApartFromVariables site scope place
   apart_by place held given lent k var there = by (is_activity site.kind) (home_at site k) refl refl
@@ -159,7 +159,7 @@ module _ (site : TypingContext) (unit : UnitDef) (remembers : Bool) (scope : Sco
       by : (activity : Bool) (x : Home) → is_activity site.kind ≡ activity → home_at site k ≡ x → are_apart place (place_of activity x k) ≡ true
       by false Held kind is = absurd (no_such (sym kind ∙ active))
       by true Held kind is = held k var there is
-      by activity ByValue kind is = given k
+      by activity Local kind is = given k
       by activity Lent kind is = last_further place (lent_at scope site.vars k) [] (lent k var there is)
 
   frame_older : is_older scope.depth frame.root ≡ true
@@ -202,7 +202,7 @@ module _ (site : TypingContext) (unit : UnitDef) (remembers : Bool) (scope : Sco
       (λ k var there is.
       last_further place (remembered_at scope) (member (variable_name site.vars k) ∷ [])
       (local_older scope.depth place (remembered_at scope) name refl (places.pointers.held_older k var there is active)))
-      (λ k. locals_apart scope.depth place (place_of true ByValue k) name (variable_name site.vars k) refl refl (differ k))
+      (λ k. locals_apart scope.depth place (place_of true Local k) name (variable_name site.vars k) refl refl (differ k))
       (λ k var there is. local_older scope.depth place (lent_at scope site.vars k) name refl (places.pointers.lent_older k var there is))
 
   pub result_variables : ApartFromVariables site scope result
@@ -221,9 +221,6 @@ module _ (site : TypingContext) (unit : UnitDef) (remembers : Bool) (scope : Sco
 
   result_over : are_apart result over ≡ true
   result_over = locals_apart scope.depth result over (given_name n) ended_name refl refl refl
-
-  abbrev written : UnitDef → Bool → List ArgumentValue → List Location → List Location
-  written other has inputs outputs = written_by other has (given_by scope n inputs outputs)
 
   -- ---- all of them
 

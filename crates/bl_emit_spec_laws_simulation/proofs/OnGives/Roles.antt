@@ -1,17 +1,16 @@
 -- What a variable's role tells of its position, and its position of its home.
 use Rattle.std.proofs.Common.{◌≡◌, ℕ, ◌+◌, ◌<◌, ◌≤◌, arith, Bool, true, false, ◌&&◌}
-use Rattle.std.proofs.Common.{◌||◌, [], length, take, Option, Some, None, refl, ap, ◌∙◌}
-use Rattle.std.proofs.lemmas.Bool.{leb-false, leb-true, ltb-true}
+use Rattle.std.proofs.Common.{◌||◌, [], length, take, Option, Some, None, refl, sym, ap, ◌∙◌}
+use Rattle.std.proofs.lemmas.Bool.{leb-false, leb-true}
 use Rattle.std.specs.List.{list_all}
-use Rattle.std.specs.Prelude.{List, nat_le, nat_lt, option_and_then, option_map, slice_get, if◌then◌else◌, ◌-◌}
-use Rattle.bl_tree.specs.declared.tree.Role.{Role}
-use Rattle.bl_tree.specs.declared.tree.Role.TheVariants.{Fixed, Input, Output, Variable}
+use Rattle.std.specs.Prelude.{List, is_some, nat_le, nat_lt, option_and_then, option_map, slice_get, if◌then◌else◌, ◌-◌}
 use Rattle.bl_tree.specs.declared.tree.StructDef.{StructDef}
 use Rattle.bl_tree.specs.declared.tree.Unit.{Unit as UnitDef}
 use Rattle.bl_tree.specs.declared.tree.Var.{Var}
 use Rattle.bl_tree.specs.Program.{IsWellTyped, is_input, is_output, locals_of, roles_stand}
 use Rattle.bl_tree.specs.Static.{whole}
-use Rattle.bl_tree.specs.Typing.{inputs_of, is_fixed, is_variable, outputs_of}
+use Rattle.bl_tree.specs.Types.{scalar_in}
+use Rattle.bl_tree.specs.Typing.{TypingContext, inputs_of, is_activity, is_fixed, is_variable, outputs_of}
 use Rattle.bl_eval.proofs.PassLemmas.{all_at, and_left, and_right}
 use Rattle.bl_ctree.specs.declared.instance.Instance.{Instance}
 use Rattle.bl_ctree.specs.declared.instance.Origin.{Origin}
@@ -19,8 +18,9 @@ use Rattle.bl_ctree.specs.Instances.{Setting, unit_of}
 use Rattle.bl_ctree.specs.Store.{is_output_of, led, led_by, under, whole_of}
 use Rattle.bl_ctree_laws_typing.proofs.OnViews.Running.{parameters_within, unit_stands_at}
 use Rattle.bl_emit_acts.specs.declared.home.Home.TheVariants.{Held}
-use Rattle.bl_emit_acts.specs.Places.{home_of_role}
-use Rattle.bl_emit_spec_laws_simulation.proofs.OnGives.Lists.{get_behind, get_taken}
+use Rattle.bl_emit_acts.specs.Places.{home_of}
+use Rattle.bl_emit_acts_laws_simulation.proofs.Homes.{activity_home, input_unheld}
+use Rattle.bl_emit_spec_laws_simulation.proofs.OnGives.Lists.{get_taken}
 
 pub roles_at : (structs : List StructDef) (units : List UnitDef) (entry k : ℕ) (unit : UnitDef) → IsWellTyped structs units entry →
     slice_get units k ≡ Some unit → roles_stand unit ≡ true
@@ -50,53 +50,21 @@ module _ (unit : UnitDef) (roles : roles_stand unit ≡ true) where
       all_at (λ (var : Var). is_input var.role) (inputs_of unit) x var (and_left all_inputs (all_outputs && all_locals) others_so)
       (get_taken unit.vars unit.inputs x less ∙ there)
 
-  output_role : (k : ℕ) (var : Var) → k < unit.outputs → slice_get unit.vars (unit.inputs + k) ≡ Some var → is_output var.role ≡ true
-  output_role k var less there =
-      all_at (λ (var : Var). is_output var.role) (outputs_of unit) k var
-      (and_left all_outputs all_locals (and_right all_inputs (all_outputs && all_locals) others_so))
-      (get_taken _ unit.outputs k less ∙ (get_behind unit.vars unit.inputs k ∙ there))
-
-held_input : (role : Role) (scalar : Bool) → is_input role ≡ true → home_of_role role scalar false ≡ Held → ⊥
-held_input Input true is held = absurd (cc)
-held_input Input false is held = absurd (cc)
-held_input Output scalar is held = absurd (cc)
-held_input Variable scalar is held = absurd (cc)
-held_input Fixed scalar is held = absurd (cc)
-
-held_output : (role : Role) (scalar copies : Bool) → is_output role ≡ true → home_of_role role scalar copies ≡ Held → ⊥
-held_output Input scalar copies is held = absurd (cc)
-held_output Output scalar copies is held = absurd (cc)
-held_output Variable scalar copies is held = absurd (cc)
-held_output Fixed scalar copies is held = absurd (cc)
-
 not_so : (b : Bool) → (b ≡ true → ⊥) → b ≡ false
 not_so true never = absurd (never refl)
 not_so false never = refl
 
--- what an activity keeps stands behind its inputs, and is no output
-pub held_behind : (unit : UnitDef) (x : ℕ) (var : Var) (scalar : Bool) → roles_stand unit ≡ true → slice_get unit.vars x ≡ Some var →
-    home_of_role var.role scalar false ≡ Held → unit.inputs ≤ x
-held_behind unit x var scalar roles there held = by (nat_le unit.inputs x) refl
+-- what an activity keeps stands behind its inputs
+pub held_behind : (unit : UnitDef) (x : ℕ) (site : TypingContext) (var : Var) → is_activity site.kind ≡ true → roles_stand unit ≡ true →
+    slice_get unit.vars x ≡ Some var → home_of site (Some var) ≡ Held → unit.inputs ≤ x
+held_behind unit x site var active roles there held = by (nat_le unit.inputs x) refl
   where
     by : (b : Bool) → nat_le unit.inputs x ≡ b → unit.inputs ≤ x
     by true is = leb-true unit.inputs x is
     by false is =
         let less : x < unit.inputs = leb-false unit.inputs x is in
-        absurd (held_input var.role scalar (input_role unit roles x var less there) held)
-
-pub held_no_output : (unit : UnitDef) (x : ℕ) (var : Var) (scalar copies : Bool) → roles_stand unit ≡ true → slice_get unit.vars x ≡ Some var →
-    home_of_role var.role scalar copies ≡ Held → is_output_of unit x ≡ false
-held_no_output unit x var scalar copies roles there held = not_so (is_output_of unit x) by
-  where
-    by : is_output_of unit x ≡ true → ⊥
-    by among =
-        let least : unit.inputs ≤ x =
-        leb-true unit.inputs x (and_left (nat_le unit.inputs x) (nat_lt x (unit.inputs + unit.outputs)) among) in
-        let most : x < unit.inputs + unit.outputs =
-        ltb-true x (unit.inputs + unit.outputs) (and_right (nat_le unit.inputs x) (nat_lt x (unit.inputs + unit.outputs)) among) in
-        let is : unit.inputs + (x - unit.inputs) ≡ x = omega (arith, least) in
-        let less : x - unit.inputs < unit.outputs = omega (arith, least, most) in
-        held_output var.role scalar copies (output_role unit roles (x - unit.inputs) var less (ap (slice_get unit.vars) is ∙ there)) held
+        absurd (input_unheld false var.role (is_some (scalar_in var.ty)) (input_role unit roles x var less there)
+        (sym (activity_home site var active) ∙ held))
 
 -- an input is no output
 pub input_no_output : (unit : UnitDef) (x : ℕ) → x < unit.inputs → is_output_of unit x ≡ false

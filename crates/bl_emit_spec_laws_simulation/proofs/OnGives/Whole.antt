@@ -1,9 +1,9 @@
 -- What the call that a `run` makes is given.
-use Rattle.std.proofs.Common.{◌≡◌, ℕ, ◌+◌, ◌<◌, ◌≤◌, arith, Bool, true, false, not}
+use Rattle.std.proofs.Common.{◌≡◌, ℕ, ◌+◌, ◌<◌, ◌≤◌, arith, Bool, true, false}
 use Rattle.std.proofs.Common.{◌&&◌, ◌++◌, List, [], Contains, map, take, drop, length, get_or}
 use Rattle.std.proofs.Common.{Option, Some, None, refl, sym, ap, ◌∙◌, subst}
 use Rattle.std.proofs.lemmas.Option.{slice_get-get_or}
-use Rattle.std.specs.Prelude.{is_some, option_map, slice_get, unwrap_or}
+use Rattle.std.specs.Prelude.{option_map, slice_get, unwrap_or}
 use Rattle.bl_tree.specs.declared.place.Place.{Place}
 use Rattle.bl_tree.specs.declared.tree.Path.{Path}
 use Rattle.bl_tree.specs.declared.tree.StructDef.{StructDef}
@@ -12,8 +12,7 @@ use Rattle.bl_tree.specs.declared.tree.Var.{Var}
 use Rattle.bl_tree.specs.declared.value.Value.{Value}
 use Rattle.bl_tree.specs.declared.value.Value.TheVariants.{Parts}
 use Rattle.bl_tree.specs.Static.{static_of}
-use Rattle.bl_tree.specs.Types.{scalar_in}
-use Rattle.bl_tree.specs.Typing.{TypingContext, inputs_of, is_function, outputs_of, site_of, type_of, types_match, var_at}
+use Rattle.bl_tree.specs.Typing.{TypingContext, inputs_of, is_activity, outputs_of, site_of, type_of, types_match, var_at}
 use Rattle.bl_eval.specs.Meaning.{View as Sight}
 use Rattle.bl_graph_nodes.specs.Nodes.{Arguments, EnterAt}
 use Rattle.bl_graph_nodes.specs.Plain.{Label, plain_body}
@@ -21,8 +20,8 @@ use Rattle.bl_ctext_semantics.specs.Memory.{Location, Memory}
 use Rattle.bl_ctext_semantics.specs.Meaning.{ArgumentValue, Scope, by_address}
 use Rattle.bl_ctree.specs.declared.instance.Instance.{Instance}
 use Rattle.bl_ctree.specs.Actions.{Copies, done, values_there}
-use Rattle.bl_ctree.specs.Instances.{Setting, setting_of, unit_of}
-use Rattle.bl_ctree.specs.Store.{Store, is_output_of, led, view_at, whole_of, with_frame, with_inputs}
+use Rattle.bl_ctree.specs.Instances.{Setting, setting_of}
+use Rattle.bl_ctree.specs.Store.{Store, view_at, with_frame, with_inputs}
 use Rattle.bl_ctree_laws.specs.Ends.{done_by}
 use Rattle.bl_ctree_laws.specs.Pending.{deed}
 use Rattle.bl_ctree_laws_confluence.specs.Apart.Outputs.{RunsWith}
@@ -34,7 +33,7 @@ use Rattle.bl_ctree_laws_typing.specs.Views.{ViewsAreTyped}
 use Rattle.bl_ctree_laws_confluence.specs.Stores.{FramesKeepOthers, HomesLeadOn}
 use Rattle.bl_emit_acts.specs.Acts.{call_args, is_copied}
 use Rattle.bl_emit_acts.specs.declared.home.Home.TheVariants.{Held}
-use Rattle.bl_emit_acts.specs.Places.{copies_inputs, home_of, home_of_role}
+use Rattle.bl_emit_acts.specs.Places.{home_of}
 use Rattle.bl_emit_acts_laws_simulation.specs.Acts.{OutputsEncoded}
 use Rattle.bl_emit_acts_laws_simulation.specs.Arguments.{ArgumentsGiven, ArgumentsPass, ArgumentsSimulate, arguments_c}
 use Rattle.bl_emit_acts_laws_simulation.specs.Encodes.{home_at}
@@ -60,12 +59,13 @@ use Rattle.bl_emit_spec_laws.specs.Calls.Invariant.{PlacesAreSeparate}
 use Rattle.bl_emit_spec_laws_nodes.specs.Calling.{NotEnded, PlaceLeads, RunEstablishes, RunOf, RunsEstablish, RunsStand, call_written, given_by}
 use Rattle.bl_emit_spec_laws_nodes.specs.Points.Nodes.{PrevsAgree, ViewsFit}
 use Rattle.bl_emit_spec_laws_nodes.proofs.OnPoints.Besides.{apart, beside, site_is}
+use Rattle.bl_emit_spec_laws_nodes.proofs.OnViews.Leaving.{held_led}
 use Rattle.bl_emit_spec_laws.specs.Remember.{CallersRemember}
 use Rattle.bl_emit_spec_laws_simulation.proofs.OnGives.Arguing.{RunArgues, run_argues, unit_there}
 use Rattle.bl_emit_spec_laws_simulation.proofs.OnGives.Keeping.{may_give}
 use Rattle.bl_emit_spec_laws_simulation.proofs.OnGives.Leading.{inputs_long, lead_at, outputs_long, place_at}
 use Rattle.bl_emit_spec_laws_simulation.proofs.OnGives.Lists.{get_behind, get_taken, mapped_from, taken_is}
-use Rattle.bl_emit_spec_laws_simulation.proofs.OnGives.Roles.{held_behind, held_no_output, led_nowhere, parameters_few, roles_at}
+use Rattle.bl_emit_spec_laws_simulation.proofs.OnGives.Roles.{held_behind, parameters_few, roles_at}
 use Rattle.bl_emit_spec_laws_simulation.proofs.OnGives.Stored.{Copied, copied, inputs_are, kept_seen, output_seen}
 use Rattle.bl_emit_spec_laws_simulation.proofs.OnGives.Values.{values_same}
 use Rattle.bl_emit_spec_laws_simulation.proofs.OnGives.Writing.{written_given, written_traps}
@@ -258,24 +258,6 @@ module _ (structs : List StructDef) (units : List UnitDef) (entry : ℕ) (laws :
 
     -- ---- what is kept
 
-    module _ (x v : ℕ) (var : Var) (known : var_at (site_at w activities x) v ≡ Some var) (held : home_at (site_at w activities x) v ≡ Held) where
-      home_held : home_of (site_at w activities x) (Some var) ≡ Held
-      home_held = sym (ap (home_of (site_at w activities x)) known) ∙ held
-
-      nowhere : led w (whole_of x v) ≡ None
-      nowhere = led_nowhere w x v none
-        where
-          none : (instance : Instance) (unit : UnitDef) → slice_get w.instances x ≡ Some instance → unit_of w instance ≡ Some unit →
-              is_output_of unit v ≡ false
-          none instance unit is of =
-              let number_is : unit_number w x ≡ instance.unit =
-              ap (λ o. unwrap_or (option_map (λ (instance : Instance). instance.unit) o) 0) is in
-              let unit_is : (activities (unit_number w x)).unit ≡ unit =
-              ap (λ k. (activities k).unit) number_is ∙ midway.compiled.built.unit instance.unit unit of in
-              held_no_output unit v var (is_some (scalar_in var.ty)) (copies_inputs (site_at w activities x))
-              (roles_at structs units entry instance.unit unit midway.compiled.well_typed of)
-              (ap (λ (unit : UnitDef). slice_get unit.vars v) (sym unit_is) ∙ known) home_held
-
     behind : (x v : ℕ) (var : Var) → var_at (site_at w activities x) v ≡ Some var → home_at (site_at w activities x) v ≡ Held → j ≡ x →
         other.inputs ≤ v
     behind x v var known held same =
@@ -283,11 +265,9 @@ module _ (structs : List StructDef) (units : List UnitDef) (entry : ℕ) (laws :
         subst (λ x. var_at (site_at w activities x) v ≡ Some var) (sym same) known in
         let held_here : home_at (site_at w activities j) v ≡ Held = subst (λ x. home_at (site_at w activities x) v ≡ Held) (sym same) held in
         let unit_is : (activity_at w activities j).unit ≡ other = midway.compiled.built.unit u other there_other in
-        let copies_none : copies_inputs (site_at w activities j) ≡ false =
-        ap (λ (unit : UnitDef). is_function unit.kind && is_some unit.result) unit_is ∙ ap (λ b. not b && is_some other.result) run.active in
-        held_behind other v var (is_some (scalar_in var.ty)) (roles_at structs units entry u other midway.compiled.well_typed there_other)
-        (ap (λ (unit : UnitDef). slice_get unit.vars v) (sym unit_is) ∙ known_here)
-        (subst (λ b. home_of_role var.role (is_some (scalar_in var.ty)) b ≡ Held) copies_none (home_held j v var known_here held_here))
+        held_behind other v (site_at w activities j) var (ap (λ (unit : UnitDef). is_activity unit.kind) unit_is ∙ run.active)
+        (roles_at structs units entry u other midway.compiled.well_typed there_other)
+        (ap (λ (unit : UnitDef). slice_get unit.vars v) (sym unit_is) ∙ known_here) (sym (ap (home_of (site_at w activities j)) known_here) ∙ held_here)
 
     memory_holds : MemoryEncodes w activities j (inner (frame_at scope) n) (inner (remembered_at scope) n) frames left here
     memory_holds =
@@ -297,7 +277,8 @@ module _ (structs : List StructDef) (units : List UnitDef) (entry : ℕ) (laws :
           variables = λ x f' m' nests v var value known held now.
               kept.variables x f' m' nests v var value known held
               (sym (kept_seen laws.keep laws.homes laws.along structs units entry (laws.nest structs units entry) j other run.is_there store
-              frame_there c.values long few x v (nowhere x v var known held) (behind x v var known held)) ∙ now);
+              frame_there c.values long few x v (held_led structs units entry machine activities midway.compiled x v var known held)
+              (behind x v var known held)) ∙ now);
         }
 
     -- ---- types

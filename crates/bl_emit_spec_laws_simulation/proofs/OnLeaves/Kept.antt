@@ -14,7 +14,7 @@ use Rattle.bl_tree.specs.Typing.{TypingContext, is_activity, var_at}
 use Rattle.bl_ctext_semantics.specs.Meaning.{ArgumentValue, Scope, further, named_location}
 use Rattle.bl_ctext_semantics.specs.Memory.{Location, Memory, Projection, Root, left_after, member, same_root, value_at, variable}
 use Rattle.bl_emit_acts.specs.declared.home.Home.{Home}
-use Rattle.bl_emit_acts.specs.declared.home.Home.TheVariants.{Given as GivenHome, Held, Lent}
+use Rattle.bl_emit_acts.specs.declared.home.Home.TheVariants.{Held, Local, Lent}
 use Rattle.bl_emit_acts.specs.Types.{copy_name, variable_name}
 use Rattle.bl_emit_acts_laws_simulation.specs.Acts.{Foreign, UnchangedOutside, copy_location, lies_in}
 use Rattle.bl_emit_acts_laws_simulation.specs.Frames.{is_older, lent_at, remembered_at}
@@ -296,7 +296,7 @@ module _ (site : TypingContext) (unit : UnitDef) (remembers : Bool) (scope : Sco
           are_apart (named_location scope false name) (place_of activity x k) ≡ true
       by false Held kind is = absurd (no_such (sym kind ∙ active))
       by true Held kind is = local_older name (place_of true Held k) (places.memory (held_here k var there is)).older
-      by activity GivenHome kind is = local_local name (variable_name site.vars k) (differ k)
+      by activity Local kind is = local_local name (variable_name site.vars k) (differ k)
       by activity Lent kind is = local_older name (place_of activity Lent k) (places.pointers.lent_older k var there is)
 
   -- a number of a variable in no output's place is as it was

@@ -17,7 +17,7 @@ use Rattle.bl_tree.specs.declared.value.Value.TheOpen.{Value-F}
 use Rattle.bl_tree.specs.Program.{field_names, struct_stands, structs_stand_from}
 use Rattle.bl_tree.specs.Static.{is_front}
 use Rattle.bl_tree.specs.Words.{are_distinct}
-use Rattle.bl_eval.specs.Values.{number_in, part_of, parts_at, parts_in, value_at}
+use Rattle.bl_eval.specs.Values.{number_in, part_of, parts_at, value_at}
 use Rattle.bl_eval.specs.Values as values
 use Rattle.bl_eval.proofs.OperatorFits.{some_found}
 use Rattle.bl_eval.proofs.PartFits.{Fits}

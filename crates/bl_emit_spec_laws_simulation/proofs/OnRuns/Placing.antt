@@ -15,7 +15,7 @@ use Rattle.bl_ctext_semantics.specs.Memory.{CValue, Location, Memory, Projection
 use Rattle.bl_ctree.specs.Instances.{Setting, callee_of}
 use Rattle.bl_ctree.specs.Store.{Store}
 use Rattle.bl_emit_acts.specs.declared.home.Home.{Home}
-use Rattle.bl_emit_acts.specs.declared.home.Home.TheVariants.{Given, Held, Lent}
+use Rattle.bl_emit_acts.specs.declared.home.Home.TheVariants.{Held, Local, Lent}
 use Rattle.bl_emit_acts.specs.Types.{copy_name, variable_name}
 use Rattle.bl_emit_acts_laws_simulation.specs.Acts.{copy_location}
 use Rattle.bl_emit_acts_laws_simulation.specs.Frames.{is_older, remembered_at}
@@ -129,8 +129,8 @@ module _ (site : TypingContext) (unit : UnitDef) (remembers : Bool) (scope : Sco
               are_apart (named_location scope false name) (place_of activity x k) ≡ true
           by false Held kind is = absurd (no_such (sym kind ∙ active))
           by true Held kind is = local_older scope name (place_of true Held k) (places.pointers.held_older k var there is active)
-          by activity Given kind is =
-              last_further (named_location scope false name) (named_location scope false (variable_name site.vars k)) (lead_in Given site.vars k ++ [])
+          by activity Local kind is =
+              last_further (named_location scope false name) (named_location scope false (variable_name site.vars k)) (lead_in Local site.vars k ++ [])
               (local_local scope name (variable_name site.vars k) (other.variable k))
           by activity Lent kind is = local_older scope name (place_of activity Lent k) (places.pointers.lent_older k var there is)
 
@@ -164,8 +164,8 @@ module _ (site : TypingContext) (unit : UnitDef) (remembers : Bool) (scope : Sco
           by true Held kind is =
               last_further place (remembered_at scope) (lead_in Held site.vars k ++ [])
               (inside (remembered_at scope) (places.frame_apart.remembered k var there is active))
-          by activity Given kind is =
-              last_further place (named_location scope false (variable_name site.vars k)) (lead_in Given site.vars k ++ [])
+          by activity Local kind is =
+              last_further place (named_location scope false (variable_name site.vars k)) (lead_in Local site.vars k ++ [])
               (older_local (variable_name site.vars k))
           by activity Lent kind is =
               last_further place (named_location scope true (variable_name site.vars k)) (lead_in Lent site.vars k ++ [])

@@ -36,14 +36,15 @@ use Rattle.bl_machine_pass.specs.Transitions.{Change, Transition}
 use Rattle.bl_machine_pass.specs.Transitions.{ClearsBoth, ClearsCounter, EndsWhen, Finishes, SetsCounter, SetsFlag, SetsMark}
 use Rattle.bl_emit_acts.specs.Acts.{is_copied}
 use Rattle.bl_emit_acts.specs.declared.home.Home.{Home}
-use Rattle.bl_emit_acts.specs.declared.home.Home.TheVariants.{Held, Given, Lent}
+use Rattle.bl_emit_acts.specs.declared.home.Home.TheVariants.{Held, Local, Lent}
 use Rattle.bl_emit_acts.specs.Expressions.{scalar_at}
-use Rattle.bl_emit_acts.specs.Places.{copies_inputs, home_of, home_of_role}
+use Rattle.bl_emit_acts.specs.Places.{home_of, home_of_role}
 use Rattle.bl_emit_acts.specs.Trees.{c_place, c_step, nowhere}
 use Rattle.bl_emit_acts.specs.Types.{c_scalar, c_type, copy_name, variable_name}
 use Rattle.bl_emit_structs.specs.Structs.{arrays_of, structs_for_definition, structs_for_unit}
 use Rattle.bl_emit_functions.specs.Functions.{held_member, is_held, members_from, members_of, memory_name, param_of, params_from, struct_of}
 use Rattle.bl_emit_functions.specs.Functions as functions
+use Rattle.bl_emit_acts_laws_simulation.proofs.Homes.{activity_home}
 use Rattle.bl_emit_acts_laws_wellformed.specs.Formed.Declared.{AreDeclared, Declared, HeldIn, IsDeclaredAt, leads_through, plain_member}
 use Rattle.bl_emit_acts_laws_wellformed.specs.Formed.Declared.{variable_of}
 use Rattle.bl_emit_acts_laws_wellformed.specs.Formed.Formed.{PlaceIs}
@@ -453,23 +454,21 @@ module _ (units : List UnitDef) (entry k : ℕ) (a : Activity) (table : Table (T
   abbrev pointer_of : Var → Bool
   pointer_of var = is_output var.role || is_none (scalar_in var.ty)
 
-  given_by : (role : Role) (s : Option ScalarType) (copies : Bool) → home_of_role role (is_some s) copies ≡ Given →
+  given_by : (role : Role) (s : Option ScalarType) → home_of_role false role (is_some s) false ≡ Local →
       ((is_variable role || is_fixed role) ≡ false) × ((is_output role || is_none s) ≡ false)
-  given_by Input (Some s) copies is = (refl, refl)
-  given_by Input None true is = absurd (cc)
-  given_by Input None false is = absurd (cc)
-  given_by Output s copies is = absurd (cc)
-  given_by OfVariable s copies is = absurd (cc)
-  given_by Fixed s copies is = absurd (cc)
+  given_by Input (Some s) is = (refl, refl)
+  given_by Input None is = absurd (cc)
+  given_by Output s is = absurd (cc)
+  given_by OfVariable s is = absurd (cc)
+  given_by Fixed s is = absurd (cc)
 
-  lent_by : (role : Role) (s : Option ScalarType) (copies : Bool) → home_of_role role (is_some s) copies ≡ Lent →
+  lent_by : (role : Role) (s : Option ScalarType) → home_of_role false role (is_some s) false ≡ Lent →
       ((is_variable role || is_fixed role) ≡ false) × ((is_output role || is_none s) ≡ true)
-  lent_by Input (Some s) copies is = absurd (cc)
-  lent_by Input None true is = absurd (cc)
-  lent_by Input None false is = (refl, refl)
-  lent_by Output s copies is = (refl, refl)
-  lent_by OfVariable s copies is = absurd (cc)
-  lent_by Fixed s copies is = absurd (cc)
+  lent_by Input (Some s) is = absurd (cc)
+  lent_by Input None is = (refl, refl)
+  lent_by Output s is = (refl, refl)
+  lent_by OfVariable s is = absurd (cc)
+  lent_by Fixed s is = absurd (cc)
 
   param_of_kind : (j : ℕ) (var : Var) (pointer : Bool) → slice_get a.unit.vars j ≡ Some var → (is_variable var.role || is_fixed var.role) ≡ false →
       pointer_of var ≡ pointer → context.variables (variable_name site.vars j) ≡ Some (variable_of pointer (c_type a.structs var.ty))
@@ -497,10 +496,10 @@ module _ (units : List UnitDef) (entry k : ℕ) (a : Activity) (table : Table (T
   stands_by : (j : ℕ) (var : Var) (home : Home) → slice_get a.unit.vars j ≡ Some var → home_of site (Some var) ≡ home →
       IsDeclaredAt context true home site.vars j (c_type a.structs var.ty)
   stands_by j var Held in_vars is = held_there j var in_vars (ap is_held is)
-  stands_by j var Given in_vars is =
-      let at = given_by var.role (scalar_in var.ty) (copies_inputs site) is in param_of_kind j var false in_vars at.0 at.1
+  stands_by j var Local in_vars is =
+      let at = given_by var.role (scalar_in var.ty) (sym (activity_home site var h.active) ∙ is) in param_of_kind j var false in_vars at.0 at.1
   stands_by j var Lent in_vars is =
-      let at = lent_by var.role (scalar_in var.ty) (copies_inputs site) is in param_of_kind j var true in_vars at.0 at.1
+      let at = lent_by var.role (scalar_in var.ty) (sym (activity_home site var h.active) ∙ is) in param_of_kind j var true in_vars at.0 at.1
 
   pub variable_there : (j : ℕ) (var : Var) → var_at site j ≡ Some var →
       IsDeclaredAt context (is_activity a.unit.kind) (home_of site (Some var)) site.vars j (c_type a.structs var.ty)

@@ -1,27 +1,26 @@
 -- The variables that an activity holds, and its parameters, have no more scalars than all of its variables.
-use Rattle.std.proofs.Common.{◌≡◌, ℕ, zero, suc, ◌+◌, ◌≤◌, Bool, true, false, ◌&&◌, ◌||◌, List, [], ◌∷◌, map, length, take}
-use Rattle.std.proofs.Common.{Option, Some, None, refl, ap, ◌∙◌, arith, length-append, take-add}
+use Rattle.std.proofs.Common.{◌≡◌, ℕ, zero, suc, ◌+◌, ◌≤◌, Bool, true, false, ◌||◌, List, [], ◌∷◌, map, length, take}
+use Rattle.std.proofs.Common.{Option, Some, None, refl, sym, ap, ◌∙◌, arith, length-append, take-add}
 use Rattle.std.proofs.lemmas.List.{map-append}
 use Rattle.std.proofs.lemmas.List.Folds.{list_all-append}
 use Rattle.std.specs.List.{list_all}
 use Rattle.std.specs.Prelude.{is_none, is_some, slice_get, if◌then◌else◌}
 use Rattle.bl_tree.specs.declared.c.CMember.{CMember}
 use Rattle.bl_tree.specs.declared.scalar.Scalar.{Scalar as ScalarType}
-use Rattle.bl_tree.specs.declared.tree.Role.{Role}
-use Rattle.bl_tree.specs.declared.tree.Role.TheVariants.{Fixed, Input, Output, Variable}
 use Rattle.bl_tree.specs.declared.tree.StructDef.{StructDef}
 use Rattle.bl_tree.specs.declared.tree.Unit.{Unit as UnitDef}
-use Rattle.bl_tree.specs.declared.tree.UnitKind.{UnitKind}
-use Rattle.bl_tree.specs.declared.tree.UnitKind.TheVariants.{Activity as OfActivity, Function as OfFunction}
 use Rattle.bl_tree.specs.declared.tree.Var.{Var}
 use Rattle.bl_tree.specs.Program.{IsWellTyped, is_input, is_output, parameters_of}
 use Rattle.bl_tree.specs.Reduce.{total}
 use Rattle.bl_tree.specs.Types.{scalar_in, type_stands}
-use Rattle.bl_tree.specs.Typing.{TypingContext, inputs_of, is_activity, is_function, outputs_of, site_of}
+use Rattle.bl_tree.specs.Typing.{TypingContext, inputs_of, is_activity, outputs_of, site_of}
 use Rattle.bl_eval.proofs.PassLemmas.{and_left, and_right, both}
 use Rattle.bl_limits_measures.specs.Types.{size}
 use Rattle.bl_ctext_semantics.specs.Sizes.{Sizes, size_of_member, size_of_param, size_of_type}
-use Rattle.bl_emit_acts.specs.Places.{copies_inputs, home_of, home_of_role}
+use Rattle.bl_emit_acts.specs.declared.home.Home.{Home}
+use Rattle.bl_emit_acts.specs.declared.home.Home.TheVariants.{Held, Local, Lent}
+use Rattle.bl_emit_acts.specs.Places.{home_of, home_of_role}
+use Rattle.bl_emit_acts_laws_simulation.proofs.Homes.{activity_home, input_unheld, output_unheld}
 use Rattle.bl_emit_acts.specs.Types.{c_type}
 use Rattle.bl_emit_functions.specs.Functions.{is_held, member_of, members_from, param_of, params_from}
 use Rattle.bl_emit_functions_laws_wellformed.specs.Cells.{SizesKnown}
@@ -107,36 +106,19 @@ module _ (structs : List StructDef) (units : List UnitDef) (entry : ℕ) (keeps 
       by false none = refl
 
   module _ (active : is_activity unit.kind ≡ true) where
-    none-copied : copies_inputs site ≡ false
-    none-copied = by unit.kind active (is_some unit.result)
+    as-unheld : (var : Var) → (home_of_role false var.role (is_some (scalar_in var.ty)) false ≡ Held → ⊥) → unheld var ≡ true
+    as-unheld var never = by (home_of site (Some var)) (λ is. never (sym (activity_home site var active) ∙ is))
       where
-        by : (kind : UnitKind) → is_activity kind ≡ true → (b : Bool) → (is_function kind && b) ≡ false
-        by OfActivity is b = refl
-        by OfFunction is b = absurd (cc)
-
-    input-unheld : (role : Role) (scalar : Bool) → is_input role ≡ true → is_held (home_of_role role scalar false) ≡ false
-    input-unheld Input true is = refl
-    input-unheld Input false is = refl
-    input-unheld Output scalar is = absurd (cc)
-    input-unheld Variable scalar is = absurd (cc)
-    input-unheld Fixed scalar is = absurd (cc)
-
-    output-unheld : (role : Role) (scalar : Bool) → is_output role ≡ true → is_held (home_of_role role scalar false) ≡ false
-    output-unheld Output scalar is = refl
-    output-unheld Input scalar is = absurd (cc)
-    output-unheld Variable scalar is = absurd (cc)
-    output-unheld Fixed scalar is = absurd (cc)
-
-    as-unheld : (var : Var) → is_held (home_of_role var.role (is_some (scalar_in var.ty)) false) ≡ false → unheld var ≡ true
-    as-unheld var is =
-        ap (λ b. if b then false else true)
-        (ap (λ b. is_held (home_of_role var.role (is_some (scalar_in var.ty)) b)) none-copied ∙ is)
+        by : (home : Home) → (home ≡ Held → ⊥) → (if is_held home then false else true) ≡ true
+        by Held never = absurd (never refl)
+        by Local never = refl
+        by Lent never = refl
 
     inputs-unheld : (vars : List Var) → list_all (λ (var : Var). is_input var.role) vars ≡ true → list_all unheld vars ≡ true
     inputs-unheld [] all = refl
     inputs-unheld (var ∷ vars) all =
         both (unheld var) (list_all unheld vars)
-        (as-unheld var (input-unheld var.role (is_some (scalar_in var.ty))
+        (as-unheld var (input_unheld false var.role (is_some (scalar_in var.ty))
         (and_left (is_input var.role) (list_all (λ (var : Var). is_input var.role) vars) all)))
         (inputs-unheld vars (and_right (is_input var.role) (list_all (λ (var : Var). is_input var.role) vars) all))
 
@@ -144,7 +126,7 @@ module _ (structs : List StructDef) (units : List UnitDef) (entry : ℕ) (keeps 
     outputs-unheld [] all = refl
     outputs-unheld (var ∷ vars) all =
         both (unheld var) (list_all unheld vars)
-        (as-unheld var (output-unheld var.role (is_some (scalar_in var.ty))
+        (as-unheld var (output_unheld false var.role (is_some (scalar_in var.ty)) false
         (and_left (is_output var.role) (list_all (λ (var : Var). is_output var.role) vars) all)))
         (outputs-unheld vars (and_right (is_output var.role) (list_all (λ (var : Var). is_output var.role) vars) all))
 

@@ -32,7 +32,6 @@ use Rattle.bl_ctext_semantics.specs.Faults.{
   faults_in_head,
   is_declared,
   is_scalar,
-  returns_result,
   scalar_parameter,
   short_chain,
   variable_names,

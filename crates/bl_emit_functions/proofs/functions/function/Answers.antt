@@ -1,4 +1,4 @@
-use Rattle.std.proofs.Common.{◌≡◌, List, ◌++◌, Option, true, false, rules, ap, ◌∙◌}
+use Rattle.std.proofs.Common.{◌≡◌, List, ◌++◌, Option, true, rules, ap, ◌∙◌}
 use Rattle.std.specs.Prelude.{option_map}
 use Rattle.bl_tree.specs.declared.text.Text.{Text}
 use Rattle.bl_tree.specs.declared.c.CFunc.{CFunc}
@@ -14,17 +14,16 @@ use Rattle.bl_emit_acts.specs.Sites.{site_in}
 use Rattle.bl_emit_acts.specs.Trees.{nowhere}
 use Rattle.bl_emit_acts.specs.Types.{c_scalar, unit_name}
 use Rattle.bl_emit_functions.specs.declared.coded.Coded.{Coded}
-use Rattle.bl_emit_functions.specs.Functions.{body_code, body_coded, code_returns, copies_from, end_code, first_held, flag_locals, function_code}
-use Rattle.bl_emit_functions.specs.Functions.{holds_any, memory_local, params_from, read_code, whole_code}
-use Rattle.bl_emit_functions.specs.Reads.{reads_in_block}
+use Rattle.bl_emit_functions.specs.Functions.{again_code, body_code, body_coded, code_returns, copies_from, end_code, flag_locals, function_code}
+use Rattle.bl_emit_functions.specs.Functions.{params_from, variable_locals, whole_code}
 use Rattle.bl_emit_functions.proofs.functions.function.Goals as goal
 
 module _ (structs : List StructDef) (earlier : List UnitDef) (unit : UnitDef) (site : TypingContext) (coded : Coded) (body whole : List CStmt)
     (params : List CParam) (locals : List CLocal) (name : Text) (result : Option Scalar) where
   made_is : site ≡ site_of structs earlier unit → coded ≡ body_coded site unit →
       body ≡ copies_from site 0 (inputs_of unit) ++ (coded.code ++ end_code unit.result (code_returns coded.code)) →
-      whole ≡ read_code site (first_held site 0 unit.vars) (reads_in_block body) ++ body → params ≡ params_from structs unit.vars 0 (parameters_of unit) →
-      locals ≡ memory_local unit.name (holds_any site unit.vars) ++ flag_locals coded.free.flags → name ≡ unit_name unit.name →
+      whole ≡ again_code site unit body ++ body → params ≡ params_from structs unit.vars 0 (parameters_of unit) →
+      locals ≡ variable_locals site unit ++ flag_locals coded.free.flags → name ≡ unit_name unit.name →
       result ≡ option_map c_scalar unit.result →
       ◌≡◌ {A = CFunc} (record { place = nowhere; fixed = true; result = result; name = name; params = params; locals = locals; body = whole })
       (function_code structs earlier unit)
@@ -34,13 +33,13 @@ module _ (structs : List StructDef) (earlier : List UnitDef) (unit : UnitDef) (s
       ∙ ap (λ (coded : Coded). copies_from site 0 (inputs_of unit) ++ (coded.code ++ end_code unit.result (code_returns coded.code))) of_coded in
       let whole_is : whole ≡ whole_code (site_of structs earlier unit) unit =
       of_whole
-      ∙ (ap (λ (body : List CStmt). read_code site (first_held site 0 unit.vars) (reads_in_block body) ++ body) body_is
+      ∙ (ap (λ (body : List CStmt). again_code site unit body ++ body) body_is
       ∙ ap (λ (site : TypingContext). whole_code site unit) of_site) in
-      let locals_are : locals ≡ memory_local unit.name (holds_any (site_of structs earlier unit) unit.vars)
+      let locals_are : locals ≡ variable_locals (site_of structs earlier unit) unit
       ++ flag_locals (body_coded (site_of structs earlier unit) unit).free.flags =
       of_locals
-      ∙ (ap (λ (coded : Coded). memory_local unit.name (holds_any site unit.vars) ++ flag_locals coded.free.flags) of_coded
-      ∙ ap (λ (site : TypingContext). memory_local unit.name (holds_any site unit.vars) ++ flag_locals (body_coded site unit).free.flags) of_site) in
+      ∙ (ap (λ (coded : Coded). variable_locals site unit ++ flag_locals coded.free.flags) of_coded
+      ∙ ap (λ (site : TypingContext). variable_locals site unit ++ flag_locals (body_coded site unit).free.flags) of_site) in
       λ i. record {
         place = nowhere;
         fixed = true;
