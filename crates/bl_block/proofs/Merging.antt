@@ -1,24 +1,5 @@
 -- What is made of an activity is an activity with its blocks joined, and so it is of each.
-use Rattle.std.proofs.Common.{
-  ◌≡◌,
-  ℕ,
-  ◌+◌,
-  ◌<◌,
-  Bool,
-  List,
-  [],
-  ◌∷◌,
-  ◌++◌,
-  length,
-  get_or,
-  take,
-  refl,
-  ap,
-  sym,
-  subst,
-  ◌∙◌,
-  arith,
-}
+use Rattle.std.proofs.Common.{◌≡◌, ℕ, ◌+◌, ◌<◌, Bool, List, [], ◌∷◌, ◌++◌, length, get_or, take, refl, ap, sym, subst, ◌∙◌, arith}
 use Rattle.std.specs.Prelude.{IsPermutation, slice_get}
 use Rattle.std.proofs.lemmas.List.{take_more}
 use Rattle.std.proofs.lemmas.List.Elements.{All-contains}
@@ -41,14 +22,7 @@ use Rattle.bl_block.specs.inner.Groups.{grouped}
 use Rattle.bl_block.specs.inner.Merging.{EachMerges, Merges}
 use Rattle.bl_block.specs.inner.Ways.{follows, ways_of}
 use Rattle.bl_block.proofs.Beginning.{Begins, begins}
-use Rattle.bl_block.proofs.Grouping.{
-  Chain,
-  apart_grouped,
-  chain_at,
-  chains_grouped,
-  filled_grouped,
-  joined_grouped,
-}
+use Rattle.bl_block.proofs.Grouping.{Chain, apart_grouped, chain_at, chains_grouped, filled_grouped, joined_grouped}
 use Rattle.bl_block.proofs.Tests.{opposite}
 use Rattle.bl_block.proofs.Telling.{following_passes, passing_follows}
 

@@ -1,32 +1,6 @@
 -- What a walk over edges notes of each node.
-use Rattle.std.proofs.Common.{
-  ◌≡◌,
-  ℕ,
-  ◌<◌,
-  ◌≤◌,
-  Bool,
-  true,
-  false,
-  ◌⊎◌,
-  ⊎_elim,
-  inl,
-  inr,
-  List,
-  [],
-  ◌∷◌,
-  length,
-  get_or,
-  set,
-  replicate,
-  refl,
-  ap,
-  sym,
-  subst,
-  ◌∙◌,
-  zero,
-  suc,
-  arith,
-}
+use Rattle.std.proofs.Common.{◌≡◌, ℕ, ◌<◌, ◌≤◌, Bool, true, false, ◌⊎◌, ⊎_elim, inl, inr, List, [], ◌∷◌, length, get_or, set, replicate, refl, ap, sym, subst}
+use Rattle.std.proofs.Common.{◌∙◌, zero, suc, arith}
 use Rattle.std.specs.Prelude.{Contains, if◌then◌else◌, nat_eq}
 use Rattle.std.proofs.lemmas.Bool.{cases_eq, cases_lt}
 use Rattle.std.proofs.lemmas.List.{get_or-replicate, get_or-set_other, get_or-set_same, get_or_past, length-replicate, length-set}

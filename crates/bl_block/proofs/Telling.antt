@@ -1,50 +1,12 @@
 -- The test of two nodes tells whether the second could follow the first in one block.
-use Rattle.std.proofs.Common.{
-  ◌≡◌,
-  ℕ,
-  ◌<◌,
-  Bool,
-  true,
-  false,
-  not,
-  ◌&&◌,
-  ◌⊎◌,
-  inl,
-  inr,
-  List,
-  Some,
-  length,
-  get_or,
-  replicate,
-  refl,
-  ap,
-  sym,
-  subst,
-  ◌∙◌,
-}
+use Rattle.std.proofs.Common.{◌≡◌, ℕ, ◌<◌, Bool, true, false, not, ◌&&◌, ◌⊎◌, inl, inr, List, Some, length, get_or, replicate, refl, ap, sym, subst, ◌∙◌}
 use Rattle.std.specs.Prelude.{Contains, nat_eq, option_map, slice_get}
 use Rattle.std.proofs.lemmas.Option.{same_Some, slice_get-get_or, slice_get-map, slice_get_within}
 use Rattle.bl_tree.specs.declared.graph.Edge.{Edge as GraphEdge}
 use Rattle.bl_tree.specs.declared.graph.Node.{Node as GraphNode}
 use Rattle.bl_graph_nodes.specs.Laws.{EachOnce}
-use Rattle.bl_graph_nodes.specs.Nodes.{
-  ActAt,
-  CheckAt,
-  DepthEndAt,
-  DepthJoinAt,
-  EnterAt,
-  ForkAt,
-  HeadAt,
-  Node,
-  PauseAt,
-  ResumeAt,
-  StartAt,
-  SurfaceEndAt,
-  SurfaceJoinAt,
-  TestAt,
-  kind_of_node,
-  nodes_in,
-}
+use Rattle.bl_graph_nodes.specs.Nodes.{ActAt, CheckAt, DepthEndAt, DepthJoinAt, EnterAt, ForkAt, HeadAt, Node, PauseAt, ResumeAt, StartAt, SurfaceEndAt}
+use Rattle.bl_graph_nodes.specs.Nodes.{SurfaceJoinAt, TestAt, kind_of_node, nodes_in}
 use Rattle.bl_graph_nodes.specs.Plain.{Block}
 use Rattle.bl_graph.specs.Edges.{EdgeAll}
 use Rattle.bl_graph.specs.Graph.{EdgeBetween, IsTickGraph, edge_between, graph_node}

@@ -1,26 +1,5 @@
 -- The first failure over several graphs, and their orders.
-use Rattle.std.proofs.Common.{
-  ◌≡◌,
-  ◌≤◌,
-  arith,
-  true,
-  false,
-  Option,
-  Some,
-  None,
-  List,
-  [],
-  ◌∷◌,
-  ◌++◌,
-  ◌⊎◌,
-  inl,
-  inr,
-  ⊎_elim,
-  refl,
-  sym,
-  subst,
-  ◌∙◌,
-}
+use Rattle.std.proofs.Common.{◌≡◌, ◌≤◌, arith, true, false, Option, Some, None, List, [], ◌∷◌, ◌++◌, ◌⊎◌, inl, inr, ⊎_elim, refl, sym, subst, ◌∙◌}
 use Rattle.std.specs.Prelude.{Contains, MatchOption, ⊤, if◌then◌else◌}
 use Rattle.bl_tree.specs.declared.graph.Edge.{Edge}
 use Rattle.bl_tree.specs.declared.graph.Graph.{Graph}

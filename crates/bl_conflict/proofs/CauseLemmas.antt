@@ -1,25 +1,5 @@
 -- What is found first is why a program is refused, and where nothing is found it passes.
-use Rattle.std.proofs.Common.{
-  ◌≡◌,
-  Bool,
-  true,
-  false,
-  ◌&&◌,
-  cond,
-  List,
-  [],
-  ◌∷◌,
-  ◌++◌,
-  map,
-  inl,
-  ⊎_elim,
-  Option,
-  Some,
-  None,
-  refl,
-  sym,
-  subst,
-}
+use Rattle.std.proofs.Common.{◌≡◌, Bool, true, false, ◌&&◌, cond, List, [], ◌∷◌, ◌++◌, map, inl, ⊎_elim, Option, Some, None, refl, sym, subst}
 use Rattle.std.specs.Prelude.{slice_get}
 use Rattle.bl_tree.specs.declared.place.Place.{Place}
 use Rattle.bl_tree.specs.declared.rule.Failure.{Failure}
@@ -35,26 +15,9 @@ use Rattle.bl_tree.specs.Typing.{is_activity}
 use Rattle.bl_tree.proofs.FirstLemmas.{In, alike_first, alike_passes, contains_in, first_fails, in_contains, is_cause, none_passes}
 use Rattle.bl_effects.specs.declared.marked.Marked.{Marked}
 use Rattle.bl_effects.specs.Rules.{Fails, FailsAlias, FailsConflict, FailsInstant, FailsPause, Passes, instant_loops, splits_of}
-use Rattle.bl_conflict.specs.inner.Failures.{
-  alias_failures,
-  aliases_of_unit,
-  clash_of,
-  clashes,
-  clashes_at,
-  clashes_of_unit,
-  clashes_under,
-  clashes_with,
-  conflict_failures,
-  failures,
-  instant_failures,
-  loops_of,
-  of_alias,
-  of_clash,
-  of_loop,
-  of_pause,
-  pause_failures,
-  pause_of,
-}
+use Rattle.bl_conflict.specs.inner.Failures.{alias_failures, aliases_of_unit, clash_of, clashes, clashes_at, clashes_of_unit, clashes_under, clashes_with}
+use Rattle.bl_conflict.specs.inner.Failures.{conflict_failures, failures, instant_failures, loops_of, of_alias, of_clash, of_loop, of_pause, pause_failures}
+use Rattle.bl_conflict.specs.inner.Failures.{pause_of}
 use Rattle.bl_conflict.proofs.InLemmas.{append_left, append_right, in_append, in_joined, in_map, joined_in, map_in}
 
 -- ---- tests

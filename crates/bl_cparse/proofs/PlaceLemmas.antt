@@ -1,26 +1,5 @@
 -- Where a text leaves the prelude.
-use Rattle.std.proofs.Common.{
-  ◌≡◌,
-  ◌≢◌,
-  ℕ,
-  suc,
-  ◌<◌,
-  ◌≤◌,
-  List,
-  [],
-  ◌∷◌,
-  ◌++◌,
-  length,
-  drop,
-  get_or,
-  refl,
-  ap,
-  ◌∙◌,
-  subst,
-  ◌⊎◌,
-  ⊎_elim,
-  arith,
-}
+use Rattle.std.proofs.Common.{◌≡◌, ◌≢◌, ℕ, suc, ◌<◌, ◌≤◌, List, [], ◌∷◌, ◌++◌, length, drop, get_or, refl, ap, ◌∙◌, subst, ◌⊎◌, ⊎_elim, arith}
 use Rattle.std.proofs.str.Laws.{order}
 use Rattle.bl_ctext.specs.Prelude.{prelude}
 use Rattle.bl_cparse.specs.Places.{LeavesPreludeAt}

@@ -9,15 +9,8 @@ use Rattle.bl_ctext.specs.Token.{Token, is_word}
 use Rattle.bl_ctext.specs.Names.{begins_with_digit, c_keywords, grammar_words, is_among, is_name, is_turn_name, prelude_functions}
 use Rattle.bl_grammar.proofs.Predictive.{and_left, and_right, not_both}
 use Rattle.bl_cparse_syntax.specs.declared.grammar.Group.{Group}
-use Rattle.bl_cparse_syntax.specs.declared.grammar.Group.TheVariants.{
-  ScalarTypes,
-  PlainLiterals,
-  Operators,
-  IndexFunctions,
-  StructWords,
-  FunctionWords,
-  PreludeFunctions,
-}
+use Rattle.bl_cparse_syntax.specs.declared.grammar.Group.TheVariants.{ScalarTypes, PlainLiterals, Operators, IndexFunctions, StructWords, FunctionWords}
+use Rattle.bl_cparse_syntax.specs.declared.grammar.Group.TheVariants.{PreludeFunctions}
 use Rattle.bl_cparse_syntax.specs.declared.grammar.Digits.TheVariants.{Elements, Int, Negated, Unsigned}
 use Rattle.bl_cparse_syntax.specs.Pieces.{is_same}
 use Rattle.bl_cparse_syntax.specs.Classes.{Class, words_of, spells_number, matches}

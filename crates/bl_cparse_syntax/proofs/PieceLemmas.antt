@@ -1,33 +1,6 @@
 -- What bytes are cut into, by how they begin.
-use Rattle.std.proofs.Common.{
-  ◌≡◌,
-  ℕ,
-  suc,
-  ◌+◌,
-  ◌-◌,
-  ◌<◌,
-  ◌≤◌,
-  Bool,
-  true,
-  false,
-  ◌&&◌,
-  nat_lt,
-  List,
-  [],
-  ◌∷◌,
-  ◌++◌,
-  length,
-  map,
-  drop,
-  get_or,
-  refl,
-  sym,
-  ap,
-  ◌∙◌,
-  ◌⊎◌,
-  ⊎_elim,
-  arith,
-}
+use Rattle.std.proofs.Common.{◌≡◌, ℕ, suc, ◌+◌, ◌-◌, ◌<◌, ◌≤◌, Bool, true, false, ◌&&◌, nat_lt, List, [], ◌∷◌, ◌++◌, length, map, drop, get_or, refl, sym, ap}
+use Rattle.std.proofs.Common.{◌∙◌, ◌⊎◌, ⊎_elim, arith}
 use Rattle.std.specs.Prelude.{slice_range}
 use Rattle.std.proofs.lemmas.Bool.Decides.{nat_tests}
 use Rattle.std.proofs.str.Laws.{order}

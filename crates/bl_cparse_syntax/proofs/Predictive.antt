@@ -1,27 +1,5 @@
 -- The grammar is one that the next piece decides.
-use Rattle.std.proofs.Common.{
-  ◌≡◌,
-  ℕ,
-  ◌<◌,
-  ◌≤◌,
-  Bool,
-  true,
-  false,
-  not,
-  cond,
-  ◌&&◌,
-  ◌||◌,
-  List,
-  [],
-  ◌∷◌,
-  map,
-  refl,
-  ap,
-  sym,
-  ◌∙◌,
-  subst,
-  arith,
-}
+use Rattle.std.proofs.Common.{◌≡◌, ℕ, ◌<◌, ◌≤◌, Bool, true, false, not, cond, ◌&&◌, ◌||◌, List, [], ◌∷◌, map, refl, ap, sym, ◌∙◌, subst, arith}
 use Rattle.std.specs.Prelude.{Option, Some, None, nat_lt, nat_le, codes}
 use Rattle.std.proofs.lemmas.Bool.{ltb-true, leb-true}
 use Rattle.bl_ctext.specs.Token.{Token}
@@ -38,23 +16,8 @@ use Rattle.bl_cparse_syntax.specs.Tables.{has, firsts, starts, absent, choices, 
 use Rattle.bl_cparse_syntax.specs.Follow.{avoided, height, depth, are_lower, is_lower, lower_of}
 use Rattle.bl_cparse_syntax.specs.Stack.{tables}
 use Rattle.bl_cparse_syntax.proofs.ClassLemmas.{not_true, not_false, named_of, exactly_is, turn_of_is, turn_of_turn, sampled}
-use Rattle.bl_cparse_syntax.proofs.Checks.{
-  are_apart,
-  are_within,
-  heads_of,
-  may_vanish,
-  follows,
-  is_headed,
-  has_lower,
-  is_turn,
-  has_no_turn,
-  names_first,
-  headed,
-  followed,
-  shallow,
-  lower,
-  named_first,
-}
+use Rattle.bl_cparse_syntax.proofs.Checks.{are_apart, are_within, heads_of, may_vanish, follows, is_headed, has_lower, is_turn, has_no_turn, names_first}
+use Rattle.bl_cparse_syntax.proofs.Checks.{headed, followed, shallow, lower, named_first}
 use Rattle.bl_cparse_syntax.proofs.Right.{apart, within, has_append, all_among, Empty, empty_is, is_empty, chosen_among, begun_of, pick_of, empty_pick, free_of}
 
 -- one of the part's productions in its room, where this is the name of the loop's turns

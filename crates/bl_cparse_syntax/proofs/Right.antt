@@ -1,27 +1,5 @@
 -- The tables are right, and one piece decides.
-use Rattle.std.proofs.Common.{
-  ◌≡◌,
-  ◌≤◌,
-  Bool,
-  true,
-  false,
-  not,
-  cond,
-  ◌||◌,
-  ◌⊎◌,
-  ⊎_elim,
-  inl,
-  inr,
-  List,
-  [],
-  ◌∷◌,
-  ◌++◌,
-  refl,
-  ap,
-  sym,
-  ◌∙◌,
-  subst,
-}
+use Rattle.std.proofs.Common.{◌≡◌, ◌≤◌, Bool, true, false, not, cond, ◌||◌, ◌⊎◌, ⊎_elim, inl, inr, List, [], ◌∷◌, ◌++◌, refl, ap, sym, ◌∙◌, subst}
 use Rattle.std.specs.Prelude.{Some, None, nat_le}
 use Rattle.std.proofs.lemmas.Bool.{leb-true, le-leb}
 use Rattle.std.specs.List.{list_all, list_any}

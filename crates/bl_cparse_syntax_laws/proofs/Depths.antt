@@ -1,37 +1,6 @@
 -- The pieces of a text that derives are tokens, and no more brackets are open at once than there is room for.
-use Rattle.std.proofs.Common.{
-  ◌≡◌,
-  ℕ,
-  suc,
-  ◌+◌,
-  ◌-◌,
-  ◌^◌,
-  ◌≤◌,
-  ◌<◌,
-  max,
-  cond,
-  Bool,
-  true,
-  false,
-  not,
-  ◌&&◌,
-  nat_eq,
-  nat_le,
-  List,
-  [],
-  ◌∷◌,
-  ◌++◌,
-  map,
-  refl,
-  sym,
-  ap,
-  ◌∙◌,
-  subst,
-  append_assoc,
-  append-nil,
-  arith,
-  Option,
-}
+use Rattle.std.proofs.Common.{◌≡◌, ℕ, suc, ◌+◌, ◌-◌, ◌^◌, ◌≤◌, ◌<◌, max, cond, Bool, true, false, not, ◌&&◌, nat_eq, nat_le, List, [], ◌∷◌, ◌++◌, map, refl}
+use Rattle.std.proofs.Common.{sym, ap, ◌∙◌, subst, append_assoc, append-nil, arith, Option}
 use Rattle.std.specs.Fmt.{decimal}
 use Rattle.std.specs.List.{list_all}
 use Rattle.std.proofs.lemmas.Bool.Decides.{nat_tests}
@@ -47,59 +16,14 @@ use Rattle.bl_ctext.proofs.Words.{name-token, turn_name-token, decimal-token}
 use Rattle.bl_grammar.specs.declared.symbol.Symbol.TheVariants.{Terminal, Nonterminal}
 use Rattle.bl_grammar.specs.Derivations.Derives.{done, terminal, part}
 use Rattle.bl_cparse_syntax.specs.declared.grammar.Group.{Group}
-use Rattle.bl_cparse_syntax.specs.declared.grammar.Group.TheVariants.{
-  ScalarTypes,
-  PlainLiterals,
-  Operators,
-  IndexFunctions,
-  StructWords,
-  FunctionWords,
-  PreludeFunctions,
-}
+use Rattle.bl_cparse_syntax.specs.declared.grammar.Group.TheVariants.{ScalarTypes, PlainLiterals, Operators, IndexFunctions, StructWords, FunctionWords}
+use Rattle.bl_cparse_syntax.specs.declared.grammar.Group.TheVariants.{PreludeFunctions}
 use Rattle.bl_cparse_syntax.specs.declared.grammar.Digits.{Digits}
 use Rattle.bl_cparse_syntax.specs.declared.grammar.Part.{Part}
-use Rattle.bl_cparse_syntax.specs.declared.grammar.Part.TheVariants.{
-  File,
-  Structs,
-  Struct,
-  StructName,
-  Members,
-  Member,
-  TypeName,
-  Length,
-  Funcs,
-  Func,
-  PlainFunc,
-  FuncRest,
-  FuncName,
-  Params,
-  ParamRest,
-  Param,
-  Star,
-  Locals,
-  Local,
-  Stmts,
-  Stmt,
-  Else,
-  Turns,
-  AfterName,
-  AssignTail,
-  Value,
-  AfterOpen,
-  Result,
-  Expr,
-  Simple,
-  Constant,
-  Inside,
-  Negative,
-  NameUse,
-  Steps,
-  Index,
-  Args,
-  ArgRest,
-  Arg,
-  Place,
-}
+use Rattle.bl_cparse_syntax.specs.declared.grammar.Part.TheVariants.{File, Structs, Struct, StructName, Members, Member, TypeName, Length, Funcs, Func}
+use Rattle.bl_cparse_syntax.specs.declared.grammar.Part.TheVariants.{PlainFunc, FuncRest, FuncName, Params, ParamRest, Param, Star, Locals, Local, Stmts, Stmt}
+use Rattle.bl_cparse_syntax.specs.declared.grammar.Part.TheVariants.{Else, Turns, AfterName, AssignTail, Value, AfterOpen, Result, Expr, Simple, Constant}
+use Rattle.bl_cparse_syntax.specs.declared.grammar.Part.TheVariants.{Inside, Negative, NameUse, Steps, Index, Args, ArgRest, Arg, Place}
 use Rattle.bl_cparse_syntax.specs.declared.grammar.Roomed.{Roomed}
 use Rattle.bl_cparse_syntax.specs.declared.grammar.Within.{Within}
 use Rattle.bl_cparse_syntax.specs.Classes.{Class, words_of, digits_bound, matches}

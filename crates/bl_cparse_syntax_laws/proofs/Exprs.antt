@@ -1,30 +1,6 @@
 -- The tokens of an expression that has a spelling derive, and so do those of its parts.
-use Rattle.std.proofs.Common.{
-  ◌≡◌,
-  ℕ,
-  ◌+◌,
-  ◌-◌,
-  ◌≤◌,
-  ◌<◌,
-  Bool,
-  true,
-  false,
-  ◌&&◌,
-  nat_le,
-  List,
-  [],
-  ◌∷◌,
-  ◌++◌,
-  map,
-  Option,
-  Some,
-  None,
-  refl,
-  sym,
-  subst,
-  arith,
-  codes,
-}
+use Rattle.std.proofs.Common.{◌≡◌, ℕ, ◌+◌, ◌-◌, ◌≤◌, ◌<◌, Bool, true, false, ◌&&◌, nat_le, List, [], ◌∷◌, ◌++◌, map, Option, Some, None, refl, sym, subst}
+use Rattle.std.proofs.Common.{arith, codes}
 use Rattle.std.proofs.lemmas.Bool.Decides.{nat_tests}
 use Rattle.std.specs.Fmt.{decimal}
 use Rattle.bl_tree.specs.declared.place.Place.{Place as TextPlace}
@@ -40,30 +16,10 @@ use Rattle.bl_tree.specs.declared.c.CArg.{CArg, CArg-F, fold-roll-CArg, map-CArg
 use Rattle.bl_tree.specs.Reduce.{all_of}
 use Rattle.bl_ctext.specs.Token.{Token}
 use Rattle.bl_ctext.specs.Names.{is_among, is_name, is_callee}
-use Rattle.bl_ctext.specs.Spelling.{
-  operator_sign,
-  call_tokens,
-  index_front,
-  expr_tokens,
-  kind_tokens,
-  place_tokens,
-  step_tokens,
-  index_tokens,
-  ccall_tokens,
-  arg_tokens,
-}
-use Rattle.bl_ctext.specs.Spellable.{
-  is_c_operator,
-  is_length,
-  most_open,
-  spells_expr,
-  spells_kind,
-  spells_place,
-  spells_step,
-  spells_index,
-  spells_call,
-  spells_arg,
-}
+use Rattle.bl_ctext.specs.Spelling.{operator_sign, call_tokens, index_front, expr_tokens, kind_tokens, place_tokens, step_tokens, index_tokens, ccall_tokens}
+use Rattle.bl_ctext.specs.Spelling.{arg_tokens}
+use Rattle.bl_ctext.specs.Spellable.{is_c_operator, is_length, most_open, spells_expr, spells_kind, spells_place, spells_step, spells_index, spells_call}
+use Rattle.bl_ctext.specs.Spellable.{spells_arg}
 use Rattle.bl_ctext.proofs.Bytes.{and-fst, and-snd}
 use Rattle.bl_ctext.proofs.Nesting.{is_bracket}
 use Rattle.bl_cparse_syntax.specs.declared.grammar.Group.TheVariants.{Operators, IndexFunctions}
@@ -76,20 +32,8 @@ use Rattle.bl_cparse_syntax.specs.Grammar.IsAmong.{here, later}
 use Rattle.bl_cparse_syntax_laws.proofs.Shallow.{Goes, at, roomed, free, open_then, close_then, class_then, word_then, one_behind}
 use Rattle.bl_cparse_syntax_laws.proofs.Literals.{OfKindTokens, literal_begun, number_is, number_plain}
 use Rattle.bl_cparse_syntax_laws.proofs.Literals.Begun.{simple}
-use Rattle.bl_cparse_syntax_laws.proofs.Lists.{
-  Whole,
-  Each,
-  OfStepTokens,
-  OfPlaceTokens,
-  apart,
-  name_then,
-  whole_expr,
-  not_begun,
-  two_begun,
-  call_simple,
-  call_stmt,
-  place_goes,
-}
+use Rattle.bl_cparse_syntax_laws.proofs.Lists.{Whole, Each, OfStepTokens, OfPlaceTokens, apart, name_then, whole_expr, not_begun, two_begun, call_simple}
+use Rattle.bl_cparse_syntax_laws.proofs.Lists.{call_stmt, place_goes}
 
 sign_is : (o : Op) → is_c_operator o ≡ true → (matches (one_of Operators) (operator_sign o) ≡ true) × (is_bracket (operator_sign o) ≡ false)
 unfolding matches is_among

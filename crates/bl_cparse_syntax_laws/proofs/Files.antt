@@ -1,31 +1,6 @@
 -- The tokens of structs and functions that have a spelling derive, and so do those of a file.
-use Rattle.std.proofs.Common.{
-  ◌≡◌,
-  ℕ,
-  ◌+◌,
-  ◌≤◌,
-  Bool,
-  true,
-  false,
-  ◌&&◌,
-  List,
-  [],
-  ◌∷◌,
-  ◌++◌,
-  map,
-  Option,
-  Some,
-  None,
-  refl,
-  sym,
-  ap,
-  ◌∙◌,
-  subst,
-  append_assoc,
-  append-nil,
-  arith,
-  codes,
-}
+use Rattle.std.proofs.Common.{◌≡◌, ℕ, ◌+◌, ◌≤◌, Bool, true, false, ◌&&◌, List, [], ◌∷◌, ◌++◌, map, Option, Some, None, refl, sym, ap, ◌∙◌, subst, append_assoc}
+use Rattle.std.proofs.Common.{append-nil, arith, codes}
 use Rattle.std.proofs.lemmas.Bool.{leb-true}
 use Rattle.std.specs.Fmt.{decimal}
 use Rattle.bl_tree.specs.declared.scalar.Width.TheVariants.{W8, W16, W32, W64}
@@ -41,65 +16,16 @@ use Rattle.bl_tree.specs.declared.c.CFunc.{CFunc}
 use Rattle.bl_tree.specs.Reduce.{all_of, joined}
 use Rattle.bl_ctext.specs.Token.{Token}
 use Rattle.bl_ctext.specs.Names.{is_among, is_name, is_struct_name, is_function_name}
-use Rattle.bl_ctext.specs.Spelling.{
-  scalar_word,
-  type_tokens,
-  length_tokens,
-  member_tokens,
-  struct_tokens,
-  star_if,
-  param_tokens,
-  zero_tokens,
-  local_tokens,
-  returned_tokens,
-  static_if,
-  stmt_tokens,
-  func_tokens,
-  func_front,
-  func_rest,
-  listed,
-  with_commas,
-  tokens_of,
-}
-use Rattle.bl_ctext.specs.Spellable.{
-  has_any,
-  is_c_scalar,
-  is_spellable,
-  most_open,
-  spells_type,
-  spells_length,
-  spells_member,
-  spells_struct,
-  spells_param,
-  spells_local,
-  spells_returned,
-  spells_stmt,
-  spells_func,
-}
+use Rattle.bl_ctext.specs.Spelling.{scalar_word, type_tokens, length_tokens, member_tokens, struct_tokens, star_if, param_tokens, zero_tokens, local_tokens}
+use Rattle.bl_ctext.specs.Spelling.{returned_tokens, static_if, stmt_tokens, func_tokens, func_front, func_rest, listed, with_commas, tokens_of}
+use Rattle.bl_ctext.specs.Spellable.{has_any, is_c_scalar, is_spellable, most_open, spells_type, spells_length, spells_member, spells_struct, spells_param}
+use Rattle.bl_ctext.specs.Spellable.{spells_local, spells_returned, spells_stmt, spells_func}
 use Rattle.bl_ctext.proofs.Bytes.{and-fst, and-snd}
 use Rattle.bl_ctext.proofs.Nesting.{is_bracket}
 use Rattle.bl_cparse_syntax.specs.declared.grammar.Group.TheVariants.{ScalarTypes}
 use Rattle.bl_cparse_syntax.specs.declared.grammar.Digits.TheVariants.{Elements}
-use Rattle.bl_cparse_syntax.specs.declared.grammar.Part.TheVariants.{
-  File,
-  Structs,
-  Struct,
-  Members,
-  Member,
-  TypeName,
-  Length,
-  Funcs,
-  Func,
-  PlainFunc,
-  FuncRest,
-  Params,
-  ParamRest,
-  Param,
-  Star,
-  Locals,
-  Local,
-  Stmt,
-}
+use Rattle.bl_cparse_syntax.specs.declared.grammar.Part.TheVariants.{File, Structs, Struct, Members, Member, TypeName, Length, Funcs, Func, PlainFunc, FuncRest}
+use Rattle.bl_cparse_syntax.specs.declared.grammar.Part.TheVariants.{Params, ParamRest, Param, Star, Locals, Local, Stmt}
 use Rattle.bl_cparse_syntax.specs.Classes.{matches}
 use Rattle.bl_cparse_syntax.specs.Classes.Class.{one_of, number}
 use Rattle.bl_cparse_syntax.specs.Grammar.{Wanted, SpellText}

@@ -1,25 +1,5 @@
 -- Names, steps and arguments, one after another.
-use Rattle.std.proofs.Common.{
-  ◌≡◌,
-  ℕ,
-  ◌+◌,
-  Bool,
-  true,
-  false,
-  ◌⊎◌,
-  inl,
-  inr,
-  List,
-  [],
-  ◌∷◌,
-  ◌++◌,
-  refl,
-  sym,
-  subst,
-  append_assoc,
-  arith,
-  codes,
-}
+use Rattle.std.proofs.Common.{◌≡◌, ℕ, ◌+◌, Bool, true, false, ◌⊎◌, inl, inr, List, [], ◌∷◌, ◌++◌, refl, sym, subst, append_assoc, arith, codes}
 use Rattle.bl_tree.specs.Reduce.{joined}
 use Rattle.bl_ctext.specs.Token.{Token}
 use Rattle.bl_ctext.specs.Names.{is_among, is_name, is_struct_name, is_function_name, is_callee, prelude_functions}
@@ -30,25 +10,8 @@ use Rattle.bl_ctext.proofs.PlainWords.{name-plain, callee-plain, struct_name-pla
 use Rattle.bl_grammar.specs.declared.symbol.Symbol.TheVariants.{Terminal}
 use Rattle.bl_cparse_syntax.specs.declared.grammar.Group.TheVariants.{Operators, PreludeFunctions, StructWords, FunctionWords}
 use Rattle.bl_cparse_syntax.specs.declared.grammar.Part.{Part}
-use Rattle.bl_cparse_syntax.specs.declared.grammar.Part.TheVariants.{
-  StructName,
-  FuncName,
-  Stmt,
-  AfterName,
-  AssignTail,
-  Value,
-  AfterOpen,
-  Expr,
-  Simple,
-  Inside,
-  NameUse,
-  Steps,
-  Index,
-  Args,
-  ArgRest,
-  Arg,
-  Place,
-}
+use Rattle.bl_cparse_syntax.specs.declared.grammar.Part.TheVariants.{StructName, FuncName, Stmt, AfterName, AssignTail, Value, AfterOpen, Expr, Simple, Inside}
+use Rattle.bl_cparse_syntax.specs.declared.grammar.Part.TheVariants.{NameUse, Steps, Index, Args, ArgRest, Arg, Place}
 use Rattle.bl_cparse_syntax.specs.Classes.{matches}
 use Rattle.bl_cparse_syntax.specs.Classes.Class.{exactly, one_of, a_name}
 use Rattle.bl_cparse_syntax.specs.Grammar.{Wanted}

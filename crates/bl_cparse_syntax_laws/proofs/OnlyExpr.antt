@@ -1,38 +1,6 @@
 -- An expression, a place and a call are told by their tokens.
-use Rattle.std.proofs.Common.{
-  ◌≡◌,
-  ℕ,
-  ◌<◌,
-  ◌^◌,
-  ℤ,
-  pos,
-  negsuc,
-  suc,
-  ◌==◌,
-  cond,
-  Bool,
-  true,
-  false,
-  not,
-  ◌&&◌,
-  nat_le,
-  List,
-  [],
-  ◌∷◌,
-  ◌++◌,
-  map,
-  Option,
-  Some,
-  None,
-  refl,
-  sym,
-  ap,
-  ◌∙◌,
-  subst,
-  append_assoc,
-  codes,
-  arith,
-}
+use Rattle.std.proofs.Common.{◌≡◌, ℕ, ◌<◌, ◌^◌, ℤ, pos, negsuc, suc, ◌==◌, cond, Bool, true, false, not, ◌&&◌, nat_le, List, [], ◌∷◌, ◌++◌, map, Option, Some}
+use Rattle.std.proofs.Common.{None, refl, sym, ap, ◌∙◌, subst, append_assoc, codes, arith}
 use Rattle.std.proofs.lemmas.Bool.Decides.{nat_tests}
 use Rattle.std.proofs.lemmas.Fmt.{decimal_injective}
 use Rattle.std.specs.Fmt.{decimal}
@@ -52,34 +20,10 @@ use Rattle.bl_tree.specs.declared.c.CArg.{CArg, CArg-F, map-CArg, roll-CArg, out
 use Rattle.bl_tree.specs.Reduce.{all_of, joined}
 use Rattle.bl_ctext.specs.Token.{Token}
 use Rattle.bl_ctext.specs.Names.{is_name, is_callee}
-use Rattle.bl_ctext.specs.Spelling.{
-  literal_tokens,
-  negatives,
-  operator_sign,
-  width_digits,
-  with_commas,
-  root_tokens,
-  index_front,
-  expr_tokens,
-  kind_tokens,
-  place_tokens,
-  step_tokens,
-  index_tokens,
-  ccall_tokens,
-  arg_tokens,
-}
-use Rattle.bl_ctext.specs.Spellable.{
-  is_c_operator,
-  is_literal,
-  is_length,
-  spells_expr,
-  spells_kind,
-  spells_place,
-  spells_step,
-  spells_index,
-  spells_call,
-  spells_arg,
-}
+use Rattle.bl_ctext.specs.Spelling.{literal_tokens, negatives, operator_sign, width_digits, with_commas, root_tokens, index_front, expr_tokens, kind_tokens}
+use Rattle.bl_ctext.specs.Spelling.{place_tokens, step_tokens, index_tokens, ccall_tokens, arg_tokens}
+use Rattle.bl_ctext.specs.Spellable.{is_c_operator, is_literal, is_length, spells_expr, spells_kind, spells_place, spells_step, spells_index, spells_call}
+use Rattle.bl_ctext.specs.Spellable.{spells_arg}
 use Rattle.bl_ctext.proofs.Bytes.{and-fst, and-snd}
 use Rattle.bl_ctext.proofs.PrefixedNames.{name-callee}
 use Rattle.bl_cparse_syntax_laws.specs.Placeless.{any_place, placeless_expr, placeless_place, placeless_call}
@@ -87,46 +31,10 @@ use Rattle.bl_cparse_syntax_laws.specs.inner.Placeless.{placeless_kind, placeles
 use Rattle.bl_cparse_syntax_laws.proofs.Tests.{is, among, are_reserved, first, tail, second, no_truth, lacks, callee_off, name_off}
 use Rattle.bl_cparse_syntax_laws.proofs.Rows.{Only, InRow, InCommas, stands, each_shown, rows_same, commas_same}
 use Rattle.bl_cparse_syntax_laws.proofs.Words.{operator_same, operator_off, literal_same}
-use Rattle.bl_cparse_syntax_laws.proofs.Layers.{
-  by_level,
-  Args,
-  Kinds,
-  Calls,
-  Exprs,
-  Indices,
-  Places,
-  Steps,
-  OnlyLevel,
-  only_whole,
-  arg_level,
-  arg_ok,
-  arg_bare,
-  kind_level,
-  kind_ok,
-  kind_bare,
-  call_level,
-  call_ok,
-  call_bare,
-  expr_level,
-  expr_ok,
-  expr_bare,
-  index_level,
-  index_ok,
-  index_bare,
-  place_level,
-  place_ok,
-  place_bare,
-  step_level,
-  step_ok,
-  step_bare,
-  arg_levels,
-  kind_levels,
-  call_levels,
-  expr_levels,
-  index_levels,
-  place_levels,
-  step_levels,
-}
+use Rattle.bl_cparse_syntax_laws.proofs.Layers.{by_level, Args, Kinds, Calls, Exprs, Indices, Places, Steps, OnlyLevel, only_whole, arg_level, arg_ok, arg_bare}
+use Rattle.bl_cparse_syntax_laws.proofs.Layers.{kind_level, kind_ok, kind_bare, call_level, call_ok, call_bare, expr_level, expr_ok, expr_bare, index_level}
+use Rattle.bl_cparse_syntax_laws.proofs.Layers.{index_ok, index_bare, place_level, place_ok, place_bare, step_level, step_ok, step_bare, arg_levels}
+use Rattle.bl_cparse_syntax_laws.proofs.Layers.{kind_levels, call_levels, expr_levels, index_levels, place_levels, step_levels}
 
 -- ---- what stands first
 

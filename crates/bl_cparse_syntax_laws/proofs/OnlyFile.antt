@@ -1,29 +1,6 @@
 -- A file is told by its tokens.
-use Rattle.std.proofs.Common.{
-  ◌≡◌,
-  ℕ,
-  Bool,
-  true,
-  false,
-  not,
-  ◌&&◌,
-  List,
-  [],
-  ◌∷◌,
-  ◌++◌,
-  map,
-  Option,
-  Some,
-  None,
-  refl,
-  sym,
-  ap,
-  ◌∙◌,
-  subst,
-  append_assoc,
-  append-nil,
-  codes,
-}
+use Rattle.std.proofs.Common.{◌≡◌, ℕ, Bool, true, false, not, ◌&&◌, List, [], ◌∷◌, ◌++◌, map, Option, Some, None, refl, sym, ap, ◌∙◌, subst, append_assoc}
+use Rattle.std.proofs.Common.{append-nil, codes}
 use Rattle.std.proofs.lemmas.Fmt.{decimal_injective}
 use Rattle.bl_tree.specs.declared.scalar.Width.TheVariants.{W8, W16, W32, W64}
 use Rattle.bl_tree.specs.declared.scalar.Scalar.{Scalar}
@@ -42,41 +19,10 @@ use Rattle.bl_ctext.specs.Names.{is_name}
 use Rattle.bl_ctext.specs.Prelude.{prelude}
 use Rattle.bl_ctext.specs.SpellsC.{SpellsC}
 use Rattle.bl_ctext.specs.declared.file.CFile.{CFile}
-use Rattle.bl_ctext.specs.Spelling.{
-  scalar_word,
-  type_tokens,
-  with_commas,
-  braced,
-  stmt_tokens,
-  length_tokens,
-  member_tokens,
-  struct_tokens,
-  star_if,
-  param_tokens,
-  zero_tokens,
-  local_tokens,
-  returned_tokens,
-  static_if,
-  func_front,
-  func_rest,
-  func_tokens,
-  tokens_of,
-}
-use Rattle.bl_ctext.specs.Spellable.{
-  has_any,
-  is_c_scalar,
-  is_spellable,
-  shallow,
-  spells_type,
-  spells_length,
-  spells_member,
-  spells_struct,
-  spells_param,
-  spells_local,
-  spells_returned,
-  spells_func,
-  spells_stmt,
-}
+use Rattle.bl_ctext.specs.Spelling.{scalar_word, type_tokens, with_commas, braced, stmt_tokens, length_tokens, member_tokens, struct_tokens, star_if}
+use Rattle.bl_ctext.specs.Spelling.{param_tokens, zero_tokens, local_tokens, returned_tokens, static_if, func_front, func_rest, func_tokens, tokens_of}
+use Rattle.bl_ctext.specs.Spellable.{has_any, is_c_scalar, is_spellable, shallow, spells_type, spells_length, spells_member, spells_struct, spells_param}
+use Rattle.bl_ctext.specs.Spellable.{spells_local, spells_returned, spells_func, spells_stmt}
 use Rattle.bl_ctext.proofs.Bytes.{and-fst, and-snd}
 use Rattle.bl_cparse_syntax_laws.specs.Placeless.{any_place, placeless_stmt, placeless_struct, placeless_func, SameButPlaces}
 use Rattle.bl_cparse_syntax_laws.proofs.Tests.{is, among, first, tail, second, no_truth, lacks, fewer_lacks, name_off}

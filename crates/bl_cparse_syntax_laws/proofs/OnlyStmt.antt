@@ -1,34 +1,6 @@
 -- A statement is told by its tokens.
-use Rattle.std.proofs.Common.{
-  ◌≡◌,
-  ℕ,
-  cond,
-  Bool,
-  true,
-  false,
-  not,
-  ◌&&◌,
-  ◌==◌,
-  suc,
-  pos,
-  negsuc,
-  ℤ,
-  List,
-  [],
-  ◌∷◌,
-  ◌++◌,
-  map,
-  Option,
-  Some,
-  None,
-  refl,
-  sym,
-  ap,
-  ◌∙◌,
-  subst,
-  append_assoc,
-  codes,
-}
+use Rattle.std.proofs.Common.{◌≡◌, ℕ, cond, Bool, true, false, not, ◌&&◌, ◌==◌, suc, pos, negsuc, ℤ, List, [], ◌∷◌, ◌++◌, map, Option, Some, None, refl, sym}
+use Rattle.std.proofs.Common.{ap, ◌∙◌, subst, append_assoc, codes}
 use Rattle.bl_tree.specs.declared.place.Place.{Place as TextPlace}
 use Rattle.bl_tree.specs.declared.scalar.Width.{Width}
 use Rattle.bl_tree.specs.declared.scalar.Width.TheVariants.{W8, W16, W32, W64}
@@ -44,27 +16,9 @@ use Rattle.bl_tree.specs.declared.c.CStmtKind.{CStmtKind, CStmtKind-F, fold-roll
 use Rattle.bl_tree.specs.Reduce.{all_of, joined}
 use Rattle.bl_ctext.specs.Token.{Token}
 use Rattle.bl_ctext.specs.Names.{is_name, is_struct_name, is_turn_name}
-use Rattle.bl_ctext.specs.Spelling.{
-  literal_tokens,
-  negatives,
-  width_digits,
-  with_commas,
-  root_tokens,
-  expr_tokens,
-  kind_tokens,
-  place_tokens,
-  step_tokens,
-  ccall_tokens,
-  arg_tokens,
-  braced,
-  result_tokens,
-  condition_tokens,
-  zeros_tokens,
-  turn_declared,
-  turn_counted,
-  stmt_tokens,
-  stmt_kind_tokens,
-}
+use Rattle.bl_ctext.specs.Spelling.{literal_tokens, negatives, width_digits, with_commas, root_tokens, expr_tokens, kind_tokens, place_tokens, step_tokens}
+use Rattle.bl_ctext.specs.Spelling.{ccall_tokens, arg_tokens, braced, result_tokens, condition_tokens, zeros_tokens, turn_declared, turn_counted, stmt_tokens}
+use Rattle.bl_ctext.specs.Spelling.{stmt_kind_tokens}
 use Rattle.bl_ctext.specs.Spellable.{is_literal, spells_expr, spells_kind, spells_place, spells_step, spells_call, spells_result, spells_stmt, spells_stmt_kind}
 use Rattle.bl_ctext.proofs.Bytes.{and-fst, and-snd}
 use Rattle.bl_cparse_syntax_laws.specs.Placeless.{any_place, placeless_expr, placeless_place, placeless_call, placeless_result, placeless_stmt}
@@ -72,23 +26,8 @@ use Rattle.bl_cparse_syntax_laws.specs.inner.Placeless.{placeless_stmt_kind}
 use Rattle.bl_cparse_syntax_laws.proofs.Tests.{is, among, first, tail, second, no_truth, lacks, callee_off, name_off}
 use Rattle.bl_cparse_syntax_laws.proofs.Rows.{Only, InRow, stands, stands_is, each_shown, closed_same, braced_same}
 use Rattle.bl_cparse_syntax_laws.proofs.Layers.{by_level, Kinds, OnlyLevel, Levels, only_whole, kind_level, kind_ok}
-use Rattle.bl_cparse_syntax_laws.proofs.OnlyExpr.{
-  ends,
-  foreign,
-  Front,
-  of_places,
-  of_calls,
-  of_kinds,
-  of_exprs,
-  place_front,
-  call_front,
-  expr_front,
-  steps_open,
-  before_same,
-  one_expr,
-  one_place,
-  one_call,
-}
+use Rattle.bl_cparse_syntax_laws.proofs.OnlyExpr.{ends, foreign, Front, of_places, of_calls, of_kinds, of_exprs, place_front, call_front, expr_front}
+use Rattle.bl_cparse_syntax_laws.proofs.OnlyExpr.{steps_open, before_same, one_expr, one_place, one_call}
 
 -- ---- levels
 

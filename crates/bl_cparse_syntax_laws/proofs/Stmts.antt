@@ -1,30 +1,6 @@
 -- The tokens of a statement that has a spelling derive.
-use Rattle.std.proofs.Common.{
-  ◌≡◌,
-  ℕ,
-  ◌+◌,
-  ◌-◌,
-  ◌≤◌,
-  true,
-  false,
-  ◌&&◌,
-  List,
-  [],
-  ◌∷◌,
-  ◌++◌,
-  map,
-  Option,
-  Some,
-  None,
-  refl,
-  sym,
-  ap,
-  ◌∙◌,
-  subst,
-  append_assoc,
-  arith,
-  codes,
-}
+use Rattle.std.proofs.Common.{◌≡◌, ℕ, ◌+◌, ◌-◌, ◌≤◌, true, false, ◌&&◌, List, [], ◌∷◌, ◌++◌, map, Option, Some, None, refl, sym, ap, ◌∙◌, subst, append_assoc}
+use Rattle.std.proofs.Common.{arith, codes}
 use Rattle.bl_tree.specs.declared.place.Place.{Place as TextPlace}
 use Rattle.bl_tree.specs.declared.c.CExpr.{CExpr}
 use Rattle.bl_tree.specs.declared.c.CStmt.{CStmt, fold-roll-CStmt, roll-CStmt, ind-CStmt}
@@ -32,18 +8,8 @@ use Rattle.bl_tree.specs.declared.c.CStmtKind.{CStmtKind, CStmtKind-F, fold-roll
 use Rattle.bl_tree.specs.Reduce.{all_of, joined}
 use Rattle.bl_ctext.specs.Token.{Token}
 use Rattle.bl_ctext.specs.Names.{is_struct_name, is_turn_name}
-use Rattle.bl_ctext.specs.Spelling.{
-  expr_tokens,
-  place_tokens,
-  ccall_tokens,
-  result_tokens,
-  condition_tokens,
-  zeros_tokens,
-  turn_declared,
-  turn_counted,
-  stmt_tokens,
-  stmt_kind_tokens,
-}
+use Rattle.bl_ctext.specs.Spelling.{expr_tokens, place_tokens, ccall_tokens, result_tokens, condition_tokens, zeros_tokens, turn_declared, turn_counted}
+use Rattle.bl_ctext.specs.Spelling.{stmt_tokens, stmt_kind_tokens}
 use Rattle.bl_ctext.specs.Spellable.{most_open, spells_expr, spells_place, spells_result, spells_stmt, spells_stmt_kind}
 use Rattle.bl_ctext.proofs.Bytes.{and-fst, and-snd}
 use Rattle.bl_ctext.proofs.ExprNesting.{expr-nests}

@@ -1,37 +1,6 @@
 -- Which tokens each part of the grammar stands for, by trees that have them, and how a tree is put together.
-use Rattle.std.proofs.Common.{
-  ◌≡◌,
-  ℕ,
-  zero,
-  suc,
-  ◌*◌,
-  ◌≤◌,
-  ◌<◌,
-  ◌==◌,
-  pos,
-  negsuc,
-  Bool,
-  true,
-  false,
-  ◌&&◌,
-  nat_le,
-  nat_lt,
-  List,
-  [],
-  ◌∷◌,
-  ◌++◌,
-  map,
-  Option,
-  Some,
-  refl,
-  sym,
-  ap,
-  ◌∙◌,
-  append_assoc,
-  append-nil,
-  codes,
-  arith,
-}
+use Rattle.std.proofs.Common.{◌≡◌, ℕ, zero, suc, ◌*◌, ◌≤◌, ◌<◌, ◌==◌, pos, negsuc, Bool, true, false, ◌&&◌, nat_le, nat_lt, List, [], ◌∷◌, ◌++◌, map, Option}
+use Rattle.std.proofs.Common.{Some, refl, sym, ap, ◌∙◌, append_assoc, append-nil, codes, arith}
 use Rattle.std.proofs.lemmas.Bool.Decides.{nat_tests}
 use Rattle.std.specs.Fmt.{decimal}
 use Rattle.bl_tree.specs.declared.scalar.Width.{Width}
@@ -48,138 +17,27 @@ use Rattle.bl_tree.specs.declared.c.CStmtKind.{CStmtKind-F}
 use Rattle.bl_tree.specs.Reduce.{all_of, joined}
 use Rattle.bl_ctext.specs.Token.{Token}
 use Rattle.bl_ctext.specs.Names.{is_name, is_struct_name, is_function_name, is_callee, is_turn_name}
-use Rattle.bl_ctext.specs.Spelling.{
-  scalar_word,
-  type_tokens,
-  constant_word,
-  negatives,
-  operator_sign,
-  listed,
-  with_commas,
-  braced,
-  root_tokens,
-  index_front,
-  expr_tokens,
-  kind_tokens,
-  place_tokens,
-  step_tokens,
-  index_tokens,
-  ccall_tokens,
-  arg_tokens,
-  turn_declared,
-  turn_counted,
-  stmt_tokens,
-  stmt_kind_tokens,
-  length_tokens,
-  member_tokens,
-  struct_tokens,
-  star_if,
-  param_tokens,
-  local_tokens,
-  returned_tokens,
-  static_if,
-  func_tokens,
-  tokens_of,
-}
-use Rattle.bl_ctext.specs.Spellable.{
-  has_any,
-  is_c_scalar,
-  is_c_operator,
-  is_length,
-  spells_expr,
-  spells_kind,
-  spells_place,
-  spells_step,
-  spells_index,
-  spells_call,
-  spells_arg,
-  spells_stmt,
-  spells_stmt_kind,
-  spells_type,
-  spells_length,
-  spells_member,
-  spells_struct,
-  spells_param,
-  spells_local,
-  spells_returned,
-  spells_func,
-}
+use Rattle.bl_ctext.specs.Spelling.{scalar_word, type_tokens, constant_word, negatives, operator_sign, listed, with_commas, braced, root_tokens, index_front}
+use Rattle.bl_ctext.specs.Spelling.{expr_tokens, kind_tokens, place_tokens, step_tokens, index_tokens, ccall_tokens, arg_tokens, turn_declared, turn_counted}
+use Rattle.bl_ctext.specs.Spelling.{stmt_tokens, stmt_kind_tokens, length_tokens, member_tokens, struct_tokens, star_if, param_tokens, local_tokens}
+use Rattle.bl_ctext.specs.Spelling.{returned_tokens, static_if, func_tokens, tokens_of}
+use Rattle.bl_ctext.specs.Spellable.{has_any, is_c_scalar, is_c_operator, is_length, spells_expr, spells_kind, spells_place, spells_step, spells_index}
+use Rattle.bl_ctext.specs.Spellable.{spells_call, spells_arg, spells_stmt, spells_stmt_kind, spells_type, spells_length, spells_member, spells_struct}
+use Rattle.bl_ctext.specs.Spellable.{spells_param, spells_local, spells_returned, spells_func}
 use Rattle.bl_ctext.proofs.Bytes.{and-fst, and-snd, both}
 use Rattle.bl_cparse_syntax.specs.declared.grammar.Part.{Part}
-use Rattle.bl_cparse_syntax.specs.declared.grammar.Part.TheVariants.{
-  File,
-  Structs,
-  Struct,
-  StructName,
-  Members,
-  Member,
-  TypeName,
-  Length,
-  Funcs,
-  Func,
-  PlainFunc,
-  FuncRest,
-  FuncName,
-  Params,
-  ParamRest,
-  Param,
-  Star,
-  Locals,
-  Local,
-  Stmts,
-  Stmt,
-  Else,
-  Turns,
-  AfterName,
-  AssignTail,
-  Value,
-  AfterOpen,
-  Result,
-  Expr,
-  Simple,
-  Constant,
-  Inside,
-  Negative,
-  NameUse,
-  Steps,
-  Index,
-  Args,
-  ArgRest,
-  Arg,
-  Place,
-}
+use Rattle.bl_cparse_syntax.specs.declared.grammar.Part.TheVariants.{File, Structs, Struct, StructName, Members, Member, TypeName, Length, Funcs, Func}
+use Rattle.bl_cparse_syntax.specs.declared.grammar.Part.TheVariants.{PlainFunc, FuncRest, FuncName, Params, ParamRest, Param, Star, Locals, Local, Stmts, Stmt}
+use Rattle.bl_cparse_syntax.specs.declared.grammar.Part.TheVariants.{Else, Turns, AfterName, AssignTail, Value, AfterOpen, Result, Expr, Simple, Constant}
+use Rattle.bl_cparse_syntax.specs.declared.grammar.Part.TheVariants.{Inside, Negative, NameUse, Steps, Index, Args, ArgRest, Arg, Place}
 use Rattle.bl_cparse_syntax.specs.declared.grammar.Group.TheVariants.{PlainLiterals, IndexFunctions}
 use Rattle.bl_cparse_syntax.specs.declared.grammar.Digits.TheVariants.{Elements, Int, Negated, Unsigned}
 use Rattle.bl_cparse_syntax.specs.Classes.{words_of}
 use Rattle.bl_cparse_syntax_laws.specs.Placeless.{any_place}
 use Rattle.bl_cparse_syntax_laws.proofs.Rows.{braces}
-use Rattle.bl_cparse_syntax_laws.proofs.Layers.{
-  Levels,
-  Places,
-  arg_level,
-  arg_ok,
-  kind_level,
-  kind_ok,
-  call_level,
-  call_ok,
-  expr_level,
-  expr_ok,
-  index_level,
-  index_ok,
-  place_level,
-  place_ok,
-  maybe_index,
-  maybe_ok,
-  step_level,
-  step_ok,
-  arg_levels,
-  kind_levels,
-  call_levels,
-  expr_levels,
-  index_levels,
-  place_levels,
-  step_levels,
-}
+use Rattle.bl_cparse_syntax_laws.proofs.Layers.{Levels, Places, arg_level, arg_ok, kind_level, kind_ok, call_level, call_ok, expr_level, expr_ok, index_level}
+use Rattle.bl_cparse_syntax_laws.proofs.Layers.{index_ok, place_level, place_ok, maybe_index, maybe_ok, step_level, step_ok, arg_levels, kind_levels}
+use Rattle.bl_cparse_syntax_laws.proofs.Layers.{call_levels, expr_levels, index_levels, place_levels, step_levels}
 use Rattle.bl_cparse_syntax_laws.proofs.OnlyStmt.{else_level, else_ok, stmt_level, stmt_ok, stmt_kind_levels, whole_level, whole_ok, stmt_levels}
 use Rattle.bl_cparse_syntax_laws.proofs.Pieces.{OneOf, Spelled}
 

@@ -1,27 +1,5 @@
 -- Rows of inputs and outputs in the cells.
-use Rattle.std.proofs.Common.{
-  ◌≡◌,
-  ℕ,
-  zero,
-  suc,
-  ◌+◌,
-  ◌-◌,
-  ◌<◌,
-  ◌≤◌,
-  ℤ,
-  pos,
-  true,
-  ◌&&◌,
-  List,
-  [],
-  ◌∷◌,
-  map,
-  length,
-  take,
-  drop,
-  slice_get,
-  slice_set,
-}
+use Rattle.std.proofs.Common.{◌≡◌, ℕ, zero, suc, ◌+◌, ◌-◌, ◌<◌, ◌≤◌, ℤ, pos, true, ◌&&◌, List, [], ◌∷◌, map, length, take, drop, slice_get, slice_set}
 use Rattle.std.proofs.Common.{Some, refl, ap, sym, ◌∙◌, arith, drop-cons, get_or}
 use Rattle.std.specs.Prelude.{filter_map, option_map}
 use Rattle.std.specs.List.{cons_option, list_all}

@@ -1,22 +1,5 @@
 -- Runs of the machine, where parts of the code stand, and what temporaries keep.
-use Rattle.std.proofs.Common.{
-  ◌≡◌,
-  ◌≤◌,
-  ℕ,
-  zero,
-  suc,
-  ◌+◌,
-  ℤ,
-  List,
-  [],
-  ◌∷◌,
-  ◌++◌,
-  length,
-  drop,
-  Option,
-  Some,
-  None,
-}
+use Rattle.std.proofs.Common.{◌≡◌, ◌≤◌, ℕ, zero, suc, ◌+◌, ℤ, List, [], ◌∷◌, ◌++◌, length, drop, Option, Some, None}
 use Rattle.std.proofs.Common.{refl, ap, sym, ◌∙◌, subst, inl, inr, add-zero, append_assoc, drop-drop, drop_at, length-append, length-set, arith}
 use Rattle.std.specs.Prelude.{slice_get, slice_set}
 use Rattle.bl_ctext_semantics_laws.specs.Flat.{Cells, FlatAnswer, cell_at, flat_answer, flat_next, going_on}

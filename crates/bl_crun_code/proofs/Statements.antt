@@ -1,29 +1,5 @@
 -- The code of a statement that stands alone, or that chooses, does what the statement does.
-use Rattle.std.proofs.Common.{
-  ◌≡◌,
-  ◌≤◌,
-  ℕ,
-  suc,
-  ◌+◌,
-  ℤ,
-  pos,
-  Bool,
-  true,
-  false,
-  List,
-  [],
-  ◌∷◌,
-  ◌++◌,
-  length,
-  Option,
-  Some,
-  None,
-  refl,
-  ap,
-  sym,
-  ◌∙◌,
-  subst,
-}
+use Rattle.std.proofs.Common.{◌≡◌, ◌≤◌, ℕ, suc, ◌+◌, ℤ, pos, Bool, true, false, List, [], ◌∷◌, ◌++◌, length, Option, Some, None, refl, ap, sym, ◌∙◌, subst}
 use Rattle.std.proofs.Common.{add-zero, append-nil, append_assoc, length-append, arith}
 use Rattle.std.specs.Prelude.{◌&&◌, slice_set, if◌then◌else◌}
 use Rattle.bl_tree.specs.declared.c.CType.{CType}

@@ -1,32 +1,6 @@
 -- Many cells set one after the other.
-use Rattle.std.proofs.Common.{
-  ◌≡◌,
-  ℕ,
-  suc,
-  zero,
-  ◌+◌,
-  ◌-◌,
-  ◌≤◌,
-  ◌<◌,
-  ℤ,
-  pos,
-  List,
-  [],
-  ◌∷◌,
-  length,
-  drop,
-  arith,
-  sym,
-  ◌∙◌,
-  ap,
-  refl,
-  get_or,
-  min,
-  ◌^◌,
-  ◌≢◌,
-  length-set,
-  ⊎_elim,
-}
+use Rattle.std.proofs.Common.{◌≡◌, ℕ, suc, zero, ◌+◌, ◌-◌, ◌≤◌, ◌<◌, ℤ, pos, List, [], ◌∷◌, length, drop, arith, sym, ◌∙◌, ap, refl, get_or, min, ◌^◌, ◌≢◌}
+use Rattle.std.proofs.Common.{length-set, ⊎_elim}
 use Rattle.std.proofs.str.Laws.{order}
 use Rattle.std.specs.Prelude.{slice_set}
 use Rattle.std.proofs.lemmas.List.{set-set, set_comm, set_past, drop_all}

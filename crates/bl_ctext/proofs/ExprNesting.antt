@@ -1,27 +1,5 @@
 -- An expression that has a spelling closes each bracket that it opens, and opens at once no more than its depth.
-use Rattle.std.proofs.Common.{
-  ◌≡◌,
-  ℕ,
-  suc,
-  ◌+◌,
-  ◌*◌,
-  ◌^◌,
-  ◌≤◌,
-  ◌<◌,
-  max,
-  cond,
-  ℤ,
-  pos,
-  negsuc,
-  Bool,
-  true,
-  false,
-  ◌&&◌,
-  ◌==◌,
-  nat_lt,
-  nat_le,
-  List,
-}
+use Rattle.std.proofs.Common.{◌≡◌, ℕ, suc, ◌+◌, ◌*◌, ◌^◌, ◌≤◌, ◌<◌, max, cond, ℤ, pos, negsuc, Bool, true, false, ◌&&◌, ◌==◌, nat_lt, nat_le, List}
 use Rattle.std.proofs.Common.{[], ◌∷◌, ◌++◌, map, Option, Some, None, refl, subst, arith, codes}
 use Rattle.std.proofs.lemmas.Bool.Decides.{nat_tests}
 use Rattle.std.specs.Fmt.{decimal}

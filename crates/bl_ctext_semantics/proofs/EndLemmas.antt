@@ -1,27 +1,5 @@
 -- How statements of a well-formed file end.
-use Rattle.std.proofs.Common.{
-  ◌≡◌,
-  ℕ,
-  zero,
-  suc,
-  ◌+◌,
-  ◌<◌,
-  ℤ,
-  pos,
-  Bool,
-  true,
-  false,
-  ◌&&◌,
-  ◌||◌,
-  List,
-  [],
-  ◌∷◌,
-  ◌++◌,
-  map,
-  length,
-  get_or,
-  Option,
-}
+use Rattle.std.proofs.Common.{◌≡◌, ℕ, zero, suc, ◌+◌, ◌<◌, ℤ, pos, Bool, true, false, ◌&&◌, ◌||◌, List, [], ◌∷◌, ◌++◌, map, length, get_or, Option}
 use Rattle.std.proofs.Common.{Some, None, refl}
 use Rattle.std.specs.Prelude.{All, not, is_none, nat_lt, nat_le, if◌then◌else◌}
 use Rattle.std.specs.List.{list_all}

@@ -1,27 +1,5 @@
 -- The scalars of a type in order, and the cells before each.
-use Rattle.std.proofs.Common.{
-  ◌≡◌,
-  ℕ,
-  zero,
-  suc,
-  ◌+◌,
-  ◌*◌,
-  ◌≤◌,
-  ◌<◌,
-  Bool,
-  true,
-  false,
-  List,
-  [],
-  ◌∷◌,
-  ◌++◌,
-  map,
-  length,
-  Option,
-  Some,
-  None,
-  refl,
-}
+use Rattle.std.proofs.Common.{◌≡◌, ℕ, zero, suc, ◌+◌, ◌*◌, ◌≤◌, ◌<◌, Bool, true, false, List, [], ◌∷◌, ◌++◌, map, length, Option, Some, None, refl}
 use Rattle.std.proofs.Common.{ap, sym, subst, ◌∙◌, arith, append-nil, append_assoc, length-append, suc-mul, zero-mul}
 use Rattle.std.specs.Prelude.{flat_map, is_some, is_none, bytes_eq, unwrap_or, option_map, option_and_then, nat_lt, if◌then◌else◌}
 use Rattle.std.specs.List.{list_all}

@@ -1,28 +1,6 @@
 -- The numbers of the three objects, rows of inputs and of outputs, in cells.
 use Rattle.bl_tree.specs.Ports.{in_ranges}
-use Rattle.std.proofs.Common.{
-  ◌≡◌,
-  ℕ,
-  suc,
-  ◌+◌,
-  ◌≤◌,
-  ℤ,
-  pos,
-  Bool,
-  true,
-  false,
-  ◌&&◌,
-  List,
-  [],
-  ◌∷◌,
-  ◌++◌,
-  map,
-  length,
-  take,
-  drop,
-  replicate,
-  Option,
-}
+use Rattle.std.proofs.Common.{◌≡◌, ℕ, suc, ◌+◌, ◌≤◌, ℤ, pos, Bool, true, false, ◌&&◌, List, [], ◌∷◌, ◌++◌, map, length, take, drop, replicate, Option}
 use Rattle.std.proofs.Common.{Some, None, refl, ap, sym, subst, ◌∙◌, arith, append-nil, append_assoc, length-append}
 use Rattle.std.specs.Prelude.{option_map, bytes_eq, is_some, is_none, flat_map, filter_map, unwrap_or, codes, nat_le, slice_set, if◌then◌else◌}
 use Rattle.std.specs.List.{cons_option, list_all}

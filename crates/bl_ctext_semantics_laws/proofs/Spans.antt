@@ -1,28 +1,5 @@
 -- What cells have after some of them were written.
-use Rattle.std.proofs.Common.{
-  ◌≡◌,
-  ℕ,
-  zero,
-  suc,
-  ◌+◌,
-  ◌-◌,
-  ◌≤◌,
-  ◌<◌,
-  inl,
-  inr,
-  ⊎_elim,
-  ℤ,
-  pos,
-  Bool,
-  true,
-  false,
-  ◌&&◌,
-  List,
-  [],
-  ◌∷◌,
-  ◌++◌,
-  length,
-}
+use Rattle.std.proofs.Common.{◌≡◌, ℕ, zero, suc, ◌+◌, ◌-◌, ◌≤◌, ◌<◌, inl, inr, ⊎_elim, ℤ, pos, Bool, true, false, ◌&&◌, List, [], ◌∷◌, ◌++◌, length}
 use Rattle.std.proofs.Common.{take, drop, get_or, refl, ap, ◌∙◌, arith, length-set, get_or-set_same, get_or-set_other, length-append, length-take-le}
 use Rattle.std.proofs.Common.{length-drop, get_or-take, get_or-drop}
 use Rattle.std.specs.Prelude.{nat_le, slice_set, if◌then◌else◌}

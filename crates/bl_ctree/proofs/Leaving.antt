@@ -6,112 +6,20 @@ use Rattle.bl_tree.specs.declared.tree.Branch.{Branch, out-Branch}
 use Rattle.bl_tree.specs.declared.tree.Stmt.{Stmt}
 use Rattle.bl_tree.specs.declared.tree.Unit.{Unit as UnitDef}
 use Rattle.bl_ctree.specs.Actions.{Action}
-use Rattle.bl_ctree.specs.Control.{
-  Control,
-  Branches,
-  Nil,
-  Wait,
-  Test,
-  Idle,
-  Do,
-  Turn,
-  Seq,
-  Par,
-  Guard,
-  Run,
-  Check,
-  Body,
-  do_all,
-  followed,
-  seq,
-  branches_begun,
-  woken,
-  all_woken,
-  is_nil,
-}
+use Rattle.bl_ctree.specs.Control.{Control, Branches, Nil, Wait, Test, Idle, Do, Turn, Seq, Par, Guard, Run, Check, Body, do_all, followed, seq, branches_begun}
+use Rattle.bl_ctree.specs.Control.{woken, all_woken, is_nil}
 use Rattle.bl_ctree.specs.Instances.{Setting, unit_at}
-use Rattle.bl_ctree.specs.Laws.{
-  BlocksFit,
-  ItemsBeginResidual,
-  ReachedInsideIsResidual,
-  ReachedIsResidual,
-  SeqIsResidual,
-  StepsKeepResidual,
-  WakingKeepsResidual,
-  WokenTreeIsResidual,
-}
-use Rattle.bl_ctree.specs.Residual.{
-  Residual,
-  ResidualEach,
-  ResidualOf,
-  ResidualTree,
-  SplitsAt,
-  TestsFit,
-  a_begin,
-  an_again,
-  ended,
-  has_begun,
-  here,
-  no_branch_left,
-  no_item,
-  not_begun,
-  nothing,
-  of_again,
-  of_arm,
-  of_else,
-  of_further,
-  of_guard,
-  of_last,
-  of_one,
-  of_par,
-  of_repeat,
-  of_run,
-  of_until,
-  of_while,
-  one_branch_left,
-  paused,
-  tested,
-  there,
-  to_begin,
-  to_turn,
-}
+use Rattle.bl_ctree.specs.Laws.{BlocksFit, ItemsBeginResidual, ReachedInsideIsResidual, ReachedIsResidual, SeqIsResidual, StepsKeepResidual}
+use Rattle.bl_ctree.specs.Laws.{WakingKeepsResidual, WokenTreeIsResidual}
+use Rattle.bl_ctree.specs.Residual.{Residual, ResidualEach, ResidualOf, ResidualTree, SplitsAt, TestsFit, a_begin, an_again, ended, has_begun, here}
+use Rattle.bl_ctree.specs.Residual.{no_branch_left, no_item, not_begun, nothing, of_again, of_arm, of_else, of_further, of_guard, of_last, of_one, of_par}
+use Rattle.bl_ctree.specs.Residual.{of_repeat, of_run, of_until, of_while, one_branch_left, paused, tested, there, to_begin, to_turn}
 use Rattle.bl_ctree.specs.Means.{entry_items}
 use Rattle.bl_ctree.specs.Positions.{Item, Again, Begin, Located, Position, block_items, body_items, items_from}
 use Rattle.bl_ctree.specs.Reaches.{Reaches, after_tick, at_first}
-use Rattle.bl_ctree.specs.Steps.{
-  Moves,
-  OneMoves,
-  acts,
-  takes_arm,
-  passes_arm,
-  takes_else,
-  pauses,
-  runs,
-  repeats,
-  repeats_until,
-  leaves,
-  turns,
-  enters,
-  skips,
-  forks,
-  guards,
-  goes_on,
-  waits,
-  lets,
-  aborts,
-  resets,
-  guard_ends,
-  copies,
-  run_ends,
-  joins,
-  in_seq,
-  in_par,
-  in_guard,
-  in_run,
-  first,
-  later,
-  turn_items,
-}
+use Rattle.bl_ctree.specs.Steps.{Moves, OneMoves, acts, takes_arm, passes_arm, takes_else, pauses, runs, repeats, repeats_until, leaves, turns, enters, skips}
+use Rattle.bl_ctree.specs.Steps.{forks, guards, goes_on, waits, lets, aborts, resets, guard_ends, copies, run_ends, joins, in_seq, in_par, in_guard, in_run}
+use Rattle.bl_ctree.specs.Steps.{first, later, turn_items}
 use Rattle.bl_ctree.specs.Store.{Store}
 use Rattle.bl_ctree.specs.Ticks.{End, Rests, Steps, none, traps, step}
 

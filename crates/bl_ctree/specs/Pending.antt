@@ -14,27 +14,8 @@ use Rattle.bl_tree.specs.Instant.{instant}
 use Rattle.bl_tree.specs.Static.{static_of}
 use Rattle.bl_effects.specs.Surface.{surface_of}
 use Rattle.bl_ctree.specs.Actions.{Action, reads_of}
-use Rattle.bl_ctree.specs.Control.{
-  Control,
-  Branches,
-  Nil,
-  Wait,
-  Test,
-  Idle,
-  Do,
-  Turn,
-  Seq,
-  Par,
-  Guard,
-  Run,
-  no_branch,
-  branch,
-  Phase,
-  Check,
-  Body,
-  has_strong,
-  is_settled,
-}
+use Rattle.bl_ctree.specs.Control.{Control, Branches, Nil, Wait, Test, Idle, Do, Turn, Seq, Par, Guard, Run, no_branch, branch, Phase, Check, Body, has_strong}
+use Rattle.bl_ctree.specs.Control.{is_settled}
 use Rattle.bl_ctree.specs.Instances.{Setting}
 use Rattle.bl_ctree.specs.Positions.{Item, Begin, Again, Located, kind_of}
 use Rattle.bl_ctree.specs.Store.{Location, homes, overlap}

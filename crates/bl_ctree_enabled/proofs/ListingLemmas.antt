@@ -1,53 +1,10 @@
 -- A listing shows the points of the branches, and goes on showing them when one branch changes.
-use Rattle.std.proofs.Common.{
-  ◌≡◌,
-  ◌≢◌,
-  ℕ,
-  zero,
-  suc,
-  ◌+◌,
-  Bool,
-  true,
-  false,
-  ◌&&◌,
-  List,
-  [],
-  ◌∷◌,
-  ◌++◌,
-  map,
-  filter,
-  take,
-  drop,
-  length,
-  refl,
-  sym,
-  ap,
-  ◌∙◌,
-  subst,
-  arith,
-  if◌then◌else◌,
-}
+use Rattle.std.proofs.Common.{◌≡◌, ◌≢◌, ℕ, zero, suc, ◌+◌, Bool, true, false, ◌&&◌, List, [], ◌∷◌, ◌++◌, map, filter, take, drop, length, refl, sym, ap, ◌∙◌}
+use Rattle.std.proofs.Common.{subst, arith, if◌then◌else◌}
 use Rattle.std.specs.Prelude.{Some, slice_get, slice_set}
 use Rattle.bl_ctree.specs.Actions.{Silent}
-use Rattle.bl_ctree.specs.Control.{
-  Control,
-  Branches,
-  Nil,
-  Wait,
-  Test,
-  Idle,
-  Do,
-  Turn,
-  Seq,
-  Par,
-  Guard,
-  Run,
-  no_branch,
-  branch,
-  are_done,
-  are_settled,
-  is_settled,
-}
+use Rattle.bl_ctree.specs.Control.{Control, Branches, Nil, Wait, Test, Idle, Do, Turn, Seq, Par, Guard, Run, no_branch, branch, are_done, are_settled}
+use Rattle.bl_ctree.specs.Control.{is_settled}
 use Rattle.bl_ctree.specs.Instances.{Setting}
 use Rattle.bl_ctree.specs.Laws.{SettledIsStill}
 use Rattle.bl_ctree.specs.Nodes.{Seen, branches_of}
@@ -56,25 +13,8 @@ use Rattle.bl_ctree.specs.Points.{Point, branch_points, free_of, in_first, in_la
 use Rattle.bl_ctree.specs.Positions.{Located}
 use Rattle.bl_ctree.specs.Store.{Location, homes}
 use Rattle.bl_ctree_pending.specs.Writes.{write_paths}
-use Rattle.bl_ctree_enabled.specs.Listing.{
-  EnabledView,
-  Fork,
-  IsRight,
-  Lists,
-  all_flagged,
-  each_branch,
-  enabled,
-  flags_from,
-  flags_of,
-  fork_of,
-  kept_of,
-  listing_in,
-  spots_from,
-  spots_in,
-  top_of,
-  trues,
-  with_branch,
-}
+use Rattle.bl_ctree_enabled.specs.Listing.{EnabledView, Fork, IsRight, Lists, all_flagged, each_branch, enabled, flags_from, flags_of, fork_of, kept_of}
+use Rattle.bl_ctree_enabled.specs.Listing.{listing_in, spots_from, spots_in, top_of, trues, with_branch}
 use Rattle.bl_ctree_enabled.specs.Spots.{Spot, homes_seen, is_free_of, moved, spot_below}
 use Rattle.bl_ctree_enabled.proofs.BranchLemmas.{branches_start, branches_step, is_free, spot_from}
 use Rattle.bl_ctree_enabled.proofs.FlagLemmas.{own_same}

@@ -11,56 +11,13 @@ use Rattle.bl_graph_nodes.specs.Steps.{StepLabel, Inside, Here, run_node}
 use Rattle.bl_ctree.specs.Actions.{Copies}
 use Rattle.bl_ctree.specs.Control.{Body}
 use Rattle.bl_ctree.specs.Instances.{Setting, callee_of, unit_at}
-use Rattle.bl_ctree_laws.specs.Commutes.{
-  ApartIn,
-  OneStep,
-  StepsCommute,
-  Swapped,
-  in_branches,
-  in_first,
-  in_others,
-  in_sequence,
-  left_right,
-  right_left,
-  under_guard,
-  under_run,
-}
+use Rattle.bl_ctree_laws.specs.Commutes.{ApartIn, OneStep, StepsCommute, Swapped, in_branches, in_first, in_others, in_sequence, left_right, right_left}
+use Rattle.bl_ctree_laws.specs.Commutes.{under_guard, under_run}
 use Rattle.bl_ctree_laws.specs.Pending.{Deed, any_meets, any_writes, deed, deed_reads, leads_over, may_write, meets}
 use Rattle.bl_ctree_laws.specs.Shrinks.{Paces}
-use Rattle.bl_ctree_laws.specs.Steps.{
-  Moves,
-  OneMoves,
-  Unmet,
-  acts,
-  takes,
-  passes,
-  pauses,
-  runs,
-  repeats,
-  repeats_until,
-  leaves,
-  turns,
-  enters,
-  skips,
-  forks,
-  guards,
-  goes_on,
-  waits,
-  lets,
-  aborts,
-  resets,
-  guard_ends,
-  copies,
-  run_ends,
-  joins,
-  in_seq,
-  in_par,
-  in_guard,
-  in_run,
-  first,
-  later,
-  call,
-}
+use Rattle.bl_ctree_laws.specs.Steps.{Moves, OneMoves, Unmet, acts, takes, passes, pauses, runs, repeats, repeats_until, leaves, turns, enters, skips, forks}
+use Rattle.bl_ctree_laws.specs.Steps.{guards, goes_on, waits, lets, aborts, resets, guard_ends, copies, run_ends, joins, in_seq, in_par, in_guard, in_run}
+use Rattle.bl_ctree_laws.specs.Steps.{first, later, call}
 use Rattle.bl_ctree_laws.specs.Trees.{Call, Fork, Tree, Trees, Watch, Nil, Wait, Test, Idle, Do, Seq, Par, Guard, Run, beside, do_block, followed, is_nil, seq}
 use Rattle.bl_ctree_laws.proofs.Less.{one_unsettled, one_writes_less, writes_less}
 use Rattle.bl_ctree_laws.proofs.Tests.{any_less, both_ways, not_less}

@@ -5,86 +5,13 @@ use Rattle.bl_graph_nodes.specs.Steps.{StepLabel}
 use Rattle.bl_ctree.specs.Control.{Check, Body}
 use Rattle.bl_ctree.specs.Instances.{Setting}
 use Rattle.bl_ctree_laws.specs.ResidualLaws.{BlocksArePlainResidual, StepsKeepPlainResidual, WakingKeepsPlainResidual}
-use Rattle.bl_ctree_laws.specs.Residual.{
-  BlockSplitsAt,
-  PlainResidual,
-  PlainResidualEach,
-  PlainResidualOf,
-  ended,
-  has_begun,
-  here,
-  none_left,
-  not_begun,
-  nothing,
-  of_again,
-  of_else,
-  of_guard,
-  of_last,
-  of_one,
-  of_par,
-  of_repeat,
-  of_run,
-  of_then,
-  of_until,
-  of_while,
-  one_left,
-  paused,
-  tested,
-  there,
-  to_begin,
-}
+use Rattle.bl_ctree_laws.specs.Residual.{BlockSplitsAt, PlainResidual, PlainResidualEach, PlainResidualOf, ended, has_begun, here, none_left, not_begun}
+use Rattle.bl_ctree_laws.specs.Residual.{nothing, of_again, of_else, of_guard, of_last, of_one, of_par, of_repeat, of_run, of_then, of_until, of_while}
+use Rattle.bl_ctree_laws.specs.Residual.{one_left, paused, tested, there, to_begin}
 use Rattle.bl_ctree_laws.specs.Pending.{Deed}
-use Rattle.bl_ctree_laws.specs.Steps.{
-  Moves,
-  OneMoves,
-  acts,
-  takes,
-  passes,
-  pauses,
-  runs,
-  repeats,
-  repeats_until,
-  leaves,
-  turns,
-  enters,
-  skips,
-  forks,
-  guards,
-  goes_on,
-  waits,
-  lets,
-  aborts,
-  resets,
-  guard_ends,
-  copies,
-  run_ends,
-  joins,
-  in_seq,
-  in_par,
-  in_guard,
-  in_run,
-  first,
-  later,
-}
-use Rattle.bl_ctree_laws.specs.Trees.{
-  Tree,
-  Trees,
-  Nil,
-  Wait,
-  Test,
-  Idle,
-  Do,
-  Seq,
-  Par,
-  Guard,
-  Run,
-  all_woken,
-  trees_begun,
-  do_block,
-  is_nil,
-  seq,
-  woken,
-}
+use Rattle.bl_ctree_laws.specs.Steps.{Moves, OneMoves, acts, takes, passes, pauses, runs, repeats, repeats_until, leaves, turns, enters, skips, forks, guards}
+use Rattle.bl_ctree_laws.specs.Steps.{goes_on, waits, lets, aborts, resets, guard_ends, copies, run_ends, joins, in_seq, in_par, in_guard, in_run, first, later}
+use Rattle.bl_ctree_laws.specs.Trees.{Tree, Trees, Nil, Wait, Test, Idle, Do, Seq, Par, Guard, Run, all_woken, trees_begun, do_block, is_nil, seq, woken}
 
 -- ---- what begins
 

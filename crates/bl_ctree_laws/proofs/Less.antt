@@ -11,104 +11,16 @@ use Rattle.bl_graph_nodes.specs.Steps.{StepLabel}
 use Rattle.bl_ctree.specs.Control.{Check, Body}
 use Rattle.bl_ctree.specs.Instances.{Setting}
 use Rattle.bl_ctree.specs.Pending.{is_reset_kind}
-use Rattle.bl_ctree_laws.specs.Pending.{
-  Deed,
-  any_writes_path,
-  anew,
-  deed_reads,
-  guard_may_end,
-  leads_over,
-  may_end,
-  may_join,
-  may_write,
-  may_write_path,
-  meets,
-  run_writes,
-  soon,
-  soon_in,
-  soon_in_each,
-}
+use Rattle.bl_ctree_laws.specs.Pending.{Deed, any_writes_path, anew, deed_reads, guard_may_end, leads_over, may_end, may_join, may_write, may_write_path, meets}
+use Rattle.bl_ctree_laws.specs.Pending.{run_writes, soon, soon_in, soon_in_each}
 use Rattle.bl_ctree_laws.specs.Shrinks.{EndsShrink, MayIsCould, MeetsShrink, MovingIsUnsettled, Paces, WritesShrink}
-use Rattle.bl_ctree_laws.specs.Steps.{
-  Anyway,
-  Moves,
-  OneMoves,
-  Unmet,
-  acts,
-  takes,
-  passes,
-  pauses,
-  runs,
-  repeats,
-  repeats_until,
-  leaves,
-  turns,
-  enters,
-  skips,
-  forks,
-  guards,
-  goes_on,
-  waits,
-  lets,
-  aborts,
-  resets,
-  guard_ends,
-  copies,
-  run_ends,
-  joins,
-  in_seq,
-  in_par,
-  in_guard,
-  in_run,
-  first,
-  later,
-  call,
-  turn,
-}
-use Rattle.bl_ctree_laws.specs.Trees.{
-  Call,
-  Tree,
-  Trees,
-  Watch,
-  Nil,
-  Wait,
-  Test,
-  Idle,
-  Do,
-  Seq,
-  Par,
-  Guard,
-  Run,
-  are_done,
-  are_settled,
-  before,
-  trees_begun,
-  beside,
-  do_block,
-  followed,
-  has_strong,
-  is_nil,
-  is_settled,
-  no_tree,
-  seq,
-  some_ended,
-  strong_ended,
-}
-use Rattle.bl_ctree_laws.proofs.Tests.{
-  and_both,
-  and_first,
-  and_le,
-  and_none,
-  and_second,
-  any_less,
-  both_ways,
-  not_less,
-  or_le,
-  or_left,
-  or_of,
-  or_of_none,
-  or_right,
-}
+use Rattle.bl_ctree_laws.specs.Steps.{Anyway, Moves, OneMoves, Unmet, acts, takes, passes, pauses, runs, repeats, repeats_until, leaves, turns, enters, skips}
+use Rattle.bl_ctree_laws.specs.Steps.{forks, guards, goes_on, waits, lets, aborts, resets, guard_ends, copies, run_ends, joins, in_seq, in_par, in_guard}
+use Rattle.bl_ctree_laws.specs.Steps.{in_run, first, later, call, turn}
+use Rattle.bl_ctree_laws.specs.Trees.{Call, Tree, Trees, Watch, Nil, Wait, Test, Idle, Do, Seq, Par, Guard, Run, are_done, are_settled, before, trees_begun}
+use Rattle.bl_ctree_laws.specs.Trees.{beside, do_block, followed, has_strong, is_nil, is_settled, no_tree, seq, some_ended, strong_ended}
+use Rattle.bl_ctree_laws.proofs.Tests.{and_both, and_first, and_le, and_none, and_second, any_less, both_ways, not_less, or_le, or_left, or_of, or_of_none}
+use Rattle.bl_ctree_laws.proofs.Tests.{or_right}
 
 -- ---- what may act could act
 

@@ -11,29 +11,9 @@ use Rattle.bl_ctree_laws.specs.Trees.{before}
 use Rattle.bl_ctree_laws.proofs.Less.{before_ends}
 use Rattle.bl_ctree_laws.proofs.Tests.{and_none}
 use Rattle.bl_ctree_laws_peeled.specs.Answers.{SameBlockAnswers, UnrolledAnswers}
-use Rattle.bl_ctree_laws_peeled.specs.Unrolls.{
-  PlainUnrolls,
-  EachUnrolls,
-  Unrolls,
-  acts_alike,
-  again_if,
-  agains_alike,
-  awaits_alike,
-  cobegins_alike,
-  first_alike,
-  first_repeat,
-  first_until,
-  ifs_alike,
-  no_body,
-  no_more,
-  one_body,
-  repeats_alike,
-  runs_alike,
-  untils_alike,
-  whens_alike,
-  while_if,
-  whiles_alike,
-}
+use Rattle.bl_ctree_laws_peeled.specs.Unrolls.{PlainUnrolls, EachUnrolls, Unrolls, acts_alike, again_if, agains_alike, awaits_alike, cobegins_alike}
+use Rattle.bl_ctree_laws_peeled.specs.Unrolls.{first_alike, first_repeat, first_until, ifs_alike, no_body, no_more, one_body, repeats_alike, runs_alike}
+use Rattle.bl_ctree_laws_peeled.specs.Unrolls.{untils_alike, whens_alike, while_if, whiles_alike}
 use Rattle.bl_ctree_laws_peeled.proofs.Blocks.{soon_before}
 
 -- ---- tests with two answers

@@ -4,25 +4,7 @@ use Rattle.bl_tree.specs.declared.static_path.Static.{Static}
 use Rattle.bl_graph_nodes.specs.Nodes.{Node, are_instant}
 use Rattle.bl_graph_nodes.specs.Plain.{Block, Plain, Done, Then}
 use Rattle.bl_ctree_laws.specs.Pending.{may_end, may_write_path, soon_in}
-use Rattle.bl_ctree_laws.specs.Trees.{
-  Tree,
-  Nil,
-  Wait,
-  Test,
-  Idle,
-  Do,
-  Seq,
-  Par,
-  Guard,
-  Run,
-  before,
-  do_block,
-  followed,
-  is_nil,
-  is_settled,
-  seq,
-  woken,
-}
+use Rattle.bl_ctree_laws.specs.Trees.{Tree, Nil, Wait, Test, Idle, Do, Seq, Par, Guard, Run, before, do_block, followed, is_nil, is_settled, seq, woken}
 use Rattle.bl_ctree_laws.proofs.Less.{before_ends}
 use Rattle.bl_ctree_laws.proofs.Tests.{and_both, and_first, and_second}
 use Rattle.bl_ctree_laws_peeled.specs.Lines.{Line, Lined, At, Over, both_begin, both_over, is_chain, is_under_way, line}

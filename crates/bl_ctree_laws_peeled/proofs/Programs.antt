@@ -21,50 +21,12 @@ use Rattle.bl_eval.specs.Functions.{acted, callable_of, callee_of as callee_in, 
 use Rattle.bl_eval.specs.Meaning.{Callee, View, value_in}
 use Rattle.bl_eval.specs.Standing.{outcome_in_unit, outcome_of, value_in_unit, value_of}
 use Rattle.bl_eval.specs.Values.{value_at}
-use Rattle.bl_ctree.specs.Actions.{
-  Acts,
-  Asks,
-  Copies,
-  Effect,
-  Gives,
-  Silent,
-  acted_kind,
-  done,
-  effect_on,
-  given_to,
-  is_true_value,
-  outcome_there,
-  result_at,
-  value_there,
-  values_there,
-  with_result,
-}
+use Rattle.bl_ctree.specs.Actions.{Acts, Asks, Copies, Effect, Gives, Silent, acted_kind, done, effect_on, given_to, is_true_value, outcome_there, result_at}
+use Rattle.bl_ctree.specs.Actions.{value_there, values_there, with_result}
 use Rattle.bl_ctree.specs.Instances.{Setting, expanded, instances_below, instances_of, runs_of, setting_of, unit_at, unit_of}
 use Rattle.bl_ctree.specs.Positions.{stmt_kind}
-use Rattle.bl_ctree.specs.Store.{
-  Location,
-  Store,
-  depth_at,
-  first_frame,
-  first_store,
-  frame_at_first,
-  home,
-  home_within,
-  led,
-  led_by,
-  outputs_of_frame,
-  outputs_row,
-  put,
-  put_path,
-  put_written,
-  remember,
-  value_among,
-  vars_at,
-  view_at,
-  whole_of,
-  with_frame,
-  with_inputs,
-}
+use Rattle.bl_ctree.specs.Store.{Location, Store, depth_at, first_frame, first_store, frame_at_first, home, home_within, led, led_by, outputs_of_frame}
+use Rattle.bl_ctree.specs.Store.{outputs_row, put, put_path, put_written, remember, value_among, vars_at, view_at, whole_of, with_frame, with_inputs}
 use Rattle.bl_ctree.specs.declared.instance.Instance.{Instance}
 use Rattle.bl_ctree.specs.declared.instance.Origin.{Origin}
 use Rattle.bl_peel.specs.Peeled.{peeled}

@@ -4,28 +4,8 @@ use Rattle.bl_graph_nodes.specs.Nodes.{Node}
 use Rattle.bl_graph_nodes.specs.Plain.{Block, Plain, Done}
 use Rattle.bl_ctree_laws.specs.Trees.{Tree, Trees, Nil, Wait, Test, Idle, Do, Seq, Par, Guard, Run, all_woken, woken}
 use Rattle.bl_ctree_laws.proofs.Tests.{and_both, and_first, and_second}
-use Rattle.bl_ctree_laws_peeled.specs.Lines.{
-  Line,
-  Lined,
-  Related,
-  RelatedEach,
-  Standing,
-  both_begin,
-  both_fork,
-  both_guard,
-  both_idle,
-  both_over,
-  both_run,
-  both_stand,
-  both_test,
-  both_wait,
-  is_chain,
-  is_under_way,
-  line,
-  no_branches,
-  one_branch,
-  related,
-}
+use Rattle.bl_ctree_laws_peeled.specs.Lines.{Line, Lined, Related, RelatedEach, Standing, both_begin, both_fork, both_guard, both_idle, both_over, both_run}
+use Rattle.bl_ctree_laws_peeled.specs.Lines.{both_stand, both_test, both_wait, is_chain, is_under_way, line, no_branches, one_branch, related}
 use Rattle.bl_ctree_laws_peeled.specs.Steps.{IdleIsRelated, WakingIsRelated}
 use Rattle.bl_ctree_laws_peeled.specs.Unrolls.{Unrolls, no_more}
 use Rattle.bl_ctree_laws_peeled.proofs.Lining.{begun_block, line_woken, lined_begins, relined, woken_line}

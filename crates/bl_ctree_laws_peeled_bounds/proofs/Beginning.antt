@@ -1,27 +1,8 @@
 -- Where the head of a loop may fall away the related tree can step, and each label stands at one place.
 use Rattle.std.proofs.Common.{◌≡◌, ℕ, suc, Bool, true, false, [], inl, inr, refl, sym, ◌∙◌, subst, arith}
 use Rattle.bl_graph_nodes.specs.Nodes.{Node, entry}
-use Rattle.bl_graph_nodes.specs.Plain.{
-  Block,
-  Bodies,
-  Plain,
-  Act,
-  Again,
-  Await,
-  Body as BodyOf,
-  Cobegin,
-  Done,
-  If,
-  Last,
-  Repeat,
-  Run as RunOf,
-  Then,
-  Until,
-  When,
-  While,
-  is_empty,
-  plain_body,
-}
+use Rattle.bl_graph_nodes.specs.Plain.{Block, Bodies, Plain, Act, Again, Await, Body as BodyOf, Cobegin, Done, If, Last, Repeat, Run as RunOf, Then, Until}
+use Rattle.bl_graph_nodes.specs.Plain.{When, While, is_empty, plain_body}
 use Rattle.bl_graph_nodes.specs.Steps.{Here, Inside, StepLabel, head_of, run_node}
 use Rattle.bl_graph.specs.DataEdges.{BesideEach}
 use Rattle.bl_graph.specs.Edges.{In, InEach}
@@ -29,56 +10,16 @@ use Rattle.bl_graph.specs.Laws.{BranchesPart}
 use Rattle.bl_ctree.specs.Control.{Check, Body}
 use Rattle.bl_ctree.specs.Instances.{Setting}
 use Rattle.bl_ctree_laws.specs.Pending.{Deed}
-use Rattle.bl_ctree_laws.specs.Steps.{
-  Anyway,
-  Moves,
-  OneMoves,
-  acts,
-  takes,
-  pauses,
-  runs,
-  repeats,
-  repeats_until,
-  leaves,
-  enters,
-  forks,
-  guards,
-  in_seq,
-  in_par,
-  in_guard,
-  in_run,
-  first,
-  later,
-}
+use Rattle.bl_ctree_laws.specs.Steps.{Anyway, Moves, OneMoves, acts, takes, pauses, runs, repeats, repeats_until, leaves, enters, forks, guards, in_seq, in_par}
+use Rattle.bl_ctree_laws.specs.Steps.{in_guard, in_run, first, later}
 use Rattle.bl_ctree_laws.specs.Trees.{Tree, Trees, Nil, Wait, Test, Idle, Do, Seq, Par, Guard, Run, before, beside, is_nil, no_tree}
 use Rattle.bl_ctree_laws_traces.specs.Progress.FitsGraph.{AllFitGraph, FitsGraph}
 use Rattle.bl_ctree_laws_traces.specs.Progress.Places.{Callable, Place, ahead_of, guarded, in_branch, whole}
 use Rattle.bl_ctree_laws_traces.proofs.OnProgress.Acting.{one_region, region}
 use Rattle.bl_ctree_laws_traces.proofs.OnBounded.Stepping.{Parted}
-use Rattle.bl_ctree_laws_peeled.proofs.Heads.{
-  FallsAt,
-  FallsEach,
-  FallsIn,
-  FewAt,
-  FewEach,
-  FewInTree,
-  HasTurn,
-  falls_begins,
-  falls_fork,
-  falls_guard,
-  falls_here,
-  falls_in,
-  falls_run,
-  falls_there,
-  few_begins,
-  few_fork,
-  few_guard,
-  few_here,
-  few_in,
-  few_run,
-  few_there,
-  leading,
-}
+use Rattle.bl_ctree_laws_peeled.proofs.Heads.{FallsAt, FallsEach, FallsIn, FewAt, FewEach, FewInTree, HasTurn, falls_begins, falls_fork, falls_guard}
+use Rattle.bl_ctree_laws_peeled.proofs.Heads.{falls_here, falls_in, falls_run, falls_there, few_begins, few_fork, few_guard, few_here, few_in, few_run}
+use Rattle.bl_ctree_laws_peeled.proofs.Heads.{few_there, leading}
 use Rattle.bl_ctree_laws_peeled.specs.Lines.{Line, line}
 
 -- ---- heads that fall away

@@ -1,31 +1,6 @@
 -- No tick of a program has more steps than six for each statement that the program with activities peeled passes.
-use Rattle.std.proofs.Common.{
-  ◌≡◌,
-  ℕ,
-  ℤ,
-  zero,
-  suc,
-  ◌+◌,
-  ◌*◌,
-  ◌<◌,
-  ◌≤◌,
-  true,
-  List,
-  [],
-  ◌∷◌,
-  ◌++◌,
-  take,
-  length,
-  Option,
-  Some,
-  None,
-  refl,
-  sym,
-  ap,
-  ◌∙◌,
-  subst,
-  arith,
-}
+use Rattle.std.proofs.Common.{◌≡◌, ℕ, ℤ, zero, suc, ◌+◌, ◌*◌, ◌<◌, ◌≤◌, true, List, [], ◌∷◌, ◌++◌, take, length, Option, Some, None, refl, sym, ap, ◌∙◌, subst}
+use Rattle.std.proofs.Common.{arith}
 use Rattle.std.specs.Prelude.{option_and_then, option_map, slice_get, unwrap_or}
 use Rattle.bl_tree.specs.declared.tree.StructDef.{StructDef}
 use Rattle.bl_tree.specs.declared.tree.Unit.{Unit as UnitDef}
@@ -61,14 +36,7 @@ use Rattle.bl_ctree_laws.specs.Trees.{Tree}
 use Rattle.bl_ctree_laws_confluence.specs.Deeds.Orderly.{AcceptedIsOrderly}
 use Rattle.bl_ctree_laws_confluence.specs.Deeds.Origins.{HasCaller, InstancesHaveCallers}
 use Rattle.bl_ctree_laws_traces.specs.Bounded.Differ.{AllNumbered}
-use Rattle.bl_ctree_laws_traces.specs.Bounded.TickPasses.{
-  StepsAreSixEach,
-  TickPasses,
-  TickStepsAreFew,
-  TicksHavePasses,
-  pass_of,
-  passed_statements,
-}
+use Rattle.bl_ctree_laws_traces.specs.Bounded.TickPasses.{StepsAreSixEach, TickPasses, TickStepsAreFew, TicksHavePasses, pass_of, passed_statements}
 use Rattle.bl_ctree_laws_traces.specs.Progress.Accepted.{AcceptedTreesFitGraphs, ProgramsAreCallable}
 use Rattle.bl_ctree_laws_traces.specs.Progress.FitsGraph.{FitsGraph}
 use Rattle.bl_ctree_laws_traces.specs.Progress.Laws.{StepsKeepFitsGraph}

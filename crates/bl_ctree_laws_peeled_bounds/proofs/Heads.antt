@@ -1,28 +1,5 @@
 -- The heads that may fall away in peeled units, and that source and tree are one program with these heads alone.
-use Rattle.std.proofs.Common.{
-  ◌≡◌,
-  ℕ,
-  ◌*◌,
-  ◌≤◌,
-  zero,
-  suc,
-  true,
-  List,
-  [],
-  ◌∷◌,
-  map,
-  length,
-  take,
-  Option,
-  Some,
-  None,
-  refl,
-  sym,
-  ap,
-  ◌∙◌,
-  subst,
-  arith,
-}
+use Rattle.std.proofs.Common.{◌≡◌, ℕ, ◌*◌, ◌≤◌, zero, suc, true, List, [], ◌∷◌, map, length, take, Option, Some, None, refl, sym, ap, ◌∙◌, subst, arith}
 use Rattle.std.specs.Prelude.{option_and_then, option_map, slice_get, unwrap_or}
 use Rattle.std.proofs.Math.Nat.{mul-le-mul_left}
 use Rattle.bl_tree.specs.declared.tree.StructDef.{StructDef}

@@ -15,19 +15,8 @@ use Rattle.bl_ctree.specs.Positions.{Again, Begin, Item, Located, Position, bloc
 use Rattle.bl_ctree.specs.Residual as residual
 use Rattle.bl_ctree.specs.Residual.{Residual, ResidualEach, ResidualOf, ResidualTree, SplitsAt, here, there}
 use Rattle.bl_ctree.specs.Steps.{arm_items, else_items, turn_items}
-use Rattle.bl_ctree_laws_plain.proofs.Finding.{
-  HasBlock,
-  Layer,
-  Stands,
-  arm_has,
-  block_in,
-  branch_block,
-  else_has,
-  further_stands,
-  kind_has,
-  stands_first,
-  stmt_at,
-}
+use Rattle.bl_ctree_laws_plain.proofs.Finding.{HasBlock, Layer, Stands, arm_has, block_in, branch_block, else_has, further_stands, kind_has, stands_first}
+use Rattle.bl_ctree_laws_plain.proofs.Finding.{stmt_at}
 
 -- ---- kinds
 

@@ -1,33 +1,6 @@
 -- What surfaces come to at one statement, arm or branch, and one step of each loop over them.
-use Rattle.std.proofs.Common.{
-  ◌≡◌,
-  ℕ,
-  suc,
-  ◌+◌,
-  ◌<◌,
-  Bool,
-  true,
-  false,
-  ◌&&◌,
-  ◌||◌,
-  List,
-  [],
-  ◌∷◌,
-  ◌++◌,
-  map,
-  length,
-  get_or,
-  drop,
-  refl,
-  sym,
-  ap,
-  ◌∙◌,
-  subst,
-  add-one,
-  append_assoc,
-  append-nil,
-  if◌then◌else◌,
-}
+use Rattle.std.proofs.Common.{◌≡◌, ℕ, suc, ◌+◌, ◌<◌, Bool, true, false, ◌&&◌, ◌||◌, List, [], ◌∷◌, ◌++◌, map, length, get_or, drop, refl, sym, ap, ◌∙◌, subst}
+use Rattle.std.proofs.Common.{add-one, append_assoc, append-nil, if◌then◌else◌}
 use Rattle.std.specs.Prelude.{Result, IfOk}
 use Rattle.std.proofs.Math.Bool.{and_assoc, or_assoc}
 use Rattle.std.proofs.Math.Seq.{drop-cons}

@@ -1,36 +1,6 @@
 -- No action takes a variable from an instance, so the store has a value for each output throughout.
-use Rattle.std.proofs.Common.{
-  ◌≡◌,
-  ℕ,
-  zero,
-  suc,
-  ◌+◌,
-  ◌-◌,
-  ◌≤◌,
-  ℤ,
-  Bool,
-  true,
-  false,
-  List,
-  [],
-  ◌∷◌,
-  ◌++◌,
-  length,
-  map,
-  min,
-  take,
-  drop,
-  Option,
-  Some,
-  None,
-  refl,
-  sym,
-  ap,
-  ◌∙◌,
-  subst,
-  arith,
-  ◌&&◌,
-}
+use Rattle.std.proofs.Common.{◌≡◌, ℕ, zero, suc, ◌+◌, ◌-◌, ◌≤◌, ℤ, Bool, true, false, List, [], ◌∷◌, ◌++◌, length, map, min, take, drop, Option, Some, None}
+use Rattle.std.proofs.Common.{refl, sym, ap, ◌∙◌, subst, arith, ◌&&◌}
 use Rattle.std.specs.Prelude.{Result, Ok, Err, nat_le, option_and_then, option_map, slice_get, slice_set, unwrap_or}
 use Rattle.std.proofs.lemmas.Bool.{leb-true}
 use Rattle.std.proofs.lemmas.List.{length-append, length-drop, length-map, length-take}
@@ -53,27 +23,8 @@ use Rattle.bl_ctree.specs.Actions.{acted_kind, given_to, outcome_there, result_a
 use Rattle.bl_ctree.specs.declared.instance.Instance.{Instance}
 use Rattle.bl_ctree.specs.Instances.{Setting, expanded, instances_below, instances_of, runs_of, setting_of, unit_at, unit_of}
 use Rattle.bl_ctree.specs.Positions.{stmt_kind}
-use Rattle.bl_ctree.specs.Store.{
-  Frame,
-  Location,
-  Store,
-  aged,
-  first_frame,
-  first_store,
-  frame_at_first,
-  home,
-  number_or_zero,
-  outputs_of_frame,
-  put,
-  put_path,
-  put_written,
-  remember,
-  with_frame,
-  with_inputs,
-  with_now,
-  woken_store,
-  zeros,
-}
+use Rattle.bl_ctree.specs.Store.{Frame, Location, Store, aged, first_frame, first_store, frame_at_first, home, number_or_zero, outputs_of_frame, put, put_path}
+use Rattle.bl_ctree.specs.Store.{put_written, remember, with_frame, with_inputs, with_now, woken_store, zeros}
 use Rattle.bl_tree.specs.declared.static_path.Static.{Static}
 use Rattle.bl_tree.specs.Effects.{writes}
 use Rattle.bl_ctree_store.specs.declared.perform.Deed.{Deed}

@@ -1,27 +1,6 @@
 -- The point of a node itself, and those inside it.
-use Rattle.std.proofs.Common.{
-  ◌≡◌,
-  ℕ,
-  Bool,
-  true,
-  false,
-  ◌&&◌,
-  List,
-  [],
-  ◌∷◌,
-  ◌++◌,
-  map,
-  Option,
-  Some,
-  None,
-  refl,
-  sym,
-  ap,
-  ◌∙◌,
-  append_assoc,
-  append-nil,
-  if◌then◌else◌,
-}
+use Rattle.std.proofs.Common.{◌≡◌, ℕ, Bool, true, false, ◌&&◌, List, [], ◌∷◌, ◌++◌, map, Option, Some, None, refl, sym, ap, ◌∙◌, append_assoc, append-nil}
+use Rattle.std.proofs.Common.{if◌then◌else◌}
 use Rattle.std.specs.Prelude.{option_and_then, option_map, OnOk, Result, Ok, Err}
 use Rattle.bl_tree.specs.declared.tree.Arm.{Arm}
 use Rattle.bl_tree.specs.declared.tree.Branch.{Branch}

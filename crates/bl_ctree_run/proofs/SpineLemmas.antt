@@ -2,26 +2,7 @@
 use Rattle.std.proofs.Common.{◌≡◌, ◌≢◌, ◌≤◌, ℕ, zero, suc, Bool, false, List, [], ◌∷◌, ◌++◌, map, length, arith, refl, sym, ap, ◌∙◌, Some, if◌then◌else◌}
 use Rattle.std.specs.Prelude.{slice_get, slice_set}
 use Rattle.bl_ctree.specs.Actions.{Silent}
-use Rattle.bl_ctree.specs.Control.{
-  Control,
-  Branches,
-  Nil,
-  Wait,
-  Test,
-  Idle,
-  Do,
-  Turn,
-  Seq,
-  Par,
-  Guard,
-  Run,
-  no_branch,
-  branch,
-  Check,
-  Body,
-  is_nil,
-  seq,
-}
+use Rattle.bl_ctree.specs.Control.{Control, Branches, Nil, Wait, Test, Idle, Do, Turn, Seq, Par, Guard, Run, no_branch, branch, Check, Body, is_nil, seq}
 use Rattle.bl_ctree.specs.Instances.{Setting}
 use Rattle.bl_ctree.specs.Nodes.{Seen, branches_of}
 use Rattle.bl_ctree.specs.Points.{giving, points, sure}

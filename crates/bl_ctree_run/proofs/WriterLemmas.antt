@@ -1,42 +1,6 @@
 -- What is noted of branches tells what those beside one of them may still write.
-use Rattle.std.proofs.Common.{
-  ◌≡◌,
-  ◌≢◌,
-  ℕ,
-  zero,
-  suc,
-  ◌+◌,
-  ◌<◌,
-  ◌≤◌,
-  Bool,
-  true,
-  false,
-  not,
-  cond,
-  ◌&&◌,
-  ◌||◌,
-  List,
-  [],
-  ◌∷◌,
-  ◌++◌,
-  map,
-  filter,
-  take,
-  drop,
-  length,
-  Some,
-  None,
-  refl,
-  sym,
-  ap,
-  ◌∙◌,
-  arith,
-  append_assoc,
-  append-nil,
-  nat_cmp,
-  nat_eq,
-  eq-eqb,
-}
+use Rattle.std.proofs.Common.{◌≡◌, ◌≢◌, ℕ, zero, suc, ◌+◌, ◌<◌, ◌≤◌, Bool, true, false, not, cond, ◌&&◌, ◌||◌, List, [], ◌∷◌, ◌++◌, map, filter, take, drop}
+use Rattle.std.proofs.Common.{length, Some, None, refl, sym, ap, ◌∙◌, arith, append_assoc, append-nil, nat_cmp, nat_eq, eq-eqb}
 use Rattle.std.specs.Prelude.{unwrap_or}
 use Rattle.std.specs.BTreeMap.{is_at}
 use Rattle.std.specs.Cmp.{unsigned_tied}
@@ -53,21 +17,8 @@ use Rattle.bl_ctree_store.specs.Seen.{location_of}
 use Rattle.bl_ctree_store.proofs.KeyLemmas.{both_equal, both_true, nat_same}
 use Rattle.bl_ctree_run.specs.declared.writers.Write.{Write as WriteNode}
 use Rattle.bl_ctree_enabled.specs.Spots.{Spot, homes_seen, is_free_of, meets_one, taken}
-use Rattle.bl_ctree_run.specs.inner.Writers.{
-  Write,
-  all_writes,
-  is_beside,
-  is_free,
-  is_met,
-  key_at,
-  key_cmp,
-  of_variable,
-  same_variable,
-  write_of,
-  writes_by,
-  writes_from,
-  writes_kept,
-}
+use Rattle.bl_ctree_run.specs.inner.Writers.{Write, all_writes, is_beside, is_free, is_met, key_at, key_cmp, of_variable, same_variable, write_of, writes_by}
+use Rattle.bl_ctree_run.specs.inner.Writers.{writes_from, writes_kept}
 use Rattle.bl_ctree_enabled.proofs.BranchLemmas.{any_or, any_same, map-append, not_or}
 use Rattle.bl_ctree_run.proofs.BranchLemmas.{drop_all, none_left}
 

@@ -1,25 +1,5 @@
 -- Keys of maps and sets that tie.
-use Rattle.std.proofs.Common.{
-  ◌≡◌,
-  ℕ,
-  Bool,
-  true,
-  false,
-  ◌&&◌,
-  refl,
-  sym,
-  ◌∙◌,
-  subst,
-  nat_cmp,
-  nat_eq,
-  is_eq,
-  Ordering,
-  Less,
-  Equal,
-  Greater,
-  eqb→eq,
-  T,
-}
+use Rattle.std.proofs.Common.{◌≡◌, ℕ, Bool, true, false, ◌&&◌, refl, sym, ◌∙◌, subst, nat_cmp, nat_eq, is_eq, Ordering, Less, Equal, Greater, eqb→eq, T}
 use Rattle.std.specs.BTreeMap.{is_at}
 use Rattle.std.specs.Cmp.{unsigned_tied}
 use Rattle.std.specs.Ordering.{ordering_then}

@@ -1,35 +1,6 @@
 -- What the table's map has at a key is what is found at its place.
-use Rattle.std.proofs.Common.{
-  None,
-  Option,
-  ◌≡◌,
-  Bor,
-  ℕ,
-  Bool,
-  true,
-  false,
-  cond,
-  ◌&&◌,
-  List,
-  [],
-  ◌∷◌,
-  map,
-  Some,
-  refl,
-  sym,
-  ap,
-  ◌∙◌,
-  subst,
-  nat_cmp,
-  is_eq,
-  nat_eq,
-  Ordering,
-  Less,
-  Equal,
-  Greater,
-  eqb→eq,
-  T,
-}
+use Rattle.std.proofs.Common.{None, Option, ◌≡◌, Bor, ℕ, Bool, true, false, cond, ◌&&◌, List, [], ◌∷◌, map, Some, refl, sym, ap, ◌∙◌, subst, nat_cmp, is_eq}
+use Rattle.std.proofs.Common.{nat_eq, Ordering, Less, Equal, Greater, eqb→eq, T}
 use Rattle.std.specs.BTreeMap.{is_at}
 use Rattle.std.specs.Cmp.{nat_eq_equiv, unsigned_tied}
 use Rattle.std.specs.Map.{lookup}

@@ -1,43 +1,6 @@
 -- How what is gathered of parts comes to what is gathered of the whole.
-use Rattle.std.proofs.Common.{
-  ◌≡◌,
-  ℕ,
-  zero,
-  suc,
-  ◌+◌,
-  ◌<◌,
-  ◌≤◌,
-  Bool,
-  true,
-  false,
-  cond,
-  not,
-  ◌&&◌,
-  ◌||◌,
-  List,
-  [],
-  ◌∷◌,
-  ◌++◌,
-  ◌⊎◌,
-  inl,
-  inr,
-  ⊎_elim,
-  map,
-  take,
-  drop,
-  length,
-  get_or,
-  Some,
-  refl,
-  sym,
-  ap,
-  ◌∙◌,
-  subst,
-  arith,
-  append_assoc,
-  append-nil,
-  drop_of_length-le,
-}
+use Rattle.std.proofs.Common.{◌≡◌, ℕ, zero, suc, ◌+◌, ◌<◌, ◌≤◌, Bool, true, false, cond, not, ◌&&◌, ◌||◌, List, [], ◌∷◌, ◌++◌, ◌⊎◌, inl, inr, ⊎_elim, map, take}
+use Rattle.std.proofs.Common.{drop, length, get_or, Some, refl, sym, ap, ◌∙◌, subst, arith, append_assoc, append-nil, drop_of_length-le}
 use Rattle.std.specs.Prelude.{Contains, Result, Ok, Err, OnOk}
 use Rattle.std.proofs.lemmas.List.Elements.{Contains-append_left, Contains-append_right, Contains-append_cases}
 use Rattle.bl_tree.specs.declared.place.Place.{Place}
@@ -55,22 +18,8 @@ use Rattle.bl_tree.specs.declared.static_path.Static.{Static}
 use Rattle.bl_effects.specs.declared.table.Sets.{Sets}
 use Rattle.bl_tree.specs.Effects.{arm_reads, arm_writes, branch_paths, kind_reads, kind_writes, reads, stmt_set, writes}
 use Rattle.bl_effects.specs.Entries.{effect_at}
-use Rattle.bl_effects.specs.inner.Gathered.{
-  Gathers,
-  TableKept,
-  TableRecords,
-  TableTold,
-  children_of_kind,
-  ends_of_branch,
-  instant_of_arm,
-  instant_of_kind,
-  reads_of_arm,
-  reads_of_branch,
-  reads_of_kind,
-  writes_of_arm,
-  writes_of_branch,
-  writes_of_kind,
-}
+use Rattle.bl_effects.specs.inner.Gathered.{Gathers, TableKept, TableRecords, TableTold, children_of_kind, ends_of_branch, instant_of_arm, instant_of_kind}
+use Rattle.bl_effects.specs.inner.Gathered.{reads_of_arm, reads_of_branch, reads_of_kind, writes_of_arm, writes_of_branch, writes_of_kind}
 use Rattle.bl_tree.specs.Instant.{BranchInstant, arm_instant, branch_ends, branches_instant, instant, kind_instant, stmt_instant}
 use Rattle.bl_tree.specs.Static.{mentions, set_of}
 use Rattle.bl_tree.specs.Within.{Effect, StandsIn, Within, itself, deeper, children, effect_of, kind_children, place_of}

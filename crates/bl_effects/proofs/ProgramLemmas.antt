@@ -1,34 +1,6 @@
 -- How what was told unit by unit comes to what is told of the program.
-use Rattle.std.proofs.Common.{
-  false,
-  is_some,
-  option_map,
-  unwrap_or,
-  ◌≡◌,
-  ℕ,
-  ◌+◌,
-  ◌<◌,
-  ◌≤◌,
-  List,
-  [],
-  ◌∷◌,
-  ◌++◌,
-  inl,
-  inr,
-  ⊎_elim,
-  take,
-  length,
-  get_or,
-  Some,
-  refl,
-  sym,
-  ap,
-  ◌∙◌,
-  subst,
-  take-suc,
-  take_all,
-  add-one,
-}
+use Rattle.std.proofs.Common.{false, is_some, option_map, unwrap_or, ◌≡◌, ℕ, ◌+◌, ◌<◌, ◌≤◌, List, [], ◌∷◌, ◌++◌, inl, inr, ⊎_elim, take, length, get_or, Some}
+use Rattle.std.proofs.Common.{refl, sym, ap, ◌∙◌, subst, take-suc, take_all, add-one}
 use Rattle.std.proofs.lemmas.List.Elements.{Contains-append_left, Contains-push, Contains-push_cases}
 use Rattle.bl_tree.specs.declared.tree.Stmt.{Stmt}
 use Rattle.bl_tree.specs.declared.tree.Unit.{Unit as UnitDef}

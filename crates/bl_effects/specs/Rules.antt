@@ -1,25 +1,6 @@
 -- How a program fails the rules Pause, Conflict, Alias and Instant, and what their lines name.
-use Rattle.std.specs.Prelude.{
-  ◌≡◌,
-  Bool,
-  true,
-  List,
-  [],
-  ◌∷◌,
-  ◌++◌,
-  map,
-  slice_get,
-  find,
-  Contains,
-  Option,
-  Some,
-  None,
-  option_map,
-  option_to_list,
-  IsTrue,
-  is_none,
-  if◌then◌else◌,
-}
+use Rattle.std.specs.Prelude.{◌≡◌, Bool, true, List, [], ◌∷◌, ◌++◌, map, slice_get, find, Contains, Option, Some, None, option_map, option_to_list, IsTrue}
+use Rattle.std.specs.Prelude.{is_none, if◌then◌else◌}
 use Rattle.bl_tree.specs.declared.place.Place.{Place}
 use Rattle.bl_tree.specs.declared.rule.Rule.{Rule}
 use Rattle.bl_tree.specs.declared.rule.Rule.TheVariants as rule

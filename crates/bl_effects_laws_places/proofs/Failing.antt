@@ -15,19 +15,7 @@ use Rattle.bl_tree_laws_places.specs.Placed.{placed_unit, placed_units, placed_v
 use Rattle.bl_tree_laws_places.proofs.Effects.{instant_block_stays}
 use Rattle.bl_tree_laws_places.proofs.Lists.{Made, from_got, from_map, into_got, into_map}
 use Rattle.bl_effects.specs.declared.marked.Marked.{Marked}
-use Rattle.bl_effects.specs.Rules.{
-  Aliased,
-  Fails,
-  FailsAlias,
-  FailsConflict,
-  FailsInstant,
-  FailsPause,
-  Passes,
-  Split,
-  aliases_in,
-  instant_loops,
-  splits_of,
-}
+use Rattle.bl_effects.specs.Rules.{Aliased, Fails, FailsAlias, FailsConflict, FailsInstant, FailsPause, Passes, Split, aliases_in, instant_loops, splits_of}
 use Rattle.bl_effects_laws_places.specs.Laws.{FailuresMove, PassingStays}
 use Rattle.bl_effects_laws_places.proofs.Aliases.{aliases_move, moved_aliased}
 use Rattle.bl_effects_laws_places.proofs.Loops.{instant_loops_move}

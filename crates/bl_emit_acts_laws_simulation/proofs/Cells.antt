@@ -9,26 +9,8 @@ use Rattle.std.proofs.lemmas.Slice.Eq.{bytes_eq-Decides}
 use Rattle.std.specs.Prelude.{bytes_eq, is_some, ◌==◌, if◌then◌else◌}
 use Rattle.bl_tree.specs.Typing.{TypingContext, is_activity}
 use Rattle.bl_ctext_semantics.specs.Meaning.{Scope}
-use Rattle.bl_ctext_semantics.specs.Memory.{
-  CValue,
-  Location,
-  Memory,
-  Projection,
-  Root,
-  element,
-  input_object,
-  left_after,
-  member,
-  number_or,
-  output_object,
-  same_part,
-  same_root,
-  set_at,
-  state_object,
-  value_at,
-  variable,
-  with_part,
-}
+use Rattle.bl_ctext_semantics.specs.Memory.{CValue, Location, Memory, Projection, Root, element, input_object, left_after, member, number_or, output_object}
+use Rattle.bl_ctext_semantics.specs.Memory.{same_part, same_root, set_at, state_object, value_at, variable, with_part}
 use Rattle.bl_emit_acts_laws_simulation.specs.Acts.{lies_in}
 use Rattle.bl_emit_acts_laws_simulation.specs.Encodes.{are_apart, home_at, lead_in, location_in, start_in, ways_part}
 

@@ -18,35 +18,9 @@ use Rattle.bl_tree.specs.declared.c.CExprKind.{CExprKind, CExprKind-F, fold-roll
 use Rattle.bl_tree.specs.declared.c.CExprKind.TheVariants as expression
 use Rattle.bl_tree.specs.Numbers.{checked_one_of}
 use Rattle.bl_ctext_semantics.specs.Memory.{Projection, member, Location, CValue, Memory, scalar, scalar_number, value_at}
-use Rattle.bl_ctext_semantics.specs.Meaning.{
-  Counted,
-  Evaluates,
-  given,
-  next,
-  ArgumentValue,
-  by_value,
-  by_address,
-  CallResult,
-  Scope,
-  called_after,
-  result_of,
-  value_c,
-  location_c,
-  call_c,
-  each_of,
-  element_projection,
-  further,
-  named_location,
-  two_values,
-  way_of,
-  arg_step,
-  kind_step,
-  call_step,
-  expr_step,
-  index_step,
-  place_step,
-  step_step,
-}
+use Rattle.bl_ctext_semantics.specs.Meaning.{Counted, Evaluates, given, next, ArgumentValue, by_value, by_address, CallResult, Scope, called_after, result_of}
+use Rattle.bl_ctext_semantics.specs.Meaning.{value_c, location_c, call_c, each_of, element_projection, further, named_location, two_values, way_of, arg_step}
+use Rattle.bl_ctext_semantics.specs.Meaning.{kind_step, call_step, expr_step, index_step, place_step, step_step}
 use Rattle.bl_ctext_semantics.specs.Builtin.{index_within}
 use Rattle.bl_emit_acts.specs.Trees.{nowhere, c_call, c_called, c_element, c_index, c_literal, c_not, c_place, c_read, c_step, c_two}
 

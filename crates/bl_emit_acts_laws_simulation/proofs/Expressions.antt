@@ -36,28 +36,8 @@ use Rattle.bl_eval.specs.declared.datum.Datum.{Datum}
 use Rattle.bl_eval.specs.declared.datum.Datum.TheVariants.{Scalar as OfScalar, Whole as OfWhole}
 use Rattle.bl_eval.specs.Changes.{part_of_path}
 use Rattle.bl_eval.specs.Functions.{scope_among}
-use Rattle.bl_eval.specs.Meaning.{
-  Callee,
-  Scope as Sees,
-  PathMeaning,
-  View,
-  call_datum,
-  cast_datum,
-  datum_of,
-  level_datum,
-  meaning_of,
-  one_datum,
-  operand,
-  operand_in,
-  position_in,
-  positions_of,
-  read_at,
-  reading,
-  scalar_of,
-  path_meaning_of,
-  two_datum,
-  values_of,
-}
+use Rattle.bl_eval.specs.Meaning.{Callee, Scope as Sees, PathMeaning, View, call_datum, cast_datum, datum_of, level_datum, meaning_of, one_datum, operand}
+use Rattle.bl_eval.specs.Meaning.{operand_in, position_in, positions_of, read_at, reading, scalar_of, path_meaning_of, two_datum, values_of}
 use Rattle.bl_eval.specs.Values.{number_at as number_level, position_of, value_at, value_fits, values_fit}
 use Rattle.bl_eval.proofs.ExprFits.{CalleeFits, GivesFit, Sound, SpotFits, expr_fits, match_fits, spot_fits}
 use Rattle.bl_eval.proofs.FitLemmas.{same_scalar_is, same_type_is}
@@ -67,20 +47,8 @@ use Rattle.bl_eval.proofs.PassLemmas.{and_left, and_right, pass_at}
 use Rattle.bl_ctext_semantics.specs.Builtin.{index_within}
 use Rattle.bl_ctext_semantics.specs.Memory.{CValue, Location, Memory, member}
 use Rattle.bl_ctext_semantics.specs.Memory as memory
-use Rattle.bl_ctext_semantics.specs.Meaning.{
-  ArgumentValue,
-  Counted,
-  Scope,
-  applied,
-  each_of,
-  element_projection as element_part,
-  further,
-  given,
-  location_c,
-  named_location,
-  next,
-  value_c,
-}
+use Rattle.bl_ctext_semantics.specs.Meaning.{ArgumentValue, Counted, Scope, applied, each_of, element_projection as element_part, further, given, location_c}
+use Rattle.bl_ctext_semantics.specs.Meaning.{named_location, next, value_c}
 use Rattle.bl_emit_acts.specs.declared.made.Made.{Made}
 use Rattle.bl_emit_acts.specs.declared.made.Made.TheVariants.{Number}
 use Rattle.bl_emit_acts.specs.Expressions.{arg_of, c_both, c_cast, c_one, code_of, length_in, made_at, made_call, made_of, scalar_at, stands, step_typing}

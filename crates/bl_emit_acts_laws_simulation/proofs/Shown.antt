@@ -6,29 +6,8 @@ use Rattle.std.specs.Prelude.{option_and_then, if◌then◌else◌}
 use Rattle.bl_tree.specs.declared.c.CArg.TheVariants.{Value}
 use Rattle.bl_tree.specs.declared.c.CExpr.{CExpr}
 use Rattle.bl_tree.specs.declared.scalar.Op.{Op}
-use Rattle.bl_tree.specs.declared.scalar.Op.TheVariants.{
-  Add,
-  Sub,
-  Mul,
-  Div,
-  Rem,
-  Minus,
-  BitAnd,
-  BitOr,
-  BitXor,
-  BitNot,
-  Shl,
-  Shr,
-  Eq,
-  Ne,
-  Lt,
-  Le,
-  Gt,
-  Ge,
-  And,
-  Or,
-  Not,
-}
+use Rattle.bl_tree.specs.declared.scalar.Op.TheVariants.{Add, Sub, Mul, Div, Rem, Minus, BitAnd, BitOr, BitXor, BitNot, Shl, Shr, Eq, Ne, Lt, Le, Gt, Ge, And}
+use Rattle.bl_tree.specs.declared.scalar.Op.TheVariants.{Or, Not}
 use Rattle.bl_tree.specs.declared.scalar.Scalar.{Scalar as ScalarType}
 use Rattle.bl_tree.specs.declared.scalar.Scalar.TheVariants.{Bool as OfBool, Int, Nat, Bits}
 use Rattle.bl_tree.specs.declared.tree.StructDef.{StructDef}
@@ -50,21 +29,8 @@ use Rattle.bl_emit_acts.specs.Expressions.{mirrored, operator_word, side, type_m
 use Rattle.bl_emit_acts.specs.Trees.{c_literal, c_two}
 use Rattle.bl_emit_acts_laws_simulation.specs.Simulation.{ExpressionSimulates}
 use Rattle.bl_emit_acts_laws_simulation.proofs.Evaluated.{literal-value}
-use Rattle.bl_emit_acts_laws_simulation.proofs.Names.{
-  add_function,
-  and_function,
-  cast_function,
-  div_function,
-  mul_function,
-  neg_function,
-  not_function,
-  or_function,
-  rem_function,
-  shl_function,
-  shr_function,
-  sub_function,
-  xor_function,
-}
+use Rattle.bl_emit_acts_laws_simulation.proofs.Names.{add_function, and_function, cast_function, div_function, mul_function, neg_function, not_function}
+use Rattle.bl_emit_acts_laws_simulation.proofs.Names.{or_function, rem_function, shl_function, shr_function, sub_function, xor_function}
 use Rattle.bl_emit_acts_laws_simulation.proofs.Numbers.{and-number, compare-number, gives, not-number, num, one-number, or-number, two-number}
 use Rattle.bl_emit_acts_laws_simulation.proofs.Operators.{Known, and_itself, and_known, cast_itself, cast_known, known_fits, one_known, or_known, two_known}
 

@@ -1,25 +1,5 @@
 -- After an assignment, a declaration or a call that stands at a site the variables have values of their types.
-use Rattle.std.proofs.Common.{
-  ◌≡◌,
-  ℕ,
-  length,
-  true,
-  ◌||◌,
-  List,
-  [],
-  ◌∷◌,
-  ◌++◌,
-  map,
-  Option,
-  Some,
-  None,
-  refl,
-  sym,
-  ap,
-  ◌∙◌,
-  subst,
-  IfSome,
-}
+use Rattle.std.proofs.Common.{◌≡◌, ℕ, length, true, ◌||◌, List, [], ◌∷◌, ◌++◌, map, Option, Some, None, refl, sym, ap, ◌∙◌, subst, IfSome}
 use Rattle.std.proofs.Math.Seq.{take-add}
 use Rattle.std.specs.Prelude.{All, option_and_then, option_map, slice_get, unwrap_or}
 use Rattle.bl_tree.specs.declared.place.Place.{Place}
@@ -37,24 +17,8 @@ use Rattle.bl_tree.specs.declared.tree.Var.{Var}
 use Rattle.bl_tree.specs.declared.value.Value.{Value}
 use Rattle.bl_tree.specs.Program.{parameters_of}
 use Rattle.bl_tree.specs.Types.{same_type, type_stands}
-use Rattle.bl_tree.specs.Typing.{
-  TypingContext,
-  are_same,
-  arguments_fit,
-  call_fits,
-  declaration_fits,
-  fits,
-  inputs_of,
-  is_assignable,
-  is_fixed,
-  is_procedure,
-  is_variable,
-  outputs_of,
-  site_of,
-  type_of,
-  type_of_path,
-  types_match,
-}
+use Rattle.bl_tree.specs.Typing.{TypingContext, are_same, arguments_fit, call_fits, declaration_fits, fits, inputs_of, is_assignable, is_fixed, is_procedure}
+use Rattle.bl_tree.specs.Typing.{is_variable, outputs_of, site_of, type_of, type_of_path, types_match}
 use Rattle.bl_tree.proofs.StmtInduction.{stmt}
 use Rattle.bl_eval.specs.declared.datum.Left.{Left}
 use Rattle.bl_eval.specs.Functions.{acted, assigned, call_of, declared, initial_value, outcome_of_call, put_all, put_back, scope_among}

@@ -1,30 +1,6 @@
 -- The value of an expression that stands at a site is one of its type, and a path leads to what is of its type.
-use Rattle.std.proofs.Common.{
-  ◌≡◌,
-  ℕ,
-  ℤ,
-  suc,
-  zero,
-  length,
-  Bool,
-  true,
-  ◌&&◌,
-  List,
-  [],
-  ◌∷◌,
-  map,
-  take,
-  arith,
-  Option,
-  Some,
-  None,
-  refl,
-  sym,
-  ap,
-  ◌∙◌,
-  subst,
-  IfSome,
-}
+use Rattle.std.proofs.Common.{◌≡◌, ℕ, ℤ, suc, zero, length, Bool, true, ◌&&◌, List, [], ◌∷◌, map, take, arith, Option, Some, None, refl, sym, ap, ◌∙◌, subst}
+use Rattle.std.proofs.Common.{IfSome}
 use Rattle.std.proofs.lemmas.Bool.{eqb-true}
 use Rattle.std.proofs.lemmas.List.Elements.{All-head, All-tail}
 use Rattle.std.proofs.lemmas.Option.{same_Some}
@@ -46,49 +22,14 @@ use Rattle.bl_tree.specs.declared.value.Value.{Value}
 use Rattle.bl_tree.specs.Program.{parameters_of, structs_stand_from}
 use Rattle.bl_tree.specs.Scalar.{in_range}
 use Rattle.bl_tree.specs.Types.{same_type, scalar, scalar_in, type_stands}
-use Rattle.bl_tree.specs.Typing.{
-  TypingContext,
-  after_parts,
-  call_type,
-  cast_type,
-  inputs_of,
-  is_activity,
-  is_function,
-  is_variable,
-  one_type,
-  outputs_of,
-  prev_type,
-  site_of,
-  two_type,
-  type_of,
-  type_of_path,
-  types_match,
-  where_same,
-}
+use Rattle.bl_tree.specs.Typing.{TypingContext, after_parts, call_type, cast_type, inputs_of, is_activity, is_function, is_variable, one_type, outputs_of}
+use Rattle.bl_tree.specs.Typing.{prev_type, site_of, two_type, type_of, type_of_path, types_match, where_same}
 use Rattle.bl_tree.proofs.ExprInduction.{Cases, EachIndex, expr, induct, induct_path}
 use Rattle.bl_eval.specs.declared.datum.Datum.{Datum}
 use Rattle.bl_eval.specs.declared.datum.Left.{Left}
 use Rattle.bl_eval.specs.Functions.{scope_among}
-use Rattle.bl_eval.specs.Meaning.{
-  Callee,
-  Meaning,
-  PathMeaning,
-  Scope,
-  View,
-  call_datum,
-  cast_datum,
-  datum_of,
-  meaning_of,
-  one_datum,
-  operand,
-  path_meaning_of,
-  plain,
-  read_at,
-  reading,
-  scalar_of,
-  two_datum,
-  values_of,
-}
+use Rattle.bl_eval.specs.Meaning.{Callee, Meaning, PathMeaning, Scope, View, call_datum, cast_datum, datum_of, meaning_of, one_datum, operand, path_meaning_of}
+use Rattle.bl_eval.specs.Meaning.{plain, read_at, reading, scalar_of, two_datum, values_of}
 use Rattle.bl_eval.specs.Values.{value_fits, values_fit}
 use Rattle.bl_eval.proofs.FitLemmas.{same_type_is}
 use Rattle.bl_eval.proofs.OperatorFits.{DatumFits, OperandFits, cast_fits, datum_fits, one_fits, operand_fits, plain_fits, some_found, two_fits, where_holds}

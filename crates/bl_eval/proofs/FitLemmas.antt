@@ -1,33 +1,6 @@
 -- Which values a type has: types that are one, the tests of structs, and zeros.
-use Rattle.std.proofs.Common.{
-  ◌≡◌,
-  ℕ,
-  suc,
-  zero,
-  ◌+◌,
-  ◌<◌,
-  ◌≤◌,
-  Bool,
-  true,
-  ◌&&◌,
-  List,
-  [],
-  ◌∷◌,
-  ◌++◌,
-  length,
-  get_or,
-  take,
-  replicate,
-  arith,
-  Option,
-  Some,
-  refl,
-  sym,
-  ap,
-  ◌∙◌,
-  subst,
-  length-append,
-}
+use Rattle.std.proofs.Common.{◌≡◌, ℕ, suc, zero, ◌+◌, ◌<◌, ◌≤◌, Bool, true, ◌&&◌, List, [], ◌∷◌, ◌++◌, length, get_or, take, replicate, arith, Option, Some}
+use Rattle.std.proofs.Common.{refl, sym, ap, ◌∙◌, subst, length-append}
 use Rattle.std.proofs.lemmas.Bool.{eqb-true, eq-eqb, ltb-true}
 use Rattle.std.proofs.lemmas.List.{length-replicate}
 use Rattle.std.proofs.lemmas.Option.{same_Some}
@@ -47,20 +20,8 @@ use Rattle.bl_tree.specs.declared.value.Value.TheVariants.{Parts, outs-Number, o
 use Rattle.bl_tree.specs.Program.{struct_stands, structs_stand_from}
 use Rattle.bl_tree.specs.Scalar.{bits_of, in_range}
 use Rattle.bl_tree.specs.Types.{same_as_array, same_as_scalar, same_as_struct, same_scalar, same_type, scalar, scalar_at, scalar_in, type_stands}
-use Rattle.bl_eval.specs.Values.{
-  are_elements,
-  by_test,
-  fits_by,
-  is_number_of,
-  pass,
-  struct_test,
-  struct_zero,
-  tests_after,
-  value_fits,
-  zero_by,
-  zero_of,
-  zeros_after,
-}
+use Rattle.bl_eval.specs.Values.{are_elements, by_test, fits_by, is_number_of, pass, struct_test, struct_zero, tests_after, value_fits, zero_by, zero_of}
+use Rattle.bl_eval.specs.Values.{zeros_after}
 use Rattle.bl_eval.proofs.PassLemmas.{and_left, and_right, both, get_front, get_seam, get_take, take_less, all_replicate, pass_each}
 
 -- ---- types

@@ -1,35 +1,6 @@
 -- What the definitions come to at one expression, statement or call.
-use Rattle.std.proofs.Common.{
-  ◌≡◌,
-  ℕ,
-  suc,
-  zero,
-  ◌+◌,
-  ◌≤◌,
-  true,
-  false,
-  List,
-  [],
-  ◌∷◌,
-  ◌++◌,
-  length,
-  map,
-  take,
-  arith,
-  Option,
-  Some,
-  None,
-  Result,
-  Ok,
-  Err,
-  refl,
-  sym,
-  ap,
-  ◌∙◌,
-  subst,
-  IfOk,
-  length-append,
-}
+use Rattle.std.proofs.Common.{◌≡◌, ℕ, suc, zero, ◌+◌, ◌≤◌, true, false, List, [], ◌∷◌, ◌++◌, length, map, take, arith, Option, Some, None, Result, Ok, Err}
+use Rattle.std.proofs.Common.{refl, sym, ap, ◌∙◌, subst, IfOk, length-append}
 use Rattle.std.specs.Prelude.{option_and_then, option_map, slice_get, unwrap_or}
 use Rattle.bl_tree.specs.declared.tree.Arm.{Arm, fold_out-Arm, out-Arm}
 use Rattle.bl_tree.specs.declared.tree.Branch.{Branch, fold-Branch}
@@ -53,52 +24,11 @@ use Rattle.bl_eval.specs.declared.datum.Left.{Left}
 use Rattle.bl_eval.specs.declared.datum.Put.{Put}
 use Rattle.bl_eval.specs.declared.datum.Target.{Target}
 use Rattle.bl_eval.specs.Changes.{all_changed, choice_of, current_of, part_of_path, puts_of, targets_of, with_element_at}
-use Rattle.bl_eval.specs.Functions.{
-  GuardedBlock,
-  StmtMeaning,
-  Flow,
-  arm_does,
-  branch_does,
-  call_of,
-  callable_of,
-  callee_of,
-  callees_after,
-  callees_of,
-  outcome_of_call,
-  condition,
-  does,
-  frame_of,
-  in_order,
-  kind_does,
-  left_by,
-  looped,
-  most_turns,
-  put_all,
-  put_back,
-  stmt_does,
-  truth,
-}
-use Rattle.bl_eval.specs.Meaning.{
-  Callee,
-  Meaning,
-  PathPosition,
-  Scope,
-  PathMeaning,
-  expr_means,
-  kind_means,
-  part_means,
-  path_means,
-  positions_of,
-  View,
-  datum_of,
-  level_datum,
-  meaning_of,
-  plain,
-  read_at,
-  reading,
-  path_meaning_of,
-  values_of,
-}
+use Rattle.bl_eval.specs.Functions.{GuardedBlock, StmtMeaning, Flow, arm_does, branch_does, call_of, callable_of, callee_of, callees_after, callees_of}
+use Rattle.bl_eval.specs.Functions.{outcome_of_call, condition, does, frame_of, in_order, kind_does, left_by, looped, most_turns, put_all, put_back, stmt_does}
+use Rattle.bl_eval.specs.Functions.{truth}
+use Rattle.bl_eval.specs.Meaning.{Callee, Meaning, PathPosition, Scope, PathMeaning, expr_means, kind_means, part_means, path_means, positions_of, View}
+use Rattle.bl_eval.specs.Meaning.{datum_of, level_datum, meaning_of, plain, read_at, reading, path_meaning_of, values_of}
 use Rattle.bl_eval.specs.Values.{put_at}
 use Rattle.bl_eval.proofs.KindLemmas.{activity_is, function_is}
 use Rattle.bl_eval.proofs.PartLemmas.{put_unwrapped}

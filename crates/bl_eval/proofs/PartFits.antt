@@ -1,29 +1,6 @@
 -- Parts of the values of a type: what lies at the positions that a path leads to is of the path's type, and any value of
 -- that type may be put there.
-use Rattle.std.proofs.Common.{
-  ◌≡◌,
-  ℕ,
-  ◌<◌,
-  Bool,
-  true,
-  false,
-  List,
-  [],
-  ◌∷◌,
-  length,
-  map,
-  take,
-  arith,
-  Option,
-  Some,
-  None,
-  refl,
-  sym,
-  ap,
-  ◌∙◌,
-  subst,
-  IfSome,
-}
+use Rattle.std.proofs.Common.{◌≡◌, ℕ, ◌<◌, Bool, true, false, List, [], ◌∷◌, length, map, take, arith, Option, Some, None, refl, sym, ap, ◌∙◌, subst, IfSome}
 use Rattle.std.proofs.lemmas.List.{length-set}
 use Rattle.std.proofs.lemmas.Option.{same_Some, slice_get_within, IfSome_then}
 use Rattle.std.specs.Prelude.{nat_eq, option_and_then, option_map, slice_get, slice_set, if◌then◌else◌}
@@ -48,20 +25,8 @@ use Rattle.bl_tree.specs.Types.{scalar_in, type_stands}
 use Rattle.bl_tree.specs.Typing.{TypingContext, after_parts, element_in, expr_type, field_in, kind_type, part_type, path_type, type_of, where_whole}
 use Rattle.bl_eval.specs.Changes.{part_of_path}
 use Rattle.bl_eval.specs.Meaning.{Scope, View, meaning_of, operand, position_in, positions_of, read_at}
-use Rattle.bl_eval.specs.Values.{
-  are_elements,
-  are_fields,
-  by_test,
-  fits_by,
-  parts_at,
-  parts_in,
-  put_at,
-  tests_after,
-  value_at,
-  value_fits,
-  values_fit,
-  with_value_at,
-}
+use Rattle.bl_eval.specs.Values.{are_elements, are_fields, by_test, fits_by, parts_at, parts_in, put_at, tests_after, value_at, value_fits, values_fit}
+use Rattle.bl_eval.specs.Values.{with_value_at}
 use Rattle.bl_eval.proofs.FitLemmas.{Test, fits_array, fits_before, fits_struct, structs_at, test_is}
 use Rattle.bl_eval.proofs.PassLemmas.{and_left, and_right, both, all_at, all_set, pass_at, pass_set}
 

@@ -1,37 +1,6 @@
 -- Going into a value part by part, and changing one there.
-use Rattle.std.proofs.Common.{
-  ◌≡◌,
-  ℕ,
-  suc,
-  zero,
-  ◌+◌,
-  ◌-◌,
-  ◌<◌,
-  ◌≤◌,
-  List,
-  [],
-  ◌∷◌,
-  ◌++◌,
-  length,
-  get_or,
-  take,
-  drop,
-  arith,
-  refl,
-  sym,
-  ap,
-  ◌∙◌,
-  Option,
-  Some,
-  None,
-  Bool,
-  true,
-  false,
-  not,
-  add-one,
-  drop-cons,
-  set-set,
-}
+use Rattle.std.proofs.Common.{◌≡◌, ℕ, suc, zero, ◌+◌, ◌-◌, ◌<◌, ◌≤◌, List, [], ◌∷◌, ◌++◌, length, get_or, take, drop, arith, refl, sym, ap, ◌∙◌, Option, Some}
+use Rattle.std.proofs.Common.{None, Bool, true, false, not, add-one, drop-cons, set-set}
 use Rattle.std.proofs.lemmas.List.{take_all}
 use Rattle.std.specs.Prelude.{is_some, option_and_then, option_map, slice_get, slice_set, unwrap_or}
 use Rattle.bl_tree.specs.declared.value.Value.{Value}

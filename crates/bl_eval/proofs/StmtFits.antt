@@ -1,26 +1,5 @@
 -- A statement of a unit leaves its variables with values of their types, and returns what is of its result's type.
-use Rattle.std.proofs.Common.{
-  ◌≡◌,
-  ℕ,
-  suc,
-  zero,
-  Bool,
-  true,
-  false,
-  ◌&&◌,
-  List,
-  [],
-  ◌∷◌,
-  map,
-  Option,
-  Some,
-  None,
-  refl,
-  sym,
-  ◌∙◌,
-  subst,
-  IfSome,
-}
+use Rattle.std.proofs.Common.{◌≡◌, ℕ, suc, zero, Bool, true, false, ◌&&◌, List, [], ◌∷◌, map, Option, Some, None, refl, sym, ◌∙◌, subst, IfSome}
 use Rattle.std.proofs.lemmas.List.Elements.{All-head, All-tail}
 use Rattle.std.specs.Prelude.{option_and_then, option_map, if◌then◌else◌}
 use Rattle.bl_tree.specs.declared.scalar.Scalar.{Scalar as ScalarType}
@@ -34,39 +13,12 @@ use Rattle.bl_tree.specs.declared.tree.Var.{Var}
 use Rattle.bl_tree.specs.declared.value.Value.{Value}
 use Rattle.bl_tree.specs.Reduce.{all_of}
 use Rattle.bl_tree.specs.Types.{scalar}
-use Rattle.bl_tree.specs.Typing.{
-  TypingContext,
-  are_same,
-  arm_fits,
-  branch_fits,
-  fits,
-  is_inhabited,
-  is_truth,
-  kind_fits,
-  return_fits,
-  site_of,
-  stmt_fits,
-  type_of,
-  type_of_path,
-}
+use Rattle.bl_tree.specs.Typing.{TypingContext, are_same, arm_fits, branch_fits, fits, is_inhabited, is_truth, kind_fits, return_fits, site_of, stmt_fits}
+use Rattle.bl_tree.specs.Typing.{type_of, type_of_path}
 use Rattle.bl_tree.proofs.StmtInduction.{Cases, Each, EachArm, induct}
 use Rattle.bl_eval.specs.Changes.{choice_of}
-use Rattle.bl_eval.specs.Functions.{
-  Flow,
-  GuardedBlock,
-  StmtMeaning,
-  condition,
-  declared,
-  does,
-  first_true_choice,
-  flow_then,
-  in_order,
-  looped,
-  most_turns,
-  own,
-  returned,
-  scope_among,
-}
+use Rattle.bl_eval.specs.Functions.{Flow, GuardedBlock, StmtMeaning, condition, declared, does, first_true_choice, flow_then, in_order, looped, most_turns, own}
+use Rattle.bl_eval.specs.Functions.{returned, scope_among}
 use Rattle.bl_eval.specs.Meaning.{Callee, Scope, meaning_of}
 use Rattle.bl_eval.proofs.ActFits.{AllFit, assigned_fits, called_fits, declared_fits, same_found}
 use Rattle.bl_eval.proofs.ExprFits.{ResultFits, Sound, expr_fits}

@@ -1,27 +1,5 @@
 -- Measures for what goes down from a struct or a unit to those before it, and from a statement to what stands in it.
-use Rattle.std.proofs.Common.{
-  ◌≡◌,
-  ℕ,
-  suc,
-  zero,
-  ◌+◌,
-  ◌<◌,
-  ◌≤◌,
-  max,
-  List,
-  [],
-  ◌∷◌,
-  length,
-  get_or,
-  map,
-  take,
-  arith,
-  Option,
-  Some,
-  None,
-  ap,
-  ◌∙◌,
-}
+use Rattle.std.proofs.Common.{◌≡◌, ℕ, suc, zero, ◌+◌, ◌<◌, ◌≤◌, max, List, [], ◌∷◌, length, get_or, map, take, arith, Option, Some, None, ap, ◌∙◌}
 use Rattle.std.specs.Prelude.{slice_get}
 use Rattle.bl_tree.specs.declared.tree.Arm.{Arm, fold-Arm, fold_out-Arm, out-Arm}
 use Rattle.bl_tree.specs.declared.tree.Branch.{Branch, fold-Branch}
@@ -32,24 +10,8 @@ use Rattle.bl_tree.specs.declared.tree.Path.{Path, out-Path}
 use Rattle.bl_tree.specs.declared.tree.Stmt.{Stmt, fold-Stmt, fold_out-Stmt, out-Stmt}
 use Rattle.bl_tree.specs.declared.tree.StmtKind.{StmtKind, fold-StmtKind, fold_out-StmtKind, map-StmtKind, out-StmtKind}
 use Rattle.bl_tree.specs.declared.tree.StmtKind.TheOpen.{StmtKind-F, Arm-F, Branch-F, Stmt-F}
-use Rattle.bl_tree.specs.declared.tree.StmtKind.TheVariants.{
-  Declare,
-  Assign,
-  Call,
-  If,
-  Repeat,
-  Until,
-  While,
-  Return,
-  outs-Declare,
-  outs-Assign,
-  outs-Call,
-  outs-If,
-  outs-Repeat,
-  outs-Until,
-  outs-While,
-  outs-Return,
-}
+use Rattle.bl_tree.specs.declared.tree.StmtKind.TheVariants.{Declare, Assign, Call, If, Repeat, Until, While, Return, outs-Declare, outs-Assign, outs-Call}
+use Rattle.bl_tree.specs.declared.tree.StmtKind.TheVariants.{outs-If, outs-Repeat, outs-Until, outs-While, outs-Return}
 use Rattle.bl_tree.specs.declared.tree.StructDef.{StructDef}
 use Rattle.bl_tree.specs.declared.tree.Ty.{size-Ty}
 use Rattle.bl_tree.specs.declared.tree.Unit.{Unit as UnitDef}

@@ -13,23 +13,8 @@ use Rattle.bl_tree.specs.declared.tree.Var.{Var}
 use Rattle.bl_tree.specs.declared.value.Value.{Value}
 use Rattle.bl_tree.specs.Program.{parameters_of}
 use Rattle.bl_tree.specs.Types.{same_type, scalar_in}
-use Rattle.bl_tree.specs.Typing.{
-  TypingContext,
-  are_same,
-  arguments_fit,
-  call_fits,
-  declaration_fits,
-  inputs_of,
-  is_fixed,
-  is_function,
-  is_procedure,
-  is_variable,
-  outputs_of,
-  site_of,
-  type_of,
-  type_of_path,
-  types_match,
-}
+use Rattle.bl_tree.specs.Typing.{TypingContext, are_same, arguments_fit, call_fits, declaration_fits, inputs_of, is_fixed, is_function, is_procedure}
+use Rattle.bl_tree.specs.Typing.{is_variable, outputs_of, site_of, type_of, type_of_path, types_match}
 use Rattle.bl_eval.specs.declared.datum.Datum.{Datum}
 use Rattle.bl_eval.specs.declared.datum.Left.{Left}
 use Rattle.bl_eval.specs.Changes.{with_element_at}

@@ -1,28 +1,5 @@
 -- An expression of a typed program that has no value traps.
-use Rattle.std.proofs.Common.{
-  ◌≡◌,
-  ℕ,
-  ℤ,
-  Bool,
-  true,
-  false,
-  ◌&&◌,
-  List,
-  [],
-  ◌∷◌,
-  map,
-  take,
-  arith,
-  Option,
-  Some,
-  None,
-  refl,
-  sym,
-  ap,
-  ◌∙◌,
-  subst,
-  IfSome,
-}
+use Rattle.std.proofs.Common.{◌≡◌, ℕ, ℤ, Bool, true, false, ◌&&◌, List, [], ◌∷◌, map, take, arith, Option, Some, None, refl, sym, ap, ◌∙◌, subst, IfSome}
 use Rattle.std.proofs.lemmas.Bool.{eqb-true}
 use Rattle.std.proofs.lemmas.List.Elements.{All-head, All-tail}
 use Rattle.std.specs.Prelude.{All, nat_eq, option_and_then, option_map, slice_get, if◌then◌else◌}
@@ -43,25 +20,8 @@ use Rattle.bl_tree.specs.Numbers.{takes_one, takes_two, type_of_result}
 use Rattle.bl_tree.specs.Program.{parameters_of}
 use Rattle.bl_tree.specs.Scalar.{is_whole}
 use Rattle.bl_tree.specs.Types.{same_scalar, same_type, scalar, scalar_in}
-use Rattle.bl_tree.specs.Typing.{
-  TypingContext,
-  after_parts,
-  call_type,
-  cast_type,
-  element_in,
-  field_in,
-  inputs_of,
-  is_function,
-  one_type,
-  prev_type,
-  site_of,
-  two_type,
-  type_of,
-  type_of_path,
-  types_match,
-  where_same,
-  where_whole,
-}
+use Rattle.bl_tree.specs.Typing.{TypingContext, after_parts, call_type, cast_type, element_in, field_in, inputs_of, is_function, one_type, prev_type, site_of}
+use Rattle.bl_tree.specs.Typing.{two_type, type_of, type_of_path, types_match, where_same, where_whole}
 use Rattle.bl_tree.proofs.ExprInduction.{Cases, EachIndex, OfIndex, expr, induct, induct_path}
 use Rattle.bl_eval.specs.declared.datum.Datum.{Datum}
 use Rattle.bl_eval.specs.declared.datum.Datum.TheVariants.{Scalar as OfScalar}
@@ -69,27 +29,8 @@ use Rattle.bl_eval.specs.declared.datum.Left.{Left}
 use Rattle.bl_eval.specs.declared.datum.Operand.{Operand}
 use Rattle.bl_eval.specs.Changes.{part_of_path}
 use Rattle.bl_eval.specs.Functions.{callee_of, callees_of}
-use Rattle.bl_eval.specs.Meaning.{
-  Callee,
-  Scope,
-  View,
-  call_datum,
-  cast_datum,
-  datum_of,
-  decides,
-  meaning_of,
-  one_datum,
-  path_meaning_of,
-  plain,
-  position_in,
-  positions_of,
-  read_at,
-  reading,
-  scalar_of,
-  two_data,
-  two_datum,
-  values_of,
-}
+use Rattle.bl_eval.specs.Meaning.{Callee, Scope, View, call_datum, cast_datum, datum_of, decides, meaning_of, one_datum, path_meaning_of, plain, position_in}
+use Rattle.bl_eval.specs.Meaning.{positions_of, read_at, reading, scalar_of, two_data, two_datum, values_of}
 use Rattle.bl_eval.specs.Values.{part_of, position_of, value_at, value_fits, values_fit}
 use Rattle.bl_eval.proofs.ExprFits.{Sound, expr_fits, match_fits}
 use Rattle.bl_eval.proofs.FitLemmas.{same_scalar_is}

@@ -1,28 +1,5 @@
 -- A statement of a function of a typed program that does not end traps.
-use Rattle.std.proofs.Common.{
-  ◌≡◌,
-  ℕ,
-  suc,
-  zero,
-  Bool,
-  true,
-  false,
-  not,
-  ◌&&◌,
-  List,
-  [],
-  ◌∷◌,
-  map,
-  Option,
-  Some,
-  None,
-  refl,
-  sym,
-  ap,
-  ◌∙◌,
-  subst,
-  IfSome,
-}
+use Rattle.std.proofs.Common.{◌≡◌, ℕ, suc, zero, Bool, true, false, not, ◌&&◌, List, [], ◌∷◌, map, Option, Some, None, refl, sym, ap, ◌∙◌, subst, IfSome}
 use Rattle.std.proofs.lemmas.List.Elements.{All-head, All-tail}
 use Rattle.std.specs.Prelude.{is_some, option_and_then, slice_get, if◌then◌else◌}
 use Rattle.bl_tree.specs.declared.place.Place.{Place}
@@ -42,48 +19,13 @@ use Rattle.bl_tree.specs.Numbers.{is_one}
 use Rattle.bl_tree.specs.Reduce.{all_of}
 use Rattle.bl_tree.specs.Scalar.{is_bool}
 use Rattle.bl_tree.specs.Types.{scalar, scalar_in}
-use Rattle.bl_tree.specs.Typing.{
-  TypingContext,
-  are_same,
-  arguments_fit,
-  run_fits,
-  target_fits,
-  arm_fits,
-  branch_fits,
-  fits,
-  is_activity,
-  is_function,
-  is_inhabited,
-  is_truth,
-  kind_fits,
-  return_fits,
-  site_of,
-  stmt_fits,
-  type_of,
-  type_of_path,
-}
+use Rattle.bl_tree.specs.Typing.{TypingContext, are_same, arguments_fit, run_fits, target_fits, arm_fits, branch_fits, fits, is_activity, is_function}
+use Rattle.bl_tree.specs.Typing.{is_inhabited, is_truth, kind_fits, return_fits, site_of, stmt_fits, type_of, type_of_path}
 use Rattle.bl_tree.proofs.StmtInduction.{Cases, Each, EachArm, induct, stmt}
 use Rattle.bl_eval.specs.declared.datum.Operand.{Operand}
 use Rattle.bl_eval.specs.Changes.{choice_of}
-use Rattle.bl_eval.specs.Functions.{
-  Flow,
-  GuardedBlock,
-  StmtMeaning,
-  assigned,
-  call_of,
-  callees_of,
-  condition,
-  declared,
-  does,
-  first_true_choice,
-  flow_then,
-  in_order,
-  looped,
-  most_turns,
-  own,
-  returned,
-  truth,
-}
+use Rattle.bl_eval.specs.Functions.{Flow, GuardedBlock, StmtMeaning, assigned, call_of, callees_of, condition, declared, does, first_true_choice, flow_then}
+use Rattle.bl_eval.specs.Functions.{in_order, looped, most_turns, own, returned, truth}
 use Rattle.bl_eval.specs.Meaning.{Scope, meaning_of, operand, path_meaning_of, value_in}
 use Rattle.bl_eval.proofs.ActFits.{AllFit, same_found}
 use Rattle.bl_eval.proofs.ExprFits.{Sound, expr_fits}

@@ -1,37 +1,6 @@
 -- In every unit of a typed program what has no value traps.
-use Rattle.std.proofs.Common.{
-  ◌≡◌,
-  ℕ,
-  suc,
-  zero,
-  ◌+◌,
-  ◌<◌,
-  ◌≤◌,
-  length,
-  Bool,
-  true,
-  false,
-  not,
-  ◌&&◌,
-  ◌||◌,
-  List,
-  [],
-  ◌∷◌,
-  ◌++◌,
-  map,
-  take,
-  arith,
-  Option,
-  Some,
-  None,
-  refl,
-  sym,
-  ap,
-  ◌∙◌,
-  subst,
-  append_assoc,
-  IfSome,
-}
+use Rattle.std.proofs.Common.{◌≡◌, ℕ, suc, zero, ◌+◌, ◌<◌, ◌≤◌, length, Bool, true, false, not, ◌&&◌, ◌||◌, List, [], ◌∷◌, ◌++◌, map, take, arith, Option, Some}
+use Rattle.std.proofs.Common.{None, refl, sym, ap, ◌∙◌, subst, append_assoc, IfSome}
 use Rattle.std.proofs.lemmas.List.{append-nil, length-take, take-append-drop}
 use Rattle.std.proofs.lemmas.Option.{same_Some, slice_get_within}
 use Rattle.std.specs.Prelude.{is_none, nat_eq, option_map, slice_get, if◌then◌else◌}

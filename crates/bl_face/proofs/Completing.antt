@@ -14,18 +14,8 @@ use Rattle.bl_face.specs.declared.state.State.{State}
 use Rattle.bl_face.specs.declared.state.State.TheVariants as at
 use Rattle.bl_face.specs.Lexemes.{Lexeme}
 use Rattle.bl_face.specs.Lexemes.Lexeme.{named, marked}
-use Rattle.bl_face.specs.Spells.{
-  kept_length,
-  SpellsType,
-  SpellsField,
-  SpellsFields,
-  SpellsMore,
-  SpellsParams,
-  SpellsResult,
-  SpellsValue,
-  SpellsItem,
-  SpellsItems,
-}
+use Rattle.bl_face.specs.Spells.{kept_length, SpellsType, SpellsField, SpellsFields, SpellsMore, SpellsParams, SpellsResult, SpellsValue, SpellsItem}
+use Rattle.bl_face.specs.Spells.{SpellsItems}
 use Rattle.bl_face.proofs.Accepting.{accepts}
 
 -- ---- what is left to be spelled, by what was read last

@@ -1,19 +1,5 @@
 -- A face that is read keeps what faces keep.
-use Rattle.std.proofs.Common.{
-  ◌≡◌,
-  ℕ,
-  suc,
-  Bool,
-  true,
-  false,
-  ◌&&◌,
-  List,
-  [],
-  ◌∷◌,
-  slice_range,
-  refl,
-  arith,
-}
+use Rattle.std.proofs.Common.{◌≡◌, ℕ, suc, Bool, true, false, ◌&&◌, List, [], ◌∷◌, slice_range, refl, arith}
 use Rattle.std.specs.Prelude.{ℤ, Option}
 use Rattle.std.specs.List.{list_all}
 use Rattle.bl_tree.specs.Words.{is_name}

@@ -14,25 +14,8 @@ use Rattle.bl_face.specs.declared.item.FaceBase.TheVariants as base
 use Rattle.bl_face.specs.declared.item.FaceField.{FaceField}
 use Rattle.bl_face.specs.declared.item.FaceItem.{FaceItem}
 use Rattle.bl_face.specs.declared.item.FaceItem.TheVariants as item
-use Rattle.bl_face.specs.Text.{
-  scalar_word,
-  base_text,
-  length_text,
-  lengths_text,
-  field_text,
-  params_from,
-  fields_text,
-  struct_text,
-  value_text,
-  constant_front,
-  constant_text,
-  kind_word,
-  head_text,
-  result_text,
-  tail_text,
-  item_text,
-  items_text,
-}
+use Rattle.bl_face.specs.Text.{scalar_word, base_text, length_text, lengths_text, field_text, params_from, fields_text, struct_text, value_text, constant_front}
+use Rattle.bl_face.specs.Text.{constant_text, kind_word, head_text, result_text, tail_text, item_text, items_text}
 use Rattle.bl_face_laws.proofs.Chunks.{Chunk, text_of}
 use Rattle.bl_face_laws.proofs.Chunks.Chunk.{blank, word, mark}
 

@@ -1,32 +1,6 @@
 -- The pieces of a face are tokens that spell it.
-use Rattle.std.proofs.Common.{
-  ◌≡◌,
-  ◌≢◌,
-  ℕ,
-  zero,
-  suc,
-  ◌<◌,
-  ◌≤◌,
-  ◌^◌,
-  ◌-◌,
-  min,
-  Bool,
-  true,
-  false,
-  not,
-  ◌&&◌,
-  ◌||◌,
-  List,
-  [],
-  ◌∷◌,
-  length,
-  refl,
-  ap,
-  sym,
-  ◌∙◌,
-  subst,
-  arith,
-}
+use Rattle.std.proofs.Common.{◌≡◌, ◌≢◌, ℕ, zero, suc, ◌<◌, ◌≤◌, ◌^◌, ◌-◌, min, Bool, true, false, not, ◌&&◌, ◌||◌, List, [], ◌∷◌, length, refl, ap, sym, ◌∙◌}
+use Rattle.std.proofs.Common.{subst, arith}
 use Rattle.std.specs.Prelude.{ℤ, pos, negsuc, neg_ℤ, nat_abs, Option, Some, None, codes, slice_get}
 use Rattle.std.specs.Fmt.{decimal}
 use Rattle.std.specs.List.{list_all}
@@ -57,44 +31,15 @@ use Rattle.bl_face.specs.Keeps.{base_is_named, field_is_named, has_field, item_k
 use Rattle.bl_face.specs.Lexemes.{Lexeme, class_of_word}
 use Rattle.bl_face.specs.Lexemes.Lexeme.{named, marked}
 use Rattle.bl_face.specs.Reading.{most_bytes, ReadsAs}
-use Rattle.bl_face.specs.Spells.{
-  kept_length,
-  kept_number,
-  SpellsType,
-  SpellsField,
-  SpellsFields,
-  SpellsMore,
-  SpellsParams,
-  SpellsResult,
-  SpellsValue,
-  SpellsItem,
-  SpellsItems,
-}
+use Rattle.bl_face.specs.Spells.{kept_length, kept_number, SpellsType, SpellsField, SpellsFields, SpellsMore, SpellsParams, SpellsResult, SpellsValue}
+use Rattle.bl_face.specs.Spells.{SpellsItem, SpellsItems}
 use Rattle.bl_face.specs.Text.{face_text}
 use Rattle.bl_face_laws.specs.Fits.{LengthsFit, FieldsFit, ItemFits, ItemsFit}
 use Rattle.bl_face_laws.proofs.Chunks.{Chunk, text_of, lexemes_in, next_byte, WordStands, MarkStands, Stands, AllStand, Cover, cover}
 use Rattle.bl_face_laws.proofs.Chunks.Chunk.{word, mark}
 use Rattle.bl_face_laws.proofs.Digits.{DigitsOf, decimal_digits}
-use Rattle.bl_face_laws.proofs.Pieces.{
-  space,
-  scalar_number,
-  scalar_chunk,
-  base_chunk,
-  lengths_chunks,
-  field_chunks,
-  fields_chunks,
-  more_chunks,
-  params_chunks,
-  number_chunks,
-  by_truth,
-  value_chunks,
-  unit_chunk,
-  result_chunks,
-  line,
-  item_chunks,
-  items_chunks,
-  items_bytes,
-}
+use Rattle.bl_face_laws.proofs.Pieces.{space, scalar_number, scalar_chunk, base_chunk, lengths_chunks, field_chunks, fields_chunks, more_chunks, params_chunks}
+use Rattle.bl_face_laws.proofs.Pieces.{number_chunks, by_truth, value_chunks, unit_chunk, result_chunks, line, item_chunks, items_chunks, items_bytes}
 
 -- ---- words and signs
 

@@ -1,35 +1,6 @@
 -- What the code makes of a `cobegin`, and of statements by their kinds.
-use Rattle.std.proofs.Common.{
-  ◌≡◌,
-  ℕ,
-  suc,
-  ◌+◌,
-  ◌-◌,
-  ◌<◌,
-  ◌≤◌,
-  Bool,
-  true,
-  false,
-  nat_eq,
-  List,
-  [],
-  ◌∷◌,
-  ◌++◌,
-  map,
-  take,
-  length,
-  get_or,
-  Option,
-  Some,
-  refl,
-  ap,
-  sym,
-  ◌∙◌,
-  subst,
-  arith,
-  add-zero,
-  zero-add,
-}
+use Rattle.std.proofs.Common.{◌≡◌, ℕ, suc, ◌+◌, ◌-◌, ◌<◌, ◌≤◌, Bool, true, false, nat_eq, List, [], ◌∷◌, ◌++◌, map, take, length, get_or, Option, Some, refl}
+use Rattle.std.proofs.Common.{ap, sym, ◌∙◌, subst, arith, add-zero, zero-add}
 use Rattle.std.specs.Prelude.{slice_get}
 use Rattle.std.proofs.lemmas.List.{length-append, length-map, map-append, take_all, take_more}
 use Rattle.bl_tree.specs.declared.graph.Edge.{Edge}
@@ -61,41 +32,9 @@ use Rattle.bl_graph.specs.Listed.{edges_in_each, flows_in_each}
 use Rattle.bl_graph.specs.Marks.{entered, join_mark, marked, part_in, parts_of, resumed, unreached, where_marked}
 use Rattle.bl_graph.specs.inner.Flows.{InOrder}
 use Rattle.bl_graph.specs.inner.Instants.{ends_of_branch}
-use Rattle.bl_graph.specs.inner.Made.{
-  Adds,
-  BlockMade,
-  BranchAdded,
-  BranchesMade,
-  Crossed,
-  IsOut,
-  Makes,
-  MakesEach,
-  Names,
-  NamesEach,
-  Naming,
-  Pairwise,
-  StatementMade,
-  flow_of,
-  flows_between,
-  flows_within,
-  kinded,
-  spans_of,
-  whole_of,
-}
-use Rattle.bl_graph.specs.inner.Parts.{
-  act_part,
-  bare,
-  bare_if,
-  branch_links,
-  cobegin_part,
-  joined_branch,
-  leaving_outs,
-  node,
-  out,
-  out_if,
-  past,
-  pause_part,
-}
+use Rattle.bl_graph.specs.inner.Made.{Adds, BlockMade, BranchAdded, BranchesMade, Crossed, IsOut, Makes, MakesEach, Names, NamesEach, Naming, Pairwise}
+use Rattle.bl_graph.specs.inner.Made.{StatementMade, flow_of, flows_between, flows_within, kinded, spans_of, whole_of}
+use Rattle.bl_graph.specs.inner.Parts.{act_part, bare, bare_if, branch_links, cobegin_part, joined_branch, leaving_outs, node, out, out_if, past, pause_part}
 use Rattle.bl_graph.proofs.Building.{counted, empty_at, leads_in}
 use Rattle.bl_graph.proofs.Crossing.{crossed_adds, flows_apart}
 use Rattle.bl_graph.proofs.Joining.{bodies_with, branch_makes, names_with, with_branch}

@@ -1,29 +1,5 @@
 -- What is reached is marked: in constructs around others, and in whole bodies.
-use Rattle.std.proofs.Common.{
-  ◌≡◌,
-  ℕ,
-  zero,
-  suc,
-  Bool,
-  true,
-  false,
-  not,
-  cond,
-  ◌⊎◌,
-  inl,
-  inr,
-  List,
-  [],
-  ◌∷◌,
-  ◌++◌,
-  map,
-  Some,
-  refl,
-  ap,
-  sym,
-  ◌∙◌,
-  subst,
-}
+use Rattle.std.proofs.Common.{◌≡◌, ℕ, zero, suc, Bool, true, false, not, cond, ◌⊎◌, inl, inr, List, [], ◌∷◌, ◌++◌, map, Some, refl, ap, sym, ◌∙◌, subst}
 use Rattle.std.specs.Prelude.{Contains, slice_get, ⊤}
 use Rattle.std.proofs.lemmas.Option.{slice_get-get_or}
 use Rattle.bl_tree.specs.declared.place.Place.{Place}
@@ -31,135 +7,20 @@ use Rattle.bl_tree.specs.declared.tree.Expr.{Expr}
 use Rattle.bl_tree.specs.declared.tree.Guard.{Guard}
 use Rattle.bl_tree.specs.declared.tree.Guard.TheVariants.{Abort, Reset}
 use Rattle.bl_graph_nodes.specs.Laws.{EachOnce, NodesDiffer}
-use Rattle.bl_graph_nodes.specs.Nodes.{
-  CheckAt,
-  DepthEndAt,
-  DepthJoinAt,
-  ForkAt,
-  Node,
-  StartAt,
-  SurfaceEndAt,
-  SurfaceJoinAt,
-  are_instant,
-  is_instant,
-  nodes_in,
-}
-use Rattle.bl_graph_nodes.specs.Plain.{
-  Act,
-  Again,
-  Await,
-  Block,
-  Bodies,
-  Body,
-  Cobegin,
-  Done,
-  If,
-  Label,
-  Last,
-  Plain,
-  Repeat,
-  Run,
-  Then,
-  Until,
-  When,
-  While,
-  is_empty,
-  plain_block,
-}
-use Rattle.bl_graph.specs.Edges.{
-  BodyEnd,
-  Edge,
-  EdgeAll,
-  EdgeEach,
-  Entry,
-  Guarded,
-  Into,
-  Out,
-  OutAll,
-  ResumeAll,
-  ResumeEach,
-}
+use Rattle.bl_graph_nodes.specs.Nodes.{CheckAt, DepthEndAt, DepthJoinAt, ForkAt, Node, StartAt, SurfaceEndAt, SurfaceJoinAt, are_instant, is_instant, nodes_in}
+use Rattle.bl_graph_nodes.specs.Plain.{Act, Again, Await, Block, Bodies, Body, Cobegin, Done, If, Label, Last, Plain, Repeat, Run, Then, Until, When, While}
+use Rattle.bl_graph_nodes.specs.Plain.{is_empty, plain_block}
+use Rattle.bl_graph.specs.Edges.{BodyEnd, Edge, EdgeAll, EdgeEach, Entry, Guarded, Into, Out, OutAll, ResumeAll, ResumeEach}
 use Rattle.bl_graph.specs.Laws.{MarksTell, MarksTellIn}
-use Rattle.bl_graph.specs.Marks.{
-  Mark,
-  Marked,
-  again_by,
-  begun_by,
-  body_ends,
-  entered,
-  join_mark,
-  last_end,
-  leaves,
-  marked,
-  moved,
-  part_in,
-  part_of,
-  parts_of,
-  resets,
-  resumed,
-  some_of,
-  where_marked,
-}
+use Rattle.bl_graph.specs.Marks.{Mark, Marked, again_by, begun_by, body_ends, entered, join_mark, last_end, leaves, marked, moved, part_in, part_of, parts_of}
+use Rattle.bl_graph.specs.Marks.{resets, resumed, some_of, where_marked}
 use Rattle.bl_graph.specs.Walks.{Reached}
-use Rattle.bl_graph.proofs.Filling.{
-  again_full,
-  await_full,
-  back_at,
-  block_part,
-  Closed,
-  closed_part,
-  Full,
-  FullIn,
-  if_full,
-  in_moved,
-  in_statement,
-  is_at,
-  moved_part,
-  moved_to,
-  never,
-  none_is,
-  out_mark,
-  own_mark,
-  repeat_full,
-  run_full,
-  single_full,
-  some_is_same,
-  until_full,
-  while_full,
-}
-use Rattle.bl_graph.proofs.Marking.{
-  At,
-  Differ,
-  Is,
-  Sub,
-  at_left,
-  at_moved,
-  at_right,
-  back,
-  differ_left,
-  differ_of,
-  differ_right,
-  is_first,
-  is_in,
-  is_left,
-  is_right,
-  leaves_depth,
-  leaves_surface,
-  moved_at,
-  names,
-  names_append,
-  names_in,
-  names_moved,
-  one_mark,
-  or_left,
-  or_right,
-  pick,
-  some_is,
-  to_depth,
-  to_depth_entry,
-  to_surface,
-  where_at,
-}
+use Rattle.bl_graph.proofs.Filling.{again_full, await_full, back_at, block_part, Closed, closed_part, Full, FullIn, if_full, in_moved, in_statement, is_at}
+use Rattle.bl_graph.proofs.Filling.{moved_part, moved_to, never, none_is, out_mark, own_mark, repeat_full, run_full, single_full, some_is_same, until_full}
+use Rattle.bl_graph.proofs.Filling.{while_full}
+use Rattle.bl_graph.proofs.Marking.{At, Differ, Is, Sub, at_left, at_moved, at_right, back, differ_left, differ_of, differ_right, is_first, is_in, is_left}
+use Rattle.bl_graph.proofs.Marking.{is_right, leaves_depth, leaves_surface, moved_at, names, names_append, names_in, names_moved, one_mark, or_left, or_right}
+use Rattle.bl_graph.proofs.Marking.{pick, some_is, to_depth, to_depth_entry, to_surface, where_at}
 use Rattle.bl_graph.proofs.Staying.{edge_has, out_has, out_in}
 use Rattle.bl_graph.proofs.Sounding.{sound_in}
 use Rattle.bl_graph.proofs.Walking.{reached_keeps_both}

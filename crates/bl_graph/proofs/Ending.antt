@@ -1,37 +1,6 @@
 -- The tick graph of a body by numbers.
-use Rattle.std.proofs.Common.{
-  ◌≡◌,
-  ℕ,
-  zero,
-  suc,
-  ◌+◌,
-  ◌<◌,
-  Bool,
-  true,
-  false,
-  ◌&&◌,
-  nat_lt,
-  ⊎_elim,
-  List,
-  [],
-  ◌∷◌,
-  ◌++◌,
-  map,
-  length,
-  get_or,
-  Some,
-  Result,
-  Ok,
-  Err,
-  refl,
-  rules,
-  ap,
-  sym,
-  ◌∙◌,
-  subst,
-  arith,
-  zero-add,
-}
+use Rattle.std.proofs.Common.{◌≡◌, ℕ, zero, suc, ◌+◌, ◌<◌, Bool, true, false, ◌&&◌, nat_lt, ⊎_elim, List, [], ◌∷◌, ◌++◌, map, length, get_or, Some, Result, Ok}
+use Rattle.std.proofs.Common.{Err, refl, rules, ap, sym, ◌∙◌, subst, arith, zero-add}
 use Rattle.std.specs.Prelude.{Contains, IfOk, IsTrue, slice_get, ◌↔◌}
 use Rattle.std.specs.List.{list_all}
 use Rattle.std.proofs.lemmas.List.{length-map}

@@ -1,92 +1,16 @@
 -- What is reached is marked.
-use Rattle.std.proofs.Common.{
-  ◌≡◌,
-  ℕ,
-  Bool,
-  true,
-  false,
-  ◌||◌,
-  ◌⊎◌,
-  inl,
-  inr,
-  List,
-  [],
-  ◌∷◌,
-  ◌++◌,
-  Option,
-  Some,
-  None,
-  refl,
-  ap,
-  sym,
-  ◌∙◌,
-  subst,
-}
+use Rattle.std.proofs.Common.{◌≡◌, ℕ, Bool, true, false, ◌||◌, ◌⊎◌, inl, inr, List, [], ◌∷◌, ◌++◌, Option, Some, None, refl, ap, sym, ◌∙◌, subst}
 use Rattle.bl_tree.specs.declared.place.Place.{Place}
 use Rattle.bl_tree.specs.declared.tree.Expr.{Expr}
 use Rattle.bl_tree.specs.declared.tree.Path.{Path}
 use Rattle.bl_tree.specs.declared.tree.Stmt.{Stmt}
-use Rattle.bl_graph_nodes.specs.Nodes.{
-  ActAt,
-  EnterAt,
-  HeadAt,
-  Node,
-  PauseAt,
-  ResumeAt,
-  TestAt,
-  arguments_of,
-  entry,
-  nodes_in,
-  nodes_of,
-}
+use Rattle.bl_graph_nodes.specs.Nodes.{ActAt, EnterAt, HeadAt, Node, PauseAt, ResumeAt, TestAt, arguments_of, entry, nodes_in, nodes_of}
 use Rattle.bl_graph_nodes.specs.Plain.{Act, Again, Await, Block, If, Label, Plain, Repeat, Run, Until, While, is_empty}
 use Rattle.bl_graph.specs.Edges.{Edge, EdgeAll, Entry, LoopEdge, Out, OutAll, Resume, ResumeAll}
-use Rattle.bl_graph.specs.Marks.{
-  Mark,
-  Marked,
-  again_by,
-  entered,
-  marked,
-  moved,
-  part_in,
-  part_of,
-  resumed,
-  some_of,
-  turn_ends,
-  where_marked,
-}
-use Rattle.bl_graph.proofs.Marking.{
-  At,
-  Differ,
-  Is,
-  Sub,
-  at_left,
-  at_moved,
-  at_right,
-  back,
-  has_at,
-  is_first,
-  is_in,
-  is_later,
-  is_left,
-  is_right,
-  moved_at,
-  moved_depth,
-  moved_surface,
-  names,
-  names_in,
-  names_moved,
-  names_of,
-  one_mark,
-  or_left,
-  or_right,
-  pick,
-  some_is,
-  to_depth,
-  to_depth_entry,
-  to_surface,
-  where_at,
-}
+use Rattle.bl_graph.specs.Marks.{Mark, Marked, again_by, entered, marked, moved, part_in, part_of, resumed, some_of, turn_ends, where_marked}
+use Rattle.bl_graph.proofs.Marking.{At, Differ, Is, Sub, at_left, at_moved, at_right, back, has_at, is_first, is_in, is_later, is_left, is_right, moved_at}
+use Rattle.bl_graph.proofs.Marking.{moved_depth, moved_surface, names, names_in, names_moved, names_of, one_mark, or_left, or_right, pick, some_is, to_depth}
+use Rattle.bl_graph.proofs.Marking.{to_depth_entry, to_surface, where_at}
 use Rattle.bl_graph.proofs.Staying.{Has, edge_in, out_in}
 
 pub never : {A : Type 0} → false ≡ true → A

@@ -1,81 +1,20 @@
 -- The listed flows of a body are its data edges.
-use Rattle.std.proofs.Common.{
-  ◌≡◌,
-  Bool,
-  true,
-  false,
-  ◌&&◌,
-  cond,
-  ◌⊎◌,
-  inl,
-  inr,
-  List,
-  [],
-  ◌∷◌,
-  ◌++◌,
-  refl,
-  ap,
-  sym,
-  ◌∙◌,
-}
+use Rattle.std.proofs.Common.{◌≡◌, Bool, true, false, ◌&&◌, cond, ◌⊎◌, inl, inr, List, [], ◌∷◌, ◌++◌, refl, ap, sym, ◌∙◌}
 use Rattle.bl_tree.specs.Static.{meets}
 use Rattle.bl_graph_nodes.specs.Laws.{NodesDiffer}
 use Rattle.bl_graph_nodes.specs.Nodes.{Node, node_reads, node_writes}
-use Rattle.bl_graph_nodes.specs.Plain.{
-  Act,
-  Again,
-  Await,
-  Block,
-  Bodies,
-  Body,
-  Cobegin,
-  Done,
-  If,
-  Last,
-  Plain,
-  Repeat,
-  Run,
-  Then,
-  Until,
-  When,
-  While,
-  plain_block,
-}
+use Rattle.bl_graph_nodes.specs.Plain.{Act, Again, Await, Block, Bodies, Body, Cobegin, Done, If, Last, Plain, Repeat, Run, Then, Until, When, While}
+use Rattle.bl_graph_nodes.specs.Plain.{plain_block}
 use Rattle.bl_graph.specs.DataEdges.{Across, Beside, BesideAll, BesideEach, Touches}
 use Rattle.bl_graph.specs.Edges.{In, InEach}
 use Rattle.bl_graph.specs.Laws.{FlowsAreListed}
 use Rattle.bl_graph.specs.Listed.{Pair, across, between, flows_in, flows_in_each, flows_of, in_same_phase, pair, touching}
 use Rattle.bl_graph.specs.Marks.{Mark, Marked, again_by, moved, part_in, part_of, parts_of, some_of}
-use Rattle.bl_graph.proofs.Enclosing.{
-  FullEach,
-  all_differ,
-  body_differs,
-  branches_differ,
-  depth_in,
-  first_differ,
-  full_each,
-  full_in,
-  moved_differ,
-  second_differ,
-  surface_in,
-}
+use Rattle.bl_graph.proofs.Enclosing.{FullEach, all_differ, body_differs, branches_differ, depth_in, first_differ, full_each, full_in, moved_differ}
+use Rattle.bl_graph.proofs.Enclosing.{second_differ, surface_in}
 use Rattle.bl_graph.proofs.Filling.{FullIn}
 use Rattle.bl_graph.proofs.Listing.{HasPair, at_pair, maybe_pair, p_cases, p_left, p_right, pair_at, pair_maybe}
-use Rattle.bl_graph.proofs.Marking.{
-  At,
-  Differ,
-  Is,
-  and_both,
-  and_cases,
-  is_cases,
-  is_left,
-  is_right,
-  names,
-  or_cases,
-  or_left,
-  or_right,
-  pick,
-}
+use Rattle.bl_graph.proofs.Marking.{At, Differ, Is, and_both, and_cases, is_cases, is_left, is_right, names, or_cases, or_left, or_right, pick}
 use Rattle.bl_graph.proofs.Sounding.{sound_in}
 
 -- ---- branches

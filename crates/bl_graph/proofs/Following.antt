@@ -1,53 +1,11 @@
 -- A block and a statement after it.
-use Rattle.std.proofs.Common.{
-  ◌≡◌,
-  ℕ,
-  suc,
-  ◌+◌,
-  Bool,
-  true,
-  false,
-  cond,
-  ◌&&◌,
-  ◌||◌,
-  ⊎_elim,
-  List,
-  [],
-  ◌∷◌,
-  ◌++◌,
-  map,
-  length,
-  refl,
-  ap,
-  sym,
-  ◌∙◌,
-  subst,
-  arith,
-  append_assoc,
-  append-nil,
-}
+use Rattle.std.proofs.Common.{◌≡◌, ℕ, suc, ◌+◌, Bool, true, false, cond, ◌&&◌, ◌||◌, ⊎_elim, List, [], ◌∷◌, ◌++◌, map, length, refl, ap, sym, ◌∙◌, subst, arith}
+use Rattle.std.proofs.Common.{append_assoc, append-nil}
 use Rattle.std.specs.Prelude.{Contains}
 use Rattle.std.proofs.lemmas.List.Elements.{Contains-append_left, Contains-append_right, Contains-append_cases}
 use Rattle.bl_graph_nodes.specs.Nodes.{Node, entry, nodes_in, nodes_of}
-use Rattle.bl_graph_nodes.specs.Plain.{
-  Act,
-  Again,
-  Await,
-  Block,
-  Cobegin,
-  Done,
-  If,
-  Plain,
-  Position,
-  Repeat,
-  Run,
-  Then,
-  Until,
-  When,
-  While,
-  block_from,
-  is_empty,
-}
+use Rattle.bl_graph_nodes.specs.Plain.{Act, Again, Await, Block, Cobegin, Done, If, Plain, Position, Repeat, Run, Then, Until, When, While, block_from}
+use Rattle.bl_graph_nodes.specs.Plain.{is_empty}
 use Rattle.bl_graph.specs.Listed.{Pair, each_to, each_to_all, edges_in, edges_of, flows_in, flows_of, resumes_in, resumes_of}
 use Rattle.bl_graph.specs.Marks.{Mark, Marked, entered, inner, moved, part_in, part_of, some_of}
 use Rattle.bl_graph.specs.inner.Made.{flow_of}

@@ -1,36 +1,6 @@
 -- Edges that were found, with more of them.
-use Rattle.std.proofs.Common.{
-  ◌≡◌,
-  ℕ,
-  zero,
-  suc,
-  ◌+◌,
-  ◌<◌,
-  Bool,
-  true,
-  false,
-  ◌⊎◌,
-  inl,
-  inr,
-  List,
-  [],
-  ◌∷◌,
-  ◌++◌,
-  length,
-  take,
-  refl,
-  sym,
-  ap,
-  subst,
-  ◌∙◌,
-  append_assoc,
-  append-nil,
-  arith,
-  get_or,
-  ◌-◌,
-  ◌≤◌,
-  Some,
-}
+use Rattle.std.proofs.Common.{◌≡◌, ℕ, zero, suc, ◌+◌, ◌<◌, Bool, true, false, ◌⊎◌, inl, inr, List, [], ◌∷◌, ◌++◌, length, take, refl, sym, ap, subst, ◌∙◌}
+use Rattle.std.proofs.Common.{append_assoc, append-nil, arith, get_or, ◌-◌, ◌≤◌, Some}
 use Rattle.std.specs.Prelude.{Contains, slice_get, slice_set}
 use Rattle.std.proofs.lemmas.List.{take_more}
 use Rattle.std.proofs.lemmas.Option.{slice_get-get_or, slice_get_read}
@@ -42,21 +12,8 @@ use Rattle.bl_graph.specs.declared.flow.Span.{Span}
 use Rattle.bl_graph.specs.declared.flow.found.Found.{Found}
 use Rattle.bl_graph.specs.declared.flow.notes.Notes.{Notes}
 use Rattle.bl_graph.specs.Graph.{edge_between}
-use Rattle.bl_graph.specs.inner.Found.{
-  EndBy,
-  Gains,
-  SameEdges,
-  links,
-  links_at,
-  links_in,
-  links_met,
-  links_to,
-  swept,
-  writes_at,
-  writes_before,
-  writes_in,
-  writes_to,
-}
+use Rattle.bl_graph.specs.inner.Found.{EndBy, Gains, SameEdges, links, links_at, links_in, links_met, links_to, swept, writes_at, writes_before, writes_in}
+use Rattle.bl_graph.specs.inner.Found.{writes_to}
 use Rattle.bl_graph.specs.inner.Noted.{HasNotesAndFronts, Note, front, noted_at, numbers_at, numbers_met, numbers_to}
 use Rattle.bl_graph.proofs.MemberLemmas.{each-append, is_one, one_in}
 use Rattle.bl_graph.proofs.NoteLemmas.{tells_same}

@@ -1,31 +1,6 @@
 -- The branches of a `cobegin`, and one more.
-use Rattle.std.proofs.Common.{
-  ◌≡◌,
-  ℕ,
-  suc,
-  ◌+◌,
-  Bool,
-  true,
-  false,
-  cond,
-  ◌||◌,
-  List,
-  [],
-  ◌∷◌,
-  ◌++◌,
-  map,
-  length,
-  Some,
-  refl,
-  ap,
-  sym,
-  ◌∙◌,
-  subst,
-  arith,
-  append_assoc,
-  append-nil,
-  zero-add,
-}
+use Rattle.std.proofs.Common.{◌≡◌, ℕ, suc, ◌+◌, Bool, true, false, cond, ◌||◌, List, [], ◌∷◌, ◌++◌, map, length, Some, refl, ap, sym, ◌∙◌, subst, arith}
+use Rattle.std.proofs.Common.{append_assoc, append-nil, zero-add}
 use Rattle.std.proofs.lemmas.List.{length-append, length-map}
 use Rattle.bl_tree.specs.declared.graph.Edge.{Edge}
 use Rattle.bl_tree.specs.declared.place.Place.{Place}
@@ -38,45 +13,13 @@ use Rattle.bl_graph.specs.declared.part.Out.{Out}
 use Rattle.bl_graph.specs.declared.part.Part.{Part as Made}
 use Rattle.bl_graph.specs.Listed.{Pair, depth_to, edges_in, edges_in_each, entry_of, flows_in, from_to, leaving_of, resumes_in, resumes_in_each, surface_to}
 use Rattle.bl_graph.specs.Marks.{Mark, Marked, either, leaves, part_in, parts_of, unreached}
-use Rattle.bl_graph.specs.inner.Made.{
-  Adds,
-  IsEdge,
-  IsNode,
-  IsOut,
-  Makes,
-  MakesEach,
-  Names,
-  NamesEntry,
-  Naming,
-  Pairwise,
-  flow_of,
-  flows_within,
-  spans_of,
-  whole_in,
-}
-use Rattle.bl_graph.specs.inner.Parts.{
-  branch_links,
-  joined_branch,
-  leaving_outs,
-  number_if,
-  numbered,
-  surface_links,
-}
+use Rattle.bl_graph.specs.inner.Made.{Adds, IsEdge, IsNode, IsOut, Makes, MakesEach, Names, NamesEntry, Naming, Pairwise, flow_of, flows_within, spans_of}
+use Rattle.bl_graph.specs.inner.Made.{whole_in}
+use Rattle.bl_graph.specs.inner.Parts.{branch_links, joined_branch, leaving_outs, number_if, numbered, surface_links}
 use Rattle.bl_graph.proofs.Making.{flows_append}
 use Rattle.bl_graph.proofs.Marking.{names_in}
-use Rattle.bl_graph.proofs.Numbering.{
-  adds_listed,
-  adds_then,
-  depth_pairs,
-  from_pairs,
-  into_pairs,
-  leave_same,
-  number_pairs,
-  numbered_pairs,
-  or_none,
-  pairs_append,
-  surface_pairs,
-}
+use Rattle.bl_graph.proofs.Numbering.{adds_listed, adds_then, depth_pairs, from_pairs, into_pairs, leave_same, number_pairs, numbered_pairs, or_none}
+use Rattle.bl_graph.proofs.Numbering.{pairs_append, surface_pairs}
 
 -- one more branch
 abbrev pub with_branch : Bodies → Bool → Block → Bodies

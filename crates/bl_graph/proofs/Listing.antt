@@ -1,26 +1,5 @@
 -- The listed edges of a body are its control edges.
-use Rattle.std.proofs.Common.{
-  ◌≡◌,
-  ℕ,
-  zero,
-  suc,
-  Bool,
-  true,
-  false,
-  cond,
-  ◌⊎◌,
-  inl,
-  inr,
-  List,
-  [],
-  ◌∷◌,
-  ◌++◌,
-  refl,
-  ap,
-  sym,
-  ◌∙◌,
-  subst,
-}
+use Rattle.std.proofs.Common.{◌≡◌, ℕ, zero, suc, Bool, true, false, cond, ◌⊎◌, inl, inr, List, [], ◌∷◌, ◌++◌, refl, ap, sym, ◌∙◌, subst}
 use Rattle.std.specs.Prelude.{Contains, slice_get, Some, None}
 use Rattle.std.proofs.lemmas.List.Elements.{Contains-append_left, Contains-append_right, Contains-push}
 use Rattle.std.proofs.lemmas.Option.{slice_get-get_or}
@@ -29,95 +8,19 @@ use Rattle.bl_tree.specs.declared.tree.Expr.{Expr}
 use Rattle.bl_tree.specs.declared.tree.Guard.{Guard}
 use Rattle.bl_tree.specs.declared.tree.Guard.TheVariants.{Abort, Reset}
 use Rattle.bl_graph_nodes.specs.Laws.{NodesDiffer}
-use Rattle.bl_graph_nodes.specs.Nodes.{
-  CheckAt,
-  DepthEndAt,
-  DepthJoinAt,
-  ForkAt,
-  HeadAt,
-  Node,
-  StartAt,
-  SurfaceEndAt,
-  SurfaceJoinAt,
-  TestAt,
-  are_instant,
-  is_instant,
-  where_so,
-}
-use Rattle.bl_graph_nodes.specs.Plain.{
-  Act,
-  Again,
-  Await,
-  Block,
-  Bodies,
-  Body,
-  Cobegin,
-  Done,
-  If,
-  Label,
-  Last,
-  Plain,
-  Repeat,
-  Run,
-  Then,
-  Until,
-  When,
-  While,
-  plain_block,
-}
-use Rattle.bl_graph.specs.Edges.{
-  BodyEnd,
-  Edge,
-  EdgeAll,
-  EdgeEach,
-  Entry,
-  Guarded,
-  Into,
-  Joins,
-  LoopEdge,
-  Out,
-  OutAll,
-  Resume,
-  ResumeAll,
-  ResumeEach,
-  SurfaceJoin,
-}
+use Rattle.bl_graph_nodes.specs.Nodes.{CheckAt, DepthEndAt, DepthJoinAt, ForkAt, HeadAt, Node, StartAt, SurfaceEndAt, SurfaceJoinAt, TestAt, are_instant}
+use Rattle.bl_graph_nodes.specs.Nodes.{is_instant, where_so}
+use Rattle.bl_graph_nodes.specs.Plain.{Act, Again, Await, Block, Bodies, Body, Cobegin, Done, If, Label, Last, Plain, Repeat, Run, Then, Until, When, While}
+use Rattle.bl_graph_nodes.specs.Plain.{plain_block}
+use Rattle.bl_graph.specs.Edges.{BodyEnd, Edge, EdgeAll, EdgeEach, Entry, Guarded, Into, Joins, LoopEdge, Out, OutAll, Resume, ResumeAll, ResumeEach}
+use Rattle.bl_graph.specs.Edges.{SurfaceJoin}
 use Rattle.bl_graph.specs.Laws.{EdgesAreListed}
-use Rattle.bl_graph.specs.Listed.{
-  Pair,
-  depth_to,
-  each_to,
-  each_to_all,
-  edges_in,
-  edges_in_each,
-  edges_of,
-  ends_of,
-  entry_of,
-  from_to,
-  guard_to,
-  leaving_of,
-  pair,
-  resumes_in,
-  resumes_in_each,
-  resumes_of,
-  surface_to,
-  turn_of,
-}
+use Rattle.bl_graph.specs.Listed.{Pair, depth_to, each_to, each_to_all, edges_in, edges_in_each, edges_of, ends_of, entry_of, from_to, guard_to, leaving_of}
+use Rattle.bl_graph.specs.Listed.{pair, resumes_in, resumes_in_each, resumes_of, surface_to, turn_of}
 use Rattle.bl_graph.specs.Marks.{Mark, Marked, again_by, moved, part_in, part_of, parts_of, some_of}
 use Rattle.bl_graph.specs.Walks.{Reached}
-use Rattle.bl_graph.proofs.Enclosing.{
-  all_differ,
-  body_differs,
-  branches_differ,
-  depth_in,
-  first_differ,
-  full_in,
-  full_of,
-  leave_at,
-  moved_differ,
-  second_differ,
-  surface_in,
-}
+use Rattle.bl_graph.proofs.Enclosing.{all_differ, body_differs, branches_differ, depth_in, first_differ, full_in, full_of, leave_at, moved_differ}
+use Rattle.bl_graph.proofs.Enclosing.{second_differ, surface_in}
 use Rattle.bl_graph.proofs.Filling.{Full, FullIn}
 use Rattle.bl_graph.proofs.Marking.{At, Differ, Holds, Is, has_at, names, names_in, names_of}
 use Rattle.bl_graph.proofs.Sounding.{joins_of, sound_in, sound_of}

@@ -1,34 +1,6 @@
 -- Lists by numbers are as lists of nodes where the numbers name the nodes.
-use Rattle.std.proofs.Common.{
-  ◌≡◌,
-  ℕ,
-  ◌+◌,
-  Bool,
-  true,
-  false,
-  cond,
-  ◌&&◌,
-  ◌||◌,
-  ◌⊎◌,
-  ⊎_elim,
-  inl,
-  inr,
-  List,
-  [],
-  ◌∷◌,
-  ◌++◌,
-  map,
-  length,
-  Some,
-  refl,
-  ap,
-  sym,
-  ◌∙◌,
-  subst,
-  arith,
-  append_assoc,
-  append-nil,
-}
+use Rattle.std.proofs.Common.{◌≡◌, ℕ, ◌+◌, Bool, true, false, cond, ◌&&◌, ◌||◌, ◌⊎◌, ⊎_elim, inl, inr, List, [], ◌∷◌, ◌++◌, map, length, Some, refl, ap, sym}
+use Rattle.std.proofs.Common.{◌∙◌, subst, arith, append_assoc, append-nil}
 use Rattle.std.specs.Prelude.{Contains}
 use Rattle.std.proofs.lemmas.List.Elements.{Contains-append_left, Contains-append_right, Contains-append_cases, Contains-push, Contains-push_cases}
 use Rattle.bl_tree.specs.declared.graph.Edge.{Edge}
@@ -39,22 +11,8 @@ use Rattle.bl_graph.specs.Graph.{edge_between}
 use Rattle.bl_graph.specs.Listed.{Pair, depth_to, each_to, each_to_all, entry_of, from_to, pair, surface_to}
 use Rattle.bl_graph.specs.Marks.{Mark, Marked, either, inner, leaves, leaving, marked, moved, some_of, unreached, where_marked}
 use Rattle.bl_graph.specs.inner.Made.{Adds, HasEdge, HasPair, IsEdge, IsNode, IsOut, Names, NamesEntry, Naming, Pairwise, flow_of}
-use Rattle.bl_graph.specs.inner.Parts.{
-  depth_links,
-  into_block,
-  leave_mark,
-  link_if,
-  links_all,
-  links_each,
-  links_from,
-  moved_flow,
-  moved_out,
-  number_if,
-  numbered,
-  out_if,
-  some_mark,
-  surface_links,
-}
+use Rattle.bl_graph.specs.inner.Parts.{depth_links, into_block, leave_mark, link_if, links_all, links_each, links_from, moved_flow, moved_out, number_if}
+use Rattle.bl_graph.specs.inner.Parts.{numbered, out_if, some_mark, surface_links}
 use Rattle.bl_graph.proofs.Marking.{names}
 
 -- ---- what a list has

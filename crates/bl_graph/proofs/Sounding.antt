@@ -5,105 +5,16 @@ use Rattle.bl_tree.specs.declared.tree.Expr.{Expr}
 use Rattle.bl_tree.specs.declared.tree.Guard.{Guard}
 use Rattle.bl_tree.specs.declared.tree.Guard.TheVariants.{Abort, Reset}
 use Rattle.bl_tree.specs.declared.tree.Stmt.{Stmt}
-use Rattle.bl_graph_nodes.specs.Nodes.{
-  ActAt,
-  CheckAt,
-  DepthEndAt,
-  DepthJoinAt,
-  EnterAt,
-  ForkAt,
-  HeadAt,
-  Node,
-  PauseAt,
-  ResumeAt,
-  StartAt,
-  SurfaceEndAt,
-  SurfaceJoinAt,
-  TestAt,
-  are_instant,
-  arguments_of,
-  entry,
-  is_instant,
-}
-use Rattle.bl_graph_nodes.specs.Plain.{
-  Act,
-  Again,
-  Await,
-  Block,
-  Bodies,
-  Body,
-  Cobegin,
-  Done,
-  If,
-  Label,
-  Last,
-  Plain,
-  Repeat,
-  Run,
-  Then,
-  Until,
-  When,
-  While,
-  is_empty,
-}
-use Rattle.bl_graph.specs.Edges.{
-  BodyEnd,
-  Edge,
-  EdgeAll,
-  EdgeEach,
-  Entry,
-  Guarded,
-  Into,
-  LoopEdge,
-  Out,
-  OutAll,
-  Resume,
-  ResumeAll,
-  ResumeEach,
-}
-use Rattle.bl_graph.specs.Marks.{
-  Mark,
-  again_by,
-  begun_by,
-  body_ends,
-  entered,
-  join_mark,
-  last_end,
-  leaves,
-  marked,
-  moved,
-  part_in,
-  part_of,
-  parts_of,
-  resets,
-  resumed,
-  some_of,
-  turn_ends,
-  where_marked,
-}
+use Rattle.bl_graph_nodes.specs.Nodes.{ActAt, CheckAt, DepthEndAt, DepthJoinAt, EnterAt, ForkAt, HeadAt, Node, PauseAt, ResumeAt, StartAt, SurfaceEndAt}
+use Rattle.bl_graph_nodes.specs.Nodes.{SurfaceJoinAt, TestAt, are_instant, arguments_of, entry, is_instant}
+use Rattle.bl_graph_nodes.specs.Plain.{Act, Again, Await, Block, Bodies, Body, Cobegin, Done, If, Label, Last, Plain, Repeat, Run, Then, Until, When, While}
+use Rattle.bl_graph_nodes.specs.Plain.{is_empty}
+use Rattle.bl_graph.specs.Edges.{BodyEnd, Edge, EdgeAll, EdgeEach, Entry, Guarded, Into, LoopEdge, Out, OutAll, Resume, ResumeAll, ResumeEach}
+use Rattle.bl_graph.specs.Marks.{Mark, again_by, begun_by, body_ends, entered, join_mark, last_end, leaves, marked, moved, part_in, part_of, parts_of, resets}
+use Rattle.bl_graph.specs.Marks.{resumed, some_of, turn_ends, where_marked}
 use Rattle.bl_graph.specs.Walks.{Reached, on, stay}
-use Rattle.bl_graph.proofs.Marking.{
-  At,
-  Is,
-  SomeMarked,
-  Twice,
-  at_cases,
-  at_left,
-  at_moved,
-  at_right,
-  at_where,
-  from_leaves_depth,
-  from_leaves_surface,
-  is_cases,
-  is_split,
-  is_where,
-  moved_at,
-  moved_depth,
-  moved_surface,
-  or_cases,
-  pick,
-  some_from,
-}
+use Rattle.bl_graph.proofs.Marking.{At, Is, SomeMarked, Twice, at_cases, at_left, at_moved, at_right, at_where, from_leaves_depth, from_leaves_surface}
+use Rattle.bl_graph.proofs.Marking.{is_cases, is_split, is_where, moved_at, moved_depth, moved_surface, or_cases, pick, some_from}
 use Rattle.bl_graph.proofs.Passing.{joins_at_once, later}
 use Rattle.bl_graph.proofs.Walking.{walk_more, walk_on}
 

@@ -1,31 +1,6 @@
 -- The edges that are found to nodes of each branch from those of earlier ones.
-use Rattle.std.proofs.Common.{
-  ◌≡◌,
-  ℕ,
-  ◌+◌,
-  ◌-◌,
-  ◌<◌,
-  ◌≤◌,
-  Bool,
-  true,
-  false,
-  ◌⊎◌,
-  inl,
-  inr,
-  List,
-  [],
-  ◌∷◌,
-  length,
-  Option,
-  Some,
-  None,
-  refl,
-  sym,
-  ap,
-  subst,
-  ◌∙◌,
-  arith,
-}
+use Rattle.std.proofs.Common.{◌≡◌, ℕ, ◌+◌, ◌-◌, ◌<◌, ◌≤◌, Bool, true, false, ◌⊎◌, inl, inr, List, [], ◌∷◌, length, Option, Some, None, refl, sym, ap, subst}
+use Rattle.std.proofs.Common.{◌∙◌, arith}
 use Rattle.std.specs.List.{list_any}
 use Rattle.std.specs.Prelude.{Contains, slice_get}
 use Rattle.std.proofs.lemmas.List.Elements.{Contains-append_cases, Contains-append_left, Contains-append_right}
@@ -37,20 +12,8 @@ use Rattle.bl_graph.specs.declared.flow.Flow.{Flow}
 use Rattle.bl_graph.specs.declared.flow.Span.{Span}
 use Rattle.bl_graph.specs.Graph.{edge_between}
 use Rattle.bl_graph.specs.inner.Flows.{InBranch}
-use Rattle.bl_graph.specs.inner.Found.{
-  is_reached,
-  links,
-  links_at,
-  links_in,
-  links_met,
-  links_to,
-  notes_of,
-  swept,
-  writes_at,
-  writes_before,
-  writes_in,
-  writes_to,
-}
+use Rattle.bl_graph.specs.inner.Found.{is_reached, links, links_at, links_in, links_met, links_to, notes_of, swept, writes_at, writes_before, writes_in}
+use Rattle.bl_graph.specs.inner.Found.{writes_to}
 use Rattle.bl_graph.specs.inner.Noted.{Note, note, numbers_met, upto}
 use Rattle.bl_graph.proofs.Marking.{or_cases, or_left, or_right}
 use Rattle.bl_graph.proofs.Meeting.{met_from, met_to, where_from, where_to}

@@ -4,39 +4,8 @@ use Rattle.std.specs.Prelude.{Contains}
 use Rattle.std.proofs.lemmas.List.Elements.{Contains-append_cases}
 use Rattle.bl_tree.specs.declared.place.Place.{Place}
 use Rattle.bl_tree.specs.declared.static_path.Static.{Static}
-use Rattle.bl_graph_nodes.specs.Nodes.{
-  ActAt,
-  EnterAt,
-  ForkAt,
-  HeadAt,
-  Node,
-  StartAt,
-  TestAt,
-  arguments_of,
-  entry,
-  is_instant,
-  node_writes,
-}
-use Rattle.bl_graph_nodes.specs.Plain.{
-  Act,
-  Again,
-  Await,
-  Block,
-  Bodies,
-  Body,
-  Cobegin,
-  Done,
-  If,
-  Label,
-  Last,
-  Plain,
-  Repeat,
-  Run,
-  Then,
-  Until,
-  When,
-  While,
-}
+use Rattle.bl_graph_nodes.specs.Nodes.{ActAt, EnterAt, ForkAt, HeadAt, Node, StartAt, TestAt, arguments_of, entry, is_instant, node_writes}
+use Rattle.bl_graph_nodes.specs.Plain.{Act, Again, Await, Block, Bodies, Body, Cobegin, Done, If, Label, Last, Plain, Repeat, Run, Then, Until, When, While}
 use Rattle.bl_graph_nodes.specs.Writes.{surface_writes, surface_writes_in, surface_writes_in_each}
 use Rattle.bl_graph.specs.Edges.{EdgeAll, EdgeEach, Entry}
 use Rattle.bl_graph.specs.Laws.{WayThrough, WayToWriter, WriterIn, WritersAreReached}

@@ -10,65 +10,11 @@ use Rattle.bl_tree_laws_places.proofs.Effects.{arguments_stay, mentions_stay, re
 use Rattle.bl_tree_laws_places.proofs.Exprs.{expr_back}
 use Rattle.bl_tree_laws_places.proofs.Stmts.{stmt_place}
 use Rattle.bl_graph.specs.Graph.{graph_node}
-use Rattle.bl_graph_nodes.specs.Nodes.{
-  ActAt,
-  Arguments,
-  CheckAt,
-  DepthEndAt,
-  DepthJoinAt,
-  EnterAt,
-  ForkAt,
-  HeadAt,
-  Node,
-  PauseAt,
-  ResumeAt,
-  StartAt,
-  SurfaceEndAt,
-  SurfaceJoinAt,
-  TestAt,
-  are_instant,
-  entry,
-  is_instant,
-  kind_of_node,
-  node_reads,
-  node_writes,
-  nodes_in,
-  nodes_in_each,
-  nodes_of,
-  place_of_node,
-  some_instant,
-  some_strong,
-  strong_instant,
-  where_so,
-}
-use Rattle.bl_graph_nodes.specs.Plain.{
-  Act,
-  Again,
-  Await,
-  Block,
-  Bodies,
-  Body,
-  Cobegin,
-  Done,
-  If,
-  Last,
-  Plain,
-  Repeat,
-  Run,
-  Then,
-  Until,
-  When,
-  While,
-  is_empty,
-}
-use Rattle.bl_graph_laws_places.specs.Placed.{
-  placed_arguments,
-  placed_block,
-  placed_bodies,
-  placed_graph_node,
-  placed_node,
-  placed_plain,
-}
+use Rattle.bl_graph_nodes.specs.Nodes.{ActAt, Arguments, CheckAt, DepthEndAt, DepthJoinAt, EnterAt, ForkAt, HeadAt, Node, PauseAt, ResumeAt, StartAt}
+use Rattle.bl_graph_nodes.specs.Nodes.{SurfaceEndAt, SurfaceJoinAt, TestAt, are_instant, entry, is_instant, kind_of_node, node_reads, node_writes, nodes_in}
+use Rattle.bl_graph_nodes.specs.Nodes.{nodes_in_each, nodes_of, place_of_node, some_instant, some_strong, strong_instant, where_so}
+use Rattle.bl_graph_nodes.specs.Plain.{Act, Again, Await, Block, Bodies, Body, Cobegin, Done, If, Last, Plain, Repeat, Run, Then, Until, When, While, is_empty}
+use Rattle.bl_graph_laws_places.specs.Placed.{placed_arguments, placed_block, placed_bodies, placed_graph_node, placed_node, placed_plain}
 
 module _ (f : Place → Place) where
   -- ---- what a node shows

@@ -1,16 +1,7 @@
 -- The labels of steps: which node acts in a step of a tick, through all calls from the entry's body down.
 use Rattle.std.specs.Prelude.{ℕ, Bool, true, false, List, [], ◌∷◌}
 use Rattle.bl_tree.specs.declared.place.Place.{Place}
-use Rattle.bl_graph_nodes.specs.Nodes.{
-  Arguments,
-  DepthEndAt,
-  DepthJoinAt,
-  EnterAt,
-  Node,
-  ResumeAt,
-  SurfaceEndAt,
-  SurfaceJoinAt,
-}
+use Rattle.bl_graph_nodes.specs.Nodes.{Arguments, DepthEndAt, DepthJoinAt, EnterAt, Node, ResumeAt, SurfaceEndAt, SurfaceJoinAt}
 use Rattle.bl_graph_nodes.specs.Plain.{Label}
 
 -- ---- the node of what ends or goes on, by whether it stood when the tick began

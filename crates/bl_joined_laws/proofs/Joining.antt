@@ -1,29 +1,6 @@
 -- The pieces of each text cover the joined text, and their tokens are its tokens.
-use Rattle.std.proofs.Common.{
-  ◌≡◌,
-  ◌≢◌,
-  ℕ,
-  ◌+◌,
-  ◌<◌,
-  ◌≤◌,
-  List,
-  [],
-  ◌∷◌,
-  ◌++◌,
-  length,
-  map,
-  get_or,
-  take,
-  refl,
-  ap,
-  sym,
-  ◌∙◌,
-  subst,
-  arith,
-  append_assoc,
-  append-nil,
-  length-append,
-}
+use Rattle.std.proofs.Common.{◌≡◌, ◌≢◌, ℕ, ◌+◌, ◌<◌, ◌≤◌, List, [], ◌∷◌, ◌++◌, length, map, get_or, take, refl, ap, sym, ◌∙◌, subst, arith, append_assoc}
+use Rattle.std.proofs.Common.{append-nil, length-append}
 use Rattle.std.proofs.lemmas.List.Elements.{All-append, All-head, All-push, All-tail, filter_map-append}
 use Rattle.std.specs.List.{cons_option}
 use Rattle.std.specs.Prelude.{All, Option, Some, None, count_by, ◌==◌, option_map}

@@ -14,48 +14,12 @@ use Rattle.bl_parse_tree.specs.declared.stmt.RawStmtKind.{RawStmtKind}
 use Rattle.bl_parse_tree.specs.declared.types.RawType.{RawType}
 use Rattle.bl_parse.specs.At.{span}
 use Rattle.bl_parse.specs.Expressions.{SpellsExpr}
-use Rattle.bl_parse.specs.Statements.{
-  SpellsTyping,
-  SpellsMaybeTyping,
-  SpellsValue,
-  SpellsInitial,
-  SpellsConstant,
-  SpellsReceiver,
-  SpellsGuard,
-  SpellsWeak,
-  SpellsStmt,
-  SpellsKind,
-  SpellsBlock,
-  SpellsArm,
-  SpellsArms,
-  SpellsElse,
-  SpellsBranch,
-  SpellsBranches,
-}
+use Rattle.bl_parse.specs.Statements.{SpellsTyping, SpellsMaybeTyping, SpellsValue, SpellsInitial, SpellsConstant, SpellsReceiver, SpellsGuard, SpellsWeak}
+use Rattle.bl_parse.specs.Statements.{SpellsStmt, SpellsKind, SpellsBlock, SpellsArm, SpellsArms, SpellsElse, SpellsBranch, SpellsBranches}
 use Rattle.bl_joined.specs.Texts.{moved_place}
 use Rattle.bl_joined.specs.Trees.{placed_type, placed_expr, placed_path, placed_constant, placed_stmt}
-use Rattle.bl_joined_laws.proofs.Made.{
-  done,
-  armed,
-  branched,
-  stmt_is,
-  var_is,
-  let_is,
-  constant_is,
-  assign_is,
-  call_stmt_is,
-  await_is,
-  run_is,
-  if_is,
-  cobegin_is,
-  when_is,
-  repeat_is,
-  until_is,
-  while_is,
-  return_is,
-  arm_is,
-  branch_is,
-}
+use Rattle.bl_joined_laws.proofs.Made.{done, armed, branched, stmt_is, var_is, let_is, constant_is, assign_is, call_stmt_is, await_is, run_is, if_is}
+use Rattle.bl_joined_laws.proofs.Made.{cobegin_is, when_is, repeat_is, until_is, while_is, return_is, arm_is, branch_is}
 use Rattle.bl_joined_laws.proofs.Moved.{Stands, mapped_more, name, span_there, stay, takes}
 use Rattle.bl_joined_laws.proofs.MovedExpr.{expression, inputs, outputs, path, place, ty}
 use Rattle.bl_joined_laws.proofs.Reach.{Filled, expr_filled, kind, stmt_filled, taken, target_filled}

@@ -1,33 +1,6 @@
 -- How far what is spelled reaches: expressions, paths and statements have a token, and end within the list of tokens.
-use Rattle.std.proofs.Common.{
-  ◌≡◌,
-  ℕ,
-  zero,
-  suc,
-  ◌+◌,
-  ◌-◌,
-  ◌<◌,
-  ◌≤◌,
-  Bool,
-  true,
-  false,
-  cond,
-  not,
-  ◌&&◌,
-  List,
-  [],
-  ◌∷◌,
-  ◌++◌,
-  ⊎_elim,
-  length,
-  take,
-  refl,
-  ap,
-  sym,
-  ◌∙◌,
-  subst,
-  arith,
-}
+use Rattle.std.proofs.Common.{◌≡◌, ℕ, zero, suc, ◌+◌, ◌-◌, ◌<◌, ◌≤◌, Bool, true, false, cond, not, ◌&&◌, List, [], ◌∷◌, ◌++◌, ⊎_elim, length, take, refl, ap}
+use Rattle.std.proofs.Common.{sym, ◌∙◌, subst, arith}
 use Rattle.std.specs.Prelude.{Option, Some, nat_eq, option_map, slice_get}
 use Rattle.std.proofs.lemmas.Option.{slice_get_within}
 use Rattle.std.proofs.str.Laws.{order}
@@ -60,42 +33,11 @@ use Rattle.bl_parse_tree.specs.declared.types.RawType.{RawType}
 use Rattle.bl_parse.specs.At.{Takes}
 use Rattle.bl_parse.specs.Operators.{IsOperator, IsPrefix, IsScalar}
 use Rattle.bl_parse.specs.Expressions.{IsTruth, SpellsNone, SpellsExpr, SpellsTarget, SpellsPart, SpellsParts, SpellsInputs, SpellsExprs}
-use Rattle.bl_parse.specs.Programs.{
-  IsUnit,
-  SpellsField,
-  SpellsFieldList,
-  SpellsMark,
-  SpellsParam,
-  SpellsParamList,
-  SpellsParams,
-  SpellsOutputParams,
-  SpellsResult,
-  SpellsUnit,
-  SpellsItem,
-  SpellsItems,
-}
-use Rattle.bl_parse.specs.Statements.{
-  IsGuard,
-  SpellsTyping,
-  SpellsMaybeTyping,
-  SpellsValue,
-  SpellsInitial,
-  SpellsConstant,
-  SpellsFields,
-  SpellsPath,
-  SpellsPaths,
-  SpellsOutputs,
-  SpellsReceiver,
-  SpellsWeak,
-  SpellsStmt,
-  SpellsKind,
-  SpellsBlock,
-  SpellsArm,
-  SpellsArms,
-  SpellsElse,
-  SpellsBranch,
-  SpellsBranches,
-}
+use Rattle.bl_parse.specs.Programs.{IsUnit, SpellsField, SpellsFieldList, SpellsMark, SpellsParam, SpellsParamList, SpellsParams, SpellsOutputParams}
+use Rattle.bl_parse.specs.Programs.{SpellsResult, SpellsUnit, SpellsItem, SpellsItems}
+use Rattle.bl_parse.specs.Statements.{IsGuard, SpellsTyping, SpellsMaybeTyping, SpellsValue, SpellsInitial, SpellsConstant, SpellsFields, SpellsPath}
+use Rattle.bl_parse.specs.Statements.{SpellsPaths, SpellsOutputs, SpellsReceiver, SpellsWeak, SpellsStmt, SpellsKind, SpellsBlock, SpellsArm, SpellsArms}
+use Rattle.bl_parse.specs.Statements.{SpellsElse, SpellsBranch, SpellsBranches}
 use Rattle.bl_parse.specs.Types.{SpellsLength, SpellsType}
 use Rattle.bl_parse.proofs.ReturnLemmas.{token_at}
 use Rattle.bl_parse_laws.proofs.Counts.{is_level, is_opening}

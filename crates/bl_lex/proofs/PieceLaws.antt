@@ -1,33 +1,6 @@
 -- What stands at a place, by its first byte; a piece has one form and one end; a fault begins no piece.
-use Rattle.std.proofs.Common.{
-  ◌≡◌,
-  ◌≢◌,
-  ℕ,
-  ◌+◌,
-  ◌-◌,
-  ◌<◌,
-  ◌≤◌,
-  ◌^◌,
-  min,
-  Bool,
-  true,
-  false,
-  List,
-  [],
-  ◌∷◌,
-  ◌⊎◌,
-  inl,
-  inr,
-  ⊎_elim,
-  length,
-  get_or,
-  refl,
-  ap,
-  sym,
-  ◌∙◌,
-  subst,
-  arith,
-}
+use Rattle.std.proofs.Common.{◌≡◌, ◌≢◌, ℕ, ◌+◌, ◌-◌, ◌<◌, ◌≤◌, ◌^◌, min, Bool, true, false, List, [], ◌∷◌, ◌⊎◌, inl, inr, ⊎_elim, length, get_or, refl, ap, sym}
+use Rattle.std.proofs.Common.{◌∙◌, subst, arith}
 use Rattle.std.proofs.lemmas.Bool.Decides.{nat_tests}
 use Rattle.std.proofs.str.Laws.{order}
 use Rattle.std.specs.Prelude.{slice_get, slice_range, Some, Result, Ok, Err, MatchResult}
@@ -45,18 +18,8 @@ use Rattle.bl_lex.specs.inner.Steps.{IsWordPiece, IsLongestAt}
 use Rattle.bl_lex.specs.Rules.{IsMalformedNumber, IsFault}
 use Rattle.bl_lex.proofs.Tables.{is_two_bytes, two_bytes_known}
 use Rattle.bl_lex.proofs.Signs.{sign_ends, sign_first, range_two}
-use Rattle.bl_lex.proofs.WordLaws.{
-  one_keyword,
-  one_sign,
-  keyword_not_outside,
-  keyword_begins,
-  outside_begins,
-  decimal_begins,
-  number_begins,
-  octal_begins,
-  one_number,
-  number_not_octal,
-}
+use Rattle.bl_lex.proofs.WordLaws.{one_keyword, one_sign, keyword_not_outside, keyword_begins, outside_begins, decimal_begins, number_begins, octal_begins}
+use Rattle.bl_lex.proofs.WordLaws.{one_number, number_not_octal}
 
 -- no byte of words is white space
 blank_no_word : (b : ℕ) → is_blank b ≡ true → is_word_byte b ≡ false

@@ -1,34 +1,8 @@
 -- A table of reserved words is right and whole if tests say so, which compute for each table.
 use Rattle.std.proofs.str.Laws.{order}
 use Rattle.std.proofs.lemmas.List.{get_or_default}
-use Rattle.std.proofs.Common.{
-  ap,
-  ◌≡◌,
-  ◌≢◌,
-  ℕ,
-  suc,
-  ◌+◌,
-  ◌<◌,
-  get_or,
-  ⊎_elim,
-  ◌≤◌,
-  Bool,
-  true,
-  false,
-  not,
-  ◌&&◌,
-  ◌||◌,
-  ◌==◌,
-  List,
-  [],
-  ◌∷◌,
-  length,
-  refl,
-  sym,
-  ◌∙◌,
-  arith,
-  leb-true,
-}
+use Rattle.std.proofs.Common.{ap, ◌≡◌, ◌≢◌, ℕ, suc, ◌+◌, ◌<◌, get_or, ⊎_elim, ◌≤◌, Bool, true, false, not, ◌&&◌, ◌||◌, ◌==◌, List, [], ◌∷◌, length, refl, sym}
+use Rattle.std.proofs.Common.{◌∙◌, arith, leb-true}
 use Rattle.std.proofs.lemmas.Bool.{eq-eqb}
 use Rattle.std.proofs.lemmas.List.Sums.{AllPass-from_list_all}
 use Rattle.std.proofs.lemmas.List.Folds.{list_any_none}

@@ -1,39 +1,6 @@
 -- Signs at a place of the text: one or two bytes, which begin neither white space nor a word.
-use Rattle.std.proofs.Common.{
-  ◌≡◌,
-  ◌≢◌,
-  ℕ,
-  zero,
-  suc,
-  ◌+◌,
-  ◌-◌,
-  ◌<◌,
-  ◌≤◌,
-  Bool,
-  true,
-  false,
-  not,
-  ◌&&◌,
-  List,
-  [],
-  ◌∷◌,
-  ◌⊎◌,
-  inl,
-  inr,
-  ⊎_elim,
-  length,
-  get_or,
-  drop,
-  refl,
-  ap,
-  sym,
-  ◌∙◌,
-  subst,
-  arith,
-  add-one,
-  length-drop,
-  length-take-le,
-}
+use Rattle.std.proofs.Common.{◌≡◌, ◌≢◌, ℕ, zero, suc, ◌+◌, ◌-◌, ◌<◌, ◌≤◌, Bool, true, false, not, ◌&&◌, List, [], ◌∷◌, ◌⊎◌, inl, inr, ⊎_elim, length, get_or}
+use Rattle.std.proofs.Common.{drop, refl, ap, sym, ◌∙◌, subst, arith, add-one, length-drop, length-take-le}
 use Rattle.std.proofs.Math.Seq.{drop-cons}
 use Rattle.std.specs.Prelude.{slice_get, slice_range, Some}
 use Rattle.bl_lex.specs.Spelling.{signs, is_blank, is_word_byte}

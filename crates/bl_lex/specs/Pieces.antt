@@ -1,26 +1,6 @@
 -- The pieces that a text is made of: white space, comments and tokens.
-use Rattle.std.specs.Prelude.{
-  ◌≡◌,
-  ◌≢◌,
-  ℕ,
-  ◌+◌,
-  ◌-◌,
-  ◌^◌,
-  ◌<◌,
-  ◌≤◌,
-  min,
-  true,
-  false,
-  List,
-  length,
-  slice_index,
-  slice_get,
-  slice_range,
-  Option,
-  Some,
-  None,
-  Bool,
-}
+use Rattle.std.specs.Prelude.{◌≡◌, ◌≢◌, ℕ, ◌+◌, ◌-◌, ◌^◌, ◌<◌, ◌≤◌, min, true, false, List, length, slice_index, slice_get, slice_range, Option, Some, None}
+use Rattle.std.specs.Prelude.{Bool}
 use Rattle.std.specs.Char.{is_ascii_digit}
 use Rattle.bl_tree.specs.declared.token.TokenKind.{TokenKind}
 use Rattle.bl_tree.specs.declared.token.TokenKind.TheVariants.{Name, Number, Word, Sign}

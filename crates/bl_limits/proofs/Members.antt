@@ -1,32 +1,6 @@
 -- What stands in the lists of failures.
-use Rattle.std.proofs.Common.{
-  ◌≡◌,
-  ℕ,
-  ◌<◌,
-  ◌≤◌,
-  zero,
-  suc,
-  true,
-  false,
-  cond,
-  List,
-  [],
-  ◌∷◌,
-  ◌++◌,
-  map,
-  drop,
-  ◌⊎◌,
-  inl,
-  inr,
-  ⊎_elim,
-  Option,
-  Some,
-  None,
-  refl,
-  sym,
-  subst,
-  arith,
-}
+use Rattle.std.proofs.Common.{◌≡◌, ℕ, ◌<◌, ◌≤◌, zero, suc, true, false, cond, List, [], ◌∷◌, ◌++◌, map, drop, ◌⊎◌, inl, inr, ⊎_elim, Option, Some, None, refl}
+use Rattle.std.proofs.Common.{sym, subst, arith}
 use Rattle.std.specs.Prelude.{nat_lt, slice_get, slice_index}
 use Rattle.std.proofs.lemmas.Bool.Decides.{nat_tests}
 use Rattle.bl_tree.specs.declared.place.Place.{Place}

@@ -1,29 +1,6 @@
 -- Sums, greatest numbers and products, as far as 64 bits tell them.
-use Rattle.std.proofs.Common.{
-  ◌≡◌,
-  ℕ,
-  zero,
-  suc,
-  ◌+◌,
-  ◌*◌,
-  ◌<◌,
-  ◌≤◌,
-  max,
-  List,
-  [],
-  ◌∷◌,
-  map,
-  length,
-  get_or,
-  take,
-  ap,
-  refl,
-  ◌∙◌,
-  suc-mul,
-  zero-mul,
-  take_all,
-  arith,
-}
+use Rattle.std.proofs.Common.{◌≡◌, ℕ, zero, suc, ◌+◌, ◌*◌, ◌<◌, ◌≤◌, max, List, [], ◌∷◌, map, length, get_or, take, ap, refl, ◌∙◌, suc-mul, zero-mul, take_all}
+use Rattle.std.proofs.Common.{arith}
 use Rattle.std.proofs.Math.ListN.{get_or-map}
 use Rattle.std.specs.Prelude.{slice_index}
 use Rattle.bl_tree.specs.Reduce.{total, greatest}

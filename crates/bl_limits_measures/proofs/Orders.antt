@@ -1,26 +1,5 @@
 -- Answers in order, with one element more, and as far as 64 bits tell them.
-use Rattle.std.proofs.Common.{
-  ◌≡◌,
-  ℕ,
-  ◌+◌,
-  ◌<◌,
-  ◌≤◌,
-  List,
-  [],
-  ◌∷◌,
-  ◌++◌,
-  map,
-  length,
-  get_or,
-  take,
-  ap,
-  refl,
-  sym,
-  ◌∙◌,
-  take_all,
-  take-suc,
-  add-one,
-}
+use Rattle.std.proofs.Common.{◌≡◌, ℕ, ◌+◌, ◌<◌, ◌≤◌, List, [], ◌∷◌, ◌++◌, map, length, get_or, take, ap, refl, sym, ◌∙◌, take_all, take-suc, add-one}
 use Rattle.std.proofs.lemmas.List.{map-append}
 use Rattle.bl_limits_measures.specs.InOrder.{answers, answers_after}
 use Rattle.bl_limits_measures.specs.Saturated.{saturated}

@@ -14,19 +14,8 @@ use Rattle.bl_tree.specs.Reduce.{joined}
 use Rattle.bl_tree.specs.Rules.{same_place}
 use Rattle.bl_tree.proofs.StmtInduction.{Each, EachArm, EachBranch, induct, stmt}
 use Rattle.bl_limits_measures.specs.declared.runs.PlacedRun.{PlacedRun}
-use Rattle.bl_limits_measures.specs.Runs.{
-  activities_by_place,
-  activities_run,
-  arm_runs,
-  branch_runs,
-  kind_runs,
-  one_a_place,
-  runs_in,
-  runs_in_arm,
-  runs_in_branch,
-  stmt_layer_runs,
-  units_of,
-}
+use Rattle.bl_limits_measures.specs.Runs.{activities_by_place, activities_run, arm_runs, branch_runs, kind_runs, one_a_place, runs_in, runs_in_arm}
+use Rattle.bl_limits_measures.specs.Runs.{runs_in_branch, stmt_layer_runs, units_of}
 
 -- ---- activities without places
 

@@ -1,37 +1,6 @@
 -- The units of a typed program call and run earlier ones alone: what has a type names earlier functions, and what fits earlier activities.
-use Rattle.std.proofs.Common.{
-  ◌≡◌,
-  ℕ,
-  ℤ,
-  zero,
-  suc,
-  ◌+◌,
-  ◌<◌,
-  ◌≤◌,
-  Bool,
-  true,
-  false,
-  ◌&&◌,
-  ◌||◌,
-  List,
-  [],
-  ◌∷◌,
-  ◌++◌,
-  map,
-  length,
-  get_or,
-  take,
-  Option,
-  Some,
-  None,
-  refl,
-  sym,
-  subst,
-  ◌∙◌,
-  append_assoc,
-  append-nil,
-  arith,
-}
+use Rattle.std.proofs.Common.{◌≡◌, ℕ, ℤ, zero, suc, ◌+◌, ◌<◌, ◌≤◌, Bool, true, false, ◌&&◌, ◌||◌, List, [], ◌∷◌, ◌++◌, map, length, get_or, take, Option, Some}
+use Rattle.std.proofs.Common.{None, refl, sym, subst, ◌∙◌, append_assoc, append-nil, arith}
 use Rattle.std.specs.List.{list_all}
 use Rattle.std.specs.Prelude.{All, nat_eq, option_and_then, option_map, slice_get, if◌then◌else◌}
 use Rattle.std.proofs.lemmas.List.{length-take-le}
@@ -57,78 +26,18 @@ use Rattle.bl_tree.specs.declared.tree.Var.{Var}
 use Rattle.bl_tree.specs.Program.{unit_stands, units_stand_after}
 use Rattle.bl_tree.specs.Reduce.{all_of, joined}
 use Rattle.bl_tree.specs.Types.{same_type, scalar, scalar_in}
-use Rattle.bl_tree.specs.Typing.{
-  TypingContext,
-  after_parts,
-  are_same,
-  arguments_fit,
-  arm_fits,
-  branch_fits,
-  call_fits,
-  call_type,
-  cast_type,
-  declaration_fits,
-  element_in,
-  expr_type,
-  fits,
-  inputs_of,
-  is_activity,
-  is_assignable,
-  is_fixed,
-  is_function,
-  is_inhabited,
-  is_outlet,
-  is_procedure,
-  is_truth,
-  is_variable,
-  kind_fits,
-  kind_type,
-  one_type,
-  outputs_of,
-  part_type,
-  path_type,
-  return_fits,
-  run_fits,
-  site_of,
-  stmt_fits,
-  target_fits,
-  two_type,
-  type_of,
-  type_of_path,
-  types_match,
-  var_at,
-  where_same,
-  where_whole,
-}
+use Rattle.bl_tree.specs.Typing.{TypingContext, after_parts, are_same, arguments_fit, arm_fits, branch_fits, call_fits, call_type, cast_type, declaration_fits}
+use Rattle.bl_tree.specs.Typing.{element_in, expr_type, fits, inputs_of, is_activity, is_assignable, is_fixed, is_function, is_inhabited, is_outlet}
+use Rattle.bl_tree.specs.Typing.{is_procedure, is_truth, is_variable, kind_fits, kind_type, one_type, outputs_of, part_type, path_type, return_fits, run_fits}
+use Rattle.bl_tree.specs.Typing.{site_of, stmt_fits, target_fits, two_type, type_of, type_of_path, types_match, var_at, where_same, where_whole}
 use Rattle.bl_tree.proofs.ExprInduction.{Cases as ExprCases, EachIndex, OfIndex, expr, induct as expr_induct, induct_path}
 use Rattle.bl_tree.proofs.StmtInduction.{Cases, Each, EachArm, EachBranch, induct, stmt}
-use Rattle.bl_limits_measures.specs.Calls.{
-  argument_calls,
-  arm_calls,
-  branch_calls,
-  calls_in,
-  calls_in_arm,
-  calls_in_branch,
-  calls_in_expr,
-  calls_in_part,
-  calls_in_path,
-  calls_of,
-  optional_calls,
-  stmt_kind_calls,
-  stmt_layer_calls,
-  target_calls,
-}
+use Rattle.bl_limits_measures.specs.Calls.{argument_calls, arm_calls, branch_calls, calls_in, calls_in_arm, calls_in_branch, calls_in_expr, calls_in_part}
+use Rattle.bl_limits_measures.specs.Calls.{calls_in_path, calls_of, optional_calls, stmt_kind_calls, stmt_layer_calls, target_calls}
 use Rattle.bl_limits_measures.specs.Runs.{activities_run}
-use Rattle.bl_limits_measures.proofs.RunLemmas.{
-  activities_are,
-  activities_in as runs_in,
-  activities_in_arm as runs_in_arm,
-  activities_in_branch as runs_in_branch,
-  arm_activities as arm_runs,
-  branch_activities as branch_runs,
-  kind_activities as kind_runs,
-  stmt_activities as stmt_layer_runs,
-}
+use Rattle.bl_limits_measures.proofs.RunLemmas.{activities_are, activities_in as runs_in, activities_in_arm as runs_in_arm}
+use Rattle.bl_limits_measures.proofs.RunLemmas.{activities_in_branch as runs_in_branch, arm_activities as arm_runs, branch_activities as branch_runs}
+use Rattle.bl_limits_measures.proofs.RunLemmas.{kind_activities as kind_runs, stmt_activities as stmt_layer_runs}
 use Rattle.bl_limits_measures_laws.specs.Laws.{UnitsUseEarlierOnes}
 
 -- ---- tests

@@ -1,34 +1,6 @@
 -- The number of instances is how many the list of them has.
-use Rattle.std.proofs.Common.{
-  ◌≡◌,
-  ℕ,
-  zero,
-  suc,
-  ◌+◌,
-  ◌<◌,
-  ◌≤◌,
-  Bool,
-  true,
-  false,
-  not,
-  cond,
-  ◌⊎◌,
-  ⊎_elim,
-  List,
-  [],
-  ◌∷◌,
-  ◌++◌,
-  map,
-  length,
-  get_or,
-  Some,
-  None,
-  ap,
-  refl,
-  sym,
-  ◌∙◌,
-  arith,
-}
+use Rattle.std.proofs.Common.{◌≡◌, ℕ, zero, suc, ◌+◌, ◌<◌, ◌≤◌, Bool, true, false, not, cond, ◌⊎◌, ⊎_elim, List, [], ◌∷◌, ◌++◌, map, length, get_or, Some, None}
+use Rattle.std.proofs.Common.{ap, refl, sym, ◌∙◌, arith}
 use Rattle.std.specs.Prelude.{All, Option, filter, option_map, slice_get, unwrap_or}
 use Rattle.std.proofs.lemmas.List.{length-append, length-map, map-append}
 use Rattle.std.proofs.lemmas.List.Elements.{All-head, All-tail}
@@ -45,20 +17,8 @@ use Rattle.bl_tree.proofs.StmtInduction.{Each, EachArm, EachBranch, induct, stmt
 use Rattle.bl_tree.specs.Rules.{same_place}
 use Rattle.bl_ctree.specs.declared.instance.Instance.{Instance}
 use Rattle.bl_ctree.specs.declared.instance.Run.{Run}
-use Rattle.bl_ctree.specs.Instances.{
-  arm_runs,
-  branch_runs,
-  called_from,
-  expanded,
-  instances_below,
-  kind_runs,
-  one_a_place,
-  runs_in,
-  runs_in_arm,
-  runs_in_branch,
-  runs_of,
-  stmt_layer_runs,
-}
+use Rattle.bl_ctree.specs.Instances.{arm_runs, branch_runs, called_from, expanded, instances_below, kind_runs, one_a_place, runs_in, runs_in_arm}
+use Rattle.bl_ctree.specs.Instances.{runs_in_branch, runs_of, stmt_layer_runs}
 use Rattle.bl_limits_measures.specs.declared.runs.PlacedRun.{PlacedRun}
 use Rattle.bl_limits_measures.specs.Runs as placed
 use Rattle.bl_limits_measures.specs.Runs.{activities_by_place, activities_run}

@@ -1,30 +1,6 @@
 -- What is judged of the fronts that were read holds of the whole texts.
-use Rattle.std.proofs.Common.{
-  ◌≡◌,
-  ◌∙◌,
-  ℕ,
-  ◌+◌,
-  ◌<◌,
-  ◌≤◌,
-  zero,
-  suc,
-  List,
-  [],
-  ◌∷◌,
-  ◌++◌,
-  length,
-  length-append,
-  take,
-  drop,
-  refl,
-  sym,
-  ap,
-  ap₂,
-  subst,
-  inl,
-  inr,
-  arith,
-}
+use Rattle.std.proofs.Common.{◌≡◌, ◌∙◌, ℕ, ◌+◌, ◌<◌, ◌≤◌, zero, suc, List, [], ◌∷◌, ◌++◌, length, length-append, take, drop, refl, sym, ap, ap₂, subst, inl}
+use Rattle.std.proofs.Common.{inr, arith}
 use Rattle.std.proofs.lemmas.List.{append_assoc, length-take-le, take-append-drop}
 use Rattle.std.proofs.lemmas.Option.{same_Some, slice_get_cases, slice_get_within}
 use Rattle.std.specs.Prelude.{Some, slice_get}

@@ -1,32 +1,6 @@
 -- Numbers count up.
-use Rattle.std.proofs.Common.{
-  ◌≡◌,
-  ℕ,
-  suc,
-  ◌+◌,
-  ◌<◌,
-  ◌≤◌,
-  false,
-  List,
-  [],
-  ◌∷◌,
-  ◌++◌,
-  ◌⊎◌,
-  ⊎_elim,
-  length,
-  get_or,
-  set,
-  take,
-  drop,
-  refl,
-  ap,
-  sym,
-  subst,
-  ◌∙◌,
-  append_assoc,
-  arith,
-  eq-eqb,
-}
+use Rattle.std.proofs.Common.{◌≡◌, ℕ, suc, ◌+◌, ◌<◌, ◌≤◌, false, List, [], ◌∷◌, ◌++◌, ◌⊎◌, ⊎_elim, length, get_or, set, take, drop, refl, ap, sym, subst, ◌∙◌}
+use Rattle.std.proofs.Common.{append_assoc, arith, eq-eqb}
 use Rattle.std.specs.Prelude.{All, nat_eq, replicate}
 use Rattle.std.proofs.Math.Seq.{drop-cons, take-suc}
 use Rattle.std.proofs.lemmas.List.{append-nil, get_or-replicate, get_or-set_other, get_or-set_same, length-replicate, length-set}

@@ -22,26 +22,8 @@ use Rattle.bl_ctree.specs.Store.{Store}
 use Rattle.bl_ctree_laws.specs.Bridge.{plain_tree}
 use Rattle.bl_ctree_laws.specs.Laws.{AnswersArePlain, StatementsArePlain, WakingIsPlain}
 use Rattle.bl_ctree_laws.specs.Runs.{TicksEndAlikeByPlain, entry_block}
-use Rattle.bl_ctree_laws.specs.Trees.{
-  Tree,
-  Trees,
-  Nil,
-  Wait,
-  Test,
-  Idle,
-  Do,
-  Seq,
-  Par,
-  Guard,
-  Run,
-  are_done,
-  are_settled,
-  beside,
-  is_nil,
-  is_settled,
-  no_tree,
-  woken,
-}
+use Rattle.bl_ctree_laws.specs.Trees.{Tree, Trees, Nil, Wait, Test, Idle, Do, Seq, Par, Guard, Run, are_done, are_settled, beside, is_nil, is_settled, no_tree}
+use Rattle.bl_ctree_laws.specs.Trees.{woken}
 use Rattle.bl_ctree_laws_confluence.specs.Deeds.Nesting.{ProgramsNest}
 use Rattle.bl_ctree_laws_confluence.specs.Deeds.Orderly.{AcceptedIsOrderly}
 use Rattle.bl_ctree_laws_confluence.specs.Independent.Accepted.{AcceptedIsIndependent}

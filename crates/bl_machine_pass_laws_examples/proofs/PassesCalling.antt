@@ -8,39 +8,10 @@ use Rattle.bl_graph_nodes.specs.Plain.{Act, Await, Block, block_at, label_at, pl
 use Rattle.bl_ctree_laws.specs.Trees.{Idle, Nil, Tree, do_block, woken}
 use Rattle.bl_ctree_laws_examples.specs.Trees.Calls.{first_called, second_called}
 use Rattle.bl_ctree_laws_examples.specs.Trees.Made.{always, at, await_true, number, set, two, value}
-use Rattle.bl_machine_laws.specs.Numbers.Turns.{
-  AnsweredDeed,
-  Passes,
-  acts,
-  first,
-  forks,
-  goes_on,
-  in_par,
-  in_seq,
-  joins,
-  later,
-  pauses,
-  point,
-  repeats,
-  returns,
-  runs,
-}
-use Rattle.bl_machine_pass_laws_examples.specs.Calling.{
-  adds_x,
-  body,
-  first_body,
-  first_paused,
-  first_tick,
-  later_tick as deeds_later,
-  orders,
-  paused,
-  program,
-  raises_o,
-  raises_x,
-  second_body,
-  second_paused,
-  sets_x,
-}
+use Rattle.bl_machine_laws.specs.Numbers.Turns.{AnsweredDeed, Passes, acts, first, forks, goes_on, in_par, in_seq, joins, later, pauses, point, repeats}
+use Rattle.bl_machine_laws.specs.Numbers.Turns.{returns, runs}
+use Rattle.bl_machine_pass_laws_examples.specs.Calling.{adds_x, body, first_body, first_paused, first_tick, later_tick as deeds_later, orders, paused, program}
+use Rattle.bl_machine_pass_laws_examples.specs.Calling.{raises_o, raises_x, second_body, second_paused, sets_x}
 use Rattle.bl_machine_pass_laws_examples.specs.Worked.{act, asked, ranked, still}
 use Rattle.bl_machine_pass_laws_examples.proofs.Turning.{ends, then}
 

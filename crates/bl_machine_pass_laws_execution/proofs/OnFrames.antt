@@ -8,24 +8,7 @@ use Rattle.bl_graph_nodes.specs.Nodes.{entry}
 use Rattle.bl_graph_nodes.specs.Plain.{Block, Bodies, Body as BodyOf, Done, Last, Then, plain_body}
 use Rattle.bl_ctree.specs.Control.{Body, Check}
 use Rattle.bl_ctree.specs.Instances.{Setting, callee_of, setting_of}
-use Rattle.bl_ctree_laws.specs.Trees.{
-  Tree,
-  Trees,
-  Nil,
-  Wait,
-  Test,
-  Idle,
-  Do,
-  Seq,
-  Par,
-  Guard,
-  Run,
-  all_woken,
-  beside,
-  do_block,
-  no_tree,
-  woken,
-}
+use Rattle.bl_ctree_laws.specs.Trees.{Tree, Trees, Nil, Wait, Test, Idle, Do, Seq, Par, Guard, Run, all_woken, beside, do_block, no_tree, woken}
 use Rattle.bl_ctree_laws_confluence.specs.Deeds.Nesting.{Inside, InstancesNest, ProgramsNest, deeper, itself}
 use Rattle.bl_ctree_laws_confluence.specs.Apart.Seen.{InCall}
 use Rattle.bl_ctree_laws_traces.specs.Progress.FitsGraph.{AllFitGraph, FitsGraph}
@@ -33,17 +16,8 @@ use Rattle.bl_ctree_laws_traces.specs.Progress.Places.{Place, ahead_of, guarded,
 use Rattle.bl_machine.specs.Uses.{Slots}
 use Rattle.bl_machine_laws.specs.Waiting.Waking.{WakingKeepsNumbers}
 use Rattle.bl_machine_pass.specs.Registers.{with_at}
-use Rattle.bl_machine_pass_laws_execution.specs.Frames.{
-  AllCallsMatchTree,
-  AllFramesNest,
-  CalledIn,
-  CallsMatchTree,
-  ChangeOnly,
-  Frames,
-  FramesMatchTree,
-  FramesNest,
-  OneCalledIn,
-}
+use Rattle.bl_machine_pass_laws_execution.specs.Frames.{AllCallsMatchTree, AllFramesNest, CalledIn, CallsMatchTree, ChangeOnly, Frames, FramesMatchTree}
+use Rattle.bl_machine_pass_laws_execution.specs.Frames.{FramesNest, OneCalledIn}
 
 -- ---- what isn't called doesn't matter
 

@@ -11,28 +11,8 @@ use Rattle.bl_ctree.specs.Control.{Body, Check}
 use Rattle.bl_ctree.specs.Instances.{Setting, setting_of, unit_at}
 use Rattle.bl_machine_prevs.specs.Declared.{FromText}
 use Rattle.bl_ctree.specs.Store.{Store, view_at}
-use Rattle.bl_ctree_laws.specs.Trees.{
-  Tree,
-  Trees,
-  Nil,
-  Wait,
-  Test,
-  Idle,
-  Do,
-  Seq,
-  Par,
-  Guard,
-  Run,
-  all_woken,
-  are_done,
-  are_settled,
-  beside,
-  do_block,
-  is_nil,
-  is_settled,
-  no_tree,
-  woken,
-}
+use Rattle.bl_ctree_laws.specs.Trees.{Tree, Trees, Nil, Wait, Test, Idle, Do, Seq, Par, Guard, Run, all_woken, are_done, are_settled, beside, do_block, is_nil}
+use Rattle.bl_ctree_laws.specs.Trees.{is_settled, no_tree, woken}
 use Rattle.bl_ctree_laws_confluence.specs.Apart.Owned.{RunsAt, SomeIn}
 use Rattle.bl_ctree_laws_confluence.specs.Apart.Running.{AcceptedRunsApart}
 use Rattle.bl_ctree_laws_traces.specs.Progress.Accepted.{ProgramsAreCallable}

@@ -21,29 +21,8 @@ use Rattle.bl_machine_transitions.specs.declared.size.Size.{Size}
 use Rattle.bl_machine_transitions.specs.Listed.{Layout, tested_rule}
 use Rattle.bl_machine_transitions.specs.Told.{NumberedTransition, Tests}
 use Rattle.bl_machine_transitions.specs.inner.Joined.{enter_unless_empty, fork_of, join_fork, no_fork, or_size, sized, then_size}
-use Rattle.bl_machine_transitions.specs.inner.Parts.{
-  ArmPart,
-  BranchPart,
-  Part,
-  arm_of,
-  arm_part,
-  branch_of,
-  branch_part,
-  chain,
-  condition_part,
-  each,
-  ends,
-  entry_changes,
-  follow,
-  forked,
-  if_part,
-  kind_part,
-  nothing,
-  part,
-  part_of_block,
-  places_in_branch,
-  stmt_of,
-}
+use Rattle.bl_machine_transitions.specs.inner.Parts.{ArmPart, BranchPart, Part, arm_of, arm_part, branch_of, branch_part, chain, condition_part, each, ends}
+use Rattle.bl_machine_transitions.specs.inner.Parts.{entry_changes, follow, forked, if_part, kind_part, nothing, part, part_of_block, places_in_branch, stmt_of}
 
 -- ---- lists
 

@@ -11,18 +11,8 @@ use Rattle.bl_tree.specs.declared.tree.Var.{Var}
 use Rattle.bl_face.specs.Keeps.{Keeps, base_is_named, field_is_named, has_field, item_keeps}
 use Rattle.bl_face.specs.declared.item.FaceField.{FaceField}
 use Rattle.bl_face.specs.declared.item.FaceItem.{FaceItem}
-use Rattle.bl_parse_tree.specs.Names.{
-  field_named,
-  is_filled,
-  item_stands,
-  length_named,
-  optional,
-  param_named,
-  struct_stands,
-  stmt_stands,
-  type_named,
-  unit_stands,
-}
+use Rattle.bl_parse_tree.specs.Names.{field_named, is_filled, item_stands, length_named, optional, param_named, struct_stands, stmt_stands, type_named}
+use Rattle.bl_parse_tree.specs.Names.{unit_stands}
 use Rattle.bl_parse_tree.specs.declared.item.RawField.{RawField}
 use Rattle.bl_parse_tree.specs.declared.item.RawItem.{RawItem}
 use Rattle.bl_parse_tree.specs.declared.item.RawItem.TheVariants.{Struct, Constant, Unit as UnitItem}
@@ -36,20 +26,8 @@ use Rattle.bl_parse_tree.specs.declared.types.RawType.TheOpen.{RawType-F}
 use Rattle.bl_types.specs.declared.environment.Constant.{Constant as KnownConstant}
 use Rattle.bl_types.specs.declared.environment.Known.{Known}
 use Rattle.bl_module.specs.declared.own.Next.{Next}
-use Rattle.bl_module.specs.Own.{
-  base_of,
-  constant_item,
-  fields_known_from,
-  item_of,
-  items_from,
-  known_fields,
-  known_vars,
-  next_after,
-  params_known_from,
-  struct_item,
-  typed_constant,
-  unit_item,
-}
+use Rattle.bl_module.specs.Own.{base_of, constant_item, fields_known_from, item_of, items_from, known_fields, known_vars, next_after, params_known_from}
+use Rattle.bl_module.specs.Own.{struct_item, typed_constant, unit_item}
 
 both : (a b : Bool) → a ≡ true → b ≡ true → (a && b) ≡ true
 both a b ea eb = rw (ea, eb) refl

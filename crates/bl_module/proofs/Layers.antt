@@ -1,31 +1,6 @@
 -- What fails first in its layer, where the layers before it pass, fails first of all rules.
-use Rattle.std.proofs.Common.{
-  ◌≡◌,
-  ℕ,
-  ◌∙◌,
-  ◌<◌,
-  ◌^◌,
-  Bool,
-  true,
-  false,
-  ◌&&◌,
-  not,
-  cond,
-  drop,
-  List,
-  [],
-  ◌∷◌,
-  ◌⊎◌,
-  ⊎_elim,
-  length,
-  inl,
-  inr,
-  refl,
-  sym,
-  ap,
-  subst,
-  arith,
-}
+use Rattle.std.proofs.Common.{◌≡◌, ℕ, ◌∙◌, ◌<◌, ◌^◌, Bool, true, false, ◌&&◌, not, cond, drop, List, [], ◌∷◌, ◌⊎◌, ⊎_elim, length, inl, inr, refl, sym, ap}
+use Rattle.std.proofs.Common.{subst, arith}
 use Rattle.std.specs.Prelude.{⊤, nat_eq}
 use Rattle.std.proofs.lemmas.Bool.Decides.{nat_tests}
 use Rattle.bl_cause_trees.specs.Rules.{Fails as GraphsFail, Passes as GraphsPass}
@@ -59,28 +34,8 @@ use Rattle.bl_module.specs.Behind.{outside_text}
 use Rattle.bl_module.specs.declared.behind.Behind.{Behind}
 use Rattle.bl_module.specs.declared.taken.Taken.{Taken}
 use Rattle.bl_module.specs.inner.Layers.{NamesFailHere, OwnPasses}
-use Rattle.bl_module.specs.Rules.{
-  FailsIn,
-  OwnFails,
-  PassesIn,
-  TreeFails,
-  TreePasses,
-  here,
-  in_bytes,
-  in_graphs,
-  in_names,
-  in_nesting,
-  in_own,
-  in_tokens,
-  in_tree,
-  in_types,
-  in_units,
-  is_last,
-  known_at,
-  known_in,
-  named_in,
-  own_units,
-}
+use Rattle.bl_module.specs.Rules.{FailsIn, OwnFails, PassesIn, TreeFails, TreePasses, here, in_bytes, in_graphs, in_names, in_nesting, in_own, in_tokens}
+use Rattle.bl_module.specs.Rules.{in_tree, in_types, in_units, is_last, known_at, known_in, named_in, own_units}
 
 -- ---- own units and structs
 

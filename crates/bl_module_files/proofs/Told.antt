@@ -1,30 +1,6 @@
 -- Files whose texts are told.
-use Rattle.std.proofs.Common.{
-  ◌≡◌,
-  ◌∙◌,
-  ℕ,
-  Bool,
-  true,
-  false,
-  ◌&&◌,
-  List,
-  [],
-  ◌∷◌,
-  ◌++◌,
-  take,
-  drop,
-  length,
-  refl,
-  suc,
-  sym,
-  ap,
-  ap₂,
-  subst,
-  inl,
-  inr,
-  arith,
-  if◌then◌else◌,
-}
+use Rattle.std.proofs.Common.{◌≡◌, ◌∙◌, ℕ, Bool, true, false, ◌&&◌, List, [], ◌∷◌, ◌++◌, take, drop, length, refl, suc, sym, ap, ap₂, subst, inl, inr, arith}
+use Rattle.std.proofs.Common.{if◌then◌else◌}
 use Rattle.std.proofs.lemmas.Slice.Eq.{bytes_eq-Decides}
 use Rattle.std.proofs.lemmas.List.{take-append-drop}
 use Rattle.std.specs.Prelude.{◌≢◌, Option, Some, None, IfSome}
@@ -43,16 +19,8 @@ use Rattle.bl_module.specs.Faces.{all_items, items_of}
 use Rattle.bl_tree.proofs.ReduceLemmas.{joined-append}
 use Rattle.bl_tree.specs.Reduce.{joined}
 use Rattle.bl_module_files.specs.Faces.{AreSpelled}
-use Rattle.bl_module_files.specs.Told.{
-  AreTold,
-  BadFacesDontStand,
-  FirstToldTextsAreRead,
-  SpelledFacesAreTaken,
-  TextsHaveOneFaceEach,
-  ToldFilesAreRead,
-  ToldFilesHaveATextEach,
-  ToldTextsAreRead,
-}
+use Rattle.bl_module_files.specs.Told.{AreTold, BadFacesDontStand, FirstToldTextsAreRead, SpelledFacesAreTaken, TextsHaveOneFaceEach, ToldFilesAreRead}
+use Rattle.bl_module_files.specs.Told.{ToldFilesHaveATextEach, ToldTextsAreRead}
 use Rattle.bl_module_files.specs.Turns.{IsText, Left, WasRead, WereRead, file_limit, next, none}
 use Rattle.bl_module_files.proofs.Turns.{kept_same}
 

@@ -6,22 +6,8 @@ use Rattle.bl_effects.specs.Rules.{Passes as UnitsPass}
 use Rattle.bl_limits.specs.Rules.{Fails as LimitsFail, NestingPasses, Passes as LimitsPass}
 use Rattle.bl_module.specs.Faces.{behind_faces}
 use Rattle.bl_module.specs.Parts.{IsGoodBehind}
-use Rattle.bl_module.specs.Rules.{
-  TreePasses as TreePassesBehind,
-  here,
-  in_bytes,
-  in_graphs,
-  in_names,
-  in_nesting,
-  in_own,
-  in_tree,
-  in_types,
-  in_units,
-  known_at,
-  known_in as known_in_tree,
-  named_in,
-  own_units,
-}
+use Rattle.bl_module.specs.Rules.{TreePasses as TreePassesBehind, here, in_bytes, in_graphs, in_names, in_nesting, in_own, in_tree, in_types, in_units}
+use Rattle.bl_module.specs.Rules.{known_at, known_in as known_in_tree, named_in, own_units}
 use Rattle.bl_module.specs.declared.behind.Behind.{Behind}
 use Rattle.bl_module.specs.declared.taken.Taken.TheVariants.{AsLast}
 use Rattle.bl_face.specs.declared.face.Face.{Face}

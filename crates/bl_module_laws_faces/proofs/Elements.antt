@@ -8,18 +8,8 @@ use Rattle.bl_eval.proofs.PassLemmas.{and_left, and_right, both}
 use Rattle.bl_face.specs.declared.item.FaceField.{FaceField}
 use Rattle.bl_face.specs.declared.item.FaceType.{FaceType}
 use Rattle.bl_limits_measures.specs.Types.{nesting_by}
-use Rattle.bl_module.specs.Behind.{
-  base_stands,
-  fields_depth,
-  is_length,
-  outside_text,
-  resolved_field,
-  resolved_param,
-  resolved_type,
-  type_depth,
-  type_stands,
-  types_stand,
-}
+use Rattle.bl_module.specs.Behind.{base_stands, fields_depth, is_length, outside_text, resolved_field, resolved_param, resolved_type, type_depth, type_stands}
+use Rattle.bl_module.specs.Behind.{types_stand}
 use Rattle.bl_module.specs.declared.names.Referent.TheVariants as referent
 use Rattle.bl_module.specs.Names.{DeclaredNames, are_new, is_new, with_fields, with_name}
 use Rattle.bl_module.specs.Own.{base_of, face_type, field_type, fields_known_from, lengths_of, params_known_from, var_type}

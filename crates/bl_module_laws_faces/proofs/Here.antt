@@ -11,19 +11,8 @@ use Rattle.bl_names.proofs.PlacedExpr.{earlier}
 use Rattle.bl_names.proofs.PlacedItem.{UnitHolds, struct_is, unit_holds}
 use Rattle.bl_names.proofs.PlacedStmt.{Within, closed_is}
 use Rattle.bl_names.proofs.StillLemmas.{after-append, still_value}
-use Rattle.bl_names.specs.Named.{
-  along,
-  block_piece,
-  constants_in_unit,
-  constants_of,
-  named_constant,
-  named_struct,
-  named_unit,
-  opened,
-  params_piece,
-  structs_of,
-  units_of,
-}
+use Rattle.bl_names.specs.Named.{along, block_piece, constants_in_unit, constants_of, named_constant, named_struct, named_unit, opened, params_piece}
+use Rattle.bl_names.specs.Named.{structs_of, units_of}
 use Rattle.bl_names_scopes.specs.declared.kind.Kind.TheVariants as kinds
 use Rattle.bl_names_scopes.specs.declared.scopes.Counts.{Counts}
 use Rattle.bl_names_scopes.specs.Marks.{constant_marks, declares, expr_marks, kind_of_unit, marks_of, optional, struct_marks, type_marks, unit_marks}

@@ -12,20 +12,8 @@ use Rattle.bl_face.specs.Reading.{ReadsAs, most_bytes}
 use Rattle.bl_face.specs.Text.{face_text}
 use Rattle.bl_face_laws.specs.Fits.{FieldsFit, ItemFits, ItemsFit, LengthsFit}
 use Rattle.bl_module.proofs.FaceLemmas.{stand-append}
-use Rattle.bl_module.specs.Behind.{
-  after_item,
-  after_items,
-  base_stands,
-  before_items,
-  fields_depth,
-  gives_once,
-  is_length,
-  item_stands,
-  items_stand,
-  type_depth,
-  type_stands,
-  types_stand,
-}
+use Rattle.bl_module.specs.Behind.{after_item, after_items, base_stands, before_items, fields_depth, gives_once, is_length, item_stands, items_stand}
+use Rattle.bl_module.specs.Behind.{type_depth, type_stands, types_stand}
 use Rattle.bl_module.specs.declared.walk.Walk.{Walk}
 use Rattle.bl_module.specs.Faces.{FacesStand, all_items}
 use Rattle.bl_module.specs.Names.{DeclaredNames, are_new, is_new, with_fields}

@@ -1,29 +1,6 @@
 -- What faces that stand declare, as a text behind them begins with it.
-use Rattle.std.proofs.Common.{
-  ◌≡◌,
-  ℕ,
-  ◌+◌,
-  ◌<◌,
-  true,
-  List,
-  [],
-  ◌∷◌,
-  ◌++◌,
-  length,
-  map,
-  inr,
-  Option,
-  Some,
-  None,
-  refl,
-  sym,
-  ap,
-  subst,
-  ◌∙◌,
-  append-nil,
-  append_assoc,
-  arith,
-}
+use Rattle.std.proofs.Common.{◌≡◌, ℕ, ◌+◌, ◌<◌, true, List, [], ◌∷◌, ◌++◌, length, map, inr, Option, Some, None, refl, sym, ap, subst, ◌∙◌, append-nil}
+use Rattle.std.proofs.Common.{append_assoc, arith}
 use Rattle.std.specs.Prelude.{Bool, ℤ, ◌&&◌, is_none, nat_le, nat_lt, slice_get, slice_index}
 use Rattle.std.specs.List.{list_all}
 use Rattle.std.proofs.lemmas.Bool.{le-leb, lt-ltb}
@@ -37,31 +14,9 @@ use Rattle.bl_face.specs.declared.item.FaceItem.{FaceItem}
 use Rattle.bl_face.specs.declared.item.FaceItem.TheVariants as shows
 use Rattle.bl_face.specs.declared.item.FaceType.{FaceType}
 use Rattle.bl_limits_measures.specs.Types.{nesting_by, struct_nestings}
-use Rattle.bl_module.specs.Behind.{
-  after_item,
-  after_items,
-  array_of,
-  base_stands,
-  before_items,
-  depth_of,
-  fields_depth,
-  gives_once,
-  heading_of,
-  is_length,
-  item_stands,
-  items_stand,
-  outside_text,
-  resolved_base,
-  resolved_field,
-  resolved_head,
-  resolved_param,
-  resolved_struct,
-  resolved_type,
-  struct_position,
-  type_depth,
-  type_stands,
-  types_stand,
-}
+use Rattle.bl_module.specs.Behind.{after_item, after_items, array_of, base_stands, before_items, depth_of, fields_depth, gives_once, heading_of, is_length}
+use Rattle.bl_module.specs.Behind.{item_stands, items_stand, outside_text, resolved_base, resolved_field, resolved_head, resolved_param, resolved_struct}
+use Rattle.bl_module.specs.Behind.{resolved_type, struct_position, type_depth, type_stands, types_stand}
 use Rattle.bl_module.specs.declared.names.Referent.{Referent}
 use Rattle.bl_module.specs.declared.names.Referent.TheVariants as referent
 use Rattle.bl_module.specs.declared.walk.Walk.{Walk}

@@ -44,20 +44,8 @@ use Rattle.bl_types.specs.Declarations.{Declaring, after_struct, field_of, struc
 use Rattle.bl_types.specs.Programs.{after_items}
 use Rattle.bl_types_laws.proofs.Forms.{nil_left, nil_right}
 use Rattle.bl_types_laws_places.specs.Agree.{unplaced}
-use Rattle.bl_module_laws_faces.proofs.Adding.{
-  Adding,
-  Adds,
-  Agrees,
-  Shallow,
-  absent_behind,
-  adds_first,
-  by_first,
-  get_behind,
-  next_at,
-  one_behind,
-  pushed,
-  same_long,
-}
+use Rattle.bl_module_laws_faces.proofs.Adding.{Adding, Adds, Agrees, Shallow, absent_behind, adds_first, by_first, get_behind, next_at, one_behind, pushed}
+use Rattle.bl_module_laws_faces.proofs.Adding.{same_long}
 use Rattle.bl_module_laws_faces.proofs.Elements.{FieldsShown}
 
 still_types : (fields : List RawField) → Still (joined (map field_type_marks fields))

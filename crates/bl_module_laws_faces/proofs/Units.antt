@@ -18,19 +18,8 @@ use Rattle.bl_module_laws_faces.proofs.Elements.{params_are, params_shown, shown
 use Rattle.bl_module_laws_faces.proofs.Fresh.{Fresh, fresh_first, fresh_second}
 use Rattle.bl_module_laws_faces.proofs.Goes.{goes}
 use Rattle.bl_module_laws_faces.proofs.Heads.{gives_once_is, head_is, placed_again}
-use Rattle.bl_module_laws_faces.proofs.Here.{
-  Here,
-  body_end,
-  here_unit,
-  passed,
-  step_there,
-  structs_still,
-  unit_behind,
-  unit_chosen,
-  unit_fits,
-  unit_fresh,
-  units_are,
-}
+use Rattle.bl_module_laws_faces.proofs.Here.{Here, body_end, here_unit, passed, step_there, structs_still, unit_behind, unit_chosen, unit_fits, unit_fresh}
+use Rattle.bl_module_laws_faces.proofs.Here.{units_are}
 use Rattle.bl_module_laws_faces.proofs.Scoped.{NamesAgree, names_next, new_alike, resolves_opened}
 use Rattle.bl_module_laws_faces.proofs.Variables.{VariablesAre, variables_are}
 use Rattle.bl_names.proofs.FitLemmas.{Fits, fits_first, fits_second}

@@ -1,30 +1,6 @@
 -- The face of a tree that passes behind faces stands behind them, and declares what is known at its end.
-use Rattle.std.proofs.Common.{
-  ◌≡◌,
-  ℕ,
-  ◌≤◌,
-  ◌<◌,
-  zero,
-  suc,
-  true,
-  false,
-  List,
-  [],
-  ◌∷◌,
-  ◌++◌,
-  length,
-  drop,
-  inl,
-  inr,
-  Some,
-  refl,
-  sym,
-  ap,
-  subst,
-  ◌∙◌,
-  append-nil,
-  arith,
-}
+use Rattle.std.proofs.Common.{◌≡◌, ℕ, ◌≤◌, ◌<◌, zero, suc, true, false, List, [], ◌∷◌, ◌++◌, length, drop, inl, inr, Some, refl, sym, ap, subst, ◌∙◌}
+use Rattle.std.proofs.Common.{append-nil, arith}
 use Rattle.std.specs.Prelude.{Bool, Contains, nat_le, slice_get, slice_index}
 use Rattle.std.specs.List.{list_all}
 use Rattle.std.proofs.lemmas.Bool.{leb-false, leb-true}
@@ -40,23 +16,8 @@ use Rattle.bl_module.specs.declared.behind.Behind.{Behind}
 use Rattle.bl_module.specs.declared.walk.Walk.{Walk}
 use Rattle.bl_module.specs.Faces.{FacesStand, all_items, behind_faces, items_of}
 use Rattle.bl_module.specs.Own.{face_items, next_behind}
-use Rattle.bl_module.specs.Rules.{
-  TreePasses,
-  here,
-  in_bytes,
-  in_graphs,
-  in_names,
-  in_nesting,
-  in_own,
-  in_tree,
-  in_types,
-  in_units,
-  is_last,
-  known_at,
-  known_in,
-  named_in,
-  own_units,
-}
+use Rattle.bl_module.specs.Rules.{TreePasses, here, in_bytes, in_graphs, in_names, in_nesting, in_own, in_tree, in_types, in_units, is_last, known_at, known_in}
+use Rattle.bl_module.specs.Rules.{named_in, own_units}
 use Rattle.bl_module_laws_faces.proofs.Adding.{Adds, Agrees, Shallow}
 use Rattle.bl_module_laws_faces.proofs.Fresh.{marks_fresh}
 use Rattle.bl_module_laws_faces.proofs.Goes.{Goes, goes}

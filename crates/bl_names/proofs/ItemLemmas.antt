@@ -1,24 +1,5 @@
 -- What is made behind structs, units and the items of a program.
-use Rattle.std.proofs.Common.{
-  ◌≡◌,
-  ℕ,
-  ◌+◌,
-  ◌<◌,
-  List,
-  [],
-  ◌∷◌,
-  ◌++◌,
-  map,
-  drop,
-  length,
-  get_or,
-  refl,
-  sym,
-  ap,
-  ◌∙◌,
-  append-nil,
-  append_assoc,
-}
+use Rattle.std.proofs.Common.{◌≡◌, ℕ, ◌+◌, ◌<◌, List, [], ◌∷◌, ◌++◌, map, drop, length, get_or, refl, sym, ap, ◌∙◌, append-nil, append_assoc}
 use Rattle.std.specs.Prelude.{Option, Some, option_map}
 use Rattle.bl_tree.specs.declared.tree.Role.{Role}
 use Rattle.bl_tree.specs.declared.tree.Role.TheVariants as role
@@ -28,23 +9,8 @@ use Rattle.bl_names_tree.specs.declared.item.NamedVar.{NamedVar}
 use Rattle.bl_names_tree.specs.declared.stmt.NamedStmt.{NamedStmt}
 use Rattle.bl_names_tree.specs.declared.types.NamedType.{NamedType}
 use Rattle.bl_names_scopes.specs.declared.kind.Kind.TheVariants as kind
-use Rattle.bl_names_scopes.specs.Marks.{
-  closes,
-  declares,
-  field_mark,
-  field_type_marks,
-  in_scope,
-  inside_unit,
-  item_marks,
-  kind_of_unit,
-  marks_of,
-  optional,
-  param_marks,
-  stmt_marks,
-  struct_marks,
-  type_marks,
-  unit_marks,
-}
+use Rattle.bl_names_scopes.specs.Marks.{closes, declares, field_mark, field_type_marks, in_scope, inside_unit, item_marks, kind_of_unit, marks_of, optional}
+use Rattle.bl_names_scopes.specs.Marks.{param_marks, stmt_marks, struct_marks, type_marks, unit_marks}
 use Rattle.bl_names_scopes.specs.Scopes.{Scopes, after, enter, scopes_outside}
 use Rattle.bl_parse_tree.specs.declared.item.RawField.{RawField}
 use Rattle.bl_parse_tree.specs.declared.item.RawItem.{RawItem}

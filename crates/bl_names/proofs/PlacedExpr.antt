@@ -1,29 +1,5 @@
 -- The positions in types and expressions are in place, where every use fits.
-use Rattle.std.proofs.Common.{
-  ◌≡◌,
-  ℕ,
-  ◌<◌,
-  Bool,
-  true,
-  ◌&&◌,
-  nat_lt,
-  List,
-  [],
-  ◌∷◌,
-  ◌++◌,
-  map,
-  inl,
-  inr,
-  ⊎_elim,
-  ◌⊎◌,
-  Option,
-  Some,
-  None,
-  refl,
-  ap,
-  subst,
-  ◌∙◌,
-}
+use Rattle.std.proofs.Common.{◌≡◌, ℕ, ◌<◌, Bool, true, ◌&&◌, nat_lt, List, [], ◌∷◌, ◌++◌, map, inl, inr, ⊎_elim, ◌⊎◌, Option, Some, None, refl, ap, subst, ◌∙◌}
 use Rattle.std.specs.Prelude.{All, option_map}
 use Rattle.std.specs.List.{list_all}
 use Rattle.std.proofs.lemmas.Bool.{lt-ltb}
@@ -49,21 +25,8 @@ use Rattle.bl_names_scopes.specs.declared.kind.Wanted.{Wanted}
 use Rattle.bl_names_scopes.specs.declared.kind.Wanted.TheVariants as wants
 use Rattle.bl_names_scopes.specs.declared.scopes.Counts.{Counts}
 use Rattle.bl_names_scopes.specs.Kinds.{suits}
-use Rattle.bl_names_scopes.specs.Marks.{
-  Marks,
-  expr_layer_marks,
-  expr_marks,
-  kind_marks,
-  length_marks,
-  marks_of_part,
-  optional,
-  part_marks,
-  path_marks,
-  target_layer_marks,
-  target_marks,
-  type_marks,
-  uses,
-}
+use Rattle.bl_names_scopes.specs.Marks.{Marks, expr_layer_marks, expr_marks, kind_marks, length_marks, marks_of_part, optional, part_marks, path_marks}
+use Rattle.bl_names_scopes.specs.Marks.{target_layer_marks, target_marks, type_marks, uses}
 use Rattle.bl_names_scopes.specs.Scopes.{Scopes, count_of}
 use Rattle.bl_parse_tree.specs.declared.expr.RawExpr.{RawExpr, fold-roll-RawExpr}
 use Rattle.bl_parse_tree.specs.declared.expr.RawExprKind.{RawExprKind, fold-RawExprKind, fold-roll-RawExprKind, map-RawExprKind}
@@ -76,23 +39,8 @@ use Rattle.bl_parse_tree.specs.declared.types.RawLength.{RawLength}
 use Rattle.bl_parse_tree.specs.declared.types.RawLength.TheVariants as raw_length
 use Rattle.bl_parse_tree.specs.declared.types.RawType.{RawType, fold-roll-RawType, ind-RawType, map-RawType, roll-RawType}
 use Rattle.bl_parse_tree.specs.declared.types.RawType.TheOpen.{RawType-F}
-use Rattle.bl_names.specs.Naming.{
-  named_expr,
-  named_expr_layer,
-  named_kind,
-  named_length,
-  named_part,
-  named_path,
-  named_root,
-  named_step,
-  named_target,
-  named_target_layer,
-  named_type,
-  position,
-  position_of,
-  root_at,
-  root_of,
-}
+use Rattle.bl_names.specs.Naming.{named_expr, named_expr_layer, named_kind, named_length, named_part, named_path, named_root, named_step, named_target}
+use Rattle.bl_names.specs.Naming.{named_target_layer, named_type, position, position_of, root_at, root_of}
 use Rattle.bl_names.proofs.BelowLemmas.{Below, DeclarationBelow, bound_below}
 use Rattle.bl_names.proofs.FitLemmas.{Fits, IsFit, fits_behind, fits_first}
 use Rattle.bl_names.proofs.RawExprInduction.{Cases, EachIndex, OfIndex, expr, induct, induct_target}

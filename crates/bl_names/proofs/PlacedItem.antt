@@ -1,34 +1,6 @@
 -- The positions in structs, constants and units are in place, where every use fits.
-use Rattle.std.proofs.Common.{
-  ◌≡◌,
-  ℕ,
-  ◌+◌,
-  ◌<◌,
-  ◌≤◌,
-  Bool,
-  true,
-  List,
-  [],
-  ◌∷◌,
-  ◌++◌,
-  map,
-  length,
-  take,
-  drop,
-  inr,
-  Option,
-  Some,
-  None,
-  refl,
-  sym,
-  ap,
-  subst,
-  ◌∙◌,
-  append-nil,
-  append_assoc,
-  arith,
-  suc,
-}
+use Rattle.std.proofs.Common.{◌≡◌, ℕ, ◌+◌, ◌<◌, ◌≤◌, Bool, true, List, [], ◌∷◌, ◌++◌, map, length, take, drop, inr, Option, Some, None, refl, sym, ap, subst}
+use Rattle.std.proofs.Common.{◌∙◌, append-nil, append_assoc, arith, suc}
 use Rattle.std.specs.Prelude.{option_and_then, option_map, if◌then◌else◌}
 use Rattle.std.specs.List.{list_all}
 use Rattle.std.proofs.Math.Seq.{drop-append_seam, take-append_seam}
@@ -46,36 +18,12 @@ use Rattle.bl_names_tree.specs.declared.item.NamedUnit.{NamedUnit}
 use Rattle.bl_names_tree.specs.declared.item.NamedVar.{NamedVar}
 use Rattle.bl_names_tree.specs.declared.stmt.NamedStmt.{NamedStmt}
 use Rattle.bl_names_tree.specs.declared.types.NamedType.{NamedType}
-use Rattle.bl_names_tree.specs.Placed.{
-  DeclaredBefore,
-  behind_unit,
-  head_placed,
-  holds_if,
-  in_turn,
-  stmt_step,
-  struct_placed,
-  type_placed,
-  unit_step,
-  var_placed,
-  with_parameters,
-}
+use Rattle.bl_names_tree.specs.Placed.{DeclaredBefore, behind_unit, head_placed, holds_if, in_turn, stmt_step, struct_placed, type_placed, unit_step}
+use Rattle.bl_names_tree.specs.Placed.{var_placed, with_parameters}
 use Rattle.bl_names_scopes.specs.declared.kind.Kind.TheVariants as kinds
 use Rattle.bl_names_scopes.specs.declared.scopes.Counts.{Counts}
-use Rattle.bl_names_scopes.specs.Marks.{
-  Marks,
-  closes,
-  declares,
-  field_mark,
-  field_type_marks,
-  in_scope,
-  inside_unit,
-  kind_of_unit,
-  optional,
-  param_marks,
-  struct_marks,
-  type_marks,
-  unit_marks,
-}
+use Rattle.bl_names_scopes.specs.Marks.{Marks, closes, declares, field_mark, field_type_marks, in_scope, inside_unit, kind_of_unit, optional, param_marks}
+use Rattle.bl_names_scopes.specs.Marks.{struct_marks, type_marks, unit_marks}
 use Rattle.bl_names_scopes.specs.Scopes.{Scopes, after, count_of, counted, declaration_of, enter, found}
 use Rattle.bl_parse_tree.specs.declared.item.RawField.{RawField}
 use Rattle.bl_parse_tree.specs.declared.item.RawParam.{RawParam}

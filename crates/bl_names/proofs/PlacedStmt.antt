@@ -1,28 +1,6 @@
 -- The positions in statements are in place, where every use fits.
-use Rattle.std.proofs.Common.{
-  ◌≡◌,
-  ℕ,
-  ◌+◌,
-  Bool,
-  true,
-  ◌&&◌,
-  ◌||◌,
-  List,
-  [],
-  ◌∷◌,
-  ◌++◌,
-  map,
-  length,
-  Option,
-  Some,
-  None,
-  refl,
-  sym,
-  ap,
-  subst,
-  ◌∙◌,
-  append_assoc,
-}
+use Rattle.std.proofs.Common.{◌≡◌, ℕ, ◌+◌, Bool, true, ◌&&◌, ◌||◌, List, [], ◌∷◌, ◌++◌, map, length, Option, Some, None, refl, sym, ap, subst, ◌∙◌}
+use Rattle.std.proofs.Common.{append_assoc}
 use Rattle.std.specs.Prelude.{All, option_and_then, option_map, slice_get, if◌then◌else◌}
 use Rattle.std.specs.List.{list_all}
 use Rattle.std.proofs.lemmas.Bool.{eq-eqb}
@@ -60,56 +38,18 @@ use Rattle.bl_parse_tree.specs.declared.stmt.RawStmt.{RawStmt}
 use Rattle.bl_parse_tree.specs.declared.stmt.RawStmtKind.{RawStmtKind}
 use Rattle.bl_parse_tree.specs.declared.stmt.RawStmtKind.TheOpen.{RawStmtKind-F}
 use Rattle.bl_parse_tree.specs.declared.types.RawType.{RawType}
-use Rattle.bl_names.specs.Named.{
-  Piece,
-  all,
-  constant_piece,
-  constants_of_all,
-  kind_piece,
-  made_of_all,
-  marks_of_all,
-  named_constant,
-  named_var,
-  opened,
-  own_scope,
-  piece_of_arm,
-  piece_of_branch,
-  stmt_piece,
-  vars_of_all,
-}
+use Rattle.bl_names.specs.Named.{Piece, all, constant_piece, constants_of_all, kind_piece, made_of_all, marks_of_all, named_constant, named_var, opened}
+use Rattle.bl_names.specs.Named.{own_scope, piece_of_arm, piece_of_branch, stmt_piece, vars_of_all}
 use Rattle.bl_names.specs.Naming.{named_expr, named_path, named_target, named_type, position}
 use Rattle.bl_names.proofs.BelowLemmas.{Below, OuterBelow, constant_below, variable_below}
 use Rattle.bl_names.proofs.FitLemmas.{Fits, fits_behind, fits_first, fits_second}
 use Rattle.bl_names.proofs.PastLemmas.{enter-behind, more, none_more}
 use Rattle.bl_names.proofs.PieceLemmas.{arm_is, branch_is, parts, stmt_is}
-use Rattle.bl_names.proofs.PlacedExpr.{
-  activity_placed,
-  both,
-  earlier,
-  expr_is,
-  exprs_are,
-  function_placed,
-  optional_is,
-  path_is,
-  paths_are,
-  target_is,
-  type_is,
-  variable_read,
-}
+use Rattle.bl_names.proofs.PlacedExpr.{activity_placed, both, earlier, expr_is, exprs_are, function_placed, optional_is, path_is, paths_are, target_is, type_is}
+use Rattle.bl_names.proofs.PlacedExpr.{variable_read}
 use Rattle.bl_names.proofs.RawStmtInduction.{Cases, induct, stmt}
-use Rattle.bl_names.proofs.StillLemmas.{
-  Still,
-  after-append,
-  still_append,
-  still_arguments,
-  still_expr,
-  still_exprs,
-  still_optional,
-  still_target,
-  still_type,
-  still_use,
-  still_value,
-}
+use Rattle.bl_names.proofs.StillLemmas.{Still, after-append, still_append, still_arguments, still_expr, still_exprs, still_optional, still_target, still_type}
+use Rattle.bl_names.proofs.StillLemmas.{still_use, still_value}
 
 -- ---- parts of lists
 

@@ -14,21 +14,8 @@ use Rattle.bl_parse_tree.specs.declared.item.RawParam.{RawParam}
 use Rattle.bl_parse_tree.specs.declared.item.RawUnit.{RawUnit}
 use Rattle.bl_parse_tree.specs.declared.name.Name.{Name}
 use Rattle.bl_names_scopes.specs.declared.kind.Kind.TheVariants as kind
-use Rattle.bl_names_scopes.specs.Marks.{
-  closes,
-  declares,
-  expr_marks,
-  in_scope,
-  inside_unit,
-  item_marks,
-  kind_of_unit,
-  marks_of,
-  optional,
-  param_marks,
-  stmt_marks,
-  type_marks,
-  unit_marks,
-}
+use Rattle.bl_names_scopes.specs.Marks.{closes, declares, expr_marks, in_scope, inside_unit, item_marks, kind_of_unit, marks_of, optional, param_marks}
+use Rattle.bl_names_scopes.specs.Marks.{stmt_marks, type_marks, unit_marks}
 use Rattle.bl_names_scopes.specs.Rules.{Passes}
 use Rattle.bl_names_scopes.specs.Scopes.{Scopes, after, enter, file_scope}
 use Rattle.bl_names.specs.Named.{block_piece, inside_piece, named_program, named_unit, opened, params_piece, role_piece, stmt_piece, units_of}

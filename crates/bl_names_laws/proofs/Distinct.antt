@@ -17,61 +17,20 @@ use Rattle.bl_parse_tree.specs.declared.item.RawStruct.{RawStruct}
 use Rattle.bl_parse_tree.specs.declared.item.RawUnit.{RawUnit}
 use Rattle.bl_parse_tree.specs.declared.stmt.RawConstant.{RawConstant}
 use Rattle.bl_names_scopes.specs.declared.kind.Kind.TheVariants as kind
-use Rattle.bl_names_scopes.specs.Marks.{
-  closes,
-  constant_marks,
-  declares,
-  expr_marks,
-  field_mark,
-  field_type_marks,
-  in_scope,
-  inside_unit,
-  item_marks,
-  kind_of_unit,
-  marks_of,
-  optional,
-  param_marks,
-  stmt_marks,
-  struct_marks,
-  type_marks,
-  unit_marks,
-}
+use Rattle.bl_names_scopes.specs.Marks.{closes, constant_marks, declares, expr_marks, field_mark, field_type_marks, in_scope, inside_unit, item_marks}
+use Rattle.bl_names_scopes.specs.Marks.{kind_of_unit, marks_of, optional, param_marks, stmt_marks, struct_marks, type_marks, unit_marks}
 use Rattle.bl_names_scopes.specs.Rules.{Passes}
 use Rattle.bl_names_scopes.specs.Scopes.{Scopes, after, enter, file_scope}
-use Rattle.bl_names.specs.Named.{
-  along,
-  block_piece,
-  inside_piece,
-  named_field,
-  named_program,
-  named_struct,
-  named_unit,
-  none,
-  opened,
-  params_piece,
-  role_piece,
-  structs_of,
-  units_of,
-}
+use Rattle.bl_names.specs.Named.{along, block_piece, inside_piece, named_field, named_program, named_struct, named_unit, none, opened, params_piece, role_piece}
+use Rattle.bl_names.specs.Named.{structs_of, units_of}
 use Rattle.bl_names.proofs.ItemLemmas.{inside_scopes}
 use Rattle.bl_names.proofs.PieceLemmas.{role_marks}
 use Rattle.bl_names.proofs.StillLemmas.{Still, after-append, still_all, still_type, still_value}
 use Rattle.bl_names_laws.specs.WellFormed.{all_names, fields_differ, names_of, parameters_differ}
 use Rattle.bl_names_laws.proofs.Along.{along_under}
 use Rattle.bl_names_laws.proofs.ApartProgram.{inside_moves}
-use Rattle.bl_names_laws.proofs.Fresh.{
-  Adds,
-  Differ,
-  Fresh,
-  adds,
-  differ_first,
-  differ_middle,
-  differ_skip,
-  fresh_first,
-  fresh_second,
-  none_differ,
-  program_fresh,
-}
+use Rattle.bl_names_laws.proofs.Fresh.{Adds, Differ, Fresh, adds, differ_first, differ_middle, differ_skip, fresh_first, fresh_second, none_differ}
+use Rattle.bl_names_laws.proofs.Fresh.{program_fresh}
 use Rattle.bl_names_laws.proofs.Moves.{Moving, moving_still, own_is}
 use Rattle.bl_names_laws.proofs.Tests.{both}
 

@@ -1,26 +1,5 @@
 -- Statements with positions in place of names have what the grammar wants, where they had it.
-use Rattle.std.proofs.Common.{
-  ◌≡◌,
-  ℕ,
-  ◌+◌,
-  Bool,
-  true,
-  ◌&&◌,
-  ◌||◌,
-  List,
-  [],
-  ◌∷◌,
-  ◌++◌,
-  map,
-  length,
-  refl,
-  sym,
-  ap,
-  subst,
-  ◌∙◌,
-  append-nil,
-  arith,
-}
+use Rattle.std.proofs.Common.{◌≡◌, ℕ, ◌+◌, Bool, true, ◌&&◌, ◌||◌, List, [], ◌∷◌, ◌++◌, map, length, refl, sym, ap, subst, ◌∙◌, append-nil, arith}
 use Rattle.std.specs.Prelude.{All, Option, Some, None, is_some, option_map, slice_get}
 use Rattle.std.specs.List.{list_all}
 use Rattle.std.proofs.lemmas.List.Elements.{All-head, All-tail}
@@ -44,56 +23,18 @@ use Rattle.bl_parse_tree.specs.declared.stmt.RawBranch.{RawBranch}
 use Rattle.bl_parse_tree.specs.declared.stmt.RawStmt.{RawStmt}
 use Rattle.bl_parse_tree.specs.declared.stmt.RawStmtKind.TheOpen.{RawStmtKind-F}
 use Rattle.bl_parse_tree.specs.declared.types.RawType.{RawType}
-use Rattle.bl_parse_tree.specs.Names.{
-  arm_stands,
-  branch_stands,
-  expr_named,
-  is_filled as has_member,
-  item_stands,
-  named,
-  optional,
-  param_named,
-  stmt_kind_stands,
-  stmt_layer_stands,
-  stmt_stands,
-  type_named,
-  unit_stands,
-}
+use Rattle.bl_parse_tree.specs.Names.{arm_stands, branch_stands, expr_named, is_filled as has_member, item_stands, named, optional, param_named}
+use Rattle.bl_parse_tree.specs.Names.{stmt_kind_stands, stmt_layer_stands, stmt_stands, type_named, unit_stands}
 use Rattle.bl_names_scopes.specs.Marks.{expr_marks, item_marks, type_marks}
 use Rattle.bl_names_scopes.specs.Scopes.{Scopes, after, file_scope}
-use Rattle.bl_names.specs.Named.{
-  Piece,
-  block_piece,
-  kind_piece,
-  made_of_all,
-  marks_of_all,
-  named_program,
-  named_unit,
-  named_var,
-  opened,
-  param_piece,
-  params_piece,
-  piece_of_arm,
-  piece_of_branch,
-  role_piece,
-  stmt_piece,
-  units_of,
-  vars_of_all,
-}
+use Rattle.bl_names.specs.Named.{Piece, block_piece, kind_piece, made_of_all, marks_of_all, named_program, named_unit, named_var, opened, param_piece}
+use Rattle.bl_names.specs.Named.{params_piece, piece_of_arm, piece_of_branch, role_piece, stmt_piece, units_of, vars_of_all}
 use Rattle.bl_names.specs.Naming.{named_expr, named_path, named_target, position}
 use Rattle.bl_names.proofs.PieceLemmas.{arm_is, branch_is, parts, stmt_is}
 use Rattle.bl_names.proofs.PlacedStmt.{Within, within_first, within_one, within_second}
 use Rattle.bl_names.proofs.RawStmtInduction.{Cases, induct, stmt}
 use Rattle.bl_names.proofs.StillLemmas.{still_expr, still_type}
-use Rattle.bl_names_laws.specs.Filled.{
-  arm_filled,
-  branch_filled,
-  declaration_filled,
-  is_filled,
-  is_told,
-  kind_filled,
-  layer_filled,
-}
+use Rattle.bl_names_laws.specs.Filled.{arm_filled, branch_filled, declaration_filled, is_filled, is_told, kind_filled, layer_filled}
 use Rattle.bl_names_laws.specs.inner.Filled.{arm_is_filled, branch_is_filled}
 use Rattle.bl_names_laws.specs.WellFormed.{body_filled}
 use Rattle.bl_names_laws.proofs.Along.{along_under, none_counted}

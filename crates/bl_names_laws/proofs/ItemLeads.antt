@@ -1,27 +1,5 @@
 -- The positions in structs, constants and units lead to what the uses in their places are bound to.
-use Rattle.std.proofs.Common.{
-  ◌≡◌,
-  ℕ,
-  suc,
-  ◌+◌,
-  List,
-  [],
-  ◌∷◌,
-  ◌++◌,
-  map,
-  length,
-  take,
-  Some,
-  None,
-  refl,
-  sym,
-  ap,
-  subst,
-  ◌∙◌,
-  append-nil,
-  append_assoc,
-  arith,
-}
+use Rattle.std.proofs.Common.{◌≡◌, ℕ, suc, ◌+◌, List, [], ◌∷◌, ◌++◌, map, length, take, Some, None, refl, sym, ap, subst, ◌∙◌, append-nil, append_assoc, arith}
 use Rattle.std.specs.Prelude.{option_and_then, option_map, if◌then◌else◌}
 use Rattle.std.proofs.Math.Seq.{take-append_seam}
 use Rattle.std.proofs.lemmas.List.{length-append}
@@ -45,44 +23,12 @@ use Rattle.bl_parse_tree.specs.declared.name.Name.{Name}
 use Rattle.bl_parse_tree.specs.declared.stmt.RawConstant.{RawConstant}
 use Rattle.bl_names_scopes.specs.declared.kind.Kind.TheVariants as kind
 use Rattle.bl_names_scopes.specs.declared.scopes.Counts.{Counts}
-use Rattle.bl_names_scopes.specs.Marks.{
-  Marks,
-  closes,
-  constant_marks,
-  declares,
-  expr_marks,
-  field_mark,
-  field_type_marks,
-  in_scope,
-  inside_unit,
-  item_marks,
-  kind_of_unit,
-  marks_of,
-  optional,
-  param_marks,
-  struct_marks,
-  type_marks,
-  unit_marks,
-}
+use Rattle.bl_names_scopes.specs.Marks.{Marks, closes, constant_marks, declares, expr_marks, field_mark, field_type_marks, in_scope, inside_unit, item_marks}
+use Rattle.bl_names_scopes.specs.Marks.{kind_of_unit, marks_of, optional, param_marks, struct_marks, type_marks, unit_marks}
 use Rattle.bl_names_scopes.specs.Rules.{Passes}
 use Rattle.bl_names_scopes.specs.Scopes.{Scopes, after, count_of, enter, file_scope}
-use Rattle.bl_names.specs.Named.{
-  along,
-  block_piece,
-  constants_in_unit,
-  constants_of,
-  named_constant,
-  named_field,
-  named_program,
-  named_struct,
-  named_unit,
-  opened,
-  param_piece,
-  params_piece,
-  role_piece,
-  structs_of,
-  units_of,
-}
+use Rattle.bl_names.specs.Named.{along, block_piece, constants_in_unit, constants_of, named_constant, named_field, named_program, named_struct, named_unit}
+use Rattle.bl_names.specs.Named.{opened, param_piece, params_piece, role_piece, structs_of, units_of}
 use Rattle.bl_names.specs.Naming.{named_type}
 use Rattle.bl_names.specs.Order.{kind_of_item}
 use Rattle.bl_names.proofs.BelowLemmas.{Below, constant_below, struct_below}
@@ -95,28 +41,9 @@ use Rattle.bl_names.proofs.PlacedItem.{struct_is, unit_holds}
 use Rattle.bl_names.proofs.PlacedStmt.{Within, closed_is, constant_is, within_first, within_one, within_second}
 use Rattle.bl_names.proofs.StillLemmas.{Still, after-append, still_all, still_optional, still_type, still_value}
 use Rattle.bl_names_laws.specs.Bound.{UsesAreBound, EachLeads, uses_of}
-use Rattle.bl_names_laws.specs.Referents.{
-  Referents,
-  field_leads,
-  item_leads,
-  items_lead,
-  leads_if,
-  stmt_leads,
-  struct_leads,
-  type_leads,
-  unit_at,
-  unit_leads,
-  var_leads,
-}
-use Rattle.bl_names_laws.proofs.Bindings.{
-  bindings,
-  bindings_append,
-  bindings_behind,
-  bindings_declared,
-  bindings_fields,
-  bindings_own,
-  each_bound,
-}
+use Rattle.bl_names_laws.specs.Referents.{Referents, field_leads, item_leads, items_lead, leads_if, stmt_leads, struct_leads, type_leads, unit_at, unit_leads}
+use Rattle.bl_names_laws.specs.Referents.{var_leads}
+use Rattle.bl_names_laws.proofs.Bindings.{bindings, bindings_append, bindings_behind, bindings_declared, bindings_fields, bindings_own, each_bound}
 use Rattle.bl_names_laws.proofs.ExprLeads.{joined_led, optional_led, type_led}
 use Rattle.bl_names_laws.proofs.Listed.{Listed, at_position, declare_listed}
 use Rattle.bl_names_laws.proofs.StmtLeads.{Good, Leading, constant_leading, every_block, good_all, good_then, lead_all, variable_leading}

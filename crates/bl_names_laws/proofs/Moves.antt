@@ -17,20 +17,8 @@ use Rattle.bl_parse_tree.specs.declared.stmt.RawStmtKind.TheOpen.{RawStmtKind-F}
 use Rattle.bl_parse_tree.specs.declared.types.RawType.{RawType}
 use Rattle.bl_names_scopes.specs.declared.kind.Kind.TheVariants as kind
 use Rattle.bl_names_scopes.specs.declared.kind.Wanted.TheVariants as wanted
-use Rattle.bl_names_scopes.specs.Marks.{
-  Marks,
-  argument_marks,
-  closes,
-  constant_marks,
-  declares,
-  expr_marks,
-  in_scope,
-  optional,
-  path_marks,
-  target_marks,
-  type_marks,
-  uses,
-}
+use Rattle.bl_names_scopes.specs.Marks.{Marks, argument_marks, closes, constant_marks, declares, expr_marks, in_scope, optional, path_marks, target_marks}
+use Rattle.bl_names_scopes.specs.Marks.{type_marks, uses}
 use Rattle.bl_names_scopes.specs.Scopes.{Scopes, after, scopes_outside}
 use Rattle.bl_names.specs.Named.{Piece, kind_piece, marks_of_all, named_var, none, opened, piece_of_arm, piece_of_branch, stmt_piece, vars_of_all}
 use Rattle.bl_names.proofs.PastLemmas.{enter-behind, none_more, sums}

@@ -20,43 +20,12 @@ use Rattle.bl_parse_tree.specs.declared.stmt.RawArm.{RawArm, fold-RawArm}
 use Rattle.bl_parse_tree.specs.declared.stmt.RawBranch.{RawBranch, fold-RawBranch}
 use Rattle.bl_parse_tree.specs.declared.stmt.RawStmt.{RawStmt}
 use Rattle.bl_parse_tree.specs.declared.stmt.RawStmtKind.TheOpen.{RawStmtKind-F}
-use Rattle.bl_parse_tree.specs.Names.{
-  arm_stands,
-  branch_stands,
-  expr_named,
-  field_named,
-  is_filled,
-  item_stands,
-  named,
-  optional,
-  param_named,
-  stmt_kind_stands,
-  stmt_layer_stands,
-  stmt_stands,
-  type_named,
-  unit_stands,
-}
+use Rattle.bl_parse_tree.specs.Names.{arm_stands, branch_stands, expr_named, field_named, is_filled, item_stands, named, optional, param_named}
+use Rattle.bl_parse_tree.specs.Names.{stmt_kind_stands, stmt_layer_stands, stmt_stands, type_named, unit_stands}
 use Rattle.bl_names_scopes.specs.Marks.{expr_marks, param_marks}
 use Rattle.bl_names_scopes.specs.Scopes.{Scopes, after, file_scope}
-use Rattle.bl_names.specs.Named.{
-  Piece,
-  block_piece,
-  kind_piece,
-  marks_of_all,
-  named_field,
-  named_program,
-  named_struct,
-  named_unit,
-  opened,
-  params_piece,
-  piece_of_arm,
-  piece_of_branch,
-  role_piece,
-  stmt_piece,
-  structs_of,
-  units_of,
-  vars_of_all,
-}
+use Rattle.bl_names.specs.Named.{Piece, block_piece, kind_piece, marks_of_all, named_field, named_program, named_struct, named_unit, opened, params_piece}
+use Rattle.bl_names.specs.Named.{piece_of_arm, piece_of_branch, role_piece, stmt_piece, structs_of, units_of, vars_of_all}
 use Rattle.bl_names.proofs.PieceLemmas.{arm_is, branch_is, parts, stmt_is}
 use Rattle.bl_names.proofs.RawStmtInduction.{Cases, induct, stmt}
 use Rattle.bl_names_laws.specs.WellFormed.{all_names, fields_named, has_name, variables_named}

@@ -18,20 +18,8 @@ use Rattle.bl_parse_tree.specs.declared.stmt.RawStmtKind.TheOpen.{RawStmtKind-F}
 use Rattle.bl_parse_tree.specs.Depths as raw
 use Rattle.bl_names_scopes.specs.Marks.{expr_marks}
 use Rattle.bl_names_scopes.specs.Scopes.{Scopes, after, file_scope}
-use Rattle.bl_names.specs.Named.{
-  Piece,
-  kind_piece,
-  made_of_all,
-  marks_of_all,
-  named_program,
-  named_unit,
-  opened,
-  params_piece,
-  piece_of_arm,
-  piece_of_branch,
-  stmt_piece,
-  units_of,
-}
+use Rattle.bl_names.specs.Named.{Piece, kind_piece, made_of_all, marks_of_all, named_program, named_unit, opened, params_piece, piece_of_arm, piece_of_branch}
+use Rattle.bl_names.specs.Named.{stmt_piece, units_of}
 use Rattle.bl_names.specs.Naming.{named_expr, named_path, named_target, position}
 use Rattle.bl_names.proofs.PieceLemmas.{arm_is, branch_is, parts, stmt_is}
 use Rattle.bl_names.proofs.RawStmtInduction.{Cases, induct, stmt}

@@ -25,37 +25,11 @@ use Rattle.bl_parse_tree.specs.declared.stmt.RawStmtKind.TheOpen.{RawStmtKind-F}
 use Rattle.bl_parse_tree.specs.declared.types.RawType.{RawType}
 use Rattle.bl_names_scopes.specs.declared.kind.Kind.TheVariants as kind
 use Rattle.bl_names_scopes.specs.declared.kind.Wanted.TheVariants as wanted
-use Rattle.bl_names_scopes.specs.Marks.{
-  Marks,
-  argument_marks,
-  closes,
-  constant_marks,
-  declared_after,
-  declares,
-  expr_marks,
-  in_scope,
-  optional,
-  path_marks,
-  target_marks,
-  type_marks,
-  uses,
-}
+use Rattle.bl_names_scopes.specs.Marks.{Marks, argument_marks, closes, constant_marks, declared_after, declares, expr_marks, in_scope, optional, path_marks}
+use Rattle.bl_names_scopes.specs.Marks.{target_marks, type_marks, uses}
 use Rattle.bl_names_scopes.specs.Scopes.{Scopes, after}
-use Rattle.bl_names.specs.Named.{
-  Piece,
-  all,
-  kind_piece,
-  made_of_all,
-  marks_of_all,
-  named_constant,
-  named_var,
-  opened,
-  own_scope,
-  piece_of_arm,
-  piece_of_branch,
-  plain,
-  stmt_piece,
-}
+use Rattle.bl_names.specs.Named.{Piece, all, kind_piece, made_of_all, marks_of_all, named_constant, named_var, opened, own_scope, piece_of_arm, piece_of_branch}
+use Rattle.bl_names.specs.Named.{plain, stmt_piece}
 use Rattle.bl_names.specs.Naming.{named_expr, named_path, named_target, named_type, position}
 use Rattle.bl_names.proofs.FitLemmas.{Fits, fits_behind, fits_first, fits_second}
 use Rattle.bl_names.proofs.PastLemmas.{enter-behind, more, none_more}
@@ -63,33 +37,10 @@ use Rattle.bl_names.proofs.PieceLemmas.{arm_is, branch_is, parts, stmt_is}
 use Rattle.bl_names.proofs.PlacedExpr.{variable_read}
 use Rattle.bl_names.proofs.PlacedStmt.{Within, closed_is, within_first, within_one, within_second}
 use Rattle.bl_names.proofs.RawStmtInduction.{Cases, induct, stmt}
-use Rattle.bl_names.proofs.StillLemmas.{
-  Still,
-  after-append,
-  still_append,
-  still_arguments,
-  still_expr,
-  still_optional,
-  still_target,
-  still_type,
-  still_use,
-  still_value,
-}
-use Rattle.bl_names_laws.specs.Referents.{
-  Referents,
-  arm_layer_leads,
-  branch_layer_leads,
-  constant_leads,
-  expr_leads,
-  leads_if,
-  path_leads,
-  stmt_kind_leads,
-  stmt_layer_leads,
-  stmt_leads,
-  target_leads,
-  type_leads,
-  var_leads,
-}
+use Rattle.bl_names.proofs.StillLemmas.{Still, after-append, still_append, still_arguments, still_expr, still_optional, still_target, still_type, still_use}
+use Rattle.bl_names.proofs.StillLemmas.{still_value}
+use Rattle.bl_names_laws.specs.Referents.{Referents, arm_layer_leads, branch_layer_leads, constant_leads, expr_leads, leads_if, path_leads, stmt_kind_leads}
+use Rattle.bl_names_laws.specs.Referents.{stmt_layer_leads, stmt_leads, target_leads, type_leads, var_leads}
 use Rattle.bl_names_laws.specs.inner.Leads.{leads_of_arm, leads_of_branch}
 use Rattle.bl_names_laws.proofs.Bindings.{bindings, bindings_append, bindings_behind, bindings_declared, bindings_own}
 use Rattle.bl_names_laws.proofs.ExprLeads.{activity_leads, arguments_led, expr_led, function_leads, optional_led, path_led, target_led, type_led}

@@ -29,46 +29,15 @@ use Rattle.bl_names_scopes.specs.declared.kind.Wanted.TheVariants as wanted
 use Rattle.bl_names_scopes.specs.declared.scopes.Counts.{Counts}
 use Rattle.bl_names_scopes.specs.Marks.{Mark, Marks, argument_marks, closes, constant_marks, declares, expr_marks, in_scope, item_marks, kind_of_unit, marks_of, opens, optional, path_marks, struct_marks, target_marks, type_marks, unit_marks, uses}
 use Rattle.bl_names_scopes.specs.Scopes.{Declared, Scopes, after, enter, scopes_outside}
-use Rattle.bl_names.specs.Named.{
-  Piece,
-  along,
-  block_piece,
-  constants_in_unit,
-  constants_of,
-  constants_of_all,
-  inside_piece,
-  kind_piece,
-  marks_of_all,
-  named_constant,
-  named_struct,
-  named_unit,
-  none,
-  opened,
-  param_piece,
-  params_piece,
-  piece_of_arm,
-  piece_of_branch,
-  role_piece,
-  stmt_piece,
-  structs_of,
-  units_of,
-}
+use Rattle.bl_names.specs.Named.{Piece, along, block_piece, constants_in_unit, constants_of, constants_of_all, inside_piece, kind_piece, marks_of_all}
+use Rattle.bl_names.specs.Named.{named_constant, named_struct, named_unit, none, opened, param_piece, params_piece, piece_of_arm, piece_of_branch, role_piece}
+use Rattle.bl_names.specs.Named.{stmt_piece, structs_of, units_of}
 use Rattle.bl_names.proofs.ItemLemmas.{struct_scopes, unit_scopes}
 use Rattle.bl_names.proofs.PastLemmas.{enter-behind, more, none_more, sums}
 use Rattle.bl_names.proofs.PieceLemmas.{arm_is, branch_is, parts, stmt_is}
 use Rattle.bl_names.proofs.RawStmtInduction.{Cases, induct, stmt}
-use Rattle.bl_names.proofs.StillLemmas.{
-  Still,
-  after-append,
-  still_append,
-  still_arguments,
-  still_expr,
-  still_optional,
-  still_target,
-  still_type,
-  still_use,
-  still_value,
-}
+use Rattle.bl_names.proofs.StillLemmas.{Still, after-append, still_append, still_arguments, still_expr, still_optional, still_target, still_type, still_use}
+use Rattle.bl_names.proofs.StillLemmas.{still_value}
 use Rattle.bl_names_laws_files.specs.Globals.{declared_constants, declares_constant}
 use Rattle.bl_names_laws_files.specs.Laws.{ItemsAreCounted}
 

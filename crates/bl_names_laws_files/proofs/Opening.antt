@@ -1,22 +1,5 @@
 -- Headings that declare the names of items open a scope that corresponds to that behind the items.
-use Rattle.std.proofs.Common.{
-  ◌≡◌,
-  ℕ,
-  ◌+◌,
-  List,
-  [],
-  ◌∷◌,
-  ◌++◌,
-  length,
-  map,
-  refl,
-  sym,
-  ap,
-  ap₂,
-  subst,
-  ◌∙◌,
-  arith,
-}
+use Rattle.std.proofs.Common.{◌≡◌, ℕ, ◌+◌, List, [], ◌∷◌, ◌++◌, length, map, refl, sym, ap, ap₂, subst, ◌∙◌, arith}
 use Rattle.std.proofs.lemmas.List.{map-append}
 use Rattle.std.specs.Prelude.{Option, Some, None}
 use Rattle.bl_tree.specs.declared.place.Place.{Place}
@@ -38,26 +21,10 @@ use Rattle.bl_names_scopes_laws_places.proofs.Agreeing.{SameFound, found_agrees}
 use Rattle.bl_parse_tree.specs.declared.item.RawItem.{RawItem}
 use Rattle.bl_parse_tree.specs.declared.item.RawItem.TheVariants as item
 use Rattle.bl_parse_tree.specs.declared.name.Name.{Name}
-use Rattle.bl_names_laws_files.specs.Globals.{
-  DeclareItems,
-  declared_constants,
-  headings_of,
-  item_heading,
-  name_and_kind,
-  own_position,
-  renumber,
-  renumber_behind,
-}
+use Rattle.bl_names_laws_files.specs.Globals.{DeclareItems, declared_constants, headings_of, item_heading, name_and_kind, own_position, renumber}
+use Rattle.bl_names_laws_files.specs.Globals.{renumber_behind}
 use Rattle.bl_names_laws_files.specs.Laws.{BlanksAreCounted, DeclaredInTurn, DeclaredPlaced, HeadingsOpen}
-use Rattle.bl_names_laws_files.proofs.Counting.{
-  behind_inside,
-  constant_behind,
-  constants_behind,
-  from_none,
-  inside_moves,
-  struct_behind,
-  unit_behind,
-}
+use Rattle.bl_names_laws_files.proofs.Counting.{behind_inside, constant_behind, constants_behind, from_none, inside_moves, struct_behind, unit_behind}
 use Rattle.bl_names_laws_files.proofs.Positions.{constants_entered, declares_first, renumber_next}
 
 -- ---- what headings declare

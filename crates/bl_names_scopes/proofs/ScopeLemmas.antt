@@ -1,25 +1,5 @@
 -- Scopes as maps and as lists of maps.
-use Rattle.std.proofs.Common.{
-  ◌≡◌,
-  ℕ,
-  ◌+◌,
-  ◌<◌,
-  cond,
-  List,
-  [],
-  ◌∷◌,
-  ◌++◌,
-  reverse,
-  take,
-  length,
-  get_or,
-  Some,
-  None,
-  refl,
-  ap,
-  ◌∙◌,
-  add-one,
-}
+use Rattle.std.proofs.Common.{◌≡◌, ℕ, ◌+◌, ◌<◌, cond, List, [], ◌∷◌, ◌++◌, reverse, take, length, get_or, Some, None, refl, ap, ◌∙◌, add-one}
 use Rattle.std.specs.Prelude.{bytes_eq}
 use Rattle.std.specs.Borrow.{Bor}
 use Rattle.std.specs.Map.{lookup}

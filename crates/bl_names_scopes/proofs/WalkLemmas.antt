@@ -1,24 +1,5 @@
 -- What a judge remembers after one part and then another.
-use Rattle.std.proofs.Common.{
-  ◌≡◌,
-  ℕ,
-  ◌+◌,
-  suc,
-  ◌<◌,
-  List,
-  [],
-  ◌∷◌,
-  ◌++◌,
-  map,
-  drop,
-  length,
-  get_or,
-  refl,
-  sym,
-  ap,
-  ◌∙◌,
-  add-one,
-}
+use Rattle.std.proofs.Common.{◌≡◌, ℕ, ◌+◌, suc, ◌<◌, List, [], ◌∷◌, ◌++◌, map, drop, length, get_or, refl, sym, ap, ◌∙◌, add-one}
 use Rattle.std.proofs.Math.Seq.{drop-cons}
 use Rattle.std.specs.Prelude.{Result, Ok, Err, OnOk}
 use Rattle.bl_tree.specs.declared.scalar.Op.{Op}
@@ -40,24 +21,9 @@ use Rattle.bl_names_scopes.specs.declared.kind.Wanted.{Wanted}
 use Rattle.bl_names_scopes.specs.declared.kind.Wanted.TheVariants as wanted
 use Rattle.bl_names_scopes.specs.declared.judge.Judge.{Judge}
 use Rattle.bl_names_scopes.specs.inner.Judged.{judged, judged_by}
-use Rattle.bl_names_scopes.specs.Marks.{
-  Marks,
-  arm_layer_marks,
-  branch_layer_marks,
-  expr_layer_marks,
-  expr_marks,
-  in_scope,
-  kind_marks,
-  marks_of_arm,
-  marks_of_branch,
-  marks_of_part,
-  part_marks,
-  stmt_kind_marks,
-  stmt_layer_marks,
-  stmt_marks,
-  target_layer_marks,
-  target_marks,
-}
+use Rattle.bl_names_scopes.specs.Marks.{Marks, arm_layer_marks, branch_layer_marks, expr_layer_marks, expr_marks, in_scope, kind_marks, marks_of_arm}
+use Rattle.bl_names_scopes.specs.Marks.{marks_of_branch, marks_of_part, part_marks, stmt_kind_marks, stmt_layer_marks, stmt_marks, target_layer_marks}
+use Rattle.bl_names_scopes.specs.Marks.{target_marks}
 
 pub judged-append : (judge : Judge) (first second : Marks) → judged_by judge (first ++ second) ≡ judged_by (judged_by judge first) second
 judged-append judge [] second = refl

@@ -1,29 +1,5 @@
 -- Chains of operators: what goes on with an expression whose operators bind as tightly as a level.
-use Rattle.std.proofs.Common.{
-  ◌≡◌,
-  ℕ,
-  zero,
-  suc,
-  ◌+◌,
-  ◌<◌,
-  ◌≤◌,
-  min,
-  Bool,
-  true,
-  false,
-  cond,
-  ◌||◌,
-  List,
-  [],
-  ◌∷◌,
-  ◌++◌,
-  refl,
-  ap,
-  sym,
-  ◌∙◌,
-  subst,
-  arith,
-}
+use Rattle.std.proofs.Common.{◌≡◌, ℕ, zero, suc, ◌+◌, ◌<◌, ◌≤◌, min, Bool, true, false, cond, ◌||◌, List, [], ◌∷◌, ◌++◌, refl, ap, sym, ◌∙◌, subst, arith}
 use Rattle.std.specs.Prelude.{Some, nat_le, nat_lt, nat_eq}
 use Rattle.std.proofs.lemmas.Bool.{le-leb, leb-true, eqb-true, eqb-false, eq-eqb, ltb-true, ltb-false}
 use Rattle.std.proofs.Math.Nat.{min-le_left, min-le_right, le-min}
@@ -33,48 +9,13 @@ use Rattle.bl_tree.specs.declared.token.TokenKind.{TokenKind}
 use Rattle.bl_tree.specs.declared.token.TokenKind.TheVariants.{Name, Number, Word, Sign}
 use Rattle.bl_grammar.specs.declared.symbol.Symbol.TheVariants.{Terminal}
 use Rattle.bl_lex.specs.declared.word.TheConstants.{OR, AND}
-use Rattle.bl_lex.specs.declared.sign.TheConstants.{
-  EQUAL,
-  NOT_EQUAL,
-  LESS,
-  LESS_OR_EQUAL,
-  GREATER,
-  GREATER_OR_EQUAL,
-  BAR,
-  CARET,
-  AMPERSAND,
-  SHIFT_LEFT,
-  SHIFT_RIGHT,
-  PLUS,
-  MINUS,
-  STAR,
-  SLASH,
-  PERCENT,
-}
+use Rattle.bl_lex.specs.declared.sign.TheConstants.{EQUAL, NOT_EQUAL, LESS, LESS_OR_EQUAL, GREATER, GREATER_OR_EQUAL, BAR, CARET, AMPERSAND, SHIFT_LEFT}
+use Rattle.bl_lex.specs.declared.sign.TheConstants.{SHIFT_RIGHT, PLUS, MINUS, STAR, SLASH, PERCENT}
 use Rattle.bl_parse_syntax.specs.declared.grammar.Class.{Class}
 use Rattle.bl_parse_syntax.specs.declared.grammar.Class.TheVariants.{Keyword, Mark}
 use Rattle.bl_parse_syntax.specs.declared.grammar.Part.{Part}
-use Rattle.bl_parse_syntax.specs.declared.grammar.Part.TheVariants.{
-  Expr,
-  And,
-  Comparison,
-  BitOr,
-  BitXor,
-  BitAnd,
-  Shift,
-  Sum,
-  Product,
-  Cast,
-  ExprRest,
-  AndRest,
-  ComparisonRest,
-  BitOrRest,
-  BitXorRest,
-  BitAndRest,
-  ShiftRest,
-  SumRest,
-  ProductRest,
-}
+use Rattle.bl_parse_syntax.specs.declared.grammar.Part.TheVariants.{Expr, And, Comparison, BitOr, BitXor, BitAnd, Shift, Sum, Product, Cast, ExprRest, AndRest}
+use Rattle.bl_parse_syntax.specs.declared.grammar.Part.TheVariants.{ComparisonRest, BitOrRest, BitXorRest, BitAndRest, ShiftRest, SumRest, ProductRest}
 use Rattle.bl_parse_syntax.specs.Grammar.{Piece, the, class_of, same_class, productions}
 use Rattle.bl_parse_syntax.specs.Tables.{has, has_empty, starts_within}
 use Rattle.bl_parse_syntax.proofs.Right.{same_is}

@@ -1,27 +1,5 @@
 -- Which production of a part is left, where others are ruled out.
-use Rattle.std.proofs.Common.{
-  ◌≡◌,
-  ℕ,
-  Bool,
-  true,
-  false,
-  cond,
-  ◌||◌,
-  ◌&&◌,
-  ◌≤◌,
-  ◌⊎◌,
-  inl,
-  inr,
-  ⊎_elim,
-  List,
-  [],
-  ◌∷◌,
-  refl,
-  ap,
-  sym,
-  ◌∙◌,
-  subst,
-}
+use Rattle.std.proofs.Common.{◌≡◌, ℕ, Bool, true, false, cond, ◌||◌, ◌&&◌, ◌≤◌, ◌⊎◌, inl, inr, ⊎_elim, List, [], ◌∷◌, refl, ap, sym, ◌∙◌, subst}
 use Rattle.std.specs.Prelude.{Option, Some, None, IsNone, nat_eq, nat_le}
 use Rattle.bl_tree.specs.declared.scalar.Scalar.{Scalar as ScalarType}
 use Rattle.bl_tree.specs.declared.token.Token.{Token}
@@ -33,28 +11,8 @@ use Rattle.bl_lex.specs.declared.sign.TheConstants.{OPEN_BRACKET, CLOSE_BRACKET,
 use Rattle.bl_parse_syntax.specs.declared.grammar.Class.{Class}
 use Rattle.bl_parse_syntax.specs.declared.grammar.Class.TheVariants.{AnyNumber, Keyword, Mark}
 use Rattle.bl_parse_syntax.specs.declared.grammar.Part.{Part}
-use Rattle.bl_parse_syntax.specs.declared.grammar.Part.TheVariants.{
-  Item,
-  Unit,
-  PlainUnit,
-  UnitTail,
-  Scalar,
-  Guard,
-  RunTail,
-  RunTarget,
-  CallTail,
-  PathRest,
-  Unary,
-  Primary,
-  Access,
-  AssignTail,
-  VarTail,
-  Expr,
-  AfterName,
-  Length,
-  Block,
-  Stmt,
-}
+use Rattle.bl_parse_syntax.specs.declared.grammar.Part.TheVariants.{Item, Unit, PlainUnit, UnitTail, Scalar, Guard, RunTail, RunTarget, CallTail, PathRest}
+use Rattle.bl_parse_syntax.specs.declared.grammar.Part.TheVariants.{Unary, Primary, Access, AssignTail, VarTail, Expr, AfterName, Length, Block, Stmt}
 use Rattle.bl_parse_syntax.specs.Grammar.{Piece, the, name, word, sign, class_of, same_class, productions}
 use Rattle.bl_parse_syntax.specs.Follow.{statement_starts}
 use Rattle.bl_parse_syntax.specs.declared.grammar.TokenView.{TokenView}

@@ -1,29 +1,6 @@
 -- Which token a kind is, from the tests that code makes of it, and what was read of a name.
-use Rattle.std.proofs.Common.{
-  ◌≡◌,
-  ℕ,
-  ◌<◌,
-  Bool,
-  true,
-  false,
-  not,
-  ◌&&◌,
-  ◌||◌,
-  ◌⊎◌,
-  inl,
-  inr,
-  ⊎_elim,
-  List,
-  [],
-  ◌∷◌,
-  slice_range,
-  refl,
-  ap,
-  sym,
-  ◌∙◌,
-  arith,
-  lit≤,
-}
+use Rattle.std.proofs.Common.{◌≡◌, ℕ, ◌<◌, Bool, true, false, not, ◌&&◌, ◌||◌, ◌⊎◌, inl, inr, ⊎_elim, List, [], ◌∷◌, slice_range, refl, ap, sym, ◌∙◌, arith}
+use Rattle.std.proofs.Common.{lit≤}
 use Rattle.std.specs.Prelude.{nat_le}
 use Rattle.std.specs.List.{list_all}
 use Rattle.std.specs.Char.{is_ascii_digit}

@@ -7,50 +7,13 @@ use Rattle.bl_tree.specs.declared.scalar.Width.TheVariants.{W8, W16, W32, W64}
 use Rattle.bl_tree.specs.declared.token.Token.{Token}
 use Rattle.bl_tree.specs.declared.token.TokenKind.{TokenKind}
 use Rattle.bl_tree.specs.declared.token.TokenKind.TheVariants.{Name, Number, Word, Sign}
-use Rattle.bl_lex.specs.declared.sign.TheConstants.{
-  EQUAL,
-  NOT_EQUAL,
-  LESS,
-  LESS_OR_EQUAL,
-  GREATER,
-  GREATER_OR_EQUAL,
-  PLUS,
-  MINUS,
-  STAR,
-  SLASH,
-  PERCENT,
-  AMPERSAND,
-  BAR,
-  CARET,
-  TILDE,
-  SHIFT_LEFT,
-  SHIFT_RIGHT,
-  OPEN_PAREN,
-}
+use Rattle.bl_lex.specs.declared.sign.TheConstants.{EQUAL, NOT_EQUAL, LESS, LESS_OR_EQUAL, GREATER, GREATER_OR_EQUAL, PLUS, MINUS, STAR, SLASH, PERCENT}
+use Rattle.bl_lex.specs.declared.sign.TheConstants.{AMPERSAND, BAR, CARET, TILDE, SHIFT_LEFT, SHIFT_RIGHT, OPEN_PAREN}
 use Rattle.bl_parse_syntax.specs.declared.grammar.Class.{Class}
 use Rattle.bl_parse_syntax.specs.declared.grammar.Class.TheVariants.{Keyword, Mark}
 use Rattle.bl_parse.specs.At.{Takes}
-use Rattle.bl_lex.specs.declared.word.TheConstants.{
-  AND,
-  OR,
-  NOT,
-  TRUE,
-  FALSE,
-  PREV,
-  BOOL,
-  INT8,
-  INT16,
-  INT32,
-  INT64,
-  NAT8,
-  NAT16,
-  NAT32,
-  NAT64,
-  BITS8,
-  BITS16,
-  BITS32,
-  BITS64,
-}
+use Rattle.bl_lex.specs.declared.word.TheConstants.{AND, OR, NOT, TRUE, FALSE, PREV, BOOL, INT8, INT16, INT32, INT64, NAT8, NAT16, NAT32, NAT64, BITS8, BITS16}
+use Rattle.bl_lex.specs.declared.word.TheConstants.{BITS32, BITS64}
 
 -- the level of a comparison
 abbrev pub comparing : ℕ

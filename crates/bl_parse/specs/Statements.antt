@@ -1,50 +1,12 @@
 -- How tokens spell a statement.
-use Rattle.std.specs.Prelude.{
-  ◌≡◌,
-  ℕ,
-  ◌+◌,
-  List,
-  [],
-  ◌∷◌,
-  ◌++◌,
-  Bool,
-  true,
-  false,
-  ◌&&◌,
-  ◌||◌,
-  nat_eq,
-  slice_get,
-  Option,
-  Some,
-  None,
-}
+use Rattle.std.specs.Prelude.{◌≡◌, ℕ, ◌+◌, List, [], ◌∷◌, ◌++◌, Bool, true, false, ◌&&◌, ◌||◌, nat_eq, slice_get, Option, Some, None}
 use Rattle.bl_tree.specs.declared.token.Token.{Token}
 use Rattle.bl_tree.specs.declared.token.TokenKind.{TokenKind}
 use Rattle.bl_tree.specs.declared.token.TokenKind.TheVariants.{Name as NameToken, Word, Sign}
 use Rattle.bl_tree.specs.declared.tree.Guard.{Guard}
 use Rattle.bl_lex.specs.declared.sign.TheConstants.{OPEN_PAREN, CLOSE_PAREN, COMMA, DOT, COLON, ASSIGN}
-use Rattle.bl_lex.specs.declared.word.TheConstants.{
-  VAR,
-  LET,
-  CONST,
-  AWAIT,
-  RUN,
-  COBEGIN,
-  WEAK,
-  WITH,
-  WHEN,
-  ABORT,
-  RESET,
-  REPEAT,
-  UNTIL,
-  WHILE,
-  IF,
-  THEN,
-  ELSEIF,
-  ELSE,
-  END,
-  RETURN,
-}
+use Rattle.bl_lex.specs.declared.word.TheConstants.{VAR, LET, CONST, AWAIT, RUN, COBEGIN, WEAK, WITH, WHEN, ABORT, RESET, REPEAT, UNTIL, WHILE, IF, THEN}
+use Rattle.bl_lex.specs.declared.word.TheConstants.{ELSEIF, ELSE, END, RETURN}
 use Rattle.bl_parse_tree.specs.declared.expr.RawExpr.{RawExpr}
 use Rattle.bl_parse_tree.specs.declared.expr.RawTarget.{RawTarget}
 use Rattle.bl_parse_tree.specs.declared.name.Name.{Name}

@@ -10,40 +10,14 @@ use Rattle.bl_tree.specs.declared.token.Token.{Token}
 use Rattle.bl_tree.specs.declared.token.TokenKind.{TokenKind}
 use Rattle.bl_tree.specs.declared.token.TokenKind.TheVariants.{Word, Sign}
 use Rattle.bl_lex.specs.declared.word.TheConstants.{OR, AS, INT8, INT16, INT32, INT64, NAT8, NAT16, NAT32, NAT64, BITS8, BITS16, BITS32, BITS64}
-use Rattle.bl_lex.specs.declared.sign.TheConstants.{
-  EQUAL,
-  NOT_EQUAL,
-  LESS,
-  LESS_OR_EQUAL,
-  GREATER,
-  GREATER_OR_EQUAL,
-  BAR,
-  CARET,
-  AMPERSAND,
-  SHIFT_LEFT,
-  SHIFT_RIGHT,
-  PLUS,
-  MINUS,
-  STAR,
-  SLASH,
-}
+use Rattle.bl_lex.specs.declared.sign.TheConstants.{EQUAL, NOT_EQUAL, LESS, LESS_OR_EQUAL, GREATER, GREATER_OR_EQUAL, BAR, CARET, AMPERSAND, SHIFT_LEFT}
+use Rattle.bl_lex.specs.declared.sign.TheConstants.{SHIFT_RIGHT, PLUS, MINUS, STAR, SLASH}
 use Rattle.bl_parse_syntax.specs.declared.grammar.Class.{Class}
 use Rattle.bl_parse_syntax.specs.declared.grammar.Class.TheVariants.{Keyword}
 use Rattle.bl_parse_syntax.specs.Grammar.{class_of, same_class}
 use Rattle.bl_parse_syntax.specs.Tables.{has}
-use Rattle.bl_parse_syntax.specs.Follow.{
-  after_expression,
-  after_both,
-  after_comparison,
-  after_bits,
-  after_xor,
-  after_and,
-  after_shift,
-  after_sum,
-  after_product,
-  after_cast,
-  after_unary,
-}
+use Rattle.bl_parse_syntax.specs.Follow.{after_expression, after_both, after_comparison, after_bits, after_xor, after_and, after_shift, after_sum}
+use Rattle.bl_parse_syntax.specs.Follow.{after_product, after_cast, after_unary}
 use Rattle.bl_parse_tree.specs.declared.expr.RawExpr.{RawExpr}
 use Rattle.bl_parse_tree.specs.declared.expr.RawExprKind as kind
 use Rattle.bl_parse.specs.At.{span, Takes}

@@ -1,52 +1,13 @@
 -- How the counts of rule Depth go on from token to token.
-use Rattle.std.proofs.Common.{
-  ◌≡◌,
-  ℕ,
-  zero,
-  suc,
-  ◌+◌,
-  ◌-◌,
-  ◌<◌,
-  ◌≤◌,
-  Bool,
-  true,
-  false,
-  cond,
-  not,
-  ◌&&◌,
-  ◌||◌,
-  List,
-  [],
-  ◌∷◌,
-  ◌++◌,
-  take,
-  refl,
-  ap,
-  sym,
-  ◌∙◌,
-  arith,
-  ◌⊎◌,
-  inl,
-  inr,
-}
+use Rattle.std.proofs.Common.{◌≡◌, ℕ, zero, suc, ◌+◌, ◌-◌, ◌<◌, ◌≤◌, Bool, true, false, cond, not, ◌&&◌, ◌||◌, List, [], ◌∷◌, ◌++◌, take, refl, ap, sym, ◌∙◌}
+use Rattle.std.proofs.Common.{arith, ◌⊎◌, inl, inr}
 use Rattle.std.specs.Prelude.{Option, Some, None, slice_get, option_map, nat_eq}
 use Rattle.bl_tree.specs.declared.token.Token.{Token}
 use Rattle.bl_tree.specs.declared.token.TokenKind.{TokenKind}
 use Rattle.bl_tree.specs.declared.token.TokenKind.TheVariants.{Name, Number, Word, Sign}
 use Rattle.bl_lex.specs.declared.sign.TheConstants.{ASSIGN, AT}
 use Rattle.bl_lex.specs.declared.word.TheConstants.{END}
-use Rattle.bl_parse_syntax.specs.Depth.{
-  is_one_of,
-  opening_words,
-  blocks_after,
-  is_counted,
-  is_last,
-  is_inner_word,
-  begins_run,
-  run_with,
-  open_after,
-  run_after,
-}
+use Rattle.bl_parse_syntax.specs.Depth.{is_one_of, opening_words, blocks_after, is_counted, is_last, is_inner_word, begins_run, run_with, open_after, run_after}
 use Rattle.bl_parse_syntax.specs.inner.Depth.{last_kind}
 use Rattle.bl_parse_syntax.specs.Rules.{PassesDepth}
 use Rattle.bl_parse_syntax.proofs.Depths.{open_next, last_next, run_next}

@@ -19,30 +19,10 @@ use Rattle.bl_parse_tree.specs.declared.types.RawType.{RawType}
 use Rattle.bl_parse.specs.At.{Takes}
 use Rattle.bl_parse.specs.Operators.{IsOperator, IsPrefix, IsScalar}
 use Rattle.bl_parse.specs.Expressions.{IsTruth, SpellsNone, SpellsExpr, SpellsTarget, SpellsPart, SpellsParts, SpellsInputs, SpellsExprs}
-use Rattle.bl_parse.specs.Programs.{
-  SpellsField,
-  SpellsFieldList,
-  SpellsStruct,
-  SpellsMark,
-  SpellsParam,
-  SpellsParamList,
-  SpellsParams,
-  SpellsOutputParams,
-  SpellsResult,
-}
-use Rattle.bl_parse.specs.Statements.{
-  SpellsTyping,
-  SpellsMaybeTyping,
-  SpellsValue,
-  SpellsInitial,
-  SpellsConstant,
-  SpellsFields,
-  SpellsPath,
-  SpellsPaths,
-  SpellsOutputs,
-  SpellsReceiver,
-  SpellsWeak,
-}
+use Rattle.bl_parse.specs.Programs.{SpellsField, SpellsFieldList, SpellsStruct, SpellsMark, SpellsParam, SpellsParamList, SpellsParams, SpellsOutputParams}
+use Rattle.bl_parse.specs.Programs.{SpellsResult}
+use Rattle.bl_parse.specs.Statements.{SpellsTyping, SpellsMaybeTyping, SpellsValue, SpellsInitial, SpellsConstant, SpellsFields, SpellsPath, SpellsPaths}
+use Rattle.bl_parse.specs.Statements.{SpellsOutputs, SpellsReceiver, SpellsWeak}
 use Rattle.bl_parse.specs.Types.{SpellsLength, SpellsType}
 use Rattle.bl_parse_laws.proofs.Counts.{open_at, is_level, level, opens, closes}
 

@@ -7,30 +7,9 @@ use Rattle.bl_tree.specs.declared.token.TokenKind.{TokenKind}
 use Rattle.bl_tree.specs.declared.token.TokenKind.TheVariants.{Word}
 use Rattle.bl_lex.specs.declared.word.TheConstants.{AS}
 use Rattle.bl_parse_syntax.specs.declared.grammar.Part.{Part}
-use Rattle.bl_parse_syntax.specs.declared.grammar.Part.TheVariants.{
-  Expr,
-  ExprRest,
-  And,
-  AndRest,
-  Comparison,
-  ComparisonRest,
-  BitOr,
-  BitOrRest,
-  BitXor,
-  BitXorRest,
-  BitAnd,
-  BitAndRest,
-  Shift,
-  ShiftRest,
-  Sum,
-  SumRest,
-  Product,
-  ProductRest,
-  Cast,
-  CastRest,
-  Unary,
-  Primary,
-}
+use Rattle.bl_parse_syntax.specs.declared.grammar.Part.TheVariants.{Expr, ExprRest, And, AndRest, Comparison, ComparisonRest, BitOr, BitOrRest, BitXor}
+use Rattle.bl_parse_syntax.specs.declared.grammar.Part.TheVariants.{BitXorRest, BitAnd, BitAndRest, Shift, ShiftRest, Sum, SumRest, Product, ProductRest, Cast}
+use Rattle.bl_parse_syntax.specs.declared.grammar.Part.TheVariants.{CastRest, Unary, Primary}
 use Rattle.bl_parse_syntax.specs.Grammar.{Piece, the}
 use Rattle.bl_parse_syntax.specs.Grammar.IsAmong.{here, later}
 use Rattle.bl_parse.specs.At.{Takes}

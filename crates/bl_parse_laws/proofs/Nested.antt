@@ -1,25 +1,5 @@
 -- Blocks nest within the limit of rule Depth in a tree that is spelled, and so do expressions.
-use Rattle.std.proofs.Common.{
-  ◌≡◌,
-  ℕ,
-  ◌+◌,
-  ◌-◌,
-  ◌≤◌,
-  Bool,
-  true,
-  List,
-  [],
-  ◌∷◌,
-  ◌++◌,
-  map,
-  max,
-  refl,
-  ap,
-  sym,
-  ◌∙◌,
-  subst,
-  arith,
-}
+use Rattle.std.proofs.Common.{◌≡◌, ℕ, ◌+◌, ◌-◌, ◌≤◌, Bool, true, List, [], ◌∷◌, ◌++◌, map, max, refl, ap, sym, ◌∙◌, subst, arith}
 use Rattle.std.specs.Prelude.{Option}
 use Rattle.std.specs.List.{list_all}
 use Rattle.std.proofs.lemmas.Bool.{le-leb}
@@ -45,40 +25,15 @@ use Rattle.bl_parse_tree.specs.declared.stmt.RawPath.{RawPath}
 use Rattle.bl_parse_tree.specs.declared.stmt.RawStmt.{RawStmt, fold-roll-RawStmt, roll-RawStmt}
 use Rattle.bl_parse_tree.specs.declared.stmt.RawStmtKind.{RawStmtKind, fold-RawStmtKind, fold-roll-RawStmtKind}
 use Rattle.bl_parse_tree.specs.declared.stmt.RawStmtKind as kind
-use Rattle.bl_parse_tree.specs.declared.stmt.RawStmtKind.TheVariants.{
-  rolls-Var,
-  rolls-Let,
-  rolls-Const,
-  rolls-Assign,
-  rolls-Call,
-  rolls-Await,
-  rolls-Run,
-  rolls-If,
-  rolls-Cobegin,
-  rolls-When,
-  rolls-Repeat,
-  rolls-Until,
-  rolls-While,
-  rolls-Return,
-}
+use Rattle.bl_parse_tree.specs.declared.stmt.RawStmtKind.TheVariants.{rolls-Var, rolls-Let, rolls-Const, rolls-Assign, rolls-Call, rolls-Await, rolls-Run}
+use Rattle.bl_parse_tree.specs.declared.stmt.RawStmtKind.TheVariants.{rolls-If, rolls-Cobegin, rolls-When, rolls-Repeat, rolls-Until, rolls-While, rolls-Return}
 use Rattle.bl_parse_tree.specs.declared.types.RawType.{RawType}
 use Rattle.bl_parse_tree.specs.Depths.{expr_depth, target_depth, optional_depth, stmt_kind_depth, arm_depth, branch_depth, stmt_layer_depth, depth_of, item_shallow}
 use Rattle.bl_parse.specs.At.{Takes}
 use Rattle.bl_parse.specs.Expressions.{SpellsExpr, SpellsTarget, SpellsInputs}
 use Rattle.bl_parse.specs.Programs.{IsUnit, SpellsItem, SpellsItems, SpellsUnit, Spells}
-use Rattle.bl_parse.specs.Statements.{
-  IsGuard,
-  SpellsInitial,
-  SpellsConstant,
-  SpellsStmt,
-  SpellsKind,
-  SpellsBlock,
-  SpellsArm,
-  SpellsArms,
-  SpellsElse,
-  SpellsBranch,
-  SpellsBranches,
-}
+use Rattle.bl_parse.specs.Statements.{IsGuard, SpellsInitial, SpellsConstant, SpellsStmt, SpellsKind, SpellsBlock, SpellsArm, SpellsArms, SpellsElse}
+use Rattle.bl_parse.specs.Statements.{SpellsBranch, SpellsBranches}
 use Rattle.bl_parse_laws.proofs.Counts.{open_at, is_level, is_opening, level, opens, closes, from_nothing, Limits, limits}
 use Rattle.bl_parse_laws.proofs.Level as flat
 use Rattle.bl_parse_laws.proofs.Members.{mapped_more, greatest_more}

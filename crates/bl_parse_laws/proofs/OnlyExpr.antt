@@ -21,52 +21,13 @@ use Rattle.bl_parse_tree.specs.declared.expr.RawTarget.{RawTarget}
 use Rattle.bl_parse_tree.specs.declared.name.Name.{Name}
 use Rattle.bl_parse.specs.At.{kind_at, span, Takes, SpellsName}
 use Rattle.bl_parse.specs.Operators.{IsPrefix, SpellsPrefix}
-use Rattle.bl_parse.specs.Expressions.{
-  expr,
-  target,
-  is_number,
-  IsTruth,
-  SpellsTruth,
-  SpellsNone,
-  SpellsExpr,
-  SpellsTarget,
-  SpellsPart,
-  SpellsParts,
-  SpellsInputs,
-  SpellsExprs,
-}
+use Rattle.bl_parse.specs.Expressions.{expr, target, is_number, IsTruth, SpellsTruth, SpellsNone, SpellsExpr, SpellsTarget, SpellsPart, SpellsParts}
+use Rattle.bl_parse.specs.Expressions.{SpellsInputs, SpellsExprs}
 use Rattle.bl_parse.specs.inner.Reading.{NoneNext}
 use Rattle.bl_parse_laws.proofs.Levels.{room_left}
-use Rattle.bl_parse_laws.proofs.Only.{
-  One,
-  Elem,
-  Row,
-  Lined,
-  Linked,
-  Begin,
-  Begun,
-  meets,
-  meets_free,
-  one_name,
-  begun,
-  begun_within,
-  begun_stops,
-  same_kind,
-  next_same,
-  clash,
-  token_none,
-  among_none,
-  stops,
-  fewer,
-  add_row,
-  line_one,
-  line_more,
-  rows_same,
-  lines_same,
-  follows_plain,
-  linked,
-  linked_begin,
-}
+use Rattle.bl_parse_laws.proofs.Only.{One, Elem, Row, Lined, Linked, Begin, Begun, meets, meets_free, one_name, begun, begun_within, begun_stops, same_kind}
+use Rattle.bl_parse_laws.proofs.Only.{next_same, clash, token_none, among_none, stops, fewer, add_row, line_one, line_more, rows_same, lines_same}
+use Rattle.bl_parse_laws.proofs.Only.{follows_plain, linked, linked_begin}
 use Rattle.bl_parse_laws.proofs.Chains.{OneExpr, Closed, two_closed, cast_closed, unary_closed}
 
 -- two tokens that can't be one

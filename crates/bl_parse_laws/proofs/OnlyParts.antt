@@ -25,46 +25,10 @@ use Rattle.bl_parse.specs.Expressions.{SpellsInputs}
 use Rattle.bl_parse.specs.Operators.{IsScalar, SpellsScalar, scalar_classes}
 use Rattle.bl_parse.specs.inner.Reading.{NoneNext}
 use Rattle.bl_parse.specs.Types.{SpellsLength, SpellsType}
-use Rattle.bl_parse.specs.Statements.{
-  SpellsTyping,
-  SpellsMaybeTyping,
-  SpellsValue,
-  SpellsInitial,
-  SpellsConstant,
-  SpellsFields,
-  SpellsPath,
-  SpellsPaths,
-  SpellsOutputs,
-  SpellsReceiver,
-  IsGuard,
-  SpellsGuard,
-}
-use Rattle.bl_parse_laws.proofs.Only.{
-  One,
-  Elem,
-  Row,
-  Lined,
-  Linked,
-  Begun,
-  meets,
-  meets_free,
-  one_name,
-  begun,
-  same_kind,
-  next_same,
-  clash,
-  token_none,
-  stops,
-  fewer,
-  add_row,
-  line_one,
-  line_more,
-  rows_same,
-  lines_same,
-  follows_plain,
-  linked,
-  linked_begin,
-}
+use Rattle.bl_parse.specs.Statements.{SpellsTyping, SpellsMaybeTyping, SpellsValue, SpellsInitial, SpellsConstant, SpellsFields, SpellsPath, SpellsPaths}
+use Rattle.bl_parse.specs.Statements.{SpellsOutputs, SpellsReceiver, IsGuard, SpellsGuard}
+use Rattle.bl_parse_laws.proofs.Only.{One, Elem, Row, Lined, Linked, Begun, meets, meets_free, one_name, begun, same_kind, next_same, clash, token_none, stops}
+use Rattle.bl_parse_laws.proofs.Only.{fewer, add_row, line_one, line_more, rows_same, lines_same, follows_plain, linked, linked_begin}
 use Rattle.bl_parse_laws.proofs.Chains.{same_scalar}
 use Rattle.bl_parse_laws.proofs.OnlyExpr.{differ, begun_in, same_number, no_paren, only_inputs, only_expr}
 

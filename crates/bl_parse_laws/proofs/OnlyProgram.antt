@@ -23,53 +23,13 @@ use Rattle.bl_parse_tree.specs.declared.raw.Raw.{Raw}
 use Rattle.bl_parse_tree.specs.declared.stmt.RawStmt.{RawStmt}
 use Rattle.bl_parse_tree.specs.declared.types.RawType.{RawType}
 use Rattle.bl_parse.specs.At.{kind_at, Takes}
-use Rattle.bl_parse.specs.Programs.{
-  SpellsField,
-  SpellsFieldList,
-  SpellsStruct,
-  SpellsMark,
-  IsUnit,
-  SpellsUnitKind,
-  SpellsParam,
-  SpellsParamList,
-  SpellsParams,
-  SpellsOutputParams,
-  SpellsResult,
-  SpellsUnit,
-  SpellsItem,
-  SpellsItems,
-  Spells,
-}
+use Rattle.bl_parse.specs.Programs.{SpellsField, SpellsFieldList, SpellsStruct, SpellsMark, IsUnit, SpellsUnitKind, SpellsParam, SpellsParamList, SpellsParams}
+use Rattle.bl_parse.specs.Programs.{SpellsOutputParams, SpellsResult, SpellsUnit, SpellsItem, SpellsItems, Spells}
 use Rattle.bl_parse.specs.inner.Reading.{next_among, NoneNext}
 use Rattle.bl_parse.specs.Statements.{SpellsBlock, SpellsStmt}
-use Rattle.bl_parse_laws.proofs.Only.{
-  One,
-  Elem,
-  Row,
-  Lined,
-  Linked,
-  Begin,
-  Begun,
-  meets_free,
-  one_name,
-  begun,
-  begun_within,
-  same_kind,
-  next_same,
-  clash,
-  token_none,
-  among_none,
-  stops,
-  fewer,
-  add_row,
-  line_one,
-  line_more,
-  rows_same,
-  lines_same,
-  follows_plain,
-  linked,
-  linked_begin,
-}
+use Rattle.bl_parse_laws.proofs.Only.{One, Elem, Row, Lined, Linked, Begin, Begun, meets_free, one_name, begun, begun_within, same_kind, next_same, clash}
+use Rattle.bl_parse_laws.proofs.Only.{token_none, among_none, stops, fewer, add_row, line_one, line_more, rows_same, lines_same, follows_plain, linked}
+use Rattle.bl_parse_laws.proofs.Only.{linked_begin}
 use Rattle.bl_parse_laws.proofs.OnlyExpr.{differ, begun_in}
 use Rattle.bl_parse_laws.proofs.OnlyParts.{by1, by2, by3, by4, same_type, same_typing, same_constant}
 use Rattle.bl_parse_laws.proofs.OnlyStmt.{same_block, only_block, row_of_block, begun_stmt}

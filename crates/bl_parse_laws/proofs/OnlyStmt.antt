@@ -4,26 +4,8 @@ use Rattle.std.specs.Prelude.{Option, Some, None}
 use Rattle.bl_tree.specs.declared.token.Token.{Token}
 use Rattle.bl_tree.specs.declared.token.TokenKind.TheVariants.{Word}
 use Rattle.bl_tree.specs.declared.tree.Guard.{Guard as GuardKind}
-use Rattle.bl_lex.specs.declared.word.TheConstants.{
-  VAR,
-  LET,
-  CONST,
-  AWAIT,
-  RUN,
-  COBEGIN,
-  WEAK,
-  WITH,
-  WHEN,
-  REPEAT,
-  UNTIL,
-  WHILE,
-  IF,
-  THEN,
-  ELSEIF,
-  ELSE,
-  END,
-  RETURN,
-}
+use Rattle.bl_lex.specs.declared.word.TheConstants.{VAR, LET, CONST, AWAIT, RUN, COBEGIN, WEAK, WITH, WHEN, REPEAT, UNTIL, WHILE, IF, THEN, ELSEIF, ELSE, END}
+use Rattle.bl_lex.specs.declared.word.TheConstants.{RETURN}
 use Rattle.bl_parse_syntax.specs.declared.grammar.Class.{Class}
 use Rattle.bl_parse_syntax.specs.declared.grammar.Class.TheVariants.{AnyName, Keyword}
 use Rattle.bl_parse_syntax.specs.Follow.{after_expression, statement_starts, after_statement, after_block}
@@ -41,69 +23,14 @@ use Rattle.bl_parse_tree.specs.declared.types.RawType.{RawType}
 use Rattle.bl_parse.specs.At.{span, Takes, SpellsName}
 use Rattle.bl_parse.specs.Expressions.{SpellsExpr, SpellsTarget, SpellsInputs}
 use Rattle.bl_parse.specs.inner.Reading.{NoneNext}
-use Rattle.bl_parse.specs.Statements.{
-  SpellsTyping,
-  SpellsMaybeTyping,
-  SpellsValue,
-  SpellsInitial,
-  SpellsConstant,
-  SpellsOutputs,
-  SpellsReceiver,
-  takes_value,
-  SpellsGuard,
-  SpellsWeak,
-  SpellsStmt,
-  SpellsKind,
-  SpellsBlock,
-  SpellsArm,
-  SpellsArms,
-  SpellsElse,
-  SpellsBranch,
-  SpellsBranches,
-}
-use Rattle.bl_parse_laws.proofs.Only.{
-  One,
-  Elem,
-  Row,
-  Lined,
-  Linked,
-  Begin,
-  Begun,
-  meets,
-  meets_free,
-  one_name,
-  begun,
-  next_same,
-  clash,
-  token_none,
-  stops,
-  fewer,
-  add_row,
-  line_one,
-  line_more,
-  rows_same,
-  lines_same,
-  linked,
-  linked_begin,
-  begun_within,
-  follows_plain,
-}
+use Rattle.bl_parse.specs.Statements.{SpellsTyping, SpellsMaybeTyping, SpellsValue, SpellsInitial, SpellsConstant, SpellsOutputs, SpellsReceiver, takes_value}
+use Rattle.bl_parse.specs.Statements.{SpellsGuard, SpellsWeak, SpellsStmt, SpellsKind, SpellsBlock, SpellsArm, SpellsArms, SpellsElse, SpellsBranch}
+use Rattle.bl_parse.specs.Statements.{SpellsBranches}
+use Rattle.bl_parse_laws.proofs.Only.{One, Elem, Row, Lined, Linked, Begin, Begun, meets, meets_free, one_name, begun, next_same, clash, token_none, stops}
+use Rattle.bl_parse_laws.proofs.Only.{fewer, add_row, line_one, line_more, rows_same, lines_same, linked, linked_begin, begun_within, follows_plain}
 use Rattle.bl_parse_laws.proofs.OnlyExpr.{differ, begun_in, begun_target, not_call, only_target, only_inputs, only_expr}
-use Rattle.bl_parse_laws.proofs.OnlyParts.{
-  by1,
-  by2,
-  by3,
-  by4,
-  same_typing,
-  same_maybe,
-  same_value,
-  same_initial,
-  same_constant,
-  same_outputs,
-  same_start,
-  same_guard,
-  guard_stops,
-}
+use Rattle.bl_parse_laws.proofs.OnlyParts.{by1, by2, by3, by4, same_typing, same_maybe, same_value, same_initial, same_constant, same_outputs, same_start}
+use Rattle.bl_parse_laws.proofs.OnlyParts.{same_guard, guard_stops}
 
 -- ---- what a statement begins with
 

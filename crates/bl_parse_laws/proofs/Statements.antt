@@ -7,35 +7,9 @@ use Rattle.bl_tree.specs.declared.tree.Guard.{Guard as GuardKind}
 use Rattle.bl_grammar.specs.declared.symbol.Symbol.TheVariants.{Terminal}
 use Rattle.bl_lex.specs.declared.word.TheConstants.{COBEGIN, WITH, IF, THEN, ELSEIF, END}
 use Rattle.bl_lex.specs.declared.sign.TheConstants.{COLON, ASSIGN, COMMA, DOT}
-use Rattle.bl_parse_syntax.specs.declared.grammar.Part.TheVariants.{
-  Constant,
-  TypeMark,
-  Ty,
-  Block,
-  Stmt,
-  VarTail,
-  Initial,
-  AfterName,
-  CallTail,
-  AssignTail,
-  Access,
-  RunTail,
-  RunTarget,
-  Weak,
-  Branches,
-  Guard,
-  Until,
-  Elseifs,
-  Else,
-  Inputs,
-  Outputs,
-  SecondOutputs,
-  OutputList,
-  OutputRest,
-  Path,
-  PathRest,
-  Expr,
-}
+use Rattle.bl_parse_syntax.specs.declared.grammar.Part.TheVariants.{Constant, TypeMark, Ty, Block, Stmt, VarTail, Initial, AfterName, CallTail, AssignTail}
+use Rattle.bl_parse_syntax.specs.declared.grammar.Part.TheVariants.{Access, RunTail, RunTarget, Weak, Branches, Guard, Until, Elseifs, Else, Inputs, Outputs}
+use Rattle.bl_parse_syntax.specs.declared.grammar.Part.TheVariants.{SecondOutputs, OutputList, OutputRest, Path, PathRest, Expr}
 use Rattle.bl_parse_syntax.specs.Grammar.{Piece, the, name, word, sign, class_of, productions, IsAmong}
 use Rattle.bl_parse_syntax.specs.Grammar.IsAmong.{here, later}
 use Rattle.bl_parse_tree.specs.declared.expr.RawExpr.{RawExpr}
@@ -48,29 +22,9 @@ use Rattle.bl_parse_tree.specs.declared.stmt.RawStmt.{RawStmt}
 use Rattle.bl_parse_tree.specs.declared.stmt.RawStmtKind.{RawStmtKind}
 use Rattle.bl_parse_tree.specs.declared.types.RawType.{RawType}
 use Rattle.bl_parse.specs.At.{SpellsName}
-use Rattle.bl_parse.specs.Statements.{
-  SpellsTyping,
-  SpellsMaybeTyping,
-  SpellsValue,
-  SpellsInitial,
-  SpellsConstant,
-  SpellsFields,
-  SpellsPath,
-  SpellsPaths,
-  SpellsOutputs,
-  SpellsReceiver,
-  IsGuard,
-  SpellsGuard,
-  SpellsWeak,
-  SpellsStmt,
-  SpellsKind,
-  SpellsBlock,
-  SpellsArm,
-  SpellsArms,
-  SpellsElse,
-  SpellsBranch,
-  SpellsBranches,
-}
+use Rattle.bl_parse.specs.Statements.{SpellsTyping, SpellsMaybeTyping, SpellsValue, SpellsInitial, SpellsConstant, SpellsFields, SpellsPath, SpellsPaths}
+use Rattle.bl_parse.specs.Statements.{SpellsOutputs, SpellsReceiver, IsGuard, SpellsGuard, SpellsWeak, SpellsStmt, SpellsKind, SpellsBlock, SpellsArm}
+use Rattle.bl_parse.specs.Statements.{SpellsArms, SpellsElse, SpellsBranch, SpellsBranches}
 use Rattle.bl_parse_laws.proofs.Spans.{Spans, Chain, Listed, token, then, join, made, empty, from_there, add, repeated, listed_one, listed_more}
 use Rattle.bl_parse_laws.proofs.Returns.{bare, valued}
 use Rattle.bl_parse_laws.proofs.Types.{a_name, a_type}

@@ -1,83 +1,14 @@
 -- Rule Depth: how deep a text's tokens nest, over tokens alone.
-use Rattle.std.specs.Prelude.{
-  ℕ,
-  ◌+◌,
-  ◌-◌,
-  ◌<◌,
-  Bool,
-  true,
-  false,
-  cond,
-  not,
-  ◌||◌,
-  nat_eq,
-  List,
-  [],
-  ◌∷◌,
-  ◌⊎◌,
-  Option,
-  Some,
-  None,
-}
+use Rattle.std.specs.Prelude.{ℕ, ◌+◌, ◌-◌, ◌<◌, Bool, true, false, cond, not, ◌||◌, nat_eq, List, [], ◌∷◌, ◌⊎◌, Option, Some, None}
 use Rattle.std.specs.List.{list_any}
 use Rattle.bl_tree.specs.declared.token.Token.{Token}
 use Rattle.bl_tree.specs.declared.token.TokenKind.{TokenKind}
 use Rattle.bl_tree.specs.declared.token.TokenKind.TheVariants.{Name, Number, Word, Sign}
-use Rattle.bl_lex.specs.declared.word.TheConstants.{
-  FUNCTION,
-  ACTIVITY,
-  STRUCT,
-  IF,
-  COBEGIN,
-  WHEN,
-  REPEAT,
-  END,
-  AND,
-  OR,
-  NOT,
-  AS,
-  TRUE,
-  FALSE,
-  PREV,
-  BOOL,
-  INT8,
-  INT16,
-  INT32,
-  INT64,
-  NAT8,
-  NAT16,
-  NAT32,
-  NAT64,
-  BITS8,
-  BITS16,
-  BITS32,
-  BITS64,
-}
-use Rattle.bl_lex.specs.declared.sign.TheConstants.{
-  OPEN_PAREN,
-  CLOSE_PAREN,
-  OPEN_BRACKET,
-  CLOSE_BRACKET,
-  ASSIGN,
-  EQUAL,
-  NOT_EQUAL,
-  LESS,
-  LESS_OR_EQUAL,
-  GREATER,
-  GREATER_OR_EQUAL,
-  PLUS,
-  MINUS,
-  STAR,
-  SLASH,
-  PERCENT,
-  AMPERSAND,
-  BAR,
-  CARET,
-  TILDE,
-  SHIFT_LEFT,
-  SHIFT_RIGHT,
-  AT,
-}
+use Rattle.bl_lex.specs.declared.word.TheConstants.{FUNCTION, ACTIVITY, STRUCT, IF, COBEGIN, WHEN, REPEAT, END, AND, OR, NOT, AS, TRUE, FALSE, PREV, BOOL, INT8}
+use Rattle.bl_lex.specs.declared.word.TheConstants.{INT16, INT32, INT64, NAT8, NAT16, NAT32, NAT64, BITS8, BITS16, BITS32, BITS64}
+use Rattle.bl_lex.specs.declared.sign.TheConstants.{OPEN_PAREN, CLOSE_PAREN, OPEN_BRACKET, CLOSE_BRACKET, ASSIGN, EQUAL, NOT_EQUAL, LESS, LESS_OR_EQUAL}
+use Rattle.bl_lex.specs.declared.sign.TheConstants.{GREATER, GREATER_OR_EQUAL, PLUS, MINUS, STAR, SLASH, PERCENT, AMPERSAND, BAR, CARET, TILDE, SHIFT_LEFT}
+use Rattle.bl_lex.specs.declared.sign.TheConstants.{SHIFT_RIGHT, AT}
 
 -- whether the number is in the list
 abbrev pub is_one_of : List ℕ → ℕ → Bool

@@ -2,126 +2,20 @@
 use Rattle.std.proofs.Common.{ℕ, zero, suc, ◌+◌, Bool, true, cond, ◌&&◌, List, [], ◌∷◌, ◌++◌, max}
 use Rattle.std.specs.Prelude.{nat_lt}
 use Rattle.bl_grammar.specs.declared.symbol.Symbol.TheVariants.{Terminal, Nonterminal}
-use Rattle.bl_lex.specs.declared.word.TheConstants.{
-  STRUCT,
-  VAR,
-  CONST,
-  FUNCTION,
-  ACTIVITY,
-  RETURNS,
-  LET,
-  AWAIT,
-  RUN,
-  COBEGIN,
-  WHEN,
-  REPEAT,
-  WHILE,
-  IF,
-  RETURN,
-  WEAK,
-  WITH,
-  UNTIL,
-  ELSEIF,
-  ELSE,
-  OR,
-  AND,
-  AS,
-}
-use Rattle.bl_lex.specs.declared.sign.TheConstants.{
-  COLON,
-  ASSIGN,
-  AT,
-  OPEN_BRACKET,
-  OPEN_PAREN,
-  COMMA,
-  DOT,
-  EQUAL,
-  NOT_EQUAL,
-  LESS,
-  LESS_OR_EQUAL,
-  GREATER,
-  GREATER_OR_EQUAL,
-  BAR,
-  CARET,
-  AMPERSAND,
-  SHIFT_LEFT,
-  SHIFT_RIGHT,
-  PLUS,
-  MINUS,
-  STAR,
-  SLASH,
-  PERCENT,
-}
+use Rattle.bl_lex.specs.declared.word.TheConstants.{STRUCT, VAR, CONST, FUNCTION, ACTIVITY, RETURNS, LET, AWAIT, RUN, COBEGIN, WHEN, REPEAT, WHILE, IF, RETURN}
+use Rattle.bl_lex.specs.declared.word.TheConstants.{WEAK, WITH, UNTIL, ELSEIF, ELSE, OR, AND, AS}
+use Rattle.bl_lex.specs.declared.sign.TheConstants.{COLON, ASSIGN, AT, OPEN_BRACKET, OPEN_PAREN, COMMA, DOT, EQUAL, NOT_EQUAL, LESS, LESS_OR_EQUAL, GREATER}
+use Rattle.bl_lex.specs.declared.sign.TheConstants.{GREATER_OR_EQUAL, BAR, CARET, AMPERSAND, SHIFT_LEFT, SHIFT_RIGHT, PLUS, MINUS, STAR, SLASH, PERCENT}
 use Rattle.bl_parse_syntax.specs.declared.grammar.Class.{Class}
 use Rattle.bl_parse_syntax.specs.declared.grammar.Class.TheVariants.{AnyName, Keyword, Mark}
 use Rattle.bl_parse_syntax.specs.declared.grammar.Part.{Part}
-use Rattle.bl_parse_syntax.specs.declared.grammar.Part.TheVariants.{
-  Program,
-  Item,
-  Struct,
-  Field,
-  Fields,
-  Constant,
-  TypeMark,
-  Unit,
-  PlainUnit,
-  UnitTail,
-  Params,
-  SecondParams,
-  ParamList,
-  ParamRest,
-  Param,
-  Returns,
-  Block,
-  Stmt,
-  VarTail,
-  Initial,
-  AfterName,
-  CallTail,
-  AssignTail,
-  Accesses,
-  RunTail,
-  RunTarget,
-  Weak,
-  Branches,
-  Until,
-  Elseifs,
-  Else,
-  AfterReturn,
-  Inputs,
-  InputList,
-  InputRest,
-  Outputs,
-  SecondOutputs,
-  OutputList,
-  OutputRest,
-  Path,
-  PathRest,
-  Expr,
-  ExprRest,
-  And,
-  AndRest,
-  Comparison,
-  ComparisonRest,
-  BitOr,
-  BitOrRest,
-  BitXor,
-  BitXorRest,
-  BitAnd,
-  BitAndRest,
-  Shift,
-  ShiftRest,
-  Sum,
-  SumRest,
-  Product,
-  ProductRest,
-  Cast,
-  CastRest,
-  Unary,
-  Primary,
-  NameUse,
-  NoOutputs,
-}
+use Rattle.bl_parse_syntax.specs.declared.grammar.Part.TheVariants.{Program, Item, Struct, Field, Fields, Constant, TypeMark, Unit, PlainUnit, UnitTail, Params}
+use Rattle.bl_parse_syntax.specs.declared.grammar.Part.TheVariants.{SecondParams, ParamList, ParamRest, Param, Returns, Block, Stmt, VarTail, Initial}
+use Rattle.bl_parse_syntax.specs.declared.grammar.Part.TheVariants.{AfterName, CallTail, AssignTail, Accesses, RunTail, RunTarget, Weak, Branches, Until}
+use Rattle.bl_parse_syntax.specs.declared.grammar.Part.TheVariants.{Elseifs, Else, AfterReturn, Inputs, InputList, InputRest, Outputs, SecondOutputs}
+use Rattle.bl_parse_syntax.specs.declared.grammar.Part.TheVariants.{OutputList, OutputRest, Path, PathRest, Expr, ExprRest, And, AndRest, Comparison}
+use Rattle.bl_parse_syntax.specs.declared.grammar.Part.TheVariants.{ComparisonRest, BitOr, BitOrRest, BitXor, BitXorRest, BitAnd, BitAndRest, Shift, ShiftRest}
+use Rattle.bl_parse_syntax.specs.declared.grammar.Part.TheVariants.{Sum, SumRest, Product, ProductRest, Cast, CastRest, Unary, Primary, NameUse, NoOutputs}
 use Rattle.bl_parse_syntax.specs.Grammar.{Piece, productions, expression_starts}
 
 -- the classes that go on with a name in an expression: none of them follows the whole

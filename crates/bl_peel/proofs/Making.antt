@@ -1,31 +1,6 @@
 -- How what is made of parts comes to what is made of the whole.
-use Rattle.std.proofs.Common.{
-  ◌≡◌,
-  ℕ,
-  ◌+◌,
-  ◌<◌,
-  ◌≤◌,
-  Bool,
-  true,
-  false,
-  ◌&&◌,
-  ◌||◌,
-  List,
-  [],
-  ◌∷◌,
-  ◌++◌,
-  map,
-  length,
-  get_or,
-  drop,
-  refl,
-  ap,
-  sym,
-  ◌∙◌,
-  append_assoc,
-  append-nil,
-  drop_of_length-le,
-}
+use Rattle.std.proofs.Common.{◌≡◌, ℕ, ◌+◌, ◌<◌, ◌≤◌, Bool, true, false, ◌&&◌, ◌||◌, List, [], ◌∷◌, ◌++◌, map, length, get_or, drop, refl, ap, sym, ◌∙◌}
+use Rattle.std.proofs.Common.{append_assoc, append-nil, drop_of_length-le}
 use Rattle.std.proofs.lemmas.List.{drop_more}
 use Rattle.bl_tree.specs.declared.place.Place.{Place}
 use Rattle.bl_tree.specs.declared.tree.Arm.{Arm, out-Arm}
@@ -40,19 +15,8 @@ use Rattle.bl_peel.specs.declared.turns.FrontArm.{FrontArm}
 use Rattle.bl_peel.specs.declared.turns.FrontArms.{FrontArms}
 use Rattle.bl_peel.specs.declared.turns.FrontBlock.{FrontBlock}
 use Rattle.bl_peel.specs.Peeled.{ArmPeeling, BranchPeeling, Peeling, deep_of, front_ends, front_of, kind_deep, made_arm, peeling}
-use Rattle.bl_peel.specs.inner.Parts.{
-  deep_of_kind,
-  front_after,
-  front_arm,
-  front_arms,
-  front_block,
-  fronted,
-  peeling_of_arm,
-  peeling_of_branch,
-  peeling_of_kind,
-  peeling_parts,
-  placed_stmt,
-}
+use Rattle.bl_peel.specs.inner.Parts.{deep_of_kind, front_after, front_arm, front_arms, front_block, fronted, peeling_of_arm, peeling_of_branch}
+use Rattle.bl_peel.specs.inner.Parts.{peeling_of_kind, peeling_parts, placed_stmt}
 use Rattle.bl_peel.proofs.Counting.{kind_is}
 use Rattle.bl_peel.proofs.Equations.{arm_out, branch_out, kind_out, made_branch, peeling_out}
 

@@ -13,33 +13,8 @@ use Rattle.bl_tree.specs.declared.tree.StmtKind.TheOpen.{StmtKind-F}
 use Rattle.bl_tree.specs.declared.tree.Unit.{Unit as UnitDef}
 use Rattle.bl_tree.proofs.FirstLemmas.{contains_in, in_contains}
 use Rattle.bl_graph_nodes.specs.Laws.{plain_arm, plain_branch, stmt}
-use Rattle.bl_graph_nodes.specs.Plain.{
-  Act,
-  Await,
-  Block,
-  Cobegin,
-  Done,
-  If,
-  Label,
-  Plain,
-  Position,
-  Repeat,
-  Run as RunOf,
-  Then,
-  Until,
-  When,
-  While,
-  block_from,
-  bodies_from,
-  else_at,
-  inside,
-  label_at,
-  never,
-  passed_one,
-  place_of_test,
-  plain_block,
-  plain_stmt,
-}
+use Rattle.bl_graph_nodes.specs.Plain.{Act, Await, Block, Cobegin, Done, If, Label, Plain, Position, Repeat, Run as RunOf, Then, Until, When, While, block_from}
+use Rattle.bl_graph_nodes.specs.Plain.{bodies_from, else_at, inside, label_at, never, passed_one, place_of_test, plain_block, plain_stmt}
 use Rattle.bl_graph_nodes.proofs.Equations.{plain_statements}
 use Rattle.bl_machine_prevs.specs.Declared.{are_known, declared_by, prevs_are_declared, prevs_stand, prevs_stand_in, prevs_stand_in_each, prevs_in_inputs}
 use Rattle.bl_machine_prevs.specs.Prevs.{prevs_in, prevs_in_expr}

@@ -9,17 +9,7 @@ use Rattle.bl_tree.specs.Instant.{is_instant_block}
 use Rattle.bl_tree.specs.Reduce.{joined}
 use Rattle.bl_tree.specs.Typing.{is_activity}
 use Rattle.bl_tree.proofs.FirstLemmas.{In, contains_in, in_contains}
-use Rattle.bl_effects.specs.Rules.{
-  Aliased,
-  Fails,
-  FailsAlias,
-  FailsConflict,
-  FailsInstant,
-  FailsPause,
-  aliases_in,
-  instant_loops,
-  splits_of,
-}
+use Rattle.bl_effects.specs.Rules.{Aliased, Fails, FailsAlias, FailsConflict, FailsInstant, FailsPause, aliases_in, instant_loops, splits_of}
 use Rattle.bl_peel.specs.Units.{UnitPeels, UnitsPeel, is_peeled, kept, more_units, no_units}
 use Rattle.bl_peel.proofs.Keeping.{peeled_keeps}
 use Rattle.bl_peel_laws.specs.Rules.{FailuresAreOfSources, PeeledUnitsPass}

@@ -11,21 +11,8 @@ use Rattle.bl_tree.specs.declared.tree.Stmt.{Stmt, out-Stmt, out-roll-Stmt}
 use Rattle.bl_tree.specs.declared.tree.StmtKind.{StmtKind, out-StmtKind, out-roll-StmtKind, roll-StmtKind}
 use Rattle.bl_tree.specs.declared.tree.StmtKind.TheOpen.{StmtKind-F}
 use Rattle.bl_tree.specs.Reduce.{joined}
-use Rattle.bl_tree.specs.Within.{
-  RunsIn,
-  StandsIn,
-  Within,
-  branches_of,
-  children,
-  deeper,
-  effect_of,
-  is_run,
-  is_run_kind,
-  itself,
-  kind_branches,
-  kind_children,
-  place_of,
-}
+use Rattle.bl_tree.specs.Within.{RunsIn, StandsIn, Within, branches_of, children, deeper, effect_of, is_run, is_run_kind, itself, kind_branches, kind_children}
+use Rattle.bl_tree.specs.Within.{place_of}
 use Rattle.bl_tree.proofs.FirstLemmas.{In, contains_in, in_contains}
 use Rattle.bl_peel.specs.Peeled.{made_arm, made_if, made_stmt, peeled, place_of_expr}
 use Rattle.bl_peel.specs.inner.Parts.{kind_has_no_block}

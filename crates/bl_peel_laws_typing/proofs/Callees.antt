@@ -15,38 +15,9 @@ use Rattle.bl_tree.specs.declared.tree.UnitKind.{UnitKind}
 use Rattle.bl_tree.specs.declared.tree.Var.{Var}
 use Rattle.bl_tree.specs.Reduce.{all_of}
 use Rattle.bl_tree.specs.Types.{scalar}
-use Rattle.bl_tree.specs.Typing.{
-  TypingContext,
-  are_same,
-  arm_fits,
-  branch_fits,
-  call_fits,
-  call_type,
-  declaration_fits,
-  expr_type,
-  fits,
-  inputs_of,
-  is_activity,
-  is_assignable,
-  is_fixed,
-  is_outlet,
-  is_procedure,
-  is_truth,
-  is_variable,
-  kind_fits,
-  kind_type,
-  outputs_of,
-  part_type,
-  path_type,
-  return_fits,
-  run_fits,
-  site_of,
-  stmt_fits,
-  target_fits,
-  type_of,
-  type_of_path,
-  types_match,
-}
+use Rattle.bl_tree.specs.Typing.{TypingContext, are_same, arm_fits, branch_fits, call_fits, call_type, declaration_fits, expr_type, fits, inputs_of}
+use Rattle.bl_tree.specs.Typing.{is_activity, is_assignable, is_fixed, is_outlet, is_procedure, is_truth, is_variable, kind_fits, kind_type, outputs_of}
+use Rattle.bl_tree.specs.Typing.{part_type, path_type, return_fits, run_fits, site_of, stmt_fits, target_fits, type_of, type_of_path, types_match}
 use Rattle.bl_peel.specs.Units.{UnitPeels, UnitsPeel, is_peeled, kept, more_units, no_units}
 use Rattle.bl_peel_laws_typing.specs.Typing.{FitsAsksNoBodies}
 

@@ -11,19 +11,8 @@ use Rattle.bl_tree.specs.declared.tree.StmtKind.{StmtKind, fold-StmtKind, fold-r
 use Rattle.bl_tree.specs.declared.tree.StmtKind.TheFolds.{map-StmtKind}
 use Rattle.bl_tree.specs.declared.tree.StmtKind.TheOpen.{StmtKind-F, Stmt-F}
 use Rattle.bl_tree.specs.Reduce.{any_of}
-use Rattle.bl_tree.specs.Returns.{
-  activity_returns,
-  arm_has_return,
-  branch_has_return,
-  function_returns,
-  has_return,
-  is_return,
-  is_return_kind,
-  kind_has_return,
-  last_of,
-  returns_last_alone,
-  stmt_returns,
-}
+use Rattle.bl_tree.specs.Returns.{activity_returns, arm_has_return, branch_has_return, function_returns, has_return, is_return, is_return_kind, kind_has_return}
+use Rattle.bl_tree.specs.Returns.{last_of, returns_last_alone, stmt_returns}
 use Rattle.bl_tree.specs.Typing.{is_activity}
 use Rattle.bl_tree.proofs.ReduceLemmas.{any_of-append}
 use Rattle.bl_tree.proofs.StmtInduction.{stmt}

@@ -1,36 +1,6 @@
 -- The fields of a record from a column on.
-use Rattle.std.proofs.Common.{
-  ◌≡◌,
-  ◌≢◌,
-  ℕ,
-  zero,
-  suc,
-  ◌+◌,
-  ◌<◌,
-  List,
-  [],
-  ◌∷◌,
-  ◌++◌,
-  length,
-  get_or,
-  drop,
-  ap,
-  refl,
-  sym,
-  ◌∙◌,
-  Option,
-  Some,
-  None,
-  option_map,
-  ℤ,
-  arith,
-  Bool,
-  true,
-  false,
-  ◌&&◌,
-  if◌then◌else◌,
-  codes,
-}
+use Rattle.std.proofs.Common.{◌≡◌, ◌≢◌, ℕ, zero, suc, ◌+◌, ◌<◌, List, [], ◌∷◌, ◌++◌, length, get_or, drop, ap, refl, sym, ◌∙◌, Option, Some, None, option_map}
+use Rattle.std.proofs.Common.{ℤ, arith, Bool, true, false, ◌&&◌, if◌then◌else◌, codes}
 use Rattle.std.specs.List.{slice_get}
 use Rattle.std.specs.Str.{bytes_eq}
 use Rattle.csv.specs.Records.{field_at}

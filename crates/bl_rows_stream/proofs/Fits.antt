@@ -1,29 +1,5 @@
 -- Rows that are read fit, and there are no more of them than lines.
-use Rattle.std.proofs.Common.{
-  ◌≡◌,
-  ℕ,
-  ◌+◌,
-  ◌<◌,
-  ◌≤◌,
-  ℤ,
-  pos,
-  Bool,
-  true,
-  false,
-  ◌&&◌,
-  List,
-  [],
-  ◌∷◌,
-  ◌++◌,
-  length,
-  Option,
-  Some,
-  None,
-  refl,
-  ap,
-  subst,
-  arith,
-}
+use Rattle.std.proofs.Common.{◌≡◌, ℕ, ◌+◌, ◌<◌, ◌≤◌, ℤ, pos, Bool, true, false, ◌&&◌, List, [], ◌∷◌, ◌++◌, length, Option, Some, None, refl, ap, subst, arith}
 use Rattle.std.specs.Prelude.{nat_le, nat_lt, if◌then◌else◌}
 use Rattle.std.specs.List.{list_all}
 use Rattle.std.specs.Str.{bytes_eq}
@@ -36,24 +12,8 @@ use Rattle.bl_tree.specs.declared.scalar.Scalar.{Scalar}
 use Rattle.bl_tree.specs.declared.scalar.Scalar.TheVariants.{Bool as OfBool, Int, Nat, Bits}
 use Rattle.bl_rows.specs.Fields.{both, is_header, is_this_number, number_of, records_in, row_of, value_of, values_of, within}
 use Rattle.bl_rows.specs.Lines.{lines_of, whole_lines}
-use Rattle.bl_rows.specs.Reading.{
-  Scan,
-  at_start,
-  bad_or,
-  empty_reading,
-  judged_line,
-  judged_record,
-  led_by_line,
-  line_number,
-  longest_line,
-  numbers_or_bad,
-  over_limit,
-  place_after,
-  rows_in,
-  rows_of,
-  scan,
-  verdict,
-}
+use Rattle.bl_rows.specs.Reading.{Scan, at_start, bad_or, empty_reading, judged_line, judged_record, led_by_line, line_number, longest_line, numbers_or_bad}
+use Rattle.bl_rows.specs.Reading.{over_limit, place_after, rows_in, rows_of, scan, verdict}
 use Rattle.bl_rows.specs.declared.fault.RowFault.{RowFault}
 use Rattle.bl_rows.specs.declared.fault.RowFault.TheVariants.{BadHeader, BadRow, LongLine}
 use Rattle.bl_rows.specs.declared.verdict.RowPlace.{RowPlace}

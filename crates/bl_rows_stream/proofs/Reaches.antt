@@ -1,57 +1,14 @@
 -- How far a reader has come: each byte of a good piece moves it on.
-use Rattle.std.proofs.Common.{
-  ◌≡◌,
-  ℕ,
-  ◌+◌,
-  ◌*◌,
-  ◌<◌,
-  ◌≤◌,
-  Bool,
-  true,
-  false,
-  List,
-  [],
-  ◌∷◌,
-  ◌++◌,
-  length,
-  Option,
-  Some,
-  None,
-  refl,
-  ap,
-  sym,
-  subst,
-  ◌∙◌,
-  arith,
-  length-append,
-}
+use Rattle.std.proofs.Common.{◌≡◌, ℕ, ◌+◌, ◌*◌, ◌<◌, ◌≤◌, Bool, true, false, List, [], ◌∷◌, ◌++◌, length, Option, Some, None, refl, ap, sym, subst, ◌∙◌, arith}
+use Rattle.std.proofs.Common.{length-append}
 use Rattle.std.specs.Prelude.{nat_le, nat_lt, if◌then◌else◌, ◌==◌}
 use Rattle.std.proofs.lemmas.Bool.Decides.{nat_tests}
 use Rattle.bl_tree.specs.declared.row.Column.{Column}
 use Rattle.bl_rows.specs.Fields.{records_in}
 use Rattle.bl_rows.specs.Lines.{Cut, cut, has_feed, last_line, led_by_byte, lines_of, unfinished, whole_lines}
 use Rattle.bl_rows.proofs.Cuts.{cut_append, cut_other, lines_append, or_false, unfinished_feedless}
-use Rattle.bl_rows.specs.Reading.{
-  Reading,
-  Scan,
-  at_start,
-  bad_or,
-  earlier_fault,
-  empty_reading,
-  fault_in,
-  fault_of_scan,
-  judged_line,
-  led_by_line,
-  line_number,
-  most_lines,
-  over_limit,
-  overrun,
-  place_after,
-  read_on,
-  scan,
-  scanned,
-  verdict,
-}
+use Rattle.bl_rows.specs.Reading.{Reading, Scan, at_start, bad_or, earlier_fault, empty_reading, fault_in, fault_of_scan, judged_line, led_by_line, line_number}
+use Rattle.bl_rows.specs.Reading.{most_lines, over_limit, overrun, place_after, read_on, scan, scanned, verdict}
 use Rattle.bl_rows.specs.declared.fault.RowFault.{RowFault}
 use Rattle.bl_rows.specs.declared.fault.RowFault.TheVariants.{BadRow, LongLine}
 use Rattle.bl_rows.specs.declared.verdict.RowPlace.{RowPlace}

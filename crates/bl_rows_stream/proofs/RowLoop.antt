@@ -1,25 +1,5 @@
 -- The loop over the ticks of rows.
-use Rattle.std.proofs.Common.{
-  ◌≡◌,
-  ℕ,
-  suc,
-  ◌+◌,
-  ◌<◌,
-  ℤ,
-  true,
-  List,
-  ◌∷◌,
-  ◌++◌,
-  length,
-  drop,
-  get_or,
-  ap,
-  sym,
-  subst,
-  ◌∙◌,
-  add-one,
-  drop-cons,
-}
+use Rattle.std.proofs.Common.{◌≡◌, ℕ, suc, ◌+◌, ◌<◌, ℤ, true, List, ◌∷◌, ◌++◌, length, drop, get_or, ap, sym, subst, ◌∙◌, add-one, drop-cons}
 use Rattle.std.specs.List.{list_all}
 use Rattle.bl_tree.specs.declared.row.Column.{Column}
 use Rattle.bl_crun.specs.Running.{OutputsFit, Running, answer_of, outputs_after, reply_at, tick_at, unless_trapped}

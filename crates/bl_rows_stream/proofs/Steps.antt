@@ -1,32 +1,6 @@
 -- From one piece of the file to the next.
-use Rattle.std.proofs.Common.{
-  ◌≡◌,
-  ℕ,
-  ◌+◌,
-  ◌≤◌,
-  ◌⊎◌,
-  true,
-  List,
-  [],
-  ◌++◌,
-  length,
-  take,
-  drop,
-  Option,
-  Some,
-  None,
-  inl,
-  inr,
-  refl,
-  ap,
-  sym,
-  subst,
-  ◌∙◌,
-  arith,
-  append_assoc,
-  append-nil,
-  length-append,
-}
+use Rattle.std.proofs.Common.{◌≡◌, ℕ, ◌+◌, ◌≤◌, ◌⊎◌, true, List, [], ◌++◌, length, take, drop, Option, Some, None, inl, inr, refl, ap, sym, subst, ◌∙◌, arith}
+use Rattle.std.proofs.Common.{append_assoc, append-nil, length-append}
 use Rattle.std.proofs.lemmas.List.{length-take-le, take-append-drop, take-append-le}
 use Rattle.bl_ctext_semantics.specs.Cells.{inputs_of, outputs_of}
 use Rattle.bl_ctext_semantics.specs.Parts.{Parts}
@@ -44,40 +18,10 @@ use Rattle.bl_tree.specs.declared.row.Last.{Last}
 use Rattle.bl_tree.specs.declared.row.Last.TheVariants.{Open, Ended, Trap}
 use Rattle.bl_tree.specs.declared.row.Trace.{Trace}
 use Rattle.bl_rows_stream.specs.Reports.{after_rows, report_from, report_header, report_of, trace_from}
-use Rattle.bl_rows_stream.specs.inner.Going.{
-  RunEnds,
-  Going,
-  GoesOrEnds,
-  HasFed,
-  Leaves,
-  RunStands,
-  Start,
-  most_reach,
-  reach,
-  runner_at,
-  runner_start,
-  stopped,
-  whole,
-}
-use Rattle.bl_rows_stream.specs.Streams.{
-  AppendsFront,
-  AreLeft,
-  HasRead,
-  ReadsLines,
-  Reported,
-  Streamed,
-  all,
-  broken,
-  course_from,
-  cut,
-  finish_of,
-  front,
-  last_over,
-  ran,
-  report_over,
-  rows_so_far,
-  unread,
-}
+use Rattle.bl_rows_stream.specs.inner.Going.{RunEnds, Going, GoesOrEnds, HasFed, Leaves, RunStands, Start, most_reach, reach, runner_at, runner_start, stopped}
+use Rattle.bl_rows_stream.specs.inner.Going.{whole}
+use Rattle.bl_rows_stream.specs.Streams.{AppendsFront, AreLeft, HasRead, ReadsLines, Reported, Streamed, all, broken, course_from, cut, finish_of, front}
+use Rattle.bl_rows_stream.specs.Streams.{last_over, ran, report_over, rows_so_far, unread}
 use Rattle.bl_rows_stream.specs.declared.finish.Finish.{Finish}
 use Rattle.bl_rows_stream.specs.declared.finish.Finish.TheVariants as finish
 use Rattle.bl_rows_stream.specs.declared.finish.Progress.{Progress}

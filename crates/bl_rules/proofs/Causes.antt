@@ -12,23 +12,8 @@ use Rattle.bl_parse.specs.Programs.{Spells}
 use Rattle.bl_types_program.specs.Cause.{IsCause as IsTypingCause, names as by_names, types as by_types}
 use Rattle.bl_types_program.specs.Programs.{IsProgramOf, named_of, typed_of}
 use Rattle.bl_parse_tree.specs.declared.raw.Raw.{Raw}
-use Rattle.bl_rules.proofs.Layers.{
-  TokensAreOne,
-  TokensThatPass,
-  TreesAreOne,
-  all_pass,
-  bytes_first,
-  graphs_first,
-  limits_first,
-  names_first,
-  program_first,
-  text_passes,
-  tokens_first,
-  tree_first,
-  tree_passes,
-  types_first,
-  units_first,
-}
+use Rattle.bl_rules.proofs.Layers.{TokensAreOne, TokensThatPass, TreesAreOne, all_pass, bytes_first, graphs_first, limits_first, names_first, program_first}
+use Rattle.bl_rules.proofs.Layers.{text_passes, tokens_first, tree_first, tree_passes, types_first, units_first}
 use Rattle.bl_rules.specs.Accepted.{HasProgram}
 use Rattle.bl_rules.specs.Rules.{Fails, Parses, ProgramFails, ProgramPasses, TreeFails, TreePasses}
 use Rattle.bl_names_scopes.specs.Rules.{Passes as NamesPass}

@@ -12,24 +12,8 @@ use Rattle.bl_types_program.specs.Programs.{IsProgramOf, named_of, typed_of}
 use Rattle.bl_parse_tree.specs.declared.raw.Raw.{Raw}
 use Rattle.bl_parse_tree.specs.WellFormed.{RawIsWellFormed}
 use Rattle.bl_rules.specs.Accepted.{HasProgram, IsOfTree}
-use Rattle.bl_rules.specs.Rules.{
-  Fails,
-  Parses,
-  Passes,
-  ProgramFails,
-  ProgramPasses,
-  TreeFails,
-  TreePasses,
-  in_bytes,
-  in_graphs,
-  in_limits,
-  in_names,
-  in_program,
-  in_tokens,
-  in_tree,
-  in_types,
-  in_units,
-}
+use Rattle.bl_rules.specs.Rules.{Fails, Parses, Passes, ProgramFails, ProgramPasses, TreeFails, TreePasses, in_bytes, in_graphs, in_limits, in_names}
+use Rattle.bl_rules.specs.Rules.{in_program, in_tokens, in_tree, in_types, in_units}
 use Rattle.bl_names_scopes.specs.Rules.{Fails as NamesFail, Passes as NamesPass}
 use Rattle.bl_parse_syntax.specs.Rules.{Fails as TokensFail, Passes as TokensPass, PassesDepth}
 use Rattle.bl_tree.proofs.FirstLemmas.{alike_first}

@@ -16,16 +16,8 @@ use Rattle.bl_tree.specs.declared.tree.StmtKind.TheOpen.{StmtKind-F, Arm-F, Bran
 use Rattle.bl_tree.specs.Reduce.{all_of, total}
 use Rattle.bl_tree.proofs.ReduceLemmas.{all_of-append}
 use Rattle.bl_tree.proofs.StmtInduction.{Each, EachArm, EachBranch, induct, stmt}
-use Rattle.bl_limits_measures.specs.Statements.{
-  arm_cell_statements,
-  branch_cell_statements,
-  cell_statements_in,
-  cell_statements_in_arm,
-  cell_statements_in_block,
-  cell_statements_in_branch,
-  kind_cell_statements,
-  layer_cell_statements,
-}
+use Rattle.bl_limits_measures.specs.Statements.{arm_cell_statements, branch_cell_statements, cell_statements_in, cell_statements_in_arm}
+use Rattle.bl_limits_measures.specs.Statements.{cell_statements_in_block, cell_statements_in_branch, kind_cell_statements, layer_cell_statements}
 use Rattle.bl_peel.specs.Count.{arm_statement_count, branch_statement_count, kind_statement_count, statement_count, stmt_count, stmt_layer_count}
 use Rattle.bl_peel.specs.inner.Parts.{arm_count, branch_count}
 use Rattle.bl_peel.specs.Peeled.{made_arm, made_if, peeled, place_of_expr}

@@ -23,22 +23,8 @@ use Rattle.bl_parse_tree.specs.declared.stmt.RawPath.{RawPath}
 use Rattle.bl_parse_tree.specs.declared.stmt.RawStmt.{RawStmt, fold-roll-RawStmt, roll-RawStmt}
 use Rattle.bl_parse_tree.specs.declared.stmt.RawStmtKind.{RawStmtKind, fold-RawStmtKind, fold-roll-RawStmtKind}
 use Rattle.bl_parse_tree.specs.declared.stmt.RawStmtKind as kind
-use Rattle.bl_parse_tree.specs.declared.stmt.RawStmtKind.TheVariants.{
-  rolls-Var,
-  rolls-Let,
-  rolls-Const,
-  rolls-Assign,
-  rolls-Call,
-  rolls-Await,
-  rolls-Run,
-  rolls-If,
-  rolls-Cobegin,
-  rolls-When,
-  rolls-Repeat,
-  rolls-Until,
-  rolls-While,
-  rolls-Return,
-}
+use Rattle.bl_parse_tree.specs.declared.stmt.RawStmtKind.TheVariants.{rolls-Var, rolls-Let, rolls-Const, rolls-Assign, rolls-Call, rolls-Await, rolls-Run}
+use Rattle.bl_parse_tree.specs.declared.stmt.RawStmtKind.TheVariants.{rolls-If, rolls-Cobegin, rolls-When, rolls-Repeat, rolls-Until, rolls-While, rolls-Return}
 use Rattle.bl_parse_tree.specs.declared.types.RawType.{RawType}
 use Rattle.bl_parse.specs.Programs.{SpellsItem, SpellsItems, SpellsOutputParams, SpellsParam, SpellsParamList, SpellsParams, SpellsUnit, Spells}
 use Rattle.bl_parse.specs.Statements.{SpellsStmt, SpellsKind, SpellsBlock, SpellsArm, SpellsArms, SpellsElse, SpellsBranch, SpellsBranches}

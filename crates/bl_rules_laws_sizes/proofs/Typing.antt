@@ -1,32 +1,6 @@
 -- What is typed of a unit has at most as many statements as the unit has parts, and at most so many variables.
-use Rattle.std.proofs.Common.{
-  ◌≡◌,
-  ℕ,
-  zero,
-  suc,
-  ◌+◌,
-  ◌-◌,
-  ◌*◌,
-  ◌≤◌,
-  Bool,
-  true,
-  false,
-  List,
-  [],
-  ◌∷◌,
-  ◌++◌,
-  map,
-  length,
-  Option,
-  Some,
-  None,
-  refl,
-  sym,
-  ap,
-  subst,
-  ◌∙◌,
-  arith,
-}
+use Rattle.std.proofs.Common.{◌≡◌, ℕ, zero, suc, ◌+◌, ◌-◌, ◌*◌, ◌≤◌, Bool, true, false, List, [], ◌∷◌, ◌++◌, map, length, Option, Some, None, refl, sym, ap}
+use Rattle.std.proofs.Common.{subst, ◌∙◌, arith}
 use Rattle.std.specs.List.{cons_option}
 use Rattle.std.specs.Prelude.{All, filter_map, if◌then◌else◌, option_map, slice_get}
 use Rattle.std.proofs.lemmas.List.{length-map, length_push}
@@ -46,16 +20,8 @@ use Rattle.bl_tree.specs.declared.tree.StmtKind.TheVariants as what
 use Rattle.bl_tree.specs.declared.tree.Unit.{Unit as UnitDef}
 use Rattle.bl_tree.specs.Reduce.{total}
 use Rattle.bl_tree.specs.Types.{scalar}
-use Rattle.bl_limits_measures.specs.Statements.{
-  arm_cell_statements,
-  branch_cell_statements,
-  cell_statements_in,
-  cell_statements_in_arm,
-  cell_statements_in_branch,
-  cell_statements_of,
-  kind_cell_statements,
-  layer_cell_statements,
-}
+use Rattle.bl_limits_measures.specs.Statements.{arm_cell_statements, branch_cell_statements, cell_statements_in, cell_statements_in_arm}
+use Rattle.bl_limits_measures.specs.Statements.{cell_statements_in_branch, cell_statements_of, kind_cell_statements, layer_cell_statements}
 use Rattle.bl_names_tree.specs.declared.expr.NamedExpr.{NamedExpr}
 use Rattle.bl_names_tree.specs.declared.item.Item.{Item}
 use Rattle.bl_names_tree.specs.declared.item.Item.TheVariants as item
@@ -74,47 +40,14 @@ use Rattle.bl_types.specs.declared.form.Found.TheVariants as found
 use Rattle.bl_types.specs.Declarations.{after_constant, after_parameter, after_parameters, after_struct, initial, is_parameter}
 use Rattle.bl_types.specs.Expressions.{in_context, judged, targeted}
 use Rattle.bl_types.specs.Programs.{after_item, after_items, after_next, fresh, typed_program}
-use Rattle.bl_types.specs.Statements.{
-  Arguments,
-  Block,
-  StatementJudgement,
-  Walked,
-  after_optional_constant,
-  arguments,
-  arm_of,
-  arm_walked,
-  assign_made,
-  branch_walked,
-  condition,
-  constant_walked,
-  declare,
-  if_complete,
-  in_order,
-  returned,
-  run_made,
-  run_target,
-  stmt_made,
-  type_found,
-  walked,
-  walked_arm,
-  walked_branch,
-  walked_stmt,
-}
+use Rattle.bl_types.specs.Statements.{Arguments, Block, StatementJudgement, Walked, after_optional_constant, arguments, arm_of, arm_walked, assign_made}
+use Rattle.bl_types.specs.Statements.{branch_walked, condition, constant_walked, declare, if_complete, in_order, returned, run_made, run_target, stmt_made}
+use Rattle.bl_types.specs.Statements.{type_found, walked, walked_arm, walked_branch, walked_stmt}
 use Rattle.bl_types.specs.Units.{after_head, after_unit, entered, unit_of, var_of}
 use Rattle.bl_types_laws.proofs.NamedStmtInduction.{Cases, induct, stmt}
 use Rattle.bl_types_laws.proofs.StmtLayers.{Layer, walked_by, walked_is}
-use Rattle.bl_rules_laws_sizes.proofs.NamedParts.{
-  AllNamedWithin,
-  NamedWithin,
-  named_arm_at,
-  named_at,
-  named_below,
-  named_branch_at,
-  named_kind_parts,
-  named_parts,
-  parts_of_named_arm,
-  parts_of_named_branch,
-}
+use Rattle.bl_rules_laws_sizes.proofs.NamedParts.{AllNamedWithin, NamedWithin, named_arm_at, named_at, named_below, named_branch_at, named_kind_parts}
+use Rattle.bl_rules_laws_sizes.proofs.NamedParts.{named_parts, parts_of_named_arm, parts_of_named_branch}
 
 -- ---- typed statements
 

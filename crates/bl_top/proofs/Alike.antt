@@ -13,16 +13,7 @@ use Rattle.bl_parse_tree.specs.declared.raw.Raw.{Raw}
 use Rattle.bl_rows.specs.Reading.{empty_reading, fault_in, rows_in, rows_of}
 use Rattle.bl_rows.specs.Text.{text_of}
 use Rattle.bl_rules.specs.Accepted.{HasTree}
-use Rattle.bl_rows_stream.specs.Streams.{
-  AppendsFront,
-  Course,
-  Unread,
-  finish_of,
-  last_over,
-  last_so_far,
-  text_over,
-  text_so_far,
-}
+use Rattle.bl_rows_stream.specs.Streams.{AppendsFront, Course, Unread, finish_of, last_over, last_so_far, text_over, text_so_far}
 use Rattle.bl_rows_stream.specs.declared.finish.Finish.{Finish}
 use Rattle.bl_tree.specs.Ports.{RowsFit, input_columns, output_columns}
 use Rattle.bl_tree.specs.declared.row.Last.{Last}

@@ -7,22 +7,8 @@ use Rattle.bl_ctext_semantics.specs.Sizes.{cells_needed}
 use Rattle.bl_ctext_semantics_laws_places.specs.Behaviour.{Behaviour, behaviour_of}
 use Rattle.bl_ctext_semantics_laws_places.specs.Bytes.{Behaves}
 use Rattle.bl_top_commands.specs.Calls.{Call}
-use Rattle.bl_top_commands.specs.Exec.{
-  ExecEnds,
-  HasFile,
-  Rejects,
-  TextStops,
-  ill_formed,
-  no_file,
-  no_memory,
-  ran,
-  rejected,
-  stopped,
-  too_long,
-  too_many_cells,
-  unread,
-  want,
-}
+use Rattle.bl_top_commands.specs.Exec.{ExecEnds, HasFile, Rejects, TextStops, ill_formed, no_file, no_memory, ran, rejected, stopped, too_long, too_many_cells}
+use Rattle.bl_top_commands.specs.Exec.{unread, want}
 use Rattle.bl_top_commands.specs.Notes.{line_of}
 use Rattle.bl_top_commands.specs.Reads.{longest_text}
 use Rattle.bl_top_commands.specs.Sources.{IsSource, IsTextOf, IsTextOfProgram, RunsAs}

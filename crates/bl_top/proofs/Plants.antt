@@ -1,35 +1,6 @@
 -- No count of faults of a plant falls in a call.
-use Rattle.std.proofs.Common.{
-  ◌≡◌,
-  ◌∙◌,
-  ℕ,
-  suc,
-  ◌≤◌,
-  ℤ,
-  Bool,
-  true,
-  false,
-  cond,
-  if◌then◌else◌,
-  List,
-  [],
-  ◌∷◌,
-  ◌++◌,
-  length,
-  nat_eq,
-  Option,
-  Some,
-  None,
-  Result,
-  Ok,
-  Err,
-  refl,
-  sym,
-  ap,
-  subst,
-  append_assoc,
-  le_refl,
-}
+use Rattle.std.proofs.Common.{◌≡◌, ◌∙◌, ℕ, suc, ◌≤◌, ℤ, Bool, true, false, cond, if◌then◌else◌, List, [], ◌∷◌, ◌++◌, length, nat_eq, Option, Some, None, Result}
+use Rattle.std.proofs.Common.{Ok, Err, refl, sym, ap, subst, append_assoc, le_refl}
 use Rattle.std.specs.List.{AllByRecursion, list_any}
 use Rattle.std.proofs.lemmas.Bool.{eq-eqb}
 use Rattle.std.proofs.lemmas.List.Folds.{list_any-append}
@@ -41,30 +12,8 @@ use Rattle.bl_plant_drive.specs.declared.fault.DriveFault.{DriveFault}
 use Rattle.bl_plant_drive.specs.declared.fault.DriveFault.TheVariants as fault
 use Rattle.bl_plant_drive.proofs.Casts.{eq-flip, or-false, or-left, or-right, role-name, split}
 use Rattle.bl_plant_drive.proofs.Lists.{same-some}
-use Rattle.bl_top.specs.Answers.{
-  Answers,
-  KeepsCounts,
-  KeepsPlants,
-  bounds,
-  builds,
-  checks,
-  counts,
-  drives,
-  dropped,
-  execs,
-  gens,
-  no_job,
-  no_plant,
-  resumes,
-  faces,
-  links,
-  runs,
-  saves,
-  saves_from,
-  short as answers_short,
-  stays,
-  walks,
-}
+use Rattle.bl_top.specs.Answers.{Answers, KeepsCounts, KeepsPlants, bounds, builds, checks, counts, drives, dropped, execs, gens, no_job, no_plant, resumes}
+use Rattle.bl_top.specs.Answers.{faces, links, runs, saves, saves_from, short as answers_short, stays, walks}
 use Rattle.bl_top.specs.Drive.{DriveEnds, HasDrivenSource, LeavesDrivenPlants, Plants, drive_setting, drove, kept, short, stopped, was_driven}
 use Rattle.bl_top_args.specs.Jobs.{JobSpec, Word}
 use Rattle.bl_top_commands.specs.Calls.{Call}

@@ -6,14 +6,7 @@ use Rattle.bl_top_commands.specs.Reads.{source_limit}
 use Rattle.bl_top_commands.specs.declared.outcome.Outcome.{Outcome}
 use Rattle.bl_top_commands.specs.declared.status.Status.{Status}
 use Rattle.bl_top_commands.specs.declared.status.Status.TheVariants as status
-use Rattle.bl_top_commands.specs.Refusals.{
-  IsNotAccepted,
-  RefusedText,
-  refusal_line,
-  refused as stopped,
-  short as no_memory,
-  unread,
-}
+use Rattle.bl_top_commands.specs.Refusals.{IsNotAccepted, RefusedText, refusal_line, refused as stopped, short as no_memory, unread}
 use Rattle.bl_top_commands.specs.inner.Outcomes.{IsRefusedBy, chosen_line, line_in}
 use Rattle.bl_top_commands.specs.Sources.{IsProgramOfSource, IsRawTreeOf}
 use Rattle.bl_io.specs.Left.{GivesUpTo}

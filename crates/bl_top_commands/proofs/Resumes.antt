@@ -13,61 +13,16 @@ use Rattle.bl_top_commands.proofs.Courses.{BytesFit, LinesFit}
 use Rattle.bl_top_commands.proofs.GoesOn.{RunsGoOn, joined, rows_join, states_source}
 use Rattle.bl_top_commands.proofs.SameFiles.{EachBehaves, file_behaves, file_formed, files_alike, leaves_alike}
 use Rattle.bl_top_commands.specs.Calls.{Call, Count, Output}
-use Rattle.bl_top_commands.specs.Exec.{
-  HasFile,
-  Loads,
-  Rejects,
-  TextStops,
-  ill_formed,
-  no_file,
-  no_memory as text_no_memory,
-  rejected,
-  too_long,
-  too_many_cells,
-  unread as text_unread,
-  want as text_want,
-}
+use Rattle.bl_top_commands.specs.Exec.{HasFile, Loads, Rejects, TextStops, ill_formed, no_file, no_memory as text_no_memory, rejected, too_long, too_many_cells}
+use Rattle.bl_top_commands.specs.Exec.{unread as text_unread, want as text_want}
 use Rattle.bl_top_commands.specs.Notes.{line_of}
 use Rattle.bl_top_commands.specs.Reads.{LeftBehind, longest_text, state_limit, text_limit}
 use Rattle.bl_top_commands.specs.Results.{WritesResult, fault, nothing, want as write_want, whole}
-use Rattle.bl_top_commands.specs.Resumed.{
-  FurtherSavesLeaveStates,
-  GoesOnAs,
-  HasSaved,
-  IsStateOf,
-  LeavesState,
-  ResumedEnds,
-  ResumesShowTheRest,
-  SavesLeaveStates,
-  unread as resumed_unread,
-  want as resumed_want,
-  went as resumed_went,
-}
-use Rattle.bl_top_commands.specs.Save.{
-  AreRead,
-  HoldsState,
-  IsStateAfter,
-  ResumeEnds,
-  SaveEnds,
-  SaveFromEnds,
-  SavesOver,
-  StateStops,
-  bad_rows,
-  bad_state,
-  ended as save_ended,
-  no_memory,
-  ran,
-  saved as saved_over,
-  state_unread,
-  state_want,
-  stopped,
-  stopped_at_state,
-  stopped_at_text,
-  trapped,
-  trapped_at_start,
-  unread,
-  went,
-}
+use Rattle.bl_top_commands.specs.Resumed.{FurtherSavesLeaveStates, GoesOnAs, HasSaved, IsStateOf, LeavesState, ResumedEnds, ResumesShowTheRest}
+use Rattle.bl_top_commands.specs.Resumed.{SavesLeaveStates, unread as resumed_unread, want as resumed_want, went as resumed_went}
+use Rattle.bl_top_commands.specs.Save.{AreRead, HoldsState, IsStateAfter, ResumeEnds, SaveEnds, SaveFromEnds, SavesOver, StateStops, bad_rows, bad_state}
+use Rattle.bl_top_commands.specs.Save.{ended as save_ended, no_memory, ran, saved as saved_over, state_unread, state_want, stopped, stopped_at_state}
+use Rattle.bl_top_commands.specs.Save.{stopped_at_text, trapped, trapped_at_start, unread, went}
 use Rattle.bl_top_commands.specs.Sources.{IsSource, IsTextOf}
 use Rattle.bl_top_commands.specs.declared.status.Status.{Status}
 use Rattle.bl_top_commands.specs.declared.status.Status.TheVariants as status

@@ -12,29 +12,9 @@ use Rattle.bl_top_commands.specs.inner.Texts.{HasLoaded, StandsAt}
 use Rattle.bl_top_commands.specs.Notes.{bad_state_line, line_of}
 use Rattle.bl_top_commands.specs.Reads.{LeftBehind, state_limit, text_limit}
 use Rattle.bl_top_commands.specs.Results.{WritesResult}
-use Rattle.bl_top_commands.specs.Save.{
-  AreRead,
-  FromStateEnds,
-  HoldsState,
-  SaveEnds,
-  SavesOver,
-  StateStops,
-  bad_rows,
-  bad_state,
-  ended as save_ended,
-  no_memory,
-  ran,
-  saved,
-  state_unread as unread_state,
-  state_want,
-  stopped,
-  stopped_at_state,
-  stopped_at_text,
-  trapped,
-  trapped_at_start,
-  unread as rows_unread,
-  went,
-}
+use Rattle.bl_top_commands.specs.Save.{AreRead, FromStateEnds, HoldsState, SaveEnds, SavesOver, StateStops, bad_rows, bad_state, ended as save_ended, no_memory}
+use Rattle.bl_top_commands.specs.Save.{ran, saved, state_unread as unread_state, state_want, stopped, stopped_at_state, stopped_at_text, trapped}
+use Rattle.bl_top_commands.specs.Save.{trapped_at_start, unread as rows_unread, went}
 use Rattle.bl_top_commands.specs.declared.outcome.Outcome.{Outcome}
 use Rattle.bl_top_commands.specs.declared.status.Status.{Status}
 use Rattle.bl_top_commands.specs.declared.status.Status.TheVariants as status
@@ -49,17 +29,8 @@ use Rattle.bl_rows_stream.specs.declared.finish.Finish.{Finish}
 use Rattle.bl_rows_stream.specs.declared.finish.Finish.TheVariants as finish
 use Rattle.bl_rows_stream.specs.Streams.{Reported, course_from}
 use Rattle.bl_rows_stream.specs.declared.ticks.Report.TheVariants.{Nothing}
-use Rattle.bl_rows_stream_laws.specs.Resumed.{
-  RunsSilently,
-  bad_rows as silent_bad_rows,
-  ended as silent_ended,
-  goes_on,
-  no_memory as silent_no_memory,
-  resumed_by,
-  runner_from,
-  trapped as silent_trapped,
-  unread as silent_unread,
-}
+use Rattle.bl_rows_stream_laws.specs.Resumed.{RunsSilently, bad_rows as silent_bad_rows, ended as silent_ended, goes_on, no_memory as silent_no_memory}
+use Rattle.bl_rows_stream_laws.specs.Resumed.{resumed_by, runner_from, trapped as silent_trapped, unread as silent_unread}
 use Rattle.bl_rows_stream_laws.specs.Laws.{RunsAreSilent}
 use Rattle.bl_top_args.specs.Jobs.{Word}
 use Rattle.bl_top_commands.proofs.Ends.{writes_as}

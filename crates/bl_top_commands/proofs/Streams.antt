@@ -18,21 +18,8 @@ use Rattle.bl_rows.specs.declared.fault.RowFault.{RowFault}
 use Rattle.bl_rows.specs.declared.fault.RowFault.TheVariants as fault
 use Rattle.bl_rows_stream.proofs.Texts.{trace-text}
 use Rattle.bl_rows_stream.specs.Reports.{report_of}
-use Rattle.bl_rows_stream.specs.Streams.{
-  AppendsFront,
-  Course,
-  Extends,
-  InStep,
-  Streamed,
-  all,
-  course_from,
-  finish_of,
-  front,
-  last_over,
-  rows_so_far,
-  text_over,
-  unread,
-}
+use Rattle.bl_rows_stream.specs.Streams.{AppendsFront, Course, Extends, InStep, Streamed, all, course_from, finish_of, front, last_over, rows_so_far, text_over}
+use Rattle.bl_rows_stream.specs.Streams.{unread}
 use Rattle.bl_rows_stream.specs.declared.finish.Finish.{Finish}
 use Rattle.bl_rows_stream.specs.declared.finish.Finish.TheVariants as finish
 use Rattle.bl_rows_stream.specs.declared.ticks.Report.{Report}

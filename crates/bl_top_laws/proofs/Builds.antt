@@ -11,14 +11,7 @@ use Rattle.bl_top_commands.specs.Refusals.{IsNotAccepted, RefusedText, refused, 
 use Rattle.bl_top_commands.specs.Results.{WritesResult, fault, nothing, want, whole}
 use Rattle.bl_top_commands.specs.declared.status.Status.{Status}
 use Rattle.bl_top_commands.specs.declared.status.Status.TheVariants as status
-use Rattle.bl_top_laws.specs.Correct.{
-  BuildsAreCorrect,
-  BuildsDecide,
-  HasToldFirst,
-  HasWrittenCorrect,
-  NoneRose,
-  RefusedBuildsTellFirst,
-}
+use Rattle.bl_top_laws.specs.Correct.{BuildsAreCorrect, BuildsDecide, HasToldFirst, HasWrittenCorrect, NoneRose, RefusedBuildsTellFirst}
 use Rattle.bl_top_laws.proofs.Runs.{refused_fails}
 use Rattle.bl_top_laws.proofs.Jobs.{job_ended}
 use Rattle.bl_top_laws.proofs.Texts.{built_correct, told_source, tree_of_source}

@@ -38,44 +38,10 @@ use Rattle.bl_top_laws.proofs.Loading.{FollowsBehaviour, never_loaded, text_due,
 use Rattle.bl_top_laws.proofs.Runs.{IsDone, OneTree, course_due, refused_fails, result_done, source_accepted, source_to}
 use Rattle.bl_top_laws.proofs.States.{from_rejected, resume_due, save_due, save_from_due, save_rejected, save_traps, stops_at_state}
 use Rattle.bl_top_laws.proofs.Texts.{told_source, tree_of_source}
-use Rattle.bl_top_laws.specs.Complete.{
-  CallsEndAsDue,
-  GeneratesTo,
-  HoldsBehind,
-  IsDue,
-  IsLoadable,
-  IsRejected,
-  NothingRose,
-  RunsTo,
-  bound_done,
-  build_done,
-  check_done,
-  count_done,
-  exec_done,
-  face_done,
-  face_refused,
-  face_stopped,
-  face_stopped_in,
-  gen_done,
-  gen_refused,
-  gen_too_large,
-  link_done,
-  link_refused,
-  link_refused_in,
-  resume_done,
-  resume_stopped,
-  run_done,
-  run_status,
-  save_done,
-  save_from_done,
-  save_from_stopped,
-  save_trapped,
-  source_named,
-  source_refused,
-  text_named,
-  text_rejected,
-  walk_done,
-}
+use Rattle.bl_top_laws.specs.Complete.{CallsEndAsDue, GeneratesTo, HoldsBehind, IsDue, IsLoadable, IsRejected, NothingRose, RunsTo, bound_done, build_done}
+use Rattle.bl_top_laws.specs.Complete.{check_done, count_done, exec_done, face_done, face_refused, face_stopped, face_stopped_in, gen_done, gen_refused}
+use Rattle.bl_top_laws.specs.Complete.{gen_too_large, link_done, link_refused, link_refused_in, resume_done, resume_stopped, run_done, run_status, save_done}
+use Rattle.bl_top_laws.specs.Complete.{save_from_done, save_from_stopped, save_trapped, source_named, source_refused, text_named, text_rejected, walk_done}
 use Rattle.bl_tree.specs.declared.program.Program.{Program}
 use Rattle.bl_tree.specs.declared.row.Last.{Last}
 use Rattle.bl_tree.specs.declared.row.Trace.{Trace}

@@ -1,70 +1,13 @@
 -- What a drive that was stopped shows of its plants.
-use Rattle.std.proofs.Common.{
-  ◌≡◌,
-  ◌∙◌,
-  ℕ,
-  zero,
-  suc,
-  ◌+◌,
-  ℤ,
-  pos,
-  Bool,
-  true,
-  false,
-  ◌||◌,
-  cond,
-  if◌then◌else◌,
-  List,
-  [],
-  ◌∷◌,
-  ◌++◌,
-  length,
-  map,
-  take,
-  replicate,
-  nat_eq,
-  Option,
-  Some,
-  None,
-  is_some,
-  refl,
-  sym,
-  ap,
-  subst,
-  append_assoc,
-  arith,
-  length-append,
-  take_all,
-}
+use Rattle.std.proofs.Common.{◌≡◌, ◌∙◌, ℕ, zero, suc, ◌+◌, ℤ, pos, Bool, true, false, ◌||◌, cond, if◌then◌else◌, List, [], ◌∷◌, ◌++◌, length, map, take}
+use Rattle.std.proofs.Common.{replicate, nat_eq, Option, Some, None, is_some, refl, sym, ap, subst, append_assoc, arith, length-append, take_all}
 use Rattle.std.specs.List.{AllByRecursion, IsDistinct, list_any, slice_get}
 use Rattle.std.proofs.lemmas.Bool.{eq-eqb}
 use Rattle.std.proofs.lemmas.List.{length-replicate, map-append}
 use Rattle.bl_plant.specs.Plants.{PlantView}
-use Rattle.bl_plant_drive.specs.Drives.{
-  AreThere,
-  DriveSetting,
-  HasFailed,
-  HasGivenOutside,
-  IsFirstAbsent,
-  IsFirstTwice,
-  Outcome,
-  columns_in,
-  plant_width,
-  widths_of,
-}
-use Rattle.bl_plant_drive.specs.Roles.{
-  IsCast,
-  Plays,
-  Role,
-  after_part,
-  first_named,
-  inputs_at,
-  last_row,
-  left_by,
-  left_in,
-  numbers_at,
-  role_of,
-}
+use Rattle.bl_plant_drive.specs.Drives.{AreThere, DriveSetting, HasFailed, HasGivenOutside, IsFirstAbsent, IsFirstTwice, Outcome, columns_in, plant_width}
+use Rattle.bl_plant_drive.specs.Drives.{widths_of}
+use Rattle.bl_plant_drive.specs.Roles.{IsCast, Plays, Role, after_part, first_named, inputs_at, last_row, left_by, left_in, numbers_at, role_of}
 use Rattle.bl_plant_drive.proofs.Asking.{last-snoc, left-there}
 use Rattle.bl_plant_drive.proofs.Casts.{around-role, eq-same, or-left, or-right, role-here, role-name, role-none, split}
 use Rattle.bl_plant_drive.proofs.Lists.{same-some}

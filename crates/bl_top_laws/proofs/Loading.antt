@@ -13,39 +13,15 @@ use Rattle.bl_rows_stream.specs.Streams.{Course}
 use Rattle.bl_top_args.specs.Jobs.{Word}
 use Rattle.bl_top_commands.proofs.SameFiles.{EachBehaves, file_behaves, file_formed}
 use Rattle.bl_top_commands.specs.Calls.{Call, Count, HasRisen}
-use Rattle.bl_top_commands.specs.Exec.{
-  HasFile,
-  Loads,
-  Rejects,
-  TextEnds,
-  TextStops,
-  ill_formed,
-  no_file,
-  no_memory,
-  ran,
-  rejected,
-  stopped,
-  too_long,
-  too_many_cells,
-  unread,
-  want,
-}
+use Rattle.bl_top_commands.specs.Exec.{HasFile, Loads, Rejects, TextEnds, TextStops, ill_formed, no_file, no_memory, ran, rejected, stopped, too_long}
+use Rattle.bl_top_commands.specs.Exec.{too_many_cells, unread, want}
 use Rattle.bl_top_commands.specs.Reads.{longest_text, text_limit}
 use Rattle.bl_top_commands.specs.declared.status.Status.{Status}
 use Rattle.bl_top_commands.specs.declared.status.Status.TheVariants as status
 use Rattle.bl_top_laws.proofs.Runs.{GoesTo, IsDone, course_due}
 use Rattle.bl_top_laws.proofs.Texts.{told_source}
-use Rattle.bl_top_laws.specs.Complete.{
-  ExecutesTo,
-  HoldsBehind,
-  IsLoadable,
-  IsRejected,
-  ill_formed as is_ill_formed,
-  no_file as spells_none,
-  run_status,
-  too_long as is_long,
-  too_many_cells as needs_many_cells,
-}
+use Rattle.bl_top_laws.specs.Complete.{ExecutesTo, HoldsBehind, IsLoadable, IsRejected, ill_formed as is_ill_formed, no_file as spells_none, run_status}
+use Rattle.bl_top_laws.specs.Complete.{too_long as is_long, too_many_cells as needs_many_cells}
 use Rattle.bl_tree.specs.declared.place.Place.{Place}
 use Rattle.bl_tree.specs.declared.row.Trace.{Trace}
 

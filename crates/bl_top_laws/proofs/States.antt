@@ -19,48 +19,15 @@ use Rattle.bl_top_commands.proofs.SameFiles.{EachBehaves, saved_alike, starts_al
 use Rattle.bl_top_commands.specs.Calls.{Call, Count, HasRisen, Output}
 use Rattle.bl_top_commands.specs.Exec.{Loads}
 use Rattle.bl_top_commands.specs.Reads.{state_limit, text_limit}
-use Rattle.bl_top_commands.specs.Save.{
-  AreRead,
-  FromStateEnds,
-  HoldsState,
-  IsStateAfter,
-  ResumeEnds,
-  SaveEnds,
-  SaveFromEnds,
-  SavesOver,
-  StateStops,
-  bad_rows,
-  bad_state,
-  ended as save_ended,
-  no_memory,
-  ran,
-  saved as state_saved,
-  state_unread,
-  state_want,
-  stopped,
-  stopped_at_state,
-  stopped_at_text,
-  trapped,
-  trapped_at_start,
-  unread,
-  went,
-}
+use Rattle.bl_top_commands.specs.Save.{AreRead, FromStateEnds, HoldsState, IsStateAfter, ResumeEnds, SaveEnds, SaveFromEnds, SavesOver, StateStops, bad_rows}
+use Rattle.bl_top_commands.specs.Save.{bad_state, ended as save_ended, no_memory, ran, saved as state_saved, state_unread, state_want, stopped}
+use Rattle.bl_top_commands.specs.Save.{stopped_at_state, stopped_at_text, trapped, trapped_at_start, unread, went}
 use Rattle.bl_top_commands.specs.declared.status.Status.{Status}
 use Rattle.bl_top_commands.specs.declared.status.Status.TheVariants as status
 use Rattle.bl_top_laws.proofs.Runs.{GoesTo, IsDone, course_due, result_done}
 use Rattle.bl_top_laws.proofs.Loading.{never_loaded, one_behaviour, text_stops, text_stops_due}
 use Rattle.bl_top_laws.proofs.Texts.{told_source}
-use Rattle.bl_top_laws.specs.Complete.{
-  ExecutesTo,
-  HoldsBehind,
-  HoldsBehindBoth,
-  IsLoadable,
-  IsRejected,
-  ResumesTo,
-  finish_status,
-  run_status,
-  save_status,
-}
+use Rattle.bl_top_laws.specs.Complete.{ExecutesTo, HoldsBehind, HoldsBehindBoth, IsLoadable, IsRejected, ResumesTo, finish_status, run_status, save_status}
 use Rattle.bl_tree.specs.declared.row.Last.{Last}
 use Rattle.bl_tree.specs.declared.row.Last.TheVariants.{Open, Ended, Trap}
 use Rattle.bl_tree.specs.declared.row.Trace.{Trace}

@@ -1,33 +1,6 @@
 -- The first of several failures is one of them, and comes no later than each; so it is the first rule that fails.
-use Rattle.std.proofs.Common.{
-  ◌≡◌,
-  ℕ,
-  ◌<◌,
-  zero,
-  suc,
-  Bool,
-  true,
-  false,
-  ◌&&◌,
-  ◌||◌,
-  cond,
-  List,
-  [],
-  ◌∷◌,
-  ◌⊎◌,
-  inl,
-  inr,
-  ⊎_elim,
-  Option,
-  Some,
-  None,
-  refl,
-  sym,
-  ap,
-  ◌∙◌,
-  subst,
-  arith,
-}
+use Rattle.std.proofs.Common.{◌≡◌, ℕ, ◌<◌, zero, suc, Bool, true, false, ◌&&◌, ◌||◌, cond, List, [], ◌∷◌, ◌⊎◌, inl, inr, ⊎_elim, Option, Some, None, refl, sym}
+use Rattle.std.proofs.Common.{ap, ◌∙◌, subst, arith}
 use Rattle.std.specs.Prelude.{Contains, nat_eq, nat_lt, slice_get}
 use Rattle.std.proofs.lemmas.Bool.Decides.{nat_tests}
 use Rattle.bl_tree.specs.declared.place.Place.{Place}
@@ -36,25 +9,8 @@ use Rattle.bl_tree.specs.declared.rule.Refusal.{Refusal}
 use Rattle.bl_tree.specs.declared.rule.Refusal.TheVariants as refusal
 use Rattle.bl_tree.specs.declared.rule.Rule.{Rule}
 use Rattle.bl_tree.specs.declared.rule.Rule.TheVariants as rule
-use Rattle.bl_tree.specs.Rules.{
-  AreNoLater,
-  FailsAmong,
-  FailsFirst,
-  IsBefore,
-  IsCause,
-  Passes,
-  Refuses,
-  come_before,
-  comes_before,
-  compared,
-  first_of,
-  further_places,
-  is_before,
-  number_of,
-  places_of,
-  same_place,
-  tells_walk,
-}
+use Rattle.bl_tree.specs.Rules.{AreNoLater, FailsAmong, FailsFirst, IsBefore, IsCause, Passes, Refuses, come_before, comes_before, compared, first_of}
+use Rattle.bl_tree.specs.Rules.{further_places, is_before, number_of, places_of, same_place, tells_walk}
 
 -- ---- rules by number
 

@@ -1,31 +1,6 @@
 -- Laws of what a list of answers comes to: at an element, and at one list put behind another.
-use Rattle.std.proofs.Common.{
-  ◌≡◌,
-  ℕ,
-  ◌+◌,
-  ◌<◌,
-  ◌≤◌,
-  Bool,
-  true,
-  false,
-  ◌&&◌,
-  ◌||◌,
-  List,
-  [],
-  ◌∷◌,
-  ◌++◌,
-  length,
-  get_or,
-  refl,
-  sym,
-  ap,
-  ◌∙◌,
-  append_assoc,
-  zero,
-  suc,
-  arith,
-  max,
-}
+use Rattle.std.proofs.Common.{◌≡◌, ℕ, ◌+◌, ◌<◌, ◌≤◌, Bool, true, false, ◌&&◌, ◌||◌, List, [], ◌∷◌, ◌++◌, length, get_or, refl, sym, ap, ◌∙◌, append_assoc, zero}
+use Rattle.std.proofs.Common.{suc, arith, max}
 use Rattle.bl_tree.specs.Reduce.{all_of, any_of, joined, total, greatest}
 
 and_assoc : (a b c : Bool) → (a && (b && c)) ≡ ((a && b) && c)

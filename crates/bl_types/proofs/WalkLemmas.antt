@@ -21,29 +21,8 @@ use Rattle.bl_names_tree.specs.declared.stmt.NamedStmtKind.TheVariants.{If, Unti
 use Rattle.bl_types.specs.declared.environment.Environment.{Environment}
 use Rattle.bl_types.specs.declared.environment.State.{State}
 use Rattle.bl_types.specs.inner.States.{passed}
-use Rattle.bl_types.specs.Statements.{
-  Block,
-  StatementJudgement,
-  Walked,
-  arm_of,
-  arm_walked,
-  branch_walked,
-  choice,
-  condition,
-  in_order,
-  kind_walked,
-  misplaced,
-  stmt_made,
-  under,
-  until,
-  walked,
-  walked_arm,
-  walked_block,
-  walked_branch,
-  walked_kind,
-  walked_layer,
-  walked_stmt,
-}
+use Rattle.bl_types.specs.Statements.{Block, StatementJudgement, Walked, arm_of, arm_walked, branch_walked, choice, condition, in_order, kind_walked, misplaced}
+use Rattle.bl_types.specs.Statements.{stmt_made, under, until, walked, walked_arm, walked_block, walked_branch, walked_kind, walked_layer, walked_stmt}
 use Rattle.bl_types.proofs.GatherLemmas.{kept_one}
 use Rattle.bl_types.proofs.StateLemmas.{passed-passed}
 

@@ -32,37 +32,11 @@ use Rattle.bl_names_tree.specs.Placed.{DeclaredBefore, PlacedStep, expr_placed, 
 use Rattle.bl_names_tree.specs.inner.Placed.{step_of_arm, step_of_branch}
 use Rattle.bl_types.specs.declared.environment.Environment.{Environment}
 use Rattle.bl_types.specs.Settled.{Settled}
-use Rattle.bl_types.specs.Statements.{
-  Block,
-  StatementJudgement,
-  Walked,
-  arm_of,
-  arm_walked,
-  branch_walked,
-  condition,
-  in_order,
-  misplaced,
-  stmt_made,
-  under,
-  walked,
-  walked_arm,
-  walked_block,
-  walked_branch,
-  walked_stmt,
-}
+use Rattle.bl_types.specs.Statements.{Block, StatementJudgement, Walked, arm_of, arm_walked, branch_walked, condition, in_order, misplaced, stmt_made, under}
+use Rattle.bl_types.specs.Statements.{walked, walked_arm, walked_block, walked_branch, walked_stmt}
 use Rattle.bl_types_laws.specs.Fitting.{IsMade}
-use Rattle.bl_types_laws.specs.Standing.{
-  Around,
-  BlockPassed,
-  Known,
-  PartPassed,
-  VariablesThere,
-  arm_named,
-  branch_named,
-  kind_named,
-  stmt_layer_named,
-  stmt_named,
-}
+use Rattle.bl_types_laws.specs.Standing.{Around, BlockPassed, Known, PartPassed, VariablesThere, arm_named, branch_named, kind_named, stmt_layer_named}
+use Rattle.bl_types_laws.specs.Standing.{stmt_named}
 use Rattle.bl_types_laws.specs.Within.{calls_functions, known_in}
 use Rattle.bl_types_laws.specs.inner.Named.{named_arm, named_branch}
 use Rattle.bl_types_laws.proofs.Arguments.{condition_fits}
@@ -70,19 +44,8 @@ use Rattle.bl_types_laws.proofs.Declared.{constant_walk_fits, declare_fits}
 use Rattle.bl_types_laws.proofs.Forms.{map_found, nil_left, nil_right}
 use Rattle.bl_types_laws.proofs.MorePlaced.{placed_still}
 use Rattle.bl_types_laws.proofs.NamedStmtInduction.{Cases, induct, induct_arm, stmt}
-use Rattle.bl_types_laws.proofs.Statements.{
-  arm_is,
-  assign_fits,
-  await_fits,
-  call_fit,
-  fits_is,
-  good_arm,
-  good_branch,
-  own_kind,
-  return_walk_fits,
-  run_fit,
-  truth_made,
-}
+use Rattle.bl_types_laws.proofs.Statements.{arm_is, assign_fits, await_fits, call_fit, fits_is, good_arm, good_branch, own_kind, return_walk_fits, run_fit}
+use Rattle.bl_types_laws.proofs.Statements.{truth_made}
 use Rattle.bl_types_laws.proofs.StmtLayers.{Layer, step_by, step_is, walked_by, walked_is}
 use Rattle.bl_types_laws.proofs.Walks.{own_calls, WalkFits, block_fits, grown_around, grown_further, grown_there, not_must, within_of}
 

@@ -15,17 +15,8 @@ use Rattle.bl_eval.proofs.PassLemmas.{and_left, and_right, both, get_seam}
 use Rattle.bl_names_tree.specs.declared.expr.NamedExpr.{NamedExpr}
 use Rattle.bl_names_tree.specs.declared.item.NamedConstant.{NamedConstant}
 use Rattle.bl_names_tree.specs.declared.item.NamedVar.{NamedVar}
-use Rattle.bl_names_tree.specs.Placed.{
-  DeclaredBefore,
-  constant_placed,
-  expr_placed,
-  holds_if,
-  holds_of,
-  type_placed,
-  var_placed,
-  with_constant as constant_counted,
-  with_variable as variable_counted,
-}
+use Rattle.bl_names_tree.specs.Placed.{DeclaredBefore, constant_placed, expr_placed, holds_if, holds_of, type_placed, var_placed}
+use Rattle.bl_names_tree.specs.Placed.{with_constant as constant_counted, with_variable as variable_counted}
 use Rattle.bl_types.specs.declared.environment.Constant.{Constant}
 use Rattle.bl_types.specs.declared.environment.Environment.{Environment}
 use Rattle.bl_types.specs.declared.environment.Variable.{Variable}

@@ -1,26 +1,5 @@
 -- What is made of an expression fits, and where a target leads.
-use Rattle.std.proofs.Common.{
-  ◌≡◌,
-  ℕ,
-  ℤ,
-  zero,
-  suc,
-  List,
-  [],
-  ◌∷◌,
-  map,
-  length,
-  nat_lt,
-  Option,
-  Some,
-  None,
-  refl,
-  ap,
-  sym,
-  subst,
-  ◌∙◌,
-  arith,
-}
+use Rattle.std.proofs.Common.{◌≡◌, ℕ, ℤ, zero, suc, List, [], ◌∷◌, map, length, nat_lt, Option, Some, None, refl, ap, sym, subst, ◌∙◌, arith}
 use Rattle.std.specs.Prelude.{All, Bool, true, false, ◌&&◌, nat_eq, is_some, option_and_then, option_map, slice_get, if◌then◌else◌}
 use Rattle.std.specs.List.{cons_option}
 use Rattle.std.proofs.lemmas.Bool.{eq-eqb, eqb-true, ltb-true}
@@ -53,67 +32,17 @@ use Rattle.bl_names_tree.specs.declared.expr.Root.TheVariants as root
 use Rattle.bl_names_tree.specs.Placed.{expr_layer_placed, expr_placed, holds_of, kind_placed, part_placed, root_placed, target_layer_placed, target_placed}
 use Rattle.bl_names_tree.specs.inner.Placed.{step_placed}
 use Rattle.bl_types.specs.declared.environment.Environment.{Environment}
-use Rattle.bl_types.specs.Expressions.{
-  Formed,
-  Judged,
-  Led,
-  Stepped,
-  Targeted,
-  all_failures,
-  all_made,
-  call,
-  call_form,
-  call_formed,
-  constant_found,
-  fitted,
-  in_context,
-  judged,
-  judged_kind,
-  judged_layer,
-  judged_part,
-  judged_target,
-  misnamed,
-  params_of,
-  path_found,
-  previous_fits,
-  previous_formed,
-  previous_typed,
-  step_of,
-  stepped,
-  targeted,
-  targeted_from,
-  type_of_constant,
-  type_of_variable,
-  value_of_constant,
-  written_number,
-}
+use Rattle.bl_types.specs.Expressions.{Formed, Judged, Led, Stepped, Targeted, all_failures, all_made, call, call_form, call_formed, constant_found, fitted}
+use Rattle.bl_types.specs.Expressions.{in_context, judged, judged_kind, judged_layer, judged_part, judged_target, misnamed, params_of, path_found}
+use Rattle.bl_types.specs.Expressions.{previous_fits, previous_formed, previous_typed, step_of, stepped, targeted, targeted_from, type_of_constant}
+use Rattle.bl_types.specs.Expressions.{type_of_variable, value_of_constant, written_number}
 use Rattle.bl_types.specs.Failures.{unless}
 use Rattle.bl_types.specs.Settled.{Settled, int32}
 use Rattle.bl_types_laws.specs.Fitting.{FormFits, FoundFits, IsMade, SettledFits}
-use Rattle.bl_types_laws.specs.Within.{
-  EnvironmentWithin,
-  calls_functions,
-  expr_layer_calls,
-  has_parameters,
-  kind_calls,
-  known_in,
-  part_calls,
-  target_calls,
-  target_layer_calls,
-}
-use Rattle.bl_types_laws.proofs.Forms.{
-  FormedFits,
-  cast_fits,
-  in_context_fits,
-  literal_open,
-  nil_left,
-  nil_right,
-  one_fits,
-  reading_fits,
-  same_type_self,
-  two_fits,
-  unless_holds,
-}
+use Rattle.bl_types_laws.specs.Within.{EnvironmentWithin, calls_functions, expr_layer_calls, has_parameters, kind_calls, known_in, part_calls, target_calls}
+use Rattle.bl_types_laws.specs.Within.{target_layer_calls}
+use Rattle.bl_types_laws.proofs.Forms.{FormedFits, cast_fits, in_context_fits, literal_open, nil_left, nil_right, one_fits, reading_fits, same_type_self}
+use Rattle.bl_types_laws.proofs.Forms.{two_fits, unless_holds}
 use Rattle.bl_types_laws.proofs.NamedExprInduction.{Cases, EachIndex, OfIndex, expr, induct, induct_target}
 use Rattle.bl_types_laws.proofs.Targets.{LedFits, StepFits, field_fits, first_leads, index_fits, no_element, no_field, none_lead}
 use Rattle.bl_types_laws.proofs.Typed.{call_is, literal_is, path_is, previous_is}

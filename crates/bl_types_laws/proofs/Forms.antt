@@ -27,47 +27,11 @@ use Rattle.bl_types.specs.declared.form.Form.{Form}
 use Rattle.bl_types.specs.declared.form.Form.TheVariants.{Failing, Open, Of}
 use Rattle.bl_types.specs.declared.form.Found.{Found}
 use Rattle.bl_types.specs.declared.form.Found.TheVariants as found
-use Rattle.bl_types.specs.Expressions.{
-  Formed,
-  Judged,
-  after_failures,
-  beside,
-  cast,
-  cast_formed,
-  cast_made,
-  cast_settled,
-  fails_type,
-  formed_as,
-  in_context,
-  one_formed,
-  operands_made,
-  reading,
-  settled_two,
-  two_formed,
-  two_of,
-  type_of_two,
-  unwanted,
-  wanted_as,
-}
+use Rattle.bl_types.specs.Expressions.{Formed, Judged, after_failures, beside, cast, cast_formed, cast_made, cast_settled, fails_type, formed_as, in_context}
+use Rattle.bl_types.specs.Expressions.{one_formed, operands_made, reading, settled_two, two_formed, two_of, type_of_two, unwanted, wanted_as}
 use Rattle.bl_types.specs.Failures.{unless}
-use Rattle.bl_types.specs.Settled.{
-  Settled,
-  given,
-  given_scalar,
-  int32,
-  is_logical,
-  keeps_one_open,
-  keeps_two_open,
-  kept,
-  literal,
-  one,
-  one_made,
-  settled,
-  settled_if,
-  two,
-  two_made,
-  unfit,
-}
+use Rattle.bl_types.specs.Settled.{Settled, given, given_scalar, int32, is_logical, keeps_one_open, keeps_two_open, kept, literal, one, one_made, settled}
+use Rattle.bl_types.specs.Settled.{settled_if, two, two_made, unfit}
 use Rattle.bl_types_laws.specs.Fitting.{FormFits, FoundFits, IsMade, OpenFits, SettledFits}
 use Rattle.bl_types_laws.proofs.Typed.{cast_is, literal_is, one_is, read_is, settled_literal, settled_one, settled_two as settled_two_is, two_is}
 

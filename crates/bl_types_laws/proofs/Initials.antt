@@ -33,18 +33,8 @@ use Rattle.bl_types.specs.declared.environment.Environment.{Environment}
 use Rattle.bl_types.specs.declared.form.Form.{Form}
 use Rattle.bl_types.specs.declared.form.Form.TheVariants.{Failing, Open, Of}
 use Rattle.bl_types.specs.declared.form.Valued.{Valued}
-use Rattle.bl_types.specs.Declarations.{
-  Initial,
-  after_constant,
-  closed_initial,
-  constant_failures,
-  constant_of,
-  expr_of_form,
-  initial,
-  not_scalar,
-  type_of_form,
-  typed_initial,
-}
+use Rattle.bl_types.specs.Declarations.{Initial, after_constant, closed_initial, constant_failures, constant_of, expr_of_form, initial, not_scalar}
+use Rattle.bl_types.specs.Declarations.{type_of_form, typed_initial}
 use Rattle.bl_types.specs.Expressions.{Judged, closed_form, in_context, judged, of_settled}
 use Rattle.bl_types.specs.Folded.{folded, is_constant, no_values, not_constant, nowhere, number_in, number_or_zero, traps}
 use Rattle.bl_types.specs.Settled.{Settled, int32}

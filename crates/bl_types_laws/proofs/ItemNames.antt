@@ -1,31 +1,6 @@
 -- Units are named as their types want it, and calls in the values of constants name functions, where every use fits.
-use Rattle.std.proofs.Common.{
-  ◌≡◌,
-  ℕ,
-  zero,
-  suc,
-  ◌+◌,
-  Bool,
-  true,
-  ◌&&◌,
-  List,
-  [],
-  ◌∷◌,
-  ◌++◌,
-  map,
-  length,
-  take,
-  Some,
-  None,
-  refl,
-  sym,
-  ap,
-  subst,
-  ◌∙◌,
-  append_assoc,
-  append-nil,
-  arith,
-}
+use Rattle.std.proofs.Common.{◌≡◌, ℕ, zero, suc, ◌+◌, Bool, true, ◌&&◌, List, [], ◌∷◌, ◌++◌, map, length, take, Some, None, refl, sym, ap, subst, ◌∙◌}
+use Rattle.std.proofs.Common.{append_assoc, append-nil, arith}
 use Rattle.std.specs.Prelude.{slice_get, ⊤}
 use Rattle.std.specs.List.{list_all}
 use Rattle.std.proofs.lemmas.Option.{same_Some}
@@ -44,21 +19,8 @@ use Rattle.bl_names_tree.specs.declared.stmt.NamedStmt.{NamedStmt}
 use Rattle.bl_names_tree.specs.Placed.{holds_of}
 use Rattle.bl_names_scopes.specs.declared.kind.Kind.TheVariants as kinds
 use Rattle.bl_names_scopes.specs.declared.scopes.Counts.{Counts}
-use Rattle.bl_names_scopes.specs.Marks.{
-  closes,
-  constant_marks,
-  declares,
-  expr_marks,
-  in_scope,
-  inside_unit,
-  item_marks,
-  kind_of_unit,
-  marks_of,
-  optional,
-  struct_marks,
-  type_marks,
-  unit_marks,
-}
+use Rattle.bl_names_scopes.specs.Marks.{closes, constant_marks, declares, expr_marks, in_scope, inside_unit, item_marks, kind_of_unit, marks_of, optional}
+use Rattle.bl_names_scopes.specs.Marks.{struct_marks, type_marks, unit_marks}
 use Rattle.bl_names_scopes.specs.Scopes.{Scopes, after, count_of, counted, enter}
 use Rattle.bl_parse_tree.specs.declared.item.RawItem.{RawItem}
 use Rattle.bl_parse_tree.specs.declared.item.RawItem.TheVariants as item

@@ -31,64 +31,13 @@ use Rattle.bl_types.specs.declared.environment.Environment.{Environment}
 use Rattle.bl_types.specs.declared.form.Form.{Form}
 use Rattle.bl_types.specs.declared.form.Form.TheVariants.{Failing, Open, Of}
 use Rattle.bl_types.specs.Declarations.{expr_of_form, initial}
-use Rattle.bl_types.specs.Expressions.{
-  Formed,
-  Judged,
-  Stepped,
-  Targeted,
-  beside,
-  beside_none,
-  cast,
-  cast_formed,
-  cast_made,
-  closed_form,
-  constant_found,
-  fails_type,
-  formed_as,
-  judged,
-  judged_kind,
-  judged_layer,
-  judged_part,
-  judged_target,
-  of_settled,
-  one_formed,
-  operands_made,
-  reading,
-  settled_two,
-  step_of,
-  stepped,
-  targeted,
-  targeted_from,
-  two_formed,
-  type_of_constant,
-  type_of_two,
-  value_of_constant,
-  wanted_as,
-  written_number,
-}
+use Rattle.bl_types.specs.Expressions.{Formed, Judged, Stepped, Targeted, beside, beside_none, cast, cast_formed, cast_made, closed_form, constant_found}
+use Rattle.bl_types.specs.Expressions.{fails_type, formed_as, judged, judged_kind, judged_layer, judged_part, judged_target, of_settled, one_formed}
+use Rattle.bl_types.specs.Expressions.{operands_made, reading, settled_two, step_of, stepped, targeted, targeted_from, two_formed, type_of_constant}
+use Rattle.bl_types.specs.Expressions.{type_of_two, value_of_constant, wanted_as, written_number}
 use Rattle.bl_types.specs.Folded.{constant_kind, constant_layer, constant_part, constant_target, constant_target_of, is_constant, whole_constant}
-use Rattle.bl_types.specs.Settled.{
-  Settled,
-  given,
-  given_scalar,
-  int32,
-  is_logical,
-  keeps_one_open,
-  keeps_two_open,
-  kept,
-  literal,
-  one,
-  one_made,
-  settled,
-  settled_if,
-  settled_kind,
-  settled_layer,
-  settled_part,
-  settled_path,
-  two,
-  two_made,
-  unfit,
-}
+use Rattle.bl_types.specs.Settled.{Settled, given, given_scalar, int32, is_logical, keeps_one_open, keeps_two_open, kept, literal, one, one_made, settled}
+use Rattle.bl_types.specs.Settled.{settled_if, settled_kind, settled_layer, settled_part, settled_path, two, two_made, unfit}
 use Rattle.bl_types.specs.Written.{written_type}
 use Rattle.bl_types_laws.proofs.NamedExprInduction.{Cases, EachIndex, expr, induct}
 

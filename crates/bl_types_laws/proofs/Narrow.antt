@@ -8,14 +8,8 @@ use Rattle.bl_tree.specs.Reduce.{all_of}
 use Rattle.bl_tree.specs.Typing.{is_function}
 use Rattle.bl_eval.proofs.PassLemmas.{and_left, and_right, both}
 use Rattle.bl_names_tree.specs.declared.expr.NamedExpr.{NamedExpr, fold-roll-NamedExpr}
-use Rattle.bl_names_tree.specs.declared.expr.NamedExprKind.{
-  NamedExprKind,
-  fold-NamedExprKind,
-  fold-roll-NamedExprKind,
-  map-NamedExprKind,
-  out-roll-NamedExprKind,
-  roll-NamedExprKind,
-}
+use Rattle.bl_names_tree.specs.declared.expr.NamedExprKind.{NamedExprKind, fold-NamedExprKind, fold-roll-NamedExprKind, map-NamedExprKind}
+use Rattle.bl_names_tree.specs.declared.expr.NamedExprKind.{out-roll-NamedExprKind, roll-NamedExprKind}
 use Rattle.bl_names_tree.specs.declared.expr.NamedExprKind.TheOpen.{NamedExprKind-F, NamedPart-F}
 use Rattle.bl_names_tree.specs.declared.expr.NamedPart.{NamedPart, fold_out-NamedPart, map-NamedPart, out-NamedPart}
 use Rattle.bl_names_tree.specs.declared.expr.NamedTarget.{NamedTarget, fold-roll-NamedTarget, roll-NamedTarget}

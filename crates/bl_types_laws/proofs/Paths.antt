@@ -1,26 +1,5 @@
 -- Paths that stand for outputs, and targets that are assigned.
-use Rattle.std.proofs.Common.{
-  ◌≡◌,
-  ℕ,
-  suc,
-  ℤ,
-  List,
-  [],
-  ◌∷◌,
-  ◌++◌,
-  map,
-  length,
-  nat_lt,
-  Option,
-  Some,
-  None,
-  refl,
-  ap,
-  sym,
-  subst,
-  ◌∙◌,
-  arith,
-}
+use Rattle.std.proofs.Common.{◌≡◌, ℕ, suc, ℤ, List, [], ◌∷◌, ◌++◌, map, length, nat_lt, Option, Some, None, refl, ap, sym, subst, ◌∙◌, arith}
 use Rattle.std.specs.Prelude.{Bool, true, false, is_some, option_and_then, slice_get, if◌then◌else◌}
 use Rattle.std.specs.List.{cons_option, list_all}
 use Rattle.bl_tree.specs.declared.place.Place.{Place}
@@ -38,20 +17,8 @@ use Rattle.bl_tree.specs.declared.tree.Var.{Var}
 use Rattle.bl_tree.specs.Reduce.{all_of}
 use Rattle.bl_tree.specs.declared.scalar.Scalar.{Scalar as ScalarType}
 use Rattle.bl_tree.specs.Types.{same_type, scalar_in}
-use Rattle.bl_tree.specs.Typing.{
-  TypingContext,
-  expr_ignored,
-  is_assignable,
-  is_outlet,
-  is_plain,
-  kind_ignored,
-  may_change,
-  part_is_field,
-  path_is_plain,
-  type_of_path,
-  types_match,
-  var_at,
-}
+use Rattle.bl_tree.specs.Typing.{TypingContext, expr_ignored, is_assignable, is_outlet, is_plain, kind_ignored, may_change, part_is_field, path_is_plain}
+use Rattle.bl_tree.specs.Typing.{type_of_path, types_match, var_at}
 use Rattle.bl_eval.proofs.FitLemmas.{same_type_is}
 use Rattle.bl_eval.proofs.PassLemmas.{and_left, and_right, both}
 use Rattle.bl_parse_tree.specs.declared.name.Name.{Name}
@@ -64,31 +31,9 @@ use Rattle.bl_names_tree.specs.inner.Placed.{step_placed}
 use Rattle.bl_types.specs.declared.environment.Environment.{Environment}
 use Rattle.bl_types.specs.declared.environment.Variable.{Variable}
 use Rattle.bl_types.specs.declared.form.Found.TheVariants as found
-use Rattle.bl_types.specs.Expressions.{
-  FieldAt,
-  Formed,
-  Judged,
-  Led,
-  Stepped,
-  Targeted,
-  constant_found,
-  field_found,
-  field_in,
-  judged_kind,
-  judged_layer,
-  judged_part,
-  judged_target,
-  path,
-  path_found,
-  stepped,
-  step_of,
-  targeted,
-  targeted_from,
-  to_field,
-  type_of_constant,
-  type_of_variable,
-  value_of_constant,
-}
+use Rattle.bl_types.specs.Expressions.{FieldAt, Formed, Judged, Led, Stepped, Targeted, constant_found, field_found, field_in, judged_kind, judged_layer}
+use Rattle.bl_types.specs.Expressions.{judged_part, judged_target, path, path_found, stepped, step_of, targeted, targeted_from, to_field, type_of_constant}
+use Rattle.bl_types.specs.Expressions.{type_of_variable, value_of_constant}
 use Rattle.bl_types.specs.Failures.{fails_at}
 use Rattle.bl_types.specs.Statements.{Lent, all_lent, immutable, immutable_variable, lent, lent_as, paths_failures, paths_made}
 use Rattle.bl_types_laws.specs.Fitting.{AllLent, FoundFits, IsLent}

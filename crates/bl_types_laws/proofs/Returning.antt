@@ -30,14 +30,8 @@ use Rattle.bl_names_tree.specs.Placed.{DeclaredBefore, PlacedStep, declares_none
 use Rattle.bl_names_tree.specs.inner.Placed.{step_of_arm}
 use Rattle.bl_types.specs.declared.environment.Environment.{Environment}
 use Rattle.bl_types.specs.Expressions.{in_context, judged}
-use Rattle.bl_types.specs.Returns.{
-  arm_surely_returns,
-  arm_returns as named_arm_returns,
-  branch_returns as named_branch_returns,
-  kind_returns as named_kind_returns,
-  layer_returns,
-  surely_returns as named_surely_returns,
-}
+use Rattle.bl_types.specs.Returns.{arm_surely_returns, arm_returns as named_arm_returns, branch_returns as named_branch_returns}
+use Rattle.bl_types.specs.Returns.{kind_returns as named_kind_returns, layer_returns, surely_returns as named_surely_returns}
 use Rattle.bl_types.specs.Statements.{Block, StatementJudgement, Walked, arm_of, arm_walked, condition, in_order, returned, stmt_made, walked_arm, walked_stmt}
 use Rattle.bl_types_laws.specs.Standing.{Around, Known, stmt_named}
 use Rattle.bl_types_laws.specs.Within.{calls_functions, known_in}

@@ -10,24 +10,8 @@ use Rattle.bl_tree.proofs.ReduceLemmas.{all_of-append, joined-append}
 use Rattle.bl_eval.proofs.PassLemmas.{and_left, and_right, both}
 use Rattle.bl_types.specs.declared.environment.Environment.{Environment}
 use Rattle.bl_types.specs.Statements.{Walked, in_order}
-use Rattle.bl_types_laws.proofs.Orders.{
-  DepthMost,
-  NamingMost,
-  NamingsMost,
-  among_both,
-  among_none,
-  among_self,
-  block_most,
-  branches_most,
-  depths_first,
-  depths_none,
-  depths_skip,
-  leaf_most,
-  namings_first,
-  namings_none,
-  namings_skip,
-  none_most,
-}
+use Rattle.bl_types_laws.proofs.Orders.{DepthMost, NamingMost, NamingsMost, among_both, among_none, among_self, block_most, branches_most, depths_first}
+use Rattle.bl_types_laws.proofs.Orders.{depths_none, depths_skip, leaf_most, namings_first, namings_none, namings_skip, none_most}
 use Rattle.bl_types_laws.proofs.Sizes.{Size, SizeMost}
 
 -- what a statement, an arm or a branch is by its depth, what it declares and names

@@ -1,26 +1,5 @@
 -- What is made of a struct and of a unit stands.
-use Rattle.std.proofs.Common.{
-  ◌≡◌,
-  ℕ,
-  ◌+◌,
-  ◌≤◌,
-  arith,
-  true,
-  ◌&&◌,
-  List,
-  [],
-  ◌∷◌,
-  ◌++◌,
-  length,
-  map,
-  take,
-  Some,
-  refl,
-  sym,
-  ap,
-  subst,
-  ◌∙◌,
-}
+use Rattle.std.proofs.Common.{◌≡◌, ℕ, ◌+◌, ◌≤◌, arith, true, ◌&&◌, List, [], ◌∷◌, ◌++◌, length, map, take, Some, refl, sym, ap, subst, ◌∙◌}
 use Rattle.std.specs.Prelude.{nat_le}
 use Rattle.std.specs.List.{list_all}
 use Rattle.std.proofs.lemmas.Bool.{le-leb, leb-true}
@@ -44,20 +23,8 @@ use Rattle.bl_names_tree.specs.declared.item.NamedStruct.{NamedStruct}
 use Rattle.bl_names_tree.specs.declared.item.NamedUnit.{NamedUnit}
 use Rattle.bl_names_tree.specs.declared.item.NamedVar.{NamedVar}
 use Rattle.bl_names_tree.specs.Placed.{DeclaredBefore, parameters, struct_placed}
-use Rattle.bl_names_laws.specs.WellFormed.{
-  body_apart,
-  body_filled,
-  body_shallow,
-  fields_differ,
-  fields_named,
-  has_name,
-  parameters_differ,
-  variables_named,
-  field_names as named_fields,
-  names_of as named_names,
-  struct_stands as struct_keeps,
-  unit_stands as unit_keeps,
-}
+use Rattle.bl_names_laws.specs.WellFormed.{body_apart, body_filled, body_shallow, fields_differ, fields_named, has_name, parameters_differ, variables_named}
+use Rattle.bl_names_laws.specs.WellFormed.{field_names as named_fields, names_of as named_names, struct_stands as struct_keeps, unit_stands as unit_keeps}
 use Rattle.bl_types.specs.declared.environment.Environment.{Environment}
 use Rattle.bl_types.specs.Declarations.{after_struct, field_of, struct_of}
 use Rattle.bl_types.specs.Statements.{Block, walked_block}

@@ -20,27 +20,8 @@ use Rattle.bl_tree.specs.declared.tree.Ty.{Ty}
 use Rattle.bl_tree.specs.declared.tree.Unit.{Unit as UnitDef}
 use Rattle.bl_tree.specs.Reduce.{all_of}
 use Rattle.bl_tree.specs.Types.{scalar}
-use Rattle.bl_tree.specs.Typing.{
-  TypingContext,
-  are_same,
-  arguments_fit,
-  arm_fits,
-  branch_fits,
-  call_fits,
-  fits,
-  is_activity,
-  is_assignable,
-  is_function,
-  is_outlet,
-  is_truth,
-  kind_fits,
-  return_fits,
-  run_fits,
-  stmt_fits,
-  target_fits,
-  type_of,
-  type_of_path,
-}
+use Rattle.bl_tree.specs.Typing.{TypingContext, are_same, arguments_fit, arm_fits, branch_fits, call_fits, fits, is_activity, is_assignable, is_function}
+use Rattle.bl_tree.specs.Typing.{is_outlet, is_truth, kind_fits, return_fits, run_fits, stmt_fits, target_fits, type_of, type_of_path}
 use Rattle.bl_eval.proofs.OperatorFits.{where_holds}
 use Rattle.bl_eval.proofs.PassLemmas.{and_left, and_right, both}
 use Rattle.bl_names_tree.specs.declared.expr.NamedExpr.{NamedExpr}
@@ -53,30 +34,8 @@ use Rattle.bl_types.specs.declared.form.Found.TheVariants as found
 use Rattle.bl_types.specs.Expressions.{Targeted, in_context, judged, targeted}
 use Rattle.bl_types.specs.Failures.{unless}
 use Rattle.bl_types.specs.Settled.{Settled}
-use Rattle.bl_types.specs.Statements.{
-  Arguments,
-  RunTarget,
-  arguments,
-  arm_of,
-  assign,
-  assign_made,
-  call_walked,
-  condition,
-  has_result,
-  if_complete,
-  immutable,
-  lent,
-  misplaced,
-  no_result,
-  result_type,
-  returned,
-  run_made,
-  run_target,
-  run_walked,
-  stmt_made,
-  type_found,
-  walked,
-}
+use Rattle.bl_types.specs.Statements.{Arguments, RunTarget, arguments, arm_of, assign, assign_made, call_walked, condition, has_result, if_complete, immutable}
+use Rattle.bl_types.specs.Statements.{lent, misplaced, no_result, result_type, returned, run_made, run_target, run_walked, stmt_made, type_found, walked}
 use Rattle.bl_types_laws.specs.Fitting.{FoundFits, IsLent, IsMade}
 use Rattle.bl_types_laws.specs.Standing.{Around, Known, PartPassed}
 use Rattle.bl_types_laws.specs.Within.{EnvironmentWithin, calls_functions, known_in, target_calls}

@@ -1,24 +1,5 @@
 -- Statements are named as their types want it, where every use fits.
-use Rattle.std.proofs.Common.{
-  ◌≡◌,
-  Bool,
-  true,
-  ◌&&◌,
-  ◌||◌,
-  List,
-  [],
-  ◌∷◌,
-  ◌++◌,
-  map,
-  Option,
-  Some,
-  None,
-  refl,
-  sym,
-  ap,
-  subst,
-  ◌∙◌,
-}
+use Rattle.std.proofs.Common.{◌≡◌, Bool, true, ◌&&◌, ◌||◌, List, [], ◌∷◌, ◌++◌, map, Option, Some, None, refl, sym, ap, subst, ◌∙◌}
 use Rattle.std.specs.Prelude.{All, is_some, option_map, slice_get}
 use Rattle.std.proofs.lemmas.List.Elements.{All-head, All-tail}
 use Rattle.bl_tree.specs.declared.place.Place.{Place}
@@ -51,72 +32,25 @@ use Rattle.bl_parse_tree.specs.declared.stmt.RawStmt.{RawStmt, fold-roll-RawStmt
 use Rattle.bl_parse_tree.specs.declared.stmt.RawStmtKind.{RawStmtKind, fold-RawStmtKind, fold-roll-RawStmtKind, map-RawStmtKind}
 use Rattle.bl_parse_tree.specs.declared.stmt.RawStmtKind.TheOpen.{RawStmtKind-F}
 use Rattle.bl_parse_tree.specs.declared.types.RawType.{RawType}
-use Rattle.bl_parse_tree.specs.Names.{
-  arm_stands,
-  branch_stands,
-  expr_named,
-  is_filled,
-  named,
-  optional as if_there,
-  stmt_kind_stands,
-  stmt_layer_stands,
-  stmt_stands,
-  type_named,
-}
-use Rattle.bl_names.specs.Named.{
-  Piece,
-  all,
-  arm_piece,
-  branch_piece,
-  constant_piece,
-  kind_piece,
-  made_of_all,
-  marks_of_all,
-  named_constant,
-  named_var,
-  opened,
-  own_scope,
-  piece_of_arm,
-  piece_of_branch,
-  plain,
-  stmt_layer_piece,
-  stmt_piece,
-}
+use Rattle.bl_parse_tree.specs.Names.{arm_stands, branch_stands, expr_named, is_filled, named, optional as if_there, stmt_kind_stands, stmt_layer_stands}
+use Rattle.bl_parse_tree.specs.Names.{stmt_stands, type_named}
+use Rattle.bl_names.specs.Named.{Piece, all, arm_piece, branch_piece, constant_piece, kind_piece, made_of_all, marks_of_all, named_constant, named_var, opened}
+use Rattle.bl_names.specs.Named.{own_scope, piece_of_arm, piece_of_branch, plain, stmt_layer_piece, stmt_piece}
 use Rattle.bl_names.specs.Naming.{named_expr, named_path, named_target, position}
 use Rattle.bl_names.proofs.FitLemmas.{Fits, fits_behind, fits_first, fits_second}
 use Rattle.bl_names.proofs.PastLemmas.{enter-behind}
 use Rattle.bl_names.proofs.PieceLemmas.{parts}
 use Rattle.bl_names.proofs.PlacedStmt.{Within, within_first, within_one, within_second}
 use Rattle.bl_names.proofs.RawStmtInduction.{Cases, induct, stmt}
-use Rattle.bl_names.proofs.StillLemmas.{
-  Still,
-  after-append,
-  still_append,
-  still_arguments,
-  still_expr,
-  still_optional,
-  still_target,
-  still_type,
-  still_use,
-  still_value,
-}
+use Rattle.bl_names.proofs.StillLemmas.{Still, after-append, still_append, still_arguments, still_expr, still_optional, still_target, still_type, still_use}
+use Rattle.bl_names.proofs.StillLemmas.{still_value}
 use Rattle.bl_eval.proofs.PassLemmas.{and_left, and_right, both}
 use Rattle.bl_types_laws.specs.Standing.{arm_named, branch_named, declared_by, kind_named, stmt_layer_named, stmt_named}
 use Rattle.bl_types_laws.specs.Within.{calls_functions}
 use Rattle.bl_types_laws.specs.inner.Named.{named_arm, named_branch}
 use Rattle.bl_types_laws.proofs.ExprCalls.{activity_is, expr_is, exprs_are, function_is, optional_is, target_is}
-use Rattle.bl_types_laws.proofs.Suits.{
-  Suits,
-  scope_is,
-  suits_closed,
-  suits_constant,
-  suits_none,
-  suits_so,
-  suits_still,
-  suits_then,
-  suits_variable,
-  told_opened,
-}
+use Rattle.bl_types_laws.proofs.Suits.{Suits, scope_is, suits_closed, suits_constant, suits_none, suits_so, suits_still, suits_then, suits_variable}
+use Rattle.bl_types_laws.proofs.Suits.{told_opened}
 use Rattle.bl_types_laws.proofs.Told.{Told, kinds_of}
 
 abbrev RawLayer : Type 0

@@ -28,27 +28,8 @@ use Rattle.bl_types.specs.declared.environment.Environment.{Environment}
 use Rattle.bl_types.specs.declared.form.Found.{Found}
 use Rattle.bl_types.specs.declared.form.Found.TheVariants as found
 use Rattle.bl_types.specs.Returns.{arm_layer_strays, branch_layer_strays, kind_strays, layer_strays, strays_in, strays_in_arm, strays_in_branch}
-use Rattle.bl_types.specs.Statements.{
-  Arguments,
-  Block,
-  StatementJudgement,
-  Walked,
-  arguments,
-  run_target,
-  arm_of,
-  arm_walked,
-  assign_made,
-  branch_walked,
-  condition,
-  declare,
-  if_complete,
-  in_order,
-  run_made,
-  stmt_made,
-  walked_arm,
-  walked_branch,
-  walked_stmt,
-}
+use Rattle.bl_types.specs.Statements.{Arguments, Block, StatementJudgement, Walked, arguments, run_target, arm_of, arm_walked, assign_made, branch_walked}
+use Rattle.bl_types.specs.Statements.{condition, declare, if_complete, in_order, run_made, stmt_made, walked_arm, walked_branch, walked_stmt}
 use Rattle.bl_types_laws.proofs.Arguments.{complete_if}
 use Rattle.bl_types_laws.proofs.Forms.{map_found, nil_left, nil_right}
 use Rattle.bl_types_laws.proofs.NamedStmtInduction.{Cases, induct, stmt}

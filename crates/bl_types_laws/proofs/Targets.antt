@@ -23,22 +23,8 @@ use Rattle.bl_eval.proofs.PassLemmas.{get_front}
 use Rattle.bl_parse_tree.specs.declared.name.Name.{Name}
 use Rattle.bl_types.specs.declared.form.Form.{Form}
 use Rattle.bl_types.specs.declared.form.Form.TheVariants.{Failing, Open, Of}
-use Rattle.bl_types.specs.Expressions.{
-  FieldAt,
-  Judged,
-  Led,
-  Stepped,
-  after_index,
-  as_index,
-  field_among,
-  field_found,
-  field_in as field_named,
-  no_array,
-  stepped,
-  to_element,
-  to_field,
-  whole_or_unfit,
-}
+use Rattle.bl_types.specs.Expressions.{FieldAt, Judged, Led, Stepped, after_index, as_index, field_among, field_found, field_in as field_named, no_array}
+use Rattle.bl_types.specs.Expressions.{stepped, to_element, to_field, whole_or_unfit}
 use Rattle.bl_types.specs.declared.environment.Environment.{Environment}
 use Rattle.bl_types.specs.Failures.{unless}
 use Rattle.bl_types.specs.Settled.{Settled, int32, kept, unfit}

@@ -25,21 +25,8 @@ use Rattle.bl_names_tree.specs.inner.Placed.{step_of_arm, step_of_branch}
 use Rattle.bl_types.specs.declared.environment.Environment.{Environment}
 use Rattle.bl_types.specs.declared.environment.Variable.{Variable}
 use Rattle.bl_types.specs.Declarations.{constant_of, initial, with_variable}
-use Rattle.bl_types.specs.Statements.{
-  Block,
-  StatementJudgement,
-  Walked,
-  after_optional_constant,
-  arm_walked,
-  branch_walked,
-  constant_walked,
-  declare,
-  in_order,
-  returned,
-  walked_arm,
-  walked_branch,
-  walked_stmt,
-}
+use Rattle.bl_types.specs.Statements.{Block, StatementJudgement, Walked, after_optional_constant, arm_walked, branch_walked, constant_walked, declare, in_order}
+use Rattle.bl_types.specs.Statements.{returned, walked_arm, walked_branch, walked_stmt}
 use Rattle.bl_types_laws.proofs.TypesStand.{scalar_initial, scalar_optional}
 use Rattle.bl_types.specs.Units.{is_scalar}
 use Rattle.bl_types_laws.specs.Within.{known_in}

@@ -1,26 +1,5 @@
 -- Types that are written or that expressions have name structs that are declared, and have lengths.
-use Rattle.std.proofs.Common.{
-  ◌≡◌,
-  ℕ,
-  suc,
-  ◌≤◌,
-  List,
-  [],
-  ◌∷◌,
-  ◌++◌,
-  map,
-  length,
-  nat_lt,
-  Option,
-  Some,
-  None,
-  refl,
-  ap,
-  sym,
-  subst,
-  ◌∙◌,
-  arith,
-}
+use Rattle.std.proofs.Common.{◌≡◌, ℕ, suc, ◌≤◌, List, [], ◌∷◌, ◌++◌, map, length, nat_lt, Option, Some, None, refl, ap, sym, subst, ◌∙◌, arith}
 use Rattle.std.specs.Prelude.{is_some, Bool, true, ◌&&◌, nat_le, option_and_then, option_map, slice_get, if◌then◌else◌}
 use Rattle.std.specs.List.{cons_option, list_all}
 use Rattle.bl_types.specs.declared.environment.Variable.{Variable}
@@ -44,22 +23,8 @@ use Rattle.bl_tree.specs.Numbers.{takes_one, takes_two, type_of_result}
 use Rattle.bl_tree.specs.Reduce.{joined}
 use Rattle.bl_tree.specs.Scalar.{in_range, is_whole}
 use Rattle.bl_tree.specs.Types.{scalar_at, same_scalar, same_type, scalar, scalar_in, type_stands, type_stands_level}
-use Rattle.bl_tree.specs.Typing.{
-  TypingContext,
-  after_parts,
-  call_type,
-  cast_type,
-  element_in,
-  field_in,
-  one_type,
-  prev_type,
-  two_type,
-  type_of,
-  type_of_path,
-  var_at,
-  where_same,
-  where_whole,
-}
+use Rattle.bl_tree.specs.Typing.{TypingContext, after_parts, call_type, cast_type, element_in, field_in, one_type, prev_type, two_type, type_of, type_of_path}
+use Rattle.bl_tree.specs.Typing.{var_at, where_same, where_whole}
 use Rattle.bl_tree.proofs.ExprInduction.{Cases, induct}
 use Rattle.bl_eval.proofs.OperatorFits.{some_found, where_holds}
 use Rattle.bl_eval.proofs.PartFits.{type_of_part}
@@ -68,34 +33,16 @@ use Rattle.bl_names_tree.specs.declared.item.NamedField.{NamedField}
 use Rattle.bl_names_tree.specs.declared.item.NamedStruct.{NamedStruct}
 use Rattle.bl_names_tree.specs.declared.types.NamedLength.{NamedLength}
 use Rattle.bl_names_tree.specs.declared.types.NamedLength.TheVariants as length_of
-use Rattle.bl_names_tree.specs.declared.types.NamedType.{
-  NamedType,
-  fold_out-NamedType,
-  out-NamedType,
-  fold-roll-NamedType,
-  ind-NamedType,
-  map-NamedType,
-  roll-NamedType,
-}
+use Rattle.bl_names_tree.specs.declared.types.NamedType.{NamedType, fold_out-NamedType, out-NamedType, fold-roll-NamedType, ind-NamedType, map-NamedType}
+use Rattle.bl_names_tree.specs.declared.types.NamedType.{roll-NamedType}
 use Rattle.bl_names_tree.specs.declared.types.NamedType.TheOpen.{NamedType-F}
 use Rattle.bl_names_tree.specs.Placed.{DeclaredBefore, length_placed, struct_placed, type_placed}
 use Rattle.bl_types.specs.declared.environment.Constant.{Constant}
 use Rattle.bl_types.specs.declared.environment.Environment.{Environment}
 use Rattle.bl_names_tree.specs.declared.expr.NamedExpr.{NamedExpr}
 use Rattle.bl_types.specs.Declarations.{initial, after_struct, field_lengths, field_of, struct_of}
-use Rattle.bl_types.specs.Written.{
-  type_level,
-  as_length,
-  bad_length,
-  bad_lengths,
-  constant_length,
-  is_whole_type,
-  natural,
-  or_zero,
-  place_of_length,
-  written_length,
-  written_type,
-}
+use Rattle.bl_types.specs.Written.{type_level, as_length, bad_length, bad_lengths, constant_length, is_whole_type, natural, or_zero, place_of_length}
+use Rattle.bl_types.specs.Written.{written_length, written_type}
 use Rattle.bl_types_laws.specs.Standing.{FieldsStand, VariableKnown}
 use Rattle.bl_types_laws.specs.Within.{known_in}
 use Rattle.bl_types_laws.specs.inner.Named.{has_scalar}

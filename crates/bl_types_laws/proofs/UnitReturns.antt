@@ -19,15 +19,8 @@ use Rattle.bl_names_tree.specs.declared.stmt.NamedStmtKind.TheOpen.{NamedStmtKin
 use Rattle.bl_names_tree.specs.Placed.{DeclaredBefore, in_turn, stmt_step}
 use Rattle.bl_types.specs.declared.environment.Environment.{Environment}
 use Rattle.bl_types.specs.Failures.{unless}
-use Rattle.bl_types.specs.Returns.{
-  activity_returns as named_activity_returns,
-  function_returns as named_function_returns,
-  is_return as named_is_return,
-  is_return_kind as named_return_kind,
-  return_failures,
-  strays,
-  surely_returns as named_surely_returns,
-}
+use Rattle.bl_types.specs.Returns.{activity_returns as named_activity_returns, function_returns as named_function_returns, is_return as named_is_return}
+use Rattle.bl_types.specs.Returns.{is_return_kind as named_return_kind, return_failures, strays, surely_returns as named_surely_returns}
 use Rattle.bl_types.specs.Statements.{Block, in_order, walked_stmt}
 use Rattle.bl_types_laws.specs.Standing.{Around, Known, stmt_named}
 use Rattle.bl_types_laws.specs.Within.{known_in}

@@ -1,31 +1,6 @@
 -- What one text declares in environments that agree.
-use Rattle.std.proofs.Common.{
-  ◌≡◌,
-  inr,
-  ⊎_elim,
-  ℕ,
-  zero,
-  suc,
-  ◌+◌,
-  ◌<◌,
-  ◌≤◌,
-  Bool,
-  true,
-  false,
-  List,
-  [],
-  ◌∷◌,
-  ◌++◌,
-  map,
-  length,
-  refl,
-  ap,
-  ap₂,
-  subst,
-  sym,
-  ◌∙◌,
-  arith,
-}
+use Rattle.std.proofs.Common.{◌≡◌, inr, ⊎_elim, ℕ, zero, suc, ◌+◌, ◌<◌, ◌≤◌, Bool, true, false, List, [], ◌∷◌, ◌++◌, map, length, refl, ap, ap₂, subst, sym}
+use Rattle.std.proofs.Common.{◌∙◌, arith}
 use Rattle.std.specs.Prelude.{Option, Some, None, if◌then◌else◌, is_some, option_and_then, option_map, slice_get}
 use Rattle.std.proofs.lemmas.Bool.{cases_lt}
 use Rattle.std.proofs.lemmas.List.{length-append, map-append}
@@ -50,32 +25,9 @@ use Rattle.bl_types.specs.declared.environment.Environment.{Environment}
 use Rattle.bl_types.specs.declared.form.Form.{Form}
 use Rattle.bl_types.specs.declared.form.Form.TheVariants as form
 use Rattle.bl_types.specs.declared.form.Valued.{Valued}
-use Rattle.bl_types.specs.Declarations.{
-  Declaring,
-  Initial,
-  after_constant,
-  after_parameter,
-  after_parameters,
-  after_struct,
-  after_variable,
-  and_then,
-  closed_initial,
-  constant_failures,
-  constant_of,
-  expr_of_form,
-  field_lengths,
-  field_of,
-  initial,
-  is_parameter,
-  not_scalar,
-  optional_lengths,
-  struct_of,
-  type_of_form,
-  typed_initial,
-  unchanged,
-  with_constant,
-  with_variable,
-}
+use Rattle.bl_types.specs.Declarations.{Declaring, Initial, after_constant, after_parameter, after_parameters, after_struct, after_variable, and_then}
+use Rattle.bl_types.specs.Declarations.{closed_initial, constant_failures, constant_of, expr_of_form, field_lengths, field_of, initial, is_parameter}
+use Rattle.bl_types.specs.Declarations.{not_scalar, optional_lengths, struct_of, type_of_form, typed_initial, unchanged, with_constant, with_variable}
 use Rattle.bl_types.specs.Expressions.{Formed, Judged, closed_form, in_context, judged}
 use Rattle.bl_types.specs.Folded.{not_constant, number_or_zero}
 use Rattle.bl_types.specs.Settled.{Settled}

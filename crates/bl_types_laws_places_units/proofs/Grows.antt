@@ -18,40 +18,14 @@ use Rattle.bl_names_tree.specs.declared.stmt.NamedArm.{NamedArm, fold-roll-Named
 use Rattle.bl_names_tree.specs.declared.stmt.NamedBranch.{NamedBranch, fold-roll-NamedBranch, roll-NamedBranch}
 use Rattle.bl_names_tree.specs.declared.stmt.NamedStmt.{NamedStmt}
 use Rattle.bl_names_tree.specs.declared.stmt.NamedStmtKind.TheOpen.{NamedStmtKind-F}
-use Rattle.bl_names_tree.specs.Placed.{
-  DeclaredBefore,
-  PlacedStep,
-  constant_placed,
-  declares_none,
-  expr_placed,
-  holds_if,
-  holds_of,
-  in_turn,
-  stmt_step,
-  tested,
-  var_placed,
-  with_constant as constant_counted,
-  with_variable as variable_counted,
-}
+use Rattle.bl_names_tree.specs.Placed.{DeclaredBefore, PlacedStep, constant_placed, declares_none, expr_placed, holds_if, holds_of, in_turn, stmt_step, tested}
+use Rattle.bl_names_tree.specs.Placed.{var_placed, with_constant as constant_counted, with_variable as variable_counted}
 use Rattle.bl_names_tree.specs.inner.Placed.{step_of_arm, step_of_branch}
 use Rattle.bl_types.specs.declared.environment.Constant.{Constant}
 use Rattle.bl_types.specs.declared.environment.Environment.{Environment}
 use Rattle.bl_types.specs.Declarations.{constant_of, initial, with_constant, with_variable}
-use Rattle.bl_types.specs.Statements.{
-  Block,
-  StatementJudgement,
-  Walked,
-  after_optional_constant,
-  arm_walked,
-  branch_walked,
-  constant_walked,
-  declare,
-  in_order,
-  returned,
-  walked_arm,
-  walked_branch,
-  walked_stmt,
-}
+use Rattle.bl_types.specs.Statements.{Block, StatementJudgement, Walked, after_optional_constant, arm_walked, branch_walked, constant_walked, declare, in_order}
+use Rattle.bl_types.specs.Statements.{returned, walked_arm, walked_branch, walked_stmt}
 use Rattle.bl_types_laws.specs.Standing.{Grown}
 use Rattle.bl_types_laws.specs.Within.{known_in}
 use Rattle.bl_types_laws.proofs.Declared.{constant_counts, variable_counts, variable_grown}

@@ -17,19 +17,8 @@ use Rattle.bl_tree_laws_places.specs.Placed.{placed_expr, placed_path}
 use Rattle.bl_tree_laws_places.proofs.Exprs.{path_out}
 use Rattle.bl_tree_laws_places.proofs.Stmts.{acted}
 use Rattle.bl_eval.proofs.PassLemmas.{and_left, and_right}
-use Rattle.bl_names_laws_places.specs.Renamed.{
-  Renaming,
-  renamed_constant,
-  renamed_expr,
-  renamed_expr_layer,
-  renamed_kind,
-  renamed_part,
-  renamed_path,
-  renamed_root,
-  renamed_target,
-  renamed_target_layer,
-  renamed_var,
-}
+use Rattle.bl_names_laws_places.specs.Renamed.{Renaming, renamed_constant, renamed_expr, renamed_expr_layer, renamed_kind, renamed_part, renamed_path}
+use Rattle.bl_names_laws_places.specs.Renamed.{renamed_root, renamed_target, renamed_target_layer, renamed_var}
 use Rattle.bl_names_tree.specs.declared.expr.NamedExpr.{NamedExpr}
 use Rattle.bl_names_tree.specs.declared.expr.NamedExprKind.{NamedExprKind}
 use Rattle.bl_names_tree.specs.declared.expr.NamedPart.{NamedPart, fold-NamedPart}
@@ -45,40 +34,13 @@ use Rattle.bl_types.specs.Declarations.{Initial, after_constant, initial}
 use Rattle.bl_types.specs.Expressions.{Targeted, in_context, judged, targeted}
 use Rattle.bl_types.specs.Failures.{fails_at}
 use Rattle.bl_types.specs.Settled.{Settled}
-use Rattle.bl_types.specs.Statements.{
-  Arguments,
-  RunTarget,
-  after_optional_constant,
-  arguments,
-  assign,
-  assign_made,
-  call_walked,
-  condition,
-  constant_walked,
-  declare,
-  declared_with,
-  has_result,
-  if_complete,
-  immutable,
-  misplaced,
-  returned,
-  run_made,
-  run_target,
-  run_walked,
-  type_found,
-  walked,
-}
+use Rattle.bl_types.specs.Statements.{Arguments, RunTarget, after_optional_constant, arguments, assign, assign_made, call_walked, condition, constant_walked}
+use Rattle.bl_types.specs.Statements.{declare, declared_with, has_result, if_complete, immutable, misplaced, returned, run_made, run_target, run_walked}
+use Rattle.bl_types.specs.Statements.{type_found, walked}
 use Rattle.bl_types_laws.specs.Within.{known_in}
 use Rattle.bl_types_laws_places.specs.Agree.{placed_failures}
 use Rattle.bl_types_laws_places.specs.Judgements.{placed_arguments, placed_found, placed_run_target, placed_settled, placed_targeted}
-use Rattle.bl_types_laws_places.specs.Laws.{
-  ArgumentsAgree,
-  DeclarationsAgree,
-  ExpressionsAgree,
-  SameArguments,
-  SameDeclarations,
-  SameJudgements,
-}
+use Rattle.bl_types_laws_places.specs.Laws.{ArgumentsAgree, DeclarationsAgree, ExpressionsAgree, SameArguments, SameDeclarations, SameJudgements}
 use Rattle.bl_types_laws_places_units.proofs.Alike.{Inside, SameConstants, WalksAlike, both_placed, unless_placed}
 use Rattle.bl_types_laws_places_units.proofs.Made as made
 

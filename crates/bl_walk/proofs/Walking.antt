@@ -1,29 +1,6 @@
 -- How ticks lead through all rows, and what walks show.
-use Rattle.std.proofs.Common.{
-  ◌≡◌,
-  ℕ,
-  suc,
-  ◌+◌,
-  ◌<◌,
-  ◌≤◌,
-  ℤ,
-  List,
-  [],
-  ◌∷◌,
-  ◌++◌,
-  length,
-  map,
-  drop,
-  get_or,
-  add-one,
-  drop-cons,
-  refl,
-  sym,
-  ap,
-  ◌∙◌,
-  subst,
-  arith,
-}
+use Rattle.std.proofs.Common.{◌≡◌, ℕ, suc, ◌+◌, ◌<◌, ◌≤◌, ℤ, List, [], ◌∷◌, ◌++◌, length, map, drop, get_or, add-one, drop-cons, refl, sym, ap, ◌∙◌, subst}
+use Rattle.std.proofs.Common.{arith}
 use Rattle.std.proofs.lemmas.List.{append-nil, append_assoc, length-map, map-append}
 use Rattle.std.specs.Prelude.{Some, None, ◌≢◌}
 use Rattle.bl_tree.specs.declared.place.Place.{Place}
@@ -36,19 +13,8 @@ use Rattle.bl_ctree.specs.Actions.{Action}
 use Rattle.bl_ctree.specs.Control.{Control, Idle}
 use Rattle.bl_ctree.specs.Instances.{Setting, setting_of}
 use Rattle.bl_ctree.specs.Laws.{StillIsUnlisted}
-use Rattle.bl_ctree.specs.Means.{
-  Allows,
-  ShownTrace,
-  ends as allows_end,
-  entry_items,
-  goes_on as allows_more,
-  is_stuck as allows_stuck,
-  nothing_more,
-  row_then,
-  shown_trace,
-  stays_open as allows_none,
-  traps as allows_trap,
-}
+use Rattle.bl_ctree.specs.Means.{Allows, ShownTrace, ends as allows_end, entry_items, goes_on as allows_more, is_stuck as allows_stuck, nothing_more, row_then}
+use Rattle.bl_ctree.specs.Means.{shown_trace, stays_open as allows_none, traps as allows_trap}
 use Rattle.bl_ctree.specs.Reaches.{Bounded, NeverStuck, after_tick, at_first}
 use Rattle.bl_ctree.specs.Store.{Store, first_store, outputs_row}
 use Rattle.bl_ctree.specs.Ticks.{Tick, End}

@@ -1,29 +1,5 @@
 -- Branches of one `cobegin` keep their variables apart.
-use Rattle.std.proofs.Common.{
-  ◌≡◌,
-  inl,
-  inr,
-  ℕ,
-  suc,
-  Bool,
-  true,
-  false,
-  not,
-  ◌&&◌,
-  ◌||◌,
-  List,
-  [],
-  ◌∷◌,
-  ◌++◌,
-  map,
-  get_or,
-  refl,
-  sym,
-  ap,
-  ◌∙◌,
-  subst,
-  eqb-true,
-}
+use Rattle.std.proofs.Common.{◌≡◌, inl, inr, ℕ, suc, Bool, true, false, not, ◌&&◌, ◌||◌, List, [], ◌∷◌, ◌++◌, map, get_or, refl, sym, ap, ◌∙◌, subst, eqb-true}
 use Rattle.std.specs.Prelude.{nat_eq}
 use Rattle.std.specs.List.{list_all, list_any}
 use Rattle.std.proofs.lemmas.List.Elements.{All-head, All-tail}
@@ -33,37 +9,13 @@ use Rattle.bl_tree.specs.declared.tree.Branch.{Branch, fold_out-Branch, out-Bran
 use Rattle.bl_tree.specs.declared.tree.Stmt.{Stmt, fold-roll-Stmt}
 use Rattle.bl_tree.specs.declared.tree.StmtKind.{StmtKind, fold-roll-StmtKind}
 use Rattle.bl_tree.specs.declared.tree.StmtKind.TheOpen.{StmtKind-F}
-use Rattle.bl_tree.specs.Apart.{
-  Naming,
-  Roots,
-  all_apart,
-  arm_naming,
-  branch_naming,
-  is_apart,
-  is_foreign,
-  keep_apart,
-  naming_of,
-  stmt_kind_naming,
-  stmt_layer_naming,
-}
+use Rattle.bl_tree.specs.Apart.{Naming, Roots, all_apart, arm_naming, branch_naming, is_apart, is_foreign, keep_apart, naming_of, stmt_kind_naming}
+use Rattle.bl_tree.specs.Apart.{stmt_layer_naming}
 use Rattle.bl_tree.specs.Reduce.{all_of}
 use Rattle.bl_tree.proofs.StmtInduction.{Cases, Each, EachArm, EachBranch, induct, stmt}
 use Rattle.bl_graph_nodes.specs.Laws.{plain_arm, plain_branch}
-use Rattle.bl_graph_nodes.specs.Plain.{
-  Label,
-  Plain,
-  Position,
-  If,
-  block_from,
-  bodies_from,
-  else_at,
-  inside,
-  label_at,
-  never,
-  passed_one,
-  plain_stmt,
-  plain_block,
-}
+use Rattle.bl_graph_nodes.specs.Plain.{Label, Plain, Position, If, block_from, bodies_from, else_at, inside, label_at, never, passed_one, plain_stmt}
+use Rattle.bl_graph_nodes.specs.Plain.{plain_block}
 use Rattle.bl_graph_nodes.proofs.Equations.{plain_statements}
 use Rattle.bl_ctree.specs.Actions.{Effect}
 use Rattle.bl_ctree.specs.Instances.{Setting}

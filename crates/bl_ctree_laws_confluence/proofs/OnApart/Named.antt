@@ -1,25 +1,5 @@
 -- Bodies name what their statements do.
-use Rattle.std.proofs.Common.{
-  ◌≡◌,
-  ◌⊎◌,
-  inl,
-  inr,
-  ℕ,
-  suc,
-  Bool,
-  true,
-  false,
-  ◌||◌,
-  List,
-  [],
-  ◌∷◌,
-  ◌++◌,
-  map,
-  get_or,
-  refl,
-  sym,
-  subst,
-}
+use Rattle.std.proofs.Common.{◌≡◌, ◌⊎◌, inl, inr, ℕ, suc, Bool, true, false, ◌||◌, List, [], ◌∷◌, ◌++◌, map, get_or, refl, sym, subst}
 use Rattle.std.specs.Prelude.{nat_eq}
 use Rattle.std.specs.List.{list_any}
 use Rattle.std.proofs.lemmas.List.Elements.{All-head, All-tail}
@@ -31,18 +11,7 @@ use Rattle.bl_tree.specs.declared.tree.ExprKind.{fold-roll-ExprKind}
 use Rattle.bl_tree.specs.declared.tree.Stmt.{Stmt, fold-roll-Stmt}
 use Rattle.bl_tree.specs.declared.tree.StmtKind.{StmtKind, fold-StmtKind, fold-roll-StmtKind, map-StmtKind}
 use Rattle.bl_tree.specs.declared.tree.StmtKind.TheOpen.{StmtKind-F}
-use Rattle.bl_tree.specs.Apart.{
-  Naming,
-  Roots,
-  arm_naming,
-  branch_naming,
-  naming_of,
-  roots_in,
-  roots_in_path,
-  stmt_kind_naming,
-  stmt_layer_naming,
-  target_roots,
-}
+use Rattle.bl_tree.specs.Apart.{Naming, Roots, arm_naming, branch_naming, naming_of, roots_in, roots_in_path, stmt_kind_naming, stmt_layer_naming, target_roots}
 use Rattle.bl_tree.specs.Reduce.{joined}
 use Rattle.bl_tree.proofs.StmtInduction.{Cases, Each, EachArm, EachBranch, induct, stmt}
 use Rattle.bl_graph_nodes.specs.Laws.{plain_arm, plain_branch}

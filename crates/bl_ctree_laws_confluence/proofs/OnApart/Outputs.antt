@@ -1,31 +1,6 @@
 -- Calls in trees that runs reach stand as their `run` statements do.
-use Rattle.std.proofs.Common.{
-  ◌≡◌,
-  inl,
-  inr,
-  ℕ,
-  zero,
-  suc,
-  ◌<◌,
-  Bool,
-  true,
-  List,
-  [],
-  ◌∷◌,
-  ◌++◌,
-  map,
-  length,
-  get_or,
-  Option,
-  Some,
-  refl,
-  sym,
-  ap,
-  ◌∙◌,
-  subst,
-  arith,
-  eqb-true,
-}
+use Rattle.std.proofs.Common.{◌≡◌, inl, inr, ℕ, zero, suc, ◌<◌, Bool, true, List, [], ◌∷◌, ◌++◌, map, length, get_or, Option, Some, refl, sym, ap, ◌∙◌, subst}
+use Rattle.std.proofs.Common.{arith, eqb-true}
 use Rattle.std.proofs.Math.Logic.{∥∥₁_elim}
 use mathlib.Core.Bool.{Bool-set}
 use Rattle.std.proofs.lemmas.List.Quantifiers.{position-Some}
@@ -50,68 +25,15 @@ use Rattle.bl_tree.specs.Static.{static_of}
 use Rattle.bl_tree.specs.Within.{StandsIn, Within, is_run, is_run_kind, itself, kind_children, place_of}
 use Rattle.bl_tree.proofs.StmtInduction.{Cases, Each, EachArm, EachBranch, induct, stmt}
 use Rattle.bl_effects.proofs.EntryLemmas.{same_place_is}
-use Rattle.bl_graph_nodes.specs.Plain.{
-  Block,
-  Bodies,
-  Plain,
-  Act,
-  Again,
-  Await,
-  Body as BodyOf,
-  Cobegin,
-  Done,
-  If,
-  Last,
-  Repeat,
-  Run as RunOf,
-  Then,
-  Until,
-  When,
-  While,
-  plain_body,
-}
+use Rattle.bl_graph_nodes.specs.Plain.{Block, Bodies, Plain, Act, Again, Await, Body as BodyOf, Cobegin, Done, If, Last, Repeat, Run as RunOf, Then, Until}
+use Rattle.bl_graph_nodes.specs.Plain.{When, While, plain_body}
 use Rattle.bl_ctree.specs.declared.instance.Instance.{Instance}
 use Rattle.bl_ctree.specs.declared.instance.Origin.{Origin}
 use Rattle.bl_ctree.specs.declared.instance.Run.{Run}
-use Rattle.bl_ctree.specs.Instances.{
-  Setting,
-  arm_runs,
-  begins_at,
-  branch_runs,
-  callee_of,
-  kind_runs,
-  runs_in,
-  runs_in_arm,
-  runs_in_branch,
-  runs_of,
-  setting_of,
-  stmt_layer_runs,
-  unit_at,
-  unit_of,
-}
-use Rattle.bl_ctree_laws.specs.Residual.{
-  PlainResidual,
-  PlainResidualEach,
-  PlainResidualOf,
-  ended,
-  none_left,
-  nothing,
-  of_again,
-  of_else,
-  of_guard,
-  of_last,
-  of_one,
-  of_par,
-  of_repeat,
-  of_run,
-  of_then,
-  of_until,
-  of_while,
-  one_left,
-  paused,
-  tested,
-  to_begin,
-}
+use Rattle.bl_ctree.specs.Instances.{Setting, arm_runs, begins_at, branch_runs, callee_of, kind_runs, runs_in, runs_in_arm, runs_in_branch, runs_of, setting_of}
+use Rattle.bl_ctree.specs.Instances.{stmt_layer_runs, unit_at, unit_of}
+use Rattle.bl_ctree_laws.specs.Residual.{PlainResidual, PlainResidualEach, PlainResidualOf, ended, none_left, nothing, of_again, of_else, of_guard, of_last}
+use Rattle.bl_ctree_laws.specs.Residual.{of_one, of_par, of_repeat, of_run, of_then, of_until, of_while, one_left, paused, tested, to_begin}
 use Rattle.bl_ctree_laws.specs.Steps.{turn}
 use Rattle.bl_ctree_laws.specs.Trees.{Tree, Trees}
 use Rattle.bl_ctree_laws.proofs.Tests.{and_first, and_second}

@@ -1,36 +1,6 @@
 -- What deeds write is seen in what their tree may still write, or lies in a call.
-use Rattle.std.proofs.Common.{
-  ◌≡◌,
-  ◌⊎◌,
-  inl,
-  inr,
-  ℕ,
-  zero,
-  suc,
-  ◌<◌,
-  Bool,
-  true,
-  false,
-  not,
-  ◌&&◌,
-  ◌||◌,
-  List,
-  [],
-  ◌∷◌,
-  ◌++◌,
-  map,
-  length,
-  Some,
-  refl,
-  sym,
-  ap,
-  ◌∙◌,
-  subst,
-  arith,
-  append_assoc,
-  eq-eqb,
-  eqb-true,
-}
+use Rattle.std.proofs.Common.{◌≡◌, ◌⊎◌, inl, inr, ℕ, zero, suc, ◌<◌, Bool, true, false, not, ◌&&◌, ◌||◌, List, [], ◌∷◌, ◌++◌, map, length, Some, refl, sym, ap}
+use Rattle.std.proofs.Common.{◌∙◌, subst, arith, append_assoc, eq-eqb, eqb-true}
 use Rattle.std.specs.Prelude.{nat_eq, slice_get, slice_index_or}
 use Rattle.std.specs.List.{list_any}
 use Rattle.bl_tree.specs.declared.static_path.Static.{Static}
@@ -44,39 +14,9 @@ use Rattle.bl_ctree.specs.Control.{Body}
 use Rattle.bl_ctree.specs.Instances.{Setting, callee_of, setting_of}
 use Rattle.bl_ctree.specs.Store.{Location, home, homes, overlap, whole_of}
 use Rattle.bl_ctree_laws.specs.Pending.{Deed, any_writes, anew, leads_over, may_end, may_write, soon_in}
-use Rattle.bl_ctree_laws.specs.Steps.{
-  Anyway,
-  Moves,
-  OneMoves,
-  acts,
-  takes,
-  passes,
-  pauses,
-  runs,
-  repeats,
-  repeats_until,
-  leaves,
-  turns,
-  enters,
-  skips,
-  forks,
-  guards,
-  goes_on,
-  waits,
-  lets,
-  aborts,
-  resets,
-  guard_ends,
-  copies,
-  run_ends,
-  joins,
-  in_seq,
-  in_par,
-  in_guard,
-  in_run,
-  first,
-  later,
-}
+use Rattle.bl_ctree_laws.specs.Steps.{Anyway, Moves, OneMoves, acts, takes, passes, pauses, runs, repeats, repeats_until, leaves, turns, enters, skips, forks}
+use Rattle.bl_ctree_laws.specs.Steps.{guards, goes_on, waits, lets, aborts, resets, guard_ends, copies, run_ends, joins, in_seq, in_par, in_guard, in_run}
+use Rattle.bl_ctree_laws.specs.Steps.{first, later}
 use Rattle.bl_ctree_laws.specs.Trees.{Call, Tree, Trees, Run, is_settled}
 use Rattle.bl_ctree_laws.proofs.Less.{moving_is_unsettled}
 use Rattle.bl_ctree_laws.proofs.Tests.{and_both, and_first, and_second, or_le, or_left, or_of, or_right}

@@ -1,29 +1,5 @@
 -- No two branches of one `cobegin` write paths that overlap.
-use Rattle.std.proofs.Common.{
-  ◌≡◌,
-  ◌⊎◌,
-  inl,
-  inr,
-  ℕ,
-  suc,
-  Bool,
-  true,
-  false,
-  ◌||◌,
-  List,
-  [],
-  ◌∷◌,
-  ◌++◌,
-  map,
-  get_or,
-  Some,
-  refl,
-  sym,
-  ap,
-  ◌∙◌,
-  subst,
-  eqb-true,
-}
+use Rattle.std.proofs.Common.{◌≡◌, ◌⊎◌, inl, inr, ℕ, suc, Bool, true, false, ◌||◌, List, [], ◌∷◌, ◌++◌, map, get_or, Some, refl, sym, ap, ◌∙◌, subst, eqb-true}
 use Rattle.std.specs.Prelude.{nat_eq, slice_get}
 use Rattle.std.specs.List.{list_all}
 use Rattle.std.proofs.lemmas.List.Elements.{All-head, All-tail}
@@ -55,33 +31,10 @@ use Rattle.bl_ctree_laws_confluence.specs.Apart.Writing.{AcceptedWritesApart, St
 use Rattle.bl_ctree_laws_confluence.proofs.OnApart.Forks.{all_true, each_apart, foreign_so}
 use Rattle.bl_ctree_laws_confluence.proofs.OnApart.Members.{In, in_contains, in_left, in_right}
 use Rattle.bl_ctree_laws_confluence.proofs.OnApart.Named.{folded_arm, folded_branch, naming_at, naming_parts}
-use Rattle.bl_ctree_laws_confluence.proofs.OnApart.Told.{
-  ArmsFit,
-  BranchesFit,
-  Fit,
-  OneMark,
-  Told,
-  arm_fitted,
-  arm_naming_at,
-  arm_parallel_at,
-  branch_fitted,
-  branch_naming_at,
-  branch_parallel_at,
-  branch_told,
-  fit_arm,
-  fit_arms,
-  fit_at,
-  fit_branch,
-  fit_branches,
-  fit_first,
-  fit_guarded,
-  fit_parts,
-  fit_rest,
-  folded_arm_parallel,
-  folded_branch_parallel,
-  parallel_at,
-  parallel_parts,
-}
+use Rattle.bl_ctree_laws_confluence.proofs.OnApart.Told.{ArmsFit, BranchesFit, Fit, OneMark, Told, arm_fitted, arm_naming_at, arm_parallel_at, branch_fitted}
+use Rattle.bl_ctree_laws_confluence.proofs.OnApart.Told.{branch_naming_at, branch_parallel_at, branch_told, fit_arm, fit_arms, fit_at, fit_branch, fit_branches}
+use Rattle.bl_ctree_laws_confluence.proofs.OnApart.Told.{fit_first, fit_guarded, fit_parts, fit_rest, folded_arm_parallel, folded_branch_parallel, parallel_at}
+use Rattle.bl_ctree_laws_confluence.proofs.OnApart.Told.{parallel_parts}
 
 not_true : (b : Bool) → (b ≡ true → ⊥) → b ≡ false
 not_true true never = absurd (never refl)

@@ -1,32 +1,6 @@
 -- Instances are of activities: what fits runs earlier activities alone.
-use Rattle.std.proofs.Common.{
-  ◌≡◌,
-  ℕ,
-  zero,
-  suc,
-  ◌+◌,
-  Bool,
-  true,
-  false,
-  not,
-  ◌&&◌,
-  List,
-  [],
-  ◌∷◌,
-  ◌++◌,
-  map,
-  length,
-  get_or,
-  take,
-  Option,
-  Some,
-  None,
-  refl,
-  sym,
-  ◌∙◌,
-  subst,
-  cond,
-}
+use Rattle.std.proofs.Common.{◌≡◌, ℕ, zero, suc, ◌+◌, Bool, true, false, not, ◌&&◌, List, [], ◌∷◌, ◌++◌, map, length, get_or, take, Option, Some, None, refl}
+use Rattle.std.proofs.Common.{sym, ◌∙◌, subst, cond}
 use Rattle.std.specs.Prelude.{All, filter, option_map, slice_get, unwrap_or, ⊤}
 use Rattle.std.proofs.lemmas.List.Elements.{All-head, All-tail}
 use Rattle.bl_tree.specs.declared.place.Place.{Place}
@@ -40,38 +14,13 @@ use Rattle.bl_tree.specs.declared.tree.StmtKind.TheOpen.{StmtKind-F}
 use Rattle.bl_tree.specs.declared.tree.Unit.{Unit as UnitDef}
 use Rattle.bl_tree.specs.Reduce.{all_of, joined}
 use Rattle.bl_tree.specs.Rules.{same_place}
-use Rattle.bl_tree.specs.Typing.{
-  TypingContext,
-  arguments_fit,
-  arm_fits,
-  branch_fits,
-  fits,
-  is_activity,
-  is_inhabited,
-  is_truth,
-  kind_fits,
-  run_fits,
-  stmt_fits,
-  target_fits,
-  type_of,
-}
+use Rattle.bl_tree.specs.Typing.{TypingContext, arguments_fit, arm_fits, branch_fits, fits, is_activity, is_inhabited, is_truth, kind_fits, run_fits, stmt_fits}
+use Rattle.bl_tree.specs.Typing.{target_fits, type_of}
 use Rattle.bl_tree.proofs.StmtInduction.{Cases, Each, EachArm, EachBranch, induct, stmt}
 use Rattle.bl_ctree.specs.declared.instance.Instance.{Instance}
 use Rattle.bl_ctree.specs.declared.instance.Run.{Run}
-use Rattle.bl_ctree.specs.Instances.{
-  arm_runs,
-  branch_runs,
-  called_from,
-  expanded,
-  instances_below,
-  kind_runs,
-  one_a_place,
-  runs_in,
-  runs_in_arm,
-  runs_in_branch,
-  runs_of,
-  stmt_layer_runs,
-}
+use Rattle.bl_ctree.specs.Instances.{arm_runs, branch_runs, called_from, expanded, instances_below, kind_runs, one_a_place, runs_in, runs_in_arm}
+use Rattle.bl_ctree.specs.Instances.{runs_in_branch, runs_of, stmt_layer_runs}
 
 pub and_left : (a b : Bool) → (a && b) ≡ true → a ≡ true
 and_left true b e = refl

@@ -1,31 +1,6 @@
 -- Outputs of a `run` don't overlap in a unit that passes the rule on aliases.
-use Rattle.std.proofs.Common.{
-  ◌≡◌,
-  ℕ,
-  zero,
-  suc,
-  ◌<◌,
-  Bool,
-  true,
-  false,
-  cond,
-  List,
-  [],
-  ◌∷◌,
-  ◌++◌,
-  map,
-  length,
-  get_or,
-  Option,
-  Some,
-  None,
-  refl,
-  sym,
-  ap,
-  ◌∙◌,
-  subst,
-  arith,
-}
+use Rattle.std.proofs.Common.{◌≡◌, ℕ, zero, suc, ◌<◌, Bool, true, false, cond, List, [], ◌∷◌, ◌++◌, map, length, get_or, Option, Some, None, refl, sym, ap, ◌∙◌}
+use Rattle.std.proofs.Common.{subst, arith}
 use Rattle.std.specs.Prelude.{All, find, option_map, option_to_list, slice_get, slice_index_or}
 use Rattle.std.proofs.lemmas.List.Elements.{All-head, All-tail}
 use Rattle.bl_tree.specs.declared.place.Place.{Place}
@@ -40,19 +15,8 @@ use Rattle.bl_tree.specs.Reduce.{joined}
 use Rattle.bl_tree.specs.Static.{overlaps, static_of}
 use Rattle.bl_tree.proofs.StmtInduction.{Cases, Each, EachArm, EachBranch, induct, stmt}
 use Rattle.bl_effects.specs.declared.marked.Marked.{Marked}
-use Rattle.bl_effects.specs.Rules.{
-  Aliased,
-  aliased_with,
-  aliases_in,
-  arm_aliases,
-  branch_aliases,
-  kind_aliases,
-  marked_inputs,
-  marked_path,
-  outputs_aliased,
-  stmt_aliases,
-  target_aliased,
-}
+use Rattle.bl_effects.specs.Rules.{Aliased, aliased_with, aliases_in, arm_aliases, branch_aliases, kind_aliases, marked_inputs, marked_path, outputs_aliased}
+use Rattle.bl_effects.specs.Rules.{stmt_aliases, target_aliased}
 use Rattle.bl_effects.proofs.SetLemmas.{overlaps_symm}
 use Rattle.bl_ctree.specs.declared.instance.Run.{Run}
 use Rattle.bl_ctree.specs.Instances.{arm_runs, branch_runs, kind_runs, runs_in, runs_in_arm, runs_in_branch, runs_of, stmt_layer_runs}

@@ -1,29 +1,6 @@
 -- What a deed of what is left of a body touches: homes of the instance's paths that the body's statements name, and what is inside its calls.
-use Rattle.std.proofs.Common.{
-  ◌≡◌,
-  ◌⊎◌,
-  inl,
-  inr,
-  ℕ,
-  Bool,
-  true,
-  false,
-  ◌&&◌,
-  ◌||◌,
-  List,
-  [],
-  ◌∷◌,
-  ◌++◌,
-  map,
-  refl,
-  sym,
-  ap,
-  ◌∙◌,
-  subst,
-  append-nil,
-  eq-eqb,
-  eqb-true,
-}
+use Rattle.std.proofs.Common.{◌≡◌, ◌⊎◌, inl, inr, ℕ, Bool, true, false, ◌&&◌, ◌||◌, List, [], ◌∷◌, ◌++◌, map, refl, sym, ap, ◌∙◌, subst, append-nil, eq-eqb}
+use Rattle.std.proofs.Common.{eqb-true}
 use Rattle.std.specs.Prelude.{nat_eq, ⊤}
 use Rattle.std.specs.List.{list_any}
 use Rattle.bl_tree.specs.declared.place.Place.{Place}
@@ -41,20 +18,7 @@ use Rattle.bl_tree.specs.Effects.{arm_writes, branch_paths, kind_writes, reads, 
 use Rattle.bl_tree.specs.Program.{IsWellTyped}
 use Rattle.bl_tree.specs.Reduce.{joined}
 use Rattle.bl_tree.specs.Static.{is_front, mentions, set_of, static_of, whole}
-use Rattle.bl_graph_nodes.specs.Plain.{
-  Block,
-  Plain,
-  Act,
-  Again,
-  Await,
-  Cobegin,
-  If,
-  Repeat,
-  Run as RunOf,
-  Until,
-  When,
-  While,
-}
+use Rattle.bl_graph_nodes.specs.Plain.{Block, Plain, Act, Again, Await, Cobegin, If, Repeat, Run as RunOf, Until, When, While}
 use Rattle.bl_ctree.specs.Actions.{Effect, Silent, Acts, Asks, Copies, Gives, effect_reads}
 use Rattle.bl_ctree.specs.Instances.{Setting, setting_of}
 use Rattle.bl_ctree.specs.Positions.{stmt_kind}
@@ -65,15 +29,8 @@ use Rattle.bl_ctree_laws.specs.Trees.{Tree}
 use Rattle.bl_ctree_laws.proofs.Less.{may_is_could}
 use Rattle.bl_ctree_laws.proofs.Tests.{and_both, and_first, and_second, or_left, or_right}
 use Rattle.bl_ctree_laws_confluence.specs.Stores.{homes_of}
-use Rattle.bl_ctree_laws_confluence.specs.Deeds.Deeds.{
-  effect_frames,
-  effect_looks,
-  effect_names,
-  effect_remembers,
-  effect_results,
-  effect_writes,
-  kind_remembers,
-}
+use Rattle.bl_ctree_laws_confluence.specs.Deeds.Deeds.{effect_frames, effect_looks, effect_names, effect_remembers, effect_results, effect_writes}
+use Rattle.bl_ctree_laws_confluence.specs.Deeds.Deeds.{kind_remembers}
 use Rattle.bl_ctree_laws_confluence.specs.Deeds.Nesting.{Inside, IsOutput}
 use Rattle.bl_ctree_laws_confluence.proofs.OnDeeds.Nesting.{programs_nest}
 use Rattle.bl_ctree_laws_confluence.specs.Apart.Named.{OneOf, effect_declares, effect_roots}

@@ -13,21 +13,8 @@ use Rattle.bl_ctree.specs.Store.{Location, overlap}
 use Rattle.bl_ctree_laws.specs.Pending.{Deed, may_write, meets}
 use Rattle.bl_ctree_laws.specs.Trees.{Tree}
 use Rattle.bl_ctree_laws.proofs.Tests.{and_first, both_ways}
-use Rattle.bl_ctree_laws_confluence.specs.Deeds.Deeds.{
-  AllUntouched,
-  Clear,
-  ClearOf,
-  NoHome,
-  NoneOf,
-  Spares,
-  Untouched,
-  effect_frames,
-  effect_looks,
-  effect_names,
-  effect_remembers,
-  effect_results,
-  effect_writes,
-}
+use Rattle.bl_ctree_laws_confluence.specs.Deeds.Deeds.{AllUntouched, Clear, ClearOf, NoHome, NoneOf, Spares, Untouched, effect_frames, effect_looks}
+use Rattle.bl_ctree_laws_confluence.specs.Deeds.Deeds.{effect_names, effect_remembers, effect_results, effect_writes}
 use Rattle.bl_ctree_laws_confluence.specs.Deeds.Homes.{OutputsAreApart}
 use Rattle.bl_ctree_laws_confluence.specs.Apart.Named.{OneOf, effect_declares}
 use Rattle.bl_ctree_laws_confluence.specs.Apart.Owned.{IsInsideCall, SomeIn}
@@ -38,20 +25,8 @@ use Rattle.bl_ctree_laws_confluence.proofs.OnApart.Members.{In}
 use Rattle.bl_ctree_laws_confluence.proofs.OnApart.Seen.{writes_are_seen_so}
 use Rattle.bl_ctree_laws_confluence.specs.Independent.Sides.{KeptApart, Side, SidesSpare}
 use Rattle.bl_ctree_laws_confluence.proofs.OnIndependent.Homes.{At, Met, called_apart, called_clash, meet, not_in_call, overlap_swapped}
-use Rattle.bl_ctree_laws_confluence.proofs.OnIndependent.Sides.{
-  DeclaredIn,
-  NamedIn,
-  any_in,
-  frames_at,
-  looks_at,
-  looks_split,
-  moving,
-  names_at,
-  remembers_at,
-  results_at,
-  stand,
-  writes_at,
-}
+use Rattle.bl_ctree_laws_confluence.proofs.OnIndependent.Sides.{DeclaredIn, NamedIn, any_in, frames_at, looks_at, looks_split, moving, names_at, remembers_at}
+use Rattle.bl_ctree_laws_confluence.proofs.OnIndependent.Sides.{results_at, stand, writes_at}
 
 -- ---- lists of homes and of frames, one by one
 

@@ -20,16 +20,7 @@ use Rattle.bl_eval_laws.specs.Local.{Alike, LeftAlike, SameAt, at_path, named_by
 use Rattle.bl_eval_laws.proofs.OnLocal.Acting.{acts_are_local}
 use Rattle.bl_eval_laws.proofs.OnLocal.Locality.{values_are_local_too, value_within}
 use Rattle.bl_eval_laws.proofs.OnLocal.Puts.{parts_of}
-use Rattle.bl_ctree_laws_confluence.specs.Stores.{
-  OutcomesThereAreLocal,
-  SameThere,
-  ValuesThereAreLocal,
-  ViewsAreLocal,
-  before_of,
-  homes_of,
-  now_of,
-  onward,
-}
+use Rattle.bl_ctree_laws_confluence.specs.Stores.{OutcomesThereAreLocal, SameThere, ValuesThereAreLocal, ViewsAreLocal, before_of, homes_of, now_of, onward}
 use Rattle.bl_ctree_laws_confluence.proofs.OnStores.Homes.{homes_lead_on}
 
 -- ---- variables by their numbers

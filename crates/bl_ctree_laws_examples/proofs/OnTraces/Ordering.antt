@@ -20,26 +20,8 @@ use Rattle.bl_cause.specs.Ranks.{Ranks}
 use Rattle.bl_cause_laws.specs.Orders.{BodiesHaveGraphs}
 use Rattle.bl_ctree_laws_traces.specs.Ready.Ordered.{HasOrder}
 use Rattle.bl_ctree_laws_examples.specs.Trees.Made.{always, at}
-use Rattle.bl_ctree_laws_examples.specs.Trees.TwoWay.{
-  body,
-  branches,
-  declares,
-  i,
-  label_inside,
-  left_loop,
-  left_position,
-  left_turn,
-  o,
-  plain_statements,
-  right_loop,
-  right_position,
-  right_turn,
-  sets_o,
-  sets_x,
-  sets_y,
-  x,
-  y,
-}
+use Rattle.bl_ctree_laws_examples.specs.Trees.TwoWay.{body, branches, declares, i, label_inside, left_loop, left_position, left_turn, o, plain_statements}
+use Rattle.bl_ctree_laws_examples.specs.Trees.TwoWay.{right_loop, right_position, right_turn, sets_o, sets_x, sets_y, x, y}
 
 -- ---- nodes
 

@@ -12,24 +12,8 @@ use Rattle.bl_tree.specs.declared.tree.StmtKind.{StmtKind, out-StmtKind, out-rol
 use Rattle.bl_tree.specs.declared.tree.StmtKind.TheOpen.{Branch-F, Stmt-F, StmtKind-F}
 use Rattle.bl_tree.specs.declared.tree.Unit.{Unit as UnitDef}
 use Rattle.bl_tree.specs.Reduce.{joined}
-use Rattle.bl_tree.specs.Within.{
-  PlacesDecide,
-  RunsDecide,
-  RunsIn,
-  StandsIn,
-  StandsInUnits,
-  Within,
-  branches_of,
-  children,
-  deeper,
-  effect_of,
-  is_run,
-  is_run_kind,
-  itself,
-  kind_branches,
-  kind_children,
-  place_of,
-}
+use Rattle.bl_tree.specs.Within.{PlacesDecide, RunsDecide, RunsIn, StandsIn, StandsInUnits, Within, branches_of, children, deeper, effect_of, is_run}
+use Rattle.bl_tree.specs.Within.{is_run_kind, itself, kind_branches, kind_children, place_of}
 use Rattle.bl_ctree_laws_examples.specs.Trees.Made.{at, await_true, stmt, strong}
 use Rattle.bl_ctree_laws_examples.specs.Trees.TwoWay.{activity, body, both_loops, declares, left_repeat, right_repeat, sets_o, sets_x, sets_y, x, y}
 

@@ -11,17 +11,8 @@ use Rattle.bl_tree.specs.Static.{Reach, static_of, whole}
 use Rattle.bl_ctree.specs.declared.instance.Instance.{Instance}
 use Rattle.bl_ctree.specs.declared.instance.Run.{Run}
 use Rattle.bl_ctree.specs.Instances.{called_from, expanded, instances_below, instances_of, one_a_place, runs_in, runs_in_branch, runs_of}
-use Rattle.bl_ctree.specs.Measure.{
-  arm_step_statements,
-  branch_step_statements,
-  count_at,
-  instance_steps,
-  kind_step_statements,
-  layer_step_statements,
-  step_statements_in,
-  step_statements_of,
-  steps,
-}
+use Rattle.bl_ctree.specs.Measure.{arm_step_statements, branch_step_statements, count_at, instance_steps, kind_step_statements, layer_step_statements}
+use Rattle.bl_ctree.specs.Measure.{step_statements_in, step_statements_of, steps}
 use Rattle.bl_ctree_laws_examples.specs.Trees.Made.{at, await_true, number, set, stmt, strong, two, value, variable}
 use Rattle.bl_ctree_laws_examples.proofs.OnTrees.Sets.{path_is}
 use Rattle.bl_ctree_laws_examples.specs.Trees.Calls.{caller, first_called, instances, runs, second_called, turn_stmt, units}

@@ -6,25 +6,8 @@ use Rattle.bl_tree.specs.declared.tree.Expr.{Expr}
 use Rattle.bl_tree.specs.declared.tree.Stmt.{Stmt, fold-roll-Stmt}
 use Rattle.bl_tree.specs.declared.tree.StmtKind.{fold-roll-StmtKind}
 use Rattle.bl_tree.specs.declared.tree.StmtKind.TheOpen.{StmtKind-F}
-use Rattle.bl_graph_nodes.specs.Plain.{
-  Act,
-  Arm,
-  Await,
-  Branch,
-  Cobegin,
-  Plain,
-  Position,
-  Repeat,
-  arm_plain,
-  block_at,
-  bodies_from,
-  branch_plain,
-  kind_plain,
-  label_at,
-  plain_body,
-  plain_stmt,
-  stmt_plain,
-}
+use Rattle.bl_graph_nodes.specs.Plain.{Act, Arm, Await, Branch, Cobegin, Plain, Position, Repeat, arm_plain, block_at, bodies_from, branch_plain, kind_plain}
+use Rattle.bl_graph_nodes.specs.Plain.{label_at, plain_body, plain_stmt, stmt_plain}
 use Rattle.bl_tree.specs.declared.place.Place.{Place}
 use Rattle.bl_ctree_laws_examples.specs.Trees.Made.{always, at, await_true, number, set, stmt, strong, two, value}
 use Rattle.bl_ctree_laws_examples.specs.Trees.TwoWay as two_way

@@ -7,25 +7,8 @@ use Rattle.bl_ctree_laws.specs.Pending.{Deed, any_meets, any_writes, leads_over,
 use Rattle.bl_ctree_laws.specs.Steps.{Moves, OneMoves, Unmet, acts, first, in_par, in_seq, joins, later, pauses}
 use Rattle.bl_ctree_laws.specs.Trees.{Tree, Trees, beside, no_tree}
 use Rattle.bl_ctree_laws_examples.specs.Trees.TwoWay.{label_inside, left_position, right_position, sets_o, sets_x, sets_y, x}
-use Rattle.bl_ctree_laws_examples.specs.Trees.TwoWayTrees.{
-  acting,
-  before_o,
-  before_x,
-  before_y,
-  both,
-  left_done,
-  left_pause,
-  left_paused,
-  o_is_set,
-  pausing,
-  program,
-  reaches_pause,
-  right_done,
-  right_pause,
-  right_paused,
-  x_is_set,
-  y_is_set,
-}
+use Rattle.bl_ctree_laws_examples.specs.Trees.TwoWayTrees.{acting, before_o, before_x, before_y, both, left_done, left_pause, left_paused, o_is_set, pausing}
+use Rattle.bl_ctree_laws_examples.specs.Trees.TwoWayTrees.{program, reaches_pause, right_done, right_pause, right_paused, x_is_set, y_is_set}
 use Rattle.bl_ctree_laws_examples.proofs.OnTrees.Sets.{o_reads, o_writes, x_reads, x_writes, y_reads, y_writes}
 
 -- ---- who waits

@@ -1,32 +1,6 @@
 -- The passes of a tick have all its steps, so that no list of steps of one tick is longer than what the passed statements come to.
-use Rattle.std.proofs.Common.{
-  ◌≡◌,
-  ℕ,
-  zero,
-  suc,
-  ◌+◌,
-  ◌*◌,
-  ◌<◌,
-  ◌≤◌,
-  Bool,
-  true,
-  false,
-  List,
-  [],
-  ◌∷◌,
-  map,
-  take,
-  length,
-  Option,
-  Some,
-  None,
-  refl,
-  sym,
-  ap,
-  ◌∙◌,
-  subst,
-  arith,
-}
+use Rattle.std.proofs.Common.{◌≡◌, ℕ, zero, suc, ◌+◌, ◌*◌, ◌<◌, ◌≤◌, Bool, true, false, List, [], ◌∷◌, map, take, length, Option, Some, None, refl, sym, ap}
+use Rattle.std.proofs.Common.{◌∙◌, subst, arith}
 use Rattle.std.specs.Prelude.{ℤ, option_and_then, option_map, slice_get, unwrap_or}
 use Rattle.std.proofs.lemmas.List.{length-append, length-map}
 use Rattle.std.proofs.Math.Nat.{mul_assoc}
@@ -72,45 +46,14 @@ use Rattle.bl_ctree_laws_traces.specs.Progress.Reached.{TreeFitsGraphNow}
 use Rattle.bl_ctree_laws_traces.proofs.OnProgress.Acting.{region}
 use Rattle.bl_ctree_laws_traces.specs.Bounded.Bounds.{AcceptedIsBounded}
 use Rattle.bl_ctree_laws_traces.specs.Bounded.Differ.{LabelsDiffer, TicksDiffer}
-use Rattle.bl_ctree_laws_traces.specs.Bounded.TickPasses.{
-  Pass,
-  StepsAreSixEach,
-  TickStepsAreFew,
-  TicksHavePasses,
-  pass_of,
-  statements_at,
-  step_in,
-  unit_of_pass,
-}
+use Rattle.bl_ctree_laws_traces.specs.Bounded.TickPasses.{Pass, StepsAreSixEach, TickStepsAreFew, TicksHavePasses, pass_of, statements_at, step_in}
+use Rattle.bl_ctree_laws_traces.specs.Bounded.TickPasses.{unit_of_pass}
 use Rattle.bl_ctree_laws_traces.proofs.OnBounded.Callees.{CallsAreRuns, callees_are_named, calls_earlier, one_unit_each, typed_at}
 use Rattle.bl_ctree_laws_traces.proofs.OnBounded.Calls.{CalleesAreNamed, calls_in}
 use Rattle.bl_ctree_laws_traces.proofs.OnBounded.Counting.{few_whole}
-use Rattle.bl_ctree_laws_traces.proofs.OnBounded.Listed.{
-  CallsEarlier,
-  PassFound,
-  body_passes,
-  ends_in,
-  listed,
-  node_at,
-  node_listed,
-  own_of,
-  own_steps,
-  pass_found,
-  step_again,
-  step_of,
-  tick_passes,
-}
-use Rattle.bl_ctree_laws_traces.proofs.OnBounded.Lists.{
-  Among,
-  EachOf,
-  among_contains,
-  among_joined,
-  among_map,
-  each_more,
-  joined_long,
-  pigeons,
-  totals_less,
-}
+use Rattle.bl_ctree_laws_traces.proofs.OnBounded.Listed.{CallsEarlier, PassFound, body_passes, ends_in, listed, node_at, node_listed, own_of, own_steps}
+use Rattle.bl_ctree_laws_traces.proofs.OnBounded.Listed.{pass_found, step_again, step_of, tick_passes}
+use Rattle.bl_ctree_laws_traces.proofs.OnBounded.Lists.{Among, EachOf, among_contains, among_joined, among_map, each_more, joined_long, pigeons, totals_less}
 use Rattle.bl_ctree_laws_traces.proofs.OnBounded.Passing.{whole_sum}
 use Rattle.bl_ctree_laws_traces.proofs.OnBounded.Standing.{InnerTree, Stood, runs_in_tree, steps_stood, woken_stood}
 use Rattle.bl_ctree_laws_traces.proofs.OnBounded.Statements.{FewIn, body_few}

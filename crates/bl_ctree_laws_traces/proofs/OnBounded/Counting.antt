@@ -1,31 +1,6 @@
 -- The passes of a tick are no more than its instances may be passed.
-use Rattle.std.proofs.Common.{
-  ◌≡◌,
-  ℕ,
-  zero,
-  suc,
-  ◌+◌,
-  ◌*◌,
-  ◌≤◌,
-  Bool,
-  true,
-  List,
-  [],
-  ◌∷◌,
-  ◌++◌,
-  map,
-  Option,
-  Some,
-  None,
-  inl,
-  inr,
-  refl,
-  sym,
-  ap,
-  ◌∙◌,
-  subst,
-  arith,
-}
+use Rattle.std.proofs.Common.{◌≡◌, ℕ, zero, suc, ◌+◌, ◌*◌, ◌≤◌, Bool, true, List, [], ◌∷◌, ◌++◌, map, Option, Some, None, inl, inr, refl, sym, ap, ◌∙◌, subst}
+use Rattle.std.proofs.Common.{arith}
 use Rattle.std.specs.Prelude.{option_map, slice_get, unwrap_or, ⊤}
 use Rattle.bl_tree.specs.declared.tree.StructDef.{StructDef}
 use Rattle.bl_tree.specs.declared.tree.Unit.{Unit as UnitDef}
@@ -41,16 +16,7 @@ use Rattle.bl_ctree_laws_traces.proofs.OnBounded.ByPlace.{PlacesDiffer, by_disti
 use Rattle.bl_ctree_laws_traces.proofs.OnBounded.Callees.{CallsAreRuns, OneUnitEach}
 use Rattle.bl_ctree_laws_traces.proofs.OnBounded.Calls.{calls_in, run_of}
 use Rattle.bl_ctree_laws_traces.proofs.OnBounded.Listed.{begun_passes, body_passes, node_at, stood_passes, tick_passes}
-use Rattle.bl_ctree_laws_traces.proofs.OnBounded.Lists.{
-  Among,
-  among_either,
-  among_map,
-  among_mapped,
-  total_append,
-  total_both,
-  total_of,
-  totals_less,
-}
+use Rattle.bl_ctree_laws_traces.proofs.OnBounded.Lists.{Among, among_either, among_map, among_mapped, total_append, total_both, total_of, totals_less}
 use Rattle.bl_ctree_laws_traces.proofs.OnBounded.Passing.{fresh_opened, fresh_sum, is_opened, opened, whole_opened, whole_sum}
 use Rattle.bl_ctree_laws_traces.proofs.OnBounded.Standing.{InnerTree, inner_tree, runs_in_tree, runs_in_trees}
 use Rattle.bl_ctree_laws_traces.proofs.OnBounded.Tied.{Elsewhere, Tied, TiedEach}

@@ -3,36 +3,8 @@ use Rattle.std.proofs.Common.{◌≡◌, ℕ, ◌<◌, ◌≤◌, Bool, true, fa
 use Rattle.bl_tree.specs.declared.place.Place.{Place as Source}
 use Rattle.bl_tree.specs.declared.tree.Expr.{Expr}
 use Rattle.bl_tree.specs.declared.tree.Unit.{Unit as UnitDef}
-use Rattle.bl_graph_nodes.specs.Nodes.{
-  CheckAt,
-  DepthEndAt,
-  ForkAt,
-  HeadAt,
-  Node,
-  StartAt,
-  SurfaceEndAt,
-  TestAt,
-  are_instant,
-  entry,
-  is_instant,
-  label_of,
-}
-use Rattle.bl_graph_nodes.specs.Plain.{
-  Again,
-  Block,
-  Bodies,
-  Cobegin,
-  Label,
-  Plain,
-  Repeat,
-  Body as BodyOf,
-  Done,
-  Last,
-  Then,
-  While,
-  is_empty,
-  plain_body,
-}
+use Rattle.bl_graph_nodes.specs.Nodes.{CheckAt, DepthEndAt, ForkAt, HeadAt, Node, StartAt, SurfaceEndAt, TestAt, are_instant, entry, is_instant, label_of}
+use Rattle.bl_graph_nodes.specs.Plain.{Again, Block, Bodies, Cobegin, Label, Plain, Repeat, Body as BodyOf, Done, Last, Then, While, is_empty, plain_body}
 use Rattle.bl_graph_nodes.specs.Steps.{Here, Inside, StepLabel, head_of, end_node, join_node, run_node}
 use Rattle.bl_graph.specs.DataEdges.{BesideEach}
 use Rattle.bl_graph.specs.Edges.{BodyEnd, EdgeAll, EdgeEach, Guarded, In, InEach, Into, OutAll}
@@ -44,59 +16,16 @@ use Rattle.bl_ctree.specs.Control.{Body}
 use Rattle.bl_ctree.specs.Instances.{Setting, unit_at}
 use Rattle.bl_ctree_laws.specs.Pending.{Deed, may_end, may_join}
 use Rattle.bl_ctree_laws.specs.Shrinks.{EndsShrink, Paces}
-use Rattle.bl_ctree_laws.specs.Steps.{
-  Anyway,
-  Moves,
-  OneMoves,
-  acts,
-  takes,
-  passes,
-  pauses,
-  runs,
-  repeats,
-  repeats_until,
-  leaves,
-  turns,
-  enters,
-  skips,
-  forks,
-  fork,
-  guards,
-  goes_on,
-  waits,
-  watch,
-  lets,
-  aborts,
-  resets,
-  guard_ends,
-  copies,
-  run_ends,
-  joins,
-  in_seq,
-  in_par,
-  in_guard,
-  in_run,
-  first,
-  later,
-  turn,
-}
+use Rattle.bl_ctree_laws.specs.Steps.{Anyway, Moves, OneMoves, acts, takes, passes, pauses, runs, repeats, repeats_until, leaves, turns, enters, skips, forks}
+use Rattle.bl_ctree_laws.specs.Steps.{fork, guards, goes_on, waits, watch, lets, aborts, resets, guard_ends, copies, run_ends, joins, in_seq, in_par, in_guard}
+use Rattle.bl_ctree_laws.specs.Steps.{in_run, first, later, turn}
 use Rattle.bl_ctree_laws.specs.Trees.{Call, Tree, Trees, Watch, Do, Par, Guard, Run, trees_begun, do_block, is_nil}
 use Rattle.bl_ctree_laws.proofs.Less.{do_ends}
 use Rattle.bl_ctree_laws_traces.specs.Progress.FitsGraph.{AllFitGraph, CheckFitsGraph, FitsGraph, check_of, watch_stmt}
 use Rattle.bl_ctree_laws_traces.specs.Progress.Places.{AreSubgraphs, IsSubgraph, Place, ahead_of, guarded, in_branch, later_on, whole}
 use Rattle.bl_ctree_laws_traces.proofs.OnProgress.Acting.{done_may_join, one_region, region}
-use Rattle.bl_ctree_laws_traces.proofs.OnProgress.Beginning.{
-  again_fits,
-  begun_live,
-  else_fits,
-  fits_join,
-  repeat_body,
-  then_fits,
-  turn_begins,
-  until_body,
-  watch_fits,
-  while_body,
-}
+use Rattle.bl_ctree_laws_traces.proofs.OnProgress.Beginning.{again_fits, begun_live, else_fits, fits_join, repeat_body, then_fits, turn_begins, until_body}
+use Rattle.bl_ctree_laws_traces.proofs.OnProgress.Beginning.{watch_fits, while_body}
 use Rattle.bl_ctree_laws_traces.proofs.OnProgress.Keeping.{after_closed, part_closed}
 use Rattle.bl_ctree_laws_traces.proofs.OnProgress.Leading.{body_walk, one_on, rest_edges, to_end, way_out}
 use Rattle.bl_ctree_laws_traces.specs.Bounded.Differ.{AllNumbered}

@@ -1,33 +1,6 @@
 -- In typed programs each `run` begins an instance.
-use Rattle.std.proofs.Common.{
-  ◌≡◌,
-  ℕ,
-  zero,
-  suc,
-  ◌+◌,
-  ◌<◌,
-  Bool,
-  true,
-  false,
-  ◌&&◌,
-  ◌++◌,
-  append_assoc,
-  append-nil,
-  List,
-  [],
-  ◌∷◌,
-  map,
-  take,
-  Option,
-  Some,
-  None,
-  refl,
-  sym,
-  ap,
-  ◌∙◌,
-  subst,
-  arith,
-}
+use Rattle.std.proofs.Common.{◌≡◌, ℕ, zero, suc, ◌+◌, ◌<◌, Bool, true, false, ◌&&◌, ◌++◌, append_assoc, append-nil, List, [], ◌∷◌, map, take, Option, Some}
+use Rattle.std.proofs.Common.{None, refl, sym, ap, ◌∙◌, subst, arith}
 use Rattle.std.specs.List.{list_all}
 use Rattle.std.specs.Prelude.{is_none, is_some, length, option_and_then, slice_get}
 use Rattle.bl_tree.specs.declared.place.Place.{Place}

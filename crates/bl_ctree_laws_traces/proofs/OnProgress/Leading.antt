@@ -15,31 +15,8 @@ use Rattle.bl_ctree.specs.Instances.{Setting}
 use Rattle.bl_ctree.specs.Pending.{is_reset_kind}
 use Rattle.bl_ctree_laws.specs.Pending.{guard_may_end, may_end, may_join}
 use Rattle.bl_ctree_laws.specs.Steps.{goes_on, lets, guard_ends, copies, run_ends, joins, in_seq, in_par, in_guard, in_run, first, later}
-use Rattle.bl_ctree_laws.specs.Trees.{
-  Call,
-  Fork,
-  Tree,
-  Trees,
-  Watch,
-  Nil,
-  Wait,
-  Test,
-  Idle,
-  Do,
-  Seq,
-  Par,
-  Guard,
-  Run,
-  are_done,
-  are_settled,
-  beside,
-  has_strong,
-  is_nil,
-  is_settled,
-  no_tree,
-  some_ended,
-  strong_ended,
-}
+use Rattle.bl_ctree_laws.specs.Trees.{Call, Fork, Tree, Trees, Watch, Nil, Wait, Test, Idle, Do, Seq, Par, Guard, Run, are_done, are_settled, beside}
+use Rattle.bl_ctree_laws.specs.Trees.{has_strong, is_nil, is_settled, no_tree, some_ended, strong_ended}
 use Rattle.bl_ctree_laws_traces.specs.Progress.Laws.{Could, EndsAreReached, StepLeadsTo}
 use Rattle.bl_ctree_laws_traces.specs.Progress.FitsGraph.{MayReachEnd, FitsGraph, AllFitGraph, WatchFitsGraph, CheckFitsGraph, call_stmt, check_of, test_of}
 use Rattle.bl_ctree_laws_traces.specs.Progress.Places.{AreSubgraphs, BothEnds, IsSubgraph, Place, ahead_of, guarded, in_branch, later_on, whole}

@@ -13,40 +13,9 @@ use Rattle.bl_ctree.specs.Instances.{Setting, callee_of}
 use Rattle.bl_ctree.specs.Store.{Location}
 use Rattle.bl_ctree_laws.specs.Pending.{Deed, any_meets, any_writes, deed_reads, leads_over, may_write, meets}
 use Rattle.bl_ctree_laws.specs.Soon.{SoonIsSurface}
-use Rattle.bl_ctree_laws.specs.Steps.{
-  Anyway,
-  Moves,
-  OneMoves,
-  Unmet,
-  acts,
-  takes,
-  passes,
-  pauses,
-  runs,
-  repeats,
-  repeats_until,
-  leaves,
-  turns,
-  enters,
-  skips,
-  forks,
-  guards,
-  goes_on,
-  waits,
-  lets,
-  aborts,
-  resets,
-  guard_ends,
-  copies,
-  run_ends,
-  joins,
-  in_seq,
-  in_par,
-  in_guard,
-  in_run,
-  first,
-  later,
-}
+use Rattle.bl_ctree_laws.specs.Steps.{Anyway, Moves, OneMoves, Unmet, acts, takes, passes, pauses, runs, repeats, repeats_until, leaves, turns, enters, skips}
+use Rattle.bl_ctree_laws.specs.Steps.{forks, guards, goes_on, waits, lets, aborts, resets, guard_ends, copies, run_ends, joins, in_seq, in_par, in_guard}
+use Rattle.bl_ctree_laws.specs.Steps.{in_run, first, later}
 use Rattle.bl_ctree_laws.specs.Trees.{Call, Tree, Trees, beside}
 use Rattle.bl_ctree_laws_traces.specs.Progress.Blocked.{ActsOrWaits, Blocked, WaitsFor, Writer}
 use Rattle.bl_ctree_laws_traces.specs.Progress.FitsGraph.{AllFitGraph, FitsGraph}

@@ -21,40 +21,12 @@ use Rattle.bl_ctree.specs.Pending.{is_reset_kind}
 use Rattle.bl_ctree_laws.specs.Pending.{Deed, any_writes_path, anew, may_end, may_write_path, soon, soon_in}
 use Rattle.bl_ctree_laws.specs.Soon.{SoonIsSurface}
 use Rattle.bl_ctree_laws.specs.Steps.{Anyway, Moves, copies, first, in_guard, in_par, in_run, in_seq, lets, run_ends}
-use Rattle.bl_ctree_laws.specs.Trees.{
-  Call,
-  Tree,
-  Trees,
-  Watch,
-  Nil,
-  Wait,
-  Test,
-  Idle,
-  Do,
-  Seq,
-  Par,
-  Guard,
-  Run,
-  beside,
-  is_nil,
-  is_settled,
-  no_tree,
-}
+use Rattle.bl_ctree_laws.specs.Trees.{Call, Tree, Trees, Watch, Nil, Wait, Test, Idle, Do, Seq, Par, Guard, Run, beside, is_nil, is_settled, no_tree}
 use Rattle.bl_ctree_laws_traces.specs.Progress.Laws.{Could, StepLeadsTo, NodeWrites, WritersAreAhead}
 use Rattle.bl_ctree_laws_traces.specs.Progress.FitsGraph.{AllFitGraph, CheckFitsGraph, FitsGraph, check_of}
 use Rattle.bl_ctree_laws_traces.specs.Progress.Places.{AreSubgraphs, IsSubgraph, Place, ahead_of, guarded, in_branch, later_on, whole}
 use Rattle.bl_ctree_laws_traces.proofs.OnProgress.Acting.{begins, point, region, this_could, this_one_could}
-use Rattle.bl_ctree_laws_traces.proofs.OnProgress.Leading.{
-  OneLeads,
-  after_walk,
-  both_are,
-  either_is,
-  in_on,
-  later_leads,
-  one_on,
-  rest_edges,
-  way_out,
-}
+use Rattle.bl_ctree_laws_traces.proofs.OnProgress.Leading.{OneLeads, after_walk, both_are, either_is, in_on, later_leads, one_on, rest_edges, way_out}
 use Rattle.bl_ctree_laws_traces.proofs.OnProgress.Paths.{any_left, any_right, contained, member, passed, passing, set_passes}
 
 -- ---- what begins

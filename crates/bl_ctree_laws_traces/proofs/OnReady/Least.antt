@@ -7,61 +7,11 @@ use Rattle.bl_graph_nodes.specs.Steps.{Gives, Here, Inside, StepLabel, end_node,
 use Rattle.bl_ctree.specs.Control.{Check, Body}
 use Rattle.bl_ctree.specs.Instances.{Setting, callee_of}
 use Rattle.bl_ctree_laws.specs.Pending.{Deed}
-use Rattle.bl_ctree_laws.specs.Steps.{
-  Anyway,
-  Moves,
-  OneMoves,
-  acts,
-  takes,
-  passes,
-  pauses,
-  runs,
-  repeats,
-  repeats_until,
-  leaves,
-  turns,
-  enters,
-  skips,
-  forks,
-  guards,
-  goes_on,
-  waits,
-  lets,
-  aborts,
-  resets,
-  guard_ends,
-  copies,
-  run_ends,
-  joins,
-  in_seq,
-  in_par,
-  in_guard,
-  in_run,
-  first,
-  later,
-}
-use Rattle.bl_ctree_laws.specs.Trees.{
-  Call,
-  Fork,
-  Pause,
-  Tree,
-  Trees,
-  Watch,
-  Nil,
-  Wait,
-  Test,
-  Idle,
-  Do,
-  Seq,
-  Par,
-  Guard,
-  Run,
-  are_done,
-  are_settled,
-  beside,
-  is_settled,
-  no_tree,
-}
+use Rattle.bl_ctree_laws.specs.Steps.{Anyway, Moves, OneMoves, acts, takes, passes, pauses, runs, repeats, repeats_until, leaves, turns, enters, skips, forks}
+use Rattle.bl_ctree_laws.specs.Steps.{guards, goes_on, waits, lets, aborts, resets, guard_ends, copies, run_ends, joins, in_seq, in_par, in_guard, in_run}
+use Rattle.bl_ctree_laws.specs.Steps.{first, later}
+use Rattle.bl_ctree_laws.specs.Trees.{Call, Fork, Pause, Tree, Trees, Watch, Nil, Wait, Test, Idle, Do, Seq, Par, Guard, Run, are_done, are_settled, beside}
+use Rattle.bl_ctree_laws.specs.Trees.{is_settled, no_tree}
 use Rattle.bl_ctree_laws.proofs.Less.{one_unsettled, unsettled}
 use Rattle.bl_ctree_laws.proofs.Tests.{both_ways}
 use Rattle.bl_ctree_laws_traces.specs.Progress.Laws.{Could}

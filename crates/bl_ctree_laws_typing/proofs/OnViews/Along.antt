@@ -16,22 +16,8 @@ use Rattle.bl_tree.specs.declared.value.Value.TheVariants.{Parts, outs-Parts}
 use Rattle.bl_tree.specs.Program.{structs_stand_from}
 use Rattle.bl_tree.specs.Types.{type_stands}
 use Rattle.bl_tree.specs.Typing.{field_in}
-use Rattle.bl_eval.specs.Values.{
-  are_elements,
-  are_fields,
-  by_test,
-  fits_by,
-  is_number_of,
-  pass,
-  part_of,
-  parts_at,
-  parts_in,
-  struct_test,
-  tests_after,
-  value_at,
-  value_fits,
-  with_value_at,
-}
+use Rattle.bl_eval.specs.Values.{are_elements, are_fields, by_test, fits_by, is_number_of, pass, part_of, parts_at, parts_in, struct_test, tests_after}
+use Rattle.bl_eval.specs.Values.{value_at, value_fits, with_value_at}
 use Rattle.bl_eval.proofs.FitLemmas.{Test, fits_array, fits_before, fits_struct, structs_at, test_is}
 use Rattle.bl_eval.proofs.PartFits.{Fits}
 use Rattle.bl_eval.proofs.PassLemmas.{all_at, all_set, and_left, and_right, both, pass_at, pass_set}

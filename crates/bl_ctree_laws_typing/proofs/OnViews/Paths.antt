@@ -15,22 +15,8 @@ use Rattle.bl_tree.specs.declared.static_path.Static.{Static}
 use Rattle.bl_tree.specs.Reduce.{all_of}
 use Rattle.bl_tree.specs.Static.{Reach, StaticStep, expr_mentions, kind_mentions, leading_fields, part_step, path_reach, static_of, step_of}
 use Rattle.bl_tree.specs.Types.{same_type}
-use Rattle.bl_tree.specs.Typing.{
-  TypingContext,
-  after_parts,
-  expr_ignored,
-  expr_type,
-  field_in,
-  is_plain,
-  kind_ignored,
-  kind_type,
-  part_is_field,
-  part_type as part_typing,
-  path_is_plain,
-  path_type,
-  type_of_path,
-  where_same,
-}
+use Rattle.bl_tree.specs.Typing.{TypingContext, after_parts, expr_ignored, expr_type, field_in, is_plain, kind_ignored, kind_type, part_is_field}
+use Rattle.bl_tree.specs.Typing.{part_type as part_typing, path_is_plain, path_type, type_of_path, where_same}
 use Rattle.bl_eval.proofs.PartFits.{type_of_part}
 use Rattle.bl_eval.proofs.PassLemmas.{and_left, and_right}
 use Rattle.bl_ctree_laws_typing.proofs.OnViews.Along.{along, one_some, part_type}

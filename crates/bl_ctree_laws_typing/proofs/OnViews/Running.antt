@@ -24,44 +24,14 @@ use Rattle.bl_tree.specs.Reduce.{all_of, joined}
 use Rattle.bl_tree.specs.Returns.{unit_returns}
 use Rattle.bl_tree.specs.Static.{static_of}
 use Rattle.bl_tree.specs.Types.{same_type, type_stands}
-use Rattle.bl_tree.specs.Typing.{
-  TypingContext,
-  arguments_fit,
-  arm_fits,
-  branch_fits,
-  fits,
-  inputs_of,
-  is_activity,
-  is_assignable,
-  is_inhabited,
-  is_outlet,
-  is_plain,
-  is_truth,
-  kind_fits,
-  outputs_of,
-  run_fits,
-  site_of,
-  stmt_fits,
-  target_fits,
-  type_of,
-  type_of_path,
-  types_match,
-}
+use Rattle.bl_tree.specs.Typing.{TypingContext, arguments_fit, arm_fits, branch_fits, fits, inputs_of, is_activity, is_assignable, is_inhabited, is_outlet}
+use Rattle.bl_tree.specs.Typing.{is_plain, is_truth, kind_fits, outputs_of, run_fits, site_of, stmt_fits, target_fits, type_of, type_of_path, types_match}
 use Rattle.bl_tree.specs.Words.{are_distinct, is_name}
 use Rattle.bl_tree.proofs.StmtInduction.{Cases, Each, EachArm, EachBranch, induct, stmt}
 use Rattle.bl_eval.proofs.FitLemmas.{same_type_is}
 use Rattle.bl_eval.proofs.PassLemmas.{and_left, and_right, both}
 use Rattle.bl_ctree.specs.declared.instance.Run.{Run}
-use Rattle.bl_ctree.specs.Instances.{
-  arm_runs,
-  branch_runs,
-  kind_runs,
-  runs_in,
-  runs_in_arm,
-  runs_in_branch,
-  runs_of,
-  stmt_layer_runs,
-}
+use Rattle.bl_ctree.specs.Instances.{arm_runs, branch_runs, kind_runs, runs_in, runs_in_arm, runs_in_branch, runs_of, stmt_layer_runs}
 use Rattle.bl_ctree_laws_confluence.proofs.OnDeeds.Activities.{AllOf, all_both, one_a_place_so}
 use Rattle.bl_ctree_laws_typing.proofs.OnViews.Paths.{PathTyped, path_typed}
 

@@ -24,20 +24,8 @@ use Rattle.bl_ctext_semantics.specs.Builtin.{builtin_of, in_c, widest}
 use Rattle.bl_ctext_semantics.specs.Faults.{Context, bool_type, builtin_signature, by_value, fits_param, is_number_type, signature_as, signature_of, takes}
 use Rattle.bl_emit_acts.specs.declared.made.Made.{Made}
 use Rattle.bl_emit_acts.specs.declared.made.Made.TheVariants.{Number, Whole}
-use Rattle.bl_emit_acts.specs.Expressions.{
-  c_both,
-  c_cast,
-  c_compare,
-  c_one,
-  cast_word,
-  function_name,
-  hidden,
-  hides_right,
-  is_decided,
-  mirrored,
-  operator_word,
-  side,
-}
+use Rattle.bl_emit_acts.specs.Expressions.{c_both, c_cast, c_compare, c_one, cast_word, function_name, hidden, hides_right, is_decided, mirrored, operator_word}
+use Rattle.bl_emit_acts.specs.Expressions.{side}
 use Rattle.bl_emit_acts.specs.Trees.{c_called, c_literal, c_not, c_two, nowhere}
 use Rattle.bl_emit_acts.specs.Types.{c_scalar, c_type}
 use Rattle.bl_emit_acts_laws_wellformed.specs.Formed.Declared.{leads_through}

@@ -28,19 +28,8 @@ use Rattle.bl_ctext_semantics.specs.Faults.{Context, indices, judge_into, judge_
 use Rattle.bl_ctext_semantics.specs.Tables.{found}
 use Rattle.bl_emit_acts.specs.Expressions.{field_at, field_of_struct, name_of_field}
 use Rattle.bl_emit_acts.specs.Structs.{c_array, c_definition, c_field}
-use Rattle.bl_emit_acts.specs.Types.{
-  array_name,
-  c_scalar,
-  c_type,
-  definition_name,
-  elements_name,
-  field_name,
-  name_level,
-  name_of_definition,
-  struct_name,
-  type_level,
-  type_name,
-}
+use Rattle.bl_emit_acts.specs.Types.{array_name, c_scalar, c_type, definition_name, elements_name, field_name, name_level, name_of_definition, struct_name}
+use Rattle.bl_emit_acts.specs.Types.{type_level, type_name}
 use Rattle.bl_emit_structs.specs.Structs.{arrays_of, structs_for_definition}
 use Rattle.bl_emit_structs.proofs.Steps.{array_is}
 use Rattle.bl_emit_acts_laws_wellformed.specs.Formed.Declared.{AreDeclared, plain_member}

@@ -23,22 +23,8 @@ use Rattle.bl_ctext.specs.inner.Fits.{arg_fits, expr_fits, place_fits}
 use Rattle.bl_ctext.proofs.Fitting.{address-fits, call-fits, called-fits, expr_fits-more, literal-fits, read-fits, two-fits, value-fits}
 use Rattle.bl_emit_acts.specs.declared.made.Made.{Made}
 use Rattle.bl_emit_acts.specs.declared.made.Made.TheVariants.{Number, Whole}
-use Rattle.bl_emit_acts.specs.Expressions.{
-  arg_of,
-  c_both,
-  c_cast,
-  c_compare,
-  c_one,
-  cast_word,
-  code_of,
-  function_name,
-  hidden,
-  hides_right,
-  is_decided,
-  mirrored,
-  operator_word,
-  side,
-}
+use Rattle.bl_emit_acts.specs.Expressions.{arg_of, c_both, c_cast, c_compare, c_one, cast_word, code_of, function_name, hidden, hides_right, is_decided}
+use Rattle.bl_emit_acts.specs.Expressions.{mirrored, operator_word, side}
 use Rattle.bl_emit_acts.specs.Trees.{c_call, c_called, c_literal, nowhere}
 use Rattle.bl_emit_acts_laws_wellformed.proofs.OnFormed.Prelude.{Named, add_named, and_named, cast_named, div_named, mul_named, neg_named, not_named, or_named}
 use Rattle.bl_emit_acts_laws_wellformed.proofs.OnFormed.Prelude.{rem_named, shl_named, shr_named, sub_named, xor_named}

@@ -35,27 +35,9 @@ use Rattle.bl_ctext_semantics.specs.Memory.{CValue, Memory, scalar_number, set_a
 use Rattle.bl_ctext_semantics.specs.Meaning.{Scope, block_c, runs_c}
 use Rattle.bl_emit_acts.specs.Acts.{call_made, c_calling, code_made, declared_code}
 use Rattle.bl_emit_functions.specs.declared.coded.Free.{Free}
-use Rattle.bl_emit_functions.specs.Statements.{
-  ArmCodes,
-  Codes,
-  arm_codes,
-  arms_taken,
-  assigned_code,
-  block_codes,
-  branch_codes,
-  break_code,
-  choice_code,
-  codes_of,
-  codes_of_arm,
-  either_code,
-  else_code,
-  flag_taken,
-  flagged_code,
-  kind_codes,
-  loop_code,
-  stmt_codes,
-  turn_taken,
-}
+use Rattle.bl_emit_functions.specs.Statements.{ArmCodes, Codes, arm_codes, arms_taken, assigned_code, block_codes, branch_codes, break_code, choice_code}
+use Rattle.bl_emit_functions.specs.Statements.{codes_of, codes_of_arm, either_code, else_code, flag_taken, flagged_code, kind_codes, loop_code, stmt_codes}
+use Rattle.bl_emit_functions.specs.Statements.{turn_taken}
 use Rattle.bl_emit_functions.specs.Trees.{c_break, c_if, c_loop, c_return, c_truth, turn_name}
 use Rattle.bl_emit_functions_laws_simulation.proofs.OnBodies.Courses.{Chosen, EndsAt, Leaves, Numbers, Tests, TurnAt, TurnOver, Turns, alone_alike}
 use Rattle.bl_emit_functions_laws_simulation.proofs.OnBodies.Courses.{alone_leaves}

@@ -11,23 +11,8 @@ use Rattle.bl_tree.specs.declared.value.Value.{Value}
 use Rattle.bl_tree.specs.Types.{scalar_in}
 use Rattle.bl_eval.specs.Changes.{part_of_path}
 use Rattle.bl_eval.specs.Functions.{assigned, own}
-use Rattle.bl_eval.specs.Meaning.{
-  Meaning,
-  PathMeaning,
-  PathPosition,
-  Scope as Sees,
-  datum_of,
-  expr_means,
-  kind_means,
-  meaning_of,
-  part_means,
-  path_meaning_of,
-  path_means,
-  plain,
-  positions_of,
-  reading,
-  value_in,
-}
+use Rattle.bl_eval.specs.Meaning.{Meaning, PathMeaning, PathPosition, Scope as Sees, datum_of, expr_means, kind_means, meaning_of, part_means, path_meaning_of}
+use Rattle.bl_eval.specs.Meaning.{path_means, plain, positions_of, reading, value_in}
 use Rattle.bl_eval.specs.Values.{value_at}
 use Rattle.bl_eval.proofs.MeaningLemmas.{spot_out}
 use Rattle.bl_eval.proofs.PartLemmas.{set_own}

@@ -4,21 +4,8 @@ use Rattle.std.proofs.lemmas.Bool.{eqb-true, ltb-true}
 use Rattle.std.specs.Prelude.{bytes_eq, ◌==◌, if◌then◌else◌}
 use Rattle.bl_tree.specs.declared.c.CParam.{CParam}
 use Rattle.bl_ctext_semantics.specs.Meaning.{ArgumentValue, by_address, by_value, with_params}
-use Rattle.bl_ctext_semantics.specs.Memory.{
-  Memory,
-  Projection,
-  Root,
-  in_frame,
-  input_object,
-  output_object,
-  same_root,
-  set_at,
-  state_object,
-  variable,
-  with_part,
-  zeros,
-  without_frame,
-}
+use Rattle.bl_ctext_semantics.specs.Memory.{Memory, Projection, Root, in_frame, input_object, output_object, same_root, set_at, state_object, variable}
+use Rattle.bl_ctext_semantics.specs.Memory.{with_part, zeros, without_frame}
 use Rattle.bl_emit_acts_laws_simulation.specs.Frames.{is_older}
 use Rattle.bl_emit_functions_laws_simulation.specs.Calls.{CallsKeepFrame, body_done}
 

@@ -15,21 +15,8 @@ use Rattle.bl_tree.specs.Typing.{TypingContext, is_activity, var_at}
 use Rattle.bl_eval.proofs.PassLemmas.{and_left, and_right, both}
 use Rattle.bl_ctext_semantics.specs.Course.{Outcome, goes_on}
 use Rattle.bl_ctext_semantics.specs.Meaning.{Scope, block_c, further, location_c, runs_c, value_c}
-use Rattle.bl_ctext_semantics.specs.Memory.{
-  CValue,
-  Location,
-  Memory,
-  Projection,
-  Root,
-  left_after,
-  member,
-  number_or,
-  same_root,
-  set_at,
-  value_at,
-  variable,
-  with_part,
-}
+use Rattle.bl_ctext_semantics.specs.Memory.{CValue, Location, Memory, Projection, Root, left_after, member, number_or, same_root, set_at, value_at, variable}
+use Rattle.bl_ctext_semantics.specs.Memory.{with_part}
 use Rattle.bl_emit_acts.specs.declared.home.Home.{Home}
 use Rattle.bl_emit_acts.specs.declared.home.Home.TheVariants.{Held, Local, Lent}
 use Rattle.bl_emit_acts.specs.Places.{home_of, place_in}

@@ -44,20 +44,8 @@ use Rattle.bl_emit_functions_laws_simulation.specs.Bodies.{FlowSimulates, Spared
 use Rattle.bl_emit_functions_laws_simulation.proofs.OnBodies.Courses.{Alike, append_alike}
 use Rattle.bl_emit_functions_laws_simulation.proofs.OnBodies.Courses.{alike_trans}
 use Rattle.bl_emit_functions_laws_simulation.proofs.OnBodies.Again.{again_alike}
-use Rattle.bl_emit_functions_laws_simulation.specs.Calls.{
-  BodiesEnd,
-  CallKeepsFrame,
-  CallsKeepFrame,
-  EndsFor,
-  FrameBegun,
-  FramesBegin,
-  HandedOver,
-  HandsOver,
-  MayRun,
-  is_copied_input,
-  memory_begun,
-  scope_begun,
-}
+use Rattle.bl_emit_functions_laws_simulation.specs.Calls.{BodiesEnd, CallKeepsFrame, CallsKeepFrame, EndsFor, FrameBegun, FramesBegin, HandedOver, HandsOver}
+use Rattle.bl_emit_functions_laws_simulation.specs.Calls.{MayRun, is_copied_input, memory_begun, scope_begun}
 use Rattle.bl_emit_functions_laws_simulation.proofs.OnCalls.Kept.{older_differs}
 use Rattle.bl_emit_functions_laws_simulation.proofs.OnCalls.Lists.{front_all, rest_all}
 use Rattle.bl_emit_functions_laws_simulation.proofs.OnCalls.Locals.{local_zero}

@@ -37,30 +37,9 @@ use Rattle.bl_emit_acts.specs.Expressions.{stands}
 use Rattle.bl_emit_acts.specs.Trees.{c_read, c_two}
 use Rattle.bl_emit_acts.specs.Types.{c_scalar, c_type}
 use Rattle.bl_emit_functions.specs.declared.coded.Free.{Free}
-use Rattle.bl_emit_functions.specs.Statements.{
-  ArmCodes,
-  Codes,
-  arm_codes,
-  arm_taken,
-  arms_taken,
-  assigned_code,
-  block_codes,
-  branch_codes,
-  break_code,
-  choice_code,
-  codes_of,
-  codes_of_arm,
-  either_code,
-  else_code,
-  flag_taken,
-  flagged_code,
-  kind_codes,
-  loop_code,
-  sets_itself,
-  stmt_codes,
-  turn_taken,
-  untaken_code,
-}
+use Rattle.bl_emit_functions.specs.Statements.{ArmCodes, Codes, arm_codes, arm_taken, arms_taken, assigned_code, block_codes, branch_codes, break_code}
+use Rattle.bl_emit_functions.specs.Statements.{choice_code, codes_of, codes_of_arm, either_code, else_code, flag_taken, flagged_code, kind_codes, loop_code}
+use Rattle.bl_emit_functions.specs.Statements.{sets_itself, stmt_codes, turn_taken, untaken_code}
 use Rattle.bl_emit_functions.specs.Trees.{c_break, c_if, c_return, c_truth, flag_name, flag_place, turn_name}
 use Rattle.bl_emit_acts_laws_wellformed.specs.Formed.Declared.{ChangesNone, Declared, InActivity, variable_of}
 use Rattle.bl_emit_acts_laws_wellformed.specs.Formed.Formed.{BlockIs, ExprIs, PlaceIs, StmtIs}

@@ -1,26 +1,6 @@
 -- A number for each unit: enough for the chain of calls that its C function heads, no less than those of what it calls and runs, and no more than
 -- rule Cells counts.
-use Rattle.std.proofs.Common.{
-  ◌≡◌,
-  ⊎_elim,
-  ℕ,
-  suc,
-  ◌+◌,
-  ◌<◌,
-  ◌≤◌,
-  arith,
-  Bool,
-  true,
-  false,
-  nat_eq,
-  List,
-  [],
-  ◌∷◌,
-  ◌++◌,
-  Contains,
-  map,
-  take,
-}
+use Rattle.std.proofs.Common.{◌≡◌, ⊎_elim, ℕ, suc, ◌+◌, ◌<◌, ◌≤◌, arith, Bool, true, false, nat_eq, List, [], ◌∷◌, ◌++◌, Contains, map, take}
 use Rattle.std.proofs.Common.{length, Option, Some, None, refl, sym, ap, ◌∙◌, subst}
 use Rattle.std.proofs.lemmas.List.{length-append}
 use Rattle.std.proofs.lemmas.Option.{same_Some}

@@ -9,24 +9,9 @@ use Rattle.bl_tree.specs.declared.c.CMember.{CMember}
 use Rattle.bl_tree.specs.declared.c.CStruct.{CStruct}
 use Rattle.bl_tree.specs.declared.place.Place.{Place}
 use Rattle.bl_tree.specs.declared.text.Text.{Text}
-use Rattle.bl_ctext_semantics.specs.Faults.{
-  Clause,
-  Signature,
-  WellFormed,
-  depth_of_function,
-  depth_of_struct,
-  distinct_names,
-  faults_in,
-  faults_in_function,
-  faults_in_head,
-  faults_in_struct,
-  function_faults_after,
-  member_table,
-  signature_in,
-  struct_faults_after,
-  struct_table,
-  unless,
-}
+use Rattle.bl_ctext_semantics.specs.Faults.{Clause, Signature, WellFormed, depth_of_function, depth_of_struct, distinct_names, faults_in, faults_in_function}
+use Rattle.bl_ctext_semantics.specs.Faults.{faults_in_head, faults_in_struct, function_faults_after, member_table, signature_in, struct_faults_after}
+use Rattle.bl_ctext_semantics.specs.Faults.{struct_table, unless}
 use Rattle.bl_ctext_semantics.specs.Parts.{Parts}
 use Rattle.bl_ctext_semantics.specs.Tables.{Table, no_entries, with_entry}
 use Rattle.bl_ctext_semantics.proofs.EndLemmas.{nil-left, nil-right}

@@ -34,18 +34,8 @@ use Rattle.bl_emit_spec_laws.specs.Tables.Tables.{functions_of_all, unit_functio
 use Rattle.bl_emit_laws.specs.Kept.{FileEnds, FilesEnd, FramesAreDeclared, activities_in, functions_before, written_file}
 use Rattle.bl_emit_laws.proofs.OnKept.Lists.{first_or, further, here, none_has}
 use Rattle.bl_emit_laws.specs.Counters.Laws.{FilesOwn}
-use Rattle.bl_emit_laws.specs.Counters.Own.{
-  CountersAreOwn,
-  CountersStandInOne,
-  EachHasOneFunctionAndFrame,
-  MemberOf,
-  NamesItsOwn,
-  is_counter_name,
-  members_at,
-  members_through,
-  names_counter,
-  type_of_member,
-}
+use Rattle.bl_emit_laws.specs.Counters.Own.{CountersAreOwn, CountersStandInOne, EachHasOneFunctionAndFrame, MemberOf, NamesItsOwn, is_counter_name, members_at}
+use Rattle.bl_emit_laws.specs.Counters.Own.{members_through, names_counter, type_of_member}
 use Rattle.bl_emit_laws.specs.Counters.Places.{CPath, places_named}
 use Rattle.bl_emit_laws.proofs.OnCounters.Activities.{activity-fine}
 use Rattle.bl_emit_laws.proofs.OnCounters.Fine.{each-fine}

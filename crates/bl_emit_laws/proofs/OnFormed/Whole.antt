@@ -21,19 +21,8 @@ use Rattle.bl_tree.specs.Words.{are_distinct, is_name}
 use Rattle.bl_eval.proofs.PassLemmas.{and_left, and_right}
 use Rattle.bl_limits.specs.Rules.{Passes}
 use Rattle.bl_limits_measures.specs.Units.{chain_at}
-use Rattle.bl_ctext_semantics.specs.Faults.{
-  Signature,
-  WellFormed,
-  depth_of_function,
-  faults_in,
-  function_faults_after,
-  interface_faults,
-  last_place,
-  last_two,
-  faults_of_two,
-  signature_in,
-  unless,
-}
+use Rattle.bl_ctext_semantics.specs.Faults.{Signature, WellFormed, depth_of_function, faults_in, function_faults_after, interface_faults, last_place, last_two}
+use Rattle.bl_ctext_semantics.specs.Faults.{faults_of_two, signature_in, unless}
 use Rattle.bl_ctext_semantics.specs.Faults as faults
 use Rattle.bl_ctext_semantics.specs.Parts.{parts_from as file_from}
 use Rattle.bl_ctext_semantics.specs.Tables.{Table, no_entries, with_entry}

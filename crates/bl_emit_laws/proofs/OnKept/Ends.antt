@@ -17,17 +17,8 @@ use Rattle.bl_emit_acts.specs.Types.{unit_name}
 use Rattle.bl_emit_functions.specs.Functions.{function_code, members_of, memory_name, struct_of}
 use Rattle.bl_emit_spec.specs.Activities.{Activity, activity_function, frame_struct, remembered, remembered_struct, remembers_any}
 use Rattle.bl_emit_spec.specs.Names.{frame_name}
-use Rattle.bl_emit_spec.specs.Programs.{
-  ProgramParts,
-  activity_of,
-  interface_structs,
-  needed_units,
-  parts_from,
-  parts_of_function,
-  parts_of_next,
-  where_needed,
-  written,
-}
+use Rattle.bl_emit_spec.specs.Programs.{ProgramParts, activity_of, interface_structs, needed_units, parts_from, parts_of_function, parts_of_next, where_needed}
+use Rattle.bl_emit_spec.specs.Programs.{written}
 use Rattle.bl_emit_structs.specs.Structs.{structs_of}
 use Rattle.bl_emit_spec_laws.specs.Calls.Built.{Activities}
 use Rattle.bl_emit_spec_laws.specs.Tables.Laws.{WrittenAs, WrittenIsKept}

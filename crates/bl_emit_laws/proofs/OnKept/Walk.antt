@@ -12,16 +12,7 @@ use Rattle.bl_tree.specs.Typing.{is_activity}
 use Rattle.bl_cause.specs.Activities.{graph_position}
 use Rattle.bl_machine.specs.declared.machine.Activity.{Activity as InMachine}
 use Rattle.bl_emit_spec.specs.Activities.{frame_struct, remembered_struct, remembers_any}
-use Rattle.bl_emit_spec.specs.Programs.{
-  ProgramParts,
-  activity_of,
-  parts_from,
-  parts_of_activity,
-  parts_of_function,
-  parts_of_next,
-  parts_then,
-  where_needed,
-}
+use Rattle.bl_emit_spec.specs.Programs.{ProgramParts, activity_of, parts_from, parts_of_activity, parts_of_function, parts_of_next, parts_then, where_needed}
 use Rattle.bl_emit_spec_laws.specs.Calls.Built.{Activities, AreBuilt, MadeOf}
 use Rattle.bl_emit_spec_laws.specs.Tables.Tables.{activities_of, no_part, no_unit, remembered_before}
 use Rattle.bl_emit_laws.proofs.OnKept.Lists.{drop_at, drop_next, drop_one, length_last, take_next}

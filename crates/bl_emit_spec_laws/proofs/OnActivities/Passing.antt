@@ -29,19 +29,8 @@ use Rattle.bl_emit_acts_laws_simulation.specs.Frames.{is_older, lent_at}
 use Rattle.bl_emit_acts_laws_simulation.specs.Encodes.{Encodes, home_at, is_live, lead_in, location_in, start_in}
 use Rattle.bl_emit_functions_laws_simulation.specs.Calls.{CallsKeepFrame}
 use Rattle.bl_emit_functions_laws_simulation.specs.Units.{AllAgree}
-use Rattle.bl_emit_spec.specs.Activities.{
-  Activity,
-  activity_code,
-  activity_function,
-  activity_view,
-  blocks_in_order,
-  body_of,
-  copied_in,
-  counters_read,
-  entry_code,
-  remembers_any,
-  rested_code,
-}
+use Rattle.bl_emit_spec.specs.Activities.{Activity, activity_code, activity_function, activity_view, blocks_in_order, body_of, copied_in, counters_read}
+use Rattle.bl_emit_spec.specs.Activities.{entry_code, remembers_any, rested_code}
 use Rattle.bl_emit_acts.specs.Acts.{c_copied}
 use Rattle.bl_emit_spec.specs.Blocks.{unit_may_end}
 use Rattle.bl_emit_spec_laws.specs.Registers.Registers.{Over, over_at}
@@ -50,29 +39,10 @@ use Rattle.bl_machine_pass.specs.Registers.{Registers}
 use Rattle.bl_machine_pass_laws_execution.specs.Executes.{Executes, PassTraps}
 use Rattle.bl_machine_pass_laws_execution.specs.Frames.{Frames}
 use Rattle.bl_emit_spec_laws.specs.Calls.Built.{Activities, activity_at, cleared, rank_by, site_at, slots_by, unit_number}
-use Rattle.bl_emit_spec_laws.specs.Calls.Calls.{
-  ActivitySimulates,
-  CallAddresses,
-  CallBegins,
-  CallLeaves,
-  MayGive,
-  PassStarts,
-  output_values,
-  passed_to,
-  where_true,
-  written_by,
-}
-use Rattle.bl_emit_spec_laws.specs.Calls.Laws.{
-  CompilationContext,
-  FunctionsBegin,
-  Midway,
-  PartSimulates,
-  PassOutside,
-  PassesSimulate,
-  memory_in,
-  scope_in,
-  start_code,
-}
+use Rattle.bl_emit_spec_laws.specs.Calls.Calls.{ActivitySimulates, CallAddresses, CallBegins, CallLeaves, MayGive, PassStarts, output_values, passed_to}
+use Rattle.bl_emit_spec_laws.specs.Calls.Calls.{where_true, written_by}
+use Rattle.bl_emit_spec_laws.specs.Calls.Laws.{CompilationContext, FunctionsBegin, Midway, PartSimulates, PassOutside, PassesSimulate, memory_in, scope_in}
+use Rattle.bl_emit_spec_laws.specs.Calls.Laws.{start_code}
 use Rattle.bl_emit_spec_laws.specs.Calls.Invariant.{FunctionContext, result_at_c}
 use Rattle.bl_emit_spec_laws.specs.Activities.{CalleesRemember, CallsSimulate, PointersAreGiven, PointersLead, ViewsFit}
 use Rattle.bl_emit_spec_laws.proofs.OnActivities.Appending.{append_end, append_memory}

@@ -3,45 +3,10 @@ use Rattle.std.proofs.Common.{◌≡◌, ℕ, zero, suc, ◌<◌, Bool, true, fa
 use Rattle.std.proofs.Common.{refl, sym, ap, subst, ◌∙◌, arith}
 use Rattle.std.specs.List.{list_all}
 use Rattle.bl_tree.specs.declared.place.Place.{Place}
-use Rattle.bl_graph_nodes.specs.Nodes.{
-  ActAt,
-  Arguments,
-  CheckAt,
-  DepthEndAt,
-  DepthJoinAt,
-  EnterAt,
-  ForkAt,
-  HeadAt,
-  Node,
-  PauseAt,
-  ResumeAt,
-  StartAt,
-  SurfaceEndAt,
-  SurfaceJoinAt,
-  TestAt,
-  are_instant,
-  is_instant,
-}
-use Rattle.bl_graph_nodes.specs.Plain.{
-  Act,
-  Again,
-  Await,
-  Block,
-  Bodies,
-  Body as BodyOf,
-  Cobegin,
-  Done,
-  If,
-  Label,
-  Last,
-  Plain,
-  Repeat,
-  Run as RunIn,
-  Then,
-  Until,
-  When,
-  While,
-}
+use Rattle.bl_graph_nodes.specs.Nodes.{ActAt, Arguments, CheckAt, DepthEndAt, DepthJoinAt, EnterAt, ForkAt, HeadAt, Node, PauseAt, ResumeAt, StartAt}
+use Rattle.bl_graph_nodes.specs.Nodes.{SurfaceEndAt, SurfaceJoinAt, TestAt, are_instant, is_instant}
+use Rattle.bl_graph_nodes.specs.Plain.{Act, Again, Await, Block, Bodies, Body as BodyOf, Cobegin, Done, If, Label, Last, Plain, Repeat, Run as RunIn, Then}
+use Rattle.bl_graph_nodes.specs.Plain.{Until, When, While}
 use Rattle.bl_machine.specs.Uses.{Slots}
 use Rattle.bl_machine_pass.specs.Registers.{Registers, after_rule, all_changed, due_by, is_at, is_due, with_counter}
 use Rattle.bl_machine_pass.specs.Transitions.{Change, Condition, Finishes, SetsCounter, SetsFlag, Transition, body_ends, enter, flagged, rule_where}

@@ -1,21 +1,6 @@
 -- The `run`s of one place call one unit, and have one number in C: that of the first node at which one begins.
 use Rattle.std.proofs.Common.{◌≡◌, inl, inr, ℕ, zero, suc, Bool, true, false, List, [], ◌∷◌, ◌++◌, Contains, Some}
-use Rattle.std.proofs.Common.{
-  cond,
-  filter,
-  length,
-  map,
-  not,
-  take,
-  refl,
-  sym,
-  ap,
-  ap₂,
-  subst,
-  ◌∙◌,
-  arith,
-  if◌then◌else◌,
-}
+use Rattle.std.proofs.Common.{cond, filter, length, map, not, take, refl, sym, ap, ap₂, subst, ◌∙◌, arith, if◌then◌else◌}
 use Rattle.std.proofs.lemmas.List.{map-append}
 use Rattle.std.proofs.lemmas.Option.{same_Some}
 use Rattle.std.specs.Prelude.{slice_get}
@@ -28,24 +13,8 @@ use Rattle.bl_tree.specs.Rules.{same_place}
 use Rattle.bl_tree.specs.Typing.{site_of}
 use Rattle.bl_tree.specs.Within.{StandsIn}
 use Rattle.bl_effects.proofs.EntryLemmas.{same_place_is, same_place_refl}
-use Rattle.bl_graph_nodes.specs.Nodes.{
-  ActAt,
-  Arguments,
-  CheckAt,
-  DepthEndAt,
-  DepthJoinAt,
-  EnterAt,
-  ForkAt,
-  HeadAt,
-  Node,
-  PauseAt,
-  ResumeAt,
-  StartAt,
-  SurfaceEndAt,
-  SurfaceJoinAt,
-  TestAt,
-  nodes_in,
-}
+use Rattle.bl_graph_nodes.specs.Nodes.{ActAt, Arguments, CheckAt, DepthEndAt, DepthJoinAt, EnterAt, ForkAt, HeadAt, Node, PauseAt, ResumeAt, StartAt}
+use Rattle.bl_graph_nodes.specs.Nodes.{SurfaceEndAt, SurfaceJoinAt, TestAt, nodes_in}
 use Rattle.bl_graph_nodes.specs.Plain.{Block, Label, plain_body}
 use Rattle.bl_ctree.specs.declared.instance.Run.{Run}
 use Rattle.bl_ctree.specs.Instances.{runs_in}

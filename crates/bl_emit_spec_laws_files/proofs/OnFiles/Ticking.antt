@@ -74,20 +74,8 @@ use Rattle.bl_emit_spec_laws_files.proofs.OnFiles.Columns.{columns, is_scalar, s
 use Rattle.bl_emit_spec_laws_files.proofs.OnFiles.Given.{may_give}
 use Rattle.bl_emit_spec_laws_files.proofs.OnFiles.Inputs.{AreSet, are_set, args_hold, inputs_set, output_same, state_same}
 use Rattle.bl_emit_spec_laws_files.proofs.OnFiles.Kept.{Same, memory_moved, outputs_moved}
-use Rattle.bl_emit_spec_laws_files.proofs.OnFiles.Lists.{
-  distinct_drop,
-  distinct_take,
-  drop_exact,
-  drop_take,
-  fit_many,
-  mapped_drop,
-  mapped_length,
-  mapped_take,
-  row_many,
-  take_exact,
-  take_less,
-  taken_length,
-}
+use Rattle.bl_emit_spec_laws_files.proofs.OnFiles.Lists.{distinct_drop, distinct_take, drop_exact, drop_take, fit_many, mapped_drop, mapped_length, mapped_take}
+use Rattle.bl_emit_spec_laws_files.proofs.OnFiles.Lists.{row_many, take_exact, take_less, taken_length}
 use Rattle.bl_emit_spec_laws_files.proofs.OnFiles.Starting.{AllZero, begun, begun_result, begun_zero}
 use Rattle.bl_emit_spec_laws_files.proofs.OnFiles.Views.{entry_is, entry_number, entry_sees, first_frame_now, first_held, woken_first, woken_held, roles_at}
 use Rattle.bl_emit_spec_laws_files.proofs.OnFiles.Views.{distinct_at}

@@ -24,27 +24,8 @@ use Rattle.bl_ctree.specs.declared.instance.Instance.{Instance}
 use Rattle.bl_ctree.specs.declared.instance.Origin.{Origin}
 use Rattle.bl_ctree.specs.Instances.{Setting, expanded, instances_below, runs_of, setting_of, unit_at, unit_of}
 use Rattle.bl_ctree.specs.Store as store
-use Rattle.bl_ctree.specs.Store.{
-  Frame,
-  Store,
-  aged,
-  first_frame,
-  first_store,
-  frame_at_first,
-  home,
-  home_within,
-  is_output_of,
-  led,
-  led_by,
-  under,
-  value_among,
-  variable_among,
-  variables_of,
-  vars_at,
-  view_at,
-  whole_of,
-  woken_store,
-}
+use Rattle.bl_ctree.specs.Store.{Frame, Store, aged, first_frame, first_store, frame_at_first, home, home_within, is_output_of, led, led_by, under, value_among}
+use Rattle.bl_ctree.specs.Store.{variable_among, variables_of, vars_at, view_at, whole_of, woken_store}
 use Rattle.bl_ctree_laws_confluence.specs.Deeds.Orderly.{AcceptedIsOrderly}
 use Rattle.bl_ctree_laws_confluence.specs.Deeds.Origins.{HomesLeadOut}
 use Rattle.bl_ctree_laws_typing.proofs.OnViews.Running.{unit_stands_at}

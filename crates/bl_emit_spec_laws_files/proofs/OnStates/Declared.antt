@@ -10,20 +10,8 @@ use Rattle.bl_tree.specs.declared.c.CMember.{CMember}
 use Rattle.bl_tree.specs.declared.c.CStruct.{CStruct}
 use Rattle.bl_tree.specs.declared.c.CType.TheVariants.{Struct as OfStruct}
 use Rattle.bl_tree.specs.declared.text.Text.{Text}
-use Rattle.bl_ctext_semantics.specs.Faults.{
-  WellFormed,
-  all_distinct,
-  declared_before,
-  depth_of_struct,
-  distinct_names,
-  faults_in,
-  faults_in_struct,
-  is_declared,
-  member_table,
-  struct_faults_after,
-  struct_table,
-  unless,
-}
+use Rattle.bl_ctext_semantics.specs.Faults.{WellFormed, all_distinct, declared_before, depth_of_struct, distinct_names, faults_in, faults_in_struct}
+use Rattle.bl_ctext_semantics.specs.Faults.{is_declared, member_table, struct_faults_after, struct_table, unless}
 use Rattle.bl_ctext_semantics.specs.Memory.{member}
 use Rattle.bl_ctext_semantics.specs.Parts.{Parts}
 use Rattle.bl_ctext_semantics.specs.Tables.{Table, found, no_entries, with_entry}

@@ -51,32 +51,11 @@ use Rattle.bl_emit_spec_laws.specs.Calls.Built.{Activities, activity_at, site_at
 use Rattle.bl_emit_spec_laws.specs.Calls.Laws.{CompilationContext}
 use Rattle.bl_emit_spec_laws.specs.Calls.Memories.{MemoryEncodes, Nests}
 use Rattle.bl_emit_spec_laws_files.specs.States.Cells.{AllCellsKept, CellsKept, object_types, regained}
-use Rattle.bl_emit_spec_laws_files.specs.States.States.{
-  FramesDeclared,
-  RunsFound,
-  StateKept,
-  StatesAreKept,
-  frame_place,
-  memory_of_activity,
-  memory_place,
-  output_place,
-}
+use Rattle.bl_emit_spec_laws_files.specs.States.States.{FramesDeclared, RunsFound, StateKept, StatesAreKept, frame_place, memory_of_activity, memory_place}
+use Rattle.bl_emit_spec_laws_files.specs.States.States.{output_place}
 use Rattle.bl_emit_spec_laws_files.proofs.OnStates.Declared.{member_step}
-use Rattle.bl_emit_spec_laws_files.proofs.OnStates.Nested.{
-  StandsAt,
-  along,
-  below,
-  entry_stands,
-  further,
-  here,
-  in_left,
-  in_mapped,
-  in_right,
-  nested,
-  own_unit,
-  some_long,
-  unit_there,
-}
+use Rattle.bl_emit_spec_laws_files.proofs.OnStates.Nested.{StandsAt, along, below, entry_stands, further, here, in_left, in_mapped, in_right, nested, own_unit}
+use Rattle.bl_emit_spec_laws_files.proofs.OnStates.Nested.{some_long, unit_there}
 use Rattle.bl_emit_spec_laws_files.proofs.OnStates.Types.{contains_at, leads}
 
 -- ---- scalars

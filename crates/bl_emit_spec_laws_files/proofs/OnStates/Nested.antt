@@ -23,20 +23,8 @@ use Rattle.bl_ctree.specs.declared.instance.Instance.{Instance}
 use Rattle.bl_ctree.specs.Instances.{Setting, callee_of, setting_of, unit_at, unit_of}
 use Rattle.bl_ctree_laws_confluence.specs.Deeds.Orderly.{AcceptedIsOrderly}
 use Rattle.bl_emit_functions.specs.Functions.{members_of, memory_name}
-use Rattle.bl_emit_spec.specs.Activities.{
-  Activity,
-  RunAt,
-  activity_view,
-  counter_member,
-  frame_member,
-  frame_struct,
-  memory_member,
-  remembered,
-  remembers_any,
-  runs_in_body,
-  struct_member,
-  word_of_run,
-}
+use Rattle.bl_emit_spec.specs.Activities.{Activity, RunAt, activity_view, counter_member, frame_member, frame_struct, memory_member, remembered, remembers_any}
+use Rattle.bl_emit_spec.specs.Activities.{runs_in_body, struct_member, word_of_run}
 use Rattle.bl_emit_spec.specs.Blocks.{name_in}
 use Rattle.bl_emit_spec.specs.Names.{NumberedWord, callee_name, frame_name}
 use Rattle.bl_emit_spec.specs.Programs.{state_struct}

@@ -18,21 +18,8 @@ use Rattle.bl_tree.specs.declared.value.Value.{Value, out-Value}
 use Rattle.bl_tree.specs.declared.value.Value.TheOpen.{Value-F}
 use Rattle.bl_tree.specs.Program.{structs_stand_from}
 use Rattle.bl_tree.specs.Types.{scalar_at, type_stands}
-use Rattle.bl_eval.specs.Values.{
-  are_elements,
-  are_fields,
-  by_test,
-  fits_by,
-  is_number_of,
-  number_at as number_level,
-  number_in,
-  part_of,
-  parts_at,
-  parts_in,
-  tests_after,
-  value_at,
-  value_fits,
-}
+use Rattle.bl_eval.specs.Values.{are_elements, are_fields, by_test, fits_by, is_number_of, number_at as number_level, number_in, part_of, parts_at, parts_in}
+use Rattle.bl_eval.specs.Values.{tests_after, value_at, value_fits}
 use Rattle.bl_eval.proofs.FitLemmas.{fits_array, fits_before, fits_scalar, fits_struct, scalar_is, structs_at, test_is}
 use Rattle.bl_eval.proofs.PassLemmas.{all_at, and_left, and_right, pass_at}
 use Rattle.bl_ctext_semantics.specs.Faults.{WellFormed, struct_table}

@@ -31,30 +31,11 @@ use Rattle.bl_graph_nodes.specs.Plain.{Act, Arm as PlainArm, Await, Block, Bodie
 use Rattle.bl_graph_nodes.specs.Plain.{Label, Plain, Position, Repeat, Run, Then, Until, When}
 use Rattle.bl_graph_nodes.specs.Plain.{While, arm_plain, block_at, block_from, bodies_from, branch_plain, else_at, if_with}
 use Rattle.bl_graph_nodes.specs.Plain.{inside, kind_plain, label_at, passed_one, place_of_test, plain_body, plain_stmt, stmt_plain}
-use Rattle.bl_machine_prevs.specs.Prevs.{
-  arm_prevs,
-  branch_prevs,
-  optional_prevs,
-  prevs_in,
-  prevs_in_arm,
-  prevs_in_branch,
-  prevs_in_expr,
-  prevs_in_path,
-  stmt_kind_prevs,
-  stmt_layer_prevs,
-  target_prevs,
-}
+use Rattle.bl_machine_prevs.specs.Prevs.{arm_prevs, branch_prevs, optional_prevs, prevs_in, prevs_in_arm, prevs_in_branch, prevs_in_expr, prevs_in_path}
+use Rattle.bl_machine_prevs.specs.Prevs.{stmt_kind_prevs, stmt_layer_prevs, target_prevs}
 use Rattle.bl_emit_acts_laws_simulation.specs.Encodes.{copied_in, copied_in_path}
 use Rattle.bl_emit_spec_laws_nodes.specs.Points.Nodes.{act_copied, copied_there}
-use Rattle.bl_emit_spec_laws_nodes.proofs.OnCopied.Expressions.{
-  Related,
-  all_left,
-  all_right,
-  expr_copied_so,
-  exprs_copied_so,
-  path_copied_so,
-  paths_copied_so,
-}
+use Rattle.bl_emit_spec_laws_nodes.proofs.OnCopied.Expressions.{Related, all_left, all_right, expr_copied_so, exprs_copied_so, path_copied_so, paths_copied_so}
 
 -- ---- expressions that must have a type
 

@@ -21,19 +21,7 @@ use Rattle.bl_tree.proofs.StmtInduction.{Cases, Each, EachArm, EachBranch, induc
 use Rattle.bl_graph_nodes.specs.Laws.{plain_arm, plain_branch}
 use Rattle.bl_graph_nodes.specs.Nodes.{Arguments, CheckAt, DepthEndAt, DepthJoinAt, EnterAt, Node, SurfaceEndAt, SurfaceJoinAt}
 use Rattle.bl_graph_nodes.specs.Nodes.{are_instant, arguments_of, is_instant, nodes_in, nodes_in_each, nodes_of, where_so}
-use Rattle.bl_graph_nodes.specs.Plain.{
-  Plain,
-  Position,
-  block_from,
-  bodies_from,
-  else_at,
-  inside,
-  label_at,
-  passed_one,
-  plain_block,
-  plain_body,
-  plain_stmt,
-}
+use Rattle.bl_graph_nodes.specs.Plain.{Plain, Position, block_from, bodies_from, else_at, inside, label_at, passed_one, plain_block, plain_body, plain_stmt}
 use Rattle.bl_graph_nodes.specs.Plain.{Cobegin, Label}
 use Rattle.bl_graph_nodes.proofs.Equations.{plain_statements}
 use Rattle.bl_eval.proofs.PassLemmas.{and_left, and_right}

@@ -18,36 +18,9 @@ use Rattle.bl_tree.specs.Typing.{TypingContext, arm_fits, branch_fits, fits, inp
 use Rattle.bl_tree.specs.Typing.{outputs_of, run_fits, stmt_fits, target_fits, type_of, type_of_path, types_match}
 use Rattle.bl_tree.proofs.StmtInduction.{Cases, Each, EachArm, EachBranch, induct, stmt}
 use Rattle.bl_graph_nodes.specs.Laws.{plain_arm, plain_branch}
-use Rattle.bl_graph_nodes.specs.Nodes.{
-  Arguments,
-  CheckAt,
-  DepthEndAt,
-  DepthJoinAt,
-  EnterAt,
-  Node,
-  SurfaceEndAt,
-  SurfaceJoinAt,
-  are_instant,
-  arguments_of,
-  is_instant,
-  nodes_in,
-  nodes_in_each,
-  nodes_of,
-  where_so,
-}
-use Rattle.bl_graph_nodes.specs.Plain.{
-  Plain,
-  Position,
-  block_from,
-  bodies_from,
-  else_at,
-  inside,
-  label_at,
-  passed_one,
-  plain_block,
-  plain_body,
-  plain_stmt,
-}
+use Rattle.bl_graph_nodes.specs.Nodes.{Arguments, CheckAt, DepthEndAt, DepthJoinAt, EnterAt, Node, SurfaceEndAt, SurfaceJoinAt, are_instant, arguments_of}
+use Rattle.bl_graph_nodes.specs.Nodes.{is_instant, nodes_in, nodes_in_each, nodes_of, where_so}
+use Rattle.bl_graph_nodes.specs.Plain.{Plain, Position, block_from, bodies_from, else_at, inside, label_at, passed_one, plain_block, plain_body, plain_stmt}
 use Rattle.bl_graph_nodes.specs.Plain.{Cobegin, Label}
 use Rattle.bl_graph_nodes.proofs.Equations.{plain_statements}
 use Rattle.bl_eval.proofs.PassLemmas.{and_left, and_right}

@@ -36,17 +36,8 @@ use Rattle.bl_machine_laws.specs.Passes.Follows.{DeedYields}
 use Rattle.bl_machine_pass.specs.Registers.{Registers, after_rule, all_changed, with_at}
 use Rattle.bl_machine_pass.specs.Transitions.{Change, Transition}
 use Rattle.bl_machine_pass_laws_execution.specs.Executes as executes
-use Rattle.bl_machine_pass_laws_execution.specs.Executes.{
-  CopiesMatch,
-  Executes,
-  IsPoint,
-  NodeTraps,
-  PassTraps,
-  Performs,
-  begun_registers,
-  recopied,
-  resumed_registers,
-}
+use Rattle.bl_machine_pass_laws_execution.specs.Executes.{CopiesMatch, Executes, IsPoint, NodeTraps, PassTraps, Performs, begun_registers, recopied}
+use Rattle.bl_machine_pass_laws_execution.specs.Executes.{resumed_registers}
 use Rattle.bl_machine_pass_laws.specs.Turns.Laws.{StaysPlaced}
 use Rattle.bl_machine_pass_laws_typing.specs.Fits.{PassesKeepTypes}
 use Rattle.bl_machine_pass_laws_execution.specs.Frames.{Frames}

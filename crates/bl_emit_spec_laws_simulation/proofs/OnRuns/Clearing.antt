@@ -14,11 +14,7 @@ use Rattle.bl_tree.specs.declared.value.Value.{Value}
 use Rattle.bl_tree.specs.Rules.{same_place}
 use Rattle.bl_tree.specs.Typing.{TypingContext, is_activity, var_at}
 use Rattle.bl_effects.proofs.EntryLemmas.{same_place_is, same_place_refl}
-use Rattle.bl_graph_nodes.specs.Nodes.{
-  Arguments,
-  EnterAt,
-  nodes_in,
-}
+use Rattle.bl_graph_nodes.specs.Nodes.{Arguments, EnterAt, nodes_in}
 use Rattle.bl_graph_nodes.specs.Plain.{Label, plain_body}
 use Rattle.bl_ctext_semantics.specs.Meaning.{Scope, further, named_location}
 use Rattle.bl_ctext_semantics.specs.Memory.{CValue, Location, Memory, Projection, left_after, member, scalar_number}
@@ -41,15 +37,7 @@ use Rattle.bl_machine_pass.specs.Registers.{Registers}
 use Rattle.bl_machine_pass_laws.specs.Turns.Laws.{StaysPlaced}
 use Rattle.bl_machine_pass_laws_execution.specs.Frames.{Frames}
 use Rattle.bl_machine_pass_laws.specs.Keys.{NodesHaveKeys}
-use Rattle.bl_emit_spec_laws.specs.Calls.Built.{
-  Activities,
-  activity_at,
-  cleared,
-  registered,
-  run_by,
-  site_at,
-  unit_number,
-}
+use Rattle.bl_emit_spec_laws.specs.Calls.Built.{Activities, activity_at, cleared, registered, run_by, site_at, unit_number}
 use Rattle.bl_emit_spec_laws.specs.Calls.Laws.{Midway, PassKeepsFrame}
 use Rattle.bl_emit_spec_laws.specs.Calls.Memories as memories
 use Rattle.bl_emit_spec_laws.specs.Calls.Memories.{MemoryEncodes, Nests, inner}

@@ -22,11 +22,7 @@ use Rattle.bl_ctree_laws_confluence.specs.Deeds.Orderly.{AcceptedIsOrderly}
 use Rattle.bl_ctree_laws_confluence.specs.Deeds.Origins.{CalledBy, HasCaller, InstancesHaveCallers}
 use Rattle.bl_ctree_laws_confluence.proofs.OnDeeds.Activities.{AllOf, and_left, and_right, one_a_place_so}
 use Rattle.bl_ctree_laws_traces.proofs.OnProgress.Earlier.{RunsUnit, body_runs}
-use Rattle.bl_ctree_laws_traces.proofs.OnReady.Keys.{
-  Differ,
-  Has,
-  Same,
-}
+use Rattle.bl_ctree_laws_traces.proofs.OnReady.Keys.{Differ, Has, Same}
 use Rattle.bl_ctree_laws_traces.proofs.OnBounded.Callees.{taken_before, typed_at}
 use Rattle.bl_ctree_laws_traces.proofs.OnBounded.Calls.{calls_in, run_of}
 use Rattle.bl_ctree_laws_traces.proofs.OnBounded.Lists.{Among, among_got}

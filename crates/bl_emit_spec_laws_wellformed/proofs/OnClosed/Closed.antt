@@ -1,23 +1,5 @@
 -- What a needed unit calls or runs is needed.
-use Rattle.std.proofs.Common.{
-  ◌≡◌,
-  ◌⊎◌,
-  ℕ,
-  zero,
-  suc,
-  ◌+◌,
-  ◌<◌,
-  ◌≤◌,
-  Bool,
-  true,
-  false,
-  ◌||◌,
-  nat_eq,
-  List,
-  [],
-  ◌∷◌,
-  ◌++◌,
-}
+use Rattle.std.proofs.Common.{◌≡◌, ◌⊎◌, ℕ, zero, suc, ◌+◌, ◌<◌, ◌≤◌, Bool, true, false, ◌||◌, nat_eq, List, [], ◌∷◌, ◌++◌}
 use Rattle.std.proofs.Common.{map, length, Option, Some, None, inl, inr, refl, sym, ap, subst, ◌∙◌, arith}
 use Rattle.std.proofs.lemmas.Bool.{cases_lt, eqb-true}
 use Rattle.std.proofs.lemmas.List.{length_push, length-map}
@@ -28,20 +10,13 @@ use Rattle.std.specs.Prelude.{All, slice_get, unwrap_or, if◌then◌else◌}
 use Rattle.std.specs.List.{list_any}
 use Rattle.bl_tree.specs.declared.tree.StructDef.{StructDef}
 use Rattle.bl_tree.specs.declared.tree.Unit.{Unit as UnitDef}
-use Rattle.bl_tree.specs.Program.{
-  is_entry,
-}
+use Rattle.bl_tree.specs.Program.{is_entry}
 use Rattle.bl_machine.specs.Blocks.{up_to}
 use Rattle.bl_limits_measures.specs.Calls.{calls_of}
 use Rattle.bl_limits_measures.specs.Runs.{activities_run}
 use Rattle.bl_limits_measures.specs.Uses.{UsesEarlier}
 use Rattle.bl_limits_measures_laws.specs.Laws.{UnitsUseEarlierOnes}
-use Rattle.bl_emit_spec.specs.Programs.{
-  needed_below,
-  needs_at,
-  needs_of,
-  set_from,
-}
+use Rattle.bl_emit_spec.specs.Programs.{needed_below, needs_at, needs_of, set_from}
 use Rattle.bl_emit_spec_laws_wellformed.proofs.OnClosed.Running.{same_number}
 use Rattle.bl_emit_spec_laws_wellformed.specs.Closed.{NeededClosed}
 

@@ -1,31 +1,13 @@
 -- The units that an activity runs, by its `run` statements.
 use Rattle.std.proofs.Common.{◌≡◌, ◌⊎◌, ℕ, zero, suc, Bool, true, false, cond, ◌||◌, nat_eq, List, [], ◌∷◌}
-use Rattle.std.proofs.Common.{
-  eq-eqb,
-  map,
-  Contains,
-  inl,
-  inr,
-  refl,
-  sym,
-  ap,
-  ◌∙◌,
-  arith,
-}
-use Rattle.std.specs.Prelude.{
-  filter,
-  not,
-}
+use Rattle.std.proofs.Common.{eq-eqb, map, Contains, inl, inr, refl, sym, ap, ◌∙◌, arith}
+use Rattle.std.specs.Prelude.{filter, not}
 use Rattle.std.specs.List.{list_any}
 use Rattle.bl_tree.specs.declared.tree.Unit.{Unit as UnitDef}
 use Rattle.bl_tree.specs.Reduce.{joined}
 use Rattle.bl_tree.specs.Rules.{same_place}
 use Rattle.bl_ctree.specs.declared.instance.Run.{Run}
-use Rattle.bl_ctree.specs.Instances.{
-  one_a_place,
-  runs_in,
-  runs_of,
-}
+use Rattle.bl_ctree.specs.Instances.{one_a_place, runs_in, runs_of}
 use Rattle.bl_limits_measures.specs.Runs.{activities_run}
 use Rattle.bl_limits_measures_laws.proofs.InstanceLemmas.{all_named, units_of}
 

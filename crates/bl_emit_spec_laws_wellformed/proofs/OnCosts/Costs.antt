@@ -19,15 +19,9 @@ use Rattle.bl_tree.specs.Reduce.{all_of, joined, total}
 use Rattle.bl_tree.specs.Typing.{TypingContext, arm_fits, branch_fits, fits, is_activity, is_inhabited, is_truth, kind_fits, stmt_fits, type_of}
 use Rattle.bl_tree.proofs.StmtInduction.{Cases, Each, EachArm, EachBranch, induct, stmt}
 use Rattle.bl_eval.proofs.PassLemmas.{and_left, and_right}
-use Rattle.bl_limits_measures.proofs.RunLemmas.{
-  activities_in as runs_in,
-  activities_in_arm as runs_in_arm,
-  activities_in_branch as runs_in_branch,
-  arm_activities as arm_runs,
-  branch_activities as branch_runs,
-  kind_activities as kind_runs,
-  stmt_activities as stmt_layer_runs,
-}
+use Rattle.bl_limits_measures.proofs.RunLemmas.{activities_in as runs_in, activities_in_arm as runs_in_arm, activities_in_branch as runs_in_branch}
+use Rattle.bl_limits_measures.proofs.RunLemmas.{arm_activities as arm_runs, branch_activities as branch_runs, kind_activities as kind_runs}
+use Rattle.bl_limits_measures.proofs.RunLemmas.{stmt_activities as stmt_layer_runs}
 use Rattle.bl_limits_measures.specs.Statements.{arm_cell_statements, branch_cell_statements, cell_statements_in, cell_statements_in_arm, kind_cell_statements}
 use Rattle.bl_limits_measures.specs.Statements.{cell_statements_in_block, cell_statements_in_branch, layer_cell_statements}
 use Rattle.bl_graph_nodes.specs.Nodes.{CheckAt, DepthEndAt, DepthJoinAt, ForkAt, HeadAt, Node, StartAt, SurfaceEndAt, SurfaceJoinAt, TestAt}
@@ -38,35 +32,9 @@ use Rattle.bl_graph_nodes.specs.Plain.{While, arm_plain, block_at, block_from, b
 use Rattle.bl_graph_nodes.specs.Plain.{inside, kind_plain, label_at, passed_one, place_of_test, plain_body, plain_stmt, stmt_plain}
 use Rattle.bl_machine.specs.Layout.{width_in, width_in_each, width_of}
 use Rattle.bl_machine.specs.Uses.{Slots}
-use Rattle.bl_machine_pass.specs.Transitions.{
-  Change,
-  ClearsBoth,
-  ClearsCounter,
-  EndsWhen,
-  Finishes,
-  IsNew,
-  RestedIn,
-  SetsCounter,
-  SetsFlag,
-  SetsMark,
-  Transition,
-  age_of,
-  body_ends,
-  counters_in,
-  counters_in_each,
-  enter,
-  enter_each,
-  fires,
-  flagged,
-  joins,
-  marked,
-  once,
-  rests_in,
-  rule_where,
-  rules_in,
-  rules_in_each,
-  rules_of,
-}
+use Rattle.bl_machine_pass.specs.Transitions.{Change, ClearsBoth, ClearsCounter, EndsWhen, Finishes, IsNew, RestedIn, SetsCounter, SetsFlag, SetsMark}
+use Rattle.bl_machine_pass.specs.Transitions.{Transition, age_of, body_ends, counters_in, counters_in_each, enter, enter_each, fires, flagged, joins, marked}
+use Rattle.bl_machine_pass.specs.Transitions.{once, rests_in, rule_where, rules_in, rules_in_each, rules_of}
 use Rattle.bl_emit_spec_laws_wellformed.specs.Costs.{extras, marks_in, rule_extras}
 
 -- ---- sums

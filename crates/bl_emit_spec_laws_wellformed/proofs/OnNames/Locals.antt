@@ -25,41 +25,10 @@ use Rattle.bl_emit_acts.specs.Acts.{is_copied}
 use Rattle.bl_emit_acts.specs.Places.{home_of}
 use Rattle.bl_emit_acts.specs.Types.{numbered_name}
 use Rattle.bl_emit_functions.specs.Functions.{is_held, member_of, members_from, members_of, memory_name, params_from}
-use Rattle.bl_emit_spec.specs.Activities.{
-  Activity,
-  RunAt,
-  activity_locals,
-  activity_params,
-  activity_view,
-  copied_in,
-  copies_of,
-  copy_local,
-  counter_member,
-  counters_read,
-  ended_local,
-  some_ends,
-  first_rules,
-  flag_local,
-  frame_member,
-  frame_struct,
-  given_local,
-  is_flagged,
-  mark_local,
-  mark_locals,
-  memory_member,
-  memory_params,
-  over_params,
-  remembered,
-  remembers_any,
-  rested_local,
-  result_params,
-  rules_at,
-  run_locals,
-  runs_in_body,
-  scalar_local,
-  struct_member,
-  word_of_run,
-}
+use Rattle.bl_emit_spec.specs.Activities.{Activity, RunAt, activity_locals, activity_params, activity_view, copied_in, copies_of, copy_local, counter_member}
+use Rattle.bl_emit_spec.specs.Activities.{counters_read, ended_local, some_ends, first_rules, flag_local, frame_member, frame_struct, given_local, is_flagged}
+use Rattle.bl_emit_spec.specs.Activities.{mark_local, mark_locals, memory_member, memory_params, over_params, remembered, remembers_any, rested_local}
+use Rattle.bl_emit_spec.specs.Activities.{result_params, rules_at, run_locals, runs_in_body, scalar_local, struct_member, word_of_run}
 use Rattle.bl_emit_spec.specs.Blocks.{ActivityView, Sizes, name_in, node_word, unit_may_end}
 use Rattle.bl_emit_spec.specs.Names.{NumberedWord, callee_name, ended_name, flag_name, numbered_word, with_word}
 use Rattle.bl_emit_spec_laws_wellformed.specs.Names.{FrameDiffers, LocalsDiffer, MemoryDiffers, NumbersDiffer}

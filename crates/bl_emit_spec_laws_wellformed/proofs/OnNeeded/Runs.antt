@@ -20,15 +20,8 @@ use Rattle.bl_tree.specs.Typing.{is_truth, kind_fits, run_fits, site_of, stmt_fi
 use Rattle.bl_tree.proofs.StmtInduction.{Cases, Each, EachArm, induct, stmt}
 use Rattle.bl_eval.proofs.PassLemmas.{and_left, and_right, both}
 use Rattle.bl_limits_measures.specs.Runs.{activities_run}
-use Rattle.bl_limits_measures.proofs.RunLemmas.{
-  activities_are,
-  activities_in as runs_in,
-  activities_in_arm as runs_in_arm,
-  arm_activities as arm_runs,
-  branch_activities as branch_runs,
-  kind_activities as kind_runs,
-  stmt_activities as stmt_layer_runs,
-}
+use Rattle.bl_limits_measures.proofs.RunLemmas.{activities_are, activities_in as runs_in, activities_in_arm as runs_in_arm, arm_activities as arm_runs}
+use Rattle.bl_limits_measures.proofs.RunLemmas.{branch_activities as branch_runs, kind_activities as kind_runs, stmt_activities as stmt_layer_runs}
 use Rattle.bl_emit_acts_laws_wellformed.proofs.OnFormed.Units.{body_stands}
 
 module _ (site : TypingContext) (function : is_activity site.kind ≡ false) where

@@ -37,38 +37,9 @@ use Rattle.bl_emit_functions.specs.Trees.{c_if, c_truth}
 use Rattle.bl_emit_functions_laws_wellformed.proofs.OnSpelled.Acts.{one-fits}
 use Rattle.bl_emit_functions_laws_wellformed.proofs.OnSpelled.Shapes.{else-fits}
 use Rattle.bl_emit_functions_laws_wellformed.proofs.OnSpelled.Types.{all_append}
-use Rattle.bl_emit_spec.specs.Blocks.{
-  ActivityView,
-  Sizes,
-  aged_test,
-  all_tests,
-  at_slot,
-  change_code,
-  changes_code,
-  counter_type,
-  counter_value,
-  ends_test,
-  flagged_now,
-  forgotten,
-  freed,
-  guard_of,
-  in_pairs,
-  in_tree,
-  is_greatest,
-  last_value,
-  node_word,
-  rested_at,
-  rested_between,
-  rested_by,
-  rested_from,
-  rested_in,
-  rested_since,
-  rested_to,
-  rested_within,
-  some_test,
-  stmt_where,
-  type_for,
-}
+use Rattle.bl_emit_spec.specs.Blocks.{ActivityView, Sizes, aged_test, all_tests, at_slot, change_code, changes_code, counter_type, counter_value, ends_test}
+use Rattle.bl_emit_spec.specs.Blocks.{flagged_now, forgotten, freed, guard_of, in_pairs, in_tree, is_greatest, last_value, node_word, rested_at, rested_between}
+use Rattle.bl_emit_spec.specs.Blocks.{rested_by, rested_from, rested_in, rested_since, rested_to, rested_within, some_test, stmt_where, type_for}
 use Rattle.bl_emit_spec.specs.Names.{NumberedWord, numbered_word, counter_name, counter_place, ended_name}
 use Rattle.bl_emit_spec.specs.Names.{ended_place, flag_name, flag_place, given_name, given_place}
 use Rattle.bl_emit_spec.specs.Names.{mark_name, mark_place, over_place, rested_name, rested_place, result_place}

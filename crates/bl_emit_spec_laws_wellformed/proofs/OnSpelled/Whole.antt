@@ -56,57 +56,12 @@ use Rattle.bl_emit_functions_laws_wellformed.proofs.OnSpelled.Types.{all_append,
 use Rattle.bl_emit_functions_laws_wellformed.proofs.OnSpelled.Functions.{earlier_named, params-spelled, typed}
 use Rattle.bl_tree.specs.Rules.{same_place}
 use Rattle.bl_tree.specs.declared.place.Place.{Place}
-use Rattle.bl_emit_spec.specs.Activities.{
-  Activity,
-  RunAt,
-  activity_code,
-  activity_function,
-  activity_locals,
-  activity_params,
-  activity_view,
-  blocks_code,
-  blocks_in_order,
-  body_of,
-  callees_in,
-  copied_in,
-  copy_local,
-  counter_member,
-  counters_read,
-  enters_at,
-  entry_code,
-  entry_place,
-  first_rules,
-  flag_local,
-  frame_member,
-  frame_struct,
-  given_local,
-  is_flagged,
-  mark_local,
-  mark_locals,
-  memory_member,
-  memory_params,
-  one_a_place,
-  over_params,
-  picked,
-  remembered,
-  remembered_struct,
-  remembers_any,
-  rested_code,
-  rested_local,
-  result_params,
-  rules_at,
-  run_at,
-  run_locals,
-  run_number_in,
-  runs_at,
-  runs_in_body,
-  scalar_local,
-  struct_member,
-  turns_in_source,
-  word_of_run,
-  ended_local,
-  some_ends,
-}
+use Rattle.bl_emit_spec.specs.Activities.{Activity, RunAt, activity_code, activity_function, activity_locals, activity_params, activity_view, blocks_code}
+use Rattle.bl_emit_spec.specs.Activities.{blocks_in_order, body_of, callees_in, copied_in, copy_local, counter_member, counters_read, enters_at, entry_code}
+use Rattle.bl_emit_spec.specs.Activities.{entry_place, first_rules, flag_local, frame_member, frame_struct, given_local, is_flagged, mark_local, mark_locals}
+use Rattle.bl_emit_spec.specs.Activities.{memory_member, memory_params, one_a_place, over_params, picked, remembered, remembered_struct, remembers_any}
+use Rattle.bl_emit_spec.specs.Activities.{rested_code, rested_local, result_params, rules_at, run_at, run_locals, run_number_in, runs_at, runs_in_body}
+use Rattle.bl_emit_spec.specs.Activities.{scalar_local, struct_member, turns_in_source, word_of_run, ended_local, some_ends}
 use Rattle.bl_emit_spec.specs.Blocks.{ActivityView, NodeCode, counter_value, name_in, node_word, unit_may_end}
 use Rattle.bl_emit_spec.specs.Names.{NumberedWord, callee_name, counter_name, counter_place, ended_name, flag_name, flag_place, frame_name, given_name}
 use Rattle.bl_emit_spec.specs.Names.{mark_name, rested_name, rested_place}

@@ -36,19 +36,8 @@ use Rattle.bl_emit_functions_laws_wellformed.proofs.OnSpelled.Types.{all_append,
 use Rattle.bl_emit_spec.specs.Activities.{struct_member}
 use Rattle.bl_emit_spec.specs.Blocks.{unit_may_end, stmt_where, arg_where}
 use Rattle.bl_emit_spec.specs.Names.{frame_name}
-use Rattle.bl_emit_spec.specs.Programs.{
-  c_returned,
-  init_function,
-  input_arg,
-  interface_structs,
-  output_arg,
-  port_member,
-  port_struct,
-  state_struct,
-  tick_args,
-  tick_locals,
-  tick_function,
-}
+use Rattle.bl_emit_spec.specs.Programs.{c_returned, init_function, input_arg, interface_structs, output_arg, port_member, port_struct, state_struct, tick_args}
+use Rattle.bl_emit_spec.specs.Programs.{tick_locals, tick_function}
 use Rattle.bl_emit_spec_laws_wellformed.proofs.OnSpelled.Guards.{end-letter, frame-letter, where-fits}
 use Rattle.bl_emit_spec_laws_wellformed.proofs.OnSpelled.Nodes.{frame-named}
 

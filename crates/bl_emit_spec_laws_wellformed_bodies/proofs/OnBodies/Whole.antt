@@ -35,23 +35,8 @@ use Rattle.bl_emit_acts_laws_wellformed.proofs.OnFormed.Acts.{block_append, bloc
 use Rattle.bl_emit_acts_laws_wellformed.proofs.OnFormed.Judged.{read-is}
 use Rattle.bl_emit_acts_laws_wellformed.proofs.OnFormed.SiteActs.{own_place}
 use Rattle.bl_emit_acts_laws_wellformed.proofs.OnFormed.Typed.{variable_place}
-use Rattle.bl_emit_spec.specs.Activities.{
-  Activity,
-  activity_code,
-  activity_view,
-  blocks_in_order,
-  body_of,
-  callees_in,
-  copied_in,
-  copies_of,
-  counters_read,
-  entry_code,
-  entry_place,
-  rested_code,
-  rules_at,
-  runs_in_body,
-  turns_in_source,
-}
+use Rattle.bl_emit_spec.specs.Activities.{Activity, activity_code, activity_view, blocks_in_order, body_of, callees_in, copied_in, copies_of, counters_read}
+use Rattle.bl_emit_spec.specs.Activities.{entry_code, entry_place, rested_code, rules_at, runs_in_body, turns_in_source}
 use Rattle.bl_emit_spec.specs.Blocks.{ActivityView, counter_type, counter_value, node_word}
 use Rattle.bl_emit_spec.specs.Names.{counter_place, flag_place, rested_place}
 use Rattle.bl_emit_spec_laws.specs.Calls.Built.{registered}

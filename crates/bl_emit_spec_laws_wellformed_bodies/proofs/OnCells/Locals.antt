@@ -15,35 +15,9 @@ use Rattle.bl_machine_pass.specs.Transitions.{Change, ClearsBoth, ClearsCounter,
 use Rattle.bl_ctext_semantics.specs.Sizes.{Sizes, size_of_member, size_of_param, size_of_type}
 use Rattle.bl_emit_functions.specs.Functions.{params_from}
 use Rattle.bl_emit_spec.specs.Blocks.{unit_may_end}
-use Rattle.bl_emit_spec.specs.Activities.{
-  Activity,
-  RunAt,
-  activity_locals,
-  activity_params,
-  activity_view,
-  copied_in,
-  copies_of,
-  copy_local,
-  counter_member,
-  counters_read,
-  first_rules,
-  flag_local,
-  given_local,
-  is_flagged,
-  mark_local,
-  mark_locals,
-  memory_params,
-  over_params,
-  remembers_any,
-  rested_local,
-  result_params,
-  rules_at,
-  run_locals,
-  runs_in_body,
-  word_of_run,
-  ended_local,
-  some_ends,
-}
+use Rattle.bl_emit_spec.specs.Activities.{Activity, RunAt, activity_locals, activity_params, activity_view, copied_in, copies_of, copy_local, counter_member}
+use Rattle.bl_emit_spec.specs.Activities.{counters_read, first_rules, flag_local, given_local, is_flagged, mark_local, mark_locals, memory_params, over_params}
+use Rattle.bl_emit_spec.specs.Activities.{remembers_any, rested_local, result_params, rules_at, run_locals, runs_in_body, word_of_run, ended_local, some_ends}
 use Rattle.bl_emit_acts.specs.Acts.{is_copied}
 use Rattle.bl_emit_spec_laws_wellformed.proofs.OnNumbers.Whole.{first-less}
 use Rattle.bl_emit_spec_laws_wellformed.specs.Costs.{extras, marks_in}

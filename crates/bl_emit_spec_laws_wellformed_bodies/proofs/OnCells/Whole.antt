@@ -42,15 +42,7 @@ use Rattle.bl_emit_spec.specs.Names.{frame_name}
 use Rattle.bl_emit_spec_laws_wellformed.specs.Costs.{BodiesCost, extras}
 use Rattle.bl_emit_spec_laws_wellformed_bodies.specs.Signed.{NoneLoops}
 use Rattle.bl_emit_spec_laws_wellformed_bodies.specs.Cells.{ActivityCells, BodiesRun, Sized, cells_of_activity, ports_of}
-use Rattle.bl_emit_spec_laws_wellformed_bodies.proofs.OnCells.Callees.{
-  Fits,
-  all_such,
-  frame_at,
-  frames-are,
-  got_before,
-  greatest-append,
-  greatest-less,
-}
+use Rattle.bl_emit_spec_laws_wellformed_bodies.proofs.OnCells.Callees.{Fits, all_such, frame_at, frames-are, got_before, greatest-append, greatest-less}
 use Rattle.bl_emit_spec_laws_wellformed_bodies.proofs.OnCells.Callees.{memories-few, memories-less, memory_at, sums-less, taken_got}
 use Rattle.bl_emit_spec_laws_wellformed_bodies.proofs.OnCells.Held.{held, held-apart, members-few, members-less, params-less, taken-all}
 use Rattle.bl_emit_spec_laws_wellformed_bodies.proofs.OnCells.Locals.{cells, counters-are, locals-few, one_where, params-few, passed, total-append, up-length}

@@ -46,20 +46,8 @@ use Rattle.bl_emit_spec_laws.proofs.OnRunPlaces.Sharing.{once_in}
 use Rattle.bl_emit_spec.specs.Activities.{Activity, RunAt, activity_function, activity_view, frame_struct, remembered_struct, remembers_any, rules_at, runs_at, runs_in_body}
 use Rattle.bl_emit_spec.specs.Blocks.{name_in}
 use Rattle.bl_emit_spec.specs.Names.{frame_name}
-use Rattle.bl_emit_spec.specs.Programs.{
-  ProgramParts,
-  activity_of,
-  needed_below,
-  needed_units,
-  needs_at,
-  needs_of,
-  parts_from,
-  parts_of_activity,
-  parts_of_function,
-  parts_of_next,
-  set_from,
-  where_needed,
-}
+use Rattle.bl_emit_spec.specs.Programs.{ProgramParts, activity_of, needed_below, needed_units, needs_at, needs_of, parts_from, parts_of_activity}
+use Rattle.bl_emit_spec.specs.Programs.{parts_of_function, parts_of_next, set_from, where_needed}
 use Rattle.bl_emit_spec_laws_wellformed_bodies.specs.Bodies.{ActivityStands}
 use Rattle.bl_emit_spec_laws_wellformed.proofs.OnChains.Nodes.{AllUnder, body_under}
 use Rattle.bl_emit_spec_laws_wellformed.specs.Chains.{ActivitiesCallFew, ActivityChainsGrow, ActivityChainsShort, IsOfUnit}

@@ -22,20 +22,8 @@ use Rattle.bl_tree.specs.Program.{IsWellTyped, is_output, parameters_of}
 use Rattle.bl_tree.specs.Reduce.{joined}
 use Rattle.bl_tree.specs.Types.{scalar_in, type_stands}
 use Rattle.bl_eval.proofs.PassLemmas.{all_at, both}
-use Rattle.bl_ctext_semantics.specs.Faults.{
-  Signature,
-  Variable,
-  all_distinct,
-  declared_before,
-  depth_of_function,
-  distinct_names,
-  faults_in_head,
-  is_declared,
-  is_scalar,
-  scalar_parameter,
-  short_chain,
-  variable_names,
-}
+use Rattle.bl_ctext_semantics.specs.Faults.{Signature, Variable, all_distinct, declared_before, depth_of_function, distinct_names, faults_in_head, is_declared}
+use Rattle.bl_ctext_semantics.specs.Faults.{is_scalar, scalar_parameter, short_chain, variable_names}
 use Rattle.bl_ctext_semantics.specs.Faults as faults
 use Rattle.bl_ctext_semantics.specs.Tables.{Table, no_entries}
 use Rattle.bl_emit_acts.specs.Types.{c_type}
@@ -50,37 +38,10 @@ use Rattle.bl_emit_structs_laws_wellformed.proofs.OnFormed.Faultless.{all_differ
 use Rattle.bl_machine_pass.specs.Transitions.{Change, Transition}
 use Rattle.bl_machine_pass.specs.Transitions.{ClearsBoth, ClearsCounter, EndsWhen, Finishes, SetsCounter, SetsFlag, SetsMark}
 use Rattle.bl_emit_spec.specs.Blocks.{unit_may_end}
-use Rattle.bl_emit_spec.specs.Activities.{
-  Activity,
-  RunAt,
-  activity_function,
-  activity_locals,
-  activity_params,
-  activity_view,
-  copied_in,
-  copy_local,
-  counters_read,
-  first_rules,
-  flag_local,
-  given_local,
-  is_flagged,
-  mark_local,
-  mark_locals,
-  memory_params,
-  over_params,
-  pointer_param,
-  remembered,
-  remembers_any,
-  rested_local,
-  result_params,
-  rules_at,
-  run_locals,
-  runs_in_body,
-  scalar_local,
-  word_of_run,
-  ended_local,
-  some_ends,
-}
+use Rattle.bl_emit_spec.specs.Activities.{Activity, RunAt, activity_function, activity_locals, activity_params, activity_view, copied_in, copy_local}
+use Rattle.bl_emit_spec.specs.Activities.{counters_read, first_rules, flag_local, given_local, is_flagged, mark_local, mark_locals, memory_params, over_params}
+use Rattle.bl_emit_spec.specs.Activities.{pointer_param, remembered, remembers_any, rested_local, result_params, rules_at, run_locals, runs_in_body}
+use Rattle.bl_emit_spec.specs.Activities.{scalar_local, word_of_run, ended_local, some_ends}
 use Rattle.bl_emit_spec.specs.Blocks.{ActivityView, node_word}
 use Rattle.bl_emit_spec.specs.Names.{NumberedWord, flag_name, frame_name}
 use Rattle.bl_emit_spec_laws_wellformed.specs.Names.{LocalsDiffer, NumbersDiffer}

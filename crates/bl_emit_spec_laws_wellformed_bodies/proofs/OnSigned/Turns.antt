@@ -33,22 +33,8 @@ use Rattle.bl_graph_nodes.specs.Nodes.{ResumeAt, StartAt, SurfaceEndAt, SurfaceJ
 use Rattle.bl_graph_nodes.specs.Plain.{Block, Done, Then}
 use Rattle.bl_machine_pass.specs.Transitions.{Change, Transition}
 use Rattle.bl_machine_pass.specs.Transitions.{ClearsBoth, ClearsCounter, EndsWhen, Finishes, SetsCounter, SetsFlag, SetsMark}
-use Rattle.bl_emit_spec.specs.Activities.{
-  Activity,
-  activity_code,
-  activity_view,
-  blocks_code,
-  blocks_in_order,
-  body_of,
-  callees_in,
-  copied_in,
-  counters_read,
-  entry_code,
-  picked,
-  rested_code,
-  rules_at,
-  turns_in_source,
-}
+use Rattle.bl_emit_spec.specs.Activities.{Activity, activity_code, activity_view, blocks_code, blocks_in_order, body_of, callees_in, copied_in, counters_read}
+use Rattle.bl_emit_spec.specs.Activities.{entry_code, picked, rested_code, rules_at, turns_in_source}
 use Rattle.bl_emit_spec.specs.Blocks.{word_at, ActivityView, NodeCode, change_code, changes_code, control_code, flagged_now, forgotten, fused_code}
 use Rattle.bl_emit_spec.specs.Blocks.{all_merged, choice_code, control_unless, entered_by, layer_acted, leaving_flag, may_end_in, merged_code, next_turn}
 use Rattle.bl_emit_spec.specs.Blocks.{own_code, run_code}

@@ -15,20 +15,8 @@ use Rattle.bl_tree.specs.declared.c.CType.TheVariants.{Scalar as OfScalar, Struc
 use Rattle.bl_tree.specs.Reduce.{greatest}
 use Rattle.bl_tree.specs.Words.{are_distinct}
 use Rattle.bl_eval.proofs.PassLemmas.{and_left, and_right, both}
-use Rattle.bl_ctext_semantics.specs.Faults.{
-  all_distinct,
-  declared_before,
-  depth_of_struct,
-  depth_of_type,
-  distinct_names,
-  faults_in_struct,
-  interface_fits,
-  interface_members,
-  is_declared,
-  member_table,
-  short_chain,
-  struct_faults_after,
-}
+use Rattle.bl_ctext_semantics.specs.Faults.{all_distinct, declared_before, depth_of_struct, depth_of_type, distinct_names, faults_in_struct, interface_fits}
+use Rattle.bl_ctext_semantics.specs.Faults.{interface_members, is_declared, member_table, short_chain, struct_faults_after}
 use Rattle.bl_ctext_semantics.specs.Tables.{Table, entry_or, no_entries, with_entry}
 use Rattle.bl_emit_structs_laws_wellformed.specs.Names.{are_known, is_known, member_names}
 use Rattle.bl_emit_acts_laws_wellformed.proofs.OnFormed.Judged.{kept}

@@ -28,41 +28,15 @@ use Rattle.bl_emit_structs_laws_wellformed.specs.Names.{are_known, is_known, nam
 use Rattle.bl_emit_structs_laws_wellformed.specs.Formed.{OfVariable}
 use Rattle.bl_emit_functions.specs.Functions.{members_of, memory_name, memory_struct, struct_of}
 use Rattle.bl_emit_functions_laws_wellformed.specs.Formed.{MemoriesHold}
-use Rattle.bl_emit_spec.specs.Activities.{
-  Activity,
-  RunAt,
-  activity_view,
-  counter_member,
-  frame_member,
-  frame_struct,
-  memory_member,
-  remembered,
-  remembered_struct,
-  remembers_any,
-  runs_in_body,
-  word_of_run,
-}
+use Rattle.bl_emit_spec.specs.Activities.{Activity, RunAt, activity_view, counter_member, frame_member, frame_struct, memory_member, remembered}
+use Rattle.bl_emit_spec.specs.Activities.{remembered_struct, remembers_any, runs_in_body, word_of_run}
 use Rattle.bl_emit_spec.specs.Blocks.{name_in}
 use Rattle.bl_emit_spec.specs.Names.{callee_name, frame_name}
 use Rattle.bl_emit_spec.specs.Programs.{ProgramParts, activity_of, needed_units, parts_from, parts_of_function, parts_of_next, parts_then, where_needed}
 use Rattle.bl_emit_spec_laws_wellformed.specs.Names.{FrameDiffers, MemoryDiffers, NumbersDiffer}
 use Rattle.bl_emit_spec_laws_wellformed_bodies.specs.Structs.Parts.{IsPart, OfNumber, OfPart}
-use Rattle.bl_emit_spec_laws_wellformed_bodies.proofs.OnStructs.Lists.{
-  any_first,
-  any_second,
-  below_length,
-  below_or_last,
-  first_or,
-  from_joined,
-  from_map,
-  get_behind,
-  get_front,
-  known_both,
-  known_more,
-  list_known,
-  none_has,
-  take_front,
-}
+use Rattle.bl_emit_spec_laws_wellformed_bodies.proofs.OnStructs.Lists.{any_first, any_second, below_length, below_or_last, first_or, from_joined, from_map}
+use Rattle.bl_emit_spec_laws_wellformed_bodies.proofs.OnStructs.Lists.{get_behind, get_front, known_both, known_more, list_known, none_has, take_front}
 
 -- the activity that a `run` of the unit at the position calls: it stands before, is needed with the unit, and heads a shorter chain
 pub record RunFits (units : List UnitDef) (entry k : ℕ) (earlier : List UnitDef) (r : RunAt) : Type 0 where

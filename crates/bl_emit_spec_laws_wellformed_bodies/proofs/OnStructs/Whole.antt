@@ -45,18 +45,8 @@ use Rattle.bl_emit_spec.specs.Names.{frame_name}
 use Rattle.bl_emit_spec.specs.Programs.{ProgramParts, file_at, interface_structs, port_struct, state_struct}
 use Rattle.bl_emit_spec_laws_wellformed_bodies.specs.Structs.Laws.{FileStructs, FilesDeclare, PartsAreSound, PartsStand, program_parts}
 use Rattle.bl_emit_spec_laws_wellformed_bodies.specs.Structs.Parts.{IsPart}
-use Rattle.bl_emit_spec_laws_wellformed_bodies.proofs.OnStructs.Heights.{
-  Height,
-  as_file,
-  class,
-  class_file,
-  class_frame,
-  class_memory,
-  fine_frame,
-  fine_memory,
-  fine_type,
-  type_class,
-}
+use Rattle.bl_emit_spec_laws_wellformed_bodies.proofs.OnStructs.Heights.{Height, as_file, class, class_file, class_frame, class_memory, fine_frame, fine_memory}
+use Rattle.bl_emit_spec_laws_wellformed_bodies.proofs.OnStructs.Heights.{fine_type, type_class}
 use Rattle.bl_emit_spec_laws_wellformed_bodies.proofs.OnStructs.Interface.{Ports, inputs_differ, inputs_fit, inputs_ports, outputs_differ, outputs_fit}
 use Rattle.bl_emit_spec_laws_wellformed_bodies.proofs.OnStructs.Interface.{outputs_ports, port_scalar, state_differs, state_members}
 use Rattle.bl_emit_spec_laws_wellformed_bodies.proofs.OnStructs.Lists.{first_or, known_both, list_known, none_has}

@@ -1,22 +1,5 @@
 -- Turns are steps one after another, and what has a turn waits for it.
-use Rattle.std.proofs.Common.{
-  ◌≡◌,
-  ℕ,
-  Bool,
-  false,
-  List,
-  [],
-  ◌∷◌,
-  ◌++◌,
-  Option,
-  Some,
-  None,
-  inl,
-  inr,
-  refl,
-  sym,
-  subst,
-}
+use Rattle.std.proofs.Common.{◌≡◌, ℕ, Bool, false, List, [], ◌∷◌, ◌++◌, Option, Some, None, inl, inr, refl, sym, subst}
 use Rattle.bl_graph_nodes.specs.Nodes.{Node}
 use Rattle.bl_graph_nodes.specs.Plain.{Block, Done, Plain, Then}
 use Rattle.bl_graph_nodes.specs.Steps as labels
@@ -26,25 +9,7 @@ use Rattle.bl_ctree.specs.Instances.{Setting}
 use Rattle.bl_ctree_laws.specs.Pending.{Deed}
 use Rattle.bl_ctree_laws.specs.Steps as moves
 use Rattle.bl_ctree_laws.specs.Steps.{Anyway, Moves, OneMoves}
-use Rattle.bl_ctree_laws.specs.Trees.{
-  Call,
-  Fork,
-  Tree,
-  Trees,
-  Watch,
-  Nil,
-  Wait,
-  Test,
-  Idle,
-  Do,
-  Seq,
-  Par,
-  Guard,
-  Run,
-  beside,
-  followed,
-  seq,
-}
+use Rattle.bl_ctree_laws.specs.Trees.{Call, Fork, Tree, Trees, Watch, Nil, Wait, Test, Idle, Do, Seq, Par, Guard, Run, beside, followed, seq}
 use Rattle.bl_machine_laws.specs.Numbers.Steps.{Walks, on, stay}
 use Rattle.bl_machine_laws.specs.Numbers.Turns as turns
 use Rattle.bl_machine_laws.specs.Numbers.Turns.{AnsweredDeed, InstancePoint, OneTurns, Passes, Turns}

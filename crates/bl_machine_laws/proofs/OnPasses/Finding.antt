@@ -6,76 +6,22 @@ use Rattle.bl_tree.specs.declared.tree.Expr.{Expr}
 use Rattle.bl_tree.specs.declared.tree.Path.{Path}
 use Rattle.bl_tree.specs.declared.tree.Unit.{Unit as UnitDef}
 use Rattle.bl_graph_nodes.specs.Nodes.{Node, entry, is_instant}
-use Rattle.bl_graph_nodes.specs.Plain.{
-  Act,
-  Again,
-  Await,
-  Bodies,
-  Block,
-  Body as BodyOf,
-  Cobegin,
-  Done,
-  If,
-  Label,
-  Last,
-  Plain,
-  Repeat,
-  Run as RunOf,
-  Then,
-  Until,
-  When,
-  While,
-  plain_body,
-}
+use Rattle.bl_graph_nodes.specs.Plain.{Act, Again, Await, Bodies, Block, Body as BodyOf, Cobegin, Done, If, Label, Last, Plain, Repeat, Run as RunOf, Then}
+use Rattle.bl_graph_nodes.specs.Plain.{Until, When, While, plain_body}
 use Rattle.bl_graph_nodes.specs.Steps.{end_node, join_node, run_node}
 use Rattle.bl_graph.specs.Edges.{EdgeEach, In}
 use Rattle.bl_graph.specs.Walks.{Rises}
 use Rattle.bl_ctree.specs.Control.{Body, Check}
 use Rattle.bl_ctree.specs.Instances.{Setting, callee_of, unit_at}
-use Rattle.bl_ctree_laws.specs.Trees.{
-  Call,
-  Fork,
-  Tree,
-  Trees,
-  Watch,
-  Nil,
-  Wait,
-  Test,
-  Idle,
-  Do,
-  Seq,
-  Par,
-  Guard,
-  Run,
-  are_done,
-  are_settled,
-  beside,
-  is_nil,
-  is_settled,
-  no_tree,
-  seq,
-  strong_ended,
-}
+use Rattle.bl_ctree_laws.specs.Trees.{Call, Fork, Tree, Trees, Watch, Nil, Wait, Test, Idle, Do, Seq, Par, Guard, Run, are_done, are_settled, beside, is_nil}
+use Rattle.bl_ctree_laws.specs.Trees.{is_settled, no_tree, seq, strong_ended}
 use Rattle.bl_ctree_laws_traces.specs.Progress.FitsGraph.{AllFitGraph, FitsGraph, fork_stmt}
 use Rattle.bl_ctree_laws_traces.specs.Progress.Places.{Place, ahead_of, guarded, in_branch, later_on, whole}
 use Rattle.bl_machine_laws.specs.Numbers.Waiting.{SomeWaits, Waits, check_of}
 use Rattle.bl_machine_laws.proofs.OnWaiting.Fresh.{done_strong, is_weak}
 use Rattle.bl_machine_laws.proofs.OnWaiting.Quiet.{after_closed, and_first, and_second, differ, done_ends, in_part, part_closed, something_waits}
 use Rattle.bl_machine_laws.specs.Passes.Steady.{AllSteady, Steady}
-use Rattle.bl_machine_laws.proofs.OnPasses.Holes.{
-  Hole,
-  Holes,
-  fill,
-  fill_one,
-  in_block,
-  in_fork,
-  in_watch,
-  next,
-  seq_is,
-  this,
-  top,
-  unsettled_open,
-}
+use Rattle.bl_machine_laws.proofs.OnPasses.Holes.{Hole, Holes, fill, fill_one, in_block, in_fork, in_watch, next, seq_is, this, top, unsettled_open}
 use Rattle.bl_machine_laws.proofs.OnPasses.Numbers.{after_rises, not_less}
 use Rattle.bl_machine_laws.proofs.OnPasses.Points.{Simple, begins, checks, closes, joins, tests}
 use Rattle.bl_machine_laws.proofs.OnPasses.Steadying.{steady_passed}

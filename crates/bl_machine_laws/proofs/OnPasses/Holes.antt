@@ -1,23 +1,5 @@
 -- A tree with a place for another in it, which may act there.
-use Rattle.std.proofs.Common.{
-  ◌≡◌,
-  ◌⊎◌,
-  inl,
-  inr,
-  ⊎_elim,
-  ℕ,
-  Bool,
-  true,
-  false,
-  not,
-  ◌&&◌,
-  List,
-  refl,
-  sym,
-  ap,
-  ◌∙◌,
-  subst,
-}
+use Rattle.std.proofs.Common.{◌≡◌, ◌⊎◌, inl, inr, ⊎_elim, ℕ, Bool, true, false, not, ◌&&◌, List, refl, sym, ap, ◌∙◌, subst}
 use Rattle.bl_graph_nodes.specs.Nodes.{Node}
 use Rattle.bl_graph_nodes.specs.Plain.{Block, Plain, Then}
 use Rattle.bl_graph_nodes.specs.Steps.{StepLabel}
@@ -27,27 +9,8 @@ use Rattle.bl_ctree.specs.Store.{Store}
 use Rattle.bl_ctree_laws.specs.Pending.{Deed}
 use Rattle.bl_ctree_laws.specs.Steps as moves
 use Rattle.bl_ctree_laws.specs.Steps.{Anyway, Moves, OneMoves}
-use Rattle.bl_ctree_laws.specs.Trees.{
-  Fork,
-  Tree,
-  Trees,
-  Watch,
-  Nil,
-  Wait,
-  Test,
-  Idle,
-  Do,
-  Seq,
-  Par,
-  Guard,
-  Run,
-  are_done,
-  are_settled,
-  beside,
-  is_nil,
-  is_settled,
-  seq,
-}
+use Rattle.bl_ctree_laws.specs.Trees.{Fork, Tree, Trees, Watch, Nil, Wait, Test, Idle, Do, Seq, Par, Guard, Run, are_done, are_settled, beside, is_nil}
+use Rattle.bl_ctree_laws.specs.Trees.{is_settled, seq}
 use Rattle.bl_machine_laws.specs.Numbers.Turns as turns
 use Rattle.bl_machine_laws.specs.Numbers.Turns.{AnsweredDeed, OneTurns, Turns}
 use Rattle.bl_machine_laws.specs.Passes.Follows as follows

@@ -4,19 +4,7 @@ use Rattle.std.specs.Prelude.{option_map}
 use Rattle.bl_tree.specs.declared.tree.Guard.{Guard as GuardKind}
 use Rattle.bl_tree.specs.declared.tree.Guard.TheVariants.{Abort, Reset}
 use Rattle.bl_graph_nodes.specs.Nodes.{Node, entry}
-use Rattle.bl_graph_nodes.specs.Plain.{
-  Act,
-  Again,
-  Await,
-  Cobegin,
-  If,
-  Plain,
-  Repeat,
-  Run as RunOf,
-  Until,
-  When,
-  While,
-}
+use Rattle.bl_graph_nodes.specs.Plain.{Act, Again, Await, Cobegin, If, Plain, Repeat, Run as RunOf, Until, When, While}
 use Rattle.bl_graph_nodes.specs.Steps.{end_node, join_node}
 use Rattle.bl_ctree.specs.Actions.{Acts, Asks, Copies, Effect, Gives, Performed, Silent, done, effect_on}
 use Rattle.bl_ctree.specs.Control.{Body, Check}
@@ -24,20 +12,7 @@ use Rattle.bl_ctree.specs.Instances.{Setting}
 use Rattle.bl_ctree.specs.Store.{Store}
 use Rattle.bl_ctree_laws.specs.Ends.{done_by}
 use Rattle.bl_ctree_laws.specs.Pending.{Deed}
-use Rattle.bl_ctree_laws.specs.Trees.{
-  Fork,
-  Pause,
-  Tree,
-  Trees,
-  Watch,
-  Nil,
-  Test,
-  Do,
-  Par,
-  Guard,
-  are_done,
-  are_settled,
-}
+use Rattle.bl_ctree_laws.specs.Trees.{Fork, Pause, Tree, Trees, Watch, Nil, Test, Do, Par, Guard, are_done, are_settled}
 use Rattle.bl_machine_laws.specs.Numbers.Turns as turns
 use Rattle.bl_machine_laws.specs.Numbers.Turns.{InstancePoint}
 use Rattle.bl_machine_laws.specs.Numbers.Waiting.{check_of, test_of}

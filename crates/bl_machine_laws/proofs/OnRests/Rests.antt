@@ -16,18 +16,7 @@ use Rattle.bl_tree.specs.Instant.{BranchInstant, arm_instant, branch_ends, insta
 use Rattle.bl_tree.specs.Reduce.{all_of, any_of}
 use Rattle.bl_tree.specs.Typing.{TypingContext, arm_fits, branch_fits, fits, is_activity, is_inhabited, is_truth, kind_fits, stmt_fits, type_of}
 use Rattle.bl_tree.proofs.StmtInduction.{Cases, Each, EachArm, EachBranch, induct, stmt}
-use Rattle.bl_effects.specs.Rules.{
-  BranchLoops,
-  Loops,
-  arm_loops,
-  block_ends,
-  block_loops,
-  branch_loops,
-  kind_loops,
-  loop_places,
-  loops_in,
-  stmt_loops,
-}
+use Rattle.bl_effects.specs.Rules.{BranchLoops, Loops, arm_loops, block_ends, block_loops, branch_loops, kind_loops, loop_places, loops_in, stmt_loops}
 use Rattle.bl_graph_nodes.specs.Plain.{Arm as PlainArm, Await, Block, Branch as PlainBranch, Cobegin, Label, Plain, Position, Repeat, Run}
 use Rattle.bl_graph_nodes.specs.Plain.{Until, When, arm_plain, block_at, block_from, bodies_from, branch_plain, else_at, if_with, inside, kind_plain}
 use Rattle.bl_graph_nodes.specs.Plain.{label_at, passed_one, plain_body, plain_stmt, stmt_plain}

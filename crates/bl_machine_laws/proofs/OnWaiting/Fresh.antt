@@ -1,55 +1,10 @@
 -- What waits after a turn waited before it at another node, or edges lead to it from the node that had the turn.
-use Rattle.std.proofs.Common.{
-  ◌≡◌,
-  ◌⊎◌,
-  inl,
-  inr,
-  ⊎_elim,
-  ℕ,
-  Bool,
-  true,
-  false,
-  not,
-  ◌&&◌,
-  ◌||◌,
-  if◌then◌else◌,
-  Option,
-  Some,
-  None,
-  List,
-  refl,
-  sym,
-  ap,
-  subst,
-  ◌∙◌,
-}
+use Rattle.std.proofs.Common.{◌≡◌, ◌⊎◌, inl, inr, ⊎_elim, ℕ, Bool, true, false, not, ◌&&◌, ◌||◌, if◌then◌else◌, Option, Some, None, List, refl, sym, ap, subst}
+use Rattle.std.proofs.Common.{◌∙◌}
 use Rattle.bl_tree.specs.declared.place.Place.{Place as Source}
-use Rattle.bl_graph_nodes.specs.Nodes.{
-  DepthEndAt,
-  DepthJoinAt,
-  ForkAt,
-  Node,
-  SurfaceJoinAt,
-  are_instant,
-  entry,
-  is_instant,
-  label_of,
-  some_instant,
-  some_strong,
-  strong_instant,
-}
-use Rattle.bl_graph_nodes.specs.Plain.{
-  Block,
-  Bodies,
-  Body as BodyOf,
-  Cobegin,
-  Done,
-  Label,
-  Last,
-  Plain,
-  Then,
-  is_empty,
-}
+use Rattle.bl_graph_nodes.specs.Nodes.{DepthEndAt, DepthJoinAt, ForkAt, Node, SurfaceJoinAt, are_instant, entry, is_instant, label_of, some_instant}
+use Rattle.bl_graph_nodes.specs.Nodes.{some_strong, strong_instant}
+use Rattle.bl_graph_nodes.specs.Plain.{Block, Bodies, Body as BodyOf, Cobegin, Done, Label, Last, Plain, Then, is_empty}
 use Rattle.bl_graph_nodes.specs.Steps.{end_node, join_node, run_node}
 use Rattle.bl_graph.specs.DataEdges.{BesideEach}
 use Rattle.bl_graph.specs.Edges.{EdgeEach, Guarded, In, InEach, Into, OutAll}
@@ -58,31 +13,8 @@ use Rattle.bl_ctree.specs.Instances.{Setting}
 use Rattle.bl_ctree_laws.specs.Pending.{Deed, may_end}
 use Rattle.bl_ctree_laws.specs.Shrinks.{EndsShrink, Paces}
 use Rattle.bl_ctree_laws.specs.Steps.{turn}
-use Rattle.bl_ctree_laws.specs.Trees.{
-  Fork,
-  Tree,
-  Trees,
-  Watch,
-  Nil,
-  Wait,
-  Test,
-  Idle,
-  Do,
-  Seq,
-  Par,
-  Guard,
-  Run,
-  are_done,
-  trees_begun,
-  beside,
-  do_block,
-  has_strong,
-  is_nil,
-  no_tree,
-  seq,
-  some_ended,
-  strong_ended,
-}
+use Rattle.bl_ctree_laws.specs.Trees.{Fork, Tree, Trees, Watch, Nil, Wait, Test, Idle, Do, Seq, Par, Guard, Run, are_done, trees_begun, beside, do_block}
+use Rattle.bl_ctree_laws.specs.Trees.{has_strong, is_nil, no_tree, seq, some_ended, strong_ended}
 use Rattle.bl_ctree_laws_traces.specs.Progress.FitsGraph.{AllFitGraph, FitsGraph, fork_stmt}
 use Rattle.bl_ctree_laws_traces.specs.Progress.Places.{Place, ahead_of, guarded, in_branch, later_on}
 use Rattle.bl_machine_laws.specs.Numbers.Steps.{TurnsAreWalks, TurnsWait, Walks}

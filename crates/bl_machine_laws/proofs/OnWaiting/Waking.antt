@@ -6,30 +6,8 @@ use Rattle.bl_graph_nodes.specs.Plain.{Bodies, Body as BodyOf, Done, Label, Last
 use Rattle.bl_graph_nodes.specs.Steps.{end_node}
 use Rattle.bl_ctree.specs.Control.{Body, Check}
 use Rattle.bl_ctree.specs.Instances.{Setting}
-use Rattle.bl_ctree_laws.specs.Trees.{
-  Tree,
-  Trees,
-  Nil,
-  Wait,
-  Test,
-  Idle,
-  Do,
-  Seq,
-  Par,
-  Guard,
-  Run,
-  all_woken,
-  are_done,
-  are_settled,
-  beside,
-  has_strong,
-  is_nil,
-  is_settled,
-  no_tree,
-  some_ended,
-  strong_ended,
-  woken,
-}
+use Rattle.bl_ctree_laws.specs.Trees.{Tree, Trees, Nil, Wait, Test, Idle, Do, Seq, Par, Guard, Run, all_woken, are_done, are_settled, beside, has_strong}
+use Rattle.bl_ctree_laws.specs.Trees.{is_nil, is_settled, no_tree, some_ended, strong_ended, woken}
 use Rattle.bl_ctree_laws_traces.specs.Progress.FitsGraph.{AllFitGraph, FitsGraph}
 use Rattle.bl_ctree_laws_traces.specs.Progress.Places.{Place, ahead_of, guarded, in_branch, later_on}
 use Rattle.bl_machine.specs.Uses.{Slots, uses_in_branch}

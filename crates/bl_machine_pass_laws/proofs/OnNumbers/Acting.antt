@@ -4,44 +4,10 @@ use Rattle.bl_tree.specs.declared.place.Place.{Place as Source}
 use Rattle.bl_tree.specs.declared.tree.Expr.{Expr}
 use Rattle.bl_tree.specs.declared.tree.Guard.{Guard as GuardKind}
 use Rattle.bl_tree.specs.declared.tree.Guard.TheVariants.{Abort, Reset}
-use Rattle.bl_graph_nodes.specs.Nodes.{
-  ActAt,
-  DepthEndAt,
-  EnterAt,
-  ForkAt,
-  HeadAt,
-  Node,
-  PauseAt,
-  ResumeAt,
-  StartAt,
-  SurfaceEndAt,
-  SurfaceJoinAt,
-  TestAt,
-  are_instant,
-  arguments_of,
-  entry,
-  is_instant,
-}
-use Rattle.bl_graph_nodes.specs.Plain.{
-  Act,
-  Again,
-  Await,
-  Block,
-  Bodies,
-  Body as BodyOf,
-  Cobegin,
-  Done,
-  If,
-  Label,
-  Last,
-  Plain,
-  Repeat,
-  Run as RunOf,
-  Then,
-  Until,
-  When,
-  While,
-}
+use Rattle.bl_graph_nodes.specs.Nodes.{ActAt, DepthEndAt, EnterAt, ForkAt, HeadAt, Node, PauseAt, ResumeAt, StartAt, SurfaceEndAt, SurfaceJoinAt, TestAt}
+use Rattle.bl_graph_nodes.specs.Nodes.{are_instant, arguments_of, entry, is_instant}
+use Rattle.bl_graph_nodes.specs.Plain.{Act, Again, Await, Block, Bodies, Body as BodyOf, Cobegin, Done, If, Label, Last, Plain, Repeat, Run as RunOf, Then}
+use Rattle.bl_graph_nodes.specs.Plain.{Until, When, While}
 use Rattle.bl_graph_nodes.specs.Steps.{end_node, join_node, run_node}
 use Rattle.bl_ctree.specs.Control.{Body, Check}
 use Rattle.bl_ctree.specs.Instances.{Setting}
@@ -56,62 +22,19 @@ use Rattle.bl_machine_laws.specs.Numbers.Turns as turns
 use Rattle.bl_machine_laws.specs.Numbers.Turns.{AnsweredDeed, InstancePoint, OneTurns, Turns}
 use Rattle.bl_machine_laws.proofs.OnWaiting.Quiet.{done_ends}
 use Rattle.bl_machine_pass.specs.SlotLayout.{BranchesRestAt}
-use Rattle.bl_machine_pass.specs.Transitions.{
-  Change,
-  ClearsBoth,
-  ClearsCounter,
-  Flagged,
-  IsNew,
-  Rested,
-  SetsCounter,
-  SetsFlag,
-  Transition,
-  body_ends,
-  counters_in,
-  counters_in_each,
-  enter,
-  enter_each,
-  fires,
-  flagged,
-  joins,
-  marked,
-  once,
-  rules_of,
-}
+use Rattle.bl_machine_pass.specs.Transitions.{Change, ClearsBoth, ClearsCounter, Flagged, IsNew, Rested, SetsCounter, SetsFlag, Transition, body_ends}
+use Rattle.bl_machine_pass.specs.Transitions.{counters_in, counters_in_each, enter, enter_each, fires, flagged, joins, marked, once, rules_of}
 use Rattle.bl_machine_pass_laws.specs.Turns.Laws.{answer_of, one_answer_of}
 use Rattle.bl_machine_pass_laws.specs.Turns.Sits.{LieEach, Lies, RulesAreAmong, SitEach, Sits, UseEach, UsesOnly}
 use Rattle.bl_machine_pass_laws.proofs.OnNumbers.Bools.{same}
 use Rattle.bl_machine_pass_laws.proofs.OnNumbers.Changing.{Goes, body_ends_go, flags_go, holds_go}
-use Rattle.bl_machine_pass_laws.proofs.OnNumbers.Leading.{
-  Leads,
-  LeadsEach,
-  block_leads,
-  clears_body,
-  clears_each,
-  clears_nothing,
-  first_leads,
-  fork_leads,
-  guard_leads,
-  later_leads,
-  marked_lead,
-  own_counter,
-  par_leads,
-  rests_lead,
-  seq_leads,
-  stays_lead,
-  turn_leads,
-}
+use Rattle.bl_machine_pass_laws.proofs.OnNumbers.Leading.{Leads, LeadsEach, block_leads, clears_body, clears_each, clears_nothing, first_leads, fork_leads}
+use Rattle.bl_machine_pass_laws.proofs.OnNumbers.Leading.{guard_leads, later_leads, marked_lead, own_counter, par_leads, rests_lead, seq_leads, stays_lead}
+use Rattle.bl_machine_pass_laws.proofs.OnNumbers.Leading.{turn_leads}
 use Rattle.bl_machine_pass_laws.proofs.OnNumbers.Members.{Each, each_of}
 use Rattle.bl_machine_pass_laws.proofs.OnNumbers.Numbered.{none_may, rest_lingers, unused_lingers}
-use Rattle.bl_machine_pass_laws.proofs.OnNumbers.Parts.{
-  check,
-  check_there,
-  depth_end_there,
-  depth_join,
-  depth_join_there,
-  surface_end_there,
-  surface_join_there,
-}
+use Rattle.bl_machine_pass_laws.proofs.OnNumbers.Parts.{check, check_there, depth_end_there, depth_join, depth_join_there, surface_end_there}
+use Rattle.bl_machine_pass_laws.proofs.OnNumbers.Parts.{surface_join_there}
 
 -- what a rule changes where its node has acted with this answer
 abbrev pub changes_of : Transition → Bool → List Change

@@ -5,47 +5,14 @@ use Rattle.std.specs.List.{list_any}
 use Rattle.std.proofs.lemmas.List.Folds.{list_any-append}
 use Rattle.bl_tree.specs.declared.place.Place.{Place}
 use Rattle.bl_graph_nodes.specs.Nodes.{DepthEndAt, Node, StartAt, SurfaceEndAt, are_instant, entry}
-use Rattle.bl_graph_nodes.specs.Plain.{
-  Act,
-  Again,
-  Await,
-  Block,
-  Bodies,
-  Body as BodyOf,
-  Cobegin,
-  Done,
-  If,
-  Label,
-  Last,
-  Plain,
-  Repeat,
-  Run as RunOf,
-  Then,
-  Until,
-  When,
-  While,
-}
+use Rattle.bl_graph_nodes.specs.Plain.{Act, Again, Await, Block, Bodies, Body as BodyOf, Cobegin, Done, If, Label, Last, Plain, Repeat, Run as RunOf, Then}
+use Rattle.bl_graph_nodes.specs.Plain.{Until, When, While}
 use Rattle.bl_machine.specs.declared.slots.Slot.{Slot}
 use Rattle.bl_machine.specs.Uses.{Slots, is_of, uses, uses_in, uses_in_each}
 use Rattle.bl_machine_laws.specs.Numbers.Numbers.{At, Next, Over, Rests, into, value_at_counter}
 use Rattle.bl_machine_pass.specs.Registers.{Registers, all_changed, changed, with_at, with_flag}
-use Rattle.bl_machine_pass.specs.Transitions.{
-  Change,
-  ClearsBoth,
-  ClearsCounter,
-  EndsWhen,
-  Finishes,
-  SetsCounter,
-  SetsFlag,
-  Transition,
-  body_ends,
-  counters_in,
-  counters_in_each,
-  counters_of,
-  enter,
-  once,
-  once_but,
-}
+use Rattle.bl_machine_pass.specs.Transitions.{Change, ClearsBoth, ClearsCounter, EndsWhen, Finishes, SetsCounter, SetsFlag, Transition, body_ends, counters_in}
+use Rattle.bl_machine_pass.specs.Transitions.{counters_in_each, counters_of, enter, once, once_but}
 use Rattle.bl_machine_pass_laws.specs.Turns.Holds.{Lingers, NextMayHold}
 use Rattle.bl_machine_pass_laws.proofs.OnNumbers.Bools.{either, equal_is, if_false, if_same, if_true, is_same, unless}
 

@@ -10,35 +10,12 @@ use Rattle.bl_machine.specs.Uses.{Slots, is_of, uses_in, uses_in_branch, uses_in
 use Rattle.bl_machine_laws.specs.Numbers.Numbers.{At, Next, Over, Rests, into, value_at_counter}
 use Rattle.bl_machine_pass.specs.SlotLayout.{BeginsAt, BranchesRestAt}
 use Rattle.bl_machine_pass.specs.Registers.{Registers, all_changed, changed}
-use Rattle.bl_machine_pass.specs.Transitions.{
-  Change,
-  ClearsBoth,
-  ClearsCounter,
-  SetsCounter,
-  SetsFlag,
-  SetsMark,
-  Transition,
-  counters_in,
-  counters_in_each,
-  enter,
-  enter_each,
-  marked,
-  once,
-}
+use Rattle.bl_machine_pass.specs.Transitions.{Change, ClearsBoth, ClearsCounter, SetsCounter, SetsFlag, SetsMark, Transition, counters_in, counters_in_each}
+use Rattle.bl_machine_pass.specs.Transitions.{enter, enter_each, marked, once}
 use Rattle.bl_machine_pass_laws.specs.Turns.Holds.{BranchesMayHold, Lingers, MayHold}
 use Rattle.bl_machine_pass_laws.proofs.OnNumbers.Bools.{differ, either, if_false, if_same, if_true, neither_first, neither_second, or_first, same, unless}
-use Rattle.bl_machine_pass_laws.proofs.OnNumbers.Changing.{
-  Goes,
-  changed_append,
-  enter_go,
-  forgets_in,
-  forgets_over,
-  frees_each,
-  frees_over,
-  holds_go,
-  last_false,
-  last_in,
-}
+use Rattle.bl_machine_pass_laws.proofs.OnNumbers.Changing.{Goes, changed_append, enter_go, forgets_in, forgets_over, frees_each, frees_over, holds_go}
+use Rattle.bl_machine_pass_laws.proofs.OnNumbers.Changing.{last_false, last_in}
 use Rattle.bl_machine_pass_laws.proofs.OnNumbers.Numbered.{block_may, block_nil, seq_may, seq_open}
 
 -- Leads slots all low number used c next last c' changes: the changes lead from what counters may hold for the tree c to that for c', where `next`

@@ -1,50 +1,12 @@
 -- Where a tree rests: the places whose numbers its counters hold.
-use Rattle.std.proofs.Common.{
-  ◌≡◌,
-  ◌⊎◌,
-  inl,
-  inr,
-  ℕ,
-  suc,
-  Bool,
-  true,
-  false,
-  ◌&&◌,
-  ◌||◌,
-  not,
-  nat_eq,
-  List,
-  [],
-  ◌∷◌,
-  ◌++◌,
-  refl,
-  ap,
-  sym,
-  ◌∙◌,
-  subst,
-  if◌then◌else◌,
-}
+use Rattle.std.proofs.Common.{◌≡◌, ◌⊎◌, inl, inr, ℕ, suc, Bool, true, false, ◌&&◌, ◌||◌, not, nat_eq, List, [], ◌∷◌, ◌++◌, refl, ap, sym, ◌∙◌, subst}
+use Rattle.std.proofs.Common.{if◌then◌else◌}
 use Rattle.std.proofs.lemmas.Bool.{eq-eqb, eqb-true}
 use Rattle.bl_graph_nodes.specs.Nodes.{entry}
 use Rattle.bl_graph_nodes.specs.Plain.{Block, Bodies, Body as BodyOf, Done, Label, Last, Then}
 use Rattle.bl_ctree.specs.Control.{Body, Check}
 use Rattle.bl_ctree.specs.Instances.{Setting}
-use Rattle.bl_ctree_laws.specs.Trees.{
-  Tree,
-  Trees,
-  Nil,
-  Wait,
-  Test,
-  Idle,
-  Do,
-  Seq,
-  Par,
-  Guard,
-  Run,
-  beside,
-  is_nil,
-  no_tree,
-}
+use Rattle.bl_ctree_laws.specs.Trees.{Tree, Trees, Nil, Wait, Test, Idle, Do, Seq, Par, Guard, Run, beside, is_nil, no_tree}
 use Rattle.bl_ctree_laws_traces.specs.Progress.FitsGraph.{AllFitGraph, FitsGraph}
 use Rattle.bl_ctree_laws_traces.specs.Progress.Places.{Place, ahead_of, guarded, in_branch, later_on}
 use Rattle.bl_machine.specs.declared.slots.Slot.{Slot}

@@ -1,58 +1,12 @@
 -- What goes on where a tree has rested: the rules of its places, and the conditions around them.
-use Rattle.std.proofs.Common.{
-  ◌≡◌,
-  ◌⊎◌,
-  inl,
-  inr,
-  ℕ,
-  zero,
-  suc,
-  Bool,
-  true,
-  false,
-  ◌&&◌,
-  not,
-  List,
-  [],
-  ◌∷◌,
-  ◌++◌,
-  map,
-  refl,
-  ap,
-  sym,
-  ◌∙◌,
-  subst,
-}
+use Rattle.std.proofs.Common.{◌≡◌, ◌⊎◌, inl, inr, ℕ, zero, suc, Bool, true, false, ◌&&◌, not, List, [], ◌∷◌, ◌++◌, map, refl, ap, sym, ◌∙◌, subst}
 use Rattle.std.specs.Prelude.{Contains}
 use Rattle.bl_graph_nodes.specs.Nodes.{CheckAt, DepthEndAt, Node, ResumeAt, SurfaceEndAt, TestAt, are_instant, entry}
 use Rattle.bl_graph_nodes.specs.Plain.{Await, Bodies, Body as BodyOf, Done, Label, Last, Then}
 use Rattle.bl_ctree.specs.Control.{Body, Check, Phase}
 use Rattle.bl_ctree.specs.Instances.{Setting}
-use Rattle.bl_ctree_laws.specs.Trees.{
-  Call,
-  Pause,
-  Watch,
-  Tree,
-  Trees,
-  Nil,
-  Wait,
-  Test,
-  Idle,
-  Do,
-  Seq,
-  Par,
-  Guard,
-  Run,
-  are_done,
-  are_settled,
-  beside,
-  in_body,
-  is_nil,
-  is_settled,
-  no_tree,
-  woken,
-  all_woken,
-}
+use Rattle.bl_ctree_laws.specs.Trees.{Call, Pause, Watch, Tree, Trees, Nil, Wait, Test, Idle, Do, Seq, Par, Guard, Run, are_done, are_settled, beside, in_body}
+use Rattle.bl_ctree_laws.specs.Trees.{is_nil, is_settled, no_tree, woken, all_woken}
 use Rattle.bl_ctree_laws_traces.specs.Progress.FitsGraph.{AllFitGraph, FitsGraph, call_stmt, watch_stmt}
 use Rattle.bl_ctree_laws_traces.specs.Progress.Places.{Place, ahead_of, guarded}
 use Rattle.bl_ctree_laws_traces.specs.Progress.Places.{in_branch as live_branch}

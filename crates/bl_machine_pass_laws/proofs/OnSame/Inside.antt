@@ -1,48 +1,12 @@
 -- Where a tree rests is a place of its body, and there is such a place.
 use Rattle.std.proofs.Common.{◌≡◌, ◌⊎◌, inl, inr, ℕ, suc, Bool, true, false, ◌&&◌, not, List, ◌++◌, refl, ap, sym, ◌∙◌, subst}
-use Rattle.bl_graph_nodes.specs.Plain.{
-  Act,
-  Again,
-  Await,
-  Block,
-  Bodies,
-  Body as BodyOf,
-  Cobegin,
-  Done,
-  If,
-  Label,
-  Last,
-  Plain,
-  Repeat,
-  Run as RunOf,
-  Then,
-  Until,
-  When,
-  While,
-}
+use Rattle.bl_graph_nodes.specs.Plain.{Act, Again, Await, Block, Bodies, Body as BodyOf, Cobegin, Done, If, Label, Last, Plain, Repeat, Run as RunOf, Then}
+use Rattle.bl_graph_nodes.specs.Plain.{Until, When, While}
 use Rattle.bl_ctree.specs.Control.{Phase}
 use Rattle.bl_ctree.specs.Instances.{Setting}
 use Rattle.bl_ctree_laws.specs.Steps.{call, fork, pause, watch}
-use Rattle.bl_ctree_laws.specs.Trees.{
-  Tree,
-  Trees,
-  Nil,
-  Wait,
-  Test,
-  Do,
-  Par,
-  Guard,
-  Run,
-  are_done,
-  are_settled,
-  before,
-  beside,
-  followed,
-  in_body,
-  is_nil,
-  is_settled,
-  no_tree,
-}
+use Rattle.bl_ctree_laws.specs.Trees.{Tree, Trees, Nil, Wait, Test, Do, Par, Guard, Run, are_done, are_settled, before, beside, followed, in_body, is_nil}
+use Rattle.bl_ctree_laws.specs.Trees.{is_settled, no_tree}
 use Rattle.bl_machine.specs.Uses.{Slots}
 use Rattle.bl_machine_pass.specs.SlotLayout.{BeginsAt, BlockRestsAt, BranchesRestAt, EndOf, RestOf, Spot, StatementRestsAt, spots_in, spots_in_each, spots_of}
 use Rattle.bl_machine_pass_laws.specs.Spots.{Has}

@@ -5,27 +5,8 @@ use Rattle.bl_tree.specs.declared.place.Place.{Place}
 use Rattle.bl_tree.specs.declared.tree.Expr.{Expr}
 use Rattle.bl_tree.specs.declared.tree.Path.{Path}
 use Rattle.bl_tree.specs.declared.tree.Unit.{Unit as UnitDef}
-use Rattle.bl_graph_nodes.specs.Plain.{
-  Act,
-  Again,
-  Await,
-  Block,
-  Bodies,
-  Body as BodyOf,
-  Cobegin,
-  Done,
-  If,
-  Label,
-  Last,
-  Plain,
-  Repeat,
-  Run as RunOf,
-  Then,
-  Until,
-  When,
-  While,
-  plain_body,
-}
+use Rattle.bl_graph_nodes.specs.Plain.{Act, Again, Await, Block, Bodies, Body as BodyOf, Cobegin, Done, If, Label, Last, Plain, Repeat, Run as RunOf, Then}
+use Rattle.bl_graph_nodes.specs.Plain.{Until, When, While, plain_body}
 use Rattle.bl_ctree.specs.Control.{Check}
 use Rattle.bl_ctree.specs.Instances.{Setting}
 use Rattle.bl_ctree_laws.specs.Steps.{call, fork, pause, watch}

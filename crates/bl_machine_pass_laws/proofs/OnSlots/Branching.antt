@@ -25,21 +25,8 @@ use Rattle.bl_graph_nodes.specs.Laws.{plain_arm, plain_branch}
 use Rattle.bl_graph_nodes.specs.Plain.{If, Label, Plain, Position, block_from, bodies_from, else_at, inside, label_at, never, passed_one, plain_stmt}
 use Rattle.bl_graph_nodes.specs.Plain.{plain_block, plain_body}
 use Rattle.bl_graph_nodes.proofs.Equations.{plain_statements}
-use Rattle.bl_ctree_laws_confluence.proofs.OnApart.Told.{
-  ArmsFit,
-  BranchesFit,
-  Fit,
-  branch_fitted,
-  arm_fitted,
-  fit_arm,
-  fit_arms,
-  fit_at,
-  fit_branch,
-  fit_branches,
-  fit_first,
-  fit_parts,
-  fit_rest,
-}
+use Rattle.bl_ctree_laws_confluence.proofs.OnApart.Told.{ArmsFit, BranchesFit, Fit, branch_fitted, arm_fitted, fit_arm, fit_arms, fit_at, fit_branch}
+use Rattle.bl_ctree_laws_confluence.proofs.OnApart.Told.{fit_branches, fit_first, fit_parts, fit_rest}
 use Rattle.bl_machine_pass_laws.specs.Slots.Branches.{BranchesInEach, BranchesOf, EachBranches, HasBranch}
 
 and_first : (a b : Bool) → (a && b) ≡ true → a ≡ true

@@ -3,68 +3,20 @@ use Rattle.std.proofs.Common.{◌≡◌, inl, inr, ℕ, Bool, true, false, ◌&&
 use Rattle.bl_tree.specs.declared.place.Place.{Place}
 use Rattle.bl_tree.specs.declared.tree.Unit.{Unit as UnitDef}
 use Rattle.bl_graph_nodes.specs.Nodes.{Node}
-use Rattle.bl_graph_nodes.specs.Plain.{
-  Act,
-  Again,
-  Await,
-  Block,
-  Bodies,
-  Body as BodyOf,
-  Cobegin,
-  Done,
-  If,
-  Label,
-  Last,
-  Plain,
-  Repeat,
-  Run as RunOf,
-  Then,
-  Until,
-  When,
-  While,
-}
+use Rattle.bl_graph_nodes.specs.Plain.{Act, Again, Await, Block, Bodies, Body as BodyOf, Cobegin, Done, If, Label, Last, Plain, Repeat, Run as RunOf, Then}
+use Rattle.bl_graph_nodes.specs.Plain.{Until, When, While}
 use Rattle.bl_graph_nodes.specs.Steps.{end_node, join_node}
 use Rattle.bl_machine_prevs.specs.Declared.{are_known, declared_by, prevs_at, prevs_in_inputs, prevs_stand, prevs_stand_in, prevs_stand_in_each}
 use Rattle.bl_machine_prevs.specs.Prevs.{prevs_in, prevs_in_expr}
 use Rattle.bl_ctree.specs.Instances.{Setting}
 use Rattle.bl_ctree_laws.specs.Pending.{Deed}
 use Rattle.bl_ctree_laws.specs.Steps.{turn}
-use Rattle.bl_ctree_laws.specs.Trees.{
-  Tree,
-  Trees,
-  Nil,
-  Wait,
-  Test,
-  Idle,
-  Do,
-  Seq,
-  Par,
-  Guard,
-  Run,
-  all_woken,
-  before,
-  trees_begun,
-  beside,
-  do_block,
-  no_tree,
-  seq,
-  woken,
-}
+use Rattle.bl_ctree_laws.specs.Trees.{Tree, Trees, Nil, Wait, Test, Idle, Do, Seq, Par, Guard, Run, all_woken, before, trees_begun, beside, do_block, no_tree}
+use Rattle.bl_ctree_laws.specs.Trees.{seq, woken}
 use Rattle.bl_machine_laws.specs.Numbers.Turns as turns
 use Rattle.bl_machine_laws.specs.Numbers.Turns.{InstancePoint}
-use Rattle.bl_machine_pass_laws_execution.specs.Fresh.Asks.{
-  Asks,
-  BlockAsks,
-  Bounded,
-  BoundedAll,
-  BoundedEach,
-  DueIn,
-  EachAsks,
-  IsAmongVariables,
-  OneDueIn,
-  declared_at,
-  next_declared,
-}
+use Rattle.bl_machine_pass_laws_execution.specs.Fresh.Asks.{Asks, BlockAsks, Bounded, BoundedAll, BoundedEach, DueIn, EachAsks, IsAmongVariables, OneDueIn}
+use Rattle.bl_machine_pass_laws_execution.specs.Fresh.Asks.{declared_at, next_declared}
 use Rattle.bl_machine_pass_laws_execution.specs.Fresh.Fresh.{locals}
 use Rattle.bl_machine_pass_laws_execution.specs.Fresh.Laws.{PointAsks, TreesAsk}
 use Rattle.bl_machine_pass_laws_execution.proofs.OnFresh.Lists.{among_joined, among_left, among_right, both_so, first_so, known_more, known_so, none_among, second_so}

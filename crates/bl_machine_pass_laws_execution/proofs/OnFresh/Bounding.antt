@@ -1,42 +1,6 @@
 -- In typed bodies declarations are of variables behind the parameters, and `run`s give no more inputs than there are parameters.
-use Rattle.std.proofs.Common.{
-  ◌≡◌,
-  ◌⊎◌,
-  inl,
-  inr,
-  ℕ,
-  zero,
-  suc,
-  ◌+◌,
-  ◌-◌,
-  ◌<◌,
-  ◌≤◌,
-  Bool,
-  true,
-  false,
-  ◌&&◌,
-  ◌||◌,
-  ◌++◌,
-  append_assoc,
-  append-nil,
-  List,
-  [],
-  ◌∷◌,
-  map,
-  take,
-  drop,
-  length,
-  get_or,
-  Option,
-  Some,
-  None,
-  refl,
-  sym,
-  ap,
-  ◌∙◌,
-  subst,
-  arith,
-}
+use Rattle.std.proofs.Common.{◌≡◌, ◌⊎◌, inl, inr, ℕ, zero, suc, ◌+◌, ◌-◌, ◌<◌, ◌≤◌, Bool, true, false, ◌&&◌, ◌||◌, ◌++◌, append_assoc, append-nil, List, []}
+use Rattle.std.proofs.Common.{◌∷◌, map, take, drop, length, get_or, Option, Some, None, refl, sym, ap, ◌∙◌, subst, arith}
 use Rattle.std.proofs.lemmas.Bool.{leb-true, ltb-false, ltb-true}
 use Rattle.std.proofs.lemmas.List.Elements.{All-head, All-tail}
 use Rattle.std.proofs.lemmas.Option.{slice_get_within}
@@ -64,66 +28,19 @@ use Rattle.bl_tree.specs.Reduce.{all_of, joined}
 use Rattle.bl_tree.specs.Returns.{unit_returns}
 use Rattle.bl_tree.specs.Static.{static_of}
 use Rattle.bl_tree.specs.Types.{same_type, type_stands}
-use Rattle.bl_tree.specs.Typing.{
-  TypingContext,
-  are_same,
-  arguments_fit,
-  arm_fits,
-  branch_fits,
-  declaration_fits,
-  fits,
-  inputs_of,
-  is_activity,
-  is_fixed,
-  is_inhabited,
-  is_outlet,
-  is_truth,
-  is_variable,
-  kind_fits,
-  outputs_of,
-  run_fits,
-  site_of,
-  stmt_fits,
-  target_fits,
-  type_of,
-  type_of_path,
-  types_match,
-  var_at,
-}
+use Rattle.bl_tree.specs.Typing.{TypingContext, are_same, arguments_fit, arm_fits, branch_fits, declaration_fits, fits, inputs_of, is_activity, is_fixed}
+use Rattle.bl_tree.specs.Typing.{is_inhabited, is_outlet, is_truth, is_variable, kind_fits, outputs_of, run_fits, site_of, stmt_fits, target_fits, type_of}
+use Rattle.bl_tree.specs.Typing.{type_of_path, types_match, var_at}
 use Rattle.bl_tree.specs.Words.{are_distinct, is_name}
 use Rattle.bl_tree.proofs.StmtInduction.{Cases, Each, EachArm, EachBranch, induct, stmt}
 use Rattle.bl_graph_nodes.specs.Laws.{plain_arm, plain_branch}
-use Rattle.bl_graph_nodes.specs.Plain.{
-  Label,
-  Position,
-  block_from,
-  bodies_from,
-  else_at,
-  inside,
-  label_at,
-  passed_one,
-  plain_block,
-  plain_body,
-  plain_stmt,
-}
+use Rattle.bl_graph_nodes.specs.Plain.{Label, Position, block_from, bodies_from, else_at, inside, label_at, passed_one, plain_block, plain_body, plain_stmt}
 use Rattle.bl_graph_nodes.proofs.Equations.{plain_statements}
 use Rattle.bl_machine_prevs.specs.Declared.{declared_in, declared_kind}
 use Rattle.bl_ctree.specs.declared.instance.Instance.{Instance}
 use Rattle.bl_ctree.specs.declared.instance.Run.{Run}
-use Rattle.bl_ctree.specs.Instances.{
-  Setting,
-  arm_runs,
-  branch_runs,
-  callee_of,
-  kind_runs,
-  runs_in,
-  runs_in_arm,
-  runs_in_branch,
-  setting_of,
-  stmt_layer_runs,
-  unit_at,
-  unit_of,
-}
+use Rattle.bl_ctree.specs.Instances.{Setting, arm_runs, branch_runs, callee_of, kind_runs, runs_in, runs_in_arm, runs_in_branch, setting_of, stmt_layer_runs}
+use Rattle.bl_ctree.specs.Instances.{unit_at, unit_of}
 use Rattle.bl_ctree_laws_confluence.specs.Deeds.Origins.{InstancesHaveCallers}
 use Rattle.bl_ctree_laws_confluence.proofs.OnDeeds.Accepted.{contains_at}
 use Rattle.bl_ctree_laws_confluence.proofs.OnDeeds.Activities.{AllOf}

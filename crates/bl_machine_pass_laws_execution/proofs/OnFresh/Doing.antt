@@ -17,39 +17,11 @@ use Rattle.bl_tree.specs.Effects.{writes}
 use Rattle.bl_tree.specs.Static.{static_of}
 use Rattle.bl_eval.specs.Values.{value_at}
 use Rattle.bl_machine_prevs.specs.Declared.{declared_kind}
-use Rattle.bl_ctree.specs.Actions.{
-  Acts,
-  Asks,
-  Copies,
-  Effect,
-  Gives,
-  Performed,
-  Silent,
-  acted_kind,
-  done,
-  given_to,
-  is_true_value,
-  outcome_there,
-  result_at,
-  value_there,
-  values_there,
-  with_result,
-}
+use Rattle.bl_ctree.specs.Actions.{Acts, Asks, Copies, Effect, Gives, Performed, Silent, acted_kind, done, given_to, is_true_value, outcome_there, result_at}
+use Rattle.bl_ctree.specs.Actions.{value_there, values_there, with_result}
 use Rattle.bl_ctree.specs.Instances.{Setting, unit_at}
 use Rattle.bl_ctree.specs.Positions.{stmt_kind}
-use Rattle.bl_ctree.specs.Store.{
-  Frame,
-  Store,
-  home,
-  put,
-  put_path,
-  put_written,
-  remember,
-  value_among,
-  whole_of,
-  with_frame,
-  with_inputs,
-}
+use Rattle.bl_ctree.specs.Store.{Frame, Store, home, put, put_path, put_written, remember, value_among, whole_of, with_frame, with_inputs}
 use Rattle.bl_ctree_laws.specs.Pending.{deed}
 use Rattle.bl_ctree_laws_confluence.specs.Stores.{before_of}
 use Rattle.bl_ctree_laws_confluence.proofs.OnStores.Changes.{changed, frame_is, frame_put, put_is, seen_changed}

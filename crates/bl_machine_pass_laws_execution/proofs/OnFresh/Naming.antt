@@ -1,66 +1,24 @@
 -- The instance that a `run` of a body begins is of the unit that it names.
-use Rattle.std.proofs.Common.{
-  ◌≡◌,
-  ℕ,
-  zero,
-  suc,
-  ◌<◌,
-  Bool,
-  true,
-  List,
-  [],
-  ◌∷◌,
-  ◌++◌,
-  map,
-  length,
-  get_or,
-  Option,
-  Some,
-  None,
-  refl,
-  sym,
-  ap,
-  ◌∙◌,
-  subst,
-  arith,
-  eqb-true,
-}
+use Rattle.std.proofs.Common.{◌≡◌, ℕ, zero, suc, ◌<◌, Bool, true, List, [], ◌∷◌, ◌++◌, map, length, get_or, Option, Some, None, refl, sym, ap, ◌∙◌, subst}
+use Rattle.std.proofs.Common.{arith, eqb-true}
 use Rattle.std.proofs.lemmas.List.Quantifiers.{position-Some}
-use Rattle.std.specs.Prelude.{
-  Contains,
-  nat_eq,
-  option_and_then,
-  slice_get,
-}
+use Rattle.std.specs.Prelude.{Contains, nat_eq, option_and_then, slice_get}
 use Rattle.bl_tree.specs.declared.place.Place.{Place}
 use Rattle.bl_tree.specs.declared.tree.StructDef.{StructDef}
 use Rattle.bl_tree.specs.declared.tree.Unit.{Unit as UnitDef}
 use Rattle.bl_tree.specs.Program.{IsWellTyped}
 use Rattle.bl_tree.specs.Reduce.{joined}
 use Rattle.bl_tree.specs.Rules.{same_place}
-use Rattle.bl_tree.specs.Within.{
-  StandsIn,
-  place_of,
-}
+use Rattle.bl_tree.specs.Within.{StandsIn, place_of}
 use Rattle.bl_effects.proofs.EntryLemmas.{same_place_is}
 use Rattle.bl_ctree.specs.declared.instance.Instance.{Instance}
 use Rattle.bl_ctree.specs.declared.instance.Origin.{Origin}
 use Rattle.bl_ctree.specs.declared.instance.Run.{Run}
-use Rattle.bl_ctree.specs.Instances.{
-  Setting,
-  begins_at,
-  callee_of,
-  runs_in,
-  setting_of,
-  unit_at,
-  unit_of,
-}
+use Rattle.bl_ctree.specs.Instances.{Setting, begins_at, callee_of, runs_in, setting_of, unit_at, unit_of}
 use Rattle.bl_ctree_laws.proofs.Tests.{and_first, and_second}
 use Rattle.bl_ctree_laws_confluence.specs.Deeds.Origins.{CalledBy, HasCaller, InstancesHaveCallers}
 use Rattle.bl_ctree_laws_confluence.proofs.OnDeeds.Accepted.{contains_at}
-use Rattle.bl_ctree_laws_confluence.proofs.OnDeeds.Activities.{
-  AllOf,
-}
+use Rattle.bl_ctree_laws_confluence.proofs.OnDeeds.Activities.{AllOf}
 use Rattle.bl_ctree_laws_confluence.proofs.OnDeeds.Nesting.{one_some}
 use Rattle.bl_ctree_laws_confluence.proofs.OnApart.Placed.{RunAs, runs_listed, same_unit, unit_listed}
 

@@ -20,30 +20,8 @@ use Rattle.bl_ctree.specs.declared.instance.Origin.{Origin}
 use Rattle.bl_ctree.specs.Actions.{Acts, Asks, Copies, Effect, Gives, Silent, acted_kind, done, outcome_there, values_there}
 use Rattle.bl_ctree.specs.Instances.{Setting, unit_at, unit_of}
 use Rattle.bl_ctree.specs.Positions.{stmt_kind}
-use Rattle.bl_ctree.specs.Store.{
-  Frame,
-  Store,
-  aged,
-  first_frame,
-  first_store,
-  frame_at_first,
-  home,
-  is_output_of,
-  led,
-  led_by,
-  put_written,
-  remember,
-  under,
-  value_among,
-  variable_among,
-  variables_of,
-  vars_at,
-  view_at,
-  whole_of,
-  with_frame,
-  with_inputs,
-  woken_store,
-}
+use Rattle.bl_ctree.specs.Store.{Frame, Store, aged, first_frame, first_store, frame_at_first, home, is_output_of, led, led_by, put_written, remember, under}
+use Rattle.bl_ctree.specs.Store.{value_among, variable_among, variables_of, vars_at, view_at, whole_of, with_frame, with_inputs, woken_store}
 use Rattle.bl_ctree_laws.specs.Pending.{deed}
 use Rattle.bl_ctree_laws_confluence.specs.Deeds.Origins.{HomesLeadOut}
 use Rattle.bl_ctree_laws_confluence.specs.Stores.{before_of, now_of}

@@ -4,26 +4,8 @@ use Rattle.std.specs.Prelude.{⊤}
 use Rattle.bl_tree.specs.declared.place.Place.{Place}
 use Rattle.bl_effects.proofs.EntryLemmas.{same_place_is}
 use Rattle.bl_graph_nodes.specs.Nodes.{Arguments, EnterAt, Node, ResumeAt, entry}
-use Rattle.bl_graph_nodes.specs.Plain.{
-  Act,
-  Again,
-  Await,
-  Block,
-  Bodies,
-  Body as BodyOf,
-  Cobegin,
-  Done,
-  If,
-  Label,
-  Last,
-  Plain,
-  Repeat,
-  Run as RunOf,
-  Then,
-  Until,
-  When,
-  While,
-}
+use Rattle.bl_graph_nodes.specs.Plain.{Act, Again, Await, Block, Bodies, Body as BodyOf, Cobegin, Done, If, Label, Last, Plain, Repeat, Run as RunOf, Then}
+use Rattle.bl_graph_nodes.specs.Plain.{Until, When, While}
 use Rattle.bl_graph_nodes.specs.Steps.{end_node, join_node, run_node}
 use Rattle.bl_ctree.specs.Control.{Body, Check}
 use Rattle.bl_ctree_laws.specs.Trees.{Tree, Trees, Nil, Wait, Test, Idle, Do, Seq, Par, Guard, Run, beside, no_tree}

@@ -1,90 +1,17 @@
 -- A join is due exactly where its `cobegin` waits there.
-use Rattle.std.proofs.Common.{
-  ◌≡◌,
-  ◌⊎◌,
-  inl,
-  inr,
-  ⊎_elim,
-  ℕ,
-  suc,
-  Bool,
-  true,
-  false,
-  not,
-  ◌&&◌,
-  ◌||◌,
-  if◌then◌else◌,
-  nat_eq,
-  List,
-  [],
-  ◌∷◌,
-  None,
-  refl,
-  sym,
-  ap,
-  ap₂,
-  subst,
-  ◌∙◌,
-  arith,
-  eq-eqb,
-  eqb-true,
-}
+use Rattle.std.proofs.Common.{◌≡◌, ◌⊎◌, inl, inr, ⊎_elim, ℕ, suc, Bool, true, false, not, ◌&&◌, ◌||◌, if◌then◌else◌, nat_eq, List, [], ◌∷◌, None, refl, sym, ap}
+use Rattle.std.proofs.Common.{ap₂, subst, ◌∙◌, arith, eq-eqb, eqb-true}
 use Rattle.std.specs.List.{list_all, list_any}
 use Rattle.std.specs.Prelude.{Contains, ⊤}
 use Rattle.bl_tree.specs.declared.place.Place.{Place}
 use Rattle.bl_tree.specs.declared.tree.Unit.{Unit as UnitDef}
-use Rattle.bl_graph_nodes.specs.Nodes.{
-  DepthEndAt,
-  DepthJoinAt,
-  ForkAt,
-  HeadAt,
-  Node,
-  SurfaceEndAt,
-  SurfaceJoinAt,
-  TestAt,
-  are_instant,
-  is_instant,
-  label_of,
-  nodes_in,
-  nodes_in_each,
-  place_of_node,
-  some_strong,
-}
-use Rattle.bl_graph_nodes.specs.Plain.{
-  Act,
-  Again,
-  Await,
-  Block,
-  Bodies,
-  Body as BodyOf,
-  Cobegin,
-  Done,
-  If,
-  Label,
-  Last,
-  Plain,
-  Repeat,
-  Run as RunOf,
-  Then,
-  Until,
-  When,
-  While,
-  plain_body,
-}
+use Rattle.bl_graph_nodes.specs.Nodes.{DepthEndAt, DepthJoinAt, ForkAt, HeadAt, Node, SurfaceEndAt, SurfaceJoinAt, TestAt, are_instant, is_instant, label_of}
+use Rattle.bl_graph_nodes.specs.Nodes.{nodes_in, nodes_in_each, place_of_node, some_strong}
+use Rattle.bl_graph_nodes.specs.Plain.{Act, Again, Await, Block, Bodies, Body as BodyOf, Cobegin, Done, If, Label, Last, Plain, Repeat, Run as RunOf, Then}
+use Rattle.bl_graph_nodes.specs.Plain.{Until, When, While, plain_body}
 use Rattle.bl_graph_nodes.specs.Steps.{join_node}
 use Rattle.bl_ctree.specs.Instances.{Setting}
-use Rattle.bl_ctree_laws.specs.Trees.{
-  Fork,
-  Tree,
-  Trees,
-  are_done,
-  beside,
-  has_strong,
-  is_nil,
-  no_tree,
-  some_ended,
-  strong_ended,
-}
+use Rattle.bl_ctree_laws.specs.Trees.{Fork, Tree, Trees, are_done, beside, has_strong, is_nil, no_tree, some_ended, strong_ended}
 use Rattle.bl_ctree_laws_traces.specs.Progress.FitsGraph.{fork_stmt}
 use Rattle.bl_ctree_laws_traces.specs.Progress.Places.{whole}
 use Rattle.bl_machine.specs.Uses.{Slots, is_of, uses_in, uses_in_branch, uses_in_each}
@@ -94,36 +21,9 @@ use Rattle.bl_machine_laws.proofs.OnWaiting.Quiet.{and_first, and_second, differ
 use Rattle.bl_machine_pass.specs.SlotLayout.{BranchesRestAt, EndOf, RestOf, SlotsAreDistinct, Spot, slot_at, spots_in, spots_in_each, spots_of}
 use Rattle.bl_machine_pass.specs.Numbered.{sort}
 use Rattle.bl_machine_pass.specs.Registers.{Registers, are_ended, is_aged, is_at, is_due}
-use Rattle.bl_machine_pass.specs.Transitions.{
-  Age,
-  Change,
-  Condition,
-  Ended,
-  Finishes,
-  Flagged,
-  IsAny,
-  IsNew,
-  IsOld,
-  Needed,
-  Rested,
-  RestedIn,
-  SetsCounter,
-  SetsFlag,
-  Transition,
-  age_of,
-  body_ends,
-  endings,
-  enter,
-  flagged,
-  joins,
-  needed,
-  rule_where,
-  rules,
-  rules_in,
-  rules_in_each,
-  rules_of,
-  strong_endings,
-}
+use Rattle.bl_machine_pass.specs.Transitions.{Age, Change, Condition, Ended, Finishes, Flagged, IsAny, IsNew, IsOld, Needed, Rested, RestedIn, SetsCounter}
+use Rattle.bl_machine_pass.specs.Transitions.{SetsFlag, Transition, age_of, body_ends, endings, enter, flagged, joins, needed, rule_where, rules, rules_in}
+use Rattle.bl_machine_pass.specs.Transitions.{rules_in_each, rules_of, strong_endings}
 use Rattle.bl_machine_pass_laws.specs.Turns.Holds.{CountersLinger, CountersMayBe, RestsThere}
 use Rattle.bl_machine_pass_laws.specs.Turns.Invariant.{Exactly, IsFlagged, IsJoin, IsResume, Marked}
 use Rattle.bl_machine_pass_laws.specs.Turns.Laws.{StaysPlaced, Turning}
@@ -134,27 +34,9 @@ use Rattle.bl_machine_pass_laws_turns.specs.Joins.Stems.{Member, Same, StemEach,
 use Rattle.bl_machine_pass_laws_turns.proofs.OnJoins.Lists.{bodies_differ, contained, either, left, member, right, sole_rule}
 use Rattle.bl_machine_pass_laws_turns.proofs.OnJoins.Resting.{RestsAt, end_tells, rests, rests_there, slot_is}
 use Rattle.bl_machine_pass_laws_turns.proofs.OnJoins.Ruling.{check_rule, fork_rest, watch_rest}
-use Rattle.bl_machine_pass_laws_turns.proofs.OnJoins.Standing.{
-  IsJoinNode,
-  MarkOf,
-  MayEnd,
-  Stands,
-  StandsAs,
-  first_number,
-  joins_at,
-  laid_fork,
-  later_number,
-  live_fork,
-  mark_fork,
-  numbers_fork,
-  or_first,
-  or_last,
-  own_fork,
-  sit_fork,
-  stands_so,
-  stands_within,
-  waits_fork,
-}
+use Rattle.bl_machine_pass_laws_turns.proofs.OnJoins.Standing.{IsJoinNode, MarkOf, MayEnd, Stands, StandsAs, first_number, joins_at, laid_fork, later_number}
+use Rattle.bl_machine_pass_laws_turns.proofs.OnJoins.Standing.{live_fork, mark_fork, numbers_fork, or_first, or_last, own_fork, sit_fork, stands_so}
+use Rattle.bl_machine_pass_laws_turns.proofs.OnJoins.Standing.{stands_within, waits_fork}
 use Rattle.bl_machine_pass_laws_turns.proofs.OnJoins.Stemming.{fork_differ, fork_join}
 
 -- ---- rules that ask for ends

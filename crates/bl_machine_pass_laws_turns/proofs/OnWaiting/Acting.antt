@@ -1,50 +1,11 @@
 -- What a turn does to what waits: the rule of its node, what it makes wait, what goes on waiting, and which counters it forgets.
-use Rattle.std.proofs.Common.{
-  ◌≡◌,
-  ◌⊎◌,
-  inl,
-  inr,
-  ⊎_elim,
-  ℕ,
-  suc,
-  Bool,
-  true,
-  false,
-  not,
-  if◌then◌else◌,
-  List,
-  [],
-  ◌∷◌,
-  ◌++◌,
-  map,
-  Option,
-  Some,
-  None,
-  refl,
-  sym,
-  ap,
-  subst,
-  ◌∙◌,
-}
+use Rattle.std.proofs.Common.{◌≡◌, ◌⊎◌, inl, inr, ⊎_elim, ℕ, suc, Bool, true, false, not, if◌then◌else◌, List, [], ◌∷◌, ◌++◌, map, Option, Some, None, refl}
+use Rattle.std.proofs.Common.{sym, ap, subst, ◌∙◌}
 use Rattle.std.specs.Prelude.{Contains}
 use Rattle.bl_tree.specs.declared.place.Place.{Place as Source}
 use Rattle.bl_tree.specs.declared.tree.Expr.{Expr}
-use Rattle.bl_graph_nodes.specs.Nodes.{
-  ActAt,
-  DepthEndAt,
-  EnterAt,
-  ForkAt,
-  HeadAt,
-  Node,
-  PauseAt,
-  StartAt,
-  SurfaceEndAt,
-  TestAt,
-  are_instant,
-  arguments_of,
-  entry,
-  is_instant,
-}
+use Rattle.bl_graph_nodes.specs.Nodes.{ActAt, DepthEndAt, EnterAt, ForkAt, HeadAt, Node, PauseAt, StartAt, SurfaceEndAt, TestAt, are_instant, arguments_of}
+use Rattle.bl_graph_nodes.specs.Nodes.{entry, is_instant}
 use Rattle.bl_graph_nodes.specs.Plain.{Again, Block, Bodies, Body as BodyOf, Cobegin, Done, Label, Last, Repeat, Then, While, is_empty}
 use Rattle.bl_graph_nodes.specs.Steps.{end_node, run_node}
 use Rattle.bl_cause.proofs.ListLemmas.{contains_cons, contains_head, contains_none, contains_tail}
@@ -66,77 +27,20 @@ use Rattle.bl_machine_laws.proofs.OnWaiting.Fresh.{ends_walk, nil_is}
 use Rattle.bl_machine_laws.proofs.OnWaiting.Quiet.{differ, done_ends}
 use Rattle.bl_machine_pass.specs.SlotLayout.{BranchesRestAt}
 use Rattle.bl_machine_pass.specs.Registers.{with_at}
-use Rattle.bl_machine_pass.specs.Transitions.{
-  Change,
-  ClearsBoth,
-  EndsWhen,
-  Flagged,
-  SetsCounter,
-  SetsFlag,
-  Transition,
-  body_ends,
-  counters_in,
-  counters_in_each,
-  enter,
-  enter_each,
-  fires,
-  flagged,
-  marked,
-  once,
-  rules_in,
-  rules_of,
-}
+use Rattle.bl_machine_pass.specs.Transitions.{Change, ClearsBoth, EndsWhen, Flagged, SetsCounter, SetsFlag, Transition, body_ends, counters_in}
+use Rattle.bl_machine_pass.specs.Transitions.{counters_in_each, enter, enter_each, fires, flagged, marked, once, rules_in, rules_of}
 use Rattle.bl_machine_pass_laws.specs.Turns.Dozes.{AllDoze, Dozes}
 use Rattle.bl_machine_pass_laws.specs.Turns.Invariant.{IsResume, MarkEach, Marked}
 use Rattle.bl_machine_pass_laws.specs.Turns.Laws.{answer_of, one_answer_of}
 use Rattle.bl_machine_pass_laws.specs.Turns.Sits.{Lies, LieEach, SitEach, Sits, UseEach, UsesOnly}
-use Rattle.bl_machine_pass_laws_turns.proofs.OnWaiting.Changes.{
-  AllForget,
-  Forgetless,
-  IsNext,
-  Sets,
-  SetsAs,
-  all_freed_forgetless,
-  flagged_by,
-  here_is,
-  one_forgetless,
-  sets_all_forgotten,
-  sets_all_freed,
-  sets_none,
-  sets_one,
-  taken,
-}
+use Rattle.bl_machine_pass_laws_turns.proofs.OnWaiting.Changes.{AllForget, Forgetless, IsNext, Sets, SetsAs, all_freed_forgetless, flagged_by, here_is}
+use Rattle.bl_machine_pass_laws_turns.proofs.OnWaiting.Changes.{one_forgetless, sets_all_forgotten, sets_all_freed, sets_none, sets_one, taken}
 use Rattle.bl_machine_pass_laws_turns.proofs.OnWaiting.Lists.{from_once, into_once, or_first, or_second}
 use Rattle.bl_machine_pass_laws_turns.proofs.OnWaiting.Rules.{AsksFor, IsJoinNode, RuleAt, counters_used_in, used_counters_in}
-use Rattle.bl_machine_pass_laws_turns.proofs.OnWaiting.Sleeping.{
-  asleep,
-  asleep_each,
-  check_rule,
-  check_there,
-  end_rule,
-  end_there,
-  join_is_join,
-  join_rule,
-  join_there,
-  resume_rule,
-  resume_there,
-  test_rule,
-  test_there,
-}
-use Rattle.bl_machine_pass_laws_turns.proofs.OnWaiting.Trees.{
-  begun_awake,
-  block_awake,
-  block_nil,
-  block_waits,
-  branches_quiet,
-  empty_instant,
-  seq_sleeps,
-  seq_waits,
-  turn_first,
-  unended_waits,
-  waits_block,
-  waits_seq,
-}
+use Rattle.bl_machine_pass_laws_turns.proofs.OnWaiting.Sleeping.{asleep, asleep_each, check_rule, check_there, end_rule, end_there, join_is_join, join_rule}
+use Rattle.bl_machine_pass_laws_turns.proofs.OnWaiting.Sleeping.{join_there, resume_rule, resume_there, test_rule, test_there}
+use Rattle.bl_machine_pass_laws_turns.proofs.OnWaiting.Trees.{begun_awake, block_awake, block_nil, block_waits, branches_quiet, empty_instant, seq_sleeps}
+use Rattle.bl_machine_pass_laws_turns.proofs.OnWaiting.Trees.{seq_waits, turn_first, unended_waits, waits_block, waits_seq}
 
 -- ---- what a turn does
 

@@ -6,30 +6,8 @@ use Rattle.bl_ctree.specs.Control.{Body, Check}
 use Rattle.bl_ctree.specs.Instances.{Setting}
 use Rattle.bl_ctree_laws.specs.Pending.{Deed}
 use Rattle.bl_ctree_laws.specs.Steps.{turn}
-use Rattle.bl_ctree_laws.specs.Trees.{
-  Tree,
-  Trees,
-  Nil,
-  Wait,
-  Test,
-  Idle,
-  Do,
-  Seq,
-  Par,
-  Guard,
-  Run,
-  are_done,
-  are_settled,
-  trees_begun,
-  beside,
-  do_block,
-  is_nil,
-  is_settled,
-  no_tree,
-  seq,
-  woken,
-  all_woken,
-}
+use Rattle.bl_ctree_laws.specs.Trees.{Tree, Trees, Nil, Wait, Test, Idle, Do, Seq, Par, Guard, Run, are_done, are_settled, trees_begun, beside, do_block}
+use Rattle.bl_ctree_laws.specs.Trees.{is_nil, is_settled, no_tree, seq, woken, all_woken}
 use Rattle.bl_ctree_laws_traces.specs.Progress.FitsGraph.{AllFitGraph, FitsGraph}
 use Rattle.bl_ctree_laws_traces.specs.Progress.Places.{Place, ahead_of, guarded, in_branch, whole}
 use Rattle.bl_machine_laws.specs.Numbers.Turns as turns

@@ -1,29 +1,6 @@
 -- After a turn the registers tell what waits.
-use Rattle.std.proofs.Common.{
-  ◌≡◌,
-  ◌⊎◌,
-  inl,
-  inr,
-  ⊎_elim,
-  ℕ,
-  suc,
-  ◌<◌,
-  ◌≤◌,
-  Bool,
-  true,
-  false,
-  nat_eq,
-  List,
-  map,
-  None,
-  refl,
-  sym,
-  ap,
-  subst,
-  ◌∙◌,
-  arith,
-  eqb-true,
-}
+use Rattle.std.proofs.Common.{◌≡◌, ◌⊎◌, inl, inr, ⊎_elim, ℕ, suc, ◌<◌, ◌≤◌, Bool, true, false, nat_eq, List, map, None, refl, sym, ap, subst, ◌∙◌, arith}
+use Rattle.std.proofs.Common.{eqb-true}
 use Rattle.std.specs.Prelude.{Contains}
 use Rattle.bl_tree.specs.declared.tree.Unit.{Unit as UnitDef}
 use Rattle.bl_graph_nodes.specs.Laws.{EachOnce}
@@ -52,20 +29,8 @@ use Rattle.bl_machine_pass.specs.Transitions.{Change, Condition, Finishes, Trans
 use Rattle.bl_machine_pass_laws.specs.Turns.Invariant.{Exactly, IsFlagged, IsResume, PassInvariant}
 use Rattle.bl_machine_pass_laws.specs.Turns.Laws.{StaysPlaced, Turning, answer_of}
 use Rattle.bl_machine_pass_laws_turns.specs.Waiting.{TurnsKeepFlags, TurnsKeepResumes, TurnsLeaveMore}
-use Rattle.bl_machine_pass_laws_turns.proofs.OnWaiting.Acting.{
-  Acted,
-  Comes,
-  Dropped,
-  Stays,
-  at_join,
-  dropped,
-  has_acted,
-  is_set,
-  turn_acted,
-  waited,
-  waits_on,
-  was_join,
-}
+use Rattle.bl_machine_pass_laws_turns.proofs.OnWaiting.Acting.{Acted, Comes, Dropped, Stays, at_join, dropped, has_acted, is_set, turn_acted, waited, waits_on}
+use Rattle.bl_machine_pass_laws_turns.proofs.OnWaiting.Acting.{was_join}
 use Rattle.bl_machine_pass_laws_turns.proofs.OnWaiting.Changes.{FlagFrom, Sets, all_either, all_forget, all_has, all_kept, all_set, all_spared, is_of, taken, was_set}
 use Rattle.bl_machine_pass_laws_turns.proofs.OnWaiting.Lists.{contains_map, each_of, one_of_node}
 use Rattle.bl_machine_pass_laws_turns.proofs.OnWaiting.Rules.{AsksFor, Known, RuleAt, at_due, due_at, flag_is_due, known_in, no_end, no_join, not_both}

@@ -3,54 +3,17 @@ use Rattle.std.proofs.Common.{◌≡◌, ◌⊎◌, ⊎_elim, ℕ, suc, Bool, tr
 use Rattle.std.proofs.Common.{◌++◌, refl, sym, ap, subst, eqb-true, eq-eqb}
 use Rattle.std.specs.Prelude.{⊤, Contains}
 use Rattle.bl_graph_nodes.specs.Nodes.{DepthEndAt, DepthJoinAt, Node, SurfaceEndAt, SurfaceJoinAt, are_instant, entry, is_instant}
-use Rattle.bl_graph_nodes.specs.Plain.{
-  Act,
-  Again,
-  Await,
-  Block,
-  Bodies,
-  Body as BodyOf,
-  Cobegin,
-  Done,
-  If,
-  Label,
-  Last,
-  Plain,
-  Repeat,
-  Run as RunOf,
-  Then,
-  Until,
-  When,
-  While,
-}
+use Rattle.bl_graph_nodes.specs.Plain.{Act, Again, Await, Block, Bodies, Body as BodyOf, Cobegin, Done, If, Label, Last, Plain, Repeat, Run as RunOf, Then}
+use Rattle.bl_graph_nodes.specs.Plain.{Until, When, While}
 use Rattle.bl_cause.proofs.ListLemmas.{contains_cons, contains_head, contains_none, contains_tail}
 use Rattle.bl_cause.proofs.PairLemmas.{contains_left}
 use Rattle.bl_machine.specs.declared.slots.Slot.{Slot}
 use Rattle.bl_machine.specs.Uses.{Slots, is_of, uses, uses_in, uses_in_each}
 use Rattle.bl_machine_pass.specs.SlotLayout.{EndOf, RestOf, Spot, slot_at, spots_in, spots_in_each, spots_of}
 use Rattle.bl_machine_pass.specs.Registers.{Registers, due_by, is_at}
-use Rattle.bl_machine_pass.specs.Transitions.{
-  Change,
-  Condition,
-  Ended,
-  Flagged,
-  Rested,
-  RestedIn,
-  SetsCounter,
-  Transition,
-  body_ends,
-  counters_in,
-  counters_in_each,
-  counters_of,
-  enter,
-  rests_in,
-  rests_in_first,
-  rests_of,
-  rule_where,
-  rules_in,
-  rules_in_each,
-  rules_of,
-}
+use Rattle.bl_machine_pass.specs.Transitions.{Change, Condition, Ended, Flagged, Rested, RestedIn, SetsCounter, Transition, body_ends, counters_in}
+use Rattle.bl_machine_pass.specs.Transitions.{counters_in_each, counters_of, enter, rests_in, rests_in_first, rests_of, rule_where, rules_in, rules_in_each}
+use Rattle.bl_machine_pass.specs.Transitions.{rules_of}
 use Rattle.bl_machine_pass_laws.specs.Turns.Invariant.{IsFlagged, IsResume}
 use Rattle.bl_machine_pass_laws_turns.proofs.OnWaiting.Lists.{Each, any_found, any_so, contains_right, contains_split, each_append, or_either, or_first, or_second}
 

@@ -1,49 +1,9 @@
 -- Which rules the nodes have at which a tree waits or sleeps.
-use Rattle.std.proofs.Common.{
-  ◌≡◌,
-  ◌⊎◌,
-  inl,
-  inr,
-  ⊎_elim,
-  ℕ,
-  suc,
-  Bool,
-  true,
-  false,
-  List,
-  [],
-  ◌∷◌,
-  ◌++◌,
-  map,
-  Option,
-  Some,
-  None,
-  refl,
-  sym,
-  subst,
-  ◌∙◌,
-}
+use Rattle.std.proofs.Common.{◌≡◌, ◌⊎◌, inl, inr, ⊎_elim, ℕ, suc, Bool, true, false, List, [], ◌∷◌, ◌++◌, map, Option, Some, None, refl, sym, subst, ◌∙◌}
 use Rattle.std.specs.Prelude.{Contains}
 use Rattle.bl_tree.specs.declared.place.Place.{Place as Source}
-use Rattle.bl_graph_nodes.specs.Nodes.{
-  ActAt,
-  CheckAt,
-  DepthEndAt,
-  DepthJoinAt,
-  EnterAt,
-  ForkAt,
-  HeadAt,
-  Node,
-  PauseAt,
-  ResumeAt,
-  StartAt,
-  SurfaceEndAt,
-  SurfaceJoinAt,
-  TestAt,
-  are_instant,
-  entry,
-  is_instant,
-}
+use Rattle.bl_graph_nodes.specs.Nodes.{ActAt, CheckAt, DepthEndAt, DepthJoinAt, EnterAt, ForkAt, HeadAt, Node, PauseAt, ResumeAt, StartAt, SurfaceEndAt}
+use Rattle.bl_graph_nodes.specs.Nodes.{SurfaceJoinAt, TestAt, are_instant, entry, is_instant}
 use Rattle.bl_graph_nodes.specs.Plain.{Await, Block, Bodies, Body as BodyOf, Done, Label, Last, Plain, Then}
 use Rattle.bl_graph_nodes.specs.Steps.{end_node, join_node, run_node}
 use Rattle.bl_cause.proofs.ListLemmas.{contains_head, contains_tail}
@@ -56,32 +16,9 @@ use Rattle.bl_ctree_laws_traces.specs.Progress.Places.{Place, ahead_of, guarded,
 use Rattle.bl_machine.specs.declared.slots.Slot.{Slot}
 use Rattle.bl_machine.specs.Uses.{Slots, uses, uses_in, uses_in_branch, uses_in_each}
 use Rattle.bl_machine_laws.specs.Numbers.Waiting.{Is, Sleeps, SomeSleeps, SomeWaits, Waits, first_in}
-use Rattle.bl_machine_pass.specs.Transitions.{
-  Change,
-  SetsFlag,
-  ClearsBoth,
-  SetsCounter,
-  IsNew,
-  Age,
-  Rested,
-  RestedIn,
-  Transition,
-  age_of,
-  body_ends,
-  counters_in,
-  enter,
-  fires,
-  flagged,
-  enter_each,
-  joins,
-  marked,
-  once,
-  rests_in,
-  rule_where,
-  rules_in,
-  rules_in_each,
-  rules_of,
-}
+use Rattle.bl_machine_pass.specs.Transitions.{Change, SetsFlag, ClearsBoth, SetsCounter, IsNew, Age, Rested, RestedIn, Transition, age_of, body_ends}
+use Rattle.bl_machine_pass.specs.Transitions.{counters_in, enter, fires, flagged, enter_each, joins, marked, once, rests_in, rule_where, rules_in}
+use Rattle.bl_machine_pass.specs.Transitions.{rules_in_each, rules_of}
 use Rattle.bl_machine_pass_laws.specs.Turns.Invariant.{IsFlagged, IsResume}
 use Rattle.bl_machine_pass_laws.specs.Turns.Sits.{RulesAreAmong, SitEach, Sits, UseEach, UsesOnly}
 use Rattle.bl_machine_pass_laws_turns.proofs.OnWaiting.Lists.{contains_right, or_first, or_second}

@@ -19,38 +19,11 @@ use Rattle.bl_tree.specs.Effects.{writes}
 use Rattle.bl_tree.specs.Program.{IsWellTyped}
 use Rattle.bl_tree.specs.Static.{static_of}
 use Rattle.bl_tree.specs.Types.{same_type, scalar}
-use Rattle.bl_tree.specs.Typing.{
-  TypingContext,
-  are_same,
-  fits,
-  inputs_of,
-  is_assignable,
-  is_outlet,
-  is_plain,
-  return_fits,
-  site_of,
-  target_fits,
-  type_of,
-  type_of_path,
-  types_match,
-}
+use Rattle.bl_tree.specs.Typing.{TypingContext, are_same, fits, inputs_of, is_assignable, is_outlet, is_plain, return_fits, site_of, target_fits, type_of}
+use Rattle.bl_tree.specs.Typing.{type_of_path, types_match}
 use Rattle.bl_tree.proofs.StmtInduction.{stmt}
-use Rattle.bl_graph_nodes.specs.Nodes.{
-  ActAt,
-  CheckAt,
-  DepthEndAt,
-  DepthJoinAt,
-  EnterAt,
-  ForkAt,
-  HeadAt,
-  Node,
-  PauseAt,
-  ResumeAt,
-  StartAt,
-  SurfaceEndAt,
-  SurfaceJoinAt,
-  TestAt,
-}
+use Rattle.bl_graph_nodes.specs.Nodes.{ActAt, CheckAt, DepthEndAt, DepthJoinAt, EnterAt, ForkAt, HeadAt, Node, PauseAt, ResumeAt, StartAt, SurfaceEndAt}
+use Rattle.bl_graph_nodes.specs.Nodes.{SurfaceJoinAt, TestAt}
 use Rattle.bl_graph_nodes.specs.Plain.{Label}
 use Rattle.bl_graph_nodes.proofs.Equations.{made_of_parts}
 use Rattle.bl_eval.specs.Meaning.{View}
@@ -61,23 +34,8 @@ use Rattle.bl_eval.proofs.FitLemmas.{same_type_is}
 use Rattle.bl_eval.proofs.LawLemmas.{act_typed, value_typed}
 use Rattle.bl_eval.proofs.PartFits.{Fits}
 use Rattle.bl_eval.proofs.PassLemmas.{and_left, and_right, both}
-use Rattle.bl_ctree.specs.Actions.{
-  Acts,
-  Asks,
-  Copies,
-  Gives,
-  Performed,
-  acted_kind,
-  done,
-  effect_on,
-  given_to,
-  is_true_value,
-  outcome_there,
-  result_at,
-  value_there,
-  values_there,
-  with_result,
-}
+use Rattle.bl_ctree.specs.Actions.{Acts, Asks, Copies, Gives, Performed, acted_kind, done, effect_on, given_to, is_true_value, outcome_there, result_at}
+use Rattle.bl_ctree.specs.Actions.{value_there, values_there, with_result}
 use Rattle.bl_ctree.specs.declared.instance.Instance.{Instance}
 use Rattle.bl_ctree.specs.Instances.{Setting, setting_of, unit_at, unit_of}
 use Rattle.bl_ctree.specs.Positions.{stmt_kind}

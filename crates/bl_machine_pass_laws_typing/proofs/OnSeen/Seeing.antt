@@ -37,25 +37,8 @@ use Rattle.bl_ctree.specs.declared.instance.Instance.{Instance}
 use Rattle.bl_ctree.specs.Actions.{acted_kind, outcome_there}
 use Rattle.bl_ctree.specs.Instances.{Setting, setting_of, unit_at, unit_of}
 use Rattle.bl_ctree.specs.Positions.{stmt_kind}
-use Rattle.bl_ctree.specs.Store.{
-  Frame,
-  Location,
-  Store,
-  home,
-  overlap,
-  put,
-  put_path,
-  put_written,
-  remember,
-  value_among,
-  variable_among,
-  variables_of,
-  vars_at,
-  view_at,
-  whole_of,
-  with_frame,
-  with_now,
-}
+use Rattle.bl_ctree.specs.Store.{Frame, Location, Store, home, overlap, put, put_path, put_written, remember, value_among, variable_among, variables_of}
+use Rattle.bl_ctree.specs.Store.{vars_at, view_at, whole_of, with_frame, with_now}
 use Rattle.bl_ctree_laws_typing.specs.Fits.{StoreFits}
 use Rattle.bl_ctree_laws_confluence.specs.Deeds.Homes.{HomesAreApart}
 use Rattle.bl_ctree_laws_confluence.specs.Deeds.Orderly.{AcceptedIsOrderly}

@@ -19,30 +19,9 @@ use Rattle.bl_tree.specs.Apart.{Roots, expr_layer_roots, kind_roots, part_roots,
 use Rattle.bl_tree.specs.Reduce.{joined}
 use Rattle.bl_tree.specs.Scalar.{is_whole}
 use Rattle.bl_tree.specs.Types.{scalar_in}
-use Rattle.bl_tree.specs.Typing.{
-  TypingContext,
-  after_parts,
-  call_type,
-  cast_type,
-  element_in,
-  expr_type,
-  inputs_of,
-  is_activity,
-  is_function,
-  is_variable,
-  kind_type,
-  one_type,
-  part_type,
-  path_type,
-  prev_type,
-  two_type,
-  type_of,
-  type_of_path,
-  types_match,
-  var_at,
-  where_same,
-  where_whole,
-}
+use Rattle.bl_tree.specs.Typing.{TypingContext, after_parts, call_type, cast_type, element_in, expr_type, inputs_of, is_activity, is_function, is_variable}
+use Rattle.bl_tree.specs.Typing.{kind_type, one_type, part_type, path_type, prev_type, two_type, type_of, type_of_path, types_match, var_at, where_same}
+use Rattle.bl_tree.specs.Typing.{where_whole}
 use Rattle.bl_tree.proofs.ExprInduction.{Cases, EachIndex, OfIndex, expr, induct, induct_path}
 use Rattle.bl_eval.proofs.OperatorFits.{some_found, where_holds}
 use Rattle.bl_eval.proofs.PassLemmas.{and_left, and_right, both}

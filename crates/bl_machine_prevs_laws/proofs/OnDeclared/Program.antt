@@ -11,17 +11,7 @@ use Rattle.bl_tree.specs.declared.tree.Unit.{Unit as UnitDef}
 use Rattle.bl_tree.specs.declared.tree.Var.{Var}
 use Rattle.bl_tree.specs.Apart.{is_apart}
 use Rattle.bl_tree.specs.Depths.{is_shallow}
-use Rattle.bl_tree.specs.Program.{
-  IsWellTyped,
-  is_input,
-  is_output,
-  locals_of,
-  names_of,
-  parameters_of,
-  roles_stand,
-  unit_stands,
-  units_stand_after,
-}
+use Rattle.bl_tree.specs.Program.{IsWellTyped, is_input, is_output, locals_of, names_of, parameters_of, roles_stand, unit_stands, units_stand_after}
 use Rattle.bl_tree.specs.Returns.{unit_returns}
 use Rattle.bl_tree.specs.Types.{type_stands}
 use Rattle.bl_tree.specs.Typing.{TypingContext, fits, inputs_of, is_fixed, is_variable, outputs_of, site_of}

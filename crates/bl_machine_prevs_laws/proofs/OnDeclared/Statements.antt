@@ -29,30 +29,14 @@ use Rattle.bl_tree.specs.Typing.{return_fits, run_fits, stmt_fits, target_fits, 
 use Rattle.bl_tree.proofs.StmtInduction.{Cases, Each, EachArm, EachBranch, induct, stmt}
 use Rattle.bl_eval.proofs.PassLemmas.{and_left, and_right, both}
 use Rattle.bl_graph_nodes.specs.Laws.{PlainStatements, plain_arm, plain_branch}
-use Rattle.bl_graph_nodes.specs.Nodes.{
-  DepthJoinAt,
-}
-use Rattle.bl_graph_nodes.specs.Nodes.{
-  is_instant,
-  nodes_in,
-  nodes_in_each,
-}
+use Rattle.bl_graph_nodes.specs.Nodes.{DepthJoinAt}
+use Rattle.bl_graph_nodes.specs.Nodes.{is_instant, nodes_in, nodes_in_each}
 use Rattle.bl_graph_nodes.specs.Plain.{Act, Await, Block, Bodies, Cobegin, If, Label, Plain, Position, Repeat, Run as RunOf, Until, When, While, block_from}
 use Rattle.bl_graph_nodes.specs.Plain.{bodies_from, else_at, inside, label_at, passed_one, plain_block, plain_stmt}
 use Rattle.bl_machine_prevs_laws.specs.Names.Scoped.{Scoped, are_known, block_and_condition, every, is_known, stand_in_turn}
 use Rattle.bl_machine_prevs.specs.Declared.{declared_by, declared_in, declared_kind, prevs_in_inputs, prevs_stand, prevs_stand_in, prevs_stand_in_each}
-use Rattle.bl_machine_prevs.specs.Prevs.{
-  arm_prevs,
-  branch_prevs,
-  optional_prevs,
-  prevs_in,
-  prevs_in_arm,
-  prevs_in_branch,
-  prevs_in_expr,
-  prevs_in_path,
-  stmt_kind_prevs,
-  stmt_layer_prevs,
-}
+use Rattle.bl_machine_prevs.specs.Prevs.{arm_prevs, branch_prevs, optional_prevs, prevs_in, prevs_in_arm, prevs_in_branch, prevs_in_expr, prevs_in_path}
+use Rattle.bl_machine_prevs.specs.Prevs.{stmt_kind_prevs, stmt_layer_prevs}
 use Rattle.bl_machine_prevs_laws.specs.Types.Declared.{arm_scoped, branch_scoped, scoped_of, stmt_kind_scoped, stmt_layer_scoped}
 use Rattle.bl_machine_prevs_laws.specs.Types.inner.Declared.{scoped_of_arm, scoped_of_branch}
 use Rattle.bl_machine_prevs_laws.proofs.OnDeclared.Expressions.{Related, expr_stands, exprs_stand, path_stands, paths_stand}

@@ -21,19 +21,8 @@ use Rattle.bl_names_scopes.specs.declared.kind.Wanted.{Wanted}
 use Rattle.bl_names_scopes.specs.declared.kind.Wanted.TheVariants as wants
 use Rattle.bl_names_scopes.specs.declared.scopes.Counts.{Counts}
 use Rattle.bl_names_scopes.specs.Kinds.{suits}
-use Rattle.bl_names_scopes.specs.Marks.{
-  Marks,
-  argument_marks,
-  expr_layer_marks,
-  expr_marks,
-  kind_marks,
-  marks_of_part,
-  optional,
-  part_marks,
-  path_marks,
-  target_layer_marks,
-  target_marks,
-}
+use Rattle.bl_names_scopes.specs.Marks.{Marks, argument_marks, expr_layer_marks, expr_marks, kind_marks, marks_of_part, optional, part_marks, path_marks}
+use Rattle.bl_names_scopes.specs.Marks.{target_layer_marks, target_marks}
 use Rattle.bl_names_scopes.specs.Scopes.{Scopes}
 use Rattle.bl_names.specs.Naming.{named_expr, named_path, named_root, named_step, named_target, position, position_of, root_at, root_of}
 use Rattle.bl_names.proofs.FitLemmas.{Fits, IsFit, fits_behind, fits_first}

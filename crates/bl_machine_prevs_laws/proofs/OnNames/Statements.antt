@@ -25,20 +25,8 @@ use Rattle.bl_parse_tree.specs.declared.stmt.RawStmtKind.TheOpen.{RawStmtKind-F}
 use Rattle.bl_parse_tree.specs.declared.types.RawType.{RawType}
 use Rattle.bl_names_scopes.specs.declared.kind.Kind.TheVariants as kind
 use Rattle.bl_names_scopes.specs.declared.kind.Wanted.TheVariants as wanted
-use Rattle.bl_names_scopes.specs.Marks.{
-  Marks,
-  argument_marks,
-  closes,
-  constant_marks,
-  declares,
-  expr_marks,
-  in_scope,
-  optional,
-  path_marks,
-  target_marks,
-  type_marks,
-  uses,
-}
+use Rattle.bl_names_scopes.specs.Marks.{Marks, argument_marks, closes, constant_marks, declares, expr_marks, in_scope, optional, path_marks, target_marks}
+use Rattle.bl_names_scopes.specs.Marks.{type_marks, uses}
 use Rattle.bl_names_scopes.specs.Scopes.{Scopes, after, scopes_outside}
 use Rattle.bl_names.specs.Named.{Piece, kind_piece, made_of_all, marks_of_all, opened, piece_of_arm, piece_of_branch, stmt_piece}
 use Rattle.bl_names.specs.Naming.{named_expr, named_path, named_target, position}
@@ -47,34 +35,13 @@ use Rattle.bl_names.proofs.PastLemmas.{enter-behind}
 use Rattle.bl_names.proofs.PieceLemmas.{arm_is, branch_is, parts, stmt_is}
 use Rattle.bl_names.proofs.PlacedExpr.{variable_read}
 use Rattle.bl_names.proofs.RawStmtInduction.{Cases, induct, stmt}
-use Rattle.bl_names.proofs.StillLemmas.{
-  Still,
-  after-append,
-  still_append,
-  still_arguments,
-  still_expr,
-  still_optional,
-  still_target,
-  still_type,
-  still_use,
-  still_value,
-}
+use Rattle.bl_names.proofs.StillLemmas.{Still, after-append, still_append, still_arguments, still_expr, still_optional, still_target, still_type, still_use}
+use Rattle.bl_names.proofs.StillLemmas.{still_value}
 use Rattle.bl_names_laws.specs.Apart.{optional_roots, roots_in}
 use Rattle.bl_machine_prevs_laws.specs.Names.Declared.{arm_scoped, branch_scoped, scoped_of, stmt_kind_scoped, stmt_layer_scoped}
 use Rattle.bl_machine_prevs_laws.specs.Names.inner.Declared.{scoped_of_arm, scoped_of_branch}
-use Rattle.bl_machine_prevs_laws.specs.Names.Scoped.{
-  Scoped,
-  are_known,
-  block_and_condition,
-  declaring,
-  every,
-  is_known,
-  naming,
-  scoped_arms,
-  scoped_block,
-  scoped_branches as branches_of,
-  stand_in_turn,
-}
+use Rattle.bl_machine_prevs_laws.specs.Names.Scoped.{Scoped, are_known, block_and_condition, declaring, every, is_known, naming, scoped_arms, scoped_block}
+use Rattle.bl_machine_prevs_laws.specs.Names.Scoped.{scoped_branches as branches_of, stand_in_turn}
 use Rattle.bl_machine_prevs_laws.proofs.OnNames.ExprRoots.{arguments_only, expr_only, optional_only, taker_only, target_only}
 use Rattle.bl_machine_prevs_laws.proofs.OnNames.Only.{Only, OuterOnly, ScopeOnly, all_append, both, declare_only, only_weaker, or_first, or_second}
 

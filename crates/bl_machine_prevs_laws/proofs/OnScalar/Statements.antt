@@ -23,20 +23,8 @@ use Rattle.bl_tree.specs.Typing.{is_assignable, is_fixed, is_inhabited, is_outle
 use Rattle.bl_tree.specs.Typing.{return_fits, run_fits, stmt_fits, target_fits, type_of, type_of_path, types_match, var_at}
 use Rattle.bl_tree.proofs.StmtInduction.{Cases, Each, EachArm, EachBranch, induct, stmt}
 use Rattle.bl_eval.proofs.PassLemmas.{and_left, and_right}
-use Rattle.bl_machine_prevs.specs.Prevs.{
-  argument_prevs,
-  arm_prevs,
-  branch_prevs,
-  optional_prevs,
-  prevs_in,
-  prevs_in_arm,
-  prevs_in_branch,
-  prevs_in_expr,
-  prevs_in_path,
-  stmt_kind_prevs,
-  stmt_layer_prevs,
-  target_prevs,
-}
+use Rattle.bl_machine_prevs.specs.Prevs.{argument_prevs, arm_prevs, branch_prevs, optional_prevs, prevs_in, prevs_in_arm, prevs_in_branch, prevs_in_expr}
+use Rattle.bl_machine_prevs.specs.Prevs.{prevs_in_path, stmt_kind_prevs, stmt_layer_prevs, target_prevs}
 use Rattle.bl_machine_prevs_laws.proofs.OnScalar.Expressions.{all_both, expr_scalar, exprs_scalar, is_scalar, path_scalar, paths_scalar}
 
 -- ---- expressions that must have a type

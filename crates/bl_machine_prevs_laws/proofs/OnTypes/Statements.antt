@@ -61,21 +61,8 @@ use Rattle.bl_types_laws.proofs.StmtLayers.{Layer, step_by, step_is, walked_by, 
 use Rattle.bl_types_laws.proofs.Walks.{grown_around, grown_further, grown_self, own_calls, site_in, within_in}
 use Rattle.bl_machine_prevs_laws.specs.Types.Declared.{scoped_of}
 use Rattle.bl_machine_prevs_laws.specs.Types.inner.Declared.{scoped_of_arm, scoped_of_branch}
-use Rattle.bl_machine_prevs_laws.proofs.OnTypes.Leaves.{
-  KindKept,
-  Same,
-  StmtKept,
-  arguments_among,
-  assign_kept,
-  await_kept,
-  call_kept,
-  in_place,
-  kind_kept,
-  return_kept,
-  run_kept,
-  scoped_in,
-  tested_kept,
-}
+use Rattle.bl_machine_prevs_laws.proofs.OnTypes.Leaves.{KindKept, Same, StmtKept, arguments_among, assign_kept, await_kept, call_kept, in_place, kind_kept}
+use Rattle.bl_machine_prevs_laws.proofs.OnTypes.Leaves.{return_kept, run_kept, scoped_in, tested_kept}
 
 -- ---- what is known behind a part
 

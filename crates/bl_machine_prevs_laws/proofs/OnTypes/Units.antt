@@ -15,20 +15,8 @@ use Rattle.bl_eval.proofs.PassLemmas.{and_left, and_right}
 use Rattle.bl_names_tree.specs.declared.item.NamedConstant.{NamedConstant}
 use Rattle.bl_names_tree.specs.declared.item.NamedUnit.{NamedUnit}
 use Rattle.bl_names_tree.specs.declared.item.NamedVar.{NamedVar}
-use Rattle.bl_names_tree.specs.Placed.{
-  DeclaredBefore,
-  behind_unit,
-  head_placed,
-  holds_if,
-  in_turn,
-  parameters,
-  roles_placed,
-  stmt_step,
-  type_placed,
-  unit_step,
-  var_placed,
-  with_parameters,
-}
+use Rattle.bl_names_tree.specs.Placed.{DeclaredBefore, behind_unit, head_placed, holds_if, in_turn, parameters, roles_placed, stmt_step, type_placed, unit_step}
+use Rattle.bl_names_tree.specs.Placed.{var_placed, with_parameters}
 use Rattle.bl_types.specs.declared.environment.Environment.{Environment}
 use Rattle.bl_types.specs.declared.environment.Variable.{Variable}
 use Rattle.bl_types.specs.Declarations.{Declaring, after_parameters}

@@ -8,12 +8,8 @@ use Rattle.bl_ctree_enabled.proofs.AskLemmas.{flag_asked, flag_left, flag_past, 
 use Rattle.bl_ctree_enabled.proofs.ListLemmas.{get_here, map_here, mixed_end, mixed_many, some_same}
 use Rattle.bl_ctree_enabled.proofs.ListingLemmas.{map_many}
 use Rattle.bl_ctree_enabled.proofs.asking.ask_points.Goals as goal
-use Rattle.bl_ctree_enabled.proofs.asking.ask_points.Goals.{
-  then-m-points+then-touches,
-  else-m-points,
-  else-m-points-via-then-m-points+else-touches,
-  else-m-points-via-else-m-points,
-}
+use Rattle.bl_ctree_enabled.proofs.asking.ask_points.Goals.{then-m-points+then-touches, else-m-points, else-m-points-via-then-m-points+else-touches}
+use Rattle.bl_ctree_enabled.proofs.asking.ask_points.Goals.{else-m-points-via-else-m-points}
 
 pub set-requires : goal.set-requires
 set-requires c =

@@ -3,21 +3,8 @@ use Rattle.bl_parse_tree.specs.declared.stmt.RawArm.{out-RawArm}
 use Rattle.bl_names_scopes.specs.inner.Judged.{judged_by}
 use Rattle.bl_names_scopes.specs.declared.kind.Wanted.TheVariants as wanted
 use Rattle.bl_names_scopes.specs.Marks.{expr_marks, marks_of_arm, marks_of_branch, stmt_marks, target_marks}
-use Rattle.bl_names_scopes.proofs.WalkLemmas.{
-  arm_out,
-  arms_marks,
-  assign_out,
-  body_marks,
-  branch_out,
-  if_out,
-  judged-next,
-  next_of,
-  on_ok,
-  then_is,
-  until_out,
-  when_out,
-  while_out,
-}
+use Rattle.bl_names_scopes.proofs.WalkLemmas.{arm_out, arms_marks, assign_out, body_marks, branch_out, if_out, judged-next, next_of, on_ok, then_is, until_out}
+use Rattle.bl_names_scopes.proofs.WalkLemmas.{when_out, while_out}
 use Rattle.bl_names_scopes.proofs.stmt.+statements.Goals as goal
 
 pub block-loop-s-preserved : goal.block-loop-s-preserved

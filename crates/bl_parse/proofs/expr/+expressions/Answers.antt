@@ -1,19 +1,8 @@
 use Rattle.std.proofs.Common.{Some, refl, ap, sym, arith, true, ◌∙◌, ◌∷◌, [], lit≤}
 use Rattle.bl_lex.specs.declared.word.TheConstants.{AS, NOT}
 use Rattle.bl_lex.specs.declared.sign.TheConstants.{OPEN_BRACKET, CLOSE_BRACKET, OPEN_PAREN, CLOSE_PAREN, COMMA, DOT, MINUS, TILDE}
-use Rattle.bl_parse_syntax.specs.declared.grammar.Part.TheVariants.{
-  Scalar,
-  Accesses,
-  Inputs,
-  InputList,
-  InputRest,
-  Expr,
-  CastRest,
-  Unary,
-  Primary,
-  NameUse,
-  NoOutputs,
-}
+use Rattle.bl_parse_syntax.specs.declared.grammar.Part.TheVariants.{Scalar, Accesses, Inputs, InputList, InputRest, Expr, CastRest, Unary, Primary, NameUse}
+use Rattle.bl_parse_syntax.specs.declared.grammar.Part.TheVariants.{NoOutputs}
 use Rattle.bl_parse_syntax.specs.Grammar.{name, number, word, sign, the, class_of}
 use Rattle.bl_tree.specs.declared.token.TokenKind.TheVariants.{Word, Sign}
 use Rattle.bl_parse_tree.specs.declared.expr.RawExprKind as kind
@@ -24,27 +13,8 @@ use Rattle.bl_parse.proofs.ExprLemmas.{placed, placed_by, placed_target, looser,
 use Rattle.bl_parse.proofs.PartLemmas.{off_at, next_other, access_index, unary_primary, accessed, prefixed, minus_is, none_is}
 use Rattle.bl_parse.proofs.NameLemmas.{as_accesses}
 use Rattle.bl_parse.proofs.OperatorLemmas.{operands, next_operator, no_operator}
-use Rattle.bl_parse.proofs.ReadLemmas.{
-  next_sign,
-  next_name,
-  first,
-  first_two,
-  after,
-  then,
-  read,
-  read_two,
-  pass,
-  stay,
-  opened,
-  opened_last,
-  opened_one,
-  opened_rest,
-  never_ends,
-  omit,
-  filled,
-  no_word,
-  no_sign,
-}
+use Rattle.bl_parse.proofs.ReadLemmas.{next_sign, next_name, first, first_two, after, then, read, read_two, pass, stay, opened, opened_last, opened_one}
+use Rattle.bl_parse.proofs.ReadLemmas.{opened_rest, never_ends, omit, filled, no_word, no_sign}
 use Rattle.bl_parse.proofs.expr.+expressions.Goals as goal
 
 pub called-read_inputs-requires : goal.called-read_inputs-requires

@@ -8,24 +8,8 @@ use Rattle.bl_parse.proofs.StmtLemmas.{placed_stmt, return_left}
 use Rattle.bl_parse.specs.At.{kind_at}
 use Rattle.bl_parse.proofs.PartLemmas.{block_opens}
 use Rattle.bl_parse.proofs.ReturnLemmas.{stmt_starts}
-use Rattle.bl_parse.proofs.ReadLemmas.{
-  front,
-  read_all,
-  next_word,
-  first,
-  first_two,
-  after,
-  then,
-  read,
-  read_two,
-  pass,
-  stay,
-  opened,
-  never_ends,
-  never,
-  omit,
-  no_word,
-}
+use Rattle.bl_parse.proofs.ReadLemmas.{front, read_all, next_word, first, first_two, after, then, read, read_two, pass, stay, opened, never_ends, never, omit}
+use Rattle.bl_parse.proofs.ReadLemmas.{no_word}
 use Rattle.bl_parse.proofs.stmt.+statements.Goals as goal
 
 pub block-statements-init : goal.block-statements-init

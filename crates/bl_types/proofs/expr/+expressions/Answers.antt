@@ -3,25 +3,8 @@ use Rattle.std.proofs.lemmas.List.{length-map}
 use Rattle.std.specs.Prelude.{option_and_then, option_map, slice_get}
 use Rattle.bl_tree.specs.declared.tree.Ty.{Ty}
 use Rattle.bl_names_tree.specs.declared.expr.NamedExpr.{out-NamedExpr}
-use Rattle.bl_types.specs.Expressions.{
-  all_failures,
-  all_made,
-  but_first,
-  call_form,
-  cast_formed,
-  first_type,
-  fitted,
-  fitting,
-  in_context,
-  judged,
-  misnamed,
-  one_formed,
-  params_of,
-  step_of,
-  stepped,
-  to_element,
-  two_formed,
-}
+use Rattle.bl_types.specs.Expressions.{all_failures, all_made, but_first, call_form, cast_formed, first_type, fitted, fitting, in_context, judged, misnamed}
+use Rattle.bl_types.specs.Expressions.{one_formed, params_of, step_of, stepped, to_element, two_formed}
 use Rattle.bl_types.specs.Failures.{noted}
 use Rattle.bl_types.proofs.GatherLemmas.{made_none, made_one}
 use Rattle.bl_types.proofs.JudgedLemmas.{cast_judged, fitted-length, in_context_is, index_judged, next_of, one_judged, two_judged}
