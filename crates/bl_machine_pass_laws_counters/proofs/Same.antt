@@ -285,13 +285,13 @@ pub numbers_tell_trees : ReachedIsResidual → WokenTreeIsResidual → WakingIsP
     MachinesGiveContexts → NumbersTellTrees
 numbers_tell_trees reached whole waking tells plain answers alike orderly nest independent graphs have traces keys placed residual tell contexts
     accepted machine rows others c d store left keeps is_accepted are one two begun begun' same =
-    let program = accepted.tree in
+    let program = accepted.program in
     let w : Setting = setting_of program.structs program.units program.entry in
     let positions = traces.positions accepted machine keeps is_accepted are in
     let entry = entry_there program.structs program.units program.entry keeps in
     let context = λ (i : ℕ) (unit : UnitDef) (is : unit_at w i ≡ Some unit).
-    contexts.each program.structs program.units program.entry machine positions.rank i unit keeps is_accepted.tree_passes are positions.go_by is in
+    contexts.each program.structs program.units program.entry machine positions.rank i unit keeps is_accepted.passes are positions.go_by is in
     woken_same reached whole waking tells w rows others c d store left one two
     (same_trees plain answers alike orderly nest independent graphs have keys placed residual tell program.structs program.units program.entry
-    positions.rank (slots_at w machine) entry.0 keeps is_accepted.tree_passes (context 0 entry.0 entry.1).orders (λ i unit is. (context i unit is).laid)
+    positions.rank (slots_at w machine) entry.0 keeps is_accepted.passes (context 0 entry.0 entry.1).orders (λ i unit is. (context i unit is).laid)
     entry.1 same.frames rows others c d store left one two begun begun' same.first same.second)

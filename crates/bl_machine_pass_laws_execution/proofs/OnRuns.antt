@@ -164,9 +164,9 @@ runs_go_by_rules plain begin_live callable wake_live have meant stores machines 
       by_rules plain begin_live callable wake_live have meant stores ticks structs units entry rank slots clear unit keeps passes text given clears
       is rows frames fit zero;
   machines = λ accepted machine rank clear unit rows frames keeps is_accepted are go_by text clears is fit zero.
-      by_rules plain begin_live callable wake_live have meant stores ticks accepted.tree.structs accepted.tree.units accepted.tree.entry rank
-      (slots_at (setting_of accepted.tree.structs accepted.tree.units accepted.tree.entry) machine) clear unit keeps is_accepted.tree_passes text
-      (λ i other there. machines.each accepted.tree.structs accepted.tree.units accepted.tree.entry machine rank i other keeps
-      is_accepted.tree_passes are go_by there)
+      by_rules plain begin_live callable wake_live have meant stores ticks accepted.program.structs accepted.program.units accepted.program.entry rank
+      (slots_at (setting_of accepted.program.structs accepted.program.units accepted.program.entry) machine) clear unit keeps is_accepted.passes text
+      (λ i other there. machines.each accepted.program.structs accepted.program.units accepted.program.entry machine rank i other keeps
+      is_accepted.passes are go_by there)
       clears is rows frames fit zero;
 }

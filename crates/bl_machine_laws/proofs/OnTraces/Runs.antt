@@ -205,9 +205,9 @@ runs_are_meant lowest complete sound could moving answers inside between armed f
 pub machines_have_one_trace : UnitsAreOrdered → MachinesGiveOrders → RunsAreMeant → MachinesHaveOneTrace
 machines_have_one_trace ordered give run = record {
   positions = λ accepted machine keeps is are.
-      give.positions accepted.tree.structs accepted.tree.units accepted.tree.entry machine keeps is.tree_passes
-      (ordered accepted.tree.units is.no_walks) are;
+      give.positions accepted.program.structs accepted.program.units accepted.program.entry machine keeps is.passes
+      (ordered accepted.program.units is.no_walks) are;
   traces = λ accepted machine rank keeps is are go_by rows.
-      run.one accepted.tree.structs accepted.tree.units accepted.tree.entry rank keeps is.tree_passes
-      (give.orders accepted.tree.structs accepted.tree.units accepted.tree.entry machine rank keeps is.tree_passes are go_by) rows;
+      run.one accepted.program.structs accepted.program.units accepted.program.entry rank keeps is.passes
+      (give.orders accepted.program.structs accepted.program.units accepted.program.entry machine rank keeps is.passes are go_by) rows;
 }
