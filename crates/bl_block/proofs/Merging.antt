@@ -122,11 +122,11 @@ each_more from graphs made next k activity graph one lt many is_activity is_grap
 
 -- ---- a machine
 
-module _ (program tree : Program) (from seen : List Activity) (graphs given : List Graph) (of_tree : program ≡ tree)
-    (are : AreActivitiesOf program.units from) (graphed : AreGraphs tree.units graphs) (is_seen : seen ≡ from) (is_given : given ≡ graphs) where
+module _ (program other : Program) (from seen : List Activity) (graphs given : List Graph) (same : program ≡ other)
+    (are : AreActivitiesOf program.units from) (graphed : AreGraphs other.units graphs) (is_seen : seen ≡ from) (is_given : given ≡ graphs) where
   graphed_here : AreGraphs program.units given
   graphed_here =
-      subst (AreGraphs program.units) (sym is_given) (subst (λ (it : Program). AreGraphs it.units graphs) (sym of_tree) graphed)
+      subst (AreGraphs program.units) (sym is_given) (subst (λ (it : Program). AreGraphs it.units graphs) (sym same) graphed)
 
   seen_are : AreActivitiesOf program.units seen
   seen_are = subst (AreActivitiesOf program.units) (sym is_seen) are

@@ -1,4 +1,4 @@
--- Whether a unit has a closed walk is decided, so units have trees.
+-- Whether a unit has a closed walk is decided, so each unit has a peeled unit.
 use Rattle.std.proofs.Common.{◌≡◌, ℕ, ◌<◌, ◌≤◌, true, false, List, [], ◌∷◌, ◌++◌, ◌⊎◌, inl, inr, ⊎_elim, refl, sym, subst, ◌∙◌, arith, eq-eqb, eqb-true}
 use Rattle.std.specs.Prelude.{Contains, nat_eq, nat_lt}
 use Rattle.std.proofs.lemmas.Bool.Decides.{nat_tests}
@@ -13,9 +13,9 @@ use Rattle.bl_cause.proofs.WalkLemmas.{controls_closed, walk_append}
 use Rattle.bl_cause_laws.specs.Orders.{BodiesHaveGraphs}
 use Rattle.bl_peel.specs.Count.{statement_count}
 use Rattle.bl_peel.specs.Peeled.{peeled}
-use Rattle.bl_cause_trees.specs.Laws.{TreesAreThere}
-use Rattle.bl_cause_trees.specs.Trees.{HasWalk, IsTreeOfUnit, clean, is_peeled, of_function, too_large}
-use Rattle.bl_cause_trees.proofs.Trees.{true_not_false, walkless}
+use Rattle.bl_cause_trees.specs.Laws.{PeeledAreThere}
+use Rattle.bl_cause_trees.specs.Peeled.{HasWalk, IsPeeledUnit, clean, of_function, too_large, with_turns}
+use Rattle.bl_cause_trees.proofs.Peeled.{true_not_false, walkless}
 
 abbrev Decided : Type 0 → Type 0
 Decided A = A ⊎ (A → ⊥)
@@ -133,23 +133,23 @@ more_or_not n =
       | false ↦ λ is. inr (grind (arith, nat_tests))
     ] refl
 
-tree_of : BodiesHaveGraphs → (unit : UnitDef) → (tree : UnitDef) × IsTreeOfUnit unit tree
-tree_of graphs unit =
-    elim (is_activity unit.kind) as (λ b. is_activity unit.kind ≡ b → (tree : UnitDef) × IsTreeOfUnit unit tree) [
+peeled_of : BodiesHaveGraphs → (unit : UnitDef) → (peeled_unit : UnitDef) × IsPeeledUnit unit peeled_unit
+peeled_of graphs unit =
+    elim (is_activity unit.kind) as (λ b. is_activity unit.kind ≡ b → (peeled_unit : UnitDef) × IsPeeledUnit unit peeled_unit) [
       | false ↦ λ is. (unit, of_function is)
       | true ↦ λ is.
           let own = graphs unit.body in
           ⊎_elim
           (λ (walk : HasWalk unit).
           ⊎_elim (λ (more : 10_000 < statement_count (peeled unit.body)). (unit, too_large more))
-          (λ (fits : statement_count (peeled unit.body) ≤ 10_000). (record unit { body = peeled unit.body }, is_peeled is walk fits))
+          (λ (fits : statement_count (peeled unit.body) ≤ 10_000). (record unit { body = peeled unit.body }, with_turns is walk fits))
           (more_or_not (statement_count (peeled unit.body))))
           (λ (none : HasWalk unit → ⊥). (unit, clean none))
           (walk_or_not unit own.graph own.is_graph)
     ] refl
 
-pub trees_are_there : BodiesHaveGraphs → TreesAreThere
-trees_are_there graphs [] = record { trees = []; are = tt }
-trees_are_there graphs (unit ∷ units) =
-    let first = tree_of graphs unit in
-    let rest = trees_are_there graphs units in record { trees = first.0 ∷ rest.trees; are = (first.1, rest.are) }
+pub peeled_are_there : BodiesHaveGraphs → PeeledAreThere
+peeled_are_there graphs [] = record { peeled_units = []; are = tt }
+peeled_are_there graphs (unit ∷ units) =
+    let first = peeled_of graphs unit in
+    let rest = peeled_are_there graphs units in record { peeled_units = first.0 ∷ rest.peeled_units; are = (first.1, rest.are) }

@@ -17,11 +17,11 @@ use Rattle.bl_cause.specs.Activities.{IsGraphOf}
 use Rattle.bl_cause.specs.Fails.{BeginsWalk, FailsCycle, FailsTwice}
 use Rattle.bl_cause.specs.Walks.{controls}
 use Rattle.bl_cause.proofs.WalkLemmas.{control_is}
-use Rattle.bl_cause_trees.specs.Rules.{Fails, FailsInTree}
-use Rattle.bl_cause_trees.specs.Trees.{IsTreeOfUnit}
+use Rattle.bl_cause_trees.specs.Rules.{Fails, FailsInPeeled}
+use Rattle.bl_cause_trees.specs.Peeled.{IsPeeledUnit}
 use Rattle.bl_graph_laws_places.specs.Placed.{placed_nodes}
 use Rattle.bl_cause_trees_laws_places.specs.Laws.{FailuresMove, PassingStays}
-use Rattle.bl_cause_trees_laws_places.proofs.Trees.{Source, graph_from, graph_to, moved_graph, tree_from, tree_to}
+use Rattle.bl_cause_trees_laws_places.proofs.Peeled.{Source, graph_from, graph_to, moved_graph, peeled_from, peeled_to}
 use Rattle.bl_cause_trees_laws_places.proofs.Walks.{Begins, Moved, begins_from, begins_to}
 
 -- what holds of all elements holds of each
@@ -110,15 +110,15 @@ module _ (f g : Place → Place) (back : BringsBack g f) (units : List UnitDef) 
   record InSource (at : Place) (also : List Place) : Type 0 where
     source : Place
     further : List Place
-    fails : FailsInTree FailsIn units source further
+    fails : FailsInPeeled FailsIn units source further
     is_at : at ≡ f source
     is_also : also ≡ map f further
 
-  fails_from : (at : Place) (also : List Place) → FailsInTree FailsIn (placed_units f units) at also → InSource at also
+  fails_from : (at : Place) (also : List Place) → FailsInPeeled FailsIn (placed_units f units) at also → InSource at also
   fails_from at also h =
       let unit = from_map (placed_unit f) units h.unit h.is_there in
-      let tree = tree_from f g back unit.source (subst (λ (u : UnitDef). IsTreeOfUnit u h.tree) unit.is h.is_tree) in
-      let graph = graph_from f g back tree.source h.graph (subst (λ (u : UnitDef). IsGraphOf u h.graph) tree.is h.of_tree) in
+      let peeled_unit = peeled_from f g back unit.source (subst (λ (u : UnitDef). IsPeeledUnit u h.peeled_unit) unit.is h.is_peeled) in
+      let graph = graph_from f g back peeled_unit.source h.graph (subst (λ (u : UnitDef). IsGraphOf u h.graph) peeled_unit.is h.of_peeled) in
       let seen = follows.to_source graph.source at also
       (follows.same h.graph (moved_graph f graph.source) graph.nodes graph.edges at also h.fails) in
       record {
@@ -128,25 +128,25 @@ module _ (f g : Place → Place) (back : BringsBack g f) (units : List UnitDef) 
           unit = unit.source;
           is_there = unit.is_there;
           activity = subst (λ (u : UnitDef). IsTrue (is_activity u.kind)) unit.is h.activity;
-          tree = tree.source;
-          is_tree = tree.is_tree;
+          peeled_unit = peeled_unit.source;
+          is_peeled = peeled_unit.is_peeled;
           graph = graph.source;
-          of_tree = graph.of_unit;
+          of_peeled = graph.of_unit;
           fails = seen.fails;
         };
         is_at = seen.is_at;
         is_also = seen.is_also;
       }
 
-  fails_to : (at : Place) (also : List Place) → InSource at also → FailsInTree FailsIn (placed_units f units) at also
+  fails_to : (at : Place) (also : List Place) → InSource at also → FailsInPeeled FailsIn (placed_units f units) at also
   fails_to at also h = let fails = h.fails in record {
     unit = placed_unit f fails.unit;
     is_there = into_map (placed_unit f) units fails.unit fails.is_there;
     activity = fails.activity;
-    tree = placed_unit f fails.tree;
-    is_tree = tree_to f g back fails.unit fails.is_tree;
+    peeled_unit = placed_unit f fails.peeled_unit;
+    is_peeled = peeled_to f g back fails.unit fails.is_peeled;
     graph = moved_graph f fails.graph;
-    of_tree = graph_to f g back fails.tree fails.graph fails.of_tree;
+    of_peeled = graph_to f g back fails.peeled_unit fails.graph fails.of_peeled;
     fails = follows.from_source fails.graph at also
         (record { source = h.source; further = h.further; fails = fails.fails; is_at = h.is_at; is_also = h.is_also });
   }

@@ -314,9 +314,9 @@ module _ (kept : StepsKeepResidual) (begun : WokenTreeIsResidual) (between : Rea
     (answers : AnswersArePlain) (statements : StatementsArePlain) (sound : StepsArePlain) (complete : PlainStepsAreSteps) (armed : ReachedIsArmed)
     (waking : WakingIsPlain) where
   pub unrolled_means : UnrolledMeans
-  unrolled_means structs units trees entry rows shows same shown =
+  unrolled_means structs units others entry rows shows same shown =
       means_too kept begun between inside follow answers statements sound complete armed waking same.program same rows shows shown
 
   pub unrolled_is_never_stuck : UnrolledIsNeverStuck
-  unrolled_is_never_stuck structs units trees entry same never rows row actions c store reaches still =
+  unrolled_is_never_stuck structs units others entry same never rows row actions c store reaches still =
       never_stuck_too kept begun between inside follow answers statements sound complete armed waking same.program same never rows row actions c store reaches still

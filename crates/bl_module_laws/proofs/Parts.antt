@@ -1,5 +1,5 @@
 -- The laws of which these are put together, as one record.
-use Rattle.bl_cause_trees.specs.Laws.{TreesAreThere}
+use Rattle.bl_cause_trees.specs.Laws.{PeeledAreThere}
 use Rattle.bl_cause_trees_laws_places.specs.Laws.{PassingStays as GraphsStay}
 use Rattle.bl_effects_laws_places.specs.Laws.{PassingStays as UnitsStay}
 use Rattle.bl_limits_laws_places.specs.Laws.{NestingStays}
@@ -40,4 +40,4 @@ pub record UnitLaws : Type 0 where
   pub units : UnitsStay
   pub graphs : GraphsStay
   pub nesting : NestingStays
-  pub trees : TreesAreThere
+  pub peeled : PeeledAreThere

@@ -108,11 +108,11 @@ module _ (joins : TextLaws) (names : NameLaws) (types : TypeLaws) (units : UnitL
 
   whole_passes : (raw : Raw) → TreePasses raw → WholePasses (named_of raw) raw.items
   whole_passes raw passes =
-      let found = units.trees (typed_of raw).units in record {
+      let found = units.peeled (typed_of raw).units in record {
         items = from_whole raw passes;
-        trees = found.trees;
+        peeled_units = found.peeled_units;
         are = found.are;
-        nesting = limits_nesting (typed_of raw).structs found.trees (typed_of raw).entry (limits_pass raw passes found.trees found.are);
+        nesting = limits_nesting (typed_of raw).structs found.peeled_units (typed_of raw).entry (limits_pass raw passes found.peeled_units found.are);
       }
 
   pub passing_files_are_good : AloneLaws → TreeDeclares → TreesHaveFaces → PassingFilesAreGood

@@ -5,7 +5,7 @@ use Rattle.std.proofs.lemmas.List.Elements.{Contains-append_left, Contains-appen
 use Rattle.std.specs.Prelude.{Contains}
 use Rattle.std.specs.List.{list_any}
 use Rattle.bl_cause_trees.specs.Rules.{Passes as GraphsPass}
-use Rattle.bl_cause_trees.specs.Trees.{AreTrees}
+use Rattle.bl_cause_trees.specs.Peeled.{ArePeeled}
 use Rattle.bl_effects.specs.Rules.{Passes as UnitsPass}
 use Rattle.bl_joined.specs.Trees.{placed_item}
 use Rattle.bl_limits.specs.Rules.{NestingPasses}
@@ -33,7 +33,7 @@ use Rattle.bl_types_laws_places.specs.Agree.{placed_failures, unplaced}
 use Rattle.bl_types_laws_places_units.specs.Laws.{ItemsAlike, KnownAfter}
 use Rattle.bl_module_laws.proofs.Borders.{Border, FrontPasses, IsNamedOf, changed, known_behind_items, rest_known}
 use Rattle.bl_module_laws.proofs.Entries.{entries_stand, has_mark, nothing_left, nothing_right}
-use Rattle.bl_module_laws.proofs.Nesting.{nesting_alike, nesting_among, tree_there}
+use Rattle.bl_module_laws.proofs.Nesting.{nesting_alike, nesting_among, peeled_there}
 use Rattle.bl_module_laws.proofs.Parts.{NameLaws, TypeLaws, UnitLaws}
 use Rattle.bl_module_laws.proofs.Passing.{ItemsPass, to_tree}
 use Rattle.bl_module_laws.proofs.Steps.{NearPasses, alike, failures_both, far_units, known_both, names_near}
@@ -69,12 +69,12 @@ bare_structs : (f : Place → Place) (structs : List StructDef) → placed_struc
 bare_structs f [] = refl
 bare_structs f (def ∷ structs) = ap (λ them. record { name = def.name; place = unplaced def.place; fields = def.fields } ∷ them) (bare_structs f structs)
 
--- what passes of all items: rules by units, and the nesting of types on trees of units
+-- what passes of all items: rules by units, and the nesting of types on peeled units
 pub record WholePasses (named : Named) (all : List RawItem) : Type 0 where
   pub items : ItemsPass named all
-  pub trees : List UnitDef
-  pub are : AreTrees (known_behind_items named all).units trees
-  pub nesting : NestingPasses 0 (known_behind_items named all).structs trees
+  pub peeled_units : List UnitDef
+  pub are : ArePeeled (known_behind_items named all).units peeled_units
+  pub nesting : NestingPasses 0 (known_behind_items named all).structs peeled_units
 
 module _ (names : NameLaws) (types : TypeLaws) (laws : UnitLaws) (named : Named) (front : List RawItem) (f : Place → Place) (raw : Raw)
     (rest : List RawItem) (is : IsNamedOf named (front ++ (map (placed_item f) raw.items ++ rest))) (behind : Behind)
@@ -150,19 +150,19 @@ module _ (names : NameLaws) (types : TypeLaws) (laws : UnitLaws) (named : Named)
   abbrev structs : List StructDef
   structs = (known_behind_items named (front ++ own)).structs
 
-  -- a unit of the file has a tree with its variables
-  tree_of_own : (unit : UnitDef) → Contains (placed_units f (own_units behind raw)) unit →
-      (tree : UnitDef) × Contains whole.trees tree × (tree.vars ≡ unit.vars)
-  tree_of_own unit there =
-      tree_there (known_behind_items named (front ++ (own ++ rest))).units whole.trees whole.are unit
+  -- a unit of the file has a peeled unit with its variables
+  peeled_of_own : (unit : UnitDef) → Contains (placed_units f (own_units behind raw)) unit →
+      (peeled_unit : UnitDef) × Contains whole.peeled_units peeled_unit × (peeled_unit.vars ≡ unit.vars)
+  peeled_of_own unit there =
+      peeled_there (known_behind_items named (front ++ (own ++ rest))).units whole.peeled_units whole.are unit
       (subst (λ units. Contains units unit) (sym (ap (λ items. (known_behind_items named items).units) same ∙ units_are))
       (Contains-append_left (far.units ++ placed_units f (own_units behind raw)) grown.units unit
       (Contains-append_right far.units (placed_units f (own_units behind raw)) unit there)))
 
   nesting_far : NestingPasses (length behind.structs) structs (placed_units f (own_units behind raw))
   nesting_far =
-      nesting_among structs grown.structs (length behind.structs) (placed_units f (own_units behind raw)) whole.trees tree_of_own
-      (subst (λ them. NestingPasses 0 them whole.trees)
+      nesting_among structs grown.structs (length behind.structs) (placed_units f (own_units behind raw)) whole.peeled_units peeled_of_own
+      (subst (λ them. NestingPasses 0 them whole.peeled_units)
       (ap (λ items. (known_behind_items named items).structs) same ∙ grown.has_structs) whole.nesting)
 
   nesting_near : NestingPasses (length behind.structs) (known_in_tree behind raw).structs (own_units behind raw)

@@ -456,15 +456,15 @@ all_declare = inherited Declares (record {
 })
 
 pub peeled_prevs_are_declared : PeeledPrevsAreDeclared
-peeled_prevs_are_declared unit tree peels = by_case peels
+peeled_prevs_are_declared unit peeled_unit peels = by_case peels
   where
-    by_case : {unit tree : UnitDef} → UnitPeels unit tree → prevs_are_declared unit ≡ true → prevs_are_declared tree ≡ true
+    by_case : {unit peeled_unit : UnitDef} → UnitPeels unit peeled_unit → prevs_are_declared unit ≡ true → prevs_are_declared peeled_unit ≡ true
     by_case kept declared = declared
     by_case (is_peeled {unit} activity) declared = (all_declare unit.body 0 0 [] [] [] [] (λ k h. h) declared).stands
 
 pub peeled_is_from_text : PeeledIsFromText
-peeled_is_from_text units trees peel text = record {
-  declared = λ tree there.
-      let source : SourceOf units tree = source_of peel tree (contains_in tree trees there) in
-      peeled_prevs_are_declared source.unit tree source.peels (text.declared source.unit (in_contains source.unit units source.is_there));
+peeled_is_from_text units peeled_units peel text = record {
+  declared = λ peeled_unit there.
+      let source : SourceOf units peeled_unit = source_of peel peeled_unit (contains_in peeled_unit peeled_units there) in
+      peeled_prevs_are_declared source.unit peeled_unit source.peels (text.declared source.unit (in_contains source.unit units source.is_there));
 }

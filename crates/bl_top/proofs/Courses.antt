@@ -48,8 +48,8 @@ course_of_behaviour structs units entry behaviour is fit so_far = record {
   fit = λ bytes. columns_fit behaviour.inputs (input_columns is.unit) (rows_of bytes behaviour.inputs).rows is.inputs (fit bytes behaviour.inputs);
   fit_so_far = λ bytes. columns_fit behaviour.inputs (input_columns is.unit) (rows_in (empty_reading behaviour.inputs) bytes) is.inputs
       (so_far bytes behaviour.inputs);
-  trees = is.trees;
-  are_trees = is.are_trees;
+  peeled = is.peeled;
+  are_peeled = is.are_peeled;
   bounded = is.bounded;
   never_stuck = is.never_stuck;
 }

@@ -7,20 +7,20 @@ ghost use Rattle.bl_top.specs.inner.Programs.{IsFileOfProgram};
 use bl_ctext::CFile;
 use bl_rules::AcceptedSource;
 use bl_rules_laws::declared::accepted_trees_declare;
-use bl_rules_laws::traces::{accepted_trees_have_one_trace, accepted_trees_mean_the_same};
-use bl_rules_laws_sizes::trees_of_units_stay_small;
+use bl_rules_laws::traces::{accepted_trees_have_one_trace, peeled_programs_mean_the_same};
+use bl_rules_laws_sizes::peeled_units_stay_small;
 use bl_tree::NoMemory;
 use std::alloc::Global;
 
-/// The C file of the accepted program of a small tree. It is made of the trees of the program's units, which mean the same.
+/// The C file of the accepted program of a small tree. It is made of the peeled program, which means the same.
 pub fn c_file(alloc: Global, accepted: &AcceptedSource) -> Result<CFile, NoMemory>
     requires { IsOfSmallTree accepted.now.program }
     ensures { IfOk result (IsFileOfProgram accepted.now.program.structs accepted.now.program.units accepted.now.program.entry) }
 {
     accepted_trees_have_one_trace();
-    accepted_trees_mean_the_same();
+    peeled_programs_mean_the_same();
     accepted_trees_declare();
-    trees_of_units_stay_small();
+    peeled_units_stay_small();
     accepted.is_accepted();
-    bl_emit_file::c_file(alloc, accepted.tree())
+    bl_emit_file::c_file(alloc, accepted.peeled())
 }

@@ -60,8 +60,8 @@ correct_text source text raw has is =
       outputs = one.outputs;
       trace = one.trace;
       one = one_over_rows (typed_of raw).structs (typed_of raw).units (typed_of raw).entry behaviour one;
-      trees = one.trees;
-      are_trees = one.are_trees;
+      peeled = one.peeled;
+      are_peeled = one.are_peeled;
       bounded = one.bounded;
       never_stuck = one.never_stuck;
     }

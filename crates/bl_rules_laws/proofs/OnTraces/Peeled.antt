@@ -1,4 +1,4 @@
--- What the program of a raw tree keeps in which no rule fails, and that of the trees of its units.
+-- What the program of a raw tree keeps in which no rule fails, and what its peeled program keeps.
 use Rattle.std.proofs.Common.{◌≡◌, ℕ, true, List, sym, subst}
 use Rattle.std.specs.Prelude.{IsTrue}
 use Rattle.bl_tree.specs.declared.program.Program.{Program}
@@ -17,14 +17,14 @@ use Rattle.bl_types_laws.specs.Standing.{are_shallow}
 use Rattle.bl_types_laws.specs.Starts.{all_starts}
 use Rattle.bl_types_program.specs.Programs.{named_of, typed_of}
 use Rattle.bl_effects.specs.Rules.{Passes as UnitsPass}
-use Rattle.bl_cause_trees.specs.Laws.{TreesArePeeled}
+use Rattle.bl_cause_trees.specs.Laws.{UnitsArePeeled}
 use Rattle.bl_cause_trees.specs.Rules.{Passes as GraphsPass}
-use Rattle.bl_cause_trees.specs.Trees.{AreTrees}
+use Rattle.bl_cause_trees.specs.Peeled.{ArePeeled}
 use Rattle.bl_ctree_laws_traces.specs.Ready.Ordered.{UnitsAreOrdered}
 use Rattle.bl_rules.specs.Accepted.{IsOfTree}
-use Rattle.bl_rules.specs.Laws.{TreesKeepGraphRules, TreesKeepUnitRules, TreesStayTyped}
+use Rattle.bl_rules.specs.Laws.{PeeledKeepGraphRules, PeeledKeepUnitRules, PeeledStayTyped}
 use Rattle.bl_rules.specs.Rules.{TreePasses, in_graphs, in_limits, in_names, in_program, in_types, in_units}
-use Rattle.bl_rules_laws.specs.Traces.Trees.{AcceptedKeepOnTrees, KeepsOnTrees}
+use Rattle.bl_rules_laws.specs.Traces.Peeled.{AcceptedKeepPeeled, KeepsPeeled}
 
 -- a typed program, by the raw tree that it is of
 abbrev TypedIs : (List StructDef → List UnitDef → ℕ → Type 0) → Type 0
@@ -37,10 +37,10 @@ pub record TypedLaws : Type 0 where
   pub keeps : TypedIs IsWellTyped
   pub shallow : TypedIs (λ structs units entry. are_shallow units ≡ true)
   pub in_order : TypedIs (λ structs units entry. IsTrue (ascends (all_starts units)))
-  pub peel : TreesArePeeled
-  pub typed : TreesStayTyped
-  pub unit_rules : TreesKeepUnitRules
-  pub graph_rules : TreesKeepGraphRules
+  pub peel : UnitsArePeeled
+  pub typed : PeeledStayTyped
+  pub unit_rules : PeeledKeepUnitRules
+  pub graph_rules : PeeledKeepGraphRules
   pub ordered : UnitsAreOrdered
 
 module _ (given : TypedLaws) (raw : Raw) (well_formed : RawIsWellFormed raw.items) (passes : TreePasses raw) where
@@ -59,23 +59,23 @@ module _ (given : TypedLaws) (raw : Raw) (well_formed : RawIsWellFormed raw.item
   well_typed : IsWellTyped (typed_of raw).structs (typed_of raw).units (typed_of raw).entry
   well_typed = given.keeps raw.items raw.bytes well_formed names types
 
-  typed_keep : (trees : List UnitDef) → AreTrees (typed_of raw).units trees →
-      KeepsOnTrees (typed_of raw).structs (typed_of raw).units (typed_of raw).entry trees
-  typed_keep trees are = record {
+  typed_keep : (peeled : List UnitDef) → ArePeeled (typed_of raw).units peeled →
+      KeepsPeeled (typed_of raw).structs (typed_of raw).units (typed_of raw).entry peeled
+  typed_keep peeled are = record {
     well_typed = well_typed;
     passes = units;
-    peels = given.peel (typed_of raw).units trees are;
-    trees_typed = given.typed (typed_of raw).structs (typed_of raw).units (typed_of raw).entry well_typed
-        (given.shallow raw.items raw.bytes well_formed names types) (given.in_order raw.items raw.bytes well_formed names types) trees are;
-    trees_pass = given.unit_rules (typed_of raw).units trees are units;
-    ordered = given.ordered trees (given.graph_rules (typed_of raw).units trees are graphs);
-    limits = λ r p a f. passes r p a (in_program names types (in_limits trees units graphs are f));
+    peels = given.peel (typed_of raw).units peeled are;
+    peeled_typed = given.typed (typed_of raw).structs (typed_of raw).units (typed_of raw).entry well_typed
+        (given.shallow raw.items raw.bytes well_formed names types) (given.in_order raw.items raw.bytes well_formed names types) peeled are;
+    peeled_pass = given.unit_rules (typed_of raw).units peeled are units;
+    ordered = given.ordered peeled (given.graph_rules (typed_of raw).units peeled are graphs);
+    limits = λ r p a f. passes r p a (in_program names types (in_limits peeled units graphs are f));
   }
 
-pub accepted_keep : TypedLaws → AcceptedKeepOnTrees
-accepted_keep given program trees of are =
+pub accepted_keep : TypedLaws → AcceptedKeepPeeled
+accepted_keep given program peeled of are =
     let raw : Raw = of.raw in
-    let typed = typed_keep given raw of.well_formed of.passes trees (subst (λ units. AreTrees units trees) of.is.units are) in
-    subst (λ structs. KeepsOnTrees structs program.units program.entry trees) (sym of.is.structs)
-    (subst (λ units. KeepsOnTrees (typed_of raw).structs units program.entry trees) (sym of.is.units)
-    (subst (λ entry. KeepsOnTrees (typed_of raw).structs (typed_of raw).units entry trees) (sym of.is.entry) typed))
+    let typed = typed_keep given raw of.well_formed of.passes peeled (subst (λ units. ArePeeled units peeled) of.is.units are) in
+    subst (λ structs. KeepsPeeled structs program.units program.entry peeled) (sym of.is.structs)
+    (subst (λ units. KeepsPeeled (typed_of raw).structs units program.entry peeled) (sym of.is.units)
+    (subst (λ entry. KeepsPeeled (typed_of raw).structs (typed_of raw).units entry peeled) (sym of.is.entry) typed))

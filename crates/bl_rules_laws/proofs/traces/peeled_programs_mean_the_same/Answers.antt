@@ -1,9 +1,9 @@
-use Rattle.bl_rules_laws.proofs.OnTraces.OneTrace.{trees_mean}
-use Rattle.bl_rules_laws.proofs.traces.accepted_trees_mean_the_same.Goals as goal
+use Rattle.bl_rules_laws.proofs.OnTraces.OneTrace.{peeled_mean}
+use Rattle.bl_rules_laws.proofs.traces.peeled_programs_mean_the_same.Goals as goal
 
 pub returns : goal.returns
 returns c =
-    trees_mean c.accepted_trees_keep.ensures (record {
+    peeled_mean c.accepted_trees_keep.ensures (record {
       orderly = c.accepted_programs_are_orderly.ensures;
       meanings = c.bounded_programs_have_meanings.ensures.meanings;
       numbered = c.ordered_programs_are_numbered.ensures;

@@ -1,4 +1,4 @@
--- The trees of units whose places are mapped.
+-- The peeled units of units whose places are mapped.
 use Rattle.std.proofs.Common.{◌≡◌, ℕ, ◌<◌, ◌≤◌, List, length, map, refl, ap, sym, subst, ◌∙◌}
 use Rattle.bl_tree.specs.declared.graph.Graph.{Graph}
 use Rattle.bl_tree.specs.declared.graph.Node.{Node}
@@ -9,7 +9,7 @@ use Rattle.bl_tree_laws_places.specs.Laws.{BringsBack}
 use Rattle.bl_tree_laws_places.specs.Placed.{placed_stmt, placed_unit, placed_var}
 use Rattle.bl_cause.specs.Activities.{IsGraphOf}
 use Rattle.bl_cause.specs.Walks.{ClosedWalk}
-use Rattle.bl_cause_trees.specs.Trees.{HasWalk, IsTreeOfUnit, clean, is_peeled, of_function, too_large}
+use Rattle.bl_cause_trees.specs.Peeled.{HasWalk, IsPeeledUnit, clean, of_function, too_large, with_turns}
 use Rattle.bl_graph_laws_places.specs.Laws.{IsMovedGraph}
 use Rattle.bl_graph_laws_places.specs.Placed.{placed_nodes}
 use Rattle.bl_graph_laws_places.proofs.GraphsMoved.{tick_graphs_move}
@@ -69,7 +69,7 @@ module _ (f g : Place → Place) (back : BringsBack g f) (unit : UnitDef) where
   walk_to : HasWalk unit → HasWalk (placed_unit f unit)
   walk_to has = record { graph = moved_graph f has.graph; of_unit = graph_to has.graph has.of_unit; walk = has.walk; closed = has.closed }
 
-  -- ---- trees
+  -- ---- peeled units
 
   count_is : statement_count (peeled (map (placed_stmt f) unit.body)) ≡ statement_count (peeled unit.body)
   count_is = ap statement_count (peeled_moves f unit.body) ∙ counts_stay f (peeled unit.body)
@@ -79,29 +79,29 @@ module _ (f g : Place → Place) (back : BringsBack g f) (unit : UnitDef) where
       ≡ placed_unit f (record unit { body = peeled unit.body })
   peeled_is = ap (λ (body : List Stmt). record (placed_unit f unit) { body = body }) (peeled_moves f unit.body)
 
-  -- a tree of the unit, whose image with mapped places is a tree of the unit's image
-  pub record TreeSource (tree : UnitDef) : Type 0 where
+  -- a peeled unit of the unit, whose image with mapped places is one of the unit's image
+  pub record PeeledSource (peeled_unit : UnitDef) : Type 0 where
     pub source : UnitDef
-    pub is_tree : IsTreeOfUnit unit source
-    pub is : tree ≡ placed_unit f source
+    pub is_peeled : IsPeeledUnit unit source
+    pub is : peeled_unit ≡ placed_unit f source
 
-  pub tree_from : {tree : UnitDef} → IsTreeOfUnit (placed_unit f unit) tree → TreeSource tree
-  tree_from (of_function function) = record { source = unit; is_tree = of_function function; is = refl }
-  tree_from (clean none) = record { source = unit; is_tree = clean (λ has. none (walk_to has)); is = refl }
-  tree_from (too_large more) = record {
+  pub peeled_from : {peeled_unit : UnitDef} → IsPeeledUnit (placed_unit f unit) peeled_unit → PeeledSource peeled_unit
+  peeled_from (of_function function) = record { source = unit; is_peeled = of_function function; is = refl }
+  peeled_from (clean none) = record { source = unit; is_peeled = clean (λ has. none (walk_to has)); is = refl }
+  peeled_from (too_large more) = record {
     source = unit;
-    is_tree = too_large (subst (λ n. 10_000 < n) count_is more);
+    is_peeled = too_large (subst (λ n. 10_000 < n) count_is more);
     is = refl;
   }
-  tree_from (is_peeled activity has fits) = record {
+  peeled_from (with_turns activity has fits) = record {
     source = record unit { body = peeled unit.body };
-    is_tree = is_peeled activity (walk_from has) (subst (λ n. n ≤ 10_000) count_is fits);
+    is_peeled = with_turns activity (walk_from has) (subst (λ n. n ≤ 10_000) count_is fits);
     is = peeled_is;
   }
 
-  pub tree_to : {tree : UnitDef} → IsTreeOfUnit unit tree → IsTreeOfUnit (placed_unit f unit) (placed_unit f tree)
-  tree_to (of_function function) = of_function function
-  tree_to (clean none) = clean (λ has. none (walk_from has))
-  tree_to (too_large more) = too_large (subst (λ n. 10_000 < n) (sym count_is) more)
-  tree_to (is_peeled activity has fits) =
-      subst (IsTreeOfUnit (placed_unit f unit)) peeled_is (is_peeled activity (walk_to has) (subst (λ n. n ≤ 10_000) (sym count_is) fits))
+  pub peeled_to : {peeled_unit : UnitDef} → IsPeeledUnit unit peeled_unit → IsPeeledUnit (placed_unit f unit) (placed_unit f peeled_unit)
+  peeled_to (of_function function) = of_function function
+  peeled_to (clean none) = clean (λ has. none (walk_from has))
+  peeled_to (too_large more) = too_large (subst (λ n. 10_000 < n) (sym count_is) more)
+  peeled_to (with_turns activity has fits) =
+      subst (IsPeeledUnit (placed_unit f unit)) peeled_is (with_turns activity (walk_to has) (subst (λ n. n ≤ 10_000) (sym count_is) fits))

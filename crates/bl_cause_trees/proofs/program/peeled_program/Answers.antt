@@ -1,7 +1,7 @@
 use Rattle.std.proofs.Common.{ap, subst, sym, ◌∙◌}
 use Rattle.bl_tree.specs.Program.{IsWellTyped}
 use Rattle.bl_cause_trees.specs.inner.Judging.{with_bodies}
-use Rattle.bl_cause_trees.proofs.program.tree_of.Goals as goal
+use Rattle.bl_cause_trees.proofs.program.peeled_program.Goals as goal
 
 pub program_of-requires : goal.program_of-requires
 program_of-requires c =
