@@ -232,10 +232,6 @@ candidates_removed edges by_data left k gone is lt none h = record {
       (remove_kept left k edge (h.all edge rest kind closed));
 }
 
-pub candidates_none : (nodes : List Node) (edges : List Edge) (by_data : Bool) → Candidates edges by_data [] →
-    (at : Place) (also : List Place) → BeginsWalk nodes edges by_data at also → ⊥
-candidates_none nodes edges by_data h at also begins = contains_none begins.edge (h.all begins.edge begins.rest begins.kind begins.closed)
-
 -- a walk that begins with the candidate at the least place begins first
 pub first_is_least : (nodes : List Node) (edges : List Edge) (by_data : Bool) (left : List Edge) (k : ℕ) (this : Edge) → this ≡ get_or left k this →
     k < length left →

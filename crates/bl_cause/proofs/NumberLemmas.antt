@@ -148,10 +148,6 @@ fall_along edges (edge ∷ row) s within h =
 
 -- ---- the nodes that were lowered, one after another
 
-pub fall_begun : (edges : List Edge) (numbers : List ℕ) (node number : ℕ) → node < length numbers → number ≤ slice_index numbers node →
-    NeverFall edges numbers → FallBefore edges (set numbers node number) (node ∷ []) []
-fall_begun edges numbers node number lt less h = lowered_one edges numbers [] [] node number lt less (λ edge there. inl (h edge there))
-
 pub fall_taken : (edges : List Edge) (numbers nodes : List ℕ) (node : ℕ) → FallBefore edges numbers (nodes ++ node ∷ []) [] →
     FallBefore edges numbers nodes (edges_into edges node)
 fall_taken edges numbers nodes node h edge there =

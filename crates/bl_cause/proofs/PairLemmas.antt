@@ -3,7 +3,6 @@ use Rattle.std.proofs.Common.{◌≡◌, ℕ, zero, suc, ◌+◌, ◌<◌, ◌�
 use Rattle.std.proofs.Common.{refl, sym, ap, subst, ◌∙◌}
 use Rattle.std.specs.Prelude.{Contains, filter, slice_get}
 use Rattle.std.proofs.lemmas.List.{take_all, take_more}
-use Rattle.std.proofs.lemmas.List.Elements.{filter-append}
 use Rattle.bl_cause.proofs.ListLemmas.{contains_cons, contains_head, contains_none, contains_tail}
 use Rattle.bl_cause.specs.Activities.{EachTwo}
 
@@ -44,23 +43,6 @@ module _ {A B : Type 0} (R : A → B → Type 0) where
 pub front_more : {X : Type 0} (xs : List X) (k : ℕ) (x : X) → k < length xs → x ≡ get_or xs k x → take (k + 1) xs ≡ take k xs ++ x ∷ []
 front_more xs k x inside is = take_more xs k x inside ∙ ap (λ y. take k xs ++ y ∷ []) (sym is)
 
--- what passes a test in the longer front: the element too, where it passes
-pub filtered_more : {X : Type 0} (p : X → Bool) (xs : List X) (k : ℕ) (x : X) → k < length xs → x ≡ get_or xs k x → p x ≡ true →
-    filter p (take (k + 1) xs) ≡ filter p (take k xs) ++ x ∷ []
-filtered_more p xs k x inside is passes =
-    ap (filter p) (front_more xs k x inside is) ∙ filter-append p (take k xs) (x ∷ [])
-    ∙ ap (λ (b : Bool). filter p (take k xs) ++ cond b (x ∷ []) []) passes
-
-pub filtered_same : {X : Type 0} (p : X → Bool) (xs : List X) (k : ℕ) (x : X) → k < length xs → x ≡ get_or xs k x → p x ≡ false →
-    filter p (take (k + 1) xs) ≡ filter p (take k xs)
-filtered_same p xs k x inside is fails =
-    ap (filter p) (front_more xs k x inside is) ∙ filter-append p (take k xs) (x ∷ [])
-    ∙ ap (λ (b : Bool). filter p (take k xs) ++ cond b (x ∷ []) []) fails ∙ none (filter p (take k xs))
-  where
-    none : {Y : Type 0} (ys : List Y) → ys ++ [] ≡ ys
-    none [] = refl
-    none (y ∷ ys) = ap (λ zs. y ∷ zs) (none ys)
-
 -- ---- elements of two lists
 
 pub contains_left : {X : Type 0} (xs ys : List X) (x : X) → Contains xs x → Contains (xs ++ ys) x
@@ -85,13 +67,6 @@ contains_either (a ∷ xs) last x h =
 
 pub whole_front : {X : Type 0} (xs : List X) (k : ℕ) → length xs ≤ k → take k xs ≡ xs
 whole_front xs k over = take_all k xs over
-
--- ---- elements that belong to those of a front
-
-pub each_more : {A B : Type 0} (R : A → B → Type 0) (xs longer : List A) (ys more : List B) (x : A) (y : B) → longer ≡ xs ++ x ∷ [] →
-    more ≡ ys ++ y ∷ [] → EachTwo R xs ys → R x y → EachTwo R longer more
-each_more R xs longer ys more x y one two each r =
-    subst (λ l. EachTwo R l more) (sym one) (subst (λ l. EachTwo R (xs ++ x ∷ []) l) (sym two) (each_push R xs ys x y each r))
 
 -- ---- elements by their positions
 

@@ -5,7 +5,7 @@ use Rattle.bl_tree.specs.declared.place.Place.{Place}
 use Rattle.bl_tree.specs.declared.rule.Rule.{Rule}
 use Rattle.bl_tree.specs.declared.rule.Rule.TheVariants as rule
 use Rattle.bl_tree.specs.declared.tree.Unit.{Unit as UnitDef}
-use Rattle.bl_tree.specs.Rules.{FailsFirst as FirstOf, Passes as NoneOf}
+use Rattle.bl_tree.specs.Rules.{Passes as NoneOf}
 use Rattle.bl_tree.specs.Typing.{is_activity}
 use Rattle.bl_cause.specs.Activities.{IsGraphOf}
 use Rattle.bl_cause.specs.Fails.{FailsCycle, FailsTwice}
@@ -27,10 +27,6 @@ abbrev pub Fails : List UnitDef → Rule → Place → List Place → Type 0
 Fails units rule.Twice at also = FailsInPeeled FailsTwice units at also
 Fails units rule.Cycle at also = FailsInPeeled FailsCycle units at also
 Fails units _ at also = ⊥
-
--- the rule is the first of Twice and Cycle that fails on peeled units, and fails first at these places
-abbrev pub FailsFirst : List UnitDef → Rule → Place → List Place → Type 0
-FailsFirst units = FirstOf (Fails units)
 
 -- neither Twice nor Cycle fails on peeled units
 abbrev pub Passes : List UnitDef → Type 0

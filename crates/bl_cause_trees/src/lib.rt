@@ -5,7 +5,7 @@
 //!
 //! `check` answers Ok exactly where neither rule fails on them, and gives the peeled program with its schedule: effects, tick graphs
 //! and orders. Where each activity stays as it is that program is the source, and nothing is copied. Else `check` names the first
-//! rule that fails, at its least place over all of them (`specs/Rules.antt`, `FailsFirst`); want of memory aside. `check_units` judges units
+//! rule that fails, at its least place over all of them (`specs/Rules.antt`, `Fails`); want of memory aside. `check_units` judges units
 //! that need not be a program's.
 //!
 //! Each activity is judged by its own tick graph first. One that passes keeps that graph and its order. For any other that graph is let

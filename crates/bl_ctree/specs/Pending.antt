@@ -79,7 +79,7 @@ abbrev mutual
 abbrev pub lie_over : Setting → ℕ → List Static → Location → Bool
 lie_over w i paths at = list_any (overlap at) (homes w i paths)
 
--- what a statement that begins can write before it pauses: the set `surface_writes` of the statement, as a list
+-- what a statement that begins can write before it pauses, as a list
 abbrev pub surface_over : Setting → ℕ → Located → Location → Bool
 surface_over w i s at = lie_over w i (surface_of s.stmt).writes at
 
