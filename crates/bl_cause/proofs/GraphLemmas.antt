@@ -1,6 +1,5 @@
--- The first failure over several graphs, and their orders.
-use Rattle.std.proofs.Common.{◌≡◌, ◌≤◌, arith, List, [], ◌∷◌, ◌++◌, ◌⊎◌, ⊎_elim, ◌∙◌}
-use Rattle.std.specs.Prelude.{⊤, if◌then◌else◌}
+-- The first failure over several graphs.
+use Rattle.std.proofs.Common.{◌≡◌, ◌≤◌, arith, List}
 use Rattle.bl_tree.specs.declared.graph.Graph.{Graph}
 use Rattle.bl_tree.specs.declared.place.Place.{Place}
 use Rattle.bl_tree.specs.declared.rule.Rule.{Rule}
