@@ -1,7 +1,7 @@
 -- The lines of functions, with their costs beside them.
 use Rattle.std.proofs.Common.{◌≡◌, ℕ, suc, ◌+◌, ◌<◌, ◌≤◌, List, [], ◌∷◌, ◌++◌, length, get_or, drop}
-use Rattle.std.proofs.Common.{refl, ap, sym, subst, ◌∙◌, append_assoc}
-use Rattle.std.proofs.lemmas.List.{append-nil, drop_all, get_or_default}
+use Rattle.std.proofs.Common.{refl, ap, subst, ◌∙◌, append_assoc}
+use Rattle.std.proofs.lemmas.List.{get_or_default}
 use Rattle.bl_tree.specs.declared.c.CFunc.{CFunc}
 use Rattle.bl_ctext_semantics.specs.Cost.{Costs, cost_of_function, costs_after}
 use Rattle.bl_ctext_semantics.specs.Tables.{no_entries, with_entry}
@@ -53,9 +53,3 @@ lines-next_at functions costs k f name other so_far more all within also is name
     let cost = get_or costs k other in
     lines-next functions costs k f cost so_far more all within also is (get_or_default costs k other cost also)
     (grown ∙ ap (λ n. so_far ++ line_text n cost) named) h
-
--- all of them
-pub lines-done : (functions : List CFunc) (costs : List Cost) (k : ℕ) (so_far all : List ℕ) → length functions ≤ k →
-    so_far ++ lines (drop k functions) (drop k costs) ≡ all → so_far ≡ all
-lines-done functions costs k so_far all past h =
-    sym (append-nil so_far) ∙ subst (λ l. so_far ++ lines l (drop k costs) ≡ all) (drop_all k functions past) h

@@ -1,5 +1,5 @@
 -- The first of several failures, list by list.
-use Rattle.std.proofs.Common.{◌≡◌, ℕ, zero, suc, ◌+◌, ◌<◌, ◌≤◌, Bool, true, false, ◌&&◌, ◌||◌, List, [], ◌∷◌, ◌++◌, map, length, get_or, drop, Option, None}
+use Rattle.std.proofs.Common.{◌≡◌, ℕ, zero, suc, ◌+◌, ◌<◌, ◌≤◌, Bool, true, false, ◌&&◌, ◌||◌, List, [], ◌∷◌, ◌++◌, map, length, get_or, drop, Option}
 use Rattle.std.proofs.Common.{refl, ap, sym, ◌∙◌, add-one, append_assoc, arith}
 use Rattle.std.proofs.Math.Seq.{drop-cons}
 use Rattle.bl_tree.proofs.ReduceLemmas.{joined-append}
@@ -23,11 +23,6 @@ pub least-append : {A : Type 0} (f : A → Failure) (best : Option Failure) (xs 
     → least_by f best (xs ++ ys) ≡ least_by f (least_by f best xs) ys
 least-append f best [] ys = refl
 least-append f best (x ∷ xs) ys = least-append f (lesser best (f x)) xs ys
-
--- four lists, one after another
-pub four_are : (a b c d : List Failure) → first_of (first_of (first_of (first_of None a) b) c) d ≡ first_of None (a ++ (b ++ (c ++ d)))
-four_are a b c d =
-    sym (first-append (first_of (first_of None a) b) c d) ∙ sym (first-append (first_of None a) b (c ++ d)) ∙ sym (first-append None a (b ++ (c ++ d)))
 
 -- one more list of failures
 pub first-next : {X : Type 0} (g : X → List Failure) (all rest : List X) (x : X) (best found : Option Failure) → all ≡ x ∷ rest →

@@ -1,6 +1,6 @@
 -- From the pieces of a text to the file that it spells.
 use Rattle.std.proofs.Common.{◌≡◌, ◌≢◌, ℕ, ◌≤◌, ◌<◌, ◌^◌, Bool, true, false, nat_le, ◌==◌, List, [], ◌∷◌, ◌++◌, length, map, drop, refl, sym, ap, ◌∙◌, subst}
-use Rattle.std.proofs.Common.{inl, inr, arith}
+use Rattle.std.proofs.Common.{arith}
 use Rattle.std.specs.Prelude.{Option, Some, None, MatchOption}
 use Rattle.std.specs.List.{starts_with}
 use Rattle.std.proofs.lemmas.Slice.Eq.{starts_is}
@@ -28,7 +28,7 @@ use Rattle.bl_cparse_syntax.proofs.Expecting.{expects_text}
 use Rattle.bl_cparse_syntax.proofs.Once.{no_failure}
 use Rattle.bl_cparse.specs.declared.refusal.CRefusal.{CRefusal}
 use Rattle.bl_cparse.specs.declared.refusal.CRefusal.TheVariants.{NotSubset, NoMemory}
-use Rattle.bl_cparse.specs.Places.{SpellsNone, RefusesNone, RefusesAt}
+use Rattle.bl_cparse.specs.Places.{SpellsNone, RefusesNone}
 use Rattle.bl_cparse.specs.inner.Reading.{part}
 use Rattle.bl_cparse.specs.Places.{WantsMemory}
 use Rattle.bl_cparse.proofs.ItemOpening.{file_opens}
@@ -88,11 +88,6 @@ passes_some text front passes none = by_file (spells_some (drop (length PRELUDE.
     by_file : (file : CFile) × SpacedC (tokens_of file.structs file.funcs) (drop (length PRELUDE.now) text) → ⊥
     by_file (file, spaced) = none file (drop (length PRELUDE.now) text, (front, spaced))
 
--- the place at which a text fails
-pub place_short : (text : List ℕ) (start at : ℕ) → length text ≤ 67108864 → FailsFirst text start at → at < 2 ^ 32
-place_short text start at short (inl piece) = let inside : at < length text = piece.there.inside in omega (arith, short, inside)
-place_short text start at short (inr end) = let is : at ≡ length text = end.at_end in omega (arith, short, is)
-
 pub place_is : (text : List ℕ) (at : ℕ) → FailsFirst text (length PRELUDE.now) at → FailsFirst text (length prelude) at
 place_is text at fails = subst (λ (p : List ℕ). FailsFirst text (length p) at) prelude_is fails
 
@@ -127,7 +122,3 @@ expected ts text is passes = file_opens (subst (λ (us : List Token). Expects (p
 pub wants_memory : (text : List ℕ) (r : CRefusal) → WantsMemory r → RefusesNone text r
 wants_memory text (NotSubset at) w = absurd w
 wants_memory text NoMemory w = tt
-
-pub may_refuse : (text : List ℕ) (r : CRefusal) → WantsMemory r → RefusesAt text r
-may_refuse text (NotSubset at) w = absurd w
-may_refuse text NoMemory w = tt

@@ -47,18 +47,9 @@ commas_more f before old mid new xs x any h comma k =
     h ∙ (ap (λ ts. with_commas (map f xs) ++ ts) (comma ∙ ap (λ ts. codes "," ∷ ts) k)
     ∙ (sym (append_assoc (with_commas (map f xs)) (codes "," ∷ f x) new) ∙ ap (λ ts. ts ++ new) (sym (commas_snoc f xs x any))))
 
-pub commas_first : {A : Type 0} (f : A → List Token) (old new : List Token) (x : A) → old ≡ f x ++ new → old ≡ with_commas (map f (x ∷ [])) ++ new
-commas_first f old new x h = h ∙ ap (λ ts. ts ++ new) (sym (append-nil (f x)))
-
-pub joined_first : {A : Type 0} (f : A → List Token) (old new : List Token) (x : A) → old ≡ f x ++ new → old ≡ joined (map f (x ∷ [])) ++ new
-joined_first f old new x h = h ∙ ap (λ ts. ts ++ new) (sym (append-nil (f x)))
-
 -- what is left is less where something was read
 pub shorter : (old ts new : List Token) → old ≡ ts ++ new → 1 ≤ length ts → length new < length old
 shorter old ts new h some = omega (arith, ap length h, length-append ts new)
-
-pub no_longer : (old ts new : List Token) → old ≡ ts ++ new → length new ≤ length old
-no_longer old ts new h = omega (arith, ap length h, length-append ts new)
 
 pub some_behind : (xs : List Token) (t : Token) (ys : List Token) → 1 ≤ length (xs ++ (t ∷ ys))
 some_behind xs t ys = omega (arith, length-append xs (t ∷ ys))

@@ -144,6 +144,3 @@ first_time (suc n) s = ap next_spot (first_time n s)
 pub past_times : (tokens : List Token) (s : TextSpot) → behind_tokens tokens s ≡ times (length tokens) s
 past_times [] s = refl
 past_times (t ∷ ts) s = past_times ts (next_spot s) ∙ first_time (length ts) s
-
-pub one_more : (n : ℕ) (s : TextSpot) → times (n + 1) s ≡ next_spot (times n s)
-one_more n s = let e : n + 1 ≡ suc n = omega arith in rw e refl

@@ -20,10 +20,6 @@ token_any : (t : Token) → is_token t ≡ true → has_any t ≡ true
 token_any [] h = cc
 token_any (b ∷ bs) h = refl
 
-pub word_any : (t : Token) → is_word t ≡ true → has_any t ≡ true
-word_any [] h = cc
-word_any (b ∷ bs) h = refl
-
 pub turn_name_any : (t : Token) → is_turn_name t ≡ true → has_any t ≡ true
 turn_name_any t h = token_any t (turn_name-token t h)
 

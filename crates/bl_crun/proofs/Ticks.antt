@@ -1,5 +1,5 @@
 -- What the start and the ticks of a file do to numbered cells.
-use Rattle.std.proofs.Common.{◌≡◌, ℕ, zero, suc, ◌+◌, ◌≤◌, ◌<◌, ℤ, pos, true, List, [], ◌∷◌, ◌++◌, map, length, take, drop, replicate, slice_get}
+use Rattle.std.proofs.Common.{◌≡◌, ℕ, zero, suc, ◌+◌, ◌≤◌, ◌<◌, ℤ, pos, true, List, [], ◌∷◌, ◌++◌, length, take, drop, replicate, slice_get}
 use Rattle.std.proofs.Common.{Some, refl, ap, sym, subst, ◌∙◌, arith, length-take-le}
 use Rattle.std.specs.Prelude.{codes, is_some}
 use Rattle.std.specs.List.{list_all}
@@ -31,9 +31,6 @@ use Rattle.bl_crun.proofs.Cells.{cells-long, cells-separate, numbers-made}
 use Rattle.bl_crun.proofs.Rows.{args-taken, columns-long, inputs-fit, inputs-long, inputs-set, outputs-fit, outputs-taken, ranges-are, within-taken}
 
 -- ---- a call from outside
-
-abbrev Kinds : List Cell → List Scalar
-Kinds cs = map (λ c. c.kind) cs
 
 module _ (file : Parts) (runs : IsRunnable file) where
   few : length (cells_of file) ≤ cells_needed file

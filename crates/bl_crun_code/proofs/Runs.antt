@@ -94,12 +94,6 @@ st r at cells temps count = record { at = at; base = r.base; cells = cells; temp
 abbrev pub From : Run → ℕ → ℕ → Cells → List ℤ → ℕ → StepResult → Type 0
 From r m at cells temps count end = (c : ℕ) → c + m ≡ count → Arrives r.code (st r at cells temps c) end
 
-pub from-now : (r : Run) (at : ℕ) (cells : Cells) (temps : List ℤ) (count : ℕ) (end : StepResult) → Arrives r.code (st r at cells temps count) end →
-    From r 0 at cells temps count end
-from-now r at cells temps count end h c is =
-    let same : count ≡ c = omega arith in
-    subst (λ n. Arrives r.code (st r at cells temps n) end) same h
-
 pub arrives-now : (r : Run) (at : ℕ) (cells : Cells) (temps : List ℤ) (count : ℕ) (end : StepResult) → From r 0 at cells temps count end →
     Arrives r.code (st r at cells temps count) end
 arrives-now r at cells temps count end h = h count (add-zero count)

@@ -38,9 +38,6 @@ with_args-one at k args cells h =
 
 -- ---- loops that set one cell after the other
 
-pub zero-begin : (size at : ℕ) (cells : Cells) → zeroed (at + size - at) at cells ≡ zeroed size at cells
-zero-begin size at cells = let e : at + size - at ≡ size = omega arith in rw e refl
-
 pub zero-more : (size at k : ℕ) (cells all : Cells) → k < at + size → zeroed (at + size - k) k cells ≡ all →
     zeroed (at + size - (k + 1)) (k + 1) (slice_set cells k (pos 0)) ≡ all
 zero-more size at k cells all less h =

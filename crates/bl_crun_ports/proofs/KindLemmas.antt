@@ -54,10 +54,6 @@ kinds-member structs m = by_length m.length (inner_of_type (scalars_of structs) 
     by_length None cells = kinds-inside (member m.name ∷ []) cells ∙ sym (append-nil (kinds_in cells))
     by_length (Some n) cells = kinds-repeated m.name cells n
 
-pub kinds-next : (structs : List CStruct) (m : CMember) (ms : List CMember) →
-    kinds_of_members structs (m ∷ ms) ≡ kinds_of_member structs m ++ kinds_of_members structs ms
-kinds-next structs m ms = kinds-append (inner_of_member (scalars_of structs) m) (flat_map (inner_of_member (scalars_of structs)) ms)
-
 pub kinds-at : (root : Root) (cells : List Inner) → map (λ cell. cell.kind) (cells_at root cells) ≡ kinds_in cells
 kinds-at root [] = refl
 kinds-at root (cell ∷ cells) = ap (λ l. cell.kind ∷ l) (kinds-at root cells)
@@ -216,32 +212,3 @@ module _ (name : Text) where
       there : (o : Option ℕ) → if_below end o ≡ Some at → at < end
       there None h = cc
       there (Some k) h = chosen k (nat_lt k end) refl h
-
--- ---- a map of places
-
-place-step : (o : Option ℕ) (here : Bool) (k : ℕ) (later : Option ℕ) →
-    option_or (option_or o (if here then Some k else None)) (option_map (λ j. k + 1 + j) later)
-    ≡ option_or o (option_map (λ j. k + j) (if here then Some 0 else option_map suc later))
-place-step (Some x) here k later = refl
-place-step None true k later = let same : k ≡ k + 0 = omega arith in ap Some same
-place-step None false k None = refl
-place-step None false k (Some j) = let same : k + 1 + j ≡ k + suc j = omega arith in ap Some same
-
--- one more place
-pub places-next : (old new t : Table ℕ) (all rest : List CStruct) (s : CStruct) (k : ℕ) → all ≡ s ∷ rest →
-    ((asked : Text) → new asked ≡ with_entry old s.name k asked) →
-    ((name : Text) → option_or (old name) (option_map (λ j. k + j) (struct_position name all)) ≡ t name) → (name : Text) →
-    option_or (new name) (option_map (λ j. k + 1 + j) (struct_position name rest)) ≡ t name
-places-next old new t all rest s k is add h name =
-    ap (λ o. option_or o (option_map (λ j. k + 1 + j) (struct_position name rest))) (add name)
-    ∙ place-step (old name) (bytes_eq s.name name) k (struct_position name rest)
-    ∙ ap (λ l. option_or (old name) (option_map (λ j. k + j) (struct_position name l))) (sym is) ∙ h name
-
-pub places-first : (o : Option ℕ) → option_map (λ j. 0 + j) o ≡ o
-places-first None = refl
-places-first (Some j) = let same : 0 + j ≡ j = omega arith in ap Some same
-
-pub places-done : (old t : Table ℕ) (rest : List CStruct) (k : ℕ) → rest ≡ [] →
-    ((name : Text) → option_or (old name) (option_map (λ j. k + j) (struct_position name rest)) ≡ t name) → (name : Text) → old name ≡ t name
-places-done old t rest k is h name = sym (nothing_after (old name))
-    ∙ ap (λ l. option_or (old name) (option_map (λ j. k + j) (struct_position name l))) (sym is) ∙ h name

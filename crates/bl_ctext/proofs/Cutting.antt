@@ -1,5 +1,5 @@
 -- What becomes of the tokens where bytes are put together.
-use Rattle.std.proofs.Common.{◌≡◌, ℕ, zero, suc, ◌-◌, Bool, true, false, List, [], ◌∷◌, ◌++◌, length, map, drop, Some, None, refl, append-nil, ◌∙◌}
+use Rattle.std.proofs.Common.{◌≡◌, ℕ, zero, suc, ◌-◌, Bool, true, false, List, [], ◌∷◌, ◌++◌, length, map, drop, Some, None, refl, ◌∙◌}
 use Rattle.std.proofs.Common.{ap, inl, inr}
 use Rattle.std.specs.Prelude.{slice_get}
 use native.Mathlib.Numerals.{unary_clauses}
@@ -14,11 +14,6 @@ meets-last [] ys a b h k = cc
 meets-last (x ∷ []) [] a b h k = cc
 meets-last (x ∷ []) (y ∷ ys) a b h k = let e : x ≡ a = cc in let f : y ≡ b = cc in rw (e, f) refl
 meets-last (x ∷ z ∷ xs) ys a b h k = meets-last (z ∷ xs) ys a b (simp unary_clauses (simp unary_clauses at h)) k
-
-pub meets-nothing_before : (xs ys : List ℕ) → slice_get xs (length xs - 1) ≡ None → may_merge xs ys ≡ false
-meets-nothing_before [] ys h = refl
-meets-nothing_before (x ∷ []) ys h = cc
-meets-nothing_before (x ∷ z ∷ xs) ys h = meets-nothing_before (z ∷ xs) ys (simp unary_clauses (simp unary_clauses at h))
 
 pub meets-nothing_behind : (xs ys : List ℕ) → slice_get ys 0 ≡ None → may_merge xs ys ≡ false
 meets-nothing_behind [] ys h = refl
@@ -87,10 +82,6 @@ tokens_in-append (b ∷ []) ys h = rw h (apart (is_blank b) b (tokens_in ys))
 tokens_in-append (b ∷ c ∷ xs) ys h =
     ap (λ (ts : List Token). cut_before (is_blank b) (joins b c) b ts) (tokens_in-append (c ∷ xs) ys h)
     ∙ continued (is_blank b) (joins b c) b (tokens_in (c ∷ xs)) (tokens_in ys) (λ (j : joins b c ≡ true). first_token c xs (joined-not_blank b c j).1)
-
--- a blank behind the bytes adds no token
-pub tokens_in-space : (xs : List ℕ) → tokens_in (xs ++ 32 ∷ []) ≡ tokens_in xs
-tokens_in-space xs = tokens_in-append xs (32 ∷ []) (before_a_space xs) ∙ append-nil (tokens_in xs)
 
 -- a word is one token of its bytes, and so is a sign
 word_bytes : (b : ℕ) (bs : List ℕ) → is_word_byte b ≡ true → all_of (map is_word_byte bs) ≡ true → tokens_in (b ∷ bs) ≡ (b ∷ bs) ∷ []

@@ -51,11 +51,6 @@ list-depth spells depth d (x ∷ xs) h =
     let rest : greatest (map depth xs) ≤ d = list-depth spells depth d xs (and-snd (spells x && nat_le (depth x) d) _ h) in
     omega arith
 
--- one more element
-pub list_all-push : {A : Type 0} (p : A → Bool) (xs : List A) (x : A) → list_all p xs ≡ true → p x ≡ true → list_all p (xs ++ x ∷ []) ≡ true
-list_all-push p [] x h i = rw i refl
-list_all-push p (y ∷ xs) x h i = rw (and-fst (p y) (list_all p xs) h) (list_all-push p xs x (and-snd (p y) (list_all p xs) h) i)
-
 pub step-fits : (d : ℕ) (name : List ℕ) → is_name name ≡ true → step_fits d (roll-CStep (record { member = name; index = None })) ≡ true
 unfolding step_fits
 step-fits d name h =

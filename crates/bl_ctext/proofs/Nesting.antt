@@ -119,10 +119,6 @@ nests-listed d false (part ∷ parts) (one, each) =
 pub nests-with_commas : (d : ℕ) (parts : List (List Token)) → EachNests d parts → Nests d (with_commas parts)
 nests-with_commas d parts each = nests-listed d true parts each
 
-pub each_nests-append : (d : ℕ) (xs ys : List (List Token)) → EachNests d xs → EachNests d ys → EachNests d (xs ++ ys)
-each_nests-append d [] ys x y = y
-each_nests-append d (part ∷ xs) ys (one, x) y = (one, each_nests-append d xs ys x y)
-
 -- what the whole comes to: as many are open at once as the depth says
 pub nests-most_open : (d : ℕ) (ts : List Token) → Nests d ts → most_open 0 ts ≤ d
 nests-most_open d ts c = omega (arith, c.within 0)

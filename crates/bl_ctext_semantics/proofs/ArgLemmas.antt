@@ -10,7 +10,7 @@ use Rattle.bl_tree.specs.declared.c.CArg.{CArg}
 use Rattle.bl_tree.specs.declared.c.CType.{CType}
 use Rattle.bl_tree.specs.Reduce.{any_of, joined}
 use Rattle.bl_ctext_semantics.proofs.FirstLemmas.{earlier_of-assoc, first_place-append}
-use Rattle.bl_ctext_semantics.specs.Faults.{Context, StepJudgement, judge_steps, earlier_of, first_place, Variable, Signature, JudgedArg, fit_each, fit_args}
+use Rattle.bl_ctext_semantics.specs.Faults.{Context, StepJudgement, judge_steps, earlier_of, first_place, Variable, Signature, JudgedArg, fit_each}
 use Rattle.bl_ctext_semantics.specs.inner.Checked.{is_handed, judged_args, fit_from, fits_nth, fits_param_at, wants_up_to}
 
 each-step : (widens : Bool) (params : List Variable) (k : ℕ) (a : JudgedArg) (rest : List JudgedArg) →
@@ -34,10 +34,6 @@ fit-step (Some s) k a rest = rw add-one (each-step s.widens s.params k a rest)
 pub fit-end : (signature : Option Signature) (k : ℕ) → fit_from signature k [] ≡ wants_up_to signature k
 fit-end None k = refl
 fit-end (Some s) k = each-end s.widens s.params k
-
-pub fit-start : (signature : Option Signature) (args : List JudgedArg) → fit_from signature 0 args ≡ fit_args signature args
-fit-start None args = refl
-fit-start (Some s) args = refl
 
 -- ---- one more argument
 

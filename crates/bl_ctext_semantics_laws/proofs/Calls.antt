@@ -1,5 +1,5 @@
 -- Calls in a C text and over numbered cells.
-use Rattle.std.proofs.Common.{◌≡◌, ℕ, ◌+◌, ◌≤◌, ℤ, Bool, true, false, List, map, Option, Some, None, refl, ap, sym, subst, ◌∙◌, arith}
+use Rattle.std.proofs.Common.{◌≡◌, ℕ, ◌+◌, ◌≤◌, ℤ, true, false, List, map, Option, Some, None, refl, ap, sym, subst, ◌∙◌, arith}
 use Rattle.std.specs.Prelude.{is_some, if◌then◌else◌}
 use Rattle.bl_tree.specs.declared.text.Text.{Text}
 use Rattle.bl_tree.specs.declared.scalar.Scalar.{Scalar}
@@ -91,9 +91,6 @@ module _ (known : Sizes) (lists : Lists) (structs : Structs) (shaped : Shaped kn
         range = builtin-ranged name b (map number_of_passed vs) is (subst (λ xs. in_ranges (builtin_params b) xs ≡ true) (sym f.0) f.1) s.result
             (sym (ap (λ x. x.result) e)) (builtin_value b (map number_of_passed vs)) refl;
       }
-
-  safe : Root → Bool
-  safe root = is_some (w.stand root)
 
   -- a call of a function of the file
   own-call : (name : Text) (s : Signature) (js : List JudgedArg) (vs : List ArgumentValue) (ns : List ℤ) (cells : Cells) → context.functions name ≡ Some s →

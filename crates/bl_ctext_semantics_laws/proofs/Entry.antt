@@ -19,7 +19,7 @@ use Rattle.bl_ctext_semantics.specs.Memory.{Projection, Root, state_object, inpu
 use Rattle.bl_ctext_semantics.specs.Memory.{same_root, value_at}
 use Rattle.bl_ctext_semantics.specs.Meaning.{ArgumentValue, applied as applied_c, meanings}
 use Rattle.bl_ctext_semantics.specs.Parts.{Parts}
-use Rattle.bl_ctext_semantics.specs.Sizes.{Sizes, cells_needed, chains_after, size_of_type, sizes}
+use Rattle.bl_ctext_semantics.specs.Sizes.{cells_needed, chains_after, size_of_type, sizes}
 use Rattle.bl_ctext_semantics.specs.Tables.{found, no_entries}
 use Rattle.bl_ctext_semantics.specs.Trace.{call_from_outside, object}
 use Rattle.bl_ctext_semantics.specs.Faults.{WellFormed, faults_in, function_faults_after, init_params, interface_structs, last_place, points_to}
@@ -31,7 +31,7 @@ use Rattle.bl_ctext_semantics_laws.specs.Laws.{SameCall, StartsAgree, TicksAgree
 use Rattle.bl_ctext_semantics_laws.specs.Flat.{Cells, applied, cell_at}
 use Rattle.bl_ctext_semantics_laws.proofs.Faultless.{unless-nil}
 use Rattle.bl_ctext_semantics_laws.proofs.Entries.{Apart}
-use Rattle.bl_ctext_semantics_laws.proofs.Ways.{Lists, Shaped, Structs, left-is, walk-append, walk-within, way_offset, ways-apart}
+use Rattle.bl_ctext_semantics_laws.proofs.Ways.{Shaped, Structs, left-is, walk-append, walk-within, way_offset, ways-apart}
 use Rattle.bl_ctext_semantics_laws.proofs.Standing.{Separate, Stand, Stands, World}
 use Rattle.bl_ctext_semantics_laws.proofs.Running.{AddressAt, CallAgrees, PassedAll}
 use Rattle.bl_ctext_semantics_laws.proofs.Values.{same-type}
@@ -102,12 +102,6 @@ value-in root memory before (i ∷ is) rest all =
     )
 
 module _ (file : Parts) (formed : WellFormed file) where
-  abbrev known : Sizes
-  known = sizes file.structs
-
-  abbrev lists : Lists
-  lists = lists_of file.structs
-
   abbrev structs : Structs
   structs = struct_table file.structs
 

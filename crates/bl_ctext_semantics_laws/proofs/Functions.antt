@@ -30,7 +30,7 @@ use Rattle.bl_ctext_semantics_laws.specs.Reaching.{Ground}
 use Rattle.bl_ctext_semantics_laws.specs.Flat.{Routine, block_flat, frame_begun, ground_of, routine_flat, with_args, zeroed}
 use Rattle.bl_ctext_semantics_laws.proofs.Faultless.{unless-nil}
 use Rattle.bl_ctext_semantics_laws.proofs.Entries.{offset_of, sum_of}
-use Rattle.bl_ctext_semantics_laws.proofs.Ways.{Lists, Shaped, Structs}
+use Rattle.bl_ctext_semantics_laws.proofs.Ways.{Shaped, Structs}
 use Rattle.bl_ctext_semantics_laws.proofs.Standing.{Stands, World, zero-fits}
 use Rattle.bl_ctext_semantics_laws.proofs.Running.{Agrees, Ends, FunctionAs, Keeps, Ranged, Running, Unsafe}
 use Rattle.bl_ctext_semantics_laws.proofs.Statements.{EndRanged, RunAgrees, body-agrees}
@@ -140,9 +140,6 @@ module _ (file : Parts) (shaped : Shaped (sizes file.structs) (lists_of file.str
     (small : limit ≤ 1000000) where
   abbrev known : Sizes
   known = sizes file.structs
-
-  abbrev lists : Lists
-  lists = lists_of file.structs
 
   abbrev structs : Structs
   structs = struct_table file.structs

@@ -174,10 +174,6 @@ module _ (file : Parts) (formed : WellFormed file)
 
   -- ---- ports
 
-  -- the struct of a name has a pad and then ports
-  abbrev Ported : Text → List CMember → Type 0
-  Ported prefix ms = are_ports prefix ms ≡ true
-
   interface-so : (table : Table (Table CMember)) (depths : Table ℕ) (rest : List CStruct) (name : Text) (ms : List CMember) →
       struct_faults_after table depths rest ≡ [] →
       found name (map (λ s. (s.name, s.members)) rest) ≡ Some ms → (P : List CMember → Bool) →

@@ -82,10 +82,6 @@ module _ (hs : List (List Location)) (j : ℕ) (changed : List Location) (spots 
       let old = at_flag m within in
       before ∙ mixed_same now was m old.0 (flags_past hs j changed spots was m past ∙ old.1) old.1
 
-cond_same : {A : Type 0} (b : Bool) (x : A) → cond b x x ≡ x
-cond_same true x = refl
-cond_same false x = refl
-
 cond_both : {A : Type 0} (b c : Bool) (x y : A) → cond c x (cond b x y) ≡ cond (b || c) x y
 cond_both true true x y = refl
 cond_both true false x y = refl

@@ -3,14 +3,9 @@ use Rattle.std.proofs.Common.{◌≡◌, ◌≢◌, ℕ, zero, suc, ◌+◌, ◌
 use Rattle.std.proofs.Common.{refl, sym, ap, ◌∙◌, arith}
 use Rattle.std.specs.Prelude.{Some, None, option_map, slice_get, slice_set}
 use Rattle.std.proofs.lemmas.Option.{slice_get-get_or}
-use Rattle.bl_ctree_enabled.specs.Listing.{flagged, all_flagged, list_at, trues}
+use Rattle.bl_ctree_enabled.specs.Listing.{flagged, list_at, trues}
 
 -- ---- one element is set
-
-pub set_length : {A : Type 0} (xs : List A) (k : ℕ) (x : A) → length (slice_set xs k x) ≡ length xs
-set_length [] k x = refl
-set_length (y ∷ xs) zero x = refl
-set_length (y ∷ xs) (suc k) x = ap suc (set_length xs k x)
 
 pub set_map : {A B : Type 0} (f : A → B) (xs : List A) (k : ℕ) (x : A) → map f (slice_set xs k x) ≡ slice_set (map f xs) k (f x)
 set_map f [] k x = refl
@@ -103,13 +98,6 @@ mixed_many (x ∷ xs) [] k many = absurd (omega (arith, many))
 mixed_many (x ∷ xs) (y ∷ ys) zero many = many
 mixed_many (x ∷ xs) (y ∷ ys) (suc k) many = ap suc (mixed_many xs ys k (omega (arith, many)))
 
--- before the first element and behind the last
-pub mixed_start : {A : Type 0} (xs ys : List A) → take 0 xs ++ drop 0 ys ≡ ys
-mixed_start [] [] = refl
-mixed_start [] (y ∷ ys) = refl
-mixed_start (x ∷ xs) [] = refl
-mixed_start (x ∷ xs) (y ∷ ys) = refl
-
 pub mixed_end : {A : Type 0} (xs ys : List A) (k : ℕ) → length ys ≡ length xs → length xs ≤ k → take k xs ++ drop k ys ≡ xs
 mixed_end [] [] zero many past = refl
 mixed_end [] [] (suc k) many past = refl
@@ -160,26 +148,6 @@ flagged_first bs xs k x flag here = λ i. slice_get (flagged (drop_here bs k tru
 pub flagged_not : {A : Type 0} (bs : List Bool) (xs : List A) (k : ℕ) (x : A) → slice_get bs k ≡ Some false → slice_get xs k ≡ Some x
     → flagged (drop k bs) (drop k xs) ≡ flagged (drop (suc k) bs) (drop (suc k) xs)
 flagged_not bs xs k x flag here = λ i. flagged (drop_here bs k false flag i) (drop_here xs k x here i)
-
-pub all_flagged_here : {A : Type 0} (fs : List (List Bool)) (ms : List (List A)) (k : ℕ) (f : List Bool) (m : List A) →
-    slice_get fs k ≡ Some f → slice_get ms k ≡ Some m
-    → all_flagged (drop k fs) (drop k ms) ≡ flagged f m ++ all_flagged (drop (suc k) fs) (drop (suc k) ms)
-all_flagged_here fs ms k f m flag here = λ i. all_flagged (drop_here fs k f flag i) (drop_here ms k m here i)
-
--- ---- trues among flags
-
-pub trues_more : (flags : List Bool) (k : ℕ) (b : Bool) → slice_get flags k ≡ Some b → trues (drop k flags) ≡ trues (b ∷ drop (suc k) flags)
-trues_more flags k b is = ap trues (drop_here flags k b is)
-
-pub trues_end : (flags : List Bool) (k : ℕ) → length flags ≤ k → trues (drop k flags) ≡ 0
-trues_end [] zero past = refl
-trues_end [] (suc k) past = refl
-trues_end (b ∷ flags) zero past = absurd (omega arith)
-trues_end (b ∷ flags) (suc k) past = trues_end flags k (omega arith)
-
-pub trues_start : (flags : List Bool) → trues (drop 0 flags) ≡ trues flags
-trues_start [] = refl
-trues_start (b ∷ flags) = refl
 
 -- ---- one element is read
 

@@ -1,7 +1,7 @@
 -- A listing shows the points of the branches, and goes on showing them when one branch changes.
 use Rattle.std.proofs.Common.{◌≡◌, ◌≢◌, ℕ, zero, suc, ◌+◌, Bool, true, false, ◌&&◌, List, [], ◌∷◌, ◌++◌, map, filter, take, drop, length, refl, sym, ap, ◌∙◌}
 use Rattle.std.proofs.Common.{subst, arith, if◌then◌else◌}
-use Rattle.std.specs.Prelude.{Some, slice_get, slice_set}
+use Rattle.std.specs.Prelude.{slice_set}
 use Rattle.bl_ctree.specs.Actions.{Silent}
 use Rattle.bl_ctree.specs.Control.{Control, Branches, Nil, Wait, Test, Idle, Do, Turn, Seq, Par, Guard, Run, no_branch, branch, are_done, are_settled}
 use Rattle.bl_ctree.specs.Control.{is_settled}
@@ -17,7 +17,6 @@ use Rattle.bl_ctree_enabled.specs.Listing.{EnabledView, Fork, IsRight, Lists, al
 use Rattle.bl_ctree_enabled.specs.Listing.{listing_in, spots_from, spots_in, top_of, trues, with_branch}
 use Rattle.bl_ctree_enabled.specs.Spots.{Spot, homes_seen, is_free_of, moved, spot_below}
 use Rattle.bl_ctree_enabled.proofs.BranchLemmas.{branches_start, branches_step, is_free, spot_from}
-use Rattle.bl_ctree_enabled.proofs.FlagLemmas.{own_same}
 use Rattle.bl_ctree_enabled.proofs.ListLemmas.{flagged_filter}
 use Rattle.bl_ctree_enabled.proofs.NodeLemmas.{each_of, of_each}
 
@@ -27,14 +26,6 @@ pub flags_many : (hs : List (List Location)) (k : ℕ) (ms : List (List Spot)) �
 flags_many hs k [] = refl
 flags_many hs k (m ∷ ms) = ap suc (flags_many hs (suc k) ms)
 
-pub flags_get : (hs : List (List Location)) (j k : ℕ) (ms : List (List Spot)) (m : List Spot) → slice_get ms k ≡ Some m
-    → slice_get (flags_from hs j ms) k ≡ Some (flags_of hs (j + k) m)
-flags_get hs j k [] m is = absurd cc
-flags_get hs j zero (x ∷ ms) m is =
-    let same : x ≡ m = cc in let here : j ≡ j + 0 = omega arith in λ i. Some (flags_of hs (here i) (same i))
-flags_get hs j (suc k) (x ∷ ms) m is =
-    let next : suc j + k ≡ j + suc k = omega arith in flags_get hs (suc j) k ms m is ∙ ap (λ n. Some (flags_of hs n m)) next
-
 pub flags_set : (hs : List (List Location)) (j k : ℕ) (ms : List (List Spot)) (m : List Spot)
     → slice_set (flags_from hs j ms) k (flags_of hs (j + k) m) ≡ flags_from hs j (slice_set ms k m)
 flags_set hs j k [] m = refl
@@ -43,11 +34,6 @@ flags_set hs j (suc k) (x ∷ ms) m =
     let next : j + suc k ≡ suc j + k = omega arith in
     ap (λ n. flags_of hs j x ∷ slice_set (flags_from hs (suc j) ms) k (flags_of hs n m)) next
     ∙ ap (λ rest. flags_of hs j x ∷ rest) (flags_set hs (suc j) k ms m)
-
--- a branch's own homes don't count for its flags
-pub flags_own : (hs : List (List Location)) (k : ℕ) (x : List Location) (m : List Spot) → flags_of (slice_set hs k x) k m ≡ flags_of hs k m
-flags_own hs k x [] = refl
-flags_own hs k x (spot ∷ m) = λ i. own_same hs k x spot i ∷ flags_own hs k x m i
 
 -- ---- the points of the branches
 

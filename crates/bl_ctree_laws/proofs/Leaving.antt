@@ -130,10 +130,6 @@ mutual
   busy_of (of_guard around check left) e = refl
   busy_of (of_run at is around check left) e = refl
 
--- all that is around what is woken stood
-all_stood : {stood : Bool} → stood ≡ true → true ≡ true
-all_stood e = refl
-
 mutual
   wakes : {w : Setting} {stood : Bool} {i : ℕ} {body : Block} {c : Tree} → PlainResidual w stood i body c → PlainResidual w true i body (woken c)
   wakes nothing = nothing

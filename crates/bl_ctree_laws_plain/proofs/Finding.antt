@@ -1,6 +1,6 @@
 -- The statement of a body with a label.
-use Rattle.std.proofs.Common.{◌≡◌, ◌∙◌, ℕ, zero, suc, ◌+◌, Bool, true, false, List, [], ◌∷◌, ◌++◌, Option, Some, None, refl, sym, ap, subst}
-use Rattle.std.proofs.Common.{arith, drop}
+use Rattle.std.proofs.Common.{◌≡◌, ◌∙◌, ℕ, zero, suc, ◌+◌, Bool, true, false, List, [], ◌∷◌, ◌++◌, Option, Some, None, refl, sym, ap}
+use Rattle.std.proofs.Common.{drop}
 use Rattle.std.specs.Prelude.{option_and_then, option_map, slice_get}
 use Rattle.bl_tree.specs.declared.tree.Arm.{Arm, out-Arm}
 use Rattle.bl_tree.specs.declared.tree.Branch.{Branch, out-Branch}
@@ -53,9 +53,6 @@ stmt_at body (k ∷ b ∷ rest) = option_and_then (λ s. stmt_at (block_in (stmt
 
 none_is : {X A : Type 0} (x : X) → None ≡ Some x → A
 none_is x e = absurd (cc)
-
-some_is : {X : Type 0} (x y : X) → Some x ≡ Some y → x ≡ y
-some_is x y e = cc
 
 -- the statements of a block of a statement stand behind its position
 pub at_block : (body : List Stmt) (position : Position) (s : Stmt) (b k : ℕ) → stmt_at body position ≡ Some s →

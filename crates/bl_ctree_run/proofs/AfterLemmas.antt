@@ -130,11 +130,6 @@ after_in_moved w i [] k path d = refl
 after_in_moved w i (b ∷ bs) zero path d = refl
 after_in_moved w i (b ∷ bs) (suc k) path d = ap (branch b.weak b.tree) (after_in_moved w i bs k path d)
 
-pub first_and_rest : (path : List ℕ) (k : ℕ) (rest : List ℕ) → 0 < length path → k ≡ get_or path 0 k → rest ≡ drop 1 path →
-    path ≡ k ∷ rest
-first_and_rest [] k rest within is_k is_rest = absurd (omega arith)
-first_and_rest (j ∷ path) k rest within is_k is_rest = λ i. sym is_k i ∷ (sym is_rest ∙ refl) i
-
 pub seen_out : (b : Branch) → seen_of b ≡ record { weak = (out-Branch b).weak; tree = control_of (out-Branch b).tree }
 seen_out b = fold_out-Branch Control Seen node_control branch_seen b
 

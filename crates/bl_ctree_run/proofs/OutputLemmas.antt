@@ -1,5 +1,5 @@
 -- No action takes a variable from an instance, so the store has a value for each output throughout.
-use Rattle.std.proofs.Common.{◌≡◌, ℕ, zero, suc, ◌+◌, ◌-◌, ◌≤◌, ℤ, Bool, true, false, List, [], ◌∷◌, ◌++◌, length, map, min, take, drop, Option, Some, None}
+use Rattle.std.proofs.Common.{◌≡◌, ℕ, zero, suc, ◌+◌, ◌-◌, ◌≤◌, ℤ, Bool, true, false, List, [], ◌∷◌, ◌++◌, length, min, take, drop, Option, Some, None}
 use Rattle.std.proofs.Common.{refl, sym, ap, ◌∙◌, subst, arith, ◌&&◌}
 use Rattle.std.specs.Prelude.{Result, Ok, Err, nat_le, option_and_then, option_map, slice_get, slice_set, unwrap_or}
 use Rattle.std.proofs.lemmas.Bool.{leb-true}
@@ -14,23 +14,22 @@ use Rattle.bl_tree.specs.declared.tree.StmtKind.TheOpen.{StmtKind-F}
 use Rattle.bl_tree.specs.declared.tree.StructDef.{StructDef}
 use Rattle.bl_tree.specs.declared.tree.Unit.{Unit as UnitDef}
 use Rattle.bl_tree.specs.declared.value.Value.{Value}
-use Rattle.bl_tree.specs.declared.value.Value.TheVariants.{Number}
 use Rattle.bl_tree.specs.Program.{roles_stand, unit_stands, units_stand_after}
 use Rattle.bl_eval.specs.declared.values.Did.{Did}
 use Rattle.bl_eval.specs.declared.values.Did.TheVariants.{Done, Trap}
 use Rattle.bl_eval.specs.Values.{put_at, with_value_at}
 use Rattle.bl_ctree.specs.Actions.{acted_kind, given_to, outcome_there, result_at, value_there, values_there, with_result}
 use Rattle.bl_ctree.specs.declared.instance.Instance.{Instance}
-use Rattle.bl_ctree.specs.Instances.{Setting, expanded, instances_below, instances_of, runs_of, setting_of, unit_at, unit_of}
+use Rattle.bl_ctree.specs.Instances.{Setting, unit_at, unit_of}
 use Rattle.bl_ctree.specs.Positions.{stmt_kind}
-use Rattle.bl_ctree.specs.Store.{Frame, Location, Store, aged, first_frame, first_store, frame_at_first, home, number_or_zero, outputs_of_frame, put, put_path}
-use Rattle.bl_ctree.specs.Store.{put_written, remember, with_frame, with_inputs, with_now, woken_store, zeros}
+use Rattle.bl_ctree.specs.Store.{Frame, Location, Store, first_frame, first_store, frame_at_first, home, number_or_zero, outputs_of_frame, put, put_path}
+use Rattle.bl_ctree.specs.Store.{put_written, remember, with_frame, with_inputs, with_now, zeros}
 use Rattle.bl_tree.specs.declared.static_path.Static.{Static}
 use Rattle.bl_tree.specs.Effects.{writes}
 use Rattle.bl_ctree_store.specs.declared.perform.Deed.{Deed}
 use Rattle.bl_ctree_store.specs.declared.perform.Deed.TheVariants.{Silent, Acts, Copies, Gives}
 use Rattle.bl_ctree_store.specs.Deeds.{Carried, deed_on}
-use Rattle.bl_ctree_run.specs.Outputs.{HasOutputs, count_of_outputs, outputs_of_unit}
+use Rattle.bl_ctree_run.specs.Outputs.{HasOutputs, outputs_of_unit}
 
 -- the second frame has no fewer variables
 pub data Covers : Option Frame → Option Frame → Type 0 where
@@ -181,19 +180,6 @@ deed_grows w i (Gives callee target) store new is =
     let same : given_to w i target.now (result_at store callee) store ≡ new = cc in
     subst (λ (new : Store). Grows store new) same (given_grows w i target.now (result_at store callee) store)
 
-aged_covers : (f : Option Frame) → Covers f (option_map aged f)
-aged_covers None = no_frame
-aged_covers (Some f) = no_fewer (le_refl (length f.now))
-
-aged_grow : (store : Store) → Grows store (map aged store)
-aged_grow store = record {
-  at = λ i. subst (λ (g : Option Frame). Covers (slice_get store i) g) (sym (slice_get-map aged store i))
-      (aged_covers (slice_get store i));
-}
-
-pub woken_grows : (row : List ℤ) (store : Store) → Grows store (woken_store row store)
-woken_grows row store = grows_on (aged_grow store) (changed_grows 0 (with_inputs (map Number row)) (map aged store) (inputs_grow (map Number row)))
-
 -- ---- the row
 
 abbrev row : Option UnitDef → Option Frame → List ℤ
@@ -275,21 +261,3 @@ module _ (w : Setting) (stands : units_stand_after w.structs [] w.units ≡ true
   -- the store of a run that has not begun
   pub outputs_start : HasOutputs w (first_store w)
   outputs_start = ap (λ f. length (row (unit_at w 0) f)) (slice_get-map (frame_at_first w) w.instances 0) ∙ first_row (slice_get w.instances 0)
-
--- ---- the entry
-
-entry_unit : (structs : List StructDef) (units : List UnitDef) (entry : ℕ) (all : List Instance) (below : UnitDef → List Instance)
-    (unit : Option UnitDef) → slice_get units entry ≡ unit
-    → all ≡ unwrap_or (option_map (λ unit. record { unit = entry; depth = 0; origin = None } ∷ below unit) unit) []
-    → unit_at (record { structs = structs; units = units; instances = all }) 0 ≡ unit
-entry_unit structs units entry all below None is is_all = ap (λ all. unit_at (record { structs = structs; units = units; instances = all }) 0) is_all
-entry_unit structs units entry all below (Some unit) is is_all =
-    ap (λ all. unit_at (record { structs = structs; units = units; instances = all }) 0) is_all ∙ is
-
--- instance 0 is of the entry's unit
-pub entry_first : (structs : List StructDef) (units : List UnitDef) (entry : ℕ) →
-    count_of_outputs (setting_of structs units entry) ≡ outputs_of_unit (slice_get units entry)
-entry_first structs units entry =
-    ap (λ unit. outputs_of_unit unit)
-    (entry_unit structs units entry (instances_of units entry) (λ unit. instances_below (expanded units entry) 1 (runs_of unit)) (slice_get units entry) refl
-    (let more : entry + 1 ≡ suc entry = omega arith in ap (λ longest. expanded units longest entry) more))

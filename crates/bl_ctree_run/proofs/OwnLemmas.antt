@@ -23,10 +23,6 @@ pub data Own : List (Point Control) → Type 0 where
   no_point : Own []
   one_point : (p : Point Control) → p.path ≡ [] → Own (p ∷ [])
 
-own_if : (b : Bool) (p : Point Control) → p.path ≡ [] → Own (if b then p ∷ [] else [])
-own_if true p e = one_point p e
-own_if false p e = no_point
-
 own_called : (w : Setting) (i : ℕ) (s : Located) (inputs : List Expr) (callee : Option ℕ)
     → Own (or_nothing (option_and_then (λ callee. option_map (run_begins w i s (Copies callee inputs) callee) (unit_at w callee)) callee))
 own_called w i s inputs None = no_point

@@ -1,11 +1,7 @@
 -- What is noted of branches tells what those beside one of them may still write.
 use Rattle.std.proofs.Common.{◌≡◌, ◌≢◌, ℕ, zero, suc, ◌+◌, ◌<◌, ◌≤◌, Bool, true, false, not, cond, ◌&&◌, ◌||◌, List, [], ◌∷◌, ◌++◌, map, filter, take, drop}
-use Rattle.std.proofs.Common.{length, Some, None, refl, sym, ap, ◌∙◌, arith, append_assoc, append-nil, nat_cmp, nat_eq, eq-eqb}
-use Rattle.std.specs.Prelude.{unwrap_or}
-use Rattle.std.specs.BTreeMap.{is_at}
-use Rattle.std.specs.Cmp.{unsigned_tied}
+use Rattle.std.proofs.Common.{refl, sym, ap, ◌∙◌, arith, append_assoc, nat_eq, eq-eqb}
 use Rattle.std.specs.List.{list_any}
-use Rattle.std.specs.Map.{lookup}
 use Rattle.std.proofs.lemmas.List.Elements.{filter-append}
 use Rattle.std.proofs.lemmas.List.Folds.{list_any-append}
 use Rattle.bl_tree.specs.Static.{is_front, overlaps}
@@ -14,56 +10,18 @@ use Rattle.bl_ctree.specs.Nodes.{Seen}
 use Rattle.bl_ctree.specs.Store.{Location, overlap}
 use Rattle.bl_ctree_store.specs.declared.home.Home.{Home}
 use Rattle.bl_ctree_store.specs.Seen.{location_of}
-use Rattle.bl_ctree_store.proofs.KeyLemmas.{both_equal, both_true, nat_same}
+use Rattle.bl_ctree_store.proofs.KeyLemmas.{both_true, nat_same}
 use Rattle.bl_ctree_run.specs.declared.writers.Write.{Write as WriteNode}
 use Rattle.bl_ctree_enabled.specs.Spots.{Spot, homes_seen, is_free_of, meets_one, taken}
-use Rattle.bl_ctree_run.specs.inner.Writers.{Write, all_writes, is_beside, is_free, is_met, key_at, key_cmp, of_variable, same_variable, write_of, writes_by}
+use Rattle.bl_ctree_run.specs.inner.Writers.{Write, all_writes, is_beside, is_free, is_met, of_variable, same_variable, writes_by}
 use Rattle.bl_ctree_run.specs.inner.Writers.{writes_from, writes_kept}
 use Rattle.bl_ctree_enabled.proofs.BranchLemmas.{any_or, any_same, map-append, not_or}
-use Rattle.bl_ctree_run.proofs.BranchLemmas.{drop_all, none_left}
+use Rattle.bl_ctree_run.proofs.BranchLemmas.{drop_all}
 
 -- ---- as it is kept
 
--- a key is that of a home where it is a part of the same variable
-same_key : (home at : Location) → is_at (key_cmp (key_at home)) (key_at at) ≡ same_variable home at
-same_key home at =
-    both_equal (nat_cmp home.instance at.instance) (nat_cmp home.path.root at.path.root)
-    ∙ (λ i. unsigned_tied home.instance at.instance i && unsigned_tied home.path.root at.path.root i)
-
 abbrev Entries : Type 0
 Entries = List ((ℕ × ℕ) × List WriteNode)
-
-kept_same : (entries : Entries) (home at : Location) → same_variable home at ≡ true → writes_kept entries home ≡ writes_kept entries at
-kept_same entries home at is =
-    let both = both_true (nat_eq home.instance at.instance) (nat_eq home.path.root at.path.root) is in
-    λ i. map write_of (unwrap_or (lookup (is_at (key_cmp
-    (nat_same home.instance at.instance both.0 i, nat_same home.path.root at.path.root both.1 i))) entries) [])
-
--- one more home
-pub noted_one : (old between new : Entries) (k : ℕ) (home : Home) (writes : List WriteNode) (at : Location)
-    → lookup (is_at (key_cmp (key_at at))) between ≡ cond (is_at (key_cmp (key_at (location_of home))) (key_at at)) None
-    (lookup (is_at (key_cmp (key_at at))) old)
-    → lookup (is_at (key_cmp (key_at at))) new ≡ cond (is_at (key_cmp (key_at (location_of home))) (key_at at)) (Some writes)
-    (lookup (is_at (key_cmp (key_at at))) between)
-    → writes ≡ unwrap_or (lookup (is_at (key_cmp (key_at (location_of home)))) old) [] ++ record { branch = k; home = home } ∷ []
-    → writes_kept new at ≡ writes_kept old at ++ of_variable at (writes_by k (location_of home ∷ []))
-noted_one old between new k home writes at is_between is_new is_writes =
-    ap (λ found. map write_of (unwrap_or found [])) (is_new
-    ∙ ap (λ found. cond (is_at (key_cmp (key_at (location_of home))) (key_at at)) (Some writes) found) is_between)
-    ∙ ap (λ b. map write_of (unwrap_or (cond b (Some writes) (cond b None (lookup (is_at (key_cmp (key_at at))) old))) [])) (same_key (location_of home) at)
-    ∙ by (same_variable (location_of home) at) refl
-  where
-    one : Write
-    one = record { branch = k; home = location_of home }
-
-    by : (b : Bool) → same_variable (location_of home) at ≡ b
-        → map write_of (unwrap_or (cond b (Some writes) (cond b None (lookup (is_at (key_cmp (key_at at))) old))) []) ≡ writes_kept old at
-        ++ cond b (one ∷ []) []
-    by true same =
-        ap (map write_of) is_writes
-        ∙ map-append write_of (unwrap_or (lookup (is_at (key_cmp (key_at (location_of home)))) old) []) (record { branch = k; home = home } ∷ [])
-        ∙ ap (λ before. before ++ one ∷ []) (kept_same old (location_of home) at same)
-    by false same = sym (append-nil (writes_kept old at))
 
 by-append : (k : ℕ) (xs ys : List Location) → writes_by k (xs ++ ys) ≡ writes_by k xs ++ writes_by k ys
 by-append k [] ys = refl
@@ -84,11 +42,6 @@ noted_more at k done home old between new is_between is_new =
     ∙ ap (λ xs. old ++ of_variable at xs) (sym (by-append k (map location_of done) (location_of home ∷ [])))
     ∙ ap (λ xs. old ++ of_variable at (writes_by k xs)) (sym (map-append location_of done (home ∷ [])))
 
--- before the loop over the branches
-pub branches_start : (at : Location) (w : Setting) (i : ℕ) (all : List Seen) →
-    of_variable at (writes_from 0 (map (homes_seen w i) (drop 0 all))) ≡ of_variable at (all_writes (map (homes_seen w i) all))
-branches_start at w i all = ap (λ all. of_variable at (writes_from 0 (map (homes_seen w i) all))) (drop_all all)
-
 -- one more branch
 pub branch_noted : (at : Location) (w : Setting) (i : ℕ) (all : List Seen) (k next : ℕ) (b : Seen) (old new whole : List Write) →
     next ≡ suc k → drop k all ≡ b ∷ drop (suc k) all
@@ -104,12 +57,6 @@ branch_noted at w i all k next b old new whole is_next here is_new before =
     ∙ ap (λ xs. old ++ xs) (sym (near-append at one rest))
     ∙ ap (λ all. old ++ of_variable at (writes_from k (map (homes_seen w i) all))) (sym here)
     ∙ before
-
--- behind the last branch
-pub branches_end : (at : Location) (w : Setting) (i : ℕ) (all : List Seen) (k : ℕ) (done whole : List Write) → length all ≤ k
-    → done ++ of_variable at (writes_from k (map (homes_seen w i) (drop k all))) ≡ whole → done ≡ whole
-branches_end at w i all k done whole past before =
-    sym (ap (λ rest. done ++ of_variable at (writes_from k (map (homes_seen w i) rest))) (none_left all k past) ∙ append-nil done) ∙ before
 
 -- ---- what is met
 

@@ -55,9 +55,6 @@ records_then P Q R splits first second a b c one other at =
 pub no_element : {A : Type 0} (x : A) → Contains [] x → ⊥
 no_element x there = let below = there.1 in omega arith
 
-pub records_none : (table : List Effect) → TableRecords (StandsIn []) table table
-records_none table at = inl (record { same = refl; none = λ s stands. absurd (no_element stands.outer stands.is_there) })
-
 stands_cases : (xs ys : List Stmt) (s : Stmt) → StandsIn (xs ++ ys) s → StandsIn xs s ⊎ StandsIn ys s
 stands_cases xs ys s stands =
     ⊎_elim (λ there. inl (record { outer = stands.outer; is_there = there; within = stands.within }))
@@ -83,10 +80,6 @@ gathers_then r1 w1 r2 w2 xs ys p q r a b c one other = record {
   writes_grow = other.writes_grow ∙ ap (λ found. found ++ w2) one.writes_grow ∙ append_assoc p.writes w1 w2;
   records = records_append xs ys a b c one.records other.records;
 }
-
--- nothing stands there
-pub gathers_none : (r w : List Static) (p q : Paths) (a : List Effect) → q.reads ≡ p.reads ++ r → q.writes ≡ p.writes ++ w → Gathers r w [] p q a a
-gathers_none r w p q a reads writes = record { reads_grow = reads; writes_grow = writes; records = records_none a }
 
 -- an expression before a block
 pub reads_before : (r rs ws : List Static) (xs : List Stmt) (p q s : Paths) (a b : List Effect)
@@ -139,11 +132,6 @@ module _ {A : Type 0} (f g : A → List Static) (h : A → List Stmt) where
       take_over [] (suc k) over = refl
       take_over (x ∷ xs) zero over = absurd (omega arith)
       take_over (x ∷ xs) (suc k) over = ap (λ rest. x ∷ rest) (take_over xs k (omega arith))
-
-  -- of none
-  pub gathers_start : (xs : List A) (p : Paths) (a : List Effect) →
-      Gathers (joined (map f (take 0 xs))) (joined (map g (take 0 xs))) (joined (map h (take 0 xs))) p p a a
-  gathers_start xs p a = gathers_none [] [] p p a (sym (append-nil p.reads)) (sym (append-nil p.writes))
 
 pub singles : (xs : List Stmt) → joined (map (λ s. s ∷ []) xs) ≡ xs
 singles [] = refl

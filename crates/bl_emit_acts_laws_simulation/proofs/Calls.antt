@@ -48,7 +48,7 @@ use Rattle.bl_emit_acts_laws_simulation.proofs.Arguments.{ArgsShow, own_name, pa
 use Rattle.bl_emit_acts_laws_simulation.proofs.Cells.{lies_inside, set_elsewhere, set_inside}
 use Rattle.bl_emit_acts_laws_simulation.proofs.Evaluated.{call-does, passes}
 use Rattle.bl_emit_acts_laws_simulation.proofs.Expressions.{callee_there, inputs_shown, made_shows}
-use Rattle.bl_emit_acts_laws_simulation.proofs.Outputs.{OutputAt, OutputsAt, outputs_at, outputs_fit, outputs_hold, outputs_read, pass_outputs, places_at, values_at}
+use Rattle.bl_emit_acts_laws_simulation.proofs.Outputs.{OutputsAt, outputs_at, outputs_fit, outputs_hold, outputs_read, pass_outputs, places_at, values_at}
 use Rattle.bl_emit_acts_laws_simulation.proofs.Parts.{holds_same}
 use Rattle.bl_emit_acts_laws_simulation.proofs.Places.{listed-answer}
 use Rattle.bl_emit_acts_laws_simulation.proofs.Statements.{Ends, call_after, call_ends, one_ends}
@@ -102,9 +102,6 @@ module _ (structs : List StructDef) (units : List UnitDef) (entry : ℕ) (k : �
 
   abbrev copied : ℕ → Bool
   copied = is_copied copies
-
-  abbrev Output : Path → Var → Type 0
-  Output = OutputAt structs units entry k unit view copies scope here keeps b
 
   abbrev Outputs : List Path → List Var → Type 0
   Outputs = OutputsAt structs units entry k unit view copies scope here keeps b

@@ -1,7 +1,7 @@
 -- What the parts of made C texts come to.
-use Rattle.std.proofs.Common.{◌≡◌, ℕ, ℤ, pos, Bool, List, [], ◌∷◌, map, Option, Some, None, refl, ap}
+use Rattle.std.proofs.Common.{◌≡◌, ℕ, ℤ, pos, Bool, List, [], ◌∷◌, map, Some, refl, ap}
 use Rattle.std.proofs.Common.{◌∙◌, subst}
-use Rattle.std.specs.Prelude.{option_and_then, option_map}
+use Rattle.std.specs.Prelude.{option_map}
 use Rattle.bl_tree.specs.declared.text.Text.{Text}
 use Rattle.bl_tree.specs.declared.scalar.Op.{Op}
 use Rattle.bl_tree.specs.declared.scalar.Op.TheVariants.{Not}
@@ -38,15 +38,6 @@ passes = fold-CArg (Evaluates ArgumentValue) (Evaluates CValue) (Scope → Memor
     (Evaluates Location) (Evaluates (List Projection)) arg_step kind_step call_step expr_step index_step place_step step_step
 
 -- ---- answers
-
--- an answer after another
-pub next-answer : {A B : Type 0} (first : Counted A) (rest : A → Counted B) →
-    (next first rest).answer ≡ option_and_then (λ a. (rest a).answer) first.answer
-next-answer {A = A} {B = B} first rest = by first.count first.answer
-  where
-    by : (n : ℕ) (o : Option A) → (next (record { count = n; answer = o }) rest).answer ≡ option_and_then (λ a. (rest a).answer) o
-    by n None = refl
-    by n (Some a) = refl
 
 module _ (scope : Scope) (memory : Memory) where
   -- ---- expressions

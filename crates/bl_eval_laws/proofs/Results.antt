@@ -56,10 +56,6 @@ choice_by sure first rest (Some false) body next now less other one more = weake
 no_left : (a b : Bool) → a ≡ false → (a && b) ≡ false
 no_left a b is = rw is refl
 
-no_right : (a b : Bool) → b ≡ false → (a && b) ≡ false
-no_right true b is = is
-no_right false b is = refl
-
 no_middle : (a b c : Bool) → (b && c) ≡ false → ((a && b) && c) ≡ false
 no_middle true b c is = is
 no_middle false b c is = refl

@@ -30,10 +30,10 @@ use Rattle.bl_graph.specs.Listed.{edges_of, flows_of, resumes_of}
 use Rattle.bl_graph.specs.Marks.{Marked, part_in, part_of}
 use Rattle.bl_graph.specs.inner.Made.{Adds, BlockMade, ChainMade, ChoiceMade, Closing, IsNode, Makes, Names, NamesEntry, Naming, Open, Pairwise, StatementMade}
 use Rattle.bl_graph.specs.inner.Made.{TurnMade, Whole, flow_of, kinded, whole_in, whole_of}
-use Rattle.bl_graph.specs.inner.Parts.{choice_part, endless_part, followed, guarded_links, guarded_part, into_block, link_if, links_each, links_from, nothing}
+use Rattle.bl_graph.specs.inner.Parts.{choice_part, endless_part, followed, guarded_links, guarded_part, into_block, link_if, links_each, links_from}
 use Rattle.bl_graph.specs.inner.Parts.{past, side_by_side, until_part, while_part}
 use Rattle.bl_graph.proofs.Following.{after, block_after, names_after}
-use Rattle.bl_graph.proofs.Making.{choice_opens, endless_makes, follow_makes, guarded_makes, nothing_makes, turn_makes, until_makes, while_makes}
+use Rattle.bl_graph.proofs.Making.{choice_opens, endless_makes, follow_makes, guarded_makes, turn_makes, until_makes, while_makes}
 use Rattle.bl_graph.proofs.Marking.{names, names_in}
 use Rattle.bl_graph.proofs.Numbering.{names_back, names_front}
 
@@ -118,9 +118,6 @@ module _ (naming : Naming) where
   leads_in (s ∷ body) at n names = leads_at s (at ++ 0 ∷ []) n _ names
 
 -- ---- a block
-
-pub block_empty : (first : ℕ) (links : Links) → BlockMade [] first nothing links links
-block_empty first links at naming names = nothing_makes naming links
 
 pub block_more : (body : List Stmt) (s : Stmt) (first next : ℕ) (made more result : Made) (l0 l1 l2 : Links) (control : List Edge)
     → next ≡ first + length made.flows → BlockMade body first made l0 l1 → StatementMade s next more l1 l2

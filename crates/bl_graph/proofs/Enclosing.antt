@@ -52,9 +52,6 @@ module _ (l : Label) (at : Place) (guard : Guard) (e : Expr) (body : Block) (ful
   abbrev so : Bool
   so = are_instant body
 
-  abbrev e_mark : Mark
-  e_mark = begun_by guard
-
   abbrev ends : Mark
   ends = body_ends guard body (part_in body).outs
 

@@ -20,9 +20,6 @@ use Rattle.bl_graph.proofs.NoteLemmas.{tells_same}
 
 -- ---- lists with the same edges
 
-same_none : (xs : List Edge) → SameEdges xs (xs ++ [])
-same_none xs edge = (λ there. subst (λ ys. Contains ys edge) (sym (append-nil xs)) there, λ there. subst (λ ys. Contains ys edge) (append-nil xs) there)
-
 same_then : (before bs cs xs ys : List Edge) → SameEdges bs (before ++ xs) → SameEdges cs (bs ++ ys) → SameEdges cs (before ++ (xs ++ ys))
 same_then before bs cs xs ys one two = subst (SameEdges cs) (append_assoc before xs ys) (λ edge. (
   λ there. elim (Contains-append_cases bs ys edge ((two edge).0 there)) [
@@ -37,9 +34,6 @@ same_then before bs cs xs ys one two = subst (SameEdges cs) (append_assoc before
 
 -- ---- gains
 
-pub gains_none : (found : Found) → Gains found found []
-gains_none found = record { recalls = λ h. h; same = λ h. same_none found.edges }
-
 pub gains_then : (a b c : Found) (xs ys : List Edge) → Gains a b xs → Gains b c ys → Gains a c (xs ++ ys)
 gains_then a b c xs ys one two = record {
   recalls = λ h. two.recalls (one.recalls h);
@@ -48,19 +42,6 @@ gains_then a b c xs ys one two = record {
 
 pub gains_same : (a b : Found) (xs ys : List Edge) → xs ≡ ys → Gains a b xs → Gains a b ys
 gains_same a b xs ys is = subst (Gains a b) is
-
--- an edge that is remembered
-pub gains_known : (found : Found) (edge : Edge) → edge.by_data ≡ true → Contains found.latest edge → Gains found found (edge ∷ [])
-gains_known found edge kind known = record {
-  recalls = λ h. h;
-  same = λ h other. (
-    Contains-append_left found.edges (edge ∷ []) other,
-    λ there. elim (Contains-append_cases found.edges (edge ∷ []) other there) [
-      | inl first ↦ first
-      | inr second ↦ subst (Contains found.edges) (is_one edge other second) (h edge known kind)
-    ],
-  );
-}
 
 -- an edge that is added
 pub gains_edge : (a b : Found) (edge : Edge) → b.edges ≡ a.edges ++ edge ∷ [] →
@@ -212,9 +193,6 @@ pub ends_by : (branches : List Span) (last k : ℕ) (d : Span) → k < length br
 ends_by branches last k d lt by = by (get_or branches k d) (Contains-get_or branches k d lt)
 
 -- ---- edges that are remembered
-
-pub known_at : (xs : List Edge) (at : ℕ) (x edge : Edge) → at < length xs → x ≡ get_or xs at x → x ≡ edge → Contains xs edge
-known_at xs at x edge lt is same = subst (Contains xs) (sym is ∙ same) (Contains-get_or xs at x lt)
 
 pub set_cases : (xs : List Edge) (at : ℕ) (y x : Edge) → Contains (slice_set xs at y) x → Contains xs x ⊎ (y ≡ x)
 set_cases [] at y x there = inl there

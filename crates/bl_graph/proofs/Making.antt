@@ -21,7 +21,7 @@ use Rattle.bl_graph.specs.Marks.{Mark, Marked, again_by, begun_by, body_ends, en
 use Rattle.bl_graph.specs.Marks.{turn_ends, where_marked}
 use Rattle.bl_graph.specs.inner.Made.{Adds, IsEdge, IsNode, IsOut, Makes, Names, NamesEntry, Naming, Open, Pairwise, flow_of, turning, whole_in, whole_of}
 use Rattle.bl_graph.specs.inner.Parts.{act_part, again_of, bare, bare_if, choice_part, endless_part, ends_by, exit_of, followed, guarded_links, guarded_part}
-use Rattle.bl_graph.specs.inner.Parts.{guarded_to, into_block, is_nothing, link_if, links_each, links_from, moved_flow, moved_out, node, nothing, number_if}
+use Rattle.bl_graph.specs.inner.Parts.{guarded_to, into_block, is_nothing, link_if, links_each, links_from, moved_flow, moved_out, node, number_if}
 use Rattle.bl_graph.specs.inner.Parts.{out, out_if, pause_part, some_mark, turned, until_part, while_part}
 use Rattle.bl_graph.proofs.Following.{Same, after, edges_after, edges_with, exit, exit_is, flows_after, made_empty, nodes_after, outs_after, resumes_after}
 use Rattle.bl_graph.proofs.Following.{same_back, same_both, same_itself, same_swap}
@@ -39,16 +39,6 @@ flows_append [] ys = refl
 flows_append (x ∷ xs) ys = ap (λ fs. flow_of x ∷ fs) (flows_append xs ys)
 
 module _ (naming : Naming) where
-  -- nothing
-  pub nothing_makes : (links : Links) → Makes naming (whole_in Done) nothing links links
-  nothing_makes links = record {
-    flows = refl;
-    outs = tt;
-    resumes = tt;
-    control = adds_none false naming links.control;
-    by_data = adds_none true naming links.by_data;
-  }
-
   -- a statement after a block
   pub follow_makes : (b : Block) (s : Plain) (next : ℕ) (made more : Made) (l0 l1 l2 l3 : Links) → Makes naming (whole_in b) made l0 l1
       → Makes naming (whole_of s) more l1 l2 → naming next ≡ Some (entry s) → l3.control ≡ l2.control ++ links_each made.outs next

@@ -34,9 +34,6 @@ pub and_cases : (a b : Bool) → (a && b) ≡ true → (a ≡ true) × (b ≡ tr
 and_cases true b is = (refl, is)
 and_cases false b is = cc
 
-pub is_not : (a : Bool) → a ≡ true → a ≡ false → ⊥
-is_not a one two = cc
-
 -- ---- a node with a mark in a list
 
 abbrev pub At : List Marked → Node → Mark → Type 0
@@ -112,10 +109,6 @@ pub is_where : (deep : Bool) (test : Bool) (m : Marked) (n : Node) → Is deep (
     (test ≡ true) × (n ≡ m.node) × (pick deep m.mark ≡ true)
 is_where deep test m n is =
     let h = at_where test m n is.mark is.there in (h.0, h.1, sym (ap (pick deep) h.2) ∙ is.so)
-
-pub where_is : (deep : Bool) (test : Bool) (m : Marked) (n : Node) → test ≡ true → n ≡ m.node → pick deep m.mark ≡ true →
-    Is deep (where_marked test m) n
-where_is deep test m n is same so = record { mark = m.mark; there = where_at test m n is same; so = so }
 
 -- ---- moved
 

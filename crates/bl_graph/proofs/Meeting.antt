@@ -28,9 +28,6 @@ le_self n = omega arith
 lt_of : (m n : ℕ) → m ≤ n → (m ≡ n → ⊥) → m < n
 lt_of m n le other = omega arith
 
-le_of : (m n : ℕ) → m < n → m ≤ n
-le_of m n lt = omega arith
-
 front_is : (xs ys : List ℕ) → is_front xs ys ≡ true → (length xs ≤ length ys) × (xs ≡ take (length xs) ys)
 front_is [] ys is = (le_none (length ys), refl)
 front_is (x ∷ xs) [] is = absurd (cc)

@@ -153,15 +153,6 @@ module _ (kind : Bool) (naming : Naming) where
     };
   }
 
--- two lists of pairs after another in either order
-pub swapped : {A : Type 0} (xs ys : List A) (x : A) → Contains (xs ++ ys) x → Contains (ys ++ xs) x
-swapped xs ys x there = ⊎_elim (λ t. Contains-append_right ys xs x t) (λ t. Contains-append_left ys xs x t) (Contains-append_cases xs ys x there)
-
-pub swapped_after : {A : Type 0} (front xs ys : List A) (x : A) → Contains (front ++ (xs ++ ys)) x → Contains (front ++ (ys ++ xs)) x
-swapped_after front xs ys x there =
-    ⊎_elim (λ t. Contains-append_left front (ys ++ xs) x t) (λ t. Contains-append_right front (ys ++ xs) x (swapped xs ys x t))
-    (Contains-append_cases front (xs ++ ys) x there)
-
 -- ---- control edges
 
 module _ (naming : Naming) where

@@ -13,7 +13,7 @@ use Rattle.bl_graph.specs.Edges.{BodyEnd, Edge, EdgeAll, EdgeEach, Entry, Guarde
 use Rattle.bl_graph.specs.Marks.{Mark, again_by, begun_by, body_ends, entered, join_mark, last_end, leaves, marked, moved, part_in, part_of, parts_of, resets}
 use Rattle.bl_graph.specs.Marks.{resumed, some_of, turn_ends, where_marked}
 use Rattle.bl_graph.specs.Walks.{Reached, on, stay}
-use Rattle.bl_graph.proofs.Marking.{At, Is, SomeMarked, Twice, at_cases, at_left, at_moved, at_right, at_where, from_leaves_depth, from_leaves_surface}
+use Rattle.bl_graph.proofs.Marking.{At, Is, SomeMarked, at_cases, at_left, at_moved, at_right, at_where, from_leaves_depth, from_leaves_surface}
 use Rattle.bl_graph.proofs.Marking.{is_cases, is_split, is_where, moved_at, moved_depth, moved_surface, or_cases, pick, some_from}
 use Rattle.bl_graph.proofs.Passing.{joins_at_once, later}
 use Rattle.bl_graph.proofs.Walking.{walk_more, walk_on}
@@ -248,10 +248,6 @@ module _ (weak : Bool) (body : Block) (rest : Bodies) (l : Label) (at : Place) (
 
   from_resume : (n : Node) → Is true (part_in body).nodes n → Reached (ResumeEach (Body weak body rest)) AllEdges n
   from_resume n is = reached_more (λ k m h. inl h) (λ m h. inl h) n (one.depth n is)
-
-  both_leave : Twice (cond weak (part_in body).nodes (part_in body).outs) → Twice (part_in body).nodes
-  both_leave twice = let h = joins_of weak body one twice.node twice.mark twice.there in
-      record { node = twice.node; mark = twice.mark; there = h.0; surface = twice.surface; depth = twice.depth }
 
   to_depth_join : {F : Node → Type 0} (n : Node) (k : Mark) → At (cond weak (part_in body).nodes (part_in body).outs) n k → k.depth ≡ true →
       Reached F AllEdges n → Reached F AllEdges (DepthJoinAt l at)

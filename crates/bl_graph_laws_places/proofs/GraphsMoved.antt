@@ -16,7 +16,7 @@ use Rattle.bl_graph_nodes.specs.Plain.{Block, plain_body}
 use Rattle.bl_graph_laws_places.specs.Laws.{IsMovedGraph, TickGraphsMove}
 use Rattle.bl_graph_laws_places.specs.Placed.{placed_block, placed_graph_node, placed_node, placed_nodes}
 use Rattle.bl_graph_laws_places.proofs.Edges.{block_edge_moves, data_edge_moves}
-use Rattle.bl_graph_laws_places.proofs.Nodes.{block_back, block_nodes_move, node_back, shown_moves}
+use Rattle.bl_graph_laws_places.proofs.Nodes.{block_back, block_nodes_move, shown_moves}
 use Rattle.bl_graph_laws_places.proofs.Plains.{plain_bodies_move}
 
 -- the nodes of a body as the graph shows them

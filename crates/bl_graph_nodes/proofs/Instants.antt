@@ -34,10 +34,6 @@ or_apart : (a b c : Bool) → ((a || b) || c) ≡ (a || (b || c))
 or_apart true b c = refl
 or_apart false b c = refl
 
-or_none : (a : Bool) → (a || false) ≡ a
-or_none true = refl
-or_none false = refl
-
 and_all : (a : Bool) → (a && true) ≡ a
 and_all true = refl
 and_all false = refl

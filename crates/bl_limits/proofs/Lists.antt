@@ -17,15 +17,6 @@ pub first-append : (best : Option Failure) (xs ys : List Failure) → first_of b
 first-append best [] ys = refl
 first-append best (x ∷ xs) ys = first-append (lesser best x) xs ys
 
--- five lists, one after another
-pub five_are : (a b c d e : List Failure)
-    → first_of (first_of (first_of (first_of (first_of None a) b) c) d) e ≡ first_of None (a ++ (b ++ (c ++ (d ++ e))))
-five_are a b c d e =
-    sym (first-append (first_of (first_of (first_of None a) b) c) d e)
-    ∙ sym (first-append (first_of (first_of None a) b) c (d ++ e))
-    ∙ sym (first-append (first_of None a) b (c ++ (d ++ e)))
-    ∙ sym (first-append None a (b ++ (c ++ (d ++ e))))
-
 pub next_of : {X : Type 0} (xs : List X) (k : ℕ) (x : X) → k < length xs → x ≡ get_or xs k x → drop k xs ≡ x ∷ drop (k + 1) xs
 next_of xs k x within is = rw add-one (drop-cons xs k x within ∙ ap (λ y. y ∷ drop (suc k) xs) (sym is))
 

@@ -90,10 +90,6 @@ module _ (n : ℕ) where
   first : (j : ℕ) (xs : List ℕ) → j < n → Below xs → Below (j ∷ xs)
   first = All-cons (λ j. j < n)
 
-  each_below : {A : Type 0} (f : A → List ℕ) (xs : List A) → All (λ x. Below (f x)) xs → Below (joined (map f xs))
-  each_below f [] all = none
-  each_below f (x ∷ xs) all = both (f x) (joined (map f xs)) (All-head (λ x. Below (f x)) x xs all) (each_below f xs (All-tail (λ x. Below (f x)) x xs all))
-
   -- what has a type names positions below
   abbrev Good : {A : Type 0} → (A → Option Ty) → (A → List ℕ) → A → Type 0
   Good types names x = (ty : Ty) → types x ≡ Some ty → Below (names x)

@@ -9,8 +9,8 @@ use Rattle.bl_link.proofs.Trees.{joined_lexes, part_tokens_pass}
 use Rattle.bl_link.proofs.Turns.{good_parts}
 use Rattle.bl_link.specs.declared.fault.LinkFault.{LinkFault}
 use Rattle.bl_link.specs.Fits.{PartsFit, faces_of, part_texts}
-use Rattle.bl_link.specs.inner.Whole.{ArePartsOf, IsOfFew, IsReadable, TellsIn}
-use Rattle.bl_link.specs.Linked.{AreLinked, HaveTree, LinkStops}
+use Rattle.bl_link.specs.inner.Whole.{ArePartsOf, IsReadable, TellsIn}
+use Rattle.bl_link.specs.Linked.{HaveTree, LinkStops}
 use Rattle.bl_module.specs.Parts.{SeenPart}
 use Rattle.bl_module_laws.proofs.Read.{JoinedLex, JoinedPass}
 use Rattle.bl_module_laws.specs.Files.{AreGoodFiles}
@@ -37,23 +37,8 @@ readable lex pass one parts joined is are short =
 pub texts_count : (parts : List SeenPart) → length (part_texts parts) ≡ length parts
 texts_count parts = length-map parts (λ (it : SeenPart). it.text)
 
-pub of_few : (parts : List SeenPart) (joined : Joined) → IsJoinedOf (part_texts parts) joined → 1 ≤ length parts → length parts ≤ 64 → IsOfFew joined
-of_few parts joined is some few = record {
-  texts = part_texts parts;
-  is = is;
-  some = subst (λ n. 1 ≤ n) (sym (texts_count parts)) some;
-  few = subst (λ n. n ≤ 64) (sym (texts_count parts)) few;
-}
-
 pub tree_in : (texts : List (List ℕ)) (joined : Joined) (raw : Raw) → IsJoinedOf texts joined → Parses joined.text.items raw → HaveTree texts raw
 tree_in texts joined raw is parses = subst (λ (text : List ℕ). Parses text raw) is.text parses
-
-pub are_linked : (parts : List SeenPart) (joined : Joined) (raw : Raw) (program : Program) → PartsFit parts → IsJoinedOf (part_texts parts) joined →
-    Parses joined.text.items raw → TreePasses raw → IsProgramOf raw program → AreLinked parts program
-are_linked parts joined raw program fit is parses passes of = record {
-  fit = fit;
-  have = record { raw = raw; tree = tree_in (part_texts parts) joined raw is parses; passes = passes; is = of };
-}
 
 -- the joined texts of parts are short enough for a small tree
 pub of_small : SpelledAreSmall → (joined : Joined) (raw : Raw) (program : Program) → length joined.text.items < 2 ^ 32 →

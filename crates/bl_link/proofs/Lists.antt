@@ -1,6 +1,5 @@
 -- Lists whose first elements agree.
-use Rattle.std.proofs.Common.{◌≡◌, ℕ, ◌+◌, ◌<◌, ◌≤◌, zero, suc, List, [], ◌∷◌, ◌++◌, length, map, take, refl, sym, ap, ◌∙◌, subst, inl, inr, arith}
-use Rattle.std.proofs.lemmas.Bool.{cases_lt}
+use Rattle.std.proofs.Common.{◌≡◌, ℕ, ◌+◌, ◌<◌, ◌≤◌, zero, suc, List, [], ◌∷◌, ◌++◌, length, map, take, refl, sym, ap, ◌∙◌, arith}
 use Rattle.std.proofs.lemmas.List.{length-map, map-append}
 use Rattle.std.proofs.lemmas.Option.{get_or_from_slice_get, same_Some, slice_get-map, slice_get_within}
 use Rattle.std.proofs.Math.Seq.{take-suc}
@@ -54,15 +53,6 @@ agree-at f g xs ys k x y same at there =
 
 pub agree-length : {A B C : Type 0} (f : A → C) (g : B → C) (xs : List A) (ys : List B) → map f xs ≡ map g ys → length xs ≡ length ys
 agree-length f g xs ys same = sym (length-map xs f) ∙ ap length same ∙ length-map ys g
-
--- what holds at all positions before the next one
-pub below-next : (P : ℕ → Type 0) (k : ℕ) → ((j : ℕ) → j < k → P j) → P k → (j : ℕ) → j < k + 1 → P j
-below-next P k before here j less = elim (cases_lt j k) [
-  | inl earlier ↦ before j earlier
-  | inr later ↦
-      let same : k ≡ j = omega (arith, later, less) in
-      subst P same here
-]
 
 -- ---- elements at the end
 

@@ -4,21 +4,17 @@ use Rattle.std.proofs.Common.{sym, take}
 use Rattle.std.proofs.lemmas.Bool.{cases_order}
 use Rattle.std.proofs.lemmas.Bool.Decides.{nat_tests}
 use Rattle.std.proofs.lemmas.List.{length-take-le, take_all}
-use Rattle.std.proofs.lemmas.List.Elements.{All-nil, All-push}
+use Rattle.std.proofs.lemmas.List.Elements.{All-push}
 use Rattle.std.proofs.lemmas.Option.{same_Some, slice_get_read, slice_get_within}
 use Rattle.std.specs.Prelude.{All, Some, nat_eq, slice_get}
-use Rattle.std.specs.List.{list_any}
 use Rattle.bl_joined.specs.declared.joined.Joined.{Joined}
 use Rattle.bl_joined.specs.Joined.{IsJoinedOf}
-use Rattle.bl_joined.specs.Texts.{joined_text}
 use Rattle.bl_lex.specs.Tokens.{Lexes}
-use Rattle.bl_link.proofs.Joining.{text_short}
-use Rattle.bl_link.proofs.Linking.{of_small, tree_in}
-use Rattle.bl_link.proofs.Lists.{get-end, get-take, take-next}
+use Rattle.bl_link.proofs.Linking.{tree_in}
+use Rattle.bl_link.proofs.Lists.{get-take, take-next}
 use Rattle.bl_link.proofs.Trees.{joined_lexes}
 use Rattle.bl_link.specs.Files.{AreFilesOf}
 use Rattle.bl_link_together.specs.Alone.{AreJoinedAlone, EachStandsAlone, StandsAlone}
-use Rattle.bl_module.specs.Rules.{is_marked}
 use Rattle.bl_module_laws.proofs.Read.{JoinedLex}
 use Rattle.bl_module_laws.specs.Laws.{MarksAreInLast, ParsesAlone, PassingFilesAreGood}
 use Rattle.bl_parse.specs.Programs.{Spells}
@@ -35,15 +31,6 @@ pub record Joins (texts : List (List ℕ)) (k : ℕ) (joined : Joined) : Type 0 
   pub stand : EachStandsAlone (length texts) (take k texts)
   pub is : IsJoinedOf (take k texts) joined
   pub short : length joined.text.items ≤ 1_048_577 * k
-
-pub joins_none : (texts : List (List ℕ)) (joined : Joined) → IsJoinedOf [] joined → Joins texts 0 joined
-joins_none texts joined is = record {
-  within = omega arith;
-  alone = All-nil ParsesAlone;
-  stand = λ k text there. absurd (cc);
-  is = is;
-  short = let none : length joined.text.items ≡ 0 = ap length is.text in omega (arith, none);
-}
 
 module _ (texts : List (List ℕ)) (k : ℕ) (text : List ℕ) (less : k < length texts) (at : text ≡ get_or texts k text) where
   there : slice_get texts k ≡ Some text

@@ -3,11 +3,8 @@ use Rattle.std.proofs.Common.{◌≡◌, ℕ, ◌∙◌, ◌<◌, ◌^◌, Bool,
 use Rattle.std.proofs.Common.{subst, arith}
 use Rattle.std.specs.Prelude.{⊤, nat_eq}
 use Rattle.std.proofs.lemmas.Bool.Decides.{nat_tests}
-use Rattle.bl_cause_trees.specs.Rules.{Fails as GraphsFail, Passes as GraphsPass}
-use Rattle.bl_effects.specs.Rules.{Fails as UnitsFail, Passes as UnitsPass}
-use Rattle.bl_lex.specs.Rules.{Fails as TextFails, Passes as TextPasses}
+use Rattle.bl_lex.specs.Rules.{Passes as TextPasses}
 use Rattle.bl_lex.specs.Tokens.{Lexes}
-use Rattle.bl_limits.specs.Rules.{NestingFails, NestingPasses}
 use Rattle.bl_names_scopes.specs.Marks.{Marks, marks_of}
 use Rattle.bl_names_scopes.specs.Rules.{FailsBehind as NamesFail, FailsDuplicate, FailsKind, FailsUnknown, PassesBehind as NamesPass}
 use Rattle.bl_names_scopes.specs.Scopes.{Scopes, opened_by}
@@ -34,47 +31,10 @@ use Rattle.bl_module.specs.Behind.{outside_text}
 use Rattle.bl_module.specs.declared.behind.Behind.{Behind}
 use Rattle.bl_module.specs.declared.taken.Taken.{Taken}
 use Rattle.bl_module.specs.inner.Layers.{NamesFailHere, OwnPasses}
-use Rattle.bl_module.specs.Rules.{FailsIn, OwnFails, PassesIn, TreeFails, TreePasses, here, in_bytes, in_graphs, in_names, in_nesting, in_own, in_tokens}
-use Rattle.bl_module.specs.Rules.{in_tree, in_types, in_units, is_last, known_at, known_in, named_in, own_units}
+use Rattle.bl_module.specs.Rules.{FailsIn, OwnFails, PassesIn, TreeFails, TreePasses, here, in_bytes, in_names, in_own, in_tokens}
+use Rattle.bl_module.specs.Rules.{in_tree, in_types, is_last, known_at, known_in, named_in, own_units}
 
 -- ---- own units and structs
-
-module _ (structs : List StructDef) (from : ℕ) (units : List UnitDef) where
-  pub units_cause : (told : Refusal) → IsCause (UnitsFail units) told → IsCause (OwnFails structs from units) told
-  units_cause (refusal.Rule rule at also) first =
-      alike_first (UnitsFail units) (OwnFails structs from units) (λ r p a f. in_units f) back rule at also first
-    where
-      back : (r : Rule) (p : Place) (a : List Place) → OwnFails structs from units r p a → UnitsFail units r p a
-      back r p a (in_units f) = f
-      back r p a (in_graphs passes f) = absurd (passes rule at also first.fails)
-      back r p a (in_nesting passes others f) = absurd (passes rule at also first.fails)
-  units_cause refusal.NoMemory first = tt
-
-  pub graphs_cause : UnitsPass units → (told : Refusal) → IsCause (GraphsFail units) told → IsCause (OwnFails structs from units) told
-  graphs_cause pass (refusal.Rule rule at also) first =
-      alike_first (GraphsFail units) (OwnFails structs from units) (λ r p a f. in_graphs pass f) back rule at also first
-    where
-      back : (r : Rule) (p : Place) (a : List Place) → OwnFails structs from units r p a → GraphsFail units r p a
-      back r p a (in_units f) = absurd (pass r p a f)
-      back r p a (in_graphs passes f) = f
-      back r p a (in_nesting passes others f) = absurd (others rule at also first.fails)
-  graphs_cause pass refusal.NoMemory first = tt
-
-  pub nesting_cause : UnitsPass units → GraphsPass units → (told : Refusal) → IsCause (NestingFails from structs units) told →
-      IsCause (OwnFails structs from units) told
-  nesting_cause pass more (refusal.Rule rule at also) first =
-      alike_first (NestingFails from structs units) (OwnFails structs from units) (λ r p a f. in_nesting pass more f) back rule at also first
-    where
-      back : (r : Rule) (p : Place) (a : List Place) → OwnFails structs from units r p a → NestingFails from structs units r p a
-      back r p a (in_units f) = absurd (pass r p a f)
-      back r p a (in_graphs passes f) = absurd (more r p a f)
-      back r p a (in_nesting passes others f) = f
-  nesting_cause pass more refusal.NoMemory first = tt
-
-  pub own_passes : UnitsPass units → GraphsPass units → NestingPasses from structs units → OwnPasses structs from units
-  own_passes pass more most r p a (in_units f) = pass r p a f
-  own_passes pass more most r p a (in_graphs passes f) = more r p a f
-  own_passes pass more most r p a (in_nesting passes others f) = most r p a f
 
 and_left : (a b : Bool) → (a && b) ≡ true → a ≡ true
 and_left true b is = refl
@@ -263,16 +223,6 @@ module _ (behind : Behind) (last : Bool) (raw : Raw) (named : Named) (env : Envi
 -- ---- texts
 
 module _ (one : TokensAreOne) (trees : TreesAreOne) (none : TokensThatPass) (behind : Behind) (taken : Taken) (text : List ℕ) where
-  pub bytes_cause : (told : Refusal) → IsCause (TextFails text) told → IsCause (FailsIn behind taken text) told
-  bytes_cause (refusal.Rule rule at also) first =
-      alike_first (TextFails text) (FailsIn behind taken text) (λ r p a f. in_bytes f) back rule at also first
-    where
-      back : (r : Rule) (p : Place) (a : List Place) → FailsIn behind taken text r p a → TextFails text r p a
-      back r p a (in_bytes f) = f
-      back r p a (in_tokens tokens passes lexes f) = absurd (passes rule at also first.fails)
-      back r p a (in_tree raw passes parses f) = absurd (passes rule at also first.fails)
-  bytes_cause refusal.NoMemory first = tt
-
   -- tokens that pass fail outside_text
   tokens_pass : (raw : Raw) → Parses text raw → (tokens : List Token) → Lexes text tokens → (r : Rule) (p : Place) (a : List Place) →
       TokensFail (length text) tokens r p a → ⊥

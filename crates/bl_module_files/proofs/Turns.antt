@@ -14,7 +14,7 @@ use Rattle.bl_module_files.specs.declared.fault.FilesFault.{FilesFault}
 use Rattle.bl_module_files.specs.declared.fault.FilesFault.TheVariants as fault
 use Rattle.bl_module_files.specs.Faces.{AreFaces, AreSpelled, ComesTo, FacesStop, IsNoFace}
 use Rattle.bl_module_files.specs.Turns.{IsText, Left, StandFurther, WasRead, WereRead, file_limit, next, none}
-use Rattle.bl_module_files.specs.inner.Read.{FaceStops, IsFaceIn, IsNoFaceIn, IsUnreadOr}
+use Rattle.bl_module_files.specs.inner.Read.{FaceStops, IsFaceIn, IsNoFaceIn}
 
 -- ---- the text of a file of which a front was read
 
@@ -90,12 +90,6 @@ pub no_face_read : (left : Option (List ℕ)) (got : List ℕ) (after : Option (
     IsNoFaceIn left at
 no_face_read left got after at read shows =
     record { text = text_of left got; is_text = is_text_of left got; shows = stops_whole left got after at read shows }
-
--- what a read that failed comes to
-pub unread_stops : (number : ℕ) (left : Option (List ℕ)) (before after : ℕ) (fault : IoFault) (told : FilesFault) → IsUnreadOr fault told →
-    (fault ≡ io.Failed → Rose before after) → FaceStops number left before after told
-unread_stops number left before after io.Failed told is rose = rw is (rose refl)
-unread_stops number left before after io.NoMemory told is rose = rw is tt
 
 -- ---- what is left of files
 

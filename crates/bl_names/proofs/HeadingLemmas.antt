@@ -77,10 +77,3 @@ pub behind_next : (headings : List Heading) (k : ℕ) (heading : Heading) (state
 behind_next headings k heading state new found within is step h =
     ap (λ s. behind s (drop (k + 1) headings)) step ∙ behind_one state heading (drop (k + 1) headings)
     ∙ ap (behind state) (sym (next_of headings k heading within is)) ∙ h
-
-pub behind_none : (state : State) → behind state [] ≡ state
-behind_none state = λ i. record state {
-  structs = append-nil state.structs i;
-  constants = append-nil state.constants i;
-  units = append-nil state.units i;
-}

@@ -1,10 +1,9 @@
 -- Lists and what is seen of their elements.
 use Rattle.std.proofs.Common.{◌≡◌, ℕ, suc, ◌+◌, ◌<◌, ◌≤◌, Bool, true, false, cond, List, ◌∷◌, ◌++◌, length, map}
-use Rattle.std.proofs.Common.{get_or, set, take, drop, refl, ap, sym, subst, ◌∙◌, Option, Some, None, option_map, add-one, drop-cons}
+use Rattle.std.proofs.Common.{get_or, set, take, drop, refl, ap, sym, subst, ◌∙◌, Option, Some, option_map, add-one, drop-cons}
 use Rattle.std.specs.List.{slice_get, position_from, remove, drop-map, take-map}
 use Rattle.std.proofs.lemmas.List.{map-set, map-append}
 use Rattle.std.proofs.lemmas.Option.{slice_get-get_or, slice_get-map, slice_get_read}
-use Rattle.std.proofs.Math.ListN.{drop_of_length-le}
 
 -- what is seen of the element at a place
 pub seen-at : {A B : Type 0} (f : A → B) (xs : List A) (i : ℕ) (x : A) → i < length xs → x ≡ get_or xs i x → slice_get (map f xs) i ≡ Some (f x)
@@ -53,10 +52,6 @@ pub place-later : {A B : Type 0} (t : B → Bool) (f : A → B) (xs : List A) (k
     position_from t k (drop k (map f xs)) ≡ whole → t (f x) ≡ false → position_from t (k + 1) (drop (k + 1) (map f xs)) ≡ whole
 place-later t f xs k x whole low is at fails =
     sym (from-next t k false (f x) (drop (k + 1) (map f xs)) fails) ∙ sym (ap (position_from t k) (next f xs k x low is)) ∙ at
-
-pub place-none : {A B : Type 0} (t : B → Bool) (f : A → B) (xs : List A) (k : ℕ) (whole : Option ℕ) → length xs ≤ k →
-    position_from t k (drop k (map f xs)) ≡ whole → None ≡ whole
-place-none t f xs k whole past at = sym (ap (position_from t k) (drop-map f k xs ∙ ap (map f) (drop_of_length-le xs past))) ∙ at
 
 -- ---- an element that is read
 

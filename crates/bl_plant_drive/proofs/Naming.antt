@@ -247,18 +247,3 @@ widths-more f plants xs k x sum width low is so_far own =
 pub widths-all : {A : Type 0} (f : A → ℕ) (plants : List PlantView) (xs : List A) (k sum : ℕ) → length xs ≤ k →
     sum ≡ saturated (widths_of plants (take k (map f xs))) → sum ≡ saturated (widths_of plants (map f xs))
 widths-all f plants xs k sum past so_far = so_far ∙ ap (λ z. saturated (widths_of plants z)) (all-names f xs k past)
-
--- a width below 2 to the 32 isn't told saturated
-told-by : (wanted whole most : ℕ) → wanted < most → wanted ≡ min whole most → (whole ≤ most) ⊎ (most ≤ whole) → whole ≡ wanted
-told-by wanted whole most low told (inl fits) = sym (told ∙ min-eq_left fits)
-told-by wanted whole most low told (inr past) = let is : wanted ≡ most = told ∙ min-eq_right past in absurd (omega (arith, low, is))
-
-below : (wanted : ℕ) → wanted < 2 ^ 32 → wanted < 2 ^ 64 - 1
-below wanted low = omega (arith, low)
-
-pub same-width : (given wanted whole : ℕ) → wanted < 2 ^ 32 → given ≡ saturated whole → given ≡ wanted → whole ≡ wanted
-same-width given wanted whole low told same = told-by wanted whole (2 ^ 64 - 1) (below wanted low) (sym same ∙ told) (either-way whole (2 ^ 64 - 1))
-
-pub other-width : (given wanted whole : ℕ) → wanted < 2 ^ 32 → given ≡ saturated whole → (given ≡ wanted → ⊥) → whole ≡ wanted → ⊥
-other-width given wanted whole low told differ same =
-    differ (told ∙ ap saturated same ∙ min-eq_left (let l = below wanted low in let le : wanted ≤ 2 ^ 64 - 1 = omega (arith, l) in le))

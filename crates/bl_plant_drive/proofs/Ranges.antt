@@ -1,6 +1,6 @@
 -- Numbers in the ranges of their inputs, and how many numbers the seats have.
 use Rattle.std.proofs.Common.{◌≡◌, ℕ, zero, suc, ◌+◌, ◌<◌, ◌≤◌, ℤ, pos, Bool, true, false, ◌&&◌, List, [], ◌∷◌, ◌++◌}
-use Rattle.std.proofs.Common.{length, map, get_or, take, drop, replicate, Some, refl, ap, sym, ◌∙◌, arith, length-append, take-suc, take_all}
+use Rattle.std.proofs.Common.{length, map, get_or, take, drop, replicate, Some, refl, ap, sym, ◌∙◌, arith, length-append, take-suc}
 use Rattle.std.specs.List.{AllByRecursion, slice_get}
 use Rattle.std.proofs.lemmas.Grind.{flat_map-append}
 use Rattle.std.proofs.lemmas.List.{append-nil, length-replicate}
@@ -86,15 +86,6 @@ front-more inputs seats k seat low is before now =
 pub front-kept : (inputs : List Column) (k : ℕ) (seats now : List Seat) → take k now ≡ take k seats → FrontFits inputs k seats →
     FrontFits inputs k now
 front-kept inputs k seats now same fit = ap (λ z. in_ranges (types_of (take (length (seat_numbers z)) inputs)) (seat_numbers z)) same ∙ fit
-
--- all seats' numbers are
-pub front-all : (inputs : List Column) (k : ℕ) (seats : List Seat) → length seats ≤ k → length (seat_numbers seats) ≡ length inputs →
-    FrontFits inputs k seats → in_ranges (types_of inputs) (seat_numbers seats) ≡ true
-front-all inputs k seats past wide fit =
-    let all : take k seats ≡ seats = take_all k seats past in
-    let whole : take (length (seat_numbers seats)) inputs ≡ inputs = take_all (length (seat_numbers seats)) inputs (omega (arith, wide)) in
-    sym (ap (λ z. in_ranges (types_of z) (seat_numbers seats)) whole)
-    ∙ sym (ap (λ z. in_ranges (types_of (take (length (seat_numbers z)) inputs)) (seat_numbers z)) all) ∙ fit
 
 -- ---- how many numbers seats have
 

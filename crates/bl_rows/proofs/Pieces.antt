@@ -88,9 +88,6 @@ overrun_stops columns at (b ∷ u) rest fault h e =
     over_grows at (length (b ∷ u)) _ fault (omega (arith, length-append (b ∷ u) start.more)) e in
     rw (start.is, past_limit columns at ((b ∷ u) ++ start.more) fault long) refl
 
-told_rows : (rows : List (List ℤ)) (s : Scan) → read_to_end (with_rows rows s) ≡ led_by_rows rows (read_to_end s)
-told_rows rows s = refl
-
 -- a scan that stopped, or goes on with what is unfinished
 by_scan : (columns : List Column) (s : Scan) (u rest : List ℕ) (o p stop : Option RowFault) (later : RowsRead) → has_feed u ≡ false →
     s.fault ≡ o → overrun s.at u ≡ p → stop ≡ earlier_fault s.fault (overrun s.at u)

@@ -6,7 +6,7 @@ use Rattle.std.specs.Str.{bytes_eq}
 use Rattle.csv.specs.Records.{field_at}
 use Rattle.bl_tree.specs.declared.row.Column.{Column}
 use Rattle.bl_rows.specs.Fields.{both, value_of, values_of, is_header, are_names, row_of, is_this_number, number_of}
-use Rattle.bl_rows.specs.inner.Found.{is_word, starts_with_tick}
+use Rattle.bl_rows.specs.inner.Found.{is_word}
 use Rattle.bl_rows.proofs.Seq.{drop-at, drop-got}
 
 -- csv's place is std's
@@ -75,17 +75,6 @@ names_agree columns list fields k c word name same all e h place e2 e3 tested so
     let passed : is_word c.name (slice_get fields (k + 1)) ≡ true = rw name_is at (sym tested ∙ holds) in
     so_far ∙ (names_at columns fields k (k + 1) c h here ∙ rw passed refl)
 
--- `tick` and then names
-pub header_by : (columns : List Column) (fields : List (List ℕ)) → is_word (codes "tick") (slice_get fields 0) ≡ true →
-    is_header columns fields ≡ are_names columns (drop 1 fields)
-header_by columns [] e = cc
-header_by columns (word ∷ names) e = rw e refl
-
-pub not_header : (columns : List Column) (fields : List (List ℕ)) → is_word (codes "tick") (slice_get fields 0) ≡ false →
-    false ≡ is_header columns fields
-not_header columns [] e = refl
-not_header columns (word ∷ names) e = rw e refl
-
 values_length : (columns : List Column) (fields : List (List ℕ)) → length fields ≢ length columns → values_of columns fields ≡ None
 values_length [] [] h = absurd (h refl)
 values_length [] (f ∷ fields) h = refl
@@ -104,15 +93,6 @@ row_length columns n (tick ∷ fields) h = if_none (is_this_number n (number_of 
     if_none : (b : Bool) (o : Option (List ℤ)) → o ≡ None → None ≡ (if b then o else None)
     if_none true o e = sym e
     if_none false o e = refl
-
-pub row_by : (columns : List Column) (n : ℕ) (fields : List (List ℕ)) → starts_with_tick n fields ≡ true →
-    row_of columns n fields ≡ values_of columns (drop 1 fields)
-row_by columns n [] e = cc
-row_by columns n (tick ∷ fields) e = rw e refl
-
-pub no_row : (columns : List Column) (n : ℕ) (fields : List (List ℕ)) → starts_with_tick n fields ≡ false → None ≡ row_of columns n fields
-no_row columns n [] e = refl
-no_row columns n (tick ∷ fields) e = rw e refl
 
 -- numbers before those of the columns that are left
 abbrev pub after_front : List ℤ → Option (List ℤ) → Option (List ℤ)

@@ -183,17 +183,6 @@ size-some (Int w) = width-some w
 size-some (Nat w) = width-some w
 size-some (Bits w) = width-some w
 
--- a first byte that is too great leaves it at once
-pub cell-leaves : (kind : Scalar) (bytes : List ℕ) → size_of kind ≤ length bytes → most_of kind < slice_index bytes 0 →
-    misfit (cell_shape kind) (take (size_of kind) bytes) ≡ Some 0
-cell-leaves kind bytes long great = go (size_of kind) (most_of kind) bytes (size-some kind).0 long great
-  where
-    go : (k most : ℕ) (bytes : List ℕ) → 1 ≤ k → k ≤ length bytes → most < slice_index bytes 0 →
-        misfit (replicate k (at_most most)) (take k bytes) ≡ Some 0
-    go zero most bytes some long great = absurd (omega arith)
-    go (suc k) most [] some long great = absurd (omega arith)
-    go (suc k) most (b ∷ bytes) some long great = let no : nat_le b most ≡ false = grind (arith, nat_tests) in rw no refl
-
 -- all others have it
 pub cell-holds : (kind : Scalar) (bytes : List ℕ) → size_of kind ≤ length bytes → AreBytes bytes → slice_index bytes 0 ≤ most_of kind →
     misfit (cell_shape kind) (take (size_of kind) bytes) ≡ None

@@ -3,7 +3,6 @@ use Rattle.std.proofs.Common.{◌≡◌, ℕ, ℤ, List, [], ◌∷◌, ◌++◌
 use Rattle.std.specs.Prelude.{option_map, Bool, true, false, ◌&&◌, nat_eq, option_and_then, if◌then◌else◌}
 use Rattle.std.proofs.lemmas.Option.{same_Some}
 use Rattle.bl_tree.specs.declared.place.Place.{Place}
-use Rattle.bl_tree.specs.declared.rule.Failure.{Failure}
 use Rattle.bl_tree.specs.declared.rule.Rule.{Rule}
 use Rattle.bl_tree.specs.declared.rule.Rule.TheVariants as rule
 use Rattle.bl_tree.specs.declared.scalar.Op.{Op}
@@ -27,8 +26,8 @@ use Rattle.bl_types.specs.declared.form.Form.{Form}
 use Rattle.bl_types.specs.declared.form.Form.TheVariants.{Failing, Open, Of}
 use Rattle.bl_types.specs.declared.form.Found.{Found}
 use Rattle.bl_types.specs.declared.form.Found.TheVariants as found
-use Rattle.bl_types.specs.Expressions.{Formed, Judged, after_failures, beside, cast, cast_formed, cast_made, cast_settled, fails_type, formed_as, in_context}
-use Rattle.bl_types.specs.Expressions.{one_formed, operands_made, reading, settled_two, two_formed, two_of, type_of_two, unwanted, wanted_as}
+use Rattle.bl_types.specs.Expressions.{Formed, Judged, beside, cast, cast_formed, cast_made, cast_settled, fails_type, formed_as, in_context}
+use Rattle.bl_types.specs.Expressions.{one_formed, operands_made, reading, settled_two, two_formed, two_of, type_of_two, wanted_as}
 use Rattle.bl_types.specs.Failures.{unless}
 use Rattle.bl_types.specs.Settled.{Settled, given, given_scalar, int32, is_logical, keeps_one_open, keeps_two_open, kept, literal, one, one_made, settled}
 use Rattle.bl_types.specs.Settled.{settled_if, two, two_made, unfit}
@@ -221,16 +220,7 @@ module _ (site : TypingContext) where
       wanted_form wanted judged.place judged.form (fit (nil_left judged.failures (wanted_as wanted judged.place judged.form).failures none))
       (nil_right judged.failures (wanted_as wanted judged.place judged.form).failures none)
 
-  -- and where none is wanted
-  pub unwanted_fits : (form : Form) → FormFits site form → (unwanted form).failures ≡ [] → (ty : Ty) × IsMade site ty (unwanted form).made
-  unwanted_fits Failing fit none = absurd fit
-  unwanted_fits (Open e) fit none = (scalar int32, fit int32 refl none)
-  unwanted_fits (Of ty e) fit none = (ty, record { it = e; is = refl; is_typed = fit })
-
   -- ---- operators
-
-  pub after_fits : (earlier : List Failure) (formed : Formed) → FormedFits site formed → FormedFits site (after_failures earlier formed)
-  after_fits earlier formed fit none = fit (nil_right earlier formed.failures none)
 
   formed_fits : (ty : Option Ty) (at : Place) (e : Expr) → type_of site e ≡ ty → FormedFits site (formed_as ty at e)
   formed_fits (Some ty) at e is none = is

@@ -83,9 +83,6 @@ block_append : (xs ys : List Stmt) → block_starts (xs ++ ys) ≡ block_starts 
 block_append [] ys = refl
 block_append (x ∷ xs) ys = ap (λ rest. starts_of x ++ rest) (block_append xs ys) ∙ sym (append_assoc (starts_of x) (block_starts xs) (block_starts ys))
 
-abbrev pub arm_starts : Arm → Starts
-arm_starts arm = block_starts (out-Arm arm).body
-
 abbrev pub branch_starts : Branch → Starts
 branch_starts branch = block_starts (out-Branch branch).body
 

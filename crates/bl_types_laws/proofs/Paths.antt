@@ -77,9 +77,6 @@ plain_is at k parts ty = rw fold-roll-Path refl
 root_is : (at : Place) (k : ℕ) (parts : List Part) (ty : Ty) → (out-Path (path at k parts ty)).root ≡ k
 root_is at k parts ty = ap (λ layer. layer.root) (out-roll-Path (record { place = at; root = k; parts = parts; ty = ty }))
 
-type_is : (at : Place) (k : ℕ) (parts : List Part) (ty : Ty) → (out-Path (path at k parts ty)).ty ≡ ty
-type_is at k parts ty = ap (λ layer. layer.ty) (out-roll-Path (record { place = at; root = k; parts = parts; ty = ty }))
-
 -- a path, where its type is the one that is wanted
 abbrev lent_if : Place → Path → Bool → Lent
 lent_if at it same = if same then record { made = Some it; failures = [] } else record { made = None; failures = fails_at rule.Type at }

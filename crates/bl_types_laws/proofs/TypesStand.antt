@@ -9,7 +9,7 @@ use Rattle.bl_tree.specs.declared.place.Place.{Place}
 use Rattle.bl_tree.specs.declared.scalar.Op.{Op}
 use Rattle.bl_tree.specs.declared.scalar.Scalar.{Scalar as ScalarType}
 use Rattle.bl_tree.specs.declared.tree.Expr.{Expr}
-use Rattle.bl_tree.specs.declared.tree.ExprKind.{ExprKind, out-roll-ExprKind, roll-ExprKind}
+use Rattle.bl_tree.specs.declared.tree.ExprKind.{out-roll-ExprKind, roll-ExprKind}
 use Rattle.bl_tree.specs.declared.tree.ExprKind.TheOpen.{ExprKind-F, Part-F}
 use Rattle.bl_tree.specs.declared.tree.Field.{Field}
 use Rattle.bl_tree.specs.declared.tree.Part.{Part, out-Part}
@@ -202,9 +202,6 @@ module _ (site : TypingContext) (fields : FieldsStand site.structs) (vars : list
       let found = some_found (λ (var : Var). after_parts (map (type_of_part site) parts) var.ty) (slice_get site.vars root) whole.0 whole.1 in
       let same : whole.0 ≡ ty = same_Some whole.0 ty (where_true (same_type written whole.0) (Some whole.0) ty whole.2) in
       ap stands (sym same) ∙ parts_stand parts found.0.ty whole.0 (all_at (λ (var : Var). stands var.ty) site.vars root found.0 vars found.1) found.2
-
-  abbrev Layer : Type 0
-  Layer = ExprKind-F ExprKind Part Expr Path
 
   stand_cases : Cases P Q
   stand_cases = record {

@@ -9,7 +9,7 @@ use Rattle.bl_names_tree.specs.declared.expr.NamedExprKind.TheVariants.{rolls-Nu
 use Rattle.bl_names_tree.specs.declared.expr.NamedExprKind.TheVariants.{rolls-Call}
 use Rattle.bl_names_tree.specs.declared.expr.NamedPart.{NamedPart, fold-NamedPart, fold_out-NamedPart, map-NamedPart, out-NamedPart, roll-NamedPart}
 use Rattle.bl_names_tree.specs.declared.expr.NamedPart.TheVariants.{rolls-Field, rolls-Index}
-use Rattle.bl_names_tree.specs.declared.expr.NamedTarget.{NamedTarget, fold-roll-NamedTarget, fold_out-NamedTarget, out-NamedTarget, out-roll-NamedTarget}
+use Rattle.bl_names_tree.specs.declared.expr.NamedTarget.{NamedTarget, fold-roll-NamedTarget}
 use Rattle.bl_names_tree.specs.declared.expr.NamedTarget.{roll-NamedTarget}
 use Rattle.bl_names_tree.specs.declared.expr.Root.{Root}
 use Rattle.bl_names_laws_places.specs.Renamed.{Renaming, renamed_expr, renamed_expr_layer, renamed_kind, renamed_part, renamed_root, renamed_target}
@@ -97,21 +97,3 @@ module _ (by : Renaming) where
 
   pub expr_place : (e : NamedExpr) → (out-NamedExpr (renamed_expr by e)).place ≡ by.place (out-NamedExpr e).place
   expr_place e = ap (λ layer. layer.place) (expr_out e)
-
-  target_out : (target : NamedTarget) → out-NamedTarget (renamed_target by target)
-      ≡ record {
-        place = by.place (out-NamedTarget target).place;
-        root = renamed_root by (out-NamedTarget target).root;
-        parts = map stepping (out-NamedTarget target).parts;
-      }
-  target_out target =
-      ap out-NamedTarget
-      (fold_out-NamedTarget NamedExprKind NamedPart NamedExpr NamedTarget (renamed_kind by) (renamed_part by) (renamed_expr_layer by)
-      (renamed_target_layer by) target)
-      ∙ out-roll-NamedTarget _
-
-  pub target_place : (target : NamedTarget) → (out-NamedTarget (renamed_target by target)).place ≡ by.place (out-NamedTarget target).place
-  target_place target = ap (λ layer. layer.place) (target_out target)
-
-  pub target_root : (target : NamedTarget) → (out-NamedTarget (renamed_target by target)).root ≡ renamed_root by (out-NamedTarget target).root
-  target_root target = ap (λ layer. layer.root) (target_out target)

@@ -42,15 +42,6 @@ not_one k e = absurd cc
 abbrev all_named : List Naming → Roots
 all_named namings = joined (map (λ n. n.named) namings)
 
-pub one_split : (k : ℕ) (xs ys : Roots) → OneOf k (xs ++ ys) → OneOf k xs ⊎ OneOf k ys
-one_split k [] ys e = inr e
-one_split k (x ∷ xs) ys e = by_test (nat_eq k x) (one_split k xs ys) e
-  where
-    by_test : (b : Bool) → (OneOf k (xs ++ ys) → OneOf k xs ⊎ OneOf k ys) → (b || list_any (nat_eq k) (xs ++ ys)) ≡ true →
-        ((b || list_any (nat_eq k) xs) ≡ true) ⊎ OneOf k ys
-    by_test true more e = inl refl
-    by_test false more e = more e
-
 abbrev pub folded_arm : Arm → Naming
 folded_arm = fold-Arm Naming Naming Naming Naming stmt_kind_naming arm_naming branch_naming stmt_layer_naming
 

@@ -44,10 +44,6 @@ got_map f [] m x e = absurd cc
 got_map f (y ∷ xs) zero x e = let same : y ≡ x = cc in ap (λ y. Some (f y)) same
 got_map f (y ∷ xs) (suc m) x e = got_map f xs m x e
 
-some_long : {A : Type 0} (xs : List A) (m : ℕ) (x : A) → slice_get xs m ≡ Some x → 0 < length xs
-some_long [] m x e = absurd cc
-some_long (y ∷ xs) m x e = omega arith
-
 all_members : {A : Type 0} (P : A → Type 0) (xs : List A) → ((x : A) → Contains xs x → P x) → AllOf P xs
 all_members P [] each = tt
 all_members P (x ∷ xs) each =

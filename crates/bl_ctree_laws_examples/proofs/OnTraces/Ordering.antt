@@ -284,9 +284,6 @@ module _ (touched : Touched) where
 -- ---- numbers for nodes are numbers for positions of nodes
 
 module _ (block : Block) (control : Rises number (EdgeAll block)) (by_data : Rises number (DataEdge block)) where
-  numbers : List ℕ
-  numbers = map number (nodes_in block)
-
   number_at : (k : ℕ) (n : Node) → slice_get (nodes_in block) k ≡ Some n → slice_index (map number (nodes_in block)) k ≡ number n
   number_at k n is =
       get_or_from_slice_get (map number (nodes_in block)) k (number n) 0 (slice_get-map number (nodes_in block) k ∙ ap (option_map number) is)

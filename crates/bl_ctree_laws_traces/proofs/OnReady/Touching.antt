@@ -149,10 +149,6 @@ read_in test (x ∷ xs) e = by_test (test x) refl e (read_in test xs)
         let below = rest.there.1 in
         record { one = rest.one; there = (suc rest.there.0, omega arith, rest.there.2); is = rest.is }
 
--- a writer's path that overlaps what the node reads
-touching : (writer n : Node) (q : Static) → Contains (node_writes writer) q → list_any (overlaps q) (node_reads n) ≡ true → Touches writer n
-touching writer n q there is = passed (λ p. list_any (overlaps p) (node_reads n)) (node_writes writer) q (member (node_writes writer) q there) is
-
 module _ (structs : List StructDef) (units : List UnitDef) (entry : ℕ) (nest : InstancesNest structs units entry) (apart : HomesAreApart)
     (outputs : OutputsAreApart (setting_of structs units entry)) (a : Deed) (leaf : Node)
     (reads : (at : Location) → Contains (deed_reads (setting_of structs units entry) a) at →

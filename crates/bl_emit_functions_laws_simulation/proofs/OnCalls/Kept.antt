@@ -9,9 +9,6 @@ use Rattle.bl_ctext_semantics.specs.Memory.{with_part, zeros, without_frame}
 use Rattle.bl_emit_acts_laws_simulation.specs.Frames.{is_older}
 use Rattle.bl_emit_functions_laws_simulation.specs.Calls.{CallsKeepFrame, body_done}
 
-pub no_such : true ≡ false → ⊥
-no_such h = cc
-
 -- a variable of the frame at a depth is no older root
 pub older_differs : (depth : ℕ) (name : List ℕ) (root : Root) → is_older depth root ≡ true → same_root (variable depth name) root ≡ false
 older_differs depth name state_object h = refl

@@ -61,10 +61,6 @@ module _ (context : Context) (most : ℕ) (flags : (k : ℕ) → k < most → co
     pub test : ExprIs context bool_type arm.test
     pub body : Good arm.body
 
-  abbrev AllGood : List Codes → Type 0
-  AllGood [] = Unit {0}
-  AllGood (codes ∷ rest) = Good codes × AllGood rest
-
   abbrev AllArms : List ArmCodes → Type 0
   AllArms [] = Unit {0}
   AllArms (arm ∷ arms) = GoodArm arm × AllArms arms

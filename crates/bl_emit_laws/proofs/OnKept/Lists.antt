@@ -21,11 +21,6 @@ pub first_or : {X : Type 0} (y : X) (xs : List X) (x : X) → Contains (y ∷ xs
 first_or y xs x (zero, within, is) = inl is
 first_or y xs x (suc k, within, is) = inr (k, omega arith, is)
 
-pub into_map : {X Y : Type 0} (f : X → Y) (xs : List X) (x : X) → Contains xs x → Contains (map f xs) (f x)
-into_map f [] x has = absurd (none_has x has)
-into_map f (z ∷ xs) x (zero, within, is) = subst (λ y. Contains (map f (z ∷ xs)) (f y)) is (here (f z) (map f xs))
-into_map f (z ∷ xs) x (suc k, within, is) = further (f z) (map f xs) (f x) (into_map f xs x (k, omega arith, is))
-
 pub into_joined : {X Y : Type 0} (f : X → List Y) (xs : List X) (x : X) (y : Y) → Contains xs x → Contains (f x) y → Contains (joined (map f xs)) y
 into_joined f [] x y has own = absurd (none_has x has)
 into_joined f (z ∷ xs) x y (zero, within, is) own =

@@ -36,9 +36,6 @@ use Rattle.bl_emit_spec_laws.specs.Calls.Invariant.{FunctionContext, PassReprese
 use Rattle.bl_emit_spec_laws.specs.Activities.{CalleesRemember}
 use Rattle.bl_emit_spec_laws.proofs.OnActivities.Forgetting.{holder_remembers, inner_remembers}
 
-no_such : true ≡ false → ⊥
-no_such h = cc
-
 less_true : (k n : ℕ) → k < n → nat_lt k n ≡ true
 less_true k n less = lt-ltb k n less
 

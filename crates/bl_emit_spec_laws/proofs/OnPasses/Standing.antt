@@ -35,9 +35,6 @@ within_or_not k zero = inr (omega arith)
 within_or_not zero (suc n) = inl (omega arith)
 within_or_not (suc k) (suc n) = ⊎_elim (λ less. inl (omega (arith, less))) (λ more. inr (omega (arith, more))) (within_or_not k n)
 
-no_such : true ≡ false → ⊥
-no_such h = cc
-
 module _ (structs : List StructDef) (units : List UnitDef) (entry : ℕ) (activities : Activities) where
   abbrev W : Setting
   W = setting_of structs units entry

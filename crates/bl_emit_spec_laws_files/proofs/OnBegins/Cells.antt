@@ -1,27 +1,14 @@
 -- Numbers of memory: which stay as they were when a place is set, and which ways and places have nothing in common.
-use Rattle.std.proofs.Common.{◌≡◌, ℕ, Bool, true, false, not, ◌&&◌, ◌||◌, List, [], ◌∷◌, ◌++◌, Option, Some, None, refl}
+use Rattle.std.proofs.Common.{◌≡◌, ℕ, Bool, true, false, not, ◌&&◌, ◌||◌, List, [], ◌∷◌, ◌++◌, None, refl}
 use Rattle.std.proofs.Common.{sym, ap, ap₂, ◌∙◌}
-use Rattle.std.proofs.Common.{arith}
-use Rattle.std.proofs.lemmas.Bool.{eq-eqb, eqb-true, le-leb}
+use Rattle.std.proofs.lemmas.Bool.{eq-eqb, eqb-true}
 use Rattle.std.proofs.lemmas.Cmp.{nat_list_eq_equiv}
 use Rattle.std.proofs.lemmas.List.{append-nil}
-use Rattle.std.specs.Prelude.{bytes_eq, is_some, nat_le, ◌==◌, if◌then◌else◌}
+use Rattle.std.specs.Prelude.{bytes_eq, ◌==◌, if◌then◌else◌}
 use Rattle.bl_ctext_semantics.specs.Memory.{CValue, Location, Memory, Projection, Root, element, input_object, left_after, member, number_or, output_object}
 use Rattle.bl_ctext_semantics.specs.Memory.{same_part}
 use Rattle.bl_ctext_semantics.specs.Memory.{same_root, set_at, state_object, value_at, variable, with_part}
-use Rattle.bl_emit_acts_laws_simulation.specs.Acts.{lies_in}
 use Rattle.bl_emit_acts_laws_simulation.specs.Encodes.{are_apart, ways_part}
-
-pub and_both : (a b : Bool) → (a && b) ≡ true → (a ≡ true) × (b ≡ true)
-and_both true b h = (refl, h)
-and_both false b h = absurd (cc)
-
-pub or_last : (a b : Bool) → b ≡ true → (a || b) ≡ true
-or_last true b h = refl
-or_last false b h = h
-
-pub number_itself : (n : ℕ) → nat_le n n ≡ true
-number_itself n = le-leb n n (omega arith)
 
 -- ---- the other way round
 
@@ -95,42 +82,7 @@ left_apart (p ∷ ps) (q ∷ qs) first second h = by (same_part p q) (left_apart
     by true again h = again h
     by false again h = refl
 
-pub ways_further : (ps qs more : List Projection) → ways_part ps qs ≡ true → ways_part (ps ++ more) qs ≡ true
-ways_further [] qs more h = absurd (cc)
-ways_further (p ∷ ps) [] more h = absurd (cc)
-ways_further (p ∷ ps) (q ∷ qs) more h = by (same_part p q) (ways_further ps qs more) h
-  where
-    by : (same : Bool) → (ways_part ps qs ≡ true → ways_part (ps ++ more) qs ≡ true) → (not same || ways_part ps qs) ≡ true →
-        (not same || ways_part (ps ++ more) qs) ≡ true
-    by true again h = again h
-    by false again h = refl
-
-pub behind_front : (front first second : List Projection) → ways_part (front ++ first) (front ++ second) ≡ ways_part first second
-behind_front [] first second = refl
-behind_front (p ∷ front) first second = by (sym (same_part_itself p)) (behind_front front first second)
-  where
-    by : true ≡ same_part p p → ways_part (front ++ first) (front ++ second) ≡ ways_part first second →
-        (not (same_part p p) || ways_part (front ++ first) (front ++ second)) ≡ ways_part first second
-    by same again = ap (λ b. not b || ways_part (front ++ first) (front ++ second)) (sym same) ∙ again
-
-pub further_both : (ps qs first second : List Projection) → ways_part ps qs ≡ true → ways_part (ps ++ first) (qs ++ second) ≡ true
-further_both ps qs first second h =
-    ways_further ps (qs ++ second) first
-    (ways_flip ps (qs ++ second) ∙ ways_further qs ps second (ways_flip qs ps ∙ h))
-
 -- ---- what is set
-
--- numbers outside of a place stay when it is set
-pub set_elsewhere : (here : Memory) (place : Location) (held : CValue) (root : Root) (way : List Projection) → lies_in place root way ≡ false →
-    set_at here place held root way ≡ here root way
-set_elsewhere here place held root way h = by (same_root place.root root) (left_after place.parts way) refl h
-  where
-    by : (same : Bool) (left : Option (List Projection)) → left_after place.parts way ≡ left →
-        (same && is_some (left_after place.parts way)) ≡ false →
-        (if same then with_part (here root) place.parts held else here root) way ≡ here root way
-    by false left is h = refl
-    by true None is h = ap (λ left. number_or left held (here root way)) is
-    by true (Some rest) is h = absurd (let no = sym (ap is_some is) ∙ h in cc)
 
 same_root_itself : (root : Root) → same_root root root ≡ true
 same_root_itself state_object = refl

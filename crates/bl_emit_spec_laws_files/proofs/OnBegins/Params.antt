@@ -16,9 +16,6 @@ use Rattle.bl_emit_acts.specs.Types.{variable_name}
 use Rattle.bl_emit_functions.specs.Functions.{params_from}
 use Rattle.bl_emit_acts_laws_simulation.proofs.NumberedNames.{names_differ}
 
-no_such : true ≡ false → ⊥
-no_such h = cc
-
 and_false : (b : Bool) → (b && false) ≡ false
 and_false true = refl
 and_false false = refl

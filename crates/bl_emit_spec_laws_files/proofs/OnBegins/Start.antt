@@ -42,9 +42,6 @@ use Rattle.bl_emit_spec_laws_files.proofs.OnBegins.Places.{older_differs}
 use Rattle.bl_emit_spec_laws_files.proofs.OnBegins.Setting.{GoesTo, SetIn, counter_answer, local_answer, read_answer, register_is, then_goes}
 use Rattle.bl_emit_spec_laws_files.proofs.OnBegins.Statements.{Ends, alone_alike, set_after, set_ends}
 
-no_such : true ≡ false → ⊥
-no_such h = cc
-
 -- the registers once these copies of counters were made
 abbrev pub with_rested : List ℕ → Registers → Registers
 with_rested [] r = r

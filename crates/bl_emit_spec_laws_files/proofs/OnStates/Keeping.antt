@@ -19,7 +19,7 @@ use Rattle.bl_tree.specs.Program.{is_entry, parameters_of}
 use Rattle.bl_tree.specs.Types.{scalar_at, scalar_in}
 use Rattle.bl_tree.specs.Typing.{TypingContext, is_activity, outputs_of, var_at}
 use Rattle.bl_eval.specs.Values.{value_fits}
-use Rattle.bl_eval.proofs.PassLemmas.{and_left, and_right, both, pass_at}
+use Rattle.bl_eval.proofs.PassLemmas.{and_left, and_right, pass_at}
 use Rattle.bl_ctext_semantics.specs.Faults.{WellFormed, struct_table}
 use Rattle.bl_ctext_semantics.specs.Meaning.{further as further_place}
 use Rattle.bl_ctext_semantics.specs.Memory.{Location, Memory, Projection, Root, member, output_object, scalar_number, state_object, value_at}
@@ -85,13 +85,6 @@ scalar_way structs ty s is (k ∷ ks) = by (out-Ty ty) is
     by (Ty-F.Scalar t) h = none ks
     by (Ty-F.Struct j) h = absurd (cc)
     by (Ty-F.Array n inner) h = absurd (cc)
-
-all_take : (n : ℕ) (vars : List Var) → list_all is_scalar vars ≡ true → list_all is_scalar (take n vars) ≡ true
-all_take zero vars all = refl
-all_take (suc n) [] all = refl
-all_take (suc n) (var ∷ vars) all =
-    both (is_scalar var) (list_all is_scalar (take n vars)) (and_left (is_scalar var) (list_all is_scalar vars) all)
-    (all_take n vars (and_right (is_scalar var) (list_all is_scalar vars) all))
 
 -- of the first so many the ones behind some
 middle_all : (n m : ℕ) (vars : List Var) → list_all is_scalar (take (n + m) vars) ≡ true → list_all is_scalar (take m (drop n vars)) ≡ true

@@ -5,7 +5,6 @@ use Rattle.std.proofs.Common.{Option, Some, None, refl, sym, ap, ap₂, ◌∙�
 use Rattle.std.proofs.lemmas.Bool.{lt-ltb}
 use Rattle.std.proofs.lemmas.Option.{same_Some}
 use Rattle.std.specs.Prelude.{codes, Contains, option_and_then, option_map, slice_get, unwrap_or, if◌then◌else◌}
-use Rattle.bl_tree.specs.declared.c.CMember.{CMember}
 use Rattle.bl_tree.specs.declared.c.CType.TheVariants.{Struct as OfStruct}
 use Rattle.bl_tree.specs.declared.place.Place.{Place}
 use Rattle.bl_tree.specs.declared.text.Text.{Text}
@@ -194,10 +193,6 @@ module _ (orderly : AcceptedIsOrderly) (placed : StaysPlaced) (structs : List St
           ap (λ (o : Option Bool). unwrap_or o false) (compiled.built.remember (unit_number W i) (unit_number W j) u found.other (unit_there i u is)
           (unit_there j found.other found.is_there) found.earlier)
           ∙ ap₂ (λ a b. a && b) active remembers
-
-      the_member : CMember
-      the_member = struct_member (callee_name word) (memory_name (name_in (slice_get (A i).earlier (unit_number
-          W j))))
 
       member_within : Contains (remembered (A i)) (struct_member (callee_name word)
           (memory_name (name_in (slice_get (A i).earlier (unit_number W j)))))

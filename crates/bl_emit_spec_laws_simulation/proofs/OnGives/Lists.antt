@@ -2,10 +2,10 @@
 use Rattle.std.proofs.Common.{◌≡◌, ℕ, zero, suc, ◌+◌, ◌<◌, ◌≤◌, arith, Bool, true}
 use Rattle.std.proofs.Common.{false, List, [], ◌∷◌, ◌++◌, Contains, map, take, drop, length}
 use Rattle.std.proofs.Common.{Option, Some, None, refl, sym, ap, ap₂, ◌∙◌}
-use Rattle.std.proofs.lemmas.Bool.{eqb-true, eq-eqb, ltb-false, ltb-true}
+use Rattle.std.proofs.lemmas.Bool.{ltb-false, ltb-true}
 use Rattle.std.proofs.lemmas.Option.{same_Some, slice_get-map}
 use Rattle.std.specs.List.{range_with_len}
-use Rattle.std.specs.Prelude.{nat_eq, nat_lt, option_and_then, option_map, slice_get, slice_set}
+use Rattle.std.specs.Prelude.{nat_lt, option_and_then, option_map, slice_get, slice_set}
 
 -- lists with the same elements
 pub same_lists : {A : Type 0} (xs ys : List A) → ((k : ℕ) → slice_get xs k ≡ slice_get ys k) → xs ≡ ys
@@ -104,24 +104,6 @@ same_mapped f g count k same =
     by (Some y) is =
         let sum : y ≡ 0 + k = range_past 0 count k y is in
         let at : y ≡ k = omega (arith, sum) in ap Some (ap f at ∙ (same ∙ ap g (sym at)))
-
--- ---- tests of numbers
-
-pub number_flip : (j k : ℕ) → nat_eq j k ≡ false → nat_eq k j ≡ false
-number_flip j k differ = by (nat_eq k j) refl
-  where
-    no_such : true ≡ false → ⊥
-    no_such h = cc
-
-    by : (b : Bool) → nat_eq k j ≡ b → b ≡ false
-    by false is = refl
-    by true is = absurd (no_such (sym (eq-eqb j k (sym (eqb-true k j is))) ∙ differ))
-
-pub differs : (j k : ℕ) → nat_eq j k ≡ false → j ≡ k → ⊥
-differs j k differ same = no_such (sym (eq-eqb j k same) ∙ differ)
-  where
-    no_such : true ≡ false → ⊥
-    no_such h = cc
 
 -- ---- elements of mapped lists
 

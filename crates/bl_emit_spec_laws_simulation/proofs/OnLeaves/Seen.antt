@@ -87,20 +87,6 @@ seen_by f count k value is = by (slice_get (range_with_len 0 count) k) refl (sym
     by (Some y) at is =
         let same : k ≡ y = (let sum : y ≡ 0 + k = range_at 0 count k y at in omega arith) in ap f same ∙ same_Some (f y) value is
 
-range_there : (first count k : ℕ) → k < count → slice_get (range_with_len first count) k ≡ Some (first + k)
-range_there first zero k less = absurd (omega arith)
-range_there first (suc count) zero less = let same : first ≡ first + 0 = omega arith in ap Some same
-range_there first (suc count) (suc k) less =
-    let same : (first + 1) + k ≡ first + suc k = omega arith in range_there (first + 1) count k (omega (arith, less)) ∙ ap Some same
-
-pub seen_there : (w : Setting) (store : Store) (i k : ℕ) → k < length (vars_at w i) →
-    slice_get (view_at w store i).now k ≡ Some (variable_among now_of w store i k)
-seen_there w store i k less =
-    let f = variable_among now_of w store i in
-    let none : 0 + k ≡ k = omega arith in
-    slice_get-map f (range_with_len 0 (length (vars_at w i))) k
-    ∙ ap (option_map f) (range_there 0 (length (vars_at w i)) k less ∙ ap Some none)
-
 module _ (leads : HomesLeadOn) (w : Setting) where
   -- the number at positions of a variable's value stands at the home of the path that goes there
   pub seen_number : (store : Store) (i k : ℕ) (value : Value) (ks : List ℕ) → slice_get (view_at w store i).now k ≡ Some value →

@@ -32,11 +32,6 @@ use Rattle.bl_emit_spec_laws.proofs.OnRunPlaces.Sharing.{FirstNode, first_node}
 use Rattle.bl_emit_spec_laws_simulation.proofs.OnRuns.Running.{unit_there}
 use Rattle.bl_emit_spec_laws_simulation.proofs.OnLeaves.Numbers.{callees_differ as callees_apart}
 
--- ---- names
-
-no_such : true ≡ false → ⊥
-no_such h = cc
-
 -- ---- numbers
 
 agrees_at : {X Y : Type 0} (f : X → Y) (at : ℕ → Y) (xs : List X) (first k : ℕ) (x : X) → Agrees f at first xs → slice_get xs k

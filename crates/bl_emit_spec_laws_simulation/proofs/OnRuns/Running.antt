@@ -11,7 +11,7 @@ use Rattle.bl_tree.specs.Reduce.{joined}
 use Rattle.bl_tree.specs.Rules.{same_place}
 use Rattle.bl_tree.specs.Typing.{site_of}
 use Rattle.bl_effects.proofs.EntryLemmas.{same_place_is}
-use Rattle.bl_graph_nodes.specs.Nodes.{EnterAt, Node, nodes_in}
+use Rattle.bl_graph_nodes.specs.Nodes.{EnterAt, nodes_in}
 use Rattle.bl_graph_nodes.specs.Plain.{Block, plain_body}
 use Rattle.bl_ctree.specs.declared.instance.Instance.{Instance}
 use Rattle.bl_ctree.specs.declared.instance.Origin.{Origin}
@@ -22,7 +22,6 @@ use Rattle.bl_ctree_laws_confluence.specs.Deeds.Orderly.{AcceptedIsOrderly}
 use Rattle.bl_ctree_laws_confluence.specs.Deeds.Origins.{CalledBy, HasCaller, InstancesHaveCallers}
 use Rattle.bl_ctree_laws_confluence.proofs.OnDeeds.Activities.{AllOf, and_left, and_right, one_a_place_so}
 use Rattle.bl_ctree_laws_traces.proofs.OnProgress.Earlier.{RunsUnit, body_runs}
-use Rattle.bl_ctree_laws_traces.proofs.OnReady.Keys.{Differ, Has, Same}
 use Rattle.bl_ctree_laws_traces.proofs.OnBounded.Callees.{taken_before, typed_at}
 use Rattle.bl_ctree_laws_traces.proofs.OnBounded.Calls.{calls_in, run_of}
 use Rattle.bl_ctree_laws_traces.proofs.OnBounded.Lists.{Among, among_got}
@@ -74,24 +73,6 @@ taken [] (suc n) k unit e = e
 taken (u ∷ units) zero k unit e = absurd (cc)
 taken (u ∷ units) (suc n) zero unit e = e
 taken (u ∷ units) (suc n) (suc k) unit e = taken units n k unit e
-
--- no node stands twice
-same_itself : (n : Node) → Same n n
-same_itself n = record { label = refl; sort = refl }
-
-has_at : (xs : List Node) (k : ℕ) (x n : Node) → slice_get xs k ≡ Some n → Same x n → Has xs x
-has_at [] k x n e same = absurd (cc)
-has_at (y ∷ xs) zero x n e same = inl (subst (Same x) (sym (same_Some y n e)) same)
-has_at (y ∷ xs) (suc k) x n e same = inr (has_at xs k x n e same)
-
-pub one_place : (xs : List Node) → Differ xs → (i j : ℕ) (n : Node) → slice_get xs i ≡ Some n → slice_get xs j ≡ Some n → i ≡ j
-one_place [] apart i j n one two = absurd (cc)
-one_place (x ∷ xs) apart zero zero n one two = refl
-one_place (x ∷ xs) apart zero (suc j) n one two =
-    absurd (apart.0 (has_at xs j x n two (subst (Same x) (same_Some x n one) (same_itself x))))
-one_place (x ∷ xs) apart (suc i) zero n one two =
-    absurd (apart.0 (has_at xs i x n one (subst (Same x) (same_Some x n two) (same_itself x))))
-one_place (x ∷ xs) apart (suc i) (suc j) n one two = ap suc (one_place xs apart.1 i j n one two)
 
 -- ---- units of instances
 

@@ -56,9 +56,6 @@ locals_append xs ys = map-append (λ (l : CLocal). l.name) xs ys
 members_append : (xs ys : List CMember) → member_names (xs ++ ys) ≡ member_names xs ++ member_names ys
 members_append xs ys = map-append (λ (m : CMember). m.name) xs ys
 
-family_append : (b : ℕ) (xs ys : List ℕ) → family b (xs ++ ys) ≡ family b xs ++ family b ys
-family_append b xs ys = map-append (λ k. b ∷ decimal k) xs ys
-
 worded_family_append : (words : ℕ → Text) (b : ℕ) (xs ys : List ℕ) →
     worded_family words b (xs ++ ys) ≡ worded_family words b xs ++ worded_family words b ys
 worded_family_append words b xs ys = map-append (λ k. b ∷ numbered_word (with_word words k)) xs ys

@@ -26,14 +26,6 @@ less_other k n h = grind (arith, nat_tests)
 
 -- ---- one more number
 
-none_under : (n : ℕ) (ks : List ℕ) → under n ks ≡ true → (k : ℕ) → n ≤ k → list_any (nat_eq k) ks ≡ false
-none_under n [] all k le = refl
-none_under n (j ∷ ks) all k le =
-    let less : j < n = lt_of j n (and-left (nat_lt j n) (under n ks) all) in
-    let lt : j < k = grind (arith, nat_tests, less, le) in
-    let other : nat_eq k j ≡ false = grind (arith, nat_tests, lt) in
-    neither (nat_eq k j) (list_any (nat_eq k) ks) other (none_under n ks (and-right (nat_lt j n) (under n ks) all) k le)
-
 numbers_push : (n : ℕ) (ks : List ℕ) → n < 2 ^ 64 → are_numbers ks ≡ true → under n ks ≡ true → are_numbers (ks ++ n ∷ []) ≡ true
 numbers_push n [] small all few = both (nat_lt n (2 ^ 64)) true (lt_test n (2 ^ 64) small) refl
 numbers_push n (k ∷ ks) small all few =

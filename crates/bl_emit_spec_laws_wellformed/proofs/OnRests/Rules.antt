@@ -109,9 +109,6 @@ module _ (slots : Slots) (sizes : Sizes) where
   abbrev ok : Spot → Bool
   ok p = slot_fits sizes (slot_at slots p)
 
-  abbrev fitting : Change → Bool
-  fitting = change_fits sizes
-
   counter_low : (slot : Slot) → slot_fits sizes slot ≡ true → low slot.counter ≡ true
   counter_low slot h = and_left (low slot.counter) _ h
 

@@ -5,7 +5,6 @@ use Rattle.std.proofs.lemmas.Bool.{cases_lt}
 use Rattle.std.proofs.lemmas.List.Elements.{Contains-append_left, Contains-append_right, Contains-push}
 use Rattle.std.proofs.lemmas.Slice.Eq.{bytes_eq-Decides}
 use Rattle.std.specs.Prelude.{Contains, bytes_eq, filter, if◌then◌else◌}
-use Rattle.std.specs.List.{list_all}
 use Rattle.bl_tree.specs.declared.text.Text.{Text}
 use Rattle.bl_tree.specs.Reduce.{joined}
 use Rattle.bl_tree.specs.Words.{are_distinct, is_among}
@@ -45,12 +44,6 @@ joined-has make (z ∷ xs) x y (zero, below, is) has =
     Contains-append_left (make z) (joined (map make xs)) y (subst (λ z. Contains (make z) y) (sym is) has)
 joined-has make (z ∷ xs) x y (suc k, below, is) has =
     Contains-append_right (make z) (joined (map make xs)) y (joined-has make xs x y (k, omega (arith, below), is) has)
-
--- what holds of all holds of one
-pub all-has : {A : Type 0} (test : A → Bool) (xs : List A) (x : A) → list_all test xs ≡ true → Contains xs x → test x ≡ true
-all-has test [] x all (k, below, is) = absurd (omega (arith, below))
-all-has test (y ∷ xs) x all (zero, below, is) = subst (λ z. test z ≡ true) is (and_left (test y) (list_all test xs) all)
-all-has test (y ∷ xs) x all (suc k, below, is) = all-has test xs x (and_right (test y) (list_all test xs) all) (k, omega (arith, below), is)
 
 -- ---- what is found
 

@@ -46,10 +46,6 @@ module _ (frames memories reach most : ℕ → ℕ) where
       let rest = sums-less us (All-tail Fits u us all) in
       omega (arith, one, rest)
 
-pub greatest-total : (ns : List ℕ) → greatest ns ≤ total ns
-greatest-total [] = omega arith
-greatest-total (n ∷ ns) = let rest = greatest-total ns in omega (arith, rest)
-
 pub greatest-less : (one other : ℕ → ℕ) (us : List ℕ) → All (λ u. one u ≤ other u) us → greatest (map one us) ≤ greatest (map other us)
 greatest-less one other [] all = omega arith
 greatest-less one other (u ∷ us) all =

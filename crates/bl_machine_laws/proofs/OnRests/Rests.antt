@@ -59,14 +59,8 @@ plain_branch = fold-Branch (Place → Position → Plain) PlainArm PlainBranch (
 abbrev loops_of_arm : Arm → Loops
 loops_of_arm = fold-Arm (Place → Loops) Loops BranchLoops Loops kind_loops arm_loops branch_loops stmt_loops
 
-abbrev loops_of_branch : Branch → BranchLoops
-loops_of_branch = fold-Branch (Place → Loops) Loops BranchLoops Loops kind_loops arm_loops branch_loops stmt_loops
-
 abbrev instant_of_arm : Arm → Bool
 instant_of_arm = fold-Arm Bool Bool BranchInstant Bool kind_instant arm_instant branch_ends stmt_instant
-
-abbrev ends_of_branch : Branch → BranchInstant
-ends_of_branch = fold-Branch Bool Bool BranchInstant Bool kind_instant arm_instant branch_ends stmt_instant
 
 module _ (agree : (s : Stmt) → (loops_in s).instant ≡ instant s) (site : TypingContext) where
   abbrev S : Stmt → Type 0

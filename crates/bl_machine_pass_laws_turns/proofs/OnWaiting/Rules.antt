@@ -33,9 +33,6 @@ pub record RuleAt (all : List Transition) (y : Node) (P : Condition → Type 0) 
   pub of_node : rule.node ≡ y
   pub is : P rule.condition
 
-pub rule_map : {P Q : Condition → Type 0} (all : List Transition) (y : Node) → ((condition : Condition) → P condition → Q condition) → RuleAt all y P → RuleAt all y Q
-rule_map all y into one = record { rule = one.rule; there = one.there; of_node = one.of_node; is = into one.rule.condition one.is }
-
 -- a resume node is due exactly where the instance rested at one of its numbers
 pub due_at : (number : Node → ℕ) (r : Registers) (n : Node) (condition : Condition) → IsResume condition → due_by number r n condition ≡ true →
     (slot : Slot) × AsksFor condition slot × (is_at r.rested slot ≡ true)

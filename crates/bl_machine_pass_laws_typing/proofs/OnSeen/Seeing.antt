@@ -130,10 +130,6 @@ put_onward store at fields v old new there inner = by_frame (slice_get store at.
     by_frame None is e = absurd cc
     by_frame (Some frame) is e = by_value frame is (slice_get frame.now at.path.root) refl e
 
-not_both : {A : Type 0} (b : Bool) → b ≡ false → b ≡ true → A
-not_both true e f = absurd cc
-not_both false e f = absurd cc
-
 one_some : {A : Type 0} (x y : A) (o : Option A) → o ≡ Some x → o ≡ Some y → x ≡ y
 one_some x y o e f = let is : Some x ≡ Some y = sym e ∙ f in cc
 
