@@ -1,3 +1,4 @@
+pub mod Basics
 pub mod ExprInduction
 pub mod FirstLemmas
 pub mod NumberLemmas
