@@ -3,6 +3,7 @@ use Rattle.std.proofs.Common.{◌≡◌, ℕ, ◌+◌, ◌<◌, Bool, List, [], 
 use Rattle.std.specs.Prelude.{IsPermutation, slice_get}
 use Rattle.std.proofs.lemmas.List.{take_more}
 use Rattle.std.proofs.lemmas.List.Elements.{All-contains}
+use Rattle.bl_tree.proofs.Basics.{true_and_false}
 use Rattle.bl_tree.specs.declared.graph.Graph.{Graph}
 use Rattle.bl_tree.specs.declared.program.Program.{Program}
 use Rattle.bl_tree.specs.declared.tree.Unit.{Unit as UnitDef}
@@ -23,7 +24,6 @@ use Rattle.bl_block.specs.inner.Merging.{EachMerges, Merges}
 use Rattle.bl_block.specs.inner.Ways.{follows, ways_of}
 use Rattle.bl_block.proofs.Beginning.{Begins, begins}
 use Rattle.bl_block.proofs.Grouping.{Chain, apart_grouped, chain_at, chains_grouped, filled_grouped, joined_grouped}
-use Rattle.bl_block.proofs.Tests.{opposite}
 use Rattle.bl_block.proofs.Telling.{following_passes, passing_follows}
 
 -- ---- one activity
@@ -48,7 +48,7 @@ module _ (body : Block) (graph : Graph) (is_graph : IsTickGraph body graph.nodes
 
   nothing_left : (nodes : List ℕ) → NothingLeft body (grouped test nodes)
   nothing_left nodes k one two i j first second end start could =
-      opposite (test i j) (following_passes body graph.nodes graph.edges is_graph once starts within i j could)
+      true_and_false (test i j) (following_passes body graph.nodes graph.edges is_graph once starts within i j could)
       (apart_grouped test nodes k one two i j first second end start)
 
 pub activity_merges : NodesDiffer → MadeOfParts → ((block : Block) → StaysWithin block) → (from : Activity) (graph : Graph) (to : Activity) →

@@ -1,10 +1,10 @@
 -- Numbers as costs tell them: sums, products, lists and tables.
-use Rattle.std.proofs.Common.{◌≡◌, ℕ, ◌+◌, ◌*◌, ◌^◌, ◌<◌, ◌≤◌, Bool, true, false, min, max, List, [], ◌∷◌, ◌++◌, map, length, get_or, drop, Option, Some, None}
-use Rattle.std.proofs.Common.{refl, ap, sym, subst, ◌∙◌, add-one, suc, arith}
+use Rattle.std.proofs.Common.{◌≡◌, ℕ, ◌+◌, ◌*◌, ◌^◌, ◌<◌, ◌≤◌, Bool, true, false, max, List, [], ◌∷◌, ◌++◌, map, length, get_or, drop, Option, Some, None}
+use Rattle.std.proofs.Common.{refl, ap, sym, subst, ◌∙◌, arith}
 use Rattle.std.specs.Prelude.{bytes_eq, option_map, unwrap_or, if◌then◌else◌}
 use Rattle.std.specs.Option.{option_or}
-use Rattle.std.proofs.Math.Seq.{drop-cons}
 use Rattle.std.proofs.lemmas.List.{drop_all}
+use Rattle.bl_tree.proofs.Basics.{drop_next, same_some}
 use Rattle.bl_tree.specs.declared.text.Text.{Text}
 use Rattle.bl_tree.specs.Reduce.{joined, total}
 use Rattle.bl_ctext_semantics.specs.Cost.{Costs, cost_of_calls}
@@ -57,9 +57,6 @@ max-alike a b c d e f = omega arith
 
 -- ---- lists
 
-pub next_of : {X : Type 0} (xs : List X) (k : ℕ) (x : X) → k < length xs → x ≡ get_or xs k x → drop k xs ≡ x ∷ drop (k + 1) xs
-next_of xs k x within is = rw add-one (drop-cons xs k x within ∙ ap (λ y. y ∷ drop (suc k) xs) (sym is))
-
 pub total-alike : {X : Type 0} (f g : X → ℕ) → ((x : X) → capped (f x) ≡ capped (g x)) → (xs : List X) →
     capped (total (map f xs)) ≡ capped (total (map g xs))
 total-alike f g h [] = refl
@@ -88,7 +85,7 @@ pub calls-next : {X : Type 0} (known : Costs) (names : X → List Text) (xs : Li
 calls-next known names xs k x so_far here more all within is e told h =
     let rest = joined (map names (drop (k + 1) xs)) in
     let whole : capped (so_far + cost_of_calls known (names x ++ rest)) ≡ all =
-    subst (λ l. capped (so_far + cost_of_calls known (joined (map names l))) ≡ all) (next_of xs k x within is) h in
+    subst (λ l. capped (so_far + cost_of_calls known (joined (map names l))) ≡ all) (drop_next xs k x within is) h in
     sum-next so_far here more (cost_of_calls known (names x)) (cost_of_calls known rest) all e told
     (ap (λ n. capped (so_far + n)) (sym (calls-append known (names x) rest)) ∙ whole)
 
@@ -106,14 +103,11 @@ calls-done known names xs k cost all past h =
 abbrev pub AlikeCapped : Costs → Costs → Type 0
 AlikeCapped s t = (asked : Text) → option_map capped (s asked) ≡ option_map capped (t asked)
 
-some_of : {A : Type 0} (a b : A) → Some a ≡ Some b → a ≡ b
-some_of a b h = cc
-
 alike-or : (a b : Option ℕ) → option_map capped a ≡ option_map capped b → capped (unwrap_or a 0) ≡ capped (unwrap_or b 0)
 alike-or None None h = refl
 alike-or None (Some b) h = cc
 alike-or (Some a) None h = cc
-alike-or (Some a) (Some b) h = some_of (capped a) (capped b) h
+alike-or (Some a) (Some b) h = same_some (capped a) (capped b) h
 
 pub calls-alike : (s t : Costs) → AlikeCapped s t → (names : List Text) → capped (cost_of_calls s names) ≡ capped (cost_of_calls t names)
 calls-alike s t h names = total-alike (entry_or 0 s) (entry_or 0 t) (λ name. alike-or (s name) (t name) (h name)) names

@@ -7,11 +7,12 @@ use Rattle.std.proofs.lemmas.Bool.Decides.{nat_tests}
 use Rattle.std.proofs.lemmas.List.{get_or-set_other, get_or-set_same, length-set, length_push}
 use Rattle.std.proofs.lemmas.List.Elements.{All-head, All-pop, All-push, All-tail}
 use Rattle.std.proofs.lemmas.List.Sums.{sum_by-set}
+use Rattle.bl_tree.proofs.Basics.{contains_none, first_or_further}
 use Rattle.bl_tree.specs.declared.graph.Edge.{Edge}
 use Rattle.bl_cause.specs.inner.Lists.{In, Rows, RowsWithin, Within, edges_into}
 use Rattle.bl_cause.specs.inner.Numbers.{FallBefore, Lowered, NeverFall, lowered, lowered_along, lowered_if}
 use Rattle.bl_cause.proofs.RowLemmas.{row_within}
-use Rattle.bl_cause.proofs.ListLemmas.{append_left, append_right, contains_cons, contains_none, filter_keeps, in_append}
+use Rattle.bl_cause.proofs.ListLemmas.{append_left, append_right, filter_keeps, in_append}
 
 -- both ends of the edge are among so many nodes
 abbrev Ends : ℕ → Edge → Type 0
@@ -60,7 +61,7 @@ pass_by edges numbers nodes edge row good h x there =
     ⊎_elim
     (λ (is : edge ≡ x). inl (subst (λ it. slice_index numbers it.from ≤ slice_index numbers it.to) is good))
     (λ (later : Contains row x). inr (inr later))
-    (contains_cons edge row x two))
+    (first_or_further edge row x two))
     rest)
     (h x there)
 

@@ -8,13 +8,14 @@ use Rattle.std.proofs.lemmas.List.{drop-append-le, get_or-replicate, get_or_defa
 use Rattle.std.proofs.lemmas.List.{get_or_past, get_or_push, length-replicate, length-set, length_push}
 use Rattle.std.proofs.lemmas.List.Elements.{All-head, All-nil, All-push, All-tail}
 use Rattle.std.proofs.lemmas.List.Sums.{sum_by-set}
+use Rattle.bl_tree.proofs.Basics.{contains_first, contains_further, contains_none, first_or_further}
 use Rattle.bl_tree.specs.declared.graph.Edge.{Edge}
 use Rattle.bl_cause.specs.declared.way_back.Reached.{Reached}
 use Rattle.bl_cause.specs.declared.way_back.Step.{Step}
 use Rattle.bl_cause.specs.Walks.{ClosedWalk, EdgeWalk}
 use Rattle.bl_cause.specs.inner.Lists.{Rows, RowsWithin, Within, edges_from, unseen}
 use Rattle.bl_cause.specs.inner.Steps.{Closed, Earlier, Ends, Leaves, Sees, Tree, gone, gone_along, gone_unless}
-use Rattle.bl_cause.proofs.ListLemmas.{contains_cons, contains_head, contains_none, contains_tail, filter_keeps, filter_there, filter_true, reverse_push}
+use Rattle.bl_cause.proofs.ListLemmas.{filter_keeps, filter_there, filter_true, reverse_push}
 use Rattle.bl_cause.proofs.RowLemmas.{row_within}
 
 -- ---- nodes seen
@@ -253,7 +254,7 @@ leaves_step edges at before edge row r lt le h =
           ⊎_elim
           (λ (same : edge ≡ x). inl (subst (λ it. get_or r.seen it.to false ≡ true) same is))
           (λ (later : Contains row x). inr (inr later))
-          (contains_cons edge row x two))
+          (first_or_further edge row x two))
           rest)
           (h x there from)
       | false ↦ λ is. λ x there from.
@@ -270,7 +271,7 @@ leaves_step edges at before edge row r lt le h =
           ⊎_elim
           (λ (same : edge ≡ x). inl (subst (λ it. get_or (set r.seen edge.to true) it.to false ≡ true) same (seen_new r.seen edge.to lt)))
           (λ (later : Contains row x). inr (inr later))
-          (contains_cons edge row x two))
+          (first_or_further edge row x two))
           rest)
           (h x there old))
           (λ (new : edge.to ≡ x.from). inr (inl (subst (Ends x.from) (sym dropped) (ends_last x.from (drop at r.steps) step new))))
@@ -320,10 +321,10 @@ pub tree_along : (edges : List Edge) (first : Edge) (before : ℕ) (row : List E
 tree_along edges first before [] r lt there follows earlier h = h
 tree_along edges first before (edge ∷ row) r lt there follows earlier h =
     tree_along edges first before row (gone before edge r) (let more = grows_step before edge r in omega (arith, more, lt))
-    (λ it c. there it (contains_tail edge row it c))
-    (λ it d c. follows it d (contains_tail edge row it c) ∙ ap (λ s. s.edge.to) (sym (kept_step before before edge r d lt)))
+    (λ it c. there it (contains_further edge row it c))
+    (λ it d c. follows it d (contains_further edge row it c) ∙ ap (λ s. s.edge.to) (sym (kept_step before before edge r d lt)))
     (earlier_step before edge r lt earlier)
-    (tree_step edges first before edge r lt (there edge (contains_head edge row)) (λ d. follows edge d (contains_head edge row)) earlier h)
+    (tree_step edges first before edge r lt (there edge (contains_first edge row)) (λ d. follows edge d (contains_first edge row)) earlier h)
 
 pub sees_along : (before : ℕ) (row : List Edge) (r : Reached) → Within (length r.seen) row → Sees r.seen r.steps →
     Sees (gone_along before row r).seen (gone_along before row r).steps

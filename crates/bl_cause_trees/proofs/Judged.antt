@@ -1,6 +1,7 @@
 -- The rules for one tick graph, and for an activity by its peeled unit.
 use Rattle.std.proofs.Common.{◌≡◌, true, cond, List, [], ◌∷◌, ⊎_elim, sym, ap, subst, ◌∙◌}
 use Rattle.std.specs.Prelude.{◌<◌, ◌≤◌, Contains, Some}
+use Rattle.bl_tree.proofs.Basics.{contains_first, contains_none, first_or_further}
 use Rattle.bl_tree.specs.declared.graph.Graph.{Graph}
 use Rattle.bl_tree.specs.declared.place.Place.{Place}
 use Rattle.bl_tree.specs.declared.rule.Refusal.{Refusal}
@@ -21,7 +22,6 @@ use Rattle.bl_cause.specs.inner.Graphs.{AnyFails, GraphsFail}
 use Rattle.bl_cause.specs.Rules.{Fails as OwnGraphsFail}
 use Rattle.bl_cause.proofs.AlikeLemmas.{program_cause}
 use Rattle.bl_cause.proofs.GraphLemmas.{cycle_first, twice_first}
-use Rattle.bl_cause.proofs.ListLemmas.{contains_cons, contains_head, contains_none}
 use Rattle.bl_cause.proofs.WalkLemmas.{controls_closed, ranks_leave_no_walk}
 use Rattle.bl_peel.specs.Count.{statement_count}
 use Rattle.bl_peel.specs.Peeled.{peeled}
@@ -37,11 +37,11 @@ module _ (FailsIn : Graph → Place → List Place → Type 0) (graph : Graph) w
   of_alone at also any =
       ⊎_elim (λ (is : graph ≡ any.graph). subst (λ it. FailsIn it at also) (sym is) any.fails)
       (λ (later : Contains [] any.graph). absurd (contains_none any.graph later))
-      (contains_cons graph [] any.graph any.is_there)
+      (first_or_further graph [] any.graph any.is_there)
 
   first_alone : (at : Place) (also : List Place) → IsFirst (FailsIn graph) at also → IsFirst (AnyFails FailsIn (graph ∷ [])) at also
   first_alone at also first = (
-    record { graph = graph; is_there = contains_head graph []; fails = first.0 },
+    record { graph = graph; is_there = contains_first graph []; fails = first.0 },
     λ elsewhere further any. first.1 elsewhere further (of_alone elsewhere further any),
   )
 

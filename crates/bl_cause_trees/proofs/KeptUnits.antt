@@ -3,6 +3,7 @@ use Rattle.std.proofs.Common.{◌≡◌, ◌+◌, ◌<◌, ◌≤◌, Bool, true
 use Rattle.std.proofs.Common.{refl, sym, ap, subst, ◌∙◌, append-nil, arith}
 use Rattle.std.specs.Prelude.{Contains, if◌then◌else◌, is_some, ⊤}
 use Rattle.std.proofs.lemmas.List.Elements.{filter-append}
+use Rattle.bl_tree.proofs.Basics.{contains_none, first_or_further, true_and_false}
 use Rattle.bl_tree.specs.declared.graph.Graph.{Graph}
 use Rattle.bl_tree.specs.declared.place.Place.{Place}
 use Rattle.bl_tree.specs.declared.rule.Refusal.{Refusal}
@@ -20,7 +21,6 @@ use Rattle.bl_cause.specs.inner.Graphs.{GraphsFail}
 use Rattle.bl_cause.specs.Rules.{Passes as OwnGraphsPass}
 use Rattle.bl_cause.proofs.AlikeLemmas.{program_passes}
 use Rattle.bl_cause.proofs.FirstLemmas.{before_then, before_true, no_later}
-use Rattle.bl_cause.proofs.ListLemmas.{contains_cons, contains_none}
 use Rattle.bl_cause.proofs.PairLemmas.{contains_either, contains_last, contains_left, each_first, each_push}
 use Rattle.bl_cause_trees.specs.declared.activity.Judged.{Judged}
 use Rattle.bl_cause_trees.specs.declared.units.Kept.{Kept}
@@ -28,7 +28,7 @@ use Rattle.bl_cause_trees.specs.inner.Judging.{AreKept, IsPeeledBy, after_activi
 use Rattle.bl_cause_trees.specs.Rules.{Fails, FailsInPeeled, Passes}
 use Rattle.bl_cause_trees.specs.Peeled.{ArePeeled, of_function}
 use Rattle.bl_cause_trees.proofs.Judged.{graph_alone, ordered_never_cycle, ordered_never_twice}
-use Rattle.bl_cause_trees.proofs.Peeled.{peeled_units_are_judged, true_not_false}
+use Rattle.bl_cause_trees.proofs.Peeled.{peeled_units_are_judged}
 
 -- ---- units with other bodies
 
@@ -141,8 +141,8 @@ alone_function : (FailsIn : Graph → Place → List Place → Type 0) (unit : U
     FailsInPeeled FailsIn (unit ∷ []) at also → ⊥
 alone_function FailsIn unit function at also fails =
     ⊎_elim
-    (λ (is : unit ≡ fails.unit). true_not_false (is_activity unit.kind) (ap (λ (it : UnitDef). is_activity it.kind) is ∙ fails.activity) function)
-    (λ (none : Contains [] fails.unit). contains_none fails.unit none) (contains_cons unit [] fails.unit fails.is_there)
+    (λ (is : unit ≡ fails.unit). true_and_false (is_activity unit.kind) (ap (λ (it : UnitDef). is_activity it.kind) is ∙ fails.activity) function)
+    (λ (none : Contains [] fails.unit). contains_none fails.unit none) (first_or_further unit [] fails.unit fails.is_there)
 
 no_later_then : (a b c : Place) → AreNoLater (a ∷ []) (b ∷ []) → AreNoLater (b ∷ []) (c ∷ []) → AreNoLater (a ∷ []) (c ∷ [])
 no_later_then a b c one two =

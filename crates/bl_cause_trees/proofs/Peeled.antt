@@ -1,6 +1,7 @@
 -- Peeled units are determined, and the rules fail on them as they do for units that have their bodies.
-use Rattle.std.proofs.Common.{◌≡◌, Bool, true, false, not, List, [], ◌∷◌, ◌⊎◌, inl, inr, ⊎_elim, refl, sym, ap, subst, ◌∙◌, arith}
+use Rattle.std.proofs.Common.{◌≡◌, true, false, not, List, [], ◌∷◌, ◌⊎◌, inl, inr, ⊎_elim, refl, sym, ap, subst, ◌∙◌, arith}
 use Rattle.std.specs.Prelude.{◌≤◌, Contains}
+use Rattle.bl_tree.proofs.Basics.{contains_first, contains_further, true_and_false}
 use Rattle.bl_tree.specs.declared.graph.Graph.{Graph}
 use Rattle.bl_tree.specs.declared.place.Place.{Place}
 use Rattle.bl_tree.specs.declared.rule.Rule.TheVariants as rule
@@ -10,7 +11,6 @@ use Rattle.bl_cause.specs.Activities.{EachTwo, IsGraphOf}
 use Rattle.bl_cause.specs.Fails.{FailsCycle, FailsTwice, Never}
 use Rattle.bl_cause.specs.Rules.{FailsInActivity, Passes as GraphsPass}
 use Rattle.bl_cause.proofs.AlikeLemmas.{cycle_alike, twice_alike}
-use Rattle.bl_cause.proofs.ListLemmas.{contains_head, contains_tail}
 use Rattle.bl_cause.proofs.PairLemmas.{each_first, each_second}
 use Rattle.bl_cause.proofs.WalkLemmas.{never_twice_never_cycle}
 use Rattle.bl_peel.specs.Count.{statement_count}
@@ -22,9 +22,6 @@ use Rattle.bl_cause_trees.specs.Peeled.{ArePeeled, HasWalk, IsPeeledUnit, clean,
 
 -- ---- one unit
 
-pub true_not_false : (b : Bool) → b ≡ true → b ≡ false → ⊥
-true_not_false b one two = cc
-
 -- what an activity is that doesn't stay as it is
 record NeedsTurns (unit : UnitDef) : Type 0 where
   activity : is_activity unit.kind ≡ true
@@ -35,7 +32,7 @@ module _ {unit : UnitDef} where
   -- a peeled unit is the unit itself, which needs no turns, or has the peeled body
   which : {peeled_unit : UnitDef} → IsPeeledUnit unit peeled_unit →
       ((unit ≡ peeled_unit) × (NeedsTurns unit → ⊥)) ⊎ ((record unit { body = peeled unit.body } ≡ peeled_unit) × NeedsTurns unit)
-  which (of_function function) = inl (refl, λ needs. true_not_false (is_activity unit.kind) needs.activity function)
+  which (of_function function) = inl (refl, λ needs. true_and_false (is_activity unit.kind) needs.activity function)
   which (clean none) = inl (refl, λ needs. none needs.walk)
   which (too_large more) = inl (refl, λ needs. let fits = needs.fits in omega arith)
   which (with_turns activity walk fits) = inr (refl, record { activity = activity; walk = walk; fits = fits })
@@ -128,7 +125,7 @@ peeled_units_are_judged units peeled_units are _ at also = (λ fails. absurd fai
 
 each_self : {X : Type 0} (R : X → X → Type 0) (xs : List X) → ((x : X) → Contains xs x → R x x) → EachTwo R xs xs
 each_self R [] all = tt
-each_self R (x ∷ xs) all = (all x (contains_head x xs), each_self R xs (λ y there. all y (contains_tail x xs y there)))
+each_self R (x ∷ xs) all = (all x (contains_first x xs), each_self R xs (λ y there. all y (contains_further x xs y there)))
 
 own_peeled : (units : List UnitDef) → GraphsPass units → (unit : UnitDef) → Contains units unit → IsPeeledUnit unit unit
 own_peeled units pass unit there =

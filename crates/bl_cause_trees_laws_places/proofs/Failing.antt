@@ -1,35 +1,34 @@
 -- The rules Twice and Cycle fail at the images of places, where places are mapped.
-use Rattle.std.proofs.Common.{◌≡◌, ⊎_elim, Bool, true, false, ◌&&◌, ℕ, ◌<◌, List, [], ◌∷◌, length, map, refl, ap, sym, subst, ◌∙◌}
+use Rattle.std.proofs.Common.{◌≡◌, ⊎_elim, Bool, true, false, ◌&&◌, ◌<◌, List, [], ◌∷◌, length, map, refl, ap, sym, subst, ◌∙◌}
 use Rattle.std.specs.Prelude.{◌↔◌, Contains, IsTrue, nat_lt}
 use Rattle.std.specs.List.{list_all}
 use Rattle.std.proofs.lemmas.Bool.{ltb-true}
+use Rattle.bl_tree.proofs.Basics.{contains_mapped, contains_none, first_or_further}
 use Rattle.bl_tree.specs.declared.graph.Edge.{Edge}
 use Rattle.bl_tree.specs.declared.graph.Graph.{Graph}
 use Rattle.bl_tree.specs.declared.place.Place.{Place}
-use Rattle.bl_tree.specs.declared.rule.Rule.{Rule}
 use Rattle.bl_tree.specs.declared.rule.Rule.TheVariants as rule
 use Rattle.bl_tree.specs.declared.tree.Unit.{Unit as UnitDef}
 use Rattle.bl_tree.specs.Typing.{is_activity}
 use Rattle.bl_tree_laws_places.specs.Laws.{BringsBack, FailsMoved}
 use Rattle.bl_tree_laws_places.specs.Placed.{placed_unit, placed_units}
-use Rattle.bl_tree_laws_places.proofs.Lists.{first_or, from_map, into_map, none_there}
+use Rattle.bl_tree_laws_places.proofs.Lists.{from_map}
 use Rattle.bl_cause.specs.Activities.{IsGraphOf}
 use Rattle.bl_cause.specs.Fails.{BeginsWalk, FailsCycle, FailsTwice}
 use Rattle.bl_cause.specs.Walks.{controls}
 use Rattle.bl_cause.proofs.WalkLemmas.{control_is}
 use Rattle.bl_cause_trees.specs.Rules.{Fails, FailsInPeeled}
 use Rattle.bl_cause_trees.specs.Peeled.{IsPeeledUnit}
-use Rattle.bl_graph_laws_places.specs.Placed.{placed_nodes}
 use Rattle.bl_cause_trees_laws_places.specs.Laws.{FailuresMove, PassingStays}
-use Rattle.bl_cause_trees_laws_places.proofs.Peeled.{Source, graph_from, graph_to, moved_graph, peeled_from, peeled_to}
-use Rattle.bl_cause_trees_laws_places.proofs.Walks.{Begins, Moved, begins_from, begins_to}
+use Rattle.bl_cause_trees_laws_places.proofs.Peeled.{graph_from, graph_to, moved_graph, peeled_from, peeled_to}
+use Rattle.bl_cause_trees_laws_places.proofs.Walks.{Begins, begins_from, begins_to}
 
 -- what holds of all elements holds of each
 all_at : {X : Type 0} (test : X → Bool) (xs : List X) → list_all test xs ≡ true → (x : X) → Contains xs x → test x ≡ true
-all_at test [] all x there = absurd (none_there x there)
+all_at test [] all x there = absurd (contains_none x there)
 all_at test (y ∷ xs) all x there =
     ⊎_elim (λ is. ap test (sym is) ∙ and_first (test y) (list_all test xs) all)
-    (λ behind. all_at test xs (and_second (test y) (list_all test xs) all) x behind) (first_or y xs x there)
+    (λ behind. all_at test xs (and_second (test y) (list_all test xs) all) x behind) (first_or_further y xs x there)
   where
     and_first : (a b : Bool) → (a && b) ≡ true → a ≡ true
     and_first true b e = refl
@@ -141,7 +140,7 @@ module _ (f g : Place → Place) (back : BringsBack g f) (units : List UnitDef) 
   fails_to : (at : Place) (also : List Place) → InSource at also → FailsInPeeled FailsIn (placed_units f units) at also
   fails_to at also h = let fails = h.fails in record {
     unit = placed_unit f fails.unit;
-    is_there = into_map (placed_unit f) units fails.unit fails.is_there;
+    is_there = contains_mapped (placed_unit f) units fails.unit fails.is_there;
     activity = fails.activity;
     peeled_unit = placed_unit f fails.peeled_unit;
     is_peeled = peeled_to f g back fails.unit fails.is_peeled;

@@ -1,10 +1,12 @@
 -- From the pieces of a text to the file that it spells.
-use Rattle.std.proofs.Common.{◌≡◌, ◌≢◌, ℕ, ◌≤◌, ◌<◌, ◌^◌, Bool, true, false, nat_le, ◌==◌, List, [], ◌∷◌, ◌++◌, length, map, drop, refl, sym, ap, ◌∙◌, subst}
+use Rattle.std.proofs.Common.{◌≡◌, ◌≢◌, ℕ, ◌≤◌, ◌<◌, ◌^◌, Bool, true, false, ◌==◌, List, [], ◌∷◌, ◌++◌, length, map, drop, refl, sym, ap, ◌∙◌, subst}
 use Rattle.std.proofs.Common.{arith}
 use Rattle.std.specs.Prelude.{Option, Some, None, MatchOption}
 use Rattle.std.specs.List.{starts_with}
 use Rattle.std.proofs.lemmas.Slice.Eq.{starts_is}
 use Rattle.std.proofs.lemmas.Bool.Decides.{nat_tests, Decides-eqb}
+use Rattle.std.proofs.lemmas.Bool.{and_from}
+use Rattle.bl_tree.proofs.Basics.{at_most_test}
 use Rattle.bl_tree.specs.declared.c.CStruct.{CStruct}
 use Rattle.bl_tree.specs.declared.c.CFunc.{CFunc}
 use Rattle.bl_tree.specs.Reduce.{all_of, joined}
@@ -14,7 +16,6 @@ use Rattle.bl_ctext.specs.Token.{Token, SpacedC}
 use Rattle.bl_ctext.specs.inner.Cut.{are_tokens}
 use Rattle.bl_ctext.specs.Spelling.{struct_tokens, func_tokens, tokens_of}
 use Rattle.bl_ctext.specs.Spellable.{has_any, is_spellable, most_open, spells_func, spells_struct}
-use Rattle.bl_ctext.proofs.Bytes.{both}
 use Rattle.bl_cparse_syntax.specs.Pieces.{pieces}
 use Rattle.bl_ctext.specs.declared.file.CFile.{CFile}
 use Rattle.bl_cparse_syntax.specs.Rules.{Passes, FailsFirst}
@@ -33,9 +34,6 @@ use Rattle.bl_cparse.specs.inner.Reading.{part}
 use Rattle.bl_cparse.specs.Places.{WantsMemory}
 use Rattle.bl_cparse.proofs.ItemOpening.{file_opens}
 
-at_most : (a b : ℕ) → a ≤ b → nat_le a b ≡ true
-at_most a b h = grind (arith, nat_tests)
-
 pub whole_tokens : (structs : List CStruct) (funcs : List CFunc) (all rest : List Token) →
     all ≡ joined (map struct_tokens structs) ++ rest → rest ≡ joined (map func_tokens funcs) → all ≡ tokens_of structs funcs
 whole_tokens structs funcs all rest h k = h ∙ ap (λ ts. joined (map struct_tokens structs) ++ ts) k
@@ -45,7 +43,7 @@ pub is_file : (structs : List CStruct) (funcs : List CFunc) (all : List Token) �
     all_of (map spells_func funcs) ≡ true → most_open 0 all ≤ 2000 → is_spellable structs funcs ≡ true
 is_file structs funcs all e s f ss fs flat =
     let low : most_open 0 (tokens_of structs funcs) ≤ 2000 = subst (λ ts. most_open 0 ts ≤ 2000) e flat in
-    both _ _ s (both _ _ f (both _ _ ss (both _ _ fs (at_most (most_open 0 (tokens_of structs funcs)) 2000 low))))
+    and_from _ _ s (and_from _ _ f (and_from _ _ ss (and_from _ _ fs (at_most_test (most_open 0 (tokens_of structs funcs)) 2000 low))))
 
 pub spells_file : (structs : List CStruct) (funcs : List CFunc) (text : List ℕ) → pieces text ≡ tokens_of structs funcs →
     are_tokens (pieces text) ≡ true → SpacedC (tokens_of structs funcs) text

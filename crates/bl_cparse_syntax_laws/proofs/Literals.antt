@@ -1,5 +1,5 @@
 -- Numbers and literals are of the classes that the grammar has for them.
-use Rattle.std.proofs.Common.{◌≡◌, ℕ, zero, suc, ◌+◌, ◌-◌, ◌*◌, ◌^◌, ◌≤◌, ◌<◌, ℤ, pos, negsuc, Bool, true, false, ◌==◌, cond, nat_lt, List, [], ◌∷◌, ◌++◌}
+use Rattle.std.proofs.Common.{◌≡◌, ℕ, zero, suc, ◌+◌, ◌-◌, ◌*◌, ◌^◌, ◌≤◌, ◌<◌, ℤ, pos, negsuc, Bool, true, false, ◌==◌, cond, List, [], ◌∷◌, ◌++◌}
 use Rattle.std.proofs.Common.{length, get_or, map, refl, arith, codes}
 use Rattle.std.proofs.lemmas.Bool.{le-leb, lt-ltb}
 use Rattle.std.proofs.lemmas.Bool.Decides.{nat_tests}
@@ -7,6 +7,7 @@ use Rattle.std.proofs.lemmas.Fmt.{decimal_is_IsNumeral, decimal_digit, first_dec
 use Rattle.std.specs.Char.{is_ascii_digit, digit_value}
 use Rattle.std.specs.Str.Parse.{AllDigits, digits_value}
 use Rattle.std.specs.Fmt.{decimal}
+use Rattle.bl_tree.proofs.Basics.{less_from}
 use Rattle.bl_tree.specs.declared.scalar.Width.{Width}
 use Rattle.bl_tree.specs.declared.scalar.Width.TheVariants.{W8, W16, W32, W64}
 use Rattle.bl_tree.specs.declared.scalar.Scalar.{Scalar}
@@ -180,17 +181,14 @@ negative_begun w n low high k ss ts go = by_least (n == negatives w) refl
     by_least true e = simple (plain_word k _ ss ts (least_is w).0 (least_is w).1 go)
     by_least false e = bracketed (minus_rest w n) refl (minus_goes k w n ss ts low (other e) go)
 
-below : (n m : ℕ) → nat_lt n m ≡ true → n < m
-below n m h = grind (arith, nat_tests)
-
 pub literal_begun : (s : Scalar) (n : ℤ) → is_literal s n ≡ true → OfKindTokens (literal_tokens s n)
 literal_begun scalar.Bool (pos n) h k ss ts go = simple (plain_word k _ ss ts (truth_is (n == 0)).0 (truth_is (n == 0)).1 go)
 literal_begun scalar.Bool (negsuc n) h k ss ts go = absurd (let e : false ≡ true = h in cc)
 literal_begun (scalar.Int w) (pos n) h k ss ts go =
-    simple (simple_constant k _ (Int w) n ss ts (int_among w) (int_plain w) (omega arith) (below n (negatives w) h) go)
-literal_begun (scalar.Int w) (negsuc n) h k ss ts go = let small : n < negatives w = below n (negatives w) h in
+    simple (simple_constant k _ (Int w) n ss ts (int_among w) (int_plain w) (omega arith) (less_from n (negatives w) h) go)
+literal_begun (scalar.Int w) (negsuc n) h k ss ts go = let small : n < negatives w = less_from n (negatives w) h in
     negative_begun w (suc n) (omega arith) (omega (arith, small)) k ss ts go
 literal_begun (scalar.Nat w) (pos n) h k ss ts go =
-    simple (simple_constant k _ (Unsigned w) n ss ts (unsigned_among w) (unsigned_plain w) (omega arith) (below n (2 * negatives w) h) go)
+    simple (simple_constant k _ (Unsigned w) n ss ts (unsigned_among w) (unsigned_plain w) (omega arith) (less_from n (2 * negatives w) h) go)
 literal_begun (scalar.Nat w) (negsuc n) h k ss ts go = absurd (let e : false ≡ true = h in cc)
 literal_begun (scalar.Bits w) n h k ss ts go = absurd (let e : false ≡ true = h in cc)

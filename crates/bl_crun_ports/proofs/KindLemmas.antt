@@ -6,6 +6,7 @@ use Rattle.std.specs.Option.{option_or}
 use Rattle.std.proofs.lemmas.Grind.{common_steps}
 use Rattle.std.proofs.lemmas.Slice.Eq.{bytes_eq-Decides}
 use Rattle.std.proofs.lemmas.List.{append_assoc, map-append, take_all}
+use Rattle.bl_tree.proofs.Basics.{same_some}
 use Rattle.bl_tree.specs.declared.text.Text.{Text}
 use Rattle.bl_tree.specs.declared.scalar.Scalar.{Scalar}
 use Rattle.bl_tree.specs.declared.c.CMember.{CMember}
@@ -74,9 +75,6 @@ grown-next known s rest =
     (λ name. sym (next_entry (known name) (bytes_eq s.name name) (flat_map (inner_of_member known) s.members)
     (found name (inner_after (with_entry known s.name (flat_map (inner_of_member known) s.members)) rest))))
 
-pub some_of : {A : Type 0} (a b : A) → Some a ≡ Some b → a ≡ b
-some_of a b h = cc
-
 abbrev cells_after : Table (List Inner) → CStruct → List Inner
 cells_after known s = flat_map (inner_of_member known) s.members
 
@@ -96,7 +94,7 @@ module _ (name : Text) where
         ≡ Some (flat_map (inner_of_member (grown known (take at (s ∷ rest)))) (get_or (s ∷ rest) at d).members)
     found-later at within None there h = cc
     found-later at within (Some k) there h =
-        let same : suc k ≡ at = some_of (suc k) at h in
+        let same : suc k ≡ at = same_some (suc k) at h in
         let below_end : k < end = omega (arith, same, within) in
         subst (λ n. found name (inner_after (known_after known s) (take end rest))
         ≡ Some (flat_map (inner_of_member (grown known (take n (s ∷ rest)))) (get_or (s ∷ rest) n d).members)) same
@@ -107,7 +105,7 @@ module _ (name : Text) where
         ≡ Some (flat_map (inner_of_member (grown known (take at (s ∷ rest)))) (get_or (s ∷ rest) at d).members)
     found-here at within true h =
         subst (λ n. Some (cells_after known s) ≡ Some (flat_map (inner_of_member (grown known (take n (s ∷ rest)))) (get_or (s ∷ rest) n d).members))
-        (some_of 0 at h) (ap (λ t. Some (flat_map (inner_of_member t) s.members)) (sym (grown-none known)))
+        (same_some 0 at h) (ap (λ t. Some (flat_map (inner_of_member t) s.members)) (sym (grown-none known)))
     found-here at within false h = found-later at within (struct_position name rest) refl h
 
   found-at : (known : Table (List Inner)) (structs : List CStruct) (end at : ℕ) (d : CStruct) → struct_position name structs ≡ Some at → at < end →
@@ -146,11 +144,11 @@ module _ (name : Text) where
 
   within-later : (n at : ℕ) (o : Option ℕ) → ((k : ℕ) → o ≡ Some k → k < n) → option_map suc o ≡ Some at → at < suc n
   within-later n at None next h = cc
-  within-later n at (Some k) next h = let same : suc k ≡ at = some_of (suc k) at h in let below : k < n = next k refl in omega (arith, same, below)
+  within-later n at (Some k) next h = let same : suc k ≡ at = same_some (suc k) at h in let below : k < n = next k refl in omega (arith, same, below)
 
   within-here : (n at : ℕ) (b : Bool) (o : Option ℕ) → ((k : ℕ) → o ≡ Some k → k < n) →
       (if b then Some 0 else option_map suc o) ≡ Some at → at < suc n
-  within-here n at true o next h = let same : 0 ≡ at = some_of 0 at h in omega (arith, same)
+  within-here n at true o next h = let same : 0 ≡ at = same_some 0 at h in omega (arith, same)
   within-here n at false o next h = within-later n at o next h
 
   pub placed-within : (structs : List CStruct) (at : ℕ) → struct_position name structs ≡ Some at → at < length structs
@@ -160,11 +158,11 @@ module _ (name : Text) where
   module _ (s : CStruct) (rest : List CStruct) (d : CStruct) (next : (k : ℕ) → struct_position name rest ≡ Some k → (get_or rest k d).name ≡ name) where
     name-later : (at : ℕ) (o : Option ℕ) → struct_position name rest ≡ o → option_map suc o ≡ Some at → (get_or (s ∷ rest) at d).name ≡ name
     name-later at None there h = cc
-    name-later at (Some k) there h = subst (λ n. (get_or (s ∷ rest) n d).name ≡ name) (some_of (suc k) at h) (next k there)
+    name-later at (Some k) there h = subst (λ n. (get_or (s ∷ rest) n d).name ≡ name) (same_some (suc k) at h) (next k there)
 
     name-here : (at : ℕ) (b : Bool) → bytes_eq s.name name ≡ b → (if b then Some 0 else option_map suc (struct_position name rest)) ≡ Some at →
         (get_or (s ∷ rest) at d).name ≡ name
-    name-here at true here h = subst (λ n. (get_or (s ∷ rest) n d).name ≡ name) (some_of 0 at h) ((bytes_eq-Decides s.name name).0 here)
+    name-here at true here h = subst (λ n. (get_or (s ∷ rest) n d).name ≡ name) (same_some 0 at h) ((bytes_eq-Decides s.name name).0 here)
     name-here at false here h = name-later at (struct_position name rest) refl h
 
   pub found-name : (structs : List CStruct) (at : ℕ) (d : CStruct) → struct_position name structs ≡ Some at → (get_or structs at d).name ≡ name
@@ -205,7 +203,7 @@ module _ (name : Text) where
   before-end structs end at is = there (struct_position name structs) is
     where
       chosen : (k : ℕ) (b : Bool) → nat_lt k end ≡ b → (if b then Some k else None) ≡ Some at → at < end
-      chosen k true less h = let same : k ≡ at = some_of k at h in let below : nat_lt at end ≡ true = ap (λ n. nat_lt n end) (sym same) ∙ less in
+      chosen k true less h = let same : k ≡ at = same_some k at h in let below : nat_lt at end ≡ true = ap (λ n. nat_lt n end) (sym same) ∙ less in
           grind (arith, common_steps)
       chosen k false less h = cc
 

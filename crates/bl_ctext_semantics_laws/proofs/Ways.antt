@@ -4,6 +4,7 @@ use Rattle.std.proofs.Common.{None, refl, ap, sym, ◌∙◌, arith, suc-mul}
 use Rattle.std.specs.Prelude.{unwrap_or, option_map, option_and_then, nat_lt, ◌==◌, if◌then◌else◌}
 use Rattle.std.proofs.lemmas.Grind.{common_steps}
 use Rattle.std.proofs.lemmas.Slice.Eq.{bytes_eq-Decides}
+use Rattle.bl_tree.proofs.Basics.{same_some}
 use Rattle.bl_tree.specs.declared.text.Text.{Text}
 use Rattle.bl_tree.specs.declared.c.CType.{CType}
 use Rattle.bl_tree.specs.declared.c.CType.TheVariants.{Scalar as OfScalar, Struct as OfStruct}
@@ -55,9 +56,6 @@ pub record Shaped (known : Sizes) (lists : Lists) (structs : Structs) : Type 0 w
   pub sized : (name : Text) (ms : List CMember) → lists name ≡ Some ms → known name ≡ Some (total (map (size_of_member known) ms))
 
 -- ---- what is there
-
-some_of : {A : Type 0} (a b : A) → Some a ≡ Some b → a ≡ b
-some_of a b h = cc
 
 pub spot_size-length : (known : Sizes) (ty : CType) (length : Option ℕ) →
     spot_size known (spot_of_length ty length) ≡ size_of_length length (size_of_type known ty)
@@ -170,7 +168,7 @@ module _ (known : Sizes) (lists : Lists) (structs : Structs) (shaped : Shaped kn
   step-apart (whole (OfStruct struct)) a b (member m) (member n) h k differ =
       let s : Stepped struct m a = stepped struct m a h in
       let t : Stepped struct n b = stepped struct n b k in
-      let same : s.list ≡ t.list = some_of s.list t.list (sym s.is ∙ t.is) in
+      let same : s.list ≡ t.list = same_some s.list t.list (sym s.is ∙ t.is) in
       let apart : Apart (offset_in known s.list m) (size_of_member known s.it) (offset_in known s.list n) (size_of_member known t.it) =
       offset-apart (size_of_member known) (by_name s.list) m n s.it t.it differ s.there (ap (λ l. found n (by_name l)) same ∙ t.there) in
       let ea = offset-of-member struct m s.list s.is in

@@ -1,6 +1,7 @@
 -- Steps and waking lead from what may be left of items to what may be left of them.
 use Rattle.std.proofs.Common.{◌≡◌, ℕ, suc, Bool, true, false, List, [], ◌∷◌, ◌++◌, refl, subst, ℤ, Option, Some, None}
 use Rattle.std.specs.Prelude.{option_map, unwrap_or}
+use Rattle.bl_tree.proofs.Basics.{from_false}
 use Rattle.bl_tree.specs.declared.tree.Arm.{out-Arm}
 use Rattle.bl_tree.specs.declared.tree.Branch.{Branch, out-Branch}
 use Rattle.bl_tree.specs.declared.tree.Stmt.{Stmt}
@@ -102,10 +103,6 @@ seq_is_left w stood i item rest items c stands fit of = seq_left c rest stands f
 
 -- ---- steps
 
--- what begins has not stood
-new : {A : Type 0} → false ≡ true → A
-new e = absurd cc
-
 -- and is not to be checked
 unchecked : {A : Type 0} → Body ≡ Check → A
 unchecked e = absurd cc
@@ -124,13 +121,13 @@ mutual
   keeps_of to_begin (passes_arm e) = of_further e to_begin
   keeps_of to_begin (takes_else {s = s} {other = other} e) = of_else e (block_left s (suc s.passed) other)
   keeps_of to_begin (pauses e) = paused e
-  keeps_of to_begin (runs {unit = unit} e at is) = of_run e at is new unchecked (unit_left unit.body)
+  keeps_of to_begin (runs {unit = unit} e at is) = of_run e at is from_false unchecked (unit_left unit.body)
   keeps_of to_begin (repeats {s = s} {body} e) = of_repeat e (turn_left s body (Begin s) (a_begin no_item))
   keeps_of to_begin (repeats_until {s = s} {body} e) = of_until e (turn_left s body (Again s) (an_again e no_item))
   keeps_of to_begin (enters {s = s} {body = body} e) = of_while e (turn_left s body (Begin s) (a_begin no_item))
   keeps_of to_begin (skips e) = ended
-  keeps_of to_begin (forks {s = s} {branches} e) = of_par e new (each_left s 0 branches)
-  keeps_of to_begin (guards {s = s} {body = body} e) = of_guard e new unchecked (block_left s 0 body)
+  keeps_of to_begin (forks {s = s} {branches} e) = of_par e from_false (each_left s 0 branches)
+  keeps_of to_begin (guards {s = s} {body = body} e) = of_guard e from_false unchecked (block_left s 0 body)
   keeps_of (to_turn e) (leaves is) = ended
   keeps_of (to_turn e) (turns is) = of_again e to_begin
   keeps_of ended move = elim move [ ]

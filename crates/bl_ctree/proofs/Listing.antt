@@ -1,6 +1,8 @@
 -- The listed points of a tree are the steps of the relation.
 use Rattle.std.proofs.Common.{◌≡◌, ℕ, Bool, true, false, not, ◌&&◌, List, [], ◌∷◌, ◌++◌, map, refl, sym, ap, subst, ◌∙◌, Option, Some, None, ◌⊎◌, inl, inr}
 use Rattle.std.specs.Prelude.{if◌then◌else◌, option_map, option_and_then, unwrap_or}
+use Rattle.std.proofs.lemmas.Bool.{not-true}
+use Rattle.bl_tree.proofs.Basics.{not_of_false}
 use Rattle.bl_tree.specs.declared.tree.Arm.{Arm}
 use Rattle.bl_tree.specs.declared.tree.Branch.{Branch}
 use Rattle.bl_tree.specs.declared.tree.Guard.TheVariants.{Abort, Reset}
@@ -21,7 +23,6 @@ use Rattle.bl_ctree.specs.Store.{Store, with_frame, with_inputs}
 use Rattle.bl_ctree.specs.Steps.{Acting, leads, fails, IsStill, Moves, OneMoves, acts, takes_arm, passes_arm, takes_else, pauses, runs, repeats, repeats_until}
 use Rattle.bl_ctree.specs.Steps.{leaves, turns, enters, skips, forks, guards, goes_on, waits, lets, aborts, resets, guard_ends, copies, run_ends, joins, in_seq}
 use Rattle.bl_ctree.specs.Steps.{in_par, in_guard, in_run, first, later}
-use Rattle.bl_ctree.proofs.Bools.{not-true, not-false}
 use Rattle.bl_ctree.proofs.Elements.{among-map, of-map, among-left, among-right, of-append, of-filter, among-filter}
 
 -- ---- what is listed may act
@@ -262,7 +263,7 @@ listed_free meets l free =
     record {
       point = l.point;
       among = among-filter (λ point. not (meets point.action)) l.among
-          (not-false (meets l.point.action) (ap meets l.acts ∙ free));
+          (not_of_false (meets l.point.action) (ap meets l.acts ∙ free));
       acts = l.acts;
       leads = l.leads;
     }

@@ -3,6 +3,7 @@ use Rattle.std.proofs.Common.{◌≡◌, ◌≢◌, ℕ, zero, suc, ◌+◌, ◌
 use Rattle.std.proofs.Common.{refl, sym, ap, ◌∙◌, arith}
 use Rattle.std.specs.Prelude.{Some, None, option_map, slice_get, slice_set}
 use Rattle.std.proofs.lemmas.Option.{slice_get-get_or}
+use Rattle.bl_tree.proofs.Basics.{drop_at, drop_past}
 use Rattle.bl_ctree_enabled.specs.Listing.{flagged, list_at, trues}
 
 -- ---- one element is set
@@ -45,24 +46,10 @@ set_here [] k x within = absurd (omega (arith, within))
 set_here (y ∷ xs) zero x within = refl
 set_here (y ∷ xs) (suc k) x within = set_here xs k x (omega (arith, within))
 
-pub get_within : {A : Type 0} (xs : List A) (k : ℕ) (x : A) → slice_get xs k ≡ Some x → k < length xs
-get_within [] k x is = absurd cc
-get_within (y ∷ xs) zero x is = omega arith
-get_within (y ∷ xs) (suc k) x is = let rest = get_within xs k x is in omega (arith, rest)
-
 pub get_here : {A : Type 0} (xs : List A) (k : ℕ) (x : A) → k < length xs → x ≡ get_or xs k x → slice_get xs k ≡ Some x
 get_here [] k x within is = absurd (omega arith)
 get_here (y ∷ xs) zero x within is = ap Some (sym is)
 get_here (y ∷ xs) (suc k) x within is = get_here xs k x (omega arith) is
-
-pub drop_here : {A : Type 0} (xs : List A) (k : ℕ) (x : A) → slice_get xs k ≡ Some x → drop k xs ≡ x ∷ drop (suc k) xs
-drop_here [] k x is = absurd cc
-drop_here (y ∷ xs) zero x is = let same : y ≡ x = cc in ap (λ z. z ∷ xs) same ∙ ap (λ rest. x ∷ rest) (whole xs)
-  where
-    whole : {A : Type 0} (ys : List A) → ys ≡ drop 0 ys
-    whole [] = refl
-    whole (y ∷ ys) = refl
-drop_here (y ∷ xs) (suc k) x is = drop_here xs k x is
 
 -- the first elements of one list and the others of another, of which one more is taken from the first list
 pub mixed_more : {A : Type 0} (xs ys : List A) (k : ℕ) (x : A) → length ys ≡ length xs → slice_get xs k ≡ Some x
@@ -124,11 +111,6 @@ flagged_filter p (x ∷ xs) = by (p x) (flagged_filter p xs)
     by true rest = ap (λ rest. x ∷ rest) rest
     by false rest = rest
 
-pub get_front : {A : Type 0} (xs ys : List A) (n : ℕ) → n < length xs → slice_get (xs ++ ys) n ≡ slice_get xs n
-get_front [] ys n within = absurd (omega arith)
-get_front (x ∷ xs) ys zero within = refl
-get_front (x ∷ xs) ys (suc n) within = get_front xs ys n (omega arith)
-
 pub get_behind : {A : Type 0} (xs ys : List A) (n m : ℕ) → n ≡ length xs + m → slice_get (xs ++ ys) n ≡ slice_get ys m
 get_behind [] ys n m is = let same : n ≡ m = omega (arith, is) in ap (slice_get ys) same
 get_behind (x ∷ xs) ys zero m is = absurd (omega (arith, is))
@@ -139,15 +121,15 @@ pub flagged_here : {A : Type 0} (bs : List Bool) (xs : List A) (k n m : ℕ) (x 
     n ≡ suc m
     → slice_get (flagged (drop k bs) (drop k xs)) n ≡ slice_get (flagged (drop (suc k) bs) (drop (suc k) xs)) m
 flagged_here bs xs k n m x flag here is =
-    (λ i. slice_get (flagged (drop_here bs k true flag i) (drop_here xs k x here i)) (is i))
+    (λ i. slice_get (flagged (drop_at bs k true flag i) (drop_at xs k x here i)) (is i))
 
 pub flagged_first : {A : Type 0} (bs : List Bool) (xs : List A) (k : ℕ) (x : A) → slice_get bs k ≡ Some true → slice_get xs k ≡ Some x
     → slice_get (flagged (drop k bs) (drop k xs)) 0 ≡ Some x
-flagged_first bs xs k x flag here = λ i. slice_get (flagged (drop_here bs k true flag i) (drop_here xs k x here i)) 0
+flagged_first bs xs k x flag here = λ i. slice_get (flagged (drop_at bs k true flag i) (drop_at xs k x here i)) 0
 
 pub flagged_not : {A : Type 0} (bs : List Bool) (xs : List A) (k : ℕ) (x : A) → slice_get bs k ≡ Some false → slice_get xs k ≡ Some x
     → flagged (drop k bs) (drop k xs) ≡ flagged (drop (suc k) bs) (drop (suc k) xs)
-flagged_not bs xs k x flag here = λ i. flagged (drop_here bs k false flag i) (drop_here xs k x here i)
+flagged_not bs xs k x flag here = λ i. flagged (drop_at bs k false flag i) (drop_at xs k x here i)
 
 -- ---- one element is read
 
@@ -161,9 +143,6 @@ pub set_read : {A : Type 0} (xs : List A) (k : ℕ) (x d : A) → k < length xs 
 set_read [] k x d within = absurd (omega arith)
 set_read (y ∷ xs) zero x d within = refl
 set_read (y ∷ xs) (suc k) x d within = set_read xs k x d (omega arith)
-
-pub some_same : {A : Type 0} (a b : A) → Some a ≡ Some b → a ≡ b
-some_same a b e = cc
 
 -- ---- the flagged one that is looked for
 
@@ -187,14 +166,8 @@ none_flagged : {A : Type 0} (bs : List Bool) → flagged {A = A} bs [] ≡ []
 none_flagged [] = refl
 none_flagged (b ∷ bs) = refl
 
-past_all : {A : Type 0} (xs : List A) (k : ℕ) → length xs ≤ k → drop k xs ≡ []
-past_all [] zero past = refl
-past_all [] (suc k) past = refl
-past_all (x ∷ xs) zero past = absurd (omega arith)
-past_all (x ∷ xs) (suc k) past = past_all xs k (omega arith)
-
 pub flagged_past : {A : Type 0} (bs : List Bool) (xs : List A) (k : ℕ) → length xs ≤ k → flagged (drop k bs) (drop k xs) ≡ []
-flagged_past bs xs k past = ap (flagged (drop k bs)) (past_all xs k past) ∙ none_flagged (drop k bs)
+flagged_past bs xs k past = ap (flagged (drop k bs)) (drop_past xs k past) ∙ none_flagged (drop k bs)
 
 -- ---- the list with a number
 

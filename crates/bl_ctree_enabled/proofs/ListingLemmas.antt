@@ -2,6 +2,7 @@
 use Rattle.std.proofs.Common.{◌≡◌, ◌≢◌, ℕ, zero, suc, ◌+◌, Bool, true, false, ◌&&◌, List, [], ◌∷◌, ◌++◌, map, filter, take, drop, length, refl, sym, ap, ◌∙◌}
 use Rattle.std.proofs.Common.{subst, arith, if◌then◌else◌}
 use Rattle.std.specs.Prelude.{slice_set}
+use Rattle.bl_tree.proofs.Basics.{and_first, and_second, map_length}
 use Rattle.bl_ctree.specs.Actions.{Silent}
 use Rattle.bl_ctree.specs.Control.{Control, Branches, Nil, Wait, Test, Idle, Do, Turn, Seq, Par, Guard, Run, no_branch, branch, are_done, are_settled}
 use Rattle.bl_ctree.specs.Control.{is_settled}
@@ -86,26 +87,18 @@ listed_enabled w fork l lists = ap enabled lists ∙ sym (enabled_all w fork.ins
 
 -- ---- a `cobegin` of which a branch has points doesn't end
 
-and-left : (a b : Bool) → (a && b) ≡ true → a ≡ true
-and-left true b is = refl
-and-left false b is = is
-
-and-right : (a b : Bool) → (a && b) ≡ true → b ≡ true
-and-right true b is = is
-and-right false b is = absurd cc
-
 settled_branches : SettledIsStill → (w : Setting) (i : ℕ) (bs : Branches) → are_settled bs ≡ true → branch_points w i bs ≡ []
 settled_branches still w i no_branch e = refl
 settled_branches still w i (branch weak c others) e =
     ap (λ ps. map (in_first (λ c. branch weak c others)) (free_of (any_meets w i others) ps)
     ++ map (in_later (branch weak c)) (free_of (meets w i c) (branch_points w i others)))
-    (still w i c (and-left (is_settled c) (are_settled others) e))
+    (still w i c (and_first (is_settled c) (are_settled others) e))
     ∙ ap (λ ps. map (in_later (branch weak c)) (free_of (meets w i c) ps))
-    (settled_branches still w i others (and-right (is_settled c) (are_settled others) e))
+    (settled_branches still w i others (and_second (is_settled c) (are_settled others) e))
 
 no_joining : SettledIsStill → (w : Setting) (i : ℕ) (s : Located) (bs : Branches) (b : Bool) → (are_settled bs && are_done bs) ≡ b →
     branch_points w i bs ≢ [] → (if b then sure i s Silent Nil else []) ≡ []
-no_joining still w i s bs true is some = absurd (some (settled_branches still w i bs (and-left (are_settled bs) (are_done bs) is)))
+no_joining still w i s bs true is some = absurd (some (settled_branches still w i bs (and_first (are_settled bs) (are_done bs) is)))
 no_joining still w i s bs false is some = refl
 
 map_around : {A B : Type 0} (w : Setting) (around : A → B) (all : List (Point A)) →
@@ -191,10 +184,6 @@ listed_moved w i c k d l new lists is_homes is_spots right =
     ∙ ap (λ n. slice_set (spots_from w i 0 (top_of c)) k (spots_in w i n d)) first ∙ sym (moved_spots w i 0 k (top_of c) d)) j))
     ∙ ap (λ bs. listing_in w (record { instance = i; branches = bs })) (sym (top_moved c k d))
 
-pub map_many : {A B : Type 0} (f : A → B) (xs : List A) → length (map f xs) ≡ length xs
-map_many f [] = refl
-map_many f (x ∷ xs) = ap suc (map_many f xs)
-
 pub spots_many : (w : Setting) (i k : ℕ) (bs : List Seen) → length (spots_from w i k bs) ≡ length bs
 spots_many w i k [] = refl
 spots_many w i k (b ∷ bs) = ap suc (spots_many w i (suc k) bs)
@@ -204,6 +193,6 @@ pub kept_right : (w : Setting) (fork : Fork) (l : EnabledView) → Lists w fork 
     → IsRight l × (length l.homes ≡ length fork.branches) × (length l.spots ≡ length fork.branches)
 kept_right w fork l lists = (
   subst IsRight (sym lists) (record { free = refl; counts = refl }),
-  ap (λ l. length l.homes) lists ∙ map_many (homes_seen w fork.instance) fork.branches,
+  ap (λ l. length l.homes) lists ∙ map_length (homes_seen w fork.instance) fork.branches,
   ap (λ l. length l.spots) lists ∙ spots_many w fork.instance 0 fork.branches,
 )

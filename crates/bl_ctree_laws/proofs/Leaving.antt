@@ -1,5 +1,6 @@
 -- Steps and waking lead from what may be left of a body to what may be left of it.
 use Rattle.std.proofs.Common.{◌≡◌, ℕ, Bool, true, false, refl}
+use Rattle.bl_tree.proofs.Basics.{from_false}
 use Rattle.bl_graph_nodes.specs.Plain.{Block, Bodies, Plain, Body as BodyOf, Done, Last, Then, plain_body}
 use Rattle.bl_graph_nodes.specs.Steps.{StepLabel}
 use Rattle.bl_ctree.specs.Control.{Check, Body}
@@ -49,10 +50,6 @@ seq_left (Run p callee phase stood c) stands of = of_one stands of refl
 
 -- ---- steps
 
--- what begins has not stood
-new : {A : Type 0} → false ≡ true → A
-new e = absurd cc
-
 -- and is not to be checked
 unchecked : {A : Type 0} → Body ≡ Check → A
 unchecked e = absurd cc
@@ -71,15 +68,15 @@ module _ {T : Bool → Type 0} {w : Setting} where
     keeps_of to_begin (takes {body = body}) = of_then (block_left body)
     keeps_of to_begin (passes {other = other}) = of_else (block_left other)
     keeps_of to_begin pauses = paused
-    keeps_of to_begin (runs {unit = unit} at is) = of_run at is new unchecked (block_left (plain_body unit.body))
+    keeps_of to_begin (runs {unit = unit} at is) = of_run at is from_false unchecked (block_left (plain_body unit.body))
     keeps_of to_begin repeats = of_repeat (block_left _)
     keeps_of to_begin repeats_until = of_until (block_left _)
     keeps_of to_begin leaves = ended
     keeps_of to_begin turns = of_again to_begin
     keeps_of to_begin enters = of_while (block_left _)
     keeps_of to_begin skips = ended
-    keeps_of to_begin (forks {bodies = bodies}) = of_par new (each_left bodies)
-    keeps_of to_begin (guards {body = body}) = of_guard new unchecked (block_left body)
+    keeps_of to_begin (forks {bodies = bodies}) = of_par from_false (each_left bodies)
+    keeps_of to_begin (guards {body = body}) = of_guard from_false unchecked (block_left body)
     keeps_of ended move = elim move [ ]
     keeps_of paused move = elim move [ ]
     keeps_of tested goes_on = ended

@@ -4,6 +4,7 @@ use Rattle.std.specs.Prelude.{if◌then◌else◌}
 use Rattle.std.specs.List.{list_any}
 use Rattle.std.proofs.lemmas.List.Elements.{All-head, All-tail}
 use Rattle.std.proofs.lemmas.List.Folds.{list_any-append}
+use Rattle.bl_tree.proofs.Basics.{and_false, or_false, or_true}
 use Rattle.bl_tree.specs.declared.place.Place.{Place}
 use Rattle.bl_tree.specs.declared.static_path.Static.{Static}
 use Rattle.bl_tree.specs.declared.tree.Arm.{Arm, out-Arm, fold-Arm, fold_out-Arm}
@@ -34,21 +35,9 @@ use Rattle.bl_ctree_laws.proofs.PlainKinds.{by_kind}
 
 -- ---- tests over lists
 
-or_true : (a : Bool) → (a || true) ≡ true
-or_true true = refl
-or_true false = refl
-
 or_same : (a : Bool) → (a || a) ≡ a
 or_same true = refl
 or_same false = refl
-
-or_none : (a : Bool) → (a || false) ≡ a
-or_none true = refl
-or_none false = refl
-
-and_none : (a : Bool) → (a && false) ≡ false
-and_none true = refl
-and_none false = refl
 
 any_if : (test : Static → Bool) (b : Bool) (xs : List Static) → list_any test (if b then xs else []) ≡ (b && list_any test xs)
 any_if test true xs = refl
@@ -162,8 +151,8 @@ module _ (test : Static → Bool) where
       soon_in test (else_at l (map plain_arm arms) (plain_block other)) ≡ list_any test (of_arms arms ++ block_surface (map surface_of other))
   else_soon [] other l each others = inner_soon other (inside l l.passed) others
   else_soon (arm ∷ rest) other l each others = ap (λ b. (soon_in test (plain_block (out-Arm arm).body (inside l l.passed))
-      || soon_in test (else_at (passed_one l) (map plain_arm rest) (plain_block other))) || b) (and_none _)
-      ∙ or_none _
+      || soon_in test (else_at (passed_one l) (map plain_arm rest) (plain_block other))) || b) (and_false _)
+      ∙ or_false _
       ∙ arm_and_others arm rest other (inside l l.passed) (passed_one l) (All-head (λ arm. OfBlock (out-Arm arm).body) arm rest each)
       (else_soon rest other (passed_one l) (All-tail (λ arm. OfBlock (out-Arm arm).body) arm rest each) others)
 

@@ -2,11 +2,11 @@
 use Rattle.std.proofs.Common.{◌≡◌, Bool, true, false, not, ◌&&◌, ◌||◌, cond, List, [], ◌∷◌, ◌++◌, refl, sym, ap, ◌∙◌, append-nil}
 use Rattle.std.specs.Prelude.{filter}
 use Rattle.std.specs.List.{list_any}
+use Rattle.std.proofs.lemmas.Bool.{or_left, or_right}
 use Rattle.bl_tree.specs.Rules.{same_place}
 use Rattle.bl_effects.proofs.EntryLemmas.{same_place_is, same_place_refl}
 use Rattle.bl_ctree.specs.Instances.{one_a_place}
 use Rattle.bl_ctree.specs.declared.instance.Run.{Run}
-use Rattle.bl_ctree_laws.proofs.Tests.{or_left, or_right}
 
 -- ---- lists of which some elements are kept
 

@@ -1,6 +1,7 @@
 -- A step of a tree is one of each related tree, or a head that falls away after which fewer may fall away there.
 use Rattle.std.proofs.Common.{◌≡◌, ◌⊎◌, inl, inr, ℕ, ◌<◌, Bool, true, false, not, Option, Some, None, refl, sym, ap, ◌∙◌, subst, arith}
 use Rattle.std.specs.Prelude.{position}
+use Rattle.bl_tree.proofs.Basics.{and_first, and_second}
 use Rattle.bl_tree.specs.declared.place.Place.{Place}
 use Rattle.bl_tree.specs.declared.tree.Expr.{Expr}
 use Rattle.bl_tree.specs.declared.tree.Unit.{Unit as UnitDef}
@@ -16,7 +17,6 @@ use Rattle.bl_ctree_laws.specs.Steps.{goes_on, waits, lets, aborts, resets, guar
 use Rattle.bl_ctree_laws.specs.Steps.{turn}
 use Rattle.bl_ctree_laws.specs.Trees.{Call, Fork, Tree, Trees, Watch, Nil, Do, Guard, Par, Run, are_done, are_settled, before, beside, do_block, is_nil}
 use Rattle.bl_ctree_laws.specs.Trees.{is_settled, trees_begun}
-use Rattle.bl_ctree_laws.proofs.Tests.{and_first, and_second}
 use Rattle.bl_ctree_laws_peeled.specs.Answers.{SameDeed}
 use Rattle.bl_ctree_laws_peeled.proofs.Heads.{FallsAt, FallsEach, FewAt, FewEach, FewInTree, HasTurn, HeadFalls, HeadsStay, falls_begins, falls_fork}
 use Rattle.bl_ctree_laws_peeled.proofs.Heads.{falls_guard, falls_here, falls_in, falls_run, falls_there, few_begins, few_fork, few_guard, few_here, few_in}

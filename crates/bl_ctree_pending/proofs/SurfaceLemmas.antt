@@ -1,9 +1,8 @@
 -- What surfaces come to at one statement, arm or branch, and one step of each loop over them.
-use Rattle.std.proofs.Common.{◌≡◌, ℕ, suc, ◌+◌, ◌<◌, Bool, ◌&&◌, ◌||◌, List, [], ◌∷◌, ◌++◌, map, length, get_or, drop, refl, sym, ap, ◌∙◌, subst}
-use Rattle.std.proofs.Common.{add-one, append_assoc, if◌then◌else◌}
+use Rattle.std.proofs.Common.{◌≡◌, ℕ, ◌+◌, ◌<◌, Bool, ◌&&◌, ◌||◌, List, [], ◌∷◌, ◌++◌, map, refl, sym, ap, ◌∙◌, subst}
+use Rattle.std.proofs.Common.{append_assoc, if◌then◌else◌}
 use Rattle.std.specs.Prelude.{Result, IfOk}
 use Rattle.std.proofs.Math.Bool.{and_assoc, or_assoc}
-use Rattle.std.proofs.Math.Seq.{drop-cons}
 use Rattle.bl_tree.specs.declared.place.Place.{Place}
 use Rattle.bl_tree.specs.declared.tree.Arm.{Arm, fold_out-Arm, out-Arm}
 use Rattle.bl_tree.specs.declared.tree.Branch.{Branch, fold_out-Branch, out-Branch}
@@ -18,9 +17,6 @@ use Rattle.bl_effects.specs.Surface.{BranchSurface, Surface, arm_surface, block_
 use Rattle.bl_effects.proofs.InstantLemmas.{surface_agrees}
 use Rattle.bl_ctree.specs.Positions.{Position, left_of_if}
 use Rattle.bl_ctree_pending.specs.inner.Surfaces.{surface_of_arm, surface_of_branch}
-
-pub next_of : {X : Type 0} (xs : List X) (k : ℕ) (x : X) → k < length xs → x ≡ get_or xs k x → drop k xs ≡ x ∷ drop (k + 1) xs
-next_of xs k x within is = rw add-one (drop-cons xs k x within ∙ ap (λ y. y ∷ drop (suc k) xs) (sym is))
 
 pub arm_out : (arm : Arm) → surface_of_arm arm ≡ record {
   instant = block_instant (map surface_of (out-Arm arm).body);

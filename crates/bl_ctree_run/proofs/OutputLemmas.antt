@@ -1,10 +1,11 @@
 -- No action takes a variable from an instance, so the store has a value for each output throughout.
-use Rattle.std.proofs.Common.{◌≡◌, ℕ, zero, suc, ◌+◌, ◌-◌, ◌≤◌, ℤ, Bool, true, false, List, [], ◌∷◌, ◌++◌, length, min, take, drop, Option, Some, None}
+use Rattle.std.proofs.Common.{◌≡◌, ℕ, zero, suc, ◌+◌, ◌-◌, ◌≤◌, ℤ, true, List, [], ◌∷◌, ◌++◌, length, min, take, drop, Option, Some, None}
 use Rattle.std.proofs.Common.{refl, sym, ap, ◌∙◌, subst, arith, ◌&&◌}
 use Rattle.std.specs.Prelude.{Result, Ok, Err, nat_le, option_and_then, option_map, slice_get, slice_set, unwrap_or}
 use Rattle.std.proofs.lemmas.Bool.{leb-true}
 use Rattle.std.proofs.lemmas.List.{length-append, length-drop, length-map, length-take}
 use Rattle.std.proofs.lemmas.Option.{slice_get-map}
+use Rattle.bl_tree.proofs.Basics.{and_first, and_second, at_most_itself, at_most_then}
 use Rattle.bl_tree.specs.declared.memory.NoMemory.{NoMemory}
 use Rattle.bl_tree.specs.declared.tree.Arm.{Arm}
 use Rattle.bl_tree.specs.declared.tree.Branch.{Branch}
@@ -40,22 +41,16 @@ pub data Covers : Option Frame → Option Frame → Type 0 where
 pub record Grows (old new : Store) : Type 0 where
   pub at : (i : ℕ) → Covers (slice_get old i) (slice_get new i)
 
-le_refl : (n : ℕ) → n ≤ n
-le_refl n = omega arith
-
 covers_same : (f : Option Frame) → Covers f f
 covers_same None = no_frame
-covers_same (Some f) = no_fewer (le_refl (length f.now))
+covers_same (Some f) = no_fewer (at_most_itself (length f.now))
 
 pub grows_same : (store : Store) → Grows store store
 grows_same store = record { at = λ i. covers_same (slice_get store i) }
 
-le_trans : (a b c : ℕ) → a ≤ b → b ≤ c → a ≤ c
-le_trans a b c h k = omega arith
-
 covers_on : {f g h : Option Frame} → Covers f g → Covers g h → Covers f h
 covers_on no_frame no_frame = no_frame
-covers_on (no_fewer {f} {g} a) (no_fewer {f = g2} {g = h} b) = no_fewer (le_trans (length f.now) (length g.now) (length h.now) a b)
+covers_on (no_fewer {f} {g} a) (no_fewer {f = g2} {g = h} b) = no_fewer (at_most_then (length f.now) (length g.now) (length h.now) a b)
 
 grows_on : {old mid new : Store} → Grows old mid → Grows mid new → Grows old new
 grows_on a b = record { at = λ i. covers_on (a.at i) (b.at i) }
@@ -104,7 +99,7 @@ put_grows_at store at value f None is same = grows_same store
 put_grows_at store at value f (Some now) is same =
     record {
       at = set_covers store at.instance f (record f { now = now }) is
-          (subst (λ (n : ℕ). length f.now ≤ n) (sym (same now refl)) (le_refl (length f.now)));
+          (subst (λ (n : ℕ). length f.now ≤ n) (sym (same now refl)) (at_most_itself (length f.now)));
     }
 
 put_grows_in : (store : Store) (at : Location) (value : Value) (found : Option Frame) → slice_get store at.instance ≡ found
@@ -153,11 +148,11 @@ acted_grows : (w : Setting) (i : ℕ) (s : Stmt) (k : StmtKind-F StmtKind Arm Br
 acted_grows w i s (StmtKind-F.Return None) store new is = let same : store ≡ new = cc in subst (λ (new : Store). Grows store new) same (grows_same store)
 acted_grows w i s (StmtKind-F.Return (Some e)) store new is =
     some_grows store new (λ value. with_frame i (with_result value) store) (value_there w store i e)
-    (λ value. changed_grows i (with_result value) store (λ f. le_refl (length f.now))) is
+    (λ value. changed_grows i (with_result value) store (λ f. at_most_itself (length f.now))) is
 acted_grows w i s (StmtKind-F.Declare k initial) store new is =
     some_grows store new (λ values. with_frame i (remember k) (put_written w i values (writes s) store)) (outcome_there w store i s)
     (λ values. grows_on (written_grows w i values (writes s) store)
-    (changed_grows i (remember k) (put_written w i values (writes s) store) (λ f. le_refl (length f.now)))) is
+    (changed_grows i (remember k) (put_written w i values (writes s) store) (λ f. at_most_itself (length f.now)))) is
 acted_grows w i s (StmtKind-F.Assign path e) store new is = puts_grow w i s store new is
 acted_grows w i s (StmtKind-F.Call f inputs outputs) store new is = puts_grow w i s store new is
 acted_grows w i s (StmtKind-F.Await e) store new is = puts_grow w i s store new is
@@ -216,20 +211,12 @@ outputs_carried w i deed old new (Err e) carried has = subst (λ (store : Store)
 
 -- ---- at the start
 
-and_left : (a b : Bool) → (a && b) ≡ true → a ≡ true
-and_left true b both = refl
-and_left false b both = both
-
-and_right : (a b : Bool) → (a && b) ≡ true → b ≡ true
-and_right true b both = both
-and_right false b both = absurd cc
-
 -- a unit's parameters are among its variables
 room_of : (structs : List StructDef) (earlier : List UnitDef) (unit : UnitDef) → unit_stands structs earlier unit ≡ true →
     unit.inputs + unit.outputs ≤ length unit.vars
 room_of structs earlier unit stands =
     leb-true (unit.inputs + unit.outputs) (length unit.vars)
-    (and_left (nat_le (unit.inputs + unit.outputs) (length unit.vars)) _ (and_left (roles_stand unit) _ (and_left (roles_stand unit && _) _ stands)))
+    (and_first (nat_le (unit.inputs + unit.outputs) (length unit.vars)) _ (and_first (roles_stand unit) _ (and_first (roles_stand unit && _) _ stands)))
 
 room_at : (structs : List StructDef) (earlier units : List UnitDef) (k : ℕ) (unit : UnitDef) →
     units_stand_after structs earlier units ≡ true → slice_get units k ≡ Some unit
@@ -237,9 +224,9 @@ room_at : (structs : List StructDef) (earlier units : List UnitDef) (k : ℕ) (u
 room_at structs earlier [] k unit stands is = absurd cc
 room_at structs earlier (u ∷ units) zero unit stands is =
     let same : u ≡ unit = cc in
-    subst (λ (u : UnitDef). u.inputs + u.outputs ≤ length u.vars) same (room_of structs earlier u (and_left (unit_stands structs earlier u) _ stands))
+    subst (λ (u : UnitDef). u.inputs + u.outputs ≤ length u.vars) same (room_of structs earlier u (and_first (unit_stands structs earlier u) _ stands))
 room_at structs earlier (u ∷ units) (suc k) unit stands is =
-    room_at structs (earlier ++ u ∷ []) units k unit (and_right (unit_stands structs earlier u) _ stands) is
+    room_at structs (earlier ++ u ∷ []) units k unit (and_second (unit_stands structs earlier u) _ stands) is
 
 module _ (w : Setting) (stands : units_stand_after w.structs [] w.units ≡ true) where
   unit_row : (k : ℕ) (unit : Option UnitDef) → slice_get w.units k ≡ unit

@@ -1,6 +1,7 @@
 -- The n-th point, as it is told, leads where the n-th of the points does.
 use Rattle.std.proofs.Common.{◌≡◌, ℕ, zero, suc, ◌≢◌, ◌<◌, true, List, [], ◌∷◌, map, length, Option, Some, None, refl, sym, ap, ◌∙◌, subst, arith}
 use Rattle.std.specs.Prelude.{option_and_then, option_map, slice_get, Result, Ok, Err, IfOk, IfSome}
+use Rattle.bl_tree.proofs.Basics.{map_length}
 use Rattle.bl_tree.specs.declared.memory.NoMemory.{NoMemory}
 use Rattle.bl_eval.specs.declared.values.Did.{Did}
 use Rattle.bl_ctree.specs.Actions.{Effect, Performed, done, effect_on, perform, values_there}
@@ -18,7 +19,6 @@ use Rattle.bl_ctree_enabled.specs.Spots.{Spot, effect_in, spot_below, spot_of}
 use Rattle.bl_ctree_run.specs.inner.Spots.{after_by, unread}
 use Rattle.bl_ctree_enabled.specs.Laws.{PointsAreListed}
 use Rattle.bl_ctree_enabled.specs.Listing.{EnabledView, Lists, enabled}
-use Rattle.bl_ctree_enabled.proofs.ListingLemmas.{map_many}
 use Rattle.bl_ctree_run.specs.inner.Spines.{fork_at}
 use Rattle.bl_ctree_run.proofs.AfterLemmas.{leads_on}
 use Rattle.bl_ctree_run.proofs.SpineLemmas.{spine_points}
@@ -96,7 +96,7 @@ chosen_some law w c l n lists (Some p) f is = chosen_listed law w c l n (f p) li
 pub count_listed : PointsAreListed → (w : Setting) (c : Control) (l : EnabledView) → Lists w (fork_at 0 c) l → enabled l ≢ []
     → length (enabled l) ≡ length (points w 0 c)
 count_listed law w c l lists some =
-    ap length (sym (spine_points w l law 0 c lists some)) ∙ map_many (spot_below w []) (points w 0 c)
+    ap length (sym (spine_points w l law 0 c lists some)) ∙ map_length (spot_below w []) (points w 0 c)
 
 -- some may act where so many are counted
 pub some_counted : (l : EnabledView) (count : ℕ) → count ≡ length (enabled l) → 0 < count → enabled l ≢ []

@@ -4,19 +4,19 @@ use Rattle.std.proofs.Common.{refl, sym, ap, ◌∙◌, arith, append_assoc, nat
 use Rattle.std.specs.List.{list_any}
 use Rattle.std.proofs.lemmas.List.Elements.{filter-append}
 use Rattle.std.proofs.lemmas.List.Folds.{list_any-append}
+use Rattle.std.proofs.lemmas.Bool.{and_parts}
+use Rattle.bl_tree.proofs.Basics.{and_false, drop_none, map_append, or_regroup, same_number}
 use Rattle.bl_tree.specs.Static.{is_front, overlaps}
 use Rattle.bl_ctree.specs.Instances.{Setting}
 use Rattle.bl_ctree.specs.Nodes.{Seen}
 use Rattle.bl_ctree.specs.Store.{Location, overlap}
 use Rattle.bl_ctree_store.specs.declared.home.Home.{Home}
 use Rattle.bl_ctree_store.specs.Seen.{location_of}
-use Rattle.bl_ctree_store.proofs.KeyLemmas.{both_true, nat_same}
 use Rattle.bl_ctree_run.specs.declared.writers.Write.{Write as WriteNode}
 use Rattle.bl_ctree_enabled.specs.Spots.{Spot, homes_seen, is_free_of, meets_one, taken}
 use Rattle.bl_ctree_run.specs.inner.Writers.{Write, all_writes, is_beside, is_free, is_met, of_variable, same_variable, writes_by}
 use Rattle.bl_ctree_run.specs.inner.Writers.{writes_from, writes_kept}
-use Rattle.bl_ctree_enabled.proofs.BranchLemmas.{any_or, any_same, map-append, not_or}
-use Rattle.bl_ctree_run.proofs.BranchLemmas.{drop_all}
+use Rattle.bl_ctree_enabled.proofs.BranchLemmas.{any_or, any_same, not_or}
 
 -- ---- as it is kept
 
@@ -40,7 +40,7 @@ noted_more at k done home old between new is_between is_new =
     is_new ∙ ap (λ xs. xs ++ of_variable at one) is_between ∙ append_assoc old (of_variable at front) (of_variable at one)
     ∙ ap (λ xs. old ++ xs) (sym (near-append at front one))
     ∙ ap (λ xs. old ++ of_variable at xs) (sym (by-append k (map location_of done) (location_of home ∷ [])))
-    ∙ ap (λ xs. old ++ of_variable at (writes_by k xs)) (sym (map-append location_of done (home ∷ [])))
+    ∙ ap (λ xs. old ++ of_variable at (writes_by k xs)) (sym (map_append location_of done (home ∷ [])))
 
 -- one more branch
 pub branch_noted : (at : Location) (w : Setting) (i : ℕ) (all : List Seen) (k next : ℕ) (b : Seen) (old new whole : List Write) →
@@ -61,35 +61,27 @@ branch_noted at w i all k next b old new whole is_next here is_new before =
 -- ---- what is met
 
 flip : (m n : ℕ) → nat_eq m n ≡ true → nat_eq n m ≡ true
-flip m n is = eq-eqb n m (sym (nat_same m n is))
+flip m n is = eq-eqb n m (sym (same_number m n is))
 
 overlap_same : (home at : Location) → overlap at home ≡ true → same_variable home at ≡ true
 overlap_same home at is =
-    let both = both_true (nat_eq at.instance home.instance) (overlaps at.path home.path) is in
-    let roots = both_true (nat_eq at.path.root home.path.root) (is_front at.path.fields home.path.fields || is_front home.path.fields at.path.fields) both.1 in
+    let both = and_parts (nat_eq at.instance home.instance) (overlaps at.path home.path) is in
+    let roots = and_parts (nat_eq at.path.root home.path.root) (is_front at.path.fields home.path.fields || is_front home.path.fields at.path.fields) both.1 in
     λ i. flip at.instance home.instance both.0 i && flip at.path.root home.path.root roots.0 i
 
 apart : (home at : Location) → same_variable home at ≡ false → (b : Bool) → overlap at home ≡ b → b ≡ false
 apart home at is true met = let same = overlap_same home at met in absurd cc
 apart home at is false met = refl
 
-and_false : (a : Bool) → (a && false) ≡ false
-and_false true = refl
-and_false false = refl
-
 and_or : (a b c : Bool) → ((a && b) || (a && c)) ≡ (a && (b || c))
 and_or true b c = refl
 and_or false b c = refl
-
-or_assoc : (a b c : Bool) → (a || (b || c)) ≡ ((a || b) || c)
-or_assoc true b c = refl
-or_assoc false b c = refl
 
 unequal : (m n : ℕ) → m ≢ n → nat_eq m n ≡ false
 unequal m n other = by (nat_eq m n) refl
   where
     by : (b : Bool) → nat_eq m n ≡ b → b ≡ false
-    by true is = absurd (other (nat_same m n is))
+    by true is = absurd (other (same_number m n is))
     by false is = refl
 
 -- writes to other variables don't count
@@ -141,13 +133,13 @@ met_from zero j at (homes ∷ all) =
     let same : j ≡ j + 0 = omega arith in
     any_self (j + 0) j at homes (writes_from (suc j) all) same
     ∙ all_others (j + 0) (suc j) at all (omega arith)
-    ∙ ap (λ all. meets_one all at) (sym (drop_all all))
+    ∙ ap (λ all. meets_one all at) (sym (drop_none all))
 met_from (suc k) j at (homes ∷ all) =
     let same : j + suc k ≡ suc j + k = omega arith in
     any_other (j + suc k) j at homes (writes_from (suc j) all) (λ same. omega arith)
     ∙ ap (λ n. list_any (overlap at) homes || list_any (is_beside n at) (writes_from (suc j) all)) same
     ∙ ap (λ b. list_any (overlap at) homes || b) (met_from k (suc j) at all)
-    ∙ or_assoc (list_any (overlap at) homes) (meets_one (take k all) at) (meets_one (drop (suc k) all) at)
+    ∙ or_regroup (list_any (overlap at) homes) (meets_one (take k all) at) (meets_one (drop (suc k) all) at)
 
 met_beside : (entries : Entries) (all : List (List Location)) (k : ℕ) (at : Location) → writes_kept entries at ≡ of_variable at (all_writes all)
     → is_met entries k at ≡ (meets_one (take k all) at || meets_one (drop (k + 1) all) at)

@@ -1,5 +1,5 @@
 -- Keys of maps and sets that tie.
-use Rattle.std.proofs.Common.{◌≡◌, ℕ, Bool, true, false, ◌&&◌, refl, sym, ◌∙◌, subst, nat_cmp, nat_eq, is_eq, Ordering, Less, Equal, Greater, eqb→eq, T}
+use Rattle.std.proofs.Common.{◌≡◌, ◌&&◌, refl, ◌∙◌, nat_cmp, is_eq, Ordering, Less, Equal, Greater, eqb→eq}
 use Rattle.std.specs.BTreeMap.{is_at}
 use Rattle.std.specs.Cmp.{unsigned_tied}
 use Rattle.std.specs.Ordering.{ordering_then}
@@ -12,13 +12,6 @@ pub both_equal : (r s : Ordering) → is_eq (ordering_then r s) ≡ (is_eq r && 
 both_equal Less s = refl
 both_equal Equal s = refl
 both_equal Greater s = refl
-
-pub both_true : (a b : Bool) → (a && b) ≡ true → (a ≡ true) × (b ≡ true)
-both_true true b is = (refl, is)
-both_true false b is = absurd (cc)
-
-pub nat_same : (m n : ℕ) → nat_eq m n ≡ true → m ≡ n
-nat_same m n is = eqb→eq m n (subst T (sym is) tt)
 
 -- a place is that of a key where the key ties
 pub same_place_key : (a b : Place) → is_at (place_cmp (key_of a)) (key_of b) ≡ same_place a b

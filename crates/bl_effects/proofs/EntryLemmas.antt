@@ -1,11 +1,13 @@
 -- What the table's map has at a key is what is found at its place.
-use Rattle.std.proofs.Common.{None, Option, ◌≡◌, Bor, ℕ, Bool, true, false, cond, ◌&&◌, List, [], ◌∷◌, map, Some, refl, sym, ap, ◌∙◌, subst, nat_cmp, is_eq}
-use Rattle.std.proofs.Common.{nat_eq, Ordering, Less, Equal, Greater, eqb→eq, T}
+use Rattle.std.proofs.Common.{None, Option, ◌≡◌, Bor, ℕ, Bool, true, false, cond, ◌&&◌, List, [], ◌∷◌, map, Some, refl, sym, ap, ◌∙◌, nat_cmp, is_eq}
+use Rattle.std.proofs.Common.{nat_eq, Ordering, Less, Equal, Greater, eqb→eq}
 use Rattle.std.specs.BTreeMap.{is_at}
 use Rattle.std.specs.Cmp.{nat_eq_equiv, unsigned_tied}
 use Rattle.std.specs.Map.{lookup}
 use Rattle.std.specs.Ordering.{ordering_then}
 use Rattle.std.specs.Prelude.{option_copied, option_map}
+use Rattle.std.proofs.lemmas.Bool.{and_parts}
+use Rattle.bl_tree.proofs.Basics.{same_number}
 use Rattle.bl_tree.specs.declared.place.Place.{Place}
 use Rattle.bl_effects.specs.declared.table.Sets.{Sets}
 use Rattle.bl_effects.specs.Entries.{effect_at, entry, key_of, place_at}
@@ -27,18 +29,11 @@ same_key a b = both_equal (nat_cmp a.start b.start) (nat_cmp a.end b.end) ∙ (�
 pub same_place-symm : (a b : Place) → same_place a b ≡ same_place b a
 same_place-symm a b = λ i. nat_eq_equiv.symm a.start b.start i && nat_eq_equiv.symm a.end b.end i
 
-both_true : (a b : Bool) → (a && b) ≡ true → (a ≡ true) × (b ≡ true)
-both_true true b is = (refl, is)
-both_true false b is = absurd (cc)
-
-nat_same : (m n : ℕ) → nat_eq m n ≡ true → m ≡ n
-nat_same m n is = eqb→eq m n (subst T (sym is) tt)
-
 pub same_place_is : (a b : Place) → same_place a b ≡ true → a ≡ b
 same_place_is a b is =
-    let both = both_true (nat_eq a.start b.start) (nat_eq a.end b.end) is in
-    let starts = nat_same a.start b.start both.0 in
-    let ends = nat_same a.end b.end both.1 in
+    let both = and_parts (nat_eq a.start b.start) (nat_eq a.end b.end) is in
+    let starts = same_number a.start b.start both.0 in
+    let ends = same_number a.end b.end both.1 in
     λ i. record { start = starts i; end = ends i }
 
 pub same_place_refl : (a : Place) → same_place a a ≡ true

@@ -2,16 +2,17 @@
 use Rattle.std.proofs.Common.{◌≡◌, ℕ, ◌+◌, ◌<◌, ◌≤◌, List, [], ◌∷◌, ◌++◌, inl, inr, ⊎_elim, take, length, get_or, Some}
 use Rattle.std.proofs.Common.{refl, sym, ap, ◌∙◌, subst, take-suc, take_all, add-one}
 use Rattle.std.proofs.lemmas.List.Elements.{Contains-append_left, Contains-push, Contains-push_cases}
+use Rattle.bl_tree.proofs.Basics.{contains_none}
 use Rattle.bl_tree.specs.declared.tree.Stmt.{Stmt}
 use Rattle.bl_tree.specs.declared.tree.Unit.{Unit as UnitDef}
 use Rattle.bl_effects.specs.inner.Gathered.{TableKept, TableRecords, TableTold}
 use Rattle.bl_tree.specs.Within.{Effect, PlacesDecide, StandsIn, StandsInUnits, place_of}
 use Rattle.bl_effects.specs.Table.{TableTellsEffects}
-use Rattle.bl_effects.proofs.GatherLemmas.{no_element, records_then}
+use Rattle.bl_effects.proofs.GatherLemmas.{records_then}
 
 -- before the first unit
 pub units_none : (units : List UnitDef) → TableRecords (StandsInUnits (take 0 units)) [] []
-units_none units at = inl (record { same = refl; none = λ s stands. absurd (no_element stands.unit stands.is_there) })
+units_none units at = inl (record { same = refl; none = λ s stands. absurd (contains_none stands.unit stands.is_there) })
 
 next : (units : List UnitDef) (k : ℕ) (unit : UnitDef) → k < length units → unit ≡ get_or units k unit →
     take (k + 1) units ≡ take k units ++ unit ∷ []

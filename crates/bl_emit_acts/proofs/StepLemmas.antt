@@ -1,10 +1,7 @@
 -- Steps of places that are written alike, one after another.
-use Rattle.std.proofs.Common.{◌≡◌, suc, Bool, true, false, ◌&&◌, List, [], ◌∷◌, length, Some, refl, ap, ◌∙◌}
+use Rattle.std.proofs.Common.{◌≡◌, suc, Bool, true, false, ◌&&◌, List, [], ◌∷◌, length, refl, ap, ◌∙◌}
 use Rattle.bl_tree.specs.declared.c.CStep.{CStep}
 use Rattle.bl_emit_acts.specs.Expressions.{same_step, same_steps}
-
-same_Some : {A : Type 0} (x y : A) → Some x ≡ Some y → x ≡ y
-same_Some x y h = cc
 
 -- lists of different lengths are no such steps
 pub lengths_same : (ps qs : List CStep) → (length ps ≡ length qs → ⊥) → same_steps ps qs ≡ false

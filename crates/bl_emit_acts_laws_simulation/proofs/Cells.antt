@@ -7,6 +7,7 @@ use Rattle.std.proofs.lemmas.List.{append-nil, append_assoc}
 use Rattle.std.proofs.lemmas.Option.{same_Some}
 use Rattle.std.proofs.lemmas.Slice.Eq.{bytes_eq-Decides}
 use Rattle.std.specs.Prelude.{bytes_eq, is_some, ◌==◌, if◌then◌else◌}
+use Rattle.std.proofs.lemmas.Bool.{and_parts}
 use Rattle.bl_tree.specs.Typing.{TypingContext, is_activity}
 use Rattle.bl_ctext_semantics.specs.Meaning.{Scope}
 use Rattle.bl_ctext_semantics.specs.Memory.{CValue, Location, Memory, Projection, Root, element, input_object, left_after, member, number_or, output_object}
@@ -15,10 +16,6 @@ use Rattle.bl_emit_acts_laws_simulation.specs.Acts.{lies_in}
 use Rattle.bl_emit_acts_laws_simulation.specs.Encodes.{are_apart, home_at, lead_in, location_in, start_in, ways_part}
 
 -- ---- tests of parts and roots are of equality
-
-pub and_both : (a b : Bool) → (a && b) ≡ true → (a ≡ true) × (b ≡ true)
-and_both true b h = (refl, h)
-and_both false b h = absurd (cc)
 
 part_is : (p q : Projection) → same_part p q ≡ true → p ≡ q
 part_is (member m) (member n) h = ap member ((bytes_eq-Decides m n).0 h)
@@ -31,7 +28,7 @@ root_is state_object state_object h = refl
 root_is input_object input_object h = refl
 root_is output_object output_object h = refl
 root_is (variable d m) (variable e n) h =
-    let found = and_both (d == e) (bytes_eq m n) h in ap₂ variable (eqb-true d e found.0) ((bytes_eq-Decides m n).0 found.1)
+    let found = and_parts (d == e) (bytes_eq m n) h in ap₂ variable (eqb-true d e found.0) ((bytes_eq-Decides m n).0 found.1)
 root_is state_object input_object h = absurd (cc)
 root_is state_object output_object h = absurd (cc)
 root_is state_object (variable e n) h = absurd (cc)

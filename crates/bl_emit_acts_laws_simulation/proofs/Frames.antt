@@ -4,6 +4,8 @@ use Rattle.std.proofs.Common.{◌++◌, Some, refl, sym, ap, ◌∙◌}
 use Rattle.std.proofs.lemmas.Bool.{eq-eqb, eqb-true, le-leb, ltb-true}
 use Rattle.std.proofs.lemmas.Option.{slice_get_within}
 use Rattle.std.specs.Prelude.{bytes_eq, codes, length, nat_eq, ◌==◌}
+use Rattle.std.proofs.lemmas.Bool.{or_right}
+use Rattle.bl_tree.proofs.Basics.{and_false, at_most_self_test, true_not_false}
 use Rattle.bl_tree.specs.declared.tree.Var.{Var}
 use Rattle.bl_tree.specs.Program.{is_input}
 use Rattle.bl_tree.specs.Typing.{TypingContext, is_activity, var_at}
@@ -15,28 +17,19 @@ use Rattle.bl_emit_acts.specs.Types.{copy_name, numbered_name, variable_name}
 use Rattle.bl_emit_acts_laws_simulation.specs.Acts.{copy_location}
 use Rattle.bl_emit_acts_laws_simulation.specs.Frames.{FrameApart, PointersAreValid, is_older, lent_at, remembered_at}
 use Rattle.bl_emit_acts_laws_simulation.specs.Encodes.{are_apart, home_at, is_live, lead_in, start_in, ways_part}
-use Rattle.bl_emit_acts_laws_simulation.proofs.Calls.{number_itself}
 use Rattle.bl_emit_acts_laws_simulation.proofs.Cells.{apart_flip}
 use Rattle.bl_emit_acts_laws_simulation.proofs.NumberedNames as numbered
 use Rattle.bl_emit_acts_laws_simulation.proofs.Outlets.{behind_front, further_both}
-use Rattle.bl_emit_acts_laws_simulation.proofs.Outputs.{or_last}
 
 -- ---- names
-
-no_such : true ≡ false → ⊥
-no_such h = cc
 
 -- names of one letter at different positions differ
 names_differ : (letter : ℕ) (vars : List Var) (j k : ℕ) → j < 2 ^ 64 → k < 2 ^ 64 → nat_eq j k ≡ false
     → bytes_eq (letter ∷ numbered_name vars j) (letter ∷ numbered_name vars k) ≡ false
 names_differ letter vars j k less most differ =
-    numbered.names_differ letter vars j k less most (λ same. no_such (sym (eq-eqb j k same) ∙ differ))
+    numbered.names_differ letter vars j k less most (λ same. true_not_false (sym (eq-eqb j k same) ∙ differ))
 
 -- ---- roots
-
-and_false : (b : Bool) → (b && false) ≡ false
-and_false true = refl
-and_false false = refl
 
 roots_differ : (p q : Location) → same_root p.root q.root ≡ false → are_apart p q ≡ true
 roots_differ p q h = ap (λ same. not same || ways_part p.parts q.parts) h
@@ -102,7 +95,7 @@ module _ (site : TypingContext) (copied : ℕ → Bool) (scope : Scope) (stand :
     held_held : (start : Location) →
         are_apart (further start (member (variable_name site.vars j) ∷ [])) (further start (member (variable_name site.vars k) ∷ [])) ≡ true
     held_held start =
-        or_last (not (same_root start.root start.root))
+        or_right (not (same_root start.root start.root))
         (ways_part (start.parts ++ member (variable_name site.vars j) ∷ []) (start.parts ++ member (variable_name site.vars k) ∷ []))
         (behind_front start.parts (member (variable_name site.vars j) ∷ []) (member (variable_name site.vars k) ∷ []) ∙ ap (λ b. not b || false) v_differ)
 
@@ -156,9 +149,9 @@ module _ (site : TypingContext) (copied : ℕ → Bool) (scope : Scope) (stand :
   live_by : (k : ℕ) (var : Var) → var_at site k ≡ Some var → (activity : Bool) (x : Home)
       → is_activity site.kind ≡ activity → home_at site k ≡ x →
       is_live scope.depth (place_of activity x k).root ≡ true
-  live_by k var there false Held kind is = number_itself scope.depth
+  live_by k var there false Held kind is = at_most_self_test scope.depth
   live_by k var there true Held kind is = older_live scope.depth (remembered_at scope).root (stand.held_older k var there is kind)
-  live_by k var there activity Local kind is = number_itself scope.depth
+  live_by k var there activity Local kind is = at_most_self_test scope.depth
   live_by k var there activity Lent kind is = older_live scope.depth (lent_at scope site.vars k).root (stand.lent_older k var there is)
 
   pub frame_apart : FrameApart site copied scope

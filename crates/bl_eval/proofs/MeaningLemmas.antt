@@ -2,6 +2,7 @@
 use Rattle.std.proofs.Common.{◌≡◌, ℕ, suc, zero, ◌+◌, ◌≤◌, true, false, List, [], ◌∷◌, ◌++◌, length, map, take, arith, Option, Some, None, Result, Ok, Err}
 use Rattle.std.proofs.Common.{refl, sym, ap, ◌∙◌, subst, IfOk, length-append}
 use Rattle.std.specs.Prelude.{option_and_then, option_map, slice_get, unwrap_or}
+use Rattle.bl_tree.proofs.Basics.{get_in_front, get_past}
 use Rattle.bl_tree.specs.declared.tree.Arm.{Arm, fold_out-Arm, out-Arm}
 use Rattle.bl_tree.specs.declared.tree.Branch.{Branch, fold-Branch}
 use Rattle.bl_tree.specs.declared.tree.Expr.{Expr}
@@ -32,7 +33,7 @@ use Rattle.bl_eval.specs.Meaning.{datum_of, level_datum, meaning_of, plain, read
 use Rattle.bl_eval.specs.Values.{put_at}
 use Rattle.bl_eval.proofs.KindLemmas.{activity_is, function_is}
 use Rattle.bl_eval.proofs.PartLemmas.{put_unwrapped}
-use Rattle.bl_eval.proofs.PassLemmas.{get_front, get_seam}
+use Rattle.bl_eval.proofs.PassLemmas.{get_seam}
 
 -- ---- statements
 
@@ -85,7 +86,7 @@ callees_start : (structs : List StructDef) (units : List UnitDef) (callees : Lis
 callees_start structs [] callees k callee there = there
 callees_start structs (unit ∷ rest) callees k callee there =
     callees_start structs rest (callees ++ callable_of structs callees unit ∷ []) k callee
-    (get_front callees (callable_of structs callees unit ∷ []) k callee there)
+    (get_in_front callees (callable_of structs callees unit ∷ []) k callee there)
 
 callee_after : (structs : List StructDef) (units : List UnitDef) (callees : List Callee) (j k : ℕ) (unit : UnitDef) →
     slice_get units k ≡ Some unit → j ≡ length callees + k
@@ -110,11 +111,6 @@ callees_length : (structs : List StructDef) (units : List UnitDef) (callees : Li
 callees_length structs [] callees = omega arith
 callees_length structs (unit ∷ rest) callees =
     omega (arith, callees_length structs rest (callees ++ callable_of structs callees unit ∷ []), length-append callees (callable_of structs callees unit ∷ []))
-
-get_past : {A : Type 0} (xs : List A) (k : ℕ) → length xs ≤ k → slice_get xs k ≡ None
-get_past [] k past = refl
-get_past (x ∷ xs) zero past = absurd (omega arith)
-get_past (x ∷ xs) (suc k) past = get_past xs k (omega arith)
 
 past_get : {A : Type 0} (xs : List A) (k : ℕ) → slice_get xs k ≡ None → length xs ≤ k
 past_get [] k none = omega arith

@@ -5,6 +5,7 @@ use Rattle.std.proofs.lemmas.List.{append-nil, length-take, take-append-drop}
 use Rattle.std.proofs.lemmas.Option.{same_Some, slice_get_within}
 use Rattle.std.specs.Prelude.{is_none, nat_eq, option_map, slice_get, if◌then◌else◌}
 use Rattle.std.specs.List.{list_all}
+use Rattle.bl_tree.proofs.Basics.{and_first, and_second, get_taken}
 use Rattle.bl_tree.specs.declared.scalar.Scalar.{Scalar as ScalarType}
 use Rattle.bl_tree.specs.declared.tree.Stmt.{Stmt}
 use Rattle.bl_tree.specs.declared.tree.StructDef.{StructDef}
@@ -25,7 +26,7 @@ use Rattle.bl_eval.specs.Values.{value_fits, zero_of}
 use Rattle.bl_eval.proofs.ActFits.{AllFit}
 use Rattle.bl_eval.proofs.ExprFits.{Sound}
 use Rattle.bl_eval.proofs.FitLemmas.{zero_fits}
-use Rattle.bl_eval.proofs.PassLemmas.{all_drop, and_left, and_right, get_take, pass_append, pass_each, take_less}
+use Rattle.bl_eval.proofs.PassLemmas.{all_drop, pass_append, pass_each, take_less}
 use Rattle.bl_eval.proofs.UnitFits.{sound_at}
 use Rattle.bl_eval_laws.specs.Traps.{home_at, BlockTraps, CallTraps}
 use Rattle.bl_eval_laws.proofs.ExprTraps.{Calls}
@@ -42,11 +43,11 @@ unit_at structs earlier [] k unit stand there = absurd (cc)
 unit_at structs earlier (first ∷ units) zero unit stand there =
     subst (λ earlier. unit_stands structs earlier unit ≡ true) (sym (append-nil earlier))
     (subst (λ unit. unit_stands structs earlier unit ≡ true) (same_Some first unit there)
-    (and_left (unit_stands structs earlier first) (units_stand_after structs (earlier ++ first ∷ []) units) stand))
+    (and_first (unit_stands structs earlier first) (units_stand_after structs (earlier ++ first ∷ []) units) stand))
 unit_at structs earlier (first ∷ units) (suc k) unit stand there =
     subst (λ earlier. unit_stands structs earlier unit ≡ true) (append_assoc earlier (first ∷ []) (take k units))
     (unit_at structs (earlier ++ first ∷ []) units k unit
-    (and_right (unit_stands structs earlier first) (units_stand_after structs (earlier ++ first ∷ []) units) stand) there)
+    (and_second (unit_stands structs earlier first) (units_stand_after structs (earlier ++ first ∷ []) units) stand) there)
 
 all_listed : (test : Stmt → Bool) (body : List Stmt) → list_all test body ≡ true → all_of (map test body) ≡ true
 all_listed test body all = listed test body ∙ all
@@ -57,7 +58,7 @@ all_listed test body all = listed test body ∙ all
 
 module _ (structs : List StructDef) (earlier : List UnitDef) (unit : UnitDef) (stands : unit_stands structs earlier unit ≡ true) where
   body_fits : all_of (map (fits (site_of structs earlier unit)) unit.body) ≡ true
-  body_fits = all_listed (fits (site_of structs earlier unit)) unit.body (and_left _ _ (and_right _ _ (and_right _ _ stands)))
+  body_fits = all_listed (fits (site_of structs earlier unit)) unit.body (and_first _ _ (and_second _ _ (and_second _ _ stands)))
 
   returns : unit_returns unit ≡ true
   returns =
@@ -65,8 +66,8 @@ module _ (structs : List StructDef) (earlier : List UnitDef) (unit : UnitDef) (s
       let fitted : Bool = list_all (fits (site_of structs earlier unit)) unit.body in
       let typed : Bool = list_all (λ var. type_stands (length structs) var.ty) unit.vars in
       let named : Bool = roles_stand unit && (list_all is_name (names_of unit.vars) && are_distinct (names_of (parameters_of unit))) in
-      and_left (unit_returns unit) (is_shallow 200 unit.body && list_all is_apart unit.body)
-      (and_right fitted last (and_right typed (fitted && last) (and_right named (typed && (fitted && last)) stands)))
+      and_first (unit_returns unit) (is_shallow 200 unit.body && list_all is_apart unit.body)
+      (and_second fitted last (and_second typed (fitted && last) (and_second named (typed && (fitted && last)) stands)))
 
 surely : (unit : UnitDef) (s : ScalarType) → is_function unit.kind ≡ true → unit.result ≡ Some s → unit_returns unit ≡ true →
     last_of (map surely_returns unit.body) ≡ true
@@ -152,11 +153,11 @@ module _ (structs : List StructDef) (units : List UnitDef) (entry : ℕ) (keeps 
         CallTraps.in_body there
         (subst (λ earlier. BlockTraps structs (record { earlier = earlier; unit = callee }) callee.body (frame_of structs callee values))
         (sym (take_less units k f before))
-        (body_traps f callee (sym (get_take units k f before) ∙ there) function values fit (lower f callee before)
+        (body_traps f callee (sym (get_taken units k f before) ∙ there) function values fit (lower f callee before)
         (ap (λ earlier. callee_of structs (callees_of structs earlier) callee values) (sym (take_less units k f before)) ∙ none)));
     returns = λ f callee s values left there function result fit is none.
         let before : f < k = inside k f callee there in
-        body_gives f callee (sym (get_take units k f before) ∙ there) function values fit s result left
+        body_gives f callee (sym (get_taken units k f before) ∙ there) function values fit s result left
         (ap (λ earlier. callee_of structs (callees_of structs earlier) callee values) (sym (take_less units k f before)) ∙ is) none;
   }
 

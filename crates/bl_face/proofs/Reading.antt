@@ -4,6 +4,7 @@ use Rattle.std.proofs.Common.{◌∙◌, subst, arith, inl, inr}
 use Rattle.std.specs.Prelude.{Some, None}
 use Rattle.std.proofs.lemmas.List.{take-append-drop}
 use Rattle.std.proofs.Math.Seq.{take-suc}
+use Rattle.bl_tree.proofs.Basics.{true_not_false}
 use Rattle.bl_tree.specs.declared.token.Token.{Token}
 use Rattle.bl_lex.specs.Tokens.{FrontOf}
 use Rattle.bl_lex.proofs.FrontLaws as fronts
@@ -13,9 +14,6 @@ use Rattle.bl_face.specs.Lexemes.{Lexeme, lexeme_at, lexemes}
 use Rattle.bl_face.specs.Reading.{ReadsAs, BeginsFace, StopsAtToken, NotFaceAt}
 use Rattle.bl_face.specs.inner.Reader.{nothing_read, run, step, Steps, read_items}
 use Rattle.bl_face.proofs.Viable as viable
-
-never : true ≡ false → ⊥
-never e = cc
 
 lexemes_append : (text : List ℕ) (xs ys : List Token) → lexemes text (xs ++ ys) ≡ lexemes text xs ++ lexemes text ys
 lexemes_append text [] ys = refl
@@ -34,7 +32,7 @@ module _ (text : List ℕ) (tokens : List Token) (i : ℕ) (d : Token) (inside :
   pub next_if : (taken : Bool) → Steps (step r (lexeme_at text (get_or tokens i d))) taken after → taken ≡ true →
       run (Some nothing_read) (lexemes text (take (i + 1) tokens)) ≡ Some after
   next_if true steps e = next steps
-  next_if false steps e = absurd (never (sym e))
+  next_if false steps e = absurd (true_not_false (sym e))
 
   stops_here : Steps (step r (lexeme_at text (get_or tokens i d))) false after → StopsAtToken text tokens (get_or tokens i d).place.start
   stops_here none = record {
@@ -50,7 +48,7 @@ module _ (text : List ℕ) (tokens : List Token) (i : ℕ) (d : Token) (inside :
 
   pub stops_if : (taken : Bool) → Steps (step r (lexeme_at text (get_or tokens i d))) taken after → taken ≡ false →
       StopsAtToken text tokens (get_or tokens i d).place.start
-  stops_if true steps e = absurd (never e)
+  stops_if true steps e = absurd (true_not_false e)
   stops_if false none e = stops_here none
 
 module _ (text : List ℕ) (tokens : List Token) (stop : ℕ) (short : length text ≤ 1048576) (front : FrontOf text tokens stop) where

@@ -9,6 +9,8 @@ use Rattle.std.specs.Str.{bytes_eq}
 use Rattle.std.specs.Char.{is_ascii_digit}
 use Rattle.std.proofs.lemmas.Slice.Eq.{bytes_eq-Decides}
 use Rattle.std.proofs.lemmas.Bool.Decides.{Decides-int_eq}
+use Rattle.std.proofs.lemmas.Bool.{not-true}
+use Rattle.bl_tree.proofs.Basics.{and_first, and_second, false_not_true, true_and_false}
 use Rattle.bl_tree.specs.Words.{is_name, is_plain_word, is_among}
 use Rattle.bl_tree.specs.Words as words
 use Rattle.bl_tree.specs.declared.scalar.Scalar.{Scalar as ScalarType}
@@ -43,21 +45,6 @@ use Rattle.bl_face_laws.proofs.Pieces.{number_chunks, by_truth, value_chunks, un
 
 -- ---- words and signs
 
-left : (a b : Bool) → a && b ≡ true → a ≡ true
-left true b e = refl
-left false b e = e
-
-right : (a b : Bool) → a && b ≡ true → b ≡ true
-right true b e = e
-right false b e = cc
-
-isnt : (b : Bool) → not b ≡ true → b ≡ false
-isnt true e = cc
-isnt false e = refl
-
-clash : (b : Bool) → b ≡ true → b ≡ false → ⊥
-clash b t f = cc
-
 or_left : (a b : Bool) → a ≡ true → a || b ≡ true
 or_left true b e = refl
 or_left false b e = cc
@@ -72,15 +59,12 @@ found [] k w is = cc
 found (x ∷ list) zero w is = let e : w ≡ x = cc in or_left (bytes_eq w x) (is_among w list) ((bytes_eq-Decides w x).1 e)
 found (x ∷ list) (suc k) w is = or_right (bytes_eq w x) (is_among w list) (found list k w is)
 
-never : false ≡ true → ⊥
-never e = cc
-
 abbrev has_byte : List ℕ → Bool
 has_byte [] = false
 has_byte (b ∷ bs) = true
 
 filled : (w : List ℕ) → has_byte w ≡ true → 0 < length w
-filled [] e = absurd (never e)
+filled [] e = absurd (false_not_true e)
 filled (b ∷ bs) e = omega arith
 
 keyword : (k : ℕ) (w : List ℕ) (next : ℕ) → slice_get keywords k ≡ Some w → list_all is_word_byte w ≡ true → has_byte w ≡ true →
@@ -94,18 +78,18 @@ keyword k w next spelled each some stops = record {
 
 name_word : (w : List ℕ) (next : ℕ) → is_name w ≡ true → is_word_byte next ≡ false → WordStands w kind.Name next
 unfolding keywords words_outside
-name_word [] next is stops = absurd (never is)
+name_word [] next is stops = absurd (false_not_true is)
 name_word (b ∷ bs) next is stops =
-    let plain = left (is_plain_word (b ∷ bs)) _ is in
-    let others = right (is_plain_word (b ∷ bs)) (not (is_among (b ∷ bs) words.keywords) && not (is_among (b ∷ bs) words.outside_words)) is in
-    let no_word = isnt _ (left (not (is_among (b ∷ bs) words.keywords)) _ others) in
-    let not_outside = isnt _ (right (not (is_among (b ∷ bs) words.keywords)) (not (is_among (b ∷ bs) words.outside_words)) others) in
+    let plain = and_first (is_plain_word (b ∷ bs)) _ is in
+    let others = and_second (is_plain_word (b ∷ bs)) (not (is_among (b ∷ bs) words.keywords) && not (is_among (b ∷ bs) words.outside_words)) is in
+    let no_word = not-true _ (and_first (not (is_among (b ∷ bs) words.keywords)) _ others) in
+    let not_outside = not-true _ (and_second (not (is_among (b ∷ bs) words.keywords)) (not (is_among (b ∷ bs) words.outside_words)) others) in
     record {
       nonempty = omega arith;
-      each = right (not (is_ascii_digit b)) _ plain;
+      each = and_second (not (is_ascii_digit b)) _ plain;
       stops = stops;
-      means = λ text end at. WordIs.name (isnt (is_ascii_digit b) (left (not (is_ascii_digit b)) _ plain))
-          (λ k e. clash _ (found words.keywords k (b ∷ bs) e) no_word) (λ k e. clash _ (found words.outside_words k (b ∷ bs) e) not_outside);
+      means = λ text end at. WordIs.name (not-true (is_ascii_digit b) (and_first (not (is_ascii_digit b)) _ plain))
+          (λ k e. true_and_false _ (found words.keywords k (b ∷ bs) e) no_word) (λ k e. true_and_false _ (found words.outside_words k (b ∷ bs) e) not_outside);
     }
 
 number_word : (n next : ℕ) → n ≤ 2 ^ 64 → is_word_byte next ≡ false → next ≢ 46 → WordStands (decimal n) (kind.Number n) next
@@ -218,13 +202,13 @@ lengths_stand (n ∷ lengths) rest fit stand = (open_bracket _, (number_word n 9
 field_stands : (field : FaceField) (rest : List Chunk) → field_is_named field ≡ true → LengthsFit field.ty.lengths → Closes rest → AllStand rest →
     AllStand (field_chunks field rest)
 field_stands field rest is fit closes stand = (
-  name_word field.name 58 (left (is_name field.name) _ is) refl,
+  name_word field.name 58 (and_first (is_name field.name) _ is) refl,
   (
     colon 32,
     (
       refl,
       lengths_stand field.ty.lengths (base_chunk field.ty.base ∷ rest) fit
-          (base_stands field.ty.base (next_byte (text_of rest)) (right (is_name field.name) (base_is_named field.ty.base) is) closes, stand),
+          (base_stands field.ty.base (next_byte (text_of rest)) (and_second (is_name field.name) (base_is_named field.ty.base) is) closes, stand),
     ),
   ),
 )
@@ -245,8 +229,8 @@ fields_stand (field ∷ fields) rest are fit closes stand = (
     var_stands,
     (
       refl,
-      field_stands field (fields_chunks fields rest) (left (field_is_named field) (list_all field_is_named fields) are) fit.0 (fields_close fields rest closes)
-          (fields_stand fields rest (right (field_is_named field) (list_all field_is_named fields) are) fit.1 closes stand),
+      field_stands field (fields_chunks fields rest) (and_first (field_is_named field) (list_all field_is_named fields) are) fit.0 (fields_close fields rest closes)
+          (fields_stand fields rest (and_second (field_is_named field) (list_all field_is_named fields) are) fit.1 closes stand),
     ),
   ),
 )
@@ -262,8 +246,8 @@ more_stand (param ∷ params) rest are fit closes stand = (
   comma 32,
   (
     refl,
-    field_stands param (more_chunks params rest) (left (field_is_named param) (list_all field_is_named params) are) fit.0 (more_close params rest closes)
-        (more_stand params rest (right (field_is_named param) (list_all field_is_named params) are) fit.1 closes stand),
+    field_stands param (more_chunks params rest) (and_first (field_is_named param) (list_all field_is_named params) are) fit.0 (more_close params rest closes)
+        (more_stand params rest (and_second (field_is_named param) (list_all field_is_named params) are) fit.1 closes stand),
   ),
 )
 
@@ -271,8 +255,8 @@ params_stand : (params : List FaceField) (rest : List Chunk) → AreNamed params
     AllStand (params_chunks params rest)
 params_stand [] rest are fit closes stand = stand
 params_stand (param ∷ params) rest are fit closes stand =
-    field_stands param (more_chunks params rest) (left (field_is_named param) (list_all field_is_named params) are) fit.0 (more_close params rest closes)
-    (more_stand params rest (right (field_is_named param) (list_all field_is_named params) are) fit.1 closes stand)
+    field_stands param (more_chunks params rest) (and_first (field_is_named param) (list_all field_is_named params) are) fit.0 (more_close params rest closes)
+    (more_stand params rest (and_second (field_is_named param) (list_all field_is_named params) are) fit.1 closes stand)
 
 number_stand : (value : ℤ) (rest : List Chunk) → nat_abs value ≤ 2 ^ 64 → AllStand rest → AllStand (number_chunks value (line rest))
 number_stand (pos n) rest fit stand = (number_word n 10 fit refl (λ e. omega (arith, e)), (refl, stand))
@@ -295,35 +279,35 @@ result_stand (Some of) rest stand = (refl, (returns_stands, (refl, (scalar_word_
 
 item_stands : (it : FaceItem) (rest : List Chunk) → item_keeps it ≡ true → ItemFits it → AllStand rest → AllStand (item_chunks it rest)
 item_stands (item.Struct name fields) rest keeps fit stand =
-    let named_so = right (is_name name) (has_field fields && list_all field_is_named fields) keeps in (
+    let named_so = and_second (is_name name) (has_field fields && list_all field_is_named fields) keeps in (
       struct_stands,
       (
         refl,
         (
-          name_word name _ (left (is_name name) _ keeps) (fields_close fields (space ∷ word (codes "end") (kind.Word 12) ∷ line rest) refl),
-          fields_stand fields (space ∷ word (codes "end") (kind.Word 12) ∷ line rest) (right (has_field fields) (list_all field_is_named fields) named_so) fit refl
+          name_word name _ (and_first (is_name name) _ keeps) (fields_close fields (space ∷ word (codes "end") (kind.Word 12) ∷ line rest) refl),
+          fields_stand fields (space ∷ word (codes "end") (kind.Word 12) ∷ line rest) (and_second (has_field fields) (list_all field_is_named fields) named_so) fit refl
               (refl, (end_stands, (refl, stand))),
         ),
       ),
     )
 item_stands (item.Constant name of value) rest keeps fit stand = (const_stands, (refl, (name_word name 58 keeps refl, (colon 32, (refl, (scalar_word_stands of 32 refl, (refl, (assign, (refl, value_stand of value rest fit stand)))))))))
 item_stands (item.Head unit name inputs outputs result) rest keeps fit stand =
-    let lists = right (is_name name) (list_all field_is_named inputs && list_all field_is_named outputs) keeps in (
+    let lists = and_second (is_name name) (list_all field_is_named inputs && list_all field_is_named outputs) keeps in (
       unit_stands unit,
       (
         refl,
         (
-          name_word name 32 (left (is_name name) _ keeps) refl,
+          name_word name 32 (and_first (is_name name) _ keeps) refl,
           (
             refl,
             (
               open_paren _,
               params_stand inputs (mark 41 1 ∷ mark 40 0 ∷ params_chunks outputs (mark 41 1 ∷ result_chunks result (line rest)))
-                  (left (list_all field_is_named inputs) _ lists) fit.0 refl (
+                  (and_first (list_all field_is_named inputs) _ lists) fit.0 refl (
                     close_paren _,
                     (
                       open_paren _,
-                      params_stand outputs (mark 41 1 ∷ result_chunks result (line rest)) (right (list_all field_is_named inputs) (list_all field_is_named outputs) lists) fit.1
+                      params_stand outputs (mark 41 1 ∷ result_chunks result (line rest)) (and_second (list_all field_is_named inputs) (list_all field_is_named outputs) lists) fit.1
                           refl (close_paren _, result_stand result rest stand),
                     ),
                   ),
@@ -336,8 +320,8 @@ item_stands (item.Head unit name inputs outputs result) rest keeps fit stand =
 items_stand : (items : List FaceItem) → Keeps items → ItemsFit items → AllStand (items_chunks items)
 items_stand [] keeps fit = tt
 items_stand (it ∷ items) keeps fit =
-    item_stands it (items_chunks items) (left (item_keeps it) (list_all item_keeps items) keeps) fit.0
-    (items_stand items (right (item_keeps it) (list_all item_keeps items) keeps) fit.1)
+    item_stands it (items_chunks items) (and_first (item_keeps it) (list_all item_keeps items) keeps) fit.0
+    (items_stand items (and_second (item_keeps it) (list_all item_keeps items) keeps) fit.1)
 
 -- ---- their lexemes spell the face
 
@@ -427,7 +411,7 @@ const_spelled name of value rest fit =
     (lexemes_in rest)) (sym (scalar_is of)) (SpellsItem.constant (value_spelled of value (line rest) fit))
 
 item_spelled : (it : FaceItem) (rest : List Chunk) → item_keeps it ≡ true → ItemFits it → SpellsItem it (lexemes_in (item_chunks it rest)) (lexemes_in rest)
-item_spelled (item.Struct name []) rest keeps fit = absurd (never (right (is_name name) false keeps))
+item_spelled (item.Struct name []) rest keeps fit = absurd (false_not_true (and_second (is_name name) false keeps))
 item_spelled (item.Struct name (field ∷ fields)) rest keeps fit = SpellsItem.structure (fields_spelled (field ∷ fields) rest fit)
 item_spelled (item.Constant name of value) rest keeps fit = const_spelled name of value rest fit
 item_spelled (item.Head Function name inputs outputs result) rest keeps fit =
@@ -440,8 +424,8 @@ item_spelled (item.Head Activity name inputs outputs result) rest keeps fit =
 items_spelled : (items : List FaceItem) → Keeps items → ItemsFit items → SpellsItems items (lexemes_in (items_chunks items))
 items_spelled [] keeps fit = SpellsItems.none
 items_spelled (it ∷ items) keeps fit =
-    SpellsItems.more (item_spelled it (items_chunks items) (left (item_keeps it) (list_all item_keeps items) keeps) fit.0)
-    (items_spelled items (right (item_keeps it) (list_all item_keeps items) keeps) fit.1)
+    SpellsItems.more (item_spelled it (items_chunks items) (and_first (item_keeps it) (list_all item_keeps items) keeps) fit.0)
+    (items_spelled items (and_second (item_keeps it) (list_all item_keeps items) keeps) fit.1)
 
 -- ---- the whole text
 

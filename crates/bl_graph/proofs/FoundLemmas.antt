@@ -5,6 +5,7 @@ use Rattle.std.specs.Prelude.{Contains, slice_get, slice_set}
 use Rattle.std.proofs.lemmas.List.{take_more}
 use Rattle.std.proofs.lemmas.Option.{slice_get-get_or, slice_get_read}
 use Rattle.std.proofs.lemmas.List.Elements.{Contains-append_cases, Contains-append_left, Contains-append_right, Contains-get_or, Contains-push_cases}
+use Rattle.bl_tree.proofs.Basics.{contains_one, false_not_true}
 use Rattle.bl_tree.specs.declared.graph.Edge.{Edge}
 use Rattle.bl_tree.specs.declared.static_path.Static.{Static}
 use Rattle.bl_graph.specs.declared.flow.Flow.{Flow}
@@ -15,7 +16,7 @@ use Rattle.bl_graph.specs.Graph.{edge_between}
 use Rattle.bl_graph.specs.inner.Found.{EndBy, Gains, SameEdges, links, links_at, links_in, links_met, links_to, swept, writes_at, writes_before, writes_in}
 use Rattle.bl_graph.specs.inner.Found.{writes_to}
 use Rattle.bl_graph.specs.inner.Noted.{HasNotesAndFronts, Note, front, noted_at, numbers_at, numbers_met, numbers_to}
-use Rattle.bl_graph.proofs.MemberLemmas.{each-append, is_one, one_in}
+use Rattle.bl_graph.proofs.MemberLemmas.{each-append, one_in}
 use Rattle.bl_graph.proofs.NoteLemmas.{tells_same}
 
 -- ---- lists with the same edges
@@ -197,7 +198,7 @@ ends_by branches last k d lt by = by (get_or branches k d) (Contains-get_or bran
 pub set_cases : (xs : List Edge) (at : ℕ) (y x : Edge) → Contains (slice_set xs at y) x → Contains xs x ⊎ (y ≡ x)
 set_cases [] at y x there = inl there
 set_cases (z ∷ xs) zero y x there = elim (Contains-append_cases (y ∷ []) xs x there) [
-  | inl first ↦ inr (is_one y x first)
+  | inl first ↦ inr (contains_one y x first)
   | inr more ↦ inl (Contains-append_right (z ∷ []) xs x more)
 ]
 set_cases (z ∷ xs) (suc at) y x there = elim (Contains-append_cases (z ∷ []) (slice_set xs at y) x there) [
@@ -212,9 +213,6 @@ blank_more xs ys none kind is all edge there = elim (Contains-push_cases xs none
   | inr same ↦ subst (λ e. e.by_data ≡ false) same kind
 ]
 
-false_true : false ≡ true → ⊥
-false_true is = cc
-
 pub blank_recalls : (latest edges : List Edge) → ((edge : Edge) → Contains latest edge → edge.by_data ≡ false) →
     (edge : Edge) → Contains latest edge → edge.by_data ≡ true → Contains edges edge
-blank_recalls latest edges all edge there kind = absurd (false_true (sym (all edge there) ∙ kind))
+blank_recalls latest edges all edge there kind = absurd (false_not_true (sym (all edge there) ∙ kind))

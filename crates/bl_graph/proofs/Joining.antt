@@ -2,6 +2,7 @@
 use Rattle.std.proofs.Common.{◌≡◌, ℕ, suc, ◌+◌, Bool, true, false, cond, ◌||◌, List, [], ◌∷◌, ◌++◌, map, length, Some, refl, ap, sym, ◌∙◌, subst, arith}
 use Rattle.std.proofs.Common.{append_assoc, append-nil, zero-add}
 use Rattle.std.proofs.lemmas.List.{length-append, length-map}
+use Rattle.bl_tree.proofs.Basics.{or_false, or_regroup}
 use Rattle.bl_tree.specs.declared.graph.Edge.{Edge}
 use Rattle.bl_tree.specs.declared.place.Place.{Place}
 use Rattle.bl_graph_nodes.specs.Nodes.{DepthJoinAt, ForkAt, Node, SurfaceJoinAt, nodes_in, nodes_in_each, where_so}
@@ -18,7 +19,7 @@ use Rattle.bl_graph.specs.inner.Made.{whole_in}
 use Rattle.bl_graph.specs.inner.Parts.{branch_links, joined_branch, leaving_outs, number_if, numbered, surface_links}
 use Rattle.bl_graph.proofs.Making.{flows_append}
 use Rattle.bl_graph.proofs.Marking.{names_in}
-use Rattle.bl_graph.proofs.Numbering.{adds_listed, adds_then, depth_pairs, from_pairs, into_pairs, leave_same, number_pairs, numbered_pairs, or_none}
+use Rattle.bl_graph.proofs.Numbering.{adds_listed, adds_then, depth_pairs, from_pairs, into_pairs, leave_same, number_pairs, numbered_pairs}
 use Rattle.bl_graph.proofs.Numbering.{pairs_append, surface_pairs}
 
 -- one more branch
@@ -31,15 +32,11 @@ abbrev pub edges_around : Bool → Block → Label → Place → Bool → List P
 edges_around weak b l at instant = from_to (ForkAt l at) (entry_of b (where_so instant (SurfaceJoinAt l at)))
     ++ ((cond instant (surface_to (leaving_of weak b) (SurfaceJoinAt l at)) []) ++ depth_to (leaving_of weak b) (DepthJoinAt l at))
 
-or_apart : (a b c : Bool) → (a || (b || c)) ≡ ((a || b) || c)
-or_apart true b c = refl
-or_apart false b c = refl
-
 either_none : (a : Mark) → either a unreached ≡ either unreached a
-either_none a = λ i. record { surface = or_none a.surface i; depth = or_none a.depth i }
+either_none a = λ i. record { surface = or_false a.surface i; depth = or_false a.depth i }
 
 either_apart : (a b c : Mark) → either a (either b c) ≡ either (either a b) c
-either_apart a b c = λ i. record { surface = or_apart a.surface b.surface c.surface i; depth = or_apart a.depth b.depth c.depth i }
+either_apart a b c = λ i. record { surface = or_regroup a.surface b.surface c.surface i; depth = or_regroup a.depth b.depth c.depth i }
 
 abbrev pub leave_of : Bool → Block → Mark
 leave_of weak b = leaves (cond weak (part_in b).nodes (part_in b).outs)

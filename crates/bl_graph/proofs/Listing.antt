@@ -3,6 +3,7 @@ use Rattle.std.proofs.Common.{◌≡◌, ℕ, zero, suc, Bool, true, false, cond
 use Rattle.std.specs.Prelude.{Contains, slice_get, Some, None}
 use Rattle.std.proofs.lemmas.List.Elements.{Contains-append_left, Contains-append_right, Contains-push}
 use Rattle.std.proofs.lemmas.Option.{slice_get-get_or}
+use Rattle.bl_tree.proofs.Basics.{from_false}
 use Rattle.bl_tree.specs.declared.place.Place.{Place}
 use Rattle.bl_tree.specs.declared.tree.Expr.{Expr}
 use Rattle.bl_tree.specs.declared.tree.Guard.{Guard}
@@ -46,9 +47,6 @@ p_cases [] qs n m h = inr h
 p_cases (p ∷ ps) qs n m (inl h) = inl (inl h)
 p_cases (p ∷ ps) qs n m (inr h) = elim (p_cases ps qs n m h) [ inl a ↦ inl (inr a) | inr b ↦ inr b ]
 
-never : {A : Type 0} → false ≡ true → A
-never is = cc
-
 -- ---- what makes them
 
 from_node : (x : Node) (xs : List Node) (n m : Node) → HasPair (from_to x xs) n m → (n ≡ x) × Has xs m
@@ -90,7 +88,7 @@ maybe_pair false p n m h = elim h [ ]
 
 pub pair_maybe : (test : Bool) (p : Pair) (n m : Node) → test ≡ true → n ≡ p.from → m ≡ p.to → HasPair (cond test (p ∷ []) []) n m
 pair_maybe true p n m is one two = inl (one, two)
-pair_maybe false p n m is one two = never is
+pair_maybe false p n m is one two = from_false is
 
 surface_node : (ms : List Marked) (t n m : Node) → HasPair (surface_to ms t) n m → Is false ms n × (m ≡ t)
 surface_node [] t n m h = elim h [ ]
@@ -125,7 +123,7 @@ into_listed : (body : Block) (next : List Node) (F : Node → Type 0) (m : Node)
 into_listed Done next F m more (inl h) = elim h [ ]
 into_listed Done next F m more (inr h) = more m h.1
 into_listed (Then s rest) next F m more (inl h) = inl h
-into_listed (Then s rest) next F m more (inr h) = never h.0
+into_listed (Then s rest) next F m more (inr h) = from_false h.0
 
 listed_into : (body : Block) (next : List Node) (F : Node → Type 0) (m : Node) → ((k : Node) → Has next k → F k) → Has (entry_of body next) m →
     Into body F m
@@ -294,7 +292,7 @@ surface_listed : (weak : Bool) (body : Block) (l : Label) (at : Place) (so : Boo
 surface_listed weak body l at true n m full h =
     let is = surface_in body full n h.0.0 in
     node_surface (leaving_of weak body) (SurfaceJoinAt l at) n m is.mark (leave_at weak body full n is.mark h.0.1 is.there) is.so h.1.1
-surface_listed weak body l at false n m full h = never h.1.0
+surface_listed weak body l at false n m full h = from_false h.1.0
 
 depth_listed : (weak : Bool) (body : Block) (l : Label) (at : Place) (n m : Node) → FullIn body →
     Joins weak (Reached (ResumeAll body) (EdgeAll body)) (OutAll body) n × (m ≡ DepthJoinAt l at) →

@@ -6,9 +6,10 @@ use Rattle.std.proofs.lemmas.List.{length-map, map-append, take-append-drop, tak
 use Rattle.std.proofs.lemmas.List.Elements.{All-push}
 use Rattle.std.proofs.lemmas.Option.{slice_get_past}
 use Rattle.std.specs.Prelude.{IfSome, nat_eq, slice_get}
+use Rattle.bl_tree.proofs.Basics.{get_front}
 use Rattle.bl_face.specs.declared.face.Face.{Face}
 use Rattle.bl_face.specs.declared.item.FaceItem.{FaceItem}
-use Rattle.bl_link.proofs.Lists.{get-before, get-end, take-before}
+use Rattle.bl_link.proofs.Lists.{get-end, take-before}
 use Rattle.bl_link.proofs.Turns.{good_parts}
 use Rattle.bl_link.specs.declared.fault.LinkFault.{LinkFault}
 use Rattle.bl_link.specs.declared.fault.LinkFault.TheVariants as fault
@@ -58,7 +59,7 @@ module _ (count : ℕ) (parts : List SeenPart) (faces : List Face) (first : AreF
       | inl less ↦
           let most : k ≤ length parts = omega (arith, less) in
           subst (λ o. IfSome o (λ (it : SeenPart). items_of it.uses ≡ items_of (faces_of (take k (parts ++ part ∷ [])))))
-          (sym (get-before parts (part ∷ []) k less))
+          (sym (get_front parts (part ∷ []) k less))
           (subst (λ them. IfSome (slice_get parts k) (λ (it : SeenPart). items_of it.uses ≡ items_of (faces_of them)))
           (sym (take-before parts (part ∷ []) k most)) (first.fit k))
       | inr past ↦
@@ -75,7 +76,7 @@ module _ (count : ℕ) (parts : List SeenPart) (faces : List Face) (first : AreF
         (last ∙ ap (λ n. nat_eq (n + 1) count) (sym same))
     | inr apart ↦ elim apart [
       | inl less ↦
-          subst (λ o. IfSome o (λ (it : SeenPart). it.last ≡ nat_eq (k + 1) count)) (sym (get-before parts (part ∷ []) k less)) (first.lasts k)
+          subst (λ o. IfSome o (λ (it : SeenPart). it.last ≡ nat_eq (k + 1) count)) (sym (get_front parts (part ∷ []) k less)) (first.lasts k)
       | inr past ↦
           let beyond : length (parts ++ part ∷ []) ≤ k = omega (arith, long, past) in
           subst (λ o. IfSome o (λ (it : SeenPart). it.last ≡ nat_eq (k + 1) count)) (sym (slice_get_past (parts ++ part ∷ []) k beyond)) tt

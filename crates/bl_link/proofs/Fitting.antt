@@ -4,9 +4,10 @@ use Rattle.std.proofs.lemmas.Bool.{cases_lt}
 use Rattle.std.proofs.lemmas.List.{take_all}
 use Rattle.std.proofs.lemmas.Option.{slice_get-map, slice_get_read}
 use Rattle.std.specs.Prelude.{IfSome, Option, Some, option_map, slice_get}
+use Rattle.bl_tree.proofs.Basics.{get_taken}
 use Rattle.bl_face.specs.declared.face.Face.{Face}
 use Rattle.bl_face.specs.declared.item.FaceItem.{FaceItem}
-use Rattle.bl_link.proofs.Lists.{agree-at, agree-next, get-take, take-map}
+use Rattle.bl_link.proofs.Lists.{agree-at, agree-next, take-map}
 use Rattle.bl_link.specs.Fits.{FaceFits, IsFirstMisfit, faces_of}
 use Rattle.bl_module.specs.Faces.{items_of}
 use Rattle.bl_module.specs.Parts.{SeenPart}
@@ -61,7 +62,7 @@ module _ (parts : List SeenPart) (k : ℕ) (part : SeenPart) (within : k < lengt
       differ
       (agree-at items items part.uses (take k (faces_of parts)) j one other.face (fits_same fits)
       (slice_get_read part.uses (length part.uses) j one refl inside at)
-      (get-take (faces_of parts) k j less ∙ face_read parts j other below there))
+      (get_taken (faces_of parts) k j less ∙ face_read parts j other below there))
 
 -- ---- all parts
 

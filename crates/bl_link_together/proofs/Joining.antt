@@ -7,11 +7,12 @@ use Rattle.std.proofs.lemmas.List.{length-take-le, take_all}
 use Rattle.std.proofs.lemmas.List.Elements.{All-push}
 use Rattle.std.proofs.lemmas.Option.{same_Some, slice_get_read, slice_get_within}
 use Rattle.std.specs.Prelude.{All, Some, nat_eq, slice_get}
+use Rattle.bl_tree.proofs.Basics.{get_taken}
 use Rattle.bl_joined.specs.declared.joined.Joined.{Joined}
 use Rattle.bl_joined.specs.Joined.{IsJoinedOf}
 use Rattle.bl_lex.specs.Tokens.{Lexes}
 use Rattle.bl_link.proofs.Linking.{tree_in}
-use Rattle.bl_link.proofs.Lists.{get-take, take-next}
+use Rattle.bl_link.proofs.Lists.{take-next}
 use Rattle.bl_link.proofs.Trees.{joined_lexes}
 use Rattle.bl_link.specs.Files.{AreFilesOf}
 use Rattle.bl_link_together.specs.Alone.{AreJoinedAlone, EachStandsAlone, StandsAlone}
@@ -44,13 +45,13 @@ module _ (texts : List (List ℕ)) (k : ℕ) (text : List ℕ) (less : k < lengt
   stands_next before here j other found = elim (cases_order j k) [
     | inl same ↦
         let most : j < k + 1 = omega (arith, same) in
-        let is : other ≡ text = same_Some other text (sym found ∙ get-take texts (k + 1) j most ∙ ap (slice_get texts) same ∙ there) in
+        let is : other ≡ text = same_Some other text (sym found ∙ get_taken texts (k + 1) j most ∙ ap (slice_get texts) same ∙ there) in
         subst (λ t. StandsAlone (nat_eq (j + 1) (length texts)) t) (sym is)
         (subst (λ n. StandsAlone (nat_eq (n + 1) (length texts)) text) (sym same) here)
     | inr apart ↦ elim apart [
       | inl earlier ↦
           let most : j < k + 1 = omega (arith, earlier) in
-          before j other (get-take texts k j earlier ∙ sym (get-take texts (k + 1) j most) ∙ found)
+          before j other (get_taken texts k j earlier ∙ sym (get_taken texts (k + 1) j most) ∙ found)
       | inr later ↦
           let within : j < length (take (k + 1) texts) = slice_get_within (take (k + 1) texts) j other found in
           let most : length (take (k + 1) texts) ≤ k + 1 = length_of_take in

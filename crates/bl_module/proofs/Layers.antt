@@ -3,6 +3,7 @@ use Rattle.std.proofs.Common.{◌≡◌, ℕ, ◌∙◌, ◌<◌, ◌^◌, Bool,
 use Rattle.std.proofs.Common.{subst, arith}
 use Rattle.std.specs.Prelude.{⊤, nat_eq}
 use Rattle.std.proofs.lemmas.Bool.Decides.{nat_tests}
+use Rattle.bl_tree.proofs.Basics.{and_first, and_second}
 use Rattle.bl_lex.specs.Rules.{Passes as TextPasses}
 use Rattle.bl_lex.specs.Tokens.{Lexes}
 use Rattle.bl_names_scopes.specs.Marks.{Marks, marks_of}
@@ -36,14 +37,6 @@ use Rattle.bl_module.specs.Rules.{in_tree, in_types, is_last, known_at, known_in
 
 -- ---- own units and structs
 
-and_left : (a b : Bool) → (a && b) ≡ true → a ≡ true
-and_left true b is = refl
-and_left false b is = absurd (cc)
-
-and_right : (a b : Bool) → (a && b) ≡ true → b ≡ true
-and_right true b is = is
-and_right false b is = absurd (cc)
-
 -- ---- names: further places in other texts are left out
 
 -- there is one place at most
@@ -63,10 +56,10 @@ is_nowhere place is =
     λ i. record { start = start i; end = end i }
   where
     starts : (n : ℕ) (other : Bool) → (nat_eq n 0 && other) ≡ true → n ≡ 0
-    starts n other both = let e : nat_eq n 0 ≡ true = and_left (nat_eq n 0) other both in grind (arith, nat_tests)
+    starts n other both = let e : nat_eq n 0 ≡ true = and_first (nat_eq n 0) other both in grind (arith, nat_tests)
 
     ends : (other : Bool) (n : ℕ) → (other && nat_eq n 0) ≡ true → n ≡ 0
-    ends other n both = let e : nat_eq n 0 ≡ true = and_right other (nat_eq n 0) both in grind (arith, nat_tests)
+    ends other n both = let e : nat_eq n 0 ≡ true = and_second other (nat_eq n 0) both in grind (arith, nat_tests)
 
 -- of two lists with one place at most, the one that comes no later does so where places elsewhere are left out
 kept_no_later : (xs ys : List Place) → IsShort xs → IsShort ys → AreNoLater xs ys → AreNoLater (here xs) (here ys)

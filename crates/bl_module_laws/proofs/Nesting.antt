@@ -2,6 +2,7 @@
 use Rattle.std.proofs.Common.{◌≡◌, ◌∙◌, inl, inr, ⊎_elim, ℕ, zero, ◌≤◌, List, [], ◌∷◌, ◌++◌, refl, ap, sym, subst, arith}
 use Rattle.std.proofs.lemmas.List.{append-nil, append_assoc}
 use Rattle.std.specs.Prelude.{Contains, slice_index}
+use Rattle.bl_tree.proofs.Basics.{contains_further as later, contains_none, first_or_further, get_in_front}
 use Rattle.bl_cause_trees.specs.Peeled.{ArePeeled, IsPeeledUnit, clean, of_function, too_large, with_turns}
 use Rattle.bl_limits.specs.Rules.{DeepStruct, DeepVariable, NestingPasses, Passes as LimitsPass}
 use Rattle.bl_limits_laws_places.specs.Laws.{NestingStays}
@@ -15,9 +16,8 @@ use Rattle.bl_tree.specs.declared.tree.StructDef.{StructDef}
 use Rattle.bl_tree.specs.declared.tree.Ty.{Ty, fold-roll-Ty, roll-Ty}
 use Rattle.bl_tree.specs.declared.tree.Ty.TheOpen.{Ty-F}
 use Rattle.bl_tree.specs.declared.tree.Unit.{Unit as UnitDef}
-use Rattle.bl_tree_laws_places.proofs.Lists.{first_or, later, none_there}
 use Rattle.bl_tree_laws_places.specs.Placed.{placed_structs, placed_units}
-use Rattle.bl_module_laws.proofs.Lists.{got_left, index_grows}
+use Rattle.bl_module_laws.proofs.Lists.{index_grows}
 
 -- ---- nesting among more structs
 
@@ -63,7 +63,7 @@ module _ (structs more : List StructDef) where
     position = h.position;
     later = omega arith;
     def = h.def;
-    is_there = got_left structs more h.position h.def h.is_there;
+    is_there = get_in_front structs more h.position h.def h.is_there;
     deep = let grown = index_more h.position in let deep = h.deep in omega (arith, grown, deep);
     at_name = h.at_name;
   }
@@ -101,13 +101,13 @@ vars_of_peeled unit peeled_unit (with_turns is has few) = refl
 
 pub peeled_there : (units peeled_units : List UnitDef) → ArePeeled units peeled_units → (unit : UnitDef) → Contains units unit →
     (peeled_unit : UnitDef) × Contains peeled_units peeled_unit × (peeled_unit.vars ≡ unit.vars)
-peeled_there [] peeled_units are unit there = absurd (none_there unit there)
+peeled_there [] peeled_units are unit there = absurd (contains_none unit there)
 peeled_there (u ∷ units) [] are unit there = absurd are
 peeled_there (u ∷ units) (peeled_unit ∷ peeled_units) are unit there =
     ⊎_elim
     (λ is. (peeled_unit, (zero, omega arith, refl), vars_of_peeled u peeled_unit are.0 ∙ ap (λ (it : UnitDef). it.vars) is))
     (λ further. let found = peeled_there units peeled_units are.1 unit further in (found.0, later peeled_unit peeled_units found.0 found.1, found.2))
-    (first_or u units unit there)
+    (first_or_further u units unit there)
 
 -- ---- rule Cells of a whole program
 

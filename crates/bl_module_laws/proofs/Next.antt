@@ -6,6 +6,7 @@ use Rattle.std.proofs.lemmas.List.Sums.{sum_by-append}
 use Rattle.std.proofs.lemmas.Option.{slice_get_past}
 use Rattle.std.specs.List.{list_any}
 use Rattle.std.specs.Prelude.{slice_get}
+use Rattle.bl_tree.proofs.Basics.{get_behind, get_in_front}
 use Rattle.bl_face.specs.declared.face.Face.{Face}
 use Rattle.bl_joined.specs.Trees.{placed_item}
 use Rattle.bl_module.specs.Faces.{behind_faces}
@@ -34,7 +35,6 @@ use Rattle.bl_module_laws.proofs.Borders.{Border, IsNamedOf, border_counts, chan
 use Rattle.bl_module_laws.proofs.Constants.{as_many, found_at, goes_on, has_among, has_behind, there_is}
 use Rattle.bl_module_laws.proofs.Entries.{has_mark, unmarked_both, unmarked_renamed}
 use Rattle.bl_module_laws.proofs.Globals.{HasAt, globals_there}
-use Rattle.bl_module_laws.proofs.Lists.{got_left, got_right}
 use Rattle.bl_module_laws.proofs.Parts.{NameLaws, TypeLaws, UnitLaws}
 use Rattle.bl_module_laws.proofs.Steps.{NearPasses, alike, front_passes, known_both, named_units, names_far}
 
@@ -166,8 +166,8 @@ module _ (names : NameLaws) (types : TypeLaws) (named : Named) (front : List Raw
       let among : k < length (global_positions 0 front) = let count = earlier_count in omega (arith, less, count) in
       ap (slice_get far_next.constants) (R.earlier k among)
       ∙ ap (λ them. slice_get them (renumber front k)) far_constants
-      ∙ got_left far.constants A.constants (renumber front k) found.0 ((border.agree f).constants k ∙ found.1)
-      ∙ sym (got_left behind.constants globals k found.0 found.1)
+      ∙ get_in_front far.constants A.constants (renumber front k) found.0 ((border.agree f).constants k ∙ found.1)
+      ∙ sym (get_in_front behind.constants globals k found.0 found.1)
       ∙ ap (λ them. slice_get them k) (sym next_constants)
 
   -- a constant of this file, or none
@@ -177,7 +177,7 @@ module _ (names : NameLaws) (types : TypeLaws) (named : Named) (front : List Raw
       ap (λ n. slice_get far_next.constants (renumber (front ++ own) (n + i))) earlier_count
       ∙ ap (slice_get far_next.constants) (R.later i)
       ∙ found_at far_next.constants end beyond far_positions globals far_there i
-      ∙ sym (got_right behind.constants globals i)
+      ∙ sym (get_behind behind.constants globals i)
       ∙ ap (λ them. slice_get them (length behind.constants + i)) (sym next_constants)
 
   constants_at : (k : ℕ) → slice_get far_next.constants (renumber (front ++ own) k) ≡ slice_get next.constants k

@@ -1,6 +1,7 @@
 -- What passes of a tree behind faces, layer by layer, and of all items together.
 use Rattle.std.proofs.Common.{◌≡◌, ◌∙◌, ℕ, Bool, true, false, not, List, [], ◌∷◌, ◌++◌, length, refl, sym, subst, inl, inr, arith}
 use Rattle.std.specs.Prelude.{Contains}
+use Rattle.bl_tree.proofs.Basics.{contains_none}
 use Rattle.bl_cause_trees.specs.Peeled.{ArePeeled}
 use Rattle.bl_effects.specs.Rules.{Passes as UnitsPass}
 use Rattle.bl_limits.specs.Rules.{Fails as LimitsFail, NestingPasses, Passes as LimitsPass}
@@ -29,7 +30,6 @@ use Rattle.bl_tree.specs.declared.rule.Rule.TheVariants as rule
 use Rattle.bl_tree.specs.declared.tree.StructDef.{StructDef}
 use Rattle.bl_tree.specs.declared.tree.Unit.{Unit as UnitDef}
 use Rattle.bl_tree.specs.Rules.{FailsAmong, Passes as NoneOf, further_places}
-use Rattle.bl_tree_laws_places.proofs.Lists.{none_there}
 use Rattle.bl_types.specs.Programs.{after_items, failures_behind, fresh, text_end}
 use Rattle.bl_types.specs.Rules.{PassesBehind as TypesPass}
 use Rattle.bl_types.specs.Units.{entries}
@@ -48,7 +48,7 @@ none_among (failure ∷ rest) passes =
     (record { failure = failure; is_there = (0, omega arith, refl); of_rule = refl; at_place = refl; further = refl }))
 
 among_none : (failures : List Failure) → failures ≡ [] → NoneOf (FailsAmong failures)
-among_none failures none of at also fails = none_there fails.failure (subst (λ them. Contains them fails.failure) none fails.is_there)
+among_none failures none of at also fails = contains_none fails.failure (subst (λ them. Contains them fails.failure) none fails.is_there)
 
 -- ---- a tree behind faces
 

@@ -2,6 +2,7 @@
 use Rattle.std.proofs.Common.{List, [], ◌++◌, ⊎_elim}
 use Rattle.std.proofs.lemmas.List.Elements.{Contains-append_cases, Contains-append_left, Contains-append_right}
 use Rattle.std.specs.Prelude.{Contains}
+use Rattle.bl_tree.proofs.Basics.{contains_none}
 use Rattle.bl_cause.specs.Fails.{FailsCycle, FailsTwice}
 use Rattle.bl_cause_trees.specs.Rules.{Fails as GraphsFail, FailsInPeeled, Passes as GraphsPass}
 use Rattle.bl_effects.specs.Rules.{Fails as UnitsFail, FailsAlias, FailsConflict, FailsInstant, FailsPause, Passes as UnitsPass}
@@ -10,7 +11,6 @@ use Rattle.bl_tree.specs.declared.place.Place.{Place}
 use Rattle.bl_tree.specs.declared.rule.Rule.{Rule}
 use Rattle.bl_tree.specs.declared.rule.Rule.TheVariants as rule
 use Rattle.bl_tree.specs.declared.tree.Unit.{Unit as UnitDef}
-use Rattle.bl_tree_laws_places.proofs.Lists.{none_there}
 
 -- what fails among some units fails among others that have the same one
 module _ (from to : List UnitDef) (at : Place) (also : List Place) where
@@ -154,13 +154,13 @@ module _ (one two : List UnitDef) where
 -- ---- no units
 
 pub units_none : UnitsPass []
-units_none rule.Pause at also h = let fails : FailsPause [] at also = h in none_there fails.unit fails.is_there
-units_none rule.Conflict at also h = let fails : FailsConflict [] at also = h in none_there fails.unit fails.is_there
-units_none rule.Alias at also h = let fails : FailsAlias [] at also = h in none_there fails.unit fails.is_there
-units_none rule.Instant at also h = let fails : FailsInstant [] at also = h in none_there fails.unit fails.is_there
+units_none rule.Pause at also h = let fails : FailsPause [] at also = h in contains_none fails.unit fails.is_there
+units_none rule.Conflict at also h = let fails : FailsConflict [] at also = h in contains_none fails.unit fails.is_there
+units_none rule.Alias at also h = let fails : FailsAlias [] at also = h in contains_none fails.unit fails.is_there
+units_none rule.Instant at also h = let fails : FailsInstant [] at also = h in contains_none fails.unit fails.is_there
 units_none _ at also h = absurd h
 
 pub graphs_none : GraphsPass []
-graphs_none rule.Twice at also h = let fails : FailsInPeeled FailsTwice [] at also = h in none_there fails.unit fails.is_there
-graphs_none rule.Cycle at also h = let fails : FailsInPeeled FailsCycle [] at also = h in none_there fails.unit fails.is_there
+graphs_none rule.Twice at also h = let fails : FailsInPeeled FailsTwice [] at also = h in contains_none fails.unit fails.is_there
+graphs_none rule.Cycle at also h = let fails : FailsInPeeled FailsCycle [] at also = h in contains_none fails.unit fails.is_there
 graphs_none _ at also h = absurd h

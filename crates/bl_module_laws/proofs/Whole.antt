@@ -4,6 +4,7 @@ use Rattle.std.proofs.lemmas.List.{append_assoc, map-append}
 use Rattle.std.proofs.lemmas.List.Elements.{Contains-append_left, Contains-append_right}
 use Rattle.std.specs.Prelude.{Contains}
 use Rattle.std.specs.List.{list_any}
+use Rattle.bl_tree.proofs.Basics.{neither_first, neither_second}
 use Rattle.bl_cause_trees.specs.Rules.{Passes as GraphsPass}
 use Rattle.bl_cause_trees.specs.Peeled.{ArePeeled}
 use Rattle.bl_effects.specs.Rules.{Passes as UnitsPass}
@@ -41,14 +42,6 @@ use Rattle.bl_module_laws.proofs.Units.{graphs_left, graphs_right, units_left, u
 
 -- ---- marks of raw items
 
-first_unmarked : (a b : Bool) → (a || b) ≡ false → a ≡ false
-first_unmarked true b is = absurd (cc)
-first_unmarked false b is = refl
-
-rest_unmarked : (a b : Bool) → (a || b) ≡ false → b ≡ false
-rest_unmarked true b is = absurd (cc)
-rest_unmarked false b is = is
-
 -- units of items without marks have none
 pub unmarked_named : (scopes : Scopes) (items : List RawItem) → list_any is_marked items ≡ false → list_any has_mark (along units_of scopes items) ≡ false
 unmarked_named scopes [] none = refl
@@ -56,8 +49,8 @@ unmarked_named scopes (Struct def ∷ items) none = unmarked_named (after scopes
 unmarked_named scopes (Constant constant ∷ items) none = unmarked_named (after scopes (item_marks (Constant constant))) items none
 unmarked_named scopes (UnitItem unit ∷ items) none =
     ap (λ mark. mark || list_any has_mark (along units_of (after scopes (item_marks (UnitItem unit))) items))
-    (first_unmarked unit.entry (list_any is_marked items) none)
-    ∙ unmarked_named (after scopes (item_marks (UnitItem unit))) items (rest_unmarked unit.entry (list_any is_marked items) none)
+    (neither_first unit.entry (list_any is_marked items) none)
+    ∙ unmarked_named (after scopes (item_marks (UnitItem unit))) items (neither_second unit.entry (list_any is_marked items) none)
 
 -- ---- lists that are mapped to nothing
 

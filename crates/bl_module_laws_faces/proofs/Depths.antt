@@ -4,7 +4,7 @@ use Rattle.std.specs.Prelude.{Bool, ◌&&◌, nat_le, slice_get, slice_index}
 use Rattle.std.specs.List.{list_all}
 use Rattle.std.proofs.lemmas.Bool.{ltb-true}
 use Rattle.std.proofs.lemmas.List.{get_or-take}
-use Rattle.bl_eval.proofs.PassLemmas.{and_left, and_right}
+use Rattle.bl_tree.proofs.Basics.{and_first, and_second}
 use Rattle.bl_limits_measures.proofs.TableLemmas.{answer_at}
 use Rattle.bl_limits_measures.proofs.TypeLemmas.{induct}
 use Rattle.bl_limits_measures.specs.Types.{fields_nesting, level_nesting, nesting_by, struct_nestings}
@@ -43,15 +43,15 @@ first_nesting known n =
     (λ length element inner stands.
     let both = sym (stands_array n length element) ∙ stands in
     nesting_array (take n known) length element
-    ∙ ap (λ m. 1 + m) (inner (and_right (nat_le 1 length && nat_le length 65536) (type_stands n element) both))
+    ∙ ap (λ m. 1 + m) (inner (and_second (nat_le 1 length && nat_le length 65536) (type_stands n element) both))
     ∙ sym (nesting_array known length element))
 
 first_nestings : (known : List ℕ) (n : ℕ) (fields : List Field) → list_all (λ (field : Field). type_stands n field.ty) fields ≡ true →
     map (λ (field : Field). nesting_by (take n known) field.ty) fields ≡ map (λ (field : Field). nesting_by known field.ty) fields
 first_nestings known n [] stand = refl
 first_nestings known n (field ∷ fields) stand = λ i.
-    first_nesting known n field.ty (and_left (type_stands n field.ty) (list_all (λ (field : Field). type_stands n field.ty) fields) stand) i
-    ∷ first_nestings known n fields (and_right (type_stands n field.ty) (list_all (λ (field : Field). type_stands n field.ty) fields) stand) i
+    first_nesting known n field.ty (and_first (type_stands n field.ty) (list_all (λ (field : Field). type_stands n field.ty) fields) stand) i
+    ∷ first_nestings known n fields (and_second (type_stands n field.ty) (list_all (λ (field : Field). type_stands n field.ty) fields) stand) i
 
 -- a struct is nested one deeper than its fields, as all structs are known
 pub depth_at : (structs : List StructDef) (k : ℕ) (def : StructDef) → slice_get structs k ≡ Some def →

@@ -3,7 +3,7 @@ use Rattle.std.proofs.Common.{◌≡◌, ℕ, true, false, List, [], ◌∷◌, 
 use Rattle.std.specs.Prelude.{Bool, ◌&&◌, ◌||◌, is_none, nat_eq, if◌then◌else◌}
 use Rattle.std.proofs.Math.Seq.{drop-append_seam, take-append_seam}
 use Rattle.std.proofs.lemmas.Bool.{eqb-true}
-use Rattle.bl_eval.proofs.PassLemmas.{and_left}
+use Rattle.bl_tree.proofs.Basics.{and_first}
 use Rattle.bl_face.specs.declared.item.FaceField.{FaceField}
 use Rattle.bl_module.specs.Behind.{gives_once}
 use Rattle.bl_tree.specs.declared.scalar.Scalar.{Scalar as ScalarType}
@@ -54,7 +54,7 @@ head_is unit ins outs more are one two = λ i. record {
 
 without_outputs : (n : ℕ) (out : FaceField) (outs : List FaceField) (b : Bool) → (nat_eq n 0 && b) ≡ true → n ≡ length (out ∷ outs) → false ≡ true
 without_outputs n out outs b holds is =
-    absurd (let none : n ≡ 0 = eqb-true n 0 (and_left (nat_eq n 0) b holds) in omega (arith, none, is))
+    absurd (let none : n ≡ 0 = eqb-true n 0 (and_first (nat_eq n 0) b holds) in omega (arith, none, is))
 
 once : (kind : UnitKind) (outs : List FaceField) (result : Option ScalarType) (n : ℕ) (a b : Bool) →
     (if is_activity kind then a else (is_none result || (nat_eq n 0 && b))) ≡ true → n ≡ length outs → gives_once kind outs result ≡ true

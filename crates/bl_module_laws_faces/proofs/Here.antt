@@ -2,7 +2,8 @@
 use Rattle.std.proofs.Common.{◌≡◌, suc, ◌+◌, true, List, [], ◌∷◌, ◌++◌, length, map, Some, refl, sym, ap, subst, ◌∙◌, append-nil}
 use Rattle.std.specs.List.{list_all}
 use Rattle.std.proofs.lemmas.List.{map-append}
-use Rattle.bl_eval.proofs.PassLemmas.{and_left, and_right, get_seam}
+use Rattle.bl_tree.proofs.Basics.{and_first, and_second}
+use Rattle.bl_eval.proofs.PassLemmas.{get_seam}
 use Rattle.bl_module_laws_faces.proofs.Fresh.{Fresh, fresh_first, fresh_second}
 use Rattle.bl_names.proofs.FitLemmas.{Fits, fits_first, fits_second}
 use Rattle.bl_names.proofs.ItemLemmas.{struct_scopes, unit_scopes}
@@ -105,7 +106,7 @@ module _ (named : Named) (def : RawStruct) (items : List RawItem) (scopes : Scop
           kinds = at.kinds ∙ ap (map (λ (unit : NamedUnit). unit.kind)) (sym (append-nil at.units.before));
         };
         told = subst (Told (kinds_of env.units)) (struct_scopes scopes def) (told_declared (kinds_of env.units) scopes def.name kinds.Struct refl here.told);
-        stand = and_right (item_stands (item.Struct def)) (list_all item_stands items) here.stand;
+        stand = and_second (item_stands (item.Struct def)) (list_all item_stands items) here.stand;
         fresh = fresh_second scopes (struct_marks def) (marks_of items) here.fresh;
       }
 
@@ -167,7 +168,7 @@ module _ (named : Named) (def : RawConstant) (items : List RawItem) (scopes : Sc
           kinds = at.kinds ∙ ap (map (λ (unit : NamedUnit). unit.kind)) (sym (append-nil at.units.before));
         };
         told = subst (Told (kinds_of env.units)) constant_scopes (told_declared (kinds_of env.units) scopes def.name kinds.Constant refl here.told);
-        stand = and_right (item_stands (item.Constant def)) (list_all item_stands items) here.stand;
+        stand = and_second (item_stands (item.Constant def)) (list_all item_stands items) here.stand;
         fresh = fresh_second scopes (constant_marks def) (marks_of items) here.fresh;
       }
 
@@ -228,7 +229,7 @@ module _ (named : Named) (def : RawUnit) (items : List RawItem) (scopes : Scopes
 
   suits : Suits env.units (unit_named named.constants env.units new_unit) (opened scopes) body_end new_unit.vars inside
   suits = unit_suits env.units named.constants scopes def here.told here.at.none unit_fits
-      (and_left (unit_stands def) (list_all item_stands items) here.stand) constants_within
+      (and_first (unit_stands def) (list_all item_stands items) here.stand) constants_within
 
   pub outer_still : body_end.outer ≡ scopes.inner ∷ scopes.outer
   outer_still = suits.outer
@@ -293,6 +294,6 @@ module _ (named : Named) (def : RawUnit) (items : List RawItem) (scopes : Scopes
         };
         told = subst (λ kinds. Told kinds behind_unit)
             (sym (ap kinds_of (units_are none) ∙ map-append kind_made env.units (made_of named.constants new_unit env ∷ []))) told_behind;
-        stand = and_right (item_stands (item.Unit def)) (list_all item_stands items) here.stand;
+        stand = and_second (item_stands (item.Unit def)) (list_all item_stands items) here.stand;
         fresh = fresh_second scopes (unit_marks def) (marks_of items) here.fresh;
       }

@@ -3,7 +3,8 @@ use Rattle.std.proofs.Common.{◌≡◌, ℕ, ◌+◌, ◌≤◌, true, List, []
 use Rattle.std.specs.Prelude.{◌&&◌, nat_le, slice_get, slice_index}
 use Rattle.std.specs.List.{list_all}
 use Rattle.std.proofs.lemmas.Bool.{le-leb}
-use Rattle.bl_eval.proofs.PassLemmas.{both}
+use Rattle.std.proofs.lemmas.Bool.{and_from}
+use Rattle.bl_tree.proofs.Basics.{first_empty, get_seam, second_empty}
 use Rattle.bl_face.specs.declared.item.FaceField.{FaceField}
 use Rattle.bl_face.specs.declared.item.FaceItem.{FaceItem}
 use Rattle.bl_face.specs.declared.item.FaceItem.TheVariants as shows
@@ -42,9 +43,8 @@ use Rattle.bl_types.specs.declared.environment.Environment.{Environment}
 use Rattle.bl_types.specs.declared.environment.Known.{Known}
 use Rattle.bl_types.specs.Declarations.{Declaring, after_struct, field_of, struct_of}
 use Rattle.bl_types.specs.Programs.{after_items}
-use Rattle.bl_types_laws.proofs.Forms.{nil_left, nil_right}
 use Rattle.bl_types_laws_places.specs.Agree.{unplaced}
-use Rattle.bl_module_laws_faces.proofs.Adding.{Adding, Adds, Agrees, Shallow, absent_behind, adds_first, by_first, get_behind, next_at, one_behind, pushed}
+use Rattle.bl_module_laws_faces.proofs.Adding.{Adding, Adds, Agrees, Shallow, absent_behind, adds_first, by_first, next_at, one_behind, pushed}
 use Rattle.bl_module_laws_faces.proofs.Adding.{same_long}
 use Rattle.bl_module_laws_faces.proofs.Elements.{FieldsShown}
 
@@ -126,10 +126,10 @@ module _ (named : Named) (known : Known) (from_structs from_units : ℕ) (shallo
     there : slice_get known.structs n ≡ Some made
     there =
         ap (λ structs. slice_get structs n) (front ∙ append_assoc env.structs (made ∷ []) later)
-        ∙ get_behind env.structs made later
+        ∙ get_seam env.structs made later
 
     stand : list_all (λ (field : Field). typed_stands n field.ty) made.fields ≡ true
-    stand = (here_struct named def items scopes env here none).at.between.known.fields n made (get_behind env.structs made [])
+    stand = (here_struct named def items scopes env here none).at.between.known.fields n made (get_seam env.structs made [])
 
     deep : slice_index nestings n ≡ 1 + fields_depth walk.names fields
     deep = depth_at known.structs n made there stand
@@ -150,9 +150,9 @@ module _ (named : Named) (known : Known) (from_structs from_units : ℕ) (shallo
 
     stands : item_stands walk.names shows_struct ≡ true
     stands =
-        both (is_new walk.names def.name.text && are_new [] fields) (types_stand walk.names fields && nat_le (1 + fields_depth walk.names fields) 100)
-        (both (is_new walk.names def.name.text) (are_new [] fields) (new_alike def.name.text scopes.inner walk.names agrees.names.texts absent) fields_differ)
-        (both (types_stand walk.names fields) (nat_le (1 + fields_depth walk.names fields) 100) stand_shown
+        and_from (is_new walk.names def.name.text && are_new [] fields) (types_stand walk.names fields && nat_le (1 + fields_depth walk.names fields) 100)
+        (and_from (is_new walk.names def.name.text) (are_new [] fields) (new_alike def.name.text scopes.inner walk.names agrees.names.texts absent) fields_differ)
+        (and_from (types_stand walk.names fields) (nat_le (1 + fields_depth walk.names fields) 100) stand_shown
         (le-leb (1 + fields_depth walk.names fields) 100 not_deep))
 
     is_shown : struct_item def (slice_get known.structs n) ≡ shows_struct
@@ -203,8 +203,8 @@ module _ (named : Named) (known : Known) (from_structs from_units : ℕ) (shallo
       let behind : Scopes = after scopes (struct_marks def) in
       by_first named known from_structs from_units (item.Struct def) items env walk first (struct_chosen named def items scopes env here)
       (λ none structs units globals.
-      let one = nil_left first.failures (after_items named (order_of items) first.env).failures none in
-      let more = nil_right first.failures (after_items named (order_of items) first.env).failures none in
+      let one = first_empty first.failures (after_items named (order_of items) first.env).failures none in
+      let more = second_empty first.failures (after_items named (order_of items) first.env).failures none in
       let gone = goes named items behind first.env (here_struct named def items scopes env here one) more in
       let front = structs ∙ gone.structs in
       let it : FaceItem = shows.Struct def.name.text (shown_fields env.constants scopes def.fields) in

@@ -1,6 +1,7 @@
 -- What is made behind structs, units and the items of a program.
 use Rattle.std.proofs.Common.{◌≡◌, ℕ, ◌+◌, ◌<◌, List, [], ◌∷◌, ◌++◌, map, drop, length, get_or, refl, sym, ap, ◌∙◌, append-nil, append_assoc}
 use Rattle.std.specs.Prelude.{Option, Some, option_map}
+use Rattle.bl_tree.proofs.Basics.{drop_next}
 use Rattle.bl_tree.specs.declared.tree.Role.{Role}
 use Rattle.bl_tree.specs.declared.tree.Role.TheVariants as role
 use Rattle.bl_tree.specs.Reduce.{joined}
@@ -23,7 +24,6 @@ use Rattle.bl_names.specs.declared.state.State.{State}
 use Rattle.bl_names.specs.Named.{along, block_piece, inside_piece, named_var, opened, param_piece, params_piece, role_piece, unit_inside}
 use Rattle.bl_names.specs.Naming.{named_type}
 use Rattle.bl_names.specs.inner.Past.{past, with_unit, with_variable}
-use Rattle.bl_names_scopes.proofs.WalkLemmas.{next_of}
 use Rattle.bl_names.proofs.PastLemmas.{enter-behind, past-followed}
 use Rattle.bl_names.proofs.PieceLemmas.{block_marks, role_marks}
 use Rattle.bl_names.proofs.StillLemmas.{Still, after-append, still_append, still_optional, still_type}
@@ -153,11 +153,11 @@ pub along-next : {A : Type 0} (gives : Scopes → RawItem → List A) (xs : List
 along-next gives xs k x scopes new old more found within is new_is more_is h =
     (λ i. more_is i ++ along gives (new_is i) (drop (k + 1) xs))
     ∙ append_assoc old (gives scopes x) (along gives (after scopes (item_marks x)) (drop (k + 1) xs))
-    ∙ ap (λ l. old ++ along gives scopes l) (sym (next_of xs k x within is)) ∙ h
+    ∙ ap (λ l. old ++ along gives scopes l) (sym (drop_next xs k x within is)) ∙ h
 
 pub scopes-next : (xs : List RawItem) (k : ℕ) (x : RawItem) (scopes new found : Scopes) → k < length xs → x ≡ get_or xs k x →
     new ≡ after scopes (item_marks x) → after scopes (marks_of (drop k xs)) ≡ found → after new (marks_of (drop (k + 1) xs)) ≡ found
 scopes-next xs k x scopes new found within is new_is h =
     ap (λ s. after s (marks_of (drop (k + 1) xs))) new_is
     ∙ sym (after-append scopes (item_marks x) (marks_of (drop (k + 1) xs)))
-    ∙ ap (λ l. after scopes (marks_of l)) (sym (next_of xs k x within is)) ∙ h
+    ∙ ap (λ l. after scopes (marks_of l)) (sym (drop_next xs k x within is)) ∙ h

@@ -7,6 +7,8 @@ use Rattle.std.proofs.Math.Seq.{drop-append_seam, take-append_seam}
 use Rattle.std.proofs.lemmas.Bool.{eq-eqb, le-leb}
 use Rattle.std.proofs.lemmas.List.{length-append}
 use Rattle.std.proofs.lemmas.List.Folds.{list_all-append}
+use Rattle.std.proofs.lemmas.Bool.{and_from}
+use Rattle.bl_tree.proofs.Basics.{plus_none}
 use Rattle.bl_tree.specs.declared.tree.Role.{Role}
 use Rattle.bl_tree.specs.declared.tree.Role.TheVariants as role
 use Rattle.bl_tree.specs.declared.tree.UnitKind.{UnitKind}
@@ -35,9 +37,9 @@ use Rattle.bl_names.specs.Naming.{named_type}
 use Rattle.bl_names.proofs.BelowLemmas.{Below, DeclarationBelow, Grown, declared_below, outer_grown, scope_grown, variable_below}
 use Rattle.bl_names.proofs.FitLemmas.{Fits, fits_behind, fits_first, fits_second}
 use Rattle.bl_names.proofs.ItemLemmas.{unit_scopes}
-use Rattle.bl_names.proofs.PastLemmas.{enter-behind, none_more}
+use Rattle.bl_names.proofs.PastLemmas.{enter-behind}
 use Rattle.bl_names.proofs.PieceLemmas.{block_marks, role_marks}
-use Rattle.bl_names.proofs.PlacedExpr.{both, earlier, optional_is, type_is}
+use Rattle.bl_names.proofs.PlacedExpr.{earlier, optional_is, type_is}
 use Rattle.bl_names.proofs.PlacedStmt.{Holds, Within, closed_is, every_block, is_local}
 use Rattle.bl_names.proofs.StillLemmas.{after-append, still_optional, still_type}
 
@@ -47,7 +49,7 @@ fields_are : (scopes : Scopes) → Below scopes → (fields : List RawField) →
     list_all (λ field. type_placed (earlier scopes) field.ty) (map (named_field scopes) fields) ≡ true
 fields_are scopes below [] fits = refl
 fields_are scopes below (field ∷ fields) fits =
-    both _ _ (type_is scopes scopes.counts below field.ty (fits_first scopes (type_marks field.ty) (joined (map field_type_marks fields)) fits))
+    and_from _ _ (type_is scopes scopes.counts below field.ty (fits_first scopes (type_marks field.ty) (joined (map field_type_marks fields)) fits))
     (fields_are scopes below fields (fits_behind scopes (type_marks field.ty) (joined (map field_type_marks fields)) (still_type field.ty) fits))
 
 pub struct_is : (scopes : Scopes) (def : RawStruct) → Below scopes → Fits scopes (struct_marks def)
@@ -91,7 +93,7 @@ params_hold : (e : DeclaredBefore) (role : Role) (test : Role → Bool) → test
 params_hold e role test passes [] scopes structs constants below fits = record {
   below = below;
   outer = refl;
-  more_vars = none_more scopes.counts.variables;
+  more_vars = plus_none scopes.counts.variables;
   same_constants = refl;
   same_structs = refl;
   same_units = refl;
@@ -119,15 +121,15 @@ params_hold e role test passes (param ∷ params) scopes structs constants below
       same_structs = ap (λ s. s.counts.structs) (sym whole) ∙ later.same_structs ∙ ap (λ s. s.counts.structs) (sym entered);
       same_units = ap (λ s. s.counts.units) (sym whole) ∙ later.same_units ∙ ap (λ s. s.counts.units) (sym entered);
       placed =
-          both _ _ (type_as e (earlier scopes) (named_type scopes param.ty) structs constants ∙ type_is scopes scopes.counts below param.ty in_type)
+          and_from _ _ (type_as e (earlier scopes) (named_type scopes param.ty) structs constants ∙ type_is scopes scopes.counts below param.ty in_type)
           later.placed;
-      roles = both _ _ passes later.roles;
+      roles = and_from _ _ passes later.roles;
       long = ap (λ n. suc n) later.long;
     }
 
 -- ---- units
 
--- behind both lists of parameters
+-- behind and_from lists of parameters
 pub record HeadHolds (scopes : Scopes) (def : RawUnit) (two : Scopes) (ins outs : List NamedVar) : Type 0 where
   pub below : Below two
   pub outer : two.outer ≡ scopes.inner ∷ scopes.outer
@@ -215,13 +217,13 @@ head_is scopes two def ins outs locals body head local result =
     let m = length def.inputs in
     let n = length def.outputs in
     let long : length (ins ++ outs) ≡ m + n = both_long ins outs locals m n head.ins_long head.outs_long in
-    both _ _
-    (both _ _ (le-leb (m + n) (length ((ins ++ outs) ++ locals)) (at_most (ins ++ outs) locals (m + n) long))
-    (both _ _ (ap (list_all (λ var. is_input var.role)) (front_at ins outs locals m head.ins_long) ∙ head.ins_are)
-    (both _ _ (ap (list_all (λ var. is_output var.role)) (middle_at ins outs locals m n head.ins_long head.outs_long) ∙ head.outs_are)
+    and_from _ _
+    (and_from _ _ (le-leb (m + n) (length ((ins ++ outs) ++ locals)) (at_most (ins ++ outs) locals (m + n) long))
+    (and_from _ _ (ap (list_all (λ var. is_input var.role)) (front_at ins outs locals m head.ins_long) ∙ head.ins_are)
+    (and_from _ _ (ap (list_all (λ var. is_output var.role)) (middle_at ins outs locals m n head.ins_long head.outs_long) ∙ head.outs_are)
     (ap (list_all is_local) (locals_at ins outs locals (m + n) long) ∙ local))))
-    (both _ _ (ap (list_all (var_placed (earlier scopes))) (params_at ins outs locals (m + n) long) ∙ list_all-append (var_placed (earlier scopes)) ins outs
-    ∙ both _ _ head.ins_placed head.outs_placed) result)
+    (and_from _ _ (ap (list_all (var_placed (earlier scopes))) (params_at ins outs locals (m + n) long) ∙ list_all-append (var_placed (earlier scopes)) ins outs
+    ∙ and_from _ _ head.ins_placed head.outs_placed) result)
 
 -- the marks in a unit, with the result behind the parameters
 inside_are : (def : RawUnit) → inside_unit def ≡ (ins_of def ++ outs_of def) ++ (optional type_marks def.result ++ (block_piece def.body).marks)

@@ -2,6 +2,7 @@
 use Rattle.std.proofs.Common.{◌≡◌, ℕ, Bool, true, false, ◌&&◌, List, [], ◌∷◌, ◌++◌, map, refl, sym, ap, subst, ◌∙◌}
 use Rattle.std.specs.Prelude.{Some}
 use Rattle.std.specs.List.{list_all}
+use Rattle.std.proofs.lemmas.Bool.{and_from}
 use Rattle.bl_tree.specs.declared.tree.Role.{Role}
 use Rattle.bl_tree.specs.declared.tree.Role.TheVariants as role
 use Rattle.bl_tree.specs.declared.tree.UnitKind.{UnitKind}
@@ -31,7 +32,6 @@ use Rattle.bl_names_laws.proofs.Apart.{every_of, good_all}
 use Rattle.bl_names_laws.proofs.Filled.{params_move}
 use Rattle.bl_names_laws.proofs.Moves.{PieceMoves, body_moves, moving_then, own_is}
 use Rattle.bl_names_laws.proofs.Only.{Low, Only, below, declare_only, low_variable, only_weaker}
-use Rattle.bl_names_laws.proofs.Tests.{both}
 
 -- ---- parameters
 
@@ -117,7 +117,7 @@ known_next scopes one items known = (none_behind one scopes known.0, fits_second
 item_apart : (scopes : Scopes) (one : RawItem) → Only never scopes → Fits scopes (item_marks one) → list_all body_apart (units_of scopes one) ≡ true
 item_apart scopes (item.Struct def) none fits = refl
 item_apart scopes (item.Constant constant) none fits = refl
-item_apart scopes (item.Unit def) none fits = both (body_apart (named_unit scopes def)) true (unit_apart scopes def none fits) refl
+item_apart scopes (item.Unit def) none fits = and_from (body_apart (named_unit scopes def)) true (unit_apart scopes def none fits) refl
 
 pub units_are_apart : (items : List RawItem) (bytes : ℕ) → Passes items → list_all body_apart (named_program items bytes).units ≡ true
 units_are_apart items bytes passes = along_under Known units_of body_apart known_next

@@ -4,6 +4,7 @@ use Rattle.std.specs.Prelude.{Some}
 use Rattle.std.specs.List.{list_all}
 use Rattle.std.proofs.Math.Seq.{take-append_seam}
 use Rattle.std.proofs.lemmas.List.{length-append}
+use Rattle.std.proofs.lemmas.Bool.{and_from}
 use Rattle.bl_tree.specs.declared.tree.Role.{Role}
 use Rattle.bl_tree.specs.declared.tree.Role.TheVariants as role
 use Rattle.bl_tree.specs.Reduce.{joined}
@@ -32,7 +33,6 @@ use Rattle.bl_names_laws.proofs.ApartProgram.{inside_moves}
 use Rattle.bl_names_laws.proofs.Fresh.{Adds, Differ, Fresh, adds, differ_first, differ_middle, differ_skip, fresh_first, fresh_second, none_differ}
 use Rattle.bl_names_laws.proofs.Fresh.{program_fresh}
 use Rattle.bl_names_laws.proofs.Moves.{Moving, moving_still, own_is}
-use Rattle.bl_names_laws.proofs.Tests.{both}
 
 -- ---- fields
 
@@ -165,14 +165,14 @@ known_next : (scopes : Scopes) (one : RawItem) (items : List RawItem) → Known 
 known_next scopes one items known = fresh_second scopes (item_marks one) (marks_of items) known
 
 item_fields : (scopes : Scopes) (one : RawItem) → Fresh scopes (item_marks one) → list_all fields_differ (structs_of scopes one) ≡ true
-item_fields scopes (item.Struct def) fresh = both (fields_differ (named_struct scopes def)) true (struct_apart scopes def fresh) refl
+item_fields scopes (item.Struct def) fresh = and_from (fields_differ (named_struct scopes def)) true (struct_apart scopes def fresh) refl
 item_fields scopes (item.Constant constant) fresh = refl
 item_fields scopes (item.Unit def) fresh = refl
 
 item_params : (scopes : Scopes) (one : RawItem) → Fresh scopes (item_marks one) → list_all parameters_differ (units_of scopes one) ≡ true
 item_params scopes (item.Struct def) fresh = refl
 item_params scopes (item.Constant constant) fresh = refl
-item_params scopes (item.Unit def) fresh = both (parameters_differ (named_unit scopes def)) true (unit_params scopes def fresh) refl
+item_params scopes (item.Unit def) fresh = and_from (parameters_differ (named_unit scopes def)) true (unit_params scopes def fresh) refl
 
 pub all_fields_differ : (items : List RawItem) (bytes : ℕ) → Passes items → list_all fields_differ (named_program items bytes).structs ≡ true
 all_fields_differ items bytes passes = along_under Known structs_of fields_differ known_next

@@ -3,6 +3,7 @@ use Rattle.std.proofs.Common.{◌≡◌, ℕ, suc, ◌+◌, List, [], ◌∷◌,
 use Rattle.std.specs.Prelude.{option_and_then, option_map, if◌then◌else◌}
 use Rattle.std.proofs.Math.Seq.{take-append_seam}
 use Rattle.std.proofs.lemmas.List.{length-append}
+use Rattle.bl_tree.proofs.Basics.{plus_none}
 use Rattle.bl_tree.specs.declared.tree.Role.{Role}
 use Rattle.bl_tree.specs.declared.tree.Role.TheVariants as role
 use Rattle.bl_tree.specs.declared.tree.UnitKind.{UnitKind}
@@ -34,7 +35,7 @@ use Rattle.bl_names.specs.Order.{kind_of_item}
 use Rattle.bl_names.proofs.BelowLemmas.{Below, constant_below, struct_below}
 use Rattle.bl_names.proofs.FitLemmas.{Fits, fits_behind, fits_first, fits_second, program_fits}
 use Rattle.bl_names.proofs.ItemLemmas.{struct_scopes, unit_scopes}
-use Rattle.bl_names.proofs.PastLemmas.{enter-behind, none_more}
+use Rattle.bl_names.proofs.PastLemmas.{enter-behind}
 use Rattle.bl_names.proofs.PieceLemmas.{block_marks, role_marks}
 use Rattle.bl_names.proofs.PlacedExpr.{earlier}
 use Rattle.bl_names.proofs.PlacedItem.{struct_is, unit_holds}
@@ -261,8 +262,8 @@ module _ (named : Named) where
         below = struct_below scopes def.name below;
         no_variables = none;
         more_structs = refl;
-        more_constants = none_more scopes.counts.constants;
-        more_units = none_more scopes.counts.units;
+        more_constants = plus_none scopes.counts.constants;
+        more_units = plus_none scopes.counts.units;
       })
 
   constant_item : (scopes : Scopes) (def : RawConstant) → Below scopes → scopes.counts.variables ≡ 0 →
@@ -280,9 +281,9 @@ module _ (named : Named) where
             ∙ ap (λ s. Some (earlier s)) entered;
         below = subst Below entered (constant_below scopes def.name below);
         no_variables = ap (λ s. s.counts.variables) (sym entered) ∙ none;
-        more_structs = ap (λ s. s.counts.structs) (sym entered) ∙ none_more scopes.counts.structs;
+        more_structs = ap (λ s. s.counts.structs) (sym entered) ∙ plus_none scopes.counts.structs;
         more_constants = ap (λ s. s.counts.constants) (sym entered);
-        more_units = ap (λ s. s.counts.units) (sym entered) ∙ none_more scopes.counts.units;
+        more_units = ap (λ s. s.counts.units) (sym entered) ∙ plus_none scopes.counts.units;
       }
 
   unit_item : (scopes : Scopes) (def : RawUnit) → Below scopes → scopes.counts.variables ≡ 0 → ((vars : List NamedVar) → Listed named vars scopes) →
@@ -298,7 +299,7 @@ module _ (named : Named) where
         steps = ap (option_and_then (λ def. unit_step named.constants def (earlier scopes))) there ∙ holds.steps;
         below = holds.below;
         no_variables = holds.no_variables;
-        more_structs = holds.same_structs ∙ none_more scopes.counts.structs;
+        more_structs = holds.same_structs ∙ plus_none scopes.counts.structs;
         more_constants = holds.more_constants;
         more_units = holds.more_units;
       }

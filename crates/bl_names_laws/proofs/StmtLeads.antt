@@ -2,6 +2,7 @@
 use Rattle.std.proofs.Common.{◌≡◌, ◌+◌, List, [], ◌∷◌, ◌++◌, map, length, Option, Some, refl, sym, ap, subst, ◌∙◌}
 use Rattle.std.specs.Prelude.{All, option_map, slice_get}
 use Rattle.std.proofs.lemmas.List.Elements.{All-head, All-tail}
+use Rattle.bl_tree.proofs.Basics.{plus_none}
 use Rattle.bl_tree.specs.declared.place.Place.{Place}
 use Rattle.bl_tree.specs.declared.tree.Role.{Role}
 use Rattle.bl_tree.specs.declared.tree.Role.TheVariants as role
@@ -32,7 +33,7 @@ use Rattle.bl_names.specs.Named.{Piece, all, kind_piece, made_of_all, marks_of_a
 use Rattle.bl_names.specs.Named.{plain, stmt_piece}
 use Rattle.bl_names.specs.Naming.{named_expr, named_path, named_target, named_type, position}
 use Rattle.bl_names.proofs.FitLemmas.{Fits, fits_behind, fits_first, fits_second}
-use Rattle.bl_names.proofs.PastLemmas.{enter-behind, more, none_more}
+use Rattle.bl_names.proofs.PastLemmas.{enter-behind, more}
 use Rattle.bl_names.proofs.PieceLemmas.{arm_is, branch_is, parts, stmt_is}
 use Rattle.bl_names.proofs.PlacedExpr.{variable_read}
 use Rattle.bl_names.proofs.PlacedStmt.{Within, closed_is, within_first, within_one, within_second}
@@ -89,8 +90,8 @@ module _ (named : Named) (vars : List NamedVar) where
         is_led = is;
         listed = listed;
         outer = refl;
-        more_vars = none_more scopes.counts.variables;
-        more_constants = none_more scopes.counts.constants;
+        more_vars = plus_none scopes.counts.variables;
+        more_constants = plus_none scopes.counts.constants;
         same_units = refl;
       })
 
@@ -255,7 +256,7 @@ module _ (named : Named) (vars : List NamedVar) where
             (ap (option_map (λ (var : NamedVar). var.name)) (within_one vars scopes.counts.variables (named_var scopes name ty role) [] own)) listed;
         outer = refl;
         more_vars = refl;
-        more_constants = none_more scopes.counts.constants;
+        more_constants = plus_none scopes.counts.constants;
         same_units = refl;
       })
 
@@ -292,7 +293,7 @@ module _ (named : Named) (vars : List NamedVar) where
             ∙ sym (bindings_declared scopes marks constant.name kind.Constant);
         listed = declare_listed named vars scopes constant.name kind.Constant (ap (option_map (λ (one : NamedConstant). one.name)) there) listed;
         outer = refl;
-        more_vars = none_more scopes.counts.variables;
+        more_vars = plus_none scopes.counts.variables;
         more_constants = refl;
         same_units = refl;
       })

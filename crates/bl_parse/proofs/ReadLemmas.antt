@@ -4,6 +4,7 @@ use Rattle.std.proofs.Common.{arith}
 use Rattle.std.specs.Prelude.{Option, Some, None, slice_get, option_map}
 use Rattle.std.proofs.lemmas.Bool.{eq-eqb}
 use Rattle.std.proofs.lemmas.Option.{slice_get_within}
+use Rattle.bl_tree.proofs.Basics.{plus_one, true_not_false}
 use Rattle.bl_tree.specs.declared.token.Token.{Token}
 use Rattle.bl_tree.specs.declared.token.TokenKind.{TokenKind}
 use Rattle.bl_tree.specs.declared.token.TokenKind.TheVariants.{Name, Number, Word, Sign}
@@ -72,9 +73,6 @@ pick_is part view may = rw (may, chosen_is (productions part) view.class) refl
 same_some : {A : Type 0} {a b : A} → Some a ≡ Some b → a ≡ b
 same_some e = cc
 
-no_truth : true ≡ false → ⊥
-no_truth e = cc
-
 no_some : {A : Type 0} {a : A} → None ≡ Some a → ⊥
 no_some e = cc
 
@@ -112,9 +110,6 @@ own_class AnyName = refl
 own_class AnyNumber = refl
 own_class (Keyword k) = rw (eq-eqb k k refl) refl
 own_class (Mark k) = rw (eq-eqb k k refl) refl
-
-one_more : (k : ℕ) → k + 1 ≡ suc k
-one_more k = omega arith
 
 append_assoc : {A : Type 0} (xs ys zs : List A) → (xs ++ ys) ++ zs ≡ xs ++ (ys ++ zs)
 append_assoc [] ys zs = refl
@@ -306,7 +301,7 @@ module _ {tokens : List Token} {k : ℕ} where
     goes = λ rest e. let n = expects_token class (b ++ rest) (left tokens k) e.expects in
         record {
           within = token_within tokens k next (kind_next tokens k e.expects).1;
-          expects = subst (Expects (b ++ rest)) (sym (ap (left tokens) (next ∙ one_more k) ∙ drop_next k (views tokens) n.stands)) n.expects;
+          expects = subst (Expects (b ++ rest)) (sym (ap (left tokens) (next ∙ plus_one k) ∙ drop_next k (views tokens) n.stands)) n.expects;
         };
   }
 
@@ -348,7 +343,7 @@ module _ {tokens : List Token} {k : ℕ} where
     where
       opens_one : (rest : List Piece) → Expects (the part ∷ b ++ rest) (left tokens k) → Expects (p ++ (b ++ rest)) (left tokens k)
       opens_one rest e = decided tokens k e may (Expects (p ++ (b ++ rest)) (left tokens k))
-          (λ none may_end expects. absurd (no_truth (sym may_end ∙ never)))
+          (λ none may_end expects. absurd (true_not_false (sym may_end ∙ never)))
           (λ kind q at on expects. opens_last tokens k p (each kind at).0 may at (each kind at).1 e)
 
   -- a part has one production
@@ -359,7 +354,7 @@ module _ {tokens : List Token} {k : ℕ} where
   -- a part that isn't absent doesn't begin at the end
   pub never_ends : {part : Part} {b : List Piece} → ((view : TokenView) → permits part view ≡ true) →
       has_empty (productions part) ≡ false → Awaits (the part ∷ b) tokens k → kind_at tokens k ≡ None → ⊥
-  never_ends may never a is = decided tokens k a.here.expects may ⊥ (λ none may_end expects. no_truth (sym may_end ∙ never))
+  never_ends may never a is = decided tokens k a.here.expects may ⊥ (λ none may_end expects. true_not_false (sym may_end ∙ never))
       (λ kind q at on expects. no_some (sym is ∙ at))
 
   -- nor at a token that decides on no production
@@ -387,7 +382,7 @@ module _ {tokens : List Token} {k : ℕ} where
   }
     where
       stuck : (rest : List Piece) → Expects (Terminal class ∷ b ++ rest) (left tokens k) → ⊥
-      stuck rest e = let h = kind_next tokens k e in no_truth
+      stuck rest e = let h = kind_next tokens k e in true_not_false
           (sym (subst (λ c. has (c ∷ []) (class_of h.0) ≡ true) (sym h.2) (own_class (class_of h.0)))
           ∙ subst (λ o. next_among (class ∷ []) o ≡ false) h.1 off.off)
 

@@ -1,7 +1,7 @@
 -- What a `return` has after it.
 use Rattle.std.proofs.Common.{◌≡◌, ℕ, zero, suc, ◌+◌, Bool, true, false, not, cond, ◌&&◌, ◌||◌, List, [], ◌∷◌, ◌++◌, drop, refl, ap, sym, ◌∙◌, subst, arith}
 use Rattle.std.specs.Prelude.{Option, Some, None, slice_get, option_map, nat_eq}
-use Rattle.std.proofs.lemmas.Bool.{eq-eqb, eqb-true}
+use Rattle.bl_tree.proofs.Basics.{number_test_swap}
 use Rattle.bl_tree.specs.declared.token.Token.{Token}
 use Rattle.bl_tree.specs.declared.token.TokenKind.{TokenKind}
 use Rattle.bl_tree.specs.declared.token.TokenKind.TheVariants.{Name, Number, Word, Sign}
@@ -18,15 +18,6 @@ use Rattle.bl_parse.specs.At.{kind_at}
 use Rattle.bl_parse.specs.Operators.{begins_expr}
 use Rattle.bl_parse.specs.inner.Reading.{left, next_among, Turns}
 use Rattle.bl_parse.specs.Statements.{begins_stmt, goes_on, takes_value}
-
-eq_sym : (a b : ℕ) → nat_eq a b ≡ nat_eq b a
-eq_sym a b = by_test (nat_eq a b) (nat_eq b a) refl refl
-  where
-    by_test : (p q : Bool) → nat_eq a b ≡ p → nat_eq b a ≡ q → p ≡ q
-    by_test true true e f = refl
-    by_test true false e f = sym (eq-eqb b a (sym (eqb-true a b e))) ∙ f
-    by_test false true e f = sym e ∙ eq-eqb a b (sym (eqb-true b a f))
-    by_test false false e f = refl
 
 four : (a b c d : Bool) → a || (b || (c || d)) ≡ a || (b || (c || (d || false)))
 four true b c d = refl
@@ -46,8 +37,8 @@ three false false false = refl
 begins_is : (kind : TokenKind) → begins_expr kind ≡ has expression_starts (class_of kind)
 begins_is Name = refl
 begins_is (Number n) = refl
-begins_is (Word k) = rw (eq_sym k NOT, eq_sym k TRUE, eq_sym k FALSE, eq_sym k PREV) (four (nat_eq NOT k) (nat_eq TRUE k) (nat_eq FALSE k) (nat_eq PREV k))
-begins_is (Sign k) = rw (eq_sym k OPEN_PAREN, eq_sym k MINUS, eq_sym k TILDE) (three (nat_eq OPEN_PAREN k) (nat_eq MINUS k) (nat_eq TILDE k))
+begins_is (Word k) = rw (number_test_swap k NOT, number_test_swap k TRUE, number_test_swap k FALSE, number_test_swap k PREV) (four (nat_eq NOT k) (nat_eq TRUE k) (nat_eq FALSE k) (nat_eq PREV k))
+begins_is (Sign k) = rw (number_test_swap k OPEN_PAREN, number_test_swap k MINUS, number_test_swap k TILDE) (three (nat_eq OPEN_PAREN k) (nat_eq MINUS k) (nat_eq TILDE k))
 
 after_return : (v : TokenView) → pick AfterReturn v ≡ or_absent true
     (cond (not v.fresh) (cond (has expression_starts v.class) (Some (the Expr ∷ [])) None) None)
@@ -163,16 +154,16 @@ stmt_starts (Some Name) = refl
 stmt_starts (Some (Number n)) = refl
 stmt_starts (Some (Sign s)) = refl
 stmt_starts (Some (Word k)) = rw (
-  eq_sym k VAR,
-  eq_sym k LET,
-  eq_sym k CONST,
-  eq_sym k AWAIT,
-  eq_sym k RUN,
-  eq_sym k COBEGIN,
-  eq_sym k WHEN,
-  eq_sym k REPEAT,
-  eq_sym k WHILE,
-  eq_sym k IF,
-  eq_sym k RETURN,
+  number_test_swap k VAR,
+  number_test_swap k LET,
+  number_test_swap k CONST,
+  number_test_swap k AWAIT,
+  number_test_swap k RUN,
+  number_test_swap k COBEGIN,
+  number_test_swap k WHEN,
+  number_test_swap k REPEAT,
+  number_test_swap k WHILE,
+  number_test_swap k IF,
+  number_test_swap k RETURN,
   or_end (nat_eq RETURN k),
 ) refl

@@ -2,6 +2,7 @@
 use Rattle.std.proofs.Common.{◌≡◌, ℕ, zero, suc, ◌+◌, ◌-◌, ◌<◌, ◌≤◌, Bool, true, false, cond, not, ◌&&◌, ◌||◌, List, [], ◌∷◌, ◌++◌, take, refl, ap, sym, ◌∙◌}
 use Rattle.std.proofs.Common.{arith, ◌⊎◌, inl, inr}
 use Rattle.std.specs.Prelude.{Option, Some, None, slice_get, option_map, nat_eq}
+use Rattle.std.proofs.lemmas.Bool.{not-true}
 use Rattle.bl_tree.specs.declared.token.Token.{Token}
 use Rattle.bl_tree.specs.declared.token.TokenKind.{TokenKind}
 use Rattle.bl_tree.specs.declared.token.TokenKind.TheVariants.{Name, Number, Word, Sign}
@@ -117,18 +118,14 @@ is_inner (Number v) = true
 is_inner (Word k) = is_inner_word k
 is_inner (Sign k) = not (nat_eq k ASSIGN || nat_eq k AT)
 
-opposite : (b : Bool) → not b ≡ true → b ≡ false
-opposite true is = cc
-opposite false is = refl
-
 inner : (before : Option TokenKind) (kind : TokenKind) → is_inner kind ≡ true → begins_run before kind ≡ false
 inner before Name is = cc
 inner None (Number v) is = refl
 inner (Some p) (Number v) is = refl
 inner None (Word k) is = rw is refl
 inner (Some p) (Word k) is = rw is refl
-inner None (Sign k) is = opposite _ is
-inner (Some p) (Sign k) is = opposite _ is
+inner None (Sign k) is = not-true _ is
+inner (Some p) (Sign k) is = not-true _ is
 
 run_of : (run : ℕ) (before : Option TokenKind) (kind : TokenKind) (starts counted : Bool) → begins_run before kind ≡ starts →
     is_counted kind ≡ counted → run_with run before kind ≡ cond starts 0 (cond counted (run + 1) run)

@@ -3,6 +3,7 @@ use Rattle.std.proofs.Common.{◌≡◌, ℕ, ◌+◌, ◌-◌, ◌≤◌, Bool,
 use Rattle.std.specs.Prelude.{Option}
 use Rattle.std.specs.List.{list_all}
 use Rattle.std.proofs.lemmas.Bool.{le-leb}
+use Rattle.bl_tree.proofs.Basics.{map_push}
 use Rattle.bl_tree.specs.declared.place.Place.{Place}
 use Rattle.bl_tree.specs.declared.token.Token.{Token}
 use Rattle.bl_tree.specs.declared.token.TokenKind.{TokenKind}
@@ -36,7 +37,7 @@ use Rattle.bl_parse.specs.Statements.{IsGuard, SpellsInitial, SpellsConstant, Sp
 use Rattle.bl_parse.specs.Statements.{SpellsBranch, SpellsBranches}
 use Rattle.bl_parse_laws.proofs.Counts.{open_at, is_level, is_opening, level, opens, closes, from_nothing, Limits, limits}
 use Rattle.bl_parse_laws.proofs.Level as flat
-use Rattle.bl_parse_laws.proofs.Members.{mapped_more, greatest_more}
+use Rattle.bl_parse_laws.proofs.Members.{greatest_more}
 use Rattle.bl_parse_laws.proofs.Runs as runs
 use Rattle.bl_parse_laws.proofs.Tests.{both, Each, none_hold, more_hold, listed}
 
@@ -130,14 +131,14 @@ fits_more : {around : ℕ} (ds : List Depth) (d : Depth) → Fits around (of_all
 fits_more ds d h k = record {
   blocks = omega (
     arith,
-    ap greatest (mapped_more (λ (e : Depth). e.blocks) ds d)
+    ap greatest (map_push (λ (e : Depth). e.blocks) ds d)
         ∙ greatest_more (map (λ (e : Depth). e.blocks) ds) d.blocks,
     h.blocks,
     k.blocks,
   );
   exprs = omega (
     arith,
-    ap greatest (mapped_more (λ (e : Depth). e.exprs) ds d)
+    ap greatest (map_push (λ (e : Depth). e.exprs) ds d)
         ∙ greatest_more (map (λ (e : Depth). e.exprs) ds) d.exprs,
     h.exprs,
     k.exprs,
@@ -161,7 +162,7 @@ none_fit f {around} is room = record { fit = fits_as (ap (λ xs. of_all (map f x
 more_fit : {A : Type 0} (f : A → Depth) {around : ℕ} {all xs : List A} (x : A) → All f around xs → Fits around (f x) →
     all ≡ xs ++ x ∷ [] → All f around all
 more_fit f {xs = xs} x h k is = record {
-  fit = fits_as (ap (λ ys. of_all (map f ys)) is ∙ ap of_all (mapped_more f xs x))
+  fit = fits_as (ap (λ ys. of_all (map f ys)) is ∙ ap of_all (map_push f xs x))
       (fits_more (map f xs) (f x) h.fit k);
 }
 

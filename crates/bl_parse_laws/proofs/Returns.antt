@@ -1,7 +1,7 @@
 -- What a `return` has after it.
 use Rattle.std.proofs.Common.{◌≡◌, ℕ, zero, suc, ◌+◌, Bool, true, false, not, ◌&&◌, ◌||◌, List, [], ◌∷◌, drop, refl, ap, sym, ◌∙◌}
 use Rattle.std.specs.Prelude.{Some, None, slice_get, nat_eq}
-use Rattle.std.proofs.lemmas.Bool.{eq-eqb, eqb-true}
+use Rattle.bl_tree.proofs.Basics.{number_test_swap}
 use Rattle.bl_tree.specs.declared.token.Token.{Token}
 use Rattle.bl_tree.specs.declared.token.TokenKind.{TokenKind}
 use Rattle.bl_tree.specs.declared.token.TokenKind.TheVariants.{Name, Number, Word, Sign}
@@ -18,15 +18,6 @@ use Rattle.bl_parse.specs.inner.Reading.{left}
 use Rattle.bl_parse.specs.Statements.{goes_on, takes_value}
 use Rattle.bl_parse.proofs.ReturnLemmas.{token_at}
 use Rattle.bl_parse_laws.proofs.Spans.{Spans, behind, position}
-
-eq_sym : (a b : ℕ) → nat_eq a b ≡ nat_eq b a
-eq_sym a b = by_test (nat_eq a b) (nat_eq b a) refl refl
-  where
-    by_test : (p q : Bool) → nat_eq a b ≡ p → nat_eq b a ≡ q → p ≡ q
-    by_test true true e f = refl
-    by_test true false e f = sym (eq-eqb b a (sym (eqb-true a b e))) ∙ f
-    by_test false true e f = sym e ∙ eq-eqb a b (sym (eqb-true b a f))
-    by_test false false e f = refl
 
 four : (a b c d : Bool) → a || (b || (c || d)) ≡ a || (b || (c || (d || false)))
 four true b c d = refl
@@ -46,8 +37,8 @@ three false false false = refl
 begins_is : (kind : TokenKind) → begins_expr kind ≡ begins_expression (class_of kind)
 begins_is Name = refl
 begins_is (Number n) = refl
-begins_is (Word k) = rw (eq_sym k NOT, eq_sym k TRUE, eq_sym k FALSE, eq_sym k PREV) (four (nat_eq NOT k) (nat_eq TRUE k) (nat_eq FALSE k) (nat_eq PREV k))
-begins_is (Sign k) = rw (eq_sym k OPEN_PAREN, eq_sym k MINUS, eq_sym k TILDE) (three (nat_eq OPEN_PAREN k) (nat_eq MINUS k) (nat_eq TILDE k))
+begins_is (Word k) = rw (number_test_swap k NOT, number_test_swap k TRUE, number_test_swap k FALSE, number_test_swap k PREV) (four (nat_eq NOT k) (nat_eq TRUE k) (nat_eq FALSE k) (nat_eq PREV k))
+begins_is (Sign k) = rw (number_test_swap k OPEN_PAREN, number_test_swap k MINUS, number_test_swap k TILDE) (three (nat_eq OPEN_PAREN k) (nat_eq MINUS k) (nat_eq TILDE k))
 
 get_head : (k : ℕ) (tokens : List Token) → slice_get tokens k ≡ slice_get (drop k tokens) 0
 get_head zero [] = refl

@@ -3,6 +3,7 @@ use Rattle.std.proofs.Common.{◌≡◌, ℕ, ◌+◌, ◌<◌, ◌≤◌, Bool,
 use Rattle.std.proofs.Common.{arith, append_assoc, append-nil}
 use Rattle.std.specs.Prelude.{if◌then◌else◌}
 use Rattle.std.proofs.lemmas.List.{map-append, take_all, take_more}
+use Rattle.bl_tree.proofs.Basics.{and_true, or_false}
 use Rattle.bl_tree.specs.declared.place.Place.{Place}
 use Rattle.bl_tree.specs.declared.tree.Arm.{Arm, out-Arm}
 use Rattle.bl_tree.specs.declared.tree.Branch.{Branch, out-Branch}
@@ -36,21 +37,13 @@ total_mapped : {A B : Type 0} (g : A → B) (f : B → ℕ) (xs : List A) (x : A
 total_mapped g f [] x = omega arith
 total_mapped g f (y ∷ xs) x = omega (arith, total_mapped g f xs x)
 
-and_yes : (a : Bool) → (a && true) ≡ a
-and_yes true = refl
-and_yes false = refl
-
-or_no : (a : Bool) → (a || false) ≡ a
-or_no true = refl
-or_no false = refl
-
 all_mapped : {A : Type 0} (f : A → Bool) (xs : List A) (x : A) → all_of (map f (xs ++ x ∷ [])) ≡ (all_of (map f xs) && f x)
 all_mapped f xs x =
-    ap all_of (map-append f xs (x ∷ [])) ∙ all_of-append (map f xs) (f x ∷ []) ∙ ap (λ last. all_of (map f xs) && last) (and_yes (f x))
+    ap all_of (map-append f xs (x ∷ [])) ∙ all_of-append (map f xs) (f x ∷ []) ∙ ap (λ last. all_of (map f xs) && last) (and_true (f x))
 
 any_mapped : {A : Type 0} (f : A → Bool) (xs : List A) (x : A) → any_of (map f (xs ++ x ∷ [])) ≡ (any_of (map f xs) || f x)
 any_mapped f xs x =
-    ap any_of (map-append f xs (x ∷ [])) ∙ any_of-append (map f xs) (f x ∷ []) ∙ ap (λ last. any_of (map f xs) || last) (or_no (f x))
+    ap any_of (map-append f xs (x ∷ [])) ∙ any_of-append (map f xs) (f x ∷ []) ∙ ap (λ last. any_of (map f xs) || last) (or_false (f x))
 
 pub ends_more : (branches : List BranchInstant) (branch : BranchInstant) →
     ends_of (branches ++ branch ∷ []) ≡ ends_with (ends_of branches) branch.weak branch.instant

@@ -2,6 +2,7 @@
 use Rattle.std.proofs.Common.{◌≡◌, ℕ, ◌+◌, ◌<◌, ◌≤◌, Bool, true, false, ◌&&◌, ◌||◌, List, [], ◌∷◌, ◌++◌, map, length, get_or, drop, refl, ap, sym, ◌∙◌}
 use Rattle.std.proofs.Common.{append_assoc}
 use Rattle.std.proofs.lemmas.List.{drop_more}
+use Rattle.bl_tree.proofs.Basics.{and_assoc, or_assoc}
 use Rattle.bl_tree.specs.declared.place.Place.{Place}
 use Rattle.bl_tree.specs.declared.tree.Arm.{Arm, out-Arm}
 use Rattle.bl_tree.specs.declared.tree.Branch.{Branch, out-Branch}
@@ -82,14 +83,6 @@ module _ (what : StmtKind) (place : Place) (arms given_arms : List Arm) (other g
 dropped : {A B : Type 0} (g : A → B) (xs : List A) (k : ℕ) (x : A) → k < length xs → x ≡ get_or xs k x →
     map g (drop k xs) ≡ g x ∷ map g (drop (k + 1) xs)
 dropped g xs k x within is = ap (map g) (drop_more xs k x within) ∙ ap (λ y. g y ∷ map g (drop (k + 1) xs)) (sym is)
-
-or_assoc : (a b c : Bool) → ((a || b) || c) ≡ (a || (b || c))
-or_assoc true b c = refl
-or_assoc false b c = refl
-
-and_assoc : (a b c : Bool) → ((a && b) && c) ≡ (a && (b && c))
-and_assoc true b c = refl
-and_assoc false b c = refl
 
 -- the parts so far, with one part more
 pub mapped_step : {A B C : Type 0} (g : A → B) (f : B → C) (xs : List A) (k : ℕ) (x : A) (before after all : List C) → k < length xs →

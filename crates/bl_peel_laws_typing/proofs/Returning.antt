@@ -2,6 +2,7 @@
 use Rattle.std.proofs.Common.{◌≡◌, Bool, true, false, not, ◌&&◌, ◌||◌, List, [], ◌∷◌, ◌++◌, map, refl, ap, sym, ◌∙◌}
 use Rattle.std.specs.Prelude.{if◌then◌else◌, is_none}
 use Rattle.std.proofs.lemmas.List.{map-append}
+use Rattle.bl_tree.proofs.Basics.{or_false}
 use Rattle.bl_tree.specs.declared.place.Place.{Place}
 use Rattle.bl_tree.specs.declared.tree.Arm.{Arm, fold-Arm, fold-roll-Arm}
 use Rattle.bl_tree.specs.declared.tree.Branch.{Branch, fold-Branch, fold-roll-Branch}
@@ -119,12 +120,8 @@ return_copies = record {
 
 -- ---- statements outside of first turns
 
-or_itself : (a : Bool) → (a || false) ≡ a
-or_itself true = refl
-or_itself false = refl
-
 deep_has : (s : Stmt) → has_return (peeling s).deep ≡ has_return s
-deep_has s = sym (or_itself (has_return (peeling s).deep)) ∙ (copied ReturnAlike return_copies s).deep ∙ or_itself (has_return s)
+deep_has s = sym (or_false (has_return (peeling s).deep)) ∙ (copied ReturnAlike return_copies s).deep ∙ or_false (has_return s)
 
 made_is : (place : Place) (layer : StmtKind-F StmtKind Arm Branch Stmt) → is_return (stmt place layer) ≡ is_return_kind layer
 made_is place layer =

@@ -4,6 +4,7 @@ use Rattle.std.specs.Prelude.{option_map, slice_get}
 use Rattle.std.specs.List.{list_all}
 use Rattle.std.proofs.lemmas.List.{map-append}
 use Rattle.std.proofs.lemmas.Option.{slice_get-map}
+use Rattle.bl_tree.proofs.Basics.{and_first, and_second}
 use Rattle.bl_tree.specs.declared.tree.Stmt.{Stmt}
 use Rattle.bl_tree.specs.declared.tree.StructDef.{StructDef}
 use Rattle.bl_tree.specs.declared.tree.Unit.{Unit as UnitDef}
@@ -19,7 +20,7 @@ use Rattle.bl_peel.specs.Units.{UnitPeels, UnitsPeel, is_peeled, kept, more_unit
 use Rattle.bl_peel_laws_typing.specs.Typing.{PeeledKeepsTyping, PeeledUnitsStand, bodies_are_shallow}
 use Rattle.bl_peel_laws_typing.proofs.Callees.{all_bare, bare, bare_one, fits_beside}
 use Rattle.bl_peel_laws_typing.proofs.Fitting.{peeled_fits}
-use Rattle.bl_peel_laws_typing.proofs.Flags.{and_left, and_right, beside_each, under}
+use Rattle.bl_peel_laws_typing.proofs.Flags.{beside_each, under}
 use Rattle.bl_peel_laws_typing.proofs.Nesting.{peeled_is_shallow}
 use Rattle.bl_peel_laws_typing.proofs.Parting.{peeled_is_apart}
 use Rattle.bl_peel_laws_typing.proofs.Returning.{peeled_returns}
@@ -81,10 +82,10 @@ stand_after structs no_units earlier others same shallow stand = refl
 stand_after structs (more_units {unit} {peeled_unit} {units} {peeled_units} one more) earlier others same shallow stand =
     beside_each (unit_stands structs earlier unit) (units_stand_after structs (earlier ++ unit ∷ []) units) (unit_stands structs others peeled_unit)
     (units_stand_after structs (others ++ peeled_unit ∷ []) peeled_units)
-    (λ holds. stands_peeled structs others one (and_left (is_shallow 100 unit.body) (bodies_are_shallow 100 units) shallow)
+    (λ holds. stands_peeled structs others one (and_first (is_shallow 100 unit.body) (bodies_are_shallow 100 units) shallow)
     (stands_beside structs earlier others unit same holds))
     (stand_after structs more (earlier ++ unit ∷ []) (others ++ peeled_unit ∷ []) (bare_behind earlier others one same)
-    (and_right (is_shallow 100 unit.body) (bodies_are_shallow 100 units) shallow)) stand
+    (and_second (is_shallow 100 unit.body) (bodies_are_shallow 100 units) shallow)) stand
 
 pub units_stand_peeled : PeeledUnitsStand
 units_stand_peeled structs units peeled_units peels = stand_after structs peels [] [] refl

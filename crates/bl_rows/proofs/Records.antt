@@ -3,11 +3,12 @@ use Rattle.std.proofs.Common.{◌≡◌, ◌≢◌, ℕ, zero, suc, ◌+◌, ◌
 use Rattle.std.proofs.Common.{ℤ, arith, Bool, true, false, ◌&&◌, if◌then◌else◌, codes}
 use Rattle.std.specs.List.{slice_get}
 use Rattle.std.specs.Str.{bytes_eq}
+use Rattle.bl_tree.proofs.Basics.{drop_next}
 use Rattle.csv.specs.Records.{field_at}
 use Rattle.bl_tree.specs.declared.row.Column.{Column}
 use Rattle.bl_rows.specs.Fields.{both, value_of, values_of, is_header, are_names, row_of, is_this_number, number_of}
 use Rattle.bl_rows.specs.inner.Found.{is_word}
-use Rattle.bl_rows.proofs.Seq.{drop-at, drop-got}
+use Rattle.bl_rows.proofs.Seq.{drop-got}
 
 -- csv's place is std's
 pub field_get : (fields : List (List ℕ)) (k : ℕ) → field_at fields k ≡ slice_get fields k
@@ -51,7 +52,7 @@ names_by columns fields j c (Some f) e = rw (drop-got fields j f e) refl
 
 names_at : (columns : List Column) (fields : List (List ℕ)) (k j : ℕ) (c : Column) → k < length columns → c ≡ get_or columns k c
     → are_names (drop k columns) (drop j fields) ≡ (is_word c.name (slice_get fields j) && are_names (drop (k + 1) columns) (drop (j + 1) fields))
-names_at columns fields k j c h e = rw (drop-at columns k c h e) (names_by (drop (k + 1) columns) fields j c (slice_get fields j) refl)
+names_at columns fields k j c h e = rw (drop_next columns k c h e) (names_by (drop (k + 1) columns) fields j c (slice_get fields j) refl)
 
 -- as the loop over the columns says it, where the field at hand isn't, or is, the name
 pub names_differ : (columns list : List Column) (fields : List (List ℕ)) (k : ℕ) (c : Column) (word name : List ℕ)

@@ -2,12 +2,14 @@
 use Rattle.std.proofs.Common.{◌≡◌, ℕ, ◌+◌, ◌≤◌, ℤ, false, List, [], ◌∷◌, ◌++◌, length, Some, None, refl, ap, sym, subst, ◌∙◌, arith, append_assoc, append-nil}
 use Rattle.std.proofs.Common.{length-append}
 use Rattle.std.specs.List.{list_all}
+use Rattle.std.proofs.lemmas.Bool.{and_from}
+use Rattle.bl_tree.proofs.Basics.{and_first, and_second}
 use Rattle.bl_tree.specs.declared.row.Column.{Column}
 use Rattle.bl_rows.specs.Reading.{Reading, RowsRead, empty_reading, fault_in, led_by_rows, read_on, rows_after, rows_in, rows_of}
 use Rattle.bl_rows.specs.declared.fault.RowFault.{RowFault}
 use Rattle.bl_rows_stream.specs.inner.Going.{HasFed}
 use Rattle.bl_tree.specs.Ports.{RowsFit, row_fits}
-use Rattle.bl_rows_stream.proofs.Fits.{and-both, and-left, and-right, fit-later, told-few, told-fits}
+use Rattle.bl_rows_stream.proofs.Fits.{fit-later, told-few, told-fits}
 use Rattle.bl_rows_stream.proofs.Reaches.{line-on, lines-on}
 
 pub none-in : (ins : List Column) → rows_in (empty_reading ins) [] ≡ []
@@ -79,9 +81,9 @@ piece-later ins read piece s s2 fed cuts =
 pub fit-first : (ins : List Column) (a b : List (List ℤ)) → RowsFit ins (a ++ b) → RowsFit ins a
 fit-first ins [] b fit = refl
 fit-first ins (row ∷ a) b fit =
-    let first = and-left (row_fits ins row) (list_all (row_fits ins) (a ++ b)) fit in
-    let rest = fit-first ins a b (and-right (row_fits ins row) (list_all (row_fits ins) (a ++ b)) fit) in
-    and-both (row_fits ins row) (list_all (row_fits ins) a) first rest
+    let first = and_first (row_fits ins row) (list_all (row_fits ins) (a ++ b)) fit in
+    let rest = fit-first ins a b (and_second (row_fits ins row) (list_all (row_fits ins) (a ++ b)) fit) in
+    and_from (row_fits ins row) (list_all (row_fits ins) a) first rest
 
 pub piece-fits : (ins : List Column) (read piece : List ℕ) (s s2 : Reading) → HasFed ins read s →
     ((rest : List ℕ) → rows_after s (piece ++ rest) ≡ led_by_rows (rows_in s piece) (rows_after s2 rest)) → RowsFit ins (rows_in s piece)

@@ -6,6 +6,7 @@ use Rattle.std.specs.Prelude.{All, filter_map, if◌then◌else◌, option_map, 
 use Rattle.std.proofs.lemmas.List.{length-map, length_push}
 use Rattle.std.proofs.lemmas.List.Elements.{All-head, All-tail}
 use Rattle.std.proofs.lemmas.Option.{same_Some}
+use Rattle.bl_tree.proofs.Basics.{none_at_most}
 use Rattle.bl_tree.specs.declared.place.Place.{Place}
 use Rattle.bl_tree.specs.declared.rule.Failure.{Failure}
 use Rattle.bl_tree.specs.declared.scalar.Scalar.{Scalar as ScalarType}
@@ -100,9 +101,6 @@ record BlockFits {A : Type 0} (cells : A → ℕ) (n : ℕ) (env : Environment) 
   vars : length block.env.vars ≤ length env.vars + n
   units : block.env.units ≡ env.units
 
-zero_least : (n : ℕ) → 0 ≤ n
-zero_least n = omega arith
-
 no_less : (a n : ℕ) → a ≤ a + n
 no_less a n = omega arith
 
@@ -117,7 +115,7 @@ total_with cells None rest = zero_more (total (map cells rest))
 block_fits : {X A : Type 0} (cells : A → ℕ) (size : X → ℕ) (walk : X → StatementJudgement A) (xs : List X) →
     All (λ x. (env : Environment) → Fits cells (size x) env (walk x env)) xs → (env : Environment) →
     BlockFits cells (total (map size xs)) env (in_order (map walk xs) env)
-block_fits cells size walk [] each env = record { made = zero_least 0; vars = no_less (length env.vars) 0; units = refl }
+block_fits cells size walk [] each env = record { made = none_at_most 0; vars = no_less (length env.vars) 0; units = refl }
 block_fits cells size walk (x ∷ xs) each env =
     let first = All-head (λ x. (env : Environment) → Fits cells (size x) env (walk x env)) x xs each env in
     let rest = block_fits cells size walk xs (All-tail (λ x. (env : Environment) → Fits cells (size x) env (walk x env)) x xs each) (walk x env).env in
@@ -133,7 +131,7 @@ block_fits cells size walk (x ∷ xs) each env =
 if_some : {A : Type 0} (cells : A → ℕ) (n : ℕ) (make : Expr → A) (e : Option Expr) → ((e : Expr) → cells (make e) ≤ n) →
     made_cells cells (option_map make e) ≤ n
 if_some cells n make (Some e) few = few e
-if_some cells n make None few = zero_least n
+if_some cells n make None few = none_at_most n
 
 no_more : (a n : ℕ) → a ≡ n → a ≤ n
 no_more a n is = omega (arith, is)

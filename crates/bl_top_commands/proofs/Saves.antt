@@ -1,6 +1,7 @@
 -- How `save` and `resume` end.
 use Rattle.std.proofs.Common.{◌≡◌, ◌≢◌, ◌∙◌, ℕ, ◌≤◌, ℤ, Bool, true, false, List, [], refl, sym, ap, subst, inl, inr, arith}
 use Rattle.std.specs.Prelude.{Option, Some, None}
+use Rattle.bl_tree.proofs.Basics.{not_both}
 use Rattle.bl_ctext_semantics.specs.Parts.{Parts}
 use Rattle.bl_ctext_semantics.specs.Cells.{inputs_of}
 use Rattle.bl_ctext_semantics.specs.Trace.{cells_after, start_cells, start_succeeds}
@@ -41,11 +42,6 @@ use Rattle.bl_top_commands.proofs.Streams.{rose_earlier, streams_from}
 are_read : (left : Option (List ℕ)) (got : List ℕ) (after : Option (List ℕ)) → GivesUpTo state_limit left got after → AreRead left got
 are_read None got after read = tt
 are_read (Some whole) got after read = read.front
-
--- no test is both
-never : {A : Type 0} (b : Bool) → b ≡ false → b ≡ true → A
-never true e f = absurd (cc)
-never false e f = absurd (cc)
 
 pub state_bad : (file : Parts) (left : Option (List ℕ)) (count : Count) (got : List ℕ) (after : Option (List ℕ)) (at : ℕ) (outcome : Outcome) →
     GivesUpTo state_limit left got after → ShowsBadState file got at → IsTold status.BadState (bad_state_line at) outcome →
@@ -114,7 +110,7 @@ silently law r from left rest now how no_write reported =
 pub open_ready : (file : Parts) (numbers : List ℤ) (left rest : Option (List ℕ)) (now : Running) (how : Finish) →
     RunsSilently file numbers left rest now how → how ≡ finish.Done → now.live ≡ true → start_succeeds file ≡ true → start_succeeds now.parts ≡ true
 open_ready file numbers left rest now _ (goes_on leaves) e live starts = ap start_succeeds leaves.parts ∙ starts
-open_ready file numbers left rest now _ (silent_ended bytes are is closed) e live starts = never now.live closed live
+open_ready file numbers left rest now _ (silent_ended bytes are is closed) e live starts = not_both now.live closed live
 open_ready file numbers left rest now _ (silent_trapped bytes are is) e live starts = absurd (cc)
 open_ready file numbers left rest now _ (silent_bad_rows n bytes are is why) e live starts = absurd (cc)
 open_ready file numbers left rest now _ (silent_unread why) e live starts = absurd (cc)
@@ -130,7 +126,7 @@ module _ (file : Parts) (numbers : List ℤ) (left rest : Option (List ℕ)) (ro
       rw told (saved leaves.bytes leaves.are_left leaves.good leaves.going
       (writes_as (SavedState now.parts now.cells) (SavedState file (cells_after file rows_run numbers)) out ended
       (λ written is. subst (λ ns. SavedState file ns written) leaves.cells (subst (λ p. SavedState p now.cells written) leaves.parts is)) writes))
-  saves_open _ (silent_ended bytes are is closed) e live ended line writes told = never now.live closed live
+  saves_open _ (silent_ended bytes are is closed) e live ended line writes told = not_both now.live closed live
   saves_open _ (silent_trapped bytes are is) e live ended line writes told = absurd (cc)
   saves_open _ (silent_bad_rows n bytes are is why) e live ended line writes told = absurd (cc)
   saves_open _ (silent_unread why) e live ended line writes told = absurd (cc)
@@ -140,7 +136,7 @@ module _ (file : Parts) (numbers : List ℤ) (left rest : Option (List ℕ)) (ro
   pub saves_ended : (how : Finish) → RunsSilently file numbers left rest now how → how ≡ finish.Done → now.live ≡ false →
       (ended : Status) (own : List ℕ) → ended ≡ status.SaveEnded → IsKept out.before out.after →
       SavesOver file numbers left rest rows out ended (chosen_line ended own)
-  saves_ended _ (goes_on leaves) e closed ended own is kept = never now.live closed leaves.live
+  saves_ended _ (goes_on leaves) e closed ended own is kept = not_both now.live closed leaves.live
   saves_ended _ (silent_ended bytes are has closed) e live ended own is kept = rw is (save_ended bytes are has kept)
   saves_ended _ (silent_trapped bytes are has) e live ended own is kept = absurd (cc)
   saves_ended _ (silent_bad_rows n bytes are has why) e live ended own is kept = absurd (cc)
@@ -251,6 +247,3 @@ state_written file numbers out ended bytes written is same writes =
 
 pub stands_live : (left : Option (List ℕ)) (file : Parts) (now : Running) → StandsAt left file now → now.live ≡ true
 stands_live left file now stands = ap (λ (r : Running). r.live) stands.is
-
-pub counts_rise : (first second last : ℕ) → first ≤ second → second ≤ last → first ≤ last
-counts_rise first second last below above = omega (arith, below, above)

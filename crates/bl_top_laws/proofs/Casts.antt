@@ -4,13 +4,13 @@ use Rattle.std.proofs.Common.{replicate, nat_eq, Option, Some, None, is_some, re
 use Rattle.std.specs.List.{AllByRecursion, IsDistinct, list_any, slice_get}
 use Rattle.std.proofs.lemmas.Bool.{eq-eqb}
 use Rattle.std.proofs.lemmas.List.{length-replicate, map-append}
+use Rattle.bl_tree.proofs.Basics.{neither_first, neither_second, same_number, same_some}
 use Rattle.bl_plant.specs.Plants.{PlantView}
 use Rattle.bl_plant_drive.specs.Drives.{AreThere, DriveSetting, HasFailed, HasGivenOutside, IsFirstAbsent, IsFirstTwice, Outcome, columns_in, plant_width}
 use Rattle.bl_plant_drive.specs.Drives.{widths_of}
 use Rattle.bl_plant_drive.specs.Roles.{IsCast, Plays, Role, after_part, first_named, inputs_at, last_row, left_by, left_in, numbers_at, role_of}
 use Rattle.bl_plant_drive.proofs.Asking.{last-snoc, left-there}
-use Rattle.bl_plant_drive.proofs.Casts.{around-role, eq-same, or-left, or-right, role-here, role-name, role-none, split}
-use Rattle.bl_plant_drive.proofs.Lists.{same-some}
+use Rattle.bl_plant_drive.proofs.Casts.{around-role, role-here, role-name, role-none, split}
 use Rattle.bl_top.specs.Drive.{Plants}
 use Rattle.bl_top_laws.specs.Driven.{AreAgreed, HasOutsideRow, HasRisenPlant, IsKeptPlant, count_named}
 use Rattle.bl_tree.specs.declared.row.Column.{Column}
@@ -73,7 +73,7 @@ twice-never [] n later apart again = cc
 twice-never (m ∷ earlier) n later apart again = split (nat_eq n m)
     (λ same.
     let other = all-at (λ y. nat_eq m y ≡ false) earlier n later apart.0 in
-    let bad = sym other ∙ eq-eqb m n (sym (eq-same n m same)) in cc)
+    let bad = sym other ∙ eq-eqb m n (sym (same_number n m same)) in cc)
     (λ differs. twice-never earlier n later apart.1 (sym (ap (λ b. b || list_any (nat_eq n) earlier) differs) ∙ again))
 
 pub never-twice : (s : DriveSetting) (name : ℕ) → IsDistinct nat_eq s.names → IsFirstTwice s name → ⊥
@@ -94,7 +94,7 @@ count-part n (Some r) p named stays = by-gone r.part.gone refl
     by-gone : (b : Bool) → r.part.gone ≡ b → count_named n (if b then [] else after_part r ∷ []) ≡ count_named n (p ∷ [])
     by-gone false e = ap (λ m. (if nat_eq m n then 1 else 0) + 0) (named r refl)
     by-gone true e = split (nat_eq p.name n)
-        (λ same. let bad = sym e ∙ stays r refl (eq-same p.name n same) in cc)
+        (λ same. let bad = sym e ∙ stays r refl (same_number p.name n same) in cc)
         (λ differs. sym (ap (λ (z : Bool). (if z then 1 else 0) + 0) differs))
 
 count-left : (n : ℕ) (cast : List Role) (earlier : List ℕ) (plants : List PlantView) → ((r : Role) → role_of n cast ≡ Some r → r.part.gone ≡ false) →
@@ -119,8 +119,8 @@ first-behind : (n : ℕ) (before : List PlantView) (q : PlantView) (after : List
 first-behind n [] q after none is = ap (λ b. cond b (Some q) (first_named n after)) (eq-eqb q.name n is)
 first-behind n (x ∷ before) q after none is =
     ap (λ b. cond b (Some x) (first_named n (before ++ q ∷ after)))
-    (or-left (nat_eq x.name n) (list_any (λ (y : PlantView). nat_eq y.name n) before) none)
-    ∙ first-behind n before q after (or-right (nat_eq x.name n) (list_any (λ (y : PlantView). nat_eq y.name n) before) none) is
+    (neither_first (nat_eq x.name n) (list_any (λ (y : PlantView). nat_eq y.name n) before) none)
+    ∙ first-behind n before q after (neither_second (nat_eq x.name n) (list_any (λ (y : PlantView). nat_eq y.name n) before) none) is
 
 -- a plant of a cast that wasn't dropped
 pub kept-plant : (plants : Plants) (names : List ℕ) (done : List Role) (r : Role) (rest : List Role) → IsCast plants.before names (done ++ r ∷ rest) →
@@ -139,7 +139,7 @@ kept-plant plants names done r rest cast after_is stays =
       as_many =
           ap (count_named r.plant.name) after_is
           ∙ count-left r.plant.name (done ++ r ∷ rest) [] plants.before
-          (λ other is. ap (λ (x : Role). x.part.gone) (same-some other r (sym is ∙ here)) ∙ stays);
+          (λ other is. ap (λ (x : Role). x.part.gone) (same_some other r (sym is ∙ here)) ∙ stays);
     }
 
 names-around : (names : List ℕ) (done : List Role) (r : Role) (rest : List Role) → map name_of (done ++ r ∷ rest) ≡ names →

@@ -1,6 +1,7 @@
 -- How states of C texts that can be loaded are saved and resumed.
 use Rattle.std.proofs.Common.{◌≡◌, ◌∙◌, ℕ, ℤ, Bool, true, false, List, refl, sym, ap, subst, inl, inr}
 use Rattle.std.specs.Prelude.{Option, Some, take}
+use Rattle.bl_tree.proofs.Basics.{true_and_false}
 use Rattle.bl_ctext.specs.declared.file.CFile.{CFile}
 use Rattle.bl_ctext_semantics.specs.Cells.{inputs_of}
 use Rattle.bl_ctext_semantics.specs.Parts.{Parts, parts_of}
@@ -80,9 +81,6 @@ saved_due file numbers left rest rows out bytes last why holds none_read none_wr
 trace_if : (file : Parts) (rows : List (List ℤ)) → start_succeeds file ≡ true → c_trace file rows ≡ c_trace_from file rows (start_cells file)
 trace_if file rows begins = ap (λ b. trace_after file (cells_if b (start_cells file)) rows) begins
 
-not_both : (b : Bool) → b ≡ true → b ≡ false → ⊥
-not_both b is isnt = let e = sym is ∙ isnt in cc
-
 -- ---- `save`
 
 -- the file that is loaded behaves as the one that the text spells
@@ -121,7 +119,7 @@ save_due each c name rows text bytes trace to begins holds behind none_text none
 save_due each c name rows text bytes trace to begins holds behind none_text none_rows none_out _ _
     (trapped_at_start read behaviour source loads traps kept) =
     let same = told_source (c.left name) text read holds source in
-    absurd (not_both (start_succeeds loads.file) (starts_as each text to.file to.loadable behaviour read loads same true begins) traps)
+    absurd (true_and_false (start_succeeds loads.file) (starts_as each text to.file to.loadable behaviour read loads same true begins) traps)
 save_due each c name rows text bytes trace to begins holds behind none_text none_rows none_out ended line (stopped why kept) =
     inl (text_stops each text to.file to.loadable (c.left name) (c.file name) ended line holds none_text why)
 
@@ -130,7 +128,7 @@ pub save_traps : EachBehaves → (c : Call) (name rows : Word) (text : List ℕ)
     IsDone ended status.Trapped
 save_traps each c name rows text file is traps holds none_text ended line (ran read behaviour source loads going between left saves) =
     let same = told_source (c.left name) text read holds source in
-    absurd (not_both (start_succeeds loads.file) going (starts_as each text file is behaviour read loads same false traps))
+    absurd (true_and_false (start_succeeds loads.file) going (starts_as each text file is behaviour read loads same false traps))
 save_traps each c name rows text file is traps holds none_text _ _ (trapped_at_start read behaviour source loads none kept) = inr refl
 save_traps each c name rows text file is traps holds none_text ended line (stopped why kept) =
     inl (text_stops each text file is (c.left name) (c.file name) ended line holds none_text why)

@@ -1,8 +1,10 @@
 -- The first of several failures is one of them, and comes no later than each; so it is the first rule that fails.
-use Rattle.std.proofs.Common.{◌≡◌, ℕ, ◌<◌, zero, suc, Bool, true, false, ◌&&◌, ◌||◌, cond, List, [], ◌∷◌, ◌⊎◌, inl, inr, ⊎_elim, Option, Some, None, refl, sym}
+use Rattle.std.proofs.Common.{◌≡◌, ℕ, ◌<◌, zero, suc, true, false, ◌&&◌, ◌||◌, cond, List, [], ◌∷◌, ◌⊎◌, inl, inr, ⊎_elim, Option, Some, None, refl, sym}
 use Rattle.std.proofs.Common.{ap, ◌∙◌, subst, arith}
 use Rattle.std.specs.Prelude.{Contains, nat_eq, nat_lt, slice_get}
 use Rattle.std.proofs.lemmas.Bool.Decides.{nat_tests}
+use Rattle.std.proofs.lemmas.Bool.{and_parts}
+use Rattle.bl_tree.proofs.Basics.{same_some}
 use Rattle.bl_tree.specs.declared.place.Place.{Place}
 use Rattle.bl_tree.specs.declared.rule.Failure.{Failure}
 use Rattle.bl_tree.specs.declared.rule.Refusal.{Refusal}
@@ -53,22 +55,15 @@ rule_back rule.Cycle = refl
 rule_back rule.Frames = refl
 rule_back rule.Cells = refl
 
-some_is : {A : Type 0} (x y : A) → Some x ≡ Some y → x ≡ y
-some_is x y is = cc
-
 -- rules of one number are one
 pub same_rule : (r s : Rule) → number_of r ≡ number_of s → r ≡ s
-same_rule r s is = some_is r s (sym (rule_back r) ∙ ap rule_at is ∙ rule_back s)
+same_rule r s is = same_some r s (sym (rule_back r) ∙ ap rule_at is ∙ rule_back s)
 
 -- ---- places
 
-and_true : (a b : Bool) → (a && b) ≡ true → (a ≡ true) × (b ≡ true)
-and_true true b is = (refl, is)
-and_true false b is = absurd (cc)
-
 same_true : (a b : Place) → same_place a b ≡ true → a ≡ b
 same_true a b is =
-    let both = and_true (nat_eq a.start b.start) (nat_eq a.end b.end) is in
+    let both = and_parts (nat_eq a.start b.start) (nat_eq a.end b.end) is in
     let e1 = both.0 in let e2 = both.1 in
     let start : a.start ≡ b.start = grind (arith, nat_tests) in
     let end : a.end ≡ b.end = grind (arith, nat_tests) in
@@ -80,7 +75,7 @@ before_true a b is =
     (λ less. nat_lt a.start b.start ≡ less → (less || (nat_eq a.start b.start && nat_lt a.end b.end)) ≡ true → IsBefore a b) [
       | true ↦ λ less h. inl (grind (arith, nat_tests))
       | false ↦ λ less h.
-          let both = and_true (nat_eq a.start b.start) (nat_lt a.end b.end) h in
+          let both = and_parts (nat_eq a.start b.start) (nat_lt a.end b.end) h in
           let e1 = both.0 in let e2 = both.1 in inr (grind (arith, nat_tests), grind (arith, nat_tests))
     ] refl is
 

@@ -2,6 +2,8 @@
 -- that is made of constants too.
 use Rattle.std.proofs.Common.{◌≡◌, ℤ, List, [], map, Option, Some, None, refl, sym, ap, subst, ◌∙◌}
 use Rattle.std.specs.Prelude.{Bool, true, false, ◌&&◌, option_and_then, slice_get, if◌then◌else◌}
+use Rattle.std.proofs.lemmas.Bool.{and_from}
+use Rattle.bl_tree.proofs.Basics.{and_first, and_second}
 use Rattle.bl_tree.specs.declared.place.Place.{Place}
 use Rattle.bl_tree.specs.declared.scalar.Op.{Op}
 use Rattle.bl_tree.specs.declared.scalar.Scalar.{Scalar as ScalarType}
@@ -18,7 +20,6 @@ use Rattle.bl_tree.specs.Scalar.{is_whole}
 use Rattle.bl_tree.specs.Types.{same_type, scalar, scalar_in}
 use Rattle.bl_tree.specs.Typing.{cast_type, one_type}
 use Rattle.bl_tree.proofs.ExprInduction as trees
-use Rattle.bl_eval.proofs.PassLemmas.{and_left, and_right, both}
 use Rattle.bl_names_tree.specs.declared.expr.NamedExpr.{NamedExpr, fold-roll-NamedExpr}
 use Rattle.bl_names_tree.specs.declared.expr.NamedExprKind.{NamedExprKind, fold-NamedExprKind, fold-roll-NamedExprKind, map-NamedExprKind}
 use Rattle.bl_names_tree.specs.declared.expr.NamedExprKind.TheOpen.{NamedExprKind-F}
@@ -105,7 +106,7 @@ FormNameless (Open e) = is_nameless e ≡ true
 FormNameless (Of ty e) = is_nameless e ≡ true
 
 both_nameless : (at : Place) (op : Op) (a b : Expr) → is_nameless a ≡ true → is_nameless b ≡ true → is_nameless (two at op a b) ≡ true
-both_nameless at op a b left right = two_nameless at op a b ∙ both (is_nameless a) (is_nameless b) left right
+both_nameless at op a b left right = two_nameless at op a b ∙ and_from (is_nameless a) (is_nameless b) left right
 
 -- ---- open expressions as ones of a type: what is made of them never names a thing
 
@@ -319,8 +320,8 @@ module _ (env : Environment) where
     prev = λ place k. by_kind place (NamedExprKind-F.Prev k) (λ constant. absurd (cc));
     one = λ place op a shown. by_kind place (NamedExprKind-F.One op a) (λ constant. one_form place op (judged env a).form (shown constant));
     two = λ place op a b shown more. by_kind place (NamedExprKind-F.Two op a b)
-        (λ constant. two_form place op (judged env a).form (judged env b).form (shown (and_left (is_constant a) (is_constant b) constant))
-        (more (and_right (is_constant a) (is_constant b) constant)));
+        (λ constant. two_form place op (judged env a).form (judged env b).form (shown (and_first (is_constant a) (is_constant b) constant))
+        (more (and_second (is_constant a) (is_constant b) constant)));
     cast = λ place s a shown. by_kind place (NamedExprKind-F.Cast s a) (λ constant. cast_form place s (judged env a).form (shown constant));
     call = λ place name f inputs each. by_kind place (NamedExprKind-F.Call name f inputs) (λ constant. absurd (cc));
     target = target_case;

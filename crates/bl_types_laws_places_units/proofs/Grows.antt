@@ -3,6 +3,7 @@ use Rattle.std.proofs.Common.{◌≡◌, ℕ, List, [], ◌∷◌, map, length, 
 use Rattle.std.specs.Prelude.{All, Bool, true, false, ◌&&◌, nat_eq, slice_get, if◌then◌else◌}
 use Rattle.std.proofs.lemmas.List.Elements.{All-head, All-tail}
 use Rattle.std.proofs.lemmas.Option.{same_Some}
+use Rattle.bl_tree.proofs.Basics.{and_second}
 use Rattle.bl_tree.specs.declared.place.Place.{Place}
 use Rattle.bl_tree.specs.declared.scalar.Scalar.{Scalar as ScalarType}
 use Rattle.bl_tree.specs.declared.tree.Arm.{Arm}
@@ -10,7 +11,6 @@ use Rattle.bl_tree.specs.declared.tree.Branch.{Branch}
 use Rattle.bl_tree.specs.declared.tree.Stmt.{Stmt}
 use Rattle.bl_tree.specs.declared.tree.Ty.{Ty}
 use Rattle.bl_eval.proofs.OperatorFits.{some_found, where_holds}
-use Rattle.bl_eval.proofs.PassLemmas.{and_right}
 use Rattle.bl_names_tree.specs.declared.expr.NamedExpr.{NamedExpr}
 use Rattle.bl_names_tree.specs.declared.item.NamedConstant.{NamedConstant}
 use Rattle.bl_names_tree.specs.declared.item.NamedVar.{NamedVar}
@@ -91,7 +91,7 @@ module _ (constants : List NamedConstant) (vars : List NamedVar) where
     grown = grown_self env;
     counts_are = λ counts step.
         let holds = where_holds (nat_eq k (length env.vars) && false) (Some (variable_counted (known_in env))) counts step in
-        absurd (let no = and_right (nat_eq k (length env.vars)) false holds.0 in cc);
+        absurd (let no = and_second (nat_eq k (length env.vars)) false holds.0 in cc);
   }
   declare_grows k (Some var) None env = declared_grows k (λ earlier. var_placed earlier var && true) var _ env
   declare_grows k (Some var) (Some e) env = declared_grows k (λ earlier. var_placed earlier var && expr_placed earlier e) var _ env
@@ -103,7 +103,7 @@ module _ (constants : List NamedConstant) (vars : List NamedVar) where
     grown = grown_self env;
     counts_are = λ counts step.
         let holds = where_holds (nat_eq k (length env.constants) && false) (Some (constant_counted (known_in env))) counts step in
-        absurd (let no = and_right (nat_eq k (length env.constants)) false holds.0 in cc);
+        absurd (let no = and_second (nat_eq k (length env.constants)) false holds.0 in cc);
   }
   constant_grows k (Some constant) env =
       let new : Constant = constant_of constant.value (initial env constant.ty constant.value).valued in

@@ -3,6 +3,7 @@ use Rattle.std.proofs.Common.{◌≡◌, ℕ, ◌+◌, ◌≤◌, arith, List, [
 use Rattle.std.specs.Prelude.{Bool, true, false, ◌&&◌, nat_eq, option_map, slice_get, if◌then◌else◌}
 use Rattle.std.proofs.lemmas.Bool.{eqb-true}
 use Rattle.std.proofs.lemmas.Option.{slice_get-map}
+use Rattle.bl_tree.proofs.Basics.{and_first, and_second}
 use Rattle.bl_tree.specs.declared.place.Place.{Place}
 use Rattle.bl_tree.specs.declared.rule.Failure.{Failure}
 use Rattle.bl_tree.specs.declared.rule.Rule.TheVariants as rule
@@ -16,7 +17,6 @@ use Rattle.bl_tree.specs.Typing.{is_activity}
 use Rattle.bl_tree_laws_places.specs.Placed.{placed_expr, placed_path}
 use Rattle.bl_tree_laws_places.proofs.Exprs.{path_out}
 use Rattle.bl_tree_laws_places.proofs.Stmts.{acted}
-use Rattle.bl_eval.proofs.PassLemmas.{and_left, and_right}
 use Rattle.bl_names_laws_places.specs.Renamed.{Renaming, renamed_constant, renamed_expr, renamed_expr_layer, renamed_kind, renamed_part, renamed_path}
 use Rattle.bl_names_laws_places.specs.Renamed.{renamed_root, renamed_target, renamed_target_layer, renamed_var}
 use Rattle.bl_names_tree.specs.declared.expr.NamedExpr.{NamedExpr}
@@ -161,10 +161,10 @@ module _ (by : Renaming) (from upto : ℕ) (expressions : ExpressionsAgree) (arg
       (nat_eq k (length near.constants) && holds_of (constant_placed (known_in near)) near_found) ≡ true →
       WalksAlike by same (constant_walked (after_optional_constant near_found near))
       (constant_walked (after_optional_constant (slice_get other (by.constant k)) far))
-  constant_layer k one other there None is less placed = absurd (let no = and_right (nat_eq k (length near.constants)) false placed in cc)
+  constant_layer k one other there None is less placed = absurd (let no = and_second (nat_eq k (length near.constants)) false placed in cc)
   constant_layer k one other there (Some constant) is less placed =
       let at : k ≡ length near.constants =
-      eqb-true k (length near.constants) (and_left (nat_eq k (length near.constants)) (constant_placed (known_in near) constant) placed) in
+      eqb-true k (length near.constants) (and_first (nat_eq k (length near.constants)) (constant_placed (known_in near) constant) placed) in
       subst
       (λ far_found. WalksAlike by same (constant_walked (after_constant constant near)) (constant_walked (after_optional_constant far_found far)))
       (sym (there k constant (subst (λ n. from ≤ n) (sym at) inside.behind) (omega arith) is)) (constant_alike constant)

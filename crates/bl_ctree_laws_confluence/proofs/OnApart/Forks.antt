@@ -3,6 +3,8 @@ use Rattle.std.proofs.Common.{◌≡◌, inl, inr, ℕ, suc, Bool, true, false, 
 use Rattle.std.specs.Prelude.{nat_eq}
 use Rattle.std.specs.List.{list_all, list_any}
 use Rattle.std.proofs.lemmas.List.Elements.{All-head, All-tail}
+use Rattle.std.proofs.lemmas.Bool.{or_left, or_right}
+use Rattle.bl_tree.proofs.Basics.{and_first, and_second}
 use Rattle.bl_tree.specs.declared.place.Place.{Place}
 use Rattle.bl_tree.specs.declared.tree.Arm.{Arm, fold_out-Arm, out-Arm}
 use Rattle.bl_tree.specs.declared.tree.Branch.{Branch, fold_out-Branch, out-Branch}
@@ -19,7 +21,6 @@ use Rattle.bl_graph_nodes.specs.Plain.{plain_block}
 use Rattle.bl_graph_nodes.proofs.Equations.{plain_statements}
 use Rattle.bl_ctree.specs.Actions.{Effect}
 use Rattle.bl_ctree.specs.Instances.{Setting}
-use Rattle.bl_ctree_laws.proofs.Tests.{and_first, and_second, or_left, or_right}
 use Rattle.bl_ctree_laws_confluence.specs.Apart.Forks.{BranchesKeepApart, EachFork, EachForkIn, EachForkInEach, Foreign, KeepApart}
 use Rattle.bl_ctree_laws_confluence.specs.Apart.Named.{OneOf, effect_declares, effect_roots}
 use Rattle.bl_ctree_laws_confluence.specs.Apart.Owned.{HasEffect, SomeIn, SomeInEach}

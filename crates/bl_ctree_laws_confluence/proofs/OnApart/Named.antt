@@ -3,6 +3,7 @@ use Rattle.std.proofs.Common.{◌≡◌, ◌⊎◌, inl, inr, ℕ, suc, Bool, tr
 use Rattle.std.specs.Prelude.{nat_eq}
 use Rattle.std.specs.List.{list_any}
 use Rattle.std.proofs.lemmas.List.Elements.{All-head, All-tail}
+use Rattle.std.proofs.lemmas.Bool.{or_right}
 use Rattle.bl_tree.specs.declared.place.Place.{Place}
 use Rattle.bl_tree.specs.declared.tree.Arm.{Arm, fold-Arm, fold_out-Arm, out-Arm}
 use Rattle.bl_tree.specs.declared.tree.Branch.{Branch, fold-Branch, fold_out-Branch, out-Branch}
@@ -19,7 +20,6 @@ use Rattle.bl_graph_nodes.specs.Plain.{Label, Plain, Position, Act, If, block_fr
 use Rattle.bl_graph_nodes.proofs.Equations.{plain_statements}
 use Rattle.bl_ctree.specs.Actions.{Effect, Silent, Acts, Asks, Copies, Gives}
 use Rattle.bl_ctree.specs.Instances.{Setting}
-use Rattle.bl_ctree_laws.proofs.Tests.{or_right}
 use Rattle.bl_ctree_laws_confluence.specs.Apart.Named.{BodiesNameWhatTheyDo, OneOf, effect_roots}
 use Rattle.bl_ctree_laws_confluence.specs.Apart.Owned.{HasEffect, SomeIn, SomeInEach, SomeOf}
 

@@ -3,6 +3,7 @@ use Rattle.std.proofs.Common.{◌≡◌, ◌⊎◌, inl, inr, ℕ, zero, suc, pr
 use Rattle.std.proofs.Common.{arith}
 use Rattle.std.specs.Prelude.{Contains, IsTrue, slice_get}
 use Rattle.std.proofs.lemmas.List.Elements.{All-head, All-tail, Contains-append_left, Contains-append_right}
+use Rattle.bl_tree.proofs.Basics.{contains_first}
 use Rattle.bl_tree.specs.declared.place.Place.{Place}
 use Rattle.bl_tree.specs.declared.tree.Arm.{Arm, out-Arm}
 use Rattle.bl_tree.specs.declared.tree.Branch.{Branch, out-Branch}
@@ -34,9 +35,6 @@ children_at place layer = ap kind_children (layer_at place layer)
 
 -- ---- what stands in blocks
 
-pub first_one : {A : Type 0} (x : A) (xs : List A) → Contains (x ∷ xs) x
-first_one x xs = (zero, omega arith, refl)
-
 pub stands_left : (xs ys : List Stmt) {s : Stmt} → StandsIn xs s → StandsIn (xs ++ ys) s
 stands_left xs ys one = record { outer = one.outer; is_there = Contains-append_left xs ys one.outer one.is_there; within = one.within }
 
@@ -47,7 +45,7 @@ pub stands_between : (xs ys zs : List Stmt) {s : Stmt} → StandsIn (ys ++ zs) s
 stands_between xs ys zs {s} one = subst (λ body. StandsIn body s) (sym (append_assoc xs ys zs)) (stands_right xs (ys ++ zs) one)
 
 pub stands_first : (s : Stmt) (rest : List Stmt) {inner : Stmt} → Within inner s → StandsIn (s ∷ rest) inner
-stands_first s rest within = record { outer = s; is_there = first_one s rest; within = within }
+stands_first s rest within = record { outer = s; is_there = contains_first s rest; within = within }
 
 pub stands_below : (place : Place) (layer : StmtKind-F StmtKind Arm Branch Stmt) {s : Stmt} → StandsIn (kind_children layer) s → Within s (stmt place layer)
 stands_below place layer one =

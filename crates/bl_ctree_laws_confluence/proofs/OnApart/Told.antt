@@ -4,6 +4,8 @@ use Rattle.std.proofs.Common.{subst, append_assoc, eq-eqb}
 use Rattle.std.specs.Prelude.{Contains, is_some, nat_eq, option_and_then, slice_get, if◌then◌else◌}
 use Rattle.std.specs.List.{list_any}
 use Rattle.std.proofs.lemmas.List.Elements.{All-head, All-tail}
+use Rattle.std.proofs.lemmas.Bool.{or_left}
+use Rattle.bl_tree.proofs.Basics.{and_first, and_second}
 use Rattle.bl_tree.specs.declared.place.Place.{Place}
 use Rattle.bl_tree.specs.declared.static_path.Static.{Static}
 use Rattle.bl_tree.specs.declared.tree.Arm.{Arm, fold-Arm, fold_out-Arm, out-Arm}
@@ -33,7 +35,6 @@ use Rattle.bl_effects.proofs.SetLemmas.{set_members}
 use Rattle.bl_graph_nodes.specs.Laws.{plain_arm, plain_branch}
 use Rattle.bl_graph_nodes.specs.Plain.{Label, Plain, Position, Act, block_from, bodies_from, else_at, inside, label_at, passed_one, plain_stmt, plain_block}
 use Rattle.bl_graph_nodes.proofs.Equations.{plain_statements}
-use Rattle.bl_ctree_laws.proofs.Tests.{and_first, and_second, or_left}
 use Rattle.bl_ctree_laws_confluence.specs.Apart.Named.{OneOf}
 use Rattle.bl_ctree_laws_confluence.specs.Apart.Owned.{SomeIn, SomeInEach, SomeOf}
 use Rattle.bl_ctree_laws_confluence.specs.Apart.Writing.{StatementWrites}

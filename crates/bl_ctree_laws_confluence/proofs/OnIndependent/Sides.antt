@@ -3,6 +3,8 @@ use Rattle.std.proofs.Common.{◌≡◌, ◌⊎◌, inl, inr, ℕ, Bool, true, f
 use Rattle.std.proofs.Common.{eqb-true}
 use Rattle.std.specs.Prelude.{nat_eq, ⊤}
 use Rattle.std.specs.List.{list_any}
+use Rattle.std.proofs.lemmas.Bool.{and_from, or_left, or_right}
+use Rattle.bl_tree.proofs.Basics.{and_first, and_second}
 use Rattle.bl_tree.specs.declared.place.Place.{Place}
 use Rattle.bl_tree.specs.declared.static_path.Static.{Static}
 use Rattle.bl_tree.specs.declared.tree.Arm.{Arm, fold-Arm}
@@ -27,7 +29,6 @@ use Rattle.bl_ctree_laws.specs.Pending.{Deed}
 use Rattle.bl_ctree_laws.specs.Steps.{Anyway, Moves}
 use Rattle.bl_ctree_laws.specs.Trees.{Tree}
 use Rattle.bl_ctree_laws.proofs.Less.{may_is_could}
-use Rattle.bl_ctree_laws.proofs.Tests.{and_both, and_first, and_second, or_left, or_right}
 use Rattle.bl_ctree_laws_confluence.specs.Stores.{homes_of}
 use Rattle.bl_ctree_laws_confluence.specs.Deeds.Deeds.{effect_frames, effect_looks, effect_names, effect_remembers, effect_results, effect_writes}
 use Rattle.bl_ctree_laws_confluence.specs.Deeds.Deeds.{kind_remembers}
@@ -90,7 +91,7 @@ any_in test (y ∷ ys) x (inr more) is = or_right (test y) (list_any test ys) (a
 
 front_itself : (xs : List ℕ) → is_front xs xs ≡ true
 front_itself [] = refl
-front_itself (x ∷ xs) = and_both (nat_eq x x) (is_front xs xs) (eq-eqb x x refl) (front_itself xs)
+front_itself (x ∷ xs) = and_from (nat_eq x x) (is_front xs xs) (eq-eqb x x refl) (front_itself xs)
 
 front_both : (xs ys : List ℕ) → is_front xs ys ≡ true → is_front ys xs ≡ true → xs ≡ ys
 front_both [] [] e f = refl
@@ -107,8 +108,8 @@ same_path a b = nat_eq a.root b.root && (is_front a.fields b.fields && is_front 
 
 path_itself : (a : Static) → same_path a a ≡ true
 path_itself a =
-    and_both (nat_eq a.root a.root) (is_front a.fields a.fields && is_front a.fields a.fields) (eq-eqb a.root a.root refl)
-    (and_both (is_front a.fields a.fields) (is_front a.fields a.fields) (front_itself a.fields) (front_itself a.fields))
+    and_from (nat_eq a.root a.root) (is_front a.fields a.fields && is_front a.fields a.fields) (eq-eqb a.root a.root refl)
+    (and_from (is_front a.fields a.fields) (is_front a.fields a.fields) (front_itself a.fields) (front_itself a.fields))
 
 same_path_is : (a b : Static) → same_path a b ≡ true → a ≡ b
 same_path_is a b e =

@@ -1,6 +1,7 @@
 -- The tick of the two branches that need each other: which step may be taken when.
 use Rattle.std.proofs.Common.{◌≡◌, ◌||◌, Bool, true, false, refl, sym, ap, ◌∙◌}
 use Rattle.std.specs.List.{list_any}
+use Rattle.bl_tree.proofs.Basics.{from_true_false}
 use Rattle.bl_graph_nodes.specs.Steps.{StepLabel}
 use Rattle.bl_ctree.specs.Store.{homes, whole_of}
 use Rattle.bl_ctree_laws.specs.Pending.{Deed, any_meets, any_writes, leads_over, may_write, meets, soon_in}
@@ -63,19 +64,16 @@ sets_x_alone (in_seq acts) = refl
 sets_y_alone : {d : Bool} {a : Deed} {n : StepLabel} {c : Tree} → Moves Unmet program 0 before_y d a n c → a ≡ y_is_set
 sets_y_alone (in_seq acts) = refl
 
-never : {A : Type 0} → true ≡ false → A
-never is = absurd cc
-
 one_alone : {d : Bool} {a : Deed} {n : StepLabel} {c : Trees}
     → OneMoves Unmet program 0 (beside false before_x (beside false before_y no_tree)) d a n c → a ≡ x_is_set
 one_alone (first move free) = sets_x_alone move
 one_alone (later (first move free) waits) =
-    never (sym y_waits ∙ ap (meets program 0 before_x) (sym (sets_y_alone move)) ∙ waits)
+    from_true_false (sym y_waits ∙ ap (meets program 0 before_x) (sym (sets_y_alone move)) ∙ waits)
 one_alone (later (later move free) waits) = elim move [ ]
 
 pub x_alone : (d : Bool) (a : Deed) (n : StepLabel) (c : Tree) → Moves Unmet program 0 (both before_x before_y) d a n c → a ≡ x_is_set
 x_alone d a n c (in_par move) = one_alone move
-x_alone d a n c (joins still done) = never (sym still)
+x_alone d a n c (joins still done) = from_true_false (sym still)
 
 -- ---- what may still be written
 

@@ -1,5 +1,7 @@
 -- Where a tree may still end after a step, what acted leads out of it.
 use Rattle.std.proofs.Common.{◌≡◌, ℕ, Bool, true, false, ◌&&◌, ◌||◌, not, ◌⊎◌, inl, inr, refl, sym, ap, ◌∙◌, subst}
+use Rattle.std.proofs.lemmas.Bool.{or_right}
+use Rattle.bl_tree.proofs.Basics.{and_first, and_second}
 use Rattle.bl_tree.specs.declared.place.Place.{Place as Source}
 use Rattle.bl_graph_nodes.specs.Nodes.{Node, are_instant, entry, is_instant}
 use Rattle.bl_graph_nodes.specs.Plain.{Block, Bodies, Label, Plain, Body as BodyOf, Cobegin, Done, Last, Then}
@@ -17,7 +19,6 @@ use Rattle.bl_ctree_laws.specs.Steps.{guards, goes_on, waits, lets, aborts, rese
 use Rattle.bl_ctree_laws.specs.Steps.{first, later}
 use Rattle.bl_ctree_laws.specs.Trees.{Tree, Trees, Watch, Do, Par, Guard, has_strong, seq}
 use Rattle.bl_ctree_laws.proofs.Less.{seq_ends}
-use Rattle.bl_ctree_laws.proofs.Tests.{and_first, and_second, or_right}
 use Rattle.bl_ctree_laws_traces.specs.Progress.FitsGraph.{AllFitGraph, FitsGraph, check_of, test_of}
 use Rattle.bl_ctree_laws_traces.specs.Progress.Places.{AreSubgraphs, Place, ahead_of, guarded, in_branch}
 use Rattle.bl_ctree_laws_traces.proofs.OnProgress.Acting.{done_may_join, region}

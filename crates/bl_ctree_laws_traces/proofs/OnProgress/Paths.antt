@@ -3,6 +3,7 @@ use Rattle.std.proofs.Common.{◌≡◌, ◌<◌, Bool, true, false, ◌||◌, L
 use Rattle.std.specs.Prelude.{Contains}
 use Rattle.std.specs.List.{list_any}
 use Rattle.std.proofs.lemmas.List.Elements.{Contains-append_cases, Contains-append_left, Contains-append_right, Contains-push, Contains-push_cases}
+use Rattle.bl_tree.proofs.Basics.{or_true}
 use Rattle.bl_tree.specs.declared.static_path.Static.{Static}
 use Rattle.bl_tree.specs.Static.{set_of}
 use Rattle.bl_effects.proofs.SetLemmas.{In, set_in}
@@ -20,10 +21,6 @@ passing test (x ∷ xs) e = by_test (test x) refl (λ h. passing test xs h) e
     by_test : (b : Bool) → test x ≡ b → (list_any test xs ≡ true → Passes test xs) → (b || list_any test xs) ≡ true → Passes test (x ∷ xs)
     by_test true is more h = record { one = x; among = inl refl; passes = is }
     by_test false is more h = let p = more h in record { one = p.one; among = inr p.among; passes = p.passes }
-
-or_true : (a : Bool) → (a || true) ≡ true
-or_true true = refl
-or_true false = refl
 
 pub passed : (test : Static → Bool) (xs : List Static) (one : Static) → In one xs → test one ≡ true → list_any test xs ≡ true
 passed test [] one m e = elim m [ ]

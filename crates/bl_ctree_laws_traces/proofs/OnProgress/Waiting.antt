@@ -1,6 +1,7 @@
 -- What could act may act or waits for a writer.
 use Rattle.std.proofs.Common.{◌≡◌, ℕ, Bool, true, false, ◌||◌, List, [], ◌∷◌, ◌⊎◌, inl, inr, refl, ap, ◌∙◌}
 use Rattle.std.specs.List.{list_any}
+use Rattle.bl_tree.proofs.Basics.{or_true}
 use Rattle.bl_tree.specs.declared.place.Place.{Place as Source}
 use Rattle.bl_graph_nodes.specs.Nodes.{Node, entry, is_instant, node_writes, place_of_node}
 use Rattle.bl_graph_nodes.specs.Plain.{Block, Bodies, Cobegin, Label, Body as BodyOf, Done, Last, Then, plain_body}
@@ -59,10 +60,6 @@ record Found (f : Location → Bool) (xs : List Location) : Type 0 where
   one : Location
   is : f one ≡ true
   also : (g : Location → Bool) → g one ≡ true → list_any g xs ≡ true
-
-or_true : (a : Bool) → (a || true) ≡ true
-or_true true = refl
-or_true false = refl
 
 found : (f : Location → Bool) (xs : List Location) → list_any f xs ≡ true → Found f xs
 found f [] e = absurd cc

@@ -5,6 +5,8 @@ use Rattle.std.proofs.lemmas.Bool.{eqb-true, le-leb, ltb-true}
 use Rattle.std.proofs.lemmas.Fmt.{decimal_injective}
 use Rattle.std.proofs.lemmas.Slice.Eq.{bytes_eq-Decides}
 use Rattle.std.specs.Prelude.{bytes_eq, codes, is_some, ◌==◌, if◌then◌else◌}
+use Rattle.std.proofs.lemmas.Bool.{and_parts}
+use Rattle.bl_tree.proofs.Basics.{and_false, true_not_false}
 use Rattle.bl_tree.specs.declared.tree.StructDef.{StructDef}
 use Rattle.bl_tree.specs.declared.tree.Ty.{Ty}
 use Rattle.bl_tree.specs.declared.tree.Var.{Var}
@@ -23,13 +25,6 @@ use Rattle.bl_emit_acts_laws_simulation.specs.Encodes.{Encodes, home_at, locatio
 use Rattle.bl_emit_functions.specs.Trees.{flag_name}
 use Rattle.bl_emit_functions_laws_simulation.specs.Bodies.{Represents, Spared}
 use Rattle.bl_emit_functions_laws_simulation.proofs.OnBodies.Flags.{flag_at, flag_in, variable_itself}
-
-no_such : true ≡ false → ⊥
-no_such h = cc
-
-and_false : (b : Bool) → (b && false) ≡ false
-and_false true = refl
-and_false false = refl
 
 own_differ : (depth : ℕ) (m n : List ℕ) → bytes_eq m n ≡ false → same_root (variable depth m) (variable depth n) ≡ false
 own_differ depth m n h = ap (λ b. (depth == depth) && b) h ∙ and_false (depth == depth)
@@ -58,17 +53,13 @@ flags_differ j k small less = by (bytes_eq (flag_name j) (flag_name k)) refl
         let equal : j ≡ k = decimal_injective j k small (omega (arith, small, less)) (ap (drop 1) text) in
         absurd (omega (arith, equal, less))
 
-and_both : (a b : Bool) → (a && b) ≡ true → (a ≡ true) × (b ≡ true)
-and_both true b h = (refl, h)
-and_both false b h = absurd (cc)
-
 -- a root that tests as a variable is that variable
 variable_is : (d : ℕ) (name : List ℕ) (root : Root) → same_root root (variable d name) ≡ true → root ≡ variable d name
 variable_is d name state_object h = absurd (cc)
 variable_is d name input_object h = absurd (cc)
 variable_is d name output_object h = absurd (cc)
 variable_is d name (variable e other) h =
-    let found = and_both (e == d) (bytes_eq other name) h in ap₂ variable (eqb-true e d found.0) ((bytes_eq-Decides other name).0 found.1)
+    let found = and_parts (e == d) (bytes_eq other name) h in ap₂ variable (eqb-true e d found.0) ((bytes_eq-Decides other name).0 found.1)
 
 -- numbers outside of a place stay when it is set
 set_elsewhere : (here : Memory) (place : Location) (held : CValue) (root : Root) (way : List Projection) → lies_in place root way ≡ false →
@@ -94,7 +85,7 @@ differ_flip d name root h = by (same_root root (variable d name)) refl
     by false is = refl
     by true is =
         let equal : root ≡ variable d name = variable_is d name root is in
-        absurd (no_such (sym (ap (same_root (variable d name)) equal ∙ variable_itself d name) ∙ h))
+        absurd (true_not_false (sym (ap (same_root (variable d name)) equal ∙ variable_itself d name) ∙ h))
 
 pub no_copy : (i : ℕ) → is_copied [] i ≡ true → ⊥
 no_copy i h = cc
@@ -118,7 +109,7 @@ module _ (site : TypingContext) (function : is_activity site.kind ≡ false) (sc
   home_differs j k var there Local is false none = own_differ scope.depth (flag_name j) (variable_name site.vars k) refl
   home_differs j k var there Lent is false none =
       older_differs scope.depth (flag_name j) (named_location scope true (variable_name site.vars k)).root (pointers.lent_older k var there is)
-  home_differs j k var there home is true none = absurd (no_such none)
+  home_differs j k var there home is true none = absurd (true_not_false none)
 
   flag_differs : (j k : ℕ) (var : Var) → var_at site k ≡ Some var →
       same_root (variable scope.depth (flag_name j)) (location_in scope site k []).root ≡ false

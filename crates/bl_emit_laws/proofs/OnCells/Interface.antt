@@ -4,6 +4,8 @@ use Rattle.std.proofs.Common.{Some, None, refl, sym, ap, ◌∙◌, codes}
 use Rattle.std.proofs.lemmas.List.{map-append}
 use Rattle.std.specs.List.{list_all}
 use Rattle.std.specs.Prelude.{if◌then◌else◌}
+use Rattle.std.proofs.lemmas.Bool.{and_from}
+use Rattle.bl_tree.proofs.Basics.{and_first, and_second}
 use Rattle.bl_tree.specs.declared.c.CLocal.{CLocal}
 use Rattle.bl_tree.specs.declared.c.CArg.{CArg}
 use Rattle.bl_tree.specs.declared.c.CArg.TheVariants.{Address}
@@ -19,7 +21,6 @@ use Rattle.bl_tree.specs.declared.tree.Var.{Var}
 use Rattle.bl_tree.specs.Reduce.{joined, total}
 use Rattle.bl_tree.specs.Types.{type_stands}
 use Rattle.bl_tree.specs.Typing.{inputs_of, outputs_of}
-use Rattle.bl_eval.proofs.PassLemmas.{and_left, and_right, both}
 use Rattle.bl_limits_measures.specs.Types.{size}
 use Rattle.bl_ctext_semantics.specs.Calls.{calls_in_arg, calls_in_block, calls_in_place, calls_in_stmt, most}
 use Rattle.bl_ctext_semantics.specs.Loops.{turns_in, turns_in_block}
@@ -211,13 +212,13 @@ taken_all : {A : Type 0} (test : A → Bool) (n : ℕ) (xs : List A) → list_al
 taken_all test zero xs all = refl
 taken_all test (suc n) [] all = refl
 taken_all test (suc n) (x ∷ xs) all =
-    both (test x) (list_all test (take n xs)) (and_left (test x) (list_all test xs) all)
-    (taken_all test n xs (and_right (test x) (list_all test xs) all))
+    and_from (test x) (list_all test (take n xs)) (and_first (test x) (list_all test xs) all)
+    (taken_all test n xs (and_second (test x) (list_all test xs) all))
 
 dropped_all : {A : Type 0} (test : A → Bool) (n : ℕ) (xs : List A) → list_all test xs ≡ true → list_all test (drop n xs) ≡ true
 dropped_all test zero xs all = all
 dropped_all test (suc n) [] all = refl
-dropped_all test (suc n) (x ∷ xs) all = dropped_all test n xs (and_right (test x) (list_all test xs) all)
+dropped_all test (suc n) (x ∷ xs) all = dropped_all test n xs (and_second (test x) (list_all test xs) all)
 
 total_append : (xs ys : List ℕ) → total (xs ++ ys) ≡ total xs + total ys
 total_append [] ys = omega arith
@@ -235,15 +236,15 @@ module _ (structs : List StructDef) (units : List UnitDef) (known : Sizes) (size
   members_cells prefix [] stand = omega arith
   members_cells prefix (var ∷ vars) stand =
       let one = sizes.types var.ty
-      (and_left (type_stands (length structs) var.ty) (list_all (λ (var : Var). type_stands (length structs) var.ty) vars) stand) in
+      (and_first (type_stands (length structs) var.ty) (list_all (λ (var : Var). type_stands (length structs) var.ty) vars) stand) in
       let rest = members_cells prefix vars
-      (and_right (type_stands (length structs) var.ty) (list_all (λ (var : Var). type_stands (length structs) var.ty) vars) stand) in
+      (and_second (type_stands (length structs) var.ty) (list_all (λ (var : Var). type_stands (length structs) var.ty) vars) stand) in
       omega (arith, one, rest)
 
   port_cells : (name prefix : Text) (vars : List Var) → Stand vars → size_of_struct known (port_struct structs name prefix vars) ≤ size_all vars + 1
   port_cells name prefix vars stand = let rest = members_cells prefix vars stand in omega (arith, rest)
 
-  -- both
+  -- and_from
   pub ports_cells : (unit : UnitDef) → Stand unit.vars →
       size_of_struct known (port_struct structs (codes "bl_in") (codes "i_") (inputs_of unit))
       + size_of_struct known (port_struct structs (codes "bl_out") (codes "o_") (outputs_of unit)) ≤ ports_of structs unit + 2

@@ -7,6 +7,7 @@ use Rattle.std.proofs.lemmas.Option.{same_Some}
 use Rattle.std.proofs.lemmas.Slice.Eq.{bytes_eq-Decides}
 use Rattle.std.specs.List.{list_any}
 use Rattle.std.specs.Prelude.{bytes_eq, is_some, slice_get, slice_index, unwrap_or}
+use Rattle.bl_tree.proofs.Basics.{below_or_last}
 use Rattle.bl_tree.specs.declared.tree.StructDef.{StructDef}
 use Rattle.bl_tree.specs.declared.tree.Unit.{Unit as UnitDef}
 use Rattle.bl_tree.specs.Program.{IsWellTyped}
@@ -32,7 +33,7 @@ use Rattle.bl_emit_spec.specs.Programs.{activity_of, needed_units, needs_of}
 use Rattle.bl_emit_spec_laws_wellformed.specs.Chains.{ActivitiesCallFew}
 use Rattle.bl_emit_spec_laws_wellformed.specs.Numbers.{EachStandsOnce}
 use Rattle.bl_emit_spec_laws_wellformed_bodies.specs.Cells.{ActivityCells, Sized, cells_reached, ports_of}
-use Rattle.bl_emit_spec_laws_wellformed_bodies.proofs.OnStructs.Lists.{below_or_last, get_taken}
+use Rattle.bl_emit_spec_laws_wellformed_bodies.proofs.OnStructs.Lists.{get_taken}
 use Rattle.bl_emit_laws.proofs.OnCells.Numbers.{among_greatest, index_front, index_last, index_more, index_under}
 use Rattle.bl_emit_laws.proofs.OnCells.Tables.{entry_less}
 

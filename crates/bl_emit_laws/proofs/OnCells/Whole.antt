@@ -6,6 +6,7 @@ use Rattle.std.proofs.lemmas.List.Elements.{All-contains, Contains-append_cases}
 use Rattle.std.proofs.lemmas.Option.{same_Some}
 use Rattle.std.specs.List.{list_all, list_any}
 use Rattle.std.specs.Prelude.{bytes_eq, is_none, is_some, slice_get, slice_index, unwrap_or, if◌then◌else◌}
+use Rattle.bl_tree.proofs.Basics.{and_first, and_second, contains_none, first_or_further, within_at}
 use Rattle.bl_tree.specs.declared.c.CFunc.{CFunc}
 use Rattle.bl_tree.specs.declared.c.CStruct.{CStruct}
 use Rattle.bl_tree.specs.declared.program.Program.{Program}
@@ -18,7 +19,6 @@ use Rattle.bl_tree.specs.Reduce.{greatest}
 use Rattle.bl_tree.specs.Types.{scalar_in}
 use Rattle.bl_tree.specs.Typing.{inputs_of, is_activity, outputs_of}
 use Rattle.bl_tree.specs.Words.{are_distinct}
-use Rattle.bl_eval.proofs.PassLemmas.{and_left, and_right}
 use Rattle.bl_limits.specs.Rules.{Passes as KeepsLimits}
 use Rattle.bl_graph_nodes.specs.Nodes.{nodes_in}
 use Rattle.bl_graph_nodes.specs.Plain.{Block, plain_body}
@@ -55,7 +55,7 @@ use Rattle.bl_emit_spec_laws_wellformed.specs.Machines.{IsModest, MachinesSpell}
 use Rattle.bl_emit_spec_laws_wellformed.specs.Needed.{NeededSmall}
 use Rattle.bl_emit_spec_laws_wellformed_bodies.specs.Structs.Laws.{PartsAreSound, PartsStand, program_parts}
 use Rattle.bl_emit_spec_laws_wellformed_bodies.specs.Structs.Parts.{IsPart}
-use Rattle.bl_emit_spec_laws_wellformed_bodies.proofs.OnStructs.Lists.{below_length, first_or, from_map, none_has}
+use Rattle.bl_emit_spec_laws_wellformed_bodies.proofs.OnStructs.Lists.{from_map}
 use Rattle.bl_emit_spec_laws_wellformed_bodies.proofs.OnStructs.Runs.{runs_fit}
 use Rattle.bl_emit_spec_laws_wellformed_bodies.proofs.OnStructs.Whole.{nests}
 use Rattle.bl_emit_laws.specs.Cells.{FilesCount, FilesSmall, file_of}
@@ -83,7 +83,7 @@ once_has taken (x ∷ xs) s there =
         Contains (if b then each_once taken xs else x ∷ each_once (taken ++ x.name ∷ []) xs) s → Contains (x ∷ xs) s
     by true old new at = one_further (old at)
     by false old new at =
-        ⊎_elim (λ is. (0, omega arith, is)) (λ behind. one_further (new behind)) (first_or x (each_once (taken ++ x.name ∷ []) xs) s at)
+        ⊎_elim (λ is. (0, omega arith, is)) (λ behind. one_further (new behind)) (first_or_further x (each_once (taken ++ x.name ∷ []) xs) s at)
 
 any_at : (xs : List ℕ) (j : ℕ) → list_any (nat_eq j) xs ≡ true → Contains xs j
 any_at [] j h = absurd (cc)
@@ -114,9 +114,9 @@ entry_parts None entry unit is = absurd (cc)
 entry_parts (Some first) entry unit is =
     let scalars : Bool = list_all (λ (var : Var). is_some (scalar_in var.ty)) (parameters_of first) in
     let same : first ≡ unit = same_Some first unit is in
-    let active : is_activity first.kind ≡ true = and_left (is_activity first.kind) (is_none first.result && scalars) entry in
-    let none : is_none first.result ≡ true = and_left (is_none first.result) scalars
-    (and_right (is_activity first.kind) (is_none first.result && scalars) entry) in
+    let active : is_activity first.kind ≡ true = and_first (is_activity first.kind) (is_none first.result && scalars) entry in
+    let none : is_none first.result ≡ true = and_first (is_none first.result) scalars
+    (and_second (is_activity first.kind) (is_none first.result && scalars) entry) in
     (ap (λ (u : UnitDef). is_activity u.kind) (sym same) ∙ active, ap (λ (u : UnitDef). is_some u.result) (sym same) ∙ nothing first.result none)
   where
     nothing : {A : Type 0} (o : Option A) → is_none o ≡ true → is_some o ≡ false
@@ -197,8 +197,8 @@ module _ (program : Program)
   last_cases s at =
       ⊎_elim (λ is. inl (sym is))
       (λ more. ⊎_elim (λ is. inr (inl (sym is)))
-      (λ more. ⊎_elim (λ is. inr (inr (sym is))) (λ none. absurd (none_has s none)) (first_or out_ports [] s more))
-      (first_or in_ports (out_ports ∷ []) s more)) (first_or state (in_ports ∷ out_ports ∷ []) s at)
+      (λ more. ⊎_elim (λ is. inr (inr (sym is))) (λ none. absurd (contains_none s none)) (first_or_further out_ports [] s more))
+      (first_or_further in_ports (out_ports ∷ []) s more)) (first_or_further state (in_ports ∷ out_ports ∷ []) s at)
 
   last_named : (s : CStruct) → Contains last s → first_byte s.name ≡ 98
   last_named s at =
@@ -333,7 +333,7 @@ module _ (program : Program)
 
   needed_less : (k : ℕ) → slice_get (needed_units units entry) k ≡ Some true → reach k ≤ reach entry
   needed_less =
-      none_more units entry reach (λ k j u at among. walked.knows.over k j u (below_length units k u at) at among)
+      none_more units entry reach (λ k j u at among. walked.knows.over k j u (within_at units k u at) at among)
 
   -- ---- the chains
 
@@ -358,7 +358,7 @@ module _ (program : Program)
   pub all_cells : cells_needed (file_from file (parts.funcs ++ (init ∷ tick ∷ []))) ≤ cells_at structs units entry
   all_cells =
       let is = entry_parts (slice_get units entry) keeps.entry_stands unit there in
-      let fits = walked.knows.fits entry unit (below_length units entry unit there) there (closed.entry_is keeps) is.0 in
+      let fits = walked.knows.fits entry unit (within_at units entry unit there) there (closed.entry_is keeps) is.0 in
       let kept : size_of_struct K state ≤ entry_or 0 K (frame_name unit.name) + entry_or 0 K (memory_name unit.name) = state_cells unit remembers K in
       let state_less : entry_or 0 K (codes "bl_state") ≤ entry_or 0 K (frame_name unit.name) + entry_or 0 K (memory_name unit.name) =
       (let one = state_entry in omega (arith, one, kept)) in

@@ -5,6 +5,7 @@ use Rattle.std.proofs.lemmas.Bool.Decides.{nat_tests}
 use Rattle.std.proofs.lemmas.List.{map-append}
 use Rattle.std.specs.Prelude.{is_none, is_some, nat_le, option_and_then, if◌then◌else◌}
 use Rattle.std.specs.List.{list_all}
+use Rattle.bl_tree.proofs.Basics.{is_none_of}
 use Rattle.bl_tree.specs.declared.c.CLocal.{CLocal}
 use Rattle.bl_tree.specs.declared.text.Text.{Text}
 use Rattle.bl_tree.specs.declared.c.CArg.{CArg}
@@ -75,10 +76,6 @@ pub record Entry (structs : List StructDef) (unit : UnitDef) (remembers : Bool) 
 
 at_most : (n : ℕ) → n ≤ 300 → nat_le n 300 ≡ true
 at_most n le = grind (arith, nat_tests)
-
-absent : {A : Type 0} (o : Option A) → o ≡ None → is_none o ≡ true
-absent None is = refl
-absent (Some x) is = absurd (cc)
 
 return-returns : (value : Option CExpr) → surely_returns (c_return value) ≡ true
 return-returns value =
@@ -189,7 +186,7 @@ module _ (structs : List StructDef) (unit : UnitDef) (remembers : Bool) (table :
 
   pub init-fine : functions (codes "bl_init") ≡ None → faults_in_function table functions depths true init ≡ []
   init-fine new =
-      let one = kept (is_none (functions (codes "bl_init"))) distinct_names nowhere (absent (functions (codes "bl_init")) new) in
+      let one = kept (is_none (functions (codes "bl_init"))) distinct_names nowhere (is_none_of (functions (codes "bl_init")) new) in
       let three = kept ((is_some (table (codes "bl_state")) && true) && true) declared_before nowhere (declared (table (codes "bl_state")) (ap
       is_some e.state)) in
       let six = kept (nat_le (depth_of_function depths init) 300) short_chain nowhere (at_most (depth_of_function depths init) init_depth) in
@@ -356,7 +353,7 @@ module _ (structs : List StructDef) (unit : UnitDef) (remembers : Bool) (table :
 
   pub tick-fine : functions (codes "bl_tick") ≡ None → faults_in_function table functions depths true tick ≡ []
   tick-fine new =
-      let one = kept (is_none (functions (codes "bl_tick"))) distinct_names nowhere (absent (functions (codes "bl_tick")) new) in
+      let one = kept (is_none (functions (codes "bl_tick"))) distinct_names nowhere (is_none_of (functions (codes "bl_tick")) new) in
       let two = kept (all_distinct no_entries (variable_names tick)) distinct_names nowhere (names_differ (unit_may_end unit)) in
       let three = kept ((is_some (table (codes "bl_state")) && (is_some (table (codes "bl_in")) && (is_some (table (codes "bl_out")) && true)))
       && list_all (λ (l : CLocal). is_declared table l.ty) tick.locals) declared_before nowhere

@@ -5,6 +5,7 @@ use Rattle.std.proofs.lemmas.List.Elements.{Contains-append_cases, Contains-appe
 use Rattle.std.proofs.lemmas.Option.{same_Some, slice_get_within}
 use Rattle.std.specs.Prelude.{Contains, is_some, slice_get, unwrap_or}
 use Rattle.std.specs.List.{list_any}
+use Rattle.bl_tree.proofs.Basics.{contains_further, contains_mapped, index_of, push_length}
 use Rattle.bl_tree.specs.declared.place.Place.{Place}
 use Rattle.bl_tree.specs.declared.tree.Arm.{Arm}
 use Rattle.bl_tree.specs.declared.tree.Branch.{Branch}
@@ -30,7 +31,6 @@ use Rattle.bl_emit_spec.specs.Activities.{Activity, copies_of, rules_at}
 use Rattle.bl_emit_spec_laws_nodes.specs.Calling.{RunsStand}
 use Rattle.bl_emit_spec_laws_nodes.specs.Copied.{NodesCopied, RunsCopied}
 use Rattle.bl_emit_spec_laws_nodes.specs.Points.Nodes.{act_copied, copied_there}
-use Rattle.bl_emit_spec_laws.proofs.OnOwn.Members.{contains_mapped, further, stands_at}
 use Rattle.bl_emit_spec_laws_wellformed_bodies.specs.Bodies.{CopiesSuffice, act_named, named_there}
 
 -- ---- where a `run` goes on one begins
@@ -46,7 +46,7 @@ module _ (l : Label) (at : Place) (arguments : Arguments) where
   behind : (n : Node) (nodes : List Node) → (n ≡ ResumeAt l at arguments → ⊥) → (Ends nodes → Starts nodes) → Ends (n ∷ nodes) →
       Starts (n ∷ nodes)
   behind n nodes other rest (zero, below, is) = absurd (other is)
-  behind n nodes other rest (suc j, below, is) = further n nodes (EnterAt l at arguments) (rest (j, omega (arith, below), is))
+  behind n nodes other rest (suc j, below, is) = contains_further n nodes (EnterAt l at arguments) (rest (j, omega (arith, below), is))
 
   both : (ms ns : List Node) → (Ends ms → Starts ms) → (Ends ns → Starts ns) → Ends (ms ++ ns) → Starts (ms ++ ns)
   both ms ns one other has =
@@ -140,10 +140,6 @@ get_front [] ys k x is = absurd (cc)
 get_front (y ∷ xs) ys zero x is = is
 get_front (y ∷ xs) ys (suc k) x is = get_front xs ys k x is
 
-push_length : {A : Type 0} (xs : List A) (y : A) → length (xs ++ y ∷ []) ≡ suc (length xs)
-push_length [] y = refl
-push_length (x ∷ xs) y = ap suc (push_length xs y)
-
 up_length : (n : ℕ) → length (up_to n) ≡ n
 up_length zero = refl
 up_length (suc n) = push_length (up_to n) n ∙ ap suc (up_length n)
@@ -192,7 +188,7 @@ module _ (structs : List StructDef) (units : List UnitDef) (entry k : ℕ) (a : 
 
   node_copied : (n : Node) → Contains (nodes_in (plain_body a.unit.body)) n → copied_there mine n ≡ true
   node_copied n has =
-      let at = stands_at (nodes_in (plain_body a.unit.body)) n has in
+      let at = index_of (nodes_in (plain_body a.unit.body)) n has in
       copied_so structs units entry k at.0 a.unit n keeps there at.1
 
   stand : RunsStand units

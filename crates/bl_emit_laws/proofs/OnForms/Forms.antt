@@ -4,6 +4,7 @@ use Rattle.std.proofs.Common.{map, take, drop, length, Some, cond, refl, sym, ap
 use Rattle.std.proofs.lemmas.List.{length-append}
 use Rattle.std.specs.List.{list_all}
 use Rattle.std.specs.Prelude.{Contains, slice_get, if◌then◌else◌}
+use Rattle.bl_tree.proofs.Basics.{contains_at, get_seam, take_front}
 use Rattle.bl_tree.specs.declared.tree.StructDef.{StructDef}
 use Rattle.bl_tree.specs.declared.tree.Unit.{Unit as UnitDef}
 use Rattle.bl_tree.specs.declared.tree.UnitKind.{UnitKind}
@@ -42,19 +43,10 @@ use Rattle.bl_emit_spec_laws_wellformed.specs.Counts.{NodesCounted}
 use Rattle.bl_emit_spec_laws_wellformed_bodies.specs.Lists.{ActivityConditions, AllConditions, UnitConditions}
 use Rattle.bl_emit_spec_laws_wellformed.specs.Machines.{IsModest, MachinesDiffer, MachinesSpell}
 use Rattle.bl_emit_spec_laws_wellformed.specs.Needed.{NeededNumbered, NeededSmall}
-use Rattle.bl_emit_spec_laws.proofs.OnOwn.Members.{contains_at}
 use Rattle.bl_emit_spec_laws.proofs.OnOwn.Owning.{asks_on, changes_on, copied_below, entry_rule, flag_on}
 use Rattle.bl_emit_spec_laws.proofs.OnPlaced.Placing.{Laws as PlacingLaws, entry_first, first_among, flags_first, last_among}
 use Rattle.bl_emit_laws.proofs.OnForms.Copying.{copies-suffice}
 use Rattle.bl_emit_laws.specs.Forms.{UnitsMeetConditions}
-
-get_behind : {A : Type 0} (xs : List A) (y : A) (ys : List A) → slice_get (xs ++ y ∷ ys) (length xs) ≡ Some y
-get_behind [] y ys = refl
-get_behind (x ∷ xs) y ys = get_behind xs y ys
-
-take_front : {A : Type 0} (xs ys : List A) → take (length xs) (xs ++ ys) ≡ xs
-take_front [] ys = refl
-take_front (x ∷ xs) ys = ap (λ rest. x ∷ rest) (take_front xs ys)
 
 -- a unit has no fewer cells than statements
 enough : (kind : UnitKind) (variables statements running calling : ℕ) → statements ≤ cells_with kind variables statements running calling
@@ -101,7 +93,7 @@ module _ (structs : List StructDef) (units : List UnitDef) (entry : ℕ) (laws :
     k = length earlier
 
     there : slice_get units k ≡ Some unit
-    there = ap (λ units. slice_get units (length earlier)) (sym whole) ∙ get_behind earlier unit rest
+    there = ap (λ units. slice_get units (length earlier)) (sym whole) ∙ get_seam earlier unit rest
 
     before : take k units ≡ earlier
     before = ap (take (length earlier)) (sym whole) ∙ take_front earlier (unit ∷ rest)

@@ -5,6 +5,8 @@ use Rattle.std.proofs.lemmas.List.Elements.{All-cons, All-nil}
 use Rattle.std.proofs.lemmas.Option.{same_Some}
 use Rattle.std.specs.List.{list_all}
 use Rattle.std.specs.Prelude.{All, bytes_eq, is_none, is_some, slice_get, if◌then◌else◌}
+use Rattle.std.proofs.lemmas.Bool.{and_from}
+use Rattle.bl_tree.proofs.Basics.{and_first, and_second}
 use Rattle.bl_tree.specs.declared.c.CArg.{CArg}
 use Rattle.bl_tree.specs.declared.c.CArg.TheVariants.{Address, Value}
 use Rattle.bl_tree.specs.declared.c.CFunc.{CFunc}
@@ -18,7 +20,6 @@ use Rattle.bl_tree.specs.Program.{is_entry, parameters_of}
 use Rattle.bl_tree.specs.Reduce.{joined}
 use Rattle.bl_tree.specs.Types.{scalar_in}
 use Rattle.bl_tree.specs.Typing.{inputs_of, is_activity, outputs_of}
-use Rattle.bl_eval.proofs.PassLemmas.{and_left, and_right, both}
 use Rattle.bl_ctext_semantics.specs.Calls.{calls_in, calls_in_arg, calls_in_block, calls_in_place, calls_in_stmt}
 use Rattle.bl_ctext_semantics.specs.Meaning.{ArgumentValue, Meaning, applied, function_c, meanings_after}
 use Rattle.bl_ctext_semantics.specs.Memory.{Memory}
@@ -122,9 +123,9 @@ found_behind : (known : Table Meaning) (first rest : List CFunc) (name : Text) �
 found_behind known [] rest name other = refl
 found_behind known (f ∷ first) rest name other =
     ap (λ b. if b then Some (function_c known f) else found name (meanings_after (with_entry known f.name (function_c known f)) (first ++ rest)))
-    (differs (bytes_eq f.name name) (and_left (not (bytes_eq f.name name)) (others name first) other))
+    (differs (bytes_eq f.name name) (and_first (not (bytes_eq f.name name)) (others name first) other))
     ∙ found_behind (with_entry known f.name (function_c known f)) first rest name
-    (and_right (not (bytes_eq f.name name)) (others name first) other)
+    (and_second (not (bytes_eq f.name name)) (others name first) other)
   where
     differs : (b : Bool) → not b ≡ true → b ≡ false
     differs true h = absurd (cc)
@@ -139,7 +140,7 @@ module _ (structs : List StructDef) (units : List UnitDef) (activities : Activit
   others_kept name differs [] k xs = refl
   others_kept name differs (test ∷ tests) k [] = refl
   others_kept name differs (true ∷ tests) k (unit ∷ xs) =
-      both (not (bytes_eq (code k unit).name name)) (others name (kept_where tests (each_from code (suc k) xs))) (differs k unit)
+      and_from (not (bytes_eq (code k unit).name name)) (others name (kept_where tests (each_from code (suc k) xs))) (differs k unit)
       (others_kept name differs tests (suc k) xs)
   others_kept name differs (false ∷ tests) k (unit ∷ xs) = others_kept name differs tests (suc k) xs
 
@@ -215,7 +216,7 @@ active_entry : (o : Option UnitDef) (unit : UnitDef) → o ≡ Some unit → is_
 active_entry None unit is stands = absurd (cc)
 active_entry (Some other) unit is stands =
     ap (λ (it : UnitDef). is_activity it.kind) (sym (same_Some other unit is))
-    ∙ and_left (is_activity other.kind) (is_none other.result && list_all (λ (var : Var). is_some (scalar_in var.ty)) (parameters_of other)) stands
+    ∙ and_first (is_activity other.kind) (is_none other.result && list_all (λ (var : Var). is_some (scalar_in var.ty)) (parameters_of other)) stands
 
 pub all_enter : CallsDecide → WrittenIsKept → FilesEnter
 all_enter decide written program machine unit file is = record {

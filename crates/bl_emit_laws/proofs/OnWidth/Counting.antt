@@ -9,6 +9,7 @@ use Rattle.std.specs.Char.{is_ascii_digit}
 use Rattle.std.specs.Fmt.{decimal}
 use Rattle.std.specs.List.{list_all}
 use Rattle.std.specs.Prelude.{All, filter}
+use Rattle.bl_tree.proofs.Basics.{last_digit, map_push}
 use Rattle.bl_tree.specs.declared.c.CMember.{CMember}
 use Rattle.bl_tree.specs.Reduce.{greatest}
 use Rattle.bl_machine.specs.declared.slots.Slot.{Slot}
@@ -41,9 +42,6 @@ digits_push (x ∷ xs) b all one = all_push (x ∷ xs) b all one
 one_digit : (b : ℕ) → is_ascii_digit b ≡ true → is_digit_run (b ∷ []) ≡ true
 one_digit b one = rw one refl
 
-last_digit : (m : ℕ) → m % 10 < 10
-last_digit m = omega arith
-
 decimal_digits : (n : ℕ) → n < 2 ^ 64 → is_digit_run (decimal n) ≡ true
 decimal_digits n small =
     decimal_by_steps (λ (m : ℕ) (digits : List ℕ). is_digit_run digits ≡ true)
@@ -58,10 +56,6 @@ callee_named : (k : NumberedWord) → is_counter_name (callee_name k) ≡ false
 callee_named k = refl
 
 -- ---- members
-
-map_push : {X Y : Type 0} (f : X → Y) (xs : List X) (x : X) → map f (xs ++ x ∷ []) ≡ map f xs ++ f x ∷ []
-map_push f [] x = refl
-map_push f (y ∷ xs) x = ap (λ rest. f y ∷ rest) (map_push f xs x)
 
 -- numbers each of which passes are as many as they are
 all_pass : {Y : Type 0} (p : Y → Bool) (f : ℕ → Y) (n : ℕ) → ((k : ℕ) → k < n → p (f k) ≡ true) → length (filter p (map f (up_to n))) ≡ n

@@ -6,6 +6,7 @@ use Rattle.std.proofs.lemmas.Bool.{leb-true, lt-ltb}
 use Rattle.std.proofs.lemmas.List.FromFn.{length-map-range_with_len}
 use Rattle.std.specs.List.{list_any}
 use Rattle.std.specs.Prelude.{Option, is_some, option_map, slice_get, unwrap_or}
+use Rattle.bl_tree.proofs.Basics.{neither_first, neither_second}
 use Rattle.bl_tree.specs.declared.c.CStmt.{CStmt}
 use Rattle.bl_tree.specs.declared.tree.StructDef.{StructDef}
 use Rattle.bl_tree.specs.declared.tree.Unit.{Unit as UnitDef}
@@ -47,7 +48,7 @@ use Rattle.bl_emit_spec_laws.specs.Calls.Invariant.{FunctionContext, result_at_c
 use Rattle.bl_emit_spec_laws.specs.Activities.{CalleesRemember, CallsSimulate, PointersAreGiven, PointersLead, ViewsFit}
 use Rattle.bl_emit_spec_laws.proofs.OnActivities.Appending.{append_end, append_memory}
 use Rattle.bl_emit_spec_laws.proofs.OnActivities.Calling.{output_place, outputs_from, same_length}
-use Rattle.bl_emit_spec_laws.proofs.OnActivities.Lists.{any_at, any_left, any_right, get_drop, get_take, or_left, or_right}
+use Rattle.bl_emit_spec_laws.proofs.OnActivities.Lists.{any_at, any_left, any_right, get_drop, get_take}
 use Rattle.bl_emit_spec_laws.proofs.OnActivities.Nested.{left_held, unit_there}
 use Rattle.bl_emit_spec_laws.proofs.OnActivities.Roles.{lent_output, output_at, output_lent, unit_roles}
 use Rattle.bl_emit_spec_laws.proofs.OnWithin.Passing.{starts_within}
@@ -223,13 +224,13 @@ module _ (structs : List StructDef) (units : List UnitDef) (entry : ℕ) (machin
           let memories = where_true (remembers_any a) given.memory in
           let results = where_true (is_some unit.result) given.result in
           let overs = where_true (unit_may_end unit) given.over in
-          let behind = or_right (lies given.frame) (list_any lies (memories ++ (given.outputs ++ (results ++ overs)))) none in
+          let behind = neither_second (lies given.frame) (list_any lies (memories ++ (given.outputs ++ (results ++ overs)))) none in
           let later = any_right lies memories (given.outputs ++ (results ++ overs)) behind in
           let last = any_right lies given.outputs (results ++ overs) later in
           let end = any_right lies results overs last in
           let roles = unit_roles structs units entry (unit_number W i) unit compiled.well_typed (unit_there W i unit is_there) in
           record {
-            frame = ap lies lead.frame ∙ or_left (lies given.frame) (list_any lies (memories ++ (given.outputs ++ (results ++ overs)))) none;
+            frame = ap lies lead.frame ∙ neither_first (lies given.frame) (list_any lies (memories ++ (given.outputs ++ (results ++ overs)))) none;
             over = λ ends. ap lies (lead.over ends) ∙ any_at lies overs 0 given.over end (first_where (unit_may_end unit) given.over ends);
             memory = λ has. ap lies (lead.memory has)
                 ∙ any_at lies memories 0 given.memory (any_left lies memories (given.outputs ++ (results ++ overs)) behind)

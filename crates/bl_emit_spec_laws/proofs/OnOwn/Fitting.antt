@@ -3,6 +3,7 @@ use Rattle.std.proofs.Common.{◌≡◌, ℕ, suc, Bool, true, false, List, [], 
 use Rattle.std.proofs.Common.{if◌then◌else◌}
 use Rattle.std.specs.List.{list_any}
 use Rattle.std.specs.Prelude.{⊤}
+use Rattle.bl_tree.proofs.Basics.{contains_first}
 use Rattle.bl_tree.specs.declared.place.Place.{Place}
 use Rattle.bl_tree.specs.declared.tree.Expr.{Expr}
 use Rattle.bl_tree.specs.declared.tree.Guard.{Guard}
@@ -21,7 +22,7 @@ use Rattle.bl_machine_pass.specs.Transitions.{age_of, body_ends, counters_in, co
 use Rattle.bl_machine_pass.specs.Transitions.{marked, needed, once, once_but, rests_in, rests_in_first, rests_of, rule_where, rules_in, rules_in_each, rules_of}
 use Rattle.bl_machine_pass.specs.Transitions.{strong_endings}
 use Rattle.bl_emit_spec_laws.specs.Registers.Laws.{are_in_a_row}
-use Rattle.bl_emit_spec_laws.proofs.OnOwn.Members.{Every, every_both, every_left, every_map, every_right, here}
+use Rattle.bl_emit_spec_laws.proofs.OnOwn.Members.{Every, every_both, every_left, every_map, every_right}
 
 -- ---- rows
 
@@ -291,7 +292,7 @@ module _ (slots : Slots) (all : List Transition) (S : Slot → Type 0) where
         record {
           rule = flagged (ForkAt l at) (SetsMark (ForkAt l at) ∷ entered);
           there = there.0;
-          marks = here (SetsMark (ForkAt l at)) entered;
+          marks = contains_first (SetsMark (ForkAt l at)) entered;
           is = refl;
         } in (
           flagged_fits (ForkAt l at) (SetsMark (ForkAt l at) ∷ entered) (mark, begin),
@@ -321,7 +322,7 @@ module _ (slots : Slots) (all : List Transition) (S : Slot → Type 0) where
     start_mark there = record {
       rule = flagged (StartAt l at) (SetsMark (StartAt l at) ∷ entered ∷ []);
       there = there.0;
-      marks = here (SetsMark (StartAt l at)) (entered ∷ []);
+      marks = contains_first (SetsMark (StartAt l at)) (entered ∷ []);
       is = refl;
     }
 

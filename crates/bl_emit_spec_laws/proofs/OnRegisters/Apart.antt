@@ -6,6 +6,8 @@ use Rattle.std.proofs.lemmas.Fmt.{decimal_injective}
 use Rattle.std.proofs.lemmas.Slice.Eq.{bytes_eq-Decides}
 use Rattle.std.specs.Prelude.{bytes_eq, codes, nat_eq, ◌==◌}
 use Rattle.std.specs.Fmt.{decimal}
+use Rattle.std.proofs.lemmas.Bool.{or_right}
+use Rattle.bl_tree.proofs.Basics.{and_false, at_most_self_test, true_not_false}
 use Rattle.bl_tree.specs.declared.text.Text.{Text}
 use Rattle.bl_tree.specs.declared.tree.Var.{Var}
 use Rattle.bl_tree.specs.Typing.{TypingContext, is_activity, var_at}
@@ -23,12 +25,9 @@ use Rattle.bl_emit_spec_laws.specs.Registers.Registers.{ApartFromPointers, FewRe
 use Rattle.bl_emit_spec_laws.specs.Registers.Registers.{RegistersBeside}
 use Rattle.bl_emit_spec_laws.specs.Registers.Registers.{Before, Counter, Flag, Mark, Over, Register, frame_at, has_register, over_at, register_at}
 use Rattle.bl_emit_spec_laws.specs.Registers.Registers.{same_register}
-use Rattle.bl_emit_spec_laws.proofs.OnRegisters.Cells.{apart_flip, behind_front, further_both, number_itself, or_last}
+use Rattle.bl_emit_spec_laws.proofs.OnRegisters.Cells.{apart_flip, behind_front, further_both}
 
 -- ---- names and roots
-
-no_such : true ≡ false → ⊥
-no_such h = cc
 
 -- names of one letter with different numbers differ
 names_differ : (letter : ℕ) (j k : ℕ) → j < 2 ^ 64 → k < 2 ^ 64 → nat_eq j k ≡ false
@@ -39,17 +38,13 @@ names_differ letter j k less most differ = by (bytes_eq (letter ∷ decimal j) (
     by false is = refl
     by true is =
         let text : letter ∷ decimal j ≡ letter ∷ decimal k = (bytes_eq-Decides (letter ∷ decimal j) (letter ∷ decimal k)).0 is in
-        absurd (no_such (sym (eq-eqb j k (decimal_injective j k less most (ap (drop 1) text))) ∙ differ))
+        absurd (true_not_false (sym (eq-eqb j k (decimal_injective j k less most (ap (drop 1) text))) ∙ differ))
 
 -- so do names with words
 worded_differ : (letter : ℕ) (words : ℕ → Text) (j k : ℕ) → j < 2 ^ 64 → k < 2 ^ 64 → nat_eq j k ≡ false →
     bytes_eq (letter ∷ numbered_word (with_word words j)) (letter ∷ numbered_word (with_word words k)) ≡ false
 worded_differ letter words j k less most differ =
-    words_differ letter j k (words j) (words k) less most (λ same. no_such (sym (eq-eqb j k same) ∙ differ))
-
-and_false : (b : Bool) → (b && false) ≡ false
-and_false true = refl
-and_false false = refl
+    words_differ letter j k (words j) (words k) less most (λ same. true_not_false (sym (eq-eqb j k same) ∙ differ))
 
 roots_differ : (p q : Location) → same_root p.root q.root ≡ false → are_apart p q ≡ true
 roots_differ p q h = ap (λ same. not same || ways_part p.parts q.parts) h
@@ -115,7 +110,7 @@ module _ (scope : Scope) (has : Registered) (frame : FramePointersAreValid has.o
     counters_differ : (j k : ℕ) → has.counters j ≡ true → has.counters k ≡ true → nat_eq j k ≡ false → Differ (Counter j) (Counter k)
     counters_differ j k its other differ =
         let start = frame_at scope in
-        or_last (not (same_root start.root start.root))
+        or_right (not (same_root start.root start.root))
         (ways_part (start.parts ++ member (counter_name j) ∷ []) (start.parts ++ member (counter_name k) ∷ []))
         (behind_front start.parts (member (counter_name j) ∷ []) (member (counter_name k) ∷ [])
         ∙ ap (λ b. not b || false) (names_differ 99 j k (few.counters j its) (few.counters k other) differ))
@@ -164,13 +159,13 @@ module _ (scope : Scope) (has : Registered) (frame : FramePointersAreValid has.o
     registers_differ Over (Before k) its other differ = over_local (rested_name k) its
     registers_differ Over (Flag k) its other differ = over_local (flag k) its
     registers_differ Over (Mark k) its other differ = over_local (mark k) its
-    registers_differ Over Over its other differ = absurd (no_such differ)
+    registers_differ Over Over its other differ = absurd (true_not_false differ)
 
     registers_live : (x : Register) → has_register has x ≡ true → is_live scope.depth (register_at has scope x).root ≡ true
     registers_live (Counter k) its = older_live scope.depth (frame_at scope).root frame.frame_older
-    registers_live (Before k) its = number_itself scope.depth
-    registers_live (Flag k) its = number_itself scope.depth
-    registers_live (Mark k) its = number_itself scope.depth
+    registers_live (Before k) its = at_most_self_test scope.depth
+    registers_live (Flag k) its = at_most_self_test scope.depth
+    registers_live (Mark k) its = at_most_self_test scope.depth
     registers_live Over its = older_live scope.depth (over_at scope).root (frame.over_older its)
 
   -- ---- beside variables

@@ -7,6 +7,7 @@ use Rattle.std.proofs.lemmas.List.{append-nil}
 use Rattle.std.proofs.lemmas.Option.{slice_get_within}
 use Rattle.std.specs.Prelude.{Contains, bytes_eq, is_some, nat_eq, slice_get}
 use Rattle.std.specs.List.{list_any}
+use Rattle.bl_tree.proofs.Basics.{true_not_false}
 use Rattle.bl_tree.specs.declared.place.Place.{Place}
 use Rattle.bl_tree.specs.declared.tree.StructDef.{StructDef}
 use Rattle.bl_tree.specs.declared.tree.Unit.{Unit as UnitDef}
@@ -65,9 +66,6 @@ use Rattle.bl_emit_spec_laws_files.proofs.OnBegins.Standing.{standing, stands_th
 use Rattle.bl_emit_spec_laws_files.proofs.OnBegins.Start.{Stands, comes_rested, copies_within, entry_begun, entry_goes, entry_resumed, other_parts}
 use Rattle.bl_emit_spec_laws_files.proofs.OnBegins.Start.{rested_goes, same_parts, with_entry, with_rested}
 use Rattle.bl_emit_spec_laws_files.proofs.OnBegins.Variables.{variables_begin_all}
-
-no_such : true ≡ false → ⊥
-no_such h = cc
 
 any_false : (test : ℕ → Bool) (ks : List ℕ) → ((k : ℕ) → test k ≡ false) → list_any test ks ≡ false
 any_false test [] h = refl
@@ -383,7 +381,7 @@ module _ (structs : List StructDef) (units : List UnitDef) (entry_at : ℕ) (ord
         variables = left.variables;
         copied = after_copied;
         callees = after_callees;
-        result = λ value over has_result is. absurd (no_such (sym over ∙ not_over));
+        result = λ value over has_result is. absurd (true_not_false (sym over ∙ not_over));
       }
 
     abbrev Left : Memory → Type 0

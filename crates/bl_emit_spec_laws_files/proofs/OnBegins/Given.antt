@@ -6,10 +6,10 @@ use Rattle.std.proofs.lemmas.Bool.{leb-true, lt-ltb}
 use Rattle.std.proofs.lemmas.Option.{same_Some}
 use Rattle.std.specs.Prelude.{slice_get}
 use Rattle.std.specs.List.{list_all}
+use Rattle.bl_tree.proofs.Basics.{and_first, and_second}
 use Rattle.bl_tree.specs.declared.tree.StructDef.{StructDef}
 use Rattle.bl_tree.specs.declared.tree.Var.{Var}
 use Rattle.bl_tree.specs.declared.value.Value.{Value}
-use Rattle.bl_eval.proofs.PassLemmas.{and_left, and_right}
 use Rattle.bl_ctext_semantics.specs.Meaning.{ArgumentValue, by_address, by_value}
 use Rattle.bl_ctext_semantics.specs.Memory.{Location, Memory, Root, input_object, output_object, state_object, variable}
 use Rattle.bl_emit_acts_laws_simulation.specs.Acts.{OutputsEncoded, all_apart, place_in_arg, places_in_args}
@@ -41,20 +41,16 @@ pub length_both : {A : Type 0} (xs ys : List A) → length (xs ++ ys) ≡ length
 length_both [] ys = omega arith
 length_both (x ∷ xs) ys = let more : length (xs ++ ys) ≡ length xs + length ys = length_both xs ys in omega (arith, more)
 
-pub length_mapped : {A B : Type 0} (f : A → B) (xs : List A) → length (map f xs) ≡ length xs
-length_mapped f [] = refl
-length_mapped f (x ∷ xs) = ap suc (length_mapped f xs)
-
 pub all_front : {A : Type 0} (test : A → Bool) (xs ys : List A) → list_all test (xs ++ ys) ≡ true
     → (list_all test xs ≡ true) × (list_all test ys ≡ true)
 all_front test [] ys h = (refl, h)
 all_front test (x ∷ xs) ys h =
-    let rest = all_front test xs ys (and_right (test x) (list_all test (xs ++ ys)) h) in
-    (ap (λ b. b && list_all test xs) (and_left (test x) (list_all test (xs ++ ys)) h) ∙ rest.0, rest.1)
+    let rest = all_front test xs ys (and_second (test x) (list_all test (xs ++ ys)) h) in
+    (ap (λ b. b && list_all test xs) (and_first (test x) (list_all test (xs ++ ys)) h) ∙ rest.0, rest.1)
 
 -- what is said of one thing that is left out where a test is false
 pub one_where : {A : Type 0} (test : A → Bool) (b : Bool) (x : A) → b ≡ true → list_all test (where_true b x) ≡ true → test x ≡ true
-one_where test true x is h = and_left (test x) true h
+one_where test true x is h = and_first (test x) true h
 one_where test false x is h = absurd (cc)
 
 -- ---- places that keep apart
@@ -66,8 +62,8 @@ AllApart xs ys = list_all (λ (x : Location). list_all (are_apart x) ys) xs ≡ 
 pub apart_split : (xs ys : List Location) → all_apart (xs ++ ys) ≡ true → AllApart xs ys × (all_apart xs ≡ true) × (all_apart ys ≡ true)
 apart_split [] ys h = (refl, refl, h)
 apart_split (x ∷ xs) ys h =
-    let first = all_front (are_apart x) xs ys (and_left (list_all (are_apart x) (xs ++ ys)) (all_apart (xs ++ ys)) h) in
-    let rest = apart_split xs ys (and_right (list_all (are_apart x) (xs ++ ys)) (all_apart (xs ++ ys)) h) in (
+    let first = all_front (are_apart x) xs ys (and_first (list_all (are_apart x) (xs ++ ys)) (all_apart (xs ++ ys)) h) in
+    let rest = apart_split xs ys (and_second (list_all (are_apart x) (xs ++ ys)) (all_apart (xs ++ ys)) h) in (
       ap (λ b. b && list_all (λ (x : Location). list_all (are_apart x) ys) xs) first.1 ∙ rest.0,
       ap (λ b. b && all_apart xs) first.0 ∙ rest.1,
       rest.2,
@@ -76,8 +72,8 @@ apart_split (x ∷ xs) ys h =
 pub apart_parts : (xs ys zs : List Location) → AllApart xs (ys ++ zs) → AllApart xs ys × AllApart xs zs
 apart_parts [] ys zs h = (refl, refl)
 apart_parts (x ∷ xs) ys zs h =
-    let first = all_front (are_apart x) ys zs (and_left (list_all (are_apart x) (ys ++ zs)) _ h) in
-    let rest = apart_parts xs ys zs (and_right (list_all (are_apart x) (ys ++ zs)) _ h) in (
+    let first = all_front (are_apart x) ys zs (and_first (list_all (are_apart x) (ys ++ zs)) _ h) in
+    let rest = apart_parts xs ys zs (and_second (list_all (are_apart x) (ys ++ zs)) _ h) in (
       ap (λ b. b && list_all (λ (x : Location). list_all (are_apart x) ys) xs) first.0 ∙ rest.0,
       ap (λ b. b && list_all (λ (x : Location). list_all (are_apart x) zs) xs) first.1 ∙ rest.1,
     )
@@ -86,8 +82,8 @@ apart_parts (x ∷ xs) ys zs h =
 pub one_flip : (xs : List Location) (y : Location) → AllApart xs (y ∷ []) → list_all (are_apart y) xs ≡ true
 one_flip [] y h = refl
 one_flip (x ∷ xs) y h =
-    ap (λ b. b && list_all (are_apart y) xs) (apart_flip x y (and_left (are_apart x y) true (and_left (list_all (are_apart x) (y ∷ [])) _ h)))
-    ∙ one_flip xs y (and_right (list_all (are_apart x) (y ∷ [])) _ h)
+    ap (λ b. b && list_all (are_apart y) xs) (apart_flip x y (and_first (are_apart x y) true (and_first (list_all (are_apart x) (y ∷ [])) _ h)))
+    ∙ one_flip xs y (and_second (list_all (are_apart x) (y ∷ [])) _ h)
 
 pub live_older : (depth : ℕ) (root : Root) → is_live depth root ≡ true → is_older (depth + 1) root ≡ true
 live_older depth state_object h = refl
@@ -118,7 +114,7 @@ input_place : (test : Location → Bool) (passed : List ArgumentValue) (j : ℕ)
     slice_get passed j ≡ Some (by_address p) → test p ≡ true
 input_place test [] j p all h = absurd (cc)
 input_place test (a ∷ passed) zero p all h =
-    and_left (test p) true
+    and_first (test p) true
     (subst (λ arg. list_all test (place_in_arg arg) ≡ true) (same_Some a (by_address p) h)
     (all_front test (place_in_arg a) (places_in_args passed) all).0)
 input_place test (a ∷ passed) (suc j) p all h = input_place test passed j p (all_front test (place_in_arg a) (places_in_args passed) all).1 h

@@ -5,6 +5,7 @@ use Rattle.std.proofs.lemmas.Bool.{eq-eqb}
 use Rattle.std.proofs.lemmas.Option.{same_Some}
 use Rattle.std.proofs.lemmas.Slice.Eq.{bytes_eq-Decides}
 use Rattle.std.specs.Prelude.{bytes_eq, slice_get, ◌==◌, if◌then◌else◌}
+use Rattle.bl_tree.proofs.Basics.{and_false}
 use Rattle.bl_tree.specs.declared.c.CParam.{CParam}
 use Rattle.bl_tree.specs.declared.text.Text.{Text}
 use Rattle.bl_tree.specs.declared.tree.StructDef.{StructDef}
@@ -15,10 +16,6 @@ use Rattle.bl_ctext_semantics.specs.Tables.{found}
 use Rattle.bl_emit_acts.specs.Types.{variable_name}
 use Rattle.bl_emit_functions.specs.Functions.{params_from}
 use Rattle.bl_emit_acts_laws_simulation.proofs.NumberedNames.{names_differ}
-
-and_false : (b : Bool) → (b && false) ≡ false
-and_false true = refl
-and_false false = refl
 
 pub own_differ : (depth : ℕ) (m n : List ℕ) → bytes_eq m n ≡ false → same_root (variable depth m) (variable depth n) ≡ false
 own_differ depth m n h = ap (λ b. (depth == depth) && b) h ∙ and_false (depth == depth)

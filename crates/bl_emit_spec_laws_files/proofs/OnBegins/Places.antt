@@ -5,11 +5,11 @@ use Rattle.std.proofs.Common.{Some, refl, sym, ap, ap₂, ◌∙◌}
 use Rattle.std.proofs.lemmas.Bool.{eqb-true, ltb-true}
 use Rattle.std.specs.Prelude.{◌==◌, bytes_eq, codes, is_some, slice_get}
 use Rattle.std.specs.List.{list_all}
+use Rattle.bl_tree.proofs.Basics.{and_first, and_second}
 use Rattle.bl_tree.specs.declared.tree.Var.{Var}
 use Rattle.bl_tree.specs.declared.value.Value.{Value}
 use Rattle.bl_tree.specs.Program.{parameters_of, roles_stand}
 use Rattle.bl_tree.specs.Typing.{TypingContext, is_activity, var_at}
-use Rattle.bl_eval.proofs.PassLemmas.{and_left, and_right}
 use Rattle.bl_ctext_semantics.specs.Meaning.{ArgumentValue, Meaning, Scope, by_address}
 use Rattle.bl_ctext_semantics.specs.Memory.{Location, Memory, Root, input_object, output_object, same_root, state_object, variable}
 use Rattle.bl_ctext_semantics.specs.Tables.{Table}
@@ -92,7 +92,7 @@ module _ (a : Activity) (standing : roles_stand a.unit ≡ true) (active : is_ac
   Later = Memories ++ (given.outputs ++ Ends)
 
   frame_all : list_all (are_apart given.frame) Later ≡ true
-  frame_all = and_left (list_all (are_apart given.frame) Later) (all_apart Later) may.apart
+  frame_all = and_first (list_all (are_apart given.frame) Later) (all_apart Later) may.apart
 
   frame_memory : list_all (are_apart given.frame) Memories ≡ true
   frame_memory = (all_front (are_apart given.frame) Memories (given.outputs ++ Ends) frame_all).0
@@ -113,7 +113,7 @@ module _ (a : Activity) (standing : roles_stand a.unit ≡ true) (active : is_ac
       one_where (are_apart given.frame) (unit_may_end a.unit) given.over ends (all_front (are_apart given.frame) Results Overs frame_ends).1
 
   later_parts : AllApart Memories (given.outputs ++ Ends) × (all_apart Memories ≡ true) × (all_apart (given.outputs ++ Ends) ≡ true)
-  later_parts = apart_split Memories (given.outputs ++ Ends) (and_right (list_all (are_apart given.frame) Later) (all_apart Later) may.apart)
+  later_parts = apart_split Memories (given.outputs ++ Ends) (and_second (list_all (are_apart given.frame) Later) (all_apart Later) may.apart)
 
   memory_parts : AllApart Memories given.outputs × AllApart Memories Ends
   memory_parts = apart_parts Memories given.outputs Ends later_parts.0
@@ -133,7 +133,7 @@ module _ (a : Activity) (standing : roles_stand a.unit ≡ true) (active : is_ac
   -- a test of all that may be written
   module _ (test : Location → Bool) (all : list_all test (written_by a.unit (remembers_any a) given) ≡ true) where
     later : list_all test Later ≡ true
-    later = and_right (test given.frame) (list_all test Later) all
+    later = and_second (test given.frame) (list_all test Later) all
 
     behind : list_all test (given.outputs ++ Ends) ≡ true
     behind = (all_front test Memories (given.outputs ++ Ends) later).1
@@ -142,7 +142,7 @@ module _ (a : Activity) (standing : roles_stand a.unit ≡ true) (active : is_ac
     ends = (all_front test given.outputs Ends behind).1
 
     for_frame : test given.frame ≡ true
-    for_frame = and_left (test given.frame) (list_all test Later) all
+    for_frame = and_first (test given.frame) (list_all test Later) all
 
     for_memory : remembers ≡ true → test given.memory ≡ true
     for_memory is = one_where test remembers given.memory is (all_front test Memories (given.outputs ++ Ends) later).0

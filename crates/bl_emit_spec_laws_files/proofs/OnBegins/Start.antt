@@ -7,6 +7,7 @@ use Rattle.std.proofs.lemmas.List.{append-nil}
 use Rattle.std.proofs.lemmas.Option.{same_Some}
 use Rattle.std.specs.Prelude.{nat_eq, option_map, if◌then◌else◌}
 use Rattle.std.specs.List.{list_all, list_any}
+use Rattle.bl_tree.proofs.Basics.{and_first, and_second, and_true}
 use Rattle.bl_tree.specs.declared.c.CExpr.{CExpr}
 use Rattle.bl_tree.specs.declared.c.CPlace.{CPlace}
 use Rattle.bl_tree.specs.declared.scalar.Op.TheVariants.{Eq}
@@ -17,7 +18,6 @@ use Rattle.bl_tree.specs.Numbers.{number_of}
 use Rattle.bl_tree.specs.Typing.{TypingContext}
 use Rattle.bl_graph_nodes.specs.Nodes.{Node, entry}
 use Rattle.bl_graph_nodes.specs.Plain.{Block, Done, Plain, Then}
-use Rattle.bl_eval.proofs.PassLemmas.{and_left, and_right}
 use Rattle.bl_ctext_semantics.specs.Meaning.{Scope, block_c, location_c, named_location, runs_c, value_c}
 use Rattle.bl_ctext_semantics.specs.Memory.{CValue, Location, Memory, Projection, Root, left_after, number_or, scalar_number, set_at, value_at}
 use Rattle.bl_ctext_semantics.specs.Memory.{with_part}
@@ -79,10 +79,6 @@ at_other k x f j h = ap (λ b. if b then x else f j) h
 
 at_own : {X : Type 0} (k : ℕ) (x : X) (f : ℕ → X) → with_at k x f k ≡ x
 at_own k x f = ap (λ b. if b then x else f k) (eq-eqb k k refl)
-
-and_true : (b : Bool) → (b && true) ≡ b
-and_true true = refl
-and_true false = refl
 
 -- memory in the middle of the start: it holds registers and variables, and what was there before the function began is as it was
 pub record Stands (has : Registered) (site : TypingContext) (scope : Scope) (now : List Value) (begun : Memory) (r : Registers) (m : Memory) : Type 0 where
@@ -163,14 +159,14 @@ module _ (has : Registered) (site : TypingContext) (scope : Scope) (apart : Regi
       GoesTo (Mid (with_rested ks r)) (block_c (map rested_code ks) scope m)
   rested_goes [] r m counters copied stands = (refl, stands)
   rested_goes (k ∷ ks) r m counters copied stands =
-      let counted : has.counters k ≡ true = and_left (has.counters k) (list_all has.counters ks) counters in
+      let counted : has.counters k ≡ true = and_first (has.counters k) (list_all has.counters ks) counters in
       then_goes scope (rested_code k ∷ []) (map rested_code ks) m (Mid (with_rested (k ∷ []) r)) (Mid (with_rested (k ∷ ks) r))
       (set_goes m r (with_rested (k ∷ []) r) (Before k) (rested_name k) (value_at m (register_at has scope (Counter k))) (rested_place k)
-      (c_read (counter_place k)) (and_left (has.copied k) (list_all has.copied ks) copied) refl (local_answer scope m (rested_name k))
+      (c_read (counter_place k)) (and_first (has.copied k) (list_all has.copied ks) copied) refl (local_answer scope m (rested_name k))
       (read_answer scope m (counter_place k) (register_at has scope (Counter k)) (counter_answer scope m k))
       (rested_sets k r (scalar_number (value_at m (register_at has scope (Counter k)))) (stands.hold.each (Counter k) counted)) stands)
-      (λ m' next. rested_goes ks (with_rested (k ∷ []) r) m' (and_right (has.counters k) (list_all has.counters ks) counters)
-      (and_right (has.copied k) (list_all has.copied ks) copied) next)
+      (λ m' next. rested_goes ks (with_rested (k ∷ []) r) m' (and_second (has.counters k) (list_all has.counters ks) counters)
+      (and_second (has.copied k) (list_all has.copied ks) copied) next)
 
   -- ---- the flag of the entry
 

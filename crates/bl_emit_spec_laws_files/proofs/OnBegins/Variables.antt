@@ -6,6 +6,7 @@ use Rattle.std.proofs.Math.Seq.{take-add}
 use Rattle.std.proofs.lemmas.List.{append-nil}
 use Rattle.std.proofs.lemmas.Option.{same_Some}
 use Rattle.std.specs.Prelude.{option_and_then, slice_get}
+use Rattle.bl_tree.proofs.Basics.{get_taken}
 use Rattle.bl_tree.specs.declared.tree.StructDef.{StructDef}
 use Rattle.bl_tree.specs.declared.tree.Ty.{Ty}
 use Rattle.bl_tree.specs.declared.tree.Unit.{Unit as UnitDef}
@@ -15,7 +16,6 @@ use Rattle.bl_tree.specs.declared.value.Value.TheOpen.{Value-F}
 use Rattle.bl_tree.specs.Program.{parameters_of, roles_stand}
 use Rattle.bl_tree.specs.Typing.{TypingContext, is_activity, var_at}
 use Rattle.bl_eval.specs.Values.{number_at as number_level, number_in, parts_at, value_at as value_within}
-use Rattle.bl_eval.proofs.PassLemmas.{get_take}
 use Rattle.bl_ctext_semantics.specs.Meaning.{ArgumentValue, Meaning, Scope, by_address, by_value, further}
 use Rattle.bl_ctext_semantics.specs.Memory.{CValue, Location, Memory, member, value_at, variable, without_frame}
 use Rattle.bl_ctext_semantics.specs.Memory as memory
@@ -155,7 +155,7 @@ module _ (a : Activity) (standing : roles_stand a.unit ≡ true) (active : is_ac
 front_values : (unit : UnitDef) (now : List Value) (j : ℕ) → j < unit.inputs + unit.outputs →
     slice_get (take unit.inputs now ++ take unit.outputs (drop unit.inputs now)) j ≡ slice_get now j
 front_values unit now j less =
-    ap (λ (all : List Value). slice_get all j) (sym (take-add unit.inputs unit.outputs now)) ∙ get_take now (unit.inputs + unit.outputs) j less
+    ap (λ (all : List Value). slice_get all j) (sym (take-add unit.inputs unit.outputs now)) ∙ get_taken now (unit.inputs + unit.outputs) j less
 
 pub variables_begin_all : (structs : List StructDef) (units : List UnitDef) (entry : ℕ) → AcceptedIsOrderly → HandsOver structs units entry →
     CallsKeepFrame →

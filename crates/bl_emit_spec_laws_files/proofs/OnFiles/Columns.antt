@@ -4,6 +4,7 @@ use Rattle.std.proofs.Common.{ap₂, ◌∙◌}
 use Rattle.std.proofs.lemmas.Option.{same_Some}
 use Rattle.std.specs.List.{list_all}
 use Rattle.std.specs.Prelude.{filter_map, is_some, unwrap_or}
+use Rattle.bl_tree.proofs.Basics.{and_first, and_second}
 use Rattle.bl_tree.specs.declared.c.CMember.{CMember}
 use Rattle.bl_tree.specs.declared.c.CType.TheVariants.{Scalar as OfScalar}
 use Rattle.bl_tree.specs.declared.row.Column.{Column}
@@ -16,7 +17,6 @@ use Rattle.bl_tree.specs.declared.tree.Ty.TheOpen.{Ty-F}
 use Rattle.bl_tree.specs.declared.tree.Var.{Var}
 use Rattle.bl_tree.specs.Ports.{column_type, columns_of}
 use Rattle.bl_tree.specs.Types.{scalar_at, scalar_in}
-use Rattle.bl_eval.proofs.PassLemmas.{and_left, and_right}
 use Rattle.bl_ctext_semantics.specs.Cells.{column_of, column_typed}
 use Rattle.bl_emit_acts.specs.Types.{c_scalar, type_level, type_name}
 use Rattle.bl_emit_spec.specs.Programs.{port_member}
@@ -58,6 +58,6 @@ module _ (structs : List StructDef) (prefix : Text) (behind : (name : Text) → 
   columns (var ∷ vars) scalars =
       filtered column_of (port_member structs prefix var) (map (port_member structs prefix) vars)
       (record { name = var.name; ty = column_type (unwrap_or (scalar_in var.ty) OfBool) })
-      (one_column var (and_left (is_scalar var) (list_all is_scalar vars) scalars))
+      (one_column var (and_first (is_scalar var) (list_all is_scalar vars) scalars))
       ∙ ap (λ rest. record { name = var.name; ty = column_type (unwrap_or (scalar_in var.ty) OfBool) } ∷ rest)
-      (columns vars (and_right (is_scalar var) (list_all is_scalar vars) scalars))
+      (columns vars (and_second (is_scalar var) (list_all is_scalar vars) scalars))

@@ -6,6 +6,7 @@ use Rattle.std.proofs.lemmas.Bool.{le-ltb, ltb-false, ltb-true}
 use Rattle.std.proofs.lemmas.Option.{same_Some}
 use Rattle.std.specs.List.{list_all, range_with_len}
 use Rattle.std.specs.Prelude.{is_some, nat_le, nat_lt, option_and_then, option_map, slice_get, unwrap_or, if◌then◌else◌}
+use Rattle.bl_tree.proofs.Basics.{and_first, and_second, within_at}
 use Rattle.bl_tree.specs.declared.tree.Role.{Role}
 use Rattle.bl_tree.specs.declared.tree.Role.TheVariants.{Fixed, Input, Output, Variable}
 use Rattle.bl_tree.specs.declared.tree.StructDef.{StructDef}
@@ -19,7 +20,6 @@ use Rattle.bl_tree.specs.Types.{scalar_in}
 use Rattle.bl_tree.specs.Typing.{is_activity, var_at}
 use Rattle.bl_tree.specs.Words.{are_distinct, is_name}
 use Rattle.bl_eval.specs.Values.{value_at, zero_of}
-use Rattle.bl_eval.proofs.PassLemmas.{and_left, and_right}
 use Rattle.bl_ctree.specs.declared.instance.Instance.{Instance}
 use Rattle.bl_ctree.specs.declared.instance.Origin.{Origin}
 use Rattle.bl_ctree.specs.Instances.{Setting, expanded, instances_below, runs_of, setting_of, unit_at, unit_of}
@@ -39,7 +39,7 @@ use Rattle.bl_machine_pass_laws_execution.proofs.OnFresh.Lists.{behind_front, ge
 use Rattle.bl_emit_functions_laws_simulation.proofs.OnCalls.Locals.{parameter_role}
 use Rattle.bl_emit_spec_laws.specs.Calls.Built.{Activities, activity_at, site_at, unit_number}
 use Rattle.bl_emit_spec_laws.specs.Calls.Laws.{CompilationContext}
-use Rattle.bl_emit_spec_laws_files.proofs.OnFiles.Lists.{seen_from, there_below}
+use Rattle.bl_emit_spec_laws_files.proofs.OnFiles.Lists.{seen_from}
 
 -- ---- roles
 
@@ -132,14 +132,14 @@ module _ (out : HomesLeadOut) (orderly : AcceptedIsOrderly) (structs : List Stru
 
   pub roles_at : (k : ℕ) (unit : UnitDef) → slice_get units k ≡ Some unit → roles_stand unit ≡ true
   roles_at k unit there =
-      and_left (roles_stand unit) (list_all is_name (names_of unit.vars) && are_distinct (names_of (parameters_of unit)))
-      (and_left _ _ (unit_stands_at structs [] units k unit compiled.well_typed.units_stand there))
+      and_first (roles_stand unit) (list_all is_name (names_of unit.vars) && are_distinct (names_of (parameters_of unit)))
+      (and_first _ _ (unit_stands_at structs [] units k unit compiled.well_typed.units_stand there))
 
   pub distinct_at : (k : ℕ) (unit : UnitDef) → slice_get units k ≡ Some unit → are_distinct (names_of (parameters_of unit)) ≡ true
   distinct_at k unit there =
-      and_right (list_all is_name (names_of unit.vars)) (are_distinct (names_of (parameters_of unit)))
-      (and_right (roles_stand unit) (list_all is_name (names_of unit.vars) && are_distinct (names_of (parameters_of unit)))
-      (and_left _ _ (unit_stands_at structs [] units k unit compiled.well_typed.units_stand there)))
+      and_second (list_all is_name (names_of unit.vars)) (are_distinct (names_of (parameters_of unit)))
+      (and_second (roles_stand unit) (list_all is_name (names_of unit.vars) && are_distinct (names_of (parameters_of unit)))
+      (and_first _ _ (unit_stands_at structs [] units k unit compiled.well_typed.units_stand there)))
 
   -- a variable that an instance remembers is behind the parameters
   module _ (i x : ℕ) (var : Var) (unit : UnitDef) (is : unit_at W i ≡ Some unit) (is_var : var_at (site_at W activities i) x ≡ Some var)
@@ -172,7 +172,7 @@ module _ (out : HomesLeadOut) (orderly : AcceptedIsOrderly) (structs : List Stru
     held_seen s =
         get_mapped (variable_among now_of W s i) (variables_of W i) x
         ∙ ap (option_map (variable_among now_of W s i)) (ap (λ vars. slice_get (range_with_len 0 (length vars)) x) vars_are
-        ∙ range_at 0 (length unit.vars) x (there_below unit.vars x var var_there) ∙ ap Some from_zero)
+        ∙ range_at 0 (length unit.vars) x (within_at unit.vars x var var_there) ∙ ap Some from_zero)
         ∙ ap (λ at. Some (unwrap_or (value_among now_of s at) (Parts []))) own_home
       where
         from_zero : 0 + x ≡ x

@@ -5,6 +5,7 @@ use Rattle.std.proofs.Common.{Option, Some, None, refl, sym, ap, ◌∙◌, subs
 use Rattle.std.proofs.lemmas.Option.{same_Some}
 use Rattle.std.specs.List.{list_all}
 use Rattle.std.specs.Prelude.{codes, Contains, is_none, is_some, slice_get}
+use Rattle.bl_tree.proofs.Basics.{and_first, and_second, contains_at, contains_first, contains_further, contains_mapped}
 use Rattle.bl_tree.specs.declared.c.CType.{CType}
 use Rattle.bl_tree.specs.declared.c.CType.TheVariants.{Scalar as OfScalar, Struct as OfStruct}
 use Rattle.bl_tree.specs.declared.scalar.Scalar.{Scalar as ScalarType}
@@ -19,9 +20,9 @@ use Rattle.bl_tree.specs.Program.{is_entry, parameters_of}
 use Rattle.bl_tree.specs.Types.{scalar_at, scalar_in}
 use Rattle.bl_tree.specs.Typing.{TypingContext, is_activity, outputs_of, var_at}
 use Rattle.bl_eval.specs.Values.{value_fits}
-use Rattle.bl_eval.proofs.PassLemmas.{and_left, and_right, pass_at}
+use Rattle.bl_eval.proofs.PassLemmas.{pass_at}
 use Rattle.bl_ctext_semantics.specs.Faults.{WellFormed, struct_table}
-use Rattle.bl_ctext_semantics.specs.Meaning.{further as further_place}
+use Rattle.bl_ctext_semantics.specs.Meaning.{contains_further as further_place}
 use Rattle.bl_ctext_semantics.specs.Memory.{Location, Memory, Projection, Root, member, output_object, scalar_number, state_object, value_at}
 use Rattle.bl_ctext_semantics.specs.Parts.{Parts}
 use Rattle.bl_ctext_semantics_laws.specs.Fitting.{ValueSpot, walk, whole, whole_spot, whole_type}
@@ -54,9 +55,9 @@ use Rattle.bl_emit_spec_laws_files.specs.States.Cells.{AllCellsKept, CellsKept, 
 use Rattle.bl_emit_spec_laws_files.specs.States.States.{FramesDeclared, RunsFound, StateKept, StatesAreKept, frame_place, memory_of_activity, memory_place}
 use Rattle.bl_emit_spec_laws_files.specs.States.States.{output_place}
 use Rattle.bl_emit_spec_laws_files.proofs.OnStates.Declared.{member_step}
-use Rattle.bl_emit_spec_laws_files.proofs.OnStates.Nested.{StandsAt, along, below, entry_stands, further, here, in_left, in_mapped, in_right, nested, own_unit}
+use Rattle.bl_emit_spec_laws_files.proofs.OnStates.Nested.{StandsAt, along, below, entry_stands, in_left, in_right, nested, own_unit}
 use Rattle.bl_emit_spec_laws_files.proofs.OnStates.Nested.{some_long, unit_there}
-use Rattle.bl_emit_spec_laws_files.proofs.OnStates.Types.{contains_at, leads}
+use Rattle.bl_emit_spec_laws_files.proofs.OnStates.Types.{leads}
 
 -- ---- scalars
 
@@ -102,7 +103,7 @@ middle_all (suc n) m [] all = none m
     none (suc m) = refl
 middle_all (suc n) m (var ∷ vars) all =
     let sum : suc n + m ≡ suc (n + m) = omega arith in
-    middle_all n m vars (and_right (is_scalar var) (list_all is_scalar (take (n + m) vars))
+    middle_all n m vars (and_second (is_scalar var) (list_all is_scalar (take (n + m) vars))
     (subst (λ (k : ℕ). list_all is_scalar (take k (var ∷ vars)) ≡ true) sum all))
 
 -- ---- variables that are held
@@ -120,7 +121,7 @@ held_within site k (first ∷ rest) zero var there held =
     (held_member site.structs site.vars (k + 0) var)) (sym same)
     (subst (λ (b : Bool). Contains (member_of b site.structs site.vars k var) (held_member site.structs site.vars (k + 0) var)) (sym held)
     (subst (λ (n : ℕ). Contains (held_member site.structs site.vars k var ∷ []) (held_member site.structs site.vars n var)) (sym from)
-    (here (held_member site.structs site.vars k var) []))))
+    (contains_first (held_member site.structs site.vars k var) []))))
 held_within site k (first ∷ rest) (suc x) var there held =
     let sum : (k + 1) + x ≡ k + suc x = omega arith in
     in_right (member_of (is_held (home_of site (Some first))) site.structs site.vars k first) (members_from site (k + 1) rest)
@@ -189,7 +190,7 @@ module _ (orderly : AcceptedIsOrderly) (placed : StaysPlaced) (views : ViewsAreT
       let counters = map (counter_member (A k).sizes) (up_to (length (A k).sizes)) in
       let step = member_step file formed (frame_struct (A k)) (counter_member (A k).sizes c) (declared.frames k stands.other stands.is_there)
       (in_left counters (map (frame_member (A k)) (runs_in_body (A k))) (counter_member (A k).sizes c)
-      (in_mapped (counter_member (A k).sizes) (up_to (length (A k).sizes)) c (below (length (A k).sizes) c less))) in
+      (contains_mapped (counter_member (A k).sizes) (up_to (length (A k).sizes)) c (below (length (A k).sizes) c less))) in
       let leading = goes_along f'.parts (member (counter_name c) ∷ []) (whole (OfStruct (frame_struct (A k)).name))
       (whole (OfScalar (counter_type (A k).sizes c))) stands.frame step in
       let way = f'.parts ++ member (counter_name c) ∷ [] in
@@ -280,8 +281,8 @@ module _ (orderly : AcceptedIsOrderly) (placed : StaysPlaced) (views : ViewsAreT
   outputs_scalar : list_all is_scalar (outputs_of unit) ≡ true
   outputs_scalar =
       middle_all unit.inputs unit.outputs unit.vars
-      (and_right (is_none unit.result) (list_all is_scalar (parameters_of unit))
-      (and_right (is_activity unit.kind) (is_none unit.result && list_all is_scalar (parameters_of unit)) entry_so))
+      (and_second (is_none unit.result) (list_all is_scalar (parameters_of unit))
+      (and_second (is_activity unit.kind) (is_none unit.result && list_all is_scalar (parameters_of unit)) entry_so))
 
   output_kept : (memory : Memory) (var : Var) → Contains (outputs_of unit) var → is_scalar var ≡ true → (ks : List ℕ) →
       regained file memory output_object (member (codes "o_" ++ var.name) ∷ way_to structs ks (Some var.ty))
@@ -289,8 +290,8 @@ module _ (orderly : AcceptedIsOrderly) (placed : StaysPlaced) (views : ViewsAreT
   output_kept memory var within scalar ks =
       let found = some_scalar (scalar_in var.ty) scalar in
       let step = member_step file formed (port_struct structs (codes "bl_out") (codes "o_") (outputs_of unit)) (port_member structs (codes "o_") var)
-      declared.outputs (further _ (map (port_member structs (codes "o_")) (outputs_of unit)) (port_member structs (codes "o_") var)
-      (in_mapped (port_member structs (codes "o_")) (outputs_of unit) var within)) in
+      declared.outputs (contains_further _ (map (port_member structs (codes "o_")) (outputs_of unit)) (port_member structs (codes "o_") var)
+      (contains_mapped (port_member structs (codes "o_")) (outputs_of unit) var within)) in
       let typed = step ∙ ap (λ (t : CType). Some (whole t)) (scalar_level (type_name structs var.ty) (out-Ty var.ty) found.0 found.1) in
       let none = scalar_way structs var.ty found.0 found.1 ks in
       ap (λ (way : List Projection). regained file memory output_object (member (codes "o_" ++ var.name) ∷ way)) none
@@ -306,10 +307,10 @@ module _ (orderly : AcceptedIsOrderly) (placed : StaysPlaced) (views : ViewsAreT
   outputs_kept memory (var ∷ vars) (value ∷ values) within scalars holds = (
     record {
       each = λ ks n number.
-          output_kept memory var (within var (here var vars)) (and_left (is_scalar var) (list_all is_scalar vars) scalars) ks
+          output_kept memory var (within var (contains_first var vars)) (and_first (is_scalar var) (list_all is_scalar vars) scalars) ks
           ∙ holds.0.each ks n number;
     },
-    outputs_kept memory vars values (λ v at. within v (further var vars v at)) (and_right (is_scalar var) (list_all is_scalar vars) scalars) holds.1,
+    outputs_kept memory vars values (λ v at. within v (contains_further var vars v at)) (and_second (is_scalar var) (list_all is_scalar vars) scalars) holds.1,
   )
 
   pub state_is_kept : StateKept W activities unit file

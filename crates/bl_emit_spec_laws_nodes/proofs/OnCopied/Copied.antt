@@ -1,11 +1,13 @@
 -- The laws of a whole program.
-use Rattle.std.proofs.Common.{◌≡◌, ◌⊎◌, inl, inr, ⊎_elim, ℕ, zero, suc, ◌<◌, arith, Bool, true, false, ◌&&◌, ◌||◌}
+use Rattle.std.proofs.Common.{◌≡◌, ◌⊎◌, ⊎_elim, ℕ, zero, suc, ◌<◌, arith, Bool, true, false, ◌&&◌, ◌||◌}
 use Rattle.std.proofs.Common.{List, [], ◌∷◌, ◌++◌, Contains, map, take, length, Some, refl, sym, ap, ◌∙◌, subst, append_assoc}
 use Rattle.std.proofs.lemmas.Bool.{eq-eqb}
 use Rattle.std.proofs.lemmas.List.{append-nil, length-append}
 use Rattle.std.proofs.lemmas.Option.{same_Some}
 use Rattle.std.specs.List.{list_all, list_any}
 use Rattle.std.specs.Prelude.{is_some, nat_eq, slice_get, slice_index_or, unwrap_or}
+use Rattle.std.proofs.lemmas.Bool.{and_from, or_left, or_right}
+use Rattle.bl_tree.proofs.Basics.{and_first, and_second, below_or_last}
 use Rattle.bl_tree.specs.declared.place.Place.{Place}
 use Rattle.bl_tree.specs.declared.tree.Stmt.{Stmt}
 use Rattle.bl_tree.specs.declared.tree.StructDef.{StructDef}
@@ -18,7 +20,6 @@ use Rattle.bl_tree.specs.Returns.{unit_returns}
 use Rattle.bl_tree.specs.Types.{type_stands}
 use Rattle.bl_tree.specs.Typing.{TypingContext, fits, site_of}
 use Rattle.bl_tree.specs.Words.{are_distinct, is_name}
-use Rattle.bl_eval.proofs.PassLemmas.{and_left, and_right, both}
 use Rattle.bl_machine.specs.Blocks.{up_to}
 use Rattle.bl_graph_nodes.specs.Nodes.{Arguments, EnterAt, Node, nodes_in}
 use Rattle.bl_graph_nodes.specs.Plain.{Label, plain_body}
@@ -39,17 +40,17 @@ unit_after structs earlier [] k unit stand there = absurd (cc)
 unit_after structs earlier (first ∷ units) zero unit stand there =
     subst (λ earlier. unit_stands structs earlier unit ≡ true) (sym (append-nil earlier))
     (subst (λ unit. unit_stands structs earlier unit ≡ true) (same_Some first unit there)
-    (and_left (unit_stands structs earlier first) (units_stand_after structs (earlier ++ first ∷ []) units) stand))
+    (and_first (unit_stands structs earlier first) (units_stand_after structs (earlier ++ first ∷ []) units) stand))
 unit_after structs earlier (first ∷ units) (suc k) unit stand there =
     subst (λ earlier. unit_stands structs earlier unit ≡ true) (append_assoc earlier (first ∷ []) (take k units))
     (unit_after structs (earlier ++ first ∷ []) units k unit
-    (and_right (unit_stands structs earlier first) (units_stand_after structs (earlier ++ first ∷ []) units) stand) there)
+    (and_second (unit_stands structs earlier first) (units_stand_after structs (earlier ++ first ∷ []) units) stand) there)
 
 all_listed : (test : Stmt → Bool) (body : List Stmt) → list_all test body ≡ true → all_of (map test body) ≡ true
 all_listed test [] all = refl
 all_listed test (s ∷ body) all =
-    both (test s) (all_of (map test body)) (and_left (test s) (list_all test body) all)
-    (all_listed test body (and_right (test s) (list_all test body) all))
+    and_from (test s) (all_of (map test body)) (and_first (test s) (list_all test body) all)
+    (all_listed test body (and_second (test s) (list_all test body) all))
 
 body_fits : (structs : List StructDef) (earlier : List UnitDef) (unit : UnitDef) → unit_stands structs earlier unit ≡ true →
     all_of (map (fits (site_of structs earlier unit)) unit.body) ≡ true
@@ -59,7 +60,7 @@ body_fits structs earlier unit stands =
     let typed : Bool = list_all (λ var. type_stands (length structs) var.ty) unit.vars in
     let named : Bool = roles_stand unit && (list_all is_name (names_of unit.vars) && are_distinct (names_of (parameters_of unit))) in
     all_listed (fits (site_of structs earlier unit)) unit.body
-    (and_left fitted last (and_right typed (fitted && last) (and_right named (typed && (fitted && last)) stands)))
+    (and_first fitted last (and_second typed (fitted && last) (and_second named (typed && (fitted && last)) stands)))
 
 -- ---- copies
 
@@ -67,19 +68,11 @@ body_fits structs earlier unit stands =
 abbrev among : List ℕ → ℕ → Bool
 among ks k = list_any (nat_eq k) ks
 
-first_holds : (a b : Bool) → a ≡ true → (a || b) ≡ true
-first_holds true b h = refl
-first_holds false b h = absurd (cc)
-
-second_holds : (a b : Bool) → b ≡ true → (a || b) ≡ true
-second_holds true b h = refl
-second_holds false b h = h
-
 more_among : (ks before : List ℕ) → ((k : ℕ) → among ks k ≡ true → among before k ≡ true) → list_all (among before) ks ≡ true
 more_among [] before all = refl
 more_among (k ∷ ks) before all =
-    both (among before k) (list_all (among before) ks) (all k (first_holds (nat_eq k k) (among ks k) (eq-eqb k k refl)))
-    (more_among ks before (λ j is. all j (second_holds (nat_eq j k) (among ks j) is)))
+    and_from (among before k) (list_all (among before) ks) (all k (or_left (nat_eq k k) (among ks k) (eq-eqb k k refl)))
+    (more_among ks before (λ j is. all j (or_right (nat_eq j k) (among ks j) is)))
 
 all_among : (ks : List ℕ) → list_all (among ks) ks ≡ true
 all_among ks = more_among ks ks (λ k is. is)
@@ -98,13 +91,6 @@ get_last [] x zero is = refl
 get_last [] x (suc k) is = absurd (omega (arith, is))
 get_last (y ∷ xs) x zero is = absurd (omega (arith, is))
 get_last (y ∷ xs) x (suc k) is = get_last xs x k (omega (arith, is))
-
-below_or_last : (k n : ℕ) → k < suc n → (k < n) ⊎ (k ≡ n)
-below_or_last zero zero below = inr refl
-below_or_last zero (suc n) below = inl (omega arith)
-below_or_last (suc k) zero below = absurd (omega (arith, below))
-below_or_last (suc k) (suc n) below = ⊎_elim (λ less. inl (omega (arith, less))) (λ is. inr (ap suc is))
-    (below_or_last k n (omega (arith, below)))
 
 get_up_to : (n k : ℕ) → k < n → slice_get (up_to n) k ≡ Some k
 get_up_to zero k below = absurd (omega (arith, below))
@@ -136,9 +122,9 @@ all_at : (test : Node → Bool) (nodes : List Node) (position : ℕ) (n : Node) 
     test n ≡ true
 all_at test [] position n all there = absurd (cc)
 all_at test (first ∷ nodes) zero n all there =
-    subst (λ n. test n ≡ true) (same_Some first n there) (and_left (test first) (list_all test nodes) all)
+    subst (λ n. test n ≡ true) (same_Some first n there) (and_first (test first) (list_all test nodes) all)
 all_at test (first ∷ nodes) (suc position) n all there =
-    all_at test nodes position n (and_right (test first) (list_all test nodes) all) there
+    all_at test nodes position n (and_second (test first) (list_all test nodes) all) there
 
 get_there : {A : Type 0} (xs : List A) (k : ℕ) (x : A) → k < length xs → slice_index_or xs k x ≡ x → slice_get xs k ≡ Some x
 get_there [] k x below is = absurd (omega (arith, below))
@@ -155,7 +141,7 @@ all_fine structs units entry k unit keeps there =
 pub nodes_copied : NodesCopied
 nodes_copied structs units entry k position unit n keeps there node =
     let copied = is_copied (copies_of unit) in
-    and_left (copied_there copied n) (run_there copied n)
+    and_first (copied_there copied n) (run_there copied n)
     (all_at (is_fine copied) (nodes_in (plain_body unit.body)) position n (all_fine structs units entry k unit keeps there) node)
 
 -- ---- runs
@@ -165,7 +151,7 @@ runs_there : (structs : List StructDef) (units : List UnitDef) (entry k : ℕ) (
     run_copied (is_copied (copies_of unit)) arguments ≡ true
 runs_there structs units entry k unit l at arguments keeps there node =
     let copied = is_copied (copies_of unit) in
-    and_right (copied_there copied (EnterAt l at arguments)) (run_there copied (EnterAt l at arguments))
+    and_second (copied_there copied (EnterAt l at arguments)) (run_there copied (EnterAt l at arguments))
     (all_at (is_fine copied) (nodes_in (plain_body unit.body)) node.0 (EnterAt l at arguments)
     (all_fine structs units entry k unit keeps there)
     (get_there (nodes_in (plain_body unit.body)) node.0 (EnterAt l at arguments) node.1 node.2))
@@ -174,10 +160,10 @@ pub runs_copied : RunsCopied
 runs_copied structs units entry keeps = record {
   inputs = λ k unit l at arguments there node.
       let copied = is_copied (copies_of unit) in
-      and_left (all_of (map (copied_in copied) arguments.inputs)) (all_of (map (copied_in_path copied) arguments.outputs))
+      and_first (all_of (map (copied_in copied) arguments.inputs)) (all_of (map (copied_in_path copied) arguments.outputs))
       (runs_there structs units entry k unit l at arguments keeps there node);
   outputs = λ k unit l at arguments there node.
       let copied = is_copied (copies_of unit) in
-      and_right (all_of (map (copied_in copied) arguments.inputs)) (all_of (map (copied_in_path copied) arguments.outputs))
+      and_second (all_of (map (copied_in copied) arguments.inputs)) (all_of (map (copied_in_path copied) arguments.outputs))
       (runs_there structs units entry k unit l at arguments keeps there node);
 }

@@ -6,6 +6,8 @@ use Rattle.std.proofs.lemmas.List.{append-nil}
 use Rattle.std.proofs.lemmas.Option.{same_Some}
 use Rattle.std.specs.List.{list_all}
 use Rattle.std.specs.Prelude.{slice_get}
+use Rattle.std.proofs.lemmas.Bool.{and_from}
+use Rattle.bl_tree.proofs.Basics.{and_first, and_second, contains_at}
 use Rattle.bl_tree.specs.declared.tree.Stmt.{Stmt, out-Stmt}
 use Rattle.bl_tree.specs.declared.tree.StmtKind.{out-StmtKind}
 use Rattle.bl_tree.specs.declared.tree.StructDef.{StructDef}
@@ -20,7 +22,6 @@ use Rattle.bl_tree.specs.Typing.{TypingContext, fits, is_inhabited, site_of}
 use Rattle.bl_tree.specs.Words.{are_distinct, is_name}
 use Rattle.bl_tree.specs.declared.rule.Rule.TheVariants as rule
 use Rattle.bl_effects.specs.Rules.{Aliased, Passes, aliases_in}
-use Rattle.bl_eval.proofs.PassLemmas.{and_left, and_right, both}
 use Rattle.bl_graph_nodes.specs.Nodes.{ActAt, Node, nodes_in}
 use Rattle.bl_graph_nodes.specs.Plain.{plain_body}
 use Rattle.bl_emit_acts_laws_simulation.specs.Laws.{overlaps_in}
@@ -36,17 +37,17 @@ unit_after structs earlier [] k unit stand there = absurd (cc)
 unit_after structs earlier (first ∷ units) zero unit stand there =
     subst (λ earlier. unit_stands structs earlier unit ≡ true) (sym (append-nil earlier))
     (subst (λ unit. unit_stands structs earlier unit ≡ true) (same_Some first unit there)
-    (and_left (unit_stands structs earlier first) (units_stand_after structs (earlier ++ first ∷ []) units) stand))
+    (and_first (unit_stands structs earlier first) (units_stand_after structs (earlier ++ first ∷ []) units) stand))
 unit_after structs earlier (first ∷ units) (suc k) unit stand there =
     subst (λ earlier. unit_stands structs earlier unit ≡ true) (append_assoc earlier (first ∷ []) (take k units))
     (unit_after structs (earlier ++ first ∷ []) units k unit
-    (and_right (unit_stands structs earlier first) (units_stand_after structs (earlier ++ first ∷ []) units) stand) there)
+    (and_second (unit_stands structs earlier first) (units_stand_after structs (earlier ++ first ∷ []) units) stand) there)
 
 all_listed : (test : Stmt → Bool) (body : List Stmt) → list_all test body ≡ true → all_of (map test body) ≡ true
 all_listed test [] all = refl
 all_listed test (s ∷ body) all =
-    both (test s) (all_of (map test body)) (and_left (test s) (list_all test body) all)
-    (all_listed test body (and_right (test s) (list_all test body) all))
+    and_from (test s) (all_of (map test body)) (and_first (test s) (list_all test body) all)
+    (all_listed test body (and_second (test s) (list_all test body) all))
 
 body_fits : (structs : List StructDef) (earlier : List UnitDef) (unit : UnitDef) → unit_stands structs earlier unit ≡ true →
     all_of (map (fits (site_of structs earlier unit)) unit.body) ≡ true
@@ -56,17 +57,9 @@ body_fits structs earlier unit stands =
     let typed : Bool = list_all (λ var. type_stands (length structs) var.ty) unit.vars in
     let named : Bool = roles_stand unit && (list_all is_name (names_of unit.vars) && are_distinct (names_of (parameters_of unit))) in
     all_listed (fits (site_of structs earlier unit)) unit.body
-    (and_left fitted last (and_right typed (fitted && last) (and_right named (typed && (fitted && last)) stands)))
+    (and_first fitted last (and_second typed (fitted && last) (and_second named (typed && (fitted && last)) stands)))
 
 -- ---- rule Alias
-
-index_there : {A : Type 0} (xs : List A) (k : ℕ) (x : A) → slice_get xs k ≡ Some x → Contains xs x
-index_there [] k x there = absurd (cc)
-index_there (y ∷ xs) zero x there = (0, omega arith, same_Some y x there)
-index_there (y ∷ xs) (suc k) x there =
-    let found = index_there xs k x there in
-    let less : found.0 < length xs = found.1 in
-    (suc found.0, omega (arith, less), found.2)
 
 none_overlap : (units : List UnitDef) (k : ℕ) (unit : UnitDef) → Passes units → slice_get units k ≡ Some unit →
     joined (map aliases_in unit.body) ≡ []
@@ -78,7 +71,7 @@ none_overlap units k unit passes there = by (joined (map aliases_in unit.body)) 
         absurd (passes rule.Alias one.at (one.also ∷ [])
         (record {
           unit = unit;
-          is_there = index_there units k unit there;
+          is_there = contains_at units k unit there;
           aliased = one;
           fails = subst (λ (all : List Aliased). Contains all one) (sym is) (0, omega arith, refl);
           at_one = refl;
@@ -91,9 +84,9 @@ all_at : (site : TypingContext) (nodes : List Node) (position : ℕ) (n : Node) 
     is_fine site n ≡ true
 all_at site [] position n all there = absurd (cc)
 all_at site (first ∷ nodes) zero n all there =
-    subst (λ n. is_fine site n ≡ true) (same_Some first n there) (and_left (is_fine site first) (list_all (is_fine site) nodes) all)
+    subst (λ n. is_fine site n ≡ true) (same_Some first n there) (and_first (is_fine site first) (list_all (is_fine site) nodes) all)
 all_at site (first ∷ nodes) (suc position) n all there =
-    all_at site nodes position n (and_right (is_fine site first) (list_all (is_fine site) nodes) all) there
+    all_at site nodes position n (and_second (is_fine site first) (list_all (is_fine site) nodes) all) there
 
 node_fine : (structs : List StructDef) (units : List UnitDef) (entry k position : ℕ) (unit : UnitDef) (n : Node) → IsWellTyped structs units entry →
     Passes units → slice_get units k ≡ Some unit → slice_get (nodes_in (plain_body unit.body)) position ≡ Some n →
@@ -107,7 +100,7 @@ node_fine structs units entry k position unit n keeps passes there node =
 pub nodes_fit : (structs : List StructDef) (units : List UnitDef) (entry : ℕ) → NodesFit structs units entry
 nodes_fit structs units entry k position unit n keeps passes there node =
     let site = site_of structs (take k units) unit in
-    and_left (fits_there site n) (apart_there n) (node_fine structs units entry k position unit n keeps passes there node)
+    and_first (fits_there site n) (apart_there n) (node_fine structs units entry k position unit n keeps passes there node)
 
 nothing_there : {A : Type 0} (xs : List A) → not (is_inhabited xs) ≡ true → xs ≡ []
 nothing_there [] h = refl
@@ -117,5 +110,5 @@ pub nodes_apart : (structs : List StructDef) (units : List UnitDef) (entry : ℕ
 nodes_apart structs units entry keeps passes k position unit l s there node =
     let site = site_of structs (take k units) unit in
     nothing_there (overlaps_in (out-StmtKind (out-Stmt s).what))
-    (and_right (fits_there site (ActAt l s)) (apart_there (ActAt l s))
+    (and_second (fits_there site (ActAt l s)) (apart_there (ActAt l s))
     (node_fine structs units entry k position unit (ActAt l s) keeps passes there node))

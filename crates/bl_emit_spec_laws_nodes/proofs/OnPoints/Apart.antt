@@ -4,6 +4,7 @@ use Rattle.std.proofs.Common.{refl, sym, ap, ◌∙◌, append_assoc}
 use Rattle.std.proofs.lemmas.Bool.{eqb-true, ltb-true}
 use Rattle.std.proofs.lemmas.List.{append-nil}
 use Rattle.std.specs.Prelude.{bytes_eq, is_some, ◌==◌, if◌then◌else◌}
+use Rattle.std.proofs.lemmas.Bool.{or_right}
 use Rattle.bl_tree.specs.Typing.{TypingContext}
 use Rattle.bl_ctext_semantics.specs.Meaning.{Scope, further}
 use Rattle.bl_ctext_semantics.specs.Memory.{Location, Memory, Projection, Root, input_object, left_after, member, output_object, same_part}
@@ -20,7 +21,7 @@ use Rattle.bl_emit_spec_laws.specs.Calls.Built.{Activities, run_by}
 use Rattle.bl_emit_spec_laws.specs.Calls.Memories as memories
 use Rattle.bl_emit_spec_laws.specs.Calls.Memories.{Nests, inner}
 use Rattle.bl_emit_spec_laws.specs.Calls.Invariant.{PlaceIsSeparate}
-use Rattle.bl_emit_spec_laws_nodes.proofs.OnPoints.Cells.{apart_flip, behind_front, left_apart, or_last, ways_flip, ways_further}
+use Rattle.bl_emit_spec_laws_nodes.proofs.OnPoints.Cells.{apart_flip, behind_front, left_apart, ways_flip, ways_further}
 
 -- ---- roots
 
@@ -114,7 +115,7 @@ module _ (scope : Scope) (has : Registered) where
       are_apart (register_at has scope x) (further (frame_at scope) (member (callee_name n) ∷ more)) ≡ true
   register_inner may_end same frame n more (Counter k) its =
       let start = frame_at scope in
-      or_last (not (same_root start.root start.root))
+      or_right (not (same_root start.root start.root))
       (ways_part (start.parts ++ member (counter_name k) ∷ []) (start.parts ++ (member (callee_name n) ∷ more)))
       (behind_front start.parts (member (counter_name k) ∷ []) (member (callee_name n) ∷ more))
   register_inner may_end same frame n more (Before k) its =

@@ -10,10 +10,6 @@ use Rattle.bl_ctext_semantics.specs.Memory.{same_root, state_object, variable}
 use Rattle.bl_emit_acts_laws_simulation.specs.Acts.{lies_in}
 use Rattle.bl_emit_acts_laws_simulation.specs.Encodes.{are_apart, ways_part}
 
-pub or_last : (a b : Bool) → b ≡ true → (a || b) ≡ true
-or_last true b h = refl
-or_last false b h = h
-
 -- ---- the other way round
 
 same_number_flip : (j k : ℕ) → (j == k) ≡ (k == j)

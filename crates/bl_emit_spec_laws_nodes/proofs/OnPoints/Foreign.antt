@@ -3,6 +3,7 @@ use Rattle.std.proofs.Common.{◌≡◌, ℕ, ◌<◌, arith, Bool, true, false,
 use Rattle.std.proofs.Common.{◌∷◌, ◌++◌, Some, refl, sym, ap, ◌∙◌}
 use Rattle.std.proofs.lemmas.Bool.{le-leb, ltb-true}
 use Rattle.std.specs.Prelude.{is_some}
+use Rattle.std.proofs.lemmas.Bool.{or_right}
 use Rattle.bl_tree.specs.declared.text.Text.{Text}
 use Rattle.bl_tree.specs.declared.tree.Unit.{Unit as UnitDef}
 use Rattle.bl_tree.specs.declared.tree.Var.{Var}
@@ -21,7 +22,7 @@ use Rattle.bl_emit_spec_laws.specs.Registers.Registers.{Register, RegistersApart
 use Rattle.bl_emit_spec_laws.specs.Calls.Laws.{PassOutside}
 use Rattle.bl_emit_spec_laws.specs.Calls.Invariant.{PlacesAreSeparate, result_at_c}
 use Rattle.bl_emit_spec_laws_nodes.proofs.OnPoints.Apart.{first_further, last_further, lies_apart, lies_further, older_differs}
-use Rattle.bl_emit_spec_laws_nodes.proofs.OnPoints.Cells.{apart_flip, behind_front, or_last}
+use Rattle.bl_emit_spec_laws_nodes.proofs.OnPoints.Cells.{apart_flip, behind_front}
 
 older_live : (depth : ℕ) (root : Root) → is_older depth root ≡ true → is_live depth root ≡ true
 older_live depth state_object h = refl
@@ -109,7 +110,7 @@ module _ (site : TypingContext) (unit : UnitDef) (remembers : Bool) (scope : Sco
       foreign_older (further start (member (callee_name n) ∷ more)) (places.memory its).older
       (λ k var there is. first_further start (lent_at scope site.vars k) (member (callee_name n) ∷ more) ((places.memory its).lent k var there is))
       (λ k var there is.
-      or_last (not (same_root start.root start.root))
+      or_right (not (same_root start.root start.root))
       (ways_part (start.parts ++ member (variable_name site.vars k) ∷ []) (start.parts ++ (member (callee_name n) ∷ more)))
       (behind_front start.parts (member (variable_name site.vars k) ∷ []) (member (callee_name n) ∷ more)))
 

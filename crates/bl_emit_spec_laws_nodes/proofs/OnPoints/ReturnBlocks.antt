@@ -4,6 +4,7 @@ use Rattle.std.proofs.Common.{None, refl, sym, ap, ◌∙◌, subst, IfSome}
 use Rattle.std.proofs.lemmas.Option.{same_Some}
 use Rattle.std.specs.Prelude.{is_some, nat_eq, option_map, pos, slice_get, unwrap_or}
 use Rattle.std.specs.List.{list_any}
+use Rattle.bl_tree.proofs.Basics.{and_first}
 use Rattle.bl_tree.specs.declared.c.CStmt.{CStmt}
 use Rattle.bl_tree.specs.declared.place.Place.{Place}
 use Rattle.bl_tree.specs.declared.scalar.Scalar.{Scalar as ScalarType}
@@ -64,7 +65,7 @@ use Rattle.bl_emit_spec_laws_nodes.specs.Points.Acts.{ReturnNodesSimulate}
 use Rattle.bl_emit_spec_laws_nodes.specs.Points.Laws.{ChangesSimulateInPass, Remembering, ResultTold, RulesOwn, is_return_node}
 use Rattle.bl_emit_spec_laws_nodes.specs.Points.Nodes.{NodesStand, PrevsAgree, ViewsFit, act_copied}
 use Rattle.bl_emit_spec_laws_nodes.proofs.OnPoints.ActBlocks.{as_left}
-use Rattle.bl_emit_spec_laws_nodes.proofs.OnPoints.ActNodes.{and_first, append_goes, append_traps}
+use Rattle.bl_emit_spec_laws_nodes.proofs.OnPoints.ActNodes.{append_goes, append_traps}
 use Rattle.bl_emit_spec_laws_nodes.proofs.OnPoints.Besides.{beside, site_is, value_there_is}
 use Rattle.bl_emit_spec_laws_nodes.proofs.OnPoints.Choices.{alone_alike}
 use Rattle.bl_emit_spec_laws_nodes.proofs.OnPoints.Returned.{return_keeps, return_stands, told}

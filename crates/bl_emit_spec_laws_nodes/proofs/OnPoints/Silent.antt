@@ -3,6 +3,8 @@ use Rattle.std.proofs.Common.{◌≡◌, ℕ, Bool, true, false, ◌||◌, List,
 use Rattle.std.proofs.lemmas.Option.{same_Some}
 use Rattle.std.specs.Prelude.{is_some}
 use Rattle.std.specs.List.{list_any}
+use Rattle.std.proofs.lemmas.Bool.{false_from_ne_true}
+use Rattle.bl_tree.proofs.Basics.{true_not_false}
 use Rattle.bl_tree.specs.declared.tree.Unit.{Unit as UnitDef}
 use Rattle.bl_tree.specs.declared.value.Value.{Value}
 use Rattle.bl_graph_nodes.specs.Nodes.{ActAt, CheckAt, DepthEndAt, DepthJoinAt, EnterAt, ForkAt, HeadAt, Node, PauseAt, ResumeAt, StartAt, SurfaceEndAt}
@@ -29,9 +31,6 @@ use Rattle.bl_emit_spec_laws_nodes.proofs.OnPoints.Shown.{ends_true}
 use Rattle.bl_emit_spec_laws.specs.Registers.Laws.{ends_body}
 use Rattle.bl_emit_spec_laws_nodes.specs.Points.Laws.{ChangesSimulateInPass, IsSilent, ResultTold, SilentNodesSimulate}
 use Rattle.bl_emit_spec_laws_nodes.specs.Points.Laws.{is_return_node}
-
-pub no_such : true ≡ false → ⊥
-no_such h = cc
 
 -- ---- when changes end the body
 
@@ -197,11 +196,7 @@ as_left w activities i unit scope r rule here o frames frames' store left copies
 
 pub either : (a b : Bool) → (a || b) ≡ true → b ≡ false → a ≡ true
 either true b h none = refl
-either false b h none = absurd (no_such (sym h ∙ none))
-
-pub not_so : (b : Bool) → (b ≡ true → ⊥) → b ≡ false
-not_so true never = absurd (never refl)
-not_so false never = refl
+either false b h none = absurd (true_not_false (sym h ∙ none))
 
 pub silent_comes : ChangesSimulateInPass → SilentNodesSimulate
 silent_comes stand structs units entry machine activities own ends remembering = record {
@@ -213,12 +208,12 @@ silent_comes stand structs units entry machine activities own ends remembering =
       let did = silent_performs w activities i copies frames store rule.node answer frames' left silent performs in
       let quiet = did.1 in
       let never : list_any ends_body rule.on_true ≡ true → is_some unit.result ≡ true → ⊥ =
-      λ ending one. no_such (sym (ends_true activities units ends i unit w rule there midway.function.is_there midway.function.active one ending)
+      λ ending one. true_not_false (sym (ends_true activities units ends i unit w rule there midway.function.is_there midway.function.active one ending)
       ∙ silent_no_return rule.node silent) in
       let told : ResultTold unit i scope store (all_changed number rule.on_true r) here =
       λ value over one is. midway.stands.result value
       (either r.over (list_any ends_body rule.on_true) (over_after number rule.on_true r over)
-      (not_so (list_any ends_body rule.on_true) (λ ending. never ending one))) one is in
+      (false_from_ne_true (list_any ends_body rule.on_true) (λ ending. never ending one))) one is in
       let after_r = all_changed number rule.on_true r in
       let o = block_c (changes_code (activity_view a) rule.on_true) scope here in
       let comes : PartSimulates w activities i unit scope frames store copies after_r here o =

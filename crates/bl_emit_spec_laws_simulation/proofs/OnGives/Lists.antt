@@ -6,6 +6,7 @@ use Rattle.std.proofs.lemmas.Bool.{ltb-false, ltb-true}
 use Rattle.std.proofs.lemmas.Option.{same_Some, slice_get-map}
 use Rattle.std.specs.List.{range_with_len}
 use Rattle.std.specs.Prelude.{nat_lt, option_and_then, option_map, slice_get, slice_set}
+use Rattle.bl_tree.proofs.Basics.{get_past, get_taken}
 
 -- lists with the same elements
 pub same_lists : {A : Type 0} (xs ys : List A) → ((k : ℕ) → slice_get xs k ≡ slice_get ys k) → xs ≡ ys
@@ -13,18 +14,6 @@ same_lists [] [] same = refl
 same_lists [] (y ∷ ys) same = absurd (let no = same zero in cc)
 same_lists (x ∷ xs) [] same = absurd (let no = same zero in cc)
 same_lists (x ∷ xs) (y ∷ ys) same = ap₂ (λ x xs. x ∷ xs) (same_Some x y (same zero)) (same_lists xs ys (λ k. same (suc k)))
-
-pub get_past : {A : Type 0} (xs : List A) (k : ℕ) → length xs ≤ k → slice_get xs k ≡ None
-get_past [] zero more = refl
-get_past [] (suc k) more = refl
-get_past (x ∷ xs) zero more = absurd (omega arith)
-get_past (x ∷ xs) (suc k) more = get_past xs k (omega (arith, more))
-
-pub get_taken : {A : Type 0} (xs : List A) (n k : ℕ) → k < n → slice_get (take n xs) k ≡ slice_get xs k
-get_taken xs zero k less = absurd (omega arith)
-get_taken [] (suc n) k less = refl
-get_taken (x ∷ xs) (suc n) zero less = refl
-get_taken (x ∷ xs) (suc n) (suc k) less = get_taken xs n k (omega (arith, less))
 
 pub taken_past : {A : Type 0} (xs : List A) (n k : ℕ) → n ≤ k → slice_get (take n xs) k ≡ None
 taken_past xs zero k more = get_past [] k (omega arith)
@@ -36,11 +25,6 @@ pub get_behind : {A : Type 0} (xs : List A) (n k : ℕ) → slice_get (drop n xs
 get_behind xs zero k = let is : k ≡ 0 + k = omega arith in ap (slice_get xs) is
 get_behind [] (suc n) k = get_past [] k (omega arith) ∙ sym (get_past [] (suc n + k) (omega arith))
 get_behind (x ∷ xs) (suc n) k = let is : suc (n + k) ≡ suc n + k = omega arith in get_behind xs n k ∙ ap (slice_get (x ∷ xs)) is
-
-pub get_front : {A : Type 0} (xs ys : List A) (k : ℕ) → k < length xs → slice_get (xs ++ ys) k ≡ slice_get xs k
-get_front [] ys k less = absurd (omega arith)
-get_front (x ∷ xs) ys zero less = refl
-get_front (x ∷ xs) ys (suc k) less = get_front xs ys k (omega (arith, less))
 
 drop_nothing : {A : Type 0} (xs : List A) (n : ℕ) → xs ≡ [] → drop n xs ≡ []
 drop_nothing xs zero is = is
@@ -114,12 +98,6 @@ mapped_from f (x ∷ xs) y (zero, within, is) = (x, (zero, omega arith, refl), i
 mapped_from f (x ∷ xs) y (suc k, within, is) =
     let rest = mapped_from f xs y (k, omega (arith, within), is) in
     let less : rest.1.0 < length xs = rest.1.1 in (rest.0, (suc rest.1.0, omega (arith, less), rest.1.2), rest.2)
-
--- a position of an element
-pub found_at : {A : Type 0} (xs : List A) (x : A) → Contains xs x → (k : ℕ) × (slice_get xs k ≡ Some x)
-found_at [] x there = let below = there.1 in absurd (omega (arith, below))
-found_at (y ∷ xs) x (zero, within, is) = (zero, ap Some is)
-found_at (y ∷ xs) x (suc k, within, is) = let rest = found_at xs x (k, omega (arith, within), is) in (suc rest.0, rest.1)
 
 pub itself_only : {A : Type 0} (o : Option A) → option_and_then (λ x. Some x) o ≡ o
 itself_only None = refl

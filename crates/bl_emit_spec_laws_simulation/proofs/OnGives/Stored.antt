@@ -5,6 +5,7 @@ use Rattle.std.proofs.Common.{Option, Some, None, refl, sym, ap, ◌∙◌, subs
 use Rattle.std.proofs.lemmas.Option.{same_Some, slice_get-get_or, slice_get-map}
 use Rattle.std.specs.List.{range_with_len}
 use Rattle.std.specs.Prelude.{nat_eq, option_and_then, option_map, slice_get, slice_set, unwrap_or}
+use Rattle.bl_tree.proofs.Basics.{get_front}
 use Rattle.bl_tree.specs.declared.place.Place.{Place}
 use Rattle.bl_tree.specs.declared.static_path.Static.{Static}
 use Rattle.bl_tree.specs.declared.tree.Expr.{Expr}
@@ -31,7 +32,7 @@ use Rattle.bl_ctree_laws_typing.specs.Fits.{HasFrame}
 use Rattle.bl_ctree_laws_confluence.specs.Stores.{FramesKeepOthers, HomesLeadOn, now_of, onward}
 use Rattle.bl_machine_laws.specs.Passes.Follows.{DeedYields}
 use Rattle.bl_machine_pass_laws_execution.proofs.OnKept.Copying.{found}
-use Rattle.bl_emit_spec_laws_simulation.proofs.OnGives.Lists.{get_after, get_front, itself_only, mapped_at, same_mapped, set_here, taken_is}
+use Rattle.bl_emit_spec_laws_simulation.proofs.OnGives.Lists.{get_after, itself_only, mapped_at, same_mapped, set_here, taken_is}
 use Rattle.bl_emit_spec_laws_simulation.proofs.OnGives.Roles.{input_no_output, led_nowhere}
 
 -- ---- values at homes

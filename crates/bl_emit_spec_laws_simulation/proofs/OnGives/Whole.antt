@@ -4,6 +4,7 @@ use Rattle.std.proofs.Common.{◌&&◌, ◌++◌, List, [], Contains, map, take,
 use Rattle.std.proofs.Common.{Option, Some, None, refl, sym, ap, ◌∙◌, subst}
 use Rattle.std.proofs.lemmas.Option.{slice_get-get_or}
 use Rattle.std.specs.Prelude.{option_map, slice_get, unwrap_or}
+use Rattle.bl_tree.proofs.Basics.{get_taken}
 use Rattle.bl_tree.specs.declared.place.Place.{Place}
 use Rattle.bl_tree.specs.declared.tree.Path.{Path}
 use Rattle.bl_tree.specs.declared.tree.StructDef.{StructDef}
@@ -64,7 +65,7 @@ use Rattle.bl_emit_spec_laws.specs.Remember.{CallersRemember}
 use Rattle.bl_emit_spec_laws_simulation.proofs.OnGives.Arguing.{RunArgues, run_argues, unit_there}
 use Rattle.bl_emit_spec_laws_simulation.proofs.OnGives.Keeping.{may_give}
 use Rattle.bl_emit_spec_laws_simulation.proofs.OnGives.Leading.{inputs_long, lead_at, outputs_long, place_at}
-use Rattle.bl_emit_spec_laws_simulation.proofs.OnGives.Lists.{get_behind, get_taken, mapped_from, taken_is}
+use Rattle.bl_emit_spec_laws_simulation.proofs.OnGives.Lists.{get_behind, mapped_from, taken_is}
 use Rattle.bl_emit_spec_laws_simulation.proofs.OnGives.Roles.{held_behind, parameters_few, roles_at}
 use Rattle.bl_emit_spec_laws_simulation.proofs.OnGives.Stored.{Copied, copied, inputs_are, kept_seen, output_seen}
 use Rattle.bl_emit_spec_laws_simulation.proofs.OnGives.Values.{values_same}

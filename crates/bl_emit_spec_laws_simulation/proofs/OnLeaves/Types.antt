@@ -3,6 +3,7 @@ use Rattle.std.proofs.Common.{◌≡◌, ℕ, zero, suc, ◌<◌, arith, Bool, t
 use Rattle.std.proofs.Common.{Option, Some, None, refl, sym, ap, ◌∙◌, subst, eqb-true}
 use Rattle.std.proofs.lemmas.List.Quantifiers.{position-Some}
 use Rattle.std.specs.Prelude.{is_some, nat_eq, option_and_then, slice_get, if◌then◌else◌}
+use Rattle.bl_tree.proofs.Basics.{and_first, and_second}
 use Rattle.bl_tree.specs.declared.place.Place.{Place}
 use Rattle.bl_tree.specs.declared.static_path.Static.{Static}
 use Rattle.bl_tree.specs.declared.tree.Path.{Path, fold_out-Path, out-Path}
@@ -19,7 +20,6 @@ use Rattle.bl_tree.specs.Static.{Reach, StaticStep, expr_mentions, kind_mentions
 use Rattle.bl_tree.specs.Typing.{TypingContext, is_assignable, is_outlet, is_plain, may_change, outputs_of, site_of, type_of_path, types_match, var_at}
 use Rattle.bl_tree.specs.Types.{same_type}
 use Rattle.bl_effects.proofs.EntryLemmas.{same_place_is}
-use Rattle.bl_eval.proofs.PassLemmas.{and_left, and_right}
 use Rattle.bl_graph_nodes.specs.Nodes.{Arguments, EnterAt, Node, nodes_in}
 use Rattle.bl_graph_nodes.specs.Plain.{Label, plain_body}
 use Rattle.bl_ctree.specs.declared.instance.Instance.{Instance}
@@ -82,8 +82,8 @@ origin_of w i j at called = let found = found_at w i j at called in by found (fo
       there = found.there;
       origin = origin;
       began = is;
-      caller = eqb-true origin.caller i (and_left (nat_eq origin.caller i) (same_place origin.place at) begins);
-      place = same_place_is origin.place at (and_right (nat_eq origin.caller i) (same_place origin.place at) begins);
+      caller = eqb-true origin.caller i (and_first (nat_eq origin.caller i) (same_place origin.place at) begins);
+      place = same_place_is origin.place at (and_second (nat_eq origin.caller i) (same_place origin.place at) begins);
     }
 
 -- one instance is found at one place
@@ -125,9 +125,9 @@ one_outlet : (site : TypingContext) (paths : List Path) (k : ℕ) (path : Path) 
 one_outlet site [] k path all there = absurd (cc)
 one_outlet site (p ∷ paths) zero path all there =
     let same : p ≡ path = cc in
-    ap (is_outlet site) (sym same) ∙ and_left (is_outlet site p) (all_of (map (is_outlet site) paths)) all
+    ap (is_outlet site) (sym same) ∙ and_first (is_outlet site p) (all_of (map (is_outlet site) paths)) all
 one_outlet site (p ∷ paths) (suc k) path all there =
-    one_outlet site paths k path (and_right (is_outlet site p) (all_of (map (is_outlet site) paths)) all) there
+    one_outlet site paths k path (and_second (is_outlet site p) (all_of (map (is_outlet site) paths)) all) there
 
 -- ---- outputs
 
@@ -199,7 +199,7 @@ module _ (callers : InstancesHaveCallers) (run : RulesRun) (placed : StaysPlaced
         var = typed.var;
         is_there = typed.root;
         writable = assignable_by (var_at site (out-Path path).root) typed.var (ap (var_at site) (sym root) ∙ typed.root)
-            (and_right (is_plain path) (is_assignable site path) outlet);
+            (and_second (is_plain path) (is_assignable site path) outlet);
         leads = typed.leads;
       }
 
@@ -226,7 +226,7 @@ module _ (callers : InstancesHaveCallers) (run : RulesRun) (placed : StaysPlaced
       rest : (typed : Option Ty) → types_match (typed ∷ map (type_of_path site) paths) (v ∷ vars) ≡ true →
           types_match (map (type_of_path site) paths) vars ≡ true
       rest None all = absurd (cc)
-      rest (Some ty) all = and_right (same_type ty v.ty) (types_match (map (type_of_path site) paths) vars) all
+      rest (Some ty) all = and_second (same_type ty v.ty) (types_match (map (type_of_path site) paths) vars) all
 
   -- and one of the `run` for each of the callee
   pub path_there : (o : ℕ) (var : Var) → slice_get (outputs_of other) o ≡ Some var → (path : Path) × (slice_get arguments.outputs o ≡ Some path)

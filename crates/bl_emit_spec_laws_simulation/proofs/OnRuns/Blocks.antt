@@ -2,6 +2,7 @@
 use Rattle.std.proofs.Common.{◌≡◌, inr, ℕ, Bool, true, false, List, [], ◌∷◌, ◌++◌, Option, Some, None, append-nil, refl, sym, ap, ◌∙◌, subst}
 use Rattle.std.proofs.lemmas.Option.{same_Some}
 use Rattle.std.specs.Prelude.{slice_get, take, if◌then◌else◌}
+use Rattle.bl_tree.proofs.Basics.{get_taken, true_not_false}
 use Rattle.bl_tree.specs.declared.c.CStmt.{CStmt}
 use Rattle.bl_tree.specs.declared.place.Place.{Place}
 use Rattle.bl_tree.specs.declared.tree.Path.{Path}
@@ -57,8 +58,7 @@ use Rattle.bl_emit_spec_laws_nodes.specs.Points.Points.{BodiesEnd, PointsStand}
 use Rattle.bl_emit_spec_laws_nodes.proofs.OnPoints.ActNodes.{append_goes}
 use Rattle.bl_emit_spec_laws_nodes.proofs.OnPoints.Choices.{Alike, Chosen, if_alone}
 use Rattle.bl_emit_spec_laws_nodes.proofs.OnPoints.Endless.{pass_open}
-use Rattle.bl_emit_spec_laws_nodes.proofs.OnPoints.Silent.{comes_as, no_such}
-use Rattle.bl_emit_spec_laws_simulation.proofs.OnGives.Lists.{get_taken}
+use Rattle.bl_emit_spec_laws_nodes.proofs.OnPoints.Silent.{comes_as}
 use Rattle.bl_emit_spec_laws.proofs.OnPasses.Asking.{resumes_quiet}
 use Rattle.bl_emit_spec_laws_simulation.proofs.OnRuns.Begun.{first_comes, first_inputs, first_stops, own_comes}
 use Rattle.bl_emit_spec_laws_simulation.proofs.OnRuns.Called.{after, call_goes_on, ended, forgotten, inputs_fit, inputs_stop, kept_after, pass_stops}
@@ -282,7 +282,7 @@ module _ (orderly : AcceptedIsOrderly) (callers : InstancesHaveCallers) (nests :
                     by : (b : Bool) → b ≡ unit_may_end other → b ≡ true
                     by true same = refl
                     by false same =
-                        absurd (no_such
+                        absurd (true_not_false
                         (sym over
                         ∙ pass_open w (rank_by w activities) (slots_by w activities) (cleared w) other (sym same) run.is_there executed refl))
 

@@ -3,6 +3,7 @@ use Rattle.std.proofs.Common.{◌≡◌, ℕ, zero, suc, ◌+◌, ◌<◌, ◌^�
 use Rattle.std.proofs.Common.{length, nat_eq, sym, ap, subst, ◌∙◌, arith}
 use Rattle.std.proofs.lemmas.Option.{same_Some}
 use Rattle.std.specs.Prelude.{IsPermutation, bytes_eq, slice_get}
+use Rattle.bl_tree.proofs.Basics.{contains_at, index_of, within_at}
 use Rattle.bl_tree.specs.declared.place.Place.{Place}
 use Rattle.bl_tree.specs.declared.tree.StructDef.{StructDef}
 use Rattle.bl_tree.specs.declared.tree.Unit.{Unit as UnitDef}
@@ -27,7 +28,7 @@ use Rattle.bl_emit_spec.specs.Activities.{Activity, activity_view}
 use Rattle.bl_emit_spec.specs.Names.{callee_name}
 use Rattle.bl_emit_spec_laws.specs.Calls.Built.{Activities, activity_at, rank_by, run_by, unit_number}
 use Rattle.bl_emit_spec_laws.specs.Calls.Laws.{CompilationContext}
-use Rattle.bl_emit_spec_laws.proofs.OnPlaced.Lists.{contains_at, found_at, number_once, number_there, stands_at, within_at}
+use Rattle.bl_emit_spec_laws.proofs.OnPlaced.Lists.{found_at, number_once, number_there}
 use Rattle.bl_emit_spec_laws.proofs.OnRunPlaces.Sharing.{FirstNode, first_node}
 use Rattle.bl_emit_spec_laws_simulation.proofs.OnRuns.Running.{unit_there}
 use Rattle.bl_emit_spec_laws_simulation.proofs.OnLeaves.Numbers.{callees_differ as callees_apart}
@@ -63,8 +64,8 @@ module _ (keys : NodesHaveKeys) (a : Activity) (unit : UnitDef) (one : InMachine
 
     pub numbers_tell : (n m : Node) → Contains nodes n → Contains nodes m → (activity_view a).number n ≡ (activity_view a).number m → n ≡ m
     numbers_tell n m first second same =
-        let p = stands_at nodes n first in
-        let q = stands_at nodes m second in
+        let p = index_of nodes n first in
+        let q = index_of nodes m second in
         let k = number_there (length nodes) a.order permutes p.0 (within_at nodes p.0 n p.1) in
         let j = number_there (length nodes) a.order permutes q.0 (within_at nodes q.0 m q.1) in
         let one : k.0 ≡ j.0 = sym (number_is p.0 k.0 n p.1 k.1) ∙ (same ∙ number_is q.0 j.0 m q.1 j.1) in

@@ -2,6 +2,7 @@
 use Rattle.std.proofs.Common.{◌≡◌, ℕ, Bool, true, false, not, ◌&&◌, ◌||◌, List, [], ◌∷◌}
 use Rattle.std.proofs.Common.{◌++◌, Contains, Some, refl, sym, ap, ◌∙◌}
 use Rattle.std.specs.Prelude.{bytes_eq, is_some, ◌==◌}
+use Rattle.bl_tree.proofs.Basics.{and_false}
 use Rattle.bl_tree.specs.declared.place.Place.{Place}
 use Rattle.bl_tree.specs.declared.text.Text.{Text}
 use Rattle.bl_tree.specs.declared.tree.Unit.{Unit as UnitDef}
@@ -80,10 +81,6 @@ stands_beside w activities i unit scope frames after_frames store copies r here 
 
 -- ---- locals
 
-none_of : (b : Bool) → (b && false) ≡ false
-none_of true = refl
-none_of false = refl
-
 module _ (scope : Scope) where
   -- a local has nothing in common with what was there before the function began
   pub local_older : (name : Text) (place : Location) → is_older scope.depth place.root ≡ true → are_apart (named_location scope false name) place ≡ true
@@ -93,7 +90,7 @@ module _ (scope : Scope) where
   pub local_local : (name other : Text) → bytes_eq name other ≡ false → are_apart (named_location scope false name) (named_location scope false other) ≡ true
   local_local name other differ =
       ap (λ same. not ((scope.depth == scope.depth) && same) || ways_part [] []) differ
-      ∙ ap (λ same. not same || ways_part [] []) (none_of (scope.depth == scope.depth))
+      ∙ ap (λ same. not same || ways_part [] []) (and_false (scope.depth == scope.depth))
 
 module _ (site : TypingContext) (unit : UnitDef) (remembers : Bool) (scope : Scope) (places : PlacesAreSeparate site unit remembers scope)
     (active : is_activity site.kind ≡ true) (has : Registered) (may_end : has.over ≡ unit_may_end unit)

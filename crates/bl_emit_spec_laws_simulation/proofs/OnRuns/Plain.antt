@@ -15,10 +15,11 @@ use Rattle.bl_tree.specs.Reduce.{all_of}
 use Rattle.bl_tree.specs.Static.{Reach, StaticStep, before_index, expr_mentions, kind_mentions, leading_fields, part_step, path_reach, static_of, step_of}
 use Rattle.bl_tree.specs.Typing.{TypingContext, expr_ignored, is_assignable, is_plain, kind_ignored, may_change, part_is_field, path_is_plain, var_at}
 use Rattle.std.specs.Prelude.{is_some, if◌then◌else◌}
+use Rattle.std.proofs.lemmas.Bool.{and_from}
+use Rattle.bl_tree.proofs.Basics.{and_first, and_second}
 use Rattle.bl_eval.specs.Changes.{part_of_path}
 use Rattle.bl_eval.specs.Meaning.{PathMeaning, Scope as Sees, View, path_meaning_of, positions_of}
 use Rattle.bl_eval.proofs.MeaningLemmas.{spot_out}
-use Rattle.bl_eval.proofs.PassLemmas.{and_left, and_right, both}
 use Rattle.bl_emit_acts_laws_simulation.specs.Encodes.{copied_in_path, expr_copied, kind_copied, part_copied, path_copied}
 
 module _ (sees : Sees) (view : View) (copied : ℕ → Bool) where
@@ -54,13 +55,13 @@ module _ (sees : Sees) (view : View) (copied : ℕ → Bool) where
   fields_of : (parts : List Part) → all_of (map is_field parts) ≡ true → Fields parts
   fields_of [] all = record { positions = refl; copies = refl }
   fields_of (part ∷ rest) all =
-      let one = field_one part (and_left (is_field part) (all_of (map is_field rest)) all) in
-      let more = fields_of rest (and_right (is_field part) (all_of (map is_field rest)) all) in
+      let one = field_one part (and_first (is_field part) (all_of (map is_field rest)) all) in
+      let more = fields_of rest (and_second (is_field part) (all_of (map is_field rest)) all) in
       record {
         positions = ap (option_and_then (λ k. option_map (λ ks. k ∷ ks) (positions_of (map (part_of_path sees) rest) view))) one.position
             ∙ (ap (option_map (λ ks. one.k ∷ ks)) more.positions
             ∙ ap Some (sym (ap (λ field. before_index field (leading_fields (map step_of rest))) one.field)));
-        copies = both (has_copies part) (all_of (map has_copies rest)) one.copies more.copies;
+        copies = and_from (has_copies part) (all_of (map has_copies rest)) one.copies more.copies;
       }
 
   -- the static path of a path in its parts

@@ -1,10 +1,11 @@
 -- The instance that a `run` at a node begins or goes on with is of the activity that the node calls.
 use Rattle.std.proofs.Common.{◌≡◌, inl, inr, ℕ, zero, suc, ◌<◌, Bool, true, false, List, [], ◌∷◌, Contains}
-use Rattle.std.proofs.Common.{Option, Some, None, length, map, take, get_or, nat_eq, unwrap_or}
+use Rattle.std.proofs.Common.{Option, Some, None, map, take, get_or, nat_eq, unwrap_or}
 use Rattle.std.proofs.Common.{refl, sym, ap, subst, ◌∙◌, arith, eqb-true}
 use Rattle.std.proofs.lemmas.List.Quantifiers.{position-Some}
 use Rattle.std.proofs.lemmas.Option.{same_Some}
 use Rattle.std.specs.Prelude.{option_and_then, option_map, slice_get}
+use Rattle.bl_tree.proofs.Basics.{and_first, and_second, contains_at, get_within}
 use Rattle.bl_tree.specs.declared.tree.StructDef.{StructDef}
 use Rattle.bl_tree.specs.declared.tree.Unit.{Unit as UnitDef}
 use Rattle.bl_tree.specs.Reduce.{joined}
@@ -20,7 +21,7 @@ use Rattle.bl_ctree.specs.Instances.{Setting, begins_at, callee_of, one_a_place,
 use Rattle.bl_ctree_laws.specs.Trees.{Call}
 use Rattle.bl_ctree_laws_confluence.specs.Deeds.Orderly.{AcceptedIsOrderly}
 use Rattle.bl_ctree_laws_confluence.specs.Deeds.Origins.{CalledBy, HasCaller, InstancesHaveCallers}
-use Rattle.bl_ctree_laws_confluence.proofs.OnDeeds.Activities.{AllOf, and_left, and_right, one_a_place_so}
+use Rattle.bl_ctree_laws_confluence.proofs.OnDeeds.Activities.{AllOf, one_a_place_so}
 use Rattle.bl_ctree_laws_traces.proofs.OnProgress.Earlier.{RunsUnit, body_runs}
 use Rattle.bl_ctree_laws_traces.proofs.OnBounded.Callees.{taken_before, typed_at}
 use Rattle.bl_ctree_laws_traces.proofs.OnBounded.Calls.{calls_in, run_of}
@@ -31,16 +32,10 @@ use Rattle.bl_machine_transitions.specs.Callees.{callees_in}
 use Rattle.bl_emit_spec_laws.specs.Calls.Built.{Activities, unit_number}
 use Rattle.bl_emit_spec_laws.specs.Calls.Laws.{CompilationContext}
 use Rattle.bl_emit_spec_laws_nodes.specs.Calling.{RunOf}
-use Rattle.bl_emit_spec_laws.proofs.OnPlaced.Lists.{contains_at}
 use Rattle.bl_emit_spec_laws.proofs.OnRunPlaces.Sharing.{calls_share}
 use Rattle.bl_emit_spec_laws.proofs.OnRunPlaces.Entered.{call_there, calls_in_are, entered_at, node_by}
 
 -- ---- lists
-
-got_or : {A : Type 0} (xs : List A) (k : ℕ) (d : A) → k < length xs → slice_get xs k ≡ Some (get_or xs k d)
-got_or [] k d within = absurd (omega (arith, within))
-got_or (x ∷ xs) zero d within = refl
-got_or (x ∷ xs) (suc k) d within = got_or xs k d (omega (arith, within))
 
 all_among : {A : Type 0} (P : A → Type 0) (xs : List A) (x : A) → AllOf P xs → Among x xs → P x
 all_among P [] x all at = absurd at
@@ -153,9 +148,9 @@ module _ (orderly : AcceptedIsOrderly) (callers : InstancesHaveCallers) (structs
       by_origin instance found (Some origin) of e =
           let called : CalledBy units w.instances j instance origin =
           subst (HasCaller units entry w.instances j instance) of (callers units entry j instance found) in
-          let by : origin.caller ≡ i = eqb-true origin.caller i (and_left (nat_eq origin.caller i) (same_place origin.place s.place) e) in
+          let by : origin.caller ≡ i = eqb-true origin.caller i (and_first (nat_eq origin.caller i) (same_place origin.place s.place) e) in
           let place : origin.place ≡ s.place =
-          same_place_is origin.place s.place (and_right (nat_eq origin.caller i) (same_place origin.place s.place) e) in
+          same_place_is origin.place s.place (and_second (nat_eq origin.caller i) (same_place origin.place s.place) e) in
           let calling : unit_at w origin.caller ≡ Some called.unit = ap (option_and_then (unit_of w)) called.there ∙ called.body in
           let same : called.unit ≡ unit = same_Some called.unit unit (sym calling ∙ ap (unit_at w) by ∙ is) in
           let among : Among called.run (joined (map runs_in unit.body)) =
@@ -167,7 +162,7 @@ module _ (orderly : AcceptedIsOrderly) (callers : InstancesHaveCallers) (structs
       calls_unit =
           let d : Instance = record { unit = 0; depth = 0; origin = None } in
           let position = position-Some (λ (instance : Instance). begins_at i s.place instance.origin) w.instances j d begins in
-          by_origin (get_or w.instances j d) (got_or w.instances j d position.0) (get_or w.instances j d).origin refl position.1
+          by_origin (get_or w.instances j d) (get_within w.instances j d position.0) (get_or w.instances j d).origin refl position.1
 
     -- so it is of each node of a `run`, be it the first or the second
     pub node_calls : (late : Bool) (s : Call) (p j : ℕ) → slice_get (nodes_in body) p ≡ Some (node_by late s) →

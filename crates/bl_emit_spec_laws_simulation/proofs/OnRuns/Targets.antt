@@ -3,6 +3,7 @@ use Rattle.std.proofs.Common.{◌≡◌, ◌⊎◌, inl, inr, ℕ, ℤ, zero, su
 use Rattle.std.proofs.Common.{take, Option, Some, None, refl, sym, ap, ◌∙◌, subst}
 use Rattle.std.proofs.lemmas.Option.{same_Some}
 use Rattle.std.specs.Prelude.{is_some, option_and_then, pos, slice_get, unwrap_or}
+use Rattle.bl_tree.proofs.Basics.{and_first, and_second, index_of}
 use Rattle.bl_tree.specs.declared.place.Place.{Place}
 use Rattle.bl_tree.specs.declared.scalar.Scalar.{Scalar as ScalarType}
 use Rattle.bl_tree.specs.declared.tree.Path.{Path}
@@ -23,7 +24,7 @@ use Rattle.bl_eval.specs.Values as values
 use Rattle.bl_eval.specs.Values.{value_fits}
 use Rattle.bl_eval.proofs.ActFits.{same_found}
 use Rattle.bl_eval.proofs.PartFits.{Fits}
-use Rattle.bl_eval.proofs.PassLemmas.{and_left, and_right, pass_at}
+use Rattle.bl_eval.proofs.PassLemmas.{pass_at}
 use Rattle.bl_ctext_semantics.specs.Meaning.{Scope, location_c, named_location, runs_c}
 use Rattle.bl_ctext_semantics.specs.Memory.{CValue, Location, Memory, scalar_number, set_at, value_at}
 use Rattle.bl_ctree.specs.Actions.{Gives, result_at}
@@ -55,7 +56,6 @@ use Rattle.bl_emit_spec_laws.specs.Calls.Built.{Activities, activity_at, site_at
 use Rattle.bl_emit_spec_laws.specs.Calls.Laws.{Midway, PassKeepsFrame}
 use Rattle.bl_emit_spec_laws.specs.Calls.Invariant.{PassRepresents}
 use Rattle.bl_emit_spec_laws_nodes.specs.Calling.{RunOf, TargetGiven, TargetsSeen}
-use Rattle.bl_emit_spec_laws.proofs.OnPlaced.Lists.{stands_at}
 use Rattle.bl_emit_spec_laws_nodes.specs.Points.Laws.{Remembering}
 use Rattle.bl_emit_spec_laws_nodes.specs.Points.Nodes.{ViewsFit}
 use Rattle.bl_emit_spec_laws_nodes.proofs.OnPoints.Besides.{apart, beside, site_is}
@@ -93,7 +93,7 @@ module _ (callers : InstancesHaveCallers) (structs : List StructDef) (units : Li
         RunOf W activities i unit l at arguments j other → target_fits own_site other.result arguments.target ≡ true
     target_typed l at arguments j other run =
         let k = unit_number W i in
-        let position = stands_at (nodes_in (plain_body unit.body)) (EnterAt l at arguments) run.node in
+        let position = index_of (nodes_in (plain_body unit.body)) (EnterAt l at arguments) run.node in
         let fit : RunFits own_site (BeginsNamed structs units entry keeps i) at arguments =
         all_at (NodeFits own_site (BeginsNamed structs units entry keeps i)) (nodes_in (plain_body unit.body)) position.0 (EnterAt l at arguments)
         (body_nodes own_site (BeginsNamed structs units entry keeps i) unit.body
@@ -199,7 +199,7 @@ module _ (frames_apart : FramesApart) (keep : RegistersKeepApart) (structs : Lis
         (s : ScalarType) (has : other.result ≡ Some s) (outlet : is_outlet site path ≡ true) (typed : type_of_path site path ≡ Some (scalar s))
       where
         plain : is_plain path ≡ true
-        plain = and_left (is_plain path) (is_assignable site path) outlet
+        plain = and_first (is_plain path) (is_assignable site path) outlet
 
         abbrev root : ℕ
         root = (static_of path).root
@@ -247,7 +247,7 @@ module _ (frames_apart : FramesApart) (keep : RegistersKeepApart) (structs : Lis
             let same_ks : r'.ks ≡ fields = same_Some r'.ks fields (sym r'.are ∙ spot.positions) in
             let known : var_at site root ≡ Some r'.var = ap (var_at site) (sym spot.root) ∙ r'.is_there in
             let open_var : is_input r'.var.role ≡ false =
-            assignable_open site path r'.var (and_right (is_plain path) (is_assignable site path) outlet)
+            assignable_open site path r'.var (and_second (is_plain path) (is_assignable site path) outlet)
             (ap (var_at site) (sym (static_root sees sight copied path)) ∙ known) in
             let way = way_to structs fields (Some r'.var.ty) in
             let is_at : place ≡ location_in scope site root way =
@@ -303,6 +303,6 @@ module _ (frames_apart : FramesApart) (keep : RegistersKeepApart) (structs : Lis
         by None has fit = absurd (cc)
         by (Some s) has fit =
             let ty = same_found (Some (scalar s)) (type_of_path site path)
-            (and_right (is_outlet site path) (are_same (Some (scalar s)) (type_of_path site path)) fit) in
-            target_so path left target done s has (and_left (is_outlet site path) (are_same (Some (scalar s)) (type_of_path site path)) fit)
+            (and_second (is_outlet site path) (are_same (Some (scalar s)) (type_of_path site path)) fit) in
+            target_so path left target done s has (and_first (is_outlet site path) (are_same (Some (scalar s)) (type_of_path site path)) fit)
             (ty.2 ∙ sym ty.1)

@@ -9,13 +9,13 @@ use Rattle.std.proofs.lemmas.Slice.Eq.{bytes_eq-Decides}
 use Rattle.std.specs.List.{list_all}
 use Rattle.std.specs.Option.{option_or}
 use Rattle.std.specs.Prelude.{bytes_eq, slice_get, unwrap_or, if◌then◌else◌}
+use Rattle.bl_tree.proofs.Basics.{and_first, and_second}
 use Rattle.bl_tree.specs.declared.rule.Rule.TheVariants as rule
 use Rattle.bl_tree.specs.declared.scalar.Scalar.{Scalar as ScalarType}
 use Rattle.bl_tree.specs.declared.text.Text.{Text}
 use Rattle.bl_tree.specs.declared.tree.StructDef.{StructDef}
 use Rattle.bl_tree.specs.declared.tree.Unit.{Unit as UnitDef}
 use Rattle.bl_tree.specs.Words.{is_name}
-use Rattle.bl_eval.proofs.PassLemmas.{and_left, and_right}
 use Rattle.bl_limits_measures.specs.Units.{chain_at}
 use Rattle.bl_ctext_semantics.specs.Faults.{depth_of_function}
 use Rattle.bl_emit_acts.specs.Expressions.{function_name}
@@ -30,9 +30,9 @@ named_at : (units : List UnitDef) (k : ℕ) (unit : UnitDef) → list_all is_nam
     is_name unit.name ≡ true
 named_at [] k unit all there = absurd (cc)
 named_at (first ∷ units) zero unit all there =
-    ap (λ (unit : UnitDef). is_name unit.name) (sym (same_Some first unit there)) ∙ and_left (is_name first.name) (list_all is_name (names units)) all
+    ap (λ (unit : UnitDef). is_name unit.name) (sym (same_Some first unit there)) ∙ and_first (is_name first.name) (list_all is_name (names units)) all
 named_at (first ∷ units) (suc k) unit all there =
-    named_at units k unit (and_right (is_name first.name) (list_all is_name (names units)) all) there
+    named_at units k unit (and_second (is_name first.name) (list_all is_name (names units)) all) there
 
 -- ---- tables
 
@@ -75,7 +75,7 @@ grow follow structs units entry k unit a depths keeps of known = record {
     named : is_name unit.name ≡ true
     named =
         named_at units k unit
-        (and_right (list_all is_name struct_names) (list_all is_name (names units)) (sym (list_all-append is_name struct_names (names units)) ∙ keeps.named))
+        (and_second (list_all is_name struct_names) (list_all is_name (names units)) (sym (list_all-append is_name struct_names (names units)) ∙ keeps.named))
         of.there
 
     same_unit : (f : ℕ) (other : UnitDef) → slice_get units f ≡ Some other → bytes_eq (unit_name unit.name) (unit_name other.name) ≡ true →

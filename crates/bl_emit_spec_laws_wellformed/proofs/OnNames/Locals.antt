@@ -5,6 +5,7 @@ use Rattle.std.proofs.Common.{length, Option, Some, None, refl, sym, ap, ◌∙�
 use Rattle.std.proofs.lemmas.List.{append-nil, append_assoc, map-append}
 use Rattle.std.specs.Fmt.{decimal}
 use Rattle.std.specs.Prelude.{bytes_eq, is_some, nat_eq, option_and_then, slice_get, if◌then◌else◌}
+use Rattle.std.proofs.lemmas.Bool.{or_from}
 use Rattle.bl_tree.specs.declared.text.Text.{Text}
 use Rattle.bl_tree.specs.declared.c.CLocal.{CLocal}
 use Rattle.bl_tree.specs.declared.c.CMember.{CMember}
@@ -38,7 +39,7 @@ use Rattle.bl_emit_spec_laws_wellformed.proofs.OnNames.Names.{among-both, begins
 use Rattle.bl_emit_spec_laws_wellformed.proofs.OnNames.Names.{family, family-begins, family-distinct, named_family, named_family-begins}
 use Rattle.bl_emit_spec_laws_wellformed.proofs.OnNames.Names.{named_family-distinct, named_letter-new}
 use Rattle.bl_emit_spec_laws_wellformed.proofs.OnNames.Names.{worded_family, worded_family-begins, worded_family-distinct, worded_letter-new}
-use Rattle.bl_emit_spec_laws_wellformed.proofs.OnNames.Names.{letter-new, neither, not-among, one-distinct, some_begins}
+use Rattle.bl_emit_spec_laws_wellformed.proofs.OnNames.Names.{letter-new, not-among, one-distinct, some_begins}
 use Rattle.bl_emit_spec_laws_wellformed.proofs.OnNames.Numbers.{chosen, chosen-numbers, filtered-numbers, first-numbers, position-numbers, positions}
 
 abbrev local_names : List CLocal → List Text
@@ -178,7 +179,7 @@ module _ (a : Activity) where
   -- one of other letters
   ended_begins : (b : ℕ) (ends : Bool) → nat_eq b 101 ≡ false → some_begins b (ended_names ends) ≡ false
   ended_begins b false other = refl
-  ended_begins b true other = neither (nat_eq b 101) false other refl
+  ended_begins b true other = or_from (nat_eq b 101) false other refl
 
   runs_begin : (b : ℕ) (runs : List RunAt) → nat_eq b 101 ≡ false → nat_eq b 114 ≡ false → some_begins b (names_of_runs runs) ≡ false
   runs_begin b runs one other =
@@ -341,7 +342,7 @@ module _ (a : Activity) where
     end_distinct false = locals_distinct
 
     end_letter : (ends : Bool) → is_among (codes "r") (end_names ends ++ all_locals) ≡ false
-    end_letter true = neither (bytes_eq (codes "r") (codes "e")) (is_among (codes "r") all_locals) refl (letter_none 114)
+    end_letter true = or_from (bytes_eq (codes "r") (codes "e")) (is_among (codes "r") all_locals) refl (letter_none 114)
     end_letter false = letter_none 114
 
     last_distinct : (o : Option ScalarType) (ends : Bool) → are_distinct (last_names o ends ++ all_locals) ≡ true
@@ -349,14 +350,14 @@ module _ (a : Activity) where
     last_distinct (Some s) ends = one-distinct (codes "r") (end_names ends ++ all_locals) (end_letter ends) (end_distinct ends)
 
     end_begins : (b : ℕ) (ends : Bool) → nat_eq b 101 ≡ false → some_begins b all_locals ≡ false → some_begins b (end_names ends ++ all_locals) ≡ false
-    end_begins b true e none = neither (nat_eq b 101) (some_begins b all_locals) e none
+    end_begins b true e none = or_from (nat_eq b 101) (some_begins b all_locals) e none
     end_begins b false e none = none
 
     last_begins : (b : ℕ) (o : Option ScalarType) (ends : Bool) → nat_eq b 101 ≡ false → nat_eq b 114 ≡ false → some_begins b all_locals ≡ false →
         some_begins b (last_names o ends ++ all_locals) ≡ false
     last_begins b None ends e r none = end_begins b ends e none
     last_begins b (Some s) ends e r none =
-        neither (nat_eq b 114) (some_begins b (end_names ends ++ all_locals)) r (end_begins b ends e none)
+        or_from (nat_eq b 114) (some_begins b (end_names ends ++ all_locals)) r (end_begins b ends e none)
 
     abbrev from_variables : List Text
     from_variables = named_family a.unit.vars 118 params ++ after_variables
@@ -381,7 +382,7 @@ module _ (a : Activity) where
     frame_new : (remembers : Bool) → is_among (codes "f") (first_names remembers from_variables) ≡ false
     frame_new false = not-among 102 (codes "f") from_variables refl (begin_none 102 refl refl refl (none_begins 102 refl refl refl refl refl refl))
     frame_new true =
-        neither (bytes_eq (codes "f") (codes "m")) (is_among (codes "f") from_variables) refl
+        or_from (bytes_eq (codes "f") (codes "m")) (is_among (codes "f") from_variables) refl
         (not-among 102 (codes "f") from_variables refl (begin_none 102 refl refl refl (none_begins 102 refl refl refl refl refl refl)))
 
     params_append : (xs ys : List CParam) → param_names (xs ++ ys) ≡ param_names xs ++ param_names ys

@@ -2,6 +2,7 @@
 use Rattle.std.proofs.Common.{◌≡◌, inl, inr, ℕ, Bool, true, false, not, cond, ◌||◌, nat_eq, List, [], ◌∷◌, filter, map, Some, refl, sym, ap, subst, ◌∙◌}
 use Rattle.std.specs.Prelude.{slice_get}
 use Rattle.std.specs.List.{list_any}
+use Rattle.bl_tree.proofs.Basics.{contains_at}
 use Rattle.bl_tree.specs.declared.place.Place.{Place}
 use Rattle.bl_tree.specs.declared.tree.StructDef.{StructDef}
 use Rattle.bl_tree.specs.declared.tree.Unit.{Unit as UnitDef}
@@ -13,7 +14,6 @@ use Rattle.bl_effects.proofs.EntryLemmas.{same_place_is}
 use Rattle.bl_ctree.specs.declared.instance.Run.{Run}
 use Rattle.bl_ctree.specs.Instances.{one_a_place, runs_in}
 use Rattle.bl_ctree_laws_confluence.proofs.OnApart.Placed.{RunAs, runs_listed, same_unit}
-use Rattle.bl_ctree_laws_confluence.proofs.OnDeeds.Accepted.{contains_at}
 use Rattle.bl_ctree_laws_confluence.proofs.OnDeeds.Activities.{AllOf, one_a_place_so}
 use Rattle.bl_ctree_laws_traces.proofs.OnBounded.Lists.{Among}
 use Rattle.bl_limits_measures.specs.Runs.{activities_by_place, activities_run}

@@ -1,6 +1,7 @@
 -- Both nodes of a `run` belong to one of the `run`s of the activity.
 use Rattle.std.proofs.Common.{◌≡◌, ℕ, suc, List, [], ◌∷◌, map, Some, refl, sym, ap, ◌∙◌}
 use Rattle.std.specs.Prelude.{Contains, slice_get, ⊤}
+use Rattle.bl_tree.proofs.Basics.{get_mapped}
 use Rattle.bl_tree.specs.declared.place.Place.{Place}
 use Rattle.bl_tree.specs.declared.tree.StructDef.{StructDef}
 use Rattle.bl_tree.specs.declared.tree.Unit.{Unit as UnitDef}
@@ -12,7 +13,6 @@ use Rattle.bl_machine.specs.Uses.{Slots}
 use Rattle.bl_machine_pass.specs.Transitions.{Flagged, Transition, rules}
 use Rattle.bl_machine_transitions.specs.Callees.{callees_in}
 use Rattle.bl_emit_spec.specs.Activities.{Activity, RunAt, activity_view, body_of, rules_at, runs_in_body}
-use Rattle.bl_emit_spec_laws.proofs.OnPlaced.Lists.{mapped_at}
 use Rattle.bl_emit_spec_laws.proofs.OnRunPlaces.Sharing.{resumed_kept, run_kept}
 
 -- what holds of each pair of a list of callees and one of rules
@@ -64,7 +64,7 @@ module _ (nodes : (slots : Slots) (body : Block) → map (λ (rule : Transition)
       pairs-at (RuleRuns (activity_view a).run (runs_in_body a)) (callees_in (body_of a)) (rules_at a)
       (λ p u rule callee is.
       has-run p u rule.node
-      (ap (λ (ns : List Node). slice_get ns p) (sym (nodes a.slots (body_of a))) ∙ mapped_at (λ (rule : Transition). rule.node) (rules_at a) p rule is)
+      (ap (λ (ns : List Node). slice_get ns p) (sym (nodes a.slots (body_of a))) ∙ get_mapped (λ (rule : Transition). rule.node) (rules_at a) p rule is)
       callee)
 
 -- ---- the entry

@@ -20,12 +20,6 @@ use Rattle.bl_emit_spec_laws_wellformed_bodies.proofs.OnCells.Locals.{total-appe
 pub all_such : {A : Type 0} (P : A → Type 0) (xs : List A) → ((x : A) → Contains xs x → P x) → All P xs
 all_such P xs each k d less = each _ (Contains-get_or xs k d less)
 
-pub taken_got : {A : Type 0} (xs : List A) (k u : ℕ) → u < k → slice_get (take k xs) u ≡ slice_get xs u
-taken_got xs zero u less = absurd (omega (arith, less))
-taken_got [] (suc k) u less = refl
-taken_got (x ∷ xs) (suc k) zero less = refl
-taken_got (x ∷ xs) (suc k) (suc u) less = taken_got xs k u (omega (arith, less))
-
 pub got_before : {A : Type 0} (xs : List A) (k u : ℕ) (x : A) → slice_get xs k ≡ Some x → u < k → (y : A) × (slice_get xs u ≡ Some y)
 got_before [] k u x there less = absurd (cc)
 got_before (y ∷ xs) zero u x there less = absurd (omega (arith, less))

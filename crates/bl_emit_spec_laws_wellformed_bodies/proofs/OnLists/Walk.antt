@@ -1,5 +1,5 @@
 -- The units of a program one after another: nothing fails in the functions of those that are needed.
-use Rattle.std.proofs.Common.{◌≡◌, ℕ, zero, suc, ◌<◌, ◌≤◌, ⊎_elim, Bool, true, false, not, List, [], ◌∷◌, ◌++◌}
+use Rattle.std.proofs.Common.{◌≡◌, ℕ, zero, suc, ◌<◌, ◌≤◌, ⊎_elim, Bool, true, false, List, [], ◌∷◌, ◌++◌}
 use Rattle.std.proofs.Common.{map, take, drop, length, Option, Some, None, refl, sym, ap, ◌∙◌, subst, arith, codes, append_assoc}
 use Rattle.std.proofs.lemmas.Bool.{cases_lt}
 use Rattle.std.proofs.lemmas.Bool.Decides.{nat_tests}
@@ -9,6 +9,8 @@ use Rattle.std.proofs.lemmas.Option.{same_Some, slice_get_within}
 use Rattle.std.proofs.lemmas.Slice.Eq.{bytes_eq-Decides}
 use Rattle.std.specs.Option.{option_or}
 use Rattle.std.specs.Prelude.{Contains, bytes_eq, is_some, nat_eq, nat_lt, slice_get, unwrap_or, if◌then◌else◌}
+use Rattle.std.proofs.lemmas.Bool.{not-true}
+use Rattle.bl_tree.proofs.Basics.{any_from, contains_first, contains_further, get_front, map_length, push_length, some_within, take_next}
 use Rattle.bl_tree.specs.declared.c.CFunc.{CFunc}
 use Rattle.bl_tree.specs.declared.c.CMember.{CMember}
 use Rattle.bl_tree.specs.declared.text.Text.{Text}
@@ -41,7 +43,7 @@ use Rattle.bl_emit_functions_laws_wellformed.specs.Files.Laws.{ChainsGrow, Chain
 use Rattle.bl_emit_functions_laws_wellformed.proofs.OnFiles.Chains.{code_few, taken}
 use Rattle.bl_emit_functions_laws_wellformed.proofs.OnFiles.Growing.{distinct_behind, names, one_place}
 use Rattle.bl_emit_functions_laws_wellformed.proofs.OnFiles.Under.{Under, back-under, front-under}
-use Rattle.bl_emit_functions_laws_wellformed.proofs.OnFiles.Walk.{drop_next, take_next}
+use Rattle.bl_emit_functions_laws_wellformed.proofs.OnFiles.Walk.{drop_next}
 use Rattle.bl_emit_spec_laws.proofs.OnRunPlaces.Sharing.{once_in}
 use Rattle.bl_emit_spec.specs.Activities.{Activity, RunAt, activity_function, activity_view, frame_struct, remembered_struct, remembers_any, rules_at, runs_at, runs_in_body}
 use Rattle.bl_emit_spec.specs.Blocks.{name_in}
@@ -52,7 +54,6 @@ use Rattle.bl_emit_spec_laws_wellformed_bodies.specs.Bodies.{ActivityStands}
 use Rattle.bl_emit_spec_laws_wellformed.proofs.OnChains.Nodes.{AllUnder, body_under}
 use Rattle.bl_emit_spec_laws_wellformed.specs.Chains.{ActivitiesCallFew, ActivityChainsGrow, ActivityChainsShort, IsOfUnit}
 use Rattle.bl_emit_spec_laws_wellformed.specs.Closed.{NeededClosed}
-use Rattle.bl_emit_spec_laws.proofs.OnOwn.Members.{any_true, further, here}
 use Rattle.bl_emit_spec_laws_wellformed_bodies.specs.Signed.{ActivitiesSigned, ActivitiesWellFormed}
 use Rattle.bl_emit_spec_laws_wellformed_bodies.proofs.OnLists.Agreeing.{IsBefore, all_known, by, is_need, light-alike, needs-counted, needs-light, prelude-light}
 use Rattle.bl_emit_spec_laws_wellformed_bodies.proofs.OnLists.Agreeing.{run_called}
@@ -63,20 +64,11 @@ use Rattle.bl_emit_spec_laws_wellformed_bodies.specs.Lists.{signature_by}
 
 -- ---- lists
 
-get_front : {A : Type 0} (xs ys : List A) (k : ℕ) → k < length xs → slice_get (xs ++ ys) k ≡ slice_get xs k
-get_front [] ys k less = absurd (omega (arith, less))
-get_front (x ∷ xs) ys zero less = refl
-get_front (x ∷ xs) ys (suc k) less = get_front xs ys k (omega (arith, less))
-
 get_last : {A : Type 0} (xs : List A) (y : A) (k : ℕ) → length xs ≡ k → slice_get (xs ++ y ∷ []) k ≡ Some y
 get_last [] y zero is = refl
 get_last [] y (suc k) is = absurd (omega (arith, is))
 get_last (x ∷ xs) y zero is = absurd (omega (arith, is))
 get_last (x ∷ xs) y (suc k) is = get_last xs y k (omega (arith, is))
-
-push_length : {A : Type 0} (xs : List A) (y : A) → length (xs ++ y ∷ []) ≡ suc (length xs)
-push_length [] y = refl
-push_length (x ∷ xs) y = ap suc (push_length xs y)
 
 taken_length : {A : Type 0} (k : ℕ) (xs : List A) → k ≤ length xs → length (take k xs) ≡ k
 taken_length zero xs le = refl
@@ -88,11 +80,6 @@ taken_at [] k f x there less = absurd (cc)
 taken_at (y ∷ xs) zero f x there less = absurd (omega (arith, less))
 taken_at (y ∷ xs) (suc k) zero x there less = there
 taken_at (y ∷ xs) (suc k) (suc f) x there less = taken_at xs k f x there (omega (arith, less))
-
-value_there : {A : Type 0} (xs : List A) (j : ℕ) → j < length xs → (x : A) × (slice_get xs j ≡ Some x)
-value_there [] j less = absurd (omega (arith, less))
-value_there (x ∷ xs) zero less = (x, refl)
-value_there (x ∷ xs) (suc j) less = value_there xs j (omega (arith, less))
 
 dropped_none : {A : Type 0} (k : ℕ) (xs : List A) → drop k xs ≡ [] → length xs ≤ k
 dropped_none zero [] is = omega arith
@@ -109,10 +96,6 @@ longer xs ys two =
     let all : length ys ≤ length (xs ++ ys) = behind_longer xs ys in
     let more : 2 ≤ length (xs ++ ys) = omega (arith, all, two) in
     grind (arith, nat_tests)
-
-no_activity : (b : Bool) → not b ≡ true → b ≡ false
-no_activity true h = absurd (cc)
-no_activity false h = refl
 
 -- ---- how many tests there are
 
@@ -134,14 +117,10 @@ up_length : (n : ℕ) → length (up_to n) ≡ n
 up_length zero = refl
 up_length (suc n) = push_length (up_to n) n ∙ ap suc (up_length n)
 
-mapped_length : {A B : Type 0} (f : A → B) (xs : List A) → length (map f xs) ≡ length xs
-mapped_length f [] = refl
-mapped_length f (x ∷ xs) = ap suc (mapped_length f xs)
-
 needed_length : (units : List UnitDef) (entry : ℕ) → length (needed_units units entry) ≡ length units
 needed_length units entry =
     below_length (length units) units (map (λ k. nat_eq k entry) (up_to (length units)))
-    ∙ mapped_length (λ k. nat_eq k entry) (up_to (length units)) ∙ up_length (length units)
+    ∙ map_length (λ k. nat_eq k entry) (up_to (length units)) ∙ up_length (length units)
 
 -- ---- tables
 
@@ -277,11 +256,11 @@ module _ (structs : List StructDef) (units : List UnitDef) (entry : ℕ) (given 
       stands-before f has =
           let less : f < k = earlier_than f has in
           let within : k < length units = slice_get_within units k unit there in
-          let found = value_there units f (let low : f < length units = omega (arith, less, within) in low) in
+          let found = some_within units f (let low : f < length units = omega (arith, less, within) in low) in
           record {
             unit = found.0;
             there = taken_at units k f found.0 found.1 less;
-            needed_so = given.closed.closed k f unit keeps there need (any_true (nat_eq f) (needs_of unit) f has (equal f));
+            needed_so = given.closed.closed k f unit keeps there need (any_from (nat_eq f) (needs_of unit) f has (equal f));
           }
         where
           equal : (n : ℕ) → nat_eq n n ≡ true
@@ -330,7 +309,7 @@ module _ (structs : List StructDef) (units : List UnitDef) (entry : ℕ) (given 
               everything (unit_name callee.name) ≡ Some (signature_for structs callee)
           functions_known f callee found is =
               full-known structs remember units differ k f callee found
-              ∙ ap (λ b. Some (signature_by b structs callee (unwrap_or (slice_get remember f) false))) (no_activity (is_activity callee.kind) is)
+              ∙ ap (λ b. Some (signature_by b structs callee (unwrap_or (slice_get remember f) false))) (not-true (is_activity callee.kind) is)
 
       -- ---- an activity
 
@@ -364,12 +343,12 @@ module _ (structs : List StructDef) (units : List UnitDef) (entry : ℕ) (given 
             ActivityStands units a table everything
         stands frames declared callees = record {
           declared = types;
-          frame = declared (frame_struct a) (here (frame_struct a) (remembered_struct a));
-          memory = λ s has. declared s (further (frame_struct a) (remembered_struct a) s has);
+          frame = declared (frame_struct a) (contains_first (frame_struct a) (remembered_struct a));
+          memory = λ s has. declared s (contains_further (frame_struct a) (remembered_struct a) s has);
           frames = λ run has. (let c = callees run has in frames_stand frames run has c.0 c.1.0 c.1.1);
           known = λ f callee found is.
               full-known structs remember units differ k f callee found
-              ∙ ap (λ b. Some (signature_by b structs callee (unwrap_or (slice_get remember f) false))) (no_activity (is_activity callee.kind) is);
+              ∙ ap (λ b. Some (signature_by b structs callee (unwrap_or (slice_get remember f) false))) (not-true (is_activity callee.kind) is);
           called = λ f callee found is.
               full-known structs remember units differ k f callee found
               ∙ ap (λ b. Some (signature_by b structs callee (unwrap_or (slice_get remember f) false))) is;
@@ -514,7 +493,7 @@ module _ (structs : List StructDef) (units : List UnitDef) (entry : ℕ) (given 
           (known-next k unit there remember functions knows r))
           (given.rises structs units entry k unit a depths keeps (record { there = there; is = refl; before = refl }) chains) forms.1
           (λ s has. declared s (Contains-append_right (parts_of_activity a).structs later.structs s has))
-          (frames_next k unit there frames (λ need active. ap is_some (mine (frame_struct a) (here (frame_struct a) (remembered_struct a)))))))
+          (frames_next k unit there frames (λ need active. ap is_some (mine (frame_struct a) (contains_first (frame_struct a) (remembered_struct a)))))))
       activity_step false need active (one ∷ machine) remember functions depths knows chains forms declared frames =
           let a : Activity = activity_of structs (take k units) remember unit one in
           let r : Bool = remembers_any a in

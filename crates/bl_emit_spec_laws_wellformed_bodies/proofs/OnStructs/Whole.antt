@@ -11,6 +11,8 @@ use Rattle.std.proofs.lemmas.Slice.Eq.{bytes_eq-Decides}
 use Rattle.std.specs.List.{list_all, list_any}
 use Rattle.std.specs.Option.{option_or}
 use Rattle.std.specs.Prelude.{bytes_eq, get_or, is_none, slice_get, slice_index, unwrap_or, if◌then◌else◌}
+use Rattle.std.proofs.lemmas.Bool.{and_from}
+use Rattle.bl_tree.proofs.Basics.{and_first, and_second, both_empty, contains_none, first_or_further, none_from}
 use Rattle.bl_tree.specs.declared.c.CMember.{CMember}
 use Rattle.bl_tree.specs.declared.c.CStruct.{CStruct}
 use Rattle.bl_tree.specs.declared.c.CType.TheVariants.{Struct as OfStruct}
@@ -25,7 +27,6 @@ use Rattle.bl_tree.specs.Program.{IsWellTyped, is_entry, parameters_of}
 use Rattle.bl_tree.specs.Program as tree
 use Rattle.bl_tree.specs.Typing.{inputs_of, outputs_of}
 use Rattle.bl_tree.specs.Words.{are_distinct, is_among, is_name}
-use Rattle.bl_eval.proofs.PassLemmas.{and_left, and_right, both}
 use Rattle.bl_limits.specs.Rules.{Passes}
 use Rattle.bl_limits_measures.specs.InOrder.{answers}
 use Rattle.bl_limits_measures.specs.Types.{fields_nesting, nesting, struct_nestings}
@@ -49,7 +50,7 @@ use Rattle.bl_emit_spec_laws_wellformed_bodies.proofs.OnStructs.Heights.{Height,
 use Rattle.bl_emit_spec_laws_wellformed_bodies.proofs.OnStructs.Heights.{fine_type, type_class}
 use Rattle.bl_emit_spec_laws_wellformed_bodies.proofs.OnStructs.Interface.{Ports, inputs_differ, inputs_fit, inputs_ports, outputs_differ, outputs_fit}
 use Rattle.bl_emit_spec_laws_wellformed_bodies.proofs.OnStructs.Interface.{outputs_ports, port_scalar, state_differs, state_members}
-use Rattle.bl_emit_spec_laws_wellformed_bodies.proofs.OnStructs.Lists.{first_or, known_both, list_known, none_has}
+use Rattle.bl_emit_spec_laws_wellformed_bodies.proofs.OnStructs.Lists.{known_both, list_known}
 use Rattle.bl_emit_spec_laws_wellformed_bodies.proofs.OnStructs.Sound.{Fine, Lower, deep_nothing, structs_sound}
 
 abbrev has : Text → List Text → Bool
@@ -60,7 +61,7 @@ has name names = list_any (bytes_eq name) names
 all_of_each : {A : Type 0} (test : A → Bool) (xs : List A) → ((x : A) → Contains xs x → test x ≡ true) → list_all test xs ≡ true
 all_of_each test [] each = refl
 all_of_each test (x ∷ xs) each =
-    both (test x) (list_all test xs) (each x (0, omega arith, refl))
+    and_from (test x) (list_all test xs) (each x (0, omega arith, refl))
     (all_of_each test xs (λ y at. each y (suc at.0, (let lt = at.1 in omega arith), at.2)))
 
 once_has : (taken : List Text) (xs : List CStruct) (s : CStruct) → Contains (each_once taken xs) s → Contains xs s
@@ -74,7 +75,7 @@ once_has taken (x ∷ xs) s there = by (has x.name taken) (once_has taken xs s) 
         Contains (if b then each_once taken xs else x ∷ each_once (taken ++ x.name ∷ []) xs) s → Contains (x ∷ xs) s
     by true old new at = one_further (old at)
     by false old new at =
-        ⊎_elim (λ is. (0, omega arith, is)) (λ behind. one_further (new behind)) (first_or x (each_once (taken ++ x.name ∷ []) xs) s at)
+        ⊎_elim (λ is. (0, omega arith, is)) (λ behind. one_further (new behind)) (first_or_further x (each_once (taken ++ x.name ∷ []) xs) s at)
 
 -- ---- names that differ
 
@@ -91,11 +92,11 @@ differ_both : (xs ys : List CStruct) → are_distinct (names_of xs) ≡ true →
     ((x y : CStruct) → Contains xs x → Contains ys y → x.name ≡ y.name → ⊥) → are_distinct (names_of (xs ++ ys)) ≡ true
 differ_both [] ys one two apart = two
 differ_both (x ∷ xs) ys one two apart =
-    both (not (is_among x.name (names_of (xs ++ ys)))) (are_distinct (names_of (xs ++ ys)))
+    and_from (not (is_among x.name (names_of (xs ++ ys)))) (are_distinct (names_of (xs ++ ys)))
     (ap not (ap (is_among x.name) (map-append (λ (s : CStruct). s.name) xs ys) ∙ list_any-append (bytes_eq x.name) (names_of xs) (names_of ys)
     ∙ ap (λ b. is_among x.name (names_of xs) || b) (not_among x.name ys (λ y at is. apart x y (0, omega arith, refl) at is)))
-    ∙ none (is_among x.name (names_of xs)) (and_left (not (is_among x.name (names_of xs))) (are_distinct (names_of xs)) one))
-    (differ_both xs ys (and_right (not (is_among x.name (names_of xs))) (are_distinct (names_of xs)) one) two
+    ∙ none (is_among x.name (names_of xs)) (and_first (not (is_among x.name (names_of xs))) (are_distinct (names_of xs)) one))
+    (differ_both xs ys (and_second (not (is_among x.name (names_of xs))) (are_distinct (names_of xs)) one) two
     (λ z y at there. apart z y (suc at.0, (let lt = at.1 in omega arith), at.2) there))
   where
     none : (b : Bool) → not b ≡ true → not (b || false) ≡ true
@@ -107,9 +108,9 @@ others_new : (seen : List Text) (xs : List CStruct) → are_distinct (names_of x
     ((name : Text) → has name (names_of xs) ≡ true → has name seen ≡ false) → are_new seen xs ≡ true
 others_new seen [] differ new = refl
 others_new seen (s ∷ rest) differ new =
-    both (not (has s.name seen)) (are_new (seen ++ s.name ∷ []) rest)
+    and_from (not (has s.name seen)) (are_new (seen ++ s.name ∷ []) rest)
     (ap not (new s.name (first_of (bytes_eq s.name s.name) (has s.name (names_of rest)) ((bytes_eq-Decides s.name s.name).1 refl))))
-    (others_new (seen ++ s.name ∷ []) rest (and_right (not (is_among s.name (names_of rest))) (are_distinct (names_of rest)) differ) later)
+    (others_new (seen ++ s.name ∷ []) rest (and_second (not (is_among s.name (names_of rest))) (are_distinct (names_of rest)) differ) later)
   where
     first_of : (a b : Bool) → a ≡ true → (a || b) ≡ true
     first_of true b h = refl
@@ -130,7 +131,7 @@ others_new seen (s ∷ rest) differ new =
         let same : x ≡ s.name = (bytes_eq-Decides x s.name).0 is in
         let among : is_among s.name (names_of rest) ≡ true = subst (λ n. has n (names_of rest) ≡ true) same there in
         let none : not (is_among s.name (names_of rest)) ≡ true =
-        and_left (not (is_among s.name (names_of rest))) (are_distinct (names_of rest)) differ in
+        and_first (not (is_among s.name (names_of rest))) (are_distinct (names_of rest)) differ in
         absurd (let no : not true ≡ true = ap not (sym among) ∙ none in cc)
 
     later : (x : Text) → has x (names_of rest) ≡ true → has x (seen ++ s.name ∷ []) ≡ false
@@ -141,17 +142,9 @@ others_new seen (s ∷ rest) differ new =
 
 -- ---- a list of structs in which nothing fails
 
-none_front : {A : Type 0} (xs ys : List A) → xs ++ ys ≡ [] → (xs ≡ []) × (ys ≡ [])
-none_front [] ys is = (refl, is)
-none_front (x ∷ xs) ys is = absurd (cc)
-
 holds : (test : Bool) (clause : Clause) (place : Place) → unless test clause place ≡ [] → test ≡ true
 holds true clause place is = refl
 holds false clause place is = absurd (cc)
-
-nothing_there : {A : Type 0} (o : Option A) → is_none o ≡ true → o ≡ None
-nothing_there None is = refl
-nothing_there (Some x) is = absurd (cc)
 
 both_free : {A : Type 0} (o : Option A) (b : Bool) (new : A) → option_or o (if b then Some new else None) ≡ None → (o ≡ None) × (b ≡ false)
 both_free None true new is = absurd (cc)
@@ -174,13 +167,13 @@ declared : (list : List CStruct) (table : Table (Table CMember)) (depths : Table
     (s : CStruct) → Contains list s → (table s.name ≡ None) × (found s.name (map entry_of list) ≡ Some (member_table s))
 declared [] table depths none s (k, within, is) = absurd (omega (arith, within))
 declared (y ∷ list) table depths none s (zero, within, is) =
-    let faults = none_front (faults_in_struct table depths y) _ none in
-    let front = none_front (unless (is_none (table y.name)) distinct_names y.place) _ faults.0 in
-    let free : table y.name ≡ None = nothing_there (table y.name) (holds (is_none (table y.name)) distinct_names y.place front.0) in
+    let faults = both_empty (faults_in_struct table depths y) _ none in
+    let front = both_empty (unless (is_none (table y.name)) distinct_names y.place) _ faults.0 in
+    let free : table y.name ≡ None = none_from (table y.name) (holds (is_none (table y.name)) distinct_names y.place front.0) in
     subst (λ (s : CStruct). (table s.name ≡ None) × (found s.name (map entry_of (y ∷ list)) ≡ Some (member_table s))) is
     (free, first_found (member_table y) (bytes_eq y.name y.name) (found y.name (map entry_of list)) ((bytes_eq-Decides y.name y.name).1 refl))
 declared (y ∷ list) table depths none s (suc k, within, is) =
-    let faults = none_front (faults_in_struct table depths y) _ none in
+    let faults = both_empty (faults_in_struct table depths y) _ none in
     let rest = declared list (with_entry table y.name (member_table y)) (with_entry depths y.name (depth_of_struct depths y)) faults.1 s
     (k, omega (arith, within), is) in
     let free = both_free (table s.name) (bytes_eq y.name s.name) (member_table y) rest.0 in
@@ -292,8 +285,8 @@ module _ (structs : List StructDef) (units : List UnitDef) (entry : ℕ) (keeps 
     last_cases s at =
         ⊎_elim (λ is. inl (sym is))
         (λ more. ⊎_elim (λ is. inr (inl (sym is)))
-        (λ more. ⊎_elim (λ is. inr (inr (sym is))) (λ none. absurd (none_has s none)) (first_or out_ports [] s more))
-        (first_or in_ports (out_ports ∷ []) s more)) (first_or state (in_ports ∷ out_ports ∷ []) s at)
+        (λ more. ⊎_elim (λ is. inr (inr (sym is))) (λ none. absurd (contains_none s none)) (first_or_further out_ports [] s more))
+        (first_or_further in_ports (out_ports ∷ []) s more)) (first_or_further state (in_ports ∷ out_ports ∷ []) s at)
 
     last_named : (s : CStruct) → Contains last s → class s.name ≡ 98
     last_named s at =
@@ -351,12 +344,12 @@ module _ (structs : List StructDef) (units : List UnitDef) (entry : ℕ) (keeps 
 
     last_known : are_known front last ≡ true
     last_known =
-        both (list_all (λ (m : CMember). is_known front m.ty) state.members) (are_known (front ++ state.name ∷ []) (in_ports ∷ out_ports ∷ []))
+        and_from (list_all (λ (m : CMember). is_known front m.ty) state.members) (are_known (front ++ state.name ∷ []) (in_ports ∷ out_ports ∷ []))
         state_known
-        (both (list_all (λ (m : CMember). is_known (front ++ state.name ∷ []) m.ty) in_ports.members)
+        (and_from (list_all (λ (m : CMember). is_known (front ++ state.name ∷ []) m.ty) in_ports.members)
         (are_known ((front ++ state.name ∷ []) ++ in_ports.name ∷ []) (out_ports ∷ []))
         (ports_known (front ++ state.name ∷ []) (codes "bl_in") (codes "i_") (inputs_of unit) ins)
-        (both (list_all (λ (m : CMember). is_known ((front ++ state.name ∷ []) ++ in_ports.name ∷ []) m.ty) out_ports.members) true
+        (and_from (list_all (λ (m : CMember). is_known ((front ++ state.name ∷ []) ++ in_ports.name ∷ []) m.ty) out_ports.members) true
         (ports_known ((front ++ state.name ∷ []) ++ in_ports.name ∷ []) (codes "bl_out") (codes "o_") (outputs_of unit) outs) refl))
 
     all_known : UsesEarlier structs units entry → are_known [] (types ++ (parts.structs ++ last)) ≡ true
@@ -383,9 +376,9 @@ module _ (structs : List StructDef) (units : List UnitDef) (entry : ℕ) (keeps 
     all_members : MembersDiffer structs units entry → list_all differs (types ++ (parts.structs ++ last)) ≡ true
     all_members members =
         list_all-append differs types (parts.structs ++ last)
-        ∙ both (list_all differs types) (list_all differs (parts.structs ++ last)) (members keeps)
+        ∙ and_from (list_all differs types) (list_all differs (parts.structs ++ last)) (members keeps)
         (list_all-append differs parts.structs last
-        ∙ both (list_all differs parts.structs) (list_all differs last) (all_of_each differs parts.structs part_members)
+        ∙ and_from (list_all differs parts.structs) (list_all differs last) (all_of_each differs parts.structs part_members)
         (all_of_each differs last last_members))
 
     -- ---- depth
@@ -478,10 +471,10 @@ files_declare program names members earlier apart at sound machine unit keeps li
     let units : List UnitDef = program.units in
     let parts : ProgramParts = program_parts structs units program.entry machine in
     let stands = unit_at structs units program.entry keeps program.entry unit there in
-    let named : list_all is_name (tree.names_of unit.vars) ≡ true = and_left _ _ (and_right _ _ (and_left _ _ stands)) in
-    let distinct : are_distinct (tree.names_of (parameters_of unit)) ≡ true = and_right _ _ (and_right _ _ (and_left _ _ stands)) in
+    let named : list_all is_name (tree.names_of unit.vars) ≡ true = and_first _ _ (and_second _ _ (and_first _ _ stands)) in
+    let distinct : are_distinct (tree.names_of (parameters_of unit)) ≡ true = and_second _ _ (and_second _ _ (and_first _ _ stands)) in
     let entry_so : is_entry (Some unit) ≡ true = ap is_entry (sym there) ∙ keeps.entry_stands in
-    let scalars = and_right _ _ (and_right _ _ entry_so) in
+    let scalars = and_second _ _ (and_second _ _ entry_so) in
     let all = file_structs structs units program.entry keeps apart (nests structs units program.entry limits) (short structs units program.entry limits) parts
     (sound machine keeps limits agrees) unit there (inputs_ports unit scalars named distinct) (outputs_ports unit scalars named distinct)
     names members earlier at in

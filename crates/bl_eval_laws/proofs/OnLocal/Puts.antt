@@ -1,14 +1,12 @@
 -- A value that is put where two lists of variables are alike leaves them alike.
 use Rattle.std.proofs.Common.{◌≡◌, ℕ, zero, suc, List, [], ◌∷◌, ◌++◌, Option, Some, None, refl, sym, ap, ◌∙◌, subst}
 use Rattle.std.specs.Prelude.{option_map, option_and_then, slice_get, slice_set, ⊤}
+use Rattle.bl_tree.proofs.Basics.{same_some}
 use Rattle.bl_tree.specs.declared.static_path.Static.{Static}
 use Rattle.bl_tree.specs.declared.value.Value.{Value}
 use Rattle.bl_tree.specs.declared.value.Value.TheVariants.{Parts, outs-Parts}
 use Rattle.bl_eval.specs.Values.{parts_at, parts_in, put_at, value_at, with_value_at}
 use Rattle.bl_eval_laws.specs.Local.{Alike, LeftAlike, at_path}
-
-pub some_same : {A : Type 0} (x y : A) → Some x ≡ Some y → x ≡ y
-some_same x y e = cc
 
 -- ---- at one value
 
@@ -111,10 +109,10 @@ made_alike qs fields k j xs ys x y (Some a) (Some b) at at' h one other =
 
 put_same : (fields rest qs : List ℕ) (new v w : Value) → value_at fields v ≡ value_at fields w → value_at qs v ≡ value_at qs w →
     AfterSame qs (with_value_at (fields ++ rest) new v) (with_value_at (fields ++ rest) new w)
-put_same [] rest qs new v w e h = after_equal qs (with_value_at rest new v) (with_value_at rest new w) (ap (with_value_at rest new) (some_same v w e))
+put_same [] rest qs new v w e h = after_equal qs (with_value_at rest new v) (with_value_at rest new w) (ap (with_value_at rest new) (same_some v w e))
 put_same (k ∷ fields) rest [] new v w e h =
     after_equal [] (with_value_at (k ∷ (fields ++ rest)) new v) (with_value_at (k ∷ (fields ++ rest)) new w)
-    (ap (with_value_at (k ∷ (fields ++ rest)) new) (some_same v w h))
+    (ap (with_value_at (k ∷ (fields ++ rest)) new) (same_some v w h))
 put_same (k ∷ fields) rest (j ∷ qs) new v w e h =
     by_mid (λ qs old old' same there. put_same fields rest qs new old old' same there) (value_at (k ∷ fields) v) refl
   where

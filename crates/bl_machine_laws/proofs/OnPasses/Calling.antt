@@ -2,6 +2,7 @@
 use Rattle.std.proofs.Common.{◌≡◌, ◌⊎◌, inl, inr, ℕ, ◌≤◌, Bool, true, false, not, ◌&&◌, List, [], ◌∷◌}
 use Rattle.std.proofs.Common.{◌++◌, Some, refl, ap, ◌∙◌, subst, arith}
 use Rattle.std.specs.Prelude.{unwrap_or}
+use Rattle.bl_tree.proofs.Basics.{true_false_any}
 use Rattle.bl_graph_nodes.specs.Nodes.{Node, place_of_node}
 use Rattle.bl_graph_nodes.specs.Steps.{Gives, Here, Inside, StepLabel, run_node}
 use Rattle.bl_ctree.specs.Control.{Body}
@@ -14,7 +15,6 @@ use Rattle.bl_ctree_laws.specs.Steps.{Anyway, Moves}
 use Rattle.bl_ctree_laws.specs.Trees.{Call, Tree, Nil, Run, is_nil, is_settled}
 use Rattle.bl_ctree_laws_traces.specs.Ready.Ranks.{Lower, ranks_in}
 use Rattle.bl_machine_laws.specs.Numbers.Turns.{AnsweredDeed}
-use Rattle.bl_machine_laws.proofs.OnWaiting.Quiet.{differ}
 use Rattle.bl_machine_laws.specs.Passes.Low.{LowSteps, LowTrap, Lowest, on, stay}
 use Rattle.bl_machine_laws.proofs.OnPasses.Holes.{Has, Hole, fill, hole_moves, lift_moves, this_has}
 use Rattle.bl_machine_laws.proofs.OnPasses.Numbers.{not_less}
@@ -80,7 +80,7 @@ module _ {w : Setting} {i : ℕ} where
   run_inner : {d : Bool} {a : Deed} {n : StepLabel} {c' : Tree} {s : Call} {callee : ℕ} {stood : Bool} {c : Tree} →
       is_settled c ≡ false → Moves Anyway w i (Run s callee Body stood c) d a n c' →
       (step : StepLabel) × (n ≡ Inside (run_node stood s.label s.place s.arguments) s.unit step) × Has w callee c step
-  run_inner moving moves.run_ends = differ true refl moving
+  run_inner moving moves.run_ends = true_false_any true refl moving
   run_inner moving (moves.in_run {n = step} move) = (step, refl, this_has move)
 
   end_inner : {d : Bool} {a : Deed} {n : StepLabel} {c' : Tree} {s : Call} {callee : ℕ} {stood : Bool} →

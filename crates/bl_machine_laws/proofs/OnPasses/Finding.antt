@@ -1,6 +1,7 @@
 -- What waits first can act: where it stands in its tree.
 use Rattle.std.proofs.Common.{◌≡◌, inl, inr, ℕ, ◌<◌, ◌≤◌, Bool, true, false, not, ◌&&◌, ◌||◌, List, Option}
 use Rattle.std.proofs.Common.{Some, None, refl, sym, ap, ◌∙◌, subst, arith}
+use Rattle.bl_tree.proofs.Basics.{and_first, and_second, true_false_any}
 use Rattle.bl_tree.specs.declared.place.Place.{Place as Source}
 use Rattle.bl_tree.specs.declared.tree.Expr.{Expr}
 use Rattle.bl_tree.specs.declared.tree.Path.{Path}
@@ -19,7 +20,7 @@ use Rattle.bl_ctree_laws_traces.specs.Progress.FitsGraph.{AllFitGraph, FitsGraph
 use Rattle.bl_ctree_laws_traces.specs.Progress.Places.{Place, ahead_of, guarded, in_branch, later_on, whole}
 use Rattle.bl_machine_laws.specs.Numbers.Waiting.{SomeWaits, Waits, check_of}
 use Rattle.bl_machine_laws.proofs.OnWaiting.Fresh.{done_strong, is_weak}
-use Rattle.bl_machine_laws.proofs.OnWaiting.Quiet.{after_closed, and_first, and_second, differ, done_ends, in_part, part_closed, something_waits}
+use Rattle.bl_machine_laws.proofs.OnWaiting.Quiet.{after_closed, done_ends, in_part, part_closed, something_waits}
 use Rattle.bl_machine_laws.specs.Passes.Steady.{AllSteady, Steady}
 use Rattle.bl_machine_laws.proofs.OnPasses.Holes.{Hole, Holes, fill, fill_one, in_block, in_fork, in_watch, next, seq_is, this, top, unsettled_open}
 use Rattle.bl_machine_laws.proofs.OnPasses.Numbers.{after_rises, not_less}
@@ -85,14 +86,14 @@ module _ {w : Setting} {i : ℕ} where
   found_end : (s : Watch) (stood : Bool) (c : Tree) (n : Node) → is_nil c ≡ true → Waits c (Some (end_node stood s.label s.place)) n →
       Found w i (Guard s Body stood c) n
   found_end s stood Nil n e h = here _ h (simple closes)
-  found_end s stood (Wait p) n e h = differ false e refl
-  found_end s stood (Test p) n e h = differ false e refl
-  found_end s stood (Idle body) n e h = differ false e refl
-  found_end s stood (Do p) n e h = differ false e refl
-  found_end s stood (Seq c rest) n e h = differ false e refl
-  found_end s stood (Par p before branches) n e h = differ false e refl
-  found_end s stood (Guard p phase before c) n e h = differ false e refl
-  found_end s stood (Run p callee phase before c) n e h = differ false e refl
+  found_end s stood (Wait p) n e h = true_false_any false e refl
+  found_end s stood (Test p) n e h = true_false_any false e refl
+  found_end s stood (Idle body) n e h = true_false_any false e refl
+  found_end s stood (Do p) n e h = true_false_any false e refl
+  found_end s stood (Seq c rest) n e h = true_false_any false e refl
+  found_end s stood (Par p before branches) n e h = true_false_any false e refl
+  found_end s stood (Guard p phase before c) n e h = true_false_any false e refl
+  found_end s stood (Run p callee phase before c) n e h = true_false_any false e refl
 
   -- where its body has ended or not
   found_watch : (s : Watch) (stood : Bool) (c : Tree) (n : Node) → Waits c (Some (end_node stood s.label s.place)) n →
@@ -154,7 +155,7 @@ late_first w i g stood instant weak c branches weak' body rest l at instantly li
 late : (w : Setting) (i : ℕ) (g : Place) (stood instant : Bool) (branches : Trees) (bodies : Bodies) (l : Label) (at : Source) →
     (stood ≡ false → instant ≡ true) → AllFitGraph w i branches bodies stood g → AllSteady branches → strong_ended branches ≡ true →
     are_settled branches ≡ false → Late branches (EdgeEach bodies l at instant) (join_node stood l at)
-late w i g stood instant no_tree bodies l at instantly live steady ended left = differ true refl left
+late w i g stood instant no_tree bodies l at instantly live steady ended left = true_false_any true refl left
 late w i g stood instant (beside weak c branches) Last l at instantly live steady ended left = absurd live
 late w i g stood instant (beside weak c branches) (BodyOf weak' body rest) l at instantly live steady ended left =
     late_first w i g stood instant weak c branches weak' body rest l at instantly live steady.0
@@ -191,7 +192,7 @@ module _ {w : Setting} (number : Node → ℕ) where
   mutual
     pub find : {i : ℕ} (g : Place) (c : Tree) (follows : Option Node) (n : Node) → FitsGraph w i c g → Steady c → Rises number g.edges →
         is_nil c ≡ false → Waits c follows n → IsFirst number c follows n → Found w i c n
-    find g Nil follows n live steady up unended h first = differ true refl unended
+    find g Nil follows n live steady up unended h first = true_false_any true refl unended
     find g (Wait s) follows n live steady up unended h first = absurd h
     find g (Test s) follows n live steady up unended h first = here (Test s) h (simple tests)
     find g (Idle body) follows n live steady up unended h first = absurd h
@@ -216,7 +217,7 @@ module _ {w : Setting} (number : Node → ℕ) where
     find g (Guard s Check stood c) follows n live steady up unended (inl h) first = here (Guard s Check stood c) h (simple checks)
     find {i} g (Guard s Check stood c) follows n live steady up unended (inr h) first =
         let after = in_part w i (later_on (guarded s g)) c (Some (end_node stood s.label s.place)) n live.0 after_closed
-        (λ nil. differ (is_nil c) nil live.1.unended) h in
+        (λ nil. true_false_any (is_nil c) nil live.1.unended) h in
         let less : number (check_of s) < number n = after_rises number up after in
         let most : number n ≤ number (check_of s) = first (check_of s) (inl refl) in
         not_less (number n) (omega arith)

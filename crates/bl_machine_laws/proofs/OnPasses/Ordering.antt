@@ -3,13 +3,14 @@ use Rattle.std.proofs.Common.{◌≡◌, ℕ, zero, suc, ◌+◌, ◌<◌, ◌�
 use Rattle.std.proofs.Common.{arith, eq-eqb, eqb-true}
 use Rattle.std.specs.Prelude.{Contains, nat_eq, slice_get, if◌then◌else◌}
 use Rattle.std.proofs.lemmas.Option.{slice_get_within}
+use Rattle.std.proofs.lemmas.Bool.{and_from}
+use Rattle.bl_tree.proofs.Basics.{and_first, and_second}
 use Rattle.bl_tree.specs.declared.tree.Stmt.{Stmt}
 use Rattle.bl_tree.specs.declared.tree.Unit.{Unit as UnitDef}
 use Rattle.bl_graph_nodes.specs.Nodes.{Node, label_of, nodes_in}
 use Rattle.bl_graph_nodes.specs.Plain.{Block, Label, Position, plain_block, plain_body}
 use Rattle.bl_graph.specs.Laws.{StaysWithin}
 use Rattle.bl_ctree.specs.Instances.{Setting, unit_at}
-use Rattle.bl_ctree_laws.proofs.Tests.{and_both, and_first, and_second}
 use Rattle.bl_ctree_laws_traces.specs.Ready.Ordered.{HasRanks, OrdersGiveRanks}
 use Rattle.bl_ctree_laws_traces.proofs.OnReady.Keys.{Same, bodies_differ_so, one_of_each, sort_of}
 use Rattle.bl_machine_laws.specs.Passes.Orders.{GraphsGiveOrders, HasOrders}
@@ -25,7 +26,7 @@ same_list (x ∷ xs) (y ∷ ys) = nat_eq x y && same_list xs ys
 
 list_itself : (xs : List ℕ) → same_list xs xs ≡ true
 list_itself [] = refl
-list_itself (x ∷ xs) = and_both (nat_eq x x) (same_list xs xs) (eq-eqb x x refl) (list_itself xs)
+list_itself (x ∷ xs) = and_from (nat_eq x x) (same_list xs xs) (eq-eqb x x refl) (list_itself xs)
 
 lists_same : (xs ys : List ℕ) → same_list xs ys ≡ true → xs ≡ ys
 lists_same [] [] e = refl
@@ -39,9 +40,9 @@ abbrev same_node : Node → Node → Bool
 same_node n m = same_list (label_of n).position (label_of m).position && (nat_eq (label_of n).passed (label_of m).passed && nat_eq (sort_of n) (sort_of m))
 
 node_itself : (n : Node) → same_node n n ≡ true
-node_itself n = and_both (same_list (label_of n).position (label_of n).position)
+node_itself n = and_from (same_list (label_of n).position (label_of n).position)
     (nat_eq (label_of n).passed (label_of n).passed && nat_eq (sort_of n) (sort_of n)) (list_itself (label_of n).position)
-    (and_both (nat_eq (label_of n).passed (label_of n).passed) (nat_eq (sort_of n) (sort_of n))
+    (and_from (nat_eq (label_of n).passed (label_of n).passed) (nat_eq (sort_of n) (sort_of n))
     (eq-eqb (label_of n).passed (label_of n).passed refl) (eq-eqb (sort_of n) (sort_of n) refl))
 
 abbrev label_with : Position → ℕ → Label

@@ -3,6 +3,7 @@ use Rattle.std.proofs.Common.{◌≡◌, ◌⊎◌, inl, inr, ⊎_elim, ℕ, zer
 use Rattle.std.proofs.Common.{sym, ap, ◌∙◌, subst, arith}
 use Rattle.std.specs.Prelude.{Contains, option_and_then, slice_get}
 use Rattle.std.proofs.lemmas.Option.{slice_get_within}
+use Rattle.bl_tree.proofs.Basics.{true_false_any}
 use Rattle.bl_tree.specs.declared.place.Place.{Place as Source}
 use Rattle.bl_tree.specs.declared.tree.StructDef.{StructDef}
 use Rattle.bl_tree.specs.declared.tree.Unit.{Unit as UnitDef}
@@ -35,9 +36,9 @@ use Rattle.bl_machine_laws.specs.Numbers.Waiting.{Waits}
 use Rattle.bl_machine_laws.proofs.OnNumbers.Walking.{point_moves}
 use Rattle.bl_machine_laws.specs.Waiting.Laws.{TurnsLeadOn, WaitsInPart}
 use Rattle.bl_machine_laws.proofs.OnWaiting.Fresh.{ends_walk, nil_is}
-use Rattle.bl_machine_laws.proofs.OnWaiting.Quiet.{differ, something_waits}
+use Rattle.bl_machine_laws.proofs.OnWaiting.Quiet.{something_waits}
 use Rattle.bl_machine_laws.specs.Passes.Follows as follows
-use Rattle.bl_machine_laws.specs.Passes.Follows.{Fails, First, Follows, TurnSteps, TurnTraps}
+use Rattle.bl_machine_laws.specs.Passes.Follows.{First, Follows, TurnSteps, TurnTraps}
 use Rattle.bl_machine_laws.specs.Passes.Low.{LowSteps, LowTrap, Lowest, on, stay}
 use Rattle.bl_machine_laws.specs.Passes.Orders.{Orders}
 use Rattle.bl_machine_laws.specs.Passes.Pass.{InstancesHavePasses, PassOrTrap, WaitsFrom, comes_to_end, is_cut}
@@ -150,7 +151,7 @@ module _ (moving : MovingIsUnsettled) (shrinks : EndsShrink) (lists : TurnsAreWa
 
       by_end : (b : Bool) → is_nil c ≡ b → is_nil c ≡ false
       by_end true e =
-          differ (may_end (do_block (plain_body unit.body)))
+          true_false_any (may_end (do_block (plain_body unit.body)))
           (ends_walk rank paces shrinks lists waiting (lists.passes w rank callee 0 (do_block (plain_body unit.body)) done c passes) (ended e))
           (do_ends (plain_body unit.body) ∙ paces callee unit is)
       by_end false e = e

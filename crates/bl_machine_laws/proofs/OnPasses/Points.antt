@@ -1,6 +1,7 @@
 -- What a tree does at a node, by the answer that a store gives.
 use Rattle.std.proofs.Common.{◌≡◌, ◌⊎◌, inl, inr, ℕ, Bool, true, false, Option, Some, None, refl, sym, ap, ◌∙◌}
 use Rattle.std.specs.Prelude.{option_map}
+use Rattle.bl_tree.proofs.Basics.{same_some}
 use Rattle.bl_tree.specs.declared.tree.Guard.{Guard as GuardKind}
 use Rattle.bl_tree.specs.declared.tree.Guard.TheVariants.{Abort, Reset}
 use Rattle.bl_graph_nodes.specs.Nodes.{Node, entry}
@@ -27,11 +28,8 @@ is_plain (Asks e) = false
 is_plain (Copies callee inputs) = true
 is_plain (Gives callee target) = true
 
-some_is : {A : Type 0} (x y : A) → Some x ≡ Some y → x ≡ y
-some_is x y e = cc
-
 done_true : (store : Store) (p : Performed) → Some (done store) ≡ Some p → p.answer ≡ true
-done_true store p e = ap (λ x. x.answer) (sym (some_is (done store) p e))
+done_true store p e = ap (λ x. x.answer) (sym (same_some (done store) p e))
 
 mapped_true : {A : Type 0} (make : A → Store) (x : Option A) (p : Performed) → option_map (λ v. done (make v)) x ≡ Some p → p.answer ≡ true
 mapped_true make None p e = absurd cc

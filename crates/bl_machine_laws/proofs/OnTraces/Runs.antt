@@ -1,6 +1,7 @@
 -- Runs of passes are runs that the meaning allows, and there is one over all rows.
 use Rattle.std.proofs.Common.{◌≡◌, ◌⊎◌, inl, inr, ℕ, Bool, true, false, List, [], ◌∷◌, ◌++◌, Some, refl, sym, ap, ◌∙◌, subst}
 use Rattle.std.specs.Prelude.{ℤ}
+use Rattle.bl_tree.proofs.Basics.{true_false_any}
 use Rattle.bl_tree.specs.declared.row.Last.{Last}
 use Rattle.bl_tree.specs.declared.row.Last.TheVariants.{Open, Ended as HasEnded, Trap as HasTrapped}
 use Rattle.bl_tree.specs.declared.row.Trace.{Trace}
@@ -30,7 +31,6 @@ use Rattle.bl_ctree_laws_confluence.specs.Deeds.Orderly.{AcceptedIsOrderly}
 use Rattle.bl_ctree_laws_confluence.specs.Independent.Accepted.{AcceptedTracesAreOne}
 use Rattle.bl_ctree_laws_traces.specs.Ready.Never.{ReachedLowestMayAct}
 use Rattle.bl_ctree_laws_traces.specs.Ready.Ordered.{UnitsAreOrdered}
-use Rattle.bl_machine_laws.proofs.OnWaiting.Quiet.{differ}
 use Rattle.bl_machine_laws.specs.Passes.Low.{LowTrap}
 use Rattle.bl_machine_laws.specs.Passes.Orders.{Orders}
 use Rattle.bl_machine_laws.specs.Passes.Pass.{WholePass}
@@ -68,7 +68,7 @@ module _ (lowest : ReachedLowestMayAct) (complete : PlainStepsAreSteps) (sound :
   still : (c : Control) → Residual W true 0 (entry_items W) c → is_settled (plain_tree c) ≡ true → located.IsStill W c
   still c is_left settled d a c' move =
       let plain = sound W true 0 (entry_items W) c d a c' is_left move in
-      differ (is_settled (plain_tree c)) settled
+      true_false_any (is_settled (plain_tree c)) settled
       (moving W 0 (plain_tree c) d (deed_of a) plain.label (plain_tree c')
       (could W 0 (plain_tree c) d (deed_of a) plain.label (plain_tree c') plain.moves))
 

@@ -1,5 +1,7 @@
 -- What waits in live trees.
 use Rattle.std.proofs.Common.{◌≡◌, inl, inr, ℕ, Bool, true, false, not, ◌&&◌, ◌||◌, if◌then◌else◌, Option, Some, None, refl, sym, ap, subst, ◌∙◌}
+use Rattle.std.proofs.lemmas.Bool.{not-false, not-true}
+use Rattle.bl_tree.proofs.Basics.{and_first, and_second, true_false_any}
 use Rattle.bl_graph_nodes.specs.Nodes.{Node, entry}
 use Rattle.bl_graph_nodes.specs.Plain.{Block, Bodies, Body as BodyOf, Done, Last, Then}
 use Rattle.bl_graph_nodes.specs.Steps.{end_node, join_node, run_node}
@@ -16,26 +18,6 @@ use Rattle.bl_machine_laws.specs.Numbers.Waiting.{Is, SomeWaits, Waits, check_of
 use Rattle.bl_machine_laws.specs.Waiting.Laws.{AllPassed, RunsArePassed, SomethingWaits}
 
 -- ---- tests
-
-pub and_first : (a b : Bool) → (a && b) ≡ true → a ≡ true
-and_first true b e = refl
-and_first false b e = absurd cc
-
-pub and_second : (a b : Bool) → (a && b) ≡ true → b ≡ true
-and_second true b e = e
-and_second false b e = absurd cc
-
-pub not_true : (a : Bool) → not a ≡ true → a ≡ false
-not_true true e = absurd cc
-not_true false e = refl
-
-not_false : (a : Bool) → not a ≡ false → a ≡ true
-not_false true e = refl
-not_false false e = absurd cc
-
-pub differ : {A : Type 0} (a : Bool) → a ≡ true → a ≡ false → A
-differ true e f = absurd cc
-differ false e f = absurd cc
 
 -- ---- between ticks nothing waits
 
@@ -54,24 +36,24 @@ either_quiet (Run s callee phase stood c) n quiet h = quiet refl h
 mutual
   quiet : (w : Setting) (i : ℕ) (g : Place) (c : Tree) (next : Option Node) (n : Node) → FitsGraph w i c g → is_settled c ≡ true → is_nil c ≡ false →
       Waits c next n → ⊥
-  quiet w i g Nil next n live settled unended h = differ true refl unended
+  quiet w i g Nil next n live settled unended h = true_false_any true refl unended
   quiet w i g (Wait s) next n live settled unended h = h
-  quiet w i g (Test s) next n live settled unended h = differ false settled refl
+  quiet w i g (Test s) next n live settled unended h = true_false_any false settled refl
   quiet w i g (Idle body) next n live settled unended h = h
-  quiet w i g (Do s) next n live settled unended h = differ false settled refl
+  quiet w i g (Do s) next n live settled unended h = true_false_any false settled refl
   quiet w i g (Seq c Done) next n live settled unended h = live
   quiet w i g (Seq c (Then s rest)) next n live settled unended h =
       quiet w i (ahead_of (entry s) g) c (first_in (Then s rest) next) n live.0 settled live.1.unended h
   quiet w i g (Par s stood branches) next n live settled unended (inl h) =
       quiet_each w i g stood branches s.bodies n live.0 (and_first (are_settled branches) (not (are_done branches)) settled) h
   quiet w i g (Par s stood branches) next n live settled unended (inr h) =
-      differ (are_done branches) h.0 (not_true (are_done branches) (and_second (are_settled branches) (not (are_done branches)) settled))
+      true_false_any (are_done branches) h.0 (not-true (are_done branches) (and_second (are_settled branches) (not (are_done branches)) settled))
   quiet w i g (Guard s Body stood c) next n live settled unended h =
       quiet w i (guarded s g) c (Some (end_node stood s.label s.place)) n live.0 (and_first (is_settled c) (not (is_nil c)) settled)
-      (not_true (is_nil c) (and_second (is_settled c) (not (is_nil c)) settled)) h
-  quiet w i g (Guard s Check stood c) next n live settled unended h = differ false settled refl
+      (not-true (is_nil c) (and_second (is_settled c) (not (is_nil c)) settled)) h
+  quiet w i g (Guard s Check stood c) next n live settled unended h = true_false_any false settled refl
   quiet w i g (Run s callee Body stood c) next n live settled unended h = h
-  quiet w i g (Run s callee Check stood c) next n live settled unended h = differ false settled refl
+  quiet w i g (Run s callee Check stood c) next n live settled unended h = true_false_any false settled refl
 
   quiet_each : (w : Setting) (i : ℕ) (g : Place) (stood : Bool) (branches : Trees) (bodies : Bodies) (n : Node) → AllFitGraph w i branches bodies stood g →
       are_settled branches ≡ true → SomeWaits branches n → ⊥
@@ -101,14 +83,14 @@ record Some_in (branches : Trees) : Type 0 where
 -- what has ended waits at what follows it
 ended_waits : (c : Tree) (n : Node) → is_nil c ≡ true → Waits c (Some n) n
 ended_waits Nil n e = refl
-ended_waits (Wait s) n e = differ false e refl
-ended_waits (Test s) n e = differ false e refl
-ended_waits (Idle body) n e = differ false e refl
-ended_waits (Do s) n e = differ false e refl
-ended_waits (Seq c rest) n e = differ false e refl
-ended_waits (Par s stood branches) n e = differ false e refl
-ended_waits (Guard s phase stood c) n e = differ false e refl
-ended_waits (Run s callee phase stood c) n e = differ false e refl
+ended_waits (Wait s) n e = true_false_any false e refl
+ended_waits (Test s) n e = true_false_any false e refl
+ended_waits (Idle body) n e = true_false_any false e refl
+ended_waits (Do s) n e = true_false_any false e refl
+ended_waits (Seq c rest) n e = true_false_any false e refl
+ended_waits (Par s stood branches) n e = true_false_any false e refl
+ended_waits (Guard s phase stood c) n e = true_false_any false e refl
+ended_waits (Run s callee phase stood c) n e = true_false_any false e refl
 
 -- a `cobegin` whose branches are settled is done, so its join waits
 par_stirs : (s : Fork) (stood : Bool) (branches : Trees) (next : Option Node) → (are_settled branches && not (are_done branches)) ≡ false →
@@ -118,7 +100,7 @@ par_stirs s stood branches next left inner = by_branches (are_settled branches) 
     by_branches : (b : Bool) → are_settled branches ≡ b → Some_at (Par s stood branches) next
     by_branches true e = record {
       node = join_node stood s.label s.place;
-      waits = inr (not_false (are_done branches) (ap (λ b. b && not (are_done branches)) (sym e) ∙ left), refl);
+      waits = inr (not-false (are_done branches) (ap (λ b. b && not (are_done branches)) (sym e) ∙ left), refl);
     }
     by_branches false e = record { node = (inner e).node; waits = inl (inner e).waits }
 
@@ -130,7 +112,7 @@ guard_stirs s stood c next left inner = by_end (is_settled c) refl
     by_end : (b : Bool) → is_settled c ≡ b → Some_at (Guard s Body stood c) next
     by_end true e = record {
       node = end_node stood s.label s.place;
-      waits = ended_waits c (end_node stood s.label s.place) (not_false (is_nil c) (ap (λ b. b && not (is_nil c)) (sym e) ∙ left));
+      waits = ended_waits c (end_node stood s.label s.place) (not-false (is_nil c) (ap (λ b. b && not (is_nil c)) (sym e) ∙ left));
     }
     by_end false e = record { node = (inner e).node; waits = (inner e).waits }
 
@@ -151,10 +133,10 @@ settled_so false b e f = absurd cc
 
 mutual
   stirs : (w : Setting) (i : ℕ) (g : Place) (c : Tree) (next : Option Node) → FitsGraph w i c g → RunsArePassed c → is_settled c ≡ false → Some_at c next
-  stirs w i g Nil next live passed left = differ true refl left
-  stirs w i g (Wait s) next live passed left = differ true refl left
+  stirs w i g Nil next live passed left = true_false_any true refl left
+  stirs w i g (Wait s) next live passed left = true_false_any true refl left
   stirs w i g (Test s) next live passed left = record { node = test_of s; waits = refl }
-  stirs w i g (Idle body) next live passed left = differ true refl left
+  stirs w i g (Idle body) next live passed left = true_false_any true refl left
   stirs w i g (Do s) next live passed left = record { node = entry s; waits = refl }
   stirs w i g (Seq c Done) next live passed left = absurd live
   stirs w i g (Seq c (Then s rest)) next live passed left =
@@ -166,12 +148,12 @@ mutual
       guard_stirs s stood c next left (λ e. stirs w i (guarded s g) c (Some (end_node stood s.label s.place)) live.0 passed e)
   stirs w i g (Guard s Check stood c) next live passed left = record { node = check_of s; waits = inl refl }
   stirs w i g (Run s callee Body stood c) next live passed left =
-      differ (is_settled c && not (is_nil c)) (settled_so (is_settled c) (is_nil c) passed.0 passed.1) left
+      true_false_any (is_settled c && not (is_nil c)) (settled_so (is_settled c) (is_nil c) passed.0 passed.1) left
   stirs w i g (Run s callee Check stood c) next live passed left = record { node = run_node stood s.label s.place s.arguments; waits = refl }
 
   stirs_each : (w : Setting) (i : ℕ) (g : Place) (stood : Bool) (branches : Trees) (bodies : Bodies) → AllFitGraph w i branches bodies stood g →
       AllPassed branches → are_settled branches ≡ false → Some_in branches
-  stirs_each w i g stood no_tree bodies live passed left = differ true refl left
+  stirs_each w i g stood no_tree bodies live passed left = true_false_any true refl left
   stirs_each w i g stood (beside weak c branches) Last live passed left = absurd live
   stirs_each w i g stood (beside weak c branches) (BodyOf weak' body rest) live passed left =
       first_stirs weak c branches left (λ e. stirs w i (in_branch stood body g) c None live.0 passed.0 e)
@@ -205,14 +187,14 @@ after_closed m k there edge = record { by = there.by; edge = there.edge; rest = 
 -- what has ended may end
 nil_ends : (c : Tree) → is_nil c ≡ true → may_end c ≡ true
 nil_ends Nil e = refl
-nil_ends (Wait s) e = differ false e refl
-nil_ends (Test s) e = differ false e refl
-nil_ends (Idle body) e = differ false e refl
-nil_ends (Do s) e = differ false e refl
-nil_ends (Seq c rest) e = differ false e refl
-nil_ends (Par s stood branches) e = differ false e refl
-nil_ends (Guard s phase stood c) e = differ false e refl
-nil_ends (Run s callee phase stood c) e = differ false e refl
+nil_ends (Wait s) e = true_false_any false e refl
+nil_ends (Test s) e = true_false_any false e refl
+nil_ends (Idle body) e = true_false_any false e refl
+nil_ends (Do s) e = true_false_any false e refl
+nil_ends (Seq c rest) e = true_false_any false e refl
+nil_ends (Par s stood branches) e = true_false_any false e refl
+nil_ends (Guard s phase stood c) e = true_false_any false e refl
+nil_ends (Run s callee phase stood c) e = true_false_any false e refl
 
 strong_end : (branches : Trees) → strong_ended branches ≡ true → may_join true branches ≡ true
 strong_end no_tree e = refl
@@ -260,7 +242,7 @@ mutual
   in_part w i g (Do s) next n live closed follows h = subst g.now (sym h) live.1
   in_part w i g (Seq c Done) next n live closed follows h = absurd live
   in_part w i g (Seq c (Then s rest)) next n live closed follows h =
-      in_part w i (ahead_of (entry s) g) c (first_in (Then s rest) next) n live.0 closed (λ nil. differ (is_nil c) nil live.1.unended) h
+      in_part w i (ahead_of (entry s) g) c (first_in (Then s rest) next) n live.0 closed (λ nil. true_false_any (is_nil c) nil live.1.unended) h
   in_part w i g (Par s stood branches) next n live closed follows (inl h) =
       live.1.holds.now n (each_in_part w i g stood branches s.bodies n live.0 h)
   in_part w i g (Par s stood branches) next n live closed follows (inr h) =
@@ -271,7 +253,7 @@ mutual
   in_part w i g (Guard s Check stood c) next n live closed follows (inl h) = subst g.now (sym h) live.1.checks
   in_part w i g (Guard s Check stood c) next n live closed follows (inr h) =
       let after = in_part w i (later_on (guarded s g)) c (Some (end_node stood s.label s.place)) n live.0 after_closed
-      (λ nil. differ (is_nil c) nil live.1.unended) h in along closed (closed (check_of s) after.by live.1.checks after.edge) after.rest
+      (λ nil. true_false_any (is_nil c) nil live.1.unended) h in along closed (closed (check_of s) after.by live.1.checks after.edge) after.rest
   in_part w i g (Run s callee Body stood c) next n live closed follows h = absurd h
   in_part w i g (Run s callee Check stood c) next n live closed follows h = subst g.now (sym h) live.2.now
 

@@ -1,5 +1,7 @@
 -- What the changes of one rule do to what counters may hold.
 use Rattle.std.proofs.Common.{◌≡◌, inl, inr, ℕ, suc, Bool, true, false, List, [], ◌∷◌, ◌++◌, map, if◌then◌else◌, refl, sym, ap, subst, ◌∙◌}
+use Rattle.std.proofs.lemmas.Bool.{or_left}
+use Rattle.bl_tree.proofs.Basics.{neither_first, neither_second, number_itself, true_false_any}
 use Rattle.bl_graph_nodes.specs.Nodes.{Node, entry}
 use Rattle.bl_graph_nodes.specs.Plain.{Block, Bodies, Body as BodyOf, Done, Label, Last, Plain, Then}
 use Rattle.bl_ctree.specs.Control.{Phase}
@@ -13,7 +15,7 @@ use Rattle.bl_machine_pass.specs.Registers.{Registers, all_changed, changed}
 use Rattle.bl_machine_pass.specs.Transitions.{Change, ClearsBoth, ClearsCounter, SetsCounter, SetsFlag, SetsMark, Transition, counters_in, counters_in_each}
 use Rattle.bl_machine_pass.specs.Transitions.{enter, enter_each, marked, once}
 use Rattle.bl_machine_pass_laws.specs.Turns.Holds.{BranchesMayHold, Lingers, MayHold}
-use Rattle.bl_machine_pass_laws.proofs.OnNumbers.Bools.{differ, either, if_false, if_same, if_true, neither_first, neither_second, or_first, same, unless}
+use Rattle.bl_machine_pass_laws.proofs.OnNumbers.Bools.{either, if_false, if_same, if_true, unless}
 use Rattle.bl_machine_pass_laws.proofs.OnNumbers.Changing.{Goes, changed_append, enter_go, forgets_in, forgets_over, frees_each, frees_over, holds_go}
 use Rattle.bl_machine_pass_laws.proofs.OnNumbers.Changing.{last_false, last_in}
 use Rattle.bl_machine_pass_laws.proofs.OnNumbers.Numbered.{block_may, block_nil, seq_may, seq_open}
@@ -27,7 +29,7 @@ pub record Leads (slots : Slots) (all : List Transition) (low : ℕ) (number : N
   pub keeps_unused : (r : Registers) (j : ℕ) → used j ≡ false → (all_changed number changes r).counters j ≡ r.counters j
   pub ends : (r : Registers) → r.over ≡ false → (all_changed number changes r).over ≡ (if is_nil c' then last else false)
 
--- the same of branches, which never end the body
+-- the number_itself of branches, which never end the body
 pub record LeadsEach (slots : Slots) (all : List Transition) (number : Node → ℕ) (l : Label) (k : ℕ) (bodies : Bodies) (branches branches' : Trees)
     (changes : List Change) : Type 0 where
   pub numbers : (r : Registers) (j : ℕ) → BranchesMayHold slots all l k bodies branches j (r.counters j) →
@@ -123,8 +125,8 @@ module _ (slots : Slots) (all : List Transition) (low : ℕ) (number : Node → 
   pub stays_lead : (used : ℕ → Bool) (c : Tree) (next : Next) (last : Bool) (c' : Tree) →
       ((j v : ℕ) → MayHold slots all low c next j v → MayHold slots all low c' next j v) → is_nil c' ≡ false →
       Leads slots all low number used c next last c' []
-  stays_lead used c next last c' same unended = record {
-    numbers = λ r j e. same j (r.counters j) e;
+  stays_lead used c next last c' number_itself unended = record {
+    numbers = λ r j e. number_itself j (r.counters j) e;
     keeps_unused = λ r j off. refl;
     ends = λ r e. e ∙ sym (if_false (is_nil c') last false unended);
   }
@@ -167,7 +169,7 @@ module _ (slots : Slots) (all : List Transition) (number : Node → ℕ) (l : La
   -- a branch uses the counter at which it rests
   pub own_counter : (k : ℕ) (body : Block) → uses_in_branch slots l k body (slots.ending l k).counter ≡ true
   own_counter k body =
-      or_first (is_of (slots.ending l k) (slots.ending l k).counter) (uses_in slots body (slots.ending l k).counter) (same (slots.ending l k).counter)
+      or_left (is_of (slots.ending l k) (slots.ending l k).counter) (uses_in slots body (slots.ending l k).counter) (number_itself (slots.ending l k).counter)
 
   -- the branches begin
   enters_in : (k : ℕ) (body : Block) →
@@ -189,7 +191,7 @@ module _ (slots : Slots) (all : List Transition) (number : Node → ℕ) (l : La
   none_elsewhere : (k : ℕ) (body : Block) (j v : ℕ) → Lingers all (slots.ending l k).counter j v → uses_in_branch slots l k body j ≡ false → v ≡ 0
   none_elsewhere k body j v (inl none) off = none
   none_elsewhere k body j v (inr left) off =
-      differ (uses_in_branch slots l k body j) (ap (uses_in_branch slots l k body) left.0 ∙ own_counter k body) off
+      true_false_any (uses_in_branch slots l k body j) (ap (uses_in_branch slots l k body) left.0 ∙ own_counter k body) off
 
   -- the first of some branches may find the number of a place that was left at its counter, and nothing at others
   abbrev FirstLingers : ℕ → Bodies → ℕ → ℕ → Type 0

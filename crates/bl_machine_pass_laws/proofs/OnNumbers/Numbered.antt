@@ -1,5 +1,6 @@
 -- What counters may hold of trees that begin and that go on, and where a tree doesn't use a counter.
 use Rattle.std.proofs.Common.{◌≡◌, inl, inr, ℕ, suc, Bool, true, false, if◌then◌else◌, nat_eq, refl, sym, ap, ◌∙◌, Contains, List}
+use Rattle.bl_tree.proofs.Basics.{neither_first, neither_second, same_number}
 use Rattle.bl_graph_nodes.specs.Nodes.{entry}
 use Rattle.bl_graph_nodes.specs.Plain.{Block, Bodies, Body as BodyOf, Done, Label, Last, Plain, Then}
 use Rattle.bl_ctree_laws.specs.Trees.{Tree, Trees, Nil, Wait, Test, Idle, Do, Seq, Par, Guard, Run, beside, do_block, is_nil, no_tree, seq}
@@ -9,7 +10,7 @@ use Rattle.bl_machine_laws.specs.Numbers.Numbers.{At, Next, Over, into, value_at
 use Rattle.bl_machine_pass.specs.Transitions.{Rested, Transition}
 use Rattle.bl_machine_pass_laws.specs.Turns.Holds.{BranchesMayHold, Lingers, MayHold, NextMayHold}
 use Rattle.bl_machine_pass_laws.specs.Turns.Sits.{UsesOnly}
-use Rattle.bl_machine_pass_laws.proofs.OnNumbers.Bools.{if_false, if_true, is_same, neither_first, neither_second, unless}
+use Rattle.bl_machine_pass_laws.proofs.OnNumbers.Bools.{if_false, if_true, unless}
 use Rattle.bl_machine_pass_laws.proofs.OnNumbers.Changing.{last_in}
 
 -- ---- what has ended
@@ -41,7 +42,7 @@ module _ (slots : Slots) (all : List Transition) where
     where
       by_test : (b : Bool) → nat_eq j slot.counter ≡ b → Lingers all low j v
       by_test true test =
-          let at : j ≡ slot.counter = is_same j slot.counter test in
+          let at : j ≡ slot.counter = same_number j slot.counter test in
           inr (
             at ∙ lies,
             record {
@@ -77,7 +78,7 @@ module _ (slots : Slots) (all : List Transition) where
 
   shown_none : (used : ℕ → Bool) (slot : Slot) (j : ℕ) → used slot.counter ≡ true → used j ≡ false → value_at_counter slot j ≡ 0
   shown_none used slot j there off =
-      if_false (nat_eq j slot.counter) slot.value 0 (unless (nat_eq j slot.counter) (used j) (λ e. ap used (is_same j slot.counter e) ∙ there) off)
+      if_false (nat_eq j slot.counter) slot.value 0 (unless (nat_eq j slot.counter) (used j) (λ e. ap used (same_number j slot.counter e) ∙ there) off)
 
   into_lingers : (low : ℕ) (rest : Block) (next : Next) (j v : ℕ) → (NextMayHold all low next j v → Lingers all low j v) →
       NextMayHold all low (into rest next) j v → Lingers all low j v

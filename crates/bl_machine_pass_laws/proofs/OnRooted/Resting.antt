@@ -1,7 +1,8 @@
 -- Where a tree rests: the places whose numbers its counters hold.
-use Rattle.std.proofs.Common.{◌≡◌, ◌⊎◌, inl, inr, ℕ, suc, Bool, true, false, ◌&&◌, ◌||◌, not, nat_eq, List, [], ◌∷◌, ◌++◌, refl, ap, sym, ◌∙◌, subst}
+use Rattle.std.proofs.Common.{◌≡◌, ◌⊎◌, inl, inr, ℕ, suc, Bool, true, false, ◌&&◌, ◌||◌, nat_eq, List, [], ◌∷◌, ◌++◌, refl, ap, sym, ◌∙◌, subst}
 use Rattle.std.proofs.Common.{if◌then◌else◌}
-use Rattle.std.proofs.lemmas.Bool.{eq-eqb, eqb-true}
+use Rattle.std.proofs.lemmas.Bool.{eqb-true}
+use Rattle.bl_tree.proofs.Basics.{number_itself}
 use Rattle.bl_graph_nodes.specs.Nodes.{entry}
 use Rattle.bl_graph_nodes.specs.Plain.{Block, Bodies, Body as BodyOf, Done, Label, Last, Then}
 use Rattle.bl_ctree.specs.Control.{Body, Check}
@@ -50,9 +51,6 @@ only_one p q (inl is) = is
 only_one p q (inr other) = absurd other
 
 -- ---- numbers
-
-pub eq_itself : (j : ℕ) → nat_eq j j ≡ true
-eq_itself j = eq-eqb j j refl
 
 pub nil_of : (c : Tree) → is_nil c ≡ true → c ≡ Nil
 nil_of Nil e = refl
@@ -175,7 +173,7 @@ module _ (slots : Slots) where
   or_right false b e = e
 
   counter_of : (slot : Slot) → is_of slot slot.counter ≡ true
-  counter_of slot = eq_itself slot.counter
+  counter_of slot = number_itself slot.counter
 
   number_at : (slot : Slot) → value_at_counter slot slot.counter ≡ slot.value
   number_at slot = ap (λ b. if b then slot.value else 0) (counter_of slot)

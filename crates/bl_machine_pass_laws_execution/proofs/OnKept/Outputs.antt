@@ -4,6 +4,8 @@ use Rattle.std.proofs.Common.{List, [], ◌∷◌}
 use Rattle.std.proofs.Common.{Some, refl, ap, ◌∙◌, eqb-true, eq-eqb}
 use Rattle.std.proofs.Math.Logic.{∥∥₁_elim}
 use Rattle.std.specs.Prelude.{nat_eq, slice_get, if◌then◌else◌}
+use Rattle.std.proofs.lemmas.Bool.{and_from}
+use Rattle.bl_tree.proofs.Basics.{and_first, and_second}
 use Rattle.bl_tree.specs.declared.place.Place.{Place}
 use Rattle.bl_tree.specs.declared.static_path.Static.{Static}
 use Rattle.bl_ctree.specs.declared.instance.Instance.{Instance}
@@ -11,18 +13,6 @@ use Rattle.bl_ctree.specs.declared.instance.Origin.{Origin}
 use Rattle.bl_ctree.specs.Instances.{Setting}
 
 -- ---- the same paths, as a test
-
-first_so : (a b : Bool) → (a && b) ≡ true → a ≡ true
-first_so true b e = refl
-first_so false b e = absurd cc
-
-second_so : (a b : Bool) → (a && b) ≡ true → b ≡ true
-second_so true b e = e
-second_so false b e = absurd cc
-
-both_so : (a b : Bool) → a ≡ true → b ≡ true → (a && b) ≡ true
-both_so true b one other = other
-both_so false b one other = absurd cc
 
 abbrev same_fields : List ℕ → List ℕ → Bool
 same_fields [] [] = true
@@ -41,18 +31,18 @@ fields_so [] [] e = refl
 fields_so [] (y ∷ ys) e = absurd cc
 fields_so (x ∷ xs) [] e = absurd cc
 fields_so (x ∷ xs) (y ∷ ys) e =
-    ap (λ z. z ∷ xs) (eqb-true x y (first_so (nat_eq x y) (same_fields xs ys) e))
-    ∙ ap (λ zs. y ∷ zs) (fields_so xs ys (second_so (nat_eq x y) (same_fields xs ys) e))
+    ap (λ z. z ∷ xs) (eqb-true x y (and_first (nat_eq x y) (same_fields xs ys) e))
+    ∙ ap (λ zs. y ∷ zs) (fields_so xs ys (and_second (nat_eq x y) (same_fields xs ys) e))
 
 path_so : (p q : Static) → (nat_eq p.root q.root && same_fields p.fields q.fields) ≡ true → p ≡ q
 path_so p q e =
-    let roots = eqb-true p.root q.root (first_so (nat_eq p.root q.root) (same_fields p.fields q.fields) e) in
-    let fields = fields_so p.fields q.fields (second_so (nat_eq p.root q.root) (same_fields p.fields q.fields) e) in
+    let roots = eqb-true p.root q.root (and_first (nat_eq p.root q.root) (same_fields p.fields q.fields) e) in
+    let fields = fields_so p.fields q.fields (and_second (nat_eq p.root q.root) (same_fields p.fields q.fields) e) in
     λ i. record { root = roots i; fields = fields i }
 
 fields_same : (xs : List ℕ) → same_fields xs xs ≡ true
 fields_same [] = refl
-fields_same (x ∷ xs) = both_so (nat_eq x x) (same_fields xs xs) (eq-eqb x x refl) (fields_same xs)
+fields_same (x ∷ xs) = and_from (nat_eq x x) (same_fields xs xs) (eq-eqb x x refl) (fields_same xs)
 
 -- ---- what a `run` begins
 

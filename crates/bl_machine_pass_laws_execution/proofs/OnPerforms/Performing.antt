@@ -2,6 +2,7 @@
 use Rattle.std.proofs.Common.{◌≡◌, inl, inr, ℕ, zero, suc, ◌+◌, ◌<◌, ◌≤◌, Bool, true, false, List, [], length}
 use Rattle.std.proofs.Common.{Some, None, refl, sym, ap, ◌∙◌, subst, arith}
 use Rattle.std.specs.Prelude.{slice_get, ◌++◌}
+use Rattle.bl_tree.proofs.Basics.{one_some}
 use Rattle.bl_tree.specs.declared.place.Place.{Place as Source}
 use Rattle.bl_tree.specs.declared.tree.Expr.{Expr}
 use Rattle.bl_tree.specs.declared.tree.StructDef.{StructDef}
@@ -56,7 +57,7 @@ use Rattle.bl_machine_pass_laws_execution.proofs.OnPerforms.Keeping.{Kept, block
 use Rattle.bl_machine_pass_laws_execution.proofs.OnPerforms.Storing.{Passing, SeenTurn, chained, copies_keep, copies_passing, deed_passing, fresh_same}
 use Rattle.bl_machine_pass_laws_execution.proofs.OnPerforms.Storing.{next_senses, node_leaves, pass_passing, sees_so}
 use Rattle.bl_machine_pass_laws_execution.proofs.OnPerforms.Touching.{Touched, body_open, branch_runs, by_sum, calls_touch, due_touches, each_touch, first_runs}
-use Rattle.bl_machine_pass_laws_execution.proofs.OnPerforms.Touching.{guard_runs, in_call, inside_callee, later_runs, one_due_touches, one_place, one_some}
+use Rattle.bl_machine_pass_laws_execution.proofs.OnPerforms.Touching.{guard_runs, in_call, inside_callee, later_runs, one_due_touches, one_place}
 use Rattle.bl_machine_pass_laws_execution.proofs.OnPerforms.Touching.{par_runs, run_asked, run_declares, there, touch, widen, with_other}
 use Rattle.bl_machine_pass_laws_execution.proofs.OnPerforms.Turning.{passed, waits_there, walk_live}
 

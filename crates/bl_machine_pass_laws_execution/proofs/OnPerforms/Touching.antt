@@ -1,9 +1,10 @@
 -- What a turn touches: what is inside the calls of its tree.
 use Rattle.std.proofs.Common.{◌≡◌, ◌⊎◌, inl, inr, ℕ, ◌<◌, Bool, true, false, List, [], length, Option, Some}
-use Rattle.std.proofs.Common.{None, refl, sym, ap, ◌∙◌, subst, eqb-true, get_or}
+use Rattle.std.proofs.Common.{None, refl, sym, ap, ◌∙◌, subst, get_or}
 use Rattle.std.specs.Prelude.{nat_eq, option_and_then, slice_get, if◌then◌else◌}
 use Rattle.std.proofs.lemmas.List.Quantifiers.{position-Some}
 use Rattle.std.proofs.lemmas.Option.{slice_get_within}
+use Rattle.bl_tree.proofs.Basics.{and_second, numbers_differ}
 use Rattle.bl_tree.specs.declared.place.Place.{Place as Source}
 use Rattle.bl_tree.specs.declared.tree.StructDef.{StructDef}
 use Rattle.bl_tree.specs.declared.tree.Unit.{Unit as UnitDef}
@@ -18,7 +19,6 @@ use Rattle.bl_ctree.specs.declared.instance.Origin.{Origin}
 use Rattle.bl_ctree.specs.Control.{Body, Check}
 use Rattle.bl_ctree.specs.Instances.{Setting, begins_at, callee_of, setting_of, unit_at, unit_of}
 use Rattle.bl_ctree_laws.specs.Trees.{Tree, Trees, Nil, Wait, Test, Idle, Do, Seq, Par, Guard, Run, beside, do_block, is_nil, no_tree}
-use Rattle.bl_ctree_laws.proofs.Tests.{and_second}
 use Rattle.bl_ctree_laws_confluence.specs.Deeds.Nesting.{Inside, deeper, itself}
 use Rattle.bl_ctree_laws_confluence.specs.Apart.Owned.{RunsAt, SomeIn, SomeInEach}
 use Rattle.bl_ctree_laws_confluence.specs.Apart.Seen.{InCall}
@@ -32,19 +32,9 @@ use Rattle.bl_machine_pass_laws_execution.proofs.OnFresh.Lists.{known_so}
 
 -- ---- numbers and places
 
-pub unequal : (a b : ℕ) → (a ≡ b → ⊥) → nat_eq a b ≡ false
-unequal a b apart = by_test (nat_eq a b) refl
-  where
-    by_test : (t : Bool) → nat_eq a b ≡ t → t ≡ false
-    by_test true e = absurd (apart (eqb-true a b e))
-    by_test false e = refl
-
 pub with_other : (k callee : ℕ) (counters : ℕ → ℕ) (frames : Frames) → (k ≡ callee → ⊥) → (j : ℕ) →
     with_at callee counters frames k j ≡ frames k j
-with_other k callee counters frames apart j = ap (λ b. (if b then counters else frames k) j) (unequal k callee apart)
-
-pub one_some : {A : Type 0} (a b : A) (o : Option A) → o ≡ Some a → o ≡ Some b → a ≡ b
-one_some a b o e f = let both : Some a ≡ Some b = sym e ∙ f in cc
+with_other k callee counters frames apart j = ap (λ b. (if b then counters else frames k) j) (numbers_differ k callee apart)
 
 pub one_place : (w : Setting) (i callee : ℕ) (place other : Source) → callee_of w i place ≡ Some callee → callee_of w i other
     ≡ Some callee →

@@ -1,5 +1,6 @@
 -- Where a counter holds a number something of the tree rests there.
 use Rattle.std.proofs.Common.{◌≡◌, ◌⊎◌, inl, inr, ⊎_elim, ℕ, suc, Bool, true, false, if◌then◌else◌, nat_eq, refl, sym, ap, ap₂, subst, ◌∙◌, eq-eqb, eqb-true}
+use Rattle.bl_tree.proofs.Basics.{true_false_any}
 use Rattle.bl_graph_nodes.specs.Nodes.{Node, entry, nodes_in}
 use Rattle.bl_graph_nodes.specs.Plain.{Block, Bodies, Body as BodyOf, Done, Label, Last, Then}
 use Rattle.bl_ctree_laws.specs.Trees.{Tree, Trees, Nil, Wait, Test, Idle, Do, Seq, Par, Guard, Run, beside, is_nil, no_tree}
@@ -7,7 +8,6 @@ use Rattle.bl_machine.specs.declared.slots.Slot.{Slot}
 use Rattle.bl_machine.specs.Uses.{Slots, uses_in_branch}
 use Rattle.bl_machine_laws.specs.Numbers.Numbers.{At, Next, Over, Rests, at_next, numbers_in, numbers_of, value_at_counter}
 use Rattle.bl_machine_laws.proofs.OnWaiting.Fresh.{nil_is}
-use Rattle.bl_machine_laws.proofs.OnWaiting.Quiet.{differ}
 use Rattle.bl_machine_pass.specs.SlotLayout.{EndOf, RestOf, Spot, slot_at, spots_in, spots_in_each}
 use Rattle.bl_machine_pass.specs.Registers.{is_at}
 use Rattle.bl_machine_pass_laws_turns.specs.Joins.Stems.{Member, StemEach, Stems}
@@ -156,7 +156,7 @@ pub end_tells : (slots : Slots) (R : Spot → Type 0) (P : Node → Type 0) (c :
 end_tells slots R P c end counters own counted held alone = by_end (is_nil c) refl
   where
     not_there : ((is_nil c ≡ true) × (value_at_counter end end.counter ≡ end.value)) ⊎ SpotIn slots c end.counter end.value → is_nil c ≡ false → ⊥
-    not_there (inl ended) e = differ (is_nil c) ended.0 e
+    not_there (inl ended) e = true_false_any (is_nil c) ended.0 e
     not_there (inr it) e = alone it.spot it.rests (slot_is (slot_at slots it.spot) end it.counter it.value)
 
     unended : (b : Bool) → is_at counters end ≡ b → is_nil c ≡ false → is_at counters end ≡ false

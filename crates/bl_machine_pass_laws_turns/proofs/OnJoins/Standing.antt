@@ -2,6 +2,8 @@
 use Rattle.std.proofs.Common.{◌≡◌, ◌⊎◌, inl, inr, ⊎_elim, ℕ, suc, Bool, true, false, not, ◌||◌, if◌then◌else◌, List, Option, Some, None, refl, sym, ap, subst}
 use Rattle.std.proofs.Common.{◌∙◌}
 use Rattle.std.specs.Prelude.{Contains, ⊤}
+use Rattle.std.proofs.lemmas.Bool.{or_left, or_right}
+use Rattle.bl_tree.proofs.Basics.{true_false_any as differ}
 use Rattle.bl_tree.specs.declared.place.Place.{Place as Source}
 use Rattle.bl_graph_nodes.specs.Nodes.{ActAt, CheckAt, DepthEndAt, DepthJoinAt, EnterAt, ForkAt, HeadAt, Node, PauseAt, ResumeAt, StartAt, SurfaceEndAt}
 use Rattle.bl_graph_nodes.specs.Nodes.{SurfaceJoinAt, TestAt, Arguments, entry, is_instant, nodes_in, nodes_in_each, nodes_of}
@@ -16,7 +18,7 @@ use Rattle.bl_ctree_laws_traces.specs.Progress.Places.{Place, ahead_of, guarded,
 use Rattle.bl_machine.specs.Uses.{Slots, uses, uses_in, uses_in_branch, uses_in_each}
 use Rattle.bl_machine_laws.specs.Numbers.Numbers.{At, Next, Over, Rests, numbers_in, numbers_of}
 use Rattle.bl_machine_laws.specs.Numbers.Waiting.{Is, SomeWaits, Waits, first_in}
-use Rattle.bl_machine_laws.proofs.OnWaiting.Quiet.{differ, done_ends}
+use Rattle.bl_machine_laws.proofs.OnWaiting.Quiet.{done_ends}
 use Rattle.bl_machine_pass.specs.SlotLayout.{BranchesRestAt, EndOf, RestOf, Spot, spots_of}
 use Rattle.bl_machine_pass.specs.Transitions.{Change, SetsCounter, Transition, body_ends, enter, rules_of}
 use Rattle.bl_machine_pass_laws.specs.Turns.Invariant.{MarkEach, Marked}
@@ -220,13 +222,6 @@ mutual
 
 -- ---- its numbers
 
-pub or_first : (a b : Bool) → a ≡ true → (a || b) ≡ true
-or_first a b e = ap (λ x. x || b) e
-
-pub or_last : (a b : Bool) → b ≡ true → (a || b) ≡ true
-or_last true b e = refl
-or_last false b e = e
-
 mutual
   -- what it uses is used where it stands
   used_fork : {s : Fork} {stood : Bool} {branches : Trees} {c : Tree} (slots : Slots) (R : Spot → Type 0) (P : Node → Type 0) (used : ℕ → Bool)
@@ -245,10 +240,10 @@ mutual
   used_in slots R l k Last j (first there) own only e = absurd own
   used_in slots R l k Last j (later there) own only e = absurd own
   used_in slots R l k (BodyOf weak body rest) j (first there) own only e =
-      or_first (uses_in_branch slots l k body j) (uses_in_each slots l (suc k) rest j)
+      or_left (uses_in_branch slots l k body j) (uses_in_each slots l (suc k) rest j)
       (used_fork slots R (Member (nodes_in body)) (uses_in_branch slots l k body) j there own.0 only.0 e)
   used_in slots R l k (BodyOf weak body rest) j (later there) own only e =
-      or_last (uses_in_branch slots l k body j) (uses_in_each slots l (suc k) rest j) (used_in slots R l (suc k) rest j there own.1 only.1 e)
+      or_right (uses_in_branch slots l k body j) (uses_in_each slots l (suc k) rest j) (used_in slots R l (suc k) rest j there own.1 only.1 e)
 
 -- a counter of a later branch isn't one of an earlier branch
 not_earlier : (slots : Slots) (l : Label) (k : ℕ) (body : Block) (rest : Bodies) (j : ℕ) →

@@ -2,6 +2,7 @@
 use Rattle.std.proofs.Common.{◌≡◌, ◌⊎◌, inl, inr, ⊎_elim, ℕ, suc, ◌<◌, ◌≤◌, Bool, true, false, nat_eq, List, map, None, refl, sym, ap, subst, ◌∙◌, arith}
 use Rattle.std.proofs.Common.{eqb-true}
 use Rattle.std.specs.Prelude.{Contains}
+use Rattle.bl_tree.proofs.Basics.{contains_mapped}
 use Rattle.bl_tree.specs.declared.tree.Unit.{Unit as UnitDef}
 use Rattle.bl_graph_nodes.specs.Laws.{EachOnce}
 use Rattle.bl_graph_nodes.specs.Nodes.{Node, nodes_in}
@@ -32,7 +33,7 @@ use Rattle.bl_machine_pass_laws_turns.specs.Waiting.{TurnsKeepFlags, TurnsKeepRe
 use Rattle.bl_machine_pass_laws_turns.proofs.OnWaiting.Acting.{Acted, Comes, Dropped, Stays, at_join, dropped, has_acted, is_set, turn_acted, waited, waits_on}
 use Rattle.bl_machine_pass_laws_turns.proofs.OnWaiting.Acting.{was_join}
 use Rattle.bl_machine_pass_laws_turns.proofs.OnWaiting.Changes.{FlagFrom, Sets, all_either, all_forget, all_has, all_kept, all_set, all_spared, is_of, taken, was_set}
-use Rattle.bl_machine_pass_laws_turns.proofs.OnWaiting.Lists.{contains_map, each_of, one_of_node}
+use Rattle.bl_machine_pass_laws_turns.proofs.OnWaiting.Lists.{each_of, one_of_node}
 use Rattle.bl_machine_pass_laws_turns.proofs.OnWaiting.Rules.{AsksFor, Known, RuleAt, at_due, due_at, flag_is_due, known_in, no_end, no_join, not_both}
 use Rattle.bl_machine_pass_laws_turns.proofs.OnWaiting.Sleeping.{Other, join_ends, waits_other}
 
@@ -48,7 +49,7 @@ one_rule nodes slots body once a b one other same =
 pub rule_node : (nodes : (slots : Slots) (body : Block) → map (λ rule. rule.node) (rules slots body) ≡ nodes_in body) (slots : Slots) (body : Block)
     (a : Transition) → Contains (rules slots body) a → Contains (nodes_in body) a.node
 rule_node nodes slots body a one =
-    subst (λ list. Contains list a.node) (nodes slots body) (contains_map (λ rule. rule.node) (rules slots body) a one)
+    subst (λ list. Contains list a.node) (nodes slots body) (contains_mapped (λ rule. rule.node) (rules slots body) a one)
 
 -- what is known of it
 pub rule_known : (slots : Slots) (body : Block) (a : Transition) → Contains (rules slots body) a → Known slots (spots_in body) a

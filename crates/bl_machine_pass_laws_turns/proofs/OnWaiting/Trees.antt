@@ -1,5 +1,6 @@
 -- What waits and sleeps in trees that begin.
 use Rattle.std.proofs.Common.{◌≡◌, inl, inr, ℕ, Bool, true, false, Option, Some, refl}
+use Rattle.bl_tree.proofs.Basics.{and_first, and_second, true_false_any}
 use Rattle.bl_graph_nodes.specs.Nodes.{Node, are_instant, entry}
 use Rattle.bl_graph_nodes.specs.Plain.{Block, Bodies, Body as BodyOf, Done, Last, Plain, Then, is_empty}
 use Rattle.bl_ctree.specs.Control.{Body, Check}
@@ -10,7 +11,7 @@ use Rattle.bl_ctree_laws.specs.Trees.{is_settled, no_tree, seq}
 use Rattle.bl_ctree_laws_traces.specs.Progress.FitsGraph.{AllFitGraph, FitsGraph}
 use Rattle.bl_ctree_laws_traces.specs.Progress.Places.{Place, in_branch}
 use Rattle.bl_machine_laws.specs.Numbers.Waiting.{Is, Sleeps, SomeSleeps, SomeWaits, Waits, first_in}
-use Rattle.bl_machine_laws.proofs.OnWaiting.Quiet.{and_first, and_second, differ, quiet_branch}
+use Rattle.bl_machine_laws.proofs.OnWaiting.Quiet.{quiet_branch}
 
 -- ---- blocks
 
@@ -81,7 +82,7 @@ seq_sleeps c s rest y h = seq_by (λ t d. Sleeps d y → Sleeps t y) s rest (λ 
 pub unended_waits : (w : Setting) (i : ℕ) (g : Place) (c : Tree) (nx other : Option Node) (y : Node) → FitsGraph w i c g → is_nil c ≡ false →
     Waits c nx y →
     Waits c other y
-unended_waits w i g Nil nx other y live unended h = differ true refl unended
+unended_waits w i g Nil nx other y live unended h = true_false_any true refl unended
 unended_waits w i g (Wait s) nx other y live unended h = h
 unended_waits w i g (Test s) nx other y live unended h = h
 unended_waits w i g (Idle body) nx other y live unended h = h

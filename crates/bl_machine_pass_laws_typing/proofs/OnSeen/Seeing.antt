@@ -4,6 +4,7 @@ use Rattle.std.proofs.Common.{Option, Some, None, refl, sym, ap, ◌∙◌, subs
 use Rattle.std.proofs.lemmas.Option.{slice_get-map}
 use Rattle.std.specs.List.{range_with_len}
 use Rattle.std.specs.Prelude.{nat_eq, option_and_then, option_map, slice_get, slice_set, unwrap_or}
+use Rattle.bl_tree.proofs.Basics.{and_first, and_second, one_some}
 use Rattle.bl_tree.specs.declared.scalar.Scalar.{Scalar as ScalarType}
 use Rattle.bl_tree.specs.declared.static_path.Static.{Static}
 use Rattle.bl_tree.specs.declared.tree.Arm.{Arm}
@@ -31,7 +32,7 @@ use Rattle.bl_eval.specs.Values.{put_at, value_at, value_fits, values_fit, with_
 use Rattle.bl_eval.proofs.ActFits.{same_found}
 use Rattle.bl_eval.proofs.LawLemmas.{act_typed}
 use Rattle.bl_eval.proofs.PartFits.{Fits}
-use Rattle.bl_eval.proofs.PassLemmas.{and_left, and_right, pass_at}
+use Rattle.bl_eval.proofs.PassLemmas.{pass_at}
 use Rattle.bl_eval_laws.proofs.OnLocal.Acting.{kind_of}
 use Rattle.bl_ctree.specs.declared.instance.Instance.{Instance}
 use Rattle.bl_ctree.specs.Actions.{acted_kind, outcome_there}
@@ -130,9 +131,6 @@ put_onward store at fields v old new there inner = by_frame (slice_get store at.
     by_frame None is e = absurd cc
     by_frame (Some frame) is e = by_value frame is (slice_get frame.now at.path.root) refl e
 
-one_some : {A : Type 0} (x y : A) (o : Option A) → o ≡ Some x → o ≡ Some y → x ≡ y
-one_some x y o e f = let is : Some x ≡ Some y = sym e ∙ f in cc
-
 -- ---- what is seen
 
 module _ (views : ViewsAreTyped) (structs : List StructDef) (units : List UnitDef) (entry : ℕ) (keeps : IsWellTyped structs units entry) (i : ℕ)
@@ -214,7 +212,7 @@ module _ (views : ViewsAreTyped) (structs : List StructDef) (units : List UnitDe
         by true e =
             let over : overlaps path (whole k) ≡ true = apart structs units entry i path (whole k) (orderly structs units entry keeps passes).outputs e in
             absurd (never (sym (eqb-true path.root k
-            (and_left (nat_eq path.root k) (is_front path.fields (whole k).fields || is_front (whole k).fields path.fields) over))))
+            (and_first (nat_eq path.root k) (is_front path.fields (whole k).fields || is_front (whole k).fields path.fields) over))))
 
     module _ (path : Static) (value : Value) (store : Store) (seen : List Value) (fit : StoreFits W store)
         (may : put_at path.root path.fields value (now store) ≡ Some seen) where
@@ -374,11 +372,11 @@ target_typed : (site : TypingContext) (result : Option ScalarType) (path : Path)
     (s : ScalarType) × (is_plain path ≡ true) × (type_of_path site path ≡ Some (scalar s))
 target_typed site None path fitted = absurd cc
 target_typed site (Some s) path fitted =
-    let outlet = and_left (is_outlet site path) (are_same (Some (scalar s)) (type_of_path site path)) fitted in
+    let outlet = and_first (is_outlet site path) (are_same (Some (scalar s)) (type_of_path site path)) fitted in
     let found = same_found (Some (scalar s)) (type_of_path site path)
-    (and_right (is_outlet site path) (are_same (Some (scalar s)) (type_of_path site path)) fitted) in (
+    (and_second (is_outlet site path) (are_same (Some (scalar s)) (type_of_path site path)) fitted) in (
       s,
-      and_left (is_plain path) (is_assignable site path) outlet,
+      and_first (is_plain path) (is_assignable site path) outlet,
       found.2 ∙ sym found.1,
     )
 

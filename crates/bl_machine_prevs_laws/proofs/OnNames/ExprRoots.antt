@@ -3,6 +3,8 @@ use Rattle.std.proofs.Common.{◌≡◌, ℕ, Bool, true, List, [], ◌∷◌, m
 use Rattle.std.specs.Prelude.{All, Option, Some, None, option_map}
 use Rattle.std.specs.List.{list_all}
 use Rattle.std.proofs.lemmas.List.Elements.{All-head, All-tail}
+use Rattle.std.proofs.lemmas.Bool.{and_from}
+use Rattle.bl_tree.proofs.Basics.{all_append}
 use Rattle.bl_tree.specs.declared.place.Place.{Place}
 use Rattle.bl_tree.specs.Apart.{Roots}
 use Rattle.bl_tree.specs.Reduce.{joined}
@@ -33,7 +35,7 @@ use Rattle.bl_names_laws.specs.Apart.{argument_roots, kind_roots, optional_roots
 use Rattle.bl_names_laws.specs.Apart.{taker_roots, target_layer_roots}
 use Rattle.bl_names_laws.specs.inner.Apart.{roots_in_step}
 use Rattle.bl_machine_prevs_laws.proofs.OnNames.ExprMade.{NamedLayer, RawLayer, expr_made, field_made, index_made, named_parts, target_made}
-use Rattle.bl_machine_prevs_laws.proofs.OnNames.Only.{DeclarationOnly, Only, all_append, both, bound_only}
+use Rattle.bl_machine_prevs_laws.proofs.OnNames.Only.{DeclarationOnly, Only, bound_only}
 
 -- ---- what a raw expression does to names, by its parts
 
@@ -67,7 +69,7 @@ root_only : (test : ℕ → Bool) (kind : Kind) (k : ℕ) → suits wants.Value 
     → list_all test (roots_of (root_at kind k)) ≡ true
 root_only test kinds.Struct k suited only = absurd (cc)
 root_only test kinds.Constant k suited only = refl
-root_only test kinds.Variable k suited only = both (test k) true (only refl) refl
+root_only test kinds.Variable k suited only = and_from (test k) true (only refl) refl
 root_only test kinds.Function k suited only = absurd (cc)
 root_only test kinds.Activity k suited only = absurd (cc)
 root_only test kinds.Field k suited only = absurd (cc)
@@ -150,7 +152,7 @@ module _ (test : ℕ → Bool) (scopes : Scopes) (counts : Counts) (only : Only 
     prev = λ place name. kind_only place (RawExprKind-F.Prev name) (NamedExprKind-F.Prev (position scopes name))
         (expr_made Roots kind_roots part_roots target_layer_roots scopes place (RawExprKind-F.Prev name) (NamedExprKind-F.Prev (position scopes name))
         (what.outs-Prev (position scopes name)))
-        (λ fits. both (test (position scopes name)) true (variable_only name fits.0) refl);
+        (λ fits. and_from (test (position scopes name)) true (variable_only name fits.0) refl);
     one = λ place op a is. kind_only place (RawExprKind-F.One op a) (NamedExprKind-F.One op (named_expr scopes a))
         (expr_made Roots kind_roots part_roots target_layer_roots scopes place (RawExprKind-F.One op a) (NamedExprKind-F.One op (named_expr scopes a))
         (what.outs-One op (named_expr scopes a))) is;
@@ -186,14 +188,14 @@ module _ (test : ℕ → Bool) (scopes : Scopes) (counts : Counts) (only : Only 
   pub taker_only : (target : Option RawPath) → Fits there (optional path_marks target) →
       list_all test (taker_roots (option_map (named_path scopes) target))
       ≡ true
-  taker_only (Some path) fits = both (test (position scopes path.root)) true (variable_only path.root fits.0) refl
+  taker_only (Some path) fits = and_from (test (position scopes path.root)) true (variable_only path.root fits.0) refl
   taker_only None fits = refl
 
   paths_only : (paths : List RawPath) → Fits there (joined (map path_marks paths))
       → list_all test (joined (map roots_in_path (map (named_path scopes) paths))) ≡ true
   paths_only [] fits = refl
   paths_only (path ∷ paths) fits =
-      both (test (position scopes path.root)) (list_all test (joined (map roots_in_path (map (named_path scopes) paths))))
+      and_from (test (position scopes path.root)) (list_all test (joined (map roots_in_path (map (named_path scopes) paths))))
       (variable_only path.root fits.0)
       (paths_only paths fits.1)
 

@@ -4,6 +4,8 @@ use Rattle.std.proofs.Common.{ap, subst, ◌∙◌, arith}
 use Rattle.std.specs.Prelude.{Some, nat_eq}
 use Rattle.std.specs.List.{list_all}
 use Rattle.std.proofs.lemmas.Bool.{eq-eqb}
+use Rattle.std.proofs.lemmas.Bool.{and_from, or_left, or_right}
+use Rattle.bl_tree.proofs.Basics.{all_append, plus_none}
 use Rattle.bl_tree.specs.declared.tree.Role.{Role}
 use Rattle.bl_tree.specs.declared.tree.Role.TheVariants as role
 use Rattle.bl_tree.specs.declared.tree.UnitKind.{UnitKind}
@@ -28,7 +30,7 @@ use Rattle.bl_names.proofs.PieceLemmas.{block_marks, role_marks}
 use Rattle.bl_names.proofs.StillLemmas.{after-append, still_optional, still_type, still_value}
 use Rattle.bl_machine_prevs_laws.specs.Names.Declared.{body_declared}
 use Rattle.bl_machine_prevs_laws.specs.Names.Scoped.{first_ones, is_known}
-use Rattle.bl_machine_prevs_laws.proofs.OnNames.Only.{Only, all_append, both, declare_only, only_weaker, or_first, or_second}
+use Rattle.bl_machine_prevs_laws.proofs.OnNames.Only.{Only, declare_only, only_weaker}
 use Rattle.bl_machine_prevs_laws.proofs.OnNames.Statements.{body_turns}
 
 -- ---- parameters
@@ -46,9 +48,6 @@ record Params (scopes new : Scopes) (count : ℕ) : Type 0 where
   pub outer : new.outer ≡ scopes.outer
   pub more : new.counts.variables ≡ scopes.counts.variables + count
 
-none_more : (n : ℕ) → n ≡ n + 0
-none_more n = omega arith
-
 one_then : (a b c n : ℕ) → b ≡ a + 1 → c ≡ b + n → c ≡ a + suc n
 one_then a b c n one more = omega arith
 
@@ -56,13 +55,13 @@ low_next : (scopes : Scopes) (name : Name) → Low scopes → Low (enter scopes 
 low_next scopes name low =
     let n = scopes.counts.variables in
     subst (λ m. Only (is_known (first_ones m)) (enter scopes (declares name kind.Variable))) (next_is n)
-    (declare_only (is_known (first_ones (suc n))) scopes name kind.Variable (λ is. or_first (nat_eq n n) (is_known (first_ones n) n)
+    (declare_only (is_known (first_ones (suc n))) scopes name kind.Variable (λ is. or_left (nat_eq n n) (is_known (first_ones n) n)
     (eq-eqb n n refl))
-    (only_weaker (is_known (first_ones n)) (is_known (first_ones (suc n))) (λ k. or_second (nat_eq k n) (is_known (first_ones n) k)) scopes low))
+    (only_weaker (is_known (first_ones n)) (is_known (first_ones (suc n))) (λ k. or_right (nat_eq k n) (is_known (first_ones n) k)) scopes low))
 
 params_low : (role : Role) (params : List RawParam) (scopes : Scopes) → Low scopes →
     Params scopes (after scopes (role_piece role params).marks) (length params)
-params_low role [] scopes low = record { low = low; outer = refl; more = none_more scopes.counts.variables }
+params_low role [] scopes low = record { low = low; outer = refl; more = plus_none scopes.counts.variables }
 params_low role (param ∷ params) scopes low =
     let rest = (role_piece role params).marks in
     let middle = after scopes (param_marks param) in
@@ -202,7 +201,7 @@ item_declared : (scopes : Scopes) (one : RawItem) → Only never scopes → scop
 item_declared scopes (item.Struct def) nothing none fits = refl
 item_declared scopes (item.Constant constant) nothing none fits = refl
 item_declared scopes (item.Unit def) nothing none fits =
-    both (body_declared (named_unit scopes def)) true (inside_of scopes def nothing none fits).declared refl
+    and_from (body_declared (named_unit scopes def)) true (inside_of scopes def nothing none fits).declared refl
 
 units_declared : (scopes : Scopes) (items : List RawItem) → Known scopes items → list_all body_declared (along units_of scopes items) ≡ true
 units_declared scopes [] known = refl

@@ -1,4 +1,5 @@
 use Rattle.std.proofs.Common.{Some, refl, ap, sym, arith, true, ◌∙◌, ◌∷◌, [], lit≤}
+use Rattle.bl_tree.proofs.Basics.{at_most_itself}
 use Rattle.bl_lex.specs.declared.word.TheConstants.{AS, NOT}
 use Rattle.bl_lex.specs.declared.sign.TheConstants.{OPEN_BRACKET, CLOSE_BRACKET, OPEN_PAREN, CLOSE_PAREN, COMMA, DOT, MINUS, TILDE}
 use Rattle.bl_parse_syntax.specs.declared.grammar.Part.TheVariants.{Scalar, Accesses, Inputs, InputList, InputRest, Expr, CastRest, Unary, Primary, NameUse}
@@ -9,7 +10,7 @@ use Rattle.bl_parse_tree.specs.declared.expr.RawExprKind as kind
 use Rattle.bl_parse.specs.Expressions.{SpellsExpr, SpellsTarget, SpellsPart, SpellsParts, SpellsInputs, SpellsExprs}
 use Rattle.bl_parse.specs.Operators.{left_level, IsPrefix}
 use Rattle.bl_parse.specs.inner.Reading.{IsPlaceTail}
-use Rattle.bl_parse.proofs.ExprLemmas.{placed, placed_by, placed_target, looser, le_same, minus_sign, second_next, pushed_first}
+use Rattle.bl_parse.proofs.ExprLemmas.{placed, placed_by, placed_target, looser, minus_sign, second_next, pushed_first}
 use Rattle.bl_parse.proofs.PartLemmas.{off_at, next_other, access_index, unary_primary, accessed, prefixed, minus_is, none_is}
 use Rattle.bl_parse.proofs.NameLemmas.{as_accesses}
 use Rattle.bl_parse.proofs.OperatorLemmas.{operands, next_operator, no_operator}
@@ -89,7 +90,7 @@ expr_of-expr_of-requires t c = (
 
 pub expr_of-operators-preserved : goal.expr_of-operators-preserved
 expr_of-operators-preserved t c = record {
-  left = SpellsExpr.two (le_same c.in-Some.infix.level) (looser (left_level c.in-Some.infix.level) c.in-Some.ensures.left c.operators.invariant.left)
+  left = SpellsExpr.two (at_most_itself c.in-Some.infix.level) (looser (left_level c.in-Some.infix.level) c.in-Some.ensures.left c.operators.invariant.left)
       c.in-Some.ensures.spelled c.in_ok-right.ensures.spelled c.in_ok-left-2.ensures;
   follows = then (c.operators.invariant.follows) (then
       (next_operator c.in-Some.ensures.spelled c.in-Some.ensures.below c.in-Some.ensures.tight c.in-Some.ensures.left)
@@ -338,7 +339,7 @@ read_parts-parts-init t c = record {
   parts = SpellsParts.no_parts c.new-parts.ensures refl;
   keeps =
       record { keeps = λ part is. stay };
-  ahead = le_same c.args.at.now;
+  ahead = at_most_itself c.args.at.now;
 }
 
 pub read_parts-read_part-requires : goal.read_parts-read_part-requires

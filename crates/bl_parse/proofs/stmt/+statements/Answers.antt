@@ -1,9 +1,10 @@
 use Rattle.std.proofs.Common.{Some, refl, ap, sym, arith, ◌∙◌, ◌∷◌, []}
+use Rattle.bl_tree.proofs.Basics.{at_most_itself}
 use Rattle.bl_lex.specs.declared.word.TheConstants.{END, COBEGIN, WHEN, REPEAT, WHILE, IF, THEN, WITH, UNTIL, ELSEIF, ELSE}
 use Rattle.bl_parse_syntax.specs.declared.grammar.Part.TheVariants.{Block, Weak, Branches, Guard, Until, Elseifs, Else, Expr}
 use Rattle.bl_parse_syntax.specs.Grammar.{word, the}
 use Rattle.bl_parse.specs.Statements.{SpellsBlock, SpellsStmt, SpellsKind, SpellsBranches, SpellsBranch, SpellsArms, SpellsArm, SpellsElse}
-use Rattle.bl_parse.proofs.ExprLemmas.{le_same, pushed_first}
+use Rattle.bl_parse.proofs.ExprLemmas.{pushed_first}
 use Rattle.bl_parse.proofs.StmtLemmas.{placed_stmt, return_left}
 use Rattle.bl_parse.specs.At.{kind_at}
 use Rattle.bl_parse.proofs.PartLemmas.{block_opens}
@@ -13,7 +14,7 @@ use Rattle.bl_parse.proofs.ReadLemmas.{no_word}
 use Rattle.bl_parse.proofs.stmt.+statements.Goals as goal
 
 pub block-statements-init : goal.block-statements-init
-block-statements-init t c = record { body = SpellsBlock.no_stmts c.new-body.ensures refl; follows = stay; ahead = le_same c.args.at.now }
+block-statements-init t c = record { body = SpellsBlock.no_stmts c.new-body.ensures refl; follows = stay; ahead = at_most_itself c.args.at.now }
 
 pub block-stmt-requires : goal.block-stmt-requires
 block-stmt-requires t c = (
