@@ -1,5 +1,5 @@
 -- What is made of an activity is an activity with its blocks joined, and so it is of each.
-use Rattle.std.proofs.Common.{◌≡◌, ℕ, ◌+◌, ◌<◌, Bool, List, [], ◌∷◌, ◌++◌, length, get_or, take, refl, ap, sym, subst, ◌∙◌, arith}
+use Rattle.std.proofs.Common.{◌≡◌, ℕ, ◌+◌, ◌<◌, Bool, List, [], ◌∷◌, ◌++◌, length, get_or, take, ap, sym, subst, ◌∙◌, arith}
 use Rattle.std.specs.Prelude.{IsPermutation, slice_get}
 use Rattle.std.proofs.lemmas.List.{take_more}
 use Rattle.std.proofs.lemmas.List.Elements.{All-contains}
@@ -25,6 +25,7 @@ use Rattle.bl_block.specs.inner.Ways.{follows, ways_of}
 use Rattle.bl_block.proofs.Beginning.{Begins, begins}
 use Rattle.bl_block.proofs.Grouping.{Chain, apart_grouped, chain_at, chains_grouped, filled_grouped, joined_grouped}
 use Rattle.bl_block.proofs.Telling.{following_passes, passing_follows}
+use Rattle.bl_machine.proofs.Making.{each_length}
 
 -- ---- one activity
 
@@ -97,12 +98,6 @@ both_merge (u ∷ units) (a ∷ from) (g ∷ graphs) (t ∷ to) are graphed merg
     let rest = both_merge units from graphs to are.1 graphed.1 merge.1 in
     ((one.0, rest.0), (one.1, rest.1))
 
-two_length : {A B : Type 0} (R : A → B → Type 0) (xs : List A) (ys : List B) → EachTwo R xs ys → length xs ≡ length ys
-two_length R [] [] each = refl
-two_length R [] (y ∷ ys) each = absurd each
-two_length R (x ∷ xs) [] each = absurd each
-two_length R (x ∷ xs) (y ∷ ys) each = let rest = two_length R xs ys each.1 in cc
-
 -- ---- one activity more
 
 pub each_more : (from : List Activity) (graphs : List Graph) (made next : List Activity) (k : ℕ) (activity : Activity) (graph : Graph)
@@ -134,7 +129,7 @@ module _ (program other : Program) (from seen : List Activity) (graphs given : L
   -- as many activities as tick graphs
   pub as_many : length seen ≡ length given
   as_many =
-      sym (two_length IsActivityOf (activities program.units) seen seen_are) ∙ two_length IsGraphOf (activities program.units) given graphed_here
+      sym (each_length IsActivityOf (activities program.units) seen seen_are) ∙ each_length IsGraphOf (activities program.units) given graphed_here
 
   -- what is made of the activities is a machine, merged from the one
   pub machine_merges : (to : List Activity) → EachMerges seen given to →

@@ -13,6 +13,7 @@ use Rattle.bl_ctext_semantics.specs.Tables.{entry_or, with_entry}
 use Rattle.bl_bound.specs.declared.cost.Cost.{Cost}
 use Rattle.bl_bound.specs.declared.cost.Cost.TheVariants.{Number, Over}
 use Rattle.bl_bound.specs.inner.Capped.{amount, capped}
+use Rattle.bl_ctext_semantics.proofs.BoundLemmas.{cost-append}
 
 -- ---- numbers
 
@@ -62,15 +63,10 @@ pub total-alike : {X : Type 0} (f g : X → ℕ) → ((x : X) → capped (f x) �
 total-alike f g h [] = refl
 total-alike f g h (x ∷ xs) = sum-alike (f x) (g x) (total (map f xs)) (total (map g xs)) (h x) (total-alike f g h xs)
 
--- the costs of calls after others
-pub calls-append : (known : Costs) (xs ys : List Text) → cost_of_calls known (xs ++ ys) ≡ cost_of_calls known xs + cost_of_calls known ys
-calls-append known [] ys = omega arith
-calls-append known (x ∷ xs) ys = omega (arith, calls-append known xs ys)
-
 -- two lists of calls, told one by one
 pub cap-calls : (known : Costs) (xs ys : List Text) →
     capped (capped (cost_of_calls known xs) + capped (cost_of_calls known ys)) ≡ capped (cost_of_calls known (xs ++ ys))
-cap-calls known xs ys = omega (arith, calls-append known xs ys)
+cap-calls known xs ys = omega (arith, cost-append known xs ys)
 
 -- one more number of a sum
 pub sum-next : (so_far here more n rest all : ℕ) → here ≡ capped n → more ≡ capped (so_far + here) → capped (so_far + (n + rest)) ≡ all →
@@ -87,7 +83,7 @@ calls-next known names xs k x so_far here more all within is e told h =
     let whole : capped (so_far + cost_of_calls known (names x ++ rest)) ≡ all =
     subst (λ l. capped (so_far + cost_of_calls known (joined (map names l))) ≡ all) (drop_next xs k x within is) h in
     sum-next so_far here more (cost_of_calls known (names x)) (cost_of_calls known rest) all e told
-    (ap (λ n. capped (so_far + n)) (sym (calls-append known (names x) rest)) ∙ whole)
+    (ap (λ n. capped (so_far + n)) (sym (cost-append known (names x) rest)) ∙ whole)
 
 -- all of them
 pub calls-done : {X : Type 0} (known : Costs) (names : X → List Text) (xs : List X) (k : ℕ) (cost : Cost) (all : ℕ) → length xs ≤ k →

@@ -25,18 +25,9 @@ use Rattle.bl_cause.specs.inner.Lists.{Candidates, Within, level_edges, same_kin
 use Rattle.bl_cause.specs.inner.Numbers.{NeverFall}
 use Rattle.bl_cause.proofs.ListLemmas.{filter_keeps, filter_there, filter_true}
 use Rattle.bl_cause.proofs.WalkLemmas.{closed_is_level}
+use Rattle.bl_tree.proofs.FirstLemmas.{before_trans, before_true}
 
 -- ---- places
-
-pub before_true : (a b : Place) → is_before a b ≡ true → IsBefore a b
-before_true a b is =
-    elim (nat_lt a.start b.start) as
-    (λ less. nat_lt a.start b.start ≡ less → (less || (nat_eq a.start b.start && nat_lt a.end b.end)) ≡ true → IsBefore a b) [
-      | true ↦ λ less h. inl (grind (arith, nat_tests))
-      | false ↦ λ less h.
-          let both = and_parts (nat_eq a.start b.start) (nat_lt a.end b.end) h in
-          let e1 = both.0 in let e2 = both.1 in inr (grind (arith, nat_tests), grind (arith, nat_tests))
-    ] refl is
 
 true_before : (a b : Place) → IsBefore a b → is_before a b ≡ true
 true_before a b h =
@@ -54,20 +45,11 @@ true_before a b h =
     or_true true b is = refl
     or_true false b is = is
 
-pub before_then : (a b c : Place) → IsBefore a b → IsBefore b c → IsBefore a c
-before_then a b c one two =
-    ⊎_elim
-    (λ (p : a.start < b.start).
-    ⊎_elim (λ (q : b.start < c.start). inl (omega arith)) (λ (q : (b.start ≡ c.start) × (b.end < c.end)). let e = q.0 in inl (omega arith)) two)
-    (λ (p : (a.start ≡ b.start) × (a.end < b.end)). let e = p.0 in let l = p.1 in
-    ⊎_elim (λ (q : b.start < c.start). inl (omega arith))
-    (λ (q : (b.start ≡ c.start) × (b.end < c.end)). let f = q.0 in let m = q.1 in inr (omega arith, omega arith)) two) one
-
 -- what isn't before a place isn't before an earlier one
 pub not_before_then : (x y b : Place) → is_before x b ≡ false → is_before y b ≡ true → is_before x y ≡ false
 not_before_then x y b never is =
     elim (is_before x y) as (λ t. is_before x y ≡ t → t ≡ false) [
-      | true ↦ λ one. true_false_any (is_before x b) (true_before x b (before_then x y b (before_true x y one) (before_true y b is))) never
+      | true ↦ λ one. true_false_any (is_before x b) (true_before x b (before_trans x y b (before_true x y one) (before_true y b is))) never
       | false ↦ λ one. refl
     ] refl
 

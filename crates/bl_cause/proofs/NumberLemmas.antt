@@ -121,7 +121,7 @@ length_along (edge ∷ row) s = length_along row (lowered edge s) ∙ length_ste
 ends_head : (count : ℕ) (edge : Edge) (row : List Edge) → Within count (edge ∷ row) → Ends count edge
 ends_head count edge row h = All-head (Ends count) edge row h
 
-ends_tail : (count : ℕ) (edge : Edge) (row : List Edge) → Within count (edge ∷ row) → Within count row
+pub ends_tail : (count : ℕ) (edge : Edge) (row : List Edge) → Within count (edge ∷ row) → Within count row
 ends_tail count edge row h = All-tail (Ends count) edge row h
 
 pub nodes_along : (count : ℕ) (row : List Edge) (s : Lowered) → Within count row → All (λ node. node < count) s.nodes →

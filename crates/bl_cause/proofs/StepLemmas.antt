@@ -6,7 +6,7 @@ use Rattle.std.proofs.lemmas.Bool.{cases_eq, cases_lt}
 use Rattle.std.proofs.lemmas.Bool.Decides.{nat_tests}
 use Rattle.std.proofs.lemmas.List.{drop-append-le, get_or-replicate, get_or_default, take_more, get_or-set_other, get_or-set_same, get_or_append_left}
 use Rattle.std.proofs.lemmas.List.{get_or_past, get_or_push, length-replicate, length-set, length_push}
-use Rattle.std.proofs.lemmas.List.Elements.{All-head, All-nil, All-push, All-tail}
+use Rattle.std.proofs.lemmas.List.Elements.{All-head, All-nil, All-push}
 use Rattle.std.proofs.lemmas.List.Sums.{sum_by-set}
 use Rattle.bl_tree.proofs.Basics.{contains_first, contains_further, contains_none, first_or_further}
 use Rattle.bl_tree.specs.declared.graph.Edge.{Edge}
@@ -17,6 +17,7 @@ use Rattle.bl_cause.specs.inner.Lists.{Rows, RowsWithin, Within, edges_from, uns
 use Rattle.bl_cause.specs.inner.Steps.{Closed, Earlier, Ends, Leaves, Sees, Tree, gone, gone_along, gone_unless}
 use Rattle.bl_cause.proofs.ListLemmas.{filter_keeps, filter_there, filter_true, reverse_push}
 use Rattle.bl_cause.proofs.RowLemmas.{row_within}
+use Rattle.bl_cause.proofs.NumberLemmas.{ends_tail}
 
 -- ---- nodes seen
 
@@ -283,9 +284,6 @@ leaves_step edges at before edge row r lt le h =
 head_to : (count : ℕ) (edge : Edge) (row : List Edge) → Within count (edge ∷ row) → edge.to < count
 head_to count edge row h = (All-head (λ edge. (edge.from < count) × (edge.to < count)) edge row h).1
 
-rest_within : (count : ℕ) (edge : Edge) (row : List Edge) → Within count (edge ∷ row) → Within count row
-rest_within count edge row h = All-tail (λ edge. (edge.from < count) × (edge.to < count)) edge row h
-
 pub seen_along : (before : ℕ) (row : List Edge) (r : Reached) → length (gone_along before row r).seen ≡ length r.seen
 seen_along before [] r = refl
 seen_along before (edge ∷ row) r = seen_along before row (gone before edge r) ∙ seen_step before edge r
@@ -299,14 +297,14 @@ pub counted_along : (before : ℕ) (row : List Edge) (r : Reached) → Within (l
     unseen (gone_along before row r).seen + length (gone_along before row r).steps ≡ unseen r.seen + length r.steps
 counted_along before [] r within = refl
 counted_along before (edge ∷ row) r within =
-    counted_along before row (gone before edge r) (subst (λ n. Within n row) (sym (seen_step before edge r)) (rest_within (length r.seen) edge row within))
+    counted_along before row (gone before edge r) (subst (λ n. Within n row) (sym (seen_step before edge r)) (ends_tail (length r.seen) edge row within))
     ∙ counted_step before edge r (head_to (length r.seen) edge row within)
 
 pub within_along : (count before : ℕ) (row : List Edge) (r : Reached) → Within count row → All (λ step. step.edge.to < count) r.steps →
     All (λ step. step.edge.to < count) (gone_along before row r).steps
 within_along count before [] r within all = all
 within_along count before (edge ∷ row) r within all =
-    within_along count before row (gone before edge r) (rest_within count edge row within)
+    within_along count before row (gone before edge r) (ends_tail count edge row within)
     (within_step count before edge r (head_to count edge row within) all)
 
 pub earlier_along : (before : ℕ) (row : List Edge) (r : Reached) → before < length r.steps → Earlier r.steps → Earlier (gone_along before row r).steps
@@ -330,7 +328,7 @@ pub sees_along : (before : ℕ) (row : List Edge) (r : Reached) → Within (leng
     Sees (gone_along before row r).seen (gone_along before row r).steps
 sees_along before [] r within h = h
 sees_along before (edge ∷ row) r within h =
-    sees_along before row (gone before edge r) (subst (λ n. Within n row) (sym (seen_step before edge r)) (rest_within (length r.seen) edge row within))
+    sees_along before row (gone before edge r) (subst (λ n. Within n row) (sym (seen_step before edge r)) (ends_tail (length r.seen) edge row within))
     (sees_step before edge r (head_to (length r.seen) edge row within) h)
 
 pub leaves_along : (edges : List Edge) (at before : ℕ) (row : List Edge) (r : Reached) → Within (length r.seen) row → at ≤ length r.steps →
@@ -338,7 +336,7 @@ pub leaves_along : (edges : List Edge) (at before : ℕ) (row : List Edge) (r : 
 leaves_along edges at before [] r within le h = h
 leaves_along edges at before (edge ∷ row) r within le h =
     leaves_along edges at before row (gone before edge r)
-    (subst (λ n. Within n row) (sym (seen_step before edge r)) (rest_within (length r.seen) edge row within))
+    (subst (λ n. Within n row) (sym (seen_step before edge r)) (ends_tail (length r.seen) edge row within))
     (let more = grows_step before edge r in omega (arith, more, le))
     (leaves_step edges at before edge row r (head_to (length r.seen) edge row within) le h)
 

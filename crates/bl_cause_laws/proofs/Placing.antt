@@ -1,7 +1,6 @@
 -- The tick graph of a body: its listed edges, by the positions of their nodes.
 use Rattle.std.proofs.Common.{◌≡◌, inl, inr, ℕ, ◌<◌, Bool, true, false, ◌&&◌, List, [], ◌∷◌, ◌++◌, length, refl, sym, ap, ◌∙◌, subst, arith}
-use Rattle.std.specs.Prelude.{◌↔◌, Contains, IsTrue, Some, map, nat_lt, slice_get}
-use Rattle.std.specs.List.{list_all}
+use Rattle.std.specs.Prelude.{◌↔◌, Contains, Some, map, nat_lt, slice_get}
 use Rattle.std.proofs.lemmas.Bool.{lt-ltb}
 use Rattle.std.proofs.lemmas.List.{length-map}
 use Rattle.std.proofs.lemmas.Option.{slice_get_within}
@@ -21,6 +20,7 @@ use Rattle.bl_graph.specs.Graph.{EdgeBetween, IsTickGraph, edge_between, graph_n
 use Rattle.bl_graph.specs.Laws.{EdgesAreListed, FlowsAreListed, StaysWithin}
 use Rattle.bl_graph.specs.Listed.{Pair, edges_in, flows_in, pair}
 use Rattle.bl_cause_laws.specs.Orders.{BodiesHaveGraphs}
+use Rattle.bl_graph.proofs.Ending.{lists_all}
 
 -- an edge of the kind between nodes of the list
 record Placed (nodes : List Node) (E : Node → Node → Type 0) (p : Pair) : Type 0 where
@@ -153,12 +153,6 @@ module _ (differ : NodesDiffer) (within : (body : Block) → StaysWithin body) (
           ((flows body [] b.first b.second).1 b.edge) b.is_first b.is_second)
 
 -- ---- ends of edges
-
-lists_all : (test : GraphEdge → Bool) (list : List GraphEdge) → ((e : GraphEdge) → Contains list e → test e ≡ true) → IsTrue (list_all test list)
-lists_all test [] every = refl
-lists_all test (e ∷ list) every =
-    subst (λ t. IsTrue (t && list_all test list)) (sym (every e (contains_first e list)))
-    (lists_all test list (λ d there. every d (contains_further e list d there)))
 
 -- both ends of each edge of a tick graph are positions of nodes
 module _ (body : Block) (nodes : List GraphNode) (edges : List GraphEdge) (is : IsTickGraph body nodes edges) where

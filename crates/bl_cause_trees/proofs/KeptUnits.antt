@@ -20,7 +20,7 @@ use Rattle.bl_cause.specs.declared.order.Order.{Order}
 use Rattle.bl_cause.specs.inner.Graphs.{GraphsFail}
 use Rattle.bl_cause.specs.Rules.{Passes as OwnGraphsPass}
 use Rattle.bl_cause.proofs.AlikeLemmas.{program_passes}
-use Rattle.bl_cause.proofs.FirstLemmas.{before_then, before_true, no_later}
+use Rattle.bl_cause.proofs.FirstLemmas.{no_later}
 use Rattle.bl_cause.proofs.PairLemmas.{contains_either, contains_last, contains_left, each_first, each_push}
 use Rattle.bl_cause_trees.specs.declared.activity.Judged.{Judged}
 use Rattle.bl_cause_trees.specs.declared.units.Kept.{Kept}
@@ -29,6 +29,7 @@ use Rattle.bl_cause_trees.specs.Rules.{Fails, FailsInPeeled, Passes}
 use Rattle.bl_cause_trees.specs.Peeled.{ArePeeled, of_function}
 use Rattle.bl_cause_trees.proofs.Judged.{graph_alone, ordered_never_cycle, ordered_never_twice}
 use Rattle.bl_cause_trees.proofs.Peeled.{peeled_units_are_judged}
+use Rattle.bl_tree.proofs.FirstLemmas.{before_trans, before_true}
 
 -- ---- units with other bodies
 
@@ -148,7 +149,7 @@ no_later_then : (a b c : Place) → AreNoLater (a ∷ []) (b ∷ []) → AreNoLa
 no_later_then a b c one two =
     ⊎_elim
     (λ (less : IsBefore a b).
-    ⊎_elim (λ (more : IsBefore b c). inl (before_then a b c less more))
+    ⊎_elim (λ (more : IsBefore b c). inl (before_trans a b c less more))
     (λ (same : (b ≡ c) × ⊤). inl (subst (IsBefore a) same.0 less)) two)
     (λ (same : (a ≡ b) × ⊤). subst (λ it. AreNoLater (it ∷ []) (c ∷ [])) (sym same.0) two) one
 

@@ -2,24 +2,15 @@
 use Rattle.std.proofs.Common.{◌≡◌, ◌<◌, ◌≤◌, Bool, true, false, List, [], ◌∷◌, ◌++◌, length, map, refl, sym, ap, ◌∙◌, append_assoc, append-nil, arith}
 use Rattle.std.specs.Prelude.{codes}
 use Rattle.std.proofs.lemmas.List.{length-append}
-use Rattle.std.proofs.lemmas.Bool.{and_from}
-use Rattle.bl_tree.proofs.Basics.{and_first, and_second}
-use Rattle.bl_tree.specs.Reduce.{all_of, joined}
+use Rattle.bl_tree.specs.Reduce.{joined}
 use Rattle.bl_ctext.specs.Token.{Token}
 use Rattle.bl_ctext.specs.Spelling.{listed, with_commas, comma_before}
 use Rattle.bl_ctext.specs.Spellable.{has_any}
+use Rattle.bl_cparse_syntax_laws.proofs.Told.{joined_more as joined_snoc}
 
 pub any_more : {A : Type 0} (xs : List A) (x : A) → has_any (xs ++ x ∷ []) ≡ true
 any_more [] x = refl
 any_more (y ∷ xs) x = refl
-
-pub all_more : {A : Type 0} (p : A → Bool) (xs : List A) (x : A) → all_of (map p xs) ≡ true → p x ≡ true → all_of (map p (xs ++ x ∷ [])) ≡ true
-all_more p [] x h k = and_from _ _ k refl
-all_more p (y ∷ xs) x h k = and_from _ _ (and_first _ _ h) (all_more p xs x (and_second _ _ h) k)
-
-pub joined_snoc : {A : Type 0} (f : A → List Token) (xs : List A) (x : A) → joined (map f (xs ++ x ∷ [])) ≡ joined (map f xs) ++ f x
-joined_snoc f [] x = append-nil (f x)
-joined_snoc f (y ∷ xs) x = ap (λ ts. f y ++ ts) (joined_snoc f xs x) ∙ sym (append_assoc (f y) (joined (map f xs)) (f x))
 
 pub joined_more : {A : Type 0} (f : A → List Token) (before old new : List Token) (xs : List A) (x : A) →
     before ≡ joined (map f xs) ++ old → old ≡ f x ++ new → before ≡ joined (map f (xs ++ x ∷ [])) ++ new

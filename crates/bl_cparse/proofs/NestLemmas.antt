@@ -5,11 +5,11 @@ use Rattle.std.proofs.lemmas.Bool.{and_from}
 use Rattle.bl_tree.proofs.Basics.{and_first, and_second}
 use Rattle.bl_tree.specs.Reduce.{all_of, joined}
 use Rattle.bl_ctext.specs.Token.{Token}
-use Rattle.bl_cparse.proofs.ListLemmas.{joined_snoc, all_more}
+use Rattle.bl_cparse_syntax_laws.proofs.Told.{all_more, joined_more}
 
 pub one_more : {A : Type 0} (f : A → List Token) (before body : List A) (s : A) (k : List Token) → body ≡ before ++ s ∷ [] →
     f s ≡ k → joined (map f body) ≡ joined (map f before) ++ k
-one_more f before body s k e h = ap (λ xs. joined (map f xs)) e ∙ (joined_snoc f before s ∙ ap (λ ts. joined (map f before) ++ ts) h)
+one_more f before body s k e h = ap (λ xs. joined (map f xs)) e ∙ (joined_more f before s ∙ ap (λ ts. joined (map f before) ++ ts) h)
 
 pub all_with : {A : Type 0} (p : A → Bool) (before body : List A) (s : A) → body ≡ before ++ s ∷ [] → all_of (map p before) ≡ true →
     p s ≡ true → all_of (map p body) ≡ true

@@ -1,18 +1,18 @@
 -- What the digits of a number are.
-use Rattle.std.proofs.Common.{◌≡◌, ℕ, suc, ◌+◌, ◌-◌, ◌^◌, ◌≤◌, ◌<◌, Bool, true, false, not, ◌||◌, ◌==◌, nat_eq, nat_le, List, [], ◌∷◌, length, map}
-use Rattle.std.proofs.Common.{refl, sym, ap, ◌∙◌, subst, inl, inr, arith}
+use Rattle.std.proofs.Common.{◌≡◌, ℕ, ◌+◌, ◌-◌, ◌^◌, ◌≤◌, ◌<◌, Bool, true, false, not, ◌||◌, ◌==◌, nat_eq, nat_le, List, [], ◌∷◌, length, map}
+use Rattle.std.proofs.Common.{sym, ap, ◌∙◌, subst, arith}
 use Rattle.std.proofs.lemmas.Bool.Decides.{nat_tests}
 use Rattle.std.proofs.lemmas.Fmt.{decimal-digits_value, decimal_injective}
 use Rattle.std.proofs.lemmas.Str.{IsUtf8-from_ascii}
 use Rattle.std.proofs.lemmas.Str.Ascii.{IsAscii-nil, IsAscii-cons}
-use Rattle.std.proofs.lemmas.Str.Parse.{IsNumeralModel, numerals_by_value, tells_all_ascii_digits, parse_gives}
+use Rattle.std.proofs.lemmas.Str.Parse.{parse_gives}
 use Rattle.std.specs.Char.{is_ascii_digit}
 use Rattle.std.specs.Fmt.{decimal}
 use Rattle.std.specs.Str.{IsAscii, IsUtf8, all_ascii_digits}
 use Rattle.std.specs.Str.Parse.{digits_value, ParsesUnsigned}
 use Rattle.std.specs.Prelude.{Result, Ok, Err}
 use Rattle.std.specs.Cmp.Lexicographic.{pointwise}
-use Rattle.bl_tree.proofs.Basics.{and_first, and_second, at_most_from, either_of, less_from}
+use Rattle.bl_tree.proofs.Basics.{and_first, and_second, at_most_from, less_from}
 use Rattle.bl_tree.specs.Reduce.{all_of}
 use Rattle.bl_tree.specs.declared.scalar.Width.{Width}
 use Rattle.bl_tree.specs.declared.scalar.Width.TheVariants.{W8, W16, W32, W64}
@@ -25,14 +25,7 @@ use Rattle.bl_cparse_syntax.specs.Pieces.{is_same}
 use Rattle.bl_cparse_syntax.proofs.ClassLemmas.{is_same-self}
 use Rattle.bl_grammar.proofs.Predictive.{not_both}
 use Rattle.bl_cparse_syntax_laws.proofs.Pieces.{bound_le}
-
-digits_own : IsNumeralModel (λ (ds : List ℕ). all_ascii_digits ds ≡ true) (digits_value 10)
-digits_own = numerals_by_value (λ (ds : List ℕ). all_ascii_digits ds ≡ true) tells_all_ascii_digits
-
-all_digits : (ds : List ℕ) → all_of (map is_ascii_digit ds) ≡ true → all_ascii_digits ds ≡ true
-all_digits [] h = refl
-all_digits (d ∷ ds) h = rw (and_first (is_ascii_digit d) (all_of (map is_ascii_digit ds)) h)
-    (all_digits ds (and_second (is_ascii_digit d) (all_of (map is_ascii_digit ds)) h))
+use Rattle.bl_cparse_syntax_laws.proofs.Pieces.{all_digits, digits_own, has_some, lone, wide}
 
 digit_ascii : (d : ℕ) → is_ascii_digit d ≡ true → d < 128
 digit_ascii d h = grind (arith, nat_tests)
@@ -40,16 +33,6 @@ digit_ascii d h = grind (arith, nat_tests)
 digits_ascii : (ds : List ℕ) → all_ascii_digits ds ≡ true → IsAscii ds
 digits_ascii [] h = IsAscii-nil
 digits_ascii (d ∷ ds) h = IsAscii-cons d ds (digit_ascii d (and_first _ _ h)) (digits_ascii ds (and_second _ _ h))
-
-lone : (b : ℕ) (bs : List ℕ) → (not (b == 48) || nat_le (length bs) 0) ≡ true → b ≡ 48 → suc (length bs) ≡ 1
-lone b bs h e = elim (either_of (not (b == 48)) (nat_le (length bs) 0) h)
-    [ inl differs ↦ absurd (grind (arith, nat_tests)) | inr short ↦ grind (arith, nat_tests) ]
-
-has_some : (bs : List ℕ) → 0 < suc (length bs)
-has_some bs = omega arith
-
-wide : (a b : ℕ) → a < b → b ≤ 2 ^ 64 → a < 2 ^ 64
-wide a b h k = omega (arith, h, k)
 
 -- the number of digits that are of the class
 pub record Numeral (of : Digits) (t : Token) : Type 0 where

@@ -7,7 +7,8 @@ use Rattle.bl_ctext.specs.Token.{Token}
 use Rattle.bl_ctext.specs.Spelling.{with_commas, arg_tokens}
 use Rattle.bl_ctext.specs.Spellable.{has_any}
 use Rattle.bl_cparse.specs.inner.Partial.{args_before}
-use Rattle.bl_cparse.proofs.ListLemmas.{joined_snoc, commas_snoc}
+use Rattle.bl_cparse.proofs.ListLemmas.{commas_snoc}
+use Rattle.bl_cparse_syntax_laws.proofs.Told.{joined_more}
 
 -- some of the next tokens go on what is read
 pub go_on : (fs t p rest new : List Token) → p ≡ fs ++ t → rest ≡ t ++ new → fs ++ rest ≡ p ++ new
@@ -42,11 +43,11 @@ pub place_with : {A : Type 0} (f : A → List Token) (root : List Token) (steps 
     root ++ joined (map f more) ≡ (root ++ joined (map f steps)) ++ f s
 place_with {A = A} f root steps more s e =
     ap (λ (xs : List A). root ++ joined (map f xs)) e
-    ∙ (ap (λ (ts : List Token). root ++ ts) (joined_snoc f steps s) ∙ sym (append_assoc root (joined (map f steps)) (f s)))
+    ∙ (ap (λ (ts : List Token). root ++ ts) (joined_more f steps s) ∙ sym (append_assoc root (joined (map f steps)) (f s)))
 
 -- the innermost of the open brackets is taken off
 pub taken_off : {A : Type 0} (f : A → List Token) (outer items : List A) (held : A) (rest : List Token) → items ≡ outer ++ held ∷ [] →
     joined (map f items) ++ rest ≡ joined (map f outer) ++ (f held ++ rest)
 taken_off {A = A} f outer items held rest e =
-    ap (λ (ts : List Token). ts ++ rest) (ap (λ (xs : List A). joined (map f xs)) e ∙ joined_snoc f outer held)
+    ap (λ (ts : List Token). ts ++ rest) (ap (λ (xs : List A). joined (map f xs)) e ∙ joined_more f outer held)
     ∙ append_assoc (joined (map f outer)) (f held) rest

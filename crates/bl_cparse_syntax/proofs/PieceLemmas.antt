@@ -18,7 +18,7 @@ pub blank_first : (b : ℕ) (bs : List ℕ) → is_blank b ≡ true → pieces (
 blank_first b [] h = rw h refl
 blank_first b (c ∷ cs) h = rw h refl
 
-no_pair : (a b : ℕ) → is_word_byte a ≡ true → is_double_sign a b ≡ false
+pub no_pair : (a b : ℕ) → is_word_byte a ≡ true → is_double_sign a b ≡ false
 no_pair a b h = grind (arith, nat_tests)
 
 -- whether the bytes begin with one of words

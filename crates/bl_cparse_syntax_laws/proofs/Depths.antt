@@ -33,6 +33,8 @@ use Rattle.bl_cparse_syntax.specs.Grammar.{Shape, Wanted, Production, production
 use Rattle.bl_cparse_syntax.specs.Grammar.IsAmong.{here, later}
 use Rattle.bl_cparse_syntax.proofs.ClassLemmas.{among_all}
 use Rattle.bl_cparse_syntax_laws.proofs.Pieces.{word_is, name_is, number_is, bound_le, Spelled}
+use Rattle.bl_cparse_syntax_laws.proofs.Pieces.{wide}
+use Rattle.bl_ctext.proofs.Texts.{are_tokens-append}
 
 -- ---- what is asked of the productions
 
@@ -170,9 +172,6 @@ by_both t h k = and_from (is_token t) (not (is_bracket t)) h (not_of_false (is_b
 name_plain : (t : Token) → matches a_name t ≡ true → plain t ≡ true
 name_plain t m = by_both t (name-token t (name_is t m)) (name-plain t (name_is t m))
 
-wide : (a b : ℕ) → a < b → b ≤ 2 ^ 64 → a < 2 ^ 64
-wide a b h k = omega (arith, h, k)
-
 number_plain : (of : Digits) (t : Token) → matches (number of) t ≡ true → plain t ≡ true
 number_plain of t m = by_spelled (number_is of t m)
   where
@@ -240,13 +239,8 @@ keep_plain opened room t b h le k =
       tokens = and_from (is_token t) (are_tokens b) (and_first (is_token t) (not (is_bracket t)) h) k.tokens;
     }
 
-tokens_both : (xs ys : List Token) → are_tokens xs ≡ true → are_tokens ys ≡ true → are_tokens (xs ++ ys) ≡ true
-tokens_both [] ys h k = k
-tokens_both (x ∷ xs) ys h k = and_from (is_token x) (are_tokens (xs ++ ys)) (and_first (is_token x) (are_tokens xs) h)
-    (tokens_both xs ys (and_second (is_token x) (are_tokens xs) h) k)
-
 keep_part : (opened room e : ℕ) (a b : List Token) → Kept 0 e a → opened + e ≤ room → Kept opened room b → Kept opened room (a ++ b)
-keep_part opened room e a b h le k = record { closes = closes-append opened room e a b h.closes le k.closes; tokens = tokens_both a b h.tokens k.tokens }
+keep_part opened room e a b h le k = record { closes = closes-append opened room e a b h.closes le k.closes; tokens = are_tokens-append a b h.tokens k.tokens }
 
 -- what the check says of a class
 abbrev Checked : ℕ → ℕ → Class → List Shape → Type 0

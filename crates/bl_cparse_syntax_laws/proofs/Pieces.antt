@@ -29,7 +29,7 @@ use Rattle.bl_cparse_syntax.specs.Classes.{words_of, least, digits_bound, are_di
 use Rattle.bl_cparse_syntax.specs.Classes.Class.{exactly, one_of, a_name, number}
 use Rattle.bl_cparse_syntax.proofs.ClassLemmas.{exactly_is}
 use Rattle.bl_cparse_syntax_laws.proofs.Tests.{is_same}
-use Rattle.bl_cparse_syntax_laws.proofs.Words.{negatives_le}
+use Rattle.bl_ctext.proofs.ExprNesting.{negatives-le}
 
 pub word_is : {w t : Token} → matches (exactly w) t ≡ true → w ≡ t
 word_is {w} {t} m = exactly_is w t m
@@ -70,10 +70,10 @@ function_word t m = or_right (is_name t) _ m
 
 -- ---- numbers
 
-digits_own : IsNumeralModel (λ (ds : List ℕ). all_ascii_digits ds ≡ true) (digits_value 10)
+pub digits_own : IsNumeralModel (λ (ds : List ℕ). all_ascii_digits ds ≡ true) (digits_value 10)
 digits_own = numerals_by_value (λ (ds : List ℕ). all_ascii_digits ds ≡ true) tells_all_ascii_digits
 
-all_digits : (ds : List ℕ) → all_of (map is_ascii_digit ds) ≡ true → all_ascii_digits ds ≡ true
+pub all_digits : (ds : List ℕ) → all_of (map is_ascii_digit ds) ≡ true → all_ascii_digits ds ≡ true
 all_digits [] h = refl
 all_digits (d ∷ ds) h = rw (and_first (is_ascii_digit d) (all_of (map is_ascii_digit ds)) h)
     (all_digits ds (and_second (is_ascii_digit d) (all_of (map is_ascii_digit ds)) h))
@@ -85,20 +85,20 @@ pub record Spelled (of : Digits) (t : Token) : Type 0 where
   pub low : least of ≤ n
   pub high : n < digits_bound of
 
-lone : (b : ℕ) (bs : List ℕ) → (not (b == 48) || nat_le (length bs) 0) ≡ true → b ≡ 48 → suc (length bs) ≡ 1
+pub lone : (b : ℕ) (bs : List ℕ) → (not (b == 48) || nat_le (length bs) 0) ≡ true → b ≡ 48 → suc (length bs) ≡ 1
 lone b bs h e = elim (either_of (not (b == 48)) (nat_le (length bs) 0) h)
     [ inl differs ↦ absurd (grind (arith, nat_tests)) | inr short ↦ grind (arith, nat_tests) ]
 
 pub bound_le : (of : Digits) → digits_bound of ≤ 2 ^ 64
 bound_le Elements = omega arith
-bound_le (Int w) = omega (arith, negatives_le w)
-bound_le (Negated w) = omega (arith, negatives_le w)
-bound_le (Unsigned w) = negatives_le w
+bound_le (Int w) = omega (arith, negatives-le w)
+bound_le (Negated w) = omega (arith, negatives-le w)
+bound_le (Unsigned w) = negatives-le w
 
-has_some : (bs : List ℕ) → 0 < suc (length bs)
+pub has_some : (bs : List ℕ) → 0 < suc (length bs)
 has_some bs = omega arith
 
-wide : (a b : ℕ) → a < b → b ≤ 2 ^ 64 → a < 2 ^ 64
+pub wide : (a b : ℕ) → a < b → b ≤ 2 ^ 64 → a < 2 ^ 64
 wide a b h k = omega (arith, h, k)
 
 number_of : (of : Digits) (t : Token) → spells_number of t ≡ true → Spelled of t

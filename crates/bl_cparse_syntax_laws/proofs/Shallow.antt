@@ -13,6 +13,7 @@ use Rattle.bl_cparse_syntax.specs.Classes.{Class, matches}
 use Rattle.bl_cparse_syntax.specs.Classes.Class.{exactly}
 use Rattle.bl_cparse_syntax.specs.Grammar.{Shape, Wanted, Production, productions, with_turn_name, wanted_for, IsAmong, Produces, CDerives}
 use Rattle.bl_cparse_syntax.proofs.ClassLemmas.{is_same-self}
+use Rattle.bl_ctext.proofs.Nesting.{opened}
 
 -- the pieces spell what is wanted, up to the end
 abbrev pub Spells : List Wanted → List Token → Type 0
@@ -72,9 +73,6 @@ free k j part ss ts among none go = roomed k j part ss ts among (λ few. omega (
 exact : (w : Token) → matches (exactly w) w ≡ true
 unfolding matches
 exact w = is_same-self w
-
-pub opened : (k : ℕ) (w : Token) → is_opening w ≡ true → open_behind k w ≡ k + 1
-opened k w h = rw h refl
 
 pub closed : (k : ℕ) (w : Token) → is_opening w ≡ false → is_closing w ≡ true → open_behind (k + 1) w ≡ k
 closed k w h i = rw (h, i) (omega arith)

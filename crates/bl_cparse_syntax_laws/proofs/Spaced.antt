@@ -10,6 +10,8 @@ use Rattle.bl_ctext.specs.inner.Cut.{are_tokens}
 use Rattle.bl_ctext.specs.Token.{put_before}
 use Rattle.bl_ctext.proofs.Bytes.{word_byte-not_blank}
 use Rattle.bl_cparse_syntax.specs.Pieces.{cut_off, pieces}
+use Rattle.bl_cparse_syntax.proofs.PieceLemmas.{no_pair}
+use Rattle.bl_ctext.proofs.Longest.{no_blanks}
 
 -- whether the bytes may go on a piece: a word by a byte of words, a single byte by the second of a sign
 abbrev goes : ℕ → List ℕ → List ℕ → Bool
@@ -50,18 +52,6 @@ one_blank b bs (t ∷ ts) h (after, (next, rest)) = (
     rest,
   ),
 )
-
-no_blanks : (c : ℕ) (cs blanks rest : List ℕ) → is_blank c ≡ false → all_of (map is_blank blanks) ≡ true → c ∷ cs ≡ blanks ++ rest →
-    c ∷ cs ≡ rest
-no_blanks c cs [] rest h k e = e
-no_blanks c cs (d ∷ ds) rest h k e =
-    let same : c ≡ d = cc in
-    let blank : is_blank d ≡ true = and_first _ _ k in
-    let not_blank : is_blank d ≡ false = rw same at h in
-    cc
-
-no_pair : (a b : ℕ) → is_word_byte a ≡ true → is_double_sign a b ≡ false
-no_pair a b h = grind (arith, nat_tests)
 
 -- a piece that begins with a byte of words and doesn't go on has no such byte behind it
 word_stops : (c : ℕ) (others after : List ℕ) (a : ℕ) (more : List ℕ) → is_word_byte c ≡ true → goes c others after ≡ false →

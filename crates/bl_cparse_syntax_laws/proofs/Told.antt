@@ -314,11 +314,11 @@ rooted c name h b k = by_place (place_told c name h ([], (refl, refl)))
     by_place : Told place_tokens spells_place (root_tokens c name ++ []) → Told stmt_level stmt_ok (root_tokens c name ++ b)
     by_place (p, (e, s)) = moved (ap (λ a. a ++ b) (sym (append-nil (root_tokens c name)) ∙ e)) (k p s)
 
-joined_more : {A : Type 0} (f : A → List Token) (xs : List A) (x : A) → joined (map f (xs ++ x ∷ [])) ≡ joined (map f xs) ++ f x
+pub joined_more : {A : Type 0} (f : A → List Token) (xs : List A) (x : A) → joined (map f (xs ++ x ∷ [])) ≡ joined (map f xs) ++ f x
 joined_more f [] x = append-nil (f x)
 joined_more f (y ∷ xs) x = ap (λ ts. f y ++ ts) (joined_more f xs x) ∙ sym (append_assoc (f y) (joined (map f xs)) (f x))
 
-all_more : {A : Type 0} (p : A → Bool) (xs : List A) (x : A) → all_of (map p xs) ≡ true → p x ≡ true → all_of (map p (xs ++ x ∷ [])) ≡ true
+pub all_more : {A : Type 0} (p : A → Bool) (xs : List A) (x : A) → all_of (map p xs) ≡ true → p x ≡ true → all_of (map p (xs ++ x ∷ [])) ≡ true
 all_more p [] x h k = and_from (p x) true k refl
 all_more p (y ∷ xs) x h k = and_from (p y) (all_of (map p (xs ++ x ∷ []))) (and_first (p y) (all_of (map p xs)) h)
     (all_more p xs x (and_second (p y) (all_of (map p xs)) h) k)

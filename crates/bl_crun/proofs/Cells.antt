@@ -60,7 +60,7 @@ same-root input_object = refl
 same-root output_object = refl
 same-root (variable d m) = and_from (d == d) (bytes_eq m m) (grind (arith, common_steps)) ((bytes_eq-Decides m m).1 refl)
 
-chosen-true : {A : Type 0} (b : Bool) (x y : A) → b ≡ true → (if b then x else y) ≡ x
+pub chosen-true : {A : Type 0} (b : Bool) (x y : A) → b ≡ true → (if b then x else y) ≡ x
 chosen-true true x y h = refl
 chosen-true false x y h = cc
 

@@ -24,7 +24,7 @@ use Rattle.bl_crun_code.proofs.Operands.{on-temporary}
 
 -- ---- numbers of cells
 
-min-min : (n c : ℕ) → min (min n c) c ≡ min n c
+pub min-min : (n c : ℕ) → min (min n c) c ≡ min n c
 min-min n c = omega arith
 
 pub capped-capped : (n : ℕ) → capped (capped n) ≡ capped n

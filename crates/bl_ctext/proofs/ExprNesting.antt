@@ -41,10 +41,10 @@ each_shown depth tokens spells (x ∷ xs) d le h =
     let rest : greatest (map depth (map (λ e. e.0) xs)) ≤ d = omega arith in
     (nests-more (depth x.0) d (tokens x.0) here (x.1 (and_first _ _ h)), each_shown depth tokens spells xs d rest (and_second _ _ h))
 
-below : (n m : ℕ) → nat_lt n m ≡ true → m ≤ 2 ^ 64 → n < 2 ^ 64
+pub below : (n m : ℕ) → nat_lt n m ≡ true → m ≤ 2 ^ 64 → n < 2 ^ 64
 below n m h le = grind (arith, nat_tests)
 
-negatives-le : (w : Width) → 2 * negatives w ≤ 2 ^ 64
+pub negatives-le : (w : Width) → 2 * negatives w ≤ 2 ^ 64
 negatives-le W8 = omega arith
 negatives-le W16 = omega arith
 negatives-le W32 = omega arith
@@ -55,13 +55,13 @@ constant-nests d word n le plain h =
     closes-plain 0 d word _ plain (omega arith) (closes-open 0 d _ _ refl (omega arith)
     (closes-plain 1 d (decimal n) _ (decimal-plain n h) le (closes-close 0 d _ _ refl refl le (closes-nil d))))
 
-int_word-plain : (w : Width) → is_bracket (constant_word (codes "INT") w) ≡ false
+pub int_word-plain : (w : Width) → is_bracket (constant_word (codes "INT") w) ≡ false
 int_word-plain W8 = refl
 int_word-plain W16 = refl
 int_word-plain W32 = refl
 int_word-plain W64 = refl
 
-nat_word-plain : (w : Width) → is_bracket (constant_word (codes "UINT") w) ≡ false
+pub nat_word-plain : (w : Width) → is_bracket (constant_word (codes "UINT") w) ≡ false
 nat_word-plain W8 = refl
 nat_word-plain W16 = refl
 nat_word-plain W32 = refl

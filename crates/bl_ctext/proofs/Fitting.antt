@@ -30,10 +30,10 @@ use Rattle.bl_ctext.specs.inner.Fits.{step_fits, place_fits, expr_fits, arg_fits
 use Rattle.bl_ctext.proofs.TextNesting.{spellable-by}
 
 -- a test and a bound, from the two and back
-joined_fits : (spells : Bool) (n d : ℕ) → spells ≡ true → n ≤ d → (spells && nat_le n d) ≡ true
+pub joined_fits : (spells : Bool) (n d : ℕ) → spells ≡ true → n ≤ d → (spells && nat_le n d) ≡ true
 joined_fits spells n d h le = let test : nat_le n d ≡ true = grind (arith, nat_tests) in rw (h, test) refl
 
-bound : (spells : Bool) (n d : ℕ) → (spells && nat_le n d) ≡ true → n ≤ d
+pub bound : (spells : Bool) (n d : ℕ) → (spells && nat_le n d) ≡ true → n ≤ d
 bound spells n d h = let test : nat_le n d ≡ true = and_second spells (nat_le n d) h in grind (arith, nat_tests)
 
 list-spells : {A : Type 0} (spells : A → Bool) (depth : A → ℕ) (d : ℕ) (xs : List A) → list_all (λ x. spells x && nat_le (depth x) d) xs ≡ true →

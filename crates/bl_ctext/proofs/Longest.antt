@@ -44,7 +44,7 @@ one_blank b bs (t ∷ ts) h (after, (next, rest)) = (
   ),
 )
 
-no_blanks : (c : ℕ) (cs blanks rest : List ℕ) → is_blank c ≡ false → all_of (map is_blank blanks) ≡ true → c ∷ cs ≡ blanks ++ rest →
+pub no_blanks : (c : ℕ) (cs blanks rest : List ℕ) → is_blank c ≡ false → all_of (map is_blank blanks) ≡ true → c ∷ cs ≡ blanks ++ rest →
     c ∷ cs ≡ rest
 no_blanks c cs [] rest h k e = e
 no_blanks c cs (d ∷ ds) rest h k e =

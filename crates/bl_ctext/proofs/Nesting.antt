@@ -41,7 +41,7 @@ Nests depth tokens = Closes 0 depth tokens
 pub closes-nil : (d : ℕ) → Nests d []
 closes-nil d = record { after = λ n. omega arith; within = λ n. omega arith }
 
-opened : (n : ℕ) (t : Token) → is_opening t ≡ true → open_behind n t ≡ n + 1
+pub opened : (n : ℕ) (t : Token) → is_opening t ≡ true → open_behind n t ≡ n + 1
 opened n t h = rw h
 
 closed : (n : ℕ) (t : Token) → is_opening t ≡ false → is_closing t ≡ true → open_behind n t ≡ n - 1

@@ -12,7 +12,7 @@ use Rattle.bl_ctext.specs.Token.{Token, is_word_byte, is_word}
 use Rattle.bl_ctext.specs.Names.{is_among, is_name, is_struct_name, is_function_name, is_callee, is_turn_name, prelude_functions}
 use Rattle.bl_ctext.proofs.Nesting.{is_bracket}
 
-same_bytes : (xs ys : List ℕ) → pointwise nat_eq xs ys ≡ true → xs ≡ ys
+pub same_bytes : (xs ys : List ℕ) → pointwise nat_eq xs ys ≡ true → xs ≡ ys
 same_bytes [] [] h = refl
 same_bytes [] (y ∷ ys) h = cc
 same_bytes (x ∷ xs) [] h = cc
@@ -78,7 +78,7 @@ turn_name-plain [] h = cc
 turn_name-plain (t ∷ []) h = let none : false ≡ true = and_first false (all_of []) (and_second (t == 116) (false && all_of []) h) in cc
 turn_name-plain (t ∷ d ∷ digits) h = refl
 
-digit-word_byte : (n : ℕ) → n < 10 → is_word_byte (48 + n) ≡ true
+pub digit-word_byte : (n : ℕ) → n < 10 → is_word_byte (48 + n) ≡ true
 digit-word_byte n h = grind (arith, nat_tests)
 
 longer-plain : (xs : List ℕ) (b : ℕ) → is_word_byte b ≡ true → is_bracket (xs ++ (b ∷ [])) ≡ false

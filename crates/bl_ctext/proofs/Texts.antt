@@ -11,7 +11,7 @@ use Rattle.bl_ctext.specs.inner.Cut.{tokens_in, may_merge, are_tokens, begins_ap
 use Rattle.bl_ctext.proofs.Cutting.{meets-apart, meets-space, before_a_space, meets-drop, tokens_in-append}
 use Rattle.bl_ctext.proofs.Longest.{spaced}
 
-are_tokens-append : (xs ys : List Token) → are_tokens xs ≡ true → are_tokens ys ≡ true → are_tokens (xs ++ ys) ≡ true
+pub are_tokens-append : (xs ys : List Token) → are_tokens xs ≡ true → are_tokens ys ≡ true → are_tokens (xs ++ ys) ≡ true
 are_tokens-append [] ys h k = k
 are_tokens-append (x ∷ xs) ys h k = and_from _ _ (and_first _ _ h) (are_tokens-append xs ys (and_second _ _ h) k)
 

@@ -11,18 +11,10 @@ use Rattle.bl_ctext.specs.Token.{Token, is_word_byte, is_word, is_sign, is_token
 use Rattle.bl_ctext.specs.Names.{is_among, is_name, is_struct_name, is_function_name, is_callee, is_turn_name, prelude_functions}
 use Rattle.bl_ctext.specs.inner.Cut.{tokens_in, are_tokens}
 use Rattle.bl_ctext.proofs.Cutting.{tokens_in-token}
+use Rattle.bl_ctext.proofs.PlainWords.{digit-word_byte, same_bytes}
 
 pub are_tokens-one : (t : Token) → is_token t ≡ true → are_tokens (tokens_in t) ≡ true
 are_tokens-one t h = rw (tokens_in-token t h) (and_from (is_token t) true h refl)
-
-same_bytes : (xs ys : List ℕ) → pointwise nat_eq xs ys ≡ true → xs ≡ ys
-same_bytes [] [] h = refl
-same_bytes [] (y ∷ ys) h = cc
-same_bytes (x ∷ xs) [] h = cc
-same_bytes (x ∷ xs) (y ∷ ys) h =
-    let first : x ≡ y = same_number x y (and_first _ _ h) in
-    let rest : xs ≡ ys = same_bytes xs ys (and_second _ _ h) in
-    rw (first, rest) refl
 
 among-token : (word : Token) (words : List Token) → is_among word words ≡ true → are_tokens words ≡ true → is_token word ≡ true
 unfolding is_among
@@ -61,9 +53,6 @@ turn_name-token (t ∷ digits) h =
     let first : is_word_byte t ≡ true = rw same refl in
     or_left (is_word (t ∷ digits)) (is_sign (t ∷ digits))
     (and_from (is_word_byte t) (all_of (map is_word_byte digits)) first (word_bytes digits (and_first _ _ (and_second _ _ h))))
-
-digit-word_byte : (n : ℕ) → n < 10 → is_word_byte (48 + n) ≡ true
-digit-word_byte n h = grind (arith, nat_tests)
 
 all_word-append : (xs : List ℕ) (b : ℕ) → all_of (map is_word_byte xs) ≡ true → is_word_byte b ≡ true →
     all_of (map is_word_byte (xs ++ (b ∷ []))) ≡ true

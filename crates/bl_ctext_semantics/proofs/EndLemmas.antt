@@ -279,7 +279,7 @@ module _ (scope : Scope) where
 
 -- ---- functions
 
-unless-nil : (holds : Bool) (clause : Clause) (place : Place) → unless holds clause place ≡ [] → holds ≡ true
+pub unless-nil : (holds : Bool) (clause : Clause) (place : Place) → unless holds clause place ≡ [] → holds ≡ true
 unless-nil true clause place h = refl
 unless-nil false clause place h = cc
 

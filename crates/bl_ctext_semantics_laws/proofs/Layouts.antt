@@ -25,25 +25,14 @@ use Rattle.bl_ctext_semantics_laws.proofs.Entries.{found-made}
 use Rattle.bl_ctext_semantics_laws.proofs.Ways.{Lists, Shaped, Structs, by_name, offset_in}
 use Rattle.bl_ctext_semantics_laws.proofs.FlatPlaces.{capped-factor}
 use Rattle.bl_ctext_semantics_laws.proofs.Running.{LaidAs, Laying}
+use Rattle.bl_ctext_semantics_laws.proofs.Members.{or-kept, or-together}
 
 -- ---- tables that grow
-
-or-kept : {A : Type 0} (old : Option A) (same : Bool) (value : A) → is_some old ≡ true → option_or old (if same then Some value else None) ≡ old
-or-kept (Some x) same value h = refl
-or-kept None same value h = cc
 
 or-some : {A : Type 0} (old : Option A) (same : Bool) (value : A) → is_some old ≡ true →
     is_some (option_or old (if same then Some value else None)) ≡ true
 or-some (Some x) same value h = refl
 or-some None same value h = cc
-
-or-together : {A B : Type 0} (a : Option A) (b : Option B) (same : Bool) (v : A) (w : B) → is_some a ≡ is_some b →
-    is_some (option_or a (if same then Some v else None)) ≡ is_some (option_or b (if same then Some w else None))
-or-together (Some a) (Some b) same v w h = refl
-or-together (Some a) None same v w h = cc
-or-together None (Some b) same v w h = cc
-or-together None None true v w h = refl
-or-together None None false v w h = refl
 
 -- the entries of a list of structs, after those of a table
 abbrev pub entries_after : {B : Type 0} → (CStruct → B) → Table B → List CStruct → Table B

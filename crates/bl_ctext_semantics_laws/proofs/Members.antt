@@ -7,19 +7,19 @@ use Rattle.std.proofs.lemmas.Slice.Eq.{bytes_eq-Decides}
 use Rattle.std.proofs.lemmas.Bool.{and_from}
 use Rattle.bl_tree.proofs.Basics.{and_first, and_second, first_empty, same_some, second_empty}
 use Rattle.bl_tree.specs.declared.text.Text.{Text}
-use Rattle.bl_tree.specs.declared.place.Place.{Place}
 use Rattle.bl_tree.specs.declared.c.CType.{CType}
 use Rattle.bl_tree.specs.declared.c.CType.TheVariants.{Scalar as OfScalar, Struct as OfStruct}
 use Rattle.bl_tree.specs.declared.c.CMember.{CMember}
 use Rattle.bl_tree.specs.declared.c.CStruct.{CStruct}
 use Rattle.bl_ctext_semantics.specs.Cells.{Inner, inner_of_length, inner_of_type, inner_of_member, inner_after}
-use Rattle.bl_ctext_semantics.specs.Faults.{Clause, distinct_names, declared_before, WellFormed, all_distinct}
+use Rattle.bl_ctext_semantics.specs.Faults.{distinct_names, declared_before, WellFormed, all_distinct}
 use Rattle.bl_ctext_semantics.specs.Faults.{depth_of_struct, faults_in, faults_in_struct, is_declared, member_table}
 use Rattle.bl_ctext_semantics.specs.Faults.{struct_faults_after, struct_table, unless}
 use Rattle.bl_ctext_semantics.specs.Parts.{Parts}
 use Rattle.bl_ctext_semantics.specs.Tables.{Table, found, no_entries, table_of, with_entry}
 use Rattle.bl_ctext_semantics.proofs.MapLemmas.{next_entry, same_table}
 use Rattle.bl_ctext_semantics_laws.specs.Fitting.{scalars}
+use Rattle.bl_ctext_semantics.proofs.EndLemmas.{unless-nil}
 
 abbrev pub Scalars : Type 0
 Scalars = Table (List Inner)
@@ -44,7 +44,7 @@ Together known structs = (name : Text) → is_some (known name) ≡ is_some (str
 
 -- ---- tables that grow
 
-or-kept : {A : Type 0} (old : Option A) (same : Bool) (value : A) → is_some old ≡ true → option_or old (if same then Some value else None) ≡ old
+pub or-kept : {A : Type 0} (old : Option A) (same : Bool) (value : A) → is_some old ≡ true → option_or old (if same then Some value else None) ≡ old
 or-kept (Some x) same value h = refl
 or-kept None same value h = cc
 
@@ -53,7 +53,7 @@ or-some : {A : Type 0} (old : Option A) (same : Bool) (value : A) → is_some ol
 or-some (Some x) same value h = refl
 or-some None same value h = cc
 
-or-together : {A B : Type 0} (a : Option A) (b : Option B) (same : Bool) (v : A) (w : B) → is_some a ≡ is_some b →
+pub or-together : {A B : Type 0} (a : Option A) (b : Option B) (same : Bool) (v : A) (w : B) → is_some a ≡ is_some b →
     is_some (option_or a (if same then Some v else None)) ≡ is_some (option_or b (if same then Some w else None))
 or-together (Some a) (Some b) same v w h = refl
 or-together (Some a) None same v w h = cc
@@ -180,10 +180,6 @@ structs-is structs [] name = nothing (structs name)
 structs-is structs (s ∷ rest) name =
     structs-is (with_entry structs s.name (member_table s)) rest name
     ∙ next_entry (structs name) (bytes_eq s.name name) (member_table s) (found name (map (λ t. (t.name, member_table t)) rest))
-
-unless-nil : (holds : Bool) (clause : Clause) (place : Place) → unless holds clause place ≡ [] → holds ≡ true
-unless-nil true clause place h = refl
-unless-nil false clause place h = cc
 
 all-after : (known : Scalars) (structs : Structs) (depths : Table ℕ) (list : List CStruct) → Together known structs → AllLaidOut known structs →
     struct_faults_after structs depths list ≡ [] →

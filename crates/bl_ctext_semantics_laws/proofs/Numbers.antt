@@ -35,6 +35,7 @@ use Rattle.bl_ctext_semantics_laws.proofs.Faultless.{unless-nil}
 use Rattle.bl_ctext_semantics_laws.proofs.Layouts.{inner-file, lists_of}
 use Rattle.bl_ctext_semantics_laws.proofs.Entry.{Begins, Leads, Standing, Typed, begins-standing, begins-taken, input-typed, objects, objects-separate}
 use Rattle.bl_ctext_semantics_laws.proofs.Entry.{output-typed, shaped, stand_of_object, state-typed}
+use Rattle.bl_ctext_semantics_laws.proofs.Entry.{numbers-length}
 
 -- ---- numbers in range
 
@@ -59,10 +60,6 @@ numbers-more (x ∷ xs) y memory = ap (λ l. scalar_number (value_at memory x.lo
 set-behind : (xs : List ℤ) (y n : ℤ) (rest : List ℤ) → slice_set (xs ++ y ∷ rest) (length xs) n ≡ xs ++ n ∷ rest
 set-behind [] y n rest = refl
 set-behind (x ∷ xs) y n rest = ap (λ l. x ∷ l) (set-behind xs y n rest)
-
-lengths-same : (xs : List Cell) (memory : Memory) → length (numbers_of xs memory) ≡ length xs
-lengths-same [] memory = refl
-lengths-same (x ∷ xs) memory = ap suc (lengths-same xs memory)
 
 module _ (file : Parts) (formed : WellFormed file)
     (declared : (is_some (struct_table file.structs (codes "bl_state"))
@@ -164,7 +161,7 @@ module _ (file : Parts) (formed : WellFormed file)
       set-one (memory_of rest ns) (numbers_of before cleared ++ (pos 0 ∷ (ns ++ others))) c.location c.kind (length before) n there placed.0
       (and_first _ _ fits) in
       let at : slice_set (numbers_of before cleared ++ (pos 0 ∷ (ns ++ others))) (length before) n ≡ numbers_of before cleared ++ (n ∷ (ns ++ others)) =
-      ap (λ k. slice_set (numbers_of before cleared ++ (pos 0 ∷ (ns ++ others))) k n) (sym (lengths-same before cleared))
+      ap (λ k. slice_set (numbers_of before cleared ++ (pos 0 ∷ (ns ++ others))) k n) (sym (numbers-length before cleared))
       ∙ set-behind (numbers_of before cleared) (pos 0) n (ns ++ others) in
       subst (λ l. Stood (memory_of (c ∷ rest) (n ∷ ns)) l) at set
 

@@ -16,6 +16,7 @@ use Rattle.bl_ctext_semantics.specs.Sizes.{Sizes, size_of_length, size_of_member
 use Rattle.bl_ctext_semantics.specs.Tables.{Table, entry_or, found, table_of}
 use Rattle.bl_ctext_semantics_laws.proofs.Entries.{Apart, offset-apart, offset-within, offset_of, sum_of}
 use Rattle.bl_ctext_semantics_laws.specs.Fitting.{ValueSpot, whole, row, spot_if, spot_of, spot_of_length, step_in, walk}
+use Rattle.bl_ctext_semantics_laws.proofs.Places.{some_spot}
 
 -- the members of each struct, by name and in order
 abbrev pub Structs : Type 0
@@ -89,9 +90,6 @@ product-apart j k s h = chosen (nat_lt j k) refl
     chosen false is = inr (product-within k j s (grind (arith, common_steps)))
 
 -- ---- one step
-
-some_spot : (a b : ValueSpot) → Some a ≡ Some b → a ≡ b
-some_spot a b h = cc
 
 pub same-part-is : (p q : Projection) → same_part p q ≡ true → p ≡ q
 same-part-is (member m) (member n) h = ap member ((bytes_eq-Decides m n).0 h)

@@ -104,7 +104,7 @@ seq_is_left w stood i item rest items c stands fit of = seq_left c rest stands f
 -- ---- steps
 
 -- and is not to be checked
-unchecked : {A : Type 0} → Body ≡ Check → A
+pub unchecked : {A : Type 0} → Body ≡ Check → A
 unchecked e = absurd cc
 
 mutual

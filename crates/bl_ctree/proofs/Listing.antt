@@ -378,7 +378,7 @@ moves_are_listed w i c d a c' move = complete move
 
 -- ---- whole steps
 
-can_true : (effect : Effect) → can_answer effect true ≡ true
+pub can_true : (effect : Effect) → can_answer effect true ≡ true
 can_true Silent = refl
 can_true (Acts s) = refl
 can_true (Asks e) = refl

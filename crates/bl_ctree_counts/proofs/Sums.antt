@@ -6,7 +6,7 @@ use Rattle.std.specs.List.{sum}
 use Rattle.bl_tree.proofs.Basics.{within_at}
 use Rattle.bl_ctree_counts.specs.Counts.{HasSums}
 
-sum_cons : (x : ℕ) (xs : List ℕ) → sum (x ∷ xs) ≡ x + sum xs
+pub sum_cons : (x : ℕ) (xs : List ℕ) → sum (x ∷ xs) ≡ x + sum xs
 sum_cons x xs = sum_by-cons (λ n. n) x xs
 
 -- a change of a later count
@@ -31,7 +31,7 @@ many_set [] k x = refl
 many_set (y ∷ xs) zero x = refl
 many_set (y ∷ xs) (suc k) x = ap suc (many_set xs k x)
 
-set_here : {A : Type 0} (xs : List A) (k : ℕ) (x y : A) → slice_get (slice_set xs k x) k ≡ Some y → x ≡ y
+pub set_here : {A : Type 0} (xs : List A) (k : ℕ) (x y : A) → slice_get (slice_set xs k x) k ≡ Some y → x ≡ y
 set_here [] k x y is = absurd cc
 set_here (z ∷ xs) zero x y is = cc
 set_here (z ∷ xs) (suc k) x y is = set_here xs k x y is

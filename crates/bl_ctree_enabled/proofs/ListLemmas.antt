@@ -13,12 +13,6 @@ set_map f [] k x = refl
 set_map f (y ∷ xs) zero x = refl
 set_map f (y ∷ xs) (suc k) x = ap (λ rest. f y ∷ rest) (set_map f xs k x)
 
--- what was there is set once more
-pub set_again : {A : Type 0} (xs : List A) (k : ℕ) (x : A) → slice_get xs k ≡ Some x → slice_set xs k x ≡ xs
-set_again [] k x is = absurd cc
-set_again (y ∷ xs) zero x is = let same : y ≡ x = cc in ap (λ z. z ∷ xs) (sym same)
-set_again (y ∷ xs) (suc k) x is = ap (λ rest. y ∷ rest) (set_again xs k x is)
-
 pub set_twice : {A : Type 0} (xs : List A) (k : ℕ) (x y : A) → slice_set (slice_set xs k x) k y ≡ slice_set xs k y
 set_twice [] k x y = refl
 set_twice (z ∷ xs) zero x y = refl
@@ -28,11 +22,6 @@ pub map_get : {A B : Type 0} (f : A → B) (xs : List A) (k : ℕ) → slice_get
 map_get f [] k = refl
 map_get f (x ∷ xs) zero = refl
 map_get f (x ∷ xs) (suc k) = map_get f xs k
-
-pub set_get : {A : Type 0} (xs : List A) (k : ℕ) (x y : A) → slice_get (slice_set xs k x) k ≡ Some y → x ≡ y
-set_get [] k x y is = absurd cc
-set_get (z ∷ xs) zero x y is = cc
-set_get (z ∷ xs) (suc k) x y is = set_get xs k x y is
 
 pub set_other : {A : Type 0} (xs : List A) (k j : ℕ) (x : A) → j ≢ k → slice_get (slice_set xs k x) j ≡ slice_get xs j
 set_other [] k j x other = refl

@@ -5,8 +5,9 @@ use Rattle.bl_tree.proofs.Basics.{map_length}
 use Rattle.bl_ctree.specs.Store.{Location}
 use Rattle.bl_ctree_enabled.specs.Listing.{EnabledView, IsRight, flags_from, flags_of, trues}
 use Rattle.bl_ctree_enabled.specs.Spots.{Spot}
-use Rattle.bl_ctree_enabled.proofs.ListLemmas.{set_again, set_map, set_twice}
+use Rattle.bl_ctree_enabled.proofs.ListLemmas.{set_map, set_twice}
 use Rattle.bl_ctree_enabled.proofs.ListingLemmas.{flags_many, flags_set}
+use Rattle.bl_ctree_store.proofs.StoreLemmas.{set_own}
 
 -- as one branch is replaced
 pub flags_replaced : (hs : List (List Location)) (ms : List (List Spot)) (fs : List (List Bool)) (k : ℕ) (h h' : List Location) (m : List Spot)
@@ -15,7 +16,7 @@ pub flags_replaced : (hs : List (List Location)) (ms : List (List Spot)) (fs : L
 flags_replaced hs ms fs k h h' m f is here is_f =
     let first : k ≡ 0 + k = omega arith in
     ap (λ fs. slice_set fs k f) is ∙ ap (slice_set (flags_from hs 0 ms) k) (is_f ∙ ap (λ n. flags_of hs n m) first) ∙ flags_set hs 0 k ms m
-    ∙ ap (λ hs. flags_from hs 0 (slice_set ms k m)) (sym (set_twice hs k h' h ∙ set_again hs k h here))
+    ∙ ap (λ hs. flags_from hs 0 (slice_set ms k m)) (sym (set_twice hs k h' h ∙ set_own hs k h here))
 
 pub counts_set : (fs : List (List Bool)) (cs : List ℕ) (k : ℕ) (f : List Bool) → cs ≡ map trues fs → slice_set cs k (trues f)
     ≡ map trues (slice_set fs k f)

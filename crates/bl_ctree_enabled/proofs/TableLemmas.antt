@@ -19,7 +19,8 @@ use Rattle.bl_ctree_enabled.specs.Spots.{Spot, is_free_of, meets_one, taken}
 use Rattle.bl_ctree_enabled.specs.inner.Asked.{is_hit, is_taken}
 use Rattle.bl_ctree_enabled.specs.inner.Tables.{AllNoted, Grows, Key, Noted, is_noted, key_cmp, near, reads_in}
 use Rattle.bl_ctree_enabled.proofs.BranchLemmas.{any_or, not_or}
-use Rattle.bl_ctree_enabled.proofs.ListLemmas.{list_get, set_get, set_other}
+use Rattle.bl_ctree_enabled.proofs.ListLemmas.{list_get, set_other}
+use Rattle.bl_ctree_counts.proofs.Sums.{set_here}
 
 -- ---- keys
 
@@ -28,7 +29,7 @@ both_equal Less s = refl
 both_equal Equal s = refl
 both_equal Greater s = refl
 
-unequal : (m n : ℕ) → m ≢ n → nat_eq m n ≡ false
+pub unequal : (m n : ℕ) → m ≢ n → nat_eq m n ≡ false
 unequal m n other = by (nat_eq m n) refl
   where
     by : (b : Bool) → nat_eq m n ≡ b → b ≡ false
@@ -195,7 +196,7 @@ all_set table all k x noted new j homes is m at at_m =
     by_ranked (j < k) (j ≡ k) (k < j) (nat_cmp j k) (ranked j k (nat_cmp j k) refl)
     (λ _ below. noted j homes (sym (set_other all k j x (λ same. omega (arith, below, same))) ∙ is) m at at_m)
     (λ _ same.
-    let homes_same : x ≡ homes = set_get all k x homes (ap (slice_get (slice_set all k x)) (sym same) ∙ is) in
+    let homes_same : x ≡ homes = set_here all k x homes (ap (slice_get (slice_set all k x)) (sym same) ∙ is) in
     ap (λ n. is_noted table n at) same ∙ new m at (ap (λ xs. slice_get xs m) homes_same ∙ at_m))
     (λ _ above. noted j homes (sym (set_other all k j x (λ same. omega (arith, above, same))) ∙ is) m at at_m)
 

@@ -19,9 +19,10 @@ use Rattle.bl_ctree_laws.specs.Shrinks.{Paces}
 use Rattle.bl_ctree_laws.specs.Steps.{Moves, OneMoves, Unmet, acts, takes, passes, pauses, runs, repeats, repeats_until, leaves, turns, enters, skips, forks}
 use Rattle.bl_ctree_laws.specs.Steps.{guards, goes_on, waits, lets, aborts, resets, guard_ends, copies, run_ends, joins, in_seq, in_par, in_guard, in_run}
 use Rattle.bl_ctree_laws.specs.Steps.{first, later, call}
-use Rattle.bl_ctree_laws.specs.Trees.{Call, Fork, Tree, Trees, Watch, Nil, Wait, Test, Idle, Do, Seq, Par, Guard, Run, beside, do_block, followed, is_nil, seq}
+use Rattle.bl_ctree_laws.specs.Trees.{Call, Fork, Tree, Trees, Watch, Nil, Wait, Test, Idle, Do, Seq, Par, Guard, Run, beside, do_block, is_nil, seq}
 use Rattle.bl_ctree_laws.proofs.Less.{one_unsettled, one_writes_less, writes_less}
 use Rattle.bl_ctree_laws.proofs.Tests.{any_less, not_less}
+use Rattle.bl_ctree_laws.proofs.Waking.{seq_busy}
 
 -- ---- one point
 
@@ -65,18 +66,7 @@ busy {c = Par s stood branches} move = refl
 busy {c = Guard s phase stood c} move = refl
 busy {c = Run s callee phase stood c} move = refl
 
-seq_busy : (c : Tree) (rest : Block) → is_nil c ≡ false → seq c rest ≡ followed c rest
-seq_busy Nil rest e = absurd cc
-seq_busy (Wait s) rest e = refl
-seq_busy (Test s) rest e = refl
-seq_busy (Idle body) rest e = refl
-seq_busy (Do s) rest e = refl
-seq_busy (Seq c after) rest e = refl
-seq_busy (Par s stood branches) rest e = refl
-seq_busy (Guard s phase stood c) rest e = refl
-seq_busy (Run s callee phase stood c) rest e = refl
-
-seq_done : (c : Tree) → seq c Done ≡ c
+pub seq_done : (c : Tree) → seq c Done ≡ c
 seq_done Nil = refl
 seq_done (Wait s) = refl
 seq_done (Test s) = refl

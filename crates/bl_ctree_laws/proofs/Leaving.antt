@@ -3,7 +3,6 @@ use Rattle.std.proofs.Common.{◌≡◌, ℕ, Bool, true, false, refl}
 use Rattle.bl_tree.proofs.Basics.{from_false}
 use Rattle.bl_graph_nodes.specs.Plain.{Block, Bodies, Plain, Body as BodyOf, Done, Last, Then, plain_body}
 use Rattle.bl_graph_nodes.specs.Steps.{StepLabel}
-use Rattle.bl_ctree.specs.Control.{Check, Body}
 use Rattle.bl_ctree.specs.Instances.{Setting}
 use Rattle.bl_ctree_laws.specs.ResidualLaws.{BlocksArePlainResidual, StepsKeepPlainResidual, WakingKeepsPlainResidual}
 use Rattle.bl_ctree_laws.specs.Residual.{BlockSplitsAt, PlainResidual, PlainResidualEach, PlainResidualOf, ended, has_begun, here, none_left, not_begun}
@@ -13,6 +12,7 @@ use Rattle.bl_ctree_laws.specs.Pending.{Deed}
 use Rattle.bl_ctree_laws.specs.Steps.{Moves, OneMoves, acts, takes, passes, pauses, runs, repeats, repeats_until, leaves, turns, enters, skips, forks, guards}
 use Rattle.bl_ctree_laws.specs.Steps.{goes_on, waits, lets, aborts, resets, guard_ends, copies, run_ends, joins, in_seq, in_par, in_guard, in_run, first, later}
 use Rattle.bl_ctree_laws.specs.Trees.{Tree, Trees, Nil, Wait, Test, Idle, Do, Seq, Par, Guard, Run, all_woken, trees_begun, do_block, is_nil, seq, woken}
+use Rattle.bl_ctree.proofs.Leaving.{unchecked}
 
 -- ---- what begins
 
@@ -49,10 +49,6 @@ seq_left (Guard p phase stood c) stands of = of_one stands of refl
 seq_left (Run p callee phase stood c) stands of = of_one stands of refl
 
 -- ---- steps
-
--- and is not to be checked
-unchecked : {A : Type 0} → Body ≡ Check → A
-unchecked e = absurd cc
 
 module _ {T : Bool → Type 0} {w : Setting} where
   mutual

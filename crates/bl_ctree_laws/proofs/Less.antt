@@ -64,7 +64,7 @@ may_is_could w i c d a n c' move = could move
 
 -- ---- what moves is not settled
 
-done_unsettled : (settled done : Bool) → done ≡ true → (settled && not done) ≡ false
+pub done_unsettled : (settled done : Bool) → done ≡ true → (settled && not done) ≡ false
 done_unsettled settled true e = and_false settled
 done_unsettled settled false e = absurd cc
 
@@ -108,7 +108,7 @@ moving_is_unsettled w i c d a n c' move = unsettled move
 
 -- ---- blocks that begin
 
-or_nothing : (a b : Bool) → (a || (b && false)) ≡ a
+pub or_nothing : (a b : Bool) → (a || (b && false)) ≡ a
 or_nothing true b = refl
 or_nothing false true = refl
 or_nothing false false = refl
@@ -191,7 +191,7 @@ seq_writes test (Run p callee phase stood c) rest = followed_writes test (Run p 
 
 -- ---- branches that begin
 
-begun_strong : (bodies : Bodies) → has_strong (trees_begun bodies) ≡ some_strong bodies
+pub begun_strong : (bodies : Bodies) → has_strong (trees_begun bodies) ≡ some_strong bodies
 begun_strong Last = refl
 begun_strong (BodyOf weak body rest) = ap (λ b. not weak || b) (begun_strong rest)
 
@@ -211,21 +211,21 @@ begun_writes test (BodyOf weak body rest) = λ i. do_writes test body i || begun
 
 -- ---- branches that are done may end
 
-nil_ends : (c : Tree) → is_nil c ≡ true → may_end c ≡ true
+pub nil_ends : (c : Tree) → is_nil c ≡ true → may_end c ≡ true
 nil_ends Nil e = refl
 nil_ends c e = absurd cc
 
-strong_join : (branches : Trees) → strong_ended branches ≡ true → may_join true branches ≡ true
+pub strong_join : (branches : Trees) → strong_ended branches ≡ true → may_join true branches ≡ true
 strong_join no_tree e = refl
 strong_join (beside weak c rest) e =
     and_le (weak || is_nil c) (strong_ended rest) (weak || may_end c) (may_join true rest)
     (or_le weak (is_nil c) weak (may_end c) (λ h. h) (nil_ends c)) (strong_join rest) e
 
-some_join : (branches : Trees) → some_ended branches ≡ true → may_join false branches ≡ true
+pub some_join : (branches : Trees) → some_ended branches ≡ true → may_join false branches ≡ true
 some_join no_tree e = absurd cc
 some_join (beside weak c rest) e = or_le (is_nil c) (some_ended rest) (may_end c) (may_join false rest) (nil_ends c) (some_join rest) e
 
-done_join : (branches : Trees) → are_done branches ≡ true → may_join (has_strong branches) branches ≡ true
+pub done_join : (branches : Trees) → are_done branches ≡ true → may_join (has_strong branches) branches ≡ true
 done_join branches e = by_kind (has_strong branches) e
   where
     by_kind : (strong : Bool) → cond strong (strong_ended branches) (some_ended branches) ≡ true → may_join strong branches ≡ true

@@ -32,12 +32,9 @@ use Rattle.bl_ctree_laws.specs.Bridge.{label_of, plain_at, plain_kind}
 use Rattle.bl_ctree_laws.specs.Pending.{soon, soon_in, soon_in_each}
 use Rattle.bl_ctree_laws.specs.Soon.{SoonIsSurface}
 use Rattle.bl_ctree_laws.proofs.PlainKinds.{by_kind}
+use Rattle.bl_graph_nodes.proofs.Instants.{or_same}
 
 -- ---- tests over lists
-
-or_same : (a : Bool) → (a || a) ≡ a
-or_same true = refl
-or_same false = refl
 
 any_if : (test : Static → Bool) (b : Bool) (xs : List Static) → list_any test (if b then xs else []) ≡ (b && list_any test xs)
 any_if test true xs = refl
@@ -46,7 +43,7 @@ any_if test false xs = refl
 -- ---- the surface of a statement by its kind
 
 -- the same from each list as from the other
-bool_same : (a b : Bool) → (a ≡ true → b ≡ true) → (b ≡ true → a ≡ true) → a ≡ b
+pub bool_same : (a b : Bool) → (a ≡ true → b ≡ true) → (b ≡ true → a ≡ true) → a ≡ b
 bool_same true true f g = refl
 bool_same true false f g = sym (f refl)
 bool_same false true f g = g refl
@@ -66,7 +63,7 @@ passing test (x ∷ xs) e = by_test (test x) refl (λ h. passing test xs h) e
     by_test true is more h = record { one = x; among = inl refl; passes = is }
     by_test false is more h = let p = more h in record { one = p.one; among = inr p.among; passes = p.passes }
 
-passed : (test : Static → Bool) (xs : List Static) (one : Static) → In one xs → test one ≡ true → list_any test xs ≡ true
+pub passed : (test : Static → Bool) (xs : List Static) (one : Static) → In one xs → test one ≡ true → list_any test xs ≡ true
 passed test [] one m e = elim m [ ]
 passed test (x ∷ xs) one (inl is) e = ap (λ b. b || list_any test xs) (ap test (sym is) ∙ e)
 passed test (x ∷ xs) one (inr m) e = ap (λ b. test x || b) (passed test xs one m e) ∙ or_true (test x)

@@ -15,6 +15,7 @@ use Rattle.bl_ctree_laws_peeled.specs.Unrolls.{PlainUnrolls, EachUnrolls, Unroll
 use Rattle.bl_ctree_laws_peeled.specs.Unrolls.{first_alike, first_repeat, first_until, ifs_alike, no_body, no_more, one_body, repeats_alike, runs_alike}
 use Rattle.bl_ctree_laws_peeled.specs.Unrolls.{untils_alike, whens_alike, while_if, whiles_alike}
 use Rattle.bl_ctree_laws_peeled.proofs.Blocks.{soon_before}
+use Rattle.bl_ctree_laws.proofs.Less.{or_nothing}
 
 -- ---- tests with two answers
 
@@ -23,11 +24,6 @@ turn_alone : (s i : Bool) → (s || (i && s)) ≡ s
 turn_alone true i = refl
 turn_alone false true = refl
 turn_alone false false = refl
-
-pub or_nothing : (a b : Bool) → (a || (b && false)) ≡ a
-or_nothing true b = refl
-or_nothing false true = refl
-or_nothing false false = refl
 
 and_yes_then : (i r : Bool) → ((i && true) && r) ≡ (i && r)
 and_yes_then true r = refl

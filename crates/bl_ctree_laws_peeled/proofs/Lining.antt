@@ -10,8 +10,8 @@ use Rattle.bl_ctree_laws.specs.Trees.{Tree, Nil, Wait, Test, Idle, Do, Seq, Par,
 use Rattle.bl_ctree_laws.proofs.Less.{before_ends}
 use Rattle.bl_ctree_laws_peeled.specs.Lines.{Line, Lined, At, Over, both_begin, both_over, is_chain, is_under_way, line}
 use Rattle.bl_ctree_laws_peeled.specs.Unrolls.{Unrolls, first_alike, first_repeat, first_until, no_more}
-use Rattle.bl_ctree_laws_peeled.proofs.Answering.{or_nothing}
 use Rattle.bl_ctree_laws_peeled.proofs.Blocks.{or_spread, soon_before, unrolls_before}
+use Rattle.bl_ctree_laws.proofs.Less.{or_nothing}
 
 -- ---- lines of what is put together
 

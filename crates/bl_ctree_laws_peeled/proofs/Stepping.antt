@@ -33,7 +33,7 @@ use Rattle.bl_ctree_laws_peeled.proofs.Lining.{begun_block, line_begins, line_se
 use Rattle.bl_ctree_laws_peeled.proofs.Moving.{begun, head_in, rest_in, whole_moves}
 use Rattle.bl_ctree_laws_peeled.proofs.Relating.{any_meets_same, each_answers, meets_same, related_answers, same_done}
 
-same_deed : {a b : Deed} → a.instance ≡ b.instance → a.effect ≡ b.effect → SameDeed a b
+pub same_deed : {a b : Deed} → a.instance ≡ b.instance → a.effect ≡ b.effect → SameDeed a b
 same_deed instance effect = record { instance = instance; effect = effect }
 
 -- ---- units of instances
@@ -46,7 +46,7 @@ pub record Counterpart (H : Node → Plain → Type 0) (unit : UnitDef) (other :
 some_unit : (one other : UnitDef) → Some one ≡ Some other → one ≡ other
 some_unit one other e = cc
 
-no_some : {A : Type 0} (unit : UnitDef) → None ≡ Some unit → A
+pub no_some : {A : Type 0} (unit : UnitDef) → None ≡ Some unit → A
 no_some unit e = absurd cc
 
 pub counterpart : {H : Node → Plain → Type 0} {one other : Option UnitDef} {unit : UnitDef} → UnitUnrolls H one other → one ≡ Some unit →

@@ -1,5 +1,5 @@
 -- Where the second of two related trees can step the first can.
-use Rattle.std.proofs.Common.{◌≡◌, ◌⊎◌, inl, inr, ℕ, Bool, true, false, Option, Some, None, refl, sym, ap, ◌∙◌, subst}
+use Rattle.std.proofs.Common.{◌≡◌, ◌⊎◌, inl, inr, ℕ, Bool, true, false, Option, Some, refl, sym, ap, ◌∙◌, subst}
 use Rattle.std.specs.Prelude.{position}
 use Rattle.bl_tree.specs.declared.place.Place.{Place}
 use Rattle.bl_tree.specs.declared.tree.Unit.{Unit as UnitDef}
@@ -24,17 +24,12 @@ use Rattle.bl_ctree_laws_peeled.specs.Unrolls.{first_until, ifs_alike, repeats_a
 use Rattle.bl_ctree_laws_peeled.proofs.Moving.{head_in, whole_moves}
 use Rattle.bl_ctree_laws_peeled.proofs.Relating.{any_meets_same, any_silent_meets, each_answers, meets_same, related_answers, same_done, silent_meets}
 use Rattle.bl_ctree_laws_peeled.proofs.Stepping.{nil_is}
-
-same_deed : {a b : Deed} → a.instance ≡ b.instance → a.effect ≡ b.effect → SameDeed a b
-same_deed instance effect = record { instance = instance; effect = effect }
+use Rattle.bl_ctree_laws_peeled.proofs.Stepping.{no_some, same_deed}
 
 -- the unit of an instance, where its counterpart has one
 record UnitThere (unit : Option UnitDef) : Type 0 where
   there : UnitDef
   is : unit ≡ Some there
-
-no_some : {A : Type 0} (unit : UnitDef) → None ≡ Some unit → A
-no_some unit e = absurd cc
 
 unit_there : {H : Node → Plain → Type 0} {one other : Option UnitDef} {unit : UnitDef} → UnitUnrolls H one other → other ≡ Some unit → UnitThere one
 unit_there {unit = unit} no_unit e = no_some unit e

@@ -1,10 +1,10 @@
 -- No tick of a program has more steps than six for each statement that the program with activities peeled passes.
-use Rattle.std.proofs.Common.{◌≡◌, ℕ, ℤ, zero, suc, ◌+◌, ◌*◌, ◌<◌, ◌≤◌, true, List, [], ◌∷◌, ◌++◌, take, length, Option, Some, None, refl, sym, ap, ◌∙◌, subst}
+use Rattle.std.proofs.Common.{◌≡◌, ℕ, ℤ, ◌+◌, ◌*◌, ◌<◌, ◌≤◌, true, List, [], ◌∷◌, ◌++◌, take, length, Option, Some, None, refl, sym, ap, ◌∙◌, subst}
 use Rattle.std.proofs.Common.{arith}
 use Rattle.std.specs.Prelude.{option_and_then, option_map, slice_get, unwrap_or}
 use Rattle.bl_tree.specs.declared.tree.StructDef.{StructDef}
 use Rattle.bl_tree.specs.declared.tree.Unit.{Unit as UnitDef}
-use Rattle.bl_tree.specs.Program.{IsWellTyped, is_entry}
+use Rattle.bl_tree.specs.Program.{IsWellTyped}
 use Rattle.bl_tree.specs.Typing.{site_of}
 use Rattle.bl_effects.specs.Rules.{Passes}
 use Rattle.bl_graph_nodes.specs.Nodes.{Node}
@@ -16,7 +16,7 @@ use Rattle.bl_ctree.specs.declared.instance.Instance.{Instance}
 use Rattle.bl_ctree.specs.declared.instance.Origin.{Origin}
 use Rattle.bl_ctree.specs.Control as control
 use Rattle.bl_ctree.specs.Control.{Control}
-use Rattle.bl_ctree.specs.Instances.{Setting, expanded, instances_below, instances_of, runs_of, setting_of, unit_at, unit_of}
+use Rattle.bl_ctree.specs.Instances.{Setting, instances_of, setting_of, unit_at, unit_of}
 use Rattle.bl_ctree.specs.Laws.{ReachedInsideIsResidual, ReachedIsResidual, StepsFollow, StepsKeepResidual, WokenTreeIsResidual}
 use Rattle.bl_ctree.specs.Means.{entry_items}
 use Rattle.bl_ctree.specs.Measure.{steps}
@@ -60,6 +60,7 @@ use Rattle.bl_ctree_laws_peeled_bounds.proofs.Marking.{MarkedSteps, marked_steps
 use Rattle.bl_ctree_laws_peeled_bounds.proofs.Numbers.{CalleesNumbered, callees_numbered, left_numbered, unit_number_at, unit_number_of}
 use Rattle.bl_ctree_laws_peeled_bounds.proofs.Pigeons.{pigeons}
 use Rattle.bl_ctree_laws_peeled_bounds.proofs.Turns.{MayFall, LoopAt}
+use Rattle.bl_ctree_laws_traces.proofs.OnBounded.Bounding.{entry_found, root_there}
 
 -- one more step at the end
 steps_then : {w : Setting} {c t : Tree} {first store : Store} {labels : List StepLabel} {n : StepLabel} {t' : Tree} {store' : Store} →
@@ -82,18 +83,6 @@ stands_then left_kept could {w} {unit} {t = t} {n = n} {t'} one stands = record 
 }
 
 -- ---- the entry
-
-entry_found : (units : List UnitDef) (entry : ℕ) (found : Option UnitDef) → slice_get units entry ≡ found → is_entry found ≡ true →
-    (unit : UnitDef) × (slice_get units entry ≡ Some unit)
-entry_found units entry None there is = absurd cc
-entry_found units entry (Some unit) there is = (unit, there)
-
-root_there : (units : List UnitDef) (longest k : ℕ) (unit : UnitDef) → zero < longest → slice_get units k ≡ Some unit →
-    slice_get (expanded units longest k) 0 ≡ Some (record { unit = k; depth = 0; origin = None })
-root_there units zero k unit less is = absurd (omega arith)
-root_there units (suc longest) k unit less is =
-    ap (λ found. slice_get (unwrap_or (option_map (λ unit. record { unit = k; depth = 0; origin = None }
-    ∷ instances_below (expanded units longest) 1 (runs_of unit)) found) []) 0) is
 
 entry_is : StatementsArePlain → (w : Setting) (unit : UnitDef) → unit_at w 0 ≡ Some unit → entry_block w ≡ plain_body unit.body
 entry_is plain w unit is =

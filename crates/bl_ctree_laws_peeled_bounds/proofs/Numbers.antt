@@ -8,7 +8,6 @@ use Rattle.bl_tree.specs.declared.tree.StructDef.{StructDef}
 use Rattle.bl_tree.specs.declared.tree.Unit.{Unit as UnitDef}
 use Rattle.bl_tree.specs.Reduce.{joined}
 use Rattle.bl_tree.specs.Rules.{same_place}
-use Rattle.bl_effects.proofs.EntryLemmas.{same_place_is}
 use Rattle.bl_graph_nodes.specs.Plain.{Again, Block, Bodies, Plain, Repeat, While, plain_body}
 use Rattle.bl_ctree.specs.declared.instance.Instance.{Instance}
 use Rattle.bl_ctree.specs.declared.instance.Origin.{Origin}
@@ -23,6 +22,7 @@ use Rattle.bl_ctree_laws_traces.proofs.OnBounded.ByPlace.{once_among}
 use Rattle.bl_ctree_laws_traces.proofs.OnBounded.Callees.{CallsAreRuns, OneUnitEach}
 use Rattle.bl_ctree_laws_traces.proofs.OnBounded.Calls.{calls_in, calls_in_each, calls_of, either_same, run_of, stands_calls, turn_calls}
 use Rattle.bl_ctree_laws_traces.proofs.OnBounded.Lists.{Among, among_got, among_left, among_map, among_right}
+use Rattle.bl_tree.proofs.FirstLemmas.{same_true}
 
 -- the number of an instance's unit
 abbrev pub unit_number_of : Option Instance → ℕ
@@ -72,7 +72,7 @@ module _ (callers : InstancesHaveCallers) (structs : List StructDef) (units : Li
       by_origin instance there (Some origin) is e =
           by_call i caller s callee instance origin found at there
           (eqb-true origin.caller i (and_first (nat_eq origin.caller i) (same_place origin.place s.place) e))
-          (same_place_is origin.place s.place (and_second (nat_eq origin.caller i) (same_place origin.place s.place) e))
+          (same_true origin.place s.place (and_second (nat_eq origin.caller i) (same_place origin.place s.place) e))
           (subst (HasCaller units entry W.instances callee instance) is (callers units entry callee instance there))
 
 -- ---- trees

@@ -31,6 +31,7 @@ use Rattle.bl_ctree_store.specs.declared.perform.Deed.{Deed}
 use Rattle.bl_ctree_store.specs.declared.perform.Deed.TheVariants.{Silent, Acts, Copies, Gives}
 use Rattle.bl_ctree_store.specs.Deeds.{Carried, deed_on}
 use Rattle.bl_ctree_run.specs.Outputs.{HasOutputs, outputs_of_unit}
+use Rattle.bl_ctree_store.proofs.AgeLemmas.{many_set}
 
 -- the second frame has no fewer variables
 pub data Covers : Option Frame → Option Frame → Type 0 where
@@ -77,15 +78,10 @@ changed_grows i change store more = frame_grows store i change more (slice_get s
 
 -- ---- a value is put
 
-length_set : {A : Type 0} (xs : List A) (i : ℕ) (x : A) → length (slice_set xs i x) ≡ length xs
-length_set [] i x = refl
-length_set (y ∷ xs) zero x = refl
-length_set (y ∷ xs) (suc i) x = ap suc (length_set xs i x)
-
 value_put : (k : ℕ) (fields : List ℕ) (value : Value) (now made : List Value) (old : Option Value) (part : Option Value)
     → option_map (λ value. slice_set now k value) part ≡ Some made → length made ≡ length now
 value_put k fields value now made old None is = absurd cc
-value_put k fields value now made old (Some part) is = let same : slice_set now k part ≡ made = cc in sym (ap length same) ∙ length_set now k part
+value_put k fields value now made old (Some part) is = let same : slice_set now k part ≡ made = cc in sym (ap length same) ∙ many_set now k part
 
 old_put : (k : ℕ) (fields : List ℕ) (value : Value) (now made : List Value) (old : Option Value)
     → option_and_then (λ old. option_map (λ value. slice_set now k value) (with_value_at fields value old)) old ≡ Some made → length made ≡ length now

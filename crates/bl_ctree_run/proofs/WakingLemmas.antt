@@ -1,6 +1,6 @@
 -- Trees that are woken where they lie.
 use Rattle.std.proofs.Common.{◌≡◌, ℕ, zero, suc, Bool, true, false, not, ◌&&◌, ◌+◌, ◌<◌, ◌≤◌, get_or, length}
-use Rattle.std.proofs.Common.{arith, List, [], ◌∷◌, ◌++◌, Some, map, take, drop, refl, sym, ap, ◌∙◌, rules}
+use Rattle.std.proofs.Common.{arith, List, [], ◌∷◌, ◌++◌, Some, map, take, drop, refl, sym, ap, ◌∙◌}
 use Rattle.std.specs.Prelude.{option_map, slice_get, slice_set}
 use Rattle.std.proofs.lemmas.List.{map-set}
 use Rattle.std.proofs.lemmas.Option.{slice_get-map, slice_get_read}
@@ -8,15 +8,17 @@ use Rattle.std.proofs.lemmas.Bool.{and_parts, not-true}
 use Rattle.bl_ctree.specs.Control.{Control, Nil, Wait, Test, Idle, Do, Turn, Seq, Par, Guard, Run, all_woken, branch, is_nil, woken}
 use Rattle.bl_ctree.specs.declared.node.At.{At}
 use Rattle.bl_ctree.specs.declared.node.Branch.{Branch as BranchNode, out-Branch, roll-Branch}
-use Rattle.bl_ctree.specs.declared.node.Node.{Node, the_lemmas}
+use Rattle.bl_ctree.specs.declared.node.Node.{Node}
 use Rattle.bl_ctree.specs.declared.node.Node.TheViews.{Par as ParNode, Seq as SeqNode}
 use Rattle.bl_ctree.specs.declared.node.Rest.{Rest}
 use Rattle.bl_ctree.specs.Nodes.{Seen, branches_of, control_of, items_of, located, seen_of}
 use Rattle.bl_ctree.specs.Positions.{Item, none_left}
-use Rattle.bl_ctree_enabled.proofs.NodeLemmas.{control_of_par, par_is, seen_out}
+use Rattle.bl_ctree_enabled.proofs.NodeLemmas.{par_is, seen_out}
 use Rattle.bl_ctree_store.proofs.AgeLemmas.{get_rest, made_next}
 use Rattle.bl_ctree_run.specs.inner.Wakings.{are_light, is_light, wake_seen}
 use Rattle.bl_ctree_run.proofs.SpineLemmas.{seq_stays}
+use Rattle.bl_ctree.proofs.WakeLemmas.{control_of_par}
+use Rattle.bl_ctree_run.proofs.NodeLemmas.{control_of_seq}
 
 -- what is light in a sequence
 pub seq_light : (c : Control) (rest : List Item) → is_light (Seq c rest) ≡ true → (is_nil c ≡ false) × (is_light c ≡ true)
@@ -72,9 +74,6 @@ par_woken node s stood old new is each light =
     control_of_par s true new
     ∙ ap (λ all. Par (located s) true (branches_of all)) (each (sym (ap is_light (par_is node s stood old is)) ∙ light))
     ∙ ap (Par (located s) true) (branches_woken (map seen_of old)) ∙ sym (ap woken (par_is node s stood old is))
-
-control_of_seq : (inner : Node) (rest : Rest) → control_of (SeqNode inner rest) ≡ Seq (control_of inner) (items_of rest)
-control_of_seq inner rest = search (rules, the_lemmas)
 
 -- a sequence whose tree is woken
 pub seq_inside : (node inner made : Node) (rest : Rest) → node ≡ SeqNode inner rest

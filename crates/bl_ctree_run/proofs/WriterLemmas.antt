@@ -17,6 +17,7 @@ use Rattle.bl_ctree_enabled.specs.Spots.{Spot, homes_seen, is_free_of, meets_one
 use Rattle.bl_ctree_run.specs.inner.Writers.{Write, all_writes, is_beside, is_free, is_met, of_variable, same_variable, writes_by}
 use Rattle.bl_ctree_run.specs.inner.Writers.{writes_from, writes_kept}
 use Rattle.bl_ctree_enabled.proofs.BranchLemmas.{any_or, any_same, not_or}
+use Rattle.bl_ctree_enabled.proofs.TableLemmas.{unequal}
 
 -- ---- as it is kept
 
@@ -76,13 +77,6 @@ apart home at is false met = refl
 and_or : (a b c : Bool) → ((a && b) || (a && c)) ≡ (a && (b || c))
 and_or true b c = refl
 and_or false b c = refl
-
-unequal : (m n : ℕ) → m ≢ n → nat_eq m n ≡ false
-unequal m n other = by (nat_eq m n) refl
-  where
-    by : (b : Bool) → nat_eq m n ≡ b → b ≡ false
-    by true is = absurd (other (same_number m n is))
-    by false is = refl
 
 -- writes to other variables don't count
 all_near : (k : ℕ) (at : Location) (writes : List Write) → list_any (is_beside k at) (of_variable at writes) ≡ list_any (is_beside k at) writes

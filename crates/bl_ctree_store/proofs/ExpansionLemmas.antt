@@ -8,12 +8,12 @@ use Rattle.bl_tree.proofs.Basics.{drop_next, map_length}
 use Rattle.bl_tree.specs.declared.place.Place.{Place}
 use Rattle.bl_tree.specs.declared.tree.Unit.{Unit as UnitDef}
 use Rattle.bl_tree.specs.Rules.{same_place}
-use Rattle.bl_effects.proofs.EntryLemmas.{same_place_is}
 use Rattle.bl_ctree.specs.declared.instance.Instance.{Instance}
 use Rattle.bl_ctree.specs.declared.instance.Origin.{Origin}
 use Rattle.bl_ctree.specs.declared.instance.Run.{Run}
 use Rattle.bl_ctree.specs.Instances.{called_from, expanded, instances_below, one_a_place, origin_under, runs_of}
 use Rattle.bl_ctree_store.specs.inner.Expansion.{Shifts, starts_at}
+use Rattle.bl_tree.proofs.FirstLemmas.{same_true}
 
 -- ---- one of each place
 
@@ -26,7 +26,7 @@ kept_one true o x rest is differs = sym (ap (λ b. b || list_any (starts_at x) r
 kept_one false o x rest is differs = absurd cc
 
 other_place : (r o : Run) (x : Place) → same_place r.place x ≡ false → same_place r.place o.place ≡ true → starts_at x o ≡ false
-other_place r o x differs is = sym (ap (λ p. same_place p x) (same_place_is r.place o.place is)) ∙ differs
+other_place r o x differs is = sym (ap (λ p. same_place p x) (same_true r.place o.place is)) ∙ differs
 
 any_step : (r o : Run) (x : Place) (ys : List Run) → same_place r.place x ≡ false →
     list_any (starts_at x) (others r ys) ≡ list_any (starts_at x) ys → (b : Bool) → same_place r.place o.place ≡ b

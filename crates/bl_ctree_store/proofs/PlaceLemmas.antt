@@ -8,10 +8,10 @@ use Rattle.bl_tree.proofs.Basics.{any_push, cond_or}
 use Rattle.bl_tree.specs.declared.place.Place.{Place}
 use Rattle.bl_effects.specs.Entries.{key_of}
 use Rattle.bl_tree.specs.Rules.{same_place}
-use Rattle.bl_effects.proofs.EntryLemmas.{same_place_is}
 use Rattle.bl_ctree.specs.declared.instance.Run.{Run}
 use Rattle.bl_ctree_store.specs.inner.Expansion.{Sees, has_place, place_cmp, starts_at}
 use Rattle.bl_ctree_store.proofs.KeyLemmas.{same_place_key}
+use Rattle.bl_tree.proofs.FirstLemmas.{same_true}
 
 -- the set with one more place
 pub place_added : (old new : BTreeSet (ℕ × ℕ)) (place q : Place) →
@@ -26,7 +26,7 @@ pub sees_still : (old new : BTreeSet (ℕ × ℕ)) (place : Place) (runs : List 
 sees_still old new place runs there grown sees q = grown q ∙ step (same_place place q) refl ∙ sees q
   where
     step : (b : Bool) → same_place place q ≡ b → (b || has_place old q) ≡ has_place old q
-    step true is = sym (ap (has_place old) (sym (same_place_is place q is)) ∙ there)
+    step true is = sym (ap (has_place old) (sym (same_true place q is)) ∙ there)
     step false is = refl
 
 -- one more `run` statement of a place that was added

@@ -26,7 +26,8 @@ use Rattle.bl_tree.specs.Static.{mentions, set_of}
 use Rattle.bl_tree.specs.Within.{Effect, StandsIn, Within, itself, deeper, children, effect_of, kind_children, place_of}
 use Rattle.bl_tree.specs.Rules.{same_place}
 use Rattle.bl_effects.specs.Table.{found}
-use Rattle.bl_effects.proofs.EntryLemmas.{same_place_is, same_place_refl}
+use Rattle.bl_effects.proofs.EntryLemmas.{same_place_refl}
+use Rattle.bl_tree.proofs.FirstLemmas.{same_true}
 
 -- ---- the table
 
@@ -53,16 +54,16 @@ records_then P Q R splits first second a b c one other at =
     (record { statement = told.statement; stands = second told.statement told.stands; there = told.there; tells = told.tells }))
     (other at)
 
-stands_cases : (xs ys : List Stmt) (s : Stmt) → StandsIn (xs ++ ys) s → StandsIn xs s ⊎ StandsIn ys s
+pub stands_cases : (xs ys : List Stmt) (s : Stmt) → StandsIn (xs ++ ys) s → StandsIn xs s ⊎ StandsIn ys s
 stands_cases xs ys s stands =
     ⊎_elim (λ there. inl (record { outer = stands.outer; is_there = there; within = stands.within }))
     (λ there. inr (record { outer = stands.outer; is_there = there; within = stands.within }))
     (Contains-append_cases xs ys stands.outer stands.is_there)
 
-stands_left : (xs ys : List Stmt) (s : Stmt) → StandsIn xs s → StandsIn (xs ++ ys) s
+pub stands_left : (xs ys : List Stmt) (s : Stmt) → StandsIn xs s → StandsIn (xs ++ ys) s
 stands_left xs ys s stands = record { outer = stands.outer; is_there = Contains-append_left xs ys stands.outer stands.is_there; within = stands.within }
 
-stands_right : (xs ys : List Stmt) (s : Stmt) → StandsIn ys s → StandsIn (xs ++ ys) s
+pub stands_right : (xs ys : List Stmt) (s : Stmt) → StandsIn ys s → StandsIn (xs ++ ys) s
 stands_right xs ys s stands = record { outer = stands.outer; is_there = Contains-append_right xs ys stands.outer stands.is_there; within = stands.within }
 
 records_append : (xs ys : List Stmt) (a b c : List Effect) → TableRecords (StandsIn xs) a b → TableRecords (StandsIn ys) b c
@@ -277,7 +278,7 @@ on_ok P Q (Err e) f h = h
 
 -- ---- a statement
 
-within_cases : (s outer : Stmt) → Within s outer → (s ≡ outer) ⊎ StandsIn (children outer) s
+pub within_cases : (s outer : Stmt) → Within s outer → (s ≡ outer) ⊎ StandsIn (children outer) s
 within_cases s outer (itself) = inl refl
 within_cases s outer (deeper _ next there within) = inr (record { outer = next; is_there = there; within = within })
 
@@ -307,7 +308,7 @@ records_statement s sets a b c inside is inserted at = step (same_place (place_o
         inr (record {
           statement = s;
           stands = alone s s itself;
-          there = same_place_is (place_of s) at here;
+          there = same_true (place_of s) at here;
           tells =
               inserted at ∙ ap (λ t. cond t (Some (effect_at (place_of s) sets)) (found b at)) here ∙ ap Some is;
         })

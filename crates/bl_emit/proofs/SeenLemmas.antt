@@ -1,14 +1,12 @@
 -- The places of `run` statements that were seen, and the first `run` statement of each place.
 use Rattle.std.proofs.Common.{◌≡◌, ℕ, Bool, true, false, not, ◌&&◌, ◌||◌, cond, List, [], ◌∷◌, ◌++◌, filter, map, refl, sym, ap, ◌∙◌, append-nil}
-use Rattle.std.proofs.Common.{nat_cmp, nat_eq, is_eq, Ordering, Less, Equal, Greater, eqb→eq}
+use Rattle.std.proofs.Common.{is_eq, Ordering, Less, Equal, Greater, eqb→eq}
 use Rattle.std.specs.BTreeMap.{is_at}
 use Rattle.std.specs.BTreeSet.{BTreeSet}
-use Rattle.std.specs.Cmp.{unsigned_tied}
 use Rattle.std.specs.List.{list_any}
 use Rattle.std.proofs.lemmas.List.{map-append}
 use Rattle.std.specs.Ordering.{ordering_then}
-use Rattle.std.proofs.lemmas.Bool.{and_parts}
-use Rattle.bl_tree.proofs.Basics.{any_push, cond_or, same_number}
+use Rattle.bl_tree.proofs.Basics.{any_push, cond_or}
 use Rattle.bl_tree.specs.declared.place.Place.{Place}
 use Rattle.bl_tree.specs.Rules.{same_place}
 use Rattle.bl_machine_transitions.specs.Runs.{key_cmp, key_of}
@@ -16,6 +14,8 @@ use Rattle.bl_emit_spec.specs.Activities.{RunAt, one_a_place}
 use Rattle.bl_emit.specs.declared.runs.RunAt.{RunAt as Kept}
 use Rattle.bl_emit.specs.Kept.{run_in}
 use Rattle.bl_emit.specs.inner.Seen.{SeesRuns, has_run_place, run_stands_at}
+use Rattle.bl_tree.proofs.FirstLemmas.{same_true}
+use Rattle.bl_machine_transitions.proofs.RunLemmas.{same_place_key}
 
 -- ---- keys
 
@@ -23,17 +23,6 @@ both_equal : (r s : Ordering) → is_eq (ordering_then r s) ≡ (is_eq r && is_e
 both_equal Less s = refl
 both_equal Equal s = refl
 both_equal Greater s = refl
-
--- a place is that of a key where the key ties
-same_place_key : (a b : Place) → is_at (key_cmp (key_of a)) (key_of b) ≡ same_place a b
-same_place_key a b = both_equal (nat_cmp a.start b.start) (nat_cmp a.end b.end) ∙ (λ i. unsigned_tied a.start b.start i && unsigned_tied a.end b.end i)
-
-same_place_is : (a b : Place) → same_place a b ≡ true → a ≡ b
-same_place_is a b is =
-    let both = and_parts (nat_eq a.start b.start) (nat_eq a.end b.end) is in
-    let starts = same_number a.start b.start both.0 in
-    let ends = same_number a.end b.end both.1 in
-    λ i. record { start = starts i; end = ends i }
 
 -- ---- what was seen
 
@@ -50,7 +39,7 @@ pub sees_still : (old new : BTreeSet (ℕ × ℕ)) (place : Place) (runs : List 
 sees_still old new place runs there grown sees q = grown q ∙ step (same_place place q) refl ∙ sees q
   where
     step : (b : Bool) → same_place place q ≡ b → (b || has_run_place old q) ≡ has_run_place old q
-    step true is = sym (ap (has_run_place old) (sym (same_place_is place q is)) ∙ there)
+    step true is = sym (ap (has_run_place old) (sym (same_true place q is)) ∙ there)
     step false is = refl
 
 -- one more `run` statement of a place that was added
@@ -91,7 +80,7 @@ kept_one true o x rest is differs = sym (ap (λ b. b || list_any (starts_in x) r
 kept_one false o x rest is differs = absurd cc
 
 other_place : (r o : RunAt) (x : Place) → same_place r.place x ≡ false → same_place r.place o.place ≡ true → starts_in x o ≡ false
-other_place r o x differs is = sym (ap (λ p. same_place p x) (same_place_is r.place o.place is)) ∙ differs
+other_place r o x differs is = sym (ap (λ p. same_place p x) (same_true r.place o.place is)) ∙ differs
 
 any_step : (r o : RunAt) (x : Place) (ys : List RunAt) → same_place r.place x ≡ false →
     list_any (starts_in x) (others r ys) ≡ list_any (starts_in x) ys → (b : Bool) → same_place r.place o.place ≡ b

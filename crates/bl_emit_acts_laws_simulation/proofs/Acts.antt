@@ -74,7 +74,7 @@ assignable_open site path var h there =
     let found = some_there (option_and_then (λ (var : Var). if may_change var.role then Some var else None) (var_at site (out-Path path).root)) h in
     open_by var.role var found.0 (sym (ap (option_and_then (λ (var : Var). if may_change var.role then Some var else None)) there) ∙ found.1)
 
-declared_open_by : (role : Role) → (is_variable role || is_fixed role) ≡ true → is_input role ≡ false
+pub declared_open_by : (role : Role) → (is_variable role || is_fixed role) ≡ true → is_input role ≡ false
 declared_open_by Input h = absurd (cc)
 declared_open_by Output h = absurd (cc)
 declared_open_by Variable h = refl

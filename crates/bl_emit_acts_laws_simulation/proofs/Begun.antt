@@ -28,7 +28,7 @@ use Rattle.bl_emit_acts_laws_simulation.proofs.Statements.{Ends, set_after, set_
 use Rattle.bl_emit_acts_laws_simulation.proofs.Values.{read_gives}
 use Rattle.bl_emit_acts_laws_simulation.proofs.Writes.{apart_same, same_object}
 
-or_other : (a b : Bool) → (a || b) ≡ true → b ≡ false → a ≡ true
+pub or_other : (a b : Bool) → (a || b) ≡ true → b ≡ false → a ≡ true
 or_other true b h i = refl
 or_other false b h i = absurd (let no = sym h ∙ i in cc)
 

@@ -55,7 +55,7 @@ module _ (structs : List StructDef) (stand : structs_stand_from 0 structs ≡ tr
 
 -- ---- names of fields differ
 
-among_at : (text : List ℕ) (names : List (List ℕ)) (k : ℕ) (name : List ℕ) → list_any (bytes_eq text) names ≡ false → slice_get names k
+pub among_at : (text : List ℕ) (names : List (List ℕ)) (k : ℕ) (name : List ℕ) → list_any (bytes_eq text) names ≡ false → slice_get names k
     ≡ Some name →
     bytes_eq text name ≡ false
 among_at text [] k name h there = absurd (cc)
@@ -78,7 +78,7 @@ differ_at (first ∷ names) (suc j) zero a b h i l other =
     ap (λ b. bytes_eq b a) (sym (same_Some first b l)) ∙ among_at first names j a front i
 differ_at (first ∷ names) (suc j) (suc k) a b h i l other = differ_at names j k a b (and_second _ _ h) i l (unequal_before j k other)
 
-distinct_from : (structs : List StructDef) (before s : ℕ) (def : StructDef) → structs_stand_from before structs ≡ true → slice_get structs s
+pub distinct_from : (structs : List StructDef) (before s : ℕ) (def : StructDef) → structs_stand_from before structs ≡ true → slice_get structs s
     ≡ Some def →
     are_distinct (field_names def) ≡ true
 distinct_from [] before s def h there = absurd (cc)

@@ -20,6 +20,7 @@ use Rattle.bl_emit_acts_laws_simulation.specs.Encodes.{are_apart, home_at, is_li
 use Rattle.bl_emit_acts_laws_simulation.proofs.Cells.{apart_flip}
 use Rattle.bl_emit_acts_laws_simulation.proofs.NumberedNames as numbered
 use Rattle.bl_emit_acts_laws_simulation.proofs.Outlets.{behind_front, further_both}
+use Rattle.bl_emit_acts_laws_simulation.proofs.Cells.{or_split}
 
 -- ---- names
 
@@ -31,13 +32,13 @@ names_differ letter vars j k less most differ =
 
 -- ---- roots
 
-roots_differ : (p q : Location) → same_root p.root q.root ≡ false → are_apart p q ≡ true
+pub roots_differ : (p q : Location) → same_root p.root q.root ≡ false → are_apart p q ≡ true
 roots_differ p q h = ap (λ same. not same || ways_part p.parts q.parts) h
 
-own_differ : (depth : ℕ) (m n : List ℕ) → bytes_eq m n ≡ false → same_root (variable depth m) (variable depth n) ≡ false
+pub own_differ : (depth : ℕ) (m n : List ℕ) → bytes_eq m n ≡ false → same_root (variable depth m) (variable depth n) ≡ false
 own_differ depth m n h = ap (λ b. (depth == depth) && b) h ∙ and_false (depth == depth)
 
-older_differs : (depth : ℕ) (name : List ℕ) (root : Root) → is_older depth root ≡ true → same_root (variable depth name) root ≡ false
+pub older_differs : (depth : ℕ) (name : List ℕ) (root : Root) → is_older depth root ≡ true → same_root (variable depth name) root ≡ false
 older_differs depth name state_object h = refl
 older_differs depth name input_object h = refl
 older_differs depth name output_object h = refl
@@ -50,20 +51,16 @@ older_differs depth name (variable d other) h = by (depth == d) refl
         let equal : depth ≡ d = eqb-true depth d is in
         absurd (omega arith)
 
-older_live : (depth : ℕ) (root : Root) → is_older depth root ≡ true → is_live depth root ≡ true
+pub older_live : (depth : ℕ) (root : Root) → is_older depth root ≡ true → is_live depth root ≡ true
 older_live depth state_object h = refl
 older_live depth input_object h = refl
 older_live depth output_object h = refl
 older_live depth (variable d name) h = let less : d < depth = ltb-true d depth h in le-leb d depth (omega arith)
 
-further_split : (same a b : Bool) → (a ≡ true → b ≡ true) → (not same || a) ≡ true → (not same || b) ≡ true
-further_split true a b next h = next h
-further_split false a b next h = refl
-
 -- what lies further on keeps apart too
-further_apart : (p q : Location) (xs ys : List Projection) → are_apart p q ≡ true → are_apart (further p xs) (further q ys) ≡ true
+pub further_apart : (p q : Location) (xs ys : List Projection) → are_apart p q ≡ true → are_apart (further p xs) (further q ys) ≡ true
 further_apart p q xs ys h =
-    further_split (same_root p.root q.root) (ways_part p.parts q.parts) (ways_part (p.parts ++ xs) (q.parts ++ ys))
+    or_split (same_root p.root q.root) (ways_part p.parts q.parts) (ways_part (p.parts ++ xs) (q.parts ++ ys))
     (further_both p.parts q.parts xs ys) h
 
 module _ (site : TypingContext) (copied : ℕ → Bool) (scope : Scope) (stand : PointersAreValid site scope) where

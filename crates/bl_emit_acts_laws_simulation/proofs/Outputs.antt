@@ -6,23 +6,19 @@ use Rattle.std.proofs.lemmas.Option.{same_Some}
 use Rattle.std.specs.Prelude.{nat_eq, option_and_then, option_map, slice_get}
 use Rattle.std.proofs.lemmas.Bool.{and_from, or_right}
 use Rattle.bl_tree.proofs.Basics.{and_first, and_second}
-use Rattle.bl_tree.specs.declared.scalar.Scalar.{Scalar as ScalarType}
 use Rattle.bl_tree.specs.declared.tree.Path.{Path}
 use Rattle.bl_tree.specs.declared.tree.StructDef.{StructDef}
 use Rattle.bl_tree.specs.declared.tree.Ty.{Ty}
 use Rattle.bl_tree.specs.declared.tree.Unit.{Unit as UnitDef}
 use Rattle.bl_tree.specs.declared.tree.Var.{Var}
-use Rattle.bl_tree.specs.declared.value.Value.{Value, out-Value}
-use Rattle.bl_tree.specs.declared.value.Value.{roll-Value, roll-out-Value}
-use Rattle.bl_tree.specs.declared.value.Value.TheOpen.{Value-F}
-use Rattle.bl_tree.specs.declared.value.Value.TheVariants.{rolls-Number}
+use Rattle.bl_tree.specs.declared.value.Value.{Value}
 use Rattle.bl_tree.specs.Program.{IsWellTyped, is_input}
 use Rattle.bl_tree.specs.Reduce.{all_of}
 use Rattle.bl_tree.specs.Types.{same_type, scalar_in}
 use Rattle.bl_tree.specs.Typing.{TypingContext, is_assignable, is_outlet, is_plain, site_of, type_of_path, types_match, var_at}
 use Rattle.bl_eval.specs.declared.datum.Datum.{Datum}
 use Rattle.bl_eval.specs.Functions.{callees_of, scope_among}
-use Rattle.bl_eval.specs.Meaning.{PathMeaning, Scope as Sees, View, datum_of, level_datum, path_meaning_of, plain, read_at, reading, values_of}
+use Rattle.bl_eval.specs.Meaning.{PathMeaning, Scope as Sees, View, datum_of, path_meaning_of, plain, read_at, reading, values_of}
 use Rattle.bl_eval.specs.Values.{value_at, value_fits, values_fit}
 use Rattle.bl_eval.proofs.ExprFits.{Sound, SpotFits, spot_fits}
 use Rattle.bl_eval.proofs.FitLemmas.{same_type_is}
@@ -47,15 +43,7 @@ use Rattle.bl_emit_acts_laws_simulation.proofs.Expressions.{lies_fit, reached_ho
 use Rattle.bl_emit_acts_laws_simulation.proofs.Outlets.{Outlet, behind_front, outlet}
 use Rattle.bl_emit_acts_laws_simulation.proofs.Places.{listed-answer}
 use Rattle.bl_emit_acts_laws_simulation.proofs.Whole.{places}
-
--- the value of a datum is the value of which it is made
-plain_level : (s : ScalarType) (value : Value) (layer : Value-F Value) → out-Value value ≡ layer → plain (level_datum s value layer) ≡ value
-plain_level s value (Value-F.Number n) is = sym (rolls-Number n) ∙ (ap roll-Value (sym is) ∙ roll-out-Value value)
-plain_level s value (Value-F.Parts all) is = refl
-
-pub plain_datum : (s : Option ScalarType) (value : Value) → plain (datum_of s value) ≡ value
-plain_datum None value = refl
-plain_datum (Some s) value = plain_level s value (out-Value value) refl
+use Rattle.bl_eval.proofs.MeaningLemmas.{plain_datum}
 
 module _ (structs : List StructDef) (units : List UnitDef) (entry : ℕ) (k : ℕ) (unit : UnitDef) (view : View) (copies : List Bool) (scope : Scope)
     (here : Memory) (keeps : IsWellTyped structs units entry) (b : BesideActs structs units k unit view (is_copied copies) scope here) where

@@ -52,10 +52,11 @@ use Rattle.bl_emit_acts_laws_simulation.proofs.Arguments.{ArgsShow, pass_all, pa
 use Rattle.bl_emit_acts_laws_simulation.proofs.Cells.{apart_flip, apart_inside}
 use Rattle.bl_emit_acts_laws_simulation.proofs.Evaluated.{passes}
 use Rattle.bl_emit_acts_laws_simulation.proofs.Expressions.{inputs_shown, made_shows}
-use Rattle.bl_emit_acts_laws_simulation.proofs.Outputs.{OutputAt, OutputsAt, outputs_at, outputs_hold, pass_outputs, places_at, plain_datum, value_now, values_at}
+use Rattle.bl_emit_acts_laws_simulation.proofs.Outputs.{OutputAt, OutputsAt, outputs_at, outputs_hold, pass_outputs, places_at, value_now, values_at}
 use Rattle.bl_emit_acts_laws_simulation.proofs.Places.{listed-answer}
 use Rattle.bl_emit_acts_laws_simulation.proofs.Whole.{expressions, places}
 use Rattle.bl_emit_acts_laws_simulation.proofs.Written.{map_found}
+use Rattle.bl_eval.proofs.MeaningLemmas.{plain_datum}
 
 -- ---- arguments one after another
 

@@ -33,14 +33,11 @@ use Rattle.bl_emit_acts_laws_simulation.proofs.Names.{add_function, and_function
 use Rattle.bl_emit_acts_laws_simulation.proofs.Names.{or_function, rem_function, shl_function, shr_function, sub_function, xor_function}
 use Rattle.bl_emit_acts_laws_simulation.proofs.Numbers.{and-number, compare-number, gives, not-number, num, one-number, or-number, two-number}
 use Rattle.bl_emit_acts_laws_simulation.proofs.Operators.{Known, and_itself, and_known, cast_itself, cast_known, known_fits, one_known, or_known, two_known}
+use Rattle.bl_eval.proofs.OperatorFits.{bool_is}
 
 -- the type of a scalar type
 pub scalar_type : (ty : Ty) (s : ScalarType) → ty ≡ scalar s → scalar_in ty ≡ Some s
 scalar_type ty s is = ap scalar_in is ∙ scalar_alone s
-
-pub bool_only : (s : ScalarType) → is_bool s ≡ true → OfBool ≡ s
-bool_only OfBool h = refl
-bool_only _ h = absurd (cc)
 
 module _ (structs : List StructDef) (scope : Scope) (here : Memory) where
   abbrev shows : Ty → Made → Option Datum → Type 0
@@ -176,7 +173,7 @@ module _ (structs : List StructDef) (scope : Scope) (here : Memory) where
     )
       where
         bool_known : (x : Option ℤ) (datum : Option Datum) → Known s x datum → is_bool s ≡ true → Known OfBool x datum
-        bool_known x datum known takes = subst (λ s. Known s x datum) (sym (bool_only s takes)) known
+        bool_known x datum known takes = subst (λ s. Known s x datum) (sym (bool_is s takes)) known
     both_shows Or ty takes is = (
       scalar_type ty OfBool is,
       or-number scope here a b
@@ -184,7 +181,7 @@ module _ (structs : List StructDef) (scope : Scope) (here : Memory) where
     )
       where
         bool_known : (x : Option ℤ) (datum : Option Datum) → Known s x datum → is_bool s ≡ true → Known OfBool x datum
-        bool_known x datum known takes = subst (λ s. Known s x datum) (sym (bool_only s takes)) known
+        bool_known x datum known takes = subst (λ s. Known s x datum) (sym (bool_is s takes)) known
     both_shows Minus ty takes is = absurd (cc)
     both_shows BitNot ty takes is = absurd (cc)
     both_shows Not ty takes is = absurd (cc)

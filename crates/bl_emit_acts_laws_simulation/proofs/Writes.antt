@@ -24,7 +24,7 @@ use Rattle.bl_emit_acts_laws_simulation.proofs.Forks.{forked, parts_fit}
 use Rattle.bl_emit_acts_laws_simulation.proofs.Parts.{holds_same}
 use Rattle.bl_emit_acts_laws_simulation.proofs.Written.{left_apart, left_behind, map_found, part_written, set_other, set_same}
 
-same_root_itself : (root : Root) → same_root root root ≡ true
+pub same_root_itself : (root : Root) → same_root root root ≡ true
 same_root_itself state_object = refl
 same_root_itself input_object = refl
 same_root_itself output_object = refl

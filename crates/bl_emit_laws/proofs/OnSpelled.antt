@@ -25,6 +25,7 @@ use Rattle.bl_emit_spec_laws_wellformed.specs.Needed.{NeededNumbered, NeededSmal
 use Rattle.bl_emit_spec_laws_wellformed.specs.Spelled.{CanSpell}
 use Rattle.bl_emit_spec_laws_wellformed.specs.Texts.{ActivityIsSpellable, AllWrite, FilesSpelled, UnitWrites, Where}
 use Rattle.bl_emit_laws.specs.Spelled.{ProgramsSpelled}
+use Rattle.bl_emit_laws.proofs.OnForms.Forms.{behind_none}
 
 -- ---- lists
 
@@ -136,9 +137,6 @@ module _ (structs : List StructDef) (units : List UnitDef) (entry : ℕ) (keeps 
         (λ remember needed machine told own.
         all_write (earlier ++ unit ∷ []) remember rest needed machine (append_assoc earlier (unit ∷ []) rest ∙ whole)
         (subst (λ n. Told n needed) (sym (length_one earlier unit)) told) own)
-
-behind_none : (needed : List Bool) (n j : ℕ) → n ≡ 0 → slice_get needed j ≡ Some true → slice_get needed (n + j) ≡ Some true
-behind_none needed n j none is = subst (λ m. slice_get needed m ≡ Some true) (omega (arith, none)) is
 
 pub programs_spelled : (program : Program) → ActivitiesCount → MachinesSpell program.structs program.units program.entry →
     NeededSmall program.structs program.units program.entry → NeededNumbered program.structs program.units program.entry → FilesSpelled program →

@@ -1,5 +1,5 @@
 -- The numbers that are in C are those of the machine.
-use Rattle.std.proofs.Common.{◌≡◌, ℕ, zero, suc, ◌+◌, List, [], ◌∷◌, length, nat_eq, Some, sym, ap, subst, ◌∙◌, arith}
+use Rattle.std.proofs.Common.{◌≡◌, ℕ, ◌+◌, List, [], ◌∷◌, length, nat_eq, Some, sym, ap, subst, ◌∙◌, arith}
 use Rattle.std.specs.Prelude.{IsPermutation, option_and_then, option_map, slice_get, unwrap_or}
 use Rattle.bl_tree.proofs.Basics.{same_some, within_at}
 use Rattle.bl_tree.specs.declared.tree.StructDef.{StructDef}
@@ -24,7 +24,6 @@ use Rattle.bl_machine_pass_laws_execution.specs.Runs.{RunsGoByRules}
 use Rattle.bl_machine_pass_laws_turns.specs.Turns.{TurnContext}
 use Rattle.bl_machine_transitions.specs.Callees.{node_number}
 use Rattle.bl_machine_transitions.specs.Listed.{layout_of}
-use Rattle.bl_machine_transitions_laws.proofs.Agreeing.{Agrees}
 use Rattle.bl_machine_transitions_laws.proofs.Standing.{nodes_stand}
 use Rattle.bl_emit_spec.specs.Activities.{activity_view}
 use Rattle.bl_emit_spec_laws.specs.Calls.Built.{Activities, MadeOf, rank_by, slots_by, unit_number}
@@ -32,15 +31,7 @@ use Rattle.bl_emit_spec_laws.specs.Calls.Laws.{CompilationContext}
 use Rattle.bl_emit_spec_laws.specs.Cleared.{ClearingIsInside}
 use Rattle.bl_emit_spec_laws.proofs.OnPlaced.Lists.{found_at, number_once, number_there}
 use Rattle.bl_emit_spec_laws_files.specs.Entry.{EntryRuns}
-
-agrees_at : {X Y : Type 0} (f : X → Y) (at : ℕ → Y) (xs : List X) (first k : ℕ) (x : X) → Agrees f at first xs → slice_get xs k
-    ≡ Some x →
-    f x ≡ at (first + k)
-agrees_at f at [] first k x agrees is = absurd (cc)
-agrees_at f at (y ∷ xs) first zero x agrees is =
-    let same : first ≡ first + 0 = omega arith in ap f (sym (same_some y x is)) ∙ agrees.0 ∙ ap at same
-agrees_at f at (y ∷ xs) first (suc k) x agrees is =
-    let same : suc first + k ≡ first + suc k = omega arith in agrees_at f at xs (suc first) k x agrees.1 is ∙ ap at same
+use Rattle.bl_emit_spec_laws.proofs.OnPlaced.Placing.{agrees_at}
 
 module _ (orderly : AcceptedIsOrderly) (clearing : ClearingIsInside) (keys : NodesHaveKeys) (machines : MachinesGiveContexts) (runs : RunsGoByRules)
     (structs : List StructDef) (units : List UnitDef) (entry : ℕ) (machine : List InMachine) (activities : Activities)

@@ -28,7 +28,7 @@ use Rattle.bl_eval.proofs.PassLemmas.{get_seam, take_less, all_replicate, pass_e
 
 -- ---- types
 
-rolled : (ty : Ty) (layer : Ty-F Ty) → out-Ty ty ≡ layer → ty ≡ roll-Ty layer
+pub rolled : (ty : Ty) (layer : Ty-F Ty) → out-Ty ty ≡ layer → ty ≡ roll-Ty layer
 rolled ty layer is = sym (roll-out-Ty ty) ∙ ap roll-Ty is
 
 scalar_layer : (layer : Ty-F Ty) (s : ScalarType) → scalar_at layer ≡ Some s → layer ≡ Ty-F.Scalar s
@@ -184,7 +184,7 @@ structs_at (first ∷ rest) before j (suc k) def stand there is =
 
 -- ---- zeros
 
-zero_scalar : (s : ScalarType) → in_range s (pos 0) ≡ true
+pub zero_scalar : (s : ScalarType) → in_range s (pos 0) ≡ true
 zero_scalar OfBool = refl
 zero_scalar (Int W8) = refl
 zero_scalar (Int W16) = refl

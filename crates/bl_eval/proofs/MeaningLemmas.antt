@@ -112,7 +112,7 @@ callees_length structs [] callees = omega arith
 callees_length structs (unit ∷ rest) callees =
     omega (arith, callees_length structs rest (callees ++ callable_of structs callees unit ∷ []), length-append callees (callable_of structs callees unit ∷ []))
 
-past_get : {A : Type 0} (xs : List A) (k : ℕ) → slice_get xs k ≡ None → length xs ≤ k
+pub past_get : {A : Type 0} (xs : List A) (k : ℕ) → slice_get xs k ≡ None → length xs ≤ k
 past_get [] k none = omega arith
 past_get (x ∷ xs) zero none = absurd (cc)
 past_get (x ∷ xs) (suc k) none = let past : length xs ≤ k = past_get xs k none in omega arith
@@ -161,11 +161,11 @@ if_ok_then (Err e) f a b h then = tt
 
 -- ---- calls with outputs
 
-plain_level : (ty : ScalarType) (value : Value) (level : Value-F Value) → out-Value value ≡ level → plain (level_datum ty value level) ≡ value
+pub plain_level : (ty : ScalarType) (value : Value) (level : Value-F Value) → out-Value value ≡ level → plain (level_datum ty value level) ≡ value
 plain_level ty value (Value-F.Number n) is = sym (rolls-Number n) ∙ ap roll-Value (sym is) ∙ roll-out-Value value
 plain_level ty value (Value-F.Parts all) is = refl
 
-plain_datum : (ty : Option ScalarType) (value : Value) → plain (datum_of ty value) ≡ value
+pub plain_datum : (ty : Option ScalarType) (value : Value) → plain (datum_of ty value) ≡ value
 plain_datum (Some ty) value = plain_level ty value (out-Value value) refl
 plain_datum None value = refl
 

@@ -118,7 +118,7 @@ two_applied : (op : Op) (a : Operand) (n : ℤ) → IfSome (applied_two op a n) 
 two_applied op a n = two_by op a n (takes_two op a.ty && (in_range a.ty a.n && in_range a.ty n)) refl
 
 -- where the left operand decides, it is of the result's type
-bool_is : (s : ScalarType) → is_bool s ≡ true → OfBool ≡ s
+pub bool_is : (s : ScalarType) → is_bool s ≡ true → OfBool ≡ s
 bool_is OfBool is = refl
 bool_is _ is = absurd (cc)
 

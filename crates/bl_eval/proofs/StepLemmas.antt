@@ -11,7 +11,7 @@ use Rattle.bl_eval.specs.Changes.{ended, targets_of}
 use Rattle.bl_eval.specs.Functions.{Flow, GuardedBlock, StmtMeaning, first_true_choice, flow_then, in_order, looped, most_turns}
 use Rattle.bl_eval.specs.Meaning.{Meaning, PathMeaning, PathPosition, View, plain, positions_of, values_of}
 
-put_behind : {A : Type 0} (made : List A) (x : A) (rest : Option (List A))
+pub put_behind : {A : Type 0} (made : List A) (x : A) (rest : Option (List A))
     → option_map (λ xs. (made ++ x ∷ []) ++ xs) rest ≡ option_map (λ xs. made ++ xs) (option_map (λ xs. x ∷ xs) rest)
 put_behind made x None = refl
 put_behind made x (Some xs) = ap Some (append_assoc made (x ∷ []) xs)

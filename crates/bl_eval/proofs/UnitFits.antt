@@ -25,7 +25,7 @@ use Rattle.bl_eval.proofs.PartFits.{if_map}
 use Rattle.bl_eval.proofs.PassLemmas.{all_drop, pass_append, pass_drop, pass_each, pass_take}
 use Rattle.bl_eval.proofs.StmtFits.{FlowFits, block_fits, does_fits}
 
-all_listed : (test : Stmt → Bool) (body : List Stmt) → list_all test body ≡ true → all_of (map test body) ≡ true
+pub all_listed : (test : Stmt → Bool) (body : List Stmt) → list_all test body ≡ true → all_of (map test body) ≡ true
 all_listed test body all = listed test body ∙ all
   where
     listed : (test : Stmt → Bool) (body : List Stmt) → all_of (map test body) ≡ list_all test body
@@ -43,7 +43,7 @@ module _ (structs : List StructDef) (earlier : List UnitDef) (unit : UnitDef) (s
 
 -- ---- functions
 
-frame_fits : (structs : List StructDef) (unit : UnitDef) (arguments : List Value) → structs_stand_from 0 structs ≡ true →
+pub frame_fits : (structs : List StructDef) (unit : UnitDef) (arguments : List Value) → structs_stand_from 0 structs ≡ true →
     list_all (λ var. type_stands (length structs) var.ty) unit.vars ≡ true
     → AllFit structs (parameters_of unit) arguments → AllFit structs unit.vars (frame_of structs unit arguments)
 frame_fits structs unit arguments structs_stand vars_stand given =
@@ -125,7 +125,7 @@ units_take structs earlier (unit ∷ units) (suc k) stand =
     ∙ units_take structs (earlier ++ unit ∷ []) units k
     (and_second (unit_stands structs earlier unit) (units_stand_after structs (earlier ++ unit ∷ []) units) stand)
 
-unit_at : (structs : List StructDef) (earlier units : List UnitDef) (k : ℕ) (unit : UnitDef) →
+pub unit_at : (structs : List StructDef) (earlier units : List UnitDef) (k : ℕ) (unit : UnitDef) →
     units_stand_after structs earlier units ≡ true → slice_get units k ≡ Some unit
     → unit_stands structs (earlier ++ take k units) unit ≡ true
 unit_at structs earlier [] k unit stand there = absurd (cc)

@@ -15,7 +15,7 @@ use Rattle.bl_face.specs.Reading.{ReadsAs, BeginsFace, StopsAtToken, NotFaceAt}
 use Rattle.bl_face.specs.inner.Reader.{nothing_read, run, step, Steps, read_items}
 use Rattle.bl_face.proofs.Viable as viable
 
-lexemes_append : (text : List ℕ) (xs ys : List Token) → lexemes text (xs ++ ys) ≡ lexemes text xs ++ lexemes text ys
+pub lexemes_append : (text : List ℕ) (xs ys : List Token) → lexemes text (xs ++ ys) ≡ lexemes text xs ++ lexemes text ys
 lexemes_append text [] ys = refl
 lexemes_append text (x ∷ xs) ys = ap (λ (ls : List Lexeme). lexeme_at text x ∷ ls) (lexemes_append text xs ys)
 

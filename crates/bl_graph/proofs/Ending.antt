@@ -84,7 +84,7 @@ module _ (control by_data : List GraphEdge) where
     λ holds. Contains-append_right control by_data _ (same.1 holds),
   )
 
-lists_all : (test : GraphEdge → Bool) (es : List GraphEdge) → ((edge : GraphEdge) → Contains es edge → test edge ≡ true) → IsTrue (list_all test es)
+pub lists_all : (test : GraphEdge → Bool) (es : List GraphEdge) → ((edge : GraphEdge) → Contains es edge → test edge ≡ true) → IsTrue (list_all test es)
 lists_all test [] all = refl
 lists_all test (e ∷ es) all =
     subst (λ t. IsTrue (t && list_all test es)) (sym (all e (contains_first e es))) (lists_all test es (λ edge there. all edge (contains_further e es edge there)))

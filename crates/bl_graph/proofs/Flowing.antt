@@ -18,6 +18,7 @@ use Rattle.bl_graph.proofs.Filling.{FullIn}
 use Rattle.bl_graph.proofs.Listing.{HasPair, at_pair, maybe_pair, p_cases, p_left, p_right, pair_at, pair_maybe}
 use Rattle.bl_graph.proofs.Marking.{At, Differ, Is, is_cases, is_left, is_right, names, pick}
 use Rattle.bl_graph.proofs.Sounding.{sound_in}
+use Rattle.bl_graph.proofs.Marking.{is_later}
 
 -- ---- branches
 
@@ -69,9 +70,6 @@ either_more xs vs ys ws n m one two h = (
 first_is : (deep : Bool) (a : Marked) (xs : List Marked) (k : Node) → Is deep (a ∷ []) k → Is deep (a ∷ xs) k
 first_is deep a xs k is = is_left deep (a ∷ []) xs k is
 
-later_is : (deep : Bool) (a : Marked) (xs : List Marked) (k : Node) → Is deep xs k → Is deep (a ∷ xs) k
-later_is deep a xs k is = is_right deep (a ∷ []) xs k is
-
 touches : (x y n m : Node) → n ≡ x → m ≡ y → Touches x y → Touches n m
 touches x y n m one two t = ap (λ k. meets (node_writes k) (node_reads m)) one ∙ ap (λ k. meets (node_writes x) (node_reads k)) two ∙ t
 
@@ -115,14 +113,14 @@ from_between a (b ∷ ys) n m h =
     elim (p_cases (cond (in_same_phase a.mark b.mark) (touching a.node b.node ++ touching b.node a.node) []) (between a ys) n m h) [
       | inl one ↦ either_more (a ∷ []) (a ∷ []) (b ∷ []) (b ∷ ys) n m (λ deep k is. is) (λ deep k is. first_is deep b ys k is)
           (from_pair a b (in_same_phase a.mark b.mark) n m refl one)
-      | inr more ↦ either_more (a ∷ []) (a ∷ []) ys (b ∷ ys) n m (λ deep k is. is) (λ deep k is. later_is deep b ys k is) (from_between a ys n m more)
+      | inr more ↦ either_more (a ∷ []) (a ∷ []) ys (b ∷ ys) n m (λ deep k is. is) (λ deep k is. is_later deep b ys k is) (from_between a ys n m more)
     ]
 
 from_across : (xs ys : List Marked) (n m : Node) → HasPair (across xs ys) n m → Either xs ys n m
 from_across [] ys n m h = elim h [ ]
 from_across (a ∷ xs) ys n m h = elim (p_cases (between a ys) (across xs ys) n m h) [
   | inl one ↦ either_more (a ∷ []) (a ∷ xs) ys ys n m (λ deep k is. first_is deep a xs k is) (λ deep k is. is) (from_between a ys n m one)
-  | inr more ↦ either_more xs (a ∷ xs) ys ys n m (λ deep k is. later_is deep a xs k is) (λ deep k is. is) (from_across xs ys n m more)
+  | inr more ↦ either_more xs (a ∷ xs) ys ys n m (λ deep k is. is_later deep a xs k is) (λ deep k is. is) (from_across xs ys n m more)
 ]
 
 same_test : (test : Bool) (ps : List Pair) (n m : Node) → test ≡ true → HasPair ps n m → HasPair (cond test ps []) n m

@@ -20,7 +20,7 @@ use Rattle.bl_graph.proofs.NoteLemmas.{same_path}
 le_more : (m n : ℕ) → m ≤ n → suc m ≤ suc n
 le_more m n le = omega arith
 
-lt_of : (m n : ℕ) → m ≤ n → (m ≡ n → ⊥) → m < n
+pub lt_of : (m n : ℕ) → m ≤ n → (m ≡ n → ⊥) → m < n
 lt_of m n le other = omega arith
 
 front_is : (xs ys : List ℕ) → is_front xs ys ≡ true → (length xs ≤ length ys) × (xs ≡ take (length xs) ys)

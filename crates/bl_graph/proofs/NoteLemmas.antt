@@ -5,7 +5,6 @@ use Rattle.std.specs.BTreeMap.{is_at}
 use Rattle.std.specs.Cmp.{unsigned_tied}
 use Rattle.std.specs.Cmp.Lexicographic.{slice_cmp}
 use Rattle.std.specs.Map.{lookup}
-use Rattle.std.specs.Ordering.{ordering_then}
 use Rattle.std.specs.Prelude.{unwrap_or}
 use Rattle.std.proofs.lemmas.List.{take_more}
 use Rattle.std.proofs.lemmas.Map.Lookups.{exact_bytes}
@@ -17,13 +16,9 @@ use Rattle.bl_graph.specs.declared.flow.notes.Notes.{Notes}
 use Rattle.bl_graph.specs.inner.Found.{notes_of}
 use Rattle.bl_graph.specs.inner.Noted.{HasNotes, HasNotesAndFronts, Note, front, fronts_of, fronts_to, note, noted_at, numbers_at, with_fronts}
 use Rattle.bl_graph.proofs.MemberLemmas.{each-append}
+use Rattle.bl_effects.proofs.EntryLemmas.{both_equal}
 
 -- ---- equal keys are equal paths
-
-pub both_equal : (r s : Ordering) → is_eq (ordering_then r s) ≡ (is_eq r && is_eq s)
-both_equal Less s = refl
-both_equal Equal s = refl
-both_equal Greater s = refl
 
 is_equal : (r : Ordering) → is_eq r ≡ true → r ≡ Equal
 is_equal Less is = absurd (cc)

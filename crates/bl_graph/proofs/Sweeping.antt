@@ -21,7 +21,7 @@ use Rattle.bl_graph.proofs.MemberLemmas.{each_from, each_to, one_in, upto_from, 
 
 -- ---- lists of paths
 
-any_from : {A : Type 0} (test : A → Bool) (xs : List A) → list_any test xs ≡ true → (x : A) × Contains xs x × (test x ≡ true)
+pub any_from : {A : Type 0} (test : A → Bool) (xs : List A) → list_any test xs ≡ true → (x : A) × Contains xs x × (test x ≡ true)
 any_from test [] is = absurd (no_true is)
   where
     no_true : false ≡ true → ⊥

@@ -13,7 +13,7 @@ use Rattle.bl_graph.specs.Walks.{Walk, on, stay}
 use Rattle.bl_graph.proofs.Passing.{later, passes}
 use Rattle.bl_graph.proofs.Walking.{walk_more, walk_on}
 
-none_in_nothing : (path : Static) → Contains [] path → ⊥
+pub none_in_nothing : (path : Static) → Contains [] path → ⊥
 none_in_nothing path h = let lt : h.0 < 0 = h.1 in omega arith
 
 where_contained : (test : Bool) (paths : List Static) (path : Static) → Contains (cond test paths []) path → (test ≡ true) × Contains paths path

@@ -31,7 +31,7 @@ block_same (s ∷ rest) k block each =
 abbrev body_instant : Arm → Bool
 body_instant arm = all_of (map instant (out-Arm arm).body)
 
-or_same : (a : Bool) → (a || a) ≡ a
+pub or_same : (a : Bool) → (a || a) ≡ a
 or_same true = refl
 or_same false = refl
 

@@ -1,11 +1,11 @@
 -- The joined tokens are nowhere too deep where those of each text aren't: a text closes its blocks, and an item begins a run.
-use Rattle.std.proofs.Common.{◌≡◌, ℕ, zero, suc, ◌+◌, ◌-◌, ◌<◌, ◌≤◌, Bool, true, false, not, List, [], ◌∷◌, ◌++◌, ◌⊎◌, inl, inr, ⊎_elim, length, map, take}
+use Rattle.std.proofs.Common.{◌≡◌, ℕ, zero, suc, ◌+◌, ◌-◌, ◌<◌, ◌≤◌, Bool, true, not, List, [], ◌∷◌, ◌++◌, ◌⊎◌, inl, inr, ⊎_elim, length, map, take}
 use Rattle.std.proofs.Common.{refl, ap, sym, ◌∙◌, subst, arith}
 use Rattle.std.proofs.Math.Seq.{take-append-add}
 use Rattle.std.proofs.lemmas.List.{length-map, take-append-le}
 use Rattle.std.proofs.lemmas.List.Elements.{All-head, All-tail}
 use Rattle.std.proofs.str.Laws.{order}
-use Rattle.std.specs.Prelude.{All, Option, Some, None, slice_get, ⊤}
+use Rattle.std.specs.Prelude.{All, Option, Some, None, ⊤}
 use Rattle.bl_tree.specs.declared.token.Token.{Token}
 use Rattle.bl_tree.specs.declared.token.TokenKind.{TokenKind}
 use Rattle.bl_tree.specs.declared.token.TokenKind.TheVariants.{Sign, Word}
@@ -23,6 +23,7 @@ use Rattle.bl_joined.specs.Texts.{joined_text, joined_tokens, line_feeds, moved_
 use Rattle.bl_joined_laws.specs.Items.{IsRead, ReadText, all_lexed, joined_items}
 use Rattle.bl_joined_laws.proofs.Reach.{items, opens}
 use Rattle.bl_joined_laws.proofs.Trees.{joined_spells}
+use Rattle.bl_parse_laws.proofs.Counts.{at_most}
 
 -- ---- lists of tokens, one after another
 
@@ -175,9 +176,6 @@ at_first (x ∷ tokens) b = let first = b (omega arith) in
   where
     kind_is : (kind : TokenKind) → Some x.kind ≡ Some kind → x.kind ≡ kind
     kind_is kind e = cc
-
-at_most : (n limit : ℕ) → ¬ (limit < n) → n ≤ limit
-at_most n limit never = ⊎_elim (λ more. absurd (never more)) (λ le. le) (order limit n)
 
 sound : (file : ReadText) → IsRead file → PassesDepth file.tokens → Sound file.tokens
 unfolding opens

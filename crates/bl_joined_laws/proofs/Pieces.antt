@@ -17,7 +17,8 @@ use Rattle.bl_lex.specs.Tokens.{IsLongest}
 use Rattle.bl_lex.proofs.PieceLaws.{longest_blank, longest_block_comment, longest_line_comment, longest_word, of_other, of_slash}
 use Rattle.bl_lex.proofs.Signs.{range_two, sign_ends, sign_first}
 use Rattle.bl_lex.proofs.Tables.{is_two_bytes, two_bytes_known}
-use Rattle.bl_joined_laws.proofs.Bytes.{byte, byte_inside, feed, long, range}
+use Rattle.bl_joined_laws.proofs.Bytes.{byte, feed, long, range}
+use Rattle.bl_lex.proofs.RuleLaws.{byte_inside}
 
 -- no sign ends with a line feed
 no_feed : (a : ℕ) → is_two_bytes a 10 ≡ true → ⊥

@@ -101,7 +101,7 @@ fault_begins_nothing text place fault end form p = ⊎_elim
     no_meaning bad same w = bad_word bad (subst (λ (e : ℕ). WordIs text end (slice_range text place.start e) form) same w)
 
 -- a byte other than 0 stands inside the text
-byte_inside : (text : List ℕ) (at byte : ℕ) → get_or text at 0 ≡ byte → 0 < byte → at < length text
+pub byte_inside : (text : List ℕ) (at byte : ℕ) → get_or text at 0 ≡ byte → 0 < byte → at < length text
 byte_inside text at byte is some = ⊎_elim (λ less. less) (λ more. let past = get_or-eq_default text 0 more in absurd (omega arith)) (order at (length text))
 
 pub fault_inside : (text : List ℕ) (place : Place) → IsFault text place → place.start < length text

@@ -27,6 +27,7 @@ use Rattle.bl_limits_measures.specs.Laws.{InstancesAdd, MissingIsNothing}
 use Rattle.bl_limits_measures.specs.Units.{instances_at}
 use Rattle.bl_limits_measures.specs.Uses.{UsesEarlier, UsesEarlierOnly}
 use Rattle.bl_limits_measures_laws.specs.Laws.{InstancesAreCounted}
+use Rattle.bl_limits_measures.proofs.RunLemmas.{shown}
 
 -- ---- `run` statements with their places and activities
 
@@ -81,10 +82,6 @@ in_branch branch each =
     ap placed_runs (fold_out-Branch (Place → List Run) (List Run) (List Run) (List Run) kind_runs arm_runs branch_runs stmt_layer_runs branch)
     ∙ block (out-Branch branch).body each
     ∙ sym (fold_out-Branch (Place → List PlacedRun) (List PlacedRun) (List PlacedRun) (List PlacedRun) placed.kind_runs placed.arm_runs placed.branch_runs placed.stmt_layer_runs branch)
-
--- from each element what is shown of it
-shown : {A : Type 0} (P Q : A → Type 0) → ((x : A) → P x → Q x) → (xs : List A) → All P xs → All Q xs
-shown P Q gives xs all = λ k d within. gives _ (all k d within)
 
 arms_agree : (arms : List Arm) → EachArm Agrees arms → placed_runs (joined (map runs_in_arm arms)) ≡ joined (map placed.runs_in_arm arms)
 arms_agree arms each = in_order runs_in_arm placed.runs_in_arm arms

@@ -25,10 +25,10 @@ Same s = (at : Position) → Alike (plain_stmt s at) (laid s)
 
 -- ---- numbers
 
-max_none : (n : ℕ) → max n 0 ≡ n
+pub max_none : (n : ℕ) → max n 0 ≡ n
 max_none n = omega arith
 
-max_apart : (a b c : ℕ) → max (max a b) c ≡ max a (max b c)
+pub max_apart : (a b c : ℕ) → max (max a b) c ≡ max a (max b c)
 max_apart a b c = omega arith
 
 -- ---- blocks

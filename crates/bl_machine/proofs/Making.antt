@@ -17,7 +17,7 @@ use Rattle.bl_machine.specs.inner.Found.{IsFound}
 
 -- ---- lists whose elements belong together
 
-each_length : {A B : Type 0} (R : A → B → Type 0) (xs : List A) (ys : List B) → EachTwo R xs ys → length xs ≡ length ys
+pub each_length : {A B : Type 0} (R : A → B → Type 0) (xs : List A) (ys : List B) → EachTwo R xs ys → length xs ≡ length ys
 each_length R [] [] each = refl
 each_length R [] (y ∷ ys) each = absurd each
 each_length R (x ∷ xs) [] each = absurd each

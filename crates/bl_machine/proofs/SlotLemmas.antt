@@ -12,7 +12,7 @@ use Rattle.bl_machine.specs.declared.slots.Slot.{Slot}
 use Rattle.bl_machine.specs.Slots.{counters_at, numbered_after, numbered_slots, times}
 
 -- the counters of numbers are those that were numbered
-counters_after : (before rest : List ℕ) → counters_at (numbered_after before rest) ≡ rest
+pub counters_after : (before rest : List ℕ) → counters_at (numbered_after before rest) ≡ rest
 counters_after before [] = refl
 counters_after before (counter ∷ rest) = ap (λ others. counter ∷ others) (counters_after (before ++ counter ∷ []) rest)
 

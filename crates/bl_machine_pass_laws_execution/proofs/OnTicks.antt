@@ -7,7 +7,7 @@ use Rattle.bl_tree.specs.declared.tree.StructDef.{StructDef}
 use Rattle.bl_tree.specs.declared.tree.Unit.{Unit as UnitDef}
 use Rattle.bl_tree.specs.Program.{IsWellTyped as Typed}
 use Rattle.bl_effects.specs.Rules.{Passes}
-use Rattle.bl_graph_nodes.specs.Nodes.{Node, are_instant, entry}
+use Rattle.bl_graph_nodes.specs.Nodes.{Node, entry}
 use Rattle.bl_graph_nodes.specs.Plain.{Block, Bodies, Body as BodyOf, Done, Last, Then, plain_body}
 use Rattle.bl_ctree.specs.Control.{Body, Check}
 use Rattle.bl_ctree.specs.Instances.{Setting, setting_of, unit_at}
@@ -40,11 +40,7 @@ use Rattle.bl_machine_pass_laws_execution.specs.Performs.{AllInContext, AllTurns
 use Rattle.bl_machine_pass_laws_execution.proofs.OnPerforms.Copying.{view_length}
 use Rattle.bl_machine_pass_laws_execution.proofs.OnPerforms.Keeping.{block_apart, block_holds, block_rests}
 use Rattle.bl_machine_pass_laws_execution.specs.Ticks.{Resting, TickExecuted, TicksExecute}
-
-body_open : (body : Block) → are_instant body ≡ false → is_nil (do_block body) ≡ false
-body_open Done e = absurd cc
-body_open (Then s Done) e = refl
-body_open (Then s (Then next rest)) e = refl
+use Rattle.bl_machine_pass_laws_execution.proofs.OnPerforms.Touching.{body_open}
 
 -- ---- waking
 

@@ -25,36 +25,18 @@ use Rattle.bl_ctree.specs.Instances.{Setting, expanded, instances_below, runs_of
 use Rattle.bl_ctree.specs.Store.{Frame, Store, aged, first_frame, first_store, frame_at_first, with_inputs, woken_store, zero_result}
 use Rattle.bl_ctree_laws_typing.specs.Fits.{FrameFits, HasFrame, StoreFits, result_fits}
 use Rattle.bl_ctree_laws_confluence.specs.Deeds.Origins.{InstancesHaveCallers}
-use Rattle.bl_ctree_laws_typing.proofs.OnViews.Running.{types_stand, unit_stands_at}
+use Rattle.bl_ctree_laws_typing.proofs.OnViews.Running.{types_stand}
 use Rattle.bl_machine_pass_laws_typing.proofs.OnFits.Changing.{changed_fits, inputs_fit}
 use Rattle.bl_machine_pass_laws_typing.proofs.OnFits.Doing.{stands_at}
 use Rattle.bl_machine_pass_laws_typing.specs.Starts.{AllStartsFit, StartsFit}
-
-get_mapped : {A B : Type 0} (f : A → B) (xs : List A) (k : ℕ) → slice_get (map f xs) k ≡ option_map f (slice_get xs k)
-get_mapped f [] zero = refl
-get_mapped f [] (suc k) = refl
-get_mapped f (x ∷ xs) zero = refl
-get_mapped f (x ∷ xs) (suc k) = get_mapped f xs k
+use Rattle.bl_eval.proofs.UnitFits.{unit_at as unit_stands_at}
+use Rattle.bl_machine_pass_laws_execution.proofs.OnFresh.Lists.{get_mapped}
+use Rattle.bl_eval.proofs.FitLemmas.{zero_scalar}
 
 -- ---- numbers
 
 number_fits : (structs : List StructDef) (s : ScalarType) (n : ℤ) → in_range s n ≡ true → value_fits structs (scalar s) (Number n) ≡ true
 number_fits structs s n within = fits_scalar (tests_after [] structs) s (Number n) ∙ ap (is_number_of s) (outs-Number n) ∙ within
-
-zero_within : (s : ScalarType) → in_range s (pos 0) ≡ true
-zero_within OfBool = refl
-zero_within (Int W8) = refl
-zero_within (Int W16) = refl
-zero_within (Int W32) = refl
-zero_within (Int W64) = refl
-zero_within (Nat W8) = refl
-zero_within (Nat W16) = refl
-zero_within (Nat W32) = refl
-zero_within (Nat W64) = refl
-zero_within (Bits W8) = refl
-zero_within (Bits W16) = refl
-zero_within (Bits W32) = refl
-zero_within (Bits W64) = refl
 
 -- a number of a column is one of the variable's type
 column_within : (s : ScalarType) (n : ℤ) → in_range (column_type s) n ≡ true → in_range s n ≡ true
@@ -68,7 +50,7 @@ column_within (Bits W64) n h = h
 
 -- ---- rows
 
-some_scalar : (o : Option ScalarType) → is_some o ≡ true → (s : ScalarType) × (o ≡ Some s)
+pub some_scalar : (o : Option ScalarType) → is_some o ≡ true → (s : ScalarType) × (o ≡ Some s)
 some_scalar None h = absurd cc
 some_scalar (Some s) h = (s, refl)
 
@@ -119,7 +101,7 @@ first_fits structs units entry k unit keeps there = record { now = zeros; before
 
     by : (result : Option ScalarType) → result_fits structs result (zero_result result) ≡ true
     by None = refl
-    by (Some s) = number_fits structs s (pos 0) (zero_within s)
+    by (Some s) = number_fits structs s (pos 0) (zero_scalar s)
 
 aged_fits : (structs : List StructDef) (unit : UnitDef) (frame : Frame) → FrameFits structs unit frame → FrameFits structs unit (aged frame)
 aged_fits structs unit frame fits = record { now = fits.now; before = fits.now; result = fits.result }

@@ -1,14 +1,13 @@
 -- The nodes and places of a body have the numbers that their positions have.
-use Rattle.std.proofs.Common.{◌≡◌, inl, inr, ℕ, zero, suc, ◌+◌, Bool, true, false, ◌&&◌, List, [], ◌∷◌, Some}
+use Rattle.std.proofs.Common.{◌≡◌, ℕ, zero, suc, ◌+◌, Bool, true, false, ◌&&◌, List, [], ◌∷◌, Some}
 use Rattle.std.proofs.Common.{if◌then◌else◌}
 use Rattle.std.proofs.Common.{nat_eq, unwrap_or, refl, sym, ap, subst, ◌∙◌, eqb-true, eq-eqb, arith}
-use Rattle.std.specs.Prelude.{bytes_eq, slice_get}
-use Rattle.std.proofs.lemmas.Slice.Eq.{bytes_eq-Decides}
+use Rattle.std.specs.Prelude.{slice_get}
 use Rattle.std.proofs.lemmas.Bool.{and_from}
 use Rattle.bl_tree.proofs.Basics.{and_first, and_second, contains_at, none_is_some, same_some}
 use Rattle.bl_tree.specs.declared.tree.Stmt.{Stmt}
 use Rattle.bl_graph_nodes.specs.Nodes.{Node, label_of, nodes_in}
-use Rattle.bl_graph_nodes.specs.Plain.{Block, Label, plain_body}
+use Rattle.bl_graph_nodes.specs.Plain.{Block, plain_body}
 use Rattle.bl_machine.specs.declared.slots.Slot.{Slot}
 use Rattle.bl_machine_pass.specs.SlotLayout.{EndOf, RestOf, Spot, slot_at, spots_in}
 use Rattle.bl_machine_pass.specs.Numbered.{no_slot, position_where, same_label, same_node, same_spot, slots_of, sort}
@@ -17,48 +16,19 @@ use Rattle.bl_machine_pass_laws.specs.Spots.{Has, SpotsAreDistinct, SpotsDiffer}
 use Rattle.bl_machine_transitions.specs.Callees.{node_number}
 use Rattle.bl_machine_transitions.specs.Listed.{layout_of}
 use Rattle.bl_machine_transitions_laws.proofs.Agreeing.{Agrees, each_agrees}
+use Rattle.bl_machine_pass_laws.proofs.OnSlots.Finding.{found_first, has_at, label_is, label_itself, spot_is, spot_itself}
 
 -- ---- tests
 
-label_is : (l m : Label) → same_label l m ≡ true → l ≡ m
-label_is l m e =
-    let position : l.position ≡ m.position =
-    (bytes_eq-Decides l.position m.position).0 (and_first (bytes_eq l.position m.position) (nat_eq l.passed m.passed) e) in
-    let passed : l.passed ≡ m.passed =
-    eqb-true l.passed m.passed (and_second (bytes_eq l.position m.position) (nat_eq l.passed m.passed) e) in
-    ap (λ p. record { position = p; passed = l.passed }) position ∙ ap (λ n. record { position = m.position; passed = n }) passed
-
-label_itself : (l : Label) → same_label l l ≡ true
-label_itself l =
-    and_from (bytes_eq l.position l.position) (nat_eq l.passed l.passed) ((bytes_eq-Decides l.position l.position).1 refl)
-    (eq-eqb l.passed l.passed refl)
-
-spot_is : (p q : Spot) → same_spot p q ≡ true → p ≡ q
-spot_is (RestOf l) (RestOf m) e = ap RestOf (label_is l m e)
-spot_is (EndOf l j) (EndOf m k) e =
-    let label : l ≡ m = label_is l m (and_first (same_label l m) (nat_eq j k) e) in
-    let number : j ≡ k = eqb-true j k (and_second (same_label l m) (nat_eq j k) e) in
-    ap (λ n. EndOf n j) label ∙ ap (λ n. EndOf m n) number
-spot_is (RestOf l) (EndOf m k) e = absurd cc
-spot_is (EndOf l j) (RestOf m) e = absurd cc
-
-spot_itself : (p : Spot) → same_spot p p ≡ true
-spot_itself (RestOf l) = label_itself l
-spot_itself (EndOf l k) = and_from (same_label l l) (nat_eq k k) (label_itself l) (eq-eqb k k refl)
-
-node_itself : (n : Node) → same_node n n ≡ true
+pub node_itself : (n : Node) → same_node n n ≡ true
 node_itself n =
     and_from (same_label (label_of n) (label_of n)) (nat_eq (sort n) (sort n)) (label_itself (label_of n)) (eq-eqb (sort n) (sort n) refl)
 
 -- ---- positions
 
-past : (b : Bool) (k : ℕ) → (b ≡ true → ⊥) → (if b then 0 else suc k) ≡ suc k
+pub past : (b : Bool) (k : ℕ) → (b ≡ true → ⊥) → (if b then 0 else suc k) ≡ suc k
 past true k none = absurd (none refl)
 past false k none = refl
-
-first : (b : Bool) (k : ℕ) → b ≡ true → (if b then 0 else suc k) ≡ 0
-first true k e = refl
-first false k e = absurd cc
 
 no_suc : (i : ℕ) → 0 ≡ suc i → ⊥
 no_suc i is = absurd (omega arith)
@@ -71,7 +41,7 @@ found : {X : Type 0} (test : X → Bool) (xs : List X) (i : ℕ) (x : X) → sli
     ((j : ℕ) (y : X) → slice_get xs j ≡ Some y → test y ≡ true → j ≡ i) → position_where test xs ≡ i
 found test [] i x is so alone = none_is_some x is
 found test (y ∷ xs) zero x is so alone =
-    first (test y) (position_where test xs) (subst (λ z. test z ≡ true) (sym (same_some y x is)) so)
+    found_first (test y) (position_where test xs) (subst (λ z. test z ≡ true) (sym (same_some y x is)) so)
 found test (y ∷ xs) (suc i) x is so alone =
     past (test y) (position_where test xs) (λ e. no_suc i (alone 0 y refl e))
     ∙ ap suc (found test xs i x is so (λ j z there e. less i j (alone (suc j) z there e)))
@@ -100,11 +70,6 @@ nodes_stand law body order list =
     (let there : i ≡ 0 + i = omega arith in ap (λ k. position_where (nat_eq k) order) (node_at law body i n is ∙ there)))
 
 -- ---- places
-
-has_at : (xs : List Spot) (i : ℕ) (p : Spot) → slice_get xs i ≡ Some p → Has xs p
-has_at [] i p is = none_is_some p is
-has_at (x ∷ xs) zero p is = inl (sym (same_some x p is))
-has_at (x ∷ xs) (suc i) p is = inr (has_at xs i p is)
 
 one_place : (xs : List Spot) → SpotsAreDistinct xs → (i j : ℕ) (p : Spot) → slice_get xs i ≡ Some p → slice_get xs j ≡ Some p → i ≡ j
 one_place [] differ i j p one two = none_is_some p one

@@ -34,6 +34,7 @@ use Rattle.bl_module.specs.declared.taken.Taken.{Taken}
 use Rattle.bl_module.specs.inner.Layers.{NamesFailHere, OwnPasses}
 use Rattle.bl_module.specs.Rules.{FailsIn, OwnFails, PassesIn, TreeFails, TreePasses, here, in_bytes, in_names, in_own, in_tokens}
 use Rattle.bl_module.specs.Rules.{in_tree, in_types, is_last, known_at, known_in, named_in, own_units}
+use Rattle.bl_tree.proofs.FirstLemmas.{all_compared}
 
 -- ---- own units and structs
 
@@ -98,10 +99,6 @@ told_here start marks r at also fails =
     (λ (p : (r ≡ rule.Unknown) × FailsUnknown start marks at also). record { no_walk = ap tells_walk p.0; short = subst IsShort (sym p.1.alone) tt })
     (λ (p : (r ≡ rule.Kind) × FailsKind start marks at also).
     record { no_walk = ap tells_walk p.0; short = subst IsShort (sym p.1.at_declaration) tt }) rest) fails
-
--- where no walk is told, all places are compared
-all_compared : (r : Rule) (at : Place) (also : List Place) → tells_walk r ≡ false → compared r at also ≡ at ∷ also
-all_compared r at also no_walk = ap (λ walk. cond walk (at ∷ []) (at ∷ also)) no_walk
 
 -- the first place decides, and else the further ones
 first_kept : (at other : Place) (xs ys : List Place) → IsShort xs → IsShort ys → AreNoLater (at ∷ xs) (other ∷ ys) →

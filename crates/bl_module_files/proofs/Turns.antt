@@ -5,7 +5,6 @@ use Rattle.std.proofs.lemmas.Bool.{cases_lt}
 use Rattle.std.proofs.lemmas.List.{length-take, length-take-le, take_all}
 use Rattle.std.specs.Prelude.{◌⊎◌, Option, Some, None, IfSome}
 use Rattle.bl_io.specs.Count.{NeverFell, Rose}
-use Rattle.bl_io.specs.declared.fault.IoFault.{IoFault}
 use Rattle.bl_io.specs.declared.fault.IoFault.TheVariants as io
 use Rattle.bl_io.specs.Left.{GivesUpTo, IsKept, KeepsOthers, StandsFurther}
 use Rattle.bl_face.specs.declared.face.Face.{Face}
@@ -242,7 +241,7 @@ module _ {A : Type 0} (f : A → List ℕ) where
       AreFaces before (map f names) faces now
   faces_all names k before now faces over are = subst (λ ns. AreFaces before (map f ns) faces now) (take_all k names over) are
 
-nil_behind : (xs : List (List ℕ)) → xs ++ [] ≡ xs
+pub nil_behind : (xs : List (List ℕ)) → xs ++ [] ≡ xs
 nil_behind [] = refl
 nil_behind (x ∷ xs) = ap (λ rest. x ∷ rest) (nil_behind xs)
 

@@ -1,8 +1,7 @@
 -- The border behind one file more.
-use Rattle.std.proofs.Common.{◌≡◌, ◌∙◌, ℕ, ◌+◌, ◌-◌, ◌<◌, Bool, false, cond, List, [], ◌∷◌, ◌++◌, length, map, None, refl, sym, ap, subst, inl, inr, arith}
+use Rattle.std.proofs.Common.{◌≡◌, ◌∙◌, ℕ, ◌+◌, ◌-◌, ◌<◌, Bool, false, List, [], ◌∷◌, ◌++◌, length, map, None, refl, sym, ap, subst, inl, inr, arith}
 use Rattle.std.proofs.lemmas.Bool.{cases_lt}
 use Rattle.std.proofs.lemmas.List.{append_assoc, length-append, nil_from_length}
-use Rattle.std.proofs.lemmas.List.Sums.{sum_by-append}
 use Rattle.std.proofs.lemmas.Option.{slice_get_past}
 use Rattle.std.specs.List.{list_any}
 use Rattle.std.specs.Prelude.{slice_get}
@@ -15,9 +14,9 @@ use Rattle.bl_module.specs.declared.behind.Behind.{Behind}
 use Rattle.bl_module_laws_faces.specs.Declared.{FaceAdds, face_heading}
 use Rattle.bl_names.specs.Named.{along, units_of}
 use Rattle.bl_names.specs.Order.{order_of}
-use Rattle.bl_names_laws_files.specs.Globals.{DeclareItems, declared_constants, declares_constant, global_positions, name_and_kind, renumber}
+use Rattle.bl_names_laws_files.specs.Globals.{DeclareItems, declared_constants, global_positions, name_and_kind, renumber}
 use Rattle.bl_names_laws_files.specs.Laws.{RenumberedInTurn, declared_globals_with}
-use Rattle.bl_names_scopes.specs.Marks.{Marks, marks_of}
+use Rattle.bl_names_scopes.specs.Marks.{marks_of}
 use Rattle.bl_names_scopes.specs.Scopes.{file_scope, opened_by}
 use Rattle.bl_names_tree.specs.declared.named.Named.{Named}
 use Rattle.bl_parse_tree.specs.declared.item.RawItem.{RawItem}
@@ -37,6 +36,7 @@ use Rattle.bl_module_laws.proofs.Entries.{has_mark, unmarked_both, unmarked_rena
 use Rattle.bl_module_laws.proofs.Globals.{HasAt, globals_there}
 use Rattle.bl_module_laws.proofs.Parts.{NameLaws, TypeLaws, UnitLaws}
 use Rattle.bl_module_laws.proofs.Steps.{NearPasses, alike, front_passes, known_both, named_units, names_far}
+use Rattle.bl_names_laws_files.proofs.Counting.{declared_both}
 
 -- ---- headings
 
@@ -47,9 +47,6 @@ headings_declare (ConstantItem constant ∷ items) = ap (λ them. name_and_kind 
 headings_declare (UnitItem def ∷ items) = ap (λ them. name_and_kind (face_heading (UnitItem def)) ∷ them) (headings_declare items)
 
 -- ---- constants of marks one after another
-
-declared-append : (one two : Marks) → declared_constants (one ++ two) ≡ declared_constants one + declared_constants two
-declared-append one two = sum_by-append (λ mark. cond (declares_constant mark) 1 0) one two
 
 module _ (names : NameLaws) (types : TypeLaws) (named : Named) (front : List RawItem) (f : Place → Place) (raw : Raw) (rest : List RawItem)
     (is : IsNamedOf named (front ++ (map (placed_item f) raw.items ++ rest))) (faces : List Face) (border : Border named front (behind_faces faces))
@@ -128,7 +125,7 @@ module _ (names : NameLaws) (types : TypeLaws) (named : Named) (front : List Raw
       let counted = names.counted file_scope (front ++ own) in
       let size = ap (λ counts. counts.constants) next_known.counts_are in
       let declared = counted.declared in
-      let both = ap declared_constants (names.marks_in_turn front own) ∙ declared-append (marks_of front) (marks_of own) in
+      let both = ap declared_constants (names.marks_in_turn front own) ∙ declared_both (marks_of front) (marks_of own) in
       omega (arith, size, declared, both)
 
   abbrev far_positions : List ℕ

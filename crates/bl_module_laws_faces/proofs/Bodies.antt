@@ -1,6 +1,6 @@
 -- Variables are added alone in the body of a unit.
 use Rattle.std.proofs.Common.{◌≡◌, ℕ, List, [], ◌++◌, length, drop, take, Some, refl, sym, ap, ◌∙◌, append-nil, arith}
-use Rattle.std.specs.Prelude.{Bool, true, false, map, Option, ◌&&◌, is_some, nat_le, option_and_then, slice_get}
+use Rattle.std.specs.Prelude.{Bool, true, false, map, Option, ◌&&◌, is_some, nat_le, option_and_then}
 use Rattle.std.specs.List.{list_all}
 use Rattle.std.proofs.lemmas.Bool.{leb-true}
 use Rattle.std.proofs.lemmas.List.{length-take-le}
@@ -15,7 +15,6 @@ use Rattle.bl_tree.specs.declared.tree.Stmt.{Stmt}
 use Rattle.bl_tree.specs.Program.{is_input, is_output}
 use Rattle.bl_tree.specs.Typing.{TypingContext, fits}
 use Rattle.bl_types.specs.declared.environment.Environment.{Environment}
-use Rattle.bl_types.specs.declared.environment.Variable.{Variable}
 use Rattle.bl_types.specs.Declarations.{Declaring, after_parameters}
 use Rattle.bl_types.specs.Returns.{return_failures}
 use Rattle.bl_types.specs.Statements.{Block, walked_block}
@@ -24,9 +23,7 @@ use Rattle.bl_types_laws.proofs.Blocks.{statements_fit}
 use Rattle.bl_types_laws.proofs.Heads.{ParametersPassed, head_passes, is_local, is_typed_parameter, typed_parameters}
 use Rattle.bl_types_laws.specs.Standing.{BetweenUnits, BlockPassed, Grown, Known, stmt_named, unit_named}
 use Rattle.bl_types_laws.specs.Within.{known_in}
-
-no_variable : (k : ℕ) (known : Variable) → slice_get [] k ≡ Some known → ⊥
-no_variable k known is = absurd (cc)
+use Rattle.bl_types_laws.proofs.ItemTurns.{no_variable}
 
 module _ (constants : List NamedConstant) (unit : NamedUnit) (env : Environment) (between : BetweenUnits env)
     (named : unit_named constants env.units unit ≡ true) (counts : DeclaredBefore) (step : unit_step constants unit (known_in env) ≡ Some counts)

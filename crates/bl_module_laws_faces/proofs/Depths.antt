@@ -7,23 +7,14 @@ use Rattle.std.proofs.lemmas.List.{get_or-take}
 use Rattle.bl_tree.proofs.Basics.{and_first, and_second}
 use Rattle.bl_limits_measures.proofs.TableLemmas.{answer_at}
 use Rattle.bl_limits_measures.proofs.TypeLemmas.{induct}
-use Rattle.bl_limits_measures.specs.Types.{fields_nesting, level_nesting, nesting_by, struct_nestings}
-use Rattle.bl_tree.specs.declared.scalar.Scalar.{Scalar as ScalarType}
+use Rattle.bl_limits_measures.specs.Types.{fields_nesting, nesting_by, struct_nestings}
 use Rattle.bl_tree.specs.declared.tree.Field.{Field}
 use Rattle.bl_tree.specs.declared.tree.StructDef.{StructDef}
 use Rattle.bl_tree.specs.declared.tree.Ty.{Ty, fold-roll-Ty, roll-Ty}
 use Rattle.bl_tree.specs.declared.tree.Ty.TheOpen.{Ty-F}
 use Rattle.bl_tree.specs.Reduce.{greatest}
 use Rattle.bl_tree.specs.Types.{type_stands, type_stands_level}
-
-pub nesting_scalar : (known : List ℕ) (s : ScalarType) → nesting_by known (roll-Ty (Ty-F.Scalar s)) ≡ 0
-nesting_scalar known s = fold-roll-Ty ℕ (level_nesting known) (Ty-F.Scalar s)
-
-pub nesting_struct : (known : List ℕ) (k : ℕ) → nesting_by known (roll-Ty (Ty-F.Struct k)) ≡ slice_index known k
-nesting_struct known k = fold-roll-Ty ℕ (level_nesting known) (Ty-F.Struct k)
-
-pub nesting_array : (known : List ℕ) (n : ℕ) (element : Ty) → nesting_by known (roll-Ty (Ty-F.Array n element)) ≡ 1 + nesting_by known element
-nesting_array known n element = fold-roll-Ty ℕ (level_nesting known) (Ty-F.Array n element)
+use Rattle.bl_limits_measures.proofs.TypeLemmas.{nesting_array, nesting_scalar, nesting_struct}
 
 stands_struct : (n k : ℕ) → type_stands n (roll-Ty (Ty-F.Struct k)) ≡ nat_lt k n
 stands_struct n k = fold-roll-Ty Bool (type_stands_level n) (Ty-F.Struct k)

@@ -77,7 +77,7 @@ get_next [] rest x k is = ap (slice_get (x ∷ rest)) (sym is)
 get_next (y ∷ before) rest x zero is = absurd (omega (arith, is))
 get_next (y ∷ before) rest x (suc k) is = get_next before rest x k (omega (arith, is))
 
-length_next : {A : Type 0} (before : List A) (x : A) (k : ℕ) → length before ≡ k → length (before ++ x ∷ []) ≡ k + 1
+pub length_next : {A : Type 0} (before : List A) (x : A) (k : ℕ) → length before ≡ k → length (before ++ x ∷ []) ≡ k + 1
 length_next before x k is = let one = length-append before (x ∷ []) in omega (arith, is, one)
 
 module _ (constants : List Constant) where

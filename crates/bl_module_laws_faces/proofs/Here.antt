@@ -3,7 +3,6 @@ use Rattle.std.proofs.Common.{◌≡◌, suc, ◌+◌, true, List, [], ◌∷◌
 use Rattle.std.specs.List.{list_all}
 use Rattle.std.proofs.lemmas.List.{map-append}
 use Rattle.bl_tree.proofs.Basics.{and_first, and_second}
-use Rattle.bl_eval.proofs.PassLemmas.{get_seam}
 use Rattle.bl_module_laws_faces.proofs.Fresh.{Fresh, fresh_first, fresh_second}
 use Rattle.bl_names.proofs.FitLemmas.{Fits, fits_first, fits_second}
 use Rattle.bl_names.proofs.ItemLemmas.{struct_scopes, unit_scopes}
@@ -15,15 +14,14 @@ use Rattle.bl_names.proofs.StillLemmas.{after-append, still_value}
 use Rattle.bl_names.specs.Named.{along, block_piece, constants_in_unit, constants_of, named_constant, named_struct, named_unit, opened, params_piece}
 use Rattle.bl_names.specs.Named.{structs_of, units_of}
 use Rattle.bl_names_scopes.specs.declared.kind.Kind.TheVariants as kinds
-use Rattle.bl_names_scopes.specs.declared.scopes.Counts.{Counts}
 use Rattle.bl_names_scopes.specs.Marks.{constant_marks, declares, expr_marks, kind_of_unit, marks_of, optional, struct_marks, type_marks, unit_marks}
-use Rattle.bl_names_scopes.specs.Scopes.{Scopes, after, count_of, counted, enter}
+use Rattle.bl_names_scopes.specs.Scopes.{Scopes, after, enter}
 use Rattle.bl_names_tree.specs.declared.item.Item.TheVariants as next_kind
 use Rattle.bl_names_tree.specs.declared.item.NamedConstant.{NamedConstant}
 use Rattle.bl_names_tree.specs.declared.item.NamedStruct.{NamedStruct}
 use Rattle.bl_names_tree.specs.declared.item.NamedUnit.{NamedUnit}
 use Rattle.bl_names_tree.specs.declared.named.Named.{Named}
-use Rattle.bl_names_tree.specs.Placed.{DeclaredBefore, constant_placed, holds_of, struct_placed, unit_step}
+use Rattle.bl_names_tree.specs.Placed.{DeclaredBefore, constant_placed, struct_placed, unit_step}
 use Rattle.bl_parse_tree.specs.declared.item.RawItem.{RawItem}
 use Rattle.bl_parse_tree.specs.declared.item.RawItem.TheVariants as item
 use Rattle.bl_parse_tree.specs.declared.item.RawStruct.{RawStruct}
@@ -34,7 +32,6 @@ use Rattle.bl_tree.specs.declared.tree.StructDef.{StructDef}
 use Rattle.bl_tree.specs.declared.tree.Unit.{Unit as UnitDef}
 use Rattle.bl_tree.specs.declared.tree.UnitKind.{UnitKind}
 use Rattle.bl_tree.specs.declared.tree.UnitKind.TheVariants as unit
-use Rattle.bl_tree.specs.Typing.{is_activity, is_function}
 use Rattle.bl_types.specs.declared.environment.Environment.{Environment}
 use Rattle.bl_types.specs.Declarations.{after_constant, after_struct, constant_of, initial, struct_of}
 use Rattle.bl_types.specs.Programs.{after_item}
@@ -47,10 +44,11 @@ use Rattle.bl_types_laws.proofs.Reached.{At, constant_next, no_more, one_more, s
 use Rattle.bl_types_laws.proofs.Standing.{made_of, units_made}
 use Rattle.bl_types_laws.proofs.StmtNames.{value_is}
 use Rattle.bl_types_laws.proofs.Suits.{Suits}
-use Rattle.bl_types_laws.proofs.Told.{Told, kind_told, kinds_of, told_declared, told_more}
+use Rattle.bl_types_laws.proofs.Told.{Told, kinds_of, told_declared, told_more}
 use Rattle.bl_types_laws.proofs.Units.{unit_passes}
 use Rattle.bl_types_laws.specs.Standing.{UnitPassed, unit_named}
 use Rattle.bl_types_laws.specs.Within.{calls_functions, known_in}
+use Rattle.bl_types_laws.proofs.ItemNames.{unit_told}
 
 -- the items that are still to come, whose names pass, and what is known before them
 pub record Here (named : Named) (scopes : Scopes) (items : List RawItem) (env : Environment) : Type 0 where
@@ -173,15 +171,6 @@ module _ (named : Named) (def : RawConstant) (items : List RawItem) (scopes : Sc
       }
 
 -- ---- behind a unit
-
-pub unit_counted : (kind : UnitKind) (counts : Counts) → counted counts (kind_of_unit kind) ≡ record counts { units = counts.units + 1; variables = 0 }
-unit_counted unit.Function counts = refl
-unit_counted unit.Activity counts = refl
-
-pub unit_told : (done : List UnitKind) (kind : UnitKind) (counts : Counts) → counts.units ≡ length done →
-    kind_told (done ++ (kind ∷ [])) (kind_of_unit kind) (count_of counts (kind_of_unit kind)) ≡ true
-unit_told done unit.Function counts is = ap (holds_of is_function) (get_seam done unit.Function counts.units is)
-unit_told done unit.Activity counts is = ap (holds_of is_activity) (get_seam done unit.Activity counts.units is)
 
 abbrev pub kind_made : UnitDef → UnitKind
 kind_made unit = unit.kind

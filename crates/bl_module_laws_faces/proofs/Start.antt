@@ -1,5 +1,5 @@
 -- What faces that stand declare, as a text behind them begins with it.
-use Rattle.std.proofs.Common.{◌≡◌, ℕ, ◌+◌, ◌<◌, true, List, [], ◌∷◌, ◌++◌, length, map, inr, Option, Some, None, refl, sym, ap, subst, ◌∙◌, append-nil}
+use Rattle.std.proofs.Common.{◌≡◌, ℕ, ◌+◌, ◌<◌, true, List, [], ◌∷◌, ◌++◌, length, map, Option, Some, None, refl, sym, ap, subst, ◌∙◌, append-nil}
 use Rattle.std.proofs.Common.{append_assoc, arith}
 use Rattle.std.specs.Prelude.{Bool, ℤ, ◌&&◌, nat_le, nat_lt, slice_get, slice_index}
 use Rattle.std.specs.List.{list_all}
@@ -26,12 +26,12 @@ use Rattle.bl_module.specs.Rules.{known_at}
 use Rattle.bl_module_laws_faces.proofs.Adding.{one_behind}
 use Rattle.bl_module_laws_faces.proofs.Constants.{no_constant, no_struct}
 use Rattle.bl_module_laws_faces.proofs.Depths.{depth_at}
-use Rattle.bl_module_laws_faces.proofs.Here.{kind_made, kind_named, kinds_long, unit_counted, unit_told}
+use Rattle.bl_module_laws_faces.proofs.Here.{kind_made, kind_named, kinds_long}
 use Rattle.bl_module_laws_faces.proofs.Lookups.{absent_alike, texts_back}
 use Rattle.bl_module_laws_faces.proofs.Scoped.{NamesAgree, names_next}
 use Rattle.bl_module_laws_faces.proofs.Types.{DepthsTold, some_struct, type_nests}
 use Rattle.bl_module_laws_faces.proofs.Units.{no_kind}
-use Rattle.bl_names.proofs.BelowLemmas.{Below, DeclarationBelow, Grown, constant_below, declare_below, struct_below}
+use Rattle.bl_names.proofs.BelowLemmas.{Below, Grown, constant_below, declare_below, struct_below}
 use Rattle.bl_names.proofs.StillLemmas.{after-append}
 use Rattle.bl_names.specs.Named.{blank_constant, blank_struct, blank_unit, blanks}
 use Rattle.bl_names_scopes.specs.declared.heading.Heading.{Heading}
@@ -40,7 +40,7 @@ use Rattle.bl_names_scopes.specs.declared.kind.Kind.TheVariants as kind
 use Rattle.bl_names_scopes.specs.declared.scopes.Counts.{Counts}
 use Rattle.bl_names_scopes.specs.declared.scopes.Declaration.{Declaration}
 use Rattle.bl_names_scopes.specs.Marks.{declares, kind_of_unit}
-use Rattle.bl_names_scopes.specs.Scopes.{Scopes, after, count_of, counted, declaration_of, enter, file_scope, found, heading_mark, opened_by}
+use Rattle.bl_names_scopes.specs.Scopes.{Scopes, after, counted, enter, file_scope, found, heading_mark, opened_by}
 use Rattle.bl_parse_tree.specs.declared.name.Name.{Name}
 use Rattle.bl_tree.proofs.ReduceLemmas.{joined-append}
 use Rattle.bl_tree.specs.declared.scalar.Scalar.{Scalar as ScalarType}
@@ -61,6 +61,10 @@ use Rattle.bl_types_laws.proofs.Told.{Told, kinds_of, told_declared, told_more}
 use Rattle.bl_types_laws.proofs.Turns.{push_further}
 use Rattle.bl_types_laws.specs.Standing.{BetweenUnits, VariableKnown}
 use Rattle.bl_types_laws.specs.Within.{ConstantStands, has_parameters}
+use Rattle.bl_names.proofs.PlacedItem.{unit_counted, unit_declared}
+use Rattle.bl_module_laws_faces.proofs.Elements.{length_next}
+use Rattle.bl_types_laws.proofs.ItemNames.{unit_told}
+use Rattle.bl_types_laws.proofs.ItemTurns.{no_struct as no_struct_there}
 
 -- ---- a heading more
 
@@ -158,9 +162,6 @@ more_blanks blank headings heading n m one two =
     ap length (blanks_next blank headings heading) ∙ length-append (blanks blank headings) (blank heading.kind heading.name)
     ∙ ap (λ n. n + length (blank heading.kind heading.name)) one ∙ sym two
 
-one_counted : {A : Type 0} (xs : List A) (x : A) (n : ℕ) → length xs ≡ n → length (xs ++ x ∷ []) ≡ n + 1
-one_counted xs x n is = length-append xs (x ∷ []) ∙ ap (λ n. n + 1) is
-
 -- ---- a unit more
 
 unit_grown : (of : UnitKind) (counts : Counts) → counts.variables ≡ 0 → Grown counts (counted counts (kind_of_unit of))
@@ -176,14 +177,6 @@ unit_grown Activity counts none kind.Variable = omega (arith, none)
 unit_grown Activity counts none kind.Function = omega arith
 unit_grown Activity counts none kind.Activity = omega arith
 unit_grown Activity counts none kind.Field = omega arith
-
-less_one : (n m : ℕ) → m ≡ n + 1 → n < m
-less_one n m is = omega arith
-
-unit_declared : (of : UnitKind) (name : Name) (counts : Counts) →
-    DeclarationBelow (counted counts (kind_of_unit of)) (declaration_of name (kind_of_unit of) (count_of counts (kind_of_unit of)))
-unit_declared Function name counts = inr (less_one counts.units (counts.units + 1) refl)
-unit_declared Activity name counts = inr (less_one counts.units (counts.units + 1) refl)
 
 no_blank_struct : (of : UnitKind) (name : Name) (n : ℕ) → n ≡ n + length (blank_struct (kind_of_unit of) name)
 no_blank_struct Function name n = omega arith
@@ -251,7 +244,7 @@ module _ (nestings : List ℕ) (walk : Walk) (scopes : Scopes) (begins : Begins 
               (sym is_deep ∙ sym deep ∙ ap (slice_index nestings) is_at, omega (arith, is_at, more)));
           below = struct_below scopes (name_at name) begins.below;
           none = begins.none;
-          structs = one_counted walk.behind.structs made scopes.counts.structs begins.structs;
+          structs = length_next walk.behind.structs made scopes.counts.structs begins.structs;
           constants = begins.constants;
           units = begins.units;
           between = record {
@@ -292,7 +285,7 @@ module _ (nestings : List ℕ) (walk : Walk) (scopes : Scopes) (begins : Begins 
       below = constant_below scopes (name_at name) begins.below;
       none = begins.none;
       structs = begins.structs;
-      constants = one_counted walk.behind.constants one scopes.counts.constants begins.constants;
+      constants = length_next walk.behind.constants one scopes.counts.constants begins.constants;
       units = begins.units;
       between = record {
         vars = refl;
@@ -359,7 +352,7 @@ module _ (nestings : List ℕ) (walk : Walk) (scopes : Scopes) (begins : Begins 
       none = ap (λ (c : Counts). c.variables) counted_is;
       structs = begins.structs ∙ sym (ap (λ (c : Counts). c.structs) counted_is);
       constants = begins.constants ∙ sym (ap (λ (c : Counts). c.constants) counted_is);
-      units = one_counted walk.behind.units head scopes.counts.units begins.units ∙ sym (ap (λ (c : Counts). c.units) counted_is);
+      units = length_next walk.behind.units head scopes.counts.units begins.units ∙ sym (ap (λ (c : Counts). c.units) counted_is);
       between = record {
         vars = refl;
         known = record {
@@ -426,9 +419,6 @@ nothing_stands text at depth is = absurd (cc)
 
 no_constant_there : (k : ℕ) (constant : KnownConstant) → slice_get [] k ≡ Some constant → ⊥
 no_constant_there k constant is = absurd (cc)
-
-no_struct_there : (k : ℕ) (def : StructDef) → slice_get [] k ≡ Some def → ⊥
-no_struct_there k def is = absurd (cc)
 
 nothing_bound : (text : List ℕ) (d : Declaration) → None ≡ Some d → ⊥
 nothing_bound text d is = absurd (cc)

@@ -22,12 +22,12 @@ use Rattle.bl_module_laws_faces.proofs.Here.{Here, here_struct, struct_chosen, s
 use Rattle.bl_module_laws_faces.proofs.Scoped.{NamesAgree, names_next, new_alike}
 use Rattle.bl_names.proofs.FitLemmas.{Fits, fits_first}
 use Rattle.bl_names.proofs.ItemLemmas.{struct_scopes}
-use Rattle.bl_names.proofs.StillLemmas.{Still, after-append, still_append, still_type}
+use Rattle.bl_names.proofs.StillLemmas.{still_append}
 use Rattle.bl_names.specs.Named.{named_field, named_struct, opened}
 use Rattle.bl_names.specs.Order.{order_of}
 use Rattle.bl_names_scopes.specs.declared.kind.Kind.TheVariants as kind
-use Rattle.bl_names_scopes.specs.Marks.{Marks, closes, declares, field_mark, field_type_marks, in_scope, struct_marks, type_marks}
-use Rattle.bl_names_scopes.specs.Scopes.{Scopes, after, enter, found, scopes_outside}
+use Rattle.bl_names_scopes.specs.Marks.{Marks, closes, declares, field_mark, field_type_marks, in_scope, struct_marks}
+use Rattle.bl_names_scopes.specs.Scopes.{Scopes, after, found}
 use Rattle.bl_names_tree.specs.declared.named.Named.{Named}
 use Rattle.bl_names_tree.specs.Placed.{DeclaredBefore}
 use Rattle.bl_parse_tree.specs.declared.item.RawField.{RawField}
@@ -47,24 +47,7 @@ use Rattle.bl_types_laws_places.specs.Agree.{unplaced}
 use Rattle.bl_module_laws_faces.proofs.Adding.{Adding, Adds, Agrees, Shallow, absent_behind, adds_first, by_first, next_at, one_behind, pushed}
 use Rattle.bl_module_laws_faces.proofs.Adding.{same_long}
 use Rattle.bl_module_laws_faces.proofs.Elements.{FieldsShown}
-
-still_types : (fields : List RawField) → Still (joined (map field_type_marks fields))
-still_types [] scopes = refl
-still_types (field ∷ fields) scopes =
-    still_append (type_marks field.ty) (joined (map field_type_marks fields)) (still_type field.ty) (still_types fields) scopes
-
-fields_outer : (fields : List RawField) (scopes : Scopes) → (after scopes (map field_mark fields)).outer ≡ scopes.outer
-fields_outer [] scopes = refl
-fields_outer (field ∷ fields) scopes = fields_outer fields (enter scopes (field_mark field))
-
-fields_counts : (fields : List RawField) (scopes : Scopes) → (after scopes (map field_mark fields)).counts ≡ scopes.counts
-fields_counts [] scopes = refl
-fields_counts (field ∷ fields) scopes = fields_counts fields (enter scopes (field_mark field))
-
-still_fields : (fields : List RawField) → Still (in_scope (map field_mark fields))
-still_fields fields scopes =
-    after-append (opened scopes) (map field_mark fields) (closes ∷ [])
-    ∙ (λ i. scopes_outside (fields_outer fields (opened scopes) i) (fields_counts fields (opened scopes) i))
+use Rattle.bl_names.proofs.ItemLemmas.{still_fields, still_types}
 
 known_are : (env : Environment) (scopes : Scopes) (fields : List RawField) →
     map (field_of env) (map (named_field scopes) fields) ≡ typed_fields env.constants scopes fields

@@ -14,7 +14,6 @@ use Rattle.bl_module.specs.declared.names.Referent.{Referent}
 use Rattle.bl_module.specs.declared.names.Referent.TheVariants as referent
 use Rattle.bl_module.specs.Names.{DeclaredNames, referent_of}
 use Rattle.bl_module.specs.Own.{base_of, lengths_level, lengths_of}
-use Rattle.bl_module_laws_faces.proofs.Depths.{nesting_array, nesting_scalar, nesting_struct}
 use Rattle.bl_names.proofs.FitLemmas.{Fits, fits_behind}
 use Rattle.bl_names.proofs.StillLemmas.{still_length}
 use Rattle.bl_names.specs.Naming.{named_length, named_type, position, position_of}
@@ -37,6 +36,7 @@ use Rattle.bl_tree.specs.declared.tree.Ty.TheVariants as type
 use Rattle.bl_tree.specs.Types.{type_stands, type_stands_level}
 use Rattle.bl_types.specs.declared.environment.Constant.{Constant}
 use Rattle.bl_types.specs.Written.{or_zero, type_level, written_length, written_type}
+use Rattle.bl_limits_measures.proofs.TypeLemmas.{nesting_array, nesting_scalar, nesting_struct}
 
 -- a name for a struct at some position, nested so deep
 pub record StandsForStruct (names : DeclaredNames) (text : List ℕ) (at : ℕ) : Type 0 where

@@ -36,9 +36,7 @@ use Rattle.bl_names_tree.specs.declared.named.Named.{Named}
 use Rattle.bl_parse_tree.specs.declared.raw.Raw.{Raw}
 use Rattle.bl_parse_tree.specs.WellFormed.{RawIsWellFormed}
 use Rattle.bl_rules.proofs.Layers.{TokensAreOne, TreesAreOne, one_tree}
-use Rattle.bl_tree.proofs.FirstLemmas.{in_contains}
 use Rattle.bl_tree.proofs.ReduceLemmas.{joined-append}
-use Rattle.bl_tree.specs.declared.rule.Failure.{Failure}
 use Rattle.bl_tree.specs.declared.rule.Rule.TheVariants as rule
 use Rattle.bl_tree.specs.declared.tree.StructDef.{StructDef}
 use Rattle.bl_tree.specs.declared.tree.Var.{Var}
@@ -54,12 +52,9 @@ use Rattle.bl_lex.specs.Tokens.{Lexes}
 use Rattle.bl_parse.specs.Programs.{Spells}
 use Rattle.bl_parse_syntax.specs.Rules.{PassesDepth}
 use Rattle.bl_tree.specs.declared.token.Token.{Token}
+use Rattle.bl_types_laws.proofs.ItemTurns.{none_contained}
 
 -- ---- what passes
-
-none_contained : (xs : List Failure) → ((failure : Failure) → Contains xs failure → ⊥) → xs ≡ []
-none_contained [] none = refl
-none_contained (failure ∷ rest) none = absurd (none failure (in_contains failure (failure ∷ rest) (inl refl)))
 
 no_failure : (last : Bool) (env : Environment) (named : Named) → TypesPass last env named → failures_behind last env named ≡ []
 no_failure last env named passes =

@@ -30,20 +30,20 @@ use Rattle.bl_names.proofs.StillLemmas.{Still, after-append, still_append, still
 
 -- ---- structs
 
-still_types : (fields : List RawField) → Still (joined (map field_type_marks fields))
+pub still_types : (fields : List RawField) → Still (joined (map field_type_marks fields))
 still_types [] scopes = refl
 still_types (field ∷ fields) scopes =
     still_append (type_marks field.ty) (joined (map field_type_marks fields)) (still_type field.ty) (still_types fields) scopes
 
-fields_outer : (fields : List RawField) (scopes : Scopes) → (after scopes (map field_mark fields)).outer ≡ scopes.outer
+pub fields_outer : (fields : List RawField) (scopes : Scopes) → (after scopes (map field_mark fields)).outer ≡ scopes.outer
 fields_outer [] scopes = refl
 fields_outer (field ∷ fields) scopes = fields_outer fields (enter scopes (field_mark field))
 
-fields_counts : (fields : List RawField) (scopes : Scopes) → (after scopes (map field_mark fields)).counts ≡ scopes.counts
+pub fields_counts : (fields : List RawField) (scopes : Scopes) → (after scopes (map field_mark fields)).counts ≡ scopes.counts
 fields_counts [] scopes = refl
 fields_counts (field ∷ fields) scopes = fields_counts fields (enter scopes (field_mark field))
 
-still_fields : (fields : List RawField) → Still (in_scope (map field_mark fields))
+pub still_fields : (fields : List RawField) → Still (in_scope (map field_mark fields))
 still_fields fields scopes =
     after-append (opened scopes) (map field_mark fields) (closes ∷ [])
     ∙ (λ i. scopes_outside (fields_outer fields (opened scopes) i) (fields_counts fields (opened scopes) i))

@@ -83,7 +83,7 @@ pub record ParamsHold (e : DeclaredBefore) (test : Role → Bool) (scopes new : 
   pub roles : list_all (λ var. test var.role) vars ≡ true
   pub long : length vars ≡ count
 
-counted_on : (a b c n : ℕ) → b ≡ a + 1 → c ≡ b + n → c ≡ a + suc n
+pub counted_on : (a b c n : ℕ) → b ≡ a + 1 → c ≡ b + n → c ≡ a + suc n
 counted_on a b c n one two = omega arith
 
 params_hold : (e : DeclaredBefore) (role : Role) (test : Role → Bool) → test role ≡ true → (params : List RawParam) (scopes : Scopes)
@@ -141,7 +141,7 @@ pub record HeadHolds (scopes : Scopes) (def : RawUnit) (two : Scopes) (ins outs 
   pub ins_long : length ins ≡ length def.inputs
   pub outs_long : length outs ≡ length def.outputs
 
-two_more : (a b c m n : ℕ) → a ≡ 0 → b ≡ a + m → c ≡ b + n → c ≡ m + n
+pub two_more : (a b c m n : ℕ) → a ≡ 0 → b ≡ a + m → c ≡ b + n → c ≡ m + n
 two_more a b c m n none one two = omega arith
 
 abbrev ins_of : RawUnit → Marks
@@ -232,14 +232,14 @@ inside_are def =
     ++ (optional type_marks def.result ++ sym (block_marks def.body) i)))
     ∙ sym (append_assoc (ins_of def) (outs_of def) (optional type_marks def.result ++ (block_piece def.body).marks))
 
-unit_counted : (kind : UnitKind) (counts : Counts) → counted counts (kind_of_unit kind) ≡ record counts { units = counts.units + 1; variables = 0 }
+pub unit_counted : (kind : UnitKind) (counts : Counts) → counted counts (kind_of_unit kind) ≡ record counts { units = counts.units + 1; variables = 0 }
 unit_counted unit.Function counts = refl
 unit_counted unit.Activity counts = refl
 
-less_one : (n m : ℕ) → m ≡ n + 1 → n < m
+pub less_one : (n m : ℕ) → m ≡ n + 1 → n < m
 less_one n m is = omega arith
 
-unit_declared : (kind : UnitKind) (name : Name) (counts : Counts)
+pub unit_declared : (kind : UnitKind) (name : Name) (counts : Counts)
     → DeclarationBelow (counted counts (kind_of_unit kind)) (declaration_of name (kind_of_unit kind) (count_of counts (kind_of_unit kind)))
 unit_declared unit.Function name counts = inr (less_one counts.units (counts.units + 1) refl)
 unit_declared unit.Activity name counts = inr (less_one counts.units (counts.units + 1) refl)

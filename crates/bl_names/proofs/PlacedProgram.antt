@@ -144,7 +144,7 @@ module _ (named : Named) where
             (after new (marks_of items)).counts.units first.more_units later.more_units;
       })
 
-whole : {A : Type 0} (xs : List A) → Within xs 0 xs
+pub whole : {A : Type 0} (xs : List A) → Within xs 0 xs
 whole xs = record { before = []; rest = []; there = sym (append-nil xs); is_at = refl }
 
 pub is_placed : (items : List RawItem) (bytes : ℕ) → Passes items → IsPlaced (named_program items bytes)

@@ -153,7 +153,7 @@ holds_closed reached scopes inner vars constants holds = record {
   locals = holds.locals;
 }
 
-scope_is : (scopes : Scopes) (marks : Marks) → (after (opened scopes) marks).outer ≡ scopes.inner ∷ scopes.outer →
+pub scope_is : (scopes : Scopes) (marks : Marks) → (after (opened scopes) marks).outer ≡ scopes.inner ∷ scopes.outer →
     after scopes (in_scope marks) ≡ record scopes { counts = (after (opened scopes) marks).counts }
 scope_is scopes marks is = after-append (opened scopes) marks (closes ∷ []) ∙ closed_is scopes (after (opened scopes) marks) is
 

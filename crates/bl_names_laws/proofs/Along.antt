@@ -36,7 +36,7 @@ along_holds premise gives test each = along_under (λ scopes items. list_all pre
 
 -- ---- between items no variable is counted
 
-unit_counted : (kind : UnitKind) (counts : Counts) → (counted counts (kind_of_unit kind)).variables ≡ 0
+pub unit_counted : (kind : UnitKind) (counts : Counts) → (counted counts (kind_of_unit kind)).variables ≡ 0
 unit_counted unit.Function counts = refl
 unit_counted unit.Activity counts = refl
 

@@ -84,7 +84,7 @@ from_earlier m n k most is = by_order (leb-true n k is)
     by_order : n ≤ k → from m k ≡ true
     by_order one = le-leb m k (omega arith)
 
-or_weaker : (a b c : Bool) → (b ≡ true → c ≡ true) → (a || b) ≡ true → (a || c) ≡ true
+pub or_weaker : (a b c : Bool) → (b ≡ true → c ≡ true) → (a || b) ≡ true → (a || c) ≡ true
 or_weaker true b c weaker is = refl
 or_weaker false b c weaker is = weaker is
 

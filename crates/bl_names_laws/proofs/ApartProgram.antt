@@ -43,7 +43,7 @@ low_params role (param ∷ params) scopes low =
     (subst Low (enter-behind scopes (type_marks param.ty) param.name kind.Variable (still_type param.ty)) (low_variable scopes param.name low)))
 
 -- what fits in a unit fits behind its parameters in its body
-body_fits : (scopes : Scopes) (def : RawUnit) → Fits scopes (inside_unit def) → Fits (after scopes (params_piece def).marks) (block_piece def.body).marks
+pub body_fits : (scopes : Scopes) (def : RawUnit) → Fits scopes (inside_unit def) → Fits (after scopes (params_piece def).marks) (block_piece def.body).marks
 body_fits scopes def fits =
     let ins = joined (map param_marks def.inputs) in
     let outs = joined (map param_marks def.outputs) in

@@ -65,7 +65,7 @@ role_apart role (param ∷ params) scopes names fresh rest =
     (role_apart role params middle names (fresh_second scopes (param_marks param) marks fresh)
     (subst (λ s. Differ s.inner names) (after-append scopes (param_marks param) marks) rest))
 
-role_long : (role : Role) (params : List RawParam) (scopes : Scopes) → length ((role_piece role params).vars scopes) ≡ length params
+pub role_long : (role : Role) (params : List RawParam) (scopes : Scopes) → length ((role_piece role params).vars scopes) ≡ length params
 role_long role [] scopes = refl
 role_long role (param ∷ params) scopes = ap (λ n. suc n) (role_long role params (after scopes (param_marks param)))
 

@@ -48,7 +48,7 @@ mark_parts = map-RawExprKind RawExprKind RawPart RawExpr RawTarget Marks Marks M
 marks_at : (place : Place) (layer : RawLayer) → expr_marks (expr place layer) ≡ kind_marks (mark_parts layer)
 marks_at place layer = rw (fold-roll-RawExpr, fold-roll-RawExprKind) refl
 
-still_part : (part : RawPart) (layer : RawPart-F RawExprKind RawPart RawExpr RawTarget) → out-RawPart part ≡ layer → Still (marks_of_part part)
+pub still_part : (part : RawPart) (layer : RawPart-F RawExprKind RawPart RawExpr RawTarget) → out-RawPart part ≡ layer → Still (marks_of_part part)
 still_part part (RawPart-F.Field name) is =
     rw (fold_out-RawPart Marks Marks Marks (Wanted → Marks) kind_marks part_marks expr_layer_marks target_layer_marks part, is) (λ scopes. refl)
 still_part part (RawPart-F.Index e) is =
@@ -56,7 +56,7 @@ still_part part (RawPart-F.Index e) is =
 
 -- ---- what a use is bound to
 
-is_variable : (kind : Kind) → suits wants.Variable kind ≡ true → kind ≡ kinds.Variable
+pub is_variable : (kind : Kind) → suits wants.Variable kind ≡ true → kind ≡ kinds.Variable
 is_variable kinds.Struct suited = absurd (cc)
 is_variable kinds.Constant suited = absurd (cc)
 is_variable kinds.Variable suited = refl
@@ -64,7 +64,7 @@ is_variable kinds.Function suited = absurd (cc)
 is_variable kinds.Activity suited = absurd (cc)
 is_variable kinds.Field suited = absurd (cc)
 
-root_only : (test : ℕ → Bool) (kind : Kind) (k : ℕ) → suits wants.Value kind ≡ true → (kind ≡ kinds.Variable → test k ≡ true)
+pub root_only : (test : ℕ → Bool) (kind : Kind) (k : ℕ) → suits wants.Value kind ≡ true → (kind ≡ kinds.Variable → test k ≡ true)
     → list_all test (roots_of (root_at kind k)) ≡ true
 root_only test kinds.Struct k suited only = absurd (cc)
 root_only test kinds.Constant k suited only = refl

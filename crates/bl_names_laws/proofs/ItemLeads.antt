@@ -48,6 +48,7 @@ use Rattle.bl_names_laws.proofs.Bindings.{bindings, bindings_append, bindings_be
 use Rattle.bl_names_laws.proofs.ExprLeads.{joined_led, optional_led, type_led}
 use Rattle.bl_names_laws.proofs.Listed.{Listed, at_position, declare_listed}
 use Rattle.bl_names_laws.proofs.StmtLeads.{Good, Leading, constant_leading, every_block, good_all, good_then, lead_all, variable_leading}
+use Rattle.bl_names.proofs.PlacedProgram.{whole}
 
 module _ (named : Named) where
   -- ---- structs
@@ -335,9 +336,6 @@ module _ (named : Named) where
       (λ i. first.is_led i ++ items_lead named (map kind_of_item items) (first.steps i))
       ∙ ap (λ l. bindings scopes (item_marks one) ++ l) later
       ∙ sym (bindings_append scopes (item_marks one) (marks_of items))
-
-whole : {A : Type 0} (xs : List A) → Within xs 0 xs
-whole xs = record { before = []; rest = []; there = sym (append-nil xs); is_at = refl }
 
 -- the positions in a program lead to what its uses are bound to
 pub uses_are_bound : (items : List RawItem) (bytes : ℕ) → Passes items → UsesAreBound items (named_program items bytes)

@@ -52,7 +52,7 @@ max_grows a b c d one two = grind arith
 equal_most : (a b : ℕ) → a ≡ b → a ≤ b
 equal_most a b is = omega arith
 
-one_more : (a b : ℕ) → a ≤ b → 1 + a ≤ 1 + b
+pub one_more : (a b : ℕ) → a ≤ b → 1 + a ≤ 1 + b
 one_more a b is = omega arith
 
 leaf_most : (a b : ℕ) → a ≡ b → AtMost (leaf a) (leaf b)
@@ -190,7 +190,7 @@ cases = record {
 every_of : (body : List RawStmt) → All StmtGood body
 every_of body = λ k d within. induct StmtGood ArmGood BranchGood cases _
 
-below_limit : (a b limit : ℕ) → a ≤ b → nat_le b limit ≡ true → nat_le a limit ≡ true
+pub below_limit : (a b limit : ℕ) → a ≤ b → nat_le b limit ≡ true → nat_le a limit ≡ true
 below_limit a b limit most is = let less : b ≤ limit = leb-true b limit is in le-leb a limit (omega arith)
 
 shallow_body : (body : List RawStmt) (scopes : Scopes) → raw.is_shallow body ≡ true → is_shallow (made_of_all (map stmt_piece body) scopes) ≡ true

@@ -36,7 +36,7 @@ use Rattle.bl_names.proofs.FitLemmas.{Fits, fits_behind, fits_first, fits_second
 use Rattle.bl_names.proofs.PastLemmas.{enter-behind, more}
 use Rattle.bl_names.proofs.PieceLemmas.{arm_is, branch_is, parts, stmt_is}
 use Rattle.bl_names.proofs.PlacedExpr.{variable_read}
-use Rattle.bl_names.proofs.PlacedStmt.{Within, closed_is, within_first, within_one, within_second}
+use Rattle.bl_names.proofs.PlacedStmt.{Within, within_first, within_one, within_second}
 use Rattle.bl_names.proofs.RawStmtInduction.{Cases, induct, stmt}
 use Rattle.bl_names.proofs.StillLemmas.{Still, after-append, still_append, still_arguments, still_expr, still_optional, still_target, still_type, still_use}
 use Rattle.bl_names.proofs.StillLemmas.{still_value}
@@ -47,6 +47,7 @@ use Rattle.bl_names_laws.proofs.Bindings.{bindings, bindings_append, bindings_be
 use Rattle.bl_names_laws.proofs.ExprLeads.{activity_leads, arguments_led, expr_led, function_leads, optional_led, path_led, target_led, type_led}
 use Rattle.bl_names_laws.proofs.Listed.{Listed, declare_listed}
 use Rattle.bl_names_laws.proofs.Made.{NamedLayer, RawLayer, named_arm_at, named_at, named_branch_at, named_parts}
+use Rattle.bl_names.proofs.PlacedStmt.{scope_is}
 
 -- ---- what holds behind a part
 
@@ -60,11 +61,6 @@ pub record Leading (named : Named) (vars : List NamedVar) (scopes new : Scopes) 
   pub more_vars : new.counts.variables ≡ scopes.counts.variables + length own
   pub more_constants : new.counts.constants ≡ scopes.counts.constants + length constants
   pub same_units : new.counts.units ≡ scopes.counts.units
-
--- behind a scope of its own
-pub own_is : (scopes : Scopes) (marks : Marks) → (after (opened scopes) marks).outer ≡ scopes.inner ∷ scopes.outer →
-    after scopes (in_scope marks) ≡ record scopes { counts = (after (opened scopes) marks).counts }
-own_is scopes marks is = after-append (opened scopes) marks (closes ∷ []) ∙ closed_is scopes (after (opened scopes) marks) is
 
 module _ (named : Named) (vars : List NamedVar) where
   leading_then : (scopes middle new : Scopes) (leads bound more_leads more_bound : Referents) (own more_own : List NamedVar)
@@ -162,7 +158,7 @@ module _ (named : Named) (vars : List NamedVar) where
       let inside = good (opened scopes) (tt, listed) (fits_first (opened scopes) piece.marks (closes ∷ []) fits.1) own constants in
       let inner = after (opened scopes) piece.marks in
       subst (λ new. Leading named vars scopes new (leads (piece.made (opened scopes))) (bindings scopes (in_scope piece.marks)) (piece.vars (opened scopes))
-      (piece.constants (opened scopes))) (sym (own_is scopes piece.marks inside.outer))
+      (piece.constants (opened scopes))) (sym (scope_is scopes piece.marks inside.outer))
       (subst (λ bound. Leading named vars scopes (record scopes { counts = inner.counts }) (leads (piece.made (opened scopes))) bound
       (piece.vars (opened scopes)) (piece.constants (opened scopes))) (sym (bindings_own scopes piece.marks))
       (leading_closed scopes inner (leads (piece.made (opened scopes))) (bindings (opened scopes) piece.marks) (piece.vars (opened scopes))
@@ -209,7 +205,7 @@ module _ (named : Named) (vars : List NamedVar) where
       let leads = body_leads ((body_piece body).made (opened scopes)) in
       let inside = good_all stmt_piece (stmt_leads named vars) body each (opened scopes) (tt, listed)
       (fits_first (opened scopes) marks (closes ∷ []) (fits_first scopes (in_scope marks) (expr_marks e) fits).1) own constants in
-      let closed : after scopes (in_scope marks) ≡ record scopes { counts = inner.counts } = own_is scopes marks inside.outer in
+      let closed : after scopes (in_scope marks) ≡ record scopes { counts = inner.counts } = scope_is scopes marks inside.outer in
       let fits_e : Fits (record scopes { counts = inner.counts }) (expr_marks e) = subst (λ s. Fits s (expr_marks e)) closed
       (fits_second scopes (in_scope marks) (expr_marks e) fits) in
       subst (λ new. Leading named vars scopes new (leads ++ expr_leads named vars (named_expr scopes e)) (bindings scopes (in_scope marks ++ expr_marks e))

@@ -17,7 +17,7 @@ use Rattle.bl_names_laws.proofs.Starts.{in_order}
 use Rattle.bl_names_laws.proofs.StmtDepth.{units_are_shallow}
 
 -- two tests that hold of all hold of all together
-all_both : {A : Type 0} (one other : A → Bool) (xs : List A) → list_all one xs ≡ true → list_all other xs ≡ true →
+pub all_both : {A : Type 0} (one other : A → Bool) (xs : List A) → list_all one xs ≡ true → list_all other xs ≡ true →
     list_all (λ x. one x && other x) xs ≡ true
 all_both one other [] first second = refl
 all_both one other (x ∷ xs) first second =

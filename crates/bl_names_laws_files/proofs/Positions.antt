@@ -20,6 +20,7 @@ use Rattle.bl_names_laws_files.specs.Globals.{DeclareItems, declared_constants, 
 use Rattle.bl_names_laws_files.specs.Laws.{GlobalsAreCounted, GlobalsInTurn, GlobalsMove, GlobalsPlaced, RenumberInTurn}
 use Rattle.bl_names_laws_files.proofs.Counting.{declared_both, declared_first, one_if}
 use Rattle.bl_names_laws_files.proofs.InTurn.{marks_in_turn}
+use Rattle.bl_names.proofs.PastLemmas.{sums}
 
 -- ---- items one after another
 
@@ -160,9 +161,6 @@ declares_first heading headings one items same =
       rest = ap (drop 1) same;
     }
 
-more_than : (a b c x y : ℕ) → b ≡ a + x → c ≡ b + y → c ≡ a + (x + y)
-more_than a b c x y one two = omega arith
-
 counted_on : (before : ℕ) (items : List RawItem) (headings : List Heading) (scopes : Scopes) → DeclareItems headings items →
     (after scopes (map heading_mark headings)).counts.constants ≡ scopes.counts.constants + length (global_positions before items)
 counted_on before [] [] scopes same = plus_none scopes.counts.constants
@@ -173,7 +171,7 @@ counted_on before (one ∷ items) (heading ∷ headings) scopes same =
     let new = enter scopes (heading_mark heading) in
     let own = own_position before one in
     let rest = global_positions (before + declared_constants (item_marks one)) items in
-    more_than scopes.counts.constants new.counts.constants (after new (map heading_mark headings)).counts.constants (length own) (length rest)
+    sums scopes.counts.constants new.counts.constants (after new (map heading_mark headings)).counts.constants (length own) (length rest)
     (ap (λ of. (enter scopes (declares heading.name of)).counts.constants) first.of ∙ constants_entered scopes heading.name before one)
     (counted_on (before + declared_constants (item_marks one)) items headings new first.rest)
     ∙ ap (λ n. scopes.counts.constants + n) (sym (length-append own rest))

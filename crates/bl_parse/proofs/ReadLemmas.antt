@@ -70,7 +70,7 @@ pub pick_is : (part : Part) (view : TokenView) → permits part view ≡ true �
 unfolding pick absent choices
 pick_is part view may = rw (may, chosen_is (productions part) view.class) refl
 
-same_some : {A : Type 0} {a b : A} → Some a ≡ Some b → a ≡ b
+pub same_some : {A : Type 0} {a b : A} → Some a ≡ Some b → a ≡ b
 same_some e = cc
 
 no_some : {A : Type 0} {a : A} → None ≡ Some a → ⊥

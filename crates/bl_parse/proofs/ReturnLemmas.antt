@@ -19,14 +19,14 @@ use Rattle.bl_parse.specs.Operators.{begins_expr}
 use Rattle.bl_parse.specs.inner.Reading.{left, next_among, Turns}
 use Rattle.bl_parse.specs.Statements.{begins_stmt, goes_on, takes_value}
 
-four : (a b c d : Bool) → a || (b || (c || d)) ≡ a || (b || (c || (d || false)))
+pub four : (a b c d : Bool) → a || (b || (c || d)) ≡ a || (b || (c || (d || false)))
 four true b c d = refl
 four false true c d = refl
 four false false true d = refl
 four false false false true = refl
 four false false false false = refl
 
-three : (a b c : Bool) → a || (b || c) ≡ b || (c || (a || false))
+pub three : (a b c : Bool) → a || (b || c) ≡ b || (c || (a || false))
 three true true c = refl
 three true false true = refl
 three true false false = refl
@@ -56,7 +56,7 @@ get_head zero (x ∷ xs) = refl
 get_head (suc k) [] = refl
 get_head (suc k) (x ∷ xs) = get_head k xs
 
-views_from : (before : Option ℕ) (tokens : List Token) (k : ℕ) (one : Token) → slice_get tokens k ≡ Some one
+pub views_from : (before : Option ℕ) (tokens : List Token) (k : ℕ) (one : Token) → slice_get tokens k ≡ Some one
     → drop (suc k) (views_after before tokens) ≡ views_after (Some one.line) (drop (suc k) tokens)
 views_from before [] k one e = cc
 views_from before (x ∷ xs) zero one e = ap (λ line. views_after (Some line) xs) (same_line e)

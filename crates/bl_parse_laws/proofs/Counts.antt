@@ -14,6 +14,8 @@ use Rattle.bl_parse_syntax.specs.Rules.{PassesDepth}
 use Rattle.bl_parse_syntax.proofs.Depths.{open_next, last_next, run_next}
 use Rattle.bl_parse.specs.At.{Takes}
 use Rattle.bl_parse.proofs.ReturnLemmas.{token_at}
+use Rattle.bl_parse.proofs.ReadLemmas.{same_some}
+use Rattle.bl_parse_laws.proofs.Spans.{position}
 
 -- the blocks that are open before the token at a position
 pub open_at : List Token → ℕ → ℕ
@@ -27,16 +29,10 @@ run_at tokens k = run_after 0 None (take k tokens)
 before_at : List Token → ℕ → Option TokenKind
 before_at tokens k = last_kind None (take k tokens)
 
-some_same : {A : Type 0} {a b : A} → Some a ≡ Some b → a ≡ b
-some_same e = cc
-
-take_more : (tokens : List Token) (k : ℕ) (one : Token) → slice_get tokens k ≡ Some one → take (suc k) tokens ≡ take k tokens ++ one ∷ []
+pub take_more : (tokens : List Token) (k : ℕ) (one : Token) → slice_get tokens k ≡ Some one → take (suc k) tokens ≡ take k tokens ++ one ∷ []
 take_more [] k one e = cc
-take_more (x ∷ xs) zero one e = ap (λ t. t ∷ []) (some_same e)
+take_more (x ∷ xs) zero one e = ap (λ t. t ∷ []) (same_some e)
 take_more (x ∷ xs) (suc k) one e = ap (λ ts. x ∷ ts) (take_more xs k one e)
-
-position : {k to : ℕ} → to ≡ k + 1 → to ≡ suc k
-position next = omega (arith, next)
 
 -- the tokens before a position, with the one there
 record Front (tokens : List Token) (kind : TokenKind) (from to : ℕ) : Type 0 where
@@ -48,7 +44,7 @@ front : {tokens : List Token} {kind : TokenKind} {from to : ℕ} → Takes token
 front {tokens} {from = from} t = let o = token_at tokens from t.stands in
     record {
       one = o.0;
-      kind_is = some_same (sym (ap (option_map (λ token. token.kind)) o.1) ∙ t.stands);
+      kind_is = same_some (sym (ap (option_map (λ token. token.kind)) o.1) ∙ t.stands);
       front_is = ap (λ k. take k tokens) (position t.next) ∙ take_more tokens from o.0 o.1;
     }
 
@@ -81,7 +77,7 @@ abbrev pub is_opening : TokenKind → Bool
 is_opening (Word k) = is_one_of opening_words k
 is_opening _ = false
 
-levels : (n : ℕ) (kind : TokenKind) → is_level kind ≡ true → blocks_after n kind ≡ n
+pub levels : (n : ℕ) (kind : TokenKind) → is_level kind ≡ true → blocks_after n kind ≡ n
 levels n Name level = refl
 levels n (Number v) level = refl
 levels n (Sign k) level = refl
@@ -96,7 +92,7 @@ pub level : {tokens : List Token} {kind : TokenKind} {from to : ℕ} → Takes t
     open_at tokens to ≡ open_at tokens from
 level {tokens} {kind} {from} t is = open_step t ∙ levels (open_at tokens from) kind is
 
-opened : (n : ℕ) (kind : TokenKind) → is_opening kind ≡ true → blocks_after n kind ≡ n + 1
+pub opened : (n : ℕ) (kind : TokenKind) → is_opening kind ≡ true → blocks_after n kind ≡ n + 1
 opened n Name is = cc
 opened n (Number v) is = cc
 opened n (Sign k) is = cc
@@ -166,7 +162,7 @@ pub record Limits (tokens : List Token) : Type 0 where
   pub blocks : (k : ℕ) → open_at tokens k ≤ 100
   pub run : (k : ℕ) → run_at tokens k ≤ 200
 
-at_most : (n limit : ℕ) → ¬ (limit < n) → n ≤ limit
+pub at_most : (n limit : ℕ) → ¬ (limit < n) → n ≤ limit
 at_most n limit never = by_order (order n limit)
   where
     order : (n limit : ℕ) → (n ≤ limit) ⊎ (limit < n)

@@ -60,16 +60,16 @@ infix_level IsOperator.times = refl
 infix_level IsOperator.divided = refl
 infix_level IsOperator.remainder = refl
 
-prefix_level : {kind : TokenKind} {op : Op} → IsPrefix kind op → is_level kind ≡ true
+pub prefix_level : {kind : TokenKind} {op : Op} → IsPrefix kind op → is_level kind ≡ true
 prefix_level IsPrefix.negation = refl
 prefix_level IsPrefix.complement = refl
 prefix_level IsPrefix.denial = refl
 
-truth_level : {kind : TokenKind} {b : Bool} → IsTruth kind b → is_level kind ≡ true
+pub truth_level : {kind : TokenKind} {b : Bool} → IsTruth kind b → is_level kind ≡ true
 truth_level IsTruth.yes = refl
 truth_level IsTruth.no = refl
 
-scalar_level : {kind : TokenKind} {s : ScalarType} → IsScalar kind s → is_level kind ≡ true
+pub scalar_level : {kind : TokenKind} {s : ScalarType} → IsScalar kind s → is_level kind ≡ true
 scalar_level IsScalar.bool = refl
 scalar_level IsScalar.int8 = refl
 scalar_level IsScalar.int16 = refl

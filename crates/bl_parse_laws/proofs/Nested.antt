@@ -208,11 +208,11 @@ nests_leaf : {tokens : List Token} {n from to : ℕ} → Limits tokens → n ≤
     Nests tokens from to (leaf n)
 nests_leaf {n = n} {from = from} limit short same = record { same = same; fits = fits_leaf n (limit.blocks from) short }
 
-unit_opening : {kind : TokenKind} {of : UnitKind} → IsUnit kind of → is_opening kind ≡ true
+pub unit_opening : {kind : TokenKind} {of : UnitKind} → IsUnit kind of → is_opening kind ≡ true
 unit_opening IsUnit.function = refl
 unit_opening IsUnit.activity = refl
 
-guard_level : {kind : TokenKind} {guard : Guard} → IsGuard kind guard → is_level kind ≡ true
+pub guard_level : {kind : TokenKind} {guard : Guard} → IsGuard kind guard → is_level kind ≡ true
 guard_level IsGuard.abort = refl
 guard_level IsGuard.reset = refl
 

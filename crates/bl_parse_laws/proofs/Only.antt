@@ -12,10 +12,8 @@ use Rattle.bl_parse_syntax.proofs.Right.{all_has, apart}
 use Rattle.bl_parse_tree.specs.declared.name.Name.{Name}
 use Rattle.bl_parse.specs.At.{kind_at, Takes, SpellsName}
 use Rattle.bl_parse.specs.inner.Reading.{next_among, NoneNext}
-use Rattle.bl_parse_laws.proofs.Spans.{same_self}
-
-some_same : {A : Type 0} {a b : A} → Some a ≡ Some b → a ≡ b
-some_same e = cc
+use Rattle.bl_parse.proofs.ReadLemmas.{same_some}
+use Rattle.bl_parse_syntax.proofs.Predictive.{same_self}
 
 -- a token of one of the classes stands next
 pub record Begun (classes : List Class) (tokens : List Token) (k : ℕ) : Type 0 where
@@ -26,7 +24,7 @@ there {tokens} e t = ap (kind_at tokens) e ∙ t.stands
 
 -- a position has one token
 pub same_kind : {tokens : List Token} {a b : TokenKind} {k j m n : ℕ} → Takes tokens a k m → k ≡ j → Takes tokens b j n → a ≡ b
-same_kind t e u = some_same (sym t.stands ∙ there e u)
+same_kind t e u = same_some (sym t.stands ∙ there e u)
 
 pub clash : {P : Type 0} {tokens : List Token} {a b : TokenKind} {k j m n : ℕ} → Takes tokens a k m → k ≡ j → Takes tokens b j n →
     same_class (class_of a) (class_of b) ≡ false → P

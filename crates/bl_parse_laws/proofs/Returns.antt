@@ -17,22 +17,8 @@ use Rattle.bl_parse.specs.Operators.{begins_expr}
 use Rattle.bl_parse.specs.inner.Reading.{left}
 use Rattle.bl_parse.specs.Statements.{goes_on, takes_value}
 use Rattle.bl_parse.proofs.ReturnLemmas.{token_at}
-use Rattle.bl_parse_laws.proofs.Spans.{Spans, behind, position}
-
-four : (a b c d : Bool) → a || (b || (c || d)) ≡ a || (b || (c || (d || false)))
-four true b c d = refl
-four false true c d = refl
-four false false true d = refl
-four false false false true = refl
-four false false false false = refl
-
-three : (a b c : Bool) → a || (b || c) ≡ b || (c || (a || false))
-three true true c = refl
-three true false true = refl
-three true false false = refl
-three false true c = refl
-three false false true = refl
-three false false false = refl
+use Rattle.bl_parse_laws.proofs.Spans.{Spans, position}
+use Rattle.bl_parse.proofs.ReturnLemmas.{four, three, views_from}
 
 begins_is : (kind : TokenKind) → begins_expr kind ≡ begins_expression (class_of kind)
 begins_is Name = refl
@@ -61,7 +47,7 @@ continues_is tokens k kind {to} is next = let t = token_at tokens k is in by_tok
   where
     by_token : (one : Token) → slice_get tokens k ≡ Some one → continues (next_of (left tokens to)) ≡ takes_value tokens k
     by_token one at =
-        ap (λ n. continues (next_of (left tokens n))) (position next) ∙ (ap (λ vs. continues (next_of vs)) (behind None tokens k one at)
+        ap (λ n. continues (next_of (left tokens n))) (position next) ∙ (ap (λ vs. continues (next_of vs)) (views_from None tokens k one at)
         ∙ (goes_alike one (drop (suc k) tokens) ∙ (ap (goes_on (Some one)) (sym (get_head (suc k) tokens))
         ∙ (ap (λ o. goes_on o (slice_get tokens (suc k))) (sym at) ∙ ap (λ n. goes_on (slice_get tokens k) (slice_get tokens n)) (sym (position refl))))))
 

@@ -172,7 +172,7 @@ easy_stands AfterReturn (Some v) neutral = rw neutral refl
 easy_stands Program next neutral = refl
 easy_stands _ next neutral = refl
 
-same_self : (k : Class) → same_class k k ≡ true
+pub same_self : (k : Class) → same_class k k ≡ true
 same_self AnyName = refl
 same_self AnyNumber = refl
 same_self (Keyword k) = eq-eqb k k refl

@@ -65,7 +65,7 @@ module _ (s made : Stmt) (same : HasEffectsOf (s ∷ []) (made ∷ [])) where
 
 -- ---- statements that take the place of another
 
-placed : (place : Place) (layer : StmtKind-F StmtKind Arm Branch Stmt) → place_of (made_stmt place layer) ≡ place
+pub placed : (place : Place) (layer : StmtKind-F StmtKind Arm Branch Stmt) → place_of (made_stmt place layer) ≡ place
 placed place layer = ap (λ s. s.place) (out-roll-Stmt (record { place = place; what = roll-StmtKind layer }))
 
 pub deep_effect_at : (place : Place) (layer : StmtKind-F StmtKind Arm Branch Stmt) →

@@ -8,6 +8,7 @@ use Rattle.std.proofs.lemmas.Bool.{or_from}
 use Rattle.bl_tree.proofs.Basics.{number_itself, same_number, same_some}
 use Rattle.bl_plant.specs.Plants.{PlantView}
 use Rattle.bl_plant_drive.specs.Roles.{IsCast, PlantRecord, Role, after_part, first_named, left_by, left_in, left_of, role_of}
+use Rattle.bl_crun.proofs.Cells.{chosen-true}
 
 -- whether a test passes is known
 pub split : {P : Type 0} (b : Bool) → (b ≡ true → P) → (b ≡ false → P) → P
@@ -18,9 +19,6 @@ split false at_true at_false = at_false refl
 
 pub eq-flip : (a b : ℕ) → nat_eq a b ≡ false → nat_eq b a ≡ false
 eq-flip a b e = split (nat_eq b a) (λ t. t ∙ sym (number_itself b) ∙ subst (λ n. nat_eq n b ≡ false) (sym (same_number b a t)) e) (λ f. f)
-
-if-true : {A : Type 0} (b : Bool) (x y : A) → b ≡ true → (if b then x else y) ≡ x
-if-true b x y e = ap (λ (z : Bool). if z then x else y) e
 
 if-false : {A : Type 0} (b : Bool) (x y : A) → b ≡ false → (if b then x else y) ≡ y
 if-false b x y e = ap (λ (z : Bool). if z then x else y) e
@@ -34,9 +32,9 @@ role-skip n (d ∷ done) r rest other = ap (λ z. if nat_eq d.plant.name n then 
 
 pub role-here : (n : ℕ) (done : List Role) (r : Role) (rest : List Role) → r.plant.name ≡ n → role_of n done ≡ None →
     role_of n (done ++ r ∷ rest) ≡ Some r
-role-here n [] r rest is none = if-true (nat_eq r.plant.name n) (Some r) (role_of n rest) (eq-eqb r.plant.name n is)
+role-here n [] r rest is none = chosen-true (nat_eq r.plant.name n) (Some r) (role_of n rest) (eq-eqb r.plant.name n is)
 role-here n (d ∷ done) r rest is none = split (nat_eq d.plant.name n)
-    (λ holds. let bad = sym none ∙ if-true (nat_eq d.plant.name n) (Some d) (role_of n done) holds in cc)
+    (λ holds. let bad = sym none ∙ chosen-true (nat_eq d.plant.name n) (Some d) (role_of n done) holds in cc)
     (λ fails.
     if-false (nat_eq d.plant.name n) (Some d) (role_of n (done ++ r ∷ rest)) fails
     ∙ role-here n done r rest is (sym (if-false (nat_eq d.plant.name n) (Some d) (role_of n done) fails) ∙ none))
@@ -44,7 +42,7 @@ role-here n (d ∷ done) r rest is none = split (nat_eq d.plant.name n)
 pub role-name : (n : ℕ) (cast : List Role) (r : Role) → role_of n cast ≡ Some r → r.plant.name ≡ n
 role-name n [] r e = cc
 role-name n (d ∷ cast) r e = split (nat_eq d.plant.name n)
-    (λ holds. let is = same_some d r (sym (if-true (nat_eq d.plant.name n) (Some d) (role_of n cast) holds) ∙ e) in
+    (λ holds. let is = same_some d r (sym (chosen-true (nat_eq d.plant.name n) (Some d) (role_of n cast) holds) ∙ e) in
     ap (λ (x : Role). x.plant.name) (sym is) ∙ same_number d.plant.name n holds)
     (λ fails. role-name n cast r (sym (if-false (nat_eq d.plant.name n) (Some d) (role_of n cast) fails) ∙ e))
 
@@ -78,8 +76,8 @@ left-dropped done rest p part earlier (q ∷ ps) is =
     split (list_any (nat_eq q.name) earlier)
     (λ holds.
     ap (λ z. z ++ left_in (done ++ playing p part ∷ rest) (q.name ∷ earlier) ps)
-    (if-true (list_any (nat_eq q.name) earlier) (q ∷ []) (left_by (role_of q.name (done ++ playing p part ∷ rest)) q) holds
-    ∙ sym (if-true (list_any (nat_eq q.name) earlier) (q ∷ []) (left_by (role_of q.name (done ++ rest)) q) holds))
+    (chosen-true (list_any (nat_eq q.name) earlier) (q ∷ []) (left_by (role_of q.name (done ++ playing p part ∷ rest)) q) holds
+    ∙ sym (chosen-true (list_any (nat_eq q.name) earlier) (q ∷ []) (left_by (role_of q.name (done ++ rest)) q) holds))
     ∙ ap (λ z. (if list_any (nat_eq q.name) earlier then q ∷ [] else left_by (role_of q.name (done ++ rest)) q) ++ z) tail)
     (λ fails.
     ap (λ z. (if list_any (nat_eq q.name) earlier then q ∷ [] else left_by z q) ++ left_in (done ++ playing p part ∷ rest) (q.name ∷ earlier) ps)

@@ -62,7 +62,7 @@ behind-front (f ∷ front) rest more k x e =
 
 -- ---- widths
 
-last-wide : (w : ℕ) (first : List ℤ) (rows : List (List ℤ)) → length first ≡ w → AllByRecursion (λ row. length row ≡ w) rows →
+pub last-wide : (w : ℕ) (first : List ℤ) (rows : List (List ℤ)) → length first ≡ w → AllByRecursion (λ row. length row ≡ w) rows →
     length (last_row first rows) ≡ w
 last-wide w first [] is all = is
 last-wide w first (row ∷ rows) is all = last-wide w row rows all.0 all.1

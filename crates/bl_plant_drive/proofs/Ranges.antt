@@ -8,7 +8,7 @@ use Rattle.std.proofs.lemmas.Bool.{and_from}
 use Rattle.bl_tree.proofs.Basics.{and_first, and_second, same_some}
 use Rattle.bl_plant.specs.Plants.{PlantView}
 use Rattle.bl_plant_drive.specs.Drives.{plant_width, widths_of}
-use Rattle.bl_plant_drive.specs.Roles.{Plays, Role, first_named, last_row}
+use Rattle.bl_plant_drive.specs.Roles.{Plays, Role, first_named}
 use Rattle.bl_plant_drive.specs.declared.driven.Gone.{Gone}
 use Rattle.bl_plant_drive.specs.declared.seat.Seat.{Seat}
 use Rattle.bl_plant_drive.specs.inner.Round.{FrontFits, seat_numbers}
@@ -16,6 +16,7 @@ use Rattle.bl_plant_drive.specs.inner.Stands.{AskedSoFar, Scene, seat_of}
 use Rattle.bl_tree.specs.declared.row.Column.{Column}
 use Rattle.bl_tree.specs.Ports.{in_ranges, types_of}
 use Rattle.bl_tree.specs.Scalar.{in_range}
+use Rattle.bl_plant_drive.proofs.Outside.{last-wide}
 
 -- one more number is in its range
 pub ranges-more : (k : ℕ) (inputs : List Column) (numbers : List ℤ) (c : Column) (n : ℤ) → slice_get inputs k ≡ Some c →
@@ -79,11 +80,6 @@ front-kept inputs k seats now same fit = ap (λ z. in_ranges (types_of (take (le
 
 abbrev IsWide : Role → Type 0
 IsWide r = AllByRecursion (λ row. length row ≡ r.plant.width) r.part.given
-
-last-wide : (w : ℕ) (first : List ℤ) (rows : List (List ℤ)) → length first ≡ w → AllByRecursion (λ row. length row ≡ w) rows →
-    length (last_row first rows) ≡ w
-last-wide w first [] is all = is
-last-wide w first (row ∷ rows) is all = last-wide w row rows all.0 all.1
 
 all-wide : (outs told : List (List ℤ)) (a b : ℕ) (done rest : List Role) → AllByRecursion (Plays outs told a) done →
     AllByRecursion (Plays outs told b) rest → AllByRecursion IsWide (done ++ rest)

@@ -214,7 +214,7 @@ record Joins (before now : Reading) (piece more : List ℕ) : Type 0 where
   pub rows : rows_in before (piece ++ more) ≡ rows_in before piece ++ rows_in now more
   pub fault : fault_in before (piece ++ more) ≡ fault_in now more
 
-no_fault : (first later : Option RowFault) → earlier_fault first later ≡ None → (first ≡ None) × (later ≡ None)
+pub no_fault : (first later : Option RowFault) → earlier_fault first later ≡ None → (first ≡ None) × (later ≡ None)
 no_fault None later e = (refl, e)
 no_fault (Some fault) later e = cc
 

@@ -1,16 +1,16 @@
 -- A reader from piece to piece.
-use Rattle.std.proofs.Common.{◌≡◌, ℕ, ◌+◌, ◌≤◌, ℤ, false, List, [], ◌∷◌, ◌++◌, length, Some, None, refl, ap, sym, subst, ◌∙◌, arith, append_assoc, append-nil}
+use Rattle.std.proofs.Common.{◌≡◌, ℕ, ◌+◌, ◌≤◌, ℤ, false, List, [], ◌∷◌, ◌++◌, length, None, refl, ap, sym, subst, ◌∙◌, arith, append_assoc, append-nil}
 use Rattle.std.proofs.Common.{length-append}
 use Rattle.std.specs.List.{list_all}
 use Rattle.std.proofs.lemmas.Bool.{and_from}
 use Rattle.bl_tree.proofs.Basics.{and_first, and_second}
 use Rattle.bl_tree.specs.declared.row.Column.{Column}
 use Rattle.bl_rows.specs.Reading.{Reading, RowsRead, empty_reading, fault_in, led_by_rows, read_on, rows_after, rows_in, rows_of}
-use Rattle.bl_rows.specs.declared.fault.RowFault.{RowFault}
 use Rattle.bl_rows_stream.specs.inner.Going.{HasFed}
 use Rattle.bl_tree.specs.Ports.{RowsFit, row_fits}
 use Rattle.bl_rows_stream.proofs.Fits.{fit-later, told-few, told-fits}
 use Rattle.bl_rows_stream.proofs.Reaches.{line-on, lines-on}
+use Rattle.bl_rows.proofs.Pieces.{stopped_told}
 
 pub none-in : (ins : List Column) → rows_in (empty_reading ins) [] ≡ []
 unfolding rows_in
@@ -113,8 +113,5 @@ pub end-few : (ins : List Column) (read : List ℕ) (s : Reading) → HasFed ins
     length (rows_in (empty_reading ins) read) + length (rows_after s []).rows ≤ 1000000
 end-few ins read s fed = later-few ins read (rows_in (empty_reading ins) read) (rows_after s []).rows (ap (λ (t : RowsRead). t.rows) (end-told ins read s fed))
 
--- a reader that has stopped
-pub stopped-told : (s : Reading) (rest : List ℕ) (fault : RowFault) → s.stop ≡ Some fault →
-    rows_after s rest ≡ record { rows = []; fault = Some fault }
 unfolding rows_after
-stopped-told s rest fault is = rw is refl
+stopped_told s rest fault is = rw is refl

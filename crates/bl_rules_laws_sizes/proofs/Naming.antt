@@ -121,7 +121,7 @@ stmt_sized place layer made is gives few = record {
   vars = λ scopes. by_values _ _ _ _ (ap (λ piece. length (piece.vars scopes)) (stmt_is place layer)) (raw_at place layer) (few scopes);
 }
 
-none_in_one : 0 ≤ 1
+pub none_in_one : 0 ≤ 1
 none_in_one = omega arith
 
 one_in_one : 1 ≤ 1

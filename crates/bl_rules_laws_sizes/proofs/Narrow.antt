@@ -25,6 +25,7 @@ use Rattle.bl_peel.specs.inner.Parts.{arm_count, branch_count}
 use Rattle.bl_peel.specs.Peeled.{made_arm, made_if, peeled, place_of_expr}
 use Rattle.bl_peel.proofs.Equations.{count_at, count_parts, made_branch}
 use Rattle.bl_peel_laws_typing.proofs.Copying.{ArmsCopy, BranchesCopy, Copies, body_copied, more_arms, more_branches, no_arms, no_branches}
+use Rattle.bl_limits_measures.proofs.StatementLemmas.{arm_out as arm_cells, branch_out as branch_cells}
 
 abbrev Layer : Type 0
 Layer = StmtKind-F StmtKind Arm Branch Stmt
@@ -39,12 +40,6 @@ cells_below = map-StmtKind StmtKind Arm Branch Stmt ℕ ℕ ℕ ℕ cells_of_kin
 
 cells_at : (place : Place) (layer : Layer) → cell_statements_in (stmt place layer) ≡ kind_cell_statements (cells_below layer)
 cells_at place layer = rw (fold-roll-Stmt, fold-roll-StmtKind) refl
-
-arm_cells : (arm : Arm) → cell_statements_in_arm arm ≡ cell_statements_in_block (out-Arm arm).body
-arm_cells = fold_out-Arm ℕ ℕ ℕ ℕ kind_cell_statements arm_cell_statements branch_cell_statements layer_cell_statements
-
-branch_cells : (branch : Branch) → cell_statements_in_branch branch ≡ 1 + cell_statements_in_block (out-Branch branch).body
-branch_cells = fold_out-Branch ℕ ℕ ℕ ℕ kind_cell_statements arm_cell_statements branch_cell_statements layer_cell_statements
 
 -- ---- as each counts once
 

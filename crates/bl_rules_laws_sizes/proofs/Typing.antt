@@ -49,6 +49,7 @@ use Rattle.bl_types_laws.proofs.NamedStmtInduction.{Cases, induct, stmt}
 use Rattle.bl_types_laws.proofs.StmtLayers.{Layer, walked_by, walked_is}
 use Rattle.bl_rules_laws_sizes.proofs.NamedParts.{AllNamedWithin, NamedWithin, named_arm_at, named_at, named_below, named_branch_at, named_kind_parts}
 use Rattle.bl_rules_laws_sizes.proofs.NamedParts.{named_parts, parts_of_named_arm, parts_of_named_branch}
+use Rattle.bl_rules_laws_sizes.proofs.Naming.{none_in_one}
 
 -- ---- typed statements
 
@@ -136,9 +137,6 @@ if_some cells n make None few = none_at_most n
 no_more : (a n : ℕ) → a ≡ n → a ≤ n
 no_more a n is = omega (arith, is)
 
-none_most : 0 ≤ 1
-none_most = omega arith
-
 declares : (k : ℕ) (e : Option Expr) → cells_of_kind (what.Declare k e) ≤ 1
 declares k e = no_more _ _ (kind_is (what.Declare k e) (StmtKind-F.Declare k e) (what.outs-Declare k e))
 
@@ -149,21 +147,21 @@ declare_fits k (Some var) (Some e) env = record {
   units = refl;
 }
 declare_fits k (Some var) None env = record { made = declares k None; vars = no_more _ _ (length_push env.vars _); units = refl }
-declare_fits k None e env = record { made = none_most; vars = no_less (length env.vars) 1; units = refl }
+declare_fits k None e env = record { made = none_in_one; vars = no_less (length env.vars) 1; units = refl }
 
 constant_fits : (constant : Option NamedConstant) (env : Environment) → Fits cells_of_kind 1 env (constant_walked (after_optional_constant constant env))
-constant_fits (Some constant) env = record { made = none_most; vars = no_less (length env.vars) 1; units = refl }
-constant_fits None env = record { made = none_most; vars = no_less (length env.vars) 1; units = refl }
+constant_fits (Some constant) env = record { made = none_in_one; vars = no_less (length env.vars) 1; units = refl }
+constant_fits None env = record { made = none_in_one; vars = no_less (length env.vars) 1; units = refl }
 
 assign_most : (leads : Found) (e : Option Expr) → made_cells cells_of_kind (assign_made leads e) ≤ 1
 assign_most (found.Place path) (Some e) = no_more _ _ (kind_is (what.Assign path e) (StmtKind-F.Assign path e) (what.outs-Assign path e))
-assign_most (found.Place path) None = none_most
-assign_most (found.Constant s n) e = none_most
-assign_most found.Nothing e = none_most
+assign_most (found.Place path) None = none_in_one
+assign_most (found.Constant s n) e = none_in_one
+assign_most found.Nothing e = none_in_one
 
 either_most : (holds : Bool) (kind : StmtKind) → cells_of_kind kind ≤ 1 → made_cells cells_of_kind (if holds then Some kind else None) ≤ 1
 either_most true kind most = most
-either_most false kind most = none_most
+either_most false kind most = none_in_one
 
 call_most : (f : ℕ) (given : Arguments) → made_cells cells_of_kind (if_complete given (what.Call f)) ≤ 1
 call_most f given = either_most given.complete (what.Call f given.inputs given.outputs)
@@ -174,7 +172,7 @@ run_most : (target : Option (Option Path)) (a : ℕ) (given : Arguments) → mad
 run_most (Some target) a given = either_most given.complete (what.Run target a given.inputs given.outputs)
     (no_more _ _ (kind_is (what.Run target a given.inputs given.outputs) (StmtKind-F.Run target a given.inputs given.outputs)
     (what.outs-Run target a given.inputs given.outputs)))
-run_most None a given = none_most
+run_most None a given = none_in_one
 
 gives_back : (e : Option Expr) → cells_of_kind (what.Return e) ≤ 1
 gives_back e = no_more _ _ (kind_is (what.Return e) (StmtKind-F.Return e) (what.outs-Return e))

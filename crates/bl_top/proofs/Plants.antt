@@ -19,6 +19,7 @@ use Rattle.bl_top.specs.Drive.{DriveEnds, HasDrivenSource, LeavesDrivenPlants, P
 use Rattle.bl_top_args.specs.Jobs.{JobSpec, Word}
 use Rattle.bl_top_commands.specs.Calls.{Call}
 use Rattle.bl_top_commands.specs.declared.status.Status.{Status}
+use Rattle.bl_plant_drive.proofs.Telling.{all-both, all-map}
 
 same-as : (p : PlantView) → IsSame p p
 same-as p = record { name = refl; width = refl; rule = refl; faults = le_refl p.faults }
@@ -32,21 +33,13 @@ keeps-same before after same = subst (KeepsCounts before) (sym same) (keeps-all 
 
 -- ---- lists
 
-all-by : {A : Type 0} (P Q : A → Type 0) → ((a : A) → P a → Q a) → (xs : List A) → AllByRecursion P xs → AllByRecursion Q xs
-all-by P Q on [] all = tt
-all-by P Q on (x ∷ xs) all = (on x all.0, all-by P Q on xs all.1)
-
-all-join : {A : Type 0} (P : A → Type 0) (xs ys : List A) → AllByRecursion P xs → AllByRecursion P ys → AllByRecursion P (xs ++ ys)
-all-join P [] ys first later = later
-all-join P (x ∷ xs) ys first later = (first.0, all-join P xs ys first.1 later)
-
 role-in : (P : Role → Type 0) (n : ℕ) (cast : List Role) → AllByRecursion P cast → (r : Role) → role_of n cast ≡ Some r → P r
 role-in P n [] all r found = absurd (cc)
 role-in P n (d ∷ cast) all r found = split (nat_eq d.plant.name n)
     (λ holds. subst P (same_some d r (sym (ap (λ (z : Bool). if z then Some d else role_of n cast) holds) ∙ found)) all.0)
     (λ fails. role-in P n cast all.1 r (sym (ap (λ (z : Bool). if z then Some d else role_of n cast) fails) ∙ found))
 
-first-behind : (n : ℕ) (before : List PlantView) (q : PlantView) (after : List PlantView) → list_any (λ (x : PlantView). nat_eq x.name n) before ≡ false →
+pub first-behind : (n : ℕ) (before : List PlantView) (q : PlantView) (after : List PlantView) → list_any (λ (x : PlantView). nat_eq x.name n) before ≡ false →
     q.name ≡ n → first_named n (before ++ q ∷ after) ≡ Some q
 first-behind n [] q after none is = ap (λ b. cond b (Some q) (first_named n after)) (eq-eqb q.name n is)
 first-behind n (x ∷ before) q after none is =
@@ -117,15 +110,15 @@ stopped-keeps s o asked others is =
     let n : ℕ = length o.driven.ins in
     subst (KeepsCounts s.plants) (sym is.plants)
     (cast-keeps s.plants (asked ++ others) is.driven.is_cast.meant
-    (all-join HasNotFallen asked others (all-by (Plays outs outs (suc n)) HasNotFallen (plays-count outs outs (suc n)) asked is.earlier)
-    (all-by (Plays outs outs n) HasNotFallen (plays-count outs outs n) others is.later)))
+    (all-both HasNotFallen asked others (all-map (Plays outs outs (suc n)) HasNotFallen (plays-count outs outs (suc n)) asked is.earlier)
+    (all-map (Plays outs outs n) HasNotFallen (plays-count outs outs n) others is.later)))
 
 ends-keep : (s : DriveSetting) (o : Outcome) (how : Result (Unit {0}) DriveFault) → EndsOf s o how → KeepsCounts s.plants o.plants
 ends-keep s o (Ok done) ends =
     let outs : List (List ℤ) = o.driven.trace.rows in
     let n : ℕ = length o.driven.ins in
     subst (KeepsCounts s.plants) (sym ends.plants)
-    (cast-keeps s.plants ends.cast ends.driven.is_cast.meant (all-by (Plays outs outs n) HasNotFallen (plays-count outs outs n) ends.cast ends.parts))
+    (cast-keeps s.plants ends.cast ends.driven.is_cast.meant (all-map (Plays outs outs n) HasNotFallen (plays-count outs outs n) ends.cast ends.parts))
 ends-keep s o (Err (fault.Failed name)) ends = stopped-keeps s o ends.asked (ends.role ∷ ends.others) ends.stopped
 ends-keep s o (Err (fault.Absent name)) ends = keeps-same s.plants o.plants ends.1.plants
 ends-keep s o (Err (fault.Twice name)) ends = keeps-same s.plants o.plants ends.1.plants
@@ -134,7 +127,7 @@ ends-keep s o (Err (fault.Range column number)) ends = stopped-keeps s o (ends.a
 ends-keep s o (Err fault.NoMemory) ends =
     subst (KeepsCounts s.plants) (sym ends.plants)
     (cast-keeps s.plants ends.cast ends.driven.is_cast.meant
-    (all-by (MayGoOn o.driven.trace.rows (trace_over s.runner (o.driven.ins ++ ends.further)).rows) HasNotFallen (λ r may. may.plays.faults) ends.cast
+    (all-map (MayGoOn o.driven.trace.rows (trace_over s.runner (o.driven.ins ++ ends.further)).rows) HasNotFallen (λ r may. may.plays.faults) ends.cast
     ends.parts))
 
 source-keeps : (left : Option (List ℕ)) (plants : Plants) (ticks : ℕ) (names : List ℕ) (driven : Driven) (how : Result (Unit {0}) DriveFault)

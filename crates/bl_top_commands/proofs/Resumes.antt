@@ -110,7 +110,7 @@ record SavedOver (file : Parts) (numbers : List ℤ) (left : Option (List ℕ)) 
   saved : SavedState file (cells_after file (rows_of bytes (inputs_of file)).rows numbers) state
   grew : Appends out.before state out.after
 
-what_grew : (Is : List ℕ → Type 0) (out : Output) (ended : Status) → WritesResult Is out ended → ended ≡ status.Ok →
+pub what_grew : (Is : List ℕ → Type 0) (out : Output) (ended : Status) → WritesResult Is out ended → ended ≡ status.Ok →
     (text : List ℕ) × Is text × Appends out.before text out.after
 what_grew Is out _ (whole text is grew) e = (text, is, grew)
 what_grew Is out _ (fault text is grew risen) e = absurd (cc)
@@ -128,7 +128,7 @@ saved_ok file numbers left rest rows out _ _ (bad_rows n bytes are is why kept) 
 saved_ok file numbers left rest rows out _ _ (unread why risen kept) e = absurd (cc)
 saved_ok file numbers left rest rows out _ _ (no_memory kept) e = absurd (cc)
 
-started_trace : (file : Parts) (rows : List (List ℤ)) → start_succeeds file ≡ true → c_trace file rows ≡ c_trace_from file rows (start_cells file)
+pub started_trace : (file : Parts) (rows : List (List ℤ)) → start_succeeds file ≡ true → c_trace file rows ≡ c_trace_from file rows (start_cells file)
 started_trace file rows begins = ap (λ b. trace_after file (cells_if b (start_cells file)) rows) begins
 
 -- from what the start leaves
@@ -241,7 +241,7 @@ further_saves_leave each short fit law join c text state rows line built kept fi
 
 -- ---- `resume`
 
-none_and_some : (found : Option Place) (at : Place) → found ≡ None → found ≡ Some at → ⊥
+pub none_and_some : (found : Option Place) (at : Place) → found ≡ None → found ≡ Some at → ⊥
 none_and_some found at none some = let e = sym none ∙ some in cc
 
 -- a text that was built is rejected only for want of memory, where it has a file

@@ -35,7 +35,8 @@ use Rattle.bl_rows_stream_laws.specs.Resumed.{resumed_by, runner_from, trapped a
 use Rattle.bl_rows_stream_laws.specs.Laws.{RunsAreSilent}
 use Rattle.bl_top_args.specs.Jobs.{Word}
 use Rattle.bl_top_commands.proofs.Ends.{writes_as}
-use Rattle.bl_top_commands.proofs.Streams.{rose_earlier, streams_from}
+use Rattle.bl_top_commands.proofs.Streams.{streams_from}
+use Rattle.bl_module_files.proofs.Sizes.{rose_from}
 
 -- ---- the state of a job
 
@@ -167,13 +168,13 @@ saves_from file numbers left rest first second last out _ _ below (save_ended by
 saves_from file numbers left rest first second last out _ _ below (trapped bytes are is kept) = trapped bytes are is kept
 saves_from file numbers left rest first second last out _ _ below (bad_rows n bytes are is why kept) = bad_rows n bytes are is why kept
 saves_from file numbers left rest first second last out _ _ below (rows_unread why risen kept) =
-    rows_unread why (rose_earlier first second last below risen) kept
+    rows_unread why (rose_from first second last below risen) kept
 saves_from file numbers left rest first second last out _ _ below (no_memory kept) = no_memory kept
 
 state_from : (file : Parts) (left : Option (List ℕ)) (first second last : ℕ) (ended : Status) (line : List ℕ) → first ≤ second →
     StateStops file left (record { before = second; after = last }) ended line → StateStops file left (record { before = first; after = last }) ended line
 state_from file left first second last _ _ below (bad_state bytes at are shows) = bad_state bytes at are shows
-state_from file left first second last _ _ below (unread_state risen) = unread_state (rose_earlier first second last below risen)
+state_from file left first second last _ _ below (unread_state risen) = unread_state (rose_from first second last below risen)
 state_from file left first second last _ _ below state_want = state_want
 
 -- ---- the commands

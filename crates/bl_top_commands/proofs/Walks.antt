@@ -125,7 +125,7 @@ bytes_of (Some every) = record { bytes = every; are = refl }
 
 -- ---- the one trace
 
-same_shown : (t u : Trace) → shown_trace t ≡ shown_trace u → t ≡ u
+pub same_shown : (t u : Trace) → shown_trace t ≡ shown_trace u → t ≡ u
 same_shown t u e =
     let same_rows : t.rows ≡ u.rows = ap (λ (s : ShownTrace). s.rows) e in
     let both : Some t.last ≡ Some u.last = ap (λ (s : ShownTrace). s.last) e in

@@ -1,10 +1,10 @@
 -- What a drive that was stopped shows of its plants.
-use Rattle.std.proofs.Common.{◌≡◌, ◌∙◌, ℕ, zero, suc, ◌+◌, ℤ, pos, Bool, true, false, ◌||◌, cond, if◌then◌else◌, List, [], ◌∷◌, ◌++◌, length, map, take}
+use Rattle.std.proofs.Common.{◌≡◌, ◌∙◌, ℕ, zero, suc, ◌+◌, ℤ, pos, Bool, true, false, ◌||◌, if◌then◌else◌, List, [], ◌∷◌, ◌++◌, length, map, take}
 use Rattle.std.proofs.Common.{replicate, nat_eq, Option, Some, None, is_some, refl, sym, ap, subst, append_assoc, arith, length-append, take_all}
 use Rattle.std.specs.List.{AllByRecursion, IsDistinct, list_any, slice_get}
 use Rattle.std.proofs.lemmas.Bool.{eq-eqb}
 use Rattle.std.proofs.lemmas.List.{length-replicate, map-append}
-use Rattle.bl_tree.proofs.Basics.{neither_first, neither_second, same_number, same_some}
+use Rattle.bl_tree.proofs.Basics.{same_number, same_some}
 use Rattle.bl_plant.specs.Plants.{PlantView}
 use Rattle.bl_plant_drive.specs.Drives.{AreThere, DriveSetting, HasFailed, HasGivenOutside, IsFirstAbsent, IsFirstTwice, Outcome, columns_in, plant_width}
 use Rattle.bl_plant_drive.specs.Drives.{widths_of}
@@ -14,6 +14,8 @@ use Rattle.bl_plant_drive.proofs.Casts.{around-role, role-here, role-name, role-
 use Rattle.bl_top.specs.Drive.{Plants}
 use Rattle.bl_top_laws.specs.Driven.{AreAgreed, HasOutsideRow, HasRisenPlant, IsKeptPlant, count_named}
 use Rattle.bl_tree.specs.declared.row.Column.{Column}
+use Rattle.bl_plant_drive.proofs.Outside.{last-wide}
+use Rattle.bl_top.proofs.Plants.{first-behind}
 
 abbrev name_of : Role → ℕ
 name_of r = r.plant.name
@@ -114,14 +116,6 @@ count-left n cast earlier (p ∷ plants) stays =
     one-more : (a b : ℕ) → (a + 0) + b ≡ a + b
     one-more a b = omega arith
 
-first-behind : (n : ℕ) (before : List PlantView) (q : PlantView) (after : List PlantView) → list_any (λ (x : PlantView). nat_eq x.name n) before ≡ false →
-    q.name ≡ n → first_named n (before ++ q ∷ after) ≡ Some q
-first-behind n [] q after none is = ap (λ b. cond b (Some q) (first_named n after)) (eq-eqb q.name n is)
-first-behind n (x ∷ before) q after none is =
-    ap (λ b. cond b (Some x) (first_named n (before ++ q ∷ after)))
-    (neither_first (nat_eq x.name n) (list_any (λ (y : PlantView). nat_eq y.name n) before) none)
-    ∙ first-behind n before q after (neither_second (nat_eq x.name n) (list_any (λ (y : PlantView). nat_eq y.name n) before) none) is
-
 -- a plant of a cast that wasn't dropped
 pub kept-plant : (plants : Plants) (names : List ℕ) (done : List Role) (r : Role) (rest : List Role) → IsCast plants.before names (done ++ r ∷ rest) →
     plants.after ≡ left_in (done ++ r ∷ rest) [] plants.before → r.part.gone ≡ false → IsKeptPlant plants r.plant.name r.plant (after_part r)
@@ -166,11 +160,6 @@ module _ (plants : Plants) (s : DriveSetting) (o : Outcome) (found_is : s.plants
       }
 
 -- ---- a plant whose number is outside its range
-
-last-wide : (w : ℕ) (first : List ℤ) (rows : List (List ℤ)) → length first ≡ w → AllByRecursion (λ row. length row ≡ w) rows →
-    length (last_row first rows) ≡ w
-last-wide w first [] is all = is
-last-wide w first (row ∷ rows) is all = last-wide w row rows all.0 all.1
 
 asked-wide : (plants : List PlantView) (outs : List (List ℤ)) (n : ℕ) (asked : List Role) →
     AllByRecursion (λ (r : Role). first_named r.plant.name plants ≡ Some r.plant) asked → AllByRecursion (Plays outs outs (suc n)) asked →

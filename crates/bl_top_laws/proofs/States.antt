@@ -5,7 +5,7 @@ use Rattle.bl_tree.proofs.Basics.{true_and_false}
 use Rattle.bl_ctext.specs.declared.file.CFile.{CFile}
 use Rattle.bl_ctext_semantics.specs.Cells.{inputs_of}
 use Rattle.bl_ctext_semantics.specs.Parts.{Parts, parts_of}
-use Rattle.bl_ctext_semantics.specs.Trace.{c_trace, c_trace_from, cells_if, start_cells, start_succeeds, trace_after}
+use Rattle.bl_ctext_semantics.specs.Trace.{c_trace_from, start_cells, start_succeeds}
 use Rattle.bl_ctext_semantics_laws_places.specs.Behaviour.{Behaviour, behaviour_of}
 use Rattle.bl_ctext_semantics_laws_places.specs.Bytes.{Behaves}
 use Rattle.bl_rows.specs.Reading.{rows_of}
@@ -27,11 +27,11 @@ use Rattle.bl_top_commands.specs.declared.status.Status.{Status}
 use Rattle.bl_top_commands.specs.declared.status.Status.TheVariants as status
 use Rattle.bl_top_laws.proofs.Runs.{GoesTo, IsDone, course_due, result_done}
 use Rattle.bl_top_laws.proofs.Loading.{never_loaded, one_behaviour, text_stops, text_stops_due}
-use Rattle.bl_top_laws.proofs.Texts.{told_source}
 use Rattle.bl_top_laws.specs.Complete.{ExecutesTo, HoldsBehind, HoldsBehindBoth, IsLoadable, IsRejected, ResumesTo, finish_status, run_status, save_status}
 use Rattle.bl_tree.specs.declared.row.Last.{Last}
 use Rattle.bl_tree.specs.declared.row.Last.TheVariants.{Open, Ended, Trap}
 use Rattle.bl_tree.specs.declared.row.Trace.{Trace}
+use Rattle.bl_top_commands.proofs.Resumes.{started_trace, told_source}
 
 -- ---- what is saved
 
@@ -78,9 +78,6 @@ saved_due file numbers left rest rows out bytes last why holds none_read none_wr
 
 -- ---- files of one text
 
-trace_if : (file : Parts) (rows : List (List ℤ)) → start_succeeds file ≡ true → c_trace file rows ≡ c_trace_from file rows (start_cells file)
-trace_if file rows begins = ap (λ b. trace_after file (cells_if b (start_cells file)) rows) begins
-
 -- ---- `save`
 
 -- the file that is loaded behaves as the one that the text spells
@@ -103,7 +100,7 @@ saves_to each text bytes trace to begins behaviour read loads same =
     let goes = starts_as each text to.file to.loadable behaviour read loads same true begins in
     record {
       first = subst (λ (b : Behaviour). (rows_of bytes b.inputs).fault ≡ to.fault) alike to.first;
-      is = ap (λ (t : Trace). t.last) (sym (trace_if loads.file (rows_of bytes (inputs_of loads.file)).rows goes))
+      is = ap (λ (t : Trace). t.last) (sym (started_trace loads.file (rows_of bytes (inputs_of loads.file)).rows goes))
           ∙ ap (λ (b : Behaviour). (b.trace (rows_of bytes b.inputs).rows).last) (sym alike) ∙ ap (λ (t : Trace). t.last) to.is;
     }
 

@@ -61,7 +61,7 @@ same_rule r s is = same_some r s (sym (rule_back r) ∙ ap rule_at is ∙ rule_b
 
 -- ---- places
 
-same_true : (a b : Place) → same_place a b ≡ true → a ≡ b
+pub same_true : (a b : Place) → same_place a b ≡ true → a ≡ b
 same_true a b is =
     let both = and_parts (nat_eq a.start b.start) (nat_eq a.end b.end) is in
     let e1 = both.0 in let e2 = both.1 in
@@ -69,7 +69,7 @@ same_true a b is =
     let end : a.end ≡ b.end = grind (arith, nat_tests) in
     λ i. record { start = start i; end = end i }
 
-before_true : (a b : Place) → is_before a b ≡ true → IsBefore a b
+pub before_true : (a b : Place) → is_before a b ≡ true → IsBefore a b
 before_true a b is =
     elim (nat_lt a.start b.start) as
     (λ less. nat_lt a.start b.start ≡ less → (less || (nat_eq a.start b.start && nat_lt a.end b.end)) ≡ true → IsBefore a b) [
@@ -88,7 +88,7 @@ before_false a b apart is =
           let end : b.end < a.end = grind (arith, nat_tests) in inr (start, end)
     ] refl
 
-before_trans : (a b c : Place) → IsBefore a b → IsBefore b c → IsBefore a c
+pub before_trans : (a b c : Place) → IsBefore a b → IsBefore b c → IsBefore a c
 before_trans a b c one two =
     ⊎_elim
     (λ (p : a.start < b.start).
@@ -279,7 +279,7 @@ no_later_compared r p q a b h =
     ]
 
 -- where no walk is told, all places are compared
-all_compared : (r : Rule) (p : Place) (a : List Place) → tells_walk r ≡ false → compared r p a ≡ p ∷ a
+pub all_compared : (r : Rule) (p : Place) (a : List Place) → tells_walk r ≡ false → compared r p a ≡ p ∷ a
 all_compared r p a no_walk = ap (λ walk. cond walk (p ∷ []) (p ∷ a)) no_walk
 
 -- where nothing comes first, no rule fails

@@ -1,5 +1,5 @@
 -- Conditions, and the arguments of calls and runs.
-use Rattle.std.proofs.Common.{◌≡◌, ℕ, suc, ◌+◌, List, [], ◌∷◌, ◌++◌, map, length, drop, Option, Some, None, refl, ap, sym, subst, ◌∙◌, arith}
+use Rattle.std.proofs.Common.{◌≡◌, ℕ, ◌+◌, List, [], ◌∷◌, ◌++◌, map, length, drop, Option, Some, None, refl, ap, sym, subst, ◌∙◌, arith}
 use Rattle.std.specs.Prelude.{if◌then◌else◌, false, All, Bool, true, ◌&&◌, nat_eq, slice_get}
 use Rattle.std.specs.List.{list_all}
 use Rattle.std.proofs.lemmas.Bool.{eqb-true}
@@ -15,7 +15,6 @@ use Rattle.bl_tree.specs.declared.rule.Rule.TheVariants as rule
 use Rattle.bl_tree.specs.declared.tree.Path.{Path}
 use Rattle.bl_tree.specs.declared.tree.StmtKind.{StmtKind}
 use Rattle.bl_tree.specs.declared.tree.Unit.{Unit as UnitDef}
-use Rattle.bl_tree.specs.declared.tree.Var.{Var}
 use Rattle.bl_tree.specs.Reduce.{all_of}
 use Rattle.bl_tree.specs.Types.{scalar}
 use Rattle.bl_tree.specs.Typing.{TypingContext, arguments_fit, inputs_of, is_outlet, is_truth, outputs_of, type_of, type_of_path, types_match}
@@ -25,14 +24,16 @@ use Rattle.bl_names_tree.specs.declared.expr.NamedExpr.{NamedExpr}
 use Rattle.bl_names_tree.specs.declared.stmt.NamedPath.{NamedPath}
 use Rattle.bl_names_tree.specs.Placed.{expr_placed, path_placed}
 use Rattle.bl_types.specs.declared.environment.Environment.{Environment}
-use Rattle.bl_types.specs.Expressions.{all_failures, all_made, but_first, fitted, judged, miscounted, params_of}
+use Rattle.bl_types.specs.Expressions.{all_failures, all_made, fitted, judged, miscounted, params_of}
 use Rattle.bl_types.specs.Settled.{Settled}
 use Rattle.bl_types.specs.Statements.{Arguments, Lent, all_lent, arguments, arguments_from, condition, outputs_wanted, paths_failures, paths_made}
 use Rattle.bl_types_laws.specs.Fitting.{IsMade}
 use Rattle.bl_types_laws.specs.Within.{EnvironmentWithin, calls_functions, has_parameters, known_in}
-use Rattle.bl_types_laws.proofs.Expressions.{JudgedFits, expressions_fit, arguments_fit as inputs_fit, length-fitted, wanted_fits}
+use Rattle.bl_types_laws.proofs.Expressions.{JudgedFits, expressions_fit, arguments_fit as inputs_fit, wanted_fits}
 use Rattle.bl_types_laws.proofs.Forms.{unless_holds}
 use Rattle.bl_types_laws.proofs.Paths.{all_lent_fit}
+use Rattle.bl_types.proofs.CallLemmas.{all_lent-length}
+use Rattle.bl_types.proofs.JudgedLemmas.{fitted-length}
 
 -- an expression of type bool is a truth
 pub truth_is : (site : TypingContext) (e : Expr) → type_of site e ≡ Some (scalar OfBool) → is_truth (type_of site e) ≡ true
@@ -40,10 +41,6 @@ truth_is site e typed = ap is_truth typed ∙ bool_is
   where
     bool_is : is_truth (Some (scalar OfBool)) ≡ true
     bool_is = rw (scalar_alone OfBool) refl
-
-length-all_lent : (env : Environment) (paths : List NamedPath) (params : List Var) → length (all_lent env paths params) ≡ length paths
-length-all_lent env [] params = refl
-length-all_lent env (path ∷ rest) params = ap suc (length-all_lent env rest (but_first params))
 
 inputs_length : (unit : UnitDef) → has_parameters unit ≡ true → length (inputs_of unit) ≡ unit.inputs
 inputs_length unit has = length-take-le unit.inputs unit.vars (grind (arith, has))
@@ -97,10 +94,10 @@ module _ (env : Environment) (site : TypingContext) (within : EnvironmentWithin 
       let out_count : length taken ≡ unit.outputs = eqb-true (length taken) unit.outputs
       (and_second (nat_eq (length given) unit.inputs) (nat_eq (length taken) unit.outputs) counted) in
       let fit = inputs_fit site (map (judged env) inputs) (inputs_of unit) (each_judged inputs placed calls)
-      (sym (length-fitted (map (judged env) inputs) (inputs_of unit)) ∙ in_count ∙ sym (inputs_length unit has))
+      (sym (fitted-length (map (judged env) inputs) (inputs_of unit)) ∙ in_count ∙ sym (inputs_length unit has))
       (first_empty (all_failures given) (paths_failures taken ++ miscounted at (length given) (length taken) unit) none) in
       let lent = all_lent_fit env site within outputs (outputs_of unit) paths
-      (sym (length-all_lent env outputs (outputs_of unit)) ∙ out_count ∙ sym (outputs_length unit has))
+      (sym (all_lent-length env outputs (outputs_of unit)) ∙ out_count ∙ sym (outputs_length unit has))
       (first_empty (paths_failures taken) (miscounted at (length given) (length taken) unit) behind) in
       and_from (types_match (map (type_of site) (all_made given)) (inputs_of unit)) _ fit.match
       (and_from (types_match (map (type_of_path site) (paths_made taken)) (outputs_of unit)) (all_of (map (is_outlet site) (paths_made taken))) lent.match

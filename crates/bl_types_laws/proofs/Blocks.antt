@@ -51,14 +51,14 @@ use Rattle.bl_types_laws.proofs.StmtLayers.{Layer, step_by, step_is, walked_by, 
 use Rattle.bl_types_laws.proofs.Walks.{own_calls, WalkFits, block_fits, grown_around, grown_further, grown_there, within_of}
 
 -- what holds of each that passes a test, where all pass
-each_walk : {X : Type 0} (named : X → Bool) (W : X → Type 0) (xs : List X) → All (λ x. named x ≡ true → W x) xs →
+pub each_walk : {X : Type 0} (named : X → Bool) (W : X → Type 0) (xs : List X) → All (λ x. named x ≡ true → W x) xs →
     all_of (map named xs) ≡ true → All W xs
 each_walk named W [] each all = All-nil W
 each_walk named W (x ∷ xs) each all =
     All-cons W x xs (All-head (λ x. named x ≡ true → W x) x xs each (and_first (named x) (all_of (map named xs)) all))
     (each_walk named W xs (All-tail (λ x. named x ≡ true → W x) x xs each) (and_second (named x) (all_of (map named xs)) all))
 
-inhabited_mapped : {X Y : Type 0} (f : X → Y) (xs : List X) → is_inhabited (map f xs) ≡ is_inhabited xs
+pub inhabited_mapped : {X Y : Type 0} (f : X → Y) (xs : List X) → is_inhabited (map f xs) ≡ is_inhabited xs
 inhabited_mapped f [] = refl
 inhabited_mapped f (x ∷ xs) = refl
 

@@ -55,7 +55,7 @@ variable_grown env var ty = record {
   result = refl;
 }
 
-constant_grown : (env : Environment) (constant : Constant) → Grown env (with_constant env constant)
+pub constant_grown : (env : Environment) (constant : Constant) → Grown env (with_constant env constant)
 constant_grown env constant = record {
   vars = [];
   has_vars = sym (append-nil env.vars);

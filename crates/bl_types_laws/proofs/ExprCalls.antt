@@ -33,6 +33,7 @@ use Rattle.bl_names.proofs.RawExprInduction.{Cases, EachIndex, OfIndex, expr, in
 use Rattle.bl_names.proofs.StillLemmas.{Still, still_expr}
 use Rattle.bl_types_laws.specs.Within.{calls_functions, expr_layer_calls, kind_calls, part_calls, target_calls, target_layer_calls}
 use Rattle.bl_types_laws.proofs.Told.{Told, activity_there, function_there, kinds_of}
+use Rattle.bl_names_laws.proofs.ExprRoots.{still_part}
 
 abbrev RawLayer : Type 0
 RawLayer = RawExprKind-F RawExprKind RawPart RawExpr RawTarget
@@ -99,17 +100,6 @@ mark_parts = map-RawExprKind RawExprKind RawPart RawExpr RawTarget Marks Marks M
 
 marks_at : (place : Place) (layer : RawLayer) → expr_marks (expr place layer) ≡ kind_marks (mark_parts layer)
 marks_at place layer = rw (fold-roll-RawExpr, fold-roll-RawExprKind) refl
-
-still_part : (part : RawPart) (layer : RawPart-F RawExprKind RawPart RawExpr RawTarget) → out-RawPart part ≡ layer → Still (marks_of_part part)
-still_part part (RawPart-F.Field name) is = rw (
-  fold_out-RawPart Marks Marks Marks (Wanted → Marks) kind_marks part_marks expr_layer_marks target_layer_marks
-      part,
-  is,
-) (λ scopes. refl)
-still_part part (RawPart-F.Index e) is = rw (
-  fold_out-RawPart Marks Marks Marks (Wanted → Marks) kind_marks part_marks expr_layer_marks target_layer_marks part,
-  is,
-) (still_expr e)
 
 -- the names that are used are bound as in these scopes, whatever is counted
 module _ (units : List UnitDef) (scopes : Scopes) (counts : Counts) (told : Told (kinds_of units) scopes) where

@@ -48,6 +48,7 @@ use Rattle.bl_types_laws.proofs.Forms.{two_fits, unless_holds}
 use Rattle.bl_types_laws.proofs.NamedExprInduction.{Cases, EachIndex, OfIndex, expr, induct, induct_target}
 use Rattle.bl_types_laws.proofs.Targets.{LedFits, StepFits, field_fits, first_leads, index_fits, no_element, no_field, none_lead}
 use Rattle.bl_types_laws.proofs.Typed.{call_is, literal_is, path_is, previous_is}
+use Rattle.bl_types.proofs.JudgedLemmas.{fitted-length}
 
 -- a position below the length is that of an element
 pub there_at : {X : Type 0} (xs : List X) (k : ℕ) → nat_lt k (length xs) ≡ true → (x : X) × (slice_get xs k ≡ Some x)
@@ -56,10 +57,6 @@ there_at (x ∷ xs) zero less = (x, refl)
 there_at (x ∷ xs) (suc k) less = there_at xs k (let below = ltb-true (suc k) (suc (length xs)) less in grind arith)
 
 -- ---- calls
-
-pub length-fitted : (arguments : List Judged) (params : List Var) → length (fitted arguments params) ≡ length arguments
-length-fitted [] params = refl
-length-fitted (argument ∷ rest) params = ap suc (length-fitted rest _)
 
 -- a judged expression that fits, where nothing fails
 abbrev pub JudgedFits : TypingContext → Judged → Type 0
@@ -131,7 +128,7 @@ call_fits site at name f arguments unit there function has each none =
     (and_first (nat_eq (length given) unit.inputs) (nat_eq 0 unit.outputs) counted)
     in
     let outputs : 0 ≡ unit.outputs = eqb-true 0 unit.outputs (and_second (nat_eq (length given) unit.inputs) (nat_eq 0 unit.outputs) counted) in
-    let fit = arguments_fit site arguments (inputs_of unit) each (sym (length-fitted arguments (inputs_of unit)) ∙ inputs ∙ sym (inputs_length unit has))
+    let fit = arguments_fit site arguments (inputs_of unit) each (sym (fitted-length arguments (inputs_of unit)) ∙ inputs ∙ sym (inputs_length unit has))
     (first_empty (all_failures given) (misnamed name (length given) (Some unit)) none) in
     form_by site at f (all_made given) (nat_eq (length (all_made given)) (length given)) unit.result result.0
     (eq-eqb (length (all_made given)) (length given) fit.count) result.1

@@ -27,6 +27,7 @@ use Rattle.bl_types_laws.specs.Standing.{Grown, Known, VariableKnown}
 use Rattle.bl_types_laws.proofs.Declared.{variable_grown, variable_known}
 use Rattle.bl_types_laws.proofs.Expressions.{some_of}
 use Rattle.bl_types_laws.proofs.Walks.{grown_further, grown_self}
+use Rattle.bl_names_laws.proofs.WhatKeeps.{all_both}
 
 -- parameters that have types are all known
 pub record ParametersPassed (before : Environment) (count : ℕ) (after : Environment) : Type 0 where
@@ -143,23 +144,17 @@ pub parameters_append : (xs ys : List NamedVar) (env : Environment) → (after_p
 parameters_append [] ys env = refl
 parameters_append (x ∷ xs) ys env = parameters_append xs ys (after_parameter x env).env
 
-input_role : (role : Role) → is_input role ≡ true → is_parameter role ≡ true
+pub input_role : (role : Role) → is_input role ≡ true → is_parameter role ≡ true
 input_role Input is = refl
 input_role Output is = absurd (cc)
 input_role Var is = absurd (cc)
 input_role Fixed is = absurd (cc)
 
-output_role : (role : Role) → is_output role ≡ true → is_parameter role ≡ true
+pub output_role : (role : Role) → is_output role ≡ true → is_parameter role ≡ true
 output_role Input is = absurd (cc)
 output_role Output is = refl
 output_role Var is = absurd (cc)
 output_role Fixed is = absurd (cc)
-
-all_both : {X : Type 0} (p q : X → Bool) (xs : List X) → list_all p xs ≡ true → list_all q xs ≡ true → list_all (λ x. p x && q x) xs ≡ true
-all_both p q [] all more = refl
-all_both p q (x ∷ xs) all more =
-    and_from (p x && q x) (list_all (λ x. p x && q x) xs) (and_from (p x) (q x) (and_first (p x) (list_all p xs) all) (and_first (q x) (list_all q xs) more))
-    (all_both p q xs (and_second (p x) (list_all p xs) all) (and_second (q x) (list_all q xs) more))
 
 -- the first n and the next m
 take_both : {X : Type 0} (p : X → Bool) (xs : List X) (n m : ℕ) → list_all p (take n xs) ≡ true → list_all p (take m (drop n xs)) ≡ true →

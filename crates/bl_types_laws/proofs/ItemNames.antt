@@ -43,6 +43,7 @@ use Rattle.bl_types_laws.proofs.NamedHeads.{head_at, head_long, head_suits, is_t
 use Rattle.bl_types_laws.proofs.StmtNames.{every_body, value_is}
 use Rattle.bl_types_laws.proofs.Suits.{Suits, constant_calls, suits_so, suits_then, told_opened}
 use Rattle.bl_types_laws.proofs.Told.{Told, kind_told, kinds_of, told_declared, told_more}
+use Rattle.bl_names.proofs.PlacedItem.{unit_counted}
 
 -- ---- units
 
@@ -130,11 +131,7 @@ module _ (units : List UnitDef) (all_constants : List NamedConstant) (scopes : S
 
 -- ---- behind a unit
 
-unit_counted : (kind : UnitKind) (counts : Counts) → counted counts (kind_of_unit kind) ≡ record counts { units = counts.units + 1; variables = 0 }
-unit_counted unit.Function counts = refl
-unit_counted unit.Activity counts = refl
-
-unit_told : (done : List UnitKind) (kind : UnitKind) (counts : Counts) → counts.units ≡ length done →
+pub unit_told : (done : List UnitKind) (kind : UnitKind) (counts : Counts) → counts.units ≡ length done →
     kind_told (done ++ (kind ∷ [])) (kind_of_unit kind) (count_of counts (kind_of_unit kind)) ≡ true
 unit_told done unit.Function counts is = ap (holds_of is_function) (get_seam done unit.Function counts.units is)
 unit_told done unit.Activity counts is = ap (holds_of is_activity) (get_seam done unit.Activity counts.units is)

@@ -15,16 +15,17 @@ use Rattle.bl_names_laws.specs.Apart as named
 use Rattle.bl_names_laws.specs.Depths as nested
 use Rattle.bl_types.specs.declared.environment.Environment.{Environment}
 use Rattle.bl_types.specs.Statements.{walked_block}
-use Rattle.bl_types_laws.proofs.Orders.{DepthMost, at_limit, one_more}
+use Rattle.bl_types_laws.proofs.Orders.{DepthMost}
 use Rattle.bl_types_laws.proofs.ShapeStatements.{statements_in}
+use Rattle.bl_names_laws.proofs.StmtDepth.{below_limit, one_more}
 
 shallow_still : (ones others : Depth) → DepthMost ones others → (nat_le (1 + others.blocks) 100 && nat_le others.exprs 200) ≡ true →
     (nat_le (1 + ones.blocks) 100 && nat_le ones.exprs 200) ≡ true
 shallow_still ones others most shallow =
     and_from (nat_le (1 + ones.blocks) 100) (nat_le ones.exprs 200)
-    (at_limit (1 + ones.blocks) (1 + others.blocks) 100 (one_more ones.blocks others.blocks most.blocks)
+    (below_limit (1 + ones.blocks) (1 + others.blocks) 100 (one_more ones.blocks others.blocks most.blocks)
     (and_first (nat_le (1 + others.blocks) 100) (nat_le others.exprs 200) shallow))
-    (at_limit ones.exprs others.exprs 200 most.exprs (and_second (nat_le (1 + others.blocks) 100) (nat_le others.exprs 200) shallow))
+    (below_limit ones.exprs others.exprs 200 most.exprs (and_second (nat_le (1 + others.blocks) 100) (nat_le others.exprs 200) shallow))
 
 -- the test of the library
 all_apart_is : {A : Type 0} (naming : A → Naming) (xs : List A) → list_all (λ x. (naming x).apart) xs ≡ all_of (map (λ n. n.apart) (map naming xs))

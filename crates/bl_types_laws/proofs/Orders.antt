@@ -1,13 +1,13 @@
 -- What is no more: variables among others, and trees that are nested no deeper.
 use Rattle.std.proofs.Common.{◌≡◌, ℕ, ◌+◌, ◌≤◌, Bool, true, false, not, ◌&&◌, ◌||◌, List, [], ◌∷◌, ◌++◌, refl, ap, sym, ◌∙◌, arith}
-use Rattle.std.specs.Prelude.{max, nat_eq, nat_le}
+use Rattle.std.specs.Prelude.{max, nat_eq}
 use Rattle.std.specs.List.{list_all, list_any}
-use Rattle.std.proofs.lemmas.Bool.{le-leb, leb-true}
 use Rattle.std.proofs.lemmas.List.Folds.{list_all-append}
 use Rattle.std.proofs.lemmas.Bool.{and_from}
 use Rattle.bl_tree.proofs.Basics.{all_weaker, and_first, and_second, none_at_most}
 use Rattle.bl_tree.specs.Apart.{Naming, Roots, all_apart, is_foreign, keep_apart, of_branches, together}
 use Rattle.bl_tree.specs.Depths.{Depth, block, leaf, of_all}
+use Rattle.bl_names_laws.proofs.StmtDepth.{one_more}
 
 -- ---- variables among others
 
@@ -126,9 +126,6 @@ pub record DepthMost (one other : Depth) : Type 0 where
   pub blocks : one.blocks ≤ other.blocks
   pub exprs : one.exprs ≤ other.exprs
 
-pub one_more : (a b : ℕ) → a ≤ b → 1 + a ≤ 1 + b
-one_more a b most = omega arith
-
 pub max_grows : (a b c d : ℕ) → a ≤ c → b ≤ d → max a b ≤ max c d
 max_grows a b c d one other = grind arith
 
@@ -159,6 +156,3 @@ depths_first one other ones others first most = record {
   blocks = max_grows one.blocks (of_all ones).blocks other.blocks (of_all others).blocks first.blocks most.blocks;
   exprs = max_grows one.exprs (of_all ones).exprs other.exprs (of_all others).exprs first.exprs most.exprs;
 }
-
-pub at_limit : (a b limit : ℕ) → a ≤ b → nat_le b limit ≡ true → nat_le a limit ≡ true
-at_limit a b limit most is = let less : b ≤ limit = leb-true b limit is in le-leb a limit (omega arith)

@@ -20,7 +20,8 @@ use Rattle.bl_tree.specs.Depths as depths
 use Rattle.bl_tree.specs.Reduce.{greatest, joined}
 use Rattle.bl_types.specs.Expressions.{call, cast, path, previous, read}
 use Rattle.bl_types.specs.Settled.{literal, one, two}
-use Rattle.bl_types_laws.proofs.Orders.{Among, among_behind, among_both, among_further, among_none, among_self, max_behind, max_grows, one_more}
+use Rattle.bl_types_laws.proofs.Orders.{Among, among_behind, among_both, among_further, among_none, among_self, max_behind, max_grows}
+use Rattle.bl_names_laws.proofs.StmtDepth.{one_more}
 
 -- ---- sizes
 

@@ -35,10 +35,7 @@ use Rattle.bl_types_laws.specs.Within.{known_in}
 use Rattle.bl_types_laws.proofs.TypesStand.{struct_stands as fields_stand}
 use Rattle.bl_types_laws.proofs.Premises.{Shapes}
 use Rattle.bl_types_laws.proofs.Ends.{same_last}
-
-inhabited_map : {A B : Type 0} (f : A → B) (xs : List A) → is_inhabited (map f xs) ≡ is_inhabited xs
-inhabited_map f [] = refl
-inhabited_map f (x ∷ xs) = refl
+use Rattle.bl_types_laws.proofs.Blocks.{inhabited_mapped}
 
 -- ---- structs
 
@@ -52,7 +49,7 @@ struct_made def env keeps placed none =
     let made : StructDef = struct_of env def in
     and_from (is_inhabited made.fields) ((list_all is_name (field_names made) && are_distinct (field_names made))
     && list_all (λ (field : Field). type_stands (length env.structs) field.ty) made.fields)
-    (inhabited_map (field_of env) def.fields ∙ and_first (is_inhabited def.fields) (list_all is_name (named_fields def)) named)
+    (inhabited_mapped (field_of env) def.fields ∙ and_first (is_inhabited def.fields) (list_all is_name (named_fields def)) named)
     (and_from (list_all is_name (field_names made) && are_distinct (field_names made))
     (list_all (λ (field : Field). type_stands (length env.structs) field.ty) made.fields)
     (and_from (list_all is_name (field_names made)) (are_distinct (field_names made))

@@ -36,7 +36,7 @@ use Rattle.bl_parse_tree.specs.declared.stmt.RawStmtKind.TheOpen.{RawStmtKind-F}
 use Rattle.bl_parse_tree.specs.declared.types.RawType.{RawType}
 use Rattle.bl_parse_tree.specs.Names.{arm_stands, branch_stands, expr_named, is_filled, named, optional as if_there, stmt_kind_stands, stmt_layer_stands}
 use Rattle.bl_parse_tree.specs.Names.{stmt_stands, type_named}
-use Rattle.bl_names.specs.Named.{Piece, all, arm_piece, branch_piece, constant_piece, kind_piece, made_of_all, marks_of_all, named_constant, named_var, opened}
+use Rattle.bl_names.specs.Named.{Piece, all, constant_piece, kind_piece, made_of_all, marks_of_all, named_constant, named_var, opened}
 use Rattle.bl_names.specs.Named.{own_scope, piece_of_arm, piece_of_branch, plain, stmt_layer_piece, stmt_piece}
 use Rattle.bl_names.specs.Naming.{named_expr, named_path, named_target, position}
 use Rattle.bl_names.proofs.FitLemmas.{Fits, fits_behind, fits_first, fits_second}
@@ -53,6 +53,7 @@ use Rattle.bl_types_laws.proofs.ExprCalls.{activity_is, expr_is, exprs_are, func
 use Rattle.bl_types_laws.proofs.Suits.{Suits, scope_is, suits_closed, suits_constant, suits_none, suits_so, suits_still, suits_then, suits_variable}
 use Rattle.bl_types_laws.proofs.Suits.{told_opened}
 use Rattle.bl_types_laws.proofs.Told.{Told, kinds_of}
+use Rattle.bl_names.proofs.PieceLemmas.{arm_is, branch_is}
 
 abbrev RawLayer : Type 0
 RawLayer = RawStmtKind-F RawStmtKind RawArm RawBranch RawStmt
@@ -64,14 +65,6 @@ Layer = NamedStmtKind-F NamedStmtKind NamedArm NamedBranch NamedStmt
 
 stmt_is : (place : Place) (layer : RawLayer) → stmt_piece (stmt place layer) ≡ stmt_layer_piece (record { place = place; what = kind_piece (parts layer) })
 stmt_is place layer = rw (fold-roll-RawStmt, fold-roll-RawStmtKind) refl
-
-arm_is : (test : RawExpr) (body : List RawStmt) → piece_of_arm (roll-RawArm (record { test = test; body = body }))
-    ≡ arm_piece (record { test = test; body = map stmt_piece body })
-arm_is test body = rw fold-roll-RawArm refl
-
-branch_is : (weak : Bool) (body : List RawStmt) → piece_of_branch (roll-RawBranch (record { weak = weak; body = body }))
-    ≡ branch_piece (record { weak = weak; body = map stmt_piece body })
-branch_is weak body = rw fold-roll-RawBranch refl
 
 abbrev pub arm_filled : RawArm → Bool
 arm_filled = fold-RawArm Bool Bool Bool Bool stmt_kind_stands arm_stands branch_stands stmt_layer_stands

@@ -1,7 +1,6 @@
 -- From the scopes before a part to those behind it, where a test holds of what is made of it.
-use Rattle.std.proofs.Common.{◌≡◌, ℕ, ◌+◌, Bool, true, ◌&&◌, List, [], ◌∷◌, ◌++◌, length, refl, sym, ap, subst, ◌∙◌, arith}
+use Rattle.std.proofs.Common.{◌≡◌, ◌+◌, Bool, true, ◌&&◌, List, [], ◌∷◌, ◌++◌, length, refl, sym, subst, ◌∙◌, arith}
 use Rattle.std.specs.List.{list_all}
-use Rattle.std.proofs.lemmas.List.{length-append}
 use Rattle.std.proofs.lemmas.List.Folds.{list_all-append}
 use Rattle.std.proofs.lemmas.Bool.{and_from}
 use Rattle.bl_tree.proofs.Basics.{plus_none}
@@ -17,6 +16,7 @@ use Rattle.bl_names.proofs.PlacedStmt.{closed_is}
 use Rattle.bl_names.proofs.StillLemmas.{Still, after-append}
 use Rattle.bl_types_laws.specs.Within.{calls_functions}
 use Rattle.bl_types_laws.proofs.Told.{Told, kinds_of, told_declared}
+use Rattle.bl_names.proofs.PastLemmas.{more}
 
 -- whether calls in the value of a constant name functions
 abbrev pub constant_calls : List UnitDef → NamedConstant → Bool
@@ -31,12 +31,6 @@ pub record Suits (units : List UnitDef) (holds : Bool) (scopes new : Scopes) (va
   pub more_constants : new.counts.constants ≡ scopes.counts.constants + length constants
   pub same_units : new.counts.units ≡ scopes.counts.units
   pub calls : list_all (constant_calls units) constants ≡ true
-
-sums : (a b c x y : ℕ) → b ≡ a + x → c ≡ b + y → c ≡ a + (x + y)
-sums a b c x y one two = omega arith
-
-more : {A : Type 0} (xs ys : List A) (a b c : ℕ) → b ≡ a + length xs → c ≡ b + length ys → c ≡ a + length (xs ++ ys)
-more xs ys a b c one two = sums a b c (length xs) (length ys) one two ∙ ap (λ n. a + n) (sym (length-append xs ys))
 
 pub told_opened : (units : List UnitDef) (scopes : Scopes) → Told (kinds_of units) scopes → Told (kinds_of units) (opened scopes)
 told_opened units scopes told = (refl, and_from _ _ told.0 told.1)

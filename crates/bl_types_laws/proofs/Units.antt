@@ -48,7 +48,7 @@ all_listed test (x ∷ xs) all = and_from (test x) (list_all test xs) (and_first
     (all_listed test xs (and_second (test x) (all_of (map test xs)) all))
 
 -- no variable is known where the unit begins
-entered_known : (unit : NamedUnit) (env : Environment) → Known env → Known (entered unit env)
+pub entered_known : (unit : NamedUnit) (env : Environment) → Known env → Known (entered unit env)
 entered_known unit env known = record { vars = λ k variable is. absurd (nothing_there k variable is); fields = known.fields; constants = known.constants }
   where
     nothing_there : (k : ℕ) (variable : Variable) → slice_get [] k ≡ Some variable → ⊥

@@ -1,5 +1,5 @@
 -- What naming a program gives where no rule on names fails.
-use Rattle.std.proofs.Common.{◌≡◌, ℕ, zero, suc, true, List, [], ◌∷◌, map, length, take, Some, refl, sym, ap, ◌∙◌, append-nil}
+use Rattle.std.proofs.Common.{◌≡◌, ℕ, zero, suc, true, List, [], ◌∷◌, map, length, take, Some, refl, sym, ap, ◌∙◌}
 use Rattle.std.specs.Prelude.{slice_get}
 use Rattle.std.proofs.lemmas.Bool.{ltb-true}
 use Rattle.bl_tree.proofs.Basics.{all_at, get_taken}
@@ -15,16 +15,13 @@ use Rattle.bl_names_scopes.specs.Rules.{Passes}
 use Rattle.bl_names_scopes.specs.Scopes.{file_scope}
 use Rattle.bl_names.specs.Named.{named_program}
 use Rattle.bl_names.proofs.FitLemmas.{program_fits}
-use Rattle.bl_names.proofs.PlacedStmt.{Within}
 use Rattle.bl_types_laws.specs.Standing.{unit_named}
 use Rattle.bl_types_laws.specs.Within.{calls_functions}
 use Rattle.bl_types_laws.proofs.ItemNames.{ItemsSuit, items_suit, named_at, stand_ins, stand_ins_are}
 use Rattle.bl_types_laws.proofs.Narrow.{Narrows, calls_narrow}
 use Rattle.bl_types_laws.proofs.Suits.{constant_calls}
 use Rattle.bl_types_laws.proofs.Told.{kind_at, kinds_of}
-
-whole : {A : Type 0} (xs : List A) → Within xs 0 xs
-whole xs = record { before = []; rest = []; there = sym (append-nil xs); is_at = refl }
+use Rattle.bl_names.proofs.PlacedProgram.{whole}
 
 program_suits : (items : List RawItem) (bytes : ℕ) → RawIsWellFormed items → Passes items →
     ItemsSuit (named_program items bytes).constants [] (named_program items bytes).units (named_program items bytes).constants

@@ -1,5 +1,5 @@
 -- What is known after a part of a body: it grows, by as much as is counted.
-use Rattle.std.proofs.Common.{◌≡◌, ℕ, List, [], ◌∷◌, map, length, Option, Some, None, refl, ap, sym, subst, ◌∙◌, append-nil}
+use Rattle.std.proofs.Common.{◌≡◌, ℕ, List, [], ◌∷◌, map, length, Option, Some, None, refl, ap, sym, subst, ◌∙◌}
 use Rattle.std.specs.Prelude.{All, Bool, true, false, ◌&&◌, nat_eq, slice_get, if◌then◌else◌}
 use Rattle.std.proofs.lemmas.List.Elements.{All-head, All-tail}
 use Rattle.std.proofs.lemmas.Option.{same_Some}
@@ -23,7 +23,7 @@ use Rattle.bl_names_tree.specs.Placed.{var_placed, with_constant as constant_cou
 use Rattle.bl_names_tree.specs.inner.Placed.{step_of_arm, step_of_branch}
 use Rattle.bl_types.specs.declared.environment.Constant.{Constant}
 use Rattle.bl_types.specs.declared.environment.Environment.{Environment}
-use Rattle.bl_types.specs.Declarations.{constant_of, initial, with_constant, with_variable}
+use Rattle.bl_types.specs.Declarations.{constant_of, initial, with_variable}
 use Rattle.bl_types.specs.Statements.{Block, StatementJudgement, Walked, after_optional_constant, arm_walked, branch_walked, constant_walked, declare, in_order}
 use Rattle.bl_types.specs.Statements.{returned, walked_arm, walked_branch, walked_stmt}
 use Rattle.bl_types_laws.specs.Standing.{Grown}
@@ -32,6 +32,7 @@ use Rattle.bl_types_laws.proofs.Declared.{constant_counts, variable_counts, vari
 use Rattle.bl_types_laws.proofs.NamedStmtInduction.{Cases, induct, induct_arm, induct_branch, stmt}
 use Rattle.bl_types_laws.proofs.StmtLayers.{Layer, step_by, step_is, walked_by, walked_is}
 use Rattle.bl_types_laws.proofs.Walks.{grown_further, grown_self}
+use Rattle.bl_types_laws.proofs.Declared.{constant_grown}
 
 -- what is known grows; where the positions in a part are in place, it is as much as is counted
 pub record Grows (step : PlacedStep) (before after : Environment) : Type 0 where
@@ -40,18 +41,6 @@ pub record Grows (step : PlacedStep) (before after : Environment) : Type 0 where
 
 abbrev pub Steps : {A : Type 0} → (Environment → Walked A) → PlacedStep → Type 0
 Steps walk step = (env : Environment) → Grows step env (walk env).env
-
-pub constant_grown : (env : Environment) (constant : Constant) → Grown env (with_constant env constant)
-constant_grown env constant = record {
-  vars = [];
-  has_vars = sym (append-nil env.vars);
-  constants = constant ∷ [];
-  has_constants = refl;
-  structs = refl;
-  units = refl;
-  kind = refl;
-  result = refl;
-}
 
 grows_still : (placed : DeclaredBefore → Bool) (env : Environment) → Grows (λ earlier. declares_none (placed earlier) earlier) env env
 grows_still placed env = record {

@@ -9,8 +9,6 @@ use Rattle.std.proofs.lemmas.List.Folds.{list_all-append}
 use Rattle.std.proofs.lemmas.Option.{same_Some}
 use Rattle.std.proofs.lemmas.Bool.{and_from}
 use Rattle.bl_tree.proofs.Basics.{all_weaker, and_first, and_second, none_plus, plus_none}
-use Rattle.bl_tree.specs.declared.tree.Role.{Role}
-use Rattle.bl_tree.specs.declared.tree.Role.TheVariants.{Input, Output, Variable as Var, Fixed}
 use Rattle.bl_tree.specs.declared.tree.Stmt.{Stmt}
 use Rattle.bl_tree.specs.Program.{is_input, is_output}
 use Rattle.bl_eval.proofs.OperatorFits.{some_found, where_holds}
@@ -31,6 +29,7 @@ use Rattle.bl_types_laws.proofs.Declared.{variable_grown}
 use Rattle.bl_types_laws.proofs.Heads.{is_local, locals_pass, parameter_is, parameters_append}
 use Rattle.bl_types_laws.proofs.Walks.{grown_further, grown_self}
 use Rattle.bl_types_laws_places_units.proofs.Grows.{bodies_grow}
+use Rattle.bl_types_laws.proofs.Heads.{input_role, output_role}
 
 -- ---- parameters
 
@@ -74,18 +73,6 @@ parameters_counted (var ∷ rest) env all =
     ∙ length-append env.vars _ in
     one_longer (length env.vars) (length first.vars) (length (after_parameters rest first).env.vars) (length rest) one
     (parameters_counted rest first (and_second (is_taken var) (list_all is_taken rest) all))
-
-input_role : (role : Role) → is_input role ≡ true → is_parameter role ≡ true
-input_role Input is = refl
-input_role Output is = absurd (cc)
-input_role Var is = absurd (cc)
-input_role Fixed is = absurd (cc)
-
-output_role : (role : Role) → is_output role ≡ true → is_parameter role ≡ true
-output_role Input is = absurd (cc)
-output_role Output is = refl
-output_role Var is = absurd (cc)
-output_role Fixed is = absurd (cc)
 
 -- where variables are ordered by role, so many parameters are known
 all_counted : (unit : NamedUnit) (env : Environment) → roles_placed unit ≡ true →

@@ -25,7 +25,6 @@ use Rattle.bl_tree.specs.Rules.{same_place}
 use Rattle.bl_tree.specs.Static.{static_of}
 use Rattle.bl_tree.specs.Within.{StandsIn, Within, is_run, is_run_kind, itself, kind_children, place_of}
 use Rattle.bl_tree.proofs.StmtInduction.{Cases, Each, EachArm, EachBranch, induct, stmt}
-use Rattle.bl_effects.proofs.EntryLemmas.{same_place_is}
 use Rattle.bl_graph_nodes.specs.Plain.{Block, Bodies, Plain, Act, Again, Await, Body as BodyOf, Cobegin, Done, If, Last, Repeat, Run as RunOf, Then, Until}
 use Rattle.bl_graph_nodes.specs.Plain.{When, While, plain_body}
 use Rattle.bl_ctree.specs.declared.instance.Instance.{Instance}
@@ -48,6 +47,7 @@ use Rattle.bl_ctree_laws_confluence.specs.Apart.Seen.{AllCallsMatchCallees, Call
 use Rattle.bl_ctree_laws_confluence.proofs.OnApart.Owned.{looped, stands_in}
 use Rattle.bl_ctree_laws_confluence.proofs.OnApart.Running.{layer_at, outputs_at, outputs_of, placed_at, run_found, stands_below, stands_first, stands_left}
 use Rattle.bl_ctree_laws_confluence.proofs.OnApart.Running.{stands_right}
+use Rattle.bl_tree.proofs.FirstLemmas.{same_true}
 
 -- ---- the listed `run` statements of a body stand in it
 
@@ -195,7 +195,7 @@ module _ (structs : List StructDef) (units : List UnitDef) (entry : ℕ) (keeps 
       subst (λ o. begins_at i place o ≡ true) began (subst (λ instance. begins_at i place instance.origin ≡ true) same found.1) in
       record {
         caller = eqb-true origin.caller i (and_first (nat_eq origin.caller i) (same_place origin.place place) is);
-        at = same_place_is origin.place place (and_second (nat_eq origin.caller i) (same_place origin.place place) is);
+        at = same_true origin.place place (and_second (nat_eq origin.caller i) (same_place origin.place place) is);
       }
 
   -- statements of one place have outputs of which one test says the same

@@ -218,7 +218,7 @@ in_one (branch ∷ rest) n l place (inr some) =
 later_one : (branch : Branch) (rest : List Branch) (k : ℕ) (place : Place) → InBranch rest k place → InBranch (branch ∷ rest) (suc k) place
 later_one branch rest k place one = record { branch = one.branch; is_there = one.is_there; found = one.found }
 
-not_first : (k : ℕ) → zero ≡ suc k → ⊥
+pub not_first : (k : ℕ) → zero ≡ suc k → ⊥
 not_first k e = absurd cc
 
 distinct_so : (branches : List Branch) (n : ℕ) (l : Label) → Distinct branches → RunApart (bodies_from (map plain_branch branches) n l)

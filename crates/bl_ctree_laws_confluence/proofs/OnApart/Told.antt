@@ -87,7 +87,7 @@ written_in place layer p there =
     contains_in p (kind_writes (written_parts layer))
     ((set_members (kind_writes (written_parts layer)) p).0 (subst (λ xs. Contains xs p) (written_at place layer) there))
 
-static_at : (path : Path) → (static_of path).root ≡ (out-Path path).root
+pub static_at : (path : Path) → (static_of path).root ≡ (out-Path path).root
 static_at path = ap (λ reach. reach.static.root) (fold_out-Path (List Static) StaticStep (List Static) Reach kind_mentions part_step expr_mentions path_reach path)
 
 root_named : (path : Path) → OneOf (static_of path).root (roots_in_path path)

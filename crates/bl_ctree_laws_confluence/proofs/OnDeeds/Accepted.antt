@@ -1,6 +1,6 @@
 -- Accepted programs are orderly.
-use Rattle.std.proofs.Common.{◌≡◌, ℕ, zero, suc, ◌+◌, Bool, true, false, ◌&&◌, List, [], ◌∷◌, ◌++◌, map, take, Option, Some, None, refl, sym, ap, ◌∙◌, subst}
-use Rattle.std.proofs.Common.{append_assoc, append-nil, arith}
+use Rattle.std.proofs.Common.{◌≡◌, ℕ, zero, ◌+◌, Bool, true, false, ◌&&◌, List, [], ◌∷◌, ◌++◌, map, take, Option, Some, None, refl, sym, ap, ◌∙◌, subst}
+use Rattle.std.proofs.Common.{arith}
 use Rattle.std.specs.List.{list_all}
 use Rattle.std.specs.Prelude.{Contains, is_none, is_some, length, option_and_then, slice_get, if◌then◌else◌}
 use Rattle.std.proofs.lemmas.Bool.{false_from_ne_true}
@@ -11,7 +11,7 @@ use Rattle.bl_tree.specs.declared.tree.Unit.{Unit as UnitDef}
 use Rattle.bl_tree.specs.Apart.{is_apart}
 use Rattle.bl_tree.specs.Depths.{is_shallow}
 use Rattle.bl_tree.specs.Instant.{is_instant_block}
-use Rattle.bl_tree.specs.Program.{IsWellTyped, is_entry, names_of, parameters_of, roles_stand, unit_stands, units_stand_after}
+use Rattle.bl_tree.specs.Program.{IsWellTyped, is_entry, names_of, parameters_of, roles_stand, unit_stands}
 use Rattle.bl_tree.specs.Reduce.{all_of, joined}
 use Rattle.bl_tree.specs.Returns.{activity_returns, function_returns, unit_returns}
 use Rattle.bl_tree.specs.Static.{overlaps}
@@ -28,23 +28,11 @@ use Rattle.bl_ctree_laws_confluence.specs.Deeds.Orderly.{AcceptedIsOrderly, Orde
 use Rattle.bl_ctree_laws_confluence.proofs.OnDeeds.Aliases.{of_member, unit_outputs}
 use Rattle.bl_ctree_laws_confluence.proofs.OnDeeds.Origins.{instances_have_callers_so}
 use Rattle.bl_ctree_laws_confluence.proofs.OnDeeds.Activities.{AllOf, IsActivity, all_at, expanded_so}
+use Rattle.bl_eval.proofs.UnitFits.{unit_at as unit_stands_at}
 
 no_member : {A : Type 0} (xs : List A) → ((x : A) → Contains xs x → ⊥) → xs ≡ []
 no_member [] none = refl
 no_member (x ∷ xs) none = absurd (none x (zero, omega arith, refl))
-
-unit_stands_at : (structs : List StructDef) (earlier units : List UnitDef) (k : ℕ) (unit : UnitDef) →
-    units_stand_after structs earlier units ≡ true → slice_get units k ≡ Some unit → unit_stands structs (earlier ++ take k units) unit ≡ true
-unit_stands_at structs earlier [] k unit stand there = absurd cc
-unit_stands_at structs earlier (first ∷ units) zero unit stand there =
-    let same : first ≡ unit = cc in
-    subst (λ earlier. unit_stands structs earlier unit ≡ true) (sym (append-nil earlier))
-    (subst (λ unit. unit_stands structs earlier unit ≡ true) same
-    (and_first (unit_stands structs earlier first) (units_stand_after structs (earlier ++ first ∷ []) units) stand))
-unit_stands_at structs earlier (first ∷ units) (suc k) unit stand there =
-    subst (λ earlier. unit_stands structs earlier unit ≡ true) (append_assoc earlier (first ∷ []) (take k units))
-    (unit_stands_at structs (earlier ++ first ∷ []) units k unit
-    (and_second (unit_stands structs earlier first) (units_stand_after structs (earlier ++ first ∷ []) units) stand) there)
 
 -- what `unit_stands` says, one by one
 record Standing (structs : List StructDef) (earlier : List UnitDef) (unit : UnitDef) : Type 0 where
@@ -80,7 +68,7 @@ activity_does unit is returns = by_kind (is_activity unit.kind) is returns
     by_kind true e r = r
     by_kind false e r = absurd cc
 
-entry_is : (units : List UnitDef) (entry : ℕ) (found : Option UnitDef) → slice_get units entry ≡ found → is_entry found ≡ true →
+pub entry_is : (units : List UnitDef) (entry : ℕ) (found : Option UnitDef) → slice_get units entry ≡ found → is_entry found ≡ true →
     IsActivity units entry
 entry_is units entry None there is = absurd cc
 entry_is units entry (Some unit) there is = record {

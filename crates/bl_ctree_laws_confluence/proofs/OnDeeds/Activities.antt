@@ -181,7 +181,7 @@ pub record IsActivity (units : List UnitDef) (k : ℕ) : Type 0 where
   pub there : slice_get units k ≡ Some unit
   pub activity : is_activity unit.kind ≡ true
 
-taken : (units : List UnitDef) (n k : ℕ) (unit : UnitDef) → slice_get (take n units) k ≡ Some unit → slice_get units k ≡ Some unit
+pub taken : (units : List UnitDef) (n k : ℕ) (unit : UnitDef) → slice_get (take n units) k ≡ Some unit → slice_get units k ≡ Some unit
 taken [] zero k unit e = e
 taken [] (suc n) k unit e = e
 taken (u ∷ units) zero k unit e = absurd cc

@@ -24,11 +24,11 @@ use Rattle.bl_ctree.specs.Instances.{arm_runs, branch_runs, kind_runs, runs_in, 
 use Rattle.bl_ctree_laws_confluence.specs.Deeds.Homes.{AreApart}
 use Rattle.bl_ctree_laws_confluence.proofs.OnDeeds.Activities.{AllOf, all_both, one_a_place_so}
 
-of_first : {A : Type 0} (P : A → Type 0) (xs ys : List A) → AllOf P (xs ++ ys) → AllOf P xs
+pub of_first : {A : Type 0} (P : A → Type 0) (xs ys : List A) → AllOf P (xs ++ ys) → AllOf P xs
 of_first P [] ys all = tt
 of_first P (x ∷ xs) ys all = (all.0, of_first P xs ys all.1)
 
-of_second : {A : Type 0} (P : A → Type 0) (xs ys : List A) → AllOf P (xs ++ ys) → AllOf P ys
+pub of_second : {A : Type 0} (P : A → Type 0) (xs ys : List A) → AllOf P (xs ++ ys) → AllOf P ys
 of_second P [] ys all = all
 of_second P (x ∷ xs) ys all = of_second P xs ys all.1
 

@@ -17,14 +17,14 @@ use Rattle.bl_ctree_laws_confluence.proofs.OnDeeds.Activities.{AllOf}
 
 -- ---- elements of lists
 
-get_split : {A : Type 0} (xs ys : List A) (m : ℕ) (x : A) → slice_get (xs ++ ys) m ≡ Some x →
+pub get_split : {A : Type 0} (xs ys : List A) (m : ℕ) (x : A) → slice_get (xs ++ ys) m ≡ Some x →
     (slice_get xs m ≡ Some x) ⊎ ((k : ℕ) × (m ≡ length xs + k) × (slice_get ys k ≡ Some x))
 get_split [] ys m x e = inr (m, omega arith, e)
 get_split (z ∷ xs) ys zero x e = inl e
 get_split (z ∷ xs) ys (suc m) x e =
     ⊎_elim (λ here. inl here) (λ there. let is = there.1 in inr (there.0, omega arith, there.2)) (get_split xs ys m x e)
 
-get_second : {A : Type 0} (xs ys : List A) (m k : ℕ) (x : A) → m ≡ length xs + k → slice_get ys k ≡ Some x → slice_get (xs ++ ys) m ≡ Some x
+pub get_second : {A : Type 0} (xs ys : List A) (m k : ℕ) (x : A) → m ≡ length xs + k → slice_get ys k ≡ Some x → slice_get (xs ++ ys) m ≡ Some x
 get_second [] ys m k x is e = let same : k ≡ m = omega arith in subst (λ m. slice_get ys m ≡ Some x) same e
 get_second (z ∷ xs) ys zero k x is e = absurd (omega arith)
 get_second (z ∷ xs) ys (suc m) k x is e = get_second xs ys m k x (omega arith) e

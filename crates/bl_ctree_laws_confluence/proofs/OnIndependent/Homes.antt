@@ -11,7 +11,6 @@ use Rattle.bl_tree.specs.declared.tree.StructDef.{StructDef}
 use Rattle.bl_tree.specs.declared.tree.Unit.{Unit as UnitDef}
 use Rattle.bl_tree.specs.Rules.{same_place}
 use Rattle.bl_tree.specs.Static.{is_front, overlaps, whole}
-use Rattle.bl_effects.proofs.EntryLemmas.{same_place_is}
 use Rattle.bl_effects.proofs.SetLemmas.{overlaps_symm}
 use Rattle.bl_graph_nodes.specs.Plain.{Block}
 use Rattle.bl_ctree.specs.declared.instance.Instance.{Instance}
@@ -25,6 +24,7 @@ use Rattle.bl_ctree_laws_confluence.proofs.OnDeeds.Nesting.{programs_nest}
 use Rattle.bl_ctree_laws_confluence.proofs.OnDeeds.Origins.{homes_lead_out}
 use Rattle.bl_ctree_laws_confluence.specs.Apart.Owned.{IsInsideCall, RunsAt, SomeIn}
 use Rattle.bl_ctree_laws_confluence.specs.Apart.Seen.{InCall}
+use Rattle.bl_tree.proofs.FirstLemmas.{same_true}
 
 -- ---- paths that lead on
 
@@ -107,8 +107,8 @@ module _ (structs : List StructDef) (units : List UnitDef) (entry : ℕ) where
       by_origin : (o : Option Origin) → begins_at i place o ≡ true → begins_at i other o ≡ true → place ≡ other
       by_origin None e f = absurd cc
       by_origin (Some origin) e f =
-          sym (same_place_is origin.place place (and_second (nat_eq origin.caller i) (same_place origin.place place) e))
-          ∙ same_place_is origin.place other (and_second (nat_eq origin.caller i) (same_place origin.place other) f)
+          sym (same_true origin.place place (and_second (nat_eq origin.caller i) (same_place origin.place place) e))
+          ∙ same_true origin.place other (and_second (nat_eq origin.caller i) (same_place origin.place other) f)
 
   not_own : {A : Type 0} {i : ℕ} {body : Block} → IsInsideCall W i body i → A
   not_own {i = i} one =

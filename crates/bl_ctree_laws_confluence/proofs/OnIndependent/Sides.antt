@@ -89,7 +89,7 @@ any_in test (y ∷ ys) x (inr more) is = or_right (test y) (list_any test ys) (a
 
 -- ---- one path
 
-front_itself : (xs : List ℕ) → is_front xs xs ≡ true
+pub front_itself : (xs : List ℕ) → is_front xs xs ≡ true
 front_itself [] = refl
 front_itself (x ∷ xs) = and_from (nat_eq x x) (is_front xs xs) (eq-eqb x x refl) (front_itself xs)
 

@@ -74,7 +74,7 @@ with_put fields new value = unwrap_or (with_value_at fields new value) value
 abbrev on_parts : (List Value → List Value) → Value → Value
 on_parts change value = unwrap_or (option_map (λ all. Parts (change all)) (parts_in value)) value
 
-whole_again : (value : Value) (all : List Value) → parts_in value ≡ Some all → Parts all ≡ value
+pub whole_again : (value : Value) (all : List Value) → parts_in value ≡ Some all → Parts all ≡ value
 whole_again value all e = by_level (out-Value value) refl e
   where
     by_level : (level : Value-F Value) → out-Value value ≡ level → parts_at level ≡ Some all → Parts all ≡ value

@@ -32,7 +32,7 @@ get_mapped f (x ∷ xs) zero = refl
 get_mapped f (x ∷ xs) (suc k) = get_mapped f xs k
 
 -- the number at a place of a range
-range_at : (first count k j : ℕ) → slice_get (range_with_len first count) k ≡ Some j → j ≡ first + k
+pub range_at : (first count k j : ℕ) → slice_get (range_with_len first count) k ≡ Some j → j ≡ first + k
 range_at first zero zero j e = absurd cc
 range_at first zero (suc k) j e = absurd cc
 range_at first (suc count) zero j e = let is : first ≡ j = cc in omega arith
@@ -67,7 +67,7 @@ mapped_alike f g count k fields same =
 
 -- ---- values at homes
 
-nothing_there : (f : ℕ) (fields : List ℕ) → value_at (f ∷ fields) (Parts []) ≡ None
+pub nothing_there : (f : ℕ) (fields : List ℕ) → value_at (f ∷ fields) (Parts []) ≡ None
 nothing_there f fields = ap (λ all. option_and_then (value_at fields) (option_and_then (λ all. slice_get all f) all)) (parts_of []) ∙ empty f
   where
     empty : (f : ℕ) → option_and_then (value_at fields) (slice_get [] f) ≡ None

@@ -27,7 +27,7 @@ pauses : is_instant_block body ≡ false
 pauses = simp (fold-roll-Stmt, fold-roll-StmtKind, fold-roll-Branch) refl
 
 -- the static path of a whole variable
-static_is : (k : ℕ) → static_of (variable k) ≡ whole k
+pub static_is : (k : ℕ) → static_of (variable k) ≡ whole k
 static_is k = ap (λ (r : Reach). r.static) path_reached
   where
     path_reached : reach_of (variable k) ≡ record { static = whole k; indices = [] }

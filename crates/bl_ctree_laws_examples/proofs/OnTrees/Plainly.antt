@@ -16,13 +16,13 @@ use Rattle.bl_ctree_laws_examples.specs.Trees.TwoWay as two_way
 abbrev branch_of : TypedBranch → Branch
 branch_of = fold-Branch (Place → Position → Plain) Arm Branch (Position → Plain) kind_plain arm_plain branch_plain stmt_plain
 
-set_is : (place k : ℕ) (e : Expr) → plain_stmt (set place k e) ≡ λ p. Act (label_at p) (set place k e)
+pub set_is : (place k : ℕ) (e : Expr) → plain_stmt (set place k e) ≡ λ p. Act (label_at p) (set place k e)
 set_is place k e = rw (fold-roll-Stmt, fold-roll-StmtKind) refl
 
 declares_is : (place k : ℕ) → plain_stmt (two_way.declares place k) ≡ λ p. Act (label_at p) (two_way.declares place k)
 declares_is place k = rw (fold-roll-Stmt, fold-roll-StmtKind) refl
 
-pause_is : (place : ℕ) → plain_stmt (await_true place) ≡ λ p. Await (label_at p) (at place) always
+pub pause_is : (place : ℕ) → plain_stmt (await_true place) ≡ λ p. Await (label_at p) (at place) always
 pause_is place = rw (fold-roll-Stmt, fold-roll-StmtKind) refl
 
 loop_is : (place : ℕ) (body : List Stmt) → plain_stmt (stmt place (StmtKind-F.Repeat body))

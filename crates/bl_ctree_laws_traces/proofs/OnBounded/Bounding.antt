@@ -183,24 +183,24 @@ module _ (structs : List StructDef) (units : List UnitDef) (entry : ℕ) (stand 
 
 -- ---- programs
 
-entry_found : (units : List UnitDef) (entry : ℕ) (found : Option UnitDef) → slice_get units entry ≡ found → is_entry found ≡ true →
+pub entry_found : (units : List UnitDef) (entry : ℕ) (found : Option UnitDef) → slice_get units entry ≡ found → is_entry found ≡ true →
     (unit : UnitDef) × (slice_get units entry ≡ Some unit)
 entry_found units entry None there is = absurd cc
 entry_found units entry (Some unit) there is = (unit, there)
 
-root_there : (units : List UnitDef) (longest k : ℕ) (unit : UnitDef) → zero < longest → slice_get units k ≡ Some unit →
+pub root_there : (units : List UnitDef) (longest k : ℕ) (unit : UnitDef) → zero < longest → slice_get units k ≡ Some unit →
     slice_get (expanded units longest k) 0 ≡ Some (record { unit = k; depth = 0; origin = None })
 root_there units zero k unit less is = absurd (omega arith)
 root_there units (suc longest) k unit less is =
     ap (λ found. slice_get (unwrap_or (option_map (λ unit. record { unit = k; depth = 0; origin = None }
     ∷ instances_below (expanded units longest) 1 (runs_of unit)) found) []) 0) is
 
-entry_at : (structs : List StructDef) (units : List UnitDef) (entry : ℕ) (unit : UnitDef) → slice_get units entry ≡ Some unit →
+pub entry_at : (structs : List StructDef) (units : List UnitDef) (entry : ℕ) (unit : UnitDef) → slice_get units entry ≡ Some unit →
     unit_at (setting_of structs units entry) 0 ≡ Some unit
 entry_at structs units entry unit there =
     ap (option_and_then (unit_of (setting_of structs units entry))) (root_there units (entry + 1) entry unit (omega arith) there) ∙ there
 
-entry_is : StatementsArePlain → (w : Setting) (unit : UnitDef) → unit_at w 0 ≡ Some unit → entry_block w ≡ plain_body unit.body
+pub entry_is : StatementsArePlain → (w : Setting) (unit : UnitDef) → unit_at w 0 ≡ Some unit → entry_block w ≡ plain_body unit.body
 entry_is plain w unit is =
     ap (λ found. plain_items (unwrap_or (option_map (λ unit. body_items unit.body) found) [])) is ∙ sym (plain.blocks unit.body [])
 

@@ -17,7 +17,6 @@ use Rattle.bl_tree.specs.Types.{type_stands}
 use Rattle.bl_tree.specs.Typing.{fits, site_of}
 use Rattle.bl_tree.specs.Within.{StandsIn}
 use Rattle.bl_tree.specs.Words.{are_distinct, is_name}
-use Rattle.bl_effects.proofs.EntryLemmas.{same_place_is}
 use Rattle.bl_graph_nodes.specs.Plain.{plain_body}
 use Rattle.bl_ctree.specs.declared.instance.Instance.{Instance}
 use Rattle.bl_ctree.specs.declared.instance.Origin.{Origin}
@@ -32,6 +31,7 @@ use Rattle.bl_ctree_laws_traces.proofs.OnBounded.ByPlace.{once_among}
 use Rattle.bl_ctree_laws_traces.proofs.OnBounded.Calls.{CalleesAreNamed, calls_in, run_of}
 use Rattle.bl_ctree_laws_traces.proofs.OnBounded.Lists.{Among, among_got, among_map}
 use Rattle.bl_ctree_laws_traces.proofs.OnBounded.Listed.{CallsEarlier}
+use Rattle.bl_tree.proofs.FirstLemmas.{same_true}
 
 -- ---- typed bodies, unit by unit
 
@@ -79,7 +79,7 @@ OneUnitEach unit =
 
 -- ---- instances
 
-all_among : {A : Type 0} (P : A → Type 0) (xs : List A) (x : A) → AllOf P xs → Among x xs → P x
+pub all_among : {A : Type 0} (P : A → Type 0) (xs : List A) (x : A) → AllOf P xs → Among x xs → P x
 all_among P [] x all at = elim at [ ]
 all_among P (y ∷ xs) x all (inl is) = subst P (sym is) all.0
 all_among P (y ∷ xs) x all (inr at) = all_among P xs x all.1 at
@@ -151,5 +151,5 @@ module _ (callers : InstancesHaveCallers) (structs : List StructDef) (units : Li
       by_origin instance there (Some origin) is e =
           by_call i caller s callee instance origin found at there
           (eqb-true origin.caller i (and_first (nat_eq origin.caller i) (same_place origin.place s.place) e))
-          (same_place_is origin.place s.place (and_second (nat_eq origin.caller i) (same_place origin.place s.place) e))
+          (same_true origin.place s.place (and_second (nat_eq origin.caller i) (same_place origin.place s.place) e))
           (subst (HasCaller units entry W.instances callee instance) is (callers units entry callee instance there))

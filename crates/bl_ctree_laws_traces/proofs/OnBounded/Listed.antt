@@ -106,7 +106,7 @@ pass_found units k unit (Inside n called step) is at =
 abbrev pub CallsEarlier : List UnitDef → Type 0
 CallsEarlier units = (k : ℕ) (unit : UnitDef) (s : Call) → slice_get units k ≡ Some unit → Among s (calls_in (plain_body unit.body)) → s.unit < k
 
-some_same : (one other : UnitDef) → Some one ≡ Some other → one ≡ other
+pub some_same : (one other : UnitDef) → Some one ≡ Some other → one ≡ other
 some_same one other e = cc
 
 -- the nodes that act in this tick are nodes of the body

@@ -13,13 +13,9 @@ use Rattle.bl_ctree.specs.declared.instance.Run.{Run}
 use Rattle.bl_ctree.specs.Instances.{Setting, called_from, expanded, instances_below, origin_under, runs_in, runs_of, unit_of}
 use Rattle.bl_ctree.specs.Measure.{copies, count_at, passes}
 use Rattle.bl_ctree_laws_traces.proofs.OnBounded.Lists.{EachOf, each_append, each_map, each_more, total_append, total_of}
+use Rattle.bl_ctree_laws_confluence.proofs.OnDeeds.Origins.{get_second}
 
 -- ---- lists
-
-get_second : {A : Type 0} (xs ys : List A) (m k : ℕ) (x : A) → m ≡ length xs + k → slice_get ys k ≡ Some x → slice_get (xs ++ ys) m ≡ Some x
-get_second [] ys m k x is e = let same : k ≡ m = omega arith in subst (λ m. slice_get ys m ≡ Some x) same e
-get_second (z ∷ xs) ys zero k x is e = absurd (omega arith)
-get_second (z ∷ xs) ys (suc m) k x is e = get_second xs ys m k x (omega arith) e
 
 -- ---- sums
 

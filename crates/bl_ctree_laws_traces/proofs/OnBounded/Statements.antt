@@ -45,7 +45,7 @@ both_few {calls} {calls'} {nodes} {nodes'} n n' one other =
     let more = other.few in
     record { are = map-append run_of calls calls' ∙ (λ i. one.are i ++ other.are i); few = omega arith }
 
-so_long : (b : Bool) (n : Node) → length (where_so b n) ≤ 1
+pub so_long : (b : Bool) (n : Node) → length (where_so b n) ≤ 1
 so_long true n = omega arith
 so_long false n = omega arith
 

@@ -8,12 +8,13 @@ use Rattle.bl_tree.proofs.Basics.{get_of_map, or_true, some_within}
 use Rattle.bl_tree.specs.declared.place.Place.{Place}
 use Rattle.bl_tree.specs.declared.tree.Unit.{Unit as UnitDef}
 use Rattle.bl_tree.specs.Rules.{same_place}
-use Rattle.bl_effects.proofs.EntryLemmas.{same_place_is, same_place_refl}
+use Rattle.bl_effects.proofs.EntryLemmas.{same_place_refl}
 use Rattle.bl_ctree.specs.declared.instance.Instance.{Instance}
 use Rattle.bl_ctree.specs.declared.instance.Origin.{Origin}
 use Rattle.bl_ctree.specs.declared.instance.Run.{Run}
 use Rattle.bl_ctree.specs.Instances.{begins_at, called_from, expanded, instances_below, one_a_place, origin_under, runs_of}
 use Rattle.bl_ctree_laws_confluence.proofs.OnDeeds.Activities.{AllOf}
+use Rattle.bl_tree.proofs.FirstLemmas.{same_true}
 
 any_first : {A : Type 0} (p : A → Bool) (xs ys : List A) → list_any p xs ≡ true → list_any p (xs ++ ys) ≡ true
 any_first p [] ys e = absurd cc
@@ -219,5 +220,5 @@ all_places P (run ∷ rest) all = (all.0, all_places P rest (unfiltered (one_a_p
             (filter (λ other. not (same_place run.place other.place)) xs)) →
             (AllOf (λ run. P run.place) (filter (λ other. not (same_place run.place other.place)) xs) → AllOf (λ run. P run.place) xs) →
             AllOf (λ run. P run.place) (x ∷ xs)
-        by_test true is kept more = (subst P (same_place_is run.place x.place is) all.0, more kept)
+        by_test true is kept more = (subst P (same_true run.place x.place is) all.0, more kept)
         by_test false is kept more = (kept.0, more kept.1)

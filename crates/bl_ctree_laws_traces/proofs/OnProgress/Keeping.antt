@@ -24,11 +24,12 @@ use Rattle.bl_ctree_laws.specs.Trees.{Tree, Trees, Watch, Nil, Wait, Test, Idle,
 use Rattle.bl_ctree_laws_traces.specs.Progress.Laws.{StepsKeepFitsGraph}
 use Rattle.bl_ctree_laws_traces.specs.Progress.FitsGraph.{AllFitGraph, CheckFitsGraph, FitsGraph, check_of, test_of}
 use Rattle.bl_ctree_laws_traces.specs.Progress.Places.{AllCallable, AreSubgraphs, IsSubgraph, Place, ahead_of, guarded, in_branch, later_on, whole}
-use Rattle.bl_ctree_laws_traces.proofs.OnProgress.Acting.{done_may_join, region}
+use Rattle.bl_ctree_laws_traces.proofs.OnProgress.Acting.{region}
 use Rattle.bl_ctree_laws_traces.proofs.OnProgress.Beginning.{Closed, again_fits, begun_live, body_lives, depth_reached, do_lives, else_fits, fits_join}
 use Rattle.bl_ctree_laws_traces.proofs.OnProgress.Beginning.{nil_is_empty, repeat_body, seq_lives, seq_unended, surface_reached, then_fits, turn_begins}
 use Rattle.bl_ctree_laws_traces.proofs.OnProgress.Beginning.{turn_unended, until_body, until_fits, walks_stay, watch_fits, while_body}
 use Rattle.bl_ctree_laws_traces.proofs.OnProgress.Leading.{body_walk, end_out, in_on, join_out, one_on, run_out, way_out}
+use Rattle.bl_ctree_laws.proofs.Less.{done_join}
 
 -- ---- more nodes may act
 
@@ -365,7 +366,7 @@ module _ {w : Setting} (pass : InstantsPass) (shrink : EndsShrink) (pace : Paces
     kept {i = i} (run_ends {s = s} {stood = stood}) g live closed deep =
         left_by g (run_node stood s.label s.place s.arguments) live.2.now (run_out w i s stood g live.2.fits (live.2.stays refl))
     kept (joins {s = s} {stood = stood} {branches = branches} still done) g live closed deep =
-        let ends = live.1.joins (done_may_join branches done) in
+        let ends = live.1.joins (done_join branches done) in
         left_by g (join_node stood s.label s.place) ends.1 (live.1.fits.outs _ (join_out s.label s.place s.bodies stood ends.0))
     kept (in_seq {rest = Done} move) g live closed deep = elim live [ ]
     kept (in_seq {rest = Then s rest} {c' = c'} move) g live closed deep =

@@ -83,7 +83,7 @@ to_end s E true n both so = both.1
 to_end s E false n both so = both.0 (so refl)
 
 -- an edge from a branch to the join
-to_join : (weak : Bool) (body : Block) (rest : Bodies) (l : Label) (at : Source) (so stood : Bool) (n : Node) → (stood ≡ false → so ≡ true) →
+pub to_join : (weak : Bool) (body : Block) (rest : Bodies) (l : Label) (at : Source) (so stood : Bool) (n : Node) → (stood ≡ false → so ≡ true) →
     In stood body n → (weak ≡ true) ⊎ OutAll body n → EdgeEach (BodyOf weak body rest) l at so n (join_node stood l at)
 to_join weak body rest l at so true n is inside ends = inr (inr (inr (inl ((inside, ends), refl))))
 to_join weak body rest l at so false n is inside ends = inr (inr (inl ((inside, ends), (is refl, refl))))
@@ -156,13 +156,13 @@ unsettled_joins w i (beside true c rest) (BodyOf weak' body bodies) l at so stoo
         subst (λ b. OneLeads w i (beside true c rest) (EdgeEach (BodyOf b body bodies) l at so) (λ n. n ≡ join_node stood l at)) lives.1
         (weak_joins w i c rest body bodies l at so stood g lives.0 is (point c i (in_branch stood body g) lives.0 moving))
 
-none_strong : (branches : Trees) → has_strong branches ≡ false → strong_ended branches ≡ true
+pub none_strong : (branches : Trees) → has_strong branches ≡ false → strong_ended branches ≡ true
 none_strong no_tree e = refl
 none_strong (beside true c rest) e = none_strong rest e
 none_strong (beside false c rest) e = absurd cc
 
 -- so many have ended as are needed, then all strong ones have
-done_strong : (branches : Trees) → are_done branches ≡ true → strong_ended branches ≡ true
+pub done_strong : (branches : Trees) → are_done branches ≡ true → strong_ended branches ≡ true
 done_strong branches e = by_kind (has_strong branches) refl e
   where
     by_kind : (b : Bool) → has_strong branches ≡ b → cond b (strong_ended branches) (some_ended branches) ≡ true → strong_ended branches ≡ true

@@ -24,9 +24,10 @@ use Rattle.bl_ctree_laws_traces.specs.Progress.Places.{Place, ahead_of, guarded,
 use Rattle.bl_ctree_laws_traces.proofs.OnProgress.Acting.{OneCould, one_region, region, this_could, this_one_could}
 use Rattle.bl_ctree_laws_traces.proofs.OnProgress.Leading.{in_on, rest_edges}
 use Rattle.bl_ctree_laws_traces.proofs.OnProgress.Writing.{one_writer, writer}
+use Rattle.bl_ctree_laws_traces.proofs.OnBounded.Stepping.{crossing}
 
 -- the node of a `run` has its place
-run_place : (stood : Bool) (s : Call) → place_of_node (run_node stood s.label s.place s.arguments) ≡ s.place
+pub run_place : (stood : Bool) (s : Call) → place_of_node (run_node stood s.label s.place s.arguments) ≡ s.place
 run_place true s = refl
 run_place false s = refl
 
@@ -69,12 +70,6 @@ found f (x ∷ xs) e = by_test (f x) refl e (found f xs)
     by_test true is e more = record { one = x; is = is; also = λ g h. ap (λ b. b || list_any g xs) h }
     by_test false is e more = let rest = more e in record { one = rest.one; is = rest.is; also = λ g h. ap (λ b. g x || b) (rest.also g h) ∙ or_true (g x) }
 
--- nodes of different branches stand beside each other
-first_beside : (stood weak : Bool) (body : Block) (rest : Bodies) (n m : Node) → In stood body n → InEach stood rest m →
-    BesideEach (BodyOf weak body rest) n m
-first_beside false weak body rest n m h k = inr (inl (inl (h, k)))
-first_beside true weak body rest n m h k = inr (inr (inl (inl (h, k))))
-
 later_beside : (stood weak : Bool) (body : Block) (rest : Bodies) (n m : Node) → InEach stood rest n → In stood body m →
     BesideEach (BodyOf weak body rest) n m
 later_beside false weak body rest n m h k = inr (inl (inr (h, k)))
@@ -112,7 +107,7 @@ module _ {w : Setting} (pass : InstantsPass) (reach : WritersAreReached) (surfac
         waits = waits_beside w n one.could.label i a (EdgeEach (BodyOf weak' body rest) l at so) g.links (record {
           writer = one.end;
           walk = walk_more (λ n m h. inl h) one.walk;
-          beside = links _ _ (first_beside stood weak' body rest one.end (head_of n)
+          beside = links _ _ (crossing stood weak' body rest one.end (head_of n)
               (in_on stood body (region one.could.moves (in_branch stood body g) live) one.walk) (one_region move rest stood g lives));
           writes = over.also (λ x. list_any (leads_over w i x) (node_writes one.end)) one.leads;
         });

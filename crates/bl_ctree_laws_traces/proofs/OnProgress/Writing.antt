@@ -29,7 +29,8 @@ use Rattle.bl_ctree_laws_traces.specs.Progress.FitsGraph.{AllFitGraph, CheckFits
 use Rattle.bl_ctree_laws_traces.specs.Progress.Places.{AreSubgraphs, IsSubgraph, Place, ahead_of, guarded, in_branch, later_on, whole}
 use Rattle.bl_ctree_laws_traces.proofs.OnProgress.Acting.{begins, point, region, this_could, this_one_could}
 use Rattle.bl_ctree_laws_traces.proofs.OnProgress.Leading.{OneLeads, after_walk, both_are, either_is, in_on, later_leads, one_on, rest_edges, way_out}
-use Rattle.bl_ctree_laws_traces.proofs.OnProgress.Paths.{any_left, any_right, contained, member, passed, passing, set_passes}
+use Rattle.bl_ctree_laws_traces.proofs.OnProgress.Paths.{any_left, any_right, contained, member, passing, set_passes}
+use Rattle.bl_ctree_laws.proofs.Surfaces.{passed}
 
 -- ---- what begins
 

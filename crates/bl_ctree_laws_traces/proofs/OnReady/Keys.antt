@@ -42,7 +42,7 @@ pub record Same (n m : Node) : Type 0 where
   pub label : label_of n ≡ label_of m
   pub sort : sort_of n ≡ sort_of m
 
-itself : (n : Node) → Same n n
+pub itself : (n : Node) → Same n n
 itself n = record { label = refl; sort = refl }
 
 -- ---- lists without repetition
@@ -88,12 +88,12 @@ some_same a b is = cc
 to_first : (x n m : Node) → n ≡ x → Same n m → Same x m
 to_first x n m is same = subst (λ y. Same y m) is same
 
-has_at : (xs : List Node) (i : ℕ) (x n : Node) → slice_get xs i ≡ Some n → Same x n → Has xs x
+pub has_at : (xs : List Node) (i : ℕ) (x n : Node) → slice_get xs i ≡ Some n → Same x n → Has xs x
 has_at [] i x n is same = absurd (none_is_some n is)
 has_at (y ∷ xs) zero x n is same = inl (subst (Same x) (sym (some_same y n is)) same)
 has_at (y ∷ xs) (suc i) x n is same = inr (has_at xs i x n is same)
 
-turned : (n m : Node) → Same n m → Same m n
+pub turned : (n m : Node) → Same n m → Same m n
 turned n m same = record { label = sym same.label; sort = sym same.sort }
 
 -- those that have one label and one sort are one

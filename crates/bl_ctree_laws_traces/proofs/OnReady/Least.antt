@@ -2,7 +2,7 @@
 use Rattle.std.proofs.Common.{◌≡◌, ◌⊎◌, inl, inr, ℕ, Bool, true, false, not, ◌&&◌, ◌∷◌, Some, refl, sym, ap, ◌∙◌, subst}
 use Rattle.std.specs.Prelude.{unwrap_or}
 use Rattle.bl_tree.proofs.Basics.{not_both}
-use Rattle.bl_graph_nodes.specs.Nodes.{Node, entry, place_of_node}
+use Rattle.bl_graph_nodes.specs.Nodes.{Node, entry}
 use Rattle.bl_graph_nodes.specs.Plain.{Block, Bodies, Plain, Body as BodyOf, Done, Last, Then, plain_body}
 use Rattle.bl_graph_nodes.specs.Steps.{Gives, Here, Inside, StepLabel, end_node, join_node, run_node}
 use Rattle.bl_ctree.specs.Control.{Check, Body}
@@ -21,6 +21,7 @@ use Rattle.bl_ctree_laws_traces.proofs.OnProgress.Acting.{OneCould, begins, ende
 use Rattle.bl_ctree_laws_traces.specs.Ready.Least.{Before, Least, LeastMayAct, UnsettledHasLeast}
 use Rattle.bl_ctree_laws_traces.specs.Ready.Ranks.{LowestMayAct, ranks_in}
 use Rattle.bl_ctree_laws_traces.proofs.OnReady.Before.{First, first_of, is_first, is_second, lower_before, never_itself, rest_before}
+use Rattle.bl_ctree_laws_traces.proofs.OnProgress.Waiting.{run_place}
 
 -- ---- the steps of each tree
 
@@ -96,10 +97,6 @@ module _ {w : Setting} where
   run_inner moving (in_run {n = step} {c' = after} move) = (step, after, refl, move)
 
 -- ---- the first of them
-
-run_place : (stood : Bool) (s : Call) → place_of_node (run_node stood s.label s.place s.arguments) ≡ s.place
-run_place true s = refl
-run_place false s = refl
 
 module _ (w : Setting) (rank : ℕ → Node → ℕ) where
   -- of branches

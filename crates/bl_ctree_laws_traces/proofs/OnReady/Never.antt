@@ -73,7 +73,7 @@ unsettled_may lowest could structs units entry rank i unit stood c rising output
 abbrev body_of : Option UnitDef → Block
 body_of found = plain_items (unwrap_or (option_map (λ unit. body_items unit.body) found) [])
 
-no_node : (stood : Bool) (n : Node) → In stood Done n → ⊥
+pub no_node : (stood : Bool) (n : Node) → In stood Done n → ⊥
 no_node true n inside = elim inside.begins [ ]
 no_node false n inside = elim inside.begins [ ]
 

@@ -50,7 +50,7 @@ node_itself n = and_from (same_list (label_of n).position (label_of n).position)
 abbrev label_with : Position → ℕ → Label
 label_with at k = record { position = at; passed = k }
 
-labels_same : (l m : Label) → l.position ≡ m.position → l.passed ≡ m.passed → l ≡ m
+pub labels_same : (l m : Label) → l.position ≡ m.position → l.passed ≡ m.passed → l ≡ m
 labels_same l m position passed =
     ap (λ at. label_with at l.passed) position ∙ ap (λ k. label_with m.position k) passed
 
@@ -108,7 +108,7 @@ found (x ∷ xs) n (suc k) e = by_test (same_node x n) refl (found xs n k e)
     }
 
 -- a member stands somewhere
-stands_at : (xs : List Node) (n : Node) → Contains xs n → (k : ℕ) × (slice_get xs k ≡ Some n)
+pub stands_at : (xs : List Node) (n : Node) → Contains xs n → (k : ℕ) × (slice_get xs k ≡ Some n)
 stands_at [] n there = let below = there.1 in absurd (omega arith)
 stands_at (x ∷ xs) n (zero, within, is) = (0, ap Some is)
 stands_at (x ∷ xs) n (suc k, within, is) = let rest = stands_at xs n (k, omega arith, is) in (suc rest.0, rest.1)

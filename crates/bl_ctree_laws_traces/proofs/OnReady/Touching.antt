@@ -28,8 +28,9 @@ use Rattle.bl_ctree_laws_confluence.specs.Deeds.Homes.{HomesAreApart, OutputsAre
 use Rattle.bl_ctree_laws_confluence.specs.Deeds.Nesting.{Inside as InCallee, InstancesNest, IsOutput, ProgramsNest}
 use Rattle.bl_ctree_laws_confluence.specs.Apart.Seen.{AllCallsMatchCallees, CallsMatchCallees, DeedsStayInside, HasOutputs}
 use Rattle.bl_ctree_laws_traces.specs.Progress.Reading.{DeedsReadAtNodes, IsRead}
-use Rattle.bl_ctree_laws_traces.proofs.OnProgress.Paths.{any_right, member, passed, passing, set_passes}
+use Rattle.bl_ctree_laws_traces.proofs.OnProgress.Paths.{any_right, member, passing, set_passes}
 use Rattle.bl_ctree_laws_traces.specs.Ready.Touching.{Touched, TouchesAt, WritersTouchOnTheWay}
+use Rattle.bl_ctree_laws.proofs.Surfaces.{passed}
 
 -- ---- paths
 

@@ -1,10 +1,9 @@
 -- The outputs of `run` statements that fit are of the types of the outputs of what is run.
 use Rattle.std.proofs.Common.{◌≡◌, ℕ, zero, suc, Bool, true, ◌&&◌, List, [], ◌∷◌, ◌++◌, map, length, get_or, take}
-use Rattle.std.proofs.Common.{Contains, Option, Some, None, refl, sym, ap, ◌∙◌, subst, append_assoc, append-nil, arith}
+use Rattle.std.proofs.Common.{Contains, Option, Some, None, refl, sym, ap, ◌∙◌, subst, arith}
 use Rattle.std.specs.Prelude.{All, slice_get}
 use Rattle.std.specs.List.{list_all}
 use Rattle.std.proofs.lemmas.List.Elements.{All-head, All-tail}
-use Rattle.std.proofs.lemmas.Bool.{and_from}
 use Rattle.bl_tree.proofs.Basics.{all_of_each, and_first, and_second, index_of}
 use Rattle.bl_tree.specs.declared.place.Place.{Place}
 use Rattle.bl_tree.specs.declared.static_path.Static.{Static}
@@ -35,6 +34,8 @@ use Rattle.bl_ctree.specs.declared.instance.Run.{Run}
 use Rattle.bl_ctree.specs.Instances.{arm_runs, branch_runs, kind_runs, runs_in, runs_in_arm, runs_in_branch, runs_of, stmt_layer_runs}
 use Rattle.bl_ctree_laws_confluence.proofs.OnDeeds.Activities.{AllOf, all_both, one_a_place_so}
 use Rattle.bl_ctree_laws_typing.proofs.OnViews.Paths.{PathTyped, path_typed}
+use Rattle.bl_eval.proofs.UnitFits.{unit_at}
+use Rattle.bl_ctree_laws_confluence.proofs.OnDeeds.Activities.{all_at}
 
 -- the outputs of a `run`, one for one, are of the types of these variables
 abbrev pub OutputsTyped : List StructDef → List Var → List Static → List Var → Type 0
@@ -207,20 +208,6 @@ module _ (site : TypingContext) where
 
 -- ---- units that stand
 
-pub unit_stands_at : (structs : List StructDef) (earlier units : List UnitDef) (k : ℕ) (unit : UnitDef) →
-    units_stand_after structs earlier units ≡ true → slice_get units k ≡ Some unit →
-    unit_stands structs (earlier ++ take k units) unit ≡ true
-unit_stands_at structs earlier [] k unit stand there = absurd cc
-unit_stands_at structs earlier (first ∷ units) zero unit stand there =
-    let same : first ≡ unit = cc in
-    subst (λ earlier. unit_stands structs earlier unit ≡ true) (sym (append-nil earlier))
-    (subst (λ unit. unit_stands structs earlier unit ≡ true) same
-    (and_first (unit_stands structs earlier first) (units_stand_after structs (earlier ++ first ∷ []) units) stand))
-unit_stands_at structs earlier (first ∷ units) (suc k) unit stand there =
-    subst (λ earlier. unit_stands structs earlier unit ≡ true) (append_assoc earlier (first ∷ []) (take k units))
-    (unit_stands_at structs (earlier ++ first ∷ []) units k unit
-    (and_second (unit_stands structs earlier first) (units_stand_after structs (earlier ++ first ∷ []) units) stand) there)
-
 module _ (structs : List StructDef) (earlier : List UnitDef) (unit : UnitDef) (stands : unit_stands structs earlier unit ≡ true) where
   abbrev named : Bool
   named = list_all is_name (names_of unit.vars) && are_distinct (names_of (parameters_of unit))
@@ -245,11 +232,6 @@ module _ (structs : List StructDef) (earlier : List UnitDef) (unit : UnitDef) (s
   pub parameters_within : roles_stand unit ≡ true
   parameters_within = and_first (roles_stand unit) named (and_first (roles_stand unit && named) (types && (fit && others)) stands)
 
-of_member : {A : Type 0} (P : A → Type 0) (xs : List A) (k : ℕ) (x : A) → AllOf P xs → slice_get xs k ≡ Some x → P x
-of_member P [] k x all e = absurd cc
-of_member P (y ∷ xs) zero x all e = let same : y ≡ x = cc in subst P same all.0
-of_member P (y ∷ xs) (suc k) x all e = of_member P xs k x all.1 e
-
 -- each `run` of a unit that stands
 pub run_typed : (structs : List StructDef) (units : List UnitDef) (k : ℕ) (unit : UnitDef) (run : Run) →
     units_stand_after structs [] units ≡ true → slice_get units k ≡ Some unit → Contains (runs_of unit) run →
@@ -257,6 +239,6 @@ pub run_typed : (structs : List StructDef) (units : List UnitDef) (k : ℕ) (uni
 run_typed structs units k unit run stand there has =
     let site : TypingContext = site_of structs (take k units) unit in
     let at = index_of (runs_of unit) run has in
-    of_member (RunTyped structs (take k units) unit.vars) (runs_of unit) at.0 run
+    all_at (RunTyped structs (take k units) unit.vars) (runs_of unit) at.0 run
     (one_a_place_so (RunTyped structs (take k units) unit.vars) (joined (map runs_in unit.body))
-    (body_runs site unit.body (body_fits structs (take k units) unit (unit_stands_at structs [] units k unit stand there)))) at.1
+    (body_runs site unit.body (body_fits structs (take k units) unit (unit_at structs [] units k unit stand there)))) at.1

@@ -1,6 +1,6 @@
 -- Homes have the types of what they are homes of, so what is seen in a typed store is typed.
 use Rattle.std.proofs.Common.{◌≡◌, ℕ, zero, suc, ◌+◌, ◌-◌, ◌<◌, ◌≤◌, Bool, true, false, List, [], ◌∷◌, length}
-use Rattle.std.proofs.Common.{map, take, drop, Option, Some, None, refl, sym, ap, ◌∙◌, subst, arith, leb-true, ltb-true}
+use Rattle.std.proofs.Common.{map, drop, Option, Some, None, refl, sym, ap, ◌∙◌, subst, arith, leb-true, ltb-true}
 use Rattle.std.specs.Prelude.{nat_le, nat_lt, option_and_then, option_map, slice_get, unwrap_or, if◌then◌else◌}
 use Rattle.std.specs.List.{range_with_len}
 use Rattle.std.proofs.lemmas.Bool.{and_from}
@@ -29,6 +29,7 @@ use Rattle.bl_ctree_laws_typing.specs.Views.{ViewsAreTyped}
 use Rattle.bl_ctree_laws_typing.proofs.OnViews.Along.{along, along_both, along_leads, one_some}
 use Rattle.bl_ctree_laws_typing.proofs.OnViews.Paths.{PathTyped}
 use Rattle.bl_ctree_laws_typing.proofs.OnViews.Running.{run_typed, typed_at}
+use Rattle.bl_ctree_laws_confluence.proofs.OnDeeds.Activities.{taken}
 
 -- ---- lists
 
@@ -40,13 +41,6 @@ get_drop [] (suc n) (suc k) zero is = refl
 get_drop [] (suc n) (suc k) (suc j) is = refl
 get_drop (x ∷ xs) (suc n) k zero is = absurd (omega arith)
 get_drop (x ∷ xs) (suc n) k (suc j) is = let less : j ≡ n + k = omega arith in get_drop xs n k j less
-
-taken : (units : List UnitDef) (n k : ℕ) (unit : UnitDef) → slice_get (take n units) k ≡ Some unit → slice_get units k ≡ Some unit
-taken [] zero k unit e = absurd cc
-taken [] (suc n) k unit e = absurd cc
-taken (u ∷ units) zero k unit e = absurd cc
-taken (u ∷ units) (suc n) zero unit e = e
-taken (u ∷ units) (suc n) (suc k) unit e = taken units n k unit e
 
 -- an output's place among the outputs
 output_at : (unit : UnitDef) (k : ℕ) (var : Var) → is_output_of unit k ≡ true → slice_get unit.vars k ≡ Some var →

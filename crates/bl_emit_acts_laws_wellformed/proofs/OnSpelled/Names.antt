@@ -30,7 +30,7 @@ use Rattle.bl_emit_acts.specs.Types.{copy_name, elements_name, field_name, numbe
 
 -- ---- digits
 
-digit_is : (c : ℕ) → digit_value c < 10 → is_ascii_digit c ≡ true
+pub digit_is : (c : ℕ) → digit_value c < 10 → is_ascii_digit c ≡ true
 digit_is c h = grind (arith, nat_tests)
 
 word_digit : (c : ℕ) → digit_value c < 10 → is_word_byte c ≡ true

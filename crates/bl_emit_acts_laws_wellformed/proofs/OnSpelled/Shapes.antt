@@ -1,7 +1,7 @@
 -- What the parts of made C texts need to fit a depth.
-use Rattle.std.proofs.Common.{◌≡◌, ℕ, ◌+◌, ◌≤◌, Bool, true, ◌&&◌, nat_le, refl, subst, arith}
+use Rattle.std.proofs.Common.{◌≡◌, ℕ, ◌+◌, ◌≤◌, Bool, true, ◌&&◌, refl, subst, arith}
 use Rattle.std.proofs.lemmas.Bool.Decides.{nat_tests}
-use Rattle.bl_tree.proofs.Basics.{and_first, and_second}
+use Rattle.bl_tree.proofs.Basics.{and_first}
 use Rattle.bl_tree.specs.declared.text.Text.{Text}
 use Rattle.bl_tree.specs.declared.c.CStep.{fold-roll-CStep}
 use Rattle.bl_tree.specs.declared.c.CIndex.{fold-roll-CIndex}
@@ -13,12 +13,7 @@ use Rattle.bl_ctext.specs.Spellable.{is_length, spells_expr, spells_step}
 use Rattle.bl_ctext.specs.inner.Depths.{expr_depth, step_depth}
 use Rattle.bl_ctext.specs.inner.Fits.{expr_fits, step_fits}
 use Rattle.bl_emit_acts.specs.Trees.{c_element, c_index, c_not, nowhere}
-
-fits_by : (spells : Bool) (n d : ℕ) → spells ≡ true → n ≤ d → (spells && nat_le n d) ≡ true
-fits_by spells n d h le = let test : nat_le n d ≡ true = grind (arith, nat_tests) in rw (h, test) refl
-
-bound : (spells : Bool) (n d : ℕ) → (spells && nat_le n d) ≡ true → n ≤ d
-bound spells n d h = let test : nat_le n d ≡ true = and_second spells (nat_le n d) h in grind (arith, nat_tests)
+use Rattle.bl_ctext.proofs.Fitting.{bound, joined_fits}
 
 not_open : (d e : ℕ) (a : CExpr) → d + 1 ≤ e → expr_fits d a ≡ true →
     expr_fits e (roll-CExpr (record { place = nowhere; what = roll-CExprKind (CExprKind-F.Not a) })) ≡ true
@@ -29,7 +24,7 @@ not_open d e a le h =
     let code : CExpr = roll-CExpr (record { place = nowhere; what = roll-CExprKind (CExprKind-F.Not a) }) in
     let s : spells_expr code ≡ true = rw (fold-roll-CExpr, fold-roll-CExprKind) one in
     let m : expr_depth code ≤ e = rw (fold-roll-CExpr, fold-roll-CExprKind) (omega arith) in
-    fits_by (spells_expr code) (expr_depth code) e s m
+    joined_fits (spells_expr code) (expr_depth code) e s m
 
 -- `!` of what fits
 pub not-fits : (d e : ℕ) (a : CExpr) → d + 1 ≤ e → expr_fits d a ≡ true → expr_fits e (c_not a) ≡ true
@@ -45,4 +40,4 @@ element-fits d e name signed index n le named long h =
     let deep : expr_depth index ≤ d = bound (spells_expr index) (expr_depth index) d h in
     let s : spells_step (c_element name (c_index signed index n)) ≡ true = rw (fold-roll-CStep, fold-roll-CIndex, named, one, long) refl in
     let m : step_depth (c_element name (c_index signed index n)) ≤ e = rw (fold-roll-CStep, fold-roll-CIndex) (omega arith) in
-    fits_by (spells_step (c_element name (c_index signed index n))) (step_depth (c_element name (c_index signed index n))) e s m
+    joined_fits (spells_step (c_element name (c_index signed index n))) (step_depth (c_element name (c_index signed index n))) e s m

@@ -18,8 +18,8 @@ use Rattle.bl_eval.specs.Values.{value_at}
 use Rattle.bl_eval.proofs.MeaningLemmas.{spot_out}
 use Rattle.bl_eval.proofs.PartLemmas.{set_own}
 use Rattle.bl_ctext.specs.Spellable.{has_any}
-use Rattle.bl_emit_acts_laws_simulation.proofs.Outputs.{plain_datum}
 use Rattle.bl_emit_functions.specs.Statements.{reads_whole, sets_itself}
+use Rattle.bl_eval.proofs.MeaningLemmas.{plain_datum}
 
 no_parts : {A : Type 0} (parts : List A) → not (has_any parts) ≡ true → parts ≡ []
 no_parts [] none = refl

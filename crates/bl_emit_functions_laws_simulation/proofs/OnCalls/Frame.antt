@@ -40,17 +40,12 @@ use Rattle.bl_emit_functions_laws_simulation.proofs.OnCalls.Lists.{made_behind, 
 use Rattle.bl_emit_functions_laws_simulation.proofs.OnCalls.Locals.{begun_zero, behind_zero, parameter_role, parameters_many, parameters_within}
 use Rattle.bl_emit_functions_laws_simulation.proofs.OnCalls.Params.{pointer_given, value_given}
 use Rattle.bl_emit_functions_laws_simulation.proofs.OnCalls.Standing.{roles, stands_at}
-use Rattle.bl_emit_functions_laws_simulation.proofs.OnCalls.Zeros.{zero_holds}
-
--- the same value in other words
-pub holds_same : (structs : List StructDef) (ty : Ty) (value : Value) (held other : CValue) → ((way : List Projection) → held way ≡ other way) →
-    Encodes structs ty value held → Encodes structs ty value other
-holds_same structs ty value held other same holds = record {
-  each = λ ks n is. sym (same (way_to structs ks (Some ty))) ∙ holds.each ks n is;
-}
+use Rattle.bl_emit_acts_laws_simulation.proofs.Parts.{holds_same}
+use Rattle.bl_emit_acts_laws_simulation.proofs.Zeros.{zero_holds}
+use Rattle.bl_emit_acts_laws_simulation.proofs.Acts.{declared_open_by}
 
 -- a value that is a number is held where that number is
-number_alone : (structs : List StructDef) (ty : Ty) (value : Value) (held : CValue) → number_in value ≡ Some (memory.scalar_number held) →
+pub number_alone : (structs : List StructDef) (ty : Ty) (value : Value) (held : CValue) → number_in value ≡ Some (memory.scalar_number held) →
     Encodes structs ty value held
 number_alone structs ty value held is = record { each = each }
   where
@@ -102,17 +97,11 @@ place_lent alone Output scalar copies parameter pointer isnt = refl
 place_lent alone Variable scalar copies parameter pointer isnt = absurd (cc)
 place_lent alone Fixed scalar copies parameter pointer isnt = absurd (cc)
 
-declared_no_input : (role : Role) → (is_variable role || is_fixed role) ≡ true → is_input role ≡ false
-declared_no_input Input h = absurd (cc)
-declared_no_input Output h = absurd (cc)
-declared_no_input Variable h = refl
-declared_no_input Fixed h = refl
-
-none_not : {A : Type 0} (o : Option A) → is_none o ≡ not (is_some o)
+pub none_not : {A : Type 0} (o : Option A) → is_none o ≡ not (is_some o)
 none_not None = refl
 none_not (Some x) = refl
 
-output_of : (role : Role) → (is_input role || is_output role) ≡ true → is_input role ≡ false → is_output role ≡ true
+pub output_of : (role : Role) → (is_input role || is_output role) ≡ true → is_input role ≡ false → is_output role ≡ true
 output_of Input h isnt = absurd (cc)
 output_of Output h isnt = refl
 output_of Variable h isnt = absurd (cc)
@@ -195,7 +184,7 @@ module _ (structs : List StructDef) (earlier : List UnitDef) (unit : UnitDef) (s
           let more : n ≤ j = ltb-false j n is in
           let declared : (is_variable var.role || is_fixed var.role) ≡ true =
           rest_all (λ (var : Var). is_variable var.role || is_fixed var.role) n unit.vars j var all_locals there more in
-          Where.local (is_alone site var.ty) more (declared_no_input var.role declared)
+          Where.local (is_alone site var.ty) more (declared_open_by var.role declared)
           (home_is j var there ∙ declared_home (is_alone site var.ty) var.role (is_some (scalar_in var.ty)) (copies_inputs site) declared)
 
   -- ---- pointers

@@ -24,9 +24,9 @@ use Rattle.bl_emit_acts_laws_simulation.specs.Frames.{is_older}
 use Rattle.bl_emit_acts_laws_simulation.specs.Encodes.{are_apart, is_live}
 use Rattle.bl_emit_acts_laws_simulation.specs.Simulation.{ArgumentEncoded, ArgumentsEncoded}
 use Rattle.bl_emit_functions_laws_simulation.specs.Calls.{ArgFor, Handed, HandedOver, HandsOver}
-use Rattle.bl_emit_functions_laws_simulation.proofs.OnCalls.Apart.{apart_flip}
 use Rattle.bl_emit_functions_laws_simulation.proofs.OnCalls.Lists.{all_at}
 use Rattle.bl_emit_functions_laws_simulation.proofs.OnCalls.Standing.{roles, stands_at}
+use Rattle.bl_emit_acts_laws_simulation.proofs.Cells.{apart_flip}
 
 -- ---- lists
 
@@ -44,18 +44,18 @@ get_behind (x ∷ xs) ys zero j i is at = absurd (omega (arith, is))
 get_behind (x ∷ xs) ys (suc n) j zero is at = absurd (omega (arith, at))
 get_behind (x ∷ xs) ys (suc n) j (suc i) is at = get_behind xs ys n j i (omega (arith, is)) (omega (arith, at))
 
-length_both : {A : Type 0} (xs ys : List A) → length (xs ++ ys) ≡ length xs + length ys
+pub length_both : {A : Type 0} (xs ys : List A) → length (xs ++ ys) ≡ length xs + length ys
 length_both [] ys = omega arith
 length_both (x ∷ xs) ys = let more : length (xs ++ ys) ≡ length xs + length ys = length_both xs ys in omega (arith, more)
 
-all_front : {A : Type 0} (test : A → Bool) (xs ys : List A) → list_all test (xs ++ ys) ≡ true
+pub all_front : {A : Type 0} (test : A → Bool) (xs ys : List A) → list_all test (xs ++ ys) ≡ true
     → (list_all test xs ≡ true) × (list_all test ys ≡ true)
 all_front test [] ys h = (refl, h)
 all_front test (x ∷ xs) ys h =
     let rest = all_front test xs ys (and_second (test x) (list_all test (xs ++ ys)) h) in
     (ap (λ b. b && list_all test xs) (and_first (test x) (list_all test (xs ++ ys)) h) ∙ rest.0, rest.1)
 
-live_older : (depth : ℕ) (root : Root) → is_live depth root ≡ true → is_older (depth + 1) root ≡ true
+pub live_older : (depth : ℕ) (root : Root) → is_live depth root ≡ true → is_older (depth + 1) root ≡ true
 live_older depth state_object h = refl
 live_older depth input_object h = refl
 live_older depth output_object h = refl
@@ -151,7 +151,7 @@ output_place (q ∷ outputs) zero p h = ap place_of (same_Some (by_address q) (b
     place_of (by_address at) = Some at
 output_place (q ∷ outputs) (suc j) p h = output_place outputs j p h
 
-input_place : (test : Location → Bool) (passed : List ArgumentValue) (j : ℕ) (p : Location) → list_all test (places_in_args passed) ≡ true →
+pub input_place : (test : Location → Bool) (passed : List ArgumentValue) (j : ℕ) (p : Location) → list_all test (places_in_args passed) ≡ true →
     slice_get passed j ≡ Some (by_address p) → test p ≡ true
 input_place test [] j p all h = absurd (cc)
 input_place test (a ∷ passed) zero p all h =

@@ -1,7 +1,7 @@
 -- A call of the C function of a function without a result.
 use Rattle.std.proofs.Common.{◌≡◌, ℕ, zero, suc, ◌+◌, ◌<◌, ◌≤◌, pos, arith, Bool, true, false, not, ◌&&◌, ◌||◌}
 use Rattle.std.proofs.Common.{List, [], ◌∷◌, ◌++◌, length, map, take, drop, Option, Some, None, refl, sym, ap, ◌∙◌, subst}
-use Rattle.std.proofs.lemmas.Bool.{le-leb, leb-true, lt-ltb, ltb-true}
+use Rattle.std.proofs.lemmas.Bool.{leb-true}
 use Rattle.std.proofs.lemmas.List.{append-nil, length-take, take-append-drop}
 use Rattle.std.proofs.lemmas.Option.{same_Some, slice_get-map, slice_get_within}
 use Rattle.std.proofs.Math.Seq.{take-add}
@@ -29,8 +29,8 @@ use Rattle.bl_eval.proofs.PassLemmas.{all_drop, pass_append, pass_drop, pass_eac
 use Rattle.bl_eval.proofs.UnitFits.{sound_at}
 use Rattle.bl_ctext_semantics.specs.Course.{Outcome, result_at}
 use Rattle.bl_ctext_semantics.specs.Meaning.{ArgumentValue, CallResult, Meaning, Scope, block_c, by_address, function_c, further}
-use Rattle.bl_ctext_semantics.specs.Memory.{Location, Memory, Projection, Root, input_object, left_after, output_object, same_root, state_object}
-use Rattle.bl_ctext_semantics.specs.Memory.{value_at, variable}
+use Rattle.bl_ctext_semantics.specs.Memory.{Location, Memory, Projection, Root, left_after, same_root}
+use Rattle.bl_ctext_semantics.specs.Memory.{value_at}
 use Rattle.bl_ctext_semantics.specs.Tables.{Table}
 use Rattle.bl_emit_acts.specs.declared.home.Home.{Home}
 use Rattle.bl_emit_acts.specs.declared.home.Home.TheVariants.{Held, Local, Lent}
@@ -46,27 +46,16 @@ use Rattle.bl_emit_functions.specs.Trees.{flag_name}
 use Rattle.bl_emit_functions_laws_simulation.specs.Bodies.{FlowSimulates, Represents, Spared, StatementsSimulate, number_back}
 use Rattle.bl_emit_functions_laws_simulation.specs.Calls.{EndsFor, FrameBegun, HandedOver, MayRun, ProceduresSimulate, is_copied_input, memory_begun}
 use Rattle.bl_emit_functions_laws_simulation.specs.Calls.{scope_begun}
-use Rattle.bl_emit_functions_laws_simulation.proofs.OnCalls.Frame.{Where, frame_begun, holds_same, leads, where_is}
+use Rattle.bl_emit_functions_laws_simulation.proofs.OnCalls.Frame.{Where, frame_begun, leads, where_is}
 use Rattle.bl_emit_functions_laws_simulation.proofs.OnCalls.Handing.{get_behind, handed_over, in_either, inputs_many, output_place}
-use Rattle.bl_emit_functions_laws_simulation.proofs.OnCalls.Kept.{keep, older_differs}
+use Rattle.bl_emit_functions_laws_simulation.proofs.OnCalls.Kept.{keep}
 use Rattle.bl_emit_functions_laws_simulation.proofs.OnCalls.Lists.{all_at, front_all}
 use Rattle.bl_emit_functions_laws_simulation.proofs.OnCalls.Locals.{local_zero}
 use Rattle.bl_emit_functions_laws_simulation.proofs.OnCalls.Standing.{body_fits, end_all, roles, stands_at}
 use Rattle.bl_emit_functions_laws_simulation.proofs.OnBodies.Again.{again_alike}
-
--- what is there while a caller runs was there before what it calls began
-pub live_older : (depth : ℕ) (root : Root) → is_live depth root ≡ true → is_older (depth + 1) root ≡ true
-live_older depth state_object h = refl
-live_older depth input_object h = refl
-live_older depth output_object h = refl
-live_older depth (variable d name) h = let less : d ≤ depth = leb-true d depth h in lt-ltb d (depth + 1) (omega (arith, less))
-
--- and the other way round
-pub older_live : (depth : ℕ) (root : Root) → is_older depth root ≡ true → is_live depth root ≡ true
-older_live depth state_object h = refl
-older_live depth input_object h = refl
-older_live depth output_object h = refl
-older_live depth (variable d name) h = let less : d < depth = ltb-true d depth h in le-leb d depth (omega (arith, less))
+use Rattle.bl_emit_acts_laws_simulation.proofs.Frames.{older_differs, older_live}
+use Rattle.bl_emit_acts_laws_simulation.proofs.Parts.{holds_same}
+use Rattle.bl_emit_functions_laws_simulation.proofs.OnCalls.Handing.{live_older}
 
 -- without a result no input is copied
 not_copied : (alone : Bool) (role : Role) (scalar copies : Bool) → copies ≡ false → (is_input role && is_held (home_of_role alone role scalar copies)) ≡ false
@@ -93,7 +82,7 @@ outputs_hold structs m (x ∷ vars) (o ∷ old) (v ∷ values) (p ∷ outputs) h
   outputs_hold structs m vars old values outputs here h.1 (and_second _ _ fit) (λ j var value place a b c. each (suc j) var value place a b c),
 )
 
-taken_index : {A : Type 0} (n : ℕ) (xs : List A) (j : ℕ) (x : A) → slice_get (take n xs) j ≡ Some x → slice_get xs j ≡ Some x
+pub taken_index : {A : Type 0} (n : ℕ) (xs : List A) (j : ℕ) (x : A) → slice_get (take n xs) j ≡ Some x → slice_get xs j ≡ Some x
 taken_index zero xs j x h = absurd (cc)
 taken_index (suc n) [] j x h = absurd (cc)
 taken_index (suc n) (y ∷ xs) zero x h = h

@@ -32,9 +32,9 @@ use Rattle.bl_emit_acts_laws_simulation.proofs.Statements.{Ends, set_after, set_
 use Rattle.bl_emit_acts_laws_simulation.proofs.Values.{read_gives}
 use Rattle.bl_emit_functions.specs.Functions.{c_input_copied, copies_from, input_copied, is_held}
 use Rattle.bl_emit_functions_laws_simulation.specs.Calls.{FrameBegun, is_copied_input}
-use Rattle.bl_emit_functions_laws_simulation.proofs.OnCalls.Frame.{holds_same}
-use Rattle.bl_emit_functions_laws_simulation.proofs.OnCalls.Kept.{older_differs}
-use Rattle.bl_emit_functions_laws_simulation.proofs.OnCalls.Params.{names_differ, own_differ}
+use Rattle.bl_emit_functions_laws_simulation.proofs.OnCalls.Params.{names_differ}
+use Rattle.bl_emit_acts_laws_simulation.proofs.Frames.{older_differs, own_differ}
+use Rattle.bl_emit_acts_laws_simulation.proofs.Parts.{holds_same}
 
 held_home : (home : Home) → is_held home ≡ true → home ≡ Held
 held_home Held h = refl

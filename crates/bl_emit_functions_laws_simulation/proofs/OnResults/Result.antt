@@ -48,13 +48,13 @@ use Rattle.bl_emit_functions_laws_simulation.proofs.OnBodies.Courses.{alike_tran
 use Rattle.bl_emit_functions_laws_simulation.proofs.OnBodies.Again.{again_alike}
 use Rattle.bl_emit_functions_laws_simulation.specs.Calls.{BodiesEnd, CallKeepsFrame, CallsKeepFrame, EndsFor, FrameBegun, FramesBegin, HandedOver, HandsOver}
 use Rattle.bl_emit_functions_laws_simulation.specs.Calls.{MayRun, is_copied_input, memory_begun, scope_begun}
-use Rattle.bl_emit_functions_laws_simulation.proofs.OnCalls.Kept.{older_differs}
 use Rattle.bl_emit_functions_laws_simulation.proofs.OnCalls.Lists.{front_all, rest_all}
 use Rattle.bl_emit_functions_laws_simulation.proofs.OnCalls.Locals.{local_zero}
-use Rattle.bl_emit_functions_laws_simulation.proofs.OnCalls.Procedure.{live_older, older_live}
 use Rattle.bl_emit_functions_laws_simulation.proofs.OnCalls.Standing.{body_fits, returns as returning, roles, stands_at}
 use Rattle.bl_emit_functions_laws_simulation.specs.Results.{CallReturns, InputsBegin, InputsBegun, ResultsSimulate}
 use Rattle.bl_emit_functions_laws_simulation.proofs.OnResults.Inputs.{all_inputs, all_locals}
+use Rattle.bl_emit_acts_laws_simulation.proofs.Frames.{older_differs, older_live}
+use Rattle.bl_emit_functions_laws_simulation.proofs.OnCalls.Handing.{live_older}
 
 -- ---- blocks
 

@@ -23,7 +23,7 @@ use Rattle.bl_emit_functions_laws_simulation.proofs.OnUnits.Growing.{activity_pa
 
 -- ---- lists
 
-take_past : {A : Type 0} (xs : List A) (k : ℕ) → slice_get xs k ≡ None → take (suc k) xs ≡ take k xs
+pub take_past : {A : Type 0} (xs : List A) (k : ℕ) → slice_get xs k ≡ None → take (suc k) xs ≡ take k xs
 take_past [] zero past = refl
 take_past [] (suc k) past = refl
 take_past (y ∷ xs) zero past = absurd (cc)
@@ -31,7 +31,7 @@ take_past (y ∷ xs) (suc k) past = ap (λ rest. y ∷ rest) (take_past xs k pas
 
 -- ---- names
 
-distinct_behind : (xs ys : List (List ℕ)) → are_distinct (xs ++ ys) ≡ true → are_distinct ys ≡ true
+pub distinct_behind : (xs ys : List (List ℕ)) → are_distinct (xs ++ ys) ≡ true → are_distinct ys ≡ true
 distinct_behind [] ys h = h
 distinct_behind (x ∷ xs) ys h = distinct_behind xs ys (and_second (not (is_among x (xs ++ ys))) (are_distinct (xs ++ ys)) h)
 
@@ -71,7 +71,7 @@ all_others (first ∷ units) (suc k) unit distinct there =
 
 -- ---- tables
 
-known_behind : (known : Table Meaning) (first second : List CFunc) → known_after known (first ++ second) ≡ known_after (known_after known first) second
+pub known_behind : (known : Table Meaning) (first second : List CFunc) → known_after known (first ++ second) ≡ known_after (known_after known first) second
 known_behind known [] second = refl
 known_behind known (function ∷ first) second = known_behind (with_entry known function.name (function_c known function)) first second
 

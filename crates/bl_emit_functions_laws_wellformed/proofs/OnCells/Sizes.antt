@@ -7,8 +7,7 @@ use Rattle.std.proofs.lemmas.Nat.{mul-le}
 use Rattle.std.proofs.lemmas.Option.{same_Some, slice_get_within}
 use Rattle.std.proofs.lemmas.Slice.Eq.{bytes_eq-Decides}
 use Rattle.std.specs.List.{list_all}
-use Rattle.std.specs.Option.{option_or}
-use Rattle.std.specs.Prelude.{Contains, bytes_eq, get_or, nat_le, nat_lt, slice_get, slice_index, unwrap_or, if◌then◌else◌}
+use Rattle.std.specs.Prelude.{Contains, bytes_eq, get_or, nat_le, nat_lt, slice_get, slice_index, if◌then◌else◌}
 use Rattle.bl_tree.proofs.Basics.{and_first, and_second, less_from}
 use Rattle.bl_tree.specs.declared.text.Text.{Text}
 use Rattle.bl_tree.specs.declared.c.CMember.{CMember}
@@ -47,6 +46,7 @@ use Rattle.bl_emit_functions_laws_wellformed.proofs.OnCells.Totals.{total-made}
 use Rattle.bl_emit_functions_laws_wellformed.proofs.OnFiles.Growing.{distinct_behind, names, one_place}
 use Rattle.bl_emit_functions_laws_wellformed.proofs.OnFormed.Kept.{is_held_in, members_made}
 use Rattle.bl_emit_functions_laws_wellformed.specs.Cells.{NamesNone, SizesGrow, SizesKnown, SizesStand}
+use Rattle.bl_emit_functions_laws_wellformed.proofs.OnFiles.Growing.{at_most}
 
 -- ---- sizes, level by level
 
@@ -80,12 +80,6 @@ module _ (known : List ℕ) (k : ℕ) where
   same_before = ind-Ty SameBefore (λ x y is. subst (λ layer. SameBefore (roll-Ty layer)) is (same_by y))
 
 -- ---- tables
-
-entry_less : (o : Option ℕ) (b : Bool) (n most : ℕ) → unwrap_or o 0 ≤ most → (b ≡ true → n ≤ most)
-    → unwrap_or (option_or o (if b then Some n else None)) 0 ≤ most
-entry_less (Some m) b n most old new = old
-entry_less None true n most old new = new refl
-entry_less None false n most old new = old
 
 -- the byte with which a name begins
 first_byte : Text → ℕ
@@ -173,11 +167,11 @@ module _ (structs : List StructDef) (units : List UnitDef) (entry most : ℕ) (k
   joins_by known name n bounded ty stands new (Ty-F.Struct k) is =
       let old : entry_or 0 known (type_name structs ty) ≤ size structs ty =
       subst (λ layer. size_of_type known (type_level (type_name structs ty) layer) ≤ size structs ty) is (bounded ty stands) in
-      entry_less (known (type_name structs ty)) (bytes_eq name (type_name structs ty)) n (size structs ty) old new
+      at_most (known (type_name structs ty)) (bytes_eq name (type_name structs ty)) n (size structs ty) old new
   joins_by known name n bounded ty stands new (Ty-F.Array m e) is =
       let old : entry_or 0 known (type_name structs ty) ≤ size structs ty =
       subst (λ layer. size_of_type known (type_level (type_name structs ty) layer) ≤ size structs ty) is (bounded ty stands) in
-      entry_less (known (type_name structs ty)) (bytes_eq name (type_name structs ty)) n (size structs ty) old new
+      at_most (known (type_name structs ty)) (bytes_eq name (type_name structs ty)) n (size structs ty) old new
 
   joins : (known : Sizes) (name : Text) (n : ℕ) → Bounded known →
       ((ty : Ty) → type_stands (length structs) ty ≡ true → bytes_eq name (type_name structs ty) ≡ true → n ≤ size structs ty) →
@@ -192,7 +186,7 @@ module _ (structs : List StructDef) (units : List UnitDef) (entry most : ℕ) (k
       ((k : ℕ) (unit : UnitDef) → slice_get units k ≡ Some unit → is_function unit.kind ≡ true →
       bytes_eq name (memory_name unit.name) ≡ true → n ≤ variables_of structs unit) → Held (with_entry known name n)
   holds known name n held new k unit there function =
-      entry_less (known (memory_name unit.name)) (bytes_eq name (memory_name unit.name)) n (variables_of structs unit) (held k unit there function)
+      at_most (known (memory_name unit.name)) (bytes_eq name (memory_name unit.name)) n (variables_of structs unit) (held k unit there function)
       (new k unit there function)
 
   -- ---- a type's struct

@@ -65,7 +65,7 @@ one_place (first ∷ units) (suc j) zero a b distinct here there same =
 one_place (first ∷ units) (suc j) (suc k) a b distinct here there same =
     ap suc (one_place units j k a b (and_second (not (is_among first.name (names units))) (are_distinct (names units)) distinct) here there same)
 
-named_at : (units : List UnitDef) (k : ℕ) (unit : UnitDef) → list_all is_name (names units) ≡ true → slice_get units k ≡ Some unit →
+pub named_at : (units : List UnitDef) (k : ℕ) (unit : UnitDef) → list_all is_name (names units) ≡ true → slice_get units k ≡ Some unit →
     is_name unit.name ≡ true
 named_at [] k unit all there = absurd (cc)
 named_at (first ∷ units) zero unit all there =
@@ -76,19 +76,19 @@ named_at (first ∷ units) (suc k) unit all there =
 -- ---- tables
 
 -- an entry under another name
-still_none : (o : Option ℕ) (b : Bool) (d : ℕ) → o ≡ None → b ≡ false → option_or o (if b then Some d else None) ≡ None
+pub still_none : (o : Option ℕ) (b : Bool) (d : ℕ) → o ≡ None → b ≡ false → option_or o (if b then Some d else None) ≡ None
 still_none None true d is other = absurd (cc)
 still_none None false d is other = refl
 still_none (Some n) b d is other = absurd (cc)
 
-unnamed_other : (name : Text) → is_name name ≡ true → bytes_eq (unit_name name) (unit_name []) ≡ false
+pub unnamed_other : (name : Text) → is_name name ≡ true → bytes_eq (unit_name name) (unit_name []) ≡ false
 unnamed_other [] named = absurd (cc)
 unnamed_other (c ∷ name) named = refl
 
-prelude_other : (name word : Text) (s : ScalarType) → bytes_eq (unit_name name) (function_name word s) ≡ false
+pub prelude_other : (name word : Text) (s : ScalarType) → bytes_eq (unit_name name) (function_name word s) ≡ false
 prelude_other name word s = refl
 
-at_most : (o : Option ℕ) (b : Bool) (d most : ℕ) → unwrap_or o 0 ≤ most → (b ≡ true → d ≤ most)
+pub at_most : (o : Option ℕ) (b : Bool) (d most : ℕ) → unwrap_or o 0 ≤ most → (b ≡ true → d ≤ most)
     → unwrap_or (option_or o (if b then Some d else None)) 0 ≤ most
 at_most (Some n) b d most old new = old
 at_most None true d most old new = new refl

@@ -23,7 +23,7 @@ use Rattle.bl_emit_functions_laws_wellformed.proofs.OnFiles.Walk.{drop_next}
 
 -- ---- names
 
-neither : (a b : Bool) → not (a || b) ≡ true → (a ≡ false) × (not b ≡ true)
+pub neither : (a b : Bool) → not (a || b) ≡ true → (a ≡ false) × (not b ≡ true)
 neither true b h = absurd (cc)
 neither false b h = (refl, h)
 

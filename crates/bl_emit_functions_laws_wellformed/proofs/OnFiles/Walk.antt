@@ -46,11 +46,11 @@ drop_next (y ∷ xs) zero x rest is = (first is, behind is)
     behind is = cc
 drop_next (y ∷ xs) (suc k) x rest is = drop_next xs k x rest is
 
-behind_longer : {A : Type 0} (xs ys : List A) → length ys ≤ length (xs ++ ys)
+pub behind_longer : {A : Type 0} (xs ys : List A) → length ys ≤ length (xs ++ ys)
 behind_longer [] ys = omega arith
 behind_longer (x ∷ xs) ys = let rest : length ys ≤ length (xs ++ ys) = behind_longer xs ys in omega (arith, rest)
 
-longer : {A : Type 0} (xs ys : List A) → 2 ≤ length ys → nat_lt (length (xs ++ ys)) 2 ≡ false
+pub longer : {A : Type 0} (xs ys : List A) → 2 ≤ length ys → nat_lt (length (xs ++ ys)) 2 ≡ false
 longer xs ys two =
     let all : length ys ≤ length (xs ++ ys) = behind_longer xs ys in
     let more : 2 ≤ length (xs ++ ys) = omega (arith, all, two) in

@@ -4,9 +4,7 @@ use Rattle.std.proofs.Common.{map, take, length}
 use Rattle.std.proofs.Common.{Option, Some, None, refl, sym, ap, ◌∙◌, subst, arith, codes}
 use Rattle.std.proofs.lemmas.Option.{slice_get_within}
 use Rattle.std.specs.Prelude.{is_none, is_some, option_map, slice_get, unwrap_or}
-use Rattle.std.specs.List.{list_all}
-use Rattle.std.proofs.lemmas.Bool.{and_from}
-use Rattle.bl_tree.proofs.Basics.{and_false, and_first, and_second, get_taken}
+use Rattle.bl_tree.proofs.Basics.{and_false, get_taken}
 use Rattle.bl_tree.specs.declared.c.CExpr.{CExpr}
 use Rattle.bl_tree.specs.declared.c.CMember.{CMember}
 use Rattle.bl_tree.specs.declared.c.CStmt.{CStmt}
@@ -16,12 +14,10 @@ use Rattle.bl_tree.specs.declared.scalar.Scalar.{Scalar as ScalarType}
 use Rattle.bl_tree.specs.declared.scalar.Scalar.TheVariants.{Bool as OfBool}
 use Rattle.bl_tree.specs.declared.tree.Role.{Role}
 use Rattle.bl_tree.specs.declared.tree.Role.TheVariants.{Input, Output, Variable as OfVariable, Fixed}
-use Rattle.bl_tree.specs.declared.tree.Stmt.{Stmt}
 use Rattle.bl_tree.specs.declared.tree.StructDef.{StructDef}
 use Rattle.bl_tree.specs.declared.tree.Unit.{Unit as UnitDef}
 use Rattle.bl_tree.specs.declared.tree.Var.{Var}
 use Rattle.bl_tree.specs.Program.{IsWellTyped, is_input, is_output, parameters_of}
-use Rattle.bl_tree.specs.Reduce.{all_of}
 use Rattle.bl_tree.specs.Types.{scalar_in}
 use Rattle.bl_tree.specs.Typing.{TypingContext, fits, inputs_of, is_activity, var_at}
 use Rattle.bl_eval.proofs.PassLemmas.{all_at}
@@ -56,11 +52,7 @@ use Rattle.bl_emit_functions_laws_wellformed.proofs.OnFormed.Shapes.{return-is}
 use Rattle.bl_emit_functions_laws_wellformed.proofs.OnFormed.Statements.{Good, body_good}
 use Rattle.bl_emit_functions_laws_wellformed.proofs.OnFormed.Variables.{declared_here, earlier_here, flag_there, my_context, my_site, n_flags, param_there}
 use Rattle.bl_emit_functions_laws_wellformed.proofs.OnFormed.Variables.{plain_here, typed_here}
-
-all_listed : (test : Stmt → Bool) (body : List Stmt) → list_all test body ≡ true → all_of (map test body) ≡ true
-all_listed test [] all = refl
-all_listed test (s ∷ body) all =
-    and_from (test s) (all_of (map test body)) (and_first (test s) (list_all test body) all) (all_listed test body (and_second (test s) (list_all test body) all))
+use Rattle.bl_eval.proofs.UnitFits.{all_listed}
 
 module _ (structs : List StructDef) (units : List UnitDef) (entry k : ℕ) (unit : UnitDef) (keeps : IsWellTyped structs units entry)
     (there : slice_get units k ≡ Some unit)

@@ -68,7 +68,7 @@ swapped a b other = by (bytes_eq b a) refl
     by true is = absurd (let no : true ≡ false = sym ((bytes_eq-Decides a b).1 (sym ((bytes_eq-Decides b a).0 is))) ∙ other in cc)
 
 -- what is among neither is not among and_from
-among_neither : (x : Text) (xs ys : List Text) → is_among x xs ≡ false → is_among x ys ≡ false → is_among x (xs ++ ys) ≡ false
+pub among_neither : (x : Text) (xs ys : List Text) → is_among x xs ≡ false → is_among x ys ≡ false → is_among x (xs ++ ys) ≡ false
 among_neither x xs ys one other = list_any-append (bytes_eq x) xs ys ∙ (λ i. one i || other i)
 
 distinct_push : (xs : List Text) (x : Text) → are_distinct xs ≡ true → is_among x xs ≡ false → are_distinct (xs ++ x ∷ []) ≡ true
@@ -214,7 +214,7 @@ module _ (structs : List StructDef) where
 
 -- ---- returns
 
-return-returns : (value : Option CExpr) → surely_returns (c_return value) ≡ true
+pub return-returns : (value : Option CExpr) → surely_returns (c_return value) ≡ true
 return-returns value =
     subst (λ (k : CStmtKind). surely_returns (roll-CStmt (record { place = nowhere; what = k })) ≡ true) (statement.rolls-Return value) (form value)
   where

@@ -58,11 +58,11 @@ pub set-turns : (place : CPlace) (value : CExpr) → turns_in (c_set place value
 set-turns place value =
     by_form (statement.Set place value) (CStmtKind-F.Set place value) [] (statement.rolls-Set place value) (rw (fold-roll-CStmt, fold-roll-CStmtKind) refl)
 
-clear-turns : (place : CPlace) (name : Text) → turns_in (c_clear place name) ≡ []
+pub clear-turns : (place : CPlace) (name : Text) → turns_in (c_clear place name) ≡ []
 clear-turns place name =
     by_form (statement.Clear place name) (CStmtKind-F.Clear place name) [] (statement.rolls-Clear place name) (rw (fold-roll-CStmt, fold-roll-CStmtKind) refl)
 
-call-turns : (call : CCall) → turns_in (c_calling call) ≡ []
+pub call-turns : (call : CCall) → turns_in (c_calling call) ≡ []
 call-turns call = by_form (statement.Call call) (CStmtKind-F.Call call) [] (statement.rolls-Call call) (rw (fold-roll-CStmt, fold-roll-CStmtKind) refl)
 
 pub return-turns : (value : Option CExpr) → turns_in (c_return value) ≡ []

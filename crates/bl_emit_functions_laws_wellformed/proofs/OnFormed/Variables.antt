@@ -52,7 +52,7 @@ use Rattle.bl_emit_functions_laws_wellformed.proofs.OnFormed.Locals.{local_behin
 use Rattle.bl_emit_functions_laws_wellformed.proofs.OnFormed.Lookups.{all_entries, any_held, flag_found, found_behind, found_front, found_member, found_param}
 use Rattle.bl_emit_functions_laws_wellformed.proofs.OnFormed.Lookups.{local_entries, member_entries, memory_found, no_param, param_entries, variable_found}
 
-last_of_four : (a b c d : Bool) → (a && (b && (c && d))) ≡ true → d ≡ true
+pub last_of_four : (a b c d : Bool) → (a && (b && (c && d))) ≡ true → d ≡ true
 last_of_four true true true d h = h
 last_of_four true true false d h = absurd (cc)
 last_of_four true false c d h = absurd (cc)

@@ -18,7 +18,6 @@ use Rattle.bl_tree.specs.declared.c.CStmt.{CStmt}
 use Rattle.bl_tree.specs.declared.c.CType.{CType}
 use Rattle.bl_tree.specs.declared.c.CType.TheVariants.{Struct as OfStruct}
 use Rattle.bl_tree.specs.declared.scalar.Scalar.{Scalar as ScalarType}
-use Rattle.bl_tree.specs.declared.tree.Stmt.{Stmt}
 use Rattle.bl_tree.specs.declared.tree.StructDef.{StructDef}
 use Rattle.bl_tree.specs.declared.tree.Unit.{Unit as UnitDef}
 use Rattle.bl_tree.specs.declared.tree.Var.{Var}
@@ -26,7 +25,6 @@ use Rattle.bl_tree.specs.Depths.{block, depth_of, is_shallow, of_all}
 use Rattle.bl_tree.specs.Apart.{is_apart}
 use Rattle.bl_tree.specs.Program.{IsWellTyped, names_of, parameters_of, roles_stand}
 use Rattle.bl_tree.specs.Returns.{unit_returns}
-use Rattle.bl_tree.specs.Reduce.{all_of}
 use Rattle.bl_tree.specs.Types.{type_stands}
 use Rattle.bl_tree.specs.Typing.{TypingContext, fits, inputs_of, site_of, var_at}
 use Rattle.bl_tree.specs.Words as words
@@ -61,12 +59,7 @@ use Rattle.bl_emit_functions_laws_wellformed.proofs.OnSpelled.Statements.{Good, 
 use Rattle.bl_emit_functions_laws_wellformed.proofs.OnSpelled.Types.{scalar_spelled, source_name, struct_names, type-spelled}
 use Rattle.bl_emit_functions_laws_wellformed.proofs.OnFormed.Held.{held_there}
 use Rattle.bl_emit_functions_laws_wellformed.proofs.OnFormed.Kept.{all_made, every, is_held_in, locals_made, members_made, params_made}
-
-all_listed : (test : Stmt → Bool) (body : List Stmt) → list_all test body ≡ true → all_of (map test body) ≡ true
-all_listed test [] all = refl
-all_listed test (s ∷ body) all =
-    and_from (test s) (all_of (map test body)) (and_first (test s) (list_all test body) all)
-    (all_listed test body (and_second (test s) (list_all test body) all))
+use Rattle.bl_eval.proofs.UnitFits.{all_listed}
 
 taken_few : {A : Type 0} (n : ℕ) (xs : List A) → length (take n xs) ≤ length xs
 taken_few zero xs = omega arith

@@ -2,7 +2,7 @@
 use Rattle.std.proofs.Common.{◌≡◌, ℕ, ◌<◌, ◌^◌, true, List, [], ◌∷◌, map, length, refl, arith}
 use Rattle.std.proofs.lemmas.Bool.Decides.{nat_tests}
 use Rattle.std.proofs.lemmas.Fmt.{decimal_is_IsNumeral}
-use Rattle.std.specs.Char.{digit_value, is_ascii_digit}
+use Rattle.std.specs.Char.{is_ascii_digit}
 use Rattle.std.specs.Fmt.{decimal}
 use Rattle.std.specs.Str.Parse.{AllDigits}
 use Rattle.std.proofs.lemmas.Bool.{and_from}
@@ -11,9 +11,7 @@ use Rattle.bl_ctext.specs.Names.{is_name, is_turn_name}
 use Rattle.bl_ctext.specs.Token.{is_word}
 use Rattle.bl_emit_acts_laws_wellformed.proofs.OnSpelled.Names.{digits_word, numbered-name}
 use Rattle.bl_emit_functions.specs.Trees.{flag_name, turn_name}
-
-digit_is : (c : ℕ) → digit_value c < 10 → is_ascii_digit c ≡ true
-digit_is c h = grind (arith, nat_tests)
+use Rattle.bl_emit_acts_laws_wellformed.proofs.OnSpelled.Names.{digit_is}
 
 all_digits : (ds : List ℕ) → AllDigits 10 ds → all_of (map is_ascii_digit ds) ≡ true
 all_digits [] all = refl

@@ -82,7 +82,7 @@ then_good d codes rest one more = record {
 flag-fits : (d k : ℕ) → 1 ≤ d → k < 2 ^ 64 → place_fits d (flag_place k) ≡ true
 flag-fits d k low small = place-fits d false (flag_name k) [] low (flag-name k small) refl
 
-truth-fits : (d : ℕ) (b : Bool) → 2 ≤ d → expr_fits d (c_truth b) ≡ true
+pub truth-fits : (d : ℕ) (b : Bool) → 2 ≤ d → expr_fits d (c_truth b) ≡ true
 truth-fits d true low = literal-fits d nowhere OfBool (pos 1) low refl
 truth-fits d false low = literal-fits d nowhere OfBool (pos 0) low refl
 

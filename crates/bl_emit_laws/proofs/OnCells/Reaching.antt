@@ -34,8 +34,9 @@ use Rattle.bl_emit_spec_laws_wellformed.specs.Chains.{ActivitiesCallFew}
 use Rattle.bl_emit_spec_laws_wellformed.specs.Numbers.{EachStandsOnce}
 use Rattle.bl_emit_spec_laws_wellformed_bodies.specs.Cells.{ActivityCells, Sized, cells_reached, ports_of}
 use Rattle.bl_emit_spec_laws_wellformed_bodies.proofs.OnStructs.Lists.{get_taken}
-use Rattle.bl_emit_laws.proofs.OnCells.Numbers.{among_greatest, index_front, index_last, index_more, index_under}
-use Rattle.bl_emit_laws.proofs.OnCells.Tables.{entry_less}
+use Rattle.bl_emit_laws.proofs.OnCells.Numbers.{index_front, index_last, index_more, index_under}
+use Rattle.bl_emit_functions_laws_wellformed.proofs.OnFiles.Growing.{at_most}
+use Rattle.bl_emit_spec_laws_wellformed.proofs.OnNeeded.Whole.{among_greatest}
 
 -- ---- sums
 
@@ -126,7 +127,7 @@ module _ (structs : List StructDef) (units : List UnitDef) (entry : ℕ) (keeps 
     joined_bound list chains k unit r n there st le f other found =
         let old : entry_or 0 chains (unit_name other.name) ≤ slice_index list f = st.bound f other found in
         let more : slice_index list f ≤ slice_index (list ++ r ∷ []) f = index_more list r f in
-        entry_less (chains (unit_name other.name)) (bytes_eq (unit_name unit.name) (unit_name other.name)) n (slice_index (list ++ r ∷ []) f)
+        at_most (chains (unit_name other.name)) (bytes_eq (unit_name unit.name) (unit_name other.name)) n (slice_index (list ++ r ∷ []) f)
         (omega (arith, old, more))
         (λ same. let text : unit.name ≡ other.name = (bytes_eq-Decides unit.name other.name).0 same in
         let place : k ≡ f = one_place units k f unit other differ there found text in

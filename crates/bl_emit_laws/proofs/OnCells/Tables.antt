@@ -14,14 +14,9 @@ use Rattle.bl_tree.specs.declared.text.Text.{Text}
 use Rattle.bl_tree.specs.Reduce.{total}
 use Rattle.bl_ctext_semantics.specs.Sizes.{Sizes, size_of_length, size_of_member, size_of_struct, size_of_type, sizes_after}
 use Rattle.bl_ctext_semantics.specs.Tables.{entry_or, with_entry}
+use Rattle.bl_emit_functions_laws_wellformed.proofs.OnFiles.Growing.{at_most}
 
 -- ---- one more entry
-
-pub entry_less : (o : Option ℕ) (b : Bool) (n most : ℕ) → unwrap_or o 0 ≤ most → (b ≡ true → n ≤ most)
-    → unwrap_or (option_or o (if b then Some n else None)) 0 ≤ most
-entry_less (Some m) b n most old new = old
-entry_less None true n most old new = new refl
-entry_less None false n most old new = old
 
 entry_more : (o : Option ℕ) (b : Bool) (n : ℕ) → unwrap_or o 0 ≤ unwrap_or (option_or o (if b then Some n else None)) 0
 entry_more (Some m) b n = omega arith
@@ -90,7 +85,7 @@ sizes_under (s ∷ rest) known name n old each =
     let later = sizes_more rest known' name in omega (arith, one, later)) in
     let grown : size_of_struct known s ≤ size_of_struct (sizes_after known' rest) s = members_more known (sizes_after known' rest) more s.members in
     sizes_under rest known' name n
-    (entry_less (known name) (bytes_eq s.name name) (size_of_struct known s) n old
+    (at_most (known name) (bytes_eq s.name name) (size_of_struct known s) n old
     (λ same. let own : size_of_struct (sizes_after known' rest) s ≤ n =
     each s (0, omega arith, refl) ((bytes_eq-Decides s.name name).0 same) in omega (arith, grown, own)))
     (λ t at. each t (contains_further s rest t at))

@@ -62,28 +62,16 @@ use Rattle.bl_emit_laws.specs.Cells.{FilesCount, FilesSmall, file_of}
 use Rattle.bl_emit_laws.proofs.OnCells.Counters.{sizes_few}
 use Rattle.bl_emit_laws.proofs.OnCells.Interface.{init_cells, ports_cells, state_cells, tick_cells}
 use Rattle.bl_emit_laws.proofs.OnCells.Names.{alike, file_none, no_file, no_frame, no_memory}
-use Rattle.bl_emit_laws.proofs.OnCells.Needing.{less_calls, needed_length, none_more}
+use Rattle.bl_emit_laws.proofs.OnCells.Needing.{less_calls, none_more}
 use Rattle.bl_emit_laws.proofs.OnCells.Numbers.{greatest_append}
 use Rattle.bl_emit_laws.proofs.OnCells.Sizing as sizing
-use Rattle.bl_emit_laws.proofs.OnCells.Tables.{entry_less, sizes_append, sizes_none, sizes_under}
+use Rattle.bl_emit_laws.proofs.OnCells.Tables.{sizes_append, sizes_none, sizes_under}
 use Rattle.bl_emit_laws.proofs.OnCells.Walk.{Walked, after, chains_append, first_byte, frame_byte, memory_byte, unlike, walk}
+use Rattle.bl_emit_functions_laws_wellformed.proofs.OnFiles.Growing.{at_most}
+use Rattle.bl_emit_structs_laws_wellformed.proofs.OnFormed.Whole.{once_has}
+use Rattle.bl_emit_spec_laws.proofs.OnTables.Kept.{needed_many}
 
 -- ---- lists
-
--- what is taken of each once is taken of all
-once_has : (taken : List Text) (xs : List CStruct) (s : CStruct) → Contains (each_once taken xs) s → Contains xs s
-once_has taken [] s there = there
-once_has taken (x ∷ xs) s there =
-    by (list_any (bytes_eq x.name) taken) (once_has taken xs s) (once_has (taken ++ x.name ∷ []) xs s) there
-  where
-    one_further : Contains xs s → Contains (x ∷ xs) s
-    one_further at = (suc at.0, (let lt = at.1 in omega arith), at.2)
-
-    by : (b : Bool) → (Contains (each_once taken xs) s → Contains xs s) → (Contains (each_once (taken ++ x.name ∷ []) xs) s → Contains xs s) →
-        Contains (if b then each_once taken xs else x ∷ each_once (taken ++ x.name ∷ []) xs) s → Contains (x ∷ xs) s
-    by true old new at = one_further (old at)
-    by false old new at =
-        ⊎_elim (λ is. (0, omega arith, is)) (λ behind. one_further (new behind)) (first_or_further x (each_once (taken ++ x.name ∷ []) xs) s at)
 
 any_at : (xs : List ℕ) (j : ℕ) → list_any (nat_eq j) xs ≡ true → Contains xs j
 any_at [] j h = absurd (cc)
@@ -317,7 +305,7 @@ module _ (program : Program)
   walked =
       walk structs units entry keeps differ K sizes cells follow grow few uses_before cells_down last last_named few_counters callees [] [] units
       (needed_units units entry) machine [] no_entries T refl
-      ((λ i. ap (slice_get (needed_units units entry)) (none_behind i (length {A = UnitDef} []) refl)), needed_length units entry) agrees
+      ((λ i. ap (slice_get (needed_units units entry)) (none_behind i (length {A = UnitDef} []) refl)), needed_many units entry) agrees
       (record {
         long = refl;
         known = record { prelude = λ word s. refl; unnamed = refl; of_units = λ f u at. omega arith };
@@ -348,7 +336,7 @@ module _ (program : Program)
       let front : greatest (chains_after K no_entries parts.funcs) ≤ reach entry = walked.under (reach entry) needed_less in
       let first : chain_cells K chains init ≤ 1 = init_cells unit remembers K chains in
       let own : entry_or 0 chains_then (unit_name unit.name) ≤ reach entry =
-      entry_less (chains (unit_name unit.name)) (bytes_eq (codes "bl_init") (unit_name unit.name)) (chain_cells K chains init) (reach entry)
+      at_most (chains (unit_name unit.name)) (bytes_eq (codes "bl_init") (unit_name unit.name)) (chain_cells K chains init) (reach entry)
       (walked.knows.bound entry unit there) (λ no. absurd (cc)) in
       let second : chain_cells K chains_then tick ≤ entry_or 0 chains_then (unit_name unit.name) + 4 = tick_cells unit remembers K chains_then in
       subst (λ all. greatest all ≤ reach entry + 4) (sym (chains_append K parts.funcs (init ∷ tick ∷ []) no_entries))

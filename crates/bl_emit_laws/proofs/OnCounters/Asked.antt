@@ -1,13 +1,13 @@
 -- The `if`s of an activity's function ask for its flags, each for its own, and for that of the block before where this leaves it a call.
-use Rattle.std.proofs.Common.{◌≡◌, ℕ, zero, suc, ◌<◌, Bool, true, false, List, [], ◌∷◌, ◌++◌, Contains, map, length}
+use Rattle.std.proofs.Common.{◌≡◌, ℕ, ◌<◌, Bool, true, false, List, [], ◌∷◌, ◌++◌, Contains, map, length}
 use Rattle.std.proofs.Common.{Option, Some, None, refl, sym, ap, subst, ◌∙◌, arith}
 use Rattle.std.proofs.lemmas.List.{map-append}
 use Rattle.std.proofs.lemmas.List.Elements.{Contains-append_left, Contains-append_right, filter-append}
 use Rattle.std.proofs.lemmas.List.Folds.{list_all-append}
 use Rattle.std.specs.List.{list_all}
-use Rattle.std.specs.Prelude.{filter, is_some, slice_get, if◌then◌else◌}
+use Rattle.std.specs.Prelude.{filter, is_some, if◌then◌else◌}
 use Rattle.std.proofs.lemmas.Bool.{and_from}
-use Rattle.bl_tree.proofs.Basics.{and_first, and_second, contains_first, contains_further, same_some, some_within}
+use Rattle.bl_tree.proofs.Basics.{and_first, and_second, contains_first, contains_further, some_within}
 use Rattle.bl_tree.specs.declared.text.Text.{Text}
 use Rattle.bl_tree.specs.declared.c.CExpr.{CExpr}
 use Rattle.bl_tree.specs.declared.c.CStmt.{CStmt, out-roll-CStmt}
@@ -33,6 +33,7 @@ use Rattle.bl_emit_laws.specs.Counters.Places.{CPath, places_in}
 use Rattle.bl_emit_laws.proofs.OnCounters.Decided.{fused_decides, turn_decides}
 use Rattle.bl_emit_laws.proofs.OnCounters.Shapes.{two-names}
 use Rattle.bl_emit_laws.proofs.OnCounters.Flags.{asked_by, flag_read, guard_reads}
+use Rattle.bl_emit_spec_laws.proofs.OnPlaced.Placing.{turn_at}
 
 -- ---- `if`s
 
@@ -49,14 +50,6 @@ inside_so test block =
     ∙ ap kind_block (out-roll-CStmtKind (CStmtKind-F.If test block None)))
 
 -- ---- turns and rules
-
-turn_at : (view : ActivityView) (callees : List ℕ) (rules : List Transition) (k u : ℕ) (rule : Transition) → slice_get callees k ≡ Some u →
-    slice_get rules k ≡ Some rule → slice_get (turns_of view callees rules) k ≡ Some (node_turn view u rule)
-turn_at view [] rules k u rule one two = absurd (cc)
-turn_at view (c ∷ callees) [] k u rule one two = absurd (cc)
-turn_at view (c ∷ callees) (r ∷ rules) zero u rule one two =
-    ap (λ a. Some (node_turn view a r)) (same_some c u one) ∙ ap (λ r. Some (node_turn view u r)) (same_some r rule two)
-turn_at view (c ∷ callees) (r ∷ rules) (suc k) u rule one two = turn_at view callees rules k u rule one two
 
 -- the flags that a block of nodes with these rules has of its own
 abbrev pub own_by : ActivityView → List Transition → List Text

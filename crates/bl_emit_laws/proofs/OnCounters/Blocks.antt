@@ -1,5 +1,5 @@
 -- The function of each activity of a written file has one `if` for each block that the machine has for it, and the flags that these ask for.
-use Rattle.std.proofs.Common.{◌≡◌, ⊎_elim, ℕ, suc, ◌<◌, true, List, [], ◌∷◌, Contains, length, map, Some, refl, sym, ap, subst, ◌∙◌, arith}
+use Rattle.std.proofs.Common.{◌≡◌, ⊎_elim, ℕ, ◌<◌, true, List, [], ◌∷◌, Contains, length, map, Some, sym, ap, subst, ◌∙◌, arith}
 use Rattle.std.proofs.lemmas.Slice.Eq.{bytes_eq-Decides}
 use Rattle.std.specs.List.{list_all}
 use Rattle.std.specs.Prelude.{IsPermutation, bytes_eq, filter, option_and_then, slice_get}
@@ -51,14 +51,9 @@ use Rattle.bl_emit_laws.proofs.OnCounters.Flags.{asked_many, locals_are}
 use Rattle.bl_emit_laws.proofs.OnCounters.Ifs.{blocks_many, body_has, ifs_are}
 use Rattle.bl_emit_laws.proofs.OnCounters.Once.{function_alone}
 use Rattle.bl_emit_laws.proofs.OnCounters.Whole.{function_there}
+use Rattle.bl_emit_spec_laws.proofs.OnPlaced.Placing.{turns_many}
 
 -- ---- turns
-
-turns_many : (view : ActivityView) (callees : List ℕ) (rs : List Transition) → length callees ≡ length rs → length (turns_of view callees rs) ≡ length rs
-turns_many view [] [] is = refl
-turns_many view [] (r ∷ rs) is = absurd (omega (arith, is))
-turns_many view (c ∷ callees) [] is = refl
-turns_many view (c ∷ callees) (r ∷ rs) is = ap suc (turns_many view callees rs (let less : length callees ≡ length rs = omega (arith, is) in less))
 
 -- an activity has one turn for each node of its body
 module _ (placed : StaysPlaced) (listed : RulesAreListed) (a : Activity) (unit : UnitDef) (one : InMachine) (unit_is : a.unit ≡ unit)

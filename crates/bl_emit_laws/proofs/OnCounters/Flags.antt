@@ -43,7 +43,7 @@ use Rattle.bl_emit_laws.proofs.OnCounters.Shapes.{place-names, read-names}
 
 -- ---- names of flags
 
-digit_so : (d : ℕ) → d < 10 → is_ascii_digit (48 + d) ≡ true
+pub digit_so : (d : ℕ) → d < 10 → is_ascii_digit (48 + d) ≡ true
 digit_so d small = grind (arith, nat_tests)
 
 glyph_so : (n : ℕ) → is_ascii_digit (digit_glyph false (n % 10)) ≡ true

@@ -8,14 +8,14 @@ use Rattle.bl_tree.proofs.Basics.{first_empty, second_empty}
 use Rattle.bl_tree.specs.declared.c.CFunc.{CFunc}
 use Rattle.bl_tree.specs.declared.c.CMember.{CMember}
 use Rattle.bl_tree.specs.declared.c.CStruct.{CStruct}
-use Rattle.bl_tree.specs.declared.place.Place.{Place}
 use Rattle.bl_tree.specs.declared.text.Text.{Text}
-use Rattle.bl_ctext_semantics.specs.Faults.{Clause, Signature, WellFormed, depth_of_function, depth_of_struct, distinct_names, faults_in, faults_in_function}
+use Rattle.bl_ctext_semantics.specs.Faults.{Signature, WellFormed, depth_of_function, depth_of_struct, distinct_names, faults_in, faults_in_function}
 use Rattle.bl_ctext_semantics.specs.Faults.{faults_in_head, faults_in_struct, function_faults_after, member_table, signature_in, struct_faults_after}
 use Rattle.bl_ctext_semantics.specs.Faults.{struct_table, unless}
 use Rattle.bl_ctext_semantics.specs.Parts.{Parts}
 use Rattle.bl_ctext_semantics.specs.Tables.{Table, no_entries, with_entry}
 use Rattle.bl_emit_laws.specs.Counters.Own.{functions_named, structs_named}
+use Rattle.bl_ctext_semantics.proofs.EndLemmas.{unless-nil}
 
 -- ---- names that differ
 
@@ -77,10 +77,6 @@ module _ {X : Type 0} (name_of : X → Text) (name : Text) where
 
 -- ---- what a table has
 
-unless_so : (holds : Bool) (clause : Clause) (place : Place) → unless holds clause place ≡ [] → holds ≡ true
-unless_so true clause place none = refl
-unless_so false clause place none = absurd (cc)
-
 -- what was seen is in a table
 abbrev InTable : {A : Type 0} → (Text → Bool) → Table A → Type 0
 InTable seen table = (name : Text) → seen name ≡ true → is_some (table name) ≡ true
@@ -126,7 +122,7 @@ functions_differ structs functions depths seen (f ∷ list) in_it none =
     let last : Bool = nat_lt (length list) 2 in
     let here = first_empty (faults_in_function structs functions depths last f) _ none in
     let head = first_empty (faults_in_head structs functions depths last f) _ here in
-    let fresh : is_none (functions f.name) ≡ true = unless_so (is_none (functions f.name)) distinct_names f.place
+    let fresh : is_none (functions f.name) ≡ true = unless-nil (is_none (functions f.name)) distinct_names f.place
     (first_empty (unless (is_none (functions f.name)) distinct_names f.place) _ head) in (
       unseen seen functions f.name in_it fresh,
       functions_differ structs (with_entry functions f.name (signature_in f)) (with_entry depths f.name (depth_of_function depths f))
@@ -144,7 +140,7 @@ structs_differ : (structs : Table (Table CMember)) (depths : Table ℕ) (seen : 
 structs_differ structs depths seen [] in_it none = tt
 structs_differ structs depths seen (s ∷ list) in_it none =
     let here = first_empty (faults_in_struct structs depths s) _ none in
-    let fresh : is_none (structs s.name) ≡ true = unless_so (is_none (structs s.name)) distinct_names s.place
+    let fresh : is_none (structs s.name) ≡ true = unless-nil (is_none (structs s.name)) distinct_names s.place
     (first_empty (unless (is_none (structs s.name)) distinct_names s.place) _ here) in (
       unseen seen structs s.name in_it fresh,
       structs_differ (with_entry structs s.name (member_table s)) (with_entry depths s.name (depth_of_struct depths s))

@@ -5,7 +5,7 @@ use Rattle.std.proofs.lemmas.List.{map-append}
 use Rattle.std.proofs.lemmas.List.Folds.{list_all-append}
 use Rattle.std.specs.Prelude.{Contains, bytes_eq, is_none, is_some, option_and_then}
 use Rattle.std.specs.List.{list_all}
-use Rattle.std.proofs.lemmas.Bool.{and_from, not-true}
+use Rattle.std.proofs.lemmas.Bool.{and_from}
 use Rattle.bl_tree.proofs.Basics.{and_first, and_second, contains_first, contains_further, contains_mapped}
 use Rattle.bl_tree.specs.declared.text.Text.{Text}
 use Rattle.bl_tree.specs.declared.c.CArg.TheVariants.{Value}
@@ -37,27 +37,15 @@ use Rattle.bl_emit_spec.specs.Programs.{input_arg, output_arg, port_member, port
 use Rattle.bl_emit_spec_laws_wellformed_bodies.proofs.OnBodies.Calls.{Suit, suit-address, suit-append}
 use Rattle.bl_emit_spec_laws_wellformed_bodies.proofs.OnBodies.Lists.{found-one, names_of_entries}
 use Rattle.bl_emit_spec_laws_wellformed_bodies.proofs.OnBodies.Variables.{member_place}
+use Rattle.bl_emit_structs_laws_wellformed.proofs.OnNames.Named.{distinct_front}
+use Rattle.bl_emit_spec_laws_wellformed_bodies.proofs.OnLists.Entries.{none_left}
+use Rattle.bl_emit_spec_laws_wellformed_bodies.proofs.OnStructs.Interface.{distinct_back}
 
 -- ---- lists
-
-none_left : (a b c : Bool) → (b ≡ false → c ≡ false) → (a || b) ≡ false → (a || c) ≡ false
-none_left false b c more none = more none
-none_left true b c more none = absurd (cc)
 
 front_none : (x : Text) (xs ys : List Text) → is_among x (xs ++ ys) ≡ false → is_among x xs ≡ false
 front_none x [] ys none = refl
 front_none x (y ∷ xs) ys none = none_left (bytes_eq x y) (is_among x (xs ++ ys)) (is_among x xs) (front_none x xs ys) none
-
-pub front_differs : (xs ys : List Text) → are_distinct (xs ++ ys) ≡ true → are_distinct xs ≡ true
-front_differs [] ys differ = refl
-front_differs (x ∷ xs) ys differ =
-    and_from (not (is_among x xs)) (are_distinct xs)
-    (ap not (front_none x xs ys (not-true (is_among x (xs ++ ys)) (and_first (not (is_among x (xs ++ ys))) (are_distinct (xs ++ ys)) differ))))
-    (front_differs xs ys (and_second (not (is_among x (xs ++ ys))) (are_distinct (xs ++ ys)) differ))
-
-pub back_differs : (xs ys : List Text) → are_distinct (xs ++ ys) ≡ true → are_distinct ys ≡ true
-back_differs [] ys differ = differ
-back_differs (x ∷ xs) ys differ = back_differs xs ys (and_second (not (is_among x (xs ++ ys))) (are_distinct (xs ++ ys)) differ)
 
 -- ---- a struct of ports
 
@@ -182,10 +170,10 @@ module _ (unit : UnitDef) where
   names_split = ap names_of parts_are ∙ map-append (λ (var : Var). var.name) (inputs_of unit) (outputs_of unit)
 
   pub inputs_differ : are_distinct (names_of (parameters_of unit)) ≡ true → are_distinct (names_of (inputs_of unit)) ≡ true
-  inputs_differ differ = front_differs (names_of (inputs_of unit)) (names_of (outputs_of unit)) (ap are_distinct (sym names_split) ∙ differ)
+  inputs_differ differ = distinct_front (names_of (inputs_of unit)) (names_of (outputs_of unit)) (ap are_distinct (sym names_split) ∙ differ)
 
   pub outputs_differ : are_distinct (names_of (parameters_of unit)) ≡ true → are_distinct (names_of (outputs_of unit)) ≡ true
-  outputs_differ differ = back_differs (names_of (inputs_of unit)) (names_of (outputs_of unit)) (ap are_distinct (sym names_split) ∙ differ)
+  outputs_differ differ = distinct_back (names_of (inputs_of unit)) (names_of (outputs_of unit)) (ap are_distinct (sym names_split) ∙ differ)
 
   pub inputs_all : (test : Var → Bool) → list_all test (parameters_of unit) ≡ true → list_all test (inputs_of unit) ≡ true
   inputs_all test all =

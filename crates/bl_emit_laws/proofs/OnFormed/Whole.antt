@@ -36,6 +36,7 @@ use Rattle.bl_emit_spec_laws_wellformed_bodies.specs.Lists.{FunctionsEnd, PartsW
 use Rattle.bl_emit_laws.proofs.OnFormed.Interface.{Entry, init-fine, tick-fine}
 use Rattle.bl_emit_laws.proofs.OnFormed.Ports.{inputs_all, inputs_differ, outputs_differ}
 use Rattle.bl_emit_laws.specs.Formed.{FilesWellFormed, StructsSound, parts_for_entry, table_of}
+use Rattle.bl_ctext_semantics.proofs.MapLemmas.{nothing_after}
 
 -- ---- the last two functions
 
@@ -52,10 +53,6 @@ two_last funcs f g =
     let long = two_length funcs f g in
     let same : length (funcs ++ f ∷ g ∷ []) - 2 ≡ length funcs = omega (arith, long) in
     ap (λ n. drop n (funcs ++ f ∷ g ∷ [])) same ∙ drop_front funcs (f ∷ g ∷ [])
-
-none_more : {A : Type 0} (o : Option A) → option_or o None ≡ o
-none_more None = refl
-none_more (Some x) = refl
 
 none_still : {A : Type 0} (o : Option A) → o ≡ None → option_or o None ≡ None
 none_still None is = refl
@@ -157,7 +154,7 @@ module _ (program : Program) (machine : List InMachine) (unit : UnitDef) (keeps 
     ins = before.ins;
     outs = before.outs;
     known = ap (λ o. option_or o None) before.known;
-    depth = subst (λ o. unwrap_or o 0 ≤ 100) (sym (none_more (end.depths (unit_name unit.name)))) before.depth;
+    depth = subst (λ o. unwrap_or o 0 ≤ 100) (sym (nothing_after (end.depths (unit_name unit.name)))) before.depth;
   }
 
   functions_fine : function_faults_after table end.functions end.depths (init ∷ tick ∷ []) ≡ []

@@ -5,7 +5,7 @@ use Rattle.std.proofs.lemmas.List.Elements.{Contains-append_cases, Contains-appe
 use Rattle.std.proofs.lemmas.Option.{same_Some, slice_get_within}
 use Rattle.std.specs.Prelude.{Contains, is_some, slice_get, unwrap_or}
 use Rattle.std.specs.List.{list_any}
-use Rattle.bl_tree.proofs.Basics.{contains_further, contains_mapped, index_of, push_length}
+use Rattle.bl_tree.proofs.Basics.{contains_further, contains_mapped, index_of}
 use Rattle.bl_tree.specs.declared.place.Place.{Place}
 use Rattle.bl_tree.specs.declared.tree.Arm.{Arm}
 use Rattle.bl_tree.specs.declared.tree.Branch.{Branch}
@@ -32,6 +32,8 @@ use Rattle.bl_emit_spec_laws_nodes.specs.Calling.{RunsStand}
 use Rattle.bl_emit_spec_laws_nodes.specs.Copied.{NodesCopied, RunsCopied}
 use Rattle.bl_emit_spec_laws_nodes.specs.Points.Nodes.{act_copied, copied_there}
 use Rattle.bl_emit_spec_laws_wellformed_bodies.specs.Bodies.{CopiesSuffice, act_named, named_there}
+use Rattle.bl_emit_spec_laws.proofs.OnOwn.Counting.{get_up_to}
+use Rattle.bl_emit_spec_laws_nodes.proofs.OnCopied.Copied.{get_mapped}
 
 -- ---- where a `run` goes on one begins
 
@@ -135,41 +137,17 @@ same_named copied (StmtKind-F.While e body) is = refl
 
 -- ---- lists
 
-get_front : (xs ys : List ℕ) (k x : ℕ) → slice_get xs k ≡ Some x → slice_get (xs ++ ys) k ≡ Some x
-get_front [] ys k x is = absurd (cc)
-get_front (y ∷ xs) ys zero x is = is
-get_front (y ∷ xs) ys (suc k) x is = get_front xs ys k x is
-
-up_length : (n : ℕ) → length (up_to n) ≡ n
-up_length zero = refl
-up_length (suc n) = push_length (up_to n) n ∙ ap suc (up_length n)
-
 get_last : (xs : List ℕ) (y k : ℕ) → length xs ≡ k → slice_get (xs ++ y ∷ []) k ≡ Some y
 get_last [] y zero is = refl
 get_last [] y (suc k) is = absurd (omega (arith, is))
 get_last (x ∷ xs) y zero is = absurd (omega (arith, is))
 get_last (x ∷ xs) y (suc k) is = get_last xs y k (omega (arith, is))
 
-up_at : (n k : ℕ) → k < n → slice_get (up_to n) k ≡ Some k
-up_at zero k less = absurd (omega (arith, less))
-up_at (suc n) k less = by (up_at n k) (nat_eq k n) refl
-  where
-    by : (k < n → slice_get (up_to n) k ≡ Some k) → (b : Bool) → nat_eq k n ≡ b → slice_get (up_to n ++ n ∷ []) k ≡ Some k
-    by before true is =
-        let same : k ≡ n = grind (arith, is) in
-        subst (λ m. slice_get (up_to n ++ n ∷ []) k ≡ Some m) (sym same) (get_last (up_to n) n k (up_length n ∙ sym same))
-    by before false is = let low : k < n = grind (arith, is, less) in get_front (up_to n) (n ∷ []) k k (before low)
-
-mapped_at : (f : ℕ → Bool) (xs : List ℕ) (k x : ℕ) → slice_get xs k ≡ Some x → slice_get (map f xs) k ≡ Some (f x)
-mapped_at f [] k x is = absurd (cc)
-mapped_at f (y ∷ xs) zero x is = ap (λ z. Some (f z)) (same_Some y x is)
-mapped_at f (y ∷ xs) (suc k) x is = mapped_at f xs k x is
-
 -- what is copied is named under a `prev`
 copied_named : (unit : UnitDef) (x : ℕ) → x < length unit.vars → is_copied (copies_of unit) x ≡ true → list_any (nat_eq x) (prevs_of unit) ≡ true
 copied_named unit x less on =
     sym (ap (λ o. unwrap_or o false)
-    (mapped_at (λ k. list_any (nat_eq k) (prevs_of unit)) (up_to (length unit.vars)) x x (up_at (length unit.vars) x less))) ∙ on
+    (get_mapped (λ k. list_any (nat_eq k) (prevs_of unit)) (up_to (length unit.vars)) x x (get_up_to (length unit.vars) x less))) ∙ on
 
 scalar_there : (o : Option Var) (var : Var) → o ≡ Some var → is_scalar_var o ≡ true → is_some (scalar_in var.ty) ≡ true
 scalar_there None var is scalar = absurd (cc)

@@ -25,7 +25,6 @@ use Rattle.bl_emit_structs_laws_wellformed.specs.Names.{TypesApart}
 use Rattle.bl_machine.specs.declared.machine.Activity.{Activity as InMachine}
 use Rattle.bl_machine.specs.Machines.{AreActivitiesOf}
 use Rattle.bl_emit_spec_laws.specs.Calls.Built.{Activities, unit_number}
-use Rattle.bl_emit_spec_laws_simulation.proofs.OnRuns.Running.{unit_there}
 use Rattle.bl_emit_spec_laws_wellformed.specs.Closed.{InstancesNeeded}
 use Rattle.bl_emit_spec_laws_files.specs.States.States.{FramesDeclared, memory_of_activity}
 use Rattle.bl_emit_spec_laws.specs.Tables.Laws.{ActivitiesBuilt, WrittenAs, WrittenIsKept}
@@ -33,6 +32,7 @@ use Rattle.bl_emit_spec_laws.specs.Tables.Tables.{activities_of}
 use Rattle.bl_emit_laws.specs.Kept.{FramesAreDeclared, written_file}
 use Rattle.bl_emit_laws.proofs.OnKept.Types.{stands_once, type_declared}
 use Rattle.bl_emit_laws.proofs.OnKept.Walk.{own, walk}
+use Rattle.bl_emit_spec_laws.proofs.OnActivities.Nested.{unit_there}
 
 -- the entry of a typed program is an activity
 pub entry_active : (structs : List StructDef) (units : List UnitDef) (entry : ℕ) (unit : UnitDef) → IsWellTyped structs units entry →

@@ -1,9 +1,9 @@
 -- The written file ends with its interface.
 use Rattle.std.proofs.Common.{◌≡◌, ◌⊎◌, inl, inr, ⊎_elim, ℕ, suc, Bool, true, false, List, [], ◌∷◌, ◌++◌, Contains, drop, take}
-use Rattle.std.proofs.Common.{refl, sym, ap, ap₂, subst, ◌∙◌, append_assoc, codes}
+use Rattle.std.proofs.Common.{refl, sym, ap, ap₂, ◌∙◌, append_assoc, codes}
 use Rattle.std.proofs.lemmas.List.Elements.{Contains-append_cases}
 use Rattle.std.specs.Prelude.{bytes_eq, if◌then◌else◌}
-use Rattle.bl_tree.proofs.Basics.{contains_first, contains_further, contains_none, first_or_further}
+use Rattle.bl_tree.proofs.Basics.{contains_none, first_or_further}
 use Rattle.bl_tree.specs.declared.c.CFunc.{CFunc}
 use Rattle.bl_tree.specs.declared.c.CMember.{CMember}
 use Rattle.bl_tree.specs.declared.c.CStruct.{CStruct}
@@ -23,10 +23,11 @@ use Rattle.bl_emit_spec.specs.Programs.{written}
 use Rattle.bl_emit_structs.specs.Structs.{structs_of}
 use Rattle.bl_emit_spec_laws.specs.Calls.Built.{Activities}
 use Rattle.bl_emit_spec_laws.specs.Tables.Laws.{WrittenAs, WrittenIsKept}
-use Rattle.bl_emit_spec_laws.specs.Tables.Tables.{activities_of, each_from, functions_of_all, kept_where, unit_function}
+use Rattle.bl_emit_spec_laws.specs.Tables.Tables.{activities_of, each_from, functions_of_all, unit_function}
 use Rattle.bl_emit_laws.specs.Kept.{FilesEnd, structs_before}
 use Rattle.bl_emit_laws.proofs.OnKept.Declared.{entry_active, structs_are}
 use Rattle.bl_emit_laws.proofs.OnKept.Types.{other_name}
+use Rattle.bl_emit_laws.proofs.OnCounters.Lists.{kept_has}
 
 -- ---- names of structs
 
@@ -72,14 +73,6 @@ unit_other s rest (name, inl is) = ap (λ name. bytes_eq name (codes "bl_" ++ re
 unit_other s rest (name, inr is) = ap (λ name. bytes_eq name (codes "bl_" ++ rest)) is
 
 -- ---- names of functions
-
-kept_has : {X : Type 0} (tests : List Bool) (xs : List X) (x : X) → Contains (kept_where tests xs) x → Contains xs x
-kept_has [] xs x at = absurd (contains_none x at)
-kept_has (test ∷ tests) [] x at = absurd (contains_none x at)
-kept_has (true ∷ tests) (y ∷ xs) x at =
-    ⊎_elim (λ is. subst (λ x. Contains (y ∷ xs) x) is (contains_first y xs)) (λ later. contains_further y xs x (kept_has tests xs x later))
-    (first_or_further y (kept_where tests xs) x at)
-kept_has (false ∷ tests) (y ∷ xs) x at = contains_further y xs x (kept_has tests xs x at)
 
 each_has : {X : Type 0} (of : ℕ → UnitDef → X) (k : ℕ) (units : List UnitDef) (x : X) → Contains (each_from of k units) x →
     (n : ℕ) × (unit : UnitDef) × (of n unit ≡ x)

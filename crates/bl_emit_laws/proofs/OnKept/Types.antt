@@ -31,7 +31,9 @@ use Rattle.bl_emit_structs_laws_wellformed.specs.Names.{TypesApart}
 use Rattle.bl_emit_structs_laws_wellformed.specs.Formed.{NestsAtMost}
 use Rattle.bl_emit_structs_laws_wellformed.proofs.OnFormed.Levels.{nesting_at}
 use Rattle.bl_emit_structs_laws_wellformed.proofs.OnFormed.Types.{StructOf, all_are, struct_level}
-use Rattle.bl_emit_laws.proofs.OnKept.Lists.{each_few, index_few, into_joined, sum}
+use Rattle.bl_emit_laws.proofs.OnKept.Lists.{each_few, index_few, sum}
+use Rattle.bl_emit_structs_laws_wellformed.proofs.OnFormed.Whole.{once_has}
+use Rattle.bl_emit_spec_laws_wellformed_bodies.proofs.OnBodies.Lists.{joined-has}
 
 -- ---- each once
 
@@ -77,18 +79,6 @@ once_there taken (x ∷ xs) alike s at new =
             contains_further x (each_once (taken ++ x.name ∷ []) xs) s
             (new_one behind
             (list_any-append (bytes_eq s.name) taken (x.name ∷ []) ∙ neither (has s.name taken) (bytes_eq s.name x.name) new other))
-
--- and none else stands there
-pub once_has : (taken : List Text) (xs : List CStruct) (s : CStruct) → Contains (each_once taken xs) s → Contains xs s
-once_has taken [] s there = there
-once_has taken (x ∷ xs) s there = by (has x.name taken) (once_has taken xs s) (once_has (taken ++ x.name ∷ []) xs s) there
-  where
-    by : (b : Bool) → (Contains (each_once taken xs) s → Contains xs s) → (Contains (each_once (taken ++ x.name ∷ []) xs) s → Contains xs s) →
-        Contains (if b then each_once taken xs else x ∷ each_once (taken ++ x.name ∷ []) xs) s → Contains (x ∷ xs) s
-    by true old new at = contains_further x xs s (old at)
-    by false old new at =
-        ⊎_elim (λ is. subst (λ s. Contains (x ∷ xs) s) is (contains_first x xs)) (λ behind. contains_further x xs s (new behind))
-        (first_or_further x (each_once (taken ++ x.name ∷ []) xs) s at)
 
 -- ---- nesting
 
@@ -147,7 +137,7 @@ module _ (structs : List StructDef) (units : List UnitDef) where
       Contains all s
   of_definition k def there s at =
       Contains-append_left (joined (map (structs_for_definition structs) structs)) (joined (map (structs_for_unit structs) units)) s
-      (into_joined (structs_for_definition structs) structs def s (contains_at structs k def there) at)
+      (joined-has (structs_for_definition structs) structs def s (contains_at structs k def there) at)
 
   -- the structs of a type's arrays are there
   abbrev Inside : Ty → Type 0
@@ -156,14 +146,14 @@ module _ (structs : List StructDef) (units : List UnitDef) where
   variable_inside : (unit : UnitDef) (var : Var) → Contains units unit → Contains unit.vars var → Inside var.ty
   variable_inside unit var there of s at =
       Contains-append_right (joined (map (structs_for_definition structs) structs)) (joined (map (structs_for_unit structs) units)) s
-      (into_joined (structs_for_unit structs) units unit s there (into_joined (λ (var : Var). arrays_of structs var.ty) unit.vars var s of at))
+      (joined-has (structs_for_unit structs) units unit s there (joined-has (λ (var : Var). arrays_of structs var.ty) unit.vars var s of at))
 
   field_inside : (k : ℕ) (def : StructDef) (j : ℕ) (field : Field) → slice_get structs k ≡ Some def → slice_get def.fields j ≡ Some field →
       Inside field.ty
   field_inside k def j field there of s at =
       of_definition k def there s
       (Contains-append_left (joined (map (λ (field : Field). arrays_of structs field.ty) def.fields)) (c_definition structs def ∷ []) s
-      (into_joined (λ (field : Field). arrays_of structs field.ty) def.fields field s (contains_at def.fields j field of) at))
+      (joined-has (λ (field : Field). arrays_of structs field.ty) def.fields field s (contains_at def.fields j field of) at))
 
   part_inside : (ty : Ty) (layer : Ty-F Ty) → out-Ty ty ≡ layer → (k : ℕ) (part : Ty) → Inside ty → part_level structs k layer ≡ Some part →
       Inside part

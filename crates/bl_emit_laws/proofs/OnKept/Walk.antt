@@ -16,7 +16,8 @@ use Rattle.bl_emit_spec.specs.Activities.{frame_struct, remembered_struct, remem
 use Rattle.bl_emit_spec.specs.Programs.{ProgramParts, activity_of, parts_from, parts_of_activity, parts_of_function, parts_of_next, parts_then, where_needed}
 use Rattle.bl_emit_spec_laws.specs.Calls.Built.{Activities, AreBuilt, MadeOf}
 use Rattle.bl_emit_spec_laws.specs.Tables.Tables.{activities_of, no_part, no_unit, remembered_before}
-use Rattle.bl_emit_laws.proofs.OnKept.Lists.{drop_next, drop_one}
+use Rattle.bl_emit_spec_laws.proofs.OnTables.Lists.{drop_next}
+use Rattle.bl_emit_spec_laws.proofs.OnTables.Kept.{drop_one}
 
 -- a needed unit's structs stand before those of others
 first_has : (test : Bool) (here rest : ProgramParts) (own : List CStruct) (s : CStruct) → test ≡ true → here.structs ≡ own → Contains own s →

@@ -1,5 +1,5 @@
 -- What the functions of the interface do where the file is entered.
-use Rattle.std.proofs.Common.{◌≡◌, ℕ, suc, pos, Bool, true, false, not, ◌&&◌, List, [], ◌∷◌, ◌++◌, map, take}
+use Rattle.std.proofs.Common.{◌≡◌, ℕ, suc, Bool, true, false, not, ◌&&◌, List, [], ◌∷◌, ◌++◌, map, take}
 use Rattle.std.proofs.Common.{Option, Some, None, refl, sym, ap, ◌∙◌, subst, codes}
 use Rattle.std.proofs.lemmas.List.Elements.{All-cons, All-nil}
 use Rattle.std.proofs.lemmas.Option.{same_Some}
@@ -10,8 +10,6 @@ use Rattle.bl_tree.proofs.Basics.{and_first, and_second}
 use Rattle.bl_tree.specs.declared.c.CArg.{CArg}
 use Rattle.bl_tree.specs.declared.c.CArg.TheVariants.{Address, Value}
 use Rattle.bl_tree.specs.declared.c.CFunc.{CFunc}
-use Rattle.bl_tree.specs.declared.scalar.Scalar.TheVariants.{Nat}
-use Rattle.bl_tree.specs.declared.scalar.Width.TheVariants.{W32}
 use Rattle.bl_tree.specs.declared.text.Text.{Text}
 use Rattle.bl_tree.specs.declared.tree.StructDef.{StructDef}
 use Rattle.bl_tree.specs.declared.tree.Unit.{Unit as UnitDef}
@@ -28,12 +26,12 @@ use Rattle.bl_ctext_semantics.specs.Tables.{Table, found, no_entries, with_entry
 use Rattle.bl_ctext_semantics.specs.Trace.{call_from_outside}
 use Rattle.bl_ctext_semantics_laws_calls.specs.Known.{AreAlike, CallsDecide}
 use Rattle.bl_emit_acts.specs.Acts.{c_calling}
-use Rattle.bl_emit_acts.specs.Trees.{c_call, c_literal, c_place, c_read, c_step}
+use Rattle.bl_emit_acts.specs.Trees.{c_call, c_place, c_read, c_step}
 use Rattle.bl_emit_acts.specs.Types.{unit_name}
 use Rattle.bl_emit_functions.specs.Functions.{function_code}
 use Rattle.bl_emit_functions.specs.Trees.{c_if}
-use Rattle.bl_emit_functions_laws_wellformed.proofs.OnFiles.Shapes.{address-calls, call-calls, calling-calls, if-calls, literal-calls, place-calls, read-calls}
-use Rattle.bl_emit_functions_laws_wellformed.proofs.OnFiles.Shapes.{return-calls, step-calls, value-calls}
+use Rattle.bl_emit_functions_laws_wellformed.proofs.OnFiles.Shapes.{address-calls, call-calls, calling-calls, if-calls, place-calls, read-calls}
+use Rattle.bl_emit_functions_laws_wellformed.proofs.OnFiles.Shapes.{step-calls, value-calls}
 use Rattle.bl_emit_functions_laws_simulation.specs.Units.{known_after}
 use Rattle.bl_emit_spec.specs.Activities.{activity_function, remembers_any}
 use Rattle.bl_emit_spec.specs.Blocks.{unit_may_end, stmt_where, arg_where}
@@ -43,6 +41,7 @@ use Rattle.bl_emit_laws.specs.Linked.{FilesEnter, table_of_needed}
 use Rattle.bl_emit_laws.proofs.OnLinked.Spared.{other_entry}
 use Rattle.bl_emit_spec_laws.specs.Tables.Laws.{WrittenAs, WrittenIsKept}
 use Rattle.bl_emit_spec_laws.specs.Tables.Tables.{activities_of, each_from, functions_of_all, kept_where, unit_function}
+use Rattle.bl_emit_laws.proofs.OnCells.Interface.{returned_silent}
 
 -- ---- what a tick calls
 
@@ -87,9 +86,6 @@ args_quiet unit remembers =
     (quiet_map output_arg (outputs_of unit) _ (λ var. address_quiet (codes "o") (codes "o_" ++ var.name))
     (end_quiet (unit_may_end unit)))))
 
-returned_quiet : (n : ℕ) → calls_in_stmt (c_returned n) ≡ []
-returned_quiet n = return-calls (Some (c_literal (Nat W32) (pos n))) ∙ literal-calls (Nat W32) (pos n)
-
 -- it calls the function of the entry alone
 tick_calls : (unit : UnitDef) (remembers : Bool) → calls_in_block (tick_function unit remembers).body ≡ unit_name unit.name ∷ []
 tick_calls unit remembers = λ i. called i ++ answered (unit_may_end unit) i
@@ -105,12 +101,12 @@ tick_calls unit remembers = λ i. called i ++ answered (unit_may_end unit) i
     tested : calls_in_stmt (c_if (c_read (c_place false (codes "e") [])) (c_returned 1 ∷ []) None) ≡ []
     tested =
         if-calls (c_read (c_place false (codes "e") [])) (c_returned 1 ∷ []) None
-        ∙ (λ i. (over i ++ (returned_quiet 1 i ++ [])) ++ [])
+        ∙ (λ i. (over i ++ (returned_silent 1 i ++ [])) ++ [])
 
     answered : (ends : Bool) →
         calls_in_block (stmt_where ends (c_if (c_read (c_place false (codes "e") [])) (c_returned 1 ∷ []) None) ++ c_returned 0 ∷ []) ≡ []
-    answered true = λ i. tested i ++ (returned_quiet 0 i ++ [])
-    answered false = λ i. returned_quiet 0 i ++ []
+    answered true = λ i. tested i ++ (returned_silent 0 i ++ [])
+    answered false = λ i. returned_silent 0 i ++ []
 
 -- ---- what is found in a file
 

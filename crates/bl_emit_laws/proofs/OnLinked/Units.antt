@@ -178,19 +178,6 @@ all_none number (x ∷ xs) none =
 
 -- ---- lists
 
-pub drop_next : {A : Type 0} (xs : List A) (k : ℕ) (x : A) (rest : List A) → drop k xs ≡ x ∷ rest
-    → (slice_get xs k ≡ Some x) × (drop (suc k) xs ≡ rest)
-drop_next [] zero x rest is = absurd (cc)
-drop_next [] (suc k) x rest is = absurd (cc)
-drop_next (y ∷ xs) zero x rest is = (first is, behind is)
-  where
-    first : y ∷ xs ≡ x ∷ rest → Some y ≡ Some x
-    first is = cc
-
-    behind : y ∷ xs ≡ x ∷ rest → xs ≡ rest
-    behind is = cc
-drop_next (y ∷ xs) (suc k) x rest is = drop_next xs k x rest is
-
 pub drop_none : {A : Type 0} (xs : List A) (k : ℕ) → drop k xs ≡ [] → (slice_get xs k ≡ None) × (drop (suc k) xs ≡ [])
 drop_none [] zero is = (refl, refl)
 drop_none [] (suc k) is = (refl, refl)

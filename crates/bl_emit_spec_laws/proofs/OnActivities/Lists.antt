@@ -1,17 +1,10 @@
 -- Positions in lists that are taken from others, and places that lie in none of a list.
 use Rattle.std.proofs.Common.{◌≡◌, ℕ, zero, suc, ◌+◌, Bool, true, false, ◌||◌, List, [], ◌∷◌, ◌++◌}
-use Rattle.std.proofs.Common.{take, drop, Some, refl, sym, ap, subst}
+use Rattle.std.proofs.Common.{drop, Some, refl, sym, ap, subst}
 use Rattle.std.proofs.Common.{◌∙◌, arith}
 use Rattle.std.specs.List.{list_any}
 use Rattle.std.specs.Prelude.{slice_get}
 use Rattle.bl_tree.proofs.Basics.{neither_first, neither_second}
-
--- what stands at a position of the first elements stands there in the list
-pub get_take : {A : Type 0} (n : ℕ) (xs : List A) (k : ℕ) (x : A) → slice_get (take n xs) k ≡ Some x → slice_get xs k ≡ Some x
-get_take zero xs k x there = absurd (cc)
-get_take (suc n) [] k x there = absurd (cc)
-get_take (suc n) (y ∷ xs) zero x there = there
-get_take (suc n) (y ∷ xs) (suc k) x there = get_take n xs k x there
 
 -- and behind some elements, so much further on
 pub get_drop : {A : Type 0} (m : ℕ) (xs : List A) (k : ℕ) (x : A) → slice_get (drop m xs) k ≡ Some x → slice_get xs (m + k) ≡ Some x

@@ -48,10 +48,11 @@ use Rattle.bl_emit_spec_laws.specs.Calls.Invariant.{FunctionContext, result_at_c
 use Rattle.bl_emit_spec_laws.specs.Activities.{CalleesRemember, CallsSimulate, PointersAreGiven, PointersLead, ViewsFit}
 use Rattle.bl_emit_spec_laws.proofs.OnActivities.Appending.{append_end, append_memory}
 use Rattle.bl_emit_spec_laws.proofs.OnActivities.Calling.{output_place, outputs_from, same_length}
-use Rattle.bl_emit_spec_laws.proofs.OnActivities.Lists.{any_at, any_left, any_right, get_drop, get_take}
+use Rattle.bl_emit_spec_laws.proofs.OnActivities.Lists.{any_at, any_left, any_right, get_drop}
 use Rattle.bl_emit_spec_laws.proofs.OnActivities.Nested.{left_held, unit_there}
 use Rattle.bl_emit_spec_laws.proofs.OnActivities.Roles.{lent_output, output_at, output_lent, unit_roles}
 use Rattle.bl_emit_spec_laws.proofs.OnWithin.Passing.{starts_within}
+use Rattle.bl_emit_functions_laws_simulation.proofs.OnCalls.Procedure.{taken_index}
 
 first_where : {X : Type 0} (test : Bool) (x : X) → test ≡ true → slice_get (where_true test x) 0 ≡ Some x
 first_where true x is = refl
@@ -187,7 +188,7 @@ module _ (structs : List StructDef) (units : List UnitDef) (entry : ℕ) (machin
           let own = output_at site unit k var roles same_vars there in
           let lent = output_lent site x var own.0 own.1 in
           let is_now = get_drop unit.inputs (view_at W left i).now k value
-          (get_take unit.outputs (drop unit.inputs (view_at W left i).now) k value is_value) in
+          (taken_index unit.outputs (drop unit.inputs (view_at W left i).now) k value is_value) in
           let held = part.stands.variables.each x var value own.0 is_now in
           let at_lent : Encodes structs var.ty value (value_at rest.memory (lent_at scope site.vars x)) =
           subst (λ (s : List StructDef). Encodes s var.ty value (value_at rest.memory (lent_at scope site.vars x))) same_structs

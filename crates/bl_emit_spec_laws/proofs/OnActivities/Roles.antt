@@ -20,7 +20,8 @@ use Rattle.bl_emit_acts.specs.Places.{copies_inputs, home_of, is_alone}
 use Rattle.bl_emit_acts.specs.declared.home.Home.TheVariants.{Lent}
 use Rattle.bl_emit_acts_laws_simulation.proofs.Homes.{declared_home, declared_unlent, output_home}
 use Rattle.bl_emit_acts_laws_simulation.specs.Encodes.{home_at}
-use Rattle.bl_emit_spec_laws.proofs.OnActivities.Lists.{get_drop, get_take}
+use Rattle.bl_emit_spec_laws.proofs.OnActivities.Lists.{get_drop}
+use Rattle.bl_emit_functions_laws_simulation.proofs.OnCalls.Procedure.{taken_index}
 
 -- ---- roles stand
 
@@ -146,6 +147,6 @@ pub output_at : (site : TypingContext) (unit : UnitDef) (k : ℕ) (var : Var) �
     (var_at site (unit.inputs + k) ≡ Some var) × (is_output var.role ≡ true)
 output_at site unit k var roles same there = (
   ap (λ (vars : List Var). slice_get vars (unit.inputs + k)) same
-      ∙ get_drop unit.inputs unit.vars k var (get_take unit.outputs (drop unit.inputs unit.vars) k var there),
+      ∙ get_drop unit.inputs unit.vars k var (taken_index unit.outputs (drop unit.inputs unit.vars) k var there),
   all_at (λ (v : Var). is_output v.role) (outputs_of unit) k var roles.outputs there,
 )

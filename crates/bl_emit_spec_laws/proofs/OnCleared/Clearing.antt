@@ -27,7 +27,7 @@ any_at p (y ∷ xs) zero x there e =
     let same : y ≡ x = cc in ap (λ b. b || list_any p xs) (ap p same ∙ e)
 any_at p (y ∷ xs) (suc k) x there e = or_right (p y) (list_any p xs) (any_at p xs k x there e)
 
-got_or : (xs : List Instance) (k : ℕ) (d : Instance) → k < length xs → slice_get xs k ≡ Some (get_or xs k d)
+pub got_or : (xs : List Instance) (k : ℕ) (d : Instance) → k < length xs → slice_get xs k ≡ Some (get_or xs k d)
 got_or [] k d within = absurd (omega arith)
 got_or (x ∷ xs) zero d within = refl
 got_or (x ∷ xs) (suc k) d within = got_or xs k d (omega arith)

@@ -10,24 +10,16 @@ use Rattle.bl_tree.specs.declared.place.Place.{Place}
 use Rattle.bl_tree.specs.declared.tree.Unit.{Unit as UnitDef}
 use Rattle.bl_tree.specs.Reduce.{joined}
 use Rattle.bl_tree.specs.Rules.{same_place}
-use Rattle.bl_effects.proofs.EntryLemmas.{same_place_is}
 use Rattle.bl_ctree.specs.declared.instance.Instance.{Instance}
 use Rattle.bl_ctree.specs.declared.instance.Origin.{Origin}
 use Rattle.bl_ctree.specs.declared.instance.Run.{Run}
 use Rattle.bl_ctree.specs.Instances.{begins_at, called_from, expanded, instances_below, one_a_place, origin_under, runs_in, runs_of}
+use Rattle.bl_tree.proofs.FirstLemmas.{same_true}
+use Rattle.bl_ctree_laws_confluence.proofs.OnDeeds.Origins.{get_split}
 
 -- ---- tests
 
 -- ---- elements of lists
-
-get_split : {A : Type 0} (xs ys : List A) (m : ℕ) (x : A) → slice_get (xs ++ ys) m ≡ Some x →
-    (slice_get xs m ≡ Some x) ⊎ ((k : ℕ) × (m ≡ length xs + k) × (slice_get ys k ≡ Some x))
-get_split [] ys m x e = inr (m, omega arith, e)
-get_split (z ∷ xs) ys zero x e = inl e
-get_split (z ∷ xs) ys (suc m) x e = elim (get_split xs ys m x e) [
-  | inl here ↦ inl here
-  | inr later ↦ let is = later.1 in inr (later.0, omega arith, later.2)
-]
 
 -- ---- places of `run` statements
 
@@ -61,7 +53,7 @@ module _ (p : Run → Bool) where
       by_test true more = (λ place here later. differ.0 place here (filtered_at rest place later), more)
       by_test false more = more
 
-clash : (b : Bool) → b ≡ true → not b ≡ true → ⊥
+pub clash : (b : Bool) → b ≡ true → not b ≡ true → ⊥
 clash true e f = absurd cc
 clash false e f = absurd cc
 
@@ -80,7 +72,7 @@ none_left run (x ∷ rest) place here e = by_test (not (same_place run.place x.p
         (AnyAt (filter (is_elsewhere run) rest) place → ⊥) → ⊥
     by_test true is e more =
         elim (either_of (same_place x.place place) (list_any (λ (other : Run). same_place other.place place) (filter (is_elsewhere run) rest)) e) [
-          | inl at ↦ clash (same_place run.place x.place) (ap (same_place run.place) (same_place_is x.place place at) ∙ here) is
+          | inl at ↦ clash (same_place run.place x.place) (ap (same_place run.place) (same_true x.place place at) ∙ here) is
           | inr later ↦ more later
         ]
     by_test false is e more = more e

@@ -90,16 +90,16 @@ counter_at (y ∷ list) (suc i) x is = counter_at list i x is
 
 -- ---- sizes
 
-many_up_to : (n : ℕ) → length (up_to n) ≡ n
+pub many_up_to : (n : ℕ) → length (up_to n) ≡ n
 many_up_to zero = refl
 many_up_to (suc n) = let all = length-append (up_to n) (n ∷ []) in let rest = many_up_to n in omega arith
 
-get_left : (xs ys : List ℕ) (k x : ℕ) → slice_get xs k ≡ Some x → slice_get (xs ++ ys) k ≡ Some x
+pub get_left : (xs ys : List ℕ) (k x : ℕ) → slice_get xs k ≡ Some x → slice_get (xs ++ ys) k ≡ Some x
 get_left [] ys k x is = none_is_some x is
 get_left (y ∷ xs) ys zero x is = is
 get_left (y ∷ xs) ys (suc k) x is = get_left xs ys k x is
 
-get_last : (xs : List ℕ) (x k : ℕ) → k ≡ length xs → slice_get (xs ++ x ∷ []) k ≡ Some x
+pub get_last : (xs : List ℕ) (x k : ℕ) → k ≡ length xs → slice_get (xs ++ x ∷ []) k ≡ Some x
 get_last [] x zero is = refl
 get_last [] x (suc k) is = absurd (omega (arith, is))
 get_last (y ∷ xs) x zero is = absurd (omega (arith, is))

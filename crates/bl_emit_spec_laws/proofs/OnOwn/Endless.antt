@@ -19,6 +19,7 @@ use Rattle.bl_machine_pass.specs.Transitions.{Change, Finishes, SetsFlag, Transi
 use Rattle.bl_emit_spec.specs.Blocks.{is_endless, layer_endless, unit_may_end}
 use Rattle.bl_emit_spec_laws.specs.Registers.Laws.{ends_body}
 use Rattle.bl_emit_spec_laws.proofs.OnOwn.Quiet.{Quiet, is_quiet, quiet_both, quiet_of}
+use Rattle.bl_emit_spec_laws.proofs.OnOwn.Quiet.{no_rules}
 
 -- ---- statements, by their layers
 
@@ -66,14 +67,11 @@ last_quiet slots s at next h =
     by (StmtKind-F.While e body) h = absurd (cc)
     by (StmtKind-F.Return e) h = absurd (cc)
 
-none_quiet : Quiet []
-none_quiet = record { all = refl }
-
 body_quiet : (slots : Slots) (body : List Stmt) (k : ℕ) (block : Position) → last_of (map is_endless body) ≡ true →
     Quiet (rules_in slots (block_from (map plain_stmt body) k block) Finishes)
 body_quiet slots [] k block h = absurd (cc)
 body_quiet slots (s ∷ []) k block h =
-    quiet_both (rules_of slots (plain_stmt s (block ++ k ∷ [])) Finishes) [] (last_quiet slots s (block ++ k ∷ []) Finishes h) none_quiet
+    quiet_both (rules_of slots (plain_stmt s (block ++ k ∷ [])) Finishes) [] (last_quiet slots s (block ++ k ∷ []) Finishes h) no_rules
 body_quiet slots (s ∷ t ∷ rest) k block h =
     let more = block_from (map plain_stmt (t ∷ rest)) (suc k) block in
     quiet_both (rules_of slots (plain_stmt s (block ++ k ∷ [])) (enter more Finishes)) (rules_in slots more Finishes)

@@ -49,7 +49,7 @@ both_lists (rule ∷ first) rest h i = split (is_quiet rule) h (both_lists first
 pub quiet_both : (first rest : List Transition) → Quiet first → Quiet rest → Quiet (first ++ rest)
 quiet_both first rest h i = record { all = both_lists first rest h.all i.all }
 
-no_rules : Quiet []
+pub no_rules : Quiet []
 no_rules = record { all = refl }
 
 no_changes : Going []

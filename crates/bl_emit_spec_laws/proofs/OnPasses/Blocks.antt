@@ -9,24 +9,11 @@ use Rattle.bl_ctext_semantics.specs.Meaning.{Scope, block_c, runs_c}
 use Rattle.bl_ctext_semantics.specs.Memory.{Memory}
 use Rattle.bl_emit_spec.specs.Blocks.{NodeCode}
 use Rattle.bl_emit_spec_laws.specs.Passes.{behind_firsts}
+use Rattle.bl_emit_spec_laws.proofs.OnActivities.Appending.{following_memory, following_on}
 
 -- ---- lists
 
 -- ---- outcomes
-
-following_on : (n : ℕ) (end : End) (memory : Memory) (rest : Memory → Outcome Memory) → end ≡ goes_on →
-    (following_end n memory end rest).end ≡ (rest memory).end
-following_on n goes_on memory rest is = refl
-following_on n breaks memory rest is = absurd (cc)
-following_on n (returns result) memory rest is = absurd (cc)
-following_on n traps memory rest is = absurd (cc)
-
-following_memory : (n : ℕ) (end : End) (memory : Memory) (rest : Memory → Outcome Memory) → end ≡ goes_on →
-    (following_end n memory end rest).memory ≡ (rest memory).memory
-following_memory n goes_on memory rest is = refl
-following_memory n breaks memory rest is = absurd (cc)
-following_memory n (returns result) memory rest is = absurd (cc)
-following_memory n traps memory rest is = absurd (cc)
 
 following_traps : (n : ℕ) (end : End) (memory : Memory) (rest : Memory → Outcome Memory) → end ≡ traps →
     (following_end n memory end rest).end ≡ traps

@@ -48,9 +48,7 @@ use Rattle.bl_emit_spec_laws.proofs.OnPasses.Standing.{text_of, turn_there}
 use Rattle.bl_emit_spec_laws.proofs.OnPasses.Straight.{answers_true, is_last, own_alone}
 use Rattle.bl_emit_spec_laws.proofs.OnPasses.Turns.{Follows, Head, flags_stay, free_flag, fused, fused_is, head_of, leads, left_follows, left_to, nothing}
 use Rattle.bl_emit_spec_laws.proofs.OnPasses.Turns.{part_of, text, text_alone}
-
-nothing_left : (g : ℕ) → None ≡ Some g → ⊥
-nothing_left g is = cc
+use Rattle.bl_emit_spec_laws.proofs.OnPasses.Turns.{nothing_left}
 
 module _ (structs : List StructDef) (units : List UnitDef) (entry : ℕ) (activities : Activities) where
   abbrev W : Setting

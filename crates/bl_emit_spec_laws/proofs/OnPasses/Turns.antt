@@ -81,7 +81,7 @@ pub record Follows (last : NodeCode) (rest : List (List NodeCode)) : Type 0 wher
   pub is : rest ≡ (next ∷ others) ∷ more
   pub same : same_run last.run next.run ≡ true
 
-nothing_left : (g : ℕ) → None ≡ Some g → ⊥
+pub nothing_left : (g : ℕ) → None ≡ Some g → ⊥
 nothing_left g is = cc
 
 -- the flag is that of the block's first node

@@ -3,7 +3,6 @@ use Rattle.std.proofs.Common.{◌≡◌, ◌⊎◌, ⊎_elim, ℕ, zero, suc, �
 use Rattle.std.proofs.Common.{List, [], ◌∷◌, ◌++◌, Contains, Option, Some, None}
 use Rattle.std.proofs.Common.{cond, nat_eq, refl, sym, ap, subst, ◌∙◌, arith, length, eq-eqb, eqb-true, if◌then◌else◌}
 use Rattle.std.specs.Prelude.{IsPermutation, option_to_list, slice_get}
-use Rattle.std.proofs.lemmas.List.{length-append}
 use Rattle.std.proofs.lemmas.List.Sorted.{Contains-permutation, sum_by-IsPermutation}
 use Rattle.std.proofs.lemmas.List.Sums.{sum_by-cons, sum_by_push}
 use Rattle.bl_tree.proofs.Basics.{contains_at, contains_first, contains_further, index_of, less_or_not, none_is_some, same_some, some_within}
@@ -11,26 +10,21 @@ use Rattle.bl_machine.specs.Blocks.{up_to}
 use Rattle.bl_machine.specs.Slots.{times}
 use Rattle.bl_machine_pass.specs.Numbered.{position_where}
 use Rattle.bl_emit_spec.specs.Activities.{picked}
+use Rattle.bl_emit_spec_laws.proofs.OnOwn.Counting.{get_up_to}
+use Rattle.bl_machine_pass_laws.proofs.OnSlots.Finding.{found_first}
+use Rattle.bl_machine_transitions_laws.proofs.Standing.{past}
 
 -- ---- positions
 
 -- ---- the first that passes
 
-first_where : (b : Bool) (k : ℕ) → b ≡ true → (if b then 0 else suc k) ≡ 0
-first_where true k e = refl
-first_where false k e = absurd cc
-
-past_where : (b : Bool) (k : ℕ) → (b ≡ true → ⊥) → (if b then 0 else suc k) ≡ suc k
-past_where true k none = absurd (none refl)
-past_where false k none = refl
-
 -- where one alone passes it is found
 pub found_at : (p : ℕ) (xs : List ℕ) (k : ℕ) → slice_get xs k ≡ Some p → ((j : ℕ) → slice_get xs j ≡ Some p → j ≡ k) →
     position_where (nat_eq p) xs ≡ k
 found_at p [] k is alone = none_is_some p is
-found_at p (x ∷ xs) zero is alone = first_where (nat_eq p x) (position_where (nat_eq p) xs) (eq-eqb p x (sym (same_some x p is)))
+found_at p (x ∷ xs) zero is alone = found_first (nat_eq p x) (position_where (nat_eq p) xs) (eq-eqb p x (sym (same_some x p is)))
 found_at p (x ∷ xs) (suc k) is alone =
-    past_where (nat_eq p x) (position_where (nat_eq p) xs)
+    past (nat_eq p x) (position_where (nat_eq p) xs)
     (λ e. (let zero_is : 0 ≡ suc k = alone 0 (ap Some (sym (eqb-true p x e))) in omega (arith, zero_is)))
     ∙ ap suc (found_at p xs k is (λ j there. (let next : suc j ≡ suc k = alone (suc j) there in omega (arith, next))))
 
@@ -124,30 +118,6 @@ few_above p n more =
 few_times : (p n : ℕ) → times p (up_to n) ≤ 1
 few_times p zero = let none : times p [] ≡ 0 = refl in omega arith
 few_times p (suc n) = ⊎_elim (λ less. few_below p n less (few_times p n)) (λ more. few_above p n more) (less_or_not p n)
-
-get_left : (xs ys : List ℕ) (k x : ℕ) → slice_get xs k ≡ Some x → slice_get (xs ++ ys) k ≡ Some x
-get_left [] ys k x is = none_is_some x is
-get_left (y ∷ xs) ys zero x is = is
-get_left (y ∷ xs) ys (suc k) x is = get_left xs ys k x is
-
-get_last : (xs : List ℕ) (x k : ℕ) → k ≡ length xs → slice_get (xs ++ x ∷ []) k ≡ Some x
-get_last [] x zero is = refl
-get_last [] x (suc k) is = absurd (omega (arith, is))
-get_last (y ∷ xs) x zero is = absurd (omega (arith, is))
-get_last (y ∷ xs) x (suc k) is = get_last xs x k (omega (arith, is))
-
-many_up_to : (n : ℕ) → length (up_to n) ≡ n
-many_up_to zero = refl
-many_up_to (suc n) = let all = length-append (up_to n) (n ∷ []) in let rest = many_up_to n in omega arith
-
-get_up_to : (n k : ℕ) → k < n → slice_get (up_to n) k ≡ Some k
-get_up_to zero k below = absurd (omega (arith, below))
-get_up_to (suc n) k below =
-    ⊎_elim (λ less. get_left (up_to n) (n ∷ []) k k (get_up_to n k less))
-    (λ more.
-    (let is : k ≡ n = omega (arith, below, more) in
-    subst (λ m. slice_get (up_to n ++ n ∷ []) k ≡ Some m) (sym is) (get_last (up_to n) n k (is ∙ sym (many_up_to n)))))
-    (less_or_not k n)
 
 -- an order of the numbers below n
 module _ (n : ℕ) (order : List ℕ) (is : IsPermutation (up_to n) order) where

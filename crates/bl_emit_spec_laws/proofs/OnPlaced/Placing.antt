@@ -45,7 +45,7 @@ use Rattle.bl_emit_spec_laws.proofs.OnPlaced.Lists.{picked_at, picked_from, pick
 
 -- ---- blocks
 
-turn_at : (view : ActivityView) (callees : List ℕ) (rs : List Transition) (k u : ℕ) (rule : Transition) → slice_get callees k ≡ Some u → slice_get rs k
+pub turn_at : (view : ActivityView) (callees : List ℕ) (rs : List Transition) (k u : ℕ) (rule : Transition) → slice_get callees k ≡ Some u → slice_get rs k
     ≡ Some rule →
     slice_get (turns_of view callees rs) k ≡ Some (node_turn view u rule)
 turn_at view [] rs k u rule one two = absurd (cc)
@@ -54,7 +54,7 @@ turn_at view (c ∷ callees) (r ∷ rs) zero u rule one two =
     ap (λ a. Some (node_turn view a r)) (same_some c u one) ∙ ap (λ a. Some (node_turn view u a)) (same_some r rule two)
 turn_at view (c ∷ callees) (r ∷ rs) (suc k) u rule one two = turn_at view callees rs k u rule one two
 
-turns_many : (view : ActivityView) (callees : List ℕ) (rs : List Transition) → length callees ≡ length rs → length (turns_of view callees rs)
+pub turns_many : (view : ActivityView) (callees : List ℕ) (rs : List Transition) → length callees ≡ length rs → length (turns_of view callees rs)
     ≡ length rs
 turns_many view [] [] is = refl
 turns_many view [] (r ∷ rs) is = absurd (omega (arith, is))
@@ -62,7 +62,7 @@ turns_many view (c ∷ callees) [] is = refl
 turns_many view (c ∷ callees) (r ∷ rs) is = ap suc
     (turns_many view callees rs (let less : length callees ≡ length rs = omega (arith, is) in less))
 
-agrees_at : {X Y : Type 0} (f : X → Y) (at : ℕ → Y) (xs : List X) (first k : ℕ) (x : X) → Agrees f at first xs → slice_get xs k
+pub agrees_at : {X Y : Type 0} (f : X → Y) (at : ℕ → Y) (xs : List X) (first k : ℕ) (x : X) → Agrees f at first xs → slice_get xs k
     ≡ Some x →
     f x ≡ at (first + k)
 agrees_at f at [] first k x agrees is = absurd (cc)

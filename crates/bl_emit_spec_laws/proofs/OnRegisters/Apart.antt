@@ -1,18 +1,18 @@
 -- The places of registers keep apart from one another, from variables and from copies.
 use Rattle.std.proofs.Common.{◌≡◌, ℕ, ◌<◌, ◌^◌, arith, Bool, true, false, not, ◌&&◌, ◌||◌, List, [], ◌∷◌, ◌++◌}
 use Rattle.std.proofs.Common.{drop, Some, refl, sym, ap, ◌∙◌}
-use Rattle.std.proofs.lemmas.Bool.{eq-eqb, eqb-true, le-leb, ltb-true}
+use Rattle.std.proofs.lemmas.Bool.{eq-eqb}
 use Rattle.std.proofs.lemmas.Fmt.{decimal_injective}
 use Rattle.std.proofs.lemmas.Slice.Eq.{bytes_eq-Decides}
 use Rattle.std.specs.Prelude.{bytes_eq, codes, nat_eq, ◌==◌}
 use Rattle.std.specs.Fmt.{decimal}
 use Rattle.std.proofs.lemmas.Bool.{or_right}
-use Rattle.bl_tree.proofs.Basics.{and_false, at_most_self_test, true_not_false}
+use Rattle.bl_tree.proofs.Basics.{at_most_self_test, true_not_false}
 use Rattle.bl_tree.specs.declared.text.Text.{Text}
 use Rattle.bl_tree.specs.declared.tree.Var.{Var}
 use Rattle.bl_tree.specs.Typing.{TypingContext, is_activity, var_at}
 use Rattle.bl_ctext_semantics.specs.Meaning.{Scope, further, named_location}
-use Rattle.bl_ctext_semantics.specs.Memory.{Location, Projection, Root, input_object, member, output_object, same_root, state_object, variable}
+use Rattle.bl_ctext_semantics.specs.Memory.{Location, Projection, member, same_root, variable}
 use Rattle.bl_emit_acts.specs.declared.home.Home.{Home}
 use Rattle.bl_emit_acts.specs.declared.home.Home.TheVariants.{Held, Local, Lent}
 use Rattle.bl_emit_acts.specs.Types.{copy_name, variable_name}
@@ -25,7 +25,9 @@ use Rattle.bl_emit_spec_laws.specs.Registers.Registers.{ApartFromPointers, FewRe
 use Rattle.bl_emit_spec_laws.specs.Registers.Registers.{RegistersBeside}
 use Rattle.bl_emit_spec_laws.specs.Registers.Registers.{Before, Counter, Flag, Mark, Over, Register, frame_at, has_register, over_at, register_at}
 use Rattle.bl_emit_spec_laws.specs.Registers.Registers.{same_register}
-use Rattle.bl_emit_spec_laws.proofs.OnRegisters.Cells.{apart_flip, behind_front, further_both}
+use Rattle.bl_emit_spec_laws.proofs.OnRegisters.Cells.{behind_front}
+use Rattle.bl_emit_acts_laws_simulation.proofs.Frames.{further_apart, older_differs, older_live, own_differ, roots_differ}
+use Rattle.bl_emit_acts_laws_simulation.proofs.Cells.{apart_flip}
 
 -- ---- names and roots
 
@@ -45,41 +47,6 @@ worded_differ : (letter : ℕ) (words : ℕ → Text) (j k : ℕ) → j < 2 ^ 64
     bytes_eq (letter ∷ numbered_word (with_word words j)) (letter ∷ numbered_word (with_word words k)) ≡ false
 worded_differ letter words j k less most differ =
     words_differ letter j k (words j) (words k) less most (λ same. true_not_false (sym (eq-eqb j k same) ∙ differ))
-
-roots_differ : (p q : Location) → same_root p.root q.root ≡ false → are_apart p q ≡ true
-roots_differ p q h = ap (λ same. not same || ways_part p.parts q.parts) h
-
-own_differ : (depth : ℕ) (m n : List ℕ) → bytes_eq m n ≡ false → same_root (variable depth m) (variable depth n) ≡ false
-own_differ depth m n h = ap (λ b. (depth == depth) && b) h ∙ and_false (depth == depth)
-
-older_differs : (depth : ℕ) (name : List ℕ) (root : Root) → is_older depth root ≡ true → same_root (variable depth name) root ≡ false
-older_differs depth name state_object h = refl
-older_differs depth name input_object h = refl
-older_differs depth name output_object h = refl
-older_differs depth name (variable d other) h = by (depth == d) refl
-  where
-    by : (same : Bool) → (depth == d) ≡ same → (same && bytes_eq name other) ≡ false
-    by false is = refl
-    by true is =
-        let less : d < depth = ltb-true d depth h in
-        let equal : depth ≡ d = eqb-true depth d is in
-        absurd (omega arith)
-
-older_live : (depth : ℕ) (root : Root) → is_older depth root ≡ true → is_live depth root ≡ true
-older_live depth state_object h = refl
-older_live depth input_object h = refl
-older_live depth output_object h = refl
-older_live depth (variable d name) h = let less : d < depth = ltb-true d depth h in le-leb d depth (omega arith)
-
-further_split : (same a b : Bool) → (a ≡ true → b ≡ true) → (not same || a) ≡ true → (not same || b) ≡ true
-further_split true a b next h = next h
-further_split false a b next h = refl
-
--- what lies further on keeps apart too
-further_apart : (p q : Location) (xs ys : List Projection) → are_apart p q ≡ true → are_apart (further p xs) (further q ys) ≡ true
-further_apart p q xs ys h =
-    further_split (same_root p.root q.root) (ways_part p.parts q.parts) (ways_part (p.parts ++ xs) (q.parts ++ ys))
-    (further_both p.parts q.parts xs ys) h
 
 -- ---- where registers stand
 

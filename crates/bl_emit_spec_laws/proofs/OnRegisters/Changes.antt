@@ -32,7 +32,7 @@ use Rattle.bl_emit_spec_laws.proofs.OnRegisters.Setting.{set_comes, then_goes}
 with_own : {X : Type 0} (k : ℕ) (x : X) (f : ℕ → X) → with_at k x f k ≡ x
 with_own k x f = ap (λ b. if b then x else f k) (eq-eqb k k refl)
 
-with_other : {X : Type 0} (k : ℕ) (x : X) (f : ℕ → X) (j : ℕ) → nat_eq j k ≡ false → with_at k x f j ≡ f j
+pub with_other : {X : Type 0} (k : ℕ) (x : X) (f : ℕ → X) (j : ℕ) → nat_eq j k ≡ false → with_at k x f j ≡ f j
 with_other k x f j h = ap (λ b. if b then x else f j) h
 
 module _ (has : Registered) where

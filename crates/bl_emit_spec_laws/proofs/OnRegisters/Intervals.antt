@@ -29,13 +29,9 @@ use Rattle.bl_emit_spec_laws.specs.Registers.Registers.{Registered, RegistersEnc
 use Rattle.bl_emit_spec_laws.proofs.OnRegisters.Guards.{Shows, aged_shows, and_shows, ends_show, flag_shows, literal_gives, no_less_shows}
 use Rattle.bl_emit_spec_laws.proofs.OnRegisters.Guards.{no_more_shows, or_shows, rested_gives, rested_shows, since_shows, truth_shows}
 use Rattle.bl_emit_spec_laws.proofs.OnRegisters.Numbers.{gives}
+use Rattle.bl_ctree_laws.proofs.Surfaces.{bool_same}
 
 -- ---- numbers in a row
-
-iff : (a b : Bool) → (a ≡ true → b ≡ true) → (b ≡ true → a ≡ true) → a ≡ b
-iff true b there back = sym (there refl)
-iff false true there back = absurd (true_not_false (sym (back refl)))
-iff false false there back = refl
 
 -- the last value of a row is no less than the first
 last_least : (k v : ℕ) (rest : List Slot) → follow_on k (suc v) rest ≡ true → v ≤ last_value v rest
@@ -50,7 +46,7 @@ last_least k v (slot ∷ rest) h =
 -- a number is the first of a row or one of the others where it lies between the first and the last
 step_in : (v w l : ℕ) → v ≤ l → (nat_eq w v || (nat_le (suc v) w && nat_le w l)) ≡ (nat_le v w && nat_le w l)
 step_in v w l few =
-    iff (nat_eq w v || (nat_le (suc v) w && nat_le w l)) (nat_le v w && nat_le w l) (there (nat_eq w v) refl) (back (nat_eq w v) refl)
+    bool_same (nat_eq w v || (nat_le (suc v) w && nat_le w l)) (nat_le v w && nat_le w l) (there (nat_eq w v) refl) (back (nat_eq w v) refl)
   where
     there : (same : Bool) → nat_eq w v ≡ same → (same || (nat_le (suc v) w && nat_le w l)) ≡ true → (nat_le v w && nat_le w l) ≡ true
     there true is h =
@@ -74,7 +70,7 @@ step_in v w l few =
 
 alone_in : (v w : ℕ) → (nat_eq w v || false) ≡ (nat_le v w && nat_le w v)
 alone_in v w =
-    iff (nat_eq w v || false) (nat_le v w && nat_le w v)
+    bool_same (nat_eq w v || false) (nat_le v w && nat_le w v)
     (λ h. let equal : w ≡ v = eqb-true w v (sym (or_false (nat_eq w v)) ∙ h) in
     and_from (nat_le v w) (nat_le w v) (le-leb v w (omega (arith, equal))) (le-leb w v (omega (arith, equal))))
     (λ h. let found = and_parts (nat_le v w) (nat_le w v) h in

@@ -42,11 +42,11 @@ entered_right u (n ∷ ns) ms (c ∷ cs) ds many at =
 
 -- ---- as many as nodes
 
-append_many : (xs ys : List ℕ) (ns ms : List Node) → length xs ≡ length ns → length ys ≡ length ms → length (xs ++ ys)
+pub append_many : (xs ys : List ℕ) (ns ms : List Node) → length xs ≡ length ns → length ys ≡ length ms → length (xs ++ ys)
     ≡ length (ns ++ ms)
 append_many xs ys ns ms one two = let a = length-append xs ys in let b = length-append ns ms in omega (arith, one, two)
 
-where_many : (b : Bool) (n : Node) → length (zero_where b) ≡ length (where_so b n)
+pub where_many : (b : Bool) (n : Node) → length (zero_where b) ≡ length (where_so b n)
 where_many true n = refl
 where_many false n = refl
 

@@ -13,7 +13,7 @@ use Rattle.bl_tree.specs.Reduce.{joined}
 use Rattle.bl_tree.specs.Rules.{same_place}
 use Rattle.bl_tree.specs.Typing.{site_of}
 use Rattle.bl_tree.specs.Within.{StandsIn}
-use Rattle.bl_effects.proofs.EntryLemmas.{same_place_is, same_place_refl}
+use Rattle.bl_effects.proofs.EntryLemmas.{same_place_refl}
 use Rattle.bl_graph_nodes.specs.Nodes.{ActAt, Arguments, CheckAt, DepthEndAt, DepthJoinAt, EnterAt, ForkAt, HeadAt, Node, PauseAt, ResumeAt, StartAt}
 use Rattle.bl_graph_nodes.specs.Nodes.{SurfaceEndAt, SurfaceJoinAt, TestAt, nodes_in}
 use Rattle.bl_graph_nodes.specs.Plain.{Block, Label, plain_body}
@@ -21,7 +21,6 @@ use Rattle.bl_ctree.specs.declared.instance.Run.{Run}
 use Rattle.bl_ctree.specs.Instances.{runs_in}
 use Rattle.bl_ctree_laws.specs.Trees.{Call}
 use Rattle.bl_ctree_laws_confluence.proofs.OnApart.Placed.{RunAs, runs_listed, same_unit}
-use Rattle.bl_ctree_laws_confluence.proofs.OnDeeds.Activities.{AllOf}
 use Rattle.bl_ctree_laws_traces.proofs.OnBounded.Callees.{typed_at}
 use Rattle.bl_ctree_laws_traces.proofs.OnBounded.Calls.{calls_in, run_of}
 use Rattle.bl_ctree_laws_traces.proofs.OnBounded.Lists.{Among}
@@ -33,13 +32,10 @@ use Rattle.bl_emit_spec.specs.Activities.{Activity, RunAt, activity_view, body_o
 use Rattle.bl_emit_spec.specs.Activities.{runs_in_body}
 use Rattle.bl_emit_spec_laws.proofs.OnRemember.Entering.{callees_in_many}
 use Rattle.bl_emit_spec_laws.proofs.OnRunPlaces.Entered.{call_there, calls_in_are, entered_at, pick, picked_calls}
+use Rattle.bl_ctree_laws_traces.proofs.OnBounded.Callees.{all_among}
+use Rattle.bl_tree.proofs.FirstLemmas.{same_true}
 
 -- ---- lists
-
-all_among : {A : Type 0} (P : A → Type 0) (xs : List A) (x : A) → AllOf P xs → Among x xs → P x
-all_among P [] x all at = absurd at
-all_among P (y ∷ xs) x all (inl is) = subst P (sym is) all.0
-all_among P (y ∷ xs) x all (inr at) = all_among P xs x all.1 at
 
 image_among : {A B : Type 0} (f : A → B) (xs : List A) (x : A) → Among x xs → Among (f x) (map f xs)
 image_among f [] x at = absurd at
@@ -64,7 +60,7 @@ record EntersAt (at : Place) (n : Node) : Type 0 where
 
 enters_so : (at : Place) (n : Node) → enters_at at n ≡ true → EntersAt at n
 enters_so at (EnterAt l place arguments) h =
-    record { label = l; arguments = arguments; is = ap (λ at. EnterAt l at arguments) (same_place_is place at h) }
+    record { label = l; arguments = arguments; is = ap (λ at. EnterAt l at arguments) (same_true place at h) }
 enters_so at (ActAt l s) h = absurd (cc)
 enters_so at (TestAt l place e) h = absurd (cc)
 enters_so at (PauseAt l place) h = absurd (cc)

@@ -29,7 +29,7 @@ set_many : (positions : List ℕ) (k : ℕ) (tests : List Bool) → length (set_
 set_many positions k [] = refl
 set_many positions k (test ∷ tests) = ap suc (set_many positions (suc k) tests)
 
-below_many : (k : ℕ) (units : List UnitDef) (needed : List Bool) → length (needed_below k units needed) ≡ length needed
+pub below_many : (k : ℕ) (units : List UnitDef) (needed : List Bool) → length (needed_below k units needed) ≡ length needed
 below_many zero units needed = refl
 below_many (suc k) units needed = below_many k units _ ∙ by (unwrap_or (slice_get needed k) false)
   where
@@ -42,12 +42,12 @@ up_many test zero = refl
 up_many test (suc n) =
     ap length (map-append test (up_to n) (n ∷ [])) ∙ (push_length (map test (up_to n)) (test n) ∙ ap suc (up_many test n))
 
-needed_many : (units : List UnitDef) (entry : ℕ) → length (needed_units units entry) ≡ length units
+pub needed_many : (units : List UnitDef) (entry : ℕ) → length (needed_units units entry) ≡ length units
 needed_many units entry = below_many (length units) units _ ∙ up_many (λ k. nat_eq k entry) (length units)
 
 -- ---- lists
 
-drop_one : {A : Type 0} (xs : List A) (k : ℕ) → drop (suc k) xs ≡ drop 1 (drop k xs)
+pub drop_one : {A : Type 0} (xs : List A) (k : ℕ) → drop (suc k) xs ≡ drop 1 (drop k xs)
 drop_one [] zero = refl
 drop_one [] (suc k) = refl
 drop_one (x ∷ xs) zero = refl

@@ -6,12 +6,6 @@ use Rattle.std.specs.Prelude.{slice_get}
 use Rattle.bl_tree.specs.declared.tree.Unit.{Unit as UnitDef}
 use Rattle.bl_emit_spec_laws.specs.Tables.Tables.{each_from}
 
-pub take_past : {A : Type 0} (xs : List A) (k : ℕ) → slice_get xs k ≡ None → take (suc k) xs ≡ take k xs
-take_past [] zero past = refl
-take_past [] (suc k) past = refl
-take_past (y ∷ xs) zero past = absurd (cc)
-take_past (y ∷ xs) (suc k) past = ap (λ rest. y ∷ rest) (take_past xs k past)
-
 -- where a list goes on, its next element is there, and behind it the rest
 pub drop_next : {A : Type 0} (xs : List A) (k : ℕ) (x : A) (rest : List A) → drop k xs ≡ x ∷ rest
     → (slice_get xs k ≡ Some x) × (drop (suc k) xs ≡ rest)

@@ -1,11 +1,11 @@
 -- The function of an activity stands as it begins.
 use Rattle.std.proofs.Common.{◌≡◌, ℕ, ◌+◌, ◌<◌, ◌≤◌, ◌^◌, arith, Bool, true, List, ◌++◌, length, map}
-use Rattle.std.proofs.Common.{Option, Some, None, refl, sym, ap, ◌∙◌, subst}
+use Rattle.std.proofs.Common.{Some, refl, sym, ap, ◌∙◌, subst}
 use Rattle.std.proofs.Math.Seq.{take-add}
 use Rattle.std.proofs.lemmas.Bool.{leb-true}
 use Rattle.std.proofs.lemmas.List.{length-take}
 use Rattle.std.proofs.lemmas.Option.{slice_get_within}
-use Rattle.std.specs.Prelude.{is_some, option_and_then, option_map, slice_get, unwrap_or}
+use Rattle.std.specs.Prelude.{is_some, slice_get}
 use Rattle.std.specs.List.{list_all}
 use Rattle.bl_tree.proofs.Basics.{and_first, and_second, map_length}
 use Rattle.bl_tree.specs.declared.tree.StructDef.{StructDef}
@@ -16,8 +16,7 @@ use Rattle.bl_tree.specs.Typing.{inputs_of, is_activity, outputs_of}
 use Rattle.bl_ctext_semantics.specs.Meaning.{Meaning, by_address}
 use Rattle.bl_ctext_semantics.specs.Memory.{Location, Memory}
 use Rattle.bl_ctext_semantics.specs.Tables.{Table}
-use Rattle.bl_ctree.specs.declared.instance.Instance.{Instance}
-use Rattle.bl_ctree.specs.Instances.{Setting, setting_of, unit_at, unit_of}
+use Rattle.bl_ctree.specs.Instances.{Setting, setting_of, unit_at}
 use Rattle.bl_ctree.specs.Store.{Store}
 use Rattle.bl_ctree_laws_confluence.specs.Deeds.Orderly.{AcceptedIsOrderly, OrderlyUnit}
 use Rattle.bl_emit_acts_laws_simulation.specs.Acts.{MayPass, all_apart, places_in_args}
@@ -33,19 +32,12 @@ use Rattle.bl_emit_spec_laws.specs.Calls.Laws.{CompilationContext, scope_in}
 use Rattle.bl_emit_spec_laws.specs.Calls.Invariant.{PlacesAreSeparate}
 use Rattle.bl_emit_spec_laws.specs.Activities.{PointersLead}
 use Rattle.bl_emit_spec_laws_files.specs.Begins.{FunctionsBeginInContext, PointersFollow}
-use Rattle.bl_emit_spec_laws_files.proofs.OnBegins.Given.{all_front, apart_split, get_behind, inputs_many, length_both}
+use Rattle.bl_emit_spec_laws_files.proofs.OnBegins.Given.{apart_split, inputs_many}
 use Rattle.bl_emit_spec_laws_files.proofs.OnBegins.Given.{outputs_many, place_output}
 use Rattle.bl_emit_spec_laws_files.proofs.OnBegins.Places.{as_many, lead_to, places_stand}
 use Rattle.bl_emit_spec_laws_files.proofs.OnBegins.Pointers.{frame_given, memory_given, over_given, result_given}
-
--- the unit of an instance stands at its position
-pub unit_there : (w : Setting) (i : ℕ) (unit : UnitDef) → unit_at w i ≡ Some unit → slice_get w.units (unit_number w i) ≡ Some unit
-unit_there w i unit h = by (slice_get w.instances i) h
-  where
-    by : (o : Option Instance) → option_and_then (unit_of w) o ≡ Some unit →
-        slice_get w.units (unwrap_or (option_map (λ (instance : Instance). instance.unit) o) 0) ≡ Some unit
-    by None h = absurd (cc)
-    by (Some instance) h = h
+use Rattle.bl_emit_spec_laws.proofs.OnActivities.Nested.{unit_there}
+use Rattle.bl_emit_functions_laws_simulation.proofs.OnCalls.Handing.{all_front, get_behind, length_both}
 
 -- what is said of all that may be written is said of the outputs
 of_outputs : (test : Location → Bool) (unit : UnitDef) (remembers : Bool) (given : CallAddresses) →

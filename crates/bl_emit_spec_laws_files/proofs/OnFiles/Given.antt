@@ -18,6 +18,7 @@ use Rattle.bl_emit_spec_laws.specs.Calls.Calls.{MayGive, where_true, written_by}
 use Rattle.bl_emit_spec_laws_files.specs.States.States.{frame_place, memory_place, output_place}
 use Rattle.bl_emit_spec_laws_files.proofs.OnFiles.Bodies.{input_passed, over_place, tick_gives}
 use Rattle.bl_emit_spec_laws_files.proofs.OnFiles.Inputs.{Differs, first_differs, rest_distinct}
+use Rattle.bl_ctext_semantics_laws.proofs.Lists.{all-true}
 
 -- the places of outputs, and that of the end, where the test is true
 abbrev outputs_then : Bool → List Var → List Location
@@ -80,10 +81,6 @@ no_places : (here : Memory) (vars : List Var) → places_in_args (map (input_pas
 no_places here [] = refl
 no_places here (var ∷ vars) = no_places here vars
 
-all_so : {A : Type 0} (test : A → Bool) → ((x : A) → test x ≡ true) → (xs : List A) → list_all test xs ≡ true
-all_so test each [] = refl
-all_so test each (x ∷ xs) = and_from (test x) (list_all test xs) (each x) (all_so test each xs)
-
 module _ (unit : UnitDef) (remembers : Bool) (here : Memory) (resultless : unit.result ≡ None)
     (distinct : are_distinct (names_of (outputs_of unit)) ≡ true) where
   written_is : places remembers (unit_may_end unit) (outputs_of unit) ≡ written_by unit remembers (tick_gives unit here)
@@ -97,7 +94,7 @@ module _ (unit : UnitDef) (remembers : Bool) (here : Memory) (resultless : unit.
     inputs_apart =
         subst (λ (given : List Location). list_all (λ place. list_all (are_apart place) given) (written_by unit remembers (tick_gives unit here))
         ≡ true) (sym (no_places here (inputs_of unit)))
-        (all_so (λ (place : Location). list_all (are_apart place) []) (λ place. refl) (written_by unit remembers (tick_gives unit here)));
+        (all-true (λ (place : Location). list_all (are_apart place) []) (λ place. refl) (written_by unit remembers (tick_gives unit here)));
     live =
         subst (λ (ps : List Location). list_all (λ (place : Location). is_live 0 place.root) ps ≡ true) written_is
         (places_live remembers (unit_may_end unit) (outputs_of unit));

@@ -9,11 +9,11 @@ use Rattle.bl_tree.specs.Ports.{input_columns, row_fits}
 use Rattle.bl_tree.specs.Program.{names_of, parameters_of, roles_stand}
 use Rattle.bl_tree.specs.Typing.{inputs_of}
 use Rattle.bl_tree.specs.Words.{are_distinct, is_name}
-use Rattle.bl_ctree_laws_typing.proofs.OnViews.Running.{unit_stands_at}
 use Rattle.bl_machine_pass_laws_execution.specs.Fresh.Asks.{InputsFit}
 use Rattle.bl_machine_pass_laws_execution.specs.Runs as runs
 use Rattle.bl_emit_spec_laws_files.specs.Files.{RowsSuffice}
 use Rattle.bl_emit_spec_laws_files.proofs.OnFiles.Lists.{row_many, taken_length}
+use Rattle.bl_eval.proofs.UnitFits.{unit_at}
 
 module _ (unit : UnitDef) (standing : roles_stand unit ≡ true) where
   within : unit.inputs + unit.outputs ≤ length unit.vars
@@ -37,4 +37,4 @@ pub rows_suffice : RowsSuffice
 rows_suffice structs units entry unit rows keeps there fit =
     all_fit unit
     (and_first (roles_stand unit) (list_all is_name (names_of unit.vars) && are_distinct (names_of (parameters_of unit)))
-    (and_first _ _ (unit_stands_at structs [] units entry unit keeps.units_stand there))) rows fit
+    (and_first _ _ (unit_at structs [] units entry unit keeps.units_stand there))) rows fit

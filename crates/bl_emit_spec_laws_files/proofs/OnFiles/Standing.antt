@@ -1,7 +1,6 @@
 -- A file that ends with the interface stands.
 use Rattle.std.proofs.Common.{◌≡◌, ℕ, Bool, false, List, [], ◌∷◌, ◌++◌, map, Option, Some, None}
 use Rattle.std.proofs.Common.{refl, sym, ap, ◌∙◌, subst, arith}
-use Rattle.std.specs.Option.{option_or}
 use Rattle.std.specs.Prelude.{bytes_eq, codes, Contains, unwrap_or, if◌then◌else◌}
 use Rattle.bl_tree.proofs.Basics.{contains_first, contains_further}
 use Rattle.bl_tree.specs.declared.c.CFunc.{CFunc}
@@ -20,6 +19,7 @@ use Rattle.bl_emit_spec.specs.Programs.{init_function, interface_structs, tick_f
 use Rattle.bl_emit_spec_laws.specs.Calls.Built.{Activities, activity_at}
 use Rattle.bl_emit_spec_laws.specs.Calls.Calls.{ActivitySimulates, CallLeaves, passed_to}
 use Rattle.bl_emit_spec_laws_files.specs.Files.{FileStands, FilesStand, NoneOfInterface, file_with, known_at_tick}
+use Rattle.bl_ctext_semantics.proofs.MapLemmas.{nothing_after}
 
 -- ---- members of lists
 
@@ -70,13 +70,9 @@ module _ (structs : List StructDef) (unit : UnitDef) (remembers : Bool) (before 
 
 -- ---- what is known at the tick
 
-or_none : {A : Type 0} (o : Option A) → option_or o None ≡ o
-or_none None = refl
-or_none (Some x) = refl
-
 known_same : (unit : UnitDef) (functions : List CFunc) (name : Text) → known_at_tick unit functions (unit_name name)
     ≡ known_after no_entries functions (unit_name name)
-known_same unit functions name = or_none (known_after no_entries functions (unit_name name))
+known_same unit functions name = nothing_after (known_after no_entries functions (unit_name name))
 
 comes_there : (w : Setting) (activities : Activities) (u : ℕ) (entry : UnitDef) (functions : List CFunc) →
     ActivitySimulates w activities u (known_after no_entries functions) 0 → ActivitySimulates w activities u (known_at_tick entry functions) 0

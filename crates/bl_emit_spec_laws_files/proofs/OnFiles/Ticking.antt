@@ -72,7 +72,7 @@ use Rattle.bl_emit_spec_laws_files.specs.States.Cells.{regained}
 use Rattle.bl_emit_spec_laws_files.specs.States.States.{StateKept, frame_place, memory_place, output_place}
 use Rattle.bl_emit_spec_laws_files.specs.Files.{FileShows, FileStands, FilesShow}
 use Rattle.bl_emit_spec_laws_files.proofs.OnFiles.Bodies.{entry_called, input_passed, tick_gives, tick_replies, tick_traps, ticked}
-use Rattle.bl_emit_spec_laws_files.proofs.OnFiles.Columns.{columns, is_scalar, some_scalar}
+use Rattle.bl_emit_spec_laws_files.proofs.OnFiles.Columns.{columns, is_scalar}
 use Rattle.bl_emit_spec_laws_files.proofs.OnFiles.Given.{may_give}
 use Rattle.bl_emit_spec_laws_files.proofs.OnFiles.Inputs.{AreSet, are_set, args_hold, inputs_set, output_same, state_same}
 use Rattle.bl_emit_spec_laws_files.proofs.OnFiles.Kept.{Same, memory_moved, outputs_moved}
@@ -81,7 +81,8 @@ use Rattle.bl_emit_spec_laws_files.proofs.OnFiles.Lists.{row_many, take_exact, t
 use Rattle.bl_emit_spec_laws_files.proofs.OnFiles.Starting.{AllZero, begun, begun_result, begun_zero}
 use Rattle.bl_emit_spec_laws_files.proofs.OnFiles.Views.{entry_is, entry_number, entry_sees, first_frame_now, first_held, woken_first, woken_held, roles_at}
 use Rattle.bl_emit_spec_laws_files.proofs.OnFiles.Views.{distinct_at}
-use Rattle.bl_emit_spec_laws_files.proofs.OnFiles.Zeros.{zero_holds}
+use Rattle.bl_emit_acts_laws_simulation.proofs.Zeros.{zero_holds}
+use Rattle.bl_machine_pass_laws_typing.proofs.OnStarts.{some_scalar}
 
 -- ---- outputs
 

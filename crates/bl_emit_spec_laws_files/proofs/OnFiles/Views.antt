@@ -28,7 +28,6 @@ use Rattle.bl_ctree.specs.Store.{Frame, Store, aged, first_frame, first_store, f
 use Rattle.bl_ctree.specs.Store.{variable_among, variables_of, vars_at, view_at, whole_of, woken_store}
 use Rattle.bl_ctree_laws_confluence.specs.Deeds.Orderly.{AcceptedIsOrderly}
 use Rattle.bl_ctree_laws_confluence.specs.Deeds.Origins.{HomesLeadOut}
-use Rattle.bl_ctree_laws_typing.proofs.OnViews.Running.{unit_stands_at}
 use Rattle.bl_emit_acts.specs.declared.home.Home.TheVariants.{Held}
 use Rattle.bl_emit_acts.specs.Places.{home_of, home_of_role}
 use Rattle.bl_emit_acts_laws_simulation.proofs.Homes.{activity_home, input_unheld, output_unheld}
@@ -40,6 +39,8 @@ use Rattle.bl_emit_functions_laws_simulation.proofs.OnCalls.Locals.{parameter_ro
 use Rattle.bl_emit_spec_laws.specs.Calls.Built.{Activities, activity_at, site_at, unit_number}
 use Rattle.bl_emit_spec_laws.specs.Calls.Laws.{CompilationContext}
 use Rattle.bl_emit_spec_laws_files.proofs.OnFiles.Lists.{seen_from}
+use Rattle.bl_eval.proofs.UnitFits.{unit_at as unit_stands_at}
+use Rattle.bl_emit_spec_laws.proofs.OnActivities.Nested.{unit_by}
 
 -- ---- roles
 
@@ -112,11 +113,6 @@ woken_same row s zero x past = woken_own row s x (past refl)
 woken_same row s (suc j) x past = ap (option_and_then (of_frame x)) (woken_later row s j) ∙ aged_same x (slice_get s (suc j))
 
 -- ---- a program
-
-unit_by : (w : Setting) (o : Option Instance) (unit : UnitDef) → option_and_then (unit_of w) o ≡ Some unit →
-    slice_get w.units (unwrap_or (option_map (λ (instance : Instance). instance.unit) o) 0) ≡ Some unit
-unit_by w None unit is = absurd (cc)
-unit_by w (Some instance) unit is = is
 
 module _ (out : HomesLeadOut) (orderly : AcceptedIsOrderly) (structs : List StructDef) (units : List UnitDef) (entry : ℕ)
     (machine : List InMachine) (activities : Activities) (compiled : CompilationContext structs units entry machine activities) where

@@ -9,7 +9,6 @@ use Rattle.bl_tree.proofs.Basics.{and_first, and_second, contains_at, contains_f
 use Rattle.bl_tree.specs.declared.c.CType.{CType}
 use Rattle.bl_tree.specs.declared.c.CType.TheVariants.{Scalar as OfScalar, Struct as OfStruct}
 use Rattle.bl_tree.specs.declared.scalar.Scalar.{Scalar as ScalarType}
-use Rattle.bl_tree.specs.declared.text.Text.{Text}
 use Rattle.bl_tree.specs.declared.tree.StructDef.{StructDef}
 use Rattle.bl_tree.specs.declared.tree.Ty.{Ty, out-Ty}
 use Rattle.bl_tree.specs.declared.tree.Ty.TheOpen.{Ty-F}
@@ -34,7 +33,7 @@ use Rattle.bl_ctree_laws_typing.specs.Fits.{StoreFits}
 use Rattle.bl_ctree_laws_typing.specs.Views.{ViewsAreTyped}
 use Rattle.bl_emit_acts.specs.declared.home.Home.TheVariants.{Held}
 use Rattle.bl_emit_acts.specs.Places.{home_of}
-use Rattle.bl_emit_acts.specs.Types.{c_scalar, c_type, type_level, type_name, variable_name}
+use Rattle.bl_emit_acts.specs.Types.{c_scalar, c_type, type_name, variable_name}
 use Rattle.bl_emit_acts_laws_simulation.specs.Acts.{OutputsEncoded}
 use Rattle.bl_emit_acts_laws_simulation.specs.Encodes.{Encodes, home_at, lead_level, part_level, way_to}
 use Rattle.bl_emit_functions.specs.Functions.{held_member, is_held, member_of, members_from, members_of}
@@ -55,23 +54,19 @@ use Rattle.bl_emit_spec_laws_files.specs.States.Cells.{AllCellsKept, CellsKept, 
 use Rattle.bl_emit_spec_laws_files.specs.States.States.{FramesDeclared, RunsFound, StateKept, StatesAreKept, frame_place, memory_of_activity, memory_place}
 use Rattle.bl_emit_spec_laws_files.specs.States.States.{output_place}
 use Rattle.bl_emit_spec_laws_files.proofs.OnStates.Declared.{member_step}
-use Rattle.bl_emit_spec_laws_files.proofs.OnStates.Nested.{StandsAt, along, below, entry_stands, in_left, in_right, nested, own_unit}
+use Rattle.bl_emit_spec_laws_files.proofs.OnStates.Nested.{StandsAt, along, entry_stands, nested, own_unit}
 use Rattle.bl_emit_spec_laws_files.proofs.OnStates.Nested.{some_long, unit_there}
 use Rattle.bl_emit_spec_laws_files.proofs.OnStates.Types.{leads}
+use Rattle.bl_machine_pass_laws_typing.proofs.OnStarts.{some_scalar}
+use Rattle.bl_machine_laws.proofs.OnTraces.Positions.{up_to_has}
+use Rattle.bl_cause.proofs.PairLemmas.{contains_left}
+use Rattle.bl_emit_spec_laws_files.proofs.OnFiles.Columns.{scalar_level}
+use Rattle.bl_machine_pass_laws_turns.proofs.OnWaiting.Lists.{contains_right}
 
 -- ---- scalars
 
 abbrev is_scalar : Var → Bool
 is_scalar var = is_some (scalar_in var.ty)
-
-some_scalar : (o : Option ScalarType) → is_some o ≡ true → (s : ScalarType) × (o ≡ Some s)
-some_scalar None h = absurd (cc)
-some_scalar (Some s) h = (s, refl)
-
-scalar_level : (name : Text) (layer : Ty-F Ty) (s : ScalarType) → scalar_at layer ≡ Some s → type_level name layer ≡ OfScalar (c_scalar s)
-scalar_level name (Ty-F.Scalar t) s is = ap (λ (t : ScalarType). OfScalar (c_scalar t)) (same_Some t s is)
-scalar_level name (Ty-F.Struct k) s is = absurd (cc)
-scalar_level name (Ty-F.Array n inner) s is = absurd (cc)
 
 -- a scalar has no parts
 scalar_way : (structs : List StructDef) (ty : Ty) (s : ScalarType) → scalar_in ty ≡ Some s → (ks : List ℕ) → way_to structs ks (Some ty) ≡ []
@@ -115,7 +110,7 @@ held_within site k [] x var there held = absurd (cc)
 held_within site k (first ∷ rest) zero var there held =
     let same = same_Some first var there in
     let from : k + 0 ≡ k = omega arith in
-    in_left (member_of (is_held (home_of site (Some first))) site.structs site.vars k first) (members_from site (k + 1) rest)
+    contains_left (member_of (is_held (home_of site (Some first))) site.structs site.vars k first) (members_from site (k + 1) rest)
     (held_member site.structs site.vars (k + 0) var)
     (subst (λ (v : Var). Contains (member_of (is_held (home_of site (Some v))) site.structs site.vars k v)
     (held_member site.structs site.vars (k + 0) var)) (sym same)
@@ -124,7 +119,7 @@ held_within site k (first ∷ rest) zero var there held =
     (contains_first (held_member site.structs site.vars k var) []))))
 held_within site k (first ∷ rest) (suc x) var there held =
     let sum : (k + 1) + x ≡ k + suc x = omega arith in
-    in_right (member_of (is_held (home_of site (Some first))) site.structs site.vars k first) (members_from site (k + 1) rest)
+    contains_right (member_of (is_held (home_of site (Some first))) site.structs site.vars k first) (members_from site (k + 1) rest)
     (held_member site.structs site.vars (k + suc x) var)
     (subst (λ (n : ℕ). Contains (members_from site (k + 1) rest) (held_member site.structs site.vars n var)) sum
     (held_within site (k + 1) rest x var there held))
@@ -189,8 +184,8 @@ module _ (orderly : AcceptedIsOrderly) (placed : StaysPlaced) (views : ViewsAreT
   counter_kept memory k c f' m' stands less =
       let counters = map (counter_member (A k).sizes) (up_to (length (A k).sizes)) in
       let step = member_step file formed (frame_struct (A k)) (counter_member (A k).sizes c) (declared.frames k stands.other stands.is_there)
-      (in_left counters (map (frame_member (A k)) (runs_in_body (A k))) (counter_member (A k).sizes c)
-      (contains_mapped (counter_member (A k).sizes) (up_to (length (A k).sizes)) c (below (length (A k).sizes) c less))) in
+      (contains_left counters (map (frame_member (A k)) (runs_in_body (A k))) (counter_member (A k).sizes c)
+      (contains_mapped (counter_member (A k).sizes) (up_to (length (A k).sizes)) c (up_to_has (length (A k).sizes) c less))) in
       let leading = goes_along f'.parts (member (counter_name c) ∷ []) (whole (OfStruct (frame_struct (A k)).name))
       (whole (OfScalar (counter_type (A k).sizes c))) stands.frame step in
       let way = f'.parts ++ member (counter_name c) ∷ [] in
@@ -222,7 +217,7 @@ module _ (orderly : AcceptedIsOrderly) (placed : StaysPlaced) (views : ViewsAreT
     is_member =
         let site = site_at W activities k in
         let from_zero : 0 + x ≡ x = omega arith in
-        in_left (members_of (A k).structs (A k).earlier (A k).unit) (joined (map (memory_member (A k)) (runs_in_body (A k))))
+        contains_left (members_of (A k).structs (A k).earlier (A k).unit) (joined (map (memory_member (A k)) (runs_in_body (A k))))
         (held_member (A k).structs (A k).unit.vars x var)
         (subst (λ (n : ℕ). Contains (members_from site 0 site.vars) (held_member (A k).structs (A k).unit.vars n var)) from_zero
         (held_within site 0 site.vars x var is_var (ap is_held (sym (ap (home_of site) is_var) ∙ held))))

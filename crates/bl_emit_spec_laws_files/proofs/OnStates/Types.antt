@@ -32,6 +32,7 @@ use Rattle.bl_emit_acts.specs.Types.{c_scalar, c_type, elements_name, field_name
 use Rattle.bl_emit_acts_laws_simulation.specs.Encodes.{number_within, part_level, part_type, type_after, way_to}
 use Rattle.bl_emit_spec_laws_files.specs.States.States.{TypeDeclared}
 use Rattle.bl_emit_spec_laws_files.proofs.OnStates.Declared.{member_step}
+use Rattle.bl_eval.proofs.MeaningLemmas.{past_get}
 
 -- a value with parts has no number, and one without has no parts
 no_parts : (value : Value) (s : ScalarType) → is_number_of s (out-Value value) ≡ true → (k : ℕ) → part_of k value ≡ None
@@ -47,11 +48,6 @@ tests_length (def ∷ rest) tests =
     let more = tests_length rest (tests ++ Rattle.bl_eval.specs.Values.struct_test tests def ∷ []) in
     let long = Rattle.std.proofs.Common.length-append tests (Rattle.bl_eval.specs.Values.struct_test tests def ∷ []) in
     omega (arith, more, long)
-
-none_past : {A : Type 0} (xs : List A) (k : ℕ) → slice_get xs k ≡ None → length xs ≤ k
-none_past [] k e = omega arith
-none_past (x ∷ xs) zero e = absurd (cc)
-none_past (x ∷ xs) (suc k) e = let more = none_past xs k e in omega (arith, more)
 
 module _ (structs : List StructDef) (stand : structs_stand_from 0 structs ≡ true) (file : Parts) (formed : WellFormed file) where
   abbrev pub Walks : Option ValueSpot → List Projection → ValueSpot → Type 0
@@ -87,7 +83,7 @@ module _ (structs : List StructDef) (stand : structs_stand_from 0 structs ≡ tr
       value_fits structs ty value ≡ true → ⊥
   no_struct ty value s is there fit =
       let many = tests_length structs [] in
-      let past = none_past structs s there in
+      let past = past_get structs s there in
       let none = get_past tests s (omega (arith, many, past)) in
       let bad = sym (fits_struct tests ty s value is ∙ ap (λ test. by_test test value) none) ∙ fit in
       cc

@@ -72,7 +72,7 @@ is_fine copied n = copied_there copied n && run_there copied n
 record Fine (copied : ℕ → Bool) (nodes : List Node) : Type 0 where
   all : list_all (is_fine copied) nodes ≡ true
 
-truth_fine : (b : Bool) → b ≡ true → (b && true) ≡ true
+pub truth_fine : (b : Bool) → b ≡ true → (b && true) ≡ true
 truth_fine true h = refl
 truth_fine false h = h
 

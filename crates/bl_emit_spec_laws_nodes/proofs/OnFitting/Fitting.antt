@@ -29,6 +29,7 @@ use Rattle.bl_graph_nodes.specs.Plain.{inside, kind_plain, label_at, passed_one,
 use Rattle.bl_emit_acts_laws_simulation.specs.Acts.{is_act}
 use Rattle.bl_emit_acts_laws_simulation.specs.Laws.{overlaps_in}
 use Rattle.bl_emit_spec_laws_nodes.specs.Points.Nodes.{fits_there}
+use Rattle.bl_emit_spec_laws_nodes.proofs.OnCopied.Statements.{truth_fine}
 
 -- whether nothing overlaps in the arguments of what is done at the node
 abbrev pub apart_there : Node → Bool
@@ -68,10 +69,6 @@ append_fine site ms ns one other = record { all = appended site ms ns one.all ot
 where_fine : (site : TypingContext) (test : Bool) (n : Node) → is_fine site n ≡ true → Fine site (where_so test n)
 where_fine site true n own = one_more site n [] own (nothing site)
 where_fine site false n own = nothing site
-
-truth_fine : (b : Bool) → b ≡ true → (b && true) ≡ true
-truth_fine true h = refl
-truth_fine false h = h
 
 abbrev plain_arm : Arm → PlainArm
 plain_arm = fold-Arm (Place → Position → Plain) PlainArm PlainBranch (Position → Plain) kind_plain arm_plain branch_plain stmt_plain

@@ -42,7 +42,8 @@ use Rattle.bl_emit_spec_laws_nodes.proofs.OnPoints.ActNodes.{act_stands, act_sto
 use Rattle.bl_emit_spec_laws_nodes.proofs.OnPoints.ActNodes.{append_goes, append_traps, no_return, recopied_is}
 use Rattle.bl_emit_spec_laws_nodes.proofs.OnPoints.Besides.{site_is}
 use Rattle.bl_emit_spec_laws_nodes.proofs.OnPoints.Shown.{ends_true}
-use Rattle.bl_emit_spec_laws_nodes.proofs.OnPoints.Silent.{comes_as, either, over_after}
+use Rattle.bl_emit_spec_laws_nodes.proofs.OnPoints.Silent.{comes_as, over_after}
+use Rattle.bl_emit_acts_laws_simulation.proofs.Begun.{or_other}
 
 -- what is left where something was done that answers true
 pub as_left : (w : Setting) (activities : Activities) (i : ℕ) (unit : UnitDef) (scope : Scope) (r : Registers) (rule : Transition) (here : Memory)
@@ -99,7 +100,7 @@ act_nodes_simulate stand apart keep structs units entry come machine activities 
       let no_ret : is_return_node rule.node ≡ false = ap is_return_node n_is ∙ no_return layer is in
       let told : ResultTold unit i scope left (all_changed number rule.on_true r) mid =
       λ value over one at. stood.result value
-      (either r.over (list_any ends_body rule.on_true) (over_after number rule.on_true r over)
+      (or_other r.over (list_any ends_body rule.on_true) (over_after number rule.on_true r over)
       (false_from_ne_true (list_any ends_body rule.on_true)
       (λ ending. true_not_false (sym (ends_true activities units ends i unit w rule there there_unit midway.function.active one ending) ∙ no_ret)))) one at in
       let changed =

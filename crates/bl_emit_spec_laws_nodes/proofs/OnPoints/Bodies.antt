@@ -1,9 +1,7 @@
 -- In the body of an activity with a result nothing but the last statement, a `return`, ends it.
 use Rattle.std.proofs.Common.{◌≡◌, arith, ℕ, zero, suc, Bool, true, false, not, ◌&&◌, ◌||◌, List}
 use Rattle.std.proofs.Common.{[], ◌∷◌, ◌++◌, Contains, map, take, Some}
-use Rattle.std.proofs.Common.{Option, None, refl, sym, ap, ◌∙◌, subst, append_assoc}
-use Rattle.std.proofs.lemmas.List.{append-nil}
-use Rattle.std.proofs.lemmas.Option.{same_Some}
+use Rattle.std.proofs.Common.{Option, None, refl, sym, ap, ◌∙◌, subst}
 use Rattle.std.specs.Prelude.{is_none, is_some, length, slice_get, if◌then◌else◌}
 use Rattle.std.specs.List.{list_all, list_any}
 use Rattle.std.proofs.lemmas.Bool.{or_left, or_right}
@@ -20,7 +18,7 @@ use Rattle.bl_tree.specs.declared.tree.StructDef.{StructDef}
 use Rattle.bl_tree.specs.declared.tree.Unit.{Unit as UnitDef}
 use Rattle.bl_tree.specs.Apart.{is_apart}
 use Rattle.bl_tree.specs.Depths.{is_shallow}
-use Rattle.bl_tree.specs.Program.{names_of, parameters_of, roles_stand, unit_stands, units_stand_after}
+use Rattle.bl_tree.specs.Program.{names_of, parameters_of, roles_stand, unit_stands}
 use Rattle.bl_tree.specs.Returns.{activity_returns, function_returns, is_return, is_return_kind, last_of, returns_last_alone, unit_returns}
 use Rattle.bl_tree.specs.Types.{type_stands}
 use Rattle.bl_tree.specs.Typing.{fits, is_activity, site_of}
@@ -33,6 +31,7 @@ use Rattle.bl_emit_spec_laws_nodes.specs.Points.Laws.{is_return_node}
 use Rattle.bl_emit_spec_laws_nodes.specs.Points.Points.{BodiesEnd}
 use Rattle.bl_emit_spec_laws.proofs.OnOwn.Endless.{made, made_is}
 use Rattle.bl_emit_spec_laws.proofs.OnOwn.Quiet.{is_quiet, quiet_of}
+use Rattle.bl_eval.proofs.UnitFits.{unit_at}
 
 -- ---- rules
 
@@ -118,18 +117,6 @@ body_fine slots (s ∷ t ∷ rest) k block h =
 
 -- ---- units
 
-unit_after : (structs : List StructDef) (earlier units : List UnitDef) (k : ℕ) (unit : UnitDef) →
-    units_stand_after structs earlier units ≡ true → slice_get units k ≡ Some unit → unit_stands structs (earlier ++ take k units) unit ≡ true
-unit_after structs earlier [] k unit stand there = absurd (cc)
-unit_after structs earlier (first ∷ units) zero unit stand there =
-    subst (λ earlier. unit_stands structs earlier unit ≡ true) (sym (append-nil earlier))
-    (subst (λ unit. unit_stands structs earlier unit ≡ true) (same_Some first unit there)
-    (and_first (unit_stands structs earlier first) (units_stand_after structs (earlier ++ first ∷ []) units) stand))
-unit_after structs earlier (first ∷ units) (suc k) unit stand there =
-    subst (λ earlier. unit_stands structs earlier unit ≡ true) (append_assoc earlier (first ∷ []) (take k units))
-    (unit_after structs (earlier ++ first ∷ []) units k unit
-    (and_second (unit_stands structs earlier first) (units_stand_after structs (earlier ++ first ∷ []) units) stand) there)
-
 unit_returned : (structs : List StructDef) (earlier : List UnitDef) (unit : UnitDef) → unit_stands structs earlier unit ≡ true →
     unit_returns unit ≡ true
 unit_returned structs earlier unit stands =
@@ -181,4 +168,4 @@ bodies_end structs units entry activities keeps = record {
     fine k unit rule there active one has =
         fine_at (rules (activities k).slots (plain_body unit.body)) rule
         (body_fine (activities k).slots unit.body 0 []
-        (last_returns unit active one (unit_returned structs (take k units) unit (unit_after structs [] units k unit keeps.units_stand there)))) has
+        (last_returns unit active one (unit_returned structs (take k units) unit (unit_at structs [] units k unit keeps.units_stand there)))) has

@@ -161,7 +161,7 @@ number_by structs ty s (Some v) (Some (OfScalar t n)) is fit same =
     same ∙ ap (λ level. Some (unwrap_or (number_at level) (pos 0))) (sym (outs-Number n))
 number_by structs ty s (Some v) (Some (OfWhole value)) is fit same = absurd (let none = fit.0 in cc)
 
-held_by : (a : Option CValue) (n : ℤ) → option_map scalar_number a ≡ Some n → (v : CValue) × (a ≡ Some v) × (scalar_number v ≡ n)
+pub held_by : (a : Option CValue) (n : ℤ) → option_map scalar_number a ≡ Some n → (v : CValue) × (a ≡ Some v) × (scalar_number v ≡ n)
 held_by None n h = absurd (cc)
 held_by (Some v) n h = (v, refl, same_Some (scalar_number v) n h)
 

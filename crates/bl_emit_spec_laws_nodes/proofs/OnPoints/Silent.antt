@@ -31,6 +31,7 @@ use Rattle.bl_emit_spec_laws_nodes.proofs.OnPoints.Shown.{ends_true}
 use Rattle.bl_emit_spec_laws.specs.Registers.Laws.{ends_body}
 use Rattle.bl_emit_spec_laws_nodes.specs.Points.Laws.{ChangesSimulateInPass, IsSilent, ResultTold, SilentNodesSimulate}
 use Rattle.bl_emit_spec_laws_nodes.specs.Points.Laws.{is_return_node}
+use Rattle.bl_emit_acts_laws_simulation.proofs.Begun.{or_other}
 
 -- ---- when changes end the body
 
@@ -194,10 +195,6 @@ as_left w activities i unit scope r rule here o frames frames' store left copies
     (subst (λ c. PartSimulates w activities i unit scope frames store c (after_rule (rank_by w activities i) rule true r) here o) (sym same_copies)
     comes)))
 
-pub either : (a b : Bool) → (a || b) ≡ true → b ≡ false → a ≡ true
-either true b h none = refl
-either false b h none = absurd (true_not_false (sym h ∙ none))
-
 pub silent_comes : ChangesSimulateInPass → SilentNodesSimulate
 silent_comes stand structs units entry machine activities own ends remembering = record {
   acts = λ i unit scope frames store copies r rule u answer frames' left here midway there silent called sees performs.
@@ -212,7 +209,7 @@ silent_comes stand structs units entry machine activities own ends remembering =
       ∙ silent_no_return rule.node silent) in
       let told : ResultTold unit i scope store (all_changed number rule.on_true r) here =
       λ value over one is. midway.stands.result value
-      (either r.over (list_any ends_body rule.on_true) (over_after number rule.on_true r over)
+      (or_other r.over (list_any ends_body rule.on_true) (over_after number rule.on_true r over)
       (false_from_ne_true (list_any ends_body rule.on_true) (λ ending. never ending one))) one is in
       let after_r = all_changed number rule.on_true r in
       let o = block_c (changes_code (activity_view a) rule.on_true) scope here in

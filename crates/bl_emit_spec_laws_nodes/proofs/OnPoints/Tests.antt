@@ -65,7 +65,8 @@ use Rattle.bl_emit_spec_laws_nodes.specs.Points.Nodes.{IsTest, NodesStand, Prevs
 use Rattle.bl_emit_spec_laws_nodes.proofs.OnPoints.Besides.{beside, site_is, value_there_is}
 use Rattle.bl_emit_spec_laws_nodes.proofs.OnPoints.Choices.{Chosen, choice_alone, else_same, truth_c}
 use Rattle.bl_emit_spec_laws_nodes.proofs.OnPoints.Shown.{ends_false, ends_true}
-use Rattle.bl_emit_spec_laws_nodes.proofs.OnPoints.Silent.{comes_as, either, over_after}
+use Rattle.bl_emit_spec_laws_nodes.proofs.OnPoints.Silent.{comes_as, over_after}
+use Rattle.bl_emit_acts_laws_simulation.proofs.Begun.{or_other}
 
 -- ---- nodes
 
@@ -265,7 +266,7 @@ module _ (stand : ChangesSimulateInPass) (frames_apart : FramesApart) (structs :
         told : ResultTold unit i scope store (all_changed (rank_by w activities i) changes r) here
         told value over one at =
             midway.stands.result value
-            (either r.over (list_any ends_body changes) (over_after (rank_by w activities i) changes r over)
+            (or_other r.over (list_any ends_body changes) (over_after (rank_by w activities i) changes r over)
             (false_from_ne_true (list_any ends_body changes) (λ ending. true_not_false (sym (returns ending one) ∙ is.no_return)))) one at
 
     abbrev Left : Bool → Outcome Memory → Type 0

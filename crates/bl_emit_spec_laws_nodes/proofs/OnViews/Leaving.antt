@@ -44,14 +44,9 @@ use Rattle.bl_emit_spec_laws.specs.Calls.Memories as memories
 use Rattle.bl_emit_spec_laws.specs.Calls.Memories.{Nests, inner}
 use Rattle.bl_emit_spec_laws_nodes.specs.Views.{ActsLeave}
 use Rattle.bl_emit_spec_laws_nodes.proofs.OnViews.Outputs.{held_inside}
+use Rattle.bl_ctree_laws_confluence.proofs.OnStores.Views.{range_at}
 
 -- ---- numbers
-
-pub range_at : (first count k j : ℕ) → slice_get (range_with_len first count) k ≡ Some j → j ≡ first + k
-range_at first zero zero j e = absurd cc
-range_at first zero (suc k) j e = absurd cc
-range_at first (suc count) zero j e = let is : first ≡ j = cc in omega arith
-range_at first (suc count) (suc k) j e = let is : j ≡ (first + 1) + k = range_at (first + 1) count k j e in omega arith
 
 -- functions that are alike at a position
 pub same_mapped : {X : Type 0} (f g : ℕ → X) (count x : ℕ) → f x ≡ g x →
@@ -149,7 +144,7 @@ module _ (puts : PutsKeepOthers) (remembers : RememberingKeepsOthers) (w : Setti
 -- ---- what is inside
 
 -- an instance that an instance calls is inside it, and so is all inside that
-inside_more : (w : Setting) (i j k : ℕ) (at : Place) → callee_of w i at ≡ Some j → Inside w j k → Inside w i k
+pub inside_more : (w : Setting) (i j k : ℕ) (at : Place) → callee_of w i at ≡ Some j → Inside w j k → Inside w i k
 inside_more w i j k at called nesting.itself = nesting.deeper i at nesting.itself called
 inside_more w i j k at called (nesting.deeper p place deep more) = nesting.deeper p place (inside_more w i j p at called deep) more
 

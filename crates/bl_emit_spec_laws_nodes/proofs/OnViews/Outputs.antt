@@ -1,9 +1,8 @@
 -- A variable that an activity remembers is no output.
 use Rattle.std.proofs.Common.{◌≡◌, ◌<◌, ◌≤◌, ◌+◌, ◌-◌, arith, ℕ, zero, suc, Bool, true, false, ◌&&◌}
 use Rattle.std.proofs.Common.{◌||◌, List, [], ◌∷◌, ◌++◌, take, drop}
-use Rattle.std.proofs.Common.{length, Some, None, refl, sym, ap, ◌∙◌, subst, append_assoc}
+use Rattle.std.proofs.Common.{length, Some, None, refl, sym, ap, ◌∙◌, subst}
 use Rattle.std.proofs.lemmas.Bool.{leb-true, ltb-true}
-use Rattle.std.proofs.lemmas.List.{append-nil}
 use Rattle.std.proofs.lemmas.Option.{same_Some}
 use Rattle.std.specs.Prelude.{is_some, nat_le, nat_lt, slice_get}
 use Rattle.std.specs.List.{list_all}
@@ -12,27 +11,16 @@ use Rattle.bl_tree.proofs.Basics.{and_first, and_second}
 use Rattle.bl_tree.specs.declared.tree.StructDef.{StructDef}
 use Rattle.bl_tree.specs.declared.tree.Unit.{Unit as UnitDef}
 use Rattle.bl_tree.specs.declared.tree.Var.{Var}
-use Rattle.bl_tree.specs.Program.{IsWellTyped, is_input, is_output, locals_of, roles_stand, unit_stands, units_stand_after}
+use Rattle.bl_tree.specs.Program.{IsWellTyped, is_input, is_output, locals_of, roles_stand, unit_stands}
 use Rattle.bl_tree.specs.Types.{scalar_in}
 use Rattle.bl_tree.specs.Typing.{TypingContext, inputs_of, is_fixed, is_variable, outputs_of}
 use Rattle.bl_ctree.specs.Store.{is_output_of}
 use Rattle.bl_emit_acts.specs.declared.home.Home.TheVariants.{Held}
 use Rattle.bl_emit_acts.specs.Places.{copies_inputs, home_of, is_alone}
 use Rattle.bl_emit_acts_laws_simulation.proofs.Homes.{output_unheld}
+use Rattle.bl_eval.proofs.UnitFits.{unit_at}
 
 -- ---- units
-
-unit_after : (structs : List StructDef) (earlier units : List UnitDef) (k : ℕ) (unit : UnitDef) →
-    units_stand_after structs earlier units ≡ true → slice_get units k ≡ Some unit → unit_stands structs (earlier ++ take k units) unit ≡ true
-unit_after structs earlier [] k unit stand there = absurd (cc)
-unit_after structs earlier (first ∷ units) zero unit stand there =
-    subst (λ earlier. unit_stands structs earlier unit ≡ true) (sym (append-nil earlier))
-    (subst (λ unit. unit_stands structs earlier unit ≡ true) (same_Some first unit there)
-    (and_first (unit_stands structs earlier first) (units_stand_after structs (earlier ++ first ∷ []) units) stand))
-unit_after structs earlier (first ∷ units) (suc k) unit stand there =
-    subst (λ earlier. unit_stands structs earlier unit ≡ true) (append_assoc earlier (first ∷ []) (take k units))
-    (unit_after structs (earlier ++ first ∷ []) units k unit
-    (and_second (unit_stands structs earlier first) (units_stand_after structs (earlier ++ first ∷ []) units) stand) there)
 
 unit_roles : (structs : List StructDef) (earlier : List UnitDef) (unit : UnitDef) → unit_stands structs earlier unit ≡ true →
     roles_stand unit ≡ true
@@ -99,6 +87,6 @@ pub held_inside : (structs : List StructDef) (units : List UnitDef) (entry k x :
     IsWellTyped structs units entry → slice_get units k ≡ Some unit → slice_get unit.vars x ≡ Some var →
     home_of site (Some var) ≡ Held → is_output_of unit x ≡ false
 held_inside structs units entry k x unit site var keeps there known held =
-    let roles = unit_roles structs (take k units) unit (unit_after structs [] units k unit keeps.units_stand there) in
+    let roles = unit_roles structs (take k units) unit (unit_at structs [] units k unit keeps.units_stand there) in
     false_from_ne_true (is_output_of unit x) (λ among.
     output_unheld (is_alone site var.ty) var.role (is_some (scalar_in var.ty)) (copies_inputs site) (output_role unit x var roles among known) held)

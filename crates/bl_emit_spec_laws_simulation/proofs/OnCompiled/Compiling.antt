@@ -1,6 +1,5 @@
 -- What the laws of passes ask of a program holds of one that passes the rules.
-use Rattle.std.proofs.Common.{◌≡◌, ℕ, zero, suc, ◌+◌, ◌*◌, ◌≤◌, ◌^◌, true, List, length, Some, refl, sym, ap, subst, ◌∙◌, arith}
-use Rattle.std.proofs.lemmas.List.{length_push}
+use Rattle.std.proofs.Common.{◌≡◌, ℕ, ◌+◌, ◌*◌, ◌≤◌, ◌^◌, true, List, length, Some, sym, ap, subst, ◌∙◌, arith}
 use Rattle.std.proofs.lemmas.List.Sorted.{length_permutation}
 use Rattle.std.specs.Prelude.{slice_get}
 use Rattle.bl_tree.proofs.Basics.{index_of, same_some}
@@ -29,10 +28,7 @@ use Rattle.bl_emit_spec_laws_wellformed.specs.Counts.{NodesCounted}
 use Rattle.bl_emit_spec_laws_wellformed.proofs.OnMachines.Counters.{sizes_few}
 use Rattle.bl_emit_spec_laws.specs.Own.{NodesAreFew, RegistersAreFew}
 use Rattle.bl_emit_spec_laws_simulation.specs.Compiled.{AreCountable, ProgramsCompile}
-
-up_length : (n : ℕ) → length (up_to n) ≡ n
-up_length zero = refl
-up_length (suc n) = length_push (up_to n) n ∙ (let rest = up_length n in omega (arith, rest))
+use Rattle.bl_emit_spec_laws.proofs.OnOwn.Counting.{many_up_to}
 
 flags_few : (flags turns statements : ℕ) → flags + turns ≤ statements → statements ≤ 2 ^ 62 → flags ≤ 2 ^ 64
 flags_few flags turns statements few small = omega (arith, few, small)
@@ -57,7 +53,7 @@ module _ (structs : List StructDef) (units : List UnitDef) (entry : ℕ) (counte
         nodes_few (length (activities k).order) (length (nodes_in (plain_body unit.body))) (cell_statements_of unit)
         (ap length made.order
         ∙ length_permutation (up_to (length (nodes_in (plain_body unit.body)))) (joined made.one.blocks) of_unit.order.all
-        ∙ up_length (length (nodes_in (plain_body unit.body)))) (nodes k unit keeps there).nodes (countable k unit there).statements
+        ∙ many_up_to (length (nodes_in (plain_body unit.body)))) (nodes k unit keeps there).nodes (countable k unit there).statements
 
     sized : (k : ℕ) (unit : UnitDef) → slice_get units k ≡ Some unit → is_activity unit.kind ≡ true → length (activities k).sizes ≤ 2 ^ 64
     sized k unit there active =

@@ -1,7 +1,6 @@
 -- The places that a `run` hands over keep apart, and are there.
 use Rattle.std.proofs.Common.{◌≡◌, ℕ, ◌<◌, arith, Bool, true, false, not, ◌&&◌}
 use Rattle.std.proofs.Common.{◌||◌, List, [], ◌∷◌, ◌++◌, Some, refl, sym, ap, ◌∙◌}
-use Rattle.std.proofs.lemmas.Bool.{le-leb, ltb-true}
 use Rattle.std.specs.List.{list_all}
 use Rattle.std.specs.Prelude.{bytes_eq, is_some, ◌==◌}
 use Rattle.std.proofs.lemmas.Bool.{and_from, or_right}
@@ -10,7 +9,7 @@ use Rattle.bl_tree.specs.declared.tree.Unit.{Unit as UnitDef}
 use Rattle.bl_tree.specs.declared.tree.Var.{Var}
 use Rattle.bl_tree.specs.Typing.{TypingContext, is_activity, var_at}
 use Rattle.bl_ctext_semantics.specs.Meaning.{ArgumentValue, Scope, further, named_location}
-use Rattle.bl_ctext_semantics.specs.Memory.{Location, Projection, Root, input_object, member, output_object, same_root, state_object, variable}
+use Rattle.bl_ctext_semantics.specs.Memory.{Location, Projection, member, same_root, variable}
 use Rattle.bl_emit_acts.specs.declared.home.Home.{Home}
 use Rattle.bl_emit_acts.specs.declared.home.Home.TheVariants.{Held, Local, Lent}
 use Rattle.bl_emit_acts.specs.Types.{variable_name}
@@ -25,8 +24,10 @@ use Rattle.bl_emit_spec_laws.specs.Calls.Calls.{MayGive, where_true}
 use Rattle.bl_emit_spec_laws.specs.Calls.Memories.{inner}
 use Rattle.bl_emit_spec_laws.specs.Calls.Invariant.{PlacesAreSeparate}
 use Rattle.bl_emit_spec_laws_nodes.specs.Calling.{given_by}
-use Rattle.bl_emit_spec_laws_nodes.proofs.OnPoints.Apart.{first_further, last_further, older_differs}
-use Rattle.bl_emit_spec_laws_nodes.proofs.OnPoints.Cells.{apart_flip, behind_front}
+use Rattle.bl_emit_spec_laws_nodes.proofs.OnPoints.Apart.{first_further, last_further}
+use Rattle.bl_emit_acts_laws_simulation.proofs.Frames.{older_differs, older_live, roots_differ}
+use Rattle.bl_emit_acts_laws_simulation.proofs.Cells.{apart_flip}
+use Rattle.bl_emit_spec_laws.proofs.OnRegisters.Cells.{behind_front}
 
 -- ---- lists of places
 
@@ -99,26 +100,17 @@ where_parted false x ys one = refl
 
 -- ---- two places
 
-roots_apart : (p q : Location) → same_root p.root q.root ≡ false → are_apart p q ≡ true
-roots_apart p q differ = ap (λ same. not same || ways_part p.parts q.parts) differ
-
 -- variables of a function with different names
 locals_apart : (depth : ℕ) (p q : Location) (a b : List ℕ) → p.root ≡ variable depth a → q.root ≡ variable depth b → bytes_eq a b ≡ false →
     are_apart p q ≡ true
 locals_apart depth p q a b first second differ =
-    roots_apart p q
+    roots_differ p q
     (ap (λ root. same_root root q.root) first
     ∙ (ap (same_root (variable depth a)) second ∙ (ap (λ same. (depth == depth) && same) differ ∙ and_false (depth == depth))))
 
 local_older : (depth : ℕ) (p q : Location) (name : List ℕ) → p.root ≡ variable depth name → is_older depth q.root ≡ true →
     are_apart p q ≡ true
-local_older depth p q name is older = roots_apart p q (ap (λ root. same_root root q.root) is ∙ older_differs depth name q.root older)
-
-pub older_live : (depth : ℕ) (root : Root) → is_older depth root ≡ true → is_live depth root ≡ true
-older_live depth state_object h = refl
-older_live depth input_object h = refl
-older_live depth output_object h = refl
-older_live depth (variable d name) h = let less : d < depth = ltb-true d depth h in le-leb d depth (omega arith)
+local_older depth p q name is older = roots_differ p q (ap (λ root. same_root root q.root) is ∙ older_differs depth name q.root older)
 
 module _ (site : TypingContext) (unit : UnitDef) (remembers : Bool) (scope : Scope) (places : PlacesAreSeparate site unit remembers scope)
     (active : is_activity site.kind ≡ true) (n : NumberedWord) where

@@ -18,15 +18,16 @@ use Rattle.bl_ctree.specs.declared.instance.Instance.{Instance}
 use Rattle.bl_ctree.specs.declared.instance.Origin.{Origin}
 use Rattle.bl_ctree.specs.Instances.{Setting, unit_of}
 use Rattle.bl_ctree.specs.Store.{is_output_of, led, led_by, under, whole_of}
-use Rattle.bl_ctree_laws_typing.proofs.OnViews.Running.{parameters_within, unit_stands_at}
+use Rattle.bl_ctree_laws_typing.proofs.OnViews.Running.{parameters_within}
 use Rattle.bl_emit_acts.specs.declared.home.Home.TheVariants.{Held}
 use Rattle.bl_emit_acts.specs.Places.{home_of}
 use Rattle.bl_emit_acts_laws_simulation.proofs.Homes.{activity_home, input_unheld}
+use Rattle.bl_eval.proofs.UnitFits.{unit_at}
 
 pub roles_at : (structs : List StructDef) (units : List UnitDef) (entry k : ℕ) (unit : UnitDef) → IsWellTyped structs units entry →
     slice_get units k ≡ Some unit → roles_stand unit ≡ true
 roles_at structs units entry k unit keeps there =
-    parameters_within structs (take k units) unit (unit_stands_at structs [] units k unit keeps.units_stand there)
+    parameters_within structs (take k units) unit (unit_at structs [] units k unit keeps.units_stand there)
 
 module _ (unit : UnitDef) (roles : roles_stand unit ≡ true) where
   abbrev all_inputs : Bool

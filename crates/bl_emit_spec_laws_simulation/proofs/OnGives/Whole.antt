@@ -62,7 +62,7 @@ use Rattle.bl_emit_spec_laws_nodes.specs.Points.Nodes.{PrevsAgree, ViewsFit}
 use Rattle.bl_emit_spec_laws_nodes.proofs.OnPoints.Besides.{apart, beside, site_is}
 use Rattle.bl_emit_spec_laws_nodes.proofs.OnViews.Leaving.{held_led}
 use Rattle.bl_emit_spec_laws.specs.Remember.{CallersRemember}
-use Rattle.bl_emit_spec_laws_simulation.proofs.OnGives.Arguing.{RunArgues, run_argues, unit_there}
+use Rattle.bl_emit_spec_laws_simulation.proofs.OnGives.Arguing.{RunArgues, run_argues}
 use Rattle.bl_emit_spec_laws_simulation.proofs.OnGives.Keeping.{may_give}
 use Rattle.bl_emit_spec_laws_simulation.proofs.OnGives.Leading.{inputs_long, lead_at, outputs_long, place_at}
 use Rattle.bl_emit_spec_laws_simulation.proofs.OnGives.Lists.{get_behind, mapped_from, taken_is}
@@ -71,6 +71,7 @@ use Rattle.bl_emit_spec_laws_simulation.proofs.OnGives.Stored.{Copied, copied, i
 use Rattle.bl_emit_spec_laws_simulation.proofs.OnGives.Values.{values_same}
 use Rattle.bl_emit_spec_laws_simulation.proofs.OnGives.Writing.{written_given, written_traps}
 use Rattle.bl_emit_spec.specs.Names.{NumberedWord}
+use Rattle.bl_emit_spec_laws.proofs.OnActivities.Nested.{unit_there}
 
 -- the laws on which all stands
 pub record Laws (structs : List StructDef) (units : List UnitDef) (entry : ℕ) : Type 0 where

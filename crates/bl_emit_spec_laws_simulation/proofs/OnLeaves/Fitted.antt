@@ -1,5 +1,5 @@
 -- The outputs of the `run`s at the nodes of a body that fits: they are of the types of what the `run` calls, and may be written.
-use Rattle.std.proofs.Common.{◌≡◌, ℕ, zero, suc, Bool, true, false, ◌&&◌, List, [], ◌∷◌, ◌++◌, map, get_or, Option, Some, None, Contains}
+use Rattle.std.proofs.Common.{◌≡◌, ℕ, zero, suc, Bool, true, ◌&&◌, List, [], ◌∷◌, ◌++◌, map, get_or, Option, Some, None, Contains}
 use Rattle.std.proofs.Common.{refl, sym, ◌∙◌, subst}
 use Rattle.std.specs.Prelude.{slice_get, ⊤}
 use Rattle.std.proofs.lemmas.List.Elements.{All-head, All-tail}
@@ -27,6 +27,8 @@ use Rattle.bl_graph_nodes.proofs.Equations.{plain_statements}
 use Rattle.bl_ctree.specs.declared.instance.Run.{Run}
 use Rattle.bl_ctree.specs.Instances.{arm_runs, branch_runs, kind_runs, runs_in, runs_in_arm, runs_in_branch, stmt_layer_runs}
 use Rattle.bl_ctree_laws_confluence.proofs.OnDeeds.Activities.{AllOf, all_both}
+use Rattle.bl_ctree_laws_confluence.proofs.OnDeeds.Aliases.{of_first, of_second}
+use Rattle.bl_machine_pass_laws_typing.proofs.OnFits.NodesFit.{all_where}
 
 -- a `run` of this kind at the place, of which C holds
 pub record RunFits (site : TypingContext) (C : Run → Type 0) (at : Place) (arguments : Arguments) : Type 0 where
@@ -41,18 +43,6 @@ pub record RunFits (site : TypingContext) (C : Run → Type 0) (at : Place) (arg
 abbrev pub NodeFits : TypingContext → (Run → Type 0) → Node → Type 0
 NodeFits site C (EnterAt l at arguments) = RunFits site C at arguments
 NodeFits site C _ = ⊤
-
-of_first : {A : Type 0} (P : A → Type 0) (xs ys : List A) → AllOf P (xs ++ ys) → AllOf P xs
-of_first P [] ys all = tt
-of_first P (x ∷ xs) ys all = (all.0, of_first P xs ys all.1)
-
-of_second : {A : Type 0} (P : A → Type 0) (xs ys : List A) → AllOf P (xs ++ ys) → AllOf P ys
-of_second P [] ys all = all
-of_second P (x ∷ xs) ys all = of_second P xs ys all.1
-
-all_where : (P : Node → Type 0) (b : Bool) (n : Node) → P n → AllOf P (where_so b n)
-all_where P true n one = (one, tt)
-all_where P false n one = tt
 
 module _ (site : TypingContext) (C : Run → Type 0) where
   abbrev N : Node → Type 0

@@ -6,7 +6,7 @@ use Rattle.std.proofs.lemmas.List.Folds.{list_any-append}
 use Rattle.std.specs.List.{list_any}
 use Rattle.std.specs.Prelude.{bytes_eq, is_some, slice_get, ◌==◌}
 use Rattle.std.proofs.lemmas.Bool.{or_from, or_right}
-use Rattle.bl_tree.proofs.Basics.{and_false, at_most_self_test}
+use Rattle.bl_tree.proofs.Basics.{at_most_self_test}
 use Rattle.bl_tree.specs.declared.text.Text.{Text}
 use Rattle.bl_tree.specs.declared.tree.Unit.{Unit as UnitDef}
 use Rattle.bl_tree.specs.declared.tree.Var.{Var}
@@ -30,11 +30,14 @@ use Rattle.bl_emit_spec_laws.specs.Calls.Calls.{where_true, written_by}
 use Rattle.bl_emit_spec_laws.specs.Calls.Laws.{PassKeepsFrame}
 use Rattle.bl_emit_spec_laws.specs.Calls.Memories.{inner}
 use Rattle.bl_emit_spec_laws.specs.Calls.Invariant.{PlacesAreSeparate, result_at_c}
-use Rattle.bl_emit_spec_laws_nodes.proofs.OnPoints.Apart.{Beyond, first_further, inner_is, last_further, lies_apart, lies_further, older_differs}
+use Rattle.bl_emit_spec_laws_nodes.proofs.OnPoints.Apart.{Beyond, first_further, inner_is, last_further, lies_further}
 use Rattle.bl_emit_spec_laws_nodes.proofs.OnPoints.Apart.{register_inner, register_stands}
-use Rattle.bl_emit_spec_laws_nodes.proofs.OnPoints.Cells.{apart_flip, behind_front}
 use Rattle.bl_emit_spec_laws_nodes.proofs.OnPoints.Foreign.{foreign_counter, foreign_memory, foreign_outside, foreign_register, foreign_result}
 use Rattle.bl_emit_spec_laws_nodes.proofs.OnPoints.Foreign.{variable_apart}
+use Rattle.bl_emit_acts_laws_simulation.proofs.Frames.{older_differs, own_differ, roots_differ}
+use Rattle.bl_emit_acts_laws_simulation.proofs.Cells.{apart_flip}
+use Rattle.bl_emit_acts_laws_simulation.proofs.Calls.{apart_lies}
+use Rattle.bl_emit_spec_laws.proofs.OnRegisters.Cells.{behind_front}
 
 none_of_both : {X : Type 0} (p : X → Bool) (xs ys : List X) → list_any p xs ≡ false → list_any p ys ≡ false → list_any p (xs ++ ys) ≡ false
 none_of_both p xs ys one other = list_any-append p xs ys ∙ or_from (list_any p xs) (list_any p ys) one other
@@ -42,12 +45,6 @@ none_of_both p xs ys one other = list_any-append p xs ys ∙ or_from (list_any p
 none_where : {X : Type 0} (p : X → Bool) (test : Bool) (x : X) → (test ≡ true → p x ≡ false) → list_any p (where_true test x) ≡ false
 none_where p true x h = or_from (p x) false (h refl) refl
 none_where p false x h = refl
-
-roots_differ : (p q : Location) → same_root p.root q.root ≡ false → are_apart p q ≡ true
-roots_differ p q h = ap (λ same. not same || ways_part p.parts q.parts) h
-
-own_differ : (depth : ℕ) (m n : List ℕ) → bytes_eq m n ≡ false → same_root (variable depth m) (variable depth n) ≡ false
-own_differ depth m n h = ap (λ b. (depth == depth) && b) h ∙ and_false (depth == depth)
 
 -- a place in a variable that may be written
 pub record PlaceIn (site : TypingContext) (scope : Scope) (place : Location) : Type 0 where
@@ -127,11 +124,11 @@ module _ (site : TypingContext) (unit : UnitDef) (remembers : Bool) (scope : Sco
   place_same p foreign frame memory one two way =
       number_same p.root (p.parts ++ way) (record {
         live = (foreign way).live;
-        no_frame = lies_apart f p way frame;
-        no_memory = λ it. lies_apart m p way (memory it);
+        no_frame = apart_lies f p way frame;
+        no_memory = λ it. apart_lies m p way (memory it);
         no_output = no_outputs p.root (p.parts ++ way) (foreign way).variables;
-        no_given = lies_apart given p way one;
-        no_ended = lies_apart ended p way two;
+        no_given = apart_lies given p way one;
+        no_ended = apart_lies ended p way two;
       })
 
   local_older : (name : Text) (p : Location) → is_older scope.depth p.root ≡ true → are_apart (named_location scope false name) p ≡ true
@@ -192,7 +189,7 @@ module _ (site : TypingContext) (unit : UnitDef) (remembers : Bool) (scope : Sco
       place_same p
       (λ way. record {
         live = at_most_self_test scope.depth;
-        variables = λ j var there writable. lies_apart (location_in scope site j []) p way (apart j var there);
+        variables = λ j var there writable. apart_lies (location_in scope site j []) p way (apart j var there);
         copies = λ j its. absurd cc;
       })
       (older_local f (copy_name site.vars k) places.frame.frame_older) (λ it. older_local m (copy_name site.vars k) (memory_older it))
@@ -298,7 +295,7 @@ module _ (site : TypingContext) (unit : UnitDef) (remembers : Bool) (scope : Sco
       let p = location_in scope site k [] in
       number_same p.root (p.parts ++ way) (record {
         live = live;
-        no_frame = lies_apart f p way
+        no_frame = apart_lies f p way
             (apart_flip p f
             (variable_apart site unit remembers scope places active held_here none f places.frame.frame_older
             (λ k var there is.
@@ -307,7 +304,7 @@ module _ (site : TypingContext) (unit : UnitDef) (remembers : Bool) (scope : Sco
             first_further (remembered_at scope) f (member (variable_name site.vars k) ∷ [])
             (last_further (remembered_at scope) (frame_at scope) (member (callee_name n) ∷ [])
             (places.memory (held_here k var there is)).frame)) k var there));
-        no_memory = λ it. lies_apart m p way
+        no_memory = λ it. apart_lies m p way
             (apart_flip p m
             (variable_apart site unit remembers scope places active held_here none m (memory_older it)
             (λ k var there is.
@@ -317,6 +314,6 @@ module _ (site : TypingContext) (unit : UnitDef) (remembers : Bool) (scope : Sco
             (ways_part ((remembered_at scope).parts ++ member (variable_name site.vars k) ∷ []) ((remembered_at scope).parts ++ member (callee_name n) ∷ []))
             (behind_front (remembered_at scope).parts (member (variable_name site.vars k) ∷ []) (member (callee_name n) ∷ []))) k var there));
         no_output = clear;
-        no_given = lies_apart given p way (local_variable (given_name n) (λ k. refl) k var there);
-        no_ended = lies_apart ended p way (local_variable ended_name (λ k. refl) k var there);
+        no_given = apart_lies given p way (local_variable (given_name n) (λ k. refl) k var there);
+        no_ended = apart_lies ended p way (local_variable ended_name (λ k. refl) k var there);
       })

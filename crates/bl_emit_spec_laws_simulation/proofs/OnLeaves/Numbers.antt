@@ -1,5 +1,5 @@
 -- No two nodes of a body have one number, and `run`s with different numbers have different names.
-use Rattle.std.proofs.Common.{◌≡◌, ℕ, zero, suc, ◌+◌, ◌<◌, ◌^◌, false}
+use Rattle.std.proofs.Common.{◌≡◌, ℕ, ◌+◌, ◌<◌, ◌^◌, false}
 use Rattle.std.proofs.Common.{List, [], ◌∷◌, Contains}
 use Rattle.std.proofs.Common.{Some, nat_eq, length, sym, ap, ◌∙◌, arith}
 use Rattle.std.specs.Prelude.{IsPermutation, bytes_eq, slice_get}
@@ -16,20 +16,12 @@ use Rattle.bl_machine_pass_laws.specs.Turns.Laws.{StaysPlaced}
 use Rattle.bl_machine_pass_laws.specs.Keys.{NodesHaveKeys}
 use Rattle.bl_machine_transitions.specs.Callees.{node_number}
 use Rattle.bl_machine_transitions.specs.Listed.{layout_of}
-use Rattle.bl_machine_transitions_laws.proofs.Agreeing.{Agrees}
 use Rattle.bl_machine_transitions_laws.proofs.Standing.{nodes_stand}
 use Rattle.bl_emit_spec_laws.proofs.OnPlaced.Lists.{found_at, number_once, number_there}
 use Rattle.bl_emit_acts_laws_simulation.proofs.NumberedNames.{words_differ}
+use Rattle.bl_emit_spec_laws.proofs.OnPlaced.Placing.{agrees_at}
 
 -- ---- numbers
-
-agrees_at : {X Y : Type 0} (f : X → Y) (at : ℕ → Y) (xs : List X) (first k : ℕ) (x : X) → Agrees f at first xs → slice_get xs k ≡ Some x →
-    f x ≡ at (first + k)
-agrees_at f at [] first k x agrees is = absurd (cc)
-agrees_at f at (y ∷ xs) first zero x agrees is =
-    let same : first ≡ first + 0 = omega arith in ap f (sym (same_some y x is)) ∙ agrees.0 ∙ ap at same
-agrees_at f at (y ∷ xs) first (suc k) x agrees is =
-    let same : suc first + k ≡ first + suc k = omega arith in agrees_at f at xs (suc first) k x agrees.1 is ∙ ap at same
 
 module _ (keys : NodesHaveKeys) (body : List Stmt) (order : List ℕ)
     (permutes : IsPermutation (up_to (length (nodes_in (plain_body body)))) order) where

@@ -25,10 +25,10 @@ use Rattle.bl_ctree_laws_typing.proofs.OnViews.Along.{along, along_there}
 use Rattle.bl_emit_acts_laws_simulation.specs.Acts.{lies_in}
 use Rattle.bl_emit_acts_laws_simulation.specs.Encodes.{Encodes, VariablesApart, location_in, number_within, type_after, way_to}
 use Rattle.bl_emit_acts_laws_simulation.proofs.Cells.{lies_inside, location_along}
-use Rattle.bl_emit_spec_laws_nodes.proofs.OnPoints.Apart.{lies_apart}
-use Rattle.bl_emit_spec_laws_nodes.proofs.OnPoints.Cells.{left_apart, left_behind}
 use Rattle.bl_emit_spec_laws_simulation.proofs.OnLeaves.Types.{OutputOf}
 use Rattle.bl_emit_spec_laws_simulation.proofs.OnLeaves.Ways.{after_along, front_split, fronts_part, number_ends, way_further}
+use Rattle.bl_emit_acts_laws_simulation.proofs.Written.{left_apart, left_behind}
+use Rattle.bl_emit_acts_laws_simulation.proofs.Calls.{apart_lies}
 
 -- what a call left at an output's place, beside a value of the caller's variable with number k
 pub record OutputLeft (site : TypingContext) (scope : Scope) (after : Memory) (k : ℕ) (value : Value) (places : List Location) (o : ℕ) (path : Path) :
@@ -169,7 +169,7 @@ module _ (site : TypingContext) (stand : structs_stand_from 0 site.structs ≡ t
             ap (λ (p : Location). lies_in p base.root (base.parts ++ to ks)) one.is
             ∙ lies_inside scope site (static_of path).root (way_to site.structs (static_of path).fields (Some one.out.var.ty)) base.root
             (base.parts ++ to ks)
-            (lies_apart (location_in scope site (static_of path).root []) base (to ks)
+            (apart_lies (location_in scope site (static_of path).root []) base (to ks)
             (apart.each (static_of path).root k one.out.var var one.out.is_there there one.out.writable is))
         by true is =
             let one = out o path at in

@@ -1,23 +1,20 @@
 -- Ways into C values beside paths of names: where paths part, so do their ways, and no path goes on behind a number.
 use Rattle.std.proofs.Common.{◌≡◌, ℕ, zero, suc, ℤ, Bool, true, false, not, ◌+◌, ◌&&◌, ◌||◌}
 use Rattle.std.proofs.Common.{List, [], ◌∷◌, ◌++◌, Option, Some, None}
-use Rattle.std.proofs.Common.{refl, sym, ap, ap₂, ◌∙◌, subst}
+use Rattle.std.proofs.Common.{refl, sym, ap, ap₂, ◌∙◌}
 use Rattle.std.proofs.lemmas.Bool.{eq-eqb, eqb-true}
 use Rattle.std.proofs.lemmas.List.{append-nil, append_assoc}
 use Rattle.std.proofs.lemmas.Option.{same_Some}
-use Rattle.std.specs.List.{list_any}
 use Rattle.std.specs.Prelude.{bytes_eq, nat_eq, option_and_then, option_map, slice_get, ◌==◌}
-use Rattle.std.proofs.lemmas.Bool.{not-true}
-use Rattle.bl_tree.proofs.Basics.{and_first, and_second, bytes_differ_swap, get_mapped, neither_first, neither_second, number_itself, true_not_false}
+use Rattle.bl_tree.proofs.Basics.{and_first, and_second, get_mapped, number_itself, true_not_false}
 use Rattle.bl_tree.specs.declared.tree.Field.{Field}
 use Rattle.bl_tree.specs.declared.tree.StructDef.{StructDef}
 use Rattle.bl_tree.specs.declared.tree.Ty.{Ty, out-Ty}
 use Rattle.bl_tree.specs.declared.tree.Ty.TheOpen.{Ty-F}
 use Rattle.bl_tree.specs.declared.value.Value.{Value, out-Value}
 use Rattle.bl_tree.specs.declared.value.Value.TheOpen.{Value-F}
-use Rattle.bl_tree.specs.Program.{field_names, struct_stands, structs_stand_from}
+use Rattle.bl_tree.specs.Program.{field_names, structs_stand_from}
 use Rattle.bl_tree.specs.Static.{is_front}
-use Rattle.bl_tree.specs.Words.{are_distinct}
 use Rattle.bl_eval.specs.Values.{number_in, part_of, parts_at, value_at}
 use Rattle.bl_eval.specs.Values as values
 use Rattle.bl_eval.proofs.OperatorFits.{some_found}
@@ -28,7 +25,11 @@ use Rattle.bl_ctree_laws_typing.proofs.OnViews.Along as typed
 use Rattle.bl_emit_acts.specs.Expressions.{field_of_struct, name_of_field}
 use Rattle.bl_emit_acts.specs.Types.{elements_name, field_name}
 use Rattle.bl_emit_acts_laws_simulation.specs.Encodes.{lead_level, lead_to, number_within, part_level, part_type, type_after, way_to, ways_part}
-use Rattle.bl_emit_spec_laws_nodes.proofs.OnPoints.Cells.{behind_front, further_both}
+use Rattle.bl_machine_pass_laws_execution.proofs.OnFresh.Doing.{found as map_found}
+use Rattle.bl_eval_laws.proofs.OnLocal.Locality.{value_within}
+use Rattle.bl_ctree_laws_confluence.proofs.OnIndependent.Sides.{front_itself}
+use Rattle.bl_emit_acts_laws_simulation.proofs.Forks.{differ_at, distinct_from}
+use Rattle.bl_emit_spec_laws.proofs.OnRegisters.Cells.{behind_front, further_both}
 
 -- ---- types behind positions
 
@@ -71,15 +72,6 @@ module _ (structs : List StructDef) where
 
 -- ---- values behind positions
 
-pub value_further : (ks js : List ℕ) (value : Value) → value_at (ks ++ js) value ≡ option_and_then (value_at js) (value_at ks value)
-value_further [] js value = refl
-value_further (k ∷ ks) js value = by (λ part. value_further ks js part) (part_of k value)
-  where
-    by : ((part : Value) → value_at (ks ++ js) part ≡ option_and_then (value_at js) (value_at ks part)) → (o : Option Value) →
-        option_and_then (value_at (ks ++ js)) o ≡ option_and_then (value_at js) (option_and_then (value_at ks) o)
-    by again None = refl
-    by again (Some part) = again part
-
 -- a number has no parts
 number_alone : (k : ℕ) (value : Value) (n : ℤ) (layer : Value-F Value) → out-Value value ≡ layer → number_in value ≡ Some n →
     part_of k value ≡ None
@@ -96,10 +88,6 @@ front_split (k ∷ ks) (j ∷ js) h =
     let more = front_split ks js (and_second (nat_eq k j) (is_front ks js) h) in
     (more.0, ap₂ (λ j js. j ∷ js) (sym (eqb-true k j (and_first (nat_eq k j) (is_front ks js) h))) more.1)
 
-front_itself : (ks : List ℕ) → is_front ks ks ≡ true
-front_itself [] = refl
-front_itself (k ∷ ks) = ap (λ b. b && is_front ks ks) (number_itself k) ∙ front_itself ks
-
 -- where a number stands at a front of a path that leads to a type, it stands at the end
 pub number_ends : (structs : List StructDef) → structs_stand_from 0 structs ≡ true → (ks js : List ℕ) (a c : Ty) (value : Value) (n : ℤ) →
     Fits structs a value → along structs js a ≡ Some c → number_within ks value ≡ Some n → is_front ks js ≡ true → is_front js ks ≡ true
@@ -114,53 +102,12 @@ number_ends structs stand ks js a c value n fit leads number front =
         let there = along_leads structs stand js a c value fit leads in
         let none : value_at js value ≡ None =
         ap (λ js. value_at js value) whole
-        ∙ (value_further ks (k ∷ rest) value
+        ∙ (value_within ks (k ∷ rest) value
         ∙ (ap (option_and_then (value_at (k ∷ rest))) at
         ∙ ap (option_and_then (value_at rest)) (number_alone k u n (out-Value u) refl is))) in
         absurd (let no : None ≡ Some there.old = sym none ∙ there.at in cc)
 
 -- ---- names of fields differ
-
-among_at : (text : List ℕ) (names : List (List ℕ)) (k : ℕ) (name : List ℕ) → list_any (bytes_eq text) names ≡ false →
-    slice_get names k ≡ Some name → bytes_eq text name ≡ false
-among_at text [] k name h there = absurd (cc)
-among_at text (first ∷ names) zero name h there =
-    ap (bytes_eq text) (sym (same_Some first name there)) ∙ neither_first (bytes_eq text first) (list_any (bytes_eq text) names) h
-among_at text (first ∷ names) (suc k) name h there =
-    among_at text names k name (neither_second (bytes_eq text first) (list_any (bytes_eq text) names) h) there
-
-unequal_before : (j k : ℕ) → nat_eq (suc j) (suc k) ≡ false → nat_eq j k ≡ false
-unequal_before j k h = by (nat_eq j k) refl
-  where
-    by : (same : Bool) → nat_eq j k ≡ same → same ≡ false
-    by true is = absurd (true_not_false (sym (eq-eqb (suc j) (suc k) (ap suc (eqb-true j k is))) ∙ h))
-    by false is = refl
-
--- names at different positions differ
-differ_at : (names : List (List ℕ)) (j k : ℕ) (a b : List ℕ) → are_distinct names ≡ true → slice_get names j ≡ Some a →
-    slice_get names k ≡ Some b → nat_eq j k ≡ false → bytes_eq b a ≡ false
-differ_at [] j k a b h i l other = absurd (cc)
-differ_at (first ∷ names) zero zero a b h i l other = absurd (cc)
-differ_at (first ∷ names) zero (suc k) a b h i l other =
-    let front : list_any (bytes_eq first) names ≡ false = not-true (list_any (bytes_eq first) names) (and_first _ _ h) in
-    bytes_differ_swap a b (ap (λ a. bytes_eq a b) (sym (same_Some first a i)) ∙ among_at first names k b front l)
-differ_at (first ∷ names) (suc j) zero a b h i l other =
-    let front : list_any (bytes_eq first) names ≡ false = not-true (list_any (bytes_eq first) names) (and_first _ _ h) in
-    ap (λ b. bytes_eq b a) (sym (same_Some first b l)) ∙ among_at first names j a front i
-differ_at (first ∷ names) (suc j) (suc k) a b h i l other = differ_at names j k a b (and_second _ _ h) i l (unequal_before j k other)
-
-distinct_from : (structs : List StructDef) (before s : ℕ) (def : StructDef) → structs_stand_from before structs ≡ true →
-    slice_get structs s ≡ Some def → are_distinct (field_names def) ≡ true
-distinct_from [] before s def h there = absurd (cc)
-distinct_from (first ∷ rest) before zero def h there =
-    subst (λ def. are_distinct (field_names def) ≡ true) (same_Some first def there)
-    (and_second _ _ (and_first _ _ (and_second _ _ (and_first (struct_stands before first) (structs_stand_from (before + 1) rest) h))))
-distinct_from (first ∷ rest) before (suc s) def h there =
-    distinct_from rest (before + 1) s def (and_second (struct_stands before first) (structs_stand_from (before + 1) rest) h) there
-
-map_found : {A B : Type 0} (f : A → B) (o : Option A) (y : B) → option_map f o ≡ Some y → (x : A) × (o ≡ Some x) × (f x ≡ y)
-map_found f None y is = absurd (cc)
-map_found f (Some x) y is = (x, refl, same_Some (f x) y is)
 
 -- ---- ways that part
 

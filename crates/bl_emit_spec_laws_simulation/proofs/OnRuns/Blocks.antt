@@ -65,10 +65,11 @@ use Rattle.bl_emit_spec_laws_simulation.proofs.OnRuns.Called.{after, call_goes_o
 use Rattle.bl_emit_spec_laws_simulation.proofs.OnRuns.Called.{unasked}
 use Rattle.bl_emit_spec_laws_simulation.proofs.OnRuns.Changing.{changes_behind, keeping}
 use Rattle.bl_emit_spec_laws.proofs.OnRunPlaces.Entered.{node_by}
-use Rattle.bl_emit_spec_laws_simulation.proofs.OnRuns.Running.{CallsUnit, node_calls, unit_there}
+use Rattle.bl_emit_spec_laws_simulation.proofs.OnRuns.Running.{CallsUnit, node_calls}
 use Rattle.bl_emit_spec_laws_simulation.proofs.OnRuns.Statements.{ended_truth, step_goes}
 use Rattle.bl_emit_spec_laws_simulation.proofs.OnRuns.Targets.{target_comes, target_typed}
 use Rattle.bl_emit_spec_laws.proofs.OnRunPlaces.Words.{run_word}
+use Rattle.bl_emit_spec_laws.proofs.OnActivities.Nested.{unit_there}
 
 -- no changes are none where they are shown
 none_shown : (last : Bool) (changes : List Change) → changes ≡ [] → (if last then changes else []) ≡ []

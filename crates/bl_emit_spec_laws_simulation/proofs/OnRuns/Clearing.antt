@@ -15,7 +15,7 @@ use Rattle.bl_tree.specs.declared.tree.Var.{Var}
 use Rattle.bl_tree.specs.declared.value.Value.{Value}
 use Rattle.bl_tree.specs.Rules.{same_place}
 use Rattle.bl_tree.specs.Typing.{TypingContext, is_activity, var_at}
-use Rattle.bl_effects.proofs.EntryLemmas.{same_place_is, same_place_refl}
+use Rattle.bl_effects.proofs.EntryLemmas.{same_place_refl}
 use Rattle.bl_graph_nodes.specs.Nodes.{Arguments, EnterAt, nodes_in}
 use Rattle.bl_graph_nodes.specs.Plain.{Label, plain_body}
 use Rattle.bl_ctext_semantics.specs.Meaning.{Scope, further, named_location}
@@ -49,13 +49,19 @@ use Rattle.bl_emit_spec_laws.specs.Cleared.{ClearingIsInside}
 use Rattle.bl_emit_spec_laws.proofs.OnWithin.Passing.{clear_within}
 use Rattle.bl_emit_spec_laws_nodes.specs.Points.Laws.{Remembering}
 use Rattle.bl_emit_spec_laws_nodes.proofs.OnPoints.Apart.{Beyond, first_further, further_twice, inner_is}
-use Rattle.bl_emit_spec_laws_nodes.proofs.OnPoints.Apart.{last_further, lies_further, nests_beyond, older_differs}
-use Rattle.bl_emit_spec_laws_nodes.proofs.OnPoints.Cells.{apart_flip, behind_front, left_behind, same_object, set_elsewhere}
+use Rattle.bl_emit_spec_laws_nodes.proofs.OnPoints.Apart.{last_further, lies_further, nests_beyond}
+use Rattle.bl_emit_spec_laws_nodes.proofs.OnPoints.Cells.{same_object}
 use Rattle.bl_emit_spec_laws_nodes.proofs.OnPoints.Changes.{holds_same}
-use Rattle.bl_emit_spec_laws_simulation.proofs.OnRuns.Inner.{cleared_other, cleared_own, nests_inside, one_place}
+use Rattle.bl_emit_spec_laws_simulation.proofs.OnRuns.Inner.{cleared_other, cleared_own, nests_inside}
 use Rattle.bl_emit_spec_laws_simulation.proofs.OnRuns.Numbering.{callees_differ}
 use Rattle.bl_emit_spec_laws_simulation.proofs.OnRuns.Statements.{forgotten_by}
 use Rattle.bl_emit_spec_laws_simulation.proofs.OnRuns.Placing.{OtherName, frame_beside, kept_at, local_beside, local_older, stands_beside}
+use Rattle.bl_emit_acts_laws_simulation.proofs.Frames.{older_differs}
+use Rattle.bl_emit_acts_laws_simulation.proofs.Cells.{apart_flip, set_elsewhere}
+use Rattle.bl_tree.proofs.FirstLemmas.{same_true}
+use Rattle.bl_emit_acts_laws_simulation.proofs.Written.{left_behind}
+use Rattle.bl_emit_spec_laws.proofs.OnRegisters.Cells.{behind_front}
+use Rattle.bl_emit_spec_laws_simulation.proofs.OnLeaves.Types.{one_place}
 
 -- all of a cleared place is 0
 own_zero : (here : Memory) (place : Location) (more way : List Projection) → value_at (set_at here place zeros) (further place more) way ≡ pos 0
@@ -267,7 +273,7 @@ module _ (orderly : AcceptedIsOrderly) (callers : InstancesHaveCallers) (clearin
               where
                 by : (b : Bool) → same_place at at' ≡ b →
                     scalar_number (value_at after (further f' (member (counter_name c) ∷ []))) ≡ pos (cleared W j frames k c)
-                by true is = own_counter (same_place_is at at' is) k f' m' nests c
+                by true is = own_counter (same_true at at' is) k f' m' nests c
                 by false is =
                     other_counter (λ same. true_not_false (sym (same_place_refl at) ∙ (ap (same_place at) same ∙ is))) k f' m' nests c below
 

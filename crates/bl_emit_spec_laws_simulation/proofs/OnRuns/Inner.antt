@@ -5,12 +5,11 @@ use Rattle.std.proofs.Common.{get_or, nat_eq, unwrap_or, refl, sym, ap, subst, �
 use Rattle.std.proofs.lemmas.List.Quantifiers.{position-Some}
 use Rattle.std.specs.Prelude.{option_and_then, option_map, slice_get}
 use Rattle.std.proofs.lemmas.Bool.{or_right}
-use Rattle.bl_tree.proofs.Basics.{and_first, and_second, get_within}
+use Rattle.bl_tree.proofs.Basics.{and_first, get_within}
 use Rattle.bl_tree.specs.declared.place.Place.{Place}
 use Rattle.bl_tree.specs.declared.tree.StructDef.{StructDef}
 use Rattle.bl_tree.specs.declared.tree.Unit.{Unit as UnitDef}
 use Rattle.bl_tree.specs.Rules.{same_place}
-use Rattle.bl_effects.proofs.EntryLemmas.{same_place_is}
 use Rattle.bl_ctext_semantics.specs.Memory.{Location}
 use Rattle.bl_ctree.specs.declared.instance.Instance.{Instance}
 use Rattle.bl_ctree.specs.declared.instance.Origin.{Origin}
@@ -24,33 +23,15 @@ use Rattle.bl_emit_spec_laws.specs.Calls.Built.{Activities, cleared, is_under, o
 use Rattle.bl_emit_spec_laws.specs.Calls.Memories as memories
 use Rattle.bl_emit_spec_laws.specs.Calls.Memories.{Nests, inner}
 use Rattle.bl_emit_spec_laws.specs.Cleared.{ClearingIsInside}
+use Rattle.bl_emit_spec_laws_nodes.proofs.OnViews.Leaving.{inside_more}
 
 -- ---- places of instances
-
--- an instance that an instance calls is inside it, and so is all inside that
-inside_more : (w : Setting) (i j k : ℕ) (at : Place) → callee_of w i at ≡ Some j → Inside w j k → Inside w i k
-inside_more w i j k at called nesting.itself = nesting.deeper i at nesting.itself called
-inside_more w i j k at called (nesting.deeper p place deep more) = nesting.deeper p place (inside_more w i j p at called deep) more
 
 pub nests_inside : (w : Setting) (activities : Activities) (i k : ℕ) (f m f' m' : Location) → Nests w activities i f m k f' m' → Inside w i k
 nests_inside w activities i k f m f' m' memories.here = nesting.itself
 nests_inside w activities i k f m f' m' (memories.inside {j = j} {l = l} {at = at} {arguments = arguments} there node called deeper) =
     let n = run_by w activities i at in
     inside_more w i j k at called (nests_inside w activities j k (inner f n) (inner m n) f' m' deeper)
-
--- one place of an instance begins another one
-pub one_place : (w : Setting) (i callee : ℕ) (place other : Place) → callee_of w i place ≡ Some callee → callee_of w i other ≡ Some callee →
-    place ≡ other
-one_place w i callee place other one two =
-    let d : Instance = record { unit = 0; depth = 0; origin = None } in
-    by_origin (get_or w.instances callee d).origin ((position-Some (λ (instance : Instance). begins_at i place instance.origin) w.instances callee d one).1)
-    ((position-Some (λ (instance : Instance). begins_at i other instance.origin) w.instances callee d two).1)
-  where
-    by_origin : (o : Option Origin) → begins_at i place o ≡ true → begins_at i other o ≡ true → place ≡ other
-    by_origin None e f = absurd (cc)
-    by_origin (Some origin) e f =
-        sym (same_place_is origin.place place (and_second (nat_eq origin.caller i) (same_place origin.place place) e))
-        ∙ same_place_is origin.place other (and_second (nat_eq origin.caller i) (same_place origin.place other) f)
 
 module _ (callers : InstancesHaveCallers) (clearing : ClearingIsInside) (structs : List StructDef) (units : List UnitDef) (entry : ℕ) where
   abbrev W : Setting

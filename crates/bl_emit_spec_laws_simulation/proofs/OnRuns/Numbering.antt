@@ -1,5 +1,5 @@
 -- `run`s of different places of a body have different numbers, and names.
-use Rattle.std.proofs.Common.{◌≡◌, ℕ, zero, suc, ◌+◌, ◌<◌, ◌^◌, true, false, List, [], ◌∷◌, Contains, Some}
+use Rattle.std.proofs.Common.{◌≡◌, ℕ, ◌+◌, ◌<◌, ◌^◌, true, false, List, [], ◌∷◌, Contains, Some}
 use Rattle.std.proofs.Common.{length, nat_eq, sym, ap, subst, ◌∙◌, arith}
 use Rattle.std.proofs.lemmas.Option.{same_Some}
 use Rattle.std.specs.Prelude.{IsPermutation, bytes_eq, slice_get}
@@ -22,7 +22,6 @@ use Rattle.bl_machine_pass_laws.specs.Turns.Laws.{StaysPlaced}
 use Rattle.bl_machine_pass_laws.specs.Keys.{NodesHaveKeys}
 use Rattle.bl_machine_transitions.specs.Callees.{node_number}
 use Rattle.bl_machine_transitions.specs.Listed.{layout_of}
-use Rattle.bl_machine_transitions_laws.proofs.Agreeing.{Agrees}
 use Rattle.bl_machine_transitions_laws.proofs.Standing.{nodes_stand}
 use Rattle.bl_emit_spec.specs.Activities.{Activity, activity_view}
 use Rattle.bl_emit_spec.specs.Names.{callee_name}
@@ -30,18 +29,11 @@ use Rattle.bl_emit_spec_laws.specs.Calls.Built.{Activities, activity_at, rank_by
 use Rattle.bl_emit_spec_laws.specs.Calls.Laws.{CompilationContext}
 use Rattle.bl_emit_spec_laws.proofs.OnPlaced.Lists.{found_at, number_once, number_there}
 use Rattle.bl_emit_spec_laws.proofs.OnRunPlaces.Sharing.{FirstNode, first_node}
-use Rattle.bl_emit_spec_laws_simulation.proofs.OnRuns.Running.{unit_there}
 use Rattle.bl_emit_spec_laws_simulation.proofs.OnLeaves.Numbers.{callees_differ as callees_apart}
+use Rattle.bl_emit_spec_laws.proofs.OnActivities.Nested.{unit_there}
+use Rattle.bl_emit_spec_laws.proofs.OnPlaced.Placing.{agrees_at}
 
 -- ---- numbers
-
-agrees_at : {X Y : Type 0} (f : X → Y) (at : ℕ → Y) (xs : List X) (first k : ℕ) (x : X) → Agrees f at first xs → slice_get xs k
-    ≡ Some x → f x ≡ at (first + k)
-agrees_at f at [] first k x agrees is = absurd (cc)
-agrees_at f at (y ∷ xs) first zero x agrees is =
-    let same : first ≡ first + 0 = omega arith in ap f (sym (same_Some y x is)) ∙ agrees.0 ∙ ap at same
-agrees_at f at (y ∷ xs) first (suc k) x agrees is =
-    let same : suc first + k ≡ first + suc k = omega arith in agrees_at f at xs (suc first) k x agrees.1 is ∙ ap at same
 
 -- the numbers of the nodes of a body by an order of them
 module _ (keys : NodesHaveKeys) (a : Activity) (unit : UnitDef) (one : InMachine) (unit_is : a.unit ≡ unit) (order_is : a.order ≡ joined one.blocks)

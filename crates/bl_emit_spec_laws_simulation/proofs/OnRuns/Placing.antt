@@ -29,9 +29,11 @@ use Rattle.bl_machine_pass_laws_execution.specs.Frames.{Frames}
 use Rattle.bl_emit_spec_laws.specs.Calls.Built.{Activities, activity_at, registered, run_by, site_at}
 use Rattle.bl_emit_spec_laws.specs.Calls.Memories.{MemoryEncodes, inner}
 use Rattle.bl_emit_spec_laws.specs.Calls.Invariant.{PassRepresents, PlacesAreSeparate, result_at_c}
-use Rattle.bl_emit_spec_laws_nodes.proofs.OnPoints.Apart.{first_further, last_further, lies_apart, older_differs, register_inner}
-use Rattle.bl_emit_spec_laws_nodes.proofs.OnPoints.Cells.{apart_flip, set_elsewhere}
+use Rattle.bl_emit_spec_laws_nodes.proofs.OnPoints.Apart.{first_further, last_further, register_inner}
 use Rattle.bl_emit_spec_laws_nodes.proofs.OnPoints.Changes.{holds_same}
+use Rattle.bl_emit_acts_laws_simulation.proofs.Frames.{older_differs}
+use Rattle.bl_emit_acts_laws_simulation.proofs.Cells.{apart_flip, set_elsewhere}
+use Rattle.bl_emit_acts_laws_simulation.proofs.Calls.{apart_lies}
 
 -- a place has nothing in common with registers, variables, copies and the result
 pub record Beside (has : Registered) (site : TypingContext) (unit : UnitDef) (scope : Scope) (place : Location) : Type 0 where
@@ -44,7 +46,7 @@ module _ (here : Memory) (place : Location) (held : CValue) where
   -- what has nothing in common with the place that is set
   pub kept_at : (other : Location) → are_apart place other ≡ true → (way : List Projection) →
       value_at (set_at here place held) other way ≡ value_at here other way
-  kept_at other apart way = set_elsewhere here place held other.root (other.parts ++ way) (lies_apart place other way apart)
+  kept_at other apart way = set_elsewhere here place held other.root (other.parts ++ way) (apart_lies place other way apart)
 
 -- where that is set memory stands for the same, but for what is kept of what is called
 pub stands_beside : (w : Setting) (activities : Activities) (i : ℕ) (unit : UnitDef) (scope : Scope) (frames after_frames : Frames) (store : Store)

@@ -1,5 +1,5 @@
 -- The target of a `run` gets the result.
-use Rattle.std.proofs.Common.{◌≡◌, ◌⊎◌, inl, inr, ℕ, ℤ, zero, suc, Bool, true, false, List, [], ◌∷◌}
+use Rattle.std.proofs.Common.{◌≡◌, ◌⊎◌, inl, inr, ℕ, ℤ, Bool, true, false, List, [], ◌∷◌}
 use Rattle.std.proofs.Common.{take, Option, Some, None, refl, sym, ap, ◌∙◌, subst}
 use Rattle.std.proofs.lemmas.Option.{same_Some}
 use Rattle.std.specs.Prelude.{is_some, option_and_then, pos, slice_get, unwrap_or}
@@ -33,7 +33,6 @@ use Rattle.bl_ctree.specs.Store.{Frame, Store, number_or_zero, view_at}
 use Rattle.bl_ctree_laws.specs.Pending.{deed}
 use Rattle.bl_ctree_laws_traces.proofs.OnBounded.Callees.{typed_at}
 use Rattle.bl_ctree_laws_confluence.specs.Deeds.Origins.{InstancesHaveCallers}
-use Rattle.bl_ctree_laws_confluence.proofs.OnDeeds.Activities.{AllOf}
 use Rattle.bl_ctree_laws_typing.specs.Fits.{result_fits}
 use Rattle.bl_ctree_laws_typing.proofs.OnViews.Along.{along, along_case, along_leads, Leads as LeadsOn}
 use Rattle.bl_ctree_laws_typing.proofs.OnViews.Paths.{path_typed}
@@ -60,24 +59,14 @@ use Rattle.bl_emit_spec_laws_nodes.specs.Points.Laws.{Remembering}
 use Rattle.bl_emit_spec_laws_nodes.specs.Points.Nodes.{ViewsFit}
 use Rattle.bl_emit_spec_laws_nodes.proofs.OnPoints.Besides.{apart, beside, site_is}
 use Rattle.bl_emit_spec_laws_nodes.proofs.OnPoints.Sets.{Ends, set_after, set_ends}
-use Rattle.bl_emit_spec_laws_simulation.proofs.OnRuns.Plain.{assignable_open, plain_path, static_root}
-use Rattle.bl_emit_spec_laws_simulation.proofs.OnRuns.Running.{unit_there}
+use Rattle.bl_emit_spec_laws_simulation.proofs.OnRuns.Plain.{plain_path, static_root}
 use Rattle.bl_emit_spec_laws_simulation.proofs.OnRuns.Statements.{given_value}
 use Rattle.bl_emit_spec_laws_simulation.proofs.OnRuns.Written.{written_keeps, written_stands}
+use Rattle.bl_ctree_laws_confluence.proofs.OnDeeds.Activities.{all_at, taken}
+use Rattle.bl_emit_spec_laws.proofs.OnActivities.Nested.{unit_there}
+use Rattle.bl_emit_acts_laws_simulation.proofs.Acts.{assignable_open}
 
 -- ---- what typing tells of a `run`
-
-taken : (units : List UnitDef) (n k : ℕ) (unit : UnitDef) → slice_get (take n units) k ≡ Some unit → slice_get units k ≡ Some unit
-taken [] zero k unit e = e
-taken [] (suc n) k unit e = e
-taken (u ∷ units) zero k unit e = absurd (cc)
-taken (u ∷ units) (suc n) zero unit e = e
-taken (u ∷ units) (suc n) (suc k) unit e = taken units n k unit e
-
-all_at : {A : Type 0} (P : A → Type 0) (xs : List A) (k : ℕ) (x : A) → AllOf P xs → slice_get xs k ≡ Some x → P x
-all_at P [] k x all is = absurd (cc)
-all_at P (y ∷ xs) zero x all is = subst P (same_Some y x is) all.0
-all_at P (y ∷ xs) (suc k) x all is = all_at P xs k x all.1 is
 
 module _ (callers : InstancesHaveCallers) (structs : List StructDef) (units : List UnitDef) (entry : ℕ) (keeps : IsWellTyped structs units entry)
     (activities : Activities) (i : ℕ) (unit : UnitDef) (is : unit_at (setting_of structs units entry) i ≡ Some unit)

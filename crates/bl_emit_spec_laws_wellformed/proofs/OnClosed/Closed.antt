@@ -23,7 +23,7 @@ use Rattle.bl_emit_spec_laws_wellformed.specs.Closed.{NeededClosed}
 
 -- ---- tests that are set
 
-set_length : (positions : List ℕ) (base : ℕ) (needed : List Bool) → length (set_from positions base needed) ≡ length needed
+pub set_length : (positions : List ℕ) (base : ℕ) (needed : List Bool) → length (set_from positions base needed) ≡ length needed
 set_length positions base [] = refl
 set_length positions base (test ∷ rest) = ap suc (set_length positions (suc base) rest)
 
@@ -45,7 +45,7 @@ set_true positions base (test ∷ rest) (suc j) less among =
     set_true positions (suc base) rest j (omega (arith, less)) (subst (λ k. list_any (nat_eq k) positions ≡ true) same among)
 
 -- a test that is set was set before, or stands at one of the positions
-set_back : (positions : List ℕ) (base : ℕ) (needed : List Bool) (j : ℕ) → slice_get (set_from positions base needed) j ≡ Some true →
+pub set_back : (positions : List ℕ) (base : ℕ) (needed : List Bool) (j : ℕ) → slice_get (set_from positions base needed) j ≡ Some true →
     (slice_get needed j ≡ Some true) ⊎ (list_any (nat_eq (base + j)) positions ≡ true)
 set_back positions base [] j h = absurd (cc)
 set_back positions base (true ∷ rest) zero h = inl refl
@@ -198,7 +198,7 @@ uses_less units earlier k j unit there among =
     (λ h. among_all (λ x. x < k) (calls_of unit) j (earlier k unit there).calls h)
     (λ h. among_all (λ x. x < k) (activities_run unit) j (earlier k unit there).runs h)
 
-entry_there : (o : Option UnitDef) → is_entry o ≡ true → (unit : UnitDef) × (o ≡ Some unit)
+pub entry_there : (o : Option UnitDef) → is_entry o ≡ true → (unit : UnitDef) × (o ≡ Some unit)
 entry_there None h = absurd (cc)
 entry_there (Some unit) h = (unit, refl)
 

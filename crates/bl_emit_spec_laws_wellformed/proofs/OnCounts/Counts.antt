@@ -1,6 +1,6 @@
 -- How many nodes and resting places a body has.
 use Rattle.std.proofs.Common.{◌≡◌, ℕ, suc, ◌+◌, ◌-◌, ◌*◌, ◌≤◌, Bool, true}
-use Rattle.std.proofs.Common.{false, ◌&&◌, List, [], ◌∷◌, ◌++◌, map, length}
+use Rattle.std.proofs.Common.{◌&&◌, List, [], ◌∷◌, ◌++◌, map, length}
 use Rattle.std.proofs.Common.{Option, refl, sym, ◌∙◌, subst, arith, length-append}
 use Rattle.std.proofs.lemmas.List.Elements.{All-head, All-tail}
 use Rattle.bl_tree.proofs.Basics.{and_first, and_second}
@@ -25,6 +25,7 @@ use Rattle.bl_graph_nodes.specs.Plain.{Label, Plain, Position, Repeat, Run, Then
 use Rattle.bl_graph_nodes.specs.Plain.{While, arm_plain, block_at, block_from, bodies_from, branch_plain, else_at, if_with}
 use Rattle.bl_graph_nodes.specs.Plain.{inside, kind_plain, label_at, passed_one, place_of_test, plain_body, plain_stmt, stmt_plain}
 use Rattle.bl_machine.specs.Layout.{places_in, places_in_each, resting_places}
+use Rattle.bl_ctree_laws_traces.proofs.OnBounded.Statements.{so_long}
 
 -- for this many statements there are so few nodes and resting places
 pub record Few (n nodes places : ℕ) : Type 0 where
@@ -56,17 +57,13 @@ append_few : (n m p q : ℕ) (xs ys : List Node) → Few n (length xs) p → Few
 append_few n m p q xs ys one two =
     subst (λ k. Few (n + m) k (p + q)) (sym (length-append xs ys)) (both_few n m (length xs) (length ys) p q one two)
 
-where_length : (b : Bool) (n : Node) → length (where_so b n) ≤ 1
-where_length true n = omega arith
-where_length false n = omega arith
-
 -- nodes of a statement's own around those of its blocks
 wide_few : (n m nodes places : ℕ) (b : Bool) (last : Node) → m ≤ 2 + nodes → Few n nodes places →
     Few (1 + n) (suc (length (where_so b last) + m)) places
 wide_few n m nodes places b last few rest =
     let low = rest.low in
     let rests = rest.rests in
-    let one = where_length b last in record { low = omega (arith, few, low, one); rests = omega (arith, rests) }
+    let one = so_long b last in record { low = omega (arith, few, low, one); rests = omega (arith, rests) }
 
 as_many : (n m : ℕ) (s p : Plain) → n ≡ m → s ≡ p → Small m p → Small n s
 as_many n m s p same is few = subst (λ k. Small k s) (sym same) (subst (Small m) (sym is) few)

@@ -35,12 +35,13 @@ use Rattle.bl_emit_spec.specs.Names.{NumberedWord, callee_name, ended_name, flag
 use Rattle.bl_emit_spec_laws_wellformed.specs.Names.{FrameDiffers, LocalsDiffer, MemoryDiffers, NumbersDiffer}
 use Rattle.bl_emit_spec_laws_wellformed.specs.Names.{are_numbers, flag_number, mark_number, mark_numbers}
 use Rattle.bl_emit_spec_laws_wellformed.proofs.OnNames.Names.{word_family, word_family-begins, word_family-distinct, word_letter-new}
-use Rattle.bl_emit_spec_laws_wellformed.proofs.OnNames.Names.{among-both, begins-append}
+use Rattle.bl_emit_spec_laws_wellformed.proofs.OnNames.Names.{begins-append}
 use Rattle.bl_emit_spec_laws_wellformed.proofs.OnNames.Names.{family, family-begins, family-distinct, named_family, named_family-begins}
 use Rattle.bl_emit_spec_laws_wellformed.proofs.OnNames.Names.{named_family-distinct, named_letter-new}
 use Rattle.bl_emit_spec_laws_wellformed.proofs.OnNames.Names.{worded_family, worded_family-begins, worded_family-distinct, worded_letter-new}
 use Rattle.bl_emit_spec_laws_wellformed.proofs.OnNames.Names.{letter-new, not-among, one-distinct, some_begins}
 use Rattle.bl_emit_spec_laws_wellformed.proofs.OnNames.Numbers.{chosen, chosen-numbers, filtered-numbers, first-numbers, position-numbers, positions}
+use Rattle.bl_emit_functions_laws_wellformed.proofs.OnFormed.Head.{among_neither}
 
 abbrev local_names : List CLocal → List Text
 local_names locals = map (λ (l : CLocal). l.name) locals
@@ -197,7 +198,7 @@ module _ (a : Activity) where
 
   runs_letter : (b : ℕ) (runs : List RunAt) → are_numbers (run_numbers runs) ≡ true → is_among (b ∷ []) (names_of_runs runs) ≡ false
   runs_letter b runs all =
-      among-both (b ∷ []) (ended_names (some_ends a.earlier runs)) (word_family word 114 (with_result runs)) (ended_letter b (some_ends a.earlier runs))
+      among_neither (b ∷ []) (ended_names (some_ends a.earlier runs)) (word_family word 114 (with_result runs)) (ended_letter b (some_ends a.earlier runs))
       (word_letter-new word b 114 (with_result runs) (those_numbers (λ run. is_some (result_at run)) runs all))
 
   -- all differ
@@ -272,10 +273,10 @@ module _ (a : Activity) where
     -- a letter alone is no name of a local
     letter_none : (b : ℕ) → is_among (b ∷ []) all_locals ≡ false
     letter_none b =
-        among-both (b ∷ []) (family 119 (counters_read a)) from_flags (letter-new b 119 (counters_read a) read_numbers)
-        (among-both (b ∷ []) (worded_family view.word 103 flags) from_marks (worded_letter-new view.word b 103 flags differ.flags)
-        (among-both (b ∷ []) (worded_family view.word 117 marks) from_copies (worded_letter-new view.word b 117 marks differ.marks)
-        (among-both (b ∷ []) (named_family a.unit.vars 112 (copied_in a)) (names_of_runs runs) (named_letter-new a.unit.vars b 112 (copied_in a) copies_numbers)
+        among_neither (b ∷ []) (family 119 (counters_read a)) from_flags (letter-new b 119 (counters_read a) read_numbers)
+        (among_neither (b ∷ []) (worded_family view.word 103 flags) from_marks (worded_letter-new view.word b 103 flags differ.flags)
+        (among_neither (b ∷ []) (worded_family view.word 117 marks) from_copies (worded_letter-new view.word b 117 marks differ.marks)
+        (among_neither (b ∷ []) (named_family a.unit.vars 112 (copied_in a)) (names_of_runs runs) (named_letter-new a.unit.vars b 112 (copied_in a) copies_numbers)
         (runs_letter b runs differ.runs))))
 
     locals_distinct : are_distinct all_locals ≡ true

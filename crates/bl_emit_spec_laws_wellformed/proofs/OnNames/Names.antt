@@ -18,6 +18,7 @@ use Rattle.bl_emit_acts.specs.Types.{numbered_name, source_name}
 use Rattle.bl_emit_acts_laws_simulation.proofs.NumberedNames.{names_differ, words_differ}
 use Rattle.bl_emit_spec.specs.Names.{NumberedWord, numbered_word, with_word}
 use Rattle.bl_emit_spec_laws_wellformed.specs.Names.{are_numbers}
+use Rattle.bl_emit_functions_laws_wellformed.proofs.OnFormed.Head.{among_neither}
 
 -- ---- letters
 
@@ -55,14 +56,8 @@ begins-append b xs ys one other = list_any-append (begins b) xs ys ∙ or_from (
 
 -- ---- families
 
-low : (k : ℕ) → nat_lt k (2 ^ 64) ≡ true → k < 2 ^ 64
+pub low : (k : ℕ) → nat_lt k (2 ^ 64) ≡ true → k < 2 ^ 64
 low k h = grind (arith, nat_tests)
-
-among-append : (x : Text) (xs ys : List Text) → is_among x xs ≡ false → is_among x ys ≡ false → is_among x (xs ++ ys) ≡ false
-among-append x xs ys one other = list_any-append (bytes_eq x) xs ys ∙ or_from (is_among x xs) (is_among x ys) one other
-
-pub among-both : (x : Text) (xs ys : List Text) → is_among x xs ≡ false → is_among x ys ≡ false → is_among x (xs ++ ys) ≡ false
-among-both = among-append
 
 -- a letter alone is no longer name
 letter_other : (b c : ℕ) (ds : List ℕ) → 0 < length ds → bytes_eq (b ∷ []) (c ∷ ds) ≡ false
@@ -115,7 +110,7 @@ module _ {X : Type 0} (text : X → Text) (number : X → ℕ)
       let rest : are_numbers (map number ks) ≡ true =
       and_second (not (list_any (nat_eq (number k)) (map number ks))) (are_numbers (map number ks)) more in
       and_from (not (is_among (b ∷ text k) (lettered b ks ++ others))) (are_distinct (lettered b ks ++ others))
-      (ap not (among-append (b ∷ text k) (lettered b ks) others (lettered-new b k ks small rest new)
+      (ap not (among_neither (b ∷ text k) (lettered b ks) others (lettered-new b k ks small rest new)
       (not-among b (b ∷ text k) others (own b) none)))
       (lettered-distinct b ks others rest none differ)
     where

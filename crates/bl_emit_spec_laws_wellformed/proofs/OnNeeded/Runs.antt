@@ -3,8 +3,6 @@ use Rattle.std.proofs.Common.{◌≡◌, ℕ, Bool, true, false, ◌&&◌, List,
 use Rattle.std.proofs.Common.{map, take, Option, Some, None, refl, sym, ap, ◌∙◌}
 use Rattle.std.proofs.lemmas.List.Elements.{All-head, All-tail}
 use Rattle.std.specs.Prelude.{slice_get}
-use Rattle.std.specs.List.{list_all}
-use Rattle.std.proofs.lemmas.Bool.{and_from}
 use Rattle.bl_tree.proofs.Basics.{and_first, and_second}
 use Rattle.bl_tree.specs.declared.place.Place.{Place}
 use Rattle.bl_tree.specs.declared.tree.Arm.{Arm, fold-Arm, fold_out-Arm, out-Arm}
@@ -24,6 +22,7 @@ use Rattle.bl_limits_measures.specs.Runs.{activities_run}
 use Rattle.bl_limits_measures.proofs.RunLemmas.{activities_are, activities_in as runs_in, activities_in_arm as runs_in_arm, arm_activities as arm_runs}
 use Rattle.bl_limits_measures.proofs.RunLemmas.{branch_activities as branch_runs, kind_activities as kind_runs, stmt_activities as stmt_layer_runs}
 use Rattle.bl_emit_acts_laws_wellformed.proofs.OnFormed.Units.{body_stands}
+use Rattle.bl_eval.proofs.UnitFits.{all_listed}
 
 module _ (site : TypingContext) (function : is_activity site.kind ≡ false) where
   abbrev S : Stmt → Type 0
@@ -96,12 +95,6 @@ module _ (site : TypingContext) (function : is_activity site.kind ≡ false) whe
 
   body_none : (body : List Stmt) → all_of (map (fits site) body) ≡ true → joined (map runs_in body) ≡ []
   body_none body = block_none body (λ k d within. induct S cases _)
-
-all_listed : (test : Stmt → Bool) (body : List Stmt) → list_all test body ≡ true → all_of (map test body) ≡ true
-all_listed test [] all = refl
-all_listed test (s ∷ body) all =
-    and_from (test s) (all_of (map test body)) (and_first (test s) (list_all test body) all)
-    (all_listed test body (and_second (test s) (list_all test body) all))
 
 -- a function of a typed program runs nothing
 pub runs_nothing : (structs : List StructDef) (units : List UnitDef) (entry : ℕ) → IsWellTyped structs units entry → (k : ℕ) (unit : UnitDef) →

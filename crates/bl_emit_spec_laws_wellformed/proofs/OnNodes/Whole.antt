@@ -1,18 +1,15 @@
 -- The laws of a whole program.
-use Rattle.std.proofs.Common.{◌≡◌, ℕ, ◌≤◌, Bool, true, ◌&&◌, List, [], ◌∷◌, map, take, length, refl, sym, subst, arith}
+use Rattle.std.proofs.Common.{◌≡◌, ℕ, ◌≤◌, Bool, true, ◌&&◌, List, [], ◌∷◌, map, take, length, sym, subst, arith}
 use Rattle.std.proofs.lemmas.Bool.Decides.{nat_tests}
 use Rattle.std.specs.List.{list_all}
 use Rattle.std.specs.Prelude.{nat_le}
-use Rattle.std.proofs.lemmas.Bool.{and_from}
 use Rattle.bl_tree.proofs.Basics.{and_first, and_second}
-use Rattle.bl_tree.specs.declared.tree.Stmt.{Stmt}
 use Rattle.bl_tree.specs.declared.tree.StructDef.{StructDef}
 use Rattle.bl_tree.specs.declared.tree.Unit.{Unit as UnitDef}
 use Rattle.bl_tree.specs.declared.tree.Var.{Var}
 use Rattle.bl_tree.specs.Apart.{is_apart}
 use Rattle.bl_tree.specs.Depths.{block, depth_of, is_shallow, of_all}
 use Rattle.bl_tree.specs.Program.{names_of, parameters_of, roles_stand}
-use Rattle.bl_tree.specs.Reduce.{all_of}
 use Rattle.bl_tree.specs.Returns.{unit_returns}
 use Rattle.bl_tree.specs.Types.{type_stands}
 use Rattle.bl_tree.specs.Typing.{TypingContext, fits, site_of}
@@ -25,12 +22,7 @@ use Rattle.bl_emit_spec.specs.Activities.{activity_view, body_of, callees_in, ru
 use Rattle.bl_emit_spec_laws_wellformed.specs.Nodes.{NodesStand, RulesFit, nodes_fit}
 use Rattle.bl_emit_spec_laws_wellformed.proofs.OnNodes.Nodes.{body-fine}
 use Rattle.bl_emit_spec_laws_wellformed.proofs.OnNodes.Rules.{both-fit, of_block}
-
-all_listed : (test : Stmt → Bool) (body : List Stmt) → list_all test body ≡ true → all_of (map test body) ≡ true
-all_listed test [] all = refl
-all_listed test (s ∷ body) all =
-    and_from (test s) (all_of (map test body)) (and_first (test s) (list_all test body) all)
-    (all_listed test body (and_second (test s) (list_all test body) all))
+use Rattle.bl_eval.proofs.UnitFits.{all_listed}
 
 pub stand : (structs : List StructDef) (units : List UnitDef) (entry : ℕ) → NodesStand structs units entry
 stand structs units entry k unit keeps there =

@@ -1,6 +1,6 @@
 -- No two nodes of a body have one number.
 use Rattle.std.proofs.Common.{◌≡◌, ℕ, zero, suc, ◌+◌, ◌<◌, ◌≤◌, ◌^◌, Bool, true, false, not, ◌&&◌, ◌||◌}
-use Rattle.std.proofs.Common.{List, [], ◌∷◌, map, length, Some, refl, sym, ap, ◌∙◌, subst, arith, inl, inr}
+use Rattle.std.proofs.Common.{List, [], ◌∷◌, map, length, Some, refl, sym, ap, ◌∙◌, arith}
 use Rattle.std.proofs.lemmas.Bool.{eqb-true}
 use Rattle.std.proofs.lemmas.Bool.Decides.{nat_tests}
 use Rattle.std.proofs.lemmas.List.{length_push}
@@ -17,9 +17,10 @@ use Rattle.bl_graph_nodes.specs.Nodes.{ActAt, CheckAt, DepthEndAt, DepthJoinAt, 
 use Rattle.bl_graph_nodes.specs.Nodes.{StartAt, SurfaceEndAt, SurfaceJoinAt, TestAt, label_of, nodes_in}
 use Rattle.bl_graph_nodes.specs.Plain.{Label, Position, plain_body}
 use Rattle.bl_machine_pass.specs.Numbered.{position_where, same_label, same_node, sort}
-use Rattle.bl_ctree_laws_traces.proofs.OnReady.Keys.{Differ, Has, Same, bodies_differ_so, sort_of}
+use Rattle.bl_ctree_laws_traces.proofs.OnReady.Keys.{Differ, Same, bodies_differ_so, sort_of}
 use Rattle.bl_emit_spec_laws_wellformed.specs.Names.{are_numbers}
 use Rattle.bl_emit_spec_laws_wellformed.specs.Numbers.{NodesNumbered}
+use Rattle.bl_ctree_laws_traces.proofs.OnReady.Keys.{has_at, turned}
 
 -- ---- tests
 
@@ -117,14 +118,6 @@ same_of n m h =
       sort = same_sort n
           ∙ eqb-true (sort n) (sort m) (and_second (same_label (label_of n) (label_of m)) (nat_eq (sort n) (sort m)) h) ∙ sym (same_sort m);
     }
-
-turned : (n m : Node) → Same n m → Same m n
-turned n m same = record { label = sym same.label; sort = sym same.sort }
-
-has_at : (xs : List Node) (i : ℕ) (x n : Node) → slice_get xs i ≡ Some n → Same x n → Has xs x
-has_at [] i x n is same = absurd (cc)
-has_at (y ∷ xs) zero x n is same = inl (subst (Same x) (sym (same_Some y n is)) same)
-has_at (y ∷ xs) (suc i) x n is same = inr (has_at xs i x n is same)
 
 index_at : (xs : List Node) (i : ℕ) (n : Node) → Differ xs → slice_get xs i ≡ Some n → position_where (same_node n) xs ≡ i
 index_at [] i n differ there = absurd (cc)

@@ -21,6 +21,7 @@ use Rattle.bl_machine.specs.Slots.{counters_at, numbered_after, numbered_slots, 
 use Rattle.bl_machine_pass.specs.Numbered.{sizes_for, sizes_of}
 use Rattle.bl_emit_spec.specs.Blocks.{counter_type, type_for}
 use Rattle.bl_emit_spec_laws_wellformed.specs.Spelled.{slot_fits}
+use Rattle.bl_machine_pass_laws.proofs.OnSlots.Numbering.{first_is}
 
 -- ---- values count up
 
@@ -38,9 +39,6 @@ times_first counter other rest = sum_by-cons (hit counter) other rest
 times_last : (counter other : ℕ) (before : List ℕ) →
     times counter (before ++ other ∷ []) ≡ times counter before + hit counter other
 times_last counter other before = sum_by_push (hit counter) before other
-
-first_is : (x y : Slot) → Some x ≡ Some y → x ≡ y
-first_is x y is = cc
 
 -- no value is greater than the number of those that have its counter
 values_low : (before counters : List ℕ) (i : ℕ) (x : Slot) → slice_get (numbered_after before counters) i ≡ Some x →

@@ -4,23 +4,14 @@ use Rattle.std.proofs.Common.{length, Some, refl, sym, ap, ◌∙◌, subst, ari
 use Rattle.std.proofs.lemmas.Bool.Decides.{nat_tests}
 use Rattle.std.proofs.lemmas.List.Folds.{list_any-append}
 use Rattle.std.proofs.lemmas.Option.{slice_get-get_or}
-use Rattle.std.proofs.lemmas.Slice.Eq.{bytes_eq-Decides}
 use Rattle.std.specs.List.{list_all, list_any}
-use Rattle.std.specs.Prelude.{bytes_eq, get_or, if◌then◌else◌, nat_eq, slice_get, unwrap_or}
+use Rattle.std.specs.Prelude.{get_or, if◌then◌else◌, slice_get, unwrap_or}
 use Rattle.std.proofs.lemmas.Bool.{and_from, or_left, or_right}
-use Rattle.bl_tree.proofs.Basics.{number_itself}
 use Rattle.bl_machine.specs.declared.slots.Slot.{Slot}
-use Rattle.bl_graph_nodes.specs.Plain.{Block, Label}
+use Rattle.bl_graph_nodes.specs.Plain.{Block}
 use Rattle.bl_machine_pass.specs.SlotLayout.{EndOf, RestOf, Spot, slot_at, spots_in}
-use Rattle.bl_machine_pass.specs.Numbered.{no_slot, position_where, same_label, same_spot, slot_for, slots_of}
-
-label_itself : (l : Label) → same_label l l ≡ true
-label_itself l =
-    and_from (bytes_eq l.position l.position) (nat_eq l.passed l.passed) ((bytes_eq-Decides l.position l.position).1 refl) (number_itself l.passed)
-
-spot_itself : (p : Spot) → same_spot p p ≡ true
-spot_itself (RestOf l) = label_itself l
-spot_itself (EndOf l k) = and_from (same_label l l) (nat_eq k k) (label_itself l) (number_itself k)
+use Rattle.bl_machine_pass.specs.Numbered.{no_slot, position_where, same_spot, slot_for, slots_of}
+use Rattle.bl_machine_pass_laws.proofs.OnSlots.Finding.{spot_itself}
 
 -- ---- a place is found
 

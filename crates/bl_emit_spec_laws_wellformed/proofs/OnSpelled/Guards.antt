@@ -13,7 +13,7 @@ use Rattle.bl_tree.specs.declared.c.CStmt.{CStmt}
 use Rattle.bl_tree.specs.declared.scalar.Op.{Op}
 use Rattle.bl_tree.specs.declared.scalar.Op.TheVariants.{And, Eq, Ge, Le, Ne, Or}
 use Rattle.bl_tree.specs.declared.scalar.Scalar.{Scalar as ScalarType}
-use Rattle.bl_tree.specs.declared.scalar.Scalar.TheVariants.{Bool as OfBool, Nat}
+use Rattle.bl_tree.specs.declared.scalar.Scalar.TheVariants.{Nat}
 use Rattle.bl_tree.specs.declared.scalar.Width.TheVariants.{W8, W16, W32}
 use Rattle.bl_tree.specs.Reduce.{all_of}
 use Rattle.bl_tree.specs.Scalar.{in_range}
@@ -44,6 +44,8 @@ use Rattle.bl_emit_spec.specs.Names.{NumberedWord, numbered_word, counter_name, 
 use Rattle.bl_emit_spec.specs.Names.{ended_place, flag_name, flag_place, given_name, given_place}
 use Rattle.bl_emit_spec.specs.Names.{mark_name, mark_place, over_place, rested_name, rested_place, result_place}
 use Rattle.bl_emit_spec_laws_wellformed.specs.Spelled.{change_fits, condition_fits, slot_fits, slots_fit}
+use Rattle.bl_emit_spec_laws_wellformed.proofs.OnNames.Names.{low}
+use Rattle.bl_emit_functions_laws_wellformed.proofs.OnSpelled.Statements.{truth-fits}
 
 -- ---- names
 
@@ -62,9 +64,6 @@ ended-word = refl
 pub result-letter : is_name (codes "r") ≡ true
 unfolding is_name is_among
 result-letter = refl
-
-low : (k : ℕ) → nat_lt k (2 ^ 64) ≡ true → k < 2 ^ 64
-low k h = grind (arith, nat_tests)
 
 -- a statement that is left out fits too
 pub where-fits : (d : ℕ) (test : Bool) (s : CStmt) → stmt_fits d s ≡ true → stmts_fit d (stmt_where test s) ≡ true
@@ -110,12 +109,8 @@ result-fits d some = place-fits d true (codes "r") [] some result-letter refl
 
 -- ---- values
 
-pub truth-fits : (d : ℕ) (b : Bool) → 2 ≤ d → expr_fits d (c_truth b) ≡ true
-truth-fits d true some = literal-fits d nowhere OfBool (pos 1) some refl
-truth-fits d false some = literal-fits d nowhere OfBool (pos 0) some refl
-
 -- what holds of the three types that a counter may have
-by_type : (P : ScalarType → Type 0) → P (Nat W8) → P (Nat W16) → P (Nat W32) → (n : ℕ) → P (type_for n)
+pub by_type : (P : ScalarType → Type 0) → P (Nat W8) → P (Nat W16) → P (Nat W32) → (n : ℕ) → P (type_for n)
 by_type P one two three n = by (nat_le n 255) (nat_le n 65535)
   where
     by : (a b : Bool) → P (if a then Nat W8 else if b then Nat W16 else Nat W32)

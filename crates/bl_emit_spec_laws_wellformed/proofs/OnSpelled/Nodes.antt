@@ -58,7 +58,8 @@ use Rattle.bl_emit_spec.specs.Names.{NumberedWord, callee_frame, callee_memory, 
 use Rattle.bl_emit_spec.specs.Names.{with_word}
 use Rattle.bl_emit_spec_laws_wellformed.specs.Spelled.{all_fit, change_fits, condition_fits, node_fits, rule_fits, run_stands}
 use Rattle.bl_emit_spec_laws_wellformed.proofs.OnSpelled.Guards.{Spells, changes-fit, ended-fits, flag-fits, frame-letter}
-use Rattle.bl_emit_spec_laws_wellformed.proofs.OnSpelled.Guards.{given-fits, guard-fits, result-fits, spelled-name, truth-fits, where-fits}
+use Rattle.bl_emit_spec_laws_wellformed.proofs.OnSpelled.Guards.{given-fits, guard-fits, result-fits, spelled-name, where-fits}
+use Rattle.bl_emit_functions_laws_wellformed.proofs.OnSpelled.Statements.{truth-fits}
 
 -- a flag whose number has its word fits inside the test of a block
 abbrev pub flag_fits : (ℕ → Text) → Option ℕ → Bool

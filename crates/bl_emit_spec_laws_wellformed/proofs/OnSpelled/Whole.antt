@@ -5,7 +5,7 @@ use Rattle.std.proofs.lemmas.Bool.Decides.{nat_tests}
 use Rattle.std.proofs.lemmas.List.Folds.{list_all-append}
 use Rattle.std.proofs.lemmas.Option.{same_Some}
 use Rattle.std.specs.List.{list_all}
-use Rattle.std.specs.Prelude.{filter, nat_lt, option_and_then, slice_get, option_to_list, if◌then◌else◌}
+use Rattle.std.specs.Prelude.{filter, nat_lt, option_and_then, slice_get, if◌then◌else◌}
 use Rattle.std.proofs.lemmas.Bool.{and_from}
 use Rattle.bl_tree.proofs.Basics.{all_append, and_first, and_second, less_test}
 use Rattle.bl_tree.specs.declared.text.Text.{Text}
@@ -30,7 +30,6 @@ use Rattle.bl_tree.specs.Reduce.{joined}
 use Rattle.bl_tree.specs.Types.{type_stands}
 use Rattle.bl_tree.specs.Typing.{TypingContext, fits, site_of, type_of, type_of_path}
 use Rattle.bl_tree.specs.Words as words
-use Rattle.bl_eval.proofs.PassLemmas.{all_at}
 use Rattle.bl_ctext.specs.Names.{is_name}
 use Rattle.bl_ctext.specs.Spellable.{has_any, is_c_scalar, spells_local, spells_member, spells_param, spells_struct, spells_type}
 use Rattle.bl_ctext.specs.inner.Fits.{expr_fits, func_fits, place_fits, stmt_fits, stmts_fit}
@@ -73,11 +72,10 @@ use Rattle.bl_emit_spec_laws_wellformed.proofs.OnSpelled.Guards.{flag-fits, fram
 use Rattle.bl_emit_spec_laws_wellformed.proofs.OnSpelled.Guards.{type-spelled}
 use Rattle.bl_emit_spec_laws_wellformed.proofs.OnSpelled.Nodes.{all_merged-fit, callee-named, frame-named, run-callee, turn_fits, turns-fit}
 use Rattle.bl_emit_spec_laws_wellformed.proofs.OnSpelled.Words.{number-word}
+use Rattle.bl_emit_spec_laws_wellformed.proofs.OnNames.Names.{low}
+use Rattle.bl_emit_spec_laws_wellformed.proofs.OnNumbers.Firsts.{picked-all}
 
 -- ---- lists
-
-low : (k : ℕ) → nat_lt k (2 ^ 64) ≡ true → k < 2 ^ 64
-low k h = grind (arith, nat_tests)
 
 all_below : (p : ℕ → Bool) (n : ℕ) → ((k : ℕ) → k < n → p k ≡ true) → list_all p (up_to n) ≡ true
 all_below p zero each = refl
@@ -115,15 +113,6 @@ joined_where p f ok each (x ∷ xs) all =
     all_append p (f x) (joined (map f xs)) (each x (and_first (ok x) (list_all ok xs) all))
     (joined_where p f ok each xs (and_second (ok x) (list_all ok xs) all))
 
-all_picked : {A : Type 0} (p : A → Bool) (all : List A) (ks : List ℕ) → list_all p all ≡ true → list_all p (picked all ks) ≡ true
-all_picked p all [] h = refl
-all_picked {A = A} p all (k ∷ ks) h =
-    all_append p (option_to_list (slice_get all k)) (picked all ks) (by (slice_get all k) refl) (all_picked p all ks h)
-  where
-    by : (o : Option A) → slice_get all k ≡ o → list_all p (option_to_list o) ≡ true
-    by None is = refl
-    by (Some x) is = and_from (p x) true (all_at p all k x h is) refl
-
 blocks-fit : (word : ℕ → Text) (turns : List NodeCode) (blocks : List (List ℕ)) → list_all (turn_fits word) turns ≡ true →
     stmts_fit 405 (blocks_code word turns blocks) ≡ true
 blocks-fit word turns blocks all = all_merged-fit word None (map (picked turns) blocks) refl (each blocks)
@@ -132,7 +121,7 @@ blocks-fit word turns blocks all = all_merged-fit word None (map (picked turns) 
     each [] = refl
     each (block ∷ blocks) =
         and_from (list_all (turn_fits word) (picked turns block)) (list_all (list_all (turn_fits word)) (map (picked turns) blocks))
-        (all_picked (turn_fits word) turns block all) (each blocks)
+        (picked-all (turn_fits word) turns block all) (each blocks)
 
 -- ---- an activity
 

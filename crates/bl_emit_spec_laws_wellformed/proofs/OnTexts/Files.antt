@@ -42,14 +42,14 @@ any_behind : {A : Type 0} (xs ys : List A) → has_any ys ≡ true → has_any (
 any_behind [] ys h = h
 any_behind (x ∷ xs) ys h = refl
 
-taken_all : {A : Type 0} (test : A → Bool) (n : ℕ) (xs : List A) → list_all test xs ≡ true → list_all test (take n xs) ≡ true
+pub taken_all : {A : Type 0} (test : A → Bool) (n : ℕ) (xs : List A) → list_all test xs ≡ true → list_all test (take n xs) ≡ true
 taken_all test zero xs all = refl
 taken_all test (suc n) [] all = refl
 taken_all test (suc n) (x ∷ xs) all =
     and_from (test x) (list_all test (take n xs)) (and_first (test x) (list_all test xs) all)
     (taken_all test n xs (and_second (test x) (list_all test xs) all))
 
-dropped_all : {A : Type 0} (test : A → Bool) (n : ℕ) (xs : List A) → list_all test xs ≡ true → list_all test (drop n xs) ≡ true
+pub dropped_all : {A : Type 0} (test : A → Bool) (n : ℕ) (xs : List A) → list_all test xs ≡ true → list_all test (drop n xs) ≡ true
 dropped_all test zero xs all = all
 dropped_all test (suc n) [] all = refl
 dropped_all test (suc n) (x ∷ xs) all = dropped_all test n xs (and_second (test x) (list_all test xs) all)

@@ -28,7 +28,7 @@ use Rattle.bl_tree.specs.declared.tree.Var.{Var}
 use Rattle.bl_tree.specs.Program.{is_output, parameters_of}
 use Rattle.bl_tree.specs.Reduce.{all_of}
 use Rattle.bl_tree.specs.Types.{same_type, scalar, scalar_in}
-use Rattle.bl_tree.specs.Typing.{TypingContext, are_same, arguments_fit, expr_ignored, inputs_of, is_activity, is_assignable, is_outlet, is_plain, kind_ignored}
+use Rattle.bl_tree.specs.Typing.{TypingContext, arguments_fit, expr_ignored, inputs_of, is_activity, is_assignable, is_outlet, is_plain, kind_ignored}
 use Rattle.bl_tree.specs.Typing.{outputs_of, part_is_field, path_is_plain, run_fits, target_fits, type_of, type_of_path, types_match}
 use Rattle.bl_eval.proofs.FitLemmas.{same_type_is}
 use Rattle.bl_eval.proofs.OperatorFits.{scalar_alone}
@@ -56,6 +56,7 @@ use Rattle.bl_emit_spec_laws_wellformed_bodies.specs.Bodies.{memory_given, resul
 use Rattle.bl_emit_spec_laws_wellformed_bodies.proofs.OnBodies.Guards.{put-is}
 use Rattle.bl_emit_spec_laws_wellformed_bodies.proofs.OnBodies.Variables.{Here, context, copied, declared_here, earlier_here, ended-is, frame_at-is, given-is}
 use Rattle.bl_emit_spec_laws_wellformed_bodies.proofs.OnBodies.Variables.{memory_at-is, site}
+use Rattle.bl_eval.proofs.ActFits.{same_found}
 
 -- ---- paths without an index name nothing under a `prev`
 
@@ -84,12 +85,6 @@ module _ (copied : ℕ → Bool) where
 
   pub outlet_named : (path : Path) → is_plain path ≡ true → copied_in_path copied path ≡ true
   outlet_named path = subst (λ path. is_plain path ≡ true → copied_in_path copied path ≡ true) (roll-out-Path path) (layer_named (out-Path path))
-
-pub same_types : (a b : Option Ty) → are_same a b ≡ true → (ty : Ty) × (a ≡ Some ty) × (b ≡ Some ty)
-same_types None None h = absurd (cc)
-same_types None (Some b) h = absurd (cc)
-same_types (Some a) None h = absurd (cc)
-same_types (Some a) (Some b) h = (a, refl, ap Some (sym (same_type_is a b h)))
 
 -- ---- arguments that suit parameters
 
@@ -293,7 +288,7 @@ module _ (units : List UnitDef) (entry k : ℕ) (a : Activity) (table : Table (T
             n (Some path))
         by None is fits = absurd (cc)
         by (Some s) is fits =
-            let same = same_types (Some (scalar s)) (type_of_path my_site path) (and_second (is_outlet my_site path) _ fits) in
+            let same = same_found (Some (scalar s)) (type_of_path my_site path) (and_second (is_outlet my_site path) _ fits) in
             let typed : type_of_path my_site path ≡ Some (scalar s) = same.2 ∙ sym same.1 in
             let at = path_is path (scalar s) (and_first (is_plain path) (is_assignable my_site path) (and_first (is_outlet my_site path) _ fits)) typed in
             let ty : c_type a.structs (scalar s) ≡ OfScalar (c_scalar s) = c_scalar_type a.structs (scalar s) s (scalar_alone s) in

@@ -1,6 +1,6 @@
 -- Nothing fails in what a block asks, nor in what changes there.
 use Rattle.std.proofs.Common.{◌≡◌, ℕ, zero, suc, pos, Bool, true, false, ◌&&◌, List, [], ◌∷◌, map, Some, refl, sym, subst}
-use Rattle.std.specs.Prelude.{nat_eq, nat_le, slice_get, unwrap_or, ⊤, if◌then◌else◌}
+use Rattle.std.specs.Prelude.{nat_eq, slice_get, unwrap_or, ⊤, if◌then◌else◌}
 use Rattle.std.specs.List.{list_all}
 use Rattle.bl_tree.proofs.Basics.{and_first, and_second}
 use Rattle.bl_tree.specs.declared.c.CExpr.{CExpr}
@@ -10,9 +10,7 @@ use Rattle.bl_tree.specs.declared.c.CType.{CType}
 use Rattle.bl_tree.specs.declared.c.CType.TheVariants.{Scalar as OfScalar}
 use Rattle.bl_tree.specs.declared.scalar.Op.{Op}
 use Rattle.bl_tree.specs.declared.scalar.Op.TheVariants.{And, Eq, Ge, Le, Ne, Or}
-use Rattle.bl_tree.specs.declared.scalar.Scalar.{Scalar as ScalarType}
-use Rattle.bl_tree.specs.declared.scalar.Scalar.TheVariants.{Bool as OfBool, Nat}
-use Rattle.bl_tree.specs.declared.scalar.Width.TheVariants.{W8, W16, W32}
+use Rattle.bl_tree.specs.declared.scalar.Scalar.TheVariants.{Bool as OfBool}
 use Rattle.bl_tree.specs.declared.tree.Unit.{Unit as UnitDef}
 use Rattle.bl_ctext_semantics.specs.Faults.{Context, Signature, bool_type, takes}
 use Rattle.bl_ctext_semantics.specs.Tables.{Table}
@@ -34,20 +32,12 @@ use Rattle.bl_emit_functions_laws_wellformed.proofs.OnFormed.Shapes.{if-is}
 use Rattle.bl_emit_spec.specs.Activities.{Activity, activity_view, entry_place}
 use Rattle.bl_emit_spec.specs.Blocks.{ActivityView, all_tests, at_slot, change_code, changes_code, counter_type, counter_value, ends_test, flagged_now}
 use Rattle.bl_emit_spec.specs.Blocks.{forgotten, freed, guard_of, in_pairs, in_tree, is_greatest, last_value, node_word, rested_at, rested_by, rested_from}
-use Rattle.bl_emit_spec.specs.Blocks.{rested_in, rested_since, rested_to, rested_within, some_test, type_for}
+use Rattle.bl_emit_spec.specs.Blocks.{rested_in, rested_since, rested_to, rested_within, some_test}
 use Rattle.bl_emit_spec.specs.Names.{counter_place, flag_place, mark_place, over_place, rested_place, with_word}
 use Rattle.bl_emit_spec_laws.specs.Registers.Laws.{asks_its_own, changes_its_own}
 use Rattle.bl_emit_spec_laws.specs.Calls.Built.{registered}
 use Rattle.bl_emit_spec_laws_wellformed_bodies.proofs.OnBodies.Variables.{Here, context, counter-is, flag-is, mark-is, over-is, rested-is}
-
--- what holds of the three types that a counter may have
-by_type : (P : ScalarType → Type 0) → P (Nat W8) → P (Nat W16) → P (Nat W32) → (n : ℕ) → P (type_for n)
-by_type P one two three n = by (nat_le n 255) (nat_le n 65535)
-  where
-    by : (a b : Bool) → P (if a then Nat W8 else if b then Nat W16 else Nat W32)
-    by true b = one
-    by false true = two
-    by false false = three
+use Rattle.bl_emit_spec_laws_wellformed.proofs.OnSpelled.Guards.{by_type}
 
 module _ (here : Context) where
   truth-is : (b : Bool) → ExprIs here bool_type (c_truth b)

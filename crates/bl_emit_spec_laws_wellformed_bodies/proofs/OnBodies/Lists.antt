@@ -1,18 +1,18 @@
 -- What stands in lists, and what is found by names that differ.
-use Rattle.std.proofs.Common.{◌≡◌, ℕ, zero, suc, ◌<◌, ◌≤◌, Bool, true, false, not, List, [], ◌∷◌, ◌++◌, map, Some, refl, sym, ap}
+use Rattle.std.proofs.Common.{◌≡◌, ℕ, zero, suc, ◌<◌, ◌≤◌, Bool, true, false, not, List, [], ◌∷◌, ◌++◌, map, Some, refl, sym}
 use Rattle.std.proofs.Common.{◌∙◌, subst, arith, ⊎_elim}
 use Rattle.std.proofs.lemmas.Bool.{cases_lt}
 use Rattle.std.proofs.lemmas.List.Elements.{Contains-append_left, Contains-append_right, Contains-push}
-use Rattle.std.proofs.lemmas.Slice.Eq.{bytes_eq-Decides}
-use Rattle.std.specs.Prelude.{Contains, bytes_eq, filter, if◌then◌else◌}
+use Rattle.std.specs.Prelude.{Contains, bytes_eq, if◌then◌else◌}
 use Rattle.std.proofs.lemmas.Bool.{or_left, or_right}
-use Rattle.bl_tree.proofs.Basics.{and_first, and_second, contains_first, contains_further}
+use Rattle.bl_tree.proofs.Basics.{and_first, and_second}
 use Rattle.bl_tree.specs.declared.text.Text.{Text}
 use Rattle.bl_tree.specs.Reduce.{joined}
 use Rattle.bl_tree.specs.Words.{are_distinct, is_among}
 use Rattle.bl_ctext_semantics.specs.Tables.{found}
 use Rattle.bl_machine.specs.Blocks.{up_to}
 use Rattle.bl_emit_functions_laws_wellformed.proofs.OnFormed.Lookups.{found_here, found_next}
+use Rattle.bl_emit_functions_laws_wellformed.proofs.OnFormed.Lookups.{itself}
 
 -- ---- what stands in a list
 
@@ -23,19 +23,6 @@ up-has (suc n) k less =
     ⊎_elim (λ (low : k < n). Contains-append_left (up_to n) (n ∷ []) k (up-has n k low))
     (λ (high : n ≤ k). let same : n ≡ k = omega (arith, high, less) in subst (λ m. Contains (up_to n ++ n ∷ []) m) same (Contains-push (up_to n) n))
     (cases_lt k n)
-
-pub filter-has : {A : Type 0} (test : A → Bool) (xs : List A) (x : A) → Contains xs x → test x ≡ true → Contains (filter test xs) x
-filter-has test [] x (k, below, is) on = absurd (omega (arith, below))
-filter-has {A = A} test (y ∷ xs) x (zero, below, is) on = subst (λ z. Contains (filter test (y ∷ xs)) z) is (by (test y) (ap test is ∙ on))
-  where
-    by : (b : Bool) → b ≡ true → Contains (if b then y ∷ filter test xs else filter test xs) y
-    by true on = contains_first y (filter test xs)
-    by false on = absurd (cc)
-filter-has {A = A} test (y ∷ xs) x (suc k, below, is) on = by (test y) (filter-has test xs x (k, omega (arith, below), is) on)
-  where
-    by : (b : Bool) → Contains (filter test xs) x → Contains (if b then y ∷ filter test xs else filter test xs) x
-    by true rest = contains_further y (filter test xs) x rest
-    by false rest = rest
 
 pub joined-has : {A B : Type 0} (make : A → List B) (xs : List A) (x : A) (y : B) → Contains xs x → Contains (make x) y →
     Contains (joined (map make xs)) y
@@ -49,9 +36,6 @@ joined-has make (z ∷ xs) x y (suc k, below, is) has =
 
 abbrev pub names_of_entries : {A : Type 0} → List (Text × A) → List Text
 names_of_entries entries = map (λ entry. entry.0) entries
-
-itself : (name : Text) → bytes_eq name name ≡ true
-itself name = (bytes_eq-Decides name name).1 refl
 
 among : {A : Type 0} (x : Text) (entries : List (Text × A)) (e : Text × A) → Contains entries e → bytes_eq x e.0 ≡ true →
     is_among x (names_of_entries entries) ≡ true

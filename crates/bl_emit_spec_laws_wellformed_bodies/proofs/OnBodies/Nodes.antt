@@ -61,12 +61,13 @@ use Rattle.bl_emit_spec_laws.specs.Calls.Built.{last_of, last_rules, last_positi
 use Rattle.bl_emit_spec_laws.proofs.OnPlaced.Lists.{picked_first}
 use Rattle.bl_emit_spec_laws_wellformed.specs.Spelled.{all_fit, node_fits, rule_fits, run_stands}
 use Rattle.bl_emit_spec_laws_wellformed_bodies.specs.Bodies.{act_named, named_there}
-use Rattle.bl_emit_spec_laws_wellformed_bodies.proofs.OnBodies.Calls.{call-is, same_types, target-is, where-is}
+use Rattle.bl_emit_spec_laws_wellformed_bodies.proofs.OnBodies.Calls.{call-is, target-is, where-is}
 use Rattle.bl_emit_spec_laws_wellformed_bodies.proofs.OnBodies.Guards.{changes-are, guard-is, put-is}
 use Rattle.bl_emit_spec_laws_wellformed_bodies.proofs.OnBodies.Running.{HasRun, Pairs, RuleRuns}
 use Rattle.bl_emit_spec_laws_wellformed_bodies.proofs.OnBodies.Starts.{NodeSets, SetsAsked, start-sets}
 use Rattle.bl_emit_spec_laws_wellformed_bodies.proofs.OnBodies.Variables.{Here, context, copied, declared_here, earlier_here, ended-is, frame_at-is, plain_here}
 use Rattle.bl_emit_spec_laws_wellformed_bodies.proofs.OnBodies.Variables.{result-is, typed_here}
+use Rattle.bl_eval.proofs.ActFits.{same_found}
 
 -- ---- statements by their kinds
 
@@ -105,15 +106,6 @@ picked-has xs (j ∷ ks) k x (zero, below, is) at =
     subst (λ more. Contains more x) (sym (picked_first xs j ks x found)) (contains_first x (picked xs ks))
 picked-has xs (j ∷ ks) k x (suc i, below, is) at =
     Contains-append_right (option_to_list (slice_get xs j)) (picked xs ks) x (picked-has xs ks k x (i, omega (arith, below), is) at)
-
--- there are as many turns as rules
-pub turns_many : (view : ActivityView) (callees : List ℕ) (rules : List Transition) → length callees ≡ length rules →
-    length (turns_of view callees rules) ≡ length rules
-turns_many view [] [] same = refl
-turns_many view [] (rule ∷ rules) same = absurd (omega (arith, same))
-turns_many view (u ∷ callees) [] same = refl
-turns_many view (u ∷ callees) (rule ∷ rules) same =
-    ap suc (turns_many view callees rules (let less : length callees ≡ length rules = omega (arith, same) in less))
 
 module _ (here : Context) (word : ℕ → Text) where
   if-alone : (test : CExpr) (code : List CStmt) → ExprIs here bool_type test → BlockIs here code → StmtIs here (c_if test code None)
@@ -251,7 +243,7 @@ module _ (units : List UnitDef) (entry k : ℕ) (a : Activity) (table : Table (T
           BlockIs here (c_set result_place (code_made view.site e) ∷ [])
       by None is fitted = absurd (cc)
       by (Some s) is fitted =
-          let same = same_types (Some (scalar s)) (type_of view.site e) fitted in
+          let same = same_found (Some (scalar s)) (type_of view.site e) fitted in
           let typed : type_of view.site e ≡ Some (scalar s) = same.2 ∙ sym same.1 in
           block_one here (c_set result_place (code_made view.site e))
           (put-is units entry k a table known h true (OfScalar (c_scalar s)) result_place (code_made view.site e)

@@ -69,7 +69,9 @@ use Rattle.bl_emit_spec_laws.proofs.OnOwn.Members.{any_found}
 use Rattle.bl_emit_spec_laws_wellformed.specs.Spelled.{all_fit}
 use Rattle.bl_emit_spec.specs.Activities.{body_of, callees_in}
 use Rattle.bl_emit_spec_laws_wellformed_bodies.specs.Bodies.{ActivityStands, CopiesSuffice, OwnsRules}
-use Rattle.bl_emit_spec_laws_wellformed_bodies.proofs.OnBodies.Lists.{filter-has, found-one, joined-has, names_of_entries, up-has}
+use Rattle.bl_emit_spec_laws_wellformed_bodies.proofs.OnBodies.Lists.{found-one, joined-has, names_of_entries, up-has}
+use Rattle.bl_cause.proofs.ListLemmas.{filter_keeps}
+use Rattle.bl_emit_functions_laws_wellformed.proofs.OnFormed.Variables.{last_of_four}
 
 -- what is known where the C function of an activity stands
 pub record Here (units : List UnitDef) (entry k : ℕ) (a : Activity) (table : Table (Table CMember)) (known : Table Signature) : Type 0 where
@@ -86,12 +88,6 @@ pub record Here (units : List UnitDef) (entry k : ℕ) (a : Activity) (table : T
   pub stands : ActivityStands units a table known
   pub owns : OwnsRules a
   pub copies : CopiesSuffice a
-
-last_of_four : (a b c d : Bool) → (a && (b && (c && d))) ≡ true → d ≡ true
-last_of_four true true true d h = h
-last_of_four true true false d h = absurd (cc)
-last_of_four true false c d h = absurd (cc)
-last_of_four false b c d h = absurd (cc)
 
 -- a variable that isn't declared by the body is a parameter
 parameter_at : (unit : UnitDef) → roles_stand unit ≡ true → (k : ℕ) (var : Var) → slice_get unit.vars k ≡ Some var →
@@ -316,7 +312,7 @@ module _ (units : List UnitDef) (entry k : ℕ) (a : Activity) (table : Table (T
       local-place (counter_type a.sizes c) (rested_name c)
       (Contains-append_left of_rested (of_flags ++ (of_marks ++ (of_copies ++ of_runs))) (rested_local a.sizes c)
       (contains_mapped (rested_local a.sizes) (counters_read a) c
-      (filter-has (activity_view a).is_read (up_to (length a.sizes)) c (up-has (length a.sizes) c (h.owns.read c on)) on)))
+      (filter_keeps (activity_view a).is_read (up_to (length a.sizes)) c (up-has (length a.sizes) c (h.owns.read c on)) on)))
 
   both_ends : (x y : Bool) → (x && y) ≡ true → (x ≡ true) × (y ≡ true)
   both_ends true true is = (refl, refl)
@@ -526,7 +522,7 @@ module _ (units : List UnitDef) (entry k : ℕ) (a : Activity) (table : Table (T
       (Contains-append_right of_marks (of_copies ++ of_runs) (copy_local a j)
       (Contains-append_left of_copies of_runs (copy_local a j)
       (contains_mapped (copy_local a) (copied_in a) j
-      (filter-has copied (up_to (length a.unit.vars)) j (up-has (length a.unit.vars) j within) on))))))
+      (filter_keeps copied (up_to (length a.unit.vars)) j (up-has (length a.unit.vars) j within) on))))))
       ∙ ap (λ t. Some (variable_of false (OfScalar (c_scalar t)))) scalar
       ∙ ap (λ t. Some (variable_of false t)) (sym (c_scalar_type a.structs var.ty s.0 s.1))
 

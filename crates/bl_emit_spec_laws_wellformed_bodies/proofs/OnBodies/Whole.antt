@@ -46,13 +46,14 @@ use Rattle.bl_emit_spec_laws.proofs.OnPlaced.Lists.{number_below}
 use Rattle.bl_emit_spec_laws.proofs.OnRemember.Entering.{callees_in_many}
 use Rattle.bl_emit_spec_laws_wellformed_bodies.specs.Bodies.{ActivityBodiesWellFormed}
 use Rattle.bl_emit_spec_laws_wellformed_bodies.proofs.OnBodies.Guards.{begins-is, put-is}
-use Rattle.bl_emit_spec_laws_wellformed_bodies.proofs.OnBodies.Nodes.{asked-are, blocks-are, controls-are, owns-are, turns_many}
+use Rattle.bl_emit_spec_laws_wellformed_bodies.proofs.OnBodies.Nodes.{asked-are, blocks-are, controls-are, owns-are}
 use Rattle.bl_emit_spec_laws_wellformed.proofs.OnNodes.Rules.{of_block}
 use Rattle.bl_emit_spec_laws_wellformed.proofs.OnNumbers.Whole.{many-rules}
 use Rattle.bl_emit_spec_laws_wellformed_bodies.proofs.OnBodies.Running.{Pairs, RuleRuns, body-runs}
 use Rattle.bl_emit_spec_laws_wellformed_bodies.proofs.OnBodies.Variables.{Here, context, copied, counter-is, declared_here, earlier_here, flag-is}
 use Rattle.bl_emit_spec_laws_wellformed_bodies.proofs.OnBodies.Variables.{plain_here, rested-is}
 use Rattle.bl_emit_spec_laws_wellformed_bodies.proofs.OnBodies.Variables.{typed_here}
+use Rattle.bl_emit_spec_laws.proofs.OnPlaced.Placing.{turns_many}
 
 -- what stands among the numbers below another is below it
 below : (n j : ℕ) → Contains (up_to n) j → j < n

@@ -1,5 +1,5 @@
 -- What the callees of an activity take.
-use Rattle.std.proofs.Common.{◌≡◌, ℕ, zero, suc, ◌+◌, ◌*◌, ◌<◌, ◌≤◌, max, Bool, true, false, List, [], ◌∷◌, ◌++◌, map}
+use Rattle.std.proofs.Common.{◌≡◌, ℕ, zero, suc, ◌+◌, ◌*◌, ◌<◌, ◌≤◌, Bool, true, false, List, [], ◌∷◌, ◌++◌, map}
 use Rattle.std.proofs.Common.{length, take}
 use Rattle.std.proofs.Common.{Some, refl, ap, ◌∙◌, arith, length-append}
 use Rattle.std.proofs.lemmas.List.{map-append}
@@ -13,7 +13,7 @@ use Rattle.bl_emit_functions.specs.Functions.{memory_name}
 use Rattle.bl_emit_spec.specs.Activities.{word_of_run, Activity, RunAt, activity_view, frame_member, memory_member, struct_member}
 use Rattle.bl_emit_spec.specs.Blocks.{name_in}
 use Rattle.bl_emit_spec.specs.Names.{callee_name, frame_name}
-use Rattle.bl_emit_spec_laws_wellformed_bodies.proofs.OnCells.Locals.{total-append}
+use Rattle.bl_tree.proofs.ReduceLemmas.{total-append}
 
 -- ---- lists
 
@@ -46,10 +46,6 @@ greatest-less one other (u ∷ us) all =
     let first = All-head (λ u. one u ≤ other u) u us all in
     let rest = greatest-less one other us (All-tail (λ u. one u ≤ other u) u us all) in
     omega (arith, first, rest)
-
-pub greatest-append : (xs ys : List ℕ) → greatest (xs ++ ys) ≡ max (greatest xs) (greatest ys)
-greatest-append [] ys = omega arith
-greatest-append (x ∷ xs) ys = let rest = greatest-append xs ys in omega (arith, rest)
 
 -- ---- members for callees
 

@@ -27,7 +27,7 @@ use Rattle.bl_emit_functions.specs.Functions.{is_held, member_of, members_from, 
 use Rattle.bl_emit_functions_laws_wellformed.specs.Cells.{SizesKnown}
 use Rattle.bl_emit_functions_laws_wellformed.specs.Numbered.{TypesHaveScalars}
 use Rattle.bl_emit_acts_laws_wellformed.proofs.OnFormed.Units.{inputs_stand, outputs_stand}
-use Rattle.bl_emit_spec_laws_wellformed_bodies.proofs.OnCells.Locals.{total-append}
+use Rattle.bl_tree.proofs.ReduceLemmas.{total-append}
 
 abbrev stands_so : List StructDef → Var → Bool
 stands_so structs var = type_stands (length structs) var.ty
@@ -158,10 +158,3 @@ module _ (structs : List StructDef) (units : List UnitDef) (entry : ℕ) (keeps 
       param-by var (scalar_in var.ty) (is_output var.role) (and_first (stands_so structs var) (list_all (stands_so structs) rest) stand) refl in
       let later = params-less (k + 1) rest (and_second (stands_so structs var) (list_all (stands_so structs) rest) stand) in
       omega (arith, one, later)
-
-pub taken-all : {A : Type 0} (test : A → Bool) (n : ℕ) (xs : List A) → list_all test xs ≡ true → list_all test (take n xs) ≡ true
-taken-all test zero xs all = refl
-taken-all test (suc n) [] all = refl
-taken-all test (suc n) (x ∷ xs) all =
-    and_from (test x) (list_all test (take n xs)) (and_first (test x) (list_all test xs) all)
-    (taken-all test n xs (and_second (test x) (list_all test xs) all))

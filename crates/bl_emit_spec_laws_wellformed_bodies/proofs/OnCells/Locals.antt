@@ -1,7 +1,7 @@
 -- The cells of the parameters and locals of the C function of an activity.
-use Rattle.std.proofs.Common.{◌≡◌, ℕ, zero, suc, ◌+◌, ◌*◌, ◌≤◌, Bool, true, false, List, [], ◌∷◌, ◌++◌, map, length}
+use Rattle.std.proofs.Common.{◌≡◌, ℕ, suc, ◌+◌, ◌*◌, ◌≤◌, Bool, true, false, List, [], ◌∷◌, ◌++◌, map, length}
 use Rattle.std.proofs.Common.{Option, Some, None, refl, sym, ap, ◌∙◌, arith}
-use Rattle.std.proofs.lemmas.List.{length_push, map-append}
+use Rattle.std.proofs.lemmas.List.{map-append}
 use Rattle.std.proofs.lemmas.List.Sums.{sum_by-cons}
 use Rattle.std.specs.Prelude.{filter, is_some, option_and_then, slice_get, sum_by, if◌then◌else◌}
 use Rattle.bl_tree.specs.declared.c.CLocal.{CLocal}
@@ -24,16 +24,10 @@ use Rattle.bl_emit_spec_laws_wellformed.specs.Costs.{extras, marks_in}
 use Rattle.bl_emit_spec_laws_wellformed.specs.Numbers.{EachStandsOnce}
 use Rattle.bl_emit_spec.specs.Blocks.{ActivityView}
 use Rattle.bl_emit_spec.specs.Names.{NumberedWord}
+use Rattle.bl_emit_spec_laws.proofs.OnOwn.Counting.{many_up_to}
+use Rattle.bl_tree.proofs.ReduceLemmas.{total-append}
 
 -- ---- sums
-
-pub total-append : (xs ys : List ℕ) → total (xs ++ ys) ≡ total xs + total ys
-total-append [] ys = omega arith
-total-append (x ∷ xs) ys = let rest = total-append xs ys in omega (arith, rest)
-
-pub up-length : (n : ℕ) → length (up_to n) ≡ n
-up-length zero = refl
-up-length (suc n) = length_push (up_to n) n ∙ (let rest = up-length n in omega (arith, rest))
 
 -- 1 where it is so
 abbrev pub one_where : Bool → ℕ
@@ -139,12 +133,12 @@ module _ (known : Sizes) where
       let third = cells-append marks (copies ++ runs) in
       let fourth = cells-append copies runs in
       let held = some-few (rested_local a.sizes) (λ k. refl) (activity_view a).is_read (up_to (length a.sizes)) in
-      let counters = up-length (length a.sizes) in
+      let counters = many_up_to (length a.sizes) in
       let flagged = flags-many view (first_rules a) in
       let fewer = first-less flags_in a once in
       let extra = extras-many view (rules_at a) in
       let copied = some-few (copy_local a) (λ k. refl) (is_copied (copies_of a.unit)) (up_to (length a.unit.vars)) in
-      let vars = up-length (length a.unit.vars) in
+      let vars = many_up_to (length a.unit.vars) in
       let run = runs-few a (runs_in_body a) in
       omega (arith, first, second, third, fourth, held, counters, flagged, fewer, extra, copied, vars, run)
 

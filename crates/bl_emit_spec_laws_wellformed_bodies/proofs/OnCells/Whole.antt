@@ -41,10 +41,13 @@ use Rattle.bl_emit_spec.specs.Names.{frame_name}
 use Rattle.bl_emit_spec_laws_wellformed.specs.Costs.{BodiesCost, extras}
 use Rattle.bl_emit_spec_laws_wellformed_bodies.specs.Signed.{NoneLoops}
 use Rattle.bl_emit_spec_laws_wellformed_bodies.specs.Cells.{ActivityCells, BodiesRun, Sized, cells_of_activity, ports_of}
-use Rattle.bl_emit_spec_laws_wellformed_bodies.proofs.OnCells.Callees.{Fits, all_such, frame_at, frames-are, got_before, greatest-append, greatest-less}
+use Rattle.bl_emit_spec_laws_wellformed_bodies.proofs.OnCells.Callees.{Fits, all_such, frame_at, frames-are, got_before, greatest-less}
 use Rattle.bl_emit_spec_laws_wellformed_bodies.proofs.OnCells.Callees.{memories-few, memories-less, memory_at, sums-less}
-use Rattle.bl_emit_spec_laws_wellformed_bodies.proofs.OnCells.Held.{held, held-apart, members-few, members-less, params-less, taken-all}
-use Rattle.bl_emit_spec_laws_wellformed_bodies.proofs.OnCells.Locals.{cells, counters-are, locals-few, one_where, params-few, passed, total-append, up-length}
+use Rattle.bl_emit_spec_laws_wellformed_bodies.proofs.OnCells.Held.{held, held-apart, members-few, members-less, params-less}
+use Rattle.bl_emit_spec_laws_wellformed_bodies.proofs.OnCells.Locals.{cells, counters-are, locals-few, one_where, params-few, passed}
+use Rattle.bl_emit_spec_laws.proofs.OnOwn.Counting.{many_up_to}
+use Rattle.bl_emit_spec_laws_wellformed.proofs.OnTexts.Files.{taken_all}
+use Rattle.bl_tree.proofs.ReduceLemmas.{greatest-append, total-append}
 
 -- ---- numbers
 
@@ -173,7 +176,7 @@ module _ (units : List UnitDef) (entry : ℕ) (a : Activity) (keeps : IsWellType
       ∙ total-append (map (size_of_member known) (map (counter_member a.sizes) (up_to (length a.sizes))))
       (map (size_of_member known) (map (frame_member a) (runs_in_body a))) in
       let counters = counters-are known a.sizes (up_to (length a.sizes)) in
-      let long = up-length (length a.sizes) in
+      let long = many_up_to (length a.sizes) in
       let frames = frames-are known a (runs_in_body a) ∙ ap (λ us. total (map (frame_at known a) us)) same in
       omega (arith, split, counters, long, frames)
 
@@ -239,7 +242,7 @@ module _ (units : List UnitDef) (entry : ℕ) (a : Activity) (keeps : IsWellType
     scalars = (counted k a.unit keeps there).variables;
     apart = held-apart a.structs units entry keeps have known sized.sizes a.earlier a.unit sized.active k there;
     given = params-less a.structs units entry keeps have known sized.sizes a.earlier a.unit 0 (parameters_of a.unit)
-        (taken-all (λ (var : Var). type_stands (length a.structs) var.ty) (a.unit.inputs + a.unit.outputs) a.unit.vars stand);
+        (taken_all (λ (var : Var). type_stands (length a.structs) var.ty) (a.unit.inputs + a.unit.outputs) a.unit.vars stand);
     one = one_less (remembers_any a);
     some = some_so;
     is = adds a.structs units k a.unit uses there

@@ -36,7 +36,7 @@ units_differ (unit ∷ units) differ =
     (ap not (among_units unit.name units) ∙ and_first (not (is_among unit.name (names units))) (are_distinct (names units)) differ)
     (units_differ units (and_second (not (is_among unit.name (names units))) (are_distinct (names units)) differ))
 
-none_left : (a b c : Bool) → (b ≡ false → c ≡ false) → (a || b) ≡ false → (a || c) ≡ false
+pub none_left : (a b c : Bool) → (b ≡ false → c ≡ false) → (a || b) ≡ false → (a || c) ≡ false
 none_left false b c more none = more none
 none_left true b c more none = absurd (cc)
 

@@ -8,9 +8,9 @@ use Rattle.std.proofs.lemmas.List.Elements.{All-contains, Contains-append_cases,
 use Rattle.std.proofs.lemmas.Option.{same_Some, slice_get_within}
 use Rattle.std.proofs.lemmas.Slice.Eq.{bytes_eq-Decides}
 use Rattle.std.specs.Option.{option_or}
-use Rattle.std.specs.Prelude.{Contains, bytes_eq, is_some, nat_eq, nat_lt, slice_get, unwrap_or, if◌then◌else◌}
+use Rattle.std.specs.Prelude.{Contains, bytes_eq, is_some, nat_eq, slice_get, unwrap_or, if◌then◌else◌}
 use Rattle.std.proofs.lemmas.Bool.{not-true}
-use Rattle.bl_tree.proofs.Basics.{any_from, contains_first, contains_further, get_front, map_length, push_length, some_within, take_next}
+use Rattle.bl_tree.proofs.Basics.{any_from, contains_first, contains_further, get_front, push_length, some_within, take_next}
 use Rattle.bl_tree.specs.declared.c.CFunc.{CFunc}
 use Rattle.bl_tree.specs.declared.c.CMember.{CMember}
 use Rattle.bl_tree.specs.declared.text.Text.{Text}
@@ -25,7 +25,6 @@ use Rattle.bl_limits_measures.specs.Runs.{activities_run}
 use Rattle.bl_limits_measures_laws.specs.Laws.{UnitsUseEarlierOnes}
 use Rattle.bl_graph_nodes.specs.Nodes.{nodes_in}
 use Rattle.bl_graph_nodes.specs.Plain.{Block, plain_body}
-use Rattle.bl_machine.specs.Blocks.{up_to}
 use Rattle.bl_machine.specs.Uses.{Slots}
 use Rattle.bl_machine.specs.declared.machine.Activity.{Activity as InMachine}
 use Rattle.bl_machine_pass.specs.Transitions.{Transition, rules}
@@ -48,8 +47,8 @@ use Rattle.bl_emit_spec_laws.proofs.OnRunPlaces.Sharing.{once_in}
 use Rattle.bl_emit_spec.specs.Activities.{Activity, RunAt, activity_function, activity_view, frame_struct, remembered_struct, remembers_any, rules_at, runs_at, runs_in_body}
 use Rattle.bl_emit_spec.specs.Blocks.{name_in}
 use Rattle.bl_emit_spec.specs.Names.{frame_name}
-use Rattle.bl_emit_spec.specs.Programs.{ProgramParts, activity_of, needed_below, needed_units, needs_at, needs_of, parts_from, parts_of_activity}
-use Rattle.bl_emit_spec.specs.Programs.{parts_of_function, parts_of_next, set_from, where_needed}
+use Rattle.bl_emit_spec.specs.Programs.{ProgramParts, activity_of, needed_units, needs_of, parts_from, parts_of_activity}
+use Rattle.bl_emit_spec.specs.Programs.{parts_of_function, parts_of_next, where_needed}
 use Rattle.bl_emit_spec_laws_wellformed_bodies.specs.Bodies.{ActivityStands}
 use Rattle.bl_emit_spec_laws_wellformed.proofs.OnChains.Nodes.{AllUnder, body_under}
 use Rattle.bl_emit_spec_laws_wellformed.specs.Chains.{ActivitiesCallFew, ActivityChainsGrow, ActivityChainsShort, IsOfUnit}
@@ -61,6 +60,8 @@ use Rattle.bl_emit_spec_laws_wellformed_bodies.proofs.OnLists.Agreeing.{run_need
 use Rattle.bl_emit_spec_laws_wellformed_bodies.proofs.OnLists.Entries.{full-known, full-new}
 use Rattle.bl_emit_spec_laws_wellformed_bodies.specs.Lists.{ActivityConditions, AllConditions, FunctionsEnd, NeededKnown, PartsWellFormed, UnitConditions}
 use Rattle.bl_emit_spec_laws_wellformed_bodies.specs.Lists.{signature_by}
+use Rattle.bl_emit_spec_laws.proofs.OnTables.Kept.{needed_many}
+use Rattle.bl_emit_functions_laws_wellformed.proofs.OnFiles.Walk.{longer}
 
 -- ---- lists
 
@@ -87,40 +88,7 @@ dropped_none zero (x ∷ xs) is = absurd (cc)
 dropped_none (suc k) [] is = omega arith
 dropped_none (suc k) (x ∷ xs) is = let rest = dropped_none k xs is in omega (arith, rest)
 
-behind_longer : {A : Type 0} (xs ys : List A) → length ys ≤ length (xs ++ ys)
-behind_longer [] ys = omega arith
-behind_longer (x ∷ xs) ys = let rest : length ys ≤ length (xs ++ ys) = behind_longer xs ys in omega (arith, rest)
-
-longer : {A : Type 0} (xs ys : List A) → 2 ≤ length ys → nat_lt (length (xs ++ ys)) 2 ≡ false
-longer xs ys two =
-    let all : length ys ≤ length (xs ++ ys) = behind_longer xs ys in
-    let more : 2 ≤ length (xs ++ ys) = omega (arith, all, two) in
-    grind (arith, nat_tests)
-
 -- ---- how many tests there are
-
-set_length : (positions : List ℕ) (k : ℕ) (tests : List Bool) → length (set_from positions k tests) ≡ length tests
-set_length positions k [] = refl
-set_length positions k (test ∷ tests) = ap suc (set_length positions (suc k) tests)
-
-below_length : (k : ℕ) (units : List UnitDef) (needed : List Bool) → length (needed_below k units needed) ≡ length needed
-below_length zero units needed = refl
-below_length (suc k) units needed =
-    below_length k units (if unwrap_or (slice_get needed k) false then set_from (needs_at (slice_get units k)) 0 needed else needed)
-    ∙ chosen (unwrap_or (slice_get needed k) false)
-  where
-    chosen : (b : Bool) → length (if b then set_from (needs_at (slice_get units k)) 0 needed else needed) ≡ length needed
-    chosen true = set_length (needs_at (slice_get units k)) 0 needed
-    chosen false = refl
-
-up_length : (n : ℕ) → length (up_to n) ≡ n
-up_length zero = refl
-up_length (suc n) = push_length (up_to n) n ∙ ap suc (up_length n)
-
-needed_length : (units : List UnitDef) (entry : ℕ) → length (needed_units units entry) ≡ length units
-needed_length units entry =
-    below_length (length units) units (map (λ k. nat_eq k entry) (up_to (length units)))
-    ∙ map_length (λ k. nat_eq k entry) (up_to (length units)) ∙ up_length (length units)
 
 -- ---- tables
 
@@ -527,7 +495,7 @@ module _ (structs : List StructDef) (units : List UnitDef) (entry : ℕ) (given 
       let found = drop_next units k unit xs is in
       let less : k < length units = slice_get_within units k unit found.0 in
       let few : length needed ≤ k = dropped_none k needed tests_are in
-      let many : length needed ≡ length units = needed_length units entry in
+      let many : length needed ≡ length units = needed_many units entry in
       absurd (omega (arith, less, few, many))
   walk (unit ∷ xs) k (test ∷ tests) le is tests_are =
       let found = drop_next units k unit xs is in

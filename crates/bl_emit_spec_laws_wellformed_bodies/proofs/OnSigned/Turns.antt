@@ -41,6 +41,7 @@ use Rattle.bl_emit_spec.specs.Blocks.{own_code, run_code}
 use Rattle.bl_emit_spec.specs.Blocks.{spelled_truth, stmt_where, target_code, test_code, turns_of}
 use Rattle.bl_emit_spec_laws_wellformed_bodies.specs.Signed.{NoneLoops}
 use Rattle.bl_emit_spec.specs.Names.{NumberedWord, ended_place}
+use Rattle.bl_emit_functions_laws_wellformed.proofs.OnFormed.Turns.{call-turns, clear-turns}
 
 abbrev what : CStmtKind-F CStmtKind CStmt → CStmt
 what layer = roll-CStmt (record { place = nowhere; what = roll-CStmtKind layer })
@@ -56,13 +57,6 @@ record Still (s : CStmt) : Type 0 where
 by_form : (k : CStmtKind) (layer : CStmtKind-F CStmtKind CStmt) (turns : LoopCounters) → roll-CStmtKind layer ≡ k → turns_in (what layer) ≡ turns →
     turns_in (roll-CStmt (record { place = nowhere; what = k })) ≡ turns
 by_form k layer turns is shape = subst (λ (k : CStmtKind). turns_in (roll-CStmt (record { place = nowhere; what = k })) ≡ turns) is shape
-
-pub clear-turns : (place : CPlace) (name : Text) → turns_in (c_clear place name) ≡ []
-clear-turns place name =
-    by_form (statement.Clear place name) (CStmtKind-F.Clear place name) [] (statement.rolls-Clear place name) (rw (fold-roll-CStmt, fold-roll-CStmtKind) refl)
-
-pub call-turns : (call : CCall) → turns_in (c_calling call) ≡ []
-call-turns call = by_form (statement.Call call) (CStmtKind-F.Call call) [] (statement.rolls-Call call) (rw (fold-roll-CStmt, fold-roll-CStmtKind) refl)
 
 abbrev pub turns_of_other : Option (List CStmt) → LoopCounters
 turns_of_other other = turns_or_none (option_map (map turns_in) other)

@@ -3,7 +3,7 @@ use Rattle.std.proofs.Common.{◌≡◌, ⊎_elim, ℕ, zero, suc, ◌+◌, arit
 use Rattle.std.proofs.Common.{List, [], ◌∷◌, ◌++◌, Contains, map, take, drop, length, Option, Some, None, refl, sym, ap, ◌∙◌, subst, codes}
 use Rattle.std.proofs.lemmas.Bool.Decides.{nat_tests}
 use Rattle.std.proofs.lemmas.List.{map-append}
-use Rattle.std.proofs.lemmas.List.Folds.{list_all-append, list_any-append}
+use Rattle.std.proofs.lemmas.List.Folds.{list_all-append}
 use Rattle.std.specs.List.{list_all}
 use Rattle.std.specs.Prelude.{bytes_eq, is_some, nat_lt, if◌then◌else◌}
 use Rattle.std.proofs.lemmas.Bool.{and_from}
@@ -30,6 +30,8 @@ use Rattle.bl_emit_spec.specs.Activities.{struct_member}
 use Rattle.bl_emit_spec.specs.Names.{frame_name}
 use Rattle.bl_emit_spec.specs.Programs.{port_member, port_struct, state_struct}
 use Rattle.bl_emit_spec_laws_wellformed_bodies.proofs.OnStructs.Lists.{from_map}
+use Rattle.bl_emit_spec_laws_wellformed.proofs.OnTexts.Files.{dropped_all, taken_all}
+use Rattle.bl_emit_structs_laws_wellformed.proofs.OnNames.Named.{distinct_front}
 
 -- ---- parameters
 
@@ -50,7 +52,7 @@ take_nothing : {A : Type 0} (n : ℕ) → take n (none_of A) ≡ none_of A
 take_nothing zero = refl
 take_nothing (suc n) = refl
 
-split_take : {A : Type 0} (a b : ℕ) (xs : List A) → take (a + b) xs ≡ take a xs ++ take b (drop a xs)
+pub split_take : {A : Type 0} (a b : ℕ) (xs : List A) → take (a + b) xs ≡ take a xs ++ take b (drop a xs)
 split_take zero b [] = take_nothing (zero + b) ∙ sym (take_nothing b)
 split_take zero b (x ∷ xs) = let same : zero + b ≡ b = omega arith in ap (λ n. take n (x ∷ xs)) same
 split_take (suc a) b [] = take_nothing (suc a + b) ∙ sym (take_nothing b)
@@ -62,31 +64,9 @@ either_false : (a b : Bool) → not (a || b) ≡ true → not a ≡ true
 either_false true b h = h
 either_false false b h = refl
 
-distinct_front : (xs ys : List Text) → are_distinct (xs ++ ys) ≡ true → are_distinct xs ≡ true
-distinct_front [] ys h = refl
-distinct_front (x ∷ xs) ys h =
-    and_from (not (is_among x xs)) (are_distinct xs)
-    (front xs (and_first (not (is_among x (xs ++ ys))) (are_distinct (xs ++ ys)) h))
-    (distinct_front xs ys (and_second (not (is_among x (xs ++ ys))) (are_distinct (xs ++ ys)) h))
-  where
-    front : (xs : List Text) → not (is_among x (xs ++ ys)) ≡ true → not (is_among x xs) ≡ true
-    front xs h = either_false (is_among x xs) (is_among x ys) (ap not (sym (list_any-append (bytes_eq x) xs ys)) ∙ h)
-
-distinct_back : (xs ys : List Text) → are_distinct (xs ++ ys) ≡ true → are_distinct ys ≡ true
+pub distinct_back : (xs ys : List Text) → are_distinct (xs ++ ys) ≡ true → are_distinct ys ≡ true
 distinct_back [] ys h = h
 distinct_back (x ∷ xs) ys h = distinct_back xs ys (and_second (not (is_among x (xs ++ ys))) (are_distinct (xs ++ ys)) h)
-
-taken_all : {A : Type 0} (test : A → Bool) (n : ℕ) (xs : List A) → list_all test xs ≡ true → list_all test (take n xs) ≡ true
-taken_all test zero xs all = refl
-taken_all test (suc n) [] all = refl
-taken_all test (suc n) (x ∷ xs) all =
-    and_from (test x) (list_all test (take n xs)) (and_first (test x) (list_all test xs) all)
-    (taken_all test n xs (and_second (test x) (list_all test xs) all))
-
-dropped_all : {A : Type 0} (test : A → Bool) (n : ℕ) (xs : List A) → list_all test xs ≡ true → list_all test (drop n xs) ≡ true
-dropped_all test zero xs all = all
-dropped_all test (suc n) [] all = refl
-dropped_all test (suc n) (x ∷ xs) all = dropped_all test n xs (and_second (test x) (list_all test xs) all)
 
 named_all : (vars : List Var) → list_all is_name (names_of vars) ≡ true → list_all (λ (var : Var). is_name var.name) vars ≡ true
 named_all [] all = refl

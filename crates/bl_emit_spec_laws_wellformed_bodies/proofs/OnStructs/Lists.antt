@@ -1,20 +1,18 @@
 -- Lists: where their elements come from, and which names are known.
 use Rattle.std.proofs.Common.{◌≡◌, ◌⊎◌, ⊎_elim, ℕ, zero, suc, ◌<◌, arith, Bool, true, false}
-use Rattle.std.proofs.Common.{◌||◌, List, [], ◌∷◌, ◌++◌, Contains, map, take, length, Some, refl, sym, ◌∙◌, subst}
-use Rattle.std.proofs.lemmas.List.{append-nil, append_assoc}
+use Rattle.std.proofs.Common.{◌||◌, List, [], ◌∷◌, ◌++◌, Contains, map, take, length, Some, refl, ◌∙◌}
 use Rattle.std.proofs.lemmas.List.Elements.{Contains-append_cases}
 use Rattle.std.proofs.lemmas.List.Folds.{list_any-append}
 use Rattle.std.specs.List.{list_all, list_any}
 use Rattle.std.specs.Prelude.{bytes_eq, slice_get}
 use Rattle.std.proofs.lemmas.Bool.{and_from}
-use Rattle.bl_tree.proofs.Basics.{and_first, and_second, contains_further, contains_none, first_or_further}
+use Rattle.bl_tree.proofs.Basics.{contains_further, contains_none, first_or_further}
 use Rattle.bl_tree.specs.declared.c.CMember.{CMember}
-use Rattle.bl_tree.specs.declared.c.CStruct.{CStruct}
 use Rattle.bl_tree.specs.declared.c.CType.{CType}
 use Rattle.bl_tree.specs.declared.c.CType.TheVariants.{Scalar as OfScalar, Struct as OfStruct}
 use Rattle.bl_tree.specs.declared.text.Text.{Text}
 use Rattle.bl_tree.specs.Reduce.{joined}
-use Rattle.bl_emit_structs_laws_wellformed.specs.Names.{are_known, is_known, names_of}
+use Rattle.bl_emit_structs_laws_wellformed.specs.Names.{is_known}
 
 -- ---- elements
 
@@ -71,13 +69,3 @@ list_known names [] each = refl
 list_known names (m ∷ members) each =
     and_from (is_known names m.ty) (list_all (λ (m : CMember). is_known names m.ty) members) (each m (0, omega arith, refl))
     (list_known names members (λ x has. each x (suc has.0, (let lt = has.1 in omega arith), has.2)))
-
-pub known_both : (names : List Text) (first second : List CStruct) → are_known names first ≡ true →
-    are_known (names ++ names_of first) second ≡ true → are_known names (first ++ second) ≡ true
-known_both names [] second h k = subst (λ l. are_known l second ≡ true) (append-nil names) k
-known_both names (s ∷ first) second h k =
-    and_from (list_all (λ (m : CMember). is_known names m.ty) s.members) (are_known (names ++ s.name ∷ []) (first ++ second))
-    (and_first (list_all (λ (m : CMember). is_known names m.ty) s.members) (are_known (names ++ s.name ∷ []) first) h)
-    (known_both (names ++ s.name ∷ []) first second
-    (and_second (list_all (λ (m : CMember). is_known names m.ty) s.members) (are_known (names ++ s.name ∷ []) first) h)
-    (subst (λ l. are_known l second ≡ true) (sym (append_assoc names (s.name ∷ []) (names_of first))) k))

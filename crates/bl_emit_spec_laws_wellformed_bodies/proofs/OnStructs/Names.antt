@@ -18,6 +18,7 @@ use Rattle.bl_emit_functions.specs.Functions.{members_of, memory_name, struct_of
 use Rattle.bl_emit_spec.specs.Activities.{Activity, frame_struct, remembered}
 use Rattle.bl_emit_spec.specs.Names.{frame_name}
 use Rattle.bl_emit_spec.specs.Programs.{ProgramParts, activity_of, parts_from, parts_of_function, parts_of_next, where_needed}
+use Rattle.bl_emit_functions_laws_wellformed.proofs.OnFiles.Memories.{neither}
 
 -- the names of the structs of a unit: some of those for where it rests and for what it remembers
 pub record OwnNames (name : Text) (own : List Text) : Type 0 where
@@ -34,10 +35,6 @@ framed a [] = record { memory = false; frame = true; is = refl }
 framed a (m ∷ rest) = record { memory = true; frame = true; is = refl }
 
 -- ---- other names
-
-neither : (a b : Bool) → not (a || b) ≡ true → (a ≡ false) × (not b ≡ true)
-neither true b h = absurd (cc)
-neither false b h = (refl, h)
 
 -- a name is none of these, for neither purpose
 pub record Other (name : Text) (names : List Text) : Type 0 where

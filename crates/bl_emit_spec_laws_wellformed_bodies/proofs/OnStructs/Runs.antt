@@ -1,7 +1,7 @@
 -- The activities that an activity runs: they stand before it, are needed with it, and head shorter chains.
 use Rattle.std.proofs.Common.{◌≡◌, ⊎_elim, ℕ, ◌+◌, ◌<◌, ◌≤◌, max, arith, Bool, true, false, ◌&&◌, ◌||◌, nat_eq}
 use Rattle.std.proofs.Common.{List, [], ◌∷◌, Contains, map, take, Option, Some, None, refl, sym, ap, ◌∙◌, subst}
-use Rattle.std.proofs.lemmas.Bool.{eq-eqb, eqb-true}
+use Rattle.std.proofs.lemmas.Bool.{eq-eqb}
 use Rattle.std.proofs.lemmas.List.{get_or-take}
 use Rattle.std.proofs.lemmas.List.Elements.{Contains-append_cases}
 use Rattle.std.proofs.lemmas.List.Folds.{list_any-append}
@@ -16,7 +16,6 @@ use Rattle.bl_tree.specs.declared.tree.StructDef.{StructDef}
 use Rattle.bl_tree.specs.declared.tree.Unit.{Unit as UnitDef}
 use Rattle.bl_tree.specs.Depths.{arguments_depth, target_depth}
 use Rattle.bl_tree.specs.Program.{IsWellTyped}
-use Rattle.bl_tree.specs.Reduce.{greatest}
 use Rattle.bl_tree.specs.Typing.{TypingContext, arguments_fit, is_activity, run_fits, target_fits}
 use Rattle.bl_limits_measures.specs.Calls.{calls_of}
 use Rattle.bl_limits_measures.specs.Runs.{activities_run}
@@ -38,6 +37,7 @@ use Rattle.bl_emit_spec_laws_wellformed.specs.Closed.{NeededClosed}
 use Rattle.bl_emit_spec_laws_wellformed.specs.Spelled.{CanSpell, all_fit, node_fits, rule_fits}
 use Rattle.bl_emit_spec_laws_wellformed_bodies.proofs.OnStructs.Lists.{get_taken}
 use Rattle.bl_emit_spec_laws_wellformed_bodies.proofs.OnStructs.Walk.{RunFits}
+use Rattle.bl_emit_spec_laws_wellformed.proofs.OnNeeded.Whole.{among_greatest}
 
 -- 0 for what the unit needs, and 1 for all else
 abbrev by : UnitDef → ℕ → ℕ
@@ -127,15 +127,6 @@ module _ (unit : UnitDef) (site : TypingContext) (number : Node → ℕ) (sizes 
       (Contains-append_cases (run_at number c rule.node) (runs_at number cs listed) r has)
 
 -- ---- chains
-
-among_greatest : (f : ℕ → ℕ) (ks : List ℕ) (j : ℕ) → list_any (nat_eq j) ks ≡ true → f j ≤ greatest (map f ks)
-among_greatest f [] j h = absurd (cc)
-among_greatest f (k ∷ ks) j h = of (nat_eq j k) refl h (among_greatest f ks j)
-  where
-    of : (b : Bool) → nat_eq j k ≡ b → (b || list_any (nat_eq j) ks) ≡ true →
-        (list_any (nat_eq j) ks ≡ true → f j ≤ greatest (map f ks)) → f j ≤ max (f k) (greatest (map f ks))
-    of true is h rest = let same : f j ≡ f k = ap f (eqb-true j k is) in omega (arith, same)
-    of false is h rest = let later : f j ≤ greatest (map f ks) = rest h in omega (arith, later)
 
 chain_less : (units : List UnitDef) (k j : ℕ) (unit : UnitDef) → slice_get units k ≡ Some unit → j < k →
     list_any (nat_eq j) (needs_of unit) ≡ true → chain_at units j + 1 ≤ chain_at units k

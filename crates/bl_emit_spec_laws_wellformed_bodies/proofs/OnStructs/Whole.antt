@@ -9,14 +9,12 @@ use Rattle.std.proofs.lemmas.List.Folds.{list_all-append, list_any-append}
 use Rattle.std.proofs.lemmas.Option.{get_or_from_slice_get, slice_get_cases, slice_get_within}
 use Rattle.std.proofs.lemmas.Slice.Eq.{bytes_eq-Decides}
 use Rattle.std.specs.List.{list_all, list_any}
-use Rattle.std.specs.Option.{option_or}
 use Rattle.std.specs.Prelude.{bytes_eq, get_or, is_none, slice_get, slice_index, unwrap_or, if◌then◌else◌}
 use Rattle.std.proofs.lemmas.Bool.{and_from}
 use Rattle.bl_tree.proofs.Basics.{and_first, and_second, both_empty, contains_none, first_or_further, none_from}
 use Rattle.bl_tree.specs.declared.c.CMember.{CMember}
 use Rattle.bl_tree.specs.declared.c.CStruct.{CStruct}
 use Rattle.bl_tree.specs.declared.c.CType.TheVariants.{Struct as OfStruct}
-use Rattle.bl_tree.specs.declared.place.Place.{Place}
 use Rattle.bl_tree.specs.declared.program.Program.{Program}
 use Rattle.bl_tree.specs.declared.rule.Rule.TheVariants as rule
 use Rattle.bl_tree.specs.declared.text.Text.{Text}
@@ -32,7 +30,7 @@ use Rattle.bl_limits_measures.specs.InOrder.{answers}
 use Rattle.bl_limits_measures.specs.Types.{fields_nesting, nesting, struct_nestings}
 use Rattle.bl_limits_measures.specs.Units.{chain_at}
 use Rattle.bl_limits_measures.proofs.TableLemmas.{length_answers}
-use Rattle.bl_ctext_semantics.specs.Faults.{Clause, depth_of_struct, distinct_names, faults_in_struct, interface_fits, member_table, struct_faults_after, unless}
+use Rattle.bl_ctext_semantics.specs.Faults.{depth_of_struct, distinct_names, faults_in_struct, interface_fits, member_table, struct_faults_after, unless}
 use Rattle.bl_ctext_semantics.specs.Tables.{Table, found, no_entries, with_entry}
 use Rattle.bl_emit_structs.specs.Structs.{each_once, structs_for}
 use Rattle.bl_emit_structs_laws_wellformed.specs.Names.{MembersDiffer, NamesDiffer, TypesApart, UsesEarlier, are_known, is_known, member_names, names_of}
@@ -50,8 +48,12 @@ use Rattle.bl_emit_spec_laws_wellformed_bodies.proofs.OnStructs.Heights.{Height,
 use Rattle.bl_emit_spec_laws_wellformed_bodies.proofs.OnStructs.Heights.{fine_type, type_class}
 use Rattle.bl_emit_spec_laws_wellformed_bodies.proofs.OnStructs.Interface.{Ports, inputs_differ, inputs_fit, inputs_ports, outputs_differ, outputs_fit}
 use Rattle.bl_emit_spec_laws_wellformed_bodies.proofs.OnStructs.Interface.{outputs_ports, port_scalar, state_differs, state_members}
-use Rattle.bl_emit_spec_laws_wellformed_bodies.proofs.OnStructs.Lists.{known_both, list_known}
+use Rattle.bl_emit_spec_laws_wellformed_bodies.proofs.OnStructs.Lists.{list_known}
 use Rattle.bl_emit_spec_laws_wellformed_bodies.proofs.OnStructs.Sound.{Fine, Lower, deep_nothing, structs_sound}
+use Rattle.bl_ctext_semantics.proofs.EndLemmas.{unless-nil}
+use Rattle.bl_emit_structs_laws_wellformed.proofs.OnFormed.Whole.{once_has}
+use Rattle.bl_emit_functions_laws_wellformed.proofs.OnFiles.Structs.{both_free, later_found}
+use Rattle.bl_emit_structs_laws_wellformed.proofs.OnNames.Known.{known_append}
 
 abbrev has : Text → List Text → Bool
 has name names = list_any (bytes_eq name) names
@@ -63,19 +65,6 @@ all_of_each test [] each = refl
 all_of_each test (x ∷ xs) each =
     and_from (test x) (list_all test xs) (each x (0, omega arith, refl))
     (all_of_each test xs (λ y at. each y (suc at.0, (let lt = at.1 in omega arith), at.2)))
-
-once_has : (taken : List Text) (xs : List CStruct) (s : CStruct) → Contains (each_once taken xs) s → Contains xs s
-once_has taken [] s there = there
-once_has taken (x ∷ xs) s there = by (has x.name taken) (once_has taken xs s) (once_has (taken ++ x.name ∷ []) xs s) there
-  where
-    one_further : Contains xs s → Contains (x ∷ xs) s
-    one_further at = (suc at.0, (let lt = at.1 in omega arith), at.2)
-
-    by : (b : Bool) → (Contains (each_once taken xs) s → Contains xs s) → (Contains (each_once (taken ++ x.name ∷ []) xs) s → Contains xs s) →
-        Contains (if b then each_once taken xs else x ∷ each_once (taken ++ x.name ∷ []) xs) s → Contains (x ∷ xs) s
-    by true old new at = one_further (old at)
-    by false old new at =
-        ⊎_elim (λ is. (0, omega arith, is)) (λ behind. one_further (new behind)) (first_or_further x (each_once (taken ++ x.name ∷ []) xs) s at)
 
 -- ---- names that differ
 
@@ -142,25 +131,12 @@ others_new seen (s ∷ rest) differ new =
 
 -- ---- a list of structs in which nothing fails
 
-holds : (test : Bool) (clause : Clause) (place : Place) → unless test clause place ≡ [] → test ≡ true
-holds true clause place is = refl
-holds false clause place is = absurd (cc)
-
-both_free : {A : Type 0} (o : Option A) (b : Bool) (new : A) → option_or o (if b then Some new else None) ≡ None → (o ≡ None) × (b ≡ false)
-both_free None true new is = absurd (cc)
-both_free None false new is = (refl, refl)
-both_free (Some x) b new is = absurd (cc)
-
 abbrev entry_of : CStruct → Text × Table CMember
 entry_of s = (s.name, member_table s)
 
 first_found : (value : Table CMember) (b : Bool) (o : Option (Table CMember)) → b ≡ true → (if b then Some value else o) ≡ Some value
 first_found value true o is = refl
 first_found value false o is = absurd (cc)
-
-later_found : (value : Table CMember) (b : Bool) (o : Option (Table CMember)) → b ≡ false → (if b then Some value else o) ≡ o
-later_found value true o is = absurd (cc)
-later_found value false o is = refl
 
 -- each struct of the list is declared under its name
 declared : (list : List CStruct) (table : Table (Table CMember)) (depths : Table ℕ) → struct_faults_after table depths list ≡ [] →
@@ -169,7 +145,7 @@ declared [] table depths none s (k, within, is) = absurd (omega (arith, within))
 declared (y ∷ list) table depths none s (zero, within, is) =
     let faults = both_empty (faults_in_struct table depths y) _ none in
     let front = both_empty (unless (is_none (table y.name)) distinct_names y.place) _ faults.0 in
-    let free : table y.name ≡ None = none_from (table y.name) (holds (is_none (table y.name)) distinct_names y.place front.0) in
+    let free : table y.name ≡ None = none_from (table y.name) (unless-nil (is_none (table y.name)) distinct_names y.place front.0) in
     subst (λ (s : CStruct). (table s.name ≡ None) × (found s.name (map entry_of (y ∷ list)) ≡ Some (member_table s))) is
     (free, first_found (member_table y) (bytes_eq y.name y.name) (found y.name (map entry_of list)) ((bytes_eq-Decides y.name y.name).1 refl))
 declared (y ∷ list) table depths none s (suc k, within, is) =
@@ -354,7 +330,7 @@ module _ (structs : List StructDef) (units : List UnitDef) (entry : ℕ) (keeps 
 
     all_known : UsesEarlier structs units entry → are_known [] (types ++ (parts.structs ++ last)) ≡ true
     all_known earlier =
-        known_both [] types (parts.structs ++ last) (earlier keeps) (known_both (names_of types) parts.structs last stand.known last_known)
+        known_append [] types (parts.structs ++ last) (earlier keeps) (known_append (names_of types) parts.structs last stand.known last_known)
 
     -- ---- names of members
 

@@ -170,7 +170,7 @@ others_new seen (s ∷ rest) differ new =
 
 -- ---- what is kept of each name
 
-once_has : (taken : List Text) (xs : List CStruct) (s : CStruct) → Contains (each_once taken xs) s → Contains xs s
+pub once_has : (taken : List Text) (xs : List CStruct) (s : CStruct) → Contains (each_once taken xs) s → Contains xs s
 once_has taken [] s there = there
 once_has taken (x ∷ xs) s there = by (has x.name taken) (once_has taken xs s) (once_has (taken ++ x.name ∷ []) xs s) there
   where

@@ -95,7 +95,7 @@ not_both : (b : Bool) → not b ≡ true → b ≡ true → ⊥
 not_both true h k = let x : false ≡ true = h in cc
 not_both false h k = let x : false ≡ true = k in cc
 
-distinct_front : (xs ys : List Text) → are_distinct (xs ++ ys) ≡ true → are_distinct xs ≡ true
+pub distinct_front : (xs ys : List Text) → are_distinct (xs ++ ys) ≡ true → are_distinct xs ≡ true
 distinct_front [] ys h = refl
 distinct_front (x ∷ xs) ys h =
     and_from (not (has x xs)) (are_distinct xs) (by (has x xs) refl) (distinct_front xs ys (and_second (not (has x (xs ++ ys))) (are_distinct (xs ++ ys)) h))

@@ -68,14 +68,14 @@ opened k fields v mid e = by_parts (parts_in v) refl e
     by_parts None is e = absurd cc
     by_parts (Some all) is e = by_part all is (slice_get all k) refl e
 
-with_opened : (k : ℕ) (ks : List ℕ) (new v : Value) (all : List Value) (old : Value) → parts_in v ≡ Some all → slice_get all k ≡ Some old →
+pub with_opened : (k : ℕ) (ks : List ℕ) (new v : Value) (all : List Value) (old : Value) → parts_in v ≡ Some all → slice_get all k ≡ Some old →
     with_value_at (k ∷ ks) new v ≡ option_map (λ part. Parts (slice_set all k part)) (with_value_at ks new old)
 with_opened k ks new v all old is at =
     ap (λ all. option_and_then (λ all. option_and_then (λ old. option_map (λ part. Parts (slice_set all k part)) (with_value_at ks new old))
     (slice_get all k)) all) is
     ∙ ap (λ old. option_and_then (λ old. option_map (λ part. Parts (slice_set all k part)) (with_value_at ks new old)) old) at
 
-value_in_parts : (j : ℕ) (qs : List ℕ) (v : Value) (all : List Value) → parts_in v ≡ Some all →
+pub value_in_parts : (j : ℕ) (qs : List ℕ) (v : Value) (all : List Value) → parts_in v ≡ Some all →
     value_at (j ∷ qs) v ≡ option_and_then (value_at qs) (slice_get all j)
 value_in_parts j qs v all is = ap (λ all. option_and_then (value_at qs) (option_and_then (λ all. slice_get all j) all)) is
 
@@ -145,7 +145,7 @@ put_same (k ∷ fields) rest (j ∷ qs) new v w e h =
 at_path_is : (now : List Value) (path : Static) → value_at (path.root ∷ path.fields) (Parts now) ≡ at_path now path
 at_path_is now path = value_in_parts path.root path.fields (Parts now) now (parts_of now)
 
-put_is : (root : ℕ) (ks : List ℕ) (new : Value) (now : List Value) →
+pub put_is : (root : ℕ) (ks : List ℕ) (new : Value) (now : List Value) →
     with_value_at (root ∷ ks) new (Parts now) ≡ option_map Parts (put_at root ks new now)
 put_is root ks new now =
     ap (λ all. option_and_then (λ all. option_and_then (λ old. option_map (λ part. Parts (slice_set all root part)) (with_value_at ks new old))

@@ -14,6 +14,7 @@ use Rattle.bl_machine_laws.specs.Numbers.Steps.{Walks, on, stay}
 use Rattle.bl_machine_laws.specs.Numbers.Turns as turns
 use Rattle.bl_machine_laws.specs.Numbers.Turns.{AnsweredDeed, InstancePoint, OneTurns, Passes, Turns}
 use Rattle.bl_machine_laws.specs.Numbers.Waiting.{SomeWaits, Waits, first_in}
+use Rattle.bl_ctree_laws.proofs.Diamond.{seq_done}
 
 -- ---- steps that follow one another
 
@@ -39,18 +40,6 @@ seq_open (Seq c after) rest unended = refl
 seq_open (Par s stood branches) rest unended = refl
 seq_open (Guard s phase stood c) rest unended = refl
 seq_open (Run s callee phase stood c) rest unended = refl
-
--- nothing follows
-seq_done : (c : Tree) → seq c Done ≡ c
-seq_done Nil = refl
-seq_done (Wait s) = refl
-seq_done (Test s) = refl
-seq_done (Idle body) = refl
-seq_done (Do s) = refl
-seq_done (Seq c after) = refl
-seq_done (Par s stood branches) = refl
-seq_done (Guard s phase stood c) = refl
-seq_done (Run s callee phase stood c) = refl
 
 nil_stays : {T : Bool → Type 0} {w : Setting} {i : ℕ} {d : Bool} {a : Deed} {n : StepLabel} {c' : Tree} → Moves T w i Nil d a n c' → ⊥
 nil_stays m = elim m [ ]

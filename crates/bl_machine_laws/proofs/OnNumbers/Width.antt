@@ -17,20 +17,15 @@ use Rattle.bl_graph_nodes.specs.Plain.{Act, Again, Await, Block, Bodies, Body, C
 use Rattle.bl_graph_nodes.specs.Plain.{While, block_from, bodies_from, else_at, inside, label_at, passed_one, plain_block, plain_body, plain_stmt}
 use Rattle.bl_machine.specs.Layout.{counters_in, counters_in_each, counters_of, width_in, width_in_each, width_of}
 use Rattle.bl_machine_laws.specs.Numbers.Width.{TakesItsWidth}
+use Rattle.bl_machine.proofs.Laying.{max_apart, max_none}
 
 -- ---- the width of a body is that of its plain statements
 
 abbrev Same : Stmt → Type 0
 Same s = (at : Position) → width_of (plain_stmt s at) ≡ stmt_width s
 
-max_none : (n : ℕ) → max n 0 ≡ n
-max_none n = omega arith
-
 none_max : (n : ℕ) → n ≡ max 0 n
 none_max n = omega arith
-
-max_apart : (a b c : ℕ) → max (max a b) c ≡ max a (max b c)
-max_apart a b c = omega arith
 
 max_self : (n : ℕ) → max n n ≡ max 0 n
 max_self n = omega arith

@@ -19,13 +19,16 @@ use Rattle.bl_ctree_laws.specs.Trees.{is_settled, no_tree, seq, strong_ended}
 use Rattle.bl_ctree_laws_traces.specs.Progress.FitsGraph.{AllFitGraph, FitsGraph, fork_stmt}
 use Rattle.bl_ctree_laws_traces.specs.Progress.Places.{Place, ahead_of, guarded, in_branch, later_on, whole}
 use Rattle.bl_machine_laws.specs.Numbers.Waiting.{SomeWaits, Waits, check_of}
-use Rattle.bl_machine_laws.proofs.OnWaiting.Fresh.{done_strong, is_weak}
-use Rattle.bl_machine_laws.proofs.OnWaiting.Quiet.{after_closed, done_ends, in_part, part_closed, something_waits}
+use Rattle.bl_machine_laws.proofs.OnWaiting.Fresh.{is_weak}
+use Rattle.bl_machine_laws.proofs.OnWaiting.Quiet.{after_closed, in_part, part_closed, something_waits}
 use Rattle.bl_machine_laws.specs.Passes.Steady.{AllSteady, Steady}
 use Rattle.bl_machine_laws.proofs.OnPasses.Holes.{Hole, Holes, fill, fill_one, in_block, in_fork, in_watch, next, seq_is, this, top, unsettled_open}
-use Rattle.bl_machine_laws.proofs.OnPasses.Numbers.{after_rises, not_less}
+use Rattle.bl_machine_laws.proofs.OnPasses.Numbers.{after_rises}
 use Rattle.bl_machine_laws.proofs.OnPasses.Points.{Simple, begins, checks, closes, joins, tests}
 use Rattle.bl_machine_laws.proofs.OnPasses.Steadying.{steady_passed}
+use Rattle.bl_ctree_laws.proofs.Less.{done_join, done_unsettled}
+use Rattle.bl_ctree_laws_traces.proofs.OnProgress.Leading.{done_strong}
+use Rattle.bl_ctree_laws_traces.proofs.OnReady.Before.{not_itself}
 
 -- ---- trees that act at a node
 
@@ -39,16 +42,12 @@ pub data Ready (w : Setting) (i : ℕ) : Tree → Node → Type 0 where
       FitsGraph w callee c (whole stood (plain_body unit.body)) → Steady c →
       Ready w i (Run s callee Check stood c) (run_node stood s.label s.place s.arguments)
 
-settled_free : (a b : Bool) → b ≡ true → (a && not b) ≡ false
-settled_free true b e = ap not e
-settled_free false b e = refl
-
 pub ready_left : {w : Setting} {i : ℕ} {t : Tree} {n : Node} → Ready w i t n → is_settled t ≡ false
 ready_left (simple (begins e)) = refl
 ready_left (simple tests) = refl
 ready_left (simple checks) = refl
 ready_left (simple closes) = refl
-ready_left (simple (joins {branches = branches} settled done)) = settled_free (are_settled branches) (are_done branches) done
+ready_left (simple (joins {branches = branches} settled done)) = done_unsettled (are_settled branches) (are_done branches) done
 ready_left (calls called is) = refl
 ready_left (copies called is live steady) = refl
 
@@ -177,7 +176,7 @@ module _ {w : Setting} (number : Node → ℕ) where
     where
       before : are_settled branches ≡ false → ⊥
       before left =
-          let some = late w i g stood (is_instant (fork_stmt s)) branches s.bodies s.label s.place (live.1.joins (done_ends branches done)).0 live.0 steady
+          let some = late w i g stood (is_instant (fork_stmt s)) branches s.bodies s.label s.place (live.1.joins (done_join branches done)).0 live.0 steady
           (done_strong branches done) left in
           let less : number some.node < number (join_node stood s.label s.place) =
           up some.node (join_node stood s.label s.place) (live.1.fits.edges some.node (join_node stood s.label s.place) some.edge) in
@@ -220,7 +219,7 @@ module _ {w : Setting} (number : Node → ℕ) where
         (λ nil. true_false_any (is_nil c) nil live.1.unended) h in
         let less : number (check_of s) < number n = after_rises number up after in
         let most : number n ≤ number (check_of s) = first (check_of s) (inl refl) in
-        not_less (number n) (omega arith)
+        not_itself (number n) (omega arith)
     find g (Run s callee Body stood c) follows n live steady up unended h first = absurd h
     find g (Run s callee Check stood c) follows n live steady up unended h first =
         here (Run s callee Check stood c) h (copies live.2.called live.2.is live.1 steady)

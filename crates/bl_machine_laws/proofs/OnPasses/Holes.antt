@@ -16,7 +16,7 @@ use Rattle.bl_machine_laws.specs.Numbers.Turns as turns
 use Rattle.bl_machine_laws.specs.Numbers.Turns.{AnsweredDeed, OneTurns, Turns}
 use Rattle.bl_machine_laws.specs.Passes.Follows as follows
 use Rattle.bl_machine_laws.specs.Passes.Follows.{OneTurnSteps, OneTurnTraps, TurnSteps, TurnTraps}
-use Rattle.bl_machine_laws.proofs.OnWaiting.Fresh.{seq_open}
+use Rattle.bl_ctree_laws_traces.proofs.OnProgress.Beginning.{seq_unended}
 
 mutual
   -- what stands around a tree that may act
@@ -68,7 +68,7 @@ unsettled_open (Run p callee phase stood c) e = refl
 
 pub fill_open : (h : Hole) (t : Tree) → is_nil t ≡ false → is_nil (fill h t) ≡ false
 fill_open top t e = e
-fill_open (in_block h s rest) t e = seq_open (fill h t) s rest
+fill_open (in_block h s rest) t e = seq_unended (fill h t) s rest
 fill_open (in_fork s stood hs) t e = refl
 fill_open (in_watch s stood h) t e = refl
 

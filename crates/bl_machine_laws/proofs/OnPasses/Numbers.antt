@@ -28,18 +28,6 @@ numbers (suc x) (suc y) = by_rest (numbers x y)
     by_rest (equal is) = equal (ap suc is)
     by_rest (more lt) = more (omega arith)
 
-pub not_less : {A : Type 0} (x : ℕ) → x < x → A
-not_less x lt = absurd (omega arith)
-
--- no greater, and another
-pub lesser : (x y : ℕ) → x ≤ y → (x ≡ y → ⊥) → x < y
-lesser x y most other = by_case (numbers x y)
-  where
-    by_case : Numbers x y → x < y
-    by_case (less lt) = lt
-    by_case (equal is) = absurd (other is)
-    by_case (more lt) = absurd (omega arith)
-
 -- numbers don't fall along a walk
 pub at_most : {E : Node → Node → Type 0} {n m : Node} (number : Node → ℕ) → Rises number E → Walk E n m → number n ≤ number m
 at_most number rises (stay n) = omega arith

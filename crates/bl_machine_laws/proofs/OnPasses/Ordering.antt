@@ -15,6 +15,7 @@ use Rattle.bl_ctree_laws_traces.specs.Ready.Ordered.{HasRanks, OrdersGiveRanks}
 use Rattle.bl_ctree_laws_traces.proofs.OnReady.Keys.{Same, bodies_differ_so, one_of_each, sort_of}
 use Rattle.bl_machine_laws.specs.Passes.Orders.{GraphsGiveOrders, HasOrders}
 use Rattle.bl_machine_laws.proofs.OnPasses.Numbers.{Numbers, equal, less, more, numbers}
+use Rattle.bl_ctree_laws_traces.proofs.OnReady.Numbering.{labels_same, stands_at}
 
 -- ---- tests of nodes
 
@@ -47,10 +48,6 @@ node_itself n = and_from (same_list (label_of n).position (label_of n).position)
 
 abbrev label_with : Position → ℕ → Label
 label_with at k = record { position = at; passed = k }
-
-labels_same : (l m : Label) → l.position ≡ m.position → l.passed ≡ m.passed → l ≡ m
-labels_same l m position passed =
-    ap (λ at. label_with at l.passed) position ∙ ap (λ k. label_with m.position k) passed
 
 nodes_same : (n m : Node) → same_node n m ≡ true → Same n m
 nodes_same n m e =
@@ -104,12 +101,6 @@ found (x ∷ xs) n (suc k) e = by_test (same_node x n) refl (found xs n k e)
       there = ap (λ b. slice_get (x ∷ xs) (if b then 0 else suc (place_in xs n))) test ∙ rest.there;
       same = rest.same;
     }
-
--- a member stands somewhere
-stands_at : (xs : List Node) (n : Node) → Contains xs n → (k : ℕ) × (slice_get xs k ≡ Some n)
-stands_at [] n there = let below = there.1 in absurd (omega arith)
-stands_at (x ∷ xs) n (zero, within, is) = (0, ap Some is)
-stands_at (x ∷ xs) n (suc k, within, is) = let rest = stands_at xs n (k, omega arith, is) in (suc rest.0, rest.1)
 
 -- and in a body at the first place
 in_place : (body : List Stmt) (at : Position) (n : Node) → Contains (nodes_in (plain_block body at)) n →

@@ -10,7 +10,6 @@ use Rattle.bl_effects.specs.Rules.{Passes}
 use Rattle.bl_graph_nodes.specs.Nodes.{Node}
 use Rattle.bl_graph_nodes.specs.Plain.{Block, Done, plain_body}
 use Rattle.bl_graph_nodes.specs.Steps.{StepLabel, head_of}
-use Rattle.bl_graph.specs.Edges.{In}
 use Rattle.bl_ctree.specs.Actions.{Action}
 use Rattle.bl_ctree.specs.Control as control
 use Rattle.bl_ctree.specs.Control.{Control}
@@ -46,16 +45,13 @@ use Rattle.bl_machine_laws.specs.Passes.Orders.{Orders}
 use Rattle.bl_machine_laws.specs.Passes.Pass.{InstancesHavePasses, PassOrTrap, WholePass, comes_to_end, is_cut}
 use Rattle.bl_machine_laws.specs.Passes.Ticks.{TickPasses, TickTraps, TicksArePasses}
 use Rattle.bl_machine_laws.proofs.OnPasses.Steadying.{pass_settles, woken_steady}
+use Rattle.bl_ctree_laws_traces.proofs.OnReady.Never.{no_node}
 
 -- ---- the entry's unit
 
 -- the body of the entry's unit, where there is one
 abbrev body_of : Option UnitDef → Block
 body_of found = plain_items (unwrap_or (option_map (λ unit. body_items unit.body) found) [])
-
-no_node : (stood : Bool) (n : Node) → In stood Done n → ⊥
-no_node true n inside = elim inside.begins [ ]
-no_node false n inside = elim inside.begins [ ]
 
 record Standing (w : Setting) (c : Tree) : Type 0 where
   unit : UnitDef

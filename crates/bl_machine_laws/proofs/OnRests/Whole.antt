@@ -54,7 +54,7 @@ all_listed test (s ∷ body) all =
     and_from (test s) (all_of (map test body)) (and_first (test s) (list_all test body) all)
     (all_listed test body (and_second (test s) (list_all test body) all))
 
-body_fits : (structs : List StructDef) (earlier : List UnitDef) (unit : UnitDef) → unit_stands structs earlier unit ≡ true →
+pub body_fits : (structs : List StructDef) (earlier : List UnitDef) (unit : UnitDef) → unit_stands structs earlier unit ≡ true →
     all_of (map (fits (site_of structs earlier unit)) unit.body) ≡ true
 body_fits structs earlier unit stands =
     let last : Bool = unit_returns unit && (is_shallow 200 unit.body && list_all is_apart unit.body) in

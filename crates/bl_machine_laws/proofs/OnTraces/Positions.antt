@@ -16,13 +16,14 @@ use Rattle.bl_cause.proofs.PairLemmas.{contains_last, contains_left, each_at, fi
 use Rattle.bl_ctree.specs.declared.instance.Instance.{Instance}
 use Rattle.bl_ctree.specs.Instances.{Setting, setting_of, unit_at, unit_of}
 use Rattle.bl_ctree_laws_confluence.specs.Deeds.Orderly.{AcceptedIsOrderly}
-use Rattle.bl_ctree_laws_traces.proofs.OnReady.Keys.{Differ, Has, Same, bodies_differ_so}
+use Rattle.bl_ctree_laws_traces.proofs.OnReady.Keys.{Differ, Same, bodies_differ_so}
 use Rattle.bl_machine.specs.declared.machine.Activity.{Activity}
 use Rattle.bl_machine.specs.Blocks.{EdgeLeads, Ordered, up_to}
 use Rattle.bl_machine.specs.Machines.{AreActivitiesOf, IsActivityOf}
 use Rattle.bl_machine_laws.specs.Passes.Orders.{GraphsGiveOrders, HasOrders, Orders}
 use Rattle.bl_machine_laws.proofs.OnPasses.Numbers.{Numbers, equal, less, more, numbers}
 use Rattle.bl_machine_laws.specs.Traces.Positions.{GoBy, HasPositions, MachinesGiveOrders}
+use Rattle.bl_ctree_laws_traces.proofs.OnReady.Keys.{has_at, itself as one_itself}
 
 -- ---- positions in lists
 
@@ -59,14 +60,6 @@ came f [] k v e = none_is_some v e
 came f (x ∷ xs) zero v e = record { node = x; there = refl; value = same_some (f x) v e }
 came f (x ∷ xs) (suc k) v e = let rest = came f xs k v e in record { node = rest.node; there = rest.there; value = rest.value }
 
-has_at : (xs : List Node) (k : ℕ) (x n : Node) → slice_get xs k ≡ Some n → Same x n → Has xs x
-has_at [] k x n e same = none_is_some n e
-has_at (y ∷ xs) zero x n e same = inl (subst (Same x) (sym (same_some y n e)) same)
-has_at (y ∷ xs) (suc k) x n e same = inr (has_at xs k x n e same)
-
-one_itself : (x : Node) → Same x x
-one_itself x = record { label = refl; sort = refl }
-
 itself : (x n : Node) → x ≡ n → Same x n
 itself x n is = subst (Same x) is (one_itself x)
 
@@ -87,7 +80,7 @@ number_is f xs differs apart k n e =
     apart there.node n (contains_at xs (place (map f xs) (f n)) there.node there.there) (contains_at xs k n e) there.value in
     one_place xs differs (place (map f xs) (f n)) k n (there.there ∙ ap Some same) e
 
-up_to_has : (count k : ℕ) → k < count → Contains (up_to count) k
+pub up_to_has : (count k : ℕ) → k < count → Contains (up_to count) k
 up_to_has zero k lt = absurd (omega arith)
 up_to_has (suc count) k lt = by_case (numbers k count) (λ below. up_to_has count k below)
   where

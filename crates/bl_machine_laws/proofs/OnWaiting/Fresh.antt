@@ -15,7 +15,7 @@ use Rattle.bl_ctree_laws.specs.Pending.{Deed, may_end}
 use Rattle.bl_ctree_laws.specs.Shrinks.{EndsShrink, Paces}
 use Rattle.bl_ctree_laws.specs.Steps.{turn}
 use Rattle.bl_ctree_laws.specs.Trees.{Fork, Tree, Trees, Watch, Nil, Wait, Test, Idle, Do, Seq, Par, Guard, Run, are_done, trees_begun, beside, do_block}
-use Rattle.bl_ctree_laws.specs.Trees.{has_strong, is_nil, no_tree, seq, some_ended, strong_ended}
+use Rattle.bl_ctree_laws.specs.Trees.{has_strong, is_nil, seq, some_ended, strong_ended}
 use Rattle.bl_ctree_laws_traces.specs.Progress.FitsGraph.{AllFitGraph, FitsGraph, fork_stmt}
 use Rattle.bl_ctree_laws_traces.specs.Progress.Places.{Place, ahead_of, guarded, in_branch, later_on}
 use Rattle.bl_machine_laws.specs.Numbers.Steps.{TurnsAreWalks, TurnsWait, Walks}
@@ -23,7 +23,11 @@ use Rattle.bl_machine_laws.specs.Numbers.Steps as walks
 use Rattle.bl_machine_laws.specs.Numbers.Turns as turns
 use Rattle.bl_machine_laws.specs.Numbers.Turns.{AnsweredDeed, InstancePoint, OneTurns, Turns}
 use Rattle.bl_machine_laws.specs.Numbers.Waiting.{Is, SomeWaits, Waits, check_of, first_in}
-use Rattle.bl_machine_laws.proofs.OnWaiting.Quiet.{after_closed, along, done_ends, each_in_part, in_part, part_closed}
+use Rattle.bl_machine_laws.proofs.OnWaiting.Quiet.{after_closed, along, each_in_part, in_part, part_closed}
+use Rattle.bl_ctree_laws.proofs.Less.{begun_strong, done_join, nil_ends}
+use Rattle.bl_ctree_laws_traces.proofs.OnProgress.Leading.{done_strong, is_the_nil}
+use Rattle.bl_ctree_laws_traces.proofs.OnBounded.Stepping.{crossing}
+use Rattle.bl_ctree_laws_traces.proofs.OnProgress.Beginning.{seq_unended, turn_unended}
 
 -- ---- walks
 
@@ -41,34 +45,18 @@ after_map {n = n} into after = record { by = after.by; edge = into n after.by af
 
 -- ---- trees that begin
 
-block_nil : (body : Block) → is_nil (do_block body) ≡ is_empty body
+pub block_nil : (body : Block) → is_nil (do_block body) ≡ is_empty body
 block_nil Done = refl
 block_nil (Then s Done) = refl
 block_nil (Then s (Then t rest)) = refl
 
-turn_open : (body : Block) (next : Plain) → is_nil (do_block (turn body next)) ≡ false
-turn_open Done next = refl
-turn_open (Then s Done) next = refl
-turn_open (Then s (Then t rest)) next = refl
-
-pub seq_open : (c : Tree) (s : Plain) (rest : Block) → is_nil (seq c (Then s rest)) ≡ false
-seq_open Nil s rest = block_nil (Then s rest)
-seq_open (Wait p) s rest = refl
-seq_open (Test p) s rest = refl
-seq_open (Idle body) s rest = refl
-seq_open (Do p) s rest = refl
-seq_open (Seq c after) s rest = refl
-seq_open (Par p stood branches) s rest = refl
-seq_open (Guard p phase stood c) s rest = refl
-seq_open (Run p callee phase stood c) s rest = refl
-
 -- what waits in a block that begins is its first node
-block_waits : (body : Block) (next : Option Node) (y : Node) → Waits (do_block body) next y → Is (first_in body next) y
+pub block_waits : (body : Block) (next : Option Node) (y : Node) → Waits (do_block body) next y → Is (first_in body next) y
 block_waits Done next y h = h
 block_waits (Then s Done) next y h = h
 block_waits (Then s (Then t rest)) next y h = h
 
-seq_waits : (c : Tree) (s : Plain) (rest : Block) (next : Option Node) (y : Node) → Waits (seq c (Then s rest)) next y → Waits c (Some (entry s)) y
+pub seq_waits : (c : Tree) (s : Plain) (rest : Block) (next : Option Node) (y : Node) → Waits (seq c (Then s rest)) next y → Waits c (Some (entry s)) y
 seq_waits Nil s rest next y h = block_waits (Then s rest) next y h
 seq_waits (Wait p) s rest next y h = h
 seq_waits (Test p) s rest next y h = h
@@ -132,11 +120,11 @@ point_leads g live turns.acts nil = at_once _ (live.0.outs _ refl)
 point_leads g live (turns.takes {body = body}) nil = at_once _ (live.0.outs _ (inr (inr (inl (sym (block_nil body) ∙ nil), refl))))
 point_leads g live (turns.passes {other = other}) nil = at_once _ (live.0.outs _ (inr (inr (inr (sym (block_nil other) ∙ nil), refl))))
 point_leads g live turns.pauses nil = true_false_any false nil refl
-point_leads g live (turns.repeats {l = l} {at = at} {body = body}) nil = true_false_any _ nil (turn_open body _)
-point_leads g live (turns.repeats_until {body = body}) nil = true_false_any _ nil (turn_open body _)
+point_leads g live (turns.repeats {l = l} {at = at} {body = body}) nil = true_false_any _ nil (turn_unended body _)
+point_leads g live (turns.repeats_until {body = body}) nil = true_false_any _ nil (turn_unended body _)
 point_leads g live turns.leaves nil = at_once _ (live.0.outs _ refl)
 point_leads g live turns.turns nil = true_false_any false nil refl
-point_leads g live (turns.enters {body = body}) nil = true_false_any _ nil (turn_open body _)
+point_leads g live (turns.enters {body = body}) nil = true_false_any _ nil (turn_unended body _)
 point_leads g live turns.skips nil = at_once _ (live.0.outs _ refl)
 point_leads g live turns.forks nil = true_false_any false nil refl
 point_leads g live turns.guards nil = true_false_any false nil refl
@@ -155,7 +143,7 @@ point_leads g live (turns.resets is) nil = true_false_any false nil refl
 point_leads g live (turns.guard_ends {s = s} {stood = stood}) nil =
     at_once _ (end_out s stood g (live.1.closes refl).0 live.1.fits.outs)
 point_leads {w} {i} g live (turns.joins {s = s} {stood = stood} {branches = branches} settled done) nil =
-    at_once _ (join_out w i s stood g (live.1.joins (done_ends branches done)).0 live.1.fits.outs)
+    at_once _ (join_out w i s stood g (live.1.joins (done_join branches done)).0 live.1.fits.outs)
 
 pub turn_leads : {w : Setting} {rank : ℕ → Node → ℕ} {i : ℕ} {c : Tree} {done : List AnsweredDeed} {n : Node} {c' : Tree} (g : Place) → FitsGraph w i c g →
     Turns w rank i c done n c' → is_nil c' ≡ true → LeadsOut g.edges g.out n
@@ -164,7 +152,7 @@ turn_leads g live (turns.runs called is passes lasts) nil = true_false_any false
 turn_leads g live (turns.resumes passes lasts) nil = true_false_any false nil refl
 turn_leads g live (turns.returns {s = s} {stood = stood} passes) nil =
     at_once _ (subst (λ b. g.out (run_node b s.label s.place s.arguments)) (sym live.2.has_stood) (live.2.fits.outs _ refl))
-turn_leads g live (turns.in_seq {s = s} {rest = rest} {c' = c'} t) nil = true_false_any _ nil (seq_open c' s rest)
+turn_leads g live (turns.in_seq {s = s} {rest = rest} {c' = c'} t) nil = true_false_any _ nil (seq_unended c' s rest)
 turn_leads g live (turns.in_par t) nil = true_false_any false nil refl
 turn_leads g live (turns.in_guard t) nil = true_false_any false nil refl
 
@@ -174,10 +162,6 @@ turn_leads g live (turns.in_guard t) nil = true_false_any false nil refl
 data HasEmpty : Bodies → Type 0 where
   here : {weak : Bool} {rest : Bodies} → HasEmpty (BodyOf weak Done rest)
   there : {weak : Bool} {body : Block} {rest : Bodies} → HasEmpty rest → HasEmpty (BodyOf weak body rest)
-
-begun_strong : (bodies : Bodies) → has_strong (trees_begun bodies) ≡ some_strong bodies
-begun_strong Last = refl
-begun_strong (BodyOf weak body rest) = ap (λ b. not weak || b) (begun_strong rest)
 
 -- all strong branches are empty: so all may end at once, and one is empty where one is strong
 strong_begun : (bodies : Bodies) → strong_ended (trees_begun bodies) ≡ true → strong_instant bodies ≡ true
@@ -302,19 +286,8 @@ point_fresh g next y live (turns.joins settled done) lasts h = true_false_any tr
 
 -- ---- turns
 
-pub nil_is : (c : Tree) → is_nil c ≡ true → c ≡ Nil
-nil_is Nil e = refl
-nil_is (Wait s) e = true_false_any false e refl
-nil_is (Test s) e = true_false_any false e refl
-nil_is (Idle body) e = true_false_any false e refl
-nil_is (Do s) e = true_false_any false e refl
-nil_is (Seq c rest) e = true_false_any false e refl
-nil_is (Par s stood branches) e = true_false_any false e refl
-nil_is (Guard s phase stood c) e = true_false_any false e refl
-nil_is (Run s callee phase stood c) e = true_false_any false e refl
-
 -- what has a turn has not ended
-unended : {w : Setting} {rank : ℕ → Node → ℕ} {i : ℕ} {c : Tree} {done : List AnsweredDeed} {n : Node} {c' : Tree} →
+pub unended : {w : Setting} {rank : ℕ → Node → ℕ} {i : ℕ} {c : Tree} {done : List AnsweredDeed} {n : Node} {c' : Tree} →
     Turns w rank i c done n c' → is_nil c ≡ false
 unended {w} {rank} {i} {c} {done} {n} {c'} t = by_test (is_nil c) refl
   where
@@ -325,7 +298,7 @@ unended {w} {rank} {i} {c} {done} {n} {c'} t = by_test (is_nil c) refl
     nil_rests (turns.point p) = nil_point p
 
     by_test : (b : Bool) → is_nil c ≡ b → is_nil c ≡ false
-    by_test true e = absurd (nil_rests (subst (λ (tree : Tree). Turns w rank i tree done n c') (nil_is c e) t))
+    by_test true e = absurd (nil_rests (subst (λ (tree : Tree). Turns w rank i tree done n c') (is_the_nil c e) t))
     by_test false e = e
 
 -- what leads to both ends of a `when` leads to the one that it has now
@@ -338,32 +311,11 @@ end_edge s false E instant both = both.0 (instant refl)
 abbrev pub FollowsBy : Tree → Option Node → Place → Type 0
 FollowsBy c next g = may_end c ≡ true → (m : Node) → g.out m → (y : Node) → Is next y → g.edges m y
 
-nil_may : (c : Tree) → is_nil c ≡ true → may_end c ≡ true
-nil_may c e = ap may_end (nil_is c e)
-
--- so many branches have ended that the `cobegin` ends: then all strong ones have
-strong_free : (branches : Trees) → has_strong branches ≡ false → strong_ended branches ≡ true
-strong_free no_tree e = refl
-strong_free (beside true c rest) e = strong_free rest e
-strong_free (beside false c rest) e = true_false_any true refl e
-
-pub done_strong : (branches : Trees) → are_done branches ≡ true → strong_ended branches ≡ true
-done_strong branches e = by_kind (has_strong branches) refl
-  where
-    by_kind : (b : Bool) → has_strong branches ≡ b → strong_ended branches ≡ true
-    by_kind true is = ap (λ b. if b then strong_ended branches else some_ended branches) (sym is) ∙ e
-    by_kind false is = strong_free branches is
-
 pub is_weak : (weak : Bool) (c : Tree) → (weak || is_nil c) ≡ true → is_nil c ≡ false → weak ≡ true
 is_weak true c e unended = refl
 is_weak false c e unended = true_false_any (is_nil c) e unended
 
 -- ---- nodes of two branches
-
-pub crossing : (stood weak : Bool) (body : Block) (rest : Bodies) (n m : Node) → In stood body n → InEach stood rest m →
-    BesideEach (BodyOf weak body rest) n m
-crossing false weak body rest n m one other = inr (inl (inl (one, other)))
-crossing true weak body rest n m one other = inr (inr (inl (inl (one, other))))
 
 -- the positions of nodes that stand in different branches true_false_any
 abbrev pub Parted : (Node → Node → Type 0) → Type 0
@@ -444,7 +396,7 @@ module _ {w : Setting} (rank : ℕ → Node → ℕ) (paces : Paces w) (shrinks 
         by_end : (b : Bool) → is_nil c' ≡ b → (Waits c next y × (y ≡ n → ⊥)) ⊎ After g.edges n y
         by_end true e =
             let leads = turn_leads {rank = rank} g live (turns.point p) e in
-            inr (walk_edge leads.walk (follows (ends_before (turns.point p) (nil_may c' e)) leads.end leads.out y (nil_waits c' next y e h)))
+            inr (walk_edge leads.walk (follows (ends_before (turns.point p) (nil_ends c' e)) leads.end leads.out y (nil_waits c' next y e h)))
         by_end false e = inr (point_fresh g next y live p e h)
     fresh g next y live parted follows (turns.runs called is passes lasts) h = absurd h
     fresh g next y live parted follows (turns.resumes passes lasts) h = absurd h
@@ -461,7 +413,7 @@ module _ {w : Setting} (rank : ℕ → Node → ℕ) (paces : Paces w) (shrinks 
     fresh {n = n} g next y live parted follows (turns.in_par {s = s} {stood = stood} {branches = branches} {branches' = branches'} t) (inr h) =
         inr (subst (After g.edges n) (sym h.1) (after_map (λ a b edge. live.1.fits.edges a b edge)
         (joins_after g stood (is_instant (fork_stmt s)) s.bodies s.label s.place
-        (live.1.joins (ends_before (turns.in_par {s = s} {stood = stood} t) (done_ends branches' h.0))).0 live.0 t (done_strong branches' h.0))))
+        (live.1.joins (ends_before (turns.in_par {s = s} {stood = stood} t) (done_join branches' h.0))).0 live.0 t (done_strong branches' h.0))))
     fresh g next y live parted follows (turns.in_guard {s = s} {stood = stood} t) h =
         fresh (guarded s g) (Some (end_node stood s.label s.place)) y live.0 parted (λ may m out k is. subst (g.edges m) (sym is)
         (end_edge s stood (g.edges m) (λ e. (live.1.closes may).0 e) out)) t h

@@ -10,12 +10,14 @@ use Rattle.bl_graph.specs.Walks.{After, Walk, on, stay}
 use Rattle.bl_ctree.specs.Control.{Body, Check}
 use Rattle.bl_ctree.specs.Instances.{Setting}
 use Rattle.bl_ctree_laws.specs.Pending.{may_end, may_join}
-use Rattle.bl_ctree_laws.specs.Trees.{Fork, Tree, Trees, Watch, Nil, Wait, Test, Idle, Do, Seq, Par, Guard, Run, are_done, are_settled, beside, has_strong}
-use Rattle.bl_ctree_laws.specs.Trees.{is_nil, is_settled, no_tree, some_ended, strong_ended}
+use Rattle.bl_ctree_laws.specs.Trees.{Fork, Tree, Trees, Watch, Nil, Wait, Test, Idle, Do, Seq, Par, Guard, Run, are_done, are_settled, beside}
+use Rattle.bl_ctree_laws.specs.Trees.{is_nil, is_settled, no_tree, some_ended}
 use Rattle.bl_ctree_laws_traces.specs.Progress.FitsGraph.{AllFitGraph, FitsGraph}
 use Rattle.bl_ctree_laws_traces.specs.Progress.Places.{Place, ahead_of, guarded, in_branch, later_on, whole}
 use Rattle.bl_machine_laws.specs.Numbers.Waiting.{Is, SomeWaits, Waits, check_of, first_in, test_of}
 use Rattle.bl_machine_laws.specs.Waiting.Laws.{AllPassed, RunsArePassed, SomethingWaits}
+use Rattle.bl_ctree_laws.proofs.Less.{done_join, nil_ends}
+use Rattle.bl_ctree_laws_traces.proofs.OnProgress.Leading.{one_on}
 
 -- ---- tests
 
@@ -173,35 +175,12 @@ pub along : {E : Node → Node → Type 0} {F : Node → Type 0} {n m : Node} �
 along closed f (stay n) = f
 along closed f (on n by m edge walk) = along closed (closed n by f edge) walk
 
-reached_on : {E : Node → Node → Type 0} {n by m : Node} → Walk E n by → E by m → Walk E n m
-reached_on (stay n) edge = on n _ _ edge (stay _)
-reached_on (on n via by first walk) edge = on n via _ first (reached_on walk edge)
-
 pub part_closed : (stood : Bool) (body : Block) → Closed (EdgeAll body) (In stood body)
-part_closed true body n m there edge = record { from = there.from; begins = there.begins; walk = reached_on there.walk edge }
-part_closed false body n m there edge = record { from = there.from; begins = there.begins; walk = reached_on there.walk edge }
+part_closed true body n m there edge = record { from = there.from; begins = there.begins; walk = one_on there.walk edge }
+part_closed false body n m there edge = record { from = there.from; begins = there.begins; walk = one_on there.walk edge }
 
 pub after_closed : {E : Node → Node → Type 0} {n : Node} → Closed E (After E n)
-after_closed m k there edge = record { by = there.by; edge = there.edge; rest = reached_on there.rest edge }
-
--- what has ended may end
-nil_ends : (c : Tree) → is_nil c ≡ true → may_end c ≡ true
-nil_ends Nil e = refl
-nil_ends (Wait s) e = true_false_any false e refl
-nil_ends (Test s) e = true_false_any false e refl
-nil_ends (Idle body) e = true_false_any false e refl
-nil_ends (Do s) e = true_false_any false e refl
-nil_ends (Seq c rest) e = true_false_any false e refl
-nil_ends (Par s stood branches) e = true_false_any false e refl
-nil_ends (Guard s phase stood c) e = true_false_any false e refl
-nil_ends (Run s callee phase stood c) e = true_false_any false e refl
-
-strong_end : (branches : Trees) → strong_ended branches ≡ true → may_join true branches ≡ true
-strong_end no_tree e = refl
-strong_end (beside true c rest) e = strong_end rest e
-strong_end (beside false c rest) e =
-    ap (λ b. b && may_join true rest) (nil_ends c (and_first (is_nil c) (strong_ended rest) e))
-    ∙ strong_end rest (and_second (is_nil c) (strong_ended rest) e)
+after_closed m k there edge = record { by = there.by; edge = there.edge; rest = one_on there.rest edge }
 
 some_end_first : (c : Tree) (rest : Trees) → (is_nil c || some_ended rest) ≡ true → (some_ended rest ≡ true → may_join false rest ≡ true) →
     (may_end c || may_join false rest) ≡ true
@@ -214,19 +193,6 @@ some_end_first c rest e others = by_first (is_nil c) refl
     by_first : (b : Bool) → is_nil c ≡ b → (may_end c || may_join false rest) ≡ true
     by_first true is = ap (λ b. b || may_join false rest) (nil_ends c is)
     by_first false is = or_last (may_end c) (may_join false rest) (others (ap (λ b. b || some_ended rest) (sym is) ∙ e))
-
-some_end : (branches : Trees) → some_ended branches ≡ true → may_join false branches ≡ true
-some_end no_tree e = e
-some_end (beside weak c rest) e = some_end_first c rest e (λ f. some_end rest f)
-
-pub done_ends : (branches : Trees) → are_done branches ≡ true → may_join (has_strong branches) branches ≡ true
-done_ends branches e = by_strong (has_strong branches) refl
-  where
-    by_strong : (b : Bool) → has_strong branches ≡ b → may_join (has_strong branches) branches ≡ true
-    by_strong true is =
-        ap (λ b. may_join b branches) is ∙ strong_end branches (ap (λ b. if b then strong_ended branches else some_ended branches) (sym is) ∙ e)
-    by_strong false is =
-        ap (λ b. may_join b branches) is ∙ some_end branches (ap (λ b. if b then strong_ended branches else some_ended branches) (sym is) ∙ e)
 
 -- where the tree has ended, what follows it may act
 abbrev pub NextNow : Tree → Option Node → (Node → Type 0) → Type 0
@@ -246,7 +212,7 @@ mutual
   in_part w i g (Par s stood branches) next n live closed follows (inl h) =
       live.1.holds.now n (each_in_part w i g stood branches s.bodies n live.0 h)
   in_part w i g (Par s stood branches) next n live closed follows (inr h) =
-      subst g.now (sym h.1) (live.1.joins (done_ends branches h.0)).1
+      subst g.now (sym h.1) (live.1.joins (done_join branches h.0)).1
   in_part w i g (Guard s Body stood c) next n live closed follows h =
       in_part w i (guarded s g) c (Some (end_node stood s.label s.place)) n live.0 closed
       (λ nil m is. subst g.now (sym is) (live.1.closes (nil_ends c nil)).1) h

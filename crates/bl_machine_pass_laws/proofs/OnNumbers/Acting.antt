@@ -21,7 +21,6 @@ use Rattle.bl_machine.specs.Uses.{Slots, uses_in, uses_in_branch, uses_in_each}
 use Rattle.bl_machine_laws.specs.Numbers.Numbers.{At, Next, Over, Rests}
 use Rattle.bl_machine_laws.specs.Numbers.Turns as turns
 use Rattle.bl_machine_laws.specs.Numbers.Turns.{AnsweredDeed, InstancePoint, OneTurns, Turns}
-use Rattle.bl_machine_laws.proofs.OnWaiting.Quiet.{done_ends}
 use Rattle.bl_machine_pass.specs.SlotLayout.{BranchesRestAt}
 use Rattle.bl_machine_pass.specs.Transitions.{Change, ClearsBoth, ClearsCounter, Flagged, IsNew, Rested, SetsCounter, SetsFlag, Transition, body_ends}
 use Rattle.bl_machine_pass.specs.Transitions.{counters_in, counters_in_each, enter, enter_each, fires, flagged, joins, marked, once, rules_of}
@@ -35,6 +34,7 @@ use Rattle.bl_machine_pass_laws.proofs.OnNumbers.Members.{Each, each_of}
 use Rattle.bl_machine_pass_laws.proofs.OnNumbers.Numbered.{none_may, rest_lingers, unused_lingers}
 use Rattle.bl_machine_pass_laws.proofs.OnNumbers.Parts.{check, check_there, depth_end_there, depth_join, depth_join_there, surface_end_there}
 use Rattle.bl_machine_pass_laws.proofs.OnNumbers.Parts.{surface_join_there}
+use Rattle.bl_ctree_laws.proofs.Less.{done_join}
 
 -- what a rule changes where its node has acted with this answer
 abbrev pub changes_of : Transition → Bool → List Change
@@ -261,7 +261,7 @@ module _ (slots : Slots) (all : List Transition) (number : Node → ℕ) where
     point_acts g (turns.guard_ends {s = s} {stood = stood}) live sits lies within =
         end_acts s stood (live.1.closes refl).0 sits.0
     point_acts g (turns.joins {s = s} {stood = stood} {branches = branches} settled done) live sits lies within =
-        join_acts s stood branches (live.1.joins (done_ends branches done)).0 sits.0 within.0
+        join_acts s stood branches (live.1.joins (done_join branches done)).0 sits.0 within.0
 
   -- a `run` that ends: it has stood
   returns_acts : (low : ℕ) (used : ℕ → Bool) (change : Change) (next : Next) (last : Bool) → Goes all low number used change next last → (s : Call)

@@ -1,15 +1,9 @@
 -- Tests.
 use Rattle.std.proofs.Common.{◌≡◌, Bool, true, false, ◌||◌, if◌then◌else◌, refl}
-use Rattle.bl_tree.proofs.Basics.{true_false_any}
 
 pub either : {A : Type 0} (b : Bool) → (b ≡ true → A) → (b ≡ false → A) → A
 either true on off = on refl
 either false on off = off refl
-
--- what isn't true where the other is false
-pub unless : (a b : Bool) → (a ≡ true → b ≡ true) → b ≡ false → a ≡ false
-unless true b follows e = absurd (true_false_any b (follows refl) e)
-unless false b follows e = refl
 
 pub if_true : {A : Type 0} (b : Bool) (x y : A) → b ≡ true → (if b then x else y) ≡ x
 if_true true x y e = refl

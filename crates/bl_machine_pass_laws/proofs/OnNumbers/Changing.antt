@@ -15,7 +15,8 @@ use Rattle.bl_machine_pass.specs.Registers.{Registers, all_changed, changed, wit
 use Rattle.bl_machine_pass.specs.Transitions.{Change, ClearsBoth, ClearsCounter, EndsWhen, Finishes, SetsCounter, SetsFlag, Transition, body_ends, counters_in}
 use Rattle.bl_machine_pass.specs.Transitions.{counters_in_each, counters_of, enter, once, once_but}
 use Rattle.bl_machine_pass_laws.specs.Turns.Holds.{Lingers, NextMayHold}
-use Rattle.bl_machine_pass_laws.proofs.OnNumbers.Bools.{either, if_false, if_same, if_true, unless}
+use Rattle.bl_machine_pass_laws.proofs.OnNumbers.Bools.{either, if_false, if_same, if_true}
+use Rattle.bl_ctree_laws.proofs.Tests.{not_less}
 
 -- ---- what follows a part
 
@@ -39,7 +40,7 @@ last_false (Then s rest) = refl
 pub set_keeps : (used : ℕ → Bool) (k v : ℕ) (counters : ℕ → ℕ) (j : ℕ) → used k ≡ true → used j ≡ false →
     with_at k v counters j ≡ counters j
 set_keeps used k v counters j there off =
-    if_false (nat_eq j k) v (counters j) (unless (nat_eq j k) (used j) (λ e. ap used (same_number j k e) ∙ there) off)
+    if_false (nat_eq j k) v (counters j) (not_less (nat_eq j k) (used j) (λ e. ap used (same_number j k e) ∙ there) off)
 
 module _ (all : List Transition) (low : ℕ) (number : Node → ℕ) (used : ℕ → Bool) where
   pub flags_go : (n : Node) (next : Next) → ((j v : ℕ) → Lingers all low j v → NextMayHold all low next j v) →
@@ -139,7 +140,7 @@ once_step : (j k : ℕ) (seen rest : List ℕ) → is_in j seen ≡ false → (b
     ((more : List ℕ) → is_in j more ≡ false → is_in j (once_but more rest) ≡ is_in j rest) →
     is_in j (if b then once_but seen rest else k ∷ once_but (k ∷ seen) rest) ≡ (nat_eq j k || is_in j rest)
 once_step j k seen rest off true is again =
-    again seen off ∙ sym (ap (λ b. b || is_in j rest) (unless (nat_eq j k) (is_in j seen) (λ e. ap (λ m. is_in m seen) (same_number j k e) ∙ is) off))
+    again seen off ∙ sym (ap (λ b. b || is_in j rest) (not_less (nat_eq j k) (is_in j seen) (λ e. ap (λ m. is_in m seen) (same_number j k e) ∙ is) off))
 once_step j k seen rest off false is again =
     either (nat_eq j k)
     (λ e. ap (λ b. b || is_in j (once_but (k ∷ seen) rest)) e ∙ sym (ap (λ b. b || is_in j rest) e))

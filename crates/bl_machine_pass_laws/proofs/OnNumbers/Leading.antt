@@ -15,10 +15,12 @@ use Rattle.bl_machine_pass.specs.Registers.{Registers, all_changed, changed}
 use Rattle.bl_machine_pass.specs.Transitions.{Change, ClearsBoth, ClearsCounter, SetsCounter, SetsFlag, SetsMark, Transition, counters_in, counters_in_each}
 use Rattle.bl_machine_pass.specs.Transitions.{enter, enter_each, marked, once}
 use Rattle.bl_machine_pass_laws.specs.Turns.Holds.{BranchesMayHold, Lingers, MayHold}
-use Rattle.bl_machine_pass_laws.proofs.OnNumbers.Bools.{either, if_false, if_same, if_true, unless}
+use Rattle.bl_machine_pass_laws.proofs.OnNumbers.Bools.{either, if_false, if_same, if_true}
 use Rattle.bl_machine_pass_laws.proofs.OnNumbers.Changing.{Goes, changed_append, enter_go, forgets_in, forgets_over, frees_each, frees_over, holds_go}
 use Rattle.bl_machine_pass_laws.proofs.OnNumbers.Changing.{last_false, last_in}
-use Rattle.bl_machine_pass_laws.proofs.OnNumbers.Numbered.{block_may, block_nil, seq_may, seq_open}
+use Rattle.bl_machine_pass_laws.proofs.OnNumbers.Numbered.{block_may, block_nil, seq_may}
+use Rattle.bl_ctree_laws_traces.proofs.OnProgress.Beginning.{seq_unended}
+use Rattle.bl_ctree_laws.proofs.Tests.{not_less}
 
 -- Leads slots all low number used c next last c' changes: the changes lead from what counters may hold for the tree c to that for c', where `next`
 -- follows; they leave all counters that aren't used; and they end the body where the tree has ended, if that is its end
@@ -60,7 +62,7 @@ module _ (slots : Slots) (all : List Transition) (low : ℕ) (number : Node → 
         (λ on. inl (if_true (uses_in_each slots l 0 bodies j) 0 (r.counters j) on))
         (λ off. subst (Lingers all low j) (sym (if_false (uses_in_each slots l 0 bodies j) 0 (r.counters j) off)) (none j (r.counters j) off e)));
     keeps_unused = λ r j off. frees_each number slots l bodies r j
-        ∙ if_false (uses_in_each slots l 0 bodies j) 0 (r.counters j) (unless (uses_in_each slots l 0 bodies j) (used j) (within j) off);
+        ∙ if_false (uses_in_each slots l 0 bodies j) 0 (r.counters j) (not_less (uses_in_each slots l 0 bodies j) (used j) (within j) off);
     goes_on = λ r. frees_over number (once (counters_in_each slots l 0 bodies)) r;
   }
 
@@ -72,7 +74,7 @@ module _ (slots : Slots) (all : List Transition) (low : ℕ) (number : Node → 
         (λ on. inl (if_true (uses_in slots body j) 0 (r.counters j) on))
         (λ off. subst (Lingers all low j) (sym (if_false (uses_in slots body j) 0 (r.counters j) off)) (none j (r.counters j) off e)));
     keeps_unused = λ r j off. forgets_in number slots body r j
-        ∙ if_false (uses_in slots body j) 0 (r.counters j) (unless (uses_in slots body j) (used j) (within j) off);
+        ∙ if_false (uses_in slots body j) 0 (r.counters j) (not_less (uses_in slots body j) (used j) (within j) off);
     goes_on = λ r. forgets_over number (once (counters_in slots body)) r;
   }
 
@@ -149,7 +151,7 @@ module _ (slots : Slots) (all : List Transition) (low : ℕ) (number : Node → 
   seq_leads used c s rest next last c' changes leads = record {
     numbers = λ r j e. seq_may slots all low c' s rest next j ((all_changed number changes r).counters j) (leads.numbers r j e);
     keeps_unused = leads.keeps_unused;
-    ends = λ r e. leads.ends r e ∙ if_same (is_nil c') false ∙ sym (if_false (is_nil (seq c' (Then s rest))) last false (seq_open c' s rest));
+    ends = λ r e. leads.ends r e ∙ if_same (is_nil c') false ∙ sym (if_false (is_nil (seq c' (Then s rest))) last false (seq_unended c' s rest));
   }
 
   pub guard_leads : (used : ℕ → Bool) (whole : Tree) (c : Tree) (next : Next) (last : Bool) (s : Watch) (phase : Phase) (stood : Bool) (c' : Tree)
@@ -159,7 +161,7 @@ module _ (slots : Slots) (all : List Transition) (low : ℕ) (number : Node → 
       Leads slots all low number used whole next last (Guard s phase stood c') changes
   guard_leads used whole c next last s phase stood c' changes within is leads = record {
     numbers = λ r j e. leads.numbers r j (is j (r.counters j) e);
-    keeps_unused = λ r j off. leads.keeps_unused r j (unless (uses_in slots s.body j) (used j) (within j) off);
+    keeps_unused = λ r j off. leads.keeps_unused r j (not_less (uses_in slots s.body j) (used j) (within j) off);
     ends = λ r e. leads.ends r e ∙ if_same (is_nil c') false;
   }
 
@@ -262,7 +264,7 @@ module _ (slots : Slots) (all : List Transition) (low : ℕ) (number : Node → 
   fork_leads used c next last s stood within begins laid none = record {
     numbers = λ r j e. all_begin s.label s.bodies begins laid r j (none j (r.counters j) e);
     keeps_unused = λ r j off.
-        begun_keeps slots all number s.label 0 s.bodies r j (unless (uses_in_each slots s.label 0 s.bodies j) (used j) (within j) off);
+        begun_keeps slots all number s.label 0 s.bodies r j (not_less (uses_in_each slots s.label 0 s.bodies j) (used j) (within j) off);
     ends = λ r e. begun_over slots all number s.label 0 s.bodies r e;
   }
 
@@ -272,6 +274,6 @@ module _ (slots : Slots) (all : List Transition) (low : ℕ) (number : Node → 
       Leads slots all low number used (Par s stood branches) next last (Par s stood branches') changes
   par_leads used next last s stood branches branches' changes within leads = record {
     numbers = leads.numbers;
-    keeps_unused = λ r j off. leads.keeps_unused r j (unless (uses_in_each slots s.label 0 s.bodies j) (used j) (within j) off);
+    keeps_unused = λ r j off. leads.keeps_unused r j (not_less (uses_in_each slots s.label 0 s.bodies j) (used j) (within j) off);
     ends = leads.goes_on;
   }

@@ -340,7 +340,7 @@ one_rule all once one two a b same =
 abbrev slot_of : ℕ → ℕ → Slot
 slot_of counter value = record { counter = counter; value = value }
 
-slot_is : (a b : Slot) → a.counter ≡ b.counter → a.value ≡ b.value → a ≡ b
+pub slot_is : (a b : Slot) → a.counter ≡ b.counter → a.value ≡ b.value → a ≡ b
 slot_is a b counter value =
     ap (λ (x : ℕ). slot_of x a.value) counter ∙ ap (λ (y : ℕ). slot_of b.counter y) value
 

@@ -1,13 +1,12 @@
 -- What goes on where a tree has rested: the rules of its places, and the conditions around them.
 use Rattle.std.proofs.Common.{◌≡◌, ◌⊎◌, inl, inr, ℕ, zero, suc, Bool, true, false, ◌&&◌, not, List, [], ◌∷◌, ◌++◌, map, refl, ap, sym, ◌∙◌, subst}
 use Rattle.std.specs.Prelude.{Contains}
-use Rattle.std.proofs.lemmas.Bool.{not-true}
 use Rattle.bl_tree.proofs.Basics.{and_first, and_second}
 use Rattle.bl_graph_nodes.specs.Nodes.{CheckAt, DepthEndAt, Node, ResumeAt, SurfaceEndAt, TestAt, are_instant, entry}
 use Rattle.bl_graph_nodes.specs.Plain.{Await, Bodies, Body as BodyOf, Done, Label, Last, Then}
-use Rattle.bl_ctree.specs.Control.{Body, Check, Phase}
+use Rattle.bl_ctree.specs.Control.{Body, Check}
 use Rattle.bl_ctree.specs.Instances.{Setting}
-use Rattle.bl_ctree_laws.specs.Trees.{Call, Pause, Watch, Tree, Trees, Nil, Wait, Test, Idle, Do, Seq, Par, Guard, Run, are_done, are_settled, beside, in_body}
+use Rattle.bl_ctree_laws.specs.Trees.{Call, Pause, Watch, Tree, Trees, Nil, Wait, Test, Idle, Do, Seq, Par, Guard, Run, are_done, are_settled, beside}
 use Rattle.bl_ctree_laws.specs.Trees.{is_nil, is_settled, no_tree, woken, all_woken}
 use Rattle.bl_ctree_laws_traces.specs.Progress.FitsGraph.{AllFitGraph, FitsGraph, call_stmt, watch_stmt}
 use Rattle.bl_ctree_laws_traces.specs.Progress.Places.{Place, ahead_of, guarded}
@@ -24,15 +23,9 @@ use Rattle.bl_machine_pass_laws.specs.Spots.{Has}
 use Rattle.bl_machine_pass_laws.proofs.OnSpots.{has_cases}
 use Rattle.bl_machine_pass_laws.proofs.OnRooted.Covers.{has_left, has_right}
 use Rattle.bl_machine_pass_laws.proofs.OnRooted.Resting.{ended_at, only_one, resting, resting_each}
+use Rattle.bl_machine_pass_laws.proofs.OnSame.Inside.{phase_open, phase_settled}
 
 -- ---- settled parts
-
-phase_settled : (phase : Phase) (c : Tree) → (in_body phase && (is_settled c && not (is_nil c))) ≡ true → is_settled c ≡ true
-phase_settled phase c e = and_first (is_settled c) (not (is_nil c)) (and_second (in_body phase) (is_settled c && not (is_nil c)) e)
-
-phase_open : (phase : Phase) (c : Tree) → (in_body phase && (is_settled c && not (is_nil c))) ≡ true → is_nil c ≡ false
-phase_open phase c e =
-    not-true (is_nil c) (and_second (is_settled c) (not (is_nil c)) (and_second (in_body phase) (is_settled c && not (is_nil c)) e))
 
 -- a rule behind one that may be there
 past_where : (test : Bool) (r : Transition) (rules : List Transition) (rule : Transition) → In rule rules → In rule (rule_where test r ++ rules)

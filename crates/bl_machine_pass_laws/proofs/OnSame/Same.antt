@@ -29,6 +29,7 @@ use Rattle.bl_machine_pass_laws.specs.Same.Residual.{BegunResidual, InstanceResi
 use Rattle.bl_machine_pass_laws.proofs.OnSame.Inside.{end_is, inside_body, inside_each, inside_in, inside_of, phase_open}
 use Rattle.bl_machine_pass_laws.proofs.OnSame.Inside.{phase_settled, resting_followed, settled_followed, some_in, some_of, unsettled}
 use Rattle.bl_machine_pass_laws.proofs.OnSame.Leaving.{open_in, woken_followed}
+use Rattle.bl_machine_pass_laws.proofs.OnRooted.Resuming.{slot_is}
 
 -- ---- two trees that rest
 
@@ -59,9 +60,6 @@ record Twins (l : Label) (k : ℕ) (branches branches' : Trees) : Type 0 where
 
 abbrev slot_of : ℕ → ℕ → Slot
 slot_of counter value = record { counter = counter; value = value }
-
-slot_is : (a b : Slot) → a.counter ≡ b.counter → a.value ≡ b.value → a ≡ b
-slot_is a b one two = ap (λ (x : ℕ). slot_of x a.value) one ∙ ap (λ (y : ℕ). slot_of b.counter y) two
 
 -- ---- branches
 

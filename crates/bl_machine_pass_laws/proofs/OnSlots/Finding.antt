@@ -14,7 +14,7 @@ use Rattle.bl_machine_pass_laws.specs.Spots.{Has, SpotsAreDistinct}
 
 -- ---- tests
 
-label_is : (l m : Label) → same_label l m ≡ true → l ≡ m
+pub label_is : (l m : Label) → same_label l m ≡ true → l ≡ m
 label_is l m e =
     let position : l.position ≡ m.position =
     (bytes_eq-Decides l.position m.position).0 (and_first (bytes_eq l.position m.position) (nat_eq l.passed m.passed) e) in
@@ -22,12 +22,12 @@ label_is l m e =
     eqb-true l.passed m.passed (and_second (bytes_eq l.position m.position) (nat_eq l.passed m.passed) e) in
     ap (λ p. record { position = p; passed = l.passed }) position ∙ ap (λ n. record { position = m.position; passed = n }) passed
 
-label_itself : (l : Label) → same_label l l ≡ true
+pub label_itself : (l : Label) → same_label l l ≡ true
 label_itself l =
     and_from (bytes_eq l.position l.position) (nat_eq l.passed l.passed) ((bytes_eq-Decides l.position l.position).1 refl)
     (eq-eqb l.passed l.passed refl)
 
-spot_is : (p q : Spot) → same_spot p q ≡ true → p ≡ q
+pub spot_is : (p q : Spot) → same_spot p q ≡ true → p ≡ q
 spot_is (RestOf l) (RestOf m) e = ap RestOf (label_is l m e)
 spot_is (EndOf l j) (EndOf m k) e =
     let label : l ≡ m = label_is l m (and_first (same_label l m) (nat_eq j k) e) in
@@ -36,13 +36,13 @@ spot_is (EndOf l j) (EndOf m k) e =
 spot_is (RestOf l) (EndOf m k) e = absurd cc
 spot_is (EndOf l j) (RestOf m) e = absurd cc
 
-spot_itself : (p : Spot) → same_spot p p ≡ true
+pub spot_itself : (p : Spot) → same_spot p p ≡ true
 spot_itself (RestOf l) = label_itself l
 spot_itself (EndOf l k) = and_from (same_label l l) (nat_eq k k) (label_itself l) (eq-eqb k k refl)
 
 -- ---- positions
 
-has_at : (xs : List Spot) (i : ℕ) (p : Spot) → slice_get xs i ≡ Some p → Has xs p
+pub has_at : (xs : List Spot) (i : ℕ) (p : Spot) → slice_get xs i ≡ Some p → Has xs p
 has_at [] i p is = absurd cc
 has_at (x ∷ xs) zero p is = inl (sym (same_some x p is))
 has_at (x ∷ xs) (suc i) p is = inr (has_at xs i p is)
@@ -52,7 +52,7 @@ found_past : (b : Bool) (k : ℕ) → b ≡ false → (if b then 0 else suc k) �
 found_past true k e = absurd cc
 found_past false k e = refl
 
-found_first : (b : Bool) (k : ℕ) → b ≡ true → (if b then 0 else suc k) ≡ 0
+pub found_first : (b : Bool) (k : ℕ) → b ≡ true → (if b then 0 else suc k) ≡ 0
 found_first true k e = refl
 found_first false k e = absurd cc
 

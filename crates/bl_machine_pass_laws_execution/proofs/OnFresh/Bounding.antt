@@ -1,12 +1,12 @@
 -- In typed bodies declarations are of variables behind the parameters, and `run`s give no more inputs than there are parameters.
-use Rattle.std.proofs.Common.{◌≡◌, ◌⊎◌, inl, inr, ℕ, zero, suc, ◌+◌, ◌-◌, ◌<◌, ◌≤◌, Bool, true, false, ◌&&◌, ◌||◌, ◌++◌, append_assoc, append-nil, List, []}
+use Rattle.std.proofs.Common.{◌≡◌, ◌⊎◌, inl, inr, ℕ, zero, suc, ◌+◌, ◌-◌, ◌<◌, ◌≤◌, Bool, true, false, ◌&&◌, ◌||◌, ◌++◌, List, []}
 use Rattle.std.proofs.Common.{◌∷◌, map, take, drop, length, get_or, Option, Some, None, refl, sym, ap, ◌∙◌, subst, arith}
 use Rattle.std.proofs.lemmas.Bool.{leb-true, ltb-false, ltb-true}
 use Rattle.std.proofs.lemmas.List.Elements.{All-head, All-tail}
 use Rattle.std.proofs.lemmas.Option.{slice_get_within}
 use Rattle.std.specs.List.{list_all}
 use Rattle.std.specs.Prelude.{nat_le, nat_lt, option_and_then, slice_get}
-use Rattle.bl_tree.proofs.Basics.{all_of_each, and_first, and_second, contains_at, map_length, one_some}
+use Rattle.bl_tree.proofs.Basics.{and_first, and_second, contains_at, map_length, one_some}
 use Rattle.bl_tree.specs.declared.place.Place.{Place}
 use Rattle.bl_tree.specs.declared.tree.Arm.{Arm, fold-Arm, fold_out-Arm, out-Arm}
 use Rattle.bl_tree.specs.declared.tree.Branch.{Branch, fold-Branch, fold_out-Branch, out-Branch}
@@ -24,7 +24,7 @@ use Rattle.bl_tree.specs.declared.tree.Unit.{Unit as UnitDef}
 use Rattle.bl_tree.specs.declared.tree.Var.{Var}
 use Rattle.bl_tree.specs.Apart.{is_apart}
 use Rattle.bl_tree.specs.Depths.{is_shallow}
-use Rattle.bl_tree.specs.Program.{is_input, is_output, locals_of, names_of, parameters_of, roles_stand, unit_stands, units_stand_after}
+use Rattle.bl_tree.specs.Program.{is_input, is_output, locals_of, names_of, parameters_of, roles_stand, unit_stands}
 use Rattle.bl_tree.specs.Reduce.{all_of, joined}
 use Rattle.bl_tree.specs.Returns.{unit_returns}
 use Rattle.bl_tree.specs.Static.{static_of}
@@ -49,14 +49,10 @@ use Rattle.bl_machine_pass_laws_execution.specs.Fresh.Fresh.{arity, locals}
 use Rattle.bl_machine_pass_laws_execution.specs.Fresh.Laws.{BodiesAsk}
 use Rattle.bl_machine_pass_laws_execution.proofs.OnFresh.Lists.{among_by, in_range, none_among}
 use Rattle.bl_machine_pass_laws_execution.proofs.OnFresh.Naming.{BeginsNamed, body_named}
-
-of_first : {A : Type 0} (P : A → Type 0) (xs ys : List A) → AllOf P (xs ++ ys) → AllOf P xs
-of_first P [] ys all = tt
-of_first P (x ∷ xs) ys all = (all.0, of_first P xs ys all.1)
-
-of_second : {A : Type 0} (P : A → Type 0) (xs ys : List A) → AllOf P (xs ++ ys) → AllOf P ys
-of_second P [] ys all = all
-of_second P (x ∷ xs) ys all = of_second P xs ys all.1
+use Rattle.bl_eval.proofs.UnitFits.{unit_at as unit_stands_at}
+use Rattle.bl_ctree_laws_confluence.proofs.OnDeeds.Activities.{taken}
+use Rattle.bl_ctree_laws_confluence.proofs.OnDeeds.Aliases.{of_first, of_second}
+use Rattle.bl_machine_laws.proofs.OnRests.Whole.{body_fits}
 
 -- ---- inputs
 
@@ -378,20 +374,6 @@ module _ (w : Setting) (i : ℕ) (unit : UnitDef) (site : TypingContext) (units 
 
 -- ---- units that stand
 
-unit_stands_at : (structs : List StructDef) (earlier units : List UnitDef) (k : ℕ) (unit : UnitDef) →
-    units_stand_after structs earlier units ≡ true → slice_get units k ≡ Some unit → unit_stands structs (earlier ++ take k units) unit
-    ≡ true
-unit_stands_at structs earlier [] k unit stand there = absurd cc
-unit_stands_at structs earlier (first ∷ units) zero unit stand there =
-    let same : first ≡ unit = cc in
-    subst (λ earlier. unit_stands structs earlier unit ≡ true) (sym (append-nil earlier))
-    (subst (λ unit. unit_stands structs earlier unit ≡ true) same
-    (and_first (unit_stands structs earlier first) (units_stand_after structs (earlier ++ first ∷ []) units) stand))
-unit_stands_at structs earlier (first ∷ units) (suc k) unit stand there =
-    subst (λ earlier. unit_stands structs earlier unit ≡ true) (append_assoc earlier (first ∷ []) (take k units))
-    (unit_stands_at structs (earlier ++ first ∷ []) units k unit
-    (and_second (unit_stands structs earlier first) (units_stand_after structs (earlier ++ first ∷ []) units) stand) there)
-
 unit_roles : (structs : List StructDef) (earlier : List UnitDef) (unit : UnitDef) → unit_stands structs earlier unit ≡ true → Roles unit
 unit_roles structs earlier unit stands =
     let named : Bool = list_all is_name (names_of unit.vars) && are_distinct (names_of (parameters_of unit)) in
@@ -399,23 +381,6 @@ unit_roles structs earlier unit stands =
     let fit : Bool = list_all (fits (site_of structs earlier unit)) unit.body in
     let others : Bool = unit_returns unit && (is_shallow 200 unit.body && list_all is_apart unit.body) in
     roles_so unit (and_first (roles_stand unit) named (and_first (roles_stand unit && named) (types && (fit && others)) stands))
-
-unit_fits : (structs : List StructDef) (earlier : List UnitDef) (unit : UnitDef) → unit_stands structs earlier unit ≡ true →
-    all_of (map (fits (site_of structs earlier unit)) unit.body) ≡ true
-unit_fits structs earlier unit stands =
-    let named : Bool = list_all is_name (names_of unit.vars) && are_distinct (names_of (parameters_of unit)) in
-    let types : Bool = list_all (λ (var : Var). type_stands (length structs) var.ty) unit.vars in
-    let fit : Bool = list_all (fits (site_of structs earlier unit)) unit.body in
-    let others : Bool = unit_returns unit && (is_shallow 200 unit.body && list_all is_apart unit.body) in
-    all_of_each (fits (site_of structs earlier unit)) unit.body
-    (and_first fit others (and_second types (fit && others) (and_second (roles_stand unit && named) (types && (fit && others)) stands)))
-
-taken : (units : List UnitDef) (n k : ℕ) (unit : UnitDef) → slice_get (take n units) k ≡ Some unit → slice_get units k ≡ Some unit
-taken [] zero k unit e = absurd cc
-taken [] (suc n) k unit e = absurd cc
-taken (u ∷ units) zero k unit e = absurd cc
-taken (u ∷ units) (suc n) zero unit e = e
-taken (u ∷ units) (suc n) (suc k) unit e = taken units n k unit e
 
 -- the unit of an instance is one of the program's
 unit_found : (w : Setting) (i : ℕ) (unit : UnitDef) → unit_at w i ≡ Some unit → (k : ℕ) × (slice_get w.units k ≡ Some unit)
@@ -436,6 +401,6 @@ bodies_ask callers structs units entry i unit keeps from is =
             taken units at.0 a callee there,
             unit_roles structs (take a units) callee (unit_stands_at structs [] units a callee keeps.units_stand (taken units at.0 a callee there)),
           ))
-          (BeginsNamed structs units entry keeps i) (λ run holds. holds) unit.body (unit_fits structs (take at.0 units) unit stands)
+          (BeginsNamed structs units entry keeps i) (λ run holds. holds) unit.body (body_fits structs (take at.0 units) unit stands)
           (body_named structs units entry keeps callers i unit is),
     )

@@ -11,7 +11,6 @@ use Rattle.bl_tree.specs.Program.{IsWellTyped}
 use Rattle.bl_tree.specs.Reduce.{joined}
 use Rattle.bl_tree.specs.Rules.{same_place}
 use Rattle.bl_tree.specs.Within.{StandsIn, place_of}
-use Rattle.bl_effects.proofs.EntryLemmas.{same_place_is}
 use Rattle.bl_ctree.specs.declared.instance.Instance.{Instance}
 use Rattle.bl_ctree.specs.declared.instance.Origin.{Origin}
 use Rattle.bl_ctree.specs.declared.instance.Run.{Run}
@@ -19,6 +18,7 @@ use Rattle.bl_ctree.specs.Instances.{Setting, begins_at, callee_of, runs_in, set
 use Rattle.bl_ctree_laws_confluence.specs.Deeds.Origins.{CalledBy, HasCaller, InstancesHaveCallers}
 use Rattle.bl_ctree_laws_confluence.proofs.OnDeeds.Activities.{AllOf}
 use Rattle.bl_ctree_laws_confluence.proofs.OnApart.Placed.{RunAs, runs_listed, same_unit, unit_listed}
+use Rattle.bl_tree.proofs.FirstLemmas.{same_true}
 
 -- ---- the unit of what a `run` begins
 
@@ -41,7 +41,7 @@ module _ (structs : List StructDef) (units : List UnitDef) (entry : ℕ) (keeps 
       subst (λ o. begins_at i place o ≡ true) began (subst (λ instance. begins_at i place instance.origin ≡ true) same found.1) in
       record {
         caller = eqb-true origin.caller i (and_first (nat_eq origin.caller i) (same_place origin.place place) is);
-        at = same_place_is origin.place place (and_second (nat_eq origin.caller i) (same_place origin.place place) is);
+        at = same_true origin.place place (and_second (nat_eq origin.caller i) (same_place origin.place place) is);
       }
 
   -- the instance that a `run` begins is of the unit that it names

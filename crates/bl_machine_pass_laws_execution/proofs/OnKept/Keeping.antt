@@ -36,8 +36,8 @@ use Rattle.bl_machine_pass_laws_execution.specs.Frames.{ChangeOnly, Frames}
 use Rattle.bl_machine_pass_laws_execution.specs.Fresh.Laws.{DeedsAreSeen}
 use Rattle.bl_machine_pass_laws_execution.specs.Kept.Kept.{NoOutput, StoreKept}
 use Rattle.bl_machine_pass_laws_execution.specs.Kept.Laws.{PassesKeep, PassesKeepIn}
-use Rattle.bl_machine_pass_laws_execution.proofs.OnKept.Copying.{found}
 use Rattle.bl_machine_pass_laws_execution.proofs.OnKept.Homes.{apart_from, through}
+use Rattle.bl_machine_pass_laws_execution.proofs.OnFresh.Doing.{found}
 
 -- ---- what holds through each deed of some instances
 

@@ -7,7 +7,6 @@ use Rattle.bl_tree.specs.declared.tree.Unit.{Unit as UnitDef}
 use Rattle.bl_tree.specs.declared.value.Value.{Value}
 use Rattle.bl_graph_nodes.specs.Nodes.{Node, nodes_in}
 use Rattle.bl_graph_nodes.specs.Plain.{Block, plain_body}
-use Rattle.bl_graph.specs.Edges.{In}
 use Rattle.bl_graph.specs.Laws.{StaysWithin}
 use Rattle.bl_ctree.specs.Instances.{Setting}
 use Rattle.bl_ctree.specs.Store.{Store}
@@ -33,6 +32,7 @@ use Rattle.bl_machine_pass_laws_execution.specs.Executes.{BeginsAlone, CopiesMat
 use Rattle.bl_machine_pass_laws_execution.specs.Passes.Laws.{Executed, PassesExecute, TurnsPerform}
 use Rattle.bl_machine_pass_laws_execution.specs.Passes.Standing.{Standing}
 use Rattle.bl_machine_pass_laws_execution.proofs.OnPasses.Beginning.{never_both}
+use Rattle.bl_machine_laws.proofs.OnPasses.Passing.{within_body}
 
 -- ---- rules of nodes
 
@@ -59,11 +59,6 @@ below_top number [] rule there = let below = there.1 in absurd (omega arith)
 below_top number (first ∷ all) rule (zero, within, is) =
     subst (λ (x : Transition). number x.node < suc (number first.node) + top number all) is (omega arith)
 below_top number (first ∷ all) rule (suc k, within, is) = let rest = below_top number all rule (k, omega arith, is) in omega (arith, rest)
-
-within_body : (within : (body : Block) → StaysWithin body) (body : Block) (stood : Bool) (n : Node) → In stood body n →
-    Contains (nodes_in body) n
-within_body within body true n there = (within body).depth n there
-within_body within body false n there = (within body).surface n there
 
 -- ---- one instance
 

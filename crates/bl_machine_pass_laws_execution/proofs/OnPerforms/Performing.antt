@@ -58,8 +58,9 @@ use Rattle.bl_machine_pass_laws_execution.proofs.OnPerforms.Storing.{Passing, Se
 use Rattle.bl_machine_pass_laws_execution.proofs.OnPerforms.Storing.{next_senses, node_leaves, pass_passing, sees_so}
 use Rattle.bl_machine_pass_laws_execution.proofs.OnPerforms.Touching.{Touched, body_open, branch_runs, by_sum, calls_touch, due_touches, each_touch, first_runs}
 use Rattle.bl_machine_pass_laws_execution.proofs.OnPerforms.Touching.{guard_runs, in_call, inside_callee, later_runs, one_due_touches, one_place}
-use Rattle.bl_machine_pass_laws_execution.proofs.OnPerforms.Touching.{par_runs, run_asked, run_declares, there, touch, widen, with_other}
+use Rattle.bl_machine_pass_laws_execution.proofs.OnPerforms.Touching.{par_runs, run_asked, run_declares, touch, widen, with_other}
 use Rattle.bl_machine_pass_laws_execution.proofs.OnPerforms.Turning.{passed, waits_there, walk_live}
+use Rattle.bl_machine_laws.proofs.OnPasses.Passing.{there}
 
 module _ (runs_apart : AcceptedRunsApart) (nests : ProgramsNest) (begin_live : BodiesFitGraph) (all_callable : ProgramsAreCallable)
     (keep_live : StepsKeepFitsGraph) (walks : TurnsAreWalks) (waiting : TurnsWait) (keep_numbers : WakingKeepsNumbers) (execute : PassesExecute)

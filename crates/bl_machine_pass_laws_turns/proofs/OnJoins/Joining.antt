@@ -32,12 +32,13 @@ use Rattle.bl_machine_pass_laws.specs.Turns.Sits.{SitEach}
 use Rattle.bl_machine_pass_laws_turns.specs.Joins.Laws.{JoinsWait, RulesWait}
 use Rattle.bl_machine_pass_laws_turns.specs.Joins.Stems.{Member, Same, StemEach, Stemmed, Stems}
 use Rattle.bl_machine_pass_laws_turns.proofs.OnJoins.Lists.{bodies_differ, contained, either, left, member, right, sole_rule}
-use Rattle.bl_machine_pass_laws_turns.proofs.OnJoins.Resting.{RestsAt, end_tells, rests, rests_there, slot_is}
+use Rattle.bl_machine_pass_laws_turns.proofs.OnJoins.Resting.{RestsAt, end_tells, rests, rests_there}
 use Rattle.bl_machine_pass_laws_turns.proofs.OnJoins.Ruling.{check_rule, fork_rest, watch_rest}
 use Rattle.bl_machine_pass_laws_turns.proofs.OnJoins.Standing.{IsJoinNode, MarkOf, MayEnd, Stands, StandsAs, first_number, joins_at, laid_fork, later_number}
 use Rattle.bl_machine_pass_laws_turns.proofs.OnJoins.Standing.{live_fork, mark_fork, numbers_fork, own_fork, sit_fork, stands_so}
 use Rattle.bl_machine_pass_laws_turns.proofs.OnJoins.Standing.{stands_within, waits_fork}
 use Rattle.bl_machine_pass_laws_turns.proofs.OnJoins.Stemming.{fork_differ, fork_join}
+use Rattle.bl_machine_pass_laws.proofs.OnRooted.Resuming.{slot_is}
 
 -- ---- rules that ask for ends
 

@@ -30,7 +30,7 @@ use Rattle.bl_machine_pass_laws_turns.proofs.OnJoins.Stemming.{fork_alone, fork_
 
 -- ---- trees in which nothing stands yet
 
-marked_block : (number : Node → ℕ) (marks : ℕ → Bool) (body : Block) → Marked number marks (do_block body)
+pub marked_block : (number : Node → ℕ) (marks : ℕ → Bool) (body : Block) → Marked number marks (do_block body)
 marked_block number marks Done = tt
 marked_block number marks (Then s Done) = tt
 marked_block number marks (Then s (Then t rest)) = tt

@@ -18,7 +18,6 @@ use Rattle.bl_ctree_laws_traces.specs.Progress.Places.{Place, ahead_of, guarded,
 use Rattle.bl_machine.specs.Uses.{Slots, uses, uses_in, uses_in_branch, uses_in_each}
 use Rattle.bl_machine_laws.specs.Numbers.Numbers.{At, Next, Over, Rests, numbers_in, numbers_of}
 use Rattle.bl_machine_laws.specs.Numbers.Waiting.{Is, SomeWaits, Waits, first_in}
-use Rattle.bl_machine_laws.proofs.OnWaiting.Quiet.{done_ends}
 use Rattle.bl_machine_pass.specs.SlotLayout.{BranchesRestAt, EndOf, RestOf, Spot, spots_of}
 use Rattle.bl_machine_pass.specs.Transitions.{Change, SetsCounter, Transition, body_ends, enter, rules_of}
 use Rattle.bl_machine_pass_laws.specs.Turns.Invariant.{MarkEach, Marked}
@@ -27,6 +26,7 @@ use Rattle.bl_machine_pass_laws_turns.specs.Joins.Stems.{Member, NodesAreDistinc
 use Rattle.bl_machine_pass_laws_turns.proofs.OnJoins.Lists.{left, right}
 use Rattle.bl_machine_pass_laws_turns.proofs.OnJoins.Resting.{RestsAt, RestsEach}
 use Rattle.bl_machine_pass_laws_turns.proofs.OnJoins.Stemming.{fork_inner, watch_inner}
+use Rattle.bl_ctree_laws.proofs.Less.{done_join}
 
 mutual
   -- Stands s stood branches c: the `cobegin` with these branches stands in the tree
@@ -206,7 +206,7 @@ MayEnd s stood branches = are_done branches ≡ true → stood ≡ false → is_
 mutual
   pub live_fork : {s : Fork} {stood : Bool} {branches : Trees} {c : Tree} (w : Setting) (i : ℕ) (g : Place) → Stands s stood branches c →
       FitsGraph w i c g → MayEnd s stood branches
-  live_fork {branches = branches} w i g found live = λ done. (live.1.joins (done_ends branches done)).0
+  live_fork {branches = branches} w i g found live = λ done. (live.1.joins (done_join branches done)).0
   live_fork w i g (in_seq {rest = Done} there) live = absurd live
   live_fork w i g (in_seq {rest = Then t rest} there) live = live_fork w i (ahead_of (entry t) g) there live.0
   live_fork w i g (in_par {outer = outer} {old = old} there) live = live_in w i g old outer.bodies there live.0

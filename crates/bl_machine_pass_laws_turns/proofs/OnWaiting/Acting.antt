@@ -24,8 +24,7 @@ use Rattle.bl_machine_laws.specs.Numbers.Steps.{TurnsAreWalks, TurnsWait}
 use Rattle.bl_machine_laws.specs.Numbers.Turns as turns
 use Rattle.bl_machine_laws.specs.Numbers.Turns.{AnsweredDeed, InstancePoint, OneTurns, Turns}
 use Rattle.bl_machine_laws.specs.Numbers.Waiting.{Is, Sleeps, SomeSleeps, SomeWaits, Waits, check_of, first_in}
-use Rattle.bl_machine_laws.proofs.OnWaiting.Fresh.{ends_walk, nil_is}
-use Rattle.bl_machine_laws.proofs.OnWaiting.Quiet.{done_ends}
+use Rattle.bl_machine_laws.proofs.OnWaiting.Fresh.{ends_walk}
 use Rattle.bl_machine_pass.specs.SlotLayout.{BranchesRestAt}
 use Rattle.bl_machine_pass.specs.Registers.{with_at}
 use Rattle.bl_machine_pass.specs.Transitions.{Change, ClearsBoth, EndsWhen, Flagged, SetsCounter, SetsFlag, Transition, body_ends, counters_in}
@@ -40,8 +39,13 @@ use Rattle.bl_machine_pass_laws_turns.proofs.OnWaiting.Lists.{from_once, into_on
 use Rattle.bl_machine_pass_laws_turns.proofs.OnWaiting.Rules.{AsksFor, IsJoinNode, RuleAt, counters_used_in, used_counters_in}
 use Rattle.bl_machine_pass_laws_turns.proofs.OnWaiting.Sleeping.{asleep, asleep_each, check_rule, check_there, end_rule, end_there, join_is_join, join_rule}
 use Rattle.bl_machine_pass_laws_turns.proofs.OnWaiting.Sleeping.{join_there, resume_rule, resume_there, test_rule, test_there}
-use Rattle.bl_machine_pass_laws_turns.proofs.OnWaiting.Trees.{begun_awake, block_awake, block_nil, block_waits, branches_quiet, empty_instant, seq_sleeps}
-use Rattle.bl_machine_pass_laws_turns.proofs.OnWaiting.Trees.{seq_waits, turn_first, unended_waits, waits_block, waits_seq}
+use Rattle.bl_machine_pass_laws_turns.proofs.OnWaiting.Trees.{branches_quiet}
+use Rattle.bl_machine_pass_laws_turns.proofs.OnWaiting.Trees.{turn_first, unended_waits, waits_block, waits_seq}
+use Rattle.bl_ctree_laws_traces.proofs.OnProgress.Leading.{is_the_nil}
+use Rattle.bl_ctree_laws.proofs.Less.{done_join}
+use Rattle.bl_ctree_laws_traces.proofs.OnBounded.Stepping.{empty_instant}
+use Rattle.bl_machine_laws.proofs.OnNumbers.Sleeping.{begun_awake, block_awake, seq_sleeps}
+use Rattle.bl_machine_laws.proofs.OnWaiting.Fresh.{block_nil, block_waits, seq_waits}
 
 -- ---- what a turn does
 
@@ -449,7 +453,7 @@ module _ {w : Setting} (slots : Slots) (all : List Transition) (number : Node �
       simple (end_rule stood s next) (sits.0 (end_rule stood s next) (end_there slots stood s next (live.1.closes refl).0)) refl nx
       (sets_one number marks next nx (agree refl)) (one_forgetless next is_next) (λ y h. h) (λ y h. h) (λ y h. h) (λ y h. h)
   point_acted {i} g next nx used live sits uses ages dozes is_next agree (turns.joins {s = s} {stood = stood} {branches = branches} settled done) =
-      simple (join_rule slots stood s next) (sits.0 (join_rule slots stood s next) (join_there slots stood s next (live.1.joins (done_ends branches done)).0))
+      simple (join_rule slots stood s next) (sits.0 (join_rule slots stood s next) (join_there slots stood s next (live.1.joins (done_join branches done)).0))
       refl nx
       (sets_all_freed number marks (once (counters_in_each slots s.label 0 s.bodies)) (next ∷ []) nx (sets_one number marks next nx (agree refl)))
       (all_freed_forgetless (once (counters_in_each slots s.label 0 s.bodies)) (next ∷ []) (one_forgetless next is_next))
@@ -461,7 +465,7 @@ module _ {w : Setting} (slots : Slots) (all : List Transition) (number : Node �
 module _ {w : Setting} (slots : Slots) (all : List Transition) (number : Node → ℕ) (marks : ℕ → Bool) (rank : ℕ → Node → ℕ) (paces : Paces w)
     (shrinks : EndsShrink) (lists : TurnsAreWalks) (waiting : TurnsWait) where
   ends_before : {i : ℕ} {c : Tree} {done : List AnsweredDeed} {n : Node} {c' : Tree} → Turns w rank i c done n c' → is_nil c' ≡ true → may_end c ≡ true
-  ends_before {i} {c} {done} {n} {c'} t e = ends_walk rank paces shrinks lists waiting (lists.turns w rank i c done n c' t) (ap may_end (nil_is c' e))
+  ends_before {i} {c} {done} {n} {c'} t e = ends_walk rank paces shrinks lists waiting (lists.turns w rank i c done n c' t) (ap may_end (is_the_nil c' e))
 
   mutual
     pub turn_acted : {i : ℕ} {c : Tree} {done : List AnsweredDeed} {n : Node} {c' : Tree} (g : Place) (next : Change) (nx : Option Node) (used : ℕ → Bool)

@@ -23,7 +23,7 @@ use Rattle.bl_machine_laws.specs.Numbers.Turns.{AnsweredDeed, Turns}
 use Rattle.bl_machine_laws.specs.Numbers.Waiting.{Sleeps, Waits}
 use Rattle.bl_machine_laws.specs.Waiting.Laws.{TurnsLeadOn, WaitsInPart}
 use Rattle.bl_machine_laws.proofs.OnWaiting.Quiet.{along, part_closed}
-use Rattle.bl_machine_laws.proofs.OnPasses.Numbers.{after_rises, lesser}
+use Rattle.bl_machine_laws.proofs.OnPasses.Numbers.{after_rises}
 use Rattle.bl_machine_pass.specs.SlotLayout.{SlotsAreDistinct, spots_in}
 use Rattle.bl_machine_pass.specs.Registers.{Registers, after_rule, all_changed, is_at, is_due}
 use Rattle.bl_machine_pass.specs.Transitions.{Change, Condition, Finishes, Transition, rules}
@@ -36,6 +36,7 @@ use Rattle.bl_machine_pass_laws_turns.proofs.OnWaiting.Changes.{FlagFrom, Sets, 
 use Rattle.bl_machine_pass_laws_turns.proofs.OnWaiting.Lists.{each_of, one_of_node}
 use Rattle.bl_machine_pass_laws_turns.proofs.OnWaiting.Rules.{AsksFor, Known, RuleAt, at_due, due_at, flag_is_due, known_in, no_end, no_join, not_both}
 use Rattle.bl_machine_pass_laws_turns.proofs.OnWaiting.Sleeping.{Other, join_ends, waits_other}
+use Rattle.bl_graph.proofs.Meeting.{lt_of}
 
 -- ---- the rules of a body
 
@@ -75,7 +76,7 @@ module _ (part : WaitsInPart) (within : (body : Block) → StaysWithin body) (le
       ⊎_elim
       (λ (old : Waits c None y × (y ≡ n → ⊥)).
       let other : rank i n < rank i y =
-      lesser (rank i n) (rank i y) (keeps.ahead y old.0)
+      lt_of (rank i n) (rank i y) (keeps.ahead y old.0)
       (λ same. old.1 (sym (turning.orders.apart i unit n y turning.is
       (waits_within w i stood (plain_body unit.body) c n turning.live (waiting w rank i c done n c' None turn))
       (waits_within w i stood (plain_body unit.body) c y turning.live old.0) same))) in

@@ -38,13 +38,6 @@ one_of_node f xs once a b one other same =
 
 -- ---- whether some member passes
 
-pub any_found : {X : Type 0} (test : X → Bool) (xs : List X) → list_any test xs ≡ true → (x : X) × Contains xs x × (test x ≡ true)
-any_found test [] e = absurd cc
-any_found test (x ∷ xs) e =
-    ⊎_elim (λ is. (x, contains_first x xs, is))
-    (λ (later : list_any test xs ≡ true). let found = any_found test xs later in (found.0, contains_further x xs found.0 found.1, found.2))
-    (either_of (test x) (list_any test xs) e)
-
 -- ---- each number once
 
 once_from : (seen ks : List ℕ) (j : ℕ) → Contains (once_but seen ks) j → Contains ks j

@@ -16,7 +16,8 @@ use Rattle.bl_machine_pass.specs.Transitions.{Change, Condition, Ended, Flagged,
 use Rattle.bl_machine_pass.specs.Transitions.{counters_in_each, counters_of, enter, rests_in, rests_in_first, rests_of, rule_where, rules_in, rules_in_each}
 use Rattle.bl_machine_pass.specs.Transitions.{rules_of}
 use Rattle.bl_machine_pass_laws.specs.Turns.Invariant.{IsFlagged, IsResume}
-use Rattle.bl_machine_pass_laws_turns.proofs.OnWaiting.Lists.{Each, any_found, contains_right, contains_split, each_append}
+use Rattle.bl_machine_pass_laws_turns.proofs.OnWaiting.Lists.{Each, contains_right, contains_split, each_append}
+use Rattle.bl_graph.proofs.Sweeping.{any_from as any_found}
 
 -- ---- what a rule asks
 

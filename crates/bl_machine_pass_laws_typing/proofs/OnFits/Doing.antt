@@ -52,7 +52,7 @@ use Rattle.bl_machine_laws.specs.Passes.Follows.{DeedYields}
 use Rattle.bl_machine_pass_laws_execution.specs.Executes.{IsPoint, deed_at}
 use Rattle.bl_machine_pass_laws_typing.proofs.OnFits.Changing.{changed_fits, inputs_fit, put_fits, remember_fits, returned_fits, written_fits}
 
-one_if : {A : Type 0} (P : A → Type 0) (o : Option A) (x : A) → o ≡ Some x → IfSome o P → P x
+pub one_if : {A : Type 0} (P : A → Type 0) (o : Option A) (x : A) → o ≡ Some x → IfSome o P → P x
 one_if P o x is h = subst (λ o. IfSome o P) is h
 
 -- an instance of the unit, by its position in the program

@@ -27,6 +27,7 @@ use Rattle.bl_graph_nodes.proofs.Equations.{plain_statements}
 use Rattle.bl_ctree.specs.declared.instance.Run.{Run}
 use Rattle.bl_ctree.specs.Instances.{arm_runs, branch_runs, kind_runs, runs_in, runs_in_arm, runs_in_branch, stmt_layer_runs}
 use Rattle.bl_ctree_laws_confluence.proofs.OnDeeds.Activities.{AllOf, all_both}
+use Rattle.bl_ctree_laws_confluence.proofs.OnDeeds.Aliases.{of_first, of_second}
 
 -- a `run` of this kind at the place, of which C holds
 pub record RunFits (site : TypingContext) (C : Run → Type 0) (at : Place) (arguments : Arguments) : Type 0 where
@@ -44,15 +45,7 @@ NodeFits site C (EnterAt l at arguments) = RunFits site C at arguments
 NodeFits site C (ResumeAt l at arguments) = RunFits site C at arguments
 NodeFits site C _ = ⊤
 
-of_first : {A : Type 0} (P : A → Type 0) (xs ys : List A) → AllOf P (xs ++ ys) → AllOf P xs
-of_first P [] ys all = tt
-of_first P (x ∷ xs) ys all = (all.0, of_first P xs ys all.1)
-
-of_second : {A : Type 0} (P : A → Type 0) (xs ys : List A) → AllOf P (xs ++ ys) → AllOf P ys
-of_second P [] ys all = all
-of_second P (x ∷ xs) ys all = of_second P xs ys all.1
-
-all_where : (P : Node → Type 0) (b : Bool) (n : Node) → P n → AllOf P (where_so b n)
+pub all_where : (P : Node → Type 0) (b : Bool) (n : Node) → P n → AllOf P (where_so b n)
 all_where P true n one = (one, tt)
 all_where P false n one = tt
 

@@ -52,18 +52,15 @@ use Rattle.bl_ctree_laws_confluence.specs.Stores.{HomesLeadOn, PutsKeepOthers, R
 use Rattle.bl_machine_pass_laws_typing.proofs.OnFits.Changing.{written_fits}
 use Rattle.bl_machine_pass_laws_typing.specs.Seen.{ActsAreSeen, PutsAreSeen, TargetsAreSeen}
 use Rattle.bl_machine_pass_laws_typing.proofs.OnSeen.Outcomes.{Had, Left, act_left}
-use Rattle.bl_machine_pass_laws_typing.proofs.OnSeen.Values.{Differ, at_path_is, differ_step, put_is, put_may, put_opened, put_there, same_parts, set_got, way}
+use Rattle.bl_machine_pass_laws_typing.proofs.OnSeen.Values.{Differ, at_path_is, differ_step, put_may, put_opened, put_there, same_parts, set_got, way}
+use Rattle.bl_ctree_laws_confluence.proofs.OnStores.Views.{range_at}
+use Rattle.bl_eval_laws.proofs.OnLocal.Puts.{put_is}
+use Rattle.bl_machine_pass_laws_typing.proofs.OnFits.Doing.{one_if}
 
 -- ---- variables by their numbers
 
-range_at : (first count k j : ℕ) → slice_get (range_with_len first count) k ≡ Some j → j ≡ first + k
-range_at first zero zero j e = absurd cc
-range_at first zero (suc k) j e = absurd cc
-range_at first (suc count) zero j e = let is : first ≡ j = cc in omega arith
-range_at first (suc count) (suc k) j e = let is : j ≡ (first + 1) + k = range_at (first + 1) count k j e in omega arith
-
 -- what is in a list by numbers
-mapped_got : (f : ℕ → Value) (count k : ℕ) (old : Value) → slice_get (map f (range_with_len 0 count)) k ≡ Some old → f k ≡ old
+pub mapped_got : (f : ℕ → Value) (count k : ℕ) (old : Value) → slice_get (map f (range_with_len 0 count)) k ≡ Some old → f k ≡ old
 mapped_got f count k old e = by (slice_get (range_with_len 0 count) k) refl (sym (slice_get-map f (range_with_len 0 count) k) ∙ e)
   where
     by : (o : Option ℕ) → slice_get (range_with_len 0 count) k ≡ o → option_map f o ≡ Some old → f k ≡ old
@@ -248,9 +245,6 @@ puts_are_seen views callers orderly apart lead_on puts structs units entry i uni
     put_at_home views structs units entry keeps i unit is callers orderly apart lead_on puts passes path value store seen fit may
 
 -- ---- acts
-
-one_if : {A : Type 0} (P : A → Type 0) (o : Option A) (x : A) → o ≡ Some x → IfSome o P → P x
-one_if P o x is h = subst (λ o. IfSome o P) is h
 
 module _ (put_seen : PutsAreSeen) (views : ViewsAreTyped) (callers : InstancesHaveCallers) (remembers : RememberingKeepsOthers)
     (structs : List StructDef) (units : List UnitDef)

@@ -4,13 +4,15 @@ use Rattle.std.proofs.Common.{refl, sym, ap, ◌∙◌, subst, arith, eqb-true, 
 use Rattle.std.specs.Prelude.{nat_eq, option_and_then, option_map, slice_get, slice_set, ⊤}
 use Rattle.bl_tree.proofs.Basics.{not_both, same_some, same_suc}
 use Rattle.bl_tree.specs.declared.static_path.Static.{Static}
-use Rattle.bl_tree.specs.declared.value.Value.{Value, out-Value, roll-Value, roll-out-Value}
-use Rattle.bl_tree.specs.declared.value.Value.TheOpen.{Value-F}
-use Rattle.bl_tree.specs.declared.value.Value.TheVariants.{Parts, rolls-Parts}
-use Rattle.bl_eval.specs.Values.{parts_at, parts_in, put_at, value_at, with_value_at}
+use Rattle.bl_tree.specs.declared.value.Value.{Value}
+use Rattle.bl_tree.specs.declared.value.Value.TheVariants.{Parts}
+use Rattle.bl_eval.specs.Values.{parts_in, put_at, value_at, with_value_at}
 use Rattle.bl_eval_laws.specs.Local.{at_path}
 use Rattle.bl_eval_laws.proofs.OnLocal.Locality.{value_within}
 use Rattle.bl_eval_laws.proofs.OnLocal.Puts.{parts_of}
+use Rattle.bl_ctree_laws_confluence.proofs.OnApart.Running.{not_first}
+use Rattle.bl_ctree_laws_confluence.proofs.OnStores.Changes.{whole_again}
+use Rattle.bl_eval_laws.proofs.OnLocal.Puts.{value_in_parts, with_opened}
 
 -- ---- lists
 
@@ -19,9 +21,6 @@ no_some x e = absurd cc
 
 never_zero : (j : ℕ) → suc j ≡ zero → ⊥
 never_zero j e = absurd (omega (arith, e))
-
-zero_never : (j : ℕ) → zero ≡ suc j → ⊥
-zero_never j e = absurd (omega (arith, e))
 
 pub set_got : {A : Type 0} (xs : List A) (k : ℕ) (old new : A) → slice_get xs k ≡ Some old → slice_get (slice_set xs k new) k ≡ Some new
 set_got [] zero old new e = absurd cc
@@ -56,7 +55,7 @@ set_same (x ∷ xs) [] (suc k) old y e f each = absurd cc
 set_same (x ∷ xs) (z ∷ ys) zero old y e f each =
     ap (λ w. w ∷ xs) (same_some y z (sym f)) ∙ ap (λ zs. z ∷ zs) (same_lists xs ys (λ j. each (suc j) (never_zero j)))
 set_same (x ∷ xs) (z ∷ ys) (suc k) old y e f each =
-    ap (λ w. w ∷ slice_set xs k y) (same_some x z (each zero (zero_never k)))
+    ap (λ w. w ∷ slice_set xs k y) (same_some x z (each zero (not_first k)))
     ∙ ap (λ zs. z ∷ zs) (set_same xs ys k old y e f (λ j never. each (suc j) (λ is. never (same_suc j k is))))
 
 -- ---- one level
@@ -120,29 +119,10 @@ placed k ks v x z e = by_parts (parts_in x) refl e
     by_parts None is e = absurd cc
     by_parts (Some all) is e = by_old all is (slice_get all k) refl e
 
-with_opened : (k : ℕ) (ks : List ℕ) (v x : Value) (all : List Value) (old : Value) → parts_in x ≡ Some all → slice_get all k ≡ Some old →
-    with_value_at (k ∷ ks) v x ≡ option_map (λ part. Parts (slice_set all k part)) (with_value_at ks v old)
-with_opened k ks v x all old is at =
-    ap (λ all. option_and_then (λ all. option_and_then (λ old. option_map (λ part. Parts (slice_set all k part)) (with_value_at ks v old))
-    (slice_get all k)) all) is
-    ∙ ap (λ old. option_and_then (λ old. option_map (λ part. Parts (slice_set all k part)) (with_value_at ks v old)) old) at
-
-pub value_in_parts : (j : ℕ) (qs : List ℕ) (x : Value) (all : List Value) → parts_in x ≡ Some all →
-    value_at (j ∷ qs) x ≡ option_and_then (value_at qs) (slice_get all j)
-value_in_parts j qs x all is = ap (λ all. option_and_then (value_at qs) (option_and_then (λ all. slice_get all j) all)) is
-
 in_set_parts : (j : ℕ) (qs : List ℕ) (z : Value) (all : List Value) (k : ℕ) (new : Value) → z ≡ Parts (slice_set all k new) →
     value_at (j ∷ qs) z ≡ option_and_then (value_at qs) (slice_get (slice_set all k new) j)
 in_set_parts j qs z all k new made =
     ap (value_at (j ∷ qs)) made ∙ value_in_parts j qs (Parts (slice_set all k new)) (slice_set all k new) (parts_of (slice_set all k new))
-
-whole_again : (value : Value) (all : List Value) → parts_in value ≡ Some all → Parts all ≡ value
-whole_again value all e = by_level (out-Value value) refl e
-  where
-    by_level : (level : Value-F Value) → out-Value value ≡ level → parts_at level ≡ Some all → Parts all ≡ value
-    by_level (Value-F.Number n) is e = absurd cc
-    by_level (Value-F.Parts these) is e =
-        ap Parts (sym (same_some these all e)) ∙ sym (rolls-Parts these) ∙ ap roll-Value (sym is) ∙ roll-out-Value value
 
 -- ---- all levels
 
@@ -351,23 +331,6 @@ differ_step path rest v x y z at put differ qs past =
 -- the variables as one value
 pub at_path_is : (now : List Value) (path : Static) → value_at (way path) (Parts now) ≡ at_path now path
 at_path_is now path = value_in_parts path.root path.fields (Parts now) now (parts_of now)
-
-pub put_is : (root : ℕ) (ks : List ℕ) (new : Value) (now : List Value) →
-    with_value_at (root ∷ ks) new (Parts now) ≡ option_map Parts (put_at root ks new now)
-put_is root ks new now =
-    ap (λ all. option_and_then (λ all. option_and_then (λ old. option_map (λ part. Parts (slice_set all root part)) (with_value_at ks new old))
-    (slice_get all root)) all) (parts_of now)
-    ∙ by_old (slice_get now root)
-  where
-    by_made : (made : Option Value) →
-        option_map (λ part. Parts (slice_set now root part)) made ≡ option_map Parts (option_map (λ part. slice_set now root part) made)
-    by_made None = refl
-    by_made (Some part) = refl
-
-    by_old : (old : Option Value) → option_and_then (λ old. option_map (λ part. Parts (slice_set now root part)) (with_value_at ks new old)) old
-        ≡ option_map Parts (option_and_then (λ old. option_map (λ value. slice_set now root value) (with_value_at ks new old)) old)
-    by_old None = refl
-    by_old (Some old) = by_made (with_value_at ks new old)
 
 pub same_parts : (xs ys : List Value) → Parts xs ≡ Parts ys → xs ≡ ys
 same_parts xs ys e = same_some xs ys (sym (parts_of xs) ∙ ap parts_in e ∙ parts_of ys)

@@ -41,31 +41,28 @@ use Rattle.bl_machine_prevs.specs.Prevs.{stmt_kind_prevs, stmt_layer_prevs}
 use Rattle.bl_machine_prevs_laws.specs.Types.Declared.{arm_scoped, branch_scoped, scoped_of, stmt_kind_scoped, stmt_layer_scoped}
 use Rattle.bl_machine_prevs_laws.specs.Types.inner.Declared.{scoped_of_arm, scoped_of_branch}
 use Rattle.bl_machine_prevs_laws.proofs.OnDeclared.Expressions.{Related, expr_stands, exprs_stand, path_stands, paths_stand}
+use Rattle.bl_names_laws.proofs.Apart.{or_weaker}
 
 -- ---- expressions that must have a type
 
-truth_typed : (t : Option Ty) → is_truth t ≡ true → (ty : Ty) × (t ≡ Some ty)
+pub truth_typed : (t : Option Ty) → is_truth t ≡ true → (ty : Ty) × (t ≡ Some ty)
 truth_typed (Some ty) is = (ty, refl)
 truth_typed None is = absurd (cc)
 
-second_typed : (a b : Option Ty) → are_same a b ≡ true → (ty : Ty) × (b ≡ Some ty)
+pub second_typed : (a b : Option Ty) → are_same a b ≡ true → (ty : Ty) × (b ≡ Some ty)
 second_typed (Some a) (Some b) is = (b, refl)
 second_typed (Some a) None is = absurd (cc)
 second_typed None b is = absurd (cc)
 
-first_typed : (a b : Option Ty) → are_same a b ≡ true → (ty : Ty) × (a ≡ Some ty)
+pub first_typed : (a b : Option Ty) → are_same a b ≡ true → (ty : Ty) × (a ≡ Some ty)
 first_typed (Some a) b is = (a, refl)
 first_typed None b is = absurd (cc)
-
-or_still : (same rest other : Bool) → (rest ≡ true → other ≡ true) → (same || rest) ≡ true → (same || other) ≡ true
-or_still true rest other still is = refl
-or_still false rest other still is = still is
 
 -- what one knows with these the other knows with them
 related_more : (site : TypingContext) (ks known mine : Roots) → Related site known mine → Related site (ks ++ known) (ks ++ mine)
 related_more site [] known mine related = related
 related_more site (d ∷ ks) known mine related = λ k var is.
-    or_still (nat_eq k d) (is_known (ks ++ known) k) (is_known (ks ++ mine) k) (related_more site ks known mine related k var) is
+    or_weaker (nat_eq k d) (is_known (ks ++ known) k) (is_known (ks ++ mine) k) (related_more site ks known mine related k var) is
 
 -- what holds of a plain statement, of what the statement declares and names
 record Turned (site : TypingContext) (p : Plain) (of : Scoped) : Type 0 where

@@ -14,7 +14,6 @@ use Rattle.bl_tree.specs.declared.tree.Path.{Path}
 use Rattle.bl_tree.specs.declared.tree.Stmt.{Stmt, fold-roll-Stmt}
 use Rattle.bl_tree.specs.declared.tree.StmtKind.{StmtKind, fold-StmtKind, fold-roll-StmtKind, map-StmtKind}
 use Rattle.bl_tree.specs.declared.tree.StmtKind.TheOpen.{StmtKind-F}
-use Rattle.bl_tree.specs.declared.tree.Ty.{Ty}
 use Rattle.bl_tree.specs.declared.tree.Unit.{Unit as UnitDef}
 use Rattle.bl_tree.specs.declared.tree.Var.{Var}
 use Rattle.bl_tree.specs.Reduce.{all_of, joined}
@@ -26,21 +25,9 @@ use Rattle.bl_tree.proofs.StmtInduction.{Cases, Each, EachArm, EachBranch, induc
 use Rattle.bl_machine_prevs.specs.Prevs.{argument_prevs, arm_prevs, branch_prevs, optional_prevs, prevs_in, prevs_in_arm, prevs_in_branch, prevs_in_expr}
 use Rattle.bl_machine_prevs.specs.Prevs.{prevs_in_path, stmt_kind_prevs, stmt_layer_prevs, target_prevs}
 use Rattle.bl_machine_prevs_laws.proofs.OnScalar.Expressions.{all_both, expr_scalar, exprs_scalar, is_scalar, path_scalar, paths_scalar}
+use Rattle.bl_machine_prevs_laws.proofs.OnDeclared.Statements.{first_typed, second_typed, truth_typed}
 
 -- ---- expressions that must have a type
-
-truth_typed : (t : Option Ty) → is_truth t ≡ true → (ty : Ty) × (t ≡ Some ty)
-truth_typed (Some ty) is = (ty, refl)
-truth_typed None is = absurd (cc)
-
-second_typed : (a b : Option Ty) → are_same a b ≡ true → (ty : Ty) × (b ≡ Some ty)
-second_typed (Some a) (Some b) is = (b, refl)
-second_typed (Some a) None is = absurd (cc)
-second_typed None b is = absurd (cc)
-
-first_typed : (a b : Option Ty) → are_same a b ≡ true → (ty : Ty) × (a ≡ Some ty)
-first_typed (Some a) b is = (a, refl)
-first_typed None b is = absurd (cc)
 
 module _ (site : TypingContext) where
   abbrev Good : List ℕ → Type 0

@@ -1,18 +1,14 @@
 -- The law of a whole program.
-use Rattle.std.proofs.Common.{◌≡◌, ℕ, zero, suc, Bool, true, false, ◌&&◌, ◌||◌, List, [], ◌∷◌, ◌++◌, map, take, length, Some, refl}
-use Rattle.std.proofs.Common.{sym, subst, append_assoc, eqb-true}
-use Rattle.std.proofs.lemmas.List.{append-nil}
-use Rattle.std.proofs.lemmas.Option.{same_Some}
+use Rattle.std.proofs.Common.{◌≡◌, ℕ, Bool, true, false, ◌&&◌, ◌||◌, List, [], ◌∷◌, ◌++◌, map, take, length, refl}
+use Rattle.std.proofs.Common.{sym, subst, eqb-true}
 use Rattle.std.specs.List.{list_all, list_any}
-use Rattle.std.specs.Prelude.{nat_eq, slice_get}
-use Rattle.std.proofs.lemmas.Bool.{and_from}
+use Rattle.std.specs.Prelude.{nat_eq}
 use Rattle.bl_tree.proofs.Basics.{and_first, and_second}
-use Rattle.bl_tree.specs.declared.tree.Stmt.{Stmt}
 use Rattle.bl_tree.specs.declared.tree.StructDef.{StructDef}
 use Rattle.bl_tree.specs.declared.tree.Unit.{Unit as UnitDef}
 use Rattle.bl_tree.specs.Apart.{is_apart}
 use Rattle.bl_tree.specs.Depths.{is_shallow}
-use Rattle.bl_tree.specs.Program.{names_of, parameters_of, roles_stand, unit_stands, units_stand_after}
+use Rattle.bl_tree.specs.Program.{names_of, parameters_of, roles_stand, unit_stands}
 use Rattle.bl_tree.specs.Reduce.{all_of}
 use Rattle.bl_tree.specs.Returns.{unit_returns}
 use Rattle.bl_tree.specs.Types.{type_stands}
@@ -22,26 +18,9 @@ use Rattle.bl_machine_prevs.specs.Prevs.{prevs_of}
 use Rattle.bl_machine_prevs_laws.specs.Scalar.{PrevsAreScalar}
 use Rattle.bl_machine_prevs_laws.proofs.OnScalar.Expressions.{is_scalar}
 use Rattle.bl_machine_prevs_laws.proofs.OnScalar.Statements.{body_scalar}
+use Rattle.bl_eval.proofs.UnitFits.{all_listed, unit_at}
 
 -- ---- units
-
-unit_after : (structs : List StructDef) (earlier units : List UnitDef) (k : ℕ) (unit : UnitDef) →
-    units_stand_after structs earlier units ≡ true → slice_get units k ≡ Some unit → unit_stands structs (earlier ++ take k units) unit ≡ true
-unit_after structs earlier [] k unit stand there = absurd (cc)
-unit_after structs earlier (first ∷ units) zero unit stand there =
-    subst (λ earlier. unit_stands structs earlier unit ≡ true) (sym (append-nil earlier))
-    (subst (λ unit. unit_stands structs earlier unit ≡ true) (same_Some first unit there)
-    (and_first (unit_stands structs earlier first) (units_stand_after structs (earlier ++ first ∷ []) units) stand))
-unit_after structs earlier (first ∷ units) (suc k) unit stand there =
-    subst (λ earlier. unit_stands structs earlier unit ≡ true) (append_assoc earlier (first ∷ []) (take k units))
-    (unit_after structs (earlier ++ first ∷ []) units k unit
-    (and_second (unit_stands structs earlier first) (units_stand_after structs (earlier ++ first ∷ []) units) stand) there)
-
-all_listed : (test : Stmt → Bool) (body : List Stmt) → list_all test body ≡ true → all_of (map test body) ≡ true
-all_listed test [] all = refl
-all_listed test (s ∷ body) all =
-    and_from (test s) (all_of (map test body)) (and_first (test s) (list_all test body) all)
-    (all_listed test body (and_second (test s) (list_all test body) all))
 
 body_fits : (structs : List StructDef) (earlier : List UnitDef) (unit : UnitDef) → unit_stands structs earlier unit ≡ true →
     all_of (map (fits (site_of structs earlier unit)) unit.body) ≡ true
@@ -69,4 +48,4 @@ pub prevs_are_scalar : PrevsAreScalar
 prevs_are_scalar structs units entry k x unit keeps there named =
     let site : TypingContext = site_of structs (take k units) unit in
     one_holds (is_scalar site) (prevs_of unit) x
-    (body_scalar site unit.body (body_fits structs (take k units) unit (unit_after structs [] units k unit keeps.units_stand there))) named
+    (body_scalar site unit.body (body_fits structs (take k units) unit (unit_at structs [] units k unit keeps.units_stand there))) named

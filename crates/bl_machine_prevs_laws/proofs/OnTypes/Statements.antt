@@ -4,7 +4,7 @@ use Rattle.std.proofs.Common.{sym, ap}
 use Rattle.std.proofs.Common.{subst, ◌∙◌}
 use Rattle.std.specs.Prelude.{All, if◌then◌else◌, length, nat_eq, option_map, slice_get, ⊤}
 use Rattle.std.specs.List.{cons_option, list_all}
-use Rattle.std.proofs.lemmas.List.Elements.{All-cons, All-head, All-nil, All-tail}
+use Rattle.std.proofs.lemmas.List.Elements.{All-head, All-tail}
 use Rattle.std.proofs.lemmas.Option.{same_Some}
 use Rattle.std.proofs.lemmas.Bool.{and_from}
 use Rattle.bl_tree.proofs.Basics.{all_of_each, and_first, and_second, first_empty, second_empty}
@@ -63,6 +63,7 @@ use Rattle.bl_machine_prevs_laws.specs.Types.Declared.{scoped_of}
 use Rattle.bl_machine_prevs_laws.specs.Types.inner.Declared.{scoped_of_arm, scoped_of_branch}
 use Rattle.bl_machine_prevs_laws.proofs.OnTypes.Leaves.{KindKept, Same, StmtKept, arguments_among, assign_kept, await_kept, call_kept, in_place, kind_kept}
 use Rattle.bl_machine_prevs_laws.proofs.OnTypes.Leaves.{return_kept, run_kept, scoped_in, tested_kept}
+use Rattle.bl_types_laws.proofs.Blocks.{each_walk}
 
 -- ---- what is known behind a part
 
@@ -138,14 +139,6 @@ stmt_first known of (Some s) rest one more =
     and_from ((scoped_of s).stands known) (scopes.stand_in_turn (map scoped_of rest) ((scoped_of s).declared ++ known)) one.stands
     (subst (λ declared. scopes.stand_in_turn (map scoped_of rest) (declared ++ known) ≡ true) (sym one.declared) more)
 stmt_first known of None rest one more = subst (λ declared. scopes.stand_in_turn (map scoped_of rest) (declared ++ known) ≡ true) one more
-
--- of each that is named well
-each_named : {X : Type 0} (test : X → Bool) (W : X → Type 0) (xs : List X) → All (λ x. test x ≡ true → W x) xs →
-    all_of (map test xs) ≡ true → All W xs
-each_named test W [] each all = All-nil W
-each_named test W (x ∷ xs) each all =
-    All-cons W x xs (All-head (λ x. test x ≡ true → W x) x xs each (and_first (test x) (all_of (map test xs)) all))
-    (each_named test W xs (All-tail (λ x. test x ≡ true → W x) x xs each) (and_second (test x) (all_of (map test xs)) all))
 
 module _ (constants : List NamedConstant) (vars : List NamedVar) (site : TypingContext) where
   abbrev StmtGoes : NamedStmt → Type 0
@@ -373,7 +366,7 @@ module _ (constants : List NamedConstant) (vars : List NamedVar) (site : TypingC
       let last : Block Stmt = walked_body other tests.env in
       let found = some_found (steps other) (in_turn (map (step_of_arm vars constants) arms) (known_in env)) counts step in
       let first = all_gone site (arm_walked constants vars) (step_of_arm vars constants) earlier.scoped_of_arm scoped_of_arm arms
-      (each_named (named_arm constants vars site.earlier) ArmGoes arms each (and_first arms_named (body_named other) parts))
+      (each_walk (named_arm constants vars site.earlier) ArmGoes arms each (and_first arms_named (body_named other) parts))
       env around known found.0 found.1 (first_empty tests.failures last.failures none) in
       let second = body_gone other rest (and_second arms_named (body_named other) parts) tests.env
       (grown_around env tests.env site first.threads.grown around) first.threads.known counts (ap (steps other) first.threads.counts_are ∙ found.2)
@@ -393,7 +386,7 @@ module _ (constants : List NamedConstant) (vars : List NamedVar) (site : TypingC
       (λ named env around known counts step none vars_known all.
       let block : Block Branch = in_order (map (branch_walked constants vars) branches) env in
       let gone = all_gone site (branch_walked constants vars) (step_of_branch vars constants) earlier.scoped_of_branch scoped_of_branch branches
-      (each_named (named_branch constants vars site.earlier) BranchGoes branches each
+      (each_walk (named_branch constants vars site.earlier) BranchGoes branches each
       (and_second (is_inhabited (map (named_branch constants vars site.earlier) branches))
       (all_of (map (named_branch constants vars site.earlier) branches))
       named)) env around known counts step (second_empty (misplaced env.kind place) block.failures none) in

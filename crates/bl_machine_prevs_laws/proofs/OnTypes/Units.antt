@@ -1,7 +1,7 @@
 -- What is made of a unit in which nothing fails names what is declared before.
-use Rattle.std.proofs.Common.{◌≡◌, ℕ, ◌≤◌, true, ◌&&◌, ◌||◌, List, [], ◌++◌, length, map, take, drop, Some, refl}
+use Rattle.std.proofs.Common.{◌≡◌, ◌≤◌, true, ◌&&◌, ◌||◌, List, [], ◌++◌, length, map, take, drop, Some, refl}
 use Rattle.std.proofs.Common.{ap, sym, ◌∙◌, arith}
-use Rattle.std.specs.Prelude.{Bool, is_some, nat_le, option_and_then, slice_get}
+use Rattle.std.specs.Prelude.{Bool, is_some, nat_le, option_and_then}
 use Rattle.std.specs.List.{list_all}
 use Rattle.std.proofs.lemmas.Bool.{leb-true}
 use Rattle.std.proofs.lemmas.List.{append-nil, length-take-le}
@@ -18,7 +18,6 @@ use Rattle.bl_names_tree.specs.declared.item.NamedVar.{NamedVar}
 use Rattle.bl_names_tree.specs.Placed.{DeclaredBefore, behind_unit, head_placed, holds_if, in_turn, parameters, roles_placed, stmt_step, type_placed, unit_step}
 use Rattle.bl_names_tree.specs.Placed.{var_placed, with_parameters}
 use Rattle.bl_types.specs.declared.environment.Environment.{Environment}
-use Rattle.bl_types.specs.declared.environment.Variable.{Variable}
 use Rattle.bl_types.specs.Declarations.{Declaring, after_parameters}
 use Rattle.bl_types.specs.Returns.{return_failures}
 use Rattle.bl_types.specs.Statements.{Block, walked_block}
@@ -31,18 +30,7 @@ use Rattle.bl_types_laws.proofs.Heads.{ParametersPassed, head_passes, typed_para
 use Rattle.bl_types_laws.proofs.Standing.{made_of}
 use Rattle.bl_machine_prevs_laws.specs.Types.Declared.{unit_declared}
 use Rattle.bl_machine_prevs_laws.proofs.OnTypes.Statements.{block_kept}
-
-nothing_there : (k : ℕ) (variable : Variable) → slice_get [] k ≡ Some variable → ⊥
-nothing_there k variable is = absurd (cc)
-
--- no variable is known where the unit begins
-entered_known : (unit : NamedUnit) (env : Environment) → Known env → Known (entered unit env)
-entered_known unit env known = record {
-  vars = λ k variable is. absurd (nothing_there k variable is);
-  fields = known.fields;
-  constants =
-      known.constants;
-}
+use Rattle.bl_types_laws.proofs.Units.{entered_known}
 
 -- what is known after the head of a unit
 record HeadKnown (unit : NamedUnit) (env head : Environment) : Type 0 where

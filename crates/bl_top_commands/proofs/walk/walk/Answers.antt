@@ -2,13 +2,14 @@
 use Rattle.std.proofs.Common.{[], ◌∷◌, refl, ap, ◌∙◌}
 use Rattle.bl_top_commands.specs.declared.outcome.Outcome.{Outcome}
 use Rattle.bl_top_commands.specs.Reads.{rows_file, source_file}
-use Rattle.bl_top_commands.proofs.Cuts.{kept_same, reads_both, reads_first}
+use Rattle.bl_top_commands.proofs.Cuts.{reads_both, reads_first}
 use Rattle.bl_top_commands.proofs.Walks.{walk_ran, walk_refused, walk_stopped}
 use Rattle.bl_top_commands.proofs.walk.walk.Goals as goal
+use Rattle.bl_rows_stream.proofs.Takings.{kept-same}
 
 pub returns-in-Err-clause-ends : goal.returns-in-Err-clause-ends
 returns-in-Err-clause-ends g c = λ notes.
-    walk_stopped _ _ _ _ c.alone.result c.in-Err.outcome c.alone.ensures.outcome c.alone.ensures.lines c.in-Err.ensures.stopped (kept_same _)
+    walk_stopped _ _ _ _ c.alone.result c.in-Err.outcome c.alone.ensures.outcome c.alone.ensures.lines c.in-Err.ensures.stopped (kept-same _)
 
 pub returns-in-Err-clause-reads : goal.returns-in-Err-clause-reads
 returns-in-Err-clause-reads g c =
