@@ -90,7 +90,7 @@ minus zero = pos zero
 minus (suc n) = negsuc n
 
 -- by the literal's word and the digits in parentheses
-word_in : Token → ℕ → Literal
+pub word_in : Token → ℕ → Literal
 word_in t n =
     cond (is t (codes "true")) (scalar.Bool, pos 1) (cond (is t (codes "false")) (scalar.Bool, pos 0)
     (cond (is t (codes "INT8_MIN")) (scalar.Int W8, minus (negatives W8)) (cond (is t (codes "INT16_MIN")) (scalar.Int W16, minus (negatives W16))

@@ -11,6 +11,9 @@ use Rattle.std.proofs.lemmas.Slice.Eq.{bytes_eq-Decides}
 use Rattle.std.proofs.lemmas.Bool.Decides.{Decides-int_eq}
 use Rattle.std.proofs.lemmas.Bool.{not-true}
 use Rattle.bl_tree.proofs.Basics.{and_first, and_second, false_not_true, true_and_false}
+use Rattle.bl_tree.specs.declared.token.Keyword.{Keyword}
+use Rattle.bl_tree.specs.declared.token.Keyword.TheVariants as keyword
+use Rattle.bl_tree.specs.Keywords.{position}
 use Rattle.bl_tree.specs.Words.{is_name, is_plain_word, is_among}
 use Rattle.bl_tree.specs.Words as words
 use Rattle.bl_tree.specs.declared.scalar.Scalar.{Scalar as ScalarType}
@@ -40,7 +43,7 @@ use Rattle.bl_face_laws.specs.Fits.{LengthsFit, FieldsFit, ItemFits, ItemsFit}
 use Rattle.bl_face_laws.proofs.Chunks.{Chunk, text_of, lexemes_in, next_byte, WordStands, MarkStands, Stands, AllStand, Cover, cover}
 use Rattle.bl_face_laws.proofs.Chunks.Chunk.{word, mark}
 use Rattle.bl_face_laws.proofs.Digits.{DigitsOf, decimal_digits}
-use Rattle.bl_face_laws.proofs.Pieces.{space, scalar_number, scalar_chunk, base_chunk, lengths_chunks, field_chunks, fields_chunks, more_chunks, params_chunks}
+use Rattle.bl_face_laws.proofs.Pieces.{space, scalar_keyword, scalar_chunk, base_chunk, lengths_chunks, field_chunks, fields_chunks, more_chunks, params_chunks}
 use Rattle.bl_face_laws.proofs.Pieces.{number_chunks, by_truth, value_chunks, unit_chunk, result_chunks, line, item_chunks, items_chunks, items_bytes}
 
 -- ---- words and signs
@@ -67,9 +70,9 @@ filled : (w : List ℕ) → has_byte w ≡ true → 0 < length w
 filled [] e = absurd (false_not_true e)
 filled (b ∷ bs) e = omega arith
 
-keyword : (k : ℕ) (w : List ℕ) (next : ℕ) → slice_get keywords k ≡ Some w → list_all is_word_byte w ≡ true → has_byte w ≡ true →
+keyword_stands : (k : Keyword) (w : List ℕ) (next : ℕ) → slice_get keywords (position k) ≡ Some w → list_all is_word_byte w ≡ true → has_byte w ≡ true →
     is_word_byte next ≡ false → WordStands w (kind.Word k) next
-keyword k w next spelled each some stops = record {
+keyword_stands k w next spelled each some stops = record {
   nonempty = filled w some;
   each = each;
   stops = stops;
@@ -106,52 +109,52 @@ number_word n next small stops no_point =
 
 scalar_word_stands : (of : ScalarType) (next : ℕ) → is_word_byte next ≡ false → Stands (scalar_chunk of) next
 unfolding keywords
-scalar_word_stands OfBool next stops = keyword 31 (codes "bool") next refl refl refl stops
-scalar_word_stands (Int W8) next stops = keyword 32 (codes "int8") next refl refl refl stops
-scalar_word_stands (Int W16) next stops = keyword 33 (codes "int16") next refl refl refl stops
-scalar_word_stands (Int W32) next stops = keyword 34 (codes "int32") next refl refl refl stops
-scalar_word_stands (Int W64) next stops = keyword 35 (codes "int64") next refl refl refl stops
-scalar_word_stands (Nat W8) next stops = keyword 36 (codes "nat8") next refl refl refl stops
-scalar_word_stands (Nat W16) next stops = keyword 37 (codes "nat16") next refl refl refl stops
-scalar_word_stands (Nat W32) next stops = keyword 38 (codes "nat32") next refl refl refl stops
-scalar_word_stands (Nat W64) next stops = keyword 39 (codes "nat64") next refl refl refl stops
-scalar_word_stands (Bits W8) next stops = keyword 40 (codes "bits8") next refl refl refl stops
-scalar_word_stands (Bits W16) next stops = keyword 41 (codes "bits16") next refl refl refl stops
-scalar_word_stands (Bits W32) next stops = keyword 42 (codes "bits32") next refl refl refl stops
-scalar_word_stands (Bits W64) next stops = keyword 43 (codes "bits64") next refl refl refl stops
+scalar_word_stands OfBool next stops = keyword_stands keyword.Bool (codes "bool") next refl refl refl stops
+scalar_word_stands (Int W8) next stops = keyword_stands keyword.Int8 (codes "int8") next refl refl refl stops
+scalar_word_stands (Int W16) next stops = keyword_stands keyword.Int16 (codes "int16") next refl refl refl stops
+scalar_word_stands (Int W32) next stops = keyword_stands keyword.Int32 (codes "int32") next refl refl refl stops
+scalar_word_stands (Int W64) next stops = keyword_stands keyword.Int64 (codes "int64") next refl refl refl stops
+scalar_word_stands (Nat W8) next stops = keyword_stands keyword.Nat8 (codes "nat8") next refl refl refl stops
+scalar_word_stands (Nat W16) next stops = keyword_stands keyword.Nat16 (codes "nat16") next refl refl refl stops
+scalar_word_stands (Nat W32) next stops = keyword_stands keyword.Nat32 (codes "nat32") next refl refl refl stops
+scalar_word_stands (Nat W64) next stops = keyword_stands keyword.Nat64 (codes "nat64") next refl refl refl stops
+scalar_word_stands (Bits W8) next stops = keyword_stands keyword.Bits8 (codes "bits8") next refl refl refl stops
+scalar_word_stands (Bits W16) next stops = keyword_stands keyword.Bits16 (codes "bits16") next refl refl refl stops
+scalar_word_stands (Bits W32) next stops = keyword_stands keyword.Bits32 (codes "bits32") next refl refl refl stops
+scalar_word_stands (Bits W64) next stops = keyword_stands keyword.Bits64 (codes "bits64") next refl refl refl stops
 
-var_stands : WordStands (codes "var") (kind.Word 5) 32
+var_stands : WordStands (codes "var") (kind.Word keyword.Var) 32
 unfolding keywords
-var_stands = keyword 5 (codes "var") 32 refl refl refl refl
+var_stands = keyword_stands keyword.Var (codes "var") 32 refl refl refl refl
 
-end_stands : WordStands (codes "end") (kind.Word 12) 10
+end_stands : WordStands (codes "end") (kind.Word keyword.End) 10
 unfolding keywords
-end_stands = keyword 12 (codes "end") 10 refl refl refl refl
+end_stands = keyword_stands keyword.End (codes "end") 10 refl refl refl refl
 
-struct_stands : WordStands (codes "struct") (kind.Word 4) 32
+struct_stands : WordStands (codes "struct") (kind.Word keyword.Struct) 32
 unfolding keywords
-struct_stands = keyword 4 (codes "struct") 32 refl refl refl refl
+struct_stands = keyword_stands keyword.Struct (codes "struct") 32 refl refl refl refl
 
-const_stands : WordStands (codes "const") (kind.Word 7) 32
+const_stands : WordStands (codes "const") (kind.Word keyword.Const) 32
 unfolding keywords
-const_stands = keyword 7 (codes "const") 32 refl refl refl refl
+const_stands = keyword_stands keyword.Const (codes "const") 32 refl refl refl refl
 
-returns_stands : WordStands (codes "returns") (kind.Word 2) 32
+returns_stands : WordStands (codes "returns") (kind.Word keyword.Returns) 32
 unfolding keywords
-returns_stands = keyword 2 (codes "returns") 32 refl refl refl refl
+returns_stands = keyword_stands keyword.Returns (codes "returns") 32 refl refl refl refl
 
-true_stands : WordStands (codes "true") (kind.Word 29) 10
+true_stands : WordStands (codes "true") (kind.Word keyword.True) 10
 unfolding keywords
-true_stands = keyword 29 (codes "true") 10 refl refl refl refl
+true_stands = keyword_stands keyword.True (codes "true") 10 refl refl refl refl
 
-false_stands : WordStands (codes "false") (kind.Word 30) 10
+false_stands : WordStands (codes "false") (kind.Word keyword.False) 10
 unfolding keywords
-false_stands = keyword 30 (codes "false") 10 refl refl refl refl
+false_stands = keyword_stands keyword.False (codes "false") 10 refl refl refl refl
 
 unit_stands : (unit : UnitKind) → Stands (unit_chunk unit) 32
 unfolding keywords
-unit_stands Function = keyword 0 (codes "function") 32 refl refl refl refl
-unit_stands Activity = keyword 1 (codes "activity") 32 refl refl refl refl
+unit_stands Function = keyword_stands keyword.Function (codes "function") 32 refl refl refl refl
+unit_stands Activity = keyword_stands keyword.Activity (codes "activity") 32 refl refl refl refl
 
 open_paren : (next : ℕ) → MarkStands 40 0 next
 unfolding signs
@@ -284,8 +287,9 @@ item_stands (item.Struct name fields) rest keeps fit stand =
       (
         refl,
         (
-          name_word name _ (and_first (is_name name) _ keeps) (fields_close fields (space ∷ word (codes "end") (kind.Word 12) ∷ line rest) refl),
-          fields_stand fields (space ∷ word (codes "end") (kind.Word 12) ∷ line rest) (and_second (has_field fields) (list_all field_is_named fields) named_so) fit refl
+          name_word name _ (and_first (is_name name) _ keeps) (fields_close fields (space ∷ word (codes "end") (kind.Word keyword.End) ∷ line rest) refl),
+          fields_stand fields (space ∷ word (codes "end") (kind.Word keyword.End) ∷ line rest)
+              (and_second (has_field fields) (list_all field_is_named fields) named_so) fit refl
               (refl, (end_stands, (refl, stand))),
         ),
       ),
@@ -325,7 +329,7 @@ items_stand (it ∷ items) keeps fit =
 
 -- ---- their lexemes spell the face
 
-scalar_is : (of : ScalarType) → class_of_word (scalar_number of) ≡ mark_of.Scalar of
+scalar_is : (of : ScalarType) → class_of_word (scalar_keyword of) ≡ mark_of.Scalar of
 scalar_is OfBool = refl
 scalar_is (Int W8) = refl
 scalar_is (Int W16) = refl
@@ -357,10 +361,11 @@ field_spelled : (field : FaceField) (rest : List Chunk) → LengthsFit field.ty.
 field_spelled field rest fit = SpellsField.field (type_spelled field.ty.lengths field.ty.base rest fit)
 
 fields_spelled : (fields : List FaceField) (rest : List Chunk) → FieldsFit fields →
-    SpellsFields fields (lexemes_in (fields_chunks fields (space ∷ word (codes "end") (kind.Word 12) ∷ line rest))) (lexemes_in rest)
+    SpellsFields fields (lexemes_in (fields_chunks fields (space ∷ word (codes "end") (kind.Word keyword.End) ∷ line rest))) (lexemes_in rest)
 fields_spelled [] rest fit = SpellsFields.none
 fields_spelled (field ∷ fields) rest fit =
-    SpellsFields.more (field_spelled field (fields_chunks fields (space ∷ word (codes "end") (kind.Word 12) ∷ line rest)) fit.0) (fields_spelled fields rest fit.1)
+    SpellsFields.more (field_spelled field (fields_chunks fields (space ∷ word (codes "end") (kind.Word keyword.End) ∷ line rest)) fit.0)
+    (fields_spelled fields rest fit.1)
 
 more_spelled : (params : List FaceField) (rest : List Chunk) → FieldsFit params →
     SpellsMore params (lexemes_in (more_chunks params (mark 41 1 ∷ rest))) (lexemes_in rest)

@@ -1,6 +1,7 @@
 -- What tokens of a text spell, the moved tokens spell in the whole, with moved places: statements.
 use Rattle.std.proofs.Common.{◌≡◌, ℕ, ◌+◌, Bool, List, [], ◌∷◌, ◌++◌, map, refl, ap, sym, ◌∙◌, arith}
 use Rattle.std.specs.Prelude.{Option, None, option_map}
+use Rattle.bl_tree.specs.declared.token.Keyword.{Keyword}
 use Rattle.bl_tree.specs.declared.place.Place.{Place}
 use Rattle.bl_tree.specs.declared.token.Token.{Token}
 use Rattle.bl_tree.specs.declared.tree.Guard.{Guard}
@@ -104,7 +105,7 @@ module _ {text whole : List ℕ} {tokens all : List Token} {n d : ℕ} (h : Stan
     block (SpellsBlock.no_stmts nothing is) = SpellsBlock.no_stmts (ap (map (placed_stmt f)) nothing) (stay h is)
     block (SpellsBlock.more_stmts body s is) = SpellsBlock.more_stmts (block body) (statement s) (mapped_more (placed_stmt f) _ _ is)
 
-    arm : {head : ℕ} {one : RawArm} {from to : ℕ} → SpellsArm text tokens head one from to → SpellsArm whole all head (armed f one) (d + from) (d + to)
+    arm : {head : Keyword} {one : RawArm} {from to : ℕ} → SpellsArm text tokens head one from to → SpellsArm whole all head (armed f one) (d + from) (d + to)
     arm (SpellsArm.headed w e t body is) =
         SpellsArm.headed (takes h w) (condition e) (takes h t) (block body) (ap (armed f) is ∙ arm_is f _ _)
 

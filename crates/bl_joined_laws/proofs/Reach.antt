@@ -4,11 +4,12 @@ use Rattle.std.proofs.Common.{sym, ◌∙◌, subst, arith}
 use Rattle.std.specs.Prelude.{Option, Some, option_map}
 use Rattle.std.proofs.lemmas.Option.{slice_get_within}
 use Rattle.std.proofs.str.Laws.{order}
+use Rattle.bl_tree.specs.declared.token.Keyword.{Keyword}
 use Rattle.bl_tree.specs.declared.token.Token.{Token}
 use Rattle.bl_tree.specs.declared.scalar.Op.{Op}
 use Rattle.bl_tree.specs.declared.token.TokenKind.{TokenKind}
 use Rattle.bl_tree.specs.declared.token.TokenKind.TheVariants.{Word}
-use Rattle.bl_lex.specs.declared.word.TheConstants.{END}
+use Rattle.bl_tree.specs.declared.token.Keyword.TheVariants as keyword
 use Rattle.bl_parse_syntax.specs.Depth.{blocks_after, open_after}
 use Rattle.bl_parse_syntax.proofs.Depths.{open_next}
 use Rattle.bl_parse_tree.specs.declared.expr.RawExpr.{RawExpr}
@@ -159,7 +160,7 @@ go_on {tokens} {from} {at} {to} o rest = record {
   one_more = rest.same ∙ o.one_more;
 }
 
-end_block : {tokens : List Token} {from at to : ℕ} → Opened tokens from at → Takes tokens (Word END) at to → Filled tokens from to
+end_block : {tokens : List Token} {from at to : ℕ} → Opened tokens from at → Takes tokens (Word keyword.End) at to → Filled tokens from to
 end_block {tokens} {at = at} {to = to} o t = record {
   forward = omega (arith, o.forward, t.next);
   inside = omega (arith, t.next, taken t);
@@ -179,7 +180,7 @@ mark (SpellsMark.absent off is) = stay is
 mark (SpellsMark.written on at opening n closing) = then (token at refl) (then (token opening refl) (then (token n refl) (token closing refl)))
 
 -- the head of an arm, and what follows it
-record Headed (tokens : List Token) (head from to : ℕ) : Type 0 where
+record Headed (tokens : List Token) (head : Keyword) (from to : ℕ) : Type 0 where
   at : ℕ
   word : Takes tokens (Word head) from at
   rest : Goes tokens at to
@@ -301,7 +302,7 @@ module _ {text : List ℕ} {tokens : List Token} where
     block (SpellsBlock.more_stmts body s is) = then (block body) (goes (stmt_filled s))
 
     -- what follows the head of an arm
-    arm : {head : ℕ} {one : RawArm} {from to : ℕ} → SpellsArm text tokens head one from to → Headed tokens head from to
+    arm : {head : Keyword} {one : RawArm} {from to : ℕ} → SpellsArm text tokens head one from to → Headed tokens head from to
     arm (SpellsArm.headed w e t body is) = record { at = _; word = w; rest = then (goes (expr_filled e)) (then (token t refl) (block body)) }
 
     arms : {all : List RawArm} {from to : ℕ} → SpellsArms text tokens all from to → Opened tokens from to

@@ -5,6 +5,8 @@ use Rattle.std.proofs.lemmas.Bool.Decides.{nat_tests}
 use Rattle.std.proofs.str.Laws.{order}
 use Rattle.std.specs.Prelude.{slice_get, slice_range, Some, Result, Ok, Err, MatchResult}
 use Rattle.bl_tree.proofs.Basics.{true_and_false}
+use Rattle.bl_tree.proofs.KeywordLemmas.{position_is}
+use Rattle.bl_tree.specs.Keywords.{position}
 use Rattle.bl_tree.specs.declared.place.Place.{Place}
 use Rattle.bl_tree.specs.declared.token.TokenKind.TheVariants.{Number, Word, Sign}
 use Rattle.bl_lex.specs.declared.piece.Form.{Form}
@@ -149,38 +151,38 @@ module _ (text : List ℕ) (start : ℕ) where
   -- a word is one thing
 
   pub one_meaning : (end : ℕ) (w : List ℕ) {f g : Form} → WordIs text end w f → WordIs text end w g → f ≡ g
-  one_meaning end w (keyword {k = k} a) (keyword {k = j} b) = ap (λ n. Token (Word n)) (one_keyword k j w a b)
-  one_meaning end w (keyword {k = k} a) (name d no_word not_outside) = absurd (no_word k a)
-  one_meaning end w (keyword {k = k} a) (number n no_fraction kept) = absurd (true_and_false _ (number_begins n) (keyword_begins k w a))
-  one_meaning end w (keyword {k = k} a) (outside j b) = absurd (keyword_not_outside k j w a b)
-  one_meaning end w (keyword {k = k} a) (octal o) = absurd (true_and_false _ (octal_begins w o) (keyword_begins k w a))
-  one_meaning end w (keyword {k = k} a) (fraction d at) = absurd (true_and_false _ (decimal_begins w d) (keyword_begins k w a))
-  one_meaning end w (name d no_word not_outside) (keyword {k = k} b) = absurd (no_word k b)
+  one_meaning end w (keyword {k = k} a) (keyword {k = j} b) = ap (λ n. Token (Word n)) (position_is k j (one_keyword (position k) (position j) w a b))
+  one_meaning end w (keyword {k = k} a) (name d no_word not_outside) = absurd (no_word (position k) a)
+  one_meaning end w (keyword {k = k} a) (number n no_fraction kept) = absurd (true_and_false _ (number_begins n) (keyword_begins (position k) w a))
+  one_meaning end w (keyword {k = k} a) (outside j b) = absurd (keyword_not_outside (position k) j w a b)
+  one_meaning end w (keyword {k = k} a) (octal o) = absurd (true_and_false _ (octal_begins w o) (keyword_begins (position k) w a))
+  one_meaning end w (keyword {k = k} a) (fraction d at) = absurd (true_and_false _ (decimal_begins w d) (keyword_begins (position k) w a))
+  one_meaning end w (name d no_word not_outside) (keyword {k = k} b) = absurd (no_word (position k) b)
   one_meaning end w (name d no_word not_outside) (name d' no_word' not_outside') = refl
   one_meaning end w (name d no_word not_outside) (number n no_fraction kept) = absurd (true_and_false _ (number_begins n) d)
   one_meaning end w (name d no_word not_outside) (outside j b) = absurd (not_outside j b)
   one_meaning end w (name d no_word not_outside) (octal o) = absurd (true_and_false _ (octal_begins w o) d)
   one_meaning end w (name d no_word not_outside) (fraction e at) = absurd (true_and_false _ (decimal_begins w e) d)
-  one_meaning end w (number n no_fraction kept) (keyword {k = k} a) = absurd (true_and_false _ (number_begins n) (keyword_begins k w a))
+  one_meaning end w (number n no_fraction kept) (keyword {k = k} a) = absurd (true_and_false _ (number_begins n) (keyword_begins (position k) w a))
   one_meaning end w (number n no_fraction kept) (name d no_word not_outside) = absurd (true_and_false _ (number_begins n) d)
   one_meaning end w (number n no_fraction kept) (number m no_fraction' kept') =
       ap (λ x. Token (Number x)) (kept ∙ ap (λ x. min x (2 ^ 64)) (one_number n m) ∙ sym kept')
   one_meaning end w (number n no_fraction kept) (outside j b) = absurd (true_and_false _ (number_begins n) (outside_begins j w b))
   one_meaning end w (number n no_fraction kept) (octal o) = absurd (number_not_octal n o)
   one_meaning end w (number n no_fraction kept) (fraction d at) = absurd (no_fraction d at)
-  one_meaning end w (outside j b) (keyword {k = k} a) = absurd (keyword_not_outside k j w a b)
+  one_meaning end w (outside j b) (keyword {k = k} a) = absurd (keyword_not_outside (position k) j w a b)
   one_meaning end w (outside j b) (name d no_word not_outside) = absurd (not_outside j b)
   one_meaning end w (outside j b) (number n no_fraction kept) = absurd (true_and_false _ (number_begins n) (outside_begins j w b))
   one_meaning end w (outside j b) (outside k a) = refl
   one_meaning end w (outside j b) (octal o) = refl
   one_meaning end w (outside j b) (fraction d at) = refl
-  one_meaning end w (octal o) (keyword {k = k} a) = absurd (true_and_false _ (octal_begins w o) (keyword_begins k w a))
+  one_meaning end w (octal o) (keyword {k = k} a) = absurd (true_and_false _ (octal_begins w o) (keyword_begins (position k) w a))
   one_meaning end w (octal o) (name d no_word not_outside) = absurd (true_and_false _ (octal_begins w o) d)
   one_meaning end w (octal o) (number n no_fraction kept) = absurd (number_not_octal n o)
   one_meaning end w (octal o) (outside j b) = refl
   one_meaning end w (octal o) (octal o') = refl
   one_meaning end w (octal o) (fraction d at) = refl
-  one_meaning end w (fraction d at) (keyword {k = k} a) = absurd (true_and_false _ (decimal_begins w d) (keyword_begins k w a))
+  one_meaning end w (fraction d at) (keyword {k = k} a) = absurd (true_and_false _ (decimal_begins w d) (keyword_begins (position k) w a))
   one_meaning end w (fraction d at) (name e no_word not_outside) = absurd (true_and_false _ (decimal_begins w d) e)
   one_meaning end w (fraction d at) (number n no_fraction kept) = absurd (no_fraction d at)
   one_meaning end w (fraction d at) (outside j b) = refl

@@ -12,6 +12,7 @@ use Rattle.std.specs.List.{list_all, list_any}
 use Rattle.std.specs.Str.{bytes_eq}
 use Rattle.std.proofs.lemmas.Bool.{false_from_ne_true}
 use Rattle.bl_tree.proofs.Basics.{all_at}
+use Rattle.bl_tree.specs.Keywords.{position}
 use Rattle.bl_lex.specs.declared.reserved.Meaning.{Meaning}
 use Rattle.bl_lex.specs.declared.reserved.Meaning.TheVariants.{Keyword, Outside}
 use Rattle.bl_lex.specs.declared.reserved.Reserved.{Reserved}
@@ -41,11 +42,11 @@ found_by {X} p (x ∷ xs) is = first (p x) refl is (found_by p xs)
 
 -- the meaning is that of the text
 abbrev pub means : List ℕ → Meaning → Bool
-means text (Keyword k) = is_spelled (slice_get keywords k) text
+means text (Keyword k) = is_spelled (slice_get keywords (position k)) text
 means text Outside = list_any (bytes_eq text) words_outside
 
 IsMeaningOf-means : (text : List ℕ) (meaning : Meaning) → means text meaning ≡ true → IsMeaningOf text meaning
-IsMeaningOf-means text (Keyword k) is = Some-is_spelled (slice_get keywords k) text is
+IsMeaningOf-means text (Keyword k) is = Some-is_spelled (slice_get keywords (position k)) text is
 IsMeaningOf-means text Outside is = let h = found_by (bytes_eq text) words_outside is in (h.0, let e = (bytes_eq-Decides text h.1.0).0 h.1.2 in cc)
 
 unfoldable pub is_right : Reserved → Bool

@@ -10,7 +10,8 @@ use Rattle.bl_tree.specs.declared.token.Token.{Token}
 use Rattle.bl_tree.specs.declared.token.TokenKind.{TokenKind}
 use Rattle.bl_tree.specs.declared.token.TokenKind.TheVariants.{Name, Number, Word, Sign}
 use Rattle.bl_grammar.specs.declared.symbol.Symbol.TheVariants.{Terminal}
-use Rattle.bl_lex.specs.declared.word.TheConstants.{OR, AND}
+use Rattle.bl_tree.specs.declared.token.Keyword.TheVariants as keyword
+use Rattle.bl_tree.specs.Keywords.{same_word}
 use Rattle.bl_lex.specs.declared.sign.TheConstants.{EQUAL, NOT_EQUAL, LESS, LESS_OR_EQUAL, GREATER, GREATER_OR_EQUAL, BAR, CARET, AMPERSAND, SHIFT_LEFT}
 use Rattle.bl_lex.specs.declared.sign.TheConstants.{SHIFT_RIGHT, PLUS, MINUS, STAR, SLASH, PERCENT}
 use Rattle.bl_parse_syntax.specs.declared.grammar.Class.{Class}
@@ -95,7 +96,7 @@ fits (suc (suc (suc b))) (suc (suc (suc n))) l e = let p = plain n in let h : n 
 level_of : TokenKind → ℕ
 level_of Name = 99
 level_of (Number n) = 99
-level_of (Word w) = cond (nat_eq w OR) 0 (cond (nat_eq w AND) 1 99)
+level_of (Word w) = cond (same_word w keyword.Or) 0 (cond (same_word w keyword.And) 1 99)
 level_of (Sign s) = (cond (nat_eq s EQUAL) 2 (cond (nat_eq s NOT_EQUAL) 2
     (cond (nat_eq s LESS) 2 (cond (nat_eq s LESS_OR_EQUAL) 2
     (cond (nat_eq s GREATER) 2 (cond (nat_eq s GREATER_OR_EQUAL) 2
@@ -136,10 +137,10 @@ abbrev pub Found : ℕ → TokenKind → Type 0
 Found m kind = (op : Op) × IsOperator kind m op
 
 operator_of : (m : ℕ) (kind : TokenKind) → m ≤ 8 → has (starts_within 20 (rest_of m)) (class_of kind) ≡ true → Found m kind
-operator_of zero kind le on = one_of (Keyword OR) ([])
-    (λ e. (Op.Or, subst (λ kind. IsOperator kind 0 Op.Or) (sym (class_word kind OR e)) IsOperator.either)) from_false on
-operator_of (suc zero) kind le on = one_of (Keyword AND) ([])
-    (λ e. (Op.And, subst (λ kind. IsOperator kind 1 Op.And) (sym (class_word kind AND e)) IsOperator.both)) from_false on
+operator_of zero kind le on = one_of (Keyword keyword.Or) ([])
+    (λ e. (Op.Or, subst (λ kind. IsOperator kind 0 Op.Or) (sym (class_word kind keyword.Or e)) IsOperator.either)) from_false on
+operator_of (suc zero) kind le on = one_of (Keyword keyword.And) ([])
+    (λ e. (Op.And, subst (λ kind. IsOperator kind 1 Op.And) (sym (class_word kind keyword.And e)) IsOperator.both)) from_false on
 operator_of (suc (suc zero)) kind le on = one_of (Mark EQUAL)
     ((Mark NOT_EQUAL) ∷ (Mark LESS) ∷ (Mark LESS_OR_EQUAL) ∷ (Mark GREATER) ∷ (Mark GREATER_OR_EQUAL) ∷ [])
     (λ e. (Op.Eq, subst (λ kind. IsOperator kind 2 Op.Eq) (sym (class_sign kind EQUAL e)) IsOperator.equal))
@@ -256,11 +257,11 @@ module _ {tokens : List Token} {k : ℕ} where
   steps : (level own : ℕ) {kind : TokenKind} {op : Op} → kind_at tokens k ≡ Some kind → IsOperator kind own op → level ≤ own
       → Turns (the (rest_of own) ∷ tails own level) tokens k (Terminal (class_of kind) ∷ the (operand (own + 1)) ∷ tails (below own) level) k
   steps level own is IsOperator.either le = subst (λ t. Turns (the ExprRest ∷ tails 0 level) tokens k
-      (Terminal (Keyword OR) ∷ the And ∷ t) k) (sym (tails_step 0 level le))
-      (opened (Terminal (Keyword OR) ∷ the And ∷ the ExprRest ∷ []) (λ v. refl) is refl)
+      (Terminal (Keyword keyword.Or) ∷ the And ∷ t) k) (sym (tails_step 0 level le))
+      (opened (Terminal (Keyword keyword.Or) ∷ the And ∷ the ExprRest ∷ []) (λ v. refl) is refl)
   steps level own is IsOperator.both le = subst (λ t. Turns (the AndRest ∷ tails 1 level) tokens k
-      (Terminal (Keyword AND) ∷ the Comparison ∷ t) k) (sym (tails_step 1 level le))
-      (opened (Terminal (Keyword AND) ∷ the Comparison ∷ the AndRest ∷ []) (λ v. refl) is refl)
+      (Terminal (Keyword keyword.And) ∷ the Comparison ∷ t) k) (sym (tails_step 1 level le))
+      (opened (Terminal (Keyword keyword.And) ∷ the Comparison ∷ the AndRest ∷ []) (λ v. refl) is refl)
   steps level own is IsOperator.equal le = opened (Terminal (Mark EQUAL) ∷ the BitOr ∷ []) (λ v. refl) is refl
   steps level own is IsOperator.differs le = opened (Terminal (Mark NOT_EQUAL) ∷ the BitOr ∷ []) (λ v. refl) is refl
   steps level own is IsOperator.less le = opened (Terminal (Mark LESS) ∷ the BitOr ∷ []) (λ v. refl) is refl

@@ -5,6 +5,8 @@ use Rattle.std.specs.Prelude.{Option, Some, None, slice_get, option_map}
 use Rattle.std.proofs.lemmas.Bool.{eq-eqb}
 use Rattle.std.proofs.lemmas.Option.{slice_get_within}
 use Rattle.bl_tree.proofs.Basics.{plus_one, true_not_false}
+use Rattle.bl_tree.proofs.KeywordLemmas.{same_word_self}
+use Rattle.bl_tree.specs.declared.token.Keyword.{Keyword as AnyKeyword}
 use Rattle.bl_tree.specs.declared.token.Token.{Token}
 use Rattle.bl_tree.specs.declared.token.TokenKind.{TokenKind}
 use Rattle.bl_tree.specs.declared.token.TokenKind.TheVariants.{Name, Number, Word, Sign}
@@ -81,7 +83,7 @@ abbrev picks_at : Part → Option TokenKind → Option (List Piece)
 picks_at part None = None
 picks_at part (Some kind) = picks part (class_of kind)
 
-pub class_word : (kind : TokenKind) (w : ℕ) → Keyword w ≡ class_of kind → kind ≡ Word w
+pub class_word : (kind : TokenKind) (w : AnyKeyword) → Keyword w ≡ class_of kind → kind ≡ Word w
 class_word Name w e = cc
 class_word (Number n) w e = cc
 class_word (Word v) w e = cc
@@ -108,7 +110,7 @@ class_same e = cc
 own_class : (c : Class) → has (c ∷ []) c ≡ true
 own_class AnyName = refl
 own_class AnyNumber = refl
-own_class (Keyword k) = rw (eq-eqb k k refl) refl
+own_class (Keyword k) = rw (same_word_self k) refl
 own_class (Mark k) = rw (eq-eqb k k refl) refl
 
 append_assoc : {A : Type 0} (xs ys zs : List A) → (xs ++ ys) ++ zs ≡ xs ++ (ys ++ zs)
@@ -231,7 +233,7 @@ module _ (tokens : List Token) (k : ℕ) where
           (token.kind, ap (option_map (λ token. token.kind)) is, same_is class next.next.class next.is ∙ (class_same (sym next.stands ∙ s.2) ∙ s.3))
 
 module _ {tokens : List Token} {k : ℕ} where
-  pub no_word : {w : ℕ} → NotNext tokens k (Word w) → NoneNext (Keyword w ∷ []) tokens k
+  pub no_word : {w : AnyKeyword} → NotNext tokens k (Word w) → NoneNext (Keyword w ∷ []) tokens k
   no_word {w} none = record { off = by_kind (kind_at tokens k) refl }
     where
       by_kind : (o : Option TokenKind) → kind_at tokens k ≡ o → next_among (Keyword w ∷ []) o ≡ false
@@ -247,7 +249,7 @@ module _ {tokens : List Token} {k : ℕ} where
 
   -- ---- what stands next
 
-  pub next_word : {w : ℕ} {b : List Piece} → Awaits (word w ∷ b) tokens k → kind_at tokens k ≡ Some (Word w)
+  pub next_word : {w : AnyKeyword} {b : List Piece} → Awaits (word w ∷ b) tokens k → kind_at tokens k ≡ Some (Word w)
   next_word {w} a = let h = kind_next tokens k a.here.expects in h.1 ∙ ap Some (class_word h.0 w h.2)
 
   pub next_sign : {w : ℕ} {b : List Piece} → Awaits (sign w ∷ b) tokens k → kind_at tokens k ≡ Some (Sign w)

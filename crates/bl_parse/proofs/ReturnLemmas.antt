@@ -2,10 +2,12 @@
 use Rattle.std.proofs.Common.{◌≡◌, ℕ, zero, suc, ◌+◌, Bool, true, false, not, cond, ◌&&◌, ◌||◌, List, [], ◌∷◌, ◌++◌, drop, refl, ap, sym, ◌∙◌, subst, arith}
 use Rattle.std.specs.Prelude.{Option, Some, None, slice_get, option_map, nat_eq}
 use Rattle.bl_tree.proofs.Basics.{number_test_swap}
+use Rattle.bl_tree.proofs.KeywordLemmas.{same_word_swap}
 use Rattle.bl_tree.specs.declared.token.Token.{Token}
 use Rattle.bl_tree.specs.declared.token.TokenKind.{TokenKind}
 use Rattle.bl_tree.specs.declared.token.TokenKind.TheVariants.{Name, Number, Word, Sign}
-use Rattle.bl_lex.specs.declared.word.TheConstants.{NOT, TRUE, FALSE, PREV, VAR, LET, CONST, AWAIT, RUN, COBEGIN, WHEN, REPEAT, WHILE, IF, RETURN}
+use Rattle.bl_tree.specs.declared.token.Keyword.TheVariants as keyword
+use Rattle.bl_tree.specs.Keywords.{same_word}
 use Rattle.bl_lex.specs.declared.sign.TheConstants.{OPEN_PAREN, MINUS, TILDE}
 use Rattle.bl_parse_syntax.specs.declared.grammar.TokenView.{TokenView}
 use Rattle.bl_parse_syntax.specs.declared.grammar.Part.TheVariants.{AfterReturn, Expr}
@@ -37,7 +39,8 @@ three false false false = refl
 begins_is : (kind : TokenKind) → begins_expr kind ≡ has expression_starts (class_of kind)
 begins_is Name = refl
 begins_is (Number n) = refl
-begins_is (Word k) = rw (number_test_swap k NOT, number_test_swap k TRUE, number_test_swap k FALSE, number_test_swap k PREV) (four (nat_eq NOT k) (nat_eq TRUE k) (nat_eq FALSE k) (nat_eq PREV k))
+begins_is (Word k) = rw (same_word_swap k keyword.Not, same_word_swap k keyword.True, same_word_swap k keyword.False, same_word_swap k keyword.Prev)
+    (four (same_word keyword.Not k) (same_word keyword.True k) (same_word keyword.False k) (same_word keyword.Prev k))
 begins_is (Sign k) = rw (number_test_swap k OPEN_PAREN, number_test_swap k MINUS, number_test_swap k TILDE) (three (nat_eq OPEN_PAREN k) (nat_eq MINUS k) (nat_eq TILDE k))
 
 after_return : (v : TokenView) → pick AfterReturn v ≡ or_absent true
@@ -154,16 +157,16 @@ stmt_starts (Some Name) = refl
 stmt_starts (Some (Number n)) = refl
 stmt_starts (Some (Sign s)) = refl
 stmt_starts (Some (Word k)) = rw (
-  number_test_swap k VAR,
-  number_test_swap k LET,
-  number_test_swap k CONST,
-  number_test_swap k AWAIT,
-  number_test_swap k RUN,
-  number_test_swap k COBEGIN,
-  number_test_swap k WHEN,
-  number_test_swap k REPEAT,
-  number_test_swap k WHILE,
-  number_test_swap k IF,
-  number_test_swap k RETURN,
-  or_end (nat_eq RETURN k),
+  same_word_swap k keyword.Var,
+  same_word_swap k keyword.Let,
+  same_word_swap k keyword.Const,
+  same_word_swap k keyword.Await,
+  same_word_swap k keyword.Run,
+  same_word_swap k keyword.Cobegin,
+  same_word_swap k keyword.When,
+  same_word_swap k keyword.Repeat,
+  same_word_swap k keyword.While,
+  same_word_swap k keyword.If,
+  same_word_swap k keyword.Return,
+  or_end (same_word keyword.Return k),
 ) refl

@@ -7,8 +7,10 @@ use Rattle.bl_tree.specs.declared.token.Token.{Token}
 use Rattle.bl_tree.specs.declared.token.TokenKind.{TokenKind}
 use Rattle.bl_tree.specs.declared.token.TokenKind.TheVariants.{Name, Number, Word, Sign}
 use Rattle.bl_lex.specs.declared.sign.TheConstants.{ASSIGN, AT}
-use Rattle.bl_lex.specs.declared.word.TheConstants.{END}
-use Rattle.bl_parse_syntax.specs.Depth.{is_one_of, opening_words, blocks_after, is_counted, is_last, is_inner_word, begins_run, run_with, open_after, run_after}
+use Rattle.bl_tree.specs.declared.token.Keyword.TheVariants as keyword
+use Rattle.bl_tree.specs.Keywords.{same_word}
+use Rattle.bl_parse_syntax.specs.Depth.{is_word_of, opening_words, blocks_after, is_counted, is_last, is_inner_word, begins_run, run_with}
+use Rattle.bl_parse_syntax.specs.Depth.{open_after, run_after}
 use Rattle.bl_parse_syntax.specs.inner.Depth.{last_kind}
 use Rattle.bl_parse_syntax.specs.Rules.{PassesDepth}
 use Rattle.bl_parse_syntax.proofs.Depths.{open_next, last_next, run_next}
@@ -69,19 +71,19 @@ before_step {tokens} {from = from} t = let f = front t in
 
 -- the token opens and closes no block
 abbrev pub is_level : TokenKind → Bool
-is_level (Word k) = not (is_one_of opening_words k) && not (nat_eq k END)
+is_level (Word k) = not (is_word_of opening_words k) && not (same_word k keyword.End)
 is_level _ = true
 
 -- the token opens a block
 abbrev pub is_opening : TokenKind → Bool
-is_opening (Word k) = is_one_of opening_words k
+is_opening (Word k) = is_word_of opening_words k
 is_opening _ = false
 
 pub levels : (n : ℕ) (kind : TokenKind) → is_level kind ≡ true → blocks_after n kind ≡ n
 levels n Name level = refl
 levels n (Number v) level = refl
 levels n (Sign k) level = refl
-levels n (Word k) level = by_tests (is_one_of opening_words k) (nat_eq k END) level
+levels n (Word k) level = by_tests (is_word_of opening_words k) (same_word k keyword.End) level
   where
     by_tests : (opens ends : Bool) → (not opens && not ends) ≡ true → cond opens (n + 1) (cond ends (n - 1) n) ≡ n
     by_tests false false level = refl
@@ -102,7 +104,7 @@ pub opens : {tokens : List Token} {kind : TokenKind} {from to : ℕ} → Takes t
     open_at tokens to ≡ open_at tokens from + 1
 opens {tokens} {kind} {from} t is = open_step t ∙ opened (open_at tokens from) kind is
 
-pub closes : {tokens : List Token} {from to : ℕ} → Takes tokens (Word END) from to → open_at tokens to ≡ open_at tokens from - 1
+pub closes : {tokens : List Token} {from to : ℕ} → Takes tokens (Word keyword.End) from to → open_at tokens to ≡ open_at tokens from - 1
 closes t = open_step t
 
 -- ---- runs

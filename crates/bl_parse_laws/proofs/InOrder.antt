@@ -1,6 +1,7 @@
 -- Statements and the conditions of loops begin one after another in a tree that is spelled.
 use Rattle.std.proofs.Common.{◌≡◌, ℕ, ◌+◌, ◌≤◌, Bool, true, List, [], ◌∷◌, ◌++◌, map, refl, ap, sym, ◌∙◌, subst, arith}
 use Rattle.std.specs.Prelude.{Option}
+use Rattle.bl_tree.specs.declared.token.Keyword.{Keyword}
 use Rattle.bl_tree.specs.declared.place.Place.{Place}
 use Rattle.bl_tree.specs.declared.token.Token.{Token}
 use Rattle.bl_tree.specs.declared.tree.Guard.{Guard}
@@ -172,7 +173,7 @@ module _ {text : List ℕ} {tokens : List Token} where
     block (SpellsBlock.more_stmts body s is) = more_rise starts_of _ (block body) (statement s) is
 
     -- an arm begins with a keyword
-    arm : {head : ℕ} {one : RawArm} {from to : ℕ} → SpellsArm text tokens head one from to → Rising tokens (one_arm_starts one) (from + 1) to
+    arm : {head : Keyword} {one : RawArm} {from to : ℕ} → SpellsArm text tokens head one from to → Rising tokens (one_arm_starts one) (from + 1) to
     arm (SpellsArm.headed w e t body is) = same (ap one_arm_starts is ∙ arm_is _ _)
         (earlier (omega (arith, w.next, (level.expression e).moves, t.next)) (block body).rising)
 

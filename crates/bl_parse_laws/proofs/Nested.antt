@@ -4,6 +4,7 @@ use Rattle.std.specs.Prelude.{Option}
 use Rattle.std.specs.List.{list_all}
 use Rattle.std.proofs.lemmas.Bool.{le-leb}
 use Rattle.bl_tree.proofs.Basics.{map_push}
+use Rattle.bl_tree.specs.declared.token.Keyword.{Keyword}
 use Rattle.bl_tree.specs.declared.place.Place.{Place}
 use Rattle.bl_tree.specs.declared.token.Token.{Token}
 use Rattle.bl_tree.specs.declared.token.TokenKind.{TokenKind}
@@ -282,7 +283,7 @@ module _ {text : List ℕ} {tokens : List Token} (limit : Limits tokens) where
     block_rows (SpellsBlock.more_stmts {from = from} body s is) = let front = block_rows body in let last = statement s in
         record { same = last.same ∙ front.same; all = more_fit depth_of _ front.all (refits front.same last.fits) is }
 
-    arm : {head : ℕ} {one : RawArm} {from to : ℕ} → SpellsArm text tokens head one from to → (around : ℕ) →
+    arm : {head : Keyword} {one : RawArm} {from to : ℕ} → SpellsArm text tokens head one from to → (around : ℕ) →
         ((m : ℕ) → Takes tokens (Word head) from m → open_at tokens m ≡ around + 1)
         → Under tokens around to (one_arm_depth one)
     arm (SpellsArm.headed w e t body is) around opening =

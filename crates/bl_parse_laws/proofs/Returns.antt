@@ -2,10 +2,12 @@
 use Rattle.std.proofs.Common.{◌≡◌, ℕ, zero, suc, ◌+◌, Bool, true, false, not, ◌&&◌, ◌||◌, List, [], ◌∷◌, drop, refl, ap, sym, ◌∙◌}
 use Rattle.std.specs.Prelude.{Some, None, slice_get, nat_eq}
 use Rattle.bl_tree.proofs.Basics.{number_test_swap}
+use Rattle.bl_tree.proofs.KeywordLemmas.{same_word_swap}
 use Rattle.bl_tree.specs.declared.token.Token.{Token}
 use Rattle.bl_tree.specs.declared.token.TokenKind.{TokenKind}
 use Rattle.bl_tree.specs.declared.token.TokenKind.TheVariants.{Name, Number, Word, Sign}
-use Rattle.bl_lex.specs.declared.word.TheConstants.{NOT, TRUE, FALSE, PREV, RETURN}
+use Rattle.bl_tree.specs.declared.token.Keyword.TheVariants as keyword
+use Rattle.bl_tree.specs.Keywords.{same_word}
 use Rattle.bl_lex.specs.declared.sign.TheConstants.{OPEN_PAREN, MINUS, TILDE}
 use Rattle.bl_grammar.specs.Derivations.{next_of}
 use Rattle.bl_grammar.specs.Derivations.Derives.{done, part}
@@ -23,7 +25,8 @@ use Rattle.bl_parse.proofs.ReturnLemmas.{four, three, views_from}
 begins_is : (kind : TokenKind) → begins_expr kind ≡ begins_expression (class_of kind)
 begins_is Name = refl
 begins_is (Number n) = refl
-begins_is (Word k) = rw (number_test_swap k NOT, number_test_swap k TRUE, number_test_swap k FALSE, number_test_swap k PREV) (four (nat_eq NOT k) (nat_eq TRUE k) (nat_eq FALSE k) (nat_eq PREV k))
+begins_is (Word k) = rw (same_word_swap k keyword.Not, same_word_swap k keyword.True, same_word_swap k keyword.False, same_word_swap k keyword.Prev)
+    (four (same_word keyword.Not k) (same_word keyword.True k) (same_word keyword.False k) (same_word keyword.Prev k))
 begins_is (Sign k) = rw (number_test_swap k OPEN_PAREN, number_test_swap k MINUS, number_test_swap k TILDE) (three (nat_eq OPEN_PAREN k) (nat_eq MINUS k) (nat_eq TILDE k))
 
 get_head : (k : ℕ) (tokens : List Token) → slice_get tokens k ≡ slice_get (drop k tokens) 0
@@ -51,10 +54,10 @@ continues_is tokens k kind {to} is next = let t = token_at tokens k is in by_tok
         ∙ (goes_alike one (drop (suc k) tokens) ∙ (ap (goes_on (Some one)) (sym (get_head (suc k) tokens))
         ∙ (ap (λ o. goes_on o (slice_get tokens (suc k))) (sym at) ∙ ap (λ n. goes_on (slice_get tokens k) (slice_get tokens n)) (sym (position refl))))))
 
-pub bare : {tokens : List Token} {from to : ℕ} → Takes tokens (Word RETURN) from to → takes_value tokens from ≡ false →
+pub bare : {tokens : List Token} {from to : ℕ} → Takes tokens (Word keyword.Return) from to → takes_value tokens from ≡ false →
     Spans (the AfterReturn ∷ []) tokens to to
-bare {tokens} {from} t none = record { goes = part (later here, ap not (continues_is tokens from (Word RETURN) t.stands t.next ∙ none)) done done }
+bare {tokens} {from} t none = record { goes = part (later here, ap not (continues_is tokens from (Word keyword.Return) t.stands t.next ∙ none)) done done }
 
-pub valued : {tokens : List Token} {from m to : ℕ} → Takes tokens (Word RETURN) from m → takes_value tokens from ≡ true →
+pub valued : {tokens : List Token} {from m to : ℕ} → Takes tokens (Word keyword.Return) from m → takes_value tokens from ≡ true →
     Spans (the Expr ∷ []) tokens m to → Spans (the AfterReturn ∷ []) tokens m to
-valued {tokens} {from} t on s = record { goes = part (here, continues_is tokens from (Word RETURN) t.stands t.next ∙ on) s.goes done }
+valued {tokens} {from} t on s = record { goes = part (here, continues_is tokens from (Word keyword.Return) t.stands t.next ∙ on) s.goes done }

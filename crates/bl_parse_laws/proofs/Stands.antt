@@ -2,6 +2,7 @@
 use Rattle.std.proofs.Common.{◌≡◌, ℕ, Bool, true, ◌&&◌, ◌||◌, List, map, refl, ap, sym, ◌∙◌}
 use Rattle.std.specs.Prelude.{Option, is_some}
 use Rattle.std.specs.List.{list_all}
+use Rattle.bl_tree.specs.declared.token.Keyword.{Keyword}
 use Rattle.bl_tree.specs.declared.place.Place.{Place}
 use Rattle.bl_tree.specs.declared.token.Token.{Token}
 use Rattle.bl_tree.specs.declared.tree.Guard.{Guard}
@@ -162,7 +163,7 @@ module _ (text : List ℕ) (tokens : List Token) (stand : NamesStand text tokens
     block (SpellsBlock.no_stmts none is) = none_hold stmt_stands none
     block (SpellsBlock.more_stmts body s is) = more_hold stmt_stands _ (block body) (statement s) is
 
-    arm : {head : ℕ} {one : RawArm} {from to : ℕ} → SpellsArm text tokens head one from to → one_arm_stands one ≡ true
+    arm : {head : Keyword} {one : RawArm} {from to : ℕ} → SpellsArm text tokens head one from to → one_arm_stands one ≡ true
     arm (SpellsArm.headed w e t body is) = ap one_arm_stands is ∙ (arm_is _ _ ∙ both (expression text tokens stand e) (block body).hold)
 
     each_arm : {arms : List RawArm} {from to : ℕ} → SpellsArms text tokens arms from to → Each one_arm_stands arms

@@ -4,6 +4,7 @@ use Rattle.std.proofs.Common.{arith}
 use Rattle.std.specs.Prelude.{Option, Some, None, nat_lt}
 use Rattle.std.proofs.lemmas.Bool.{ltb-true, eq-eqb}
 use Rattle.std.proofs.lemmas.Bool.{false_from_ne_true, not-true}
+use Rattle.bl_tree.proofs.KeywordLemmas.{same_word_self}
 use Rattle.bl_grammar.specs.declared.symbol.Symbol.TheVariants.{Terminal, Nonterminal}
 use Rattle.bl_grammar.specs.Predictive
 use Rattle.bl_grammar.proofs.Predictive.{or_left, and_left, and_right, not_both, same_some, no_some}
@@ -175,7 +176,7 @@ easy_stands _ next neutral = refl
 pub same_self : (k : Class) → same_class k k ≡ true
 same_self AnyName = refl
 same_self AnyNumber = refl
-same_self (Keyword k) = eq-eqb k k refl
+same_self (Keyword k) = same_word_self k
 same_self (Mark k) = eq-eqb k k refl
 
 ranked_of : (A : Part) → (0 < depth A) × (0 < 32) × (depth A ≤ 32)

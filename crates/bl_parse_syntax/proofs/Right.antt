@@ -4,6 +4,7 @@ use Rattle.std.specs.Prelude.{Some, None}
 use Rattle.std.specs.List.{list_all}
 use Rattle.std.proofs.lemmas.Bool.{eqb-true}
 use Rattle.std.proofs.lemmas.Bool.{false_from_ne_true, not-true}
+use Rattle.bl_tree.proofs.KeywordLemmas.{same_word_is}
 use Rattle.bl_grammar.proofs.Predictive.{or_left, or_right, and_both, and_left, and_right, not_both, same_some, no_some}
 use Rattle.bl_parse_syntax.specs.declared.grammar.Class.{Class}
 use Rattle.bl_parse_syntax.specs.declared.grammar.Class.TheVariants.{AnyName, AnyNumber, Keyword, Mark}
@@ -22,7 +23,7 @@ use Rattle.bl_parse_syntax.proofs.Checks.{are_apart, are_within, all_on, are_sep
 pub same_is : (a b : Class) → same_class a b ≡ true → a ≡ b
 same_is AnyName AnyName e = refl
 same_is AnyNumber AnyNumber e = refl
-same_is (Keyword k) (Keyword n) e = ap Keyword (eqb-true k n e)
+same_is (Keyword k) (Keyword n) e = ap Keyword (same_word_is k n e)
 same_is (Mark k) (Mark n) e = ap Mark (eqb-true k n e)
 same_is _ _ e = cc
 

@@ -21,7 +21,7 @@ use Rattle.bl_tree.specs.Typing.{TypingContext, is_activity, outputs_of, var_at}
 use Rattle.bl_eval.specs.Values.{value_fits}
 use Rattle.bl_eval.proofs.PassLemmas.{pass_at}
 use Rattle.bl_ctext_semantics.specs.Faults.{WellFormed, struct_table}
-use Rattle.bl_ctext_semantics.specs.Meaning.{contains_further as further_place}
+use Rattle.bl_ctext_semantics.specs.Meaning.{further as further_place}
 use Rattle.bl_ctext_semantics.specs.Memory.{Location, Memory, Projection, Root, member, output_object, scalar_number, state_object, value_at}
 use Rattle.bl_ctext_semantics.specs.Parts.{Parts}
 use Rattle.bl_ctext_semantics_laws.specs.Fitting.{ValueSpot, walk, whole, whole_spot, whole_type}

@@ -1,6 +1,6 @@
 use Rattle.std.proofs.Common.{Some, refl, ap, sym, arith, true, ◌∙◌, ◌∷◌, [], lit≤}
 use Rattle.bl_tree.proofs.Basics.{at_most_itself}
-use Rattle.bl_lex.specs.declared.word.TheConstants.{AS, NOT}
+use Rattle.bl_tree.specs.declared.token.Keyword.TheVariants as keyword
 use Rattle.bl_lex.specs.declared.sign.TheConstants.{OPEN_BRACKET, CLOSE_BRACKET, OPEN_PAREN, CLOSE_PAREN, COMMA, DOT, MINUS, TILDE}
 use Rattle.bl_parse_syntax.specs.declared.grammar.Part.TheVariants.{Scalar, Accesses, Inputs, InputList, InputRest, Expr, CastRest, Unary, Primary, NameUse}
 use Rattle.bl_parse_syntax.specs.declared.grammar.Part.TheVariants.{NoOutputs}
@@ -50,14 +50,14 @@ pub cast-one_cast-requires : goal.cast-one_cast-requires
 cast-one_cast-requires t c = record {
   awaits = first
       (after c.requires.awaits (then (c.casts.invariant.follows)
-      (then (opened (word AS ∷ the Scalar ∷ the CastRest ∷ []) (λ v. refl) (c.stands.ensures.kind.0 c.casts-test.true) refl)
+      (then (opened (word keyword.As ∷ the Scalar ∷ the CastRest ∷ []) (λ v. refl) (c.stands.ensures.kind.0 c.casts-test.true) refl)
       (pass c.take.ensures.next))));
 }
 
 pub cast-casts-preserved : goal.cast-casts-preserved
 cast-casts-preserved t c = record {
   e = c.in_ok-e-2.ensures.spelled _ c.casts.invariant.e c.take.ensures.taken;
-  follows = then (c.casts.invariant.follows) (then (opened (word AS ∷ the Scalar ∷ the CastRest ∷ []) (λ v. refl)
+  follows = then (c.casts.invariant.follows) (then (opened (word keyword.As ∷ the Scalar ∷ the CastRest ∷ []) (λ v. refl)
       (c.stands.ensures.kind.0 c.casts-test.true) refl) (then (pass c.take.ensures.next) (read c.in_ok-e-2.ensures.follows)));
   ahead = omega (arith, c.casts.invariant.ahead, c.take.ensures.next, c.in_ok-e-2.ensures.next);
 }
@@ -413,7 +413,7 @@ unary-one-requires-then-stands-3 t c = (
     c.if-stands-3.ensures.inside refl,
     (
       record {
-        kind = Word NOT;
+        kind = Word keyword.Not;
         token =
             record { stands = c.if-stands-3.ensures.kind.0 refl; next = refl };
         is = IsPrefix.denial;
