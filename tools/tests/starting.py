@@ -152,9 +152,9 @@ def check_versions(results, room):
     told = ran([f"{TOP}/tools/version", "all"])
     results.tell("tools/version, other words", (told.returncode, told.stdout), (2, ""))
     head = "#include <stdbool.h>\nstruct bl_state {\n    uint8_t c;\n};\nstruct bl_in {\n    uint8_t pad;\n};\nstruct bl_out {\n    uint8_t pad;\n};\n"
-    write(f"{room}/any.c", head)
-    ran([f"{TOP}/tools/unit", "any"], cwd=room)
-    results.tell("tools/unit, the version in its header", f'#define ANY_BLECHC "{line}"\n' in text_of(f"{room}/any_unit.h"), True)
+    write(f"{room}/pump.c", head)
+    ran([f"{TOP}/tools/unit", "pump"], cwd=room)
+    results.tell("tools/unit, the version in its header", f'#define PUMP_BLECHC "{line}"\n' in text_of(f"{room}/pump_unit.h"), True)
 
 
 def check_format(results, program):
