@@ -134,35 +134,38 @@ def answer(words):
 # ---- versions
 
 
+def told_by(*words):
+    """What a command of the path prints; nothing where it isn't there, or fails."""
+    ran = subprocess.run(words, capture_output=True, text=True, check=False) if shutil.which(words[0]) else None
+    return ran.stdout.strip() if ran and ran.returncode == 0 else ""
+
+
 def commit():
     """The commit of this repository, with a mark where files were edited."""
-    told = [subprocess.run(["git", "-C", TOP, *it], capture_output=True, text=True, check=False)
-            for it in (["rev-parse", "--short=12", "HEAD"], ["status", "--porcelain", "--untracked-files=no"])]
-    return told[0].stdout.strip() + ("+changes" if told[1].stdout else "") if told[0].returncode == 0 else "unknown"
+    found = told_by("git", "-C", TOP, "rev-parse", "--short=12", "HEAD")
+    edited = found and told_by("git", "-C", TOP, "status", "--porcelain", "--untracked-files=no")
+    return found + ("+changes" if edited else "")
 
 
-def toolchain():
-    """The line of the toolchain that is installed, else of the one that README.md names."""
-    if shutil.which("rt"):
-        return subprocess.run(["rt", "version"], capture_output=True, text=True, check=False).stdout.strip()
-    found = re.search(r"`rt version`: ([^)]*)\)", read(f"{TOP}/README.md").decode())
-    return found[1] if found else "unknown"
+def found_in(path, pattern):
+    """What the first group of a pattern finds in a file of this repository; nothing where the file isn't there."""
+    found = re.search(pattern, read(f"{TOP}/{path}").decode(), re.S | re.M) if os.path.isfile(f"{TOP}/{path}") else None
+    return found[1] if found else ""
 
 
 def format_of(heading):
     """The number of a format: that of the first row of its table in CHANGES.md."""
-    found = re.search(rf"^## {heading}\n.*?^\| (\d+) \|", read(f"{TOP}/CHANGES.md").decode(), re.S | re.M)
-    if not found:
-        raise Fault(f"CHANGES.md has no row under {heading}")
-    return found[1]
+    return found_in("CHANGES.md", rf"^## {heading}\n.*?^\| (\d+) \|")
 
 
 def version():
-    """What this blechc is, by the names of the things: as tools/install wrote it, or as this repository has it."""
+    """What this blechc is, by the names of the things: as tools/install wrote it, or as this repository has it. README.md names a toolchain, too."""
     kept = f"{TOP}/VERSION"
     if os.path.isfile(kept):
         return dict(line.split(": ", 1) for line in read(kept).decode().splitlines())
-    return {"commit": commit(), "toolchain": toolchain(), "C format": format_of("The C text"), "state format": format_of("Saved states")}
+    found = {"commit": commit(), "toolchain": told_by("rt", "version") or found_in("README.md", r"`rt version`: ([^)]*)\)"),
+             "C format": format_of("The C text"), "state format": format_of("Saved states")}
+    return {name: value or "unknown" for name, value in found.items()}
 
 
 def version_line(found):

@@ -69,6 +69,9 @@ def check_readme(results, program, room):
         check_block(results, "README.md", calls, room, setting)
     built = ran([program, "build", f"{PUMP}/pump.blech"]).stdout
     results.tell("README.md, the C text of its first command", text_of(f"{room}/pump.c"), built)
+    for line in re.findall(r"^    ((?:blechc|make) .*)$", text_of(f"{TOP}/examples/README.md"), re.M):
+        told = ran(["sh", "-c", line], cwd=room, env=setting)
+        results.tell(f"examples/README.md, {line}", (told.returncode, bool(told.stdout)), (0, ">" not in line))
     results.tell("README.md, its pictures", [it for it in re.findall(r"\]\(([^)]*)\)", page) if not os.path.isfile(f"{TOP}/{it}")], [])
     results.tell("README.md, at most 120 lines", page.count("\n") <= 120, True)
     commands = {it for row in re.findall(r"^\| (`.*?) \|", page, re.M) for it in re.findall(r"`([a-z]+) [A-Z]", row)}
@@ -114,6 +117,10 @@ def check_unproved(results, program, room):
     results.tell("tools/blechc, no toolchain", (told.returncode, told.stdout, told.stderr.startswith("no blechc and no Rattle toolchain")), (2, "", True))
     told = ran([f"{tools}/explain", "check", LAMP], env=setting)
     results.tell("tools/explain, no program", (told.returncode, told.stderr.startswith("no blechc: build it by .ci/run")), (2, True))
+    shutil.copy(f"{room}/pump.c", f"{room}/fresh/pump.c")
+    told = ran([f"{tools}/unit", "pump"], cwd=f"{room}/fresh", env=setting)
+    line = "blechc unknown, C format unknown, unknown"
+    results.tell("tools/unit of tools alone", (told.returncode, told.stderr, line in text_of(f"{room}/fresh/pump_unit.h")), (0, "", True))
     runnable(f"{room}/path/rt", TOOLCHAIN.replace("{program}", program))
     told = ran([f"{tools}/blechc", "run", "none.blech", ROWS], cwd=room, env=setting)
     results.tell("tools/blechc, no file", (told.returncode, told.stderr),
@@ -245,8 +252,8 @@ def check(results, program, room):
     os.makedirs(room)
     check_readme(results, program, f"{room}/readme")
     check_call(results, program, room)
-    check_unproved(results, program, room)
     check_versions(results, room)
+    check_unproved(results, program, room)
     check_format(results, program)
     check_installed(results, program, room)
     check_refused_install(results, program, room)
