@@ -21,7 +21,9 @@ for name, value in zip(words[1:at:2], words[2:at:2]):
 with tempfile.TemporaryDirectory() as room:
     for name, path in data:
         shutil.copy(path, os.path.join(room, name))
-    sys.exit(subprocess.run(["{program}", *words[at + 1:]], cwd=room).returncode)
+    status = subprocess.run(["{program}", *words[at + 1:]], cwd=room).returncode
+print(f"checked: ended status={status}\\nrun=ended status={status} runners=1 proved=no", file=sys.stderr)
+sys.exit(1 if status else 0)
 """
 
 
@@ -127,7 +129,9 @@ def check_unproved(results, program, room):
                  (3, "none.blech: No such file or directory: name a file that is there and can be read\n"))
     told = ran([f"{tools}/blechc", "make", LAMP], cwd=room, env=setting)
     results.tell("tools/blechc, no command", (told.returncode, told.stderr), (2, "no command make: tools/blechc --help lists them\n"))
-    check_unproved_calls(results, tools, {**setting, "BLECHC_PROGRAM": f"{tools}/blechc"}, room)
+    own = {**setting, "BLECHC_PROGRAM": f"{tools}/blechc"}
+    check_explained(results, tools, own)
+    check_unproved_calls(results, tools, own, room)
 
 
 def check_unproved_calls(results, tools, setting, room):
@@ -141,9 +145,18 @@ def check_unproved_calls(results, tools, setting, room):
         notice = told.stderr.startswith("tools/blechc: no built blechc: compiling it without proofs")
         results.tell(f"tools/blechc {words[0]} without a program", (told.returncode, notice, told.stdout if shown is not None else bool(told.stdout)),
                      (status, True, shown if shown is not None else True))
+    told = ran([f"{tools}/blechc", "check", ROWS], cwd=room, env=setting)
+    results.tell("tools/blechc check without a program, what the program says", told.stderr.splitlines()[1:], ["rule 5 Syntax 0-4"])
     told = ran([f"{tools}/blechc", "run", LAMP, "/dev/stdin"], cwd=room, env=setting, input=text_of(ROWS))
     results.tell("tools/blechc without a program, rows from a pipe", (told.returncode, told.stdout), (0, text_of(TRACE)))
-    told = ran([f"{tools}/explain", "run", f"{PUMP}/pump.blech", f"{PUMP}/rows.csv"], cwd=room, env=setting)
+    runnable(f"{room}/path/rt", "#!/bin/sh\necho no memory >&2\nexit 1\n")
+    broken = ran([f"{tools}/blechc", "check", LAMP], cwd=room, env=setting)
+    results.tell("tools/blechc, a toolchain that fails", (broken.returncode, "no memory" in broken.stderr, "rt selftest" in broken.stderr), (2, True, True))
+
+
+def check_explained(results, tools, setting):
+    """A trap that tools/explain shows of a program that the toolchain runs."""
+    told = ran([f"{tools}/explain", "run", f"{PUMP}/pump.blech", f"{PUMP}/rows.csv"], env=setting)
     results.tell("tools/explain by tools/blechc", (told.returncode, "pump.blech:8:9: tick 8 trapped here" in told.stderr), (6, True))
 
 
