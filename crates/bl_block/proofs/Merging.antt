@@ -1,27 +1,9 @@
 -- What is made of an activity is an activity with its blocks joined, and so it is of each.
-use Rattle.std.proofs.Common.{
-  ◌≡◌,
-  ℕ,
-  ◌+◌,
-  ◌<◌,
-  Bool,
-  List,
-  [],
-  ◌∷◌,
-  ◌++◌,
-  length,
-  get_or,
-  take,
-  refl,
-  ap,
-  sym,
-  subst,
-  ◌∙◌,
-  arith,
-}
+use Rattle.std.proofs.Common.{◌≡◌, ℕ, ◌+◌, ◌<◌, Bool, List, [], ◌∷◌, ◌++◌, length, get_or, take, ap, sym, subst, ◌∙◌, arith}
 use Rattle.std.specs.Prelude.{IsPermutation, slice_get}
 use Rattle.std.proofs.lemmas.List.{take_more}
 use Rattle.std.proofs.lemmas.List.Elements.{All-contains}
+use Rattle.bl_tree.proofs.Basics.{true_and_false}
 use Rattle.bl_tree.specs.declared.graph.Graph.{Graph}
 use Rattle.bl_tree.specs.declared.program.Program.{Program}
 use Rattle.bl_tree.specs.declared.tree.Unit.{Unit as UnitDef}
@@ -41,16 +23,9 @@ use Rattle.bl_block.specs.inner.Groups.{grouped}
 use Rattle.bl_block.specs.inner.Merging.{EachMerges, Merges}
 use Rattle.bl_block.specs.inner.Ways.{follows, ways_of}
 use Rattle.bl_block.proofs.Beginning.{Begins, begins}
-use Rattle.bl_block.proofs.Grouping.{
-  Chain,
-  apart_grouped,
-  chain_at,
-  chains_grouped,
-  filled_grouped,
-  joined_grouped,
-}
-use Rattle.bl_block.proofs.Tests.{opposite}
+use Rattle.bl_block.proofs.Grouping.{Chain, apart_grouped, chain_at, chains_grouped, filled_grouped, joined_grouped}
 use Rattle.bl_block.proofs.Telling.{following_passes, passing_follows}
+use Rattle.bl_machine.proofs.Making.{each_length}
 
 -- ---- one activity
 
@@ -74,7 +49,7 @@ module _ (body : Block) (graph : Graph) (is_graph : IsTickGraph body graph.nodes
 
   nothing_left : (nodes : List ℕ) → NothingLeft body (grouped test nodes)
   nothing_left nodes k one two i j first second end start could =
-      opposite (test i j) (following_passes body graph.nodes graph.edges is_graph once starts within i j could)
+      true_and_false (test i j) (following_passes body graph.nodes graph.edges is_graph once starts within i j could)
       (apart_grouped test nodes k one two i j first second end start)
 
 pub activity_merges : NodesDiffer → MadeOfParts → ((block : Block) → StaysWithin block) → (from : Activity) (graph : Graph) (to : Activity) →
@@ -123,12 +98,6 @@ both_merge (u ∷ units) (a ∷ from) (g ∷ graphs) (t ∷ to) are graphed merg
     let rest = both_merge units from graphs to are.1 graphed.1 merge.1 in
     ((one.0, rest.0), (one.1, rest.1))
 
-two_length : {A B : Type 0} (R : A → B → Type 0) (xs : List A) (ys : List B) → EachTwo R xs ys → length xs ≡ length ys
-two_length R [] [] each = refl
-two_length R [] (y ∷ ys) each = absurd each
-two_length R (x ∷ xs) [] each = absurd each
-two_length R (x ∷ xs) (y ∷ ys) each = let rest = two_length R xs ys each.1 in cc
-
 -- ---- one activity more
 
 pub each_more : (from : List Activity) (graphs : List Graph) (made next : List Activity) (k : ℕ) (activity : Activity) (graph : Graph)
@@ -148,11 +117,11 @@ each_more from graphs made next k activity graph one lt many is_activity is_grap
 
 -- ---- a machine
 
-module _ (program tree : Program) (from seen : List Activity) (graphs given : List Graph) (of_tree : program ≡ tree)
-    (are : AreActivitiesOf program.units from) (graphed : AreGraphs tree.units graphs) (is_seen : seen ≡ from) (is_given : given ≡ graphs) where
+module _ (program other : Program) (from seen : List Activity) (graphs given : List Graph) (same : program ≡ other)
+    (are : AreActivitiesOf program.units from) (graphed : AreGraphs other.units graphs) (is_seen : seen ≡ from) (is_given : given ≡ graphs) where
   graphed_here : AreGraphs program.units given
   graphed_here =
-      subst (AreGraphs program.units) (sym is_given) (subst (λ (it : Program). AreGraphs it.units graphs) (sym of_tree) graphed)
+      subst (AreGraphs program.units) (sym is_given) (subst (λ (it : Program). AreGraphs it.units graphs) (sym same) graphed)
 
   seen_are : AreActivitiesOf program.units seen
   seen_are = subst (AreActivitiesOf program.units) (sym is_seen) are
@@ -160,7 +129,7 @@ module _ (program tree : Program) (from seen : List Activity) (graphs given : Li
   -- as many activities as tick graphs
   pub as_many : length seen ≡ length given
   as_many =
-      sym (two_length IsActivityOf (activities program.units) seen seen_are) ∙ two_length IsGraphOf (activities program.units) given graphed_here
+      sym (each_length IsActivityOf (activities program.units) seen seen_are) ∙ each_length IsGraphOf (activities program.units) given graphed_here
 
   -- what is made of the activities is a machine, merged from the one
   pub machine_merges : (to : List Activity) → EachMerges seen given to →

@@ -1,40 +1,15 @@
 -- What a walk over edges notes of each node.
-use Rattle.std.proofs.Common.{
-  ◌≡◌,
-  ℕ,
-  ◌<◌,
-  ◌≤◌,
-  Bool,
-  true,
-  false,
-  ◌⊎◌,
-  ⊎_elim,
-  inl,
-  inr,
-  List,
-  [],
-  ◌∷◌,
-  length,
-  get_or,
-  set,
-  replicate,
-  refl,
-  ap,
-  sym,
-  subst,
-  ◌∙◌,
-  zero,
-  suc,
-  arith,
-}
+use Rattle.std.proofs.Common.{◌≡◌, ℕ, ◌<◌, ◌≤◌, Bool, true, false, ◌⊎◌, ⊎_elim, inl, inr, List, [], ◌∷◌, length, get_or, set, replicate, refl, ap, sym, subst}
+use Rattle.std.proofs.Common.{◌∙◌, zero, suc, arith}
 use Rattle.std.specs.Prelude.{Contains, if◌then◌else◌, nat_eq}
 use Rattle.std.proofs.lemmas.Bool.{cases_eq, cases_lt}
 use Rattle.std.proofs.lemmas.List.{get_or-replicate, get_or-set_other, get_or-set_same, get_or_past, length-replicate, length-set}
+use Rattle.bl_tree.proofs.Basics.{number_test, same_number}
 use Rattle.bl_tree.specs.declared.graph.Edge.{Edge}
 use Rattle.bl_block.specs.declared.ways.Way.{Way}
 use Rattle.bl_block.specs.declared.ways.Way.TheVariants as way
 use Rattle.bl_block.specs.inner.Ways.{is_one, met, noted, noted_all}
-use Rattle.bl_block.proofs.Tests.{equal, is_equal, unequal}
+use Rattle.bl_block.proofs.Tests.{unequal}
 
 -- two different numbers are so
 pub record Two (F : ℕ → Type 0) : Type 0 where
@@ -66,7 +41,7 @@ met_tells F way.Nowhere node told = (inr refl, λ k h. elim h [ inl f ↦ absurd
 met_tells F (way.One j) node told = by (nat_eq j node) refl
   where
     by : (b : Bool) → nat_eq j node ≡ b → Tells (λ k. F k ⊎ (node ≡ k)) (if b then way.One j else way.Several)
-    by true is = (inl told.0, λ k h. elim h [ inl f ↦ told.1 k f | inr e ↦ sym e ∙ sym (equal j node is) ])
+    by true is = (inl told.0, λ k h. elim h [ inl f ↦ told.1 k f | inr e ↦ sym e ∙ sym (same_number j node is) ])
     by false other = record { one = j; two = node; first = inl told.0; second = inr refl; differ = unequal j node other }
 met_tells F way.Several node told =
     record { one = told.one; two = told.two; first = inl told.first; second = inl told.second; differ = told.differ }
@@ -74,12 +49,12 @@ met_tells F way.Several node told =
 -- the way is to this node alone where no other is so
 pub tells_one : (F : ℕ → Type 0) (w : Way) (j : ℕ) → Tells F w → F j → ((k : ℕ) → F k → k ≡ j) → is_one w j ≡ true
 tells_one F way.Nowhere j told so only = absurd (told j so)
-tells_one F (way.One k) j told so only = is_equal k j (only k told.0)
+tells_one F (way.One k) j told so only = number_test k j (only k told.0)
 tells_one F way.Several j told so only = absurd (told.differ (only told.one told.first ∙ sym (only told.two told.second)))
 
 pub one_is : (w : Way) (j : ℕ) → is_one w j ≡ true → w ≡ way.One j
 one_is way.Nowhere j is = absurd (let wrong : false ≡ true = is in cc)
-one_is (way.One k) j is = ap way.One (equal k j is)
+one_is (way.One k) j is = ap way.One (same_number k j is)
 one_is way.Several j is = absurd (let wrong : false ≡ true = is in cc)
 
 module _ (test : Edge → Bool) (at other : Edge → ℕ) where

@@ -1,77 +1,16 @@
 -- No edge leads from an act or the head of a loop to where a tick may begin.
-use Rattle.std.proofs.Common.{
-  ◌≡◌,
-  ℕ,
-  zero,
-  suc,
-  ◌<◌,
-  Bool,
-  true,
-  false,
-  ◌⊎◌,
-  inl,
-  inr,
-  List,
-  [],
-  ◌∷◌,
-  ◌++◌,
-  Some,
-  length,
-  get_or,
-  refl,
-  ap,
-  sym,
-  subst,
-  ◌∙◌,
-  arith,
-}
+use Rattle.std.proofs.Common.{◌≡◌, ℕ, zero, suc, ◌<◌, Bool, true, false, ◌⊎◌, inl, inr, List, [], ◌∷◌, ◌++◌, Some, length, get_or, refl, ap, sym, subst, ◌∙◌}
+use Rattle.std.proofs.Common.{arith}
 use Rattle.std.specs.Prelude.{Contains, slice_get, ⊤}
+use Rattle.bl_tree.proofs.Basics.{true_and_false}
 use Rattle.bl_graph_nodes.specs.Laws.{EachOnce}
-use Rattle.bl_graph_nodes.specs.Nodes.{
-  CheckAt,
-  DepthEndAt,
-  DepthJoinAt,
-  ForkAt,
-  HeadAt,
-  Node,
-  ResumeAt,
-  StartAt,
-  SurfaceEndAt,
-  SurfaceJoinAt,
-  TestAt,
-  are_instant,
-  entry,
-  is_instant,
-  nodes_in,
-  nodes_in_each,
-  nodes_of,
-  where_so,
-}
-use Rattle.bl_graph_nodes.specs.Plain.{
-  Act,
-  Again,
-  Await,
-  Block,
-  Bodies,
-  Body,
-  Cobegin,
-  Done,
-  If,
-  Label,
-  Last,
-  Plain,
-  Repeat,
-  Run,
-  Then,
-  Until,
-  When,
-  While,
-}
+use Rattle.bl_graph_nodes.specs.Nodes.{CheckAt, DepthEndAt, DepthJoinAt, ForkAt, HeadAt, Node, ResumeAt, StartAt, SurfaceEndAt, SurfaceJoinAt, TestAt}
+use Rattle.bl_graph_nodes.specs.Nodes.{are_instant, entry, is_instant, nodes_in, nodes_in_each, nodes_of, where_so}
+use Rattle.bl_graph_nodes.specs.Plain.{Act, Again, Await, Block, Bodies, Body, Cobegin, Done, If, Label, Last, Plain, Repeat, Run, Then, Until, When, While}
 use Rattle.bl_tree.specs.declared.place.Place.{Place}
 use Rattle.bl_graph.specs.Edges.{BodyEnd, Edge, EdgeAll, EdgeEach, Entry, Resume, ResumeAll, ResumeEach}
 use Rattle.bl_graph.specs.Laws.{StaysWithin}
 use Rattle.bl_machine.specs.Blocks.{goes_straight}
-use Rattle.bl_block.proofs.Tests.{opposite}
 
 -- ---- lists without repetition
 
@@ -140,10 +79,10 @@ wakes (CheckAt l at e) = true
 wakes _ = false
 
 bent : (n x : Node) → n ≡ x → goes_straight x ≡ false → goes_straight n ≡ true → ⊥
-bent n x is turns straight = opposite (goes_straight n) straight (ap goes_straight is ∙ turns)
+bent n x is turns straight = true_and_false (goes_straight n) straight (ap goes_straight is ∙ turns)
 
 asleep : (m x : Node) → m ≡ x → wakes x ≡ false → wakes m ≡ true → ⊥
-asleep m x is sleeps up = opposite (wakes m) up (ap wakes is ∙ sleeps)
+asleep m x is sleeps up = true_and_false (wakes m) up (ap wakes is ∙ sleeps)
 
 mutual
   wakes_plain : (s : Plain) (m : Node) → Resume s m → wakes m ≡ true

@@ -1,50 +1,14 @@
 -- The test of two nodes tells whether the second could follow the first in one block.
-use Rattle.std.proofs.Common.{
-  ◌≡◌,
-  ℕ,
-  ◌<◌,
-  Bool,
-  true,
-  false,
-  not,
-  ◌&&◌,
-  ◌⊎◌,
-  inl,
-  inr,
-  List,
-  Some,
-  length,
-  get_or,
-  replicate,
-  refl,
-  ap,
-  sym,
-  subst,
-  ◌∙◌,
-}
+use Rattle.std.proofs.Common.{◌≡◌, ℕ, ◌<◌, Bool, true, false, not, ◌&&◌, ◌⊎◌, inl, inr, List, Some, length, get_or, replicate, refl, ap, sym, subst, ◌∙◌}
 use Rattle.std.specs.Prelude.{Contains, nat_eq, option_map, slice_get}
 use Rattle.std.proofs.lemmas.Option.{same_Some, slice_get-get_or, slice_get-map, slice_get_within}
+use Rattle.std.proofs.lemmas.Bool.{and_from, and_parts, not-true}
+use Rattle.bl_tree.proofs.Basics.{number_test, same_number, true_and_false}
 use Rattle.bl_tree.specs.declared.graph.Edge.{Edge as GraphEdge}
 use Rattle.bl_tree.specs.declared.graph.Node.{Node as GraphNode}
 use Rattle.bl_graph_nodes.specs.Laws.{EachOnce}
-use Rattle.bl_graph_nodes.specs.Nodes.{
-  ActAt,
-  CheckAt,
-  DepthEndAt,
-  DepthJoinAt,
-  EnterAt,
-  ForkAt,
-  HeadAt,
-  Node,
-  PauseAt,
-  ResumeAt,
-  StartAt,
-  SurfaceEndAt,
-  SurfaceJoinAt,
-  TestAt,
-  kind_of_node,
-  nodes_in,
-}
+use Rattle.bl_graph_nodes.specs.Nodes.{ActAt, CheckAt, DepthEndAt, DepthJoinAt, EnterAt, ForkAt, HeadAt, Node, PauseAt, ResumeAt, StartAt, SurfaceEndAt}
+use Rattle.bl_graph_nodes.specs.Nodes.{SurfaceJoinAt, TestAt, kind_of_node, nodes_in}
 use Rattle.bl_graph_nodes.specs.Plain.{Block}
 use Rattle.bl_graph.specs.Edges.{EdgeAll}
 use Rattle.bl_graph.specs.Graph.{EdgeBetween, IsTickGraph, edge_between, graph_node}
@@ -55,7 +19,6 @@ use Rattle.bl_block.specs.inner.Ways.{follows, goes_straight, is_join, join_kind
 use Rattle.bl_block.proofs.Noting.{Arrow, arrow_of, found, one_told, tells_one, way_tells}
 use Rattle.bl_block.proofs.Beginning.{Begins}
 use Rattle.bl_block.proofs.Resuming.{straight_rests}
-use Rattle.bl_block.proofs.Tests.{both, both_hold, equal, is_equal, not_false, opposite}
 
 -- ---- kinds
 
@@ -140,25 +103,25 @@ module _ (body : Block) (nodes : List GraphNode) (edges : List GraphEdge) (graph
   onward : (i k : ℕ) → On i k → Onward i k
   onward i k on =
       let it = found (leads_on nodes) (λ edge. edge.from) (λ edge. edge.to) edges i k on in
-      let first = both (not it.edge.by_data && goes_straight nodes it.edge.from) (not (is_join nodes it.edge.to)) it.passes in
-      let front = both (not it.edge.by_data) (goes_straight nodes it.edge.from) first.0 in
+      let first = and_parts (not it.edge.by_data && goes_straight nodes it.edge.from) (not (is_join nodes it.edge.to)) it.passes in
+      let front = and_parts (not it.edge.by_data) (goes_straight nodes it.edge.from) first.0 in
       record {
         edge = (graph.control i k).0
-            (subst (Contains edges) (edge_is it.edge i k it.begins it.ends (not_false it.edge.by_data front.0)) it.there);
+            (subst (Contains edges) (edge_is it.edge i k it.begins it.ends (not-true it.edge.by_data front.0)) it.there);
         straight = ap (goes_straight nodes) (sym it.begins) ∙ front.1;
-        no_join = ap (is_join nodes) (sym it.ends) ∙ not_false (is_join nodes it.edge.to) first.1;
+        no_join = ap (is_join nodes) (sym it.ends) ∙ not-true (is_join nodes it.edge.to) first.1;
       }
 
   on_of : (n m : Node) (i k : ℕ) → slice_get (nodes_in body) i ≡ Some n → slice_get (nodes_in body) k ≡ Some m → EdgeAll body n m →
       straight_node n ≡ true → join_node m ≡ false → On i k
   on_of n m i k one two edge straight no_join =
       arrow_of (leads_on nodes) (λ edge. edge.from) (λ edge. edge.to) edges (edge_between i k false) (edge_of n m i k one two edge)
-      (both_hold (goes_straight nodes i) (not (is_join nodes k)) (straight_at i n one ∙ straight) (ap not (join_at k m two ∙ no_join)))
+      (and_from (goes_straight nodes i) (not (is_join nodes k)) (straight_at i n one ∙ straight) (ap not (join_at k m two ∙ no_join)))
 
   backward : (j k : ℕ) → Back j k → EdgeBetween (nodes_in body) (EdgeAll body) k j
   backward j k back =
       let it = found (λ edge. not edge.by_data) (λ edge. edge.to) (λ edge. edge.from) edges j k back in
-      (graph.control k j).0 (subst (Contains edges) (edge_is it.edge k j it.ends it.begins (not_false it.edge.by_data it.passes)) it.there)
+      (graph.control k j).0 (subst (Contains edges) (edge_is it.edge k j it.ends it.begins (not-true it.edge.by_data it.passes)) it.there)
 
   back_of : (n m : Node) (i k : ℕ) → slice_get (nodes_in body) i ≡ Some n → slice_get (nodes_in body) k ≡ Some m → EdgeAll body n m → Back k i
   back_of n m i k one two edge =
@@ -191,7 +154,7 @@ module _ (body : Block) (nodes : List GraphNode) (edges : List GraphEdge) (graph
             nowhere_else = λ k edge. nowhere it.edge.first it.edge.second it.edge.is_first it.edge.is_second straight k edge;
             no_join = sym (join_at j m it.edge.is_second) ∙ it.no_join;
             no_resume = straight_rests within body n m once straight it.edge.edge;
-            no_entry = λ is. opposite (nat_eq j 0) (is_equal j 0 (once j 0 m it.edge.is_second (begins.entry m is))) starts;
+            no_entry = λ is. true_and_false (nat_eq j 0) (number_test j 0 (once j 0 m it.edge.is_second (begins.entry m is))) starts;
             alone = λ k edge. alone it.edge.first it.edge.second it.edge.is_first it.edge.is_second k edge;
           };
         }
@@ -216,18 +179,18 @@ module _ (body : Block) (nodes : List GraphNode) (edges : List GraphEdge) (graph
 
   pub passing_follows : (i j : ℕ) → follows (ways_of nodes edges) i j ≡ true → EdgeBetween (nodes_in body) (CouldFollow body) i j
   passing_follows i j passes =
-      let first = both (not (nat_eq j 0) && one_at (ways_of nodes edges).on i j) (one_at (ways_of nodes edges).from j i) passes in
-      let front = both (not (nat_eq j 0)) (one_at (ways_of nodes edges).on i j) first.0 in
+      let first = and_parts (not (nat_eq j 0) && one_at (ways_of nodes edges).on i j) (one_at (ways_of nodes edges).from j i) passes in
+      let front = and_parts (not (nat_eq j 0)) (one_at (ways_of nodes edges).on i j) first.0 in
       let on = one_told (leads_on nodes) (λ edge. edge.from) (λ edge. edge.to) edges (length nodes) i j front.1 in
       let back = one_told (λ edge. not edge.by_data) (λ edge. edge.to) (λ edge. edge.from) edges (length nodes) j i first.1 in
-      from_arrows i j (not_false (nat_eq j 0) front.0) on.0 on.1 back.1
+      from_arrows i j (not-true (nat_eq j 0) front.0) on.0 on.1 back.1
 
   -- ---- what could follow passes
 
   pub following_passes : (i j : ℕ) → EdgeBetween (nodes_in body) (CouldFollow body) i j → follows (ways_of nodes edges) i j ≡ true
   following_passes i j between =
-      both_hold (not (nat_eq j 0) && one_at (ways_of nodes edges).on i j) (one_at (ways_of nodes edges).from j i)
-      (both_hold (not (nat_eq j 0)) (one_at (ways_of nodes edges).on i j) (ap not later) on) back
+      and_from (not (nat_eq j 0) && one_at (ways_of nodes edges).on i j) (one_at (ways_of nodes edges).from j i)
+      (and_from (not (nat_eq j 0)) (one_at (ways_of nodes edges).on i j) (ap not later) on) back
     where
       n : Node
       n = between.first
@@ -241,7 +204,7 @@ module _ (body : Block) (nodes : List GraphNode) (edges : List GraphEdge) (graph
           by : (b : Bool) → nat_eq j 0 ≡ b → b ≡ false
           by true is =
               absurd (between.edge.no_entry (begins.first between.second
-              (ap (slice_get (nodes_in body)) (sym (equal j 0 is)) ∙ between.is_second)))
+              (ap (slice_get (nodes_in body)) (sym (same_number j 0 is)) ∙ between.is_second)))
           by false other = refl
 
       only_on : (k : ℕ) → On i k → k ≡ j
@@ -249,7 +212,7 @@ module _ (body : Block) (nodes : List GraphNode) (edges : List GraphEdge) (graph
           let it = onward i k on in
           let same : it.edge.first ≡ between.first = same_node it.edge.first between.first i i it.edge.is_first between.is_first refl in
           elim (between.edge.nowhere_else it.edge.second (subst (λ x. EdgeAll body x it.edge.second) same it.edge.edge)) [
-            | inl join ↦ absurd (opposite (is_join nodes k) (join_at k it.edge.second it.edge.is_second ∙ join) it.no_join)
+            | inl join ↦ absurd (true_and_false (is_join nodes k) (join_at k it.edge.second it.edge.is_second ∙ join) it.no_join)
             | inr is ↦ same_place it.edge.second between.second k j it.edge.is_second between.is_second is
           ]
 

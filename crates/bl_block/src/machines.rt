@@ -20,7 +20,7 @@ pub fn merge<'a>(
     machine: &Machine<'a>,
     accepted: &Accepted,
 ) -> Result<Machine<'a>, NoMemory>
-    requires { machine.now.program ≡ accepted.now.tree }
+    requires { machine.now.program ≡ accepted.now.program }
     ensures program { IfOk result (λ merged. merged.program ≡ machine.now.program) }
     ensures merged { IfOk result (λ merged. AreMergedFrom machine.now.program.units machine.now.activities merged.activities) }
 {

@@ -1,41 +1,10 @@
 -- Numbers as costs tell them: sums, products, lists and tables.
-use Rattle.std.proofs.Common.{
-  ◌≡◌,
-  ℕ,
-  ◌+◌,
-  ◌*◌,
-  ◌^◌,
-  ◌<◌,
-  ◌≤◌,
-  Bool,
-  true,
-  false,
-  min,
-  max,
-  List,
-  [],
-  ◌∷◌,
-  ◌++◌,
-  map,
-  length,
-  get_or,
-  drop,
-  Option,
-  Some,
-  None,
-  refl,
-  ap,
-  sym,
-  subst,
-  ◌∙◌,
-  add-one,
-  suc,
-  arith,
-}
+use Rattle.std.proofs.Common.{◌≡◌, ℕ, ◌+◌, ◌*◌, ◌^◌, ◌<◌, ◌≤◌, Bool, true, false, max, List, [], ◌∷◌, ◌++◌, map, length, get_or, drop, Option, Some, None}
+use Rattle.std.proofs.Common.{refl, ap, sym, subst, ◌∙◌, arith}
 use Rattle.std.specs.Prelude.{bytes_eq, option_map, unwrap_or, if◌then◌else◌}
 use Rattle.std.specs.Option.{option_or}
-use Rattle.std.proofs.Math.Seq.{drop-cons}
 use Rattle.std.proofs.lemmas.List.{drop_all}
+use Rattle.bl_tree.proofs.Basics.{drop_next, same_some}
 use Rattle.bl_tree.specs.declared.text.Text.{Text}
 use Rattle.bl_tree.specs.Reduce.{joined, total}
 use Rattle.bl_ctext_semantics.specs.Cost.{Costs, cost_of_calls}
@@ -44,6 +13,7 @@ use Rattle.bl_ctext_semantics.specs.Tables.{entry_or, with_entry}
 use Rattle.bl_bound.specs.declared.cost.Cost.{Cost}
 use Rattle.bl_bound.specs.declared.cost.Cost.TheVariants.{Number, Over}
 use Rattle.bl_bound.specs.inner.Capped.{amount, capped}
+use Rattle.bl_ctext_semantics.proofs.BoundLemmas.{cost-append}
 
 -- ---- numbers
 
@@ -88,23 +58,15 @@ max-alike a b c d e f = omega arith
 
 -- ---- lists
 
-pub next_of : {X : Type 0} (xs : List X) (k : ℕ) (x : X) → k < length xs → x ≡ get_or xs k x → drop k xs ≡ x ∷ drop (k + 1) xs
-next_of xs k x within is = rw add-one (drop-cons xs k x within ∙ ap (λ y. y ∷ drop (suc k) xs) (sym is))
-
 pub total-alike : {X : Type 0} (f g : X → ℕ) → ((x : X) → capped (f x) ≡ capped (g x)) → (xs : List X) →
     capped (total (map f xs)) ≡ capped (total (map g xs))
 total-alike f g h [] = refl
 total-alike f g h (x ∷ xs) = sum-alike (f x) (g x) (total (map f xs)) (total (map g xs)) (h x) (total-alike f g h xs)
 
--- the costs of calls after others
-pub calls-append : (known : Costs) (xs ys : List Text) → cost_of_calls known (xs ++ ys) ≡ cost_of_calls known xs + cost_of_calls known ys
-calls-append known [] ys = omega arith
-calls-append known (x ∷ xs) ys = omega (arith, calls-append known xs ys)
-
 -- two lists of calls, told one by one
 pub cap-calls : (known : Costs) (xs ys : List Text) →
     capped (capped (cost_of_calls known xs) + capped (cost_of_calls known ys)) ≡ capped (cost_of_calls known (xs ++ ys))
-cap-calls known xs ys = omega (arith, calls-append known xs ys)
+cap-calls known xs ys = omega (arith, cost-append known xs ys)
 
 -- one more number of a sum
 pub sum-next : (so_far here more n rest all : ℕ) → here ≡ capped n → more ≡ capped (so_far + here) → capped (so_far + (n + rest)) ≡ all →
@@ -119,9 +81,9 @@ pub calls-next : {X : Type 0} (known : Costs) (names : X → List Text) (xs : Li
 calls-next known names xs k x so_far here more all within is e told h =
     let rest = joined (map names (drop (k + 1) xs)) in
     let whole : capped (so_far + cost_of_calls known (names x ++ rest)) ≡ all =
-    subst (λ l. capped (so_far + cost_of_calls known (joined (map names l))) ≡ all) (next_of xs k x within is) h in
+    subst (λ l. capped (so_far + cost_of_calls known (joined (map names l))) ≡ all) (drop_next xs k x within is) h in
     sum-next so_far here more (cost_of_calls known (names x)) (cost_of_calls known rest) all e told
-    (ap (λ n. capped (so_far + n)) (sym (calls-append known (names x) rest)) ∙ whole)
+    (ap (λ n. capped (so_far + n)) (sym (cost-append known (names x) rest)) ∙ whole)
 
 -- all of them
 pub calls-done : {X : Type 0} (known : Costs) (names : X → List Text) (xs : List X) (k : ℕ) (cost : Cost) (all : ℕ) → length xs ≤ k →
@@ -137,14 +99,11 @@ calls-done known names xs k cost all past h =
 abbrev pub AlikeCapped : Costs → Costs → Type 0
 AlikeCapped s t = (asked : Text) → option_map capped (s asked) ≡ option_map capped (t asked)
 
-some_of : {A : Type 0} (a b : A) → Some a ≡ Some b → a ≡ b
-some_of a b h = cc
-
 alike-or : (a b : Option ℕ) → option_map capped a ≡ option_map capped b → capped (unwrap_or a 0) ≡ capped (unwrap_or b 0)
 alike-or None None h = refl
 alike-or None (Some b) h = cc
 alike-or (Some a) None h = cc
-alike-or (Some a) (Some b) h = some_of (capped a) (capped b) h
+alike-or (Some a) (Some b) h = same_some (capped a) (capped b) h
 
 pub calls-alike : (s t : Costs) → AlikeCapped s t → (names : List Text) → capped (cost_of_calls s names) ≡ capped (cost_of_calls t names)
 calls-alike s t h names = total-alike (entry_or 0 s) (entry_or 0 t) (λ name. alike-or (s name) (t name) (h name)) names

@@ -1,41 +1,12 @@
 -- The costs of statements and functions over tables that tell the same.
-use Rattle.std.proofs.Common.{
-  ◌≡◌,
-  ℕ,
-  ◌+◌,
-  ◌*◌,
-  ◌^◌,
-  ◌<◌,
-  ◌≤◌,
-  Bool,
-  true,
-  false,
-  max,
-  List,
-  [],
-  ◌∷◌,
-  ◌++◌,
-  map,
-  length,
-  get_or,
-  drop,
-  Option,
-  Some,
-  None,
-  refl,
-  ap,
-  sym,
-  subst,
-  ◌∙◌,
-  add-one,
-  append_assoc,
-  arith,
-}
+use Rattle.std.proofs.Common.{◌≡◌, ℕ, ◌+◌, ◌*◌, ◌^◌, ◌<◌, ◌≤◌, Bool, true, false, List, [], ◌∷◌, ◌++◌, map, length, get_or, drop, Option, Some, None, refl}
+use Rattle.std.proofs.Common.{ap, sym, subst, ◌∙◌, append_assoc, arith}
 use Rattle.std.specs.Prelude.{All, bytes_eq, nat_lt, option_map, if◌then◌else◌}
 use Rattle.std.specs.Option.{option_or}
 use Rattle.std.proofs.lemmas.Bool.{le-ltb, lt-ltb, ltb-false, ltb-true}
 use Rattle.std.proofs.lemmas.List.{append-nil, drop_all}
 use Rattle.std.proofs.lemmas.List.Elements.{All-head, All-tail}
+use Rattle.bl_tree.proofs.Basics.{drop_next}
 use Rattle.bl_tree.specs.declared.text.Text.{Text}
 use Rattle.bl_tree.specs.declared.place.Place.{Place}
 use Rattle.bl_tree.specs.declared.c.CExpr.{CExpr}
@@ -53,7 +24,7 @@ use Rattle.bl_bound.specs.declared.cost.Cost.{Cost}
 use Rattle.bl_bound.specs.declared.cost.Cost.TheVariants.{Number, Over}
 use Rattle.bl_bound.specs.inner.Capped.{amount, amounts, capped}
 use Rattle.bl_bound.specs.Told.{reported_cost}
-use Rattle.bl_bound.proofs.CapLemmas.{AlikeCapped, amount-capped, calls-alike, capped-twice, max-alike, next_of, sum-alike, sum-next, total-alike, with-alike}
+use Rattle.bl_bound.proofs.CapLemmas.{AlikeCapped, amount-capped, calls-alike, capped-twice, max-alike, sum-alike, sum-next, total-alike, with-alike}
 
 -- ---- blocks
 
@@ -64,7 +35,7 @@ pub block-next : (known : Costs) (xs : List CStmt) (k : ℕ) (x : CStmt) (so_far
     capped (more + block_cost (map cost_of_stmt (drop (k + 1) xs)) known) ≡ all
 block-next known xs k x so_far here more all within is e told h =
     sum-next so_far here more (cost_of_stmt x known) (block_cost (map cost_of_stmt (drop (k + 1) xs)) known) all e told
-    (subst (λ l. capped (so_far + block_cost (map cost_of_stmt l) known) ≡ all) (next_of xs k x within is) h)
+    (subst (λ l. capped (so_far + block_cost (map cost_of_stmt l) known) ≡ all) (drop_next xs k x within is) h)
 
 -- all of them
 pub block-done : (known : Costs) (xs : List CStmt) (k : ℕ) (cost : Cost) (all : ℕ) → length xs ≤ k →
@@ -206,7 +177,7 @@ costs-next old new functions k f cost told_so_far more all within is e add grown
     ∙ ap (option_map capped) (mapped (old asked) (bytes_eq f.name asked) cost)
     ∙ with-alike (amounts old) (amounts old) f.name (amount cost) n (λ a. refl) (ap capped exact ∙ capped-twice n) asked in
     let whole : told_so_far ++ (reported_cost n ∷ told_after (with_entry (amounts old) f.name n) rest) ≡ all =
-    subst (λ l. told_so_far ++ told_after (amounts old) l ≡ all) (next_of functions k f within is) h in
+    subst (λ l. told_so_far ++ told_after (amounts old) l ≡ all) (drop_next functions k f within is) h in
     ap (λ l. l ++ told_after (amounts new) rest) grown
     ∙ append_assoc told_so_far (cost ∷ []) (told_after (amounts new) rest)
     ∙ ap (λ l. told_so_far ++ cost ∷ l) (told_after-alike (amounts new) (with_entry (amounts old) f.name n) alike rest)

@@ -1,14 +1,14 @@
 -- The lines of functions, with their costs beside them.
 use Rattle.std.proofs.Common.{◌≡◌, ℕ, suc, ◌+◌, ◌<◌, ◌≤◌, List, [], ◌∷◌, ◌++◌, length, get_or, drop}
-use Rattle.std.proofs.Common.{refl, ap, sym, subst, ◌∙◌, append_assoc}
-use Rattle.std.proofs.lemmas.List.{append-nil, drop_all, get_or_default}
+use Rattle.std.proofs.Common.{refl, ap, subst, ◌∙◌, append_assoc}
+use Rattle.std.proofs.lemmas.List.{get_or_default}
+use Rattle.bl_tree.proofs.Basics.{drop_next}
 use Rattle.bl_tree.specs.declared.c.CFunc.{CFunc}
 use Rattle.bl_ctext_semantics.specs.Cost.{Costs, cost_of_function, costs_after}
 use Rattle.bl_ctext_semantics.specs.Tables.{no_entries, with_entry}
 use Rattle.bl_bound.specs.declared.cost.Cost.{Cost}
 use Rattle.bl_bound.specs.Told.{reported_cost, told_costs}
 use Rattle.bl_bound.specs.Text.{bound_text, costs_text, line_text}
-use Rattle.bl_bound.proofs.CapLemmas.{next_of}
 use Rattle.bl_bound.proofs.CostLemmas.{told_after}
 
 -- the lines of functions and costs that stand beside one another
@@ -41,8 +41,8 @@ pub lines-next : (functions : List CFunc) (costs : List Cost) (k : ℕ) (f : CFu
 lines-next functions costs k f cost so_far more all within also is has grown h =
     let rest = lines (drop (k + 1) functions) (drop (k + 1) costs) in
     ap (λ t. t ++ rest) grown ∙ append_assoc so_far (line_text f.name cost) rest
-    ∙ subst (λ l. so_far ++ lines (f ∷ drop (k + 1) functions) l ≡ all) (next_of costs k cost also has)
-    (subst (λ l. so_far ++ lines l (drop k costs) ≡ all) (next_of functions k f within is) h)
+    ∙ subst (λ l. so_far ++ lines (f ∷ drop (k + 1) functions) l ≡ all) (drop_next costs k cost also has)
+    (subst (λ l. so_far ++ lines l (drop k costs) ≡ all) (drop_next functions k f within is) h)
 
 -- one more line, of a cost by its place
 pub lines-next_at : (functions : List CFunc) (costs : List Cost) (k : ℕ) (f : CFunc) (name : List ℕ) (other : Cost) (so_far more all : List ℕ) →
@@ -53,9 +53,3 @@ lines-next_at functions costs k f name other so_far more all within also is name
     let cost = get_or costs k other in
     lines-next functions costs k f cost so_far more all within also is (get_or_default costs k other cost also)
     (grown ∙ ap (λ n. so_far ++ line_text n cost) named) h
-
--- all of them
-pub lines-done : (functions : List CFunc) (costs : List Cost) (k : ℕ) (so_far all : List ℕ) → length functions ≤ k →
-    so_far ++ lines (drop k functions) (drop k costs) ≡ all → so_far ≡ all
-lines-done functions costs k so_far all past h =
-    sym (append-nil so_far) ∙ subst (λ l. so_far ++ lines l (drop k costs) ≡ all) (drop_all k functions past) h

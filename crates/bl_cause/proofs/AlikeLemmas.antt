@@ -1,25 +1,5 @@
 -- Two tick graphs of one body have the same edges, so the rules fail for both alike.
-use Rattle.std.proofs.Common.{
-  ◌≡◌,
-  ℕ,
-  ◌+◌,
-  ◌<◌,
-  Bool,
-  true,
-  false,
-  not,
-  List,
-  [],
-  ◌∷◌,
-  ◌++◌,
-  length,
-  get_or,
-  take,
-  refl,
-  sym,
-  subst,
-  ◌∙◌,
-}
+use Rattle.std.proofs.Common.{◌≡◌, ℕ, ◌+◌, ◌<◌, Bool, true, false, not, List, [], ◌∷◌, ◌++◌, sym, subst, ◌∙◌}
 use Rattle.std.specs.Prelude.{Contains}
 use Rattle.bl_tree.specs.declared.graph.Edge.{Edge}
 use Rattle.bl_tree.specs.declared.graph.Graph.{Graph}
@@ -37,13 +17,13 @@ use Rattle.bl_tree.specs.Rules.{IsCause, Passes}
 use Rattle.bl_tree.specs.Typing.{is_activity}
 use Rattle.bl_graph.specs.Graph.{IsTickGraph, edge_between}
 use Rattle.bl_graph_nodes.specs.Plain.{Block}
-use Rattle.bl_cause.specs.Activities.{AreGraphs, EachTwo, IsGraphOf, activities}
+use Rattle.bl_cause.specs.Activities.{AreGraphs, IsGraphOf, activities}
 use Rattle.bl_cause.specs.Fails.{BeginsWalk, FailsCycle, FailsTwice}
 use Rattle.bl_cause.specs.inner.Graphs.{AnyFails, GraphsFail}
 use Rattle.bl_cause.specs.Rules.{Fails, FailsInActivity}
 use Rattle.bl_cause.specs.Walks.{ClosedWalk, EdgeWalk, controls}
 use Rattle.bl_cause.proofs.ListLemmas.{filter_keeps, filter_there, filter_true}
-use Rattle.bl_cause.proofs.PairLemmas.{each_first, each_more, each_second, filtered_more, filtered_same}
+use Rattle.bl_cause.proofs.PairLemmas.{each_first, each_second}
 
 -- ---- edges
 
@@ -143,27 +123,6 @@ pub graphs_fail : (units : List UnitDef) (graphs : List Graph) → AreGraphs uni
 graphs_fail units graphs are rule.Twice at also fails = any_in units graphs are FailsTwice twice_alike at also fails
 graphs_fail units graphs are rule.Cycle at also fails = any_in units graphs are FailsCycle cycle_alike at also fails
 graphs_fail units graphs are _ at also fails = absurd fails
-
--- ---- the graphs of the first units
-
-pub no_activity : (kind : UnitKind) → (kind ≡ kinds.Activity → ⊥) → is_activity kind ≡ false
-no_activity kinds.Function other = refl
-no_activity kinds.Activity other = absurd (other refl)
-
-module _ (units : List UnitDef) (k : ℕ) (unit : UnitDef) (inside : k < length units) (is : unit ≡ get_or units k unit) (graphs : List Graph)
-    (are : AreGraphs (take k units) graphs) where
-  -- an activity has the next graph
-  pub graphs_more : (next : List Graph) (graph : Graph) → is_activity unit.kind ≡ true → next ≡ graphs ++ graph ∷ [] → IsGraphOf unit graph →
-      AreGraphs (take (k + 1) units) next
-  graphs_more next graph activity grew own =
-      each_more IsGraphOf (activities (take k units)) (activities (take (k + 1) units)) graphs next unit graph
-      (filtered_more (λ it. is_activity it.kind) units k unit inside is activity) grew are own
-
-  -- a function has none
-  pub graphs_same : (next : List Graph) → is_activity unit.kind ≡ false → next ≡ graphs → AreGraphs (take (k + 1) units) next
-  graphs_same next function grew =
-      subst (λ it. EachTwo IsGraphOf (activities (take (k + 1) units)) it) (sym grew)
-      (subst (λ it. EachTwo IsGraphOf it graphs) (sym (filtered_same (λ it. is_activity it.kind) units k unit inside is function)) are)
 
 -- ---- a program by its graphs
 

@@ -6,49 +6,15 @@
 -- all that it leads to. Without a walk back it begins no closed walk, and those that are left still have all that do. With one,
 -- the closed walk is shown by its edges, and no closed walk begins earlier: it would begin with a candidate, and this one is
 -- the least. Nowhere is it used that nodes of one number lead to each other.
-use Rattle.std.proofs.Common.{
-  ◌≡◌,
-  ℕ,
-  zero,
-  suc,
-  ◌+◌,
-  ◌<◌,
-  ◌≤◌,
-  Bool,
-  true,
-  false,
-  not,
-  ◌&&◌,
-  Option,
-  Some,
-  None,
-  Result,
-  Ok,
-  Err,
-  ◌||◌,
-  List,
-  [],
-  ◌∷◌,
-  ◌⊎◌,
-  inl,
-  inr,
-  ⊎_elim,
-  length,
-  get_or,
-  take,
-  drop,
-  refl,
-  sym,
-  ap,
-  subst,
-  ◌∙◌,
-  arith,
-}
+use Rattle.std.proofs.Common.{◌≡◌, ℕ, zero, suc, ◌+◌, ◌<◌, ◌≤◌, Bool, true, false, not, ◌&&◌, Option, Some, None, Result, Ok, Err, ◌||◌, List, [], ◌∷◌, ◌⊎◌}
+use Rattle.std.proofs.Common.{inl, inr, ⊎_elim, length, get_or, take, drop, refl, sym, ap, subst, ◌∙◌, arith}
 use Rattle.std.specs.Prelude.{Contains, IfOk, MatchOption, OnOk, nat_eq, nat_lt, remove, slice_index, ⊤}
 use Rattle.std.proofs.lemmas.Bool.{cases_lt}
 use Rattle.std.proofs.lemmas.Bool.Decides.{nat_tests}
 use Rattle.std.proofs.lemmas.List.{get_or_default}
 use Rattle.std.proofs.lemmas.List.Elements.{All-append, All-drop, All-take}
+use Rattle.std.proofs.lemmas.Bool.{and_from, and_parts}
+use Rattle.bl_tree.proofs.Basics.{contains_first, contains_further, contains_none, first_or_further, true_false_any}
 use Rattle.bl_tree.specs.declared.graph.Edge.{Edge}
 use Rattle.bl_tree.specs.declared.graph.Node.{Node}
 use Rattle.bl_tree.specs.declared.place.Place.{Place}
@@ -57,28 +23,11 @@ use Rattle.bl_cause.specs.Fails.{BeginsWalk, IsFirst, Never, place_at}
 use Rattle.bl_cause.specs.Walks.{ClosedWalk}
 use Rattle.bl_cause.specs.inner.Lists.{Candidates, Within, level_edges, same_kind}
 use Rattle.bl_cause.specs.inner.Numbers.{NeverFall}
-use Rattle.bl_cause.proofs.ListLemmas.{contains_cons, contains_head, contains_none, contains_tail, filter_keeps, filter_there, filter_true}
+use Rattle.bl_cause.proofs.ListLemmas.{filter_keeps, filter_there, filter_true}
 use Rattle.bl_cause.proofs.WalkLemmas.{closed_is_level}
+use Rattle.bl_tree.proofs.FirstLemmas.{before_trans, before_true}
 
 -- ---- places
-
-and_true : (a b : Bool) → (a && b) ≡ true → (a ≡ true) × (b ≡ true)
-and_true true b is = (refl, is)
-and_true false b is = absurd (cc)
-
-both_true : (a b : Bool) → a ≡ true → b ≡ true → (a && b) ≡ true
-both_true true b one other = other
-both_true false b one other = absurd (cc)
-
-pub before_true : (a b : Place) → is_before a b ≡ true → IsBefore a b
-before_true a b is =
-    elim (nat_lt a.start b.start) as
-    (λ less. nat_lt a.start b.start ≡ less → (less || (nat_eq a.start b.start && nat_lt a.end b.end)) ≡ true → IsBefore a b) [
-      | true ↦ λ less h. inl (grind (arith, nat_tests))
-      | false ↦ λ less h.
-          let both = and_true (nat_eq a.start b.start) (nat_lt a.end b.end) h in
-          let e1 = both.0 in let e2 = both.1 in inr (grind (arith, nat_tests), grind (arith, nat_tests))
-    ] refl is
 
 true_before : (a b : Place) → IsBefore a b → is_before a b ≡ true
 true_before a b h =
@@ -89,30 +38,18 @@ true_before a b h =
     let same = p.0 in let less = p.1 in
     let e : nat_eq a.start b.start ≡ true = grind (arith, nat_tests) in
     let f : nat_lt a.end b.end ≡ true = grind (arith, nat_tests) in
-    or_true (nat_lt a.start b.start) (nat_eq a.start b.start && nat_lt a.end b.end) (both_true (nat_eq a.start b.start) (nat_lt a.end b.end) e f))
+    or_true (nat_lt a.start b.start) (nat_eq a.start b.start && nat_lt a.end b.end) (and_from (nat_eq a.start b.start) (nat_lt a.end b.end) e f))
     h
   where
     or_true : (a b : Bool) → b ≡ true → (a || b) ≡ true
     or_true true b is = refl
     or_true false b is = is
 
-pub before_then : (a b c : Place) → IsBefore a b → IsBefore b c → IsBefore a c
-before_then a b c one two =
-    ⊎_elim
-    (λ (p : a.start < b.start).
-    ⊎_elim (λ (q : b.start < c.start). inl (omega arith)) (λ (q : (b.start ≡ c.start) × (b.end < c.end)). let e = q.0 in inl (omega arith)) two)
-    (λ (p : (a.start ≡ b.start) × (a.end < b.end)). let e = p.0 in let l = p.1 in
-    ⊎_elim (λ (q : b.start < c.start). inl (omega arith))
-    (λ (q : (b.start ≡ c.start) × (b.end < c.end)). let f = q.0 in let m = q.1 in inr (omega arith, omega arith)) two) one
-
-clash : {X : Type 0} (b : Bool) → b ≡ true → b ≡ false → X
-clash b one other = absurd (cc)
-
 -- what isn't before a place isn't before an earlier one
 pub not_before_then : (x y b : Place) → is_before x b ≡ false → is_before y b ≡ true → is_before x y ≡ false
 not_before_then x y b never is =
     elim (is_before x y) as (λ t. is_before x y ≡ t → t ≡ false) [
-      | true ↦ λ one. clash (is_before x b) (true_before x b (before_then x y b (before_true x y one) (before_true y b is))) never
+      | true ↦ λ one. true_false_any (is_before x b) (true_before x b (before_trans x y b (before_true x y one) (before_true y b is))) never
       | false ↦ λ one. refl
     ] refl
 
@@ -133,14 +70,14 @@ no_later at elsewhere never =
     (λ (less : at.start < elsewhere.start). inl (inl less))
     (λ (ge : elsewhere.start ≤ at.start).
     ⊎_elim
-    (λ (more : elsewhere.start < at.start). clash (is_before elsewhere at) (true_before elsewhere at (inl more)) never)
+    (λ (more : elsewhere.start < at.start). true_false_any (is_before elsewhere at) (true_before elsewhere at (inl more)) never)
     (λ (le : at.start ≤ elsewhere.start).
     let start : at.start ≡ elsewhere.start = omega arith in
     ⊎_elim
     (λ (less : at.end < elsewhere.end). inl (inr (start, less)))
     (λ (ends : elsewhere.end ≤ at.end).
     ⊎_elim
-    (λ (more : elsewhere.end < at.end). clash (is_before elsewhere at) (true_before elsewhere at (inr (sym start, more))) never)
+    (λ (more : elsewhere.end < at.end). true_false_any (is_before elsewhere at) (true_before elsewhere at (inr (sym start, more))) never)
     (λ (last : at.end ≤ elsewhere.end).
     let end : at.end ≡ elsewhere.end = omega arith in
     inr ((λ i. record { start = start i; end = end i }), tt))
@@ -198,22 +135,22 @@ test_is a b x y r t is one two told = sym (ap (λ p. is_before p b) one ∙ ap (
 pub remove_there : {X : Type 0} (xs : List X) (k : ℕ) (x : X) → Contains (remove xs k) x → Contains xs x
 remove_there [] zero x h = h
 remove_there [] (suc k) x h = h
-remove_there (y ∷ xs) zero x h = contains_tail y xs x h
+remove_there (y ∷ xs) zero x h = contains_further y xs x h
 remove_there (y ∷ xs) (suc k) x h =
-    ⊎_elim (λ (is : y ≡ x). subst (λ z. Contains (z ∷ xs) x) (sym is) (contains_head x xs)) (λ (later : Contains (remove xs k) x).
-    contains_tail y xs x (remove_there xs k x later))
-    (contains_cons y (remove xs k) x h)
+    ⊎_elim (λ (is : y ≡ x). subst (λ z. Contains (z ∷ xs) x) (sym is) (contains_first x xs)) (λ (later : Contains (remove xs k) x).
+    contains_further y xs x (remove_there xs k x later))
+    (first_or_further y (remove xs k) x h)
 
 pub remove_kept : {X : Type 0} (xs : List X) (k : ℕ) (x : X) → Contains xs x → (get_or xs k x ≡ x) ⊎ Contains (remove xs k) x
 remove_kept [] k x h = absurd (contains_none x h)
-remove_kept (y ∷ xs) zero x h = contains_cons y xs x h
+remove_kept (y ∷ xs) zero x h = first_or_further y xs x h
 remove_kept (y ∷ xs) (suc k) x h =
     ⊎_elim
-    (λ (is : y ≡ x). inr (subst (λ z. Contains (z ∷ remove xs k) x) (sym is) (contains_head x (remove xs k))))
+    (λ (is : y ≡ x). inr (subst (λ z. Contains (z ∷ remove xs k) x) (sym is) (contains_first x (remove xs k))))
     (λ (later : Contains xs x).
     ⊎_elim (λ (this : get_or xs k x ≡ x). inl this) (λ (other : Contains (remove xs k) x).
-    inr (contains_tail y (remove xs k) x other)) (remove_kept xs k x later))
-    (contains_cons y xs x h)
+    inr (contains_further y (remove xs k) x other)) (remove_kept xs k x later))
+    (first_or_further y xs x h)
 
 pub remove_within : (count : ℕ) (edges : List Edge) (k : ℕ) → Within count edges → Within count (remove edges k)
 remove_within count edges k h =
@@ -240,13 +177,13 @@ candidates_first edges numbers by_data keep = record {
   there = λ edge h. (
     filter_there (λ it. same_kind it.by_data by_data && nat_eq (slice_index numbers it.from) (slice_index numbers it.to)) edges edge h,
     kind_is edge.by_data by_data
-        (and_true (same_kind edge.by_data by_data) (nat_eq (slice_index numbers edge.from) (slice_index numbers edge.to))
+        (and_parts (same_kind edge.by_data by_data) (nat_eq (slice_index numbers edge.from) (slice_index numbers edge.to))
         (filter_true (λ it. same_kind it.by_data by_data && nat_eq (slice_index numbers it.from) (slice_index numbers it.to)) edges edge h)).0,
   );
   all = λ edge rest kind closed.
       let level = closed_is_level edges numbers keep edge rest closed in
       filter_keeps (λ it. same_kind it.by_data by_data && nat_eq (slice_index numbers it.from) (slice_index numbers it.to)) edges edge closed.0
-      (both_true (same_kind edge.by_data by_data) (nat_eq (slice_index numbers edge.from) (slice_index numbers edge.to))
+      (and_from (same_kind edge.by_data by_data) (nat_eq (slice_index numbers edge.from) (slice_index numbers edge.to))
       (is_kind edge.by_data by_data kind) (same_test (slice_index numbers edge.from) (slice_index numbers edge.to) level));
 }
   where
@@ -267,10 +204,6 @@ candidates_removed edges by_data left k gone is lt none h = record {
       (λ (other : Contains (remove left k) edge). other)
       (remove_kept left k edge (h.all edge rest kind closed));
 }
-
-pub candidates_none : (nodes : List Node) (edges : List Edge) (by_data : Bool) → Candidates edges by_data [] →
-    (at : Place) (also : List Place) → BeginsWalk nodes edges by_data at also → ⊥
-candidates_none nodes edges by_data h at also begins = contains_none begins.edge (h.all begins.edge begins.rest begins.kind begins.closed)
 
 -- a walk that begins with the candidate at the least place begins first
 pub first_is_least : (nodes : List Node) (edges : List Edge) (by_data : Bool) (left : List Edge) (k : ℕ) (this : Edge) → this ≡ get_or left k this →

@@ -1,54 +1,13 @@
 -- What stands in lists.
-use Rattle.std.proofs.Common.{
-  ◌≡◌,
-  ℕ,
-  zero,
-  suc,
-  ◌<◌,
-  Bool,
-  true,
-  false,
-  cond,
-  List,
-  [],
-  ◌∷◌,
-  ◌++◌,
-  ◌⊎◌,
-  inl,
-  inr,
-  ⊎_elim,
-  length,
-  get_or,
-  reverse,
-  refl,
-  sym,
-  ap,
-  subst,
-  ◌∙◌,
-  arith,
-}
+use Rattle.std.proofs.Common.{◌≡◌, ℕ, ◌<◌, Bool, true, false, cond, List, [], ◌∷◌, ◌++◌, ◌⊎◌, inl, inr, ⊎_elim, reverse, sym}
+use Rattle.std.proofs.Common.{ap, subst, ◌∙◌, arith}
 use Rattle.std.specs.Prelude.{Contains, filter}
 use Rattle.std.proofs.lemmas.List.{reverse-append}
 use Rattle.std.proofs.lemmas.List.Elements.{All-contains, All-contains_itself, All-filter, filter_passes}
+use Rattle.bl_tree.proofs.Basics.{contains_first, contains_further, contains_none, first_or_further}
 use Rattle.bl_cause.specs.inner.Lists.{In}
 
 -- ---- elements
-
-pub contains_head : {X : Type 0} (x : X) (xs : List X) → Contains (x ∷ xs) x
-contains_head x xs = (0, omega arith, refl)
-
-pub contains_tail : {X : Type 0} (x : X) (xs : List X) (y : X) → Contains xs y → Contains (x ∷ xs) y
-contains_tail x xs y h = let lt = h.1 in (suc h.0, omega arith, h.2)
-
-pub contains_cons : {X : Type 0} (x : X) (xs : List X) (y : X) → Contains (x ∷ xs) y → (x ≡ y) ⊎ Contains xs y
-contains_cons x xs y h = at h.0 h.1 h.2
-  where
-    at : (k : ℕ) → k < length (x ∷ xs) → get_or (x ∷ xs) k y ≡ y → (x ≡ y) ⊎ Contains xs y
-    at zero lt is = inl is
-    at (suc k) lt is = inr (k, omega arith, is)
-
-pub contains_none : {X : Type 0} (y : X) → Contains [] y → ⊥
-contains_none y h = let lt = h.1 in omega arith
 
 -- ---- filters
 
@@ -65,14 +24,14 @@ filter_keeps p (y ∷ xs) x h good =
     (λ (is : y ≡ x).
     let e : p y ≡ true = ap p is ∙ good in
     subst (λ b. Contains (cond b (y ∷ filter p xs) (filter p xs)) x) (sym e) (subst (λ z.
-    Contains (z ∷ filter p xs) x) (sym is) (contains_head x (filter p xs))))
+    Contains (z ∷ filter p xs) x) (sym is) (contains_first x (filter p xs))))
     (λ (later : Contains xs x).
     let rest = filter_keeps p xs x later good in
     either (p y) rest)
-    (contains_cons y xs x h)
+    (first_or_further y xs x h)
   where
     either : (b : Bool) → Contains (filter p xs) x → Contains (cond b (y ∷ filter p xs) (filter p xs)) x
-    either true rest = contains_tail y (filter p xs) x rest
+    either true rest = contains_further y (filter p xs) x rest
     either false rest = rest
 
 -- ---- numbers in lists

@@ -1,44 +1,18 @@
 -- Numbers that are lowered until they never fall along an edge.
-use Rattle.std.proofs.Common.{
-  ◌≡◌,
-  ℕ,
-  ◌+◌,
-  ◌*◌,
-  ◌<◌,
-  ◌≤◌,
-  Bool,
-  true,
-  false,
-  Some,
-  List,
-  [],
-  ◌∷◌,
-  ◌++◌,
-  ◌⊎◌,
-  inl,
-  inr,
-  ⊎_elim,
-  length,
-  get_or,
-  set,
-  refl,
-  sym,
-  ap,
-  subst,
-  ◌∙◌,
-  arith,
-}
+use Rattle.std.proofs.Common.{◌≡◌, ℕ, ◌+◌, ◌*◌, ◌<◌, ◌≤◌, Bool, true, false, Some, List, [], ◌∷◌, ◌++◌, ◌⊎◌, inl, inr, ⊎_elim, length, get_or, set, refl, sym}
+use Rattle.std.proofs.Common.{ap, subst, ◌∙◌, arith}
 use Rattle.std.specs.Prelude.{All, Contains, nat_eq, nat_lt, slice_index, sum}
 use Rattle.std.proofs.lemmas.Bool.{cases_eq}
 use Rattle.std.proofs.lemmas.Bool.Decides.{nat_tests}
 use Rattle.std.proofs.lemmas.List.{get_or-set_other, get_or-set_same, length-set, length_push}
 use Rattle.std.proofs.lemmas.List.Elements.{All-head, All-pop, All-push, All-tail}
 use Rattle.std.proofs.lemmas.List.Sums.{sum_by-set}
+use Rattle.bl_tree.proofs.Basics.{contains_none, first_or_further}
 use Rattle.bl_tree.specs.declared.graph.Edge.{Edge}
 use Rattle.bl_cause.specs.inner.Lists.{In, Rows, RowsWithin, Within, edges_into}
 use Rattle.bl_cause.specs.inner.Numbers.{FallBefore, Lowered, NeverFall, lowered, lowered_along, lowered_if}
 use Rattle.bl_cause.proofs.RowLemmas.{row_within}
-use Rattle.bl_cause.proofs.ListLemmas.{append_left, append_right, contains_cons, contains_none, filter_keeps, in_append}
+use Rattle.bl_cause.proofs.ListLemmas.{append_left, append_right, filter_keeps, in_append}
 
 -- both ends of the edge are among so many nodes
 abbrev Ends : ℕ → Edge → Type 0
@@ -87,7 +61,7 @@ pass_by edges numbers nodes edge row good h x there =
     ⊎_elim
     (λ (is : edge ≡ x). inl (subst (λ it. slice_index numbers it.from ≤ slice_index numbers it.to) is good))
     (λ (later : Contains row x). inr (inr later))
-    (contains_cons edge row x two))
+    (first_or_further edge row x two))
     rest)
     (h x there)
 
@@ -147,7 +121,7 @@ length_along (edge ∷ row) s = length_along row (lowered edge s) ∙ length_ste
 ends_head : (count : ℕ) (edge : Edge) (row : List Edge) → Within count (edge ∷ row) → Ends count edge
 ends_head count edge row h = All-head (Ends count) edge row h
 
-ends_tail : (count : ℕ) (edge : Edge) (row : List Edge) → Within count (edge ∷ row) → Within count row
+pub ends_tail : (count : ℕ) (edge : Edge) (row : List Edge) → Within count (edge ∷ row) → Within count row
 ends_tail count edge row h = All-tail (Ends count) edge row h
 
 pub nodes_along : (count : ℕ) (row : List Edge) (s : Lowered) → Within count row → All (λ node. node < count) s.nodes →
@@ -174,10 +148,6 @@ fall_along edges (edge ∷ row) s within h =
     (fall_step edges edge row s (ends_head (length s.numbers) edge row within) h)
 
 -- ---- the nodes that were lowered, one after another
-
-pub fall_begun : (edges : List Edge) (numbers : List ℕ) (node number : ℕ) → node < length numbers → number ≤ slice_index numbers node →
-    NeverFall edges numbers → FallBefore edges (set numbers node number) (node ∷ []) []
-fall_begun edges numbers node number lt less h = lowered_one edges numbers [] [] node number lt less (λ edge there. inl (h edge there))
 
 pub fall_taken : (edges : List Edge) (numbers nodes : List ℕ) (node : ℕ) → FallBefore edges numbers (nodes ++ node ∷ []) [] →
     FallBefore edges numbers nodes (edges_into edges node)

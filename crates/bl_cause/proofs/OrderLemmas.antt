@@ -1,40 +1,6 @@
 -- What a depth-first search keeps, how it ends, and what its order tells.
-use Rattle.std.proofs.Common.{
-  ◌≡◌,
-  ℕ,
-  zero,
-  suc,
-  ◌+◌,
-  ◌-◌,
-  ◌*◌,
-  ◌<◌,
-  ◌≤◌,
-  Bool,
-  true,
-  false,
-  cond,
-  Option,
-  Some,
-  None,
-  List,
-  [],
-  ◌∷◌,
-  ◌++◌,
-  ◌⊎◌,
-  inl,
-  inr,
-  ⊎_elim,
-  length,
-  get_or,
-  set,
-  reverse,
-  refl,
-  sym,
-  ap,
-  subst,
-  ◌∙◌,
-  arith,
-}
+use Rattle.std.proofs.Common.{◌≡◌, ℕ, zero, suc, ◌+◌, ◌-◌, ◌*◌, ◌<◌, ◌≤◌, Bool, true, false, cond, Option, Some, None, List, [], ◌∷◌, ◌++◌, ◌⊎◌, inl, inr}
+use Rattle.std.proofs.Common.{⊎_elim, length, get_or, set, reverse, refl, sym, ap, subst, ◌∙◌, arith}
 use Rattle.std.specs.Prelude.{All, Contains, nat_eq, replicate, slice_get, sum_by}
 use Rattle.std.proofs.lemmas.Bool.{cases_lt}
 use Rattle.std.proofs.lemmas.Bool.Decides.{nat_tests}
@@ -46,19 +12,7 @@ use Rattle.std.proofs.lemmas.Option.{get_or_from_slice_get, slice_get_cases, sli
 use Rattle.bl_tree.specs.declared.graph.Edge.{Edge}
 use Rattle.bl_cause.specs.declared.finishing.Frame.{Frame}
 use Rattle.bl_cause.specs.inner.Lists.{In, Rows, RowsWithin, Within, edges_from, unseen}
-use Rattle.bl_cause.specs.inner.Orders.{
-  Looked,
-  Nested,
-  Open,
-  Reaches,
-  SearchInvariant,
-  SearchState,
-  Sorted,
-  advanced,
-  after_entering,
-  at_edge,
-  entered_unless,
-}
+use Rattle.bl_cause.specs.inner.Orders.{Looked, Nested, Open, Reaches, SearchInvariant, SearchState, Sorted, advanced, after_entering, at_edge, entered_unless}
 use Rattle.bl_cause.proofs.ListLemmas.{filter_keeps, reverse_push}
 use Rattle.bl_cause.proofs.RowLemmas.{row_within}
 use Rattle.bl_cause.proofs.StepLemmas.{none_seen, row_from, row_there, seen_cases, seen_kept, seen_new, unseen_set}

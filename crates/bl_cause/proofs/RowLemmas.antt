@@ -1,78 +1,13 @@
 -- The edges of a graph in rows.
-use Rattle.std.proofs.Common.{
-  ◌≡◌,
-  ℕ,
-  ◌+◌,
-  ◌<◌,
-  ◌≤◌,
-  Bool,
-  true,
-  false,
-  cond,
-  List,
-  [],
-  ◌∷◌,
-  ◌++◌,
-  ◌⊎◌,
-  ⊎_elim,
-  length,
-  get_or,
-  set,
-  take,
-  refl,
-  sym,
-  ap,
-  subst,
-  ◌∙◌,
-  arith,
-}
+use Rattle.std.proofs.Common.{◌≡◌, ℕ, ◌+◌, ◌<◌, ◌≤◌, Bool, List, [], ◌∷◌, ◌++◌, ◌⊎◌, ⊎_elim, length, get_or, take, sym, ap, subst}
+use Rattle.std.proofs.Common.{◌∙◌, arith}
 use Rattle.std.specs.Prelude.{filter, nat_eq}
-use Rattle.std.proofs.lemmas.Bool.{cases_eq}
-use Rattle.std.proofs.lemmas.Bool.Decides.{nat_tests}
-use Rattle.std.proofs.lemmas.List.{append-nil, get_or_default, get_or-set_other, get_or-set_same, length-set}
-use Rattle.std.proofs.lemmas.List.Elements.{All-filter, All-from_get_or, All-more, All-weaker, filter-append}
+use Rattle.std.proofs.lemmas.List.{get_or_default}
+use Rattle.std.proofs.lemmas.List.Elements.{All-filter, All-from_get_or, All-more, All-weaker}
 use Rattle.bl_tree.specs.declared.graph.Edge.{Edge}
 use Rattle.bl_cause.specs.inner.Lists.{Rows, RowsWithin, Within, edges_from}
 
-unequal : (a b : ℕ) → (a ≡ b → ⊥) → nat_eq a b ≡ false
-unequal a b not =
-    elim (nat_eq a b) as (λ t. nat_eq a b ≡ t → t ≡ false) [
-      | true ↦ λ is. absurd (not (grind (arith, nat_tests)))
-      | false ↦ λ is. refl
-    ] refl
-
 module _ (end : Edge → ℕ) where
-  -- a row gets one more edge
-  pub rows_push : (edges : List Edge) (count : ℕ) (rows : List (List Edge)) (edge : Edge) → end edge < count →
-      Rows (λ node. filter (λ it. nat_eq (end it) node) edges) count rows →
-      Rows (λ node. filter (λ it. nat_eq (end it) node) (edges ++ edge ∷ [])) count (set rows (end edge) (get_or rows (end edge) [] ++ edge ∷ []))
-  rows_push edges count rows edge lt h = record {
-    one_each = length-set rows (end edge) (get_or rows (end edge) [] ++ edge ∷ []) ∙ h.one_each;
-    row = λ node below. at node below (cases_eq node (end edge));
-  }
-    where
-      at : (node : ℕ) → node < count → (node ≡ end edge) ⊎ (node ≡ end edge → ⊥) →
-          get_or (set rows (end edge) (get_or rows (end edge) [] ++ edge ∷ [])) node [] ≡ filter (λ it. nat_eq (end it) node) (edges ++ edge ∷ [])
-      at node below case =
-          ⊎_elim
-          (λ (is : node ≡ end edge).
-          let inside : end edge < length rows = (let e = h.one_each in omega (arith, e, lt)) in
-          let yes : nat_eq (end edge) node ≡ true = grind (arith, nat_tests) in
-          ap (λ n. get_or (set rows (end edge) (get_or rows (end edge) [] ++ edge ∷ [])) n []) is
-          ∙ get_or-set_same rows (end edge) (get_or rows (end edge) [] ++ edge ∷ []) [] inside
-          ∙ ap (λ n. get_or rows n [] ++ edge ∷ []) (sym is)
-          ∙ ap (λ row. row ++ edge ∷ []) (h.row node below)
-          ∙ ap (λ b. filter (λ it. nat_eq (end it) node) edges ++ cond b (edge ∷ []) []) (sym yes)
-          ∙ sym (filter-append (λ it. nat_eq (end it) node) edges (edge ∷ [])))
-          (λ (other : node ≡ end edge → ⊥).
-          let no : nat_eq (end edge) node ≡ false = unequal (end edge) node (λ is. other (sym is)) in
-          get_or-set_other rows (end edge) node (get_or rows (end edge) [] ++ edge ∷ []) [] other
-          ∙ h.row node below
-          ∙ sym (append-nil (filter (λ it. nat_eq (end it) node) edges))
-          ∙ ap (λ b. filter (λ it. nat_eq (end it) node) edges ++ cond b (edge ∷ []) []) (sym no)
-          ∙ sym (filter-append (λ it. nat_eq (end it) node) edges (edge ∷ [])))
-          case
-
   -- all edges of the rows have their ends where those of the graph have them
   pub rows_within : (edges : List Edge) (count : ℕ) (rows : List (List Edge)) → Within count edges →
       Rows (λ node. filter (λ it. nat_eq (end it) node) edges) count rows → RowsWithin count rows

@@ -1,65 +1,23 @@
 -- What a breadth-first search keeps, and what it finds in the end.
-use Rattle.std.proofs.Common.{
-  ◌≡◌,
-  ℕ,
-  zero,
-  suc,
-  ◌+◌,
-  ◌-◌,
-  ◌<◌,
-  ◌≤◌,
-  Bool,
-  true,
-  false,
-  cond,
-  List,
-  [],
-  ◌∷◌,
-  ◌++◌,
-  ◌⊎◌,
-  inl,
-  inr,
-  ⊎_elim,
-  length,
-  get_or,
-  set,
-  take,
-  drop,
-  reverse,
-  refl,
-  sym,
-  ap,
-  subst,
-  ◌∙◌,
-  arith,
-}
+use Rattle.std.proofs.Common.{◌≡◌, ℕ, zero, suc, ◌+◌, ◌-◌, ◌<◌, ◌≤◌, Bool, true, false, cond, List, [], ◌∷◌, ◌++◌, ◌⊎◌, inl, inr, ⊎_elim, length, get_or, set}
+use Rattle.std.proofs.Common.{take, drop, reverse, refl, sym, ap, subst, ◌∙◌, arith}
 use Rattle.std.specs.Prelude.{All, Contains, nat_eq, replicate}
 use Rattle.std.proofs.lemmas.Bool.{cases_eq, cases_lt}
 use Rattle.std.proofs.lemmas.Bool.Decides.{nat_tests}
-use Rattle.std.proofs.lemmas.List.{
-  drop-append-le,
-  get_or-replicate,
-  get_or_default,
-  take_more,
-  get_or-set_other,
-  get_or-set_same,
-  get_or_append_left,
-  get_or_past,
-  get_or_push,
-  length-replicate,
-  length-set,
-  length_push,
-}
-use Rattle.std.proofs.lemmas.List.Elements.{All-head, All-nil, All-push, All-tail}
+use Rattle.std.proofs.lemmas.List.{drop-append-le, get_or-replicate, get_or_default, take_more, get_or-set_other, get_or-set_same, get_or_append_left}
+use Rattle.std.proofs.lemmas.List.{get_or_past, get_or_push, length-replicate, length-set, length_push}
+use Rattle.std.proofs.lemmas.List.Elements.{All-head, All-nil, All-push}
 use Rattle.std.proofs.lemmas.List.Sums.{sum_by-set}
+use Rattle.bl_tree.proofs.Basics.{contains_first, contains_further, contains_none, first_or_further}
 use Rattle.bl_tree.specs.declared.graph.Edge.{Edge}
 use Rattle.bl_cause.specs.declared.way_back.Reached.{Reached}
 use Rattle.bl_cause.specs.declared.way_back.Step.{Step}
 use Rattle.bl_cause.specs.Walks.{ClosedWalk, EdgeWalk}
 use Rattle.bl_cause.specs.inner.Lists.{Rows, RowsWithin, Within, edges_from, unseen}
 use Rattle.bl_cause.specs.inner.Steps.{Closed, Earlier, Ends, Leaves, Sees, Tree, gone, gone_along, gone_unless}
-use Rattle.bl_cause.proofs.ListLemmas.{contains_cons, contains_head, contains_none, contains_tail, filter_keeps, filter_there, filter_true, reverse_push}
+use Rattle.bl_cause.proofs.ListLemmas.{filter_keeps, filter_there, filter_true, reverse_push}
 use Rattle.bl_cause.proofs.RowLemmas.{row_within}
+use Rattle.bl_cause.proofs.NumberLemmas.{ends_tail}
 
 -- ---- nodes seen
 
@@ -297,7 +255,7 @@ leaves_step edges at before edge row r lt le h =
           ⊎_elim
           (λ (same : edge ≡ x). inl (subst (λ it. get_or r.seen it.to false ≡ true) same is))
           (λ (later : Contains row x). inr (inr later))
-          (contains_cons edge row x two))
+          (first_or_further edge row x two))
           rest)
           (h x there from)
       | false ↦ λ is. λ x there from.
@@ -314,7 +272,7 @@ leaves_step edges at before edge row r lt le h =
           ⊎_elim
           (λ (same : edge ≡ x). inl (subst (λ it. get_or (set r.seen edge.to true) it.to false ≡ true) same (seen_new r.seen edge.to lt)))
           (λ (later : Contains row x). inr (inr later))
-          (contains_cons edge row x two))
+          (first_or_further edge row x two))
           rest)
           (h x there old))
           (λ (new : edge.to ≡ x.from). inr (inl (subst (Ends x.from) (sym dropped) (ends_last x.from (drop at r.steps) step new))))
@@ -325,9 +283,6 @@ leaves_step edges at before edge row r lt le h =
 
 head_to : (count : ℕ) (edge : Edge) (row : List Edge) → Within count (edge ∷ row) → edge.to < count
 head_to count edge row h = (All-head (λ edge. (edge.from < count) × (edge.to < count)) edge row h).1
-
-rest_within : (count : ℕ) (edge : Edge) (row : List Edge) → Within count (edge ∷ row) → Within count row
-rest_within count edge row h = All-tail (λ edge. (edge.from < count) × (edge.to < count)) edge row h
 
 pub seen_along : (before : ℕ) (row : List Edge) (r : Reached) → length (gone_along before row r).seen ≡ length r.seen
 seen_along before [] r = refl
@@ -342,14 +297,14 @@ pub counted_along : (before : ℕ) (row : List Edge) (r : Reached) → Within (l
     unseen (gone_along before row r).seen + length (gone_along before row r).steps ≡ unseen r.seen + length r.steps
 counted_along before [] r within = refl
 counted_along before (edge ∷ row) r within =
-    counted_along before row (gone before edge r) (subst (λ n. Within n row) (sym (seen_step before edge r)) (rest_within (length r.seen) edge row within))
+    counted_along before row (gone before edge r) (subst (λ n. Within n row) (sym (seen_step before edge r)) (ends_tail (length r.seen) edge row within))
     ∙ counted_step before edge r (head_to (length r.seen) edge row within)
 
 pub within_along : (count before : ℕ) (row : List Edge) (r : Reached) → Within count row → All (λ step. step.edge.to < count) r.steps →
     All (λ step. step.edge.to < count) (gone_along before row r).steps
 within_along count before [] r within all = all
 within_along count before (edge ∷ row) r within all =
-    within_along count before row (gone before edge r) (rest_within count edge row within)
+    within_along count before row (gone before edge r) (ends_tail count edge row within)
     (within_step count before edge r (head_to count edge row within) all)
 
 pub earlier_along : (before : ℕ) (row : List Edge) (r : Reached) → before < length r.steps → Earlier r.steps → Earlier (gone_along before row r).steps
@@ -364,16 +319,16 @@ pub tree_along : (edges : List Edge) (first : Edge) (before : ℕ) (row : List E
 tree_along edges first before [] r lt there follows earlier h = h
 tree_along edges first before (edge ∷ row) r lt there follows earlier h =
     tree_along edges first before row (gone before edge r) (let more = grows_step before edge r in omega (arith, more, lt))
-    (λ it c. there it (contains_tail edge row it c))
-    (λ it d c. follows it d (contains_tail edge row it c) ∙ ap (λ s. s.edge.to) (sym (kept_step before before edge r d lt)))
+    (λ it c. there it (contains_further edge row it c))
+    (λ it d c. follows it d (contains_further edge row it c) ∙ ap (λ s. s.edge.to) (sym (kept_step before before edge r d lt)))
     (earlier_step before edge r lt earlier)
-    (tree_step edges first before edge r lt (there edge (contains_head edge row)) (λ d. follows edge d (contains_head edge row)) earlier h)
+    (tree_step edges first before edge r lt (there edge (contains_first edge row)) (λ d. follows edge d (contains_first edge row)) earlier h)
 
 pub sees_along : (before : ℕ) (row : List Edge) (r : Reached) → Within (length r.seen) row → Sees r.seen r.steps →
     Sees (gone_along before row r).seen (gone_along before row r).steps
 sees_along before [] r within h = h
 sees_along before (edge ∷ row) r within h =
-    sees_along before row (gone before edge r) (subst (λ n. Within n row) (sym (seen_step before edge r)) (rest_within (length r.seen) edge row within))
+    sees_along before row (gone before edge r) (subst (λ n. Within n row) (sym (seen_step before edge r)) (ends_tail (length r.seen) edge row within))
     (sees_step before edge r (head_to (length r.seen) edge row within) h)
 
 pub leaves_along : (edges : List Edge) (at before : ℕ) (row : List Edge) (r : Reached) → Within (length r.seen) row → at ≤ length r.steps →
@@ -381,7 +336,7 @@ pub leaves_along : (edges : List Edge) (at before : ℕ) (row : List Edge) (r : 
 leaves_along edges at before [] r within le h = h
 leaves_along edges at before (edge ∷ row) r within le h =
     leaves_along edges at before row (gone before edge r)
-    (subst (λ n. Within n row) (sym (seen_step before edge r)) (rest_within (length r.seen) edge row within))
+    (subst (λ n. Within n row) (sym (seen_step before edge r)) (ends_tail (length r.seen) edge row within))
     (let more = grows_step before edge r in omega (arith, more, le))
     (leaves_step edges at before edge row r (head_to (length r.seen) edge row within) le h)
 

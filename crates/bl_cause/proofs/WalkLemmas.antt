@@ -1,28 +1,8 @@
 -- Walks, one after another and turned; numbers along them; closed walks with and without data edges.
-use Rattle.std.proofs.Common.{
-  ◌≡◌,
-  ℕ,
-  ◌≤◌,
-  Bool,
-  true,
-  false,
-  not,
-  List,
-  [],
-  ◌∷◌,
-  ◌++◌,
-  ◌⊎◌,
-  inl,
-  inr,
-  ⊎_elim,
-  refl,
-  sym,
-  ap,
-  subst,
-  ◌∙◌,
-  arith,
-}
+use Rattle.std.proofs.Common.{◌≡◌, ℕ, ◌≤◌, Bool, true, false, not, List, [], ◌∷◌, ◌++◌, ◌⊎◌, inl, inr, ⊎_elim, refl, sym, ap, subst, ◌∙◌, arith}
 use Rattle.std.specs.Prelude.{Contains, slice_index}
+use Rattle.std.proofs.lemmas.Bool.{not-true}
+use Rattle.bl_tree.proofs.Basics.{contains_first, contains_further, contains_none, first_or_further}
 use Rattle.bl_tree.specs.declared.graph.Edge.{Edge}
 use Rattle.bl_tree.specs.declared.graph.Graph.{Graph}
 use Rattle.bl_tree.specs.declared.graph.Node.{Node}
@@ -31,7 +11,7 @@ use Rattle.bl_cause.specs.Ranks.{Ranks}
 use Rattle.bl_cause.specs.Walks.{ClosedWalk, EdgeWalk, controls}
 use Rattle.bl_cause.specs.inner.Numbers.{NeverFall}
 use Rattle.bl_cause.specs.inner.Orders.{Reaches}
-use Rattle.bl_cause.proofs.ListLemmas.{contains_cons, contains_head, contains_none, contains_tail, filter_keeps, filter_there, filter_true}
+use Rattle.bl_cause.proofs.ListLemmas.{filter_keeps, filter_there, filter_true}
 
 module _ (edges : List Edge) where
   -- a walk goes on where another ends
@@ -65,7 +45,7 @@ module _ (edges : List Edge) where
       (λ (later : Contains walk edge).
       let rest = passes head.to last walk w.2 edge later in
       (rest.0, (head ∷ rest.1.0, (w.0, w.1, rest.1.1)), rest.2))
-      (contains_cons head walk edge h)
+      (first_or_further head walk edge h)
 
   -- a closed walk can begin with any of its edges
   pub turn : (walk : List Edge) → ClosedWalk edges walk → (edge : Edge) → Contains walk edge → (rest : List Edge) × ClosedWalk edges (edge ∷ rest)
@@ -77,7 +57,7 @@ module _ (edges : List Edge) where
       let at = passes head.to head.from walk w.1 edge later in
       let front : Reaches edges head.from edge.from = reaches_then head.from head.to edge.from (reaches_edge head w.0) at.1 in
       closed_from edge at.0 (reaches_then edge.to head.from edge.from at.2 front))
-      (contains_cons head walk edge h)
+      (first_or_further head walk edge h)
 
   -- ---- numbers
 
@@ -123,12 +103,12 @@ data_in [] = inl (λ edge h. absurd (contains_none edge h))
 data_in (head ∷ walk) =
     elim head.by_data as (λ b. head.by_data ≡ b → ((edge : Edge) → Contains (head ∷ walk) edge →
     edge.by_data ≡ false) ⊎ ((edge : Edge) × Contains (head ∷ walk) edge × (edge.by_data ≡ true))) [
-      | true ↦ λ is. inr (head, contains_head head walk, is)
+      | true ↦ λ is. inr (head, contains_first head walk, is)
       | false ↦ λ is.
           ⊎_elim
           (λ (none : (edge : Edge) → Contains walk edge → edge.by_data ≡ false).
-          inl (λ edge h. ⊎_elim (λ (same : head ≡ edge). sym (ap (λ it. it.by_data) same) ∙ is) (none edge) (contains_cons head walk edge h)))
-          (λ (some : (edge : Edge) × Contains walk edge × (edge.by_data ≡ true)). inr (some.0, contains_tail head walk some.0 some.1, some.2))
+          inl (λ edge h. ⊎_elim (λ (same : head ≡ edge). sym (ap (λ it. it.by_data) same) ∙ is) (none edge) (first_or_further head walk edge h)))
+          (λ (some : (edge : Edge) × Contains walk edge × (edge.by_data ≡ true)). inr (some.0, contains_further head walk some.0 some.1, some.2))
           (data_in walk)
     ] refl
 
@@ -139,9 +119,9 @@ walk_by_controls : (edges : List Edge) (first last : ℕ) (walk : List Edge) →
     ((edge : Edge) → Contains walk edge → edge.by_data ≡ false) → EdgeWalk (controls edges) first walk last
 walk_by_controls edges first last [] w none = w
 walk_by_controls edges first last (head ∷ walk) w none = (
-  is_control edges head w.0 (none head (contains_head head walk)),
+  is_control edges head w.0 (none head (contains_first head walk)),
   w.1,
-  walk_by_controls edges head.to last walk w.2 (λ edge h. none edge (contains_tail head walk edge h)),
+  walk_by_controls edges head.to last walk w.2 (λ edge h. none edge (contains_further head walk edge h)),
 )
 
 -- without a closed walk of control edges, and without one that begins with a data edge, there is none
@@ -153,8 +133,8 @@ no_walk edges control written (head ∷ walk) w =
     ⊎_elim
     (λ (none : (edge : Edge) → Contains (head ∷ walk) edge → edge.by_data ≡ false).
     control head walk (
-      is_control edges head w.0 (none head (contains_head head walk)),
-      walk_by_controls edges head.to head.from walk w.1 (λ edge h. none edge (contains_tail head walk edge h)),
+      is_control edges head w.0 (none head (contains_first head walk)),
+      walk_by_controls edges head.to head.from walk w.1 (λ edge h. none edge (contains_further head walk edge h)),
     ))
     (λ (some : (edge : Edge) × Contains (head ∷ walk) edge × (edge.by_data ≡ true)).
     let turned = turn edges (head ∷ walk) w some.0 some.1 in
@@ -174,10 +154,6 @@ none_begins nodes edges by_data never edge rest kind closed =
     never (place_at nodes edge.from) (places_of nodes rest)
     (record { edge = edge; rest = rest; kind = kind; closed = closed; at_place = refl; further = refl })
 
-not_false : (b : Bool) → not b ≡ true → b ≡ false
-not_false true is = absurd (cc)
-not_false false is = refl
-
 -- neither rule fails: there is no closed walk
 pub never_twice_never_cycle : (graph : Graph) → Never (FailsTwice graph) → Never (FailsCycle graph) → (walk : List Edge) →
     ClosedWalk graph.edges walk → ⊥
@@ -185,7 +161,7 @@ never_twice_never_cycle graph twice cycle walk closed =
     no_walk graph.edges
     (λ edge rest w.
     none_begins graph.nodes (controls graph.edges) false twice edge rest
-    (not_false edge.by_data (filter_true (λ it. not it.by_data) graph.edges edge w.0)) w)
+    (not-true edge.by_data (filter_true (λ it. not it.by_data) graph.edges edge w.0)) w)
     (λ edge rest kind w. none_begins graph.nodes graph.edges true cycle edge rest kind w) walk closed
 
 walk_of_controls : (edges : List Edge) (first last : ℕ) (walk : List Edge) → EdgeWalk (controls edges) first walk last → EdgeWalk edges first walk last
@@ -193,7 +169,7 @@ walk_of_controls edges first last [] w = w
 walk_of_controls edges first last (head ∷ walk) w = (control_is edges head w.0, w.1, walk_of_controls edges head.to last walk w.2)
 
 control_kind : (edges : List Edge) (edge : Edge) → Contains (controls edges) edge → edge.by_data ≡ false
-control_kind edges edge h = not_false edge.by_data (filter_true (λ it. not it.by_data) edges edge h)
+control_kind edges edge h = not-true edge.by_data (filter_true (λ it. not it.by_data) edges edge h)
 
 pub controls_closed : (edges walk : List Edge) → ClosedWalk (controls edges) walk →
     ClosedWalk edges walk × ((edge : Edge) → Contains walk edge → edge.by_data ≡ false)
@@ -203,13 +179,13 @@ controls_closed edges (head ∷ walk) w = (
   λ edge h.
       ⊎_elim (λ (same : head ≡ edge). sym (ap (λ it. it.by_data) same) ∙ control_kind edges head w.0)
       (λ (later : Contains walk edge). control_kind edges edge (passes (controls edges) head.to head.from walk w.1 edge later).0)
-      (contains_cons head walk edge h),
+      (first_or_further head walk edge h),
 )
 
 pub closed_controls : (edges walk : List Edge) → ClosedWalk edges walk →
     ((edge : Edge) → Contains walk edge → edge.by_data ≡ false) → ClosedWalk (controls edges) walk
 closed_controls edges [] w none = w
 closed_controls edges (head ∷ walk) w none = (
-  is_control edges head w.0 (none head (contains_head head walk)),
-  walk_by_controls edges head.to head.from walk w.1 (λ edge h. none edge (contains_tail head walk edge h)),
+  is_control edges head w.0 (none head (contains_first head walk)),
+  walk_by_controls edges head.to head.from walk w.1 (λ edge h. none edge (contains_further head walk edge h)),
 )

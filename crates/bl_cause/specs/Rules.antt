@@ -5,7 +5,7 @@ use Rattle.bl_tree.specs.declared.place.Place.{Place}
 use Rattle.bl_tree.specs.declared.rule.Rule.{Rule}
 use Rattle.bl_tree.specs.declared.rule.Rule.TheVariants as rule
 use Rattle.bl_tree.specs.declared.tree.Unit.{Unit as UnitDef}
-use Rattle.bl_tree.specs.Rules.{FailsFirst as FirstOf, Passes as NoneOf}
+use Rattle.bl_tree.specs.Rules.{Passes as NoneOf}
 use Rattle.bl_tree.specs.Typing.{is_activity}
 use Rattle.bl_cause.specs.Activities.{IsGraphOf}
 use Rattle.bl_cause.specs.Fails.{FailsCycle, FailsTwice}
@@ -24,10 +24,6 @@ abbrev pub Fails : List UnitDef → Rule → Place → List Place → Type 0
 Fails units rule.Twice at also = FailsInActivity FailsTwice units at also
 Fails units rule.Cycle at also = FailsInActivity FailsCycle units at also
 Fails units _ at also = ⊥
-
--- the rule is the first of Twice and Cycle that fails, and fails first at these places
-abbrev pub FailsFirst : List UnitDef → Rule → Place → List Place → Type 0
-FailsFirst units = FirstOf (Fails units)
 
 -- neither Twice nor Cycle fails
 abbrev pub Passes : List UnitDef → Type 0

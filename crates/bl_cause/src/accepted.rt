@@ -7,9 +7,7 @@ use bl_tree::graph::Graph;
 use bl_tree::{List, Program};
 use std::marker::Model;
 
-/// A program for which no rule fails, with what is made of it (`specs/Accepted.antt`, `AcceptedProgram`). Its tree is
-/// the program of whose bodies the effects, graphs and orders are. Who needs these goes by the tree, and who needs the
-/// source by the program.
+/// A program for which no rule fails, with the effects, graphs and orders of its bodies (`specs/Accepted.antt`, `AcceptedProgram`).
 #[derive(Drop)]
 pub struct Accepted {
     program: Program,
@@ -29,7 +27,6 @@ impl Model for Accepted {
 
     ghost view = { λ a. record {
       program = a.program;
-      tree = a.program;
       effects = a.schedule.effects;
       graphs = a.schedule.graphs;
       orders = a.schedule.orders;
@@ -37,7 +34,6 @@ impl Model for Accepted {
 
     ghost invariant = { λ a. IsAccepted (record {
       program = a.program;
-      tree = a.program;
       effects = a.schedule.effects;
       graphs = a.schedule.graphs;
       orders = a.schedule.orders;
@@ -62,28 +58,21 @@ impl Accepted {
         Accepted { program, schedule }
     }
 
-    /// The program of the source.
+    /// The program.
     pub fn program(&self) -> &Program
         ensures { result.now ≡ self.now.program }
     {
         &self.program
     }
 
-    /// The program of whose bodies the effects, graphs and orders are.
-    pub fn tree(&self) -> &Program
-        ensures { result.now ≡ self.now.tree }
-    {
-        &self.program
-    }
-
-    /// What the statements of the tree read and write.
+    /// What the statements of the program read and write.
     pub fn effects(&self) -> &Effects
         ensures { result.now ≡ self.now.effects }
     {
         &self.schedule.effects
     }
 
-    /// The tick graphs of the tree's activities, in the order of units.
+    /// The tick graphs of the program's activities, in the order of units.
     pub fn graphs(&self) -> &[Graph]
         ensures { result.now ≡ self.now.graphs }
     {

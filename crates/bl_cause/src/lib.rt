@@ -1,9 +1,6 @@
-//! The rules Twice and Cycle (docs/LANGUAGE.md, "Rules"), and what an accepted program is. `check` answers Ok exactly where
-//! neither fails for an activity of the program, and gives its schedule: effects, the tick graphs of the activities, and
-//! an order for each. Else it names the first that fails, at its least place over all activities (`specs/Rules.antt`,
-//! `FailsFirst`); want of memory aside. `check_units` judges units that need not be a program's: neither rule looks at
-//! anything but the bodies of activities. `Accepted` is a program for which no rule fails, with its schedule
-//! (`specs/Accepted.antt`, `IsAccepted`).
+//! The rules Twice and Cycle (docs/LANGUAGE.md, "Rules") of one tick graph, and what an accepted program is. `Accepted` is a
+//! program for which no rule fails, with its schedule: effects, the tick graphs of the activities, and an order for each
+//! (`specs/Accepted.antt`, `IsAccepted`). `bl_cause_trees` judges the two rules for all activities of a program.
 //!
 //! `twice` and `ordered` judge one tick graph. `twice` looks for a closed walk of control edges, `ordered` for one that
 //! begins with a data edge. Each names the first place at which there is one, with the places that one such walk passes,
@@ -33,11 +30,9 @@ ghost use Rattle.bl_cause.specs.Ranks.{Ranks};
 ghost use Rattle.bl_cause.specs.Walks.{ClosedWalk};
 
 mod accepted;
-mod activities;
 mod edges;
 mod finishing;
 mod first;
-mod judge;
 pub mod laws;
 mod numbering;
 mod order;
@@ -52,7 +47,7 @@ pub use accepted::Accepted;
 use bl_tree::graph::Graph;
 use bl_tree::{NoMemory, Refusal, Rule};
 pub use order::{Order, acyclic_order};
-pub use schedule::{Schedule, check, check_units};
+pub use schedule::Schedule;
 use std::alloc::Global;
 
 /// Judges rule Twice for the graph. The walk that the refusal tells is one of many.

@@ -1,32 +1,12 @@
 -- The tick graph of a body: its listed edges, by the positions of their nodes.
-use Rattle.std.proofs.Common.{
-  ◌≡◌,
-  inl,
-  inr,
-  ℕ,
-  ◌<◌,
-  Bool,
-  true,
-  false,
-  ◌&&◌,
-  List,
-  [],
-  ◌∷◌,
-  ◌++◌,
-  length,
-  refl,
-  sym,
-  ap,
-  ◌∙◌,
-  subst,
-  arith,
-}
-use Rattle.std.specs.Prelude.{◌↔◌, Contains, IsTrue, Some, map, nat_lt, slice_get}
-use Rattle.std.specs.List.{list_all}
+use Rattle.std.proofs.Common.{◌≡◌, inl, inr, ℕ, ◌<◌, Bool, true, false, ◌&&◌, List, [], ◌∷◌, ◌++◌, length, refl, sym, ap, ◌∙◌, subst, arith}
+use Rattle.std.specs.Prelude.{◌↔◌, Contains, Some, map, nat_lt, slice_get}
 use Rattle.std.proofs.lemmas.Bool.{lt-ltb}
 use Rattle.std.proofs.lemmas.List.{length-map}
 use Rattle.std.proofs.lemmas.Option.{slice_get_within}
 use Rattle.std.proofs.lemmas.List.Elements.{Contains-append_cases, Contains-append_left, Contains-append_right}
+use Rattle.std.proofs.lemmas.Bool.{and_from}
+use Rattle.bl_tree.proofs.Basics.{contains_first, contains_further, contains_none, first_or_further, index_of}
 use Rattle.bl_tree.specs.declared.graph.Edge.{Edge as GraphEdge}
 use Rattle.bl_tree.specs.declared.graph.Node.{Node as GraphNode}
 use Rattle.bl_tree.specs.Graph.{JoinsNodes}
@@ -40,7 +20,7 @@ use Rattle.bl_graph.specs.Graph.{EdgeBetween, IsTickGraph, edge_between, graph_n
 use Rattle.bl_graph.specs.Laws.{EdgesAreListed, FlowsAreListed, StaysWithin}
 use Rattle.bl_graph.specs.Listed.{Pair, edges_in, flows_in, pair}
 use Rattle.bl_cause_laws.specs.Orders.{BodiesHaveGraphs}
-use Rattle.bl_cause_laws.proofs.Elements.{either, head_is_there, nothing_there, stands_at, tail_is_there}
+use Rattle.bl_graph.proofs.Ending.{lists_all}
 
 -- an edge of the kind between nodes of the list
 record Placed (nodes : List Node) (E : Node → Node → Type 0) (p : Pair) : Type 0 where
@@ -58,8 +38,8 @@ module _ (nodes : List Node) (E : Node → Node → Type 0) (by_data : Bool) whe
   abbrev placed : (pairs : List Pair) → Each pairs → List GraphEdge
   placed [] each = []
   placed (p ∷ rest) each =
-      edge_between (each p (head_is_there p rest)).from (each p (head_is_there p rest)).to by_data
-      ∷ placed rest (λ q there. each q (tail_is_there p rest q there))
+      edge_between (each p (contains_first p rest)).from (each p (contains_first p rest)).to by_data
+      ∷ placed rest (λ q there. each q (contains_further p rest q there))
 
   between_placed : (p : Pair) (one : Placed nodes E p) (e : GraphEdge) → edge_between one.from one.to by_data ≡ e →
       EdgeBetween nodes E e.from e.to
@@ -72,19 +52,19 @@ module _ (nodes : List Node) (E : Node → Node → Type 0) (by_data : Bool) whe
   }
 
   of_kind : (pairs : List Pair) (each : Each pairs) (e : GraphEdge) → Contains (placed pairs each) e → e.by_data ≡ by_data
-  of_kind [] each e there = absurd (nothing_there e there)
+  of_kind [] each e there = absurd (contains_none e there)
   of_kind (p ∷ rest) each e there =
-      elim (either _ _ e there) [
+      elim (first_or_further _ _ e there) [
         | inl is ↦ sym (ap (λ e. e.by_data) is)
-        | inr later ↦ of_kind rest (λ q there. each q (tail_is_there p rest q there)) e later
+        | inr later ↦ of_kind rest (λ q there. each q (contains_further p rest q there)) e later
       ]
 
   sound : (pairs : List Pair) (each : Each pairs) (e : GraphEdge) → Contains (placed pairs each) e → EdgeBetween nodes E e.from e.to
-  sound [] each e there = absurd (nothing_there e there)
+  sound [] each e there = absurd (contains_none e there)
   sound (p ∷ rest) each e there =
-      elim (either _ _ e there) [
-        | inl is ↦ between_placed p (each p (head_is_there p rest)) e is
-        | inr later ↦ sound rest (λ q there. each q (tail_is_there p rest q there)) e later
+      elim (first_or_further _ _ e there) [
+        | inl is ↦ between_placed p (each p (contains_first p rest)) e is
+        | inr later ↦ sound rest (λ q there. each q (contains_further p rest q there)) e later
       ]
 
   module _ (once : EachOnce nodes) where
@@ -96,14 +76,14 @@ module _ (nodes : List Node) (E : Node → Node → Type 0) (by_data : Bool) whe
 
     complete : (pairs : List Pair) (each : Each pairs) (q : Pair) (i j : ℕ) → Contains pairs q → slice_get nodes i ≡ Some q.from →
         slice_get nodes j ≡ Some q.to → Contains (placed pairs each) (edge_between i j by_data)
-    complete [] each q i j there from to = absurd (nothing_there q there)
+    complete [] each q i j there from to = absurd (contains_none q there)
     complete (p ∷ rest) each q i j there from to =
-        let later_each : Each rest = λ q there. each q (tail_is_there p rest q there) in
-        let head : GraphEdge = edge_between (each p (head_is_there p rest)).from (each p (head_is_there p rest)).to by_data in
-        elim (either p rest q there) [
-          | inl is ↦ subst (Contains (head ∷ placed rest later_each)) (at_place p q (each p (head_is_there p rest)) i j is from to)
-              (head_is_there head (placed rest later_each))
-          | inr later ↦ tail_is_there head (placed rest later_each) (edge_between i j by_data) (complete rest later_each q i j later from to)
+        let later_each : Each rest = λ q there. each q (contains_further p rest q there) in
+        let head : GraphEdge = edge_between (each p (contains_first p rest)).from (each p (contains_first p rest)).to by_data in
+        elim (first_or_further p rest q there) [
+          | inl is ↦ subst (Contains (head ∷ placed rest later_each)) (at_place p q (each p (contains_first p rest)) i j is from to)
+              (contains_first head (placed rest later_each))
+          | inr later ↦ contains_further head (placed rest later_each) (edge_between i j by_data) (complete rest later_each q i j later from to)
         ]
 
 -- ---- bodies
@@ -120,8 +100,8 @@ module _ (differ : NodesDiffer) (within : (body : Block) → StaysWithin body) (
 
   place_in : (E : Node → Node → Type 0) (p : Pair) → Contains Nodes p.from → Contains Nodes p.to → E p.from p.to → Placed Nodes E p
   place_in E p one other edge =
-      let from = stands_at Nodes p.from one in
-      let to = stands_at Nodes p.to other in
+      let from = index_of Nodes p.from one in
+      let to = index_of Nodes p.to other in
       record { from = from.0; to = to.0; is_from = from.1; is_to = to.1; edge = edge }
 
   each_edge : (p : Pair) → Contains (edges_in B) p → Placed Nodes (EdgeAll B) p
@@ -174,16 +154,6 @@ module _ (differ : NodesDiffer) (within : (body : Block) → StaysWithin body) (
 
 -- ---- ends of edges
 
-lists_all : (test : GraphEdge → Bool) (list : List GraphEdge) → ((e : GraphEdge) → Contains list e → test e ≡ true) → IsTrue (list_all test list)
-lists_all test [] every = refl
-lists_all test (e ∷ list) every =
-    subst (λ t. IsTrue (t && list_all test list)) (sym (every e (head_is_there e list)))
-    (lists_all test list (λ d there. every d (tail_is_there e list d there)))
-
-both_true : (a b : Bool) → a ≡ true → b ≡ true → (a && b) ≡ true
-both_true true b e f = f
-both_true false b e f = absurd cc
-
 -- both ends of each edge of a tick graph are positions of nodes
 module _ (body : Block) (nodes : List GraphNode) (edges : List GraphEdge) (is : IsTickGraph body nodes edges) where
   inside : (E : Node → Node → Type 0) (i j : ℕ) → EdgeBetween (nodes_in body) E i j → (i < length nodes) × (j < length nodes)
@@ -200,7 +170,7 @@ module _ (body : Block) (nodes : List GraphNode) (edges : List GraphEdge) (is : 
   joins = record {
     ends = lists_all (λ e. nat_lt e.from (length nodes) && nat_lt e.to (length nodes)) edges (λ e there.
         let at = ends e.from e.to e.by_data there in
-        both_true (nat_lt e.from (length nodes)) (nat_lt e.to (length nodes)) (lt-ltb e.from (length nodes) at.0) (lt-ltb e.to (length nodes) at.1));
+        and_from (nat_lt e.from (length nodes)) (nat_lt e.to (length nodes)) (lt-ltb e.from (length nodes) at.0) (lt-ltb e.to (length nodes) at.1));
   }
 
 pub bodies_have_graphs : NodesDiffer → ((body : Block) → StaysWithin body) → EdgesAreListed → FlowsAreListed → BodiesHaveGraphs

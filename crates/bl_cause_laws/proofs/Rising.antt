@@ -1,22 +1,18 @@
 -- Numbers of a schedule, as numbers of nodes.
-use Rattle.std.proofs.Common.{◌≡◌, ℕ, ◌<◌, Bool, true, false, List, sym, ◌∙◌, subst}
-use Rattle.std.specs.Prelude.{Contains, IsTrue, Option, Some, slice_get, slice_index}
+use Rattle.std.proofs.Common.{◌≡◌, ℕ, ◌<◌, Bool, true, false, sym, ◌∙◌, subst}
+use Rattle.std.specs.Prelude.{Contains, Some, slice_index}
+use Rattle.bl_tree.proofs.Basics.{index_of}
 use Rattle.bl_tree.specs.declared.graph.Graph.{Graph}
-use Rattle.bl_tree.specs.declared.tree.Unit.{Unit as UnitDef}
-use Rattle.bl_tree.specs.Typing.{is_activity}
-use Rattle.bl_tree.specs.Within.{Effect}
 use Rattle.bl_graph_nodes.specs.Nodes.{Node, nodes_in}
 use Rattle.bl_graph_nodes.specs.Plain.{Block, plain_body}
 use Rattle.bl_graph.specs.DataEdges.{DataEdge}
 use Rattle.bl_graph.specs.Edges.{EdgeAll}
 use Rattle.bl_graph.specs.Graph.{EdgeBetween, IsTickGraph, edge_between}
 use Rattle.bl_graph.specs.Laws.{StaysWithin}
-use Rattle.bl_cause.specs.Accepted.{IsSchedule}
-use Rattle.bl_cause.specs.Activities.{IsGraphOf, IsOrderOf, graph_position}
+use Rattle.bl_cause.specs.Activities.{IsOrderOf, graph_position}
 use Rattle.bl_cause.specs.declared.order.Order.{Order}
 use Rattle.bl_cause.specs.Laws.{GraphsAreFound, OrdersAreFound}
 use Rattle.bl_cause_laws.specs.Orders.{GivesRanks, RisesIn, SchedulesRise}
-use Rattle.bl_cause_laws.proofs.Elements.{stands_at}
 
 module _ (body : Block) (graph : Graph) (order : Order) (of_body : IsTickGraph body graph.nodes graph.edges) (of_graph : IsOrderOf graph order)
     (rank : Node → ℕ) (gives : GivesRanks body order rank) where
@@ -24,8 +20,8 @@ module _ (body : Block) (graph : Graph) (order : Order) (of_body : IsTickGraph b
   rises_between : (E : Node → Node → Type 0) (by_data : Bool) → ((i j : ℕ) → EdgeBetween (nodes_in body) E i j →
       Contains graph.edges (edge_between i j by_data)) → (n m : Node) → Contains (nodes_in body) n → Contains (nodes_in body) m → E n m → rank n < rank m
   rises_between E by_data listed n m one other edge =
-      let first = stands_at (nodes_in body) n one in
-      let second = stands_at (nodes_in body) m other in
+      let first = index_of (nodes_in body) n one in
+      let second = index_of (nodes_in body) m other in
       let between : EdgeBetween (nodes_in body) E first.0 second.0 =
       record { first = n; second = m; is_first = first.1; is_second = second.1; edge = edge } in
       let less : slice_index order.ranks first.0 < slice_index order.ranks second.0 =

@@ -1,6 +1,7 @@
--- The rules for one tick graph, and for an activity by its tree.
+-- The rules for one tick graph, and for an activity by its peeled unit.
 use Rattle.std.proofs.Common.{◌≡◌, true, cond, List, [], ◌∷◌, ⊎_elim, sym, ap, subst, ◌∙◌}
 use Rattle.std.specs.Prelude.{◌<◌, ◌≤◌, Contains, Some}
+use Rattle.bl_tree.proofs.Basics.{contains_first, contains_none, first_or_further}
 use Rattle.bl_tree.specs.declared.graph.Graph.{Graph}
 use Rattle.bl_tree.specs.declared.place.Place.{Place}
 use Rattle.bl_tree.specs.declared.rule.Refusal.{Refusal}
@@ -18,17 +19,16 @@ use Rattle.bl_cause.specs.Activities.{AreGraphs, EachTwo, IsGraphOf, IsOrderOf}
 use Rattle.bl_cause.specs.declared.order.Order.{Order}
 use Rattle.bl_cause.specs.Fails.{FailsCycle, FailsTwice, IsFirst, Never, TellsFirst}
 use Rattle.bl_cause.specs.inner.Graphs.{AnyFails, GraphsFail}
-use Rattle.bl_cause.specs.Rules.{Fails as TreesFail}
+use Rattle.bl_cause.specs.Rules.{Fails as OwnGraphsFail}
 use Rattle.bl_cause.proofs.AlikeLemmas.{program_cause}
 use Rattle.bl_cause.proofs.GraphLemmas.{cycle_first, twice_first}
-use Rattle.bl_cause.proofs.ListLemmas.{contains_cons, contains_head, contains_none}
 use Rattle.bl_cause.proofs.WalkLemmas.{controls_closed, ranks_leave_no_walk}
 use Rattle.bl_peel.specs.Count.{statement_count}
 use Rattle.bl_peel.specs.Peeled.{peeled}
-use Rattle.bl_cause_trees.specs.inner.Judging.{FailsFirstInBody, IsCauseInBody, IsTreeBy}
+use Rattle.bl_cause_trees.specs.inner.Judging.{FailsFirstInBody, IsCauseInBody, IsPeeledBy}
 use Rattle.bl_cause_trees.specs.Rules.{Fails}
-use Rattle.bl_cause_trees.specs.Trees.{HasWalk, IsTreeOfUnit, clean, is_peeled, too_large}
-use Rattle.bl_cause_trees.proofs.Trees.{same_kind, trees_are_judged, walkless}
+use Rattle.bl_cause_trees.specs.Peeled.{HasWalk, IsPeeledUnit, clean, too_large, with_turns}
+use Rattle.bl_cause_trees.proofs.Peeled.{peeled_units_are_judged, same_kind, walkless}
 
 -- ---- one graph
 
@@ -37,11 +37,11 @@ module _ (FailsIn : Graph → Place → List Place → Type 0) (graph : Graph) w
   of_alone at also any =
       ⊎_elim (λ (is : graph ≡ any.graph). subst (λ it. FailsIn it at also) (sym is) any.fails)
       (λ (later : Contains [] any.graph). absurd (contains_none any.graph later))
-      (contains_cons graph [] any.graph any.is_there)
+      (first_or_further graph [] any.graph any.is_there)
 
   first_alone : (at : Place) (also : List Place) → IsFirst (FailsIn graph) at also → IsFirst (AnyFails FailsIn (graph ∷ [])) at also
   first_alone at also first = (
-    record { graph = graph; is_there = contains_head graph []; fails = first.0 },
+    record { graph = graph; is_there = contains_first graph []; fails = first.0 },
     λ elsewhere further any. first.1 elsewhere further (of_alone elsewhere further any),
   )
 
@@ -77,9 +77,9 @@ module _ (graph : Graph) (order : Order) (rises : IsOrderOf graph order) where
   pub ordered_never_cycle : Never (FailsCycle graph)
   ordered_never_cycle at also fails = ranks_leave_no_walk graph.edges order.ranks rises (fails.edge ∷ fails.rest) fails.closed
 
--- an activity whose own tick graph has an order is its own tree
-pub own_is_tree : (unit : UnitDef) (graph : Graph) (order : Order) → IsGraphOf unit graph → IsOrderOf graph order → IsTreeOfUnit unit unit
-own_is_tree unit graph order own rises =
+-- an activity whose own tick graph has an order stays as it is
+pub own_is_peeled : (unit : UnitDef) (graph : Graph) (order : Order) → IsGraphOf unit graph → IsOrderOf graph order → IsPeeledUnit unit unit
+own_is_peeled unit graph order own rises =
     clean (walkless unit graph own (ordered_never_twice graph order rises) (ordered_never_cycle graph order rises))
 
 -- ---- a graph that fails
@@ -103,34 +103,35 @@ walk_of_first unit graph own _ at also any = absurd any
 pub has_walk : (unit : UnitDef) (r : Rule) (at : Place) (also : List Place) → FailsFirstInBody unit.body r at also → HasWalk unit
 has_walk unit r at also first = walk_of_first unit first.graph first.of_body r at also first.first.fails
 
--- ---- an activity by its tree
+-- ---- an activity by its peeled unit
 
-pub graph_alone : (tree : UnitDef) (graph : Graph) → is_activity tree.kind ≡ true → IsGraphOf tree graph → AreGraphs (tree ∷ []) (graph ∷ [])
-graph_alone tree graph activity own = subst (λ b. EachTwo IsGraphOf (cond b (tree ∷ []) []) (graph ∷ [])) (sym activity) (own, tt)
+pub graph_alone : (peeled_unit : UnitDef) (graph : Graph) → is_activity peeled_unit.kind ≡ true → IsGraphOf peeled_unit graph →
+    AreGraphs (peeled_unit ∷ []) (graph ∷ [])
+graph_alone peeled_unit graph activity own = subst (λ b. EachTwo IsGraphOf (cond b (peeled_unit ∷ []) []) (graph ∷ [])) (sym activity) (own, tt)
 
-module _ (unit tree : UnitDef) (activity : is_activity unit.kind ≡ true) (is : IsTreeOfUnit unit tree) where
-  pub first_by_tree : (r : Rule) (at : Place) (also : List Place) → FailsFirstInBody tree.body r at also →
+module _ (unit peeled_unit : UnitDef) (activity : is_activity unit.kind ≡ true) (is : IsPeeledUnit unit peeled_unit) where
+  pub first_by_peeled : (r : Rule) (at : Place) (also : List Place) → FailsFirstInBody peeled_unit.body r at also →
       FirstOf (Fails (unit ∷ [])) r at also
-  first_by_tree r at also first =
-      alike_first (TreesFail (tree ∷ [])) (Fails (unit ∷ []))
-      (λ s elsewhere further. (trees_are_judged (unit ∷ []) (tree ∷ []) (is, tt) s elsewhere further).1)
-      (λ s elsewhere further. (trees_are_judged (unit ∷ []) (tree ∷ []) (is, tt) s elsewhere further).0) r at also
-      (program_cause (tree ∷ []) (first.graph ∷ [])
-      (graph_alone tree first.graph (ap is_activity (same_kind is) ∙ activity) first.of_body) (refusal.Rule r at also) first.first)
+  first_by_peeled r at also first =
+      alike_first (OwnGraphsFail (peeled_unit ∷ [])) (Fails (unit ∷ []))
+      (λ s elsewhere further. (peeled_units_are_judged (unit ∷ []) (peeled_unit ∷ []) (is, tt) s elsewhere further).1)
+      (λ s elsewhere further. (peeled_units_are_judged (unit ∷ []) (peeled_unit ∷ []) (is, tt) s elsewhere further).0) r at also
+      (program_cause (peeled_unit ∷ []) (first.graph ∷ [])
+      (graph_alone peeled_unit first.graph (ap is_activity (same_kind is) ∙ activity) first.of_body) (refusal.Rule r at also) first.first)
 
-  pub cause_by_tree : (told : Refusal) → IsCauseInBody tree.body told → IsCause (Fails (unit ∷ [])) told
-  cause_by_tree (refusal.Rule r at also) first = first_by_tree r at also first
-  cause_by_tree refusal.NoMemory first = tt
+  pub cause_by_peeled : (told : Refusal) → IsCauseInBody peeled_unit.body told → IsCause (Fails (unit ∷ [])) told
+  cause_by_peeled (refusal.Rule r at also) first = first_by_peeled r at also first
+  cause_by_peeled refusal.NoMemory first = tt
 
 -- ---- an activity by its body with first turns
 
--- the activity with the body that was made for it is its tree
-pub turned_is_tree : (unit : UnitDef) (body inner : List Stmt) → inner ≡ unit.body → body ≡ peeled inner → is_activity unit.kind ≡ true →
-    HasWalk unit → statement_count (peeled inner) ≤ 10_000 → IsTreeBy unit (Some body)
-turned_is_tree unit body inner own made activity walk fits =
-    subst (λ it. IsTreeOfUnit unit (record unit { body = it })) (sym (made ∙ ap peeled own))
-    (is_peeled activity walk (subst (λ it. statement_count (peeled it) ≤ 10_000) own fits))
+-- the activity with the body that was made for it is its peeled unit
+pub turned_is_peeled : (unit : UnitDef) (body inner : List Stmt) → inner ≡ unit.body → body ≡ peeled inner → is_activity unit.kind ≡ true →
+    HasWalk unit → statement_count (peeled inner) ≤ 10_000 → IsPeeledBy unit (Some body)
+turned_is_peeled unit body inner own made activity walk fits =
+    subst (λ it. IsPeeledUnit unit (record unit { body = it })) (sym (made ∙ ap peeled own))
+    (with_turns activity walk (subst (λ it. statement_count (peeled it) ≤ 10_000) own fits))
 
--- an activity whose body with first turns is too large is its own tree
-pub large_is_tree : (unit : UnitDef) (inner : List Stmt) → inner ≡ unit.body → 10_000 < statement_count (peeled inner) → IsTreeOfUnit unit unit
-large_is_tree unit inner own more = too_large (subst (λ it. 10_000 < statement_count (peeled it)) own more)
+-- an activity whose body with first turns is too large stays as it is
+pub large_is_peeled : (unit : UnitDef) (inner : List Stmt) → inner ≡ unit.body → 10_000 < statement_count (peeled inner) → IsPeeledUnit unit unit
+large_is_peeled unit inner own more = too_large (subst (λ it. 10_000 < statement_count (peeled it)) own more)

@@ -1,37 +1,9 @@
 -- What is kept of units, and the first failure over all of them.
-use Rattle.std.proofs.Common.{
-  ◌≡◌,
-  ◌+◌,
-  ◌<◌,
-  ◌≤◌,
-  Bool,
-  true,
-  false,
-  ◌||◌,
-  cond,
-  List,
-  [],
-  ◌∷◌,
-  ◌++◌,
-  ◌⊎◌,
-  inl,
-  inr,
-  ⊎_elim,
-  Option,
-  Some,
-  None,
-  length,
-  get_or,
-  refl,
-  sym,
-  ap,
-  subst,
-  ◌∙◌,
-  append-nil,
-  arith,
-}
+use Rattle.std.proofs.Common.{◌≡◌, ◌+◌, ◌<◌, ◌≤◌, Bool, true, false, ◌||◌, cond, List, [], ◌∷◌, ◌++◌, ◌⊎◌, inl, inr, ⊎_elim, Option, Some, None, length, get_or}
+use Rattle.std.proofs.Common.{refl, sym, ap, subst, ◌∙◌, append-nil, arith}
 use Rattle.std.specs.Prelude.{Contains, if◌then◌else◌, is_some, ⊤}
 use Rattle.std.proofs.lemmas.List.Elements.{filter-append}
+use Rattle.bl_tree.proofs.Basics.{contains_none, first_or_further, true_and_false}
 use Rattle.bl_tree.specs.declared.graph.Graph.{Graph}
 use Rattle.bl_tree.specs.declared.place.Place.{Place}
 use Rattle.bl_tree.specs.declared.rule.Refusal.{Refusal}
@@ -46,35 +18,35 @@ use Rattle.bl_tree.proofs.FirstLemmas.{alike_first}
 use Rattle.bl_cause.specs.Activities.{AreGraphs, AreOrders, EachTwo, IsGraphOf, IsOrderOf, activities}
 use Rattle.bl_cause.specs.declared.order.Order.{Order}
 use Rattle.bl_cause.specs.inner.Graphs.{GraphsFail}
-use Rattle.bl_cause.specs.Rules.{Passes as TreesPass}
+use Rattle.bl_cause.specs.Rules.{Passes as OwnGraphsPass}
 use Rattle.bl_cause.proofs.AlikeLemmas.{program_passes}
-use Rattle.bl_cause.proofs.FirstLemmas.{before_then, before_true, no_later}
-use Rattle.bl_cause.proofs.ListLemmas.{contains_cons, contains_none}
+use Rattle.bl_cause.proofs.FirstLemmas.{no_later}
 use Rattle.bl_cause.proofs.PairLemmas.{contains_either, contains_last, contains_left, each_first, each_push}
 use Rattle.bl_cause_trees.specs.declared.activity.Judged.{Judged}
 use Rattle.bl_cause_trees.specs.declared.units.Kept.{Kept}
-use Rattle.bl_cause_trees.specs.inner.Judging.{AreKept, IsTreeBy, after_activity, after_function, earlier_refusal, with_bodies, with_body}
-use Rattle.bl_cause_trees.specs.Rules.{Fails, FailsInTree, Passes}
-use Rattle.bl_cause_trees.specs.Trees.{AreTrees, of_function}
+use Rattle.bl_cause_trees.specs.inner.Judging.{AreKept, IsPeeledBy, after_activity, after_function, earlier_refusal, with_bodies, with_body}
+use Rattle.bl_cause_trees.specs.Rules.{Fails, FailsInPeeled, Passes}
+use Rattle.bl_cause_trees.specs.Peeled.{ArePeeled, of_function}
 use Rattle.bl_cause_trees.proofs.Judged.{graph_alone, ordered_never_cycle, ordered_never_twice}
-use Rattle.bl_cause_trees.proofs.Trees.{trees_are_judged, true_not_false}
+use Rattle.bl_cause_trees.proofs.Peeled.{peeled_units_are_judged}
+use Rattle.bl_tree.proofs.FirstLemmas.{before_trans, before_true}
 
 -- ---- units with other bodies
 
-pub trees_by : (units : List UnitDef) (bodies : List (Option (List Stmt))) → EachTwo IsTreeBy units bodies → AreTrees units (with_bodies units bodies)
-trees_by [] [] each = tt
-trees_by [] (body ∷ bodies) each = absurd each
-trees_by (unit ∷ units) [] each = absurd each
-trees_by (unit ∷ units) (body ∷ bodies) each = (each.0, trees_by units bodies each.1)
+pub peeled_by : (units : List UnitDef) (bodies : List (Option (List Stmt))) → EachTwo IsPeeledBy units bodies → ArePeeled units (with_bodies units bodies)
+peeled_by [] [] each = tt
+peeled_by [] (body ∷ bodies) each = absurd each
+peeled_by (unit ∷ units) [] each = absurd each
+peeled_by (unit ∷ units) (body ∷ bodies) each = (each.0, peeled_by units bodies each.1)
 
-pub few_bodies : (units : List UnitDef) (bodies : List (Option (List Stmt))) → EachTwo IsTreeBy units bodies → length bodies ≤ length units
+pub few_bodies : (units : List UnitDef) (bodies : List (Option (List Stmt))) → EachTwo IsPeeledBy units bodies → length bodies ≤ length units
 few_bodies [] [] each = omega arith
 few_bodies [] (body ∷ bodies) each = absurd each
 few_bodies (unit ∷ units) [] each = absurd each
 few_bodies (unit ∷ units) (body ∷ bodies) each = let rest = few_bodies units bodies each.1 in omega arith
 
 with_more : (units : List UnitDef) (bodies : List (Option (List Stmt))) (unit : UnitDef) (body : Option (List Stmt)) →
-    EachTwo IsTreeBy units bodies → with_bodies (units ++ unit ∷ []) (bodies ++ body ∷ []) ≡ with_bodies units bodies ++ with_body unit body ∷ []
+    EachTwo IsPeeledBy units bodies → with_bodies (units ++ unit ∷ []) (bodies ++ body ∷ []) ≡ with_bodies units bodies ++ with_body unit body ∷ []
 with_more [] [] unit body each = refl
 with_more [] (other ∷ bodies) unit body each = absurd each
 with_more (first ∷ units) [] unit body each = absurd each
@@ -94,22 +66,22 @@ activities_more units unit b is =
 -- ---- what is kept
 
 module _ (units : List UnitDef) (kept : Kept) (are : AreKept units kept) (unit : UnitDef) where
-  abbrev trees : List UnitDef
-  trees = with_bodies units kept.bodies
+  abbrev peeled_units : List UnitDef
+  peeled_units = with_bodies units kept.bodies
 
   pub function_kept : is_activity unit.kind ≡ false → AreKept (units ++ unit ∷ []) (after_function kept)
   function_kept function =
-      let more = with_more units kept.bodies unit None are.each_tree in
+      let more = with_more units kept.bodies unit None are.each_peeled in
       record {
-        each_tree = each_push IsTreeBy units kept.bodies unit None are.each_tree (of_function function);
+        each_peeled = each_push IsPeeledBy units kept.bodies unit None are.each_peeled (of_function function);
         each_graph = subst (λ it. AreGraphs it kept.graphs) (sym more)
-            (subst (λ it. EachTwo IsGraphOf it kept.graphs) (sym (activities_more trees unit false function ∙ append-nil (activities trees)))
+            (subst (λ it. EachTwo IsGraphOf it kept.graphs) (sym (activities_more peeled_units unit false function ∙ append-nil (activities peeled_units)))
             are.each_graph);
         each_order = are.each_order;
         own = λ none. more ∙ ap (λ it. it ++ unit ∷ []) (are.own none);
       }
 
-  none_peels : (body : Option (List Stmt)) → (kept.peels || is_some body) ≡ false → trees ++ with_body unit body ∷ [] ≡ units ++ unit ∷ []
+  none_peels : (body : Option (List Stmt)) → (kept.peels || is_some body) ≡ false → peeled_units ++ with_body unit body ∷ [] ≡ units ++ unit ∷ []
   none_peels None none = ap (λ it. it ++ unit ∷ []) (are.own (or_first kept.peels none))
     where
       or_first : (b : Bool) → (b || false) ≡ false → b ≡ false
@@ -121,18 +93,18 @@ module _ (units : List UnitDef) (kept : Kept) (are : AreKept units kept) (unit :
       or_true true is = cc
       or_true false is = cc
 
-  pub activity_kept : (judged : Judged) → is_activity unit.kind ≡ true → IsTreeBy unit judged.peeled →
+  pub activity_kept : (judged : Judged) → is_activity unit.kind ≡ true → IsPeeledBy unit judged.peeled →
       IsGraphOf (with_body unit judged.peeled) judged.ordered.graph → IsOrderOf judged.ordered.graph judged.ordered.order →
       AreKept (units ++ unit ∷ []) (after_activity kept judged)
-  activity_kept judged activity tree graph order =
-      let more = with_more units kept.bodies unit judged.peeled are.each_tree in
+  activity_kept judged activity peeled_unit graph order =
+      let more = with_more units kept.bodies unit judged.peeled are.each_peeled in
       let body = with_body unit judged.peeled in
       record {
-        each_tree = each_push IsTreeBy units kept.bodies unit judged.peeled are.each_tree tree;
+        each_peeled = each_push IsPeeledBy units kept.bodies unit judged.peeled are.each_peeled peeled_unit;
         each_graph = subst (λ it. AreGraphs it (kept.graphs ++ judged.ordered.graph ∷ [])) (sym more)
             (subst (λ it. EachTwo IsGraphOf it (kept.graphs ++ judged.ordered.graph ∷ []))
-            (sym (activities_more trees body true (ap is_activity (kind_stays unit judged.peeled) ∙ activity)))
-            (each_push IsGraphOf (activities trees) kept.graphs body judged.ordered.graph are.each_graph graph));
+            (sym (activities_more peeled_units body true (ap is_activity (kind_stays unit judged.peeled) ∙ activity)))
+            (each_push IsGraphOf (activities peeled_units) kept.graphs body judged.ordered.graph are.each_graph graph));
         each_order = each_push IsOrderOf kept.graphs kept.orders judged.ordered.graph judged.ordered.order are.each_order order;
         own = λ none. more ∙ none_peels judged.peeled none;
       }
@@ -147,65 +119,65 @@ module _ (graphs : List Graph) (orders : List Order) (are : AreOrders graphs ord
       let own = each_first IsOrderOf graphs orders any.graph are any.is_there in ordered_never_cycle any.graph own.0 own.2 at also any.fails
   ordered_pass _ at also any = absurd any
 
-pub trees_pass : (units : List UnitDef) (kept : Kept) → AreKept units kept → TreesPass (with_bodies units kept.bodies)
-trees_pass units kept are =
+pub peeled_pass : (units : List UnitDef) (kept : Kept) → AreKept units kept → OwnGraphsPass (with_bodies units kept.bodies)
+peeled_pass units kept are =
     program_passes (with_bodies units kept.bodies) kept.graphs are.each_graph (ordered_pass kept.graphs kept.orders are.each_order)
 
 pub kept_passes : (units : List UnitDef) (kept : Kept) → AreKept units kept → Passes units
 kept_passes units kept are r at also fails =
-    trees_pass units kept are r at also
-    ((trees_are_judged units (with_bodies units kept.bodies) (trees_by units kept.bodies are.each_tree) r at also).0 fails)
+    peeled_pass units kept are r at also
+    ((peeled_units_are_judged units (with_bodies units kept.bodies) (peeled_by units kept.bodies are.each_peeled) r at also).0 fails)
 
--- an activity passes whose tree has a tick graph with an order
+-- an activity passes whose peeled unit has a tick graph with an order
 pub activity_passes : (unit : UnitDef) (body : Option (List Stmt)) (graph : Graph) (order : Order) → is_activity unit.kind ≡ true →
-    IsTreeBy unit body → IsGraphOf (with_body unit body) graph → IsOrderOf graph order → Passes (unit ∷ [])
-activity_passes unit body graph order activity tree own rises r at also fails =
+    IsPeeledBy unit body → IsGraphOf (with_body unit body) graph → IsOrderOf graph order → Passes (unit ∷ [])
+activity_passes unit body graph order activity peeled_unit own rises r at also fails =
     let made = with_body unit body in
     program_passes (made ∷ []) (graph ∷ []) (graph_alone made graph (ap is_activity (kind_stays unit body) ∙ activity) own)
-    (ordered_pass (graph ∷ []) (order ∷ []) (rises, tt)) r at also ((trees_are_judged (unit ∷ []) (made ∷ []) (tree, tt) r at also).0 fails)
+    (ordered_pass (graph ∷ []) (order ∷ []) (rises, tt)) r at also ((peeled_units_are_judged (unit ∷ []) (made ∷ []) (peeled_unit, tt) r at also).0 fails)
 
 -- ---- one unit more
 
 alone_function : (FailsIn : Graph → Place → List Place → Type 0) (unit : UnitDef) → is_activity unit.kind ≡ false → (at : Place) (also : List Place) →
-    FailsInTree FailsIn (unit ∷ []) at also → ⊥
+    FailsInPeeled FailsIn (unit ∷ []) at also → ⊥
 alone_function FailsIn unit function at also fails =
     ⊎_elim
-    (λ (is : unit ≡ fails.unit). true_not_false (is_activity unit.kind) (ap (λ (it : UnitDef). is_activity it.kind) is ∙ fails.activity) function)
-    (λ (none : Contains [] fails.unit). contains_none fails.unit none) (contains_cons unit [] fails.unit fails.is_there)
+    (λ (is : unit ≡ fails.unit). true_and_false (is_activity unit.kind) (ap (λ (it : UnitDef). is_activity it.kind) is ∙ fails.activity) function)
+    (λ (none : Contains [] fails.unit). contains_none fails.unit none) (first_or_further unit [] fails.unit fails.is_there)
 
 no_later_then : (a b c : Place) → AreNoLater (a ∷ []) (b ∷ []) → AreNoLater (b ∷ []) (c ∷ []) → AreNoLater (a ∷ []) (c ∷ [])
 no_later_then a b c one two =
     ⊎_elim
     (λ (less : IsBefore a b).
-    ⊎_elim (λ (more : IsBefore b c). inl (before_then a b c less more))
+    ⊎_elim (λ (more : IsBefore b c). inl (before_trans a b c less more))
     (λ (same : (b ≡ c) × ⊤). inl (subst (IsBefore a) same.0 less)) two)
     (λ (same : (a ≡ b) × ⊤). subst (λ it. AreNoLater (it ∷ []) (c ∷ [])) (sym same.0) two) one
 
 module _ (FailsIn : Graph → Place → List Place → Type 0) (units : List UnitDef) (unit : UnitDef) (at : Place) (also : List Place) where
-  moved : (others : List UnitDef) → (fails : FailsInTree FailsIn others at also) → (all : List UnitDef) → Contains all fails.unit →
-      FailsInTree FailsIn all at also
+  moved : (others : List UnitDef) → (fails : FailsInPeeled FailsIn others at also) → (all : List UnitDef) → Contains all fails.unit →
+      FailsInPeeled FailsIn all at also
   moved others fails all there = record {
     unit = fails.unit;
     is_there = there;
     activity = fails.activity;
-    tree = fails.tree;
-    is_tree = fails.is_tree;
+    peeled_unit = fails.peeled_unit;
+    is_peeled = fails.is_peeled;
     graph = fails.graph;
-    of_tree = fails.of_tree;
+    of_peeled = fails.of_peeled;
     fails = fails.fails;
   }
 
-  in_earlier : FailsInTree FailsIn units at also → FailsInTree FailsIn (units ++ unit ∷ []) at also
+  in_earlier : FailsInPeeled FailsIn units at also → FailsInPeeled FailsIn (units ++ unit ∷ []) at also
   in_earlier fails = moved units fails (units ++ unit ∷ []) (contains_left units (unit ∷ []) fails.unit fails.is_there)
 
-  in_last : FailsInTree FailsIn (unit ∷ []) at also → FailsInTree FailsIn (units ++ unit ∷ []) at also
+  in_last : FailsInPeeled FailsIn (unit ∷ []) at also → FailsInPeeled FailsIn (units ++ unit ∷ []) at also
   in_last fails =
       moved (unit ∷ []) fails (units ++ unit ∷ [])
       (⊎_elim (λ (none : Contains [] fails.unit). absurd (contains_none fails.unit none))
       (λ (is : unit ≡ fails.unit). subst (Contains (units ++ unit ∷ [])) is (contains_last units unit))
       (contains_either [] unit fails.unit fails.is_there))
 
-  in_which : FailsInTree FailsIn (units ++ unit ∷ []) at also → FailsInTree FailsIn units at also ⊎ FailsInTree FailsIn (unit ∷ []) at also
+  in_which : FailsInPeeled FailsIn (units ++ unit ∷ []) at also → FailsInPeeled FailsIn units at also ⊎ FailsInPeeled FailsIn (unit ∷ []) at also
   in_which fails =
       ⊎_elim (λ (there : Contains units fails.unit). inl (moved (units ++ unit ∷ []) fails units there))
       (λ (is : unit ≡ fails.unit).

@@ -1,5 +1,5 @@
 pub mod Deciding
 pub mod Judged
 pub mod KeptUnits
+pub mod Peeled
 pub mod Results
-pub mod Trees

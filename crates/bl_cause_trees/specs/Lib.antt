@@ -1,4 +1,4 @@
 pub mod Laws
+pub mod Peeled
 pub mod Rules
-pub mod Trees
 pub mod inner

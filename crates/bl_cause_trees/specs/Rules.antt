@@ -1,37 +1,33 @@
--- How a program fails the rules Twice and Cycle, which are judged on the trees of its activities.
+-- How a program fails the rules Twice and Cycle, which are judged on its peeled activities.
 use Rattle.std.specs.Prelude.{List, Contains, IsTrue}
 use Rattle.bl_tree.specs.declared.graph.Graph.{Graph}
 use Rattle.bl_tree.specs.declared.place.Place.{Place}
 use Rattle.bl_tree.specs.declared.rule.Rule.{Rule}
 use Rattle.bl_tree.specs.declared.rule.Rule.TheVariants as rule
 use Rattle.bl_tree.specs.declared.tree.Unit.{Unit as UnitDef}
-use Rattle.bl_tree.specs.Rules.{FailsFirst as FirstOf, Passes as NoneOf}
+use Rattle.bl_tree.specs.Rules.{Passes as NoneOf}
 use Rattle.bl_tree.specs.Typing.{is_activity}
 use Rattle.bl_cause.specs.Activities.{IsGraphOf}
 use Rattle.bl_cause.specs.Fails.{FailsCycle, FailsTwice}
-use Rattle.bl_cause_trees.specs.Trees.{IsTreeOfUnit}
+use Rattle.bl_cause_trees.specs.Peeled.{IsPeeledUnit}
 
--- a tick graph of the tree of an activity fails so
-pub record FailsInTree (FailsIn : Graph → Place → List Place → Type 0) (units : List UnitDef) (at : Place) (also : List Place) : Type 0 where
+-- a tick graph of a peeled activity fails so
+pub record FailsInPeeled (FailsIn : Graph → Place → List Place → Type 0) (units : List UnitDef) (at : Place) (also : List Place) : Type 0 where
   pub unit : UnitDef
   pub is_there : Contains units unit
   pub activity : IsTrue (is_activity unit.kind)
-  pub tree : UnitDef
-  pub is_tree : IsTreeOfUnit unit tree
+  pub peeled_unit : UnitDef
+  pub is_peeled : IsPeeledUnit unit peeled_unit
   pub graph : Graph
-  pub of_tree : IsGraphOf tree graph
+  pub of_peeled : IsGraphOf peeled_unit graph
   pub fails : FailsIn graph at also
 
 -- the rule fails at this place, and its line also names the places of the rest of the walk; the others aren't judged here
 abbrev pub Fails : List UnitDef → Rule → Place → List Place → Type 0
-Fails units rule.Twice at also = FailsInTree FailsTwice units at also
-Fails units rule.Cycle at also = FailsInTree FailsCycle units at also
+Fails units rule.Twice at also = FailsInPeeled FailsTwice units at also
+Fails units rule.Cycle at also = FailsInPeeled FailsCycle units at also
 Fails units _ at also = ⊥
 
--- the rule is the first of Twice and Cycle that fails on trees, and fails first at these places
-abbrev pub FailsFirst : List UnitDef → Rule → Place → List Place → Type 0
-FailsFirst units = FirstOf (Fails units)
-
--- neither Twice nor Cycle fails on trees
+-- neither Twice nor Cycle fails on peeled units
 abbrev pub Passes : List UnitDef → Type 0
 Passes units = NoneOf (Fails units)

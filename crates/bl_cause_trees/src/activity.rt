@@ -1,8 +1,8 @@
-//! One activity, judged by its tree.
+//! One activity, judged by its peeled body.
 
 ghost use Rattle.std.specs.Prelude.{◌≡◌, ◌∷◌, [], IfErr, IfOk, Some, true};
 ghost use Rattle.bl_cause.specs.Activities.{IsGraphOf, IsOrderOf};
-ghost use Rattle.bl_cause_trees.specs.inner.Judging.{FailsFirstInBody, IsCauseInBody, IsTreeBy, with_body};
+ghost use Rattle.bl_cause_trees.specs.inner.Judging.{FailsFirstInBody, IsCauseInBody, IsPeeledBy, with_body};
 ghost use Rattle.bl_cause_trees.specs.Rules.{Fails};
 ghost use Rattle.bl_graph.specs.Graph.{IsTickGraph};
 ghost use Rattle.bl_graph_nodes.specs.Plain.{plain_body};
@@ -15,18 +15,18 @@ use bl_tree::tree::{Stmt, Unit};
 use bl_tree::{List, Place, Refusal, Rule};
 use std::alloc::Global;
 
-/// The tree of an activity for which neither rule fails.
+/// The peeled body of an activity for which neither rule fails.
 #[derive(Drop)]
 pub struct Judged {
-    /// The body with first turns, where the tree has it. Else the activity is its own tree.
+    /// The body with first turns, where the activity needs it. Else the activity stays as it is.
     pub peeled: Option<List<Stmt>>,
     pub ordered: Ordered,
 }
 
-/// The tree of the activity with its tick graph and an order, where neither rule fails for it.
+/// The peeled body of the activity with its tick graph and an order, where neither rule fails for it.
 pub fn judge_activity(alloc: Global, unit: &Unit) -> Result<Judged, Refusal>
     requires activity { is_activity unit.now.kind ≡ true }
-    ensures tree { IfOk result (λ made. IsTreeBy unit.now made.peeled) }
+    ensures peeled { IfOk result (λ made. IsPeeledBy unit.now made.peeled) }
     ensures graph { IfOk result (λ made. IsGraphOf (with_body unit.now made.peeled) made.ordered.graph) }
     ensures order { IfOk result (λ made. IsOrderOf made.ordered.graph made.ordered.order) }
     ensures cause { IfErr result (IsCause (Fails (unit.now ∷ []))) }
@@ -40,11 +40,11 @@ pub fn judge_activity(alloc: Global, unit: &Unit) -> Result<Judged, Refusal>
     }
 }
 
-/// Judges an activity by its tree that by its own tick graph is refused. Where memory was refused nothing more is judged.
+/// Judges an activity by its peeled body that by its own tick graph is refused. Where memory was refused nothing more is judged.
 fn judged_again(alloc: Global, unit: &Unit, own: Refusal) -> Result<Judged, Refusal>
     requires activity { is_activity unit.now.kind ≡ true }
     requires own { IsCauseInBody unit.now.body own }
-    ensures tree { IfOk result (λ made. IsTreeBy unit.now made.peeled) }
+    ensures peeled { IfOk result (λ made. IsPeeledBy unit.now made.peeled) }
     ensures graph { IfOk result (λ made. IsGraphOf (with_body unit.now made.peeled) made.ordered.graph) }
     ensures order { IfOk result (λ made. IsOrderOf made.ordered.graph made.ordered.order) }
     ensures cause { IfErr result (IsCause (Fails (unit.now ∷ []))) }
@@ -65,7 +65,7 @@ fn with_first_turns(
 ) -> Result<Judged, Refusal>
     requires activity { is_activity unit.now.kind ≡ true }
     requires own { FailsFirstInBody unit.now.body rule place also }
-    ensures tree { IfOk result (λ made. IsTreeBy unit.now made.peeled) }
+    ensures peeled { IfOk result (λ made. IsPeeledBy unit.now made.peeled) }
     ensures graph { IfOk result (λ made. IsGraphOf (with_body unit.now made.peeled) made.ordered.graph) }
     ensures order { IfOk result (λ made. IsOrderOf made.ordered.graph made.ordered.order) }
     ensures cause { IfErr result (IsCause (Fails (unit.now ∷ []))) }
@@ -77,7 +77,7 @@ fn with_first_turns(
     }
 }
 
-/// Judges a tree by its body.
+/// Judges a peeled body.
 fn by_body(alloc: Global, body: List<Stmt>) -> Result<Judged, Refusal>
     ensures body { IfOk result (λ made. made.peeled ≡ Some body) }
     ensures graph { IfOk result (λ made. IsTickGraph (plain_body body) made.ordered.graph.nodes made.ordered.graph.edges) }

@@ -1,20 +1,20 @@
-//! Laws of trees, each the contract of a function that does nothing.
+//! Laws of peeled units, each the contract of a function that does nothing.
 
-ghost use Rattle.bl_cause_trees.specs.Laws.{PassingUnitsStay, TreesAreJudged, TreesAreOne, TreesArePeeled, TreesAreThere};
+ghost use Rattle.bl_cause_trees.specs.Laws.{PassingUnitsStay, PeeledAreJudged, PeeledAreOne, PeeledAreThere, UnitsArePeeled};
 
 use bl_cause_laws::bodies_have_graphs;
 
-/// Each list of units has exactly one list of trees.
-pub fn units_have_one_list_of_trees()
-    ensures there { TreesAreThere }
-    ensures one { TreesAreOne }
+/// Each list of units has exactly one list of peeled units.
+pub fn units_are_peeled_in_one_way()
+    ensures there { PeeledAreThere }
+    ensures one { PeeledAreOne }
 {
     bodies_have_graphs();
 }
 
-/// To judge the two rules on the trees of units is to judge them for units that have the bodies of these trees.
-pub fn trees_are_judged()
-    ensures { TreesAreJudged }
+/// To judge the two rules on peeled units is to judge them for units that have their bodies.
+pub fn peeled_units_are_judged()
+    ensures { PeeledAreJudged }
 {}
 
 /// Nothing is peeled where the two rules pass anyway.
@@ -23,6 +23,6 @@ pub fn passing_units_stay()
 {}
 
 /// What laws of peeled programs ask of two lists of units.
-pub fn trees_are_peeled()
-    ensures { TreesArePeeled }
+pub fn units_are_peeled()
+    ensures { UnitsArePeeled }
 {}

@@ -1,4 +1,4 @@
-//! Units, judged by their trees one after another.
+//! Units, judged by their peeled bodies one after another.
 
 ghost use Rattle.std.specs.Prelude.{◌≡◌, ◌∷◌, [], ◌++◌, IfErr, IfOk, List as Elements, OnOk};
 ghost use Rattle.bl_cause_trees.specs.inner.Judging.{AreKept, after_activity, after_function, comes_first, earlier_refusal};
@@ -17,17 +17,17 @@ use std::alloc::Global;
 /// What is kept of units for which neither rule fails.
 #[derive(Drop)]
 pub struct Kept {
-    /// For each unit its body with first turns, where its tree has it.
+    /// For each unit its body with first turns, where it needs that.
     pub bodies: List<Option<List<Stmt>>>,
-    /// The tick graphs of the trees of activities, in the order of units.
+    /// The tick graphs of the peeled activities, in the order of units.
     pub graphs: List<Graph>,
     /// An order for each of them.
     pub orders: List<Order>,
-    /// Whether some tree isn't the unit itself.
+    /// Whether some unit doesn't stay as it is.
     pub peels: bool,
 }
 
-/// The trees of the units, where neither rule fails on them. All are judged, since a later one may fail at an earlier place.
+/// The peeled bodies of the units, where neither rule fails on them. All are judged, since a later one may fail at an earlier place.
 pub fn judged_units(alloc: Global, units: &[Unit]) -> Result<Kept, Refusal>
     ensures kept { IfOk result (AreKept units.now) }
     ensures cause { IfErr result (IsCause (Fails units.now)) }
@@ -77,7 +77,7 @@ fn behind_kept(alloc: Global, unit: &Unit, kept: Kept) -> Result<Kept, Refusal>
     }
 }
 
-/// Keeps a function, which is its own tree.
+/// Keeps a function, which stays as it is.
 fn keep_function(kept: Kept) -> Result<Kept, Refusal>
     ensures kept { IfOk result (λ next. next ≡ after_function kept) }
     ensures want { IfErr result (λ refusal. refusal ≡ Refusal.NoMemory) }
@@ -89,7 +89,7 @@ fn keep_function(kept: Kept) -> Result<Kept, Refusal>
     }
 }
 
-/// Keeps the tree of an activity.
+/// Keeps the peeled body of an activity.
 fn keep_activity(kept: Kept, judged: Judged) -> Result<Kept, Refusal>
     ensures kept { IfOk result (λ next. next ≡ after_activity kept judged) }
     ensures want { IfErr result (λ refusal. refusal ≡ Refusal.NoMemory) }

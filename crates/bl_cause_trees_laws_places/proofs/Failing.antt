@@ -1,35 +1,34 @@
 -- The rules Twice and Cycle fail at the images of places, where places are mapped.
-use Rattle.std.proofs.Common.{◌≡◌, ⊎_elim, Bool, true, false, ◌&&◌, ℕ, ◌<◌, List, [], ◌∷◌, length, map, refl, ap, sym, subst, ◌∙◌}
+use Rattle.std.proofs.Common.{◌≡◌, ⊎_elim, Bool, true, false, ◌&&◌, ◌<◌, List, [], ◌∷◌, length, map, refl, ap, sym, subst, ◌∙◌}
 use Rattle.std.specs.Prelude.{◌↔◌, Contains, IsTrue, nat_lt}
 use Rattle.std.specs.List.{list_all}
 use Rattle.std.proofs.lemmas.Bool.{ltb-true}
+use Rattle.bl_tree.proofs.Basics.{contains_mapped, contains_none, first_or_further}
 use Rattle.bl_tree.specs.declared.graph.Edge.{Edge}
 use Rattle.bl_tree.specs.declared.graph.Graph.{Graph}
 use Rattle.bl_tree.specs.declared.place.Place.{Place}
-use Rattle.bl_tree.specs.declared.rule.Rule.{Rule}
 use Rattle.bl_tree.specs.declared.rule.Rule.TheVariants as rule
 use Rattle.bl_tree.specs.declared.tree.Unit.{Unit as UnitDef}
 use Rattle.bl_tree.specs.Typing.{is_activity}
 use Rattle.bl_tree_laws_places.specs.Laws.{BringsBack, FailsMoved}
 use Rattle.bl_tree_laws_places.specs.Placed.{placed_unit, placed_units}
-use Rattle.bl_tree_laws_places.proofs.Lists.{first_or, from_map, into_map, none_there}
+use Rattle.bl_tree_laws_places.proofs.Lists.{from_map}
 use Rattle.bl_cause.specs.Activities.{IsGraphOf}
 use Rattle.bl_cause.specs.Fails.{BeginsWalk, FailsCycle, FailsTwice}
 use Rattle.bl_cause.specs.Walks.{controls}
 use Rattle.bl_cause.proofs.WalkLemmas.{control_is}
-use Rattle.bl_cause_trees.specs.Rules.{Fails, FailsInTree}
-use Rattle.bl_cause_trees.specs.Trees.{IsTreeOfUnit}
-use Rattle.bl_graph_laws_places.specs.Placed.{placed_nodes}
+use Rattle.bl_cause_trees.specs.Rules.{Fails, FailsInPeeled}
+use Rattle.bl_cause_trees.specs.Peeled.{IsPeeledUnit}
 use Rattle.bl_cause_trees_laws_places.specs.Laws.{FailuresMove, PassingStays}
-use Rattle.bl_cause_trees_laws_places.proofs.Trees.{Source, graph_from, graph_to, moved_graph, tree_from, tree_to}
-use Rattle.bl_cause_trees_laws_places.proofs.Walks.{Begins, Moved, begins_from, begins_to}
+use Rattle.bl_cause_trees_laws_places.proofs.Peeled.{graph_from, graph_to, moved_graph, peeled_from, peeled_to}
+use Rattle.bl_cause_trees_laws_places.proofs.Walks.{Begins, begins_from, begins_to}
 
 -- what holds of all elements holds of each
 all_at : {X : Type 0} (test : X → Bool) (xs : List X) → list_all test xs ≡ true → (x : X) → Contains xs x → test x ≡ true
-all_at test [] all x there = absurd (none_there x there)
+all_at test [] all x there = absurd (contains_none x there)
 all_at test (y ∷ xs) all x there =
     ⊎_elim (λ is. ap test (sym is) ∙ and_first (test y) (list_all test xs) all)
-    (λ behind. all_at test xs (and_second (test y) (list_all test xs) all) x behind) (first_or y xs x there)
+    (λ behind. all_at test xs (and_second (test y) (list_all test xs) all) x behind) (first_or_further y xs x there)
   where
     and_first : (a b : Bool) → (a && b) ≡ true → a ≡ true
     and_first true b e = refl
@@ -110,15 +109,15 @@ module _ (f g : Place → Place) (back : BringsBack g f) (units : List UnitDef) 
   record InSource (at : Place) (also : List Place) : Type 0 where
     source : Place
     further : List Place
-    fails : FailsInTree FailsIn units source further
+    fails : FailsInPeeled FailsIn units source further
     is_at : at ≡ f source
     is_also : also ≡ map f further
 
-  fails_from : (at : Place) (also : List Place) → FailsInTree FailsIn (placed_units f units) at also → InSource at also
+  fails_from : (at : Place) (also : List Place) → FailsInPeeled FailsIn (placed_units f units) at also → InSource at also
   fails_from at also h =
       let unit = from_map (placed_unit f) units h.unit h.is_there in
-      let tree = tree_from f g back unit.source (subst (λ (u : UnitDef). IsTreeOfUnit u h.tree) unit.is h.is_tree) in
-      let graph = graph_from f g back tree.source h.graph (subst (λ (u : UnitDef). IsGraphOf u h.graph) tree.is h.of_tree) in
+      let peeled_unit = peeled_from f g back unit.source (subst (λ (u : UnitDef). IsPeeledUnit u h.peeled_unit) unit.is h.is_peeled) in
+      let graph = graph_from f g back peeled_unit.source h.graph (subst (λ (u : UnitDef). IsGraphOf u h.graph) peeled_unit.is h.of_peeled) in
       let seen = follows.to_source graph.source at also
       (follows.same h.graph (moved_graph f graph.source) graph.nodes graph.edges at also h.fails) in
       record {
@@ -128,25 +127,25 @@ module _ (f g : Place → Place) (back : BringsBack g f) (units : List UnitDef) 
           unit = unit.source;
           is_there = unit.is_there;
           activity = subst (λ (u : UnitDef). IsTrue (is_activity u.kind)) unit.is h.activity;
-          tree = tree.source;
-          is_tree = tree.is_tree;
+          peeled_unit = peeled_unit.source;
+          is_peeled = peeled_unit.is_peeled;
           graph = graph.source;
-          of_tree = graph.of_unit;
+          of_peeled = graph.of_unit;
           fails = seen.fails;
         };
         is_at = seen.is_at;
         is_also = seen.is_also;
       }
 
-  fails_to : (at : Place) (also : List Place) → InSource at also → FailsInTree FailsIn (placed_units f units) at also
+  fails_to : (at : Place) (also : List Place) → InSource at also → FailsInPeeled FailsIn (placed_units f units) at also
   fails_to at also h = let fails = h.fails in record {
     unit = placed_unit f fails.unit;
-    is_there = into_map (placed_unit f) units fails.unit fails.is_there;
+    is_there = contains_mapped (placed_unit f) units fails.unit fails.is_there;
     activity = fails.activity;
-    tree = placed_unit f fails.tree;
-    is_tree = tree_to f g back fails.unit fails.is_tree;
+    peeled_unit = placed_unit f fails.peeled_unit;
+    is_peeled = peeled_to f g back fails.unit fails.is_peeled;
     graph = moved_graph f fails.graph;
-    of_tree = graph_to f g back fails.tree fails.graph fails.of_tree;
+    of_peeled = graph_to f g back fails.peeled_unit fails.graph fails.of_peeled;
     fails = follows.from_source fails.graph at also
         (record { source = h.source; further = h.further; fails = fails.fails; is_at = h.is_at; is_also = h.is_also });
   }

@@ -1,3 +1,3 @@
 pub mod Failing
-pub mod Trees
+pub mod Peeled
 pub mod Walks

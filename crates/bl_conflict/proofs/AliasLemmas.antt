@@ -10,7 +10,7 @@ use Rattle.bl_tree.specs.declared.tree.StmtKind.TheOpen.{StmtKind-F}
 use Rattle.bl_tree.specs.declared.tree.StmtKind.TheVariants.{If, outs-If}
 use Rattle.bl_tree.specs.Reduce.{joined}
 use Rattle.bl_effects.specs.declared.marked.Marked.{Marked}
-use Rattle.bl_effects.specs.Rules.{Aliased, aliased_with, aliases_in, arm_aliases, branch_aliases, kind_aliases, outputs_aliased, stmt_aliases}
+use Rattle.bl_effects.specs.Rules.{Aliased, aliased_with, aliases_in, arm_aliases, branch_aliases, kind_aliases, stmt_aliases}
 use Rattle.bl_tree.specs.Static.{overlaps}
 use Rattle.bl_tree.specs.declared.rule.Failure.{Failure}
 use Rattle.bl_conflict.specs.inner.Failures.{added, aliases_of_arm, aliases_of_branch, least_by, of_alias, place_overlapping}
@@ -46,10 +46,6 @@ if_is s best made arms rest other is same same_rest =
 
 -- ---- outputs
 
-either : Option Place → Option Place → Option Place
-either (Some a) b = Some a
-either None b = b
-
 pub none_before : (others more : List Marked) (one : Marked) → place_overlapping others one ≡ None →
     place_overlapping (others ++ more) one ≡ place_overlapping more one
 none_before [] more one none = refl
@@ -79,11 +75,3 @@ added_is best one (Some other) = refl
 pub aliased_is : (best : Option Failure) (others : List Marked) (one : Marked) →
     added best one.place (place_overlapping others one) ≡ least_by of_alias best (aliased_with others one)
 aliased_is best others one = added_is best one (find (λ other. overlaps one.path other.path) others)
-
--- one more output
-pub output-next : (inputs before all rest : List Marked) (one : Marked) (best found : Option Failure) → all ≡ one ∷ rest →
-    least_by of_alias best (outputs_aliased inputs before all) ≡ found →
-    least_by of_alias (least_by of_alias best (aliased_with (before ++ inputs) one)) (outputs_aliased inputs (before ++ one ∷ []) rest) ≡ found
-output-next inputs before all rest one best found is h =
-    sym (least-append of_alias best (aliased_with (before ++ inputs) one) (outputs_aliased inputs (before ++ one ∷ []) rest))
-    ∙ ap (λ l. least_by of_alias best (outputs_aliased inputs before l)) (sym is) ∙ h

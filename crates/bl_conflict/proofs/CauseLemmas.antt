@@ -1,26 +1,7 @@
 -- What is found first is why a program is refused, and where nothing is found it passes.
-use Rattle.std.proofs.Common.{
-  ◌≡◌,
-  Bool,
-  true,
-  false,
-  ◌&&◌,
-  cond,
-  List,
-  [],
-  ◌∷◌,
-  ◌++◌,
-  map,
-  inl,
-  ⊎_elim,
-  Option,
-  Some,
-  None,
-  refl,
-  sym,
-  subst,
-}
+use Rattle.std.proofs.Common.{◌≡◌, Bool, true, false, ◌&&◌, cond, List, [], ◌∷◌, ◌++◌, map, inl, ⊎_elim, Option, Some, None, refl, sym, subst}
 use Rattle.std.specs.Prelude.{slice_get}
+use Rattle.std.proofs.lemmas.Bool.{and_from, and_parts}
 use Rattle.bl_tree.specs.declared.place.Place.{Place}
 use Rattle.bl_tree.specs.declared.rule.Failure.{Failure}
 use Rattle.bl_tree.specs.declared.rule.Refusal.{Refusal}
@@ -35,26 +16,9 @@ use Rattle.bl_tree.specs.Typing.{is_activity}
 use Rattle.bl_tree.proofs.FirstLemmas.{In, alike_first, alike_passes, contains_in, first_fails, in_contains, is_cause, none_passes}
 use Rattle.bl_effects.specs.declared.marked.Marked.{Marked}
 use Rattle.bl_effects.specs.Rules.{Fails, FailsAlias, FailsConflict, FailsInstant, FailsPause, Passes, instant_loops, splits_of}
-use Rattle.bl_conflict.specs.inner.Failures.{
-  alias_failures,
-  aliases_of_unit,
-  clash_of,
-  clashes,
-  clashes_at,
-  clashes_of_unit,
-  clashes_under,
-  clashes_with,
-  conflict_failures,
-  failures,
-  instant_failures,
-  loops_of,
-  of_alias,
-  of_clash,
-  of_loop,
-  of_pause,
-  pause_failures,
-  pause_of,
-}
+use Rattle.bl_conflict.specs.inner.Failures.{alias_failures, aliases_of_unit, clash_of, clashes, clashes_at, clashes_of_unit, clashes_under, clashes_with}
+use Rattle.bl_conflict.specs.inner.Failures.{conflict_failures, failures, instant_failures, loops_of, of_alias, of_clash, of_loop, of_pause, pause_failures}
+use Rattle.bl_conflict.specs.inner.Failures.{pause_of}
 use Rattle.bl_conflict.proofs.InLemmas.{append_left, append_right, in_append, in_joined, in_map, joined_in, map_in}
 
 -- ---- tests
@@ -74,14 +38,6 @@ in_if_list false xs a h = absurd h
 if_list_in : {A : Type 0} (test : Bool) (xs : List A) (a : A) → test ≡ true → In a xs → In a (cond test xs [])
 if_list_in true xs a is h = h
 if_list_in false xs a is h = absurd (cc)
-
-both_true : (a b : Bool) → (a && b) ≡ true → (a ≡ true) × (b ≡ true)
-both_true true b is = (refl, is)
-both_true false b is = absurd (cc)
-
-true_both : (a b : Bool) → a ≡ true → b ≡ true → (a && b) ≡ true
-true_both true b one two = two
-true_both false b one two = absurd (cc)
 
 -- ---- each rule's list
 
@@ -105,7 +61,7 @@ module _ (units : List UnitDef) where
       let from = in_joined pause_of units failure h in
       let unit = from.source in
       let made = in_if (is_activity unit.kind && is_instant_block unit.body) (of_pause unit.place) failure from.made in
-      let tests = both_true (is_activity unit.kind) (is_instant_block unit.body) made.0 in
+      let tests = and_parts (is_activity unit.kind) (is_instant_block unit.body) made.0 in
       let fails : FailsPause units unit.place [] =
       record { unit = unit; is_there = in_contains unit units from.is_there; activity = tests.0; ends = tests.1; at_name = refl; alone = refl } in
       subst ByName (sym made.1) fails
@@ -114,7 +70,7 @@ module _ (units : List UnitDef) where
   pause_to at also fails =
       joined_in pause_of units fails.unit (of_pause fails.unit.place) (contains_in fails.unit units fails.is_there)
       (if_in (is_activity fails.unit.kind && is_instant_block fails.unit.body) (of_pause fails.unit.place)
-      (true_both (is_activity fails.unit.kind) (is_instant_block fails.unit.body) fails.activity fails.ends))
+      (and_from (is_activity fails.unit.kind) (is_instant_block fails.unit.body) fails.activity fails.ends))
 
   instant_from : (failure : Failure) → In failure (map of_loop (instant_failures units)) → ByName failure
   instant_from failure h =

@@ -1,36 +1,7 @@
 -- The first of several failures, list by list.
-use Rattle.std.proofs.Common.{
-  ◌≡◌,
-  ℕ,
-  zero,
-  suc,
-  ◌+◌,
-  ◌<◌,
-  ◌≤◌,
-  Bool,
-  true,
-  false,
-  ◌&&◌,
-  ◌||◌,
-  List,
-  [],
-  ◌∷◌,
-  ◌++◌,
-  map,
-  length,
-  get_or,
-  drop,
-  Option,
-  None,
-  refl,
-  ap,
-  sym,
-  ◌∙◌,
-  add-one,
-  append_assoc,
-  arith,
-}
-use Rattle.std.proofs.Math.Seq.{drop-cons}
+use Rattle.std.proofs.Common.{◌≡◌, ℕ, zero, suc, ◌+◌, ◌<◌, ◌≤◌, Bool, false, ◌&&◌, ◌||◌, List, [], ◌∷◌, ◌++◌, map, length, drop, Option}
+use Rattle.std.proofs.Common.{refl, ap, sym, ◌∙◌, append_assoc, arith}
+use Rattle.bl_tree.proofs.Basics.{and_assoc, map_append, or_assoc}
 use Rattle.bl_tree.proofs.ReduceLemmas.{joined-append}
 use Rattle.bl_tree.specs.declared.tree.Var.{Var}
 use Rattle.bl_tree.specs.Reduce.{all_of, any_of, joined}
@@ -41,9 +12,6 @@ use Rattle.bl_tree.specs.declared.rule.Failure.{Failure}
 use Rattle.bl_tree.specs.Rules.{first_of, lesser}
 use Rattle.bl_conflict.specs.inner.Failures.{all_clashes, clashes, least_by}
 
-pub next_of : {X : Type 0} (xs : List X) (k : ℕ) (x : X) → k < length xs → x ≡ get_or xs k x → drop k xs ≡ x ∷ drop (k + 1) xs
-next_of xs k x within is = rw add-one (drop-cons xs k x within ∙ ap (λ y. y ∷ drop (suc k) xs) (sym is))
-
 pub first-append : (best : Option Failure) (xs ys : List Failure) → first_of best (xs ++ ys) ≡ first_of (first_of best xs) ys
 first-append best [] ys = refl
 first-append best (x ∷ xs) ys = first-append (lesser best x) xs ys
@@ -52,11 +20,6 @@ pub least-append : {A : Type 0} (f : A → Failure) (best : Option Failure) (xs 
     → least_by f best (xs ++ ys) ≡ least_by f (least_by f best xs) ys
 least-append f best [] ys = refl
 least-append f best (x ∷ xs) ys = least-append f (lesser best (f x)) xs ys
-
--- four lists, one after another
-pub four_are : (a b c d : List Failure) → first_of (first_of (first_of (first_of None a) b) c) d ≡ first_of None (a ++ (b ++ (c ++ d)))
-four_are a b c d =
-    sym (first-append (first_of (first_of None a) b) c d) ∙ sym (first-append (first_of None a) b (c ++ d)) ∙ sym (first-append None a (b ++ (c ++ d)))
 
 -- one more list of failures
 pub first-next : {X : Type 0} (g : X → List Failure) (all rest : List X) (x : X) (best found : Option Failure) → all ≡ x ∷ rest →
@@ -75,14 +38,6 @@ pub more-next : {A X : Type 0} (g : X → List A) (all rest : List X) (x : X) (d
     done ++ joined (map g all) ≡ found → (done ++ g x) ++ joined (map g rest) ≡ found
 more-next g all rest x done found is h = append_assoc done (g x) (joined (map g rest)) ∙ ap (λ l. done ++ joined (map g l)) (sym is) ∙ h
 
-and_assoc : (a b c : Bool) → ((a && b) && c) ≡ (a && (b && c))
-and_assoc true b c = refl
-and_assoc false b c = refl
-
-or_assoc : (a b c : Bool) → ((a || b) || c) ≡ (a || (b || c))
-or_assoc true b c = refl
-or_assoc false b c = refl
-
 -- one more answer
 pub all-next : {X : Type 0} (g : X → Bool) (all rest : List X) (x : X) (done found : Bool) → all ≡ x ∷ rest →
     (done && all_of (map g all)) ≡ found → ((done && g x) && all_of (map g rest)) ≡ found
@@ -94,12 +49,8 @@ any-next g all rest x done found is h = or_assoc done (g x) (any_of (map g rest)
 
 -- ---- branches
 
-map-append : {A B : Type 0} (f : A → B) (xs ys : List A) → map f (xs ++ ys) ≡ map f xs ++ map f ys
-map-append f [] ys = refl
-map-append f (x ∷ xs) ys = ap (λ rest. f x ∷ rest) (map-append f xs ys)
-
 pub clashes-append : (vars : List Var) (xs ys : List Split) → all_clashes vars (xs ++ ys) ≡ all_clashes vars xs ++ all_clashes vars ys
-clashes-append vars xs ys = ap joined (map-append (clashes vars) xs ys) ∙ joined-append (map (clashes vars) xs) (map (clashes vars) ys)
+clashes-append vars xs ys = ap joined (map_append (clashes vars) xs ys) ∙ joined-append (map (clashes vars) xs) (map (clashes vars) ys)
 
 -- the branches of one more statement
 pub clash-next : (vars : List Var) (all rest : List Parallel) (x : Parallel) (best found : Option Failure) → all ≡ x ∷ rest →

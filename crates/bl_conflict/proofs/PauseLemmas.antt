@@ -1,5 +1,5 @@
 -- What is found of a statement beside its loops is whether it may end in the tick in which it begins.
-use Rattle.std.proofs.Common.{◌≡◌, Bool, true, false, ◌&&◌, ◌||◌, not, List, [], ◌∷◌, map, Option, refl, ap, sym, ◌∙◌}
+use Rattle.std.proofs.Common.{◌≡◌, Bool, true, false, ◌&&◌, ◌||◌, List, [], ◌∷◌, map, Option, refl, ap, sym, ◌∙◌}
 use Rattle.std.specs.Prelude.{All, if◌then◌else◌}
 use Rattle.std.proofs.lemmas.List.Elements.{All-head, All-tail}
 use Rattle.bl_tree.proofs.StmtInduction.{Cases, Each, EachArm, EachBranch, induct, stmt}
@@ -129,11 +129,3 @@ pause_some unit made activity ends best is_kind active_so is same some =
     let active : is_activity unit.kind ≡ true = sym is_kind ∙ active_so in
     ap (λ ends. first_of best (listed true ends unit.place)) (sym told)
     ∙ ap (λ activity. first_of best (listed activity (is_instant_block unit.body) unit.place)) (sym active)
-
-pub not_true : (b : Bool) → not b ≡ true → b ≡ false
-not_true true is = sym is
-not_true false is = refl
-
-pub not_false : (b : Bool) → not b ≡ false → b ≡ true
-not_false true is = refl
-not_false false is = sym is

@@ -1,95 +1,17 @@
 -- A write that overlaps no earlier one conflicts with none.
-use Rattle.std.proofs.Common.{
-  ◌≡◌,
-  ℕ,
-  zero,
-  suc,
-  ◌+◌,
-  ◌<◌,
-  Bool,
-  true,
-  false,
-  cond,
-  ◌&&◌,
-  ◌||◌,
-  List,
-  [],
-  ◌∷◌,
-  ◌++◌,
-  length,
-  get_or,
-  take,
-  Option,
-  Some,
-  None,
-  refl,
-  ap,
-  sym,
-  ◌∙◌,
-  subst,
-  nat_eq,
-  eqb→eq,
-  T,
-  add-one,
-  arith,
-}
-use Rattle.std.specs.BTreeSet.{BTreeSet, contains}
-use Rattle.std.specs.Ordering.{nat_cmp}
+use Rattle.std.proofs.Common.{◌≡◌, ℕ, zero, suc, ◌+◌, ◌<◌, Bool, true, false, cond, ◌&&◌, ◌||◌, List, [], ◌∷◌, ◌++◌, length, get_or, take, Option, Some, None}
+use Rattle.std.proofs.Common.{refl, ap, sym, ◌∙◌, eqb→eq, add-one, arith}
 use Rattle.std.specs.Prelude.{slice_get}
 use Rattle.bl_tree.specs.declared.place.Place.{Place}
 use Rattle.bl_tree.specs.declared.tree.Var.{Var}
 use Rattle.bl_effects.specs.declared.marked.Marked.{Marked}
 use Rattle.bl_tree.specs.declared.static_path.Static.{Static}
-use Rattle.bl_tree.specs.Static.{is_front, overlaps}
+use Rattle.bl_tree.specs.Static.{overlaps}
 use Rattle.bl_tree.specs.declared.rule.Failure.{Failure}
 use Rattle.bl_tree.specs.Rules.{first_of}
 use Rattle.bl_conflict.specs.inner.Failures.{clash_of, clashes_at, clashes_under, clashes_with, of_clash}
 use Rattle.bl_conflict.specs.declared.touched.Touched.{Touched}
-use Rattle.bl_conflict.specs.inner.Roots.{Grows, HasFront, HasPath, Knows, part_cmp}
-
-nat_same : (m n : ℕ) → nat_eq m n ≡ true → m ≡ n
-nat_same m n is = eqb→eq m n (subst T (sym is) tt)
-
-apart_of : (roots : BTreeSet ℕ) (a b : ℕ) → contains nat_cmp roots a ≡ true → contains nat_cmp roots b ≡ false → nat_eq a b ≡ false
-apart_of roots a b has lacks =
-    elim (nat_eq a b) as (λ test. nat_eq a b ≡ test → test ≡ false) [
-      | false ↦ λ is. refl
-      | true ↦ λ is. absurd (let both : true ≡ false = sym has ∙ ap (contains nat_cmp roots) (nat_same a b is) ∙ lacks in cc)
-    ] refl
-
--- numbers and fields of two paths that are not both the same
-unlike : (a b c p q : Bool) → (a ≡ true → b ≡ true → ⊥) → (a ≡ true → c ≡ true → ⊥) → (a && ((b && p) || (c && q))) ≡ false
-unlike false b c p q one other = refl
-unlike true false false p q one other = refl
-unlike true true c p q one other = absurd (one refl refl)
-unlike true false true p q one other = absurd (other refl refl)
-
--- a root that was not written as a whole, nor in the field
-front_apart : (touched : Touched) (root root' field : ℕ) (fields others : List ℕ) → contains nat_cmp touched.wholes root ≡ false
-    → contains part_cmp touched.parts (root, field) ≡ false → HasFront touched root' others
-    → (nat_eq root' root && (is_front others (field ∷ fields) || is_front (field ∷ fields) others)) ≡ false
-front_apart touched root root' field fields [] whole part known =
-    ap (λ test. test && (is_front [] (field ∷ fields) || is_front (field ∷ fields) [])) (apart_of touched.wholes root' root known whole)
-front_apart touched root root' field fields (other ∷ others) whole part known =
-    unlike (nat_eq root' root) (nat_eq other field) (nat_eq field other) (is_front others fields) (is_front fields others)
-    (λ roots same. never (nat_same root' root roots) (nat_same other field same))
-    (λ roots same. never (nat_same root' root roots) (sym (nat_same field other same)))
-  where
-    never : root' ≡ root → other ≡ field → ⊥
-    never r f = absurd (let both : true ≡ false = sym known ∙ (λ j. contains part_cmp touched.parts (r j, f j)) ∙ part in cc)
-
-pub whole_apart : (touched : Touched) (path other : Static) → contains nat_cmp touched.roots path.root ≡ false → HasPath touched other
-    → overlaps other path ≡ false
-whole_apart touched path other lacks known =
-    ap (λ test. test && (is_front other.fields path.fields || is_front path.fields other.fields))
-    (apart_of touched.roots other.root path.root known.0 lacks)
-
-pub part_apart : (touched : Touched) (path other : Static) (field : ℕ) (fields : List ℕ) → path.fields ≡ field ∷ fields
-    → contains nat_cmp touched.wholes path.root ≡ false → contains part_cmp touched.parts (path.root, field) ≡ false → HasPath touched other
-    → overlaps other path ≡ false
-part_apart touched path other field fields are whole part known =
-    ap (λ all. nat_eq other.root path.root && (is_front other.fields all || is_front all other.fields)) are
-    ∙ front_apart touched path.root other.root field fields other.fields whole part known.1
+use Rattle.bl_conflict.specs.inner.Roots.{Grows, HasFront, HasPath, Knows}
 
 -- ---- a write that overlaps nothing that is known conflicts with nothing
 

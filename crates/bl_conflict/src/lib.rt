@@ -1,6 +1,6 @@
 //! The rules Pause, Conflict, Alias and Instant (docs/LANGUAGE.md, "Rules"), one module each. `check` answers Ok
 //! exactly where none of the four fails. Else it names the first that fails, at its least places, with the further
-//! places of its line (`Rules.antt` of `bl_effects`, `FailsFirst`); want of memory aside. `check_units` is the same for
+//! places of its line (`Rules.antt` of `bl_effects`, `Fails`); want of memory aside. `check_units` is the same for
 //! units that need not be a program's: it looks at nothing but them.
 #![tactic(auto, using(crate::proofs::FirstLemmas::firsts))]
 

@@ -1,26 +1,5 @@
 -- What is expected of expressions and places, by the piece that stands next.
-use Rattle.std.proofs.Common.{
-  ◌≡◌,
-  ℕ,
-  ◌-◌,
-  ◌≤◌,
-  Bool,
-  true,
-  false,
-  ◌||◌,
-  List,
-  [],
-  ◌∷◌,
-  ◌++◌,
-  map,
-  codes,
-  refl,
-  sym,
-  ap,
-  ◌∙◌,
-  subst,
-  arith,
-}
+use Rattle.std.proofs.Common.{◌≡◌, ℕ, ◌-◌, ◌≤◌, Bool, true, false, ◌||◌, List, [], ◌∷◌, ◌++◌, map, codes, refl, sym, ap, ◌∙◌, subst, arith}
 use Rattle.bl_tree.specs.declared.scalar.Width.{Width}
 use Rattle.bl_tree.specs.declared.scalar.Width.TheVariants.{W8, W16, W32, W64}
 use Rattle.bl_ctext.specs.Token.{Token}
@@ -35,23 +14,8 @@ use Rattle.bl_cparse_syntax.specs.declared.grammar.Part.TheVariants.{Expr, Simpl
 use Rattle.bl_cparse_syntax.specs.Pieces.{is_same, first_piece}
 use Rattle.bl_cparse_syntax.specs.Classes.{Class, matches, spells_number}
 use Rattle.bl_cparse_syntax.specs.Classes.Class.{exactly, one_of, a_name, number}
-use Rattle.bl_cparse_syntax.specs.Grammar.{
-  Wanted,
-  Production,
-  Produces,
-  CDerives,
-  IsAmong,
-  productions,
-  wanted_for,
-  needing_none,
-  needing,
-  word,
-  name,
-  digits,
-  the,
-  within_brackets,
-  constant,
-}
+use Rattle.bl_cparse_syntax.specs.Grammar.{Wanted, Production, Produces, CDerives, IsAmong, productions, wanted_for, needing_none, needing, word, name, digits}
+use Rattle.bl_cparse_syntax.specs.Grammar.{the, within_brackets, constant}
 use Rattle.bl_cparse_syntax.specs.Grammar.IsAmong.{here, later}
 use Rattle.bl_cparse_syntax.specs.Tables.{has, starts, absent}
 use Rattle.bl_cparse_syntax.specs.Expects.{Expects}

@@ -1,36 +1,12 @@
 -- From the pieces of a text to the file that it spells.
-use Rattle.std.proofs.Common.{
-  ◌≡◌,
-  ◌≢◌,
-  ℕ,
-  ◌≤◌,
-  ◌<◌,
-  ◌^◌,
-  Bool,
-  true,
-  false,
-  nat_le,
-  ◌==◌,
-  List,
-  [],
-  ◌∷◌,
-  ◌++◌,
-  length,
-  map,
-  drop,
-  refl,
-  sym,
-  ap,
-  ◌∙◌,
-  subst,
-  inl,
-  inr,
-  arith,
-}
+use Rattle.std.proofs.Common.{◌≡◌, ◌≢◌, ℕ, ◌≤◌, ◌<◌, ◌^◌, Bool, true, false, ◌==◌, List, [], ◌∷◌, ◌++◌, length, map, drop, refl, sym, ap, ◌∙◌, subst}
+use Rattle.std.proofs.Common.{arith}
 use Rattle.std.specs.Prelude.{Option, Some, None, MatchOption}
 use Rattle.std.specs.List.{starts_with}
 use Rattle.std.proofs.lemmas.Slice.Eq.{starts_is}
 use Rattle.std.proofs.lemmas.Bool.Decides.{nat_tests, Decides-eqb}
+use Rattle.std.proofs.lemmas.Bool.{and_from}
+use Rattle.bl_tree.proofs.Basics.{at_most_test}
 use Rattle.bl_tree.specs.declared.c.CStruct.{CStruct}
 use Rattle.bl_tree.specs.declared.c.CFunc.{CFunc}
 use Rattle.bl_tree.specs.Reduce.{all_of, joined}
@@ -40,7 +16,6 @@ use Rattle.bl_ctext.specs.Token.{Token, SpacedC}
 use Rattle.bl_ctext.specs.inner.Cut.{are_tokens}
 use Rattle.bl_ctext.specs.Spelling.{struct_tokens, func_tokens, tokens_of}
 use Rattle.bl_ctext.specs.Spellable.{has_any, is_spellable, most_open, spells_func, spells_struct}
-use Rattle.bl_ctext.proofs.Bytes.{both}
 use Rattle.bl_cparse_syntax.specs.Pieces.{pieces}
 use Rattle.bl_ctext.specs.declared.file.CFile.{CFile}
 use Rattle.bl_cparse_syntax.specs.Rules.{Passes, FailsFirst}
@@ -54,13 +29,10 @@ use Rattle.bl_cparse_syntax.proofs.Expecting.{expects_text}
 use Rattle.bl_cparse_syntax.proofs.Once.{no_failure}
 use Rattle.bl_cparse.specs.declared.refusal.CRefusal.{CRefusal}
 use Rattle.bl_cparse.specs.declared.refusal.CRefusal.TheVariants.{NotSubset, NoMemory}
-use Rattle.bl_cparse.specs.Places.{SpellsNone, RefusesNone, RefusesAt}
+use Rattle.bl_cparse.specs.Places.{SpellsNone, RefusesNone}
 use Rattle.bl_cparse.specs.inner.Reading.{part}
 use Rattle.bl_cparse.specs.Places.{WantsMemory}
 use Rattle.bl_cparse.proofs.ItemOpening.{file_opens}
-
-at_most : (a b : ℕ) → a ≤ b → nat_le a b ≡ true
-at_most a b h = grind (arith, nat_tests)
 
 pub whole_tokens : (structs : List CStruct) (funcs : List CFunc) (all rest : List Token) →
     all ≡ joined (map struct_tokens structs) ++ rest → rest ≡ joined (map func_tokens funcs) → all ≡ tokens_of structs funcs
@@ -71,7 +43,7 @@ pub is_file : (structs : List CStruct) (funcs : List CFunc) (all : List Token) �
     all_of (map spells_func funcs) ≡ true → most_open 0 all ≤ 2000 → is_spellable structs funcs ≡ true
 is_file structs funcs all e s f ss fs flat =
     let low : most_open 0 (tokens_of structs funcs) ≤ 2000 = subst (λ ts. most_open 0 ts ≤ 2000) e flat in
-    both _ _ s (both _ _ f (both _ _ ss (both _ _ fs (at_most (most_open 0 (tokens_of structs funcs)) 2000 low))))
+    and_from _ _ s (and_from _ _ f (and_from _ _ ss (and_from _ _ fs (at_most_test (most_open 0 (tokens_of structs funcs)) 2000 low))))
 
 pub spells_file : (structs : List CStruct) (funcs : List CFunc) (text : List ℕ) → pieces text ≡ tokens_of structs funcs →
     are_tokens (pieces text) ≡ true → SpacedC (tokens_of structs funcs) text
@@ -114,11 +86,6 @@ passes_some text front passes none = by_file (spells_some (drop (length PRELUDE.
     by_file : (file : CFile) × SpacedC (tokens_of file.structs file.funcs) (drop (length PRELUDE.now) text) → ⊥
     by_file (file, spaced) = none file (drop (length PRELUDE.now) text, (front, spaced))
 
--- the place at which a text fails
-pub place_short : (text : List ℕ) (start at : ℕ) → length text ≤ 67108864 → FailsFirst text start at → at < 2 ^ 32
-place_short text start at short (inl piece) = let inside : at < length text = piece.there.inside in omega (arith, short, inside)
-place_short text start at short (inr end) = let is : at ≡ length text = end.at_end in omega (arith, short, is)
-
 pub place_is : (text : List ℕ) (at : ℕ) → FailsFirst text (length PRELUDE.now) at → FailsFirst text (length prelude) at
 place_is text at fails = subst (λ (p : List ℕ). FailsFirst text (length p) at) prelude_is fails
 
@@ -153,7 +120,3 @@ expected ts text is passes = file_opens (subst (λ (us : List Token). Expects (p
 pub wants_memory : (text : List ℕ) (r : CRefusal) → WantsMemory r → RefusesNone text r
 wants_memory text (NotSubset at) w = absurd w
 wants_memory text NoMemory w = tt
-
-pub may_refuse : (text : List ℕ) (r : CRefusal) → WantsMemory r → RefusesAt text r
-may_refuse text (NotSubset at) w = absurd w
-may_refuse text NoMemory w = tt

@@ -5,28 +5,8 @@ use Rattle.bl_ctext.specs.Names.{is_among, is_name, is_struct_name, is_function_
 use Rattle.bl_grammar.specs.declared.symbol.Symbol.TheVariants.{Terminal}
 use Rattle.bl_cparse_syntax.specs.declared.grammar.Digits.TheVariants.{Elements}
 use Rattle.bl_cparse_syntax.specs.declared.grammar.Group.TheVariants.{StructWords, FunctionWords}
-use Rattle.bl_cparse_syntax.specs.declared.grammar.Part.TheVariants.{
-  File,
-  Structs,
-  Struct,
-  StructName,
-  Members,
-  Member,
-  TypeName,
-  Length,
-  Funcs,
-  Func,
-  PlainFunc,
-  FuncRest,
-  FuncName,
-  Params,
-  ParamRest,
-  Param,
-  Star,
-  Locals,
-  Local,
-  Stmts,
-}
+use Rattle.bl_cparse_syntax.specs.declared.grammar.Part.TheVariants.{File, Structs, Struct, StructName, Members, Member, TypeName, Length, Funcs, Func}
+use Rattle.bl_cparse_syntax.specs.declared.grammar.Part.TheVariants.{PlainFunc, FuncRest, FuncName, Params, ParamRest, Param, Star, Locals, Local, Stmts}
 use Rattle.bl_cparse_syntax.specs.Pieces.{is_same, first_piece}
 use Rattle.bl_cparse_syntax.specs.Classes.{Class, matches, spells_number}
 use Rattle.bl_cparse_syntax.specs.Classes.Class.{exactly, one_of, a_name, number}

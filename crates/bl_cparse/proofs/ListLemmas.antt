@@ -1,44 +1,16 @@
 -- What is read of a list of parts, with one part more.
-use Rattle.std.proofs.Common.{
-  ◌≡◌,
-  ◌<◌,
-  ◌≤◌,
-  Bool,
-  true,
-  false,
-  List,
-  [],
-  ◌∷◌,
-  ◌++◌,
-  length,
-  map,
-  refl,
-  sym,
-  ap,
-  ◌∙◌,
-  append_assoc,
-  append-nil,
-  arith,
-}
+use Rattle.std.proofs.Common.{◌≡◌, ◌<◌, ◌≤◌, Bool, true, false, List, [], ◌∷◌, ◌++◌, length, map, refl, sym, ap, ◌∙◌, append_assoc, append-nil, arith}
 use Rattle.std.specs.Prelude.{codes}
 use Rattle.std.proofs.lemmas.List.{length-append}
-use Rattle.bl_tree.specs.Reduce.{all_of, joined}
+use Rattle.bl_tree.specs.Reduce.{joined}
 use Rattle.bl_ctext.specs.Token.{Token}
 use Rattle.bl_ctext.specs.Spelling.{listed, with_commas, comma_before}
 use Rattle.bl_ctext.specs.Spellable.{has_any}
-use Rattle.bl_ctext.proofs.Bytes.{and-fst, and-snd, both}
+use Rattle.bl_cparse_syntax_laws.proofs.Told.{joined_more as joined_snoc}
 
 pub any_more : {A : Type 0} (xs : List A) (x : A) → has_any (xs ++ x ∷ []) ≡ true
 any_more [] x = refl
 any_more (y ∷ xs) x = refl
-
-pub all_more : {A : Type 0} (p : A → Bool) (xs : List A) (x : A) → all_of (map p xs) ≡ true → p x ≡ true → all_of (map p (xs ++ x ∷ [])) ≡ true
-all_more p [] x h k = both _ _ k refl
-all_more p (y ∷ xs) x h k = both _ _ (and-fst _ _ h) (all_more p xs x (and-snd _ _ h) k)
-
-pub joined_snoc : {A : Type 0} (f : A → List Token) (xs : List A) (x : A) → joined (map f (xs ++ x ∷ [])) ≡ joined (map f xs) ++ f x
-joined_snoc f [] x = append-nil (f x)
-joined_snoc f (y ∷ xs) x = ap (λ ts. f y ++ ts) (joined_snoc f xs x) ∙ sym (append_assoc (f y) (joined (map f xs)) (f x))
 
 pub joined_more : {A : Type 0} (f : A → List Token) (before old new : List Token) (xs : List A) (x : A) →
     before ≡ joined (map f xs) ++ old → old ≡ f x ++ new → before ≡ joined (map f (xs ++ x ∷ [])) ++ new
@@ -67,18 +39,9 @@ commas_more f before old mid new xs x any h comma k =
     h ∙ (ap (λ ts. with_commas (map f xs) ++ ts) (comma ∙ ap (λ ts. codes "," ∷ ts) k)
     ∙ (sym (append_assoc (with_commas (map f xs)) (codes "," ∷ f x) new) ∙ ap (λ ts. ts ++ new) (sym (commas_snoc f xs x any))))
 
-pub commas_first : {A : Type 0} (f : A → List Token) (old new : List Token) (x : A) → old ≡ f x ++ new → old ≡ with_commas (map f (x ∷ [])) ++ new
-commas_first f old new x h = h ∙ ap (λ ts. ts ++ new) (sym (append-nil (f x)))
-
-pub joined_first : {A : Type 0} (f : A → List Token) (old new : List Token) (x : A) → old ≡ f x ++ new → old ≡ joined (map f (x ∷ [])) ++ new
-joined_first f old new x h = h ∙ ap (λ ts. ts ++ new) (sym (append-nil (f x)))
-
 -- what is left is less where something was read
 pub shorter : (old ts new : List Token) → old ≡ ts ++ new → 1 ≤ length ts → length new < length old
 shorter old ts new h some = omega (arith, ap length h, length-append ts new)
-
-pub no_longer : (old ts new : List Token) → old ≡ ts ++ new → length new ≤ length old
-no_longer old ts new h = omega (arith, ap length h, length-append ts new)
 
 pub some_behind : (xs : List Token) (t : Token) (ys : List Token) → 1 ≤ length (xs ++ (t ∷ ys))
 some_behind xs t ys = omega (arith, length-append xs (t ∷ ys))

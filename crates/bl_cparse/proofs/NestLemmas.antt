@@ -1,22 +1,23 @@
 -- How what is read of statements changes, where one is read, opened or closed.
 use Rattle.std.proofs.Common.{◌≡◌, Bool, true, List, [], ◌∷◌, ◌++◌, map, refl, sym, ap, ◌∙◌, append_assoc, append-nil}
 use Rattle.std.specs.Prelude.{codes}
+use Rattle.std.proofs.lemmas.Bool.{and_from}
+use Rattle.bl_tree.proofs.Basics.{and_first, and_second}
 use Rattle.bl_tree.specs.Reduce.{all_of, joined}
 use Rattle.bl_ctext.specs.Token.{Token}
-use Rattle.bl_ctext.proofs.Bytes.{and-fst, and-snd, both}
-use Rattle.bl_cparse.proofs.ListLemmas.{joined_snoc, all_more}
+use Rattle.bl_cparse_syntax_laws.proofs.Told.{all_more, joined_more}
 
 pub one_more : {A : Type 0} (f : A → List Token) (before body : List A) (s : A) (k : List Token) → body ≡ before ++ s ∷ [] →
     f s ≡ k → joined (map f body) ≡ joined (map f before) ++ k
-one_more f before body s k e h = ap (λ xs. joined (map f xs)) e ∙ (joined_snoc f before s ∙ ap (λ ts. joined (map f before) ++ ts) h)
+one_more f before body s k e h = ap (λ xs. joined (map f xs)) e ∙ (joined_more f before s ∙ ap (λ ts. joined (map f before) ++ ts) h)
 
 pub all_with : {A : Type 0} (p : A → Bool) (before body : List A) (s : A) → body ≡ before ++ s ∷ [] → all_of (map p before) ≡ true →
     p s ≡ true → all_of (map p body) ≡ true
 all_with p before body s e h k = ap (λ xs. all_of (map p xs)) e ∙ all_more p before s h k
 
 all_snoc : {A : Type 0} (p : A → Bool) (xs : List A) (x : A) → all_of (map p (xs ++ x ∷ [])) ≡ true → (all_of (map p xs) ≡ true) × (p x ≡ true)
-all_snoc p [] x h = (refl, and-fst _ _ h)
-all_snoc p (y ∷ xs) x h = let rest = all_snoc p xs x (and-snd _ _ h) in (both _ _ (and-fst _ _ h) rest.0, rest.1)
+all_snoc p [] x h = (refl, and_first _ _ h)
+all_snoc p (y ∷ xs) x h = let rest = all_snoc p xs x (and_second _ _ h) in (and_from _ _ (and_first _ _ h) rest.0, rest.1)
 
 pub all_but : {A : Type 0} (p : A → Bool) (before body : List A) (s : A) → body ≡ before ++ s ∷ [] → all_of (map p body) ≡ true →
     (all_of (map p before) ≡ true) × (p s ≡ true)

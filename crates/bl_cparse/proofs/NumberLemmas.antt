@@ -1,53 +1,23 @@
 -- What the digits of a number are.
-use Rattle.std.proofs.Common.{
-  ◌≡◌,
-  ℕ,
-  suc,
-  ◌+◌,
-  ◌-◌,
-  ◌^◌,
-  ◌≤◌,
-  ◌<◌,
-  Bool,
-  true,
-  false,
-  not,
-  ◌||◌,
-  ◌==◌,
-  nat_eq,
-  nat_le,
-  nat_lt,
-  List,
-  [],
-  ◌∷◌,
-  length,
-  map,
-  refl,
-  sym,
-  ap,
-  ◌∙◌,
-  subst,
-  inl,
-  inr,
-  arith,
-}
+use Rattle.std.proofs.Common.{◌≡◌, ℕ, ◌+◌, ◌-◌, ◌^◌, ◌≤◌, ◌<◌, Bool, true, false, not, ◌||◌, ◌==◌, nat_eq, nat_le, List, [], ◌∷◌, length, map}
+use Rattle.std.proofs.Common.{sym, ap, ◌∙◌, subst, arith}
 use Rattle.std.proofs.lemmas.Bool.Decides.{nat_tests}
 use Rattle.std.proofs.lemmas.Fmt.{decimal-digits_value, decimal_injective}
 use Rattle.std.proofs.lemmas.Str.{IsUtf8-from_ascii}
 use Rattle.std.proofs.lemmas.Str.Ascii.{IsAscii-nil, IsAscii-cons}
-use Rattle.std.proofs.lemmas.Str.Parse.{IsNumeralModel, numerals_by_value, tells_all_ascii_digits, parse_gives}
+use Rattle.std.proofs.lemmas.Str.Parse.{parse_gives}
 use Rattle.std.specs.Char.{is_ascii_digit}
 use Rattle.std.specs.Fmt.{decimal}
 use Rattle.std.specs.Str.{IsAscii, IsUtf8, all_ascii_digits}
 use Rattle.std.specs.Str.Parse.{digits_value, ParsesUnsigned}
 use Rattle.std.specs.Prelude.{Result, Ok, Err}
 use Rattle.std.specs.Cmp.Lexicographic.{pointwise}
+use Rattle.bl_tree.proofs.Basics.{and_first, and_second, at_most_from, less_from}
 use Rattle.bl_tree.specs.Reduce.{all_of}
 use Rattle.bl_tree.specs.declared.scalar.Width.{Width}
 use Rattle.bl_tree.specs.declared.scalar.Width.TheVariants.{W8, W16, W32, W64}
 use Rattle.bl_ctext.specs.Token.{Token}
 use Rattle.bl_ctext.specs.Spelling.{negatives}
-use Rattle.bl_ctext.proofs.Bytes.{and-fst, and-snd, either}
 use Rattle.bl_cparse_syntax.specs.declared.grammar.Digits.{Digits}
 use Rattle.bl_cparse_syntax.specs.Classes.{least, digits_bound, are_digits, spells_number, matches}
 use Rattle.bl_cparse_syntax.specs.Classes.Class.{number}
@@ -55,37 +25,14 @@ use Rattle.bl_cparse_syntax.specs.Pieces.{is_same}
 use Rattle.bl_cparse_syntax.proofs.ClassLemmas.{is_same-self}
 use Rattle.bl_grammar.proofs.Predictive.{not_both}
 use Rattle.bl_cparse_syntax_laws.proofs.Pieces.{bound_le}
-
-digits_own : IsNumeralModel (λ (ds : List ℕ). all_ascii_digits ds ≡ true) (digits_value 10)
-digits_own = numerals_by_value (λ (ds : List ℕ). all_ascii_digits ds ≡ true) tells_all_ascii_digits
-
-all_digits : (ds : List ℕ) → all_of (map is_ascii_digit ds) ≡ true → all_ascii_digits ds ≡ true
-all_digits [] h = refl
-all_digits (d ∷ ds) h = rw (and-fst (is_ascii_digit d) (all_of (map is_ascii_digit ds)) h)
-    (all_digits ds (and-snd (is_ascii_digit d) (all_of (map is_ascii_digit ds)) h))
+use Rattle.bl_cparse_syntax_laws.proofs.Pieces.{all_digits, digits_own, has_some, lone, wide}
 
 digit_ascii : (d : ℕ) → is_ascii_digit d ≡ true → d < 128
 digit_ascii d h = grind (arith, nat_tests)
 
 digits_ascii : (ds : List ℕ) → all_ascii_digits ds ≡ true → IsAscii ds
 digits_ascii [] h = IsAscii-nil
-digits_ascii (d ∷ ds) h = IsAscii-cons d ds (digit_ascii d (and-fst _ _ h)) (digits_ascii ds (and-snd _ _ h))
-
-lone : (b : ℕ) (bs : List ℕ) → (not (b == 48) || nat_le (length bs) 0) ≡ true → b ≡ 48 → suc (length bs) ≡ 1
-lone b bs h e = elim (either (not (b == 48)) (nat_le (length bs) 0) h)
-    [ inl differs ↦ absurd (grind (arith, nat_tests)) | inr short ↦ grind (arith, nat_tests) ]
-
-at_least : (a b : ℕ) → nat_le a b ≡ true → a ≤ b
-at_least a b h = grind (arith, nat_tests)
-
-below : (a b : ℕ) → nat_lt a b ≡ true → a < b
-below a b h = grind (arith, nat_tests)
-
-has_some : (bs : List ℕ) → 0 < suc (length bs)
-has_some bs = omega arith
-
-wide : (a b : ℕ) → a < b → b ≤ 2 ^ 64 → a < 2 ^ 64
-wide a b h k = omega (arith, h, k)
+digits_ascii (d ∷ ds) h = IsAscii-cons d ds (digit_ascii d (and_first _ _ h)) (digits_ascii ds (and_second _ _ h))
 
 -- the number of digits that are of the class
 pub record Numeral (of : Digits) (t : Token) : Type 0 where
@@ -101,12 +48,12 @@ numeral_of : (of : Digits) (t : Token) → spells_number of t ≡ true → Numer
 unfolding spells_number
 numeral_of of [] h = absurd (cc)
 numeral_of of (b ∷ bs) h =
-    let digits = and-fst (are_digits (b ∷ bs)) _ h in
-    let range = and-snd (are_digits (b ∷ bs)) _ h in
-    let high : digits_value 10 (b ∷ bs) < digits_bound of = below (digits_value 10 (b ∷ bs)) (digits_bound of) (and-snd _ _ range) in
+    let digits = and_first (are_digits (b ∷ bs)) _ h in
+    let range = and_second (are_digits (b ∷ bs)) _ h in
+    let high : digits_value 10 (b ∷ bs) < digits_bound of = less_from (digits_value 10 (b ∷ bs)) (digits_bound of) (and_second _ _ range) in
     let all : all_ascii_digits (b ∷ bs) ≡ true = all_digits (b ∷ bs)
-    (and-fst (all_of (map is_ascii_digit (b ∷ bs))) (not (b == 48) || nat_le (length bs) 0) digits) in
-    let zero_alone = and-snd (all_of (map is_ascii_digit (b ∷ bs))) (not (b == 48) || nat_le (length bs) 0) digits in
+    (and_first (all_of (map is_ascii_digit (b ∷ bs))) (not (b == 48) || nat_le (length bs) 0) digits) in
+    let zero_alone = and_second (all_of (map is_ascii_digit (b ∷ bs))) (not (b == 48) || nat_le (length bs) 0) digits in
     let small : digits_value 10 (b ∷ bs) < 2 ^ 64 = wide (digits_value 10 (b ∷ bs)) (digits_bound of) high (bound_le of) in
     record {
       text = IsUtf8-from_ascii (b ∷ bs) (digits_ascii (b ∷ bs) all);
@@ -114,7 +61,7 @@ numeral_of of (b ∷ bs) h =
       some = has_some bs;
       small = small;
       is = sym (decimal-digits_value digits_own (b ∷ bs) all (has_some bs) (λ (e : b ≡ 48). lone b bs zero_alone e) small);
-      low = at_least (least of) (digits_value 10 (b ∷ bs)) (and-fst _ _ range);
+      low = at_most_from (least of) (digits_value 10 (b ∷ bs)) (and_first _ _ range);
       high = high;
     }
 
@@ -154,7 +101,7 @@ written of t w r same {n} p is text test off m =
     same_value : {A E : Type 0} {a b : A} → ◌≡◌ {A = Result A E} (Ok a) (Ok b) → a ≡ b
     same_value e = cc
 
--- the numbers up to one below another
+-- the numbers up to one less_from another
 pub up_to : (w : Width) {n : ℕ} → n ≡ negatives w → negatives w ≡ (n - 1) + 1
 up_to W8 is = omega (arith, is)
 up_to W16 is = omega (arith, is)

@@ -7,7 +7,8 @@ use Rattle.bl_ctext.specs.Token.{Token}
 use Rattle.bl_ctext.specs.Spelling.{with_commas, arg_tokens}
 use Rattle.bl_ctext.specs.Spellable.{has_any}
 use Rattle.bl_cparse.specs.inner.Partial.{args_before}
-use Rattle.bl_cparse.proofs.ListLemmas.{joined_snoc, commas_snoc}
+use Rattle.bl_cparse.proofs.ListLemmas.{commas_snoc}
+use Rattle.bl_cparse_syntax_laws.proofs.Told.{joined_more}
 
 -- some of the next tokens go on what is read
 pub go_on : (fs t p rest new : List Token) → p ≡ fs ++ t → rest ≡ t ++ new → fs ++ rest ≡ p ++ new
@@ -42,63 +43,11 @@ pub place_with : {A : Type 0} (f : A → List Token) (root : List Token) (steps 
     root ++ joined (map f more) ≡ (root ++ joined (map f steps)) ++ f s
 place_with {A = A} f root steps more s e =
     ap (λ (xs : List A). root ++ joined (map f xs)) e
-    ∙ (ap (λ (ts : List Token). root ++ ts) (joined_snoc f steps s) ∙ sym (append_assoc root (joined (map f steps)) (f s)))
-
--- a step is read
-pub step_on : (use_ place longer step old new : List Token) → longer ≡ place ++ step → old ≡ step ++ new →
-    (use_ ++ place) ++ old ≡ (use_ ++ longer) ++ new
-step_on use_ place longer step old new e o =
-    append_assoc use_ place old
-    ∙ (ap (λ (ts : List Token). use_ ++ ts) (ap (λ (ts : List Token). place ++ ts) o
-    ∙ (sym (append_assoc place step new) ∙ ap (λ (ts : List Token). ts ++ new) (sym e)))
-    ∙ sym (append_assoc use_ longer new))
-
--- the front of an index is read
-pub index_on : (place : List Token) (dot member : Token) (front old new : List Token) → old ≡ front ++ new →
-    place ++ dot ∷ member ∷ old ≡ (place ++ dot ∷ member ∷ front) ++ new
-index_on place dot member front old new o =
-    ap (λ (ts : List Token). place ++ dot ∷ member ∷ ts) o ∙ sym (append_assoc place (dot ∷ member ∷ front) new)
-
--- a place that is an argument's
-pub address_on : (front : List Token) (sign : Token) (place old : List Token) →
-    ((front ++ sign ∷ []) ++ place) ++ old ≡ front ++ ((sign ∷ place) ++ old)
-address_on front sign place old =
-    ap (λ (ts : List Token). ts ++ old) (append_assoc front (sign ∷ []) place) ∙ append_assoc front (sign ∷ place) old
+    ∙ (ap (λ (ts : List Token). root ++ ts) (joined_more f steps s) ∙ sym (append_assoc root (joined (map f steps)) (f s)))
 
 -- the innermost of the open brackets is taken off
 pub taken_off : {A : Type 0} (f : A → List Token) (outer items : List A) (held : A) (rest : List Token) → items ≡ outer ++ held ∷ [] →
     joined (map f items) ++ rest ≡ joined (map f outer) ++ (f held ++ rest)
 taken_off {A = A} f outer items held rest e =
-    ap (λ (ts : List Token). ts ++ rest) (ap (λ (xs : List A). joined (map f xs)) e ∙ joined_snoc f outer held)
+    ap (λ (ts : List Token). ts ++ rest) (ap (λ (xs : List A). joined (map f xs)) e ∙ joined_more f outer held)
     ∙ append_assoc (joined (map f outer)) (f held) rest
-
--- tokens with a last one, where it is read
-pub last_on : (front : List Token) (sign : Token) (old new : List Token) → old ≡ sign ∷ new → front ++ old ≡ (front ++ sign ∷ []) ++ new
-last_on front sign old new o = ap (λ (ts : List Token). front ++ ts) o ∙ sym (append_assoc front (sign ∷ []) new)
-
--- `(!`, its operand and the `)` behind it
-pub negation_on : (operand old new : List Token) → old ≡ codes ")" ∷ new →
-    codes "(" ∷ codes "!" ∷ (operand ++ old) ≡ (codes "(" ∷ codes "!" ∷ (operand ++ codes ")" ∷ [])) ++ new
-negation_on operand old new o = ap (λ (ts : List Token). codes "(" ∷ codes "!" ∷ ts) (last_on operand (codes ")") old new o)
-
--- two operands and the `)` behind them
-pub operands_on : (left : List Token) (sign : Token) (right old new : List Token) → old ≡ codes ")" ∷ new →
-    codes "(" ∷ (left ++ sign ∷ (right ++ old)) ≡ (codes "(" ∷ (left ++ sign ∷ (right ++ codes ")" ∷ []))) ++ new
-operands_on left sign right old new o =
-    ap (λ (ts : List Token). codes "(" ∷ ts) (ap (λ (ts : List Token). left ++ sign ∷ ts) (last_on right (codes ")") old new o)
-    ∙ sym (append_assoc left (sign ∷ (right ++ codes ")" ∷ [])) new))
-
--- the first operand and its sign
-pub operator_on : (left : List Token) (sign : Token) (old new : List Token) → old ≡ sign ∷ new →
-    codes "(" ∷ (left ++ old) ≡ (codes "(" ∷ (left ++ sign ∷ [])) ++ new
-operator_on left sign old new o = ap (λ (ts : List Token). codes "(" ∷ ts) (last_on left sign old new o)
-
--- the expression of an index and what ends it
-pub index_end : (place : List Token) (dot member : Token) (front at tail step old new : List Token) →
-    step ≡ dot ∷ member ∷ (front ++ (at ++ tail)) → old ≡ tail ++ new →
-    (place ++ dot ∷ member ∷ front) ++ (at ++ old) ≡ place ++ (step ++ new)
-index_end place dot member front at tail step old new s o =
-    append_assoc place (dot ∷ member ∷ front) (at ++ old)
-    ∙ ap (λ (ts : List Token). place ++ ts) (ap (λ (ts : List Token). dot ∷ member ∷ ts) (ap (λ (ts : List Token). front ++ (at ++ ts)) o
-    ∙ (ap (λ (ts : List Token). front ++ ts) (sym (append_assoc at tail new)) ∙ sym (append_assoc front (at ++ tail) new)))
-    ∙ ap (λ (ts : List Token). ts ++ new) (sym s))

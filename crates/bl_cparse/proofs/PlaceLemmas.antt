@@ -1,27 +1,6 @@
 -- Where a text leaves the prelude.
-use Rattle.std.proofs.Common.{
-  ◌≡◌,
-  ◌≢◌,
-  ℕ,
-  suc,
-  ◌<◌,
-  ◌≤◌,
-  List,
-  [],
-  ◌∷◌,
-  ◌++◌,
-  length,
-  drop,
-  get_or,
-  refl,
-  ap,
-  ◌∙◌,
-  subst,
-  ◌⊎◌,
-  ⊎_elim,
-  arith,
-}
-use Rattle.std.proofs.str.Laws.{order}
+use Rattle.std.proofs.Common.{◌≡◌, ◌≢◌, ℕ, suc, ◌<◌, ◌≤◌, List, [], ◌∷◌, ◌++◌, length, drop, get_or, refl, ap, ◌∙◌, subst, ◌⊎◌, ⊎_elim, arith}
+use Rattle.bl_tree.proofs.Basics.{less_or_not}
 use Rattle.bl_ctext.specs.Prelude.{prelude}
 use Rattle.bl_cparse.specs.Places.{LeavesPreludeAt}
 
@@ -35,15 +14,12 @@ agrees (x ∷ p) (y ∷ text) h same =
     let rest : text ≡ p ++ drop (length p) text = agrees p text (omega (arith, h)) (λ (k : ℕ) (lt : k < length p). same (suc k) (omega (arith, lt))) in
     ap (λ (b : ℕ). b ∷ text) first ∙ ap (λ (bs : List ℕ). x ∷ bs) rest
 
-order_of : (a b : ℕ) → (a < b) ⊎ (b ≤ a)
-order_of a b = order a b
-
 -- the two differ before the one ends
 ends_before : (p text : List ℕ) (n : ℕ) → ((rest : List ℕ) → text ≢ p ++ rest) → n ≤ length text → n ≤ length p →
     ((k : ℕ) → k < n → get_or text k 0 ≡ get_or p k 0) → n < length p
 ends_before p text n other inside within same =
     ⊎_elim (λ less. less) (λ more. absurd (other (drop (length p) text)
-    (agrees p text (omega (arith, inside, more)) (λ (k : ℕ) (lt : k < length p). same k (omega (arith, lt, more)))))) (order_of n (length p))
+    (agrees p text (omega (arith, inside, more)) (λ (k : ℕ) (lt : k < length p). same k (omega (arith, lt, more)))))) (less_or_not n (length p))
 
 pub leaves : (p text : List ℕ) (n : ℕ) → p ≡ prelude → ((rest : List ℕ) → text ≢ prelude ++ rest) → n ≤ length text → n ≤ length p →
     ((k : ℕ) → k < n → get_or text k 0 ≡ get_or p k 0) →

@@ -1,38 +1,14 @@
 -- Where the next piece of a text stands.
-use Rattle.std.proofs.Common.{
-  ◌≡◌,
-  ℕ,
-  zero,
-  suc,
-  ◌+◌,
-  ◌-◌,
-  ◌<◌,
-  ◌≤◌,
-  Bool,
-  true,
-  false,
-  cond,
-  ⊎_elim,
-  List,
-  [],
-  ◌∷◌,
-  length,
-  drop,
-  get_or,
-  refl,
-  sym,
-  ap,
-  ◌∙◌,
-  subst,
-  arith,
-}
+use Rattle.std.proofs.Common.{◌≡◌, ℕ, zero, suc, ◌+◌, ◌-◌, ◌<◌, ◌≤◌, Bool, true, false, cond, ⊎_elim, List, [], ◌∷◌, length, drop, get_or, refl, sym, ap, ◌∙◌}
+use Rattle.std.proofs.Common.{subst, arith}
 use Rattle.std.specs.Prelude.{slice_range}
 use Rattle.std.proofs.str.Laws.{order}
 use Rattle.std.proofs.lemmas.List.{length-drop, length-take-le, drop-drop, get_or-drop}
 use Rattle.bl_ctext.specs.Token.{Token, is_blank, is_double_sign, is_word_byte}
 use Rattle.std.specs.Prelude.{◌&&◌}
+use Rattle.std.proofs.lemmas.Bool.{or_right}
 use Rattle.bl_ctext.specs.Token.{put_before}
-use Rattle.bl_ctext.proofs.Bytes.{joined-not_blank, or-snd}
+use Rattle.bl_ctext.proofs.Bytes.{joined-not_blank}
 use Rattle.bl_cparse_syntax.specs.Pieces.{cut_off, pieces, left_of, first_piece}
 use Rattle.bl_cparse_syntax.proofs.Ranges.{drop_more}
 use Rattle.bl_cparse_syntax.proofs.PieceLemmas.{first_left}
@@ -68,7 +44,7 @@ weighs [] = refl
 weighs (a ∷ []) = one_weight (is_blank a) a
 weighs (a ∷ b ∷ bs) =
     cut_weight (is_blank a) (is_double_sign a b) (is_word_byte a && is_word_byte b) a b (pieces bs) (pieces (b ∷ bs))
-    (λ pair. weighs (b ∷ bs) ∙ (ap (λ c. cond c (solid bs) (suc (solid bs))) ((joined-not_blank a b (or-snd _ _ pair)).1) ∙ ap suc (sym (weighs bs))))
+    (λ pair. weighs (b ∷ bs) ∙ (ap (λ c. cond c (solid bs) (suc (solid bs))) ((joined-not_blank a b (or_right _ _ pair)).1) ∙ ap suc (sym (weighs bs))))
     ∙ ap (λ w. cond (is_blank a) w (suc w)) (weighs (b ∷ bs))
 
 no_less : (blank : Bool) (m n : ℕ) → m ≤ n → m ≤ cond blank n (suc n)
@@ -169,6 +145,3 @@ first_time (suc n) s = ap next_spot (first_time n s)
 pub past_times : (tokens : List Token) (s : TextSpot) → behind_tokens tokens s ≡ times (length tokens) s
 past_times [] s = refl
 past_times (t ∷ ts) s = past_times ts (next_spot s) ∙ first_time (length ts) s
-
-pub one_more : (n : ℕ) (s : TextSpot) → times (n + 1) s ≡ next_spot (times n s)
-one_more n s = let e : n + 1 ≡ suc n = omega arith in rw e refl

@@ -5,23 +5,8 @@ use Rattle.bl_ctext.specs.Token.{Token}
 use Rattle.bl_ctext.specs.Names.{is_among, is_name, is_turn_name}
 use Rattle.bl_grammar.proofs.Predictive.{not_both}
 use Rattle.bl_cparse_syntax.specs.declared.grammar.Part.{Part}
-use Rattle.bl_cparse_syntax.specs.declared.grammar.Part.TheVariants.{
-  Stmts,
-  Stmt,
-  Else,
-  Turns,
-  AfterName,
-  AssignTail,
-  Value,
-  AfterOpen,
-  Expr,
-  Simple,
-  Inside,
-  StructName,
-  Index,
-  Steps,
-  Args,
-}
+use Rattle.bl_cparse_syntax.specs.declared.grammar.Part.TheVariants.{Stmts, Stmt, Else, Turns, AfterName, AssignTail, Value, AfterOpen, Expr, Simple, Inside}
+use Rattle.bl_cparse_syntax.specs.declared.grammar.Part.TheVariants.{StructName, Index, Steps, Args}
 use Rattle.bl_cparse_syntax.specs.declared.grammar.Part.TheVariants as APart
 use Rattle.bl_cparse_syntax.specs.Pieces.{is_same, first_piece}
 use Rattle.bl_cparse_syntax.specs.Classes.{matches, spells_number}

@@ -1,42 +1,12 @@
 -- Walks over lists, with one part more.
-use Rattle.std.proofs.Common.{
-  ◌≡◌,
-  ℕ,
-  zero,
-  suc,
-  ◌+◌,
-  ◌<◌,
-  Bool,
-  true,
-  false,
-  nat_eq,
-  List,
-  [],
-  ◌∷◌,
-  ◌++◌,
-  length,
-  take,
-  get_or,
-  map,
-  slice_set,
-  refl,
-  sym,
-  ap,
-  subst,
-  ◌∙◌,
-  arith,
-}
+use Rattle.std.proofs.Common.{◌≡◌, ℕ, zero, suc, ◌+◌, ◌<◌, Bool, true, false, nat_eq, List, [], ◌∷◌, ◌++◌, length, take, get_or, map, slice_set, refl, sym, ap}
+use Rattle.std.proofs.Common.{subst, ◌∙◌, arith}
 use Rattle.std.proofs.Math.Seq.{map-set_same}
 use Rattle.std.proofs.lemmas.Bool.{eqb-true}
 use Rattle.std.proofs.lemmas.List.{take_more_set}
+use Rattle.bl_tree.proofs.Basics.{same_heads, same_tails}
 use Rattle.bl_ctext.specs.Spelling.{comma_before}
 use Rattle.bl_cparse.specs.HasPlaces.{TextSpot, PlaceWalk, behind_tokens, in_turn, in_list}
-
-first_is : {A : Type 0} (a b : A) (us vs : List A) → a ∷ us ≡ b ∷ vs → a ≡ b
-first_is a b us vs e = cc
-
-rest_is : {A : Type 0} (a b : A) (us vs : List A) → a ∷ us ≡ b ∷ vs → us ≡ vs
-rest_is a b us vs e = cc
 
 pair_is : {A : Type 0} (r : A × TextSpot) (a : A) (s : TextSpot) → r.0 ≡ a → r.1 ≡ s → r ≡ (a, s)
 pair_is r a s e h = ap (λ x. (x, r.1)) e ∙ ap (λ y. (a, y)) h
@@ -46,8 +16,8 @@ pub turn_more : {A : Type 0} (f : A → PlaceWalk A) (xs : List A) (x : A) (from
     in_turn (map f (xs ++ x ∷ [])) from ≡ (xs ++ x ∷ [], behind)
 turn_more f [] x from between behind h k = ap (λ r. (r.0 ∷ [], r.1)) (ap (f x) (ap (λ r. r.1) h) ∙ k)
 turn_more f (y ∷ xs) x from between behind h k =
-    let first : (f y from).0 ≡ y = first_is _ _ _ _ (ap (λ r. r.0) h) in
-    let rest : in_turn (map f xs) (f y from).1 ≡ (xs, between) = pair_is _ _ _ (rest_is _ _ _ _ (ap (λ r. r.0) h)) (ap (λ r. r.1) h) in
+    let first : (f y from).0 ≡ y = same_heads _ _ _ _ (ap (λ r. r.0) h) in
+    let rest : in_turn (map f xs) (f y from).1 ≡ (xs, between) = pair_is _ _ _ (same_tails _ _ _ _ (ap (λ r. r.0) h)) (ap (λ r. r.1) h) in
     ap (λ r. ((f y from).0 ∷ r.0, r.1)) (turn_more f xs x (f y from).1 between behind rest k) ∙ ap (λ z. (z ∷ (xs ++ x ∷ []), behind)) first
 
 -- behind a part there is a comma before the next
@@ -56,13 +26,13 @@ list_on : {A : Type 0} (f : A → PlaceWalk A) (first : Bool) (y : A) (xs : List
     f x (behind_tokens (comma_before false) between) ≡ (x, behind) → in_list first (map f ((y ∷ xs) ++ x ∷ [])) from ≡ ((y ∷ xs) ++ x ∷ [], behind)
 list_on f first y [] x from between behind h k =
     let walked = f y (behind_tokens (comma_before first) from) in
-    let same : walked.0 ≡ y = first_is _ _ _ _ (ap (λ r. r.0) h) in
+    let same : walked.0 ≡ y = same_heads _ _ _ _ (ap (λ r. r.0) h) in
     ap (λ r. (walked.0 ∷ r.0 ∷ [], r.1)) (ap (λ s. f x (behind_tokens (comma_before false) s)) (ap (λ r. r.1) h) ∙ k)
     ∙ ap (λ z. (z ∷ x ∷ [], behind)) same
 list_on f first y (z ∷ xs) x from between behind h k =
     let walked = f y (behind_tokens (comma_before first) from) in
-    let same : walked.0 ≡ y = first_is _ _ _ _ (ap (λ r. r.0) h) in
-    let rest : in_list false (map f (z ∷ xs)) walked.1 ≡ (z ∷ xs, between) = pair_is _ _ _ (rest_is _ _ _ _ (ap (λ r. r.0) h)) (ap (λ r. r.1) h) in
+    let same : walked.0 ≡ y = same_heads _ _ _ _ (ap (λ r. r.0) h) in
+    let rest : in_list false (map f (z ∷ xs)) walked.1 ≡ (z ∷ xs, between) = pair_is _ _ _ (same_tails _ _ _ _ (ap (λ r. r.0) h)) (ap (λ r. r.1) h) in
     ap (λ r. (walked.0 ∷ r.0, r.1)) (list_on f false z xs x walked.1 between behind rest k) ∙ ap (λ w. (w ∷ ((z ∷ xs) ++ x ∷ []), behind)) same
 
 pub list_more : {A : Type 0} (f : A → PlaceWalk A) (first : Bool) (xs : List A) (x : A) (from between behind : TextSpot) →

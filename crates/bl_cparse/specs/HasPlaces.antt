@@ -1,28 +1,6 @@
 -- The places of the parts of a file: each from the start of its first token in the text to the end of its last. A walk goes over
 -- the text and the file side by side, as many pieces as each part has tokens, and sets them.
-use Rattle.std.specs.Prelude.{
-  ◌≡◌,
-  ℕ,
-  suc,
-  ◌+◌,
-  Bool,
-  true,
-  false,
-  cond,
-  List,
-  [],
-  ◌∷◌,
-  ◌++◌,
-  length,
-  drop,
-  map,
-  fold,
-  option_map,
-  Option,
-  Some,
-  None,
-  codes,
-}
+use Rattle.std.specs.Prelude.{◌≡◌, ℕ, suc, ◌+◌, Bool, true, false, cond, List, [], ◌∷◌, ◌++◌, length, drop, map, fold, option_map, Option, Some, None, codes}
 use Rattle.std.specs.Fmt.{decimal}
 use Rattle.bl_tree.specs.declared.place.Place.{Place}
 use Rattle.bl_tree.specs.declared.c.CStruct.{CStruct}
@@ -38,21 +16,8 @@ use Rattle.bl_tree.specs.declared.c.CStmt.{CStmt, CStmt-F, fold-CStmt, roll-CStm
 use Rattle.bl_tree.specs.declared.c.CStmtKind.{CStmtKind, CStmtKind-F, fold-CStmtKind, roll-CStmtKind}
 use Rattle.bl_tree.specs.Reduce.{joined}
 use Rattle.bl_ctext.specs.Token.{Token, is_blank}
-use Rattle.bl_ctext.specs.Spelling.{
-  comma_before,
-  with_commas,
-  literal_tokens,
-  operator_sign,
-  index_front,
-  root_tokens,
-  zeros_tokens,
-  turn_declared,
-  turn_counted,
-  struct_tokens,
-  param_tokens,
-  local_tokens,
-  func_front,
-}
+use Rattle.bl_ctext.specs.Spelling.{comma_before, with_commas, literal_tokens, operator_sign, index_front, root_tokens, zeros_tokens, turn_declared}
+use Rattle.bl_ctext.specs.Spelling.{turn_counted, struct_tokens, param_tokens, local_tokens, func_front}
 use Rattle.bl_ctext.specs.Prelude.{prelude}
 use Rattle.bl_ctext.specs.declared.file.CFile.{CFile}
 use Rattle.bl_cparse_syntax.specs.Pieces.{pieces, first_piece}

@@ -1,23 +1,17 @@
 -- Which classes share no piece, and which are the same.
-use Rattle.std.proofs.Common.{◌≡◌, ℕ, Bool, true, false, not, cond, ◌&&◌, ◌||◌, List, [], ◌∷◌, refl, ap, sym, subst, nat_eq}
+use Rattle.std.proofs.Common.{◌≡◌, ℕ, Bool, true, false, not, cond, ◌&&◌, ◌||◌, List, [], ◌∷◌, refl, ap, subst, nat_eq}
 use Rattle.std.specs.Prelude.{codes}
-use Rattle.std.proofs.lemmas.Bool.{eq-eqb}
 use Rattle.std.specs.List.{list_all, starts_with}
 use Rattle.std.specs.Cmp.Lexicographic.{pointwise}
+use Rattle.std.proofs.lemmas.Bool.{false_from_ne_true, not-true}
+use Rattle.bl_tree.proofs.Basics.{number_itself}
 use Rattle.bl_tree.specs.declared.scalar.Width.TheVariants.{W8, W16, W32, W64}
 use Rattle.bl_ctext.specs.Token.{Token, is_word}
 use Rattle.bl_ctext.specs.Names.{begins_with_digit, c_keywords, grammar_words, is_among, is_name, is_turn_name, prelude_functions}
 use Rattle.bl_grammar.proofs.Predictive.{and_left, and_right, not_both}
 use Rattle.bl_cparse_syntax.specs.declared.grammar.Group.{Group}
-use Rattle.bl_cparse_syntax.specs.declared.grammar.Group.TheVariants.{
-  ScalarTypes,
-  PlainLiterals,
-  Operators,
-  IndexFunctions,
-  StructWords,
-  FunctionWords,
-  PreludeFunctions,
-}
+use Rattle.bl_cparse_syntax.specs.declared.grammar.Group.TheVariants.{ScalarTypes, PlainLiterals, Operators, IndexFunctions, StructWords, FunctionWords}
+use Rattle.bl_cparse_syntax.specs.declared.grammar.Group.TheVariants.{PreludeFunctions}
 use Rattle.bl_cparse_syntax.specs.declared.grammar.Digits.TheVariants.{Elements, Int, Negated, Unsigned}
 use Rattle.bl_cparse_syntax.specs.Pieces.{is_same}
 use Rattle.bl_cparse_syntax.specs.Classes.{Class, words_of, spells_number, matches}
@@ -27,14 +21,6 @@ use Rattle.bl_cparse_syntax.specs.Stack.{sample}
 use Rattle.bl_cparse_syntax.specs.Grammar.{with_turn_name}
 use Rattle.bl_cparse_syntax.specs.inner.Words.{is_numbered, is_unreserved}
 use Rattle.bl_cparse_syntax.proofs.SameLemmas.{is_same-same}
-
-pub not_true : (b : Bool) → (b ≡ true → ⊥) → b ≡ false
-not_true true none = absurd (none refl)
-not_true false none = refl
-
-pub not_false : (b : Bool) → not b ≡ true → b ≡ false
-not_false true e = sym e
-not_false false e = refl
 
 -- no word of the list is of the class
 abbrev pub has_none : Class → List Token → Bool
@@ -52,12 +38,9 @@ class_apart (number of) (exactly word) = not (matches (number of) word)
 class_apart turn (exactly word) = not (matches turn word)
 class_apart _ _ = false
 
-same_number : (n : ℕ) → nat_eq n n ≡ true
-same_number n = eq-eqb n n refl
-
 same_self : (word : List ℕ) → pointwise nat_eq word word ≡ true
 same_self [] = refl
-same_self (b ∷ bs) = rw (same_number b) (same_self bs)
+same_self (b ∷ bs) = rw (number_itself b) (same_self bs)
 
 pub is_same-self : (word : List ℕ) → is_same word word ≡ true
 unfolding is_same
@@ -78,32 +61,32 @@ among_all test (word ∷ words) piece all is = by_same (pointwise nat_eq word pi
 exactly_apart : (word : Token) (other : Class) (piece : Token) → not (matches other word) ≡ true →
     matches (exactly word) piece ≡ true → matches other piece ≡ false
 unfolding matches
-exactly_apart word other piece none is = subst (λ t. matches other t ≡ false) (is_same-same word piece is) (not_false _ none)
+exactly_apart word other piece none is = subst (λ t. matches other t ≡ false) (is_same-same word piece is) (not-true _ none)
 
 from_exactly : (word : Token) (other : Class) (piece : Token) → not (matches other word) ≡ true → matches other piece ≡ true →
     matches (exactly word) piece ≡ false
-from_exactly word other piece none is = not_true _ (λ same. not_both _ is (exactly_apart word other piece none same))
+from_exactly word other piece none is = false_from_ne_true _ (λ same. not_both _ is (exactly_apart word other piece none same))
 
 group_apart : (group : Group) (other : Class) (piece : Token) → has_none other (words_of group) ≡ true →
     matches (one_of group) piece ≡ true → matches other piece ≡ false
 unfolding matches
-group_apart group other piece none is = not_false _ (among_all (λ word. not (matches other word)) (words_of group) piece none is)
+group_apart group other piece none is = not-true _ (among_all (λ word. not (matches other word)) (words_of group) piece none is)
 
 from_group : (group : Group) (other : Class) (piece : Token) → has_none other (words_of group) ≡ true → matches other piece ≡ true →
     matches (one_of group) piece ≡ false
-from_group group other piece none is = not_true _ (λ one. not_both _ is (group_apart group other piece none one))
+from_group group other piece none is = false_from_ne_true _ (λ one. not_both _ is (group_apart group other piece none one))
 
 prelude_begin : list_all (λ word. starts_with nat_eq word (codes "bl_")) prelude_functions ≡ true
 prelude_begin = refl
 
 -- no other word is a function of the prelude
 pub prelude_begins : (word : Token) → starts_with nat_eq word (codes "bl_") ≡ false → is_among word prelude_functions ≡ false
-prelude_begins word none = not_true _ (λ one. not_both _ (among_all (λ w. starts_with nat_eq w (codes "bl_")) prelude_functions word prelude_begin one) none)
+prelude_begins word none = false_from_ne_true _ (λ one. not_both _ (among_all (λ w. starts_with nat_eq w (codes "bl_")) prelude_functions word prelude_begin one) none)
 
 -- no list of words without a digit at the second place has a word with one
 unlisted : (words : List Token) (word : Token) → list_all (λ w. not (is_numbered w)) words ≡ true → is_numbered word ≡ true →
     is_among word words ≡ false
-unlisted words word none is = not_true _ (λ one. not_both _ is (not_false _ (among_all (λ w. not (is_numbered w)) words word none one)))
+unlisted words word none is = false_from_ne_true _ (λ one. not_both _ is (not-true _ (among_all (λ w. not (is_numbered w)) words word none one)))
 
 pub numbered_is_unreserved : (word : Token) → is_numbered word ≡ true → is_unreserved word ≡ true
 numbered_is_unreserved word is =
@@ -124,7 +107,7 @@ unfolding matches
 prelude_apart piece is = no_name piece (among_all (λ word. starts_with nat_eq word (codes "bl_")) prelude_functions piece prelude_begin is)
 
 from_prelude : (piece : Token) → matches a_name piece ≡ true → matches (one_of PreludeFunctions) piece ≡ false
-from_prelude piece is = not_true _ (λ one. not_both _ is (prelude_apart piece one))
+from_prelude piece is = false_from_ne_true _ (λ one. not_both _ is (prelude_apart piece one))
 
 pub apart_of : (one other : Class) (piece : Token) → class_apart one other ≡ true → matches one piece ≡ true → matches other piece ≡ false
 apart_of (exactly word) other piece e is = exactly_apart word other piece e is

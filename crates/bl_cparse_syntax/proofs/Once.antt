@@ -1,44 +1,14 @@
 -- A text fails at one place.
-use Rattle.std.proofs.Common.{
-  ◌≡◌,
-  ℕ,
-  zero,
-  suc,
-  ◌+◌,
-  ◌-◌,
-  ◌<◌,
-  ◌≤◌,
-  Bool,
-  true,
-  false,
-  ◌&&◌,
-  cond,
-  List,
-  [],
-  ◌∷◌,
-  ◌++◌,
-  length,
-  drop,
-  get_or,
-  refl,
-  ap,
-  sym,
-  ◌∙◌,
-  subst,
-  ⊎_elim,
-  inl,
-  inr,
-  arith,
-  append_assoc,
-  append-nil,
-}
+use Rattle.std.proofs.Common.{◌≡◌, ℕ, zero, suc, ◌+◌, ◌-◌, ◌<◌, ◌≤◌, Bool, true, false, ◌&&◌, cond, List, [], ◌∷◌, ◌++◌, length, drop, get_or, refl, ap, sym}
+use Rattle.std.proofs.Common.{◌∙◌, subst, ⊎_elim, inl, inr, arith, append_assoc, append-nil}
 use Rattle.std.proofs.Math.Seq.{drop-cons}
 use Rattle.std.proofs.str.Laws.{order}
 use Rattle.std.proofs.lemmas.List.{drop_all}
+use Rattle.std.proofs.lemmas.Bool.{or_right}
 use Rattle.bl_tree.specs.Reduce.{joined}
 use Rattle.bl_ctext.specs.Token.{Token, is_blank, is_word_byte, is_double_sign}
 use Rattle.bl_ctext.specs.Token.{put_before}
-use Rattle.bl_ctext.proofs.Bytes.{joined-not_blank, or-snd}
+use Rattle.bl_ctext.proofs.Bytes.{joined-not_blank}
 use Rattle.bl_cparse_syntax.specs.Pieces.{cut_off, pieces}
 use Rattle.bl_cparse_syntax.specs.Grammar.{SpellText}
 use Rattle.bl_cparse_syntax.specs.Rules.{BeginsText, Passes, StandAt, FailsAtPiece, FailsFirst}
@@ -67,7 +37,7 @@ counted (a ∷ b ∷ bs) = by_kind (is_blank a) (is_double_sign a b) (is_word_by
         → length (joined (cut_off blank pair word a b (pieces bs) (pieces (b ∷ bs)))) ≡ cond blank (count (b ∷ bs)) (suc (count (b ∷ bs)))
     by_kind true pair word eb ep ew far near = near
     by_kind false true word eb ep ew far near =
-        let second : is_blank b ≡ false = (joined-not_blank a b (or-snd _ _ ep)).1 in
+        let second : is_blank b ≡ false = (joined-not_blank a b (or_right _ _ ep)).1 in
         rw second (ap (λ n. suc (suc n)) far)
     by_kind false false true eb ep ew far near = one_more a (pieces (b ∷ bs)) ∙ ap suc near
     by_kind false false false eb ep ew far near = ap suc near

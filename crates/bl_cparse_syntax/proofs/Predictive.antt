@@ -1,29 +1,8 @@
 -- The grammar is one that the next piece decides.
-use Rattle.std.proofs.Common.{
-  ◌≡◌,
-  ℕ,
-  ◌<◌,
-  ◌≤◌,
-  Bool,
-  true,
-  false,
-  not,
-  cond,
-  ◌&&◌,
-  ◌||◌,
-  List,
-  [],
-  ◌∷◌,
-  map,
-  refl,
-  ap,
-  sym,
-  ◌∙◌,
-  subst,
-  arith,
-}
+use Rattle.std.proofs.Common.{◌≡◌, ℕ, ◌<◌, ◌≤◌, Bool, true, false, not, cond, ◌&&◌, ◌||◌, List, [], ◌∷◌, map, refl, ap, sym, ◌∙◌, subst, arith}
 use Rattle.std.specs.Prelude.{Option, Some, None, nat_lt, nat_le, codes}
 use Rattle.std.proofs.lemmas.Bool.{ltb-true, leb-true}
+use Rattle.std.proofs.lemmas.Bool.{false_from_ne_true, not-true}
 use Rattle.bl_ctext.specs.Token.{Token}
 use Rattle.bl_ctext.specs.Names.{is_turn_name}
 use Rattle.bl_grammar.specs.declared.symbol.Symbol.TheVariants.{Terminal, Nonterminal}
@@ -37,24 +16,9 @@ use Rattle.bl_cparse_syntax.specs.Grammar.IsAmong.{here, later}
 use Rattle.bl_cparse_syntax.specs.Tables.{has, firsts, starts, absent, choices, decided_production, turn_name_for, wanted_of, decided, pick}
 use Rattle.bl_cparse_syntax.specs.Follow.{avoided, height, depth, are_lower, is_lower, lower_of}
 use Rattle.bl_cparse_syntax.specs.Stack.{tables}
-use Rattle.bl_cparse_syntax.proofs.ClassLemmas.{not_true, not_false, named_of, exactly_is, turn_of_is, turn_of_turn, sampled}
-use Rattle.bl_cparse_syntax.proofs.Checks.{
-  are_apart,
-  are_within,
-  heads_of,
-  may_vanish,
-  follows,
-  is_headed,
-  has_lower,
-  is_turn,
-  has_no_turn,
-  names_first,
-  headed,
-  followed,
-  shallow,
-  lower,
-  named_first,
-}
+use Rattle.bl_cparse_syntax.proofs.ClassLemmas.{named_of, exactly_is, turn_of_is, turn_of_turn, sampled}
+use Rattle.bl_cparse_syntax.proofs.Checks.{are_apart, are_within, heads_of, may_vanish, follows, is_headed, has_lower, is_turn, has_no_turn, names_first}
+use Rattle.bl_cparse_syntax.proofs.Checks.{headed, followed, shallow, lower, named_first}
 use Rattle.bl_cparse_syntax.proofs.Right.{apart, within, has_append, all_among, Empty, empty_is, is_empty, chosen_among, begun_of, pick_of, empty_pick, free_of}
 
 -- one of the part's productions in its room, where this is the name of the loop's turns
@@ -79,7 +43,7 @@ module _ (A : Roomed) (p : Production) (among : IsAmong p (productions A.part)) 
   headed_at : (next : Option Token) (shapes : List Shape) → p.shapes ≡ shapes → Predictive.IsHeaded Produces matches tables A next (in_room A name shapes)
   headed_at next [] e = absent_of [] e refl
   headed_at next (Terminal k ∷ q) e = λ t n m. begun_at (Terminal k ∷ q) e t (or_left _ _ (named_of name k t is m))
-  headed_at next (Nonterminal B ∷ q) e = (not_false _ (and_left _ _ (head_of (Nonterminal B ∷ q) e)), λ t n b. begun_at (Nonterminal B ∷ q) e t b)
+  headed_at next (Nonterminal B ∷ q) e = (not-true _ (and_left _ _ (head_of (Nonterminal B ∷ q) e)), λ t n b. begun_at (Nonterminal B ∷ q) e t b)
 
   names_at : (shapes : List Shape) → p.shapes ≡ shapes → names_first shapes ≡ true
   names_at shapes e = subst (λ (ss : List Shape). names_first ss ≡ true) e
@@ -96,7 +60,7 @@ module _ (A : Roomed) (p : Production) (among : IsAmong p (productions A.part)) 
   any_name : (shapes : List Shape) (other : Token) → has_no_turn shapes ≡ true → in_room A name shapes ≡ in_room A other shapes
   any_name [] other none = refl
   any_name (Terminal k ∷ q) other none =
-      let first : with_turn_name name k ≡ with_turn_name other k = any_class k other (not_false _ (and_left _ _ none)) in
+      let first : with_turn_name name k ≡ with_turn_name other k = any_class k other (not-true _ (and_left _ _ none)) in
       let rest : in_room A name q ≡ in_room A other q = any_name q other (and_right (not (is_turn k)) _ none) in
       rw (first, rest) refl
   any_name (Nonterminal B ∷ q) other none = ap (λ (ws : List Wanted). wanted_for A.room name (Nonterminal B) ∷ ws) (any_name q other none)
@@ -129,7 +93,7 @@ module _ (A : Roomed) (p : Production) (among : IsAmong p (productions A.part)) 
   descends_at [] e = absent_of [] e refl
   descends_at (Terminal k ∷ q) e = tt
   descends_at (Nonterminal B ∷ q) e = (
-    not_false _ (and_left _ _ (head_of (Nonterminal B ∷ q) e)),
+    not-true _ (and_left _ _ (head_of (Nonterminal B ∷ q) e)),
     λ may. by_absent (absent A.part) (and_right (not (absent B.part)) _ (head_of (Nonterminal B ∷ q) e)) may,
     λ other. by_other (absent A.part) (and_right (not (absent B.part)) _ (head_of (Nonterminal B ∷ q) e)) other,
   )
@@ -165,7 +129,7 @@ vanish_same room name (Nonterminal B ∷ q) = ap (λ b. absent B.part && b) (van
 
 none_within : (xs ys : List Class) (may vanishes : Bool) (t : Token) → not may || are_within xs ys ≡ true → vanishes ≡ may →
     vanishes ≡ true → has ys t ≡ false → has xs t ≡ false
-none_within xs ys true vanishes t h e v none = not_true _ (λ on. not_both _ (within xs ys t h on) none)
+none_within xs ys true vanishes t h e v none = false_from_ne_true _ (λ on. not_both _ (within xs ys t h on) none)
 none_within xs ys false vanishes t h e v none = absurd (not_both _ v e)
 
 follow_at : (A : Roomed) (room : ℕ) (name : Token) → is_turn_name name ≡ true → (q : List Shape) →

@@ -1,30 +1,9 @@
 -- The tables are right, and one piece decides.
-use Rattle.std.proofs.Common.{
-  ◌≡◌,
-  ◌≤◌,
-  Bool,
-  true,
-  false,
-  not,
-  cond,
-  ◌||◌,
-  ◌⊎◌,
-  ⊎_elim,
-  inl,
-  inr,
-  List,
-  [],
-  ◌∷◌,
-  ◌++◌,
-  refl,
-  ap,
-  sym,
-  ◌∙◌,
-  subst,
-}
+use Rattle.std.proofs.Common.{◌≡◌, ◌≤◌, Bool, true, false, not, cond, ◌||◌, ◌⊎◌, ⊎_elim, inl, inr, List, [], ◌∷◌, ◌++◌, refl, ap, sym, ◌∙◌, subst}
 use Rattle.std.specs.Prelude.{Some, None, nat_le}
 use Rattle.std.proofs.lemmas.Bool.{leb-true, le-leb}
 use Rattle.std.specs.List.{list_all, list_any}
+use Rattle.std.proofs.lemmas.Bool.{false_from_ne_true}
 use Rattle.bl_ctext.specs.Token.{Token}
 use Rattle.bl_grammar.proofs.Predictive.{or_left, or_right, and_left, and_right, not_both, same_some, no_some}
 use Rattle.bl_cparse_syntax.specs.declared.grammar.Part.{Part}
@@ -35,7 +14,7 @@ use Rattle.bl_cparse_syntax.specs.Grammar.IsAmong.{here, later}
 use Rattle.bl_cparse_syntax.specs.Tables.{has, firsts, starts, absent, is_none, has_empty, Choice, choice_before, choices_of, choices, decided_production}
 use Rattle.bl_cparse_syntax.specs.Tables.{wanted_of, pick}
 use Rattle.bl_cparse_syntax.specs.Follow.{avoided}
-use Rattle.bl_cparse_syntax.proofs.ClassLemmas.{not_true, class_apart, apart_of, same_class, same_is}
+use Rattle.bl_cparse_syntax.proofs.ClassLemmas.{class_apart, apart_of, same_class, same_is}
 use Rattle.bl_cparse_syntax.proofs.Checks.{are_apart, are_within, all_on, are_separate, is_free, starts_are, separate, own_avoided, free}
 
 -- classes
@@ -143,7 +122,7 @@ chosen_later : (p : Production) (ss : List Shape) (cs : List Choice) (t : Token)
 chosen_later p [] cs t e is = refl
 chosen_later p (x ∷ q) cs t e is =
     let other : has (firsts starts (x ∷ q)) t ≡ false =
-    not_true _ (λ on. not_both _ is (apart (firsts starts (x ∷ q)) (all_on cs) t (and_left _ _ e) on)) in
+    false_from_ne_true _ (λ on. not_both _ is (apart (firsts starts (x ∷ q)) (all_on cs) t (and_left _ _ e) on)) in
     rw other refl
 
 pub chosen_choice : (ps : List Production) (p : Production) (t : Token) → are_separate (choices_of ps) ≡ true → IsAmong p ps →
@@ -200,7 +179,7 @@ unfolding pick
 unpicked A t may none = rw (chosen_none (choices A.part) t (subst (λ (cs : List Class). has cs t ≡ false) (sym (starts_are A.part)) none), may) refl
 
 pub empty_pick : (A : Roomed) (t : Token) → absent A.part ≡ true → has (avoided A.part) t ≡ false → pick A t ≡ Some []
-empty_pick A t may none = unpicked A t may (not_true _
+empty_pick A t may none = unpicked A t may (false_from_ne_true _
     (λ on. not_both _ (within (starts A.part) (avoided A.part) t (own (absent A.part) may (own_avoided A.part)) on) none))
   where
     own : (b : Bool) → b ≡ true → not b || are_within (starts A.part) (avoided A.part) ≡ true → are_within (starts A.part) (avoided A.part) ≡ true

@@ -1,23 +1,10 @@
 -- What a comparison of bytes says of what is left to read.
-use Rattle.std.proofs.Common.{◌≡◌, ℕ, true, nat_eq, List, [], ◌∷◌, drop, refl, arith}
+use Rattle.std.proofs.Common.{◌≡◌, ℕ, true, List, [], ◌∷◌, drop, refl, arith}
 use Rattle.std.proofs.lemmas.Bool.Decides.{nat_tests}
-use Rattle.std.specs.Cmp.Lexicographic.{pointwise}
 use Rattle.bl_ctext.specs.Token.{Token}
 use Rattle.bl_ctext.specs.Spellable.{has_any}
-use Rattle.bl_ctext.proofs.Bytes.{and-fst, and-snd}
 use Rattle.bl_cparse_syntax.specs.Pieces.{first_piece, is_same}
-
-same_number : (x y : ℕ) → nat_eq x y ≡ true → x ≡ y
-same_number x y h = grind (arith, nat_tests)
-
-same_bytes : (xs ys : List ℕ) → pointwise nat_eq xs ys ≡ true → xs ≡ ys
-same_bytes [] [] h = refl
-same_bytes [] (y ∷ ys) h = cc
-same_bytes (x ∷ xs) [] h = cc
-same_bytes (x ∷ xs) (y ∷ ys) h =
-    let first : x ≡ y = same_number x y (and-fst _ _ h) in
-    let rest : xs ≡ ys = same_bytes xs ys (and-snd _ _ h) in
-    rw (first, rest) refl
+use Rattle.bl_ctext.proofs.PlainWords.{same_bytes}
 
 pub is_same-same : (xs ys : List ℕ) → is_same xs ys ≡ true → xs ≡ ys
 unfolding is_same

@@ -7,15 +7,8 @@ use Rattle.bl_ctext.specs.Token.{Token}
 use Rattle.bl_ctext.specs.Names.{is_among, is_name, is_turn_name, prelude_functions}
 use Rattle.bl_ctext.specs.Spelling.{negatives}
 use Rattle.bl_cparse_syntax.specs.declared.grammar.Group.{Group}
-use Rattle.bl_cparse_syntax.specs.declared.grammar.Group.TheVariants.{
-  ScalarTypes,
-  PlainLiterals,
-  Operators,
-  IndexFunctions,
-  StructWords,
-  FunctionWords,
-  PreludeFunctions,
-}
+use Rattle.bl_cparse_syntax.specs.declared.grammar.Group.TheVariants.{ScalarTypes, PlainLiterals, Operators, IndexFunctions, StructWords, FunctionWords}
+use Rattle.bl_cparse_syntax.specs.declared.grammar.Group.TheVariants.{PreludeFunctions}
 use Rattle.bl_cparse_syntax.specs.declared.grammar.Digits.{Digits}
 use Rattle.bl_cparse_syntax.specs.declared.grammar.Digits.TheVariants.{Elements, Int, Negated, Unsigned}
 use Rattle.bl_cparse_syntax.specs.Pieces.{is_same}

@@ -4,41 +4,9 @@ use Rattle.std.specs.Prelude.{nat_lt, nat_le, codes}
 use Rattle.bl_grammar.specs.declared.symbol.Symbol.TheVariants.{Terminal, Nonterminal}
 use Rattle.bl_cparse_syntax.specs.declared.grammar.Group.TheVariants.{ScalarTypes, PlainLiterals, PreludeFunctions}
 use Rattle.bl_cparse_syntax.specs.declared.grammar.Part.{Part}
-use Rattle.bl_cparse_syntax.specs.declared.grammar.Part.TheVariants.{
-  File,
-  Structs,
-  Struct,
-  Members,
-  Member,
-  Length,
-  Funcs,
-  Func,
-  PlainFunc,
-  FuncRest,
-  Params,
-  ParamRest,
-  Param,
-  Star,
-  Locals,
-  Stmts,
-  Stmt,
-  Else,
-  Turns,
-  AfterName,
-  AssignTail,
-  Value,
-  AfterOpen,
-  Expr,
-  Simple,
-  Inside,
-  NameUse,
-  Steps,
-  Index,
-  Args,
-  ArgRest,
-  Arg,
-  Place,
-}
+use Rattle.bl_cparse_syntax.specs.declared.grammar.Part.TheVariants.{File, Structs, Struct, Members, Member, Length, Funcs, Func, PlainFunc, FuncRest, Params}
+use Rattle.bl_cparse_syntax.specs.declared.grammar.Part.TheVariants.{ParamRest, Param, Star, Locals, Stmts, Stmt, Else, Turns, AfterName, AssignTail, Value}
+use Rattle.bl_cparse_syntax.specs.declared.grammar.Part.TheVariants.{AfterOpen, Expr, Simple, Inside, NameUse, Steps, Index, Args, ArgRest, Arg, Place}
 use Rattle.bl_cparse_syntax.specs.Classes.{Class}
 use Rattle.bl_cparse_syntax.specs.Classes.Class.{exactly, one_of, a_name}
 use Rattle.bl_cparse_syntax.specs.Grammar.{Shape, Production, needing_none, productions}

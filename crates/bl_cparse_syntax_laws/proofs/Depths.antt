@@ -1,105 +1,30 @@
 -- The pieces of a text that derives are tokens, and no more brackets are open at once than there is room for.
-use Rattle.std.proofs.Common.{
-  ◌≡◌,
-  ℕ,
-  suc,
-  ◌+◌,
-  ◌-◌,
-  ◌^◌,
-  ◌≤◌,
-  ◌<◌,
-  max,
-  cond,
-  Bool,
-  true,
-  false,
-  not,
-  ◌&&◌,
-  nat_eq,
-  nat_le,
-  List,
-  [],
-  ◌∷◌,
-  ◌++◌,
-  map,
-  refl,
-  sym,
-  ap,
-  ◌∙◌,
-  subst,
-  append_assoc,
-  append-nil,
-  arith,
-  Option,
-}
+use Rattle.std.proofs.Common.{◌≡◌, ℕ, suc, ◌+◌, ◌-◌, ◌^◌, ◌≤◌, ◌<◌, max, cond, Bool, true, false, not, ◌&&◌, nat_eq, nat_le, List, [], ◌∷◌, ◌++◌, map, refl}
+use Rattle.std.proofs.Common.{sym, ap, ◌∙◌, subst, append_assoc, append-nil, arith, Option}
 use Rattle.std.specs.Fmt.{decimal}
 use Rattle.std.specs.List.{list_all}
 use Rattle.std.proofs.lemmas.Bool.Decides.{nat_tests}
+use Rattle.std.proofs.lemmas.Bool.{and_from, not-true}
+use Rattle.bl_tree.proofs.Basics.{and_first, and_second, at_most_from as at_most, at_most_itself, not_of_false, same_number}
 use Rattle.bl_tree.specs.Reduce.{all_of}
 use Rattle.bl_ctext.specs.Token.{Token, is_token}
 use Rattle.bl_ctext.specs.inner.Cut.{are_tokens}
 use Rattle.bl_ctext.specs.Names.{is_turn_name}
 use Rattle.bl_ctext.specs.Spellable.{is_opening, is_closing, most_open}
-use Rattle.bl_ctext.proofs.Bytes.{and-fst, and-snd, both}
 use Rattle.bl_ctext.proofs.Nesting.{is_bracket, Closes, closes-nil, closes-open, closes-close, closes-plain, closes-append, nests-most_open}
 use Rattle.bl_ctext.proofs.PlainWords.{name-plain, turn_name-plain, decimal-plain}
 use Rattle.bl_ctext.proofs.Words.{name-token, turn_name-token, decimal-token}
 use Rattle.bl_grammar.specs.declared.symbol.Symbol.TheVariants.{Terminal, Nonterminal}
 use Rattle.bl_grammar.specs.Derivations.Derives.{done, terminal, part}
 use Rattle.bl_cparse_syntax.specs.declared.grammar.Group.{Group}
-use Rattle.bl_cparse_syntax.specs.declared.grammar.Group.TheVariants.{
-  ScalarTypes,
-  PlainLiterals,
-  Operators,
-  IndexFunctions,
-  StructWords,
-  FunctionWords,
-  PreludeFunctions,
-}
+use Rattle.bl_cparse_syntax.specs.declared.grammar.Group.TheVariants.{ScalarTypes, PlainLiterals, Operators, IndexFunctions, StructWords, FunctionWords}
+use Rattle.bl_cparse_syntax.specs.declared.grammar.Group.TheVariants.{PreludeFunctions}
 use Rattle.bl_cparse_syntax.specs.declared.grammar.Digits.{Digits}
 use Rattle.bl_cparse_syntax.specs.declared.grammar.Part.{Part}
-use Rattle.bl_cparse_syntax.specs.declared.grammar.Part.TheVariants.{
-  File,
-  Structs,
-  Struct,
-  StructName,
-  Members,
-  Member,
-  TypeName,
-  Length,
-  Funcs,
-  Func,
-  PlainFunc,
-  FuncRest,
-  FuncName,
-  Params,
-  ParamRest,
-  Param,
-  Star,
-  Locals,
-  Local,
-  Stmts,
-  Stmt,
-  Else,
-  Turns,
-  AfterName,
-  AssignTail,
-  Value,
-  AfterOpen,
-  Result,
-  Expr,
-  Simple,
-  Constant,
-  Inside,
-  Negative,
-  NameUse,
-  Steps,
-  Index,
-  Args,
-  ArgRest,
-  Arg,
-  Place,
-}
+use Rattle.bl_cparse_syntax.specs.declared.grammar.Part.TheVariants.{File, Structs, Struct, StructName, Members, Member, TypeName, Length, Funcs, Func}
+use Rattle.bl_cparse_syntax.specs.declared.grammar.Part.TheVariants.{PlainFunc, FuncRest, FuncName, Params, ParamRest, Param, Star, Locals, Local, Stmts, Stmt}
+use Rattle.bl_cparse_syntax.specs.declared.grammar.Part.TheVariants.{Else, Turns, AfterName, AssignTail, Value, AfterOpen, Result, Expr, Simple, Constant}
+use Rattle.bl_cparse_syntax.specs.declared.grammar.Part.TheVariants.{Inside, Negative, NameUse, Steps, Index, Args, ArgRest, Arg, Place}
 use Rattle.bl_cparse_syntax.specs.declared.grammar.Roomed.{Roomed}
 use Rattle.bl_cparse_syntax.specs.declared.grammar.Within.{Within}
 use Rattle.bl_cparse_syntax.specs.Classes.{Class, words_of, digits_bound, matches}
@@ -108,6 +33,8 @@ use Rattle.bl_cparse_syntax.specs.Grammar.{Shape, Wanted, Production, production
 use Rattle.bl_cparse_syntax.specs.Grammar.IsAmong.{here, later}
 use Rattle.bl_cparse_syntax.proofs.ClassLemmas.{among_all}
 use Rattle.bl_cparse_syntax_laws.proofs.Pieces.{word_is, name_is, number_is, bound_le, Spelled}
+use Rattle.bl_cparse_syntax_laws.proofs.Pieces.{wide}
+use Rattle.bl_ctext.proofs.Texts.{are_tokens-append}
 
 -- ---- what is asked of the productions
 
@@ -218,8 +145,8 @@ all_sound Place = refl
 
 one_of_all : (test : Production → Bool) (p : Production) (ps : List Production) → IsAmong p ps → all_of (map test ps) ≡ true → test p ≡ true
 one_of_all test p [] one h = elim one [ ]
-one_of_all test p (q ∷ qs) here h = and-fst _ _ h
-one_of_all test p (q ∷ qs) (later one) h = one_of_all test p qs one (and-snd _ _ h)
+one_of_all test p (q ∷ qs) here h = and_first _ _ h
+one_of_all test p (q ∷ qs) (later one) h = one_of_all test p qs one (and_second _ _ h)
 
 -- ---- pieces that are no brackets
 
@@ -239,17 +166,11 @@ one_plain : (g : Group) (t : Token) → matches (one_of g) t ≡ true → plain 
 unfolding matches
 one_plain g t m = among_all plain (words_of g) t (group_plain g) m
 
-not_of : (b : Bool) → b ≡ false → not b ≡ true
-not_of b h = rw h refl
-
 by_both : (t : Token) → is_token t ≡ true → is_bracket t ≡ false → plain t ≡ true
-by_both t h k = both (is_token t) (not (is_bracket t)) h (not_of (is_bracket t) k)
+by_both t h k = and_from (is_token t) (not (is_bracket t)) h (not_of_false (is_bracket t) k)
 
 name_plain : (t : Token) → matches a_name t ≡ true → plain t ≡ true
 name_plain t m = by_both t (name-token t (name_is t m)) (name-plain t (name_is t m))
-
-wide : (a b : ℕ) → a < b → b ≤ 2 ^ 64 → a < 2 ^ 64
-wide a b h k = omega (arith, h, k)
 
 number_plain : (of : Digits) (t : Token) → matches (number of) t ≡ true → plain t ≡ true
 number_plain of t m = by_spelled (number_is of t m)
@@ -291,7 +212,7 @@ keep_open : (opened room : ℕ) (t : Token) (b : List Token) → is_opening t �
 keep_open opened room t b h one le k = record {
   closes =
       closes-open opened room t b h le (subst (λ n. Closes n room b) (after opened) k.closes);
-  tokens = both (is_token t) (are_tokens b) one k.tokens;
+  tokens = and_from (is_token t) (are_tokens b) one k.tokens;
 }
   where
     after : (n : ℕ) → suc n ≡ n + 1
@@ -302,7 +223,7 @@ keep_close : (opened room : ℕ) (t : Token) (b : List Token) → is_opening t �
 keep_close opened room t b h i one some le k =
     record {
       closes = subst (λ n. Closes n room (t ∷ b)) (back opened some) (closes-close (opened - 1) room t b h i (at_most opened room some le) k.closes);
-      tokens = both (is_token t) (are_tokens b) one k.tokens;
+      tokens = and_from (is_token t) (are_tokens b) one k.tokens;
     }
   where
     back : (n : ℕ) → 1 ≤ n → n - 1 + 1 ≡ n
@@ -311,30 +232,15 @@ keep_close opened room t b h i one some le k =
     at_most : (n m : ℕ) → 1 ≤ n → n ≤ m → n - 1 + 1 ≤ m
     at_most n m h k = omega (arith, h, k)
 
-off : (b : Bool) → not b ≡ true → b ≡ false
-off true h = cc
-off false h = refl
-
 keep_plain : (opened room : ℕ) (t : Token) (b : List Token) → plain t ≡ true → opened ≤ room → Kept opened room b → Kept opened room (t ∷ b)
 keep_plain opened room t b h le k =
     record {
-      closes = closes-plain opened room t b (off (is_bracket t) (and-snd (is_token t) (not (is_bracket t)) h)) le k.closes;
-      tokens = both (is_token t) (are_tokens b) (and-fst (is_token t) (not (is_bracket t)) h) k.tokens;
+      closes = closes-plain opened room t b (not-true (is_bracket t) (and_second (is_token t) (not (is_bracket t)) h)) le k.closes;
+      tokens = and_from (is_token t) (are_tokens b) (and_first (is_token t) (not (is_bracket t)) h) k.tokens;
     }
 
-tokens_both : (xs ys : List Token) → are_tokens xs ≡ true → are_tokens ys ≡ true → are_tokens (xs ++ ys) ≡ true
-tokens_both [] ys h k = k
-tokens_both (x ∷ xs) ys h k = both (is_token x) (are_tokens (xs ++ ys)) (and-fst (is_token x) (are_tokens xs) h)
-    (tokens_both xs ys (and-snd (is_token x) (are_tokens xs) h) k)
-
 keep_part : (opened room e : ℕ) (a b : List Token) → Kept 0 e a → opened + e ≤ room → Kept opened room b → Kept opened room (a ++ b)
-keep_part opened room e a b h le k = record { closes = closes-append opened room e a b h.closes le k.closes; tokens = tokens_both a b h.tokens k.tokens }
-
-at_most : (a b : ℕ) → nat_le a b ≡ true → a ≤ b
-at_most a b h = grind (arith, nat_tests)
-
-the_same : (a b : ℕ) → nat_eq a b ≡ true → a ≡ b
-the_same a b h = grind (arith, nat_tests)
+keep_part opened room e a b h le k = record { closes = closes-append opened room e a b h.closes le k.closes; tokens = are_tokens-append a b h.tokens k.tokens }
 
 -- what the check says of a class
 abbrev Checked : ℕ → ℕ → Class → List Shape → Type 0
@@ -353,20 +259,20 @@ module _ (m room : ℕ) (le : m ≤ room) where
   by_word w opened shapes b rest h k = by_test (is_opening w) (is_closing w) refl refl
     where
       one : is_token w ≡ true
-      one = and-fst (is_token w) _ h
+      one = and_first (is_token w) _ h
 
       by_test : (o c : Bool) → is_opening w ≡ o → is_closing w ≡ c → Kept opened room (w ∷ b)
       by_test true c e f =
-          let now : (nat_le (suc opened) m && sound m (suc opened) shapes) ≡ true = rw e at (and-snd (is_token w) _ h) in
-          let more : suc opened ≤ m = at_most (suc opened) m (and-fst (nat_le (suc opened) m) _ now) in
-          keep_open opened room w b e one (omega (arith, k, le)) (rest (suc opened) (and-snd (nat_le (suc opened) m) _ now) more)
+          let now : (nat_le (suc opened) m && sound m (suc opened) shapes) ≡ true = rw e at (and_second (is_token w) _ h) in
+          let more : suc opened ≤ m = at_most (suc opened) m (and_first (nat_le (suc opened) m) _ now) in
+          keep_open opened room w b e one (omega (arith, k, le)) (rest (suc opened) (and_second (nat_le (suc opened) m) _ now) more)
       by_test false true e f =
-          let now : (nat_le 1 opened && sound m (opened - 1) shapes) ≡ true = rw f at (rw e at (and-snd (is_token w) _ h)) in
-          let some : 1 ≤ opened = at_most 1 opened (and-fst (nat_le 1 opened) _ now) in
-          keep_close opened room w b e f one some (omega (arith, k, le)) (rest (opened - 1) (and-snd (nat_le 1 opened) _ now) (omega (arith, k)))
+          let now : (nat_le 1 opened && sound m (opened - 1) shapes) ≡ true = rw f at (rw e at (and_second (is_token w) _ h)) in
+          let some : 1 ≤ opened = at_most 1 opened (and_first (nat_le 1 opened) _ now) in
+          keep_close opened room w b e f one some (omega (arith, k, le)) (rest (opened - 1) (and_second (nat_le 1 opened) _ now) (omega (arith, k)))
       by_test false false e f =
-          let now : sound m opened shapes ≡ true = rw f at (rw e at (and-snd (is_token w) _ h)) in
-          keep_plain opened room w b (both (is_token w) (not (is_bracket w)) one (bracket_of w e f)) (omega (arith, k, le)) (rest opened now k)
+          let now : sound m opened shapes ≡ true = rw f at (rw e at (and_second (is_token w) _ h)) in
+          keep_plain opened room w b (and_from (is_token w) (not (is_bracket w)) one (bracket_of w e f)) (omega (arith, k, le)) (rest opened now k)
 
 abbrev in_room : ℕ → Within → Roomed
 in_room room within = record { part = within.part; room = room - within.around }
@@ -395,7 +301,7 @@ by_part m room opened within a b le k none h kept rest = by_test (is_constant wi
         let now : (nat_le opened within.around && nat_le within.around m) ≡ true = rw e at h in
         let kept_room : Kept 0 (room - within.around) a = rw e at closing in
         keep_part opened room (room - within.around) a b kept_room
-        (fits opened within.around (at_most opened within.around (and-fst _ _ now)) (at_most within.around m (and-snd _ _ now))) rest
+        (fits opened within.around (at_most opened within.around (and_first _ _ now)) (at_most within.around m (and_second _ _ now))) rest
 
 -- a part that closes what is open, at the end
 by_last : (room opened : ℕ) (within : Within) (a : List Token) → opened ≡ inner within.part → within.around ≡ 0 → is_constant within.part ≡ false
@@ -415,7 +321,7 @@ kept_shapes : (m room : ℕ) → m ≤ room → (own : Token) → is_turn_name o
     sound m opened shapes ≡ true → opened ≤ m → (ts : List Token)
     → Marks (map (wanted_for room own) shapes) ts → Kept opened room ts
 kept_shapes m room le own turned [] opened h k ts r =
-    subst (λ n. Kept n room ts) (sym (the_same opened 0 h)) (kept_as r (record { closes = closes-nil room; tokens = refl }))
+    subst (λ n. Kept n room ts) (sym (same_number opened 0 h)) (kept_as r (record { closes = closes-nil room; tokens = refl }))
 kept_shapes m room le own turned (Terminal (exactly w) ∷ shapes) opened h k ts (t, (b, (e, (is, r)))) =
     kept_as (e ∙ ap (λ u. u ∷ b) (sym (word_is is))) (by_word m room le w opened shapes b
     (λ n h k. kept_shapes m room le own turned shapes n h k b r) h k)
@@ -434,20 +340,20 @@ kept_shapes m room le own turned (Nonterminal within ∷ shapes) opened h k ts (
     roomy around least p = omega (arith, p, le)
 
     kept : Kept (inner within.part) (depth_in (in_room room within)) a
-    kept = held (roomy within.around (least_room within.part) (at_most (within.around + least_room within.part) m (and-fst _ _ h)))
+    kept = held (roomy within.around (least_room within.part) (at_most (within.around + least_room within.part) m (and_first _ _ h)))
 
     by_test : (c : Bool) → nat_eq (inner within.part) 0 ≡ c → (sound m opened shapes ≡ true → Kept opened room b) → Kept opened room ts
     by_test true f rest =
-        let now = rw f at (and-snd (nat_le (within.around + least_room within.part) m) _ h) in
-        kept_as e (by_part m room opened within a b le k (the_same (inner within.part) 0 f) (and-fst _ _ now) kept (rest (and-snd _ _ now)))
+        let now = rw f at (and_second (nat_le (within.around + least_room within.part) m) _ h) in
+        kept_as e (by_part m room opened within a b le k (same_number (inner within.part) 0 f) (and_first _ _ now) kept (rest (and_second _ _ now)))
     by_test false f rest =
         let now : (nat_eq opened (inner within.part) && (nat_eq within.around 0
-        && (not (is_constant within.part) && is_last shapes))) ≡ true = rw f at (and-snd (nat_le (within.around + least_room within.part) m) _ h) in
-        let more = and-snd (nat_eq within.around 0) _ (and-snd (nat_eq opened (inner within.part)) _ now) in
-        kept_as (e ∙ (ap (λ b. a ++ b) (last_is shapes room own b (and-snd (not (is_constant within.part)) (is_last shapes) more) r) ∙ append-nil a))
-        (by_last room opened within a (the_same opened (inner within.part) (and-fst _ _ now))
-        (the_same within.around 0 (and-fst _ _ (and-snd (nat_eq opened (inner within.part)) _ now)))
-        (off (is_constant within.part) (and-fst (not (is_constant within.part)) (is_last shapes) more)) kept)
+        && (not (is_constant within.part) && is_last shapes))) ≡ true = rw f at (and_second (nat_le (within.around + least_room within.part) m) _ h) in
+        let more = and_second (nat_eq within.around 0) _ (and_second (nat_eq opened (inner within.part)) _ now) in
+        kept_as (e ∙ (ap (λ b. a ++ b) (last_is shapes room own b (and_second (not (is_constant within.part)) (is_last shapes) more) r) ∙ append-nil a))
+        (by_last room opened within a (same_number opened (inner within.part) (and_first _ _ now))
+        (same_number within.around 0 (and_first _ _ (and_second (nat_eq opened (inner within.part)) _ now)))
+        (not-true (is_constant within.part) (and_first (not (is_constant within.part)) (is_last shapes) more)) kept)
 
 -- ---- productions
 
@@ -556,9 +462,6 @@ both_le a b c h k = omega (arith, h, k)
 right_le : (a b c : ℕ) → c ≤ b → c ≤ max a b
 right_le a b c h = omega (arith, h)
 
-same_le : (n : ℕ) → n ≤ n
-same_le n = omega arith
-
 kept_production : (whole : Roomed) (p : Production) → IsAmong p (productions whole.part) → p.needs ≤ whole.room → (own : Token) →
     is_turn_name own ≡ true → (ts : List Token)
     → Marks (map (wanted_for whole.room own) p.shapes) ts → Held whole ts
@@ -575,7 +478,7 @@ kept_production whole p one needs own turned ts marks room = by_test (is_constan
         let now : sound (own_depth whole.part) (inner whole.part) p.shapes ≡ true = rw e at checked in
         let few : nat_le (inner whole.part) (own_depth whole.part) ≡ true = rw e at (inner_le whole.part) in
         let terminals : are_terminals p.shapes ≡ true = rw e at bared in
-        rw e (kept_shapes (own_depth whole.part) (own_depth whole.part) (same_le (own_depth whole.part)) own turned p.shapes
+        rw e (kept_shapes (own_depth whole.part) (own_depth whole.part) (at_most_itself (own_depth whole.part)) own turned p.shapes
         (inner whole.part) now (at_most (inner whole.part) (own_depth whole.part) few) ts
         (subst (λ ws. Marks ws ts) (terminals_alike whole.room (own_depth whole.part) own p.shapes terminals) marks))
     by_test false e =

@@ -1,32 +1,9 @@
 -- The tokens of an expression that has a spelling derive, and so do those of its parts.
-use Rattle.std.proofs.Common.{
-  ◌≡◌,
-  ℕ,
-  ◌+◌,
-  ◌-◌,
-  ◌≤◌,
-  ◌<◌,
-  Bool,
-  true,
-  false,
-  ◌&&◌,
-  nat_le,
-  List,
-  [],
-  ◌∷◌,
-  ◌++◌,
-  map,
-  Option,
-  Some,
-  None,
-  refl,
-  sym,
-  subst,
-  arith,
-  codes,
-}
+use Rattle.std.proofs.Common.{◌≡◌, ℕ, ◌+◌, ◌-◌, ◌≤◌, ◌<◌, Bool, true, false, ◌&&◌, nat_le, List, [], ◌∷◌, ◌++◌, map, Option, Some, None, refl, sym, subst}
+use Rattle.std.proofs.Common.{arith, codes}
 use Rattle.std.proofs.lemmas.Bool.Decides.{nat_tests}
 use Rattle.std.specs.Fmt.{decimal}
+use Rattle.bl_tree.proofs.Basics.{and_first, and_second}
 use Rattle.bl_tree.specs.declared.place.Place.{Place as TextPlace}
 use Rattle.bl_tree.specs.declared.scalar.Op.{Op}
 use Rattle.bl_tree.specs.declared.scalar.Op.TheVariants as op
@@ -40,31 +17,10 @@ use Rattle.bl_tree.specs.declared.c.CArg.{CArg, CArg-F, fold-roll-CArg, map-CArg
 use Rattle.bl_tree.specs.Reduce.{all_of}
 use Rattle.bl_ctext.specs.Token.{Token}
 use Rattle.bl_ctext.specs.Names.{is_among, is_name, is_callee}
-use Rattle.bl_ctext.specs.Spelling.{
-  operator_sign,
-  call_tokens,
-  index_front,
-  expr_tokens,
-  kind_tokens,
-  place_tokens,
-  step_tokens,
-  index_tokens,
-  ccall_tokens,
-  arg_tokens,
-}
-use Rattle.bl_ctext.specs.Spellable.{
-  is_c_operator,
-  is_length,
-  most_open,
-  spells_expr,
-  spells_kind,
-  spells_place,
-  spells_step,
-  spells_index,
-  spells_call,
-  spells_arg,
-}
-use Rattle.bl_ctext.proofs.Bytes.{and-fst, and-snd}
+use Rattle.bl_ctext.specs.Spelling.{operator_sign, call_tokens, index_front, expr_tokens, kind_tokens, place_tokens, step_tokens, index_tokens, ccall_tokens}
+use Rattle.bl_ctext.specs.Spelling.{arg_tokens}
+use Rattle.bl_ctext.specs.Spellable.{is_c_operator, is_length, most_open, spells_expr, spells_kind, spells_place, spells_step, spells_index, spells_call}
+use Rattle.bl_ctext.specs.Spellable.{spells_arg}
 use Rattle.bl_ctext.proofs.Nesting.{is_bracket}
 use Rattle.bl_cparse_syntax.specs.declared.grammar.Group.TheVariants.{Operators, IndexFunctions}
 use Rattle.bl_cparse_syntax.specs.declared.grammar.Digits.TheVariants.{Elements}
@@ -76,20 +32,8 @@ use Rattle.bl_cparse_syntax.specs.Grammar.IsAmong.{here, later}
 use Rattle.bl_cparse_syntax_laws.proofs.Shallow.{Goes, at, roomed, free, open_then, close_then, class_then, word_then, one_behind}
 use Rattle.bl_cparse_syntax_laws.proofs.Literals.{OfKindTokens, literal_begun, number_is, number_plain}
 use Rattle.bl_cparse_syntax_laws.proofs.Literals.Begun.{simple}
-use Rattle.bl_cparse_syntax_laws.proofs.Lists.{
-  Whole,
-  Each,
-  OfStepTokens,
-  OfPlaceTokens,
-  apart,
-  name_then,
-  whole_expr,
-  not_begun,
-  two_begun,
-  call_simple,
-  call_stmt,
-  place_goes,
-}
+use Rattle.bl_cparse_syntax_laws.proofs.Lists.{Whole, Each, OfStepTokens, OfPlaceTokens, apart, name_then, whole_expr, not_begun, two_begun, call_simple}
+use Rattle.bl_cparse_syntax_laws.proofs.Lists.{call_stmt, place_goes}
 
 sign_is : (o : Op) → is_c_operator o ≡ true → (matches (one_of Operators) (operator_sign o) ≡ true) × (is_bracket (operator_sign o) ≡ false)
 unfolding matches is_among
@@ -119,8 +63,8 @@ two_open k w ts h few =
 
 pub length_is : (n : ℕ) → is_length n ≡ true → (1 ≤ n) × (n < 65537)
 length_is n h =
-    let low : nat_le 1 n ≡ true = and-fst _ _ h in
-    let high : nat_le n 65536 ≡ true = and-snd (nat_le 1 n) (nat_le n 65536) h in
+    let low : nat_le 1 n ≡ true = and_first _ _ h in
+    let high : nat_le n 65536 ≡ true = and_second (nat_le 1 n) (nat_le n 65536) h in
     (grind (arith, nat_tests), grind (arith, nat_tests))
 
 index_by : (word : Token) (xs : List Token) (n : ℕ) → matches (one_of IndexFunctions) word ≡ true → is_bracket word ≡ false →
@@ -209,7 +153,7 @@ pub each_shown : {A : Type 0} (P : List Token → Type 0) (tokens : A → List T
     (xs : List ((a : A) × (spells a ≡ true → P (tokens a)))) → all_of (map spells (map (λ e. e.0) xs)) ≡ true →
     Each P (map tokens (map (λ e. e.0) xs))
 each_shown P tokens spells [] h = tt
-each_shown P tokens spells (x ∷ xs) h = (x.1 (and-fst _ _ h), each_shown P tokens spells xs (and-snd _ _ h))
+each_shown P tokens spells (x ∷ xs) h = (x.1 (and_first _ _ h), each_shown P tokens spells xs (and_second _ _ h))
 
 address_goes : (xs : List Token) → Whole Place xs → Whole Arg (codes "&" ∷ xs)
 address_goes xs of k ss ts go = free k k Arg ss (codes "&" ∷ (xs ++ ts)) here (omega arith) (word_then k _ _ _ refl (of k ss ts go))
@@ -231,12 +175,12 @@ by_kind (CExprKind-F.Call c) h = rw fold-roll-CExprKind (call_begun (ccall_token
 by_kind (CExprKind-F.Not e) h = rw fold-roll-CExprKind (not_begun (expr_tokens e.0) (whole_expr (expr_tokens e.0) (e.1 (rw fold-roll-CExprKind at h))))
 by_kind (CExprKind-F.Two o a b) h =
     let all : (is_c_operator o && (spells_expr a.0 && spells_expr b.0)) ≡ true = rw fold-roll-CExprKind at h in
-    let parts : (spells_expr a.0 && spells_expr b.0) ≡ true = and-snd (is_c_operator o) (spells_expr a.0 && spells_expr b.0) all in
-    let sign = sign_is o (and-fst _ _ all) in
+    let parts : (spells_expr a.0 && spells_expr b.0) ≡ true = and_second (is_c_operator o) (spells_expr a.0 && spells_expr b.0) all in
+    let sign = sign_is o (and_first _ _ all) in
     rw fold-roll-CExprKind
     (two_begun (expr_tokens a.0) (expr_tokens b.0) (operator_sign o) sign.0 sign.1
-    (whole_expr (expr_tokens a.0) (a.1 (and-fst (spells_expr a.0) (spells_expr b.0) parts)))
-    (whole_expr (expr_tokens b.0) (b.1 (and-snd (spells_expr a.0) (spells_expr b.0) parts))))
+    (whole_expr (expr_tokens a.0) (a.1 (and_first (spells_expr a.0) (spells_expr b.0) parts)))
+    (whole_expr (expr_tokens b.0) (b.1 (and_second (spells_expr a.0) (spells_expr b.0) parts))))
 
 call_goes : (name : Token) (parts : List (List Token)) → is_callee name ≡ true → Each (Whole Arg) parts → OfCallTokens (call_tokens name parts)
 call_goes name parts h each = record { simply = call_simple name parts h each; alone = call_stmt name parts h each }
@@ -244,20 +188,20 @@ call_goes name parts h each = record { simply = call_simple name parts h each; a
 by_call : (name : Token) (args : List ArgOf) → OfCall (roll-CCall (record { name = name; args = map (λ e. e.0) args }))
 by_call name args h =
     let all : (is_callee name && all_of (map spells_arg (map (λ e. e.0) args))) ≡ true = rw fold-roll-CCall at h in
-    rw fold-roll-CCall (call_goes name (map arg_tokens (map (λ e. e.0) args)) (and-fst _ _ all)
-    (each_shown (Whole Arg) arg_tokens spells_arg args (and-snd _ _ all)))
+    rw fold-roll-CCall (call_goes name (map arg_tokens (map (λ e. e.0) args)) (and_first _ _ all)
+    (each_shown (Whole Arg) arg_tokens spells_arg args (and_second _ _ all)))
 
 by_index : (signed : Bool) (e : ExprOf) (n : ℕ) → OfIndex (roll-CIndex (record { signed = signed; at = e.0; length = n }))
 by_index signed e n h =
     let all : (spells_expr e.0 && is_length n) ≡ true = rw fold-roll-CIndex at h in
-    rw fold-roll-CIndex (index_goes signed (expr_tokens e.0) n (and-snd _ _ all) (whole_expr (expr_tokens e.0) (e.1 (and-fst _ _ all))))
+    rw fold-roll-CIndex (index_goes signed (expr_tokens e.0) n (and_second _ _ all) (whole_expr (expr_tokens e.0) (e.1 (and_first _ _ all))))
 
 by_place : (through : Bool) (name : Token) (steps : List StepOf) →
     OfPlace (roll-CPlace (record { through = through; name = name; steps = map (λ e. e.0) steps }))
 by_place through name steps h =
     let all : (is_name name && all_of (map spells_step (map (λ e. e.0) steps))) ≡ true = rw fold-roll-CPlace at h in
-    rw fold-roll-CPlace (place_goes through name (map step_tokens (map (λ e. e.0) steps)) (and-fst _ _ all)
-    (each_shown OfStepTokens step_tokens spells_step steps (and-snd _ _ all)))
+    rw fold-roll-CPlace (place_goes through name (map step_tokens (map (λ e. e.0) steps)) (and_first _ _ all)
+    (each_shown OfStepTokens step_tokens spells_step steps (and_second _ _ all)))
 
 bare_step : (member : Token) → is_name member ≡ true → OfStepTokens (codes "." ∷ member ∷ [])
 bare_step member h k ss ts go = word_then k _ _ _ refl (name_then k member _ _ h (free k k Index ss ts (later here) (omega arith) go))
@@ -268,10 +212,10 @@ indexed_step member xs h of k ss ts go = word_then k _ _ _ refl (name_then k mem
 by_step : (member : Token) (index : Option IndexOf) → OfStep (roll-CStep (plain_step (record { member = member; index = index })))
 by_step member None h =
     let all : (is_name member && true) ≡ true = rw fold-roll-CStep at h in
-    rw fold-roll-CStep (bare_step member (and-fst _ _ all))
+    rw fold-roll-CStep (bare_step member (and_first _ _ all))
 by_step member (Some i) h =
     let all : (is_name member && spells_index i.0) ≡ true = rw fold-roll-CStep at h in
-    rw fold-roll-CStep (indexed_step member (index_tokens i.0) (and-fst _ _ all) (i.1 (and-snd _ _ all)))
+    rw fold-roll-CStep (indexed_step member (index_tokens i.0) (and_first _ _ all) (i.1 (and_second _ _ all)))
 
 by_expr : (place : TextPlace) (what : KindOf) → OfExpr (roll-CExpr (record { place = place; what = what.0 }))
 by_expr place what h = rw fold-roll-CExpr (what.1 (rw fold-roll-CExpr at h))

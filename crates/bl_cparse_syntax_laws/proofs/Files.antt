@@ -1,33 +1,9 @@
 -- The tokens of structs and functions that have a spelling derive, and so do those of a file.
-use Rattle.std.proofs.Common.{
-  ◌≡◌,
-  ℕ,
-  ◌+◌,
-  ◌≤◌,
-  Bool,
-  true,
-  false,
-  ◌&&◌,
-  List,
-  [],
-  ◌∷◌,
-  ◌++◌,
-  map,
-  Option,
-  Some,
-  None,
-  refl,
-  sym,
-  ap,
-  ◌∙◌,
-  subst,
-  append_assoc,
-  append-nil,
-  arith,
-  codes,
-}
+use Rattle.std.proofs.Common.{◌≡◌, ℕ, ◌+◌, ◌≤◌, Bool, true, false, ◌&&◌, List, [], ◌∷◌, ◌++◌, map, Option, Some, None, refl, sym, ap, ◌∙◌, subst, append_assoc}
+use Rattle.std.proofs.Common.{append-nil, arith, codes}
 use Rattle.std.proofs.lemmas.Bool.{leb-true}
 use Rattle.std.specs.Fmt.{decimal}
+use Rattle.bl_tree.proofs.Basics.{and_first, and_second}
 use Rattle.bl_tree.specs.declared.scalar.Width.TheVariants.{W8, W16, W32, W64}
 use Rattle.bl_tree.specs.declared.scalar.Scalar.{Scalar}
 use Rattle.bl_tree.specs.declared.scalar.Scalar.TheVariants as scalar
@@ -41,65 +17,15 @@ use Rattle.bl_tree.specs.declared.c.CFunc.{CFunc}
 use Rattle.bl_tree.specs.Reduce.{all_of, joined}
 use Rattle.bl_ctext.specs.Token.{Token}
 use Rattle.bl_ctext.specs.Names.{is_among, is_name, is_struct_name, is_function_name}
-use Rattle.bl_ctext.specs.Spelling.{
-  scalar_word,
-  type_tokens,
-  length_tokens,
-  member_tokens,
-  struct_tokens,
-  star_if,
-  param_tokens,
-  zero_tokens,
-  local_tokens,
-  returned_tokens,
-  static_if,
-  stmt_tokens,
-  func_tokens,
-  func_front,
-  func_rest,
-  listed,
-  with_commas,
-  tokens_of,
-}
-use Rattle.bl_ctext.specs.Spellable.{
-  has_any,
-  is_c_scalar,
-  is_spellable,
-  most_open,
-  spells_type,
-  spells_length,
-  spells_member,
-  spells_struct,
-  spells_param,
-  spells_local,
-  spells_returned,
-  spells_stmt,
-  spells_func,
-}
-use Rattle.bl_ctext.proofs.Bytes.{and-fst, and-snd}
+use Rattle.bl_ctext.specs.Spelling.{scalar_word, type_tokens, length_tokens, member_tokens, struct_tokens, star_if, param_tokens, zero_tokens, local_tokens}
+use Rattle.bl_ctext.specs.Spelling.{returned_tokens, static_if, stmt_tokens, func_tokens, func_front, func_rest, listed, with_commas, tokens_of}
+use Rattle.bl_ctext.specs.Spellable.{has_any, is_c_scalar, is_spellable, most_open, spells_type, spells_length, spells_member, spells_struct, spells_param}
+use Rattle.bl_ctext.specs.Spellable.{spells_local, spells_returned, spells_stmt, spells_func}
 use Rattle.bl_ctext.proofs.Nesting.{is_bracket}
 use Rattle.bl_cparse_syntax.specs.declared.grammar.Group.TheVariants.{ScalarTypes}
 use Rattle.bl_cparse_syntax.specs.declared.grammar.Digits.TheVariants.{Elements}
-use Rattle.bl_cparse_syntax.specs.declared.grammar.Part.TheVariants.{
-  File,
-  Structs,
-  Struct,
-  Members,
-  Member,
-  TypeName,
-  Length,
-  Funcs,
-  Func,
-  PlainFunc,
-  FuncRest,
-  Params,
-  ParamRest,
-  Param,
-  Star,
-  Locals,
-  Local,
-  Stmt,
-}
+use Rattle.bl_cparse_syntax.specs.declared.grammar.Part.TheVariants.{File, Structs, Struct, Members, Member, TypeName, Length, Funcs, Func, PlainFunc, FuncRest}
+use Rattle.bl_cparse_syntax.specs.declared.grammar.Part.TheVariants.{Params, ParamRest, Param, Star, Locals, Local, Stmt}
 use Rattle.bl_cparse_syntax.specs.Classes.{matches}
 use Rattle.bl_cparse_syntax.specs.Classes.Class.{one_of, number}
 use Rattle.bl_cparse_syntax.specs.Grammar.{Wanted, SpellText}
@@ -115,7 +41,7 @@ use Rattle.bl_cparse_syntax_laws.proofs.Stmts.{stmts_goes, stmt_goes}
 each_of : {A : Type 0} (P : List Token → Type 0) (tokens : A → List Token) (spells : A → Bool) → ((a : A) → spells a ≡ true → P (tokens a))
     → (xs : List A) → all_of (map spells xs) ≡ true → Each P (map tokens xs)
 each_of P tokens spells shown [] h = tt
-each_of P tokens spells shown (x ∷ xs) h = (shown x (and-fst _ _ h), each_of P tokens spells shown xs (and-snd _ _ h))
+each_of P tokens spells shown (x ∷ xs) h = (shown x (and_first _ _ h), each_of P tokens spells shown xs (and_second _ _ h))
 
 -- types and members
 
@@ -148,9 +74,9 @@ length_goes (Some n) h k ss ts go =
 
 member_goes : (m : CMember) → spells_member m ≡ true → Whole Member (member_tokens m)
 member_goes m h k ss ts go = free k k Member ss (member_tokens m ++ ts) here (omega arith)
-    (apart k _ (type_tokens m.ty) _ ts (type_goes m.ty (and-fst _ _ h) k _ _ (name_then k m.name _ _ (and-fst _ _ (and-snd _ _ h))
+    (apart k _ (type_tokens m.ty) _ ts (type_goes m.ty (and_first _ _ h) k _ _ (name_then k m.name _ _ (and_first _ _ (and_second _ _ h))
     (apart k _ (length_tokens m.length) (codes ";" ∷ []) ts
-    (length_goes m.length (and-snd _ _ (and-snd _ _ h)) k _ (codes ";" ∷ ts) (word_then k _ _ _ refl go))))))
+    (length_goes m.length (and_second _ _ (and_second _ _ h)) k _ (codes ";" ∷ ts) (word_then k _ _ _ refl go))))))
 
 -- parts of one kind, one after another
 
@@ -200,11 +126,11 @@ members_some : (name : Token) (members : List CMember) → is_struct_name name �
     → Whole Struct (codes "struct" ∷ name ∷ ((codes "{" ∷ (joined (map member_tokens members) ++ codes "}" ∷ [])) ++ codes ";" ∷ []))
 members_some name [] h some all = absurd (let e : false ≡ true = some in cc)
 members_some name (m ∷ members) h some all =
-    struct_by name (member_tokens m) (map member_tokens members) h (member_goes m (and-fst _ _ all))
-    (each_of (Whole Member) member_tokens spells_member member_goes members (and-snd _ _ all))
+    struct_by name (member_tokens m) (map member_tokens members) h (member_goes m (and_first _ _ all))
+    (each_of (Whole Member) member_tokens spells_member member_goes members (and_second _ _ all))
 
 struct_goes : (s : CStruct) → spells_struct s ≡ true → Whole Struct (struct_tokens s)
-struct_goes s h = members_some s.name s.members (and-fst _ _ h) (and-fst _ _ (and-snd _ _ h)) (and-snd _ _ (and-snd _ _ h))
+struct_goes s h = members_some s.name s.members (and_first _ _ h) (and_first _ _ (and_second _ _ h)) (and_second _ _ (and_second _ _ h))
 
 -- functions
 
@@ -214,8 +140,8 @@ star_goes false k ss ts go = free k k Star ss ts (later here) (omega arith) go
 
 param_goes : (p : CParam) → spells_param p ≡ true → Whole Param (param_tokens p)
 param_goes p h k ss ts go = free k k Param ss (param_tokens p ++ ts) here (omega arith)
-    (apart k _ (type_tokens p.ty) _ ts (type_goes p.ty (and-fst _ _ h) k _ _
-    (apart k _ (star_if p.pointer) (p.name ∷ []) ts (star_goes p.pointer k _ (p.name ∷ ts) (name_then k p.name ss ts (and-snd _ _ h) go)))))
+    (apart k _ (type_tokens p.ty) _ ts (type_goes p.ty (and_first _ _ h) k _ _
+    (apart k _ (star_if p.pointer) (p.name ∷ []) ts (star_goes p.pointer k _ (p.name ∷ ts) (name_then k p.name ss ts (and_second _ _ h) go)))))
 
 local_by : (ty : CType) (name : Token) → spells_type ty ≡ true → is_name name ≡ true →
     Whole Local (type_tokens ty ++ (name ∷ codes "=" ∷ (zero_tokens ty ++ codes ";" ∷ [])))
@@ -228,7 +154,7 @@ local_by (ctype.Struct of) name h i k ss ts go =
     (open_then k _ _ _ refl (word_then (k + 1) _ _ _ refl (close_then k _ _ _ refl refl (word_then k _ _ _ refl go))))))))
 
 local_goes : (x : CLocal) → spells_local x ≡ true → Whole Local (local_tokens x)
-local_goes x h = local_by x.ty x.name (and-fst _ _ h) (and-snd _ _ h)
+local_goes x h = local_by x.ty x.name (and_first _ _ h) (and_second _ _ h)
 
 -- what stands before a function's name
 returned_goes : (s : Option Scalar) → spells_returned s ≡ true → (k : ℕ) (ss : List Wanted) (ts : List Token) →
@@ -279,15 +205,15 @@ module _ (f : CFunc) (ts : List Token) where
 func_goes : (f : CFunc) → spells_func f ≡ true → Whole Func (func_tokens f)
 func_goes f h k ss ts go =
     let named : (is_function_name f.name && (all_of (map spells_param f.params)
-    && (all_of (map spells_local f.locals) && all_of (map spells_stmt f.body)))) ≡ true = and-snd _ _ h in
-    let given : (all_of (map spells_param f.params) && (all_of (map spells_local f.locals) && all_of (map spells_stmt f.body))) ≡ true = and-snd _ _ named in
-    let rest : (all_of (map spells_local f.locals) && all_of (map spells_stmt f.body)) ≡ true = and-snd _ _ given in
+    && (all_of (map spells_local f.locals) && all_of (map spells_stmt f.body)))) ≡ true = and_second _ _ h in
+    let given : (all_of (map spells_param f.params) && (all_of (map spells_local f.locals) && all_of (map spells_stmt f.body))) ≡ true = and_second _ _ named in
+    let rest : (all_of (map spells_local f.locals) && all_of (map spells_stmt f.body)) ≡ true = and_second _ _ given in
     subst (λ (zs : List Token). Goes k (at k Func ∷ ss) zs) (sym (func_apart f ts))
-    (static_goes f.fixed k ss _ (returned_goes f.result (and-fst _ _ h) k ss _
-    (rest_goes f.name (map param_tokens f.params) (map local_tokens f.locals) (map stmt_tokens f.body) (and-fst _ _ named)
-    (each_of (Whole Param) param_tokens spells_param param_goes f.params (and-fst _ _ given))
-    (each_of (Whole Local) local_tokens spells_local local_goes f.locals (and-fst _ _ rest))
-    (each_of (Whole Stmt) stmt_tokens spells_stmt stmt_goes f.body (and-snd _ _ rest)) k ss ts go)))
+    (static_goes f.fixed k ss _ (returned_goes f.result (and_first _ _ h) k ss _
+    (rest_goes f.name (map param_tokens f.params) (map local_tokens f.locals) (map stmt_tokens f.body) (and_first _ _ named)
+    (each_of (Whole Param) param_tokens spells_param param_goes f.params (and_first _ _ given))
+    (each_of (Whole Local) local_tokens spells_local local_goes f.locals (and_first _ _ rest))
+    (each_of (Whole Stmt) stmt_tokens spells_stmt stmt_goes f.body (and_second _ _ rest)) k ss ts go)))
 
 -- files
 
@@ -307,13 +233,13 @@ both_some [] funcs some some_func h i = absurd (let e : false ≡ true = some in
 both_some (s ∷ structs) [] some some_func h i = absurd (let e : false ≡ true = some_func in cc)
 both_some (s ∷ structs) (f ∷ funcs) some some_func h i =
     file_by (struct_tokens s) (map struct_tokens structs) (func_tokens f) (map func_tokens funcs)
-    (struct_goes s (and-fst _ _ h)) (each_of (Whole Struct) struct_tokens spells_struct struct_goes structs (and-snd _ _ h))
-    (func_goes f (and-fst _ _ i)) (each_of (Whole Func) func_tokens spells_func func_goes funcs (and-snd _ _ i))
+    (struct_goes s (and_first _ _ h)) (each_of (Whole Struct) struct_tokens spells_struct struct_goes structs (and_second _ _ h))
+    (func_goes f (and_first _ _ i)) (each_of (Whole Func) func_tokens spells_func func_goes funcs (and_second _ _ i))
 
 pub file_derives : (structs : List CStruct) (funcs : List CFunc) → is_spellable structs funcs ≡ true → SpellText (tokens_of structs funcs)
 file_derives structs funcs h =
-    let a = and-snd (has_any structs) _ h in
-    let b = and-snd (has_any funcs) _ a in
-    let c = and-snd (all_of (map spells_struct structs)) _ b in
-    let few : most_open 0 (tokens_of structs funcs) ≤ 2000 = leb-true _ _ (and-snd (all_of (map spells_func funcs)) _ c) in
-    both_some structs funcs (and-fst _ _ h) (and-fst _ _ a) (and-fst _ _ b) (and-fst _ _ c) few
+    let a = and_second (has_any structs) _ h in
+    let b = and_second (has_any funcs) _ a in
+    let c = and_second (all_of (map spells_struct structs)) _ b in
+    let few : most_open 0 (tokens_of structs funcs) ≤ 2000 = leb-true _ _ (and_second (all_of (map spells_func funcs)) _ c) in
+    both_some structs funcs (and_first _ _ h) (and_first _ _ a) (and_first _ _ b) (and_first _ _ c) few

@@ -1,25 +1,5 @@
 -- One level of an expression: its tokens, whether it has a spelling, and itself without places, by what they are of its parts.
-use Rattle.std.proofs.Common.{
-  ◌≡◌,
-  ℕ,
-  Bool,
-  true,
-  ◌&&◌,
-  List,
-  [],
-  ◌∷◌,
-  ◌++◌,
-  map,
-  Option,
-  Some,
-  None,
-  refl,
-  sym,
-  ap,
-  ◌∙◌,
-  subst,
-  codes,
-}
+use Rattle.std.proofs.Common.{◌≡◌, ℕ, Bool, true, ◌&&◌, List, [], ◌∷◌, ◌++◌, map, Option, Some, None, refl, sym, ap, ◌∙◌, subst, codes}
 use Rattle.std.specs.Fmt.{decimal}
 use Rattle.bl_tree.specs.declared.c.CPlace.{CPlace, CPlace-F, fold-roll-CPlace, roll-CPlace}
 use Rattle.bl_tree.specs.declared.c.CStep.{CStep, CStep-F, fold-roll-CStep, roll-CStep}
@@ -31,32 +11,10 @@ use Rattle.bl_tree.specs.declared.c.CArg.{CArg, CArg-F, fold-roll-CArg, roll-CAr
 use Rattle.bl_tree.specs.Reduce.{all_of, joined}
 use Rattle.bl_ctext.specs.Token.{Token}
 use Rattle.bl_ctext.specs.Names.{is_name, is_callee}
-use Rattle.bl_ctext.specs.Spelling.{
-  literal_tokens,
-  operator_sign,
-  call_tokens,
-  root_tokens,
-  index_front,
-  expr_tokens,
-  kind_tokens,
-  place_tokens,
-  step_tokens,
-  index_tokens,
-  ccall_tokens,
-  arg_tokens,
-}
-use Rattle.bl_ctext.specs.Spellable.{
-  is_c_operator,
-  is_literal,
-  is_length,
-  spells_expr,
-  spells_kind,
-  spells_place,
-  spells_step,
-  spells_index,
-  spells_call,
-  spells_arg,
-}
+use Rattle.bl_ctext.specs.Spelling.{literal_tokens, operator_sign, call_tokens, root_tokens, index_front, expr_tokens, kind_tokens, place_tokens, step_tokens}
+use Rattle.bl_ctext.specs.Spelling.{index_tokens, ccall_tokens, arg_tokens}
+use Rattle.bl_ctext.specs.Spellable.{is_c_operator, is_literal, is_length, spells_expr, spells_kind, spells_place, spells_step, spells_index, spells_call}
+use Rattle.bl_ctext.specs.Spellable.{spells_arg}
 use Rattle.bl_cparse_syntax_laws.specs.Placeless.{any_place, placeless_expr, placeless_place, placeless_call}
 use Rattle.bl_cparse_syntax_laws.specs.inner.Placeless.{placeless_kind, placeless_step, placeless_index, placeless_arg}
 use Rattle.bl_cparse_syntax_laws.proofs.Rows.{Only}

@@ -1,54 +1,17 @@
 -- Names, steps and arguments, one after another.
-use Rattle.std.proofs.Common.{
-  ◌≡◌,
-  ℕ,
-  ◌+◌,
-  Bool,
-  true,
-  false,
-  ◌⊎◌,
-  inl,
-  inr,
-  List,
-  [],
-  ◌∷◌,
-  ◌++◌,
-  refl,
-  sym,
-  subst,
-  append_assoc,
-  arith,
-  codes,
-}
+use Rattle.std.proofs.Common.{◌≡◌, ℕ, ◌+◌, Bool, true, false, ◌⊎◌, inl, inr, List, [], ◌∷◌, ◌++◌, refl, sym, subst, append_assoc, arith, codes}
+use Rattle.bl_tree.proofs.Basics.{either_of}
 use Rattle.bl_tree.specs.Reduce.{joined}
 use Rattle.bl_ctext.specs.Token.{Token}
 use Rattle.bl_ctext.specs.Names.{is_among, is_name, is_struct_name, is_function_name, is_callee, prelude_functions}
 use Rattle.bl_ctext.specs.Spelling.{listed, with_commas, call_tokens, root_tokens}
-use Rattle.bl_ctext.proofs.Bytes.{either}
 use Rattle.bl_ctext.proofs.Nesting.{is_bracket}
 use Rattle.bl_ctext.proofs.PlainWords.{name-plain, callee-plain, struct_name-plain, function_name-plain}
 use Rattle.bl_grammar.specs.declared.symbol.Symbol.TheVariants.{Terminal}
 use Rattle.bl_cparse_syntax.specs.declared.grammar.Group.TheVariants.{Operators, PreludeFunctions, StructWords, FunctionWords}
 use Rattle.bl_cparse_syntax.specs.declared.grammar.Part.{Part}
-use Rattle.bl_cparse_syntax.specs.declared.grammar.Part.TheVariants.{
-  StructName,
-  FuncName,
-  Stmt,
-  AfterName,
-  AssignTail,
-  Value,
-  AfterOpen,
-  Expr,
-  Simple,
-  Inside,
-  NameUse,
-  Steps,
-  Index,
-  Args,
-  ArgRest,
-  Arg,
-  Place,
-}
+use Rattle.bl_cparse_syntax.specs.declared.grammar.Part.TheVariants.{StructName, FuncName, Stmt, AfterName, AssignTail, Value, AfterOpen, Expr, Simple, Inside}
+use Rattle.bl_cparse_syntax.specs.declared.grammar.Part.TheVariants.{NameUse, Steps, Index, Args, ArgRest, Arg, Place}
 use Rattle.bl_cparse_syntax.specs.Classes.{matches}
 use Rattle.bl_cparse_syntax.specs.Classes.Class.{exactly, one_of, a_name}
 use Rattle.bl_cparse_syntax.specs.Grammar.{Wanted}
@@ -88,19 +51,19 @@ name_then k w ss ts h go = class_then a_name k w ss ts (name_is w h) (name-plain
 
 pub callee_either : (w : Token) → is_callee w ≡ true → (is_name w ≡ true) ⊎ (is_among w prelude_functions ≡ true)
 unfolding is_callee
-callee_either w h = either _ _ h
+callee_either w h = either_of _ _ h
 
 pub struct_name : (w : Token) → is_struct_name w ≡ true → (k j : ℕ) (ss : List Wanted) (ts : List Token) → Goes k ss ts →
     Goes k (at j StructName ∷ ss) (w ∷ ts)
 unfolding is_struct_name matches
-struct_name w h k j ss ts go = elim (either _ _ h) [
+struct_name w h k j ss ts go = elim (either_of _ _ h) [
   | inl plain ↦ free k j StructName ss (w ∷ ts) here (omega arith) (name_then k w ss ts plain go)
   | inr other ↦ free k j StructName ss (w ∷ ts) (later here) (omega arith) (class_then (one_of StructWords) k w ss ts other (struct_name-plain w h) go)
 ]
 
 pub function_name : (w : Token) → is_function_name w ≡ true → Whole FuncName (w ∷ [])
 unfolding is_function_name matches
-function_name w h k ss ts go = elim (either _ _ h) [
+function_name w h k ss ts go = elim (either_of _ _ h) [
   | inl plain ↦ free k k FuncName ss (w ∷ ts) here (omega arith) (name_then k w ss ts plain go)
   | inr other ↦ free k k FuncName ss (w ∷ ts) (later here) (omega arith) (class_then (one_of FunctionWords) k w ss ts other (function_name-plain w h) go)
 ]

@@ -1,41 +1,13 @@
 -- Numbers and literals are of the classes that the grammar has for them.
-use Rattle.std.proofs.Common.{
-  ◌≡◌,
-  ℕ,
-  zero,
-  suc,
-  ◌+◌,
-  ◌-◌,
-  ◌*◌,
-  ◌^◌,
-  ◌≤◌,
-  ◌<◌,
-  ℤ,
-  pos,
-  negsuc,
-  Bool,
-  true,
-  false,
-  ◌==◌,
-  cond,
-  nat_lt,
-  List,
-  [],
-  ◌∷◌,
-  ◌++◌,
-  length,
-  get_or,
-  map,
-  refl,
-  arith,
-  codes,
-}
+use Rattle.std.proofs.Common.{◌≡◌, ℕ, zero, suc, ◌+◌, ◌-◌, ◌*◌, ◌^◌, ◌≤◌, ◌<◌, ℤ, pos, negsuc, Bool, true, false, ◌==◌, cond, List, [], ◌∷◌, ◌++◌}
+use Rattle.std.proofs.Common.{length, get_or, map, refl, arith, codes}
 use Rattle.std.proofs.lemmas.Bool.{le-leb, lt-ltb}
 use Rattle.std.proofs.lemmas.Bool.Decides.{nat_tests}
 use Rattle.std.proofs.lemmas.Fmt.{decimal_is_IsNumeral, decimal_digit, first_decimal}
 use Rattle.std.specs.Char.{is_ascii_digit, digit_value}
 use Rattle.std.specs.Str.Parse.{AllDigits, digits_value}
 use Rattle.std.specs.Fmt.{decimal}
+use Rattle.bl_tree.proofs.Basics.{less_from}
 use Rattle.bl_tree.specs.declared.scalar.Width.{Width}
 use Rattle.bl_tree.specs.declared.scalar.Width.TheVariants.{W8, W16, W32, W64}
 use Rattle.bl_tree.specs.declared.scalar.Scalar.{Scalar}
@@ -49,7 +21,7 @@ use Rattle.bl_ctext.proofs.Nesting.{is_bracket}
 use Rattle.bl_ctext.proofs.PlainWords.{decimal-plain}
 use Rattle.bl_cparse_syntax.specs.declared.grammar.Group.TheVariants.{PlainLiterals}
 use Rattle.bl_cparse_syntax.specs.declared.grammar.Digits.{Digits}
-use Rattle.bl_cparse_syntax.specs.declared.grammar.Digits.TheVariants.{Elements, Int, Negated, Unsigned}
+use Rattle.bl_cparse_syntax.specs.declared.grammar.Digits.TheVariants.{Int, Negated, Unsigned}
 use Rattle.bl_cparse_syntax.specs.declared.grammar.Part.{Part}
 use Rattle.bl_cparse_syntax.specs.declared.grammar.Part.TheVariants.{Simple, Constant, Inside, Negative}
 use Rattle.bl_cparse_syntax.specs.Classes.{least, digits_bound, are_digits, spells_number, matches}
@@ -57,20 +29,10 @@ use Rattle.bl_cparse_syntax.specs.Classes.Class.{one_of, number}
 use Rattle.bl_cparse_syntax.specs.Grammar.{Wanted, productions, needing_none, constant, IsAmong}
 use Rattle.bl_cparse_syntax.specs.Grammar.IsAmong.{here, later}
 use Rattle.bl_cparse_syntax_laws.proofs.Shallow.{Goes, at, roomed, free, open_then, close_then, class_then, word_then, one_behind}
+use Rattle.bl_ctext.proofs.ExprNesting.{int_word-plain, nat_word-plain}
+use Rattle.bl_cparse_syntax_laws.proofs.Pieces.{bound_le}
 
 -- numbers
-
-negatives-le : (w : Width) → 2 * negatives w ≤ 2 ^ 64
-negatives-le W8 = omega arith
-negatives-le W16 = omega arith
-negatives-le W32 = omega arith
-negatives-le W64 = omega arith
-
-bound-le : (of : Digits) → digits_bound of ≤ 2 ^ 64
-bound-le Elements = omega arith
-bound-le (Int w) = omega (arith, negatives-le w)
-bound-le (Negated w) = omega (arith, negatives-le w)
-bound-le (Unsigned w) = negatives-le w
 
 digit_byte : (c : ℕ) → digit_value c < 10 → is_ascii_digit c ≡ true
 digit_byte c h = grind (arith, nat_tests)
@@ -95,12 +57,12 @@ decimal_digits (suc n) h =
 pub number_is : (of : Digits) (n : ℕ) → least of ≤ n → n < digits_bound of → matches (number of) (decimal n) ≡ true
 unfolding matches spells_number
 number_is of n low high =
-    let small : n < 2 ^ 64 = omega (arith, high, bound-le of) in
+    let small : n < 2 ^ 64 = omega (arith, high, bound_le of) in
     let value : digits_value 10 (decimal n) ≡ n = (decimal_is_IsNumeral n small).1 in
     rw (decimal_digits n small, value, le-leb (least of) n low, lt-ltb n (digits_bound of) high) refl
 
 pub number_plain : (of : Digits) (n : ℕ) → n < digits_bound of → is_bracket (decimal n) ≡ false
-number_plain of n high = decimal-plain n (omega (arith, high, bound-le of))
+number_plain of n high = decimal-plain n (omega (arith, high, bound_le of))
 
 -- constants
 
@@ -129,18 +91,6 @@ negated_among W8 = here
 negated_among W16 = later here
 negated_among W32 = later (later here)
 negated_among W64 = later (later (later here))
-
-int_plain : (w : Width) → is_bracket (constant_word (codes "INT") w) ≡ false
-int_plain W8 = refl
-int_plain W16 = refl
-int_plain W32 = refl
-int_plain W64 = refl
-
-unsigned_plain : (w : Width) → is_bracket (constant_word (codes "UINT") w) ≡ false
-unsigned_plain W8 = refl
-unsigned_plain W16 = refl
-unsigned_plain W32 = refl
-unsigned_plain W64 = refl
 
 -- a constant as an expression
 simple_constant : (k : ℕ) (bytes : Token) (of : Digits) (n : ℕ) (ss : List Wanted) (ts : List Token) →
@@ -193,9 +143,9 @@ minus_goes : (k : ℕ) (w : Width) (n : ℕ) (ss : List Wanted) (ts : List Token
     Goes (k + 1) (at k Inside ∷ ss) (minus_rest w n ++ ts)
 minus_goes k w n ss ts low high go =
     roomed (k + 1) k Inside ss (minus_rest w n ++ ts) (later (later here))
-    (λ few. two_open k (constant_word (codes "INT") w) (decimal n ∷ codes ")" ∷ codes ")" ∷ ts) (int_plain w) few)
+    (λ few. two_open k (constant_word (codes "INT") w) (decimal n ∷ codes ")" ∷ codes ")" ∷ ts) (int_word-plain w) few)
     (word_then (k + 1) _ _ _ refl
-    (constant_goes (k + 1) k Negative (constant_word (codes "INT") w) (Negated w) n _ (codes ")" ∷ ts) (negated_among w) (int_plain w) low high
+    (constant_goes (k + 1) k Negative (constant_word (codes "INT") w) (Negated w) n _ (codes ")" ∷ ts) (negated_among w) (int_word-plain w) low high
     (close_then k _ _ _ refl refl go)))
 
 negative_begun : (w : Width) (n : ℕ) → 1 ≤ n → n ≤ negatives w → OfKindTokens (negative_tokens w n)
@@ -209,17 +159,14 @@ negative_begun w n low high k ss ts go = by_least (n == negatives w) refl
     by_least true e = simple (plain_word k _ ss ts (least_is w).0 (least_is w).1 go)
     by_least false e = bracketed (minus_rest w n) refl (minus_goes k w n ss ts low (other e) go)
 
-below : (n m : ℕ) → nat_lt n m ≡ true → n < m
-below n m h = grind (arith, nat_tests)
-
 pub literal_begun : (s : Scalar) (n : ℤ) → is_literal s n ≡ true → OfKindTokens (literal_tokens s n)
 literal_begun scalar.Bool (pos n) h k ss ts go = simple (plain_word k _ ss ts (truth_is (n == 0)).0 (truth_is (n == 0)).1 go)
 literal_begun scalar.Bool (negsuc n) h k ss ts go = absurd (let e : false ≡ true = h in cc)
 literal_begun (scalar.Int w) (pos n) h k ss ts go =
-    simple (simple_constant k _ (Int w) n ss ts (int_among w) (int_plain w) (omega arith) (below n (negatives w) h) go)
-literal_begun (scalar.Int w) (negsuc n) h k ss ts go = let small : n < negatives w = below n (negatives w) h in
+    simple (simple_constant k _ (Int w) n ss ts (int_among w) (int_word-plain w) (omega arith) (less_from n (negatives w) h) go)
+literal_begun (scalar.Int w) (negsuc n) h k ss ts go = let small : n < negatives w = less_from n (negatives w) h in
     negative_begun w (suc n) (omega arith) (omega (arith, small)) k ss ts go
 literal_begun (scalar.Nat w) (pos n) h k ss ts go =
-    simple (simple_constant k _ (Unsigned w) n ss ts (unsigned_among w) (unsigned_plain w) (omega arith) (below n (2 * negatives w) h) go)
+    simple (simple_constant k _ (Unsigned w) n ss ts (unsigned_among w) (nat_word-plain w) (omega arith) (less_from n (2 * negatives w) h) go)
 literal_begun (scalar.Nat w) (negsuc n) h k ss ts go = absurd (let e : false ≡ true = h in cc)
 literal_begun (scalar.Bits w) n h k ss ts go = absurd (let e : false ≡ true = h in cc)

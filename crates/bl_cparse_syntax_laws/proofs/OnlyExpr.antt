@@ -1,41 +1,11 @@
 -- An expression, a place and a call are told by their tokens.
-use Rattle.std.proofs.Common.{
-  ◌≡◌,
-  ℕ,
-  ◌<◌,
-  ◌^◌,
-  ℤ,
-  pos,
-  negsuc,
-  suc,
-  ◌==◌,
-  cond,
-  Bool,
-  true,
-  false,
-  not,
-  ◌&&◌,
-  nat_le,
-  List,
-  [],
-  ◌∷◌,
-  ◌++◌,
-  map,
-  Option,
-  Some,
-  None,
-  refl,
-  sym,
-  ap,
-  ◌∙◌,
-  subst,
-  append_assoc,
-  codes,
-  arith,
-}
+use Rattle.std.proofs.Common.{◌≡◌, ℕ, ◌<◌, ◌^◌, ℤ, pos, negsuc, suc, ◌==◌, cond, Bool, true, false, not, ◌&&◌, nat_le, List, [], ◌∷◌, ◌++◌, map, Option, Some}
+use Rattle.std.proofs.Common.{None, refl, sym, ap, ◌∙◌, subst, append_assoc, codes, arith}
 use Rattle.std.proofs.lemmas.Bool.Decides.{nat_tests}
 use Rattle.std.proofs.lemmas.Fmt.{decimal_injective}
 use Rattle.std.specs.Fmt.{decimal}
+use Rattle.std.proofs.lemmas.Bool.{not-true}
+use Rattle.bl_tree.proofs.Basics.{and_first, and_second, from_true_false}
 use Rattle.bl_tree.specs.declared.place.Place.{Place as TextPlace}
 use Rattle.bl_tree.specs.declared.scalar.Width.{Width}
 use Rattle.bl_tree.specs.declared.scalar.Width.TheVariants.{W8, W16, W32, W64}
@@ -52,81 +22,20 @@ use Rattle.bl_tree.specs.declared.c.CArg.{CArg, CArg-F, map-CArg, roll-CArg, out
 use Rattle.bl_tree.specs.Reduce.{all_of, joined}
 use Rattle.bl_ctext.specs.Token.{Token}
 use Rattle.bl_ctext.specs.Names.{is_name, is_callee}
-use Rattle.bl_ctext.specs.Spelling.{
-  literal_tokens,
-  negatives,
-  operator_sign,
-  width_digits,
-  with_commas,
-  root_tokens,
-  index_front,
-  expr_tokens,
-  kind_tokens,
-  place_tokens,
-  step_tokens,
-  index_tokens,
-  ccall_tokens,
-  arg_tokens,
-}
-use Rattle.bl_ctext.specs.Spellable.{
-  is_c_operator,
-  is_literal,
-  is_length,
-  spells_expr,
-  spells_kind,
-  spells_place,
-  spells_step,
-  spells_index,
-  spells_call,
-  spells_arg,
-}
-use Rattle.bl_ctext.proofs.Bytes.{and-fst, and-snd}
+use Rattle.bl_ctext.specs.Spelling.{literal_tokens, negatives, operator_sign, width_digits, with_commas, root_tokens, index_front, expr_tokens, kind_tokens}
+use Rattle.bl_ctext.specs.Spelling.{place_tokens, step_tokens, index_tokens, ccall_tokens, arg_tokens}
+use Rattle.bl_ctext.specs.Spellable.{is_c_operator, is_literal, is_length, spells_expr, spells_kind, spells_place, spells_step, spells_index, spells_call}
+use Rattle.bl_ctext.specs.Spellable.{spells_arg}
 use Rattle.bl_ctext.proofs.PrefixedNames.{name-callee}
 use Rattle.bl_cparse_syntax_laws.specs.Placeless.{any_place, placeless_expr, placeless_place, placeless_call}
 use Rattle.bl_cparse_syntax_laws.specs.inner.Placeless.{placeless_kind, placeless_step, placeless_index, placeless_arg}
-use Rattle.bl_cparse_syntax_laws.proofs.Tests.{is, among, are_reserved, first, tail, second, no_truth, lacks, callee_off, name_off}
+use Rattle.bl_cparse_syntax_laws.proofs.Tests.{is, among, are_reserved, first, tail, second, lacks, callee_off, name_off}
 use Rattle.bl_cparse_syntax_laws.proofs.Rows.{Only, InRow, InCommas, stands, each_shown, rows_same, commas_same}
 use Rattle.bl_cparse_syntax_laws.proofs.Words.{operator_same, operator_off, literal_same}
-use Rattle.bl_cparse_syntax_laws.proofs.Layers.{
-  by_level,
-  Args,
-  Kinds,
-  Calls,
-  Exprs,
-  Indices,
-  Places,
-  Steps,
-  OnlyLevel,
-  only_whole,
-  arg_level,
-  arg_ok,
-  arg_bare,
-  kind_level,
-  kind_ok,
-  kind_bare,
-  call_level,
-  call_ok,
-  call_bare,
-  expr_level,
-  expr_ok,
-  expr_bare,
-  index_level,
-  index_ok,
-  index_bare,
-  place_level,
-  place_ok,
-  place_bare,
-  step_level,
-  step_ok,
-  step_bare,
-  arg_levels,
-  kind_levels,
-  call_levels,
-  expr_levels,
-  index_levels,
-  place_levels,
-  step_levels,
-}
+use Rattle.bl_cparse_syntax_laws.proofs.Layers.{by_level, Args, Kinds, Calls, Exprs, Indices, Places, Steps, OnlyLevel, only_whole, arg_level, arg_ok, arg_bare}
+use Rattle.bl_cparse_syntax_laws.proofs.Layers.{kind_level, kind_ok, kind_bare, call_level, call_ok, call_bare, expr_level, expr_ok, expr_bare, index_level}
+use Rattle.bl_cparse_syntax_laws.proofs.Layers.{index_ok, index_bare, place_level, place_ok, place_bare, step_level, step_ok, step_bare, arg_levels}
+use Rattle.bl_cparse_syntax_laws.proofs.Layers.{kind_levels, call_levels, expr_levels, index_levels, place_levels, step_levels}
 
 -- ---- what stands first
 
@@ -153,12 +62,8 @@ foreign = codes "-" ∷ codes "*" ∷ codes "!" ∷ codes "&" ∷ codes ")" ∷ 
 abbrev pub Lacks : List Token → List Token → Type 0
 Lacks words ts = among (first ts) words ≡ false
 
-pub not_false : (b : Bool) → not b ≡ true → b ≡ false
-not_false true h = cc
-not_false false h = refl
-
 pub ends_off : (a : List Token) → ends a ≡ true → among (first a) going ≡ false
-ends_off a h = not_false (among (first a) going) h
+ends_off a h = not-true (among (first a) going) h
 
 ends_dot : (a : List Token) → ends a ≡ true → is (first a) (codes ".") ≡ false
 ends_dot a h = lacks (first a) going (codes ".") (ends_off a h) refl
@@ -204,10 +109,10 @@ root_front ws within bracket false name more h r = name_off name ws h within
 
 pub place_front : (ws : List Token) → are_reserved ws ≡ true → among (codes "(") ws ≡ false → (p : CPlace) → spells_place p ≡ true →
     Front ws (place_tokens p)
-place_front ws within bracket = of_places (Front ws) (λ z h. root_front ws within bracket z.through z.name (joined (map step_tokens z.steps)) (and-fst _ _ h))
+place_front ws within bracket = of_places (Front ws) (λ z h. root_front ws within bracket z.through z.name (joined (map step_tokens z.steps)) (and_first _ _ h))
 
 pub call_front : (ws : List Token) → are_reserved ws ≡ true → (c : CCall) → spells_call c ≡ true → Front ws (ccall_tokens c)
-call_front ws within = of_calls (Front ws) (λ z h r. callee_off z.name ws (and-fst _ _ h) within)
+call_front ws within = of_calls (Front ws) (λ z h r. callee_off z.name ws (and_first _ _ h) within)
 
 truth_front : (b : Bool) (r : List Token) → Lacks foreign (cond b (codes "false") (codes "true") ∷ r)
 truth_front true r = refl
@@ -329,7 +234,7 @@ steps_open [] a h e = ends_open a e
 steps_open (s ∷ steps) a h e =
     ap (λ ts. is (first ts) (codes "(")) (append_assoc (step_tokens s) (joined (map step_tokens steps)) a)
     ∙ lacks (first (step_tokens s ++ (joined (map step_tokens steps) ++ a))) (codes "(" ∷ codes "[" ∷ []) (codes "(")
-    (step_plain s (and-fst _ _ h) (joined (map step_tokens steps) ++ a)) refl
+    (step_plain s (and_first _ _ h) (joined (map step_tokens steps) ++ a)) refl
 
 named_sort : (name : Token) (rest : List Token) → is_callee name ≡ true → (v : Bool) → is (first rest) (codes "(") ≡ v →
     sort_in (name ∷ rest) ≡ cond v call read
@@ -355,12 +260,12 @@ two_sorts xs more a h = ap (λ ts. sort_in (codes "(" ∷ ts)) (append_assoc xs 
 sort_is : (z : Kinds) → kind_ok z ≡ true → (a : List Token) → ends a ≡ true → sort_in (kind_level z ++ a) ≡ sort_of z
 sort_is (CExprKind-F.Literal s n) h a e = literal_sort s n h a
 sort_is (CExprKind-F.Read p) h a e =
-    of_places (λ ts. sort_in (ts ++ a) ≡ read) (λ z k. place_sort z.through z.name z.steps (and-fst _ _ k) (and-snd _ _ k) a e) p h
+    of_places (λ ts. sort_in (ts ++ a) ≡ read) (λ z k. place_sort z.through z.name z.steps (and_first _ _ k) (and_second _ _ k) a e) p h
 sort_is (CExprKind-F.Call c) h a e =
     of_calls (λ ts. sort_in (ts ++ a) ≡ call) (λ z k. named_sort z.name
-    (codes "(" ∷ ((with_commas (map arg_tokens z.args) ++ codes ")" ∷ []) ++ a)) (and-fst _ _ k) true refl) c h
+    (codes "(" ∷ ((with_commas (map arg_tokens z.args) ++ codes ")" ∷ []) ++ a)) (and_first _ _ k) true refl) c h
 sort_is (CExprKind-F.Not e') h a e = refl
-sort_is (CExprKind-F.Two o x y) h a e = two_sorts (expr_tokens x) _ a (expr_front x (and-fst _ _ (and-snd _ _ h)))
+sort_is (CExprKind-F.Two o x y) h a e = two_sorts (expr_tokens x) _ a (expr_front x (and_first _ _ (and_second _ _ h)))
 
 -- ---- one level against another
 
@@ -429,8 +334,8 @@ before_same tokens bare ok off x one h y k r s a b t u e =
 arg_same : (x : CArg-F Arg Kind Call Expr Index Place Step) → OnlyLevel arg_level arg_bare arg_ok ends (plain_arg x)
 arg_same (CArg-F.Value x) (CArg-F.Value y) h k a b s t e = let m = x.1 h y k a b s t e in (ap (λ e. roll-CArg (CArg-F.Value e)) m.0, m.1)
 arg_same (CArg-F.Address x) (CArg-F.Address y) h k a b s t e = let m = x.1 h y k a b s t (ap tail e) in (ap (λ p. roll-CArg (CArg-F.Address p)) m.0, m.1)
-arg_same (CArg-F.Value x) (CArg-F.Address y) h k a b s t e = no_truth (sym (ap (λ ts. among (first ts) foreign) e) ∙ expr_front x.0 h a)
-arg_same (CArg-F.Address x) (CArg-F.Value y) h k a b s t e = no_truth (ap (λ ts. among (first ts) foreign) e ∙ expr_front y k b)
+arg_same (CArg-F.Value x) (CArg-F.Address y) h k a b s t e = from_true_false (sym (ap (λ ts. among (first ts) foreign) e) ∙ expr_front x.0 h a)
+arg_same (CArg-F.Address x) (CArg-F.Value y) h k a b s t e = from_true_false (ap (λ ts. among (first ts) foreign) e ∙ expr_front y k b)
 
 abbrev Same : Kinds → Kinds → List Token → List Token → Type 0
 Same x z a b = (kind_bare x ≡ kind_bare z) × (a ≡ b)
@@ -457,14 +362,14 @@ two_same : (o p : Op) (u v : Expr) (x y : CExpr) → kind_ok (CExprKind-F.Two o 
     ≡ (expr_tokens x ++ (operator_sign p ∷ (expr_tokens y ++ codes ")" ∷ []))) ++ b
     → Same (CExprKind-F.Two o u.0 v.0) (CExprKind-F.Two p x y) a b
 two_same o p u v x y h k a b e =
-    let oh = and-fst (is_c_operator o) (spells_expr u.0 && spells_expr v.0) h in
-    let pk = and-fst (is_c_operator p) (spells_expr x && spells_expr y) k in
-    let hs = and-snd (is_c_operator o) (spells_expr u.0 && spells_expr v.0) h in
-    let ks = and-snd (is_c_operator p) (spells_expr x && spells_expr y) k in
-    let m = before_same expr_tokens placeless_expr spells_expr ends u.0 u.1 (and-fst _ _ hs) x (and-fst _ _ ks)
+    let oh = and_first (is_c_operator o) (spells_expr u.0 && spells_expr v.0) h in
+    let pk = and_first (is_c_operator p) (spells_expr x && spells_expr y) k in
+    let hs = and_second (is_c_operator o) (spells_expr u.0 && spells_expr v.0) h in
+    let ks = and_second (is_c_operator p) (spells_expr x && spells_expr y) k in
+    let m = before_same expr_tokens placeless_expr spells_expr ends u.0 u.1 (and_first _ _ hs) x (and_first _ _ ks)
     (operator_sign o ∷ (expr_tokens v.0 ++ codes ")" ∷ [])) (operator_sign p ∷ (expr_tokens y ++ codes ")" ∷ [])) a b
     (operator_ends o ((expr_tokens v.0 ++ codes ")" ∷ []) ++ a) oh) (operator_ends p ((expr_tokens y ++ codes ")" ∷ []) ++ b) pk) e in
-    let n = before_same expr_tokens placeless_expr spells_expr ends v.0 v.1 (and-snd _ _ hs) y (and-snd _ _ ks) (codes ")" ∷ [])
+    let n = before_same expr_tokens placeless_expr spells_expr ends v.0 v.1 (and_second _ _ hs) y (and_second _ _ ks) (codes ")" ∷ [])
     (codes ")" ∷ []) a b refl refl (ap tail m.1) in
     (by_two (operator_same o p oh pk (ap first m.1)) m.0 n.0, ap tail n.1)
 
@@ -503,7 +408,7 @@ by_call e f = cc
 call_same : (name : List ℕ) (args : List Arg) → OnlyLevel call_level call_bare call_ok ends (record { name = name; args = map (λ e. e.0) args })
 call_same name args z h k a b s t e =
     let m = commas_same arg_tokens placeless_arg spells_arg ends args_row (map (λ e. e.0) args) z.args (each_shown OfArg args)
-    (and-snd _ _ h) (and-snd _ _ k) a b
+    (and_second _ _ h) (and_second _ _ k) a b
     (sym (append_assoc (with_commas (map arg_tokens (map (λ e. e.0) args))) (codes ")" ∷ []) a)
     ∙ (ap (λ ts. tail (tail ts)) e ∙ append_assoc (with_commas (map arg_tokens z.args)) (codes ")" ∷ []) b)) in
     (by_call (ap first e) m.0, m.1)
@@ -512,7 +417,7 @@ expr_same : (place : TextPlace) (what : Kind) → OnlyLevel expr_level expr_bare
 expr_same place what z h k a b s t e = let m = what.1 h z.what k a b s t e in (ap (λ k. roll-CExpr (record { place = any_place; what = k })) m.0, m.1)
 
 pub short : (n : ℕ) → is_length n ≡ true → n < 2 ^ 64
-short n h = let most : nat_le n 65536 ≡ true = and-snd (nat_le 1 n) (nat_le n 65536) h in grind (arith, nat_tests)
+short n h = let most : nat_le n 65536 ≡ true = and_second (nat_le 1 n) (nat_le n 65536) h in grind (arith, nat_tests)
 
 by_index : {s t : Bool} {u v : CExpr} {n m : ℕ} → s ≡ t → u ≡ v → n ≡ m →
     roll-CIndex (record { signed = s; at = u; length = n }) ≡ roll-CIndex (record { signed = t; at = v; length = m })
@@ -525,9 +430,9 @@ index_rest : (s t : Bool) (u : Expr) (v : CExpr) (n m : ℕ) → s ≡ t → (sp
     → (roll-CIndex (record { signed = s; at = placeless_expr u.0; length = n })
     ≡ roll-CIndex (record { signed = t; at = placeless_expr v; length = m })) × (a ≡ b)
 index_rest s t u v n m is h k a b e =
-    let r = before_same expr_tokens placeless_expr spells_expr ends u.0 u.1 (and-fst _ _ h) v (and-fst _ _ k)
+    let r = before_same expr_tokens placeless_expr spells_expr ends u.0 u.1 (and_first _ _ h) v (and_first _ _ k)
     (codes "," ∷ decimal n ∷ codes ")" ∷ codes "]" ∷ []) (codes "," ∷ decimal m ∷ codes ")" ∷ codes "]" ∷ []) a b refl refl e in
-    (by_index is r.0 (decimal_injective n m (short n (and-snd _ _ h)) (short m (and-snd _ _ k)) (ap second r.1)), ap (λ ts. tail (tail (tail (tail ts)))) r.1)
+    (by_index is r.0 (decimal_injective n m (short n (and_second _ _ h)) (short m (and_second _ _ k)) (ap second r.1)), ap (λ ts. tail (tail (tail (tail ts)))) r.1)
 
 index_same : (s : Bool) (u : Expr) (n : ℕ) (t : Bool) (v : CExpr) (m : ℕ) → (spells_expr u.0 && is_length n) ≡ true →
     (spells_expr v && is_length m) ≡ true → (a b : List Token)
@@ -536,8 +441,8 @@ index_same : (s : Bool) (u : Expr) (n : ℕ) (t : Bool) (v : CExpr) (m : ℕ) �
     ≡ roll-CIndex (record { signed = t; at = placeless_expr v; length = m })) × (a ≡ b)
 index_same true u n true v m h k a b e = index_rest true true u v n m refl h k a b (ap (λ ts. tail (tail (tail ts))) e)
 index_same false u n false v m h k a b e = index_rest false false u v n m refl h k a b (ap (λ ts. tail (tail (tail ts))) e)
-index_same true u n false v m h k a b e = no_truth (ap (λ ts. is (second ts) (codes "bl_ix_s")) e)
-index_same false u n true v m h k a b e = no_truth (sym (ap (λ ts. is (second ts) (codes "bl_ix_s")) e))
+index_same true u n false v m h k a b e = from_true_false (ap (λ ts. is (second ts) (codes "bl_ix_s")) e)
+index_same false u n true v m h k a b e = from_true_false (sym (ap (λ ts. is (second ts) (codes "bl_ix_s")) e))
 
 index_first : (i : CIndex) → spells_index i ≡ true → (r : List Token) → is (first (index_tokens i ++ r)) (codes "[") ≡ true
 index_first = of_indices (λ ts. (r : List Token) → is (first (ts ++ r)) (codes "[") ≡ true) (λ z h. level_index_front z.signed _)
@@ -554,7 +459,7 @@ some_index : {i j : CIndex} → i ≡ j → Some i ≡ Some j
 some_index e = ap (λ i. Some i) e
 
 no_index : {P : Type 0} (i : CIndex) (a b : List Token) → spells_index i ≡ true → unindexed a ≡ true → a ≡ index_tokens i ++ b → P
-no_index i a b h u e = no_truth (sym (ap (λ ts. is (first ts) (codes "[")) e ∙ index_first i h b) ∙ not_false (is (first a) (codes "[")) u)
+no_index i a b h u e = from_true_false (sym (ap (λ ts. is (first ts) (codes "[")) e ∙ index_first i h b) ∙ not-true (is (first a) (codes "[")) u)
 
 step_same : (n : List ℕ) (i : Option Index) (m : List ℕ) (j : Option CIndex) →
     step_ok (plain_step (record { member = n; index = i })) ≡ true → step_ok (record { member = m; index = j }) ≡ true
@@ -563,9 +468,9 @@ step_same : (n : List ℕ) (i : Option Index) (m : List ℕ) (j : Option CIndex)
     → (step_bare (plain_step (record { member = n; index = i })) ≡ step_bare (record { member = m; index = j })) × (a ≡ b)
 step_same n None m None h k a b s t e = (by_step (ap second e) refl, ap (λ ts. tail (tail ts)) e)
 step_same n (Some i) m (Some j) h k a b s t e =
-    let r = i.1 (and-snd _ _ h) j (and-snd _ _ k) a b refl refl (ap (λ ts. tail (tail ts)) e) in (by_step (ap second e) (some_index r.0), r.1)
-step_same n None m (Some j) h k a b s t e = no_index j a b (and-snd _ _ k) s (ap (λ ts. tail (tail ts)) e)
-step_same n (Some i) m None h k a b s t e = no_index i.0 b a (and-snd _ _ h) t (sym (ap (λ ts. tail (tail ts)) e))
+    let r = i.1 (and_second _ _ h) j (and_second _ _ k) a b refl refl (ap (λ ts. tail (tail ts)) e) in (by_step (ap second e) (some_index r.0), r.1)
+step_same n None m (Some j) h k a b s t e = no_index j a b (and_second _ _ k) s (ap (λ ts. tail (tail ts)) e)
+step_same n (Some i) m None h k a b s t e = no_index i.0 b a (and_second _ _ h) t (sym (ap (λ ts. tail (tail ts)) e))
 
 step_begins : (s : CStep) → spells_step s ≡ true → (r : List Token) → ends (step_tokens s ++ r) ≡ false
 step_begins = of_steps (λ ts. (r : List Token) → ends (ts ++ r) ≡ false) (λ z h r. refl)
@@ -588,7 +493,7 @@ steps_same xs ys h k a b s t e =
     rows_same step_tokens placeless_step spells_step unindexed ends steps_row (map (λ e. e.0) xs) ys (each_shown OfStep xs) h k a b s t e
 
 no_root : {P : Type 0} (n : List ℕ) (more ts : List Token) → is_name n ≡ true → codes "(" ∷ ts ≡ n ∷ more → P
-no_root n more ts h e = no_truth (ap (λ ts. is (first ts) (codes "(")) e
+no_root n more ts h e = from_true_false (ap (λ ts. is (first ts) (codes "(")) e
     ∙ lacks n (codes "(" ∷ []) (codes "(") (name_off n (codes "(" ∷ []) h refl) refl)
 
 place_same : (c : Bool) (n : List ℕ) (xs : List Step) (d : Bool) (m : List ℕ) (ys : List CStep) →
@@ -597,12 +502,12 @@ place_same : (c : Bool) (n : List ℕ) (xs : List Step) (d : Bool) (m : List ℕ
     place_level (record { through = c; name = n; steps = map (λ e. e.0) xs }) ++ a ≡ place_level (record { through = d; name = m; steps = ys }) ++ b
     → (place_bare (record { through = c; name = n; steps = map (λ e. e.0) xs }) ≡ place_bare (record { through = d; name = m; steps = ys })) × (a ≡ b)
 place_same true n xs true m ys h k a b s t e =
-    let r = steps_same xs ys (and-snd _ _ h) (and-snd _ _ k) a b s t (ap (λ ts. tail (tail (tail (tail ts)))) e) in
+    let r = steps_same xs ys (and_second _ _ h) (and_second _ _ k) a b s t (ap (λ ts. tail (tail (tail (tail ts)))) e) in
     (by_place refl (ap (λ ts. first (tail (tail ts))) e) r.0, r.1)
-place_same false n xs false m ys h k a b s t e = let r = steps_same xs ys (and-snd _ _ h) (and-snd _ _ k) a b s t (ap tail e) in
+place_same false n xs false m ys h k a b s t e = let r = steps_same xs ys (and_second _ _ h) (and_second _ _ k) a b s t (ap tail e) in
     (by_place refl (ap first e) r.0, r.1)
-place_same true n xs false m ys h k a b s t e = no_root m _ _ (and-fst _ _ k) e
-place_same false n xs true m ys h k a b s t e = no_root n _ _ (and-fst _ _ h) (sym e)
+place_same true n xs false m ys h k a b s t e = no_root m _ _ (and_first _ _ k) e
+place_same false n xs true m ys h k a b s t e = no_root n _ _ (and_first _ _ h) (sym e)
 
 -- ---- every whole
 

@@ -1,30 +1,8 @@
 -- A file is told by its tokens.
-use Rattle.std.proofs.Common.{
-  ◌≡◌,
-  ℕ,
-  Bool,
-  true,
-  false,
-  not,
-  ◌&&◌,
-  List,
-  [],
-  ◌∷◌,
-  ◌++◌,
-  map,
-  Option,
-  Some,
-  None,
-  refl,
-  sym,
-  ap,
-  ◌∙◌,
-  subst,
-  append_assoc,
-  append-nil,
-  codes,
-}
+use Rattle.std.proofs.Common.{◌≡◌, ℕ, Bool, true, false, not, ◌&&◌, List, [], ◌∷◌, ◌++◌, map, Option, Some, None, refl, sym, ap, ◌∙◌, subst, append_assoc}
+use Rattle.std.proofs.Common.{append-nil, codes}
 use Rattle.std.proofs.lemmas.Fmt.{decimal_injective}
+use Rattle.bl_tree.proofs.Basics.{and_first, and_second, from_true_false}
 use Rattle.bl_tree.specs.declared.scalar.Width.TheVariants.{W8, W16, W32, W64}
 use Rattle.bl_tree.specs.declared.scalar.Scalar.{Scalar}
 use Rattle.bl_tree.specs.declared.scalar.Scalar.TheVariants as scalar
@@ -42,44 +20,12 @@ use Rattle.bl_ctext.specs.Names.{is_name}
 use Rattle.bl_ctext.specs.Prelude.{prelude}
 use Rattle.bl_ctext.specs.SpellsC.{SpellsC}
 use Rattle.bl_ctext.specs.declared.file.CFile.{CFile}
-use Rattle.bl_ctext.specs.Spelling.{
-  scalar_word,
-  type_tokens,
-  with_commas,
-  braced,
-  stmt_tokens,
-  length_tokens,
-  member_tokens,
-  struct_tokens,
-  star_if,
-  param_tokens,
-  zero_tokens,
-  local_tokens,
-  returned_tokens,
-  static_if,
-  func_front,
-  func_rest,
-  func_tokens,
-  tokens_of,
-}
-use Rattle.bl_ctext.specs.Spellable.{
-  has_any,
-  is_c_scalar,
-  is_spellable,
-  shallow,
-  spells_type,
-  spells_length,
-  spells_member,
-  spells_struct,
-  spells_param,
-  spells_local,
-  spells_returned,
-  spells_func,
-  spells_stmt,
-}
-use Rattle.bl_ctext.proofs.Bytes.{and-fst, and-snd}
+use Rattle.bl_ctext.specs.Spelling.{scalar_word, type_tokens, with_commas, braced, stmt_tokens, length_tokens, member_tokens, struct_tokens, star_if}
+use Rattle.bl_ctext.specs.Spelling.{param_tokens, zero_tokens, local_tokens, returned_tokens, static_if, func_front, func_rest, func_tokens, tokens_of}
+use Rattle.bl_ctext.specs.Spellable.{has_any, is_c_scalar, is_spellable, shallow, spells_type, spells_length, spells_member, spells_struct, spells_param}
+use Rattle.bl_ctext.specs.Spellable.{spells_local, spells_returned, spells_func, spells_stmt}
 use Rattle.bl_cparse_syntax_laws.specs.Placeless.{any_place, placeless_stmt, placeless_struct, placeless_func, SameButPlaces}
-use Rattle.bl_cparse_syntax_laws.proofs.Tests.{is, among, first, tail, second, no_truth, lacks, fewer_lacks, name_off}
+use Rattle.bl_cparse_syntax_laws.proofs.Tests.{is, among, first, tail, second, lacks, fewer_lacks, name_off}
 use Rattle.bl_cparse_syntax_laws.proofs.Rows.{Only, InRow, InCommas, stands, each_by, rows_same, commas_same, closed_same, braced_same}
 use Rattle.bl_cparse_syntax_laws.proofs.Unique.{one_list}
 use Rattle.bl_cparse_syntax_laws.proofs.Words.{scalar_same}
@@ -129,7 +75,7 @@ scalar_is_type (scalar.Bits w) h = cc
 
 no_scalar : {P : Type 0} (s : Scalar) (r q : List Token) (w : Token) → is_c_scalar s ≡ true → among w others ≡ true →
     is w w ≡ true → scalar_word s ∷ r ≡ w ∷ q → P
-no_scalar s r q w h k self e = no_truth (sym self ∙ (sym (ap (λ ts. is (first ts) w) e) ∙ lacks (scalar_word s) others w (scalar_other s h) k))
+no_scalar s r q w h k self e = from_true_false (sym self ∙ (sym (ap (λ ts. is (first ts) w) e) ∙ lacks (scalar_word s) others w (scalar_other s h) k))
 
 type_same : (t u : CType) → spells_type t ≡ true → spells_type u ≡ true → (a b : List Token) →
     type_tokens t ++ a ≡ type_tokens u ++ b → (t ≡ u) × (a ≡ b)
@@ -166,8 +112,8 @@ length_same : (n m : Option ℕ) → spells_length n ≡ true → spells_length 
     (length_tokens n ++ codes ";" ∷ []) ++ a ≡ (length_tokens m ++ codes ";" ∷ []) ++ b → (n ≡ m) × (a ≡ b)
 length_same None None h k a b e = (refl, ap tail e)
 length_same (Some n) (Some m) h k a b e = (some_same (decimal_injective n m (short n h) (short m k) (ap second e)), ap (λ ts. tail (tail (tail (tail ts)))) e)
-length_same None (Some m) h k a b e = no_truth (ap (λ ts. is (first ts) (codes ";")) e)
-length_same (Some n) None h k a b e = no_truth (sym (ap (λ ts. is (first ts) (codes ";")) e))
+length_same None (Some m) h k a b e = from_true_false (ap (λ ts. is (first ts) (codes ";")) e)
+length_same (Some n) None h k a b e = from_true_false (sym (ap (λ ts. is (first ts) (codes ";")) e))
 
 abbrev member : CType → List ℕ → Option ℕ → CMember
 member t n k = record { ty = t; name = n; length = k }
@@ -177,14 +123,14 @@ by_member e f g = cc
 
 one_member : (x : CMember) → Plain member_tokens spells_member x
 one_member x h y k a b s t e =
-    let r = typed_same x.ty y.ty (and-fst _ _ h) (and-fst _ _ k) (x.name ∷ (length_tokens x.length ++ codes ";" ∷ []))
+    let r = typed_same x.ty y.ty (and_first _ _ h) (and_first _ _ k) (x.name ∷ (length_tokens x.length ++ codes ";" ∷ []))
     (y.name ∷ (length_tokens y.length ++ codes ";" ∷ [])) a b e in
-    let l = length_same x.length y.length (and-snd _ _ (and-snd _ _ h)) (and-snd _ _ (and-snd _ _ k)) a b (ap tail r.1) in
+    let l = length_same x.length y.length (and_second _ _ (and_second _ _ h)) (and_second _ _ (and_second _ _ k)) a b (ap tail r.1) in
     (by_member r.0 (ap first r.1) l.0, l.1)
 
 members_row : InRow member_tokens spells_member anywhere (stands (codes "}"))
 members_row = record {
-  starts = λ y r h. typed_other y.ty (and-fst _ _ h) (y.name ∷ (length_tokens y.length ++ codes ";" ∷ [])) r (codes "}") refl;
+  starts = λ y r h. typed_other y.ty (and_first _ _ h) (y.name ∷ (length_tokens y.length ++ codes ";" ∷ [])) r (codes "}") refl;
   between = λ y r h. refl;
   ends = λ r s. refl;
 }
@@ -206,7 +152,7 @@ one_struct : (x : CStruct) → Only struct_tokens placeless_struct spells_struct
 one_struct x h y k a b s t e =
     let r = braced_same member_tokens (λ x. x) spells_member anywhere members_row x.members y.members
     (each_by (Plain member_tokens spells_member) one_member x.members)
-    (and-snd _ _ (and-snd _ _ h)) (and-snd _ _ (and-snd _ _ k)) (codes ";" ∷ a) (codes ";" ∷ b)
+    (and_second _ _ (and_second _ _ h)) (and_second _ _ (and_second _ _ k)) (codes ";" ∷ a) (codes ";" ∷ b)
     (sym (append_assoc (braced (map member_tokens x.members)) (codes ";" ∷ []) a)
     ∙ (ap (λ ts. tail (tail ts)) e ∙ append_assoc (braced (map member_tokens y.members)) (codes ";" ∷ []) b)) in
     (by_struct (ap second e) (same_list x.members y.members r.0), ap tail r.1)
@@ -223,20 +169,20 @@ star_same : (p q : Bool) (n m : List ℕ) → is_name n ≡ true → is_name m �
     (star_if p ++ n ∷ []) ++ a ≡ (star_if q ++ m ∷ []) ++ b → ((p ≡ q) × (n ≡ m)) × (a ≡ b)
 star_same true true n m h k a b e = ((refl, ap second e), ap (λ ts. tail (tail ts)) e)
 star_same false false n m h k a b e = ((refl, ap first e), ap tail e)
-star_same true false n m h k a b e = no_truth (ap (λ ts. is (first ts) (codes "*")) e
+star_same true false n m h k a b e = from_true_false (ap (λ ts. is (first ts) (codes "*")) e
     ∙ lacks m (codes "*" ∷ []) (codes "*") (name_off m (codes "*" ∷ []) k refl) refl)
-star_same false true n m h k a b e = no_truth (sym (ap (λ ts. is (first ts) (codes "*")) e)
+star_same false true n m h k a b e = from_true_false (sym (ap (λ ts. is (first ts) (codes "*")) e)
     ∙ lacks n (codes "*" ∷ []) (codes "*") (name_off n (codes "*" ∷ []) h refl) refl)
 
 one_param : (x : CParam) → Plain param_tokens spells_param x
 one_param x h y k a b s t e =
-    let r = typed_same x.ty y.ty (and-fst _ _ h) (and-fst _ _ k) (star_if x.pointer ++ x.name ∷ []) (star_if y.pointer ++ y.name ∷ []) a b e in
-    let l = star_same x.pointer y.pointer x.name y.name (and-snd _ _ h) (and-snd _ _ k) a b r.1 in
+    let r = typed_same x.ty y.ty (and_first _ _ h) (and_first _ _ k) (star_if x.pointer ++ x.name ∷ []) (star_if y.pointer ++ y.name ∷ []) a b e in
+    let l = star_same x.pointer y.pointer x.name y.name (and_second _ _ h) (and_second _ _ k) a b r.1 in
     (by_param r.0 l.0.0 l.0.1, l.1)
 
 params_row : InCommas param_tokens spells_param anywhere
 params_row = record {
-  starts = λ y r h. typed_other y.ty (and-fst _ _ h) (star_if y.pointer ++ y.name ∷ []) r (codes ")") refl;
+  starts = λ y r h. typed_other y.ty (and_first _ _ h) (star_if y.pointer ++ y.name ∷ []) r (codes ")") refl;
   comma = λ r. refl;
   close = λ r. refl;
 }
@@ -256,7 +202,7 @@ zero_same (ctype.Struct n) (ctype.Scalar u) same a b e = absurd (cc)
 
 one_local : (x : CLocal) → Plain local_tokens spells_local x
 one_local x h y k a b s t e =
-    let r = typed_same x.ty y.ty (and-fst _ _ h) (and-fst _ _ k) (x.name ∷ codes "=" ∷ (zero_tokens x.ty ++ codes ";" ∷ []))
+    let r = typed_same x.ty y.ty (and_first _ _ h) (and_first _ _ k) (x.name ∷ codes "=" ∷ (zero_tokens x.ty ++ codes ";" ∷ []))
     (y.name ∷ codes "=" ∷ (zero_tokens y.ty ++ codes ";" ∷ [])) a b e in
     (by_local r.0 (ap first r.1), zero_same x.ty y.ty r.0 a b (ap (λ ts. tail (tail ts)) r.1))
 
@@ -268,7 +214,7 @@ locals_row : InRow local_tokens spells_local anywhere untyped
 locals_row = record {
   starts = λ y r h.
       ap (λ ts. not (among (first ts) type_words)) (append_assoc (type_tokens y.ty) (y.name ∷ codes "=" ∷ (zero_tokens y.ty ++ codes ";" ∷ [])) r)
-      ∙ ap not (type_first y.ty (and-fst _ _ h) ((y.name ∷ codes "=" ∷ (zero_tokens y.ty ++ codes ";" ∷ [])) ++ r));
+      ∙ ap not (type_first y.ty (and_first _ _ h) ((y.name ∷ codes "=" ∷ (zero_tokens y.ty ++ codes ";" ∷ [])) ++ r));
   between = λ y r h. refl;
   ends = λ r s. refl;
 }
@@ -279,7 +225,7 @@ stmts_untyped [] a h = refl
 stmts_untyped (s ∷ body) a h =
     ap untyped (append_assoc (stmt_tokens s) (joined (map stmt_tokens body)) (codes "}" ∷ a))
     ∙ ap not (fewer_lacks (first (stmt_tokens s ++ (joined (map stmt_tokens body) ++ (codes "}" ∷ a)))) strange type_words
-    (stmt_front s (and-fst _ _ h) (joined (map stmt_tokens body) ++ (codes "}" ∷ a))) refl)
+    (stmt_front s (and_first _ _ h) (joined (map stmt_tokens body) ++ (codes "}" ∷ a))) refl)
 
 returned_same : (s t : Option Scalar) → spells_returned s ≡ true → spells_returned t ≡ true → (a b : List Token) →
     returned_tokens s ++ a ≡ returned_tokens t ++ b → (s ≡ t) × (a ≡ b)
@@ -289,7 +235,7 @@ returned_same None (Some t) h k a b e = no_scalar t b a (codes "void") k refl re
 returned_same (Some s) None h k a b e = no_scalar s a b (codes "void") h refl refl e
 
 returned_plain : {P : Type 0} (s : Option Scalar) (a b : List Token) → spells_returned s ≡ true → codes "static" ∷ b ≡ returned_tokens s ++ a → P
-returned_plain None a b h e = no_truth (ap (λ ts. is (first ts) (codes "static")) e)
+returned_plain None a b h e = from_true_false (ap (λ ts. is (first ts) (codes "static")) e)
 returned_plain (Some s) a b h e = no_scalar s a b (codes "static") h refl refl (sym e)
 
 static_same : (p q : Bool) (s t : Option Scalar) → spells_returned s ≡ true → spells_returned t ≡ true → (a b : List Token)
@@ -328,10 +274,10 @@ rest_same f g h k a b e =
     ∙ (e ∙ (append_assoc (joined (map local_tokens g.locals)) (ts ++ codes "}" ∷ []) b
     ∙ ap (λ us. joined (map local_tokens g.locals) ++ us) (append_assoc ts (codes "}" ∷ []) b))) in
     let l = rows_same local_tokens (λ x. x) spells_local anywhere untyped locals_row f.locals g.locals
-    (each_by (Plain local_tokens spells_local) one_local f.locals) (and-fst _ _ h) (and-fst _ _ k)
-    (ss ++ (codes "}" ∷ a)) (ts ++ (codes "}" ∷ b)) (stmts_untyped f.body a (and-snd _ _ h)) (stmts_untyped g.body b (and-snd _ _ k)) apart in
+    (each_by (Plain local_tokens spells_local) one_local f.locals) (and_first _ _ h) (and_first _ _ k)
+    (ss ++ (codes "}" ∷ a)) (ts ++ (codes "}" ∷ b)) (stmts_untyped f.body a (and_second _ _ h)) (stmts_untyped g.body b (and_second _ _ k)) apart in
     let r = closed_same stmt_tokens placeless_stmt spells_stmt no_else stmts_row f.body g.body
-    (each_by (Only stmt_tokens placeless_stmt spells_stmt no_else) one_stmt f.body) (and-snd _ _ h) (and-snd _ _ k) a b l.1 in
+    (each_by (Only stmt_tokens placeless_stmt spells_stmt no_else) one_stmt f.body) (and_second _ _ h) (and_second _ _ k) a b l.1 in
     ((same_list f.locals g.locals l.0, r.0), r.1)
 
 one_func : (f : CFunc) → Only func_tokens placeless_func spells_func anywhere f
@@ -340,18 +286,18 @@ one_func f h g k a b s t e =
     let gp = with_commas (map param_tokens g.params) in
     let fr = codes ")" ∷ codes "{" ∷ func_rest f in
     let gr = codes ")" ∷ codes "{" ∷ func_rest g in
-    let front = static_same f.fixed g.fixed f.result g.result (and-fst _ _ h) (and-fst _ _ k)
+    let front = static_same f.fixed g.fixed f.result g.result (and_first _ _ h) (and_first _ _ k)
     (f.name ∷ codes "(" ∷ ((fp ++ fr) ++ a)) (g.name ∷ codes "(" ∷ ((gp ++ gr) ++ b))
     (sym (front_parts f (fp ++ fr) a) ∙ (e ∙ front_parts g (gp ++ gr) b)) in
-    let result = returned_same f.result g.result (and-fst _ _ h) (and-fst _ _ k) (f.name ∷ codes "(" ∷ ((fp ++ fr) ++ a))
+    let result = returned_same f.result g.result (and_first _ _ h) (and_first _ _ k) (f.name ∷ codes "(" ∷ ((fp ++ fr) ++ a))
     (g.name ∷ codes "(" ∷ ((gp ++ gr) ++ b)) front.1 in
-    let hn = and-snd _ _ (and-snd _ _ h) in
-    let kn = and-snd _ _ (and-snd _ _ k) in
+    let hn = and_second _ _ (and_second _ _ h) in
+    let kn = and_second _ _ (and_second _ _ k) in
     let params = commas_same param_tokens (λ x. x) spells_param anywhere params_row f.params g.params
-    (each_by (Plain param_tokens spells_param) one_param f.params) (and-fst _ _ hn) (and-fst _ _ kn)
+    (each_by (Plain param_tokens spells_param) one_param f.params) (and_first _ _ hn) (and_first _ _ kn)
     (codes "{" ∷ (func_rest f ++ a)) (codes "{" ∷ (func_rest g ++ b))
     (sym (append_assoc fp fr a) ∙ (ap (λ ts. tail (tail ts)) result.1 ∙ append_assoc gp gr b)) in
-    let rest = rest_same f g (and-snd _ _ hn) (and-snd _ _ kn) a b (ap tail params.1) in
+    let rest = rest_same f g (and_second _ _ hn) (and_second _ _ kn) a b (ap tail params.1) in
     (by_func front.0 result.0 (ap first result.1) (same_list f.params g.params params.0) rest.0.0 rest.0.1, rest.1)
 
 -- ---- files
@@ -390,20 +336,20 @@ funcs_unstructured : (funcs : List CFunc) → all_of (map spells_func funcs) ≡
 funcs_unstructured [] h = refl
 funcs_unstructured (f ∷ funcs) h =
     ap unstructured (front_parts f (with_commas (map param_tokens f.params) ++ (codes ")" ∷ codes "{" ∷ func_rest f)) (joined (map func_tokens funcs)))
-    ∙ returned_struct f.fixed f.result _ (and-fst _ _ (and-fst _ _ h))
+    ∙ returned_struct f.fixed f.result _ (and_first _ _ (and_first _ _ h))
 
 pub file_same : (structs : List CStruct) (funcs : List CFunc) (others : List CStruct) (rest : List CFunc) →
     is_spellable structs funcs ≡ true → is_spellable others rest ≡ true
     → tokens_of structs funcs ≡ tokens_of others rest →
     (map placeless_struct structs ≡ map placeless_struct others) × (map placeless_func funcs ≡ map placeless_func rest)
 file_same structs funcs others rest h k e =
-    let hs = and-snd (has_any funcs) _ (and-snd (has_any structs) _ h) in
-    let ks = and-snd (has_any rest) _ (and-snd (has_any others) _ k) in
-    let hf = and-fst (all_of (map spells_func funcs)) (shallow structs funcs) (and-snd (all_of (map spells_struct structs)) _ hs) in
-    let kf = and-fst (all_of (map spells_func rest)) (shallow others rest) (and-snd (all_of (map spells_struct others)) _ ks) in
+    let hs = and_second (has_any funcs) _ (and_second (has_any structs) _ h) in
+    let ks = and_second (has_any rest) _ (and_second (has_any others) _ k) in
+    let hf = and_first (all_of (map spells_func funcs)) (shallow structs funcs) (and_second (all_of (map spells_struct structs)) _ hs) in
+    let kf = and_first (all_of (map spells_func rest)) (shallow others rest) (and_second (all_of (map spells_struct others)) _ ks) in
     let s = rows_same struct_tokens placeless_struct spells_struct anywhere unstructured structs_row structs others
     (each_by (Only struct_tokens placeless_struct spells_struct anywhere) one_struct structs)
-    (and-fst _ _ hs) (and-fst _ _ ks) (joined (map func_tokens funcs)) (joined (map func_tokens rest)) (funcs_unstructured funcs hf)
+    (and_first _ _ hs) (and_first _ _ ks) (joined (map func_tokens funcs)) (joined (map func_tokens rest)) (funcs_unstructured funcs hf)
     (funcs_unstructured rest kf) e in
     let f = rows_same func_tokens placeless_func spells_func anywhere is_none funcs_row funcs rest
     (each_by (Only func_tokens placeless_func spells_func anywhere) one_func funcs) hf kf [] [] refl refl

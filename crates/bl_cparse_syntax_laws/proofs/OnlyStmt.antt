@@ -1,34 +1,7 @@
 -- A statement is told by its tokens.
-use Rattle.std.proofs.Common.{
-  ◌≡◌,
-  ℕ,
-  cond,
-  Bool,
-  true,
-  false,
-  not,
-  ◌&&◌,
-  ◌==◌,
-  suc,
-  pos,
-  negsuc,
-  ℤ,
-  List,
-  [],
-  ◌∷◌,
-  ◌++◌,
-  map,
-  Option,
-  Some,
-  None,
-  refl,
-  sym,
-  ap,
-  ◌∙◌,
-  subst,
-  append_assoc,
-  codes,
-}
+use Rattle.std.proofs.Common.{◌≡◌, ℕ, cond, Bool, true, false, not, ◌&&◌, ◌==◌, suc, pos, negsuc, ℤ, List, [], ◌∷◌, ◌++◌, map, Option, Some, None, refl, sym}
+use Rattle.std.proofs.Common.{ap, ◌∙◌, subst, append_assoc, codes}
+use Rattle.bl_tree.proofs.Basics.{and_first, and_second, from_true_false}
 use Rattle.bl_tree.specs.declared.place.Place.{Place as TextPlace}
 use Rattle.bl_tree.specs.declared.scalar.Width.{Width}
 use Rattle.bl_tree.specs.declared.scalar.Width.TheVariants.{W8, W16, W32, W64}
@@ -44,51 +17,17 @@ use Rattle.bl_tree.specs.declared.c.CStmtKind.{CStmtKind, CStmtKind-F, fold-roll
 use Rattle.bl_tree.specs.Reduce.{all_of, joined}
 use Rattle.bl_ctext.specs.Token.{Token}
 use Rattle.bl_ctext.specs.Names.{is_name, is_struct_name, is_turn_name}
-use Rattle.bl_ctext.specs.Spelling.{
-  literal_tokens,
-  negatives,
-  width_digits,
-  with_commas,
-  root_tokens,
-  expr_tokens,
-  kind_tokens,
-  place_tokens,
-  step_tokens,
-  ccall_tokens,
-  arg_tokens,
-  braced,
-  result_tokens,
-  condition_tokens,
-  zeros_tokens,
-  turn_declared,
-  turn_counted,
-  stmt_tokens,
-  stmt_kind_tokens,
-}
+use Rattle.bl_ctext.specs.Spelling.{literal_tokens, negatives, width_digits, with_commas, root_tokens, expr_tokens, kind_tokens, place_tokens, step_tokens}
+use Rattle.bl_ctext.specs.Spelling.{ccall_tokens, arg_tokens, braced, result_tokens, condition_tokens, zeros_tokens, turn_declared, turn_counted, stmt_tokens}
+use Rattle.bl_ctext.specs.Spelling.{stmt_kind_tokens}
 use Rattle.bl_ctext.specs.Spellable.{is_literal, spells_expr, spells_kind, spells_place, spells_step, spells_call, spells_result, spells_stmt, spells_stmt_kind}
-use Rattle.bl_ctext.proofs.Bytes.{and-fst, and-snd}
 use Rattle.bl_cparse_syntax_laws.specs.Placeless.{any_place, placeless_expr, placeless_place, placeless_call, placeless_result, placeless_stmt}
 use Rattle.bl_cparse_syntax_laws.specs.inner.Placeless.{placeless_stmt_kind}
-use Rattle.bl_cparse_syntax_laws.proofs.Tests.{is, among, first, tail, second, no_truth, lacks, callee_off, name_off}
+use Rattle.bl_cparse_syntax_laws.proofs.Tests.{is, among, first, tail, second, lacks, callee_off, name_off}
 use Rattle.bl_cparse_syntax_laws.proofs.Rows.{Only, InRow, stands, stands_is, each_shown, closed_same, braced_same}
 use Rattle.bl_cparse_syntax_laws.proofs.Layers.{by_level, Kinds, OnlyLevel, Levels, only_whole, kind_level, kind_ok}
-use Rattle.bl_cparse_syntax_laws.proofs.OnlyExpr.{
-  ends,
-  foreign,
-  Front,
-  of_places,
-  of_calls,
-  of_kinds,
-  of_exprs,
-  place_front,
-  call_front,
-  expr_front,
-  steps_open,
-  before_same,
-  one_expr,
-  one_place,
-  one_call,
-}
+use Rattle.bl_cparse_syntax_laws.proofs.OnlyExpr.{ends, foreign, Front, of_places, of_calls, of_kinds, of_exprs, place_front, call_front, expr_front}
+use Rattle.bl_cparse_syntax_laws.proofs.OnlyExpr.{steps_open, before_same, one_expr, one_place, one_call}
 
 -- ---- levels
 
@@ -208,8 +147,8 @@ more_front : (ws xs more : List Token) → Front ws xs → Front ws (xs ++ more)
 more_front ws xs more h r = ap (λ ts. among (first ts) ws) (append_assoc xs more r) ∙ h (more ++ r)
 
 level_strange : (z : StmtKinds) → stmt_ok z ≡ true → Front strange (stmt_level z)
-level_strange (CStmtKind-F.Set at value) h r = more_front strange (place_tokens at) _ (place_front strange refl refl at (and-fst _ _ h)) r
-level_strange (CStmtKind-F.Clear at name) h r = more_front strange (place_tokens at) _ (place_front strange refl refl at (and-fst _ _ h)) r
+level_strange (CStmtKind-F.Set at value) h r = more_front strange (place_tokens at) _ (place_front strange refl refl at (and_first _ _ h)) r
+level_strange (CStmtKind-F.Clear at name) h r = more_front strange (place_tokens at) _ (place_front strange refl refl at (and_first _ _ h)) r
 level_strange (CStmtKind-F.Call call) h r = more_front strange (ccall_tokens call) _ (call_front strange refl call h) r
 level_strange (CStmtKind-F.If test block other) h r = refl
 level_strange (CStmtKind-F.Loop turn test body) h r = refl
@@ -285,11 +224,11 @@ level_zeros (CExprKind-F.Literal s n) h r = literal_zeros s n h r
 level_zeros (CExprKind-F.Read p) h r =
     of_places (λ ts. zeros (ts ++ r) ≡ false)
     (λ z k. ap zeros (append_assoc (root_tokens z.through z.name) (joined (map step_tokens z.steps)) r)
-    ∙ place_zeros z.through z.name (joined (map step_tokens z.steps) ++ r) (and-fst _ _ k)) p h
+    ∙ place_zeros z.through z.name (joined (map step_tokens z.steps) ++ r) (and_first _ _ k)) p h
 level_zeros (CExprKind-F.Call c) h r = unbracketed (ccall_tokens c ++ r)
     (lacks (first (ccall_tokens c ++ r)) (codes "(" ∷ []) (codes "(") (call_front (codes "(" ∷ []) refl c h r) refl)
 level_zeros (CExprKind-F.Not e) h r = refl
-level_zeros (CExprKind-F.Two o x y) h r = two_zeros (expr_tokens x) _ r (expr_front x (and-fst _ _ (and-snd _ _ h)))
+level_zeros (CExprKind-F.Two o x y) h r = two_zeros (expr_tokens x) _ r (expr_front x (and_first _ _ (and_second _ _ h)))
 
 kind_zeros : (k : CExprKind) → spells_kind k ≡ true → (r : List Token) → zeros (kind_tokens k ++ r) ≡ false
 kind_zeros = of_kinds (λ ts. (r : List Token) → zeros (ts ++ r) ≡ false) level_zeros
@@ -350,17 +289,17 @@ set_sort : (p : CPlace) → spells_place p ≡ true → (more a : List Token) �
 set_sort p h more a e =
     ap sort_in (append_assoc (place_tokens p) more a)
     ∙ of_places (λ ts. sort_in (ts ++ (more ++ a)) ≡ setting)
-    (λ z k. place_sort z.through z.name z.steps (and-fst _ _ k) (and-snd _ _ k) (more ++ a) e) p h
+    (λ z k. place_sort z.through z.name z.steps (and_first _ _ k) (and_second _ _ k) (more ++ a) e) p h
 
 call_sort : (c : CCall) → spells_call c ≡ true → (r : List Token) → sort_in (ccall_tokens c ++ r) ≡ calling
 call_sort c h r =
     of_calls (λ ts. sort_in (ts ++ r) ≡ calling)
     (λ z k. unled z.name (codes "(" ∷ ((with_commas (map arg_tokens z.args) ++ codes ")" ∷ []) ++ r))
-    (callee_off z.name leading (and-fst _ _ k) refl) true refl) c h
+    (callee_off z.name leading (and_first _ _ k) refl) true refl) c h
 
 sort_is : (z : StmtKinds) → stmt_ok z ≡ true → (a : List Token) → sort_in (stmt_level z ++ a) ≡ sort_of z
-sort_is (CStmtKind-F.Set at value) h a = set_sort at (and-fst _ _ h) (codes "=" ∷ (expr_tokens value ++ codes ";" ∷ [])) a refl
-sort_is (CStmtKind-F.Clear at name) h a = set_sort at (and-fst _ _ h) (zeros_tokens name) a refl
+sort_is (CStmtKind-F.Set at value) h a = set_sort at (and_first _ _ h) (codes "=" ∷ (expr_tokens value ++ codes ";" ∷ [])) a refl
+sort_is (CStmtKind-F.Clear at name) h a = set_sort at (and_first _ _ h) (zeros_tokens name) a refl
 sort_is (CStmtKind-F.Call call) h a = ap sort_in (append_assoc (ccall_tokens call) (codes ";" ∷ []) a) ∙ call_sort call h (codes ";" ∷ a)
 sort_is (CStmtKind-F.If test block other) h a = refl
 sort_is (CStmtKind-F.Loop turn test body) h a = refl
@@ -415,25 +354,25 @@ set_same : (p : CPlace) (x : CExpr) (q : CPlace) (y : CExpr) → (spells_place p
     (spells_place q && spells_expr y) ≡ true → (a b : List Token)
     → stmt_level (CStmtKind-F.Set p x) ++ a ≡ stmt_level (CStmtKind-F.Set q y) ++ b → Same (CStmtKind-F.Set p x) (CStmtKind-F.Set q y) a b
 set_same p x q y h k a b e =
-    let m = set_place p q (and-fst _ _ h) (and-fst _ _ k) (codes "=" ∷ (expr_tokens x ++ codes ";" ∷ []))
+    let m = set_place p q (and_first _ _ h) (and_first _ _ k) (codes "=" ∷ (expr_tokens x ++ codes ";" ∷ []))
     (codes "=" ∷ (expr_tokens y ++ codes ";" ∷ [])) a b refl refl e in
-    let n = value_same x y (and-snd _ _ h) (and-snd _ _ k) (codes ";" ∷ []) (codes ";" ∷ []) a b refl refl (ap tail m.1) in
+    let n = value_same x y (and_second _ _ h) (and_second _ _ k) (codes ";" ∷ []) (codes ";" ∷ []) a b refl refl (ap tail m.1) in
     (by_set m.0 n.0, ap tail n.1)
 
 clear_same : (p : CPlace) (n : List ℕ) (q : CPlace) (m : List ℕ) → (spells_place p && is_struct_name n) ≡ true →
     (spells_place q && is_struct_name m) ≡ true → (a b : List Token)
     → stmt_level (CStmtKind-F.Clear p n) ++ a ≡ stmt_level (CStmtKind-F.Clear q m) ++ b → Same (CStmtKind-F.Clear p n) (CStmtKind-F.Clear q m) a b
 clear_same p n q m h k a b e =
-    let r = set_place p q (and-fst _ _ h) (and-fst _ _ k) (zeros_tokens n) (zeros_tokens m) a b refl refl e in
+    let r = set_place p q (and_first _ _ h) (and_first _ _ k) (zeros_tokens n) (zeros_tokens m) a b refl refl e in
     (by_clear r.0 (ap (λ ts. second (tail (tail ts))) r.1), ap (λ ts. tail (tail (tail (tail (tail (tail (tail (tail (tail ts))))))))) r.1)
 
 set_clear : {P : Type 0} (p : CPlace) (x : CExpr) (q : CPlace) (m : List ℕ) → (spells_place p && spells_expr x) ≡ true →
     (spells_place q && is_struct_name m) ≡ true → (a b : List Token)
     → stmt_level (CStmtKind-F.Set p x) ++ a ≡ stmt_level (CStmtKind-F.Clear q m) ++ b → P
 set_clear p x q m h k a b e =
-    let r = set_place p q (and-fst _ _ h) (and-fst _ _ k) (codes "=" ∷ (expr_tokens x ++ codes ";" ∷ [])) (zeros_tokens m) a b refl refl e in
-    no_truth (sym (ap (λ ts. zeros (tail ts)) r.1) ∙ (ap zeros (append_assoc (expr_tokens x) (codes ";" ∷ []) a)
-    ∙ expr_zeros x (and-snd _ _ h) (codes ";" ∷ a)))
+    let r = set_place p q (and_first _ _ h) (and_first _ _ k) (codes "=" ∷ (expr_tokens x ++ codes ";" ∷ [])) (zeros_tokens m) a b refl refl e in
+    from_true_false (sym (ap (λ ts. zeros (tail ts)) r.1) ∙ (ap zeros (append_assoc (expr_tokens x) (codes ";" ∷ []) a)
+    ∙ expr_zeros x (and_second _ _ h) (codes ";" ∷ a)))
 
 condition_same : (x y : CExpr) → spells_expr x ≡ true → spells_expr y ≡ true → (r s a b : List Token) →
     (condition_tokens x ++ r) ++ a ≡ (condition_tokens y ++ s) ++ b
@@ -461,8 +400,8 @@ other_same : (xs : Option (List Stmt)) (ys : Option (List CStmt)) → else_ok (p
     → else_level (plain_else xs) ++ a ≡ else_level ys ++ b → (else_bare (plain_else xs) ≡ else_bare ys) × (a ≡ b)
 other_same None None h k a b s t e = (refl, e)
 other_same (Some xs) (Some ys) h k a b s t e = let r = block_same xs ys h k a b (ap tail e) in (some_block r.0, r.1)
-other_same None (Some ys) h k a b s t e = no_truth (sym s ∙ ap no_else e)
-other_same (Some xs) None h k a b s t e = no_truth (sym t ∙ sym (ap no_else e))
+other_same None (Some ys) h k a b s t e = from_true_false (sym s ∙ ap no_else e)
+other_same (Some xs) None h k a b s t e = from_true_false (sym t ∙ sym (ap no_else e))
 
 if_same : (x : CExpr) (xs : List Stmt) (o : Option (List Stmt)) (y : CExpr) (ys : List CStmt) (p : Option (List CStmt))
     → stmt_ok (CStmtKind-F.If x (map (λ e. e.0) xs) (plain_else o)) ≡ true → stmt_ok (CStmtKind-F.If y ys p) ≡ true →
@@ -470,12 +409,12 @@ if_same : (x : CExpr) (xs : List Stmt) (o : Option (List Stmt)) (y : CExpr) (ys 
     → stmt_level (CStmtKind-F.If x (map (λ e. e.0) xs) (plain_else o)) ++ a ≡ stmt_level (CStmtKind-F.If y ys p) ++ b
     → Same (CStmtKind-F.If x (map (λ e. e.0) xs) (plain_else o)) (CStmtKind-F.If y ys p) a b
 if_same x xs o y ys p h k a b s t e =
-    let m = condition_same x y (and-fst _ _ h) (and-fst _ _ k)
+    let m = condition_same x y (and_first _ _ h) (and_first _ _ k)
     (braced (map stmt_tokens (map (λ e. e.0) xs)) ++ else_level (plain_else o)) (braced (map stmt_tokens ys) ++ else_level p) a b (ap tail e) in
-    let n = block_same xs ys (and-fst _ _ (and-snd _ _ h)) (and-fst _ _ (and-snd _ _ k)) (else_level (plain_else o) ++ a) (else_level p ++ b)
+    let n = block_same xs ys (and_first _ _ (and_second _ _ h)) (and_first _ _ (and_second _ _ k)) (else_level (plain_else o) ++ a) (else_level p ++ b)
     (sym (append_assoc (braced (map stmt_tokens (map (λ e. e.0) xs))) (else_level (plain_else o)) a)
     ∙ (m.1 ∙ append_assoc (braced (map stmt_tokens ys)) (else_level p) b)) in
-    let r = other_same o p (and-snd _ _ (and-snd _ _ h)) (and-snd _ _ (and-snd _ _ k)) a b s t n.1 in
+    let r = other_same o p (and_second _ _ (and_second _ _ h)) (and_second _ _ (and_second _ _ k)) a b s t n.1 in
     (by_if m.0 n.0 r.0, r.1)
 
 abbrev seven_off : List Token → List Token
@@ -488,17 +427,17 @@ loop_same : (n : List ℕ) (x : CExpr) (xs : List Stmt) (m : List ℕ) (y : CExp
 loop_same n x xs m y ys h k a b e =
     let us = joined (map stmt_tokens (map (λ e. e.0) xs)) in
     let vs = joined (map stmt_tokens ys) in
-    let c = condition_same x y (and-fst _ _ (and-snd _ _ h)) (and-fst _ _ (and-snd _ _ k))
+    let c = condition_same x y (and_first _ _ (and_second _ _ h)) (and_first _ _ (and_second _ _ k))
     (turn_counted n ++ (us ++ codes "}" ∷ codes "}" ∷ [])) (turn_counted m ++ (vs ++ codes "}" ∷ codes "}" ∷ [])) a b (ap seven_off e) in
     let r = closed_same stmt_tokens placeless_stmt spells_stmt no_else stmts_row (map (λ e. e.0) xs) ys (each_shown OfStmt xs)
-    (and-snd _ _ (and-snd _ _ h)) (and-snd _ _ (and-snd _ _ k)) (codes "}" ∷ a) (codes "}" ∷ b)
+    (and_second _ _ (and_second _ _ h)) (and_second _ _ (and_second _ _ k)) (codes "}" ∷ a) (codes "}" ∷ b)
     (sym (append_assoc us (codes "}" ∷ codes "}" ∷ []) a)
     ∙ (ap (λ ts. tail (seven_off ts)) c.1 ∙ append_assoc vs (codes "}" ∷ codes "}" ∷ []) b)) in
     (by_loop (ap (λ ts. second (tail ts)) e) c.0 r.0, ap tail r.1)
 
 no_result : {P : Type 0} (x : CExpr) (a b : List Token) → spells_expr x ≡ true → codes ";" ∷ b ≡ (expr_tokens x ++ codes ";" ∷ []) ++ a → P
 no_result x a b h e =
-    no_truth (ap (λ ts. is (first ts) (codes ";")) (e ∙ append_assoc (expr_tokens x) (codes ";" ∷ []) a)
+    from_true_false (ap (λ ts. is (first ts) (codes ";")) (e ∙ append_assoc (expr_tokens x) (codes ";" ∷ []) a)
     ∙ lacks (first (expr_tokens x ++ (codes ";" ∷ a))) foreign (codes ";") (expr_front x h (codes ";" ∷ a)) refl)
 
 return_same : (x y : Option CExpr) → spells_result x ≡ true → spells_result y ≡ true → (a b : List Token) →

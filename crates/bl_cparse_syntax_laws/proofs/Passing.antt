@@ -1,26 +1,8 @@
 -- A text whose pieces derive spells a file.
-use Rattle.std.proofs.Common.{
-  ◌≡◌,
-  ℕ,
-  ◌≤◌,
-  true,
-  ◌&&◌,
-  nat_le,
-  List,
-  [],
-  ◌∷◌,
-  ◌++◌,
-  length,
-  drop,
-  map,
-  refl,
-  sym,
-  ap,
-  ◌∙◌,
-  subst,
-  arith,
-}
+use Rattle.std.proofs.Common.{◌≡◌, ℕ, ◌≤◌, true, ◌&&◌, List, [], ◌∷◌, ◌++◌, length, drop, map, refl, sym, ap, ◌∙◌, subst, arith}
 use Rattle.std.proofs.lemmas.Bool.Decides.{nat_tests}
+use Rattle.std.proofs.lemmas.Bool.{and_from}
+use Rattle.bl_tree.proofs.Basics.{and_first, and_second, at_most_test}
 use Rattle.bl_tree.specs.declared.c.CStruct.{CStruct}
 use Rattle.bl_tree.specs.declared.c.CFunc.{CFunc}
 use Rattle.bl_tree.specs.Reduce.{all_of}
@@ -28,7 +10,6 @@ use Rattle.bl_ctext.specs.Token.{Token, SpacedC}
 use Rattle.bl_ctext.specs.Spelling.{tokens_of}
 use Rattle.bl_ctext.specs.Spellable.{has_any, is_spellable, most_open, shallow, spells_struct, spells_func}
 use Rattle.bl_ctext.specs.declared.file.CFile.{CFile}
-use Rattle.bl_ctext.proofs.Bytes.{and-fst, and-snd, both}
 use Rattle.bl_cparse_syntax.specs.Pieces.{pieces}
 use Rattle.bl_cparse_syntax.specs.Grammar.{SpellText}
 use Rattle.bl_cparse_syntax.specs.Stack.{file}
@@ -42,16 +23,13 @@ use Rattle.bl_cparse_syntax.specs.Rules.{Passes}
 use Rattle.bl_ctext.specs.Prelude.{prelude}
 use Rattle.bl_ctext.specs.SpellsC.{SpellsC}
 
-at_most : (a b : ℕ) → a ≤ b → nat_le a b ≡ true
-at_most a b h = grind (arith, nat_tests)
-
 spellable : (structs : List CStruct) (funcs : List CFunc) (ts : List Token) → ts ≡ tokens_of structs funcs →
     (has_any structs && all_of (map spells_struct structs)) ≡ true → (has_any funcs && all_of (map spells_func funcs)) ≡ true
     → most_open 0 ts ≤ 2000 → is_spellable structs funcs ≡ true
 spellable structs funcs ts is s f few =
-    let flat : shallow structs funcs ≡ true = at_most (most_open 0 (tokens_of structs funcs)) 2000 (subst (λ ts. most_open 0 ts ≤ 2000) is few) in
-    both (has_any structs) _ (and-fst _ _ s) (both (has_any funcs) _ (and-fst _ _ f)
-    (both (all_of (map spells_struct structs)) _ (and-snd _ _ s) (both (all_of (map spells_func funcs)) _ (and-snd _ _ f) flat)))
+    let flat : shallow structs funcs ≡ true = at_most_test (most_open 0 (tokens_of structs funcs)) 2000 (subst (λ ts. most_open 0 ts ≤ 2000) is few) in
+    and_from (has_any structs) _ (and_first _ _ s) (and_from (has_any funcs) _ (and_first _ _ f)
+    (and_from (all_of (map spells_struct structs)) _ (and_second _ _ s) (and_from (all_of (map spells_func funcs)) _ (and_second _ _ f) flat)))
 
 pub spells_some : (text : List ℕ) → SpellText (pieces text) → (file : CFile) × SpacedC (tokens_of file.structs file.funcs) text
 spells_some text spells = by_file (tree_there file (pieces text) spells)

@@ -1,30 +1,6 @@
 -- What a piece of a class is.
-use Rattle.std.proofs.Common.{
-  ◌≡◌,
-  ℕ,
-  suc,
-  ◌^◌,
-  ◌≤◌,
-  ◌<◌,
-  true,
-  not,
-  ◌||◌,
-  ◌==◌,
-  nat_eq,
-  nat_le,
-  nat_lt,
-  List,
-  [],
-  ◌∷◌,
-  length,
-  map,
-  refl,
-  sym,
-  subst,
-  inl,
-  inr,
-  arith,
-}
+use Rattle.std.proofs.Common.{◌≡◌, ℕ, suc, ◌^◌, ◌≤◌, ◌<◌, true, not, ◌||◌, ◌==◌, nat_eq, nat_le, List, [], ◌∷◌, length, map, refl, sym, subst, inl, inr}
+use Rattle.std.proofs.Common.{arith}
 use Rattle.std.proofs.lemmas.Bool.Decides.{nat_tests}
 use Rattle.std.proofs.lemmas.Fmt.{decimal-digits_value}
 use Rattle.std.proofs.lemmas.Str.Parse.{IsNumeralModel, numerals_by_value, tells_all_ascii_digits}
@@ -33,6 +9,8 @@ use Rattle.std.specs.Fmt.{decimal}
 use Rattle.std.specs.Str.{all_ascii_digits}
 use Rattle.std.specs.Str.Parse.{digits_value}
 use Rattle.std.specs.Cmp.Lexicographic.{pointwise}
+use Rattle.std.proofs.lemmas.Bool.{or_right}
+use Rattle.bl_tree.proofs.Basics.{and_first, and_second, at_most_from, either_of, less_from}
 use Rattle.bl_tree.specs.declared.scalar.Width.TheVariants.{W8, W16, W32, W64}
 use Rattle.bl_tree.specs.declared.scalar.Scalar.{Scalar}
 use Rattle.bl_tree.specs.declared.scalar.Scalar.TheVariants as scalar
@@ -43,7 +21,6 @@ use Rattle.bl_ctext.specs.Token.{Token}
 use Rattle.bl_ctext.specs.Names.{is_among, is_name, is_struct_name, is_function_name, is_callee, prelude_functions}
 use Rattle.bl_ctext.specs.Spelling.{scalar_word, operator_sign}
 use Rattle.bl_ctext.specs.Spellable.{is_c_scalar, is_c_operator}
-use Rattle.bl_ctext.proofs.Bytes.{and-fst, and-snd, either, or-snd}
 use Rattle.bl_cparse_syntax.specs.declared.grammar.Group.{Group}
 use Rattle.bl_cparse_syntax.specs.declared.grammar.Group.TheVariants.{ScalarTypes, Operators, StructWords, FunctionWords, PreludeFunctions}
 use Rattle.bl_cparse_syntax.specs.declared.grammar.Digits.{Digits}
@@ -52,7 +29,7 @@ use Rattle.bl_cparse_syntax.specs.Classes.{words_of, least, digits_bound, are_di
 use Rattle.bl_cparse_syntax.specs.Classes.Class.{exactly, one_of, a_name, number}
 use Rattle.bl_cparse_syntax.proofs.ClassLemmas.{exactly_is}
 use Rattle.bl_cparse_syntax_laws.proofs.Tests.{is_same}
-use Rattle.bl_cparse_syntax_laws.proofs.Words.{negatives_le}
+use Rattle.bl_ctext.proofs.ExprNesting.{negatives-le}
 
 pub word_is : {w t : Token} → matches (exactly w) t ≡ true → w ≡ t
 word_is {w} {t} m = exactly_is w t m
@@ -72,7 +49,7 @@ this_one {t} {w} {ws} e = subst (λ (u : Token). OneOf t (u ∷ ws)) (sym e) One
 one_among : (t : Token) (ws : List Token) → is_among t ws ≡ true → OneOf t ws
 unfolding is_among
 one_among t [] h = cc
-one_among t (w ∷ ws) h = elim (either (pointwise nat_eq w t) (is_among t ws) h)
+one_among t (w ∷ ws) h = elim (either_of (pointwise nat_eq w t) (is_among t ws) h)
     [ inl same ↦ this_one (is_same w t same) | inr rest ↦ OneOf.other (one_among t ws rest) ]
 
 pub group_is : (g : Group) (t : Token) → matches (one_of g) t ≡ true → OneOf t (words_of g)
@@ -81,25 +58,25 @@ group_is g t m = one_among t (words_of g) m
 
 pub callee_is : (t : Token) → matches (one_of PreludeFunctions) t ≡ true → is_callee t ≡ true
 unfolding matches is_callee
-callee_is t m = or-snd (is_name t) (is_among t prelude_functions) m
+callee_is t m = or_right (is_name t) (is_among t prelude_functions) m
 
 pub struct_word : (t : Token) → matches (one_of StructWords) t ≡ true → is_struct_name t ≡ true
 unfolding matches is_struct_name
-struct_word t m = or-snd (is_name t) _ m
+struct_word t m = or_right (is_name t) _ m
 
 pub function_word : (t : Token) → matches (one_of FunctionWords) t ≡ true → is_function_name t ≡ true
 unfolding matches is_function_name
-function_word t m = or-snd (is_name t) _ m
+function_word t m = or_right (is_name t) _ m
 
 -- ---- numbers
 
-digits_own : IsNumeralModel (λ (ds : List ℕ). all_ascii_digits ds ≡ true) (digits_value 10)
+pub digits_own : IsNumeralModel (λ (ds : List ℕ). all_ascii_digits ds ≡ true) (digits_value 10)
 digits_own = numerals_by_value (λ (ds : List ℕ). all_ascii_digits ds ≡ true) tells_all_ascii_digits
 
-all_digits : (ds : List ℕ) → all_of (map is_ascii_digit ds) ≡ true → all_ascii_digits ds ≡ true
+pub all_digits : (ds : List ℕ) → all_of (map is_ascii_digit ds) ≡ true → all_ascii_digits ds ≡ true
 all_digits [] h = refl
-all_digits (d ∷ ds) h = rw (and-fst (is_ascii_digit d) (all_of (map is_ascii_digit ds)) h)
-    (all_digits ds (and-snd (is_ascii_digit d) (all_of (map is_ascii_digit ds)) h))
+all_digits (d ∷ ds) h = rw (and_first (is_ascii_digit d) (all_of (map is_ascii_digit ds)) h)
+    (all_digits ds (and_second (is_ascii_digit d) (all_of (map is_ascii_digit ds)) h))
 
 -- the number that digits spell
 pub record Spelled (of : Digits) (t : Token) : Type 0 where
@@ -108,38 +85,32 @@ pub record Spelled (of : Digits) (t : Token) : Type 0 where
   pub low : least of ≤ n
   pub high : n < digits_bound of
 
-lone : (b : ℕ) (bs : List ℕ) → (not (b == 48) || nat_le (length bs) 0) ≡ true → b ≡ 48 → suc (length bs) ≡ 1
-lone b bs h e = elim (either (not (b == 48)) (nat_le (length bs) 0) h)
+pub lone : (b : ℕ) (bs : List ℕ) → (not (b == 48) || nat_le (length bs) 0) ≡ true → b ≡ 48 → suc (length bs) ≡ 1
+lone b bs h e = elim (either_of (not (b == 48)) (nat_le (length bs) 0) h)
     [ inl differs ↦ absurd (grind (arith, nat_tests)) | inr short ↦ grind (arith, nat_tests) ]
 
 pub bound_le : (of : Digits) → digits_bound of ≤ 2 ^ 64
 bound_le Elements = omega arith
-bound_le (Int w) = omega (arith, negatives_le w)
-bound_le (Negated w) = omega (arith, negatives_le w)
-bound_le (Unsigned w) = negatives_le w
+bound_le (Int w) = omega (arith, negatives-le w)
+bound_le (Negated w) = omega (arith, negatives-le w)
+bound_le (Unsigned w) = negatives-le w
 
-at_least : (a b : ℕ) → nat_le a b ≡ true → a ≤ b
-at_least a b h = grind (arith, nat_tests)
-
-below : (a b : ℕ) → nat_lt a b ≡ true → a < b
-below a b h = grind (arith, nat_tests)
-
-has_some : (bs : List ℕ) → 0 < suc (length bs)
+pub has_some : (bs : List ℕ) → 0 < suc (length bs)
 has_some bs = omega arith
 
-wide : (a b : ℕ) → a < b → b ≤ 2 ^ 64 → a < 2 ^ 64
+pub wide : (a b : ℕ) → a < b → b ≤ 2 ^ 64 → a < 2 ^ 64
 wide a b h k = omega (arith, h, k)
 
 number_of : (of : Digits) (t : Token) → spells_number of t ≡ true → Spelled of t
 unfolding spells_number
 number_of of [] h = absurd (cc)
 number_of of (b ∷ bs) h =
-    let digits = and-fst (are_digits (b ∷ bs)) _ h in
-    let range = and-snd (are_digits (b ∷ bs)) _ h in
-    let low = at_least (least of) (digits_value 10 (b ∷ bs)) (and-fst _ _ range) in
-    let high = below (digits_value 10 (b ∷ bs)) (digits_bound of) (and-snd _ _ range) in
-    let all = all_digits (b ∷ bs) (and-fst (all_of (map is_ascii_digit (b ∷ bs))) (not (b == 48) || nat_le (length bs) 0) digits) in
-    let zero_alone = and-snd (all_of (map is_ascii_digit (b ∷ bs))) (not (b == 48) || nat_le (length bs) 0) digits in
+    let digits = and_first (are_digits (b ∷ bs)) _ h in
+    let range = and_second (are_digits (b ∷ bs)) _ h in
+    let low = at_most_from (least of) (digits_value 10 (b ∷ bs)) (and_first _ _ range) in
+    let high = less_from (digits_value 10 (b ∷ bs)) (digits_bound of) (and_second _ _ range) in
+    let all = all_digits (b ∷ bs) (and_first (all_of (map is_ascii_digit (b ∷ bs))) (not (b == 48) || nat_le (length bs) 0) digits) in
+    let zero_alone = and_second (all_of (map is_ascii_digit (b ∷ bs))) (not (b == 48) || nat_le (length bs) 0) digits in
     record {
       n = digits_value 10 (b ∷ bs);
       is = sym (decimal-digits_value digits_own (b ∷ bs) all (has_some bs) (λ (e : b ≡ 48). lone b bs zero_alone e)

@@ -1,10 +1,10 @@
 -- Lists of parts: where each part is told by its tokens, a list of them is, if what follows it is no part more.
 use Rattle.std.proofs.Common.{◌≡◌, ℕ, Bool, true, false, List, [], ◌∷◌, ◌++◌, map, refl, sym, ap, ◌∙◌, subst, append_assoc, codes}
+use Rattle.bl_tree.proofs.Basics.{and_first, and_second, from_true_false}
 use Rattle.bl_tree.specs.Reduce.{all_of, joined}
 use Rattle.bl_ctext.specs.Token.{Token}
 use Rattle.bl_ctext.specs.Spelling.{listed, with_commas, braced}
-use Rattle.bl_ctext.proofs.Bytes.{and-fst, and-snd}
-use Rattle.bl_cparse_syntax_laws.proofs.Tests.{is, first, tail, no_truth, is_same}
+use Rattle.bl_cparse_syntax_laws.proofs.Tests.{is, first, tail, is_same}
 
 -- Whatever has the same tokens as the part, each followed by what may follow it, is the part, and the same follows it.
 abbrev pub Only : {A B : Type 0} → (A → List Token) → (A → B) → (A → Bool) → (List Token → Bool) → A → Type 0
@@ -34,24 +34,24 @@ pub record InRow {A : Type 0} (tokens : A → List Token) (ok : A → Bool) (off
 module _ {A B : Type 0} (tokens : A → List Token) (bare : A → B) (ok : A → Bool) (off stop : List Token → Bool) (row : InRow tokens ok off stop) where
   follows : (ys : List A) (b : List Token) → all_of (map ok ys) ≡ true → stop b ≡ true → off (joined (map tokens ys) ++ b) ≡ true
   follows [] b h s = row.ends b s
-  follows (y ∷ ys) b h s = ap off (append_assoc (tokens y) (joined (map tokens ys)) b) ∙ row.between y (joined (map tokens ys) ++ b) (and-fst _ _ h)
+  follows (y ∷ ys) b h s = ap off (append_assoc (tokens y) (joined (map tokens ys)) b) ∙ row.between y (joined (map tokens ys) ++ b) (and_first _ _ h)
 
   ended : {P : Type 0} (y : A) (ys : List A) (a b : List Token) → ok y ≡ true → stop a ≡ true → a ≡ joined (map tokens (y ∷ ys)) ++ b → P
-  ended y ys a b h s e = no_truth (sym s ∙ (ap stop (e ∙ append_assoc (tokens y) (joined (map tokens ys)) b)
+  ended y ys a b h s e = from_true_false (sym s ∙ (ap stop (e ∙ append_assoc (tokens y) (joined (map tokens ys)) b)
       ∙ row.starts y (joined (map tokens ys) ++ b) h))
 
   pub rows_same : (xs ys : List A) → Each (Only tokens bare ok off) xs → all_of (map ok xs) ≡ true → all_of (map ok ys) ≡ true →
       (a b : List Token) → stop a ≡ true → stop b ≡ true
       → joined (map tokens xs) ++ a ≡ joined (map tokens ys) ++ b → (map bare xs ≡ map bare ys) × (a ≡ b)
   rows_same [] [] each h k a b s t e = (refl, e)
-  rows_same [] (y ∷ ys) each h k a b s t e = ended y ys a b (and-fst _ _ k) s e
-  rows_same (x ∷ xs) [] each h k a b s t e = ended x xs b a (and-fst _ _ h) t (sym e)
+  rows_same [] (y ∷ ys) each h k a b s t e = ended y ys a b (and_first _ _ k) s e
+  rows_same (x ∷ xs) [] each h k a b s t e = ended x xs b a (and_first _ _ h) t (sym e)
   rows_same (x ∷ xs) (y ∷ ys) (one, each) h k a b s t e =
       let apart : tokens x ++ (joined (map tokens xs) ++ a) ≡ tokens y ++ (joined (map tokens ys) ++ b) =
       sym (append_assoc (tokens x) (joined (map tokens xs)) a) ∙ (e ∙ append_assoc (tokens y) (joined (map tokens ys)) b) in
-      let m = one (and-fst _ _ h) y (and-fst _ _ k) (joined (map tokens xs) ++ a) (joined (map tokens ys) ++ b)
-      (follows xs a (and-snd _ _ h) s) (follows ys b (and-snd _ _ k) t) apart in
-      let rest = rows_same xs ys each (and-snd _ _ h) (and-snd _ _ k) a b s t m.1 in
+      let m = one (and_first _ _ h) y (and_first _ _ k) (joined (map tokens xs) ++ a) (joined (map tokens ys) ++ b)
+      (follows xs a (and_second _ _ h) s) (follows ys b (and_second _ _ k) t) apart in
+      let rest = rows_same xs ys each (and_second _ _ h) (and_second _ _ k) a b s t m.1 in
       (ap (λ z. z ∷ map bare xs) m.0 ∙ ap (λ zs. bare y ∷ zs) rest.0, rest.1)
 
 -- whether this token stands first
@@ -107,23 +107,23 @@ module _ {A B : Type 0} (tokens : A → List Token) (bare : A → B) (ok : A →
   none : {P : Type 0} (y : A) (ys : List A) (a b : List Token) → ok y ≡ true →
       codes ")" ∷ a ≡ with_commas (map tokens (y ∷ ys)) ++ (codes ")" ∷ b) → P
   none y ys a b h e =
-      no_truth (ap (stands (codes ")")) (e ∙ append_assoc (tokens y) (listed false (map tokens ys)) (codes ")" ∷ b))
+      from_true_false (ap (stands (codes ")")) (e ∙ append_assoc (tokens y) (listed false (map tokens ys)) (codes ")" ∷ b))
       ∙ row.starts y (listed false (map tokens ys) ++ (codes ")" ∷ b)) h)
 
   pub commas_same : (xs ys : List A) → Each (Only tokens bare ok off) xs → all_of (map ok xs) ≡ true → all_of (map ok ys) ≡ true →
       (a b : List Token)
       → with_commas (map tokens xs) ++ (codes ")" ∷ a) ≡ with_commas (map tokens ys) ++ (codes ")" ∷ b) → (map bare xs ≡ map bare ys) × (a ≡ b)
   commas_same [] [] each h k a b e = (refl, ap tail e)
-  commas_same [] (y ∷ ys) each h k a b e = none y ys a b (and-fst _ _ k) e
-  commas_same (x ∷ xs) [] each h k a b e = none x xs b a (and-fst _ _ h) (sym e)
+  commas_same [] (y ∷ ys) each h k a b e = none y ys a b (and_first _ _ k) e
+  commas_same (x ∷ xs) [] each h k a b e = none x xs b a (and_first _ _ h) (sym e)
   commas_same (x ∷ xs) (y ∷ ys) (one, each) h k a b e =
       let xr = listed false (map tokens xs) ++ (codes ")" ∷ a) in
       let yr = listed false (map tokens ys) ++ (codes ")" ∷ b) in
       let apart : tokens x ++ xr ≡ tokens y ++ yr =
       sym (append_assoc (tokens x) (listed false (map tokens xs)) (codes ")" ∷ a))
       ∙ (e ∙ append_assoc (tokens y) (listed false (map tokens ys)) (codes ")" ∷ b)) in
-      let m = one (and-fst _ _ h) y (and-fst _ _ k) xr yr (off_more xs a) (off_more ys b) apart in
-      let rest = more_same xs ys each (and-snd _ _ h) (and-snd _ _ k) a b m.1 in
+      let m = one (and_first _ _ h) y (and_first _ _ k) xr yr (off_more xs a) (off_more ys b) apart in
+      let rest = more_same xs ys each (and_second _ _ h) (and_second _ _ k) a b m.1 in
       (ap (λ z. z ∷ map bare xs) m.0 ∙ ap (λ zs. bare y ∷ zs) rest.0, ap tail rest.1)
 
 -- ---- lists in braces

@@ -1,29 +1,6 @@
 -- Pieces that spell what is wanted of them, while no more brackets are open at once than may be.
-use Rattle.std.proofs.Common.{
-  ◌≡◌,
-  ℕ,
-  zero,
-  suc,
-  ◌+◌,
-  ◌-◌,
-  ◌≤◌,
-  Bool,
-  true,
-  false,
-  ◌||◌,
-  List,
-  [],
-  ◌∷◌,
-  ◌++◌,
-  map,
-  refl,
-  ap,
-  sym,
-  ◌∙◌,
-  subst,
-  arith,
-  codes,
-}
+use Rattle.std.proofs.Common.{◌≡◌, ℕ, zero, suc, ◌+◌, ◌-◌, ◌≤◌, true, false, ◌||◌, List, [], ◌∷◌, ◌++◌, map, refl, ap, sym, ◌∙◌, subst, arith, codes}
+use Rattle.bl_tree.proofs.Basics.{neither_first, neither_second}
 use Rattle.bl_ctext.specs.Token.{Token}
 use Rattle.bl_ctext.specs.Names.{is_turn_name}
 use Rattle.bl_ctext.specs.Spellable.{is_opening, is_closing, open_behind, most_open}
@@ -36,6 +13,7 @@ use Rattle.bl_cparse_syntax.specs.Classes.{Class, matches}
 use Rattle.bl_cparse_syntax.specs.Classes.Class.{exactly}
 use Rattle.bl_cparse_syntax.specs.Grammar.{Shape, Wanted, Production, productions, with_turn_name, wanted_for, IsAmong, Produces, CDerives}
 use Rattle.bl_cparse_syntax.proofs.ClassLemmas.{is_same-self}
+use Rattle.bl_ctext.proofs.Nesting.{opened}
 
 -- the pieces spell what is wanted, up to the end
 abbrev pub Spells : List Wanted → List Token → Type 0
@@ -96,22 +74,11 @@ exact : (w : Token) → matches (exactly w) w ≡ true
 unfolding matches
 exact w = is_same-self w
 
-pub opened : (k : ℕ) (w : Token) → is_opening w ≡ true → open_behind k w ≡ k + 1
-opened k w h = rw h refl
-
 pub closed : (k : ℕ) (w : Token) → is_opening w ≡ false → is_closing w ≡ true → open_behind (k + 1) w ≡ k
 closed k w h i = rw (h, i) (omega arith)
 
-or-left : (a b : Bool) → (a || b) ≡ false → a ≡ false
-or-left true b h = h
-or-left false b h = refl
-
-or-right : (a b : Bool) → (a || b) ≡ false → b ≡ false
-or-right true b h = absurd (let e : true ≡ false = h in cc)
-or-right false b h = h
-
 pub stays : (k : ℕ) (w : Token) → is_bracket w ≡ false → open_behind k w ≡ k
-stays k w h = let a : is_opening w ≡ false = or-left _ _ h in let b : is_closing w ≡ false = or-right _ _ h in rw (a, b) refl
+stays k w h = let a : is_opening w ≡ false = neither_first _ _ h in let b : is_closing w ≡ false = neither_second _ _ h in rw (a, b) refl
 
 pub behind : (k n : ℕ) (w : Token) (ts : List Token) → open_behind k w ≡ n → most_open k (w ∷ ts) ≤ 2000 → most_open n ts ≤ 2000
 behind k n w ts e few = subst (λ i. most_open i ts ≤ 2000) e (omega (arith, few))

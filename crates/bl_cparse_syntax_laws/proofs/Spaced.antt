@@ -1,37 +1,17 @@
 -- The pieces of bytes, where each is a token, are the tokens that the bytes are spaced into.
-use Rattle.std.proofs.Common.{
-  ◌≡◌,
-  ◌⊎◌,
-  ℕ,
-  ◌≤◌,
-  Bool,
-  true,
-  false,
-  ◌&&◌,
-  ◌||◌,
-  cond,
-  List,
-  [],
-  ◌∷◌,
-  ◌++◌,
-  length,
-  map,
-  refl,
-  sym,
-  ap,
-  ◌∙◌,
-  subst,
-  inl,
-  inr,
-  arith,
-}
+use Rattle.std.proofs.Common.{◌≡◌, ◌⊎◌, ℕ, ◌≤◌, Bool, true, false, ◌&&◌, ◌||◌, cond, List, [], ◌∷◌, ◌++◌, length, map, refl, sym, ap, ◌∙◌, subst, inl, inr}
+use Rattle.std.proofs.Common.{arith}
 use Rattle.std.proofs.lemmas.Bool.Decides.{nat_tests}
+use Rattle.std.proofs.lemmas.Bool.{and_from, or_left, or_right}
+use Rattle.bl_tree.proofs.Basics.{and_first, and_second, either_of}
 use Rattle.bl_tree.specs.Reduce.{all_of}
 use Rattle.bl_ctext.specs.Token.{Token, is_blank, is_word_byte, is_double_sign, is_word, is_sign, is_token, IsLongest, SpacedC}
 use Rattle.bl_ctext.specs.inner.Cut.{are_tokens}
 use Rattle.bl_ctext.specs.Token.{put_before}
-use Rattle.bl_ctext.proofs.Bytes.{and-fst, and-snd, both, either, or-fst, or-snd, word_byte-not_blank}
+use Rattle.bl_ctext.proofs.Bytes.{word_byte-not_blank}
 use Rattle.bl_cparse_syntax.specs.Pieces.{cut_off, pieces}
+use Rattle.bl_cparse_syntax.proofs.PieceLemmas.{no_pair}
+use Rattle.bl_ctext.proofs.Longest.{no_blanks}
 
 -- whether the bytes may go on a piece: a word by a byte of words, a single byte by the second of a sign
 abbrev goes : ℕ → List ℕ → List ℕ → Bool
@@ -55,13 +35,13 @@ Cuts [] bytes = all_of (map is_blank bytes) ≡ true
 Cuts (piece ∷ others) bytes = (after : List ℕ) × (Next piece bytes after × Cuts others after)
 
 one_blank : (b : ℕ) (bs : List ℕ) (ts : List Token) → is_blank b ≡ true → Cuts ts bs → Cuts ts (b ∷ bs)
-one_blank b bs [] h cuts = both _ _ h cuts
+one_blank b bs [] h cuts = and_from _ _ h cuts
 one_blank b bs (t ∷ ts) h (after, (next, rest)) = (
   after,
   (
     record {
       blanks = b ∷ next.blanks;
-      blank = both _ _ h next.blank;
+      blank = and_from _ _ h next.blank;
       cut = ap (λ (xs : List ℕ). b ∷ xs) next.cut;
       first =
           next.first;
@@ -72,18 +52,6 @@ one_blank b bs (t ∷ ts) h (after, (next, rest)) = (
     rest,
   ),
 )
-
-no_blanks : (c : ℕ) (cs blanks rest : List ℕ) → is_blank c ≡ false → all_of (map is_blank blanks) ≡ true → c ∷ cs ≡ blanks ++ rest →
-    c ∷ cs ≡ rest
-no_blanks c cs [] rest h k e = e
-no_blanks c cs (d ∷ ds) rest h k e =
-    let same : c ≡ d = cc in
-    let blank : is_blank d ≡ true = and-fst _ _ k in
-    let not_blank : is_blank d ≡ false = rw same at h in
-    cc
-
-no_pair : (a b : ℕ) → is_word_byte a ≡ true → is_double_sign a b ≡ false
-no_pair a b h = grind (arith, nat_tests)
 
 -- a piece that begins with a byte of words and doesn't go on has no such byte behind it
 word_stops : (c : ℕ) (others after : List ℕ) (a : ℕ) (more : List ℕ) → is_word_byte c ≡ true → goes c others after ≡ false →
@@ -160,7 +128,7 @@ step a b bs true pair word h k w far near = one_blank a (b ∷ bs) (pieces (b �
 step a b bs false true word h k w far near =
     (bs, (record { blanks = []; blank = refl; cut = refl; first = a; others = b ∷ []; some = refl; stops = pair_stops a b bs k }, far))
 step a b bs false false true h k w far near =
-    let next_word : is_word_byte b ≡ true = and-snd (is_word_byte a) (is_word_byte b) w in
+    let next_word : is_word_byte b ≡ true = and_second (is_word_byte a) (is_word_byte b) w in
     let (t, rest) = some_piece b bs next_word in
     let (ts, e) = rest in
     let P : List Token → Type 0 = λ us. Cuts us (b ∷ bs) in
@@ -170,7 +138,7 @@ step a b bs false false false h k w far near =
     (b ∷ bs, (record { blanks = []; blank = refl; cut = refl; first = a; others = []; some = refl; stops = rw (w, k) refl }, near))
 
 single : (a : ℕ) (v : Bool) → is_blank a ≡ v → Cuts (cond v [] ((a ∷ []) ∷ [])) (a ∷ [])
-single a true h = both _ _ h refl
+single a true h = and_from _ _ h refl
 single a false h = ([], (record { blanks = []; blank = refl; cut = refl; first = a; others = []; some = refl; stops = refl }, refl))
 
 cuts : (bs : List ℕ) → Cuts (pieces bs) bs
@@ -179,18 +147,18 @@ cuts (a ∷ []) = single a (is_blank a) refl
 cuts (a ∷ b ∷ bs) = step a b bs (is_blank a) (is_double_sign a b) (is_word_byte a && is_word_byte b) refl refl refl (cuts bs) (cuts (b ∷ bs))
 
 all_in : (others : List ℕ) (c : ℕ) (more : List ℕ) → all_of (map is_word_byte (others ++ c ∷ more)) ≡ true → is_word_byte c ≡ true
-all_in [] c more h = and-fst _ _ h
-all_in (o ∷ others) c more h = all_in others c more (and-snd _ _ h)
+all_in [] c more h = and_first _ _ h
+all_in (o ∷ others) c more h = all_in others c more (and_second _ _ h)
 
 word_goes : (f : ℕ) (others : List ℕ) (c : ℕ) (more rest : List ℕ) → is_word ((f ∷ others) ++ c ∷ more) ≡ true →
     goes f others (c ∷ rest) ≡ true
 word_goes f [] c more rest h =
-    or-fst (is_word_byte f && is_word_byte c) (is_double_sign f c) (both (is_word_byte f) (is_word_byte c) (and-fst _ _ h) (all_in [] c more (and-snd _ _ h)))
-word_goes f (o ∷ others) c more rest h = both (is_word_byte f) (is_word_byte c) (and-fst _ _ h) (all_in (o ∷ others) c more (and-snd _ _ h))
+    or_left (is_word_byte f && is_word_byte c) (is_double_sign f c) (and_from (is_word_byte f) (is_word_byte c) (and_first _ _ h) (all_in [] c more (and_second _ _ h)))
+word_goes f (o ∷ others) c more rest h = and_from (is_word_byte f) (is_word_byte c) (and_first _ _ h) (all_in (o ∷ others) c more (and_second _ _ h))
 
 sign_goes : (f : ℕ) (others : List ℕ) (c : ℕ) (more rest : List ℕ) → is_sign ((f ∷ others) ++ c ∷ more) ≡ true →
     goes f others (c ∷ rest) ≡ true
-sign_goes f [] c [] rest h = or-snd (is_word_byte f && is_word_byte c) (is_double_sign f c) h
+sign_goes f [] c [] rest h = or_right (is_word_byte f && is_word_byte c) (is_double_sign f c) h
 sign_goes f [] c (m ∷ more) rest h = cc
 sign_goes f (o ∷ []) c more rest h = cc
 sign_goes f (o ∷ x ∷ others) c more rest h = cc
@@ -199,7 +167,7 @@ sign_goes f (o ∷ x ∷ others) c more rest h = cc
 token_goes : (f : ℕ) (others : List ℕ) (c : ℕ) (more rest : List ℕ) → is_token ((f ∷ others) ++ c ∷ more) ≡ true →
     goes f others (c ∷ rest) ≡ true
 token_goes f others c more rest h =
-    elim (either (is_word ((f ∷ others) ++ c ∷ more)) (is_sign ((f ∷ others) ++ c ∷ more)) h)
+    elim (either_of (is_word ((f ∷ others) ++ c ∷ more)) (is_sign ((f ∷ others) ++ c ∷ more)) h)
     [ inl word ↦ word_goes f others c more rest word | inr sign ↦ sign_goes f others c more rest sign ]
 
 -- Of two fronts of the same bytes one goes on where the other ends.
@@ -241,10 +209,10 @@ spaced_cuts (t ∷ ts) bs h (after, (next, rest)) = (
       blanks = next.blanks;
       blank = next.blank;
       cut = next.cut;
-      is_one = and-fst _ _ h;
+      is_one = and_first _ _ h;
       longest = rw next.some (longest next.first next.others after next.stops);
     },
-    spaced_cuts ts after (and-snd _ _ h) rest,
+    spaced_cuts ts after (and_second _ _ h) rest,
   ),
 )
 

@@ -1,30 +1,7 @@
 -- The tokens of a statement that has a spelling derive.
-use Rattle.std.proofs.Common.{
-  ◌≡◌,
-  ℕ,
-  ◌+◌,
-  ◌-◌,
-  ◌≤◌,
-  true,
-  false,
-  ◌&&◌,
-  List,
-  [],
-  ◌∷◌,
-  ◌++◌,
-  map,
-  Option,
-  Some,
-  None,
-  refl,
-  sym,
-  ap,
-  ◌∙◌,
-  subst,
-  append_assoc,
-  arith,
-  codes,
-}
+use Rattle.std.proofs.Common.{◌≡◌, ℕ, ◌+◌, ◌-◌, ◌≤◌, true, false, ◌&&◌, List, [], ◌∷◌, ◌++◌, map, Option, Some, None, refl, sym, ap, ◌∙◌, subst, append_assoc}
+use Rattle.std.proofs.Common.{arith, codes}
+use Rattle.bl_tree.proofs.Basics.{and_first, and_second}
 use Rattle.bl_tree.specs.declared.place.Place.{Place as TextPlace}
 use Rattle.bl_tree.specs.declared.c.CExpr.{CExpr}
 use Rattle.bl_tree.specs.declared.c.CStmt.{CStmt, fold-roll-CStmt, roll-CStmt, ind-CStmt}
@@ -32,20 +9,9 @@ use Rattle.bl_tree.specs.declared.c.CStmtKind.{CStmtKind, CStmtKind-F, fold-roll
 use Rattle.bl_tree.specs.Reduce.{all_of, joined}
 use Rattle.bl_ctext.specs.Token.{Token}
 use Rattle.bl_ctext.specs.Names.{is_struct_name, is_turn_name}
-use Rattle.bl_ctext.specs.Spelling.{
-  expr_tokens,
-  place_tokens,
-  ccall_tokens,
-  result_tokens,
-  condition_tokens,
-  zeros_tokens,
-  turn_declared,
-  turn_counted,
-  stmt_tokens,
-  stmt_kind_tokens,
-}
+use Rattle.bl_ctext.specs.Spelling.{expr_tokens, place_tokens, ccall_tokens, result_tokens, condition_tokens, zeros_tokens, turn_declared, turn_counted}
+use Rattle.bl_ctext.specs.Spelling.{stmt_tokens, stmt_kind_tokens}
 use Rattle.bl_ctext.specs.Spellable.{most_open, spells_expr, spells_place, spells_result, spells_stmt, spells_stmt_kind}
-use Rattle.bl_ctext.proofs.Bytes.{and-fst, and-snd}
 use Rattle.bl_ctext.proofs.ExprNesting.{expr-nests}
 use Rattle.bl_ctext.proofs.Nesting.{is_bracket, open_after, most_open-first, most_open-append}
 use Rattle.bl_ctext.proofs.PlainWords.{turn_name-plain}
@@ -213,23 +179,23 @@ inner_goes body h = stmts_goes (map stmt_tokens (map (λ e. e.0) body)) (each_sh
 by_kind : (y : CStmtKind-F KindOf StmtOf) → OfKind (roll-CStmtKind (plain_kind y))
 by_kind (CStmtKind-F.Set at value) h =
     let all : (spells_place at && spells_expr value) ≡ true = rw fold-roll-CStmtKind at h in
-    rw fold-roll-CStmtKind (set_goes (place_tokens at) (expr_tokens value) (whole_place at (and-fst _ _ all)) (expr_goes value (and-snd _ _ all)))
+    rw fold-roll-CStmtKind (set_goes (place_tokens at) (expr_tokens value) (whole_place at (and_first _ _ all)) (expr_goes value (and_second _ _ all)))
 by_kind (CStmtKind-F.Clear at name) h =
     let all : (spells_place at && is_struct_name name) ≡ true = rw fold-roll-CStmtKind at h in
-    rw fold-roll-CStmtKind (clear_goes (place_tokens at) name (whole_place at (and-fst _ _ all)) (and-snd _ _ all))
+    rw fold-roll-CStmtKind (clear_goes (place_tokens at) name (whole_place at (and_first _ _ all)) (and_second _ _ all))
 by_kind (CStmtKind-F.Call call) h = rw fold-roll-CStmtKind (call_goes (ccall_tokens call) (whole_call call (rw fold-roll-CStmtKind at h)))
 by_kind (CStmtKind-F.If test inner None) h =
     let all : (spells_expr test && (all_of (map spells_stmt (map (λ e. e.0) inner)) && true)) ≡ true = rw fold-roll-CStmtKind at h in
     rw fold-roll-CStmtKind (else_goes [] no_else (expr_tokens test) _
-    (whole_expr (expr_tokens test) (expr_goes test (and-fst _ _ all))) (inner_goes inner (and-fst _ _ (and-snd _ _ all))))
+    (whole_expr (expr_tokens test) (expr_goes test (and_first _ _ all))) (inner_goes inner (and_first _ _ (and_second _ _ all))))
 by_kind (CStmtKind-F.If test inner (Some other)) h =
     let all : (spells_expr test && (all_of (map spells_stmt (map (λ e. e.0) inner))
     && all_of (map spells_stmt (map (λ e. e.0) other)))) ≡ true = rw fold-roll-CStmtKind at h in
-    rw fold-roll-CStmtKind (else_goes _ (some_else _ (inner_goes other (and-snd _ _ (and-snd _ _ all)))) (expr_tokens test) _
-    (whole_expr (expr_tokens test) (expr_goes test (and-fst _ _ all))) (inner_goes inner (and-fst _ _ (and-snd _ _ all))))
+    rw fold-roll-CStmtKind (else_goes _ (some_else _ (inner_goes other (and_second _ _ (and_second _ _ all)))) (expr_tokens test) _
+    (whole_expr (expr_tokens test) (expr_goes test (and_first _ _ all))) (inner_goes inner (and_first _ _ (and_second _ _ all))))
 by_kind (CStmtKind-F.Loop turn test body) h =
     let all : (is_turn_name turn && (spells_expr test && all_of (map spells_stmt (map (λ e. e.0) body)))) ≡ true = rw fold-roll-CStmtKind at h in
-    rw fold-roll-CStmtKind (loop_whole turn test _ (and-fst _ _ all) (and-fst _ _ (and-snd _ _ all)) (inner_goes body (and-snd _ _ (and-snd _ _ all))))
+    rw fold-roll-CStmtKind (loop_whole turn test _ (and_first _ _ all) (and_first _ _ (and_second _ _ all)) (inner_goes body (and_second _ _ (and_second _ _ all))))
 by_kind CStmtKind-F.Break h = rw fold-roll-CStmtKind break_goes
 by_kind (CStmtKind-F.Return result) h = rw fold-roll-CStmtKind (return_goes result (rw fold-roll-CStmtKind at h))
 

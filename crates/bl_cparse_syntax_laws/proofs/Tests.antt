@@ -1,11 +1,11 @@
 -- Tests of the first tokens of a list: which one stands there, and which don't.
-use Rattle.std.proofs.Common.{◌≡◌, ℕ, Bool, true, false, not, nat_eq, List, [], ◌∷◌, map, refl, sym, ◌∙◌, subst, inl, inr, arith, codes}
+use Rattle.std.proofs.Common.{◌≡◌, Bool, true, false, not, nat_eq, List, [], ◌∷◌, map, refl, sym, ◌∙◌, subst, inl, inr, arith, codes}
 use Rattle.std.proofs.lemmas.Bool.Decides.{nat_tests}
 use Rattle.std.specs.Cmp.Lexicographic.{pointwise}
+use Rattle.bl_tree.proofs.Basics.{and_first, and_second, either_of, same_number}
 use Rattle.bl_tree.specs.Reduce.{all_of, any_of}
 use Rattle.bl_ctext.specs.Token.{Token}
 use Rattle.bl_ctext.specs.Names.{is_among, is_name, is_callee}
-use Rattle.bl_ctext.proofs.Bytes.{and-fst, and-snd, either}
 use Rattle.bl_ctext.proofs.PrefixedNames.{name-callee}
 
 abbrev pub is : Token → Token → Bool
@@ -25,28 +25,22 @@ tail (t ∷ ts) = ts
 abbrev pub second : List Token → Token
 second ts = first (tail ts)
 
-pub no_truth : {P : Type 0} → true ≡ false → P
-no_truth e = absurd (cc)
-
-same_number : (x y : ℕ) → nat_eq x y ≡ true → x ≡ y
-same_number x y h = grind (arith, nat_tests)
-
 pub is_same : (t w : Token) → is t w ≡ true → t ≡ w
 is_same [] [] h = refl
 is_same [] (y ∷ ys) h = cc
 is_same (x ∷ xs) [] h = cc
 is_same (x ∷ xs) (y ∷ ys) h =
-    let head : x ≡ y = same_number x y (and-fst _ _ h) in
-    let rest : xs ≡ ys = is_same xs ys (and-snd _ _ h) in
+    let head : x ≡ y = same_number x y (and_first _ _ h) in
+    let rest : xs ≡ ys = is_same xs ys (and_second _ _ h) in
     rw (head, rest) refl
 
 -- what holds of each of some words holds of a word among them
 pub among_all : (p : Token → Bool) (t : Token) (ws : List Token) → among t ws ≡ true → all_of (map p ws) ≡ true → p t ≡ true
 among_all p t [] h k = cc
 among_all p t (w ∷ ws) h k =
-    elim (either (is t w) (among t ws) h) [
-      | inl same ↦ subst (λ (t : Token). p t ≡ true) (sym (is_same t w same)) (and-fst _ _ k)
-      | inr other ↦ among_all p t ws other (and-snd _ _ k)
+    elim (either_of (is t w) (among t ws) h) [
+      | inl same ↦ subst (λ (t : Token). p t ≡ true) (sym (is_same t w same)) (and_first _ _ k)
+      | inr other ↦ among_all p t ws other (and_second _ _ k)
     ]
 
 never : (a b : Bool) → a ≡ true → not a ≡ true → b ≡ false

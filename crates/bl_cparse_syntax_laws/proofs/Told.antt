@@ -1,39 +1,10 @@
 -- Which tokens each part of the grammar stands for, by trees that have them, and how a tree is put together.
-use Rattle.std.proofs.Common.{
-  ◌≡◌,
-  ℕ,
-  zero,
-  suc,
-  ◌*◌,
-  ◌≤◌,
-  ◌<◌,
-  ◌==◌,
-  pos,
-  negsuc,
-  Bool,
-  true,
-  false,
-  ◌&&◌,
-  nat_le,
-  nat_lt,
-  List,
-  [],
-  ◌∷◌,
-  ◌++◌,
-  map,
-  Option,
-  Some,
-  refl,
-  sym,
-  ap,
-  ◌∙◌,
-  append_assoc,
-  append-nil,
-  codes,
-  arith,
-}
+use Rattle.std.proofs.Common.{◌≡◌, ℕ, zero, suc, ◌*◌, ◌≤◌, ◌<◌, ◌==◌, pos, negsuc, Bool, true, false, ◌&&◌, nat_le, nat_lt, List, [], ◌∷◌, ◌++◌, map, Option}
+use Rattle.std.proofs.Common.{Some, refl, sym, ap, ◌∙◌, append_assoc, append-nil, codes, arith}
 use Rattle.std.proofs.lemmas.Bool.Decides.{nat_tests}
 use Rattle.std.specs.Fmt.{decimal}
+use Rattle.std.proofs.lemmas.Bool.{and_from}
+use Rattle.bl_tree.proofs.Basics.{and_first, and_second, at_most_test, less_test}
 use Rattle.bl_tree.specs.declared.scalar.Width.{Width}
 use Rattle.bl_tree.specs.declared.scalar.Width.TheVariants.{W8, W16, W32, W64}
 use Rattle.bl_tree.specs.declared.scalar.Scalar.{Scalar}
@@ -48,138 +19,26 @@ use Rattle.bl_tree.specs.declared.c.CStmtKind.{CStmtKind-F}
 use Rattle.bl_tree.specs.Reduce.{all_of, joined}
 use Rattle.bl_ctext.specs.Token.{Token}
 use Rattle.bl_ctext.specs.Names.{is_name, is_struct_name, is_function_name, is_callee, is_turn_name}
-use Rattle.bl_ctext.specs.Spelling.{
-  scalar_word,
-  type_tokens,
-  constant_word,
-  negatives,
-  operator_sign,
-  listed,
-  with_commas,
-  braced,
-  root_tokens,
-  index_front,
-  expr_tokens,
-  kind_tokens,
-  place_tokens,
-  step_tokens,
-  index_tokens,
-  ccall_tokens,
-  arg_tokens,
-  turn_declared,
-  turn_counted,
-  stmt_tokens,
-  stmt_kind_tokens,
-  length_tokens,
-  member_tokens,
-  struct_tokens,
-  star_if,
-  param_tokens,
-  local_tokens,
-  returned_tokens,
-  static_if,
-  func_tokens,
-  tokens_of,
-}
-use Rattle.bl_ctext.specs.Spellable.{
-  has_any,
-  is_c_scalar,
-  is_c_operator,
-  is_length,
-  spells_expr,
-  spells_kind,
-  spells_place,
-  spells_step,
-  spells_index,
-  spells_call,
-  spells_arg,
-  spells_stmt,
-  spells_stmt_kind,
-  spells_type,
-  spells_length,
-  spells_member,
-  spells_struct,
-  spells_param,
-  spells_local,
-  spells_returned,
-  spells_func,
-}
-use Rattle.bl_ctext.proofs.Bytes.{and-fst, and-snd, both}
+use Rattle.bl_ctext.specs.Spelling.{scalar_word, type_tokens, constant_word, negatives, operator_sign, listed, with_commas, braced, root_tokens, index_front}
+use Rattle.bl_ctext.specs.Spelling.{expr_tokens, kind_tokens, place_tokens, step_tokens, index_tokens, ccall_tokens, arg_tokens, turn_declared, turn_counted}
+use Rattle.bl_ctext.specs.Spelling.{stmt_tokens, stmt_kind_tokens, length_tokens, member_tokens, struct_tokens, star_if, param_tokens, local_tokens}
+use Rattle.bl_ctext.specs.Spelling.{returned_tokens, static_if, func_tokens, tokens_of}
+use Rattle.bl_ctext.specs.Spellable.{has_any, is_c_scalar, is_c_operator, is_length, spells_expr, spells_kind, spells_place, spells_step, spells_index}
+use Rattle.bl_ctext.specs.Spellable.{spells_call, spells_arg, spells_stmt, spells_stmt_kind, spells_type, spells_length, spells_member, spells_struct}
+use Rattle.bl_ctext.specs.Spellable.{spells_param, spells_local, spells_returned, spells_func}
 use Rattle.bl_cparse_syntax.specs.declared.grammar.Part.{Part}
-use Rattle.bl_cparse_syntax.specs.declared.grammar.Part.TheVariants.{
-  File,
-  Structs,
-  Struct,
-  StructName,
-  Members,
-  Member,
-  TypeName,
-  Length,
-  Funcs,
-  Func,
-  PlainFunc,
-  FuncRest,
-  FuncName,
-  Params,
-  ParamRest,
-  Param,
-  Star,
-  Locals,
-  Local,
-  Stmts,
-  Stmt,
-  Else,
-  Turns,
-  AfterName,
-  AssignTail,
-  Value,
-  AfterOpen,
-  Result,
-  Expr,
-  Simple,
-  Constant,
-  Inside,
-  Negative,
-  NameUse,
-  Steps,
-  Index,
-  Args,
-  ArgRest,
-  Arg,
-  Place,
-}
+use Rattle.bl_cparse_syntax.specs.declared.grammar.Part.TheVariants.{File, Structs, Struct, StructName, Members, Member, TypeName, Length, Funcs, Func}
+use Rattle.bl_cparse_syntax.specs.declared.grammar.Part.TheVariants.{PlainFunc, FuncRest, FuncName, Params, ParamRest, Param, Star, Locals, Local, Stmts, Stmt}
+use Rattle.bl_cparse_syntax.specs.declared.grammar.Part.TheVariants.{Else, Turns, AfterName, AssignTail, Value, AfterOpen, Result, Expr, Simple, Constant}
+use Rattle.bl_cparse_syntax.specs.declared.grammar.Part.TheVariants.{Inside, Negative, NameUse, Steps, Index, Args, ArgRest, Arg, Place}
 use Rattle.bl_cparse_syntax.specs.declared.grammar.Group.TheVariants.{PlainLiterals, IndexFunctions}
 use Rattle.bl_cparse_syntax.specs.declared.grammar.Digits.TheVariants.{Elements, Int, Negated, Unsigned}
 use Rattle.bl_cparse_syntax.specs.Classes.{words_of}
 use Rattle.bl_cparse_syntax_laws.specs.Placeless.{any_place}
 use Rattle.bl_cparse_syntax_laws.proofs.Rows.{braces}
-use Rattle.bl_cparse_syntax_laws.proofs.Layers.{
-  Levels,
-  Places,
-  arg_level,
-  arg_ok,
-  kind_level,
-  kind_ok,
-  call_level,
-  call_ok,
-  expr_level,
-  expr_ok,
-  index_level,
-  index_ok,
-  place_level,
-  place_ok,
-  maybe_index,
-  maybe_ok,
-  step_level,
-  step_ok,
-  arg_levels,
-  kind_levels,
-  call_levels,
-  expr_levels,
-  index_levels,
-  place_levels,
-  step_levels,
-}
+use Rattle.bl_cparse_syntax_laws.proofs.Layers.{Levels, Places, arg_level, arg_ok, kind_level, kind_ok, call_level, call_ok, expr_level, expr_ok, index_level}
+use Rattle.bl_cparse_syntax_laws.proofs.Layers.{index_ok, place_level, place_ok, maybe_index, maybe_ok, step_level, step_ok, arg_levels, kind_levels}
+use Rattle.bl_cparse_syntax_laws.proofs.Layers.{call_levels, expr_levels, index_levels, place_levels, step_levels}
 use Rattle.bl_cparse_syntax_laws.proofs.OnlyStmt.{else_level, else_ok, stmt_level, stmt_ok, stmt_kind_levels, whole_level, whole_ok, stmt_levels}
 use Rattle.bl_cparse_syntax_laws.proofs.Pieces.{OneOf, Spelled}
 
@@ -257,16 +116,16 @@ pub moved : {A : Type 0} {tokens : A → List Token} {ok : A → Bool} {ts us : 
 moved e (x, (i, h)) = (x, (e ∙ i, h))
 
 pub row_more : {A : Type 0} (tokens : A → List Token) (ok : A → Bool) {a b : List Token} → Told tokens ok a → Row tokens ok b → Row tokens ok (a ++ b)
-row_more tokens ok {a} {b} (x, (i, h)) (xs, (j, k)) = (x ∷ xs, (ap (λ a. a ++ b) i ∙ ap (λ b. tokens x ++ b) j, both (ok x) (all_of (map ok xs)) h k))
+row_more tokens ok {a} {b} (x, (i, h)) (xs, (j, k)) = (x ∷ xs, (ap (λ a. a ++ b) i ∙ ap (λ b. tokens x ++ b) j, and_from (ok x) (all_of (map ok xs)) h k))
 
 pub comma_more : {A : Type 0} (tokens : A → List Token) (ok : A → Bool) {a b : List Token} → Told tokens ok a →
     Commas false tokens ok b → Commas false tokens ok (codes "," ∷ (a ++ b))
 comma_more tokens ok {a} {b} (x, (i, h)) (xs, (j, k)) =
-    (x ∷ xs, (ap (λ c. codes "," ∷ c) (ap (λ a. a ++ b) i ∙ ap (λ b. tokens x ++ b) j), both (ok x) (all_of (map ok xs)) h k))
+    (x ∷ xs, (ap (λ c. codes "," ∷ c) (ap (λ a. a ++ b) i ∙ ap (λ b. tokens x ++ b) j), and_from (ok x) (all_of (map ok xs)) h k))
 
 pub first_more : {A : Type 0} (tokens : A → List Token) (ok : A → Bool) {a b : List Token} → Told tokens ok a →
     Commas false tokens ok b → Commas true tokens ok (a ++ b)
-first_more tokens ok {a} {b} (x, (i, h)) (xs, (j, k)) = (x ∷ xs, (ap (λ a. a ++ b) i ∙ ap (λ b. tokens x ++ b) j, both (ok x) (all_of (map ok xs)) h k))
+first_more tokens ok {a} {b} (x, (i, h)) (xs, (j, k)) = (x ∷ xs, (ap (λ a. a ++ b) i ∙ ap (λ b. tokens x ++ b) j, and_from (ok x) (all_of (map ok xs)) h k))
 
 parens : (xs a : List Token) → (xs ++ codes ")" ∷ []) ++ a ≡ xs ++ (codes ")" ∷ a)
 parens xs a = append_assoc xs (codes ")" ∷ []) a
@@ -316,14 +175,14 @@ stmt_from h = rolled _ _ _ _ _ _ _ stmt_levels (at_stmt (whole_stmt h))
 
 pub step_told : (name : List ℕ) → is_name name ≡ true → {a : List Token} → Told maybe_index maybe_ok a →
     Told step_tokens spells_step (codes "." ∷ name ∷ a)
-step_told name h (i, (e, k)) = step_from (record { member = name; index = i }, (ap (λ a. codes "." ∷ name ∷ a) e, both (is_name name) (maybe_ok i) h k))
+step_told name h (i, (e, k)) = step_from (record { member = name; index = i }, (ap (λ a. codes "." ∷ name ∷ a) e, and_from (is_name name) (maybe_ok i) h k))
 
 pub place_told : (c : Bool) (name : List ℕ) → is_name name ≡ true → {a : List Token} → Row step_tokens spells_step a →
     Told place_tokens spells_place (root_tokens c name ++ a)
 place_told c name h (steps, (e, k)) =
     place_from (
       record { through = c; name = name; steps = steps },
-      (ap (λ a. root_tokens c name ++ a) e, both (is_name name) (all_of (map spells_step steps)) h k),
+      (ap (λ a. root_tokens c name ++ a) e, and_from (is_name name) (all_of (map spells_step steps)) h k),
     )
 
 pub read_expr : {ts : List Token} → Told place_tokens spells_place ts → Told expr_tokens spells_expr ts
@@ -336,7 +195,7 @@ called name h (xs, (e, k)) =
       record { name = name; args = xs },
       (
         ap (λ a. name ∷ codes "(" ∷ (a ++ codes ")" ∷ [])) e,
-        both (is_callee name) (all_of (map spells_arg xs)) h k,
+        and_from (is_callee name) (all_of (map spells_arg xs)) h k,
       ),
     )
 
@@ -353,31 +212,25 @@ two_told {a} {b} (x, (i, h)) t (o, (f, c)) (y, (j, k)) =
         ap (λ a. codes "(" ∷ (a ++ (t ∷ (b ++ codes ")" ∷ [])))) i
             ∙ (ap (λ t. codes "(" ∷ (expr_tokens x ++ (t ∷ (b ++ codes ")" ∷ [])))) f
             ∙ ap (λ b. codes "(" ∷ (expr_tokens x ++ (operator_sign o ∷ (b ++ codes ")" ∷ [])))) j),
-        both (is_c_operator o) (spells_expr x && spells_expr y) c (both (spells_expr x) (spells_expr y) h k),
+        and_from (is_c_operator o) (spells_expr x && spells_expr y) c (and_from (spells_expr x) (spells_expr y) h k),
       ),
     )
-
-less : (a b : ℕ) → a < b → nat_lt a b ≡ true
-less a b h = grind (arith, nat_tests)
-
-less_or_same : (a b : ℕ) → a ≤ b → nat_le a b ≡ true
-less_or_same a b h = grind (arith, nat_tests)
 
 -- a constant by its word, with digits in parentheses
 abbrev pub constant : Token → Token → List Token
 constant word t = word ∷ codes "(" ∷ t ∷ codes ")" ∷ []
 
 pub int_told : (w : Width) (t : Token) → Spelled (Int w) t → Told kind_level kind_ok (constant (constant_word (codes "INT") w) t)
-int_told w t s = (CExprKind-F.Literal (scalar.Int w) (pos s.n), (ap (constant (constant_word (codes "INT") w)) s.is, less s.n (negatives w) s.high))
+int_told w t s = (CExprKind-F.Literal (scalar.Int w) (pos s.n), (ap (constant (constant_word (codes "INT") w)) s.is, less_test s.n (negatives w) s.high))
 
 pub nat_told : (w : Width) (t : Token) → Spelled (Unsigned w) t → Told kind_level kind_ok (constant (constant_word (codes "UINT") w) t)
-nat_told w t s = (CExprKind-F.Literal (scalar.Nat w) (pos s.n), (ap (constant (constant_word (codes "UINT") w)) s.is, less s.n (2 * negatives w) s.high))
+nat_told w t s = (CExprKind-F.Literal (scalar.Nat w) (pos s.n), (ap (constant (constant_word (codes "UINT") w)) s.is, less_test s.n (2 * negatives w) s.high))
 
 not_least : (n k : ℕ) → n < k → (n == k) ≡ false
 not_least n k h = grind (arith, nat_tests)
 
 lower : (n k : ℕ) → suc n < k → nat_lt n k ≡ true
-lower n k h = less n k (omega (arith, h))
+lower n k h = less_test n k (omega (arith, h))
 
 -- a constant behind `(-`, and the parenthesis behind it
 abbrev pub behind_minus : List Token → List Token
@@ -423,7 +276,7 @@ fronted true more = refl
 fronted false more = refl
 
 pub is_a_length : (n : ℕ) → 1 ≤ n → n < 65537 → is_length n ≡ true
-is_a_length n low high = both (nat_le 1 n) (nat_le n 65536) (less_or_same 1 n low) (less_or_same n 65536 (omega (arith, high)))
+is_a_length n low high = and_from (nat_le 1 n) (nat_le n 65536) (at_most_test 1 n low) (at_most_test n 65536 (omega (arith, high)))
 
 some_index : {ts : List Token} → Told index_tokens spells_index ts → Told maybe_index maybe_ok ts
 some_index (i, (e, h)) = (Some i, (e, h))
@@ -439,7 +292,7 @@ index_told t (signed, f) {a} (x, (i, h)) u s =
             ∙ (ap (λ a. codes "[" ∷ index_word signed ∷ codes "(" ∷ (a ++ (codes "," ∷ u ∷ codes ")" ∷ codes "]" ∷ []))) i
             ∙ (ap (λ u. codes "[" ∷ index_word signed ∷ codes "(" ∷ (expr_tokens x ++ (codes "," ∷ u ∷ codes ")" ∷ codes "]" ∷ []))) s.is
             ∙ fronted signed (expr_tokens x ++ (codes "," ∷ decimal s.n ∷ codes ")" ∷ codes "]" ∷ [])))),
-        both (spells_expr x) (is_length s.n) h (is_a_length s.n s.low s.high),
+        and_from (spells_expr x) (is_length s.n) h (is_a_length s.n s.low s.high),
       ),
     ))
 
@@ -461,14 +314,14 @@ rooted c name h b k = by_place (place_told c name h ([], (refl, refl)))
     by_place : Told place_tokens spells_place (root_tokens c name ++ []) → Told stmt_level stmt_ok (root_tokens c name ++ b)
     by_place (p, (e, s)) = moved (ap (λ a. a ++ b) (sym (append-nil (root_tokens c name)) ∙ e)) (k p s)
 
-joined_more : {A : Type 0} (f : A → List Token) (xs : List A) (x : A) → joined (map f (xs ++ x ∷ [])) ≡ joined (map f xs) ++ f x
+pub joined_more : {A : Type 0} (f : A → List Token) (xs : List A) (x : A) → joined (map f (xs ++ x ∷ [])) ≡ joined (map f xs) ++ f x
 joined_more f [] x = append-nil (f x)
 joined_more f (y ∷ xs) x = ap (λ ts. f y ++ ts) (joined_more f xs x) ∙ sym (append_assoc (f y) (joined (map f xs)) (f x))
 
-all_more : {A : Type 0} (p : A → Bool) (xs : List A) (x : A) → all_of (map p xs) ≡ true → p x ≡ true → all_of (map p (xs ++ x ∷ [])) ≡ true
-all_more p [] x h k = both (p x) true k refl
-all_more p (y ∷ xs) x h k = both (p y) (all_of (map p (xs ++ x ∷ []))) (and-fst (p y) (all_of (map p xs)) h)
-    (all_more p xs x (and-snd (p y) (all_of (map p xs)) h) k)
+pub all_more : {A : Type 0} (p : A → Bool) (xs : List A) (x : A) → all_of (map p xs) ≡ true → p x ≡ true → all_of (map p (xs ++ x ∷ [])) ≡ true
+all_more p [] x h k = and_from (p x) true k refl
+all_more p (y ∷ xs) x h k = and_from (p y) (all_of (map p (xs ++ x ∷ []))) (and_first (p y) (all_of (map p xs)) h)
+    (all_more p xs x (and_second (p y) (all_of (map p xs)) h) k)
 
 -- the place with one step more
 longer : (z : Places) → place_ok z ≡ true → {a : List Token} → Told step_tokens spells_step a → Told place_tokens spells_place (place_level z ++ a)
@@ -478,7 +331,7 @@ longer z h {a} (s, (e, k)) =
       (
         append_assoc (root_tokens z.through z.name) (joined (map step_tokens z.steps)) a
             ∙ ap (λ us. root_tokens z.through z.name ++ us) (ap (λ a. joined (map step_tokens z.steps) ++ a) e ∙ sym (joined_more step_tokens z.steps s)),
-        both (is_name z.name) (all_of (map spells_step (z.steps ++ s ∷ []))) (and-fst _ _ h) (all_more spells_step z.steps s (and-snd _ _ h) k),
+        and_from (is_name z.name) (all_of (map spells_step (z.steps ++ s ∷ []))) (and_first _ _ h) (all_more spells_step z.steps s (and_second _ _ h) k),
       ),
     )
 
@@ -505,7 +358,7 @@ set_told p h (x, (e, k)) = (
   CStmtKind-F.Set p x,
   (
     ap (λ a. place_tokens p ++ (codes "=" ∷ (a ++ codes ";" ∷ []))) e,
-    both (spells_place p) (spells_expr x) h k,
+    and_from (spells_place p) (spells_expr x) h k,
   ),
 )
 
@@ -517,7 +370,7 @@ clear_told p h (name, (i, k)) = (
   (
     ap (λ a. place_tokens p ++ (codes "=" ∷ codes "(" ∷ codes "struct"
         ∷ ((a ++ (codes ")" ∷ codes "{" ∷ codes "0" ∷ codes "}" ∷ [])) ++ codes ";" ∷ []))) i,
-    both (spells_place p) (is_struct_name name) h k,
+    and_from (spells_place p) (is_struct_name name) h k,
   ),
 )
 
@@ -532,7 +385,7 @@ if_told {a} {b} {c} (x, (i, h)) (xs, (j, k)) (o, (f, s)) =
         ap (λ a. codes "if" ∷ codes "(" ∷ (a ++ (codes ")" ∷ codes "{" ∷ (b ++ (codes "}" ∷ c))))) i
             ∙ (ap (λ us. codes "if" ∷ codes "(" ∷ (expr_tokens x ++ (codes ")" ∷ codes "{" ∷ us))) inner
             ∙ ap (λ us. codes "if" ∷ codes "(" ∷ us) (sym (parens (expr_tokens x) (braced (map stmt_tokens xs) ++ else_level o)))),
-        both (spells_expr x) (all_of (map spells_stmt xs) && else_ok o) h (both (all_of (map spells_stmt xs)) (else_ok o) k s),
+        and_from (spells_expr x) (all_of (map spells_stmt xs) && else_ok o) h (and_from (all_of (map spells_stmt xs)) (else_ok o) k s),
       ),
     )
 
@@ -545,7 +398,7 @@ loop_told own turned {a} {b} (x, (i, h)) (xs, (j, k)) = (
         ∙ (ap (λ b. turn_declared own ++ (codes "(" ∷ (expr_tokens x ++ (codes ")" ∷ (turn_counted own ++ (b ++ (codes "}" ∷ codes "}" ∷ []))))))) j
         ∙ ap (λ us. turn_declared own ++ (codes "(" ∷ us))
         (sym (parens (expr_tokens x) (turn_counted own ++ (joined (map stmt_tokens xs) ++ (codes "}" ∷ codes "}" ∷ [])))))),
-    both (is_turn_name own) (spells_expr x && all_of (map spells_stmt xs)) turned (both (spells_expr x) (all_of (map spells_stmt xs)) h k),
+    and_from (is_turn_name own) (spells_expr x && all_of (map spells_stmt xs)) turned (and_from (spells_expr x) (all_of (map spells_stmt xs)) h k),
   ),
 )
 
@@ -563,7 +416,7 @@ member_told {a} {c} (ty, (i, h)) name named (l, (j, k)) = (
   record { ty = ty; name = name; length = l },
   (
     ap (λ a. a ++ (name ∷ (c ++ codes ";" ∷ []))) i ∙ ap (λ c. type_tokens ty ++ (name ∷ (c ++ codes ";" ∷ []))) j,
-    both (spells_type ty) (is_name name && spells_length l) h (both (is_name name) (spells_length l) named k),
+    and_from (spells_type ty) (is_name name && spells_length l) h (and_from (is_name name) (spells_length l) named k),
   ),
 )
 
@@ -578,7 +431,7 @@ structure_told {n} {a} {b} (name, (f, g)) (x, (i, h)) (xs, (j, k)) =
             (ap (λ a. a ++ (b ++ (codes "}" ∷ codes ";" ∷ []))) i
             ∙ (ap (λ b. member_tokens x ++ (b ++ (codes "}" ∷ codes ";" ∷ []))) j
             ∙ (sym (append_assoc (member_tokens x) ms (codes "}" ∷ codes ";" ∷ [])) ∙ sym (braces (member_tokens x ++ ms) (codes ";" ∷ []))))),
-        both (is_struct_name name) (spells_member x && all_of (map spells_member xs)) g (both (spells_member x) (all_of (map spells_member xs)) h k),
+        and_from (is_struct_name name) (spells_member x && all_of (map spells_member xs)) g (and_from (spells_member x) (all_of (map spells_member xs)) h k),
       ),
     )
 
@@ -589,7 +442,7 @@ param_told {a} {b} (ty, (i, h)) (star, (j, k)) name named = (
   (
     ap (λ a. a ++ (b ++ name ∷ [])) i
         ∙ ap (λ b. type_tokens ty ++ (b ++ name ∷ [])) j,
-    both (spells_type ty) (is_name name) h named,
+    and_from (spells_type ty) (is_name name) h named,
   ),
 )
 
@@ -599,7 +452,7 @@ scalar_local t (s, (f, c)) name named = (
   record { ty = ctype.Scalar s; name = name },
   (
     ap (λ t. t ∷ name ∷ codes "=" ∷ codes "0" ∷ codes ";" ∷ []) f,
-    both (is_c_scalar s) (is_name name) c named,
+    and_from (is_c_scalar s) (is_name name) c named,
   ),
 )
 
@@ -610,7 +463,7 @@ struct_local (of, (i, h)) name named = (
   (
     ap
         (λ a. codes "struct" ∷ (a ++ (name ∷ codes "=" ∷ codes "{" ∷ codes "0" ∷ codes "}" ∷ codes ";" ∷ []))) i,
-    both (is_struct_name of) (is_name name) h named,
+    and_from (is_struct_name of) (is_name name) h named,
   ),
 )
 
@@ -637,8 +490,8 @@ function_told fixed result returned {n} {a} {b} {c} (name, (g, h)) (ps, (i, p)) 
         ap (λ ts. static_if fixed ++ (ret ++ ts)) inner
             ∙ (ap (λ us. static_if fixed ++ us) (sym (append_assoc ret (name ∷ codes "(" ∷ []) rest))
             ∙ sym (append_assoc (static_if fixed) (ret ++ (name ∷ codes "(" ∷ [])) rest)),
-        both (spells_returned result) _ returned (both (is_function_name name) _ h
-            (both (all_of (map spells_param ps)) _ p (both (all_of (map spells_local ls)) (all_of (map spells_stmt ss)) l s))),
+        and_from (spells_returned result) _ returned (and_from (is_function_name name) _ h
+            (and_from (all_of (map spells_param ps)) _ p (and_from (all_of (map spells_local ls)) (all_of (map spells_stmt ss)) l s))),
       ),
     )
 
@@ -654,7 +507,7 @@ file_told {a} {b} {c} {d} (x, (i, h)) (xs, (j, k)) (y, (u, v)) (ys, (w, z)) = (
           ∙ (ap (λ c. struct_tokens x ++ (joined (map struct_tokens xs) ++ (c ++ d))) u
           ∙ (ap (λ d. struct_tokens x ++ (joined (map struct_tokens xs) ++ (func_tokens y ++ d))) w
           ∙ sym (append_assoc (struct_tokens x) (joined (map struct_tokens xs)) (func_tokens y ++ joined (map func_tokens ys)))))),
-      (both (spells_struct x) (all_of (map spells_struct xs)) h k, both (spells_func y) (all_of (map spells_func ys)) v z),
+      (and_from (spells_struct x) (all_of (map spells_struct xs)) h k, and_from (spells_func y) (all_of (map spells_func ys)) v z),
     ),
   ),
 )

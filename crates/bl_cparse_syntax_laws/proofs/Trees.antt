@@ -1,26 +1,5 @@
 -- The tokens that a derivation of a text is the derivation of are those of a file.
-use Rattle.std.proofs.Common.{
-  ◌≡◌,
-  ℕ,
-  true,
-  false,
-  List,
-  [],
-  ◌∷◌,
-  ◌++◌,
-  map,
-  Option,
-  Some,
-  None,
-  refl,
-  sym,
-  ap,
-  ◌∙◌,
-  subst,
-  append_assoc,
-  append-nil,
-  codes,
-}
+use Rattle.std.proofs.Common.{◌≡◌, ℕ, true, false, List, [], ◌∷◌, ◌++◌, map, Option, Some, None, refl, sym, ap, ◌∙◌, subst, append_assoc, append-nil, codes}
 use Rattle.bl_tree.specs.declared.scalar.Width.TheVariants.{W8, W16, W32, W64}
 use Rattle.bl_tree.specs.declared.c.CType.TheVariants as ctype
 use Rattle.bl_tree.specs.declared.c.CExprKind.{CExprKind-F}
@@ -34,48 +13,10 @@ use Rattle.bl_ctext.proofs.PrefixedNames.{name-struct, name-function, name-calle
 use Rattle.bl_grammar.specs.declared.symbol.Symbol.TheVariants.{Terminal, Nonterminal}
 use Rattle.bl_grammar.specs.Derivations.Derives.{done, terminal, part}
 use Rattle.bl_cparse_syntax.specs.declared.grammar.Part.{Part}
-use Rattle.bl_cparse_syntax.specs.declared.grammar.Part.TheVariants.{
-  File,
-  Structs,
-  Struct,
-  StructName,
-  Members,
-  Member,
-  TypeName,
-  Length,
-  Funcs,
-  Func,
-  PlainFunc,
-  FuncRest,
-  FuncName,
-  Params,
-  ParamRest,
-  Param,
-  Star,
-  Locals,
-  Local,
-  Stmts,
-  Stmt,
-  Else,
-  Turns,
-  AfterName,
-  AssignTail,
-  Value,
-  AfterOpen,
-  Result,
-  Expr,
-  Simple,
-  Constant,
-  Inside,
-  Negative,
-  NameUse,
-  Steps,
-  Index,
-  Args,
-  ArgRest,
-  Arg,
-  Place,
-}
+use Rattle.bl_cparse_syntax.specs.declared.grammar.Part.TheVariants.{File, Structs, Struct, StructName, Members, Member, TypeName, Length, Funcs, Func}
+use Rattle.bl_cparse_syntax.specs.declared.grammar.Part.TheVariants.{PlainFunc, FuncRest, FuncName, Params, ParamRest, Param, Star, Locals, Local, Stmts, Stmt}
+use Rattle.bl_cparse_syntax.specs.declared.grammar.Part.TheVariants.{Else, Turns, AfterName, AssignTail, Value, AfterOpen, Result, Expr, Simple, Constant}
+use Rattle.bl_cparse_syntax.specs.declared.grammar.Part.TheVariants.{Inside, Negative, NameUse, Steps, Index, Args, ArgRest, Arg, Place}
 use Rattle.bl_cparse_syntax.specs.declared.grammar.Group.TheVariants.{ScalarTypes, PlainLiterals, Operators, IndexFunctions}
 use Rattle.bl_cparse_syntax.specs.declared.grammar.Roomed.{Roomed}
 use Rattle.bl_cparse_syntax.specs.Classes.{Class, matches}
@@ -85,44 +26,10 @@ use Rattle.bl_cparse_syntax.specs.Classes.Class.{exactly, one_of, a_name, number
 use Rattle.bl_cparse_syntax.specs.declared.grammar.Group.{Group}
 use Rattle.bl_cparse_syntax.specs.declared.grammar.Digits.{Digits}
 use Rattle.bl_cparse_syntax_laws.proofs.Pieces.{Spelled, word_is, name_is, group_is, callee_is, struct_word, function_word, number_is, scalar_is, operator_is}
-use Rattle.bl_cparse_syntax_laws.proofs.Told.{
-  Tree,
-  row_more,
-  comma_more,
-  first_more,
-  arg_from,
-  kind_from,
-  stmt_from,
-  step_told,
-  place_told,
-  read_expr,
-  called,
-  call_expr,
-  two_told,
-  int_told,
-  nat_told,
-  negated_told,
-  plain_literal,
-  function_is,
-  index_told,
-  call_stmt,
-  rooted,
-  stepped,
-  set_told,
-  clear_told,
-  if_told,
-  loop_told,
-  scalar_type,
-  length_told,
-  member_told,
-  structure_told,
-  param_told,
-  scalar_local,
-  struct_local,
-  scalar_func,
-  function_told,
-  file_told,
-}
+use Rattle.bl_cparse_syntax_laws.proofs.Told.{Tree, row_more, comma_more, first_more, arg_from, kind_from, stmt_from, step_told, place_told, read_expr, called}
+use Rattle.bl_cparse_syntax_laws.proofs.Told.{call_expr, two_told, int_told, nat_told, negated_told, plain_literal, function_is, index_told, call_stmt, rooted}
+use Rattle.bl_cparse_syntax_laws.proofs.Told.{stepped, set_told, clear_told, if_told, loop_told, scalar_type, length_told, member_told, structure_told}
+use Rattle.bl_cparse_syntax_laws.proofs.Told.{param_told, scalar_local, struct_local, scalar_func, function_told, file_told}
 
 -- what a piece of the class is
 pub data Fits : Class → Token → Type 0 where

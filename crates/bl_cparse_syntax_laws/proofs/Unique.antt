@@ -1,45 +1,21 @@
 -- Bytes are spaced into tokens in one way: into their pieces.
-use Rattle.std.proofs.Common.{
-  ◌≡◌,
-  ℕ,
-  ◌≤◌,
-  Bool,
-  true,
-  false,
-  List,
-  [],
-  ◌∷◌,
-  ◌++◌,
-  length,
-  map,
-  refl,
-  sym,
-  ap,
-  ◌∙◌,
-  append-nil,
-  append_assoc,
-  inl,
-  inr,
-  arith,
-}
+use Rattle.std.proofs.Common.{◌≡◌, ℕ, ◌≤◌, true, false, List, [], ◌∷◌, ◌++◌, length, map, refl, sym, ap, ◌∙◌, append-nil, append_assoc, inl, inr, arith}
 use Rattle.std.proofs.lemmas.Bool.Decides.{nat_tests}
 use Rattle.std.proofs.lemmas.List.{length-append}
+use Rattle.std.proofs.lemmas.Bool.{false_from_ne_true, or_left, or_right}
+use Rattle.bl_tree.proofs.Basics.{and_first, and_second, either_of}
 use Rattle.bl_tree.specs.Reduce.{all_of}
 use Rattle.bl_ctext.specs.Token.{Token, is_blank, is_word_byte, is_sign_byte, is_double_sign, is_word, is_sign, is_token, IsLongest, SpacedC}
-use Rattle.bl_ctext.proofs.Bytes.{and-fst, and-snd, either, or-fst, or-snd, sign_byte-not_blank}
+use Rattle.bl_ctext.proofs.Bytes.{sign_byte-not_blank}
 use Rattle.bl_cparse_syntax.specs.Pieces.{pieces}
 use Rattle.bl_cparse_syntax.proofs.PieceLemmas.{blank_first, begins_word, word_more, word_pieces, begins_pair, single_piece, pair_pieces}
 
 blanks_first : (blanks rest : List ℕ) → all_of (map is_blank blanks) ≡ true → pieces (blanks ++ rest) ≡ pieces rest
 blanks_first [] rest h = refl
-blanks_first (b ∷ bs) rest h = blank_first b (bs ++ rest) (and-fst _ _ h) ∙ blanks_first bs rest (and-snd _ _ h)
+blanks_first (b ∷ bs) rest h = blank_first b (bs ++ rest) (and_first _ _ h) ∙ blanks_first bs rest (and_second _ _ h)
 
 all_blank : (text : List ℕ) → all_of (map is_blank text) ≡ true → pieces text ≡ []
 all_blank text h = ap pieces (sym (append-nil text)) ∙ blanks_first text [] h
-
-not_true : (b : Bool) → (b ≡ true → ⊥) → b ≡ false
-not_true true h = absurd (h refl)
-not_true false h = refl
 
 -- the longest token goes on by no byte
 no_longer : (t : Token) (c : ℕ) (rest : List ℕ) → IsLongest t (c ∷ rest) → is_token (t ++ c ∷ []) ≡ true → ⊥
@@ -51,14 +27,14 @@ no_longer t c rest longest token =
 word_ends : (w rest : List ℕ) → is_word w ≡ true → IsLongest w rest → begins_word rest ≡ false
 word_ends w [] h longest = refl
 word_ends w (c ∷ cs) h longest =
-    not_true (is_word_byte c) (λ (k : is_word_byte c ≡ true). no_longer w c cs longest
-    (or-fst (is_word (w ++ c ∷ [])) (is_sign (w ++ c ∷ [])) (word_more w c h k)))
+    false_from_ne_true (is_word_byte c) (λ (k : is_word_byte c ≡ true). no_longer w c cs longest
+    (or_left (is_word (w ++ c ∷ [])) (is_sign (w ++ c ∷ [])) (word_more w c h k)))
 
 no_pair_behind : (a : ℕ) (rest : List ℕ) → IsLongest (a ∷ []) rest → begins_pair (a ∷ rest) ≡ false
 no_pair_behind a [] longest = refl
 no_pair_behind a (b ∷ bs) longest =
-    not_true (is_double_sign a b) (λ (k : is_double_sign a b ≡ true). no_longer (a ∷ []) b bs longest
-    (or-snd (is_word (a ∷ b ∷ [])) (is_sign (a ∷ b ∷ [])) k))
+    false_from_ne_true (is_double_sign a b) (λ (k : is_double_sign a b ≡ true). no_longer (a ∷ []) b bs longest
+    (or_right (is_word (a ∷ b ∷ [])) (is_sign (a ∷ b ∷ [])) k))
 
 sign_no_word : (a : ℕ) → is_sign_byte a ≡ true → is_word_byte a ≡ false
 sign_no_word a h = grind (arith, nat_tests)
@@ -71,7 +47,7 @@ sign_first (a ∷ b ∷ c ∷ more) rest h longest = cc
 
 token_first : (t rest : List ℕ) → is_token t ≡ true → IsLongest t rest → pieces (t ++ rest) ≡ t ∷ pieces rest
 token_first t rest h longest =
-    elim (either (is_word t) (is_sign t) h) [
+    elim (either_of (is_word t) (is_sign t) h) [
       | inl word ↦ word_pieces t rest word
           (word_ends t rest word longest)
       | inr sign ↦ sign_first t rest sign longest

@@ -1,33 +1,6 @@
 -- The words of types, the signs of operators and the tokens of literals tell what they spell.
-use Rattle.std.proofs.Common.{
-  ◌≡◌,
-  ℕ,
-  zero,
-  suc,
-  ◌*◌,
-  ◌^◌,
-  ◌<◌,
-  ◌≤◌,
-  cond,
-  ℤ,
-  pos,
-  negsuc,
-  Bool,
-  true,
-  false,
-  ◌==◌,
-  nat_lt,
-  List,
-  [],
-  ◌∷◌,
-  ◌++◌,
-  refl,
-  sym,
-  ap,
-  ◌∙◌,
-  arith,
-  codes,
-}
+use Rattle.std.proofs.Common.{◌≡◌, ℕ, zero, suc, ◌*◌, ◌^◌, ◌<◌, ◌≤◌, cond, ℤ, pos, negsuc, Bool, true, false, ◌==◌, nat_lt, List, [], ◌∷◌, ◌++◌, refl, sym, ap}
+use Rattle.std.proofs.Common.{◌∙◌, arith, codes}
 use Rattle.std.proofs.lemmas.Bool.Decides.{nat_tests}
 use Rattle.std.proofs.lemmas.Fmt.{decimal_is_IsNumeral}
 use Rattle.std.specs.Fmt.{decimal}
@@ -42,6 +15,7 @@ use Rattle.bl_ctext.specs.Token.{Token}
 use Rattle.bl_ctext.specs.Spelling.{scalar_word, operator_sign, constant_word, negatives, literal_tokens}
 use Rattle.bl_ctext.specs.Spellable.{is_c_scalar, is_c_operator, is_literal}
 use Rattle.bl_cparse_syntax_laws.proofs.Tests.{is, among, first, tail, second}
+use Rattle.bl_ctext.proofs.ExprNesting.{below, negatives-le}
 
 -- ---- types and operators
 
@@ -116,7 +90,7 @@ minus zero = pos zero
 minus (suc n) = negsuc n
 
 -- by the literal's word and the digits in parentheses
-word_in : Token → ℕ → Literal
+pub word_in : Token → ℕ → Literal
 word_in t n =
     cond (is t (codes "true")) (scalar.Bool, pos 1) (cond (is t (codes "false")) (scalar.Bool, pos 0)
     (cond (is t (codes "INT8_MIN")) (scalar.Int W8, minus (negatives W8)) (cond (is t (codes "INT16_MIN")) (scalar.Int W16, minus (negatives W16))
@@ -147,20 +121,11 @@ behind_literal ts = cond (is (first ts) (codes "(")) (four_off (tail (tail (tail
 value_back : (n : ℕ) → n < 2 ^ 64 → digits_value 10 (decimal n) ≡ n
 value_back n h = (decimal_is_IsNumeral n h).1
 
-below : (n m : ℕ) → nat_lt n m ≡ true → m ≤ 2 ^ 64 → n < 2 ^ 64
-below n m h le = grind (arith, nat_tests)
-
-pub negatives_le : (w : Width) → 2 * negatives w ≤ 2 ^ 64
-negatives_le W8 = omega arith
-negatives_le W16 = omega arith
-negatives_le W32 = omega arith
-negatives_le W64 = omega arith
-
 few : (w : Width) → negatives w ≤ 2 ^ 64
-few w = omega (arith, negatives_le w)
+few w = omega (arith, negatives-le w)
 
 fewer : (w : Width) (n : ℕ) → nat_lt n (negatives w) ≡ true → suc n < 2 ^ 64
-fewer w n h = let small : n < negatives w = grind (arith, nat_tests) in omega (arith, negatives_le w, small)
+fewer w n h = let small : n < negatives w = grind (arith, nat_tests) in omega (arith, negatives-le w, small)
 
 int_back : (w : Width) (n : ℕ) (a : List Token) → n < 2 ^ 64 → literal_in (literal_tokens (scalar.Int w) (pos n) ++ a) ≡ (scalar.Int w, pos n)
 unfolding literal_in word_in
@@ -219,7 +184,7 @@ literal_back scalar.Bool (pos n) a h = truth_back n a h
 literal_back scalar.Bool (negsuc n) a h = cc
 literal_back (scalar.Int w) (pos n) a h = int_back w n a (below n (negatives w) h (few w))
 literal_back (scalar.Int w) (negsuc n) a h = minus_back n a w (suc n == negatives w) refl (fewer w n h)
-literal_back (scalar.Nat w) (pos n) a h = nat_back w n a (below n (2 * negatives w) h (negatives_le w))
+literal_back (scalar.Nat w) (pos n) a h = nat_back w n a (below n (2 * negatives w) h (negatives-le w))
 literal_back (scalar.Nat w) (negsuc n) a h = cc
 literal_back (scalar.Bits w) n a h = cc
 

@@ -10,7 +10,7 @@ use Rattle.bl_crun_code_layout.specs.Views.{entry_for}
 use Rattle.bl_crun_code_layout.specs.declared.here.Entry.{Entry as CodeEntry}
 use Rattle.bl_ctext_semantics_laws.specs.Flat.{FlatAnswer, Routine, applied}
 use Rattle.bl_ctext_semantics_laws.specs.Laws.{behind_objects, entered_flat}
-use Rattle.bl_crun_code_vm.specs.Ends.{Ended, Halts, IsEnd}
+use Rattle.bl_crun_code_vm.specs.Ends.{Ended, IsEnd}
 use Rattle.bl_crun_code_vm.specs.Steps.{Over, shown_count}
 use Rattle.bl_ctext_semantics.specs.Parts.{Parts}
 use Rattle.bl_crun.specs.declared.call.Called.{Called}
@@ -110,17 +110,6 @@ is-end : (cells : List ℤ) (count : ℕ) (o : Option ℤ) → IsEnd (vm_ended c
 is-end cells count None = tt
 is-end cells count (Some n) = tt
 
-pub call-halts : (steps : ℕ) (code : Code) (o : Option CodeEntry) (e : CodeEntry) (base : ℕ) (args : List ℤ) (m : VmState) → o ≡ Some e →
-    (l : FlatAnswer ℤ) × Comes steps code o base args m l →
-    Halts code steps (entry_state (entry_for e) base args m.cells m.temps [] m.room 0)
-call-halts steps code None e base args m is p = cc
-call-halts steps code (Some f) e base args m is p =
-    subst (λ g. Halts code steps (entry_state (entry_for g) base args m.cells m.temps [] m.room 0)) (some_is f e is)
-    (record { end = vm_ended p.0.cells p.0.count p.0.answer; over = is-end p.0.cells p.0.count p.0.answer; runs = p.1 })
-  where
-    some_is : (a b : CodeEntry) → Some a ≡ Some b → a ≡ b
-    some_is a b h = cc
-
 -- what a run's end says of an answer
 end-says : (cells : List ℤ) (count : ℕ) (o answer : Option ℤ) (before after : VmState) → Ended before (vm_ended cells count o) answer after →
     (answer ≡ o) × Over cells count (length before.temps) before.room after
@@ -144,15 +133,3 @@ call-done steps code (Some f) e base args m after called is ends count l h =
   where
     some_is : (a b : CodeEntry) → Some a ≡ Some b → a ≡ b
     some_is a b h = cc
-
-pub none-done : (steps : ℕ) (code : Code) (o : Option CodeEntry) (base : ℕ) (args : List ℤ) (m : VmState) → o ≡ None → (l : FlatAnswer ℤ) →
-    Comes steps code o base args m l → CallDone l m (record { answer = None; count = 0 }) m
-none-done steps code (Some f) base args m is l h = cc
-none-done steps code None base args m is l h =
-    record {
-      answer = ap (λ (k : FlatAnswer ℤ). k.answer) (sym h);
-      count = ap (λ (k : FlatAnswer ℤ). shown_count k.count) (sym h);
-      cells = ap (λ (k : FlatAnswer ℤ). k.cells) (sym h);
-      temps = refl;
-      room = refl;
-    }

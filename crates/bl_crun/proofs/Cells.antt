@@ -1,30 +1,12 @@
 -- No cell of the three objects lies within another, so each keeps its number while another is set.
-use Rattle.std.proofs.Common.{
-  ◌≡◌,
-  ℕ,
-  zero,
-  suc,
-  ◌<◌,
-  ℤ,
-  Bool,
-  true,
-  false,
-  not,
-  ◌&&◌,
-  ◌||◌,
-  List,
-  [],
-  ◌∷◌,
-  ◌++◌,
-  length,
-  slice_get,
-  slice_set,
-}
+use Rattle.std.proofs.Common.{◌≡◌, ℕ, zero, suc, ◌<◌, ℤ, Bool, true, false, not, ◌&&◌, ◌||◌, List, [], ◌∷◌, ◌++◌, length, slice_get, slice_set}
 use Rattle.std.proofs.Common.{Option, Some, None, refl, ap, sym, subst, ◌∙◌, arith, append-nil, append_assoc, length-append}
 use Rattle.std.specs.Prelude.{is_some, is_none, bytes_eq, codes, ◌==◌, if◌then◌else◌}
 use Rattle.std.proofs.lemmas.Grind.{common_steps}
 use Rattle.std.proofs.lemmas.Slice.Eq.{bytes_eq-Decides}
 use Rattle.std.specs.List.{list_all}
+use Rattle.std.proofs.lemmas.Bool.{and_from, or_left, or_right}
+use Rattle.bl_tree.proofs.Basics.{all_at, and_first, and_second, first_empty, same_some, second_empty}
 use Rattle.bl_tree.specs.declared.text.Text.{Text}
 use Rattle.bl_tree.specs.declared.scalar.Scalar.{Scalar}
 use Rattle.bl_tree.specs.declared.c.CType.{CType}
@@ -36,9 +18,8 @@ use Rattle.bl_ctext_semantics.specs.Memory.{left_after, number_or, same_part, sa
 use Rattle.bl_ctext_semantics.specs.Parts.{Parts}
 use Rattle.bl_ctext_semantics.specs.Sizes.{sizes}
 use Rattle.bl_ctext_semantics.specs.Tables.{no_entries}
-use Rattle.bl_ctext_semantics.proofs.EndLemmas.{nil-left, nil-right}
 use Rattle.bl_ctext_semantics_laws.specs.Fitting.{ValueSpot, scalars, whole, walk}
-use Rattle.bl_ctext_semantics_laws.proofs.Lists.{all-append, and-both, and-left, and-right}
+use Rattle.bl_ctext_semantics_laws.proofs.Lists.{all-append}
 use Rattle.bl_crun_ports.specs.Ports.{inputs_start, outputs_start}
 use Rattle.bl_ctext_semantics_laws.specs.Laws.{behind_objects, input_at, output_at}
 use Rattle.bl_ctext_semantics_laws.proofs.Inners.{Led, LedType, led-all}
@@ -77,9 +58,9 @@ same-root : (r : Root) → same_root r r ≡ true
 same-root state_object = refl
 same-root input_object = refl
 same-root output_object = refl
-same-root (variable d m) = and-both (d == d) (bytes_eq m m) (grind (arith, common_steps)) ((bytes_eq-Decides m m).1 refl)
+same-root (variable d m) = and_from (d == d) (bytes_eq m m) (grind (arith, common_steps)) ((bytes_eq-Decides m m).1 refl)
 
-chosen-true : {A : Type 0} (b : Bool) (x y : A) → b ≡ true → (if b then x else y) ≡ x
+pub chosen-true : {A : Type 0} (b : Bool) (x y : A) → b ≡ true → (if b then x else y) ≡ x
 chosen-true true x y h = refl
 chosen-true false x y h = cc
 
@@ -106,8 +87,8 @@ numbers-spared : (cs : List Cell) (memory : Memory) (l : Location) (n : ℤ) →
     numbers_of cs (set_at memory l (scalar n)) ≡ numbers_of cs memory
 numbers-spared [] memory l n h = refl
 numbers-spared (c ∷ cs) memory l n h =
-    ap (λ x. x ∷ numbers_of cs (set_at memory l (scalar n))) (set-spares memory l n c (and-left (spared l c) _ h))
-    ∙ ap (λ xs. scalar_number (value_at memory c.location) ∷ xs) (numbers-spared cs memory l n (and-right (spared l c) _ h))
+    ap (λ x. x ∷ numbers_of cs (set_at memory l (scalar n))) (set-spares memory l n c (and_first (spared l c) _ h))
+    ∙ ap (λ xs. scalar_number (value_at memory c.location) ∷ xs) (numbers-spared cs memory l n (and_second (spared l c) _ h))
 
 -- the numbers with which a memory was made
 pub numbers-made : (cs : List Cell) (ns : List ℤ) → Separate cs → length ns ≡ length cs → numbers_of cs (memory_of cs ns) ≡ ns
@@ -118,26 +99,18 @@ numbers-made (c ∷ cs) (n ∷ ns) apart long =
     ap (λ x. x ∷ numbers_of cs (set_at (memory_of cs ns) c.location (scalar n))) (set-there (memory_of cs ns) c.location n)
     ∙ ap (λ xs. n ∷ xs) (numbers-spared cs (memory_of cs ns) c.location n apart.0 ∙ numbers-made cs ns apart.1.1 (omega arith))
 
-some_is : {A : Type 0} (a b : A) → Some a ≡ Some b → a ≡ b
-some_is a b h = cc
-
-pub all-at : {A : Type 0} (p : A → Bool) (xs : List A) (k : ℕ) (x : A) → list_all p xs ≡ true → slice_get xs k ≡ Some x → p x ≡ true
-all-at p [] k x all there = cc
-all-at p (y ∷ ys) zero x all there = ap p (sym (some_is y x there)) ∙ and-left (p y) _ all
-all-at p (y ∷ ys) (suc k) x all there = all-at p ys k x (and-right (p y) _ all) there
-
 -- one cell is set
 pub numbers-set : (cs : List Cell) (k : ℕ) (c : Cell) (memory : Memory) (n : ℤ) → Separate cs → slice_get cs k ≡ Some c →
     numbers_of cs (set_at memory c.location (scalar n)) ≡ slice_set (numbers_of cs memory) k n
 numbers-set [] k c memory n apart there = cc
 numbers-set (d ∷ cs) zero c memory n apart there =
-    let same : d ≡ c = some_is d c there in
+    let same : d ≡ c = same_some d c there in
     ap (λ x. x ∷ numbers_of cs (set_at memory c.location (scalar n)))
     (ap (λ e. scalar_number (value_at (set_at memory c.location (scalar n)) e.location)) same ∙ set-there memory c.location n)
     ∙ ap (λ xs. n ∷ xs) (numbers-spared cs memory c.location n (ap (λ e. list_all (spared e.location) cs) (sym same) ∙ apart.0))
 numbers-set (d ∷ cs) (suc k) c memory n apart there =
     ap (λ x. x ∷ numbers_of cs (set_at memory c.location (scalar n)))
-    (set-spares memory c.location n d (all-at (λ e. spared e.location d) cs k c apart.1.0 there))
+    (set-spares memory c.location n d (all_at (λ e. spared e.location d) cs k c apart.1.0 there))
     ∙ ap (λ xs. scalar_number (value_at memory d.location) ∷ xs) (numbers-set cs k c memory n apart.1.1 there)
 
 -- ---- cells of different objects
@@ -148,40 +121,32 @@ strange r c = not (same_root r c.location.root) && not (same_root c.location.roo
 
 all-strange : (r s : Root) (is : List Inner) → not (same_root r s) ≡ true → not (same_root s r) ≡ true → list_all (strange r) (cells_at s is) ≡ true
 all-strange r s [] h k = refl
-all-strange r s (i ∷ is) h k = and-both _ _ (and-both _ _ h k) (all-strange r s is h k)
-
-or-first : (a b : Bool) → a ≡ true → (a || b) ≡ true
-or-first true b h = refl
-or-first false b h = cc
-
-or-second : (a b : Bool) → b ≡ true → (a || b) ≡ true
-or-second true b h = refl
-or-second false b h = h
+all-strange r s (i ∷ is) h k = and_from _ _ (and_from _ _ h k) (all-strange r s is h k)
 
 strange-spared : (r : Root) (l : Location) (cs : List Cell) → l.root ≡ r → list_all (strange r) cs ≡ true → list_all (spared l) cs ≡ true
 strange-spared r l [] is all = refl
 strange-spared r l (c ∷ cs) is all =
-    and-both _ _ (or-first _ _ (ap (λ q. not (same_root q c.location.root)) is
-    ∙ and-left (not (same_root r c.location.root)) _ (and-left (strange r c) _ all)))
-    (strange-spared r l cs is (and-right (strange r c) _ all))
+    and_from _ _ (or_left _ _ (ap (λ q. not (same_root q c.location.root)) is
+    ∙ and_first (not (same_root r c.location.root)) _ (and_first (strange r c) _ all)))
+    (strange-spared r l cs is (and_second (strange r c) _ all))
 
 strange-spares : (r : Root) (d : Cell) (cs : List Cell) → d.location.root ≡ r → list_all (strange r) cs ≡ true →
     list_all (λ c. spared c.location d) cs ≡ true
 strange-spares r d [] is all = refl
 strange-spares r d (c ∷ cs) is all =
-    and-both _ _ (or-first _ _
-    (ap (λ q. not (same_root c.location.root q)) is ∙ and-right (not (same_root r c.location.root)) _ (and-left (strange r c) _ all)))
-    (strange-spares r d cs is (and-right (strange r c) _ all))
+    and_from _ _ (or_left _ _
+    (ap (λ q. not (same_root c.location.root q)) is ∙ and_second (not (same_root r c.location.root)) _ (and_first (strange r c) _ all)))
+    (strange-spares r d cs is (and_second (strange r c) _ all))
 
 separate-append : (r : Root) (is : List Inner) (cs : List Cell) → list_all (strange r) cs ≡ true → Separate (cells_at r is) → Separate cs →
     Separate (cells_at r is ++ cs)
 separate-append r [] cs all first second = second
 separate-append r (i ∷ is) cs all first second = (
   all-append (spared (record { root = r; parts = i.parts })) (cells_at r is) cs
-      ∙ and-both _ _ first.0 (strange-spared r (record { root = r; parts = i.parts }) cs refl all),
+      ∙ and_from _ _ first.0 (strange-spared r (record { root = r; parts = i.parts }) cs refl all),
   (
     all-append (λ d. spared d.location (record { location = record { root = r; parts = i.parts }; kind = i.kind })) (cells_at r is) cs
-        ∙ and-both _ _ first.1.0 (strange-spares r (record { location = record { root = r; parts = i.parts }; kind = i.kind }) cs refl all),
+        ∙ and_from _ _ first.1.0 (strange-spares r (record { location = record { root = r; parts = i.parts }; kind = i.kind }) cs refl all),
     separate-append r is cs all first.1.1 second,
   ),
 )
@@ -234,8 +199,8 @@ module _ (file : Parts) (formed : WellFormed file) where
   first-apart root spot i at (j ∷ is) a low led =
       let rest = first-apart root spot i (suc at) is a (omega arith) led.1 in
       let b = led.0.1 in (
-        and-both _ _ (or-second _ _ (none-left spot i j a led.0.0 (λ e. omega arith))) rest.0,
-        and-both _ _ (or-second _ _ (none-left spot j i led.0.0 a (λ e. omega arith))) rest.1,
+        and_from _ _ (or_right _ _ (none-left spot i j a led.0.0 (λ e. omega arith))) rest.0,
+        and_from _ _ (or_right _ _ (none-left spot j i led.0.0 a (λ e. omega arith))) rest.1,
       )
 
   led-separate : (root : Root) (spot : ValueSpot) (at : ℕ) (is : List Inner) → Leads spot at is → Separate (cells_at root is)
@@ -249,7 +214,7 @@ module _ (file : Parts) (formed : WellFormed file) where
   unfolding faults_in
   struct-led name there =
       let none : struct_faults_after no_entries no_entries file.structs ≡ [] =
-      nil-left (struct_faults_after no_entries no_entries file.structs) _ formed.none in
+      first_empty (struct_faults_after no_entries no_entries file.structs) _ formed.none in
       led-all (sizes file.structs) (lists_of file.structs) (struct_table file.structs) shaped (scalars file.structs) (inner-file file formed) no_entries
       no_entries no_entries file.structs (λ n. refl) (λ n. refl)
       (λ n h. cc) none name (ap (λ t. is_some (t name)) (entries-all _ file.structs) ∙ there)
@@ -258,22 +223,22 @@ module _ (file : Parts) (formed : WellFormed file) where
       && (is_some (struct_table file.structs (codes "bl_in")) && is_some (struct_table file.structs (codes "bl_out")))) ≡ true
   unfolding faults_in
   objects-declared =
-      let h1 = nil-right (struct_faults_after no_entries no_entries file.structs) _ formed.none in
-      let h2 = nil-right (function_faults_after (struct_table file.structs) no_entries no_entries file.funcs) _ h1 in
+      let h1 = second_empty (struct_faults_after no_entries no_entries file.structs) _ formed.none in
+      let h2 = second_empty (function_faults_after (struct_table file.structs) no_entries no_entries file.funcs) _ h1 in
       unless-nil (is_some (struct_table file.structs (codes "bl_state"))
       && (is_some (struct_table file.structs (codes "bl_in")) && is_some (struct_table file.structs (codes "bl_out")))) interface_structs
-      (last_place file.funcs) (nil-left _ _ h2)
+      (last_place file.funcs) (first_empty _ _ h2)
 
   state-typed : Typed (OfStruct (codes "bl_state"))
-  state-typed = struct-led (codes "bl_state") (and-left _ _ objects-declared)
+  state-typed = struct-led (codes "bl_state") (and_first _ _ objects-declared)
 
   input-typed : Typed (OfStruct (codes "bl_in"))
-  input-typed = struct-led (codes "bl_in") (and-left _ _ (and-right (is_some (struct_table file.structs (codes "bl_state"))) _ objects-declared))
+  input-typed = struct-led (codes "bl_in") (and_first _ _ (and_second (is_some (struct_table file.structs (codes "bl_state"))) _ objects-declared))
 
   output-typed : Typed (OfStruct (codes "bl_out"))
   output-typed = struct-led (codes "bl_out")
-      (and-right (is_some (struct_table file.structs (codes "bl_in"))) _
-      (and-right (is_some (struct_table file.structs (codes "bl_state"))) _ objects-declared))
+      (and_second (is_some (struct_table file.structs (codes "bl_in"))) _
+      (and_second (is_some (struct_table file.structs (codes "bl_state"))) _ objects-declared))
 
   pub cells-separate : Separate (cells_of file)
   unfolding cells_of
@@ -289,7 +254,7 @@ module _ (file : Parts) (formed : WellFormed file) where
       (all-strange input_object output_object (inner_of file.structs (codes "bl_out")) refl refl) second third in
       let others : list_all (strange state_object) (b ++ c) ≡ true =
       all-append (strange state_object) b c
-      ∙ and-both _ _ (all-strange state_object input_object (inner_of file.structs (codes "bl_in")) refl refl)
+      ∙ and_from _ _ (all-strange state_object input_object (inner_of file.structs (codes "bl_in")) refl refl)
       (all-strange state_object output_object (inner_of file.structs (codes "bl_out")) refl refl) in
       subst Separate (sym (append_assoc a b c)) (separate-append state_object (inner_of file.structs (codes "bl_state")) (b ++ c) others first later)
 

@@ -159,9 +159,6 @@ module _ (file : Parts) (p : Prepared) (k : PreparedInvariant file p) (agrees : 
     (m : VmState) (is : m ≡ with_cells p.machine (with_args (p.input_at + 1) ins p.machine.cells))
     (called : Called) (after : VmState)
     (done : CallDone (entered_flat file (codes "bl_tick") (pos 0 ∷ pos p.input_at ∷ pos p.output_at ∷ []) m.cells) m called after) where
-  abbrev Left-of : FlatAnswer ℤ
-  Left-of = entered_flat file (codes "bl_tick") (pos 0 ∷ pos p.input_at ∷ pos p.output_at ∷ []) m.cells
-
   numbers : cell_numbers p ≡ first_cells file p.machine.cells
   numbers = first-numbers file p p.machine k
 

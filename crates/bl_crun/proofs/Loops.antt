@@ -1,29 +1,6 @@
 -- The loops over rows.
-use Rattle.std.proofs.Common.{
-  ◌≡◌,
-  ℕ,
-  zero,
-  suc,
-  ◌+◌,
-  ◌≤◌,
-  ◌<◌,
-  ℤ,
-  pos,
-  Bool,
-  true,
-  false,
-  ◌&&◌,
-  List,
-  [],
-  ◌∷◌,
-  ◌++◌,
-  length,
-  take,
-  drop,
-  get_or,
-}
+use Rattle.std.proofs.Common.{◌≡◌, ℕ, zero, suc, ◌+◌, ◌≤◌, ◌<◌, ℤ, pos, Bool, true, false, ◌&&◌, List, [], ◌∷◌, ◌++◌, length, take, drop, get_or}
 use Rattle.std.proofs.Common.{slice_get, slice_set, Some, refl, ap, sym, ◌∙◌, arith, drop-cons, get_or-drop, length-drop, length-set, take-suc}
-use Rattle.std.proofs.Common.{take_all}
 use Rattle.std.proofs.lemmas.List.{take_more_set}
 use Rattle.std.proofs.lemmas.Option.{get_or_from_slice_get, slice_get-get_or, slice_get_within}
 use Rattle.bl_tree.specs.declared.row.Column.{Column}
@@ -44,19 +21,6 @@ args-step at k ins cells all n there before =
     ap (λ j. with_args j (drop (k + 1) ins) (slice_set cells (at + k) n)) e ∙ ap (λ j. with_args (suc (at + k)) (drop j ins) (slice_set cells (at + k) n)) f
     ∙ ap (λ l. with_args (at + k) l cells) (sym here) ∙ before
 
-drop-all : (xs : List ℤ) (k : ℕ) → length xs ≤ k → drop k xs ≡ []
-drop-all [] zero h = refl
-drop-all [] (suc k) h = refl
-drop-all (x ∷ xs) zero h = absurd (omega arith)
-drop-all (x ∷ xs) (suc k) h = drop-all xs k (omega arith)
-
--- all inputs are set
-pub args-over : (at k : ℕ) (ins cells all : List ℤ) → length ins ≤ k → with_args (at + k) (drop k ins) cells ≡ all → cells ≡ all
-args-over at k ins cells all h before = ap (λ l. with_args (at + k) l cells) (sym (drop-all ins k h)) ∙ before
-
-pub args-begin : (at : ℕ) (ins cells : List ℤ) → with_args (at + 0) (drop 0 ins) cells ≡ with_args at ins cells
-args-begin at ins cells = let e : at + 0 ≡ at = omega arith in ap (λ j. with_args j ins cells) e
-
 -- an output is read
 pub outs-step : (at k : ℕ) (outs cells : List ℤ) (n : ℤ) → k < length outs → slice_get cells (at + k) ≡ Some n →
     take k outs ≡ take k (drop at cells) →
@@ -76,12 +40,6 @@ outs-next at k outs next old cells n is within there long before = (
   ap length is ∙ length-set outs k n ∙ long,
   ap (take (k + 1)) is ∙ outs-step at k outs cells n within there before,
 )
-
-pub outs-over : (k : ℕ) (outs cells : List ℤ) (n : ℕ) → length outs ≡ n → n ≤ k → k ≤ n → take k outs ≡ take k cells →
-    outs ≡ take n cells
-outs-over k outs cells n long above below all =
-    let e : k ≡ n = omega arith in
-    sym (take_all k outs (omega arith)) ∙ all ∙ ap (λ j. take j cells) e
 
 -- ---- ranges
 
@@ -122,15 +80,6 @@ ranges-fail k columns row c n all col num bad before = split k columns row col n
         sym before ∙ ap (λ b. b && in_ranges (types_of columns) row)
         (ap (λ (x : Column). in_range x.ty m) (some_is d c col) ∙ ap (in_range c.ty) (some_is m n num) ∙ bad)
     split (suc k) (d ∷ columns) (m ∷ row) col num before = split k columns row col num before
-
-pub ranges-over : (k : ℕ) (columns : List Column) (row : List ℤ) (all : Bool) → length columns ≤ k → length columns ≡ length row →
-    in_ranges (types_of (drop k columns)) (drop k row) ≡ all → all ≡ true
-ranges-over zero [] [] all h same before = sym before
-ranges-over (suc k) [] [] all h same before = sym before
-ranges-over k [] (n ∷ row) all h same before = absurd (omega arith)
-ranges-over k (c ∷ columns) [] all h same before = absurd (omega arith)
-ranges-over zero (c ∷ columns) (n ∷ row) all h same before = absurd (omega arith)
-ranges-over (suc k) (c ∷ columns) (n ∷ row) all h same before = ranges-over k columns row all (omega arith) (omega arith) before
 
 pub ranges-long : (columns : List Column) (row : List ℤ) → (length columns ≡ length row → ⊥) → in_ranges (types_of columns) row ≡ false
 ranges-long [] [] differ = absurd (differ refl)

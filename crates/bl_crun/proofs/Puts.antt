@@ -1,26 +1,5 @@
 -- Cells that are read and set.
-use Rattle.std.proofs.Common.{
-  ◌≡◌,
-  ℕ,
-  zero,
-  suc,
-  ◌<◌,
-  ℤ,
-  Bool,
-  true,
-  List,
-  [],
-  ◌∷◌,
-  length,
-  take,
-  slice_get,
-  slice_set,
-  Some,
-  refl,
-  ap,
-  sym,
-  subst,
-}
+use Rattle.std.proofs.Common.{◌≡◌, ℕ, zero, suc, ◌<◌, ℤ, Bool, true, List, [], ◌∷◌, length, take, slice_get, slice_set, Some, refl, ap, sym, subst}
 use Rattle.std.proofs.Common.{◌∙◌, arith, length-set, length-take-le}
 use Rattle.std.proofs.lemmas.List.{length-map}
 use Rattle.bl_tree.specs.declared.scalar.Scalar.{Scalar}

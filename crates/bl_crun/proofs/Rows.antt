@@ -1,32 +1,12 @@
 -- Rows of inputs and outputs in the cells.
-use Rattle.std.proofs.Common.{
-  ◌≡◌,
-  ℕ,
-  zero,
-  suc,
-  ◌+◌,
-  ◌-◌,
-  ◌<◌,
-  ◌≤◌,
-  ℤ,
-  pos,
-  true,
-  ◌&&◌,
-  List,
-  [],
-  ◌∷◌,
-  map,
-  length,
-  take,
-  drop,
-  slice_get,
-  slice_set,
-}
+use Rattle.std.proofs.Common.{◌≡◌, ℕ, zero, suc, ◌+◌, ◌-◌, ◌<◌, ◌≤◌, ℤ, pos, true, ◌&&◌, List, [], ◌∷◌, map, length, take, drop, slice_get, slice_set}
 use Rattle.std.proofs.Common.{Some, refl, ap, sym, ◌∙◌, arith, drop-cons, get_or}
 use Rattle.std.specs.Prelude.{filter_map, option_map}
 use Rattle.std.specs.List.{cons_option, list_all}
 use Rattle.std.proofs.lemmas.List.{drop-take, length-map}
 use Rattle.std.proofs.lemmas.Option.{get_or_from_slice_get, slice_get-get_or, slice_get-map, slice_get_within}
+use Rattle.std.proofs.lemmas.Bool.{and_from}
+use Rattle.bl_tree.proofs.Basics.{and_first, and_second, same_some}
 use Rattle.bl_tree.specs.declared.scalar.Scalar.{Scalar}
 use Rattle.bl_tree.specs.declared.scalar.Scalar.TheVariants.{Bool as OfBool}
 use Rattle.bl_tree.specs.declared.c.CMember.{CMember}
@@ -36,7 +16,6 @@ use Rattle.bl_tree.specs.Scalar.{in_range}
 use Rattle.bl_ctext_semantics.specs.Cells.{Cell, column_of, column_typed, numbers_of, outputs_in, port, with_inputs}
 use Rattle.bl_ctext_semantics.specs.Memory.{Root, input_object, output_object, Memory, scalar_number, scalar, set_at, value_at}
 use Rattle.bl_ctext_semantics_laws.specs.Fitting.{cell_holds}
-use Rattle.bl_ctext_semantics_laws.proofs.Lists.{and-both, and-left, and-right}
 use Rattle.bl_ctext_semantics_laws.specs.Flat.{with_args}
 use Rattle.bl_tree.specs.Ports.{in_ranges, types_of}
 use Rattle.bl_crun.proofs.Cells.{Separate, numbers-set}
@@ -76,19 +55,16 @@ pub ranges-long : (ts : List Scalar) (ns : List ℤ) → in_ranges ts ns ≡ tru
 ranges-long [] [] h = refl
 ranges-long [] (n ∷ ns) h = cc
 ranges-long (t ∷ ts) [] h = cc
-ranges-long (t ∷ ts) (n ∷ ns) h = ap suc (ranges-long ts ns (and-right (in_range t n) _ h))
-
-some_is : {A : Type 0} (a b : A) → Some a ≡ Some b → a ≡ b
-some_is a b h = cc
+ranges-long (t ∷ ts) (n ∷ ns) h = ap suc (ranges-long ts ns (and_second (in_range t n) _ h))
 
 pub ranges-set : (ts : List Scalar) (ns : List ℤ) (k : ℕ) (t : Scalar) (n : ℤ) → in_ranges ts ns ≡ true → slice_get ts k ≡ Some t →
     in_range t n ≡ true →
     in_ranges ts (slice_set ns k n) ≡ true
 ranges-set [] ns k t n all there h = cc
 ranges-set (u ∷ ts) [] k t n all there h = cc
-ranges-set (u ∷ ts) (m ∷ ns) zero t n all there h = and-both _ _ (ap (λ s. in_range s n) (some_is u t there) ∙ h) (and-right (in_range u m) _ all)
+ranges-set (u ∷ ts) (m ∷ ns) zero t n all there h = and_from _ _ (ap (λ s. in_range s n) (same_some u t there) ∙ h) (and_second (in_range u m) _ all)
 ranges-set (u ∷ ts) (m ∷ ns) (suc k) t n all there h =
-    and-both _ _ (and-left (in_range u m) _ all) (ranges-set ts ns k t n (and-right (in_range u m) _ all) there h)
+    and_from _ _ (and_first (in_range u m) _ all) (ranges-set ts ns k t n (and_second (in_range u m) _ all) there h)
 
 pub ranges-at : (ts : List Scalar) (ns : List ℤ) (k : ℕ) (t : Scalar) (n : ℤ) → in_ranges ts ns ≡ true → slice_get ts k ≡ Some t →
     slice_get ns k ≡ Some n →
@@ -96,8 +72,8 @@ pub ranges-at : (ts : List Scalar) (ns : List ℤ) (k : ℕ) (t : Scalar) (n : �
 ranges-at [] ns k t n all there is = cc
 ranges-at (u ∷ ts) [] k t n all there is = cc
 ranges-at (u ∷ ts) (m ∷ ns) zero t n all there is =
-    ap (λ s. in_range s n) (sym (some_is u t there)) ∙ ap (in_range u) (sym (some_is m n is)) ∙ and-left (in_range u m) _ all
-ranges-at (u ∷ ts) (m ∷ ns) (suc k) t n all there is = ranges-at ts ns k t n (and-right (in_range u m) _ all) there is
+    ap (λ s. in_range s n) (sym (same_some u t there)) ∙ ap (in_range u) (sym (same_some m n is)) ∙ and_first (in_range u m) _ all
+ranges-at (u ∷ ts) (m ∷ ns) (suc k) t n all there is = ranges-at ts ns k t n (and_second (in_range u m) _ all) there is
 
 -- ---- inputs and outputs
 
@@ -180,9 +156,9 @@ inputs-range cs at [] (n ∷ ins) ns stand fit all = cc
 inputs-range cs at (m ∷ ms) [] ns stand fit all = cc
 inputs-range cs at (m ∷ ms) (n ∷ ins) ns stand fit all =
     let p = stand-first cs at input_object m ms stand in
-    inputs-range cs (suc at) ms ins (slice_set ns at n) (stand-later cs at input_object m ms stand) (and-right (in_range (kind_in m.ty) n) _ fit)
+    inputs-range cs (suc at) ms ins (slice_set ns at n) (stand-later cs at input_object m ms stand) (and_second (in_range (kind_in m.ty) n) _ fit)
     (ranges-set (map (λ c. c.kind) cs) ns at p.0 n all (slice_get-map (λ (c : Cell). c.kind) cs at ∙ ap (option_map (λ (c : Cell). c.kind)) p.1.1)
-    (ap (λ t. in_range (kind_in t) n) (sym p.1.0) ∙ and-left (in_range (kind_in m.ty) n) _ fit))
+    (ap (λ t. in_range (kind_in t) n) (sym p.1.0) ∙ and_first (in_range (kind_in m.ty) n) _ fit))
 
 pub inputs-fit : (cs : List Cell) (at : ℕ) (ms : List CMember) (ins ns : List ℤ) → StandAt cs at input_object ms →
     in_ranges (types_of (filter_map column_of ms)) ins ≡ true →
@@ -203,7 +179,7 @@ ports-range cs at root (m ∷ ms) ns stand all =
     let long = ranges-long (map (λ (c : Cell). c.kind) cs) ns all in
     let within : at < length ns = omega arith in
     ap (λ l. in_ranges (kind_in m.ty ∷ map (λ m. kind_in m.ty) ms) (take (suc (length ms)) l)) (drop-cons ns at (pos 0) within)
-    ∙ and-both _ _
+    ∙ and_from _ _
     (ap (λ t. in_range (kind_in t) (get_or ns at (pos 0))) p.1.0
     ∙ ranges-at (map (λ (c : Cell). c.kind) cs) ns at p.0 (get_or ns at (pos 0)) all kind (slice_get-get_or ns at (pos 0) within))
     (ports-range cs (suc at) root ms ns (stand-later cs at root m ms stand) all)

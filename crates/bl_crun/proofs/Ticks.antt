@@ -1,36 +1,15 @@
 -- What the start and the ticks of a file do to numbered cells.
-use Rattle.std.proofs.Common.{
-  ◌≡◌,
-  ℕ,
-  zero,
-  suc,
-  ◌+◌,
-  ◌≤◌,
-  ◌<◌,
-  ℤ,
-  pos,
-  true,
-  List,
-  [],
-  ◌∷◌,
-  ◌++◌,
-  map,
-  length,
-  take,
-  drop,
-  replicate,
-  slice_get,
-}
+use Rattle.std.proofs.Common.{◌≡◌, ℕ, zero, suc, ◌+◌, ◌≤◌, ◌<◌, ℤ, pos, true, List, [], ◌∷◌, ◌++◌, length, take, drop, replicate, slice_get}
 use Rattle.std.proofs.Common.{Some, refl, ap, sym, subst, ◌∙◌, arith, length-take-le}
 use Rattle.std.specs.Prelude.{codes, is_some}
 use Rattle.std.specs.List.{list_all}
 use Rattle.std.proofs.lemmas.Option.{slice_get_within}
 use Rattle.std.proofs.lemmas.List.{length-map, take-append-drop, take-replicate}
+use Rattle.std.proofs.lemmas.Bool.{and_from}
 use Rattle.bl_tree.specs.declared.scalar.Scalar.{Scalar}
 use Rattle.bl_tree.specs.declared.text.Text.{Text}
 use Rattle.bl_tree.specs.declared.c.CMember.{CMember}
 use Rattle.bl_ctext_semantics_laws.specs.Fitting.{cell_holds}
-use Rattle.bl_ctext_semantics_laws.proofs.Lists.{and-both}
 use Rattle.bl_ctext_semantics_laws.specs.Flat.{FlatAnswer, with_args}
 use Rattle.bl_ctext_semantics_laws.specs.Laws.{SameCall, StartsAgree, TicksAgree, entered_flat, input_at, output_at}
 use Rattle.bl_ctext_semantics_laws.proofs.Spans.{length-args}
@@ -52,9 +31,6 @@ use Rattle.bl_crun.proofs.Cells.{cells-long, cells-separate, numbers-made}
 use Rattle.bl_crun.proofs.Rows.{args-taken, columns-long, inputs-fit, inputs-long, inputs-set, outputs-fit, outputs-taken, ranges-are, within-taken}
 
 -- ---- a call from outside
-
-abbrev Kinds : List Cell → List Scalar
-Kinds cs = map (λ c. c.kind) cs
 
 module _ (file : Parts) (runs : IsRunnable file) where
   few : length (cells_of file) ≤ cells_needed file
@@ -101,7 +77,7 @@ module _ (file : Parts) (runs : IsRunnable file) where
 
   zeros-fit : (ts : List Scalar) → in_ranges ts (replicate (length ts) (pos 0)) ≡ true
   zeros-fit [] = refl
-  zeros-fit (t ∷ ts) = and-both _ _ (zero-fits t) (zeros-fit ts)
+  zeros-fit (t ∷ ts) = and_from _ _ (zero-fits t) (zeros-fit ts)
 
   length-zeros : (n : ℕ) → length (replicate n (pos 0)) ≡ n
   length-zeros zero = refl

@@ -3,6 +3,7 @@ use Rattle.std.proofs.Common.{◌≡◌, ◌≤◌, ℕ, zero, suc, ◌+◌, ℤ
 use Rattle.std.proofs.Common.{add-zero, append_assoc, length-append, arith}
 use Rattle.std.specs.Prelude.{◌&&◌, is_some, nat_lt, slice_set, if◌then◌else◌}
 use Rattle.std.proofs.lemmas.Bool.Decides.{nat_tests}
+use Rattle.bl_tree.proofs.Basics.{and_first, and_second}
 use Rattle.bl_tree.specs.declared.text.Text.{Text}
 use Rattle.bl_tree.specs.Ports.{in_ranges}
 use Rattle.bl_ctext.specs.declared.builtin.Builtin.{Builtin}
@@ -26,7 +27,7 @@ use Rattle.bl_crun_code.proofs.Runs.{kept-set, kept-then, span-is, st}
 use Rattle.bl_crun_code.proofs.Parts.{DueGives, DueWrites, Gives, Values, Writes, act-behind, does-same, gives-at-once}
 use Rattle.bl_crun_code.proofs.Operands.{ending-filled, values-written}
 use Rattle.bl_crun_code.proofs.Operators.{written-after}
-use Rattle.bl_crun_code.proofs.Places.{and-left, and-right, keeps-then}
+use Rattle.bl_crun_code.proofs.Places.{keeps-then}
 use Rattle.bl_crun_code.proofs.Fetches.{pair-does, pair-filled, two_answers}
 
 -- ---- arguments
@@ -80,9 +81,9 @@ args-keep : (r : Run) (ws : List Valued) (fs : List (Evaluates ℤ)) → Args (V
     (each_of fs base cells).cells ≡ cells
 args-keep r ws fs Args.none calm base cells = refl
 args-keep r ws fs (Args.one w f ws' fs' h rest) calm base cells =
-    let first : (f base cells).cells ≡ cells = h.keeps (and-left w.calm (args_calm ws') calm) base cells in
+    let first : (f base cells).cells ≡ cells = h.keeps (and_first w.calm (args_calm ws') calm) base cells in
     let others : (each_of fs' base (f base cells).cells).cells ≡ cells =
-    args-keep r ws' fs' rest (and-right w.calm (args_calm ws') calm) base (f base cells).cells ∙ first in
+    args-keep r ws' fs' rest (and_second w.calm (args_calm ws') calm) base (f base cells).cells ∙ first in
     keeps-then cells (f base cells) (λ after a. flat_next (each_of fs' base after) (λ last others. flat_answer last (Some (a ∷ others)))) first
     (λ a. keeps-then cells (each_of fs' base (f base cells).cells) (λ last others. flat_answer last (Some (a ∷ others))) others (λ ns. others))
 
@@ -104,7 +105,7 @@ args-give r late depth ws fs (Args.one w f ws' fs' h others) calm p m q rest cel
     let Next : Cells → ℕ → List ℤ → Type 0 = λ c n ns. (after : List ℤ) (k : ℕ) → Kept r depth temps after →
     args_in after depth (suc (length ws')) ≡ ns → Span r.code (p + length (first ++ tail)) (with_begun k rest) q →
     From r k (p + length (first ++ tail)) c after n end in
-    h.into late depth (op.Temporary depth) (λ is. and-left w.calm (args_calm ws') (calm is)) p m q (tail ++ rest) cells temps count end
+    h.into late depth (op.Temporary depth) (λ is. and_first w.calm (args_calm ws') (calm is)) p m q (tail ++ rest) cells temps count end
     (span-is r.code p _ _ q (ap (with_begun m) (append_assoc first tail rest)) span)
     (fits-fewer r depth (length (first ++ tail)) (length first) temps fits (omega arith))
     (goes-next r end (DueWrites r depth (op.Temporary depth) (p + length first) q (tail ++ rest) temps end) Next count l (λ after a. flat_next (each_of fs' r.base after) (λ last others. flat_answer last (Some (a ∷ others)))) next
@@ -114,7 +115,7 @@ args-give r late depth ws fs (Args.one w f ws' fs' h others) calm p m q rest cel
     let kept' : Kept r depth temps written = kept-set r depth depth temps after v kept (omega arith) (omega arith) in
     let e : FlatAnswer (List ℤ) = each_of fs' r.base l.cells in
     arrives-now r (p + length first) l.cells written (count + l.count) end
-    (args-give r late (suc depth) ws' fs' others (λ is. and-right w.calm (args_calm ws') (calm is)) (p + length first) 0 q rest l.cells written
+    (args-give r late (suc depth) ws' fs' others (λ is. and_second w.calm (args_calm ws') (calm is)) (p + length first) 0 q rest l.cells written
     (count + l.count) end
     (span-is r.code (p + length first) _ _ q (sym (begun-zero (tail ++ rest))) here)
     (fits-to r depth (length (first ++ tail)) temps (suc depth) (length tail) written fits kept'.long (omega arith) (omega arith))
@@ -376,7 +377,7 @@ module _ (r : Run) (here : Ground FunctionEntry) where
   prelude-writes b entry routine ws fs Args.none late depth into calm =
       stop-writes r late depth into [] [] Args.none calm (prelude_value b) (λ ns long. other-none b [] ns tt long)
   prelude-writes b entry routine ws fs (Args.one x f ws' fs' h Args.none) late depth into calm =
-      one-writes r late depth into b x f h (λ is. and-left x.calm true (calm is))
+      one-writes r late depth into b x f h (λ is. and_first x.calm true (calm is))
   prelude-writes b entry routine ws fs (Args.one x f ws' fs' h (Args.one y g ws'' fs'' k Args.none)) late depth into calm =
       two-writes r late depth into b x y f g h k
       (λ is. and-both x.calm y.calm (calm is))

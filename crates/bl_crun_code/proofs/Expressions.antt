@@ -49,9 +49,6 @@ onward-leads : (P : Valued → Evaluates ℤ → Type 0) (r r' : Reach Valued) (
 onward-leads P r r' u u' (Leads.leads start passed ts us ty h) (Leads.leads start' passed' ts' us' ty' k) =
     Leads.leads start (capped (passed + passed')) (ts ++ ts') (us ++ us') ty' (terms-append P ts us ts' us' h k)
 
-read-same : (r : Run) (reach : Reach Valued) (u : Reach (Evaluates ℤ)) → Leads (Values r) reach u → reach.ty ≡ u.ty
-read-same r reach u (Leads.leads start passed ts us ty terms) = refl
-
 module _ (r : Run) (sizes : Sizes) (structs : Layouts) (slots : Table Slot) (frame : ℕ) (entries : Table FunctionEntry) (routines : Table Routine)
     (knows : Knows r entries routines) where
   abbrev pub by_code : Ground FunctionEntry

@@ -2,6 +2,7 @@
 use Rattle.std.proofs.Common.{◌≡◌, ◌≤◌, ℕ, ◌+◌, ℤ, pos, Bool, true, false, List, [], ◌∷◌, ◌++◌, length, Option, Some, None, refl, ap, sym, ◌∙◌, subst}
 use Rattle.std.proofs.Common.{append_assoc, length-append, arith}
 use Rattle.std.specs.Prelude.{◌&&◌}
+use Rattle.bl_tree.proofs.Basics.{and_first, and_second}
 use Rattle.bl_tree.specs.declared.c.CType.{CType}
 use Rattle.bl_tree.specs.declared.c.CType.TheVariants.{Scalar as OfScalar, Struct as OfStruct}
 use Rattle.bl_ctext_semantics_laws.specs.Flat.{Cells, Evaluates, FlatAnswer, address_of, cell_at, flat_answer, flat_next, read_at}
@@ -16,7 +17,7 @@ use Rattle.bl_crun_code.specs.Vm.{StepResult, does, operand_number}
 use Rattle.bl_crun_code.proofs.Runs.{After, Goes, Kept, Run, Span, fits-fewer, fits-to, goes-next, kept-then, span-is, st}
 use Rattle.bl_crun_code.proofs.Parts.{Does, Due, DueGives, Gives, Holds, Values, Writes, act-at, behind-more, gives-map, held}
 use Rattle.bl_crun_code.proofs.Operands.{ending-filled, made-gives, moved, values-valued}
-use Rattle.bl_crun_code.proofs.Places.{PlaceIs, Spots, address-behind, address-capped, and-left, and-right, is-capped, keeps-then, spot-read}
+use Rattle.bl_crun_code.proofs.Places.{PlaceIs, Spots, address-behind, address-capped, is-capped, keeps-then, spot-read}
 
 -- ---- addresses
 
@@ -132,8 +133,8 @@ pair-does r x y f g hx hy late depth calm make h Next last p m q rest cells temp
     let b : Ready = y.ready late deeper in
     let tail : Code = ending_with b (λ o. make a.it o) in
     let l : FlatAnswer ℤ = f r.base cells in
-    let quiet : late ≡ true → x.calm ≡ true = λ is. and-left x.calm y.calm (calm is) in
-    let quiet' : late ≡ true → y.calm ≡ true = λ is. and-right x.calm y.calm (calm is) in
+    let quiet : late ≡ true → x.calm ≡ true = λ is. and_first x.calm y.calm (calm is) in
+    let quiet' : late ≡ true → y.calm ≡ true = λ is. and_second x.calm y.calm (calm is) in
     let whole : length (a.code ++ tail) ≡ length a.code + length tail = length-append a.code tail in
     let longer : length (b.code ++ uncounted (make a.it b.it) ∷ []) ≡ length b.code + 1 = length-append b.code (uncounted (make a.it b.it) ∷ []) in
     let over : p + length (a.code ++ tail) ≡ p + length a.code + length b.code + 1 = omega arith in

@@ -2,6 +2,7 @@
 use Rattle.std.proofs.Common.{◌≡◌, ◌≤◌, ℕ, ◌+◌, ℤ, pos, Bool, true, false, List, [], ◌∷◌, ◌++◌, length, Option, Some, None, refl, ap, sym, ◌∙◌, subst}
 use Rattle.std.proofs.Common.{add-zero, append_assoc, length-append, arith}
 use Rattle.std.specs.Prelude.{◌&&◌, not, slice_get, if◌then◌else◌}
+use Rattle.bl_tree.proofs.Basics.{and_first, and_second}
 use Rattle.bl_tree.specs.declared.scalar.Op.{Op}
 use Rattle.bl_tree.specs.declared.scalar.Op.TheVariants.{And, Or}
 use Rattle.bl_tree.specs.Numbers.{is_one, number_of}
@@ -17,7 +18,7 @@ use Rattle.bl_crun_code.proofs.Runs.{After, Fits, Goes, GoesOn, Kept, Run, Span,
 use Rattle.bl_crun_code.proofs.Runs.{kept-then, span-back, span-first, span-is, span-tail, st, stepped}
 use Rattle.bl_crun_code.proofs.Parts.{DueTests, DueWrites, Tests, Values, Writes, act-behind}
 use Rattle.bl_crun_code.proofs.Operands.{ending-filled, values-condition}
-use Rattle.bl_crun_code.proofs.Places.{and-left, and-right, keeps-then}
+use Rattle.bl_crun_code.proofs.Places.{keeps-then}
 use Rattle.bl_crun_code.proofs.Fetches.{pair-does, pair-filled, two_answers}
 
 -- ---- answers that are written or tested
@@ -49,10 +50,10 @@ chosen-after r p q rest depth temps after cells n hold fail end (Some v) number 
 module _ (r : Run) (x y : Valued) (f g : Evaluates ℤ) (hx : Values r x f) (hy : Values r y g) where
   both-keep : (h : ℤ → ℤ → Option ℤ) → x.calm && y.calm ≡ true → (base : ℕ) (cells : Cells) → (two_answers h f g base cells).cells ≡ cells
   both-keep h calm base cells =
-      let first : (f base cells).cells ≡ cells = hx.keeps (and-left x.calm y.calm calm) base cells in
+      let first : (f base cells).cells ≡ cells = hx.keeps (and_first x.calm y.calm calm) base cells in
       keeps-then cells (f base cells) (λ after a. flat_next (g base after) (λ last b. flat_answer last (h a b))) first
       (λ a.
-      let second : (g base (f base cells).cells).cells ≡ cells = hy.keeps (and-right x.calm y.calm calm) base (f base cells).cells ∙ first in
+      let second : (g base (f base cells).cells).cells ≡ cells = hy.keeps (and_second x.calm y.calm calm) base (f base cells).cells ∙ first in
       keeps-then cells (g base (f base cells).cells) (λ last b. flat_answer last (h a b)) second (λ b. second))
 
   plain-values : (op : Op) →
@@ -119,7 +120,7 @@ module _ (r : Run) (x y : Valued) (f g : Evaluates ℤ) (hx : Values r x f) (hy 
         let e : FlatAnswer ℤ = g r.base cells in
         let whole : Span r.code p (Second ++ (tail ++ rest)) q = span-is r.code p _ _ q (append_assoc Second tail rest) span in
         arrives-now r p cells after n end
-        (hy.into late depth into (λ is. and-right x.calm y.calm (calm is)) p 0 q (tail ++ rest) cells after n end
+        (hy.into late depth into (λ is. and_second x.calm y.calm (calm is)) p 0 q (tail ++ rest) cells after n end
         (span-is r.code p _ _ q (sym (begun-zero (Second ++ (tail ++ rest)))) whole) (fits-fewer r depth (length Else) (length Second) after fits (omega arith))
         (goes-map r end (DueWrites r depth into (p + length Second) q (tail ++ rest) after end) (Written temps (p + length Else) q rest end) e.cells (n + e.count) e.answer due
         (λ v found after' kept' here.
@@ -190,7 +191,7 @@ module _ (r : Run) (x y : Valued) (f g : Evaluates ℤ) (hx : Values r x f) (hy 
       let l : FlatAnswer ℤ = f r.base cells in
       let whole : length (test ++ tail) ≡ length test + length tail = length-append test tail in
       let over : p + length (test ++ tail) ≡ p + length test + length tail = omega arith in
-      hx.test late depth 0 (length second + 1) (λ is. and-left x.calm y.calm (calm is)) p m q (tail ++ rest) cells temps count end
+      hx.test late depth 0 (length second + 1) (λ is. and_first x.calm y.calm (calm is)) p m q (tail ++ rest) cells temps count end
       (span-is r.code p _ _ q (ap (with_begun m) (append_assoc test tail rest)) span)
       (fits-fewer r depth (length (test ++ tail)) (length test) temps fits (omega arith))
       (goes-next r end (DueTests r depth 0 (length second + 1) (p + length test) q (tail ++ rest) temps end)
@@ -211,7 +212,7 @@ module _ (r : Run) (x y : Valued) (f g : Evaluates ℤ) (hx : Values r x f) (hy 
       let l : FlatAnswer ℤ = f r.base cells in
       let whole : length (test ++ tail) ≡ length test + length tail = length-append test tail in
       let over : p + length (test ++ tail) ≡ p + length test + length tail = omega arith in
-      hx.test late depth (length second + 1) 0 (λ is. and-left x.calm y.calm (calm is)) p m q (tail ++ rest) cells temps count end
+      hx.test late depth (length second + 1) 0 (λ is. and_first x.calm y.calm (calm is)) p m q (tail ++ rest) cells temps count end
       (span-is r.code p _ _ q (ap (with_begun m) (append_assoc test tail rest)) span)
       (fits-fewer r depth (length (test ++ tail)) (length test) temps fits (omega arith))
       (goes-next r end (DueTests r depth (length second + 1) 0 (p + length test) q (tail ++ rest) temps end)
@@ -239,7 +240,7 @@ module _ (r : Run) (x y : Valued) (f g : Evaluates ℤ) (hx : Values r x f) (hy 
     right-tests p q rest cells temps after n end kept span fits due =
         let e : FlatAnswer ℤ = g r.base cells in
         arrives-now r p cells after n end
-        (hy.test late depth hold fail (λ is. and-right x.calm y.calm (calm is)) p 0 q rest cells after n end
+        (hy.test late depth hold fail (λ is. and_second x.calm y.calm (calm is)) p 0 q rest cells after n end
         (span-is r.code p _ _ q (sym (begun-zero (Right ++ rest))) span) fits
         (goes-map r end (DueTests r depth hold fail (p + length Right) q rest after end) (Tested temps (p + length Right) q rest end) e.cells (n + e.count) e.answer due
         (λ v found after' kept' here. found after' (kept-then r depth depth temps after after' kept kept' (omega arith)) here)))
@@ -280,7 +281,7 @@ module _ (r : Run) (x y : Valued) (f g : Evaluates ℤ) (hx : Values r x f) (hy 
       let l : FlatAnswer ℤ = f r.base cells in
       let whole : length (test ++ second) ≡ length test + length second = length-append test second in
       let over : p + length (test ++ second) ≡ p + length test + length second = omega arith in
-      hx.test late depth 0 (length second + fail) (λ is. and-left x.calm y.calm (calm is)) p m q (second ++ rest) cells temps count end
+      hx.test late depth 0 (length second + fail) (λ is. and_first x.calm y.calm (calm is)) p m q (second ++ rest) cells temps count end
       (span-is r.code p _ _ q (ap (with_begun m) (append_assoc test second rest)) span)
       (fits-fewer r depth (length (test ++ second)) (length test) temps fits (omega arith))
       (goes-next r end (DueTests r depth 0 (length second + fail) (p + length test) q (second ++ rest) temps end)
@@ -300,7 +301,7 @@ module _ (r : Run) (x y : Valued) (f g : Evaluates ℤ) (hx : Values r x f) (hy 
       let l : FlatAnswer ℤ = f r.base cells in
       let whole : length (test ++ second) ≡ length test + length second = length-append test second in
       let over : p + length (test ++ second) ≡ p + length test + length second = omega arith in
-      hx.test late depth (length second + hold) 0 (λ is. and-left x.calm y.calm (calm is)) p m q (second ++ rest) cells temps count end
+      hx.test late depth (length second + hold) 0 (λ is. and_first x.calm y.calm (calm is)) p m q (second ++ rest) cells temps count end
       (span-is r.code p _ _ q (ap (with_begun m) (append_assoc test second rest)) span)
       (fits-fewer r depth (length (test ++ second)) (length test) temps fits (omega arith))
       (goes-next r end (DueTests r depth (length second + hold) 0 (p + length test) q (second ++ rest) temps end)
@@ -331,9 +332,9 @@ module _ (r : Run) (x y : Valued) (f g : Evaluates ℤ) (hx : Values r x f) (hy 
   two-does And =
       values-condition r (x.calm && y.calm) (both_into x y) (both_test x y) (two_values And f g)
       (λ calm base cells.
-      let first : (f base cells).cells ≡ cells = hx.keeps (and-left x.calm y.calm calm) base cells in
+      let first : (f base cells).cells ≡ cells = hx.keeps (and_first x.calm y.calm calm) base cells in
       keeps-then cells (f base cells) (λ after a. (if is_one a then g else at_once (pos 0)) base after) first
-      (λ a. right-keeps (is_one a) (pos 0) (and-right x.calm y.calm calm) base cells (f base cells).cells first))
+      (λ a. right-keeps (is_one a) (pos 0) (and_second x.calm y.calm calm) base cells (f base cells).cells first))
       (λ late depth into. filled-first (x.test late depth 0 (length (y.into late depth into) + 1)) (or_else (y.into late depth into) into (pos 0))
       (hx.test_filled late depth 0 (length (y.into late depth into) + 1)))
       both-writes
@@ -343,9 +344,9 @@ module _ (r : Run) (x y : Valued) (f g : Evaluates ℤ) (hx : Values r x f) (hy 
   two-does Or =
       values-condition r (x.calm && y.calm) (either_into x y) (either_test x y) (two_values Or f g)
       (λ calm base cells.
-      let first : (f base cells).cells ≡ cells = hx.keeps (and-left x.calm y.calm calm) base cells in
+      let first : (f base cells).cells ≡ cells = hx.keeps (and_first x.calm y.calm calm) base cells in
       keeps-then cells (f base cells) (λ after a. (if is_one a then at_once (pos 1) else g) base after) first
-      (λ a. left-keeps (is_one a) (pos 1) (and-right x.calm y.calm calm) base cells (f base cells).cells first))
+      (λ a. left-keeps (is_one a) (pos 1) (and_second x.calm y.calm calm) base cells (f base cells).cells first))
       (λ late depth into. filled-first (x.test late depth (length (y.into late depth into) + 1) 0) (or_else (y.into late depth into) into (pos 1))
       (hx.test_filled late depth (length (y.into late depth into) + 1) 0))
       either-writes

@@ -3,6 +3,7 @@ use Rattle.std.proofs.Common.{◌≡◌, ◌≤◌, ℕ, suc, ◌+◌, ◌*◌, 
 use Rattle.std.proofs.Common.{add-zero, append_assoc, length-append, arith}
 use Rattle.std.specs.Prelude.{◌&&◌, option_map, slice_set}
 use Rattle.std.specs.List.{list_all}
+use Rattle.bl_tree.proofs.Basics.{and_first, and_second}
 use Rattle.bl_tree.specs.declared.c.CType.{CType}
 use Rattle.bl_ctext_semantics.specs.Builtin.{index_within}
 use Rattle.bl_ctext_semantics_laws.specs.Flat.{Cells, Evaluates, FlatAnswer, address_along, address_of, cell_at, cell_number, element_address, flat_answer, flat_next, going_on}
@@ -23,7 +24,7 @@ use Rattle.bl_crun_code.proofs.Operands.{on-temporary}
 
 -- ---- numbers of cells
 
-min-min : (n c : ℕ) → min (min n c) c ≡ min n c
+pub min-min : (n c : ℕ) → min (min n c) c ≡ min n c
 min-min n c = omega arith
 
 pub capped-capped : (n : ℕ) → capped (capped n) ≡ capped n
@@ -207,14 +208,6 @@ last-same depth (term ∷ terms) = refl
 abbrev terms_calm : List (Term Valued) → Bool
 terms_calm terms = list_all (λ term. term.index.calm) terms
 
-pub and-left : (a b : Bool) → a && b ≡ true → a ≡ true
-and-left true b h = refl
-and-left false b h = cc
-
-pub and-right : (a b : Bool) → a && b ≡ true → b ≡ true
-and-right true b h = h
-and-right false b h = cc
-
 -- the number of an element is written, where the index is in range
 element-step : {B : Type 0} (r : Run) (p depth at size : ℕ) (index : Option ℤ) (cells : Cells) (temps : List ℤ) (n : ℕ) (end : StepResult) (number : ℤ) →
     number ≡ pos at → capped at ≡ at → (Next : Cells → ℕ → B → Type 0) (h : Cells → ℕ → FlatAnswer B) →
@@ -264,7 +257,7 @@ module _ (r : Run) where
       let high : depth + length (code ++ element) ≤ r.temps = fits.high in
       let low : r.top ≤ depth = fits.low in
       let many : r.temps ≤ length temps = fits.long in
-      let quiet : late ≡ true → w.calm ≡ true = λ is. and-left w.calm (terms_calm ts') (calm is) in
+      let quiet : late ≡ true → w.calm ≡ true = λ is. and_first w.calm (terms_calm ts') (calm is) in
       let over : p + length (code ++ element) ≡ p + length code + 1 + length tail = omega arith in
       let Next : Cells → ℕ → ℕ → Type 0 = Behind depth temps (p + length (code ++ element)) (op.Temporary depth) q rest end in
       h.ready late deeper quiet p m q (element ++ rest) cells temps count end
@@ -286,7 +279,7 @@ module _ (r : Run) where
       let kept' : Kept r depth temps after' =
       kept-set r depth depth temps after (pos j) (kept-less r deeper depth temps after kept more) (omega arith) (omega arith) in
       arrives-now r (p + length code + 1) l.cells after' (count + l.count) end
-      (along late depth ts' us' others (λ is. and-right w.calm (terms_calm ts') (calm is)) (op.Temporary depth) refl j small'
+      (along late depth ts' us' others (λ is. and_second w.calm (terms_calm ts') (calm is)) (op.Temporary depth) refl j small'
       (p + length code + 1) 0 q rest l.cells after' (count + l.count) end
       (set-there after depth (pos j) (omega arith))
       (span-is r.code (p + length code + 1) _ _ q (sym (begun-zero (tail ++ rest)))
@@ -331,10 +324,10 @@ along-keeps : (r : Run) (ts : List (Term Valued)) (us : List (Term (Evaluates �
 along-keeps r ts us Terms.none calm at base cells = refl
 along-keeps r ts us (Terms.one long size w f ts' us' h others) calm at base cells =
     let term : Term (Evaluates ℤ) = record { length = long; size = size; index = f } in
-    let same : (f base cells).cells ≡ cells = h.keeps (and-left w.calm (terms_calm ts') calm) base cells in
+    let same : (f base cells).cells ≡ cells = h.keeps (and_first w.calm (terms_calm ts') calm) base cells in
     keeps-then cells (f base cells) (λ after i. flat_next (flat_answer after (element_address term at i)) (λ same j. address_along us' j base same)) same
     (λ i. keeps-then cells (flat_answer (f base cells).cells (element_address term at i)) (λ same j. address_along us' j base same) same
-    (λ j. along-keeps r ts' us' others (and-right w.calm (terms_calm ts') calm) j base (f base cells).cells ∙ same))
+    (λ j. along-keeps r ts' us' others (and_second w.calm (terms_calm ts') calm) j base (f base cells).cells ∙ same))
 
 module _ (r : Run) (start : Start) (passed : ℕ) (ty : Option CType) where
   abbrev Reaching : List (Term Valued) → Reach Valued

@@ -1,22 +1,5 @@
 -- Runs of the machine, where parts of the code stand, and what temporaries keep.
-use Rattle.std.proofs.Common.{
-  ◌≡◌,
-  ◌≤◌,
-  ℕ,
-  zero,
-  suc,
-  ◌+◌,
-  ℤ,
-  List,
-  [],
-  ◌∷◌,
-  ◌++◌,
-  length,
-  drop,
-  Option,
-  Some,
-  None,
-}
+use Rattle.std.proofs.Common.{◌≡◌, ◌≤◌, ℕ, zero, suc, ◌+◌, ℤ, List, [], ◌∷◌, ◌++◌, length, drop, Option, Some, None}
 use Rattle.std.proofs.Common.{refl, ap, sym, ◌∙◌, subst, inl, inr, add-zero, append_assoc, drop-drop, drop_at, length-append, length-set, arith}
 use Rattle.std.specs.Prelude.{slice_get, slice_set}
 use Rattle.bl_ctext_semantics_laws.specs.Flat.{Cells, FlatAnswer, cell_at, flat_answer, flat_next, going_on}
@@ -110,12 +93,6 @@ st r at cells temps count = record { at = at; base = r.base; cells = cells; temp
 -- it comes to an end from a position on, where so many of the statements that are counted begin with the next instruction
 abbrev pub From : Run → ℕ → ℕ → Cells → List ℤ → ℕ → StepResult → Type 0
 From r m at cells temps count end = (c : ℕ) → c + m ≡ count → Arrives r.code (st r at cells temps c) end
-
-pub from-now : (r : Run) (at : ℕ) (cells : Cells) (temps : List ℤ) (count : ℕ) (end : StepResult) → Arrives r.code (st r at cells temps count) end →
-    From r 0 at cells temps count end
-from-now r at cells temps count end h c is =
-    let same : count ≡ c = omega arith in
-    subst (λ n. Arrives r.code (st r at cells temps n) end) same h
 
 pub arrives-now : (r : Run) (at : ℕ) (cells : Cells) (temps : List ℤ) (count : ℕ) (end : StepResult) → From r 0 at cells temps count end →
     Arrives r.code (st r at cells temps count) end

@@ -1,31 +1,8 @@
 -- The code of a statement that stands alone, or that chooses, does what the statement does.
-use Rattle.std.proofs.Common.{
-  ◌≡◌,
-  ◌≤◌,
-  ℕ,
-  suc,
-  ◌+◌,
-  ℤ,
-  pos,
-  Bool,
-  true,
-  false,
-  List,
-  [],
-  ◌∷◌,
-  ◌++◌,
-  length,
-  Option,
-  Some,
-  None,
-  refl,
-  ap,
-  sym,
-  ◌∙◌,
-  subst,
-}
+use Rattle.std.proofs.Common.{◌≡◌, ◌≤◌, ℕ, suc, ◌+◌, ℤ, pos, Bool, true, false, List, [], ◌∷◌, ◌++◌, length, Option, Some, None, refl, ap, sym, ◌∙◌, subst}
 use Rattle.std.proofs.Common.{add-zero, append-nil, append_assoc, length-append, arith}
 use Rattle.std.specs.Prelude.{◌&&◌, slice_set, if◌then◌else◌}
+use Rattle.bl_tree.proofs.Basics.{and_first, and_second}
 use Rattle.bl_tree.specs.declared.c.CType.{CType}
 use Rattle.bl_tree.specs.declared.c.CType.TheVariants.{Scalar as OfScalar, Struct as OfStruct}
 use Rattle.bl_tree.specs.Numbers.{is_one}
@@ -47,7 +24,7 @@ use Rattle.bl_crun_code.specs.Laws.{Arrives}
 use Rattle.bl_crun_code.proofs.Runs.{After, Fits, From, Goes, GoesOn, Kept, Run, Span, acts, arrives-now, begun-front, begun-zero, fits-fewer, fits-to}
 use Rattle.bl_crun_code.proofs.Runs.{goes-next, kept-all, kept-set, kept-then, span-back, span-front, span-is, span-none, span-tail, st}
 use Rattle.bl_crun_code.proofs.Parts.{DueGives, DueTests, DueWrites, Values, behind-more, held}
-use Rattle.bl_crun_code.proofs.Places.{PlaceIs, Spots, address-behind, address-capped, and-left, and-right, is-capped, spot-written}
+use Rattle.bl_crun_code.proofs.Places.{PlaceIs, Spots, address-behind, address-capped, is-capped, spot-written}
 use Rattle.bl_crun_code.proofs.Calls.{back_with}
 
 -- ---- ends
@@ -137,10 +114,10 @@ module _ (r : Run) (depth left : ℕ) where
     deeper = depth_behind depth place.it
 
     quiet-place : late ≡ true → reach_calm reach ≡ true
-    quiet-place is = and-left (reach_calm reach) w.calm is
+    quiet-place is = and_first (reach_calm reach) w.calm is
 
     quiet-value : late ≡ true → w.calm ≡ true
-    quiet-value is = and-right (reach_calm reach) w.calm is
+    quiet-value is = and_second (reach_calm reach) w.calm is
 
     -- the place still is where it was
     stays : (cells later : Cells) (temps after : List ℤ) (k : ℕ) → operand_number r.base cells temps (address_in place.it) ≡ pos k → later ≡ (g r.base cells).cells →

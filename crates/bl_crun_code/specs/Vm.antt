@@ -1,25 +1,5 @@
 -- The machine that runs the code of C texts.
-use Rattle.std.specs.Prelude.{
-  ◌≡◌,
-  ℕ,
-  suc,
-  ◌+◌,
-  ◌-◌,
-  ◌*◌,
-  ℤ,
-  pos,
-  ◌+ℤ◌,
-  not,
-  int_lt,
-  nat_lt,
-  List,
-  [],
-  ◌∷◌,
-  length,
-  take,
-  drop,
-  slice_get,
-}
+use Rattle.std.specs.Prelude.{◌≡◌, ℕ, suc, ◌+◌, ◌-◌, ◌*◌, ℤ, pos, ◌+ℤ◌, not, int_lt, nat_lt, List, [], ◌∷◌, length, take, drop, slice_get}
 use Rattle.std.specs.Prelude.{slice_set, Option, Some, None, option_map, if◌then◌else◌}
 use Rattle.bl_tree.specs.Numbers.{is_one, number_of}
 use Rattle.bl_ctext_semantics.specs.Builtin.{index_within}

@@ -14,16 +14,7 @@ use Rattle.bl_ctext_semantics.proofs.MapLemmas.{entry_mapped, same_table}
 use Rattle.bl_ctext_semantics_laws.specs.Layout.{Layouts, Slot, capped, capped_sizes, frame_cells, layout_of, layouts, slots_of}
 use Rattle.bl_crun_code.specs.declared.instruction.Operand.TheVariants as op
 use Rattle.bl_crun_code.specs.declared.instruction.Act.TheVariants as act
-use Rattle.bl_crun_code.specs.Code.{
-  Code,
-  FunctionEntry,
-  code_of_block,
-  code_of_function,
-  entries_from,
-  function_entry,
-  functions_code,
-  uncounted,
-}
+use Rattle.bl_crun_code.specs.Code.{Code, FunctionEntry, code_of_block, code_of_function, entries_from, function_entry, functions_code, uncounted}
 
 -- ---- sizes
 

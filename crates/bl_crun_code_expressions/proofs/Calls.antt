@@ -8,19 +8,7 @@ use Rattle.bl_tree.specs.declared.c.CCall.{CCall, fold-roll-CCall, out-CCall, ro
 use Rattle.bl_ctext_semantics.specs.Builtin.{builtin_of}
 use Rattle.bl_ctext_semantics_laws.specs.Reaching.{Ground}
 use Rattle.bl_crun_code.specs.declared.instruction.Operand.{Operand}
-use Rattle.bl_crun_code.specs.Code.{
-  Code,
-  FunctionEntry,
-  Valued,
-  arg_code,
-  args_calm,
-  args_code,
-  call_into,
-  call_valued,
-  code_of_call,
-  known_call,
-  uncounted,
-}
+use Rattle.bl_crun_code.specs.Code.{Code, FunctionEntry, Valued, arg_code, args_calm, args_code, call_into, call_valued, code_of_call, known_call, uncounted}
 use Rattle.bl_crun_code_expressions.specs.Parts.{args_of}
 
 call-is : (here : Ground FunctionEntry) (called : CCall) → code_of_call called here

@@ -3,12 +3,12 @@ use Rattle.std.proofs.Common.{◌≡◌, ◌≤◌, ◌<◌, ℕ, ◌+◌, get_o
 use Rattle.std.specs.Prelude.{option_map, slice_get, if◌then◌else◌}
 use Rattle.std.proofs.lemmas.List.{drop_all}
 use Rattle.std.proofs.lemmas.Option.{slice_get_read}
+use Rattle.bl_tree.proofs.Basics.{drop_next}
 use Rattle.bl_tree.specs.declared.text.Text.{Text}
 use Rattle.bl_tree.specs.declared.c.CType.{CType}
 use Rattle.bl_tree.specs.declared.c.CIndex.{CIndex, fold-roll-CIndex, out-CIndex, roll-out-CIndex}
 use Rattle.bl_tree.specs.declared.c.CStep.{CStep, fold-roll-CStep, out-CStep, roll-CStep, roll-out-CStep}
 use Rattle.bl_tree.specs.declared.c.CPlace.{CPlace, fold-roll-CPlace, out-CPlace, roll-CPlace, roll-out-CPlace}
-use Rattle.bl_ctext_semantics.proofs.ArgLemmas.{next_of}
 use Rattle.bl_ctext_semantics_laws.specs.Layout.{MemberOffset, capped}
 use Rattle.bl_ctext_semantics_laws.specs.Reaching.{Ground, Index, Reach, laid_in, near, onward, reach_along, reach_member, start_of_slot, through}
 use Rattle.bl_crun_code.specs.Code.{FunctionEntry, Valued, expr_valued, reach_of_place, start_operand}
@@ -81,4 +81,4 @@ module _ (here : Ground FunctionEntry) where
       followed_by here more (drop (k + 1) steps) ≡ end
   step-next steps k s r more end within is told h =
       ap (λ x. followed_by here x (drop (k + 1) steps)) (told (slice_get_read steps (length steps) k s refl within is))
-      ∙ ap (followed_by here r) (sym (next_of steps k s within is)) ∙ h
+      ∙ ap (followed_by here r) (sym (drop_next steps k s within is)) ∙ h

@@ -9,16 +9,7 @@ use Rattle.bl_ctext_semantics_laws.specs.Reaching.{Ground}
 use Rattle.bl_crun_code.specs.declared.instruction.Operand.{Operand}
 use Rattle.bl_crun_code.specs.declared.instruction.Operand.TheVariants as op
 use Rattle.bl_crun_code.specs.declared.instruction.Act.TheVariants as act
-use Rattle.bl_crun_code.specs.Code.{
-  Code,
-  FunctionEntry,
-  Valued,
-  address_in,
-  ending_with,
-  expr_valued,
-  return_code,
-  uncounted,
-}
+use Rattle.bl_crun_code.specs.Code.{Code, FunctionEntry, Valued, address_in, ending_with, expr_valued, return_code, uncounted}
 
 -- code that writes a value of a type at an operand, or copies a struct there
 abbrev pub value_code : Sizes → Option CType → Valued → Bool → ℕ → Operand → Code

@@ -1,37 +1,12 @@
 -- Many cells set one after the other.
-use Rattle.std.proofs.Common.{
-  ◌≡◌,
-  ℕ,
-  suc,
-  zero,
-  ◌+◌,
-  ◌-◌,
-  ◌≤◌,
-  ◌<◌,
-  ℤ,
-  pos,
-  List,
-  [],
-  ◌∷◌,
-  length,
-  drop,
-  arith,
-  sym,
-  ◌∙◌,
-  ap,
-  refl,
-  get_or,
-  min,
-  ◌^◌,
-  ◌≢◌,
-  length-set,
-  ⊎_elim,
-}
+use Rattle.std.proofs.Common.{◌≡◌, ℕ, suc, zero, ◌+◌, ◌-◌, ◌≤◌, ◌<◌, ℤ, pos, List, [], ◌∷◌, length, drop, arith, sym, ◌∙◌, ap, refl, get_or, min, ◌^◌, ◌≢◌}
+use Rattle.std.proofs.Common.{⊎_elim}
 use Rattle.std.proofs.str.Laws.{order}
 use Rattle.std.specs.Prelude.{slice_set}
 use Rattle.std.proofs.lemmas.List.{set-set, set_comm, set_past, drop_all}
 use Rattle.std.proofs.Math.Seq.{drop-cons}
 use Rattle.bl_ctext_semantics_laws.specs.Flat.{Cells, frame_begun, with_args, zeroed}
+use Rattle.bl_ctext_semantics_laws.proofs.Spans.{length-args, length-zeroed}
 
 pub zeroed-past : (n at : ℕ) (cells : Cells) → length cells ≤ at → zeroed n at cells ≡ cells
 zeroed-past zero at cells h = refl
@@ -63,9 +38,6 @@ with_args-one at k args cells h =
     rw (b, d) (rw (drop-cons args k (pos 0)) refl)
 
 -- ---- loops that set one cell after the other
-
-pub zero-begin : (size at : ℕ) (cells : Cells) → zeroed (at + size - at) at cells ≡ zeroed size at cells
-zero-begin size at cells = let e : at + size - at ≡ size = omega arith in rw e refl
 
 pub zero-more : (size at k : ℕ) (cells all : Cells) → k < at + size → zeroed (at + size - k) k cells ≡ all →
     zeroed (at + size - (k + 1)) (k + 1) (slice_set cells k (pos 0)) ≡ all
@@ -130,13 +102,5 @@ frame-begun (n ∷ args) (suc size) base cells =
 
 -- ---- no change of cells changes how many there are
 
-pub length-zeroed : (n at : ℕ) (cells : Cells) → length (zeroed n at cells) ≡ length cells
-length-zeroed zero at cells = refl
-length-zeroed (suc n) at cells = length-zeroed n (suc at) (slice_set cells at (pos 0)) ∙ length-set cells at (pos 0)
-
-pub length-with_args : (at : ℕ) (args : List ℤ) (cells : Cells) → length (with_args at args cells) ≡ length cells
-length-with_args at [] cells = refl
-length-with_args at (n ∷ args) cells = length-with_args (suc at) args (slice_set cells at n) ∙ length-set cells at n
-
 pub length-frame : (size base : ℕ) (args : List ℤ) (cells : Cells) → length (frame_begun size base args cells) ≡ length cells
-length-frame size base args cells = length-with_args base args (zeroed size base cells) ∙ length-zeroed size base cells
+length-frame size base args cells = length-args base args (zeroed size base cells) ∙ length-zeroed size base cells

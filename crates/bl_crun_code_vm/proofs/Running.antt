@@ -1,34 +1,6 @@
 -- Runs up to their ends.
-use Rattle.std.proofs.Common.{
-  ◌≡◌,
-  ℕ,
-  suc,
-  zero,
-  ◌+◌,
-  ◌-◌,
-  ◌^◌,
-  ◌≤◌,
-  ◌<◌,
-  min,
-  ℤ,
-  Bool,
-  true,
-  false,
-  List,
-  [],
-  ◌∷◌,
-  length,
-  Option,
-  Some,
-  None,
-  arith,
-  sym,
-  ◌∙◌,
-  ap,
-  subst,
-  refl,
-  length-set,
-}
+use Rattle.std.proofs.Common.{◌≡◌, ℕ, suc, zero, ◌+◌, ◌-◌, ◌^◌, ◌≤◌, ◌<◌, min, ℤ, Bool, true, false, List, [], ◌∷◌, length, Option, Some, None, arith, sym, ◌∙◌}
+use Rattle.std.proofs.Common.{ap, subst, refl, length-set}
 use Rattle.std.specs.Prelude.{if◌then◌else◌, nat_lt, not, slice_get}
 use Rattle.bl_tree.specs.Numbers.{is_one, number_of}
 use Rattle.bl_ctext_semantics_laws.specs.Flat.{Cells, cell_at, compared, frame_begun, prelude_value}

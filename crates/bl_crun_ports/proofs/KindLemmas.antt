@@ -1,32 +1,12 @@
 -- The types of the cells of structs, one member after another.
-use Rattle.std.proofs.Common.{
-  ◌≡◌,
-  ℕ,
-  zero,
-  suc,
-  ◌+◌,
-  ◌<◌,
-  Bool,
-  true,
-  false,
-  List,
-  [],
-  ◌∷◌,
-  ◌++◌,
-  map,
-  length,
-  get_or,
-  take,
-  Option,
-  Some,
-  None,
-}
+use Rattle.std.proofs.Common.{◌≡◌, ℕ, zero, suc, ◌+◌, ◌<◌, Bool, true, false, List, [], ◌∷◌, ◌++◌, map, length, get_or, take, Option, Some, None}
 use Rattle.std.proofs.Common.{refl, ap, sym, subst, ◌∙◌, arith, append-nil}
 use Rattle.std.specs.Prelude.{flat_map, bytes_eq, nat_lt, option_map, unwrap_or, if◌then◌else◌}
 use Rattle.std.specs.Option.{option_or}
 use Rattle.std.proofs.lemmas.Grind.{common_steps}
 use Rattle.std.proofs.lemmas.Slice.Eq.{bytes_eq-Decides}
 use Rattle.std.proofs.lemmas.List.{append_assoc, map-append, take_all}
+use Rattle.bl_tree.proofs.Basics.{same_some}
 use Rattle.bl_tree.specs.declared.text.Text.{Text}
 use Rattle.bl_tree.specs.declared.scalar.Scalar.{Scalar}
 use Rattle.bl_tree.specs.declared.c.CMember.{CMember}
@@ -75,10 +55,6 @@ kinds-member structs m = by_length m.length (inner_of_type (scalars_of structs) 
     by_length None cells = kinds-inside (member m.name ∷ []) cells ∙ sym (append-nil (kinds_in cells))
     by_length (Some n) cells = kinds-repeated m.name cells n
 
-pub kinds-next : (structs : List CStruct) (m : CMember) (ms : List CMember) →
-    kinds_of_members structs (m ∷ ms) ≡ kinds_of_member structs m ++ kinds_of_members structs ms
-kinds-next structs m ms = kinds-append (inner_of_member (scalars_of structs) m) (flat_map (inner_of_member (scalars_of structs)) ms)
-
 pub kinds-at : (root : Root) (cells : List Inner) → map (λ cell. cell.kind) (cells_at root cells) ≡ kinds_in cells
 kinds-at root [] = refl
 kinds-at root (cell ∷ cells) = ap (λ l. cell.kind ∷ l) (kinds-at root cells)
@@ -99,9 +75,6 @@ grown-next known s rest =
     (λ name. sym (next_entry (known name) (bytes_eq s.name name) (flat_map (inner_of_member known) s.members)
     (found name (inner_after (with_entry known s.name (flat_map (inner_of_member known) s.members)) rest))))
 
-pub some_of : {A : Type 0} (a b : A) → Some a ≡ Some b → a ≡ b
-some_of a b h = cc
-
 abbrev cells_after : Table (List Inner) → CStruct → List Inner
 cells_after known s = flat_map (inner_of_member known) s.members
 
@@ -121,7 +94,7 @@ module _ (name : Text) where
         ≡ Some (flat_map (inner_of_member (grown known (take at (s ∷ rest)))) (get_or (s ∷ rest) at d).members)
     found-later at within None there h = cc
     found-later at within (Some k) there h =
-        let same : suc k ≡ at = some_of (suc k) at h in
+        let same : suc k ≡ at = same_some (suc k) at h in
         let below_end : k < end = omega (arith, same, within) in
         subst (λ n. found name (inner_after (known_after known s) (take end rest))
         ≡ Some (flat_map (inner_of_member (grown known (take n (s ∷ rest)))) (get_or (s ∷ rest) n d).members)) same
@@ -132,7 +105,7 @@ module _ (name : Text) where
         ≡ Some (flat_map (inner_of_member (grown known (take at (s ∷ rest)))) (get_or (s ∷ rest) at d).members)
     found-here at within true h =
         subst (λ n. Some (cells_after known s) ≡ Some (flat_map (inner_of_member (grown known (take n (s ∷ rest)))) (get_or (s ∷ rest) n d).members))
-        (some_of 0 at h) (ap (λ t. Some (flat_map (inner_of_member t) s.members)) (sym (grown-none known)))
+        (same_some 0 at h) (ap (λ t. Some (flat_map (inner_of_member t) s.members)) (sym (grown-none known)))
     found-here at within false h = found-later at within (struct_position name rest) refl h
 
   found-at : (known : Table (List Inner)) (structs : List CStruct) (end at : ℕ) (d : CStruct) → struct_position name structs ≡ Some at → at < end →
@@ -171,11 +144,11 @@ module _ (name : Text) where
 
   within-later : (n at : ℕ) (o : Option ℕ) → ((k : ℕ) → o ≡ Some k → k < n) → option_map suc o ≡ Some at → at < suc n
   within-later n at None next h = cc
-  within-later n at (Some k) next h = let same : suc k ≡ at = some_of (suc k) at h in let below : k < n = next k refl in omega (arith, same, below)
+  within-later n at (Some k) next h = let same : suc k ≡ at = same_some (suc k) at h in let below : k < n = next k refl in omega (arith, same, below)
 
   within-here : (n at : ℕ) (b : Bool) (o : Option ℕ) → ((k : ℕ) → o ≡ Some k → k < n) →
       (if b then Some 0 else option_map suc o) ≡ Some at → at < suc n
-  within-here n at true o next h = let same : 0 ≡ at = some_of 0 at h in omega (arith, same)
+  within-here n at true o next h = let same : 0 ≡ at = same_some 0 at h in omega (arith, same)
   within-here n at false o next h = within-later n at o next h
 
   pub placed-within : (structs : List CStruct) (at : ℕ) → struct_position name structs ≡ Some at → at < length structs
@@ -185,11 +158,11 @@ module _ (name : Text) where
   module _ (s : CStruct) (rest : List CStruct) (d : CStruct) (next : (k : ℕ) → struct_position name rest ≡ Some k → (get_or rest k d).name ≡ name) where
     name-later : (at : ℕ) (o : Option ℕ) → struct_position name rest ≡ o → option_map suc o ≡ Some at → (get_or (s ∷ rest) at d).name ≡ name
     name-later at None there h = cc
-    name-later at (Some k) there h = subst (λ n. (get_or (s ∷ rest) n d).name ≡ name) (some_of (suc k) at h) (next k there)
+    name-later at (Some k) there h = subst (λ n. (get_or (s ∷ rest) n d).name ≡ name) (same_some (suc k) at h) (next k there)
 
     name-here : (at : ℕ) (b : Bool) → bytes_eq s.name name ≡ b → (if b then Some 0 else option_map suc (struct_position name rest)) ≡ Some at →
         (get_or (s ∷ rest) at d).name ≡ name
-    name-here at true here h = subst (λ n. (get_or (s ∷ rest) n d).name ≡ name) (some_of 0 at h) ((bytes_eq-Decides s.name name).0 here)
+    name-here at true here h = subst (λ n. (get_or (s ∷ rest) n d).name ≡ name) (same_some 0 at h) ((bytes_eq-Decides s.name name).0 here)
     name-here at false here h = name-later at (struct_position name rest) refl h
 
   pub found-name : (structs : List CStruct) (at : ℕ) (d : CStruct) → struct_position name structs ≡ Some at → (get_or structs at d).name ≡ name
@@ -230,39 +203,10 @@ module _ (name : Text) where
   before-end structs end at is = there (struct_position name structs) is
     where
       chosen : (k : ℕ) (b : Bool) → nat_lt k end ≡ b → (if b then Some k else None) ≡ Some at → at < end
-      chosen k true less h = let same : k ≡ at = some_of k at h in let below : nat_lt at end ≡ true = ap (λ n. nat_lt n end) (sym same) ∙ less in
+      chosen k true less h = let same : k ≡ at = same_some k at h in let below : nat_lt at end ≡ true = ap (λ n. nat_lt n end) (sym same) ∙ less in
           grind (arith, common_steps)
       chosen k false less h = cc
 
       there : (o : Option ℕ) → if_below end o ≡ Some at → at < end
       there None h = cc
       there (Some k) h = chosen k (nat_lt k end) refl h
-
--- ---- a map of places
-
-place-step : (o : Option ℕ) (here : Bool) (k : ℕ) (later : Option ℕ) →
-    option_or (option_or o (if here then Some k else None)) (option_map (λ j. k + 1 + j) later)
-    ≡ option_or o (option_map (λ j. k + j) (if here then Some 0 else option_map suc later))
-place-step (Some x) here k later = refl
-place-step None true k later = let same : k ≡ k + 0 = omega arith in ap Some same
-place-step None false k None = refl
-place-step None false k (Some j) = let same : k + 1 + j ≡ k + suc j = omega arith in ap Some same
-
--- one more place
-pub places-next : (old new t : Table ℕ) (all rest : List CStruct) (s : CStruct) (k : ℕ) → all ≡ s ∷ rest →
-    ((asked : Text) → new asked ≡ with_entry old s.name k asked) →
-    ((name : Text) → option_or (old name) (option_map (λ j. k + j) (struct_position name all)) ≡ t name) → (name : Text) →
-    option_or (new name) (option_map (λ j. k + 1 + j) (struct_position name rest)) ≡ t name
-places-next old new t all rest s k is add h name =
-    ap (λ o. option_or o (option_map (λ j. k + 1 + j) (struct_position name rest))) (add name)
-    ∙ place-step (old name) (bytes_eq s.name name) k (struct_position name rest)
-    ∙ ap (λ l. option_or (old name) (option_map (λ j. k + j) (struct_position name l))) (sym is) ∙ h name
-
-pub places-first : (o : Option ℕ) → option_map (λ j. 0 + j) o ≡ o
-places-first None = refl
-places-first (Some j) = let same : 0 + j ≡ j = omega arith in ap Some same
-
-pub places-done : (old t : Table ℕ) (rest : List CStruct) (k : ℕ) → rest ≡ [] →
-    ((name : Text) → option_or (old name) (option_map (λ j. k + j) (struct_position name rest)) ≡ t name) → (name : Text) → old name ≡ t name
-places-done old t rest k is h name = sym (nothing_after (old name))
-    ∙ ap (λ l. option_or (old name) (option_map (λ j. k + j) (struct_position name l))) (sym is) ∙ h name

@@ -1,26 +1,5 @@
 -- Structs that are laid out one behind the other.
-use Rattle.std.proofs.Common.{
-  ◌≡◌,
-  ℕ,
-  zero,
-  suc,
-  ◌-◌,
-  ◌≤◌,
-  List,
-  [],
-  ◌∷◌,
-  ◌++◌,
-  length,
-  get_or,
-  take,
-  Some,
-  None,
-  ap,
-  sym,
-  subst,
-  ◌∙◌,
-  arith,
-}
+use Rattle.std.proofs.Common.{◌≡◌, ℕ, zero, suc, ◌-◌, ◌≤◌, List, [], ◌∷◌, ◌++◌, length, get_or, take, Some, None, ap, sym, subst, ◌∙◌, arith}
 use Rattle.std.proofs.Common.{append-nil, length-append}
 use Rattle.std.specs.Prelude.{codes, map, unwrap_or}
 use Rattle.std.proofs.lemmas.List.{append_assoc, map-append, take_all}
@@ -37,7 +16,7 @@ use Rattle.bl_crun_ports.specs.declared.repeat.Span.{Span}
 use Rattle.bl_crun_ports.specs.Layout.{kinds_of}
 use Rattle.bl_crun_ports.specs.inner.Spans.{at_span, kinds_named, kinds_of_member, kinds_of_members, kinds_of_type, placed_before, struct_position}
 use Rattle.bl_crun_ports.specs.inner.Spans.{repeated, StructsLaid, StandsAtSpan}
-use Rattle.bl_crun_ports.proofs.KindLemmas.{before-end, found-name, kinds-at, kinds-member, kinds-next, kinds-none, kinds-same, kinds-whole, placed-before}
+use Rattle.bl_crun_ports.proofs.KindLemmas.{before-end, found-name, kinds-at, kinds-member, kinds-none, kinds-same, kinds-whole, placed-before}
 use Rattle.bl_crun_ports.proofs.SpanLemmas.{laid-more, laid-next, stands-last}
 
 pub laid-grown : (structs : List CStruct) (spans : Table Span) (old new more : List Scalar) → new ≡ old ++ more → StructsLaid structs spans old →
@@ -49,11 +28,6 @@ laid-grown structs spans old new more is h = subst (λ l. StructsLaid structs sp
 member-is : (structs : List CStruct) (m : CMember) (times : ℕ) → times ≡ unwrap_or m.length 1 →
     kinds_of_member structs m ≡ repeated times (kinds_of_type structs m.ty)
 member-is structs m times is = kinds-member structs m ∙ ap (λ n. repeated n (kinds_of_type structs m.ty)) (sym is)
-
-pub member-none : (structs : List CStruct) (m : CMember) (old : List Scalar) (times : ℕ) → times ≡ unwrap_or m.length 1 → times ≡ 0 →
-    old ≡ old ++ kinds_of_member structs m
-member-none structs m old times is none =
-    sym (append-nil old) ∙ ap (λ l. old ++ l) (sym (member-is structs m times is ∙ ap (λ n. repeated n (kinds_of_type structs m.ty)) none))
 
 once-more : (times : ℕ) (part : List Scalar) → 1 ≤ times → part ++ repeated (times - 1) part ≡ repeated times part
 once-more zero part some = absurd (omega (arith, some))
@@ -70,20 +44,6 @@ member-made structs m old one two span times start made len is some told =
     told ∙ ap (λ l. one ++ repeated (times - 1) l) here ∙ ap (λ l. l ++ repeated (times - 1) part) made
     ∙ append_assoc old part (repeated (times - 1) part)
     ∙ ap (λ l. old ++ l) (once-more times part some ∙ sym (member-is structs m times is))
-
--- ---- members
-
-pub members-next : (structs : List CStruct) (all rest : List CMember) (m : CMember) (old new whole : List Scalar) → all ≡ m ∷ rest →
-    new ≡ old ++ kinds_of_member structs m →
-    old ++ kinds_of_members structs all ≡ whole → new ++ kinds_of_members structs rest ≡ whole
-members-next structs all rest m old new whole is told h =
-    ap (λ l. l ++ kinds_of_members structs rest) told ∙ append_assoc old (kinds_of_member structs m) (kinds_of_members structs rest)
-    ∙ ap (λ l. old ++ l) (sym (kinds-next structs m rest)) ∙ ap (λ l. old ++ kinds_of_members structs l) (sym is) ∙ h
-
-pub members-done : (structs : List CStruct) (rest : List CMember) (old whole : List Scalar) → rest ≡ [] →
-    old ++ kinds_of_members structs rest ≡ whole →
-    old ≡ whole
-members-done structs rest old whole is h = sym (append-nil old) ∙ ap (λ l. old ++ kinds_of_members structs l) (sym is) ∙ h
 
 -- ---- a struct
 

@@ -1,27 +1,5 @@
 -- The inputs and outputs of a well-formed file.
-use Rattle.std.proofs.Common.{
-  ◌≡◌,
-  ℕ,
-  zero,
-  suc,
-  ◌+◌,
-  Bool,
-  true,
-  false,
-  ◌&&◌,
-  List,
-  [],
-  ◌∷◌,
-  ◌++◌,
-  map,
-  length,
-  drop,
-  Option,
-  Some,
-  None,
-  refl,
-  ap,
-}
+use Rattle.std.proofs.Common.{◌≡◌, ℕ, zero, suc, ◌+◌, Bool, true, false, ◌&&◌, List, [], ◌∷◌, ◌++◌, map, length, drop, Option, Some, None, refl, ap}
 use Rattle.std.proofs.Common.{sym, subst, ◌∙◌, arith}
 use Rattle.std.specs.Prelude.{⊤, bytes_eq, codes, flat_map, is_none, nat_eq, nat_lt, nat_le, option_map, slice_get, unwrap_or, if◌then◌else◌}
 use Rattle.std.specs.List.{list_all, starts_with}
@@ -31,6 +9,8 @@ use Rattle.std.proofs.lemmas.Str.{IsCharBoundary-after_ascii}
 use Rattle.std.proofs.lemmas.List.{length-append}
 use Rattle.std.proofs.lemmas.List.Elements.{All-nil, All-cons}
 use Rattle.std.proofs.lemmas.Slice.Eq.{bytes_eq-Decides}
+use Rattle.std.proofs.lemmas.Bool.{and_from}
+use Rattle.bl_tree.proofs.Basics.{and_first, and_second, first_empty, get_behind, get_in_front, same_some, second_empty}
 use Rattle.bl_tree.specs.declared.text.Text.{Text}
 use Rattle.bl_tree.specs.declared.scalar.Scalar.{Scalar}
 use Rattle.bl_tree.specs.declared.scalar.Scalar.TheVariants.{Nat}
@@ -46,22 +26,8 @@ use Rattle.bl_ctext_semantics.specs.Cells.{Cell, Inner, cells_at, cells_of, inne
 use Rattle.bl_ctext_semantics.specs.Faults.{distinct_names, declared_before, short_chain, interface_members, WellFormed, all_distinct, are_ports}
 use Rattle.bl_ctext_semantics.specs.Faults.{depth_of_struct, faults_in, faults_in_struct, interface_fits, is_declared, is_pad, is_port, is_scalar}
 use Rattle.bl_ctext_semantics.specs.Faults.{member_table, same_type, struct_faults_after, unless}
-use Rattle.bl_ctext_semantics.proofs.EndLemmas.{nil-left, nil-right}
 use Rattle.bl_crun_ports.specs.Ports.{PortsStand, StandFrom, StructsOfWellFormed, inputs_start, outputs_start}
 use Rattle.bl_crun_ports.specs.inner.Prefixed.{AllPrefixed, Prefixed}
-
-and-left : (a b : Bool) → (a && b) ≡ true → a ≡ true
-and-left true b h = refl
-and-left false b h = cc
-
-and-right : (a b : Bool) → (a && b) ≡ true → b ≡ true
-and-right true b h = h
-and-right false b h = cc
-
-and-both : (a b : Bool) → a ≡ true → b ≡ true → (a && b) ≡ true
-and-both true true h k = refl
-and-both true false h k = k
-and-both false b h k = h
 
 then-is : (b x y : Bool) → b ≡ true → (if b then x else y) ≡ true → x ≡ true
 then-is true x y h is = is
@@ -81,18 +47,18 @@ interfaces-fit : (structs : Table (Table CMember)) (depths : Table ℕ) (list : 
     list_all interface_fits list ≡ true
 interfaces-fit structs depths [] none = refl
 interfaces-fit structs depths (s ∷ rest) none =
-    let here : faults_in_struct structs depths s ≡ [] = nil-left (faults_in_struct structs depths s) _ none in
-    let later = nil-right (faults_in_struct structs depths s) _ none in
-    let h1 = nil-right (unless (is_none (structs s.name)) distinct_names s.place) _ here in
-    let h2 = nil-right (unless (list_all (λ m. is_declared structs m.ty) s.members) declared_before s.place) _ h1 in
-    let h3 = nil-right (unless (all_distinct no_entries (map (λ m. m.name) s.members)) distinct_names s.place) _ h2 in
-    let h4 = nil-right (unless (nat_le (depth_of_struct depths s) 300) short_chain s.place) _ h3 in
-    and-both (interface_fits s) (list_all interface_fits rest) (unless-nil (interface_fits s) interface_members s.place h4)
+    let here : faults_in_struct structs depths s ≡ [] = first_empty (faults_in_struct structs depths s) _ none in
+    let later = second_empty (faults_in_struct structs depths s) _ none in
+    let h1 = second_empty (unless (is_none (structs s.name)) distinct_names s.place) _ here in
+    let h2 = second_empty (unless (list_all (λ m. is_declared structs m.ty) s.members) declared_before s.place) _ h1 in
+    let h3 = second_empty (unless (all_distinct no_entries (map (λ m. m.name) s.members)) distinct_names s.place) _ h2 in
+    let h4 = second_empty (unless (nat_le (depth_of_struct depths s) 300) short_chain s.place) _ h3 in
+    and_from (interface_fits s) (list_all interface_fits rest) (unless-nil (interface_fits s) interface_members s.place h4)
     (interfaces-fit (with_entry structs s.name (member_table s)) (with_entry depths s.name (depth_of_struct depths s)) rest later)
 
 all-fit : (file : Parts) → WellFormed file → list_all interface_fits file.structs ≡ true
 unfolding faults_in
-all-fit file formed = interfaces-fit no_entries no_entries file.structs (nil-left (struct_faults_after no_entries no_entries file.structs) _ formed.none)
+all-fit file formed = interfaces-fit no_entries no_entries file.structs (first_empty (struct_faults_after no_entries no_entries file.structs) _ formed.none)
 
 input-fits : (s : CStruct) → bytes_eq s.name (codes "bl_in") ≡ true → interface_fits s ≡ true → are_ports (codes "i_") s.members ≡ true
 input-fits s is fit = then-is (bytes_eq s.name (codes "bl_in")) _ _ is fit
@@ -119,7 +85,7 @@ module _ (name prefix : Text) (fit : (s : CStruct) → bytes_eq s.name name ≡ 
   ported : (list : List CStruct) → list_all interface_fits list ≡ true → Ported prefix (found name (map (λ s. (s.name, s.members)) list))
   ported [] all = tt
   ported (s ∷ rest) all =
-      ported-here s (found name (map (λ t. (t.name, t.members)) rest)) (and-left (interface_fits s) _ all) (ported rest (and-right (interface_fits s) _ all))
+      ported-here s (found name (map (λ t. (t.name, t.members)) rest)) (and_first (interface_fits s) _ all) (ported rest (and_second (interface_fits s) _ all))
       (bytes_eq s.name name) refl
 
 -- ---- names
@@ -129,34 +95,24 @@ second [] h = cc
 second (a ∷ []) h = absurd (grind (arith, common_steps))
 second (a ∷ b ∷ rest) h = grind (arith, common_steps)
 
-second-output : (name : Text) → starts_with nat_eq name (codes "o_") ≡ true → Prefixed name
-second-output [] h = cc
-second-output (a ∷ []) h = absurd (grind (arith, common_steps))
-second-output (a ∷ b ∷ rest) h = grind (arith, common_steps)
-
 module _ (prefix : Text) (begins : (name : Text) → starts_with nat_eq name prefix ≡ true → Prefixed name) where
   all-prefixed : (ms : List CMember) → list_all (is_port prefix) ms ≡ true → AllPrefixed ms
   all-prefixed [] all = All-nil (λ m. Prefixed m.name)
   all-prefixed (m ∷ ms) all =
       All-cons (λ m. Prefixed m.name) m ms
-      (begins m.name (and-left (starts_with nat_eq m.name prefix) _
-      (and-left (starts_with nat_eq m.name prefix && nat_lt (length prefix) (length m.name)) _ (and-left (is_port prefix m) _ all))))
-      (all-prefixed ms (and-right (is_port prefix m) _ all))
+      (begins m.name (and_first (starts_with nat_eq m.name prefix) _
+      (and_first (starts_with nat_eq m.name prefix && nat_lt (length prefix) (length m.name)) _ (and_first (is_port prefix m) _ all))))
+      (all-prefixed ms (and_second (is_port prefix m) _ all))
 
   ports-prefixed : (o : Option (List CMember)) → Ported prefix o → AllPrefixed (drop 1 (unwrap_or o []))
   ports-prefixed None h = All-nil (λ m. Prefixed m.name)
   ports-prefixed (Some []) h = All-nil (λ m. Prefixed m.name)
-  ports-prefixed (Some (m ∷ ms)) h = all-prefixed ms (and-right (is_pad m) _ h)
+  ports-prefixed (Some (m ∷ ms)) h = all-prefixed ms (and_second (is_pad m) _ h)
 
 pub inputs-prefixed : (structs : List CStruct) → StructsOfWellFormed structs → AllPrefixed (drop 1 (members_of (codes "bl_in") structs))
 inputs-prefixed structs formed =
     ports-prefixed (codes "i_") second (found (codes "bl_in") (map (λ s. (s.name, s.members)) structs))
     (ported (codes "bl_in") (codes "i_") input-fits structs (all-fit (record { structs = structs; funcs = formed.0 }) formed.1))
-
-pub outputs-prefixed : (structs : List CStruct) → StructsOfWellFormed structs → AllPrefixed (drop 1 (members_of (codes "bl_out") structs))
-outputs-prefixed structs formed =
-    ports-prefixed (codes "o_") second-output (found (codes "bl_out") (map (λ s. (s.name, s.members)) structs))
-    (ported (codes "bl_out") (codes "o_") output-fits structs (all-fit (record { structs = structs; funcs = formed.0 }) formed.1))
 
 -- ---- cells
 
@@ -180,20 +136,17 @@ pad-scalar (OfStruct name) h = cc
 
 pad-cell : (known : Table (List Inner)) (m : CMember) → is_pad m ≡ true → OneCell known m
 pad-cell known m h =
-    let rest = and-right (bytes_eq m.name (codes "pad")) _ h in
-    one-cell known m (pad-scalar m.ty (and-left (same_type m.ty (OfScalar (Nat W8))) _ rest)) (and-right (same_type m.ty (OfScalar (Nat W8))) _ rest)
+    let rest = and_second (bytes_eq m.name (codes "pad")) _ h in
+    one-cell known m (pad-scalar m.ty (and_first (same_type m.ty (OfScalar (Nat W8))) _ rest)) (and_second (same_type m.ty (OfScalar (Nat W8))) _ rest)
 
 port-cell : (known : Table (List Inner)) (prefix : Text) (m : CMember) → is_port prefix m ≡ true → OneCell known m
 port-cell known prefix m h =
-    let rest = and-right (starts_with nat_eq m.name prefix && nat_lt (length prefix) (length m.name)) _ h in
-    one-cell known m (and-left (is_scalar m.ty) _ rest) (and-right (is_scalar m.ty) _ rest)
+    let rest = and_second (starts_with nat_eq m.name prefix && nat_lt (length prefix) (length m.name)) _ h in
+    one-cell known m (and_first (is_scalar m.ty) _ rest) (and_second (is_scalar m.ty) _ rest)
 
 -- the cell of a port stands at this index
 abbrev StandsAt : Root → List Cell → ℕ → CMember → Type 0
 StandsAt root cells k m = (kind : Scalar) × ((m.ty ≡ OfScalar kind) × (slice_get cells k ≡ Some (record { location = port root m; kind = kind })))
-
-some_of : {A : Type 0} (a b : A) → Some a ≡ Some b → a ≡ b
-some_of a b h = cc
 
 module _ (root : Root) (known : Table (List Inner)) (prefix : Text) where
   abbrev cells_of_members : List CMember → List Cell
@@ -207,8 +160,8 @@ module _ (root : Root) (known : Table (List Inner)) (prefix : Text) where
       StandsAt root (cells_of_members ms) k m
   ports-stand [] k m all is = cc
   ports-stand (p ∷ ms) zero m all is =
-      let here = port-cell known prefix p (and-left (is_port prefix p) _ all) in
-      let same : p ≡ m = some_of p m is in (
+      let here = port-cell known prefix p (and_first (is_port prefix p) _ all) in
+      let same : p ≡ m = same_some p m is in (
         here.0,
         (
           ap (λ (q : CMember). q.ty) (sym same) ∙ here.1.0,
@@ -217,16 +170,16 @@ module _ (root : Root) (known : Table (List Inner)) (prefix : Text) where
         ),
       )
   ports-stand (p ∷ ms) (suc k) m all is =
-      let here = port-cell known prefix p (and-left (is_port prefix p) _ all) in
-      let later = ports-stand ms k m (and-right (is_port prefix p) _ all) is in
+      let here = port-cell known prefix p (and_first (is_port prefix p) _ all) in
+      let later = ports-stand ms k m (and_second (is_port prefix p) _ all) is in
       (later.0, (later.1.0, ap (λ l. slice_get l (suc k)) (one-more p ms _ here.1.1) ∙ later.1.1))
 
   behind-pad : (ms : List CMember) (k : ℕ) (m : CMember) → are_ports prefix ms ≡ true → slice_get (drop 1 ms) k ≡ Some m →
       StandsAt root (cells_of_members ms) (suc k) m
   behind-pad [] k m all is = cc
   behind-pad (p ∷ ms) k m all is =
-      let here = pad-cell known p (and-left (is_pad p) _ all) in
-      let later = ports-stand ms k m (and-right (is_pad p) _ all) is in
+      let here = pad-cell known p (and_first (is_pad p) _ all) in
+      let later = ports-stand ms k m (and_second (is_pad p) _ all) is in
       (later.0, (later.1.0, ap (λ l. slice_get l (suc k)) (one-more p ms _ here.1.1) ∙ later.1.1))
 
 -- the scalars of a struct, over those of some structs
@@ -258,16 +211,6 @@ object-stands root name prefix structs fit k m is =
         StandsAt root (cells_at root (unwrap_or (option_map (flat_map (inner_of_member before)) o) [])) (suc k) m
     chosen before None fit is = cc
     chosen before (Some ms) fit is = behind-pad root before prefix ms k m fit is
-
-get-behind : {A : Type 0} (xs ys : List A) (k : ℕ) → slice_get (xs ++ ys) (length xs + k) ≡ slice_get ys k
-get-behind [] ys k = let same : 0 + k ≡ k = omega arith in ap (slice_get ys) same
-get-behind (x ∷ xs) ys k = let same : suc (length xs) + k ≡ suc (length xs + k) = omega arith in
-    ap (slice_get (x ∷ (xs ++ ys))) same ∙ get-behind xs ys k
-
-get-front : {A : Type 0} (xs ys : List A) (k : ℕ) (a : A) → slice_get xs k ≡ Some a → slice_get (xs ++ ys) k ≡ Some a
-get-front [] ys k a is = cc
-get-front (x ∷ xs) ys zero a is = is
-get-front (x ∷ xs) ys (suc k) a is = get-front xs ys k a is
 
 cells-long : (root : Root) (cells : List Inner) → length (cells_at root cells) ≡ length cells
 cells-long root [] = refl
@@ -301,7 +244,7 @@ module _ (file : Parts) (formed : WellFormed file) where
         (
           here.1.0,
           ap (slice_get (state ++ input ++ output)) (sym (index (inputs_start file.structs) (length state) k (sym state-long)))
-              ∙ get-front (state ++ input) output (length state + suc k) _ (get-behind state input (suc k) ∙ here.1.1),
+              ∙ get_in_front (state ++ input) output (length state + suc k) _ (get_behind state input (suc k) ∙ here.1.1),
         ),
       )
 
@@ -314,7 +257,7 @@ module _ (file : Parts) (formed : WellFormed file) where
         (
           here.1.0,
           ap (slice_get (state ++ input ++ output)) (sym (index (outputs_start file.structs) (length (state ++ input)) k both-long))
-              ∙ get-behind (state ++ input) output (suc k) ∙ here.1.1,
+              ∙ get_behind (state ++ input) output (suc k) ∙ here.1.1,
         ),
       )
 

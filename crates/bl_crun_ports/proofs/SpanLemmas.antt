@@ -1,39 +1,18 @@
 -- Parts of a list that grows.
-use Rattle.std.proofs.Common.{
-  ◌≡◌,
-  ℕ,
-  suc,
-  ◌+◌,
-  ◌≤◌,
-  Bool,
-  true,
-  false,
-  List,
-  ◌++◌,
-  length,
-  take,
-  drop,
-  Option,
-  Some,
-  None,
-  refl,
-  ap,
-  sym,
-  subst,
-  ◌∙◌,
-}
+use Rattle.std.proofs.Common.{◌≡◌, ℕ, suc, ◌+◌, ◌≤◌, Bool, true, false, List, ◌++◌, length, take, drop, Option, Some, None, refl, ap, sym, subst, ◌∙◌}
 use Rattle.std.proofs.Common.{arith, length-append}
 use Rattle.std.specs.Prelude.{bytes_eq, if◌then◌else◌}
 use Rattle.std.specs.Option.{option_or}
 use Rattle.std.proofs.lemmas.Slice.Eq.{bytes_eq-Decides}
 use Rattle.std.proofs.lemmas.List.{append_assoc, drop_at, drop-append-le, length-drop, take-append-le, take_all}
+use Rattle.bl_tree.proofs.Basics.{same_some}
 use Rattle.bl_tree.specs.declared.text.Text.{Text}
 use Rattle.bl_tree.specs.declared.scalar.Scalar.{Scalar}
 use Rattle.bl_tree.specs.declared.c.CStruct.{CStruct}
 use Rattle.bl_ctext_semantics.specs.Tables.{Table, with_entry}
 use Rattle.bl_crun_ports.specs.declared.repeat.Span.{Span}
 use Rattle.bl_crun_ports.specs.inner.Spans.{at_span, kinds_named, repeated, StructsLaid, StandsAtSpan}
-use Rattle.bl_crun_ports.proofs.KindLemmas.{some_of, repeated-last}
+use Rattle.bl_crun_ports.proofs.KindLemmas.{repeated-last}
 
 -- a part stays where it is when the list grows
 pub part-stays : (kinds more : List Scalar) (span : Span) → span.start + span.len ≤ length kinds → at_span span (kinds ++ more) ≡ at_span span kinds
@@ -71,14 +50,14 @@ laid-next structs spans new name span kinds add here h = record { each = λ aske
     fresh : (asked : Text) (found : Span) (b : Bool) → bytes_eq name asked ≡ b → (if b then Some span else None) ≡ Some found →
         StandsAtSpan kinds found (kinds_named structs asked)
     fresh asked found true same is =
-        subst (λ s. StandsAtSpan kinds s (kinds_named structs asked)) (some_of span found is)
+        subst (λ s. StandsAtSpan kinds s (kinds_named structs asked)) (same_some span found is)
         (subst (λ n. StandsAtSpan kinds span (kinds_named structs n)) ((bytes_eq-Decides name asked).0 same) here)
     fresh asked found false same is = cc
 
     chosen : (asked : Text) (found : Span) (o : Option Span) → spans asked ≡ o →
         option_or o (if bytes_eq name asked then Some span else None) ≡ Some found →
         StandsAtSpan kinds found (kinds_named structs asked)
-    chosen asked found (Some old) there is = subst (λ s. StandsAtSpan kinds s (kinds_named structs asked)) (some_of old found is) (h.each asked old there)
+    chosen asked found (Some old) there is = subst (λ s. StandsAtSpan kinds s (kinds_named structs asked)) (same_some old found is) (h.each asked old there)
     chosen asked found None there is = fresh asked found (bytes_eq name asked) refl is
 
 -- one more time

@@ -3,30 +3,10 @@ use Rattle.std.specs.Prelude.{not}
 use Rattle.std.proofs.Common.{◌≡◌, ◌⊎◌, ℕ, ◌==◌, Bool, true, false, ◌&&◌, ◌||◌, refl, inl, inr, arith}
 use Rattle.std.proofs.Math.Bool.{and-false}
 use Rattle.std.proofs.lemmas.Bool.Decides.{nat_tests}
+use Rattle.std.proofs.lemmas.Bool.{false_from_ne_true, not-true}
+use Rattle.bl_tree.proofs.Basics.{neither_first, neither_second}
 use Rattle.bl_ctext.specs.Token.{is_blank, is_word_byte, is_sign_byte}
 use Rattle.bl_ctext.specs.inner.Cut.{joins, may_follow}
-
-pub and-fst : (a b : Bool) → (a && b) ≡ true → a ≡ true
-and-fst true b h = refl
-and-fst false b h = h
-
-pub and-snd : (a b : Bool) → (a && b) ≡ true → b ≡ true
-and-snd true b h = h
-and-snd false b h = cc
-
-pub both : (a b : Bool) → a ≡ true → b ≡ true → (a && b) ≡ true
-both a b h k = rw (h, k)
-
-pub either : (a b : Bool) → (a || b) ≡ true → (a ≡ true) ⊎ (b ≡ true)
-either true b h = inl refl
-either false b h = inr h
-
-pub or-fst : (a b : Bool) → a ≡ true → (a || b) ≡ true
-or-fst a b h = rw h
-
-pub or-snd : (a b : Bool) → b ≡ true → (a || b) ≡ true
-or-snd true b h = refl
-or-snd false b h = h
 
 blank_is : (b : ℕ) → is_blank b ≡ true → (b ≡ 32) ⊎ (b ≡ 10)
 blank_is b h = grind (arith, nat_tests)
@@ -44,14 +24,10 @@ joins-blank a b h = elim (blank_is b h) [ inl e ↦ rw e (before_space a) | inr 
 pub blank-joins : (a b : ℕ) → is_blank a ≡ true → joins a b ≡ false
 blank-joins a b h = elim (blank_is a h) [ inl e ↦ rw e refl | inr e ↦ rw e refl ]
 
-not_true : (b : Bool) → (b ≡ true → ⊥) → b ≡ false
-not_true true h = absurd (h refl)
-not_true false h = refl
-
 pub joined-not_blank : (a b : ℕ) → joins a b ≡ true → (is_blank a ≡ false) × (is_blank b ≡ false)
 joined-not_blank a b h = (
-  not_true (is_blank a) (λ (k : is_blank a ≡ true). let e = blank-joins a b k in cc),
-  not_true (is_blank b) (λ (k : is_blank b ≡ true). let e = joins-blank a b k in cc),
+  false_from_ne_true (is_blank a) (λ (k : is_blank a ≡ true). let e = blank-joins a b k in cc),
+  false_from_ne_true (is_blank b) (λ (k : is_blank b ≡ true). let e = joins-blank a b k in cc),
 )
 
 no_word : (a : ℕ) → is_blank a ≡ true → is_word_byte a ≡ false
@@ -61,22 +37,10 @@ no_sign : (a : ℕ) → is_blank a ≡ true → is_sign_byte a ≡ false
 no_sign a h = elim (blank_is a h) [ inl e ↦ rw e refl | inr e ↦ rw e refl ]
 
 pub word_byte-not_blank : (a : ℕ) → is_word_byte a ≡ true → is_blank a ≡ false
-word_byte-not_blank a h = not_true (is_blank a) (λ (k : is_blank a ≡ true). let e = no_word a k in cc)
+word_byte-not_blank a h = false_from_ne_true (is_blank a) (λ (k : is_blank a ≡ true). let e = no_word a k in cc)
 
 pub sign_byte-not_blank : (a : ℕ) → is_sign_byte a ≡ true → is_blank a ≡ false
-sign_byte-not_blank a h = not_true (is_blank a) (λ (k : is_blank a ≡ true). let e = no_sign a k in cc)
-
-negated : (b : Bool) → not b ≡ true → b ≡ false
-negated true h = cc
-negated false h = refl
-
-or-false-fst : (a b : Bool) → (a || b) ≡ false → a ≡ false
-or-false-fst true b h = h
-or-false-fst false b h = refl
-
-or-false-snd : (a b : Bool) → (a || b) ≡ false → b ≡ false
-or-false-snd true b h = cc
-or-false-snd false b h = h
+sign_byte-not_blank a h = false_from_ne_true (is_blank a) (λ (k : is_blank a ≡ true). let e = no_sign a k in cc)
 
 -- neither a word nor a double sign, where its second byte is of none
 neither : (a b c d w e m o : Bool) → w ≡ false → e ≡ false → m ≡ false → o ≡ false →
@@ -86,12 +50,12 @@ neither a b c d w e m o h i j k = rw (h, i, j, k) (simp and-false)
 -- what may stand behind no byte in a token goes on none
 pub follows-none : (a b : ℕ) → not (may_follow b) ≡ true → joins a b ≡ false
 follows-none a b h =
-    let none : may_follow b ≡ false = negated (may_follow b) h in
-    let no_word : is_word_byte b ≡ false = or-false-fst (is_word_byte b) _ none in
-    let no_sign : (b == 61 || (b == 38 || b == 124)) ≡ false = or-false-snd (is_word_byte b) _ none in
-    let no_pair : (b == 38 || b == 124) ≡ false = or-false-snd (b == 61) _ no_sign in
+    let none : may_follow b ≡ false = not-true (may_follow b) h in
+    let no_word : is_word_byte b ≡ false = neither_first (is_word_byte b) _ none in
+    let no_sign : (b == 61 || (b == 38 || b == 124)) ≡ false = neither_second (is_word_byte b) _ none in
+    let no_pair : (b == 38 || b == 124) ≡ false = neither_second (b == 61) _ no_sign in
     neither (is_word_byte a) (a == 61 || a == 33 || a == 60 || a == 62) (a == 38) (a == 124) (is_word_byte b) (b == 61) (b == 38) (b == 124)
     no_word
-    (or-false-fst (b == 61) _ no_sign)
-    (or-false-fst (b == 38) _ no_pair)
-    (or-false-snd (b == 38) _ no_pair)
+    (neither_first (b == 61) _ no_sign)
+    (neither_first (b == 38) _ no_pair)
+    (neither_second (b == 38) _ no_pair)

@@ -1,33 +1,14 @@
 -- What becomes of the tokens where bytes are put together.
-use Rattle.std.proofs.Common.{
-  ◌≡◌,
-  ℕ,
-  zero,
-  suc,
-  ◌-◌,
-  Bool,
-  true,
-  false,
-  List,
-  [],
-  ◌∷◌,
-  ◌++◌,
-  length,
-  map,
-  drop,
-  Some,
-  None,
-  refl,
-  append-nil,
-  ◌∙◌,
-}
+use Rattle.std.proofs.Common.{◌≡◌, ℕ, zero, suc, ◌-◌, Bool, true, false, List, [], ◌∷◌, ◌++◌, length, map, drop, Some, None, refl, ◌∙◌}
 use Rattle.std.proofs.Common.{ap, inl, inr}
 use Rattle.std.specs.Prelude.{slice_get}
 use native.Mathlib.Numerals.{unary_clauses}
+use Rattle.std.proofs.lemmas.Bool.{and_from, or_left, or_right}
+use Rattle.bl_tree.proofs.Basics.{and_first, and_second, either_of}
 use Rattle.bl_tree.specs.Reduce.{all_of}
 use Rattle.bl_ctext.specs.Token.{Token, is_blank, is_word_byte, is_word, is_sign, is_token}
 use Rattle.bl_ctext.specs.inner.Cut.{joins, may_continue, cut_before, tokens_in, may_merge, begins_apart}
-use Rattle.bl_ctext.proofs.Bytes.{follows-none, joined-not_blank, joins-blank, word_byte-not_blank, sign_byte-not_blank, and-fst, and-snd, both, either, or-fst, or-snd}
+use Rattle.bl_ctext.proofs.Bytes.{follows-none, joined-not_blank, joins-blank, word_byte-not_blank, sign_byte-not_blank}
 
 -- whether the last byte of the first and the first of the second join
 pub meets-last : (xs ys : List ℕ) (a b : ℕ) → slice_get xs (length xs - 1) ≡ Some a → slice_get ys 0 ≡ Some b → may_merge xs ys ≡ joins a b
@@ -35,11 +16,6 @@ meets-last [] ys a b h k = cc
 meets-last (x ∷ []) [] a b h k = cc
 meets-last (x ∷ []) (y ∷ ys) a b h k = let e : x ≡ a = cc in let f : y ≡ b = cc in rw (e, f) refl
 meets-last (x ∷ z ∷ xs) ys a b h k = meets-last (z ∷ xs) ys a b (simp unary_clauses (simp unary_clauses at h)) k
-
-pub meets-nothing_before : (xs ys : List ℕ) → slice_get xs (length xs - 1) ≡ None → may_merge xs ys ≡ false
-meets-nothing_before [] ys h = refl
-meets-nothing_before (x ∷ []) ys h = cc
-meets-nothing_before (x ∷ z ∷ xs) ys h = meets-nothing_before (z ∷ xs) ys (simp unary_clauses (simp unary_clauses at h))
 
 pub meets-nothing_behind : (xs ys : List ℕ) → slice_get ys 0 ≡ None → may_merge xs ys ≡ false
 meets-nothing_behind [] ys h = refl
@@ -101,7 +77,7 @@ continued false true b ts us h =
     let (more, e) = rest in
     rw e refl
 
--- where the last byte and the next don't join, the tokens of both together are those of the one and those of the other
+-- where the last byte and the next don't join, the tokens of and_from together are those of the one and those of the other
 pub tokens_in-append : (xs ys : List ℕ) → may_merge xs ys ≡ false → tokens_in (xs ++ ys) ≡ tokens_in xs ++ tokens_in ys
 tokens_in-append [] ys h = refl
 tokens_in-append (b ∷ []) ys h = rw h (apart (is_blank b) b (tokens_in ys))
@@ -109,32 +85,28 @@ tokens_in-append (b ∷ c ∷ xs) ys h =
     ap (λ (ts : List Token). cut_before (is_blank b) (joins b c) b ts) (tokens_in-append (c ∷ xs) ys h)
     ∙ continued (is_blank b) (joins b c) b (tokens_in (c ∷ xs)) (tokens_in ys) (λ (j : joins b c ≡ true). first_token c xs (joined-not_blank b c j).1)
 
--- a blank behind the bytes adds no token
-pub tokens_in-space : (xs : List ℕ) → tokens_in (xs ++ 32 ∷ []) ≡ tokens_in xs
-tokens_in-space xs = tokens_in-append xs (32 ∷ []) (before_a_space xs) ∙ append-nil (tokens_in xs)
-
 -- a word is one token of its bytes, and so is a sign
 word_bytes : (b : ℕ) (bs : List ℕ) → is_word_byte b ≡ true → all_of (map is_word_byte bs) ≡ true → tokens_in (b ∷ bs) ≡ (b ∷ bs) ∷ []
 word_bytes b [] h k = rw (word_byte-not_blank b h) refl
 word_bytes b (c ∷ cs) h k =
-    let first : is_word_byte c ≡ true = and-fst _ _ k in
-    let on : joins b c ≡ true = or-fst _ _ (both _ _ h first) in
-    let rest : tokens_in (c ∷ cs) ≡ (c ∷ cs) ∷ [] = word_bytes c cs first (and-snd _ _ k) in
+    let first : is_word_byte c ≡ true = and_first _ _ k in
+    let on : joins b c ≡ true = or_left _ _ (and_from _ _ h first) in
+    let rest : tokens_in (c ∷ cs) ≡ (c ∷ cs) ∷ [] = word_bytes c cs first (and_second _ _ k) in
     let none : is_blank b ≡ false = word_byte-not_blank b h in
     ap (λ (ts : List Token). cut_before (is_blank b) (joins b c) b ts) rest ∙ rw (none, on) refl
 
 tokens_in-word : (t : Token) → is_word t ≡ true → tokens_in t ≡ t ∷ []
 tokens_in-word [] h = cc
-tokens_in-word (b ∷ bs) h = word_bytes b bs (and-fst _ _ h) (and-snd _ _ h)
+tokens_in-word (b ∷ bs) h = word_bytes b bs (and_first _ _ h) (and_second _ _ h)
 
 tokens_in-sign : (t : Token) → is_sign t ≡ true → tokens_in t ≡ t ∷ []
 tokens_in-sign [] h = cc
 tokens_in-sign (a ∷ []) h = rw (sign_byte-not_blank a h) refl
 tokens_in-sign (a ∷ b ∷ []) h =
-    let on : joins a b ≡ true = or-snd _ _ h in
+    let on : joins a b ≡ true = or_right _ _ h in
     let none : (is_blank a ≡ false) × (is_blank b ≡ false) = joined-not_blank a b on in
     rw (none.0, on, none.1) refl
 tokens_in-sign (a ∷ b ∷ c ∷ more) h = cc
 
 pub tokens_in-token : (t : Token) → is_token t ≡ true → tokens_in t ≡ t ∷ []
-tokens_in-token t h = elim (either (is_word t) (is_sign t) h) [ inl word ↦ tokens_in-word t word | inr sign ↦ tokens_in-sign t sign ]
+tokens_in-token t h = elim (either_of (is_word t) (is_sign t) h) [ inl word ↦ tokens_in-word t word | inr sign ↦ tokens_in-sign t sign ]

@@ -1,30 +1,9 @@
 -- An expression that has a spelling closes each bracket that it opens, and opens at once no more than its depth.
-use Rattle.std.proofs.Common.{
-  ◌≡◌,
-  ℕ,
-  suc,
-  ◌+◌,
-  ◌*◌,
-  ◌^◌,
-  ◌≤◌,
-  ◌<◌,
-  max,
-  cond,
-  ℤ,
-  pos,
-  negsuc,
-  Bool,
-  true,
-  false,
-  ◌&&◌,
-  ◌==◌,
-  nat_lt,
-  nat_le,
-  List,
-}
+use Rattle.std.proofs.Common.{◌≡◌, ℕ, suc, ◌+◌, ◌*◌, ◌^◌, ◌≤◌, ◌<◌, max, cond, ℤ, pos, negsuc, Bool, true, false, ◌&&◌, ◌==◌, nat_lt, nat_le, List}
 use Rattle.std.proofs.Common.{[], ◌∷◌, ◌++◌, map, Option, Some, None, refl, subst, arith, codes}
 use Rattle.std.proofs.lemmas.Bool.Decides.{nat_tests}
 use Rattle.std.specs.Fmt.{decimal}
+use Rattle.bl_tree.proofs.Basics.{and_first, and_second}
 use Rattle.bl_tree.specs.declared.place.Place.{Place as TextPlace}
 use Rattle.bl_tree.specs.declared.scalar.Width.{Width}
 use Rattle.bl_tree.specs.declared.scalar.Width.TheVariants.{W8, W16, W32, W64}
@@ -50,7 +29,6 @@ use Rattle.bl_ctext.specs.Spellable.{spells_call, spells_arg}
 use Rattle.bl_ctext.specs.inner.Depths.{expr_depth, kind_depth, place_depth, step_depth, index_depth, call_depth, arg_depth}
 use Rattle.bl_ctext.proofs.Nesting.{is_bracket, Closes, Nests, EachNests, closes-nil, closes-open, closes-close, closes-plain, closes-append}
 use Rattle.bl_ctext.proofs.Nesting.{nests-append, nests-more, nests-joined, nests-with_commas}
-use Rattle.bl_ctext.proofs.Bytes.{and-fst, and-snd}
 use Rattle.bl_ctext.proofs.PlainWords.{name-plain, callee-plain, decimal-plain}
 
 -- every part of a list, where each is shown with it
@@ -61,12 +39,12 @@ each_shown depth tokens spells [] d le h = tt
 each_shown depth tokens spells (x ∷ xs) d le h =
     let here : depth x.0 ≤ d = omega arith in
     let rest : greatest (map depth (map (λ e. e.0) xs)) ≤ d = omega arith in
-    (nests-more (depth x.0) d (tokens x.0) here (x.1 (and-fst _ _ h)), each_shown depth tokens spells xs d rest (and-snd _ _ h))
+    (nests-more (depth x.0) d (tokens x.0) here (x.1 (and_first _ _ h)), each_shown depth tokens spells xs d rest (and_second _ _ h))
 
-below : (n m : ℕ) → nat_lt n m ≡ true → m ≤ 2 ^ 64 → n < 2 ^ 64
+pub below : (n m : ℕ) → nat_lt n m ≡ true → m ≤ 2 ^ 64 → n < 2 ^ 64
 below n m h le = grind (arith, nat_tests)
 
-negatives-le : (w : Width) → 2 * negatives w ≤ 2 ^ 64
+pub negatives-le : (w : Width) → 2 * negatives w ≤ 2 ^ 64
 negatives-le W8 = omega arith
 negatives-le W16 = omega arith
 negatives-le W32 = omega arith
@@ -77,13 +55,13 @@ constant-nests d word n le plain h =
     closes-plain 0 d word _ plain (omega arith) (closes-open 0 d _ _ refl (omega arith)
     (closes-plain 1 d (decimal n) _ (decimal-plain n h) le (closes-close 0 d _ _ refl refl le (closes-nil d))))
 
-int_word-plain : (w : Width) → is_bracket (constant_word (codes "INT") w) ≡ false
+pub int_word-plain : (w : Width) → is_bracket (constant_word (codes "INT") w) ≡ false
 int_word-plain W8 = refl
 int_word-plain W16 = refl
 int_word-plain W32 = refl
 int_word-plain W64 = refl
 
-nat_word-plain : (w : Width) → is_bracket (constant_word (codes "UINT") w) ≡ false
+pub nat_word-plain : (w : Width) → is_bracket (constant_word (codes "UINT") w) ≡ false
 nat_word-plain W8 = refl
 nat_word-plain W16 = refl
 nat_word-plain W32 = refl
@@ -165,7 +143,7 @@ root-nests d false name le plain = closes-plain 0 d name _ plain (omega arith) (
 index_behind : (d : ℕ) (ts : List Token) (n : ℕ) → is_length n ≡ true → Nests d ts →
     Closes 2 (d + 2) (ts ++ (codes "," ∷ decimal n ∷ codes ")" ∷ codes "]" ∷ []))
 index_behind d ts n h i =
-    let most : nat_le n 65536 ≡ true = and-snd (nat_le 1 n) (nat_le n 65536) h in
+    let most : nat_le n 65536 ≡ true = and_second (nat_le 1 n) (nat_le n 65536) h in
     let small : n ≤ 65536 = grind (arith, nat_tests) in
     closes-append 2 (d + 2) d ts _ i (omega arith) (closes-plain 2 (d + 2) _ _ refl (omega arith)
     (closes-plain 2 (d + 2) (decimal n) _ (decimal-plain n (omega arith)) (omega arith)
@@ -245,9 +223,9 @@ by_kind (CExprKind-F.Call c) h = rw (fold-roll-CExprKind, fold-roll-CExprKind) (
 by_kind (CExprKind-F.Not e) h = rw (fold-roll-CExprKind, fold-roll-CExprKind) (not-nests (expr_depth e.0) (expr_tokens e.0) (e.1 (rw fold-roll-CExprKind at h)))
 by_kind (CExprKind-F.Two o a b) h =
     let whole : (is_c_operator o && (spells_expr a.0 && spells_expr b.0)) ≡ true = rw fold-roll-CExprKind at h in
-    let parts : (spells_expr a.0 && spells_expr b.0) ≡ true = and-snd (is_c_operator o) (spells_expr a.0 && spells_expr b.0) whole in
-    let left : spells_expr a.0 ≡ true = and-fst (spells_expr a.0) (spells_expr b.0) parts in
-    let right : spells_expr b.0 ≡ true = and-snd (spells_expr a.0) (spells_expr b.0) parts in
+    let parts : (spells_expr a.0 && spells_expr b.0) ≡ true = and_second (is_c_operator o) (spells_expr a.0 && spells_expr b.0) whole in
+    let left : spells_expr a.0 ≡ true = and_first (spells_expr a.0) (spells_expr b.0) parts in
+    let right : spells_expr b.0 ≡ true = and_second (spells_expr a.0) (spells_expr b.0) parts in
     rw (fold-roll-CExprKind, fold-roll-CExprKind)
     (two-nests (expr_depth a.0) (expr_depth b.0) (expr_tokens a.0) (expr_tokens b.0) (operator_sign o) (sign-plain o) (a.1 left) (b.1 right))
 
@@ -255,13 +233,13 @@ by_call : (name : List ℕ) (args : List Arg) → OfCall (roll-CCall (record { n
 by_call name args h =
     let whole : (is_callee name && all_of (map spells_arg (map (λ e. e.0) args))) ≡ true = rw fold-roll-CCall at h in
     rw (fold-roll-CCall, fold-roll-CCall)
-    (call-nests (greatest (map arg_depth (map (λ e. e.0) args))) name _ (callee-plain name (and-fst _ _ whole))
-    (each_shown arg_depth arg_tokens spells_arg args _ (omega arith) (and-snd _ _ whole)))
+    (call-nests (greatest (map arg_depth (map (λ e. e.0) args))) name _ (callee-plain name (and_first _ _ whole))
+    (each_shown arg_depth arg_tokens spells_arg args _ (omega arith) (and_second _ _ whole)))
 
 by_index : (signed : Bool) (at : Expr) (n : ℕ) → OfIndex (roll-CIndex (record { signed = signed; at = at.0; length = n }))
 by_index signed at n h =
     let whole : (spells_expr at.0 && is_length n) ≡ true = rw fold-roll-CIndex at h in
-    rw (fold-roll-CIndex, fold-roll-CIndex) (index-nests (expr_depth at.0) signed (expr_tokens at.0) n (and-snd _ _ whole) (at.1 (and-fst _ _ whole)))
+    rw (fold-roll-CIndex, fold-roll-CIndex) (index-nests (expr_depth at.0) signed (expr_tokens at.0) n (and_second _ _ whole) (at.1 (and_first _ _ whole)))
 
 by_place : (through : Bool) (name : List ℕ) (steps : List Step) →
     OfPlace (roll-CPlace (record { through = through; name = name; steps = map (λ e. e.0) steps }))
@@ -270,19 +248,19 @@ by_place through name steps h =
     let d : ℕ = max 1 (greatest (map step_depth (map (λ e. e.0) steps))) in
     rw (fold-roll-CPlace, fold-roll-CPlace)
     (nests-append d (root_tokens through name) (joined (map step_tokens (map (λ e. e.0) steps)))
-    (root-nests d through name (omega arith) (name-plain name (and-fst _ _ whole)))
-    (nests-joined d _ (each_shown step_depth step_tokens spells_step steps d (omega arith) (and-snd _ _ whole))))
+    (root-nests d through name (omega arith) (name-plain name (and_first _ _ whole)))
+    (nests-joined d _ (each_shown step_depth step_tokens spells_step steps d (omega arith) (and_second _ _ whole))))
 
 by_step : (member : List ℕ) (index : Option Index) → OfStep (roll-CStep (plain_step (record { member = member; index = index })))
 by_step member None h =
     let whole : (is_name member && true) ≡ true = rw fold-roll-CStep at h in
     rw (fold-roll-CStep, fold-roll-CStep)
-    (closes-plain 0 0 _ _ refl (omega arith) (closes-plain 0 0 member _ (name-plain member (and-fst _ _ whole)) (omega arith) (closes-nil 0)))
+    (closes-plain 0 0 _ _ refl (omega arith) (closes-plain 0 0 member _ (name-plain member (and_first _ _ whole)) (omega arith) (closes-nil 0)))
 by_step member (Some i) h =
     let whole : (is_name member && spells_index i.0) ≡ true = rw fold-roll-CStep at h in
     let d : ℕ = index_depth i.0 in
     rw (fold-roll-CStep, fold-roll-CStep)
-    (closes-plain 0 d _ _ refl (omega arith) (closes-plain 0 d member _ (name-plain member (and-fst _ _ whole)) (omega arith) (i.1 (and-snd _ _ whole))))
+    (closes-plain 0 d _ _ refl (omega arith) (closes-plain 0 d member _ (name-plain member (and_first _ _ whole)) (omega arith) (i.1 (and_second _ _ whole))))
 
 by_expr : (place : TextPlace) (what : Kind) → OfExpr (roll-CExpr (record { place = place; what = what.0 }))
 by_expr place what h = rw (fold-roll-CExpr, fold-roll-CExpr) (what.1 (rw fold-roll-CExpr at h))

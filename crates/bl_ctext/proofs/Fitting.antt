@@ -1,27 +1,8 @@
 -- What fits a depth, by what it is made of.
-use Rattle.std.proofs.Common.{
-  ◌≡◌,
-  ℕ,
-  ◌+◌,
-  ◌≤◌,
-  ℤ,
-  Bool,
-  true,
-  ◌&&◌,
-  nat_le,
-  List,
-  [],
-  ◌∷◌,
-  ◌++◌,
-  map,
-  Some,
-  None,
-  refl,
-  subst,
-  arith,
-}
+use Rattle.std.proofs.Common.{◌≡◌, ℕ, ◌+◌, ◌≤◌, ℤ, Bool, true, ◌&&◌, nat_le, List, [], ◌∷◌, ◌++◌, map, Some, None, refl, subst, arith}
 use Rattle.std.proofs.lemmas.Bool.Decides.{nat_tests}
 use Rattle.std.specs.List.{list_all}
+use Rattle.bl_tree.proofs.Basics.{all_of_each, and_first, and_second}
 use Rattle.bl_tree.specs.declared.place.Place.{Place}
 use Rattle.bl_tree.specs.declared.scalar.Scalar.{Scalar}
 use Rattle.bl_tree.specs.declared.scalar.Op.{Op}
@@ -46,35 +27,29 @@ use Rattle.bl_ctext.specs.Spellable.{is_literal, is_c_operator, has_any, is_spel
 use Rattle.bl_ctext.specs.Spellable.{spells_arg, spells_stmt, spells_param, spells_local, spells_returned, spells_func, spells_struct, spells_member}
 use Rattle.bl_ctext.specs.inner.Depths.{expr_depth, place_depth, step_depth, call_depth, arg_depth, stmt_depth, func_depth}
 use Rattle.bl_ctext.specs.inner.Fits.{step_fits, place_fits, expr_fits, arg_fits, call_fits, stmt_fits, stmts_fit, func_fits}
-use Rattle.bl_ctext.proofs.Bytes.{and-fst, and-snd}
 use Rattle.bl_ctext.proofs.TextNesting.{spellable-by}
 
 -- a test and a bound, from the two and back
-joined_fits : (spells : Bool) (n d : ℕ) → spells ≡ true → n ≤ d → (spells && nat_le n d) ≡ true
+pub joined_fits : (spells : Bool) (n d : ℕ) → spells ≡ true → n ≤ d → (spells && nat_le n d) ≡ true
 joined_fits spells n d h le = let test : nat_le n d ≡ true = grind (arith, nat_tests) in rw (h, test) refl
 
-bound : (spells : Bool) (n d : ℕ) → (spells && nat_le n d) ≡ true → n ≤ d
-bound spells n d h = let test : nat_le n d ≡ true = and-snd spells (nat_le n d) h in grind (arith, nat_tests)
+pub bound : (spells : Bool) (n d : ℕ) → (spells && nat_le n d) ≡ true → n ≤ d
+bound spells n d h = let test : nat_le n d ≡ true = and_second spells (nat_le n d) h in grind (arith, nat_tests)
 
 list-spells : {A : Type 0} (spells : A → Bool) (depth : A → ℕ) (d : ℕ) (xs : List A) → list_all (λ x. spells x && nat_le (depth x) d) xs ≡ true →
     all_of (map spells xs) ≡ true
 list-spells spells depth d [] h = refl
 list-spells spells depth d (x ∷ xs) h =
-    let here : (spells x && nat_le (depth x) d) ≡ true = and-fst _ (list_all (λ x. spells x && nat_le (depth x) d) xs) h in
-    rw (and-fst (spells x) (nat_le (depth x) d) here) (list-spells spells depth d xs (and-snd (spells x && nat_le (depth x) d) _ h))
+    let here : (spells x && nat_le (depth x) d) ≡ true = and_first _ (list_all (λ x. spells x && nat_le (depth x) d) xs) h in
+    rw (and_first (spells x) (nat_le (depth x) d) here) (list-spells spells depth d xs (and_second (spells x && nat_le (depth x) d) _ h))
 
 list-depth : {A : Type 0} (spells : A → Bool) (depth : A → ℕ) (d : ℕ) (xs : List A) → list_all (λ x. spells x && nat_le (depth x) d) xs ≡ true →
     greatest (map depth xs) ≤ d
 list-depth spells depth d [] h = omega arith
 list-depth spells depth d (x ∷ xs) h =
-    let here : depth x ≤ d = bound (spells x) (depth x) d (and-fst _ (list_all (λ x. spells x && nat_le (depth x) d) xs) h) in
-    let rest : greatest (map depth xs) ≤ d = list-depth spells depth d xs (and-snd (spells x && nat_le (depth x) d) _ h) in
+    let here : depth x ≤ d = bound (spells x) (depth x) d (and_first _ (list_all (λ x. spells x && nat_le (depth x) d) xs) h) in
+    let rest : greatest (map depth xs) ≤ d = list-depth spells depth d xs (and_second (spells x && nat_le (depth x) d) _ h) in
     omega arith
-
--- one more element
-pub list_all-push : {A : Type 0} (p : A → Bool) (xs : List A) (x : A) → list_all p xs ≡ true → p x ≡ true → list_all p (xs ++ x ∷ []) ≡ true
-list_all-push p [] x h i = rw i refl
-list_all-push p (y ∷ xs) x h i = rw (and-fst (p y) (list_all p xs) h) (list_all-push p xs x (and-snd (p y) (list_all p xs) h) i)
 
 pub step-fits : (d : ℕ) (name : List ℕ) → is_name name ≡ true → step_fits d (roll-CStep (record { member = name; index = None })) ≡ true
 unfolding step_fits
@@ -97,21 +72,21 @@ place-fits d through name steps le h i =
 -- what fits a depth fits a greater one
 pub place_fits-more : (d e : ℕ) (at : CPlace) → d ≤ e → place_fits d at ≡ true → place_fits e at ≡ true
 unfolding place_fits
-place_fits-more d e at le h = joined_fits (spells_place at) (place_depth at) e (and-fst _ _ h) (omega (arith, bound (spells_place at) (place_depth at) d h))
+place_fits-more d e at le h = joined_fits (spells_place at) (place_depth at) e (and_first _ _ h) (omega (arith, bound (spells_place at) (place_depth at) d h))
 
 pub expr_fits-more : (d e : ℕ) (value : CExpr) → d ≤ e → expr_fits d value ≡ true → expr_fits e value ≡ true
 unfolding expr_fits
 expr_fits-more d e value le h =
-    joined_fits (spells_expr value) (expr_depth value) e (and-fst _ _ h) (omega (arith, bound (spells_expr value) (expr_depth value) d h))
+    joined_fits (spells_expr value) (expr_depth value) e (and_first _ _ h) (omega (arith, bound (spells_expr value) (expr_depth value) d h))
 
 pub stmt_fits-more : (d e : ℕ) (s : CStmt) → d ≤ e → stmt_fits d s ≡ true → stmt_fits e s ≡ true
 unfolding stmt_fits
-stmt_fits-more d e s le h = joined_fits (spells_stmt s) (stmt_depth s) e (and-fst _ _ h) (omega (arith, bound (spells_stmt s) (stmt_depth s) d h))
+stmt_fits-more d e s le h = joined_fits (spells_stmt s) (stmt_depth s) e (and_first _ _ h) (omega (arith, bound (spells_stmt s) (stmt_depth s) d h))
 
 pub stmts_fit-more : (d e : ℕ) (body : List CStmt) → d ≤ e → stmts_fit d body ≡ true → stmts_fit e body ≡ true
 stmts_fit-more d e [] le h = refl
 stmts_fit-more d e (s ∷ body) le h =
-    rw (stmt_fits-more d e s le (and-fst (stmt_fits d s) (stmts_fit d body) h)) (stmts_fit-more d e body le (and-snd (stmt_fits d s) (stmts_fit d body) h))
+    rw (stmt_fits-more d e s le (and_first (stmt_fits d s) (stmts_fit d body) h)) (stmts_fit-more d e body le (and_second (stmt_fits d s) (stmts_fit d body) h))
 
 abbrev kind : Place → CExprKind-F CArg CExprKind CCall CExpr CIndex CPlace CStep → CExpr
 kind place layer = roll-CExpr (record { place = place; what = roll-CExprKind layer })
@@ -127,14 +102,14 @@ literal_open-fits d place s n le h =
 read_open-fits : (d : ℕ) (place : Place) (at : CPlace) → place_fits d at ≡ true → expr_fits d (kind place (CExprKind-F.Read at)) ≡ true
 unfolding expr_fits place_fits
 read_open-fits d place at h =
-    let e : spells_expr (kind place (CExprKind-F.Read at)) ≡ true = rw (fold-roll-CExpr, fold-roll-CExprKind) (and-fst _ _ h) in
+    let e : spells_expr (kind place (CExprKind-F.Read at)) ≡ true = rw (fold-roll-CExpr, fold-roll-CExprKind) (and_first _ _ h) in
     let m : expr_depth (kind place (CExprKind-F.Read at)) ≤ d = rw (fold-roll-CExpr, fold-roll-CExprKind) (bound (spells_place at) (place_depth at) d h) in
     joined_fits _ (expr_depth (kind place (CExprKind-F.Read at))) d e m
 
 called_open-fits : (d : ℕ) (place : Place) (call : CCall) → call_fits d call ≡ true → expr_fits d (kind place (CExprKind-F.Call call)) ≡ true
 unfolding expr_fits call_fits
 called_open-fits d place call h =
-    let e : spells_expr (kind place (CExprKind-F.Call call)) ≡ true = rw (fold-roll-CExpr, fold-roll-CExprKind) (and-fst _ _ h) in
+    let e : spells_expr (kind place (CExprKind-F.Call call)) ≡ true = rw (fold-roll-CExpr, fold-roll-CExprKind) (and_first _ _ h) in
     let m : expr_depth (kind place (CExprKind-F.Call call)) ≤ d =
     rw (fold-roll-CExpr, fold-roll-CExprKind) (bound (spells_call call) (call_depth call) d h) in
     joined_fits _ (expr_depth (kind place (CExprKind-F.Call call))) d e m
@@ -146,8 +121,8 @@ unfolding expr_fits
 two_open-fits d e place o a b le h i j =
     let left : expr_depth a ≤ d = bound (spells_expr a) (expr_depth a) d i in
     let right : expr_depth b ≤ d = bound (spells_expr b) (expr_depth b) d j in
-    let one : spells_expr a ≡ true = and-fst _ _ i in
-    let other : spells_expr b ≡ true = and-fst _ _ j in
+    let one : spells_expr a ≡ true = and_first _ _ i in
+    let other : spells_expr b ≡ true = and_first _ _ j in
     let s : spells_expr (kind place (CExprKind-F.Two o a b)) ≡ true = rw (fold-roll-CExpr, fold-roll-CExprKind, h, one, other) refl in
     let m : expr_depth (kind place (CExprKind-F.Two o a b)) ≤ e = rw (fold-roll-CExpr, fold-roll-CExprKind) (omega arith) in
     joined_fits _ (expr_depth (kind place (CExprKind-F.Two o a b))) e s m
@@ -155,14 +130,14 @@ two_open-fits d e place o a b le h i j =
 value_open-fits : (d : ℕ) (value : CExpr) → expr_fits d value ≡ true → arg_fits d (roll-CArg (CArg-F.Value value)) ≡ true
 unfolding arg_fits expr_fits
 value_open-fits d value h =
-    let e : spells_arg (roll-CArg (CArg-F.Value value)) ≡ true = rw fold-roll-CArg (and-fst _ _ h) in
+    let e : spells_arg (roll-CArg (CArg-F.Value value)) ≡ true = rw fold-roll-CArg (and_first _ _ h) in
     let m : arg_depth (roll-CArg (CArg-F.Value value)) ≤ d = rw fold-roll-CArg (bound (spells_expr value) (expr_depth value) d h) in
     joined_fits _ (arg_depth (roll-CArg (CArg-F.Value value))) d e m
 
 address_open-fits : (d : ℕ) (at : CPlace) → place_fits d at ≡ true → arg_fits d (roll-CArg (CArg-F.Address at)) ≡ true
 unfolding arg_fits place_fits
 address_open-fits d at h =
-    let e : spells_arg (roll-CArg (CArg-F.Address at)) ≡ true = rw fold-roll-CArg (and-fst _ _ h) in
+    let e : spells_arg (roll-CArg (CArg-F.Address at)) ≡ true = rw fold-roll-CArg (and_first _ _ h) in
     let m : arg_depth (roll-CArg (CArg-F.Address at)) ≤ d = rw fold-roll-CArg (bound (spells_place at) (place_depth at) d h) in
     joined_fits _ (arg_depth (roll-CArg (CArg-F.Address at))) d e m
 
@@ -183,8 +158,8 @@ set_open-fits : (d : ℕ) (place : Place) (at : CPlace) (value : CExpr) → plac
     stmt_fits d (what place (CStmtKind-F.Set at value)) ≡ true
 unfolding stmt_fits place_fits expr_fits
 set_open-fits d place at value h i =
-    let one : spells_place at ≡ true = and-fst _ _ h in
-    let other : spells_expr value ≡ true = and-fst _ _ i in
+    let one : spells_place at ≡ true = and_first _ _ h in
+    let other : spells_expr value ≡ true = and_first _ _ i in
     let left : place_depth at ≤ d = bound (spells_place at) (place_depth at) d h in
     let right : expr_depth value ≤ d = bound (spells_expr value) (expr_depth value) d i in
     let s : spells_stmt (what place (CStmtKind-F.Set at value)) ≡ true = rw (fold-roll-CStmt, fold-roll-CStmtKind, one, other) refl in
@@ -194,7 +169,7 @@ set_open-fits d place at value h i =
 call_stmt_open-fits : (d : ℕ) (place : Place) (call : CCall) → call_fits d call ≡ true → stmt_fits d (what place (CStmtKind-F.Call call)) ≡ true
 unfolding stmt_fits call_fits
 call_stmt_open-fits d place call h =
-    let s : spells_stmt (what place (CStmtKind-F.Call call)) ≡ true = rw (fold-roll-CStmt, fold-roll-CStmtKind) (and-fst _ _ h) in
+    let s : spells_stmt (what place (CStmtKind-F.Call call)) ≡ true = rw (fold-roll-CStmt, fold-roll-CStmtKind) (and_first _ _ h) in
     let m : stmt_depth (what place (CStmtKind-F.Call call)) ≤ d =
     rw (fold-roll-CStmt, fold-roll-CStmtKind) (bound (spells_call call) (call_depth call) d h) in
     joined_fits _ (stmt_depth (what place (CStmtKind-F.Call call))) d s m
@@ -203,7 +178,7 @@ return_open-fits : (d : ℕ) (place : Place) (value : CExpr) → expr_fits d val
     stmt_fits d (what place (CStmtKind-F.Return (Some value))) ≡ true
 unfolding stmt_fits expr_fits
 return_open-fits d place value h =
-    let s : spells_stmt (what place (CStmtKind-F.Return (Some value))) ≡ true = rw (fold-roll-CStmt, fold-roll-CStmtKind) (and-fst _ _ h) in
+    let s : spells_stmt (what place (CStmtKind-F.Return (Some value))) ≡ true = rw (fold-roll-CStmt, fold-roll-CStmtKind) (and_first _ _ h) in
     let m : stmt_depth (what place (CStmtKind-F.Return (Some value))) ≤ d =
     rw (fold-roll-CStmt, fold-roll-CStmtKind) (bound (spells_expr value) (expr_depth value) d h) in
     joined_fits _ (stmt_depth (what place (CStmtKind-F.Return (Some value)))) d s m
@@ -212,7 +187,7 @@ if_open-fits : (d e : ℕ) (place : Place) (test : CExpr) (body : List CStmt) �
     stmt_fits e (what place (CStmtKind-F.If test body None)) ≡ true
 unfolding stmt_fits expr_fits
 if_open-fits d e place test body le h i =
-    let one : spells_expr test ≡ true = and-fst _ _ h in
+    let one : spells_expr test ≡ true = and_first _ _ h in
     let left : expr_depth test ≤ d = bound (spells_expr test) (expr_depth test) d h in
     let all : all_of (map spells_stmt body) ≡ true = list-spells spells_stmt stmt_depth d body i in
     let few : greatest (map stmt_depth body) ≤ d = list-depth spells_stmt stmt_depth d body i in
@@ -274,10 +249,6 @@ if-fits d e place test body le h i =
     subst (λ (k : CStmtKind). stmt_fits e (roll-CStmt (record { place = place; what = k })) ≡ true) (statement.rolls-If test body None)
     (if_open-fits d e place test body le h i)
 
-all_of-list_all : {A : Type 0} (p : A → Bool) (xs : List A) → list_all p xs ≡ true → all_of (map p xs) ≡ true
-all_of-list_all p [] h = refl
-all_of-list_all p (x ∷ xs) h = rw (and-fst (p x) (list_all p xs) h) (all_of-list_all p xs (and-snd (p x) (list_all p xs) h))
-
 pub func-fits : (d e : ℕ) (f : CFunc) → d + 1 ≤ e → 1 ≤ d → spells_returned f.result ≡ true → is_function_name f.name ≡ true →
     list_all spells_param f.params ≡ true → list_all spells_local f.locals ≡ true → stmts_fit d f.body ≡ true →
     func_fits e f ≡ true
@@ -285,15 +256,15 @@ unfolding func_fits stmt_fits
 func-fits d e f le le' result named params locals body =
     let all : all_of (map spells_stmt f.body) ≡ true = list-spells spells_stmt stmt_depth d f.body body in
     let few : greatest (map stmt_depth f.body) ≤ d = list-depth spells_stmt stmt_depth d f.body body in
-    let h : all_of (map spells_param f.params) ≡ true = all_of-list_all spells_param f.params params in
-    let i : all_of (map spells_local f.locals) ≡ true = all_of-list_all spells_local f.locals locals in
+    let h : all_of (map spells_param f.params) ≡ true = all_of_each spells_param f.params params in
+    let i : all_of (map spells_local f.locals) ≡ true = all_of_each spells_local f.locals locals in
     joined_fits (spells_func f) (func_depth f) e (rw (result, named, h, i, all) refl) (omega arith)
 
 pub struct-spells : (place : Place) (name : List ℕ) (members : List CMember) → is_struct_name name ≡ true → has_any members ≡ true →
     list_all spells_member members ≡ true →
     spells_struct (record { place = place; name = name; members = members }) ≡ true
 struct-spells place name members named some all =
-    let h : all_of (map spells_member members) ≡ true = all_of-list_all spells_member members all in
+    let h : all_of (map spells_member members) ≡ true = all_of_each spells_member members all in
     rw (named, some, h) refl
 
 -- A text of at least one struct and one function has a spelling where all its structs have and its functions fit.
@@ -303,5 +274,5 @@ pub file-spells : (structs : List CStruct) (funcs : List CFunc) → has_any stru
     is_spellable structs funcs ≡ true
 unfolding func_fits
 file-spells structs funcs some some' h i =
-    spellable-by structs funcs some some' (all_of-list_all spells_struct structs h) (list-spells spells_func func_depth 2000 funcs i)
+    spellable-by structs funcs some some' (all_of_each spells_struct structs h) (list-spells spells_func func_depth 2000 funcs i)
     (list-depth spells_func func_depth 2000 funcs i)

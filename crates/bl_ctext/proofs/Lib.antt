@@ -1,7 +1,5 @@
-pub mod Branches
 pub mod Bytes
 pub mod Cutting
-pub mod Depths
 pub mod ExprNesting
 pub mod Fitting
 pub mod Longest

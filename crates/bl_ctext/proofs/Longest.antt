@@ -1,32 +1,12 @@
 -- Bytes are spaced tokens, each the longest at its place, where they are cut as the writer cuts them.
-use Rattle.std.proofs.Common.{
-  ◌≡◌,
-  ◌⊎◌,
-  ℕ,
-  ◌≤◌,
-  Bool,
-  true,
-  false,
-  ◌&&◌,
-  List,
-  [],
-  ◌∷◌,
-  ◌++◌,
-  length,
-  map,
-  refl,
-  sym,
-  ap,
-  subst,
-  inl,
-  inr,
-  arith,
-}
+use Rattle.std.proofs.Common.{◌≡◌, ◌⊎◌, ℕ, ◌≤◌, Bool, true, false, ◌&&◌, List, [], ◌∷◌, ◌++◌, length, map, refl, sym, ap, subst, inl, inr, arith}
+use Rattle.std.proofs.lemmas.Bool.{and_from, or_left, or_right}
+use Rattle.bl_tree.proofs.Basics.{and_first, and_second, either_of}
 use Rattle.bl_tree.specs.Reduce.{all_of}
 use Rattle.bl_ctext.specs.Token.{Token, is_blank, is_word_byte, is_double_sign, is_word, is_sign, is_token, IsLongest, SpacedC}
 use Rattle.bl_ctext.specs.inner.Cut.{joins, may_continue, cut_before, tokens_in, may_merge, are_tokens}
 use Rattle.bl_ctext.specs.Token.{put_before}
-use Rattle.bl_ctext.proofs.Bytes.{and-fst, and-snd, both, either, or-fst, or-snd, joined-not_blank}
+use Rattle.bl_ctext.proofs.Bytes.{joined-not_blank}
 use Rattle.bl_ctext.proofs.Cutting.{first_token}
 
 -- the next token of the bytes, cut as the writer cuts them
@@ -45,14 +25,14 @@ Cuts (token ∷ tokens) bytes = (after : List ℕ) × (Next token bytes after ×
 
 -- a blank before the bytes changes nothing
 one_blank : (b : ℕ) (bs : List ℕ) (ts : List Token) → is_blank b ≡ true → Cuts ts bs → Cuts ts (b ∷ bs)
-one_blank b bs [] h cuts = both _ _ h cuts
+one_blank b bs [] h cuts = and_from _ _ h cuts
 one_blank b bs (t ∷ ts) h (after, (next, rest)) = (
   after,
   (
     record {
       blanks = b
           ∷ next.blanks;
-      blank = both _ _ h next.blank;
+      blank = and_from _ _ h next.blank;
       cut = ap (λ (xs : List ℕ). b ∷ xs) next.cut;
       first = next.first;
       others = next.others;
@@ -64,12 +44,12 @@ one_blank b bs (t ∷ ts) h (after, (next, rest)) = (
   ),
 )
 
-no_blanks : (c : ℕ) (cs blanks rest : List ℕ) → is_blank c ≡ false → all_of (map is_blank blanks) ≡ true → c ∷ cs ≡ blanks ++ rest →
+pub no_blanks : (c : ℕ) (cs blanks rest : List ℕ) → is_blank c ≡ false → all_of (map is_blank blanks) ≡ true → c ∷ cs ≡ blanks ++ rest →
     c ∷ cs ≡ rest
 no_blanks c cs [] rest h k e = e
 no_blanks c cs (d ∷ ds) rest h k e =
     let same : c ≡ d = cc in
-    let blank : is_blank d ≡ true = and-fst _ _ k in
+    let blank : is_blank d ≡ true = and_first _ _ k in
     let not_blank : is_blank d ≡ false = rw same at h in
     cc
 
@@ -104,17 +84,17 @@ word_meets : (t : Token) (c : ℕ) (more after : List ℕ) → is_word (t ++ (c 
     may_merge t (c ∷ after) ≡ true
 word_meets [] c more after h first others e = cc
 word_meets (b ∷ []) c more after h first others e =
-    let left : is_word_byte b ≡ true = and-fst (is_word_byte b) (is_word_byte c && all_of (map is_word_byte more)) h in
+    let left : is_word_byte b ≡ true = and_first (is_word_byte b) (is_word_byte c && all_of (map is_word_byte more)) h in
     let right : is_word_byte c ≡ true =
-    and-fst (is_word_byte c) (all_of (map is_word_byte more)) (and-snd (is_word_byte b) (is_word_byte c && all_of (map is_word_byte more)) h) in
-    or-fst (is_word_byte b && is_word_byte c) (is_double_sign b c) (both (is_word_byte b) (is_word_byte c) left right)
-word_meets (b ∷ d ∷ t) c more after h first others e = word_meets (d ∷ t) c more after (and-snd _ _ h) d t refl
+    and_first (is_word_byte c) (all_of (map is_word_byte more)) (and_second (is_word_byte b) (is_word_byte c && all_of (map is_word_byte more)) h) in
+    or_left (is_word_byte b && is_word_byte c) (is_double_sign b c) (and_from (is_word_byte b) (is_word_byte c) left right)
+word_meets (b ∷ d ∷ t) c more after h first others e = word_meets (d ∷ t) c more after (and_second _ _ h) d t refl
 
 sign_meets : (t : Token) (c : ℕ) (more after : List ℕ) → is_sign (t ++ (c ∷ more)) ≡ true → (first : ℕ) (others : List ℕ) →
     t ≡ first ∷ others →
     may_merge t (c ∷ after) ≡ true
 sign_meets [] c more after h first others e = cc
-sign_meets (b ∷ []) c [] after h first others e = or-snd _ _ h
+sign_meets (b ∷ []) c [] after h first others e = or_right _ _ h
 sign_meets (b ∷ []) c (m ∷ more) after h first others e = cc
 sign_meets (b ∷ d ∷ []) c more after h first others e = cc
 sign_meets (b ∷ d ∷ x ∷ t) c more after h first others e = cc
@@ -123,7 +103,7 @@ longer_meets : (t : Token) (c : ℕ) (more after : List ℕ) → is_token (t ++ 
     t ≡ first ∷ others →
     may_merge t (c ∷ after) ≡ true
 longer_meets t c more after h first others e =
-    elim (either (is_word (t ++ (c ∷ more))) (is_sign (t ++ (c ∷ more))) h)
+    elim (either_of (is_word (t ++ (c ∷ more))) (is_sign (t ++ (c ∷ more))) h)
     [ inl word ↦ word_meets t c more after word first others e | inr sign ↦ sign_meets t c more after sign first others e ]
 
 -- Of two fronts of the same bytes one goes on where the other ends.
@@ -165,11 +145,11 @@ spaced_cuts (t ∷ ts) bs h (after, (next, rest)) = (
       blanks = next.blanks;
       blank = next.blank;
       cut = next.cut;
-      is_one = and-fst _ _ h;
+      is_one = and_first _ _ h;
       longest = longest t after next.first next.others
           next.some next.apart;
     },
-    spaced_cuts ts after (and-snd _ _ h) rest,
+    spaced_cuts ts after (and_second _ _ h) rest,
   ),
 )
 

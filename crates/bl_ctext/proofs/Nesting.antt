@@ -1,26 +1,6 @@
 -- How many brackets are open over lists of tokens, by how the lists are put together.
-use Rattle.std.proofs.Common.{
-  ◌≡◌,
-  ℕ,
-  ◌+◌,
-  ◌-◌,
-  ◌≤◌,
-  max,
-  Bool,
-  true,
-  false,
-  ◌||◌,
-  List,
-  [],
-  ◌∷◌,
-  ◌++◌,
-  refl,
-  sym,
-  ◌∙◌,
-  ap,
-  subst,
-  arith,
-}
+use Rattle.std.proofs.Common.{◌≡◌, ℕ, ◌+◌, ◌-◌, ◌≤◌, max, Bool, true, false, ◌||◌, List, [], ◌∷◌, ◌++◌, refl, sym, ◌∙◌, ap, subst, arith}
+use Rattle.bl_tree.proofs.Basics.{neither_first, neither_second}
 use Rattle.bl_tree.specs.Reduce.{joined}
 use Rattle.bl_ctext.specs.Token.{Token}
 use Rattle.bl_ctext.specs.Spelling.{listed, with_commas}
@@ -61,7 +41,7 @@ Nests depth tokens = Closes 0 depth tokens
 pub closes-nil : (d : ℕ) → Nests d []
 closes-nil d = record { after = λ n. omega arith; within = λ n. omega arith }
 
-opened : (n : ℕ) (t : Token) → is_opening t ≡ true → open_behind n t ≡ n + 1
+pub opened : (n : ℕ) (t : Token) → is_opening t ≡ true → open_behind n t ≡ n + 1
 opened n t h = rw h
 
 closed : (n : ℕ) (t : Token) → is_opening t ≡ false → is_closing t ≡ true → open_behind n t ≡ n - 1
@@ -69,14 +49,6 @@ closed n t h k = rw (h, k)
 
 left : (n : ℕ) (t : Token) → is_opening t ≡ false → is_closing t ≡ false → open_behind n t ≡ n
 left n t h k = rw (h, k)
-
-or-left : (a b : Bool) → (a || b) ≡ false → a ≡ false
-or-left true b h = cc
-or-left false b h = refl
-
-or-right : (a b : Bool) → (a || b) ≡ false → b ≡ false
-or-right true b h = cc
-or-right false b h = h
 
 -- a step of one token, by what is open behind it
 stepped : (k m d : ℕ) (t : Token) (ts : List Token) → k ≤ d → ((n : ℕ) → open_behind (n + k) t ≡ n + m) → Closes m d ts →
@@ -97,7 +69,7 @@ closes-close k d t ts h i le c = stepped (k + 1) k d t ts le (λ n. closed (n + 
 
 -- a token that is no bracket
 pub closes-plain : (k d : ℕ) (t : Token) (ts : List Token) → is_bracket t ≡ false → k ≤ d → Closes k d ts → Closes k d (t ∷ ts)
-closes-plain k d t ts h le c = stepped k k d t ts le (λ n. left (n + k) t (or-left _ _ h) (or-right _ _ h)) c
+closes-plain k d t ts h le c = stepped k k d t ts le (λ n. left (n + k) t (neither_first _ _ h) (neither_second _ _ h)) c
 
 -- tokens whose own brackets are closed, where the depth leaves room for theirs
 pub closes-append : (k d e : ℕ) (xs ys : List Token) → Nests e xs → k + e ≤ d → Closes k d ys → Closes k d (xs ++ ys)
@@ -139,10 +111,6 @@ nests-listed d false (part ∷ parts) (one, each) =
 
 pub nests-with_commas : (d : ℕ) (parts : List (List Token)) → EachNests d parts → Nests d (with_commas parts)
 nests-with_commas d parts each = nests-listed d true parts each
-
-pub each_nests-append : (d : ℕ) (xs ys : List (List Token)) → EachNests d xs → EachNests d ys → EachNests d (xs ++ ys)
-each_nests-append d [] ys x y = y
-each_nests-append d (part ∷ xs) ys (one, x) y = (one, each_nests-append d xs ys x y)
 
 -- what the whole comes to: as many are open at once as the depth says
 pub nests-most_open : (d : ℕ) (ts : List Token) → Nests d ts → most_open 0 ts ≤ d

@@ -1,49 +1,24 @@
 -- Names, numbers and other words are no brackets.
-use Rattle.std.proofs.Common.{
-  ◌≡◌,
-  ◌⊎◌,
-  ℕ,
-  ◌+◌,
-  ◌%◌,
-  ◌^◌,
-  ◌≤◌,
-  ◌<◌,
-  Bool,
-  true,
-  false,
-  not,
-  ◌&&◌,
-  ◌||◌,
-  ◌==◌,
-  nat_eq,
-  List,
-  [],
-  ◌∷◌,
-  ◌++◌,
-  map,
-  refl,
-}
+use Rattle.std.proofs.Common.{◌≡◌, ◌⊎◌, ℕ, ◌+◌, ◌%◌, ◌^◌, ◌≤◌, ◌<◌, true, false, not, ◌&&◌, ◌||◌, ◌==◌, nat_eq, List, [], ◌∷◌, ◌++◌, map, refl}
 use Rattle.std.proofs.Common.{sym, ◌∙◌, subst, inl, inr, arith}
 use Rattle.std.proofs.lemmas.Bool.Decides.{nat_tests}
 use Rattle.std.proofs.lemmas.Fmt.{decimal_by_steps}
 use Rattle.std.specs.Cmp.Lexicographic.{pointwise}
 use Rattle.std.specs.Fmt.{decimal}
+use Rattle.std.proofs.lemmas.Bool.{not-true}
+use Rattle.bl_tree.proofs.Basics.{and_first, and_second, either_of, last_digit, same_number}
 use Rattle.bl_tree.specs.Reduce.{all_of}
 use Rattle.bl_ctext.specs.Token.{Token, is_word_byte, is_word}
 use Rattle.bl_ctext.specs.Names.{is_among, is_name, is_struct_name, is_function_name, is_callee, is_turn_name, prelude_functions}
-use Rattle.bl_ctext.proofs.Bytes.{and-fst, and-snd, either}
 use Rattle.bl_ctext.proofs.Nesting.{is_bracket}
 
-same_number : (x y : ℕ) → nat_eq x y ≡ true → x ≡ y
-same_number x y h = grind (arith, nat_tests)
-
-same_bytes : (xs ys : List ℕ) → pointwise nat_eq xs ys ≡ true → xs ≡ ys
+pub same_bytes : (xs ys : List ℕ) → pointwise nat_eq xs ys ≡ true → xs ≡ ys
 same_bytes [] [] h = refl
 same_bytes [] (y ∷ ys) h = cc
 same_bytes (x ∷ xs) [] h = cc
 same_bytes (x ∷ xs) (y ∷ ys) h =
-    let first : x ≡ y = same_number x y (and-fst _ _ h) in
-    let rest : xs ≡ ys = same_bytes xs ys (and-snd _ _ h) in
+    let first : x ≡ y = same_number x y (and_first _ _ h) in
+    let rest : xs ≡ ys = same_bytes xs ys (and_second _ _ h) in
     rw (first, rest) refl
 
 other_byte : (b k : ℕ) → is_word_byte k ≡ false → is_word_byte b ≡ true → (b == k) ≡ false
@@ -56,7 +31,7 @@ other_byte b k h i = elim (b == k) as (λ v. (b == k) ≡ v → v ≡ false) [
 pub word-plain : (t : Token) → is_word t ≡ true → is_bracket t ≡ false
 word-plain [] h = cc
 word-plain (b ∷ []) h =
-    let word : is_word_byte b ≡ true = and-fst _ _ h in
+    let word : is_word_byte b ≡ true = and_first _ _ h in
     rw (
       other_byte b 40 refl word,
       other_byte b 91 refl word,
@@ -68,55 +43,48 @@ word-plain (b ∷ []) h =
     )
 word-plain (b ∷ c ∷ bs) h = refl
 
-not-false : (b : Bool) → not b ≡ true → b ≡ false
-not-false true h = cc
-not-false false h = refl
-
 among-plain : (word : Token) (words : List Token) → is_among word words ≡ true →
     all_of (map (λ w. not (is_bracket w)) words) ≡ true → is_bracket word ≡ false
 unfolding is_among
 among-plain word [] h k = cc
 among-plain word (w ∷ words) h k =
-    elim (either (pointwise nat_eq w word) (is_among word words) h) [
-      | inl same ↦ subst (λ (t : Token). is_bracket t ≡ false) (same_bytes w word same) (not-false (is_bracket w) (and-fst _ _ k))
-      | inr other ↦ among-plain word words other (and-snd _ _ k)
+    elim (either_of (pointwise nat_eq w word) (is_among word words) h) [
+      | inl same ↦ subst (λ (t : Token). is_bracket t ≡ false) (same_bytes w word same) (not-true (is_bracket w) (and_first _ _ k))
+      | inr other ↦ among-plain word words other (and_second _ _ k)
     ]
 
 pub name-word : (word : Token) → is_name word ≡ true → is_word word ≡ true
 unfolding is_name
-name-word word h = and-fst _ _ h
+name-word word h = and_first _ _ h
 
 pub name-plain : (word : Token) → is_name word ≡ true → is_bracket word ≡ false
 name-plain word h = word-plain word (name-word word h)
 
 pub struct_name-plain : (word : Token) → is_struct_name word ≡ true → is_bracket word ≡ false
 unfolding is_struct_name
-struct_name-plain word h = elim (either _ _ h) [ inl name ↦ name-plain word name | inr other ↦ among-plain word _ other refl ]
+struct_name-plain word h = elim (either_of _ _ h) [ inl name ↦ name-plain word name | inr other ↦ among-plain word _ other refl ]
 
 pub function_name-plain : (word : Token) → is_function_name word ≡ true → is_bracket word ≡ false
 unfolding is_function_name
-function_name-plain word h = elim (either _ _ h) [ inl name ↦ name-plain word name | inr other ↦ among-plain word _ other refl ]
+function_name-plain word h = elim (either_of _ _ h) [ inl name ↦ name-plain word name | inr other ↦ among-plain word _ other refl ]
 
 pub callee-plain : (word : Token) → is_callee word ≡ true → is_bracket word ≡ false
 unfolding is_callee
-callee-plain word h = elim (either _ _ h) [ inl name ↦ name-plain word name | inr other ↦ among-plain word prelude_functions other refl ]
+callee-plain word h = elim (either_of _ _ h) [ inl name ↦ name-plain word name | inr other ↦ among-plain word prelude_functions other refl ]
 
 pub turn_name-plain : (word : Token) → is_turn_name word ≡ true → is_bracket word ≡ false
 unfolding is_turn_name
 turn_name-plain [] h = cc
-turn_name-plain (t ∷ []) h = let none : false ≡ true = and-fst false (all_of []) (and-snd (t == 116) (false && all_of []) h) in cc
+turn_name-plain (t ∷ []) h = let none : false ≡ true = and_first false (all_of []) (and_second (t == 116) (false && all_of []) h) in cc
 turn_name-plain (t ∷ d ∷ digits) h = refl
 
-digit-word_byte : (n : ℕ) → n < 10 → is_word_byte (48 + n) ≡ true
+pub digit-word_byte : (n : ℕ) → n < 10 → is_word_byte (48 + n) ≡ true
 digit-word_byte n h = grind (arith, nat_tests)
 
 longer-plain : (xs : List ℕ) (b : ℕ) → is_word_byte b ≡ true → is_bracket (xs ++ (b ∷ [])) ≡ false
 longer-plain [] b h = word-plain (b ∷ []) (rw h refl)
 longer-plain (x ∷ []) b h = refl
 longer-plain (x ∷ y ∷ xs) b h = refl
-
-last_digit : (m : ℕ) → m % 10 < 10
-last_digit m = omega arith
 
 -- nor is a number
 pub decimal-plain : (n : ℕ) → n < 2 ^ 64 → is_bracket (decimal n) ≡ false

@@ -4,42 +4,35 @@ use Rattle.std.proofs.lemmas.Bool.Decides.{nat_tests}
 use Rattle.std.specs.Char.{is_ascii_digit}
 use Rattle.std.specs.Cmp.Lexicographic.{pointwise}
 use Rattle.std.specs.List.{list_all, starts_with}
+use Rattle.std.proofs.lemmas.Bool.{not-true}
+use Rattle.bl_tree.proofs.Basics.{and_first, and_second, second_false}
 use Rattle.bl_tree.specs.Words as source
 use Rattle.bl_tree.specs.Reduce.{all_of}
 use Rattle.bl_ctext.specs.Token.{is_word_byte}
 use Rattle.bl_ctext.specs.Names.{is_among, grammar_words, c_keywords, is_name, is_struct_name, is_function_name, is_callee}
 use Rattle.bl_ctext.specs.inner.Prefixes.{is_prefix, is_source_name}
-use Rattle.bl_ctext.proofs.Bytes.{and-fst, and-snd}
 
 -- whether `_` isn't the second byte
 abbrev pub has_other_second : List ℕ → Bool
 has_other_second (first ∷ second ∷ rest) = not (nat_eq second 95)
 has_other_second _ = true
 
-and-both : (a b : Bool) → b ≡ false → (a && b) ≡ false
-and-both true b h = h
-and-both false b h = refl
-
-not-true : (b : Bool) → not b ≡ true → b ≡ false
-not-true true h = cc
-not-true false h = refl
-
 differs : (w : List ℕ) (b : ℕ) (word : List ℕ) → has_other_second w ≡ true → pointwise nat_eq w (b ∷ 95 ∷ word) ≡ false
 differs [] b word h = refl
-differs (x ∷ []) b word h = and-both (nat_eq x b) false refl
-differs (x ∷ y ∷ w) b word h = and-both (nat_eq x b) (nat_eq y 95 && pointwise nat_eq w word) (rw (not-true (nat_eq y 95) h) refl)
+differs (x ∷ []) b word h = second_false (nat_eq x b) false refl
+differs (x ∷ y ∷ w) b word h = second_false (nat_eq x b) (nat_eq y 95 && pointwise nat_eq w word) (rw (not-true (nat_eq y 95) h) refl)
 
 pub not-among : (b : ℕ) (word : List ℕ) (words : List (List ℕ)) → all_of (map has_other_second words) ≡ true →
     is_among (b ∷ 95 ∷ word) words ≡ false
 unfolding is_among
 not-among b word [] h = refl
 not-among b word (w ∷ words) h =
-    rw (differs w b word (and-fst (has_other_second w) (all_of (map has_other_second words)) h))
-    (not-among b word words (and-snd (has_other_second w) (all_of (map has_other_second words)) h))
+    rw (differs w b word (and_first (has_other_second w) (all_of (map has_other_second words)) h))
+    (not-among b word words (and_second (has_other_second w) (all_of (map has_other_second words)) h))
 
 -- the word before whose second byte no `bl_` stands
 no_front : (b : ℕ) (word : List ℕ) → starts_with nat_eq (b ∷ 95 ∷ word) (codes "bl_") ≡ false
-no_front b word = and-both (nat_eq 98 b) false refl
+no_front b word = second_false (nat_eq 98 b) false refl
 
 pub prefixed-name : (b : ℕ) (word : List ℕ) → is_word_byte b ≡ true → is_ascii_digit b ≡ false → all_of (map is_word_byte word) ≡ true →
     is_name (b ∷ 95 ∷ word) ≡ true
@@ -50,11 +43,11 @@ prefixed-name b word h i k =
 word_bytes : (text : List ℕ) → list_all source.is_word_byte text ≡ true → all_of (map is_word_byte text) ≡ true
 word_bytes [] h = refl
 word_bytes (b ∷ bs) h =
-    rw (and-fst (is_word_byte b) (list_all source.is_word_byte bs) h) (word_bytes bs (and-snd (is_word_byte b) (list_all source.is_word_byte bs) h))
+    rw (and_first (is_word_byte b) (list_all source.is_word_byte bs) h) (word_bytes bs (and_second (is_word_byte b) (list_all source.is_word_byte bs) h))
 
 source_bytes : (text : List ℕ) → source.is_name text ≡ true → list_all source.is_word_byte text ≡ true
 source_bytes [] h = refl
-source_bytes (b ∷ bs) h = and-snd _ _ (and-fst (source.is_plain_word (b ∷ bs)) _ h)
+source_bytes (b ∷ bs) h = and_second _ _ (and_first (source.is_plain_word (b ∷ bs)) _ h)
 
 byte_of : (u : ℕ) → nat_eq u 95 ≡ true → u ≡ 95
 byte_of u h = grind (arith, nat_tests)
@@ -66,9 +59,9 @@ name-with_prefix [] word h i = cc
 name-with_prefix (b ∷ []) word h i = cc
 name-with_prefix (b ∷ u ∷ []) word h i =
     let digit : is_ascii_digit b ≡ false =
-    not-true (is_ascii_digit b) (and-fst (not (is_ascii_digit b)) (nat_eq u 95) (and-snd (is_word_byte b) (not (is_ascii_digit b) && nat_eq u 95) h)) in
-    let mark : u ≡ 95 = byte_of u (and-snd (not (is_ascii_digit b)) (nat_eq u 95) (and-snd (is_word_byte b) (not (is_ascii_digit b) && nat_eq u 95) h)) in
-    rw mark (prefixed-name b word (and-fst (is_word_byte b) (not (is_ascii_digit b) && nat_eq u 95) h) digit (word_bytes word (source_bytes word i)))
+    not-true (is_ascii_digit b) (and_first (not (is_ascii_digit b)) (nat_eq u 95) (and_second (is_word_byte b) (not (is_ascii_digit b) && nat_eq u 95) h)) in
+    let mark : u ≡ 95 = byte_of u (and_second (not (is_ascii_digit b)) (nat_eq u 95) (and_second (is_word_byte b) (not (is_ascii_digit b) && nat_eq u 95) h)) in
+    rw mark (prefixed-name b word (and_first (is_word_byte b) (not (is_ascii_digit b) && nat_eq u 95) h) digit (word_bytes word (source_bytes word i)))
 name-with_prefix (b ∷ u ∷ c ∷ more) word h i = cc
 
 -- a name names a struct, a function, and a function that is called

@@ -1,29 +1,9 @@
 -- Statements, structs and functions that have a spelling close each bracket that they open. So a text of shallow functions has a spelling.
-use Rattle.std.proofs.Common.{
-  ◌≡◌,
-  ℕ,
-  ◌+◌,
-  ◌≤◌,
-  max,
-  Bool,
-  true,
-  false,
-  ◌&&◌,
-  nat_le,
-  List,
-  [],
-  ◌∷◌,
-  ◌++◌,
-  map,
-  Option,
-  Some,
-  None,
-  refl,
-  subst,
-}
+use Rattle.std.proofs.Common.{◌≡◌, ℕ, ◌+◌, ◌≤◌, max, Bool, true, false, ◌&&◌, nat_le, List, [], ◌∷◌, ◌++◌, map, Option, Some, None, refl, subst}
 use Rattle.std.proofs.Common.{arith, codes, append_assoc, sym, ap, ◌∙◌}
 use Rattle.std.proofs.lemmas.Bool.Decides.{nat_tests}
 use Rattle.std.specs.Fmt.{decimal}
+use Rattle.bl_tree.proofs.Basics.{and_first, and_second}
 use Rattle.bl_tree.specs.declared.place.Place.{Place as TextPlace}
 use Rattle.bl_tree.specs.declared.scalar.Width.TheVariants.{W8, W16, W32, W64}
 use Rattle.bl_tree.specs.declared.scalar.Scalar.{Scalar}
@@ -52,7 +32,6 @@ use Rattle.bl_ctext.specs.inner.Depths.{expr_depth, place_depth, call_depth, res
 use Rattle.bl_ctext.proofs.ExprNesting.{each_shown, expr-nests, place-nests, ccall-nests}
 use Rattle.bl_ctext.proofs.Nesting.{is_bracket, Closes, Nests, EachNests, closes-nil, closes-open, closes-close, closes-plain, closes-append}
 use Rattle.bl_ctext.proofs.Nesting.{nests-append, nests-more, nests-joined, nests-with_commas, nests-most_open}
-use Rattle.bl_ctext.proofs.Bytes.{and-fst, and-snd}
 use Rattle.bl_ctext.proofs.PlainWords.{name-plain, struct_name-plain, function_name-plain, turn_name-plain, decimal-plain}
 
 -- statements in braces
@@ -136,13 +115,13 @@ by_kind : (y : CStmtKind-F Kind Stmt) → OfKind (roll-CStmtKind (plain_kind y))
 by_kind (CStmtKind-F.Set at value) h =
     let whole : (spells_place at && spells_expr value) ≡ true = rw fold-roll-CStmtKind at h in
     rw (fold-roll-CStmtKind, fold-roll-CStmtKind)
-    (set-nests (max (place_depth at) (expr_depth value)) at value (omega arith) (omega arith) (and-fst _ _ whole) (and-snd _ _ whole))
+    (set-nests (max (place_depth at) (expr_depth value)) at value (omega arith) (omega arith) (and_first _ _ whole) (and_second _ _ whole))
 by_kind (CStmtKind-F.Clear at name) h =
     let whole : (spells_place at && is_struct_name name) ≡ true = rw fold-roll-CStmtKind at h in
     let d : ℕ = max (place_depth at) 1 in
     rw (fold-roll-CStmtKind, fold-roll-CStmtKind)
-    (closes-append 0 d (place_depth at) (place_tokens at) _ (place-nests at (and-fst _ _ whole)) (omega arith)
-    (zeros-nests d name (omega arith) (struct_name-plain name (and-snd _ _ whole))))
+    (closes-append 0 d (place_depth at) (place_tokens at) _ (place-nests at (and_first _ _ whole)) (omega arith)
+    (zeros-nests d name (omega arith) (struct_name-plain name (and_second _ _ whole))))
 by_kind (CStmtKind-F.Call call) h =
     let d : ℕ = call_depth call in
     rw (fold-roll-CStmtKind, fold-roll-CStmtKind)
@@ -152,8 +131,8 @@ by_kind (CStmtKind-F.If test inner None) h =
     let whole : (spells_expr test && (all_of (map spells_stmt (map (λ e. e.0) inner)) && true)) ≡ true = rw fold-roll-CStmtKind at h in
     let b : ℕ = greatest (map stmt_depth (map (λ e. e.0) inner)) in
     rw (fold-roll-CStmtKind, fold-roll-CStmtKind)
-    (if-nests (max (max (expr_depth test + 1) (b + 1)) 0) b test _ [] (omega arith) (omega arith) (and-fst _ _ whole)
-    (each_shown stmt_depth stmt_tokens spells_stmt inner b (omega arith) (and-fst _ _ (and-snd _ _ whole))) (closes-nil _))
+    (if-nests (max (max (expr_depth test + 1) (b + 1)) 0) b test _ [] (omega arith) (omega arith) (and_first _ _ whole)
+    (each_shown stmt_depth stmt_tokens spells_stmt inner b (omega arith) (and_first _ _ (and_second _ _ whole))) (closes-nil _))
 by_kind (CStmtKind-F.If test inner (Some other)) h =
     let whole : (spells_expr test && (all_of (map spells_stmt (map (λ e. e.0) inner)) && all_of (map spells_stmt (map (λ e. e.0) other)))) ≡ true =
     rw fold-roll-CStmtKind at h in
@@ -161,18 +140,18 @@ by_kind (CStmtKind-F.If test inner (Some other)) h =
     let c : ℕ = greatest (map stmt_depth (map (λ e. e.0) other)) in
     let d : ℕ = max (max (expr_depth test + 1) (b + 1)) (c + 1) in
     rw (fold-roll-CStmtKind, fold-roll-CStmtKind)
-    (if-nests d b test _ _ (omega arith) (omega arith) (and-fst _ _ whole)
-    (each_shown stmt_depth stmt_tokens spells_stmt inner b (omega arith) (and-fst _ _ (and-snd _ _ whole)))
+    (if-nests d b test _ _ (omega arith) (omega arith) (and_first _ _ whole)
+    (each_shown stmt_depth stmt_tokens spells_stmt inner b (omega arith) (and_first _ _ (and_second _ _ whole)))
     (closes-plain 0 d _ _ refl (omega arith)
     (nests-more (c + 1) d _ (omega arith)
-    (braced-nests c _ (each_shown stmt_depth stmt_tokens spells_stmt other c (omega arith) (and-snd _ _ (and-snd _ _ whole)))))))
+    (braced-nests c _ (each_shown stmt_depth stmt_tokens spells_stmt other c (omega arith) (and_second _ _ (and_second _ _ whole)))))))
 by_kind (CStmtKind-F.Loop turn test body) h =
     let whole : (is_turn_name turn && (spells_expr test && all_of (map spells_stmt (map (λ e. e.0) body)))) ≡ true = rw fold-roll-CStmtKind at h in
     let b : ℕ = max 1 (greatest (map stmt_depth (map (λ e. e.0) body))) in
     rw (fold-roll-CStmtKind, fold-roll-CStmtKind)
-    (loop-nests (max (expr_depth test + 2) (b + 2)) b turn test _ (omega arith) (omega arith) (omega arith) (turn_name-plain turn (and-fst _ _ whole))
-    (and-fst _ _ (and-snd _ _ whole))
-    (each_shown stmt_depth stmt_tokens spells_stmt body b (omega arith) (and-snd _ _ (and-snd _ _ whole))))
+    (loop-nests (max (expr_depth test + 2) (b + 2)) b turn test _ (omega arith) (omega arith) (omega arith) (turn_name-plain turn (and_first _ _ whole))
+    (and_first _ _ (and_second _ _ whole))
+    (each_shown stmt_depth stmt_tokens spells_stmt body b (omega arith) (and_second _ _ (and_second _ _ whole))))
 by_kind CStmtKind-F.Break h =
     rw (fold-roll-CStmtKind, fold-roll-CStmtKind) (closes-plain 0 0 _ _ refl (omega arith) (closes-plain 0 0 _ _ refl (omega arith) (closes-nil 0)))
 by_kind (CStmtKind-F.Return result) h = rw (fold-roll-CStmtKind, fold-roll-CStmtKind) (result-nests result (rw fold-roll-CStmtKind at h))
@@ -194,13 +173,13 @@ each_of depth tokens spells shown [] d le h = tt
 each_of depth tokens spells shown (x ∷ xs) d le h =
     let here : depth x ≤ d = omega arith in
     let rest : greatest (map depth xs) ≤ d = omega arith in
-    (nests-more (depth x) d (tokens x) here (shown x (and-fst _ _ h)), each_of depth tokens spells shown xs d rest (and-snd _ _ h))
+    (nests-more (depth x) d (tokens x) here (shown x (and_first _ _ h)), each_of depth tokens spells shown xs d rest (and_second _ _ h))
 
 -- the same, where no part is deeper than the number
 each_within : {A : Type 0} (d : ℕ) (tokens : A → List Token) (spells : A → Bool) →
     ((a : A) → spells a ≡ true → Nests d (tokens a)) → (xs : List A) → all_of (map spells xs) ≡ true → EachNests d (map tokens xs)
 each_within d tokens spells shown [] h = tt
-each_within d tokens spells shown (x ∷ xs) h = (shown x (and-fst _ _ h), each_within d tokens spells shown xs (and-snd _ _ h))
+each_within d tokens spells shown (x ∷ xs) h = (shown x (and_first _ _ h), each_within d tokens spells shown xs (and_second _ _ h))
 
 scalar-plain : (s : Scalar) → is_bracket (scalar_word s) ≡ false
 scalar-plain scalar.Bool = refl
@@ -221,23 +200,23 @@ type-nests (ctype.Struct name) h = closes-plain 0 0 _ _ refl (omega arith) (clos
 length-nests : (n : Option ℕ) → spells_length n ≡ true → Nests 1 (length_tokens n)
 length-nests None h = closes-nil 1
 length-nests (Some n) h =
-    let most : nat_le n 65536 ≡ true = and-snd (nat_le 1 n) (nat_le n 65536) h in
+    let most : nat_le n 65536 ≡ true = and_second (nat_le 1 n) (nat_le n 65536) h in
     let small : n ≤ 65536 = grind (arith, nat_tests) in
     closes-open 0 1 _ _ refl (omega arith)
     (closes-plain 1 1 (decimal n) _ (decimal-plain n (omega arith)) (omega arith) (closes-close 0 1 _ _ refl refl (omega arith) (closes-nil 1)))
 
 member-nests : (m : CMember) → spells_member m ≡ true → Nests 1 (member_tokens m)
 member-nests m h =
-    closes-append 0 1 0 (type_tokens m.ty) _ (type-nests m.ty (and-fst _ _ h)) (omega arith)
-    (closes-plain 0 1 m.name _ (name-plain m.name (and-fst _ _ (and-snd _ _ h))) (omega arith)
-    (closes-append 0 1 1 (length_tokens m.length) _ (length-nests m.length (and-snd _ _ (and-snd _ _ h))) (omega arith)
+    closes-append 0 1 0 (type_tokens m.ty) _ (type-nests m.ty (and_first _ _ h)) (omega arith)
+    (closes-plain 0 1 m.name _ (name-plain m.name (and_first _ _ (and_second _ _ h))) (omega arith)
+    (closes-append 0 1 1 (length_tokens m.length) _ (length-nests m.length (and_second _ _ (and_second _ _ h))) (omega arith)
     (closes-plain 0 1 _ _ refl (omega arith) (closes-nil 1))))
 
 pub struct-nests : (s : CStruct) → spells_struct s ≡ true → Nests 2 (struct_tokens s)
 struct-nests s h =
-    closes-plain 0 2 _ _ refl (omega arith) (closes-plain 0 2 s.name _ (struct_name-plain s.name (and-fst _ _ h)) (omega arith)
+    closes-plain 0 2 _ _ refl (omega arith) (closes-plain 0 2 s.name _ (struct_name-plain s.name (and_first _ _ h)) (omega arith)
     (closes-append 0 2 2 (braced (map member_tokens s.members)) _
-    (braced-nests 1 _ (each_within 1 member_tokens spells_member member-nests s.members (and-snd _ _ (and-snd _ _ h)))) (omega arith)
+    (braced-nests 1 _ (each_within 1 member_tokens spells_member member-nests s.members (and_second _ _ (and_second _ _ h)))) (omega arith)
     (closes-plain 0 2 _ _ refl (omega arith) (closes-nil 2))))
 
 star-nests : (b : Bool) → Nests 0 (star_if b)
@@ -246,9 +225,9 @@ star-nests false = closes-nil 0
 
 param-nests : (p : CParam) → spells_param p ≡ true → Nests 0 (param_tokens p)
 param-nests p h =
-    closes-append 0 0 0 (type_tokens p.ty) _ (type-nests p.ty (and-fst _ _ h)) (omega arith)
+    closes-append 0 0 0 (type_tokens p.ty) _ (type-nests p.ty (and_first _ _ h)) (omega arith)
     (closes-append 0 0 0 (star_if p.pointer) _ (star-nests p.pointer) (omega arith)
-    (closes-plain 0 0 p.name _ (name-plain p.name (and-snd _ _ h)) (omega arith) (closes-nil 0)))
+    (closes-plain 0 0 p.name _ (name-plain p.name (and_second _ _ h)) (omega arith) (closes-nil 0)))
 
 zero-nests : (ty : CType) → Nests 1 (zero_tokens ty)
 zero-nests (ctype.Scalar s) = closes-plain 0 1 _ _ refl (omega arith) (closes-nil 1)
@@ -257,8 +236,8 @@ zero-nests (ctype.Struct name) =
 
 local-nests : (x : CLocal) → spells_local x ≡ true → Nests 1 (local_tokens x)
 local-nests x h =
-    closes-append 0 1 0 (type_tokens x.ty) _ (type-nests x.ty (and-fst _ _ h)) (omega arith)
-    (closes-plain 0 1 x.name _ (name-plain x.name (and-snd _ _ h)) (omega arith)
+    closes-append 0 1 0 (type_tokens x.ty) _ (type-nests x.ty (and_first _ _ h)) (omega arith)
+    (closes-plain 0 1 x.name _ (name-plain x.name (and_second _ _ h)) (omega arith)
     (closes-plain 0 1 _ _ refl (omega arith)
     (closes-append 0 1 1 (zero_tokens x.ty) _ (zero-nests x.ty) (omega arith) (closes-plain 0 1 _ _ refl (omega arith) (closes-nil 1)))))
 
@@ -310,10 +289,10 @@ func_parts-nests f named params locals body =
 pub func-nests : (f : CFunc) → spells_func f ≡ true → Nests (func_depth f) (func_tokens f)
 func-nests f h =
     let named : (is_function_name f.name && (all_of (map spells_param f.params) && (all_of (map spells_local f.locals) && all_of (map spells_stmt f.body))))
-    ≡ true = and-snd _ _ h in
-    let given : (all_of (map spells_param f.params) && (all_of (map spells_local f.locals) && all_of (map spells_stmt f.body))) ≡ true = and-snd _ _ named in
-    let inside : (all_of (map spells_local f.locals) && all_of (map spells_stmt f.body)) ≡ true = and-snd _ _ given in
-    func_parts-nests f (and-fst _ _ named) (and-fst _ _ given) (and-fst _ _ inside) (and-snd _ _ inside)
+    ≡ true = and_second _ _ h in
+    let given : (all_of (map spells_param f.params) && (all_of (map spells_local f.locals) && all_of (map spells_stmt f.body))) ≡ true = and_second _ _ named in
+    let inside : (all_of (map spells_local f.locals) && all_of (map spells_stmt f.body)) ≡ true = and_second _ _ given in
+    func_parts-nests f (and_first _ _ named) (and_first _ _ given) (and_first _ _ inside) (and_second _ _ inside)
 
 -- A text has a spelling where its structs and functions have, it has at least one of each, and no function is deeper than 2,000 brackets.
 pub spellable-by : (structs : List CStruct) (funcs : List CFunc) → has_any structs ≡ true → has_any funcs ≡ true →

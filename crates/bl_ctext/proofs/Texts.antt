@@ -1,36 +1,19 @@
 -- The writer's text: the prelude, and tokens behind it.
-use Rattle.std.proofs.Common.{
-  ◌≡◌,
-  ℕ,
-  ◌≤◌,
-  Bool,
-  true,
-  false,
-  cond,
-  List,
-  [],
-  ◌∷◌,
-  ◌++◌,
-  length,
-  drop,
-  refl,
-  append-nil,
-  append_assoc,
-  length-append,
-}
+use Rattle.std.proofs.Common.{◌≡◌, ℕ, ◌≤◌, Bool, true, false, cond, List, [], ◌∷◌, ◌++◌, length, drop, refl, append-nil, append_assoc, length-append}
 use Rattle.std.proofs.Common.{sym, ◌∙◌, ap, subst, arith}
 use Rattle.std.proofs.lemmas.List.{drop-append-le}
+use Rattle.std.proofs.lemmas.Bool.{and_from}
+use Rattle.bl_tree.proofs.Basics.{and_first, and_second}
 use Rattle.bl_ctext.specs.Prelude.{prelude}
 use Rattle.bl_ctext.specs.declared.prelude.TheConstants.{PRELUDE}
 use Rattle.bl_ctext.specs.Token.{Token, SpacedC}
 use Rattle.bl_ctext.specs.inner.Cut.{tokens_in, may_merge, are_tokens, begins_apart, is_piece, parted, behind_prelude, IsText}
-use Rattle.bl_ctext.proofs.Bytes.{both, and-fst, and-snd}
 use Rattle.bl_ctext.proofs.Cutting.{meets-apart, meets-space, before_a_space, meets-drop, tokens_in-append}
 use Rattle.bl_ctext.proofs.Longest.{spaced}
 
-are_tokens-append : (xs ys : List Token) → are_tokens xs ≡ true → are_tokens ys ≡ true → are_tokens (xs ++ ys) ≡ true
+pub are_tokens-append : (xs ys : List Token) → are_tokens xs ≡ true → are_tokens ys ≡ true → are_tokens (xs ++ ys) ≡ true
 are_tokens-append [] ys h k = k
-are_tokens-append (x ∷ xs) ys h k = both _ _ (and-fst _ _ h) (are_tokens-append xs ys (and-snd _ _ h) k)
+are_tokens-append (x ∷ xs) ys h k = and_from _ _ (and_first _ _ h) (are_tokens-append xs ys (and_second _ _ h) k)
 
 long_enough : (bytes : List ℕ) → IsText bytes → length prelude ≤ length bytes
 long_enough bytes text = omega (arith, simp length-append at (ap length text.begins))
@@ -99,8 +82,8 @@ grown bytes next front after text tokens e f =
 -- a piece is written as it is
 pub piece_grown : (bytes piece after : List ℕ) → IsText bytes → is_piece piece ≡ true → after ≡ bytes ++ piece → Grown bytes piece after
 piece_grown bytes piece after text h e =
-    let apart : may_merge bytes piece ≡ false = meets-apart bytes piece (and-fst (begins_apart piece) _ h) in
-    grown bytes piece bytes after text (and-snd (begins_apart piece) _ h) (parted_kept bytes piece apart) e
+    let apart : may_merge bytes piece ≡ false = meets-apart bytes piece (and_first (begins_apart piece) _ h) in
+    grown bytes piece bytes after text (and_second (begins_apart piece) _ h) (parted_kept bytes piece apart) e
 
 pub parted_text : (bytes next front : List ℕ) → IsText bytes → front ≡ parted bytes next → IsText front
 parted_text bytes next front text e = let P : List ℕ → Type 0 = λ xs. IsText xs in subst P (sym e) (parts bytes next text).text

@@ -1,38 +1,16 @@
 -- Arguments against parameters, one by one.
-use Rattle.std.proofs.Common.{
-  ◌≡◌,
-  ℕ,
-  zero,
-  suc,
-  ◌+◌,
-  ◌<◌,
-  ◌≤◌,
-  Bool,
-  true,
-  false,
-  ◌&&◌,
-  ◌||◌,
-  List,
-  [],
-  ◌∷◌,
-  map,
-  length,
-  get_or,
-  drop,
-  Option,
-  Some,
-}
+use Rattle.std.proofs.Common.{◌≡◌, ℕ, zero, suc, ◌+◌, ◌<◌, ◌≤◌, Bool, ◌&&◌, ◌||◌, List, [], ◌∷◌, map, length, drop, Option, Some}
 use Rattle.std.proofs.Common.{None, refl, ap, sym, ◌∙◌, add-one, arith}
 use Rattle.std.specs.Prelude.{slice_get, nat_le}
 use Rattle.std.proofs.lemmas.Grind.{common_steps}
-use Rattle.std.proofs.Math.Seq.{drop-cons}
 use Rattle.std.proofs.lemmas.List.{drop_all}
+use Rattle.bl_tree.proofs.Basics.{and_assoc, or_assoc}
 use Rattle.bl_tree.specs.declared.place.Place.{Place}
 use Rattle.bl_tree.specs.declared.c.CArg.{CArg}
 use Rattle.bl_tree.specs.declared.c.CType.{CType}
 use Rattle.bl_tree.specs.Reduce.{any_of, joined}
 use Rattle.bl_ctext_semantics.proofs.FirstLemmas.{earlier_of-assoc, first_place-append}
-use Rattle.bl_ctext_semantics.specs.Faults.{Context, StepJudgement, judge_steps, earlier_of, first_place, Variable, Signature, JudgedArg, fit_each, fit_args}
+use Rattle.bl_ctext_semantics.specs.Faults.{Context, StepJudgement, judge_steps, earlier_of, first_place, Variable, Signature, JudgedArg, fit_each}
 use Rattle.bl_ctext_semantics.specs.inner.Checked.{is_handed, judged_args, fit_from, fits_nth, fits_param_at, wants_up_to}
 
 each-step : (widens : Bool) (params : List Variable) (k : ℕ) (a : JudgedArg) (rest : List JudgedArg) →
@@ -57,22 +35,7 @@ pub fit-end : (signature : Option Signature) (k : ℕ) → fit_from signature k 
 fit-end None k = refl
 fit-end (Some s) k = each-end s.widens s.params k
 
-pub fit-start : (signature : Option Signature) (args : List JudgedArg) → fit_from signature 0 args ≡ fit_args signature args
-fit-start None args = refl
-fit-start (Some s) args = refl
-
 -- ---- one more argument
-
-and_assoc : (a b c : Bool) → ((a && b) && c) ≡ (a && (b && c))
-and_assoc true b c = refl
-and_assoc false b c = refl
-
-or_assoc : (a b c : Bool) → ((a || b) || c) ≡ (a || (b || c))
-or_assoc true b c = refl
-or_assoc false b c = refl
-
-pub next_of : {X : Type 0} (xs : List X) (k : ℕ) (x : X) → k < length xs → x ≡ get_or xs k x → drop k xs ≡ x ∷ drop (k + 1) xs
-next_of xs k x within is = rw add-one (drop-cons xs k x within ∙ ap (λ y. y ∷ drop (suc k) xs) (sym is))
 
 pub fit-next : (signature : Option Signature) (k : ℕ) (a : JudgedArg) (rest all : List JudgedArg) (fit : Bool) (x : Bool) → all ≡ a ∷ rest →
     (fit && fit_from signature k all) ≡ x → ((fit && fits_nth signature k a.address a.ty) && fit_from signature (k + 1) rest) ≡ x

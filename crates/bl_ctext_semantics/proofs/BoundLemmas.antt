@@ -1,28 +1,5 @@
 -- No statement, function or tick executes more statements than its cost.
-use Rattle.std.proofs.Common.{
-  ◌≡◌,
-  ℕ,
-  zero,
-  suc,
-  ◌+◌,
-  ◌*◌,
-  ◌≤◌,
-  ℤ,
-  pos,
-  Bool,
-  true,
-  false,
-  max,
-  List,
-  [],
-  ◌∷◌,
-  ◌++◌,
-  map,
-  Option,
-  Some,
-  None,
-  refl,
-}
+use Rattle.std.proofs.Common.{◌≡◌, ℕ, zero, suc, ◌+◌, ◌*◌, ◌≤◌, ℤ, pos, Bool, true, false, max, List, [], ◌∷◌, ◌++◌, map, Option, Some, None, refl}
 use Rattle.std.proofs.Common.{subst, arith}
 use Rattle.std.specs.Prelude.{All, if◌then◌else◌, option_map, unwrap_or, is_none, bytes_eq, codes}
 use Rattle.std.specs.Option.{option_or}

@@ -1,30 +1,10 @@
 -- The greatest number of called functions.
-use Rattle.std.proofs.Common.{
-  ◌≡◌,
-  ℕ,
-  ◌+◌,
-  ◌<◌,
-  List,
-  [],
-  ◌∷◌,
-  ◌++◌,
-  map,
-  max,
-  drop,
-  length,
-  get_or,
-  refl,
-  ap,
-  sym,
-  subst,
-  ◌∙◌,
-  arith,
-}
+use Rattle.std.proofs.Common.{◌≡◌, ℕ, ◌+◌, ◌<◌, List, [], ◌∷◌, ◌++◌, map, max, drop, length, get_or, subst, ◌∙◌, arith}
+use Rattle.bl_tree.proofs.Basics.{drop_next}
 use Rattle.bl_tree.specs.declared.text.Text.{Text}
 use Rattle.bl_tree.specs.Reduce.{joined, greatest}
 use Rattle.bl_ctext_semantics.specs.Calls.{most}
 use Rattle.bl_ctext_semantics.specs.Tables.{Table}
-use Rattle.bl_ctext_semantics.proofs.ArgLemmas.{next_of}
 
 pub most-append : (t : Table ℕ) (xs ys : List Text) → most t (xs ++ ys) ≡ max (most t xs) (most t ys)
 most-append t [] ys = omega arith
@@ -38,5 +18,5 @@ pub most-next : {X : Type 0} (t : Table ℕ) (names : X → List Text) (xs : Lis
     max so_far (most t (joined (map names (drop k xs)))) ≡ all → max (max so_far (most t (names x))) (most t (joined (map names (drop (k + 1) xs)))) ≡ all
 most-next t names xs k x so_far all within is h =
     let here : max so_far (most t (names x ++ joined (map names (drop (k + 1) xs)))) ≡ all =
-    subst (λ l. max so_far (most t (joined (map names l))) ≡ all) (next_of xs k x within is) h in
+    subst (λ l. max so_far (most t (joined (map names l))) ≡ all) (drop_next xs k x within is) h in
     omega (arith, most-append t (names x) (joined (map names (drop (k + 1) xs))))

@@ -1,31 +1,10 @@
 -- How statements of a well-formed file end.
-use Rattle.std.proofs.Common.{
-  ◌≡◌,
-  ℕ,
-  zero,
-  suc,
-  ◌+◌,
-  ◌<◌,
-  ℤ,
-  pos,
-  Bool,
-  true,
-  false,
-  ◌&&◌,
-  ◌||◌,
-  List,
-  [],
-  ◌∷◌,
-  ◌++◌,
-  map,
-  length,
-  get_or,
-  Option,
-}
+use Rattle.std.proofs.Common.{◌≡◌, ℕ, zero, suc, ◌+◌, ◌<◌, ℤ, Bool, true, false, ◌&&◌, ◌||◌, List, [], ◌∷◌, ◌++◌, map, length, Option}
 use Rattle.std.proofs.Common.{Some, None, refl}
 use Rattle.std.specs.Prelude.{All, not, is_none, nat_lt, nat_le, if◌then◌else◌}
 use Rattle.std.specs.List.{list_all}
 use Rattle.std.proofs.lemmas.List.Elements.{All-nil, All-cons, All-head, All-tail}
+use Rattle.bl_tree.proofs.Basics.{and_first, and_second, first_empty, second_empty}
 use Rattle.bl_tree.specs.declared.place.Place.{Place}
 use Rattle.bl_tree.specs.declared.scalar.Scalar.{Scalar}
 use Rattle.bl_tree.specs.declared.c.CExpr.{CExpr}
@@ -52,14 +31,6 @@ use Rattle.bl_ctext_semantics.specs.Parts.{Parts}
 use Rattle.bl_ctext_semantics.proofs.Induction.{Optional, StmtCases, induct_stmt, stmt}
 
 -- ---- lists of faults
-
-pub nil-left : {A : Type 0} (xs ys : List A) → xs ++ ys ≡ [] → xs ≡ []
-nil-left [] ys h = refl
-nil-left (x ∷ xs) ys h = cc
-
-pub nil-right : {A : Type 0} (xs ys : List A) → xs ++ ys ≡ [] → ys ≡ []
-nil-right [] ys h = h
-nil-right (x ∷ xs) ys h = cc
 
 -- ---- how statements end
 
@@ -155,14 +126,6 @@ call_end-stays None = record { it = tt }
 
 -- ---- a statement that surely returns leaves its block
 
-and-left : (a b : Bool) → (a && b) ≡ true → a ≡ true
-and-left true b h = refl
-and-left false b h = cc
-
-and-right : (a b : Bool) → (a && b) ≡ true → b ≡ true
-and-right true b h = h
-and-right false b h = cc
-
 module _ (scope : Scope) where
   abbrev Returns : CStmt → Type 0
   Returns s = surely_returns s ≡ true → (memory : Memory) → Leaves (runs_c s scope memory).end
@@ -186,12 +149,12 @@ module _ (scope : Scope) where
       Returns (stmt at (CStmtKind-F.If e block other))
   if-returns at e block None h r sure memory =
       let e : (last_returns (map surely_returns block) && false) ≡ true = rw (fold-roll-CStmt, fold-roll-CStmtKind) at sure in
-      absurd (let x : false ≡ true = and-right (last_returns (map surely_returns block)) false e in cc)
+      absurd (let x : false ≡ true = and_second (last_returns (map surely_returns block)) false e in cc)
   if-returns at e block (Some other) h r sure memory =
       let both : (last_returns (map surely_returns block) && last_returns (map surely_returns other)) ≡ true =
       rw (fold-roll-CStmt, fold-roll-CStmtKind) at sure in
-      let first : Leaves (block_of (map runs_c block) scope memory).end = block-leaves block h (and-left _ _ both) memory in
-      let second : Leaves (block_of (map runs_c other) scope memory).end = block-leaves other r (and-right _ _ both) memory in
+      let first : Leaves (block_of (map runs_c block) scope memory).end = block-leaves block h (and_first _ _ both) memory in
+      let second : Leaves (block_of (map runs_c other) scope memory).end = block-leaves other r (and_second _ _ both) memory in
       let all : Leaves (executed memory (value_c e scope memory)
       (λ v. (if is_one (scalar_number v) then block_of (map runs_c block) else block_of (map runs_c other)) scope memory)).end =
       executed-leaves memory (value_c e scope memory)
@@ -241,8 +204,8 @@ module _ (scope : Scope) where
   block-stays [] h context none memory = record { it = tt }
   block-stays (s ∷ stmts) h context none memory =
       following-stays (runs_c s scope memory).count (runs_c s scope memory).memory (runs_c s scope memory).end (λ m. block_of (map runs_c stmts) scope m)
-      (All-head Keeps s stmts h context (nil-left _ _ none) memory)
-      (block-stays stmts (All-tail Keeps s stmts h) context (nil-right (faults_in_stmt s context false) _ none) (runs_c s scope memory).memory)
+      (All-head Keeps s stmts h context (first_empty _ _ none) memory)
+      (block-stays stmts (All-tail Keeps s stmts h) context (second_empty (faults_in_stmt s context false) _ none) (runs_c s scope memory).memory)
 
   choose-stays : (b : Bool) (f g : CStmtMeaning) (memory : Memory) → Stays (f scope memory).end → Stays (g scope memory).end →
       Stays ((if b then f else g) scope memory).end
@@ -255,7 +218,7 @@ module _ (scope : Scope) where
       let all : condition_faults e context ++ (block_faults (map faults_in_stmt block) context false ++ []) ≡ [] =
       rw (fold-roll-CStmt, fold-roll-CStmtKind) at none in
       let first : Stays (block_of (map runs_c block) scope memory).end =
-      block-stays block h context (nil-left _ _ (nil-right (condition_faults e context) _ all)) memory in
+      block-stays block h context (first_empty _ _ (second_empty (condition_faults e context) _ all)) memory in
       let all : Stays (executed memory (value_c e scope memory)
       (λ v. (if is_one (scalar_number v) then block_of (map runs_c block) else block_of []) scope memory)).end =
       executed-stays memory (value_c e scope memory) (λ v. (if is_one (scalar_number v) then block_of (map runs_c block) else block_of []) scope memory)
@@ -265,9 +228,9 @@ module _ (scope : Scope) where
       let all : condition_faults e context ++ (block_faults (map faults_in_stmt block) context false ++ block_faults (map faults_in_stmt other) context false)
       ≡ [] = rw (fold-roll-CStmt, fold-roll-CStmtKind) at none in
       let first : Stays (block_of (map runs_c block) scope memory).end =
-      block-stays block h context (nil-left _ _ (nil-right (condition_faults e context) _ all)) memory in
+      block-stays block h context (first_empty _ _ (second_empty (condition_faults e context) _ all)) memory in
       let second : Stays (block_of (map runs_c other) scope memory).end =
-      block-stays other r context (nil-right (block_faults (map faults_in_stmt block) context false) _ (nil-right (condition_faults e context) _ all)) memory in
+      block-stays other r context (second_empty (block_faults (map faults_in_stmt block) context false) _ (second_empty (condition_faults e context) _ all)) memory in
       let all : Stays (executed memory (value_c e scope memory)
       (λ v. (if is_one (scalar_number v) then block_of (map runs_c block) else block_of (map runs_c other)) scope memory)).end =
       executed-stays memory (value_c e scope memory)
@@ -311,12 +274,12 @@ module _ (scope : Scope) where
   body-stays [] context none memory = record { it = tt }
   body-stays (s ∷ stmts) context none memory =
       following-stays (runs_c s scope memory).count (runs_c s scope memory).memory (runs_c s scope memory).end (λ m. block_of (map runs_c stmts) scope m)
-      (stmt-keeps s context (nil-left _ _ none) memory)
-      (body-stays stmts context (nil-right (faults_in_stmt s context false) _ none) (runs_c s scope memory).memory)
+      (stmt-keeps s context (first_empty _ _ none) memory)
+      (body-stays stmts context (second_empty (faults_in_stmt s context false) _ none) (runs_c s scope memory).memory)
 
 -- ---- functions
 
-unless-nil : (holds : Bool) (clause : Clause) (place : Place) → unless holds clause place ≡ [] → holds ≡ true
+pub unless-nil : (holds : Bool) (clause : Clause) (place : Place) → unless holds clause place ≡ [] → holds ≡ true
 unless-nil true clause place h = refl
 unless-nil false clause place h = cc
 
@@ -335,17 +298,17 @@ sure false last h k = h
 function-ends : (structs : Table (Table CMember)) (functions : Table Signature) (depths : Table ℕ) (last : Bool) (f : CFunc) →
     faults_in_function structs functions depths last f ≡ [] → EndsInside f
 function-ends structs functions depths last f none scope memory =
-    let h0 = nil-left (faults_in_head structs functions depths last f) _ none in
-    let h1 = nil-right (unless (is_none (functions f.name)) distinct_names f.place) _ h0 in
-    let h2 = nil-right (unless (all_distinct no_entries (variable_names f)) distinct_names f.place) _ h1 in
-    let h3 = nil-right (unless (list_all (λ p. is_declared structs p.ty) f.params && list_all (λ l. is_declared structs l.ty) f.locals) declared_before
+    let h0 = first_empty (faults_in_head structs functions depths last f) _ none in
+    let h1 = second_empty (unless (is_none (functions f.name)) distinct_names f.place) _ h0 in
+    let h2 = second_empty (unless (all_distinct no_entries (variable_names f)) distinct_names f.place) _ h1 in
+    let h3 = second_empty (unless (list_all (λ p. is_declared structs p.ty) f.params && list_all (λ l. is_declared structs l.ty) f.locals) declared_before
     f.place) _ h2 in
-    let h4 = nil-right (unless (list_all (λ p. p.pointer || is_scalar p.ty) f.params) scalar_parameter f.place) _ h3 in
-    let h5 = nil-right (unless (if last then not f.fixed else f.fixed) static_functions f.place) _ h4 in
-    let h6 = nil-right (unless (nat_le (depth_of_function depths f) 300) short_chain f.place) _ h5 in
+    let h4 = second_empty (unless (list_all (λ p. p.pointer || is_scalar p.ty) f.params) scalar_parameter f.place) _ h3 in
+    let h5 = second_empty (unless (if last then not f.fixed else f.fixed) static_functions f.place) _ h4 in
+    let h6 = second_empty (unless (nat_le (depth_of_function depths f) 300) short_chain f.place) _ h5 in
     let returning = unless-nil (is_none f.result || last_returns (map surely_returns f.body)) returns_result f.place h6 in
-    let h7 = nil-right (faults_in_head structs functions depths last f) _ none in
-    let body = nil-right (repeated (names_table (variable_names f)) (turns_in_block f.body)) _ h7 in
+    let h7 = second_empty (faults_in_head structs functions depths last f) _ none in
+    let body = second_empty (repeated (names_table (variable_names f)) (turns_in_block f.body)) _ h7 in
     ends_as f.result (block_c f.body scope memory).end
     (body-stays scope f.body (context_in structs functions f) body memory)
     (λ has. body-leaves scope f.body (sure (is_none f.result) (last_returns (map surely_returns f.body)) returning has) memory)
@@ -355,13 +318,13 @@ functions-end : (structs : Table (Table CMember)) (functions : Table Signature) 
 functions-end structs functions depths [] none = All-nil EndsInside
 functions-end structs functions depths (f ∷ rest) none =
     All-cons EndsInside f rest
-    (function-ends structs functions depths (nat_lt (length rest) 2) f (nil-left _ _ none))
+    (function-ends structs functions depths (nat_lt (length rest) 2) f (first_empty _ _ none))
     (functions-end structs (with_entry functions f.name (signature_in f)) (with_entry depths f.name (depth_of_function depths f)) rest
-    (nil-right (faults_in_function structs functions depths (nat_lt (length rest) 2) f) _ none))
+    (second_empty (faults_in_function structs functions depths (nat_lt (length rest) 2) f) _ none))
 
 -- every function of a well-formed file
 pub always-ends : (file : Parts) → AlwaysEnds file
 unfolding faults_in
 always-ends file formed =
     functions-end (struct_table file.structs) no_entries no_entries file.funcs
-    (nil-left _ _ (nil-right (struct_faults_after no_entries no_entries file.structs) _ formed.none))
+    (first_empty _ _ (second_empty (struct_faults_after no_entries no_entries file.structs) _ formed.none))

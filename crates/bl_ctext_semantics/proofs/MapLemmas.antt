@@ -24,20 +24,6 @@ inserted old name value absent asked =
     at_absent (bytes_eq name asked) (old asked) value
     (λ same. subst (λ n. old n ≡ None) ((bytes_eq-Decides name asked).0 same) (none_of (old name) absent))
 
--- a table keeps what it has
-pub kept : {A : Type 0} (old : Table A) (name : List ℕ) (value : A) → is_some (old name) ≡ true → (asked : List ℕ) →
-    old asked ≡ with_entry old name value asked
-kept old name value present asked =
-    at_present (bytes_eq name asked) (old asked) value
-    (λ same. subst (λ n. is_some (old n) ≡ true) ((bytes_eq-Decides name asked).0 same) present)
-  where
-    at_present : {A : Type 0} (same : Bool) (old : Option A) (value : A) → (same ≡ true → is_some old ≡ true) →
-        old ≡ option_or old (if same then Some value else None)
-    at_present true (Some x) value h = refl
-    at_present false (Some x) value h = refl
-    at_present false None value h = refl
-    at_present true None value h = cc (h refl)
-
 -- an entry is added now, or found later in the list
 pub next_entry : {A : Type 0} (old : Option A) (same : Bool) (value : A) (rest : Option A) →
     option_or (option_or old (if same then Some value else None)) rest ≡ option_or old (if same then Some value else rest)

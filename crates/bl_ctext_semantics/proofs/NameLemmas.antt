@@ -1,34 +1,12 @@
 -- Names of a list, one by one.
-use Rattle.std.proofs.Common.{
-  ◌≡◌,
-  ℕ,
-  suc,
-  ◌+◌,
-  ◌<◌,
-  Bool,
-  true,
-  false,
-  not,
-  ◌&&◌,
-  List,
-  [],
-  ◌∷◌,
-  map,
-  length,
-  get_or,
-  drop,
-  Option,
-  Some,
-  None,
-  max,
-}
-use Rattle.std.proofs.Common.{refl, ap, sym, subst, ◌∙◌, add-one, arith}
+use Rattle.std.proofs.Common.{◌≡◌, ℕ, ◌+◌, ◌<◌, Bool, not, ◌&&◌, List, [], ◌∷◌, map, length, get_or, drop, Option, max}
+use Rattle.std.proofs.Common.{ap, sym, subst, ◌∙◌, add-one, arith}
 use Rattle.std.specs.Prelude.{is_some}
 use Rattle.std.specs.Borrow.{Bor}
 use Rattle.std.specs.List.{list_all}
 use Rattle.bl_tree.specs.Reduce.{greatest}
-use Rattle.bl_ctext_semantics.proofs.ArgLemmas.{next_of}
 use Rattle.std.proofs.Math.Seq.{drop-cons}
+use Rattle.bl_tree.proofs.Basics.{and_assoc, drop_next}
 use Rattle.bl_tree.specs.declared.place.Place.{Place}
 use Rattle.bl_ctext_semantics.specs.Faults.{all_distinct, distinct_names, earlier_of, first_place, repeated, unless}
 use Rattle.bl_ctext_semantics.specs.inner.Maps.{bytes_of, named_entries}
@@ -39,10 +17,6 @@ use Rattle.bl_ctext_semantics.proofs.MapLemmas.{same_table}
 -- the list from an index on
 pub at_index : {X : Type 0} (xs : List X) (k : ℕ) (d : X) → k < length xs → drop k xs ≡ get_or xs k d ∷ drop (k + 1) xs
 at_index xs k d within = rw add-one (drop-cons xs k d within)
-
-and_assoc : (a b c : Bool) → ((a && b) && c) ≡ (a && (b && c))
-and_assoc true b c = refl
-and_assoc false b c = refl
 
 pub differ-next : (seen more : Table (Unit {0})) (names : List (Bor (List ℕ))) (k : ℕ) (d : Bor (List ℕ)) (answer x : Bool) → k < length names →
     ((asked : List ℕ) → more asked ≡ with_entry seen (get_or names k d).now tt asked) →
@@ -76,12 +50,12 @@ pub all-next : {X : Type 0} (p : X → Bool) (xs : List X) (k : ℕ) (x : X) (so
     (so_far && list_all p (drop k xs)) ≡ all → ((so_far && p x) && list_all p (drop (k + 1) xs)) ≡ all
 all-next p xs k x so_far all within is h =
     and_assoc so_far (p x) (list_all p (drop (k + 1) xs))
-    ∙ ap (λ l. so_far && list_all p l) (sym (next_of xs k x within is)) ∙ h
+    ∙ ap (λ l. so_far && list_all p l) (sym (drop_next xs k x within is)) ∙ h
 
 -- a greatest, one by one
 pub greatest-next : {X : Type 0} (f : X → ℕ) (xs : List X) (k : ℕ) (x : X) (so_far all : ℕ) → k < length xs → x ≡ get_or xs k x →
     max so_far (greatest (map f (drop k xs))) ≡ all → max (max so_far (f x)) (greatest (map f (drop (k + 1) xs))) ≡ all
 greatest-next f xs k x so_far all within is h =
     let here : max so_far (max (f x) (greatest (map f (drop (k + 1) xs)))) ≡ all =
-    subst (λ l. max so_far (greatest (map f l)) ≡ all) (next_of xs k x within is) h in
+    subst (λ l. max so_far (greatest (map f l)) ≡ all) (drop_next xs k x within is) h in
     omega arith

@@ -1,32 +1,10 @@
 -- Sums, products and tables of numbers, as far as 64 bits tell them.
-use Rattle.std.proofs.Common.{
-  ◌≡◌,
-  ℕ,
-  zero,
-  suc,
-  ◌+◌,
-  ◌*◌,
-  ◌-◌,
-  ◌^◌,
-  ◌<◌,
-  ◌≤◌,
-  Bool,
-  true,
-  false,
-  min,
-  max,
-  List,
-  [],
-  ◌∷◌,
-  map,
-  length,
-  get_or,
-  drop,
-}
+use Rattle.std.proofs.Common.{◌≡◌, ℕ, zero, suc, ◌+◌, ◌*◌, ◌-◌, ◌^◌, ◌<◌, ◌≤◌, Bool, true, false, max, List, [], ◌∷◌, map, length, get_or, drop}
 use Rattle.std.proofs.Common.{Option, Some, None, refl, ap, sym, subst, ◌∙◌, suc-mul, zero-mul, arith}
 use Rattle.std.specs.Prelude.{bytes_eq, option_map, unwrap_or, if◌then◌else◌}
 use Rattle.std.specs.Option.{option_or}
 use Rattle.std.proofs.lemmas.List.{drop_all}
+use Rattle.bl_tree.proofs.Basics.{drop_next, same_some}
 use Rattle.bl_tree.specs.declared.text.Text.{Text}
 use Rattle.bl_tree.specs.declared.c.CType.{CType}
 use Rattle.bl_tree.specs.declared.c.CType.TheVariants.{Scalar as OfScalar, Struct as OfStruct}
@@ -40,7 +18,6 @@ use Rattle.bl_ctext_semantics.specs.Loops.{turns_in_block}
 use Rattle.bl_ctext_semantics.specs.Saturated.{AlikeSaturated, saturated}
 use Rattle.bl_ctext_semantics.specs.Sizes.{size_of_length, size_of_type, size_of_member, size_of_struct, sizes_after, size_of_param, own_cells, chain_cells}
 use Rattle.bl_ctext_semantics.specs.Sizes.{chains_after}
-use Rattle.bl_ctext_semantics.proofs.ArgLemmas.{next_of}
 
 -- ---- numbers
 
@@ -82,7 +59,7 @@ pub sum-next : {X : Type 0} (f : X → ℕ) (xs : List X) (k : ℕ) (x : X) (so_
     more ≡ saturated (so_far + here) → Summed f xs k so_far all → Summed f xs (k + 1) more all
 sum-next f xs k x so_far here more all within is e told h =
     let rest = total (map f (drop (k + 1) xs)) in
-    let whole : saturated (so_far + (f x + rest)) ≡ all = subst (λ l. saturated (so_far + total (map f l)) ≡ all) (next_of xs k x within is) h.1 in
+    let whole : saturated (so_far + (f x + rest)) ≡ all = subst (λ l. saturated (so_far + total (map f l)) ≡ all) (drop_next xs k x within is) h.1 in
     (omega arith, ap (λ n. saturated (n + rest)) told ∙ moved so_far here (f x) rest all e whole)
 
 pub sum-done : {X : Type 0} (f : X → ℕ) (xs : List X) (k so_far all : ℕ) → length xs ≤ k → Summed f xs k so_far all → so_far ≡ all
@@ -93,14 +70,11 @@ sum-done f xs k so_far all past h =
 
 -- ---- tables
 
-some_of : {A : Type 0} (a b : A) → Some a ≡ Some b → a ≡ b
-some_of a b h = cc
-
 alike-or : (a b : Option ℕ) → option_map saturated a ≡ option_map saturated b → saturated (unwrap_or a 0) ≡ saturated (unwrap_or b 0)
 alike-or None None h = refl
 alike-or None (Some b) h = cc
 alike-or (Some a) None h = cc
-alike-or (Some a) (Some b) h = some_of (saturated a) (saturated b) h
+alike-or (Some a) (Some b) h = same_some (saturated a) (saturated b) h
 
 pub entry-alike : (s t : Table ℕ) → AlikeSaturated s t → (name : Text) → saturated (entry_or 0 s name) ≡ saturated (entry_or 0 t name)
 entry-alike s t h name = alike-or (s name) (t name) (h name)

@@ -1,26 +1,5 @@
 -- The functions of the prelude by name: what they take and what they give.
-use Rattle.std.specs.Prelude.{
-  ℕ,
-  ◌+◌,
-  ◌%◌,
-  ◌^◌,
-  ℤ,
-  pos,
-  ◌+ℤ◌,
-  Bool,
-  true,
-  false,
-  ◌&&◌,
-  List,
-  [],
-  ◌∷◌,
-  Option,
-  Some,
-  None,
-  int_lt,
-  int_le,
-  if◌then◌else◌,
-}
+use Rattle.std.specs.Prelude.{ℕ, ◌+◌, ◌%◌, ◌^◌, ℤ, pos, ◌+ℤ◌, Bool, true, false, ◌&&◌, List, [], ◌∷◌, Option, Some, None, int_lt, int_le, if◌then◌else◌}
 use Rattle.std.specs.Int.{int_rem_euclid}
 use Rattle.std.specs.Ordering.{int_eq}
 use Rattle.bl_tree.specs.declared.text.Text.{Text}

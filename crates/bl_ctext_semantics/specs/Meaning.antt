@@ -1,25 +1,6 @@
 -- What C expressions, statements and functions do: the value or the memory after, how it ended, and how many statements were executed.
 -- A form that no well-formed file has (a function that isn't known, a number where a place is due) traps or gives some fixed value.
-use Rattle.std.specs.Prelude.{
-  ℕ,
-  ◌+◌,
-  ℤ,
-  pos,
-  Bool,
-  true,
-  false,
-  List,
-  [],
-  ◌∷◌,
-  ◌++◌,
-  map,
-  Option,
-  Some,
-  None,
-  option_map,
-  unwrap_or,
-  if◌then◌else◌,
-}
+use Rattle.std.specs.Prelude.{ℕ, ◌+◌, ℤ, pos, Bool, true, false, List, [], ◌∷◌, ◌++◌, map, Option, Some, None, option_map, unwrap_or, if◌then◌else◌}
 use Rattle.bl_tree.specs.declared.text.Text.{Text}
 use Rattle.bl_tree.specs.declared.scalar.Scalar.TheVariants.{Bool as OfBool}
 use Rattle.bl_tree.specs.declared.scalar.Op.{Op}

@@ -1,33 +1,11 @@
 -- The memory and the cells as a function begins to run.
-use Rattle.std.proofs.Common.{
-  ◌≡◌,
-  ℕ,
-  suc,
-  ◌+◌,
-  ◌≤◌,
-  ◌<◌,
-  inl,
-  inr,
-  ⊎_elim,
-  ℤ,
-  pos,
-  Bool,
-  true,
-  false,
-  ◌&&◌,
-  ◌||◌,
-  List,
-  [],
-  ◌∷◌,
-  ◌++◌,
-  map,
-  length,
-}
+use Rattle.std.proofs.Common.{◌≡◌, ℕ, suc, ◌+◌, ◌≤◌, ◌<◌, inl, inr, ⊎_elim, ℤ, pos, Bool, true, false, ◌&&◌, ◌||◌, List, [], ◌∷◌, ◌++◌, map, length}
 use Rattle.std.proofs.Common.{Option, Some, None, refl, ap, sym, subst, ◌∙◌, arith, length-set}
 use Rattle.std.specs.Prelude.{bytes_eq, ◌==◌, slice_set, if◌then◌else◌}
 use Rattle.std.specs.List.{list_all}
 use Rattle.std.proofs.lemmas.Grind.{common_steps}
 use Rattle.std.proofs.lemmas.Slice.Eq.{bytes_eq-Decides}
+use Rattle.bl_tree.proofs.Basics.{and_first, and_second, same_some}
 use Rattle.bl_tree.specs.declared.text.Text.{Text}
 use Rattle.bl_tree.specs.declared.scalar.Scalar.{Scalar}
 use Rattle.bl_tree.specs.declared.c.CType.{CType}
@@ -42,7 +20,6 @@ use Rattle.bl_ctext_semantics.specs.Sizes.{Sizes, size_of_type}
 use Rattle.bl_ctext_semantics.specs.Tables.{found, no_entries}
 use Rattle.bl_ctext_semantics.specs.Faults.{Variable, all_distinct, is_scalar, local_variable, param_variable}
 use Rattle.bl_ctext_semantics_laws.specs.Fitting.{whole, walk}
-use Rattle.bl_ctext_semantics_laws.proofs.Lists.{and-left, and-right}
 use Rattle.bl_ctext_semantics_laws.specs.Layout.{Slot}
 use Rattle.bl_ctext_semantics_laws.specs.Flat.{Cells, cell_at, with_args, zeroed}
 use Rattle.bl_ctext_semantics_laws.proofs.Entries.{Apart, Positioned, offset-apart, offset-within, offset_of, positioned, sum_of}
@@ -51,9 +28,6 @@ use Rattle.bl_ctext_semantics_laws.proofs.Spans.{args-elsewhere, length-zeroed, 
 use Rattle.bl_ctext_semantics_laws.proofs.Standing.{Away, Below, Kept, PlacedAt, Separate, Stand, Stands, World, set-stands, zero-fits}
 use Rattle.bl_ctext_semantics_laws.proofs.Running.{PassedAll, Shallow, SlotAs, ValuedAs, VariableAs}
 use Rattle.bl_ctext_semantics_laws.proofs.Frames.{SlotFor, entries, variable_size}
-
-some_of : {A : Type 0} (a b : A) → Some a ≡ Some b → a ≡ b
-some_of a b h = cc
 
 -- ---- where the variables of a function stand
 
@@ -161,7 +135,7 @@ module _ (known : Sizes) (lists : Lists) (structs : Structs) (shaped : Shaped kn
           (if b then None else Some (record { at = base + Offset name; ty = v.ty })) ≡ Some s → Own name s
       plain-one v true is p k = cc
       plain-one v false is p k =
-          let e : record { at = base + Offset name; ty = v.ty } ≡ s = some_of (record { at = base + Offset name; ty = v.ty }) s k in
+          let e : record { at = base + Offset name; ty = v.ty } ≡ s = same_some (record { at = base + Offset name; ty = v.ty }) s k in
           record { v = v; is = is; plain = p; at = sym (ap (λ x. x.at) e); ty = sym (ap (λ x. x.ty) e) }
 
       chosen : (o : Option Variable) → found name vars ≡ o → stand_of o (base + Offset name) ≡ Some s → Own name s
@@ -331,7 +305,7 @@ module _ (known : Sizes) (lists : Lists) (structs : Structs) (shaped : Shaped kn
       differ false same = refl
       differ true same =
           let e : o.v ≡ (param_variable p).1 =
-          some_of o.v (param_variable p).1 (sym o.is ∙ ap (λ n. found n vars) ((bytes_eq-Decides name p.name).0 same) ∙ there) in
+          same_some o.v (param_variable p).1 (sym o.is ∙ ap (λ n. found n vars) ((bytes_eq-Decides name p.name).0 same) ∙ there) in
           absurd (let x : false ≡ true = sym o.plain ∙ ap (λ v. v.pointer) e ∙ is in cc)
 
   -- the parameters get their values
@@ -347,22 +321,22 @@ module _ (known : Sizes) (lists : Lists) (structs : Structs) (shaped : Shaped kn
   args-stand (p ∷ ps) behind [] ns first memory cells positions fit all stands = absurd all
   args-stand (p ∷ ps) behind (v ∷ vs) [] first memory cells positions fit all stands = absurd all
   args-stand (p ∷ ps) behind (by_address place ∷ vs) (n ∷ ns) first memory cells positions fit all stands =
-      let one = param-one p (and-left (p.pointer || is_scalar p.ty) _ fit) in
+      let one = param-one p (and_first (p.pointer || is_scalar p.ty) _ fit) in
       let e : suc (base + behind) ≡ base + (behind + variable_size known (param_variable p).1) = omega arith in
       subst (λ k. Stands known lists structs shaped limit (begun []) (with_params depth ps vs memory) (with_args k ns (slice_set cells (base + behind) n)))
       (sym e)
       (args-stand ps (behind + variable_size known (param_variable p).1) vs ns first memory (slice_set cells (base + behind) n) positions.1
-      (and-right (p.pointer || is_scalar p.ty) _ fit) all.1
+      (and_second (p.pointer || is_scalar p.ty) _ fit) all.1
       (free-stands memory cells (base + behind) n stands (omega arith) (pointer-clear p behind all.0.0 positions.0.0 positions.0.1)))
   args-stand (p ∷ ps) behind (by_value v ∷ vs) (n ∷ ns) first memory cells positions fit all stands =
-      let one = param-one p (and-left (p.pointer || is_scalar p.ty) _ fit) in
+      let one = param-one p (and_first (p.pointer || is_scalar p.ty) _ fit) in
       let e : suc (base + behind) ≡ base + (behind + variable_size known (param_variable p).1) = omega arith in
       subst (λ k. Stands known lists structs shaped limit (begun [])
       (with_params depth ps vs (set_at memory (record { root = variable depth p.name; parts = [] }) v))
       (with_args k ns (slice_set cells (base + behind) n))) (sym e)
       (args-stand ps (behind + variable_size known (param_variable p).1) vs ns first (set_at memory (record { root = variable depth p.name; parts = [] }) v)
-      (slice_set cells (base + behind) n) positions.1 (and-right (p.pointer || is_scalar p.ty) _ fit) all.1
-      (value-set p.ty p.pointer refl refl (and-left (p.pointer || is_scalar p.ty) _ fit) all.0.0 all.0.1))
+      (slice_set cells (base + behind) n) positions.1 (and_second (p.pointer || is_scalar p.ty) _ fit) all.1
+      (value-set p.ty p.pointer refl refl (and_first (p.pointer || is_scalar p.ty) _ fit) all.0.0 all.0.1))
     where
       value-set : (ty : CType) (pointer : Bool) → p.ty ≡ ty → p.pointer ≡ pointer → (pointer || is_scalar ty) ≡ true → pointer ≡ false →
           ValuedAs known lists structs shaped limit w first ty v n →
@@ -395,9 +369,9 @@ module _ (known : Sizes) (lists : Lists) (structs : Structs) (shaped : Shaped kn
   pointers-between [] behind at args is fit all = tt
   pointers-between (p ∷ ps) behind at [] is fit all = tt
   pointers-between (p ∷ ps) behind at (n ∷ ns) is fit all =
-      let one = param-one p (and-left (p.pointer || is_scalar p.ty) _ fit) in
+      let one = param-one p (and_first (p.pointer || is_scalar p.ty) _ fit) in
       let rest : Between base (base + sum_of (variable_size known) vars) (pointer_cells (suc at) ps ns) =
-      pointers-between ps (behind + 1) (suc at) ns (omega arith) (and-right (p.pointer || is_scalar p.ty) _ fit) (omega arith) in
+      pointers-between ps (behind + 1) (suc at) ns (omega arith) (and_second (p.pointer || is_scalar p.ty) _ fit) (omega arith) in
       chosen-cells (Between base (base + sum_of (variable_size known) vars)) p.pointer ((at, n) ∷ pointer_cells (suc at) ps ns) (pointer_cells (suc at) ps ns)
       (λ is-one. ((omega arith, omega arith), rest)) (λ none. rest)
 
@@ -408,10 +382,10 @@ module _ (known : Sizes) (lists : Lists) (structs : Structs) (shaped : Shaped kn
   pointers-clear [] behind at args is positions fit name s o = tt
   pointers-clear (p ∷ ps) behind at [] is positions fit name s o = tt
   pointers-clear (p ∷ ps) behind at (n ∷ ns) is positions fit name s o =
-      let one = param-one p (and-left (p.pointer || is_scalar p.ty) _ fit) in
+      let one = param-one p (and_first (p.pointer || is_scalar p.ty) _ fit) in
       let rest : Away s.at (size_of_type known s.ty) (pointer_cells (suc at) ps ns) =
       pointers-clear ps (behind + variable_size known (param_variable p).1) (suc at) ns (omega arith) positions.1
-      (and-right (p.pointer || is_scalar p.ty) _ fit) name s o in
+      (and_second (p.pointer || is_scalar p.ty) _ fit) name s o in
       chosen-cells (Away s.at (size_of_type known s.ty)) p.pointer ((at, n) ∷ pointer_cells (suc at) ps ns) (pointer_cells (suc at) ps ns)
       (λ is-one. (subst (λ k. Apart s.at (size_of_type known s.ty) k 1) (sym is) (pointer-clear p behind is-one positions.0.0 positions.0.1 name s o), rest))
       (λ none. rest)
@@ -438,9 +412,9 @@ module _ (known : Sizes) (lists : Lists) (structs : Structs) (shaped : Shaped kn
   args-few (p ∷ ps) [] ns first fit all = absurd all
   args-few (p ∷ ps) (v ∷ vs) [] first fit all = absurd all
   args-few (p ∷ ps) (v ∷ vs) (n ∷ ns) first fit all =
-      let one = param-one p (and-left (p.pointer || is_scalar p.ty) _ fit) in
+      let one = param-one p (and_first (p.pointer || is_scalar p.ty) _ fit) in
       let rest : length ns ≤ sum_of (variable_size known) (entries ps locals) =
-      args-few ps vs ns first (and-right (p.pointer || is_scalar p.ty) _ fit) all.1 in
+      args-few ps vs ns first (and_second (p.pointer || is_scalar p.ty) _ fit) all.1 in
       omega arith
 
   -- ---- what the pointers lead to
@@ -458,7 +432,7 @@ module _ (known : Sizes) (lists : Lists) (structs : Structs) (shaped : Shaped kn
     where
       chosen : (b : Bool) → (if b then Some (record { pointer = false; ty = l.ty }) else found name (map local_variable ls)) ≡ Some v →
           (found name (map local_variable ls) ≡ Some v → v.pointer ≡ false) → v.pointer ≡ false
-      chosen true h rest = sym (ap (λ x. x.pointer) (some_of (record { pointer = false; ty = l.ty }) v h))
+      chosen true h rest = sym (ap (λ x. x.pointer) (same_some (record { pointer = false; ty = l.ty }) v h))
       chosen false h rest = rest h
 
   rest-kept : (b : Bool) (c : Cells) (x : ℕ × ℤ) (xs : List (ℕ × ℤ)) → Kept c (if b then x ∷ xs else xs) → Kept c xs
@@ -477,7 +451,7 @@ module _ (known : Sizes) (lists : Lists) (structs : Structs) (shaped : Shaped kn
   pointer-as (p ∷ ps) [] ns first at fit all name v there is = absurd all
   pointer-as (p ∷ ps) (u ∷ us) [] first at fit all name v there is = absurd all
   pointer-as (p ∷ ps) (by_value u ∷ us) (n ∷ ns) first at fit all name v there is =
-      chosen (bytes_eq p.name name) there (λ later. pointer-as ps us ns first (suc at) (and-right (p.pointer || is_scalar p.ty) _ fit) all.1 name v later is)
+      chosen (bytes_eq p.name name) there (λ later. pointer-as ps us ns first (suc at) (and_second (p.pointer || is_scalar p.ty) _ fit) all.1 name v later is)
     where
       chosen : (b : Bool) → (if b then Some (param_variable p).1 else found name (entries ps locals)) ≡ Some v →
           (found name (entries ps locals) ≡ Some v →
@@ -485,10 +459,10 @@ module _ (known : Sizes) (lists : Lists) (structs : Structs) (shaped : Shaped kn
           (suc at + offset_of (variable_size known) (entries ps locals) name)) →
           PointerAs v.ty (found name (pointers_of ps us)) (pointer_cells at (p ∷ ps) (n ∷ ns))
           (at + (if b then 0 else variable_size known (param_variable p).1 + offset_of (variable_size known) (entries ps locals) name))
-      chosen true h rest = absurd (let x : false ≡ true = sym all.0.0 ∙ ap (λ y. y.pointer) (some_of (param_variable p).1 v h) ∙ is in cc)
+      chosen true h rest = absurd (let x : false ≡ true = sym all.0.0 ∙ ap (λ y. y.pointer) (same_some (param_variable p).1 v h) ∙ is in cc)
       chosen false h rest =
           let r = rest h in
-          let one = param-one p (and-left (p.pointer || is_scalar p.ty) _ fit) in
+          let one = param-one p (and_first (p.pointer || is_scalar p.ty) _ fit) in
           let e : at + (variable_size known (param_variable p).1 + offset_of (variable_size known) (entries ps locals) name)
           ≡ suc at + offset_of (variable_size known) (entries ps locals) name = omega arith in
           record {
@@ -501,7 +475,7 @@ module _ (known : Sizes) (lists : Lists) (structs : Structs) (shaped : Shaped kn
           }
   pointer-as (p ∷ ps) (by_address place ∷ us) (n ∷ ns) first at fit all name v there is =
       chosen (bytes_eq p.name name) refl there
-      (λ later. pointer-as ps us ns first (suc at) (and-right (p.pointer || is_scalar p.ty) _ fit) all.1 name v later is)
+      (λ later. pointer-as ps us ns first (suc at) (and_second (p.pointer || is_scalar p.ty) _ fit) all.1 name v later is)
     where
       chosen : (b : Bool) → bytes_eq p.name name ≡ b → (if b then Some (param_variable p).1 else found name (entries ps locals)) ≡ Some v →
           (found name (entries ps locals) ≡ Some v →
@@ -510,7 +484,7 @@ module _ (known : Sizes) (lists : Lists) (structs : Structs) (shaped : Shaped kn
           PointerAs v.ty (if b then Some place else found name (pointers_of ps us)) (pointer_cells at (p ∷ ps) (n ∷ ns))
           (at + (if b then 0 else variable_size known (param_variable p).1 + offset_of (variable_size known) (entries ps locals) name))
       chosen true same h rest =
-          let e : (param_variable p).1 ≡ v = some_of (param_variable p).1 v h in
+          let e : (param_variable p).1 ≡ v = same_some (param_variable p).1 v h in
           let z : at + 0 ≡ at = omega arith in
           record {
             place = place;
@@ -522,7 +496,7 @@ module _ (known : Sizes) (lists : Lists) (structs : Structs) (shaped : Shaped kn
           }
       chosen false same h rest =
           let r = rest h in
-          let one = param-one p (and-left (p.pointer || is_scalar p.ty) _ fit) in
+          let one = param-one p (and_first (p.pointer || is_scalar p.ty) _ fit) in
           let e : at + (variable_size known (param_variable p).1 + offset_of (variable_size known) (entries ps locals) name)
           ≡ suc at + offset_of (variable_size known) (entries ps locals) name = omega arith in
           record {

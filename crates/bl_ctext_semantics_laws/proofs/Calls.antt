@@ -1,6 +1,8 @@
 -- Calls in a C text and over numbered cells.
-use Rattle.std.proofs.Common.{◌≡◌, ℕ, ◌+◌, ◌≤◌, ℤ, Bool, true, false, List, map, Option, Some, None, refl, ap, sym, subst, ◌∙◌, arith}
+use Rattle.std.proofs.Common.{◌≡◌, ℕ, ◌+◌, ◌≤◌, ℤ, true, false, List, map, Option, Some, None, refl, ap, sym, subst, ◌∙◌, arith}
 use Rattle.std.specs.Prelude.{is_some, if◌then◌else◌}
+use Rattle.std.proofs.lemmas.Bool.{and_from}
+use Rattle.bl_tree.proofs.Basics.{same_some}
 use Rattle.bl_tree.specs.declared.text.Text.{Text}
 use Rattle.bl_tree.specs.declared.scalar.Scalar.{Scalar}
 use Rattle.bl_ctext.specs.declared.builtin.Builtin.{Builtin}
@@ -18,15 +20,11 @@ use Rattle.bl_ctext_semantics_laws.specs.Layout.{capped}
 use Rattle.bl_ctext_semantics_laws.specs.Reaching.{Ground}
 use Rattle.bl_ctext_semantics_laws.specs.Flat.{Cells, FlatAnswer, Routine, applied, called_as, flat_answer, flat_call, flat_next, going_on, is_typed}
 use Rattle.bl_ctext_semantics_laws.specs.Flat.{prelude_value}
-use Rattle.bl_ctext_semantics_laws.proofs.Lists.{and-both}
 use Rattle.bl_ctext_semantics_laws.proofs.Ways.{Lists, Shaped, Structs}
 use Rattle.bl_ctext_semantics_laws.proofs.Standing.{Stand, Stands, World}
 use Rattle.bl_ctext_semantics_laws.proofs.Evaluations.{Agree, Matches}
 use Rattle.bl_ctext_semantics_laws.proofs.Running.{CallAgrees, Ranged, Running}
 use Rattle.bl_ctext_semantics_laws.proofs.Values.{PassedList, numbers-fit, passed-all}
-
-some_of : {A : Type 0} (a b : A) → Some a ≡ Some b → a ≡ b
-some_of a b h = cc
 
 stood-is : (o : Option Stand) (t : Stand) → o ≡ Some t → is_some o ≡ true
 stood-is (Some s) t h = refl
@@ -54,16 +52,16 @@ module _ (known : Sizes) (lists : Lists) (structs : Structs) (shaped : Shaped kn
 
   builtin-signed : (b : Builtin) (s : Signature) → builtin_signature b ≡ Some s →
       s ≡ record { widens = true; params = map by_value (builtin_params b); result = builtin_result b }
-  builtin-signed (Two op t) s h = some_of s _ (sym h)
-  builtin-signed (One op t) s h = some_of s _ (sym h)
-  builtin-signed (Cast signed t) s h = some_of s _ (sym h)
-  builtin-signed (Index signed) s h = some_of s _ (sym h)
-  builtin-signed Turn s h = some_of s _ (sym h)
+  builtin-signed (Two op t) s h = same_some s _ (sym h)
+  builtin-signed (One op t) s h = same_some s _ (sym h)
+  builtin-signed (Cast signed t) s h = same_some s _ (sym h)
+  builtin-signed (Index signed) s h = same_some s _ (sym h)
+  builtin-signed Turn s h = same_some s _ (sym h)
   builtin-signed Stop s h = cc
 
   chosen-value : (b : Builtin) (ns : List ℤ) → is_typed b ≡ true → in_ranges (builtin_params b) ns ≡ true →
       prelude_value b ns ≡ builtin_value b ns
-  chosen-value b ns typed h = ap (λ x. if x then builtin_value b ns else None) (and-both (is_typed b) (in_ranges (builtin_params b) ns) typed h)
+  chosen-value b ns typed h = ap (λ x. if x then builtin_value b ns else None) (and_from (is_typed b) (in_ranges (builtin_params b) ns) typed h)
 
   builtin-ranged : (name : Text) (b : Builtin) (ns : List ℤ) → builtin_of name ≡ Some b → in_ranges (builtin_params b) ns ≡ true →
       (result : Option Scalar) →
@@ -91,9 +89,6 @@ module _ (known : Sizes) (lists : Lists) (structs : Structs) (shaped : Shaped kn
         range = builtin-ranged name b (map number_of_passed vs) is (subst (λ xs. in_ranges (builtin_params b) xs ≡ true) (sym f.0) f.1) s.result
             (sym (ap (λ x. x.result) e)) (builtin_value b (map number_of_passed vs)) refl;
       }
-
-  safe : Root → Bool
-  safe root = is_some (w.stand root)
 
   -- a call of a function of the file
   own-call : (name : Text) (s : Signature) (js : List JudgedArg) (vs : List ArgumentValue) (ns : List ℤ) (cells : Cells) → context.functions name ≡ Some s →

@@ -1,31 +1,10 @@
 -- What functions of a C text change.
-use Rattle.std.proofs.Common.{
-  ◌≡◌,
-  ℕ,
-  zero,
-  suc,
-  ◌+◌,
-  Bool,
-  true,
-  false,
-  not,
-  ◌&&◌,
-  ◌||◌,
-  List,
-  [],
-  ◌∷◌,
-  ◌++◌,
-  map,
-  Option,
-  Some,
-  None,
-  refl,
-  ap,
-  sym,
-}
+use Rattle.std.proofs.Common.{◌≡◌, ℕ, zero, suc, ◌+◌, Bool, true, false, not, ◌&&◌, ◌||◌, List, [], ◌∷◌, ◌++◌, map, Option, Some, None, refl, ap, sym}
 use Rattle.std.proofs.Common.{subst, ◌∙◌, arith}
 use Rattle.std.specs.Prelude.{All, is_some, is_none, unwrap_or, if◌then◌else◌}
 use Rattle.std.proofs.lemmas.List.Elements.{All-cons, All-head, All-nil, All-tail}
+use Rattle.std.proofs.lemmas.Bool.{not-true}
+use Rattle.bl_tree.proofs.Basics.{first_empty, second_empty}
 use Rattle.bl_tree.specs.declared.text.Text.{Text}
 use Rattle.bl_tree.specs.declared.place.Place.{Place}
 use Rattle.bl_tree.specs.declared.scalar.Scalar.{Scalar}
@@ -50,16 +29,11 @@ use Rattle.bl_ctext_semantics.specs.Meaning.{further, given, going_on, location_
 use Rattle.bl_ctext_semantics.specs.Faults.{Context, JudgedArg, Signature, agree, arguments, assigned_type, block_faults, changes_nothing, condition_faults}
 use Rattle.bl_ctext_semantics.specs.Faults.{declared_before, faults_in_stmt, fit_args, hands_on, judged_arg, judged_call, judged_expr, judged_place}
 use Rattle.bl_ctext_semantics.specs.Faults.{signature_as, signature_of, unless}
-use Rattle.bl_ctext_semantics.proofs.EndLemmas.{nil-left, nil-right}
 use Rattle.bl_ctext_semantics.proofs.Folds.{arg_c, step_c}
 use Rattle.bl_ctext_semantics.proofs.Induction.{ExprCases, Optional, StmtCases, induct_call, induct_place, induct_stmt, stmt}
 use Rattle.bl_ctext_semantics_laws.proofs.Faultless.{unless-nil}
 use Rattle.bl_ctext_semantics_laws.proofs.Running.{Ends, Keeps, Unsafe}
 use Rattle.bl_ctext_semantics_laws.proofs.Standing.{root-is}
-
-falsely : (b : Bool) → not b ≡ true → b ≡ false
-falsely false h = refl
-falsely true h = sym h
 
 -- ---- answers
 
@@ -196,7 +170,7 @@ module _ (safe : Root → Bool) where
       void-handed : (is_read_only : Bool) (r : Option Scalar) (handed : Bool) → not (is_read_only && (is_none r && handed)) ≡ true → is_some r ≡ false →
           (is_read_only && handed) ≡ false
       void-handed false r handed h k = refl
-      void-handed true None handed h k = falsely handed h
+      void-handed true None handed h k = not-true handed h
       void-handed true (Some t) handed h k = cc
 
       calling-stays : (name : Text) (args : List CArg) → All OfArg args → (at : Place) →
@@ -208,15 +182,15 @@ module _ (safe : Root → Bool) where
           (memory : Memory) → Stays memory
           (called_after scope memory name (each_of (map arg_c args) scope memory).count (each_of (map arg_c args) scope memory).answer).memory
       calling-stays name args h at none memory =
-          chosen (signature_of context name) refl (unless-nil (is_some (signature_of context name)) declared_before at (nil-left _ _ none)) quiet
+          chosen (signature_of context name) refl (unless-nil (is_some (signature_of context name)) declared_before at (first_empty _ _ none)) quiet
         where
           quiet : not (context.is_read_only && hands_on (signature_of context name) (map (λ judge. judge context at) (map judged_arg args))) ≡ true
           quiet =
-              let h2 = nil-right (joined (map (λ a. a.faults) (map (λ judge. judge context at) (map judged_arg args)))) _
-              (nil-right (unless (is_some (signature_of context name)) declared_before at) _ none) in
+              let h2 = second_empty (joined (map (λ a. a.faults) (map (λ judge. judge context at) (map judged_arg args)))) _
+              (second_empty (unless (is_some (signature_of context name)) declared_before at) _ none) in
               unless-nil (not (context.is_read_only && hands_on (signature_of context name) (map (λ judge. judge context at) (map judged_arg args)))) changes_nothing
               at
-              (nil-right (unless (fit_args (signature_of context name) (map (λ judge. judge context at) (map judged_arg args))) arguments at) _ h2)
+              (second_empty (unless (fit_args (signature_of context name) (map (λ judge. judge context at) (map judged_arg args))) arguments at) _ h2)
 
           chosen : (o : Option Signature) → signature_of context name ≡ o → is_some o ≡ true →
               not (context.is_read_only && hands_on (signature_of context name) (map (λ judge. judge context at) (map judged_arg args))) ≡ true →
@@ -312,12 +286,12 @@ module _ (safe : Root → Bool) where
       block-stays (s ∷ stmts) h looped none memory =
           following-stays memory (runs_c s scope memory).count (runs_c s scope memory).memory (runs_c s scope memory).end
           (λ m. block_of (map runs_c stmts) scope m)
-          (All-head OfStmt s stmts h looped (nil-left _ _ none) memory)
-          (block-stays stmts (All-tail OfStmt s stmts h) looped (nil-right (faults_in_stmt s context looped) _ none) (runs_c s scope memory).memory)
+          (All-head OfStmt s stmts h looped (first_empty _ _ none) memory)
+          (block-stays stmts (All-tail OfStmt s stmts h) looped (second_empty (faults_in_stmt s context looped) _ none) (runs_c s scope memory).memory)
 
       place-unsafe : (p : CPlace) (at : Place) → not (context.is_read_only && (judged_place p context at).through) ≡ true → (memory : Memory) (l : Location) →
           (location_c p scope memory).answer ≡ Some l → safe l.root ≡ false
-      place-unsafe p at quiet memory l is = subst Leads is (place-changes p at (falsely (context.is_read_only && (judged_place p context at).through) quiet) memory)
+      place-unsafe p at quiet memory l is = subst Leads is (place-changes p at (not-true (context.is_read_only && (judged_place p context at).through) quiet) memory)
 
       written-so : (memory : Memory) (l : Location) (n : ℕ) (a : Option CValue) (after : Memory) → safe l.root ≡ false →
           (going_on n a (λ v. given (Some (set_at memory l v)))).answer ≡ Some after → Stays memory after
@@ -340,10 +314,10 @@ module _ (safe : Root → Bool) where
           (memory : Memory) → Stays memory
           (executed memory (next (location_c p scope memory) (λ l. next (value_c e scope memory) (λ v. given (Some (set_at memory l v))))) going).memory
       set-case at p e none memory =
-          let h1 = nil-right (judged_place p context at).faults _ none in
-          let h2 = nil-right (judged_expr e context).faults _ h1 in
+          let h1 = second_empty (judged_place p context at).faults _ none in
+          let h2 = second_empty (judged_expr e context).faults _ h1 in
           let quiet = unless-nil (not (context.is_read_only && (judged_place p context at).through)) changes_nothing at
-          (nil-right (unless (agree (judged_place p context at).ty (judged_expr e context).ty) assigned_type at) _ h2) in
+          (second_empty (unless (agree (judged_place p context at).ty (judged_expr e context).ty) assigned_type at) _ h2) in
           ended-stays memory memory (1 + (next (location_c p scope memory)
           (λ l. next (value_c e scope memory) (λ v. given (Some (set_at memory l v))))).count)
           (next (location_c p scope memory) (λ l. next (value_c e scope memory) (λ v. given (Some (set_at memory l v))))).answer going (itself memory)
@@ -357,10 +331,10 @@ module _ (safe : Root → Bool) where
           ++ unless (not (context.is_read_only && (judged_place p context at).through)) changes_nothing at)) ≡ [] →
           (memory : Memory) → Stays memory (executed memory (location_c p scope memory) (λ l. going (set_at memory l zeros))).memory
       clear-case at p name none memory =
-          let h1 = nil-right (judged_place p context at).faults _ none in
-          let h2 = nil-right (unless (is_some (context.structs name)) declared_before at) _ h1 in
+          let h1 = second_empty (judged_place p context at).faults _ none in
+          let h2 = second_empty (unless (is_some (context.structs name)) declared_before at) _ h1 in
           let quiet = unless-nil (not (context.is_read_only && (judged_place p context at).through)) changes_nothing at
-          (nil-right (unless (agree (judged_place p context at).ty (Some (OfStruct name))) assigned_type at) _ h2) in
+          (second_empty (unless (agree (judged_place p context at).ty (Some (OfStruct name))) assigned_type at) _ h2) in
           ended-stays memory memory (1 + (location_c p scope memory).count) (location_c p scope memory).answer (λ l. going (set_at memory l zeros))
           (itself memory)
           (λ l is. set-stays memory l zeros (place-unsafe p at quiet memory l is))
@@ -385,15 +359,15 @@ module _ (safe : Root → Bool) where
           rw (fold-roll-CStmt, fold-roll-CStmtKind) at none in
           rw (fold-roll-CStmt, fold-roll-CStmtKind)
           (if-stays e (block_of (map runs_c block)) (block_of []) memory
-          (block-stays block h looped (nil-left _ _ (nil-right (condition_faults e context) _ n)) memory) (itself memory))
+          (block-stays block h looped (first_empty _ _ (second_empty (condition_faults e context) _ n)) memory) (itself memory))
       branching-case at e block (Some other) h o looped none memory =
           let n : condition_faults e context
           ++ (block_faults (map faults_in_stmt block) context looped ++ block_faults (map faults_in_stmt other) context looped) ≡ [] =
           rw (fold-roll-CStmt, fold-roll-CStmtKind) at none in
-          let n2 = nil-right (condition_faults e context) _ n in
+          let n2 = second_empty (condition_faults e context) _ n in
           rw (fold-roll-CStmt, fold-roll-CStmtKind)
-          (if-stays e (block_of (map runs_c block)) (block_of (map runs_c other)) memory (block-stays block h looped (nil-left _ _ n2) memory)
-          (block-stays other o looped (nil-right (block_faults (map faults_in_stmt block) context looped) _ n2) memory))
+          (if-stays e (block_of (map runs_c block)) (block_of (map runs_c other)) memory (block-stays block h looped (first_empty _ _ n2) memory)
+          (block-stays other o looped (second_empty (block_faults (map faults_in_stmt block) context looped) _ n2) memory))
 
       returning-case : (at : Place) (e : Option CExpr) → OfStmt (stmt at (CStmtKind-F.Return e))
       returning-case at None looped none memory = rw (fold-roll-CStmt, fold-roll-CStmtKind) (itself memory)
@@ -416,7 +390,7 @@ module _ (safe : Root → Bool) where
             let n : condition_faults e context ++ block_faults (map faults_in_stmt body) context true ≡ [] =
             rw (fold-roll-CStmt, fold-roll-CStmtKind) at none in
             rw (fold-roll-CStmt, fold-roll-CStmtKind)
-            (turns-stay turn_limit (value_c e) (block_of (map runs_c body)) (λ m. block-stays body h true (nil-right (condition_faults e context) _ n) m)
+            (turns-stay turn_limit (value_c e) (block_of (map runs_c body)) (λ m. block-stays body h true (second_empty (condition_faults e context) _ n) m)
             memory);
         break = λ at looped none memory. rw (fold-roll-CStmt, fold-roll-CStmtKind) (itself memory);
         returns = returning-case;

@@ -1,35 +1,13 @@
 -- Things with names, one behind the other: how many cells stand before each.
-use Rattle.std.proofs.Common.{
-  ◌≡◌,
-  ℕ,
-  ◌+◌,
-  ◌≤◌,
-  ◌⊎◌,
-  inl,
-  inr,
-  ⊎_elim,
-  Bool,
-  true,
-  false,
-  List,
-  [],
-  ◌∷◌,
-  map,
-  Option,
-  Some,
-  None,
-  refl,
-  ap,
-  sym,
-}
+use Rattle.std.proofs.Common.{◌≡◌, ℕ, ◌+◌, ◌≤◌, ◌⊎◌, inl, inr, ⊎_elim, Bool, true, false, List, [], ◌∷◌, map, Option, Some, None, refl, ap, sym}
 use Rattle.std.proofs.Common.{subst, ◌∙◌, arith}
 use Rattle.std.specs.Prelude.{bytes_eq, is_some, is_none, option_map, if◌then◌else◌}
 use Rattle.std.specs.Option.{option_or}
 use Rattle.std.proofs.lemmas.Slice.Eq.{bytes_eq-Decides}
+use Rattle.bl_tree.proofs.Basics.{and_first, and_second, same_some}
 use Rattle.bl_tree.specs.declared.text.Text.{Text}
 use Rattle.bl_ctext_semantics.specs.Tables.{Table, found, with_entry}
 use Rattle.bl_ctext_semantics.specs.Faults.{all_distinct}
-use Rattle.bl_ctext_semantics_laws.proofs.Lists.{and-left, and-right}
 
 -- n cells from one on and k cells from another on have none in common
 abbrev pub Apart : ℕ → ℕ → ℕ → ℕ → Type 0
@@ -44,9 +22,6 @@ offset_of size (e ∷ rest) name = if bytes_eq e.0 name then 0 else size e.1 + o
 abbrev pub sum_of : {A : Type 0} → (A → ℕ) → List (Text × A) → ℕ
 sum_of size [] = 0
 sum_of size (e ∷ rest) = size e.1 + sum_of size rest
-
-some_of : {A : Type 0} (a b : A) → Some a ≡ Some b → a ≡ b
-some_of a b h = cc
 
 pub same-name : (a b c : Text) → bytes_eq a b ≡ true → bytes_eq a c ≡ true → bytes_eq b c ≡ true
 same-name a b c h k = (bytes_eq-Decides b c).1 (sym ((bytes_eq-Decides a b).0 h) ∙ (bytes_eq-Decides a c).0 k)
@@ -68,7 +43,7 @@ module _ {A : Type 0} (size : A → ℕ) where
   choose-offset : (b : Bool) (x a : A) (rest : Option A) (later all : ℕ) → (if b then Some x else rest) ≡ Some a →
       (rest ≡ Some a → later + size a ≤ all) →
       (if b then 0 else size x + later) + size a ≤ size x + all
-  choose-offset true x a rest later all is h = let e : size x ≡ size a = ap size (some_of x a is) in omega arith
+  choose-offset true x a rest later all is h = let e : size x ≡ size a = ap size (same_some x a is) in omega arith
   choose-offset false x a rest later all is h = let l : later + size a ≤ all = h is in omega arith
 
   -- what is found stands among all
@@ -82,8 +57,8 @@ module _ {A : Type 0} (size : A → ℕ) where
       (ra ≡ Some m → rb ≡ Some k → Apart oa (size m) ob (size k)) →
       Apart (if i then 0 else size x + oa) (size m) (if j then 0 else size x + ob) (size k)
   choose-apart x n a b m k true true ia ib differ ra rb oa ob isa isb h = absurd (let e : true ≡ false = sym (same-name n a b ia ib) ∙ differ in cc)
-  choose-apart x n a b m k true false ia ib differ ra rb oa ob isa isb h = let e : size x ≡ size m = ap size (some_of x m isa) in inl (omega arith)
-  choose-apart x n a b m k false true ia ib differ ra rb oa ob isa isb h = let e : size x ≡ size k = ap size (some_of x k isb) in inr (omega arith)
+  choose-apart x n a b m k true false ia ib differ ra rb oa ob isa isb h = let e : size x ≡ size m = ap size (same_some x m isa) in inl (omega arith)
+  choose-apart x n a b m k false true ia ib differ ra rb oa ob isa isb h = let e : size x ≡ size k = ap size (same_some x k isb) in inr (omega arith)
   choose-apart x n a b m k false false ia ib differ ra rb oa ob isa isb h =
       ⊎_elim (λ (l : oa + size m ≤ ob). inl (omega arith)) (λ (r : ob + size k ≤ oa). inr (omega arith)) (h isa isb)
 
@@ -132,8 +107,8 @@ module _ {A : Type 0} (size : A → ℕ) where
       Others name es
   others names name there [] apart = tt
   others names name there (e ∷ es) apart = (
-    other names name e.0 there (and-left _ _ apart) (bytes_eq name e.0) refl,
-    others (with_entry names e.0 tt) name (kept (names name) (bytes_eq e.0 name) there) es (and-right (is_none (names e.0)) _ apart),
+    other names name e.0 there (and_first _ _ apart) (bytes_eq name e.0) refl,
+    others (with_entry names e.0 tt) name (kept (names name) (bytes_eq e.0 name) there) es (and_second (is_none (names e.0)) _ apart),
   )
 
   behind-first : (first : Text × A) (all : List (Text × A)) (behind : ℕ) (es : List (Text × A)) → Others first.0 es → Positioned all behind es →
@@ -154,9 +129,9 @@ module _ {A : Type 0} (size : A → ℕ) where
   positioned names [] apart = tt
   positioned names (e ∷ es) apart =
       let itself : bytes_eq e.0 e.0 ≡ true = (bytes_eq-Decides e.0 e.0).1 refl in
-      let rest : Positioned es 0 es = positioned (with_entry names e.0 tt) es (and-right (is_none (names e.0)) _ apart) in
+      let rest : Positioned es 0 es = positioned (with_entry names e.0 tt) es (and_second (is_none (names e.0)) _ apart) in
       let differ : Others e.0 es =
-      others (with_entry names e.0 tt) e.0 (added (names e.0) (bytes_eq e.0 e.0) itself) es (and-right (is_none (names e.0)) _ apart) in (
+      others (with_entry names e.0 tt) e.0 (added (names e.0) (bytes_eq e.0 e.0) itself) es (and_second (is_none (names e.0)) _ apart) in (
         (ap (λ b. if b then Some e.1 else found e.0 es) itself, ap (λ b. if b then 0 else size e.1 + offset_of size es e.0) itself),
         subst (λ n. Positioned (e ∷ es) n es) (let q : size e.1 + 0 ≡ 0 + size e.1 = omega arith in q) (behind-first e es 0 es differ rest),
       )

@@ -1,33 +1,12 @@
 -- Numbers of objects in cells, and calls of a file's functions from outside.
-use Rattle.std.proofs.Common.{
-  ◌≡◌,
-  ℕ,
-  suc,
-  ◌+◌,
-  ◌≤◌,
-  ◌<◌,
-  inl,
-  inr,
-  ⊎_elim,
-  ℤ,
-  pos,
-  Bool,
-  true,
-  false,
-  ◌&&◌,
-  List,
-  [],
-  ◌∷◌,
-  ◌++◌,
-  map,
-  length,
-  take,
-}
+use Rattle.std.proofs.Common.{◌≡◌, ℕ, suc, ◌+◌, ◌≤◌, ◌<◌, inl, inr, ⊎_elim, ℤ, pos, Bool, true, false, ◌&&◌, List, [], ◌∷◌, ◌++◌, map, length, take}
 use Rattle.std.proofs.Common.{drop, Option, Some, None, refl, ap, sym, subst, ◌∙◌, arith, append-nil, append_assoc, length-append, drop-cons}
 use Rattle.std.proofs.Common.{get_or-append-add}
 use Rattle.std.specs.Prelude.{bytes_eq, is_some, codes, ◌==◌}
 use Rattle.std.specs.List.{list_all}
 use Rattle.std.proofs.lemmas.Grind.{common_steps}
+use Rattle.std.proofs.lemmas.Bool.{and_from}
+use Rattle.bl_tree.proofs.Basics.{and_first, and_second, first_empty, second_empty}
 use Rattle.bl_tree.specs.declared.text.Text.{Text}
 use Rattle.bl_tree.specs.declared.scalar.Scalar.{Scalar}
 use Rattle.bl_tree.specs.declared.c.CType.{CType}
@@ -42,19 +21,18 @@ use Rattle.bl_ctext_semantics.specs.Memory.{Projection, Root, state_object, inpu
 use Rattle.bl_ctext_semantics.specs.Memory.{same_root, value_at}
 use Rattle.bl_ctext_semantics.specs.Meaning.{ArgumentValue, applied as applied_c, meanings}
 use Rattle.bl_ctext_semantics.specs.Parts.{Parts}
-use Rattle.bl_ctext_semantics.specs.Sizes.{Sizes, cells_needed, chains_after, size_of_type, sizes}
+use Rattle.bl_ctext_semantics.specs.Sizes.{cells_needed, chains_after, size_of_type, sizes}
 use Rattle.bl_ctext_semantics.specs.Tables.{found, no_entries}
 use Rattle.bl_ctext_semantics.specs.Trace.{call_from_outside, object}
 use Rattle.bl_ctext_semantics.specs.Faults.{WellFormed, faults_in, function_faults_after, init_params, interface_structs, last_place, points_to}
 use Rattle.bl_ctext_semantics.specs.Faults.{signature_in, struct_faults_after, struct_table, tick_params, unless}
-use Rattle.bl_ctext_semantics.proofs.EndLemmas.{nil-left, nil-right}
 use Rattle.bl_ctext_semantics_laws.specs.Fitting.{ValueSpot, cell_holds, scalars, whole, walk}
-use Rattle.bl_ctext_semantics_laws.proofs.Lists.{all-append, and-both, and-left, and-right}
+use Rattle.bl_ctext_semantics_laws.proofs.Lists.{all-append}
 use Rattle.bl_ctext_semantics_laws.specs.Laws.{SameCall, StartsAgree, TicksAgree, behind_objects, cells_in, entered_flat, input_at, output_at, routines}
 use Rattle.bl_ctext_semantics_laws.specs.Flat.{Cells, applied, cell_at}
 use Rattle.bl_ctext_semantics_laws.proofs.Faultless.{unless-nil}
 use Rattle.bl_ctext_semantics_laws.proofs.Entries.{Apart}
-use Rattle.bl_ctext_semantics_laws.proofs.Ways.{Lists, Shaped, Structs, left-is, walk-append, walk-within, way_offset, ways-apart}
+use Rattle.bl_ctext_semantics_laws.proofs.Ways.{Shaped, Structs, left-is, walk-append, walk-within, way_offset, ways-apart}
 use Rattle.bl_ctext_semantics_laws.proofs.Standing.{Separate, Stand, Stands, World}
 use Rattle.bl_ctext_semantics_laws.proofs.Running.{AddressAt, CallAgrees, PassedAll}
 use Rattle.bl_ctext_semantics_laws.proofs.Values.{same-type}
@@ -114,10 +92,10 @@ value-in root memory before (i ∷ is) rest all =
     let same : memory root (i.parts ++ []) ≡ memory root i.parts = ap (memory root) (append-nil i.parts) in
     let next : ValueIn ((before ++ (memory root (i.parts ++ []) ∷ [])) ++ (numbers_of (cells_at root is) memory ++ rest))
     (length (before ++ (memory root (i.parts ++ []) ∷ []))) (memory root) is =
-    value-in root memory (before ++ (memory root (i.parts ++ []) ∷ [])) is rest (and-right (in_range i.kind (memory root (i.parts ++ []))) _ all) in
+    value-in root memory (before ++ (memory root (i.parts ++ []) ∷ [])) is rest (and_second (in_range i.kind (memory root (i.parts ++ []))) _ all) in
     let long : length (before ++ (memory root (i.parts ++ []) ∷ [])) ≡ suc (length before) =
     length-append before (memory root (i.parts ++ []) ∷ []) ∙ omega arith in (
-      (here ∙ same, ap (in_range i.kind) (sym same) ∙ and-left (in_range i.kind (memory root (i.parts ++ []))) _ all),
+      (here ∙ same, ap (in_range i.kind) (sym same) ∙ and_first (in_range i.kind (memory root (i.parts ++ []))) _ all),
       subst (λ l. ValueIn l (suc (length before)) (memory root) is)
           (append_assoc before (memory root (i.parts ++ []) ∷ []) (numbers_of (cells_at root is) memory ++ rest))
           (subst (λ k. ValueIn ((before ++ (memory root (i.parts ++ []) ∷ [])) ++ (numbers_of (cells_at root is) memory ++ rest)) k (memory root) is) long
@@ -125,12 +103,6 @@ value-in root memory before (i ∷ is) rest all =
     )
 
 module _ (file : Parts) (formed : WellFormed file) where
-  abbrev known : Sizes
-  known = sizes file.structs
-
-  abbrev lists : Lists
-  lists = lists_of file.structs
-
   abbrev structs : Structs
   structs = struct_table file.structs
 
@@ -150,7 +122,7 @@ module _ (file : Parts) (formed : WellFormed file) where
   unfolding faults_in
   struct-led name there =
       let none : struct_faults_after no_entries no_entries file.structs ≡ [] =
-      nil-left (struct_faults_after no_entries no_entries file.structs) _ formed.none in
+      first_empty (struct_faults_after no_entries no_entries file.structs) _ formed.none in
       led-all (sizes file.structs) (lists_of file.structs) (struct_table file.structs) shaped (scalars file.structs) (inner-file file formed) no_entries
       no_entries no_entries file.structs (λ n. refl) (λ n. refl)
       (λ n h. cc) none name (ap (λ t. is_some (t name)) (entries-all _ file.structs) ∙ there)
@@ -262,14 +234,14 @@ module _ (file : Parts) (formed : WellFormed file) where
   module _ (declared : (is_some (struct_table file.structs (codes "bl_state"))
       && (is_some (struct_table file.structs (codes "bl_in")) && is_some (struct_table file.structs (codes "bl_out")))) ≡ true) where
     pub state-typed : Typed (OfStruct (codes "bl_state"))
-    state-typed = struct-led (codes "bl_state") (and-left _ _ declared)
+    state-typed = struct-led (codes "bl_state") (and_first _ _ declared)
 
     pub input-typed : Typed (OfStruct (codes "bl_in"))
-    input-typed = struct-led (codes "bl_in") (and-left _ _ (and-right (is_some (struct_table file.structs (codes "bl_state"))) _ declared))
+    input-typed = struct-led (codes "bl_in") (and_first _ _ (and_second (is_some (struct_table file.structs (codes "bl_state"))) _ declared))
 
     pub output-typed : Typed (OfStruct (codes "bl_out"))
     output-typed = struct-led (codes "bl_out")
-        (and-right (is_some (struct_table file.structs (codes "bl_in"))) _ (and-right (is_some (struct_table file.structs (codes "bl_state"))) _ declared))
+        (and_second (is_some (struct_table file.structs (codes "bl_in"))) _ (and_second (is_some (struct_table file.structs (codes "bl_state"))) _ declared))
 
     abbrev inners : Text → List Inner
     inners name = inner_of file.structs name
@@ -347,8 +319,8 @@ module _ (file : Parts) (formed : WellFormed file) where
     begins-standing memory others all room =
         let parts : list_all (cell_holds memory) ((first ++ second) ++ third) ≡ true = all in
         let split = sym (all-append (cell_holds memory) (first ++ second) third) ∙ parts in
-        let fit-third = and-right (list_all (cell_holds memory) (first ++ second)) _ split in
-        let split-two = sym (all-append (cell_holds memory) first second) ∙ and-left _ _ split in
+        let fit-third = and_second (list_all (cell_holds memory) (first ++ second)) _ split in
+        let split-two = sym (all-append (cell_holds memory) first second) ∙ and_first _ _ split in
         let numbers : numbers_of ((first ++ second) ++ third) memory ≡ (numbers_of first memory ++ numbers_of second memory) ++ numbers_of third memory =
         numbers-append (first ++ second) third memory ∙ ap (λ l. l ++ numbers_of third memory) (numbers-append first second memory) in
         let whole-is : numbers_of ((first ++ second) ++ third) memory ++ others ≡ numbers_of first memory
@@ -367,12 +339,12 @@ module _ (file : Parts) (formed : WellFormed file) where
         objects-stand memory (numbers_of (cells_of file) memory ++ others) room
         (subst (λ l. ValueIn l 0 (memory state_object) (inners (codes "bl_state"))) (sym whole-is)
         (value-in state_object memory [] (inners (codes "bl_state")) (numbers_of second memory ++ (numbers_of third memory ++ others))
-        (and-left _ _ split-two)))
+        (and_first _ _ split-two)))
         (subst (λ l. ValueIn l (input_at file) (memory input_object) (inners (codes "bl_in"))) (sym whole-is)
         (subst (λ k. ValueIn (numbers_of first memory ++ (numbers_of second memory ++ (numbers_of third memory ++ others))) k (memory input_object)
         (inners (codes "bl_in"))) long-one
         (value-in input_object memory (numbers_of first memory) (inners (codes "bl_in")) (numbers_of third memory ++ others)
-        (and-right (list_all (cell_holds memory) first) _ split-two))))
+        (and_second (list_all (cell_holds memory) first) _ split-two))))
         (subst (λ l. ValueIn l (output_at file) (memory output_object) (inners (codes "bl_out"))) (sym whole-two)
         (subst (λ k. ValueIn ((numbers_of first memory ++ numbers_of second memory) ++ (numbers_of third memory ++ others)) k (memory output_object)
         (inners (codes "bl_out"))) long-two
@@ -388,7 +360,7 @@ module _ (file : Parts) (formed : WellFormed file) where
         let rest = object-begins root s memory cells (suc k) (suc at) is stands there (omega arith) led.1 in
         let same : memory root i.parts ≡ memory root (i.parts ++ []) = ap (memory root) (sym (append-nil i.parts)) in (
           (ap (cell_at cells) (sym (ap (λ n. s.at + n) led.0.1 ∙ sum)) ∙ stands.reads root s i.parts i.kind there led.0.0 ∙ same, rest.0),
-          and-both _ _ (ap (in_range i.kind) (sym same) ∙ stands.ranges root s i.parts i.kind there led.0.0) rest.1,
+          and_from _ _ (ap (in_range i.kind) (sym same) ∙ stands.ranges root s i.parts i.kind there led.0.0) rest.1,
         )
 
     pub ends-standing : (memory : Memory) (cells : Cells) → Standing memory cells →
@@ -427,7 +399,7 @@ module _ (file : Parts) (formed : WellFormed file) where
           ap (λ n. take n cells) counted
               ∙ begins-taken cells 0 ((numbers_of first memory ++ numbers_of second memory) ++ numbers_of third memory)
               (omega arith) all-three ∙ sym numbers,
-          all-append (cell_holds memory) (first ++ second) third ∙ and-both _ _ (all-append (cell_holds memory) first second ∙ and-both _ _ a.1 b.1) c.1,
+          all-append (cell_holds memory) (first ++ second) third ∙ and_from _ _ (all-append (cell_holds memory) first second ∙ and_from _ _ a.1 b.1) c.1,
         )
 
     -- ---- the calls
@@ -435,19 +407,19 @@ module _ (file : Parts) (formed : WellFormed file) where
     module _ (spelled : is_spellable file.structs file.funcs ≡ true) (small : cells_needed file ≤ 1000000) where
       spelled-functions : all_of (map spells_func file.funcs) ≡ true
       spelled-functions =
-          and-left _ _ (and-right (all_of (map spells_struct file.structs)) _ (and-right (has_any file.funcs) _ (and-right (has_any file.structs) _ spelled)))
+          and_first _ _ (and_second (all_of (map spells_struct file.structs)) _ (and_second (has_any file.funcs) _ (and_second (has_any file.structs) _ spelled)))
 
       faultless : function_faults_after (struct_table file.structs) no_entries no_entries file.funcs ≡ []
       unfolding faults_in
-      faultless = nil-left _ _ (nil-right (struct_faults_after no_entries no_entries file.structs) _ formed.none)
+      faultless = first_empty _ _ (second_empty (struct_faults_after no_entries no_entries file.structs) _ formed.none)
 
       pub interface : Interface file.funcs
       unfolding faults_in
       interface =
-          let h1 = nil-right (struct_faults_after no_entries no_entries file.structs) _ formed.none in
-          let h2 = nil-right (function_faults_after (struct_table file.structs) no_entries no_entries file.funcs) _ h1 in
+          let h1 = second_empty (struct_faults_after no_entries no_entries file.structs) _ formed.none in
+          let h2 = second_empty (function_faults_after (struct_table file.structs) no_entries no_entries file.funcs) _ h1 in
           interface-of (struct_table file.structs) no_entries no_entries file.funcs faultless
-          (nil-right (unless (is_some (struct_table file.structs (codes "bl_state"))
+          (second_empty (unless (is_some (struct_table file.structs (codes "bl_state"))
           && (is_some (struct_table file.structs (codes "bl_in")) && is_some (struct_table file.structs (codes "bl_out")))) interface_structs
           (last_place file.funcs)) _ h2)
 
@@ -498,9 +470,9 @@ module _ (file : Parts) (formed : WellFormed file) where
           (p.pointer ≡ true) × AddressAt (sizes file.structs) (lists_of file.structs) (struct_table file.structs) shaped (cells_needed file) objects
           (Some p.ty) (record { root = root; parts = [] }) (pos s.at)
       object-passed root s struct name p memory there is h =
-          let rest = and-right p.pointer _ h in
-          let ty : p.ty ≡ OfStruct struct = same-type p.ty (OfStruct struct) (and-right (bytes_eq p.name name) _ rest) in (
-            and-left p.pointer _ h,
+          let rest = and_second p.pointer _ h in
+          let ty : p.ty ≡ OfStruct struct = same-type p.ty (OfStruct struct) (and_second (bytes_eq p.name name) _ rest) in (
+            and_first p.pointer _ h,
             record
                 { k = s.at; from = refl; placed = record { it = s; there = there; leads = ap (λ t. Some (whole t)) (is ∙ sym ty); is = omega arith } },
           )
@@ -522,14 +494,14 @@ module _ (file : Parts) (formed : WellFormed file) where
       tick-passes (s ∷ i ∷ []) memory h = cc
       tick-passes (s ∷ i ∷ o ∷ p ∷ ps) memory h = cc
       tick-passes (s ∷ i ∷ o ∷ []) memory h =
-          let rest = and-right (points_to (codes "bl_state") (codes "s") s) _ h in (
-            object-passed state_object (record { at = 0; ty = OfStruct (codes "bl_state") }) (codes "bl_state") (codes "s") s memory refl refl (and-left _ _ h),
+          let rest = and_second (points_to (codes "bl_state") (codes "s") s) _ h in (
+            object-passed state_object (record { at = 0; ty = OfStruct (codes "bl_state") }) (codes "bl_state") (codes "s") s memory refl refl (and_first _ _ h),
             (
               object-passed input_object (record { at = input_at file; ty = OfStruct (codes "bl_in") }) (codes "bl_in") (codes "i") i memory refl refl
-                  (and-left _ _ rest),
+                  (and_first _ _ rest),
               (
                 object-passed output_object (record { at = output_at file; ty = OfStruct (codes "bl_out") }) (codes "bl_out") (codes "o") o memory refl refl
-                    (and-right (points_to (codes "bl_in") (codes "i") i) _ rest),
+                    (and_second (points_to (codes "bl_in") (codes "i") i) _ rest),
                 tt,
               ),
             ),
@@ -540,11 +512,11 @@ pub objects-declared : (file : Parts) → WellFormed file →
     && (is_some (struct_table file.structs (codes "bl_in")) && is_some (struct_table file.structs (codes "bl_out")))) ≡ true
 unfolding faults_in
 objects-declared file formed =
-    let h1 = nil-right (struct_faults_after no_entries no_entries file.structs) _ formed.none in
-    let h2 = nil-right (function_faults_after (struct_table file.structs) no_entries no_entries file.funcs) _ h1 in
+    let h1 = second_empty (struct_faults_after no_entries no_entries file.structs) _ formed.none in
+    let h2 = second_empty (function_faults_after (struct_table file.structs) no_entries no_entries file.funcs) _ h1 in
     unless-nil (is_some (struct_table file.structs (codes "bl_state"))
     && (is_some (struct_table file.structs (codes "bl_in")) && is_some (struct_table file.structs (codes "bl_out")))) interface_structs
-    (last_place file.funcs) (nil-left _ _ h2)
+    (last_place file.funcs) (first_empty _ _ h2)
 
 pub ticks-agree : (file : Parts) → is_spellable file.structs file.funcs ≡ true → TicksAgree file
 ticks-agree file spelled formed small memory others all room =

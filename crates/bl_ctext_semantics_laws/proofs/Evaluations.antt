@@ -55,10 +55,6 @@ module _ (known : Sizes) (lists : Lists) (structs : Structs) (shaped : Shaped kn
     pub stands : Stood l.cells
     pub answer : Matches R c.answer l.answer
 
-  pub at-once : {A B : Type 0} (R : A → B → Type 0) (cells : Cells) (a : Option A) (b : Option B) → Stood cells → Matches R a b →
-      Agree R (given a) (flat_answer cells b)
-  at-once R cells a b stands h = record { count = refl; stands = stands; answer = h }
-
   going-agrees : {A B C D : Type 0} (R : A → B → Type 0) (Q : C → D → Type 0) (n k : ℕ) (cells : Cells) (a : Option A)
       (b : Option B) (f : A → Counted C)
       (g : Cells → B → FlatAnswer D) →

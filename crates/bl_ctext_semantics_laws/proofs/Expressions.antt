@@ -1,32 +1,10 @@
 -- Expressions in a C text and over numbered cells.
-use Rattle.std.proofs.Common.{
-  ◌≡◌,
-  ℕ,
-  ◌+◌,
-  ◌≤◌,
-  ℤ,
-  pos,
-  Bool,
-  true,
-  false,
-  not,
-  ◌&&◌,
-  List,
-  [],
-  ◌∷◌,
-  ◌++◌,
-  map,
-  Option,
-  Some,
-  None,
-  refl,
-  ap,
-  sym,
-}
+use Rattle.std.proofs.Common.{◌≡◌, ℕ, ◌+◌, ◌≤◌, ℤ, pos, Bool, true, false, not, ◌&&◌, List, [], ◌∷◌, ◌++◌, map, Option, Some, None, refl, ap, sym}
 use Rattle.std.proofs.Common.{subst, ◌∙◌, arith}
 use Rattle.std.specs.Prelude.{All, option_map, is_some, is_none, int_le, int_lt, if◌then◌else◌}
 use Rattle.std.specs.Ordering.{int_eq}
 use Rattle.std.proofs.lemmas.List.Elements.{All-head, All-tail}
+use Rattle.bl_tree.proofs.Basics.{and_first, and_second, first_empty, second_empty}
 use Rattle.bl_tree.specs.declared.text.Text.{Text}
 use Rattle.bl_tree.specs.declared.place.Place.{Place}
 use Rattle.bl_tree.specs.declared.scalar.Scalar.{Scalar}
@@ -64,9 +42,7 @@ use Rattle.bl_ctext_semantics.specs.Faults.{judge_steps, judged_arg, judged_call
 use Rattle.bl_ctext_semantics.specs.Faults.{result_type, same_type, signature_of, takes, unless}
 use Rattle.bl_ctext_semantics.proofs.Folds.{arg_c, calls_in_index, calls_in_kind, index_c, judged_kind, kind_c, step_c}
 use Rattle.bl_ctext_semantics.proofs.CallLemmas.{most-append}
-use Rattle.bl_ctext_semantics.proofs.EndLemmas.{nil-left, nil-right}
 use Rattle.bl_ctext_semantics.proofs.Induction.{ExprCases, Optional, induct_call, induct_expr, induct_place}
-use Rattle.bl_ctext_semantics_laws.proofs.Lists.{and-left, and-right}
 use Rattle.bl_ctext_semantics_laws.specs.Reaching.{Ground, reach_along, start_of_slot}
 use Rattle.bl_ctext_semantics_laws.specs.Flat.{Cells, Evaluates, FlatAnswer, Routine, address_of, at_once, call_flat, cell_at, compared, each_of, flat_answer, flat_call}
 use Rattle.bl_ctext_semantics_laws.specs.Flat.{flat_next, reach_flat, read_at, two_values, value_flat}
@@ -381,15 +357,15 @@ module _ (known : Sizes) (lists : Lists) (structs : Structs) (shaped : Shaped kn
       (PassedList known lists structs shaped limit w memory (map (λ judge. judge context at) (map judged_arg (a ∷ args))))
       (arg_c a scope memory) (arg_flat a ground base cells) (λ v. next_c (each_of_c (map arg_c args) scope memory) (λ others. given (Some (v ∷ others))))
       (λ after n. flat_next (each_of (map (λ arg. arg ground) (map arg_flat args)) base after) (λ last others. flat_answer last (Some (n ∷ others))))
-      (All-head OfArg a args h at (nil-left _ _ none) (room-left chains w.top limit (calls_in_arg a) _ room) (and-left _ _ spelled) cells stood)
+      (All-head OfArg a args h at (first_empty _ _ none) (room-left chains w.top limit (calls_in_arg a) _ room) (and_first _ _ spelled) cells stood)
       (λ v n after passes there.
       next-agrees known lists structs shaped limit w memory
       (PassedList known lists structs shaped limit w memory (map (λ judge. judge context at) (map judged_arg args)))
       (PassedList known lists structs shaped limit w memory (map (λ judge. judge context at) (map judged_arg (a ∷ args))))
       (each_of_c (map arg_c args) scope memory) (each_of (map (λ arg. arg ground) (map arg_flat args)) base after) (λ others. given (Some (v ∷ others)))
       (λ last others. flat_answer last (Some (n ∷ others)))
-      (args-agree args (All-tail OfArg a args h) at (nil-right (judged_arg a context at).faults _ none) (room-right chains w.top limit (calls_in_arg a) _ room)
-      (and-right (spells_arg a) _ spelled) after there)
+      (args-agree args (All-tail OfArg a args h) at (second_empty (judged_arg a context at).faults _ none) (room-right chains w.top limit (calls_in_arg a) _ room)
+      (and_second (spells_arg a) _ spelled) after there)
       (λ vs ns last rest stays. record { count = refl; stands = stays; answer = (passes, rest) }))
 
   steps-agree : (steps : List CStep) → All OfStep steps → (at : Place) (ty : CType) →
@@ -399,16 +375,16 @@ module _ (known : Sizes) (lists : Lists) (structs : Structs) (shaped : Shaped kn
       (judge_steps (map judged_step steps) context at (Some ty)).ty (each_of_c (map step_c steps)) (map step_flat steps)
   steps-agree [] h at ty none room spelled = no-steps known lists structs shaped limit context scope ground chains base w running memory ty
   steps-agree (s ∷ steps) h at ty none room spelled =
-      let first = All-head OfStep s steps h at ty (nil-left _ _ none) (room-left chains w.top limit (calls_in_step s) _ room) (and-left _ _ spelled) in
+      let first = All-head OfStep s steps h at ty (first_empty _ _ none) (room-left chains w.top limit (calls_in_step s) _ room) (and_first _ _ spelled) in
       let later : (judge_steps (map judged_step steps) context at (Some first.goal)).faults ≡ [] =
-      ap (λ o. (judge_steps (map judged_step steps) context at o).faults) (sym first.is) ∙ nil-right (judged_step s context at (Some ty)).faults _ none in
+      ap (λ o. (judge_steps (map judged_step steps) context at o).faults) (sym first.is) ∙ second_empty (judged_step s context at (Some ty)).faults _ none in
       subst (λ o. StepsFacts known lists structs shaped limit context scope ground chains base w running memory ty
       (judge_steps (map judged_step steps) context at o).ty (each_of_c (map step_c (s ∷ steps))) (map step_flat (s ∷ steps))) (sym first.is)
       (step-before known lists structs shaped limit context scope ground chains base w running memory ty first.goal (judged_step s context at (Some ty)).ty
       (judge_steps (map judged_step steps) context at (Some first.goal)).ty
       (step_c s) (map step_c steps) (step_flat s) (map step_flat steps) first refl
       (steps-agree steps (All-tail OfStep s steps h) at first.goal later (room-right chains w.top limit (calls_in_step s) _ room)
-      (and-right (spells_step s) _ spelled)))
+      (and_second (spells_step s) _ spelled)))
 
   -- ---- each kind over its parts
 
@@ -421,18 +397,18 @@ module _ (known : Sizes) (lists : Lists) (structs : Structs) (shaped : Shaped kn
       Alike (Value (Some bool_type)) (two_values_c op (value_c a) (value_c b) scope memory)
       (two_values op (value_flat a ground) (value_flat b ground) base cells)
   two-case op a b ha hb at none room spelled cells stood =
-      let rest = nil-right (judged_expr a context).faults _ none in
+      let rest = second_empty (judged_expr a context).faults _ none in
       let typed = unless-nil
       (if_typed (judged_expr a context).ty (takes op) && if_typed (judged_expr b context).ty (takes op)
       && agree (judged_expr a context).ty (judged_expr b context).ty) operand_type at
-      (nil-right (judged_expr b context).faults _ rest) in
-      let both = and-left (if_typed (judged_expr a context).ty (takes op) && if_typed (judged_expr b context).ty (takes op)) _ typed in
-      let parts = and-right (is_c_operator op) _ spelled in
+      (second_empty (judged_expr b context).faults _ rest) in
+      let both = and_first (if_typed (judged_expr a context).ty (takes op) && if_typed (judged_expr b context).ty (takes op)) _ typed in
+      let parts = and_second (is_c_operator op) _ spelled in
       two-agree op (judged_expr a context).ty (judged_expr b context).ty (value_c a) (value_c b) (value_flat a ground) (value_flat b ground)
-      (and-left (is_c_operator op) _ spelled)
-      (and-left _ _ both) (and-right (if_typed (judged_expr a context).ty (takes op)) _ both) cells
-      (ha (nil-left _ _ none) (room-left chains w.top limit (calls_in a) (calls_in b) room) (and-left _ _ parts) cells stood)
-      (λ after there. hb (nil-left _ _ rest) (room-right chains w.top limit (calls_in a) (calls_in b) room) (and-right (spells_expr a) _ parts) after there)
+      (and_first (is_c_operator op) _ spelled)
+      (and_first _ _ both) (and_second (if_typed (judged_expr a context).ty (takes op)) _ both) cells
+      (ha (first_empty _ _ none) (room-left chains w.top limit (calls_in a) (calls_in b) room) (and_first _ _ parts) cells stood)
+      (λ after there. hb (first_empty _ _ rest) (room-right chains w.top limit (calls_in a) (calls_in b) room) (and_second (spells_expr a) _ parts) after there)
 
   -- what is wanted of the callee's name among the called ones
   room-first : (name : Text) (rest : List Text) → Room (name ∷ rest) → w.top + entry_or 0 chains name ≤ limit
@@ -452,16 +428,16 @@ module _ (known : Sizes) (lists : Lists) (structs : Structs) (shaped : Shaped kn
       (called_after scope memory name (each_of_c (map arg_c args) scope memory).count (each_of_c (map arg_c args) scope memory).answer)
       (flat_next (each_of (map (λ arg. arg ground) (map arg_flat args)) base cells) (λ after ns. flat_call ground name base ns after))
   calling-case name args h at none room spelled cells stood =
-      let there = unless-nil (is_some (signature_of context name)) declared_before at (nil-left _ _ none) in
-      let h1 = nil-right (unless (is_some (signature_of context name)) declared_before at) _ none in
-      let h2 = nil-right (joined (map (λ a. a.faults) (map (λ judge. judge context at) (map judged_arg args)))) _ h1 in
-      let fit = unless-nil (fit_args (signature_of context name) (map (λ judge. judge context at) (map judged_arg args))) arguments at (nil-left _ _ h2) in
+      let there = unless-nil (is_some (signature_of context name)) declared_before at (first_empty _ _ none) in
+      let h1 = second_empty (unless (is_some (signature_of context name)) declared_before at) _ none in
+      let h2 = second_empty (joined (map (λ a. a.faults) (map (λ judge. judge context at) (map judged_arg args)))) _ h1 in
+      let fit = unless-nil (fit_args (signature_of context name) (map (λ judge. judge context at) (map judged_arg args))) arguments at (first_empty _ _ h2) in
       call-agrees known lists structs shaped limit context scope ground chains base w running memory name (signature_of context name)
       (map (λ judge. judge context at) (map judged_arg args))
       (each_of_c (map arg_c args) scope memory) (each_of (map (λ arg. arg ground) (map arg_flat args)) base cells) refl there fit
       (λ s is. (running.functions name s is).plain)
       (room-first name (joined (map calls_in_arg args)) room)
-      (args-agree args h at (nil-left _ _ h1) (room-rest name (joined (map calls_in_arg args)) room) (and-right (is_callee name) _ spelled) cells stood)
+      (args-agree args h at (first_empty _ _ h1) (room-rest name (joined (map calls_in_arg args)) room) (and_second (is_callee name) _ spelled) cells stood)
 
   index-case : (signed : Bool) (e : CExpr) (length : ℕ) → OfExpr e → (at : Place) →
       (judged_expr e context).faults ++ unless (if_typed (judged_expr e context).ty (indexes signed)) indices at ≡ [] →
@@ -472,8 +448,8 @@ module _ (known : Sizes) (lists : Lists) (structs : Structs) (shaped : Shaped kn
   index-case signed e length h at none room spelled =
       index-agrees known lists structs shaped limit context scope ground chains base w running memory signed length (judged_expr e context).ty (value_c e)
       (value_flat e ground)
-      (unless-nil (if_typed (judged_expr e context).ty (indexes signed)) indices at (nil-right (judged_expr e context).faults _ none))
-      (h (nil-left _ _ none) room spelled)
+      (unless-nil (if_typed (judged_expr e context).ty (indexes signed)) indices at (second_empty (judged_expr e context).faults _ none))
+      (h (first_empty _ _ none) room spelled)
 
   place-case : (through : Bool) (name : Text) (steps : List CStep) → All OfStep steps → (at : Place) →
       (judge_root (context.variables name) through at).faults
@@ -486,10 +462,10 @@ module _ (known : Sizes) (lists : Lists) (structs : Structs) (shaped : Shaped kn
   place-case through name steps h at none room spelled =
       place-agrees known lists structs shaped limit context scope ground chains base w running memory through name at (each_of_c (map step_c steps))
       (map step_flat steps)
-      (λ o. (judge_steps (map judged_step steps) context at o).ty) (nil-left _ _ none)
+      (λ o. (judge_steps (map judged_step steps) context at o).ty) (first_empty _ _ none)
       (λ ty is. steps-agree steps h at ty
       (ap (λ o. (judge_steps (map judged_step steps) context at o).faults) (sym is)
-      ∙ nil-right (judge_root (context.variables name) through at).faults _ none)
+      ∙ second_empty (judge_root (context.variables name) through at).faults _ none)
       room spelled)
 
   step-case : (name : Text) (i : Option CIndex) → Optional OfIndex i → OfStep (roll-CStep (record { member = name; index = i }))
@@ -505,7 +481,7 @@ module _ (known : Sizes) (lists : Lists) (structs : Structs) (shaped : Shaped kn
       rw (fold-roll-CStep, fold-roll-CStep, fold-roll-CStep)
       (step-indexed known lists structs shaped limit context scope ground chains base w running memory ty name (judged_index i context at).length (index_c i)
       (index_flat i ground) at
-      (h at (nil-left _ _ n) r (and-right (is_name name) _ s)) (nil-right (judged_index i context at).faults _ n))
+      (h at (first_empty _ _ n) r (and_second (is_name name) _ s)) (second_empty (judged_index i context at).faults _ n))
 
   expr_cases : ExprCases OfArg OfKind OfCall OfExpr OfIndex OfPlace OfStep
   expr_cases = record {
@@ -526,16 +502,16 @@ module _ (known : Sizes) (lists : Lists) (structs : Structs) (shaped : Shaped kn
         rw (fold-roll-CExprKind) at none in
         rw (fold-roll-CExprKind, fold-roll-CExprKind, fold-roll-CExprKind)
         (result-of-call (judged_call c context at).signature (call_c c scope memory) (call_flat c ground base cells)
-        (h at (nil-left _ _ n) (rw (fold-roll-CExprKind) at room) (rw (fold-roll-CExprKind) at spelled) cells stood)
+        (h at (first_empty _ _ n) (rw (fold-roll-CExprKind) at room) (rw (fold-roll-CExprKind) at spelled) cells stood)
         (unless-nil (not (is_void (known_result (judged_call c context at).signature))) void_as_statement at
-        (nil-right (judged_call c context at).faults _ n)));
+        (second_empty (judged_call c context at).faults _ n)));
     negation = λ e h at none room spelled cells stood.
         let n : (judged_expr e context).faults ++ unless (agree (judged_expr e context).ty (Some bool_type)) operand_type at ≡ [] =
         rw (fold-roll-CExprKind) at none in
         rw (fold-roll-CExprKind, fold-roll-CExprKind, fold-roll-CExprKind)
         (not-case (judged_expr e context).ty (value_c e scope memory) (value_flat e ground base cells)
-        (unless-nil (agree (judged_expr e context).ty (Some bool_type)) operand_type at (nil-right (judged_expr e context).faults _ n))
-        (h (nil-left _ _ n) (rw (fold-roll-CExprKind) at room) (rw (fold-roll-CExprKind) at spelled) cells stood));
+        (unless-nil (agree (judged_expr e context).ty (Some bool_type)) operand_type at (second_empty (judged_expr e context).faults _ n))
+        (h (first_empty _ _ n) (rw (fold-roll-CExprKind) at room) (rw (fold-roll-CExprKind) at spelled) cells stood));
     two = λ op a b ha hb at none room spelled cells stood.
         rw (fold-roll-CExprKind, fold-roll-CExprKind, fold-roll-CExprKind)
         (two-case op a b ha hb at (rw (fold-roll-CExprKind) at none) (rw (fold-roll-CExprKind) at room) (rw (fold-roll-CExprKind) at spelled) cells stood);
@@ -548,11 +524,11 @@ module _ (known : Sizes) (lists : Lists) (structs : Structs) (shaped : Shaped kn
     index = λ signed e length h at none room spelled.
         let s : (spells_expr e && is_length length) ≡ true = rw (fold-roll-CIndex) at spelled in
         rw (fold-roll-CIndex, fold-roll-CIndex, fold-roll-CIndex)
-        (index-case signed e length h at (rw (fold-roll-CIndex) at none) (rw (fold-roll-CIndex) at room) (and-left _ _ s));
+        (index-case signed e length h at (rw (fold-roll-CIndex) at none) (rw (fold-roll-CIndex) at room) (and_first _ _ s));
     place = λ through name steps h at none room spelled.
         let s : (is_name name && all_of (map spells_step steps)) ≡ true = rw (fold-roll-CPlace) at spelled in
         rw (fold-roll-CPlace, fold-roll-CPlace, fold-roll-CPlace)
-        (place-case through name steps h at (rw (fold-roll-CPlace) at none) (rw (fold-roll-CPlace) at room) (and-right (is_name name) _ s));
+        (place-case through name steps h at (rw (fold-roll-CPlace) at none) (rw (fold-roll-CPlace) at room) (and_second (is_name name) _ s));
     step = step-case;
   }
 

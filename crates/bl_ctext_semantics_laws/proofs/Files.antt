@@ -1,31 +1,10 @@
 -- The functions of a well-formed file in a C text and over numbered cells.
-use Rattle.std.proofs.Common.{
-  ◌≡◌,
-  ℕ,
-  suc,
-  ◌-◌,
-  ◌≤◌,
-  Bool,
-  true,
-  false,
-  ◌&&◌,
-  List,
-  [],
-  ◌∷◌,
-  ◌++◌,
-  map,
-  length,
-  drop,
-  Option,
-  Some,
-  None,
-  refl,
-  ap,
-}
+use Rattle.std.proofs.Common.{◌≡◌, ℕ, suc, ◌-◌, ◌≤◌, Bool, true, false, ◌&&◌, List, [], ◌∷◌, ◌++◌, map, length, drop, Option, Some, None, refl, ap}
 use Rattle.std.proofs.Common.{sym, subst, ◌∙◌, arith}
 use Rattle.std.specs.Prelude.{unwrap_or, bytes_eq, is_some, is_none, nat_lt, codes, if◌then◌else◌}
 use Rattle.std.specs.Option.{option_or}
 use Rattle.std.proofs.lemmas.Slice.Eq.{bytes_eq-Decides}
+use Rattle.bl_tree.proofs.Basics.{and_first, and_second, first_empty, same_some, second_empty}
 use Rattle.bl_tree.specs.declared.text.Text.{Text}
 use Rattle.bl_tree.specs.declared.place.Place.{Place}
 use Rattle.bl_tree.specs.declared.scalar.Scalar.TheVariants.{Nat}
@@ -40,8 +19,6 @@ use Rattle.bl_ctext_semantics.specs.Faults.{Fault, Signature, depth_of_function,
 use Rattle.bl_ctext_semantics.specs.Faults.{init_faults, init_params, interface_faults, interface_functions, last_two, signature_in, struct_table}
 use Rattle.bl_ctext_semantics.specs.Faults.{tick_faults, tick_params, unless}
 use Rattle.bl_ctext_semantics.specs.Parts.{Parts}
-use Rattle.bl_ctext_semantics.proofs.EndLemmas.{nil-left, nil-right}
-use Rattle.bl_ctext_semantics_laws.proofs.Lists.{and-left, and-right}
 use Rattle.bl_ctext_semantics_laws.specs.Layout.{capped_sizes, layouts}
 use Rattle.bl_ctext_semantics_laws.specs.Flat.{Routine, routine_flat, routines_after}
 use Rattle.bl_ctext_semantics_laws.proofs.Faultless.{unless-nil}
@@ -49,9 +26,6 @@ use Rattle.bl_ctext_semantics_laws.proofs.Ways.{Shaped, Structs}
 use Rattle.bl_ctext_semantics_laws.proofs.Running.{Agrees, FunctionAs, Keeps}
 use Rattle.bl_ctext_semantics_laws.proofs.Layouts.{lists_of}
 use Rattle.bl_ctext_semantics_laws.proofs.Functions.{FunctionsAs, function-agrees, function-keeps, sound}
-
-some_of : {A : Type 0} (a b : A) → Some a ≡ Some b → a ≡ b
-some_of a b h = cc
 
 -- the functions by name
 abbrev pub named : List CFunc → List (Text × CFunc)
@@ -80,12 +54,12 @@ absent structs functions depths name (f ∷ fs) there none =
     chosen (bytes_eq f.name name) refl
     (absent structs (with_entry functions f.name (signature_in f)) (with_entry depths f.name (depth_of_function depths f)) name fs
     (kept-entry (functions name) (bytes_eq f.name name) (signature_in f) there)
-    (nil-right (faults_in_function structs functions depths (nat_lt (length fs) 2) f) _ none))
+    (second_empty (faults_in_function structs functions depths (nat_lt (length fs) 2) f) _ none))
   where
     chosen : (b : Bool) → bytes_eq f.name name ≡ b → found name (named fs) ≡ None → (if b then Some f else found name (named fs)) ≡ None
     chosen false is rest = rest
     chosen true is rest =
-        let s = sound structs functions depths (nat_lt (length fs) 2) f (nil-left _ _ none) in
+        let s = sound structs functions depths (nat_lt (length fs) 2) f (first_empty _ _ none) in
         absurd (not-both (functions name) there (subst (λ n. is_none (functions n) ≡ true) ((bytes_eq-Decides f.name name).0 is) s.fresh))
 
 -- ---- the last function
@@ -121,7 +95,7 @@ not-tick structs functions depths f g fs none last = chosen (bytes_eq f.name (co
         absurd (none-some (found (codes "bl_tick") (named (g ∷ fs)))
         (absent structs (with_entry functions f.name (signature_in f)) (with_entry depths f.name (depth_of_function depths f)) (codes "bl_tick") (g ∷ fs)
         (added-entry (functions (codes "bl_tick")) (bytes_eq f.name (codes "bl_tick")) (signature_in f) is)
-        (nil-right (faults_in_function structs functions depths (nat_lt (length (g ∷ fs)) 2) f) _ none))
+        (second_empty (faults_in_function structs functions depths (nat_lt (length (g ∷ fs)) 2) f) _ none))
         (tick-there (g ∷ fs) last))
 
 -- ---- all functions
@@ -201,7 +175,7 @@ module _ (file : Parts) (shaped : Shaped (sizes file.structs) (lists_of file.str
             new false same h = cc
             new true same h =
                 let lacks : is_some (functions name) ≡ false = ap is_some there in
-                let e : signature_in f ≡ s = some_of (signature_in f) s h in
+                let e : signature_in f ≡ s = same_some (signature_in f) s h in
                 let chain : with_entry chains f.name room name ≡ Some room =
                 first-now (chains name) (bytes_eq f.name name) room (none-of (chains name) (together.c name ∙ lacks)) same in
                 subst (λ o. FunctionAs (sizes file.structs) (lists_of file.structs) (struct_table file.structs) shaped limit s
@@ -234,7 +208,7 @@ module _ (file : Parts) (shaped : Shaped (sizes file.structs) (lists_of file.str
       (if b then Some f else o) ≡ Some g → (o ≡ Some g → FoundAs g ms rs chains) →
       FoundAs g (if b then Some m else ms) (if b then Some r else rs) (n ∷ chains)
   this-or true f g o m r n ms rs chains agrees is rest =
-      let e : f ≡ g = some_of f g is in
+      let e : f ≡ g = same_some f g is in
       record {
         c = m;
         is = refl;
@@ -258,18 +232,18 @@ module _ (file : Parts) (shaped : Shaped (sizes file.structs) (lists_of file.str
       (chains_after (sizes file.structs) chains fs)
   functions-found functions depths meanings routines chains [] together knows none spelled last name g there = absurd last
   functions-found functions depths meanings routines chains (f ∷ []) together knows none spelled last name g there =
-      let s = sound (struct_table file.structs) functions depths (nat_lt 0 2) f (nil-left _ _ none) in
+      let s = sound (struct_table file.structs) functions depths (nat_lt 0 2) f (first_empty _ _ none) in
       this-or (bytes_eq f.name name) f g None (function_c meanings f) (routine_flat (capped_sizes file.structs) (layouts file.structs) routines f)
       (chain_cells (sizes file.structs) chains f) None None []
-      (function-agrees file shaped limit small functions meanings routines chains f s (and-left _ _ spelled) knows) there
+      (function-agrees file shaped limit small functions meanings routines chains f s (and_first _ _ spelled) knows) there
       (λ later. absurd (let x : is_some (Some g) ≡ false = ap is_some (sym later) in let y : true ≡ false = x in cc))
   functions-found functions depths meanings routines chains (f ∷ h ∷ fs) together knows none spelled last name g there =
-      let s = sound (struct_table file.structs) functions depths (nat_lt (length (h ∷ fs)) 2) f (nil-left _ _ none) in
-      let agrees = function-agrees file shaped limit small functions meanings routines chains f s (and-left _ _ spelled) knows in
+      let s = sound (struct_table file.structs) functions depths (nat_lt (length (h ∷ fs)) 2) f (first_empty _ _ none) in
+      let agrees = function-agrees file shaped limit small functions meanings routines chains f s (and_first _ _ spelled) knows in
       let other = not-tick (struct_table file.structs) functions depths f h fs none last in
       let keeps : Keeps (function_c meanings f) (signature_in f) =
       function-keeps (struct_table file.structs) functions meanings f s other
-      (λ n x meaning a b. let k = knows n x a in subst (λ y. Keeps y x) (some_of k.c meaning (sym k.is ∙ b)) k.keeps) in
+      (λ n x meaning a b. let k = knows n x a in subst (λ y. Keeps y x) (same_some k.c meaning (sym k.is ∙ b)) k.keeps) in
       this-or (bytes_eq f.name name) f g (found name (named (h ∷ fs))) (function_c meanings f)
       (routine_flat (capped_sizes file.structs) (layouts file.structs) routines f) (chain_cells (sizes file.structs) chains f)
       (found name (meanings_after (with_entry meanings f.name (function_c meanings f)) (h ∷ fs)))
@@ -284,8 +258,8 @@ module _ (file : Parts) (shaped : Shaped (sizes file.structs) (lists_of file.str
       (routine_flat (capped_sizes file.structs) (layouts file.structs) routines f) (chain_cells (sizes file.structs) chains f) agrees keeps)
       (knows-next functions meanings routines chains together knows f (function_c meanings f)
       (routine_flat (capped_sizes file.structs) (layouts file.structs) routines f) (chain_cells (sizes file.structs) chains f) agrees keeps)
-      (nil-right (faults_in_function (struct_table file.structs) functions depths (nat_lt (length (h ∷ fs)) 2) f) _ none)
-      (and-right (spells_func f) _ spelled)
+      (second_empty (faults_in_function (struct_table file.structs) functions depths (nat_lt (length (h ∷ fs)) 2) f) _ none)
+      (and_second (spells_func f) _ spelled)
       last name g later)
 
 -- ---- the two functions that a file is called by
@@ -327,25 +301,25 @@ interface-of structs functions depths [] none faults = absurd (not-nil _ _ fault
 interface-of structs functions depths (f ∷ []) none faults = absurd (not-nil _ _ faults)
 interface-of structs functions depths (f ∷ g ∷ []) none faults =
     let all : init_faults f g.place ++ tick_faults g ≡ [] = faults in
-    let first = nil-left (init_faults f g.place) (tick_faults g) all in
+    let first = first_empty (init_faults f g.place) (tick_faults g) all in
     let second = unless-nil (bytes_eq g.name (codes "bl_tick") && (gives g.result (Nat W32) && tick_params g.params)) interface_functions g.place
-    (nil-right (init_faults f g.place) (tick_faults g) all) in
+    (second_empty (init_faults f g.place) (tick_faults g) all) in
     let named-init = init-so (bytes_eq f.name (codes "bl_init")) (is_none f.result && init_params f.params) false f.place g.place first refl in
     let test = init-test (bytes_eq f.name (codes "bl_init")) (is_none f.result && init_params f.params) false f.place g.place first named-init in
-    let named-tick = and-left (bytes_eq g.name (codes "bl_tick")) _ second in
+    let named-tick = and_first (bytes_eq g.name (codes "bl_tick")) _ second in
     let other : bytes_eq f.name (codes "bl_tick") ≡ false =
     ap (λ n. bytes_eq n (codes "bl_tick")) ((bytes_eq-Decides f.name (codes "bl_init")).0 named-init) in
     record {
       last = named-tick;
       init = f;
       init-is = ap (λ b. if b then Some f else found (codes "bl_init") (named (g ∷ []))) named-init;
-      init-params = and-right (is_none f.result) _ test;
+      init-params = and_second (is_none f.result) _ test;
       tick = g;
       tick-is = ap (λ b. if b then Some f else found (codes "bl_tick") (named (g ∷ []))) other ∙ ap (λ b. if b then Some g else None) named-tick;
-      tick-params = and-right (gives g.result (Nat W32)) _ (and-right (bytes_eq g.name (codes "bl_tick")) _ second);
+      tick-params = and_second (gives g.result (Nat W32)) _ (and_second (bytes_eq g.name (codes "bl_tick")) _ second);
     }
 interface-of structs functions depths (f ∷ g ∷ h ∷ fs) none faults =
-    let later = nil-right (faults_in_function structs functions depths (nat_lt (length (g ∷ h ∷ fs)) 2) f) _ none in
+    let later = second_empty (faults_in_function structs functions depths (nat_lt (length (g ∷ h ∷ fs)) 2) f) _ none in
     let i : Interface (g ∷ h ∷ fs) =
     interface-of structs (with_entry functions f.name (signature_in f)) (with_entry depths f.name (depth_of_function depths f)) (g ∷ h ∷ fs) later
     (ap faults_of_two (sym (two-fewer f g h fs)) ∙ faults) in

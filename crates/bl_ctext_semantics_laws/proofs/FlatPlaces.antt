@@ -1,28 +1,5 @@
 -- Places in a C text and over numbered cells.
-use Rattle.std.proofs.Common.{
-  ◌≡◌,
-  ℕ,
-  zero,
-  suc,
-  ◌+◌,
-  ◌*◌,
-  ◌≤◌,
-  ◌<◌,
-  ℤ,
-  pos,
-  negsuc,
-  Bool,
-  true,
-  false,
-  not,
-  ◌&&◌,
-  List,
-  [],
-  ◌∷◌,
-  ◌++◌,
-  Option,
-  Some,
-}
+use Rattle.std.proofs.Common.{◌≡◌, ℕ, zero, suc, ◌+◌, ◌*◌, ◌≤◌, ◌<◌, ℤ, pos, negsuc, Bool, true, false, not, ◌&&◌, List, [], ◌∷◌, ◌++◌, Option, Some}
 use Rattle.std.proofs.Common.{None, refl, ap, sym, subst, ◌∙◌, arith, append-nil, append_assoc, suc-mul, zero-mul, mul_comm}
 use Rattle.std.specs.Prelude.{option_map, option_and_then, int_le, int_lt, unwrap_or, nat_lt, ◌==◌, if◌then◌else◌}
 use Rattle.std.proofs.lemmas.Int.{ints}

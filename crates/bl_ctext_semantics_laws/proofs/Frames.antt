@@ -1,6 +1,7 @@
 -- The frame of a function that begins to run.
 use Rattle.std.proofs.Common.{◌≡◌, ℕ, ◌+◌, Bool, true, false, List, [], ◌∷◌, ◌++◌, map, Option, Some, refl, ap, ◌∙◌, arith}
 use Rattle.std.specs.Prelude.{bytes_eq, if◌then◌else◌}
+use Rattle.bl_tree.proofs.Basics.{same_some}
 use Rattle.bl_tree.specs.declared.text.Text.{Text}
 use Rattle.bl_tree.specs.declared.c.CType.{CType}
 use Rattle.bl_tree.specs.declared.c.CParam.{CParam}
@@ -22,9 +23,6 @@ variable_size known v = if v.pointer then 1 else size_of_type known v.ty
 abbrev pub entries : List CParam → List CLocal → List (Text × Variable)
 entries params locals = map param_variable params ++ map local_variable locals
 
-some_of : {A : Type 0} (a b : A) → Some a ≡ Some b → a ≡ b
-some_of a b h = cc
-
 -- ---- slots
 
 -- a slot of a variable, so many cells behind the base
@@ -40,7 +38,7 @@ slot-first : (b : Bool) (k at : ℕ) (pointer : Bool) (ty : CType) (v : Variable
     (if b then Some (record { pointer = pointer; ty = ty }) else others) ≡ Some v → (others ≡ Some v → SlotFor rest v (at + size + later)) →
     SlotFor (if b then Some (record { at = k; pointer = pointer; ty = ty }) else rest) v (at + (if b then 0 else size + later))
 slot-first true k at pointer ty v size later others rest is h r =
-    let e : record { pointer = pointer; ty = ty } ≡ v = some_of (record { pointer = pointer; ty = ty }) v h in
+    let e : record { pointer = pointer; ty = ty } ≡ v = same_some (record { pointer = pointer; ty = ty }) v h in
     record {
       slot = record { at = k; pointer = pointer; ty = ty };
       is = refl;

@@ -1,31 +1,10 @@
 -- Functions in a C text and over numbered cells.
-use Rattle.std.proofs.Common.{
-  ◌≡◌,
-  ℕ,
-  ◌+◌,
-  ◌≤◌,
-  Bool,
-  true,
-  false,
-  not,
-  ◌&&◌,
-  ◌||◌,
-  List,
-  [],
-  ◌∷◌,
-  ◌++◌,
-  map,
-  Option,
-  Some,
-  None,
-  refl,
-  ap,
-  sym,
-}
+use Rattle.std.proofs.Common.{◌≡◌, ℕ, ◌+◌, ◌≤◌, Bool, true, false, not, ◌&&◌, ◌||◌, List, [], ◌∷◌, ◌++◌, map, Option, Some, None, refl, ap, sym}
 use Rattle.std.proofs.Common.{subst, ◌∙◌, arith}
 use Rattle.std.specs.Prelude.{bytes_eq, is_some, is_none, ◌==◌, codes, if◌then◌else◌}
 use Rattle.std.specs.List.{list_all}
 use Rattle.std.proofs.lemmas.Grind.{common_steps}
+use Rattle.bl_tree.proofs.Basics.{and_second, first_empty, none_plus, second_empty}
 use Rattle.bl_tree.specs.declared.text.Text.{Text}
 use Rattle.bl_tree.specs.declared.scalar.Scalar.{Scalar}
 use Rattle.bl_tree.specs.declared.c.CParam.{CParam}
@@ -45,19 +24,17 @@ use Rattle.bl_ctext_semantics.specs.Faults.{distinct_names, declared_before, sca
 use Rattle.bl_ctext_semantics.specs.Faults.{faults_in_function, faults_in_head, faults_in_stmt, is_declared, is_scalar, local_variable, names_table}
 use Rattle.bl_ctext_semantics.specs.Faults.{repeated, signature_in, struct_table, unless, variable_names}
 use Rattle.bl_ctext_semantics.specs.Parts.{Parts}
-use Rattle.bl_ctext_semantics.proofs.EndLemmas.{nil-left, nil-right}
-use Rattle.bl_ctext_semantics_laws.proofs.Lists.{and-right}
 use Rattle.bl_ctext_semantics_laws.specs.Layout.{capped, capped_sizes, frame_cells, layouts, slots_of}
 use Rattle.bl_ctext_semantics_laws.specs.Reaching.{Ground}
 use Rattle.bl_ctext_semantics_laws.specs.Flat.{Routine, block_flat, frame_begun, ground_of, routine_flat, with_args, zeroed}
 use Rattle.bl_ctext_semantics_laws.proofs.Faultless.{unless-nil}
 use Rattle.bl_ctext_semantics_laws.proofs.Entries.{offset_of, sum_of}
-use Rattle.bl_ctext_semantics_laws.proofs.Ways.{Lists, Shaped, Structs}
+use Rattle.bl_ctext_semantics_laws.proofs.Ways.{Shaped, Structs}
 use Rattle.bl_ctext_semantics_laws.proofs.Standing.{Stands, World, zero-fits}
 use Rattle.bl_ctext_semantics_laws.proofs.Running.{Agrees, Ends, FunctionAs, Keeps, Ranged, Running, Unsafe}
 use Rattle.bl_ctext_semantics_laws.proofs.Statements.{EndRanged, RunAgrees, body-agrees}
 use Rattle.bl_ctext_semantics_laws.proofs.Effects.{Stays, body-stays, set-stays}
-use Rattle.bl_ctext_semantics_laws.proofs.Layouts.{laying-file, lists_of, none-before}
+use Rattle.bl_ctext_semantics_laws.proofs.Layouts.{laying-file, lists_of}
 use Rattle.bl_ctext_semantics_laws.proofs.Frames.{SlotFor, entries, frame-sum, frame-total, params-slot, variable_size}
 use Rattle.bl_ctext_semantics_laws.proofs.Begun.{begun-stands, begun_world, deeper-shallow, ended-stands, inner-separate, pointer_cells, variable-as}
 
@@ -71,17 +48,17 @@ pub record Sound (structs : Structs) (functions : Table Signature) (f : CFunc) :
 pub sound : (structs : Structs) (functions : Table Signature) (depths : Table ℕ) (last : Bool) (f : CFunc) →
     faults_in_function structs functions depths last f ≡ [] → Sound structs functions f
 sound structs functions depths last f none =
-    let h0 = nil-left (faults_in_head structs functions depths last f) _ none in
-    let h1 = nil-right (unless (is_none (functions f.name)) distinct_names f.place) _ h0 in
-    let h2 = nil-right (unless (all_distinct no_entries (variable_names f)) distinct_names f.place) _ h1 in
-    let h3 = nil-right (unless (list_all (λ p. is_declared structs p.ty) f.params && list_all (λ l. is_declared structs l.ty) f.locals) declared_before
+    let h0 = first_empty (faults_in_head structs functions depths last f) _ none in
+    let h1 = second_empty (unless (is_none (functions f.name)) distinct_names f.place) _ h0 in
+    let h2 = second_empty (unless (all_distinct no_entries (variable_names f)) distinct_names f.place) _ h1 in
+    let h3 = second_empty (unless (list_all (λ p. is_declared structs p.ty) f.params && list_all (λ l. is_declared structs l.ty) f.locals) declared_before
     f.place) _ h2 in
-    let h7 = nil-right (faults_in_head structs functions depths last f) _ none in
+    let h7 = second_empty (faults_in_head structs functions depths last f) _ none in
     record {
-      fresh = unless-nil (is_none (functions f.name)) distinct_names f.place (nil-left _ _ h0);
-      apart = unless-nil (all_distinct no_entries (variable_names f)) distinct_names f.place (nil-left _ _ h1);
-      single = unless-nil (list_all (λ p. p.pointer || is_scalar p.ty) f.params) scalar_parameter f.place (nil-left _ _ h3);
-      body = nil-right (repeated (names_table (variable_names f)) (turns_in_block f.body)) _ h7;
+      fresh = unless-nil (is_none (functions f.name)) distinct_names f.place (first_empty _ _ h0);
+      apart = unless-nil (all_distinct no_entries (variable_names f)) distinct_names f.place (first_empty _ _ h1);
+      single = unless-nil (list_all (λ p. p.pointer || is_scalar p.ty) f.params) scalar_parameter f.place (first_empty _ _ h3);
+      body = second_empty (repeated (names_table (variable_names f)) (turns_in_block f.body)) _ h7;
     }
 
 locals-names : (locals : List CLocal) → map (λ l. l.name) locals ≡ map (λ e. e.0) (map local_variable locals)
@@ -163,9 +140,6 @@ module _ (file : Parts) (shaped : Shaped (sizes file.structs) (lists_of file.str
   abbrev known : Sizes
   known = sizes file.structs
 
-  abbrev lists : Lists
-  lists = lists_of file.structs
-
   abbrev structs : Structs
   structs = struct_table file.structs
 
@@ -185,8 +159,8 @@ module _ (file : Parts) (shaped : Shaped (sizes file.structs) (lists_of file.str
 
   body-spelled : (f : CFunc) → spells_func f ≡ true → all_of (map spells_stmt f.body) ≡ true
   body-spelled f h =
-      and-right (all_of (map spells_local f.locals)) _
-      (and-right (all_of (map spells_param f.params)) _ (and-right (is_function_name f.name) _ (and-right (spells_returned f.result) _ h)))
+      and_second (all_of (map spells_local f.locals)) _
+      (and_second (all_of (map spells_param f.params)) _ (and_second (is_function_name f.name) _ (and_second (spells_returned f.result) _ h)))
 
   pub function-agrees : (functions : Table Signature) (meanings : Table Meaning) (routines : Table Routine) (chains : Table ℕ) (f : CFunc) →
       Sound (struct_table file.structs) functions f → spells_func f ≡ true →
@@ -224,7 +198,7 @@ module _ (file : Parts) (shaped : Shaped (sizes file.structs) (lists_of file.str
               under fits apart is.single passed args memory all small name v
               (slots_of (capped_sizes file.structs) f name) there
               (subst (λ n. SlotFor (slots_of (capped_sizes file.structs) f name) v n)
-              (none-before (offset_of (variable_size (sizes file.structs)) (entries f.params f.locals) name))
+              (none_plus (offset_of (variable_size (sizes file.structs)) (entries f.params f.locals) name))
               (params-slot file.structs 0 0 f.params f.locals name v refl there));
           functions = earlier;
         } in

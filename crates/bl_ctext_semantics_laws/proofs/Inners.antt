@@ -1,32 +1,11 @@
 -- The scalars of a type in order, and the cells before each.
-use Rattle.std.proofs.Common.{
-  ◌≡◌,
-  ℕ,
-  zero,
-  suc,
-  ◌+◌,
-  ◌*◌,
-  ◌≤◌,
-  ◌<◌,
-  Bool,
-  true,
-  false,
-  List,
-  [],
-  ◌∷◌,
-  ◌++◌,
-  map,
-  length,
-  Option,
-  Some,
-  None,
-  refl,
-}
+use Rattle.std.proofs.Common.{◌≡◌, ℕ, zero, suc, ◌+◌, ◌*◌, ◌≤◌, ◌<◌, Bool, true, false, List, [], ◌∷◌, ◌++◌, map, length, Option, Some, None, refl}
 use Rattle.std.proofs.Common.{ap, sym, subst, ◌∙◌, arith, append-nil, append_assoc, length-append, suc-mul, zero-mul}
 use Rattle.std.specs.Prelude.{flat_map, is_some, is_none, bytes_eq, unwrap_or, option_map, option_and_then, nat_lt, if◌then◌else◌}
 use Rattle.std.specs.List.{list_all}
 use Rattle.std.specs.Option.{option_or}
 use Rattle.std.proofs.lemmas.Grind.{common_steps}
+use Rattle.bl_tree.proofs.Basics.{and_first, and_second, first_empty, same_some, second_empty}
 use Rattle.bl_tree.specs.declared.text.Text.{Text}
 use Rattle.bl_tree.specs.declared.scalar.Scalar.{Scalar}
 use Rattle.bl_tree.specs.declared.c.CType.{CType}
@@ -40,10 +19,8 @@ use Rattle.bl_ctext_semantics.specs.Sizes.{Sizes, size_of_length, size_of_member
 use Rattle.bl_ctext_semantics.specs.Faults.{distinct_names, declared_before, all_distinct, depth_of_struct, faults_in_struct, is_declared, member_table}
 use Rattle.bl_ctext_semantics.specs.Faults.{struct_faults_after, unless}
 use Rattle.bl_ctext_semantics.specs.Tables.{Table, found, no_entries, table_of, with_entry}
-use Rattle.bl_ctext_semantics.proofs.EndLemmas.{nil-left, nil-right}
 use Rattle.bl_ctext_semantics.proofs.MapLemmas.{next_entry}
 use Rattle.bl_ctext_semantics_laws.specs.Fitting.{ValueSpot, whole, row, spot_if, spot_of, spot_of_length, step_in, walk}
-use Rattle.bl_ctext_semantics_laws.proofs.Lists.{and-left, and-right}
 use Rattle.bl_ctext_semantics_laws.proofs.Faultless.{unless-nil}
 use Rattle.bl_ctext_semantics_laws.proofs.Entries.{Positioned, positioned}
 use Rattle.bl_ctext_semantics_laws.proofs.Layouts.{entries_after}
@@ -52,9 +29,6 @@ use Rattle.bl_ctext_semantics_laws.proofs.Ways.{Lists, Shaped, Structs, by_name,
 -- the tables of a file
 abbrev pub Scalars : Type 0
 Scalars = Table (List Inner)
-
-some_of : {A : Type 0} (a b : A) → Some a ≡ Some b → a ≡ b
-some_of a b h = cc
 
 length-inside : (parts : List Projection) (is : List Inner) → length (map (seen_from_outside parts) is) ≡ length is
 length-inside parts [] = refl
@@ -216,11 +190,11 @@ module _ (known : Sizes) (lists : Lists) (structs : Structs) (shaped : Shaped kn
   all-so : (p : CMember → Bool) (name : Text) (m : CMember) (ms : List CMember) → found name (by_name ms) ≡ Some m →
       list_all p ms ≡ true → p m ≡ true
   all-so p name m [] h all = cc
-  all-so p name m (x ∷ ms) h all = chosen (bytes_eq x.name name) h (λ later. all-so p name m ms later (and-right (p x) _ all))
+  all-so p name m (x ∷ ms) h all = chosen (bytes_eq x.name name) h (λ later. all-so p name m ms later (and_second (p x) _ all))
     where
       chosen : (b : Bool) → (if b then Some x else found name (by_name ms)) ≡ Some m →
           (found name (by_name ms) ≡ Some m → p m ≡ true) → p m ≡ true
-      chosen true h rest = ap p (sym (some_of x m h)) ∙ and-left (p x) _ all
+      chosen true h rest = ap p (sym (same_some x m h)) ∙ and_first (p x) _ all
       chosen false h rest = rest h
 
   -- a struct over those before it
@@ -264,17 +238,17 @@ module _ (known : Sizes) (lists : Lists) (structs : Structs) (shaped : Shaped kn
       struct_faults_after table depths rest ≡ [] → Done (entries_after member_table table rest)
   led-all table before depths [] together all done none = done
   led-all table before depths (s ∷ rest) together all done none =
-      let here : faults_in_struct table depths s ≡ [] = nil-left (faults_in_struct table depths s) _ none in
-      let h1 = nil-right (unless (is_none (table s.name)) distinct_names s.place) _ here in
+      let here : faults_in_struct table depths s ≡ [] = first_empty (faults_in_struct table depths s) _ none in
+      let h1 = second_empty (unless (is_none (table s.name)) distinct_names s.place) _ here in
       let declared = unless-nil _ declared_before s.place
-      (nil-left (unless (list_all (λ m. is_declared table m.ty) s.members) declared_before s.place) _ h1) in
-      let h2 = nil-right (unless (list_all (λ m. is_declared table m.ty) s.members) declared_before s.place) _ h1 in
-      let apart = unless-nil _ distinct_names s.place (nil-left
+      (first_empty (unless (list_all (λ m. is_declared table m.ty) s.members) declared_before s.place) _ h1) in
+      let h2 = second_empty (unless (list_all (λ m. is_declared table m.ty) s.members) declared_before s.place) _ h1 in
+      let apart = unless-nil _ distinct_names s.place (first_empty
       (unless (all_distinct no_entries (map (λ m. m.name) s.members)) distinct_names s.place) _ h2) in
       led-all (with_entry table s.name (member_table s)) (with_entry before s.name s.members) (with_entry depths s.name (depth_of_struct depths s)) rest
       (λ name. or-together (before name) (table name) (bytes_eq s.name name) s.members (member_table s) (together name))
       (λ name. all name ∙ sym (next_entry (before name) (bytes_eq s.name name) s.members (found name (map (λ t. (t.name, t.members)) rest))))
-      (λ name h. chosen declared apart name (table name) refl h) (nil-right (faults_in_struct table depths s) _ none)
+      (λ name h. chosen declared apart name (table name) refl h) (second_empty (faults_in_struct table depths s) _ none)
     where
       chosen : list_all (λ m. is_declared table m.ty) s.members ≡ true → all_distinct no_entries (map (λ m. m.name) s.members) ≡ true →
           (name : Text) (o : Option (Table CMember)) → table name ≡ o →

@@ -1,29 +1,10 @@
 -- The structs of a well-formed file: their members, sizes, scalars and layouts.
-use Rattle.std.proofs.Common.{
-  ◌≡◌,
-  ℕ,
-  ◌+◌,
-  Bool,
-  true,
-  false,
-  List,
-  [],
-  ◌∷◌,
-  ◌++◌,
-  map,
-  Option,
-  Some,
-  None,
-  refl,
-  ap,
-  sym,
-  subst,
-  ◌∙◌,
-  arith,
-}
+use Rattle.std.proofs.Common.{◌≡◌, ℕ, ◌+◌, Bool, true, false, List, [], ◌∷◌, ◌++◌, map, Option, Some, None, refl, ap, sym, subst, ◌∙◌, arith}
 use Rattle.std.specs.Prelude.{flat_map, is_some, is_none, bytes_eq, unwrap_or, option_map, option_and_then, if◌then◌else◌}
 use Rattle.std.specs.List.{list_all}
 use Rattle.std.specs.Option.{option_or}
+use Rattle.std.proofs.lemmas.Bool.{and_from}
+use Rattle.bl_tree.proofs.Basics.{and_first, and_second, first_empty, none_plus, same_some, second_empty}
 use Rattle.bl_tree.specs.declared.text.Text.{Text}
 use Rattle.bl_tree.specs.declared.c.CType.{CType}
 use Rattle.bl_tree.specs.declared.c.CType.TheVariants.{Scalar as OfScalar, Struct as OfStruct}
@@ -36,38 +17,22 @@ use Rattle.bl_ctext_semantics.specs.Faults.{distinct_names, declared_before, Wel
 use Rattle.bl_ctext_semantics.specs.Faults.{member_table, struct_faults_after, struct_table, unless}
 use Rattle.bl_ctext_semantics.specs.Parts.{Parts}
 use Rattle.bl_ctext_semantics.specs.Tables.{Table, found, no_entries, table_of, with_entry}
-use Rattle.bl_ctext_semantics.proofs.EndLemmas.{nil-left, nil-right}
 use Rattle.bl_ctext_semantics.proofs.MapLemmas.{next_entry, nothing_after, same_table}
 use Rattle.bl_ctext_semantics_laws.specs.Fitting.{scalars}
-use Rattle.bl_ctext_semantics_laws.proofs.Lists.{and-both, and-left, and-right}
 use Rattle.bl_ctext_semantics_laws.specs.Layout.{capped, capped_sizes, layouts, members_laid}
 use Rattle.bl_ctext_semantics_laws.proofs.Faultless.{unless-nil}
 use Rattle.bl_ctext_semantics_laws.proofs.Entries.{found-made}
 use Rattle.bl_ctext_semantics_laws.proofs.Ways.{Lists, Shaped, Structs, by_name, offset_in}
 use Rattle.bl_ctext_semantics_laws.proofs.FlatPlaces.{capped-factor}
 use Rattle.bl_ctext_semantics_laws.proofs.Running.{LaidAs, Laying}
-
-some_of : {A : Type 0} (a b : A) → Some a ≡ Some b → a ≡ b
-some_of a b h = cc
+use Rattle.bl_ctext_semantics_laws.proofs.Members.{or-kept, or-together}
 
 -- ---- tables that grow
-
-or-kept : {A : Type 0} (old : Option A) (same : Bool) (value : A) → is_some old ≡ true → option_or old (if same then Some value else None) ≡ old
-or-kept (Some x) same value h = refl
-or-kept None same value h = cc
 
 or-some : {A : Type 0} (old : Option A) (same : Bool) (value : A) → is_some old ≡ true →
     is_some (option_or old (if same then Some value else None)) ≡ true
 or-some (Some x) same value h = refl
 or-some None same value h = cc
-
-or-together : {A B : Type 0} (a : Option A) (b : Option B) (same : Bool) (v : A) (w : B) → is_some a ≡ is_some b →
-    is_some (option_or a (if same then Some v else None)) ≡ is_some (option_or b (if same then Some w else None))
-or-together (Some a) (Some b) same v w h = refl
-or-together (Some a) None same v w h = cc
-or-together None (Some b) same v w h = cc
-or-together None None true v w h = refl
-or-together None None false v w h = refl
 
 -- the entries of a list of structs, after those of a table
 abbrev pub entries_after : {B : Type 0} → (CStruct → B) → Table B → List CStruct → Table B
@@ -124,8 +89,8 @@ module _ {A : Type 0} (value : Table A → List CMember → A)
         list_all (λ m. is_declared structs_more m.ty) list ≡ true
     all-declared [] h = refl
     all-declared (m ∷ rest) h =
-        and-both (is_declared structs_more m.ty) _ (declared-more m.ty (and-left (is_declared structs m.ty) _ h))
-        (all-declared rest (and-right (is_declared structs m.ty) _ h))
+        and_from (is_declared structs_more m.ty) _ (declared-more m.ty (and_first (is_declared structs m.ty) _ h))
+        (all-declared rest (and_second (is_declared structs m.ty) _ h))
 
     made-next : AllMade known structs lists → list_all (λ m. is_declared structs m.ty) s.members ≡ true → AllMade known_more structs_more lists_more
     made-next made declared name ms is = chosen (lists name) refl is
@@ -134,7 +99,7 @@ module _ {A : Type 0} (value : Table A → List CMember → A)
             Made known_more structs_more name ms
         new false same-name absent h = cc
         new true same-name absent h =
-            let e : s.members ≡ ms = some_of s.members ms h in
+            let e : s.members ≡ ms = same_some s.members ms h in
             record {
               is = entry (known name) (together name ∙ sym (listed name) ∙ ap is_some absent)
                   ∙ ap Some (same known known_more structs keeps s.members declared) ∙ ap (λ x. Some (value known_more x)) e;
@@ -162,10 +127,10 @@ module _ {A : Type 0} (value : Table A → List CMember → A)
       AllMade (values_after known list) (entries_after member_table structs list) (entries_after (λ s. s.members) lists list)
   all-after known structs lists depths [] together listed made none = made
   all-after known structs lists depths (s ∷ rest) together listed made none =
-      let here : faults_in_struct structs depths s ≡ [] = nil-left (faults_in_struct structs depths s) _ none in
-      let later = nil-right (faults_in_struct structs depths s) _ none in
-      let h1 = nil-right (unless (is_none (structs s.name)) distinct_names s.place) _ here in
-      let declared = unless-nil _ declared_before s.place (nil-left (unless (list_all (λ m. is_declared structs m.ty) s.members) declared_before s.place) _ h1)
+      let here : faults_in_struct structs depths s ≡ [] = first_empty (faults_in_struct structs depths s) _ none in
+      let later = second_empty (faults_in_struct structs depths s) _ none in
+      let h1 = second_empty (unless (is_none (structs s.name)) distinct_names s.place) _ here in
+      let declared = unless-nil _ declared_before s.place (first_empty (unless (list_all (λ m. is_declared structs m.ty) s.members) declared_before s.place) _ h1)
       in
       all-after (with_entry known s.name (value known s.members)) (with_entry structs s.name (member_table s)) (with_entry lists s.name s.members)
       (with_entry depths s.name (depth_of_struct depths s)) rest
@@ -182,7 +147,7 @@ module _ {A : Type 0} (value : Table A → List CMember → A)
   unfolding faults_in
   made-all file formed =
       let none : struct_faults_after no_entries no_entries file.structs ≡ [] =
-      nil-left (struct_faults_after no_entries no_entries file.structs) _ formed.none in
+      first_empty (struct_faults_after no_entries no_entries file.structs) _ formed.none in
       subst (λ t. AllMade (values_after no_entries file.structs) t (table_of (map (λ s. (s.name, s.members)) file.structs)))
       (entries-all member_table file.structs)
       (subst (λ l. AllMade (values_after no_entries file.structs) (entries_after member_table no_entries file.structs) l)
@@ -203,8 +168,8 @@ sizes-same : (known more : Sizes) (structs : Structs) → ((name : Text) → is_
 sizes-same known more structs keeps [] h = refl
 sizes-same known more structs keeps (m ∷ ms) h =
     ap (λ n. size_of_length m.length n + total (map (size_of_member known) ms))
-    (size-same known more structs keeps m.ty (and-left (is_declared structs m.ty) _ h))
-    ∙ ap (λ n. size_of_member more m + n) (sizes-same known more structs keeps ms (and-right (is_declared structs m.ty) _ h))
+    (size-same known more structs keeps m.ty (and_first (is_declared structs m.ty) _ h))
+    ∙ ap (λ n. size_of_member more m + n) (sizes-same known more structs keeps ms (and_second (is_declared structs m.ty) _ h))
 
 sizes-are : (known : Sizes) (list : List CStruct) →
     values_after (λ known ms. total (map (size_of_member known) ms)) sizes-same known list ≡ sizes_after known list
@@ -225,8 +190,8 @@ inners-same : (known more : Table (List Inner)) (structs : Structs) → ((name :
 inners-same known more structs keeps [] h = refl
 inners-same known more structs keeps (m ∷ ms) h =
     ap (λ cells. inner_of_length m.name m.length cells ++ flat_map (inner_of_member known) ms)
-    (inner-same known more structs keeps m.ty (and-left (is_declared structs m.ty) _ h))
-    ∙ ap (λ cells. inner_of_member more m ++ cells) (inners-same known more structs keeps ms (and-right (is_declared structs m.ty) _ h))
+    (inner-same known more structs keeps m.ty (and_first (is_declared structs m.ty) _ h))
+    ∙ ap (λ cells. inner_of_member more m ++ cells) (inners-same known more structs keeps ms (and_second (is_declared structs m.ty) _ h))
 
 inners-are : (known : Table (List Inner)) (list : List CStruct) (name : Text) →
     values_after (λ known ms. flat_map (inner_of_member known) ms) inners-same known list name ≡ option_or (known name) (found name (inner_after known list))
@@ -295,13 +260,10 @@ members-as list at k (x ∷ ms) name m is h =
         LaidAs (if b then Some (record { at = k; it = x }) else found name
         (members_laid (capped_sizes list) (capped (k + size_of_member (capped_sizes list) x)) ms)) m
         (at + (if b then 0 else size_of_member (sizes list) x + offset_in (sizes list) ms name))
-    chosen true h rest = record { laid = record { at = k; it = x }; is = refl; it = some_of x m h; at = is ∙ omega arith }
+    chosen true h rest = record { laid = record { at = k; it = x }; is = refl; it = same_some x m h; at = is ∙ omega arith }
     chosen false h rest =
         let r = rest h in
         record { laid = r.laid; is = r.is; it = r.it; at = r.at ∙ omega arith }
-
-pub none-before : (n : ℕ) → 0 + n ≡ n
-none-before n = omega arith
 
 pub laying-file : (file : Parts) →
     Laying (sizes file.structs) (lists_of file.structs) (struct_table file.structs) (capped_sizes file.structs) (layouts file.structs)
@@ -315,6 +277,6 @@ laying-file file = record {
       found-made (λ s. s.name) (λ s. s.members) (λ ms. table_of (by_name ms)) file.structs struct ∙ ap (option_map (λ ms. table_of (by_name ms))) is in
       let at : found name (by_name list) ≡ Some m = ap (option_and_then (λ t. t name)) (sym members) ∙ there in
       subst (λ o. LaidAs (option_and_then (λ t. t name) o) m (offset_in (sizes file.structs) list name)) (sym table)
-      (subst (λ n. LaidAs (found name (members_laid (capped_sizes file.structs) 0 list)) m n) (none-before (offset_in (sizes file.structs) list name))
+      (subst (λ n. LaidAs (found name (members_laid (capped_sizes file.structs) 0 list)) m n) (none_plus (offset_in (sizes file.structs) list name))
       (members-as file.structs 0 0 list name m refl at));
 }

@@ -1,58 +1,21 @@
 -- Tests of each element of a list.
-use Rattle.std.proofs.Common.{
-  ◌≡◌,
-  ℕ,
-  zero,
-  suc,
-  ◌<◌,
-  Bool,
-  true,
-  false,
-  not,
-  ◌&&◌,
-  List,
-  [],
-  ◌∷◌,
-  ◌++◌,
-  map,
-  Option,
-  Some,
-  None,
-  refl,
-  ap,
-  sym,
-}
+use Rattle.std.proofs.Common.{◌≡◌, ℕ, zero, suc, ◌<◌, Bool, true, false, not, ◌&&◌, List, [], ◌∷◌, ◌++◌, map, Option, Some, None, refl, ap, sym}
 use Rattle.std.proofs.Common.{subst, ◌∙◌, arith}
 use Rattle.std.specs.Prelude.{flat_map, is_some, is_none, bytes_eq, nat_lt, ◌==◌, if◌then◌else◌}
 use Rattle.std.specs.List.{list_all}
 use Rattle.std.specs.Option.{option_or}
 use Rattle.std.proofs.lemmas.Grind.{common_steps}
 use Rattle.std.proofs.lemmas.Slice.Eq.{bytes_eq-Decides}
+use Rattle.std.proofs.lemmas.Bool.{and_from, not-true}
+use Rattle.bl_tree.proofs.Basics.{and_first, and_regroup, and_second}
 use Rattle.bl_tree.specs.declared.text.Text.{Text}
 use Rattle.bl_ctext_semantics.specs.Cells.{below}
 use Rattle.bl_ctext_semantics.specs.Faults.{all_distinct}
 use Rattle.bl_ctext_semantics.specs.Tables.{Table, found, with_entry}
 
-pub and-left : (a b : Bool) → (a && b) ≡ true → a ≡ true
-and-left true b h = refl
-and-left false b h = cc
-
-pub and-right : (a b : Bool) → (a && b) ≡ true → b ≡ true
-and-right true b h = h
-and-right false b h = cc
-
-pub and-both : (a b : Bool) → a ≡ true → b ≡ true → (a && b) ≡ true
-and-both true true h k = refl
-and-both true false h k = k
-and-both false b h k = h
-
-and_assoc : (a b c : Bool) → (a && (b && c)) ≡ ((a && b) && c)
-and_assoc true b c = refl
-and_assoc false b c = refl
-
 pub all-append : {A : Type 0} (p : A → Bool) (xs ys : List A) → list_all p (xs ++ ys) ≡ (list_all p xs && list_all p ys)
 all-append p [] ys = refl
-all-append p (x ∷ xs) ys = ap (λ b. p x && b) (all-append p xs ys) ∙ and_assoc (p x) (list_all p xs) (list_all p ys)
+all-append p (x ∷ xs) ys = ap (λ b. p x && b) (all-append p xs ys) ∙ and_regroup (p x) (list_all p xs) (list_all p ys)
 
 pub all-map : {A B : Type 0} (p : B → Bool) (f : A → B) (xs : List A) → list_all p (map f xs) ≡ list_all (λ x. p (f x)) xs
 all-map p f [] = refl
@@ -68,7 +31,7 @@ all-same p q h (x ∷ xs) = ap (λ b. b && list_all p xs) (h x) ∙ ap (λ b. q 
 
 pub all-true : {A : Type 0} (p : A → Bool) → ((x : A) → p x ≡ true) → (xs : List A) → list_all p xs ≡ true
 all-true p h [] = refl
-all-true p h (x ∷ xs) = and-both (p x) (list_all p xs) (h x) (all-true p h xs)
+all-true p h (x ∷ xs) = and_from (p x) (list_all p xs) (h x) (all-true p h xs)
 
 -- ---- the numbers below one
 
@@ -81,8 +44,8 @@ pub all-below-at : (p : ℕ → Bool) (n k : ℕ) → nat_lt k n ≡ true → li
 all-below-at p zero k within all = absurd (grind (arith, common_steps))
 all-below-at p (suc n) k within all =
     let both : (list_all p (below n) && (p n && true)) ≡ true = sym (all-append p (below n) (n ∷ [])) ∙ all in
-    at-or-before p n k (nat_lt k n) refl within (λ is. all-below-at p n k is (and-left (list_all p (below n)) (p n && true) both))
-    (and-left (p n) true (and-right (list_all p (below n)) (p n && true) both))
+    at-or-before p n k (nat_lt k n) refl within (λ is. all-below-at p n k is (and_first (list_all p (below n)) (p n && true) both))
+    (and_first (p n) true (and_second (list_all p (below n)) (p n && true) both))
 
 other-or-same : (p q : ℕ → Bool) (k n : ℕ) (b : Bool) → (k == n) ≡ b → q k ≡ true → ((k == n) ≡ false → q n ≡ true) → q n ≡ true
 other-or-same p q k n true is here there = let same : k ≡ n = grind (arith, common_steps) in ap q (sym same) ∙ here
@@ -96,9 +59,9 @@ all-below-but p q k here there zero all = refl
 all-below-but p q k here there (suc n) all =
     let both : (list_all p (below n) && (p n && true)) ≡ true = sym (all-append p (below n) (n ∷ [])) ∙ all in
     all-append q (below n) (n ∷ [])
-    ∙ and-both (list_all q (below n)) (q n && true) (all-below-but p q k here there n (and-left _ _ both))
-    (and-both (q n) true
-    (other-or-same p q k n (k == n) refl here (λ is. there n is (and-left (p n) true (and-right (list_all p (below n)) (p n && true) both)))) refl)
+    ∙ and_from (list_all q (below n)) (q n && true) (all-below-but p q k here there n (and_first _ _ both))
+    (and_from (q n) true
+    (other-or-same p q k n (k == n) refl here (λ is. there n is (and_first (p n) true (and_second (list_all p (below n)) (p n && true) both)))) refl)
 
 -- ---- what is found by name
 
@@ -122,10 +85,6 @@ differs names other name there absent false is = refl
 differs names other name there absent true is =
     absurd (not-both (names other) (subst (λ n. is_some (names n) ≡ true) (sym ((bytes_eq-Decides other name).0 is)) there) absent)
 
-falsely : (b : Bool) → not b ≡ true → b ≡ false
-falsely false h = refl
-falsely true h = sym h
-
 module _ {A : Type 0} (name_of : A → Text) where
   abbrev named : List A → List (Text × A)
   named xs = map (λ x. (name_of x, x)) xs
@@ -142,8 +101,8 @@ module _ {A : Type 0} (name_of : A → Text) where
   pub all-found : (p : A → Bool) (name : Text) (y : A) (xs : List A) → found name (named xs) ≡ Some y → list_all p xs ≡ true → p y ≡ true
   all-found p name y [] is all = cc
   all-found p name y (x ∷ xs) is all =
-      now-or-later p x y (found name (named xs)) (bytes_eq (name_of x) name) is (and-left (p x) (list_all p xs) all)
-      (λ later. all-found p name y xs later (and-right (p x) (list_all p xs) all))
+      now-or-later p x y (found name (named xs)) (bytes_eq (name_of x) name) is (and_first (p x) (list_all p xs) all)
+      (λ later. all-found p name y xs later (and_second (p x) (list_all p xs) all))
 
   kept-name : (names : Table (Unit {0})) (other name : Text) → is_some (names name) ≡ true → is_some (with_entry names other tt name) ≡ true
   kept-name names other name h = kept (names name) (bytes_eq other name) h
@@ -157,17 +116,17 @@ module _ {A : Type 0} (name_of : A → Text) where
       list_all (λ x. not (bytes_eq (name_of x) name)) xs ≡ true
   other-names names name there [] apart = refl
   other-names names name there (x ∷ xs) apart =
-      and-both (not (bytes_eq (name_of x) name)) (list_all (λ y. not (bytes_eq (name_of y) name)) xs)
-      (differs names (name_of x) name there (and-left (is_none (names (name_of x))) _ apart) (bytes_eq (name_of x) name) refl)
-      (other-names (with_entry names (name_of x) tt) name (kept-name names (name_of x) name there) xs (and-right (is_none (names (name_of x))) _ apart))
+      and_from (not (bytes_eq (name_of x) name)) (list_all (λ y. not (bytes_eq (name_of y) name)) xs)
+      (differs names (name_of x) name there (and_first (is_none (names (name_of x))) _ apart) (bytes_eq (name_of x) name) refl)
+      (other-names (with_entry names (name_of x) tt) name (kept-name names (name_of x) name there) xs (and_second (is_none (names (name_of x))) _ apart))
 
   all-others : (p q : A → Bool) (name : Text) → ((x : A) → bytes_eq (name_of x) name ≡ false → p x ≡ true → q x ≡ true) → (xs : List A) →
       list_all (λ x. not (bytes_eq (name_of x) name)) xs ≡ true → list_all p xs ≡ true → list_all q xs ≡ true
   all-others p q name there [] apart all = refl
   all-others p q name there (x ∷ xs) apart all =
-      and-both (q x) (list_all q xs)
-      (there x (falsely (bytes_eq (name_of x) name) (and-left (not (bytes_eq (name_of x) name)) _ apart)) (and-left (p x) _ all))
-      (all-others p q name there xs (and-right (not (bytes_eq (name_of x) name)) _ apart) (and-right (p x) _ all))
+      and_from (q x) (list_all q xs)
+      (there x (not-true (bytes_eq (name_of x) name) (and_first (not (bytes_eq (name_of x) name)) _ apart)) (and_first (p x) _ all))
+      (all-others p q name there xs (and_second (not (bytes_eq (name_of x) name)) _ apart) (and_second (p x) _ all))
 
   found-or-other : (p q : A → Bool) (name : Text) (y : A) → q y ≡ true →
       ((x : A) → bytes_eq (name_of x) name ≡ false → p x ≡ true → q x ≡ true) →
@@ -178,10 +137,10 @@ module _ {A : Type 0} (name_of : A → Text) where
   found-or-other p q name y here there names x xs apart all true same is later =
       let among : is_some (with_entry names (name_of x) tt name) ≡ true =
       subst (λ n. is_some (with_entry names (name_of x) tt n) ≡ true) ((bytes_eq-Decides (name_of x) name).0 same) (added-name names (name_of x)) in
-      and-both (q x) (list_all q xs) (subst (λ z. q z ≡ true) (sym (some_of x y is)) here)
-      (all-others p q name there xs (other-names (with_entry names (name_of x) tt) name among xs apart) (and-right (p x) _ all))
+      and_from (q x) (list_all q xs) (subst (λ z. q z ≡ true) (sym (some_of x y is)) here)
+      (all-others p q name there xs (other-names (with_entry names (name_of x) tt) name among xs apart) (and_second (p x) _ all))
   found-or-other p q name y here there names x xs apart all false same is later =
-      and-both (q x) (list_all q xs) (there x same (and-left (p x) _ all)) (later is)
+      and_from (q x) (list_all q xs) (there x same (and_first (p x) _ all)) (later is)
 
   -- the test holds of the one that is found, and of each other one for which another test does
   pub all-found-but : (p q : A → Bool) (name : Text) (y : A) → q y ≡ true →
@@ -191,6 +150,6 @@ module _ {A : Type 0} (name_of : A → Text) where
       list_all q xs ≡ true
   all-found-but p q name y here there names [] apart is all = refl
   all-found-but p q name y here there names (x ∷ xs) apart is all =
-      found-or-other p q name y here there names x xs (and-right (is_none (names (name_of x))) _ apart) all (bytes_eq (name_of x) name) refl is
-      (λ later. all-found-but p q name y here there (with_entry names (name_of x) tt) xs (and-right (is_none (names (name_of x))) _ apart) later
-      (and-right (p x) _ all))
+      found-or-other p q name y here there names x xs (and_second (is_none (names (name_of x))) _ apart) all (bytes_eq (name_of x) name) refl is
+      (λ later. all-found-but p q name y here there (with_entry names (name_of x) tt) xs (and_second (is_none (names (name_of x))) _ apart) later
+      (and_second (p x) _ all))

@@ -1,46 +1,25 @@
 -- The scalars of structs, as the structs' members lay them out.
-use Rattle.std.proofs.Common.{
-  ◌≡◌,
-  ℕ,
-  Bool,
-  true,
-  false,
-  not,
-  ◌&&◌,
-  List,
-  [],
-  ◌∷◌,
-  ◌++◌,
-  map,
-  Option,
-  Some,
-  None,
-  refl,
-  ap,
-  sym,
-  subst,
-  ◌∙◌,
-}
+use Rattle.std.proofs.Common.{◌≡◌, ℕ, Bool, true, false, ◌&&◌, List, [], ◌∷◌, ◌++◌, map, Option, Some, None, refl, ap, sym, subst, ◌∙◌}
 use Rattle.std.specs.Prelude.{flat_map, is_some, is_none, bytes_eq, unwrap_or, if◌then◌else◌}
 use Rattle.std.specs.List.{list_all}
 use Rattle.std.specs.Option.{option_or}
 use Rattle.std.proofs.lemmas.Slice.Eq.{bytes_eq-Decides}
+use Rattle.std.proofs.lemmas.Bool.{and_from}
+use Rattle.bl_tree.proofs.Basics.{and_first, and_second, first_empty, same_some, second_empty}
 use Rattle.bl_tree.specs.declared.text.Text.{Text}
-use Rattle.bl_tree.specs.declared.place.Place.{Place}
 use Rattle.bl_tree.specs.declared.c.CType.{CType}
 use Rattle.bl_tree.specs.declared.c.CType.TheVariants.{Scalar as OfScalar, Struct as OfStruct}
 use Rattle.bl_tree.specs.declared.c.CMember.{CMember}
 use Rattle.bl_tree.specs.declared.c.CStruct.{CStruct}
 use Rattle.bl_ctext_semantics.specs.Cells.{Inner, inner_of_length, inner_of_type, inner_of_member, inner_after}
-use Rattle.bl_ctext_semantics.specs.Faults.{Clause, distinct_names, declared_before, WellFormed, all_distinct}
+use Rattle.bl_ctext_semantics.specs.Faults.{distinct_names, declared_before, WellFormed, all_distinct}
 use Rattle.bl_ctext_semantics.specs.Faults.{depth_of_struct, faults_in, faults_in_struct, is_declared, member_table}
 use Rattle.bl_ctext_semantics.specs.Faults.{struct_faults_after, struct_table, unless}
 use Rattle.bl_ctext_semantics.specs.Parts.{Parts}
 use Rattle.bl_ctext_semantics.specs.Tables.{Table, found, no_entries, table_of, with_entry}
-use Rattle.bl_ctext_semantics.proofs.EndLemmas.{nil-left, nil-right}
 use Rattle.bl_ctext_semantics.proofs.MapLemmas.{next_entry, same_table}
 use Rattle.bl_ctext_semantics_laws.specs.Fitting.{scalars}
-use Rattle.bl_ctext_semantics_laws.proofs.Lists.{and-both, and-left, and-right}
+use Rattle.bl_ctext_semantics.proofs.EndLemmas.{unless-nil}
 
 abbrev pub Scalars : Type 0
 Scalars = Table (List Inner)
@@ -65,7 +44,7 @@ Together known structs = (name : Text) → is_some (known name) ≡ is_some (str
 
 -- ---- tables that grow
 
-or-kept : {A : Type 0} (old : Option A) (same : Bool) (value : A) → is_some old ≡ true → option_or old (if same then Some value else None) ≡ old
+pub or-kept : {A : Type 0} (old : Option A) (same : Bool) (value : A) → is_some old ≡ true → option_or old (if same then Some value else None) ≡ old
 or-kept (Some x) same value h = refl
 or-kept None same value h = cc
 
@@ -74,16 +53,13 @@ or-some : {A : Type 0} (old : Option A) (same : Bool) (value : A) → is_some ol
 or-some (Some x) same value h = refl
 or-some None same value h = cc
 
-or-together : {A B : Type 0} (a : Option A) (b : Option B) (same : Bool) (v : A) (w : B) → is_some a ≡ is_some b →
+pub or-together : {A B : Type 0} (a : Option A) (b : Option B) (same : Bool) (v : A) (w : B) → is_some a ≡ is_some b →
     is_some (option_or a (if same then Some v else None)) ≡ is_some (option_or b (if same then Some w else None))
 or-together (Some a) (Some b) same v w h = refl
 or-together (Some a) None same v w h = cc
 or-together None (Some b) same v w h = cc
 or-together None None true v w h = refl
 or-together None None false v w h = refl
-
-some_of : {A : Type 0} (a b : A) → Some a ≡ Some b → a ≡ b
-some_of a b h = cc
 
 module _ (known more : Scalars) (structs : Structs) (keeps : (name : Text) → is_some (structs name) ≡ true → more name ≡ known name) where
   type-same : (ty : CType) → is_declared structs ty ≡ true → inner_of_type known ty ≡ inner_of_type more ty
@@ -95,8 +71,8 @@ module _ (known more : Scalars) (structs : Structs) (keeps : (name : Text) → i
       flat_map (inner_of_member known) list ≡ flat_map (inner_of_member more) list
   members-same [] h = refl
   members-same (m ∷ rest) h =
-      ap (λ cells. inner_of_length m.name m.length cells ++ flat_map (inner_of_member known) rest) (type-same m.ty (and-left (is_declared structs m.ty) _ h))
-      ∙ ap (λ cells. inner_of_member more m ++ cells) (members-same rest (and-right (is_declared structs m.ty) _ h))
+      ap (λ cells. inner_of_length m.name m.length cells ++ flat_map (inner_of_member known) rest) (type-same m.ty (and_first (is_declared structs m.ty) _ h))
+      ∙ ap (λ cells. inner_of_member more m ++ cells) (members-same rest (and_second (is_declared structs m.ty) _ h))
 
 module _ (known : Scalars) (structs : Structs) (s : CStruct) (together : Together known structs) where
   abbrev cells_now : List Inner
@@ -119,8 +95,8 @@ module _ (known : Scalars) (structs : Structs) (s : CStruct) (together : Togethe
       list_all (λ m. is_declared structs_more m.ty) list ≡ true
   all-declared [] h = refl
   all-declared (m ∷ rest) h =
-      and-both (is_declared structs_more m.ty) _ (declared-more m.ty (and-left (is_declared structs m.ty) _ h))
-      (all-declared rest (and-right (is_declared structs m.ty) _ h))
+      and_from (is_declared structs_more m.ty) _ (declared-more m.ty (and_first (is_declared structs m.ty) _ h))
+      (all-declared rest (and_second (is_declared structs m.ty) _ h))
 
   grown : (name : Text) (members : Table CMember) → structs name ≡ Some members → LaidOut known structs name members →
       LaidOut known_more structs_more name members
@@ -158,7 +134,7 @@ module _ (known : Scalars) (structs : Structs) (s : CStruct) (together : Togethe
     where
       new : (b : Bool) → bytes_eq s.name name ≡ b → structs name ≡ None → (if b then Some (member_table s) else None) ≡ Some members →
           LaidOut known_more structs_more name members
-      new true same absent h = added name members absent ((bytes_eq-Decides s.name name).0 same) (some_of (member_table s) members h) same apart declared
+      new true same absent h = added name members absent ((bytes_eq-Decides s.name name).0 same) (same_some (member_table s) members h) same apart declared
       new false same absent h = cc
 
       chosen : (o : Option (Table CMember)) → structs name ≡ o →
@@ -205,23 +181,19 @@ structs-is structs (s ∷ rest) name =
     structs-is (with_entry structs s.name (member_table s)) rest name
     ∙ next_entry (structs name) (bytes_eq s.name name) (member_table s) (found name (map (λ t. (t.name, member_table t)) rest))
 
-unless-nil : (holds : Bool) (clause : Clause) (place : Place) → unless holds clause place ≡ [] → holds ≡ true
-unless-nil true clause place h = refl
-unless-nil false clause place h = cc
-
 all-after : (known : Scalars) (structs : Structs) (depths : Table ℕ) (list : List CStruct) → Together known structs → AllLaidOut known structs →
     struct_faults_after structs depths list ≡ [] →
     AllLaidOut (known_after known list) (structs_after structs list)
 unfolding known_after structs_after
 all-after known structs depths [] together laid none = laid
 all-after known structs depths (s ∷ rest) together laid none =
-    let here : faults_in_struct structs depths s ≡ [] = nil-left (faults_in_struct structs depths s) _ none in
-    let later = nil-right (faults_in_struct structs depths s) _ none in
-    let h1 = nil-right (unless (is_none (structs s.name)) distinct_names s.place) _ here in
+    let here : faults_in_struct structs depths s ≡ [] = first_empty (faults_in_struct structs depths s) _ none in
+    let later = second_empty (faults_in_struct structs depths s) _ none in
+    let h1 = second_empty (unless (is_none (structs s.name)) distinct_names s.place) _ here in
     let declared = unless-nil _ declared_before s.place
-    (nil-left (unless (list_all (λ m. is_declared structs m.ty) s.members) declared_before s.place) _ h1) in
-    let h2 = nil-right (unless (list_all (λ m. is_declared structs m.ty) s.members) declared_before s.place) _ h1 in
-    let apart = unless-nil _ distinct_names s.place (nil-left (unless (all_distinct no_entries (map (λ m. m.name) s.members)) distinct_names s.place) _ h2) in
+    (first_empty (unless (list_all (λ m. is_declared structs m.ty) s.members) declared_before s.place) _ h1) in
+    let h2 = second_empty (unless (list_all (λ m. is_declared structs m.ty) s.members) declared_before s.place) _ h1 in
+    let apart = unless-nil _ distinct_names s.place (first_empty (unless (all_distinct no_entries (map (λ m. m.name) s.members)) distinct_names s.place) _ h2) in
     all-after (with_entry known s.name (flat_map (inner_of_member known) s.members)) (with_entry structs s.name (member_table s))
     (with_entry depths s.name (depth_of_struct depths s)) rest (together-next known structs s together)
     (laid-next known structs s together laid apart declared) later
@@ -234,7 +206,7 @@ pub laid-out : (file : Parts) → WellFormed file → AllLaidOut (scalars file.s
 unfolding faults_in
 laid-out file formed =
     let none : struct_faults_after no_entries no_entries file.structs ≡ [] =
-    nil-left (struct_faults_after no_entries no_entries file.structs) _ formed.none in
+    first_empty (struct_faults_after no_entries no_entries file.structs) _ formed.none in
     let laid : AllLaidOut (known_after no_entries file.structs) (structs_after no_entries file.structs) =
     all-after no_entries no_entries no_entries file.structs (λ name. refl) nothing-laid none in
     let known : known_after no_entries file.structs ≡ scalars file.structs =

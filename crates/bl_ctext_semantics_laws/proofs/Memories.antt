@@ -1,33 +1,12 @@
 -- Memories that fit a file.
-use Rattle.std.proofs.Common.{
-  ◌≡◌,
-  ℕ,
-  ℤ,
-  pos,
-  Bool,
-  true,
-  false,
-  ◌&&◌,
-  List,
-  [],
-  ◌∷◌,
-  ◌++◌,
-  map,
-  Option,
-  Some,
-  None,
-  refl,
-  ap,
-  sym,
-  subst,
-  ◌∙◌,
-  arith,
-}
+use Rattle.std.proofs.Common.{◌≡◌, pos, Bool, true, false, ◌&&◌, List, [], ◌∷◌, ◌++◌, Option, Some, None, refl, ap, sym, subst, ◌∙◌, arith}
 use Rattle.std.proofs.Common.{append-nil}
 use Rattle.std.specs.Prelude.{bytes_eq, ◌==◌, codes, if◌then◌else◌}
 use Rattle.std.specs.List.{list_all}
 use Rattle.std.proofs.lemmas.Grind.{common_steps}
 use Rattle.std.proofs.lemmas.Slice.Eq.{bytes_eq-Decides}
+use Rattle.std.proofs.lemmas.Bool.{and_from}
+use Rattle.bl_tree.proofs.Basics.{and_first, and_second}
 use Rattle.bl_tree.specs.declared.text.Text.{Text}
 use Rattle.bl_tree.specs.declared.scalar.Scalar.{Scalar}
 use Rattle.bl_tree.specs.declared.scalar.Scalar.TheVariants.{Bool as OfBool, Int, Nat, Bits}
@@ -43,7 +22,7 @@ use Rattle.bl_ctext_semantics.specs.Memory.{cleared, zeros}
 use Rattle.bl_ctext_semantics.specs.Cells.{inner_of_type, inner_of, cells_at, cells_of}
 use Rattle.bl_ctext_semantics_laws.specs.Fitting.{ValueSpot, whole, row, scalars, holds, fits, walk, whole_type, whole_spot, RootTypes, fits_where}
 use Rattle.bl_ctext_semantics_laws.specs.Fitting.{MemoryFits, cell_holds, ClearedFits, ReadingFits, SettingFits, CellsFit}
-use Rattle.bl_ctext_semantics_laws.proofs.Lists.{all-append, all-map, all-same, all-true, and-both, and-left, and-right}
+use Rattle.bl_ctext_semantics_laws.proofs.Lists.{all-append, all-map, all-same, all-true}
 use Rattle.bl_ctext_semantics_laws.proofs.Members.{AllLaidOut, Scalars, Structs, laid-out}
 use Rattle.bl_ctext_semantics_laws.proofs.Places.{read-walk, set-walk, walk-nowhere}
 
@@ -101,9 +80,9 @@ root-is (variable d m) state_object h = cc
 root-is (variable d m) input_object h = cc
 root-is (variable d m) output_object h = cc
 root-is (variable d m) (variable e n) h =
-    let depth : (d == e) ≡ true = and-left (d == e) (bytes_eq m n) h in
+    let depth : (d == e) ≡ true = and_first (d == e) (bytes_eq m n) h in
     let same : d ≡ e = grind (arith, common_steps) in
-    ap (λ x. variable x m) same ∙ ap (variable e) ((bytes_eq-Decides m n).0 (and-right (d == e) (bytes_eq m n) h))
+    ap (λ x. variable x m) same ∙ ap (variable e) ((bytes_eq-Decides m n).0 (and_second (d == e) (bytes_eq m n) h))
 
 module _ (known : Scalars) (structs : Structs) (laid : AllLaidOut known structs) where
   read-where : (root : Option CType) (parts : List Projection) (ty : CType) (v : CValue) → whole_type (walk structs (whole_spot root) parts) ≡ Some ty →
@@ -157,4 +136,4 @@ cells-fit file types memory objects fit =
     let second = cells_at input_object (inner_of file.structs (codes "bl_in")) in
     let third = cells_at output_object (inner_of file.structs (codes "bl_out")) in
     all-append (cell_holds memory) (first ++ second) third
-    ∙ and-both _ _ (all-append (cell_holds memory) first second ∙ and-both _ _ state input) output
+    ∙ and_from _ _ (all-append (cell_holds memory) first second ∙ and_from _ _ state input) output

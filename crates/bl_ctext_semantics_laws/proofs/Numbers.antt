@@ -1,32 +1,12 @@
 -- The numbers of the three objects, rows of inputs and of outputs, in cells.
 use Rattle.bl_tree.specs.Ports.{in_ranges}
-use Rattle.std.proofs.Common.{
-  ◌≡◌,
-  ℕ,
-  suc,
-  ◌+◌,
-  ◌≤◌,
-  ℤ,
-  pos,
-  Bool,
-  true,
-  false,
-  ◌&&◌,
-  List,
-  [],
-  ◌∷◌,
-  ◌++◌,
-  map,
-  length,
-  take,
-  drop,
-  replicate,
-  Option,
-}
+use Rattle.std.proofs.Common.{◌≡◌, ℕ, suc, ◌+◌, ◌≤◌, ℤ, pos, Bool, true, false, ◌&&◌, List, [], ◌∷◌, ◌++◌, map, length, take, drop, replicate, Option}
 use Rattle.std.proofs.Common.{Some, None, refl, ap, sym, subst, ◌∙◌, arith, append-nil, append_assoc, length-append}
 use Rattle.std.specs.Prelude.{option_map, bytes_eq, is_some, is_none, flat_map, filter_map, unwrap_or, codes, nat_le, slice_set, if◌then◌else◌}
 use Rattle.std.specs.List.{cons_option, list_all}
 use Rattle.std.proofs.lemmas.Slice.Eq.{bytes_eq-Decides}
+use Rattle.std.proofs.lemmas.Bool.{and_from}
+use Rattle.bl_tree.proofs.Basics.{and_first, and_second, first_empty, second_empty}
 use Rattle.bl_tree.specs.declared.text.Text.{Text}
 use Rattle.bl_tree.specs.declared.scalar.Scalar.{Scalar}
 use Rattle.bl_tree.specs.declared.scalar.Scalar.TheVariants.{Nat}
@@ -45,9 +25,7 @@ use Rattle.bl_ctext_semantics.specs.Tables.{Table, found, no_entries, table_of, 
 use Rattle.bl_ctext_semantics.specs.Faults.{distinct_names, declared_before, short_chain, interface_members, WellFormed, all_distinct, are_ports}
 use Rattle.bl_ctext_semantics.specs.Faults.{depth_of_struct, faults_in, faults_in_struct, interface_fits, is_declared, is_pad, is_port, is_scalar}
 use Rattle.bl_ctext_semantics.specs.Faults.{member_table, struct_faults_after, struct_table, unless}
-use Rattle.bl_ctext_semantics.proofs.EndLemmas.{nil-left, nil-right}
 use Rattle.bl_ctext_semantics_laws.specs.Fitting.{ValueSpot, cell_holds, scalars, whole}
-use Rattle.bl_ctext_semantics_laws.proofs.Lists.{and-both, and-left, and-right}
 use Rattle.bl_ctext_semantics_laws.specs.Laws.{cells_in, input_at, kinds_of, output_at}
 use Rattle.bl_ctext_semantics_laws.specs.Flat.{Cells, cell_at, with_args}
 use Rattle.bl_ctext_semantics_laws.proofs.Ways.{by_name}
@@ -57,6 +35,7 @@ use Rattle.bl_ctext_semantics_laws.proofs.Faultless.{unless-nil}
 use Rattle.bl_ctext_semantics_laws.proofs.Layouts.{inner-file, lists_of}
 use Rattle.bl_ctext_semantics_laws.proofs.Entry.{Begins, Leads, Standing, Typed, begins-standing, begins-taken, input-typed, objects, objects-separate}
 use Rattle.bl_ctext_semantics_laws.proofs.Entry.{output-typed, shaped, stand_of_object, state-typed}
+use Rattle.bl_ctext_semantics_laws.proofs.Entry.{numbers-length}
 
 -- ---- numbers in range
 
@@ -67,7 +46,7 @@ ranges-are memory (c ∷ cells) = ap (λ b. cell_holds memory c && b) (ranges-ar
 
 pub cleared-fit : (cells : List Cell) → list_all (cell_holds cleared) cells ≡ true
 cleared-fit [] = refl
-cleared-fit (c ∷ cells) = and-both _ _ (zero-fits c.kind) (cleared-fit cells)
+cleared-fit (c ∷ cells) = and_from _ _ (zero-fits c.kind) (cleared-fit cells)
 
 pub cleared-are : (cells : List Cell) → numbers_of cells cleared ≡ replicate (length cells) (pos 0)
 cleared-are [] = refl
@@ -81,10 +60,6 @@ numbers-more (x ∷ xs) y memory = ap (λ l. scalar_number (value_at memory x.lo
 set-behind : (xs : List ℤ) (y n : ℤ) (rest : List ℤ) → slice_set (xs ++ y ∷ rest) (length xs) n ≡ xs ++ n ∷ rest
 set-behind [] y n rest = refl
 set-behind (x ∷ xs) y n rest = ap (λ l. x ∷ l) (set-behind xs y n rest)
-
-lengths-same : (xs : List Cell) (memory : Memory) → length (numbers_of xs memory) ≡ length xs
-lengths-same [] memory = refl
-lengths-same (x ∷ xs) memory = ap suc (lengths-same xs memory)
 
 module _ (file : Parts) (formed : WellFormed file)
     (declared : (is_some (struct_table file.structs (codes "bl_state"))
@@ -179,14 +154,14 @@ module _ (file : Parts) (formed : WellFormed file)
       let lb = length-append (numbers_of before cleared) (pos 0 ∷ (ns ++ others)) in
       let lc = ap length split in
       let inner : Stood (memory_of rest ns) (numbers_of (before ++ c ∷ []) cleared ++ (ns ++ others)) =
-      memory-from (before ++ c ∷ []) rest ns others e (subst (λ k. PlacedCells k rest) (sym long) placed.1) (and-right (in_range c.kind n) _ fits)
+      memory-from (before ++ c ∷ []) rest ns others e (subst (λ k. PlacedCells k rest) (sym long) placed.1) (and_second (in_range c.kind n) _ fits)
       (omega arith) in
       let there : Stood (memory_of rest ns) (numbers_of before cleared ++ (pos 0 ∷ (ns ++ others))) = subst (λ l. Stood (memory_of rest ns) l) split inner in
       let set : Stood (memory_of (c ∷ rest) (n ∷ ns)) (slice_set (numbers_of before cleared ++ (pos 0 ∷ (ns ++ others))) (length before) n) =
       set-one (memory_of rest ns) (numbers_of before cleared ++ (pos 0 ∷ (ns ++ others))) c.location c.kind (length before) n there placed.0
-      (and-left _ _ fits) in
+      (and_first _ _ fits) in
       let at : slice_set (numbers_of before cleared ++ (pos 0 ∷ (ns ++ others))) (length before) n ≡ numbers_of before cleared ++ (n ∷ (ns ++ others)) =
-      ap (λ k. slice_set (numbers_of before cleared ++ (pos 0 ∷ (ns ++ others))) k n) (sym (lengths-same before cleared))
+      ap (λ k. slice_set (numbers_of before cleared ++ (pos 0 ∷ (ns ++ others))) k n) (sym (numbers-length before cleared))
       ∙ set-behind (numbers_of before cleared) (pos 0) n (ns ++ others) in
       subst (λ l. Stood (memory_of (c ∷ rest) (n ∷ ns)) l) at set
 
@@ -196,10 +171,6 @@ module _ (file : Parts) (formed : WellFormed file)
 
   -- ---- ports
 
-  -- the struct of a name has a pad and then ports
-  abbrev Ported : Text → List CMember → Type 0
-  Ported prefix ms = are_ports prefix ms ≡ true
-
   interface-so : (table : Table (Table CMember)) (depths : Table ℕ) (rest : List CStruct) (name : Text) (ms : List CMember) →
       struct_faults_after table depths rest ≡ [] →
       found name (map (λ s. (s.name, s.members)) rest) ≡ Some ms → (P : List CMember → Bool) →
@@ -208,15 +179,15 @@ module _ (file : Parts) (formed : WellFormed file)
   interface-so table depths (s ∷ rest) name ms none there P shows =
       chosen (bytes_eq s.name name) refl there
       (λ later. interface-so (with_entry table s.name (member_table s)) (with_entry depths s.name (depth_of_struct depths s)) rest name ms
-      (nil-right (faults_in_struct table depths s) _ none) later P shows)
+      (second_empty (faults_in_struct table depths s) _ none) later P shows)
     where
       fits : interface_fits s ≡ true
       fits =
-          let here : faults_in_struct table depths s ≡ [] = nil-left (faults_in_struct table depths s) _ none in
-          let h1 = nil-right (unless (is_none (table s.name)) distinct_names s.place) _ here in
-          let h2 = nil-right (unless (list_all (λ m. is_declared table m.ty) s.members) declared_before s.place) _ h1 in
-          let h3 = nil-right (unless (all_distinct no_entries (map (λ m. m.name) s.members)) distinct_names s.place) _ h2 in
-          unless-nil (interface_fits s) interface_members s.place (nil-right (unless (nat_le (depth_of_struct depths s) 300) short_chain s.place) _ h3)
+          let here : faults_in_struct table depths s ≡ [] = first_empty (faults_in_struct table depths s) _ none in
+          let h1 = second_empty (unless (is_none (table s.name)) distinct_names s.place) _ here in
+          let h2 = second_empty (unless (list_all (λ m. is_declared table m.ty) s.members) declared_before s.place) _ h1 in
+          let h3 = second_empty (unless (all_distinct no_entries (map (λ m. m.name) s.members)) distinct_names s.place) _ h2 in
+          unless-nil (interface_fits s) interface_members s.place (second_empty (unless (nat_le (depth_of_struct depths s) 300) short_chain s.place) _ h3)
 
       some_list : (a b : List CMember) → Some a ≡ Some b → a ≡ b
       some_list a b h = cc
@@ -237,8 +208,8 @@ module _ (file : Parts) (formed : WellFormed file)
       Leads file formed spot at (flat_map (inner_of_member (scalars file.structs)) ms) → PortsLed spot at ms
   ports-led spot prefix at [] all led = tt
   ports-led spot prefix at (m ∷ ms) all led =
-      let rest = and-right (is_port prefix m) _ all in
-      let test = and-right _ _ (and-left (is_port prefix m) _ all) in
+      let rest = and_second (is_port prefix m) _ all in
+      let test = and_second _ _ (and_first (is_port prefix m) _ all) in
       chosen m.ty m.length refl refl test led (λ l. ports-led spot prefix (suc at) ms rest l)
     where
       chosen : (ty : CType) (length : Option ℕ) → m.ty ≡ ty → m.length ≡ length → (is_scalar ty && is_none length) ≡ true →
@@ -253,7 +224,7 @@ module _ (file : Parts) (formed : WellFormed file)
       length (flat_map (inner_of_member (scalars file.structs)) ms) ≡ length ms
   ports-count prefix [] all = refl
   ports-count prefix (m ∷ ms) all =
-      chosen m.ty m.length (and-right _ _ (and-left (is_port prefix m) _ all)) (ports-count prefix ms (and-right (is_port prefix m) _ all))
+      chosen m.ty m.length (and_second _ _ (and_first (is_port prefix m) _ all)) (ports-count prefix ms (and_second (is_port prefix m) _ all))
     where
       chosen : (ty : CType) (l : Option ℕ) → (is_scalar ty && is_none l) ≡ true →
           length (flat_map (inner_of_member (scalars file.structs)) ms) ≡ length ms →
@@ -293,8 +264,8 @@ module _ (file : Parts) (formed : WellFormed file)
             (ap (λ o. input_at file + o) led.0.1.1.0.1 ∙ sum);
       } in
       inputs-set (suc at) (suc k) ms ns (set_at memory (port input_object m) (scalar n)) (slice_set cells k n) (omega arith) led.1
-      (and-right (in_range led.0.0 n) _ one)
-      (set-one memory cells (port input_object m) led.0.0 k n stands placed (and-left _ _ one))
+      (and_second (in_range led.0.0 n) _ one)
+      (set-one memory cells (port input_object m) led.0.0 k n stands placed (and_first _ _ one))
 
   -- the outputs are read
   outputs-begin : (at k : ℕ) (ms : List CMember) (memory : Memory) (cells : Cells) → output_at file + at ≡ k →
@@ -328,20 +299,20 @@ module _ (file : Parts) (formed : WellFormed file)
       listed = some-list (struct_table file.structs name) (lists_of file.structs name) ((shaped file formed).tables name) there
 
       none : struct_faults_after no_entries no_entries file.structs ≡ []
-      none = nil-left (struct_faults_after no_entries no_entries file.structs) _ formed.none
+      none = first_empty (struct_faults_after no_entries no_entries file.structs) _ formed.none
 
       with-members : (ms : List CMember) → lists_of file.structs name ≡ Some ms → are_ports prefix ms ≡ true → Ports name (drop 1 ms)
       with-members [] is h = cc
       with-members (pad ∷ ms) is h =
           let inners : inner_of file.structs name ≡ inner_of_member (scalars file.structs) pad ++ flat_map (inner_of_member (scalars file.structs)) ms =
           ap (λ o. unwrap_or o []) (inner-file file formed name (pad ∷ ms) is) in
-          let ports = and-right (is_pad pad) _ h in
-          let shape = and-right (bytes_eq pad.name (codes "pad")) _ (and-left (is_pad pad) _ h) in
+          let ports = and_second (is_pad pad) _ h in
+          let shape = and_second (bytes_eq pad.name (codes "pad")) _ (and_first (is_pad pad) _ h) in
           let all : Leads file formed (whole (OfStruct name)) 0
           (inner_of_member (scalars file.structs) pad ++ flat_map (inner_of_member (scalars file.structs)) ms) =
           subst (Leads file formed (whole (OfStruct name)) 0) inners typed.led in
           let count = ports-count prefix ms ports in
-          padded pad.ty pad.length (same-type pad.ty (OfScalar (Nat W8)) (and-left _ _ shape)) (and-right _ _ shape) all (sym typed.long ∙ ap length inners)
+          padded pad.ty pad.length (same-type pad.ty (OfScalar (Nat W8)) (and_first _ _ shape)) (and_second _ _ shape) all (sym typed.long ∙ ap length inners)
           ports count
         where
           padded : (ty : CType) (l : Option ℕ) → ty ≡ OfScalar (Nat W8) → is_none l ≡ true →
@@ -364,14 +335,14 @@ module _ (file : Parts) (formed : WellFormed file)
   in-ports : Ports (codes "bl_in") (ports_of (codes "bl_in") file)
   in-ports =
       struct-ports (codes "bl_in") (codes "i_") (input-typed file formed declared)
-      (and-left _ _ (and-right (is_some (struct_table file.structs (codes "bl_state"))) _ declared))
+      (and_first _ _ (and_second (is_some (struct_table file.structs (codes "bl_state"))) _ declared))
       (λ s same fits. ap (λ b. if b then are_ports (codes "i_")
       s.members else (if bytes_eq s.name (codes "bl_out") then are_ports (codes "o_") s.members else true)) (sym same) ∙ fits)
 
   out-ports : Ports (codes "bl_out") (ports_of (codes "bl_out") file)
   out-ports =
       struct-ports (codes "bl_out") (codes "o_") (output-typed file formed declared)
-      (and-right (is_some (struct_table file.structs (codes "bl_in"))) _ (and-right (is_some (struct_table file.structs (codes "bl_state"))) _ declared))
+      (and_second (is_some (struct_table file.structs (codes "bl_in"))) _ (and_second (is_some (struct_table file.structs (codes "bl_state"))) _ declared))
       (λ s same fits.
       let other : bytes_eq s.name (codes "bl_in") ≡ false = ap (λ n. bytes_eq n (codes "bl_in")) ((bytes_eq-Decides s.name (codes "bl_out")).0 same) in
       ap (λ b. if b then are_ports (codes "o_") s.members else true) (sym same)

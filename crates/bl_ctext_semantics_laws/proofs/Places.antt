@@ -1,27 +1,5 @@
 -- Parts of values: what is read there, and what a value is after one was set.
-use Rattle.std.proofs.Common.{
-  ◌≡◌,
-  ℕ,
-  Bool,
-  true,
-  false,
-  not,
-  ◌&&◌,
-  List,
-  [],
-  ◌∷◌,
-  ◌++◌,
-  map,
-  Option,
-  Some,
-  None,
-  refl,
-  ap,
-  sym,
-  subst,
-  ◌∙◌,
-  arith,
-}
+use Rattle.std.proofs.Common.{◌≡◌, ℕ, Bool, true, false, ◌&&◌, List, [], ◌∷◌, ◌++◌, map, Option, Some, None, refl, ap, sym, subst, ◌∙◌, arith}
 use Rattle.std.specs.Prelude.{flat_map, bytes_eq, nat_lt, unwrap_or, option_and_then, if◌then◌else◌}
 use Rattle.std.specs.List.{list_all}
 use Rattle.std.proofs.lemmas.Grind.{common_steps}
@@ -108,7 +86,7 @@ part-itself (element k) = grind (arith, common_steps)
 
 -- ---- one step
 
-some_spot : (a b : ValueSpot) → Some a ≡ Some b → a ≡ b
+pub some_spot : (a b : ValueSpot) → Some a ≡ Some b → a ≡ b
 some_spot a b h = cc
 
 module _ (known : Scalars) (structs : Structs) (laid : AllLaidOut known structs) where

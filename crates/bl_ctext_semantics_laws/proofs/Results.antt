@@ -1,35 +1,13 @@
 -- What the prelude's functions give is in range.
 use Rattle.bl_tree.specs.Ports.{in_ranges}
-use Rattle.std.proofs.Common.{
-  ◌≡◌,
-  ℕ,
-  ◌+◌,
-  ◌^◌,
-  ◌<◌,
-  ℤ,
-  pos,
-  negsuc,
-  ◌+ℤ◌,
-  Bool,
-  true,
-  false,
-  ◌&&◌,
-  List,
-  [],
-  ◌∷◌,
-  Option,
-  Some,
-  None,
-  refl,
-  ap,
-  sym,
-}
+use Rattle.std.proofs.Common.{◌≡◌, ◌+◌, ◌^◌, ◌<◌, ℤ, pos, ◌+ℤ◌, Bool, true, false, ◌&&◌, List, [], ◌∷◌, Option, Some, None, refl, ap, sym}
 use Rattle.std.proofs.Common.{subst, ◌∙◌, arith}
 use Rattle.std.specs.Prelude.{bytes_eq, int_le, int_lt, IfSome, if◌then◌else◌}
 use Rattle.std.specs.Int.{int_rem_euclid}
 use Rattle.std.specs.Ordering.{int_eq}
 use Rattle.std.specs.List.{list_all}
 use Rattle.std.proofs.lemmas.Int.{ints}
+use Rattle.bl_tree.proofs.Basics.{and_first, and_second}
 use Rattle.bl_tree.specs.declared.text.Text.{Text}
 use Rattle.bl_tree.specs.declared.scalar.Scalar.{Scalar}
 use Rattle.bl_tree.specs.declared.scalar.Scalar.TheVariants.{Bool as OfBool, Int, Nat, Bits}
@@ -47,7 +25,6 @@ use Rattle.bl_ctext_semantics.specs.Builtin.{builtin_of, builtin_params, builtin
 use Rattle.bl_ctext_semantics.specs.Tables.{found}
 use Rattle.bl_ctext_semantics_laws.specs.Fitting.{BuiltinsFit}
 use Rattle.bl_ctext_semantics_laws.specs.Flat.{is_typed}
-use Rattle.bl_ctext_semantics_laws.proofs.Lists.{and-left, and-right}
 
 -- an operator whose result has its operands' type
 abbrev keeps_type : Op → Bool
@@ -107,16 +84,16 @@ found-proper : (name : Text) (entries : List (Text × Builtin)) (b : Builtin) �
     proper b ≡ true
 found-proper name [] b is all = cc
 found-proper name (e ∷ entries) b is all =
-    now-or-later (bytes_eq e.0 name) e.1 b (found name entries) is (and-left (proper e.1) _ all)
-    (λ later. found-proper name entries b later (and-right (proper e.1) _ all))
+    now-or-later (bytes_eq e.0 name) e.1 b (found name entries) is (and_first (proper e.1) _ all)
+    (λ later. found-proper name entries b later (and_second (proper e.1) _ all))
 
 builtin-proper : (name : Text) (b : Builtin) → builtin_of name ≡ Some b → proper b ≡ true
 unfolding builtin_of
 builtin-proper name b is = found-proper name builtins b is all-proper
 
 typed-if : (b : Builtin) → proper b ≡ true → is_typed b ≡ true
-typed-if (Two op t) h = and-left (takes_two op t) _ h
-typed-if (One op t) h = and-left (takes_one op t) _ h
+typed-if (Two op t) h = and_first (takes_two op t) _ h
+typed-if (One op t) h = and_first (takes_one op t) _ h
 typed-if (Cast signed t) h = refl
 typed-if (Index signed) h = refl
 typed-if Turn h = refl
@@ -172,16 +149,16 @@ value-fits (Two op s) [] t n is h result value = cc
 value-fits (Two op s) (a ∷ []) t n is h result value = cc
 value-fits (Two op s) (a ∷ c ∷ d ∷ rest) t n is h result value = cc
 value-fits (Two op s) (a ∷ c ∷ []) t n is h result value =
-    let first = in_range_holds s a (sym (in-c s a) ∙ and-left (in_range (in_c s) a) _ h) in
-    let second = in_range_holds s c (sym (in-c s c) ∙ and-left (in_range (in_c s) c) true (and-right (in_range (in_c s) a) _ h)) in
+    let first = in_range_holds s a (sym (in-c s a) ∙ and_first (in_range (in_c s) a) _ h) in
+    let second = in_range_holds s c (sym (in-c s c) ∙ and_first (in_range (in_c s) c) true (and_second (in_range (in_c s) a) _ h)) in
     spelled s t n result
-    (operated op s (checked_of op s a c) n (and-right (takes_two op s) _ is) (checked_of-in_range op s a c (and-left (takes_two op s) _ is) first second) value)
+    (operated op s (checked_of op s a c) n (and_second (takes_two op s) _ is) (checked_of-in_range op s a c (and_first (takes_two op s) _ is) first second) value)
 value-fits (One op s) [] t n is h result value = cc
 value-fits (One op s) (a ∷ c ∷ rest) t n is h result value = cc
 value-fits (One op s) (a ∷ []) t n is h result value =
-    let first = in_range_holds s a (sym (in-c s a) ∙ and-left (in_range (in_c s) a) _ h) in
+    let first = in_range_holds s a (sym (in-c s a) ∙ and_first (in_range (in_c s) a) _ h) in
     spelled s t n result
-    (operated op s (checked_one_of op s a) n (and-right (takes_one op s) _ is) (checked_one_of-in_range op s a (and-left (takes_one op s) _ is) first) value)
+    (operated op s (checked_one_of op s a) n (and_second (takes_one op s) _ is) (checked_one_of-in_range op s a (and_first (takes_one op s) _ is) first) value)
 value-fits (Cast signed s) [] t n is h result value = cc
 value-fits (Cast signed s) (a ∷ c ∷ rest) t n is h result value = cc
 value-fits (Cast signed s) (a ∷ []) t n is h result value =
@@ -193,7 +170,7 @@ value-fits (Index signed) (a ∷ c ∷ []) t n is h result value =
     let within : (int_le (pos 0) a && int_lt a c) ≡ true = passed (int_le (pos 0) a && int_lt a c) a n value in
     ap (λ x. in_range x n) (sym (some_scalar (Nat W32) t result))
     ∙ ap (in_range (Nat W32)) (sym (passed-is (int_le (pos 0) a && int_lt a c) a n value))
-    ∙ index-in a c within (and-left (in_range (Nat W32) c) true (and-right (in_range (widest signed) a) (in_range (Nat W32) c && true) h))
+    ∙ index-in a c within (and_first (in_range (Nat W32) c) true (and_second (in_range (widest signed) a) (in_range (Nat W32) c && true) h))
 value-fits Turn [] t n is h result value = cc
 value-fits Turn (a ∷ c ∷ rest) t n is h result value = cc
 value-fits Turn (a ∷ []) t n is h result value = ap (λ x. in_range x n) (sym (some_scalar (Nat W32) t result)) ∙ turned (int_eq a (pos 65536)) a n value

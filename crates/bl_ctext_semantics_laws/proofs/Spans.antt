@@ -1,28 +1,5 @@
 -- What cells have after some of them were written.
-use Rattle.std.proofs.Common.{
-  ◌≡◌,
-  ℕ,
-  zero,
-  suc,
-  ◌+◌,
-  ◌-◌,
-  ◌≤◌,
-  ◌<◌,
-  inl,
-  inr,
-  ⊎_elim,
-  ℤ,
-  pos,
-  Bool,
-  true,
-  false,
-  ◌&&◌,
-  List,
-  [],
-  ◌∷◌,
-  ◌++◌,
-  length,
-}
+use Rattle.std.proofs.Common.{◌≡◌, ℕ, zero, suc, ◌+◌, ◌-◌, ◌≤◌, ◌<◌, inl, inr, ⊎_elim, ℤ, pos, Bool, true, false, ◌&&◌, List, [], ◌∷◌, ◌++◌, length}
 use Rattle.std.proofs.Common.{take, drop, get_or, refl, ap, ◌∙◌, arith, length-set, get_or-set_same, get_or-set_other, length-append, length-take-le}
 use Rattle.std.proofs.Common.{length-drop, get_or-take, get_or-drop}
 use Rattle.std.specs.Prelude.{nat_le, slice_set, if◌then◌else◌}
@@ -76,18 +53,6 @@ args-elsewhere at (n ∷ ns) cells j apart =
     (λ (r : j + 1 ≤ at). inr (omega arith)) apart in
     let here : Apart at 1 j 1 = ⊎_elim (λ (l : at + suc (length ns) ≤ j). inl (omega arith)) (λ (r : j + 1 ≤ at). inr (omega arith)) apart in
     args-elsewhere (suc at) ns (slice_set cells at n) j rest ∙ set-elsewhere cells at j n here
-
-pub args-there : (at : ℕ) (ns : List ℤ) (cells : Cells) (k : ℕ) → k < length ns → at + length ns ≤ length cells →
-    cell_at (with_args at ns cells) (at + k) ≡ get_or ns k (pos 0)
-args-there at [] cells k h room = absurd (omega arith)
-args-there at (n ∷ ns) cells zero h room =
-    let e : at + zero ≡ at = omega arith in
-    ap (cell_at (with_args (suc at) ns (slice_set cells at n))) e
-    ∙ args-elsewhere (suc at) ns (slice_set cells at n) at (inr (omega arith)) ∙ set-there cells at n (omega arith)
-args-there at (n ∷ ns) cells (suc k) h room =
-    let e : at + suc k ≡ suc at + k = omega arith in
-    let l = length-set cells at n in
-    ap (cell_at (with_args (suc at) ns (slice_set cells at n))) e ∙ args-there (suc at) ns (slice_set cells at n) k (omega arith) (omega arith)
 
 -- ---- copies
 

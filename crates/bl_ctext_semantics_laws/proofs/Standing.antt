@@ -1,31 +1,10 @@
 -- How the memory of a running C text stands in numbered cells.
-use Rattle.std.proofs.Common.{
-  ◌≡◌,
-  ℕ,
-  ◌+◌,
-  ◌≤◌,
-  ◌<◌,
-  inl,
-  inr,
-  ⊎_elim,
-  ℤ,
-  pos,
-  Bool,
-  true,
-  false,
-  List,
-  [],
-  ◌∷◌,
-  ◌++◌,
-  length,
-  Option,
-  Some,
-  None,
-}
+use Rattle.std.proofs.Common.{◌≡◌, ℕ, ◌+◌, ◌≤◌, ◌<◌, inl, inr, ⊎_elim, ℤ, pos, Bool, true, false, List, [], ◌∷◌, ◌++◌, length, Option, Some, None}
 use Rattle.std.proofs.Common.{refl, ap, sym, ◌∙◌, arith, length-set}
 use Rattle.std.specs.Prelude.{slice_set, bytes_eq, ◌==◌, if◌then◌else◌}
 use Rattle.std.proofs.lemmas.Grind.{common_steps}
 use Rattle.std.proofs.lemmas.Slice.Eq.{bytes_eq-Decides}
+use Rattle.bl_tree.proofs.Basics.{and_first, and_second}
 use Rattle.bl_tree.specs.declared.scalar.Scalar.{Scalar}
 use Rattle.bl_tree.specs.declared.c.CType.{CType}
 use Rattle.bl_tree.specs.declared.c.CType.TheVariants.{Scalar as OfScalar}
@@ -35,7 +14,6 @@ use Rattle.bl_ctext_semantics.specs.Memory.{number_or, same_root, set_at, value_
 use Rattle.bl_ctext_semantics.specs.Sizes.{Sizes, size_of_type}
 use Rattle.bl_ctext_semantics.specs.Tables.{no_entries}
 use Rattle.bl_ctext_semantics_laws.specs.Fitting.{ValueSpot, whole, walk}
-use Rattle.bl_ctext_semantics_laws.proofs.Lists.{and-left, and-right}
 use Rattle.bl_ctext_semantics_laws.proofs.Memories.{zeros-fit}
 use Rattle.bl_ctext_semantics_laws.specs.Flat.{Cells, cell_at, copied, zeroed}
 use Rattle.bl_ctext_semantics_laws.proofs.Entries.{Apart}
@@ -97,12 +75,12 @@ root-is (variable d m) state_object h = cc
 root-is (variable d m) input_object h = cc
 root-is (variable d m) output_object h = cc
 root-is (variable d m) (variable e n) h =
-    let depth : (d == e) ≡ true = and-left (d == e) (bytes_eq m n) h in
+    let depth : (d == e) ≡ true = and_first (d == e) (bytes_eq m n) h in
     let same : d ≡ e = grind (arith, common_steps) in
-    ap (λ x. variable x m) same ∙ ap (variable e) ((bytes_eq-Decides m n).0 (and-right (d == e) (bytes_eq m n) h))
+    ap (λ x. variable x m) same ∙ ap (variable e) ((bytes_eq-Decides m n).0 (and_second (d == e) (bytes_eq m n) h))
 
 pub zero-fits : (kind : Scalar) → in_range kind (pos 0) ≡ true
-zero-fits kind = and-left (in_range kind (pos 0)) true (zeros-fit no_entries (OfScalar kind))
+zero-fits kind = and_first (in_range kind (pos 0)) true (zeros-fit no_entries (OfScalar kind))
 
 module _ (known : Sizes) (lists : Lists) (structs : Structs) (shaped : Shaped known lists structs) (limit : ℕ) where
   abbrev Offset : Option ValueSpot → List Projection → ℕ

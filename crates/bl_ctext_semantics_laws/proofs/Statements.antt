@@ -1,31 +1,9 @@
 -- Statements in a C text and over numbered cells.
-use Rattle.std.proofs.Common.{
-  ◌≡◌,
-  ℕ,
-  zero,
-  suc,
-  ◌+◌,
-  ◌≤◌,
-  ℤ,
-  pos,
-  Bool,
-  true,
-  false,
-  not,
-  ◌&&◌,
-  List,
-  [],
-  ◌∷◌,
-  ◌++◌,
-  map,
-  Option,
-  Some,
-  None,
-  refl,
-}
+use Rattle.std.proofs.Common.{◌≡◌, ℕ, zero, suc, ◌+◌, ◌≤◌, ℤ, pos, Bool, true, false, not, ◌&&◌, List, [], ◌∷◌, ◌++◌, map, Option, Some, None, refl}
 use Rattle.std.proofs.Common.{ap, sym, subst, ◌∙◌, arith}
 use Rattle.std.specs.Prelude.{All, is_some, if◌then◌else◌}
 use Rattle.std.proofs.lemmas.List.Elements.{All-cons, All-head, All-nil, All-tail}
+use Rattle.bl_tree.proofs.Basics.{and_first, and_second, first_empty, second_empty}
 use Rattle.bl_tree.specs.declared.text.Text.{Text}
 use Rattle.bl_tree.specs.declared.place.Place.{Place}
 use Rattle.bl_tree.specs.declared.scalar.Scalar.{Scalar}
@@ -53,9 +31,7 @@ use Rattle.bl_ctext_semantics.specs.Calls.{calls_in, calls_in_place, calls_in_st
 use Rattle.bl_ctext_semantics.specs.Faults.{Context, Signature, agree, assigned_type, block_faults, bool_type, changes_nothing, condition_faults}
 use Rattle.bl_ctext_semantics.specs.Faults.{condition_type, declared_before, faults_in_stmt, judged_call, judged_expr, judged_place, return_faults}
 use Rattle.bl_ctext_semantics.specs.Faults.{returns_result, unless}
-use Rattle.bl_ctext_semantics.proofs.EndLemmas.{nil-left, nil-right}
 use Rattle.bl_ctext_semantics.proofs.Induction.{Optional, StmtCases, induct_stmt, stmt}
-use Rattle.bl_ctext_semantics_laws.proofs.Lists.{and-left, and-right}
 use Rattle.bl_ctext_semantics_laws.specs.Reaching.{Ground}
 use Rattle.bl_ctext_semantics_laws.specs.Flat.{Cells, Evaluates, FlatAnswer, FlatStmtMeaning, Routine, address_of, block_of, call_flat}
 use Rattle.bl_ctext_semantics_laws.specs.Flat.{cell_number, copied, executed, flat_answer, flat_next, going_on, once_more}
@@ -207,7 +183,7 @@ module _ (known : Sizes) (lists : Lists) (structs : Structs) (shaped : Shaped kn
   condition-agrees : (e : CExpr) → condition_faults e context ≡ [] → Roomy (calls_in e) → spells_expr e ≡ true →
       Conditions (value_c e) (value_flat e ground)
   condition-agrees e none room spelled memory cells stood =
-      let h = expr-agrees known lists structs shaped limit context scope ground chains base w running memory e (nil-left _ _ none) room spelled cells stood in
+      let h = expr-agrees known lists structs shaped limit context scope ground chains base w running memory e (first_empty _ _ none) room spelled cells stood in
       record {
         count = h.count;
         stands = h.stands;
@@ -215,7 +191,7 @@ module _ (known : Sizes) (lists : Lists) (structs : Structs) (shaped : Shaped kn
       }
     where
       typed : agree (judged_expr e context).ty (Some bool_type) ≡ true
-      typed = unless-nil (agree (judged_expr e context).ty (Some bool_type)) condition_type _ (nil-right (judged_expr e context).faults _ none)
+      typed = unless-nil (agree (judged_expr e context).ty (Some bool_type)) condition_type _ (second_empty (judged_expr e context).faults _ none)
 
       both : (a : Option CValue) (b : Option ℤ) → Matches (Value memory (judged_expr e context).ty) a b → Matches (Value memory (Some bool_type)) a b
       both None None m = tt
@@ -321,15 +297,15 @@ module _ (known : Sizes) (lists : Lists) (structs : Structs) (shaped : Shaped kn
   block-agrees [] h looped none room spelled memory cells stood = goes 0 0 memory cells refl stood
   block-agrees (s ∷ stmts) h looped none room spelled memory cells stood =
       let r : RunAgrees (runs_c s scope memory) (runs_flat s ground base cells) =
-      All-head OfStmt s stmts h looped (nil-left _ _ none) (room-left chains w.top limit (calls_in_stmt s) _ room) (and-left _ _ spelled) memory cells stood in
+      All-head OfStmt s stmts h looped (first_empty _ _ none) (room-left chains w.top limit (calls_in_stmt s) _ room) (and_first _ _ spelled) memory cells stood in
       subst (λ e. RunAgrees (block_of_c (map runs_c (s ∷ stmts)) scope memory)
       (following_end (runs_flat s ground base cells).count (runs_flat s ground base cells).memory e (λ c. block_of (map runs_flat stmts) ground base c)))
       r.end
       (following-agrees (runs_c s scope memory).count (runs_flat s ground base cells).count (runs_c s scope memory).memory
       (runs_flat s ground base cells).memory (runs_c s scope memory).end
       (λ m. block_of_c (map runs_c stmts) scope m) (λ c. block_of (map runs_flat stmts) ground base c) r.count r.stands r.range
-      (block-agrees stmts (All-tail OfStmt s stmts h) looped (nil-right (faults_in_stmt s context looped) _ none)
-      (room-right chains w.top limit (calls_in_stmt s) _ room) (and-right (spells_stmt s) _ spelled)
+      (block-agrees stmts (All-tail OfStmt s stmts h) looped (second_empty (faults_in_stmt s context looped) _ none)
+      (room-right chains w.top limit (calls_in_stmt s) _ room) (and_second (spells_stmt s) _ spelled)
       (runs_c s scope memory).memory (runs_flat s ground base cells).memory r.stands))
 
   set-case : (at : Place) (p : CPlace) (e : CExpr) (looped : Bool) →
@@ -342,11 +318,11 @@ module _ (known : Sizes) (lists : Lists) (structs : Structs) (shaped : Shaped kn
       (executed 1 (flat_next (address_of (reach_flat p ground) base cells)
       (λ c k. flat_next (value_flat e ground base c) (λ d v. flat_answer (written_at ground.sizes (reach_flat p ground).ty k v d) (Some v)))) (λ c v. going c))
   set-case at p e looped none room spelled memory cells stood =
-      let f = place-facts known lists structs shaped limit context scope ground chains base w running memory p at (nil-left _ _ none)
-      (room-left chains w.top limit (calls_in_place p) (calls_in e) room) (and-left _ _ spelled) in
-      let h1 = nil-right (judged_place p context at).faults _ none in
-      let h2 = nil-right (judged_expr e context).faults _ h1 in
-      let same = unless-nil (agree (judged_place p context at).ty (judged_expr e context).ty) assigned_type at (nil-left _ _ h2) in
+      let f = place-facts known lists structs shaped limit context scope ground chains base w running memory p at (first_empty _ _ none)
+      (room-left chains w.top limit (calls_in_place p) (calls_in e) room) (and_first _ _ spelled) in
+      let h1 = second_empty (judged_place p context at).faults _ none in
+      let h2 = second_empty (judged_expr e context).faults _ h1 in
+      let same = unless-nil (agree (judged_place p context at).ty (judged_expr e context).ty) assigned_type at (first_empty _ _ h2) in
       let typed : agree (Some f.goal) (judged_expr e context).ty ≡ true = ap (λ o. agree o (judged_expr e context).ty) (sym f.is) ∙ same in
       let l = f.moves cells stood in
       (set-place memory (location_c p scope memory).count (address_of (reach_flat p ground) base cells).count
@@ -355,8 +331,8 @@ module _ (known : Sizes) (lists : Lists) (structs : Structs) (shaped : Shaped kn
       (λ l. next_c (value_c e scope memory) (λ v. given (Some (set_at memory l v))))
       (λ c k. flat_next (value_flat e ground base c) (λ d v. flat_answer (written_at ground.sizes (reach_flat p ground).ty k v d) (Some v))) l.count l.stands l.answer
       (λ x k placed.
-      let v = expr-agrees known lists structs shaped limit context scope ground chains base w running memory e (nil-left _ _ h1)
-      (room-right chains w.top limit (calls_in_place p) (calls_in e) room) (and-right (spells_place p) _ spelled)
+      let v = expr-agrees known lists structs shaped limit context scope ground chains base w running memory e (first_empty _ _ h1)
+      (room-right chains w.top limit (calls_in_place p) (calls_in e) room) (and_second (spells_place p) _ spelled)
       (address_of (reach_flat p ground) base cells).cells l.stands in
       set-value memory x k (value_c e scope memory).count (value_flat e ground base (address_of (reach_flat p ground) base cells).cells).count
       (value_flat e ground base (address_of (reach_flat p ground) base cells).cells).cells
@@ -372,10 +348,10 @@ module _ (known : Sizes) (lists : Lists) (structs : Structs) (shaped : Shaped kn
       RunAgrees (executed_c memory (location_c p scope memory) (λ l. going (set_at memory l zeros)))
       (executed 1 (address_of (reach_flat p ground) base cells) (λ c k. going (zeroed (entry_or 0 ground.sizes name) k c)))
   clear-case at p name looped none room spelled memory cells stood =
-      let f = place-facts known lists structs shaped limit context scope ground chains base w running memory p at (nil-left _ _ none) room spelled in
-      let h1 = nil-right (judged_place p context at).faults _ none in
-      let h2 = nil-right (unless (is_some (context.structs name)) declared_before at) _ h1 in
-      let same = unless-nil (agree (judged_place p context at).ty (Some (OfStruct name))) assigned_type at (nil-left _ _ h2) in
+      let f = place-facts known lists structs shaped limit context scope ground chains base w running memory p at (first_empty _ _ none) room spelled in
+      let h1 = second_empty (judged_place p context at).faults _ none in
+      let h2 = second_empty (unless (is_some (context.structs name)) declared_before at) _ h1 in
+      let same = unless-nil (agree (judged_place p context at).ty (Some (OfStruct name))) assigned_type at (first_empty _ _ h2) in
       let goal : f.goal ≡ OfStruct name = same-type f.goal (OfStruct name) (ap (λ o. agree o (Some (OfStruct name))) (sym f.is) ∙ same) in
       executed-agrees (λ l k. PlacedAt known lists structs shaped limit w l f.goal k) memory (location_c p scope memory)
       (address_of (reach_flat p ground) base cells) (λ l. going (set_at memory l zeros))
@@ -431,12 +407,12 @@ module _ (known : Sizes) (lists : Lists) (structs : Structs) (shaped : Shaped kn
       RunAgrees (executed_c memory (value_c e scope memory) (λ v. ending (returns (scalar_number v)) memory))
       (executed 1 (value_flat e ground base cells) (λ c v. ending (returns v) c))
   return-case e at None is none room spelled memory cells stood =
-      absurd (let x : false ≡ true = unless-nil false returns_result at (nil-right (judged_expr e context).faults _ none) in cc)
+      absurd (let x : false ≡ true = unless-nil false returns_result at (second_empty (judged_expr e context).faults _ none) in cc)
   return-case e at (Some t) is none room spelled memory cells stood =
-      let typed = unless-nil (agree (judged_expr e context).ty (Some (OfScalar t))) returns_result _ (nil-right (judged_expr e context).faults _ none) in
+      let typed = unless-nil (agree (judged_expr e context).ty (Some (OfScalar t))) returns_result _ (second_empty (judged_expr e context).faults _ none) in
       executed-agrees (Value memory (judged_expr e context).ty) memory (value_c e scope memory) (value_flat e ground base cells)
       (λ v. ending (returns (scalar_number v)) memory) (λ c v. ending (returns v) c)
-      (expr-agrees known lists structs shaped limit context scope ground chains base w running memory e (nil-left _ _ none) room spelled cells stood)
+      (expr-agrees known lists structs shaped limit context scope ground chains base w running memory e (first_empty _ _ none) room spelled cells stood)
       (λ v n after valued there.
       let s = value-agrees known lists structs shaped limit w memory (judged_expr e context).ty (OfScalar t) v n typed valued in
       record {
@@ -455,13 +431,13 @@ module _ (known : Sizes) (lists : Lists) (structs : Structs) (shaped : Shaped kn
       let r : Roomy (calls_in e ++ joined (map calls_in_stmt block) ++ []) = rw (fold-roll-CStmt, fold-roll-CStmtKind) at room in
       let s : (spells_expr e && (all_of (map spells_stmt block) && true)) ≡ true = rw (fold-roll-CStmt, fold-roll-CStmtKind) at spelled in
       rw (fold-roll-CStmt, fold-roll-CStmt, fold-roll-CStmtKind, fold-roll-CStmtKind)
-      (if-case e (block_of_c (map runs_c block)) (block_of_c []) (block_of (map runs_flat block)) (block_of []) (nil-left _ _ n)
+      (if-case e (block_of_c (map runs_c block)) (block_of_c []) (block_of (map runs_flat block)) (block_of []) (first_empty _ _ n)
       (room-left chains w.top limit (calls_in e) (joined (map calls_in_stmt block))
-      (room-left chains w.top limit (calls_in e ++ joined (map calls_in_stmt block)) [] r)) (and-left _ _ s)
-      (λ m c there. block-agrees block h looped (nil-left _ _ (nil-right (condition_faults e context) _ n))
+      (room-left chains w.top limit (calls_in e ++ joined (map calls_in_stmt block)) [] r)) (and_first _ _ s)
+      (λ m c there. block-agrees block h looped (first_empty _ _ (second_empty (condition_faults e context) _ n))
       (room-right chains w.top limit (calls_in e) (joined (map calls_in_stmt block))
       (room-left chains w.top limit (calls_in e ++ joined (map calls_in_stmt block)) [] r))
-      (and-left _ _ (and-right (spells_expr e) _ s)) m c there)
+      (and_first _ _ (and_second (spells_expr e) _ s)) m c there)
       (λ m c there. goes 0 0 m c refl there) memory cells stood)
   branching-case at e block (Some other) h o looped none room spelled memory cells stood =
       let n : condition_faults e context ++ (block_faults (map faults_in_stmt block) context looped ++ block_faults (map faults_in_stmt other) context looped)
@@ -469,17 +445,17 @@ module _ (known : Sizes) (lists : Lists) (structs : Structs) (shaped : Shaped kn
       let r : Roomy (calls_in e ++ joined (map calls_in_stmt block) ++ joined (map calls_in_stmt other)) = rw (fold-roll-CStmt, fold-roll-CStmtKind) at room in
       let s : (spells_expr e && (all_of (map spells_stmt block) && all_of (map spells_stmt other))) ≡ true =
       rw (fold-roll-CStmt, fold-roll-CStmtKind) at spelled in
-      let n2 = nil-right (condition_faults e context) _ n in
+      let n2 = second_empty (condition_faults e context) _ n in
       let r1 = room-left chains w.top limit (calls_in e ++ joined (map calls_in_stmt block)) (joined (map calls_in_stmt other)) r in
       rw (fold-roll-CStmt, fold-roll-CStmt, fold-roll-CStmtKind, fold-roll-CStmtKind)
       (if-case e (block_of_c (map runs_c block)) (block_of_c (map runs_c other)) (block_of (map runs_flat block))
-      (block_of (map runs_flat other)) (nil-left _ _ n)
-      (room-left chains w.top limit (calls_in e) (joined (map calls_in_stmt block)) r1) (and-left _ _ s)
-      (λ m c there. block-agrees block h looped (nil-left _ _ n2) (room-right chains w.top limit (calls_in e) (joined (map calls_in_stmt block)) r1)
-      (and-left _ _ (and-right (spells_expr e) _ s)) m c there)
-      (λ m c there. block-agrees other o looped (nil-right (block_faults (map faults_in_stmt block) context looped) _ n2)
+      (block_of (map runs_flat other)) (first_empty _ _ n)
+      (room-left chains w.top limit (calls_in e) (joined (map calls_in_stmt block)) r1) (and_first _ _ s)
+      (λ m c there. block-agrees block h looped (first_empty _ _ n2) (room-right chains w.top limit (calls_in e) (joined (map calls_in_stmt block)) r1)
+      (and_first _ _ (and_second (spells_expr e) _ s)) m c there)
+      (λ m c there. block-agrees other o looped (second_empty (block_faults (map faults_in_stmt block) context looped) _ n2)
       (room-right chains w.top limit (calls_in e ++ joined (map calls_in_stmt block)) (joined (map calls_in_stmt other)) r)
-      (and-right (all_of (map spells_stmt block)) _ (and-right (spells_expr e) _ s)) m c there)
+      (and_second (all_of (map spells_stmt block)) _ (and_second (spells_expr e) _ s)) m c there)
       memory cells stood)
 
   loop-case : (at : Place) (turn : Text) (e : CExpr) (body : List CStmt) → All OfStmt body → OfStmt (stmt at (CStmtKind-F.Loop turn e body))
@@ -487,13 +463,13 @@ module _ (known : Sizes) (lists : Lists) (structs : Structs) (shaped : Shaped kn
       let n : condition_faults e context ++ block_faults (map faults_in_stmt body) context true ≡ [] = rw (fold-roll-CStmt, fold-roll-CStmtKind) at none in
       let r : Roomy (calls_in e ++ joined (map calls_in_stmt body)) = rw (fold-roll-CStmt, fold-roll-CStmtKind) at room in
       let s : (is_turn_name turn && (spells_expr e && all_of (map spells_stmt body))) ≡ true = rw (fold-roll-CStmt, fold-roll-CStmtKind) at spelled in
-      let s2 = and-right (is_turn_name turn) _ s in
+      let s2 = and_second (is_turn_name turn) _ s in
       let t : RunAgrees (loop_with_turns turn_limit (once_more_c (value_c e) scope) (block_of_c (map runs_c body) scope) memory)
       (loop_with_turns turn_limit (once_more (value_flat e ground) base) (block_of (map runs_flat body) ground base) cells) =
       turns-agree turn_limit (value_c e) (value_flat e ground) (block_of_c (map runs_c body)) (block_of (map runs_flat body) ground)
-      (condition-agrees e (nil-left _ _ n) (room-left chains w.top limit (calls_in e) (joined (map calls_in_stmt body)) r) (and-left _ _ s2))
-      (λ m c there. block-agrees body h true (nil-right (condition_faults e context) _ n)
-      (room-right chains w.top limit (calls_in e) (joined (map calls_in_stmt body)) r) (and-right (spells_expr e) _ s2) m c there) memory cells stood in
+      (condition-agrees e (first_empty _ _ n) (room-left chains w.top limit (calls_in e) (joined (map calls_in_stmt body)) r) (and_first _ _ s2))
+      (λ m c there. block-agrees body h true (second_empty (condition_faults e context) _ n)
+      (room-right chains w.top limit (calls_in e) (joined (map calls_in_stmt body)) r) (and_second (spells_expr e) _ s2) m c there) memory cells stood in
       rw (fold-roll-CStmt, fold-roll-CStmt, fold-roll-CStmtKind, fold-roll-CStmtKind)
       (once-later (loop_with_turns turn_limit (once_more_c (value_c e) scope) (block_of_c (map runs_c body) scope) memory)
       (loop_with_turns turn_limit (once_more (value_flat e ground) base) (block_of (map runs_flat body) ground base) cells) t)
@@ -524,7 +500,7 @@ module _ (known : Sizes) (lists : Lists) (structs : Structs) (shaped : Shaped kn
     clear = λ at p name looped none room spelled memory cells stood.
         let s : (spells_place p && is_struct_name name) ≡ true = rw (fold-roll-CStmt, fold-roll-CStmtKind) at spelled in
         rw (fold-roll-CStmt, fold-roll-CStmt, fold-roll-CStmtKind, fold-roll-CStmtKind)
-        (clear-case at p name looped (rw (fold-roll-CStmt, fold-roll-CStmtKind) at none) (rw (fold-roll-CStmt, fold-roll-CStmtKind) at room) (and-left _ _ s)
+        (clear-case at p name looped (rw (fold-roll-CStmt, fold-roll-CStmtKind) at none) (rw (fold-roll-CStmt, fold-roll-CStmtKind) at room) (and_first _ _ s)
         memory cells stood);
     call = λ at c looped none room spelled memory cells stood.
         rw (fold-roll-CStmt, fold-roll-CStmt, fold-roll-CStmtKind, fold-roll-CStmtKind)

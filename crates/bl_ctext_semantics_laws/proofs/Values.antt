@@ -1,31 +1,10 @@
 -- Values and arguments in a C text and over numbered cells.
-use Rattle.std.proofs.Common.{
-  ◌≡◌,
-  ℕ,
-  ℤ,
-  pos,
-  negsuc,
-  Bool,
-  true,
-  false,
-  not,
-  List,
-  [],
-  ◌∷◌,
-  map,
-  Option,
-  Some,
-  None,
-  refl,
-  ap,
-  sym,
-  subst,
-  ◌∙◌,
-  arith,
-}
+use Rattle.std.proofs.Common.{◌≡◌, ℕ, ℤ, pos, negsuc, Bool, true, false, not, List, [], ◌∷◌, map, Option, Some, None, refl, ap, sym, subst, ◌∙◌, arith}
 use Rattle.std.specs.Prelude.{if◌then◌else◌}
 use Rattle.std.proofs.lemmas.Int.{ints}
 use Rattle.std.proofs.lemmas.Slice.Eq.{bytes_eq-Decides}
+use Rattle.std.proofs.lemmas.Bool.{and_from}
+use Rattle.bl_tree.proofs.Basics.{and_first, and_second}
 use Rattle.bl_tree.specs.declared.scalar.Scalar.{Scalar}
 use Rattle.bl_tree.specs.declared.scalar.Scalar.TheVariants.{Bool as OfBool, Int, Nat, Bits}
 use Rattle.bl_tree.specs.declared.scalar.Width.{Width}
@@ -44,7 +23,6 @@ use Rattle.bl_ctext_semantics.specs.Sizes.{Sizes}
 use Rattle.bl_ctext_semantics.specs.Faults.{JudgedArg, Variable, agree, by_value as by_value_of, fit_each, fits_arg, fits_param, if_typed, same_scalar}
 use Rattle.bl_ctext_semantics.specs.Faults.{same_type, same_width, takes}
 use Rattle.bl_tree.specs.Ports.{in_ranges}
-use Rattle.bl_ctext_semantics_laws.proofs.Lists.{and-both, and-left, and-right}
 use Rattle.bl_ctext_semantics_laws.proofs.Ways.{Lists, Shaped, Structs}
 use Rattle.bl_ctext_semantics_laws.proofs.Standing.{World}
 use Rattle.bl_ctext_semantics_laws.proofs.Running.{AddressAt, PassedAll, PassedFor, Valued, ValuedAs}
@@ -208,14 +186,14 @@ module _ (known : Sizes) (lists : Lists) (structs : Structs) (shaped : Shaped kn
   passed-for : (p : Variable) (j : JudgedArg) (v : ArgumentValue) (n : ℤ) → fits_arg false p j ≡ true → Passes j v n →
       PassedFor known lists structs shaped limit w memory p v n
   passed-for p j (by_value v) n h passes = (
-    sym (pointer-so p.pointer j.address (and-left _ _ h))
+    sym (pointer-so p.pointer j.address (and_first _ _ h))
         ∙ passes.0,
-    value-for p.ty j.ty v n (and-right (if p.pointer then j.address else not j.address) _ h) passes.1,
+    value-for p.ty j.ty v n (and_second (if p.pointer then j.address else not j.address) _ h) passes.1,
   )
   passed-for p j (by_address place) n h passes = (
-    sym (pointer-so p.pointer j.address (and-left _ _ h))
+    sym (pointer-so p.pointer j.address (and_first _ _ h))
         ∙ passes.0,
-    address-for p.ty j.ty place n (and-right (if p.pointer then j.address else not j.address) _ h) passes.1,
+    address-for p.ty j.ty place n (and_second (if p.pointer then j.address else not j.address) _ h) passes.1,
   )
 
   -- arguments that fit a function of the file
@@ -224,7 +202,7 @@ module _ (known : Sizes) (lists : Lists) (structs : Structs) (shaped : Shaped kn
       PassedAll known lists structs shaped limit w memory params vs ns
   passed-all [] [] [] [] h passes = tt
   passed-all (p ∷ ps) (j ∷ js) (v ∷ vs) (n ∷ ns) h passes =
-      (passed-for p j v n (and-left _ _ h) passes.0, passed-all ps js vs ns (and-right (fits_arg false p j) _ h) passes.1)
+      (passed-for p j v n (and_first _ _ h) passes.0, passed-all ps js vs ns (and_second (fits_arg false p j) _ h) passes.1)
   passed-all [] (j ∷ js) vs ns h passes = cc
   passed-all (p ∷ ps) [] vs ns h passes = cc
   passed-all [] [] (v ∷ vs) ns h passes = absurd passes
@@ -267,9 +245,9 @@ module _ (known : Sizes) (lists : Lists) (structs : Structs) (shaped : Shaped kn
 
   number-fits : (t : Scalar) (j : JudgedArg) (v : ArgumentValue) (n : ℤ) → fits_arg true (by_value_of t) j ≡ true → Passes j v n →
       (number_of_passed v ≡ n) × (in_range t n ≡ true)
-  number-fits t j (by_value v) n h passes = widened-if t j.ty v n (and-right (not j.address) _ h) passes.1
+  number-fits t j (by_value v) n h passes = widened-if t j.ty v n (and_second (not j.address) _ h) passes.1
   number-fits t j (by_address place) n h passes =
-      absurd (let x : not true ≡ true = sym (ap not passes.0) ∙ and-left (not j.address) _ h in cc)
+      absurd (let x : not true ≡ true = sym (ap not passes.0) ∙ and_first (not j.address) _ h in cc)
 
   -- arguments that fit a function of the prelude
   pub numbers-fit : (ts : List Scalar) (js : List JudgedArg) (vs : List ArgumentValue) (ns : List ℤ) → fit_each true (map by_value_of ts) js ≡ true →
@@ -277,9 +255,9 @@ module _ (known : Sizes) (lists : Lists) (structs : Structs) (shaped : Shaped kn
       (map number_of_passed vs ≡ ns) × (in_ranges ts ns ≡ true)
   numbers-fit [] [] [] [] h passes = (refl, refl)
   numbers-fit (t ∷ ts) (j ∷ js) (v ∷ vs) (n ∷ ns) h passes =
-      let first = number-fits t j v n (and-left _ _ h) passes.0 in
-      let rest = numbers-fit ts js vs ns (and-right (fits_arg true (by_value_of t) j) _ h) passes.1 in
-      (ap (λ x. x ∷ map number_of_passed vs) first.0 ∙ ap (λ xs. n ∷ xs) rest.0, and-both _ _ first.1 rest.1)
+      let first = number-fits t j v n (and_first _ _ h) passes.0 in
+      let rest = numbers-fit ts js vs ns (and_second (fits_arg true (by_value_of t) j) _ h) passes.1 in
+      (ap (λ x. x ∷ map number_of_passed vs) first.0 ∙ ap (λ xs. n ∷ xs) rest.0, and_from _ _ first.1 rest.1)
   numbers-fit [] (j ∷ js) vs ns h passes = cc
   numbers-fit (t ∷ ts) [] vs ns h passes = cc
   numbers-fit [] [] (v ∷ vs) ns h passes = absurd passes

@@ -1,31 +1,10 @@
 -- How many cells stand before a part of a value.
-use Rattle.std.proofs.Common.{
-  ◌≡◌,
-  ℕ,
-  zero,
-  suc,
-  ◌+◌,
-  ◌*◌,
-  ◌≤◌,
-  ◌<◌,
-  inl,
-  inr,
-  ⊎_elim,
-  Bool,
-  true,
-  false,
-  List,
-  [],
-  ◌∷◌,
-  ◌++◌,
-  map,
-  Option,
-  Some,
-}
+use Rattle.std.proofs.Common.{◌≡◌, ℕ, zero, suc, ◌+◌, ◌*◌, ◌≤◌, ◌<◌, inl, inr, ⊎_elim, Bool, true, false, List, [], ◌∷◌, ◌++◌, map, Option, Some}
 use Rattle.std.proofs.Common.{None, refl, ap, sym, ◌∙◌, arith, suc-mul}
 use Rattle.std.specs.Prelude.{unwrap_or, option_map, option_and_then, nat_lt, ◌==◌, if◌then◌else◌}
 use Rattle.std.proofs.lemmas.Grind.{common_steps}
 use Rattle.std.proofs.lemmas.Slice.Eq.{bytes_eq-Decides}
+use Rattle.bl_tree.proofs.Basics.{same_some}
 use Rattle.bl_tree.specs.declared.text.Text.{Text}
 use Rattle.bl_tree.specs.declared.c.CType.{CType}
 use Rattle.bl_tree.specs.declared.c.CType.TheVariants.{Scalar as OfScalar, Struct as OfStruct}
@@ -37,6 +16,7 @@ use Rattle.bl_ctext_semantics.specs.Sizes.{Sizes, size_of_length, size_of_member
 use Rattle.bl_ctext_semantics.specs.Tables.{Table, entry_or, found, table_of}
 use Rattle.bl_ctext_semantics_laws.proofs.Entries.{Apart, offset-apart, offset-within, offset_of, sum_of}
 use Rattle.bl_ctext_semantics_laws.specs.Fitting.{ValueSpot, whole, row, spot_if, spot_of, spot_of_length, step_in, walk}
+use Rattle.bl_ctext_semantics_laws.proofs.Places.{some_spot}
 
 -- the members of each struct, by name and in order
 abbrev pub Structs : Type 0
@@ -78,9 +58,6 @@ pub record Shaped (known : Sizes) (lists : Lists) (structs : Structs) : Type 0 w
 
 -- ---- what is there
 
-some_of : {A : Type 0} (a b : A) → Some a ≡ Some b → a ≡ b
-some_of a b h = cc
-
 pub spot_size-length : (known : Sizes) (ty : CType) (length : Option ℕ) →
     spot_size known (spot_of_length ty length) ≡ size_of_length length (size_of_type known ty)
 spot_size-length known ty None = refl
@@ -113,9 +90,6 @@ product-apart j k s h = chosen (nat_lt j k) refl
     chosen false is = inr (product-within k j s (grind (arith, common_steps)))
 
 -- ---- one step
-
-some_spot : (a b : ValueSpot) → Some a ≡ Some b → a ≡ b
-some_spot a b h = cc
 
 pub same-part-is : (p q : Projection) → same_part p q ≡ true → p ≡ q
 same-part-is (member m) (member n) h = ap member ((bytes_eq-Decides m n).0 h)
@@ -192,7 +166,7 @@ module _ (known : Sizes) (lists : Lists) (structs : Structs) (shaped : Shaped kn
   step-apart (whole (OfStruct struct)) a b (member m) (member n) h k differ =
       let s : Stepped struct m a = stepped struct m a h in
       let t : Stepped struct n b = stepped struct n b k in
-      let same : s.list ≡ t.list = some_of s.list t.list (sym s.is ∙ t.is) in
+      let same : s.list ≡ t.list = same_some s.list t.list (sym s.is ∙ t.is) in
       let apart : Apart (offset_in known s.list m) (size_of_member known s.it) (offset_in known s.list n) (size_of_member known t.it) =
       offset-apart (size_of_member known) (by_name s.list) m n s.it t.it differ s.there (ap (λ l. found n (by_name l)) same ∙ t.there) in
       let ea = offset-of-member struct m s.list s.is in

@@ -1,24 +1,5 @@
 -- Values of C types, and memories in which every place has a value of its type.
-use Rattle.std.specs.Prelude.{
-  ◌≡◌,
-  ℕ,
-  ℤ,
-  Bool,
-  true,
-  false,
-  ◌&&◌,
-  nat_lt,
-  List,
-  [],
-  ◌∷◌,
-  map,
-  flat_map,
-  Option,
-  Some,
-  None,
-  option_and_then,
-  codes,
-}
+use Rattle.std.specs.Prelude.{◌≡◌, ℕ, ℤ, Bool, true, false, ◌&&◌, nat_lt, List, [], ◌∷◌, map, flat_map, Option, Some, None, option_and_then, codes}
 use Rattle.std.specs.Prelude.{if◌then◌else◌}
 use Rattle.std.specs.List.{list_all}
 use Rattle.bl_tree.specs.declared.text.Text.{Text}

@@ -1,27 +1,7 @@
 -- What C expressions, statements and functions do over numbered cells: a place is the number of its first cell, a pointer such a
 -- number, and the frame of a function that runs begins at its base. How statements end, follow one another and are counted is the
 -- same as in the meaning of C texts, and things are evaluated in the same order. Where a form has no meaning there, some value is given.
-use Rattle.std.specs.Prelude.{
-  ℕ,
-  zero,
-  suc,
-  ◌+◌,
-  ◌*◌,
-  ℤ,
-  pos,
-  negsuc,
-  Bool,
-  true,
-  false,
-  ◌&&◌,
-  nat_le,
-  List,
-  [],
-  ◌∷◌,
-  map,
-  length,
-  slice_set,
-}
+use Rattle.std.specs.Prelude.{ℕ, zero, suc, ◌+◌, ◌*◌, ℤ, pos, negsuc, Bool, true, false, ◌&&◌, nat_le, List, [], ◌∷◌, map, length, slice_set}
 use Rattle.std.specs.Prelude.{slice_index_or, Option, Some, None, option_map, unwrap_or, if◌then◌else◌, not, int_lt, int_le}
 use Rattle.std.specs.List.{copy_within}
 use Rattle.std.specs.Ordering.{int_eq}

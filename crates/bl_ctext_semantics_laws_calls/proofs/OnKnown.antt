@@ -35,16 +35,9 @@ use Rattle.bl_ctext_semantics.specs.Tables.{Table, table_of}
 use Rattle.bl_ctext_semantics.proofs.Folds.{arg_c, calls_in_index, calls_in_kind, index_c, kind_c, step_c}
 use Rattle.bl_ctext_semantics.proofs.Induction.{ExprCases, Optional, StmtCases, induct_call, induct_expr, induct_place, induct_stmt, stmt}
 use Rattle.bl_ctext_semantics_laws_calls.specs.Known.{AreAlike, CallsDecide}
+use Rattle.bl_ctext_semantics_laws_calls.proofs.OnCalled.{back, front}
 
 -- ---- lists
-
-front : {A : Type 0} (P : A → Type 0) (xs ys : List A) → All P (xs ++ ys) → All P xs
-front P [] ys all = All-nil P
-front P (x ∷ xs) ys all = All-cons P x xs (All-head P x (xs ++ ys) all) (front P xs ys (All-tail P x (xs ++ ys) all))
-
-back : {A : Type 0} (P : A → Type 0) (xs ys : List A) → All P (xs ++ ys) → All P ys
-back P [] ys all = all
-back P (x ∷ xs) ys all = back P xs ys (All-tail P x (xs ++ ys) all)
 
 -- what two operands give whose values are both asked
 abbrev both_by : Op → (Memory → Counted CValue) → (Memory → Counted CValue) → Memory → Counted CValue

@@ -15,97 +15,24 @@ use Rattle.bl_tree.specs.declared.c.CExpr.{CExpr, fold-roll-CExpr, roll-out-CExp
 use Rattle.bl_tree.specs.declared.c.CPlace.{CPlace}
 use Rattle.bl_tree.specs.declared.c.CStmt.{CStmt}
 use Rattle.bl_tree.specs.declared.c.CStmtKind.TheOpen.{CStmtKind-F}
-use Rattle.bl_ctext_semantics.specs.Calls.{
-  Names,
-  arg_calls,
-  block_or_none as calls_of_other,
-  call_calls,
-  calls_in,
-  calls_in_block,
-  calls_in_call,
-  calls_in_place,
-  calls_or_none,
-  expr_calls,
-  index_calls,
-  kind_calls,
-  place_calls,
-  step_calls,
-  stmt_calls,
-  stmt_kind_calls,
-}
+use Rattle.bl_ctext_semantics.specs.Calls.{Names, arg_calls, block_or_none as calls_of_other, call_calls, calls_in, calls_in_block, calls_in_call}
+use Rattle.bl_ctext_semantics.specs.Calls.{calls_in_place, calls_or_none, expr_calls, index_calls, kind_calls, place_calls, step_calls, stmt_calls}
+use Rattle.bl_ctext_semantics.specs.Calls.{stmt_kind_calls}
 use Rattle.bl_ctext_semantics.specs.Cost.{Costs, block_cost, cost_of_calls, cost_of_stmt, other_cost, stmt_cost_step, stmt_kind_cost}
-use Rattle.bl_ctext_semantics.specs.Faults.{
-  Context,
-  Fault,
-  Judged,
-  JudgedCall,
-  JudgedPlace,
-  StmtFaults,
-  agree,
-  assigned_type,
-  block_faults,
-  bool_type,
-  break_in_loop,
-  changes_nothing,
-  condition_faults,
-  condition_type,
-  declared_before,
-  faults_in_stmt,
-  judged_expr,
-  judged_place,
-  other_faults,
-  return_faults,
-  returns_result,
-  stmt_faults_step,
-  stmt_kind_faults,
-  stmt_kind_returns,
-  stmt_returns_step,
-  surely_returns,
-  unless,
-}
+use Rattle.bl_ctext_semantics.specs.Faults.{Context, Fault, Judged, JudgedCall, JudgedPlace, StmtFaults, agree, assigned_type, block_faults, bool_type}
+use Rattle.bl_ctext_semantics.specs.Faults.{break_in_loop, changes_nothing, condition_faults, condition_type, declared_before, faults_in_stmt, judged_expr}
+use Rattle.bl_ctext_semantics.specs.Faults.{judged_place, other_faults, return_faults, returns_result, stmt_faults_step, stmt_kind_faults, stmt_kind_returns}
+use Rattle.bl_ctext_semantics.specs.Faults.{stmt_returns_step, surely_returns, unless}
 use Rattle.bl_ctext_semantics.specs.Loops.{LoopCounters, stmt_kind_turns, stmt_turns_step, turns_in, turns_in_block}
 use Rattle.bl_ctext_semantics.specs.Course.{after_statements, ending, going, loop_with_turns, returns, turn_limit}
-use Rattle.bl_ctext_semantics.specs.Meaning.{
-  Evaluates,
-  ArgumentValue,
-  CStmtMeaning,
-  Scope,
-  CallResult,
-  arg_step,
-  block_of,
-  call_c,
-  call_outcome,
-  executed,
-  given,
-  next,
-  once_more,
-  call_step,
-  expr_step,
-  index_step,
-  kind_step,
-  location_c,
-  place_step,
-  runs_c,
-  step_step,
-  stmt_kind_step,
-  stmt_step,
-  value_c,
-}
+use Rattle.bl_ctext_semantics.specs.Meaning.{Evaluates, ArgumentValue, CStmtMeaning, Scope, CallResult, arg_step, block_of, call_c, call_outcome, executed}
+use Rattle.bl_ctext_semantics.specs.Meaning.{given, next, once_more, call_step, expr_step, index_step, kind_step, location_c, place_step, runs_c, step_step}
+use Rattle.bl_ctext_semantics.specs.Meaning.{stmt_kind_step, stmt_step, value_c}
 use Rattle.bl_ctext_semantics.specs.Memory.{CValue, Location, Memory, Projection, scalar_number, set_at, zeros}
 use Rattle.bl_cparse_syntax_laws.specs.Placeless.{any_place, placeless_call, placeless_expr, placeless_place, placeless_result, placeless_stmt}
 use Rattle.bl_ctext_semantics_laws_places.proofs.Exprs.{call_same, expr_same, place_same}
-use Rattle.bl_ctext_semantics_laws_places.proofs.Judged.{
-  bare,
-  bare_judged,
-  bare_place,
-  bared,
-  both_bare,
-  call_bare,
-  expr_bare,
-  more_bare,
-  place_bare,
-  unless_bare,
-}
+use Rattle.bl_ctext_semantics_laws_places.proofs.Judged.{bare, bare_judged, bare_place, bared, both_bare, call_bare, expr_bare, more_bare, place_bare}
+use Rattle.bl_ctext_semantics_laws_places.proofs.Judged.{unless_bare}
 use Rattle.bl_ctext_semantics_laws_places.proofs.Lists.{joined-map, map-twice}
 use Rattle.bl_ctext_semantics_laws_places.proofs.Stmts.{level_turned, level_bare, stmts_same, stmts_turned}
 

@@ -12,52 +12,12 @@ use Rattle.bl_tree.specs.declared.c.CStruct.{CStruct}
 use Rattle.bl_tree.specs.declared.scalar.Scalar.TheVariants.{Nat}
 use Rattle.bl_tree.specs.declared.scalar.Width.TheVariants.{W32}
 use Rattle.bl_ctext_semantics.specs.Calls.{calls_in_block, most}
-use Rattle.bl_ctext_semantics.specs.Faults.{
-  Fault,
-  Signature,
-  all_distinct,
-  context_in,
-  declared_before,
-  depth_of_function,
-  depth_of_struct,
-  distinct_names,
-  faults_in,
-  faults_in_function,
-  faults_in_head,
-  faults_in_struct,
-  faults_of_two,
-  function_faults_after,
-  gives,
-  init_faults,
-  init_params,
-  interface_faults,
-  interface_fits,
-  interface_functions,
-  interface_members,
-  interface_structs,
-  is_declared,
-  is_scalar,
-  last_place,
-  last_returns,
-  last_two,
-  limited,
-  member_table,
-  names_table,
-  place_of_two,
-  repeated,
-  returns_result,
-  scalar_parameter,
-  short_chain,
-  signature_in,
-  static_functions,
-  struct_faults_after,
-  struct_table,
-  surely_returns,
-  tick_faults,
-  tick_params,
-  unless,
-  variable_names,
-}
+use Rattle.bl_ctext_semantics.specs.Faults.{Fault, Signature, all_distinct, context_in, declared_before, depth_of_function, depth_of_struct, distinct_names}
+use Rattle.bl_ctext_semantics.specs.Faults.{faults_in, faults_in_function, faults_in_head, faults_in_struct, faults_of_two, function_faults_after, gives}
+use Rattle.bl_ctext_semantics.specs.Faults.{init_faults, init_params, interface_faults, interface_fits, interface_functions, interface_members}
+use Rattle.bl_ctext_semantics.specs.Faults.{interface_structs, is_declared, is_scalar, last_place, last_returns, last_two, limited, member_table, names_table}
+use Rattle.bl_ctext_semantics.specs.Faults.{place_of_two, repeated, returns_result, scalar_parameter, short_chain, signature_in, static_functions}
+use Rattle.bl_ctext_semantics.specs.Faults.{struct_faults_after, struct_table, surely_returns, tick_faults, tick_params, unless, variable_names}
 use Rattle.bl_ctext_semantics.specs.Loops.{turns_in_block}
 use Rattle.bl_ctext_semantics.specs.Parts.{Parts}
 use Rattle.bl_ctext_semantics.specs.Tables.{Table, no_entries, table_of, with_entry}

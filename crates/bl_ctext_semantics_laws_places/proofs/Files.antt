@@ -9,17 +9,8 @@ use Rattle.bl_ctext_semantics_laws_places.specs.Behaviour.{behaviour_of, clauses
 use Rattle.bl_ctext_semantics_laws_places.proofs.Faults.{faults-bare, placeless}
 use Rattle.bl_ctext_semantics_laws_places.proofs.Judged.{bare}
 use Rattle.bl_ctext_semantics_laws_places.proofs.Lists.{map-twice}
-use Rattle.bl_ctext_semantics_laws_places.proofs.Runs.{
-  bound-same,
-  cells-same,
-  inputs-same,
-  needed-same,
-  outputs-same,
-  start-same,
-  start_cells-same,
-  ticks-same,
-  traces-same,
-}
+use Rattle.bl_ctext_semantics_laws_places.proofs.Runs.{bound-same, cells-same, inputs-same, needed-same, outputs-same, start-same, start_cells-same, ticks-same}
+use Rattle.bl_ctext_semantics_laws_places.proofs.Runs.{traces-same}
 
 -- what is the same of a file without its places is the same of both
 by_placeless : {A : Type 0} (f : Parts → A) → ((file : Parts) → f (placeless file) ≡ f file) → (file other : CFile) → SameButPlaces file other →

@@ -17,70 +17,17 @@ use Rattle.bl_tree.specs.declared.c.CMember.{CMember}
 use Rattle.bl_tree.specs.declared.c.CPlace.{CPlace, fold-roll-CPlace, roll-CPlace}
 use Rattle.bl_tree.specs.declared.c.CStep.{CStep, fold-roll-CStep, roll-CStep}
 use Rattle.bl_tree.specs.declared.c.CType.{CType}
-use Rattle.bl_ctext_semantics.specs.Faults.{
-  Clause,
-  Context,
-  Fault,
-  Judged,
-  JudgedArg,
-  JudgedCall,
-  JudgedIndex,
-  JudgedPlace,
-  Judges,
-  Signature,
-  StepJudgement,
-  Variable,
-  agree,
-  arguments,
-  bool_type,
-  changes_nothing,
-  declared_before,
-  fit_args,
-  fit_each,
-  fits_arg,
-  hands_on,
-  if_typed,
-  indexes,
-  indices,
-  is_void,
-  judge_into,
-  judge_length,
-  judge_member,
-  judge_root,
-  judge_steps,
-  judged_arg,
-  judged_call,
-  judged_expr,
-  judged_index,
-  judged_place,
-  judged_step,
-  known_result,
-  member_of,
-  operand_type,
-  pointer_use,
-  result_type,
-  signature_of,
-  takes,
-  unless,
-  void_as_statement,
-}
+use Rattle.bl_ctext_semantics.specs.Faults.{Clause, Context, Fault, Judged, JudgedArg, JudgedCall, JudgedIndex, JudgedPlace, Judges, Signature, StepJudgement}
+use Rattle.bl_ctext_semantics.specs.Faults.{Variable, agree, arguments, bool_type, changes_nothing, declared_before, fit_args, fit_each, fits_arg, hands_on}
+use Rattle.bl_ctext_semantics.specs.Faults.{if_typed, indexes, indices, is_void, judge_into, judge_length, judge_member, judge_root, judge_steps, judged_arg}
+use Rattle.bl_ctext_semantics.specs.Faults.{judged_call, judged_expr, judged_index, judged_place, judged_step, known_result, member_of, operand_type}
+use Rattle.bl_ctext_semantics.specs.Faults.{pointer_use, result_type, signature_of, takes, unless, void_as_statement}
 use Rattle.bl_ctext_semantics.proofs.Folds.{judged_kind}
 use Rattle.bl_ctext_semantics.proofs.Induction.{ExprCases, Optional, induct_call, induct_expr, induct_place}
 use Rattle.bl_cparse_syntax_laws.specs.Placeless.{any_place, placeless_call, placeless_expr, placeless_place}
 use Rattle.bl_cparse_syntax_laws.specs.inner.Placeless.{placeless_arg, placeless_index, placeless_kind, placeless_step}
-use Rattle.bl_cparse_syntax_laws.proofs.Layers.{
-  Args,
-  Kinds,
-  arg_bare,
-  arg_levels,
-  call_levels,
-  expr_levels,
-  index_levels,
-  kind_bare,
-  kind_levels,
-  place_levels,
-  step_levels,
-}
+use Rattle.bl_cparse_syntax_laws.proofs.Layers.{Args, Kinds, arg_bare, arg_levels, call_levels, expr_levels, index_levels, kind_bare, kind_levels, place_levels}
+use Rattle.bl_cparse_syntax_laws.proofs.Layers.{step_levels}
 use Rattle.bl_ctext_semantics_laws_places.proofs.Lists.{joined-map, map-twice}
 
 -- ---- faults without their places

@@ -9,68 +9,20 @@ use Rattle.bl_tree.specs.declared.c.CMember.{CMember}
 use Rattle.bl_tree.specs.declared.c.CParam.{CParam}
 use Rattle.bl_tree.specs.declared.c.CStruct.{CStruct}
 use Rattle.bl_ctext_semantics.specs.Calls.{calls_in_block, most}
-use Rattle.bl_ctext_semantics.specs.Cells.{
-  Cell,
-  Inner,
-  cells_at,
-  cells_of,
-  column_of,
-  inner_after,
-  inner_of_member,
-  inputs_of,
-  memory_of,
-  numbers_of,
-  outputs_in,
-  outputs_of,
-  ports_of,
-  with_inputs,
-}
+use Rattle.bl_ctext_semantics.specs.Cells.{Cell, Inner, cells_at, cells_of, column_of, inner_after, inner_of_member, inputs_of, memory_of, numbers_of}
+use Rattle.bl_ctext_semantics.specs.Cells.{outputs_in, outputs_of, ports_of, with_inputs}
 use Rattle.bl_ctext_semantics.specs.Cost.{Costs, cost_of_function, cost_of_stmt, costs_after, tick_bound}
 use Rattle.bl_ctext_semantics.specs.Loops.{turns_in_block}
 use Rattle.bl_ctext_semantics.specs.Course.{Outcome, result_at}
-use Rattle.bl_ctext_semantics.specs.Meaning.{
-  ArgumentValue,
-  CStmtMeaning,
-  CallResult,
-  Meaning,
-  Scope,
-  applied,
-  block_of,
-  function_c,
-  meanings_after,
-  pointers_of,
-  with_params,
-}
+use Rattle.bl_ctext_semantics.specs.Meaning.{ArgumentValue, CStmtMeaning, CallResult, Meaning, Scope, applied, block_of, function_c, meanings_after}
+use Rattle.bl_ctext_semantics.specs.Meaning.{pointers_of, with_params}
 use Rattle.bl_ctext_semantics.specs.Memory.{Memory, cleared, input_object, output_object, state_object, without_frame}
 use Rattle.bl_ctext_semantics.specs.Parts.{Parts}
-use Rattle.bl_ctext_semantics.specs.Sizes.{
-  Sizes,
-  cells_needed,
-  chains_after,
-  deepest_chain,
-  own_cells,
-  size_of_param,
-  size_of_struct,
-  size_of_type,
-  sizes,
-  sizes_after,
-}
+use Rattle.bl_ctext_semantics.specs.Sizes.{Sizes, cells_needed, chains_after, deepest_chain, own_cells, size_of_param, size_of_struct, size_of_type, sizes}
+use Rattle.bl_ctext_semantics.specs.Sizes.{sizes_after}
 use Rattle.bl_ctext_semantics.specs.Tables.{Table, found, no_entries, table_of, with_entry, entry_or}
-use Rattle.bl_ctext_semantics.specs.Trace.{
-  TickOfFile,
-  c_trace,
-  c_trace_from,
-  call_from_outside,
-  cells_if,
-  object,
-  reply_of,
-  start_c,
-  start_cells,
-  started,
-  tick_c,
-  trace_after,
-  traced,
-}
+use Rattle.bl_ctext_semantics.specs.Trace.{TickOfFile, c_trace, c_trace_from, call_from_outside, cells_if, object, reply_of, start_c, start_cells, started}
+use Rattle.bl_ctext_semantics.specs.Trace.{tick_c, trace_after, traced}
 use Rattle.bl_cparse_syntax_laws.specs.Placeless.{placeless_func, placeless_stmt, placeless_struct}
 use Rattle.bl_ctext_semantics_laws_places.proofs.Bodies.{bare_turn, calls_same, costs_same, runs_same, turns_bare}
 use Rattle.bl_ctext_semantics_laws_places.proofs.Faults.{placeless}

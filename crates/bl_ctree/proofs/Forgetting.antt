@@ -1,27 +1,7 @@
 -- What stood in the last tick doesn't tell in the next one.
 use Rattle.std.proofs.Common.{◌≡◌, Bool, true, refl, ap}
-use Rattle.bl_ctree.specs.Control.{
-  Control,
-  Branches,
-  Nil,
-  Wait,
-  Test,
-  Idle,
-  Do,
-  Turn,
-  Seq,
-  Par,
-  Guard,
-  Run,
-  no_branch,
-  branch,
-  Check,
-  seq,
-  woken,
-  all_woken,
-  forget,
-  all_forgotten,
-}
+use Rattle.bl_ctree.specs.Control.{Control, Branches, Nil, Wait, Test, Idle, Do, Turn, Seq, Par, Guard, Run, no_branch, branch, Check, seq, woken, all_woken}
+use Rattle.bl_ctree.specs.Control.{forget, all_forgotten}
 use Rattle.bl_ctree.specs.Laws.{WakingForgets}
 
 same_branch : (weak : Bool) (c c' : Control) (others others' : Branches) → c ≡ c' → others ≡ others' → branch weak c others ≡ branch weak c' others'

@@ -1,117 +1,26 @@
 -- Steps and waking lead from what may be left of items to what may be left of them.
 use Rattle.std.proofs.Common.{◌≡◌, ℕ, suc, Bool, true, false, List, [], ◌∷◌, ◌++◌, refl, subst, ℤ, Option, Some, None}
 use Rattle.std.specs.Prelude.{option_map, unwrap_or}
+use Rattle.bl_tree.proofs.Basics.{from_false}
 use Rattle.bl_tree.specs.declared.tree.Arm.{out-Arm}
 use Rattle.bl_tree.specs.declared.tree.Branch.{Branch, out-Branch}
 use Rattle.bl_tree.specs.declared.tree.Stmt.{Stmt}
 use Rattle.bl_tree.specs.declared.tree.Unit.{Unit as UnitDef}
 use Rattle.bl_ctree.specs.Actions.{Action}
-use Rattle.bl_ctree.specs.Control.{
-  Control,
-  Branches,
-  Nil,
-  Wait,
-  Test,
-  Idle,
-  Do,
-  Turn,
-  Seq,
-  Par,
-  Guard,
-  Run,
-  Check,
-  Body,
-  do_all,
-  followed,
-  seq,
-  branches_begun,
-  woken,
-  all_woken,
-  is_nil,
-}
+use Rattle.bl_ctree.specs.Control.{Control, Branches, Nil, Wait, Test, Idle, Do, Turn, Seq, Par, Guard, Run, Check, Body, do_all, followed, seq, branches_begun}
+use Rattle.bl_ctree.specs.Control.{woken, all_woken, is_nil}
 use Rattle.bl_ctree.specs.Instances.{Setting, unit_at}
-use Rattle.bl_ctree.specs.Laws.{
-  BlocksFit,
-  ItemsBeginResidual,
-  ReachedInsideIsResidual,
-  ReachedIsResidual,
-  SeqIsResidual,
-  StepsKeepResidual,
-  WakingKeepsResidual,
-  WokenTreeIsResidual,
-}
-use Rattle.bl_ctree.specs.Residual.{
-  Residual,
-  ResidualEach,
-  ResidualOf,
-  ResidualTree,
-  SplitsAt,
-  TestsFit,
-  a_begin,
-  an_again,
-  ended,
-  has_begun,
-  here,
-  no_branch_left,
-  no_item,
-  not_begun,
-  nothing,
-  of_again,
-  of_arm,
-  of_else,
-  of_further,
-  of_guard,
-  of_last,
-  of_one,
-  of_par,
-  of_repeat,
-  of_run,
-  of_until,
-  of_while,
-  one_branch_left,
-  paused,
-  tested,
-  there,
-  to_begin,
-  to_turn,
-}
+use Rattle.bl_ctree.specs.Laws.{BlocksFit, ItemsBeginResidual, ReachedInsideIsResidual, ReachedIsResidual, SeqIsResidual, StepsKeepResidual}
+use Rattle.bl_ctree.specs.Laws.{WakingKeepsResidual, WokenTreeIsResidual}
+use Rattle.bl_ctree.specs.Residual.{Residual, ResidualEach, ResidualOf, ResidualTree, SplitsAt, TestsFit, a_begin, an_again, ended, has_begun, here}
+use Rattle.bl_ctree.specs.Residual.{no_branch_left, no_item, not_begun, nothing, of_again, of_arm, of_else, of_further, of_guard, of_last, of_one, of_par}
+use Rattle.bl_ctree.specs.Residual.{of_repeat, of_run, of_until, of_while, one_branch_left, paused, tested, there, to_begin, to_turn}
 use Rattle.bl_ctree.specs.Means.{entry_items}
 use Rattle.bl_ctree.specs.Positions.{Item, Again, Begin, Located, Position, block_items, body_items, items_from}
 use Rattle.bl_ctree.specs.Reaches.{Reaches, after_tick, at_first}
-use Rattle.bl_ctree.specs.Steps.{
-  Moves,
-  OneMoves,
-  acts,
-  takes_arm,
-  passes_arm,
-  takes_else,
-  pauses,
-  runs,
-  repeats,
-  repeats_until,
-  leaves,
-  turns,
-  enters,
-  skips,
-  forks,
-  guards,
-  goes_on,
-  waits,
-  lets,
-  aborts,
-  resets,
-  guard_ends,
-  copies,
-  run_ends,
-  joins,
-  in_seq,
-  in_par,
-  in_guard,
-  in_run,
-  first,
-  later,
-  turn_items,
-}
+use Rattle.bl_ctree.specs.Steps.{Moves, OneMoves, acts, takes_arm, passes_arm, takes_else, pauses, runs, repeats, repeats_until, leaves, turns, enters, skips}
+use Rattle.bl_ctree.specs.Steps.{forks, guards, goes_on, waits, lets, aborts, resets, guard_ends, copies, run_ends, joins, in_seq, in_par, in_guard, in_run}
+use Rattle.bl_ctree.specs.Steps.{first, later, turn_items}
 use Rattle.bl_ctree.specs.Store.{Store}
 use Rattle.bl_ctree.specs.Ticks.{End, Rests, Steps, none, traps, step}
 
@@ -194,12 +103,8 @@ seq_is_left w stood i item rest items c stands fit of = seq_left c rest stands f
 
 -- ---- steps
 
--- what begins has not stood
-new : {A : Type 0} → false ≡ true → A
-new e = absurd cc
-
 -- and is not to be checked
-unchecked : {A : Type 0} → Body ≡ Check → A
+pub unchecked : {A : Type 0} → Body ≡ Check → A
 unchecked e = absurd cc
 
 mutual
@@ -216,13 +121,13 @@ mutual
   keeps_of to_begin (passes_arm e) = of_further e to_begin
   keeps_of to_begin (takes_else {s = s} {other = other} e) = of_else e (block_left s (suc s.passed) other)
   keeps_of to_begin (pauses e) = paused e
-  keeps_of to_begin (runs {unit = unit} e at is) = of_run e at is new unchecked (unit_left unit.body)
+  keeps_of to_begin (runs {unit = unit} e at is) = of_run e at is from_false unchecked (unit_left unit.body)
   keeps_of to_begin (repeats {s = s} {body} e) = of_repeat e (turn_left s body (Begin s) (a_begin no_item))
   keeps_of to_begin (repeats_until {s = s} {body} e) = of_until e (turn_left s body (Again s) (an_again e no_item))
   keeps_of to_begin (enters {s = s} {body = body} e) = of_while e (turn_left s body (Begin s) (a_begin no_item))
   keeps_of to_begin (skips e) = ended
-  keeps_of to_begin (forks {s = s} {branches} e) = of_par e new (each_left s 0 branches)
-  keeps_of to_begin (guards {s = s} {body = body} e) = of_guard e new unchecked (block_left s 0 body)
+  keeps_of to_begin (forks {s = s} {branches} e) = of_par e from_false (each_left s 0 branches)
+  keeps_of to_begin (guards {s = s} {body = body} e) = of_guard e from_false unchecked (block_left s 0 body)
   keeps_of (to_turn e) (leaves is) = ended
   keeps_of (to_turn e) (turns is) = of_again e to_begin
   keeps_of ended move = elim move [ ]

@@ -2,7 +2,7 @@ mod Bools
 pub mod Elements
 mod Forgetting
 pub mod ItemLemmas
-mod Leaving
+pub mod Leaving
 pub mod Listing
 mod Ordering
 pub mod Proper

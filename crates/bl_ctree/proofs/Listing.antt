@@ -1,30 +1,8 @@
 -- The listed points of a tree are the steps of the relation.
-use Rattle.std.proofs.Common.{
-  ◌≡◌,
-  ℕ,
-  Bool,
-  true,
-  false,
-  not,
-  ◌&&◌,
-  List,
-  [],
-  ◌∷◌,
-  ◌++◌,
-  map,
-  refl,
-  sym,
-  ap,
-  subst,
-  ◌∙◌,
-  Option,
-  Some,
-  None,
-  ◌⊎◌,
-  inl,
-  inr,
-}
+use Rattle.std.proofs.Common.{◌≡◌, ℕ, Bool, true, false, not, ◌&&◌, List, [], ◌∷◌, ◌++◌, map, refl, sym, ap, subst, ◌∙◌, Option, Some, None, ◌⊎◌, inl, inr}
 use Rattle.std.specs.Prelude.{if◌then◌else◌, option_map, option_and_then, unwrap_or}
+use Rattle.std.proofs.lemmas.Bool.{not-true}
+use Rattle.bl_tree.proofs.Basics.{not_of_false}
 use Rattle.bl_tree.specs.declared.tree.Arm.{Arm}
 use Rattle.bl_tree.specs.declared.tree.Branch.{Branch}
 use Rattle.bl_tree.specs.declared.tree.Guard.TheVariants.{Abort, Reset}
@@ -33,96 +11,18 @@ use Rattle.bl_tree.specs.declared.tree.StmtKind.{StmtKind}
 use Rattle.bl_tree.specs.declared.tree.StmtKind.TheOpen.{StmtKind-F}
 use Rattle.bl_tree.specs.declared.tree.Unit.{Unit as UnitDef}
 use Rattle.bl_ctree.specs.Actions.{Action, Effect, Silent, Acts, Asks, Copies, Gives, Performed, action, effect_on, done, perform, values_there}
-use Rattle.bl_ctree.specs.Control.{
-  Control,
-  Branches,
-  Nil,
-  Wait,
-  Test,
-  Idle,
-  Do,
-  Turn,
-  Seq,
-  Par,
-  Guard,
-  Run,
-  no_branch,
-  branch,
-  Check,
-  Body,
-  are_settled,
-  are_done,
-  is_nil,
-  seq,
-}
+use Rattle.bl_ctree.specs.Control.{Control, Branches, Nil, Wait, Test, Idle, Do, Turn, Seq, Par, Guard, Run, no_branch, branch, Check, Body, are_settled}
+use Rattle.bl_ctree.specs.Control.{are_done, is_nil, seq}
 use Rattle.bl_ctree.specs.Instances.{Setting, callee_of, unit_at}
 use Rattle.bl_ctree.specs.Laws.{PointsAct, PointsMove, MovesAreListed, StepsAreListed, StillIsUnlisted, Listed, can_answer}
 use Rattle.bl_ctree.specs.Pending.{meets, any_meets}
-use Rattle.bl_ctree.specs.Points.{
-  IsMember,
-  here,
-  there,
-  Point,
-  points,
-  branch_points,
-  within,
-  in_first,
-  in_later,
-  guard_points,
-  run_points,
-  joining,
-  free_of,
-  sure,
-  asking,
-  giving,
-  begins,
-  tests,
-  turns_on,
-  checks,
-  copying,
-  or_nothing,
-  run_begins,
-}
+use Rattle.bl_ctree.specs.Points.{IsMember, here, there, Point, points, branch_points, within, in_first, in_later, guard_points, run_points, joining, free_of}
+use Rattle.bl_ctree.specs.Points.{sure, asking, giving, begins, tests, turns_on, checks, copying, or_nothing, run_begins}
 use Rattle.bl_ctree.specs.Positions.{Located, kind_of, place_of, is_act}
 use Rattle.bl_ctree.specs.Store.{Store, with_frame, with_inputs}
-use Rattle.bl_ctree.specs.Steps.{
-  Acting,
-  leads,
-  fails,
-  IsStill,
-  Moves,
-  OneMoves,
-  acts,
-  takes_arm,
-  passes_arm,
-  takes_else,
-  pauses,
-  runs,
-  repeats,
-  repeats_until,
-  leaves,
-  turns,
-  enters,
-  skips,
-  forks,
-  guards,
-  goes_on,
-  waits,
-  lets,
-  aborts,
-  resets,
-  guard_ends,
-  copies,
-  run_ends,
-  joins,
-  in_seq,
-  in_par,
-  in_guard,
-  in_run,
-  first,
-  later,
-}
-use Rattle.bl_ctree.proofs.Bools.{not-true, not-false}
+use Rattle.bl_ctree.specs.Steps.{Acting, leads, fails, IsStill, Moves, OneMoves, acts, takes_arm, passes_arm, takes_else, pauses, runs, repeats, repeats_until}
+use Rattle.bl_ctree.specs.Steps.{leaves, turns, enters, skips, forks, guards, goes_on, waits, lets, aborts, resets, guard_ends, copies, run_ends, joins, in_seq}
+use Rattle.bl_ctree.specs.Steps.{in_par, in_guard, in_run, first, later}
 use Rattle.bl_ctree.proofs.Elements.{among-map, of-map, among-left, among-right, of-append, of-filter, among-filter}
 
 -- ---- what is listed may act
@@ -363,7 +263,7 @@ listed_free meets l free =
     record {
       point = l.point;
       among = among-filter (λ point. not (meets point.action)) l.among
-          (not-false (meets l.point.action) (ap meets l.acts ∙ free));
+          (not_of_false (meets l.point.action) (ap meets l.acts ∙ free));
       acts = l.acts;
       leads = l.leads;
     }
@@ -478,7 +378,7 @@ moves_are_listed w i c d a c' move = complete move
 
 -- ---- whole steps
 
-can_true : (effect : Effect) → can_answer effect true ≡ true
+pub can_true : (effect : Effect) → can_answer effect true ≡ true
 can_true Silent = refl
 can_true (Acts s) = refl
 can_true (Asks e) = refl

@@ -1,32 +1,6 @@
 -- Points are listed in order, and each stands for a node.
-use Rattle.std.proofs.Common.{
-  ◌≡◌,
-  ℕ,
-  suc,
-  Bool,
-  true,
-  false,
-  not,
-  ◌&&◌,
-  ◌||◌,
-  List,
-  [],
-  ◌∷◌,
-  ◌++◌,
-  map,
-  filter,
-  cond,
-  refl,
-  sym,
-  subst,
-  Option,
-  Some,
-  None,
-  ◌⊎◌,
-  inl,
-  inr,
-  arith,
-}
+use Rattle.std.proofs.Common.{◌≡◌, ℕ, suc, Bool, true, false, not, ◌&&◌, ◌||◌, List, [], ◌∷◌, ◌++◌, map, filter, cond, refl, sym, subst, Option, Some, None}
+use Rattle.std.proofs.Common.{◌⊎◌, inl, inr, arith}
 use Rattle.std.proofs.lemmas.Bool.Decides.{nat_tests}
 use Rattle.std.specs.Prelude.{if◌then◌else◌, nat_eq, nat_lt, option_map, option_and_then}
 use Rattle.bl_tree.specs.declared.tree.Arm.{Arm}
@@ -37,55 +11,13 @@ use Rattle.bl_tree.specs.declared.tree.StmtKind.TheOpen.{StmtKind-F}
 use Rattle.bl_tree.specs.declared.tree.Unit.{Unit as UnitDef}
 use Rattle.bl_tree.specs.Static.{fields_precede}
 use Rattle.bl_ctree.specs.Actions.{Effect, Silent, Copies}
-use Rattle.bl_ctree.specs.Control.{
-  Control,
-  Branches,
-  Nil,
-  Wait,
-  Test,
-  Idle,
-  Do,
-  Turn,
-  Seq,
-  Par,
-  Guard,
-  Run,
-  no_branch,
-  branch,
-  Check,
-  Body,
-  are_settled,
-  are_done,
-  is_nil,
-  seq,
-}
+use Rattle.bl_ctree.specs.Control.{Control, Branches, Nil, Wait, Test, Idle, Do, Turn, Seq, Par, Guard, Run, no_branch, branch, Check, Body, are_settled}
+use Rattle.bl_ctree.specs.Control.{are_done, is_nil, seq}
 use Rattle.bl_ctree.specs.Instances.{Setting, callee_of, unit_at}
 use Rattle.bl_ctree.specs.Laws.{InOrder, no_point, comes_first, PointsInOrder}
 use Rattle.bl_ctree.specs.Pending.{meets, any_meets}
-use Rattle.bl_ctree.specs.Points.{
-  IsMember,
-  here,
-  there,
-  Point,
-  points,
-  branch_points,
-  within,
-  in_first,
-  in_later,
-  one_on,
-  joining,
-  free_of,
-  sure,
-  asking,
-  giving,
-  begins,
-  tests,
-  turns_on,
-  checks,
-  copying,
-  or_nothing,
-  run_begins,
-}
+use Rattle.bl_ctree.specs.Points.{IsMember, here, there, Point, points, branch_points, within, in_first, in_later, one_on, joining, free_of, sure, asking}
+use Rattle.bl_ctree.specs.Points.{giving, begins, tests, turns_on, checks, copying, or_nothing, run_begins}
 use Rattle.bl_ctree.specs.Positions.{Located, kind_of, place_of}
 use Rattle.bl_ctree.proofs.Elements.{of-map, of-append, of-filter}
 

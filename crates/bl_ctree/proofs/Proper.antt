@@ -9,32 +9,9 @@ use Rattle.bl_tree.specs.declared.tree.StmtKind.TheOpen.{StmtKind-F}
 use Rattle.bl_tree.specs.declared.tree.Unit.{Unit as UnitDef}
 use Rattle.bl_ctree.specs.Control.{Control, Branches, Nil, Wait, Test, Do, Turn, Seq, Par, Guard, Run, no_branch, branch, Phase, is_nil}
 use Rattle.bl_ctree.specs.Instances.{Setting, callee_of, unit_at}
-use Rattle.bl_ctree.specs.Residual.{
-  Residual,
-  ResidualEach,
-  ResidualOf,
-  TestsFit,
-  ended,
-  no_branch_left,
-  nothing,
-  of_again,
-  of_arm,
-  of_else,
-  of_further,
-  of_guard,
-  of_last,
-  of_one,
-  of_par,
-  of_repeat,
-  of_run,
-  of_until,
-  of_while,
-  one_branch_left,
-  paused,
-  tested,
-  to_begin,
-  to_turn,
-}
+use Rattle.bl_ctree.specs.Residual.{Residual, ResidualEach, ResidualOf, TestsFit, ended, no_branch_left, nothing, of_again, of_arm, of_else, of_further}
+use Rattle.bl_ctree.specs.Residual.{of_guard, of_last, of_one, of_par, of_repeat, of_run, of_until, of_while, one_branch_left, paused, tested, to_begin}
+use Rattle.bl_ctree.specs.Residual.{to_turn}
 use Rattle.bl_ctree.specs.Positions.{Item, Located, kind_of, none_left, place_of}
 
 mutual

@@ -16,7 +16,7 @@ branches_woken (b ∷ all) = ap (branch b.weak (woken b.tree)) (branches_woken a
 pub woken_branches : (made all : List Seen) → made ≡ map wake_seen all → branches_of made ≡ all_woken (branches_of all)
 woken_branches made all e = ap branches_of e ∙ branches_woken all
 
-control_of_par : (s : At) (stood : Bool) (all : List BranchNode) → control_of (ParNode s stood all) ≡ Par (located s) stood (branches_of (map seen_of all))
+pub control_of_par : (s : At) (stood : Bool) (all : List BranchNode) → control_of (ParNode s stood all) ≡ Par (located s) stood (branches_of (map seen_of all))
 control_of_par s stood all = search (rules, the_lemmas)
 
 -- a `cobegin` as it is woken

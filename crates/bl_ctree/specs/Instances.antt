@@ -1,29 +1,6 @@
 -- The activity instances of a program. The entry is instance 0, and each `run` statement of an instance is a further one.
-use Rattle.std.specs.Prelude.{
-  ℕ,
-  zero,
-  suc,
-  ◌+◌,
-  Bool,
-  not,
-  ◌&&◌,
-  nat_eq,
-  List,
-  [],
-  ◌∷◌,
-  ◌++◌,
-  map,
-  length,
-  slice_get,
-  Option,
-  Some,
-  None,
-  option_map,
-  option_and_then,
-  filter,
-  position,
-  unwrap_or,
-}
+use Rattle.std.specs.Prelude.{ℕ, zero, suc, ◌+◌, Bool, not, ◌&&◌, nat_eq, List, [], ◌∷◌, ◌++◌, map, length, slice_get, Option, Some, None, option_map}
+use Rattle.std.specs.Prelude.{option_and_then, filter, position, unwrap_or}
 use Rattle.bl_tree.specs.declared.place.Place.{Place}
 use Rattle.bl_tree.specs.declared.tree.Arm.{Arm, fold-Arm}
 use Rattle.bl_tree.specs.declared.tree.Branch.{Branch, fold-Branch}

@@ -14,27 +14,8 @@ use Rattle.bl_tree.specs.Instant.{instant}
 use Rattle.bl_tree.specs.Static.{static_of}
 use Rattle.bl_effects.specs.Surface.{surface_of}
 use Rattle.bl_ctree.specs.Actions.{Action, reads_of}
-use Rattle.bl_ctree.specs.Control.{
-  Control,
-  Branches,
-  Nil,
-  Wait,
-  Test,
-  Idle,
-  Do,
-  Turn,
-  Seq,
-  Par,
-  Guard,
-  Run,
-  no_branch,
-  branch,
-  Phase,
-  Check,
-  Body,
-  has_strong,
-  is_settled,
-}
+use Rattle.bl_ctree.specs.Control.{Control, Branches, Nil, Wait, Test, Idle, Do, Turn, Seq, Par, Guard, Run, no_branch, branch, Phase, Check, Body, has_strong}
+use Rattle.bl_ctree.specs.Control.{is_settled}
 use Rattle.bl_ctree.specs.Instances.{Setting}
 use Rattle.bl_ctree.specs.Positions.{Item, Begin, Again, Located, kind_of}
 use Rattle.bl_ctree.specs.Store.{Location, homes, overlap}
@@ -98,7 +79,7 @@ abbrev mutual
 abbrev pub lie_over : Setting → ℕ → List Static → Location → Bool
 lie_over w i paths at = list_any (overlap at) (homes w i paths)
 
--- what a statement that begins can write before it pauses: the set `surface_writes` of the statement, as a list
+-- what a statement that begins can write before it pauses, as a list
 abbrev pub surface_over : Setting → ℕ → Located → Location → Bool
 surface_over w i s at = lie_over w i (surface_of s.stmt).writes at
 

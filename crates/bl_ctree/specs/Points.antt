@@ -1,24 +1,5 @@
 -- The points of a tree that may act, in source order.
-use Rattle.std.specs.Prelude.{
-  ℕ,
-  suc,
-  Bool,
-  false,
-  not,
-  ◌&&◌,
-  List,
-  [],
-  ◌∷◌,
-  ◌++◌,
-  map,
-  filter,
-  Option,
-  Some,
-  None,
-  option_map,
-  option_and_then,
-  if◌then◌else◌,
-}
+use Rattle.std.specs.Prelude.{ℕ, suc, Bool, false, not, ◌&&◌, List, [], ◌∷◌, ◌++◌, map, filter, Option, Some, None, option_map, option_and_then, if◌then◌else◌}
 use Rattle.bl_tree.specs.declared.tree.Arm.{Arm, out-Arm}
 use Rattle.bl_tree.specs.declared.tree.Branch.{Branch}
 use Rattle.bl_tree.specs.declared.tree.Guard.{Guard as GuardKind}
@@ -28,31 +9,8 @@ use Rattle.bl_tree.specs.declared.tree.StmtKind.{StmtKind}
 use Rattle.bl_tree.specs.declared.tree.StmtKind.TheOpen.{StmtKind-F}
 use Rattle.bl_tree.specs.declared.tree.Unit.{Unit as UnitDef}
 use Rattle.bl_ctree.specs.Actions.{Action, Effect, action, Silent, Acts, Asks, Copies, Gives}
-use Rattle.bl_ctree.specs.Control.{
-  Control,
-  Branches,
-  Nil,
-  Wait,
-  Test,
-  Idle,
-  Do,
-  Turn,
-  Seq,
-  Par,
-  Guard,
-  Run,
-  no_branch,
-  branch,
-  Phase,
-  Check,
-  Body,
-  do_all,
-  seq,
-  branches_begun,
-  are_settled,
-  are_done,
-  is_nil,
-}
+use Rattle.bl_ctree.specs.Control.{Control, Branches, Nil, Wait, Test, Idle, Do, Turn, Seq, Par, Guard, Run, no_branch, branch, Phase, Check, Body, do_all, seq}
+use Rattle.bl_ctree.specs.Control.{branches_begun, are_settled, are_done, is_nil}
 use Rattle.bl_ctree.specs.Instances.{Setting, callee_of, unit_at}
 use Rattle.bl_ctree.specs.Pending.{meets, any_meets}
 use Rattle.bl_ctree.specs.Positions.{Begin, Again, Located, kind_of, place_of, block_items, body_items, further}

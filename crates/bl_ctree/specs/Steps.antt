@@ -10,27 +10,8 @@ use Rattle.bl_tree.specs.declared.tree.Stmt.{Stmt}
 use Rattle.bl_tree.specs.declared.tree.StmtKind.TheOpen.{StmtKind-F}
 use Rattle.bl_tree.specs.declared.tree.Unit.{Unit as UnitDef}
 use Rattle.bl_ctree.specs.Actions.{Action, action, Silent, Acts, Asks, Copies, Gives, perform}
-use Rattle.bl_ctree.specs.Control.{
-  Control,
-  Branches,
-  Nil,
-  Wait,
-  Test,
-  Do,
-  Turn,
-  Seq,
-  Par,
-  Guard,
-  Run,
-  branch,
-  Check,
-  Body,
-  do_all,
-  seq,
-  branches_begun,
-  are_settled,
-  are_done,
-}
+use Rattle.bl_ctree.specs.Control.{Control, Branches, Nil, Wait, Test, Do, Turn, Seq, Par, Guard, Run, branch, Check, Body, do_all, seq, branches_begun}
+use Rattle.bl_ctree.specs.Control.{are_settled, are_done}
 use Rattle.bl_ctree.specs.Instances.{Setting, callee_of, unit_at}
 use Rattle.bl_ctree.specs.Pending.{meets, any_meets}
 use Rattle.bl_ctree.specs.Positions.{Item, Begin, Again, Located, kind_of, place_of, block_items, body_items, further, is_act}

@@ -1,34 +1,6 @@
 -- The store: the values of every instance's variables, now and at the end of the previous tick.
-use Rattle.std.specs.Prelude.{
-  ℕ,
-  zero,
-  suc,
-  ◌+◌,
-  ◌-◌,
-  ℤ,
-  pos,
-  Bool,
-  ◌&&◌,
-  nat_eq,
-  nat_lt,
-  nat_le,
-  List,
-  [],
-  ◌∷◌,
-  ◌++◌,
-  map,
-  take,
-  drop,
-  length,
-  slice_get,
-  slice_set,
-  Option,
-  None,
-  option_map,
-  option_and_then,
-  unwrap_or,
-  if◌then◌else◌,
-}
+use Rattle.std.specs.Prelude.{ℕ, zero, suc, ◌+◌, ◌-◌, ℤ, pos, Bool, ◌&&◌, nat_eq, nat_lt, nat_le, List, [], ◌∷◌, ◌++◌, map, take, drop, length, slice_get}
+use Rattle.std.specs.Prelude.{slice_set, Option, None, option_map, option_and_then, unwrap_or, if◌then◌else◌}
 use Rattle.std.specs.List.{range_with_len}
 use Rattle.bl_tree.specs.declared.scalar.Scalar.{Scalar as ScalarType}
 use Rattle.bl_tree.specs.declared.tree.StructDef.{StructDef}

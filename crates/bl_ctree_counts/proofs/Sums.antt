@@ -1,35 +1,12 @@
 -- Sums of the first of some counts.
-use Rattle.std.proofs.Common.{
-  ◌≡◌,
-  ℕ,
-  zero,
-  suc,
-  ◌+◌,
-  ◌*◌,
-  ◌<◌,
-  ◌≤◌,
-  List,
-  [],
-  ◌∷◌,
-  length,
-  take,
-  get_or,
-  Option,
-  Some,
-  ◌≢◌,
-  refl,
-  sym,
-  ap,
-  ◌∙◌,
-  subst,
-  arith,
-}
+use Rattle.std.proofs.Common.{◌≡◌, ℕ, zero, suc, ◌+◌, ◌*◌, ◌<◌, ◌≤◌, List, [], ◌∷◌, length, take, get_or, Option, Some, ◌≢◌, refl, sym, ap, ◌∙◌, subst, arith}
 use Rattle.std.proofs.lemmas.List.Sums.{sum_by-cons}
 use Rattle.std.specs.Prelude.{IfSome, slice_get, slice_set}
 use Rattle.std.specs.List.{sum}
+use Rattle.bl_tree.proofs.Basics.{within_at}
 use Rattle.bl_ctree_counts.specs.Counts.{HasSums}
 
-sum_cons : (x : ℕ) (xs : List ℕ) → sum (x ∷ xs) ≡ x + sum xs
+pub sum_cons : (x : ℕ) (xs : List ℕ) → sum (x ∷ xs) ≡ x + sum xs
 sum_cons x xs = sum_by-cons (λ n. n) x xs
 
 -- a change of a later count
@@ -54,7 +31,7 @@ many_set [] k x = refl
 many_set (y ∷ xs) zero x = refl
 many_set (y ∷ xs) (suc k) x = ap suc (many_set xs k x)
 
-set_here : {A : Type 0} (xs : List A) (k : ℕ) (x y : A) → slice_get (slice_set xs k x) k ≡ Some y → x ≡ y
+pub set_here : {A : Type 0} (xs : List A) (k : ℕ) (x y : A) → slice_get (slice_set xs k x) k ≡ Some y → x ≡ y
 set_here [] k x y is = absurd cc
 set_here (z ∷ xs) zero x y is = cc
 set_here (z ∷ xs) (suc k) x y is = set_here xs k x y is
@@ -65,11 +42,6 @@ set_apart (z ∷ xs) zero zero x apart = absurd (apart refl)
 set_apart (z ∷ xs) zero (suc k) x apart = refl
 set_apart (z ∷ xs) (suc j) zero x apart = refl
 set_apart (z ∷ xs) (suc j) (suc k) x apart = set_apart xs j k x (λ same. apart (ap suc same))
-
-set_within : {A : Type 0} (xs : List A) (k : ℕ) (x : A) → slice_get xs k ≡ Some x → k < length xs
-set_within [] k x is = absurd cc
-set_within (z ∷ xs) zero x is = omega arith
-set_within (z ∷ xs) (suc k) x is = omega (arith, set_within xs k x is)
 
 data Order (j b : ℕ) : Type 0 where
   less : j < b → Order j b
@@ -123,5 +95,5 @@ module _ (blocks : List (Option ℕ)) (counts : List ℕ) (has : HasSums blocks 
   pub sums_past : length blocks ≤ b → HasSums blocks new
   sums_past past = record {
     whole = omega (arith, has.whole, many_set counts k n);
-    sums = λ j total is. sums_less j total (omega (arith, set_within blocks j (Some total) is)) is;
+    sums = λ j total is. sums_less j total (omega (arith, within_at blocks j (Some total) is)) is;
   }

@@ -1,40 +1,10 @@
 -- The flags of points that are asked again.
-use Rattle.std.proofs.Common.{
-  ◌≡◌,
-  ◌⊎◌,
-  ⊎_elim,
-  inl,
-  inr,
-  ℕ,
-  zero,
-  suc,
-  ◌+◌,
-  ◌<◌,
-  ◌≤◌,
-  Bool,
-  true,
-  false,
-  cond,
-  ◌||◌,
-  List,
-  [],
-  ◌∷◌,
-  ◌++◌,
-  map,
-  take,
-  drop,
-  length,
-  refl,
-  sym,
-  ap,
-  ◌∙◌,
-  arith,
-  nat_eq,
-  eq-eqb,
-}
+use Rattle.std.proofs.Common.{◌≡◌, ◌⊎◌, ⊎_elim, inl, inr, ℕ, zero, suc, ◌+◌, ◌<◌, ◌≤◌, Bool, true, false, cond, ◌||◌, List, [], ◌∷◌, ◌++◌, map, take, drop}
+use Rattle.std.proofs.Common.{length, refl, sym, ap, ◌∙◌, arith, nat_eq, eq-eqb}
 use Rattle.std.specs.Prelude.{Option, Some, None, option_map, slice_get, slice_set}
 use Rattle.std.specs.List.{list_any}
 use Rattle.std.proofs.lemmas.List.Folds.{list_any-append}
+use Rattle.bl_tree.proofs.Basics.{drop_at, drop_past, same_number, same_some}
 use Rattle.bl_ctree.specs.Store.{Location, overlap}
 use Rattle.bl_ctree_store.specs.declared.home.Home.{Home}
 use Rattle.bl_ctree_store.specs.Seen.{location_of}
@@ -45,8 +15,8 @@ use Rattle.bl_ctree_enabled.specs.inner.Asked.{DecidedBy, asked_flags, asked_fro
 use Rattle.bl_ctree_enabled.specs.inner.Tables.{AllNoted, Key, near, reads_in}
 use Rattle.bl_ctree_enabled.proofs.ChangeLemmas.{touches-append, touches_nothing}
 use Rattle.bl_ctree_enabled.proofs.FlagLemmas.{flag_same}
-use Rattle.bl_ctree_enabled.proofs.ListLemmas.{drop_here, list_get, list_past, map_get, mixed_more, mixed_same, set_other, some_same}
-use Rattle.bl_ctree_enabled.proofs.TableLemmas.{nat_same, near_hits, touches_noted}
+use Rattle.bl_ctree_enabled.proofs.ListLemmas.{list_get, list_past, map_get, mixed_more, mixed_same, set_other}
+use Rattle.bl_ctree_enabled.proofs.TableLemmas.{near_hits, touches_noted}
 
 -- ---- the points of one branch
 
@@ -113,10 +83,6 @@ module _ (hs : List (List Location)) (j : ℕ) (changed : List Location) (spots 
       let old = at_flag m within in
       before ∙ mixed_same now was m old.0 (flags_past hs j changed spots was m past ∙ old.1) old.1
 
-cond_same : {A : Type 0} (b : Bool) (x : A) → cond b x x ≡ x
-cond_same true x = refl
-cond_same false x = refl
-
 cond_both : {A : Type 0} (b c : Bool) (x y : A) → cond c x (cond b x y) ≡ cond (b || c) x y
 cond_both true true x y = refl
 cond_both true false x y = refl
@@ -181,12 +147,6 @@ from_both hs j first second [] free = refl
 from_both hs j first second (m ∷ ms) [] = refl
 from_both hs j first second (m ∷ ms) (f ∷ free) = λ i. flags_both hs j first second m f i ∷ from_both hs (suc j) first second ms free i
 
-past_all : {A : Type 0} (xs : List A) (k : ℕ) → length xs ≤ k → drop k xs ≡ []
-past_all [] zero past = refl
-past_all [] (suc k) past = refl
-past_all (x ∷ xs) zero past = absurd (omega (arith, past))
-past_all (x ∷ xs) (suc k) past = past_all xs k (omega (arith, past))
-
 -- one more home is asked of
 pub asked_more : (hs : List (List Location)) (ms : List (List Spot)) (changed : List Home) (k next : ℕ) (x : Home) (old new : List (List Bool)) →
     next ≡ suc k → slice_get changed k ≡ Some x → new ≡ asked_from hs 0 (location_of x ∷ []) ms old
@@ -195,12 +155,12 @@ asked_more hs ms changed k next x old new is_next here is_new =
     ap (λ n. asked_from hs 0 (map location_of (drop n changed)) ms new) is_next
     ∙ ap (asked_from hs 0 (map location_of (drop (suc k) changed)) ms) is_new
     ∙ from_both hs 0 (location_of x ∷ []) (map location_of (drop (suc k) changed)) ms old
-    ∙ ap (λ xs. asked_from hs 0 (map location_of xs) ms old) (sym (drop_here changed k x here))
+    ∙ ap (λ xs. asked_from hs 0 (map location_of xs) ms old) (sym (drop_at changed k x here))
 
 pub asked_end : (hs : List (List Location)) (ms : List (List Spot)) (changed : List Home) (k : ℕ) (free : List (List Bool)) → length changed ≤ k →
     free ≡ asked_from hs 0 (map location_of (drop k changed)) ms free
 asked_end hs ms changed k free past =
-    sym (ap (λ xs. asked_from hs 0 (map location_of xs) ms free) (past_all changed k past) ∙ from_rest hs 0 ms free)
+    sym (ap (λ xs. asked_from hs 0 (map location_of xs) ms free) (drop_past changed k past) ∙ from_rest hs 0 ms free)
 
 none_asked : (hs : List (List Location)) (j : ℕ) (changed : List Location) (found : Option (List Bool)) →
     found ≡ option_map (asked_flags hs j changed []) found
@@ -225,7 +185,7 @@ pub all_same : {A : Type 0} (xs ys : List A) → ((k : ℕ) → slice_get xs k �
 all_same [] [] same = refl
 all_same [] (y ∷ ys) same = let e : None ≡ Some y = same 0 in absurd cc
 all_same (x ∷ xs) [] same = let e : Some x ≡ None = same 0 in absurd cc
-all_same (x ∷ xs) (y ∷ ys) same = λ i. some_same x y (same 0) i ∷ all_same xs ys (λ k. same (suc k)) i
+all_same (x ∷ xs) (y ∷ ys) same = λ i. same_some x y (same 0) i ∷ all_same xs ys (λ k. same (suc k)) i
 
 -- the branch is one of those that are left
 abbrev pub is_left : ℕ → List Key → Bool
@@ -297,7 +257,7 @@ module _ (hs : List (List Location)) (changed : Location) (ms : List (List Spot)
           ⊎ ((slice_get new k ≡ slice_get was k) × (is_left k keys ≡ true))
       by true same found =
           let now : slice_get new k ≡ option_map (ask k) (slice_get free k) =
-          ap (λ free. slice_get free k) (is ∙ ap (λ n. slice_set free n (ask n (list_at free n))) (nat_same key.2 k same))
+          ap (λ free. slice_get free k) (is ∙ ap (λ n. slice_set free n (ask n (list_at free n))) (same_number key.2 k same))
           ∙ set_asked (ask k) free k (ask k (list_at free k)) (λ y here. ap (ask k) (list_same free k y here)) in
           inl (now ∙ ⊎_elim (λ e. ap (option_map (ask k)) (e ∙ get_asked k) ∙ asked_twice k (slice_get was k) ∙ sym (get_asked k))
           (λ e. ap (option_map (ask k)) e.0 ∙ sym (get_asked k)) found)
@@ -351,7 +311,7 @@ module _ (hs : List (List Location)) (k : ℕ) (before now gone come : List Loca
       by true false is_g is_c = refl
       by false false is_g is_c =
           flag_same hs k j before spot
-          (λ h is. decided spot.reads (is_g ∙ sym is_c) ∙ ap (λ h. touches h spot.reads) (some_same now h (sym here ∙ is)))
+          (λ h is. decided spot.reads (is_g ∙ sym is_c) ∙ ap (λ h. touches h spot.reads) (same_some now h (sym here ∙ is)))
 
   flags_settled : (j : ℕ) (spots : List Spot) → asked_flags hs j come spots (asked_flags hs j gone spots (flags_of old j spots)) ≡ flags_of hs j spots
   flags_settled j [] = refl

@@ -1,35 +1,10 @@
 -- The points of branches, one branch after another.
-use Rattle.std.proofs.Common.{
-  ◌≡◌,
-  ℕ,
-  zero,
-  suc,
-  ◌+◌,
-  Bool,
-  true,
-  false,
-  not,
-  ◌&&◌,
-  ◌||◌,
-  cond,
-  List,
-  [],
-  ◌∷◌,
-  ◌++◌,
-  map,
-  filter,
-  take,
-  drop,
-  refl,
-  sym,
-  ap,
-  ◌∙◌,
-  arith,
-  append_assoc,
-}
+use Rattle.std.proofs.Common.{◌≡◌, ℕ, zero, suc, ◌+◌, Bool, true, false, not, ◌&&◌, ◌||◌, cond, List, [], ◌∷◌, ◌++◌, map, filter, take, drop, refl, sym, ap}
+use Rattle.std.proofs.Common.{◌∙◌, arith, append_assoc}
 use Rattle.std.specs.List.{list_any}
 use Rattle.std.proofs.lemmas.List.Elements.{filter-append}
 use Rattle.std.proofs.lemmas.List.Folds.{list_any-append}
+use Rattle.bl_tree.proofs.Basics.{map_append, or_false}
 use Rattle.bl_ctree.specs.Actions.{Action, reads_of}
 use Rattle.bl_ctree.specs.Control.{Control, Branches, branch}
 use Rattle.bl_ctree.specs.Instances.{Setting}
@@ -71,20 +46,12 @@ branches_over w i at (b ∷ bs) =
 pub taken_others : (w : Setting) (i : ℕ) (bs : List Seen) (a : Action) → taken (map (homes_seen w i) bs) (reads_of w a) ≡ any_meets w i (branches_of bs) a
 taken_others w i bs a = any_same (meets_one (map (homes_seen w i) bs)) (any_writes w i (branches_of bs)) (reads_of w a) (λ at. branches_over w i at bs)
 
-or_false : (a : Bool) → (a || false) ≡ a
-or_false true = refl
-or_false false = refl
-
 pub taken_one : (w : Setting) (i : ℕ) (b : Seen) (a : Action) → taken (homes_seen w i b ∷ []) (reads_of w a) ≡ meets w i b.tree a
 taken_one w i b a =
     taken_others w i (b ∷ []) a ∙ any_same (any_writes w i (branches_of (b ∷ []))) (may_write w i b.tree) (reads_of w a)
     (λ at. or_false (may_write w i b.tree at))
 
 -- ---- lists
-
-pub map-append : {A B : Type 0} (f : A → B) (xs ys : List A) → map f (xs ++ ys) ≡ map f xs ++ map f ys
-map-append f [] ys = refl
-map-append f (x ∷ xs) ys = ap (λ rest. f x ∷ rest) (map-append f xs ys)
 
 module _ {A B C : Type 0} (g : A → B) (shown : B → C) (h : A → C) (t : A → Bool) (F G : C → Bool)
     (same : (p : A) → shown (g p) ≡ h p) (free : (p : A) → G (h p) ≡ (F (h p) && t p)) where
@@ -164,7 +131,7 @@ module _ (w : Setting) (i : ℕ) (path : List ℕ) where
   one_branch front k b bs =
       let firsts = map (in_first (λ c. branch b.weak c (branches_of bs))) (free_of (any_meets w i (branches_of bs)) (points w i b.tree)) in
       let laters = map (in_later (branch b.weak b.tree)) (free_of (meets w i b.tree) (behind bs)) in
-      ap (filter (is_free front)) (map-append (spot_from w path k) firsts laters)
+      ap (filter (is_free front)) (map_append (spot_from w path k) firsts laters)
       ∙ filter-append (is_free front) (map (spot_from w path k) firsts) (map (spot_from w path k) laters)
       ∙ ap (λ xs. xs ++ filter (is_free front) (map (spot_from w path k) laters))
       (kept_free (in_first (λ c. branch b.weak c (branches_of bs))) (spot_from w path k) (spot_below w (path ++ k ∷ []))

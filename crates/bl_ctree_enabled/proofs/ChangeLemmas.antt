@@ -4,11 +4,11 @@ use Rattle.std.proofs.Common.{refl, sym, ap, ◌∙◌, arith}
 use Rattle.std.specs.Prelude.{Some, slice_get}
 use Rattle.std.specs.List.{list_any}
 use Rattle.std.proofs.lemmas.List.Folds.{list_any-append}
+use Rattle.bl_tree.proofs.Basics.{drop_at}
 use Rattle.bl_ctree.specs.Store.{Location, overlap}
 use Rattle.bl_ctree_enabled.specs.Listing.{touches}
 use Rattle.bl_ctree_enabled.specs.inner.Asked.{DecidedBy}
 use Rattle.bl_ctree_enabled.proofs.BranchLemmas.{any_or, any_same, take_more}
-use Rattle.bl_ctree_enabled.proofs.ListLemmas.{drop_here}
 
 pub touches-append : (xs ys reads : List Location) → touches (xs ++ ys) reads ≡ (touches xs reads || touches ys reads)
 touches-append xs ys reads =
@@ -44,16 +44,16 @@ before_back m n before now same reads rest =
 pub front_more : (k next : ℕ) (before now : List Location) (x : Location) → next ≡ suc k → slice_get before k ≡ Some x → slice_get now k ≡ Some x
     → take k before ≡ take k now → take next before ≡ take next now
 front_more k next before now x is_next here there same =
-    ap (λ n. take n before) is_next ∙ take_more k before x (drop (suc k) before) (drop_here before k x here)
+    ap (λ n. take n before) is_next ∙ take_more k before x (drop (suc k) before) (drop_at before k x here)
     ∙ ap (λ xs. xs ++ x ∷ []) same
-    ∙ sym (ap (λ n. take n now) is_next ∙ take_more k now x (drop (suc k) now) (drop_here now k x there))
+    ∙ sym (ap (λ n. take n now) is_next ∙ take_more k now x (drop (suc k) now) (drop_at now k x there))
 
 pub back_more : (m n p q : ℕ) (before now : List Location) (x : Location) → p ≡ suc m → q ≡ suc n → slice_get before m ≡ Some x
     → slice_get now n ≡ Some x → drop p before ≡ drop q now → drop m before ≡ drop n now
 back_more m n p q before now x is_p is_q here there same =
-    drop_here before m x here
+    drop_at before m x here
     ∙ ap (λ rest. x ∷ rest) (ap (λ n. drop n before) (sym is_p) ∙ same ∙ ap (λ n. drop n now) is_q)
-    ∙ sym (drop_here now n x there)
+    ∙ sym (drop_at now n x there)
 
 take_all : {A : Type 0} (n : ℕ) (xs : List A) → length xs ≤ n → take n xs ≡ xs
 take_all zero [] past = refl

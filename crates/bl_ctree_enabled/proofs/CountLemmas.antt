@@ -3,17 +3,15 @@ use Rattle.std.proofs.Common.{◌≡◌, ℕ, zero, suc, ◌+◌, ◌<◌, ◌�
 use Rattle.std.specs.Prelude.{Result, Ok, Err, IfOk, slice_get}
 use Rattle.std.specs.List.{sum}
 use Rattle.std.proofs.lemmas.List.{length-append}
-use Rattle.std.proofs.lemmas.List.Sums.{sum_by-cons}
+use Rattle.bl_tree.proofs.Basics.{get_front}
 use Rattle.bl_tree.specs.declared.memory.NoMemory.{NoMemory}
 use Rattle.bl_ctree_counts.specs.declared.InCount.{InCount}
 use Rattle.bl_ctree_counts.specs.Counts.{Falls}
 use Rattle.bl_ctree.specs.Store.{Location}
 use Rattle.bl_ctree_enabled.specs.Listing.{EnabledView, IsRight, all_flagged, enabled, flagged, flags_from, flags_of, list_at, trues}
 use Rattle.bl_ctree_enabled.specs.Spots.{Spot, is_free_of}
-use Rattle.bl_ctree_enabled.proofs.ListLemmas.{flagged_count, get_behind, get_front}
-
-sum_cons : (x : ℕ) (xs : List ℕ) → sum (x ∷ xs) ≡ x + sum xs
-sum_cons x xs = sum_by-cons (λ n. n) x xs
+use Rattle.bl_ctree_enabled.proofs.ListLemmas.{flagged_count, get_behind}
+use Rattle.bl_ctree_counts.proofs.Sums.{sum_cons}
 
 nothing_past : {A : Type 0} (xs : List A) (n : ℕ) → length xs ≤ n → None ≡ slice_get xs n
 nothing_past [] n past = refl

@@ -1,6 +1,6 @@
 -- Which points read nothing that other branches may still write, when one branch has other homes.
 use Rattle.std.proofs.Common.{◌≡◌, ℕ, zero, suc, ◌+◌, not, ◌&&◌, ◌||◌, List, [], ◌∷◌}
-use Rattle.std.proofs.Common.{take, drop, refl, sym, ap, ◌∙◌, arith}
+use Rattle.std.proofs.Common.{take, drop, refl, sym, ap, ◌∙◌}
 use Rattle.std.specs.Prelude.{Some, slice_get, slice_set}
 use Rattle.std.specs.List.{list_any}
 use Rattle.bl_ctree.specs.Store.{Location, overlap}
@@ -54,22 +54,3 @@ pub flag_same : (all : List (List Location)) (k j : ℕ) (before : List Location
     → is_free_of (slice_set all k before) j spot ≡ is_free_of all j spot
 flag_same all k j before spot alike =
     λ i. not (front_same all k j before spot.reads alike i) && not (behind_same all k (j + 1) before spot.reads alike i)
-
--- ---- the branch's own homes don't count
-
-own_front : (all : List (List Location)) (k : ℕ) (x : List Location) → take k (slice_set all k x) ≡ take k all
-own_front [] k x = refl
-own_front (y ∷ all) zero x = refl
-own_front (y ∷ all) (suc k) x = ap (λ rest. y ∷ rest) (own_front all k x)
-
-own_behind : (all : List (List Location)) (k : ℕ) (x : List Location) → drop (suc k) (slice_set all k x) ≡ drop (suc k) all
-own_behind [] k x = refl
-own_behind (y ∷ all) zero x = refl
-own_behind (y ∷ all) (suc k) x = own_behind all k x
-
-pub own_same : (all : List (List Location)) (k : ℕ) (x : List Location) (spot : Spot) → is_free_of (slice_set all k x) k spot ≡ is_free_of all k spot
-own_same all k x spot =
-    let next : k + 1 ≡ suc k = omega arith in
-    ap (λ n. not (taken (take k (slice_set all k x)) spot.reads) && not (taken (drop n (slice_set all k x)) spot.reads)) next
-    ∙ (λ i. not (taken (own_front all k x i) spot.reads) && not (taken (own_behind all k x i) spot.reads))
-    ∙ ap (λ n. not (taken (take k all) spot.reads) && not (taken (drop n all) spot.reads)) (sym next)

@@ -1,54 +1,17 @@
 -- Lists of which one element is set, and those elements that are flagged.
-use Rattle.std.proofs.Common.{
-  ◌≡◌,
-  ◌≢◌,
-  ℕ,
-  zero,
-  suc,
-  ◌+◌,
-  ◌<◌,
-  ◌≤◌,
-  Bool,
-  true,
-  false,
-  cond,
-  List,
-  [],
-  ◌∷◌,
-  ◌++◌,
-  map,
-  filter,
-  take,
-  drop,
-  length,
-  get_or,
-  refl,
-  sym,
-  ap,
-  ◌∙◌,
-  arith,
-}
+use Rattle.std.proofs.Common.{◌≡◌, ◌≢◌, ℕ, zero, suc, ◌+◌, ◌<◌, ◌≤◌, Bool, true, false, cond, List, [], ◌∷◌, ◌++◌, map, filter, take, drop, length, get_or}
+use Rattle.std.proofs.Common.{refl, sym, ap, ◌∙◌, arith}
 use Rattle.std.specs.Prelude.{Some, None, option_map, slice_get, slice_set}
 use Rattle.std.proofs.lemmas.Option.{slice_get-get_or}
-use Rattle.bl_ctree_enabled.specs.Listing.{flagged, all_flagged, list_at, trues}
+use Rattle.bl_tree.proofs.Basics.{drop_at, drop_past}
+use Rattle.bl_ctree_enabled.specs.Listing.{flagged, list_at, trues}
 
 -- ---- one element is set
-
-pub set_length : {A : Type 0} (xs : List A) (k : ℕ) (x : A) → length (slice_set xs k x) ≡ length xs
-set_length [] k x = refl
-set_length (y ∷ xs) zero x = refl
-set_length (y ∷ xs) (suc k) x = ap suc (set_length xs k x)
 
 pub set_map : {A B : Type 0} (f : A → B) (xs : List A) (k : ℕ) (x : A) → map f (slice_set xs k x) ≡ slice_set (map f xs) k (f x)
 set_map f [] k x = refl
 set_map f (y ∷ xs) zero x = refl
 set_map f (y ∷ xs) (suc k) x = ap (λ rest. f y ∷ rest) (set_map f xs k x)
-
--- what was there is set once more
-pub set_again : {A : Type 0} (xs : List A) (k : ℕ) (x : A) → slice_get xs k ≡ Some x → slice_set xs k x ≡ xs
-set_again [] k x is = absurd cc
-set_again (y ∷ xs) zero x is = let same : y ≡ x = cc in ap (λ z. z ∷ xs) (sym same)
-set_again (y ∷ xs) (suc k) x is = ap (λ rest. y ∷ rest) (set_again xs k x is)
 
 pub set_twice : {A : Type 0} (xs : List A) (k : ℕ) (x y : A) → slice_set (slice_set xs k x) k y ≡ slice_set xs k y
 set_twice [] k x y = refl
@@ -59,11 +22,6 @@ pub map_get : {A B : Type 0} (f : A → B) (xs : List A) (k : ℕ) → slice_get
 map_get f [] k = refl
 map_get f (x ∷ xs) zero = refl
 map_get f (x ∷ xs) (suc k) = map_get f xs k
-
-pub set_get : {A : Type 0} (xs : List A) (k : ℕ) (x y : A) → slice_get (slice_set xs k x) k ≡ Some y → x ≡ y
-set_get [] k x y is = absurd cc
-set_get (z ∷ xs) zero x y is = cc
-set_get (z ∷ xs) (suc k) x y is = set_get xs k x y is
 
 pub set_other : {A : Type 0} (xs : List A) (k j : ℕ) (x : A) → j ≢ k → slice_get (slice_set xs k x) j ≡ slice_get xs j
 set_other [] k j x other = refl
@@ -77,24 +35,10 @@ set_here [] k x within = absurd (omega (arith, within))
 set_here (y ∷ xs) zero x within = refl
 set_here (y ∷ xs) (suc k) x within = set_here xs k x (omega (arith, within))
 
-pub get_within : {A : Type 0} (xs : List A) (k : ℕ) (x : A) → slice_get xs k ≡ Some x → k < length xs
-get_within [] k x is = absurd cc
-get_within (y ∷ xs) zero x is = omega arith
-get_within (y ∷ xs) (suc k) x is = let rest = get_within xs k x is in omega (arith, rest)
-
 pub get_here : {A : Type 0} (xs : List A) (k : ℕ) (x : A) → k < length xs → x ≡ get_or xs k x → slice_get xs k ≡ Some x
 get_here [] k x within is = absurd (omega arith)
 get_here (y ∷ xs) zero x within is = ap Some (sym is)
 get_here (y ∷ xs) (suc k) x within is = get_here xs k x (omega arith) is
-
-pub drop_here : {A : Type 0} (xs : List A) (k : ℕ) (x : A) → slice_get xs k ≡ Some x → drop k xs ≡ x ∷ drop (suc k) xs
-drop_here [] k x is = absurd cc
-drop_here (y ∷ xs) zero x is = let same : y ≡ x = cc in ap (λ z. z ∷ xs) same ∙ ap (λ rest. x ∷ rest) (whole xs)
-  where
-    whole : {A : Type 0} (ys : List A) → ys ≡ drop 0 ys
-    whole [] = refl
-    whole (y ∷ ys) = refl
-drop_here (y ∷ xs) (suc k) x is = drop_here xs k x is
 
 -- the first elements of one list and the others of another, of which one more is taken from the first list
 pub mixed_more : {A : Type 0} (xs ys : List A) (k : ℕ) (x : A) → length ys ≡ length xs → slice_get xs k ≡ Some x
@@ -130,13 +74,6 @@ mixed_many (x ∷ xs) [] k many = absurd (omega (arith, many))
 mixed_many (x ∷ xs) (y ∷ ys) zero many = many
 mixed_many (x ∷ xs) (y ∷ ys) (suc k) many = ap suc (mixed_many xs ys k (omega (arith, many)))
 
--- before the first element and behind the last
-pub mixed_start : {A : Type 0} (xs ys : List A) → take 0 xs ++ drop 0 ys ≡ ys
-mixed_start [] [] = refl
-mixed_start [] (y ∷ ys) = refl
-mixed_start (x ∷ xs) [] = refl
-mixed_start (x ∷ xs) (y ∷ ys) = refl
-
 pub mixed_end : {A : Type 0} (xs ys : List A) (k : ℕ) → length ys ≡ length xs → length xs ≤ k → take k xs ++ drop k ys ≡ xs
 mixed_end [] [] zero many past = refl
 mixed_end [] [] (suc k) many past = refl
@@ -163,11 +100,6 @@ flagged_filter p (x ∷ xs) = by (p x) (flagged_filter p xs)
     by true rest = ap (λ rest. x ∷ rest) rest
     by false rest = rest
 
-pub get_front : {A : Type 0} (xs ys : List A) (n : ℕ) → n < length xs → slice_get (xs ++ ys) n ≡ slice_get xs n
-get_front [] ys n within = absurd (omega arith)
-get_front (x ∷ xs) ys zero within = refl
-get_front (x ∷ xs) ys (suc n) within = get_front xs ys n (omega arith)
-
 pub get_behind : {A : Type 0} (xs ys : List A) (n m : ℕ) → n ≡ length xs + m → slice_get (xs ++ ys) n ≡ slice_get ys m
 get_behind [] ys n m is = let same : n ≡ m = omega (arith, is) in ap (slice_get ys) same
 get_behind (x ∷ xs) ys zero m is = absurd (omega (arith, is))
@@ -178,35 +110,15 @@ pub flagged_here : {A : Type 0} (bs : List Bool) (xs : List A) (k n m : ℕ) (x 
     n ≡ suc m
     → slice_get (flagged (drop k bs) (drop k xs)) n ≡ slice_get (flagged (drop (suc k) bs) (drop (suc k) xs)) m
 flagged_here bs xs k n m x flag here is =
-    (λ i. slice_get (flagged (drop_here bs k true flag i) (drop_here xs k x here i)) (is i))
+    (λ i. slice_get (flagged (drop_at bs k true flag i) (drop_at xs k x here i)) (is i))
 
 pub flagged_first : {A : Type 0} (bs : List Bool) (xs : List A) (k : ℕ) (x : A) → slice_get bs k ≡ Some true → slice_get xs k ≡ Some x
     → slice_get (flagged (drop k bs) (drop k xs)) 0 ≡ Some x
-flagged_first bs xs k x flag here = λ i. slice_get (flagged (drop_here bs k true flag i) (drop_here xs k x here i)) 0
+flagged_first bs xs k x flag here = λ i. slice_get (flagged (drop_at bs k true flag i) (drop_at xs k x here i)) 0
 
 pub flagged_not : {A : Type 0} (bs : List Bool) (xs : List A) (k : ℕ) (x : A) → slice_get bs k ≡ Some false → slice_get xs k ≡ Some x
     → flagged (drop k bs) (drop k xs) ≡ flagged (drop (suc k) bs) (drop (suc k) xs)
-flagged_not bs xs k x flag here = λ i. flagged (drop_here bs k false flag i) (drop_here xs k x here i)
-
-pub all_flagged_here : {A : Type 0} (fs : List (List Bool)) (ms : List (List A)) (k : ℕ) (f : List Bool) (m : List A) →
-    slice_get fs k ≡ Some f → slice_get ms k ≡ Some m
-    → all_flagged (drop k fs) (drop k ms) ≡ flagged f m ++ all_flagged (drop (suc k) fs) (drop (suc k) ms)
-all_flagged_here fs ms k f m flag here = λ i. all_flagged (drop_here fs k f flag i) (drop_here ms k m here i)
-
--- ---- trues among flags
-
-pub trues_more : (flags : List Bool) (k : ℕ) (b : Bool) → slice_get flags k ≡ Some b → trues (drop k flags) ≡ trues (b ∷ drop (suc k) flags)
-trues_more flags k b is = ap trues (drop_here flags k b is)
-
-pub trues_end : (flags : List Bool) (k : ℕ) → length flags ≤ k → trues (drop k flags) ≡ 0
-trues_end [] zero past = refl
-trues_end [] (suc k) past = refl
-trues_end (b ∷ flags) zero past = absurd (omega arith)
-trues_end (b ∷ flags) (suc k) past = trues_end flags k (omega arith)
-
-pub trues_start : (flags : List Bool) → trues (drop 0 flags) ≡ trues flags
-trues_start [] = refl
-trues_start (b ∷ flags) = refl
+flagged_not bs xs k x flag here = λ i. flagged (drop_at bs k false flag i) (drop_at xs k x here i)
 
 -- ---- one element is read
 
@@ -220,9 +132,6 @@ pub set_read : {A : Type 0} (xs : List A) (k : ℕ) (x d : A) → k < length xs 
 set_read [] k x d within = absurd (omega arith)
 set_read (y ∷ xs) zero x d within = refl
 set_read (y ∷ xs) (suc k) x d within = set_read xs k x d (omega arith)
-
-pub some_same : {A : Type 0} (a b : A) → Some a ≡ Some b → a ≡ b
-some_same a b e = cc
 
 -- ---- the flagged one that is looked for
 
@@ -246,14 +155,8 @@ none_flagged : {A : Type 0} (bs : List Bool) → flagged {A = A} bs [] ≡ []
 none_flagged [] = refl
 none_flagged (b ∷ bs) = refl
 
-past_all : {A : Type 0} (xs : List A) (k : ℕ) → length xs ≤ k → drop k xs ≡ []
-past_all [] zero past = refl
-past_all [] (suc k) past = refl
-past_all (x ∷ xs) zero past = absurd (omega arith)
-past_all (x ∷ xs) (suc k) past = past_all xs k (omega arith)
-
 pub flagged_past : {A : Type 0} (bs : List Bool) (xs : List A) (k : ℕ) → length xs ≤ k → flagged (drop k bs) (drop k xs) ≡ []
-flagged_past bs xs k past = ap (flagged (drop k bs)) (past_all xs k past) ∙ none_flagged (drop k bs)
+flagged_past bs xs k past = ap (flagged (drop k bs)) (drop_past xs k past) ∙ none_flagged (drop k bs)
 
 -- ---- the list with a number
 

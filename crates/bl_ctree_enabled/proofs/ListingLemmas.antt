@@ -1,53 +1,11 @@
 -- A listing shows the points of the branches, and goes on showing them when one branch changes.
-use Rattle.std.proofs.Common.{
-  ◌≡◌,
-  ◌≢◌,
-  ℕ,
-  zero,
-  suc,
-  ◌+◌,
-  Bool,
-  true,
-  false,
-  ◌&&◌,
-  List,
-  [],
-  ◌∷◌,
-  ◌++◌,
-  map,
-  filter,
-  take,
-  drop,
-  length,
-  refl,
-  sym,
-  ap,
-  ◌∙◌,
-  subst,
-  arith,
-  if◌then◌else◌,
-}
-use Rattle.std.specs.Prelude.{Some, slice_get, slice_set}
+use Rattle.std.proofs.Common.{◌≡◌, ◌≢◌, ℕ, zero, suc, ◌+◌, Bool, true, false, ◌&&◌, List, [], ◌∷◌, ◌++◌, map, filter, take, drop, length, refl, sym, ap, ◌∙◌}
+use Rattle.std.proofs.Common.{subst, arith, if◌then◌else◌}
+use Rattle.std.specs.Prelude.{slice_set}
+use Rattle.bl_tree.proofs.Basics.{and_first, and_second, map_length}
 use Rattle.bl_ctree.specs.Actions.{Silent}
-use Rattle.bl_ctree.specs.Control.{
-  Control,
-  Branches,
-  Nil,
-  Wait,
-  Test,
-  Idle,
-  Do,
-  Turn,
-  Seq,
-  Par,
-  Guard,
-  Run,
-  no_branch,
-  branch,
-  are_done,
-  are_settled,
-  is_settled,
-}
+use Rattle.bl_ctree.specs.Control.{Control, Branches, Nil, Wait, Test, Idle, Do, Turn, Seq, Par, Guard, Run, no_branch, branch, are_done, are_settled}
+use Rattle.bl_ctree.specs.Control.{is_settled}
 use Rattle.bl_ctree.specs.Instances.{Setting}
 use Rattle.bl_ctree.specs.Laws.{SettledIsStill}
 use Rattle.bl_ctree.specs.Nodes.{Seen, branches_of}
@@ -56,28 +14,10 @@ use Rattle.bl_ctree.specs.Points.{Point, branch_points, free_of, in_first, in_la
 use Rattle.bl_ctree.specs.Positions.{Located}
 use Rattle.bl_ctree.specs.Store.{Location, homes}
 use Rattle.bl_ctree_pending.specs.Writes.{write_paths}
-use Rattle.bl_ctree_enabled.specs.Listing.{
-  EnabledView,
-  Fork,
-  IsRight,
-  Lists,
-  all_flagged,
-  each_branch,
-  enabled,
-  flags_from,
-  flags_of,
-  fork_of,
-  kept_of,
-  listing_in,
-  spots_from,
-  spots_in,
-  top_of,
-  trues,
-  with_branch,
-}
+use Rattle.bl_ctree_enabled.specs.Listing.{EnabledView, Fork, IsRight, Lists, all_flagged, each_branch, enabled, flags_from, flags_of, fork_of, kept_of}
+use Rattle.bl_ctree_enabled.specs.Listing.{listing_in, spots_from, spots_in, top_of, trues, with_branch}
 use Rattle.bl_ctree_enabled.specs.Spots.{Spot, homes_seen, is_free_of, moved, spot_below}
 use Rattle.bl_ctree_enabled.proofs.BranchLemmas.{branches_start, branches_step, is_free, spot_from}
-use Rattle.bl_ctree_enabled.proofs.FlagLemmas.{own_same}
 use Rattle.bl_ctree_enabled.proofs.ListLemmas.{flagged_filter}
 use Rattle.bl_ctree_enabled.proofs.NodeLemmas.{each_of, of_each}
 
@@ -87,14 +27,6 @@ pub flags_many : (hs : List (List Location)) (k : ℕ) (ms : List (List Spot)) �
 flags_many hs k [] = refl
 flags_many hs k (m ∷ ms) = ap suc (flags_many hs (suc k) ms)
 
-pub flags_get : (hs : List (List Location)) (j k : ℕ) (ms : List (List Spot)) (m : List Spot) → slice_get ms k ≡ Some m
-    → slice_get (flags_from hs j ms) k ≡ Some (flags_of hs (j + k) m)
-flags_get hs j k [] m is = absurd cc
-flags_get hs j zero (x ∷ ms) m is =
-    let same : x ≡ m = cc in let here : j ≡ j + 0 = omega arith in λ i. Some (flags_of hs (here i) (same i))
-flags_get hs j (suc k) (x ∷ ms) m is =
-    let next : suc j + k ≡ j + suc k = omega arith in flags_get hs (suc j) k ms m is ∙ ap (λ n. Some (flags_of hs n m)) next
-
 pub flags_set : (hs : List (List Location)) (j k : ℕ) (ms : List (List Spot)) (m : List Spot)
     → slice_set (flags_from hs j ms) k (flags_of hs (j + k) m) ≡ flags_from hs j (slice_set ms k m)
 flags_set hs j k [] m = refl
@@ -103,11 +35,6 @@ flags_set hs j (suc k) (x ∷ ms) m =
     let next : j + suc k ≡ suc j + k = omega arith in
     ap (λ n. flags_of hs j x ∷ slice_set (flags_from hs (suc j) ms) k (flags_of hs n m)) next
     ∙ ap (λ rest. flags_of hs j x ∷ rest) (flags_set hs (suc j) k ms m)
-
--- a branch's own homes don't count for its flags
-pub flags_own : (hs : List (List Location)) (k : ℕ) (x : List Location) (m : List Spot) → flags_of (slice_set hs k x) k m ≡ flags_of hs k m
-flags_own hs k x [] = refl
-flags_own hs k x (spot ∷ m) = λ i. own_same hs k x spot i ∷ flags_own hs k x m i
 
 -- ---- the points of the branches
 
@@ -160,26 +87,18 @@ listed_enabled w fork l lists = ap enabled lists ∙ sym (enabled_all w fork.ins
 
 -- ---- a `cobegin` of which a branch has points doesn't end
 
-and-left : (a b : Bool) → (a && b) ≡ true → a ≡ true
-and-left true b is = refl
-and-left false b is = is
-
-and-right : (a b : Bool) → (a && b) ≡ true → b ≡ true
-and-right true b is = is
-and-right false b is = absurd cc
-
 settled_branches : SettledIsStill → (w : Setting) (i : ℕ) (bs : Branches) → are_settled bs ≡ true → branch_points w i bs ≡ []
 settled_branches still w i no_branch e = refl
 settled_branches still w i (branch weak c others) e =
     ap (λ ps. map (in_first (λ c. branch weak c others)) (free_of (any_meets w i others) ps)
     ++ map (in_later (branch weak c)) (free_of (meets w i c) (branch_points w i others)))
-    (still w i c (and-left (is_settled c) (are_settled others) e))
+    (still w i c (and_first (is_settled c) (are_settled others) e))
     ∙ ap (λ ps. map (in_later (branch weak c)) (free_of (meets w i c) ps))
-    (settled_branches still w i others (and-right (is_settled c) (are_settled others) e))
+    (settled_branches still w i others (and_second (is_settled c) (are_settled others) e))
 
 no_joining : SettledIsStill → (w : Setting) (i : ℕ) (s : Located) (bs : Branches) (b : Bool) → (are_settled bs && are_done bs) ≡ b →
     branch_points w i bs ≢ [] → (if b then sure i s Silent Nil else []) ≡ []
-no_joining still w i s bs true is some = absurd (some (settled_branches still w i bs (and-left (are_settled bs) (are_done bs) is)))
+no_joining still w i s bs true is some = absurd (some (settled_branches still w i bs (and_first (are_settled bs) (are_done bs) is)))
 no_joining still w i s bs false is some = refl
 
 map_around : {A B : Type 0} (w : Setting) (around : A → B) (all : List (Point A)) →
@@ -265,10 +184,6 @@ listed_moved w i c k d l new lists is_homes is_spots right =
     ∙ ap (λ n. slice_set (spots_from w i 0 (top_of c)) k (spots_in w i n d)) first ∙ sym (moved_spots w i 0 k (top_of c) d)) j))
     ∙ ap (λ bs. listing_in w (record { instance = i; branches = bs })) (sym (top_moved c k d))
 
-pub map_many : {A B : Type 0} (f : A → B) (xs : List A) → length (map f xs) ≡ length xs
-map_many f [] = refl
-map_many f (x ∷ xs) = ap suc (map_many f xs)
-
 pub spots_many : (w : Setting) (i k : ℕ) (bs : List Seen) → length (spots_from w i k bs) ≡ length bs
 spots_many w i k [] = refl
 spots_many w i k (b ∷ bs) = ap suc (spots_many w i (suc k) bs)
@@ -278,6 +193,6 @@ pub kept_right : (w : Setting) (fork : Fork) (l : EnabledView) → Lists w fork 
     → IsRight l × (length l.homes ≡ length fork.branches) × (length l.spots ≡ length fork.branches)
 kept_right w fork l lists = (
   subst IsRight (sym lists) (record { free = refl; counts = refl }),
-  ap (λ l. length l.homes) lists ∙ map_many (homes_seen w fork.instance) fork.branches,
+  ap (λ l. length l.homes) lists ∙ map_length (homes_seen w fork.instance) fork.branches,
   ap (λ l. length l.spots) lists ∙ spots_many w fork.instance 0 fork.branches,
 )

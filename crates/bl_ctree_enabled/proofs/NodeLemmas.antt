@@ -1,18 +1,15 @@
 -- What nodes and their branches show.
-use Rattle.std.proofs.Common.{◌≡◌, ℕ, zero, suc, Bool, List, [], ◌∷◌, map, Some, refl, ap, ◌∙◌, rules}
+use Rattle.std.proofs.Common.{◌≡◌, ℕ, zero, suc, Bool, List, [], ◌∷◌, map, Some, refl, ap, ◌∙◌}
 use Rattle.std.specs.Prelude.{option_map, slice_get, slice_set}
 use Rattle.bl_ctree.specs.declared.node.At.{At}
 use Rattle.bl_ctree.specs.declared.node.Branch.{Branch as BranchNode, fold_out-Branch, out-Branch}
-use Rattle.bl_ctree.specs.declared.node.Node.{Node, the_lemmas}
+use Rattle.bl_ctree.specs.declared.node.Node.{Node}
 use Rattle.bl_ctree.specs.declared.node.Node.TheViews.{Par as ParNode}
 use Rattle.bl_ctree.specs.Control.{Control, Branches, Par, no_branch, branch}
 use Rattle.bl_ctree.specs.Nodes.{Seen, branch_seen, branches_of, control_of, located, node_control, seen_of}
 use Rattle.bl_ctree_enabled.specs.Listing.{each_branch}
 use Rattle.bl_ctree_enabled.specs.Spots.{moved}
-
-pub control_of_par : (s : At) (stood : Bool) (all : List BranchNode) → control_of (ParNode s stood all)
-    ≡ Par (located s) stood (branches_of (map seen_of all))
-control_of_par s stood all = search (rules, the_lemmas)
+use Rattle.bl_ctree.proofs.WakeLemmas.{control_of_par}
 
 pub par_is : (node : Node) (s : At) (stood : Bool) (all : List BranchNode) → node ≡ ParNode s stood all →
     control_of node ≡ Par (located s) stood (branches_of (map seen_of all))

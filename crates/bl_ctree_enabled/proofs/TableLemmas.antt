@@ -1,45 +1,6 @@
 -- What tables note of branches, and what that tells of those that may write what is read.
-use Rattle.std.proofs.Common.{
-  ◌≡◌,
-  ◌≢◌,
-  ℕ,
-  zero,
-  suc,
-  ◌+◌,
-  ◌<◌,
-  ◌≤◌,
-  Bool,
-  true,
-  false,
-  not,
-  cond,
-  ◌&&◌,
-  ◌||◌,
-  List,
-  [],
-  ◌∷◌,
-  ◌++◌,
-  filter,
-  take,
-  drop,
-  length,
-  refl,
-  sym,
-  ap,
-  ◌∙◌,
-  subst,
-  arith,
-  nat_cmp,
-  nat_eq,
-  is_eq,
-  eq-eqb,
-  eqb→eq,
-  T,
-  Ordering,
-  Less,
-  Equal,
-  Greater,
-}
+use Rattle.std.proofs.Common.{◌≡◌, ◌≢◌, ℕ, zero, suc, ◌+◌, ◌<◌, ◌≤◌, Bool, true, false, not, cond, ◌&&◌, ◌||◌, List, [], ◌∷◌, ◌++◌, filter, take, drop, length}
+use Rattle.std.proofs.Common.{refl, sym, ap, ◌∙◌, arith, nat_cmp, nat_eq, is_eq, eq-eqb, eqb→eq, Ordering, Less, Equal, Greater}
 use Rattle.std.specs.Prelude.{Some, slice_get, slice_set}
 use Rattle.std.specs.BTreeMap.{is_at}
 use Rattle.std.specs.BTreeMap.Range.{range_contains}
@@ -48,6 +9,8 @@ use Rattle.std.specs.List.{list_any}
 use Rattle.std.specs.Ordering.{is_le, ordering_then}
 use Rattle.std.specs.declared.ops.Bound.TheVariants.{Included, Excluded}
 use Rattle.std.proofs.lemmas.Cmp.{by_ranked, nat_cmp_total, ranked, tied_itself}
+use Rattle.std.proofs.lemmas.Bool.{and_parts}
+use Rattle.bl_tree.proofs.Basics.{drop_none, or_true, same_number, same_some, within_at}
 use Rattle.bl_tree.specs.Static.{is_front, overlaps}
 use Rattle.bl_ctree.specs.Store.{Location, overlap}
 use Rattle.bl_ctree_enabled.specs.declared.table.Table.{Table}
@@ -56,7 +19,8 @@ use Rattle.bl_ctree_enabled.specs.Spots.{Spot, is_free_of, meets_one, taken}
 use Rattle.bl_ctree_enabled.specs.inner.Asked.{is_hit, is_taken}
 use Rattle.bl_ctree_enabled.specs.inner.Tables.{AllNoted, Grows, Key, Noted, is_noted, key_cmp, near, reads_in}
 use Rattle.bl_ctree_enabled.proofs.BranchLemmas.{any_or, not_or}
-use Rattle.bl_ctree_enabled.proofs.ListLemmas.{get_within, list_get, set_get, set_other, some_same}
+use Rattle.bl_ctree_enabled.proofs.ListLemmas.{list_get, set_other}
+use Rattle.bl_ctree_counts.proofs.Sums.{set_here}
 
 -- ---- keys
 
@@ -65,28 +29,21 @@ both_equal Less s = refl
 both_equal Equal s = refl
 both_equal Greater s = refl
 
-both_true : (a b : Bool) → (a && b) ≡ true → (a ≡ true) × (b ≡ true)
-both_true true b is = (refl, is)
-both_true false b is = absurd cc
-
-pub nat_same : (m n : ℕ) → nat_eq m n ≡ true → m ≡ n
-nat_same m n is = eqb→eq m n (subst T (sym is) tt)
-
-unequal : (m n : ℕ) → m ≢ n → nat_eq m n ≡ false
+pub unequal : (m n : ℕ) → m ≢ n → nat_eq m n ≡ false
 unequal m n other = by (nat_eq m n) refl
   where
     by : (b : Bool) → nat_eq m n ≡ b → b ≡ false
-    by true is = absurd (other (nat_same m n is))
+    by true is = absurd (other (same_number m n is))
     by false is = refl
 
 tied : (m n : ℕ) → is_eq (nat_cmp m n) ≡ true → m ≡ n
-tied m n is = nat_same m n (sym (unsigned_tied m n) ∙ is)
+tied m n is = same_number m n (sym (unsigned_tied m n) ∙ is)
 
 key_same : (q k : Key) → is_at (key_cmp q) k ≡ true → q ≡ k
 key_same q k is =
     let front = ordering_then (nat_cmp q.0 k.0) (nat_cmp q.1 k.1) in
-    let first = both_true (is_eq front) (is_eq (nat_cmp q.2 k.2)) (sym (both_equal front (nat_cmp q.2 k.2)) ∙ is) in
-    let second = both_true (is_eq (nat_cmp q.0 k.0)) (is_eq (nat_cmp q.1 k.1)) (sym (both_equal (nat_cmp q.0 k.0) (nat_cmp q.1 k.1)) ∙ first.0) in
+    let first = and_parts (is_eq front) (is_eq (nat_cmp q.2 k.2)) (sym (both_equal front (nat_cmp q.2 k.2)) ∙ is) in
+    let second = and_parts (is_eq (nat_cmp q.0 k.0)) (is_eq (nat_cmp q.1 k.1)) (sym (both_equal (nat_cmp q.0 k.0) (nat_cmp q.1 k.1)) ∙ first.0) in
     λ i. (tied q.0 k.0 second.0 i, tied q.1 k.1 second.1 i, tied q.2 k.2 first.1 i)
 
 -- keys of one variable are in the order of their branches
@@ -108,10 +65,6 @@ not_past n j within =
 in_range : (i r j n : ℕ) → j < n → range_contains key_cmp (Included (i, r, 0)) (Excluded (i, r, n)) (i, r, j) ≡ true
 in_range i r j n within =
     λ k. (ap is_le (key_at i r 0 j) ∙ from_zero j) k && not ((ap is_le (key_at i r n j) ∙ not_past n j within) k)
-
-or_true : (a : Bool) → (a || true) ≡ true
-or_true true = refl
-or_true false = refl
 
 kept_in : (f p : Key → Bool) (q : Key) (ks : List Key) → list_any (is_at (key_cmp q)) ks ≡ true → p q ≡ true → f q ≡ true →
     list_any f (filter p ks) ≡ true
@@ -148,9 +101,9 @@ still_noted false new old is was = is ∙ was
 -- homes that overlap are parts of one variable
 pub noted_both : (table : Table) (k : ℕ) (a b : Location) → overlap a b ≡ true → is_noted table k a ≡ is_noted table k b
 noted_both table k a b is =
-    let both = both_true (nat_eq a.instance b.instance) (overlaps a.path b.path) is in
-    let roots = both_true (nat_eq a.path.root b.path.root) (is_front a.path.fields b.path.fields || is_front b.path.fields a.path.fields) both.1 in
-    λ i. list_any (is_at (key_cmp (nat_same a.instance b.instance both.0 i, nat_same a.path.root b.path.root roots.0 i, k))) table.by_variable.keys
+    let both = and_parts (nat_eq a.instance b.instance) (overlaps a.path b.path) is in
+    let roots = and_parts (nat_eq a.path.root b.path.root) (is_front a.path.fields b.path.fields || is_front b.path.fields a.path.fields) both.1 in
+    λ i. list_any (is_at (key_cmp (same_number a.instance b.instance both.0 i, same_number a.path.root b.path.root roots.0 i, k))) table.by_variable.keys
 
 meets_noted : (table : Table) (k : ℕ) (at : Location) (homes : List Location) → Noted table k homes → list_any (overlap at) homes ≡ true →
     is_noted table k at ≡ true
@@ -184,7 +137,7 @@ pub noted_more : (old new : Table) (k : ℕ) (all : List Location) (count next :
 noted_more old new k all count next x is_next here grows noted before m at within is =
     by_ranked (m < count) (m ≡ count) (count < m) (nat_cmp m count) (ranked m count (nat_cmp m count) refl)
     (λ _ less. grows k at (before m at less is))
-    (λ _ same. ap (is_noted new k) (some_same at x (sym is ∙ ap (slice_get all) same ∙ here)) ∙ noted)
+    (λ _ same. ap (is_noted new k) (same_some at x (sym is ∙ ap (slice_get all) same ∙ here)) ∙ noted)
     (λ _ above. absurd (omega (arith, above, within, is_next)))
 
 -- the homes of one more branch
@@ -196,18 +149,18 @@ branch_noted old new all count next x is_next here grows noted before j homes wi
     by_ranked (j < count) (j ≡ count) (count < j) (nat_cmp j count) (ranked j count (nat_cmp j count) refl)
     (λ _ less. grows j at (before j homes less is m at at_m))
     (λ _ same.
-    let homes_same : homes ≡ x = some_same homes x (sym is ∙ ap (slice_get all) same ∙ here) in
+    let homes_same : homes ≡ x = same_some homes x (sym is ∙ ap (slice_get all) same ∙ here) in
     ap (λ n. is_noted new n at) same ∙ noted m at (ap (λ xs. slice_get xs m) (sym homes_same) ∙ at_m))
     (λ _ above. absurd (omega (arith, above, within, is_next)))
 
 -- behind the last
 pub noted_end : (table : Table) (k : ℕ) (all : List Location) (count : ℕ) → length all ≤ count
     → ((m : ℕ) (at : Location) → m < count → slice_get all m ≡ Some at → is_noted table k at ≡ true) → Noted table k all
-noted_end table k all count past noted m at is = noted m at (omega (arith, past, get_within all m at is)) is
+noted_end table k all count past noted m at is = noted m at (omega (arith, past, within_at all m at is)) is
 
 pub branches_end : (table : Table) (all : List (List Location)) (count : ℕ) → length all ≤ count
     → ((j : ℕ) (homes : List Location) → j < count → slice_get all j ≡ Some homes → Noted table j homes) → AllNoted table all
-branches_end table all count past noted j homes is = noted j homes (omega (arith, past, get_within all j homes is)) is
+branches_end table all count past noted j homes is = noted j homes (omega (arith, past, within_at all j homes is)) is
 
 -- what one more point reads
 pub reads_more : (old new : Table) (k : ℕ) (all : List Spot) (count next : ℕ) (x : Spot) → next ≡ suc count → slice_get all count ≡ Some x
@@ -218,7 +171,7 @@ reads_more old new k all count next x is_next here grows noted before m spot wit
     by_ranked (m < count) (m ≡ count) (count < m) (nat_cmp m count) (ranked m count (nat_cmp m count) refl)
     (λ _ less. grows k at (before m spot less is n at at_n))
     (λ _ same.
-    let spot_same : spot ≡ x = some_same spot x (sym is ∙ ap (slice_get all) same ∙ here) in
+    let spot_same : spot ≡ x = same_some spot x (sym is ∙ ap (slice_get all) same ∙ here) in
     noted n at (ap (λ (s : Spot). slice_get s.reads n) (sym spot_same) ∙ at_n))
     (λ _ above. absurd (omega (arith, above, within, is_next)))
 
@@ -231,7 +184,7 @@ each_noted table k (spot ∷ spots) noted m at is =
 pub reads_end : (table : Table) (k : ℕ) (all : List Spot) (count : ℕ) → length all ≤ count
     → ((m : ℕ) (spot : Spot) → m < count → slice_get all m ≡ Some spot → Noted table k spot.reads) → Noted table k (reads_in all)
 reads_end table k all count past noted =
-    each_noted table k all (λ m spot is. noted m spot (omega (arith, past, get_within all m spot is)) is)
+    each_noted table k all (λ m spot is. noted m spot (omega (arith, past, within_at all m spot is)) is)
 
 pub all_grow : (old new : Table) (all : List (List Location)) → Grows old new → AllNoted old all → AllNoted new all
 all_grow old new all grows noted k homes is m at at_m = grows k at (noted k homes is m at at_m)
@@ -243,7 +196,7 @@ all_set table all k x noted new j homes is m at at_m =
     by_ranked (j < k) (j ≡ k) (k < j) (nat_cmp j k) (ranked j k (nat_cmp j k) refl)
     (λ _ below. noted j homes (sym (set_other all k j x (λ same. omega (arith, below, same))) ∙ is) m at at_m)
     (λ _ same.
-    let homes_same : x ≡ homes = set_get all k x homes (ap (slice_get (slice_set all k x)) (sym same) ∙ is) in
+    let homes_same : x ≡ homes = set_here all k x homes (ap (slice_get (slice_set all k x)) (sym same) ∙ is) in
     ap (λ n. is_noted table n at) same ∙ new m at (ap (λ xs. slice_get xs m) homes_same ∙ at_m))
     (λ _ above. noted j homes (sym (set_other all k j x (λ same. omega (arith, above, same))) ∙ is) m at at_m)
 
@@ -258,15 +211,11 @@ none_at : (at : Location) (all : List (List Location)) → ((j : ℕ) → list_a
 none_at at [] none = refl
 none_at at (homes ∷ all) none = λ i. none 0 i || none_at at all (λ j. none (suc j)) i
 
-whole : {A : Type 0} (xs : List A) → drop 0 xs ≡ xs
-whole [] = refl
-whole (x ∷ xs) = refl
-
 found : (all : List (List Location)) (k j : ℕ) (at : Location) → j ≢ k → list_any (overlap at) (list_at all j) ≡ true →
     (meets_one (take k all) at || meets_one (drop (suc k) all) at) ≡ true
 found [] k j at other is = absurd cc
 found (homes ∷ all) zero zero at other is = absurd (other refl)
-found (homes ∷ all) zero (suc j) at other is = ap (λ all. meets_one all at) (whole all) ∙ any_at at all j is
+found (homes ∷ all) zero (suc j) at other is = ap (λ all. meets_one all at) (drop_none all) ∙ any_at at all j is
 found (homes ∷ all) (suc k) zero at other is =
     ap (λ b. (b || meets_one (take k all) at) || meets_one (drop (suc k) all) at) is
 found (homes ∷ all) (suc k) (suc j) at other is =
@@ -282,7 +231,7 @@ none_found : (all : List (List Location)) (k : ℕ) (at : Location) → ((j : �
 none_found [] zero at none = refl
 none_found [] (suc k) at none = refl
 none_found (homes ∷ all) zero at none =
-    ap (λ all. meets_one all at) (whole all) ∙ none_at at all (λ j. none (suc j) (λ same. omega (arith, same)))
+    ap (λ all. meets_one all at) (drop_none all) ∙ none_at at all (λ j. none (suc j) (λ same. omega (arith, same)))
 none_found (homes ∷ all) (suc k) at none =
     let first : list_any (overlap at) homes ≡ false = none 0 (λ same. omega (arith, same)) in
     ap (λ b. (b || meets_one (take k all) at) || meets_one (drop (suc k) all) at) first

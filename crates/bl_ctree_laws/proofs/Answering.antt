@@ -23,60 +23,14 @@ use Rattle.bl_ctree.specs.Pending as pending
 use Rattle.bl_ctree.specs.Positions.{Item, Begin, Again, Located, kind_of, place_of}
 use Rattle.bl_ctree.specs.Store.{Location, home, overlap}
 use Rattle.bl_ctree.proofs.Proper.{Proper, a_nil, a_wait, a_test, a_do, a_turn, a_seq, a_par, a_guard, a_run, BranchesProper, no_more, a_branch, left_proper}
-use Rattle.bl_ctree_laws.specs.Bridge.{
-  again,
-  deed_of,
-  guarded,
-  label_of,
-  parallel,
-  plain_at,
-  plain_item,
-  plain_items,
-  plain_tree,
-  plain_trees,
-  running,
-  testing,
-  waiting,
-}
+use Rattle.bl_ctree_laws.specs.Bridge.{again, deed_of, guarded, label_of, parallel, plain_at, plain_item, plain_items, plain_tree, plain_trees, running}
+use Rattle.bl_ctree_laws.specs.Bridge.{testing, waiting}
 use Rattle.bl_ctree_laws.specs.Laws.{AnswersArePlain}
-use Rattle.bl_ctree_laws.specs.Pending.{
-  anew,
-  any_meets,
-  any_writes,
-  guard_may_end,
-  leads_over,
-  may_end,
-  may_join,
-  may_write,
-  may_write_path,
-  meets,
-  run_may_end,
-  run_writes,
-  soon,
-  soon_in,
-}
+use Rattle.bl_ctree_laws.specs.Pending.{anew, any_meets, any_writes, guard_may_end, leads_over, may_end, may_join, may_write, may_write_path, meets}
+use Rattle.bl_ctree_laws.specs.Pending.{run_may_end, run_writes, soon, soon_in}
 use Rattle.bl_ctree_laws.specs.Steps.{call, fork, pause, watch}
-use Rattle.bl_ctree_laws.specs.Trees.{
-  Call,
-  Fork,
-  Pause,
-  Tree,
-  Trees,
-  Watch,
-  Test,
-  Wait,
-  Guard,
-  Par,
-  Run,
-  are_done,
-  are_settled,
-  has_strong,
-  is_nil,
-  is_settled,
-  some_ended,
-  strong_ended,
-  in_body,
-}
+use Rattle.bl_ctree_laws.specs.Trees.{Call, Fork, Pause, Tree, Trees, Watch, Test, Wait, Guard, Par, Run, are_done, are_settled, has_strong, is_nil, is_settled}
+use Rattle.bl_ctree_laws.specs.Trees.{some_ended, strong_ended, in_body}
 use Rattle.bl_ctree_laws.proofs.Alike.{items_end, statement_ends}
 use Rattle.bl_ctree_laws.proofs.PlainKinds.{of_kind}
 use Rattle.bl_ctree_laws.proofs.Surfaces.{located_soon}

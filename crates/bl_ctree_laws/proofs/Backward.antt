@@ -21,56 +21,12 @@ use Rattle.bl_ctree.proofs.Proper.{Proper, a_nil, a_wait, a_test, a_do, a_turn, 
 use Rattle.bl_ctree_laws.specs.Bridge.{again, deed_of, label_of, plain_items, plain_kind, plain_tree, plain_trees}
 use Rattle.bl_ctree_laws.specs.Laws.{AllArmed, Armed, LocatedStep, PlainStepsAreSteps, has_arm}
 use Rattle.bl_ctree_laws.specs.Pending.{Deed, any_meets, deed, meets}
-use Rattle.bl_ctree_laws.specs.Steps.{
-  Moves,
-  OneMoves,
-  Unmet,
-  acts,
-  takes,
-  passes,
-  pauses,
-  runs,
-  repeats,
-  repeats_until,
-  leaves,
-  turns,
-  enters,
-  skips,
-  forks,
-  guards,
-  goes_on,
-  waits,
-  lets,
-  aborts,
-  resets,
-  guard_ends,
-  copies,
-  run_ends,
-  joins,
-  in_seq,
-  in_par,
-  in_guard,
-  in_run,
-  first,
-  later,
-}
+use Rattle.bl_ctree_laws.specs.Steps.{Moves, OneMoves, Unmet, acts, takes, passes, pauses, runs, repeats, repeats_until, leaves, turns, enters, skips, forks}
+use Rattle.bl_ctree_laws.specs.Steps.{guards, goes_on, waits, lets, aborts, resets, guard_ends, copies, run_ends, joins, in_seq, in_par, in_guard, in_run}
+use Rattle.bl_ctree_laws.specs.Steps.{first, later}
 use Rattle.bl_ctree_laws.specs.Trees.{Pause, Tree, Trees, Nil, Wait, Test, Do, Guard, Par, Run, Seq, beside, is_nil, no_tree, seq}
-use Rattle.bl_ctree_laws.proofs.Answering.{
-  all_settled,
-  call_of,
-  fork_of,
-  pause_of,
-  watch_of,
-  any_meeting,
-  done_is,
-  ended,
-  guard_is,
-  meeting,
-  par_is,
-  run_is,
-  test_is,
-  wait_is,
-}
+use Rattle.bl_ctree_laws.proofs.Answering.{all_settled, call_of, fork_of, pause_of, watch_of, any_meeting, done_is, ended, guard_is, meeting, par_is, run_is}
+use Rattle.bl_ctree_laws.proofs.Answering.{test_is, wait_is}
 use Rattle.bl_ctree_laws.proofs.Forward.{block_begins, further_is, guard_begins, par_begins, run_begins, turn_begins}
 use Rattle.bl_ctree_laws.proofs.PlainKinds.{of_kind}
 use Rattle.bl_ctree_laws.proofs.Waking.{seq_is}

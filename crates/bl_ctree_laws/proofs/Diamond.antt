@@ -1,5 +1,6 @@
 -- Two steps of one tree.
 use Rattle.std.proofs.Common.{◌≡◌, ◌⊎◌, inl, inr, ℕ, Bool, true, false, refl, sym, ap, ◌∙◌, subst, List, Option, Some}
+use Rattle.bl_tree.proofs.Basics.{from_false, from_true_false, not_both, same_some}
 use Rattle.bl_tree.specs.declared.place.Place.{Place}
 use Rattle.bl_tree.specs.declared.tree.Expr.{Expr}
 use Rattle.bl_tree.specs.declared.tree.Guard.TheVariants.{Abort, Reset}
@@ -11,59 +12,17 @@ use Rattle.bl_graph_nodes.specs.Steps.{StepLabel, Inside, Here, run_node}
 use Rattle.bl_ctree.specs.Actions.{Copies}
 use Rattle.bl_ctree.specs.Control.{Body}
 use Rattle.bl_ctree.specs.Instances.{Setting, callee_of, unit_at}
-use Rattle.bl_ctree_laws.specs.Commutes.{
-  ApartIn,
-  OneStep,
-  StepsCommute,
-  Swapped,
-  in_branches,
-  in_first,
-  in_others,
-  in_sequence,
-  left_right,
-  right_left,
-  under_guard,
-  under_run,
-}
+use Rattle.bl_ctree_laws.specs.Commutes.{ApartIn, OneStep, StepsCommute, Swapped, in_branches, in_first, in_others, in_sequence, left_right, right_left}
+use Rattle.bl_ctree_laws.specs.Commutes.{under_guard, under_run}
 use Rattle.bl_ctree_laws.specs.Pending.{Deed, any_meets, any_writes, deed, deed_reads, leads_over, may_write, meets}
 use Rattle.bl_ctree_laws.specs.Shrinks.{Paces}
-use Rattle.bl_ctree_laws.specs.Steps.{
-  Moves,
-  OneMoves,
-  Unmet,
-  acts,
-  takes,
-  passes,
-  pauses,
-  runs,
-  repeats,
-  repeats_until,
-  leaves,
-  turns,
-  enters,
-  skips,
-  forks,
-  guards,
-  goes_on,
-  waits,
-  lets,
-  aborts,
-  resets,
-  guard_ends,
-  copies,
-  run_ends,
-  joins,
-  in_seq,
-  in_par,
-  in_guard,
-  in_run,
-  first,
-  later,
-  call,
-}
-use Rattle.bl_ctree_laws.specs.Trees.{Call, Fork, Tree, Trees, Watch, Nil, Wait, Test, Idle, Do, Seq, Par, Guard, Run, beside, do_block, followed, is_nil, seq}
+use Rattle.bl_ctree_laws.specs.Steps.{Moves, OneMoves, Unmet, acts, takes, passes, pauses, runs, repeats, repeats_until, leaves, turns, enters, skips, forks}
+use Rattle.bl_ctree_laws.specs.Steps.{guards, goes_on, waits, lets, aborts, resets, guard_ends, copies, run_ends, joins, in_seq, in_par, in_guard, in_run}
+use Rattle.bl_ctree_laws.specs.Steps.{first, later, call}
+use Rattle.bl_ctree_laws.specs.Trees.{Call, Fork, Tree, Trees, Watch, Nil, Wait, Test, Idle, Do, Seq, Par, Guard, Run, beside, do_block, is_nil, seq}
 use Rattle.bl_ctree_laws.proofs.Less.{one_unsettled, one_writes_less, writes_less}
-use Rattle.bl_ctree_laws.proofs.Tests.{any_less, both_ways, not_less}
+use Rattle.bl_ctree_laws.proofs.Tests.{any_less, not_less}
+use Rattle.bl_ctree_laws.proofs.Waking.{seq_busy}
 
 -- ---- one point
 
@@ -72,15 +31,6 @@ alike leads = record { deed = refl; label = refl; leads = leads }
 
 same : {d : Bool} {a : Deed} {n : StepLabel} {after : Tree} → OneStep Tree d d a a n n after after
 same = alike (λ e. refl)
-
-yes_no : {A : Type 0} → true ≡ false → A
-yes_no e = absurd cc
-
-no_yes : {A : Type 0} → false ≡ true → A
-no_yes e = absurd cc
-
-some_one : {A : Type 0} (x y : A) → Some x ≡ Some y → x ≡ y
-some_one x y e = cc
 
 kinds_differ : {A : Type 0} → Abort ≡ Reset → A
 kinds_differ e = absurd cc
@@ -94,8 +44,8 @@ one_run : (w : Setting) {i : ℕ} {l : Label} {at : Place} {target : Option Path
     (Run (call l at target a inputs outputs) callee Body false (do_block (plain_body unit.body)))
     (Run (call l at target a inputs outputs) callee' Body false (do_block (plain_body unit'.body)))
 one_run w {i} {l} {at} {target} {a} {inputs} {outputs} callee callee' unit unit' called there called' there' =
-    let one : callee ≡ callee' = some_one callee callee' (sym called ∙ called') in
-    let body : unit ≡ unit' = some_one unit unit' (sym there ∙ ap (unit_at w) one ∙ there') in
+    let one : callee ≡ callee' = same_some callee callee' (sym called ∙ called') in
+    let body : unit ≡ unit' = same_some unit unit' (sym there ∙ ap (unit_at w) one ∙ there') in
     record {
       deed = ap (λ callee. deed i at (Copies callee inputs)) one;
       label = refl;
@@ -116,18 +66,7 @@ busy {c = Par s stood branches} move = refl
 busy {c = Guard s phase stood c} move = refl
 busy {c = Run s callee phase stood c} move = refl
 
-seq_busy : (c : Tree) (rest : Block) → is_nil c ≡ false → seq c rest ≡ followed c rest
-seq_busy Nil rest e = absurd cc
-seq_busy (Wait s) rest e = refl
-seq_busy (Test s) rest e = refl
-seq_busy (Idle body) rest e = refl
-seq_busy (Do s) rest e = refl
-seq_busy (Seq c after) rest e = refl
-seq_busy (Par s stood branches) rest e = refl
-seq_busy (Guard s phase stood c) rest e = refl
-seq_busy (Run s callee phase stood c) rest e = refl
-
-seq_done : (c : Tree) → seq c Done ≡ c
+pub seq_done : (c : Tree) → seq c Done ≡ c
 seq_done Nil = refl
 seq_done (Wait s) = refl
 seq_done (Test s) = refl
@@ -229,8 +168,8 @@ module _ {w : Setting} (paces : Paces w) where
         Two w i c d e a b n m c1 c2
     two acts acts = inl same
     two takes takes = inl same
-    two takes passes = inl (alike yes_no)
-    two passes takes = inl (alike no_yes)
+    two takes passes = inl (alike from_true_false)
+    two passes takes = inl (alike from_false)
     two passes passes = inl same
     two pauses pauses = inl same
     two (runs {callee = callee} {unit} at there) (runs {callee = callee'} {unit = unit'} at' there') =
@@ -238,26 +177,26 @@ module _ {w : Setting} (paces : Paces w) where
     two repeats repeats = inl same
     two repeats_until repeats_until = inl same
     two leaves leaves = inl same
-    two leaves turns = inl (alike yes_no)
-    two turns leaves = inl (alike no_yes)
+    two leaves turns = inl (alike from_true_false)
+    two turns leaves = inl (alike from_false)
     two turns turns = inl same
     two enters enters = inl same
-    two enters skips = inl (alike yes_no)
-    two skips enters = inl (alike no_yes)
+    two enters skips = inl (alike from_true_false)
+    two skips enters = inl (alike from_false)
     two skips skips = inl same
     two forks forks = inl same
     two guards guards = inl same
     two goes_on goes_on = inl same
-    two goes_on waits = inl (alike yes_no)
-    two waits goes_on = inl (alike no_yes)
+    two goes_on waits = inl (alike from_true_false)
+    two waits goes_on = inl (alike from_false)
     two waits waits = inl same
     two lets lets = inl same
-    two lets (aborts is) = inl (alike no_yes)
-    two lets (resets is) = inl (alike no_yes)
-    two (aborts is) lets = inl (alike yes_no)
+    two lets (aborts is) = inl (alike from_false)
+    two lets (resets is) = inl (alike from_false)
+    two (aborts is) lets = inl (alike from_true_false)
     two (aborts is) (aborts is') = inl same
     two (aborts is) (resets is') = inl (kinds_differ (sym is ∙ is'))
-    two (resets is) lets = inl (alike yes_no)
+    two (resets is) lets = inl (alike from_true_false)
     two (resets is) (aborts is') = inl (kinds_differ (sym is' ∙ is))
     two (resets is) (resets is') = inl same
     two guard_ends guard_ends = inl same
@@ -268,8 +207,8 @@ module _ {w : Setting} (paces : Paces w) where
     two run_ends (in_run move) = elim move [ ]
     two (in_run move) run_ends = elim move [ ]
     two (joins still done) (joins still' done') = inl same
-    two (joins still done) (in_par move) = both_ways _ (one_unsettled move) still
-    two (in_par move) (joins still done) = both_ways _ (one_unsettled move) still
+    two (joins still done) (in_par move) = not_both _ (one_unsettled move) still
+    two (in_par move) (joins still done) = not_both _ (one_unsettled move) still
     two (in_seq {rest = rest} move) (in_seq move') = sequence rest (two move move')
     two (in_par {s = s} {stood} move) (in_par move') = parallel s stood (two_in move move')
     two (in_guard {s = s} {stood} move) (in_guard move') = guarded s stood (two move move')

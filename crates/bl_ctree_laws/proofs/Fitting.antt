@@ -1,27 +1,8 @@
 -- Steps and waking keep trees typed.
-use Rattle.std.proofs.Common.{
-  ◌≡◌,
-  ℕ,
-  ℤ,
-  suc,
-  Bool,
-  true,
-  ◌&&◌,
-  List,
-  [],
-  ◌∷◌,
-  ◌++◌,
-  map,
-  Option,
-  Some,
-  None,
-  refl,
-  sym,
-  ap,
-  ◌∙◌,
-  subst,
-}
+use Rattle.std.proofs.Common.{◌≡◌, ℕ, ℤ, suc, Bool, true, ◌&&◌, List, [], ◌∷◌, ◌++◌, map, Option, Some, None, refl, sym, ap, ◌∙◌, subst}
 use Rattle.std.specs.Prelude.{option_map, unwrap_or, ⊤}
+use Rattle.std.proofs.lemmas.Bool.{and_from}
+use Rattle.bl_tree.proofs.Basics.{and_first, and_second}
 use Rattle.bl_tree.specs.declared.place.Place.{Place}
 use Rattle.bl_tree.specs.declared.tree.Arm.{Arm, fold-Arm, fold_out-Arm, out-Arm}
 use Rattle.bl_tree.specs.declared.tree.Branch.{Branch, fold-Branch, fold_out-Branch, out-Branch}
@@ -34,70 +15,19 @@ use Rattle.bl_tree.specs.declared.tree.Unit.{Unit as UnitDef}
 use Rattle.bl_tree.specs.Reduce.{all_of}
 use Rattle.bl_tree.specs.Typing.{TypingContext, arm_fits, branch_fits, fits, is_activity, is_inhabited, is_truth, kind_fits, stmt_fits, type_of}
 use Rattle.bl_ctree.specs.Actions.{Action}
-use Rattle.bl_ctree.specs.Control.{
-  Control,
-  Branches,
-  Nil,
-  Wait,
-  Test,
-  Idle,
-  Do,
-  Turn,
-  Seq,
-  Par,
-  Guard,
-  Run,
-  no_branch,
-  branch,
-  all_woken,
-  branches_begun,
-  do_all,
-  followed,
-  seq,
-  woken,
-}
+use Rattle.bl_ctree.specs.Control.{Control, Branches, Nil, Wait, Test, Idle, Do, Turn, Seq, Par, Guard, Run, no_branch, branch, all_woken, branches_begun}
+use Rattle.bl_ctree.specs.Control.{do_all, followed, seq, woken}
 use Rattle.bl_ctree.specs.Instances.{Setting, unit_at}
 use Rattle.bl_ctree.specs.Means.{entry_items}
 use Rattle.bl_ctree.specs.Positions.{Item, Begin, Again, Located, Position, block_items, body_items, further, items_from, kind_of, stmt_kind}
 use Rattle.bl_ctree.specs.Reaches.{Reaches, after_tick, at_first}
-use Rattle.bl_ctree.specs.Steps.{
-  Moves,
-  OneMoves,
-  acts,
-  takes_arm,
-  passes_arm,
-  takes_else,
-  pauses,
-  runs,
-  repeats,
-  repeats_until,
-  leaves,
-  turns,
-  enters,
-  skips,
-  forks,
-  guards,
-  goes_on,
-  waits,
-  lets,
-  aborts,
-  resets,
-  guard_ends,
-  copies,
-  run_ends,
-  joins,
-  in_seq,
-  in_par,
-  in_guard,
-  in_run,
-  first,
-  later,
-}
+use Rattle.bl_ctree.specs.Steps.{Moves, OneMoves, acts, takes_arm, passes_arm, takes_else, pauses, runs, repeats, repeats_until, leaves, turns, enters, skips}
+use Rattle.bl_ctree.specs.Steps.{forks, guards, goes_on, waits, lets, aborts, resets, guard_ends, copies, run_ends, joins, in_seq, in_par, in_guard, in_run}
+use Rattle.bl_ctree.specs.Steps.{first, later}
 use Rattle.bl_ctree.specs.Store.{Store}
 use Rattle.bl_ctree.specs.Ticks as ticks
 use Rattle.bl_ctree_laws.specs.Fitted.{Fitted, ReachedIsArmed}
 use Rattle.bl_ctree_laws.specs.Laws.{AllArmed, Armed, has_arm}
-use Rattle.bl_ctree_laws.proofs.Tests.{and_both, and_first, and_second}
 
 -- ---- typed statements, by their kinds
 
@@ -162,7 +92,7 @@ further_fits : (s : Located) {arm next : Arm} {arms : List Arm} {other : List St
     Fits (further s next arms other).stmt
 further_fits s {arm} {next} {arms} {other} f e = record {
   site = f.site;
-  is = made_fits f.site _ next arms other (and_both (all_of (map (arm_typed f.site) (next ∷ arms))) (all_of (map (fits f.site) other))
+  is = made_fits f.site _ next arms other (and_from (all_of (map (arm_typed f.site) (next ∷ arms))) (all_of (map (fits f.site) other))
       (and_second (arm_typed f.site arm) (all_of (map (arm_typed f.site) (next ∷ arms)))
       (and_first (all_of (map (arm_typed f.site) (arm ∷ next ∷ arms))) (all_of (map (fits f.site) other)) (arms_of f e))) (else_of f e));
 }

@@ -18,56 +18,13 @@ use Rattle.bl_ctree.specs.Instances.{Setting}
 use Rattle.bl_ctree.specs.Positions.{Item, Begin, Again, Located, block_items, body_items, further, kind_of}
 use Rattle.bl_ctree.specs.Steps as located
 use Rattle.bl_ctree.proofs.Proper.{Proper, a_seq, a_par, a_guard, a_run, BranchesProper, a_branch, left_proper}
-use Rattle.bl_ctree_laws.specs.Bridge.{
-  again,
-  deed_of,
-  guarded,
-  parallel,
-  running,
-  label_of,
-  plain_at,
-  plain_item,
-  plain_items,
-  plain_kind,
-  plain_tree,
-  plain_trees,
-}
+use Rattle.bl_ctree_laws.specs.Bridge.{again, deed_of, guarded, parallel, running, label_of, plain_at, plain_item, plain_items, plain_kind, plain_tree}
+use Rattle.bl_ctree_laws.specs.Bridge.{plain_trees}
 use Rattle.bl_ctree_laws.specs.Laws.{PlainStep, StepsArePlain}
 use Rattle.bl_ctree_laws.specs.Pending.{Deed}
-use Rattle.bl_ctree_laws.specs.Steps.{
-  Moves,
-  OneMoves,
-  Unmet,
-  acts,
-  takes,
-  passes,
-  pauses,
-  runs,
-  repeats,
-  repeats_until,
-  leaves,
-  turns,
-  enters,
-  skips,
-  forks,
-  guards,
-  goes_on,
-  waits,
-  lets,
-  aborts,
-  resets,
-  guard_ends,
-  copies,
-  run_ends,
-  joins,
-  in_seq,
-  in_par,
-  in_guard,
-  in_run,
-  first,
-  later,
-  turn,
-}
+use Rattle.bl_ctree_laws.specs.Steps.{Moves, OneMoves, Unmet, acts, takes, passes, pauses, runs, repeats, repeats_until, leaves, turns, enters, skips, forks}
+use Rattle.bl_ctree_laws.specs.Steps.{guards, goes_on, waits, lets, aborts, resets, guard_ends, copies, run_ends, joins, in_seq, in_par, in_guard, in_run}
+use Rattle.bl_ctree_laws.specs.Steps.{first, later, turn}
 use Rattle.bl_ctree_laws.specs.Trees.{Tree, Do, Guard, Par, Run, trees_begun, beside, do_block}
 use Rattle.bl_ctree_laws.proofs.Answering.{all_settled, call_of, fork_of, watch_of, any_meeting, done_is, guard_is, meeting, par_is, run_is, test_is, wait_is}
 use Rattle.bl_ctree_laws.proofs.PlainKinds.{act_is, before_is, block_is, inner_is, of_kind}

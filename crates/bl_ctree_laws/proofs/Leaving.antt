@@ -1,90 +1,18 @@
 -- Steps and waking lead from what may be left of a body to what may be left of it.
 use Rattle.std.proofs.Common.{◌≡◌, ℕ, Bool, true, false, refl}
+use Rattle.bl_tree.proofs.Basics.{from_false}
 use Rattle.bl_graph_nodes.specs.Plain.{Block, Bodies, Plain, Body as BodyOf, Done, Last, Then, plain_body}
 use Rattle.bl_graph_nodes.specs.Steps.{StepLabel}
-use Rattle.bl_ctree.specs.Control.{Check, Body}
 use Rattle.bl_ctree.specs.Instances.{Setting}
 use Rattle.bl_ctree_laws.specs.ResidualLaws.{BlocksArePlainResidual, StepsKeepPlainResidual, WakingKeepsPlainResidual}
-use Rattle.bl_ctree_laws.specs.Residual.{
-  BlockSplitsAt,
-  PlainResidual,
-  PlainResidualEach,
-  PlainResidualOf,
-  ended,
-  has_begun,
-  here,
-  none_left,
-  not_begun,
-  nothing,
-  of_again,
-  of_else,
-  of_guard,
-  of_last,
-  of_one,
-  of_par,
-  of_repeat,
-  of_run,
-  of_then,
-  of_until,
-  of_while,
-  one_left,
-  paused,
-  tested,
-  there,
-  to_begin,
-}
+use Rattle.bl_ctree_laws.specs.Residual.{BlockSplitsAt, PlainResidual, PlainResidualEach, PlainResidualOf, ended, has_begun, here, none_left, not_begun}
+use Rattle.bl_ctree_laws.specs.Residual.{nothing, of_again, of_else, of_guard, of_last, of_one, of_par, of_repeat, of_run, of_then, of_until, of_while}
+use Rattle.bl_ctree_laws.specs.Residual.{one_left, paused, tested, there, to_begin}
 use Rattle.bl_ctree_laws.specs.Pending.{Deed}
-use Rattle.bl_ctree_laws.specs.Steps.{
-  Moves,
-  OneMoves,
-  acts,
-  takes,
-  passes,
-  pauses,
-  runs,
-  repeats,
-  repeats_until,
-  leaves,
-  turns,
-  enters,
-  skips,
-  forks,
-  guards,
-  goes_on,
-  waits,
-  lets,
-  aborts,
-  resets,
-  guard_ends,
-  copies,
-  run_ends,
-  joins,
-  in_seq,
-  in_par,
-  in_guard,
-  in_run,
-  first,
-  later,
-}
-use Rattle.bl_ctree_laws.specs.Trees.{
-  Tree,
-  Trees,
-  Nil,
-  Wait,
-  Test,
-  Idle,
-  Do,
-  Seq,
-  Par,
-  Guard,
-  Run,
-  all_woken,
-  trees_begun,
-  do_block,
-  is_nil,
-  seq,
-  woken,
-}
+use Rattle.bl_ctree_laws.specs.Steps.{Moves, OneMoves, acts, takes, passes, pauses, runs, repeats, repeats_until, leaves, turns, enters, skips, forks, guards}
+use Rattle.bl_ctree_laws.specs.Steps.{goes_on, waits, lets, aborts, resets, guard_ends, copies, run_ends, joins, in_seq, in_par, in_guard, in_run, first, later}
+use Rattle.bl_ctree_laws.specs.Trees.{Tree, Trees, Nil, Wait, Test, Idle, Do, Seq, Par, Guard, Run, all_woken, trees_begun, do_block, is_nil, seq, woken}
+use Rattle.bl_ctree.proofs.Leaving.{unchecked}
 
 -- ---- what begins
 
@@ -122,14 +50,6 @@ seq_left (Run p callee phase stood c) stands of = of_one stands of refl
 
 -- ---- steps
 
--- what begins has not stood
-new : {A : Type 0} → false ≡ true → A
-new e = absurd cc
-
--- and is not to be checked
-unchecked : {A : Type 0} → Body ≡ Check → A
-unchecked e = absurd cc
-
 module _ {T : Bool → Type 0} {w : Setting} where
   mutual
     pub keeps : {stood : Bool} {i : ℕ} {body : Block} {c : Tree} {d : Bool} {a : Deed} {n : StepLabel} {c' : Tree} →
@@ -144,15 +64,15 @@ module _ {T : Bool → Type 0} {w : Setting} where
     keeps_of to_begin (takes {body = body}) = of_then (block_left body)
     keeps_of to_begin (passes {other = other}) = of_else (block_left other)
     keeps_of to_begin pauses = paused
-    keeps_of to_begin (runs {unit = unit} at is) = of_run at is new unchecked (block_left (plain_body unit.body))
+    keeps_of to_begin (runs {unit = unit} at is) = of_run at is from_false unchecked (block_left (plain_body unit.body))
     keeps_of to_begin repeats = of_repeat (block_left _)
     keeps_of to_begin repeats_until = of_until (block_left _)
     keeps_of to_begin leaves = ended
     keeps_of to_begin turns = of_again to_begin
     keeps_of to_begin enters = of_while (block_left _)
     keeps_of to_begin skips = ended
-    keeps_of to_begin (forks {bodies = bodies}) = of_par new (each_left bodies)
-    keeps_of to_begin (guards {body = body}) = of_guard new unchecked (block_left body)
+    keeps_of to_begin (forks {bodies = bodies}) = of_par from_false (each_left bodies)
+    keeps_of to_begin (guards {body = body}) = of_guard from_false unchecked (block_left body)
     keeps_of ended move = elim move [ ]
     keeps_of paused move = elim move [ ]
     keeps_of tested goes_on = ended
@@ -202,10 +122,6 @@ mutual
   busy_of (of_par around each) e = refl
   busy_of (of_guard around check left) e = refl
   busy_of (of_run at is around check left) e = refl
-
--- all that is around what is woken stood
-all_stood : {stood : Bool} → stood ≡ true → true ≡ true
-all_stood e = refl
 
 mutual
   wakes : {w : Setting} {stood : Bool} {i : ℕ} {body : Block} {c : Tree} → PlainResidual w stood i body c → PlainResidual w true i body (woken c)

@@ -1,6 +1,8 @@
 -- A step never lets its branch end or write more.
 use Rattle.std.proofs.Common.{◌≡◌, ℕ, Bool, true, false, not, ◌&&◌, ◌||◌, cond, map, refl, sym, ap, ◌∙◌, subst}
 use Rattle.std.specs.List.{list_any}
+use Rattle.std.proofs.lemmas.Bool.{and_from, or_left, or_right}
+use Rattle.bl_tree.proofs.Basics.{and_false, and_first, and_second, and_true, first_of_or, from_false, not_both}
 use Rattle.bl_tree.specs.declared.static_path.Static.{Static}
 use Rattle.bl_tree.specs.declared.tree.Guard.TheVariants.{Abort}
 use Rattle.bl_tree.specs.Effects.{target_static}
@@ -11,104 +13,15 @@ use Rattle.bl_graph_nodes.specs.Steps.{StepLabel}
 use Rattle.bl_ctree.specs.Control.{Check, Body}
 use Rattle.bl_ctree.specs.Instances.{Setting}
 use Rattle.bl_ctree.specs.Pending.{is_reset_kind}
-use Rattle.bl_ctree_laws.specs.Pending.{
-  Deed,
-  any_writes_path,
-  anew,
-  deed_reads,
-  guard_may_end,
-  leads_over,
-  may_end,
-  may_join,
-  may_write,
-  may_write_path,
-  meets,
-  run_writes,
-  soon,
-  soon_in,
-  soon_in_each,
-}
+use Rattle.bl_ctree_laws.specs.Pending.{Deed, any_writes_path, anew, deed_reads, guard_may_end, leads_over, may_end, may_join, may_write, may_write_path, meets}
+use Rattle.bl_ctree_laws.specs.Pending.{run_writes, soon, soon_in, soon_in_each}
 use Rattle.bl_ctree_laws.specs.Shrinks.{EndsShrink, MayIsCould, MeetsShrink, MovingIsUnsettled, Paces, WritesShrink}
-use Rattle.bl_ctree_laws.specs.Steps.{
-  Anyway,
-  Moves,
-  OneMoves,
-  Unmet,
-  acts,
-  takes,
-  passes,
-  pauses,
-  runs,
-  repeats,
-  repeats_until,
-  leaves,
-  turns,
-  enters,
-  skips,
-  forks,
-  guards,
-  goes_on,
-  waits,
-  lets,
-  aborts,
-  resets,
-  guard_ends,
-  copies,
-  run_ends,
-  joins,
-  in_seq,
-  in_par,
-  in_guard,
-  in_run,
-  first,
-  later,
-  call,
-  turn,
-}
-use Rattle.bl_ctree_laws.specs.Trees.{
-  Call,
-  Tree,
-  Trees,
-  Watch,
-  Nil,
-  Wait,
-  Test,
-  Idle,
-  Do,
-  Seq,
-  Par,
-  Guard,
-  Run,
-  are_done,
-  are_settled,
-  before,
-  trees_begun,
-  beside,
-  do_block,
-  followed,
-  has_strong,
-  is_nil,
-  is_settled,
-  no_tree,
-  seq,
-  some_ended,
-  strong_ended,
-}
-use Rattle.bl_ctree_laws.proofs.Tests.{
-  and_both,
-  and_first,
-  and_le,
-  and_none,
-  and_second,
-  any_less,
-  both_ways,
-  not_less,
-  or_le,
-  or_left,
-  or_of,
-  or_of_none,
-  or_right,
-}
+use Rattle.bl_ctree_laws.specs.Steps.{Anyway, Moves, OneMoves, Unmet, acts, takes, passes, pauses, runs, repeats, repeats_until, leaves, turns, enters, skips}
+use Rattle.bl_ctree_laws.specs.Steps.{forks, guards, goes_on, waits, lets, aborts, resets, guard_ends, copies, run_ends, joins, in_seq, in_par, in_guard}
+use Rattle.bl_ctree_laws.specs.Steps.{in_run, first, later, call, turn}
+use Rattle.bl_ctree_laws.specs.Trees.{Call, Tree, Trees, Watch, Nil, Wait, Test, Idle, Do, Seq, Par, Guard, Run, are_done, are_settled, before, trees_begun}
+use Rattle.bl_ctree_laws.specs.Trees.{beside, do_block, followed, has_strong, is_nil, is_settled, no_tree, seq, some_ended, strong_ended}
+use Rattle.bl_ctree_laws.proofs.Tests.{and_le, any_less, not_less, or_le, or_of}
 
 -- ---- what may act could act
 
@@ -151,8 +64,8 @@ may_is_could w i c d a n c' move = could move
 
 -- ---- what moves is not settled
 
-done_unsettled : (settled done : Bool) → done ≡ true → (settled && not done) ≡ false
-done_unsettled settled true e = and_none settled
+pub done_unsettled : (settled done : Bool) → done ≡ true → (settled && not done) ≡ false
+done_unsettled settled true e = and_false settled
 done_unsettled settled false e = absurd cc
 
 module _ {T : Bool → Type 0} {w : Setting} where
@@ -188,25 +101,21 @@ module _ {T : Bool → Type 0} {w : Setting} where
     pub one_unsettled : {i : ℕ} {branches : Trees} {d : Bool} {a : Deed} {n : StepLabel} {branches' : Trees} → OneMoves T w i branches d a n branches' →
         are_settled branches ≡ false
     one_unsettled (first {others = others} move free) = ap (λ b. b && are_settled others) (unsettled move)
-    one_unsettled (later {c = c} move free) = ap (λ b. is_settled c && b) (one_unsettled move) ∙ and_none (is_settled c)
+    one_unsettled (later {c = c} move free) = ap (λ b. is_settled c && b) (one_unsettled move) ∙ and_false (is_settled c)
 
 pub moving_is_unsettled : MovingIsUnsettled
 moving_is_unsettled w i c d a n c' move = unsettled move
 
 -- ---- blocks that begin
 
-and_yes : (a : Bool) → (a && true) ≡ a
-and_yes true = refl
-and_yes false = refl
-
-or_nothing : (a b : Bool) → (a || (b && false)) ≡ a
+pub or_nothing : (a b : Bool) → (a || (b && false)) ≡ a
 or_nothing true b = refl
 or_nothing false true = refl
 or_nothing false false = refl
 
 pub do_ends : (body : Block) → may_end (do_block body) ≡ are_instant body
 do_ends Done = refl
-do_ends (Then s Done) = sym (and_yes (is_instant s))
+do_ends (Then s Done) = sym (and_true (is_instant s))
 do_ends (Then s (Then t rest)) = refl
 
 pub do_writes : (test : Static → Bool) (body : Block) → may_write_path test (do_block body) ≡ soon_in test body
@@ -237,18 +146,18 @@ before_writes test (Then s rest) after e =
 
 -- the turn of a loop that surely pauses at its end, and that of one that may end
 turn_pauses : (body : Block) (s : Plain) → is_instant s ≡ false → are_instant (turn body s) ≡ false
-turn_pauses body s e = before_ends body (Then s Done) ∙ ap (λ b. are_instant body && (b && true)) e ∙ and_none (are_instant body)
+turn_pauses body s e = before_ends body (Then s Done) ∙ ap (λ b. are_instant body && (b && true)) e ∙ and_false (are_instant body)
 
 -- a loop writes what its body does
 turn_writes : (test : Static → Bool) (body : Block) (s : Plain) → soon test s ≡ soon_in test body →
     may_write_path test (do_block (turn body s)) ≡ true → soon_in test body ≡ true
 turn_writes test body s same e =
     or_of (soon_in test body) (soon_in test (Then s Done)) (soon_in test body) (λ h. h)
-    (λ h. sym same ∙ or_of_none (soon test s) (subst (λ b. (soon test s || b) ≡ true) (and_none (is_instant s)) h))
+    (λ h. sym same ∙ first_of_or (soon test s) (subst (λ b. (soon test s || b) ≡ true) (and_false (is_instant s)) h))
     (before_writes test body (Then s Done) (sym (do_writes test (turn body s)) ∙ e))
 
 followed_ends : (c : Tree) (rest : Block) → may_end (followed c rest) ≡ (may_end c && are_instant rest)
-followed_ends c Done = sym (and_yes (may_end c))
+followed_ends c Done = sym (and_true (may_end c))
 followed_ends c (Then s rest) = refl
 
 followed_writes : (test : Static → Bool) (c : Tree) (rest : Block) →
@@ -282,7 +191,7 @@ seq_writes test (Run p callee phase stood c) rest = followed_writes test (Run p 
 
 -- ---- branches that begin
 
-begun_strong : (bodies : Bodies) → has_strong (trees_begun bodies) ≡ some_strong bodies
+pub begun_strong : (bodies : Bodies) → has_strong (trees_begun bodies) ≡ some_strong bodies
 begun_strong Last = refl
 begun_strong (BodyOf weak body rest) = ap (λ b. not weak || b) (begun_strong rest)
 
@@ -302,21 +211,21 @@ begun_writes test (BodyOf weak body rest) = λ i. do_writes test body i || begun
 
 -- ---- branches that are done may end
 
-nil_ends : (c : Tree) → is_nil c ≡ true → may_end c ≡ true
+pub nil_ends : (c : Tree) → is_nil c ≡ true → may_end c ≡ true
 nil_ends Nil e = refl
 nil_ends c e = absurd cc
 
-strong_join : (branches : Trees) → strong_ended branches ≡ true → may_join true branches ≡ true
+pub strong_join : (branches : Trees) → strong_ended branches ≡ true → may_join true branches ≡ true
 strong_join no_tree e = refl
 strong_join (beside weak c rest) e =
     and_le (weak || is_nil c) (strong_ended rest) (weak || may_end c) (may_join true rest)
     (or_le weak (is_nil c) weak (may_end c) (λ h. h) (nil_ends c)) (strong_join rest) e
 
-some_join : (branches : Trees) → some_ended branches ≡ true → may_join false branches ≡ true
+pub some_join : (branches : Trees) → some_ended branches ≡ true → may_join false branches ≡ true
 some_join no_tree e = absurd cc
 some_join (beside weak c rest) e = or_le (is_nil c) (some_ended rest) (may_end c) (may_join false rest) (nil_ends c) (some_join rest) e
 
-done_join : (branches : Trees) → are_done branches ≡ true → may_join (has_strong branches) branches ≡ true
+pub done_join : (branches : Trees) → are_done branches ≡ true → may_join (has_strong branches) branches ≡ true
 done_join branches e = by_kind (has_strong branches) e
   where
     by_kind : (strong : Bool) → cond strong (strong_ended branches) (some_ended branches) ≡ true → may_join strong branches ≡ true
@@ -344,15 +253,12 @@ lets_end s inner e = by_kind (is_reset_kind s.guard)
 
 -- ---- a `run`, and what ends
 
-aborts_write : {A : Type 0} → false ≡ true → A
-aborts_write e = absurd cc
-
 -- a `run` that has begun and can't end in this tick writes its outputs alone
 new_run_writes : (test : Static → Bool) (s : Call) (settled ends : Bool) → ends ≡ false → run_writes test s settled ends ≡ true →
     list_any test (map static_of s.arguments.outputs) ≡ true
 new_run_writes test s settled true is e = absurd cc
 new_run_writes test s settled false is e =
-    or_of_none (list_any test (map static_of s.arguments.outputs)) (and_second (not settled) (list_any test (map static_of s.arguments.outputs) || false) e)
+    first_of_or (list_any test (map static_of s.arguments.outputs)) (and_second (not settled) (list_any test (map static_of s.arguments.outputs) || false) e)
 
 run_less : (test : Static → Bool) (s : Call) (before after : Bool) (may may' : Bool) → before ≡ false → (may' ≡ true → may ≡ true) →
     run_writes test s after may' ≡ true → run_writes test s before may ≡ true
@@ -378,8 +284,8 @@ module _ {T : Bool → Type 0} {w : Setting} (paces : Paces w) where
     ends_less (takes {body = body} {other}) e = or_left (are_instant body) (are_instant other) (sym (do_ends body) ∙ e)
     ends_less (passes {body = body} {other}) e = or_right (are_instant body) (are_instant other) (sym (do_ends other) ∙ e)
     ends_less pauses e = absurd cc
-    ends_less (runs {callee = callee} {unit} at there) e = both_ways _ (do_ends (plain_body unit.body) ∙ paces callee unit there) e
-    ends_less (repeats {l = l} {at} {body}) e = both_ways _ (do_ends (turn body (Repeat l at body)) ∙ turn_pauses body (Repeat l at body) refl) e
+    ends_less (runs {callee = callee} {unit} at there) e = not_both _ (do_ends (plain_body unit.body) ∙ paces callee unit there) e
+    ends_less (repeats {l = l} {at} {body}) e = not_both _ (do_ends (turn body (Repeat l at body)) ∙ turn_pauses body (Repeat l at body) refl) e
     ends_less (repeats_until {l = l} {at} {body} {e = test}) e =
         and_first (are_instant body) true (sym (before_ends body (Then (Again l at body test) Done)) ∙ sym (do_ends (turn body (Again l at body test))) ∙ e)
     ends_less leaves e = refl
@@ -419,40 +325,40 @@ module _ {T : Bool → Type 0} {w : Setting} (paces : Paces w) where
   mutual
     pub writes_less : {i : ℕ} {c : Tree} {d : Bool} {a : Deed} {n : StepLabel} {c' : Tree} (test : Static → Bool) → Moves T w i c d a n c' →
         may_write_path test c' ≡ true → may_write_path test c ≡ true
-    writes_less test acts e = aborts_write e
+    writes_less test acts e = from_false e
     writes_less test (takes {body = body} {other}) e = or_left (soon_in test body) (soon_in test other) (sym (do_writes test body) ∙ e)
     writes_less test (passes {body = body} {other}) e = or_right (soon_in test body) (soon_in test other) (sym (do_writes test other) ∙ e)
-    writes_less test pauses e = aborts_write e
+    writes_less test pauses e = from_false e
     writes_less test (runs {l = l} {at} {target} {a} {inputs} {outputs} {callee} {unit} called there) e =
         new_run_writes test (call l at target a inputs outputs)
         (is_settled (Run (call l at target a inputs outputs) callee Body false (do_block (plain_body unit.body))))
         (may_end (do_block (plain_body unit.body))) (do_ends (plain_body unit.body) ∙ paces callee unit there) e
     writes_less test (repeats {l = l} {at} {body}) e = turn_writes test body (Repeat l at body) refl e
     writes_less test (repeats_until {l = l} {at} {body} {e = condition}) e = turn_writes test body (Again l at body condition) refl e
-    writes_less test leaves e = aborts_write e
+    writes_less test leaves e = from_false e
     writes_less test turns e = e
     writes_less test (enters {l = l} {at} {e = condition} {body}) e = turn_writes test body (While l at condition body) refl e
-    writes_less test skips e = aborts_write e
+    writes_less test skips e = from_false e
     writes_less test (forks {bodies = bodies}) e = sym (begun_writes test bodies) ∙ e
-    writes_less test (guards {body = body}) e = sym (do_writes test body) ∙ or_of_none (may_write_path test (do_block body)) e
-    writes_less test goes_on e = aborts_write e
-    writes_less test waits e = aborts_write e
-    writes_less test (lets {s = s} {c = c}) e = or_left (may_write_path test c) (anew test s Check) (or_of_none (may_write_path test c) e)
-    writes_less test (aborts is) e = aborts_write e
+    writes_less test (guards {body = body}) e = sym (do_writes test body) ∙ first_of_or (may_write_path test (do_block body)) e
+    writes_less test goes_on e = from_false e
+    writes_less test waits e = from_false e
+    writes_less test (lets {s = s} {c = c}) e = or_left (may_write_path test c) (anew test s Check) (first_of_or (may_write_path test c) e)
+    writes_less test (aborts is) e = from_false e
     writes_less test (resets {s = s} {c = c} is) e =
-        or_right (may_write_path test c) (anew test s Check) (and_both (is_reset_kind s.guard) (soon_in test s.body)
-        (ap is_reset_kind is) (sym (do_writes test s.body) ∙ or_of_none (may_write_path test (do_block s.body)) e))
-    writes_less test guard_ends e = aborts_write e
+        or_right (may_write_path test c) (anew test s Check) (and_from (is_reset_kind s.guard) (soon_in test s.body)
+        (ap is_reset_kind is) (sym (do_writes test s.body) ∙ first_of_or (may_write_path test (do_block s.body)) e))
+    writes_less test guard_ends e = from_false e
     writes_less test (copies {s = s} {callee} {stood} {c}) e =
         run_less test s false (is_settled (Run s callee Body stood c)) true (may_end c) refl (λ h. refl) e
-    writes_less test run_ends e = aborts_write e
-    writes_less test (joins still done) e = aborts_write e
+    writes_less test run_ends e = from_false e
+    writes_less test (joins still done) e = from_false e
     writes_less test (in_seq {c = c} {rest} {c' = c'} move) e =
         or_le (may_write_path test c') (may_end c' && soon_in test rest) (may_write_path test c) (may_end c && soon_in test rest) (writes_less test move)
         (and_le (may_end c') (soon_in test rest) (may_end c) (soon_in test rest) (ends_less move) (λ h. h)) (sym (seq_writes test c' rest) ∙ e)
     writes_less test (in_par move) e = one_writes_less test move e
     writes_less test (in_guard {c = c} {c' = c'} move) e =
-        or_left (may_write_path test c) false (writes_less test move (or_of_none (may_write_path test c') e))
+        or_left (may_write_path test c) false (writes_less test move (first_of_or (may_write_path test c') e))
     writes_less test (in_run {s = s} {callee} {stood} {c} {c' = c'} move) e =
         run_less test s (is_settled (Run s callee Body stood c)) (is_settled (Run s callee Body stood c')) (may_end c) (may_end c')
         (ap (λ b. b && not (is_nil c)) (unsettled move)) (ends_less move) e

@@ -8,8 +8,8 @@ mod Forward
 pub mod Leaving
 mod PlainKinds
 pub mod Less
-mod Running
-mod Surfaces
+pub mod Running
+pub mod Surfaces
 pub mod Ticking
 pub mod Tests
-mod Waking
+pub mod Waking

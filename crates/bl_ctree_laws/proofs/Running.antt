@@ -19,7 +19,7 @@ use Rattle.bl_ctree_laws.proofs.Forward.{steps_are_plain}
 use Rattle.bl_ctree_laws.proofs.Leaving.{keeps, waking_keeps_left}
 use Rattle.bl_ctree_laws.proofs.Waking.{waking_is_plain}
 
-tree_same : (c c' : control.Control) (store store' : Store) → ticks.Rests c store ≡ ticks.Rests c' store' → c ≡ c'
+pub tree_same : (c c' : control.Control) (store store' : Store) → ticks.Rests c store ≡ ticks.Rests c' store' → c ≡ c'
 tree_same c c' store store' e = cc
 
 module _ (kept : laws.StepsKeepResidual) (begun : laws.WokenTreeIsResidual) (between : laws.ReachedIsResidual) where

@@ -1,30 +1,10 @@
 -- What a statement that begins can write before it pauses is what its surface says, by its tree and by its nodes.
-use Rattle.std.proofs.Common.{
-  ◌≡◌,
-  ℕ,
-  suc,
-  Bool,
-  true,
-  false,
-  ◌&&◌,
-  ◌||◌,
-  List,
-  [],
-  ◌∷◌,
-  ◌++◌,
-  map,
-  refl,
-  ap,
-  sym,
-  ◌∙◌,
-  append_assoc,
-  inl,
-  inr,
-}
+use Rattle.std.proofs.Common.{◌≡◌, ℕ, suc, Bool, true, false, ◌&&◌, ◌||◌, List, [], ◌∷◌, ◌++◌, map, refl, ap, sym, ◌∙◌, append_assoc, inl, inr}
 use Rattle.std.specs.Prelude.{if◌then◌else◌}
 use Rattle.std.specs.List.{list_any}
 use Rattle.std.proofs.lemmas.List.Elements.{All-head, All-tail}
 use Rattle.std.proofs.lemmas.List.Folds.{list_any-append}
+use Rattle.bl_tree.proofs.Basics.{and_false, or_false, or_true}
 use Rattle.bl_tree.specs.declared.place.Place.{Place}
 use Rattle.bl_tree.specs.declared.static_path.Static.{Static}
 use Rattle.bl_tree.specs.declared.tree.Arm.{Arm, out-Arm, fold-Arm, fold_out-Arm}
@@ -36,50 +16,14 @@ use Rattle.bl_tree.specs.Effects.{writes}
 use Rattle.bl_tree.specs.Reduce.{joined}
 use Rattle.bl_tree.specs.Static.{set_of, static_of}
 use Rattle.bl_tree.proofs.StmtInduction.{Cases, Each, EachArm, EachBranch, induct, stmt}
-use Rattle.bl_effects.specs.Surface.{
-  BranchSurface,
-  Surface,
-  arm_surface,
-  block_surface,
-  branch_surface,
-  kind_surface,
-  kind_surface_writes,
-  stmt_surface,
-  surface_of,
-}
+use Rattle.bl_effects.specs.Surface.{BranchSurface, Surface, arm_surface, block_surface, branch_surface, kind_surface, kind_surface_writes, stmt_surface}
+use Rattle.bl_effects.specs.Surface.{surface_of}
 use Rattle.bl_effects.proofs.InstantLemmas.{surface_agrees}
 use Rattle.bl_effects.proofs.SetLemmas.{In, in_set, set_in}
 use Rattle.bl_graph_nodes.specs.Laws.{plain_arm, plain_branch}
 use Rattle.bl_graph_nodes.specs.Nodes.{is_instant}
-use Rattle.bl_graph_nodes.specs.Plain.{
-  Act,
-  Again,
-  Await,
-  Block,
-  Bodies,
-  Body,
-  Cobegin,
-  Done,
-  If,
-  Label,
-  Last,
-  Plain,
-  Position,
-  Repeat,
-  Run,
-  Then,
-  Until,
-  When,
-  While,
-  block_from,
-  bodies_from,
-  else_at,
-  inside,
-  label_at,
-  passed_one,
-  plain_block,
-  plain_stmt,
-}
+use Rattle.bl_graph_nodes.specs.Plain.{Act, Again, Await, Block, Bodies, Body, Cobegin, Done, If, Label, Last, Plain, Position, Repeat, Run, Then, Until, When}
+use Rattle.bl_graph_nodes.specs.Plain.{While, block_from, bodies_from, else_at, inside, label_at, passed_one, plain_block, plain_stmt}
 use Rattle.bl_graph_nodes.specs.Writes.{surface_writes, surface_writes_in, surface_writes_in_each}
 use Rattle.bl_graph_nodes.proofs.Equations.{made_of_parts}
 use Rattle.bl_graph_nodes.proofs.Instants.{instant_is}
@@ -88,24 +32,9 @@ use Rattle.bl_ctree_laws.specs.Bridge.{label_of, plain_at, plain_kind}
 use Rattle.bl_ctree_laws.specs.Pending.{soon, soon_in, soon_in_each}
 use Rattle.bl_ctree_laws.specs.Soon.{SoonIsSurface}
 use Rattle.bl_ctree_laws.proofs.PlainKinds.{by_kind}
+use Rattle.bl_graph_nodes.proofs.Instants.{or_same}
 
 -- ---- tests over lists
-
-or_true : (a : Bool) → (a || true) ≡ true
-or_true true = refl
-or_true false = refl
-
-or_same : (a : Bool) → (a || a) ≡ a
-or_same true = refl
-or_same false = refl
-
-or_none : (a : Bool) → (a || false) ≡ a
-or_none true = refl
-or_none false = refl
-
-and_none : (a : Bool) → (a && false) ≡ false
-and_none true = refl
-and_none false = refl
 
 any_if : (test : Static → Bool) (b : Bool) (xs : List Static) → list_any test (if b then xs else []) ≡ (b && list_any test xs)
 any_if test true xs = refl
@@ -114,7 +43,7 @@ any_if test false xs = refl
 -- ---- the surface of a statement by its kind
 
 -- the same from each list as from the other
-bool_same : (a b : Bool) → (a ≡ true → b ≡ true) → (b ≡ true → a ≡ true) → a ≡ b
+pub bool_same : (a b : Bool) → (a ≡ true → b ≡ true) → (b ≡ true → a ≡ true) → a ≡ b
 bool_same true true f g = refl
 bool_same true false f g = sym (f refl)
 bool_same false true f g = g refl
@@ -134,7 +63,7 @@ passing test (x ∷ xs) e = by_test (test x) refl (λ h. passing test xs h) e
     by_test true is more h = record { one = x; among = inl refl; passes = is }
     by_test false is more h = let p = more h in record { one = p.one; among = inr p.among; passes = p.passes }
 
-passed : (test : Static → Bool) (xs : List Static) (one : Static) → In one xs → test one ≡ true → list_any test xs ≡ true
+pub passed : (test : Static → Bool) (xs : List Static) (one : Static) → In one xs → test one ≡ true → list_any test xs ≡ true
 passed test [] one m e = elim m [ ]
 passed test (x ∷ xs) one (inl is) e = ap (λ b. b || list_any test xs) (ap test (sym is) ∙ e)
 passed test (x ∷ xs) one (inr m) e = ap (λ b. test x || b) (passed test xs one m e) ∙ or_true (test x)
@@ -219,8 +148,8 @@ module _ (test : Static → Bool) where
       soon_in test (else_at l (map plain_arm arms) (plain_block other)) ≡ list_any test (of_arms arms ++ block_surface (map surface_of other))
   else_soon [] other l each others = inner_soon other (inside l l.passed) others
   else_soon (arm ∷ rest) other l each others = ap (λ b. (soon_in test (plain_block (out-Arm arm).body (inside l l.passed))
-      || soon_in test (else_at (passed_one l) (map plain_arm rest) (plain_block other))) || b) (and_none _)
-      ∙ or_none _
+      || soon_in test (else_at (passed_one l) (map plain_arm rest) (plain_block other))) || b) (and_false _)
+      ∙ or_false _
       ∙ arm_and_others arm rest other (inside l l.passed) (passed_one l) (All-head (λ arm. OfBlock (out-Arm arm).body) arm rest each)
       (else_soon rest other (passed_one l) (All-tail (λ arm. OfBlock (out-Arm arm).body) arm rest each) others)
 

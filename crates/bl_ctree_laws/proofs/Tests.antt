@@ -1,50 +1,19 @@
 -- Tests with two answers, and when one answers yes only where another does.
 use Rattle.std.proofs.Common.{◌≡◌, Bool, true, false, ◌&&◌, ◌||◌, List, [], ◌∷◌, refl, sym, ◌∙◌}
 use Rattle.std.specs.List.{list_any}
-
-pub or_left : (a b : Bool) → a ≡ true → (a || b) ≡ true
-or_left true b e = refl
-or_left false b e = absurd cc
-
-pub or_right : (a b : Bool) → b ≡ true → (a || b) ≡ true
-or_right true b e = refl
-or_right false b e = e
-
-pub and_none : (a : Bool) → (a && false) ≡ false
-and_none true = refl
-and_none false = refl
-
-pub and_both : (a b : Bool) → a ≡ true → b ≡ true → (a && b) ≡ true
-and_both true b e f = f
-and_both false b e f = absurd cc
-
-pub and_first : (a b : Bool) → (a && b) ≡ true → a ≡ true
-and_first true b e = refl
-and_first false b e = absurd cc
-
-pub and_second : (a b : Bool) → (a && b) ≡ true → b ≡ true
-and_second true b e = e
-and_second false b e = absurd cc
+use Rattle.std.proofs.lemmas.Bool.{and_from, or_left, or_right}
 
 pub or_le : (a b c d : Bool) → (a ≡ true → c ≡ true) → (b ≡ true → d ≡ true) → (a || b) ≡ true → (c || d) ≡ true
 or_le true b c d f g e = or_left c d (f refl)
 or_le false b c d f g e = or_right c d (g e)
 
 pub and_le : (a b c d : Bool) → (a ≡ true → c ≡ true) → (b ≡ true → d ≡ true) → (a && b) ≡ true → (c && d) ≡ true
-and_le true b c d f g e = and_both c d (f refl) (g e)
+and_le true b c d f g e = and_from c d (f refl) (g e)
 and_le false b c d f g e = absurd cc
 
 pub or_of : (a b c : Bool) → (a ≡ true → c ≡ true) → (b ≡ true → c ≡ true) → (a || b) ≡ true → c ≡ true
 or_of true b c f g e = f refl
 or_of false b c f g e = g e
-
-pub or_of_none : (a : Bool) → (a || false) ≡ true → a ≡ true
-or_of_none true e = refl
-or_of_none false e = absurd cc
-
-pub both_ways : {A : Type 0} (a : Bool) → a ≡ false → a ≡ true → A
-both_ways true e f = absurd cc
-both_ways false e f = absurd cc
 
 -- where a test answers yes only where another does, it is no where that is no
 pub not_less : (a b : Bool) → (a ≡ true → b ≡ true) → b ≡ false → a ≡ false

@@ -10,25 +10,7 @@ use Rattle.bl_ctree.specs.Positions.{Item, Begin, Again, none_left}
 use Rattle.bl_ctree.proofs.Proper.{Proper, a_nil, a_wait, a_test, a_do, a_turn, a_seq, a_par, a_guard, a_run, BranchesProper, no_more, a_branch, left_proper}
 use Rattle.bl_ctree_laws.specs.Bridge.{guarded, parallel, plain_at, plain_item, plain_items, plain_tree, plain_trees, running}
 use Rattle.bl_ctree_laws.specs.Laws.{WakingIsPlain}
-use Rattle.bl_ctree_laws.specs.Trees.{
-  Tree,
-  Nil,
-  Wait,
-  Test,
-  Idle,
-  Do,
-  Seq,
-  Par,
-  Guard,
-  Run,
-  all_woken,
-  beside,
-  do_block,
-  followed,
-  is_nil,
-  seq,
-  woken,
-}
+use Rattle.bl_ctree_laws.specs.Trees.{Tree, Nil, Wait, Test, Idle, Do, Seq, Par, Guard, Run, all_woken, beside, do_block, followed, is_nil, seq, woken}
 use Rattle.bl_ctree_laws.proofs.Answering.{ended, guard_is, par_is, run_is, test_is, wait_is}
 
 pub followed_is : (c : control.Control) (rest : List Item) → plain_tree (control.followed c rest) ≡ followed (plain_tree c) (plain_items rest)

@@ -7,29 +7,8 @@ use Rattle.bl_tree.specs.declared.tree.Stmt.{Stmt}
 use Rattle.bl_tree.specs.declared.tree.StmtKind.{StmtKind}
 use Rattle.bl_tree.specs.declared.tree.StmtKind.TheOpen.{StmtKind-F}
 use Rattle.bl_graph_nodes.specs.Laws.{plain_arm, plain_branch}
-use Rattle.bl_graph_nodes.specs.Plain.{
-  Block,
-  Label,
-  Plain,
-  Act,
-  Again as AgainOf,
-  Await,
-  Cobegin,
-  Done,
-  If,
-  Repeat,
-  Run as RunOf,
-  Then,
-  Until,
-  When,
-  While,
-  bodies_from,
-  else_at,
-  inside,
-  never,
-  passed_one,
-  plain_block,
-}
+use Rattle.bl_graph_nodes.specs.Plain.{Block, Label, Plain, Act, Again as AgainOf, Await, Cobegin, Done, If, Repeat, Run as RunOf, Then, Until, When, While}
+use Rattle.bl_graph_nodes.specs.Plain.{bodies_from, else_at, inside, never, passed_one, plain_block}
 use Rattle.bl_ctree.specs.Actions.{Action}
 use Rattle.bl_ctree.specs.Control as control
 use Rattle.bl_ctree.specs.Positions.{Item, Begin, Again, Located, kind_of, place_of}

@@ -6,49 +6,14 @@ use Rattle.bl_tree.specs.declared.static_path.Static.{Static}
 use Rattle.bl_tree.specs.Effects.{target_static, writes}
 use Rattle.bl_tree.specs.Static.{static_of}
 use Rattle.bl_graph_nodes.specs.Nodes.{are_instant, is_instant}
-use Rattle.bl_graph_nodes.specs.Plain.{
-  Block,
-  Bodies,
-  Plain,
-  Act,
-  Again,
-  Await,
-  Body as BodyOf,
-  Cobegin,
-  Done,
-  If,
-  Last,
-  Repeat,
-  Run as RunOf,
-  Then,
-  Until,
-  When,
-  While,
-}
+use Rattle.bl_graph_nodes.specs.Plain.{Block, Bodies, Plain, Act, Again, Await, Body as BodyOf, Cobegin, Done, If, Last, Repeat, Run as RunOf, Then, Until}
+use Rattle.bl_graph_nodes.specs.Plain.{When, While}
 use Rattle.bl_ctree.specs.Actions.{Effect, effect_reads}
 use Rattle.bl_ctree.specs.Control.{Phase, Check, Body}
 use Rattle.bl_ctree.specs.Instances.{Setting}
 use Rattle.bl_ctree.specs.Pending.{is_reset_kind}
 use Rattle.bl_ctree.specs.Store.{Location, home, overlap}
-use Rattle.bl_ctree_laws.specs.Trees.{
-  Call,
-  Tree,
-  Trees,
-  Watch,
-  Nil,
-  Wait,
-  Test,
-  Idle,
-  Do,
-  Seq,
-  Par,
-  Guard,
-  Run,
-  no_tree,
-  beside,
-  has_strong,
-  is_settled,
-}
+use Rattle.bl_ctree_laws.specs.Trees.{Call, Tree, Trees, Watch, Nil, Wait, Test, Idle, Do, Seq, Par, Guard, Run, no_tree, beside, has_strong, is_settled}
 
 -- what a step does: the place of its statement, the instance in which that stands, and the effect
 pub record Deed : Type 0 where

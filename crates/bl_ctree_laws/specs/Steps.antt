@@ -8,53 +8,15 @@ use Rattle.bl_tree.specs.declared.tree.Path.{Path}
 use Rattle.bl_tree.specs.declared.tree.Stmt.{Stmt, out-Stmt}
 use Rattle.bl_tree.specs.declared.tree.Unit.{Unit as UnitDef}
 use Rattle.bl_graph_nodes.specs.Nodes.{CheckAt, TestAt, arguments_of, entry}
-use Rattle.bl_graph_nodes.specs.Plain.{
-  Block,
-  Bodies,
-  Label,
-  Plain,
-  Act,
-  Again,
-  Await,
-  Cobegin,
-  Done,
-  If,
-  Repeat,
-  Run as RunOf,
-  Then,
-  Until,
-  When,
-  While,
-  plain_body,
-}
+use Rattle.bl_graph_nodes.specs.Plain.{Block, Bodies, Label, Plain, Act, Again, Await, Cobegin, Done, If, Repeat, Run as RunOf, Then, Until, When, While}
+use Rattle.bl_graph_nodes.specs.Plain.{plain_body}
 use Rattle.bl_graph_nodes.specs.Steps.{StepLabel, Gives as EndOf, Here, Inside, end_node, join_node, run_node}
 use Rattle.bl_ctree.specs.Actions.{Silent, Acts, Asks, Copies, Gives}
 use Rattle.bl_ctree.specs.Control.{Check, Body}
 use Rattle.bl_ctree.specs.Instances.{Setting, callee_of, unit_at}
 use Rattle.bl_ctree_laws.specs.Pending.{Deed, any_meets, deed, meets}
-use Rattle.bl_ctree_laws.specs.Trees.{
-  Call,
-  Fork,
-  Pause,
-  Tree,
-  Trees,
-  Watch,
-  Nil,
-  Wait,
-  Test,
-  Do,
-  Seq,
-  Par,
-  Guard,
-  Run,
-  beside,
-  are_done,
-  are_settled,
-  before,
-  trees_begun,
-  do_block,
-  seq,
-}
+use Rattle.bl_ctree_laws.specs.Trees.{Call, Fork, Pause, Tree, Trees, Watch, Nil, Wait, Test, Do, Seq, Par, Guard, Run, beside, are_done, are_settled, before}
+use Rattle.bl_ctree_laws.specs.Trees.{trees_begun, do_block, seq}
 
 -- ---- the test of what stands beside
 

@@ -1,5 +1,6 @@
 -- A block with first turns of loops unrolled has the answers of the block.
 use Rattle.std.proofs.Common.{◌≡◌, Bool, true, false, not, ◌&&◌, ◌||◌, cond, refl, sym, ap, ◌∙◌}
+use Rattle.bl_tree.proofs.Basics.{and_false}
 use Rattle.bl_tree.specs.declared.place.Place.{Place}
 use Rattle.bl_tree.specs.declared.static_path.Static.{Static}
 use Rattle.bl_tree.specs.declared.tree.Expr.{Expr}
@@ -9,32 +10,12 @@ use Rattle.bl_ctree_laws.specs.Pending.{soon, soon_in, soon_in_each}
 use Rattle.bl_ctree_laws.specs.Steps.{turn}
 use Rattle.bl_ctree_laws.specs.Trees.{before}
 use Rattle.bl_ctree_laws.proofs.Less.{before_ends}
-use Rattle.bl_ctree_laws.proofs.Tests.{and_none}
 use Rattle.bl_ctree_laws_peeled.specs.Answers.{SameBlockAnswers, UnrolledAnswers}
-use Rattle.bl_ctree_laws_peeled.specs.Unrolls.{
-  PlainUnrolls,
-  EachUnrolls,
-  Unrolls,
-  acts_alike,
-  again_if,
-  agains_alike,
-  awaits_alike,
-  cobegins_alike,
-  first_alike,
-  first_repeat,
-  first_until,
-  ifs_alike,
-  no_body,
-  no_more,
-  one_body,
-  repeats_alike,
-  runs_alike,
-  untils_alike,
-  whens_alike,
-  while_if,
-  whiles_alike,
-}
+use Rattle.bl_ctree_laws_peeled.specs.Unrolls.{PlainUnrolls, EachUnrolls, Unrolls, acts_alike, again_if, agains_alike, awaits_alike, cobegins_alike}
+use Rattle.bl_ctree_laws_peeled.specs.Unrolls.{first_alike, first_repeat, first_until, ifs_alike, no_body, no_more, one_body, repeats_alike, runs_alike}
+use Rattle.bl_ctree_laws_peeled.specs.Unrolls.{untils_alike, whens_alike, while_if, whiles_alike}
 use Rattle.bl_ctree_laws_peeled.proofs.Blocks.{soon_before}
+use Rattle.bl_ctree_laws.proofs.Less.{or_nothing}
 
 -- ---- tests with two answers
 
@@ -43,11 +24,6 @@ turn_alone : (s i : Bool) → (s || (i && s)) ≡ s
 turn_alone true i = refl
 turn_alone false true = refl
 turn_alone false false = refl
-
-pub or_nothing : (a b : Bool) → (a || (b && false)) ≡ a
-or_nothing true b = refl
-or_nothing false true = refl
-or_nothing false false = refl
 
 and_yes_then : (i r : Bool) → ((i && true) && r) ≡ (i && r)
 and_yes_then true r = refl
@@ -87,10 +63,10 @@ after_repeat : {l : Label} {at : Place} {body rest other : Block} → SameBlockA
     SameBlockAnswers (Then (Repeat l at body) rest) other
 after_repeat {l} {at} {body} {rest} same = record {
   instant =
-      sym (opened_instant body rest (Repeat l at body) ∙ ap (λ b. b && are_instant rest) (and_none (are_instant body))) ∙ same.instant;
+      sym (opened_instant body rest (Repeat l at body) ∙ ap (λ b. b && are_instant rest) (and_false (are_instant body))) ∙ same.instant;
   soon = λ test.
       sym (opened_soon test body rest (Repeat l at body) refl
-      ∙ ap (λ b. soon_in test body || (b && soon_in test rest)) (and_none (are_instant body)))
+      ∙ ap (λ b. soon_in test body || (b && soon_in test rest)) (and_false (are_instant body)))
       ∙ same.soon test;
 }
 

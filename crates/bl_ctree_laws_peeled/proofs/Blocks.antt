@@ -2,52 +2,14 @@
 use Rattle.std.proofs.Common.{◌≡◌, Bool, true, false, ◌&&◌, ◌||◌, refl, ap, ◌∙◌, subst}
 use Rattle.bl_tree.specs.declared.static_path.Static.{Static}
 use Rattle.bl_graph_nodes.specs.Nodes.{Node, are_instant, is_instant}
-use Rattle.bl_graph_nodes.specs.Plain.{
-  Block,
-  Bodies,
-  Plain,
-  Act,
-  Again,
-  Await,
-  Body as BodyOf,
-  Cobegin,
-  Done,
-  If,
-  Last,
-  Repeat,
-  Run as RunOf,
-  Then,
-  Until,
-  When,
-  While,
-}
+use Rattle.bl_graph_nodes.specs.Plain.{Block, Bodies, Plain, Act, Again, Await, Body as BodyOf, Cobegin, Done, If, Last, Repeat, Run as RunOf, Then, Until}
+use Rattle.bl_graph_nodes.specs.Plain.{When, While}
 use Rattle.bl_ctree_laws.specs.Pending.{soon, soon_in}
 use Rattle.bl_ctree_laws.specs.Trees.{before}
 use Rattle.bl_ctree_laws_peeled.specs.Answers.{BlocksUnrollToThemselves, UnrollingJoins}
-use Rattle.bl_ctree_laws_peeled.specs.Unrolls.{
-  PlainUnrolls,
-  EachUnrolls,
-  Unrolls,
-  acts_alike,
-  again_if,
-  agains_alike,
-  awaits_alike,
-  cobegins_alike,
-  first_alike,
-  first_repeat,
-  first_until,
-  ifs_alike,
-  no_body,
-  no_more,
-  one_body,
-  opened,
-  repeats_alike,
-  runs_alike,
-  untils_alike,
-  whens_alike,
-  while_if,
-  whiles_alike,
-}
+use Rattle.bl_ctree_laws_peeled.specs.Unrolls.{PlainUnrolls, EachUnrolls, Unrolls, acts_alike, again_if, agains_alike, awaits_alike, cobegins_alike}
+use Rattle.bl_ctree_laws_peeled.specs.Unrolls.{first_alike, first_repeat, first_until, ifs_alike, no_body, no_more, one_body, opened, repeats_alike, runs_alike}
+use Rattle.bl_ctree_laws_peeled.specs.Unrolls.{untils_alike, whens_alike, while_if, whiles_alike}
 
 pub before_assoc : (one two three : Block) → before (before one two) three ≡ before one (before two three)
 before_assoc Done two three = refl

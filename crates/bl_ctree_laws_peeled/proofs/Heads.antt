@@ -1,23 +1,7 @@
 -- Heads of loops that fall away: where they stand, and how many may still fall away there.
 use Rattle.std.specs.Prelude.{ℕ, suc, ◌<◌, Bool, false, ⊤, ◌≡◌}
 use Rattle.bl_graph_nodes.specs.Nodes.{Node, entry}
-use Rattle.bl_graph_nodes.specs.Plain.{
-  Block,
-  Plain,
-  Act,
-  Again,
-  Await,
-  Cobegin,
-  Done,
-  If,
-  Repeat,
-  Run as RunOf,
-  Then,
-  Until,
-  When,
-  While,
-  is_empty,
-}
+use Rattle.bl_graph_nodes.specs.Plain.{Block, Plain, Act, Again, Await, Cobegin, Done, If, Repeat, Run as RunOf, Then, Until, When, While, is_empty}
 use Rattle.bl_graph_nodes.specs.Steps.{Here, Inside, StepLabel, run_node}
 use Rattle.bl_ctree.specs.Control.{Body}
 use Rattle.bl_ctree.specs.Instances.{Setting}

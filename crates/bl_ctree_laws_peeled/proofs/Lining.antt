@@ -1,34 +1,17 @@
 -- What is asked of a tree is told by its line.
 use Rattle.std.proofs.Common.{◌≡◌, ℕ, Bool, true, false, ◌&&◌, ◌||◌, refl, sym, ap, ◌∙◌, subst}
+use Rattle.std.proofs.lemmas.Bool.{and_from}
+use Rattle.bl_tree.proofs.Basics.{and_first, and_regroup, and_second, and_true}
 use Rattle.bl_tree.specs.declared.static_path.Static.{Static}
 use Rattle.bl_graph_nodes.specs.Nodes.{Node, are_instant}
 use Rattle.bl_graph_nodes.specs.Plain.{Block, Plain, Done, Then}
 use Rattle.bl_ctree_laws.specs.Pending.{may_end, may_write_path, soon_in}
-use Rattle.bl_ctree_laws.specs.Trees.{
-  Tree,
-  Nil,
-  Wait,
-  Test,
-  Idle,
-  Do,
-  Seq,
-  Par,
-  Guard,
-  Run,
-  before,
-  do_block,
-  followed,
-  is_nil,
-  is_settled,
-  seq,
-  woken,
-}
+use Rattle.bl_ctree_laws.specs.Trees.{Tree, Nil, Wait, Test, Idle, Do, Seq, Par, Guard, Run, before, do_block, followed, is_nil, is_settled, seq, woken}
 use Rattle.bl_ctree_laws.proofs.Less.{before_ends}
-use Rattle.bl_ctree_laws.proofs.Tests.{and_both, and_first, and_second}
 use Rattle.bl_ctree_laws_peeled.specs.Lines.{Line, Lined, At, Over, both_begin, both_over, is_chain, is_under_way, line}
 use Rattle.bl_ctree_laws_peeled.specs.Unrolls.{Unrolls, first_alike, first_repeat, first_until, no_more}
-use Rattle.bl_ctree_laws_peeled.proofs.Answering.{or_nothing}
 use Rattle.bl_ctree_laws_peeled.proofs.Blocks.{or_spread, soon_before, unrolls_before}
+use Rattle.bl_ctree_laws.proofs.Less.{or_nothing}
 
 -- ---- lines of what is put together
 
@@ -85,14 +68,6 @@ abbrev pub line_writes : (Static → Bool) → Line → Bool
 line_writes test Over = false
 line_writes test (At c k) = may_write_path test c || (may_end c && soon_in test k)
 
-and_apart : (a b c : Bool) → (a && (b && c)) ≡ ((a && b) && c)
-and_apart true b c = refl
-and_apart false b c = refl
-
-and_yes : (a : Bool) → (a && true) ≡ a
-and_yes true = refl
-and_yes false = refl
-
 ends_at : (c : Tree) (k : Block) → line_ends (line c k) ≡ (may_end c && are_instant k)
 ends_at Nil Done = refl
 ends_at Nil (Then s k) = refl
@@ -101,7 +76,7 @@ ends_at (Test p) k = refl
 ends_at (Idle p) k = refl
 ends_at (Do p) k = refl
 ends_at (Seq c rest) k =
-    ends_at c (before rest k) ∙ ap (λ b. may_end c && b) (before_ends rest k) ∙ and_apart (may_end c) (are_instant rest) (are_instant k)
+    ends_at c (before rest k) ∙ ap (λ b. may_end c && b) (before_ends rest k) ∙ and_regroup (may_end c) (are_instant rest) (are_instant k)
 ends_at (Par p stood branches) k = refl
 ends_at (Guard p phase stood c) k = refl
 ends_at (Run p callee phase stood c) k = refl
@@ -170,7 +145,7 @@ settled_of (Guard p phase stood c) chain = refl
 settled_of (Run p callee phase stood c) chain = refl
 
 pub ends_of : (c : Tree) → may_end c ≡ line_ends (line c Done)
-ends_of c = sym (ends_at c Done ∙ and_yes (may_end c))
+ends_of c = sym (ends_at c Done ∙ and_true (may_end c))
 
 pub writes_of : (test : Static → Bool) (c : Tree) → may_write_path test c ≡ line_writes test (line c Done)
 writes_of test c = sym (writes_at test c Done ∙ or_nothing (may_write_path test c) (may_end c))
@@ -207,7 +182,7 @@ pub record Begun (c : Tree) : Type 0 where
 
 begun_followed : (c : Tree) (rest : Block) → is_under_way c ≡ true → is_chain c ≡ true → is_idle c ≡ false → Begun (followed c rest)
 begun_followed c Done going chain awake = record { chain = chain; awake = awake }
-begun_followed c (Then s rest) going chain awake = record { chain = and_both (is_under_way c) (is_chain c) going chain; awake = refl }
+begun_followed c (Then s rest) going chain awake = record { chain = and_from (is_under_way c) (is_chain c) going chain; awake = refl }
 
 pub begun_block : (body : Block) → Begun (do_block body)
 begun_block Done = record { chain = refl; awake = refl }

@@ -1,40 +1,13 @@
 -- The steps of a tree are those of its line's head.
 use Rattle.std.proofs.Common.{◌≡◌, ℕ, Bool, true, refl, ◌∙◌}
+use Rattle.bl_tree.proofs.Basics.{and_first, and_second}
 use Rattle.bl_graph_nodes.specs.Plain.{Block, Done}
 use Rattle.bl_graph_nodes.specs.Steps.{StepLabel}
 use Rattle.bl_ctree.specs.Instances.{Setting}
 use Rattle.bl_ctree_laws.specs.Pending.{Deed}
-use Rattle.bl_ctree_laws.specs.Steps.{
-  Moves,
-  acts,
-  takes,
-  passes,
-  pauses,
-  runs,
-  repeats,
-  repeats_until,
-  leaves,
-  turns,
-  enters,
-  skips,
-  forks,
-  guards,
-  goes_on,
-  waits,
-  lets,
-  aborts,
-  resets,
-  guard_ends,
-  copies,
-  run_ends,
-  joins,
-  in_seq,
-  in_par,
-  in_guard,
-  in_run,
-}
+use Rattle.bl_ctree_laws.specs.Steps.{Moves, acts, takes, passes, pauses, runs, repeats, repeats_until, leaves, turns, enters, skips, forks, guards, goes_on}
+use Rattle.bl_ctree_laws.specs.Steps.{waits, lets, aborts, resets, guard_ends, copies, run_ends, joins, in_seq, in_par, in_guard, in_run}
 use Rattle.bl_ctree_laws.specs.Trees.{Tree, Nil, Wait, Test, Idle, Do, Seq, Par, Guard, Run, before, seq}
-use Rattle.bl_ctree_laws.proofs.Tests.{and_first, and_second}
 use Rattle.bl_ctree_laws_peeled.specs.Lines.{Line, At, Over, is_chain, is_under_way, line}
 use Rattle.bl_ctree_laws_peeled.proofs.Lining.{Begun, begun_block, begun_seq, line_seq}
 

@@ -18,37 +18,11 @@ use Rattle.bl_graph_nodes.proofs.Equations.{plain_statements}
 use Rattle.bl_ctree_laws.specs.Trees.{before}
 use Rattle.bl_peel.specs.Peeled.{ArmPeeling, BranchPeeling, Peeling, arm_peeling, branch_peeling, deep_of, front_of, kind_peeling, made_arm, made_if, peeled, peeling, stmt_peeling}
 use Rattle.bl_ctree_laws_peeled.specs.Bodies.{PeeledUnrolls}
-use Rattle.bl_ctree_laws_peeled.specs.Unrolls.{
-  PlainUnrolls,
-  Unrolls,
-  acts_alike,
-  again_if,
-  awaits_alike,
-  first_alike,
-  first_repeat,
-  first_until,
-  no_more,
-  runs_alike,
-  while_if,
-}
+use Rattle.bl_ctree_laws_peeled.specs.Unrolls.{PlainUnrolls, Unrolls, acts_alike, again_if, awaits_alike, first_alike, first_repeat, first_until, no_more}
+use Rattle.bl_ctree_laws_peeled.specs.Unrolls.{runs_alike, while_if}
 use Rattle.bl_ctree_laws_peeled.proofs.Blocks.{before_assoc, unrolls_before}
-use Rattle.bl_ctree_laws_peeled.proofs.Shapes.{
-  ArmsBecome,
-  BlockBecomes,
-  BranchesBecome,
-  alike_by,
-  cobegin_becomes,
-  if_becomes,
-  made_if_is,
-  no_arms,
-  no_branches,
-  one_arm,
-  one_branch,
-  repeat_becomes,
-  until_becomes,
-  when_becomes,
-  while_becomes,
-}
+use Rattle.bl_ctree_laws_peeled.proofs.Shapes.{ArmsBecome, BlockBecomes, BranchesBecome, alike_by, cobegin_becomes, if_becomes, made_if_is, no_arms}
+use Rattle.bl_ctree_laws_peeled.proofs.Shapes.{no_branches, one_arm, one_branch, repeat_becomes, until_becomes, when_becomes, while_becomes}
 
 -- ---- what parts become
 

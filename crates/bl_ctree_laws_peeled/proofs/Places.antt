@@ -2,11 +2,12 @@
 use Rattle.std.proofs.Common.{◌≡◌, Bool, true, false, not, ◌&&◌, ◌||◌, cond, List, [], ◌∷◌, ◌++◌, refl, sym, ap, ◌∙◌, append-nil}
 use Rattle.std.specs.Prelude.{filter}
 use Rattle.std.specs.List.{list_any}
+use Rattle.std.proofs.lemmas.Bool.{or_left, or_right}
 use Rattle.bl_tree.specs.Rules.{same_place}
-use Rattle.bl_effects.proofs.EntryLemmas.{same_place_is, same_place_refl}
+use Rattle.bl_effects.proofs.EntryLemmas.{same_place_refl}
 use Rattle.bl_ctree.specs.Instances.{one_a_place}
 use Rattle.bl_ctree.specs.declared.instance.Run.{Run}
-use Rattle.bl_ctree_laws.proofs.Tests.{or_left, or_right}
+use Rattle.bl_tree.proofs.FirstLemmas.{same_true}
 
 -- ---- lists of which some elements are kept
 
@@ -78,7 +79,7 @@ here_filter x run apart (y ∷ xs) = by_place (same_place x.place y.place) refl 
         here (cond (not b) (y ∷ filter (λ other. not (same_place x.place other.place)) xs) (filter (λ other. not (same_place x.place other.place)) xs)) run
         ≡ (same_place y.place run.place || here xs run)
     by_place true is rest =
-        rest ∙ ap (λ b. b || here xs run) (sym (ap (λ place. same_place place run.place) (sym (same_place_is x.place y.place is)) ∙ apart))
+        rest ∙ ap (λ b. b || here xs run) (sym (ap (λ place. same_place place run.place) (sym (same_true x.place y.place is)) ∙ apart))
     by_place false is rest = ap (λ b. same_place y.place run.place || b) rest
 
 here_one : (xs : List Run) (run : Run) → here (one_a_place xs) run ≡ here xs run

@@ -21,50 +21,12 @@ use Rattle.bl_eval.specs.Functions.{acted, callable_of, callee_of as callee_in, 
 use Rattle.bl_eval.specs.Meaning.{Callee, View, value_in}
 use Rattle.bl_eval.specs.Standing.{outcome_in_unit, outcome_of, value_in_unit, value_of}
 use Rattle.bl_eval.specs.Values.{value_at}
-use Rattle.bl_ctree.specs.Actions.{
-  Acts,
-  Asks,
-  Copies,
-  Effect,
-  Gives,
-  Silent,
-  acted_kind,
-  done,
-  effect_on,
-  given_to,
-  is_true_value,
-  outcome_there,
-  result_at,
-  value_there,
-  values_there,
-  with_result,
-}
+use Rattle.bl_ctree.specs.Actions.{Acts, Asks, Copies, Effect, Gives, Silent, acted_kind, done, effect_on, given_to, is_true_value, outcome_there, result_at}
+use Rattle.bl_ctree.specs.Actions.{value_there, values_there, with_result}
 use Rattle.bl_ctree.specs.Instances.{Setting, expanded, instances_below, instances_of, runs_of, setting_of, unit_at, unit_of}
 use Rattle.bl_ctree.specs.Positions.{stmt_kind}
-use Rattle.bl_ctree.specs.Store.{
-  Location,
-  Store,
-  depth_at,
-  first_frame,
-  first_store,
-  frame_at_first,
-  home,
-  home_within,
-  led,
-  led_by,
-  outputs_of_frame,
-  outputs_row,
-  put,
-  put_path,
-  put_written,
-  remember,
-  value_among,
-  vars_at,
-  view_at,
-  whole_of,
-  with_frame,
-  with_inputs,
-}
+use Rattle.bl_ctree.specs.Store.{Location, Store, depth_at, first_frame, first_store, frame_at_first, home, home_within, led, led_by, outputs_of_frame}
+use Rattle.bl_ctree.specs.Store.{outputs_row, put, put_path, put_written, remember, value_among, vars_at, view_at, whole_of, with_frame, with_inputs}
 use Rattle.bl_ctree.specs.declared.instance.Instance.{Instance}
 use Rattle.bl_ctree.specs.declared.instance.Origin.{Origin}
 use Rattle.bl_peel.specs.Peeled.{peeled}
@@ -81,26 +43,26 @@ use Rattle.bl_ctree_laws_peeled.proofs.Peeling.{peeled_unrolls}
 pub peeled_unit_runs : PeeledRuns
 peeled_unit_runs unit = peeled_runs unit.body
 
-runs_same : {unit tree : UnitDef} → UnitPeels unit tree → runs_of unit ≡ runs_of tree
+runs_same : {unit peeled_unit : UnitDef} → UnitPeels unit peeled_unit → runs_of unit ≡ runs_of peeled_unit
 runs_same kept = refl
 runs_same (is_peeled {unit} activity) = sym (peeled_runs unit.body)
 
-vars_same : {unit tree : UnitDef} → UnitPeels unit tree → unit.vars ≡ tree.vars
+vars_same : {unit peeled_unit : UnitDef} → UnitPeels unit peeled_unit → unit.vars ≡ peeled_unit.vars
 vars_same kept = refl
 vars_same (is_peeled activity) = refl
 
 -- a unit on both sides, or on neither
 pub data BothPeel : Option UnitDef → Option UnitDef → Type 0 where
   neither : BothPeel None None
-  both : {unit tree : UnitDef} → UnitPeels unit tree → BothPeel (Some unit) (Some tree)
+  both : {unit peeled_unit : UnitDef} → UnitPeels unit peeled_unit → BothPeel (Some unit) (Some peeled_unit)
 
-pub unit_there : {units trees : List UnitDef} → UnitsPeel units trees → (k : ℕ) → BothPeel (slice_get units k) (slice_get trees k)
+pub unit_there : {units peeled_units : List UnitDef} → UnitsPeel units peeled_units → (k : ℕ) → BothPeel (slice_get units k) (slice_get peeled_units k)
 unit_there no_units zero = neither
 unit_there no_units (suc k) = neither
 unit_there (more_units one more) zero = both one
 unit_there (more_units one more) (suc k) = unit_there more k
 
-first_units : {units trees : List UnitDef} → UnitsPeel units trees → (k : ℕ) → UnitsPeel (take k units) (take k trees)
+first_units : {units peeled_units : List UnitDef} → UnitsPeel units peeled_units → (k : ℕ) → UnitsPeel (take k units) (take k peeled_units)
 first_units no_units zero = no_units
 first_units no_units (suc k) = no_units
 first_units (more_units one more) zero = no_units
@@ -108,43 +70,43 @@ first_units (more_units one more) (suc k) = more_units one (first_units more k)
 
 -- ---- functions
 
-callable_same : (structs : List StructDef) (callees : List Callee) {unit tree : UnitDef} → UnitPeels unit tree →
-    callable_of structs callees unit ≡ callable_of structs callees tree
+callable_same : (structs : List StructDef) (callees : List Callee) {unit peeled_unit : UnitDef} → UnitPeels unit peeled_unit →
+    callable_of structs callees unit ≡ callable_of structs callees peeled_unit
 callable_same structs callees kept = refl
 callable_same structs callees (is_peeled {unit} activity) =
     ap (λ b. cond b (callee_in structs callees unit) (λ arguments. None)) activity
     ∙ sym (ap (λ b. cond b (callee_in structs callees (record unit { body = peeled unit.body })) (λ arguments. None)) activity)
 
-callees_same : (structs : List StructDef) {units trees : List UnitDef} → UnitsPeel units trees → (callees : List Callee) →
-    callees_after structs callees units ≡ callees_after structs callees trees
+callees_same : (structs : List StructDef) {units peeled_units : List UnitDef} → UnitsPeel units peeled_units → (callees : List Callee) →
+    callees_after structs callees units ≡ callees_after structs callees peeled_units
 callees_same structs no_units callees = refl
-callees_same structs (more_units {unit} {tree} {units} one more) callees =
+callees_same structs (more_units {unit} {peeled_unit} {units} one more) callees =
     ap (λ c. callees_after structs (callees ++ c ∷ []) units) (callable_same structs callees one)
-    ∙ callees_same structs more (callees ++ callable_of structs callees tree ∷ [])
+    ∙ callees_same structs more (callees ++ callable_of structs callees peeled_unit ∷ [])
 
-module _ (structs : List StructDef) (units trees : List UnitDef) (peels : UnitsPeel units trees) where
-  value_same : (k : ℕ) (e : Expr) (view : View) → value_in_unit structs units k e view ≡ value_in_unit structs trees k e view
+module _ (structs : List StructDef) (units peeled_units : List UnitDef) (peels : UnitsPeel units peeled_units) where
+  value_same : (k : ℕ) (e : Expr) (view : View) → value_in_unit structs units k e view ≡ value_in_unit structs peeled_units k e view
   value_same k e view = by_unit (unit_there peels k)
     where
-      functions : callees_of structs (take k units) ≡ callees_of structs (take k trees)
+      functions : callees_of structs (take k units) ≡ callees_of structs (take k peeled_units)
       functions = callees_same structs (first_units peels k) []
 
       by_unit : {one other : Option UnitDef} → BothPeel one other →
           option_and_then (λ site. value_of site e view) (option_map (site_of structs (take k units)) one)
-          ≡ option_and_then (λ site. value_of site e view) (option_map (site_of structs (take k trees)) other)
+          ≡ option_and_then (λ site. value_of site e view) (option_map (site_of structs (take k peeled_units)) other)
       by_unit neither = refl
       by_unit (both {unit} kept) = λ j. value_in (record { structs = structs; vars = unit.vars; callees = functions j }) e view
       by_unit (both (is_peeled {unit} activity)) = λ j. value_in (record { structs = structs; vars = unit.vars; callees = functions j }) e view
 
-  outcome_same : (k : ℕ) (s : Stmt) (view : View) → outcome_in_unit structs units k s view ≡ outcome_in_unit structs trees k s view
+  outcome_same : (k : ℕ) (s : Stmt) (view : View) → outcome_in_unit structs units k s view ≡ outcome_in_unit structs peeled_units k s view
   outcome_same k s view = by_unit (unit_there peels k)
     where
-      functions : callees_of structs (take k units) ≡ callees_of structs (take k trees)
+      functions : callees_of structs (take k units) ≡ callees_of structs (take k peeled_units)
       functions = callees_same structs (first_units peels k) []
 
       by_unit : {one other : Option UnitDef} → BothPeel one other →
           option_and_then (λ site. outcome_of site s view) (option_map (site_of structs (take k units)) one)
-          ≡ option_and_then (λ site. outcome_of site s view) (option_map (site_of structs (take k trees)) other)
+          ≡ option_and_then (λ site. outcome_of site s view) (option_map (site_of structs (take k peeled_units)) other)
       by_unit neither = refl
       by_unit (both {unit} kept) =
           λ j. acted (record { structs = structs; vars = unit.vars; callees = functions j }) (out-StmtKind (out-Stmt s).what) view
@@ -153,13 +115,14 @@ module _ (structs : List StructDef) (units trees : List UnitDef) (peels : UnitsP
 
   -- ---- instances
 
-  expanded_same : (longest k : ℕ) → expanded units longest k ≡ expanded trees longest k
+  expanded_same : (longest k : ℕ) → expanded units longest k ≡ expanded peeled_units longest k
   expanded_same zero k = refl
   expanded_same (suc longest) k = by_unit (unit_there peels k) (expanded_same longest)
     where
-      by_unit : {one other : Option UnitDef} → BothPeel one other → ((n : ℕ) → expanded units longest n ≡ expanded trees longest n) →
+      by_unit : {one other : Option UnitDef} → BothPeel one other → ((n : ℕ) → expanded units longest n ≡ expanded peeled_units longest n) →
           unwrap_or (option_map (λ unit. record { unit = k; depth = 0; origin = None } ∷ instances_below (expanded units longest) 1 (runs_of unit)) one) []
-          ≡ unwrap_or (option_map (λ unit. record { unit = k; depth = 0; origin = None } ∷ instances_below (expanded trees longest) 1 (runs_of unit)) other) []
+          ≡ unwrap_or (option_map (λ unit. record { unit = k; depth = 0; origin = None } ∷
+          instances_below (expanded peeled_units longest) 1 (runs_of unit)) other) []
       by_unit neither inner = refl
       by_unit (both one) inner =
           λ j. record { unit = k; depth = 0; origin = None } ∷ instances_below (λ n. inner n j) 1 (runs_same one j)
@@ -169,9 +132,9 @@ module _ (structs : List StructDef) (units trees : List UnitDef) (peels : UnitsP
     w = setting_of structs units entry
 
     abbrev w' : Setting
-    w' = setting_of structs trees entry
+    w' = setting_of structs peeled_units entry
 
-    instances_same : instances_of units entry ≡ instances_of trees entry
+    instances_same : instances_of units entry ≡ instances_of peeled_units entry
     instances_same = expanded_same (entry + 1) entry
 
     unit_of_both : (o : Option Instance) → BothPeel (option_and_then (unit_of w) o) (option_and_then (unit_of w') o)
@@ -322,4 +285,4 @@ module _ (structs : List StructDef) (units trees : List UnitDef) (peels : UnitsP
         by_unit (both (is_peeled activity)) = refl
 
 pub peeled_is_same_program : PeeledIsSameProgram
-peeled_is_same_program structs units trees entry peels = same_program structs units trees peels entry
+peeled_is_same_program structs units peeled_units entry peels = same_program structs units peeled_units peels entry

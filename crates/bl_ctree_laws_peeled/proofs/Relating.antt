@@ -12,45 +12,12 @@ use Rattle.bl_ctree.specs.Control.{Phase, Body, Check}
 use Rattle.bl_ctree.specs.Instances.{Setting}
 use Rattle.bl_ctree.specs.Pending.{is_reset_kind}
 use Rattle.bl_ctree.specs.Store.{Location, homes, overlap}
-use Rattle.bl_ctree_laws.specs.Pending.{
-  Deed,
-  any_meets,
-  any_writes,
-  any_writes_path,
-  anew,
-  deed_reads,
-  guard_may_end,
-  leads_over,
-  may_end,
-  may_join,
-  may_write,
-  may_write_path,
-  meets,
-  run_may_end,
-}
+use Rattle.bl_ctree_laws.specs.Pending.{Deed, any_meets, any_writes, any_writes_path, anew, deed_reads, guard_may_end, leads_over, may_end, may_join, may_write}
+use Rattle.bl_ctree_laws.specs.Pending.{may_write_path, meets, run_may_end}
 use Rattle.bl_ctree_laws.specs.Trees.{Tree, Trees, Watch, are_done, are_settled, beside, has_strong, in_body, some_ended, strong_ended}
 use Rattle.bl_ctree_laws_peeled.specs.Answers.{RelatedAnswers, RelatedMeet, SameBlockAnswers, SameDeed, SameTreeAnswers}
-use Rattle.bl_ctree_laws_peeled.specs.Lines.{
-  Line,
-  Lined,
-  Related,
-  RelatedEach,
-  Standing,
-  both_begin,
-  both_fork,
-  both_guard,
-  both_idle,
-  both_over,
-  both_run,
-  both_stand,
-  both_test,
-  both_wait,
-  is_chain,
-  line,
-  no_branches,
-  one_branch,
-  related,
-}
+use Rattle.bl_ctree_laws_peeled.specs.Lines.{Line, Lined, Related, RelatedEach, Standing, both_begin, both_fork, both_guard, both_idle, both_over, both_run}
+use Rattle.bl_ctree_laws_peeled.specs.Lines.{both_stand, both_test, both_wait, is_chain, line, no_branches, one_branch, related}
 use Rattle.bl_ctree_laws_peeled.specs.Settings.{SameProgram}
 use Rattle.bl_ctree_laws_peeled.proofs.Answering.{block_answers}
 use Rattle.bl_ctree_laws_peeled.proofs.Lining.{ended_of, ends_of, is_over, line_ends, line_settled, line_writes, settled_of, writes_of}

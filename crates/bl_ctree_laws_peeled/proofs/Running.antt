@@ -1,6 +1,7 @@
 -- Each run of a program is one of the program with first turns unrolled.
 use Rattle.std.proofs.Common.{◌≡◌, ◌⊎◌, inl, inr, ℕ, ℤ, Bool, true, List, [], ◌∷◌, ◌++◌, Option, Some, None, refl, sym, ap, ◌∙◌, subst}
 use Rattle.std.specs.Prelude.{option_map, unwrap_or}
+use Rattle.bl_tree.proofs.Basics.{same_some}
 use Rattle.bl_tree.specs.declared.row.Last.TheVariants.{Ended as HasEnded, Trap as HasTrapped}
 use Rattle.bl_tree.specs.declared.tree.Unit.{Unit as UnitDef}
 use Rattle.bl_graph_nodes.specs.Nodes.{Node}
@@ -38,14 +39,11 @@ use Rattle.bl_ctree_laws_peeled.proofs.Waking.{related_idle, wake_related}
 
 -- ---- stores
 
-some_one : {A : Type 0} (x y : A) → Some x ≡ Some y → x ≡ y
-some_one x y e = cc
-
 -- a step that does nothing leaves the store
 silent_leaves : (w : Setting) (i : ℕ) (effect : Effect) (answer : Bool) (store store' : Store) → effect ≡ Silent →
     effect_on w i effect store ≡ Some (record { answer = answer; store = store' }) → store' ≡ store
 silent_leaves w i effect answer store store' silent performs =
-    sym (ap (λ (p : Performed). p.store) (some_one (record { answer = true; store = store }) (record { answer = answer; store = store' })
+    sym (ap (λ (p : Performed). p.store) (same_some (record { answer = true; store = store }) (record { answer = answer; store = store' })
     (sym (ap (λ effect. effect_on w i effect store) silent) ∙ performs)))
 
 -- a step that does nothing doesn't trap
@@ -314,9 +312,9 @@ module _ (kept : StepsKeepResidual) (begun : WokenTreeIsResidual) (between : Rea
     (answers : AnswersArePlain) (statements : StatementsArePlain) (sound : StepsArePlain) (complete : PlainStepsAreSteps) (armed : ReachedIsArmed)
     (waking : WakingIsPlain) where
   pub unrolled_means : UnrolledMeans
-  unrolled_means structs units trees entry rows shows same shown =
+  unrolled_means structs units others entry rows shows same shown =
       means_too kept begun between inside follow answers statements sound complete armed waking same.program same rows shows shown
 
   pub unrolled_is_never_stuck : UnrolledIsNeverStuck
-  unrolled_is_never_stuck structs units trees entry same never rows row actions c store reaches still =
+  unrolled_is_never_stuck structs units others entry same never rows row actions c store reaches still =
       never_stuck_too kept begun between inside follow answers statements sound complete armed waking same.program same never rows row actions c store reaches still

@@ -10,41 +10,12 @@ use Rattle.bl_tree.specs.declared.tree.StmtKind.{fold-roll-StmtKind}
 use Rattle.bl_tree.specs.declared.tree.StmtKind.TheOpen.{StmtKind-F}
 use Rattle.bl_graph_nodes.specs.Laws.{plain_arm, plain_branch, stmt}
 use Rattle.bl_graph_nodes.specs.Nodes.{Node}
-use Rattle.bl_graph_nodes.specs.Plain.{
-  Block,
-  Bodies,
-  Label,
-  Plain,
-  Position,
-  Body as BodyOf,
-  If,
-  block_from,
-  bodies_from,
-  else_at,
-  inside,
-  label_at,
-  never,
-  passed_one,
-  plain_stmt,
-  plain_block,
-}
+use Rattle.bl_graph_nodes.specs.Plain.{Block, Bodies, Label, Plain, Position, Body as BodyOf, If, block_from, bodies_from, else_at, inside, label_at, never}
+use Rattle.bl_graph_nodes.specs.Plain.{passed_one, plain_stmt, plain_block}
 use Rattle.bl_graph_nodes.proofs.Equations.{plain_statements}
 use Rattle.bl_peel.specs.Peeled.{made_arm, made_if, place_of_expr}
-use Rattle.bl_ctree_laws_peeled.specs.Unrolls.{
-  PlainUnrolls,
-  EachUnrolls,
-  Unrolls,
-  cobegins_alike,
-  first_alike,
-  ifs_alike,
-  no_body,
-  no_more,
-  one_body,
-  repeats_alike,
-  untils_alike,
-  whens_alike,
-  whiles_alike,
-}
+use Rattle.bl_ctree_laws_peeled.specs.Unrolls.{PlainUnrolls, EachUnrolls, Unrolls, cobegins_alike, first_alike, ifs_alike, no_body, no_more, one_body}
+use Rattle.bl_ctree_laws_peeled.specs.Unrolls.{repeats_alike, untils_alike, whens_alike, whiles_alike}
 
 -- a block becomes another, wherever both stand
 abbrev pub BlockBecomes : (Node → Plain → Type 0) → List Stmt → List Stmt → Type 0

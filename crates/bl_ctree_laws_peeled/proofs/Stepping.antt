@@ -1,6 +1,7 @@
 -- A step of a tree is one of each related tree, or a head that falls away after which fewer may fall away there.
 use Rattle.std.proofs.Common.{◌≡◌, ◌⊎◌, inl, inr, ℕ, ◌<◌, Bool, true, false, not, Option, Some, None, refl, sym, ap, ◌∙◌, subst, arith}
 use Rattle.std.specs.Prelude.{position}
+use Rattle.bl_tree.proofs.Basics.{and_first, and_second}
 use Rattle.bl_tree.specs.declared.place.Place.{Place}
 use Rattle.bl_tree.specs.declared.tree.Expr.{Expr}
 use Rattle.bl_tree.specs.declared.tree.Unit.{Unit as UnitDef}
@@ -11,140 +12,28 @@ use Rattle.bl_ctree.specs.Actions.{Asks, Copies, Gives, Silent}
 use Rattle.bl_ctree.specs.Control.{Body}
 use Rattle.bl_ctree.specs.Instances.{Setting, begins_at as begins_at_place, callee_of}
 use Rattle.bl_ctree_laws.specs.Pending.{Deed, any_meets, deed, meets}
-use Rattle.bl_ctree_laws.specs.Steps.{
-  Moves,
-  OneMoves,
-  acts,
-  takes,
-  passes,
-  pauses,
-  runs,
-  repeats,
-  repeats_until,
-  leaves,
-  turns,
-  enters,
-  skips,
-  forks,
-  guards,
-  goes_on,
-  waits,
-  lets,
-  aborts,
-  resets,
-  guard_ends,
-  copies,
-  run_ends,
-  joins,
-  in_seq,
-  in_par,
-  in_guard,
-  in_run,
-  first,
-  later,
-  turn,
-}
-use Rattle.bl_ctree_laws.specs.Trees.{
-  Call,
-  Fork,
-  Tree,
-  Trees,
-  Watch,
-  Nil,
-  Do,
-  Guard,
-  Par,
-  Run,
-  are_done,
-  are_settled,
-  before,
-  beside,
-  do_block,
-  is_nil,
-  is_settled,
-  trees_begun,
-}
-use Rattle.bl_ctree_laws.proofs.Tests.{and_first, and_second}
+use Rattle.bl_ctree_laws.specs.Steps.{Moves, OneMoves, acts, takes, passes, pauses, runs, repeats, repeats_until, leaves, turns, enters, skips, forks, guards}
+use Rattle.bl_ctree_laws.specs.Steps.{goes_on, waits, lets, aborts, resets, guard_ends, copies, run_ends, joins, in_seq, in_par, in_guard, in_run, first, later}
+use Rattle.bl_ctree_laws.specs.Steps.{turn}
+use Rattle.bl_ctree_laws.specs.Trees.{Call, Fork, Tree, Trees, Watch, Nil, Do, Guard, Par, Run, are_done, are_settled, before, beside, do_block, is_nil}
+use Rattle.bl_ctree_laws.specs.Trees.{is_settled, trees_begun}
 use Rattle.bl_ctree_laws_peeled.specs.Answers.{SameDeed}
-use Rattle.bl_ctree_laws_peeled.proofs.Heads.{
-  FallsAt,
-  FallsEach,
-  FewAt,
-  FewEach,
-  FewInTree,
-  HasTurn,
-  HeadFalls,
-  HeadsStay,
-  falls_begins,
-  falls_fork,
-  falls_guard,
-  falls_here,
-  falls_in,
-  falls_run,
-  falls_there,
-  few_begins,
-  few_fork,
-  few_guard,
-  few_here,
-  few_in,
-  few_run,
-  few_there,
-  leading,
-  leading_in,
-}
-use Rattle.bl_ctree_laws_peeled.specs.Lines.{
-  Line,
-  Lined,
-  Related,
-  RelatedEach,
-  Standing,
-  At,
-  both_begin,
-  both_fork,
-  both_guard,
-  both_idle,
-  both_over,
-  both_run,
-  both_stand,
-  both_test,
-  both_wait,
-  is_chain,
-  line,
-  no_branches,
-  one_branch,
-  related,
-}
+use Rattle.bl_ctree_laws_peeled.proofs.Heads.{FallsAt, FallsEach, FewAt, FewEach, FewInTree, HasTurn, HeadFalls, HeadsStay, falls_begins, falls_fork}
+use Rattle.bl_ctree_laws_peeled.proofs.Heads.{falls_guard, falls_here, falls_in, falls_run, falls_there, few_begins, few_fork, few_guard, few_here, few_in}
+use Rattle.bl_ctree_laws_peeled.proofs.Heads.{few_run, few_there, leading, leading_in}
+use Rattle.bl_ctree_laws_peeled.specs.Lines.{Line, Lined, Related, RelatedEach, Standing, At, both_begin, both_fork, both_guard, both_idle, both_over, both_run}
+use Rattle.bl_ctree_laws_peeled.specs.Lines.{both_stand, both_test, both_wait, is_chain, line, no_branches, one_branch, related}
 use Rattle.bl_ctree_laws_peeled.specs.Settings.{SameProgram, UnitUnrolls, no_unit, one_unit}
 use Rattle.bl_ctree_laws_peeled.specs.Steps.{FallsAway, StepsAlong, StepsAreRelated}
-use Rattle.bl_ctree_laws_peeled.specs.Unrolls.{
-  PlainUnrolls,
-  EachUnrolls,
-  Unrolls,
-  acts_alike,
-  again_if,
-  agains_alike,
-  awaits_alike,
-  cobegins_alike,
-  first_alike,
-  first_repeat,
-  first_until,
-  ifs_alike,
-  no_body,
-  no_more,
-  one_body,
-  repeats_alike,
-  runs_alike,
-  untils_alike,
-  whens_alike,
-  while_if,
-  whiles_alike,
-}
+use Rattle.bl_ctree_laws_peeled.specs.Unrolls.{PlainUnrolls, EachUnrolls, Unrolls, acts_alike, again_if, agains_alike, awaits_alike, cobegins_alike}
+use Rattle.bl_ctree_laws_peeled.specs.Unrolls.{first_alike, first_repeat, first_until, ifs_alike, no_body, no_more, one_body, repeats_alike, runs_alike}
+use Rattle.bl_ctree_laws_peeled.specs.Unrolls.{untils_alike, whens_alike, while_if, whiles_alike}
 use Rattle.bl_ctree_laws_peeled.proofs.Blocks.{unrolls_before}
 use Rattle.bl_ctree_laws_peeled.proofs.Lining.{begun_block, line_begins, line_seq, line_settled, lined_begins, lined_block, relined, settled_of}
 use Rattle.bl_ctree_laws_peeled.proofs.Moving.{begun, head_in, rest_in, whole_moves}
 use Rattle.bl_ctree_laws_peeled.proofs.Relating.{any_meets_same, each_answers, meets_same, related_answers, same_done}
 
-same_deed : {a b : Deed} → a.instance ≡ b.instance → a.effect ≡ b.effect → SameDeed a b
+pub same_deed : {a b : Deed} → a.instance ≡ b.instance → a.effect ≡ b.effect → SameDeed a b
 same_deed instance effect = record { instance = instance; effect = effect }
 
 -- ---- units of instances
@@ -157,7 +46,7 @@ pub record Counterpart (H : Node → Plain → Type 0) (unit : UnitDef) (other :
 some_unit : (one other : UnitDef) → Some one ≡ Some other → one ≡ other
 some_unit one other e = cc
 
-no_some : {A : Type 0} (unit : UnitDef) → None ≡ Some unit → A
+pub no_some : {A : Type 0} (unit : UnitDef) → None ≡ Some unit → A
 no_some unit e = absurd cc
 
 pub counterpart : {H : Node → Plain → Type 0} {one other : Option UnitDef} {unit : UnitDef} → UnitUnrolls H one other → one ≡ Some unit →

@@ -1,5 +1,5 @@
 -- Where the second of two related trees can step the first can.
-use Rattle.std.proofs.Common.{◌≡◌, ◌⊎◌, inl, inr, ℕ, Bool, true, false, Option, Some, None, refl, sym, ap, ◌∙◌, subst}
+use Rattle.std.proofs.Common.{◌≡◌, ◌⊎◌, inl, inr, ℕ, Bool, true, false, Option, Some, refl, sym, ap, ◌∙◌, subst}
 use Rattle.std.specs.Prelude.{position}
 use Rattle.bl_tree.specs.declared.place.Place.{Place}
 use Rattle.bl_tree.specs.declared.tree.Unit.{Unit as UnitDef}
@@ -10,100 +10,26 @@ use Rattle.bl_ctree.specs.Actions.{Asks, Copies, Gives, Silent}
 use Rattle.bl_ctree.specs.Control.{Body}
 use Rattle.bl_ctree.specs.Instances.{Setting, begins_at, callee_of}
 use Rattle.bl_ctree_laws.specs.Pending.{Deed, any_meets, deed, meets}
-use Rattle.bl_ctree_laws.specs.Steps.{
-  Moves,
-  OneMoves,
-  Unmet,
-  acts,
-  takes,
-  passes,
-  pauses,
-  runs,
-  repeats,
-  repeats_until,
-  leaves,
-  turns,
-  enters,
-  skips,
-  forks,
-  guards,
-  goes_on,
-  waits,
-  lets,
-  aborts,
-  resets,
-  guard_ends,
-  copies,
-  run_ends,
-  joins,
-  in_seq,
-  in_par,
-  in_guard,
-  in_run,
-  first,
-  later,
-}
+use Rattle.bl_ctree_laws.specs.Steps.{Moves, OneMoves, Unmet, acts, takes, passes, pauses, runs, repeats, repeats_until, leaves, turns, enters, skips, forks}
+use Rattle.bl_ctree_laws.specs.Steps.{guards, goes_on, waits, lets, aborts, resets, guard_ends, copies, run_ends, joins, in_seq, in_par, in_guard, in_run}
+use Rattle.bl_ctree_laws.specs.Steps.{first, later}
 use Rattle.bl_ctree_laws.specs.Trees.{Call, Fork, Tree, Trees, Watch, Nil, Do, Guard, Par, Run, before, beside}
 use Rattle.bl_ctree_laws_peeled.specs.Answers.{SameDeed}
-use Rattle.bl_ctree_laws_peeled.specs.Lines.{
-  Line,
-  Lined,
-  Related,
-  RelatedEach,
-  At,
-  both_begin,
-  both_fork,
-  both_guard,
-  both_run,
-  both_stand,
-  both_test,
-  is_chain,
-  line,
-  one_branch,
-  related,
-}
+use Rattle.bl_ctree_laws_peeled.specs.Lines.{Line, Lined, Related, RelatedEach, At, both_begin, both_fork, both_guard, both_run, both_stand, both_test}
+use Rattle.bl_ctree_laws_peeled.specs.Lines.{is_chain, line, one_branch, related}
 use Rattle.bl_ctree_laws_peeled.specs.Settings.{SameProgram, UnitUnrolls, no_unit, one_unit}
 use Rattle.bl_ctree_laws_peeled.specs.Steps.{StepsBack, StillIsRelated}
-use Rattle.bl_ctree_laws_peeled.specs.Unrolls.{
-  PlainUnrolls,
-  acts_alike,
-  again_if,
-  agains_alike,
-  awaits_alike,
-  cobegins_alike,
-  first_alike,
-  first_repeat,
-  first_until,
-  ifs_alike,
-  repeats_alike,
-  runs_alike,
-  untils_alike,
-  whens_alike,
-  while_if,
-  whiles_alike,
-}
+use Rattle.bl_ctree_laws_peeled.specs.Unrolls.{PlainUnrolls, acts_alike, again_if, agains_alike, awaits_alike, cobegins_alike, first_alike, first_repeat}
+use Rattle.bl_ctree_laws_peeled.specs.Unrolls.{first_until, ifs_alike, repeats_alike, runs_alike, untils_alike, whens_alike, while_if, whiles_alike}
 use Rattle.bl_ctree_laws_peeled.proofs.Moving.{head_in, whole_moves}
-use Rattle.bl_ctree_laws_peeled.proofs.Relating.{
-  any_meets_same,
-  any_silent_meets,
-  each_answers,
-  meets_same,
-  related_answers,
-  same_done,
-  silent_meets,
-}
+use Rattle.bl_ctree_laws_peeled.proofs.Relating.{any_meets_same, any_silent_meets, each_answers, meets_same, related_answers, same_done, silent_meets}
 use Rattle.bl_ctree_laws_peeled.proofs.Stepping.{nil_is}
-
-same_deed : {a b : Deed} → a.instance ≡ b.instance → a.effect ≡ b.effect → SameDeed a b
-same_deed instance effect = record { instance = instance; effect = effect }
+use Rattle.bl_ctree_laws_peeled.proofs.Stepping.{no_some, same_deed}
 
 -- the unit of an instance, where its counterpart has one
 record UnitThere (unit : Option UnitDef) : Type 0 where
   there : UnitDef
   is : unit ≡ Some there
-
-no_some : {A : Type 0} (unit : UnitDef) → None ≡ Some unit → A
-no_some unit e = absurd cc
 
 unit_there : {H : Node → Plain → Type 0} {one other : Option UnitDef} {unit : UnitDef} → UnitUnrolls H one other → other ≡ Some unit → UnitThere one
 unit_there {unit = unit} no_unit e = no_some unit e

@@ -1,31 +1,12 @@
 -- Related trees are woken to related trees.
 use Rattle.std.proofs.Common.{◌≡◌, ℕ, true, refl}
+use Rattle.std.proofs.lemmas.Bool.{and_from}
+use Rattle.bl_tree.proofs.Basics.{and_first, and_second}
 use Rattle.bl_graph_nodes.specs.Nodes.{Node}
 use Rattle.bl_graph_nodes.specs.Plain.{Block, Plain, Done}
 use Rattle.bl_ctree_laws.specs.Trees.{Tree, Trees, Nil, Wait, Test, Idle, Do, Seq, Par, Guard, Run, all_woken, woken}
-use Rattle.bl_ctree_laws.proofs.Tests.{and_both, and_first, and_second}
-use Rattle.bl_ctree_laws_peeled.specs.Lines.{
-  Line,
-  Lined,
-  Related,
-  RelatedEach,
-  Standing,
-  both_begin,
-  both_fork,
-  both_guard,
-  both_idle,
-  both_over,
-  both_run,
-  both_stand,
-  both_test,
-  both_wait,
-  is_chain,
-  is_under_way,
-  line,
-  no_branches,
-  one_branch,
-  related,
-}
+use Rattle.bl_ctree_laws_peeled.specs.Lines.{Line, Lined, Related, RelatedEach, Standing, both_begin, both_fork, both_guard, both_idle, both_over, both_run}
+use Rattle.bl_ctree_laws_peeled.specs.Lines.{both_stand, both_test, both_wait, is_chain, is_under_way, line, no_branches, one_branch, related}
 use Rattle.bl_ctree_laws_peeled.specs.Steps.{IdleIsRelated, WakingIsRelated}
 use Rattle.bl_ctree_laws_peeled.specs.Unrolls.{Unrolls, no_more}
 use Rattle.bl_ctree_laws_peeled.proofs.Lining.{begun_block, line_woken, lined_begins, relined, woken_line}
@@ -48,7 +29,7 @@ woken_chain (Test p) chain = refl
 woken_chain (Idle body) chain = (begun_block body).chain
 woken_chain (Do p) chain = refl
 woken_chain (Seq c rest) chain =
-    and_both (is_under_way (woken c)) (is_chain (woken c)) (still_under_way c (and_first (is_under_way c) (is_chain c) chain))
+    and_from (is_under_way (woken c)) (is_chain (woken c)) (still_under_way c (and_first (is_under_way c) (is_chain c) chain))
     (woken_chain c (and_second (is_under_way c) (is_chain c) chain))
 woken_chain (Par p stood branches) chain = refl
 woken_chain (Guard p phase stood c) chain = refl

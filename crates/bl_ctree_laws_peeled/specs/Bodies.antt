@@ -24,18 +24,18 @@ PeeledRuns = (unit : UnitDef) → runs_of (record unit { body = peeled unit.body
 -- programs whose activities are peeled or not have one list of instances, the same homes and effects, and unrolled bodies
 abbrev pub PeeledIsSameProgram : Type 0
 PeeledIsSameProgram =
-    (structs : List StructDef) (units trees : List UnitDef) (entry : ℕ) → UnitsPeel units trees →
-    SameProgram AnyHead (setting_of structs units entry) (setting_of structs trees entry)
+    (structs : List StructDef) (units peeled_units : List UnitDef) (entry : ℕ) → UnitsPeel units peeled_units →
+    SameProgram AnyHead (setting_of structs units entry) (setting_of structs peeled_units entry)
 
 -- what a program may show it may show with activities peeled
 abbrev pub PeeledMeans : Type 0
 PeeledMeans =
-    (structs : List StructDef) (units trees : List UnitDef) (entry : ℕ) (rows : List (List ℤ)) (shows : ShownTrace) → UnitsPeel units trees →
-    Fitted (setting_of structs units entry) → Fitted (setting_of structs trees entry) → Means structs units entry rows shows →
-    Means structs trees entry rows shows
+    (structs : List StructDef) (units peeled_units : List UnitDef) (entry : ℕ) (rows : List (List ℤ)) (shows : ShownTrace) → UnitsPeel units peeled_units →
+    Fitted (setting_of structs units entry) → Fitted (setting_of structs peeled_units entry) → Means structs units entry rows shows →
+    Means structs peeled_units entry rows shows
 
 -- a program that is never stuck with activities peeled is never stuck
 abbrev pub PeeledIsNeverStuck : Type 0
 PeeledIsNeverStuck =
-    (structs : List StructDef) (units trees : List UnitDef) (entry : ℕ) → UnitsPeel units trees → Fitted (setting_of structs units entry) →
-    Fitted (setting_of structs trees entry) → NeverStuck structs trees entry → NeverStuck structs units entry
+    (structs : List StructDef) (units peeled_units : List UnitDef) (entry : ℕ) → UnitsPeel units peeled_units → Fitted (setting_of structs units entry) →
+    Fitted (setting_of structs peeled_units entry) → NeverStuck structs peeled_units entry → NeverStuck structs units entry

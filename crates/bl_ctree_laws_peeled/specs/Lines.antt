@@ -3,26 +3,7 @@ use Rattle.std.specs.Prelude.{ℕ, Bool, true, false, ◌&&◌, ◌≡◌}
 use Rattle.bl_graph_nodes.specs.Nodes.{Node}
 use Rattle.bl_graph_nodes.specs.Plain.{Block, Plain, Done, Then}
 use Rattle.bl_ctree.specs.Control.{Phase}
-use Rattle.bl_ctree_laws.specs.Trees.{
-  Call,
-  Fork,
-  Pause,
-  Tree,
-  Trees,
-  Watch,
-  Nil,
-  Wait,
-  Test,
-  Idle,
-  Do,
-  Seq,
-  Par,
-  Guard,
-  Run,
-  before,
-  beside,
-  no_tree,
-}
+use Rattle.bl_ctree_laws.specs.Trees.{Call, Fork, Pause, Tree, Trees, Watch, Nil, Wait, Test, Idle, Do, Seq, Par, Guard, Run, before, beside, no_tree}
 use Rattle.bl_ctree_laws_peeled.specs.Unrolls.{Unrolls}
 
 -- what is left to do: nothing, or a tree that is no sequence, and then a block

@@ -21,12 +21,12 @@ pub record SameRuns (w w' : Setting) : Type 0 where
 -- what a program may show it may show with first turns unrolled
 abbrev pub UnrolledMeans : Type 0
 UnrolledMeans =
-    (structs : List StructDef) (units trees : List UnitDef) (entry : ℕ) (rows : List (List ℤ)) (shows : ShownTrace) →
-    SameRuns (setting_of structs units entry) (setting_of structs trees entry) → Means structs units entry rows shows →
-    Means structs trees entry rows shows
+    (structs : List StructDef) (units others : List UnitDef) (entry : ℕ) (rows : List (List ℤ)) (shows : ShownTrace) →
+    SameRuns (setting_of structs units entry) (setting_of structs others entry) → Means structs units entry rows shows →
+    Means structs others entry rows shows
 
 -- a program that is never stuck with first turns unrolled is never stuck
 abbrev pub UnrolledIsNeverStuck : Type 0
 UnrolledIsNeverStuck =
-    (structs : List StructDef) (units trees : List UnitDef) (entry : ℕ) → SameRuns (setting_of structs units entry) (setting_of structs trees entry) →
-    NeverStuck structs trees entry → NeverStuck structs units entry
+    (structs : List StructDef) (units others : List UnitDef) (entry : ℕ) → SameRuns (setting_of structs units entry) (setting_of structs others entry) →
+    NeverStuck structs others entry → NeverStuck structs units entry

@@ -1,85 +1,26 @@
 -- Where the head of a loop may fall away the related tree can step, and each label stands at one place.
-use Rattle.std.proofs.Common.{◌≡◌, ℕ, suc, Bool, true, false, [], inl, inr, refl, sym, ◌∙◌, subst, arith}
+use Rattle.std.proofs.Common.{◌≡◌, ℕ, suc, Bool, true, [], inr, refl, sym, ◌∙◌, subst, arith}
 use Rattle.bl_graph_nodes.specs.Nodes.{Node, entry}
-use Rattle.bl_graph_nodes.specs.Plain.{
-  Block,
-  Bodies,
-  Plain,
-  Act,
-  Again,
-  Await,
-  Body as BodyOf,
-  Cobegin,
-  Done,
-  If,
-  Last,
-  Repeat,
-  Run as RunOf,
-  Then,
-  Until,
-  When,
-  While,
-  is_empty,
-  plain_body,
-}
+use Rattle.bl_graph_nodes.specs.Plain.{Block, Bodies, Plain, Act, Again, Await, Body as BodyOf, Cobegin, Done, If, Last, Repeat, Run as RunOf, Then, Until}
+use Rattle.bl_graph_nodes.specs.Plain.{When, While, is_empty, plain_body}
 use Rattle.bl_graph_nodes.specs.Steps.{Here, Inside, StepLabel, head_of, run_node}
 use Rattle.bl_graph.specs.DataEdges.{BesideEach}
-use Rattle.bl_graph.specs.Edges.{In, InEach}
 use Rattle.bl_graph.specs.Laws.{BranchesPart}
 use Rattle.bl_ctree.specs.Control.{Check, Body}
 use Rattle.bl_ctree.specs.Instances.{Setting}
 use Rattle.bl_ctree_laws.specs.Pending.{Deed}
-use Rattle.bl_ctree_laws.specs.Steps.{
-  Anyway,
-  Moves,
-  OneMoves,
-  acts,
-  takes,
-  pauses,
-  runs,
-  repeats,
-  repeats_until,
-  leaves,
-  enters,
-  forks,
-  guards,
-  in_seq,
-  in_par,
-  in_guard,
-  in_run,
-  first,
-  later,
-}
+use Rattle.bl_ctree_laws.specs.Steps.{Anyway, Moves, OneMoves, acts, takes, pauses, runs, repeats, repeats_until, leaves, enters, forks, guards, in_seq, in_par}
+use Rattle.bl_ctree_laws.specs.Steps.{in_guard, in_run, first, later}
 use Rattle.bl_ctree_laws.specs.Trees.{Tree, Trees, Nil, Wait, Test, Idle, Do, Seq, Par, Guard, Run, before, beside, is_nil, no_tree}
 use Rattle.bl_ctree_laws_traces.specs.Progress.FitsGraph.{AllFitGraph, FitsGraph}
 use Rattle.bl_ctree_laws_traces.specs.Progress.Places.{Callable, Place, ahead_of, guarded, in_branch, whole}
 use Rattle.bl_ctree_laws_traces.proofs.OnProgress.Acting.{one_region, region}
 use Rattle.bl_ctree_laws_traces.proofs.OnBounded.Stepping.{Parted}
-use Rattle.bl_ctree_laws_peeled.proofs.Heads.{
-  FallsAt,
-  FallsEach,
-  FallsIn,
-  FewAt,
-  FewEach,
-  FewInTree,
-  HasTurn,
-  falls_begins,
-  falls_fork,
-  falls_guard,
-  falls_here,
-  falls_in,
-  falls_run,
-  falls_there,
-  few_begins,
-  few_fork,
-  few_guard,
-  few_here,
-  few_in,
-  few_run,
-  few_there,
-  leading,
-}
+use Rattle.bl_ctree_laws_peeled.proofs.Heads.{FallsAt, FallsEach, FallsIn, FewAt, FewEach, FewInTree, HasTurn, falls_begins, falls_fork, falls_guard}
+use Rattle.bl_ctree_laws_peeled.proofs.Heads.{falls_here, falls_in, falls_run, falls_there, few_begins, few_fork, few_guard, few_here, few_in, few_run}
+use Rattle.bl_ctree_laws_peeled.proofs.Heads.{few_there, leading}
 use Rattle.bl_ctree_laws_peeled.specs.Lines.{Line, line}
+use Rattle.bl_ctree_laws_traces.proofs.OnBounded.Stepping.{crossing, inside_same}
 
 -- ---- heads that fall away
 
@@ -115,17 +56,8 @@ module _ {H : ℕ → Node → Plain → Type 0} where
       each_falls_turn (falls_here falls) = falls_turn falls
       each_falls_turn (falls_there falls) = each_falls_turn falls
 
-inside_same : (n : Node) (u : ℕ) (one other : StepLabel) → Inside n u one ≡ Inside n u other → one ≡ other
-inside_same n u one other e = cc
-
 few_same : {k : ℕ} {L L' : Line} {one other : StepLabel} → one ≡ other → FewAt k L L' one → FewAt k L L' other
 few_same {k} {L} {L'} is few = subst (FewAt k L L') is few
-
--- nodes of two branches
-crossing : (stood weak : Bool) (body : Block) (rest : Bodies) (n m : Node) → In stood body n → InEach stood rest m →
-    BesideEach (BodyOf weak body rest) n m
-crossing false weak body rest n m one other = inr (inl (inl (one, other)))
-crossing true weak body rest n m one other = inr (inr (inl (inl (one, other))))
 
 -- the tree can step at the label, other branches' writes ignored
 pub record CanMove (w : Setting) (i : ℕ) (t : Tree) (m : StepLabel) : Type 0 where

@@ -1,35 +1,10 @@
 -- No tick of a program has more steps than six for each statement that the program with activities peeled passes.
-use Rattle.std.proofs.Common.{
-  ◌≡◌,
-  ℕ,
-  ℤ,
-  zero,
-  suc,
-  ◌+◌,
-  ◌*◌,
-  ◌<◌,
-  ◌≤◌,
-  true,
-  List,
-  [],
-  ◌∷◌,
-  ◌++◌,
-  take,
-  length,
-  Option,
-  Some,
-  None,
-  refl,
-  sym,
-  ap,
-  ◌∙◌,
-  subst,
-  arith,
-}
+use Rattle.std.proofs.Common.{◌≡◌, ℕ, ℤ, ◌+◌, ◌*◌, ◌<◌, ◌≤◌, true, List, [], ◌∷◌, ◌++◌, take, length, Option, Some, None, refl, sym, ap, ◌∙◌, subst}
+use Rattle.std.proofs.Common.{arith}
 use Rattle.std.specs.Prelude.{option_and_then, option_map, slice_get, unwrap_or}
 use Rattle.bl_tree.specs.declared.tree.StructDef.{StructDef}
 use Rattle.bl_tree.specs.declared.tree.Unit.{Unit as UnitDef}
-use Rattle.bl_tree.specs.Program.{IsWellTyped, is_entry}
+use Rattle.bl_tree.specs.Program.{IsWellTyped}
 use Rattle.bl_tree.specs.Typing.{site_of}
 use Rattle.bl_effects.specs.Rules.{Passes}
 use Rattle.bl_graph_nodes.specs.Nodes.{Node}
@@ -41,7 +16,7 @@ use Rattle.bl_ctree.specs.declared.instance.Instance.{Instance}
 use Rattle.bl_ctree.specs.declared.instance.Origin.{Origin}
 use Rattle.bl_ctree.specs.Control as control
 use Rattle.bl_ctree.specs.Control.{Control}
-use Rattle.bl_ctree.specs.Instances.{Setting, expanded, instances_below, instances_of, runs_of, setting_of, unit_at, unit_of}
+use Rattle.bl_ctree.specs.Instances.{Setting, instances_of, setting_of, unit_at, unit_of}
 use Rattle.bl_ctree.specs.Laws.{ReachedInsideIsResidual, ReachedIsResidual, StepsFollow, StepsKeepResidual, WokenTreeIsResidual}
 use Rattle.bl_ctree.specs.Means.{entry_items}
 use Rattle.bl_ctree.specs.Measure.{steps}
@@ -61,14 +36,7 @@ use Rattle.bl_ctree_laws.specs.Trees.{Tree}
 use Rattle.bl_ctree_laws_confluence.specs.Deeds.Orderly.{AcceptedIsOrderly}
 use Rattle.bl_ctree_laws_confluence.specs.Deeds.Origins.{HasCaller, InstancesHaveCallers}
 use Rattle.bl_ctree_laws_traces.specs.Bounded.Differ.{AllNumbered}
-use Rattle.bl_ctree_laws_traces.specs.Bounded.TickPasses.{
-  StepsAreSixEach,
-  TickPasses,
-  TickStepsAreFew,
-  TicksHavePasses,
-  pass_of,
-  passed_statements,
-}
+use Rattle.bl_ctree_laws_traces.specs.Bounded.TickPasses.{StepsAreSixEach, TickPasses, TickStepsAreFew, TicksHavePasses, pass_of, passed_statements}
 use Rattle.bl_ctree_laws_traces.specs.Progress.Accepted.{AcceptedTreesFitGraphs, ProgramsAreCallable}
 use Rattle.bl_ctree_laws_traces.specs.Progress.FitsGraph.{FitsGraph}
 use Rattle.bl_ctree_laws_traces.specs.Progress.Laws.{StepsKeepFitsGraph}
@@ -92,6 +60,7 @@ use Rattle.bl_ctree_laws_peeled_bounds.proofs.Marking.{MarkedSteps, marked_steps
 use Rattle.bl_ctree_laws_peeled_bounds.proofs.Numbers.{CalleesNumbered, callees_numbered, left_numbered, unit_number_at, unit_number_of}
 use Rattle.bl_ctree_laws_peeled_bounds.proofs.Pigeons.{pigeons}
 use Rattle.bl_ctree_laws_peeled_bounds.proofs.Turns.{MayFall, LoopAt}
+use Rattle.bl_ctree_laws_traces.proofs.OnBounded.Bounding.{entry_found, root_there}
 
 -- one more step at the end
 steps_then : {w : Setting} {c t : Tree} {first store : Store} {labels : List StepLabel} {n : StepLabel} {t' : Tree} {store' : Store} →
@@ -114,18 +83,6 @@ stands_then left_kept could {w} {unit} {t = t} {n = n} {t'} one stands = record 
 }
 
 -- ---- the entry
-
-entry_found : (units : List UnitDef) (entry : ℕ) (found : Option UnitDef) → slice_get units entry ≡ found → is_entry found ≡ true →
-    (unit : UnitDef) × (slice_get units entry ≡ Some unit)
-entry_found units entry None there is = absurd cc
-entry_found units entry (Some unit) there is = (unit, there)
-
-root_there : (units : List UnitDef) (longest k : ℕ) (unit : UnitDef) → zero < longest → slice_get units k ≡ Some unit →
-    slice_get (expanded units longest k) 0 ≡ Some (record { unit = k; depth = 0; origin = None })
-root_there units zero k unit less is = absurd (omega arith)
-root_there units (suc longest) k unit less is =
-    ap (λ found. slice_get (unwrap_or (option_map (λ unit. record { unit = k; depth = 0; origin = None }
-    ∷ instances_below (expanded units longest) 1 (runs_of unit)) found) []) 0) is
 
 entry_is : StatementsArePlain → (w : Setting) (unit : UnitDef) → unit_at w 0 ≡ Some unit → entry_block w ≡ plain_body unit.body
 entry_is plain w unit is =
@@ -160,40 +117,41 @@ pub record TickLaws : Type 0 where
   pub few : TickStepsAreFew
   pub six : StepsAreSixEach
 
-module _ (laws : TickLaws) (structs : List StructDef) (units trees : List UnitDef) (peels : UnitsPeel units trees) (entry : ℕ)
-    (keeps : IsWellTyped structs trees entry) (rules : Passes trees) (numbered : AllNumbered (setting_of structs trees entry)) where
+module _ (laws : TickLaws) (structs : List StructDef) (units peeled_units : List UnitDef) (peels : UnitsPeel units peeled_units) (entry : ℕ)
+    (keeps : IsWellTyped structs peeled_units entry) (rules : Passes peeled_units) (numbered : AllNumbered (setting_of structs peeled_units entry)) where
   abbrev w : Setting
   w = setting_of structs units entry
 
   abbrev w' : Setting
-  w' = setting_of structs trees entry
+  w' = setting_of structs peeled_units entry
 
   abbrev heads : ℕ → List LoopAt
-  heads = heads_by_number structs units trees peels
+  heads = heads_by_number structs units peeled_units peels
 
   abbrev H : ℕ → Node → Plain → Type 0
   H i = MayFall (heads (unit_number_at w' i))
 
   program : SameProgram H w w'
-  program = listed_program structs units trees peels entry numbered
+  program = listed_program structs units peeled_units peels entry numbered
 
-  are : CallsAreRuns trees
-  are k unit there = (body_few (site_of structs (take k trees) unit) unit.body (typed_at structs [] trees k unit keeps.units_stand there)).are
+  are : CallsAreRuns peeled_units
+  are k unit there = (body_few (site_of structs (take k peeled_units) unit) unit.body (typed_at structs [] peeled_units k unit keeps.units_stand there)).are
 
   numbers : CalleesNumbered w'
-  numbers = callees_numbered laws.callers structs trees entry (one_unit_each structs trees entry keeps) are
+  numbers = callees_numbered laws.callers structs peeled_units entry (one_unit_each structs peeled_units entry keeps) are
 
   entry_number : (unit : UnitDef) → unit_at w' 0 ≡ Some unit → unit_number_at w' 0 ≡ entry
-  entry_number unit is = by_found (slice_get (instances_of trees entry) 0) refl is
+  entry_number unit is = by_found (slice_get (instances_of peeled_units entry) 0) refl is
     where
-      by_origin : (instance : Instance) (o : Option Origin) → HasCaller trees entry (instances_of trees entry) 0 instance o → instance.unit ≡ entry
+      by_origin : (instance : Instance) (o : Option Origin) → HasCaller peeled_units entry (instances_of peeled_units entry) 0 instance o →
+          instance.unit ≡ entry
       by_origin instance None first = first.2
       by_origin instance (Some origin) called = absurd (omega (arith, called.earlier))
 
-      by_found : (found : Option Instance) → slice_get (instances_of trees entry) 0 ≡ found → option_and_then (unit_of w') found ≡ Some unit →
+      by_found : (found : Option Instance) → slice_get (instances_of peeled_units entry) 0 ≡ found → option_and_then (unit_of w') found ≡ Some unit →
           unit_number_of found ≡ entry
       by_found None there is = absurd cc
-      by_found (Some instance) there is = by_origin instance instance.origin (laws.callers trees entry 0 instance there)
+      by_found (Some instance) there is = by_origin instance instance.origin (laws.callers peeled_units entry 0 instance there)
 
   -- ---- a tick
 
@@ -204,13 +162,13 @@ module _ (laws : TickLaws) (structs : List StructDef) (units trees : List UnitDe
     begins = plain_tree (control.woken tree)
 
     tick_passes : TickPasses w' entry begins
-    tick_passes = laws.have structs trees entry keeps rules rows tree store reached
+    tick_passes = laws.have structs peeled_units entry keeps rules rows tree store reached
 
     at_once : ReachesInside w' rows row [] (ticks.Rests (control.woken tree) (woken_store row store))
     at_once = record { tree = tree; store = store; before = reached; steps = ticks.none }
 
     now : TreeFitsGraphNow w' (entry_block w') begins
-    now = (laws.fit structs trees entry keeps rules).inside rows row [] (control.woken tree) (woken_store row store) at_once
+    now = (laws.fit structs peeled_units entry keeps rules).inside rows row [] (control.woken tree) (woken_store row store) at_once
 
     body : entry_block w' ≡ plain_body unit.body
     body = entry_is laws.statements w' unit is
@@ -237,8 +195,9 @@ module _ (laws : TickLaws) (structs : List StructDef) (units trees : List UnitDe
     tick_marked : (c : Tree) (labels : List StepLabel) (end : PlainTreeEnd) → PlainTreeSteps w c (woken_store row store) labels end → Related H 0 c begins →
         MarkedSteps w' (EdgeAll (plain_body unit.body)) (λ x. Among x (tick_marks heads tick_passes.all)) c begins (woken_store row store) labels
     tick_marked c labels end steps inner =
-        marked_steps laws.pass laws.part laws.could laws.shrink laws.stays (λ i n s may. may.turns) program (laws.orderly structs trees entry keeps rules).paces
-        (laws.callable structs trees entry keeps) numbered unit is now.stood Holds
+        marked_steps laws.pass laws.part laws.could laws.shrink laws.stays (λ i n s may. may.turns) program
+        (laws.orderly structs peeled_units entry keeps rules).paces
+        (laws.callable structs peeled_units entry keeps) numbered unit is now.stood Holds
         (λ t there n t' later one stands. stands_then laws.left_kept laws.could one stands) (λ x. Among x (tick_marks heads tick_passes.all)) kept steps inner
         live (record { labels = []; steps = none; left = left })
 
@@ -247,27 +206,27 @@ module _ (laws : TickLaws) (structs : List StructDef) (units trees : List UnitDe
         length labels ≤ 6 * passed_statements w'
     tick_few c labels end steps inner =
         let all = tick_marked c labels end steps inner in
-        let own = laws.few structs trees entry keeps rules numbered rows tree store reached (woken_store row store) all.own all.end all.steps in
+        let own = laws.few structs peeled_units entry keeps rules numbered rows tree store reached (woken_store row store) all.own all.end all.steps in
         let fewer = pigeons all.marks (tick_marks heads tick_passes.all) all.differ all.kept in
         let long = marks_long heads tick_passes.all in
         let less = tick_passes.few (λ k. length (heads k)) in
-        let more = heads_few structs units trees peels entry numbered keeps.units_stand in
+        let more = heads_few structs units peeled_units peels entry numbered keeps.units_stand in
         let many = all.as_many in
         omega (arith, own, fewer, long, less, more, many)
 
   -- ---- runs
 
-  bounded : Fitted w → Bounded (steps structs trees entry) structs units entry
+  bounded : Fitted w → Bounded (steps structs peeled_units entry) structs units entry
   bounded typed rows row actions end r =
-      let found = entry_found trees entry (slice_get trees entry) refl keeps.entry_stands in
+      let found = entry_found peeled_units entry (slice_get peeled_units entry) refl keeps.entry_stands in
       let is : unit_at w' 0 ≡ Some found.0 =
-      ap (option_and_then (unit_of w')) (root_there trees (entry + 1) entry found.0 (omega arith) found.1) ∙ found.1 in
+      ap (option_and_then (unit_of w')) (root_there peeled_units (entry + 1) entry found.0 (omega arith) found.1) ∙ found.1 in
       let same : SameRuns w w' = record {
-        program = same_program structs units trees peels entry;
-        first = first_same structs units trees peels entry;
-        rows = row_same structs units trees peels entry;
+        program = same_program structs units peeled_units peels entry;
+        first = first_same structs units peeled_units peels entry;
+        rows = row_same structs units peeled_units peels entry;
         source_typed = typed;
-        typed = (laws.orderly structs trees entry keeps rules).fitted;
+        typed = (laws.orderly structs peeled_units entry keeps rules).fitted;
       } in
       let past : ReachToo H w' rows r.store (plain_tree r.tree) =
       reach_too laws.kept laws.begun laws.between laws.inside laws.follow laws.answers laws.statements laws.sound laws.complete laws.armed laws.waking
@@ -279,9 +238,10 @@ module _ (laws : TickLaws) (structs : List StructDef) (units trees : List UnitDe
       (laws.begun w r.tree (laws.between w rows r.tree r.store r.before)) r.steps in
       let less = tick_few rows row r.store past.tree past.reached found.0 is (plain_tree (control.woken r.tree)) plain.labels (plain_end end) plain.steps
       inner in
-      let most = laws.six structs trees entry in
+      let most = laws.six structs peeled_units entry in
       let many = plain.as_many in
       omega (arith, less, most, many)
 
 pub peeled_is_bounded : TickLaws → PeeledIsBounded
-peeled_is_bounded laws structs units trees entry peels typed keeps rules numbered = bounded laws structs units trees peels entry keeps rules numbered typed
+peeled_is_bounded laws structs units peeled_units entry peels typed keeps rules numbered =
+    bounded laws structs units peeled_units peels entry keeps rules numbered typed

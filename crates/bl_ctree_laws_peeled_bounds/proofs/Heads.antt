@@ -1,28 +1,5 @@
--- The heads that may fall away in peeled units, and that source and tree are one program with these heads alone.
-use Rattle.std.proofs.Common.{
-  ◌≡◌,
-  ℕ,
-  ◌*◌,
-  ◌≤◌,
-  zero,
-  suc,
-  true,
-  List,
-  [],
-  ◌∷◌,
-  map,
-  length,
-  take,
-  Option,
-  Some,
-  None,
-  refl,
-  sym,
-  ap,
-  ◌∙◌,
-  subst,
-  arith,
-}
+-- The heads that may fall away in peeled units, and that a source and its peeled program are one program with these heads alone.
+use Rattle.std.proofs.Common.{◌≡◌, ℕ, ◌*◌, ◌≤◌, zero, suc, true, List, [], ◌∷◌, map, length, take, Option, Some, None, refl, sym, ap, ◌∙◌, subst, arith}
 use Rattle.std.specs.Prelude.{option_and_then, option_map, slice_get, unwrap_or}
 use Rattle.std.proofs.Math.Nat.{mul-le-mul_left}
 use Rattle.bl_tree.specs.declared.tree.StructDef.{StructDef}
@@ -56,7 +33,7 @@ unit_heads (both (is_peeled {unit} activity)) = falling_in (peeled_unrolls 0 uni
 
 -- something stands in the turns of the unit's loops
 abbrev FullUnit : Option UnitDef → Type 0
-FullUnit other = (tree : UnitDef) → other ≡ Some tree → TurningIn (plain_body tree.body)
+FullUnit other = (peeled_unit : UnitDef) → other ≡ Some peeled_unit → TurningIn (plain_body peeled_unit.body)
 
 heads_alone : {one other : Option UnitDef} (b : BothPeel one other) → FullUnit other → UnitUnrolls (MayFall (unit_heads b)) one other
 heads_alone neither full = no_unit
@@ -65,32 +42,33 @@ heads_alone (both (is_peeled {unit} activity)) full =
     let unrolls = peeled_unrolls 0 unit.body in
     one_unit (listed_in (falling_in unrolls) unrolls (full_back unrolls (full (record unit { body = peeled unit.body }) refl)) (λ x at. at))
 
-module _ (structs : List StructDef) (units trees : List UnitDef) (peels : UnitsPeel units trees) where
+module _ (structs : List StructDef) (units peeled_units : List UnitDef) (peels : UnitsPeel units peeled_units) where
   -- by the number of a unit, the heads that may fall away in it
   abbrev pub heads_by_number : ℕ → List LoopAt
   heads_by_number k = unit_heads (unit_there peels k)
 
   -- they are no more than the statements of the unit, where it is typed
-  few_heads : (k : ℕ) {one other : Option UnitDef} (b : BothPeel one other) → slice_get trees k ≡ other → units_stand_after structs [] trees ≡ true →
+  few_heads : (k : ℕ) {one other : Option UnitDef} (b : BothPeel one other) → slice_get peeled_units k ≡ other →
+      units_stand_after structs [] peeled_units ≡ true →
       FullUnit other → length (unit_heads b) ≤ unwrap_or (option_map step_statements_of other) 0
   few_heads k neither there stand full = omega arith
   few_heads k (both kept) there stand full = omega arith
   few_heads k (both (is_peeled {unit} activity)) there stand full =
       let unrolls = peeled_unrolls 0 unit.body in
       let few = few_in unrolls (full_back unrolls (full (record unit { body = peeled unit.body }) refl)) in
-      let less = body_size (site_of structs (take k trees) (record unit { body = peeled unit.body })) (peeled unit.body)
-      (typed_at structs [] trees k (record unit { body = peeled unit.body }) stand there) in
+      let less = body_size (site_of structs (take k peeled_units) (record unit { body = peeled unit.body })) (peeled unit.body)
+      (typed_at structs [] peeled_units k (record unit { body = peeled unit.body }) stand there) in
       omega arith
 
-  module _ (entry : ℕ) (numbered : AllNumbered (setting_of structs trees entry)) where
+  module _ (entry : ℕ) (numbered : AllNumbered (setting_of structs peeled_units entry)) where
     abbrev w : Setting
     w = setting_of structs units entry
 
     abbrev w' : Setting
-    w' = setting_of structs trees entry
+    w' = setting_of structs peeled_units entry
 
-    full_unit : (i : ℕ) → FullUnit (option_and_then (unit_of w') (slice_get (instances_of trees entry) i))
-    full_unit i tree is = let ranks = numbered i tree is in turning_in ranks.number (plain_body tree.body) ranks.rises
+    full_unit : (i : ℕ) → FullUnit (option_and_then (unit_of w') (slice_get (instances_of peeled_units entry) i))
+    full_unit i peeled_unit is = let ranks = numbered i peeled_unit is in turning_in ranks.number (plain_body peeled_unit.body) ranks.rises
 
     bodies_at : (found : Option Instance) → FullUnit (option_and_then (unit_of w') found) →
         UnitUnrolls (MayFall (heads_by_number (unit_number_of found))) (option_and_then (unit_of w) found) (option_and_then (unit_of w') found)
@@ -99,15 +77,15 @@ module _ (structs : List StructDef) (units trees : List UnitDef) (peels : UnitsP
 
     pub listed_program : SameProgram (λ i. MayFall (heads_by_number (unit_number_at w' i))) w w'
     listed_program =
-        let same = same_program structs units trees peels entry in
+        let same = same_program structs units peeled_units peels entry in
         record {
           instances = same.instances;
           homes = same.homes;
           effects = same.effects;
           bodies = λ i.
               subst (λ all. UnitUnrolls (MayFall (heads_by_number (unit_number_at w' i))) (option_and_then (unit_of w) (slice_get all i))
-              (option_and_then (unit_of w') (slice_get (instances_of trees entry) i))) (sym same.instances)
-              (bodies_at (slice_get (instances_of trees entry) i) (full_unit i));
+              (option_and_then (unit_of w') (slice_get (instances_of peeled_units entry) i))) (sym same.instances)
+              (bodies_at (slice_get (instances_of peeled_units entry) i) (full_unit i));
         }
 
     -- ---- their number
@@ -128,8 +106,9 @@ module _ (structs : List StructDef) (units trees : List UnitDef) (peels : UnitsP
         omega (arith, one, more)
 
     -- the heads of all passes are no more than the statements passed
-    pub heads_few : units_stand_after structs [] trees ≡ true → total (map heads_weight w'.instances) ≤ passed_statements w'
+    pub heads_few : units_stand_after structs [] peeled_units ≡ true → total (map heads_weight w'.instances) ≤ passed_statements w'
     heads_few stand =
         few_total w'.instances (λ i x there.
         few_heads x.unit (unit_there peels x.unit) refl stand
-        (λ tree is. let ranks = numbered i tree (ap (option_and_then (unit_of w')) there ∙ is) in turning_in ranks.number (plain_body tree.body) ranks.rises))
+        (λ peeled_unit is. let ranks = numbered i peeled_unit (ap (option_and_then (unit_of w')) there ∙ is) in
+        turning_in ranks.number (plain_body peeled_unit.body) ranks.rises))

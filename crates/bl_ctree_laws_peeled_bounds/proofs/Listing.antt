@@ -10,18 +10,7 @@ use Rattle.bl_ctree.specs.Instances.{Setting}
 use Rattle.bl_ctree_laws.specs.Trees.{Tree, Trees, Nil, Wait, Test, Idle, Do, Seq, Par, Guard, Run, before, beside, no_tree}
 use Rattle.bl_ctree_laws_traces.specs.Bounded.TickPasses.{Pass, pass_of, step_in, unit_of_pass}
 use Rattle.bl_ctree_laws_traces.proofs.OnBounded.Lists.{Among, among_joined, among_map, joined_long}
-use Rattle.bl_ctree_laws_peeled.proofs.Heads.{
-  FallsAt,
-  FallsEach,
-  FallsIn,
-  falls_begins,
-  falls_fork,
-  falls_guard,
-  falls_here,
-  falls_in,
-  falls_run,
-  falls_there,
-}
+use Rattle.bl_ctree_laws_peeled.proofs.Heads.{FallsAt, FallsEach, FallsIn, falls_begins, falls_fork, falls_guard, falls_here, falls_in, falls_run, falls_there}
 use Rattle.bl_ctree_laws_peeled.specs.Lines.{Line, line}
 use Rattle.bl_ctree_laws_peeled_bounds.proofs.Marking.{HeadMark}
 use Rattle.bl_ctree_laws_peeled_bounds.proofs.Numbers.{AllNumberedRuns, RunsNumbered, unit_number_at}

@@ -1,25 +1,5 @@
 -- The steps of a tick are those of the related tree, and heads of loops that fall away: each at a label and with a loop of its own.
-use Rattle.std.proofs.Common.{
-  ◌≡◌,
-  ℕ,
-  ◌+◌,
-  Bool,
-  true,
-  List,
-  [],
-  ◌∷◌,
-  length,
-  Some,
-  None,
-  inl,
-  inr,
-  refl,
-  sym,
-  ap,
-  ◌∙◌,
-  subst,
-  arith,
-}
+use Rattle.std.proofs.Common.{◌≡◌, ℕ, ◌+◌, Bool, true, List, [], ◌∷◌, length, Some, None, inl, inr, refl, sym, ap, ◌∙◌, subst, arith}
 use Rattle.bl_tree.specs.declared.tree.Unit.{Unit as UnitDef}
 use Rattle.bl_graph_nodes.specs.Nodes.{Node}
 use Rattle.bl_graph_nodes.specs.Plain.{Plain, plain_body}

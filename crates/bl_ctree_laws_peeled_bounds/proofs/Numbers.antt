@@ -1,73 +1,28 @@
 -- The numbers of the units of instances, and that each `run` of a tree names that of the instance that it began.
-use Rattle.std.proofs.Common.{
-  ◌≡◌,
-  ℕ,
-  ◌<◌,
-  zero,
-  suc,
-  Bool,
-  true,
-  List,
-  [],
-  ◌∷◌,
-  map,
-  length,
-  get_or,
-  Option,
-  Some,
-  None,
-  inl,
-  refl,
-  sym,
-  ap,
-  ◌∙◌,
-  subst,
-  arith,
-  eqb-true,
-}
+use Rattle.std.proofs.Common.{◌≡◌, ℕ, ◌<◌, Bool, true, List, [], ◌∷◌, map, get_or, Option, Some, None, inl, refl, sym, ap, ◌∙◌, subst, arith}
+use Rattle.std.proofs.Common.{eqb-true}
 use Rattle.std.specs.Prelude.{Contains, nat_eq, option_and_then, option_map, slice_get, unwrap_or, ⊤}
 use Rattle.std.proofs.lemmas.List.Quantifiers.{position-Some}
+use Rattle.bl_tree.proofs.Basics.{and_first, and_second, get_within, same_some}
 use Rattle.bl_tree.specs.declared.tree.StructDef.{StructDef}
 use Rattle.bl_tree.specs.declared.tree.Unit.{Unit as UnitDef}
 use Rattle.bl_tree.specs.Reduce.{joined}
 use Rattle.bl_tree.specs.Rules.{same_place}
-use Rattle.bl_effects.proofs.EntryLemmas.{same_place_is}
 use Rattle.bl_graph_nodes.specs.Plain.{Again, Block, Bodies, Plain, Repeat, While, plain_body}
 use Rattle.bl_ctree.specs.declared.instance.Instance.{Instance}
 use Rattle.bl_ctree.specs.declared.instance.Origin.{Origin}
 use Rattle.bl_ctree.specs.declared.instance.Run.{Run as RunAt}
 use Rattle.bl_ctree.specs.Instances.{Setting, begins_at, callee_of, runs_in, runs_of, setting_of, unit_at, unit_of}
-use Rattle.bl_ctree_laws.specs.Residual.{
-  PlainResidual,
-  PlainResidualEach,
-  PlainResidualOf,
-  ended,
-  none_left,
-  nothing,
-  of_again,
-  of_else,
-  of_guard,
-  of_last,
-  of_one,
-  of_par,
-  of_repeat,
-  of_run,
-  of_then,
-  of_until,
-  of_while,
-  one_left,
-  paused,
-  tested,
-  to_begin,
-}
+use Rattle.bl_ctree_laws.specs.Residual.{PlainResidual, PlainResidualEach, PlainResidualOf, ended, none_left, nothing, of_again, of_else, of_guard, of_last}
+use Rattle.bl_ctree_laws.specs.Residual.{of_one, of_par, of_repeat, of_run, of_then, of_until, of_while, one_left, paused, tested, to_begin}
 use Rattle.bl_ctree_laws.specs.Steps.{call}
 use Rattle.bl_ctree_laws.specs.Trees.{Call, Tree, Trees, Nil, Wait, Test, Idle, Do, Seq, Par, Guard, Run, beside, no_tree}
 use Rattle.bl_ctree_laws_confluence.specs.Deeds.Origins.{CalledBy, HasCaller, InstancesHaveCallers}
-use Rattle.bl_ctree_laws_confluence.proofs.OnDeeds.Activities.{and_left, and_right}
 use Rattle.bl_ctree_laws_traces.proofs.OnBounded.ByPlace.{once_among}
 use Rattle.bl_ctree_laws_traces.proofs.OnBounded.Callees.{CallsAreRuns, OneUnitEach}
 use Rattle.bl_ctree_laws_traces.proofs.OnBounded.Calls.{calls_in, calls_in_each, calls_of, either_same, run_of, stands_calls, turn_calls}
 use Rattle.bl_ctree_laws_traces.proofs.OnBounded.Lists.{Among, among_got, among_left, among_map, among_right}
+use Rattle.bl_tree.proofs.FirstLemmas.{same_true}
 
 -- the number of an instance's unit
 abbrev pub unit_number_of : Option Instance → ℕ
@@ -84,14 +39,6 @@ CalleesNumbered w =
 
 -- ---- programs
 
-got_or : {A : Type 0} (xs : List A) (k : ℕ) (d : A) → k < length xs → slice_get xs k ≡ Some (get_or xs k d)
-got_or [] k d within = absurd (omega arith)
-got_or (x ∷ xs) zero d within = refl
-got_or (x ∷ xs) (suc k) d within = got_or xs k d (omega arith)
-
-some_same : {A : Type 0} (a b : A) → Some a ≡ Some b → a ≡ b
-some_same a b e = cc
-
 module _ (callers : InstancesHaveCallers) (structs : List StructDef) (units : List UnitDef) (entry : ℕ)
     (one_unit : (k : ℕ) (unit : UnitDef) → slice_get units k ≡ Some unit → OneUnitEach unit) (are : CallsAreRuns units) where
   abbrev W : Setting
@@ -102,7 +49,7 @@ module _ (callers : InstancesHaveCallers) (structs : List StructDef) (units : Li
       CalledBy units W.instances callee instance origin → unit_number_at W callee ≡ s.unit
   by_call i caller s callee instance origin found at there by is called =
       let calling : unit_at W origin.caller ≡ Some called.unit = ap (option_and_then (unit_of W)) called.there ∙ called.body in
-      let same : called.unit ≡ caller = some_same called.unit caller (sym calling ∙ ap (unit_at W) by ∙ found) in
+      let same : called.unit ≡ caller = same_some called.unit caller (sym calling ∙ ap (unit_at W) by ∙ found) in
       let body : slice_get units called.caller.unit ≡ Some caller = called.body ∙ ap Some same in
       let runs : List RunAt = joined (map runs_in caller.body) in
       let run_there : Among called.run runs =
@@ -117,15 +64,15 @@ module _ (callers : InstancesHaveCallers) (structs : List StructDef) (units : Li
   callees_numbered i caller s callee found at begins =
       let d : Instance = record { unit = 0; depth = 0; origin = None } in
       let position = position-Some (λ instance. begins_at i s.place instance.origin) W.instances callee d begins in
-      by_origin (get_or W.instances callee d) (got_or W.instances callee d position.0) (get_or W.instances callee d).origin refl position.1
+      by_origin (get_or W.instances callee d) (get_within W.instances callee d position.0) (get_or W.instances callee d).origin refl position.1
     where
       by_origin : (instance : Instance) → slice_get W.instances callee ≡ Some instance → (o : Option Origin) → instance.origin ≡ o →
           begins_at i s.place o ≡ true → unit_number_at W callee ≡ s.unit
       by_origin instance there None is e = absurd cc
       by_origin instance there (Some origin) is e =
           by_call i caller s callee instance origin found at there
-          (eqb-true origin.caller i (and_left (nat_eq origin.caller i) (same_place origin.place s.place) e))
-          (same_place_is origin.place s.place (and_right (nat_eq origin.caller i) (same_place origin.place s.place) e))
+          (eqb-true origin.caller i (and_first (nat_eq origin.caller i) (same_place origin.place s.place) e))
+          (same_true origin.place s.place (and_second (nat_eq origin.caller i) (same_place origin.place s.place) e))
           (subst (HasCaller units entry W.instances callee instance) is (callers units entry callee instance there))
 
 -- ---- trees

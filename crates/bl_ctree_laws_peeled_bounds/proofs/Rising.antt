@@ -3,27 +3,8 @@ use Rattle.std.proofs.Common.{◌≡◌, ℕ, Bool, false, inl, inr, refl, arith
 use Rattle.bl_tree.specs.declared.place.Place.{Place}
 use Rattle.bl_tree.specs.declared.tree.Expr.{Expr}
 use Rattle.bl_graph_nodes.specs.Nodes.{HeadAt, Node, TestAt, is_instant}
-use Rattle.bl_graph_nodes.specs.Plain.{
-  Block,
-  Bodies,
-  Label,
-  Plain,
-  Act,
-  Again,
-  Await,
-  Body as BodyOf,
-  Cobegin,
-  Done,
-  If,
-  Last,
-  Repeat,
-  Run as RunOf,
-  Then,
-  Until,
-  When,
-  While,
-  is_empty,
-}
+use Rattle.bl_graph_nodes.specs.Plain.{Block, Bodies, Label, Plain, Act, Again, Await, Body as BodyOf, Cobegin, Done, If, Last, Repeat, Run as RunOf, Then}
+use Rattle.bl_graph_nodes.specs.Plain.{Until, When, While, is_empty}
 use Rattle.bl_graph.specs.Edges.{Edge, EdgeAll, EdgeEach}
 use Rattle.bl_graph.specs.Walks.{Rises}
 use Rattle.bl_ctree_laws_peeled_bounds.proofs.Turns.{Turning, TurningEach, TurningIn}

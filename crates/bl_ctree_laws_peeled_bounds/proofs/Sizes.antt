@@ -2,6 +2,7 @@
 use Rattle.std.proofs.Common.{◌≡◌, ℕ, suc, ◌+◌, ◌≤◌, Bool, true, ◌&&◌, List, [], ◌∷◌, ◌++◌, map, length, get_or, refl, sym, ◌∙◌, subst, arith}
 use Rattle.std.proofs.lemmas.List.{length-map}
 use Rattle.std.proofs.lemmas.List.Elements.{All-head, All-tail}
+use Rattle.bl_tree.proofs.Basics.{and_first, and_second}
 use Rattle.bl_tree.specs.declared.place.Place.{Place}
 use Rattle.bl_tree.specs.declared.tree.Arm.{Arm, fold-Arm, fold_out-Arm, out-Arm}
 use Rattle.bl_tree.specs.declared.tree.Branch.{Branch, fold-Branch, fold_out-Branch, out-Branch}
@@ -12,23 +13,10 @@ use Rattle.bl_tree.specs.Reduce.{all_of, total}
 use Rattle.bl_tree.specs.Typing.{TypingContext, arm_fits, branch_fits, fits, is_activity, is_inhabited, is_truth, kind_fits, stmt_fits, type_of}
 use Rattle.bl_tree.proofs.StmtInduction.{Cases, Each, EachArm, EachBranch, induct, stmt}
 use Rattle.bl_graph_nodes.specs.Laws.{plain_arm, plain_branch}
-use Rattle.bl_graph_nodes.specs.Plain.{
-  Label,
-  Plain,
-  Position,
-  block_from,
-  bodies_from,
-  else_at,
-  inside,
-  label_at,
-  passed_one,
-  plain_block,
-  plain_body,
-  plain_stmt,
-}
+use Rattle.bl_graph_nodes.specs.Plain.{Label, Plain, Position, block_from, bodies_from, else_at, inside, label_at, passed_one, plain_block, plain_body}
+use Rattle.bl_graph_nodes.specs.Plain.{plain_stmt}
 use Rattle.bl_graph_nodes.proofs.Equations.{plain_statements}
 use Rattle.bl_ctree.specs.Measure.{arm_step_statements, branch_step_statements, kind_step_statements, layer_step_statements, step_statements_in}
-use Rattle.bl_ctree_laws_confluence.proofs.OnDeeds.Activities.{and_left, and_right}
 use Rattle.bl_ctree_laws_peeled_bounds.proofs.Turns.{plain_size, plain_size_each, plain_size_in}
 
 module _ (site : TypingContext) where
@@ -39,8 +27,8 @@ module _ (site : TypingContext) where
       plain_size_in (block_from (map plain_stmt body) k block) ≤ total (map step_statements_in body)
   block_size [] k block each fitted = omega arith
   block_size (s ∷ rest) k block each fitted =
-      let one = All-head S s rest each (and_left (fits site s) (all_of (map (fits site) rest)) fitted) (block ++ k ∷ []) in
-      let more = block_size rest (suc k) block (All-tail S s rest each) (and_right (fits site s) (all_of (map (fits site) rest)) fitted) in
+      let one = All-head S s rest each (and_first (fits site s) (all_of (map (fits site) rest)) fitted) (block ++ k ∷ []) in
+      let more = block_size rest (suc k) block (All-tail S s rest each) (and_second (fits site s) (all_of (map (fits site) rest)) fitted) in
       omega arith
 
   abbrev statements_in_arm : Arm → ℕ
@@ -60,7 +48,7 @@ module _ (site : TypingContext) where
   arm_size arm k block each fitted =
       subst (λ n. plain_size_in (block_from (map plain_stmt (out-Arm arm).body) k block) ≤ n)
       (sym (fold_out-Arm ℕ ℕ ℕ ℕ kind_step_statements arm_step_statements branch_step_statements layer_step_statements arm))
-      (block_size (out-Arm arm).body k block each (and_right (is_truth (type_of site (out-Arm arm).test)) (all_of (map (fits site) (out-Arm arm).body))
+      (block_size (out-Arm arm).body k block each (and_second (is_truth (type_of site (out-Arm arm).test)) (all_of (map (fits site) (out-Arm arm).body))
       (sym (fold_out-Arm Bool Bool Bool Bool (kind_fits site) (arm_fits site) branch_fits stmt_fits arm) ∙ fitted)))
 
   branch_size : (branch : Branch) (k : ℕ) (block : Position) → Each S (out-Branch branch).body → branch_fitted branch ≡ true →
@@ -79,9 +67,9 @@ module _ (site : TypingContext) where
   else_size at [] other each others fitted last = let one = block_size other 0 (inside at at.passed) others last in omega arith
   else_size at (arm ∷ rest) other each others fitted last =
       let one = arm_size arm 0 (inside at at.passed) (All-head (λ arm. Each S (out-Arm arm).body) arm rest each)
-      (and_left (arm_fitted arm) (all_of (map arm_fitted rest)) fitted) in
+      (and_first (arm_fitted arm) (all_of (map arm_fitted rest)) fitted) in
       let more = else_size (passed_one at) rest other (All-tail (λ arm. Each S (out-Arm arm).body) arm rest each) others
-      (and_right (arm_fitted arm) (all_of (map arm_fitted rest)) fitted) last in
+      (and_second (arm_fitted arm) (all_of (map arm_fitted rest)) fitted) last in
       omega arith
 
   branches_size : (branches : List Branch) (k : ℕ) (at : Label) → EachBranch S branches → all_of (map branch_fitted branches) ≡ true →
@@ -89,9 +77,9 @@ module _ (site : TypingContext) where
   branches_size [] k at each fitted = omega arith
   branches_size (branch ∷ rest) k at each fitted =
       let one = branch_size branch 0 (inside at k) (All-head (λ branch. Each S (out-Branch branch).body) branch rest each)
-      (and_left (branch_fitted branch) (all_of (map branch_fitted rest)) fitted) in
+      (and_first (branch_fitted branch) (all_of (map branch_fitted rest)) fitted) in
       let more = branches_size rest (suc k) at (All-tail (λ branch. Each S (out-Branch branch).body) branch rest each)
-      (and_right (branch_fitted branch) (all_of (map branch_fitted rest)) fitted) in
+      (and_second (branch_fitted branch) (all_of (map branch_fitted rest)) fitted) in
       omega arith
 
   -- ---- kinds
@@ -124,12 +112,12 @@ module _ (site : TypingContext) where
       by_parts place (StmtKind-F.If (arm ∷ rest) other) _ (λ at. plain_statements.branching place at arm rest other) (λ fitted at.
       let choices : Bool = all_of (map arm_fitted (arm ∷ rest)) in
       let last : Bool = all_of (map (fits site) other) in
-      let fitting : (choices && last) ≡ true = and_right (is_inhabited (map arm_fitted (arm ∷ rest))) (choices && last) fitted in
-      let choosing : choices ≡ true = and_left choices last fitting in
+      let fitting : (choices && last) ≡ true = and_second (is_inhabited (map arm_fitted (arm ∷ rest))) (choices && last) fitted in
+      let choosing : choices ≡ true = and_first choices last fitting in
       let one = arm_size arm 0 (inside (label_at at) 0) (All-head (λ arm. Each S (out-Arm arm).body) arm rest each)
-      (and_left (arm_fitted arm) (all_of (map arm_fitted rest)) choosing) in
+      (and_first (arm_fitted arm) (all_of (map arm_fitted rest)) choosing) in
       let more = else_size (passed_one (label_at at)) rest other (All-tail (λ arm. Each S (out-Arm arm).body) arm rest each) others
-      (and_right (arm_fitted arm) (all_of (map arm_fitted rest)) choosing) (and_right choices last fitting) in
+      (and_second (arm_fitted arm) (all_of (map arm_fitted rest)) choosing) (and_second choices last fitting) in
       let long : length (map statements_in_arm rest) ≡ length rest = length-map rest statements_in_arm in
       omega arith) fitted at
 
@@ -147,21 +135,21 @@ module _ (site : TypingContext) where
     cobegin = λ place branches each. by_parts place (StmtKind-F.Cobegin branches) _ (λ at. plain_statements.parallel place at branches) (λ fitted at.
         let some : Bool = is_inhabited (map branch_fitted branches) in
         let within : Bool = all_of (map branch_fitted branches) in
-        let one = branches_size branches 0 (label_at at) each (and_right some within (and_right (is_activity site.kind) (some && within) fitted)) in
+        let one = branches_size branches 0 (label_at at) each (and_second some within (and_second (is_activity site.kind) (some && within) fitted)) in
         omega arith);
     guarded = λ place guard e body each. by_parts place (StmtKind-F.When guard e body) _ (λ at. plain_statements.guarded place at guard e body)
         (λ fitted at.
         let tested : Bool = is_truth (type_of site e) in
         let within : Bool = all_of (map (fits site) body) in
-        let one = block_size body 0 (inside (label_at at) 0) each (and_right tested within (and_right (is_activity site.kind) (tested && within) fitted)) in
+        let one = block_size body 0 (inside (label_at at) 0) each (and_second tested within (and_second (is_activity site.kind) (tested && within) fitted)) in
         omega arith);
     repeat = λ place body each. by_parts place (StmtKind-F.Repeat body) _ (λ at. plain_statements.endless place at body) (λ fitted at.
         let one = block_size body 0 (inside (label_at at) 0) each fitted in omega arith);
     until = λ place body e each. by_parts place (StmtKind-F.Until body e) _ (λ at. plain_statements.until place at body e) (λ fitted at.
-        let one = block_size body 0 (inside (label_at at) 0) each (and_left (all_of (map (fits site) body)) (is_truth (type_of site e)) fitted) in
+        let one = block_size body 0 (inside (label_at at) 0) each (and_first (all_of (map (fits site) body)) (is_truth (type_of site e)) fitted) in
         omega arith);
     while = λ place e body each. by_parts place (StmtKind-F.While e body) _ (λ at. plain_statements.while place at e body) (λ fitted at.
-        let one = block_size body 0 (inside (label_at at) 0) each (and_right (is_truth (type_of site e)) (all_of (map (fits site) body)) fitted) in
+        let one = block_size body 0 (inside (label_at at) 0) each (and_second (is_truth (type_of site e)) (all_of (map (fits site) body)) fitted) in
         omega arith);
     returns = λ place e. by_parts place (StmtKind-F.Return e) _ (λ at. plain_statements.returns place at e) (λ fitted at. omega arith);
   }

@@ -14,6 +14,6 @@ use Rattle.bl_peel.specs.Units.{UnitsPeel}
 -- where the program with activities peeled is accepted, and its nodes are numbered, its number bounds the ticks of the program itself
 abbrev pub PeeledIsBounded : Type 0
 PeeledIsBounded =
-    (structs : List StructDef) (units trees : List UnitDef) (entry : ℕ) → UnitsPeel units trees → Fitted (setting_of structs units entry) →
-    IsWellTyped structs trees entry → Passes trees → AllNumbered (setting_of structs trees entry) →
-    Bounded (steps structs trees entry) structs units entry
+    (structs : List StructDef) (units peeled_units : List UnitDef) (entry : ℕ) → UnitsPeel units peeled_units → Fitted (setting_of structs units entry) →
+    IsWellTyped structs peeled_units entry → Passes peeled_units → AllNumbered (setting_of structs peeled_units entry) →
+    Bounded (steps structs peeled_units entry) structs units entry

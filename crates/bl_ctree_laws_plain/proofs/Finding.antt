@@ -1,7 +1,8 @@
 -- The statement of a body with a label.
-use Rattle.std.proofs.Common.{◌≡◌, ◌∙◌, ℕ, zero, suc, ◌+◌, Bool, true, false, List, [], ◌∷◌, ◌++◌, Option, Some, None, refl, sym, ap, subst}
-use Rattle.std.proofs.Common.{arith, drop}
+use Rattle.std.proofs.Common.{◌≡◌, ◌∙◌, ℕ, zero, suc, ◌+◌, Bool, true, false, List, [], ◌∷◌, ◌++◌, Option, Some, None, refl, sym, ap}
+use Rattle.std.proofs.Common.{drop}
 use Rattle.std.specs.Prelude.{option_and_then, option_map, slice_get}
+use Rattle.bl_tree.proofs.Basics.{none_is_some, same_heads, same_tails}
 use Rattle.bl_tree.specs.declared.tree.Arm.{Arm, out-Arm}
 use Rattle.bl_tree.specs.declared.tree.Branch.{Branch, out-Branch}
 use Rattle.bl_tree.specs.declared.tree.Expr.{out-Expr}
@@ -51,16 +52,10 @@ stmt_at body [] = None
 stmt_at body (k ∷ []) = slice_get body k
 stmt_at body (k ∷ b ∷ rest) = option_and_then (λ s. stmt_at (block_in (stmt_kind s) b) rest) (slice_get body k)
 
-none_is : {X A : Type 0} (x : X) → None ≡ Some x → A
-none_is x e = absurd (cc)
-
-some_is : {X : Type 0} (x y : X) → Some x ≡ Some y → x ≡ y
-some_is x y e = cc
-
 -- the statements of a block of a statement stand behind its position
 pub at_block : (body : List Stmt) (position : Position) (s : Stmt) (b k : ℕ) → stmt_at body position ≡ Some s →
     stmt_at body ((position ++ b ∷ []) ++ k ∷ []) ≡ slice_get (block_in (stmt_kind s) b) k
-at_block body [] s b k there = none_is s there
+at_block body [] s b k there = none_is_some s there
 at_block body (j ∷ []) s b k there = ap (option_and_then (λ t. stmt_at (block_in (stmt_kind t) b) (k ∷ []))) there
 at_block body (j ∷ a ∷ rest) s b k there =
     by_found (λ t inner. at_block (block_in (stmt_kind t) a) rest s b k inner) (slice_get body j) refl there
@@ -70,7 +65,7 @@ at_block body (j ∷ a ∷ rest) s b k there =
         (found : Option Stmt) → slice_get body j ≡ found → option_and_then (λ t. stmt_at (block_in (stmt_kind t) a) rest) found ≡ Some s →
         option_and_then (λ t. stmt_at (block_in (stmt_kind t) a) ((rest ++ b ∷ []) ++ k ∷ [])) (slice_get body j)
         ≡ slice_get (block_in (stmt_kind s) b) k
-    by_found inside None is found = none_is s found
+    by_found inside None is found = none_is_some s found
     by_found inside (Some t) is found =
         ap (option_and_then (λ t. stmt_at (block_in (stmt_kind t) a) ((rest ++ b ∷ []) ++ k ∷ []))) is ∙ inside t found
 
@@ -161,28 +156,22 @@ left_of p arms other (StmtKind-F.Return e) is = no_if arms other (StmtKind-F.Ret
 nil_cons : {X A : Type 0} (x : X) (xs : List X) → [] ≡ x ∷ xs → A
 nil_cons x xs e = absurd (cc)
 
-head_is : {X : Type 0} (x y : X) (xs ys : List X) → x ∷ xs ≡ y ∷ ys → x ≡ y
-head_is x y xs ys e = cc
-
-tail_is : {X : Type 0} (x y : X) (xs ys : List X) → x ∷ xs ≡ y ∷ ys → xs ≡ ys
-tail_is x y xs ys e = cc
-
 drop_next : {X : Type 0} (p : ℕ) (xs : List X) (x : X) (rest : List X) → drop p xs ≡ x ∷ rest → drop (suc p) xs ≡ rest
 drop_next zero [] x rest is = nil_cons x rest is
-drop_next zero (y ∷ xs) x rest is = tail_is y x xs rest is
+drop_next zero (y ∷ xs) x rest is = same_tails y x xs rest is
 drop_next (suc p) [] x rest is = nil_cons x rest is
 drop_next (suc p) (y ∷ xs) x rest is = drop_next p xs x rest is
 
 arm_there : (p : ℕ) (all : List Arm) (other : List Stmt) (arm : Arm) (arms : List Arm) → drop p all ≡ arm ∷ arms →
     arm_block all other p ≡ (out-Arm arm).body
 arm_there zero [] other arm arms is = nil_cons arm arms is
-arm_there zero (first ∷ all) other arm arms is = ap (λ (a : Arm). (out-Arm a).body) (head_is first arm all arms is)
+arm_there zero (first ∷ all) other arm arms is = ap (λ (a : Arm). (out-Arm a).body) (same_heads first arm all arms is)
 arm_there (suc p) [] other arm arms is = nil_cons arm arms is
 arm_there (suc p) (first ∷ all) other arm arms is = arm_there p all other arm arms is
 
 else_there : (p : ℕ) (all : List Arm) (other : List Stmt) (arm : Arm) → drop p all ≡ arm ∷ [] → arm_block all other (suc p) ≡ other
 else_there zero [] other arm is = refl
-else_there zero (first ∷ all) other arm is = ap (λ (rest : List Arm). arm_block rest other 0) (tail_is first arm all [] is)
+else_there zero (first ∷ all) other arm is = ap (λ (rest : List Arm). arm_block rest other 0) (same_tails first arm all [] is)
 else_there (suc p) [] other arm is = refl
 else_there (suc p) (first ∷ all) other arm is = else_there p all other arm is
 

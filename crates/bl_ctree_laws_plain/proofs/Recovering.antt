@@ -12,21 +12,8 @@ use Rattle.bl_ctree.specs.Control as control
 use Rattle.bl_ctree.specs.Control.{Branches, Control}
 use Rattle.bl_ctree.specs.Instances.{Setting}
 use Rattle.bl_ctree.specs.Positions.{Again, Begin, Item, Located, kind_of, place_of}
-use Rattle.bl_ctree_laws.specs.Bridge.{
-  again,
-  guarded,
-  label_of,
-  parallel,
-  plain_at,
-  plain_item,
-  plain_items,
-  plain_kind,
-  plain_tree,
-  plain_trees,
-  running,
-  testing,
-  waiting,
-}
+use Rattle.bl_ctree_laws.specs.Bridge.{again, guarded, label_of, parallel, plain_at, plain_item, plain_items, plain_kind, plain_tree, plain_trees, running}
+use Rattle.bl_ctree_laws.specs.Bridge.{testing, waiting}
 use Rattle.bl_ctree_laws.specs.Trees.{Tree, Trees, Nil, Wait, Test, Idle, Do, Seq, Par, Guard, Run, beside, no_tree}
 use Rattle.bl_ctree_laws_plain.proofs.Finding.{Layer, Stands, is_located, located_at}
 use Rattle.bl_ctree_laws_plain.proofs.Standing.{AllStand, BranchesStand, IsUntil, ItemStands, TreeStands, body_of, tree_stands}

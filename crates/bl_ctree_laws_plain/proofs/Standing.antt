@@ -1,6 +1,7 @@
 -- What stands in the trees that may be left of a body: statements of the body, each where its kind may be.
-use Rattle.std.proofs.Common.{◌≡◌, ◌∙◌, ℕ, zero, suc, ◌+◌, Bool, true, false, List, [], ◌∷◌, ◌++◌, Option, Some, None, refl, sym, ap, subst, arith}
+use Rattle.std.proofs.Common.{◌≡◌, ◌∙◌, ℕ, suc, ◌+◌, Bool, List, [], ◌∷◌, ◌++◌, Option, Some, None, refl, sym, ap, subst, arith}
 use Rattle.std.specs.Prelude.{⊤, option_map, slice_get, unwrap_or}
+use Rattle.bl_tree.proofs.Basics.{none_plus}
 use Rattle.bl_tree.specs.declared.tree.Branch.{Branch, out-Branch}
 use Rattle.bl_tree.specs.declared.tree.Expr.{Expr}
 use Rattle.bl_tree.specs.declared.tree.Guard.{Guard as GuardKind}
@@ -14,20 +15,8 @@ use Rattle.bl_ctree.specs.Means.{entry_items}
 use Rattle.bl_ctree.specs.Positions.{Again, Begin, Item, Located, Position, block_items, body_items, items_from, kind_of}
 use Rattle.bl_ctree.specs.Residual as residual
 use Rattle.bl_ctree.specs.Residual.{Residual, ResidualEach, ResidualOf, ResidualTree, SplitsAt, here, there}
-use Rattle.bl_ctree.specs.Steps.{arm_items, else_items, turn_items}
-use Rattle.bl_ctree_laws_plain.proofs.Finding.{
-  HasBlock,
-  Layer,
-  Stands,
-  arm_has,
-  block_in,
-  branch_block,
-  else_has,
-  further_stands,
-  kind_has,
-  stands_first,
-  stmt_at,
-}
+use Rattle.bl_ctree_laws_plain.proofs.Finding.{HasBlock, Stands, arm_has, branch_block, else_has, further_stands, kind_has, stands_first}
+use Rattle.bl_ctree_laws_plain.proofs.Finding.{stmt_at}
 
 -- ---- kinds
 
@@ -97,9 +86,6 @@ abbrev mutual
 next_number : (k j : ℕ) → suc k + j ≡ k + suc j
 next_number k j = omega arith
 
-from_zero : (j : ℕ) → 0 + j ≡ j
-from_zero j = omega arith
-
 -- statements stand from a number on
 items_stand : (body : List Stmt) (position : Position) (k : ℕ) (xs : List Stmt) →
     ((j : ℕ) → stmt_at body (position ++ (k + j) ∷ []) ≡ slice_get xs j) → AllStand body (items_from position k xs)
@@ -114,10 +100,10 @@ items_stand body position k (s ∷ rest) at =
 block_stands : (body : List Stmt) (s : Located) (b : ℕ) (block : List Stmt) → HasBlock body s b block → AllStand body (block_items s b block)
 block_stands body s b block has =
     items_stand body (s.position ++ b ∷ []) 0 block
-    (λ j. ap (λ (n : ℕ). stmt_at body ((s.position ++ b ∷ []) ++ n ∷ [])) (from_zero j) ∙ has.there j)
+    (λ j. ap (λ (n : ℕ). stmt_at body ((s.position ++ b ∷ []) ++ n ∷ [])) (none_plus j) ∙ has.there j)
 
 body_stands : (body : List Stmt) → AllStand body (body_items body)
-body_stands body = items_stand body [] 0 body (λ j. ap (λ (n : ℕ). stmt_at body ([] ++ n ∷ [])) (from_zero j))
+body_stands body = items_stand body [] 0 body (λ j. ap (λ (n : ℕ). stmt_at body ([] ++ n ∷ [])) (none_plus j))
 
 turn_stands : (body : List Stmt) (items : List Item) (next : Item) → AllStand body items → ItemStands body next → AllStand body (items ++ next ∷ [])
 turn_stands body [] next all one = (one, tt)
@@ -174,7 +160,7 @@ mutual
   of_stands {w} {i = i} (residual.of_par {s = s} {written = written} is around each) stands = (
     stands,
     record { branches = written; is = is },
-    each_stands each (λ j. subst (λ (n : ℕ). HasBlock (body_of w i) s n (branch_block written j)) (sym (from_zero j))
+    each_stands each (λ j. subst (λ (n : ℕ). HasBlock (body_of w i) s n (branch_block written j)) (sym (none_plus j))
         (kind_has (body_of w i) s j (StmtKind-F.Cobegin written) stands refl is)),
   )
   of_stands {w} {i = i} (residual.of_guard {s = s} {guard = guard} {e = e} {body = body} is around check left) stands = (

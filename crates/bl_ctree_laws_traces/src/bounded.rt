@@ -5,7 +5,7 @@
 //! have such numbers no list of steps of one tick of a program that passes the rules on effects is longer than what its passed
 //! statements come to (`specs/Bounded/Bounds.antt`). There is no code here.
 
-ghost use Rattle.bl_ctree_laws_traces.specs.Bounded.Bounds.{AcceptedIsBounded, TypedIsBounded};
+ghost use Rattle.bl_ctree_laws_traces.specs.Bounded.Bounds.{AcceptedIsBounded};
 ghost use Rattle.bl_ctree_laws_traces.specs.Bounded.Differ.{TicksDiffer};
 ghost use Rattle.bl_ctree_laws_traces.specs.Bounded.TickPasses.{StepsAreSixEach, TickStepsAreFew, TicksHavePasses};
 
@@ -18,7 +18,6 @@ use bl_ctree_laws::shrinking::{acting_is_open, steps_shrink};
 use bl_ctree_laws_confluence::apart::accepted_programs_run_apart;
 use bl_ctree_laws_confluence::deeds::{accepted_programs_are_orderly, instances_have_callers};
 use bl_graph::{branches_part, graphs_stay_within, instants_pass};
-use bl_types_laws::kept::what_is_typed_keeps;
 
 /// The labels of the steps of one tick differ, a trapping step counted.
 pub fn ticks_differ()
@@ -83,12 +82,4 @@ pub fn accepted_is_bounded()
     lists_are_plain();
     steps_are_six_each();
     tick_steps_are_few();
-}
-
-/// So it is, where nodes have numbers that rise, in each program that a raw tree has in which no rule fails.
-pub fn typed_is_bounded()
-    ensures { TypedIsBounded }
-{
-    what_is_typed_keeps();
-    accepted_is_bounded();
 }

@@ -5,14 +5,13 @@
 //! the tick graphs of its activities have orders (`specs/Traces/OneTrace.antt`).
 
 ghost use Rattle.bl_ctree_laws_traces.specs.Traces.Maximal.{BoundedExtend, BoundedHaveMeanings, BoundedHaveTicks, UnstuckShowTraces};
-ghost use Rattle.bl_ctree_laws_traces.specs.Traces.OneTrace.{OrderedAreNumbered, OrderedHaveOneTrace, TypedHaveOneTrace};
+ghost use Rattle.bl_ctree_laws_traces.specs.Traces.OneTrace.{OrderedAreNumbered, OrderedHaveOneTrace};
 
 use crate::bounded::accepted_is_bounded;
 use crate::ready::{ordered_programs_are_never_stuck, orders_give_ranks};
 use bl_ctree::laws::{lists_of_steps, points_are_steps};
 use bl_ctree_laws_confluence::deeds::accepted_programs_are_orderly;
 use bl_ctree_laws_confluence::independent::accepted_programs_have_at_most_one_trace;
-use bl_types_laws::kept::what_is_typed_keeps;
 
 /// Where ticks are bounded every list of steps of a tick goes on to a maximal one.
 pub fn bounded_lists_go_on()
@@ -53,12 +52,4 @@ pub fn ordered_programs_have_one_trace()
     ordered_programs_are_never_stuck();
     accepted_is_bounded();
     accepted_programs_have_at_most_one_trace();
-}
-
-/// So has each program of a raw tree in which no rule fails.
-pub fn typed_programs_have_one_trace()
-    ensures { TypedHaveOneTrace }
-{
-    what_is_typed_keeps();
-    ordered_programs_have_one_trace();
 }

@@ -1,36 +1,8 @@
 -- What surfaces come to at one statement, arm or branch, and one step of each loop over them.
-use Rattle.std.proofs.Common.{
-  ◌≡◌,
-  ℕ,
-  suc,
-  ◌+◌,
-  ◌<◌,
-  Bool,
-  true,
-  false,
-  ◌&&◌,
-  ◌||◌,
-  List,
-  [],
-  ◌∷◌,
-  ◌++◌,
-  map,
-  length,
-  get_or,
-  drop,
-  refl,
-  sym,
-  ap,
-  ◌∙◌,
-  subst,
-  add-one,
-  append_assoc,
-  append-nil,
-  if◌then◌else◌,
-}
+use Rattle.std.proofs.Common.{◌≡◌, ℕ, ◌+◌, ◌<◌, Bool, ◌&&◌, ◌||◌, List, [], ◌∷◌, ◌++◌, map, refl, sym, ap, ◌∙◌, subst}
+use Rattle.std.proofs.Common.{append_assoc, if◌then◌else◌}
 use Rattle.std.specs.Prelude.{Result, IfOk}
 use Rattle.std.proofs.Math.Bool.{and_assoc, or_assoc}
-use Rattle.std.proofs.Math.Seq.{drop-cons}
 use Rattle.bl_tree.specs.declared.place.Place.{Place}
 use Rattle.bl_tree.specs.declared.tree.Arm.{Arm, fold_out-Arm, out-Arm}
 use Rattle.bl_tree.specs.declared.tree.Branch.{Branch, fold_out-Branch, out-Branch}
@@ -45,9 +17,6 @@ use Rattle.bl_effects.specs.Surface.{BranchSurface, Surface, arm_surface, block_
 use Rattle.bl_effects.proofs.InstantLemmas.{surface_agrees}
 use Rattle.bl_ctree.specs.Positions.{Position, left_of_if}
 use Rattle.bl_ctree_pending.specs.inner.Surfaces.{surface_of_arm, surface_of_branch}
-
-pub next_of : {X : Type 0} (xs : List X) (k : ℕ) (x : X) → k < length xs → x ≡ get_or xs k x → drop k xs ≡ x ∷ drop (k + 1) xs
-next_of xs k x within is = rw add-one (drop-cons xs k x within ∙ ap (λ y. y ∷ drop (suc k) xs) (sym is))
 
 pub arm_out : (arm : Arm) → surface_of_arm arm ≡ record {
   instant = block_instant (map surface_of (out-Arm arm).body);
@@ -130,30 +99,6 @@ module _ (position : Position) (passed : ℕ) (arm : Arm) (arms : List Arm) (oth
       ∙ append_assoc before (ws ++ further) last
       ∙ ap (λ ws. before ++ ((ws ++ further) ++ last)) (ap (λ surface. surface.writes) (sym (arm_out arm)))
       ∙ ap (λ surface. before ++ surface.writes) (sym left_surface)
-
--- ---- blocks
-
-pub block_on : (all rest : List Surface) (s : Surface) (found : Bool) → all ≡ s ∷ rest → s.instant ≡ true →
-    block_instant all ≡ found → block_instant rest ≡ found
-block_on all rest s found is ends h = sym (ap block_instant is ∙ ap (λ b. b && block_instant rest) ends) ∙ h
-
-pub block_stops : (all rest : List Surface) (s : Surface) (found : Bool) → all ≡ s ∷ rest → s.instant ≡ false →
-    block_instant all ≡ found → false ≡ found
-block_stops all rest s found is pauses h = sym (ap block_instant is ∙ ap (λ b. b && block_instant rest) pauses) ∙ h
-
-pub block_more : (all rest : List Surface) (s : Surface) (done made found : List Static) → all ≡ s ∷ rest → s.instant ≡ true →
-    made ≡ done ++ s.writes
-    → done ++ block_surface all ≡ found → made ++ block_surface rest ≡ found
-block_more all rest s done made found is ends is_made h =
-    ap (λ made. made ++ block_surface rest) is_made ∙ append_assoc done s.writes (block_surface rest)
-    ∙ sym (ap (λ all. done ++ block_surface all) is ∙ ap (λ b. done ++ (s.writes ++ (if b then block_surface rest else []))) ends) ∙ h
-
-pub block_last : (all rest : List Surface) (s : Surface) (done made found : List Static) → all ≡ s ∷ rest → s.instant ≡ false →
-    made ≡ done ++ s.writes
-    → done ++ block_surface all ≡ found → made ≡ found
-block_last all rest s done made found is pauses is_made h =
-    is_made ∙ ap (λ ws. done ++ ws) (sym (append-nil s.writes))
-    ∙ sym (ap (λ all. done ++ block_surface all) is ∙ ap (λ b. done ++ (s.writes ++ (if b then block_surface rest else []))) pauses) ∙ h
 
 -- ---- parts one after another: all those that are left are one and the rest
 

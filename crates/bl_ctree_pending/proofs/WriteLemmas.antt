@@ -1,27 +1,6 @@
 -- What a tree may still write, as a list of static paths, is what the definition tests.
-use Rattle.std.proofs.Common.{
-  ◌≡◌,
-  ℕ,
-  suc,
-  Bool,
-  true,
-  false,
-  ◌&&◌,
-  ◌||◌,
-  List,
-  [],
-  ◌∷◌,
-  ◌++◌,
-  map,
-  refl,
-  sym,
-  ap,
-  ◌∙◌,
-  subst,
-  append_assoc,
-  append-nil,
-  if◌then◌else◌,
-}
+use Rattle.std.proofs.Common.{◌≡◌, ℕ, suc, Bool, true, false, ◌&&◌, ◌||◌, List, [], ◌∷◌, ◌++◌, map, refl, sym, ap, ◌∙◌, subst, append_assoc, append-nil}
+use Rattle.std.proofs.Common.{if◌then◌else◌}
 use Rattle.std.specs.Prelude.{Result, IfOk, OnOk}
 use Rattle.std.proofs.Math.Bool.{and_assoc, or_assoc}
 use Rattle.bl_tree.specs.declared.tree.Stmt.{Stmt}
@@ -31,22 +10,8 @@ use Rattle.bl_effects.proofs.GatherLemmas.{on_ok}
 use Rattle.bl_effects.proofs.InstantLemmas.{surface_agrees}
 use Rattle.bl_ctree.specs.Control.{Control, Branches, Nil, Wait, Test, Idle, Do, Turn, Seq, Par, Guard, Run, no_branch, branch, Phase, Check, Body, is_settled}
 use Rattle.bl_ctree.specs.Instances.{Setting}
-use Rattle.bl_ctree.specs.Pending.{
-  anew,
-  any_writes,
-  is_reset,
-  item_may_end,
-  item_surface,
-  items_may_end,
-  items_surface,
-  lie_over,
-  may_end,
-  may_write,
-  outputs_of_kind,
-  run_may_end,
-  run_writes,
-  target_of_kind,
-}
+use Rattle.bl_ctree.specs.Pending.{anew, any_writes, is_reset, item_may_end, item_surface, items_may_end, items_surface, lie_over, may_end, may_write}
+use Rattle.bl_ctree.specs.Pending.{outputs_of_kind, run_may_end, run_writes, target_of_kind}
 use Rattle.bl_ctree.specs.Positions.{Item, Begin, Again, Located, Position, items_from, kind_of}
 use Rattle.bl_ctree.specs.Store.{Location, home, overlap}
 use Rattle.bl_ctree_pending.specs.Writes.{all_write_paths, anew_paths, item_paths, items_paths, run_paths, surface_paths, write_paths}

@@ -1,88 +1,19 @@
 -- The path of a point leads to what the tree becomes by it.
-use Rattle.std.proofs.Common.{
-  ◌≡◌,
-  ℕ,
-  zero,
-  suc,
-  ◌+◌,
-  ◌-◌,
-  ◌<◌,
-  ◌≤◌,
-  Bool,
-  true,
-  false,
-  ◌&&◌,
-  List,
-  [],
-  ◌∷◌,
-  ◌++◌,
-  map,
-  take,
-  drop,
-  length,
-  get_or,
-  refl,
-  sym,
-  ap,
-  ◌∙◌,
-  subst,
-  ⊎_elim,
-  append_assoc,
-  arith,
-  if◌then◌else◌,
-}
+use Rattle.std.proofs.Common.{◌≡◌, ℕ, zero, suc, ◌+◌, ◌-◌, ◌<◌, ◌≤◌, Bool, true, false, ◌&&◌, List, [], ◌∷◌, ◌++◌, map, take, drop, length, get_or, refl, sym}
+use Rattle.std.proofs.Common.{ap, ◌∙◌, subst, ⊎_elim, append_assoc, arith, if◌then◌else◌}
 use Rattle.std.proofs.Math.Seq.{take-length}
 use Rattle.std.proofs.lemmas.List.{length-drop}
 use Rattle.bl_tree.specs.declared.tree.StmtKind.TheOpen.{StmtKind-F}
 use Rattle.bl_ctree.proofs.Elements.{of-append, of-filter, of-map}
 use Rattle.bl_ctree.specs.Actions.{Silent}
-use Rattle.bl_ctree.specs.Control.{
-  Control,
-  Branches,
-  Nil,
-  Wait,
-  Test,
-  Idle,
-  Do,
-  Turn,
-  Seq,
-  Par,
-  Guard,
-  Run,
-  no_branch,
-  branch,
-  Check,
-  Body,
-  are_done,
-  are_settled,
-  is_nil,
-  seq,
-}
+use Rattle.bl_ctree.specs.Control.{Control, Branches, Nil, Wait, Test, Idle, Do, Turn, Seq, Par, Guard, Run, no_branch, branch, Check, Body, are_done}
+use Rattle.bl_ctree.specs.Control.{are_settled, is_nil, seq}
 use Rattle.bl_ctree.specs.Instances.{Setting}
 use Rattle.bl_ctree.specs.Nodes.{Seen, branch_seen, branches_of, control_of, node_control, seen_of}
 use Rattle.bl_ctree.specs.declared.node.Branch.{Branch, fold_out-Branch, out-Branch}
 use Rattle.bl_ctree.specs.Pending.{any_meets, meets}
-use Rattle.bl_ctree.specs.Points.{
-  IsMember,
-  here,
-  there,
-  Point,
-  begins,
-  branch_points,
-  checks,
-  copying,
-  free_of,
-  giving,
-  in_first,
-  in_later,
-  joining,
-  one_on,
-  points,
-  sure,
-  tests,
-  turns_on,
-  within,
-}
+use Rattle.bl_ctree.specs.Points.{IsMember, here, there, Point, begins, branch_points, checks, copying, free_of, giving, in_first, in_later, joining, one_on}
+use Rattle.bl_ctree.specs.Points.{points, sure, tests, turns_on, within}
 use Rattle.bl_ctree.specs.Positions.{Located, kind_of}
 use Rattle.bl_ctree_enabled.specs.Spots.{moved}
 use Rattle.bl_ctree_run.specs.inner.Spots.{after_by, after_in, first_after}
@@ -198,11 +129,6 @@ after_in_moved : (w : Setting) (i : ℕ) (bs : List Seen) (k : ℕ) (path : List
 after_in_moved w i [] k path d = refl
 after_in_moved w i (b ∷ bs) zero path d = refl
 after_in_moved w i (b ∷ bs) (suc k) path d = ap (branch b.weak b.tree) (after_in_moved w i bs k path d)
-
-pub first_and_rest : (path : List ℕ) (k : ℕ) (rest : List ℕ) → 0 < length path → k ≡ get_or path 0 k → rest ≡ drop 1 path →
-    path ≡ k ∷ rest
-first_and_rest [] k rest within is_k is_rest = absurd (omega arith)
-first_and_rest (j ∷ path) k rest within is_k is_rest = λ i. sym is_k i ∷ (sym is_rest ∙ refl) i
 
 pub seen_out : (b : Branch) → seen_of b ≡ record { weak = (out-Branch b).weak; tree = control_of (out-Branch b).tree }
 seen_out b = fold_out-Branch Control Seen node_control branch_seen b

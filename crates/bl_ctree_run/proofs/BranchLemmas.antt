@@ -1,6 +1,7 @@
 -- The loop over branches, one branch after another.
 use Rattle.std.proofs.Common.{◌≡◌, ℕ, zero, suc, ◌<◌, ◌≤◌, get_or, List, [], ◌∷◌, ◌++◌, map, filter, take, drop, length}
-use Rattle.std.proofs.Common.{refl, sym, ap, ◌∙◌, arith, append_assoc, append-nil}
+use Rattle.std.proofs.Common.{refl, sym, ap, ◌∙◌, arith, append_assoc}
+use Rattle.bl_tree.proofs.Basics.{drop_none}
 use Rattle.bl_ctree.specs.Instances.{Setting}
 use Rattle.bl_ctree.specs.Nodes.{Seen, branches_of}
 use Rattle.bl_ctree.specs.Points.{Point, branch_points, points}
@@ -8,17 +9,6 @@ use Rattle.bl_ctree.specs.Control.{Branches}
 use Rattle.bl_ctree.specs.Store.{Location}
 use Rattle.bl_ctree_enabled.specs.Spots.{Spot, homes_seen, is_free_of, spot_below}
 use Rattle.bl_ctree_enabled.proofs.BranchLemmas.{branches_start, branches_step, is_free, spot_from}
-
--- nothing is left behind the last
-pub none_left : {A : Type 0} (xs : List A) (k : ℕ) → length xs ≤ k → drop k xs ≡ []
-none_left [] zero past = refl
-none_left [] (suc k) past = refl
-none_left (x ∷ xs) zero past = absurd (omega arith)
-none_left (x ∷ xs) (suc k) past = none_left xs k (omega arith)
-
-pub drop_all : {A : Type 0} (xs : List A) → drop 0 xs ≡ xs
-drop_all [] = refl
-drop_all (x ∷ xs) = refl
 
 module _ (w : Setting) (i : ℕ) (path : List ℕ) where
   abbrev behind : List Seen → List (Point Branches)
@@ -28,7 +18,7 @@ module _ (w : Setting) (i : ℕ) (path : List ℕ) where
   pub loop_starts : (ps : List (List Location)) (bs : List Seen) (done : List Spot)
       → done ++ filter (is_free (take 0 ps)) (map (spot_from w path 0) (behind (drop 0 bs))) ≡ done ++ map (spot_below w path) (behind bs)
   loop_starts ps bs done =
-      ap (λ all. done ++ filter (is_free (take 0 ps)) (map (spot_from w path 0) (behind all))) (drop_all bs)
+      ap (λ all. done ++ filter (is_free (take 0 ps)) (map (spot_from w path 0) (behind all))) (drop_none bs)
       ∙ ap (λ front. done ++ filter (is_free front) (map (spot_from w path 0) (behind bs))) (take_none ps)
       ∙ ap (λ spots. done ++ spots) (branches_start w i path bs)
     where
@@ -53,15 +43,9 @@ module _ (w : Setting) (i : ℕ) (path : List ℕ) where
       ∙ ap (λ spots. done ++ spots) (sym (branches_step w i path all ps k b is here))
       ∙ before
 
-  -- behind the last branch
-  pub loop_ends : (all : List Seen) (ps : List (List Location)) (k : ℕ) (done start : List Spot) → length all ≤ k
-      → done ++ filter (is_free (take k ps)) (map (spot_from w path k) (behind (drop k all))) ≡ start → done ≡ start
-  loop_ends all ps k done start past before =
-      sym (ap (λ rest. done ++ filter (is_free (take k ps)) (map (spot_from w path k) (behind rest))) (none_left all k past) ∙ append-nil done) ∙ before
-
 -- the branch with number k
 pub branch_here : {A : Type 0} (f : A → Seen) (xs : List A) (k : ℕ) (x : A) → k < length xs → x ≡ get_or xs k x →
     drop k (map f xs) ≡ f x ∷ drop (suc k) (map f xs)
 branch_here f [] k x within is = absurd (omega arith)
-branch_here f (y ∷ xs) zero x within is = ap (λ z. f z ∷ map f xs) (sym is) ∙ ap (λ rest. f x ∷ rest) (sym (drop_all (map f xs)))
+branch_here f (y ∷ xs) zero x within is = ap (λ z. f z ∷ map f xs) (sym is) ∙ ap (λ rest. f x ∷ rest) (sym (drop_none (map f xs)))
 branch_here f (y ∷ xs) (suc k) x within is = branch_here f xs k x (omega arith) is

@@ -1,48 +1,21 @@
 -- What is listed of branches, and what is kept of one that changes.
-use Rattle.std.proofs.Common.{◌≡◌, ℕ, suc, ◌<◌, ◌≤◌, Bool, List, [], ◌∷◌, ◌++◌, map, drop, length, get_or, sym, ap, ◌∙◌, subst, append_assoc}
-use Rattle.std.proofs.Common.{append-nil}
+use Rattle.std.proofs.Common.{◌≡◌, ℕ, ◌<◌, ◌≤◌, Bool, List, [], ◌∷◌, ◌++◌, map, length, get_or, sym, ap, ◌∙◌, subst}
 use Rattle.std.specs.Prelude.{Option, Some, slice_get, slice_set}
 use Rattle.bl_ctree.specs.declared.node.Branch.{Branch as BranchNode, out-Branch}
 use Rattle.bl_ctree.specs.Control.{Control}
 use Rattle.bl_ctree.specs.Instances.{Setting}
 use Rattle.bl_ctree.specs.Nodes.{Seen, control_of, seen_of}
 use Rattle.bl_ctree_enabled.specs.declared.listing.Listing.{Listing}
-use Rattle.bl_ctree_enabled.specs.declared.point.Point.{Point as PointNode}
 use Rattle.bl_ctree_enabled.specs.Laws.{ReplacedIsListed}
-use Rattle.bl_ctree_enabled.specs.Listing.{EnabledView, Fork, IsRight, Lists, enabled_view, spots_from, spots_in}
-use Rattle.bl_ctree_enabled.specs.Spots.{Spot, spot_of}
-use Rattle.bl_ctree_enabled.proofs.ListLemmas.{drop_here, get_here, map_here}
+use Rattle.bl_ctree_enabled.specs.Listing.{EnabledView, Fork, IsRight, Lists, enabled_view}
+use Rattle.bl_ctree_enabled.specs.Spots.{spot_of}
+use Rattle.bl_ctree_enabled.proofs.ListLemmas.{map_here}
 use Rattle.bl_ctree_enabled.proofs.NodeLemmas.{seen_out}
-use Rattle.bl_ctree_enabled.proofs.BranchLemmas.{map-append}
 use Rattle.bl_ctree_store.specs.Seen.{location_of}
 use Rattle.bl_ctree_run.specs.declared.listed.Kept.{Kept}
 use Rattle.bl_ctree_run.specs.inner.Spines.{Fits, ListsEnd, fork_at, listed_by, with_fork}
 use Rattle.bl_ctree_run.specs.inner.Spots.{after_by}
-use Rattle.bl_ctree_run.proofs.BranchLemmas.{none_left}
 use Rattle.bl_ctree_run.proofs.SpineLemmas.{leads_into, spine_replaced}
-
--- ---- the points of each branch
-
-module _ (w : Setting) (i : ℕ) where
-  -- one branch more
-  pub points_on : (xs : List BranchNode) (k next : ℕ) (x : BranchNode) (made new : List (List PointNode)) (spots : List PointNode) (all : List (List Spot))
-      → next ≡ suc k → k < length xs → x ≡ get_or xs k x → new ≡ made ++ spots ∷ [] → map spot_of spots ≡ spots_in w i k (seen_of x).tree
-      → map (map spot_of) made ++ spots_from w i k (map seen_of (drop k xs)) ≡ all
-      → map (map spot_of) new ++ spots_from w i next (map seen_of (drop next xs)) ≡ all
-  points_on xs k next x made new spots all is_next within is is_new told before =
-      (λ j. map (map spot_of) (is_new j) ++ spots_from w i (is_next j) (map seen_of (drop (is_next j) xs)))
-      ∙ ap (λ front. front ++ spots_from w i (suc k) (map seen_of (drop (suc k) xs))) (map-append (map spot_of) made (spots ∷ []))
-      ∙ append_assoc (map (map spot_of) made) (map spot_of spots ∷ []) (spots_from w i (suc k) (map seen_of (drop (suc k) xs)))
-      ∙ ap (λ here. map (map spot_of) made ++ (here ∷ spots_from w i (suc k) (map seen_of (drop (suc k) xs)))) told
-      ∙ ap (λ rest. map (map spot_of) made ++ spots_from w i k (map seen_of rest)) (sym (drop_here xs k x (get_here xs k x within is)))
-      ∙ before
-
-  -- all of them
-  pub points_end : (xs : List BranchNode) (k : ℕ) (made : List (List PointNode)) (all : List (List Spot)) → length xs ≤ k
-      → map (map spot_of) made ++ spots_from w i k (map seen_of (drop k xs)) ≡ all → map (map spot_of) made ≡ all
-  points_end xs k made all past before =
-      sym (append-nil (map (map spot_of) made)) ∙ sym (ap (λ rest. map (map spot_of) made ++ spots_from w i k (map seen_of rest)) (none_left xs k past))
-      ∙ before
 
 -- ---- what is listed
 

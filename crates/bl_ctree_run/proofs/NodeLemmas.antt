@@ -10,15 +10,13 @@ use Rattle.bl_ctree.specs.declared.node.Phase.TheVariants.{Body as AtBody}
 use Rattle.bl_ctree.specs.declared.node.Rest.{Rest}
 use Rattle.bl_ctree.specs.Control.{Nil, Seq, Par, Guard, Run, Body}
 use Rattle.bl_ctree.specs.Nodes.{branches_of, control_of, items_of, located, phase_of, seen_of}
+use Rattle.bl_ctree.proofs.WakeLemmas.{control_of_par}
 
 pub control_of_nil : control_of NilNode ≡ Nil
 control_of_nil = search (rules, the_lemmas)
 
-control_of_seq : (inner : Node) (rest : Rest) → control_of (SeqNode inner rest) ≡ Seq (control_of inner) (items_of rest)
+pub control_of_seq : (inner : Node) (rest : Rest) → control_of (SeqNode inner rest) ≡ Seq (control_of inner) (items_of rest)
 control_of_seq inner rest = search (rules, the_lemmas)
-
-control_of_par : (s : At) (stood : Bool) (all : List BranchNode) → control_of (ParNode s stood all) ≡ Par (located s) stood (branches_of (map seen_of all))
-control_of_par s stood all = search (rules, the_lemmas)
 
 control_of_guard : (s : At) (phase : PhaseNode) (stood : Bool) (inner : Node) →
     control_of (GuardNode s phase stood inner) ≡ Guard (located s) (phase_of phase) stood (control_of inner)
@@ -37,10 +35,6 @@ par_made s made stood all same = control_of_par made stood all ∙ ap (λ at. Pa
 
 pub seq_is : (node inner : Node) (rest : Rest) → node ≡ SeqNode inner rest → control_of node ≡ Seq (control_of inner) (items_of rest)
 seq_is node inner rest is = ap control_of is ∙ control_of_seq inner rest
-
-pub par_is : (node : Node) (s : At) (stood : Bool) (all : List BranchNode) → node ≡ ParNode s stood all →
-    control_of node ≡ Par (located s) stood (branches_of (map seen_of all))
-par_is node s stood all is = ap control_of is ∙ control_of_par s stood all
 
 pub guard_is : (node : Node) (s : At) (phase : PhaseNode) (stood : Bool) (inner : Node) → node ≡ GuardNode s phase stood inner → phase ≡ AtBody
     → control_of node ≡ Guard (located s) Body stood (control_of inner)

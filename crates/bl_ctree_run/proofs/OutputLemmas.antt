@@ -1,40 +1,11 @@
 -- No action takes a variable from an instance, so the store has a value for each output throughout.
-use Rattle.std.proofs.Common.{
-  ◌≡◌,
-  ℕ,
-  zero,
-  suc,
-  ◌+◌,
-  ◌-◌,
-  ◌≤◌,
-  ℤ,
-  Bool,
-  true,
-  false,
-  List,
-  [],
-  ◌∷◌,
-  ◌++◌,
-  length,
-  map,
-  min,
-  take,
-  drop,
-  Option,
-  Some,
-  None,
-  refl,
-  sym,
-  ap,
-  ◌∙◌,
-  subst,
-  arith,
-  ◌&&◌,
-}
+use Rattle.std.proofs.Common.{◌≡◌, ℕ, zero, suc, ◌+◌, ◌-◌, ◌≤◌, ℤ, true, List, [], ◌∷◌, ◌++◌, length, min, take, drop, Option, Some, None}
+use Rattle.std.proofs.Common.{refl, sym, ap, ◌∙◌, subst, arith, ◌&&◌}
 use Rattle.std.specs.Prelude.{Result, Ok, Err, nat_le, option_and_then, option_map, slice_get, slice_set, unwrap_or}
 use Rattle.std.proofs.lemmas.Bool.{leb-true}
 use Rattle.std.proofs.lemmas.List.{length-append, length-drop, length-map, length-take}
 use Rattle.std.proofs.lemmas.Option.{slice_get-map}
+use Rattle.bl_tree.proofs.Basics.{and_first, and_second, at_most_itself, at_most_then}
 use Rattle.bl_tree.specs.declared.memory.NoMemory.{NoMemory}
 use Rattle.bl_tree.specs.declared.tree.Arm.{Arm}
 use Rattle.bl_tree.specs.declared.tree.Branch.{Branch}
@@ -44,42 +15,23 @@ use Rattle.bl_tree.specs.declared.tree.StmtKind.TheOpen.{StmtKind-F}
 use Rattle.bl_tree.specs.declared.tree.StructDef.{StructDef}
 use Rattle.bl_tree.specs.declared.tree.Unit.{Unit as UnitDef}
 use Rattle.bl_tree.specs.declared.value.Value.{Value}
-use Rattle.bl_tree.specs.declared.value.Value.TheVariants.{Number}
 use Rattle.bl_tree.specs.Program.{roles_stand, unit_stands, units_stand_after}
 use Rattle.bl_eval.specs.declared.values.Did.{Did}
 use Rattle.bl_eval.specs.declared.values.Did.TheVariants.{Done, Trap}
 use Rattle.bl_eval.specs.Values.{put_at, with_value_at}
 use Rattle.bl_ctree.specs.Actions.{acted_kind, given_to, outcome_there, result_at, value_there, values_there, with_result}
 use Rattle.bl_ctree.specs.declared.instance.Instance.{Instance}
-use Rattle.bl_ctree.specs.Instances.{Setting, expanded, instances_below, instances_of, runs_of, setting_of, unit_at, unit_of}
+use Rattle.bl_ctree.specs.Instances.{Setting, unit_at, unit_of}
 use Rattle.bl_ctree.specs.Positions.{stmt_kind}
-use Rattle.bl_ctree.specs.Store.{
-  Frame,
-  Location,
-  Store,
-  aged,
-  first_frame,
-  first_store,
-  frame_at_first,
-  home,
-  number_or_zero,
-  outputs_of_frame,
-  put,
-  put_path,
-  put_written,
-  remember,
-  with_frame,
-  with_inputs,
-  with_now,
-  woken_store,
-  zeros,
-}
+use Rattle.bl_ctree.specs.Store.{Frame, Location, Store, first_frame, first_store, frame_at_first, home, number_or_zero, outputs_of_frame, put, put_path}
+use Rattle.bl_ctree.specs.Store.{put_written, remember, with_frame, with_inputs, with_now, zeros}
 use Rattle.bl_tree.specs.declared.static_path.Static.{Static}
 use Rattle.bl_tree.specs.Effects.{writes}
 use Rattle.bl_ctree_store.specs.declared.perform.Deed.{Deed}
 use Rattle.bl_ctree_store.specs.declared.perform.Deed.TheVariants.{Silent, Acts, Copies, Gives}
 use Rattle.bl_ctree_store.specs.Deeds.{Carried, deed_on}
-use Rattle.bl_ctree_run.specs.Outputs.{HasOutputs, count_of_outputs, outputs_of_unit}
+use Rattle.bl_ctree_run.specs.Outputs.{HasOutputs, outputs_of_unit}
+use Rattle.bl_ctree_store.proofs.AgeLemmas.{many_set}
 
 -- the second frame has no fewer variables
 pub data Covers : Option Frame → Option Frame → Type 0 where
@@ -90,22 +42,16 @@ pub data Covers : Option Frame → Option Frame → Type 0 where
 pub record Grows (old new : Store) : Type 0 where
   pub at : (i : ℕ) → Covers (slice_get old i) (slice_get new i)
 
-le_refl : (n : ℕ) → n ≤ n
-le_refl n = omega arith
-
 covers_same : (f : Option Frame) → Covers f f
 covers_same None = no_frame
-covers_same (Some f) = no_fewer (le_refl (length f.now))
+covers_same (Some f) = no_fewer (at_most_itself (length f.now))
 
 pub grows_same : (store : Store) → Grows store store
 grows_same store = record { at = λ i. covers_same (slice_get store i) }
 
-le_trans : (a b c : ℕ) → a ≤ b → b ≤ c → a ≤ c
-le_trans a b c h k = omega arith
-
 covers_on : {f g h : Option Frame} → Covers f g → Covers g h → Covers f h
 covers_on no_frame no_frame = no_frame
-covers_on (no_fewer {f} {g} a) (no_fewer {f = g2} {g = h} b) = no_fewer (le_trans (length f.now) (length g.now) (length h.now) a b)
+covers_on (no_fewer {f} {g} a) (no_fewer {f = g2} {g = h} b) = no_fewer (at_most_then (length f.now) (length g.now) (length h.now) a b)
 
 grows_on : {old mid new : Store} → Grows old mid → Grows mid new → Grows old new
 grows_on a b = record { at = λ i. covers_on (a.at i) (b.at i) }
@@ -132,15 +78,10 @@ changed_grows i change store more = frame_grows store i change more (slice_get s
 
 -- ---- a value is put
 
-length_set : {A : Type 0} (xs : List A) (i : ℕ) (x : A) → length (slice_set xs i x) ≡ length xs
-length_set [] i x = refl
-length_set (y ∷ xs) zero x = refl
-length_set (y ∷ xs) (suc i) x = ap suc (length_set xs i x)
-
 value_put : (k : ℕ) (fields : List ℕ) (value : Value) (now made : List Value) (old : Option Value) (part : Option Value)
     → option_map (λ value. slice_set now k value) part ≡ Some made → length made ≡ length now
 value_put k fields value now made old None is = absurd cc
-value_put k fields value now made old (Some part) is = let same : slice_set now k part ≡ made = cc in sym (ap length same) ∙ length_set now k part
+value_put k fields value now made old (Some part) is = let same : slice_set now k part ≡ made = cc in sym (ap length same) ∙ many_set now k part
 
 old_put : (k : ℕ) (fields : List ℕ) (value : Value) (now made : List Value) (old : Option Value)
     → option_and_then (λ old. option_map (λ value. slice_set now k value) (with_value_at fields value old)) old ≡ Some made → length made ≡ length now
@@ -154,7 +95,7 @@ put_grows_at store at value f None is same = grows_same store
 put_grows_at store at value f (Some now) is same =
     record {
       at = set_covers store at.instance f (record f { now = now }) is
-          (subst (λ (n : ℕ). length f.now ≤ n) (sym (same now refl)) (le_refl (length f.now)));
+          (subst (λ (n : ℕ). length f.now ≤ n) (sym (same now refl)) (at_most_itself (length f.now)));
     }
 
 put_grows_in : (store : Store) (at : Location) (value : Value) (found : Option Frame) → slice_get store at.instance ≡ found
@@ -203,11 +144,11 @@ acted_grows : (w : Setting) (i : ℕ) (s : Stmt) (k : StmtKind-F StmtKind Arm Br
 acted_grows w i s (StmtKind-F.Return None) store new is = let same : store ≡ new = cc in subst (λ (new : Store). Grows store new) same (grows_same store)
 acted_grows w i s (StmtKind-F.Return (Some e)) store new is =
     some_grows store new (λ value. with_frame i (with_result value) store) (value_there w store i e)
-    (λ value. changed_grows i (with_result value) store (λ f. le_refl (length f.now))) is
+    (λ value. changed_grows i (with_result value) store (λ f. at_most_itself (length f.now))) is
 acted_grows w i s (StmtKind-F.Declare k initial) store new is =
     some_grows store new (λ values. with_frame i (remember k) (put_written w i values (writes s) store)) (outcome_there w store i s)
     (λ values. grows_on (written_grows w i values (writes s) store)
-    (changed_grows i (remember k) (put_written w i values (writes s) store) (λ f. le_refl (length f.now)))) is
+    (changed_grows i (remember k) (put_written w i values (writes s) store) (λ f. at_most_itself (length f.now)))) is
 acted_grows w i s (StmtKind-F.Assign path e) store new is = puts_grow w i s store new is
 acted_grows w i s (StmtKind-F.Call f inputs outputs) store new is = puts_grow w i s store new is
 acted_grows w i s (StmtKind-F.Await e) store new is = puts_grow w i s store new is
@@ -229,19 +170,6 @@ deed_grows w i (Copies callee inputs) store new is =
 deed_grows w i (Gives callee target) store new is =
     let same : given_to w i target.now (result_at store callee) store ≡ new = cc in
     subst (λ (new : Store). Grows store new) same (given_grows w i target.now (result_at store callee) store)
-
-aged_covers : (f : Option Frame) → Covers f (option_map aged f)
-aged_covers None = no_frame
-aged_covers (Some f) = no_fewer (le_refl (length f.now))
-
-aged_grow : (store : Store) → Grows store (map aged store)
-aged_grow store = record {
-  at = λ i. subst (λ (g : Option Frame). Covers (slice_get store i) g) (sym (slice_get-map aged store i))
-      (aged_covers (slice_get store i));
-}
-
-pub woken_grows : (row : List ℤ) (store : Store) → Grows store (woken_store row store)
-woken_grows row store = grows_on (aged_grow store) (changed_grows 0 (with_inputs (map Number row)) (map aged store) (inputs_grow (map Number row)))
 
 -- ---- the row
 
@@ -279,20 +207,12 @@ outputs_carried w i deed old new (Err e) carried has = subst (λ (store : Store)
 
 -- ---- at the start
 
-and_left : (a b : Bool) → (a && b) ≡ true → a ≡ true
-and_left true b both = refl
-and_left false b both = both
-
-and_right : (a b : Bool) → (a && b) ≡ true → b ≡ true
-and_right true b both = both
-and_right false b both = absurd cc
-
 -- a unit's parameters are among its variables
 room_of : (structs : List StructDef) (earlier : List UnitDef) (unit : UnitDef) → unit_stands structs earlier unit ≡ true →
     unit.inputs + unit.outputs ≤ length unit.vars
 room_of structs earlier unit stands =
     leb-true (unit.inputs + unit.outputs) (length unit.vars)
-    (and_left (nat_le (unit.inputs + unit.outputs) (length unit.vars)) _ (and_left (roles_stand unit) _ (and_left (roles_stand unit && _) _ stands)))
+    (and_first (nat_le (unit.inputs + unit.outputs) (length unit.vars)) _ (and_first (roles_stand unit) _ (and_first (roles_stand unit && _) _ stands)))
 
 room_at : (structs : List StructDef) (earlier units : List UnitDef) (k : ℕ) (unit : UnitDef) →
     units_stand_after structs earlier units ≡ true → slice_get units k ≡ Some unit
@@ -300,9 +220,9 @@ room_at : (structs : List StructDef) (earlier units : List UnitDef) (k : ℕ) (u
 room_at structs earlier [] k unit stands is = absurd cc
 room_at structs earlier (u ∷ units) zero unit stands is =
     let same : u ≡ unit = cc in
-    subst (λ (u : UnitDef). u.inputs + u.outputs ≤ length u.vars) same (room_of structs earlier u (and_left (unit_stands structs earlier u) _ stands))
+    subst (λ (u : UnitDef). u.inputs + u.outputs ≤ length u.vars) same (room_of structs earlier u (and_first (unit_stands structs earlier u) _ stands))
 room_at structs earlier (u ∷ units) (suc k) unit stands is =
-    room_at structs (earlier ++ u ∷ []) units k unit (and_right (unit_stands structs earlier u) _ stands) is
+    room_at structs (earlier ++ u ∷ []) units k unit (and_second (unit_stands structs earlier u) _ stands) is
 
 module _ (w : Setting) (stands : units_stand_after w.structs [] w.units ≡ true) where
   unit_row : (k : ℕ) (unit : Option UnitDef) → slice_get w.units k ≡ unit
@@ -324,21 +244,3 @@ module _ (w : Setting) (stands : units_stand_after w.structs [] w.units ≡ true
   -- the store of a run that has not begun
   pub outputs_start : HasOutputs w (first_store w)
   outputs_start = ap (λ f. length (row (unit_at w 0) f)) (slice_get-map (frame_at_first w) w.instances 0) ∙ first_row (slice_get w.instances 0)
-
--- ---- the entry
-
-entry_unit : (structs : List StructDef) (units : List UnitDef) (entry : ℕ) (all : List Instance) (below : UnitDef → List Instance)
-    (unit : Option UnitDef) → slice_get units entry ≡ unit
-    → all ≡ unwrap_or (option_map (λ unit. record { unit = entry; depth = 0; origin = None } ∷ below unit) unit) []
-    → unit_at (record { structs = structs; units = units; instances = all }) 0 ≡ unit
-entry_unit structs units entry all below None is is_all = ap (λ all. unit_at (record { structs = structs; units = units; instances = all }) 0) is_all
-entry_unit structs units entry all below (Some unit) is is_all =
-    ap (λ all. unit_at (record { structs = structs; units = units; instances = all }) 0) is_all ∙ is
-
--- instance 0 is of the entry's unit
-pub entry_first : (structs : List StructDef) (units : List UnitDef) (entry : ℕ) →
-    count_of_outputs (setting_of structs units entry) ≡ outputs_of_unit (slice_get units entry)
-entry_first structs units entry =
-    ap (λ unit. outputs_of_unit unit)
-    (entry_unit structs units entry (instances_of units entry) (λ unit. instances_below (expanded units entry) 1 (runs_of unit)) (slice_get units entry) refl
-    (let more : entry + 1 ≡ suc entry = omega arith in ap (λ longest. expanded units longest entry) more))

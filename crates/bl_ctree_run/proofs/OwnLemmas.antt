@@ -1,28 +1,8 @@
 -- The point of a node itself, and those inside it.
-use Rattle.std.proofs.Common.{
-  ◌≡◌,
-  ℕ,
-  Bool,
-  true,
-  false,
-  ◌&&◌,
-  List,
-  [],
-  ◌∷◌,
-  ◌++◌,
-  map,
-  Option,
-  Some,
-  None,
-  refl,
-  sym,
-  ap,
-  ◌∙◌,
-  append_assoc,
-  append-nil,
-  if◌then◌else◌,
-}
+use Rattle.std.proofs.Common.{◌≡◌, ℕ, Bool, true, false, ◌&&◌, List, [], ◌∷◌, ◌++◌, map, Option, Some, None, refl, sym, ap, ◌∙◌, append_assoc, append-nil}
+use Rattle.std.proofs.Common.{if◌then◌else◌}
 use Rattle.std.specs.Prelude.{option_and_then, option_map, OnOk, Result, Ok, Err}
+use Rattle.bl_tree.proofs.Basics.{map_append}
 use Rattle.bl_tree.specs.declared.tree.Arm.{Arm}
 use Rattle.bl_tree.specs.declared.tree.Branch.{Branch}
 use Rattle.bl_tree.specs.declared.tree.Expr.{Expr}
@@ -43,10 +23,6 @@ use Rattle.bl_ctree_run.specs.inner.Spots.{Told, effect_paths, own, spot_told, t
 pub data Own : List (Point Control) → Type 0 where
   no_point : Own []
   one_point : (p : Point Control) → p.path ≡ [] → Own (p ∷ [])
-
-own_if : (b : Bool) (p : Point Control) → p.path ≡ [] → Own (if b then p ∷ [] else [])
-own_if true p e = one_point p e
-own_if false p e = no_point
 
 own_called : (w : Setting) (i : ℕ) (s : Located) (inputs : List Expr) (callee : Option ℕ)
     → Own (or_nothing (option_and_then (λ callee. option_map (run_begins w i s (Copies callee inputs) callee) (unit_at w callee)) callee))
@@ -194,10 +170,6 @@ map_within : {A B : Type 0} (w : Setting) (path : List ℕ) (around : A → B) (
 map_within w path around [] = refl
 map_within w path around (p ∷ all) = ap (λ rest. spot_below w path p ∷ rest) (map_within w path around all)
 
-pub map-append : {A B : Type 0} (f : A → B) (xs ys : List A) → map f (xs ++ ys) ≡ map f xs ++ map f ys
-map-append f [] ys = refl
-map-append f (x ∷ xs) ys = ap (λ rest. f x ∷ rest) (map-append f xs ys)
-
 nil_has_none : (w : Setting) (i : ℕ) (c : Control) → is_nil c ≡ true → points w i c ≡ []
 nil_has_none w i Nil e = refl
 nil_has_none w i (Wait s) e = absurd cc
@@ -240,7 +212,7 @@ module _ (w : Setting) (path : List ℕ) (i : ℕ) where
       → map (spot_below w path) (points w i (Par s stood branches))
       ≡ map (spot_told w path) (map told_point (own w i (Par s stood branches))) ++ map (spot_below w path) (branch_points w i branches)
   par_inside s stood branches =
-      map-append (spot_below w path) (joining i s branches) (map (within (Par s stood)) (branch_points w i branches))
+      map_append (spot_below w path) (joining i s branches) (map (within (Par s stood)) (branch_points w i branches))
       ∙ ap (λ xs. xs ++ map (spot_below w path) (map (within (Par s stood)) (branch_points w i branches)))
       (told_own w path (joining i s branches) (own_is w i (Par s stood branches)))
       ∙ ap (λ ys. map (spot_told w path) (map told_point (joining i s branches)) ++ ys) (map_within w path (Par s stood) (branch_points w i branches))

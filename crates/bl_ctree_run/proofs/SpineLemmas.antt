@@ -2,26 +2,7 @@
 use Rattle.std.proofs.Common.{◌≡◌, ◌≢◌, ◌≤◌, ℕ, zero, suc, Bool, false, List, [], ◌∷◌, ◌++◌, map, length, arith, refl, sym, ap, ◌∙◌, Some, if◌then◌else◌}
 use Rattle.std.specs.Prelude.{slice_get, slice_set}
 use Rattle.bl_ctree.specs.Actions.{Silent}
-use Rattle.bl_ctree.specs.Control.{
-  Control,
-  Branches,
-  Nil,
-  Wait,
-  Test,
-  Idle,
-  Do,
-  Turn,
-  Seq,
-  Par,
-  Guard,
-  Run,
-  no_branch,
-  branch,
-  Check,
-  Body,
-  is_nil,
-  seq,
-}
+use Rattle.bl_ctree.specs.Control.{Control, Branches, Nil, Wait, Test, Idle, Do, Turn, Seq, Par, Guard, Run, no_branch, branch, Check, Body, is_nil, seq}
 use Rattle.bl_ctree.specs.Instances.{Setting}
 use Rattle.bl_ctree.specs.Nodes.{Seen, branches_of}
 use Rattle.bl_ctree.specs.Points.{giving, points, sure}
@@ -29,44 +10,14 @@ use Rattle.bl_ctree.specs.Positions.{Item, kind_of}
 use Rattle.bl_ctree.specs.Store.{homes}
 use Rattle.bl_ctree_pending.specs.Writes.{write_paths}
 use Rattle.bl_ctree_enabled.specs.Laws.{PointsAreListed, ReplacedIsListed}
-use Rattle.bl_ctree_enabled.specs.Listing.{EnabledView, IsRight, Lists, each_branch, enabled, fork_of, spots_in, top_of, with_branch}
+use Rattle.bl_ctree_enabled.specs.Listing.{EnabledView, IsRight, Lists, each_branch, enabled, spots_in, top_of, with_branch}
 use Rattle.bl_ctree_enabled.specs.Spots.{moved, spot_below}
 use Rattle.bl_ctree_enabled.proofs.NodeLemmas.{of_each}
-use Rattle.bl_ctree_run.specs.inner.Spines.{fork_at, leads_on, with_fork}
+use Rattle.bl_ctree_run.specs.inner.Spines.{fork_at, with_fork}
 use Rattle.bl_ctree_run.specs.inner.Spots.{after_by, after_in, spot_told, told_point}
 use Rattle.bl_ctree_run.proofs.OwnLemmas.{guard_inside, run_inside, seq_points}
 
 -- ---- where the spine ends, and where it leads on
-
-pub fork_ends : (i : ℕ) (c : Control) → leads_on c ≡ false → fork_at i c ≡ fork_of i c
-fork_ends i Nil ends = refl
-fork_ends i (Wait s) ends = refl
-fork_ends i (Test s) ends = refl
-fork_ends i (Idle items) ends = refl
-fork_ends i (Do s) ends = refl
-fork_ends i (Turn s) ends = refl
-fork_ends i (Seq c []) ends = refl
-fork_ends i (Seq c (item ∷ rest)) ends = absurd cc
-fork_ends i (Par s stood branches) ends = refl
-fork_ends i (Guard s Check stood c) ends = refl
-fork_ends i (Guard s Body stood c) ends = absurd cc
-fork_ends i (Run s callee Check stood c) ends = refl
-fork_ends i (Run s callee Body stood c) ends = absurd cc
-
-pub with_ends : (c : Control) (k : ℕ) (d : Control) → leads_on c ≡ false → with_fork c k d ≡ with_branch c k d
-with_ends Nil k d ends = refl
-with_ends (Wait s) k d ends = refl
-with_ends (Test s) k d ends = refl
-with_ends (Idle items) k d ends = refl
-with_ends (Do s) k d ends = refl
-with_ends (Turn s) k d ends = refl
-with_ends (Seq c []) k d ends = refl
-with_ends (Seq c (item ∷ rest)) k d ends = absurd cc
-with_ends (Par s stood branches) k d ends = refl
-with_ends (Guard s Check stood c) k d ends = refl
-with_ends (Guard s Body stood c) k d ends = absurd cc
-with_ends (Run s callee Check stood c) k d ends = refl
-with_ends (Run s callee Body stood c) k d ends = absurd cc
 
 -- a branch whose number is too large changes nothing
 pub none_moved : (bs : List Seen) (k : ℕ) (d : Control) → length bs ≤ k → moved bs k (λ c. d) ≡ bs

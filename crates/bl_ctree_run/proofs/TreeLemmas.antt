@@ -1,35 +1,10 @@
 -- The n-th point, as it is told, leads where the n-th of the points does.
-use Rattle.std.proofs.Common.{
-  ◌≡◌,
-  ℕ,
-  zero,
-  suc,
-  ◌≢◌,
-  ◌<◌,
-  Bool,
-  true,
-  List,
-  [],
-  ◌∷◌,
-  map,
-  length,
-  get_or,
-  Option,
-  Some,
-  None,
-  refl,
-  sym,
-  ap,
-  ◌∙◌,
-  subst,
-  arith,
-}
+use Rattle.std.proofs.Common.{◌≡◌, ℕ, zero, suc, ◌≢◌, ◌<◌, true, List, [], ◌∷◌, map, length, Option, Some, None, refl, sym, ap, ◌∙◌, subst, arith}
 use Rattle.std.specs.Prelude.{option_and_then, option_map, slice_get, Result, Ok, Err, IfOk, IfSome}
+use Rattle.bl_tree.proofs.Basics.{map_length}
 use Rattle.bl_tree.specs.declared.memory.NoMemory.{NoMemory}
 use Rattle.bl_eval.specs.declared.values.Did.{Did}
-use Rattle.bl_tree.specs.declared.tree.Expr.{Expr}
-use Rattle.bl_tree.specs.declared.value.Value.{Value}
-use Rattle.bl_ctree.specs.Actions.{Asks, Effect, Performed, done, effect_on, is_true_value, perform, value_there, values_there}
+use Rattle.bl_ctree.specs.Actions.{Effect, Performed, done, effect_on, perform, values_there}
 use Rattle.bl_ctree.specs.Store.{Store, with_frame, with_inputs}
 use Rattle.bl_ctree_store.specs.declared.perform.Deed.{Deed}
 use Rattle.bl_ctree_store.specs.declared.perform.Deed.TheVariants.{Silent, Acts, Copies, Gives}
@@ -44,8 +19,6 @@ use Rattle.bl_ctree_enabled.specs.Spots.{Spot, effect_in, spot_below, spot_of}
 use Rattle.bl_ctree_run.specs.inner.Spots.{after_by, unread}
 use Rattle.bl_ctree_enabled.specs.Laws.{PointsAreListed}
 use Rattle.bl_ctree_enabled.specs.Listing.{EnabledView, Lists, enabled}
-use Rattle.bl_ctree_enabled.proofs.ListLemmas.{map_here}
-use Rattle.bl_ctree_enabled.proofs.ListingLemmas.{map_many}
 use Rattle.bl_ctree_run.specs.inner.Spines.{fork_at}
 use Rattle.bl_ctree_run.proofs.AfterLemmas.{leads_on}
 use Rattle.bl_ctree_run.proofs.SpineLemmas.{spine_points}
@@ -104,12 +77,6 @@ told_nth w (p ∷ all) (suc n) spot is = told_nth w all n spot is
 
 -- ---- points that are chosen
 
-same_length : {A B C : Type 0} (f : A → C) (g : B → C) (xs : List A) (ys : List B) → map f xs ≡ map g ys → length xs ≡ length ys
-same_length f g [] [] same = refl
-same_length f g [] (y ∷ ys) same = absurd cc
-same_length f g (x ∷ xs) [] same = absurd cc
-same_length f g (x ∷ xs) (y ∷ ys) same = let rest : map f xs ≡ map g ys = cc in ap suc (same_length f g xs ys rest)
-
 -- of those that are listed
 pub chosen_listed : PointsAreListed → (w : Setting) (c : Control) (l : EnabledView) (n : ℕ) (spot : Spot) → Lists w (fork_at 0 c) l
     → Some spot ≡ slice_get (enabled l) n → slice_get (map (spot_below w []) (points w 0 c)) n ≡ Some spot
@@ -125,54 +92,17 @@ pub chosen_some : PointsAreListed → (w : Setting) (c : Control) (l : EnabledVi
 chosen_some law w c l n lists None f is = tt
 chosen_some law w c l n lists (Some p) f is = chosen_listed law w c l n (f p) lists is
 
--- of all
-pub chosen_found : (w : Setting) (all : List (Point Control)) (found : List PointNode) (n : ℕ) (p made : PointNode)
-    → map spot_of found ≡ map (spot_below w []) all → n < length all → p ≡ get_or found n p → spot_of made ≡ unread (spot_of p)
-    → option_map unread (slice_get (map (spot_below w []) all) n) ≡ Some (spot_of made)
-chosen_found w all found n p made same within is is_made =
-    let there : n < length found = omega (arith, within, same_length spot_of (spot_below w []) found all same) in
-    ap (λ spots. option_map unread (slice_get spots n)) (sym same)
-    ∙ ap (option_map unread) (map_here spot_of found n p there is) ∙ ap Some (sym is_made)
-
 -- as many as are listed
 pub count_listed : PointsAreListed → (w : Setting) (c : Control) (l : EnabledView) → Lists w (fork_at 0 c) l → enabled l ≢ []
     → length (enabled l) ≡ length (points w 0 c)
 count_listed law w c l lists some =
-    ap length (sym (spine_points w l law 0 c lists some)) ∙ map_many (spot_below w []) (points w 0 c)
+    ap length (sym (spine_points w l law 0 c lists some)) ∙ map_length (spot_below w []) (points w 0 c)
 
 -- some may act where so many are counted
 pub some_counted : (l : EnabledView) (count : ℕ) → count ≡ length (enabled l) → 0 < count → enabled l ≢ []
 some_counted l count is some none = absurd (omega (arith, is, some, ap length none))
 
--- as many as are found
-pub count_found : (w : Setting) (all : List (Point Control)) (found : List PointNode) → map spot_of found ≡ map (spot_below w []) all
-    → length found ≡ length all
-count_found w all found same = same_length spot_of (spot_below w []) found all same
-
 -- ---- a test
-
-module _ (w : Setting) (s new : RunState) (i : ℕ) (e : Expr) (path : List ℕ) (answer : Bool) (control : Control)
-    (leads : control ≡ after_by w 0 s.control path answer) (is : new ≡ record { control = control; store = s.store }) where
-  answered : (found : Option Value) → Some answer ≡ option_map is_true_value found
-      → ◌≡◌ {A = Option RunState} (option_map (λ (made : Performed). record { control = after_by w 0 s.control path made.answer; store = made.store })
-      (option_map (λ value. record { answer = is_true_value value; store = s.store }) found)) (Some new)
-  answered None told = absurd cc
-  answered (Some value) told =
-      let same : answer ≡ is_true_value value = cc in
-      ap (λ (answer : Bool). Some (record { control = after_by w 0 s.control path answer; store = s.store })) (sym same)
-      ∙ ap (λ (control : Control). Some (record { control = control; store = s.store })) (sym leads)
-      ∙ ap Some (sym is)
-
-  -- it is answered
-  pub asks_done : Some answer ≡ option_map is_true_value (value_there w s.store i e) → acted_at w s i (Asks e) path ≡ Some new
-  asks_done told = answered (value_there w s.store i e) told
-
--- as many in the same state
-pub counted : (w w' : Setting) (s s' : RunState) (r : Result ℕ NoMemory) → w' ≡ w → s' ≡ s → IfOk r (λ n. n ≡ length (points w' 0 s'.control))
-    → IfOk r (λ n. n ≡ length (points w 0 s.control))
-counted w w' s s' r is_w is_s told =
-    subst (λ (w : Setting). IfOk r (λ n. n ≡ length (points w 0 s.control))) is_w
-    (subst (λ (s : RunState). IfOk r (λ n. n ≡ length (points w' 0 s.control))) is_s told)
 
 told_all : (w : Setting) (all : List (Point Control)) → map action_at (map (spot_below w []) all) ≡ map action_of all
 told_all w [] = refl

@@ -1,35 +1,30 @@
 -- Trees that are woken where they lie.
 use Rattle.std.proofs.Common.{◌≡◌, ℕ, zero, suc, Bool, true, false, not, ◌&&◌, ◌+◌, ◌<◌, ◌≤◌, get_or, length}
-use Rattle.std.proofs.Common.{arith, List, [], ◌∷◌, ◌++◌, Some, map, take, drop, refl, sym, ap, ◌∙◌, rules}
+use Rattle.std.proofs.Common.{arith, List, [], ◌∷◌, ◌++◌, Some, map, take, drop, refl, sym, ap, ◌∙◌}
 use Rattle.std.specs.Prelude.{option_map, slice_get, slice_set}
 use Rattle.std.proofs.lemmas.List.{map-set}
 use Rattle.std.proofs.lemmas.Option.{slice_get-map, slice_get_read}
+use Rattle.std.proofs.lemmas.Bool.{and_parts, not-true}
 use Rattle.bl_ctree.specs.Control.{Control, Nil, Wait, Test, Idle, Do, Turn, Seq, Par, Guard, Run, all_woken, branch, is_nil, woken}
 use Rattle.bl_ctree.specs.declared.node.At.{At}
 use Rattle.bl_ctree.specs.declared.node.Branch.{Branch as BranchNode, out-Branch, roll-Branch}
-use Rattle.bl_ctree.specs.declared.node.Node.{Node, the_lemmas}
+use Rattle.bl_ctree.specs.declared.node.Node.{Node}
 use Rattle.bl_ctree.specs.declared.node.Node.TheViews.{Par as ParNode, Seq as SeqNode}
 use Rattle.bl_ctree.specs.declared.node.Rest.{Rest}
 use Rattle.bl_ctree.specs.Nodes.{Seen, branches_of, control_of, items_of, located, seen_of}
 use Rattle.bl_ctree.specs.Positions.{Item, none_left}
-use Rattle.bl_ctree_enabled.proofs.NodeLemmas.{control_of_par, par_is, seen_out}
+use Rattle.bl_ctree_enabled.proofs.NodeLemmas.{par_is, seen_out}
 use Rattle.bl_ctree_store.proofs.AgeLemmas.{get_rest, made_next}
 use Rattle.bl_ctree_run.specs.inner.Wakings.{are_light, is_light, wake_seen}
 use Rattle.bl_ctree_run.proofs.SpineLemmas.{seq_stays}
-
-both : (a b : Bool) → (a && b) ≡ true → (a ≡ true) × (b ≡ true)
-both true b e = (refl, e)
-both false b e = absurd cc
-
-is_not : (a : Bool) → not a ≡ true → a ≡ false
-is_not true e = absurd cc
-is_not false e = refl
+use Rattle.bl_ctree.proofs.WakeLemmas.{control_of_par}
+use Rattle.bl_ctree_run.proofs.NodeLemmas.{control_of_seq}
 
 -- what is light in a sequence
 pub seq_light : (c : Control) (rest : List Item) → is_light (Seq c rest) ≡ true → (is_nil c ≡ false) × (is_light c ≡ true)
 seq_light c rest light =
-    let all = both (not (is_nil c)) (not (none_left rest) && is_light c) light in
-    (is_not (is_nil c) all.0, (both (not (none_left rest)) (is_light c) all.1).1)
+    let all = and_parts (not (is_nil c)) (not (none_left rest) && is_light c) light in
+    (not-true (is_nil c) all.0, (and_parts (not (none_left rest)) (is_light c) all.1).1)
 
 woken_stays : (c : Control) → is_light c ≡ true → is_nil c ≡ false → is_nil (woken c) ≡ false
 woken_stays Nil light some = absurd cc
@@ -38,7 +33,7 @@ woken_stays (Test s) light some = refl
 woken_stays (Idle items) light some = absurd cc
 woken_stays (Do s) light some = refl
 woken_stays (Turn s) light some = refl
-woken_stays (Seq c []) light some = absurd (let all = both (not (is_nil c)) (false && is_light c) light in cc)
+woken_stays (Seq c []) light some = absurd (let all = and_parts (not (is_nil c)) (false && is_light c) light in cc)
 woken_stays (Seq c (item ∷ rest)) light some =
     let inner = seq_light c (item ∷ rest) light in
     ap is_nil (sym (seq_stays (woken c) item rest (woken_stays c inner.1 inner.0)))
@@ -48,7 +43,7 @@ woken_stays (Run s callee phase stood c) light some = refl
 
 -- a sequence as it is woken
 pub seq_woken : (c : Control) (rest : List Item) → is_light (Seq c rest) ≡ true → Seq (woken c) rest ≡ woken (Seq c rest)
-seq_woken c [] light = absurd (let all = both (not (is_nil c)) (false && is_light c) light in cc)
+seq_woken c [] light = absurd (let all = and_parts (not (is_nil c)) (false && is_light c) light in cc)
 seq_woken c (item ∷ rest) light =
     let inner = seq_light c (item ∷ rest) light in seq_stays (woken c) item rest (woken_stays c inner.1 inner.0)
 
@@ -59,7 +54,7 @@ branches_woken (b ∷ all) = ap (branch b.weak (woken b.tree)) (branches_woken a
 
 -- the first branch and the others
 first_light : (b : Seen) (all : List Seen) → are_light (branches_of (b ∷ all)) ≡ true → (is_light b.tree ≡ true) × (are_light (branches_of all) ≡ true)
-first_light b all light = both (is_light b.tree) (are_light (branches_of all)) light
+first_light b all light = and_parts (is_light b.tree) (are_light (branches_of all)) light
 
 pub light_at : (all : List Seen) (k : ℕ) (b : Seen) → are_light (branches_of all) ≡ true → slice_get all k ≡ Some b → is_light b.tree ≡ true
 light_at [] k b light here = absurd cc
@@ -79,9 +74,6 @@ par_woken node s stood old new is each light =
     control_of_par s true new
     ∙ ap (λ all. Par (located s) true (branches_of all)) (each (sym (ap is_light (par_is node s stood old is)) ∙ light))
     ∙ ap (Par (located s) true) (branches_woken (map seen_of old)) ∙ sym (ap woken (par_is node s stood old is))
-
-control_of_seq : (inner : Node) (rest : Rest) → control_of (SeqNode inner rest) ≡ Seq (control_of inner) (items_of rest)
-control_of_seq inner rest = search (rules, the_lemmas)
 
 -- a sequence whose tree is woken
 pub seq_inside : (node inner made : Node) (rest : Rest) → node ≡ SeqNode inner rest

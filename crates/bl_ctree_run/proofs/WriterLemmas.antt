@@ -1,118 +1,28 @@
 -- What is noted of branches tells what those beside one of them may still write.
-use Rattle.std.proofs.Common.{
-  ◌≡◌,
-  ◌≢◌,
-  ℕ,
-  zero,
-  suc,
-  ◌+◌,
-  ◌<◌,
-  ◌≤◌,
-  Bool,
-  true,
-  false,
-  not,
-  cond,
-  ◌&&◌,
-  ◌||◌,
-  List,
-  [],
-  ◌∷◌,
-  ◌++◌,
-  map,
-  filter,
-  take,
-  drop,
-  length,
-  Some,
-  None,
-  refl,
-  sym,
-  ap,
-  ◌∙◌,
-  arith,
-  append_assoc,
-  append-nil,
-  nat_cmp,
-  nat_eq,
-  eq-eqb,
-}
-use Rattle.std.specs.Prelude.{unwrap_or}
-use Rattle.std.specs.BTreeMap.{is_at}
-use Rattle.std.specs.Cmp.{unsigned_tied}
+use Rattle.std.proofs.Common.{◌≡◌, ◌≢◌, ℕ, zero, suc, ◌+◌, ◌<◌, ◌≤◌, Bool, true, false, not, cond, ◌&&◌, ◌||◌, List, [], ◌∷◌, ◌++◌, map, filter, take, drop}
+use Rattle.std.proofs.Common.{refl, sym, ap, ◌∙◌, arith, append_assoc, nat_eq, eq-eqb}
 use Rattle.std.specs.List.{list_any}
-use Rattle.std.specs.Map.{lookup}
 use Rattle.std.proofs.lemmas.List.Elements.{filter-append}
 use Rattle.std.proofs.lemmas.List.Folds.{list_any-append}
+use Rattle.std.proofs.lemmas.Bool.{and_parts}
+use Rattle.bl_tree.proofs.Basics.{and_false, drop_none, map_append, or_regroup, same_number}
 use Rattle.bl_tree.specs.Static.{is_front, overlaps}
 use Rattle.bl_ctree.specs.Instances.{Setting}
 use Rattle.bl_ctree.specs.Nodes.{Seen}
 use Rattle.bl_ctree.specs.Store.{Location, overlap}
 use Rattle.bl_ctree_store.specs.declared.home.Home.{Home}
 use Rattle.bl_ctree_store.specs.Seen.{location_of}
-use Rattle.bl_ctree_store.proofs.KeyLemmas.{both_equal, both_true, nat_same}
 use Rattle.bl_ctree_run.specs.declared.writers.Write.{Write as WriteNode}
 use Rattle.bl_ctree_enabled.specs.Spots.{Spot, homes_seen, is_free_of, meets_one, taken}
-use Rattle.bl_ctree_run.specs.inner.Writers.{
-  Write,
-  all_writes,
-  is_beside,
-  is_free,
-  is_met,
-  key_at,
-  key_cmp,
-  of_variable,
-  same_variable,
-  write_of,
-  writes_by,
-  writes_from,
-  writes_kept,
-}
-use Rattle.bl_ctree_enabled.proofs.BranchLemmas.{any_or, any_same, map-append, not_or}
-use Rattle.bl_ctree_run.proofs.BranchLemmas.{drop_all, none_left}
+use Rattle.bl_ctree_run.specs.inner.Writers.{Write, all_writes, is_beside, is_free, is_met, of_variable, same_variable, writes_by}
+use Rattle.bl_ctree_run.specs.inner.Writers.{writes_from, writes_kept}
+use Rattle.bl_ctree_enabled.proofs.BranchLemmas.{any_or, any_same, not_or}
+use Rattle.bl_ctree_enabled.proofs.TableLemmas.{unequal}
 
 -- ---- as it is kept
 
--- a key is that of a home where it is a part of the same variable
-same_key : (home at : Location) → is_at (key_cmp (key_at home)) (key_at at) ≡ same_variable home at
-same_key home at =
-    both_equal (nat_cmp home.instance at.instance) (nat_cmp home.path.root at.path.root)
-    ∙ (λ i. unsigned_tied home.instance at.instance i && unsigned_tied home.path.root at.path.root i)
-
 abbrev Entries : Type 0
 Entries = List ((ℕ × ℕ) × List WriteNode)
-
-kept_same : (entries : Entries) (home at : Location) → same_variable home at ≡ true → writes_kept entries home ≡ writes_kept entries at
-kept_same entries home at is =
-    let both = both_true (nat_eq home.instance at.instance) (nat_eq home.path.root at.path.root) is in
-    λ i. map write_of (unwrap_or (lookup (is_at (key_cmp
-    (nat_same home.instance at.instance both.0 i, nat_same home.path.root at.path.root both.1 i))) entries) [])
-
--- one more home
-pub noted_one : (old between new : Entries) (k : ℕ) (home : Home) (writes : List WriteNode) (at : Location)
-    → lookup (is_at (key_cmp (key_at at))) between ≡ cond (is_at (key_cmp (key_at (location_of home))) (key_at at)) None
-    (lookup (is_at (key_cmp (key_at at))) old)
-    → lookup (is_at (key_cmp (key_at at))) new ≡ cond (is_at (key_cmp (key_at (location_of home))) (key_at at)) (Some writes)
-    (lookup (is_at (key_cmp (key_at at))) between)
-    → writes ≡ unwrap_or (lookup (is_at (key_cmp (key_at (location_of home)))) old) [] ++ record { branch = k; home = home } ∷ []
-    → writes_kept new at ≡ writes_kept old at ++ of_variable at (writes_by k (location_of home ∷ []))
-noted_one old between new k home writes at is_between is_new is_writes =
-    ap (λ found. map write_of (unwrap_or found [])) (is_new
-    ∙ ap (λ found. cond (is_at (key_cmp (key_at (location_of home))) (key_at at)) (Some writes) found) is_between)
-    ∙ ap (λ b. map write_of (unwrap_or (cond b (Some writes) (cond b None (lookup (is_at (key_cmp (key_at at))) old))) [])) (same_key (location_of home) at)
-    ∙ by (same_variable (location_of home) at) refl
-  where
-    one : Write
-    one = record { branch = k; home = location_of home }
-
-    by : (b : Bool) → same_variable (location_of home) at ≡ b
-        → map write_of (unwrap_or (cond b (Some writes) (cond b None (lookup (is_at (key_cmp (key_at at))) old))) []) ≡ writes_kept old at
-        ++ cond b (one ∷ []) []
-    by true same =
-        ap (map write_of) is_writes
-        ∙ map-append write_of (unwrap_or (lookup (is_at (key_cmp (key_at (location_of home)))) old) []) (record { branch = k; home = home } ∷ [])
-        ∙ ap (λ before. before ++ one ∷ []) (kept_same old (location_of home) at same)
-    by false same = sym (append-nil (writes_kept old at))
 
 by-append : (k : ℕ) (xs ys : List Location) → writes_by k (xs ++ ys) ≡ writes_by k xs ++ writes_by k ys
 by-append k [] ys = refl
@@ -131,12 +41,7 @@ noted_more at k done home old between new is_between is_new =
     is_new ∙ ap (λ xs. xs ++ of_variable at one) is_between ∙ append_assoc old (of_variable at front) (of_variable at one)
     ∙ ap (λ xs. old ++ xs) (sym (near-append at front one))
     ∙ ap (λ xs. old ++ of_variable at xs) (sym (by-append k (map location_of done) (location_of home ∷ [])))
-    ∙ ap (λ xs. old ++ of_variable at (writes_by k xs)) (sym (map-append location_of done (home ∷ [])))
-
--- before the loop over the branches
-pub branches_start : (at : Location) (w : Setting) (i : ℕ) (all : List Seen) →
-    of_variable at (writes_from 0 (map (homes_seen w i) (drop 0 all))) ≡ of_variable at (all_writes (map (homes_seen w i) all))
-branches_start at w i all = ap (λ all. of_variable at (writes_from 0 (map (homes_seen w i) all))) (drop_all all)
+    ∙ ap (λ xs. old ++ of_variable at (writes_by k xs)) (sym (map_append location_of done (home ∷ [])))
 
 -- one more branch
 pub branch_noted : (at : Location) (w : Setting) (i : ℕ) (all : List Seen) (k next : ℕ) (b : Seen) (old new whole : List Write) →
@@ -154,45 +59,24 @@ branch_noted at w i all k next b old new whole is_next here is_new before =
     ∙ ap (λ all. old ++ of_variable at (writes_from k (map (homes_seen w i) all))) (sym here)
     ∙ before
 
--- behind the last branch
-pub branches_end : (at : Location) (w : Setting) (i : ℕ) (all : List Seen) (k : ℕ) (done whole : List Write) → length all ≤ k
-    → done ++ of_variable at (writes_from k (map (homes_seen w i) (drop k all))) ≡ whole → done ≡ whole
-branches_end at w i all k done whole past before =
-    sym (ap (λ rest. done ++ of_variable at (writes_from k (map (homes_seen w i) rest))) (none_left all k past) ∙ append-nil done) ∙ before
-
 -- ---- what is met
 
 flip : (m n : ℕ) → nat_eq m n ≡ true → nat_eq n m ≡ true
-flip m n is = eq-eqb n m (sym (nat_same m n is))
+flip m n is = eq-eqb n m (sym (same_number m n is))
 
 overlap_same : (home at : Location) → overlap at home ≡ true → same_variable home at ≡ true
 overlap_same home at is =
-    let both = both_true (nat_eq at.instance home.instance) (overlaps at.path home.path) is in
-    let roots = both_true (nat_eq at.path.root home.path.root) (is_front at.path.fields home.path.fields || is_front home.path.fields at.path.fields) both.1 in
+    let both = and_parts (nat_eq at.instance home.instance) (overlaps at.path home.path) is in
+    let roots = and_parts (nat_eq at.path.root home.path.root) (is_front at.path.fields home.path.fields || is_front home.path.fields at.path.fields) both.1 in
     λ i. flip at.instance home.instance both.0 i && flip at.path.root home.path.root roots.0 i
 
 apart : (home at : Location) → same_variable home at ≡ false → (b : Bool) → overlap at home ≡ b → b ≡ false
 apart home at is true met = let same = overlap_same home at met in absurd cc
 apart home at is false met = refl
 
-and_false : (a : Bool) → (a && false) ≡ false
-and_false true = refl
-and_false false = refl
-
 and_or : (a b c : Bool) → ((a && b) || (a && c)) ≡ (a && (b || c))
 and_or true b c = refl
 and_or false b c = refl
-
-or_assoc : (a b c : Bool) → (a || (b || c)) ≡ ((a || b) || c)
-or_assoc true b c = refl
-or_assoc false b c = refl
-
-unequal : (m n : ℕ) → m ≢ n → nat_eq m n ≡ false
-unequal m n other = by (nat_eq m n) refl
-  where
-    by : (b : Bool) → nat_eq m n ≡ b → b ≡ false
-    by true is = absurd (other (nat_same m n is))
-    by false is = refl
 
 -- writes to other variables don't count
 all_near : (k : ℕ) (at : Location) (writes : List Write) → list_any (is_beside k at) (of_variable at writes) ≡ list_any (is_beside k at) writes
@@ -243,13 +127,13 @@ met_from zero j at (homes ∷ all) =
     let same : j ≡ j + 0 = omega arith in
     any_self (j + 0) j at homes (writes_from (suc j) all) same
     ∙ all_others (j + 0) (suc j) at all (omega arith)
-    ∙ ap (λ all. meets_one all at) (sym (drop_all all))
+    ∙ ap (λ all. meets_one all at) (sym (drop_none all))
 met_from (suc k) j at (homes ∷ all) =
     let same : j + suc k ≡ suc j + k = omega arith in
     any_other (j + suc k) j at homes (writes_from (suc j) all) (λ same. omega arith)
     ∙ ap (λ n. list_any (overlap at) homes || list_any (is_beside n at) (writes_from (suc j) all)) same
     ∙ ap (λ b. list_any (overlap at) homes || b) (met_from k (suc j) at all)
-    ∙ or_assoc (list_any (overlap at) homes) (meets_one (take k all) at) (meets_one (drop (suc k) all) at)
+    ∙ or_regroup (list_any (overlap at) homes) (meets_one (take k all) at) (meets_one (drop (suc k) all) at)
 
 met_beside : (entries : Entries) (all : List (List Location)) (k : ℕ) (at : Location) → writes_kept entries at ≡ of_variable at (all_writes all)
     → is_met entries k at ≡ (meets_one (take k all) at || meets_one (drop (k + 1) all) at)

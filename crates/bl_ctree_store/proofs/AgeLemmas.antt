@@ -1,5 +1,5 @@
 -- Values before that become those now where they lie.
-use Rattle.std.proofs.Common.{◌≡◌, ℕ, zero, suc, ◌+◌, ◌≤◌, Bool, true, false, ◌&&◌, List, []}
+use Rattle.std.proofs.Common.{◌≡◌, ℕ, zero, suc, ◌+◌, ◌≤◌, true, ◌&&◌, List, []}
 use Rattle.std.proofs.Common.{◌∷◌, ◌++◌, length, map, take, drop, Some, pos, refl, sym, ap, ◌∙◌, arith}
 use Rattle.std.specs.Prelude.{◌==◌, is_some, option_map, slice_get, slice_set, unwrap_or}
 use Rattle.bl_tree.specs.declared.value.Value.{Value, out-Value, roll-Value, roll-out-Value}
@@ -11,10 +11,7 @@ use Rattle.bl_ctree_store.specs.declared.frame.Frame.{Frame as FrameNode}
 use Rattle.bl_ctree_store.specs.Ageing.{are_numbers, are_plain, as_number, is_plain}
 use Rattle.bl_ctree_store.specs.Seen.{frame_of, store_of}
 use Rattle.std.proofs.lemmas.Option.{slice_get-map}
-
-both : (a b : Bool) → (a && b) ≡ true → (a ≡ true) × (b ≡ true)
-both true b e = (refl, e)
-both false b e = absurd cc
+use Rattle.std.proofs.lemmas.Bool.{and_parts}
 
 number_level : (level : Value-F Value) (v : Value) → out-Value v ≡ level → is_some (number_at level) ≡ true → as_number v ≡ v
 number_level (Value-F.Number n) v is holds =
@@ -24,7 +21,7 @@ number_level (Value-F.Parts all) v is holds = absurd cc
 pub numbers_same : (vs : List Value) → are_numbers vs ≡ true → map as_number vs ≡ vs
 numbers_same [] holds = refl
 numbers_same (v ∷ vs) holds =
-    let all = both (is_some (number_at (out-Value v))) (are_numbers vs) holds in
+    let all = and_parts (is_some (number_at (out-Value v))) (are_numbers vs) holds in
     ap (λ w. w ∷ map as_number vs) (number_level (out-Value v) v refl all.0) ∙ ap (λ ws. v ∷ ws) (numbers_same vs all.1)
 
 -- one more of the first elements is that of others, as a function makes it
@@ -43,12 +40,12 @@ made_next f (o ∷ others) (v ∷ values) (suc k) x y fits here is =
 pub plain_at : (frames : List Frame) (k : ℕ) (f : Frame) → are_plain frames ≡ true → slice_get frames k ≡ Some f → is_plain f ≡ true
 plain_at [] k f holds here = absurd cc
 plain_at (g ∷ frames) zero f holds here =
-    let same : g ≡ f = cc in ap is_plain (sym same) ∙ (both (is_plain g) (are_plain frames) holds).0
-plain_at (g ∷ frames) (suc k) f holds here = plain_at frames k f (both (is_plain g) (are_plain frames) holds).1 here
+    let same : g ≡ f = cc in ap is_plain (sym same) ∙ (and_parts (is_plain g) (are_plain frames) holds).0
+plain_at (g ∷ frames) (suc k) f holds here = plain_at frames k f (and_parts (is_plain g) (are_plain frames) holds).1 here
 
 -- what is asked of a frame that becomes older
 pub plain_same : (f : Frame) → is_plain f ≡ true → map as_number f.now ≡ f.now
-plain_same f holds = numbers_same f.now (both (length f.before == length f.now) (are_numbers f.now) holds).1
+plain_same f holds = numbers_same f.now (and_parts (length f.before == length f.now) (are_numbers f.now) holds).1
 
 -- an element behind the first ones, which alone are changed
 pub get_rest : {A : Type 0} (f : A → A) (xs : List A) (k : ℕ) → slice_get (map f (take k xs) ++ drop k xs) k ≡ slice_get xs k

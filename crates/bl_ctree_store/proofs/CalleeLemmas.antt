@@ -5,13 +5,15 @@ use Rattle.std.specs.Cmp.{unsigned_tied}
 use Rattle.std.specs.Option.{option_or}
 use Rattle.std.specs.Ordering.{ordering_then}
 use Rattle.std.specs.Prelude.{is_some}
+use Rattle.std.proofs.lemmas.Bool.{and_parts}
+use Rattle.bl_tree.proofs.Basics.{same_number}
 use Rattle.bl_tree.specs.declared.place.Place.{Place}
 use Rattle.bl_tree.specs.Rules.{same_place}
-use Rattle.bl_effects.proofs.EntryLemmas.{same_place_is}
 use Rattle.bl_ctree.specs.declared.instance.Origin.{Origin}
 use Rattle.bl_ctree.specs.Instances.{begins_at}
 use Rattle.bl_ctree_store.specs.Callees.{kept_callee, key_at, key_cmp}
-use Rattle.bl_ctree_store.proofs.KeyLemmas.{both_equal, both_true, nat_same}
+use Rattle.bl_effects.proofs.EntryLemmas.{both_equal}
+use Rattle.bl_tree.proofs.FirstLemmas.{same_true}
 
 -- a key is that of an origin where the `run` statement begins it
 same_key : (caller : ℕ) (place : Place) (o : Origin) → is_at (key_cmp (key_at o.caller o.place)) (key_at caller place) ≡ begins_at caller place (Some o)
@@ -24,8 +26,8 @@ same_key caller place o =
 begun_same : (entries : List ((ℕ × (ℕ × ℕ)) × ℕ)) (caller : ℕ) (place : Place) (o : Origin) →
     begins_at caller place (Some o) ≡ true → kept_callee entries caller place ≡ kept_callee entries o.caller o.place
 begun_same entries caller place o is =
-    let both = both_true (nat_eq o.caller caller) (same_place o.place place) is in
-    sym (ap (λ caller. kept_callee entries caller o.place) (nat_same o.caller caller both.0) ∙ ap (kept_callee entries caller) (same_place_is o.place place both.1))
+    let both = and_parts (nat_eq o.caller caller) (same_place o.place place) is in
+    sym (ap (λ caller. kept_callee entries caller o.place) (same_number o.caller caller both.0) ∙ ap (kept_callee entries caller) (same_true o.place place both.1))
 
 -- ---- one more instance
 

@@ -1,53 +1,19 @@
 -- The instances below `run` statements.
-use Rattle.std.proofs.Common.{
-  ◌≡◌,
-  ℕ,
-  zero,
-  suc,
-  ◌+◌,
-  ◌<◌,
-  ◌≤◌,
-  ◌^◌,
-  Bool,
-  true,
-  false,
-  not,
-  ◌||◌,
-  cond,
-  List,
-  [],
-  ◌∷◌,
-  ◌++◌,
-  length,
-  map,
-  filter,
-  drop,
-  get_or,
-  Option,
-  Some,
-  None,
-  refl,
-  sym,
-  ap,
-  ◌∙◌,
-  subst,
-  arith,
-  append-nil,
-  length-append,
-}
+use Rattle.std.proofs.Common.{◌≡◌, ℕ, zero, suc, ◌+◌, ◌<◌, ◌≤◌, ◌^◌, Bool, true, false, not, ◌||◌, cond, List, [], ◌∷◌, ◌++◌, length, map, filter, drop, get_or}
+use Rattle.std.proofs.Common.{Option, Some, None, refl, sym, ap, ◌∙◌, subst, arith, append-nil, length-append}
 use Rattle.std.specs.Prelude.{All, IfSome, option_map, slice_get, unwrap_or}
 use Rattle.std.specs.List.{list_any}
 use Rattle.std.proofs.lemmas.List.Elements.{All-append, All-cons, All-nil}
+use Rattle.bl_tree.proofs.Basics.{drop_next, map_length}
 use Rattle.bl_tree.specs.declared.place.Place.{Place}
 use Rattle.bl_tree.specs.declared.tree.Unit.{Unit as UnitDef}
 use Rattle.bl_tree.specs.Rules.{same_place}
-use Rattle.bl_effects.proofs.EntryLemmas.{same_place_is}
 use Rattle.bl_ctree.specs.declared.instance.Instance.{Instance}
 use Rattle.bl_ctree.specs.declared.instance.Origin.{Origin}
 use Rattle.bl_ctree.specs.declared.instance.Run.{Run}
 use Rattle.bl_ctree.specs.Instances.{called_from, expanded, instances_below, one_a_place, origin_under, runs_of}
 use Rattle.bl_ctree_store.specs.inner.Expansion.{Shifts, starts_at}
-use Rattle.bl_ctree_store.proofs.ElementLemmas.{next_of}
+use Rattle.bl_tree.proofs.FirstLemmas.{same_true}
 
 -- ---- one of each place
 
@@ -60,7 +26,7 @@ kept_one true o x rest is differs = sym (ap (λ b. b || list_any (starts_at x) r
 kept_one false o x rest is differs = absurd cc
 
 other_place : (r o : Run) (x : Place) → same_place r.place x ≡ false → same_place r.place o.place ≡ true → starts_at x o ≡ false
-other_place r o x differs is = sym (ap (λ p. same_place p x) (same_place_is r.place o.place is)) ∙ differs
+other_place r o x differs is = sym (ap (λ p. same_place p x) (same_true r.place o.place is)) ∙ differs
 
 any_step : (r o : Run) (x : Place) (ys : List Run) → same_place r.place x ≡ false →
     list_any (starts_at x) (others r ys) ≡ list_any (starts_at x) ys → (b : Bool) → same_place r.place o.place ≡ b
@@ -107,10 +73,6 @@ all_map : {A B : Type 0} (P : B → Type 0) (f : A → B) (xs : List A) → All 
 all_map P f [] all = All-nil P
 all_map P f (x ∷ xs) all = All-cons P (f x) (map f xs) (all 0 x (omega arith)) (all_map P f xs (λ k d below. all (suc k) d (omega arith)))
 
-length_map : {A B : Type 0} (f : A → B) (xs : List A) → length (map f xs) ≡ length xs
-length_map f [] = refl
-length_map f (x ∷ xs) = ap suc (length_map f xs)
-
 abbrev pub Shallow : ℕ → Instance → Type 0
 Shallow n x = x.depth < n
 
@@ -152,7 +114,7 @@ below_callers alone n m (run ∷ rest) some fits each =
     let inner = map (called_from n run) (alone run.unit) in
     let later = instances_below alone (n + length inner) rest in
     let long : length (inner ++ later) ≡ length inner + length later = length-append inner later in
-    let same : length inner ≡ length (alone run.unit) = length_map (called_from n run) (alone run.unit) in
+    let same : length inner ≡ length (alone run.unit) = map_length (called_from n run) (alone run.unit) in
     All-append (λ x. CallerBelow m x.origin) inner later
     (all_map (λ x. CallerBelow m x.origin) (called_from n run) (alone run.unit)
     (λ k d below. under_below n m run (length (alone run.unit)) (get_or (alone run.unit) k d).origin some (omega arith) (each run.unit k d below)))
@@ -208,7 +170,7 @@ run_fits units longest all whole left rest run below is =
     let split : all ++ (inner ++ later) ≡ whole = ap (λ left. all ++ instances_below (expanded units longest) (length all) left) (sym is) ∙ below in
     let long : length all + length (inner ++ later) ≡ length whole = sym (length-append all (inner ++ later)) ∙ ap length split in
     let parts : length (inner ++ later) ≡ length inner + length later = length-append inner later in
-    let same : length inner ≡ length (expanded units longest run.unit) = length_map (called_from (length all) run) (expanded units longest run.unit) in
+    let same : length inner ≡ length (expanded units longest run.unit) = map_length (called_from (length all) run) (expanded units longest run.unit) in
     omega arith
 
 pub run_room : (units : List UnitDef) (longest : ℕ) (all : List Instance) (items runs : List Run) (entry : Instance) (k : ℕ) (run : Run)
@@ -219,7 +181,7 @@ pub run_room : (units : List UnitDef) (longest : ℕ) (all : List Instance) (ite
 run_room units longest all items runs entry k run below same few within is =
     let fits : length all + length (expanded units longest run.unit) ≤ suc (length (instances_below (expanded units longest) 1 items)) =
     run_fits units longest all (entry ∷ instances_below (expanded units longest) 1 items) (drop k items)
-    (drop (k + 1) items) run below (next_of items k run within is) in
+    (drop (k + 1) items) run below (drop_next items k run within is) in
     let as_many : length (instances_below (expanded units longest) 1 items) ≡ length (instances_below (expanded units longest) 1 runs) =
     ap (λ runs. length (instances_below (expanded units longest) 1 runs)) same in
     omega arith

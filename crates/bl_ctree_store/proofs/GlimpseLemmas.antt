@@ -1,7 +1,6 @@
 -- What is seen of the variables that an expression or an act names is all that it needs.
 use Rattle.std.proofs.Common.{◌≡◌, ℕ, Bool, true, false, List, [], ◌∷◌, ◌++◌, ◌<◌, zero, suc, arith, get_or, length, map, Option, Some, None, refl, sym, ap, ◌∙◌, subst}
-use Rattle.std.specs.Prelude.{Result, Ok, Err, IfOk, option_and_then, option_map, slice_get, unwrap_or, if◌then◌else◌}
-use Rattle.bl_tree.specs.declared.memory.NoMemory.{NoMemory}
+use Rattle.std.specs.Prelude.{option_and_then, option_map, slice_get, unwrap_or, if◌then◌else◌}
 use Rattle.bl_tree.specs.declared.tree.Expr.{Expr}
 use Rattle.bl_tree.specs.declared.tree.Path.{Path, fold_out-Path, out-Path}
 use Rattle.bl_tree.specs.declared.tree.Arm.{Arm}
@@ -11,14 +10,14 @@ use Rattle.bl_tree.specs.declared.tree.StmtKind.{StmtKind}
 use Rattle.bl_tree.specs.declared.tree.StmtKind.TheOpen.{StmtKind-F}
 use Rattle.bl_tree.specs.declared.tree.Unit.{Unit as UnitDef}
 use Rattle.bl_tree.specs.declared.value.Value.{Value}
-use Rattle.bl_tree.specs.Apart.{Roots, argument_roots, expr_layer_roots, kind_roots, optional_roots, part_roots, path_layer_roots, roots_in, roots_in_path}
+use Rattle.bl_tree.specs.Apart.{Roots, argument_roots, expr_layer_roots, kind_roots, part_roots, path_layer_roots, roots_in, roots_in_path}
 use Rattle.bl_tree.specs.Reduce.{joined}
 use Rattle.bl_tree.specs.Typing.{TypingContext}
 use Rattle.bl_eval.specs.Meaning.{View, plain}
 use Rattle.bl_eval.specs.Standing.{outcome_in_unit, outcome_of, scope_of, site_at, value_in_unit, value_of}
 use Rattle.bl_eval.specs.Values.{value_at}
 use Rattle.bl_tree.specs.declared.static_path.Static.{Static}
-use Rattle.bl_tree.specs.Static.{Reach, StaticStep, expr_mentions, kind_mentions, part_step, path_reach, placed, precedes, set_of, static_of, whole}
+use Rattle.bl_tree.specs.Static.{Reach, StaticStep, expr_mentions, kind_mentions, part_step, path_reach, placed, precedes, set_of, static_of}
 use Rattle.bl_ctree.specs.declared.instance.Instance.{Instance}
 use Rattle.bl_ctree.specs.Actions.{outcome_there, value_there}
 use Rattle.bl_ctree.specs.Instances.{Setting, unit_of}
@@ -27,8 +26,7 @@ use Rattle.bl_ctree.specs.Store.{Store, home, put, put_path, put_written, variab
 use Rattle.bl_ctree_store.specs.Agree.{Agree, Covers, Same, filled, roots_in_part, roots_of_act}
 use Rattle.bl_ctree_store.specs.Deeds.{LeftBy, outcome_by, value_by}
 use Rattle.bl_ctree_store.specs.Glimpse.{Glimpses}
-use Rattle.bl_ctree_store.specs.Seen.{Sight, count_of, values_in}
-use Rattle.bl_ctree_store.specs.declared.view.InstanceView.{InstanceView as ViewNode}
+use Rattle.bl_ctree_store.specs.Seen.{Sight, count_of}
 use Rattle.bl_ctree_store.proofs.ActLemmas.{Follows, acted_same}
 use Rattle.bl_ctree_store.proofs.AgreeLemmas.{agree_first, agree_second, filled_agree}
 use Rattle.bl_ctree_store.proofs.NamedLemmas.{expr_same, same_first, same_second}
@@ -166,14 +164,6 @@ written_glimpsed w i s paths store next left covers by =
     (λ part same xs ys follows. ap next (written_same w i paths store xs ys
     (agree_follows (map (λ (path : Static). path.root) paths) part seen xs ys follows (covers part.now seen.now same.0)))) by.sight by.glimpses)
 
--- what an act left, where what is seen is as it is to be
-pub left_by : (w : Setting) (store : Store) (i : ℕ) (s : Stmt) (named : List ℕ) (sight : Option Sight) (r : Result (Option ViewNode) NoMemory)
-    → named ≡ roots_of_act (stmt_kind s) → Glimpses named w store i sight → IfOk r (λ left. option_map values_in left ≡ outcome_by w sight s)
-    → IfOk r (λ left. LeftBy w store i s (option_map values_in left))
-left_by w store i s named sight (Ok left) is seen by =
-    record { sight = sight; glimpses = subst (λ (named : List ℕ). Glimpses named w store i sight) is seen; left_is = by }
-left_by w store i s named sight (Err e) is seen by = by
-
 -- ---- the paths that an act writes lead into variables that it names
 
 root_out : (path : Path) → roots_in_path path ≡ (out-Path path).root ∷ joined (map roots_in_part (out-Path path).parts)
@@ -187,12 +177,6 @@ root_agrees : (path : Path) (xs ys : List Value) → Agree (roots_in_path path) 
     slice_get xs (static_of path).root ≡ slice_get ys (static_of path).root
 root_agrees path xs ys same =
     subst (λ (k : ℕ). slice_get xs k ≡ slice_get ys k) (sym (static_root path)) (subst (λ (ks : List ℕ). Agree ks xs ys) (root_out path) same).0
-
-pub covers_variable : (k : ℕ) (initial : Option Expr) → Covers (k ∷ optional_roots initial) (whole k ∷ [])
-covers_variable k initial xs ys same = (same.0, tt)
-
-pub covers_target : (path : Path) (e : Expr) → Covers (roots_in_path path ++ roots_in e) (static_of path ∷ [])
-covers_target path e xs ys same = (root_agrees path xs ys (agree_first (roots_in_path path) (roots_in e) xs ys same), tt)
 
 outputs_agree : (outputs : List Path) (xs ys : List Value) → Agree (joined (map roots_in_path outputs)) xs ys →
     Agree (map (λ (path : Static). path.root) (map static_of outputs)) xs ys

@@ -1,43 +1,15 @@
 -- The way to a home, and fronts of lists of fields.
-use Rattle.std.proofs.Common.{
-  ◌≡◌,
-  ℕ,
-  zero,
-  suc,
-  ◌+◌,
-  ◌-◌,
-  ◌<◌,
-  ◌≤◌,
-  false,
-  List,
-  [],
-  ◌∷◌,
-  length,
-  drop,
-  Some,
-  None,
-  refl,
-  ap,
-  ◌∙◌,
-  arith,
-}
+use Rattle.std.proofs.Common.{◌≡◌, ℕ, zero, suc, ◌+◌, ◌-◌, ◌<◌, ◌≤◌, false, List, [], ◌∷◌, length, drop, Some, refl, ap, ◌∙◌, arith}
 use Rattle.std.specs.Prelude.{option_map, unwrap_or}
 use Rattle.bl_tree.specs.Static.{is_front}
 use Rattle.bl_ctree.specs.Instances.{Setting}
 use Rattle.bl_ctree.specs.Store.{Location, home_within, led}
-
-pub within_none : (w : Setting) (n : ℕ) (at : Location) → led w at ≡ None → home_within w n at ≡ at
-within_none w zero at none = refl
-within_none w (suc n) at none = ap (λ next. unwrap_or (option_map (home_within w n) next) at) none
 
 pub within_next : (w : Setting) (d k : ℕ) (at next : Location) → k < d → led w at ≡ Some next →
     home_within w (d - k) at ≡ home_within w (d - (k + 1)) next
 within_next w d k at next below is =
     let more : d - k ≡ suc (d - (k + 1)) = omega arith in
     ap (λ n. home_within w n at) more ∙ ap (λ found. unwrap_or (option_map (home_within w (d - (k + 1))) found) at) is
-
-pub within_end : (w : Setting) (d k : ℕ) (at : Location) → d ≤ k → home_within w (d - k) at ≡ at
-within_end w d k at over = let none : d - k ≡ 0 = omega arith in ap (λ n. home_within w n at) none
 
 none_front : (xs : List ℕ) (k : ℕ) → k < length xs → is_front (drop k xs) [] ≡ false
 none_front [] k below = absurd (omega arith)

@@ -18,32 +18,9 @@ use Rattle.bl_tree.specs.Types.{scalar_in}
 use Rattle.bl_tree.proofs.ExprInduction.{Cases, EachIndex, OfIndex, expr, induct, induct_path}
 use Rattle.bl_eval.specs.declared.datum.Datum.{Datum}
 use Rattle.bl_eval.specs.Changes.{part_of_path}
-use Rattle.bl_eval.specs.Meaning.{
-  Meaning,
-  PathMeaning,
-  PathPosition,
-  Scope,
-  View,
-  call_datum,
-  cast_datum,
-  datum_of,
-  expr_means,
-  kind_means,
-  meaning_of,
-  one_datum,
-  operand,
-  operand_in,
-  part_means,
-  path_meaning_of,
-  path_means,
-  plain,
-  position_in,
-  positions_of,
-  reading,
-  scalar_of,
-  two_datum,
-  values_of,
-}
+use Rattle.bl_eval.specs.Meaning.{Meaning, PathMeaning, PathPosition, Scope, View, call_datum, cast_datum, datum_of, expr_means, kind_means, meaning_of}
+use Rattle.bl_eval.specs.Meaning.{one_datum, operand, operand_in, part_means, path_meaning_of, path_means, plain, position_in, positions_of, reading, scalar_of}
+use Rattle.bl_eval.specs.Meaning.{two_datum, values_of}
 use Rattle.bl_eval.specs.Values.{value_at}
 use Rattle.bl_ctree_store.specs.Agree.{Same, roots_in_part}
 use Rattle.bl_ctree_store.proofs.AgreeLemmas.{agree_first, agree_second}

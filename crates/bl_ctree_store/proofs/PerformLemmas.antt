@@ -1,5 +1,5 @@
 -- What actions do, step by step.
-use Rattle.std.proofs.Common.{◌≡◌, ℕ, List, [], ◌∷◌, ◌++◌, Option, Some, None, refl, sym, ap, ◌∙◌, append_assoc}
+use Rattle.std.proofs.Common.{◌≡◌, ℕ, List, [], ◌∷◌, ◌++◌, Option, Some, None, refl, sym, ap, ◌∙◌}
 use Rattle.std.specs.Prelude.{option_and_then, option_map, slice_get, unwrap_or}
 use Rattle.bl_tree.specs.declared.tree.Expr.{Expr}
 use Rattle.bl_tree.specs.declared.value.Value.{Value}
@@ -13,13 +13,9 @@ use Rattle.bl_ctree_store.specs.declared.writing.Put.{Put}
 use Rattle.bl_ctree_store.specs.Own.{now_there, with_value_before}
 use Rattle.bl_ctree_store.specs.Seen.{location_of, put_all, put_one}
 use Rattle.bl_ctree_store.proofs.StoreLemmas.{remembers}
+use Rattle.bl_eval.proofs.StepLemmas.{put_behind}
 
 -- ---- values one after another
-
-put_behind : {A : Type 0} (made : List A) (x : A) (rest : Option (List A))
-    → option_map (λ xs. (made ++ x ∷ []) ++ xs) rest ≡ option_map (λ xs. made ++ xs) (option_map (λ xs. x ∷ xs) rest)
-put_behind made x None = refl
-put_behind made x (Some xs) = ap Some (append_assoc made (x ∷ []) xs)
 
 module _ (w : Setting) (store : Store) (i : ℕ) where
   values_first : (e : Expr) (rest : List Expr) (value : Value) → value_there w store i e ≡ Some value

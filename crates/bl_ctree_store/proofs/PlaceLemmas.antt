@@ -4,32 +4,20 @@ use Rattle.std.specs.BTreeMap.{is_at}
 use Rattle.std.specs.BTreeSet.{BTreeSet}
 use Rattle.std.specs.List.{list_any}
 use Rattle.std.specs.Prelude.{ℕ}
+use Rattle.bl_tree.proofs.Basics.{any_push, cond_or}
 use Rattle.bl_tree.specs.declared.place.Place.{Place}
 use Rattle.bl_effects.specs.Entries.{key_of}
 use Rattle.bl_tree.specs.Rules.{same_place}
-use Rattle.bl_effects.proofs.EntryLemmas.{same_place_is}
 use Rattle.bl_ctree.specs.declared.instance.Run.{Run}
 use Rattle.bl_ctree_store.specs.inner.Expansion.{Sees, has_place, place_cmp, starts_at}
 use Rattle.bl_ctree_store.proofs.KeyLemmas.{same_place_key}
-
-or_cond : (a b : Bool) → cond a true b ≡ (a || b)
-or_cond true b = refl
-or_cond false b = refl
-
-or_swap : (a b c : Bool) → (a || (b || c)) ≡ (b || (a || c))
-or_swap true true c = refl
-or_swap true false c = refl
-or_swap false b c = refl
-
-any_push : {A : Type 0} (p : A → Bool) (xs : List A) (x : A) → list_any p (xs ++ x ∷ []) ≡ (p x || list_any p xs)
-any_push p [] x = refl
-any_push p (y ∷ xs) x = ap (λ b. p y || b) (any_push p xs x) ∙ or_swap (p y) (p x) (list_any p xs)
+use Rattle.bl_tree.proofs.FirstLemmas.{same_true}
 
 -- the set with one more place
 pub place_added : (old new : BTreeSet (ℕ × ℕ)) (place q : Place) →
     has_place new q ≡ cond (is_at (place_cmp (key_of place)) (key_of q)) true (has_place old q)
     → has_place new q ≡ (same_place place q || has_place old q)
-place_added old new place q is = is ∙ ap (λ b. cond b true (has_place old q)) (same_place_key place q) ∙ or_cond (same_place place q) (has_place old q)
+place_added old new place q is = is ∙ ap (λ b. cond b true (has_place old q)) (same_place_key place q) ∙ cond_or (same_place place q) (has_place old q)
 
 -- a place that was there tells nothing new
 pub sees_still : (old new : BTreeSet (ℕ × ℕ)) (place : Place) (runs : List Run) → has_place old place ≡ true →
@@ -38,7 +26,7 @@ pub sees_still : (old new : BTreeSet (ℕ × ℕ)) (place : Place) (runs : List 
 sees_still old new place runs there grown sees q = grown q ∙ step (same_place place q) refl ∙ sees q
   where
     step : (b : Bool) → same_place place q ≡ b → (b || has_place old q) ≡ has_place old q
-    step true is = sym (ap (has_place old) (sym (same_place_is place q is)) ∙ there)
+    step true is = sym (ap (has_place old) (sym (same_true place q is)) ∙ there)
     step false is = refl
 
 -- one more `run` statement of a place that was added

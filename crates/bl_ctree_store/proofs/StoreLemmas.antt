@@ -1,10 +1,10 @@
 -- Changes of one frame of a store.
-use Rattle.std.proofs.Common.{◌≡◌, ◌≢◌, ℕ, zero, suc, ◌≤◌, List, [], ◌∷◌, length, Option, Some, None, refl, sym, ap, ◌∙◌}
+use Rattle.std.proofs.Common.{◌≡◌, ◌≢◌, ℕ, zero, suc, ◌≤◌, List, [], ◌∷◌, Option, Some, None, refl, sym, ap, ◌∙◌}
 use Rattle.std.specs.Prelude.{option_and_then, option_map, slice_get, slice_set, unwrap_or}
 use Rattle.std.proofs.lemmas.List.{map-set}
-use Rattle.std.proofs.lemmas.Option.{slice_get-map, slice_get_past}
+use Rattle.std.proofs.lemmas.Option.{slice_get-map}
 use Rattle.bl_tree.specs.declared.value.Value.{Value}
-use Rattle.bl_eval.specs.Changes.{replaced, with_element_at}
+use Rattle.bl_eval.specs.Changes.{with_element_at}
 use Rattle.bl_eval.specs.Values.{put_at}
 use Rattle.bl_eval.proofs.PartLemmas.{put_unwrapped}
 use Rattle.bl_ctree.specs.Store.{Frame, Location, Store, put, remember, with_frame, with_now}
@@ -19,38 +19,6 @@ set_own [] i x is = refl
 set_own (y ∷ xs) zero x is = let e : y ≡ x = cc in rw (← e)
 set_own (y ∷ xs) (suc i) x is = ap (λ rest. y ∷ rest) (set_own xs i x is)
 
-pub get_set_same : {A : Type 0} (xs : List A) (i : ℕ) (x y : A) → slice_get xs i ≡ Some x → slice_get (slice_set xs i y) i ≡ Some y
-get_set_same [] i x y is = absurd cc
-get_set_same (z ∷ xs) zero x y is = refl
-get_set_same (z ∷ xs) (suc i) x y is = get_set_same xs i x y is
-
-pub get_set_other : {A : Type 0} (xs : List A) (i j : ℕ) (y : A) → i ≢ j → slice_get (slice_set xs j y) i ≡ slice_get xs i
-get_set_other [] i j y other = refl
-get_set_other (z ∷ xs) zero zero y other = absurd (other refl)
-get_set_other (z ∷ xs) zero (suc j) y other = refl
-get_set_other (z ∷ xs) (suc i) zero y other = refl
-get_set_other (z ∷ xs) (suc i) (suc j) y other = get_set_other xs i j y (λ e. other (ap suc e))
-
--- the list with the element at i changed, where there is one
-abbrev pub changed_at : {A : Type 0} → ℕ → (A → A) → List A → List A
-changed_at i f xs = unwrap_or (option_map (λ x. slice_set xs i (f x)) (slice_get xs i)) xs
-
-same_at : {A : Type 0} (i : ℕ) (f : A → A) (xs : List A) (found : Option A) → slice_get xs i ≡ found
-    → slice_get (unwrap_or (option_map (λ x. slice_set xs i (f x)) found) xs) i ≡ option_map f found
-same_at i f xs None is = is
-same_at i f xs (Some x) is = get_set_same xs i x (f x) is
-
-pub changed_same : {A : Type 0} (i : ℕ) (f : A → A) (xs : List A) → slice_get (changed_at i f xs) i ≡ option_map f (slice_get xs i)
-changed_same i f xs = same_at i f xs (slice_get xs i) refl
-
-other_at : {A : Type 0} (i j : ℕ) (f : A → A) (xs : List A) (found : Option A) → i ≢ j
-    → slice_get (unwrap_or (option_map (λ x. slice_set xs j (f x)) found) xs) i ≡ slice_get xs i
-other_at i j f xs None other = refl
-other_at i j f xs (Some x) other = get_set_other xs i j (f x) other
-
-pub changed_other : {A : Type 0} (i j : ℕ) (f : A → A) (xs : List A) → i ≢ j → slice_get (changed_at j f xs) i ≡ slice_get xs i
-changed_other i j f xs other = other_at i j f xs (slice_get xs j) other
-
 -- ---- frames
 
 pub at_frame : (frames : List FrameNode) (i : ℕ) (f made : FrameNode) (change : Frame → Frame) → slice_get frames i ≡ Some f →
@@ -61,12 +29,6 @@ at_frame frames i f made change is gives =
     ∙ ap (slice_set (store_of frames) i) gives
     ∙ sym (ap (λ found. unwrap_or (option_map (λ frame. slice_set (store_of frames) i (change frame)) found) (store_of frames))
     (slice_get-map frame_of frames i ∙ ap (option_map frame_of) is))
-
-pub past_frames : (frames : List FrameNode) (i : ℕ) (change : Frame → Frame) → length frames ≤ i →
-    store_of frames ≡ with_frame i change (store_of frames)
-past_frames frames i change past =
-    sym (ap (λ found. unwrap_or (option_map (λ frame. slice_set (store_of frames) i (change frame)) found) (store_of frames))
-    (slice_get-map frame_of frames i ∙ ap (option_map frame_of) (slice_get_past frames i past)))
 
 -- ---- a value put at a home
 
@@ -95,43 +57,6 @@ put_changes at value store = put_at_found at value store (slice_get store at.ins
 
 abbrev now_of : ℕ → Option Frame → Option Value
 now_of k found = option_and_then (λ frame. slice_get frame.now k) found
-
-put_now : (at : Location) (value : Value) (k : ℕ) (found : Option Frame) → at.path.root ≡ k
-    → now_of k (option_map (put_in at value) found) ≡ option_map (replaced at.path.fields value) (now_of k found)
-put_now at value k None is = refl
-put_now at value k (Some frame) is =
-    ap (λ root. slice_get (with_element_at root at.path.fields value frame.now) k) is
-    ∙ changed_same k (replaced at.path.fields value) frame.now
-
-put_now_other : (at : Location) (value : Value) (k : ℕ) (found : Option Frame) → k ≢ at.path.root →
-    now_of k (option_map (put_in at value) found) ≡ now_of k found
-put_now_other at value k None other = refl
-put_now_other at value k (Some frame) other = changed_other k at.path.root (replaced at.path.fields value) frame.now other
-
--- the variable that the home is in, or is
-pub put_there : (at : Location) (value : Value) (store : Store) (i k : ℕ) → at.instance ≡ i → at.path.root ≡ k
-    → now_there (put at value store) i k ≡ option_map (replaced at.path.fields value) (now_there store i k)
-put_there at value store i k same root =
-    ap (λ store. now_there store i k) (put_changes at value store)
-    ∙ ap (λ j. now_there (with_frame j (put_in at value) store) i k) same
-    ∙ ap (now_of k) (changed_same i (put_in at value) store)
-    ∙ put_now at value k (slice_get store i) root
-
--- a variable of another instance
-pub put_elsewhere : (at : Location) (value : Value) (store : Store) (i k : ℕ) → i ≢ at.instance →
-    now_there (put at value store) i k ≡ now_there store i k
-put_elsewhere at value store i k other =
-    ap (λ store. now_there store i k) (put_changes at value store)
-    ∙ ap (now_of k) (changed_other i at.instance (put_in at value) store other)
-
--- another variable of the instance
-pub put_beside : (at : Location) (value : Value) (store : Store) (i k : ℕ) → at.instance ≡ i → k ≢ at.path.root →
-    now_there (put at value store) i k ≡ now_there store i k
-put_beside at value store i k same other =
-    ap (λ store. now_there store i k) (put_changes at value store)
-    ∙ ap (λ j. now_there (with_frame j (put_in at value) store) i k) same
-    ∙ ap (now_of k) (changed_same i (put_in at value) store)
-    ∙ put_now_other at value k (slice_get store i) other
 
 -- ---- the value before of a declared variable
 

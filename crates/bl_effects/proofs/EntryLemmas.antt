@@ -1,35 +1,6 @@
 -- What the table's map has at a key is what is found at its place.
-use Rattle.std.proofs.Common.{
-  None,
-  Option,
-  ◌≡◌,
-  Bor,
-  ℕ,
-  Bool,
-  true,
-  false,
-  cond,
-  ◌&&◌,
-  List,
-  [],
-  ◌∷◌,
-  map,
-  Some,
-  refl,
-  sym,
-  ap,
-  ◌∙◌,
-  subst,
-  nat_cmp,
-  is_eq,
-  nat_eq,
-  Ordering,
-  Less,
-  Equal,
-  Greater,
-  eqb→eq,
-  T,
-}
+use Rattle.std.proofs.Common.{None, Option, ◌≡◌, Bor, ℕ, Bool, true, false, cond, ◌&&◌, List, [], ◌∷◌, map, Some, refl, sym, ap, ◌∙◌, nat_cmp, is_eq}
+use Rattle.std.proofs.Common.{Ordering, Less, Equal, Greater, eqb→eq}
 use Rattle.std.specs.BTreeMap.{is_at}
 use Rattle.std.specs.Cmp.{nat_eq_equiv, unsigned_tied}
 use Rattle.std.specs.Map.{lookup}
@@ -40,11 +11,12 @@ use Rattle.bl_effects.specs.declared.table.Sets.{Sets}
 use Rattle.bl_effects.specs.Entries.{effect_at, entry, key_of, place_at}
 use Rattle.bl_tree.specs.Rules.{same_place}
 use Rattle.bl_effects.specs.Table.{found}
+use Rattle.bl_tree.proofs.FirstLemmas.{same_true}
 
 abbrev pub key_cmp : ℕ × ℕ → ℕ × ℕ → Ordering
 key_cmp x y = ordering_then (nat_cmp x.0 y.0) (nat_cmp x.1 y.1)
 
-both_equal : (r s : Ordering) → is_eq (ordering_then r s) ≡ (is_eq r && is_eq s)
+pub both_equal : (r s : Ordering) → is_eq (ordering_then r s) ≡ (is_eq r && is_eq s)
 both_equal Less s = refl
 both_equal Equal s = refl
 both_equal Greater s = refl
@@ -55,20 +27,6 @@ same_key a b = both_equal (nat_cmp a.start b.start) (nat_cmp a.end b.end) ∙ (�
 
 pub same_place-symm : (a b : Place) → same_place a b ≡ same_place b a
 same_place-symm a b = λ i. nat_eq_equiv.symm a.start b.start i && nat_eq_equiv.symm a.end b.end i
-
-both_true : (a b : Bool) → (a && b) ≡ true → (a ≡ true) × (b ≡ true)
-both_true true b is = (refl, is)
-both_true false b is = absurd (cc)
-
-nat_same : (m n : ℕ) → nat_eq m n ≡ true → m ≡ n
-nat_same m n is = eqb→eq m n (subst T (sym is) tt)
-
-pub same_place_is : (a b : Place) → same_place a b ≡ true → a ≡ b
-same_place_is a b is =
-    let both = both_true (nat_eq a.start b.start) (nat_eq a.end b.end) is in
-    let starts = nat_same a.start b.start both.0 in
-    let ends = nat_same a.end b.end both.1 in
-    λ i. record { start = starts i; end = ends i }
 
 pub same_place_refl : (a : Place) → same_place a a ≡ true
 same_place_refl a = λ i. nat_eq_equiv.refl a.start i && nat_eq_equiv.refl a.end i
@@ -85,7 +43,7 @@ found_entry (e ∷ entries) at =
         found (map entry entries) at ≡ option_map (effect_at at) (lookup (is_at (key_cmp (key_of at))) entries)
         → cond t (Some (entry e)) (found (map entry entries) at)
         ≡ option_map (effect_at at) (cond t (Some e.1) (lookup (is_at (key_cmp (key_of at))) entries))
-    step true is rest = ap (λ place. Some (effect_at place e.1)) (same_place_is (place_at e.0) at is)
+    step true is rest = ap (λ place. Some (effect_at place e.1)) (same_true (place_at e.0) at is)
     step false is rest = rest
 
 -- what is found after an insertion
@@ -99,7 +57,7 @@ found_inserted old new at q sets is =
     step : (t : Bool) → same_place at q ≡ t
         → option_map (effect_at q) (cond t (Some sets) (lookup (is_at (key_cmp (key_of q))) old))
         ≡ cond t (Some (effect_at at sets)) (found (map entry old) q)
-    step true same = ap (λ place. Some (effect_at place sets)) (sym (same_place_is at q same))
+    step true same = ap (λ place. Some (effect_at place sets)) (sym (same_true at q same))
     step false same = sym (found_entry old q)
 
 pub map_copied : {A B : Type 0} (f : A → B) (found : Option (Bor A)) → option_map (λ x. f x.now) found ≡ option_map f (option_copied found)

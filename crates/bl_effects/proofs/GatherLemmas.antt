@@ -1,45 +1,9 @@
 -- How what is gathered of parts comes to what is gathered of the whole.
-use Rattle.std.proofs.Common.{
-  ◌≡◌,
-  ℕ,
-  zero,
-  suc,
-  ◌+◌,
-  ◌<◌,
-  ◌≤◌,
-  Bool,
-  true,
-  false,
-  cond,
-  not,
-  ◌&&◌,
-  ◌||◌,
-  List,
-  [],
-  ◌∷◌,
-  ◌++◌,
-  ◌⊎◌,
-  inl,
-  inr,
-  ⊎_elim,
-  map,
-  take,
-  drop,
-  length,
-  get_or,
-  Some,
-  refl,
-  sym,
-  ap,
-  ◌∙◌,
-  subst,
-  arith,
-  append_assoc,
-  append-nil,
-  drop_of_length-le,
-}
+use Rattle.std.proofs.Common.{◌≡◌, ℕ, zero, suc, ◌+◌, ◌<◌, ◌≤◌, Bool, true, false, cond, not, ◌&&◌, ◌||◌, List, [], ◌∷◌, ◌++◌, ◌⊎◌, inl, inr, ⊎_elim, map, take}
+use Rattle.std.proofs.Common.{drop, length, get_or, Some, refl, sym, ap, ◌∙◌, subst, arith, append_assoc, append-nil, drop_of_length-le}
 use Rattle.std.specs.Prelude.{Contains, Result, Ok, Err, OnOk}
 use Rattle.std.proofs.lemmas.List.Elements.{Contains-append_left, Contains-append_right, Contains-append_cases}
+use Rattle.bl_tree.proofs.Basics.{and_assoc, and_true, drop_next, or_assoc, or_false}
 use Rattle.bl_tree.specs.declared.place.Place.{Place}
 use Rattle.bl_tree.specs.declared.tree.Arm.{Arm, fold_out-Arm, out-Arm}
 use Rattle.bl_tree.specs.declared.tree.Branch.{Branch, fold_out-Branch, out-Branch}
@@ -55,28 +19,15 @@ use Rattle.bl_tree.specs.declared.static_path.Static.{Static}
 use Rattle.bl_effects.specs.declared.table.Sets.{Sets}
 use Rattle.bl_tree.specs.Effects.{arm_reads, arm_writes, branch_paths, kind_reads, kind_writes, reads, stmt_set, writes}
 use Rattle.bl_effects.specs.Entries.{effect_at}
-use Rattle.bl_effects.specs.inner.Gathered.{
-  Gathers,
-  TableKept,
-  TableRecords,
-  TableTold,
-  children_of_kind,
-  ends_of_branch,
-  instant_of_arm,
-  instant_of_kind,
-  reads_of_arm,
-  reads_of_branch,
-  reads_of_kind,
-  writes_of_arm,
-  writes_of_branch,
-  writes_of_kind,
-}
+use Rattle.bl_effects.specs.inner.Gathered.{Gathers, TableKept, TableRecords, TableTold, children_of_kind, ends_of_branch, instant_of_arm, instant_of_kind}
+use Rattle.bl_effects.specs.inner.Gathered.{reads_of_arm, reads_of_branch, reads_of_kind, writes_of_arm, writes_of_branch, writes_of_kind}
 use Rattle.bl_tree.specs.Instant.{BranchInstant, arm_instant, branch_ends, branches_instant, instant, kind_instant, stmt_instant}
 use Rattle.bl_tree.specs.Static.{mentions, set_of}
 use Rattle.bl_tree.specs.Within.{Effect, StandsIn, Within, itself, deeper, children, effect_of, kind_children, place_of}
 use Rattle.bl_tree.specs.Rules.{same_place}
 use Rattle.bl_effects.specs.Table.{found}
-use Rattle.bl_effects.proofs.EntryLemmas.{same_place_is, same_place_refl}
+use Rattle.bl_effects.proofs.EntryLemmas.{same_place_refl}
+use Rattle.bl_tree.proofs.FirstLemmas.{same_true}
 
 -- ---- the table
 
@@ -103,22 +54,16 @@ records_then P Q R splits first second a b c one other at =
     (record { statement = told.statement; stands = second told.statement told.stands; there = told.there; tells = told.tells }))
     (other at)
 
-pub no_element : {A : Type 0} (x : A) → Contains [] x → ⊥
-no_element x there = let below = there.1 in omega arith
-
-pub records_none : (table : List Effect) → TableRecords (StandsIn []) table table
-records_none table at = inl (record { same = refl; none = λ s stands. absurd (no_element stands.outer stands.is_there) })
-
-stands_cases : (xs ys : List Stmt) (s : Stmt) → StandsIn (xs ++ ys) s → StandsIn xs s ⊎ StandsIn ys s
+pub stands_cases : (xs ys : List Stmt) (s : Stmt) → StandsIn (xs ++ ys) s → StandsIn xs s ⊎ StandsIn ys s
 stands_cases xs ys s stands =
     ⊎_elim (λ there. inl (record { outer = stands.outer; is_there = there; within = stands.within }))
     (λ there. inr (record { outer = stands.outer; is_there = there; within = stands.within }))
     (Contains-append_cases xs ys stands.outer stands.is_there)
 
-stands_left : (xs ys : List Stmt) (s : Stmt) → StandsIn xs s → StandsIn (xs ++ ys) s
+pub stands_left : (xs ys : List Stmt) (s : Stmt) → StandsIn xs s → StandsIn (xs ++ ys) s
 stands_left xs ys s stands = record { outer = stands.outer; is_there = Contains-append_left xs ys stands.outer stands.is_there; within = stands.within }
 
-stands_right : (xs ys : List Stmt) (s : Stmt) → StandsIn ys s → StandsIn (xs ++ ys) s
+pub stands_right : (xs ys : List Stmt) (s : Stmt) → StandsIn ys s → StandsIn (xs ++ ys) s
 stands_right xs ys s stands = record { outer = stands.outer; is_there = Contains-append_right xs ys stands.outer stands.is_there; within = stands.within }
 
 records_append : (xs ys : List Stmt) (a b c : List Effect) → TableRecords (StandsIn xs) a b → TableRecords (StandsIn ys) b c
@@ -134,10 +79,6 @@ gathers_then r1 w1 r2 w2 xs ys p q r a b c one other = record {
   writes_grow = other.writes_grow ∙ ap (λ found. found ++ w2) one.writes_grow ∙ append_assoc p.writes w1 w2;
   records = records_append xs ys a b c one.records other.records;
 }
-
--- nothing stands there
-pub gathers_none : (r w : List Static) (p q : Paths) (a : List Effect) → q.reads ≡ p.reads ++ r → q.writes ≡ p.writes ++ w → Gathers r w [] p q a a
-gathers_none r w p q a reads writes = record { reads_grow = reads; writes_grow = writes; records = records_none a }
 
 -- an expression before a block
 pub reads_before : (r rs ws : List Static) (xs : List Stmt) (p q s : Paths) (a b : List Effect)
@@ -191,57 +132,30 @@ module _ {A : Type 0} (f g : A → List Static) (h : A → List Stmt) where
       take_over (x ∷ xs) zero over = absurd (omega arith)
       take_over (x ∷ xs) (suc k) over = ap (λ rest. x ∷ rest) (take_over xs k (omega arith))
 
-  -- of none
-  pub gathers_start : (xs : List A) (p : Paths) (a : List Effect) →
-      Gathers (joined (map f (take 0 xs))) (joined (map g (take 0 xs))) (joined (map h (take 0 xs))) p p a a
-  gathers_start xs p a = gathers_none [] [] p p a (sym (append-nil p.reads)) (sym (append-nil p.writes))
-
 pub singles : (xs : List Stmt) → joined (map (λ s. s ∷ []) xs) ≡ xs
 singles [] = refl
 singles (x ∷ xs) = ap (λ rest. x ∷ rest) (singles xs)
 
 -- ---- answers of loops
 
-next_drop : {A : Type 0} (xs : List A) (k : ℕ) (x : A) → k < length xs → x ≡ get_or xs k x → drop k xs ≡ x ∷ drop (k + 1) xs
-next_drop [] k x within is = absurd (omega arith)
-next_drop (y ∷ xs) zero x within is = ap (λ z. z ∷ xs) (sym is)
-next_drop (y ∷ xs) (suc k) x within is = next_drop xs k x (omega arith) is
-    ∙ (let next : suc k + 1 ≡ suc (k + 1) = omega arith in ap (λ n. x ∷ drop n (y ∷ xs)) (sym next))
-
-or_regroup : (a b c : Bool) → ((a || b) || c) ≡ (a || (b || c))
-or_regroup true b c = refl
-or_regroup false b c = refl
-
-and_regroup : (a b c : Bool) → ((a && b) && c) ≡ (a && (b && c))
-and_regroup true b c = refl
-and_regroup false b c = refl
-
-or_no : (a : Bool) → (a || false) ≡ a
-or_no true = refl
-or_no false = refl
-
-and_yes : (a : Bool) → (a && true) ≡ a
-and_yes true = refl
-and_yes false = refl
-
 module _ {A : Type 0} (f : A → Bool) (xs : List A) (k : ℕ) where
   pub any_step : (x : A) (now then : Bool) → k < length xs → x ≡ get_or xs k x → then ≡ (now || f x)
       → (now || any_of (map f (drop k xs))) ≡ any_of (map f xs) → (then || any_of (map f (drop (k + 1) xs))) ≡ any_of (map f xs)
   any_step x now then within is grows all =
-      ap (λ b. b || any_of (map f (drop (k + 1) xs))) grows ∙ or_regroup now (f x) (any_of (map f (drop (k + 1) xs)))
-      ∙ ap (λ rest. now || any_of (map f rest)) (sym (next_drop xs k x within is)) ∙ all
+      ap (λ b. b || any_of (map f (drop (k + 1) xs))) grows ∙ or_assoc now (f x) (any_of (map f (drop (k + 1) xs)))
+      ∙ ap (λ rest. now || any_of (map f rest)) (sym (drop_next xs k x within is)) ∙ all
 
   pub all_step : (x : A) (now then : Bool) → k < length xs → x ≡ get_or xs k x → then ≡ (now && f x)
       → (now && all_of (map f (drop k xs))) ≡ all_of (map f xs) → (then && all_of (map f (drop (k + 1) xs))) ≡ all_of (map f xs)
   all_step x now then within is grows all =
-      ap (λ b. b && all_of (map f (drop (k + 1) xs))) grows ∙ and_regroup now (f x) (all_of (map f (drop (k + 1) xs)))
-      ∙ ap (λ rest. now && all_of (map f rest)) (sym (next_drop xs k x within is)) ∙ all
+      ap (λ b. b && all_of (map f (drop (k + 1) xs))) grows ∙ and_assoc now (f x) (all_of (map f (drop (k + 1) xs)))
+      ∙ ap (λ rest. now && all_of (map f rest)) (sym (drop_next xs k x within is)) ∙ all
 
   pub any_end : (now : Bool) → length xs ≤ k → (now || any_of (map f (drop k xs))) ≡ any_of (map f xs) → now ≡ any_of (map f xs)
-  any_end now over all = sym (or_no now) ∙ ap (λ rest. now || any_of (map f rest)) (sym (drop_of_length-le xs over)) ∙ all
+  any_end now over all = sym (or_false now) ∙ ap (λ rest. now || any_of (map f rest)) (sym (drop_of_length-le xs over)) ∙ all
 
   pub all_end : (now : Bool) → length xs ≤ k → (now && all_of (map f (drop k xs))) ≡ all_of (map f xs) → now ≡ all_of (map f xs)
-  all_end now over all = sym (and_yes now) ∙ ap (λ rest. now && all_of (map f rest)) (sym (drop_of_length-le xs over)) ∙ all
+  all_end now over all = sym (and_true now) ∙ ap (λ rest. now && all_of (map f rest)) (sym (drop_of_length-le xs over)) ∙ all
 
 -- ---- arms, branches and kinds of statements
 
@@ -364,7 +278,7 @@ on_ok P Q (Err e) f h = h
 
 -- ---- a statement
 
-within_cases : (s outer : Stmt) → Within s outer → (s ≡ outer) ⊎ StandsIn (children outer) s
+pub within_cases : (s outer : Stmt) → Within s outer → (s ≡ outer) ⊎ StandsIn (children outer) s
 within_cases s outer (itself) = inl refl
 within_cases s outer (deeper _ next there within) = inr (record { outer = next; is_there = there; within = within })
 
@@ -394,7 +308,7 @@ records_statement s sets a b c inside is inserted at = step (same_place (place_o
         inr (record {
           statement = s;
           stands = alone s s itself;
-          there = same_place_is (place_of s) at here;
+          there = same_true (place_of s) at here;
           tells =
               inserted at ∙ ap (λ t. cond t (Some (effect_at (place_of s) sets)) (found b at)) here ∙ ap Some is;
         })

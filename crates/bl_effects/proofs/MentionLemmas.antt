@@ -1,39 +1,11 @@
 -- What the definitions on expressions come to at one path.
-use Rattle.std.proofs.Common.{
-  ◌≡◌,
-  ℕ,
-  ◌≤◌,
-  List,
-  [],
-  ◌∷◌,
-  ◌++◌,
-  drop,
-  length,
-  map,
-  refl,
-  sym,
-  ap,
-  ◌∙◌,
-  append-nil,
-  drop_of_length-le,
-}
+use Rattle.std.proofs.Common.{◌≡◌, ℕ, ◌≤◌, List, [], ◌∷◌, ◌++◌, drop, length, map, refl, sym, ap, ◌∙◌, append-nil, drop_of_length-le}
 use Rattle.bl_tree.specs.declared.tree.Part.{Part}
 use Rattle.bl_tree.specs.declared.tree.Path.{Path, fold_out-Path, out-Path}
 use Rattle.bl_tree.specs.Reduce.{joined}
 use Rattle.bl_tree.specs.declared.static_path.Static.{Static}
-use Rattle.bl_tree.specs.Static.{
-  Reach,
-  StaticStep,
-  expr_mentions,
-  index_mentions,
-  kind_mentions,
-  leading_fields,
-  part_mentions,
-  part_step,
-  path_reach,
-  reach_of,
-  step_of,
-}
+use Rattle.bl_tree.specs.Static.{Reach, StaticStep, expr_mentions, index_mentions, kind_mentions, leading_fields, part_mentions, part_step, path_reach}
+use Rattle.bl_tree.specs.Static.{reach_of, step_of}
 
 reach_out : (path : Path) → reach_of path ≡ record {
   static = record { root = (out-Path path).root; fields = leading_fields (map step_of (out-Path path).parts) };

@@ -1,47 +1,18 @@
 -- How what was told unit by unit comes to what is told of the program.
-use Rattle.std.proofs.Common.{
-  false,
-  is_some,
-  option_map,
-  unwrap_or,
-  ◌≡◌,
-  ℕ,
-  ◌+◌,
-  ◌<◌,
-  ◌≤◌,
-  List,
-  [],
-  ◌∷◌,
-  ◌++◌,
-  inl,
-  inr,
-  ⊎_elim,
-  take,
-  length,
-  get_or,
-  Some,
-  refl,
-  sym,
-  ap,
-  ◌∙◌,
-  subst,
-  take-suc,
-  take_all,
-  add-one,
-}
+use Rattle.std.proofs.Common.{◌≡◌, ℕ, ◌+◌, ◌<◌, ◌≤◌, List, [], ◌∷◌, ◌++◌, inl, inr, ⊎_elim, take, length, get_or, Some}
+use Rattle.std.proofs.Common.{refl, sym, ap, ◌∙◌, subst, take-suc, take_all, add-one}
 use Rattle.std.proofs.lemmas.List.Elements.{Contains-append_left, Contains-push, Contains-push_cases}
+use Rattle.bl_tree.proofs.Basics.{contains_none}
 use Rattle.bl_tree.specs.declared.tree.Stmt.{Stmt}
 use Rattle.bl_tree.specs.declared.tree.Unit.{Unit as UnitDef}
 use Rattle.bl_effects.specs.inner.Gathered.{TableKept, TableRecords, TableTold}
-use Rattle.bl_tree.specs.Effects.{reads, writes}
-use Rattle.bl_tree.specs.Instant.{instant}
 use Rattle.bl_tree.specs.Within.{Effect, PlacesDecide, StandsIn, StandsInUnits, place_of}
-use Rattle.bl_effects.specs.Table.{TableHasPlace, instant_at, reads_at, writes_at, TableTellsEffects}
-use Rattle.bl_effects.proofs.GatherLemmas.{no_element, records_then}
+use Rattle.bl_effects.specs.Table.{TableTellsEffects}
+use Rattle.bl_effects.proofs.GatherLemmas.{records_then}
 
 -- before the first unit
 pub units_none : (units : List UnitDef) → TableRecords (StandsInUnits (take 0 units)) [] []
-units_none units at = inl (record { same = refl; none = λ s stands. absurd (no_element stands.unit stands.is_there) })
+units_none units at = inl (record { same = refl; none = λ s stands. absurd (contains_none stands.unit stands.is_there) })
 
 next : (units : List UnitDef) (k : ℕ) (unit : UnitDef) → k < length units → unit ≡ get_or units k unit →
     take (k + 1) units ≡ take k units ++ unit ∷ []
@@ -74,17 +45,3 @@ told_all units k effects over records decide s stands =
     ⊎_elim (λ (kept : TableKept (StandsInUnits units) [] effects (place_of s)). absurd (kept.none s stands refl))
     (λ (told : TableTold (StandsInUnits units) effects (place_of s)). told.tells
     ∙ ap Some (decide told.statement s told.stands stands told.there)) (all (place_of s))
-
--- what a table that tells of the program has at the place of a statement
-module _ (effects : List Effect) (units : List UnitDef) (s : Stmt) (tells : TableTellsEffects effects units) (stands : StandsInUnits units s) where
-  pub told_there : TableHasPlace effects (place_of s)
-  told_there = ap is_some (tells s stands)
-
-  pub told_reads : reads_at effects (place_of s) ≡ reads s
-  told_reads = ap (λ found. unwrap_or (option_map (λ (effect : Effect). effect.reads) found) []) (tells s stands)
-
-  pub told_writes : writes_at effects (place_of s) ≡ writes s
-  told_writes = ap (λ found. unwrap_or (option_map (λ (effect : Effect). effect.writes) found) []) (tells s stands)
-
-  pub told_instant : instant_at effects (place_of s) ≡ instant s
-  told_instant = ap (λ found. unwrap_or (option_map (λ (effect : Effect). effect.instant) found) false) (tells s stands)

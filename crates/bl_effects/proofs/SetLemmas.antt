@@ -1,38 +1,6 @@
 -- A set of static paths is what its members make it: the one ascending list of them.
-use Rattle.std.proofs.Common.{
-  ◌≡◌,
-  IsTrue,
-  get_or,
-  ℕ,
-  zero,
-  suc,
-  Bool,
-  true,
-  false,
-  cond,
-  ◌&&◌,
-  ◌||◌,
-  List,
-  [],
-  ◌∷◌,
-  ◌⊎◌,
-  inl,
-  inr,
-  ⊎_elim,
-  refl,
-  sym,
-  ap,
-  ◌∙◌,
-  subst,
-  arith,
-  nat_cmp,
-  is_lt,
-  is_eq,
-  Ordering,
-  Less,
-  Equal,
-  Greater,
-}
+use Rattle.std.proofs.Common.{◌≡◌, IsTrue, get_or, ℕ, zero, suc, Bool, true, false, cond, ◌&&◌, ◌||◌, List, [], ◌∷◌, ◌⊎◌, inl, inr, ⊎_elim, refl, sym, ap, ◌∙◌}
+use Rattle.std.proofs.Common.{subst, arith, nat_cmp, is_lt, is_eq, Ordering, Less, Equal, Greater}
 use Rattle.std.specs.Cmp.{nat_eq_equiv, tied_itself, eq_by_cmp_equiv}
 use Rattle.std.specs.Cmp.Lexicographic.{slice_cmp}
 use Rattle.std.specs.FinMap.{IsAntisymmetric, nat_cmp-IsAntisymmetric, slice_cmp-IsAntisymmetric}

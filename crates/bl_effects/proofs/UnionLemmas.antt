@@ -1,27 +1,8 @@
 -- What stands in a statement reads and writes no more than the statement.
-use Rattle.std.proofs.Common.{
-  ◌≡◌,
-  ℕ,
-  List,
-  [],
-  ◌∷◌,
-  ◌++◌,
-  ◌⊎◌,
-  inl,
-  inr,
-  ⊎_elim,
-  map,
-  refl,
-  sym,
-  ap,
-  ◌∙◌,
-  subst,
-  zero,
-  suc,
-  arith,
-}
+use Rattle.std.proofs.Common.{◌≡◌, List, [], ◌∷◌, ◌++◌, ◌⊎◌, ⊎_elim, map, sym, ap, ◌∙◌, subst, arith}
 use Rattle.std.specs.Prelude.{Contains}
 use Rattle.std.proofs.lemmas.List.Elements.{Contains-append_left, Contains-append_right, Contains-append_cases}
+use Rattle.bl_tree.proofs.Basics.{contains_none, contains_one}
 use Rattle.bl_tree.specs.declared.tree.Arm.{Arm, out-Arm}
 use Rattle.bl_tree.specs.declared.tree.Branch.{Branch, out-Branch}
 use Rattle.bl_tree.specs.declared.tree.Stmt.{Stmt, fold_out-Stmt, out-Stmt}
@@ -36,26 +17,19 @@ use Rattle.bl_tree.specs.Within.{Within, deeper, itself, kind_children}
 use Rattle.bl_effects.proofs.GatherLemmas.{read_parts, reads_arm_out, reads_branch_out, writes_arm_out, writes_branch_out, written_parts}
 use Rattle.bl_effects.proofs.SetLemmas.{set_members}
 
-sole : {A : Type 0} (x y : A) → Contains (x ∷ []) y → x ≡ y
-sole x y (zero, below, is) = is
-sole x y (suc k, below, is) = absurd (omega arith)
-
-none : {A : Type 0} (x : A) → Contains [] x → ⊥
-none x there = let below = there.1 in omega arith
-
 -- what a part of a joined list comes from is in the joined list of what the parts come to
 of_part : {A B C : Type 0} (f : A → List B) (g : A → List C) (b : B) (c : C) → ((a : A) → Contains (f a) b → Contains (g a) c)
     → (xs : List A) → Contains (joined (map f xs)) b → Contains (joined (map g xs)) c
-of_part f g b c gives [] there = absurd (none b there)
+of_part f g b c gives [] there = absurd (contains_none b there)
 of_part f g b c gives (x ∷ xs) there =
     ⊎_elim (λ first. Contains-append_left (g x) (joined (map g xs)) c (gives x first))
     (λ rest. Contains-append_right (g x) (joined (map g xs)) c (of_part f g b c gives xs rest))
     (Contains-append_cases (f x) (joined (map f xs)) b there)
 
 of_one : {A C : Type 0} (g : A → List C) (a : A) (c : C) → Contains (g a) c → (xs : List A) → Contains xs a → Contains (joined (map g xs)) c
-of_one g a c gives [] there = absurd (none a there)
+of_one g a c gives [] there = absurd (contains_none a there)
 of_one g a c gives (x ∷ xs) there =
-    ⊎_elim (λ first. Contains-append_left (g x) (joined (map g xs)) c (subst (λ y. Contains (g y) c) (sym (sole x a first)) gives))
+    ⊎_elim (λ first. Contains-append_left (g x) (joined (map g xs)) c (subst (λ y. Contains (g y) c) (sym (contains_one x a first)) gives))
     (λ rest. Contains-append_right (g x) (joined (map g xs)) c (of_one g a c gives xs rest))
     (Contains-append_cases (x ∷ []) xs a there)
 
@@ -77,7 +51,7 @@ read_child (StmtKind-F.When guard e body) s x there has = Contains-append_right 
 read_child (StmtKind-F.Repeat body) s x there has = of_one reads s x has body there
 read_child (StmtKind-F.Until body e) s x there has = Contains-append_left (joined (map reads body)) (mentions e) x (of_one reads s x has body there)
 read_child (StmtKind-F.While e body) s x there has = Contains-append_right (mentions e) (joined (map reads body)) x (of_one reads s x has body there)
-read_child _ s x there has = absurd (none s there)
+read_child _ s x there has = absurd (contains_none s there)
 
 written_child : (layer : StmtKind-F StmtKind Arm Branch Stmt) (s : Stmt) (x : Static) → Contains (kind_children layer) s →
     Contains (writes s) x → Contains (kind_writes (written_parts layer)) x
@@ -95,7 +69,7 @@ written_child (StmtKind-F.When guard e body) s x there has = of_one writes s x h
 written_child (StmtKind-F.Repeat body) s x there has = of_one writes s x has body there
 written_child (StmtKind-F.Until body e) s x there has = of_one writes s x has body there
 written_child (StmtKind-F.While e body) s x there has = of_one writes s x has body there
-written_child _ s x there has = absurd (none s there)
+written_child _ s x there has = absurd (contains_none s there)
 
 reads_out : (s : Stmt) → reads s ≡ set_of (kind_reads (read_parts (out-StmtKind (out-Stmt s).what)))
 reads_out s =

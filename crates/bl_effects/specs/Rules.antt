@@ -1,25 +1,6 @@
 -- How a program fails the rules Pause, Conflict, Alias and Instant, and what their lines name.
-use Rattle.std.specs.Prelude.{
-  ◌≡◌,
-  Bool,
-  true,
-  List,
-  [],
-  ◌∷◌,
-  ◌++◌,
-  map,
-  slice_get,
-  find,
-  Contains,
-  Option,
-  Some,
-  None,
-  option_map,
-  option_to_list,
-  IsTrue,
-  is_none,
-  if◌then◌else◌,
-}
+use Rattle.std.specs.Prelude.{◌≡◌, Bool, true, List, [], ◌∷◌, ◌++◌, map, slice_get, find, Contains, Option, Some, None, option_map, option_to_list, IsTrue}
+use Rattle.std.specs.Prelude.{is_none, if◌then◌else◌}
 use Rattle.bl_tree.specs.declared.place.Place.{Place}
 use Rattle.bl_tree.specs.declared.rule.Rule.{Rule}
 use Rattle.bl_tree.specs.declared.rule.Rule.TheVariants as rule
@@ -33,7 +14,7 @@ use Rattle.bl_tree.specs.declared.tree.StmtKind.TheOpen.{StmtKind-F, Arm-F, Bran
 use Rattle.bl_tree.specs.declared.tree.Unit.{Unit as UnitDef}
 use Rattle.bl_tree.specs.declared.tree.Var.{Var}
 use Rattle.bl_tree.specs.Reduce.{all_of, joined}
-use Rattle.bl_tree.specs.Rules.{FailsFirst as FirstOf, Passes as NoneOf}
+use Rattle.bl_tree.specs.Rules.{Passes as NoneOf}
 use Rattle.bl_tree.specs.Types.{scalar_in}
 use Rattle.bl_tree.specs.Typing.{is_activity}
 use Rattle.bl_effects.specs.declared.marked.Marked.{Marked}
@@ -310,10 +291,6 @@ Fails units rule.Conflict at also = FailsConflict units at also
 Fails units rule.Alias at also = FailsAlias units at also
 Fails units rule.Instant at also = FailsInstant units at also
 Fails units _ at also = ⊥
-
--- the rule is the first of Pause, Conflict, Alias and Instant that fails, and fails first at these places
-abbrev pub FailsFirst : List UnitDef → Rule → Place → List Place → Type 0
-FailsFirst units = FirstOf (Fails units)
 
 -- none of Pause, Conflict, Alias and Instant fails
 abbrev pub Passes : List UnitDef → Type 0

@@ -6,7 +6,7 @@ use Rattle.bl_tree.specs.declared.tree.StmtKind.TheOpen.{StmtKind-F, Arm-F, Bran
 use Rattle.bl_tree.specs.Reduce.{all_of, joined, greatest, total}
 use Rattle.bl_tree.specs.declared.static_path.Static.{Static}
 use Rattle.bl_tree.specs.Instant.{BranchInstant, kind_instant}
-use Rattle.bl_tree.specs.Static.{whole, set_of, static_of}
+use Rattle.bl_tree.specs.Static.{whole, static_of}
 
 -- ---- surface writes
 
@@ -67,10 +67,6 @@ stmt_surface s = s.what
 -- whether a statement may end in the tick in which it begins, and what it can write in that tick
 abbrev pub surface_of : Stmt → Surface
 surface_of = fold-Stmt Surface Surface BranchSurface Surface kind_surface arm_surface branch_surface stmt_surface
-
--- the set of the static paths that a statement that begins can write before it pauses
-abbrev pub surface_writes : Stmt → List Static
-surface_writes s = set_of (surface_of s).writes
 
 -- ---- width
 

@@ -2,7 +2,7 @@
 //! tick in which they begin (docs/LANGUAGE.md, "Effects"). `Effects::of` tells exactly that, at the place of each
 //! statement (`specs/Table.antt`, `TableTellsEffects`). `mentions` appends what an expression or a path reads. Also
 //! defined here: how a program fails the rules Pause, Conflict, Alias and Instant (`specs/Rules.antt`, `Fails`), and
-//! what a statement can write before it pauses (`specs/Surface.antt`, `surface_writes`).
+//! what a statement can write before it pauses (`specs/Surface.antt`, `surface_of`).
 //!
 //! Laws: a set has its list's members, in order and once; overlap is mutual; a statement reads and writes no less than
 //! those in it.

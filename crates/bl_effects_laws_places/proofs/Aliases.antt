@@ -22,22 +22,8 @@ use Rattle.bl_tree_laws_places.proofs.Exprs.{expr_out, kind_out, path_out, said,
 use Rattle.bl_tree_laws_places.proofs.Lists.{joined-behind, joined-map, map-alike, map-twice}
 use Rattle.bl_tree_laws_places.proofs.Stmts.{stmts_turn, turned}
 use Rattle.bl_effects.specs.declared.marked.Marked.{Marked}
-use Rattle.bl_effects.specs.Rules.{
-  Aliased,
-  aliased_with,
-  aliases_in,
-  aliases_of,
-  arm_aliases,
-  branch_aliases,
-  kind_aliases,
-  marked_aggregate,
-  marked_input,
-  marked_inputs,
-  marked_path,
-  outputs_aliased,
-  stmt_aliases,
-  target_aliased,
-}
+use Rattle.bl_effects.specs.Rules.{Aliased, aliased_with, aliases_in, aliases_of, arm_aliases, branch_aliases, kind_aliases, marked_aggregate, marked_input}
+use Rattle.bl_effects.specs.Rules.{marked_inputs, marked_path, outputs_aliased, stmt_aliases, target_aliased}
 use Rattle.bl_effects_laws_places.proofs.Parallels.{moved_marked}
 
 module _ (f : Place → Place) where

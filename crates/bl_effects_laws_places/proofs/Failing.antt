@@ -1,8 +1,8 @@
 -- Each rule fails at the images of places, where places are mapped.
 use Rattle.std.proofs.Common.{◌≡◌, List, [], ◌∷◌, map, refl, ap, ap₂, sym, subst, ◌∙◌}
-use Rattle.std.specs.Prelude.{◌↔◌, Contains, IsTrue, Some, slice_get}
+use Rattle.std.specs.Prelude.{◌↔◌, Contains, IsTrue, slice_get}
+use Rattle.bl_tree.proofs.Basics.{contains_mapped, get_mapped}
 use Rattle.bl_tree.specs.declared.place.Place.{Place}
-use Rattle.bl_tree.specs.declared.rule.Rule.{Rule}
 use Rattle.bl_tree.specs.declared.rule.Rule.TheVariants as rule
 use Rattle.bl_tree.specs.declared.tree.Unit.{Unit as UnitDef}
 use Rattle.bl_tree.specs.declared.tree.Var.{Var}
@@ -13,21 +13,9 @@ use Rattle.bl_tree.specs.Typing.{is_activity}
 use Rattle.bl_tree_laws_places.specs.Laws.{FailsMoved}
 use Rattle.bl_tree_laws_places.specs.Placed.{placed_unit, placed_units, placed_var}
 use Rattle.bl_tree_laws_places.proofs.Effects.{instant_block_stays}
-use Rattle.bl_tree_laws_places.proofs.Lists.{Made, from_got, from_map, into_got, into_map}
+use Rattle.bl_tree_laws_places.proofs.Lists.{Made, from_got, from_map}
 use Rattle.bl_effects.specs.declared.marked.Marked.{Marked}
-use Rattle.bl_effects.specs.Rules.{
-  Aliased,
-  Fails,
-  FailsAlias,
-  FailsConflict,
-  FailsInstant,
-  FailsPause,
-  Passes,
-  Split,
-  aliases_in,
-  instant_loops,
-  splits_of,
-}
+use Rattle.bl_effects.specs.Rules.{Aliased, Fails, FailsAlias, FailsConflict, FailsInstant, FailsPause, Split, aliases_in, instant_loops, splits_of}
 use Rattle.bl_effects_laws_places.specs.Laws.{FailuresMove, PassingStays}
 use Rattle.bl_effects_laws_places.proofs.Aliases.{aliases_move, moved_aliased}
 use Rattle.bl_effects_laws_places.proofs.Loops.{instant_loops_move}
@@ -59,7 +47,7 @@ module _ (f : Place → Place) (units : List UnitDef) where
   pause_to : (at : Place) (also : List Place) → FailsMoved f (Fails units) rule.Pause at also → FailsPause (placed_units f units) at also
   pause_to at also h = let fails : FailsPause units h.source h.further = h.fails in record {
     unit = placed_unit f fails.unit;
-    is_there = into_map (placed_unit f) units fails.unit fails.is_there;
+    is_there = contains_mapped (placed_unit f) units fails.unit fails.is_there;
     activity = fails.activity;
     ends = subst IsTrue (sym (instant_block_stays f fails.unit.body)) fails.ends;
     at_name = h.is_at ∙ ap f fails.at_name;
@@ -106,17 +94,17 @@ module _ (f : Place → Place) (units : List UnitDef) where
       FailsConflict (placed_units f units) at also
   conflict_to at also h = let fails : FailsConflict units h.source h.further = h.fails in record {
     unit = placed_unit f fails.unit;
-    is_there = into_map (placed_unit f) units fails.unit fails.is_there;
+    is_there = contains_mapped (placed_unit f) units fails.unit fails.is_there;
     split = moved_split f fails.split;
     stands = subst (λ splits. Contains splits (moved_split f fails.split)) (sym (splits_move f fails.unit))
-        (into_map (moved_split f) (splits_of fails.unit) fails.split fails.stands);
+        (contains_mapped (moved_split f) (splits_of fails.unit) fails.split fails.stands);
     first = moved_marked f fails.first;
-    in_earlier = into_map (moved_marked f) fails.split.earlier fails.first fails.in_earlier;
+    in_earlier = contains_mapped (moved_marked f) fails.split.earlier fails.first fails.in_earlier;
     second = moved_marked f fails.second;
-    in_later = into_map (moved_marked f) fails.split.writes fails.second fails.in_later;
+    in_later = contains_mapped (moved_marked f) fails.split.writes fails.second fails.in_later;
     overlap = fails.overlap;
     var = placed_var f fails.var;
-    declared = into_got (placed_var f) fails.unit.vars fails.second.path.root fails.var fails.declared;
+    declared = get_mapped (placed_var f) fails.unit.vars fails.second.path.root fails.var fails.declared;
     at_first = h.is_at ∙ ap f fails.at_first;
     at_second = h.is_also ∙ ap (map f) fails.at_second;
   }
@@ -147,10 +135,10 @@ module _ (f : Place → Place) (units : List UnitDef) where
   alias_to : (at : Place) (also : List Place) → FailsMoved f (Fails units) rule.Alias at also → FailsAlias (placed_units f units) at also
   alias_to at also h = let fails : FailsAlias units h.source h.further = h.fails in record {
     unit = placed_unit f fails.unit;
-    is_there = into_map (placed_unit f) units fails.unit fails.is_there;
+    is_there = contains_mapped (placed_unit f) units fails.unit fails.is_there;
     aliased = moved_aliased f fails.aliased;
     fails = subst (λ failures. Contains failures (moved_aliased f fails.aliased)) (sym (aliases_move f fails.unit.body))
-        (into_map (moved_aliased f) (joined (map aliases_in fails.unit.body)) fails.aliased fails.fails);
+        (contains_mapped (moved_aliased f) (joined (map aliases_in fails.unit.body)) fails.aliased fails.fails);
     at_one = h.is_at ∙ ap f fails.at_one;
     at_other = h.is_also ∙ ap (map f) fails.at_other;
   }
@@ -183,11 +171,11 @@ module _ (f : Place → Place) (units : List UnitDef) where
       FailsInstant (placed_units f units) at also
   instant_to at also h = let fails : FailsInstant units h.source h.further = h.fails in record {
     unit = placed_unit f fails.unit;
-    is_there = into_map (placed_unit f) units fails.unit fails.is_there;
+    is_there = contains_mapped (placed_unit f) units fails.unit fails.is_there;
     activity = fails.activity;
     place = f fails.place;
     loops = subst (λ places. Contains places (f fails.place)) (sym (instant_loops_move f fails.unit))
-        (into_map f (instant_loops fails.unit) fails.place fails.loops);
+        (contains_mapped f (instant_loops fails.unit) fails.place fails.loops);
     at_loop = h.is_at ∙ ap f fails.at_loop;
     alone = h.is_also ∙ ap (map f) fails.alone;
   }

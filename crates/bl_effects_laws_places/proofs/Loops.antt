@@ -12,21 +12,8 @@ use Rattle.bl_tree.specs.Reduce.{all_of, any_of, joined}
 use Rattle.bl_tree_laws_places.specs.Placed.{placed_expr, placed_level, placed_stmt, placed_unit}
 use Rattle.bl_tree_laws_places.proofs.Lists.{joined-behind, map-twice}
 use Rattle.bl_tree_laws_places.proofs.Stmts.{stmts_turn, turned}
-use Rattle.bl_effects.specs.Rules.{
-  BranchLoops,
-  Loops,
-  arm_loops,
-  block_ends,
-  block_loops,
-  branch_loops,
-  instant_loops,
-  kind_loop_places,
-  kind_loops,
-  loop_instants,
-  loop_places,
-  loops_in,
-  stmt_loops,
-}
+use Rattle.bl_effects.specs.Rules.{BranchLoops, Loops, arm_loops, block_ends, block_loops, branch_loops, instant_loops, kind_loop_places, kind_loops}
+use Rattle.bl_effects.specs.Rules.{loop_instants, loop_places, loops_in, stmt_loops}
 
 module _ (f : Place → Place) where
   -- the loops of a statement, at the mapped places

@@ -16,22 +16,8 @@ use Rattle.bl_tree_laws_places.proofs.Effects.{static_stays, statics_stay, writt
 use Rattle.bl_tree_laws_places.proofs.Lists.{joined-behind, map-twice}
 use Rattle.bl_tree_laws_places.proofs.Stmts.{stmts_turn, turned}
 use Rattle.bl_effects.specs.declared.marked.Marked.{Marked}
-use Rattle.bl_effects.specs.Rules.{
-  Parallel,
-  Split,
-  acting,
-  arm_parallel,
-  beside,
-  branch_parallel,
-  kind_parallel,
-  of_branches,
-  parallel_of,
-  splits_after,
-  splits_of,
-  still,
-  stmt_parallel,
-  together,
-}
+use Rattle.bl_effects.specs.Rules.{Parallel, Split, acting, arm_parallel, beside, branch_parallel, kind_parallel, of_branches, parallel_of, splits_after}
+use Rattle.bl_effects.specs.Rules.{splits_of, still, stmt_parallel, together}
 
 module _ (f : Place → Place) where
   -- a path at the mapped place

@@ -111,11 +111,3 @@ module _ (structs : List StructDef) where
       nothing : (units : List UnitDef) → units_told structs earlier made.remember units [] left ≡ no_parts
       nothing [] = refl
       nothing (u ∷ units) = refl
-
-  pub no_unit : (earlier : List UnitDef) (units : List UnitDef) (needed : List Bool) (left : List InMachine) (k : ℕ) (made whole : ProgramParts) →
-      length units ≤ k →
-      parts_then made (units_told structs earlier made.remember (drop k units) (drop k needed) left) ≡ whole → made ≡ whole
-  no_unit earlier units needed left k made whole past so =
-      let none : drop k units ≡ [] = grind (arith, common_steps, past) in
-      sym (then_none made)
-      ∙ (ap (λ (units : List UnitDef). parts_then made (units_told structs earlier made.remember units (drop k needed) left)) (sym none) ∙ so)

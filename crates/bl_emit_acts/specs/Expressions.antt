@@ -11,29 +11,8 @@ use Rattle.bl_tree.specs.declared.c.CArg.TheOpen.{CExprKind-F}
 use Rattle.bl_tree.specs.declared.c.CPlace.{CPlace, out-CPlace}
 use Rattle.bl_tree.specs.declared.c.CStep.{CStep, out-CStep}
 use Rattle.bl_tree.specs.declared.scalar.Op.{Op}
-use Rattle.bl_tree.specs.declared.scalar.Op.TheVariants.{
-  Add,
-  Sub,
-  Mul,
-  Div,
-  Rem,
-  Minus,
-  BitAnd,
-  BitOr,
-  BitXor,
-  BitNot,
-  Shl,
-  Shr,
-  Eq,
-  Ne,
-  Lt,
-  Le,
-  Gt,
-  Ge,
-  And,
-  Or,
-  Not,
-}
+use Rattle.bl_tree.specs.declared.scalar.Op.TheVariants.{Add, Sub, Mul, Div, Rem, Minus, BitAnd, BitOr, BitXor, BitNot, Shl, Shr, Eq, Ne, Lt, Le, Gt, Ge, And}
+use Rattle.bl_tree.specs.declared.scalar.Op.TheVariants.{Or, Not}
 use Rattle.bl_tree.specs.declared.scalar.Scalar.{Scalar as ScalarType}
 use Rattle.bl_tree.specs.declared.scalar.Scalar.TheVariants.{Bool as OfBool}
 use Rattle.bl_tree.specs.declared.tree.Expr.{Expr, fold-Expr}

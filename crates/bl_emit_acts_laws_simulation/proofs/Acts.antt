@@ -4,6 +4,7 @@ use Rattle.std.proofs.Common.{refl, sym, ap, ◌∙◌, subst, IfSome}
 use Rattle.std.proofs.lemmas.Bool.{eq-eqb, eqb-true}
 use Rattle.std.proofs.lemmas.Option.{same_Some}
 use Rattle.std.specs.Prelude.{is_some, nat_eq, option_and_then, option_map, slice_get, slice_set, unwrap_or, if◌then◌else◌}
+use Rattle.bl_tree.proofs.Basics.{and_first, and_second}
 use Rattle.bl_tree.specs.declared.c.CExpr.{CExpr}
 use Rattle.bl_tree.specs.declared.c.CStmt.{CStmt}
 use Rattle.bl_tree.specs.declared.scalar.Scalar.{Scalar as ScalarType}
@@ -30,7 +31,7 @@ use Rattle.bl_eval.proofs.ExprFits.{Sound, expr_fits}
 use Rattle.bl_eval.proofs.MeaningLemmas.{spot_out}
 use Rattle.bl_eval.proofs.OperatorFits.{DatumFits}
 use Rattle.bl_eval.proofs.PartLemmas.{put_at_is}
-use Rattle.bl_eval.proofs.PassLemmas.{and_right, pass_at}
+use Rattle.bl_eval.proofs.PassLemmas.{pass_at}
 use Rattle.bl_eval.proofs.UnitFits.{sound_at}
 use Rattle.bl_ctext_semantics.specs.Course.{Outcome}
 use Rattle.bl_ctext_semantics.specs.Memory.{CValue, Location, Memory, Projection, scalar, set_at, value_at, zeros}
@@ -73,7 +74,7 @@ assignable_open site path var h there =
     let found = some_there (option_and_then (λ (var : Var). if may_change var.role then Some var else None) (var_at site (out-Path path).root)) h in
     open_by var.role var found.0 (sym (ap (option_and_then (λ (var : Var). if may_change var.role then Some var else None)) there) ∙ found.1)
 
-declared_open_by : (role : Role) → (is_variable role || is_fixed role) ≡ true → is_input role ≡ false
+pub declared_open_by : (role : Role) → (is_variable role || is_fixed role) ≡ true → is_input role ≡ false
 declared_open_by Input h = absurd (cc)
 declared_open_by Output h = absurd (cc)
 declared_open_by Variable h = refl
@@ -84,10 +85,6 @@ variable_open Input h = absurd (cc)
 variable_open Output h = absurd (cc)
 variable_open Variable h = refl
 variable_open Fixed h = absurd (cc)
-
-and_first : (a b : Bool) → (a && b) ≡ true → a ≡ true
-and_first true b h = refl
-and_first false b h = absurd (cc)
 
 declared_var : (site : TypingContext) (initial : Option Expr) (var : Option Var) → declaration_fits site initial var ≡ true →
     (found : Var) × (var ≡ Some found) × (is_input found.role ≡ false)
@@ -203,7 +200,7 @@ module _ (structs : List StructDef) (units : List UnitDef) (entry : ℕ) (k : �
       Simulates site copied scope here (λ now. view.before) (assigned (path_meaning_of sees path) (value_in sees e view) view)
       (block_c (c_set (stands site path).place (code_made site e) ∷ []) scope here)
   assign_comes path e fitted path_named named =
-      let same = and_right (is_assignable site path) (are_same (type_of_path site path) (type_of site e)) fitted in
+      let same = and_second (is_assignable site path) (are_same (type_of_path site path) (type_of site e)) fitted in
       let found = same_found (type_of_path site path) (type_of site e) same in
       let place = (stands site path).place in
       assigned_by found.0 (path_meaning_of sees path)
@@ -267,7 +264,7 @@ module _ (structs : List StructDef) (units : List UnitDef) (entry : ℕ) (k : �
       ((e : Expr) → initial ≡ Some e → copied_in copied e ≡ true) → Begins j var initial
   begins j var (Some e) there fitted named =
       let found = same_found (Some var.ty) (type_of site e)
-      (and_right (is_variable var.role || is_fixed var.role) (are_same (Some var.ty) (type_of site e)) fitted) in
+      (and_second (is_variable var.role || is_fixed var.role) (are_same (Some var.ty) (type_of site e)) fitted) in
       record {
         first = c_set (place_in site j []) (code_made site e);
         is = refl;

@@ -7,6 +7,8 @@ use Rattle.std.proofs.lemmas.List.Folds.{list_any-append}
 use Rattle.std.proofs.lemmas.Option.{same_Some}
 use Rattle.std.specs.Prelude.{is_none, is_some, nat_eq, option_and_then, option_map, option_to_list, slice_get, if◌then◌else◌}
 use Rattle.std.specs.List.{find, list_all, list_any}
+use Rattle.std.proofs.lemmas.Bool.{and_from}
+use Rattle.bl_tree.proofs.Basics.{and_first, and_second, both_empty, get_in_front, neither_first, neither_second}
 use Rattle.bl_tree.specs.declared.c.CArg.{CArg}
 use Rattle.bl_tree.specs.declared.place.Place.{Place}
 use Rattle.bl_tree.specs.declared.scalar.Scalar.{Scalar as ScalarType}
@@ -36,7 +38,7 @@ use Rattle.bl_eval.specs.Functions.{callees_of, scope_among}
 use Rattle.bl_eval.specs.Meaning.{PathMeaning, Scope as Sees, View, meaning_of, path_meaning_of, read_at}
 use Rattle.bl_eval.specs.Values.{value_at}
 use Rattle.bl_eval.proofs.OperatorFits.{scalar_alone, some_found, where_holds}
-use Rattle.bl_eval.proofs.PassLemmas.{and_left, and_right, both, get_front, get_seam}
+use Rattle.bl_eval.proofs.PassLemmas.{get_seam}
 use Rattle.bl_ctext_semantics.specs.Memory.{CValue, Location, Memory}
 use Rattle.bl_ctext_semantics.specs.Meaning.{ArgumentValue, Scope, by_address, by_value, location_c, value_c}
 use Rattle.bl_emit_acts.specs.declared.made.Made.{Made}
@@ -51,7 +53,6 @@ use Rattle.bl_emit_acts_laws_simulation.specs.Simulation.{ExpressionSimulates, P
 use Rattle.bl_emit_acts_laws_simulation.proofs.Arguments.{pass_all, passes_address, passes_value}
 use Rattle.bl_emit_acts_laws_simulation.proofs.Cells.{apart_flip}
 use Rattle.bl_emit_acts_laws_simulation.proofs.Evaluated.{passes}
-use Rattle.bl_emit_acts_laws_simulation.proofs.Forks.{or_left, or_right}
 use Rattle.bl_emit_acts_laws_simulation.proofs.Outlets.{front_apart, fronts_part, static_front}
 use Rattle.bl_emit_acts_laws_simulation.proofs.Outputs.{OutputAt, OutputsAt, places_at, roots_apart, value_now}
 use Rattle.bl_emit_acts_laws_simulation.proofs.Places.{listed-answer}
@@ -75,10 +76,6 @@ aliased_clear (x ∷ xs) one h = by (overlaps one.path x.path) (aliased_clear xs
     by true again h = absurd (cc)
     by false again h = again h
 
-nothing_in : {A : Type 0} (xs ys : List A) → xs ++ ys ≡ [] → (xs ≡ []) × (ys ≡ [])
-nothing_in [] ys h = (refl, h)
-nothing_in (x ∷ xs) ys h = absurd (cc)
-
 -- each output touches none of those before it and none of these inputs
 abbrev pub Clear : List Marked → List Marked → List Path → Type 0
 Clear inputs before [] = Unit {0}
@@ -88,13 +85,13 @@ Clear inputs before (path ∷ paths) =
 pub clear_of : (inputs before : List Marked) (paths : List Path) → outputs_aliased inputs before (map marked_path paths) ≡ [] → Clear inputs before paths
 clear_of inputs before [] h = tt
 clear_of inputs before (path ∷ paths) h =
-    let split = nothing_in (aliased_with (before ++ inputs) (marked_path path))
+    let split = both_empty (aliased_with (before ++ inputs) (marked_path path))
     (outputs_aliased inputs (before ++ marked_path path ∷ []) (map marked_path paths)) h in
     let all : (touches path before || touches path inputs) ≡ false =
     sym (list_any-append (λ (other : Marked). overlaps (static_of path) other.path) before inputs) ∙ aliased_clear
     (before ++ inputs) (marked_path path) split.0 in (
-      or_left (touches path before) (touches path inputs) all,
-      or_right (touches path before) (touches path inputs) all,
+      neither_first (touches path before) (touches path inputs) all,
+      neither_second (touches path before) (touches path inputs) all,
       clear_of inputs (before ++ marked_path path ∷ []) paths split.1,
     )
 
@@ -103,8 +100,8 @@ any_at : (path : Path) (others : List Marked) (i : ℕ) (other : Marked) → tou
 any_at path [] i other h there = absurd (cc)
 any_at path (x ∷ xs) zero other h there =
     subst (λ (m : Marked). overlaps (static_of path) m.path ≡ false) (same_Some x other there)
-    (or_left (overlaps (static_of path) x.path) (touches path xs) h)
-any_at path (x ∷ xs) (suc i) other h there = any_at path xs i other (or_right (overlaps (static_of path) x.path) (touches path xs) h) there
+    (neither_first (overlaps (static_of path) x.path) (touches path xs) h)
+any_at path (x ∷ xs) (suc i) other h there = any_at path xs i other (neither_second (overlaps (static_of path) x.path) (touches path xs) h) there
 
 module _ (structs : List StructDef) (units : List UnitDef) (entry : ℕ) (k : ℕ) (unit : UnitDef) (view : View) (copies : List Bool) (scope : Scope)
     (here : Memory) (keeps : IsWellTyped structs units entry) (b : BesideActs structs units k unit view (is_copied copies) scope here) where
@@ -141,8 +138,8 @@ module _ (structs : List StructDef) (units : List UnitDef) (entry : ℕ) (k : �
         subst (λ (c : Var). ways_part (way_to structs ks (Some a.ty)) (way_to structs js (Some c.ty)) ≡ true) one
         (fronts_part structs keeps.structs_stand ks js a.ty ty tz stored.0 u v stored.2 typed
         (subst (λ (c : Var). type_after structs js (Some c.ty) ≡ Some tz) (sym one) typed') (sym (ap (option_and_then (value_at ks)) stored.1) ∙ read)
-        (sym (ap (option_and_then (value_at js)) at) ∙ read') (or_left (is_front ks js) (is_front js ks) fronts)
-        (or_right (is_front ks js) (is_front js ks) fronts))
+        (sym (ap (option_and_then (value_at js)) at) ∙ read') (neither_first (is_front ks js) (is_front js ks) fronts)
+        (neither_second (is_front ks js) (is_front js ks) fronts))
 
     pub fronts_apart : (nat_eq r s && (is_front ks js || is_front js ks)) ≡ false →
         are_apart (location_in scope my_site r (way_to structs ks (Some a.ty))) (location_in scope my_site s (way_to structs js (Some c.ty))) ≡ true
@@ -178,9 +175,9 @@ module _ (structs : List StructDef) (units : List UnitDef) (entry : ℕ) (k : �
   later_part inputs before i p x o there [] (var ∷ vars) all clear = refl
   later_part inputs before i p x o there (q ∷ paths) [] all clear = absurd all
   later_part inputs before i p x o there (q ∷ paths) (var ∷ vars) all clear =
-      both (are_apart o.place all.0.place) (list_all (are_apart o.place) (all_places paths vars all.1))
+      and_from (are_apart o.place all.0.place) (list_all (are_apart o.place) (all_places paths vars all.1))
       (outputs_part p q x var o all.0 (any_at q before i (marked_path p) clear.0 there))
-      (later_part inputs (before ++ marked_path q ∷ []) i p x o (get_front before (marked_path q ∷ []) i (marked_path p) there) paths vars all.1 clear.2)
+      (later_part inputs (before ++ marked_path q ∷ []) i p x o (get_in_front before (marked_path q ∷ []) i (marked_path p) there) paths vars all.1 clear.2)
 
   pub outputs_apart : (inputs before : List Marked) (paths : List Path) (vars : List Var) (all : Outputs paths vars) → Clear inputs before paths →
       all_apart (all_places paths vars all) ≡ true
@@ -188,7 +185,7 @@ module _ (structs : List StructDef) (units : List UnitDef) (entry : ℕ) (k : �
   outputs_apart inputs before [] (var ∷ vars) all clear = refl
   outputs_apart inputs before (p ∷ paths) [] all clear = absurd all
   outputs_apart inputs before (p ∷ paths) (var ∷ vars) all clear =
-      both (list_all (are_apart all.0.place) (all_places paths vars all.1)) (all_apart (all_places paths vars all.1))
+      and_from (list_all (are_apart all.0.place) (all_places paths vars all.1)) (all_apart (all_places paths vars all.1))
       (later_part inputs (before ++ marked_path p ∷ []) (length before) p var all.0 (get_seam before (marked_path p) (length before) refl) paths vars all.1
       clear.2)
       (outputs_apart inputs (before ++ marked_path p ∷ []) paths vars all.1 clear.2)
@@ -257,8 +254,8 @@ module _ (structs : List StructDef) (units : List UnitDef) (entry : ℕ) (k : �
             cases false h = refl
             cases true h =
                 let parts = front_apart (static_of path).fields r.ks w.leads.ks front
-                (or_right (is_front w.leads.ks (static_of path).fields) (is_front (static_of path).fields w.leads.ks) h)
-                (or_left (is_front w.leads.ks (static_of path).fields) (is_front (static_of path).fields w.leads.ks) h) in
+                (neither_second (is_front w.leads.ks (static_of path).fields) (is_front (static_of path).fields w.leads.ks) h)
+                (neither_first (is_front w.leads.ks (static_of path).fields) (is_front (static_of path).fields w.leads.ks) h) in
                 ap₂ (λ a b. a || b) parts.1 parts.0
 
     stands_ty : (path : Path) → (stands my_site path).ty ≡ (out-Path path).ty
@@ -270,7 +267,7 @@ module _ (structs : List StructDef) (units : List UnitDef) (entry : ℕ) (k : �
     whole_kept path ty passed None leads clear is = absurd (cc)
     whole_kept path ty passed (Some place) r clear is =
         subst Kept (same_Some (by_address place) passed is)
-        (both (are_apart w.place place) true (reached_kept path ty place r clear) refl)
+        (and_from (are_apart w.place place) true (reached_kept path ty place r clear) refl)
 
     read_by : (at : Place) (path : Path) (ty : Ty) (passed : ArgumentValue) (s : Option ScalarType) → scalar_in (out-Path path).ty ≡ s →
         copied_in_path (is_copied copies) path ≡ true → type_of_path my_site path ≡ Some ty →
@@ -282,7 +279,7 @@ module _ (structs : List StructDef) (units : List UnitDef) (entry : ℕ) (k : �
     read_by at path ty passed None is named typed clear h =
         whole_kept path ty passed (location_c (stands my_site path).place scope here).answer
         (places structs units entry k unit path ty view (is_copied copies) scope here keeps b.beside typed named)
-        (or_left (overlaps (static_of q) (static_of path)) false
+        (neither_first (overlaps (static_of q) (static_of path)) false
         (sym (ap (λ s. touches q (if is_none s then record { place = at; path = static_of path } ∷ [] else [])) is) ∙ clear))
         (sym (passes_address structs scope here (stands my_site path).place) ∙ h)
 
@@ -317,7 +314,7 @@ module _ (structs : List StructDef) (units : List UnitDef) (entry : ℕ) (k : �
             let var : Var = found.0 in
             let is = where_holds (is_activity unit.kind && (is_variable var.role && is_some (scalar_in var.ty))) (Some var.ty) ty found.2 in
             let there = some_there (scalar_in var.ty)
-            (and_right (is_variable var.role) (is_some (scalar_in var.ty)) (and_right (is_activity unit.kind) _ is.0)) in
+            (and_second (is_variable var.role) (is_some (scalar_in var.ty)) (and_second (is_activity unit.kind) _ is.0)) in
             (there.0, ap scalar_in (sym (same_Some var.ty ty is.1)) ∙ there.1)
     kept_by at (ExprKind-F.One op a) = scalar_kept (expr at (ExprKind-F.One op a)) (λ ty typed.
         let found = some_found (one_type op) (option_and_then scalar_in (type_of my_site a)) ty (rw (fold-roll-Expr, fold-roll-ExprKind) at typed) in
@@ -350,8 +347,8 @@ module _ (structs : List StructDef) (units : List UnitDef) (entry : ℕ) (k : �
         list_all (are_apart w.place) (xs ++ ys) ≡ true
     both_all [] ys h i = i
     both_all (x ∷ xs) ys h i =
-        both (are_apart w.place x) (list_all (are_apart w.place) (xs ++ ys)) (and_left (are_apart w.place x) (list_all (are_apart w.place) xs) h)
-        (both_all xs ys (and_right (are_apart w.place x) (list_all (are_apart w.place) xs) h) i)
+        and_from (are_apart w.place x) (list_all (are_apart w.place) (xs ++ ys)) (and_first (are_apart w.place x) (list_all (are_apart w.place) xs) h)
+        (both_all xs ys (and_second (are_apart w.place x) (list_all (are_apart w.place) xs) h) i)
 
     abbrev args_of : List Expr → List CArg
     args_of inputs = map arg_of (map (made_of my_site) inputs)
@@ -389,11 +386,11 @@ module _ (structs : List StructDef) (units : List UnitDef) (entry : ℕ) (k : �
         by again (Some ty) is (var ∷ vars) matched =
             subst Apart rest.2
             (both_all (place_in_arg found.0) (places_in_args rest.0)
-            (input_apart e ty found.0 is (and_left (copied_in (is_copied copies) e) (all_of (map (copied_in (is_copied copies)) inputs)) named)
-            (or_left (touches q (marked_input e)) (touches q (marked_inputs inputs)) split) found.1)
-            (again vars rest.0 (and_right (same_type ty var.ty) (types_match (map (type_of my_site) inputs) vars) matched)
-            (and_right (copied_in (is_copied copies) e) (all_of (map (copied_in (is_copied copies)) inputs)) named)
-            (or_right (touches q (marked_input e)) (touches q (marked_inputs inputs)) split) rest.1))
+            (input_apart e ty found.0 is (and_first (copied_in (is_copied copies) e) (all_of (map (copied_in (is_copied copies)) inputs)) named)
+            (neither_first (touches q (marked_input e)) (touches q (marked_inputs inputs)) split) found.1)
+            (again vars rest.0 (and_second (same_type ty var.ty) (types_match (map (type_of my_site) inputs) vars) matched)
+            (and_second (copied_in (is_copied copies) e) (all_of (map (copied_in (is_copied copies)) inputs)) named)
+            (neither_second (touches q (marked_input e)) (touches q (marked_inputs inputs)) split) rest.1))
 
   module _ (inputs : List Expr) (ins : List Var) (passed : List ArgumentValue) (matched : types_match (map (type_of my_site) inputs) ins ≡ true)
       (named : all_of (map (copied_in (is_copied copies)) inputs) ≡ true)
@@ -404,7 +401,7 @@ module _ (structs : List StructDef) (units : List UnitDef) (entry : ℕ) (k : �
     each_apart before [] (var ∷ vars) all clear = refl
     each_apart before (p ∷ paths) [] all clear = absurd all
     each_apart before (p ∷ paths) (var ∷ vars) all clear =
-        both (list_all (are_apart all.0.place) (places_in_args passed))
+        and_from (list_all (are_apart all.0.place) (places_in_args passed))
         (list_all (λ output. list_all (are_apart output) (places_in_args passed)) (all_places paths vars all.1))
         (inputs_kept p var all.0 inputs ins passed matched named clear.1 given) (each_apart (before ++ marked_path p ∷ []) paths vars all.1 clear.2)
 
@@ -414,7 +411,7 @@ module _ (structs : List StructDef) (units : List UnitDef) (entry : ℕ) (k : �
     each_live [] (var ∷ vars) all = refl
     each_live (p ∷ paths) [] all = absurd all
     each_live (p ∷ paths) (var ∷ vars) all =
-        both (is_live scope.depth all.0.place.root) (list_all (λ place. is_live scope.depth place.root) (all_places paths vars all.1))
+        and_from (is_live scope.depth all.0.place.root) (list_all (λ place. is_live scope.depth place.root) (all_places paths vars all.1))
         (ap (λ (place : Location). is_live scope.depth place.root) all.0.at ∙ b.beside.live.each (spot p).root all.0.leads.var all.0.leads.is_there)
         (each_live paths vars all.1)
 

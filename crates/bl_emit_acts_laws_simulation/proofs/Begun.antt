@@ -4,6 +4,8 @@ use Rattle.std.proofs.lemmas.Bool.{eq-eqb, eqb-true}
 use Rattle.std.proofs.lemmas.Option.{same_Some}
 use Rattle.std.specs.Prelude.{nat_eq, slice_get}
 use Rattle.std.specs.List.{list_any}
+use Rattle.std.proofs.lemmas.Bool.{or_left as or_first, or_right}
+use Rattle.bl_tree.proofs.Basics.{neither_first, neither_second}
 use Rattle.bl_tree.specs.declared.tree.Var.{Var}
 use Rattle.bl_tree.specs.declared.value.Value.{Value}
 use Rattle.bl_tree.specs.Typing.{TypingContext, is_activity, var_at}
@@ -20,19 +22,13 @@ use Rattle.bl_emit_acts_laws_simulation.proofs.Acts.{flipped}
 use Rattle.bl_emit_acts_laws_simulation.proofs.Calls.{apart_lies}
 use Rattle.bl_emit_acts_laws_simulation.proofs.Cells.{apart_flip, set_elsewhere}
 use Rattle.bl_emit_acts_laws_simulation.proofs.Evaluated.{place-location}
-use Rattle.bl_emit_acts_laws_simulation.proofs.Forks.{or_left, or_right}
-use Rattle.bl_emit_acts_laws_simulation.proofs.Outputs.{or_last}
 use Rattle.bl_emit_acts_laws_simulation.proofs.Parts.{holds_same}
 use Rattle.bl_emit_acts_laws_simulation.proofs.Places.{place_answer}
 use Rattle.bl_emit_acts_laws_simulation.proofs.Statements.{Ends, set_after, set_ends, then_ends}
 use Rattle.bl_emit_acts_laws_simulation.proofs.Values.{read_gives}
 use Rattle.bl_emit_acts_laws_simulation.proofs.Writes.{apart_same, same_object}
 
-or_first : (a b : Bool) → a ≡ true → (a || b) ≡ true
-or_first true b h = refl
-or_first false b h = absurd (cc)
-
-or_other : (a b : Bool) → (a || b) ≡ true → b ≡ false → a ≡ true
+pub or_other : (a b : Bool) → (a || b) ≡ true → b ≡ false → a ≡ true
 or_other true b h i = refl
 or_other false b h i = absurd (let no = sym h ∙ i in cc)
 
@@ -80,9 +76,9 @@ module _ (site : TypingContext) (copied : ℕ → Bool) (scope : Scope) (apart :
       ap (λ b. b || list_any (λ k. lies_in (copy_location scope site.vars k) (copy_location scope site.vars j).root
       ((copy_location scope site.vars j).parts ++ way)) ks)
       (apart_lies (copy_location scope site.vars k) (copy_location scope site.vars j) way
-      (apart.others k j found.0 var found.1 there found.2 has (flipped j k (or_left (nat_eq j k) (list_any (nat_eq j) ks) none))))
-      ∙ in_no_other j var there has way ks (λ i h. known i (or_last (nat_eq i k) (list_any (nat_eq i) ks) h))
-      (or_right (nat_eq j k) (list_any (nat_eq j) ks) none)
+      (apart.others k j found.0 var found.1 there found.2 has (flipped j k (neither_first (nat_eq j k) (list_any (nat_eq j) ks) none))))
+      ∙ in_no_other j var there has way ks (λ i h. known i (or_right (nat_eq i k) (list_any (nat_eq i) ks) h))
+      (neither_second (nat_eq j k) (list_any (nat_eq j) ks) none)
 
   module _ (j : ℕ) (ks : List ℕ) (known : Known ks) (has : copied j ≡ true) (m after : Memory) (variables : VariablesEncoded site now scope m)
       (rest : BegunWith site scope (copied_in m j) now ks after) where
@@ -110,10 +106,10 @@ module _ (site : TypingContext) (copied : ℕ → Bool) (scope : Scope) (apart :
       variables = rest.variables;
       copies = record { each = λ i var value h there stored. copy_there i (list_any (nat_eq i) ks) refl h var value there stored };
       kept = λ root way h.
-          rest.kept root way (or_right (lies_in (copy_location scope site.vars j) root way)
+          rest.kept root way (neither_second (lies_in (copy_location scope site.vars j) root way)
           (list_any (λ k. lies_in (copy_location scope site.vars k) root way) ks) h)
           ∙ set_elsewhere m (copy_location scope site.vars j) (value_at m (at j)) root way
-          (or_left (lies_in (copy_location scope site.vars j) root way) (list_any (λ k. lies_in (copy_location scope site.vars k) root way) ks) h);
+          (neither_first (lies_in (copy_location scope site.vars j) root way) (list_any (λ k. lies_in (copy_location scope site.vars k) root way) ks) h);
     }
 
   pub begun : (ks : List ℕ) (m : Memory) → VariablesEncoded site now scope m → Known ks →
@@ -128,7 +124,7 @@ module _ (site : TypingContext) (copied : ℕ → Bool) (scope : Scope) (apart :
   )
   begun (j ∷ ks) m variables known =
       let found = known j (or_first (nat_eq j j) (list_any (nat_eq j) ks) (eq-eqb j j refl)) in
-      let later : Known ks = λ k h. known k (or_last (nat_eq k j) (list_any (nat_eq k) ks) h) in
+      let later : Known ks = λ k h. known k (or_right (nat_eq k j) (list_any (nat_eq k) ks) h) in
       let next : Memory = copied_in m j in
       let rest = begun ks next (variables_stay j found.2 m variables) later in
       let after : Memory = (block_c (map (c_copied site) ks) scope next).memory in

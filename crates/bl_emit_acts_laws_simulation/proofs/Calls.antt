@@ -2,9 +2,8 @@
 use Rattle.std.proofs.Common.{◌≡◌, ℕ, ◌+◌, arith, Bool, true, false, ◌&&◌, ◌||◌, List, [], ◌∷◌, ◌++◌, map, take, Option}
 use Rattle.std.proofs.Common.{Some, None, refl, sym, ap, ap₂}
 use Rattle.std.proofs.Common.{◌∙◌, subst, IfSome}
-use Rattle.std.proofs.lemmas.Bool.{le-leb}
 use Rattle.std.proofs.lemmas.List.{append-nil}
-use Rattle.std.specs.Prelude.{is_some, not, nat_le, option_and_then, option_map, slice_get, unwrap_or}
+use Rattle.std.specs.Prelude.{is_some, not, option_and_then, option_map, slice_get, unwrap_or}
 use Rattle.std.specs.List.{list_any}
 use Rattle.bl_tree.specs.declared.text.Text.{Text}
 use Rattle.bl_tree.specs.declared.c.CArg.{CArg}
@@ -29,8 +28,9 @@ use Rattle.bl_eval.proofs.ExprFits.{CalleeFits, LeftFits, Sound, callee_at, expr
 use Rattle.bl_eval.proofs.MeaningLemmas.{values_append}
 use Rattle.bl_eval.proofs.PartFits.{Fits}
 use Rattle.bl_eval.proofs.PartLemmas.{put_at_is}
-use Rattle.bl_eval.proofs.PassLemmas.{and_left, and_right, pass_append, pass_at}
+use Rattle.bl_eval.proofs.PassLemmas.{pass_append, pass_at}
 use Rattle.std.proofs.Math.Seq.{take-add}
+use Rattle.bl_tree.proofs.Basics.{and_first, and_second, at_most_self_test}
 use Rattle.bl_eval.proofs.UnitFits.{sound_at}
 use Rattle.bl_ctext_semantics.specs.Course.{Outcome}
 use Rattle.bl_ctext_semantics.specs.Memory.{Location, Memory, Projection, Root, left_after, same_root, set_at, value_at}
@@ -48,7 +48,7 @@ use Rattle.bl_emit_acts_laws_simulation.proofs.Arguments.{ArgsShow, own_name, pa
 use Rattle.bl_emit_acts_laws_simulation.proofs.Cells.{lies_inside, set_elsewhere, set_inside}
 use Rattle.bl_emit_acts_laws_simulation.proofs.Evaluated.{call-does, passes}
 use Rattle.bl_emit_acts_laws_simulation.proofs.Expressions.{callee_there, inputs_shown, made_shows}
-use Rattle.bl_emit_acts_laws_simulation.proofs.Outputs.{OutputAt, OutputsAt, outputs_at, outputs_fit, outputs_hold, outputs_read, pass_outputs, places_at, values_at}
+use Rattle.bl_emit_acts_laws_simulation.proofs.Outputs.{OutputsAt, outputs_at, outputs_fit, outputs_hold, outputs_read, pass_outputs, places_at, values_at}
 use Rattle.bl_emit_acts_laws_simulation.proofs.Parts.{holds_same}
 use Rattle.bl_emit_acts_laws_simulation.proofs.Places.{listed-answer}
 use Rattle.bl_emit_acts_laws_simulation.proofs.Statements.{Ends, call_after, call_ends, one_ends}
@@ -64,9 +64,6 @@ apart_lies p q way h = by (same_root p.root q.root) h
     by false h = refl
     by true h =
         ap is_some (ap (λ front. left_after front (q.parts ++ way)) (sym (append-nil p.parts)) ∙ left_apart p.parts q.parts [] way h)
-
-pub number_itself : (n : ℕ) → nat_le n n ≡ true
-number_itself n = le-leb n n (omega arith)
 
 -- memory once each of these places has what another memory has there
 abbrev set_all : Memory → Memory → List Location → Memory
@@ -102,9 +99,6 @@ module _ (structs : List StructDef) (units : List UnitDef) (entry : ℕ) (k : �
 
   abbrev copied : ℕ → Bool
   copied = is_copied copies
-
-  abbrev Output : Path → Var → Type 0
-  Output = OutputAt structs units entry k unit view copies scope here keeps b
 
   abbrev Outputs : List Path → List Var → Type 0
   Outputs = OutputsAt structs units entry k unit view copies scope here keeps b
@@ -194,7 +188,7 @@ module _ (structs : List StructDef) (units : List UnitDef) (entry : ℕ) (k : �
         ∙ ap (option_map (λ found. with_element_at root o.leads.ks new now)) read in
         let whole : option_and_then (λ positions. put_at root positions new now) ((spot path).positions view) ≡ Some made =
         ap (option_and_then (λ positions. put_at root positions new now)) o.leads.positions ∙ put in
-        let one : Fits structs var.ty new = and_left (value_fits structs var.ty new) (values_fit structs vars news) fit in
+        let one : Fits structs var.ty new = and_first (value_fits structs var.ty new) (values_fit structs vars news) fit in
         let made_fits : values_fit structs unit.vars made ≡ true =
         subst (λ made. IfSome made (λ made. values_fit structs unit.vars made ≡ true)) whole
         (spot_put structs unit.vars view var.ty (spot path) new now o.path_fits one fits) in
@@ -214,7 +208,7 @@ module _ (structs : List StructDef) (units : List UnitDef) (entry : ℕ) (k : �
         subst (λ now. VariablesEncoded my_site (put_all (map spot paths) news view now) scope
         (set_all after (set_at m o.place (value_at after o.place)) (all_places paths vars all.1)))
         (sym (ap (λ made. unwrap_or made now) whole))
-        (puts_hold paths vars all.1 news hold.1 (and_right (value_fits structs var.ty new) (values_fit structs vars news) fit) made
+        (puts_hold paths vars all.1 news hold.1 (and_second (value_fits structs var.ty new) (values_fit structs vars news) fit) made
         (set_at m o.place (value_at after o.place)) made_fits next)
 
     -- what lies in no variable that may be written lies in no output
@@ -255,7 +249,7 @@ module _ (structs : List StructDef) (units : List UnitDef) (entry : ℕ) (k : �
             each = λ j var value copied_j there stored.
                 let at = copy_location scope my_site.vars j in
                 holds_same structs var.ty value (value_at here at) (value_at after at)
-                (λ way. sym (kept at.root (at.parts ++ way) (number_itself scope.depth)
+                (λ way. sym (kept at.root (at.parts ++ way) (at_most_self_test scope.depth)
                 (outside at.root (at.parts ++ way)
                 (λ i other known writable. apart_lies (location_in scope my_site i []) at way (b.copies_apart.variables i j other known copied_j))
                 paths vars all)))
@@ -381,11 +375,11 @@ module _ (structs : List StructDef) (units : List UnitDef) (entry : ℕ) (k : �
       (block_c (c_calling (call_made my_site f inputs paths) ∷ []) scope here)
   called_comes f inputs paths None there fitted named path_named none = absurd (cc)
   called_comes f inputs paths (Some callee) there fitted named path_named none =
-      let procedure = and_left (is_procedure callee) (arguments_fit my_site inputs paths callee) fitted in
-      let fitting = and_right (is_procedure callee) (arguments_fit my_site inputs paths callee) fitted in
-      let ins : types_match (map (type_of my_site) inputs) (inputs_of callee) ≡ true = and_left _ _ fitting in
-      let outs : types_match (map (type_of_path my_site) paths) (outputs_of callee) ≡ true = and_left _ _ (and_right _ _ fitting) in
-      let outlets : all_of (map (is_outlet my_site) paths) ≡ true = and_right _ _ (and_right _ _ fitting) in
+      let procedure = and_first (is_procedure callee) (arguments_fit my_site inputs paths callee) fitted in
+      let fitting = and_second (is_procedure callee) (arguments_fit my_site inputs paths callee) fitted in
+      let ins : types_match (map (type_of my_site) inputs) (inputs_of callee) ≡ true = and_first _ _ fitting in
+      let outs : types_match (map (type_of_path my_site) paths) (outputs_of callee) ≡ true = and_first _ _ (and_second _ _ fitting) in
+      let outlets : all_of (map (is_outlet my_site) paths) ≡ true = and_second _ _ (and_second _ _ fitting) in
       let means = callee_there structs (take k units) my_callees f callee sound.callees_fit there in
       call_comes f inputs paths callee there means.0 means.1 procedure ins
       (outputs_at structs units entry k unit view copies scope here keeps b paths (outputs_of callee) outs outlets path_named) named none

@@ -7,36 +7,15 @@ use Rattle.std.proofs.lemmas.List.{append-nil, append_assoc}
 use Rattle.std.proofs.lemmas.Option.{same_Some}
 use Rattle.std.proofs.lemmas.Slice.Eq.{bytes_eq-Decides}
 use Rattle.std.specs.Prelude.{bytes_eq, is_some, ◌==◌, if◌then◌else◌}
+use Rattle.std.proofs.lemmas.Bool.{and_parts}
 use Rattle.bl_tree.specs.Typing.{TypingContext, is_activity}
 use Rattle.bl_ctext_semantics.specs.Meaning.{Scope}
-use Rattle.bl_ctext_semantics.specs.Memory.{
-  CValue,
-  Location,
-  Memory,
-  Projection,
-  Root,
-  element,
-  input_object,
-  left_after,
-  member,
-  number_or,
-  output_object,
-  same_part,
-  same_root,
-  set_at,
-  state_object,
-  value_at,
-  variable,
-  with_part,
-}
+use Rattle.bl_ctext_semantics.specs.Memory.{CValue, Location, Memory, Projection, Root, element, input_object, left_after, member, number_or, output_object}
+use Rattle.bl_ctext_semantics.specs.Memory.{same_part, same_root, set_at, state_object, value_at, variable, with_part}
 use Rattle.bl_emit_acts_laws_simulation.specs.Acts.{lies_in}
 use Rattle.bl_emit_acts_laws_simulation.specs.Encodes.{are_apart, home_at, lead_in, location_in, start_in, ways_part}
 
 -- ---- tests of parts and roots are of equality
-
-pub and_both : (a b : Bool) → (a && b) ≡ true → (a ≡ true) × (b ≡ true)
-and_both true b h = (refl, h)
-and_both false b h = absurd (cc)
 
 part_is : (p q : Projection) → same_part p q ≡ true → p ≡ q
 part_is (member m) (member n) h = ap member ((bytes_eq-Decides m n).0 h)
@@ -49,7 +28,7 @@ root_is state_object state_object h = refl
 root_is input_object input_object h = refl
 root_is output_object output_object h = refl
 root_is (variable d m) (variable e n) h =
-    let found = and_both (d == e) (bytes_eq m n) h in ap₂ variable (eqb-true d e found.0) ((bytes_eq-Decides m n).0 found.1)
+    let found = and_parts (d == e) (bytes_eq m n) h in ap₂ variable (eqb-true d e found.0) ((bytes_eq-Decides m n).0 found.1)
 root_is state_object input_object h = absurd (cc)
 root_is state_object output_object h = absurd (cc)
 root_is state_object (variable e n) h = absurd (cc)
@@ -63,7 +42,7 @@ root_is (variable d m) state_object h = absurd (cc)
 root_is (variable d m) input_object h = absurd (cc)
 root_is (variable d m) output_object h = absurd (cc)
 
-same_number_flip : (j k : ℕ) → (j == k) ≡ (k == j)
+pub same_number_flip : (j k : ℕ) → (j == k) ≡ (k == j)
 same_number_flip j k = by (j == k) (k == j) refl refl
   where
     no_such : true ≡ false → ⊥
@@ -75,7 +54,7 @@ same_number_flip j k = by (j == k) (k == j) refl refl
     by true false h i = absurd (no_such (sym (eq-eqb k j (sym (eqb-true j k h))) ∙ i))
     by false true h i = absurd (no_such (sym (eq-eqb j k (sym (eqb-true k j i))) ∙ h))
 
-part_flip : (p q : Projection) → same_part p q ≡ same_part q p
+pub part_flip : (p q : Projection) → same_part p q ≡ same_part q p
 part_flip (member m) (member n) = nat_list_eq_equiv.symm m n
 part_flip (element j) (element k) = same_number_flip j k
 part_flip (member m) (element k) = refl
@@ -129,7 +108,7 @@ location_along scope site k way =
     let lead = lead_in (home_at site k) site.vars k in
     ap (λ front. start.parts ++ (front ++ way)) (sym (append-nil lead)) ∙ sym (append_assoc start.parts (lead ++ []) way)
 
-or_split : (same a b : Bool) → (a ≡ true → b ≡ true) → (not same || a) ≡ true → (not same || b) ≡ true
+pub or_split : (same a b : Bool) → (a ≡ true → b ≡ true) → (not same || a) ≡ true → (not same || b) ≡ true
 or_split true a b next h = next h
 or_split false a b next h = refl
 
@@ -141,7 +120,7 @@ apart_inside scope site k way other h =
     or_split (same_root base.root other.root) (ways_part base.parts other.parts) (ways_part (location_in scope site k way).parts other.parts)
     (λ h. ap (λ parts. ways_part parts other.parts) (location_along scope site k way) ∙ ways_further base.parts other.parts way h) h
 
-after_further : (ps more way : List Projection) → is_some (left_after ps way) ≡ false → is_some (left_after (ps ++ more) way) ≡ false
+pub after_further : (ps more way : List Projection) → is_some (left_after ps way) ≡ false → is_some (left_after (ps ++ more) way) ≡ false
 after_further [] more way h = absurd (cc)
 after_further (p ∷ ps) more [] h = refl
 after_further (p ∷ ps) more (q ∷ way) h = by (same_part p q) (after_further ps more way) h

@@ -1,7 +1,7 @@
 -- What the parts of made C texts come to.
-use Rattle.std.proofs.Common.{◌≡◌, ℕ, ℤ, pos, Bool, List, [], ◌∷◌, map, Option, Some, None, refl, ap}
+use Rattle.std.proofs.Common.{◌≡◌, ℕ, ℤ, pos, Bool, List, [], ◌∷◌, map, Some, refl, ap}
 use Rattle.std.proofs.Common.{◌∙◌, subst}
-use Rattle.std.specs.Prelude.{option_and_then, option_map}
+use Rattle.std.specs.Prelude.{option_map}
 use Rattle.bl_tree.specs.declared.text.Text.{Text}
 use Rattle.bl_tree.specs.declared.scalar.Op.{Op}
 use Rattle.bl_tree.specs.declared.scalar.Op.TheVariants.{Not}
@@ -18,35 +18,9 @@ use Rattle.bl_tree.specs.declared.c.CExprKind.{CExprKind, CExprKind-F, fold-roll
 use Rattle.bl_tree.specs.declared.c.CExprKind.TheVariants as expression
 use Rattle.bl_tree.specs.Numbers.{checked_one_of}
 use Rattle.bl_ctext_semantics.specs.Memory.{Projection, member, Location, CValue, Memory, scalar, scalar_number, value_at}
-use Rattle.bl_ctext_semantics.specs.Meaning.{
-  Counted,
-  Evaluates,
-  given,
-  next,
-  ArgumentValue,
-  by_value,
-  by_address,
-  CallResult,
-  Scope,
-  called_after,
-  result_of,
-  value_c,
-  location_c,
-  call_c,
-  each_of,
-  element_projection,
-  further,
-  named_location,
-  two_values,
-  way_of,
-  arg_step,
-  kind_step,
-  call_step,
-  expr_step,
-  index_step,
-  place_step,
-  step_step,
-}
+use Rattle.bl_ctext_semantics.specs.Meaning.{Counted, Evaluates, given, next, ArgumentValue, by_value, by_address, CallResult, Scope, called_after, result_of}
+use Rattle.bl_ctext_semantics.specs.Meaning.{value_c, location_c, call_c, each_of, element_projection, further, named_location, two_values, way_of, arg_step}
+use Rattle.bl_ctext_semantics.specs.Meaning.{kind_step, call_step, expr_step, index_step, place_step, step_step}
 use Rattle.bl_ctext_semantics.specs.Builtin.{index_within}
 use Rattle.bl_emit_acts.specs.Trees.{nowhere, c_call, c_called, c_element, c_index, c_literal, c_not, c_place, c_read, c_step, c_two}
 
@@ -64,15 +38,6 @@ passes = fold-CArg (Evaluates ArgumentValue) (Evaluates CValue) (Scope → Memor
     (Evaluates Location) (Evaluates (List Projection)) arg_step kind_step call_step expr_step index_step place_step step_step
 
 -- ---- answers
-
--- an answer after another
-pub next-answer : {A B : Type 0} (first : Counted A) (rest : A → Counted B) →
-    (next first rest).answer ≡ option_and_then (λ a. (rest a).answer) first.answer
-next-answer {A = A} {B = B} first rest = by first.count first.answer
-  where
-    by : (n : ℕ) (o : Option A) → (next (record { count = n; answer = o }) rest).answer ≡ option_and_then (λ a. (rest a).answer) o
-    by n None = refl
-    by n (Some a) = refl
 
 module _ (scope : Scope) (memory : Memory) where
   -- ---- expressions

@@ -6,6 +6,7 @@ use Rattle.std.proofs.lemmas.List.Elements.{All-head, All-tail}
 use Rattle.std.proofs.lemmas.Option.{same_Some}
 use Rattle.std.specs.Prelude.{All, is_some, nat_eq, option_and_then, option_map, slice_get, unwrap_or, if◌then◌else◌}
 use Rattle.std.specs.List.{AllZip}
+use Rattle.bl_tree.proofs.Basics.{and_first, and_second}
 use Rattle.bl_tree.specs.declared.c.CArg.{CArg}
 use Rattle.bl_tree.specs.declared.c.CExpr.{CExpr}
 use Rattle.bl_tree.specs.declared.c.CPlace.{CPlace}
@@ -36,51 +37,19 @@ use Rattle.bl_eval.specs.declared.datum.Datum.{Datum}
 use Rattle.bl_eval.specs.declared.datum.Datum.TheVariants.{Scalar as OfScalar, Whole as OfWhole}
 use Rattle.bl_eval.specs.Changes.{part_of_path}
 use Rattle.bl_eval.specs.Functions.{scope_among}
-use Rattle.bl_eval.specs.Meaning.{
-  Callee,
-  Scope as Sees,
-  PathMeaning,
-  View,
-  call_datum,
-  cast_datum,
-  datum_of,
-  level_datum,
-  meaning_of,
-  one_datum,
-  operand,
-  operand_in,
-  position_in,
-  positions_of,
-  read_at,
-  reading,
-  scalar_of,
-  path_meaning_of,
-  two_datum,
-  values_of,
-}
+use Rattle.bl_eval.specs.Meaning.{Callee, Scope as Sees, PathMeaning, View, call_datum, cast_datum, datum_of, level_datum, meaning_of, one_datum, operand}
+use Rattle.bl_eval.specs.Meaning.{operand_in, position_in, positions_of, read_at, reading, scalar_of, path_meaning_of, two_datum, values_of}
 use Rattle.bl_eval.specs.Values.{number_at as number_level, position_of, value_at, value_fits, values_fit}
 use Rattle.bl_eval.proofs.ExprFits.{CalleeFits, GivesFit, Sound, SpotFits, expr_fits, match_fits, spot_fits}
 use Rattle.bl_eval.proofs.FitLemmas.{same_scalar_is, same_type_is}
 use Rattle.bl_eval.proofs.OperatorFits.{DatumFits, datum_fits, some_found, where_holds}
 use Rattle.bl_eval.proofs.PartFits.{Fits, Leads as LeadsIn, if_then, read_fits, type_of_part}
-use Rattle.bl_eval.proofs.PassLemmas.{and_left, and_right, pass_at}
+use Rattle.bl_eval.proofs.PassLemmas.{pass_at}
 use Rattle.bl_ctext_semantics.specs.Builtin.{index_within}
 use Rattle.bl_ctext_semantics.specs.Memory.{CValue, Location, Memory, member}
 use Rattle.bl_ctext_semantics.specs.Memory as memory
-use Rattle.bl_ctext_semantics.specs.Meaning.{
-  ArgumentValue,
-  Counted,
-  Scope,
-  applied,
-  each_of,
-  element_projection as element_part,
-  further,
-  given,
-  location_c,
-  named_location,
-  next,
-  value_c,
-}
+use Rattle.bl_ctext_semantics.specs.Meaning.{ArgumentValue, Counted, Scope, applied, each_of, element_projection as element_part, further, given, location_c}
+use Rattle.bl_ctext_semantics.specs.Meaning.{named_location, next, value_c}
 use Rattle.bl_emit_acts.specs.declared.made.Made.{Made}
 use Rattle.bl_emit_acts.specs.declared.made.Made.TheVariants.{Number}
 use Rattle.bl_emit_acts.specs.Expressions.{arg_of, c_both, c_cast, c_one, code_of, length_in, made_at, made_call, made_of, scalar_at, stands, step_typing}
@@ -268,7 +237,7 @@ module _ (structs : List StructDef) (earlier : List UnitDef) (unit : UnitDef) (c
       let var : Var = found.0 in
       let is = where_holds (is_activity unit.kind && (is_variable var.role && is_some (scalar_in var.ty))) (Some var.ty) ty found.2 in
       let same : var.ty ≡ ty = same_Some var.ty ty is.1 in
-      let scalar_there = and_right (is_variable var.role) (is_some (scalar_in var.ty)) (and_right (is_activity unit.kind) _ is.0) in
+      let scalar_there = and_second (is_variable var.role) (is_some (scalar_in var.ty)) (and_second (is_activity unit.kind) _ is.0) in
       let stored = pass_at (λ (var : Var). value_fits structs var.ty) unit.vars view.before k var before_fits found.1 in
       let holds : Encodes structs var.ty stored.0 (memory.value_at here (named_location scope false (copy_name site.vars k))) =
       copies.each k var stored.0 copied_k found.1 stored.1 in
@@ -331,10 +300,10 @@ module _ (structs : List StructDef) (earlier : List UnitDef) (unit : UnitDef) (c
       let s : ScalarType = found.0 in
       let right = some_found (two_type op s) (option_and_then scalar_in (type_of site b)) ty found.2 in
       let is = where_holds (same_scalar s right.0 && takes_two op s) (Some (scalar (type_of_result op s))) ty right.2 in
-      let same : s ≡ right.0 = same_scalar_is s right.0 (and_left (same_scalar s right.0) (takes_two op s) is.0) in
+      let same : s ≡ right.0 = same_scalar_is s right.0 (and_first (same_scalar s right.0) (takes_two op s) is.0) in
       let all : (copied_in copied a && copied_in copied b) ≡ true = rw (fold-roll-Expr, fold-roll-ExprKind) at copies_named in
-      let o = operands a s shown (and_left (copied_in copied a) (copied_in copied b) all) found.1 in
-      let p = operands b s other (and_right (copied_in copied a) (copied_in copied b) all) (right.1 ∙ ap Some (sym same)) in
+      let o = operands a s shown (and_first (copied_in copied a) (copied_in copied b) all) found.1 in
+      let p = operands b s other (and_second (copied_in copied a) (copied_in copied b) all) (right.1 ∙ ap Some (sym same)) in
       shows_as ty (made_of site (expr place (ExprKind-F.Two op a b)))
       (c_both op (type_made (made_of site a)) (code_of (made_of site a)) (code_of (made_of site b)))
       (meaning_of sees (expr place (ExprKind-F.Two op a b)) view)
@@ -345,7 +314,7 @@ module _ (structs : List StructDef) (earlier : List UnitDef) (unit : UnitDef) (c
       (sym o.type_is)
       (both_shows structs scope here s (code_of (made_of site a)) (code_of (made_of site b)) (meaning_of sees a view)
       (meaning_of sees b view) o.known p.known op
-      ty (and_right (same_scalar s right.0) (takes_two op s) is.0) (sym (same_Some (scalar (type_of_result op s)) ty is.1))))
+      ty (and_second (same_scalar s right.0) (takes_two op s) is.0) (sym (same_Some (scalar (type_of_result op s)) ty is.1))))
 
   cast_shown : (place : Place) (target : ScalarType) (a : Expr) → P a → P (expr place (ExprKind-F.Cast target a))
   cast_shown place target a shown copies_named ty typed =
@@ -359,7 +328,7 @@ module _ (structs : List StructDef) (earlier : List UnitDef) (unit : UnitDef) (c
       (rw (fold-roll-Expr, fold-roll-ExprKind) refl) (rw (fold-roll-Expr, fold-roll-ExprKind) refl)
       (subst (λ s. ExpressionSimulates structs ty scope here (Number target (c_cast s target (code_of (made_of site a))))
       (option_and_then (cast_datum target) (operand (meaning_of sees a) view))) (sym o.type_is)
-      (cast_shows structs scope here s target ty (code_of (made_of site a)) (meaning_of sees a view) (and_left (is_whole target) (is_whole s) is.0)
+      (cast_shows structs scope here s target ty (code_of (made_of site a)) (meaning_of sees a view) (and_first (is_whole target) (is_whole s) is.0)
       (sym (same_Some (scalar target) ty is.1)) o.known))
 
   -- ---- calls
@@ -377,20 +346,20 @@ module _ (structs : List StructDef) (earlier : List UnitDef) (unit : UnitDef) (c
   first_input e inputs shown all more (Some t) is [] typed = absurd (cc)
   first_input e inputs shown all more None is (var ∷ vars) typed = absurd (cc)
   first_input e inputs shown all more (Some t) is (var ∷ vars) typed =
-      let same : t ≡ var.ty = same_type_is t var.ty (and_left (same_type t var.ty) (types_match (map (type_of site) inputs) vars) typed) in
+      let same : t ≡ var.ty = same_type_is t var.ty (and_first (same_type t var.ty) (types_match (map (type_of site) inputs) vars) typed) in
       let is' : type_of site e ≡ Some var.ty = is ∙ ap Some same in
-      let one = shown (and_left (copied_in copied e) (all_of (map (copied_in copied) inputs)) all) var.ty is' in
+      let one = shown (and_first (copied_in copied e) (all_of (map (copied_in copied) inputs)) all) var.ty is' in
       args_show structs scope here var vars (arg_of (made_of site e)) (map arg_of (map (made_of site) inputs)) (meaning_of sees e view)
       (values_of (map (meaning_of sees) inputs) view)
       (arg_shows structs scope here var.ty (made_of site e) (meaning_of sees e view) one (fits_of e var.ty is'))
-      (more vars (and_right (same_type t var.ty) (types_match (map (type_of site) inputs) vars) typed))
+      (more vars (and_second (same_type t var.ty) (types_match (map (type_of site) inputs) vars) typed))
 
   pub inputs_shown : (inputs : List Expr) → All P inputs → all_of (map (copied_in copied) inputs) ≡ true → InputsShown inputs
   inputs_shown [] each all [] typed = tt
   inputs_shown [] each all (var ∷ vars) typed = absurd (cc)
   inputs_shown (e ∷ inputs) each all vars typed =
       first_input e inputs (All-head P e inputs each) all
-      (λ vars typed. inputs_shown inputs (All-tail P e inputs each) (and_right (copied_in copied e) (all_of (map (copied_in copied) inputs)) all) vars typed)
+      (λ vars typed. inputs_shown inputs (All-tail P e inputs each) (and_second (copied_in copied e) (all_of (map (copied_in copied) inputs)) all) vars typed)
       (type_of site e) refl vars typed
 
   module _ (f : ℕ) (callee : UnitDef) (means : Callee) (s : ScalarType) (there : slice_get earlier f ≡ Some callee)
@@ -415,11 +384,11 @@ module _ (structs : List StructDef) (earlier : List UnitDef) (unit : UnitDef) (c
       let callee : UnitDef = found.0 in
       let shape : Bool = nat_eq callee.outputs 0 && types_match (map (type_of site) inputs) (inputs_of callee) in
       let is = where_holds (is_function callee.kind && shape) (option_map scalar callee.result) ty found.2 in
-      let fitting : shape ≡ true = and_right (is_function callee.kind) shape is.0 in
+      let fitting : shape ≡ true = and_second (is_function callee.kind) shape is.0 in
       let none : callee.outputs ≡ 0 = eqb-true callee.outputs 0
-      (and_left (nat_eq callee.outputs 0) (types_match (map (type_of site) inputs) (inputs_of callee)) fitting) in
+      (and_first (nat_eq callee.outputs 0) (types_match (map (type_of site) inputs) (inputs_of callee)) fitting) in
       let matched : types_match (map (type_of site) inputs) (inputs_of callee) ≡ true =
-      and_right (nat_eq callee.outputs 0) (types_match (map (type_of site) inputs) (inputs_of callee)) fitting in
+      and_second (nat_eq callee.outputs 0) (types_match (map (type_of site) inputs) (inputs_of callee)) fitting in
       let result = result_there callee.result is.1 in
       let means = callee_there structs earlier callees f callee sound.callees_fit found.1 in
       let args : List CArg = map arg_of (map (made_of site) inputs) in
@@ -431,7 +400,7 @@ module _ (structs : List StructDef) (earlier : List UnitDef) (unit : UnitDef) (c
       (option_and_then (call_datum (values_of (map (meaning_of sees) inputs) view)) at)) (sym means.1) (
         scalar_type ty (unwrap_or callee.result OfBool) (sym result.2 ∙ ap (λ o. scalar (unwrap_or o OfBool)) (sym result.1)),
         call_gives structs scope here callee.name args
-            ∙ returned_by f callee means.0 result.0 found.1 means.1 (and_left (is_function callee.kind) shape is.0) none result.1
+            ∙ returned_by f callee means.0 result.0 found.1 means.1 (and_first (is_function callee.kind) shape is.0) none result.1
             (pass_all structs scope here args).answer (values_of (map (meaning_of sees) inputs) view) shown fit,
       ))
     where
@@ -549,12 +518,12 @@ module _ (structs : List StructDef) (earlier : List UnitDef) (unit : UnitDef) (c
       let found = some_found (after_parts (map (type_of_part site) rest)) (type_of_part site part a) b typed in
       let c : Ty = found.0 in
       let one = part_shows part a c (All-head (λ part. OfIndex P (out-Part part)) part rest each)
-      (and_left (copied_in_part copied part) (all_of (map (copied_in_part copied) rest)) all) found.1 in
+      (and_first (copied_in_part copied part) (all_of (map (copied_in_part copied) rest)) all) found.1 in
       let more : (inner : Value) → Fits structs c inner →
       ManySteps structs c b inner (walk_of rest (step_typing site part (Some a)).ty) (positions_of (map (part_of_path sees) rest) view) =
       λ inner fits. subst (λ ty. ManySteps structs c b inner (walk_of rest ty) (positions_of (map (part_of_path sees) rest) view)) (sym one.1)
       (parts_show rest (All-tail (λ part. OfIndex P (out-Part part)) part rest each)
-      (and_right (copied_in_part copied part) (all_of (map (copied_in_part copied) rest)) all) c b found.2 inner fits) in
+      (and_second (copied_in_part copied part) (all_of (map (copied_in_part copied) rest)) all) c b found.2 inner fits) in
       subst (λ o. ManySteps structs a b value o (positions_of (map (part_of_path sees) (part ∷ rest)) view))
       (sym (listed-answer (ways (step_typing site part (Some a)).step scope here)
       (each_of (map ways (steps_of (map (step_typing site) rest) (step_typing site part (Some a)).ty)) scope here)))

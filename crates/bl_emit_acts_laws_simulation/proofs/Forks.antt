@@ -2,10 +2,11 @@
 use Rattle.std.proofs.Common.{◌≡◌, ℕ, zero, suc, ◌+◌, ◌<◌, ◌≤◌, Bool, true, false, not, ◌||◌, List, [], ◌∷◌, Some, refl, sym}
 use Rattle.std.proofs.Common.{ap, ◌∙◌, subst}
 use Rattle.std.proofs.lemmas.Bool.{eq-eqb, eqb-true, ltb-false, ltb-true}
-use Rattle.std.proofs.lemmas.Cmp.{nat_list_eq_equiv}
 use Rattle.std.proofs.lemmas.Option.{none-some, same_Some, slice_get-map}
 use Rattle.std.specs.Prelude.{bytes_eq, nat_eq, nat_lt, option_and_then, option_map, slice_get, ◌==◌}
 use Rattle.std.specs.List.{list_any}
+use Rattle.std.proofs.lemmas.Bool.{not-true}
+use Rattle.bl_tree.proofs.Basics.{and_first, and_second, bytes_differ_swap, neither_first, neither_second}
 use Rattle.bl_tree.specs.declared.tree.Field.{Field}
 use Rattle.bl_tree.specs.declared.tree.StructDef.{StructDef}
 use Rattle.bl_tree.specs.declared.tree.Ty.{Ty, out-Ty}
@@ -16,7 +17,6 @@ use Rattle.bl_tree.specs.Words.{are_distinct}
 use Rattle.bl_eval.specs.Values.{part_of}
 use Rattle.bl_eval.proofs.OperatorFits.{some_found}
 use Rattle.bl_eval.proofs.PartFits.{Fits}
-use Rattle.bl_eval.proofs.PassLemmas.{and_left, and_right}
 use Rattle.bl_ctext_semantics.specs.Memory.{element, member}
 use Rattle.bl_emit_acts.specs.Expressions.{field_of_struct, name_of_field}
 use Rattle.bl_emit_acts.specs.Types.{elements_name, field_name}
@@ -55,29 +55,14 @@ module _ (structs : List StructDef) (stand : structs_stand_from 0 structs ≡ tr
 
 -- ---- names of fields differ
 
-pub or_left : (a b : Bool) → (a || b) ≡ false → a ≡ false
-or_left false b h = refl
-or_left true b h = absurd (cc)
-
-pub or_right : (a b : Bool) → (a || b) ≡ false → b ≡ false
-or_right false b h = h
-or_right true b h = absurd (cc)
-
-not_true : (a : Bool) → not a ≡ true → a ≡ false
-not_true false h = refl
-not_true true h = absurd (cc)
-
-among_at : (text : List ℕ) (names : List (List ℕ)) (k : ℕ) (name : List ℕ) → list_any (bytes_eq text) names ≡ false → slice_get names k
+pub among_at : (text : List ℕ) (names : List (List ℕ)) (k : ℕ) (name : List ℕ) → list_any (bytes_eq text) names ≡ false → slice_get names k
     ≡ Some name →
     bytes_eq text name ≡ false
 among_at text [] k name h there = absurd (cc)
 among_at text (first ∷ names) zero name h there =
-    ap (bytes_eq text) (sym (same_Some first name there)) ∙ or_left (bytes_eq text first) (list_any (bytes_eq text) names) h
+    ap (bytes_eq text) (sym (same_Some first name there)) ∙ neither_first (bytes_eq text first) (list_any (bytes_eq text) names) h
 among_at text (first ∷ names) (suc k) name h there =
-    among_at text names k name (or_right (bytes_eq text first) (list_any (bytes_eq text) names) h) there
-
-other_way : (a b : List ℕ) → bytes_eq a b ≡ false → bytes_eq b a ≡ false
-other_way a b h = nat_list_eq_equiv.symm b a ∙ h
+    among_at text names k name (neither_second (bytes_eq text first) (list_any (bytes_eq text) names) h) there
 
 -- names at different positions differ
 pub differ_at : (names : List (List ℕ)) (j k : ℕ) (a b : List ℕ) → are_distinct names ≡ true → slice_get names j ≡ Some a → slice_get names k
@@ -86,22 +71,22 @@ pub differ_at : (names : List (List ℕ)) (j k : ℕ) (a b : List ℕ) → are_d
 differ_at [] j k a b h i l other = absurd (cc)
 differ_at (first ∷ names) zero zero a b h i l other = absurd (cc)
 differ_at (first ∷ names) zero (suc k) a b h i l other =
-    let front : list_any (bytes_eq first) names ≡ false = not_true (list_any (bytes_eq first) names) (and_left _ _ h) in
-    other_way a b (ap (λ a. bytes_eq a b) (sym (same_Some first a i)) ∙ among_at first names k b front l)
+    let front : list_any (bytes_eq first) names ≡ false = not-true (list_any (bytes_eq first) names) (and_first _ _ h) in
+    bytes_differ_swap a b (ap (λ a. bytes_eq a b) (sym (same_Some first a i)) ∙ among_at first names k b front l)
 differ_at (first ∷ names) (suc j) zero a b h i l other =
-    let front : list_any (bytes_eq first) names ≡ false = not_true (list_any (bytes_eq first) names) (and_left _ _ h) in
+    let front : list_any (bytes_eq first) names ≡ false = not-true (list_any (bytes_eq first) names) (and_first _ _ h) in
     ap (λ b. bytes_eq b a) (sym (same_Some first b l)) ∙ among_at first names j a front i
-differ_at (first ∷ names) (suc j) (suc k) a b h i l other = differ_at names j k a b (and_right _ _ h) i l (unequal_before j k other)
+differ_at (first ∷ names) (suc j) (suc k) a b h i l other = differ_at names j k a b (and_second _ _ h) i l (unequal_before j k other)
 
-distinct_from : (structs : List StructDef) (before s : ℕ) (def : StructDef) → structs_stand_from before structs ≡ true → slice_get structs s
+pub distinct_from : (structs : List StructDef) (before s : ℕ) (def : StructDef) → structs_stand_from before structs ≡ true → slice_get structs s
     ≡ Some def →
     are_distinct (field_names def) ≡ true
 distinct_from [] before s def h there = absurd (cc)
 distinct_from (first ∷ rest) before zero def h there =
     subst (λ def. are_distinct (field_names def) ≡ true) (same_Some first def there)
-    (and_right _ _ (and_left _ _ (and_right _ _ (and_left (struct_stands before first) (structs_stand_from (before + 1) rest) h))))
+    (and_second _ _ (and_first _ _ (and_second _ _ (and_first (struct_stands before first) (structs_stand_from (before + 1) rest) h))))
 distinct_from (first ∷ rest) before (suc s) def h there =
-    distinct_from rest (before + 1) s def (and_right (struct_stands before first) (structs_stand_from (before + 1) rest) h) there
+    distinct_from rest (before + 1) s def (and_second (struct_stands before first) (structs_stand_from (before + 1) rest) h) there
 
 module _ (structs : List StructDef) (stand : structs_stand_from 0 structs ≡ true) where
   -- ---- ways to different parts

@@ -4,6 +4,8 @@ use Rattle.std.proofs.Common.{◌++◌, Some, refl, sym, ap, ◌∙◌}
 use Rattle.std.proofs.lemmas.Bool.{eq-eqb, eqb-true, le-leb, ltb-true}
 use Rattle.std.proofs.lemmas.Option.{slice_get_within}
 use Rattle.std.specs.Prelude.{bytes_eq, codes, length, nat_eq, ◌==◌}
+use Rattle.std.proofs.lemmas.Bool.{or_right}
+use Rattle.bl_tree.proofs.Basics.{and_false, at_most_self_test, true_not_false}
 use Rattle.bl_tree.specs.declared.tree.Var.{Var}
 use Rattle.bl_tree.specs.Program.{is_input}
 use Rattle.bl_tree.specs.Typing.{TypingContext, is_activity, var_at}
@@ -15,36 +17,28 @@ use Rattle.bl_emit_acts.specs.Types.{copy_name, numbered_name, variable_name}
 use Rattle.bl_emit_acts_laws_simulation.specs.Acts.{copy_location}
 use Rattle.bl_emit_acts_laws_simulation.specs.Frames.{FrameApart, PointersAreValid, is_older, lent_at, remembered_at}
 use Rattle.bl_emit_acts_laws_simulation.specs.Encodes.{are_apart, home_at, is_live, lead_in, start_in, ways_part}
-use Rattle.bl_emit_acts_laws_simulation.proofs.Calls.{number_itself}
 use Rattle.bl_emit_acts_laws_simulation.proofs.Cells.{apart_flip}
 use Rattle.bl_emit_acts_laws_simulation.proofs.NumberedNames as numbered
 use Rattle.bl_emit_acts_laws_simulation.proofs.Outlets.{behind_front, further_both}
-use Rattle.bl_emit_acts_laws_simulation.proofs.Outputs.{or_last}
+use Rattle.bl_emit_acts_laws_simulation.proofs.Cells.{or_split}
 
 -- ---- names
-
-no_such : true ≡ false → ⊥
-no_such h = cc
 
 -- names of one letter at different positions differ
 names_differ : (letter : ℕ) (vars : List Var) (j k : ℕ) → j < 2 ^ 64 → k < 2 ^ 64 → nat_eq j k ≡ false
     → bytes_eq (letter ∷ numbered_name vars j) (letter ∷ numbered_name vars k) ≡ false
 names_differ letter vars j k less most differ =
-    numbered.names_differ letter vars j k less most (λ same. no_such (sym (eq-eqb j k same) ∙ differ))
+    numbered.names_differ letter vars j k less most (λ same. true_not_false (sym (eq-eqb j k same) ∙ differ))
 
 -- ---- roots
 
-and_false : (b : Bool) → (b && false) ≡ false
-and_false true = refl
-and_false false = refl
-
-roots_differ : (p q : Location) → same_root p.root q.root ≡ false → are_apart p q ≡ true
+pub roots_differ : (p q : Location) → same_root p.root q.root ≡ false → are_apart p q ≡ true
 roots_differ p q h = ap (λ same. not same || ways_part p.parts q.parts) h
 
-own_differ : (depth : ℕ) (m n : List ℕ) → bytes_eq m n ≡ false → same_root (variable depth m) (variable depth n) ≡ false
+pub own_differ : (depth : ℕ) (m n : List ℕ) → bytes_eq m n ≡ false → same_root (variable depth m) (variable depth n) ≡ false
 own_differ depth m n h = ap (λ b. (depth == depth) && b) h ∙ and_false (depth == depth)
 
-older_differs : (depth : ℕ) (name : List ℕ) (root : Root) → is_older depth root ≡ true → same_root (variable depth name) root ≡ false
+pub older_differs : (depth : ℕ) (name : List ℕ) (root : Root) → is_older depth root ≡ true → same_root (variable depth name) root ≡ false
 older_differs depth name state_object h = refl
 older_differs depth name input_object h = refl
 older_differs depth name output_object h = refl
@@ -57,20 +51,16 @@ older_differs depth name (variable d other) h = by (depth == d) refl
         let equal : depth ≡ d = eqb-true depth d is in
         absurd (omega arith)
 
-older_live : (depth : ℕ) (root : Root) → is_older depth root ≡ true → is_live depth root ≡ true
+pub older_live : (depth : ℕ) (root : Root) → is_older depth root ≡ true → is_live depth root ≡ true
 older_live depth state_object h = refl
 older_live depth input_object h = refl
 older_live depth output_object h = refl
 older_live depth (variable d name) h = let less : d < depth = ltb-true d depth h in le-leb d depth (omega arith)
 
-further_split : (same a b : Bool) → (a ≡ true → b ≡ true) → (not same || a) ≡ true → (not same || b) ≡ true
-further_split true a b next h = next h
-further_split false a b next h = refl
-
 -- what lies further on keeps apart too
-further_apart : (p q : Location) (xs ys : List Projection) → are_apart p q ≡ true → are_apart (further p xs) (further q ys) ≡ true
+pub further_apart : (p q : Location) (xs ys : List Projection) → are_apart p q ≡ true → are_apart (further p xs) (further q ys) ≡ true
 further_apart p q xs ys h =
-    further_split (same_root p.root q.root) (ways_part p.parts q.parts) (ways_part (p.parts ++ xs) (q.parts ++ ys))
+    or_split (same_root p.root q.root) (ways_part p.parts q.parts) (ways_part (p.parts ++ xs) (q.parts ++ ys))
     (further_both p.parts q.parts xs ys) h
 
 module _ (site : TypingContext) (copied : ℕ → Bool) (scope : Scope) (stand : PointersAreValid site scope) where
@@ -102,7 +92,7 @@ module _ (site : TypingContext) (copied : ℕ → Bool) (scope : Scope) (stand :
     held_held : (start : Location) →
         are_apart (further start (member (variable_name site.vars j) ∷ [])) (further start (member (variable_name site.vars k) ∷ [])) ≡ true
     held_held start =
-        or_last (not (same_root start.root start.root))
+        or_right (not (same_root start.root start.root))
         (ways_part (start.parts ++ member (variable_name site.vars j) ∷ []) (start.parts ++ member (variable_name site.vars k) ∷ []))
         (behind_front start.parts (member (variable_name site.vars j) ∷ []) (member (variable_name site.vars k) ∷ []) ∙ ap (λ b. not b || false) v_differ)
 
@@ -156,9 +146,9 @@ module _ (site : TypingContext) (copied : ℕ → Bool) (scope : Scope) (stand :
   live_by : (k : ℕ) (var : Var) → var_at site k ≡ Some var → (activity : Bool) (x : Home)
       → is_activity site.kind ≡ activity → home_at site k ≡ x →
       is_live scope.depth (place_of activity x k).root ≡ true
-  live_by k var there false Held kind is = number_itself scope.depth
+  live_by k var there false Held kind is = at_most_self_test scope.depth
   live_by k var there true Held kind is = older_live scope.depth (remembered_at scope).root (stand.held_older k var there is kind)
-  live_by k var there activity Local kind is = number_itself scope.depth
+  live_by k var there activity Local kind is = at_most_self_test scope.depth
   live_by k var there activity Lent kind is = older_live scope.depth (lent_at scope site.vars k).root (stand.lent_older k var there is)
 
   pub frame_apart : FrameApart site copied scope

@@ -7,24 +7,24 @@ mod Names
 pub mod NumberedNames
 mod Numbers
 mod Operators
-mod Parts
+pub mod Parts
 pub mod Places
 mod Shown
 mod Steps
 mod Whole
-mod Forks
-mod Writes
-mod Written
+pub mod Forks
+pub mod Writes
+pub mod Written
 pub mod Cells
 pub mod Statements
-mod Zeros
+pub mod Zeros
 pub mod Values
-mod Acts
+pub mod Acts
 mod Aliases
-mod Calls
+pub mod Calls
 mod Outlets
 pub mod Outputs
 mod WholeActs
-mod Frames
-mod Begun
+pub mod Frames
+pub mod Begun
 pub mod Passing

@@ -4,6 +4,7 @@ use Rattle.std.proofs.Common.{◌∙◌, subst, arith, IfSome}
 use Rattle.std.proofs.lemmas.Int.{ints}
 use Rattle.std.proofs.lemmas.Option.{same_Some}
 use Rattle.std.specs.Prelude.{not, option_and_then, option_map, if◌then◌else◌}
+use Rattle.std.proofs.lemmas.Bool.{and_from}
 use Rattle.bl_tree.specs.declared.scalar.Op.{Op}
 use Rattle.bl_tree.specs.declared.scalar.Op.TheVariants.{And, Or}
 use Rattle.bl_tree.specs.declared.scalar.Scalar.{Scalar as ScalarType}
@@ -18,7 +19,6 @@ use Rattle.bl_eval.specs.declared.datum.Datum.TheVariants.{Scalar as OfScalar, W
 use Rattle.bl_eval.specs.declared.datum.Operand.{Operand}
 use Rattle.bl_eval.specs.Meaning.{cast_datum, decides, one_datum, operand_in, two_data, two_datum}
 use Rattle.bl_eval.proofs.OperatorFits.{DatumFits, scalar_alone}
-use Rattle.bl_eval.proofs.PassLemmas.{both}
 use Rattle.bl_ctext_semantics.specs.Builtin.{only_if}
 use Rattle.bl_emit_acts_laws_simulation.specs.Simulation.{number_given}
 
@@ -71,7 +71,7 @@ one_known op s (Some n) (Some (OfScalar t m)) known takes =
     (subst (λ m. checked_one_of op s n ≡ option_map number_given (one_datum op (record { ty = s; n = m }))) known.1
     (given_number (type_of_result op s) (checked_one_of op s n)
     ∙ ap (λ o. option_map number_given (option_map (OfScalar (type_of_result op s)) o))
-    (sym (when_true (takes_one op s && in_range s n) (checked_one_of op s n) None (both (takes_one op s) (in_range s n) takes known.2)))))
+    (sym (when_true (takes_one op s && in_range s n) (checked_one_of op s n) None (and_from (takes_one op s) (in_range s n) takes known.2)))))
 
 -- ---- two operands
 
@@ -83,7 +83,7 @@ two_same op s m n first second takes =
     given_number (type_of_result op s) (checked_of op s m n)
     ∙ ap (λ o. option_map number_given (option_map (OfScalar (type_of_result op s)) o))
     (sym (when_true (takes_two op s && (in_range s m && in_range s n)) (checked_of op s m n) None
-    (both (takes_two op s) (in_range s m && in_range s n) takes (both (in_range s m) (in_range s n) first second))))
+    (and_from (takes_two op s) (in_range s m && in_range s n) takes (and_from (in_range s m) (in_range s n) first second))))
 
 two_right : (op : Op) (s : ScalarType) (m : ℤ) (y : Option ℤ) (datum : Option Datum) → in_range s m ≡ true → Known s y datum → takes_two op s
     ≡ true →
@@ -98,7 +98,7 @@ two_right op s m (Some n) (Some (OfScalar t k)) within known takes =
     (subst (λ k. checked_of op s m n ≡ option_map number_given (two_data op (record { ty = s; n = m }) (record { ty = s; n = k }))) known.1
     (two_same op s m n within known.2 takes))
 
--- an operator that looks at both
+-- an operator that looks at and_from
 pub two_known : (op : Op) (s : ScalarType) (x y : Option ℤ) (first second : Option Datum) → Known s x first → Known s y second → takes_two op s
     ≡ true →
     ((n : ℤ) → decides op n ≡ false) →

@@ -2,9 +2,10 @@
 use Rattle.std.proofs.Common.{◌≡◌, ℕ, Bool, true, false, ◌&&◌, ◌||◌, List, [], ◌∷◌, ◌++◌, map, Option, Some, None, refl}
 use Rattle.std.proofs.Common.{sym, ap, ap₂}
 use Rattle.std.proofs.Common.{◌∙◌, subst}
-use Rattle.std.proofs.lemmas.Bool.{eq-eqb, eqb-true}
+use Rattle.std.proofs.lemmas.Bool.{eqb-true}
 use Rattle.std.proofs.lemmas.Option.{same_Some}
 use Rattle.std.specs.Prelude.{nat_eq, not, option_and_then, option_map}
+use Rattle.bl_tree.proofs.Basics.{and_first, and_second, number_itself}
 use Rattle.bl_tree.specs.declared.static_path.Static.{Static}
 use Rattle.bl_tree.specs.declared.tree.Expr.{Expr}
 use Rattle.bl_tree.specs.declared.tree.ExprKind.{ExprKind}
@@ -28,7 +29,6 @@ use Rattle.bl_eval.specs.Values.{part_of, value_at}
 use Rattle.bl_eval.proofs.MeaningLemmas.{spot_out}
 use Rattle.bl_eval.proofs.OperatorFits.{some_found, where_holds}
 use Rattle.bl_eval.proofs.PartFits.{Fits, type_of_part}
-use Rattle.bl_eval.proofs.PassLemmas.{and_left, and_right}
 use Rattle.bl_ctext_semantics.specs.Memory.{Projection as CPart}
 use Rattle.bl_ctext_semantics.specs.Memory as memory
 use Rattle.bl_emit_acts_laws_simulation.specs.Encodes.{lead_to, part_level, part_type, type_after, way_to, ways_part}
@@ -51,9 +51,6 @@ pub further_both : (ps qs first second : List CPart) → ways_part ps qs ≡ tru
 further_both ps qs first second h =
     ways_further ps (qs ++ second) first
     (ways_flip ps (qs ++ second) ∙ ways_further qs ps second (ways_flip qs ps ∙ h))
-
-itself : (n : ℕ) → nat_eq n n ≡ true
-itself n = eq-eqb n n refl
 
 module _ (structs : List StructDef) (stand : structs_stand_from 0 structs ≡ true) where
   no_type : (ks : List ℕ) (b : Ty) → type_after structs ks None ≡ Some b → ⊥
@@ -97,8 +94,8 @@ module _ (structs : List StructDef) (stand : structs_stand_from 0 structs ≡ tr
       let other' : type_after structs js (Some inner.0) ≡ Some c =
       sym (ap (type_after structs js) (ap (λ j. part_type structs j a) is ∙ inner.1)) ∙ other in
       let found' : value_at js first.0 ≡ Some v = sym (ap (option_and_then (value_at js)) (ap (λ j. part_of j value) is ∙ first.1)) ∙ found in
-      let left : is_front ks js ≡ false = sym (ap (λ b. b && is_front ks js) (ap (nat_eq k) is ∙ itself k)) ∙ h in
-      let right : is_front js ks ≡ false = sym (ap (λ b. b && is_front js ks) (ap (λ j. nat_eq j k) is ∙ itself k)) ∙ i in
+      let left : is_front ks js ≡ false = sym (ap (λ b. b && is_front ks js) (ap (nat_eq k) is ∙ number_itself k)) ∙ h in
+      let right : is_front js ks ≡ false = sym (ap (λ b. b && is_front js ks) (ap (λ j. nat_eq j k) is ∙ number_itself k)) ∙ i in
       fronts_part ks js inner.0 b c first.0 u v (parts_fit structs stand a inner.0 k value first.0 fit inner.1 first.1)
       (sym (ap (type_after structs ks) inner.1) ∙ typed) other' first.2 found' left right)
 
@@ -110,12 +107,12 @@ fronts_meet [] ys zs h i other = absurd (cc)
 fronts_meet (x ∷ xs) [] zs h i other = refl
 fronts_meet (x ∷ xs) (y ∷ ys) [] h i other = absurd (cc)
 fronts_meet (x ∷ xs) (y ∷ ys) (z ∷ zs) h i other =
-    let x_is : x ≡ z = eqb-true x z (and_left (nat_eq x z) (is_front xs zs) h) in
-    let y_is : y ≡ z = eqb-true y z (and_left (nat_eq y z) (is_front ys zs) i) in
-    let same : nat_eq x y ≡ true = ap₂ nat_eq x_is y_is ∙ itself z in
-    let back : nat_eq y x ≡ true = ap₂ nat_eq y_is x_is ∙ itself z in
+    let x_is : x ≡ z = eqb-true x z (and_first (nat_eq x z) (is_front xs zs) h) in
+    let y_is : y ≡ z = eqb-true y z (and_first (nat_eq y z) (is_front ys zs) i) in
+    let same : nat_eq x y ≡ true = ap₂ nat_eq x_is y_is ∙ number_itself z in
+    let back : nat_eq y x ≡ true = ap₂ nat_eq y_is x_is ∙ number_itself z in
     ap₂ (λ a b. a && b) back
-    (fronts_meet xs ys zs (and_right (nat_eq x z) (is_front xs zs) h) (and_right (nat_eq y z) (is_front ys zs) i)
+    (fronts_meet xs ys zs (and_second (nat_eq x z) (is_front xs zs) h) (and_second (nat_eq y z) (is_front ys zs) i)
     (sym (ap (λ b. b && is_front xs ys) same) ∙ other))
 
 -- a front of a front is a front
@@ -124,9 +121,9 @@ front_of_front [] ys zs h i = refl
 front_of_front (x ∷ xs) [] zs h i = absurd (cc)
 front_of_front (x ∷ xs) (y ∷ ys) [] h i = absurd (cc)
 front_of_front (x ∷ xs) (y ∷ ys) (z ∷ zs) h i =
-    let x_is : x ≡ y = eqb-true x y (and_left (nat_eq x y) (is_front xs ys) h) in
-    ap₂ (λ a b. a && b) (ap (λ x. nat_eq x z) x_is ∙ and_left (nat_eq y z) (is_front ys zs) i)
-    (front_of_front xs ys zs (and_right (nat_eq x y) (is_front xs ys) h) (and_right (nat_eq y z) (is_front ys zs) i))
+    let x_is : x ≡ y = eqb-true x y (and_first (nat_eq x y) (is_front xs ys) h) in
+    ap₂ (λ a b. a && b) (ap (λ x. nat_eq x z) x_is ∙ and_first (nat_eq y z) (is_front ys zs) i)
+    (front_of_front xs ys zs (and_second (nat_eq x y) (is_front xs ys) h) (and_second (nat_eq y z) (is_front ys zs) i))
 
 -- what is no front of a list, and has no front that is the list, has none after more of the list
 pub front_apart : (front ks js : List ℕ) → is_front front ks ≡ true → is_front front js ≡ false → is_front js front ≡ false →
@@ -216,8 +213,8 @@ module _ (site : TypingContext) (stand : structs_stand_from 0 site.structs ≡ t
   }
   fielded (part ∷ rest) a b all typed =
       let found = some_found (after_parts (map (type_of_part site) rest)) (type_of_part site part a) b typed in
-      more_fields part rest a found.0 b (field_one part a found.0 (and_left (is_field part) (all_of (map is_field rest)) all) found.1)
-      (fielded rest found.0 b (and_right (is_field part) (all_of (map is_field rest)) all) found.2)
+      more_fields part rest a found.0 b (field_one part a found.0 (and_first (is_field part) (all_of (map is_field rest)) all) found.1)
+      (fielded rest found.0 b (and_second (is_field part) (all_of (map is_field rest)) all) found.2)
 
   -- ---- outlets
 
@@ -277,7 +274,7 @@ module _ (site : TypingContext) (stand : structs_stand_from 0 site.structs ≡ t
       option_map (λ ks. k ∷ ks) rest ≡ Some ks → is_front (k ∷ fields) ks ≡ true
   field_front k fields None ks again is = absurd (cc)
   field_front k fields (Some js) ks again is =
-      subst (λ ks. is_front (k ∷ fields) ks ≡ true) (same_Some (k ∷ js) ks is) (ap₂ (λ a b. a && b) (itself k) (again js refl))
+      subst (λ ks. is_front (k ∷ fields) ks ≡ true) (same_Some (k ∷ js) ks is) (ap₂ (λ a b. a && b) (number_itself k) (again js refl))
 
   front_by : (layer : Part-F ExprKind Part Expr Path) → FrontAt (roll-Part layer)
   front_by (Part-F.Field k) = rw (fold-roll-Part, fold-roll-Part) (λ fields rest ks again is. field_front k fields rest ks again is)

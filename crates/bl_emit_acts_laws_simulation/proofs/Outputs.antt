@@ -4,29 +4,27 @@ use Rattle.std.proofs.Common.{◌∙◌, subst, IfSome}
 use Rattle.std.proofs.lemmas.Bool.{eqb-true}
 use Rattle.std.proofs.lemmas.Option.{same_Some}
 use Rattle.std.specs.Prelude.{nat_eq, option_and_then, option_map, slice_get}
-use Rattle.bl_tree.specs.declared.scalar.Scalar.{Scalar as ScalarType}
+use Rattle.std.proofs.lemmas.Bool.{and_from, or_right}
+use Rattle.bl_tree.proofs.Basics.{and_first, and_second}
 use Rattle.bl_tree.specs.declared.tree.Path.{Path}
 use Rattle.bl_tree.specs.declared.tree.StructDef.{StructDef}
 use Rattle.bl_tree.specs.declared.tree.Ty.{Ty}
 use Rattle.bl_tree.specs.declared.tree.Unit.{Unit as UnitDef}
 use Rattle.bl_tree.specs.declared.tree.Var.{Var}
-use Rattle.bl_tree.specs.declared.value.Value.{Value, out-Value}
-use Rattle.bl_tree.specs.declared.value.Value.{roll-Value, roll-out-Value}
-use Rattle.bl_tree.specs.declared.value.Value.TheOpen.{Value-F}
-use Rattle.bl_tree.specs.declared.value.Value.TheVariants.{rolls-Number}
+use Rattle.bl_tree.specs.declared.value.Value.{Value}
 use Rattle.bl_tree.specs.Program.{IsWellTyped, is_input}
 use Rattle.bl_tree.specs.Reduce.{all_of}
 use Rattle.bl_tree.specs.Types.{same_type, scalar_in}
 use Rattle.bl_tree.specs.Typing.{TypingContext, is_assignable, is_outlet, is_plain, site_of, type_of_path, types_match, var_at}
 use Rattle.bl_eval.specs.declared.datum.Datum.{Datum}
 use Rattle.bl_eval.specs.Functions.{callees_of, scope_among}
-use Rattle.bl_eval.specs.Meaning.{PathMeaning, Scope as Sees, View, datum_of, level_datum, path_meaning_of, plain, read_at, reading, values_of}
+use Rattle.bl_eval.specs.Meaning.{PathMeaning, Scope as Sees, View, datum_of, path_meaning_of, plain, read_at, reading, values_of}
 use Rattle.bl_eval.specs.Values.{value_at, value_fits, values_fit}
 use Rattle.bl_eval.proofs.ExprFits.{Sound, SpotFits, spot_fits}
 use Rattle.bl_eval.proofs.FitLemmas.{same_type_is}
 use Rattle.bl_eval.proofs.MeaningLemmas.{spot_out}
 use Rattle.bl_eval.proofs.PartFits.{Fits}
-use Rattle.bl_eval.proofs.PassLemmas.{Found, and_left, and_right, both, pass_at}
+use Rattle.bl_eval.proofs.PassLemmas.{Found, pass_at}
 use Rattle.bl_eval.proofs.UnitFits.{sound_at}
 use Rattle.bl_ctext_semantics.specs.Memory.{Location, Memory, Projection, same_root}
 use Rattle.bl_ctext_semantics.specs.Memory as memory
@@ -45,19 +43,7 @@ use Rattle.bl_emit_acts_laws_simulation.proofs.Expressions.{lies_fit, reached_ho
 use Rattle.bl_emit_acts_laws_simulation.proofs.Outlets.{Outlet, behind_front, outlet}
 use Rattle.bl_emit_acts_laws_simulation.proofs.Places.{listed-answer}
 use Rattle.bl_emit_acts_laws_simulation.proofs.Whole.{places}
-
-pub or_last : (a b : Bool) → b ≡ true → (a || b) ≡ true
-or_last true b h = refl
-or_last false b h = h
-
--- the value of a datum is the value of which it is made
-plain_level : (s : ScalarType) (value : Value) (layer : Value-F Value) → out-Value value ≡ layer → plain (level_datum s value layer) ≡ value
-plain_level s value (Value-F.Number n) is = sym (rolls-Number n) ∙ (ap roll-Value (sym is) ∙ roll-out-Value value)
-plain_level s value (Value-F.Parts all) is = refl
-
-pub plain_datum : (s : Option ScalarType) (value : Value) → plain (datum_of s value) ≡ value
-plain_datum None value = refl
-plain_datum (Some s) value = plain_level s value (out-Value value) refl
+use Rattle.bl_eval.proofs.MeaningLemmas.{plain_datum}
 
 module _ (structs : List StructDef) (units : List UnitDef) (entry : ℕ) (k : ℕ) (unit : UnitDef) (view : View) (copies : List Bool) (scope : Scope)
     (here : Memory) (keeps : IsWellTyped structs units entry) (b : BesideActs structs units k unit view (is_copied copies) scope here) where
@@ -100,7 +86,7 @@ module _ (structs : List StructDef) (units : List UnitDef) (entry : ℕ) (k : �
           ap₂ ways_part (location_along scope my_site r first) (location_along scope my_site r second)
           ∙ (behind_front base.parts first second ∙ same is) in
           subst (λ s. are_apart (location_in scope my_site r first) (location_in scope my_site s second) ≡ true) (eqb-true r s is)
-          (or_last (not (same_root base.root base.root)) (ways_part (location_in scope my_site r first).parts (location_in scope my_site r second).parts) parts)
+          (or_right (not (same_root base.root base.root)) (ways_part (location_in scope my_site r first).parts (location_in scope my_site r second).parts) parts)
 
   -- ---- one output
 
@@ -160,9 +146,9 @@ module _ (structs : List StructDef) (units : List UnitDef) (entry : ℕ) (k : �
   output_at : (path : Path) (var : Var) → is_outlet my_site path ≡ true → type_of_path my_site path ≡ Some var.ty →
       copied_in_path (is_copied copies) path ≡ true → OutputAt path var
   output_at path var fits typed named =
-      let leads = outlet my_site keeps.structs_stand my_sees view path var.ty (and_left (is_plain path) (is_assignable my_site path) fits) typed in
+      let leads = outlet my_site keeps.structs_stand my_sees view path var.ty (and_first (is_plain path) (is_assignable my_site path) fits) typed in
       output_by path var leads
-      (assignable_open my_site path leads.var (and_right (is_plain path) (is_assignable my_site path) fits)
+      (assignable_open my_site path leads.var (and_second (is_plain path) (is_assignable my_site path) fits)
       (sym (ap (λ (spot : PathMeaning). var_at my_site spot.root) (spot_out my_sees path)) ∙ leads.is_there))
       typed (location_c (stands my_site path).place scope here).answer refl
       (places structs units entry k unit path var.ty view (is_copied copies) scope here keeps b.beside typed named)
@@ -179,8 +165,8 @@ module _ (structs : List StructDef) (units : List UnitDef) (entry : ℕ) (k : �
       (type_of_path my_site path ≡ Some var.ty) × (types_match (map (type_of_path my_site) paths) vars ≡ true)
   outputs_first path paths var vars None is matched = absurd (cc)
   outputs_first path paths var vars (Some ty) is matched = (
-    is ∙ ap Some (same_type_is ty var.ty (and_left (same_type ty var.ty) (types_match (map (type_of_path my_site) paths) vars) matched)),
-    and_right (same_type ty var.ty) (types_match (map (type_of_path my_site) paths) vars) matched,
+    is ∙ ap Some (same_type_is ty var.ty (and_first (same_type ty var.ty) (types_match (map (type_of_path my_site) paths) vars) matched)),
+    and_second (same_type ty var.ty) (types_match (map (type_of_path my_site) paths) vars) matched,
   )
 
   pub outputs_at : (paths : List Path) (vars : List Var) → types_match (map (type_of_path my_site) paths) vars ≡ true →
@@ -194,10 +180,10 @@ module _ (structs : List StructDef) (units : List UnitDef) (entry : ℕ) (k : �
       nothing (Some ty) h = cc
   outputs_at (path ∷ paths) (var ∷ vars) matched all named =
       let first = outputs_first path paths var vars (type_of_path my_site path) refl matched in (
-        output_at path var (and_left (is_outlet my_site path) (all_of (map (is_outlet my_site) paths)) all) first.0
-            (and_left (copied_in_path (is_copied copies) path) (all_of (map (copied_in_path (is_copied copies)) paths)) named),
-        outputs_at paths vars first.1 (and_right (is_outlet my_site path) (all_of (map (is_outlet my_site) paths)) all)
-            (and_right (copied_in_path (is_copied copies) path) (all_of (map (copied_in_path (is_copied copies)) paths)) named),
+        output_at path var (and_first (is_outlet my_site path) (all_of (map (is_outlet my_site) paths)) all) first.0
+            (and_first (copied_in_path (is_copied copies) path) (all_of (map (copied_in_path (is_copied copies)) paths)) named),
+        outputs_at paths vars first.1 (and_second (is_outlet my_site path) (all_of (map (is_outlet my_site) paths)) all)
+            (and_second (copied_in_path (is_copied copies) path) (all_of (map (copied_in_path (is_copied copies)) paths)) named),
       )
 
   abbrev pub places_at : (paths : List Path) (vars : List Var) → OutputsAt paths vars → List Location
@@ -241,7 +227,7 @@ module _ (structs : List StructDef) (units : List UnitDef) (entry : ℕ) (k : �
   outputs_fit [] (var ∷ vars) o = absurd o
   outputs_fit (path ∷ paths) [] o = absurd o
   outputs_fit (path ∷ paths) (var ∷ vars) o =
-      both (value_fits structs var.ty o.0.value) (values_fit structs vars (values_at paths vars o.1)) o.0.fits (outputs_fit paths vars o.1)
+      and_from (value_fits structs var.ty o.0.value) (values_fit structs vars (values_at paths vars o.1)) o.0.fits (outputs_fit paths vars o.1)
 
   pub outputs_hold : (paths : List Path) (vars : List Var) (o : OutputsAt paths vars) →
       OutputsEncoded structs here vars (values_at paths vars o) (places_at paths vars o)

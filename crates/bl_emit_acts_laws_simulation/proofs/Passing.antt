@@ -4,6 +4,8 @@ use Rattle.std.proofs.Common.{◌∙◌, subst, IfSome}
 use Rattle.std.proofs.lemmas.Option.{same_Some}
 use Rattle.std.specs.Prelude.{is_some, nat_eq, option_and_then, option_map, slice_get}
 use Rattle.std.specs.List.{list_all}
+use Rattle.std.proofs.lemmas.Bool.{and_from}
+use Rattle.bl_tree.proofs.Basics.{and_first, and_second}
 use Rattle.bl_tree.specs.declared.c.CArg.{CArg}
 use Rattle.bl_tree.specs.declared.place.Place.{Place}
 use Rattle.bl_tree.specs.declared.scalar.Scalar.{Scalar as ScalarType}
@@ -32,7 +34,6 @@ use Rattle.bl_eval.specs.Meaning.{Callee, PathMeaning, Scope as Sees, View, datu
 use Rattle.bl_eval.specs.Values.{value_at, values_fit}
 use Rattle.bl_eval.proofs.ExprFits.{Sound, expr_fits, match_fits}
 use Rattle.bl_eval.proofs.OperatorFits.{scalar_alone, some_found, where_holds}
-use Rattle.bl_eval.proofs.PassLemmas.{and_left, and_right, both}
 use Rattle.bl_eval.proofs.UnitFits.{sound_at}
 use Rattle.bl_ctext_semantics.specs.Memory.{CValue, Location, Memory, Projection as CPart}
 use Rattle.bl_ctext_semantics.specs.Meaning.{ArgumentValue, Scope, by_address, by_value, location_c, value_c}
@@ -51,10 +52,11 @@ use Rattle.bl_emit_acts_laws_simulation.proofs.Arguments.{ArgsShow, pass_all, pa
 use Rattle.bl_emit_acts_laws_simulation.proofs.Cells.{apart_flip, apart_inside}
 use Rattle.bl_emit_acts_laws_simulation.proofs.Evaluated.{passes}
 use Rattle.bl_emit_acts_laws_simulation.proofs.Expressions.{inputs_shown, made_shows}
-use Rattle.bl_emit_acts_laws_simulation.proofs.Outputs.{OutputAt, OutputsAt, outputs_at, outputs_hold, pass_outputs, places_at, plain_datum, value_now, values_at}
+use Rattle.bl_emit_acts_laws_simulation.proofs.Outputs.{OutputAt, OutputsAt, outputs_at, outputs_hold, pass_outputs, places_at, value_now, values_at}
 use Rattle.bl_emit_acts_laws_simulation.proofs.Places.{listed-answer}
 use Rattle.bl_emit_acts_laws_simulation.proofs.Whole.{expressions, places}
 use Rattle.bl_emit_acts_laws_simulation.proofs.Written.{map_found}
+use Rattle.bl_eval.proofs.MeaningLemmas.{plain_datum}
 
 -- ---- arguments one after another
 
@@ -184,7 +186,7 @@ module _ (structs : List StructDef) (units : List UnitDef) (entry : ℕ) (k : �
     whole_kept path ty passed None leads is = absurd (cc)
     whole_kept path ty passed (Some at) r is =
         subst Kept (same_Some (by_address at) passed is)
-        (both (are_apart place at) true
+        (and_from (are_apart place at) true
         (ap (are_apart place) r.at ∙ within_apart (spot path).root r.var (way_to structs r.ks (Some r.var.ty)) r.is_there) refl)
 
     read_by : (path : Path) (ty : Ty) (passed : ArgumentValue) (s : Option ScalarType) →
@@ -223,7 +225,7 @@ module _ (structs : List StructDef) (units : List UnitDef) (entry : ℕ) (k : �
             let var : Var = found.0 in
             let is = where_holds (is_activity unit.kind && (is_variable var.role && is_some (scalar_in var.ty))) (Some var.ty) ty found.2 in
             let there = some_there (scalar_in var.ty)
-            (and_right (is_variable var.role) (is_some (scalar_in var.ty)) (and_right (is_activity unit.kind) _ is.0)) in
+            (and_second (is_variable var.role) (is_some (scalar_in var.ty)) (and_second (is_activity unit.kind) _ is.0)) in
             (there.0, ap scalar_in (sym (same_Some var.ty ty is.1)) ∙ there.1)
     kept_by at (ExprKind-F.One op a) = scalar_kept (expr at (ExprKind-F.One op a)) (λ ty typed.
         let found = some_found (one_type op) (option_and_then scalar_in (type_of my_site a)) ty (rw (fold-roll-Expr, fold-roll-ExprKind) at typed) in
@@ -256,8 +258,8 @@ module _ (structs : List StructDef) (units : List UnitDef) (entry : ℕ) (k : �
         list_all (are_apart place) (xs ++ ys) ≡ true
     both_all [] ys h i = i
     both_all (x ∷ xs) ys h i =
-        both (are_apart place x) (list_all (are_apart place) (xs ++ ys)) (and_left (are_apart place x) (list_all (are_apart place) xs) h)
-        (both_all xs ys (and_right (are_apart place x) (list_all (are_apart place) xs) h) i)
+        and_from (are_apart place x) (list_all (are_apart place) (xs ++ ys)) (and_first (are_apart place x) (list_all (are_apart place) xs) h)
+        (both_all xs ys (and_second (are_apart place x) (list_all (are_apart place) xs) h) i)
 
     abbrev Apart : List ArgumentValue → Type 0
     Apart passed = list_all (are_apart place) (places_in_args passed) ≡ true
@@ -287,9 +289,9 @@ module _ (structs : List StructDef) (units : List UnitDef) (entry : ℕ) (k : �
         by again (Some ty) is (var ∷ vars) matched =
             subst Apart rest.2
             (both_all (place_in_arg found.0) (places_in_args rest.0)
-            (input_apart e ty found.0 is (and_left (copied_in copied e) (all_of (map (copied_in copied) inputs)) named) found.1)
-            (again vars rest.0 (and_right (same_type ty var.ty) (types_match (map (type_of my_site) inputs) vars) matched)
-            (and_right (copied_in copied e) (all_of (map (copied_in copied) inputs)) named) rest.1))
+            (input_apart e ty found.0 is (and_first (copied_in copied e) (all_of (map (copied_in copied) inputs)) named) found.1)
+            (again vars rest.0 (and_second (same_type ty var.ty) (types_match (map (type_of my_site) inputs) vars) matched)
+            (and_second (copied_in copied e) (all_of (map (copied_in copied) inputs)) named) rest.1))
 
     outputs_kept : (paths : List Path) (vars : List Var) (all : Outputs paths vars) →
         list_all (are_apart place) (all_places paths vars all) ≡ true
@@ -297,7 +299,7 @@ module _ (structs : List StructDef) (units : List UnitDef) (entry : ℕ) (k : �
     outputs_kept [] (var ∷ vars) all = refl
     outputs_kept (path ∷ paths) [] all = absurd all
     outputs_kept (path ∷ paths) (var ∷ vars) all =
-        both (are_apart place all.0.place) (list_all (are_apart place) (all_places paths vars all.1))
+        and_from (are_apart place all.0.place) (list_all (are_apart place) (all_places paths vars all.1))
         (ap (are_apart place) all.0.at
         ∙ within_apart (spot path).root all.0.leads.var (way_to structs all.0.leads.ks (Some all.0.leads.var.ty)) all.0.leads.is_there)
         (outputs_kept paths vars all.1)

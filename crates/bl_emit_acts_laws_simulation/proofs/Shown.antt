@@ -6,29 +6,8 @@ use Rattle.std.specs.Prelude.{option_and_then, if◌then◌else◌}
 use Rattle.bl_tree.specs.declared.c.CArg.TheVariants.{Value}
 use Rattle.bl_tree.specs.declared.c.CExpr.{CExpr}
 use Rattle.bl_tree.specs.declared.scalar.Op.{Op}
-use Rattle.bl_tree.specs.declared.scalar.Op.TheVariants.{
-  Add,
-  Sub,
-  Mul,
-  Div,
-  Rem,
-  Minus,
-  BitAnd,
-  BitOr,
-  BitXor,
-  BitNot,
-  Shl,
-  Shr,
-  Eq,
-  Ne,
-  Lt,
-  Le,
-  Gt,
-  Ge,
-  And,
-  Or,
-  Not,
-}
+use Rattle.bl_tree.specs.declared.scalar.Op.TheVariants.{Add, Sub, Mul, Div, Rem, Minus, BitAnd, BitOr, BitXor, BitNot, Shl, Shr, Eq, Ne, Lt, Le, Gt, Ge, And}
+use Rattle.bl_tree.specs.declared.scalar.Op.TheVariants.{Or, Not}
 use Rattle.bl_tree.specs.declared.scalar.Scalar.{Scalar as ScalarType}
 use Rattle.bl_tree.specs.declared.scalar.Scalar.TheVariants.{Bool as OfBool, Int, Nat, Bits}
 use Rattle.bl_tree.specs.declared.tree.StructDef.{StructDef}
@@ -50,31 +29,15 @@ use Rattle.bl_emit_acts.specs.Expressions.{mirrored, operator_word, side, type_m
 use Rattle.bl_emit_acts.specs.Trees.{c_literal, c_two}
 use Rattle.bl_emit_acts_laws_simulation.specs.Simulation.{ExpressionSimulates}
 use Rattle.bl_emit_acts_laws_simulation.proofs.Evaluated.{literal-value}
-use Rattle.bl_emit_acts_laws_simulation.proofs.Names.{
-  add_function,
-  and_function,
-  cast_function,
-  div_function,
-  mul_function,
-  neg_function,
-  not_function,
-  or_function,
-  rem_function,
-  shl_function,
-  shr_function,
-  sub_function,
-  xor_function,
-}
+use Rattle.bl_emit_acts_laws_simulation.proofs.Names.{add_function, and_function, cast_function, div_function, mul_function, neg_function, not_function}
+use Rattle.bl_emit_acts_laws_simulation.proofs.Names.{or_function, rem_function, shl_function, shr_function, sub_function, xor_function}
 use Rattle.bl_emit_acts_laws_simulation.proofs.Numbers.{and-number, compare-number, gives, not-number, num, one-number, or-number, two-number}
 use Rattle.bl_emit_acts_laws_simulation.proofs.Operators.{Known, and_itself, and_known, cast_itself, cast_known, known_fits, one_known, or_known, two_known}
+use Rattle.bl_eval.proofs.OperatorFits.{bool_is}
 
 -- the type of a scalar type
 pub scalar_type : (ty : Ty) (s : ScalarType) → ty ≡ scalar s → scalar_in ty ≡ Some s
 scalar_type ty s is = ap scalar_in is ∙ scalar_alone s
-
-pub bool_only : (s : ScalarType) → is_bool s ≡ true → OfBool ≡ s
-bool_only OfBool h = refl
-bool_only _ h = absurd (cc)
 
 module _ (structs : List StructDef) (scope : Scope) (here : Memory) where
   abbrev shows : Ty → Made → Option Datum → Type 0
@@ -210,7 +173,7 @@ module _ (structs : List StructDef) (scope : Scope) (here : Memory) where
     )
       where
         bool_known : (x : Option ℤ) (datum : Option Datum) → Known s x datum → is_bool s ≡ true → Known OfBool x datum
-        bool_known x datum known takes = subst (λ s. Known s x datum) (sym (bool_only s takes)) known
+        bool_known x datum known takes = subst (λ s. Known s x datum) (sym (bool_is s takes)) known
     both_shows Or ty takes is = (
       scalar_type ty OfBool is,
       or-number scope here a b
@@ -218,7 +181,7 @@ module _ (structs : List StructDef) (scope : Scope) (here : Memory) where
     )
       where
         bool_known : (x : Option ℤ) (datum : Option Datum) → Known s x datum → is_bool s ≡ true → Known OfBool x datum
-        bool_known x datum known takes = subst (λ s. Known s x datum) (sym (bool_only s takes)) known
+        bool_known x datum known takes = subst (λ s. Known s x datum) (sym (bool_is s takes)) known
     both_shows Minus ty takes is = absurd (cc)
     both_shows BitNot ty takes is = absurd (cc)
     both_shows Not ty takes is = absurd (cc)

@@ -6,6 +6,7 @@ use Rattle.std.proofs.lemmas.Int.{ints}
 use Rattle.std.proofs.lemmas.Option.{same_Some, slice_get-get_or, slice_get_past, slice_get_within}
 use Rattle.std.specs.Prelude.{get_or, int_le, int_lt, nat_eq, nat_lt, option_and_then, option_map, slice_get, if◌then◌else◌}
 use Rattle.std.specs.List.{list_all}
+use Rattle.bl_tree.proofs.Basics.{and_first, and_second}
 use Rattle.bl_tree.specs.declared.scalar.Scalar.{Scalar as ScalarType}
 use Rattle.bl_tree.specs.declared.scalar.Scalar.TheVariants.{Bool as OfBool, Int, Nat, Bits}
 use Rattle.bl_tree.specs.declared.scalar.Width.TheVariants.{W8, W16, W32, W64}
@@ -22,7 +23,7 @@ use Rattle.bl_tree.specs.Typing.{field_in}
 use Rattle.bl_eval.specs.Values.{are_elements, are_fields, by_test, fits_by, parts_at, part_of, pass, position_of, tests_after, value_fits}
 use Rattle.bl_eval.proofs.FitLemmas.{Test, fits_array, fits_before, fits_struct, structs_at, test_is}
 use Rattle.bl_eval.proofs.PartFits.{Fits}
-use Rattle.bl_eval.proofs.PassLemmas.{and_left, and_right, all_at, pass_at}
+use Rattle.bl_eval.proofs.PassLemmas.{all_at, pass_at}
 use Rattle.bl_ctext_semantics.specs.Builtin.{index_within, only_if}
 use Rattle.bl_ctext_semantics.specs.Meaning.{element_projection}
 use Rattle.bl_ctext_semantics.specs.Memory.{Projection, element, member}
@@ -83,7 +84,7 @@ module _ (structs : List StructDef) (stand : structs_stand_from 0 structs ≡ tr
     field_at_part [] (v ∷ all) j u h at = absurd (cc)
     field_at_part (field ∷ fields) [] j u h at = absurd (cc)
     field_at_part (field ∷ fields) (v ∷ all) zero u h at = (field, refl)
-    field_at_part (field ∷ fields) (v ∷ all) (suc j) u h at = field_at_part fields all j u (and_right _ _ h) at
+    field_at_part (field ∷ fields) (v ∷ all) (suc j) u h at = field_at_part fields all j u (and_second _ _ h) at
 
     there_by : (layer : Value-F Value) → out-Value value ≡ layer → passes layer ≡ true → (j : ℕ) (u : Value) → part_of j value ≡ Some u →
         (field : Field) × (slice_get def.fields j ≡ Some field)
@@ -109,7 +110,7 @@ module _ (structs : List StructDef) (stand : structs_stand_from 0 structs ≡ tr
     row_by : (layer : Value-F Value) → out-Value value ≡ layer → are_elements n (value_fits structs c) layer ≡ true → Row
     row_by (Value-F.Number m) out h = absurd (cc)
     row_by (Value-F.Parts all) out h =
-        let long : length all ≡ n = eqb-true (length all) n (and_left (nat_eq (length all) n) (list_all (value_fits structs c) all) h) in
+        let long : length all ≡ n = eqb-true (length all) n (and_first (nat_eq (length all) n) (list_all (value_fits structs c) all) h) in
         let at : (k : ℕ) → part_of k value ≡ slice_get all k =
         λ k. ap (λ (layer : Value-F Value). option_and_then (λ all. slice_get all k) (parts_at layer)) out in
         record {
@@ -120,7 +121,7 @@ module _ (structs : List StructDef) (stand : structs_stand_from 0 structs ≡ tr
                 part = get_or all k value;
                 is_there = at k ∙ found;
                 fits = all_at (value_fits structs c) all k (get_or all k value)
-                    (and_right (nat_eq (length all) n) (list_all (value_fits structs c) all) h) found;
+                    (and_second (nat_eq (length all) n) (list_all (value_fits structs c) all) h) found;
               };
           past = λ k more. let outside : length all ≤ k = omega (arith, more, long) in at k ∙ slice_get_past all k outside;
         }

@@ -1,6 +1,7 @@
 -- The law of acts of a whole program.
 use Rattle.std.proofs.Common.{◌≡◌, ℕ, Bool, true, List, [], map, take, Option, Some, None, refl, sym, ap, ◌∙◌, subst}
 use Rattle.std.specs.Prelude.{slice_get}
+use Rattle.bl_tree.proofs.Basics.{and_first, and_second}
 use Rattle.bl_tree.specs.declared.place.Place.{Place}
 use Rattle.bl_tree.specs.declared.tree.Arm.{Arm}
 use Rattle.bl_tree.specs.declared.tree.Branch.{Branch}
@@ -16,7 +17,6 @@ use Rattle.bl_tree.specs.Typing.{TypingContext, fits, site_of}
 use Rattle.bl_tree.proofs.StmtInduction.{stmt}
 use Rattle.bl_eval.specs.Functions.{acted, callees_of, scope_among}
 use Rattle.bl_eval.specs.Meaning.{View}
-use Rattle.bl_eval.proofs.PassLemmas.{and_left, and_right}
 use Rattle.bl_ctext_semantics.specs.Memory.{Memory}
 use Rattle.bl_ctext_semantics.specs.Meaning.{Scope, block_c}
 use Rattle.bl_emit_acts.specs.Acts.{is_copied, layer_code}
@@ -54,13 +54,13 @@ module _ (structs : List StructDef) (units : List UnitDef) (entry : ℕ) (k : �
       named_again (Some e) h = h
   layer_comes place (StmtKind-F.Assign path e) act fitted named clear =
       assign_comes structs units entry k unit view copies scope here keeps b path e (rw (fold-roll-Stmt, fold-roll-StmtKind) at fitted)
-      (and_left (copied_in_path (is_copied copies) path) (copied_in (is_copied copies) e) named)
-      (and_right (copied_in_path (is_copied copies) path) (copied_in (is_copied copies) e) named)
+      (and_first (copied_in_path (is_copied copies) path) (copied_in (is_copied copies) e) named)
+      (and_second (copied_in_path (is_copied copies) path) (copied_in (is_copied copies) e) named)
   layer_comes place (StmtKind-F.Call f inputs outputs) act fitted named clear =
       called_comes structs units entry k unit view copies scope here keeps b f inputs outputs (slice_get (take k units) f) refl
       (rw (fold-roll-Stmt, fold-roll-StmtKind) at fitted)
-      (and_left (all_of (map (copied_in (is_copied copies)) inputs)) (all_of (map (copied_in_path (is_copied copies)) outputs)) named)
-      (and_right (all_of (map (copied_in (is_copied copies)) inputs)) (all_of (map (copied_in_path (is_copied copies)) outputs)) named) clear
+      (and_first (all_of (map (copied_in (is_copied copies)) inputs)) (all_of (map (copied_in_path (is_copied copies)) outputs)) named)
+      (and_second (all_of (map (copied_in (is_copied copies)) inputs)) (all_of (map (copied_in_path (is_copied copies)) outputs)) named) clear
   layer_comes place _ act fitted named clear = absurd (cc)
 
   pub statement_comes : (s : Stmt) → is_act (out-StmtKind (out-Stmt s).what) ≡ true → fits my_site s ≡ true →

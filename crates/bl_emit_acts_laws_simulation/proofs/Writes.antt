@@ -14,43 +14,17 @@ use Rattle.bl_tree.specs.Typing.{TypingContext, is_activity, var_at}
 use Rattle.bl_eval.specs.Values.{put_at, with_value_at}
 use Rattle.bl_eval.proofs.OperatorFits.{some_found}
 use Rattle.bl_eval.proofs.PartFits.{Fits}
-use Rattle.bl_ctext_semantics.specs.Memory.{
-  CValue,
-  Location,
-  Memory,
-  Projection,
-  Root,
-  input_object,
-  left_after,
-  number_or,
-  output_object,
-  same_root,
-  set_at,
-  state_object,
-  value_at,
-  variable,
-  with_part,
-}
+use Rattle.bl_ctext_semantics.specs.Memory.{CValue, Location, Memory, Projection, Root, input_object, left_after, number_or, output_object, same_root, set_at}
+use Rattle.bl_ctext_semantics.specs.Memory.{state_object, value_at, variable, with_part}
 use Rattle.bl_ctext_semantics.specs.Memory as memory
 use Rattle.bl_ctext_semantics.specs.Meaning.{Scope}
-use Rattle.bl_emit_acts_laws_simulation.specs.Encodes.{
-  Encodes,
-  VariablesApart,
-  VariablesEncoded,
-  are_apart,
-  home_at,
-  lead_in,
-  location_in,
-  start_in,
-  type_after,
-  way_to,
-  ways_part,
-}
+use Rattle.bl_emit_acts_laws_simulation.specs.Encodes.{Encodes, VariablesApart, VariablesEncoded, are_apart, home_at, lead_in, location_in, start_in}
+use Rattle.bl_emit_acts_laws_simulation.specs.Encodes.{type_after, way_to, ways_part}
 use Rattle.bl_emit_acts_laws_simulation.proofs.Forks.{forked, parts_fit}
 use Rattle.bl_emit_acts_laws_simulation.proofs.Parts.{holds_same}
 use Rattle.bl_emit_acts_laws_simulation.proofs.Written.{left_apart, left_behind, map_found, part_written, set_other, set_same}
 
-same_root_itself : (root : Root) → same_root root root ≡ true
+pub same_root_itself : (root : Root) → same_root root root ≡ true
 same_root_itself state_object = refl
 same_root_itself input_object = refl
 same_root_itself output_object = refl

@@ -25,18 +25,8 @@ use Rattle.bl_emit_acts.specs.Acts.{act_code, c_copied, is_copied}
 use Rattle.bl_emit_acts.specs.Expressions.{made_of, stands}
 use Rattle.bl_emit_acts_laws_simulation.specs.Acts.{BegunWith, CopiesApart, ProceduresAgree, Simulates, before_after, copied_in_layer, is_act}
 use Rattle.bl_emit_acts_laws_simulation.specs.Frames.{FrameApart, PointersAreValid}
-use Rattle.bl_emit_acts_laws_simulation.specs.Encodes.{
-  CopiesEncoded,
-  Encodes,
-  VariablesAllocated,
-  VariablesApart,
-  VariablesEncoded,
-  copied_in,
-  copied_in_path,
-  location_in,
-  type_after,
-  way_to,
-}
+use Rattle.bl_emit_acts_laws_simulation.specs.Encodes.{CopiesEncoded, Encodes, VariablesAllocated, VariablesApart, VariablesEncoded, copied_in, copied_in_path}
+use Rattle.bl_emit_acts_laws_simulation.specs.Encodes.{location_in, type_after, way_to}
 use Rattle.bl_emit_acts_laws_simulation.specs.Simulation.{ExpressionSimulates, FunctionsAgree, PlaceSimulates}
 
 -- C memory encodes the values of the variables of the unit at a position. Values fit their types, variables and copies are allocated, and the functions of

@@ -2,7 +2,6 @@
 use Rattle.std.proofs.Common.{◌≡◌, true, List, [], ◌∷◌, ap, subst, sym, ◌∙◌}
 use Rattle.bl_tree.specs.declared.program.Program.{Program}
 use Rattle.bl_tree.specs.declared.tree.Unit.{Unit as UnitDef}
-use Rattle.bl_limits.specs.Rules.{Passes as KeepsLimits}
 use Rattle.bl_machine_prevs.specs.Declared.{FromText}
 use Rattle.bl_block.specs.Merged.{AreMergedFrom, EachThree, IsMergedFrom}
 use Rattle.bl_cause.specs.Accepted.{AcceptedProgram, IsAccepted}
@@ -32,29 +31,29 @@ pub merged_is : (units : List UnitDef) (from to : List Activity) → AreMergedFr
 merged_is units from to merged = each_merged (activities units) from to merged
 
 -- what is made of an accepted program: all is known of its machine, and the file is what is written of that
-pub record IsMadeOf (tree : Program) (machine : List Activity) (made : Written) : Type 0 where
-  pub known : Known tree machine
-  pub is : made ≡ written tree machine
+pub record IsMadeOf (program : Program) (machine : List Activity) (made : Written) : Type 0 where
+  pub known : Known program machine
+  pub is : made ≡ written program machine
 
-pub made_known : (accepted : AcceptedProgram) (plain merged : SeenMachine) (made : Written) → IsAccepted accepted → FromText accepted.tree.units →
-    AreCountable accepted.tree.units → plain.program ≡ accepted.tree → merged.program ≡ plain.program →
+pub made_known : (accepted : AcceptedProgram) (plain merged : SeenMachine) (made : Written) → IsAccepted accepted → FromText accepted.program.units →
+    AreCountable accepted.program.units → plain.program ≡ accepted.program → merged.program ≡ plain.program →
     AreMergedFrom plain.program.units plain.activities merged.activities → IsMachine merged → WrittenIsComputed →
-    made ≡ written_told merged.program merged.activities → IsMadeOf accepted.tree merged.activities made
+    made ≡ written_told merged.program merged.activities → IsMadeOf accepted.program merged.activities made
 made_known accepted plain merged made is_accepted text countable one two are_merged is_machine told same =
-    let tree = accepted.tree in
+    let program = accepted.program in
     let from : List Activity = plain.activities in
     let to : List Activity = merged.activities in
-    let of_tree : AreMergedFrom tree.units from to = subst (λ (of : Program). AreMergedFrom of.units from to) one are_merged in record {
+    let of_program : AreMergedFrom program.units from to = subst (λ (of : Program). AreMergedFrom of.units from to) one are_merged in record {
       known = record {
-        well_typed = tree.well_typed;
-        passes = is_accepted.tree_passes;
-        limits = subst (λ (of : Program). KeepsLimits of.structs of.units of.entry) (sym is_accepted.is_tree) is_accepted.limits;
+        well_typed = program.well_typed;
+        passes = is_accepted.passes;
+        limits = is_accepted.limits;
         text = text;
         agrees = subst (λ (of : Program). AreActivitiesOf of.units to) (two ∙ one) is_machine;
-        merged = merged_is tree.units from to of_tree;
+        merged = merged_is program.units from to of_program;
         countable = countable;
       };
-      is = same ∙ ap (λ (of : Program). written_told of to) (two ∙ one) ∙ told tree to;
+      is = same ∙ ap (λ (of : Program). written_told of to) (two ∙ one) ∙ told program to;
     }
 
 -- what is made as is written has a spelling

@@ -31,12 +31,12 @@ use std::alloc::Global;
 
 /// The C file of an accepted program. Fails only for want of memory.
 pub fn c_file(alloc: Global, accepted: &Accepted) -> Result<CFile, NoMemory>
-    requires text { FromText accepted.now.tree.units }
-    requires small { AreSmall accepted.now.tree.units }
-    ensures shows { IfOk result (λ file. ShowsProgram accepted.now.tree.structs accepted.now.tree.units accepted.now.tree.entry (parts_of file)) }
-    ensures merged { IfOk result (λ file. IsOfMerged accepted.now.tree (parts_of file)) }
+    requires text { FromText accepted.now.program.units }
+    requires small { AreSmall accepted.now.program.units }
+    ensures shows { IfOk result (λ file. ShowsProgram accepted.now.program.structs accepted.now.program.units accepted.now.program.entry (parts_of file)) }
+    ensures merged { IfOk result (λ file. IsOfMerged accepted.now.program (parts_of file)) }
 {
-    let program = accepted.tree();
+    let program = accepted.program();
     accepted.is_accepted();
     programs_show(program);
     programs_spelled(program);

@@ -1,19 +1,12 @@
 -- The law of a whole program.
-use Rattle.std.proofs.Common.{◌≡◌, true, Option, Some, None}
-use Rattle.std.proofs.Common.{refl}
+use Rattle.std.proofs.Common.{◌≡◌}
 use Rattle.std.specs.Prelude.{slice_get}
 use Rattle.bl_tree.specs.declared.program.Program.{Program}
-use Rattle.bl_tree.specs.declared.tree.Unit.{Unit as UnitDef}
-use Rattle.bl_tree.specs.Program.{is_entry}
 use Rattle.bl_emit_laws.specs.Formed.{FilesWellFormed}
 use Rattle.bl_emit_laws.specs.Forms.{UnitsMeetConditions}
 use Rattle.bl_emit_spec_laws_wellformed_bodies.specs.Structs.Laws.{FilesDeclare}
 use Rattle.bl_emit_laws.specs.Accepted.{ProgramsWellFormed}
-
--- the entry is there
-entry_there : (o : Option UnitDef) → is_entry o ≡ true → (unit : UnitDef) × (o ≡ Some unit)
-entry_there None is = absurd (cc)
-entry_there (Some unit) is = (unit, refl)
+use Rattle.bl_emit_spec_laws_wellformed.proofs.OnClosed.Closed.{entry_there}
 
 pub formed : (program : Program) → UnitsMeetConditions program.structs program.units program.entry → FilesDeclare program → FilesWellFormed program →
     ProgramsWellFormed program

@@ -1,9 +1,9 @@
 -- The C of each unit that the entry needs can be spelled, so the C file has a spelling.
 use Rattle.std.proofs.Common.{◌≡◌, ℕ, zero, suc, ◌+◌, ◌<◌, arith, Bool, true, false, List, [], ◌∷◌, ◌++◌}
-use Rattle.std.proofs.Common.{Contains, map, take, drop, length, Some, cond, refl, sym, ap, ◌∙◌, subst, append_assoc}
+use Rattle.std.proofs.Common.{map, take, drop, length, Some, cond, refl, sym, ap, ◌∙◌, subst, append_assoc}
 use Rattle.std.proofs.lemmas.List.{length-append}
-use Rattle.std.proofs.lemmas.Option.{same_Some}
 use Rattle.std.specs.Prelude.{slice_get, if◌then◌else◌}
+use Rattle.bl_tree.proofs.Basics.{contains_at, get_seam, take_front}
 use Rattle.bl_tree.specs.declared.program.Program.{Program}
 use Rattle.bl_tree.specs.declared.tree.StructDef.{StructDef}
 use Rattle.bl_tree.specs.declared.tree.Unit.{Unit as UnitDef}
@@ -25,24 +25,9 @@ use Rattle.bl_emit_spec_laws_wellformed.specs.Needed.{NeededNumbered, NeededSmal
 use Rattle.bl_emit_spec_laws_wellformed.specs.Spelled.{CanSpell}
 use Rattle.bl_emit_spec_laws_wellformed.specs.Texts.{ActivityIsSpellable, AllWrite, FilesSpelled, UnitWrites, Where}
 use Rattle.bl_emit_laws.specs.Spelled.{ProgramsSpelled}
+use Rattle.bl_emit_laws.proofs.OnForms.Forms.{behind_none}
 
 -- ---- lists
-
-get_behind : {A : Type 0} (xs : List A) (y : A) (ys : List A) → slice_get (xs ++ y ∷ ys) (length xs) ≡ Some y
-get_behind [] y ys = refl
-get_behind (x ∷ xs) y ys = get_behind xs y ys
-
-take_front : {A : Type 0} (xs ys : List A) → take (length xs) (xs ++ ys) ≡ xs
-take_front [] ys = refl
-take_front (x ∷ xs) ys = ap (λ rest. x ∷ rest) (take_front xs ys)
-
-index_there : {A : Type 0} (xs : List A) (k : ℕ) (x : A) → slice_get xs k ≡ Some x → Contains xs x
-index_there [] k x there = absurd (cc)
-index_there (y ∷ xs) zero x there = (0, omega arith, same_Some y x there)
-index_there (y ∷ xs) (suc k) x there =
-    let found = index_there xs k x there in
-    let less : found.0 < length xs = found.1 in
-    (suc found.0, omega (arith, less), found.2)
 
 any_first : {A : Type 0} (xs ys : List A) → has_any xs ≡ true → has_any (xs ++ ys) ≡ true
 any_first [] ys h = absurd (cc)
@@ -84,7 +69,7 @@ module _ (structs : List StructDef) (units : List UnitDef) (entry : ℕ) (keeps 
       k = length earlier
 
       there : slice_get units k ≡ Some unit
-      there = ap (λ units. slice_get units (length earlier)) (sym whole) ∙ get_behind earlier unit rest
+      there = ap (λ units. slice_get units (length earlier)) (sym whole) ∙ get_seam earlier unit rest
 
       before : take k units ≡ earlier
       before = ap (take (length earlier)) (sym whole) ∙ take_front earlier (unit ∷ rest)
@@ -98,7 +83,7 @@ module _ (structs : List StructDef) (units : List UnitDef) (entry : ℕ) (keeps 
             can = subst (λ before. CanSpell structs units k (activity_of structs before remember unit one)) before
                 (spell k unit one remember keeps modest);
             rests = frame_some (activity_of structs earlier remember unit one)
-                (counted structs units entry unit one keeps passes (index_there units k unit there) active own);
+                (counted structs units entry unit one keeps passes (contains_at units k unit there) active own);
           }
 
       -- what is listed of a unit and those behind it, an activity or a function
@@ -152,9 +137,6 @@ module _ (structs : List StructDef) (units : List UnitDef) (entry : ℕ) (keeps 
         (λ remember needed machine told own.
         all_write (earlier ++ unit ∷ []) remember rest needed machine (append_assoc earlier (unit ∷ []) rest ∙ whole)
         (subst (λ n. Told n needed) (sym (length_one earlier unit)) told) own)
-
-behind_none : (needed : List Bool) (n j : ℕ) → n ≡ 0 → slice_get needed j ≡ Some true → slice_get needed (n + j) ≡ Some true
-behind_none needed n j none is = subst (λ m. slice_get needed m ≡ Some true) (omega (arith, none)) is
 
 pub programs_spelled : (program : Program) → ActivitiesCount → MachinesSpell program.structs program.units program.entry →
     NeededSmall program.structs program.units program.entry → NeededNumbered program.structs program.units program.entry → FilesSpelled program →

@@ -1,6 +1,7 @@
 -- The numbers that are in C are those of the machine.
-use Rattle.std.proofs.Common.{◌≡◌, ℕ, zero, suc, ◌+◌, List, [], ◌∷◌, length, nat_eq, Some, sym, ap, subst, ◌∙◌, arith}
+use Rattle.std.proofs.Common.{◌≡◌, ℕ, ◌+◌, List, [], ◌∷◌, length, nat_eq, Some, sym, ap, subst, ◌∙◌, arith}
 use Rattle.std.specs.Prelude.{IsPermutation, option_and_then, option_map, slice_get, unwrap_or}
+use Rattle.bl_tree.proofs.Basics.{same_some, within_at}
 use Rattle.bl_tree.specs.declared.tree.StructDef.{StructDef}
 use Rattle.bl_tree.specs.declared.tree.Unit.{Unit as UnitDef}
 use Rattle.bl_tree.specs.Reduce.{joined}
@@ -23,23 +24,14 @@ use Rattle.bl_machine_pass_laws_execution.specs.Runs.{RunsGoByRules}
 use Rattle.bl_machine_pass_laws_turns.specs.Turns.{TurnContext}
 use Rattle.bl_machine_transitions.specs.Callees.{node_number}
 use Rattle.bl_machine_transitions.specs.Listed.{layout_of}
-use Rattle.bl_machine_transitions_laws.proofs.Agreeing.{Agrees}
 use Rattle.bl_machine_transitions_laws.proofs.Standing.{nodes_stand}
 use Rattle.bl_emit_spec.specs.Activities.{activity_view}
 use Rattle.bl_emit_spec_laws.specs.Calls.Built.{Activities, MadeOf, rank_by, slots_by, unit_number}
 use Rattle.bl_emit_spec_laws.specs.Calls.Laws.{CompilationContext}
 use Rattle.bl_emit_spec_laws.specs.Cleared.{ClearingIsInside}
-use Rattle.bl_emit_spec_laws.proofs.OnPlaced.Lists.{found_at, number_once, number_there, some_is, within_at}
+use Rattle.bl_emit_spec_laws.proofs.OnPlaced.Lists.{found_at, number_once, number_there}
 use Rattle.bl_emit_spec_laws_files.specs.Entry.{EntryRuns}
-
-agrees_at : {X Y : Type 0} (f : X → Y) (at : ℕ → Y) (xs : List X) (first k : ℕ) (x : X) → Agrees f at first xs → slice_get xs k
-    ≡ Some x →
-    f x ≡ at (first + k)
-agrees_at f at [] first k x agrees is = absurd (cc)
-agrees_at f at (y ∷ xs) first zero x agrees is =
-    let same : first ≡ first + 0 = omega arith in ap f (sym (some_is y x is)) ∙ agrees.0 ∙ ap at same
-agrees_at f at (y ∷ xs) first (suc k) x agrees is =
-    let same : suc first + k ≡ first + suc k = omega arith in agrees_at f at xs (suc first) k x agrees.1 is ∙ ap at same
+use Rattle.bl_emit_spec_laws.proofs.OnPlaced.Placing.{agrees_at}
 
 module _ (orderly : AcceptedIsOrderly) (clearing : ClearingIsInside) (keys : NodesHaveKeys) (machines : MachinesGiveContexts) (runs : RunsGoByRules)
     (structs : List StructDef) (units : List UnitDef) (entry : ℕ) (machine : List InMachine) (activities : Activities)
@@ -80,11 +72,11 @@ module _ (orderly : AcceptedIsOrderly) (clearing : ClearingIsInside) (keys : Nod
     go_by : GoBy W machine (rank_by W activities)
     go_by i instance unit activity n k there is part at =
         let parts = made i instance unit there is in
-        let same : parts.one ≡ activity = some_is parts.one activity (sym parts.is ∙ part) in
+        let same : parts.one ≡ activity = same_some parts.one activity (sym parts.is ∙ part) in
         let own = each_at IsActivityOf (activities_among units) machine (graph_position units instance.unit) unit compiled.agrees
         (filtered_at (λ it. is_activity it.kind) units instance.unit unit is
         ((orderly structs units entry compiled.well_typed compiled.passes).each i unit (unit_is i instance unit there is)).activity) in
-        let own_is : own.0 ≡ activity = some_is own.0 activity (sym own.1 ∙ part) in
+        let own_is : own.0 ≡ activity = same_some own.0 activity (sym own.1 ∙ part) in
         let permutes : IsPermutation (up_to (length (nodes_in (plain_body unit.body)))) (joined activity.blocks) =
         subst (λ (one : InMachine). IsPermutation (up_to (length (nodes_in (plain_body unit.body)))) (joined one.blocks)) own_is own.2.order.all in
         let order : (activities instance.unit).order ≡ joined activity.blocks = parts.order ∙ ap (λ (one : InMachine). joined one.blocks) same in
@@ -98,7 +90,7 @@ module _ (orderly : AcceptedIsOrderly) (clearing : ClearingIsInside) (keys : Nod
     given i unit is =
         let has = machines.has structs units entry machine i unit compiled.well_typed compiled.passes compiled.agrees is in
         let parts = made i has.instance unit has.there has.is_unit in
-        let same : parts.one ≡ has.activity = some_is parts.one has.activity (sym parts.is ∙ has.is_activity) in
+        let same : parts.one ≡ has.activity = same_some parts.one has.activity (sym parts.is ∙ has.is_activity) in
         let slots : slots_by W activities i ≡ slots_of (plain_body unit.body) has.activity.slots =
         ap (λ (u : ℕ). (activities u).slots) (number_is i has.instance has.there) ∙ parts.slots
         ∙ ap (λ (one : InMachine). slots_of (plain_body unit.body) one.slots) same in

@@ -23,7 +23,7 @@ use Rattle.bl_ctree.specs.Positions.{stmt_kind}
 use Rattle.bl_ctree.specs.Store.{Store, home, value_among, view_at}
 use Rattle.bl_ctree_laws_confluence.specs.Deeds.Nesting.{ProgramsNest}
 use Rattle.bl_ctree_laws_confluence.proofs.OnDeeds.Activities.{AllOf}
-use Rattle.bl_ctree_laws_typing.proofs.OnViews.Running.{body_fits, unit_stands_at}
+use Rattle.bl_ctree_laws_typing.proofs.OnViews.Running.{body_fits}
 use Rattle.bl_ctree_laws_confluence.specs.Stores.{PutsKeepOthers}
 use Rattle.bl_machine.specs.declared.machine.Activity.{Activity as InMachine}
 use Rattle.bl_machine_pass_laws_typing.proofs.OnFits.Doing.{Stands, stands_at}
@@ -35,13 +35,10 @@ use Rattle.bl_emit_spec_laws.specs.Calls.Built.{Activities}
 use Rattle.bl_emit_spec_laws.specs.Calls.Laws.{CompilationContext}
 use Rattle.bl_emit_spec_laws_nodes.proofs.OnViews.Leaving.{Leaves, kept_inside, nests_inside}
 use Rattle.bl_emit_spec_laws_nodes.specs.Seen.{OwnIsSeen, TargetsAreSeen}
+use Rattle.bl_eval.proofs.UnitFits.{unit_at as unit_stands_at}
+use Rattle.bl_ctree_laws_confluence.proofs.OnDeeds.Activities.{all_at}
 
 -- ---- nodes
-
-at_position : {A : Type 0} (P : A → Type 0) (xs : List A) (k : ℕ) (x : A) → AllOf P xs → slice_get xs k ≡ Some x → P x
-at_position P [] k x all e = absurd cc
-at_position P (y ∷ xs) zero x all e = subst P (same_Some y x e) all.0
-at_position P (y ∷ xs) (suc k) x all e = at_position P xs k x all.1 e
 
 among : {A : Type 0} (P : A → Type 0) (xs : List A) (x : A) → AllOf P xs → Contains xs x → P x
 among P [] x all there = let below = there.1 in absurd (omega arith)
@@ -73,7 +70,7 @@ module _ (structs : List StructDef) (units : List UnitDef) (entry : ℕ) (keeps 
   act_fits : (position : ℕ) (l : Label) (s : Stmt) → slice_get (nodes_in (plain_body unit.body)) position ≡ Some (ActAt l s) →
       fits site s ≡ true
   act_fits position l s node =
-      at_position (NodeFits site AnyRun) (nodes_in (plain_body unit.body)) position (ActAt l s) nodes_fit node
+      all_at (NodeFits site AnyRun) (nodes_in (plain_body unit.body)) position (ActAt l s) nodes_fit node
 
   run_fits : (l : Label) (at : Place) (arguments : Arguments) → Contains (nodes_in (plain_body unit.body)) (EnterAt l at arguments) →
       RunFits site AnyRun at arguments

@@ -28,20 +28,8 @@ use Rattle.bl_emit_acts_laws_simulation.specs.Acts.{copied_in_layer}
 use Rattle.bl_emit_acts_laws_simulation.specs.Encodes.{copied_in}
 use Rattle.bl_emit_acts_laws_wellformed.specs.Formed.Declared.{AreDeclared, IsDeclared, parameter_for, signature_for, variable_of}
 use Rattle.bl_emit_acts_laws_wellformed.specs.Formed.Formed.{BlockIs}
-use Rattle.bl_emit_spec.specs.Activities.{
-  Activity,
-  RunAt,
-  activity_code,
-  activity_function,
-  activity_view,
-  body_of,
-  copies_of,
-  first_rules,
-  frame_struct,
-  remembered_struct,
-  rules_at,
-  runs_in_body,
-}
+use Rattle.bl_emit_spec.specs.Activities.{Activity, RunAt, activity_code, activity_function, activity_view, body_of, copies_of, first_rules, frame_struct}
+use Rattle.bl_emit_spec.specs.Activities.{remembered_struct, rules_at, runs_in_body}
 use Rattle.bl_emit_spec.specs.Blocks.{name_in, unit_may_end}
 use Rattle.bl_emit_spec.specs.Names.{frame_name}
 use Rattle.bl_emit_spec_laws.specs.Registers.Laws.{asks_its_own, changes_its_own}

@@ -1,20 +1,13 @@
 -- Names that are taken, as a set and as a list.
-use Rattle.std.proofs.Common.{◌≡◌, ℕ, Bool, true, false, not, if◌then◌else◌, ◌||◌, List, [], ◌∷◌}
+use Rattle.std.proofs.Common.{◌≡◌, ℕ, true, false, not, if◌then◌else◌, ◌||◌, List, [], ◌∷◌}
 use Rattle.std.proofs.Common.{◌++◌, map, refl, sym, ap, ◌∙◌}
 use Rattle.std.specs.Prelude.{bytes_eq, string_bytes, string_eq}
 use Rattle.std.specs.List.{list_any}
 use Rattle.std.specs.Prelude.{String}
+use Rattle.std.proofs.lemmas.Bool.{not-false, not-true}
 use Rattle.indexmap.specs.IndexSet.{IndexSet, contains, insert_key}
 use Rattle.bl_tree.specs.declared.c.CStruct.{CStruct}
 use Rattle.bl_emit_structs.specs.inner.Added.{Collected, added}
-
-falsely : (b : Bool) → not b ≡ true → b ≡ false
-falsely false h = refl
-falsely true h = sym h
-
-truly : (b : Bool) → not b ≡ false → b ≡ true
-truly true h = refl
-truly false h = sym h
 
 module _ {Y S : Type 0} (structs : List CStruct) (old new : IndexSet (String Y) S) (key : String Y) (s : CStruct) where
   abbrev texts : List (String Y) → List (List ℕ)
@@ -41,7 +34,7 @@ module _ {Y S : Type 0} (structs : List CStruct) (old new : IndexSet (String Y) 
     -- a name that is new to the set
     pub taken_new : not (contains string_eq old key) ≡ true → record { structs = structs ++ s ∷ []; taken = texts new.keys } ≡ added seen s
     taken_new is_new =
-        let absent : contains string_eq old key ≡ false = falsely (contains string_eq old key) is_new in
+        let absent : contains string_eq old key ≡ false = not-true (contains string_eq old key) is_new in
         ap (λ taken. record { structs = structs ++ s ∷ []; taken = taken })
         (ap texts (keys ∙ ap (λ b. if b then old.keys else old.keys ++ key ∷ []) absent) ∙ texts-push old.keys
         ∙ ap (λ n. texts old.keys ++ n ∷ []) name)
@@ -50,6 +43,6 @@ module _ {Y S : Type 0} (structs : List CStruct) (old new : IndexSet (String Y) 
     -- a name that the set has
     pub taken_before : not (contains string_eq old key) ≡ false → record { structs = structs; taken = texts new.keys } ≡ added seen s
     taken_before is_old =
-        let there : contains string_eq old key ≡ true = truly (contains string_eq old key) is_old in
+        let there : contains string_eq old key ≡ true = not-false (contains string_eq old key) is_old in
         ap (λ taken. record { structs = structs; taken = taken }) (ap texts (keys ∙ ap (λ b. if b then old.keys else old.keys ++ key ∷ []) there))
         ∙ ap (λ b. if b then seen else more) (sym (sym is_taken ∙ there))

@@ -1,29 +1,5 @@
 -- What is declared after one list of structs and then another.
-use Rattle.std.proofs.Common.{
-  ◌≡◌,
-  ℕ,
-  ◌+◌,
-  suc,
-  ◌<◌,
-  Bool,
-  true,
-  false,
-  if◌then◌else◌,
-  List,
-  [],
-  ◌∷◌,
-  ◌++◌,
-  map,
-  drop,
-  length,
-  get_or,
-  refl,
-  sym,
-  ap,
-  ◌∙◌,
-  add-one,
-}
-use Rattle.std.proofs.Math.Seq.{drop-cons}
+use Rattle.std.proofs.Common.{◌≡◌, ℕ, ◌+◌, ◌<◌, Bool, true, false, if◌then◌else◌, List, [], ◌∷◌, ◌++◌, map, refl, sym, ap, ◌∙◌}
 use Rattle.std.proofs.lemmas.List.{append_assoc, append-nil}
 use Rattle.std.specs.Prelude.{Result, Ok, Err, OnOk, bytes_eq}
 use Rattle.std.specs.List.{list_any}
@@ -40,9 +16,6 @@ use Rattle.bl_emit_structs.specs.inner.Added.{Collected, added, all_added, nothi
 pub after-append : (collected : Collected) (first second : List CStruct) → all_added collected (first ++ second) ≡ all_added (all_added collected first) second
 after-append collected [] second = refl
 after-append collected (s ∷ first) second = after-append (added collected s) first second
-
-pub next_of : {X : Type 0} (xs : List X) (k : ℕ) (x : X) → k < length xs → x ≡ get_or xs k x → drop k xs ≡ x ∷ drop (k + 1) xs
-next_of xs k x within is = rw add-one (drop-cons xs k x within ∙ ap (λ y. y ∷ drop (suc k) xs) (sym is))
 
 -- one more part
 pub after-next : {X : Type 0} (needs : X → List CStruct) (all rest : List X) (x : X) (collected found : Collected) → all ≡ x ∷ rest →

@@ -6,12 +6,13 @@ use Rattle.std.proofs.lemmas.Grind.{common_steps}
 use Rattle.std.proofs.lemmas.Bool.{eq-eqb, eqb-true}
 use Rattle.std.proofs.lemmas.List.{length-map}
 use Rattle.std.specs.Prelude.{nat_eq, slice_get, unwrap_or}
+use Rattle.bl_tree.proofs.Basics.{numbers_differ}
 use Rattle.bl_tree.specs.Reduce.{greatest}
 use Rattle.bl_machine.specs.Blocks.{up_to}
 use Rattle.bl_machine.specs.Slots.{times}
 use Rattle.bl_machine_pass.specs.Numbered.{sizes_for}
 use Rattle.bl_emit_tables.specs.Sizes.{all_counted, grown, one_more_at}
-use Rattle.bl_emit_tables.proofs.SetLemmas.{length_up_to, no_eq}
+use Rattle.bl_emit_tables.proofs.SetLemmas.{length_up_to}
 
 -- ---- growing
 
@@ -49,7 +50,7 @@ nat_eq_suc j k = by (nat_eq j k) refl
   where
     by : (t : Bool) → nat_eq j k ≡ t → nat_eq (suc j) (suc k) ≡ nat_eq j k
     by true h = eq-eqb (suc j) (suc k) (ap suc (eqb-true j k h)) ∙ sym h
-    by false h = no_eq (suc j) (suc k) (λ same. differ h (eq-eqb j k (omega (arith, same)))) ∙ sym h
+    by false h = numbers_differ (suc j) (suc k) (λ same. differ h (eq-eqb j k (omega (arith, same)))) ∙ sym h
       where
         differ : nat_eq j k ≡ false → nat_eq j k ≡ true → ⊥
         differ unequal equal = cc
@@ -58,8 +59,8 @@ set_reads : (tests : List Bool) (c k : ℕ) → c < length tests →
     entry_at false (slice_set tests c true) k ≡ (nat_eq k c || entry_at false tests k)
 set_reads [] c k within = absurd (omega (arith, within))
 set_reads (t ∷ tests) zero zero within = ap (λ b. b || t) (sym (eq-eqb 0 0 refl))
-set_reads (t ∷ tests) zero (suc k) within = ap (λ b. b || entry_at false tests k) (sym (no_eq (suc k) 0 (λ same. omega (arith, same))))
-set_reads (t ∷ tests) (suc c) zero within = ap (λ b. b || t) (sym (no_eq 0 (suc c) (λ same. omega (arith, same))))
+set_reads (t ∷ tests) zero (suc k) within = ap (λ b. b || entry_at false tests k) (sym (numbers_differ (suc k) 0 (λ same. omega (arith, same))))
+set_reads (t ∷ tests) (suc c) zero within = ap (λ b. b || t) (sym (numbers_differ 0 (suc c) (λ same. omega (arith, same))))
 set_reads (t ∷ tests) (suc c) (suc k) within =
     set_reads tests c k (omega (arith, within)) ∙ ap (λ b. b || entry_at false tests k) (sym (nat_eq_suc k c))
 
@@ -110,12 +111,12 @@ bound_is k (j ∷ rest) = let more = bound_is j rest in omega (arith, more)
 
 counted_reads : (k : ℕ) (table : List ℕ) (j : ℕ) → entry_at 0 (one_more_at k table) j ≡ cond (nat_eq k j) 1 0 + entry_at 0 table j
 counted_reads zero [] zero = omega arith
-counted_reads zero [] (suc j) = rw (no_eq 0 (suc j) (λ same. omega (arith, same))) omega arith
+counted_reads zero [] (suc j) = rw (numbers_differ 0 (suc j) (λ same. omega (arith, same))) omega arith
 counted_reads zero (n ∷ table) zero = omega arith
-counted_reads zero (n ∷ table) (suc j) = rw (no_eq 0 (suc j) (λ same. omega (arith, same))) omega arith
-counted_reads (suc k) [] zero = rw (no_eq (suc k) 0 (λ same. omega (arith, same))) omega arith
+counted_reads zero (n ∷ table) (suc j) = rw (numbers_differ 0 (suc j) (λ same. omega (arith, same))) omega arith
+counted_reads (suc k) [] zero = rw (numbers_differ (suc k) 0 (λ same. omega (arith, same))) omega arith
 counted_reads (suc k) [] (suc j) = counted_reads k [] j ∙ ap (λ b. cond b 1 0 + 0) (sym (nat_eq_suc k j))
-counted_reads (suc k) (n ∷ table) zero = rw (no_eq (suc k) 0 (λ same. omega (arith, same))) omega arith
+counted_reads (suc k) (n ∷ table) zero = rw (numbers_differ (suc k) 0 (λ same. omega (arith, same))) omega arith
 counted_reads (suc k) (n ∷ table) (suc j) = counted_reads k table j ∙ ap (λ b. cond b 1 0 + entry_at 0 table j) (sym (nat_eq_suc k j))
 
 times_cons : (j k : ℕ) (rest : List ℕ) → times j (k ∷ rest) ≡ cond (nat_eq k j) 1 0 + times j rest
@@ -136,7 +137,7 @@ all_reads (k ∷ rest) table j =
 times_none : (ks : List ℕ) (j : ℕ) → bound ks ≤ j → times j ks ≡ 0
 times_none [] j past = refl
 times_none (k ∷ rest) j past =
-    let differs : nat_eq k j ≡ false = no_eq k j (λ same. omega (arith, past, same)) in let more = times_none rest j (omega (arith, past)) in
+    let differs : nat_eq k j ≡ false = numbers_differ k j (λ same. omega (arith, past, same)) in let more = times_none rest j (omega (arith, past)) in
     times_cons j k rest ∙ (rw differs (omega (arith, more)))
 
 same_lists : (xs ys : List ℕ) → length xs ≡ length ys → ((j : ℕ) → entry_at 0 xs j ≡ entry_at 0 ys j) → xs ≡ ys

@@ -2,11 +2,12 @@
 use Rattle.std.proofs.Common.{◌≡◌, ◌<◌, ◌≤◌, ℕ, zero, suc, ◌+◌, Bool, true, false, ◌||◌, List, [], ◌∷◌, ◌++◌}
 use Rattle.std.proofs.Common.{drop, slice_index, length, map, refl, sym, ap, ap₂, ◌∙◌, arith, slice_set}
 use Rattle.std.proofs.lemmas.Grind.{common_steps}
-use Rattle.std.proofs.lemmas.Bool.{eq-eqb, eqb-true}
+use Rattle.std.proofs.lemmas.Bool.{eq-eqb}
 use Rattle.std.proofs.lemmas.List.{length-map, map-append}
 use Rattle.std.proofs.lemmas.List.Folds.{list_any-append}
 use Rattle.std.specs.List.{list_any}
 use Rattle.std.specs.Prelude.{nat_eq}
+use Rattle.bl_tree.proofs.Basics.{numbers_differ, or_assoc, or_false, or_true}
 use Rattle.bl_tree.specs.declared.tree.Unit.{Unit as UnitDef}
 use Rattle.bl_machine.specs.Blocks.{up_to}
 use Rattle.bl_machine_prevs.specs.Prevs.{prevs_of}
@@ -14,25 +15,6 @@ use Rattle.bl_emit_spec.specs.Activities.{copies_of}
 use Rattle.bl_emit_spec.specs.Programs.{set_from}
 
 -- ---- numbers
-
-pub no_eq : (a b : ℕ) → (a ≡ b → ⊥) → nat_eq a b ≡ false
-no_eq a b ne = by (nat_eq a b) refl
-  where
-    by : (t : Bool) → nat_eq a b ≡ t → t ≡ false
-    by true h = absurd (ne (eqb-true a b h))
-    by false h = refl
-
-or_false : (a : Bool) → (a || false) ≡ a
-or_false true = refl
-or_false false = refl
-
-or_assoc : (a b c : Bool) → ((a || b) || c) ≡ (a || (b || c))
-or_assoc true b c = refl
-or_assoc false b c = refl
-
-or_true : (a : Bool) → (a || true) ≡ true
-or_true true = refl
-or_true false = refl
 
 -- ---- setting
 
@@ -48,7 +30,7 @@ set_then first more k (test ∷ rest) =
     (set_then first more (suc k) rest)
 
 missed_test : (test : Bool) (k p : ℕ) → (k ≡ p → ⊥) → (test || list_any (nat_eq k) (p ∷ [])) ≡ test
-missed_test test k p ne = ap (λ b. test || (b || false)) (no_eq k p ne) ∙ or_false test
+missed_test test k p ne = ap (λ b. test || (b || false)) (numbers_differ k p ne) ∙ or_false test
 
 set_below : (p k : ℕ) (tests : List Bool) → p < k → set_from (p ∷ []) k tests ≡ tests
 set_below p k [] less = refl

@@ -1,27 +1,8 @@
 -- After an assignment, a declaration or a call that stands at a site the variables have values of their types.
-use Rattle.std.proofs.Common.{
-  ◌≡◌,
-  ℕ,
-  length,
-  true,
-  ◌||◌,
-  List,
-  [],
-  ◌∷◌,
-  ◌++◌,
-  map,
-  Option,
-  Some,
-  None,
-  refl,
-  sym,
-  ap,
-  ◌∙◌,
-  subst,
-  IfSome,
-}
+use Rattle.std.proofs.Common.{◌≡◌, ℕ, length, true, ◌||◌, List, [], ◌∷◌, ◌++◌, map, Option, Some, None, refl, sym, ap, ◌∙◌, subst, IfSome}
 use Rattle.std.proofs.Math.Seq.{take-add}
 use Rattle.std.specs.Prelude.{All, option_and_then, option_map, slice_get, unwrap_or}
+use Rattle.bl_tree.proofs.Basics.{and_first, and_second}
 use Rattle.bl_tree.specs.declared.place.Place.{Place}
 use Rattle.bl_tree.specs.declared.tree.Arm.{Arm}
 use Rattle.bl_tree.specs.declared.tree.Branch.{Branch}
@@ -37,24 +18,8 @@ use Rattle.bl_tree.specs.declared.tree.Var.{Var}
 use Rattle.bl_tree.specs.declared.value.Value.{Value}
 use Rattle.bl_tree.specs.Program.{parameters_of}
 use Rattle.bl_tree.specs.Types.{same_type, type_stands}
-use Rattle.bl_tree.specs.Typing.{
-  TypingContext,
-  are_same,
-  arguments_fit,
-  call_fits,
-  declaration_fits,
-  fits,
-  inputs_of,
-  is_assignable,
-  is_fixed,
-  is_procedure,
-  is_variable,
-  outputs_of,
-  site_of,
-  type_of,
-  type_of_path,
-  types_match,
-}
+use Rattle.bl_tree.specs.Typing.{TypingContext, are_same, arguments_fit, call_fits, declaration_fits, fits, inputs_of, is_assignable, is_fixed, is_procedure}
+use Rattle.bl_tree.specs.Typing.{is_variable, outputs_of, site_of, type_of, type_of_path, types_match}
 use Rattle.bl_tree.proofs.StmtInduction.{stmt}
 use Rattle.bl_eval.specs.declared.datum.Left.{Left}
 use Rattle.bl_eval.specs.Functions.{acted, assigned, call_of, declared, initial_value, outcome_of_call, put_all, put_back, scope_among}
@@ -65,7 +30,7 @@ use Rattle.bl_eval.proofs.FitLemmas.{same_type_is, zero_fits}
 use Rattle.bl_eval.proofs.MeaningLemmas.{values_append}
 use Rattle.bl_eval.proofs.OperatorFits.{DatumFits, plain_fits}
 use Rattle.bl_eval.proofs.PartFits.{Fits, Leads, if_map, if_then, leads_none, put_fits}
-use Rattle.bl_eval.proofs.PassLemmas.{and_left, and_right, all_at, pass_append}
+use Rattle.bl_eval.proofs.PassLemmas.{all_at, pass_append}
 
 pub same_found : (a b : Option Ty) → are_same a b ≡ true → (ty : Ty) × (a ≡ Some ty) × (b ≡ Some ty)
 same_found (Some a) (Some b) is = (a, refl, ap Some (sym (same_type_is a b is)))
@@ -143,7 +108,7 @@ module _ (structs : List StructDef) (earlier : List UnitDef) (unit : UnitDef) (c
       → IfSome (initial_value scope k initial view) (Fits structs var.ty)
   initial_fits k (Some e) var there fitted =
       let found = same_found (Some var.ty) (type_of site e)
-      (and_right (is_variable var.role || is_fixed var.role) (are_same (Some var.ty) (type_of site e)) fitted) in
+      (and_second (is_variable var.role || is_fixed var.role) (are_same (Some var.ty) (type_of site e)) fitted) in
       value_fits_at e var.ty (found.2 ∙ sym found.1)
   initial_fits k None var there fitted =
       subst (λ at. IfSome (option_map (λ (var : Var). zero_of structs var.ty) at) (Fits structs var.ty)) (sym there)
@@ -164,8 +129,8 @@ module _ (structs : List StructDef) (earlier : List UnitDef) (unit : UnitDef) (c
       → SpotFits structs unit.vars view var.ty (path_meaning_of scope path) × (types_match (map (type_of_path site) paths) vars ≡ true)
   outputs_first path paths var vars None is matched = absurd (cc)
   outputs_first path paths var vars (Some ty) is matched = (
-    spot_at path var.ty (is ∙ ap Some (same_type_is ty var.ty (and_left (same_type ty var.ty) (types_match (map (type_of_path site) paths) vars) matched))),
-    and_right (same_type ty var.ty) (types_match (map (type_of_path site) paths) vars) matched,
+    spot_at path var.ty (is ∙ ap Some (same_type_is ty var.ty (and_first (same_type ty var.ty) (types_match (map (type_of_path site) paths) vars) matched))),
+    and_second (same_type ty var.ty) (types_match (map (type_of_path site) paths) vars) matched,
   )
 
   back_all : (paths : List Path) (vars : List Var) (values : List Value) (now : List Value) →
@@ -177,9 +142,9 @@ module _ (structs : List StructDef) (earlier : List UnitDef) (unit : UnitDef) (c
   back_all (path ∷ paths) (var ∷ vars) (value ∷ values) now matched given all =
       let first = outputs_first path paths var vars (type_of_path site path) refl matched in
       back_all paths vars values (put_back (path_meaning_of scope path) value view now) first.1
-      (and_right (value_fits structs var.ty value) (values_fit structs vars values) given)
+      (and_second (value_fits structs var.ty value) (values_fit structs vars values) given)
       (back_fits structs unit.vars view var.ty (path_meaning_of scope path) value now first.0
-      (and_left (value_fits structs var.ty value) (values_fit structs vars values) given) all)
+      (and_first (value_fits structs var.ty value) (values_fit structs vars values) given) all)
 
   -- the arguments of a call
   outputs_given : (outputs : List Path) (vars : List Var) → types_match (map (type_of_path site) outputs) vars ≡ true
@@ -211,9 +176,9 @@ module _ (structs : List StructDef) (earlier : List UnitDef) (unit : UnitDef) (c
       → IfSome (call_of scope f inputs outputs view) (AllFit structs unit.vars)
   called_fits f inputs outputs None there fitted = absurd (cc)
   called_fits f inputs outputs (Some callee) there fitted =
-      let fitting : arguments_fit site inputs outputs callee ≡ true = and_right (is_procedure callee) (arguments_fit site inputs outputs callee) fitted in
-      let ins : types_match (map (type_of site) inputs) (inputs_of callee) ≡ true = and_left _ _ fitting in
-      let outs : types_match (map (type_of_path site) outputs) (outputs_of callee) ≡ true = and_left _ _ (and_right _ _ fitting) in
+      let fitting : arguments_fit site inputs outputs callee ≡ true = and_second (is_procedure callee) (arguments_fit site inputs outputs callee) fitted in
+      let ins : types_match (map (type_of site) inputs) (inputs_of callee) ≡ true = and_first _ _ fitting in
+      let outs : types_match (map (type_of_path site) outputs) (outputs_of callee) ≡ true = and_first _ _ (and_second _ _ fitting) in
       let given : IfSome (values_of (map (meaning_of scope) inputs ++ map reading (map (path_meaning_of scope) outputs)) view)
       (AllFit structs (inputs_of callee ++ outputs_of callee)) =
       together (map (meaning_of scope) inputs) (map reading (map (path_meaning_of scope) outputs)) (inputs_of callee) (outputs_of callee)
@@ -235,7 +200,7 @@ module _ (structs : List StructDef) (earlier : List UnitDef) (unit : UnitDef) (c
       IfSome (acted scope layer view) (AllFit structs unit.vars)
   act_at place (StmtKind-F.Declare k initial) fitted = declared_fits k initial (rw (fold-roll-Stmt, fold-roll-StmtKind) at fitted)
   act_at place (StmtKind-F.Assign path e) fitted =
-      assigned_fits path e (and_right (is_assignable site path) (are_same (type_of_path site path) (type_of site e))
+      assigned_fits path e (and_second (is_assignable site path) (are_same (type_of_path site path) (type_of site e))
       (rw (fold-roll-Stmt, fold-roll-StmtKind) at fitted))
   act_at place (StmtKind-F.Call f inputs outputs) fitted =
       called_fits f inputs outputs (slice_get earlier f) refl (rw (fold-roll-Stmt, fold-roll-StmtKind) at fitted)

@@ -1,35 +1,13 @@
 -- The value of an expression that stands at a site is one of its type, and a path leads to what is of its type.
-use Rattle.std.proofs.Common.{
-  ◌≡◌,
-  ℕ,
-  ℤ,
-  suc,
-  zero,
-  length,
-  Bool,
-  true,
-  ◌&&◌,
-  List,
-  [],
-  ◌∷◌,
-  map,
-  take,
-  arith,
-  Option,
-  Some,
-  None,
-  refl,
-  sym,
-  ap,
-  ◌∙◌,
-  subst,
-  IfSome,
-}
+use Rattle.std.proofs.Common.{◌≡◌, ℕ, ℤ, suc, zero, length, Bool, true, ◌&&◌, List, [], ◌∷◌, map, take, arith, Option, Some, None, refl, sym, ap, ◌∙◌, subst}
+use Rattle.std.proofs.Common.{IfSome}
 use Rattle.std.proofs.lemmas.Bool.{eqb-true}
 use Rattle.std.proofs.lemmas.List.Elements.{All-head, All-tail}
 use Rattle.std.proofs.lemmas.Option.{same_Some}
 use Rattle.std.specs.Prelude.{All, is_some, nat_eq, option_and_then, option_map, slice_get}
 use Rattle.std.specs.List.{AllZip, list_all}
+use Rattle.std.proofs.lemmas.Bool.{and_from}
+use Rattle.bl_tree.proofs.Basics.{and_first, and_second}
 use Rattle.bl_tree.specs.declared.place.Place.{Place}
 use Rattle.bl_tree.specs.declared.scalar.Op.{Op}
 use Rattle.bl_tree.specs.declared.scalar.Scalar.{Scalar as ScalarType}
@@ -46,54 +24,19 @@ use Rattle.bl_tree.specs.declared.value.Value.{Value}
 use Rattle.bl_tree.specs.Program.{parameters_of, structs_stand_from}
 use Rattle.bl_tree.specs.Scalar.{in_range}
 use Rattle.bl_tree.specs.Types.{same_type, scalar, scalar_in, type_stands}
-use Rattle.bl_tree.specs.Typing.{
-  TypingContext,
-  after_parts,
-  call_type,
-  cast_type,
-  inputs_of,
-  is_activity,
-  is_function,
-  is_variable,
-  one_type,
-  outputs_of,
-  prev_type,
-  site_of,
-  two_type,
-  type_of,
-  type_of_path,
-  types_match,
-  where_same,
-}
+use Rattle.bl_tree.specs.Typing.{TypingContext, after_parts, call_type, cast_type, inputs_of, is_activity, is_function, is_variable, one_type, outputs_of}
+use Rattle.bl_tree.specs.Typing.{prev_type, site_of, two_type, type_of, type_of_path, types_match, where_same}
 use Rattle.bl_tree.proofs.ExprInduction.{Cases, EachIndex, expr, induct, induct_path}
 use Rattle.bl_eval.specs.declared.datum.Datum.{Datum}
 use Rattle.bl_eval.specs.declared.datum.Left.{Left}
 use Rattle.bl_eval.specs.Functions.{scope_among}
-use Rattle.bl_eval.specs.Meaning.{
-  Callee,
-  Meaning,
-  PathMeaning,
-  Scope,
-  View,
-  call_datum,
-  cast_datum,
-  datum_of,
-  meaning_of,
-  one_datum,
-  operand,
-  path_meaning_of,
-  plain,
-  read_at,
-  reading,
-  scalar_of,
-  two_datum,
-  values_of,
-}
+use Rattle.bl_eval.specs.Meaning.{Callee, Meaning, PathMeaning, Scope, View, call_datum, cast_datum, datum_of, meaning_of, one_datum, operand, path_meaning_of}
+use Rattle.bl_eval.specs.Meaning.{plain, read_at, reading, scalar_of, two_datum, values_of}
 use Rattle.bl_eval.specs.Values.{value_fits, values_fit}
 use Rattle.bl_eval.proofs.FitLemmas.{same_type_is}
 use Rattle.bl_eval.proofs.OperatorFits.{DatumFits, OperandFits, cast_fits, datum_fits, one_fits, operand_fits, plain_fits, some_found, two_fits, where_holds}
 use Rattle.bl_eval.proofs.PartFits.{Fits, Leads, if_map, if_then, parts_lead, read_fits, type_of_part}
-use Rattle.bl_eval.proofs.PassLemmas.{and_left, and_right, both, pass_at}
+use Rattle.bl_eval.proofs.PassLemmas.{pass_at}
 
 -- ---- functions
 
@@ -138,7 +81,7 @@ values_first : (structs : List StructDef) (var : Var) (vars : List Var) (ty : Ty
 values_first structs var vars ty None rest same one more = tt
 values_first structs var vars ty (Some datum) None same one more = tt
 values_first structs var vars ty (Some datum) (Some values) same one more =
-    both (value_fits structs var.ty (plain datum)) (values_fit structs vars values)
+    and_from (value_fits structs var.ty (plain datum)) (values_fit structs vars values)
     (subst (λ ty. value_fits structs ty (plain datum) ≡ true) (same_type_is ty var.ty same) (plain_fits structs ty datum one)) more
 
 module _ {X : Type 0} (structs : List StructDef) (view : View) (means : X → Meaning) (types : X → Option Ty) where
@@ -157,8 +100,8 @@ module _ {X : Type 0} (structs : List StructDef) (view : View) (means : X → Me
   match_first x xs (var ∷ vars) None is all one more = absurd (cc)
   match_first x xs (var ∷ vars) (Some ty) is all one more =
       values_first structs var vars ty (means x view) (values_of (map means xs) view)
-      (and_left (same_type ty var.ty) (types_match (map types xs) vars) all) (one ty is)
-      (more vars (and_right (same_type ty var.ty) (types_match (map types xs) vars) all))
+      (and_first (same_type ty var.ty) (types_match (map types xs) vars) all) (one ty is)
+      (more vars (and_second (same_type ty var.ty) (types_match (map types xs) vars) all))
 
   pub match_fits : (xs : List X) → EachFits xs → AllMatch xs
   match_fits [] each [] all = refl
@@ -270,13 +213,13 @@ module _ (structs : List StructDef) (earlier : List UnitDef) (unit : UnitDef) (c
       let callee : UnitDef = found.0 in
       let shape : Bool = nat_eq callee.outputs 0 && types_match (map (type_of site) inputs) (inputs_of callee) in
       let is = where_holds (is_function callee.kind && shape) (option_map scalar callee.result) ty found.2 in
-      let fitting : shape ≡ true = and_right (is_function callee.kind) shape is.0 in
+      let fitting : shape ≡ true = and_second (is_function callee.kind) shape is.0 in
       let none : callee.outputs ≡ 0 = eqb-true callee.outputs 0
-      (and_left (nat_eq callee.outputs 0) (types_match (map (type_of site) inputs) (inputs_of callee)) fitting) in
+      (and_first (nat_eq callee.outputs 0) (types_match (map (type_of site) inputs) (inputs_of callee)) fitting) in
       let same : inputs_of callee ≡ parameters_of callee = ap (λ n. take n callee.vars) (omega arith) in
       let given : IfSome (values_of (map (meaning_of scope) inputs) view) (λ values. values_fit structs (inputs_of callee) values ≡ true) =
       match_fits structs view (meaning_of scope) (type_of site) inputs each (inputs_of callee)
-      (and_right (nat_eq callee.outputs 0) (types_match (map (type_of site) inputs) (inputs_of callee)) fitting) in
+      (and_second (nat_eq callee.outputs 0) (types_match (map (type_of site) inputs) (inputs_of callee)) fitting) in
       if_then (CalleeFits structs callee) (DatumFits structs ty) (call_datum (values_of (map (meaning_of scope) inputs) view)) (slice_get callees f)
       (callee_at structs earlier callees f callee sound.callees_fit found.1)
       (λ does fits. if_then (λ values. values_fit structs (inputs_of callee) values ≡ true) (DatumFits structs ty)

@@ -1,38 +1,13 @@
 -- Which values a type has: types that are one, the tests of structs, and zeros.
-use Rattle.std.proofs.Common.{
-  ◌≡◌,
-  ℕ,
-  suc,
-  zero,
-  ◌+◌,
-  ◌<◌,
-  ◌≤◌,
-  Bool,
-  true,
-  ◌&&◌,
-  List,
-  [],
-  ◌∷◌,
-  ◌++◌,
-  length,
-  get_or,
-  take,
-  replicate,
-  arith,
-  Option,
-  Some,
-  refl,
-  sym,
-  ap,
-  ◌∙◌,
-  subst,
-  length-append,
-}
+use Rattle.std.proofs.Common.{◌≡◌, ℕ, suc, zero, ◌+◌, ◌<◌, ◌≤◌, Bool, true, ◌&&◌, List, [], ◌∷◌, ◌++◌, length, get_or, take, replicate, arith, Option, Some}
+use Rattle.std.proofs.Common.{refl, sym, ap, ◌∙◌, subst, length-append}
 use Rattle.std.proofs.lemmas.Bool.{eqb-true, eq-eqb, ltb-true}
 use Rattle.std.proofs.lemmas.List.{length-replicate}
 use Rattle.std.proofs.lemmas.Option.{same_Some}
 use Rattle.std.specs.Prelude.{nat_eq, nat_lt, nat_le, pos, slice_get}
 use Rattle.std.specs.List.{list_all}
+use Rattle.std.proofs.lemmas.Bool.{and_from}
+use Rattle.bl_tree.proofs.Basics.{and_first, and_second, get_in_front, get_taken, some_within}
 use Rattle.bl_tree.specs.declared.scalar.Scalar.{Scalar as ScalarType}
 use Rattle.bl_tree.specs.declared.scalar.Scalar.TheVariants.{Bool as OfBool, Int, Nat, Bits}
 use Rattle.bl_tree.specs.declared.scalar.Width.{Width}
@@ -47,25 +22,13 @@ use Rattle.bl_tree.specs.declared.value.Value.TheVariants.{Parts, outs-Number, o
 use Rattle.bl_tree.specs.Program.{struct_stands, structs_stand_from}
 use Rattle.bl_tree.specs.Scalar.{bits_of, in_range}
 use Rattle.bl_tree.specs.Types.{same_as_array, same_as_scalar, same_as_struct, same_scalar, same_type, scalar, scalar_at, scalar_in, type_stands}
-use Rattle.bl_eval.specs.Values.{
-  are_elements,
-  by_test,
-  fits_by,
-  is_number_of,
-  pass,
-  struct_test,
-  struct_zero,
-  tests_after,
-  value_fits,
-  zero_by,
-  zero_of,
-  zeros_after,
-}
-use Rattle.bl_eval.proofs.PassLemmas.{and_left, and_right, both, get_front, get_seam, get_take, take_less, all_replicate, pass_each}
+use Rattle.bl_eval.specs.Values.{are_elements, by_test, fits_by, is_number_of, pass, struct_test, struct_zero, tests_after, value_fits, zero_by, zero_of}
+use Rattle.bl_eval.specs.Values.{zeros_after}
+use Rattle.bl_eval.proofs.PassLemmas.{get_seam, take_less, all_replicate, pass_each}
 
 -- ---- types
 
-rolled : (ty : Ty) (layer : Ty-F Ty) → out-Ty ty ≡ layer → ty ≡ roll-Ty layer
+pub rolled : (ty : Ty) (layer : Ty-F Ty) → out-Ty ty ≡ layer → ty ≡ roll-Ty layer
 rolled ty layer is = sym (roll-out-Ty ty) ∙ ap roll-Ty is
 
 scalar_layer : (layer : Ty-F Ty) (s : ScalarType) → scalar_at layer ≡ Some s → layer ≡ Ty-F.Scalar s
@@ -107,8 +70,8 @@ same_array_layer : (n : ℕ) (a : Ty) → IsSame a → (layer : Ty-F Ty) → sam
 same_array_layer n a same (Ty-F.Scalar t) is = absurd (cc)
 same_array_layer n a same (Ty-F.Struct k) is = absurd (cc)
 same_array_layer n a same (Ty-F.Array m b) is =
-    ap (λ n. Ty-F.Array n a) (eqb-true n m (and_left (nat_eq n m) (same_type a b) is))
-    ∙ ap (Ty-F.Array m) (same b (and_right (nat_eq n m) (same_type a b) is))
+    ap (λ n. Ty-F.Array n a) (eqb-true n m (and_first (nat_eq n m) (same_type a b) is))
+    ∙ ap (Ty-F.Array m) (same b (and_second (nat_eq n m) (same_type a b) is))
 
 abbrev With : (Ty → Type 0) → Type 0
 With P = Ty-F ((ty : Ty) × P ty)
@@ -144,7 +107,7 @@ tests_start : (structs : List StructDef) (tests : List Test) (k : ℕ) (test : T
     slice_get (tests_after tests structs) k ≡ Some test
 tests_start [] tests k test there = there
 tests_start (def ∷ rest) tests k test there = tests_start rest (tests ++ struct_test tests def ∷ []) k test
-    (get_front tests (struct_test tests def ∷ []) k test there)
+    (get_in_front tests (struct_test tests def ∷ []) k test there)
 
 tests_at : (structs : List StructDef) (tests : List Test) (j k : ℕ) (def : StructDef) → slice_get structs k ≡ Some def → j ≡ length tests + k
     → slice_get (tests_after tests structs) j ≡ Some (struct_test (tests_after tests (take k structs)) def)
@@ -179,22 +142,17 @@ module _ (tests others : List Test) (n : ℕ) (agree : Agree tests others n) whe
       let all : Test → Test = λ test value. are_elements m test (out-Value value) in
       rw (fold-roll-Ty, fold-roll-Ty)
       (ap all
-      (element.1 (and_right (nat_le 1 m && nat_le m 65536) (type_stands n element.0) (rw fold-roll-Ty at stands))))
+      (element.1 (and_second (nat_le 1 m && nat_le m 65536) (type_stands n element.0) (rw fold-roll-Ty at stands))))
 
   fits_agreed : (ty : Ty) → Agreed ty
   fits_agreed = ind-Ty Agreed (λ x y is. subst (λ layer. Agreed (roll-Ty layer)) is (agreed_by y))
-
-get_within : {A : Type 0} (xs : List A) (k : ℕ) → k < length xs → (x : A) × (slice_get xs k ≡ Some x)
-get_within [] k within = absurd (omega arith)
-get_within (x ∷ xs) zero within = (x, refl)
-get_within (x ∷ xs) (suc k) within = let less : k < length xs = omega arith in get_within xs k less
 
 agree_before : (structs : List StructDef) (s : ℕ) → s ≤ length structs → Agree (tests_after [] (take s structs)) (tests_after [] structs) s
 agree_before structs s most k less =
     let before : k < s = ltb-true k s less in
     let within : k < length structs = omega arith in
-    let found = get_within structs k within in
-    test_is (take s structs) k found.0 (get_take structs s k before ∙ found.1)
+    let found = some_within structs k within in
+    test_is (take s structs) k found.0 (get_taken structs s k before ∙ found.1)
     ∙ ap (λ structs. Some (struct_test (tests_after [] structs) found.0)) (take_less structs s k before)
     ∙ sym (test_is structs k found.0 found.1)
 
@@ -209,7 +167,7 @@ abbrev pub fields_stand : ℕ → StructDef → Bool
 fields_stand before def = list_all (λ field. type_stands before field.ty) def.fields
 
 struct_fields : (before : ℕ) (def : StructDef) → struct_stands before def ≡ true → fields_stand before def ≡ true
-struct_fields before def stands = and_right _ (fields_stand before def) (and_right _ _ stands)
+struct_fields before def stands = and_second _ (fields_stand before def) (and_second _ _ stands)
 
 pub structs_at : (structs : List StructDef) (before j k : ℕ) (def : StructDef) → structs_stand_from before structs ≡ true →
     slice_get structs k ≡ Some def → j ≡ before + k
@@ -219,14 +177,14 @@ structs_at (first ∷ rest) before j zero def stand there is =
     let here : before ≡ j = omega arith in
     subst (λ before. fields_stand before def ≡ true) here
     (subst (λ def. fields_stand before def ≡ true) (same_Some first def there)
-    (struct_fields before first (and_left (struct_stands before first) (structs_stand_from (before + 1) rest) stand)))
+    (struct_fields before first (and_first (struct_stands before first) (structs_stand_from (before + 1) rest) stand)))
 structs_at (first ∷ rest) before j (suc k) def stand there is =
     let later : j ≡ (before + 1) + k = omega arith in
-    structs_at rest (before + 1) j k def (and_right (struct_stands before first) (structs_stand_from (before + 1) rest) stand) there later
+    structs_at rest (before + 1) j k def (and_second (struct_stands before first) (structs_stand_from (before + 1) rest) stand) there later
 
 -- ---- zeros
 
-zero_scalar : (s : ScalarType) → in_range s (pos 0) ≡ true
+pub zero_scalar : (s : ScalarType) → in_range s (pos 0) ≡ true
 zero_scalar OfBool = refl
 zero_scalar (Int W8) = refl
 zero_scalar (Int W16) = refl
@@ -254,9 +212,9 @@ module _ (zeros : List Value) (tests : List Test) (n : ℕ) (all : Zeros zeros t
   zero_fits_by (Ty-F.Struct k) stands = rw (fold-roll-Ty, fold-roll-Ty) (all k (ltb-true k n (rw fold-roll-Ty at stands)))
   zero_fits_by (Ty-F.Array m element) stands =
       let inner : fits_by tests element.0 (zero_by zeros element.0) ≡ true =
-      element.1 (and_right (nat_le 1 m && nat_le m 65536) (type_stands n element.0) (rw fold-roll-Ty at stands)) in
+      element.1 (and_second (nat_le 1 m && nat_le m 65536) (type_stands n element.0) (rw fold-roll-Ty at stands)) in
       rw (fold-roll-Ty, fold-roll-Ty, outs-Parts)
-      (both (nat_eq (length (replicate m (zero_by zeros element.0))) m) (list_all (fits_by tests element.0) (replicate m (zero_by zeros element.0)))
+      (and_from (nat_eq (length (replicate m (zero_by zeros element.0))) m) (list_all (fits_by tests element.0) (replicate m (zero_by zeros element.0)))
       (eq-eqb _ m (length-replicate m (zero_by zeros element.0))) (all_replicate (fits_by tests element.0) m (zero_by zeros element.0) inner))
 
   zero_by_fits : (ty : Ty) → ZeroFits ty
@@ -272,18 +230,18 @@ pass_zeros : (tests : List Test) (zeros : List Value) (k : ℕ) → pass tests z
     by_test (slice_get tests k) (get_or zeros k (Parts [])) ≡ true
 pass_zeros [] zeros k all within = absurd (omega arith)
 pass_zeros (test ∷ tests) [] k all within = absurd (cc)
-pass_zeros (test ∷ tests) (v ∷ zeros) zero all within = and_left (test v) (pass tests zeros) all
+pass_zeros (test ∷ tests) (v ∷ zeros) zero all within = and_first (test v) (pass tests zeros) all
 pass_zeros (test ∷ tests) (v ∷ zeros) (suc k) all within = let less : k < length tests = omega arith in
-    pass_zeros tests zeros k (and_right (test v) (pass tests zeros) all) less
+    pass_zeros tests zeros k (and_second (test v) (pass tests zeros) all) less
 
 pass_push : (tests : List Test) (zeros : List Value) (test : Test) (v : Value) → pass tests zeros ≡ true → test v ≡ true →
     pass (tests ++ test ∷ []) (zeros ++ v ∷ []) ≡ true
-pass_push [] [] test v all one = both (test v) true one refl
+pass_push [] [] test v all one = and_from (test v) true one refl
 pass_push [] (w ∷ zeros) test v all one = absurd (cc)
 pass_push (t ∷ tests) [] test v all one = absurd (cc)
 pass_push (t ∷ tests) (w ∷ zeros) test v all one =
-    both (t w) (pass (tests ++ test ∷ []) (zeros ++ v ∷ [])) (and_left (t w) (pass tests zeros) all)
-    (pass_push tests zeros test v (and_right (t w) (pass tests zeros) all) one)
+    and_from (t w) (pass (tests ++ test ∷ []) (zeros ++ v ∷ [])) (and_first (t w) (pass tests zeros) all)
+    (pass_push tests zeros test v (and_second (t w) (pass tests zeros) all) one)
 
 zeros_pass : (structs : List StructDef) (zeros : List Value) (tests : List Test) (n : ℕ) → length tests ≡ n → pass tests zeros ≡ true →
     structs_stand_from n structs ≡ true
@@ -292,10 +250,10 @@ zeros_pass [] zeros tests n is all stand = all
 zeros_pass (def ∷ rest) zeros tests n is all stand =
     let found : Zeros zeros tests n = λ k within. pass_zeros tests zeros k all (omega arith) in
     let one : struct_test tests def (struct_zero zeros def) ≡ true =
-    struct_zero_fits zeros tests n found def (struct_fields n def (and_left (struct_stands n def) (structs_stand_from (n + 1) rest) stand)) in
+    struct_zero_fits zeros tests n found def (struct_fields n def (and_first (struct_stands n def) (structs_stand_from (n + 1) rest) stand)) in
     let longer : length (tests ++ struct_test tests def ∷ []) ≡ n + 1 = omega (arith, length-append tests (struct_test tests def ∷ [])) in
     zeros_pass rest (zeros ++ struct_zero zeros def ∷ []) (tests ++ struct_test tests def ∷ []) (n + 1) longer
-    (pass_push tests zeros (struct_test tests def) (struct_zero zeros def) all one) (and_right (struct_stands n def) (structs_stand_from (n + 1) rest) stand)
+    (pass_push tests zeros (struct_test tests def) (struct_zero zeros def) all one) (and_second (struct_stands n def) (structs_stand_from (n + 1) rest) stand)
 
 tests_length : (structs : List StructDef) (tests : List Test) → length (tests_after tests structs) ≡ length tests + length structs
 tests_length [] tests = omega arith

@@ -1,36 +1,8 @@
 -- What the definitions come to at one expression, statement or call.
-use Rattle.std.proofs.Common.{
-  ◌≡◌,
-  ℕ,
-  suc,
-  zero,
-  ◌+◌,
-  ◌≤◌,
-  true,
-  false,
-  List,
-  [],
-  ◌∷◌,
-  ◌++◌,
-  length,
-  map,
-  take,
-  arith,
-  Option,
-  Some,
-  None,
-  Result,
-  Ok,
-  Err,
-  refl,
-  sym,
-  ap,
-  ◌∙◌,
-  subst,
-  IfOk,
-  length-append,
-}
+use Rattle.std.proofs.Common.{◌≡◌, ℕ, suc, zero, ◌+◌, ◌≤◌, true, false, List, [], ◌∷◌, ◌++◌, length, map, take, arith, Option, Some, None, Result, Ok, Err}
+use Rattle.std.proofs.Common.{refl, sym, ap, ◌∙◌, subst, IfOk, length-append}
 use Rattle.std.specs.Prelude.{option_and_then, option_map, slice_get, unwrap_or}
+use Rattle.bl_tree.proofs.Basics.{get_in_front, get_past}
 use Rattle.bl_tree.specs.declared.tree.Arm.{Arm, fold_out-Arm, out-Arm}
 use Rattle.bl_tree.specs.declared.tree.Branch.{Branch, fold-Branch}
 use Rattle.bl_tree.specs.declared.tree.Expr.{Expr}
@@ -53,56 +25,15 @@ use Rattle.bl_eval.specs.declared.datum.Left.{Left}
 use Rattle.bl_eval.specs.declared.datum.Put.{Put}
 use Rattle.bl_eval.specs.declared.datum.Target.{Target}
 use Rattle.bl_eval.specs.Changes.{all_changed, choice_of, current_of, part_of_path, puts_of, targets_of, with_element_at}
-use Rattle.bl_eval.specs.Functions.{
-  GuardedBlock,
-  StmtMeaning,
-  Flow,
-  arm_does,
-  branch_does,
-  call_of,
-  callable_of,
-  callee_of,
-  callees_after,
-  callees_of,
-  outcome_of_call,
-  condition,
-  does,
-  frame_of,
-  in_order,
-  kind_does,
-  left_by,
-  looped,
-  most_turns,
-  put_all,
-  put_back,
-  stmt_does,
-  truth,
-}
-use Rattle.bl_eval.specs.Meaning.{
-  Callee,
-  Meaning,
-  PathPosition,
-  Scope,
-  PathMeaning,
-  expr_means,
-  kind_means,
-  part_means,
-  path_means,
-  positions_of,
-  View,
-  datum_of,
-  level_datum,
-  meaning_of,
-  plain,
-  read_at,
-  reading,
-  path_meaning_of,
-  values_of,
-}
+use Rattle.bl_eval.specs.Functions.{GuardedBlock, StmtMeaning, Flow, arm_does, branch_does, call_of, callable_of, callee_of, callees_after, callees_of}
+use Rattle.bl_eval.specs.Functions.{outcome_of_call, condition, does, frame_of, in_order, kind_does, left_by, looped, most_turns, put_all, put_back, stmt_does}
+use Rattle.bl_eval.specs.Functions.{truth}
+use Rattle.bl_eval.specs.Meaning.{Callee, Meaning, PathPosition, Scope, PathMeaning, expr_means, kind_means, part_means, path_means, positions_of, View}
+use Rattle.bl_eval.specs.Meaning.{datum_of, level_datum, meaning_of, plain, read_at, reading, path_meaning_of, values_of}
 use Rattle.bl_eval.specs.Values.{put_at}
 use Rattle.bl_eval.proofs.KindLemmas.{activity_is, function_is}
 use Rattle.bl_eval.proofs.PartLemmas.{put_unwrapped}
-use Rattle.bl_eval.proofs.PassLemmas.{get_front, get_seam}
+use Rattle.bl_eval.proofs.PassLemmas.{get_seam}
 
 -- ---- statements
 
@@ -155,7 +86,7 @@ callees_start : (structs : List StructDef) (units : List UnitDef) (callees : Lis
 callees_start structs [] callees k callee there = there
 callees_start structs (unit ∷ rest) callees k callee there =
     callees_start structs rest (callees ++ callable_of structs callees unit ∷ []) k callee
-    (get_front callees (callable_of structs callees unit ∷ []) k callee there)
+    (get_in_front callees (callable_of structs callees unit ∷ []) k callee there)
 
 callee_after : (structs : List StructDef) (units : List UnitDef) (callees : List Callee) (j k : ℕ) (unit : UnitDef) →
     slice_get units k ≡ Some unit → j ≡ length callees + k
@@ -181,12 +112,7 @@ callees_length structs [] callees = omega arith
 callees_length structs (unit ∷ rest) callees =
     omega (arith, callees_length structs rest (callees ++ callable_of structs callees unit ∷ []), length-append callees (callable_of structs callees unit ∷ []))
 
-get_past : {A : Type 0} (xs : List A) (k : ℕ) → length xs ≤ k → slice_get xs k ≡ None
-get_past [] k past = refl
-get_past (x ∷ xs) zero past = absurd (omega arith)
-get_past (x ∷ xs) (suc k) past = get_past xs k (omega arith)
-
-past_get : {A : Type 0} (xs : List A) (k : ℕ) → slice_get xs k ≡ None → length xs ≤ k
+pub past_get : {A : Type 0} (xs : List A) (k : ℕ) → slice_get xs k ≡ None → length xs ≤ k
 past_get [] k none = omega arith
 past_get (x ∷ xs) zero none = absurd (cc)
 past_get (x ∷ xs) (suc k) none = let past : length xs ≤ k = past_get xs k none in omega arith
@@ -235,11 +161,11 @@ if_ok_then (Err e) f a b h then = tt
 
 -- ---- calls with outputs
 
-plain_level : (ty : ScalarType) (value : Value) (level : Value-F Value) → out-Value value ≡ level → plain (level_datum ty value level) ≡ value
+pub plain_level : (ty : ScalarType) (value : Value) (level : Value-F Value) → out-Value value ≡ level → plain (level_datum ty value level) ≡ value
 plain_level ty value (Value-F.Number n) is = sym (rolls-Number n) ∙ ap roll-Value (sym is) ∙ roll-out-Value value
 plain_level ty value (Value-F.Parts all) is = refl
 
-plain_datum : (ty : Option ScalarType) (value : Value) → plain (datum_of ty value) ≡ value
+pub plain_datum : (ty : Option ScalarType) (value : Value) → plain (datum_of ty value) ≡ value
 plain_datum (Some ty) value = plain_level ty value (out-Value value) refl
 plain_datum None value = refl
 

@@ -2,6 +2,7 @@
 use Rattle.std.proofs.Common.{◌≡◌, ℤ, Bool, true, false, ◌&&◌, List, [], Option, Some, None, refl, sym, ap, ◌∙◌, subst, IfSome}
 use Rattle.std.proofs.lemmas.Option.{same_Some, IfSome_then}
 use Rattle.std.specs.Prelude.{option_and_then, if◌then◌else◌}
+use Rattle.bl_tree.proofs.Basics.{and_first, and_second}
 use Rattle.bl_tree.specs.declared.scalar.Op.{Op}
 use Rattle.bl_tree.specs.declared.scalar.Op.TheVariants.{And, Or}
 use Rattle.bl_tree.specs.declared.scalar.Scalar.{Scalar as ScalarType}
@@ -23,7 +24,6 @@ use Rattle.bl_eval.specs.Meaning.{applied_one, applied_two, cast_datum, datum_of
 use Rattle.bl_eval.specs.Values.{is_number_of, tests_after, value_fits}
 use Rattle.bl_eval.proofs.FitLemmas.{fits_scalar, scalar_is}
 use Rattle.bl_eval.proofs.PartFits.{Fits, if_map}
-use Rattle.bl_eval.proofs.PassLemmas.{and_left, and_right}
 
 -- ---- what there is
 
@@ -87,8 +87,8 @@ one_by : (op : Op) (a : Operand) (holds : Bool) → (takes_one op a.ty && in_ran
     → IfSome (if holds then checked_one_of op a.ty a.n else None) (λ n. in_range (type_of_result op a.ty) n ≡ true)
 one_by op a false is = tt
 one_by op a true is =
-    let takes = and_left (takes_one op a.ty) (in_range a.ty a.n) is in
-    let within = and_right (takes_one op a.ty) (in_range a.ty a.n) is in
+    let takes = and_first (takes_one op a.ty) (in_range a.ty a.n) is in
+    let within = and_second (takes_one op a.ty) (in_range a.ty a.n) is in
     IfSome_then (checked_one_of op a.ty a.n) (checked_one_of-in_range op a.ty a.n takes (in_range_holds a.ty a.n within))
     (λ n h. in_range_passes (type_of_result op a.ty) n h)
 
@@ -108,17 +108,17 @@ two_by : (op : Op) (a : Operand) (n : ℤ) (holds : Bool) → (takes_two op a.ty
     → IfSome (if holds then checked_of op a.ty a.n n else None) (λ n. in_range (type_of_result op a.ty) n ≡ true)
 two_by op a n false is = tt
 two_by op a n true is =
-    let takes = and_left (takes_two op a.ty) (in_range a.ty a.n && in_range a.ty n) is in
-    let within = and_right (takes_two op a.ty) (in_range a.ty a.n && in_range a.ty n) is in
-    let left = in_range_holds a.ty a.n (and_left (in_range a.ty a.n) (in_range a.ty n) within) in
-    let right = in_range_holds a.ty n (and_right (in_range a.ty a.n) (in_range a.ty n) within) in
+    let takes = and_first (takes_two op a.ty) (in_range a.ty a.n && in_range a.ty n) is in
+    let within = and_second (takes_two op a.ty) (in_range a.ty a.n && in_range a.ty n) is in
+    let left = in_range_holds a.ty a.n (and_first (in_range a.ty a.n) (in_range a.ty n) within) in
+    let right = in_range_holds a.ty n (and_second (in_range a.ty a.n) (in_range a.ty n) within) in
     IfSome_then (checked_of op a.ty a.n n) (checked_of-in_range op a.ty a.n n takes left right) (λ n h. in_range_passes (type_of_result op a.ty) n h)
 
 two_applied : (op : Op) (a : Operand) (n : ℤ) → IfSome (applied_two op a n) (λ n. in_range (type_of_result op a.ty) n ≡ true)
 two_applied op a n = two_by op a n (takes_two op a.ty && (in_range a.ty a.n && in_range a.ty n)) refl
 
 -- where the left operand decides, it is of the result's type
-bool_is : (s : ScalarType) → is_bool s ≡ true → OfBool ≡ s
+pub bool_is : (s : ScalarType) → is_bool s ≡ true → OfBool ≡ s
 bool_is OfBool is = refl
 bool_is _ is = absurd (cc)
 
@@ -148,7 +148,7 @@ module _ (structs : List StructDef) (ty : Ty) (op : Op) (s t : ScalarType) (a : 
       → IfSome (if holds then Some (OfScalar a.ty a.n) else option_and_then (two_data op a) b) (DatumFits structs ty)
   by_left b false is = by_both b
   by_left b true is = (
-    result_is ∙ ap scalar (decided op s a.n is (and_right (same_scalar s t) (takes_two op s) found.0) ∙ sym fit.0),
+    result_is ∙ ap scalar (decided op s a.n is (and_second (same_scalar s t) (takes_two op s) found.0) ∙ sym fit.0),
     subst (λ s. in_range s a.n ≡ true) (sym fit.0) fit.1,
   )
 

@@ -1,33 +1,12 @@
 -- Parts of the values of a type: what lies at the positions that a path leads to is of the path's type, and any value of
 -- that type may be put there.
-use Rattle.std.proofs.Common.{
-  ◌≡◌,
-  ℕ,
-  ◌<◌,
-  Bool,
-  true,
-  false,
-  List,
-  [],
-  ◌∷◌,
-  length,
-  map,
-  take,
-  arith,
-  Option,
-  Some,
-  None,
-  refl,
-  sym,
-  ap,
-  ◌∙◌,
-  subst,
-  IfSome,
-}
+use Rattle.std.proofs.Common.{◌≡◌, ℕ, ◌<◌, Bool, true, false, List, [], ◌∷◌, length, map, take, arith, Option, Some, None, refl, sym, ap, ◌∙◌, subst, IfSome}
 use Rattle.std.proofs.lemmas.List.{length-set}
 use Rattle.std.proofs.lemmas.Option.{same_Some, slice_get_within, IfSome_then}
 use Rattle.std.specs.Prelude.{nat_eq, option_and_then, option_map, slice_get, slice_set, if◌then◌else◌}
 use Rattle.std.specs.List.{list_all}
+use Rattle.std.proofs.lemmas.Bool.{and_from}
+use Rattle.bl_tree.proofs.Basics.{and_first, and_second}
 use Rattle.bl_tree.specs.declared.scalar.Scalar.{Scalar as ScalarType}
 use Rattle.bl_tree.specs.declared.tree.Expr.{Expr}
 use Rattle.bl_tree.specs.declared.tree.ExprKind.{ExprKind}
@@ -48,22 +27,10 @@ use Rattle.bl_tree.specs.Types.{scalar_in, type_stands}
 use Rattle.bl_tree.specs.Typing.{TypingContext, after_parts, element_in, expr_type, field_in, kind_type, part_type, path_type, type_of, where_whole}
 use Rattle.bl_eval.specs.Changes.{part_of_path}
 use Rattle.bl_eval.specs.Meaning.{Scope, View, meaning_of, operand, position_in, positions_of, read_at}
-use Rattle.bl_eval.specs.Values.{
-  are_elements,
-  are_fields,
-  by_test,
-  fits_by,
-  parts_at,
-  parts_in,
-  put_at,
-  tests_after,
-  value_at,
-  value_fits,
-  values_fit,
-  with_value_at,
-}
+use Rattle.bl_eval.specs.Values.{are_elements, are_fields, by_test, fits_by, parts_at, parts_in, put_at, tests_after, value_at, value_fits, values_fit}
+use Rattle.bl_eval.specs.Values.{with_value_at}
 use Rattle.bl_eval.proofs.FitLemmas.{Test, fits_array, fits_before, fits_struct, structs_at, test_is}
-use Rattle.bl_eval.proofs.PassLemmas.{and_left, and_right, both, all_at, all_set, pass_at, pass_set}
+use Rattle.bl_eval.proofs.PassLemmas.{all_at, all_set, pass_at, pass_set}
 
 -- ---- what there may be
 
@@ -117,11 +84,11 @@ elements_part : (n : ℕ) (test : Test) (k : ℕ) (level : Value-F Value) → ar
 elements_part n test k (Value-F.Number m) fit = absurd (cc)
 elements_part n test k (Value-F.Parts all) fit =
     if_some _ (slice_get all k) (λ old there. (
-      all_at test all k old (and_right (nat_eq (length all) n) (list_all test all) fit) there,
+      all_at test all k old (and_second (nat_eq (length all) n) (list_all test all) fit) there,
       λ new one. ap (are_elements n test) (outs-Parts (slice_set all k new))
-          ∙ both (nat_eq (length (slice_set all k new)) n) (list_all test (slice_set all k new))
-          (ap (λ m. nat_eq m n) (length-set all k new) ∙ and_left (nat_eq (length all) n) (list_all test all) fit)
-          (all_set test all k new (and_right (nat_eq (length all) n) (list_all test all) fit) one),
+          ∙ and_from (nat_eq (length (slice_set all k new)) n) (list_all test (slice_set all k new))
+          (ap (λ m. nat_eq m n) (length-set all k new) ∙ and_first (nat_eq (length all) n) (list_all test all) fit)
+          (all_set test all k new (and_second (nat_eq (length all) n) (list_all test all) fit) one),
     ))
 
 has_part : (Whole Other Inner Part : Value → Type 0) (k : ℕ) (parts : Option (List Value)) → ((v : Value) → Whole v → Other v) →

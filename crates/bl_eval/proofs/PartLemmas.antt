@@ -1,41 +1,10 @@
 -- Going into a value part by part, and changing one there.
-use Rattle.std.proofs.Common.{
-  ◌≡◌,
-  ℕ,
-  suc,
-  zero,
-  ◌+◌,
-  ◌-◌,
-  ◌<◌,
-  ◌≤◌,
-  List,
-  [],
-  ◌∷◌,
-  ◌++◌,
-  length,
-  get_or,
-  take,
-  drop,
-  arith,
-  refl,
-  sym,
-  ap,
-  ◌∙◌,
-  Option,
-  Some,
-  None,
-  Bool,
-  true,
-  false,
-  not,
-  add-one,
-  drop-cons,
-  set-set,
-}
+use Rattle.std.proofs.Common.{◌≡◌, ℕ, suc, zero, ◌+◌, ◌-◌, ◌<◌, ◌≤◌, List, [], ◌∷◌, ◌++◌, length, get_or, take, drop, arith, refl, sym, ap, ◌∙◌, Option, Some}
+use Rattle.std.proofs.Common.{None, Bool, true, false, not, add-one, drop-cons, set-set}
 use Rattle.std.proofs.lemmas.List.{take_all}
 use Rattle.std.specs.Prelude.{is_some, option_and_then, option_map, slice_get, slice_set, unwrap_or}
 use Rattle.bl_tree.specs.declared.value.Value.{Value}
-use Rattle.bl_tree.specs.declared.value.Value.TheVariants.{Number, Parts, outs-Number, outs-Parts}
+use Rattle.bl_tree.specs.declared.value.Value.TheVariants.{Parts, outs-Parts}
 use Rattle.bl_eval.specs.Changes.{all_changed, changed, replaced, with_element_at}
 use Rattle.bl_eval.specs.declared.datum.Put.{Put}
 use Rattle.bl_eval.specs.Meaning.{read_at}
@@ -71,9 +40,6 @@ replaced_at all k rest new (Some old) is = replaced_in all k old (with_value_at 
 pub replaced_parts : (k : ℕ) (rest : List ℕ) (new : Value) (all : List Value) →
     replaced (k ∷ rest) new (Parts all) ≡ Parts (with_element_at k rest new all)
 replaced_parts k rest new all = rw (outs-Parts all) (replaced_at all k rest new (slice_get all k) refl)
-
-pub replaced_number : (k : ℕ) (rest : List ℕ) (new : Value) (n : _) → replaced (k ∷ rest) new (Number n) ≡ Number n
-replaced_number k rest new n = rw (outs-Number n)
 
 -- where something lies at the positions, something can be put there, and nowhere else
 abbrev Matches : Option Value → Option Value → Type 0

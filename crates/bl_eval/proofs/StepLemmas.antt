@@ -1,36 +1,6 @@
 -- One step of each loop over expressions, paths and statements.
-use Rattle.std.proofs.Common.{
-  ◌≡◌,
-  ℕ,
-  suc,
-  zero,
-  ◌+◌,
-  ◌-◌,
-  ◌<◌,
-  ◌≤◌,
-  Bool,
-  true,
-  false,
-  List,
-  [],
-  ◌∷◌,
-  ◌++◌,
-  length,
-  get_or,
-  map,
-  drop,
-  arith,
-  Option,
-  Some,
-  None,
-  refl,
-  sym,
-  ap,
-  ◌∙◌,
-  add-one,
-  drop-cons,
-  append_assoc,
-}
+use Rattle.std.proofs.Common.{◌≡◌, ℕ, suc, zero, ◌+◌, ◌-◌, ◌<◌, ◌≤◌, Bool, true, false, List, [], ◌∷◌, ◌++◌, length, get_or, map, drop, arith, Option, Some}
+use Rattle.std.proofs.Common.{None, refl, sym, ap, ◌∙◌, add-one, drop-cons, append_assoc}
 use Rattle.std.specs.Prelude.{option_and_then, option_map, if◌then◌else◌}
 use Rattle.bl_tree.specs.declared.value.Value.{Value}
 use Rattle.bl_eval.specs.declared.datum.Datum.{Datum}
@@ -41,7 +11,7 @@ use Rattle.bl_eval.specs.Changes.{ended, targets_of}
 use Rattle.bl_eval.specs.Functions.{Flow, GuardedBlock, StmtMeaning, first_true_choice, flow_then, in_order, looped, most_turns}
 use Rattle.bl_eval.specs.Meaning.{Meaning, PathMeaning, PathPosition, View, plain, positions_of, values_of}
 
-put_behind : {A : Type 0} (made : List A) (x : A) (rest : Option (List A))
+pub put_behind : {A : Type 0} (made : List A) (x : A) (rest : Option (List A))
     → option_map (λ xs. (made ++ x ∷ []) ++ xs) rest ≡ option_map (λ xs. made ++ xs) (option_map (λ xs. x ∷ xs) rest)
 put_behind made x None = refl
 put_behind made x (Some xs) = ap Some (append_assoc made (x ∷ []) xs)

@@ -1,28 +1,8 @@
 -- A statement of a unit leaves its variables with values of their types, and returns what is of its result's type.
-use Rattle.std.proofs.Common.{
-  ◌≡◌,
-  ℕ,
-  suc,
-  zero,
-  Bool,
-  true,
-  false,
-  ◌&&◌,
-  List,
-  [],
-  ◌∷◌,
-  map,
-  Option,
-  Some,
-  None,
-  refl,
-  sym,
-  ◌∙◌,
-  subst,
-  IfSome,
-}
+use Rattle.std.proofs.Common.{◌≡◌, ℕ, suc, zero, Bool, true, false, ◌&&◌, List, [], ◌∷◌, map, Option, Some, None, refl, sym, ◌∙◌, subst, IfSome}
 use Rattle.std.proofs.lemmas.List.Elements.{All-head, All-tail}
 use Rattle.std.specs.Prelude.{option_and_then, option_map, if◌then◌else◌}
+use Rattle.bl_tree.proofs.Basics.{and_first, and_second}
 use Rattle.bl_tree.specs.declared.scalar.Scalar.{Scalar as ScalarType}
 use Rattle.bl_tree.specs.declared.tree.Arm.{Arm, fold-Arm, fold_out-Arm, out-Arm}
 use Rattle.bl_tree.specs.declared.tree.Expr.{Expr}
@@ -34,46 +14,18 @@ use Rattle.bl_tree.specs.declared.tree.Var.{Var}
 use Rattle.bl_tree.specs.declared.value.Value.{Value}
 use Rattle.bl_tree.specs.Reduce.{all_of}
 use Rattle.bl_tree.specs.Types.{scalar}
-use Rattle.bl_tree.specs.Typing.{
-  TypingContext,
-  are_same,
-  arm_fits,
-  branch_fits,
-  fits,
-  is_inhabited,
-  is_truth,
-  kind_fits,
-  return_fits,
-  site_of,
-  stmt_fits,
-  type_of,
-  type_of_path,
-}
+use Rattle.bl_tree.specs.Typing.{TypingContext, are_same, arm_fits, branch_fits, fits, is_inhabited, is_truth, kind_fits, return_fits, site_of, stmt_fits}
+use Rattle.bl_tree.specs.Typing.{type_of, type_of_path}
 use Rattle.bl_tree.proofs.StmtInduction.{Cases, Each, EachArm, induct}
 use Rattle.bl_eval.specs.Changes.{choice_of}
-use Rattle.bl_eval.specs.Functions.{
-  Flow,
-  GuardedBlock,
-  StmtMeaning,
-  condition,
-  declared,
-  does,
-  first_true_choice,
-  flow_then,
-  in_order,
-  looped,
-  most_turns,
-  own,
-  returned,
-  scope_among,
-}
+use Rattle.bl_eval.specs.Functions.{Flow, GuardedBlock, StmtMeaning, condition, declared, does, first_true_choice, flow_then, in_order, looped, most_turns, own}
+use Rattle.bl_eval.specs.Functions.{returned, scope_among}
 use Rattle.bl_eval.specs.Meaning.{Callee, Scope, meaning_of}
 use Rattle.bl_eval.proofs.ActFits.{AllFit, assigned_fits, called_fits, declared_fits, same_found}
 use Rattle.bl_eval.proofs.ExprFits.{ResultFits, Sound, expr_fits}
 use Rattle.bl_eval.proofs.MeaningLemmas.{choice_out}
 use Rattle.bl_eval.proofs.OperatorFits.{DatumFits}
 use Rattle.bl_eval.proofs.PartFits.{if_map}
-use Rattle.bl_eval.proofs.PassLemmas.{and_left, and_right}
 
 -- ---- how statements end
 
@@ -149,15 +101,15 @@ module _ (structs : List StructDef) (earlier : List UnitDef) (unit : UnitDef) (c
   block_fits [] each fitted now all = all
   block_fits (s ∷ body) each fitted now all =
       after_fits structs unit.vars unit.result (does scope s now) (in_order (map (does scope) body))
-      (All-head S s body each (and_left (fits site s) (all_of (map (fits site) body)) fitted) now all)
-      (block_fits body (All-tail S s body each) (and_right (fits site s) (all_of (map (fits site) body)) fitted))
+      (All-head S s body each (and_first (fits site s) (all_of (map (fits site) body)) fitted) now all)
+      (block_fits body (All-tail S s body each) (and_second (fits site s) (all_of (map (fits site) body)) fitted))
 
   abbrev arm_fitted : Arm → Bool
   arm_fitted = fold-Arm Bool Bool Bool Bool (kind_fits site) (arm_fits site) branch_fits stmt_fits
 
   arm_block : (arm : Arm) → arm_fitted arm ≡ true → all_of (map (fits site) (out-Arm arm).body) ≡ true
   arm_block arm fitted =
-      and_right (is_truth (type_of site (out-Arm arm).test)) (all_of (map (fits site) (out-Arm arm).body))
+      and_second (is_truth (type_of site (out-Arm arm).test)) (all_of (map (fits site) (out-Arm arm).body))
       (sym (fold_out-Arm Bool Bool Bool Bool (kind_fits site) (arm_fits site) branch_fits stmt_fits arm) ∙ fitted)
 
   abbrev OfArm : Arm → Type 0
@@ -169,8 +121,8 @@ module _ (structs : List StructDef) (earlier : List UnitDef) (unit : UnitDef) (c
   arms_fit (arm ∷ arms) other each fitted last =
       choice_fits structs unit.vars unit.result (choice_of scope arm) (map (choice_of scope) arms) other
       (subst (λ (choice : GuardedBlock). Ends choice.body) (sym (choice_out scope arm))
-      (block_fits (out-Arm arm).body (All-head OfArm arm arms each) (arm_block arm (and_left (arm_fitted arm) (all_of (map arm_fitted arms)) fitted))))
-      (arms_fit arms other (All-tail OfArm arm arms each) (and_right (arm_fitted arm) (all_of (map arm_fitted arms)) fitted) last)
+      (block_fits (out-Arm arm).body (All-head OfArm arm arms each) (arm_block arm (and_first (arm_fitted arm) (all_of (map arm_fitted arms)) fitted))))
+      (arms_fit arms other (All-tail OfArm arm arms each) (and_second (arm_fitted arm) (all_of (map arm_fitted arms)) fitted) last)
 
   on_fits : (made : Option (List Value)) → IfSome made (AllFit structs unit.vars) →
       IfSome (option_map Flow.On made) (FlowFits structs unit.vars unit.result)
@@ -199,27 +151,27 @@ module _ (structs : List StructDef) (earlier : List UnitDef) (unit : UnitDef) (c
         (rw (fold-roll-Stmt, fold-roll-StmtKind) at fitted)));
     assign = λ place path e fitted now all. rw (fold-roll-Stmt, fold-roll-StmtKind)
         (on_fits _ (assigned_fits structs earlier unit callees sound (own now) all all path e
-        (and_right _ (are_same (type_of_path site path) (type_of site e)) (rw (fold-roll-Stmt, fold-roll-StmtKind) at fitted))));
+        (and_second _ (are_same (type_of_path site path) (type_of site e)) (rw (fold-roll-Stmt, fold-roll-StmtKind) at fitted))));
     call = λ place f inputs outputs fitted now all. rw (fold-roll-Stmt, fold-roll-StmtKind)
         (on_fits _ (called_fits structs earlier unit callees sound (own now) all all f inputs outputs _ refl
         (rw (fold-roll-Stmt, fold-roll-StmtKind) at fitted)));
     await = λ place e fitted now all. rw (fold-roll-Stmt, fold-roll-StmtKind) tt;
     run = λ place target a inputs outputs fitted now all. rw (fold-roll-Stmt, fold-roll-StmtKind) tt;
     branching = λ place arms other each others fitted now all.
-        let both = and_right (is_inhabited (map arm_fitted arms)) (all_of (map arm_fitted arms) && all_of (map (fits site) other))
+        let both = and_second (is_inhabited (map arm_fitted arms)) (all_of (map arm_fitted arms) && all_of (map (fits site) other))
         (rw (fold-roll-Stmt, fold-roll-StmtKind) at fitted) in
         rw (fold-roll-Stmt, fold-roll-StmtKind)
-        (arms_fit arms (in_order (map (does scope) other)) each (and_left (all_of (map arm_fitted arms)) (all_of (map (fits site) other)) both)
-        (block_fits other others (and_right (all_of (map arm_fitted arms)) (all_of (map (fits site) other)) both)) now all);
+        (arms_fit arms (in_order (map (does scope) other)) each (and_first (all_of (map arm_fitted arms)) (all_of (map (fits site) other)) both)
+        (block_fits other others (and_second (all_of (map arm_fitted arms)) (all_of (map (fits site) other)) both)) now all);
     cobegin = λ place branches each fitted now all. rw (fold-roll-Stmt, fold-roll-StmtKind) tt;
     guarded = λ place guard e body each fitted now all. rw (fold-roll-Stmt, fold-roll-StmtKind) tt;
     repeat = λ place body each fitted now all. rw (fold-roll-Stmt, fold-roll-StmtKind)
         (loop_fits None None body each (rw (fold-roll-Stmt, fold-roll-StmtKind) at fitted) now all);
     until = λ place body e each fitted now all. rw (fold-roll-Stmt, fold-roll-StmtKind)
-        (loop_fits None (Some e) body each (and_left (all_of (map (fits site) body)) (is_truth (type_of site e))
+        (loop_fits None (Some e) body each (and_first (all_of (map (fits site) body)) (is_truth (type_of site e))
         (rw (fold-roll-Stmt, fold-roll-StmtKind) at fitted)) now all);
     while = λ place e body each fitted now all. rw (fold-roll-Stmt, fold-roll-StmtKind)
-        (loop_fits (Some e) None body each (and_right (is_truth (type_of site e)) (all_of (map (fits site) body))
+        (loop_fits (Some e) None body each (and_second (is_truth (type_of site e)) (all_of (map (fits site) body))
         (rw (fold-roll-Stmt, fold-roll-StmtKind) at fitted)) now all);
     returns = λ place e fitted now all. rw (fold-roll-Stmt, fold-roll-StmtKind)
         (return_by e unit.result now (rw (fold-roll-Stmt, fold-roll-StmtKind) at fitted) all);

@@ -1,35 +1,11 @@
 -- Every unit of a typed program leaves values of its types, and what stands in it gives and keeps them.
-use Rattle.std.proofs.Common.{
-  ◌≡◌,
-  ℕ,
-  suc,
-  zero,
-  ◌+◌,
-  length,
-  Bool,
-  true,
-  false,
-  ◌&&◌,
-  List,
-  [],
-  ◌∷◌,
-  ◌++◌,
-  map,
-  take,
-  drop,
-  Some,
-  None,
-  refl,
-  sym,
-  ap,
-  ◌∙◌,
-  subst,
-  append_assoc,
-}
+use Rattle.std.proofs.Common.{◌≡◌, ℕ, suc, zero, ◌+◌, length, Bool, true, false, ◌&&◌, List, [], ◌∷◌, ◌++◌, map, take, drop, Some, None, refl, sym, ap, ◌∙◌}
+use Rattle.std.proofs.Common.{subst, append_assoc}
 use Rattle.std.proofs.lemmas.List.{append-nil, take-append-drop}
 use Rattle.std.proofs.lemmas.Option.{same_Some}
 use Rattle.std.specs.Prelude.{slice_get, if◌then◌else◌}
 use Rattle.std.specs.List.{AllZip, list_all}
+use Rattle.bl_tree.proofs.Basics.{and_first, and_second}
 use Rattle.bl_tree.specs.declared.tree.Stmt.{Stmt}
 use Rattle.bl_tree.specs.declared.tree.StructDef.{StructDef}
 use Rattle.bl_tree.specs.declared.tree.Unit.{Unit as UnitDef}
@@ -46,10 +22,10 @@ use Rattle.bl_eval.proofs.ActFits.{AllFit}
 use Rattle.bl_eval.proofs.ExprFits.{CalleeFits, LeftFits, Sound}
 use Rattle.bl_eval.proofs.FitLemmas.{zero_fits}
 use Rattle.bl_eval.proofs.PartFits.{if_map}
-use Rattle.bl_eval.proofs.PassLemmas.{all_drop, and_left, and_right, pass_append, pass_drop, pass_each, pass_take}
+use Rattle.bl_eval.proofs.PassLemmas.{all_drop, pass_append, pass_drop, pass_each, pass_take}
 use Rattle.bl_eval.proofs.StmtFits.{FlowFits, block_fits, does_fits}
 
-all_listed : (test : Stmt → Bool) (body : List Stmt) → list_all test body ≡ true → all_of (map test body) ≡ true
+pub all_listed : (test : Stmt → Bool) (body : List Stmt) → list_all test body ≡ true → all_of (map test body) ≡ true
 all_listed test body all = listed test body ∙ all
   where
     listed : (test : Stmt → Bool) (body : List Stmt) → all_of (map test body) ≡ list_all test body
@@ -60,14 +36,14 @@ all_listed test body all = listed test body ∙ all
 
 module _ (structs : List StructDef) (earlier : List UnitDef) (unit : UnitDef) (stands : unit_stands structs earlier unit ≡ true) where
   vars_stand : list_all (λ var. type_stands (length structs) var.ty) unit.vars ≡ true
-  vars_stand = and_left _ _ (and_right _ _ stands)
+  vars_stand = and_first _ _ (and_second _ _ stands)
 
   body_fits : list_all (fits (site_of structs earlier unit)) unit.body ≡ true
-  body_fits = and_left _ _ (and_right _ _ (and_right _ _ stands))
+  body_fits = and_first _ _ (and_second _ _ (and_second _ _ stands))
 
 -- ---- functions
 
-frame_fits : (structs : List StructDef) (unit : UnitDef) (arguments : List Value) → structs_stand_from 0 structs ≡ true →
+pub frame_fits : (structs : List StructDef) (unit : UnitDef) (arguments : List Value) → structs_stand_from 0 structs ≡ true →
     list_all (λ var. type_stands (length structs) var.ty) unit.vars ≡ true
     → AllFit structs (parameters_of unit) arguments → AllFit structs unit.vars (frame_of structs unit arguments)
 frame_fits structs unit arguments structs_stand vars_stand given =
@@ -125,7 +101,7 @@ callees_fit_after structs earlier callees [] structs_stand all stand =
     subst (λ units. AllZip (CalleeFits structs) units callees) (sym (append-nil earlier)) all
 callees_fit_after structs earlier callees (unit ∷ rest) structs_stand all stand =
     let here : unit_stands structs earlier unit ≡ true =
-    and_left (unit_stands structs earlier unit) (units_stand_after structs (earlier ++ unit ∷ []) rest) stand in
+    and_first (unit_stands structs earlier unit) (units_stand_after structs (earlier ++ unit ∷ []) rest) stand in
     let sound : Sound structs earlier unit callees = record {
       structs_stand = structs_stand;
       vars_stand =
@@ -136,7 +112,7 @@ callees_fit_after structs earlier callees (unit ∷ rest) structs_stand all stan
     (append_assoc earlier (unit ∷ []) rest)
     (callees_fit_after structs (earlier ++ unit ∷ []) (callees ++ callable_of structs callees unit ∷ []) rest structs_stand
     (zip_push structs earlier callees unit (callable_of structs callees unit) all (callable_fits structs earlier unit callees sound here))
-    (and_right (unit_stands structs earlier unit) (units_stand_after structs (earlier ++ unit ∷ []) rest) stand))
+    (and_second (unit_stands structs earlier unit) (units_stand_after structs (earlier ++ unit ∷ []) rest) stand))
 
 units_take : (structs : List StructDef) (earlier units : List UnitDef) (k : ℕ) → units_stand_after structs earlier units ≡ true →
     units_stand_after structs earlier (take k units) ≡ true
@@ -144,23 +120,23 @@ units_take structs earlier units zero stand = refl
 units_take structs earlier [] (suc k) stand = refl
 units_take structs earlier (unit ∷ units) (suc k) stand =
     let here : unit_stands structs earlier unit ≡ true =
-    and_left (unit_stands structs earlier unit) (units_stand_after structs (earlier ++ unit ∷ []) units) stand in
+    and_first (unit_stands structs earlier unit) (units_stand_after structs (earlier ++ unit ∷ []) units) stand in
     ap (λ b. b && units_stand_after structs (earlier ++ unit ∷ []) (take k units)) here
     ∙ units_take structs (earlier ++ unit ∷ []) units k
-    (and_right (unit_stands structs earlier unit) (units_stand_after structs (earlier ++ unit ∷ []) units) stand)
+    (and_second (unit_stands structs earlier unit) (units_stand_after structs (earlier ++ unit ∷ []) units) stand)
 
-unit_at : (structs : List StructDef) (earlier units : List UnitDef) (k : ℕ) (unit : UnitDef) →
+pub unit_at : (structs : List StructDef) (earlier units : List UnitDef) (k : ℕ) (unit : UnitDef) →
     units_stand_after structs earlier units ≡ true → slice_get units k ≡ Some unit
     → unit_stands structs (earlier ++ take k units) unit ≡ true
 unit_at structs earlier [] k unit stand there = absurd (cc)
 unit_at structs earlier (first ∷ units) zero unit stand there =
     subst (λ earlier. unit_stands structs earlier unit ≡ true) (sym (append-nil earlier))
     (subst (λ unit. unit_stands structs earlier unit ≡ true) (same_Some first unit there)
-    (and_left (unit_stands structs earlier first) (units_stand_after structs (earlier ++ first ∷ []) units) stand))
+    (and_first (unit_stands structs earlier first) (units_stand_after structs (earlier ++ first ∷ []) units) stand))
 unit_at structs earlier (first ∷ units) (suc k) unit stand there =
     subst (λ earlier. unit_stands structs earlier unit ≡ true) (append_assoc earlier (first ∷ []) (take k units))
     (unit_at structs (earlier ++ first ∷ []) units k unit
-    (and_right (unit_stands structs earlier first) (units_stand_after structs (earlier ++ first ∷ []) units) stand) there)
+    (and_second (unit_stands structs earlier first) (units_stand_after structs (earlier ++ first ∷ []) units) stand) there)
 
 -- what the statements of a unit of a typed program stand on
 pub sound_at : (structs : List StructDef) (units : List UnitDef) (entry k : ℕ) (unit : UnitDef) → IsWellTyped structs units entry

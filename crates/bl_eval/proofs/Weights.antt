@@ -1,55 +1,15 @@
 -- Measures for what goes down from a struct or a unit to those before it, and from a statement to what stands in it.
-use Rattle.std.proofs.Common.{
-  ◌≡◌,
-  ℕ,
-  suc,
-  zero,
-  ◌+◌,
-  ◌<◌,
-  ◌≤◌,
-  max,
-  List,
-  [],
-  ◌∷◌,
-  length,
-  get_or,
-  map,
-  take,
-  arith,
-  Option,
-  Some,
-  None,
-  ap,
-  ◌∙◌,
-}
+use Rattle.std.proofs.Common.{◌≡◌, ℕ, suc, zero, ◌+◌, ◌<◌, ◌≤◌, max, List, [], ◌∷◌, length, get_or, map, take, arith, Option, Some, None, ◌∙◌}
 use Rattle.std.specs.Prelude.{slice_get}
 use Rattle.bl_tree.specs.declared.tree.Arm.{Arm, fold-Arm, fold_out-Arm, out-Arm}
-use Rattle.bl_tree.specs.declared.tree.Branch.{Branch, fold-Branch}
 use Rattle.bl_tree.specs.declared.tree.Expr.{Expr, size-Expr}
 use Rattle.bl_tree.specs.declared.tree.Field.{Field}
 use Rattle.bl_tree.specs.declared.tree.Part.{Part, size-Part}
 use Rattle.bl_tree.specs.declared.tree.Path.{Path, out-Path}
-use Rattle.bl_tree.specs.declared.tree.Stmt.{Stmt, fold-Stmt, fold_out-Stmt, out-Stmt}
-use Rattle.bl_tree.specs.declared.tree.StmtKind.{StmtKind, fold-StmtKind, fold_out-StmtKind, map-StmtKind, out-StmtKind}
+use Rattle.bl_tree.specs.declared.tree.Stmt.{Stmt, fold-Stmt}
+use Rattle.bl_tree.specs.declared.tree.StmtKind.{StmtKind, fold-StmtKind}
 use Rattle.bl_tree.specs.declared.tree.StmtKind.TheOpen.{StmtKind-F, Arm-F, Branch-F, Stmt-F}
-use Rattle.bl_tree.specs.declared.tree.StmtKind.TheVariants.{
-  Declare,
-  Assign,
-  Call,
-  If,
-  Repeat,
-  Until,
-  While,
-  Return,
-  outs-Declare,
-  outs-Assign,
-  outs-Call,
-  outs-If,
-  outs-Repeat,
-  outs-Until,
-  outs-While,
-  outs-Return,
-}
+use Rattle.bl_tree.specs.declared.tree.StmtKind.TheVariants.{Declare, Assign, Call, If, Repeat, Until, While, Return}
 use Rattle.bl_tree.specs.declared.tree.StructDef.{StructDef}
 use Rattle.bl_tree.specs.declared.tree.Ty.{size-Ty}
 use Rattle.bl_tree.specs.declared.tree.Unit.{Unit as UnitDef}
@@ -131,44 +91,8 @@ block_weight body = greatest (map stmt_weight body)
 abbrev pub arms_weight : List Arm → ℕ
 arms_weight arms = greatest (map arm_weight arms)
 
-pub stmt_out : (s : Stmt) → stmt_weight s ≡ 1 + what_weight (out-Stmt s).what
-stmt_out = fold_out-Stmt ℕ ℕ ℕ ℕ kind_weight arm_layer branch_layer stmt_layer
-
 pub arm_out : (arm : Arm) → arm_weight arm ≡ max (size-Expr (out-Arm arm).test) (block_weight (out-Arm arm).body)
 arm_out = fold_out-Arm ℕ ℕ ℕ ℕ kind_weight arm_layer branch_layer stmt_layer
-
-abbrev measured : StmtKind-F StmtKind Arm Branch Stmt → StmtKind-F ℕ ℕ ℕ ℕ
-measured = map-StmtKind StmtKind Arm Branch Stmt ℕ ℕ ℕ ℕ what_weight arm_weight
-    (fold-Branch ℕ ℕ ℕ ℕ kind_weight arm_layer branch_layer stmt_layer) stmt_weight
-
-what_at : (k : StmtKind) (layer : StmtKind-F StmtKind Arm Branch Stmt) → out-StmtKind k ≡ layer → what_weight k ≡ kind_weight (measured layer)
-what_at k layer is = fold_out-StmtKind ℕ ℕ ℕ ℕ kind_weight arm_layer branch_layer stmt_layer k ∙ ap (λ layer. kind_weight (measured layer)) is
-
-pub weight_declare : (k : StmtKind) (v : ℕ) (e : Option Expr) → k ≡ Declare v e → what_weight k ≡ 1 + optional_depth e
-weight_declare k v e is = what_at k (StmtKind-F.Declare v e) (ap out-StmtKind is ∙ outs-Declare v e)
-
-pub weight_assign : (k : StmtKind) (path : Path) (e : Expr) → k ≡ Assign path e → what_weight k ≡ 1 + max (path_depth path) (size-Expr e)
-weight_assign k path e is = what_at k (StmtKind-F.Assign path e) (ap out-StmtKind is ∙ outs-Assign path e)
-
-pub weight_call : (k : StmtKind) (f : ℕ) (inputs : List Expr) (outputs : List Path) → k ≡ Call f inputs outputs →
-    what_weight k ≡ 1 + max (exprs_depth inputs) (paths_depth outputs)
-weight_call k f inputs outputs is = what_at k (StmtKind-F.Call f inputs outputs) (ap out-StmtKind is ∙ outs-Call f inputs outputs)
-
-pub weight_if : (k : StmtKind) (arms : List Arm) (other : List Stmt) → k ≡ If arms other →
-    what_weight k ≡ 1 + max (arms_weight arms) (block_weight other)
-weight_if k arms other is = what_at k (StmtKind-F.If arms other) (ap out-StmtKind is ∙ outs-If arms other)
-
-pub weight_repeat : (k : StmtKind) (body : List Stmt) → k ≡ Repeat body → what_weight k ≡ 1 + block_weight body
-weight_repeat k body is = what_at k (StmtKind-F.Repeat body) (ap out-StmtKind is ∙ outs-Repeat body)
-
-pub weight_until : (k : StmtKind) (body : List Stmt) (e : Expr) → k ≡ Until body e → what_weight k ≡ 1 + max (block_weight body) (size-Expr e)
-weight_until k body e is = what_at k (StmtKind-F.Until body e) (ap out-StmtKind is ∙ outs-Until body e)
-
-pub weight_while : (k : StmtKind) (e : Expr) (body : List Stmt) → k ≡ While e body → what_weight k ≡ 1 + max (block_weight body) (size-Expr e)
-weight_while k e body is = what_at k (StmtKind-F.While e body) (ap out-StmtKind is ∙ outs-While e body)
-
-pub weight_return : (k : StmtKind) (e : Option Expr) → k ≡ Return e → what_weight k ≡ 1 + optional_depth e
-weight_return k e is = what_at k (StmtKind-F.Return e) (ap out-StmtKind is ∙ outs-Return e)
 
 abbrev pub units_weight : List UnitDef → ℕ
 units_weight [] = 0

@@ -1,33 +1,6 @@
 -- Values of types: which a type has, which of them is zero, and the parts of a value.
-use Rattle.std.specs.Prelude.{
-  ℕ,
-  ℤ,
-  pos,
-  negsuc,
-  Bool,
-  true,
-  false,
-  ◌&&◌,
-  nat_eq,
-  nat_lt,
-  ◌^◌,
-  List,
-  [],
-  ◌∷◌,
-  ◌++◌,
-  map,
-  length,
-  replicate,
-  slice_get,
-  slice_set,
-  slice_index_or,
-  Option,
-  Some,
-  None,
-  option_map,
-  option_and_then,
-  if◌then◌else◌,
-}
+use Rattle.std.specs.Prelude.{ℕ, ℤ, pos, negsuc, Bool, true, false, ◌&&◌, nat_eq, nat_lt, ◌^◌, List, [], ◌∷◌, ◌++◌, map, length, replicate, slice_get}
+use Rattle.std.specs.Prelude.{slice_set, slice_index_or, Option, Some, None, option_map, option_and_then, if◌then◌else◌}
 use Rattle.std.specs.List.{list_all}
 use Rattle.bl_tree.specs.declared.scalar.Scalar.{Scalar as ScalarType}
 use Rattle.bl_tree.specs.declared.tree.StructDef.{StructDef}

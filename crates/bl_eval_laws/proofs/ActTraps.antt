@@ -2,6 +2,7 @@
 use Rattle.std.proofs.Common.{◌≡◌, ℕ, true, ◌||◌, List, [], ◌∷◌, ◌++◌, map, Option, Some, None, refl, sym, ap, ◌∙◌, subst, IfSome}
 use Rattle.std.proofs.Math.Seq.{take-add}
 use Rattle.std.specs.Prelude.{All, is_none, option_and_then, option_map, slice_get}
+use Rattle.bl_tree.proofs.Basics.{and_first, and_second}
 use Rattle.bl_tree.specs.declared.tree.Expr.{Expr}
 use Rattle.bl_tree.specs.declared.tree.Path.{Path}
 use Rattle.bl_tree.specs.declared.tree.Stmt.{Stmt}
@@ -13,23 +14,8 @@ use Rattle.bl_tree.specs.declared.tree.Var.{Var}
 use Rattle.bl_tree.specs.declared.value.Value.{Value}
 use Rattle.bl_tree.specs.Program.{parameters_of}
 use Rattle.bl_tree.specs.Types.{same_type, scalar_in}
-use Rattle.bl_tree.specs.Typing.{
-  TypingContext,
-  are_same,
-  arguments_fit,
-  call_fits,
-  declaration_fits,
-  inputs_of,
-  is_fixed,
-  is_function,
-  is_procedure,
-  is_variable,
-  outputs_of,
-  site_of,
-  type_of,
-  type_of_path,
-  types_match,
-}
+use Rattle.bl_tree.specs.Typing.{TypingContext, are_same, arguments_fit, call_fits, declaration_fits, inputs_of, is_fixed, is_function, is_procedure}
+use Rattle.bl_tree.specs.Typing.{is_variable, outputs_of, site_of, type_of, type_of_path, types_match}
 use Rattle.bl_eval.specs.declared.datum.Datum.{Datum}
 use Rattle.bl_eval.specs.declared.datum.Left.{Left}
 use Rattle.bl_eval.specs.Changes.{with_element_at}
@@ -41,7 +27,7 @@ use Rattle.bl_eval.proofs.ExprFits.{GivesFit, Sound, expr_fits, match_fits, read
 use Rattle.bl_eval.proofs.MeaningLemmas.{function_there, values_append}
 use Rattle.bl_eval.proofs.PartFits.{if_map, if_then}
 use Rattle.bl_eval.proofs.PartLemmas.{put_at_is}
-use Rattle.bl_eval.proofs.PassLemmas.{and_left, and_right, pass_append, pass_at}
+use Rattle.bl_eval.proofs.PassLemmas.{pass_append, pass_at}
 use Rattle.bl_eval_laws.specs.Traps.{Home, says, scope_at, ExprTraps, PathTraps, SomePathTraps, ActTraps}
 use Rattle.bl_eval_laws.proofs.Nothing.{no_some, made_some, none_of_map, none_of_then}
 use Rattle.bl_eval_laws.proofs.ExprTraps.{Calls, called_at, expr_traps, path_lost, some_traps}
@@ -69,7 +55,7 @@ module _ (structs : List StructDef) (home : Home) (sound : Sound structs home.ea
       → initial_value scope k initial view ≡ None → ActTraps structs home view s
   initial_traps s k (Some e) (Some var) is there fitted none =
       let found = same_found (Some var.ty) (type_of site e)
-      (and_right (is_variable var.role || is_fixed var.role) (are_same (Some var.ty) (type_of site e)) fitted) in
+      (and_second (is_variable var.role || is_fixed var.role) (are_same (Some var.ty) (type_of site e)) fitted) in
       ActTraps.initial is (traps e found.0 found.2 (none_of_map plain (meaning_of scope e view) none))
   initial_traps s k (Some e) None is there fitted none = absurd (cc)
   initial_traps s k None (Some var) is there fitted none =
@@ -177,7 +163,7 @@ module _ (structs : List StructDef) (home : Home) (sound : Sound structs home.ea
   by_type path paths (var ∷ vars) None is matched more none = absurd (cc)
   by_type path paths (var ∷ vars) (Some ty) is matched more none =
       by_datum path paths (reading (path_meaning_of scope path) view) (lost path ty is)
-      (more vars (and_right (same_type ty var.ty) (types_match (map (type_of_path site) paths) vars) matched)) none
+      (more vars (and_second (same_type ty var.ty) (types_match (map (type_of_path site) paths) vars) matched)) none
 
   some_path : (paths : List Path) (vars : List Var) → types_match (map (type_of_path site) paths) vars ≡ true →
       values_of (map reading (map (path_meaning_of scope) paths)) view ≡ None
@@ -218,11 +204,11 @@ module _ (structs : List StructDef) (home : Home) (sound : Sound structs home.ea
         → ActTraps structs home view s
     called_traps None there fitted none = absurd (cc)
     called_traps (Some callee) there fitted none =
-        let function : is_function callee.kind ≡ true = and_left (is_function callee.kind) (is_none callee.result)
-        (and_left (is_procedure callee) (arguments_fit site inputs outputs callee) fitted) in
-        let fitting : arguments_fit site inputs outputs callee ≡ true = and_right (is_procedure callee) (arguments_fit site inputs outputs callee) fitted in
-        let matched : types_match (map (type_of site) inputs) (inputs_of callee) ≡ true = and_left _ _ fitting in
-        let others : types_match (map (type_of_path site) outputs) (outputs_of callee) ≡ true = and_left _ _ (and_right _ _ fitting) in
+        let function : is_function callee.kind ≡ true = and_first (is_function callee.kind) (is_none callee.result)
+        (and_first (is_procedure callee) (arguments_fit site inputs outputs callee) fitted) in
+        let fitting : arguments_fit site inputs outputs callee ≡ true = and_second (is_procedure callee) (arguments_fit site inputs outputs callee) fitted in
+        let matched : types_match (map (type_of site) inputs) (inputs_of callee) ≡ true = and_first _ _ fitting in
+        let others : types_match (map (type_of_path site) outputs) (outputs_of callee) ≡ true = and_first _ _ (and_second _ _ fitting) in
         let same : inputs_of callee ++ outputs_of callee ≡ parameters_of callee = sym (take-add callee.inputs callee.outputs callee.vars) in
         by_arguments callee there function matched others (values_of (ins ++ outs) view) refl
         (subst (λ vars. IfSome (values_of (ins ++ outs) view) (AllFit structs vars)) same

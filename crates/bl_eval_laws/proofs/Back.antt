@@ -1,27 +1,5 @@
 -- What traps has no value.
-use Rattle.std.proofs.Common.{
-  ◌≡◌,
-  ℕ,
-  suc,
-  zero,
-  Bool,
-  true,
-  false,
-  ◌&&◌,
-  List,
-  [],
-  ◌∷◌,
-  ◌++◌,
-  map,
-  take,
-  Option,
-  Some,
-  None,
-  refl,
-  sym,
-  ap,
-  ◌∙◌,
-}
+use Rattle.std.proofs.Common.{◌≡◌, ℕ, suc, zero, Bool, true, false, ◌&&◌, List, [], ◌∷◌, ◌++◌, map, take, Option, Some, None, refl, sym, ap, ◌∙◌}
 use Rattle.std.specs.Prelude.{option_and_then, option_map, slice_get, if◌then◌else◌}
 use Rattle.bl_tree.specs.declared.scalar.Op.{Op}
 use Rattle.bl_tree.specs.declared.scalar.Scalar.{Scalar as ScalarType}
@@ -47,74 +25,15 @@ use Rattle.bl_eval.specs.declared.datum.Datum.TheVariants.{Scalar as OfScalar}
 use Rattle.bl_eval.specs.declared.datum.Left.{Left}
 use Rattle.bl_eval.specs.declared.datum.Operand.{Operand}
 use Rattle.bl_eval.specs.Changes.{choice_of, part_of_path, with_element_at}
-use Rattle.bl_eval.specs.Functions.{
-  Flow,
-  GuardedBlock,
-  StmtMeaning,
-  acted,
-  assigned,
-  callable_of,
-  callees_of,
-  condition,
-  does,
-  first_true_choice,
-  flow_then,
-  in_order,
-  left_by,
-  looped,
-  most_turns,
-  outcome_of_call,
-  own,
-  put_all,
-  returned,
-  truth,
-}
-use Rattle.bl_eval.specs.Meaning.{
-  Callee,
-  Meaning,
-  PathMeaning,
-  Scope,
-  View,
-  call_datum,
-  cast_datum,
-  datum_of,
-  decides,
-  meaning_of,
-  one_datum,
-  operand,
-  operand_in,
-  path_meaning_of,
-  plain,
-  position_in,
-  positions_of,
-  read_at,
-  reading,
-  two_data,
-  two_datum,
-  value_in,
-  values_of,
-}
+use Rattle.bl_eval.specs.Functions.{Flow, GuardedBlock, StmtMeaning, acted, assigned, callable_of, callees_of, condition, does, first_true_choice, flow_then}
+use Rattle.bl_eval.specs.Functions.{in_order, left_by, looped, most_turns, outcome_of_call, own, put_all, returned, truth}
+use Rattle.bl_eval.specs.Meaning.{Callee, Meaning, PathMeaning, Scope, View, call_datum, cast_datum, datum_of, decides, meaning_of, one_datum, operand}
+use Rattle.bl_eval.specs.Meaning.{operand_in, path_meaning_of, plain, position_in, positions_of, read_at, reading, two_data, two_datum, value_in, values_of}
 use Rattle.bl_eval.specs.Values.{part_of, put_at, value_at}
 use Rattle.bl_eval.proofs.MeaningLemmas.{callee_is, choice_out, spot_out, values_append}
 use Rattle.bl_eval.proofs.PartLemmas.{put_at_is}
-use Rattle.bl_eval_laws.specs.Traps.{
-  Home,
-  what,
-  says,
-  scope_at,
-  is_act,
-  ExprTraps,
-  SomeTraps,
-  PathTraps,
-  PartsTrap,
-  CallTraps,
-  BlockTraps,
-  ActTraps,
-  SomePathTraps,
-  StmtTraps,
-  ArmsTrap,
-  LoopTraps,
-}
+use Rattle.bl_eval_laws.specs.Traps.{Home, what, says, scope_at, is_act, ExprTraps, SomeTraps, PathTraps, PartsTrap, CallTraps, BlockTraps, ActTraps}
+use Rattle.bl_eval_laws.specs.Traps.{SomePathTraps, StmtTraps, ArmsTrap, LoopTraps}
 use Rattle.bl_eval_laws.proofs.ExprTraps.{called_at}
 use Rattle.bl_eval_laws.proofs.Nothing.{made_of}
 use Rattle.bl_eval_laws.proofs.StmtTraps.{made_of as stmt_made_of}

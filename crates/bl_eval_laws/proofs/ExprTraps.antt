@@ -1,31 +1,9 @@
 -- An expression of a typed program that has no value traps.
-use Rattle.std.proofs.Common.{
-  ◌≡◌,
-  ℕ,
-  ℤ,
-  Bool,
-  true,
-  false,
-  ◌&&◌,
-  List,
-  [],
-  ◌∷◌,
-  map,
-  take,
-  arith,
-  Option,
-  Some,
-  None,
-  refl,
-  sym,
-  ap,
-  ◌∙◌,
-  subst,
-  IfSome,
-}
+use Rattle.std.proofs.Common.{◌≡◌, ℕ, ℤ, Bool, true, false, ◌&&◌, List, [], ◌∷◌, map, take, arith, Option, Some, None, refl, sym, ap, ◌∙◌, subst, IfSome}
 use Rattle.std.proofs.lemmas.Bool.{eqb-true}
 use Rattle.std.proofs.lemmas.List.Elements.{All-head, All-tail}
 use Rattle.std.specs.Prelude.{All, nat_eq, option_and_then, option_map, slice_get, if◌then◌else◌}
+use Rattle.bl_tree.proofs.Basics.{and_first, and_second}
 use Rattle.bl_tree.specs.declared.place.Place.{Place}
 use Rattle.bl_tree.specs.declared.scalar.Op.{Op}
 use Rattle.bl_tree.specs.declared.scalar.Scalar.{Scalar as ScalarType}
@@ -43,25 +21,8 @@ use Rattle.bl_tree.specs.Numbers.{takes_one, takes_two, type_of_result}
 use Rattle.bl_tree.specs.Program.{parameters_of}
 use Rattle.bl_tree.specs.Scalar.{is_whole}
 use Rattle.bl_tree.specs.Types.{same_scalar, same_type, scalar, scalar_in}
-use Rattle.bl_tree.specs.Typing.{
-  TypingContext,
-  after_parts,
-  call_type,
-  cast_type,
-  element_in,
-  field_in,
-  inputs_of,
-  is_function,
-  one_type,
-  prev_type,
-  site_of,
-  two_type,
-  type_of,
-  type_of_path,
-  types_match,
-  where_same,
-  where_whole,
-}
+use Rattle.bl_tree.specs.Typing.{TypingContext, after_parts, call_type, cast_type, element_in, field_in, inputs_of, is_function, one_type, prev_type, site_of}
+use Rattle.bl_tree.specs.Typing.{two_type, type_of, type_of_path, types_match, where_same, where_whole}
 use Rattle.bl_tree.proofs.ExprInduction.{Cases, EachIndex, OfIndex, expr, induct, induct_path}
 use Rattle.bl_eval.specs.declared.datum.Datum.{Datum}
 use Rattle.bl_eval.specs.declared.datum.Datum.TheVariants.{Scalar as OfScalar}
@@ -69,34 +30,15 @@ use Rattle.bl_eval.specs.declared.datum.Left.{Left}
 use Rattle.bl_eval.specs.declared.datum.Operand.{Operand}
 use Rattle.bl_eval.specs.Changes.{part_of_path}
 use Rattle.bl_eval.specs.Functions.{callee_of, callees_of}
-use Rattle.bl_eval.specs.Meaning.{
-  Callee,
-  Scope,
-  View,
-  call_datum,
-  cast_datum,
-  datum_of,
-  decides,
-  meaning_of,
-  one_datum,
-  path_meaning_of,
-  plain,
-  position_in,
-  positions_of,
-  read_at,
-  reading,
-  scalar_of,
-  two_data,
-  two_datum,
-  values_of,
-}
+use Rattle.bl_eval.specs.Meaning.{Callee, Scope, View, call_datum, cast_datum, datum_of, decides, meaning_of, one_datum, path_meaning_of, plain, position_in}
+use Rattle.bl_eval.specs.Meaning.{positions_of, read_at, reading, scalar_of, two_data, two_datum, values_of}
 use Rattle.bl_eval.specs.Values.{part_of, position_of, value_at, value_fits, values_fit}
 use Rattle.bl_eval.proofs.ExprFits.{Sound, expr_fits, match_fits}
 use Rattle.bl_eval.proofs.FitLemmas.{same_scalar_is}
 use Rattle.bl_eval.proofs.MeaningLemmas.{function_there}
 use Rattle.bl_eval.proofs.OperatorFits.{DatumFits, OperandFits, operand_fits, some_found, where_holds}
 use Rattle.bl_eval.proofs.PartFits.{Fits, type_of_part}
-use Rattle.bl_eval.proofs.PassLemmas.{and_left, and_right, pass_at}
+use Rattle.bl_eval.proofs.PassLemmas.{pass_at}
 use Rattle.bl_eval_laws.specs.Traps.{Home, scope_at, number_at, element_at, ExprTraps, SomeTraps, PathTraps, PartsTrap, CallTraps}
 use Rattle.bl_eval_laws.proofs.Nothing.{no_some, made_some, none_of_map, none_of_then, numberless, one_fails, two_fails, cast_fails, what_is}
 use Rattle.bl_eval_laws.proofs.PartTraps.{field_is, element_is, past}
@@ -204,8 +146,8 @@ module _ (structs : List StructDef) (home : Home) (sound : Sound structs home.ea
         let right = some_found (two_type op s) (option_and_then scalar_in (type_of site b)) ty found.2 in
         let t : ScalarType = right.0 in
         let both = where_holds (same_scalar s t && takes_two op s) (Some (scalar (type_of_result op s))) ty right.2 in
-        let same : t ≡ s = sym (same_scalar_is s t (and_left (same_scalar s t) (takes_two op s) both.0)) in
-        by_left op a b s (no_number a s inner found.1) (and_right (same_scalar s t) (takes_two op s) both.0) (no_number b t other right.1)
+        let same : t ≡ s = sym (same_scalar_is s t (and_first (same_scalar s t) (takes_two op s) both.0)) in
+        by_left op a b s (no_number a s inner found.1) (and_second (same_scalar s t) (takes_two op s) both.0) (no_number b t other right.1)
         (subst (λ s. IfSome (number b) (OperandFits s)) same (number_fits b t right.1)) (number a) refl (number_fits a s found.1)
         (rw (fold-roll-Expr, fold-roll-ExprKind) at none)
 
@@ -256,7 +198,7 @@ module _ (structs : List StructDef) (home : Home) (sound : Sound structs home.ea
   by_type e es (var ∷ vars) None is matched inner more none = absurd (cc)
   by_type e es (var ∷ vars) (Some ty) is matched inner more none =
       by_datum e es (meaning_of scope e view) (inner ty is)
-      (more vars (and_right (same_type ty var.ty) (types_match (map (type_of site) es) vars) matched)) none
+      (more vars (and_second (same_type ty var.ty) (types_match (map (type_of site) es) vars) matched)) none
 
   pub some_traps : (es : List Expr) (vars : List Var) → types_match (map (type_of site) es) vars ≡ true → All P es →
       values_of (map (meaning_of scope) es) view ≡ None → SomeTraps structs home view es
@@ -295,11 +237,11 @@ module _ (structs : List StructDef) (home : Home) (sound : Sound structs home.ea
       let callee : UnitDef = found.0 in
       let shape : Bool = nat_eq callee.outputs 0 && types_match (map (type_of site) inputs) (inputs_of callee) in
       let is = where_holds (is_function callee.kind && shape) (option_map scalar callee.result) ty found.2 in
-      let function = and_left (is_function callee.kind) shape is.0 in
-      let fitting : shape ≡ true = and_right (is_function callee.kind) shape is.0 in
-      let matched = and_right (nat_eq callee.outputs 0) (types_match (map (type_of site) inputs) (inputs_of callee)) fitting in
+      let function = and_first (is_function callee.kind) shape is.0 in
+      let fitting : shape ≡ true = and_second (is_function callee.kind) shape is.0 in
+      let matched = and_second (nat_eq callee.outputs 0) (types_match (map (type_of site) inputs) (inputs_of callee)) fitting in
       let no_outputs : callee.outputs ≡ 0 = eqb-true callee.outputs 0
-      (and_left (nat_eq callee.outputs 0) (types_match (map (type_of site) inputs) (inputs_of callee)) fitting) in
+      (and_first (nat_eq callee.outputs 0) (types_match (map (type_of site) inputs) (inputs_of callee)) fitting) in
       let same : inputs_of callee ≡ parameters_of callee = ap (λ n. take n callee.vars) (omega arith) in
       let given : IfSome (values_of (map (meaning_of scope) inputs) view) (λ values. values_fit structs (inputs_of callee) values ≡ true) =
       match_fits structs view (meaning_of scope) (type_of site) inputs (λ k d within ty typed. gives _ ty typed) (inputs_of callee) matched in

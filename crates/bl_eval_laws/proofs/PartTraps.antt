@@ -3,6 +3,7 @@ use Rattle.std.proofs.Common.{◌≡◌, ℕ, ◌<◌, true, List, [], ◌∷◌
 use Rattle.std.proofs.lemmas.Option.{same_Some, slice_get_within}
 use Rattle.std.specs.Prelude.{nat_eq, option_and_then, option_map, slice_get}
 use Rattle.std.specs.List.{list_all}
+use Rattle.bl_tree.proofs.Basics.{and_second}
 use Rattle.bl_tree.specs.declared.tree.Field.{Field}
 use Rattle.bl_tree.specs.declared.tree.StructDef.{StructDef}
 use Rattle.bl_tree.specs.declared.tree.Ty.{Ty, out-Ty}
@@ -15,7 +16,7 @@ use Rattle.bl_tree.specs.Typing.{element_in, field_in}
 use Rattle.bl_eval.specs.Values.{are_elements, are_fields, by_test, fits_by, part_of, parts_at, tests_after, value_at, value_fits}
 use Rattle.bl_eval.proofs.FitLemmas.{Test, fits_array, fits_before, fits_struct, structs_at, test_is}
 use Rattle.bl_eval.proofs.PartFits.{Fits}
-use Rattle.bl_eval.proofs.PassLemmas.{and_right, all_at, pass_at}
+use Rattle.bl_eval.proofs.PassLemmas.{all_at, pass_at}
 
 -- what lies at a position, and is of the type
 pub record PartIs (structs : List StructDef) (ty : Ty) (k : ℕ) (value : Value) : Type 0 where
@@ -34,7 +35,7 @@ field_at tests fields k field (Value-F.Parts all) fit there = let found =
 element_fits : (n : ℕ) (test : Test) (k : ℕ) (inner : Value) (level : Value-F Value) → are_elements n test level ≡ true →
     option_and_then (λ all. slice_get all k) (parts_at level) ≡ Some inner → test inner ≡ true
 element_fits n test k inner (Value-F.Number m) fit there = absurd (cc)
-element_fits n test k inner (Value-F.Parts all) fit there = all_at test all k inner (and_right (nat_eq (length all) n) (list_all test all) fit) there
+element_fits n test k inner (Value-F.Parts all) fit there = all_at test all k inner (and_second (nat_eq (length all) n) (list_all test all) fit) there
 
 module _ (structs : List StructDef) (stand : structs_stand_from 0 structs ≡ true) (a c : Ty) (k : ℕ) (value : Value) (fit : Fits structs a value) where
   in_struct : (s : ℕ) (def : StructDef) (field : Field) → out-Ty a ≡ Ty-F.Struct s → slice_get structs s ≡ Some def →

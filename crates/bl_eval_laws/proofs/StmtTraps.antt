@@ -1,30 +1,8 @@
 -- A statement of a function of a typed program that does not end traps.
-use Rattle.std.proofs.Common.{
-  ◌≡◌,
-  ℕ,
-  suc,
-  zero,
-  Bool,
-  true,
-  false,
-  not,
-  ◌&&◌,
-  List,
-  [],
-  ◌∷◌,
-  map,
-  Option,
-  Some,
-  None,
-  refl,
-  sym,
-  ap,
-  ◌∙◌,
-  subst,
-  IfSome,
-}
+use Rattle.std.proofs.Common.{◌≡◌, ℕ, suc, zero, Bool, true, false, not, ◌&&◌, List, [], ◌∷◌, map, Option, Some, None, refl, sym, ap, ◌∙◌, subst, IfSome}
 use Rattle.std.proofs.lemmas.List.Elements.{All-head, All-tail}
 use Rattle.std.specs.Prelude.{is_some, option_and_then, slice_get, if◌then◌else◌}
+use Rattle.bl_tree.proofs.Basics.{and_first, and_second}
 use Rattle.bl_tree.specs.declared.place.Place.{Place}
 use Rattle.bl_tree.specs.declared.scalar.Scalar.{Scalar as ScalarType}
 use Rattle.bl_tree.specs.declared.tree.Arm.{Arm, fold-Arm, fold_out-Arm, out-Arm}
@@ -42,54 +20,18 @@ use Rattle.bl_tree.specs.Numbers.{is_one}
 use Rattle.bl_tree.specs.Reduce.{all_of}
 use Rattle.bl_tree.specs.Scalar.{is_bool}
 use Rattle.bl_tree.specs.Types.{scalar, scalar_in}
-use Rattle.bl_tree.specs.Typing.{
-  TypingContext,
-  are_same,
-  arguments_fit,
-  run_fits,
-  target_fits,
-  arm_fits,
-  branch_fits,
-  fits,
-  is_activity,
-  is_function,
-  is_inhabited,
-  is_truth,
-  kind_fits,
-  return_fits,
-  site_of,
-  stmt_fits,
-  type_of,
-  type_of_path,
-}
+use Rattle.bl_tree.specs.Typing.{TypingContext, are_same, arguments_fit, run_fits, target_fits, arm_fits, branch_fits, fits, is_activity, is_function}
+use Rattle.bl_tree.specs.Typing.{is_inhabited, is_truth, kind_fits, return_fits, site_of, stmt_fits, type_of, type_of_path}
 use Rattle.bl_tree.proofs.StmtInduction.{Cases, Each, EachArm, induct, stmt}
 use Rattle.bl_eval.specs.declared.datum.Operand.{Operand}
 use Rattle.bl_eval.specs.Changes.{choice_of}
-use Rattle.bl_eval.specs.Functions.{
-  Flow,
-  GuardedBlock,
-  StmtMeaning,
-  assigned,
-  call_of,
-  callees_of,
-  condition,
-  declared,
-  does,
-  first_true_choice,
-  flow_then,
-  in_order,
-  looped,
-  most_turns,
-  own,
-  returned,
-  truth,
-}
+use Rattle.bl_eval.specs.Functions.{Flow, GuardedBlock, StmtMeaning, assigned, call_of, callees_of, condition, declared, does, first_true_choice, flow_then}
+use Rattle.bl_eval.specs.Functions.{in_order, looped, most_turns, own, returned, truth}
 use Rattle.bl_eval.specs.Meaning.{Scope, meaning_of, operand, path_meaning_of, value_in}
 use Rattle.bl_eval.proofs.ActFits.{AllFit, same_found}
 use Rattle.bl_eval.proofs.ExprFits.{Sound, expr_fits}
 use Rattle.bl_eval.proofs.MeaningLemmas.{choice_out}
 use Rattle.bl_eval.proofs.StmtFits.{FlowFits, block_fits, does_fits}
-use Rattle.bl_eval.proofs.PassLemmas.{and_left, and_right}
 use Rattle.bl_eval_laws.specs.Traps.{Home, says, scope_at, ExprTraps, StmtTraps, BlockTraps, ArmsTrap, LoopTraps}
 use Rattle.bl_eval_laws.proofs.Nothing.{made_some, none_of_map, numberless}
 use Rattle.bl_eval_laws.proofs.ExprTraps.{Calls, expr_traps}
@@ -174,10 +116,10 @@ module _ (structs : List StructDef) (home : Home) (sound : Sound structs home.ea
       in_order (map (does scope) body) now ≡ None → BlockTraps structs home body now
   block_traps [] each fitted now fit none = made_some none
   block_traps (s ∷ body) each fitted now fit none =
-      let here : fits site s ≡ true = and_left (fits site s) (all_of (map (fits site) body)) fitted in
+      let here : fits site s ≡ true = and_first (fits site s) (all_of (map (fits site) body)) fitted in
       by_first s body now (does_fits structs home.earlier home.unit (callees_of structs home.earlier) sound s here now fit)
       (All-head S s body each here now fit)
-      (block_traps body (All-tail S s body each) (and_right (fits site s) (all_of (map (fits site) body)) fitted)) (does scope s now) refl none
+      (block_traps body (All-tail S s body each) (and_second (fits site s) (all_of (map (fits site) body)) fitted)) (does scope s now) refl none
 
   body_ends : (body : List Stmt) → all_of (map (fits site) body) ≡ true → (now : List Value) → Fit now →
       IfSome (in_order (map (does scope) body) now) (FlowFits structs home.unit.vars home.unit.result)
@@ -213,12 +155,12 @@ module _ (structs : List StructDef) (home : Home) (sound : Sound structs home.ea
       → first_true_choice (map (choice_of scope) arms) (in_order (map (does scope) other)) now ≡ None → ArmsTrap structs home arms other now
   arms_trap [] other each others fitted other_fitted now fit none = ArmsTrap.none_taken (block_traps other others other_fitted now fit none)
   arms_trap (arm ∷ arms) other each others fitted other_fitted now fit none =
-      let here = arm_parts arm (and_left (arm_fitted arm) (all_of (map arm_fitted arms)) fitted) in
+      let here = arm_parts arm (and_first (arm_fitted arm) (all_of (map arm_fitted arms)) fitted) in
       let test = (out-Arm arm).test in
       let body = (out-Arm arm).body in
-      by_test arm arms other now (truth_traps now fit test (and_left (is_truth (type_of site test)) (all_of (map (fits site) body)) here))
-      (block_traps body (All-head OfArm arm arms each) (and_right (is_truth (type_of site test)) (all_of (map (fits site) body)) here) now fit)
-      (arms_trap arms other (All-tail OfArm arm arms each) others (and_right (arm_fitted arm) (all_of (map arm_fitted arms)) fitted) other_fitted now fit)
+      by_test arm arms other now (truth_traps now fit test (and_first (is_truth (type_of site test)) (all_of (map (fits site) body)) here))
+      (block_traps body (All-head OfArm arm arms each) (and_second (is_truth (type_of site test)) (all_of (map (fits site) body)) here) now fit)
+      (arms_trap arms other (All-tail OfArm arm arms each) others (and_second (arm_fitted arm) (all_of (map arm_fitted arms)) fitted) other_fitted now fit)
       (truth scope test now) refl
       (subst (λ (choice : GuardedBlock). option_and_then (λ holds. if holds then choice.body now else first_true_choice (map (choice_of scope) arms)
       (in_order (map (does scope) other)) now) (choice.test now) ≡ None) (choice_out scope arm) none)
@@ -298,8 +240,8 @@ module _ (structs : List StructDef) (home : Home) (sound : Sound structs home.ea
       run_fits site target inputs outputs callee ≡ true → is_activity home.unit.kind ≡ true
   run_stands target inputs outputs None fitted = absurd (cc)
   run_stands target inputs outputs (Some callee) fitted =
-      and_left (is_activity home.unit.kind) (is_activity callee.kind)
-      (and_left (is_activity home.unit.kind && is_activity callee.kind)
+      and_first (is_activity home.unit.kind) (is_activity callee.kind)
+      (and_first (is_activity home.unit.kind && is_activity callee.kind)
       (target_fits site callee.result target && arguments_fit site inputs outputs callee) fitted)
 
   cases : Cases S
@@ -310,26 +252,26 @@ module _ (structs : List StructDef) (home : Home) (sound : Sound structs home.ea
         (none_of_map Flow.On (declared scope k initial (own now)) (rw (fold-roll-Stmt, fold-roll-StmtKind) at none)));
     assign = λ place path e fitted now fit none.
         StmtTraps.act (assigned_traps structs home sound calls (own now) fit fit _ path e (says_is place (StmtKind-F.Assign path e))
-        (and_right _ (are_same (type_of_path site path) (type_of site e)) (rw (fold-roll-Stmt, fold-roll-StmtKind) at fitted))
+        (and_second _ (are_same (type_of_path site path) (type_of site e)) (rw (fold-roll-Stmt, fold-roll-StmtKind) at fitted))
         (none_of_map Flow.On (assigned (path_meaning_of scope path) (value_in scope e (own now)) (own now)) (rw (fold-roll-Stmt, fold-roll-StmtKind) at none)));
     call = λ place f inputs outputs fitted now fit none.
         StmtTraps.act (called_traps structs home sound calls (own now) fit fit _ f inputs outputs
         (says_is place (StmtKind-F.Call f inputs outputs)) (slice_get home.earlier f) refl (rw (fold-roll-Stmt, fold-roll-StmtKind) at fitted)
         (none_of_map Flow.On (call_of scope f inputs outputs (own now)) (rw (fold-roll-Stmt, fold-roll-StmtKind) at none)));
-    await = λ place e fitted now fit none. no_activity (and_left (is_activity home.unit.kind) _ (rw (fold-roll-Stmt, fold-roll-StmtKind) at fitted));
+    await = λ place e fitted now fit none. no_activity (and_first (is_activity home.unit.kind) _ (rw (fold-roll-Stmt, fold-roll-StmtKind) at fitted));
     run = λ place target a inputs outputs fitted now fit none. no_activity
         (run_stands target inputs outputs (slice_get home.earlier a) (rw (fold-roll-Stmt, fold-roll-StmtKind) at fitted));
     branching = λ place arms other each others fitted now fit none.
-        let both = and_right (is_inhabited (map arm_fitted arms)) (all_of (map arm_fitted arms) && all_of (map (fits site) other))
+        let both = and_second (is_inhabited (map arm_fitted arms)) (all_of (map arm_fitted arms) && all_of (map (fits site) other))
         (rw (fold-roll-Stmt, fold-roll-StmtKind) at fitted) in
         StmtTraps.branching (says_is place (StmtKind-F.If arms other))
-        (arms_trap arms other each others (and_left (all_of (map arm_fitted arms)) (all_of (map (fits site) other)) both)
-        (and_right (all_of (map arm_fitted arms)) (all_of (map (fits site) other)) both) now fit
+        (arms_trap arms other each others (and_first (all_of (map arm_fitted arms)) (all_of (map (fits site) other)) both)
+        (and_second (all_of (map arm_fitted arms)) (all_of (map (fits site) other)) both) now fit
         (rw (fold-roll-Stmt, fold-roll-StmtKind) at none));
     cobegin = λ place branches each fitted now fit none. no_activity
-        (and_left (is_activity home.unit.kind) _ (rw (fold-roll-Stmt, fold-roll-StmtKind) at fitted));
+        (and_first (is_activity home.unit.kind) _ (rw (fold-roll-Stmt, fold-roll-StmtKind) at fitted));
     guarded = λ place guard e body each fitted now fit none. no_activity
-        (and_left (is_activity home.unit.kind) _ (rw (fold-roll-Stmt, fold-roll-StmtKind) at fitted));
+        (and_first (is_activity home.unit.kind) _ (rw (fold-roll-Stmt, fold-roll-StmtKind) at fitted));
     repeat = λ place body each fitted now fit none.
         StmtTraps.repeat (says_is place (StmtKind-F.Repeat body))
         (loop_traps None None body tt tt each (rw (fold-roll-Stmt, fold-roll-StmtKind) at fitted) most_turns now fit
@@ -337,14 +279,14 @@ module _ (structs : List StructDef) (home : Home) (sound : Sound structs home.ea
     until = λ place body e each fitted now fit none.
         let parts = rw (fold-roll-Stmt, fold-roll-StmtKind) at fitted in
         StmtTraps.until (says_is place (StmtKind-F.Until body e))
-        (loop_traps None (Some e) body tt (and_right (all_of (map (fits site) body)) (is_truth (type_of site e)) parts) each
-        (and_left (all_of (map (fits site) body)) (is_truth (type_of site e)) parts) most_turns now fit
+        (loop_traps None (Some e) body tt (and_second (all_of (map (fits site) body)) (is_truth (type_of site e)) parts) each
+        (and_first (all_of (map (fits site) body)) (is_truth (type_of site e)) parts) most_turns now fit
         (rw (fold-roll-Stmt, fold-roll-StmtKind) at none));
     while = λ place e body each fitted now fit none.
         let parts = rw (fold-roll-Stmt, fold-roll-StmtKind) at fitted in
         StmtTraps.while (says_is place (StmtKind-F.While e body))
-        (loop_traps (Some e) None body (and_left (is_truth (type_of site e)) (all_of (map (fits site) body)) parts) tt each
-        (and_right (is_truth (type_of site e)) (all_of (map (fits site) body)) parts) most_turns now fit
+        (loop_traps (Some e) None body (and_first (is_truth (type_of site e)) (all_of (map (fits site) body)) parts) tt each
+        (and_second (is_truth (type_of site e)) (all_of (map (fits site) body)) parts) most_turns now fit
         (rw (fold-roll-Stmt, fold-roll-StmtKind) at none));
     returns = λ place e fitted now fit none.
         result_traps _ e home.unit.result now (says_is place (StmtKind-F.Return e)) (rw (fold-roll-Stmt, fold-roll-StmtKind) at fitted) fit

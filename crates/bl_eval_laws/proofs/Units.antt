@@ -1,50 +1,18 @@
 -- In every unit of a typed program what has no value traps.
-use Rattle.std.proofs.Common.{
-  ◌≡◌,
-  ℕ,
-  suc,
-  zero,
-  ◌+◌,
-  ◌<◌,
-  ◌≤◌,
-  length,
-  Bool,
-  true,
-  false,
-  not,
-  ◌&&◌,
-  ◌||◌,
-  List,
-  [],
-  ◌∷◌,
-  ◌++◌,
-  map,
-  take,
-  arith,
-  Option,
-  Some,
-  None,
-  refl,
-  sym,
-  ap,
-  ◌∙◌,
-  subst,
-  append_assoc,
-  IfSome,
-}
-use Rattle.std.proofs.lemmas.List.{append-nil, length-take, take-append-drop}
+use Rattle.std.proofs.Common.{◌≡◌, ℕ, suc, zero, ◌+◌, ◌<◌, ◌≤◌, length, Bool, true, false, not, ◌&&◌, ◌||◌, List, [], ◌∷◌, ◌++◌, map, take, arith, Option, Some}
+use Rattle.std.proofs.Common.{None, sym, ap, ◌∙◌, subst, IfSome}
+use Rattle.std.proofs.lemmas.List.{length-take}
 use Rattle.std.proofs.lemmas.Option.{same_Some, slice_get_within}
 use Rattle.std.specs.Prelude.{is_none, nat_eq, option_map, slice_get, if◌then◌else◌}
 use Rattle.std.specs.List.{list_all}
+use Rattle.bl_tree.proofs.Basics.{and_first, and_second, get_taken}
 use Rattle.bl_tree.specs.declared.scalar.Scalar.{Scalar as ScalarType}
-use Rattle.bl_tree.specs.declared.tree.Stmt.{Stmt}
 use Rattle.bl_tree.specs.declared.tree.StructDef.{StructDef}
 use Rattle.bl_tree.specs.declared.tree.Unit.{Unit as UnitDef}
-use Rattle.bl_tree.specs.declared.tree.Var.{Var}
 use Rattle.bl_tree.specs.declared.value.Value.{Value}
 use Rattle.bl_tree.specs.Apart.{is_apart}
 use Rattle.bl_tree.specs.Depths.{is_shallow}
-use Rattle.bl_tree.specs.Program.{IsWellTyped, locals_of, names_of, parameters_of, roles_stand, structs_stand_from, unit_stands, units_stand_after}
+use Rattle.bl_tree.specs.Program.{IsWellTyped, names_of, parameters_of, roles_stand, unit_stands}
 use Rattle.bl_tree.specs.Reduce.{all_of}
 use Rattle.bl_tree.specs.Returns.{activity_returns, function_returns, last_of, surely_returns, unit_returns}
 use Rattle.bl_tree.specs.Types.{type_stands}
@@ -52,43 +20,22 @@ use Rattle.bl_tree.specs.Typing.{fits, is_activity, is_function, site_of}
 use Rattle.bl_tree.specs.Words.{are_distinct, is_name}
 use Rattle.bl_eval.specs.declared.datum.Left.{Left}
 use Rattle.bl_eval.specs.Functions.{Flow, callee_of, callees_of, does, frame_of, in_order, left_by, scope_among}
-use Rattle.bl_eval.specs.Values.{value_fits, zero_of}
 use Rattle.bl_eval.proofs.ActFits.{AllFit}
 use Rattle.bl_eval.proofs.ExprFits.{Sound}
-use Rattle.bl_eval.proofs.FitLemmas.{zero_fits}
-use Rattle.bl_eval.proofs.PassLemmas.{all_drop, and_left, and_right, get_take, pass_append, pass_each, take_less}
+use Rattle.bl_eval.proofs.PassLemmas.{take_less}
 use Rattle.bl_eval.proofs.UnitFits.{sound_at}
 use Rattle.bl_eval_laws.specs.Traps.{home_at, BlockTraps, CallTraps}
 use Rattle.bl_eval_laws.proofs.ExprTraps.{Calls}
 use Rattle.bl_eval_laws.proofs.Nothing.{no_some, none_of_map}
 use Rattle.bl_eval_laws.proofs.Results.{Ends, block_ends, stmt_ends}
 use Rattle.bl_eval_laws.proofs.StmtTraps.{block_traps, stmt_traps}
+use Rattle.bl_eval.proofs.UnitFits.{all_listed, frame_fits, unit_at}
 
 -- ---- what a unit that stands keeps
 
-unit_at : (structs : List StructDef) (earlier units : List UnitDef) (k : ℕ) (unit : UnitDef) →
-    units_stand_after structs earlier units ≡ true → slice_get units k ≡ Some unit
-    → unit_stands structs (earlier ++ take k units) unit ≡ true
-unit_at structs earlier [] k unit stand there = absurd (cc)
-unit_at structs earlier (first ∷ units) zero unit stand there =
-    subst (λ earlier. unit_stands structs earlier unit ≡ true) (sym (append-nil earlier))
-    (subst (λ unit. unit_stands structs earlier unit ≡ true) (same_Some first unit there)
-    (and_left (unit_stands structs earlier first) (units_stand_after structs (earlier ++ first ∷ []) units) stand))
-unit_at structs earlier (first ∷ units) (suc k) unit stand there =
-    subst (λ earlier. unit_stands structs earlier unit ≡ true) (append_assoc earlier (first ∷ []) (take k units))
-    (unit_at structs (earlier ++ first ∷ []) units k unit
-    (and_right (unit_stands structs earlier first) (units_stand_after structs (earlier ++ first ∷ []) units) stand) there)
-
-all_listed : (test : Stmt → Bool) (body : List Stmt) → list_all test body ≡ true → all_of (map test body) ≡ true
-all_listed test body all = listed test body ∙ all
-  where
-    listed : (test : Stmt → Bool) (body : List Stmt) → all_of (map test body) ≡ list_all test body
-    listed test [] = refl
-    listed test (s ∷ body) = ap (λ rest. test s && rest) (listed test body)
-
 module _ (structs : List StructDef) (earlier : List UnitDef) (unit : UnitDef) (stands : unit_stands structs earlier unit ≡ true) where
   body_fits : all_of (map (fits (site_of structs earlier unit)) unit.body) ≡ true
-  body_fits = all_listed (fits (site_of structs earlier unit)) unit.body (and_left _ _ (and_right _ _ (and_right _ _ stands)))
+  body_fits = all_listed (fits (site_of structs earlier unit)) unit.body (and_first _ _ (and_second _ _ (and_second _ _ stands)))
 
   returns : unit_returns unit ≡ true
   returns =
@@ -96,8 +43,8 @@ module _ (structs : List StructDef) (earlier : List UnitDef) (unit : UnitDef) (s
       let fitted : Bool = list_all (fits (site_of structs earlier unit)) unit.body in
       let typed : Bool = list_all (λ var. type_stands (length structs) var.ty) unit.vars in
       let named : Bool = roles_stand unit && (list_all is_name (names_of unit.vars) && are_distinct (names_of (parameters_of unit))) in
-      and_left (unit_returns unit) (is_shallow 200 unit.body && list_all is_apart unit.body)
-      (and_right fitted last (and_right typed (fitted && last) (and_right named (typed && (fitted && last)) stands)))
+      and_first (unit_returns unit) (is_shallow 200 unit.body && list_all is_apart unit.body)
+      (and_second fitted last (and_second typed (fitted && last) (and_second named (typed && (fitted && last)) stands)))
 
 surely : (unit : UnitDef) (s : ScalarType) → is_function unit.kind ≡ true → unit.result ≡ Some s → unit_returns unit ≡ true →
     last_of (map surely_returns unit.body) ≡ true
@@ -113,18 +60,6 @@ surely unit s function result all =
         last_of (map surely_returns unit.body) ≡ true
     by_kind true is all = cc
     by_kind false is all = by_result unit.result (nat_eq unit.outputs 0) (last_of (map surely_returns unit.body)) result all
-
-frame_fits : (structs : List StructDef) (unit : UnitDef) (arguments : List Value) → structs_stand_from 0 structs ≡ true →
-    list_all (λ var. type_stands (length structs) var.ty) unit.vars ≡ true
-    → AllFit structs (parameters_of unit) arguments → AllFit structs unit.vars (frame_of structs unit arguments)
-frame_fits structs unit arguments structs_stand vars_stand given =
-    let test : Var → Value → Bool = λ var. value_fits structs var.ty in
-    let good : Var → Bool = λ var. type_stands (length structs) var.ty in
-    let zeros : AllFit structs (locals_of unit) (map (λ (var : Var). zero_of structs var.ty) (locals_of unit)) =
-    pass_each test (λ var. zero_of structs var.ty) good (λ var stands. zero_fits structs var.ty structs_stand stands) (locals_of unit)
-    (all_drop good (unit.inputs + unit.outputs) unit.vars vars_stand) in
-    subst (λ vars. AllFit structs vars (frame_of structs unit arguments)) (take-append-drop (unit.inputs + unit.outputs) unit.vars)
-    (pass_append test (parameters_of unit) (locals_of unit) arguments (map (λ (var : Var). zero_of structs var.ty) (locals_of unit)) given zeros)
 
 -- ---- results
 
@@ -183,11 +118,11 @@ module _ (structs : List StructDef) (units : List UnitDef) (entry : ℕ) (keeps 
         CallTraps.in_body there
         (subst (λ earlier. BlockTraps structs (record { earlier = earlier; unit = callee }) callee.body (frame_of structs callee values))
         (sym (take_less units k f before))
-        (body_traps f callee (sym (get_take units k f before) ∙ there) function values fit (lower f callee before)
+        (body_traps f callee (sym (get_taken units k f before) ∙ there) function values fit (lower f callee before)
         (ap (λ earlier. callee_of structs (callees_of structs earlier) callee values) (sym (take_less units k f before)) ∙ none)));
     returns = λ f callee s values left there function result fit is none.
         let before : f < k = inside k f callee there in
-        body_gives f callee (sym (get_take units k f before) ∙ there) function values fit s result left
+        body_gives f callee (sym (get_taken units k f before) ∙ there) function values fit s result left
         (ap (λ earlier. callee_of structs (callees_of structs earlier) callee values) (sym (take_less units k f before)) ∙ is) none;
   }
 

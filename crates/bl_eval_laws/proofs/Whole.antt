@@ -1,6 +1,7 @@
 -- An expression or an act at its place in a typed program has no value exactly where it traps.
 use Rattle.std.proofs.Common.{◌≡◌, ℕ, true, List, take, Option, Some, None, refl, sym, ap, ◌∙◌, subst}
 use Rattle.std.specs.Prelude.{◌↔◌, is_some, option_and_then, option_map, slice_get}
+use Rattle.bl_tree.proofs.Basics.{and_second}
 use Rattle.bl_tree.specs.declared.tree.Arm.{Arm}
 use Rattle.bl_tree.specs.declared.tree.Branch.{Branch}
 use Rattle.bl_tree.specs.declared.tree.Expr.{Expr}
@@ -16,7 +17,6 @@ use Rattle.bl_tree.proofs.StmtInduction.{stmt}
 use Rattle.bl_eval.specs.Functions.{acted}
 use Rattle.bl_eval.specs.Meaning.{View, meaning_of, plain}
 use Rattle.bl_eval.specs.Standing.{ActStandsInUnit, ExprStandsInUnit, outcome_in_unit, outcome_of, value_in_unit, value_of}
-use Rattle.bl_eval.proofs.PassLemmas.{and_right}
 use Rattle.bl_eval.proofs.UnitFits.{sound_at}
 use Rattle.bl_eval_laws.specs.Traps.{Home, home_at, is_act, says, scope_at, ActTraps, ActTrapsIn, ExprTrapsIn}
 use Rattle.bl_eval_laws.proofs.ActTraps.{assigned_traps, called_traps, declared_traps}
@@ -78,7 +78,7 @@ module _ (structs : List StructDef) (units : List UnitDef) (entry k : ℕ) (view
     by_layer (StmtKind-F.Assign path e) is act none =
         assigned_traps structs home (sound_at structs units entry k stands.unit keeps stands.is_there)
         (calls_at structs units entry keeps k stands.unit) view stands.fitting.now stands.fitting.before s path e is
-        (and_right (is_assignable site path) (are_same (type_of_path site path) (type_of site e))
+        (and_second (is_assignable site path) (are_same (type_of_path site path) (type_of site e))
         (rw (fold-roll-Stmt, fold-roll-StmtKind) at (fitted_as (StmtKind-F.Assign path e) is))) none
     by_layer (StmtKind-F.Call f inputs outputs) is act none =
         called_traps structs home (sound_at structs units entry k stands.unit keeps stands.is_there)

@@ -1,6 +1,7 @@
 -- Lexemes that may follow one another up to an end spell the rest of a face.
 use Rattle.std.proofs.Common.{◌≡◌, ℕ, Bool, true, false, List, [], ◌∷◌}
 use Rattle.std.specs.Prelude.{ℤ, Option, Some, None, ⊤}
+use Rattle.bl_tree.proofs.Basics.{from_false}
 use Rattle.bl_tree.specs.declared.scalar.Scalar.{Scalar as ScalarType}
 use Rattle.bl_tree.specs.declared.tree.UnitKind.{UnitKind}
 use Rattle.bl_face.specs.declared.class.Mark.TheVariants as mark
@@ -14,18 +15,8 @@ use Rattle.bl_face.specs.declared.state.State.{State}
 use Rattle.bl_face.specs.declared.state.State.TheVariants as at
 use Rattle.bl_face.specs.Lexemes.{Lexeme}
 use Rattle.bl_face.specs.Lexemes.Lexeme.{named, marked}
-use Rattle.bl_face.specs.Spells.{
-  kept_length,
-  SpellsType,
-  SpellsField,
-  SpellsFields,
-  SpellsMore,
-  SpellsParams,
-  SpellsResult,
-  SpellsValue,
-  SpellsItem,
-  SpellsItems,
-}
+use Rattle.bl_face.specs.Spells.{kept_length, SpellsType, SpellsField, SpellsFields, SpellsMore, SpellsParams, SpellsResult, SpellsValue, SpellsItem}
+use Rattle.bl_face.specs.Spells.{SpellsItems}
 use Rattle.bl_face.proofs.Accepting.{accepts}
 
 -- ---- what is left to be spelled, by what was read last
@@ -182,12 +173,6 @@ Rest at.Minus whole = Value (marked mark.Minus ∷ whole)
 
 -- ---- one lexeme more
 
-never : false ≡ true → ⊥
-never e = cc
-
-no : {A : Type 0} → false ≡ true → A
-no e = absurd (never e)
-
 begin_items : {whole : List Lexeme} → Item whole → Items whole
 begin_items h = record { items = h.item ∷ h.rest.items; spelled = SpellsItems.more h.spelled h.rest.spelled }
 
@@ -291,121 +276,121 @@ module _ (rest : List Lexeme) (behind : (state : State) → accepts state rest �
   items (marked mark.Struct) e = begin_items (behind at.Struct e)
   items (marked mark.Const) e = begin_items (behind at.Const e)
   items (marked (mark.Unit kind)) e = begin_items (unit_item kind (behind at.Unit e))
-  items (named name) e = no e
-  items (marked _) e = no e
+  items (named name) e = from_false e
+  items (marked _) e = from_false e
 
   outputs : (l : Lexeme) → Goes at.Outputs l
   outputs (marked mark.Returns) e = behind at.Returns e
   outputs (marked mark.Struct) e = no_result (begin_items (behind at.Struct e))
   outputs (marked mark.Const) e = no_result (begin_items (behind at.Const e))
   outputs (marked (mark.Unit kind)) e = no_result (begin_items (unit_item kind (behind at.Unit e)))
-  outputs (named name) e = no e
-  outputs (marked _) e = no e
+  outputs (named name) e = from_false e
+  outputs (marked _) e = from_false e
 
   structure : (l : Lexeme) → Goes at.Struct l
   structure (named name) e = struct_item name (behind (at.First Field) e)
-  structure (marked m) e = no e
+  structure (marked m) e = from_false e
 
   constant : (l : Lexeme) → Goes at.Const l
   constant (named name) e = const_item name (behind at.ConstName e)
-  constant (marked m) e = no e
+  constant (marked m) e = from_false e
 
   unit : (l : Lexeme) → Goes at.Unit l
   unit (named name) e = named_unit name (behind (at.Params Input) e)
-  unit (marked m) e = no e
+  unit (marked m) e = from_false e
 
   params : (slot : Slot) (l : Lexeme) → Goes (at.Params slot) l
   params Field l e = tt
   params Input (marked mark.OpenParen) e = behind (at.First Input) e
-  params Input (named name) e = no e
-  params Input (marked _) e = no e
+  params Input (named name) e = from_false e
+  params Input (marked _) e = from_false e
   params Output (marked mark.OpenParen) e = behind (at.First Output) e
-  params Output (named name) e = no e
-  params Output (marked _) e = no e
+  params Output (named name) e = from_false e
+  params Output (marked _) e = from_false e
 
   first : (slot : Slot) (l : Lexeme) → Goes (at.First slot) l
   first Field (marked mark.Var) e = first_field (behind (at.Part Field) e)
-  first Field (named name) e = no e
-  first Field (marked _) e = no e
+  first Field (named name) e = from_false e
+  first Field (marked _) e = from_false e
   first Input (named name) e = some_inputs (named_part Input name (behind (at.PartName Input) e))
   first Input (marked mark.CloseParen) e = let h : Outputs rest = behind (at.Params Output) e in
       record { params = []; left = _; spelled = SpellsParams.none; rest = h }
-  first Input (marked _) e = no e
+  first Input (marked _) e = from_false e
   first Output (named name) e = some_outputs (named_part Output name (behind (at.PartName Output) e))
   first Output (marked mark.CloseParen) e = let h : Result rest = behind at.Outputs e in
       record { params = []; left = _; spelled = SpellsParams.none; rest = h }
-  first Output (marked _) e = no e
+  first Output (marked _) e = from_false e
 
   part : (slot : Slot) (l : Lexeme) → Goes (at.Part slot) l
   part slot (named name) e = named_part slot name (behind (at.PartName slot) e)
-  part slot (marked m) e = no e
+  part slot (marked m) e = from_false e
 
   part_name : (slot : Slot) (l : Lexeme) → Goes (at.PartName slot) l
   part_name slot (marked mark.Colon) e = typed_part slot (behind (at.Type slot) e)
-  part_name slot (named name) e = no e
-  part_name slot (marked _) e = no e
+  part_name slot (named name) e = from_false e
+  part_name slot (marked _) e = from_false e
 
   typed : (slot : Slot) (l : Lexeme) → Goes (at.Type slot) l
   typed slot (named name) e = struct_type slot name (behind (at.TypeEnd slot) e)
   typed slot (marked (mark.Scalar of)) e = scalar_type slot of (behind (at.TypeEnd slot) e)
   typed slot (marked mark.OpenBracket) e = behind (at.Length slot) e
-  typed slot (marked _) e = no e
+  typed slot (marked _) e = from_false e
 
   length : (slot : Slot) (l : Lexeme) → Goes (at.Length slot) l
   length slot (marked (mark.Number n)) e = array_type slot n (behind (at.LengthEnd slot) e)
-  length slot (named name) e = no e
-  length slot (marked _) e = no e
+  length slot (named name) e = from_false e
+  length slot (marked _) e = from_false e
 
   length_end : (slot : Slot) (l : Lexeme) → Goes (at.LengthEnd slot) l
   length_end slot (marked mark.CloseBracket) e = element_type slot (behind (at.Type slot) e)
-  length_end slot (named name) e = no e
-  length_end slot (marked _) e = no e
+  length_end slot (named name) e = from_false e
+  length_end slot (marked _) e = from_false e
 
   type_end : (slot : Slot) (l : Lexeme) → Goes (at.TypeEnd slot) l
   type_end Field (marked mark.Var) e = more_fields (behind (at.Part Field) e)
   type_end Field (marked mark.End) e = no_fields (behind at.Items e)
-  type_end Field (named name) e = no e
-  type_end Field (marked _) e = no e
+  type_end Field (named name) e = from_false e
+  type_end Field (marked _) e = from_false e
   type_end Input (marked mark.Comma) e = more_inputs (behind (at.Part Input) e)
   type_end Input (marked mark.CloseParen) e = no_inputs (behind (at.Params Output) e)
-  type_end Input (named name) e = no e
-  type_end Input (marked _) e = no e
+  type_end Input (named name) e = from_false e
+  type_end Input (marked _) e = from_false e
   type_end Output (marked mark.Comma) e = more_outputs (behind (at.Part Output) e)
   type_end Output (marked mark.CloseParen) e = no_outputs (behind at.Outputs e)
-  type_end Output (named name) e = no e
-  type_end Output (marked _) e = no e
+  type_end Output (named name) e = from_false e
+  type_end Output (marked _) e = from_false e
 
   returns : (l : Lexeme) → Goes at.Returns l
   returns (marked (mark.Scalar of)) e = given of (behind at.Items e)
-  returns (named name) e = no e
-  returns (marked _) e = no e
+  returns (named name) e = from_false e
+  returns (marked _) e = from_false e
 
   const_name : (l : Lexeme) → Goes at.ConstName l
   const_name (marked mark.Colon) e = const_type (behind at.ConstType e)
-  const_name (named name) e = no e
-  const_name (marked _) e = no e
+  const_name (named name) e = from_false e
+  const_name (marked _) e = from_false e
 
   const_typed : (l : Lexeme) → Goes at.ConstType l
   const_typed (marked (mark.Scalar of)) e = const_scalar of (behind at.ConstTypeEnd e)
-  const_typed (named name) e = no e
-  const_typed (marked _) e = no e
+  const_typed (named name) e = from_false e
+  const_typed (marked _) e = from_false e
 
   const_end : (l : Lexeme) → Goes at.ConstTypeEnd l
   const_end (marked mark.Assign) e = assigned (behind at.Value e)
-  const_end (named name) e = no e
-  const_end (marked _) e = no e
+  const_end (named name) e = from_false e
+  const_end (marked _) e = from_false e
 
   value : (l : Lexeme) → Goes at.Value l
   value (marked (mark.Truth b)) e = truth b (behind at.Items e)
   value (marked (mark.Number n)) e = number n (behind at.Items e)
   value (marked mark.Minus) e = behind at.Minus e
-  value (named name) e = no e
-  value (marked _) e = no e
+  value (named name) e = from_false e
+  value (marked _) e = from_false e
 
   minus : (l : Lexeme) → Goes at.Minus l
   minus (marked (mark.Number n)) e = negative n (behind at.Items e)
-  minus (named name) e = no e
-  minus (marked _) e = no e
+  minus (named name) e = from_false e
+  minus (marked _) e = from_false e
 
   by_state : (state : State) (l : Lexeme) → Goes state l
   by_state at.Items = items
@@ -434,7 +419,7 @@ none_left = record { items = []; spelled = SpellsItems.none }
 at_end : (state : State) → accepts state [] ≡ true → Rest state []
 at_end at.Items e = none_left
 at_end at.Outputs e = no_result none_left
-at_end _ e = no e
+at_end _ e = from_false e
 
 rest_of : (state : State) (whole : List Lexeme) → accepts state whole ≡ true → Rest state whole
 rest_of state [] = at_end state

@@ -1,21 +1,8 @@
 -- A face that is read keeps what faces keep.
-use Rattle.std.proofs.Common.{
-  ◌≡◌,
-  ℕ,
-  suc,
-  Bool,
-  true,
-  false,
-  ◌&&◌,
-  List,
-  [],
-  ◌∷◌,
-  slice_range,
-  refl,
-  arith,
-}
+use Rattle.std.proofs.Common.{◌≡◌, ℕ, suc, Bool, true, ◌&&◌, List, [], ◌∷◌, slice_range, refl, arith}
 use Rattle.std.specs.Prelude.{ℤ, Option}
 use Rattle.std.specs.List.{list_all}
+use Rattle.bl_tree.proofs.Basics.{and_first, and_second}
 use Rattle.bl_tree.specs.Words.{is_name}
 use Rattle.bl_tree.specs.declared.scalar.Scalar.{Scalar as ScalarType}
 use Rattle.bl_tree.specs.declared.token.Token.{Token}
@@ -46,22 +33,14 @@ is_named (marked mark) = true
 abbrev Named : List Lexeme → Type 0
 Named whole = list_all is_named whole ≡ true
 
-left_of : (a b : Bool) → a && b ≡ true → a ≡ true
-left_of true b e = refl
-left_of false b e = e
-
-right_of : (a b : Bool) → a && b ≡ true → b ≡ true
-right_of true b e = e
-right_of false b e = cc
-
 both : (a b : Bool) → a ≡ true → b ≡ true → a && b ≡ true
 both a b ea eb = rw (ea, eb) refl
 
 head_of : (name : List ℕ) (rest : List Lexeme) → Named (named name ∷ rest) → is_name name ≡ true
-head_of name rest e = left_of (is_name name) (list_all is_named rest) e
+head_of name rest e = and_first (is_name name) (list_all is_named rest) e
 
 tail_of : (name : List ℕ) (rest : List Lexeme) → Named (named name ∷ rest) → Named rest
-tail_of name rest e = right_of (is_name name) (list_all is_named rest) e
+tail_of name rest e = and_second (is_name name) (list_all is_named rest) e
 
 -- ---- names of what is spelled
 

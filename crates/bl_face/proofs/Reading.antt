@@ -1,36 +1,10 @@
 -- What a reader of tokens knows behind the first of them.
-use Rattle.std.proofs.Common.{
-  ◌≡◌,
-  ℕ,
-  suc,
-  ◌+◌,
-  ◌<◌,
-  ◌≤◌,
-  Bool,
-  true,
-  false,
-  List,
-  [],
-  ◌∷◌,
-  ◌++◌,
-  length,
-  get_or,
-  take,
-  drop,
-  drop-cons,
-  add-one,
-  refl,
-  ap,
-  sym,
-  ◌∙◌,
-  subst,
-  arith,
-  inl,
-  inr,
-}
+use Rattle.std.proofs.Common.{◌≡◌, ℕ, suc, ◌+◌, ◌<◌, ◌≤◌, Bool, true, false, List, [], ◌∷◌, ◌++◌, length, get_or, take, drop, drop-cons, add-one, refl, ap, sym}
+use Rattle.std.proofs.Common.{◌∙◌, subst, arith, inl, inr}
 use Rattle.std.specs.Prelude.{Some, None}
 use Rattle.std.proofs.lemmas.List.{take-append-drop}
 use Rattle.std.proofs.Math.Seq.{take-suc}
+use Rattle.bl_tree.proofs.Basics.{true_not_false}
 use Rattle.bl_tree.specs.declared.token.Token.{Token}
 use Rattle.bl_lex.specs.Tokens.{FrontOf}
 use Rattle.bl_lex.proofs.FrontLaws as fronts
@@ -41,10 +15,7 @@ use Rattle.bl_face.specs.Reading.{ReadsAs, BeginsFace, StopsAtToken, NotFaceAt}
 use Rattle.bl_face.specs.inner.Reader.{nothing_read, run, step, Steps, read_items}
 use Rattle.bl_face.proofs.Viable as viable
 
-never : true ≡ false → ⊥
-never e = cc
-
-lexemes_append : (text : List ℕ) (xs ys : List Token) → lexemes text (xs ++ ys) ≡ lexemes text xs ++ lexemes text ys
+pub lexemes_append : (text : List ℕ) (xs ys : List Token) → lexemes text (xs ++ ys) ≡ lexemes text xs ++ lexemes text ys
 lexemes_append text [] ys = refl
 lexemes_append text (x ∷ xs) ys = ap (λ (ls : List Lexeme). lexeme_at text x ∷ ls) (lexemes_append text xs ys)
 
@@ -61,7 +32,7 @@ module _ (text : List ℕ) (tokens : List Token) (i : ℕ) (d : Token) (inside :
   pub next_if : (taken : Bool) → Steps (step r (lexeme_at text (get_or tokens i d))) taken after → taken ≡ true →
       run (Some nothing_read) (lexemes text (take (i + 1) tokens)) ≡ Some after
   next_if true steps e = next steps
-  next_if false steps e = absurd (never (sym e))
+  next_if false steps e = absurd (true_not_false (sym e))
 
   stops_here : Steps (step r (lexeme_at text (get_or tokens i d))) false after → StopsAtToken text tokens (get_or tokens i d).place.start
   stops_here none = record {
@@ -77,7 +48,7 @@ module _ (text : List ℕ) (tokens : List Token) (i : ℕ) (d : Token) (inside :
 
   pub stops_if : (taken : Bool) → Steps (step r (lexeme_at text (get_or tokens i d))) taken after → taken ≡ false →
       StopsAtToken text tokens (get_or tokens i d).place.start
-  stops_if true steps e = absurd (never e)
+  stops_if true steps e = absurd (true_not_false e)
   stops_if false none e = stops_here none
 
 module _ (text : List ℕ) (tokens : List Token) (stop : ℕ) (short : length text ≤ 1048576) (front : FrontOf text tokens stop) where

@@ -14,18 +14,8 @@ use Rattle.bl_face.specs.declared.state.Slot.TheVariants.{Field, Input, Output}
 use Rattle.bl_face.specs.declared.state.State.{State}
 use Rattle.bl_face.specs.declared.state.State.TheVariants as at
 use Rattle.bl_face.specs.Lexemes.{Lexeme}
-use Rattle.bl_face.specs.Spells.{
-  kept_length,
-  SpellsType,
-  SpellsField,
-  SpellsFields,
-  SpellsMore,
-  SpellsParams,
-  SpellsResult,
-  SpellsValue,
-  SpellsItem,
-  SpellsItems,
-}
+use Rattle.bl_face.specs.Spells.{kept_length, SpellsType, SpellsField, SpellsFields, SpellsMore, SpellsParams, SpellsResult, SpellsValue, SpellsItem}
+use Rattle.bl_face.specs.Spells.{SpellsItems}
 use Rattle.bl_face.specs.inner.Reader.{with_struct, with_constant, with_head, run, nothing_read}
 use Rattle.bl_face.proofs.Accepting.{finish, read}
 

@@ -6,7 +6,9 @@ use Rattle.bl_tree.specs.declared.token.Token.{Token}
 use Rattle.bl_tree.specs.declared.token.TokenKind.{TokenKind}
 use Rattle.bl_tree.specs.declared.token.TokenKind.TheVariants as kind
 use Rattle.bl_tree.specs.declared.tree.UnitKind.TheVariants.{Function, Activity}
-use Rattle.bl_lex.specs.declared.word.TheConstants as word
+use Rattle.bl_tree.specs.declared.token.Keyword.{Keyword}
+use Rattle.bl_tree.specs.declared.token.Keyword.TheVariants as keyword
+use Rattle.bl_tree.specs.Keywords.{same_word}
 use Rattle.bl_lex.specs.declared.sign.TheConstants as sign
 use Rattle.bl_face.specs.declared.class.Class.{Class}
 use Rattle.bl_face.specs.declared.class.Class.TheVariants as class
@@ -14,38 +16,38 @@ use Rattle.bl_face.specs.declared.class.Mark.{Mark}
 use Rattle.bl_face.specs.declared.class.Mark.TheVariants as mark
 
 -- the mark of a word for a bits type
-abbrev pub bits_of_word : ℕ → Mark
+abbrev pub bits_of_word : Keyword → Mark
 bits_of_word k =
-    if k == word.BITS8 then mark.Scalar (Bits W8)
-    else (if k == word.BITS16 then mark.Scalar (Bits W16)
-    else (if k == word.BITS32 then mark.Scalar (Bits W32)
-    else (if k == word.BITS64 then mark.Scalar (Bits W64) else mark.Other)))
+    if same_word k keyword.Bits8 then mark.Scalar (Bits W8)
+    else (if same_word k keyword.Bits16 then mark.Scalar (Bits W16)
+    else (if same_word k keyword.Bits32 then mark.Scalar (Bits W32)
+    else (if same_word k keyword.Bits64 then mark.Scalar (Bits W64) else mark.Other)))
 
 -- the mark of a word for a scalar type
-abbrev pub scalar_of_word : ℕ → Mark
+abbrev pub scalar_of_word : Keyword → Mark
 scalar_of_word k =
-    if k == word.BOOL then mark.Scalar OfBool
-    else (if k == word.INT8 then mark.Scalar (Int W8)
-    else (if k == word.INT16 then mark.Scalar (Int W16)
-    else (if k == word.INT32 then mark.Scalar (Int W32)
-    else (if k == word.INT64 then mark.Scalar (Int W64)
-    else (if k == word.NAT8 then mark.Scalar (Nat W8)
-    else (if k == word.NAT16 then mark.Scalar (Nat W16)
-    else (if k == word.NAT32 then mark.Scalar (Nat W32)
-    else (if k == word.NAT64 then mark.Scalar (Nat W64) else bits_of_word k))))))))
+    if same_word k keyword.Bool then mark.Scalar OfBool
+    else (if same_word k keyword.Int8 then mark.Scalar (Int W8)
+    else (if same_word k keyword.Int16 then mark.Scalar (Int W16)
+    else (if same_word k keyword.Int32 then mark.Scalar (Int W32)
+    else (if same_word k keyword.Int64 then mark.Scalar (Int W64)
+    else (if same_word k keyword.Nat8 then mark.Scalar (Nat W8)
+    else (if same_word k keyword.Nat16 then mark.Scalar (Nat W16)
+    else (if same_word k keyword.Nat32 then mark.Scalar (Nat W32)
+    else (if same_word k keyword.Nat64 then mark.Scalar (Nat W64) else bits_of_word k))))))))
 
--- the mark of a keyword, by its number
-abbrev pub class_of_word : ℕ → Mark
+-- the mark of a keyword
+abbrev pub class_of_word : Keyword → Mark
 class_of_word k =
-    if k == word.STRUCT then mark.Struct
-    else (if k == word.CONST then mark.Const
-    else (if k == word.FUNCTION then mark.Unit Function
-    else (if k == word.ACTIVITY then mark.Unit Activity
-    else (if k == word.VAR then mark.Var
-    else (if k == word.END then mark.End
-    else (if k == word.RETURNS then mark.Returns
-    else (if k == word.TRUE then mark.Truth true
-    else (if k == word.FALSE then mark.Truth false else scalar_of_word k))))))))
+    if same_word k keyword.Struct then mark.Struct
+    else (if same_word k keyword.Const then mark.Const
+    else (if same_word k keyword.Function then mark.Unit Function
+    else (if same_word k keyword.Activity then mark.Unit Activity
+    else (if same_word k keyword.Var then mark.Var
+    else (if same_word k keyword.End then mark.End
+    else (if same_word k keyword.Returns then mark.Returns
+    else (if same_word k keyword.True then mark.Truth true
+    else (if same_word k keyword.False then mark.Truth false else scalar_of_word k))))))))
 
 -- the mark of a sign, by its number
 abbrev pub class_of_sign : ℕ → Mark

@@ -3,8 +3,8 @@
 ghost use Rattle.std.specs.Prelude.{◌≡◌};
 ghost use Rattle.bl_face.specs.Lexemes.{class_of, class_of_word, scalar_of_word, bits_of_word, class_of_sign};
 
-use bl_lex::{sign, word};
-use bl_tree::token::TokenKind;
+use bl_lex::sign;
+use bl_tree::token::{Keyword, TokenKind};
 use bl_tree::tree::UnitKind;
 use bl_tree::{Scalar, Width};
 
@@ -50,68 +50,68 @@ pub fn class_of(kind: TokenKind) -> Class
     }
 }
 
-fn class_of_word(k: u8) -> Mark
+fn class_of_word(k: Keyword) -> Mark
     ensures { result ≡ class_of_word k }
 {
-    if k == word::STRUCT {
+    if k == Keyword::Struct {
         Mark::Struct
-    } else if k == word::CONST {
+    } else if k == Keyword::Const {
         Mark::Const
-    } else if k == word::FUNCTION {
+    } else if k == Keyword::Function {
         Mark::Unit(UnitKind::Function)
-    } else if k == word::ACTIVITY {
+    } else if k == Keyword::Activity {
         Mark::Unit(UnitKind::Activity)
-    } else if k == word::VAR {
+    } else if k == Keyword::Var {
         Mark::Var
-    } else if k == word::END {
+    } else if k == Keyword::End {
         Mark::End
-    } else if k == word::RETURNS {
+    } else if k == Keyword::Returns {
         Mark::Returns
-    } else if k == word::TRUE {
+    } else if k == Keyword::True {
         Mark::Truth(true)
-    } else if k == word::FALSE {
+    } else if k == Keyword::False {
         Mark::Truth(false)
     } else {
         scalar_of_word(k)
     }
 }
 
-fn scalar_of_word(k: u8) -> Mark
+fn scalar_of_word(k: Keyword) -> Mark
     ensures { result ≡ scalar_of_word k }
 {
-    if k == word::BOOL {
+    if k == Keyword::Bool {
         Mark::Scalar(Scalar::Bool)
-    } else if k == word::INT8 {
+    } else if k == Keyword::Int8 {
         Mark::Scalar(Scalar::Int(Width::W8))
-    } else if k == word::INT16 {
+    } else if k == Keyword::Int16 {
         Mark::Scalar(Scalar::Int(Width::W16))
-    } else if k == word::INT32 {
+    } else if k == Keyword::Int32 {
         Mark::Scalar(Scalar::Int(Width::W32))
-    } else if k == word::INT64 {
+    } else if k == Keyword::Int64 {
         Mark::Scalar(Scalar::Int(Width::W64))
-    } else if k == word::NAT8 {
+    } else if k == Keyword::Nat8 {
         Mark::Scalar(Scalar::Nat(Width::W8))
-    } else if k == word::NAT16 {
+    } else if k == Keyword::Nat16 {
         Mark::Scalar(Scalar::Nat(Width::W16))
-    } else if k == word::NAT32 {
+    } else if k == Keyword::Nat32 {
         Mark::Scalar(Scalar::Nat(Width::W32))
-    } else if k == word::NAT64 {
+    } else if k == Keyword::Nat64 {
         Mark::Scalar(Scalar::Nat(Width::W64))
     } else {
         bits_of_word(k)
     }
 }
 
-fn bits_of_word(k: u8) -> Mark
+fn bits_of_word(k: Keyword) -> Mark
     ensures { result ≡ bits_of_word k }
 {
-    if k == word::BITS8 {
+    if k == Keyword::Bits8 {
         Mark::Scalar(Scalar::Bits(Width::W8))
-    } else if k == word::BITS16 {
+    } else if k == Keyword::Bits16 {
         Mark::Scalar(Scalar::Bits(Width::W16))
-    } else if k == word::BITS32 {
+    } else if k == Keyword::Bits32 {
         Mark::Scalar(Scalar::Bits(Width::W32))
-    } else if k == word::BITS64 {
+    } else if k == Keyword::Bits64 {
         Mark::Scalar(Scalar::Bits(Width::W64))
     } else {
         Mark::Other

@@ -1,28 +1,5 @@
 -- Decimal digits of a number spell it.
-use Rattle.std.proofs.Common.{
-  ◌≡◌,
-  ℕ,
-  ◌+◌,
-  ◌/◌,
-  ◌%◌,
-  ◌^◌,
-  ◌<◌,
-  ◌≤◌,
-  Bool,
-  true,
-  false,
-  ◌&&◌,
-  List,
-  [],
-  ◌∷◌,
-  ◌++◌,
-  length,
-  refl,
-  ◌∙◌,
-  arith,
-  length-append,
-}
-use Rattle.std.specs.Prelude.{All}
+use Rattle.std.proofs.Common.{◌≡◌, ℕ, ◌+◌, ◌/◌, ◌%◌, ◌^◌, ◌<◌, ◌≤◌, Bool, true, false, ◌&&◌, List, [], ◌∷◌, ◌++◌, refl, ◌∙◌, arith, length-append}
 use Rattle.std.specs.List.{list_all}
 use Rattle.std.specs.Char.{digit_value}
 use Rattle.std.specs.Fmt.{decimal}
@@ -30,6 +7,7 @@ use Rattle.std.proofs.lemmas.Bool.Decides.{nat_tests}
 use Rattle.std.proofs.lemmas.Fmt.{decimal_by_steps_wide}
 use Rattle.std.proofs.lemmas.Str.{digit_value_digit}
 use Rattle.std.proofs.lemmas.List.Elements.{All-nil, All-cons, All-append}
+use Rattle.bl_tree.proofs.Basics.{false_not_true}
 use Rattle.bl_lex.specs.Spelling.{is_word_byte, digits_value, IsDigits}
 use Rattle.bl_lex.proofs.Numbers.{digits_value-push}
 
@@ -45,9 +23,6 @@ digit_is d small = let e = digit_value_digit (48 + d) (omega arith, omega (arith
 digit_byte : (d : ℕ) → d < 10 → is_word_byte (48 + d) ≡ true
 digit_byte d small = grind (arith, nat_tests)
 
-never : false ≡ true → ⊥
-never e = cc
-
 all_more : (p : ℕ → Bool) (xs : List ℕ) (x : ℕ) → list_all p xs ≡ true → p x ≡ true → list_all p (xs ++ x ∷ []) ≡ true
 all_more p [] x all is = rw is refl
 all_more p (y ∷ ys) x all is = by_first (p y) all (λ e. all_more p ys x e is)
@@ -55,7 +30,7 @@ all_more p (y ∷ ys) x all is = by_first (p y) all (λ e. all_more p ys x e is)
     by_first : (b : Bool) → b && list_all p ys ≡ true → (list_all p ys ≡ true → list_all p (ys ++ x ∷ []) ≡ true) →
         b && list_all p (ys ++ x ∷ []) ≡ true
     by_first true e rest = rest e
-    by_first false e rest = absurd (never e)
+    by_first false e rest = absurd (false_not_true e)
 
 one : (d : ℕ) → d < 10 → DigitsOf d ((48 + d) ∷ [])
 one d small = let e = digit_is d small in record {

@@ -3,6 +3,8 @@ use Rattle.std.proofs.Common.{◌≡◌, ℕ, suc, Bool, true, false, List, [], 
 use Rattle.std.specs.Prelude.{ℤ, pos, negsuc, Option, Some, None, codes, if◌then◌else◌}
 use Rattle.std.specs.Fmt.{decimal, signed_decimal}
 use Rattle.std.specs.Ordering.{int_eq}
+use Rattle.bl_tree.specs.declared.token.Keyword.{Keyword}
+use Rattle.bl_tree.specs.declared.token.Keyword.TheVariants as keyword
 use Rattle.bl_tree.specs.declared.scalar.Scalar.{Scalar as ScalarType}
 use Rattle.bl_tree.specs.declared.scalar.Scalar.TheVariants.{Bool as OfBool, Int, Nat, Bits}
 use Rattle.bl_tree.specs.declared.scalar.Width.TheVariants.{W8, W16, W32, W64}
@@ -14,25 +16,8 @@ use Rattle.bl_face.specs.declared.item.FaceBase.TheVariants as base
 use Rattle.bl_face.specs.declared.item.FaceField.{FaceField}
 use Rattle.bl_face.specs.declared.item.FaceItem.{FaceItem}
 use Rattle.bl_face.specs.declared.item.FaceItem.TheVariants as item
-use Rattle.bl_face.specs.Text.{
-  scalar_word,
-  base_text,
-  length_text,
-  lengths_text,
-  field_text,
-  params_from,
-  fields_text,
-  struct_text,
-  value_text,
-  constant_front,
-  constant_text,
-  kind_word,
-  head_text,
-  result_text,
-  tail_text,
-  item_text,
-  items_text,
-}
+use Rattle.bl_face.specs.Text.{scalar_word, base_text, length_text, lengths_text, field_text, params_from, fields_text, struct_text, value_text, constant_front}
+use Rattle.bl_face.specs.Text.{constant_text, kind_word, head_text, result_text, tail_text, item_text, items_text}
 use Rattle.bl_face_laws.proofs.Chunks.{Chunk, text_of}
 use Rattle.bl_face_laws.proofs.Chunks.Chunk.{blank, word, mark}
 
@@ -41,23 +26,23 @@ use Rattle.bl_face_laws.proofs.Chunks.Chunk.{blank, word, mark}
 abbrev pub space : Chunk
 space = blank 32
 
-abbrev pub scalar_number : ScalarType → ℕ
-scalar_number OfBool = 31
-scalar_number (Int W8) = 32
-scalar_number (Int W16) = 33
-scalar_number (Int W32) = 34
-scalar_number (Int W64) = 35
-scalar_number (Nat W8) = 36
-scalar_number (Nat W16) = 37
-scalar_number (Nat W32) = 38
-scalar_number (Nat W64) = 39
-scalar_number (Bits W8) = 40
-scalar_number (Bits W16) = 41
-scalar_number (Bits W32) = 42
-scalar_number (Bits W64) = 43
+abbrev pub scalar_keyword : ScalarType → Keyword
+scalar_keyword OfBool = keyword.Bool
+scalar_keyword (Int W8) = keyword.Int8
+scalar_keyword (Int W16) = keyword.Int16
+scalar_keyword (Int W32) = keyword.Int32
+scalar_keyword (Int W64) = keyword.Int64
+scalar_keyword (Nat W8) = keyword.Nat8
+scalar_keyword (Nat W16) = keyword.Nat16
+scalar_keyword (Nat W32) = keyword.Nat32
+scalar_keyword (Nat W64) = keyword.Nat64
+scalar_keyword (Bits W8) = keyword.Bits8
+scalar_keyword (Bits W16) = keyword.Bits16
+scalar_keyword (Bits W32) = keyword.Bits32
+scalar_keyword (Bits W64) = keyword.Bits64
 
 abbrev pub scalar_chunk : ScalarType → Chunk
-scalar_chunk of = word (scalar_word of) (kind.Word (scalar_number of))
+scalar_chunk of = word (scalar_word of) (kind.Word (scalar_keyword of))
 
 abbrev pub number_chunk : ℕ → Chunk
 number_chunk n = word (decimal n) (kind.Number n)
@@ -75,7 +60,7 @@ field_chunks field rest = word field.name kind.Name ∷ mark 58 6 ∷ space ∷ 
 
 abbrev pub fields_chunks : List FaceField → List Chunk → List Chunk
 fields_chunks [] rest = rest
-fields_chunks (field ∷ fields) rest = space ∷ word (codes "var") (kind.Word 5) ∷ space ∷ field_chunks field (fields_chunks fields rest)
+fields_chunks (field ∷ fields) rest = space ∷ word (codes "var") (kind.Word keyword.Var) ∷ space ∷ field_chunks field (fields_chunks fields rest)
 
 abbrev pub more_chunks : List FaceField → List Chunk → List Chunk
 more_chunks [] rest = rest
@@ -90,8 +75,8 @@ number_chunks (pos n) rest = number_chunk n ∷ rest
 number_chunks (negsuc n) rest = mark 45 15 ∷ number_chunk (suc n) ∷ rest
 
 abbrev pub by_truth : Bool → Bool → ℤ → List Chunk → List Chunk
-by_truth true b value rest = word (codes "false") (kind.Word 30) ∷ rest
-by_truth false true value rest = word (codes "true") (kind.Word 29) ∷ rest
+by_truth true b value rest = word (codes "false") (kind.Word keyword.False) ∷ rest
+by_truth false true value rest = word (codes "true") (kind.Word keyword.True) ∷ rest
 by_truth false false value rest = number_chunks value rest
 
 abbrev pub value_chunks : ScalarType → ℤ → List Chunk → List Chunk
@@ -101,21 +86,22 @@ value_chunks (Nat w) value rest = number_chunks value rest
 value_chunks (Bits w) value rest = number_chunks value rest
 
 abbrev pub unit_chunk : UnitKind → Chunk
-unit_chunk Function = word (codes "function") (kind.Word 0)
-unit_chunk Activity = word (codes "activity") (kind.Word 1)
+unit_chunk Function = word (codes "function") (kind.Word keyword.Function)
+unit_chunk Activity = word (codes "activity") (kind.Word keyword.Activity)
 
 abbrev pub result_chunks : Option ScalarType → List Chunk → List Chunk
 result_chunks None rest = rest
-result_chunks (Some of) rest = space ∷ word (codes "returns") (kind.Word 2) ∷ space ∷ scalar_chunk of ∷ rest
+result_chunks (Some of) rest = space ∷ word (codes "returns") (kind.Word keyword.Returns) ∷ space ∷ scalar_chunk of ∷ rest
 
 abbrev pub line : List Chunk → List Chunk
 line rest = blank 10 ∷ rest
 
 abbrev pub item_chunks : FaceItem → List Chunk → List Chunk
 item_chunks (item.Struct name fields) rest =
-    word (codes "struct") (kind.Word 4) ∷ space ∷ word name kind.Name ∷ fields_chunks fields (space ∷ word (codes "end") (kind.Word 12) ∷ line rest)
+    word (codes "struct") (kind.Word keyword.Struct) ∷ space ∷ word name kind.Name
+    ∷ fields_chunks fields (space ∷ word (codes "end") (kind.Word keyword.End) ∷ line rest)
 item_chunks (item.Constant name of value) rest =
-    word (codes "const") (kind.Word 7) ∷ space ∷ word name kind.Name ∷ mark 58 6 ∷ space ∷ scalar_chunk of ∷ space ∷ mark 61 7 ∷ space
+    word (codes "const") (kind.Word keyword.Const) ∷ space ∷ word name kind.Name ∷ mark 58 6 ∷ space ∷ scalar_chunk of ∷ space ∷ mark 61 7 ∷ space
     ∷ value_chunks of value (line rest)
 item_chunks (item.Head unit name inputs outputs result) rest =
     unit_chunk unit ∷ space ∷ word name kind.Name ∷ space ∷ mark 40 0 ∷ params_chunks inputs
@@ -202,7 +188,8 @@ struct_bytes : (name : List ℕ) (fields : List FaceField) (rest : List Chunk) �
 unfolding struct_text
 struct_bytes name fields rest =
     ap (λ (x : List ℕ). codes "struct " ++ (name ++ x))
-    (fields_bytes fields (space ∷ word (codes "end") (kind.Word 12) ∷ line rest) ∙ sym (append_assoc (fields_text fields) (codes " end\n") (text_of rest)))
+    (fields_bytes fields (space ∷ word (codes "end") (kind.Word keyword.End) ∷ line rest)
+    ∙ sym (append_assoc (fields_text fields) (codes " end\n") (text_of rest)))
     ∙ three (codes "struct ") name (fields_text fields ++ codes " end\n") (text_of rest)
 
 const_bytes : (name : List ℕ) (of : ScalarType) (value : ℤ) (rest : List Chunk) →

@@ -1,32 +1,6 @@
 -- The pieces of a face are tokens that spell it.
-use Rattle.std.proofs.Common.{
-  ◌≡◌,
-  ◌≢◌,
-  ℕ,
-  zero,
-  suc,
-  ◌<◌,
-  ◌≤◌,
-  ◌^◌,
-  ◌-◌,
-  min,
-  Bool,
-  true,
-  false,
-  not,
-  ◌&&◌,
-  ◌||◌,
-  List,
-  [],
-  ◌∷◌,
-  length,
-  refl,
-  ap,
-  sym,
-  ◌∙◌,
-  subst,
-  arith,
-}
+use Rattle.std.proofs.Common.{◌≡◌, ◌≢◌, ℕ, zero, suc, ◌<◌, ◌≤◌, ◌^◌, ◌-◌, min, Bool, true, false, not, ◌&&◌, ◌||◌, List, [], ◌∷◌, length, refl, ap, sym, ◌∙◌}
+use Rattle.std.proofs.Common.{subst, arith}
 use Rattle.std.specs.Prelude.{ℤ, pos, negsuc, neg_ℤ, nat_abs, Option, Some, None, codes, slice_get}
 use Rattle.std.specs.Fmt.{decimal}
 use Rattle.std.specs.List.{list_all}
@@ -35,6 +9,11 @@ use Rattle.std.specs.Str.{bytes_eq}
 use Rattle.std.specs.Char.{is_ascii_digit}
 use Rattle.std.proofs.lemmas.Slice.Eq.{bytes_eq-Decides}
 use Rattle.std.proofs.lemmas.Bool.Decides.{Decides-int_eq}
+use Rattle.std.proofs.lemmas.Bool.{not-true}
+use Rattle.bl_tree.proofs.Basics.{and_first, and_second, false_not_true, true_and_false}
+use Rattle.bl_tree.specs.declared.token.Keyword.{Keyword}
+use Rattle.bl_tree.specs.declared.token.Keyword.TheVariants as keyword
+use Rattle.bl_tree.specs.Keywords.{position}
 use Rattle.bl_tree.specs.Words.{is_name, is_plain_word, is_among}
 use Rattle.bl_tree.specs.Words as words
 use Rattle.bl_tree.specs.declared.scalar.Scalar.{Scalar as ScalarType}
@@ -57,61 +36,17 @@ use Rattle.bl_face.specs.Keeps.{base_is_named, field_is_named, has_field, item_k
 use Rattle.bl_face.specs.Lexemes.{Lexeme, class_of_word}
 use Rattle.bl_face.specs.Lexemes.Lexeme.{named, marked}
 use Rattle.bl_face.specs.Reading.{most_bytes, ReadsAs}
-use Rattle.bl_face.specs.Spells.{
-  kept_length,
-  kept_number,
-  SpellsType,
-  SpellsField,
-  SpellsFields,
-  SpellsMore,
-  SpellsParams,
-  SpellsResult,
-  SpellsValue,
-  SpellsItem,
-  SpellsItems,
-}
+use Rattle.bl_face.specs.Spells.{kept_length, kept_number, SpellsType, SpellsField, SpellsFields, SpellsMore, SpellsParams, SpellsResult, SpellsValue}
+use Rattle.bl_face.specs.Spells.{SpellsItem, SpellsItems}
 use Rattle.bl_face.specs.Text.{face_text}
 use Rattle.bl_face_laws.specs.Fits.{LengthsFit, FieldsFit, ItemFits, ItemsFit}
 use Rattle.bl_face_laws.proofs.Chunks.{Chunk, text_of, lexemes_in, next_byte, WordStands, MarkStands, Stands, AllStand, Cover, cover}
 use Rattle.bl_face_laws.proofs.Chunks.Chunk.{word, mark}
 use Rattle.bl_face_laws.proofs.Digits.{DigitsOf, decimal_digits}
-use Rattle.bl_face_laws.proofs.Pieces.{
-  space,
-  scalar_number,
-  scalar_chunk,
-  base_chunk,
-  lengths_chunks,
-  field_chunks,
-  fields_chunks,
-  more_chunks,
-  params_chunks,
-  number_chunks,
-  by_truth,
-  value_chunks,
-  unit_chunk,
-  result_chunks,
-  line,
-  item_chunks,
-  items_chunks,
-  items_bytes,
-}
+use Rattle.bl_face_laws.proofs.Pieces.{space, scalar_keyword, scalar_chunk, base_chunk, lengths_chunks, field_chunks, fields_chunks, more_chunks, params_chunks}
+use Rattle.bl_face_laws.proofs.Pieces.{number_chunks, by_truth, value_chunks, unit_chunk, result_chunks, line, item_chunks, items_chunks, items_bytes}
 
 -- ---- words and signs
-
-left : (a b : Bool) → a && b ≡ true → a ≡ true
-left true b e = refl
-left false b e = e
-
-right : (a b : Bool) → a && b ≡ true → b ≡ true
-right true b e = e
-right false b e = cc
-
-isnt : (b : Bool) → not b ≡ true → b ≡ false
-isnt true e = cc
-isnt false e = refl
-
-clash : (b : Bool) → b ≡ true → b ≡ false → ⊥
-clash b t f = cc
 
 or_left : (a b : Bool) → a ≡ true → a || b ≡ true
 or_left true b e = refl
@@ -127,20 +62,17 @@ found [] k w is = cc
 found (x ∷ list) zero w is = let e : w ≡ x = cc in or_left (bytes_eq w x) (is_among w list) ((bytes_eq-Decides w x).1 e)
 found (x ∷ list) (suc k) w is = or_right (bytes_eq w x) (is_among w list) (found list k w is)
 
-never : false ≡ true → ⊥
-never e = cc
-
 abbrev has_byte : List ℕ → Bool
 has_byte [] = false
 has_byte (b ∷ bs) = true
 
 filled : (w : List ℕ) → has_byte w ≡ true → 0 < length w
-filled [] e = absurd (never e)
+filled [] e = absurd (false_not_true e)
 filled (b ∷ bs) e = omega arith
 
-keyword : (k : ℕ) (w : List ℕ) (next : ℕ) → slice_get keywords k ≡ Some w → list_all is_word_byte w ≡ true → has_byte w ≡ true →
+keyword_stands : (k : Keyword) (w : List ℕ) (next : ℕ) → slice_get keywords (position k) ≡ Some w → list_all is_word_byte w ≡ true → has_byte w ≡ true →
     is_word_byte next ≡ false → WordStands w (kind.Word k) next
-keyword k w next spelled each some stops = record {
+keyword_stands k w next spelled each some stops = record {
   nonempty = filled w some;
   each = each;
   stops = stops;
@@ -149,18 +81,18 @@ keyword k w next spelled each some stops = record {
 
 name_word : (w : List ℕ) (next : ℕ) → is_name w ≡ true → is_word_byte next ≡ false → WordStands w kind.Name next
 unfolding keywords words_outside
-name_word [] next is stops = absurd (never is)
+name_word [] next is stops = absurd (false_not_true is)
 name_word (b ∷ bs) next is stops =
-    let plain = left (is_plain_word (b ∷ bs)) _ is in
-    let others = right (is_plain_word (b ∷ bs)) (not (is_among (b ∷ bs) words.keywords) && not (is_among (b ∷ bs) words.outside_words)) is in
-    let no_word = isnt _ (left (not (is_among (b ∷ bs) words.keywords)) _ others) in
-    let not_outside = isnt _ (right (not (is_among (b ∷ bs) words.keywords)) (not (is_among (b ∷ bs) words.outside_words)) others) in
+    let plain = and_first (is_plain_word (b ∷ bs)) _ is in
+    let others = and_second (is_plain_word (b ∷ bs)) (not (is_among (b ∷ bs) words.keywords) && not (is_among (b ∷ bs) words.outside_words)) is in
+    let no_word = not-true _ (and_first (not (is_among (b ∷ bs) words.keywords)) _ others) in
+    let not_outside = not-true _ (and_second (not (is_among (b ∷ bs) words.keywords)) (not (is_among (b ∷ bs) words.outside_words)) others) in
     record {
       nonempty = omega arith;
-      each = right (not (is_ascii_digit b)) _ plain;
+      each = and_second (not (is_ascii_digit b)) _ plain;
       stops = stops;
-      means = λ text end at. WordIs.name (isnt (is_ascii_digit b) (left (not (is_ascii_digit b)) _ plain))
-          (λ k e. clash _ (found words.keywords k (b ∷ bs) e) no_word) (λ k e. clash _ (found words.outside_words k (b ∷ bs) e) not_outside);
+      means = λ text end at. WordIs.name (not-true (is_ascii_digit b) (and_first (not (is_ascii_digit b)) _ plain))
+          (λ k e. true_and_false _ (found words.keywords k (b ∷ bs) e) no_word) (λ k e. true_and_false _ (found words.outside_words k (b ∷ bs) e) not_outside);
     }
 
 number_word : (n next : ℕ) → n ≤ 2 ^ 64 → is_word_byte next ≡ false → next ≢ 46 → WordStands (decimal n) (kind.Number n) next
@@ -177,52 +109,52 @@ number_word n next small stops no_point =
 
 scalar_word_stands : (of : ScalarType) (next : ℕ) → is_word_byte next ≡ false → Stands (scalar_chunk of) next
 unfolding keywords
-scalar_word_stands OfBool next stops = keyword 31 (codes "bool") next refl refl refl stops
-scalar_word_stands (Int W8) next stops = keyword 32 (codes "int8") next refl refl refl stops
-scalar_word_stands (Int W16) next stops = keyword 33 (codes "int16") next refl refl refl stops
-scalar_word_stands (Int W32) next stops = keyword 34 (codes "int32") next refl refl refl stops
-scalar_word_stands (Int W64) next stops = keyword 35 (codes "int64") next refl refl refl stops
-scalar_word_stands (Nat W8) next stops = keyword 36 (codes "nat8") next refl refl refl stops
-scalar_word_stands (Nat W16) next stops = keyword 37 (codes "nat16") next refl refl refl stops
-scalar_word_stands (Nat W32) next stops = keyword 38 (codes "nat32") next refl refl refl stops
-scalar_word_stands (Nat W64) next stops = keyword 39 (codes "nat64") next refl refl refl stops
-scalar_word_stands (Bits W8) next stops = keyword 40 (codes "bits8") next refl refl refl stops
-scalar_word_stands (Bits W16) next stops = keyword 41 (codes "bits16") next refl refl refl stops
-scalar_word_stands (Bits W32) next stops = keyword 42 (codes "bits32") next refl refl refl stops
-scalar_word_stands (Bits W64) next stops = keyword 43 (codes "bits64") next refl refl refl stops
+scalar_word_stands OfBool next stops = keyword_stands keyword.Bool (codes "bool") next refl refl refl stops
+scalar_word_stands (Int W8) next stops = keyword_stands keyword.Int8 (codes "int8") next refl refl refl stops
+scalar_word_stands (Int W16) next stops = keyword_stands keyword.Int16 (codes "int16") next refl refl refl stops
+scalar_word_stands (Int W32) next stops = keyword_stands keyword.Int32 (codes "int32") next refl refl refl stops
+scalar_word_stands (Int W64) next stops = keyword_stands keyword.Int64 (codes "int64") next refl refl refl stops
+scalar_word_stands (Nat W8) next stops = keyword_stands keyword.Nat8 (codes "nat8") next refl refl refl stops
+scalar_word_stands (Nat W16) next stops = keyword_stands keyword.Nat16 (codes "nat16") next refl refl refl stops
+scalar_word_stands (Nat W32) next stops = keyword_stands keyword.Nat32 (codes "nat32") next refl refl refl stops
+scalar_word_stands (Nat W64) next stops = keyword_stands keyword.Nat64 (codes "nat64") next refl refl refl stops
+scalar_word_stands (Bits W8) next stops = keyword_stands keyword.Bits8 (codes "bits8") next refl refl refl stops
+scalar_word_stands (Bits W16) next stops = keyword_stands keyword.Bits16 (codes "bits16") next refl refl refl stops
+scalar_word_stands (Bits W32) next stops = keyword_stands keyword.Bits32 (codes "bits32") next refl refl refl stops
+scalar_word_stands (Bits W64) next stops = keyword_stands keyword.Bits64 (codes "bits64") next refl refl refl stops
 
-var_stands : WordStands (codes "var") (kind.Word 5) 32
+var_stands : WordStands (codes "var") (kind.Word keyword.Var) 32
 unfolding keywords
-var_stands = keyword 5 (codes "var") 32 refl refl refl refl
+var_stands = keyword_stands keyword.Var (codes "var") 32 refl refl refl refl
 
-end_stands : WordStands (codes "end") (kind.Word 12) 10
+end_stands : WordStands (codes "end") (kind.Word keyword.End) 10
 unfolding keywords
-end_stands = keyword 12 (codes "end") 10 refl refl refl refl
+end_stands = keyword_stands keyword.End (codes "end") 10 refl refl refl refl
 
-struct_stands : WordStands (codes "struct") (kind.Word 4) 32
+struct_stands : WordStands (codes "struct") (kind.Word keyword.Struct) 32
 unfolding keywords
-struct_stands = keyword 4 (codes "struct") 32 refl refl refl refl
+struct_stands = keyword_stands keyword.Struct (codes "struct") 32 refl refl refl refl
 
-const_stands : WordStands (codes "const") (kind.Word 7) 32
+const_stands : WordStands (codes "const") (kind.Word keyword.Const) 32
 unfolding keywords
-const_stands = keyword 7 (codes "const") 32 refl refl refl refl
+const_stands = keyword_stands keyword.Const (codes "const") 32 refl refl refl refl
 
-returns_stands : WordStands (codes "returns") (kind.Word 2) 32
+returns_stands : WordStands (codes "returns") (kind.Word keyword.Returns) 32
 unfolding keywords
-returns_stands = keyword 2 (codes "returns") 32 refl refl refl refl
+returns_stands = keyword_stands keyword.Returns (codes "returns") 32 refl refl refl refl
 
-true_stands : WordStands (codes "true") (kind.Word 29) 10
+true_stands : WordStands (codes "true") (kind.Word keyword.True) 10
 unfolding keywords
-true_stands = keyword 29 (codes "true") 10 refl refl refl refl
+true_stands = keyword_stands keyword.True (codes "true") 10 refl refl refl refl
 
-false_stands : WordStands (codes "false") (kind.Word 30) 10
+false_stands : WordStands (codes "false") (kind.Word keyword.False) 10
 unfolding keywords
-false_stands = keyword 30 (codes "false") 10 refl refl refl refl
+false_stands = keyword_stands keyword.False (codes "false") 10 refl refl refl refl
 
 unit_stands : (unit : UnitKind) → Stands (unit_chunk unit) 32
 unfolding keywords
-unit_stands Function = keyword 0 (codes "function") 32 refl refl refl refl
-unit_stands Activity = keyword 1 (codes "activity") 32 refl refl refl refl
+unit_stands Function = keyword_stands keyword.Function (codes "function") 32 refl refl refl refl
+unit_stands Activity = keyword_stands keyword.Activity (codes "activity") 32 refl refl refl refl
 
 open_paren : (next : ℕ) → MarkStands 40 0 next
 unfolding signs
@@ -273,13 +205,13 @@ lengths_stand (n ∷ lengths) rest fit stand = (open_bracket _, (number_word n 9
 field_stands : (field : FaceField) (rest : List Chunk) → field_is_named field ≡ true → LengthsFit field.ty.lengths → Closes rest → AllStand rest →
     AllStand (field_chunks field rest)
 field_stands field rest is fit closes stand = (
-  name_word field.name 58 (left (is_name field.name) _ is) refl,
+  name_word field.name 58 (and_first (is_name field.name) _ is) refl,
   (
     colon 32,
     (
       refl,
       lengths_stand field.ty.lengths (base_chunk field.ty.base ∷ rest) fit
-          (base_stands field.ty.base (next_byte (text_of rest)) (right (is_name field.name) (base_is_named field.ty.base) is) closes, stand),
+          (base_stands field.ty.base (next_byte (text_of rest)) (and_second (is_name field.name) (base_is_named field.ty.base) is) closes, stand),
     ),
   ),
 )
@@ -300,8 +232,8 @@ fields_stand (field ∷ fields) rest are fit closes stand = (
     var_stands,
     (
       refl,
-      field_stands field (fields_chunks fields rest) (left (field_is_named field) (list_all field_is_named fields) are) fit.0 (fields_close fields rest closes)
-          (fields_stand fields rest (right (field_is_named field) (list_all field_is_named fields) are) fit.1 closes stand),
+      field_stands field (fields_chunks fields rest) (and_first (field_is_named field) (list_all field_is_named fields) are) fit.0 (fields_close fields rest closes)
+          (fields_stand fields rest (and_second (field_is_named field) (list_all field_is_named fields) are) fit.1 closes stand),
     ),
   ),
 )
@@ -317,8 +249,8 @@ more_stand (param ∷ params) rest are fit closes stand = (
   comma 32,
   (
     refl,
-    field_stands param (more_chunks params rest) (left (field_is_named param) (list_all field_is_named params) are) fit.0 (more_close params rest closes)
-        (more_stand params rest (right (field_is_named param) (list_all field_is_named params) are) fit.1 closes stand),
+    field_stands param (more_chunks params rest) (and_first (field_is_named param) (list_all field_is_named params) are) fit.0 (more_close params rest closes)
+        (more_stand params rest (and_second (field_is_named param) (list_all field_is_named params) are) fit.1 closes stand),
   ),
 )
 
@@ -326,8 +258,8 @@ params_stand : (params : List FaceField) (rest : List Chunk) → AreNamed params
     AllStand (params_chunks params rest)
 params_stand [] rest are fit closes stand = stand
 params_stand (param ∷ params) rest are fit closes stand =
-    field_stands param (more_chunks params rest) (left (field_is_named param) (list_all field_is_named params) are) fit.0 (more_close params rest closes)
-    (more_stand params rest (right (field_is_named param) (list_all field_is_named params) are) fit.1 closes stand)
+    field_stands param (more_chunks params rest) (and_first (field_is_named param) (list_all field_is_named params) are) fit.0 (more_close params rest closes)
+    (more_stand params rest (and_second (field_is_named param) (list_all field_is_named params) are) fit.1 closes stand)
 
 number_stand : (value : ℤ) (rest : List Chunk) → nat_abs value ≤ 2 ^ 64 → AllStand rest → AllStand (number_chunks value (line rest))
 number_stand (pos n) rest fit stand = (number_word n 10 fit refl (λ e. omega (arith, e)), (refl, stand))
@@ -350,35 +282,36 @@ result_stand (Some of) rest stand = (refl, (returns_stands, (refl, (scalar_word_
 
 item_stands : (it : FaceItem) (rest : List Chunk) → item_keeps it ≡ true → ItemFits it → AllStand rest → AllStand (item_chunks it rest)
 item_stands (item.Struct name fields) rest keeps fit stand =
-    let named_so = right (is_name name) (has_field fields && list_all field_is_named fields) keeps in (
+    let named_so = and_second (is_name name) (has_field fields && list_all field_is_named fields) keeps in (
       struct_stands,
       (
         refl,
         (
-          name_word name _ (left (is_name name) _ keeps) (fields_close fields (space ∷ word (codes "end") (kind.Word 12) ∷ line rest) refl),
-          fields_stand fields (space ∷ word (codes "end") (kind.Word 12) ∷ line rest) (right (has_field fields) (list_all field_is_named fields) named_so) fit refl
+          name_word name _ (and_first (is_name name) _ keeps) (fields_close fields (space ∷ word (codes "end") (kind.Word keyword.End) ∷ line rest) refl),
+          fields_stand fields (space ∷ word (codes "end") (kind.Word keyword.End) ∷ line rest)
+              (and_second (has_field fields) (list_all field_is_named fields) named_so) fit refl
               (refl, (end_stands, (refl, stand))),
         ),
       ),
     )
 item_stands (item.Constant name of value) rest keeps fit stand = (const_stands, (refl, (name_word name 58 keeps refl, (colon 32, (refl, (scalar_word_stands of 32 refl, (refl, (assign, (refl, value_stand of value rest fit stand)))))))))
 item_stands (item.Head unit name inputs outputs result) rest keeps fit stand =
-    let lists = right (is_name name) (list_all field_is_named inputs && list_all field_is_named outputs) keeps in (
+    let lists = and_second (is_name name) (list_all field_is_named inputs && list_all field_is_named outputs) keeps in (
       unit_stands unit,
       (
         refl,
         (
-          name_word name 32 (left (is_name name) _ keeps) refl,
+          name_word name 32 (and_first (is_name name) _ keeps) refl,
           (
             refl,
             (
               open_paren _,
               params_stand inputs (mark 41 1 ∷ mark 40 0 ∷ params_chunks outputs (mark 41 1 ∷ result_chunks result (line rest)))
-                  (left (list_all field_is_named inputs) _ lists) fit.0 refl (
+                  (and_first (list_all field_is_named inputs) _ lists) fit.0 refl (
                     close_paren _,
                     (
                       open_paren _,
-                      params_stand outputs (mark 41 1 ∷ result_chunks result (line rest)) (right (list_all field_is_named inputs) (list_all field_is_named outputs) lists) fit.1
+                      params_stand outputs (mark 41 1 ∷ result_chunks result (line rest)) (and_second (list_all field_is_named inputs) (list_all field_is_named outputs) lists) fit.1
                           refl (close_paren _, result_stand result rest stand),
                     ),
                   ),
@@ -391,12 +324,12 @@ item_stands (item.Head unit name inputs outputs result) rest keeps fit stand =
 items_stand : (items : List FaceItem) → Keeps items → ItemsFit items → AllStand (items_chunks items)
 items_stand [] keeps fit = tt
 items_stand (it ∷ items) keeps fit =
-    item_stands it (items_chunks items) (left (item_keeps it) (list_all item_keeps items) keeps) fit.0
-    (items_stand items (right (item_keeps it) (list_all item_keeps items) keeps) fit.1)
+    item_stands it (items_chunks items) (and_first (item_keeps it) (list_all item_keeps items) keeps) fit.0
+    (items_stand items (and_second (item_keeps it) (list_all item_keeps items) keeps) fit.1)
 
 -- ---- their lexemes spell the face
 
-scalar_is : (of : ScalarType) → class_of_word (scalar_number of) ≡ mark_of.Scalar of
+scalar_is : (of : ScalarType) → class_of_word (scalar_keyword of) ≡ mark_of.Scalar of
 scalar_is OfBool = refl
 scalar_is (Int W8) = refl
 scalar_is (Int W16) = refl
@@ -428,10 +361,11 @@ field_spelled : (field : FaceField) (rest : List Chunk) → LengthsFit field.ty.
 field_spelled field rest fit = SpellsField.field (type_spelled field.ty.lengths field.ty.base rest fit)
 
 fields_spelled : (fields : List FaceField) (rest : List Chunk) → FieldsFit fields →
-    SpellsFields fields (lexemes_in (fields_chunks fields (space ∷ word (codes "end") (kind.Word 12) ∷ line rest))) (lexemes_in rest)
+    SpellsFields fields (lexemes_in (fields_chunks fields (space ∷ word (codes "end") (kind.Word keyword.End) ∷ line rest))) (lexemes_in rest)
 fields_spelled [] rest fit = SpellsFields.none
 fields_spelled (field ∷ fields) rest fit =
-    SpellsFields.more (field_spelled field (fields_chunks fields (space ∷ word (codes "end") (kind.Word 12) ∷ line rest)) fit.0) (fields_spelled fields rest fit.1)
+    SpellsFields.more (field_spelled field (fields_chunks fields (space ∷ word (codes "end") (kind.Word keyword.End) ∷ line rest)) fit.0)
+    (fields_spelled fields rest fit.1)
 
 more_spelled : (params : List FaceField) (rest : List Chunk) → FieldsFit params →
     SpellsMore params (lexemes_in (more_chunks params (mark 41 1 ∷ rest))) (lexemes_in rest)
@@ -482,7 +416,7 @@ const_spelled name of value rest fit =
     (lexemes_in rest)) (sym (scalar_is of)) (SpellsItem.constant (value_spelled of value (line rest) fit))
 
 item_spelled : (it : FaceItem) (rest : List Chunk) → item_keeps it ≡ true → ItemFits it → SpellsItem it (lexemes_in (item_chunks it rest)) (lexemes_in rest)
-item_spelled (item.Struct name []) rest keeps fit = absurd (never (right (is_name name) false keeps))
+item_spelled (item.Struct name []) rest keeps fit = absurd (false_not_true (and_second (is_name name) false keeps))
 item_spelled (item.Struct name (field ∷ fields)) rest keeps fit = SpellsItem.structure (fields_spelled (field ∷ fields) rest fit)
 item_spelled (item.Constant name of value) rest keeps fit = const_spelled name of value rest fit
 item_spelled (item.Head Function name inputs outputs result) rest keeps fit =
@@ -495,8 +429,8 @@ item_spelled (item.Head Activity name inputs outputs result) rest keeps fit =
 items_spelled : (items : List FaceItem) → Keeps items → ItemsFit items → SpellsItems items (lexemes_in (items_chunks items))
 items_spelled [] keeps fit = SpellsItems.none
 items_spelled (it ∷ items) keeps fit =
-    SpellsItems.more (item_spelled it (items_chunks items) (left (item_keeps it) (list_all item_keeps items) keeps) fit.0)
-    (items_spelled items (right (item_keeps it) (list_all item_keeps items) keeps) fit.1)
+    SpellsItems.more (item_spelled it (items_chunks items) (and_first (item_keeps it) (list_all item_keeps items) keeps) fit.0)
+    (items_spelled items (and_second (item_keeps it) (list_all item_keeps items) keeps) fit.1)
 
 -- ---- the whole text
 

@@ -1,36 +1,13 @@
 -- The edges that are found in surfaces and in depths, forwards and backwards, are the data edges.
-use Rattle.std.proofs.Common.{
-  ◌≡◌,
-  ℕ,
-  ◌-◌,
-  ◌<◌,
-  ◌≤◌,
-  Bool,
-  true,
-  false,
-  ◌&&◌,
-  ◌⊎◌,
-  inl,
-  inr,
-  List,
-  [],
-  ◌∷◌,
-  ◌++◌,
-  length,
-  reverse,
-  Some,
-  sym,
-  ap,
-  subst,
-  ◌∙◌,
-  arith,
-  get_or,
-}
+use Rattle.std.proofs.Common.{◌≡◌, ℕ, ◌-◌, ◌<◌, ◌≤◌, Bool, true, false, ◌&&◌, ◌⊎◌, inl, inr, List, [], ◌∷◌, ◌++◌, length, reverse, Some, sym, ap, subst, ◌∙◌}
+use Rattle.std.proofs.Common.{arith, get_or}
 use Rattle.std.specs.Prelude.{Contains}
 use Rattle.std.proofs.lemmas.Bool.{cases_lt}
 use Rattle.std.proofs.lemmas.List.{get_or-reverse, length-reverse, reverse-reverse}
 use Rattle.std.proofs.lemmas.List.Elements.{Contains-append_cases, Contains-append_left, Contains-append_right, Contains-get_or}
 use Rattle.std.proofs.lemmas.Option.{get_or_from_slice_get, slice_get-get_or, slice_get_within}
+use Rattle.std.proofs.lemmas.Bool.{and_from, and_parts, or_left, or_right}
+use Rattle.bl_tree.proofs.Basics.{contains_none, contains_one, either_of}
 use Rattle.bl_tree.specs.declared.graph.Edge.{Edge}
 use Rattle.bl_graph.specs.declared.flow.Flow.{Flow}
 use Rattle.bl_graph.specs.declared.flow.Mark.{Mark}
@@ -40,8 +17,6 @@ use Rattle.bl_graph.specs.Graph.{edge_between}
 use Rattle.bl_graph.specs.inner.Flows.{FlowBetween, FlowsAdded, InBranch, InOrder, are_together}
 use Rattle.bl_graph.specs.inner.Found.{EndBy, Gains, Recalls, is_reached, swept}
 use Rattle.bl_graph.proofs.FoundLemmas.{gains_then}
-use Rattle.bl_graph.proofs.Marking.{and_both, and_cases, or_cases, or_left, or_right}
-use Rattle.bl_graph.proofs.MemberLemmas.{is_one, none_in}
 use Rattle.bl_graph.proofs.Sweeping.{Sweep, swept_from, swept_to}
 
 -- ---- branches backwards
@@ -76,13 +51,13 @@ place_below branches at i within = slice_get_within branches at within.span with
 -- ---- marks
 
 both_reached : (deep : Bool) (a b : Mark) → is_reached deep a ≡ true → is_reached deep b ≡ true → are_together a b ≡ true
-both_reached false a b one two = or_left (a.surface && b.surface) (a.depth && b.depth) (and_both a.surface b.surface one two)
-both_reached true a b one two = or_right (a.surface && b.surface) (a.depth && b.depth) (and_both a.depth b.depth one two)
+both_reached false a b one two = or_left (a.surface && b.surface) (a.depth && b.depth) (and_from a.surface b.surface one two)
+both_reached true a b one two = or_right (a.surface && b.surface) (a.depth && b.depth) (and_from a.depth b.depth one two)
 
 reached_both : (a b : Mark) → are_together a b ≡ true → (deep : Bool) × (is_reached deep a ≡ true) × (is_reached deep b ≡ true)
-reached_both a b is = elim (or_cases (a.surface && b.surface) (a.depth && b.depth) is) [
-  | inl one ↦ let both = and_cases a.surface b.surface one in (false, both.0, both.1)
-  | inr two ↦ let both = and_cases a.depth b.depth two in (true, both.0, both.1)
+reached_both a b is = elim (either_of (a.surface && b.surface) (a.depth && b.depth) is) [
+  | inl one ↦ let both = and_parts a.surface b.surface one in (false, both.0, both.1)
+  | inr two ↦ let both = and_parts a.depth b.depth two in (true, both.0, both.1)
 ]
 
 -- ---- both ways
@@ -280,9 +255,9 @@ flows_added nodes branches before after none one two three four once again is_on
 
 ends_all : (branches : List Span) (from last : ℕ) → InOrder from branches last →
     (span : Span) → Contains branches span → (span.first ≤ span.end) × (span.end ≤ last)
-ends_all [] from last order span there = absurd (none_in span there)
+ends_all [] from last order span there = absurd (contains_none span there)
 ends_all (b ∷ rest) from last order span there = elim (Contains-append_cases (b ∷ []) rest span there) [
-  | inl here ↦ subst (λ s. (s.first ≤ s.end) × (s.end ≤ last)) (is_one b span here) (order.1, first_ends rest b.end last order.2)
+  | inl here ↦ subst (λ s. (s.first ≤ s.end) × (s.end ≤ last)) (contains_one b span here) (order.1, first_ends rest b.end last order.2)
   | inr more ↦ ends_all rest b.end last order.2 span more
 ]
   where

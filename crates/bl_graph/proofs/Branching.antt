@@ -1,35 +1,6 @@
 -- What the code makes of a `cobegin`, and of statements by their kinds.
-use Rattle.std.proofs.Common.{
-  ◌≡◌,
-  ℕ,
-  suc,
-  ◌+◌,
-  ◌-◌,
-  ◌<◌,
-  ◌≤◌,
-  Bool,
-  true,
-  false,
-  nat_eq,
-  List,
-  [],
-  ◌∷◌,
-  ◌++◌,
-  map,
-  take,
-  length,
-  get_or,
-  Option,
-  Some,
-  refl,
-  ap,
-  sym,
-  ◌∙◌,
-  subst,
-  arith,
-  add-zero,
-  zero-add,
-}
+use Rattle.std.proofs.Common.{◌≡◌, ℕ, suc, ◌+◌, ◌-◌, ◌<◌, ◌≤◌, Bool, true, false, nat_eq, List, [], ◌∷◌, ◌++◌, map, take, length, get_or, Option, Some, refl}
+use Rattle.std.proofs.Common.{ap, sym, ◌∙◌, subst, arith, add-zero, zero-add}
 use Rattle.std.specs.Prelude.{slice_get}
 use Rattle.std.proofs.lemmas.List.{length-append, length-map, map-append, take_all, take_more}
 use Rattle.bl_tree.specs.declared.graph.Edge.{Edge}
@@ -58,50 +29,18 @@ use Rattle.bl_graph.specs.declared.part.Branches.{Branches}
 use Rattle.bl_graph.specs.declared.part.Links.{Links}
 use Rattle.bl_graph.specs.declared.part.Part.{Part as Made}
 use Rattle.bl_graph.specs.Listed.{edges_in_each, flows_in_each}
-use Rattle.bl_graph.specs.Marks.{entered, join_mark, marked, part_in, parts_of, resumed, unreached, where_marked}
+use Rattle.bl_graph.specs.Marks.{entered, join_mark, marked, part_in, parts_of, resumed, where_marked}
 use Rattle.bl_graph.specs.inner.Flows.{InOrder}
 use Rattle.bl_graph.specs.inner.Instants.{ends_of_branch}
-use Rattle.bl_graph.specs.inner.Made.{
-  Adds,
-  BlockMade,
-  BranchAdded,
-  BranchesMade,
-  Crossed,
-  IsOut,
-  Makes,
-  MakesEach,
-  Names,
-  NamesEach,
-  Naming,
-  Pairwise,
-  StatementMade,
-  flow_of,
-  flows_between,
-  flows_within,
-  kinded,
-  spans_of,
-  whole_of,
-}
-use Rattle.bl_graph.specs.inner.Parts.{
-  act_part,
-  bare,
-  bare_if,
-  branch_links,
-  cobegin_part,
-  joined_branch,
-  leaving_outs,
-  node,
-  out,
-  out_if,
-  past,
-  pause_part,
-}
+use Rattle.bl_graph.specs.inner.Made.{Adds, BlockMade, BranchAdded, BranchesMade, Crossed, IsOut, Makes, MakesEach, Names, NamesEach, Naming, Pairwise}
+use Rattle.bl_graph.specs.inner.Made.{StatementMade, flow_of, flows_between, flows_within, kinded, spans_of, whole_of}
+use Rattle.bl_graph.specs.inner.Parts.{act_part, bare, bare_if, branch_links, cobegin_part, joined_branch, leaving_outs, node, out, out_if, past, pause_part}
 use Rattle.bl_graph.proofs.Building.{counted, empty_at, leads_in}
 use Rattle.bl_graph.proofs.Crossing.{crossed_adds, flows_apart}
 use Rattle.bl_graph.proofs.Joining.{bodies_with, branch_makes, names_with, with_branch}
 use Rattle.bl_graph.proofs.Making.{act_makes, await_makes, flows_where, re_add, run_makes}
 use Rattle.bl_graph.proofs.Marking.{names, names_each}
-use Rattle.bl_graph.proofs.Numbering.{adds_none, adds_then, names_back, names_front, out_pairs, pairs_append}
+use Rattle.bl_graph.proofs.Numbering.{adds_then, names_back, names_front, out_pairs, pairs_append}
 
 -- ---- branches
 
@@ -112,19 +51,6 @@ bodies_and : (branches : List Branch) (b : Branch) (l : Label) → bodies_of (br
     ≡ with_branch (bodies_of branches l) (out-Branch b).weak (plain_block (out-Branch b).body (inside l (0 + length (map plain_branch branches))))
 bodies_and branches b l =
     ap (λ bs. bodies_from bs 0 l) (map-append plain_branch branches (b ∷ [])) ∙ bodies_with (map plain_branch branches) (plain_branch b) 0 l
-
-pub no_branches_made : (first join : ℕ) (so : Bool) (links : Links) (made : Branches)
-    → made ≡ record { flows = []; resumes = []; left = unreached; spans = [] }
-    → BranchesMade [] first join so made links links
-no_branches_made first join so links made is l at naming named =
-    subst (λ made. MakesEach naming (bodies_of [] l) l at so made links links) (sym is) (record {
-      flows = refl;
-      left = refl;
-      resumes = tt;
-      spans = refl;
-      control = adds_none false naming links.control;
-      by_data = adds_none true naming links.by_data;
-    })
 
 pub branch_added : (branch : Branch) (body : List Stmt) (first join begins start : ℕ) (so empty : Bool) (made joined : Branches) (inside_made : Made)
     (l1 l2 : Links) (control : List Edge) → body ≡ (out-Branch branch).body → begins ≡ join + 1 → start ≡ begins + length made.flows

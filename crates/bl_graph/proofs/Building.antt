@@ -1,43 +1,7 @@
 -- What the code makes of statements at positions.
-use Rattle.std.proofs.Common.{
-  ◌≡◌,
-  ℕ,
-  suc,
-  ◌+◌,
-  ◌-◌,
-  ◌<◌,
-  ◌≤◌,
-  Bool,
-  true,
-  false,
-  not,
-  nat_eq,
-  ◌||◌,
-  List,
-  [],
-  ◌∷◌,
-  ◌++◌,
-  map,
-  take,
-  drop,
-  drop-cons,
-  drop_of_length-le,
-  length-drop,
-  add-one,
-  nat_lt,
-  length,
-  get_or,
-  Some,
-  refl,
-  rules,
-  ap,
-  sym,
-  ◌∙◌,
-  subst,
-  arith,
-  append_assoc,
-  append-nil,
-}
+use Rattle.std.proofs.Common.{◌≡◌, ℕ, suc, ◌+◌, ◌-◌, ◌<◌, ◌≤◌, Bool, true, false, not, nat_eq, ◌||◌, List, [], ◌∷◌, ◌++◌, map, take, drop, drop-cons}
+use Rattle.std.proofs.Common.{drop_of_length-le, length-drop, add-one, nat_lt, length, get_or, Some, refl, rules, ap, sym, ◌∙◌, subst, arith, append_assoc}
+use Rattle.std.proofs.Common.{append-nil}
 use Rattle.std.proofs.lemmas.List.{length-append, map-append, take_all, take_more, take_rest}
 use Rattle.bl_tree.specs.declared.graph.Edge.{Edge}
 use Rattle.bl_tree.specs.declared.place.Place.{Place}
@@ -54,42 +18,9 @@ use Rattle.bl_tree.specs.Instant.{is_instant_block}
 use Rattle.bl_tree.specs.Static.{mentions, set_of}
 use Rattle.bl_tree.proofs.StmtInduction.{Cases, induct}
 use Rattle.bl_graph_nodes.specs.Laws.{plain_arm, stmt}
-use Rattle.bl_graph_nodes.specs.Nodes.{
-  CheckAt,
-  DepthEndAt,
-  HeadAt,
-  Node,
-  StartAt,
-  SurfaceEndAt,
-  TestAt,
-  are_instant,
-  entry,
-  nodes_in,
-  nodes_of,
-  where_so,
-}
-use Rattle.bl_graph_nodes.specs.Plain.{
-  Block,
-  Done,
-  If,
-  Label,
-  Plain,
-  Position,
-  Repeat,
-  Then,
-  Until,
-  When,
-  While,
-  block_from,
-  else_at,
-  inside as inside_at,
-  is_empty,
-  label_at,
-  never,
-  passed_one,
-  plain_block,
-  plain_stmt,
-}
+use Rattle.bl_graph_nodes.specs.Nodes.{CheckAt, DepthEndAt, HeadAt, Node, StartAt, SurfaceEndAt, TestAt, are_instant, entry, nodes_in, nodes_of, where_so}
+use Rattle.bl_graph_nodes.specs.Plain.{Block, Done, If, Label, Plain, Position, Repeat, Then, Until, When, While, block_from, else_at, inside as inside_at}
+use Rattle.bl_graph_nodes.specs.Plain.{is_empty, label_at, never, passed_one, plain_block, plain_stmt}
 use Rattle.bl_graph_nodes.proofs.Equations.{plain_statements}
 use Rattle.bl_graph_nodes.proofs.Instants.{blocks_are_instant}
 use Rattle.bl_graph.specs.declared.flow.Flow.{Flow}
@@ -97,54 +28,12 @@ use Rattle.bl_graph.specs.declared.part.Links.{Links}
 use Rattle.bl_graph.specs.declared.part.Part.{Part as Made}
 use Rattle.bl_graph.specs.Listed.{edges_of, flows_of, resumes_of}
 use Rattle.bl_graph.specs.Marks.{Marked, part_in, part_of}
-use Rattle.bl_graph.specs.inner.Made.{
-  Adds,
-  BlockMade,
-  ChainMade,
-  ChoiceMade,
-  Closing,
-  IsNode,
-  Makes,
-  Names,
-  NamesEntry,
-  Naming,
-  Open,
-  Pairwise,
-  StatementMade,
-  TurnMade,
-  Whole,
-  flow_of,
-  kinded,
-  whole_in,
-  whole_of,
-}
-use Rattle.bl_graph.specs.inner.Parts.{
-  choice_part,
-  endless_part,
-  followed,
-  guarded_links,
-  guarded_part,
-  into_block,
-  link_if,
-  links_each,
-  links_from,
-  nothing,
-  past,
-  side_by_side,
-  until_part,
-  while_part,
-}
+use Rattle.bl_graph.specs.inner.Made.{Adds, BlockMade, ChainMade, ChoiceMade, Closing, IsNode, Makes, Names, NamesEntry, Naming, Open, Pairwise, StatementMade}
+use Rattle.bl_graph.specs.inner.Made.{TurnMade, Whole, flow_of, kinded, whole_in, whole_of}
+use Rattle.bl_graph.specs.inner.Parts.{choice_part, endless_part, followed, guarded_links, guarded_part, into_block, link_if, links_each, links_from}
+use Rattle.bl_graph.specs.inner.Parts.{past, side_by_side, until_part, while_part}
 use Rattle.bl_graph.proofs.Following.{after, block_after, names_after}
-use Rattle.bl_graph.proofs.Making.{
-  choice_opens,
-  endless_makes,
-  follow_makes,
-  guarded_makes,
-  nothing_makes,
-  turn_makes,
-  until_makes,
-  while_makes,
-}
+use Rattle.bl_graph.proofs.Making.{choice_opens, endless_makes, follow_makes, guarded_makes, turn_makes, until_makes, while_makes}
 use Rattle.bl_graph.proofs.Marking.{names, names_in}
 use Rattle.bl_graph.proofs.Numbering.{names_back, names_front}
 
@@ -229,9 +118,6 @@ module _ (naming : Naming) where
   leads_in (s ∷ body) at n names = leads_at s (at ++ 0 ∷ []) n _ names
 
 -- ---- a block
-
-pub block_empty : (first : ℕ) (links : Links) → BlockMade [] first nothing links links
-block_empty first links at naming names = nothing_makes naming links
 
 pub block_more : (body : List Stmt) (s : Stmt) (first next : ℕ) (made more result : Made) (l0 l1 l2 : Links) (control : List Edge)
     → next ≡ first + length made.flows → BlockMade body first made l0 l1 → StatementMade s next more l1 l2

@@ -1,42 +1,9 @@
 -- The data edges between branches, by the numbers of their nodes.
-use Rattle.std.proofs.Common.{
-  ◌≡◌,
-  ℕ,
-  zero,
-  suc,
-  ◌+◌,
-  ◌-◌,
-  ◌<◌,
-  ◌≤◌,
-  Bool,
-  true,
-  false,
-  cond,
-  ◌&&◌,
-  ◌||◌,
-  ◌⊎◌,
-  ⊎_elim,
-  inl,
-  inr,
-  List,
-  [],
-  ◌∷◌,
-  ◌++◌,
-  map,
-  length,
-  Some,
-  None,
-  refl,
-  ap,
-  sym,
-  ◌∙◌,
-  subst,
-  arith,
-  append_assoc,
-  zero-add,
-}
+use Rattle.std.proofs.Common.{◌≡◌, ℕ, zero, suc, ◌+◌, ◌-◌, ◌<◌, ◌≤◌, Bool, true, false, cond, ◌&&◌, ◌||◌, ◌⊎◌, ⊎_elim, inl, inr, List, [], ◌∷◌, ◌++◌, map}
+use Rattle.std.proofs.Common.{length, Some, None, refl, ap, sym, ◌∙◌, subst, arith, append_assoc, zero-add}
 use Rattle.std.specs.Prelude.{◌≢◌, Contains, slice_get}
 use Rattle.std.proofs.lemmas.List.Elements.{All-contains, Contains-append_cases, Contains-append_left, Contains-append_right}
+use Rattle.bl_tree.proofs.Basics.{contains_at, contains_first, contains_further, contains_none, first_or_further, get_in_front, same_suc, within_at}
 use Rattle.bl_tree.specs.declared.graph.Edge.{Edge}
 use Rattle.bl_tree.specs.Static.{meets}
 use Rattle.bl_graph_nodes.specs.Nodes.{Node, node_reads, node_writes, nodes_in, nodes_in_each}
@@ -51,25 +18,20 @@ use Rattle.bl_graph.specs.inner.Made.{Adds, Crossed, Names, Naming, flow_of, flo
 use Rattle.bl_graph.specs.inner.Parts.{shifted}
 use Rattle.bl_graph.proofs.Following.{Same, same_both, same_is, same_itself, same_swap, same_then}
 use Rattle.bl_graph.proofs.Marking.{names, names_in}
-use Rattle.bl_graph.proofs.Numbering.{cons_cases, head_there, names_back, names_front, no_element, tail_there}
+use Rattle.bl_graph.proofs.Numbering.{names_back, names_front}
 
 -- ---- elements by position
-
-pub there_at : {A : Type 0} (xs : List A) (i : ℕ) (x : A) → slice_get xs i ≡ Some x → Contains xs x
-there_at [] i x is = cc
-there_at (y ∷ xs) zero x is = let same : y ≡ x = cc in subst (Contains (y ∷ xs)) same (head_there y xs)
-there_at (y ∷ xs) (suc i) x is = tail_there y xs x (there_at xs i x is)
 
 pub record At {A : Type 0} (xs : List A) (x : A) : Type 0 where
   pub position : ℕ
   pub is : slice_get xs position ≡ Some x
 
 pub at_there : {A : Type 0} (xs : List A) (x : A) → Contains xs x → At xs x
-at_there [] x there = absurd (no_element x there)
+at_there [] x there = absurd (contains_none x there)
 at_there (y ∷ xs) x there =
     ⊎_elim (λ is. record { position = zero; is = ap Some is })
     (λ later. let more = at_there xs x later in record { position = suc more.position; is = more.is })
-    (cons_cases y xs x there)
+    (first_or_further y xs x there)
 
 pub record Element {A : Type 0} (xs : List A) (i : ℕ) : Type 0 where
   pub element : A
@@ -82,16 +44,6 @@ element_at (x ∷ xs) (suc i) below =
     let less : i < length xs = omega arith in
     let more = element_at xs i less in
     record { element = more.element; is = more.is }
-
-pub below_at : {A : Type 0} (xs : List A) (i : ℕ) (x : A) → slice_get xs i ≡ Some x → i < length xs
-below_at [] i x is = cc
-below_at (y ∷ xs) zero x is = omega arith
-below_at (y ∷ xs) (suc i) x is = let less : i < length xs = below_at xs i x is in omega arith
-
-left_at : {A : Type 0} (xs ys : List A) (i : ℕ) (x : A) → slice_get xs i ≡ Some x → slice_get (xs ++ ys) i ≡ Some x
-left_at [] ys i x is = cc
-left_at (y ∷ xs) ys zero x is = is
-left_at (y ∷ xs) ys (suc i) x is = left_at xs ys i x is
 
 right_at : {A : Type 0} (xs ys : List A) (i j : ℕ) (x : A) → j ≡ length xs + i → slice_get ys i ≡ Some x → slice_get (xs ++ ys) j ≡ Some x
 right_at [] ys i j x here is = let same : i ≡ j = omega arith in subst (λ j. slice_get ys j ≡ Some x) same is
@@ -116,7 +68,7 @@ Sits (Body weak b rest) (suc k) i m = (j : ℕ) × (i ≡ length (part_in b).nod
 
 sits_at : (bodies : Bodies) (k i : ℕ) (m : Marked) → Sits bodies k i m → slice_get (parts_of bodies).nodes i ≡ Some m
 sits_at Last k i m sits = absurd sits
-sits_at (Body weak b rest) zero i m sits = left_at (part_in b).nodes (parts_of rest).nodes i m sits
+sits_at (Body weak b rest) zero i m sits = get_in_front (part_in b).nodes (parts_of rest).nodes i m sits
 sits_at (Body weak b rest) (suc k) i m sits =
     right_at (part_in b).nodes (parts_of rest).nodes sits.0 i m sits.1 (sits_at rest k sits.0 m sits.2)
 
@@ -151,7 +103,7 @@ placed (Body weak b rest) n (suc k) x inside =
 branch_of : (bodies : Bodies) (n k i x : ℕ) (m : Marked) → x ≡ n + i → Sits bodies k i m → InBranch (spans_of n bodies) k x
 branch_of Last n k i x m is sits = absurd sits
 branch_of (Body weak b rest) n zero i x m is sits =
-    let below : i < length (part_in b).nodes = below_at (part_in b).nodes i m sits in
+    let below : i < length (part_in b).nodes = within_at (part_in b).nodes i m sits in
     record { span = record_span n (length (part_in b).nodes); is_there = refl; begins = omega arith; ends = omega arith }
 branch_of (Body weak b rest) n (suc k) i x m is sits =
     let here = sits.1 in
@@ -206,13 +158,13 @@ together_back : (a b : Mark) → in_same_phase a b ≡ true → in_same_phase b 
 together_back a b is = swap_bools a.surface b.surface a.depth b.depth is
 
 touches_there : (a b : Node) → meets (node_writes a) (node_reads b) ≡ true → Contains (touching a b) (pair a b)
-touches_there a b is = subst (λ t. Contains (cond t (pair a b ∷ []) []) (pair a b)) (sym is) (head_there (pair a b) [])
+touches_there a b is = subst (λ t. Contains (cond t (pair a b ∷ []) []) (pair a b)) (sym is) (contains_first (pair a b) [])
 
 -- what is between a node and those of other branches
 first_between : (a b : Marked) (bs : List Marked) → Contains bs b → in_same_phase a.mark b.mark ≡ true
     → meets (node_writes a.node) (node_reads b.node) ≡ true
     → Contains (between a bs) (pair a.node b.node)
-first_between a b [] there so touch = absurd (no_element b there)
+first_between a b [] there so touch = absurd (contains_none b there)
 first_between a b (c ∷ bs) there so touch =
     ⊎_elim
     (λ is. Contains-append_left _ (between a bs) (pair a.node b.node)
@@ -220,12 +172,12 @@ first_between a b (c ∷ bs) there so touch =
     (subst (λ t. Contains (cond t (touching a.node b.node ++ touching b.node a.node) []) (pair a.node b.node)) (sym so)
     (Contains-append_left (touching a.node b.node) (touching b.node a.node) (pair a.node b.node) (touches_there a.node b.node touch)))))
     (λ later. Contains-append_right _ (between a bs) (pair a.node b.node) (first_between a b bs later so touch))
-    (cons_cases c bs b there)
+    (first_or_further c bs b there)
 
 second_between : (a b : Marked) (bs : List Marked) → Contains bs b → in_same_phase a.mark b.mark ≡ true
     → meets (node_writes b.node) (node_reads a.node) ≡ true
     → Contains (between a bs) (pair b.node a.node)
-second_between a b [] there so touch = absurd (no_element b there)
+second_between a b [] there so touch = absurd (contains_none b there)
 second_between a b (c ∷ bs) there so touch =
     ⊎_elim
     (λ is. Contains-append_left _ (between a bs) (pair b.node a.node)
@@ -233,14 +185,14 @@ second_between a b (c ∷ bs) there so touch =
     (subst (λ t. Contains (cond t (touching a.node b.node ++ touching b.node a.node) []) (pair b.node a.node)) (sym so)
     (Contains-append_right (touching a.node b.node) (touching b.node a.node) (pair b.node a.node) (touches_there b.node a.node touch)))))
     (λ later. Contains-append_right _ (between a bs) (pair b.node a.node) (second_between a b bs later so touch))
-    (cons_cases c bs b there)
+    (first_or_further c bs b there)
 
 across_there : (firsts bs : List Marked) (a : Marked) (p : Pair) → Contains firsts a → Contains (between a bs) p → Contains (across firsts bs) p
-across_there [] bs a p there has = absurd (no_element a there)
+across_there [] bs a p there has = absurd (contains_none a there)
 across_there (c ∷ firsts) bs a p there has =
     ⊎_elim (λ is. Contains-append_left (between c bs) (across firsts bs) p (subst (λ c. Contains (between c bs) p) (sym is) has))
     (λ later. Contains-append_right (between c bs) (across firsts bs) p (across_there firsts bs a p later has))
-    (cons_cases c firsts a there)
+    (first_or_further c firsts a there)
 
 -- the first of these writes what the second reads
 record Meeting (firsts bs : List Marked) (p : Pair) : Type 0 where
@@ -253,15 +205,15 @@ record Meeting (firsts bs : List Marked) (p : Pair) : Type 0 where
       ⊎ ((p ≡ pair b.node a.node) × (meets (node_writes b.node) (node_reads a.node) ≡ true))
 
 touching_is : (a b : Node) (t : Bool) (p : Pair) → Contains (cond t (pair a b ∷ []) []) p → (p ≡ pair a b) × (t ≡ true)
-touching_is a b true p there = ⊎_elim (λ is. (sym is, refl)) (λ none. absurd (no_element p none)) (cons_cases (pair a b) [] p there)
-touching_is a b false p there = absurd (no_element p there)
+touching_is a b true p there = ⊎_elim (λ is. (sym is, refl)) (λ none. absurd (contains_none p none)) (first_or_further (pair a b) [] p there)
+touching_is a b false p there = absurd (contains_none p there)
 
 if_there : (t : Bool) (ps : List Pair) (p : Pair) → Contains (cond t ps []) p → (t ≡ true) × Contains ps p
 if_there true ps p there = (refl, there)
-if_there false ps p there = absurd (no_element p there)
+if_there false ps p there = absurd (contains_none p there)
 
 between_is : (a : Marked) (bs : List Marked) (p : Pair) → Contains (between a bs) p → Meeting (a ∷ []) bs p
-between_is a [] p there = absurd (no_element p there)
+between_is a [] p there = absurd (contains_none p there)
 between_is a (b ∷ bs) p there =
     ⊎_elim
     (λ own.
@@ -269,8 +221,8 @@ between_is a (b ∷ bs) p there =
     record {
       a = a;
       b = b;
-      in_first = head_there a [];
-      in_second = head_there b bs;
+      in_first = contains_first a [];
+      in_second = contains_first b bs;
       so = test.0;
       touch = ⊎_elim
           (λ one. inl (touching_is a.node b.node (meets (node_writes a.node) (node_reads b.node)) p one))
@@ -281,21 +233,21 @@ between_is a (b ∷ bs) p there =
       a = more.a;
       b = more.b;
       in_first = more.in_first;
-      in_second = tail_there b bs more.b more.in_second;
+      in_second = contains_further b bs more.b more.in_second;
       so = more.so;
       touch = more.touch;
     })
     (Contains-append_cases (cond (in_same_phase a.mark b.mark) (touching a.node b.node ++ touching b.node a.node) []) (between a bs) p there)
 
 across_is : (firsts bs : List Marked) (p : Pair) → Contains (across firsts bs) p → Meeting firsts bs p
-across_is [] bs p there = absurd (no_element p there)
+across_is [] bs p there = absurd (contains_none p there)
 across_is (c ∷ firsts) bs p there =
     ⊎_elim
     (λ own. let met = between_is c bs p own in record {
       a = met.a;
       b = met.b;
-      in_first = ⊎_elim (λ is. subst (Contains (c ∷ firsts)) is (head_there c firsts)) (λ none. absurd (no_element met.a none))
-          (cons_cases c [] met.a met.in_first);
+      in_first = ⊎_elim (λ is. subst (Contains (c ∷ firsts)) is (contains_first c firsts)) (λ none. absurd (contains_none met.a none))
+          (first_or_further c [] met.a met.in_first);
       in_second = met.in_second;
       so = met.so;
       touch = met.touch;
@@ -303,7 +255,7 @@ across_is (c ∷ firsts) bs p there =
     (λ later. let met = across_is firsts bs p later in record {
       a = met.a;
       b = met.b;
-      in_first = tail_there c firsts met.a met.in_first;
+      in_first = contains_further c firsts met.a met.in_first;
       in_second = met.in_second;
       so = met.so;
       touch = met.touch;
@@ -318,12 +270,12 @@ across_sits Last k j i x a b differ one other so touch = absurd one
 across_sits (Body weak c rest) zero zero i x a b differ one other so touch = absurd (differ refl)
 across_sits (Body weak c rest) zero (suc j) i x a b differ one other so touch =
     Contains-append_left (across (part_in c).nodes (parts_of rest).nodes) (flows_between rest) (pair a.node b.node)
-    (across_there (part_in c).nodes (parts_of rest).nodes a (pair a.node b.node) (there_at (part_in c).nodes i a one)
-    (first_between a b (parts_of rest).nodes (there_at (parts_of rest).nodes other.0 b (sits_at rest j other.0 b other.2)) so touch))
+    (across_there (part_in c).nodes (parts_of rest).nodes a (pair a.node b.node) (contains_at (part_in c).nodes i a one)
+    (first_between a b (parts_of rest).nodes (contains_at (parts_of rest).nodes other.0 b (sits_at rest j other.0 b other.2)) so touch))
 across_sits (Body weak c rest) (suc k) zero i x a b differ one other so touch =
     Contains-append_left (across (part_in c).nodes (parts_of rest).nodes) (flows_between rest) (pair a.node b.node)
-    (across_there (part_in c).nodes (parts_of rest).nodes b (pair a.node b.node) (there_at (part_in c).nodes x b other)
-    (second_between b a (parts_of rest).nodes (there_at (parts_of rest).nodes one.0 a (sits_at rest k one.0 a one.2))
+    (across_there (part_in c).nodes (parts_of rest).nodes b (pair a.node b.node) (contains_at (part_in c).nodes x b other)
+    (second_between b a (parts_of rest).nodes (contains_at (parts_of rest).nodes one.0 a (sits_at rest k one.0 a one.2))
     (together_back a.mark b.mark so) touch))
 across_sits (Body weak c rest) (suc k) (suc j) i x a b differ one other so touch =
     Contains-append_right (across (part_in c).nodes (parts_of rest).nodes) (flows_between rest) (pair a.node b.node)
@@ -351,7 +303,7 @@ record Somewhere (bodies : Bodies) (m : Marked) : Type 0 where
   sits : Sits bodies k i m
 
 somewhere : (bodies : Bodies) (m : Marked) → Contains (parts_of bodies).nodes m → Somewhere bodies m
-somewhere Last m there = absurd (no_element m there)
+somewhere Last m there = absurd (contains_none m there)
 somewhere (Body weak b rest) m there =
     ⊎_elim
     (λ here. let at = at_there (part_in b).nodes m here in record { k = zero; i = at.position; sits = at.is })
@@ -368,11 +320,8 @@ zero_differs k is = cc
 suc_differs : (k : ℕ) → suc k ≢ zero
 suc_differs k is = cc
 
-suc_same : (j k : ℕ) → suc j ≡ suc k → j ≡ k
-suc_same j k is = cc
-
 crossing : (bodies : Bodies) (p : Pair) → Contains (flows_between bodies) p → Crossing bodies p
-crossing Last p there = absurd (no_element p there)
+crossing Last p there = absurd (contains_none p there)
 crossing (Body weak c rest) p there =
     ⊎_elim
     (λ own.
@@ -414,7 +363,7 @@ crossing (Body weak c rest) p there =
     record {
       k = suc more.k;
       j = suc more.j;
-      differ = λ same. more.differ (suc_same more.k more.j same);
+      differ = λ same. more.differ (same_suc more.k more.j same);
       i = length (part_in c).nodes + more.i;
       x = length (part_in c).nodes + more.x;
       a = more.a;
@@ -430,11 +379,11 @@ crossing (Body weak c rest) p there =
 -- ---- edges by number
 
 shift_there : (n : ℕ) (es : List Edge) (edge : Edge) → Contains es edge → Contains (map (shifted n) es) (shifted n edge)
-shift_there n [] edge there = absurd (no_element edge there)
+shift_there n [] edge there = absurd (contains_none edge there)
 shift_there n (e ∷ es) edge there =
-    ⊎_elim (λ is. subst (λ x. Contains (shifted n e ∷ map (shifted n) es) (shifted n x)) is (head_there (shifted n e) (map (shifted n) es)))
-    (λ later. tail_there (shifted n e) (map (shifted n) es) (shifted n edge) (shift_there n es edge later))
-    (cons_cases e es edge there)
+    ⊎_elim (λ is. subst (λ x. Contains (shifted n e ∷ map (shifted n) es) (shifted n x)) is (contains_first (shifted n e) (map (shifted n) es)))
+    (λ later. contains_further (shifted n e) (map (shifted n) es) (shifted n edge) (shift_there n es edge later))
+    (first_or_further e es edge there)
 
 record Unshifted (n : ℕ) (es : List Edge) (edge : Edge) : Type 0 where
   before : Edge
@@ -442,11 +391,11 @@ record Unshifted (n : ℕ) (es : List Edge) (edge : Edge) : Type 0 where
   is : shifted n before ≡ edge
 
 unshift : (n : ℕ) (es : List Edge) (edge : Edge) → Contains (map (shifted n) es) edge → Unshifted n es edge
-unshift n [] edge there = absurd (no_element edge there)
+unshift n [] edge there = absurd (contains_none edge there)
 unshift n (e ∷ es) edge there =
-    ⊎_elim (λ is. record { before = e; is_there = head_there e es; is = is })
-    (λ later. let more = unshift n es edge later in record { before = more.before; is_there = tail_there e es more.before more.is_there; is = more.is })
-    (cons_cases (shifted n e) (map (shifted n) es) edge there)
+    ⊎_elim (λ is. record { before = e; is_there = contains_first e es; is = is })
+    (λ later. let more = unshift n es edge later in record { before = more.before; is_there = contains_further e es more.before more.is_there; is = more.is })
+    (first_or_further (shifted n e) (map (shifted n) es) edge there)
 
 pub crossed_adds : (naming : Naming) (bodies : Bodies) (n : ℕ) (flows : List Flow) (spans : List Span) (before after : List Edge)
     → flows ≡ map flow_of (parts_of bodies).nodes → spans ≡ spans_of 0 bodies → Names naming n (nodes_in_each bodies)

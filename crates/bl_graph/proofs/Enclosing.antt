@@ -1,165 +1,28 @@
 -- What is reached is marked: in constructs around others, and in whole bodies.
-use Rattle.std.proofs.Common.{
-  ◌≡◌,
-  ℕ,
-  zero,
-  suc,
-  Bool,
-  true,
-  false,
-  not,
-  cond,
-  ◌⊎◌,
-  inl,
-  inr,
-  List,
-  [],
-  ◌∷◌,
-  ◌++◌,
-  map,
-  Some,
-  refl,
-  ap,
-  sym,
-  ◌∙◌,
-  subst,
-}
+use Rattle.std.proofs.Common.{◌≡◌, ℕ, zero, suc, Bool, true, false, not, cond, ◌⊎◌, inl, inr, List, [], ◌∷◌, ◌++◌, map, Some, refl, ap, sym, ◌∙◌, subst}
 use Rattle.std.specs.Prelude.{Contains, slice_get, ⊤}
 use Rattle.std.proofs.lemmas.Option.{slice_get-get_or}
+use Rattle.std.proofs.lemmas.Bool.{or_left, or_right}
+use Rattle.bl_tree.proofs.Basics.{from_false}
 use Rattle.bl_tree.specs.declared.place.Place.{Place}
 use Rattle.bl_tree.specs.declared.tree.Expr.{Expr}
 use Rattle.bl_tree.specs.declared.tree.Guard.{Guard}
 use Rattle.bl_tree.specs.declared.tree.Guard.TheVariants.{Abort, Reset}
 use Rattle.bl_graph_nodes.specs.Laws.{EachOnce, NodesDiffer}
-use Rattle.bl_graph_nodes.specs.Nodes.{
-  CheckAt,
-  DepthEndAt,
-  DepthJoinAt,
-  ForkAt,
-  Node,
-  StartAt,
-  SurfaceEndAt,
-  SurfaceJoinAt,
-  are_instant,
-  is_instant,
-  nodes_in,
-}
-use Rattle.bl_graph_nodes.specs.Plain.{
-  Act,
-  Again,
-  Await,
-  Block,
-  Bodies,
-  Body,
-  Cobegin,
-  Done,
-  If,
-  Label,
-  Last,
-  Plain,
-  Repeat,
-  Run,
-  Then,
-  Until,
-  When,
-  While,
-  is_empty,
-  plain_block,
-}
-use Rattle.bl_graph.specs.Edges.{
-  BodyEnd,
-  Edge,
-  EdgeAll,
-  EdgeEach,
-  Entry,
-  Guarded,
-  Into,
-  Out,
-  OutAll,
-  ResumeAll,
-  ResumeEach,
-}
+use Rattle.bl_graph_nodes.specs.Nodes.{CheckAt, DepthEndAt, DepthJoinAt, ForkAt, Node, StartAt, SurfaceEndAt, SurfaceJoinAt, are_instant, is_instant, nodes_in}
+use Rattle.bl_graph_nodes.specs.Plain.{Act, Again, Await, Block, Bodies, Body, Cobegin, Done, If, Label, Last, Plain, Repeat, Run, Then, Until, When, While}
+use Rattle.bl_graph_nodes.specs.Plain.{is_empty, plain_block}
+use Rattle.bl_graph.specs.Edges.{BodyEnd, Edge, EdgeAll, EdgeEach, Entry, Guarded, Into, Out, OutAll, ResumeAll, ResumeEach}
 use Rattle.bl_graph.specs.Laws.{MarksTell, MarksTellIn}
-use Rattle.bl_graph.specs.Marks.{
-  Mark,
-  Marked,
-  again_by,
-  begun_by,
-  body_ends,
-  entered,
-  join_mark,
-  last_end,
-  leaves,
-  marked,
-  moved,
-  part_in,
-  part_of,
-  parts_of,
-  resets,
-  resumed,
-  some_of,
-  where_marked,
-}
+use Rattle.bl_graph.specs.Marks.{Mark, Marked, again_by, begun_by, body_ends, entered, join_mark, last_end, leaves, marked, moved, part_in, part_of, parts_of}
+use Rattle.bl_graph.specs.Marks.{resets, resumed, some_of, where_marked}
 use Rattle.bl_graph.specs.Walks.{Reached}
-use Rattle.bl_graph.proofs.Filling.{
-  again_full,
-  await_full,
-  back_at,
-  block_part,
-  Closed,
-  closed_part,
-  Full,
-  FullIn,
-  if_full,
-  in_moved,
-  in_statement,
-  is_at,
-  moved_part,
-  moved_to,
-  never,
-  none_is,
-  out_mark,
-  own_mark,
-  repeat_full,
-  run_full,
-  single_full,
-  some_is_same,
-  until_full,
-  while_full,
-}
-use Rattle.bl_graph.proofs.Marking.{
-  At,
-  Differ,
-  Is,
-  Sub,
-  at_left,
-  at_moved,
-  at_right,
-  back,
-  differ_left,
-  differ_of,
-  differ_right,
-  is_first,
-  is_in,
-  is_left,
-  is_right,
-  leaves_depth,
-  leaves_surface,
-  moved_at,
-  names,
-  names_append,
-  names_in,
-  names_moved,
-  one_mark,
-  or_left,
-  or_right,
-  pick,
-  some_is,
-  to_depth,
-  to_depth_entry,
-  to_surface,
-  where_at,
-}
+use Rattle.bl_graph.proofs.Filling.{again_full, await_full, back_at, block_part, Closed, closed_part, Full, FullIn, if_full, in_moved, in_statement, is_at}
+use Rattle.bl_graph.proofs.Filling.{moved_part, moved_to, none_is, out_mark, own_mark, repeat_full, run_full, single_full, some_is_same, until_full}
+use Rattle.bl_graph.proofs.Filling.{while_full}
+use Rattle.bl_graph.proofs.Marking.{At, Differ, Is, Sub, at_left, at_moved, at_right, back, differ_left, differ_of, differ_right, is_first, is_in, is_left}
+use Rattle.bl_graph.proofs.Marking.{is_right, leaves_depth, leaves_surface, moved_at, names, names_append, names_in, names_moved, one_mark}
+use Rattle.bl_graph.proofs.Marking.{pick, some_is, to_depth, to_depth_entry, to_surface, where_at}
 use Rattle.bl_graph.proofs.Staying.{edge_has, out_has, out_in}
 use Rattle.bl_graph.proofs.Sounding.{sound_in}
 use Rattle.bl_graph.proofs.Walking.{reached_keeps_both}
@@ -177,10 +40,10 @@ begun_surface Reset = refl
 
 chosen_first : (deep : Bool) (test : Bool) (a b : Mark) → test ≡ true → pick deep a ≡ true → pick deep (cond test a b) ≡ true
 chosen_first deep true a b is so = so
-chosen_first deep false a b is so = never is
+chosen_first deep false a b is so = from_false is
 
 chosen_second : (deep : Bool) (test : Bool) (a b : Mark) → test ≡ false → pick deep b ≡ true → pick deep (cond test a b) ≡ true
-chosen_second deep true a b is so = never (sym is)
+chosen_second deep true a b is so = from_false (sym is)
 chosen_second deep false a b is so = so
 
 out_fills : (body : Block) (n : Node) → OutAll body n → is_empty body ≡ false
@@ -190,9 +53,6 @@ out_fills (Then s rest) n h = refl
 module _ (l : Label) (at : Place) (guard : Guard) (e : Expr) (body : Block) (full : FullIn body) where
   abbrev so : Bool
   so = are_instant body
-
-  abbrev e_mark : Mark
-  e_mark = begun_by guard
 
   abbrev ends : Mark
   ends = body_ends guard body (part_in body).outs
@@ -245,10 +105,10 @@ module _ (l : Label) (at : Place) (guard : Guard) (e : Expr) (body : Block) (ful
     | inl into ↦ into_body m into
     | inr next ↦ end_in false m next.1 (empty_end false next.0 (begun_surface guard))
   ]
-  when_closed d true n m is (inr (inl h)) = never (own_mark true zs n entered d (inl (h.0, refl)) is)
-  when_closed d false n m is (inr (inr (inl h))) = never (own_mark false zs n resumed d (moved_to zs n (CheckAt l at e) resumed h.0 at_check) is)
+  when_closed d true n m is (inr (inl h)) = from_false (own_mark true zs n entered d (inl (h.0, refl)) is)
+  when_closed d false n m is (inr (inr (inl h))) = from_false (own_mark false zs n resumed d (moved_to zs n (CheckAt l at e) resumed h.0 at_check) is)
   when_closed d true n m is (inr (inr (inl h))) = is_in true inside zs m sub_inside (to_depth (begun_by guard) (part_in body).nodes m (full.resumes m h.1))
-  when_closed d false n m is (inr (inr (inr (inl h)))) = never (own_mark false zs n resumed d (moved_to zs n (CheckAt l at e) resumed h.0 at_check) is)
+  when_closed d false n m is (inr (inr (inr (inl h)))) = from_false (own_mark false zs n resumed d (moved_to zs n (CheckAt l at e) resumed h.0 at_check) is)
   when_closed d true n m is (inr (inr (inr (inl h)))) = elim (guarded_cases guard l at body m h.1) [
     | inl out ↦ is_at true zs m (DepthEndAt l at) (last_end guard ends) out.0 at_depth_end (or_right ends.depth (not (resets guard)) out.1)
     | inr again ↦ elim again.0 [
@@ -284,7 +144,7 @@ module _ (l : Label) (at : Place) (guard : Guard) (e : Expr) (body : Block) (ful
 pub leave_at : (weak : Bool) (body : Block) → FullIn body → (n : Node) (k : Mark) → (weak ≡ true) ⊎ OutAll body n → At (part_in body).nodes n k →
     At (cond weak (part_in body).nodes (part_in body).outs) n k
 leave_at true body full n k joins there = there
-leave_at false body full n k (inl is) there = never is
+leave_at false body full n k (inl is) there = from_false is
 leave_at false body full n k (inr out) there = full.outs n k out there
 
 keeps_is : (deep : Bool) (body : Block) → FullIn body → (F : Node → Type 0) → ((n : Node) → F n → Is deep (part_in body).nodes n) →
@@ -351,7 +211,7 @@ module _ (weak : Bool) (body : Block) (rest : Bodies) (l : Label) (at : Place) (
     | inr next ↦ inl (is_at false zs m (SurfaceJoinAt l at) (join_mark left) next.1.1 (around.surface_join next.1.0) refl)
   ]
   first_closed true n m is (inr (inl h)) =
-      never (own_mark true zs n entered around.differ (moved_to zs n (ForkAt l at) entered h.0 around.fork) is)
+      from_false (own_mark true zs n entered around.differ (moved_to zs n (ForkAt l at) entered h.0 around.fork) is)
   first_closed false n m is (inr (inr (inl h))) = inl (is_at false zs m (SurfaceJoinAt l at) (join_mark left) h.1.1 (around.surface_join h.1.0) refl)
   first_closed true n m is (inr (inr (inl h))) =
       let own = surface_in body full n h.0.0 in
@@ -477,7 +337,7 @@ then_outs s (Then t rest) one two d n k (inl h) there =
     (λ i j x. at_right (part_of s).nodes (moved e ys.nodes) i j x) (in_moved e (Then t rest) n (out_in (Then t rest) n h)) there in
     let b = moved_at e ys.nodes n k inside in
     subst (At (moved e ys.outs) n) (sym b.same) (at_moved e ys.outs n b.mark (two.outs n b.mark h b.there))
-then_outs s (Then t rest) one two d n k (inr h) there = never h.0
+then_outs s (Then t rest) one two d n k (inr h) there = from_false h.0
 
 then_full : (s : Plain) (rest : Block) → Full s → FullIn rest → Differ (names (part_in (Then s rest)).nodes) → FullIn (Then s rest)
 then_full s rest one two d = let e = some_of (part_of s).outs in record {

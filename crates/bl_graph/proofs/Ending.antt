@@ -1,41 +1,11 @@
 -- The tick graph of a body by numbers.
-use Rattle.std.proofs.Common.{
-  ◌≡◌,
-  ℕ,
-  zero,
-  suc,
-  ◌+◌,
-  ◌<◌,
-  Bool,
-  true,
-  false,
-  ◌&&◌,
-  nat_lt,
-  ⊎_elim,
-  List,
-  [],
-  ◌∷◌,
-  ◌++◌,
-  map,
-  length,
-  get_or,
-  Some,
-  Result,
-  Ok,
-  Err,
-  refl,
-  rules,
-  ap,
-  sym,
-  ◌∙◌,
-  subst,
-  arith,
-  zero-add,
-}
+use Rattle.std.proofs.Common.{◌≡◌, ℕ, zero, suc, ◌+◌, ◌<◌, Bool, true, false, ◌&&◌, ⊎_elim, List, [], ◌∷◌, ◌++◌, map, length, get_or, Some, Result, Ok}
+use Rattle.std.proofs.Common.{Err, refl, ap, sym, ◌∙◌, subst, arith, zero-add}
 use Rattle.std.specs.Prelude.{Contains, IfOk, IsTrue, slice_get, ◌↔◌}
 use Rattle.std.specs.List.{list_all}
 use Rattle.std.proofs.lemmas.List.{length-map}
 use Rattle.std.proofs.lemmas.List.Elements.{Contains-append_left, Contains-append_right, Contains-append_cases}
+use Rattle.bl_tree.proofs.Basics.{contains_first, contains_further, from_false, from_true_false, less_test, within_at}
 use Rattle.bl_tree.specs.declared.graph.Edge.{Edge as GraphEdge}
 use Rattle.bl_tree.specs.declared.graph.Graph.{Graph}
 use Rattle.bl_tree.specs.declared.graph.Node.{Node as GraphNode}
@@ -55,11 +25,9 @@ use Rattle.bl_graph.specs.Listed.{Pair, edges_in, flows_in, pair}
 use Rattle.bl_graph.specs.Marks.{Marked, part_in}
 use Rattle.bl_graph.specs.inner.Made.{Adds, BlockMade, HasPair, Makes, Names, flow_of, whole_in}
 use Rattle.bl_graph.proofs.Branching.{names_list}
-use Rattle.bl_graph.proofs.Crossing.{below_at}
 use Rattle.bl_graph.proofs.Flowing.{flows_are_listed}
 use Rattle.bl_graph.proofs.Listing.{edges_are_listed}
 use Rattle.bl_graph.proofs.Marking.{names, names_in}
-use Rattle.bl_graph.proofs.Numbering.{head_there, tail_there}
 
 shown_all : (ms : List Marked) → map (λ (flow : Flow). flow.node) (map flow_of ms) ≡ map graph_node (names ms)
 shown_all [] = refl
@@ -68,12 +36,6 @@ shown_all (m ∷ ms) = ap (λ ns. graph_node m.node ∷ ns) (shown_all ms)
 -- the numbers of a list name its elements
 itself : (nodes : List Node) → Names (slice_get nodes) 0 nodes
 itself nodes = names_list nodes 0 (slice_get nodes) (λ i. ap (slice_get nodes) (zero-add i))
-
-not_true : {A : Type 0} → false ≡ true → A
-not_true is = cc
-
-not_false : {A : Type 0} → true ≡ false → A
-not_false is = cc
 
 module _ (nodes : List Node) (E : Node → Node → Type 0) (kind : Bool) (pairs : List Pair) (es : List GraphEdge) where
   -- edges that were added are those between nodes
@@ -101,7 +63,7 @@ module _ (nodes : List Node) (E : Node → Node → Type 0) (kind : Bool) (pairs
   pub within : Adds kind (slice_get nodes) pairs [] es → (edge : GraphEdge) → Contains es edge → (edge.from < length nodes) × (edge.to < length nodes)
   within adds edge there =
       let has = adds.there edge (subst (λ es. Contains es edge) adds.grows there) in
-      (below_at nodes edge.from has.pair.from has.leads.first, below_at nodes edge.to has.pair.to has.leads.second)
+      (within_at nodes edge.from has.pair.from has.leads.first, within_at nodes edge.to has.pair.to has.leads.second)
 
   pub of_kind : Adds kind (slice_get nodes) pairs [] es → (edge : GraphEdge) → Contains es edge → edge.by_data ≡ kind
   of_kind adds edge there = (adds.there edge (subst (λ es. Contains es edge) adds.grows there)).leads.of_kind
@@ -111,24 +73,21 @@ module _ (control by_data : List GraphEdge) where
   control_only : ((edge : GraphEdge) → Contains by_data edge → edge.by_data ≡ true) → (P : Type 0) (i j : ℕ)
       → Contains control (edge_between i j false) ↔ P → Contains (control ++ by_data) (edge_between i j false) ↔ P
   control_only all P i j same = (
-    λ there. ⊎_elim (λ here. same.0 here) (λ other. not_true (all (edge_between i j false) other)) (Contains-append_cases control by_data _ there),
+    λ there. ⊎_elim (λ here. same.0 here) (λ other. from_false (all (edge_between i j false) other)) (Contains-append_cases control by_data _ there),
     λ holds. Contains-append_left control by_data _ (same.1 holds),
   )
 
   data_only : ((edge : GraphEdge) → Contains control edge → edge.by_data ≡ false) → (P : Type 0) (i j : ℕ)
       → Contains by_data (edge_between i j true) ↔ P → Contains (control ++ by_data) (edge_between i j true) ↔ P
   data_only all P i j same = (
-    λ there. ⊎_elim (λ other. not_false (all (edge_between i j true) other)) (λ here. same.0 here) (Contains-append_cases control by_data _ there),
+    λ there. ⊎_elim (λ other. from_true_false (all (edge_between i j true) other)) (λ here. same.0 here) (Contains-append_cases control by_data _ there),
     λ holds. Contains-append_right control by_data _ (same.1 holds),
   )
 
-lists_all : (test : GraphEdge → Bool) (es : List GraphEdge) → ((edge : GraphEdge) → Contains es edge → test edge ≡ true) → IsTrue (list_all test es)
+pub lists_all : (test : GraphEdge → Bool) (es : List GraphEdge) → ((edge : GraphEdge) → Contains es edge → test edge ≡ true) → IsTrue (list_all test es)
 lists_all test [] all = refl
 lists_all test (e ∷ es) all =
-    subst (λ t. IsTrue (t && list_all test es)) (sym (all e (head_there e es))) (lists_all test es (λ edge there. all edge (tail_there e es edge there)))
-
-lt_true : (a b : ℕ) → a < b → nat_lt a b ≡ true
-lt_true a b below = first_of (search rules, grind arith)
+    subst (λ t. IsTrue (t && list_all test es)) (sym (all e (contains_first e es))) (lists_all test es (λ edge there. all edge (contains_further e es edge there)))
 
 pub is_tick_graph : NodesDiffer → (body : List Stmt) (made : Made) (links : Links) → BlockMade body 0 made (record { control = []; by_data = [] }) links
     → (nodes : List GraphNode) (edges : List GraphEdge) → nodes ≡ map (λ (flow : Flow). flow.node) made.flows
@@ -170,7 +129,7 @@ joins_nodes body made links block nodes edges nodes_are edges_are =
           (Contains-append_cases links.control links.by_data edge (subst (λ es. Contains es edge) edges_are there)) in
           let first : edge.from < length nodes = subst (λ n. edge.from < n) size both.0 in
           let second : edge.to < length nodes = subst (λ n. edge.to < n) size both.1 in
-          λ i. lt_true edge.from (length nodes) first i && lt_true edge.to (length nodes) second i);
+          λ i. less_test edge.from (length nodes) first i && less_test edge.to (length nodes) second i);
     }
 
 -- the same of what the code makes

@@ -1,79 +1,31 @@
 -- Loops over statements, arms and branches, of which some or all may end in the tick in which they begin.
-use Rattle.std.proofs.Common.{
-  ◌≡◌,
-  ℕ,
-  zero,
-  suc,
-  ◌+◌,
-  ◌<◌,
-  ◌≤◌,
-  Bool,
-  true,
-  false,
-  cond,
-  not,
-  ◌&&◌,
-  ◌||◌,
-  List,
-  [],
-  ◌∷◌,
-  map,
-  drop,
-  length,
-  get_or,
-  refl,
-  sym,
-  ap,
-  ◌∙◌,
-  arith,
-  drop_of_length-le,
-}
+use Rattle.std.proofs.Common.{◌≡◌, ℕ, ◌+◌, ◌<◌, ◌≤◌, Bool, cond, not, ◌&&◌, ◌||◌, List, [], ◌∷◌, map, drop, length, get_or, refl, sym}
+use Rattle.std.proofs.Common.{ap, ◌∙◌, arith, drop_of_length-le}
+use Rattle.bl_tree.proofs.Basics.{and_assoc, and_true, drop_next, or_assoc, or_false}
 use Rattle.bl_tree.specs.declared.tree.Arm.{Arm, fold_out-Arm, out-Arm}
 use Rattle.bl_tree.specs.declared.tree.Branch.{Branch, fold_out-Branch, out-Branch}
 use Rattle.bl_tree.specs.Instant.{BranchInstant, arm_instant, branch_ends, branches_instant, instant, kind_instant, stmt_instant}
 use Rattle.bl_tree.specs.Reduce.{all_of, any_of}
 use Rattle.bl_graph.specs.inner.Instants.{ends_of_branch, instant_of_arm}
 
-next_drop : {A : Type 0} (xs : List A) (k : ℕ) (x : A) → k < length xs → x ≡ get_or xs k x → drop k xs ≡ x ∷ drop (k + 1) xs
-next_drop [] k x within is = absurd (omega arith)
-next_drop (y ∷ xs) zero x within is = ap (λ z. z ∷ xs) (sym is)
-next_drop (y ∷ xs) (suc k) x within is = next_drop xs k x (omega arith) is
-    ∙ (let next : suc k + 1 ≡ suc (k + 1) = omega arith in ap (λ n. x ∷ drop n (y ∷ xs)) (sym next))
-
-or_regroup : (a b c : Bool) → ((a || b) || c) ≡ (a || (b || c))
-or_regroup true b c = refl
-or_regroup false b c = refl
-
-and_regroup : (a b c : Bool) → ((a && b) && c) ≡ (a && (b && c))
-and_regroup true b c = refl
-and_regroup false b c = refl
-
-or_no : (a : Bool) → (a || false) ≡ a
-or_no true = refl
-or_no false = refl
-
-and_yes : (a : Bool) → (a && true) ≡ a
-and_yes true = refl
-and_yes false = refl
-
 module _ {A : Type 0} (f : A → Bool) (xs : List A) (k : ℕ) where
   pub any_step : (x : A) (now then : Bool) → k < length xs → x ≡ get_or xs k x → then ≡ (now || f x)
       → (now || any_of (map f (drop k xs))) ≡ any_of (map f xs) → (then || any_of (map f (drop (k + 1) xs))) ≡ any_of (map f xs)
   any_step x now then within is grows all =
-      ap (λ b. b || any_of (map f (drop (k + 1) xs))) grows ∙ or_regroup now (f x) (any_of (map f (drop (k + 1) xs)))
-      ∙ ap (λ rest. now || any_of (map f rest)) (sym (next_drop xs k x within is)) ∙ all
+      ap (λ b. b || any_of (map f (drop (k + 1) xs))) grows ∙ or_assoc now (f x) (any_of (map f (drop (k + 1) xs)))
+      ∙ ap (λ rest. now || any_of (map f rest)) (sym (drop_next xs k x within is)) ∙ all
 
   pub all_step : (x : A) (now then : Bool) → k < length xs → x ≡ get_or xs k x → then ≡ (now && f x)
       → (now && all_of (map f (drop k xs))) ≡ all_of (map f xs) → (then && all_of (map f (drop (k + 1) xs))) ≡ all_of (map f xs)
   all_step x now then within is grows all =
-      ap (λ b. b && all_of (map f (drop (k + 1) xs))) grows ∙ and_regroup now (f x) (all_of (map f (drop (k + 1) xs)))
-      ∙ ap (λ rest. now && all_of (map f rest)) (sym (next_drop xs k x within is)) ∙ all
+      ap (λ b. b && all_of (map f (drop (k + 1) xs))) grows ∙ and_assoc now (f x) (all_of (map f (drop (k + 1) xs)))
+      ∙ ap (λ rest. now && all_of (map f rest)) (sym (drop_next xs k x within is)) ∙ all
 
   pub any_end : (now : Bool) → length xs ≤ k → (now || any_of (map f (drop k xs))) ≡ any_of (map f xs) → now ≡ any_of (map f xs)
-  any_end now over all = sym (or_no now) ∙ ap (λ rest. now || any_of (map f rest)) (sym (drop_of_length-le xs over)) ∙ all
+  any_end now over all = sym (or_false now) ∙ ap (λ rest. now || any_of (map f rest)) (sym (drop_of_length-le xs over)) ∙ all
 
   pub all_end : (now : Bool) → length xs ≤ k → (now && all_of (map f (drop k xs))) ≡ all_of (map f xs) → now ≡ all_of (map f xs)
-  all_end now over all = sym (and_yes now) ∙ ap (λ rest. now && all_of (map f rest)) (sym (drop_of_length-le xs over)) ∙ all
+  all_end now over all = sym (and_true now) ∙ ap (λ rest. now && all_of (map f rest)) (sym (drop_of_length-le xs over)) ∙ all
 
 pub instant_arm_out : (arm : Arm) → instant_of_arm arm ≡ all_of (map instant (out-Arm arm).body)
 instant_arm_out = fold_out-Arm Bool Bool BranchInstant Bool kind_instant arm_instant branch_ends stmt_instant

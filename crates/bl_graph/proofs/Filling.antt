@@ -1,96 +1,19 @@
 -- What is reached is marked.
-use Rattle.std.proofs.Common.{
-  ◌≡◌,
-  ℕ,
-  Bool,
-  true,
-  false,
-  ◌||◌,
-  ◌⊎◌,
-  inl,
-  inr,
-  List,
-  [],
-  ◌∷◌,
-  ◌++◌,
-  Option,
-  Some,
-  None,
-  refl,
-  ap,
-  sym,
-  ◌∙◌,
-  subst,
-}
+use Rattle.std.proofs.Common.{◌≡◌, ℕ, Bool, true, false, ◌||◌, ◌⊎◌, inl, inr, List, [], ◌∷◌, ◌++◌, Option, Some, None, refl, ap, sym, ◌∙◌, subst}
+use Rattle.std.proofs.lemmas.Bool.{or_left, or_right}
+use Rattle.bl_tree.proofs.Basics.{from_false}
 use Rattle.bl_tree.specs.declared.place.Place.{Place}
 use Rattle.bl_tree.specs.declared.tree.Expr.{Expr}
 use Rattle.bl_tree.specs.declared.tree.Path.{Path}
 use Rattle.bl_tree.specs.declared.tree.Stmt.{Stmt}
-use Rattle.bl_graph_nodes.specs.Nodes.{
-  ActAt,
-  EnterAt,
-  HeadAt,
-  Node,
-  PauseAt,
-  ResumeAt,
-  TestAt,
-  arguments_of,
-  entry,
-  nodes_in,
-  nodes_of,
-}
+use Rattle.bl_graph_nodes.specs.Nodes.{ActAt, EnterAt, HeadAt, Node, PauseAt, ResumeAt, TestAt, arguments_of, entry, nodes_in, nodes_of}
 use Rattle.bl_graph_nodes.specs.Plain.{Act, Again, Await, Block, If, Label, Plain, Repeat, Run, Until, While, is_empty}
 use Rattle.bl_graph.specs.Edges.{Edge, EdgeAll, Entry, LoopEdge, Out, OutAll, Resume, ResumeAll}
-use Rattle.bl_graph.specs.Marks.{
-  Mark,
-  Marked,
-  again_by,
-  entered,
-  marked,
-  moved,
-  part_in,
-  part_of,
-  resumed,
-  some_of,
-  turn_ends,
-  where_marked,
-}
-use Rattle.bl_graph.proofs.Marking.{
-  At,
-  Differ,
-  Is,
-  Sub,
-  at_left,
-  at_moved,
-  at_right,
-  back,
-  has_at,
-  is_first,
-  is_in,
-  is_later,
-  is_left,
-  is_right,
-  moved_at,
-  moved_depth,
-  moved_surface,
-  names,
-  names_in,
-  names_moved,
-  names_of,
-  one_mark,
-  or_left,
-  or_right,
-  pick,
-  some_is,
-  to_depth,
-  to_depth_entry,
-  to_surface,
-  where_at,
-}
+use Rattle.bl_graph.specs.Marks.{Mark, Marked, again_by, entered, marked, moved, part_in, part_of, resumed, some_of, turn_ends, where_marked}
+use Rattle.bl_graph.proofs.Marking.{At, Differ, Is, Sub, at_left, at_moved, at_right, back, has_at, is_first, is_in, is_later, is_left, is_right, moved_at}
+use Rattle.bl_graph.proofs.Marking.{moved_depth, moved_surface, names, names_in, names_moved, names_of, one_mark, pick, some_is, to_depth}
+use Rattle.bl_graph.proofs.Marking.{to_depth_entry, to_surface, where_at}
 use Rattle.bl_graph.proofs.Staying.{Has, edge_in, out_in}
-
-pub never : {A : Type 0} → false ≡ true → A
-never is = cc
 
 pub none_is : (m : Marked) → None ≡ Some m → ⊥
 none_is m is = cc
@@ -225,7 +148,7 @@ if_closed l at e body other one two d false n m is (inr (inr h)) = elim h.1 [
       (is_right false (part_in body).nodes (part_in other).nodes m (two.enters m into))
 ]
 if_closed l at e body other one two d true n m is (inr (inr h)) =
-    never (own_mark true (part_of (If l at e body other)).nodes n entered d (inl (h.0, refl)) is)
+    from_false (own_mark true (part_of (If l at e body other)).nodes n entered d (inl (h.0, refl)) is)
 
 pub some_empty : (a b : Bool) → (a ≡ true) ⊎ (b ≡ true) → (a || b) ≡ true
 some_empty a b (inl is) = or_left a b is

@@ -1,82 +1,24 @@
 -- The listed flows of a body are its data edges.
-use Rattle.std.proofs.Common.{
-  ◌≡◌,
-  Bool,
-  true,
-  false,
-  ◌&&◌,
-  cond,
-  ◌⊎◌,
-  inl,
-  inr,
-  List,
-  [],
-  ◌∷◌,
-  ◌++◌,
-  refl,
-  ap,
-  sym,
-  ◌∙◌,
-}
+use Rattle.std.proofs.Common.{◌≡◌, Bool, true, false, ◌&&◌, cond, ◌⊎◌, inl, inr, List, [], ◌∷◌, ◌++◌, refl, ap, sym, ◌∙◌}
+use Rattle.std.proofs.lemmas.Bool.{and_from, and_parts, or_left, or_right}
+use Rattle.bl_tree.proofs.Basics.{either_of, false_not_true}
 use Rattle.bl_tree.specs.Static.{meets}
 use Rattle.bl_graph_nodes.specs.Laws.{NodesDiffer}
 use Rattle.bl_graph_nodes.specs.Nodes.{Node, node_reads, node_writes}
-use Rattle.bl_graph_nodes.specs.Plain.{
-  Act,
-  Again,
-  Await,
-  Block,
-  Bodies,
-  Body,
-  Cobegin,
-  Done,
-  If,
-  Last,
-  Plain,
-  Repeat,
-  Run,
-  Then,
-  Until,
-  When,
-  While,
-  plain_block,
-}
+use Rattle.bl_graph_nodes.specs.Plain.{Act, Again, Await, Block, Bodies, Body, Cobegin, Done, If, Last, Plain, Repeat, Run, Then, Until, When, While}
+use Rattle.bl_graph_nodes.specs.Plain.{plain_block}
 use Rattle.bl_graph.specs.DataEdges.{Across, Beside, BesideAll, BesideEach, Touches}
 use Rattle.bl_graph.specs.Edges.{In, InEach}
 use Rattle.bl_graph.specs.Laws.{FlowsAreListed}
 use Rattle.bl_graph.specs.Listed.{Pair, across, between, flows_in, flows_in_each, flows_of, in_same_phase, pair, touching}
 use Rattle.bl_graph.specs.Marks.{Mark, Marked, again_by, moved, part_in, part_of, parts_of, some_of}
-use Rattle.bl_graph.proofs.Enclosing.{
-  FullEach,
-  all_differ,
-  body_differs,
-  branches_differ,
-  depth_in,
-  first_differ,
-  full_each,
-  full_in,
-  moved_differ,
-  second_differ,
-  surface_in,
-}
+use Rattle.bl_graph.proofs.Enclosing.{FullEach, all_differ, body_differs, branches_differ, depth_in, first_differ, full_each, full_in, moved_differ}
+use Rattle.bl_graph.proofs.Enclosing.{second_differ, surface_in}
 use Rattle.bl_graph.proofs.Filling.{FullIn}
 use Rattle.bl_graph.proofs.Listing.{HasPair, at_pair, maybe_pair, p_cases, p_left, p_right, pair_at, pair_maybe}
-use Rattle.bl_graph.proofs.Marking.{
-  At,
-  Differ,
-  Is,
-  and_both,
-  and_cases,
-  is_cases,
-  is_left,
-  is_right,
-  names,
-  or_cases,
-  or_left,
-  or_right,
-  pick,
-}
+use Rattle.bl_graph.proofs.Marking.{At, Differ, Is, is_cases, is_left, is_right, names, pick}
 use Rattle.bl_graph.proofs.Sounding.{sound_in}
+use Rattle.bl_graph.proofs.Marking.{is_later}
 
 -- ---- branches
 
@@ -128,12 +70,6 @@ either_more xs vs ys ws n m one two h = (
 first_is : (deep : Bool) (a : Marked) (xs : List Marked) (k : Node) → Is deep (a ∷ []) k → Is deep (a ∷ xs) k
 first_is deep a xs k is = is_left deep (a ∷ []) xs k is
 
-later_is : (deep : Bool) (a : Marked) (xs : List Marked) (k : Node) → Is deep xs k → Is deep (a ∷ xs) k
-later_is deep a xs k is = is_right deep (a ∷ []) xs k is
-
-false_true : false ≡ true → ⊥
-false_true is = cc
-
 touches : (x y n m : Node) → n ≡ x → m ≡ y → Touches x y → Touches n m
 touches x y n m one two t = ap (λ k. meets (node_writes k) (node_reads m)) one ∙ ap (λ k. meets (node_writes x) (node_reads k)) two ∙ t
 
@@ -152,12 +88,12 @@ at_is true a n same mark so is = record { mark = a.mark; there = inl (same, refl
 -- two nodes that are together
 two_sides : (a b : Marked) (n m : Node) → in_same_phase a.mark b.mark ≡ true → ((n ≡ a.node) × (m ≡ b.node)) ⊎ ((n ≡ b.node) × (m ≡ a.node)) →
     Sides false (a ∷ []) (b ∷ []) n m ⊎ Sides true (a ∷ []) (b ∷ []) n m
-two_sides a b n m so same = elim (or_cases (a.mark.surface && b.mark.surface) (a.mark.depth && b.mark.depth) so) [
-  | inl one ↦ let both = and_cases a.mark.surface b.mark.surface one in inl (elim same [
+two_sides a b n m so same = elim (either_of (a.mark.surface && b.mark.surface) (a.mark.depth && b.mark.depth) so) [
+  | inl one ↦ let both = and_parts a.mark.surface b.mark.surface one in inl (elim same [
     | inl is ↦ inl (at_is false a n is.0 a.mark.surface both.0 refl, at_is false b m is.1 b.mark.surface both.1 refl)
     | inr is ↦ inr (at_is false b n is.0 b.mark.surface both.1 refl, at_is false a m is.1 a.mark.surface both.0 refl)
   ])
-  | inr one ↦ let both = and_cases a.mark.depth b.mark.depth one in inr (elim same [
+  | inr one ↦ let both = and_parts a.mark.depth b.mark.depth one in inr (elim same [
     | inl is ↦ inl (at_is true a n is.0 a.mark.depth both.0 refl, at_is true b m is.1 b.mark.depth both.1 refl)
     | inr is ↦ inr (at_is true b n is.0 b.mark.depth both.1 refl, at_is true a m is.1 a.mark.depth both.0 refl)
   ])
@@ -177,24 +113,24 @@ from_between a (b ∷ ys) n m h =
     elim (p_cases (cond (in_same_phase a.mark b.mark) (touching a.node b.node ++ touching b.node a.node) []) (between a ys) n m h) [
       | inl one ↦ either_more (a ∷ []) (a ∷ []) (b ∷ []) (b ∷ ys) n m (λ deep k is. is) (λ deep k is. first_is deep b ys k is)
           (from_pair a b (in_same_phase a.mark b.mark) n m refl one)
-      | inr more ↦ either_more (a ∷ []) (a ∷ []) ys (b ∷ ys) n m (λ deep k is. is) (λ deep k is. later_is deep b ys k is) (from_between a ys n m more)
+      | inr more ↦ either_more (a ∷ []) (a ∷ []) ys (b ∷ ys) n m (λ deep k is. is) (λ deep k is. is_later deep b ys k is) (from_between a ys n m more)
     ]
 
 from_across : (xs ys : List Marked) (n m : Node) → HasPair (across xs ys) n m → Either xs ys n m
 from_across [] ys n m h = elim h [ ]
 from_across (a ∷ xs) ys n m h = elim (p_cases (between a ys) (across xs ys) n m h) [
   | inl one ↦ either_more (a ∷ []) (a ∷ xs) ys ys n m (λ deep k is. first_is deep a xs k is) (λ deep k is. is) (from_between a ys n m one)
-  | inr more ↦ either_more xs (a ∷ xs) ys ys n m (λ deep k is. later_is deep a xs k is) (λ deep k is. is) (from_across xs ys n m more)
+  | inr more ↦ either_more xs (a ∷ xs) ys ys n m (λ deep k is. is_later deep a xs k is) (λ deep k is. is) (from_across xs ys n m more)
 ]
 
 same_test : (test : Bool) (ps : List Pair) (n m : Node) → test ≡ true → HasPair ps n m → HasPair (cond test ps []) n m
 same_test true ps n m is h = h
-same_test false ps n m is h = absurd (false_true is)
+same_test false ps n m is h = absurd (false_not_true is)
 
 -- the marks of two nodes that are together
 marks_together : (deep : Bool) (j k : Mark) → pick deep j ≡ true → pick deep k ≡ true → in_same_phase j k ≡ true
-marks_together false j k one two = or_left (j.surface && k.surface) (j.depth && k.depth) (and_both j.surface k.surface one two)
-marks_together true j k one two = or_right (j.surface && k.surface) (j.depth && k.depth) (and_both j.depth k.depth one two)
+marks_together false j k one two = or_left (j.surface && k.surface) (j.depth && k.depth) (and_from j.surface k.surface one two)
+marks_together true j k one two = or_right (j.surface && k.surface) (j.depth && k.depth) (and_from j.depth k.depth one two)
 
 to_between : (a : Marked) (ys : List Marked) (y n m : Node) (k : Mark) → At ys y k → in_same_phase a.mark k ≡ true →
     ((n ≡ a.node) × (m ≡ y)) ⊎ ((n ≡ y) × (m ≡ a.node)) → Touches n m → HasPair (between a ys) n m

@@ -1,84 +1,31 @@
 -- A block and a statement after it.
-use Rattle.std.proofs.Common.{
-  ◌≡◌,
-  ℕ,
-  suc,
-  ◌+◌,
-  Bool,
-  true,
-  false,
-  cond,
-  ◌&&◌,
-  ◌||◌,
-  ⊎_elim,
-  List,
-  [],
-  ◌∷◌,
-  ◌++◌,
-  map,
-  length,
-  refl,
-  ap,
-  sym,
-  ◌∙◌,
-  subst,
-  arith,
-  append_assoc,
-  append-nil,
-}
+use Rattle.std.proofs.Common.{◌≡◌, ℕ, suc, ◌+◌, Bool, true, false, cond, ◌&&◌, ◌||◌, ⊎_elim, List, [], ◌∷◌, ◌++◌, map, length, refl, ap, sym, ◌∙◌, subst, arith}
+use Rattle.std.proofs.Common.{append_assoc, append-nil}
 use Rattle.std.specs.Prelude.{Contains}
 use Rattle.std.proofs.lemmas.List.Elements.{Contains-append_left, Contains-append_right, Contains-append_cases}
+use Rattle.bl_tree.proofs.Basics.{and_false, and_regroup, and_true, or_false}
 use Rattle.bl_graph_nodes.specs.Nodes.{Node, entry, nodes_in, nodes_of}
-use Rattle.bl_graph_nodes.specs.Plain.{
-  Act,
-  Again,
-  Await,
-  Block,
-  Cobegin,
-  Done,
-  If,
-  Plain,
-  Position,
-  Repeat,
-  Run,
-  Then,
-  Until,
-  When,
-  While,
-  block_from,
-  is_empty,
-}
+use Rattle.bl_graph_nodes.specs.Plain.{Act, Again, Await, Block, Cobegin, Done, If, Plain, Position, Repeat, Run, Then, Until, When, While, block_from}
+use Rattle.bl_graph_nodes.specs.Plain.{is_empty}
 use Rattle.bl_graph.specs.Listed.{Pair, each_to, each_to_all, edges_in, edges_of, flows_in, flows_of, resumes_in, resumes_of}
 use Rattle.bl_graph.specs.Marks.{Mark, Marked, entered, inner, moved, part_in, part_of, some_of}
 use Rattle.bl_graph.specs.inner.Made.{flow_of}
 use Rattle.bl_graph.specs.inner.Parts.{is_nothing}
-use Rattle.bl_graph.proofs.Numbering.{or_none, some_moved}
+use Rattle.bl_graph.proofs.Numbering.{some_moved}
 
 -- ---- marks
-
-yes_and : (a : Bool) → (a && true) ≡ a
-yes_and true = refl
-yes_and false = refl
-
-and_apart : (a b c : Bool) → (a && (b && c)) ≡ ((a && b) && c)
-and_apart true b c = refl
-and_apart false b c = refl
-
-none_and : (a : Bool) → (a && false) ≡ false
-none_and true = refl
-none_and false = refl
 
 -- of what is reached in a part that is in another
 depth_apart : (e xs xd ms md : Bool) → ((md || (xd && ms)) || (e && (xs && ms))) ≡ (md || ((xd || (e && xs)) && ms))
 depth_apart e xs xd ms true = refl
 depth_apart e xs true true false = refl
-depth_apart e xs false true false = ap (λ b. e && b) (yes_and xs) ∙ sym (yes_and (e && xs))
+depth_apart e xs false true false = ap (λ b. e && b) (and_true xs) ∙ sym (and_true (e && xs))
 depth_apart e xs xd false false =
-    ap (λ b. b || (e && (xs && false))) (none_and xd) ∙ ap (λ b. e && b) (none_and xs) ∙ none_and e ∙ sym (none_and (xd || (e && xs)))
+    ap (λ b. b || (e && (xs && false))) (and_false xd) ∙ ap (λ b. e && b) (and_false xs) ∙ and_false e ∙ sym (and_false (xd || (e && xs)))
 
 inner_apart : (e x m : Mark) → inner e (inner x m) ≡ inner (inner e x) m
 inner_apart e x m = λ i. record {
-  surface = and_apart e.surface x.surface m.surface i;
+  surface = and_regroup e.surface x.surface m.surface i;
   depth = depth_apart e.depth x.surface x.depth m.surface m.depth i;
 }
 
@@ -91,10 +38,10 @@ moved_append e [] ys = refl
 moved_append e (x ∷ xs) ys = λ i. record { node = x.node; mark = inner e x.mark } ∷ moved_append e xs ys i
 
 inner_entered : (m : Mark) → inner entered m ≡ m
-inner_entered m = λ i. record { surface = m.surface; depth = or_none m.depth i }
+inner_entered m = λ i. record { surface = m.surface; depth = or_false m.depth i }
 
 entered_inner : (e : Mark) → inner e entered ≡ e
-entered_inner e = λ i. record { surface = yes_and e.surface i; depth = yes_and e.depth i }
+entered_inner e = λ i. record { surface = and_true e.surface i; depth = and_true e.depth i }
 
 pub moved_entered : (ms : List Marked) → moved entered ms ≡ ms
 moved_entered [] = refl

@@ -1,40 +1,11 @@
 -- Edges that were found, with more of them.
-use Rattle.std.proofs.Common.{
-  ◌≡◌,
-  ℕ,
-  zero,
-  suc,
-  ◌+◌,
-  ◌<◌,
-  Bool,
-  true,
-  false,
-  ◌⊎◌,
-  inl,
-  inr,
-  List,
-  [],
-  ◌∷◌,
-  ◌++◌,
-  length,
-  take,
-  refl,
-  sym,
-  ap,
-  subst,
-  ◌∙◌,
-  append_assoc,
-  append-nil,
-  arith,
-  get_or,
-  ◌-◌,
-  ◌≤◌,
-  Some,
-}
+use Rattle.std.proofs.Common.{◌≡◌, ℕ, zero, suc, ◌+◌, ◌<◌, Bool, true, false, ◌⊎◌, inl, inr, List, [], ◌∷◌, ◌++◌, length, take, refl, sym, ap, subst, ◌∙◌}
+use Rattle.std.proofs.Common.{append_assoc, append-nil, arith, get_or, ◌-◌, ◌≤◌, Some}
 use Rattle.std.specs.Prelude.{Contains, slice_get, slice_set}
 use Rattle.std.proofs.lemmas.List.{take_more}
 use Rattle.std.proofs.lemmas.Option.{slice_get-get_or, slice_get_read}
 use Rattle.std.proofs.lemmas.List.Elements.{Contains-append_cases, Contains-append_left, Contains-append_right, Contains-get_or, Contains-push_cases}
+use Rattle.bl_tree.proofs.Basics.{contains_one, false_not_true}
 use Rattle.bl_tree.specs.declared.graph.Edge.{Edge}
 use Rattle.bl_tree.specs.declared.static_path.Static.{Static}
 use Rattle.bl_graph.specs.declared.flow.Flow.{Flow}
@@ -42,29 +13,13 @@ use Rattle.bl_graph.specs.declared.flow.Span.{Span}
 use Rattle.bl_graph.specs.declared.flow.found.Found.{Found}
 use Rattle.bl_graph.specs.declared.flow.notes.Notes.{Notes}
 use Rattle.bl_graph.specs.Graph.{edge_between}
-use Rattle.bl_graph.specs.inner.Found.{
-  EndBy,
-  Gains,
-  SameEdges,
-  links,
-  links_at,
-  links_in,
-  links_met,
-  links_to,
-  swept,
-  writes_at,
-  writes_before,
-  writes_in,
-  writes_to,
-}
+use Rattle.bl_graph.specs.inner.Found.{EndBy, Gains, SameEdges, links, links_at, links_in, links_met, links_to, swept, writes_at, writes_before, writes_in}
+use Rattle.bl_graph.specs.inner.Found.{writes_to}
 use Rattle.bl_graph.specs.inner.Noted.{HasNotesAndFronts, Note, front, noted_at, numbers_at, numbers_met, numbers_to}
-use Rattle.bl_graph.proofs.MemberLemmas.{each-append, is_one, one_in}
+use Rattle.bl_graph.proofs.MemberLemmas.{each-append, one_in}
 use Rattle.bl_graph.proofs.NoteLemmas.{tells_same}
 
 -- ---- lists with the same edges
-
-same_none : (xs : List Edge) → SameEdges xs (xs ++ [])
-same_none xs edge = (λ there. subst (λ ys. Contains ys edge) (sym (append-nil xs)) there, λ there. subst (λ ys. Contains ys edge) (append-nil xs) there)
 
 same_then : (before bs cs xs ys : List Edge) → SameEdges bs (before ++ xs) → SameEdges cs (bs ++ ys) → SameEdges cs (before ++ (xs ++ ys))
 same_then before bs cs xs ys one two = subst (SameEdges cs) (append_assoc before xs ys) (λ edge. (
@@ -80,9 +35,6 @@ same_then before bs cs xs ys one two = subst (SameEdges cs) (append_assoc before
 
 -- ---- gains
 
-pub gains_none : (found : Found) → Gains found found []
-gains_none found = record { recalls = λ h. h; same = λ h. same_none found.edges }
-
 pub gains_then : (a b c : Found) (xs ys : List Edge) → Gains a b xs → Gains b c ys → Gains a c (xs ++ ys)
 gains_then a b c xs ys one two = record {
   recalls = λ h. two.recalls (one.recalls h);
@@ -91,19 +43,6 @@ gains_then a b c xs ys one two = record {
 
 pub gains_same : (a b : Found) (xs ys : List Edge) → xs ≡ ys → Gains a b xs → Gains a b ys
 gains_same a b xs ys is = subst (Gains a b) is
-
--- an edge that is remembered
-pub gains_known : (found : Found) (edge : Edge) → edge.by_data ≡ true → Contains found.latest edge → Gains found found (edge ∷ [])
-gains_known found edge kind known = record {
-  recalls = λ h. h;
-  same = λ h other. (
-    Contains-append_left found.edges (edge ∷ []) other,
-    λ there. elim (Contains-append_cases found.edges (edge ∷ []) other there) [
-      | inl first ↦ first
-      | inr second ↦ subst (Contains found.edges) (is_one edge other second) (h edge known kind)
-    ],
-  );
-}
 
 -- an edge that is added
 pub gains_edge : (a b : Found) (edge : Edge) → b.edges ≡ a.edges ++ edge ∷ [] →
@@ -256,13 +195,10 @@ ends_by branches last k d lt by = by (get_or branches k d) (Contains-get_or bran
 
 -- ---- edges that are remembered
 
-pub known_at : (xs : List Edge) (at : ℕ) (x edge : Edge) → at < length xs → x ≡ get_or xs at x → x ≡ edge → Contains xs edge
-known_at xs at x edge lt is same = subst (Contains xs) (sym is ∙ same) (Contains-get_or xs at x lt)
-
 pub set_cases : (xs : List Edge) (at : ℕ) (y x : Edge) → Contains (slice_set xs at y) x → Contains xs x ⊎ (y ≡ x)
 set_cases [] at y x there = inl there
 set_cases (z ∷ xs) zero y x there = elim (Contains-append_cases (y ∷ []) xs x there) [
-  | inl first ↦ inr (is_one y x first)
+  | inl first ↦ inr (contains_one y x first)
   | inr more ↦ inl (Contains-append_right (z ∷ []) xs x more)
 ]
 set_cases (z ∷ xs) (suc at) y x there = elim (Contains-append_cases (z ∷ []) (slice_set xs at y) x there) [
@@ -277,9 +213,6 @@ blank_more xs ys none kind is all edge there = elim (Contains-push_cases xs none
   | inr same ↦ subst (λ e. e.by_data ≡ false) same kind
 ]
 
-false_true : false ≡ true → ⊥
-false_true is = cc
-
 pub blank_recalls : (latest edges : List Edge) → ((edge : Edge) → Contains latest edge → edge.by_data ≡ false) →
     (edge : Edge) → Contains latest edge → edge.by_data ≡ true → Contains edges edge
-blank_recalls latest edges all edge there kind = absurd (false_true (sym (all edge there) ∙ kind))
+blank_recalls latest edges all edge there kind = absurd (false_not_true (sym (all edge there) ∙ kind))

@@ -1,32 +1,8 @@
 -- The branches of a `cobegin`, and one more.
-use Rattle.std.proofs.Common.{
-  ◌≡◌,
-  ℕ,
-  suc,
-  ◌+◌,
-  Bool,
-  true,
-  false,
-  cond,
-  ◌||◌,
-  List,
-  [],
-  ◌∷◌,
-  ◌++◌,
-  map,
-  length,
-  Some,
-  refl,
-  ap,
-  sym,
-  ◌∙◌,
-  subst,
-  arith,
-  append_assoc,
-  append-nil,
-  zero-add,
-}
+use Rattle.std.proofs.Common.{◌≡◌, ℕ, suc, ◌+◌, Bool, true, false, cond, ◌||◌, List, [], ◌∷◌, ◌++◌, map, length, Some, refl, ap, sym, ◌∙◌, subst, arith}
+use Rattle.std.proofs.Common.{append_assoc, append-nil, zero-add}
 use Rattle.std.proofs.lemmas.List.{length-append, length-map}
+use Rattle.bl_tree.proofs.Basics.{or_false, or_regroup}
 use Rattle.bl_tree.specs.declared.graph.Edge.{Edge}
 use Rattle.bl_tree.specs.declared.place.Place.{Place}
 use Rattle.bl_graph_nodes.specs.Nodes.{DepthJoinAt, ForkAt, Node, SurfaceJoinAt, nodes_in, nodes_in_each, where_so}
@@ -38,45 +14,13 @@ use Rattle.bl_graph.specs.declared.part.Out.{Out}
 use Rattle.bl_graph.specs.declared.part.Part.{Part as Made}
 use Rattle.bl_graph.specs.Listed.{Pair, depth_to, edges_in, edges_in_each, entry_of, flows_in, from_to, leaving_of, resumes_in, resumes_in_each, surface_to}
 use Rattle.bl_graph.specs.Marks.{Mark, Marked, either, leaves, part_in, parts_of, unreached}
-use Rattle.bl_graph.specs.inner.Made.{
-  Adds,
-  IsEdge,
-  IsNode,
-  IsOut,
-  Makes,
-  MakesEach,
-  Names,
-  NamesEntry,
-  Naming,
-  Pairwise,
-  flow_of,
-  flows_within,
-  spans_of,
-  whole_in,
-}
-use Rattle.bl_graph.specs.inner.Parts.{
-  branch_links,
-  joined_branch,
-  leaving_outs,
-  number_if,
-  numbered,
-  surface_links,
-}
+use Rattle.bl_graph.specs.inner.Made.{Adds, IsEdge, IsNode, IsOut, Makes, MakesEach, Names, NamesEntry, Naming, Pairwise, flow_of, flows_within, spans_of}
+use Rattle.bl_graph.specs.inner.Made.{whole_in}
+use Rattle.bl_graph.specs.inner.Parts.{branch_links, joined_branch, leaving_outs, number_if, numbered, surface_links}
 use Rattle.bl_graph.proofs.Making.{flows_append}
 use Rattle.bl_graph.proofs.Marking.{names_in}
-use Rattle.bl_graph.proofs.Numbering.{
-  adds_listed,
-  adds_then,
-  depth_pairs,
-  from_pairs,
-  into_pairs,
-  leave_same,
-  number_pairs,
-  numbered_pairs,
-  or_none,
-  pairs_append,
-  surface_pairs,
-}
+use Rattle.bl_graph.proofs.Numbering.{adds_listed, adds_then, depth_pairs, from_pairs, into_pairs, leave_same, number_pairs, numbered_pairs}
+use Rattle.bl_graph.proofs.Numbering.{pairs_append, surface_pairs}
 
 -- one more branch
 abbrev pub with_branch : Bodies → Bool → Block → Bodies
@@ -88,15 +32,11 @@ abbrev pub edges_around : Bool → Block → Label → Place → Bool → List P
 edges_around weak b l at instant = from_to (ForkAt l at) (entry_of b (where_so instant (SurfaceJoinAt l at)))
     ++ ((cond instant (surface_to (leaving_of weak b) (SurfaceJoinAt l at)) []) ++ depth_to (leaving_of weak b) (DepthJoinAt l at))
 
-or_apart : (a b c : Bool) → (a || (b || c)) ≡ ((a || b) || c)
-or_apart true b c = refl
-or_apart false b c = refl
-
 either_none : (a : Mark) → either a unreached ≡ either unreached a
-either_none a = λ i. record { surface = or_none a.surface i; depth = or_none a.depth i }
+either_none a = λ i. record { surface = or_false a.surface i; depth = or_false a.depth i }
 
 either_apart : (a b c : Mark) → either a (either b c) ≡ either (either a b) c
-either_apart a b c = λ i. record { surface = or_apart a.surface b.surface c.surface i; depth = or_apart a.depth b.depth c.depth i }
+either_apart a b c = λ i. record { surface = or_regroup a.surface b.surface c.surface i; depth = or_regroup a.depth b.depth c.depth i }
 
 abbrev pub leave_of : Bool → Block → Mark
 leave_of weak b = leaves (cond weak (part_in b).nodes (part_in b).outs)

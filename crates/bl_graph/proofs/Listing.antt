@@ -1,123 +1,27 @@
 -- The listed edges of a body are its control edges.
-use Rattle.std.proofs.Common.{
-  ◌≡◌,
-  ℕ,
-  zero,
-  suc,
-  Bool,
-  true,
-  false,
-  cond,
-  ◌⊎◌,
-  inl,
-  inr,
-  List,
-  [],
-  ◌∷◌,
-  ◌++◌,
-  refl,
-  ap,
-  sym,
-  ◌∙◌,
-  subst,
-}
+use Rattle.std.proofs.Common.{◌≡◌, ℕ, zero, suc, Bool, true, false, cond, ◌⊎◌, inl, inr, List, [], ◌∷◌, ◌++◌, refl, ap, sym, ◌∙◌, subst}
 use Rattle.std.specs.Prelude.{Contains, slice_get, Some, None}
 use Rattle.std.proofs.lemmas.List.Elements.{Contains-append_left, Contains-append_right, Contains-push}
 use Rattle.std.proofs.lemmas.Option.{slice_get-get_or}
+use Rattle.bl_tree.proofs.Basics.{from_false}
 use Rattle.bl_tree.specs.declared.place.Place.{Place}
 use Rattle.bl_tree.specs.declared.tree.Expr.{Expr}
 use Rattle.bl_tree.specs.declared.tree.Guard.{Guard}
 use Rattle.bl_tree.specs.declared.tree.Guard.TheVariants.{Abort, Reset}
 use Rattle.bl_graph_nodes.specs.Laws.{NodesDiffer}
-use Rattle.bl_graph_nodes.specs.Nodes.{
-  CheckAt,
-  DepthEndAt,
-  DepthJoinAt,
-  ForkAt,
-  HeadAt,
-  Node,
-  StartAt,
-  SurfaceEndAt,
-  SurfaceJoinAt,
-  TestAt,
-  are_instant,
-  is_instant,
-  where_so,
-}
-use Rattle.bl_graph_nodes.specs.Plain.{
-  Act,
-  Again,
-  Await,
-  Block,
-  Bodies,
-  Body,
-  Cobegin,
-  Done,
-  If,
-  Label,
-  Last,
-  Plain,
-  Repeat,
-  Run,
-  Then,
-  Until,
-  When,
-  While,
-  plain_block,
-}
-use Rattle.bl_graph.specs.Edges.{
-  BodyEnd,
-  Edge,
-  EdgeAll,
-  EdgeEach,
-  Entry,
-  Guarded,
-  Into,
-  Joins,
-  LoopEdge,
-  Out,
-  OutAll,
-  Resume,
-  ResumeAll,
-  ResumeEach,
-  SurfaceJoin,
-}
+use Rattle.bl_graph_nodes.specs.Nodes.{CheckAt, DepthEndAt, DepthJoinAt, ForkAt, HeadAt, Node, StartAt, SurfaceEndAt, SurfaceJoinAt, TestAt, are_instant}
+use Rattle.bl_graph_nodes.specs.Nodes.{is_instant, where_so}
+use Rattle.bl_graph_nodes.specs.Plain.{Act, Again, Await, Block, Bodies, Body, Cobegin, Done, If, Label, Last, Plain, Repeat, Run, Then, Until, When, While}
+use Rattle.bl_graph_nodes.specs.Plain.{plain_block}
+use Rattle.bl_graph.specs.Edges.{BodyEnd, Edge, EdgeAll, EdgeEach, Entry, Guarded, Into, Joins, LoopEdge, Out, OutAll, Resume, ResumeAll, ResumeEach}
+use Rattle.bl_graph.specs.Edges.{SurfaceJoin}
 use Rattle.bl_graph.specs.Laws.{EdgesAreListed}
-use Rattle.bl_graph.specs.Listed.{
-  Pair,
-  depth_to,
-  each_to,
-  each_to_all,
-  edges_in,
-  edges_in_each,
-  edges_of,
-  ends_of,
-  entry_of,
-  from_to,
-  guard_to,
-  leaving_of,
-  pair,
-  resumes_in,
-  resumes_in_each,
-  resumes_of,
-  surface_to,
-  turn_of,
-}
+use Rattle.bl_graph.specs.Listed.{Pair, depth_to, each_to, each_to_all, edges_in, edges_in_each, edges_of, ends_of, entry_of, from_to, guard_to, leaving_of}
+use Rattle.bl_graph.specs.Listed.{pair, resumes_in, resumes_in_each, resumes_of, surface_to, turn_of}
 use Rattle.bl_graph.specs.Marks.{Mark, Marked, again_by, moved, part_in, part_of, parts_of, some_of}
 use Rattle.bl_graph.specs.Walks.{Reached}
-use Rattle.bl_graph.proofs.Enclosing.{
-  all_differ,
-  body_differs,
-  branches_differ,
-  depth_in,
-  first_differ,
-  full_in,
-  full_of,
-  leave_at,
-  moved_differ,
-  second_differ,
-  surface_in,
-}
+use Rattle.bl_graph.proofs.Enclosing.{all_differ, body_differs, branches_differ, depth_in, first_differ, full_in, full_of, leave_at, moved_differ}
+use Rattle.bl_graph.proofs.Enclosing.{second_differ, surface_in}
 use Rattle.bl_graph.proofs.Filling.{Full, FullIn}
 use Rattle.bl_graph.proofs.Marking.{At, Differ, Holds, Is, has_at, names, names_in, names_of}
 use Rattle.bl_graph.proofs.Sounding.{joins_of, sound_in, sound_of}
@@ -142,9 +46,6 @@ pub p_cases : (ps qs : List Pair) (n m : Node) → HasPair (ps ++ qs) n m → Ha
 p_cases [] qs n m h = inr h
 p_cases (p ∷ ps) qs n m (inl h) = inl (inl h)
 p_cases (p ∷ ps) qs n m (inr h) = elim (p_cases ps qs n m h) [ inl a ↦ inl (inr a) | inr b ↦ inr b ]
-
-never : {A : Type 0} → false ≡ true → A
-never is = cc
 
 -- ---- what makes them
 
@@ -187,7 +88,7 @@ maybe_pair false p n m h = elim h [ ]
 
 pub pair_maybe : (test : Bool) (p : Pair) (n m : Node) → test ≡ true → n ≡ p.from → m ≡ p.to → HasPair (cond test (p ∷ []) []) n m
 pair_maybe true p n m is one two = inl (one, two)
-pair_maybe false p n m is one two = never is
+pair_maybe false p n m is one two = from_false is
 
 surface_node : (ms : List Marked) (t n m : Node) → HasPair (surface_to ms t) n m → Is false ms n × (m ≡ t)
 surface_node [] t n m h = elim h [ ]
@@ -222,7 +123,7 @@ into_listed : (body : Block) (next : List Node) (F : Node → Type 0) (m : Node)
 into_listed Done next F m more (inl h) = elim h [ ]
 into_listed Done next F m more (inr h) = more m h.1
 into_listed (Then s rest) next F m more (inl h) = inl h
-into_listed (Then s rest) next F m more (inr h) = never h.0
+into_listed (Then s rest) next F m more (inr h) = from_false h.0
 
 listed_into : (body : Block) (next : List Node) (F : Node → Type 0) (m : Node) → ((k : Node) → Has next k → F k) → Has (entry_of body next) m →
     Into body F m
@@ -391,7 +292,7 @@ surface_listed : (weak : Bool) (body : Block) (l : Label) (at : Place) (so : Boo
 surface_listed weak body l at true n m full h =
     let is = surface_in body full n h.0.0 in
     node_surface (leaving_of weak body) (SurfaceJoinAt l at) n m is.mark (leave_at weak body full n is.mark h.0.1 is.there) is.so h.1.1
-surface_listed weak body l at false n m full h = never h.1.0
+surface_listed weak body l at false n m full h = from_false h.1.0
 
 depth_listed : (weak : Bool) (body : Block) (l : Label) (at : Place) (n m : Node) → FullIn body →
     Joins weak (Reached (ResumeAll body) (EdgeAll body)) (OutAll body) n × (m ≡ DepthJoinAt l at) →

@@ -1,28 +1,5 @@
 -- What is made of a statement from what is made of its blocks.
-use Rattle.std.proofs.Common.{
-  ◌≡◌,
-  ℕ,
-  ◌+◌,
-  Bool,
-  true,
-  false,
-  not,
-  cond,
-  ◌||◌,
-  List,
-  [],
-  ◌∷◌,
-  ◌++◌,
-  map,
-  Option,
-  Some,
-  refl,
-  ap,
-  sym,
-  ◌∙◌,
-  subst,
-  append_assoc,
-}
+use Rattle.std.proofs.Common.{◌≡◌, ℕ, ◌+◌, Bool, true, false, not, cond, ◌||◌, List, [], ◌∷◌, ◌++◌, map, Option, Some, refl, ap, sym, ◌∙◌, subst, append_assoc}
 use Rattle.bl_tree.specs.declared.graph.Edge.{Edge}
 use Rattle.bl_tree.specs.declared.graph.NodeKind.TheVariants as kind
 use Rattle.bl_tree.specs.declared.place.Place.{Place}
@@ -33,127 +10,24 @@ use Rattle.bl_tree.specs.declared.tree.Path.{Path}
 use Rattle.bl_tree.specs.declared.tree.Stmt.{Stmt, out-Stmt}
 use Rattle.bl_tree.specs.Effects.{argument_mentions, reads, target_mentions, target_static, writes}
 use Rattle.bl_tree.specs.Static.{mentions, set_of, static_of}
-use Rattle.bl_graph_nodes.specs.Nodes.{
-  ActAt,
-  CheckAt,
-  DepthEndAt,
-  HeadAt,
-  Node,
-  ResumeAt,
-  StartAt,
-  SurfaceEndAt,
-  TestAt,
-  are_instant,
-  arguments_of,
-  entry,
-  nodes_in,
-  where_so,
-}
+use Rattle.bl_graph_nodes.specs.Nodes.{ActAt, CheckAt, DepthEndAt, HeadAt, Node, ResumeAt, StartAt, SurfaceEndAt, TestAt, are_instant, arguments_of, entry}
+use Rattle.bl_graph_nodes.specs.Nodes.{nodes_in, where_so}
 use Rattle.bl_graph_nodes.specs.Plain.{Act, Await, Block, Done, If, Label, Plain, Repeat, Run, Then, Until, When, While, is_empty}
 use Rattle.bl_graph.specs.declared.part.Links.{Links}
 use Rattle.bl_graph.specs.declared.part.Out.{Out}
 use Rattle.bl_graph.specs.declared.part.Part.{Part as Made}
-use Rattle.bl_graph.specs.Listed.{
-  Pair,
-  each_to,
-  edges_in,
-  edges_of,
-  ends_of,
-  entry_of,
-  flows_in,
-  flows_of,
-  from_to,
-  guard_to,
-  pair,
-  resumes_in,
-  turn_of,
-}
-use Rattle.bl_graph.specs.Marks.{
-  Mark,
-  Marked,
-  again_by,
-  begun_by,
-  body_ends,
-  entered,
-  inner,
-  last_end,
-  marked,
-  moved,
-  part_in,
-  part_of,
-  resumed,
-  some_of,
-  turn_ends,
-  where_marked,
-}
+use Rattle.bl_graph.specs.Listed.{Pair, each_to, edges_in, edges_of, ends_of, entry_of, flows_in, flows_of, from_to, guard_to, pair, resumes_in, turn_of}
+use Rattle.bl_graph.specs.Marks.{Mark, Marked, again_by, begun_by, body_ends, entered, inner, last_end, marked, moved, part_in, part_of, resumed, some_of}
+use Rattle.bl_graph.specs.Marks.{turn_ends, where_marked}
 use Rattle.bl_graph.specs.inner.Made.{Adds, IsEdge, IsNode, IsOut, Makes, Names, NamesEntry, Naming, Open, Pairwise, flow_of, turning, whole_in, whole_of}
-use Rattle.bl_graph.specs.inner.Parts.{
-  act_part,
-  again_of,
-  bare,
-  bare_if,
-  choice_part,
-  endless_part,
-  ends_by,
-  exit_of,
-  followed,
-  guarded_links,
-  guarded_part,
-  guarded_to,
-  into_block,
-  is_nothing,
-  link_if,
-  links_each,
-  links_from,
-  moved_flow,
-  moved_out,
-  node,
-  nothing,
-  number_if,
-  out,
-  out_if,
-  pause_part,
-  some_mark,
-  turned,
-  until_part,
-  while_part,
-}
-use Rattle.bl_graph.proofs.Following.{
-  Same,
-  after,
-  edges_after,
-  edges_with,
-  exit,
-  exit_is,
-  flows_after,
-  made_empty,
-  nodes_after,
-  outs_after,
-  resumes_after,
-  same_back,
-  same_both,
-  same_itself,
-  same_swap,
-}
+use Rattle.bl_graph.specs.inner.Parts.{act_part, again_of, bare, bare_if, choice_part, endless_part, ends_by, exit_of, followed, guarded_links, guarded_part}
+use Rattle.bl_graph.specs.inner.Parts.{guarded_to, into_block, is_nothing, link_if, links_each, links_from, moved_flow, moved_out, node, number_if}
+use Rattle.bl_graph.specs.inner.Parts.{out, out_if, pause_part, some_mark, turned, until_part, while_part}
+use Rattle.bl_graph.proofs.Following.{Same, after, edges_after, edges_with, exit, exit_is, flows_after, made_empty, nodes_after, outs_after, resumes_after}
+use Rattle.bl_graph.proofs.Following.{same_back, same_both, same_itself, same_swap}
 use Rattle.bl_graph.proofs.Marking.{names}
-use Rattle.bl_graph.proofs.Numbering.{
-  adds_listed,
-  adds_none,
-  adds_same,
-  adds_then,
-  all_pairs,
-  each_pairs,
-  from_pairs,
-  into_pairs,
-  moved_flows,
-  moved_pairs,
-  number_pairs,
-  one_edge,
-  out_pairs,
-  pairs_append,
-  some_moved,
-  some_same,
-}
+use Rattle.bl_graph.proofs.Numbering.{adds_listed, adds_none, adds_same, adds_then, all_pairs, each_pairs, from_pairs, into_pairs, moved_flows, moved_pairs}
+use Rattle.bl_graph.proofs.Numbering.{number_pairs, one_edge, out_pairs, pairs_append, some_moved, some_same}
 
 -- edges by the same pairs in any order
 pub re_add : (kind : Bool) (naming : Naming) (ps qs : List Pair) (a b : List Edge) → Same ps qs → Adds kind naming ps a b → Adds kind naming qs a b
@@ -165,16 +39,6 @@ flows_append [] ys = refl
 flows_append (x ∷ xs) ys = ap (λ fs. flow_of x ∷ fs) (flows_append xs ys)
 
 module _ (naming : Naming) where
-  -- nothing
-  pub nothing_makes : (links : Links) → Makes naming (whole_in Done) nothing links links
-  nothing_makes links = record {
-    flows = refl;
-    outs = tt;
-    resumes = tt;
-    control = adds_none false naming links.control;
-    by_data = adds_none true naming links.by_data;
-  }
-
   -- a statement after a block
   pub follow_makes : (b : Block) (s : Plain) (next : ℕ) (made more : Made) (l0 l1 l2 l3 : Links) → Makes naming (whole_in b) made l0 l1
       → Makes naming (whole_of s) more l1 l2 → naming next ≡ Some (entry s) → l3.control ≡ l2.control ++ links_each made.outs next

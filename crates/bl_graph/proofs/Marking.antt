@@ -1,112 +1,20 @@
 -- Marked nodes: what is at them, in what is around them, and in the order of the nodes.
-use Rattle.std.proofs.Common.{
-  ◌≡◌,
-  Bool,
-  true,
-  false,
-  ◌&&◌,
-  ◌||◌,
-  ◌⊎◌,
-  inl,
-  inr,
-  List,
-  [],
-  ◌∷◌,
-  ◌++◌,
-  refl,
-  ap,
-  sym,
-  ◌∙◌,
-  subst,
-}
+use Rattle.std.proofs.Common.{◌≡◌, Bool, true, false, ◌&&◌, ◌||◌, ◌⊎◌, inl, inr, List, [], ◌∷◌, ◌++◌, refl, ap, sym, ◌∙◌, subst}
 use Rattle.std.specs.Prelude.{slice_get, Some, ⊤, ℕ, zero, suc}
+use Rattle.std.proofs.lemmas.Bool.{and_from, and_parts, or_left, or_right}
+use Rattle.bl_tree.proofs.Basics.{either_of, same_suc}
 use Rattle.bl_graph_nodes.specs.Laws.{EachOnce}
 use Rattle.bl_tree.specs.declared.place.Place.{Place}
 use Rattle.bl_tree.specs.declared.tree.Expr.{Expr}
 use Rattle.bl_tree.specs.declared.tree.Guard.{Guard}
-use Rattle.bl_graph_nodes.specs.Nodes.{
-  CheckAt,
-  DepthEndAt,
-  DepthJoinAt,
-  ForkAt,
-  HeadAt,
-  Node,
-  StartAt,
-  SurfaceEndAt,
-  SurfaceJoinAt,
-  TestAt,
-  are_instant,
-  is_instant,
-  nodes_in,
-  nodes_in_each,
-  nodes_of,
-  where_so,
-}
-use Rattle.bl_graph_nodes.specs.Plain.{
-  Act,
-  Again,
-  Await,
-  Block,
-  Bodies,
-  Body,
-  Cobegin,
-  Done,
-  If,
-  Label,
-  Last,
-  Plain,
-  Repeat,
-  Run,
-  Then,
-  Until,
-  When,
-  While,
-}
-use Rattle.bl_graph.specs.Marks.{
-  Mark,
-  Marked,
-  again_by,
-  begun_by,
-  body_ends,
-  inner,
-  join_mark,
-  last_end,
-  leaves,
-  marked,
-  moved,
-  part_in,
-  part_of,
-  parts_of,
-  resumed,
-  some_of,
-  where_marked,
-}
+use Rattle.bl_graph_nodes.specs.Nodes.{CheckAt, DepthEndAt, DepthJoinAt, ForkAt, HeadAt, Node, StartAt, SurfaceEndAt, SurfaceJoinAt, TestAt, are_instant}
+use Rattle.bl_graph_nodes.specs.Nodes.{is_instant, nodes_in, nodes_in_each, nodes_of, where_so}
+use Rattle.bl_graph_nodes.specs.Plain.{Act, Again, Await, Block, Bodies, Body, Cobegin, Done, If, Label, Last, Plain, Repeat, Run, Then, Until, When, While}
+use Rattle.bl_graph.specs.Marks.{Mark, Marked, again_by, begun_by, body_ends, inner, join_mark, last_end, leaves, marked, moved, part_in, part_of, parts_of}
+use Rattle.bl_graph.specs.Marks.{resumed, some_of, where_marked}
 use Rattle.bl_graph.proofs.Staying.{Has, has_left}
 
 -- ---- truth
-
-pub or_left : (a b : Bool) → a ≡ true → (a || b) ≡ true
-or_left true b is = refl
-or_left false b is = cc
-
-pub or_right : (a b : Bool) → b ≡ true → (a || b) ≡ true
-or_right true b is = refl
-or_right false b is = is
-
-pub or_cases : (a b : Bool) → (a || b) ≡ true → (a ≡ true) ⊎ (b ≡ true)
-or_cases true b is = inl refl
-or_cases false b is = inr is
-
-pub and_both : (a b : Bool) → a ≡ true → b ≡ true → (a && b) ≡ true
-and_both true b one two = two
-and_both false b one two = cc
-
-pub and_cases : (a b : Bool) → (a && b) ≡ true → (a ≡ true) × (b ≡ true)
-and_cases true b is = (refl, is)
-and_cases false b is = cc
-
-pub is_not : (a : Bool) → a ≡ true → a ≡ false → ⊥
-is_not a one two = cc
 
 -- ---- a node with a mark in a list
 
@@ -184,10 +92,6 @@ pub is_where : (deep : Bool) (test : Bool) (m : Marked) (n : Node) → Is deep (
 is_where deep test m n is =
     let h = at_where test m n is.mark is.there in (h.0, h.1, sym (ap (pick deep) h.2) ∙ is.so)
 
-pub where_is : (deep : Bool) (test : Bool) (m : Marked) (n : Node) → test ≡ true → n ≡ m.node → pick deep m.mark ≡ true →
-    Is deep (where_marked test m) n
-where_is deep test m n is same so = record { mark = m.mark; there = where_at test m n is same; so = so }
-
 -- ---- moved
 
 pub at_moved : (e : Mark) (xs : List Marked) (n : Node) (k : Mark) → At xs n k → At (moved e xs) n (inner e k)
@@ -208,19 +112,19 @@ moved_at e (m ∷ xs) n j (inr h) = let b = moved_at e xs n j h in record { mark
 pub moved_surface : (e : Mark) (xs : List Marked) (n : Node) → Is false (moved e xs) n → (e.surface ≡ true) × Is false xs n
 moved_surface e xs n is =
     let b = moved_at e xs n is.mark is.there in
-    let both = and_cases e.surface b.mark.surface (sym (ap (λ k. k.surface) b.same) ∙ is.so) in
+    let both = and_parts e.surface b.mark.surface (sym (ap (λ k. k.surface) b.same) ∙ is.so) in
     (both.0, record { mark = b.mark; there = b.there; so = both.1 })
 
 pub moved_depth : (e : Mark) (xs : List Marked) (n : Node) → Is true (moved e xs) n → Is true xs n ⊎ ((e.depth ≡ true) × Is false xs n)
 moved_depth e xs n is =
     let b = moved_at e xs n is.mark is.there in
-    elim (or_cases b.mark.depth (e.depth && b.mark.surface) (sym (ap (λ k. k.depth) b.same) ∙ is.so)) [
+    elim (either_of b.mark.depth (e.depth && b.mark.surface) (sym (ap (λ k. k.depth) b.same) ∙ is.so)) [
       | inl deep ↦ inl (record { mark = b.mark; there = b.there; so = deep })
-      | inr both ↦ let two = and_cases e.depth b.mark.surface both in inr (two.0, record { mark = b.mark; there = b.there; so = two.1 })
+      | inr both ↦ let two = and_parts e.depth b.mark.surface both in inr (two.0, record { mark = b.mark; there = b.there; so = two.1 })
     ]
 
 pub to_surface : (e : Mark) (xs : List Marked) (n : Node) → e.surface ≡ true → Is false xs n → Is false (moved e xs) n
-to_surface e xs n so is = record { mark = inner e is.mark; there = at_moved e xs n is.mark is.there; so = and_both e.surface is.mark.surface so is.so }
+to_surface e xs n so is = record { mark = inner e is.mark; there = at_moved e xs n is.mark is.there; so = and_from e.surface is.mark.surface so is.so }
 
 pub to_depth : (e : Mark) (xs : List Marked) (n : Node) → Is true xs n → Is true (moved e xs) n
 to_depth e xs n is = record {
@@ -233,7 +137,7 @@ pub to_depth_entry : (e : Mark) (xs : List Marked) (n : Node) → e.depth ≡ tr
 to_depth_entry e xs n so is = record {
   mark = inner e is.mark;
   there = at_moved e xs n is.mark is.there;
-  so = or_right is.mark.depth (e.depth && is.mark.surface) (and_both e.depth is.mark.surface so is.so);
+  so = or_right is.mark.depth (e.depth && is.mark.surface) (and_from e.depth is.mark.surface so is.so);
 }
 
 -- ---- how some are reached
@@ -255,11 +159,11 @@ some_more deep m xs some = record { node = some.node; is = is_later deep m xs so
 pub some_from : (deep : Bool) (xs : List Marked) → pick deep (some_of xs) ≡ true → SomeMarked deep xs
 some_from false [] so = cc
 some_from true [] so = cc
-some_from false (m ∷ xs) so = elim (or_cases m.mark.surface (some_of xs).surface so) [
+some_from false (m ∷ xs) so = elim (either_of m.mark.surface (some_of xs).surface so) [
   | inl one ↦ record { node = m.node; is = is_first false m xs m.node refl one }
   | inr rest ↦ some_more false m xs (some_from false xs rest)
 ]
-some_from true (m ∷ xs) so = elim (or_cases m.mark.depth (some_of xs).depth so) [
+some_from true (m ∷ xs) so = elim (either_of m.mark.depth (some_of xs).depth so) [
   | inl one ↦ record { node = m.node; is = is_first true m xs m.node refl one }
   | inr rest ↦ some_more true m xs (some_from true xs rest)
 ]
@@ -275,13 +179,13 @@ pub leaves_surface : (xs : List Marked) (n : Node) (k : Mark) → At xs n k → 
 leaves_surface [] n k h one two = elim h [ ]
 leaves_surface (m ∷ xs) n k (inl h) one two =
     or_left (m.mark.surface && m.mark.depth) (leaves xs).surface
-    (and_both m.mark.surface m.mark.depth (sym (ap (λ j. j.surface) h.1) ∙ one) (sym (ap (λ j. j.depth) h.1) ∙ two))
+    (and_from m.mark.surface m.mark.depth (sym (ap (λ j. j.surface) h.1) ∙ one) (sym (ap (λ j. j.depth) h.1) ∙ two))
 leaves_surface (m ∷ xs) n k (inr h) one two =
     or_right (m.mark.surface && m.mark.depth) (leaves xs).surface (leaves_surface xs n k h one two)
 
 pub from_leaves_depth : (xs : List Marked) → (leaves xs).depth ≡ true → SomeMarked true xs
 from_leaves_depth [] so = cc
-from_leaves_depth (m ∷ xs) so = elim (or_cases m.mark.depth (leaves xs).depth so) [
+from_leaves_depth (m ∷ xs) so = elim (either_of m.mark.depth (leaves xs).depth so) [
   | inl one ↦ record { node = m.node; is = is_first true m xs m.node refl one }
   | inr rest ↦ some_more true m xs (from_leaves_depth xs rest)
 ]
@@ -296,8 +200,8 @@ pub record Twice (xs : List Marked) : Type 0 where
 
 pub from_leaves_surface : (xs : List Marked) → (leaves xs).surface ≡ true → Twice xs
 from_leaves_surface [] so = cc
-from_leaves_surface (m ∷ xs) so = elim (or_cases (m.mark.surface && m.mark.depth) (leaves xs).surface so) [
-  | inl one ↦ let both = and_cases m.mark.surface m.mark.depth one in
+from_leaves_surface (m ∷ xs) so = elim (either_of (m.mark.surface && m.mark.depth) (leaves xs).surface so) [
+  | inl one ↦ let both = and_parts m.mark.surface m.mark.depth one in
       record { node = m.node; mark = m.mark; there = inl (refl, refl); surface = both.0; depth = both.1 }
   | inr rest ↦ let twice = from_leaves_surface xs rest in
       record { node = twice.node; mark = twice.mark; there = inr twice.there; surface = twice.surface; depth = twice.depth }
@@ -398,14 +302,11 @@ found (x ∷ xs) n (inr h) = let f = found xs n h in record { number = suc f.num
 zero_suc : (k : ℕ) → zero ≡ suc k → ⊥
 zero_suc k is = cc
 
-suc_same : (j k : ℕ) → suc j ≡ suc k → j ≡ k
-suc_same j k is = cc
-
 pub differ_of : (xs : List Node) → EachOnce xs → Differ xs
 differ_of [] once = tt
 differ_of (x ∷ xs) once = (
   λ h. let f = found xs x h in zero_suc f.number (once zero (suc f.number) x refl f.is),
-  differ_of xs (λ i j n one two. suc_same i j (once (suc i) (suc j) n one two)),
+  differ_of xs (λ i j n one two. same_suc i j (once (suc i) (suc j) n one two)),
 )
 
 pub differ_left : (xs ys : List Node) → Differ (xs ++ ys) → Differ xs

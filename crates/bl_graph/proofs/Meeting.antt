@@ -1,92 +1,55 @@
 -- The nodes that tables give at a path are those that were noted with a path that overlaps it.
-use Rattle.std.proofs.Common.{
-  ◌≡◌,
-  ℕ,
-  zero,
-  suc,
-  ◌<◌,
-  ◌≤◌,
-  Bool,
-  true,
-  false,
-  cond,
-  ◌||◌,
-  ◌⊎◌,
-  inl,
-  inr,
-  List,
-  [],
-  ◌∷◌,
-  ◌++◌,
-  length,
-  take,
-  take_all,
-  refl,
-  sym,
-  ap,
-  subst,
-  ◌∙◌,
-  arith,
-  nat_eq,
-  eq-eqb,
-}
+use Rattle.std.proofs.Common.{◌≡◌, ℕ, zero, suc, ◌<◌, ◌≤◌, Bool, true, false, cond, ◌||◌, ◌⊎◌, inl, inr, List, [], ◌∷◌, ◌++◌, length, take, take_all, refl, sym}
+use Rattle.std.proofs.Common.{ap, subst, ◌∙◌, arith, nat_eq, eq-eqb}
 use Rattle.std.specs.BTreeMap.{is_at}
 use Rattle.std.specs.Cmp.{eq_by_cmp_equiv}
 use Rattle.std.specs.Prelude.{Contains}
 use Rattle.std.proofs.lemmas.Bool.{cases_eq}
 use Rattle.std.proofs.lemmas.List.Elements.{Contains-append_cases, Contains-append_left, Contains-append_right}
+use Rattle.std.proofs.lemmas.Bool.{and_from, and_parts, or_left, or_right}
+use Rattle.bl_tree.proofs.Basics.{at_most_itself, contains_none, contains_one, either_of, none_at_most, same_number}
 use Rattle.bl_tree.specs.Order.{static_cmp, static_cmp_total}
 use Rattle.bl_tree.specs.Static.{is_front, overlaps}
 use Rattle.bl_tree.specs.declared.static_path.Static.{Static}
 use Rattle.bl_graph.specs.inner.Noted.{Note, front, fronts_of, note, numbers_at, numbers_met, numbers_to, with_fronts}
-use Rattle.bl_graph.proofs.Marking.{and_both, and_cases, or_cases, or_left, or_right}
-use Rattle.bl_graph.proofs.MemberLemmas.{each_from, each_to, is_one, none_in, one_in, one_like, upto_from, upto_to}
-use Rattle.bl_graph.proofs.NoteLemmas.{nat_same, same_path}
+use Rattle.bl_graph.proofs.MemberLemmas.{each_from, each_to, one_in, one_like, upto_from, upto_to}
+use Rattle.bl_graph.proofs.NoteLemmas.{same_path}
 
 -- ---- fronts of paths
 
 le_more : (m n : ℕ) → m ≤ n → suc m ≤ suc n
 le_more m n le = omega arith
 
-le_none : (n : ℕ) → 0 ≤ n
-le_none n = omega arith
-
-le_self : (n : ℕ) → n ≤ n
-le_self n = omega arith
-
-lt_of : (m n : ℕ) → m ≤ n → (m ≡ n → ⊥) → m < n
+pub lt_of : (m n : ℕ) → m ≤ n → (m ≡ n → ⊥) → m < n
 lt_of m n le other = omega arith
 
-le_of : (m n : ℕ) → m < n → m ≤ n
-le_of m n lt = omega arith
-
 front_is : (xs ys : List ℕ) → is_front xs ys ≡ true → (length xs ≤ length ys) × (xs ≡ take (length xs) ys)
-front_is [] ys is = (le_none (length ys), refl)
+front_is [] ys is = (none_at_most (length ys), refl)
 front_is (x ∷ xs) [] is = absurd (cc)
 front_is (x ∷ xs) (y ∷ ys) is =
-    let both = and_cases (nat_eq x y) (is_front xs ys) is in
+    let both = and_parts (nat_eq x y) (is_front xs ys) is in
     let rest = front_is xs ys both.1 in
-    let same = nat_same x y both.0 in
+    let same = same_number x y both.0 in
     (le_more (length xs) (length ys) rest.0, λ i. same i ∷ rest.1 i)
 
 front_take : (xs : List ℕ) (k : ℕ) → is_front (take k xs) xs ≡ true
 front_take xs zero = refl
 front_take [] (suc k) = refl
-front_take (x ∷ xs) (suc k) = and_both (nat_eq x x) (is_front (take k xs) xs) (eq-eqb x x refl) (front_take xs k)
+front_take (x ∷ xs) (suc k) = and_from (nat_eq x x) (is_front (take k xs) xs) (eq-eqb x x refl) (front_take xs k)
 
 whole_front : (path : Static) → front path (length path.fields) ≡ path
-whole_front path = ap (λ fields. record { root = path.root; fields = fields }) (take_all (length path.fields) path.fields (le_self (length path.fields)))
+whole_front path = ap (λ fields. record { root = path.root; fields = fields }) (take_all (length path.fields) path.fields (at_most_itself (length path.fields)))
 
 -- a path overlaps its fronts
 overlaps_front : (path : Static) (k : ℕ) → overlaps path (front path k) ≡ true
 overlaps_front path k =
-    and_both (nat_eq path.root path.root) (is_front path.fields (take k path.fields) || is_front (take k path.fields) path.fields)
+    and_from (nat_eq path.root path.root) (is_front path.fields (take k path.fields) || is_front (take k path.fields) path.fields)
     (eq-eqb path.root path.root refl)
     (or_right (is_front path.fields (take k path.fields)) (is_front (take k path.fields) path.fields) (front_take path.fields k))
 
 front_overlaps : (path : Static) (k : ℕ) → overlaps (front path k) path ≡ true
 front_overlaps path k =
-    and_both (nat_eq path.root path.root) (is_front (take k path.fields) path.fields || is_front path.fields (take k path.fields))
+    and_from (nat_eq path.root path.root) (is_front (take k path.fields) path.fields || is_front path.fields (take k path.fields))
     (eq-eqb path.root path.root refl)
     (or_left (is_front (take k path.fields) path.fields) (is_front path.fields (take k path.fields)) (front_take path.fields k))
 
@@ -97,9 +60,9 @@ path_of a b fields roots is = λ i. record { root = roots i; fields = is i }
 overlap_cases : (a b : Static) → overlaps a b ≡ true →
     ((k : ℕ) × (k ≤ length a.fields) × (b ≡ front a k)) ⊎ ((k : ℕ) × (k < length b.fields) × (a ≡ front b k))
 overlap_cases a b is =
-    let both = and_cases (nat_eq a.root b.root) (is_front a.fields b.fields || is_front b.fields a.fields) is in
-    let roots = nat_same a.root b.root both.0 in
-    elim (or_cases (is_front a.fields b.fields) (is_front b.fields a.fields) both.1) [
+    let both = and_parts (nat_eq a.root b.root) (is_front a.fields b.fields || is_front b.fields a.fields) is in
+    let roots = same_number a.root b.root both.0 in
+    elim (either_of (is_front a.fields b.fields) (is_front b.fields a.fields) both.1) [
       | inl one ↦ shorter roots (front_is a.fields b.fields one).0 (front_is a.fields b.fields one).1
       | inr two ↦ let longer = front_is b.fields a.fields two in
           inl (length b.fields, longer.0, path_of b a (take (length b.fields) a.fields) (sym roots) longer.1)
@@ -110,10 +73,10 @@ overlap_cases a b is =
     shorter roots le same = elim (cases_eq (length a.fields) (length b.fields)) [
       | inl equal ↦ inl (
         length a.fields,
-        le_self (length a.fields),
+        at_most_itself (length a.fields),
         path_of b a (take (length a.fields) a.fields) (sym roots)
-            (sym (take_all (length b.fields) b.fields (le_self (length b.fields))) ∙ ap (λ n. take n b.fields) (sym equal) ∙ sym same
-            ∙ sym (take_all (length a.fields) a.fields (le_self (length a.fields)))),
+            (sym (take_all (length b.fields) b.fields (at_most_itself (length b.fields))) ∙ ap (λ n. take n b.fields) (sym equal) ∙ sym same
+            ∙ sym (take_all (length a.fields) a.fields (at_most_itself (length a.fields)))),
       )
       | inr other ↦ inr (
         length a.fields,
@@ -126,7 +89,7 @@ overlap_cases a b is =
 
 pub where_from : {A : Type 0} (test : Bool) (xs : List A) (x : A) → Contains (cond test xs []) x → (test ≡ true) × Contains xs x
 where_from true xs x there = (refl, there)
-where_from false xs x there = absurd (none_in x there)
+where_from false xs x there = absurd (contains_none x there)
 
 pub where_to : {A : Type 0} (test : Bool) (xs : List A) (x : A) → test ≡ true → Contains xs x → Contains (cond test xs []) x
 where_to test xs x is there = subst (λ t. Contains (cond t xs []) x) (sym is) there
@@ -145,7 +108,7 @@ at_from : (path : Static) (ns : List Note) (i : ℕ) → Contains (numbers_at pa
 at_from path ns i there =
     let n = each_from (λ n. cond (is_at (static_cmp n.path) path) (n.node ∷ []) []) ns i there in
     let made = where_from (is_at (static_cmp n.0.path) path) (n.0.node ∷ []) i n.2 in
-    record { found = n.0; there = n.1; is_node = is_one n.0.node i made.1; is_path = same_path n.0.path path made.0 }
+    record { found = n.0; there = n.1; is_node = contains_one n.0.node i made.1; is_path = same_path n.0.path path made.0 }
 
 at_to : (path : Static) (ns : List Note) (n : Note) → Contains ns n → n.path ≡ path → Contains (numbers_at path ns) n.node
 at_to path ns n there is =
@@ -168,10 +131,10 @@ fronts_from ns m there =
     elim (Contains-append_cases (fronts_of n.0) (n.0 ∷ []) m n.2) [
       | inl shorter ↦
           let k = upto_from (λ k. note n.0.node (front n.0.path k) ∷ []) (length n.0.path.fields) m shorter in
-          let is = is_one (note n.0.node (front n.0.path k.0)) m k.2 in
+          let is = contains_one (note n.0.node (front n.0.path k.0)) m k.2 in
           record { found = n.0; there = n.1; is_node = ap (λ x. x.node) (sym is); count = k.0; is_path = ap (λ x. x.path) (sym is) }
       | inr itself ↦
-          let is = is_one n.0 m itself in
+          let is = contains_one n.0 m itself in
           record {
             found = n.0;
             there = n.1;

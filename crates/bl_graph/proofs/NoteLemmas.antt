@@ -1,80 +1,35 @@
 -- Tables that have some notes, with one more of them.
-use Rattle.std.proofs.Common.{
-  ◌≡◌,
-  ℕ,
-  suc,
-  ◌+◌,
-  Bool,
-  true,
-  false,
-  cond,
-  ◌&&◌,
-  List,
-  [],
-  ◌∷◌,
-  ◌++◌,
-  length,
-  Some,
-  None,
-  refl,
-  sym,
-  ap,
-  subst,
-  ◌∙◌,
-  append_assoc,
-  append-nil,
-  is_eq,
-  nat_cmp,
-  nat_eq,
-  Ordering,
-  Less,
-  Equal,
-  Greater,
-  eqb→eq,
-  T,
-  ◌<◌,
-  get_or,
-  take,
-}
+use Rattle.std.proofs.Common.{◌≡◌, ℕ, suc, ◌+◌, Bool, true, false, cond, ◌&&◌, List, [], ◌∷◌, ◌++◌, length, Some, None, refl, sym, ap, subst, ◌∙◌, append_assoc}
+use Rattle.std.proofs.Common.{append-nil, is_eq, nat_cmp, Ordering, Less, Equal, Greater, eqb→eq, ◌<◌, get_or, take}
 use Rattle.std.specs.BTreeMap.{is_at}
 use Rattle.std.specs.Cmp.{unsigned_tied}
 use Rattle.std.specs.Cmp.Lexicographic.{slice_cmp}
 use Rattle.std.specs.Map.{lookup}
-use Rattle.std.specs.Ordering.{ordering_then}
 use Rattle.std.specs.Prelude.{unwrap_or}
 use Rattle.std.proofs.lemmas.List.{take_more}
 use Rattle.std.proofs.lemmas.Map.Lookups.{exact_bytes}
+use Rattle.std.proofs.lemmas.Bool.{and_parts}
+use Rattle.bl_tree.proofs.Basics.{same_number}
 use Rattle.bl_tree.specs.Order.{static_cmp}
 use Rattle.bl_tree.specs.declared.static_path.Static.{Static}
 use Rattle.bl_graph.specs.declared.flow.notes.Notes.{Notes}
 use Rattle.bl_graph.specs.inner.Found.{notes_of}
 use Rattle.bl_graph.specs.inner.Noted.{HasNotes, HasNotesAndFronts, Note, front, fronts_of, fronts_to, note, noted_at, numbers_at, with_fronts}
 use Rattle.bl_graph.proofs.MemberLemmas.{each-append}
+use Rattle.bl_effects.proofs.EntryLemmas.{both_equal}
 
 -- ---- equal keys are equal paths
-
-pub both_equal : (r s : Ordering) → is_eq (ordering_then r s) ≡ (is_eq r && is_eq s)
-both_equal Less s = refl
-both_equal Equal s = refl
-both_equal Greater s = refl
-
-both_true : (a b : Bool) → (a && b) ≡ true → (a ≡ true) × (b ≡ true)
-both_true true b is = (refl, is)
-both_true false b is = absurd (cc)
 
 is_equal : (r : Ordering) → is_eq r ≡ true → r ≡ Equal
 is_equal Less is = absurd (cc)
 is_equal Equal is = refl
 is_equal Greater is = absurd (cc)
 
-pub nat_same : (m n : ℕ) → nat_eq m n ≡ true → m ≡ n
-nat_same m n is = eqb→eq m n (subst T (sym is) tt)
-
 pub same_path : (p q : Static) → is_at (static_cmp p) q ≡ true → p ≡ q
 same_path p q is =
-    let both = both_true (is_eq (nat_cmp p.root q.root)) (is_eq (slice_cmp nat_cmp p.fields q.fields))
+    let both = and_parts (is_eq (nat_cmp p.root q.root)) (is_eq (slice_cmp nat_cmp p.fields q.fields))
     (sym (both_equal (nat_cmp p.root q.root) (slice_cmp nat_cmp p.fields q.fields)) ∙ is) in
-    let roots = nat_same p.root q.root (sym (unsigned_tied p.root q.root) ∙ both.0) in
+    let roots = same_number p.root q.root (sym (unsigned_tied p.root q.root) ∙ both.0) in
     let fields = exact_bytes p.fields q.fields (is_equal (slice_cmp nat_cmp p.fields q.fields) both.1) in
     λ i. record { root = roots i; fields = fields i }
 

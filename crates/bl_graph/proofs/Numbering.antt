@@ -1,36 +1,9 @@
 -- Lists by numbers are as lists of nodes where the numbers name the nodes.
-use Rattle.std.proofs.Common.{
-  ◌≡◌,
-  ℕ,
-  ◌+◌,
-  Bool,
-  true,
-  false,
-  cond,
-  ◌&&◌,
-  ◌||◌,
-  ◌⊎◌,
-  ⊎_elim,
-  inl,
-  inr,
-  List,
-  [],
-  ◌∷◌,
-  ◌++◌,
-  map,
-  length,
-  Some,
-  refl,
-  ap,
-  sym,
-  ◌∙◌,
-  subst,
-  arith,
-  append_assoc,
-  append-nil,
-}
+use Rattle.std.proofs.Common.{◌≡◌, ℕ, ◌+◌, Bool, true, false, cond, ◌&&◌, ◌||◌, ◌⊎◌, ⊎_elim, List, [], ◌∷◌, ◌++◌, map, length, Some, refl, ap, sym}
+use Rattle.std.proofs.Common.{◌∙◌, subst, arith, append_assoc, append-nil}
 use Rattle.std.specs.Prelude.{Contains}
-use Rattle.std.proofs.lemmas.List.Elements.{Contains-append_left, Contains-append_right, Contains-append_cases, Contains-push, Contains-push_cases}
+use Rattle.std.proofs.lemmas.List.Elements.{Contains-append_left, Contains-append_right, Contains-append_cases}
+use Rattle.bl_tree.proofs.Basics.{and_false, contains_first, contains_further, contains_none, first_or_further}
 use Rattle.bl_tree.specs.declared.graph.Edge.{Edge}
 use Rattle.bl_graph_nodes.specs.Nodes.{Node, where_so}
 use Rattle.bl_graph_nodes.specs.Plain.{Block, Done, Then, is_empty}
@@ -39,41 +12,11 @@ use Rattle.bl_graph.specs.Graph.{edge_between}
 use Rattle.bl_graph.specs.Listed.{Pair, depth_to, each_to, each_to_all, entry_of, from_to, pair, surface_to}
 use Rattle.bl_graph.specs.Marks.{Mark, Marked, either, inner, leaves, leaving, marked, moved, some_of, unreached, where_marked}
 use Rattle.bl_graph.specs.inner.Made.{Adds, HasEdge, HasPair, IsEdge, IsNode, IsOut, Names, NamesEntry, Naming, Pairwise, flow_of}
-use Rattle.bl_graph.specs.inner.Parts.{
-  depth_links,
-  into_block,
-  leave_mark,
-  link_if,
-  links_all,
-  links_each,
-  links_from,
-  moved_flow,
-  moved_out,
-  number_if,
-  numbered,
-  out_if,
-  some_mark,
-  surface_links,
-}
+use Rattle.bl_graph.specs.inner.Parts.{depth_links, into_block, leave_mark, link_if, links_all, links_each, links_from, moved_flow, moved_out, number_if}
+use Rattle.bl_graph.specs.inner.Parts.{numbered, out_if, some_mark, surface_links}
 use Rattle.bl_graph.proofs.Marking.{names}
 
 -- ---- what a list has
-
-pub no_element : {A : Type 0} (x : A) → Contains [] x → ⊥
-no_element x there = let below = there.1 in omega arith
-
-pub head_there : {A : Type 0} (x : A) (xs : List A) → Contains (x ∷ xs) x
-head_there x xs = Contains-append_left (x ∷ []) xs x (Contains-push [] x)
-
-pub tail_there : {A : Type 0} (x : A) (xs : List A) (y : A) → Contains xs y → Contains (x ∷ xs) y
-tail_there x xs y there = Contains-append_right (x ∷ []) xs y there
-
-pub cons_cases : {A : Type 0} (x : A) (xs : List A) (y : A) → Contains (x ∷ xs) y → (x ≡ y) ⊎ Contains xs y
-cons_cases x xs y there =
-    ⊎_elim
-    (λ one. ⊎_elim (λ none. absurd (no_element y none)) (λ is. inl is) (Contains-push_cases [] x y one))
-    (λ later. inr later)
-    (Contains-append_cases (x ∷ []) xs y there)
 
 -- ---- pairs
 
@@ -95,31 +38,31 @@ pub record Left {A B : Type 0} (R : A → B → Type 0) (xs : List A) (y : B) : 
   pub related : R element y
 
 pub right_of : {A B : Type 0} (R : A → B → Type 0) (xs : List A) (ys : List B) (z : A) → Pairwise R xs ys → Contains xs z → Right R ys z
-right_of R [] ys z all there = absurd (no_element z there)
+right_of R [] ys z all there = absurd (contains_none z there)
 right_of R (x ∷ xs) [] z all there = absurd all
 right_of R (x ∷ xs) (y ∷ ys) z all there =
     ⊎_elim
-    (λ is. subst (Right R (y ∷ ys)) is (record { element = y; is_there = head_there y ys; related = all.0 }))
+    (λ is. subst (Right R (y ∷ ys)) is (record { element = y; is_there = contains_first y ys; related = all.0 }))
     (λ later. let more = right_of R xs ys z all.1 later in record {
       element = more.element;
-      is_there = tail_there y ys more.element more.is_there;
+      is_there = contains_further y ys more.element more.is_there;
       related = more.related;
     })
-    (cons_cases x xs z there)
+    (first_or_further x xs z there)
 
 pub left_of : {A B : Type 0} (R : A → B → Type 0) (xs : List A) (ys : List B) (z : B) → Pairwise R xs ys → Contains ys z → Left R xs z
-left_of R [] [] z all there = absurd (no_element z there)
+left_of R [] [] z all there = absurd (contains_none z there)
 left_of R (x ∷ xs) [] z all there = absurd all
 left_of R [] (y ∷ ys) z all there = absurd all
 left_of R (x ∷ xs) (y ∷ ys) z all there =
     ⊎_elim
-    (λ is. subst (Left R (x ∷ xs)) is (record { element = x; is_there = head_there x xs; related = all.0 }))
+    (λ is. subst (Left R (x ∷ xs)) is (record { element = x; is_there = contains_first x xs; related = all.0 }))
     (λ later. let more = left_of R xs ys z all.1 later in record {
       element = more.element;
-      is_there = tail_there x xs more.element more.is_there;
+      is_there = contains_further x xs more.element more.is_there;
       related = more.related;
     })
-    (cons_cases y ys z there)
+    (first_or_further y ys z there)
 
 -- ---- names
 
@@ -138,8 +81,8 @@ module _ (kind : Bool) (naming : Naming) where
   adds_none es = record {
     added = [];
     grows = sym (append-nil es);
-    there = λ edge there. absurd (no_element edge there);
-    back = λ p there. absurd (no_element p there);
+    there = λ edge there. absurd (contains_none edge there);
+    back = λ p there. absurd (contains_none p there);
   }
 
   pair_left : (ps qs : List Pair) (edge : Edge) → HasPair kind naming ps edge → HasPair kind naming (ps ++ qs) edge
@@ -194,15 +137,6 @@ module _ (kind : Bool) (naming : Naming) where
       leads = found.related;
     };
   }
-
--- two lists of pairs after another in either order
-pub swapped : {A : Type 0} (xs ys : List A) (x : A) → Contains (xs ++ ys) x → Contains (ys ++ xs) x
-swapped xs ys x there = ⊎_elim (λ t. Contains-append_right ys xs x t) (λ t. Contains-append_left ys xs x t) (Contains-append_cases xs ys x there)
-
-pub swapped_after : {A : Type 0} (front xs ys : List A) (x : A) → Contains (front ++ (xs ++ ys)) x → Contains (front ++ (ys ++ xs)) x
-swapped_after front xs ys x there =
-    ⊎_elim (λ t. Contains-append_left front (ys ++ xs) x t) (λ t. Contains-append_right front (ys ++ xs) x (swapped xs ys x t))
-    (Contains-append_cases front (xs ++ ys) x there)
 
 -- ---- control edges
 
@@ -315,14 +249,6 @@ bools : (e a b : Bool) → (e && (a || b)) ≡ ((e && a) || (e && b))
 bools true a b = refl
 bools false a b = refl
 
-pub or_none : (a : Bool) → (a || false) ≡ a
-or_none true = refl
-or_none false = refl
-
-and_none : (a : Bool) → (a && false) ≡ false
-and_none true = refl
-and_none false = refl
-
 depths : (e a b c d : Bool) → ((c || d) || (e && (a || b))) ≡ ((c || (e && a)) || (d || (e && b)))
 depths true true b true d = refl
 depths true true b false true = refl
@@ -342,7 +268,7 @@ pub inner_either : (e a b : Mark) → inner e (either a b) ≡ either (inner e a
 inner_either e a b = λ i. record { surface = bools e.surface a.surface b.surface i; depth = depths e.depth a.surface b.surface a.depth b.depth i }
 
 pub inner_unreached : (e : Mark) → inner e unreached ≡ unreached
-inner_unreached e = λ i. record { surface = and_none e.surface i; depth = and_none e.depth i }
+inner_unreached e = λ i. record { surface = and_false e.surface i; depth = and_false e.depth i }
 
 pub some_moved : (e : Mark) (ms : List Marked) → some_of (moved e ms) ≡ inner e (some_of ms)
 some_moved e [] = sym (inner_unreached e)

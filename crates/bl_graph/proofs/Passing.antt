@@ -2,42 +2,10 @@
 use Rattle.std.proofs.Common.{◌≡◌, Bool, true, false, ◌&&◌, ◌||◌, cond, ◌⊎◌, inl, inr, refl}
 use Rattle.bl_tree.specs.declared.place.Place.{Place}
 use Rattle.bl_tree.specs.declared.tree.Expr.{Expr}
-use Rattle.bl_graph_nodes.specs.Nodes.{
-  ForkAt,
-  HeadAt,
-  Node,
-  StartAt,
-  SurfaceEndAt,
-  SurfaceJoinAt,
-  TestAt,
-  are_instant,
-  entry,
-  is_instant,
-  some_instant,
-  some_strong,
-  strong_instant,
-}
-use Rattle.bl_graph_nodes.specs.Plain.{
-  Act,
-  Again,
-  Await,
-  Block,
-  Bodies,
-  Body,
-  Cobegin,
-  Done,
-  If,
-  Label,
-  Last,
-  Plain,
-  Repeat,
-  Run,
-  Then,
-  Until,
-  When,
-  While,
-  is_empty,
-}
+use Rattle.bl_graph_nodes.specs.Nodes.{ForkAt, HeadAt, Node, StartAt, SurfaceEndAt, SurfaceJoinAt, TestAt, are_instant, entry, is_instant, some_instant}
+use Rattle.bl_graph_nodes.specs.Nodes.{some_strong, strong_instant}
+use Rattle.bl_graph_nodes.specs.Plain.{Act, Again, Await, Block, Bodies, Body, Cobegin, Done, If, Label, Last, Plain, Repeat, Run, Then, Until, When, While}
+use Rattle.bl_graph_nodes.specs.Plain.{is_empty}
 use Rattle.bl_graph.specs.Edges.{Edge, EdgeAll, EdgeEach, Entry, OutAll}
 use Rattle.bl_graph.specs.Laws.{InstantsPass, WayThrough, WayThroughAll}
 use Rattle.bl_graph.specs.Walks.{Walk, on, stay}
@@ -45,11 +13,11 @@ use Rattle.bl_graph.proofs.Walking.{walk_more, walk_on}
 
 -- ---- truth
 
-either_is : (a b : Bool) → (a || b) ≡ true → (a ≡ true) ⊎ (b ≡ true)
+pub either_is : (a b : Bool) → (a || b) ≡ true → (a ≡ true) ⊎ (b ≡ true)
 either_is true b is = inl refl
 either_is false b is = inr is
 
-both_are : (a b : Bool) → (a && b) ≡ true → (a ≡ true) × (b ≡ true)
+pub both_are : (a b : Bool) → (a && b) ≡ true → (a ≡ true) × (b ≡ true)
 both_are true b is = (refl, is)
 both_are false b is = cc
 

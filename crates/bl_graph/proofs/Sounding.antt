@@ -1,116 +1,25 @@
 -- What is marked is reached.
 use Rattle.std.proofs.Common.{◌≡◌, Bool, true, false, not, ◌||◌, cond, ◌⊎◌, inl, inr, [], ◌∷◌, ◌++◌, refl, sym, subst}
+use Rattle.bl_tree.proofs.Basics.{either_of, from_false}
 use Rattle.bl_tree.specs.declared.place.Place.{Place}
 use Rattle.bl_tree.specs.declared.tree.Expr.{Expr}
 use Rattle.bl_tree.specs.declared.tree.Guard.{Guard}
 use Rattle.bl_tree.specs.declared.tree.Guard.TheVariants.{Abort, Reset}
 use Rattle.bl_tree.specs.declared.tree.Stmt.{Stmt}
-use Rattle.bl_graph_nodes.specs.Nodes.{
-  ActAt,
-  CheckAt,
-  DepthEndAt,
-  DepthJoinAt,
-  EnterAt,
-  ForkAt,
-  HeadAt,
-  Node,
-  PauseAt,
-  ResumeAt,
-  StartAt,
-  SurfaceEndAt,
-  SurfaceJoinAt,
-  TestAt,
-  are_instant,
-  arguments_of,
-  entry,
-  is_instant,
-}
-use Rattle.bl_graph_nodes.specs.Plain.{
-  Act,
-  Again,
-  Await,
-  Block,
-  Bodies,
-  Body,
-  Cobegin,
-  Done,
-  If,
-  Label,
-  Last,
-  Plain,
-  Repeat,
-  Run,
-  Then,
-  Until,
-  When,
-  While,
-  is_empty,
-}
-use Rattle.bl_graph.specs.Edges.{
-  BodyEnd,
-  Edge,
-  EdgeAll,
-  EdgeEach,
-  Entry,
-  Guarded,
-  Into,
-  LoopEdge,
-  Out,
-  OutAll,
-  Resume,
-  ResumeAll,
-  ResumeEach,
-}
-use Rattle.bl_graph.specs.Marks.{
-  Mark,
-  again_by,
-  begun_by,
-  body_ends,
-  entered,
-  join_mark,
-  last_end,
-  leaves,
-  marked,
-  moved,
-  part_in,
-  part_of,
-  parts_of,
-  resets,
-  resumed,
-  some_of,
-  turn_ends,
-  where_marked,
-}
+use Rattle.bl_graph_nodes.specs.Nodes.{ActAt, CheckAt, DepthEndAt, DepthJoinAt, EnterAt, ForkAt, HeadAt, Node, PauseAt, ResumeAt, StartAt, SurfaceEndAt}
+use Rattle.bl_graph_nodes.specs.Nodes.{SurfaceJoinAt, TestAt, are_instant, arguments_of, entry, is_instant}
+use Rattle.bl_graph_nodes.specs.Plain.{Act, Again, Await, Block, Bodies, Body, Cobegin, Done, If, Label, Last, Plain, Repeat, Run, Then, Until, When, While}
+use Rattle.bl_graph_nodes.specs.Plain.{is_empty}
+use Rattle.bl_graph.specs.Edges.{BodyEnd, Edge, EdgeAll, EdgeEach, Entry, Guarded, Into, LoopEdge, Out, OutAll, Resume, ResumeAll, ResumeEach}
+use Rattle.bl_graph.specs.Marks.{Mark, again_by, begun_by, body_ends, entered, join_mark, last_end, leaves, marked, moved, part_in, part_of, parts_of, resets}
+use Rattle.bl_graph.specs.Marks.{resumed, some_of, turn_ends, where_marked}
 use Rattle.bl_graph.specs.Walks.{Reached, on, stay}
-use Rattle.bl_graph.proofs.Marking.{
-  At,
-  Is,
-  SomeMarked,
-  Twice,
-  at_cases,
-  at_left,
-  at_moved,
-  at_right,
-  at_where,
-  from_leaves_depth,
-  from_leaves_surface,
-  is_cases,
-  is_split,
-  is_where,
-  moved_at,
-  moved_depth,
-  moved_surface,
-  or_cases,
-  pick,
-  some_from,
-}
+use Rattle.bl_graph.proofs.Marking.{At, Is, SomeMarked, at_cases, at_left, at_moved, at_right, at_where, from_leaves_depth, from_leaves_surface}
+use Rattle.bl_graph.proofs.Marking.{is_cases, is_split, is_where, moved_at, moved_depth, moved_surface, pick, some_from}
 use Rattle.bl_graph.proofs.Passing.{joins_at_once, later}
 use Rattle.bl_graph.proofs.Walking.{walk_more, walk_on}
 
 -- ---- what is reached
-
-never : {A : Type 0} → false ≡ true → A
-never is = cc
 
 none : {A : Type 0} (deep : Bool) (n : Node) → Is deep [] n → A
 none deep n is = absurd (is.there)
@@ -185,7 +94,7 @@ body_surface body first last sound looped begins n is =
 
 last_surface : {F : Node → Type 0} {G : Node → Node → Type 0} (body : Block) (first last : Node) → SoundIn body → Looped body first last G →
     Reached F G first → (turn_ends body (some_of (part_in body).outs)).surface ≡ true → Reached F G last
-last_surface body first last sound looped begins so = elim (or_cases (is_empty body) (some_of (part_in body).outs).surface so) [
+last_surface body first last sound looped begins so = elim (either_of (is_empty body) (some_of (part_in body).outs).surface so) [
   | inl empty ↦ reached_on first last begins (looped.turn first last (inl (refl, inr (empty, refl))))
   | inr some ↦ let out = out_is false body sound (some_from false (part_in body).outs some) in
       reached_on out.node last (body_surface body first last sound looped begins out.node out.is) (looped.turn out.node last (inr (out.leads_on, refl)))
@@ -207,12 +116,12 @@ Guarding l at guard e body = When l at guard e body
 
 guarded_anew : (guard : Guard) (l : Label) (at : Place) (body : Block) (m : Node) → (begun_by guard).depth ≡ true → Into body (BodyEnd l at body) m →
     Guarded guard l at body m
-guarded_anew Abort l at body m so into = never so
+guarded_anew Abort l at body m so into = from_false so
 guarded_anew Reset l at body m so into = into
 
 guarded_out : (guard : Guard) (l : Label) (at : Place) (body : Block) → not (resets guard) ≡ true → Guarded guard l at body (DepthEndAt l at)
 guarded_out Abort l at body so = refl
-guarded_out Reset l at body so = never so
+guarded_out Reset l at body so = from_false so
 
 choose : (deep : Bool) (test : Bool) (a b : Mark) → pick deep (cond test a b) ≡ true →
     ((test ≡ true) × (pick deep a ≡ true)) ⊎ ((test ≡ false) × (pick deep b ≡ true))
@@ -265,7 +174,7 @@ module _ (l : Label) (at : Place) (guard : Guard) (e : Expr) (body : Block) (sou
 
   last_depth : (last_end guard (body_ends guard body (part_in body).outs)).depth ≡ true →
       Reached (λ k. k ≡ CheckAt l at e) (Edge (Guarding l at guard e body)) (DepthEndAt l at)
-  last_depth so = elim (or_cases (body_ends guard body (part_in body).outs).depth (not (resets guard)) so) [
+  last_depth so = elim (either_of (body_ends guard body (part_in body).outs).depth (not (resets guard)) so) [
     | inl ends ↦ end_depth (DepthEndAt l at) (inr refl) ends
     | inr out ↦ reached_on (CheckAt l at e) (DepthEndAt l at) (here (CheckAt l at e) refl)
         (inr (inr (inr (inl (refl, guarded_out guard l at body out)))))
@@ -285,7 +194,7 @@ module _ (l : Label) (at : Place) (guard : Guard) (e : Expr) (body : Block) (sou
             | inl w ↦ let h = is_where false so surface_end n w in
                 reached_at n (SurfaceEndAt l at) h.1 (end_surface (SurfaceEndAt l at) (inl (h.0, refl)) h.2)
             | inr more ↦ elim (is_split false check (depth_end ∷ inner) n more) [
-              | inl own ↦ never own.1
+              | inl own ↦ from_false own.1
               | inr further ↦ elim (is_split false depth_end inner n further) [
                 | inl own ↦ reached_at n (DepthEndAt l at) own.0 (end_surface (DepthEndAt l at) (inr refl) own.1)
                 | inr in_body ↦ from_start n (moved_surface (begun_by guard) (part_in body).nodes n in_body).1
@@ -294,7 +203,7 @@ module _ (l : Label) (at : Place) (guard : Guard) (e : Expr) (body : Block) (sou
           ]
         ];
         depth = λ n is. elim (is_split true (marked entered (StartAt l at)) (where_marked so surface_end ++ check ∷ depth_end ∷ inner) n is) [
-          | inl own ↦ never own.1
+          | inl own ↦ from_false own.1
           | inr rest ↦ elim (is_cases true (where_marked so surface_end) (check ∷ depth_end ∷ inner) n rest) [
             | inl w ↦ let h = is_where true so surface_end n w in reached_at n (SurfaceEndAt l at) h.1 (end_depth (SurfaceEndAt l at) (inl (h.0, refl)) h.2)
             | inr more ↦ elim (is_split true check (depth_end ∷ inner) n more) [
@@ -338,10 +247,6 @@ module _ (weak : Bool) (body : Block) (rest : Bodies) (l : Label) (at : Place) (
   from_resume : (n : Node) → Is true (part_in body).nodes n → Reached (ResumeEach (Body weak body rest)) AllEdges n
   from_resume n is = reached_more (λ k m h. inl h) (λ m h. inl h) n (one.depth n is)
 
-  both_leave : Twice (cond weak (part_in body).nodes (part_in body).outs) → Twice (part_in body).nodes
-  both_leave twice = let h = joins_of weak body one twice.node twice.mark twice.there in
-      record { node = twice.node; mark = twice.mark; there = h.0; surface = twice.surface; depth = twice.depth }
-
   to_depth_join : {F : Node → Type 0} (n : Node) (k : Mark) → At (cond weak (part_in body).nodes (part_in body).outs) n k → k.depth ≡ true →
       Reached F AllEdges n → Reached F AllEdges (DepthJoinAt l at)
   to_depth_join n k h deep r =
@@ -364,19 +269,19 @@ module _ (weak : Bool) (body : Block) (rest : Bodies) (l : Label) (at : Place) (
       | inl a ↦ from_resume n a
       | inr b ↦ reached_more (later weak body rest l at so) (λ m h. inr h) n (others.depth n b)
     ];
-    left_surface = λ left. elim (or_cases (leaves list).surface (parts_of rest).left.surface left) [
+    left_surface = λ left. elim (either_of (leaves list).surface (parts_of rest).left.surface left) [
       | inl first ↦ let t = from_leaves_surface list first in
           to_depth_join t.node t.mark t.there t.depth
           (from_fork t.node (record { mark = t.mark; there = (joins_of weak body one t.node t.mark t.there).0; so = t.surface }))
       | inr more ↦ reached_more (later weak body rest l at so) (λ m h. h) (DepthJoinAt l at) (others.left_surface more)
     ];
-    left_again = λ instant left. elim (or_cases (leaves list).surface (parts_of rest).left.surface left) [
+    left_again = λ instant left. elim (either_of (leaves list).surface (parts_of rest).left.surface left) [
       | inl first ↦ let t = from_leaves_surface list first in
           to_surface_join t.node t.mark t.there t.surface instant
           (from_resume t.node (record { mark = t.mark; there = (joins_of weak body one t.node t.mark t.there).0; so = t.depth }))
       | inr more ↦ reached_more (later weak body rest l at so) (λ m h. inr h) (SurfaceJoinAt l at) (others.left_again instant more)
     ];
-    left_depth = λ left. elim (or_cases (leaves list).depth (parts_of rest).left.depth left) [
+    left_depth = λ left. elim (either_of (leaves list).depth (parts_of rest).left.depth left) [
       | inl first ↦ let t = from_leaves_depth list first in
           to_depth_join t.node t.is.mark t.is.there t.is.so
           (from_resume t.node (record { mark = t.is.mark; there = (joins_of weak body one t.node t.is.mark t.is.there).0; so = t.is.so }))
@@ -403,7 +308,7 @@ cobegin_sound l at bodies sound = let so = is_instant (Cobegin l at bodies) in
         ]
       ];
       depth = λ n is. elim (is_split true (marked entered (ForkAt l at)) (where_marked so surface_join ++ depth_join ∷ inner) n is) [
-        | inl own ↦ never own.1
+        | inl own ↦ from_false own.1
         | inr rest ↦ elim (is_cases true (where_marked so surface_join) (depth_join ∷ inner) n rest) [
           | inl w ↦ let h = is_where true so surface_join n w in reached_at n (SurfaceJoinAt l at) h.1 (sound.left_again h.0 h.2)
           | inr more ↦ elim (is_split true depth_join inner n more) [
@@ -434,7 +339,7 @@ if_sound l at e body other one two = let xs = (part_in body).nodes in let ys = (
         ]
       ];
       depth = λ n is. elim (is_split true test (xs ++ ys) n is) [
-        | inl own ↦ never own.1
+        | inl own ↦ from_false own.1
         | inr rest ↦ elim (is_cases true xs ys n rest) [
           | inl a ↦ reached_more (λ k m h. inl h) (λ m h. inl h) n (one.depth n a)
           | inr b ↦ reached_more (λ k m h. inr (inl h)) (λ m h. inr h) n (two.depth n b)
@@ -444,7 +349,7 @@ if_sound l at e body other one two = let xs = (part_in body).nodes in let ys = (
         | inl a ↦ let is = one.outs n k a in (inr (at_left xs ys n k is.0), inl is.1)
         | inr rest ↦ elim (at_cases (where_marked (is_empty body || is_empty other) test) (part_in other).outs n k rest) [
           | inl w ↦ let is = at_where (is_empty body || is_empty other) test n k w in
-              (inl (is.1, is.2), inr (inr (or_cases (is_empty body) (is_empty other) is.0, is.1)))
+              (inl (is.1, is.2), inr (inr (either_of (is_empty body) (is_empty other) is.0, is.1)))
           | inr b ↦ let is = two.outs n k b in (inr (at_right xs ys n k is.0), inr (inl is.1))
         ]
       ];
@@ -541,19 +446,19 @@ again_sound l at body e sound = let again = again_by (some_of (part_in body).out
 pausing_sound : (s : Plain) (first later_on : Node) → (n : Node) → Is false (marked entered first ∷ marked resumed later_on ∷ []) n → n ≡ first
 pausing_sound s first later_on n is = elim (is_split false (marked entered first) (marked resumed later_on ∷ []) n is) [
   | inl own ↦ own.0
-  | inr rest ↦ elim (is_split false (marked resumed later_on) [] n rest) [ inl own ↦ never own.1 | inr nil ↦ none false n nil ]
+  | inr rest ↦ elim (is_split false (marked resumed later_on) [] n rest) [ inl own ↦ from_false own.1 | inr nil ↦ none false n nil ]
 ]
 
 pausing_deep : (first later_on n : Node) → Is true (marked entered first ∷ marked resumed later_on ∷ []) n → n ≡ later_on
 pausing_deep first later_on n is = elim (is_split true (marked entered first) (marked resumed later_on ∷ []) n is) [
-  | inl own ↦ never own.1
+  | inl own ↦ from_false own.1
   | inr rest ↦ elim (is_split true (marked resumed later_on) [] n rest) [ inl own ↦ own.0 | inr nil ↦ none true n nil ]
 ]
 
 single_sound : (l : Label) (s : Stmt) → Sound (Act l s)
 single_sound l s = record {
   surface = λ n is. elim (is_split false (marked entered (ActAt l s)) [] n is) [ inl own ↦ here n own.0 | inr nil ↦ none false n nil ];
-  depth = λ n is. elim (is_split true (marked entered (ActAt l s)) [] n is) [ inl own ↦ never own.1 | inr nil ↦ none true n nil ];
+  depth = λ n is. elim (is_split true (marked entered (ActAt l s)) [] n is) [ inl own ↦ from_false own.1 | inr nil ↦ none true n nil ];
   outs = λ n k h. elim h [ inl own ↦ (inl own, own.0) | inr nil ↦ absurd nil ];
 }
 
@@ -627,8 +532,8 @@ mutual
   sound_each Last l at so = record {
     surface = λ n is. none false n is;
     depth = λ n is. none true n is;
-    left_surface = λ is. never is;
-    left_again = λ instant is. never is;
-    left_depth = λ is. never is;
+    left_surface = λ is. from_false is;
+    left_again = λ instant is. from_false is;
+    left_depth = λ is. from_false is;
   }
   sound_each (Body weak body rest) l at so = more_sound weak body rest l at so (sound_in body) (sound_each rest l at so)

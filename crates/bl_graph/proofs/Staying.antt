@@ -6,63 +6,12 @@ use Rattle.bl_tree.specs.declared.place.Place.{Place}
 use Rattle.bl_tree.specs.declared.tree.Expr.{Expr}
 use Rattle.bl_tree.specs.declared.tree.Guard.{Guard}
 use Rattle.bl_tree.specs.declared.tree.Guard.TheVariants.{Abort, Reset}
-use Rattle.bl_graph_nodes.specs.Nodes.{
-  CheckAt,
-  DepthEndAt,
-  DepthJoinAt,
-  ForkAt,
-  HeadAt,
-  Node,
-  SurfaceEndAt,
-  SurfaceJoinAt,
-  TestAt,
-  are_instant,
-  entry,
-  is_instant,
-  nodes_in,
-  nodes_in_each,
-  nodes_of,
-  where_so,
-}
-use Rattle.bl_graph_nodes.specs.Plain.{
-  Act,
-  Again,
-  Await,
-  Block,
-  Bodies,
-  Body,
-  Cobegin,
-  Done,
-  If,
-  Label,
-  Last,
-  Plain,
-  Repeat,
-  Run,
-  Then,
-  Until,
-  When,
-  While,
-}
+use Rattle.bl_graph_nodes.specs.Nodes.{CheckAt, DepthEndAt, DepthJoinAt, ForkAt, HeadAt, Node, SurfaceEndAt, SurfaceJoinAt, TestAt, are_instant, entry}
+use Rattle.bl_graph_nodes.specs.Nodes.{is_instant, nodes_in, nodes_in_each, nodes_of, where_so}
+use Rattle.bl_graph_nodes.specs.Plain.{Act, Again, Await, Block, Bodies, Body, Cobegin, Done, If, Label, Last, Plain, Repeat, Run, Then, Until, When, While}
 use Rattle.bl_graph.specs.DataEdges.{Across, Beside, BesideAll, BesideEach}
-use Rattle.bl_graph.specs.Edges.{
-  BodyEnd,
-  Edge,
-  EdgeAll,
-  EdgeEach,
-  Entry,
-  Guarded,
-  In,
-  InEach,
-  Into,
-  LoopEdge,
-  Out,
-  OutAll,
-  Resume,
-  ResumeAll,
-  ResumeEach,
-  SurfaceJoin,
-}
+use Rattle.bl_graph.specs.Edges.{BodyEnd, Edge, EdgeAll, EdgeEach, Entry, Guarded, In, InEach, Into, LoopEdge, Out, OutAll, Resume, ResumeAll, ResumeEach}
+use Rattle.bl_graph.specs.Edges.{SurfaceJoin}
 use Rattle.bl_graph.specs.Laws.{StaysWithin}
 use Rattle.bl_graph.proofs.Walking.{reached_keeps}
 

@@ -1,35 +1,11 @@
 -- The edges that are found to nodes of each branch from those of earlier ones.
-use Rattle.std.proofs.Common.{
-  ◌≡◌,
-  ℕ,
-  ◌+◌,
-  ◌-◌,
-  ◌<◌,
-  ◌≤◌,
-  Bool,
-  true,
-  false,
-  ◌⊎◌,
-  inl,
-  inr,
-  List,
-  [],
-  ◌∷◌,
-  length,
-  Option,
-  Some,
-  None,
-  refl,
-  sym,
-  ap,
-  subst,
-  ◌∙◌,
-  arith,
-}
+use Rattle.std.proofs.Common.{◌≡◌, ℕ, ◌+◌, ◌-◌, ◌<◌, ◌≤◌, Bool, true, false, ◌⊎◌, inl, inr, List, [], ◌∷◌, length, Option, Some, None, refl, sym, ap, subst}
+use Rattle.std.proofs.Common.{◌∙◌, arith}
 use Rattle.std.specs.List.{list_any}
 use Rattle.std.specs.Prelude.{Contains, slice_get}
-use Rattle.std.proofs.lemmas.List.Elements.{Contains-append_cases, Contains-append_left, Contains-append_right}
+use Rattle.std.proofs.lemmas.List.Elements.{Contains-append_left, Contains-append_right}
 use Rattle.std.proofs.lemmas.Option.{slice_get_within}
+use Rattle.bl_tree.proofs.Basics.{any_from as any_to, contains_none, contains_one, either_of}
 use Rattle.bl_tree.specs.declared.graph.Edge.{Edge}
 use Rattle.bl_tree.specs.declared.static_path.Static.{Static}
 use Rattle.bl_tree.specs.Static.{meets, overlaps}
@@ -37,45 +13,22 @@ use Rattle.bl_graph.specs.declared.flow.Flow.{Flow}
 use Rattle.bl_graph.specs.declared.flow.Span.{Span}
 use Rattle.bl_graph.specs.Graph.{edge_between}
 use Rattle.bl_graph.specs.inner.Flows.{InBranch}
-use Rattle.bl_graph.specs.inner.Found.{
-  is_reached,
-  links,
-  links_at,
-  links_in,
-  links_met,
-  links_to,
-  notes_of,
-  swept,
-  writes_at,
-  writes_before,
-  writes_in,
-  writes_to,
-}
+use Rattle.bl_graph.specs.inner.Found.{is_reached, links, links_at, links_in, links_met, links_to, notes_of, swept, writes_at, writes_before, writes_in}
+use Rattle.bl_graph.specs.inner.Found.{writes_to}
 use Rattle.bl_graph.specs.inner.Noted.{Note, note, numbers_met, upto}
-use Rattle.bl_graph.proofs.Marking.{or_cases, or_left, or_right}
 use Rattle.bl_graph.proofs.Meeting.{met_from, met_to, where_from, where_to}
-use Rattle.bl_graph.proofs.MemberLemmas.{each_from, each_to, is_one, none_in, one_in, upto_from, upto_to}
+use Rattle.bl_graph.proofs.MemberLemmas.{each_from, each_to, one_in, upto_from, upto_to}
 
 -- ---- lists of paths
 
-any_from : {A : Type 0} (test : A → Bool) (xs : List A) → list_any test xs ≡ true → (x : A) × Contains xs x × (test x ≡ true)
+pub any_from : {A : Type 0} (test : A → Bool) (xs : List A) → list_any test xs ≡ true → (x : A) × Contains xs x × (test x ≡ true)
 any_from test [] is = absurd (no_true is)
   where
     no_true : false ≡ true → ⊥
     no_true is = cc
-any_from test (x ∷ xs) is = elim (or_cases (test x) (list_any test xs) is) [
+any_from test (x ∷ xs) is = elim (either_of (test x) (list_any test xs) is) [
   | inl here ↦ (x, Contains-append_left (x ∷ []) xs x (one_in x), here)
   | inr more ↦ let later = any_from test xs more in (later.0, Contains-append_right (x ∷ []) xs later.0 later.1, later.2)
-]
-
-member : {A : Type 0} (z : A) (xs : List A) (x : A) → Contains (z ∷ xs) x → (z ≡ x) ⊎ Contains xs x
-member z xs x there = elim (Contains-append_cases (z ∷ []) xs x there) [ inl here ↦ inl (is_one z x here) | inr more ↦ inr more ]
-
-any_to : {A : Type 0} (test : A → Bool) (xs : List A) (x : A) → Contains xs x → test x ≡ true → list_any test xs ≡ true
-any_to test [] x there is = absurd (none_in x there)
-any_to test (z ∷ xs) x there is = elim (member z xs x there) [
-  | inl here ↦ or_left (test z) (list_any test xs) (ap test here ∙ is)
-  | inr more ↦ or_right (test z) (list_any test xs) (any_to test xs x more is)
 ]
 
 meets_from : (xs ys : List Static) → meets xs ys ≡ true → (x : Static) × Contains xs x × ((y : Static) × Contains ys y × (overlaps x y ≡ true))
@@ -121,11 +74,11 @@ record WrittenAt (deep : Bool) (i : ℕ) (found : Option Flow) (n : Note) : Type
   is_node : n.node ≡ i
 
 written_from : (deep : Bool) (i : ℕ) (found : Option Flow) (n : Note) → Contains (writes_at deep i found) n → WrittenAt deep i found n
-written_from deep i None n there = absurd (none_in n there)
+written_from deep i None n there = absurd (contains_none n there)
 written_from deep i (Some flow) n there =
     let made = where_from (is_reached deep flow.mark) (notes_of i flow.writes) n there in
     let p = each_from (λ path. note i path ∷ []) flow.writes n made.1 in
-    let is = is_one (note i p.0) n p.2 in
+    let is = contains_one (note i p.0) n p.2 in
     record {
       flow = flow;
       is_flow = refl;
@@ -143,7 +96,7 @@ written_to deep i found flow path is reached there =
 
 writes_span : (nodes : List Flow) (deep : Bool) (found : Option Span) (n : Note) → Contains (writes_in nodes deep found) n →
     (span : Span) × (found ≡ Some span) × Contains (writes_to nodes deep span.first (span.end - span.first)) n
-writes_span nodes deep None n there = absurd (none_in n there)
+writes_span nodes deep None n there = absurd (contains_none n there)
 writes_span nodes deep (Some span) n there = (span, refl, there)
 
 -- a node of an earlier branch writes the path
@@ -199,7 +152,7 @@ linked_from ns to paths edge there =
       noted = m.there;
       read = p.1;
       overlap = m.overlap;
-      is = sym (is_one (edge_between i.0 to true) edge i.2) ∙ ap (λ n. edge_between n to true) (sym m.is_node);
+      is = sym (contains_one (edge_between i.0 to true) edge i.2) ∙ ap (λ n. edge_between n to true) (sym m.is_node);
     }
 
 linked_to : (ns : List Note) (to : ℕ) (paths : List Static) (n : Note) (path : Static) → Contains ns n → Contains paths path →
@@ -217,14 +170,14 @@ record LinkedAt (ns : List Note) (deep : Bool) (i : ℕ) (found : Option Flow) (
 
 read_from : (ns : List Note) (deep : Bool) (i : ℕ) (found : Option Flow) (edge : Edge) → Contains (links_at ns deep i found) edge →
     LinkedAt ns deep i found edge
-read_from ns deep i None edge there = absurd (none_in edge there)
+read_from ns deep i None edge there = absurd (contains_none edge there)
 read_from ns deep i (Some flow) edge there =
     let made = where_from (is_reached deep flow.mark) (links_met ns i flow.reads) edge there in
     record { flow = flow; is_flow = refl; reached = made.0; linked = linked_from ns i flow.reads edge made.1 }
 
 links_span : (ns : List Note) (nodes : List Flow) (deep : Bool) (found : Option Span) (edge : Edge) → Contains (links_in ns nodes deep found) edge →
     (span : Span) × (found ≡ Some span) × Contains (links_to ns nodes deep span.first (span.end - span.first)) edge
-links_span ns nodes deep None edge there = absurd (none_in edge there)
+links_span ns nodes deep None edge there = absurd (contains_none edge there)
 links_span ns nodes deep (Some span) edge there = (span, refl, there)
 
 -- ---- edges to nodes of all branches

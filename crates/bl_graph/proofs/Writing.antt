@@ -4,39 +4,8 @@ use Rattle.std.specs.Prelude.{Contains}
 use Rattle.std.proofs.lemmas.List.Elements.{Contains-append_cases}
 use Rattle.bl_tree.specs.declared.place.Place.{Place}
 use Rattle.bl_tree.specs.declared.static_path.Static.{Static}
-use Rattle.bl_graph_nodes.specs.Nodes.{
-  ActAt,
-  EnterAt,
-  ForkAt,
-  HeadAt,
-  Node,
-  StartAt,
-  TestAt,
-  arguments_of,
-  entry,
-  is_instant,
-  node_writes,
-}
-use Rattle.bl_graph_nodes.specs.Plain.{
-  Act,
-  Again,
-  Await,
-  Block,
-  Bodies,
-  Body,
-  Cobegin,
-  Done,
-  If,
-  Label,
-  Last,
-  Plain,
-  Repeat,
-  Run,
-  Then,
-  Until,
-  When,
-  While,
-}
+use Rattle.bl_graph_nodes.specs.Nodes.{ActAt, EnterAt, ForkAt, HeadAt, Node, StartAt, TestAt, arguments_of, entry, is_instant, node_writes}
+use Rattle.bl_graph_nodes.specs.Plain.{Act, Again, Await, Block, Bodies, Body, Cobegin, Done, If, Label, Last, Plain, Repeat, Run, Then, Until, When, While}
 use Rattle.bl_graph_nodes.specs.Writes.{surface_writes, surface_writes_in, surface_writes_in_each}
 use Rattle.bl_graph.specs.Edges.{EdgeAll, EdgeEach, Entry}
 use Rattle.bl_graph.specs.Laws.{WayThrough, WayToWriter, WriterIn, WritersAreReached}
@@ -44,7 +13,7 @@ use Rattle.bl_graph.specs.Walks.{Walk, on, stay}
 use Rattle.bl_graph.proofs.Passing.{later, passes}
 use Rattle.bl_graph.proofs.Walking.{walk_more, walk_on}
 
-none_in_nothing : (path : Static) → Contains [] path → ⊥
+pub none_in_nothing : (path : Static) → Contains [] path → ⊥
 none_in_nothing path h = let lt : h.0 < 0 = h.1 in omega arith
 
 where_contained : (test : Bool) (paths : List Static) (path : Static) → Contains (cond test paths []) path → (test ≡ true) × Contains paths path

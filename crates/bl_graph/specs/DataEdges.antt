@@ -2,25 +2,7 @@
 use Rattle.std.specs.Prelude.{◌≡◌, true, false, ◌⊎◌}
 use Rattle.bl_tree.specs.Static.{meets}
 use Rattle.bl_graph_nodes.specs.Nodes.{Node, node_reads, node_writes}
-use Rattle.bl_graph_nodes.specs.Plain.{
-  Act,
-  Again,
-  Await,
-  Block,
-  Bodies,
-  Body,
-  Cobegin,
-  Done,
-  If,
-  Last,
-  Plain,
-  Repeat,
-  Run,
-  Then,
-  Until,
-  When,
-  While,
-}
+use Rattle.bl_graph_nodes.specs.Plain.{Act, Again, Await, Block, Bodies, Body, Cobegin, Done, If, Last, Plain, Repeat, Run, Then, Until, When, While}
 use Rattle.bl_graph.specs.Edges.{In, InEach}
 
 -- of two nodes one is of the first kind and the other of the second

@@ -4,45 +4,10 @@ use Rattle.std.specs.Prelude.{◌≡◌, Bool, true, false, ◌⊎◌}
 use Rattle.bl_tree.specs.declared.place.Place.{Place}
 use Rattle.bl_tree.specs.declared.tree.Guard.{Guard}
 use Rattle.bl_tree.specs.declared.tree.Guard.TheVariants.{Abort, Reset}
-use Rattle.bl_graph_nodes.specs.Nodes.{
-  ActAt,
-  CheckAt,
-  DepthEndAt,
-  DepthJoinAt,
-  ForkAt,
-  HeadAt,
-  Node,
-  ResumeAt,
-  StartAt,
-  SurfaceEndAt,
-  SurfaceJoinAt,
-  TestAt,
-  are_instant,
-  arguments_of,
-  entry,
-  is_instant,
-}
-use Rattle.bl_graph_nodes.specs.Plain.{
-  Act,
-  Again,
-  Await,
-  Block,
-  Bodies,
-  Body,
-  Cobegin,
-  Done,
-  If,
-  Label,
-  Last,
-  Plain,
-  Repeat,
-  Run,
-  Then,
-  Until,
-  When,
-  While,
-  is_empty,
-}
+use Rattle.bl_graph_nodes.specs.Nodes.{ActAt, CheckAt, DepthEndAt, DepthJoinAt, ForkAt, HeadAt, Node, ResumeAt, StartAt, SurfaceEndAt, SurfaceJoinAt, TestAt}
+use Rattle.bl_graph_nodes.specs.Nodes.{are_instant, arguments_of, entry, is_instant}
+use Rattle.bl_graph_nodes.specs.Plain.{Act, Again, Await, Block, Bodies, Body, Cobegin, Done, If, Label, Last, Plain, Repeat, Run, Then, Until, When, While}
+use Rattle.bl_graph_nodes.specs.Plain.{is_empty}
 use Rattle.bl_graph.specs.Walks.{Reached}
 
 -- ---- where a block begins

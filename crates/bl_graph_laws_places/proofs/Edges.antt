@@ -5,48 +5,12 @@ use Rattle.bl_tree.specs.declared.tree.Guard.{Guard}
 use Rattle.bl_tree.specs.declared.tree.Guard.TheVariants.{Abort, Reset}
 use Rattle.bl_tree.specs.Static.{meets}
 use Rattle.bl_graph.specs.DataEdges.{Across, Beside, BesideAll, BesideEach, DataEdge, Touches}
-use Rattle.bl_graph.specs.Edges.{
-  BodyEnd,
-  Edge,
-  EdgeAll,
-  EdgeEach,
-  Entry,
-  Guarded,
-  In,
-  InEach,
-  Into,
-  Joins,
-  LoopEdge,
-  Out,
-  OutAll,
-  Resume,
-  ResumeAll,
-  ResumeEach,
-  SurfaceJoin,
-}
+use Rattle.bl_graph.specs.Edges.{BodyEnd, Edge, EdgeAll, EdgeEach, Entry, Guarded, In, InEach, Into, Joins, LoopEdge, Out, OutAll, Resume, ResumeAll}
+use Rattle.bl_graph.specs.Edges.{ResumeEach, SurfaceJoin}
 use Rattle.bl_graph.specs.Walks.{Reached, Walk, on, stay}
 use Rattle.bl_graph_nodes.specs.Nodes.{Node, are_instant, is_instant}
-use Rattle.bl_graph_nodes.specs.Plain.{
-  Act,
-  Again,
-  Await,
-  Block,
-  Bodies,
-  Body,
-  Cobegin,
-  Done,
-  If,
-  Label,
-  Last,
-  Plain,
-  Repeat,
-  Run,
-  Then,
-  Until,
-  When,
-  While,
-  is_empty,
-}
+use Rattle.bl_graph_nodes.specs.Plain.{Act, Again, Await, Block, Bodies, Body, Cobegin, Done, If, Label, Last, Plain, Repeat, Run, Then, Until, When, While}
+use Rattle.bl_graph_nodes.specs.Plain.{is_empty}
 use Rattle.bl_graph_laws_places.specs.Placed.{placed_block, placed_bodies, placed_node, placed_plain}
 use Rattle.bl_graph_laws_places.proofs.Nodes.{block_ends_stay, empty_stays, ends_stay, entry_moves, node_reads_stay, node_writes_stay}
 

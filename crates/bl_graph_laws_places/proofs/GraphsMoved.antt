@@ -1,22 +1,21 @@
 -- The tick graphs of a body whose places are mapped.
-use Rattle.std.proofs.Common.{◌≡◌, ℕ, true, false, List, map, refl, ap, ap₂, sym, subst, ◌∙◌}
-use Rattle.std.specs.Prelude.{◌↔◌, Contains, Some, slice_get}
+use Rattle.std.proofs.Common.{◌≡◌, ℕ, List, map, refl, ap, sym, subst, ◌∙◌}
+use Rattle.std.specs.Prelude.{◌↔◌, slice_get}
+use Rattle.bl_tree.proofs.Basics.{get_mapped}
 use Rattle.bl_tree.specs.declared.graph.Edge.{Edge}
 use Rattle.bl_tree.specs.declared.graph.Node.{Node as GraphNode}
 use Rattle.bl_tree.specs.declared.place.Place.{Place}
-use Rattle.bl_tree.specs.declared.tree.Stmt.{Stmt}
 use Rattle.bl_tree_laws_places.specs.Laws.{BringsBack}
-use Rattle.bl_tree_laws_places.specs.Placed.{placed_stmt}
-use Rattle.bl_tree_laws_places.proofs.Lists.{into_got, map-alike, map-back, map-twice}
+use Rattle.bl_tree_laws_places.proofs.Lists.{map-alike, map-twice}
 use Rattle.bl_graph.specs.DataEdges.{DataEdge}
 use Rattle.bl_graph.specs.Edges.{EdgeAll}
-use Rattle.bl_graph.specs.Graph.{EdgeBetween, IsTickGraph, edge_between, graph_node}
+use Rattle.bl_graph.specs.Graph.{EdgeBetween, IsTickGraph, graph_node}
 use Rattle.bl_graph_nodes.specs.Nodes.{Node, nodes_in}
 use Rattle.bl_graph_nodes.specs.Plain.{Block, plain_body}
-use Rattle.bl_graph_laws_places.specs.Laws.{IsMovedGraph, TickGraphsMove}
+use Rattle.bl_graph_laws_places.specs.Laws.{TickGraphsMove}
 use Rattle.bl_graph_laws_places.specs.Placed.{placed_block, placed_graph_node, placed_node, placed_nodes}
 use Rattle.bl_graph_laws_places.proofs.Edges.{block_edge_moves, data_edge_moves}
-use Rattle.bl_graph_laws_places.proofs.Nodes.{block_back, block_nodes_move, node_back, shown_moves}
+use Rattle.bl_graph_laws_places.proofs.Nodes.{block_back, block_nodes_move, shown_moves}
 use Rattle.bl_graph_laws_places.proofs.Plains.{plain_bodies_move}
 
 -- the nodes of a body as the graph shows them
@@ -37,9 +36,9 @@ module _ (Edges : Block → Node → Node → Type 0)
     first = placed_node f h.first;
     second = placed_node f h.second;
     is_first =
-        ap (λ nodes. slice_get nodes i) (block_nodes_move f body) ∙ into_got (placed_node f) (nodes_in body) i h.first h.is_first;
+        ap (λ nodes. slice_get nodes i) (block_nodes_move f body) ∙ get_mapped (placed_node f) (nodes_in body) i h.first h.is_first;
     is_second =
-        ap (λ nodes. slice_get nodes j) (block_nodes_move f body) ∙ into_got (placed_node f) (nodes_in body) j h.second h.is_second;
+        ap (λ nodes. slice_get nodes j) (block_nodes_move f body) ∙ get_mapped (placed_node f) (nodes_in body) j h.second h.is_second;
     edge = moves f body h.first h.second h.edge;
   }
 

@@ -10,65 +10,11 @@ use Rattle.bl_tree_laws_places.proofs.Effects.{arguments_stay, mentions_stay, re
 use Rattle.bl_tree_laws_places.proofs.Exprs.{expr_back}
 use Rattle.bl_tree_laws_places.proofs.Stmts.{stmt_place}
 use Rattle.bl_graph.specs.Graph.{graph_node}
-use Rattle.bl_graph_nodes.specs.Nodes.{
-  ActAt,
-  Arguments,
-  CheckAt,
-  DepthEndAt,
-  DepthJoinAt,
-  EnterAt,
-  ForkAt,
-  HeadAt,
-  Node,
-  PauseAt,
-  ResumeAt,
-  StartAt,
-  SurfaceEndAt,
-  SurfaceJoinAt,
-  TestAt,
-  are_instant,
-  entry,
-  is_instant,
-  kind_of_node,
-  node_reads,
-  node_writes,
-  nodes_in,
-  nodes_in_each,
-  nodes_of,
-  place_of_node,
-  some_instant,
-  some_strong,
-  strong_instant,
-  where_so,
-}
-use Rattle.bl_graph_nodes.specs.Plain.{
-  Act,
-  Again,
-  Await,
-  Block,
-  Bodies,
-  Body,
-  Cobegin,
-  Done,
-  If,
-  Last,
-  Plain,
-  Repeat,
-  Run,
-  Then,
-  Until,
-  When,
-  While,
-  is_empty,
-}
-use Rattle.bl_graph_laws_places.specs.Placed.{
-  placed_arguments,
-  placed_block,
-  placed_bodies,
-  placed_graph_node,
-  placed_node,
-  placed_plain,
-}
+use Rattle.bl_graph_nodes.specs.Nodes.{ActAt, CheckAt, DepthEndAt, DepthJoinAt, EnterAt, ForkAt, HeadAt, Node, PauseAt, ResumeAt, StartAt}
+use Rattle.bl_graph_nodes.specs.Nodes.{SurfaceEndAt, SurfaceJoinAt, TestAt, are_instant, entry, is_instant, kind_of_node, node_reads, node_writes, nodes_in}
+use Rattle.bl_graph_nodes.specs.Nodes.{nodes_in_each, nodes_of, some_instant, some_strong, strong_instant, where_so}
+use Rattle.bl_graph_nodes.specs.Plain.{Act, Again, Await, Block, Bodies, Body, Cobegin, Done, If, Last, Plain, Repeat, Run, Then, Until, When, While, is_empty}
+use Rattle.bl_graph_laws_places.specs.Placed.{placed_block, placed_bodies, placed_graph_node, placed_node, placed_plain}
 
 module _ (f : Place → Place) where
   -- ---- what a node shows
@@ -218,28 +164,6 @@ module _ (f : Place → Place) where
 -- ---- back
 
 module _ (f g : Place → Place) (back : BringsBack g f) where
-  arguments_back : (arguments : Arguments) → placed_arguments g (placed_arguments f arguments) ≡ arguments
-  arguments_back arguments = λ i. record {
-    target = target_back f g back arguments.target i;
-    inputs = exprs_back f g back arguments.inputs i;
-    outputs = paths_back f g back arguments.outputs i;
-  }
-
-  pub node_back : (n : Node) → placed_node g (placed_node f n) ≡ n
-  node_back (ActAt l s) = ap (ActAt l) (stmt_back f g back s)
-  node_back (TestAt l at e) = ap₂ (TestAt l) (back at) (expr_back f g back e)
-  node_back (PauseAt l at) = ap (PauseAt l) (back at)
-  node_back (EnterAt l at arguments) = ap₂ (EnterAt l) (back at) (arguments_back arguments)
-  node_back (ResumeAt l at arguments) = ap₂ (ResumeAt l) (back at) (arguments_back arguments)
-  node_back (HeadAt l at) = ap (HeadAt l) (back at)
-  node_back (StartAt l at) = ap (StartAt l) (back at)
-  node_back (CheckAt l at e) = ap₂ (CheckAt l) (back at) (expr_back f g back e)
-  node_back (SurfaceEndAt l at) = ap (SurfaceEndAt l) (back at)
-  node_back (DepthEndAt l at) = ap (DepthEndAt l) (back at)
-  node_back (ForkAt l at) = ap (ForkAt l) (back at)
-  node_back (SurfaceJoinAt l at) = ap (SurfaceJoinAt l) (back at)
-  node_back (DepthJoinAt l at) = ap (DepthJoinAt l) (back at)
-
   mutual
     plain_back : (s : Plain) → placed_plain g (placed_plain f s) ≡ s
     plain_back (Act l s) = ap (Act l) (stmt_back f g back s)

@@ -8,43 +8,9 @@ use Rattle.bl_tree.specs.declared.tree.StmtKind.TheOpen.{StmtKind-F}
 use Rattle.bl_tree_laws_places.specs.Placed.{placed_expr, placed_level, placed_stmt}
 use Rattle.bl_tree_laws_places.proofs.Exprs.{expr_out}
 use Rattle.bl_tree_laws_places.proofs.Stmts.{stmt_is, stmts_turn, turned}
-use Rattle.bl_graph_nodes.specs.Plain.{
-  Act,
-  Arm,
-  Block,
-  Bodies,
-  Body,
-  Branch,
-  Cobegin,
-  Done,
-  If,
-  Label,
-  Last,
-  Plain,
-  Position,
-  Repeat,
-  Then,
-  Until,
-  When,
-  While,
-  arm_plain,
-  block_at,
-  block_from,
-  bodies_from,
-  branch_plain,
-  else_at,
-  if_with,
-  inside,
-  kind_plain,
-  label_at,
-  never,
-  passed_one,
-  place_of_test,
-  plain_block,
-  plain_body,
-  plain_stmt,
-  stmt_plain,
-}
+use Rattle.bl_graph_nodes.specs.Plain.{Act, Arm, Block, Bodies, Body, Branch, Cobegin, Done, If, Label, Last, Plain, Position, Repeat, Then, Until, When, While}
+use Rattle.bl_graph_nodes.specs.Plain.{arm_plain, block_at, block_from, bodies_from, branch_plain, else_at, if_with, inside, kind_plain, label_at, never}
+use Rattle.bl_graph_nodes.specs.Plain.{passed_one, place_of_test, plain_block, plain_body, plain_stmt, stmt_plain}
 use Rattle.bl_graph_laws_places.specs.Laws.{PlainBodiesMove}
 use Rattle.bl_graph_laws_places.specs.Placed.{placed_block, placed_bodies, placed_plain}
 

@@ -1,30 +1,5 @@
 -- A statement has no node twice: its own nodes differ in their kinds, and all others in their labels.
-use Rattle.std.proofs.Common.{
-  ◌≡◌,
-  ℕ,
-  zero,
-  suc,
-  ◌≤◌,
-  Bool,
-  true,
-  false,
-  ◌⊎◌,
-  inl,
-  inr,
-  List,
-  [],
-  ◌∷◌,
-  ◌++◌,
-  map,
-  Some,
-  None,
-  refl,
-  ap,
-  sym,
-  ◌∙◌,
-  subst,
-  arith,
-}
+use Rattle.std.proofs.Common.{◌≡◌, ℕ, zero, suc, ◌≤◌, Bool, true, false, ◌⊎◌, inl, inr, List, [], ◌∷◌, ◌++◌, map, Some, None, refl, ap, sym, ◌∙◌, subst, arith}
 use Rattle.std.specs.Prelude.{slice_get, ⊤}
 use Rattle.std.proofs.lemmas.List.Elements.{All-head, All-tail}
 use Rattle.bl_tree.specs.declared.place.Place.{Place}
@@ -36,43 +11,10 @@ use Rattle.bl_tree.specs.declared.tree.Stmt.{Stmt, fold-roll-Stmt}
 use Rattle.bl_tree.specs.declared.tree.StmtKind.{fold-roll-StmtKind}
 use Rattle.bl_tree.specs.declared.tree.StmtKind.TheOpen.{StmtKind-F}
 use Rattle.bl_tree.proofs.StmtInduction.{Cases, Each, EachArm, EachBranch, induct, stmt}
-use Rattle.bl_graph_nodes.specs.Nodes.{
-  CheckAt,
-  DepthEndAt,
-  DepthJoinAt,
-  ForkAt,
-  HeadAt,
-  Node,
-  StartAt,
-  SurfaceEndAt,
-  SurfaceJoinAt,
-  TestAt,
-  are_instant,
-  is_instant,
-  label_of,
-  nodes_in,
-  nodes_in_each,
-  nodes_of,
-  where_so,
-}
-use Rattle.bl_graph_nodes.specs.Plain.{
-  Block,
-  Bodies,
-  Cobegin,
-  Label,
-  Plain,
-  Position,
-  block_from,
-  bodies_from,
-  else_at,
-  inside,
-  label_at,
-  never,
-  passed_one,
-  place_of_test,
-  plain_block,
-  plain_stmt,
-}
+use Rattle.bl_graph_nodes.specs.Nodes.{CheckAt, DepthEndAt, DepthJoinAt, ForkAt, HeadAt, Node, StartAt, SurfaceEndAt, SurfaceJoinAt, TestAt, are_instant}
+use Rattle.bl_graph_nodes.specs.Nodes.{is_instant, label_of, nodes_in, nodes_in_each, nodes_of, where_so}
+use Rattle.bl_graph_nodes.specs.Plain.{Block, Bodies, Cobegin, Label, Plain, Position, block_from, bodies_from, else_at, inside, label_at, never, passed_one}
+use Rattle.bl_graph_nodes.specs.Plain.{place_of_test, plain_block, plain_stmt}
 use Rattle.bl_graph_nodes.specs.Laws.{Begins, Below, EachOnce, NodesDiffer, plain_arm, plain_branch}
 use Rattle.bl_graph_nodes.proofs.Equations.{plain_statements}
 use Rattle.bl_graph_nodes.proofs.Labels.{low, one_on, positions_part, tail_same, through}
@@ -111,10 +53,10 @@ has_where : (test : Bool) (x : Node) (xs : List Node) (n : Node) → Has (where_
 has_where true x xs n h = h
 has_where false x xs n h = inr h
 
-none_is_some : (n : Node) → None ≡ Some n → ⊥
+pub none_is_some : (n : Node) → None ≡ Some n → ⊥
 none_is_some n is = cc
 
-some_same : (a b : Node) → Some a ≡ Some b → a ≡ b
+pub some_same : (a b : Node) → Some a ≡ Some b → a ≡ b
 some_same a b is = cc
 
 has_at : (xs : List Node) (i : ℕ) (n : Node) → slice_get xs i ≡ Some n → Has xs n
@@ -136,11 +78,11 @@ below_has at [] n below h = elim h [ ]
 below_has at (x ∷ xs) n below (inl e) = subst (λ y. Begins at (label_of y).position) (sym e) below.0
 below_has at (x ∷ xs) n below (inr h) = below_has at xs n below.1 h
 
-nil_is_more : (k : ℕ) (xs : List ℕ) → [] ≡ k ∷ xs → ⊥
+pub nil_is_more : (k : ℕ) (xs : List ℕ) → [] ≡ k ∷ xs → ⊥
 nil_is_more k xs is = cc
 
 -- a position doesn't begin with one that is longer by a number
-is_no_further : (xs : List ℕ) (k : ℕ) (rest : List ℕ) → xs ≡ (xs ++ k ∷ []) ++ rest → ⊥
+pub is_no_further : (xs : List ℕ) (k : ℕ) (rest : List ℕ) → xs ≡ (xs ++ k ∷ []) ++ rest → ⊥
 is_no_further [] k rest is = nil_is_more k rest is
 is_no_further (x ∷ xs) k rest is = is_no_further xs k rest (tail_same x x xs ((xs ++ k ∷ []) ++ rest) is)
 
@@ -286,7 +228,7 @@ of_plain one other is differ = subst (λ s. Differ (nodes_of s)) (sym is) differ
 before_body : (l : Label) (own : Node) (body : List Stmt) → label_of own ≡ l → Has (nodes_in (plain_block body (inside l 0))) own → ⊥
 before_body l own body labelled h = own_apart l 0 own own labelled refl (inner_begins body l 0 own h)
 
-blocks_apart : (other : List Stmt) (l : Label) (n : Node) → Begins (inside l 0) (label_of n).position → Begins (inside l 1) (label_of n).position → ⊥
+pub blocks_apart : (other : List Stmt) (l : Label) (n : Node) → Begins (inside l 0) (label_of n).position → Begins (inside l 1) (label_of n).position → ⊥
 blocks_apart other l n one two = past_apart l.position 0 n one (record { number = 1; past = omega arith; begins = two })
 
 branching_differs : (place : Place) (arms : List Arm) (other : List Stmt) → EachArm Alone arms → Each Alone other →

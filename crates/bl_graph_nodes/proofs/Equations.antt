@@ -5,24 +5,8 @@ use Rattle.bl_tree.specs.declared.tree.Branch.{Branch, fold-Branch, fold_out-Bra
 use Rattle.bl_tree.specs.declared.tree.Stmt.{Stmt, fold-roll-Stmt, out-Stmt, roll-Stmt, roll-out-Stmt}
 use Rattle.bl_tree.specs.declared.tree.StmtKind.{fold-roll-StmtKind, out-StmtKind, roll-out-StmtKind}
 use Rattle.bl_graph_nodes.specs.Laws.{PlainStatements, plain_arm, plain_branch, stmt}
-use Rattle.bl_graph_nodes.specs.Plain.{
-  Cobegin,
-  If,
-  Arm as PlainArm,
-  Branch as PlainBranch,
-  arm_plain,
-  bodies_from,
-  branch_plain,
-  else_at,
-  inside,
-  kind_plain,
-  label_at,
-  passed_one,
-  plain_block,
-  stmt_plain,
-  Position,
-  Plain,
-}
+use Rattle.bl_graph_nodes.specs.Plain.{Cobegin, If, Arm as PlainArm, Branch as PlainBranch, arm_plain, bodies_from, branch_plain, else_at, inside, kind_plain}
+use Rattle.bl_graph_nodes.specs.Plain.{label_at, passed_one, plain_block, stmt_plain, Position, Plain}
 
 abbrev folded_arm : Arm → PlainArm
 folded_arm = fold-Arm _ PlainArm PlainBranch (Position → Plain) kind_plain arm_plain branch_plain stmt_plain

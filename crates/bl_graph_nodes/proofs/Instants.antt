@@ -1,57 +1,18 @@
 -- A plain statement may end in the tick in which it begins exactly where its statement may.
-use Rattle.std.proofs.Common.{
-  ◌≡◌,
-  ℕ,
-  suc,
-  Bool,
-  true,
-  false,
-  not,
-  ◌&&◌,
-  ◌||◌,
-  cond,
-  List,
-  [],
-  ◌∷◌,
-  ◌++◌,
-  map,
-  refl,
-  ap,
-  sym,
-  ◌∙◌,
-}
+use Rattle.std.proofs.Common.{◌≡◌, ℕ, suc, Bool, true, false, not, ◌&&◌, ◌||◌, cond, List, [], ◌∷◌, ◌++◌, map, refl, ap, sym, ◌∙◌}
 use Rattle.std.proofs.lemmas.List.Elements.{All-head, All-tail}
+use Rattle.bl_tree.proofs.Basics.{and_true, or_assoc}
 use Rattle.bl_tree.specs.declared.place.Place.{Place}
 use Rattle.bl_tree.specs.declared.tree.Arm.{Arm, out-Arm, fold-Arm, fold_out-Arm}
 use Rattle.bl_tree.specs.declared.tree.Branch.{Branch, out-Branch, fold-Branch, fold_out-Branch}
 use Rattle.bl_tree.specs.declared.tree.Stmt.{Stmt, fold-roll-Stmt}
 use Rattle.bl_tree.specs.declared.tree.StmtKind.{fold-roll-StmtKind}
 use Rattle.bl_tree.specs.declared.tree.StmtKind.TheOpen.{StmtKind-F}
-use Rattle.bl_tree.specs.Instant.{
-  BranchInstant,
-  arm_instant,
-  branch_ends,
-  branches_instant,
-  instant,
-  is_instant_block,
-  kind_instant,
-  stmt_instant,
-}
+use Rattle.bl_tree.specs.Instant.{BranchInstant, arm_instant, branch_ends, branches_instant, instant, is_instant_block, kind_instant, stmt_instant}
 use Rattle.bl_tree.specs.Reduce.{all_of, any_of}
 use Rattle.bl_tree.proofs.StmtInduction.{Cases, Each, EachArm, EachBranch, induct, stmt}
 use Rattle.bl_graph_nodes.specs.Nodes.{are_instant, is_instant, some_instant, some_strong, strong_instant}
-use Rattle.bl_graph_nodes.specs.Plain.{
-  Label,
-  Position,
-  block_from,
-  bodies_from,
-  else_at,
-  inside,
-  label_at,
-  passed_one,
-  plain_block,
-  plain_stmt,
-}
+use Rattle.bl_graph_nodes.specs.Plain.{Label, Position, block_from, bodies_from, else_at, inside, label_at, passed_one, plain_block, plain_stmt}
 use Rattle.bl_graph_nodes.specs.Laws.{plain_arm, plain_branch}
 use Rattle.bl_graph_nodes.proofs.Equations.{plain_statements}
 
@@ -70,19 +31,7 @@ block_same (s ∷ rest) k block each =
 abbrev body_instant : Arm → Bool
 body_instant arm = all_of (map instant (out-Arm arm).body)
 
-or_apart : (a b c : Bool) → ((a || b) || c) ≡ (a || (b || c))
-or_apart true b c = refl
-or_apart false b c = refl
-
-or_none : (a : Bool) → (a || false) ≡ a
-or_none true = refl
-or_none false = refl
-
-and_all : (a : Bool) → (a && true) ≡ a
-and_all true = refl
-and_all false = refl
-
-or_same : (a : Bool) → (a || a) ≡ a
+pub or_same : (a : Bool) → (a || a) ≡ a
 or_same true = refl
 or_same false = refl
 
@@ -90,11 +39,11 @@ arms_same : (at : Label) (arms : List Arm) (other : List Stmt) → EachArm Same 
     are_instant (else_at at (map plain_arm arms) (plain_block other)) ≡ (any_of (map body_instant arms) || all_of (map instant other))
 arms_same at [] other each others = block_same other 0 (inside at at.passed) others
 arms_same at (arm ∷ rest) other each others =
-    and_all _
+    and_true _
     ∙ ap (λ first. first || are_instant (else_at (passed_one at) (map plain_arm rest) (plain_block other)))
     (block_same (out-Arm arm).body 0 (inside at at.passed) (All-head (λ arm. Each Same (out-Arm arm).body) arm rest each))
     ∙ ap (λ last. body_instant arm || last) (arms_same (passed_one at) rest other (All-tail (λ arm. Each Same (out-Arm arm).body) arm rest each) others)
-    ∙ sym (or_apart (body_instant arm) (any_of (map body_instant rest)) (all_of (map instant other)))
+    ∙ sym (or_assoc (body_instant arm) (any_of (map body_instant rest)) (all_of (map instant other)))
 
 abbrev folded_arm : Arm → Bool
 folded_arm = fold-Arm Bool Bool BranchInstant Bool kind_instant arm_instant branch_ends stmt_instant
@@ -162,7 +111,7 @@ branching_same place (arm ∷ rest) other each others at =
     (block_same (out-Arm arm).body 0 (inside (label_at at) 0) (All-head (λ arm. Each Same (out-Arm arm).body) arm rest each))
     ∙ ap (λ last. body_instant arm || last) (arms_same (passed_one (label_at at)) rest other
     (All-tail (λ arm. Each Same (out-Arm arm).body) arm rest each) others)
-    ∙ sym (or_apart (body_instant arm) (any_of (map body_instant rest)) (all_of (map instant other)))
+    ∙ sym (or_assoc (body_instant arm) (any_of (map body_instant rest)) (all_of (map instant other)))
     ∙ ap (λ all. any_of all || all_of (map instant other)) (sym (arms_are (arm ∷ rest)))
     ∙ sym (rw (fold-roll-Stmt, fold-roll-StmtKind) refl)
 

@@ -10,37 +10,10 @@ use Rattle.bl_tree.specs.declared.tree.Stmt.{Stmt, fold-roll-Stmt}
 use Rattle.bl_tree.specs.declared.tree.StmtKind.{fold-roll-StmtKind}
 use Rattle.bl_tree.specs.declared.tree.StmtKind.TheOpen.{StmtKind-F}
 use Rattle.bl_tree.proofs.StmtInduction.{Cases, Each, EachArm, EachBranch, induct, stmt}
-use Rattle.bl_graph_nodes.specs.Nodes.{
-  Node,
-  CheckAt,
-  DepthEndAt,
-  DepthJoinAt,
-  SurfaceEndAt,
-  SurfaceJoinAt,
-  are_instant,
-  is_instant,
-  label_of,
-  nodes_in,
-  nodes_in_each,
-  nodes_of,
-  where_so,
-}
-use Rattle.bl_graph_nodes.specs.Plain.{
-  Block,
-  Bodies,
-  Cobegin,
-  Label,
-  Plain,
-  Position,
-  block_from,
-  bodies_from,
-  else_at,
-  inside,
-  label_at,
-  passed_one,
-  plain_block,
-  plain_stmt,
-}
+use Rattle.bl_graph_nodes.specs.Nodes.{Node, CheckAt, DepthEndAt, DepthJoinAt, SurfaceEndAt, SurfaceJoinAt, are_instant, is_instant, label_of, nodes_in}
+use Rattle.bl_graph_nodes.specs.Nodes.{nodes_in_each, nodes_of, where_so}
+use Rattle.bl_graph_nodes.specs.Plain.{Block, Bodies, Cobegin, Label, Plain, Position, block_from, bodies_from, else_at, inside, label_at, passed_one}
+use Rattle.bl_graph_nodes.specs.Plain.{plain_block, plain_stmt}
 use Rattle.bl_graph_nodes.specs.Laws.{Begins, Below, LabelsAreBelow, PositionsPart, plain_arm, plain_branch}
 use Rattle.bl_graph_nodes.proofs.Equations.{plain_statements}
 

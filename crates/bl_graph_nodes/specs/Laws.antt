@@ -11,27 +11,8 @@ use Rattle.bl_tree.specs.declared.tree.StmtKind.{StmtKind, out-StmtKind, roll-St
 use Rattle.bl_tree.specs.declared.tree.StmtKind.TheOpen.{StmtKind-F}
 use Rattle.bl_tree.specs.Instant.{instant, is_instant_block}
 use Rattle.bl_graph_nodes.specs.Nodes.{Node, are_instant, is_instant, label_of, nodes_in, nodes_of}
-use Rattle.bl_graph_nodes.specs.Plain.{
-  Act,
-  Await,
-  Run,
-  If,
-  Cobegin,
-  When,
-  Repeat,
-  Until,
-  While,
-  Arm as PlainArm,
-  Branch as PlainBranch,
-  Position,
-  bodies_from,
-  else_at,
-  inside,
-  label_at,
-  passed_one,
-  plain_stmt,
-  plain_block,
-}
+use Rattle.bl_graph_nodes.specs.Plain.{Act, Await, Run, If, Cobegin, When, Repeat, Until, While, Arm as PlainArm, Branch as PlainBranch, Position, bodies_from}
+use Rattle.bl_graph_nodes.specs.Plain.{else_at, inside, label_at, passed_one, plain_stmt, plain_block}
 
 -- a statement by its place and its kind's parts
 abbrev pub stmt : Place → StmtKind-F StmtKind Arm Branch Stmt → Stmt

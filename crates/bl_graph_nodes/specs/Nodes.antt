@@ -10,26 +10,7 @@ use Rattle.bl_tree.specs.declared.tree.Path.{Path}
 use Rattle.bl_tree.specs.declared.tree.Stmt.{Stmt, out-Stmt}
 use Rattle.bl_tree.specs.Effects.{argument_mentions, reads, target_mentions, target_static, writes}
 use Rattle.bl_tree.specs.Static.{mentions, set_of, static_of}
-use Rattle.bl_graph_nodes.specs.Plain.{
-  Block,
-  Bodies,
-  Label,
-  Plain,
-  Act,
-  Again,
-  Await,
-  Body,
-  Cobegin,
-  Done,
-  If,
-  Last,
-  Repeat,
-  Run,
-  Then,
-  Until,
-  When,
-  While,
-}
+use Rattle.bl_graph_nodes.specs.Plain.{Block, Bodies, Label, Plain, Act, Again, Await, Body, Cobegin, Done, If, Last, Repeat, Run, Then, Until, When, While}
 
 -- the arguments of a `run`: its target, its inputs and its outputs
 pub record Arguments : Type 0 where

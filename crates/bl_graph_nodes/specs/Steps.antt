@@ -1,16 +1,7 @@
 -- The labels of steps: which node acts in a step of a tick, through all calls from the entry's body down.
-use Rattle.std.specs.Prelude.{ℕ, Bool, true, false, List, [], ◌∷◌}
+use Rattle.std.specs.Prelude.{ℕ, Bool, true, false, [], ◌∷◌}
 use Rattle.bl_tree.specs.declared.place.Place.{Place}
-use Rattle.bl_graph_nodes.specs.Nodes.{
-  Arguments,
-  DepthEndAt,
-  DepthJoinAt,
-  EnterAt,
-  Node,
-  ResumeAt,
-  SurfaceEndAt,
-  SurfaceJoinAt,
-}
+use Rattle.bl_graph_nodes.specs.Nodes.{Arguments, DepthEndAt, DepthJoinAt, EnterAt, Node, ResumeAt, SurfaceEndAt, SurfaceJoinAt}
 use Rattle.bl_graph_nodes.specs.Plain.{Label}
 
 -- ---- the node of what ends or goes on, by whether it stood when the tick began
@@ -52,9 +43,3 @@ abbrev pub leaf_of : StepLabel → Node
 leaf_of (Here n) = n
 leaf_of (Gives n) = n
 leaf_of (Inside n unit step) = leaf_of step
-
--- the numbers of a step's nodes, from the outermost inwards, where each unit's nodes have numbers
-abbrev pub ranks_of : (ℕ → Node → ℕ) → ℕ → StepLabel → List ℕ
-ranks_of rank unit (Here n) = rank unit n ∷ []
-ranks_of rank unit (Gives n) = rank unit n ∷ []
-ranks_of rank unit (Inside n callee step) = rank unit n ∷ ranks_of rank callee step

@@ -2,25 +2,7 @@
 use Rattle.std.specs.Prelude.{List, [], ◌++◌, if◌then◌else◌}
 use Rattle.bl_tree.specs.declared.static_path.Static.{Static}
 use Rattle.bl_graph_nodes.specs.Nodes.{ActAt, EnterAt, arguments_of, is_instant, node_writes}
-use Rattle.bl_graph_nodes.specs.Plain.{
-  Act,
-  Again,
-  Await,
-  Block,
-  Bodies,
-  Body,
-  Cobegin,
-  Done,
-  If,
-  Last,
-  Plain,
-  Repeat,
-  Run,
-  Then,
-  Until,
-  When,
-  While,
-}
+use Rattle.bl_graph_nodes.specs.Plain.{Act, Again, Await, Block, Bodies, Body, Cobegin, Done, If, Last, Plain, Repeat, Run, Then, Until, When, While}
 
 abbrev mutual
   -- what a statement that begins may write before it pauses. A `run` writes its outputs, and its target where it ends alone

@@ -1,27 +1,8 @@
 -- How what several calls say of the bytes held goes together.
-use Rattle.std.proofs.Common.{
-  ◌≡◌,
-  ℕ,
-  ◌+◌,
-  ◌≤◌,
-  ◌<◌,
-  List,
-  [],
-  ◌++◌,
-  length,
-  take,
-  drop,
-  Option,
-  Some,
-  None,
-  ap,
-  sym,
-  ◌∙◌,
-  append_assoc,
-}
+use Rattle.std.proofs.Common.{◌≡◌, ℕ, ◌+◌, ◌≤◌, ◌<◌, List, [], ◌++◌, take, drop, Option, Some, None, ap, sym, ◌∙◌, append_assoc}
 use Rattle.std.proofs.Math.Seq.{take-add}
 use Rattle.std.proofs.lemmas.List.{append-nil, take-take}
-use Rattle.bl_io.specs.Held.{Appends, AppendsPart}
+use Rattle.bl_io.specs.Held.{Appends}
 
 pub Appends-nothing : (a : Option (List ℕ)) → Appends a [] a
 Appends-nothing None = tt
@@ -39,8 +20,3 @@ pub Appends-more : (a b c : Option (List ℕ)) (bytes : List ℕ) (i m n : ℕ) 
 Appends-more a b c bytes i m n h k within =
     let more : Appends b (take n (drop i bytes)) c = rw take-take at k in
     rw (take-add i n bytes) (Appends-trans a b c (take i bytes) (take n (drop i bytes)) h more)
-
-pub AppendsPart-front : (a b c : Option (List ℕ)) (bytes : List ℕ) (i : ℕ) → Appends a (take i bytes) b → i < length bytes → c ≡ b →
-    AppendsPart a bytes c
-AppendsPart-front None b c bytes i h within same = tt
-AppendsPart-front (Some old) b c bytes i h within same = (i, within, same ∙ h)

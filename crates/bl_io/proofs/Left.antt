@@ -1,31 +1,10 @@
 -- How what several calls say of the bytes left goes together.
-use Rattle.std.proofs.Common.{
-  ◌≡◌,
-  ℕ,
-  ◌+◌,
-  ◌≤◌,
-  List,
-  [],
-  ◌++◌,
-  length,
-  take,
-  drop,
-  Option,
-  Some,
-  None,
-  IfSome,
-  refl,
-  sym,
-  ◌∙◌,
-  ap,
-  arith,
-  length-append,
-  length-drop,
-}
+use Rattle.std.proofs.Common.{◌≡◌, ℕ, ◌+◌, ◌≤◌, List, [], ◌++◌, length, take, drop, Option, Some, None, IfSome, refl, sym, ◌∙◌, ap, arith, length-append}
+use Rattle.std.proofs.Common.{length-drop}
 use Rattle.std.proofs.Math.ListN.{drop_of_length-le}
 use Rattle.std.proofs.Math.Seq.{take-add}
 use Rattle.std.proofs.lemmas.List.{drop-drop, length-take-le, take_all}
-use Rattle.bl_io.specs.Left.{IsNext, HandsOver, IsKept, KeepsOthers, GivesUpTo, StandsFurther}
+use Rattle.bl_io.specs.Left.{IsNext, HandsOver, IsKept, KeepsOthers, GivesUpTo}
 
 -- what was got is the front of what was left at first, and the rest is left
 pub record IsFront (bytes got : List ℕ) (after : Option (List ℕ)) : Type 0 where
@@ -37,23 +16,12 @@ pub record IsFront (bytes got : List ℕ) (after : Option (List ℕ)) : Type 0 w
 abbrev pub HasRead : Option (List ℕ) → List ℕ → Option (List ℕ) → Type 0
 HasRead before got after = IfSome before (λ bytes. IsFront bytes got after)
 
-pub IsKept-refl : (a : Option (List ℕ)) → IsKept a a
-IsKept-refl None = tt
-IsKept-refl (Some bytes) = refl
-
 pub IsKept-trans : (a b c : Option (List ℕ)) → IsKept a b → IsKept b c → IsKept a c
 IsKept-trans None b c h k = tt
 IsKept-trans (Some bytes) b c h k = rw h at k
 
-pub KeepsOthers-refl : (name : List ℕ) (a : List ℕ → Option (List ℕ)) → KeepsOthers name a a
-KeepsOthers-refl name a = λ other _. IsKept-refl (a other)
-
 pub KeepsOthers-trans : (name : List ℕ) (a b c : List ℕ → Option (List ℕ)) → KeepsOthers name a b → KeepsOthers name b c → KeepsOthers name a c
 KeepsOthers-trans name a b c h k = λ other apart. IsKept-trans (a other) (b other) (c other) (h other apart) (k other apart)
-
-pub HasRead-nothing : (before : Option (List ℕ)) → HasRead before [] before
-HasRead-nothing None = tt
-HasRead-nothing (Some bytes) = record { within = omega arith; front = refl; rest = refl }
 
 pub front_more : (bytes got room : List ℕ) (n : ℕ) (mid after : Option (List ℕ)) → IsFront bytes got mid →
     IsNext (drop (length got) bytes) n room after → n ≤ length room → IsFront bytes (got ++ take n room) after
@@ -89,8 +57,3 @@ GivesUpTo-full None mid got limit so full within = tt
 GivesUpTo-full (Some bytes) mid got limit so full within =
     let same : length got ≡ limit = omega arith in
     record { front = rw (← same) so.front; rest = rw (← same) so.rest }
-
-pub StandsFurther-read : (before mid after : Option (List ℕ)) (got : List ℕ) (limit : ℕ) → HasRead before got mid → after ≡ mid →
-    length got ≤ limit → StandsFurther limit before after
-StandsFurther-read None mid after got limit so same within = tt
-StandsFurther-read (Some bytes) mid after got limit so same within = (length got, within, same ∙ so.rest)

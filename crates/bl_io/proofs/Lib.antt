@@ -1,4 +1,3 @@
-pub mod Count
 pub mod Handing
 pub mod Held
 pub mod Left

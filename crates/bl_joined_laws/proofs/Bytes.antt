@@ -1,42 +1,10 @@
 -- The bytes of a text that stands in another, with a line feed behind it.
-use Rattle.std.proofs.Common.{
-  ◌≡◌,
-  ℕ,
-  ◌+◌,
-  ◌-◌,
-  ◌<◌,
-  ◌≤◌,
-  List,
-  [],
-  ◌∷◌,
-  ◌++◌,
-  ◌⊎◌,
-  inl,
-  inr,
-  ⊎_elim,
-  length,
-  get_or,
-  take,
-  drop,
-  refl,
-  ap,
-  sym,
-  ◌∙◌,
-  subst,
-  arith,
-  append_assoc,
-  length-append,
-  length-drop,
-}
+use Rattle.std.proofs.Common.{◌≡◌, ℕ, ◌+◌, ◌-◌, ◌<◌, ◌≤◌, List, [], ◌∷◌, ◌++◌, ◌⊎◌, ⊎_elim, length, get_or, take, drop, ap, ◌∙◌}
+use Rattle.std.proofs.Common.{arith, length-append, length-drop}
 use Rattle.std.specs.Prelude.{slice_range}
-use Rattle.std.proofs.Math.ListN.{get_or-append, get_or-eq_default}
+use Rattle.std.proofs.Math.ListN.{get_or-append}
 use Rattle.std.proofs.Math.Seq.{get_or-append_seam, drop-append-add, take-append-add}
 use Rattle.std.proofs.lemmas.List.{drop-append-le, get_or-append-add, take-append-le}
-use Rattle.std.proofs.str.Laws.{order}
-
--- a byte other than 0 stands inside the text
-pub byte_inside : (text : List ℕ) (at byte : ℕ) → get_or text at 0 ≡ byte → 0 < byte → at < length text
-byte_inside text at byte is some = ⊎_elim (λ less. less) (λ more. let past = get_or-eq_default text 0 more in absurd (omega arith)) (order at (length text))
 
 -- the whole is what stands before the text, the text, a line feed and what follows it
 module _ (whole before text after : List ℕ) (is : whole ≡ before ++ (text ++ 10 ∷ after)) where

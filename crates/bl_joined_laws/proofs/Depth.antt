@@ -1,46 +1,18 @@
 -- The joined tokens are nowhere too deep where those of each text aren't: a text closes its blocks, and an item begins a run.
-use Rattle.std.proofs.Common.{
-  ◌≡◌,
-  ℕ,
-  zero,
-  suc,
-  ◌+◌,
-  ◌-◌,
-  ◌<◌,
-  ◌≤◌,
-  Bool,
-  true,
-  false,
-  not,
-  List,
-  [],
-  ◌∷◌,
-  ◌++◌,
-  ◌⊎◌,
-  inl,
-  inr,
-  ⊎_elim,
-  length,
-  map,
-  take,
-  refl,
-  ap,
-  sym,
-  ◌∙◌,
-  subst,
-  arith,
-}
+use Rattle.std.proofs.Common.{◌≡◌, ℕ, zero, suc, ◌+◌, ◌-◌, ◌<◌, ◌≤◌, Bool, true, not, List, [], ◌∷◌, ◌++◌, ◌⊎◌, inl, inr, ⊎_elim, length, map, take}
+use Rattle.std.proofs.Common.{refl, ap, sym, ◌∙◌, subst, arith}
 use Rattle.std.proofs.Math.Seq.{take-append-add}
 use Rattle.std.proofs.lemmas.List.{length-map, take-append-le}
 use Rattle.std.proofs.lemmas.List.Elements.{All-head, All-tail}
 use Rattle.std.proofs.str.Laws.{order}
-use Rattle.std.specs.Prelude.{All, Option, Some, None, slice_get, ⊤}
+use Rattle.std.specs.Prelude.{All, Option, Some, None, ⊤}
+use Rattle.bl_tree.specs.declared.token.Keyword.{Keyword}
 use Rattle.bl_tree.specs.declared.token.Token.{Token}
 use Rattle.bl_tree.specs.declared.token.TokenKind.{TokenKind}
 use Rattle.bl_tree.specs.declared.token.TokenKind.TheVariants.{Sign, Word}
 use Rattle.bl_tree.specs.declared.tree.UnitKind.{UnitKind}
 use Rattle.bl_lex.specs.declared.sign.TheConstants.{AT}
-use Rattle.bl_lex.specs.declared.word.TheConstants.{ACTIVITY, CONST, FUNCTION, STRUCT}
+use Rattle.bl_tree.specs.declared.token.Keyword.TheVariants as keyword
 use Rattle.bl_parse_syntax.specs.Depth.{begins_run, blocks_after, is_inner_word, open_after, run_after, run_with}
 use Rattle.bl_parse_syntax.specs.inner.Depth.{last_kind}
 use Rattle.bl_parse_syntax.specs.Rules.{Passes, PassesDepth}
@@ -52,6 +24,7 @@ use Rattle.bl_joined.specs.Texts.{joined_text, joined_tokens, line_feeds, moved_
 use Rattle.bl_joined_laws.specs.Items.{IsRead, ReadText, all_lexed, joined_items}
 use Rattle.bl_joined_laws.proofs.Reach.{items, opens}
 use Rattle.bl_joined_laws.proofs.Trees.{joined_spells}
+use Rattle.bl_parse_laws.proofs.Counts.{at_most}
 
 -- ---- lists of tokens, one after another
 
@@ -161,7 +134,7 @@ module _ (n lines : ℕ) (tokens rest : List Token) (sound : Sound tokens) (shal
 
 -- ---- a text's own tokens
 
-begins_word : (k : ℕ) → not (is_inner_word k) ≡ true → (before : Option TokenKind) → begins_run before (Word k) ≡ true
+begins_word : (k : Keyword) → not (is_inner_word k) ≡ true → (before : Option TokenKind) → begins_run before (Word k) ≡ true
 begins_word k is None = is
 begins_word k is (Some p) = is
 
@@ -170,8 +143,8 @@ begins_mark None = refl
 begins_mark (Some p) = refl
 
 unit_word : {kind : TokenKind} {of : UnitKind} → IsUnit kind of → (before : Option TokenKind) → begins_run before kind ≡ true
-unit_word IsUnit.function before = begins_word FUNCTION refl before
-unit_word IsUnit.activity before = begins_word ACTIVITY refl before
+unit_word IsUnit.function before = begins_word keyword.Function refl before
+unit_word IsUnit.activity before = begins_word keyword.Activity refl before
 
 -- the token at a position begins a run
 record BeginsAt (tokens : List Token) (k : ℕ) : Type 0 where
@@ -185,8 +158,8 @@ marked (SpellsMark.written on at opening n closing) b = record { kind = _; stand
 
 module _ {text : List ℕ} {tokens : List Token} where
   item_begins : {one : RawItem} {from to : ℕ} → SpellsItem text tokens one from to → BeginsAt tokens from
-  item_begins (SpellsItem.structure s is) = record { kind = _; stands = s.word.stands; begins = begins_word STRUCT refl }
-  item_begins (SpellsItem.constant c is) = record { kind = _; stands = c.word.stands; begins = begins_word CONST refl }
+  item_begins (SpellsItem.structure s is) = record { kind = _; stands = s.word.stands; begins = begins_word keyword.Struct refl }
+  item_begins (SpellsItem.constant c is) = record { kind = _; stands = c.word.stands; begins = begins_word keyword.Const refl }
   item_begins (SpellsItem.unit u is) = marked u.mark (record { kind = _; stands = u.kind.token.stands; begins = unit_word u.kind.is })
 
   items_begin : {list : List RawItem} {from to : ℕ} → SpellsItems text tokens list from to → from < to → BeginsAt tokens from
@@ -204,9 +177,6 @@ at_first (x ∷ tokens) b = let first = b (omega arith) in
   where
     kind_is : (kind : TokenKind) → Some x.kind ≡ Some kind → x.kind ≡ kind
     kind_is kind e = cc
-
-at_most : (n limit : ℕ) → ¬ (limit < n) → n ≤ limit
-at_most n limit never = ⊎_elim (λ more. absurd (never more)) (λ le. le) (order limit n)
 
 sound : (file : ReadText) → IsRead file → PassesDepth file.tokens → Sound file.tokens
 unfolding opens

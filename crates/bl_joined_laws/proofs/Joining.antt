@@ -1,32 +1,9 @@
 -- The pieces of each text cover the joined text, and their tokens are its tokens.
-use Rattle.std.proofs.Common.{
-  ◌≡◌,
-  ◌≢◌,
-  ℕ,
-  ◌+◌,
-  ◌<◌,
-  ◌≤◌,
-  List,
-  [],
-  ◌∷◌,
-  ◌++◌,
-  length,
-  map,
-  get_or,
-  take,
-  refl,
-  ap,
-  sym,
-  ◌∙◌,
-  subst,
-  arith,
-  append_assoc,
-  append-nil,
-  length-append,
-}
+use Rattle.std.proofs.Common.{◌≡◌, ◌≢◌, ℕ, ◌+◌, ◌<◌, ◌≤◌, List, [], ◌∷◌, ◌++◌, length, map, take, refl, ap, sym, ◌∙◌, subst, arith, append_assoc}
+use Rattle.std.proofs.Common.{append-nil, length-append}
 use Rattle.std.proofs.lemmas.List.Elements.{All-append, All-head, All-push, All-tail, filter_map-append}
 use Rattle.std.specs.List.{cons_option}
-use Rattle.std.specs.Prelude.{All, Option, Some, None, count_by, ◌==◌, option_map}
+use Rattle.std.specs.Prelude.{All, Option, Some, None, ◌==◌, option_map}
 use Rattle.bl_tree.specs.declared.token.Token.{Token}
 use Rattle.bl_tree.specs.declared.token.TokenKind.{TokenKind}
 use Rattle.bl_lex.specs.declared.piece.Form.{Form}
@@ -46,7 +23,7 @@ moved_piece n part = record { start = n + part.start; end = n + part.end; form =
 abbrev Kept : List LexedPiece → Type 0
 Kept parts = All (λ part. part.form ≢ Outside) parts
 
-covers_append : (text : List ℕ) (start : ℕ) (xs : List LexedPiece) (middle : ℕ) (ys : List LexedPiece) (end : ℕ) →
+pub covers_append : (text : List ℕ) (start : ℕ) (xs : List LexedPiece) (middle : ℕ) (ys : List LexedPiece) (end : ℕ) →
     Covers text start xs middle → Covers text middle ys end → Covers text start (xs ++ ys) end
 covers_append text start [] middle ys end a b = subst (λ (s : ℕ). Covers text s ys end) (sym a) b
 covers_append text start (x ∷ xs) middle ys end a b = (a.0, a.1, covers_append text x.end xs middle ys end a.2 b)

@@ -21,45 +21,16 @@ use Rattle.bl_parse_tree.specs.declared.stmt.RawPath.{RawPath}
 use Rattle.bl_parse_tree.specs.declared.stmt.RawStmt.{RawStmt, fold-roll-RawStmt, roll-RawStmt}
 use Rattle.bl_parse_tree.specs.declared.stmt.RawStmtKind.{RawStmtKind, fold-RawStmtKind, fold-roll-RawStmtKind}
 use Rattle.bl_parse_tree.specs.declared.stmt.RawStmtKind as action
-use Rattle.bl_parse_tree.specs.declared.stmt.RawStmtKind.TheVariants.{
-  rolls-Var,
-  rolls-Let,
-  rolls-Const,
-  rolls-Assign,
-  rolls-Call as rolls-CallStmt,
-  rolls-Await,
-  rolls-Run,
-  rolls-If,
-  rolls-Cobegin,
-  rolls-When,
-  rolls-Repeat,
-  rolls-Until,
-  rolls-While,
-  rolls-Return,
-}
+use Rattle.bl_parse_tree.specs.declared.stmt.RawStmtKind.TheVariants.{rolls-Var, rolls-Let, rolls-Const, rolls-Assign, rolls-Call as rolls-CallStmt}
+use Rattle.bl_parse_tree.specs.declared.stmt.RawStmtKind.TheVariants.{rolls-Await, rolls-Run, rolls-If, rolls-Cobegin, rolls-When, rolls-Repeat, rolls-Until}
+use Rattle.bl_parse_tree.specs.declared.stmt.RawStmtKind.TheVariants.{rolls-While, rolls-Return}
 use Rattle.bl_parse_tree.specs.declared.types.RawLength.{RawLength}
 use Rattle.bl_parse_tree.specs.declared.types.RawType.{RawType, fold-roll-RawType}
 use Rattle.bl_parse_tree.specs.declared.types.RawType as form
 use Rattle.bl_parse_tree.specs.declared.types.RawType.TheVariants.{rolls-Scalar, rolls-Struct, rolls-Array}
 use Rattle.bl_parse.specs.Expressions.{expr, target}
-use Rattle.bl_joined.specs.Trees.{
-  placed_name,
-  placed_length,
-  placed_type,
-  placed_kind,
-  placed_part,
-  placed_expr_layer,
-  placed_target_layer,
-  placed_expr,
-  placed_target,
-  placed_path,
-  placed_constant,
-  placed_action,
-  placed_arm,
-  placed_branch,
-  placed_stmt_layer,
-  placed_stmt,
-}
+use Rattle.bl_joined.specs.Trees.{placed_name, placed_length, placed_type, placed_kind, placed_part, placed_expr_layer, placed_target_layer, placed_expr}
+use Rattle.bl_joined.specs.Trees.{placed_target, placed_path, placed_constant, placed_action, placed_arm, placed_branch, placed_stmt_layer, placed_stmt}
 
 module _ (f : Place → Place) where
   -- what an expression says, with all places mapped

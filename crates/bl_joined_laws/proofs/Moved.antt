@@ -1,8 +1,8 @@
 -- Tokens and names of a text that stands in another.
-use Rattle.std.proofs.Common.{◌≡◌, ℕ, zero, suc, ◌+◌, ◌-◌, ◌<◌, ◌≤◌, List, [], ◌∷◌, ◌++◌, length, map, refl, ap, sym, ◌∙◌, subst, arith}
+use Rattle.std.proofs.Common.{◌≡◌, ℕ, ◌+◌, ◌-◌, ◌<◌, ◌≤◌, List, [], ◌∷◌, ◌++◌, length, map, ap, sym, ◌∙◌, arith}
 use Rattle.std.proofs.lemmas.List.{map-append}
-use Rattle.std.specs.Prelude.{Option, Some, option_map, slice_get, slice_range}
-use Rattle.bl_tree.specs.declared.place.Place.{Place}
+use Rattle.std.specs.Prelude.{Some, option_map, slice_get, slice_range}
+use Rattle.bl_tree.proofs.Basics.{some_within}
 use Rattle.bl_tree.specs.declared.scalar.Op.{Op}
 use Rattle.bl_tree.specs.declared.scalar.Scalar.{Scalar as ScalarType}
 use Rattle.bl_tree.specs.declared.token.Token.{Token}
@@ -25,11 +25,6 @@ pub record Stands (text whole : List ℕ) (tokens all : List Token) (n d : ℕ) 
       slice_range whole (n + start_at tokens k) (n + end_at tokens k) ≡ slice_range text (start_at tokens k) (end_at tokens k)
   pub values : (k : ℕ) → k < length tokens → takes_value all (d + k) ≡ takes_value tokens k
 
-pub some_at : {X : Type 0} (xs : List X) (k : ℕ) → k < length xs → (x : X) × (slice_get xs k ≡ Some x)
-some_at [] k inside = absurd (omega (arith, inside))
-some_at (x ∷ xs) zero inside = (x, refl)
-some_at (x ∷ xs) (suc k) inside = some_at xs k (omega (arith, inside))
-
 pub mapped_more : {A B : Type 0} (p : A → B) {all : List A} (xs : List A) (x : A) → all ≡ xs ++ x ∷ [] → map p all ≡ map p xs ++ p x ∷ []
 mapped_more p xs x is = ap (map p) is ∙ map-append p xs (x ∷ [])
 
@@ -41,15 +36,15 @@ module _ {text whole : List ℕ} {tokens all : List Token} {n d : ℕ} (h : Stan
   }
 
   pub kind_there : (k : ℕ) → k < length tokens → kind_at all (d + k) ≡ kind_at tokens k
-  kind_there k inside = let one = some_at tokens k inside in
+  kind_there k inside = let one = some_within tokens k inside in
       ap (option_map (λ token. token.kind)) (h.there k one.0 one.1) ∙ sym (ap (option_map (λ token. token.kind)) one.1)
 
   start_there : (k : ℕ) → k < length tokens → start_at all (d + k) ≡ n + start_at tokens k
-  start_there k inside = let one = some_at tokens k inside in
+  start_there k inside = let one = some_within tokens k inside in
       ap start_of (h.there k one.0 one.1) ∙ ap (λ s. n + s) (sym (ap start_of one.1))
 
   end_there : (k : ℕ) → k < length tokens → end_at all (d + k) ≡ n + end_at tokens k
-  end_there k inside = let one = some_at tokens k inside in
+  end_there k inside = let one = some_within tokens k inside in
       ap end_of (h.there k one.0 one.1) ∙ ap (λ s. n + s) (sym (ap end_of one.1))
 
   pub span_there : {from to : ℕ} → Filled tokens from to → moved_place n (span tokens from to) ≡ span all (d + from) (d + to)

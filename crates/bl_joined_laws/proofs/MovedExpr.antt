@@ -17,25 +17,8 @@ use Rattle.bl_parse.specs.Statements.{SpellsFields, SpellsPath, SpellsPaths, Spe
 use Rattle.bl_parse.specs.Types.{SpellsLength, SpellsType}
 use Rattle.bl_joined.specs.Texts.{moved_place}
 use Rattle.bl_joined.specs.Trees.{placed_length, placed_type, placed_expr, placed_target, placed_name, placed_path}
-use Rattle.bl_joined_laws.proofs.Made.{
-  said,
-  stepped,
-  scalar_is,
-  struct_is,
-  array_is,
-  expr_is,
-  number_is,
-  truth_is,
-  read_is,
-  before_is,
-  one_is,
-  two_is,
-  cast_is,
-  call_is,
-  target_is,
-  field_is,
-  index_is,
-}
+use Rattle.bl_joined_laws.proofs.Made.{said, stepped, scalar_is, struct_is, array_is, expr_is, number_is, truth_is, read_is, before_is, one_is, two_is, cast_is}
+use Rattle.bl_joined_laws.proofs.Made.{call_is, target_is, field_is, index_is}
 use Rattle.bl_joined_laws.proofs.Moved.{Stands, infix_there, kind_there, mapped_more, name, prefix_there, scalar, span_there, stay, takes}
 use Rattle.bl_joined_laws.proofs.Reach.{Filled, alone, expr_filled, path_filled, target_filled}
 

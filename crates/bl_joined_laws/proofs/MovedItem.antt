@@ -10,21 +10,8 @@ use Rattle.bl_parse_tree.specs.declared.item.RawParam.{RawParam}
 use Rattle.bl_parse_tree.specs.declared.item.RawStruct.{RawStruct}
 use Rattle.bl_parse_tree.specs.declared.item.RawUnit.{RawUnit}
 use Rattle.bl_parse_tree.specs.declared.types.RawType.{RawType}
-use Rattle.bl_parse.specs.Programs.{
-  SpellsField,
-  SpellsFieldList,
-  SpellsStruct,
-  SpellsMark,
-  SpellsUnitKind,
-  SpellsParam,
-  SpellsParamList,
-  SpellsParams,
-  SpellsOutputParams,
-  SpellsResult,
-  SpellsUnit,
-  SpellsItem,
-  SpellsItems,
-}
+use Rattle.bl_parse.specs.Programs.{SpellsField, SpellsFieldList, SpellsStruct, SpellsMark, SpellsUnitKind, SpellsParam, SpellsParamList, SpellsParams}
+use Rattle.bl_parse.specs.Programs.{SpellsOutputParams, SpellsResult, SpellsUnit, SpellsItem, SpellsItems}
 use Rattle.bl_joined.specs.Texts.{moved_place}
 use Rattle.bl_joined.specs.Trees.{placed_type, placed_field, placed_struct, placed_param, placed_unit, placed_item}
 use Rattle.bl_joined_laws.proofs.Moved.{Stands, mapped_more, name, stay, takes}

@@ -1,6 +1,7 @@
 -- What tokens of a text spell, the moved tokens spell in the whole, with moved places: statements.
 use Rattle.std.proofs.Common.{◌≡◌, ℕ, ◌+◌, Bool, List, [], ◌∷◌, ◌++◌, map, refl, ap, sym, ◌∙◌, arith}
 use Rattle.std.specs.Prelude.{Option, None, option_map}
+use Rattle.bl_tree.specs.declared.token.Keyword.{Keyword}
 use Rattle.bl_tree.specs.declared.place.Place.{Place}
 use Rattle.bl_tree.specs.declared.token.Token.{Token}
 use Rattle.bl_tree.specs.declared.tree.Guard.{Guard}
@@ -14,48 +15,12 @@ use Rattle.bl_parse_tree.specs.declared.stmt.RawStmtKind.{RawStmtKind}
 use Rattle.bl_parse_tree.specs.declared.types.RawType.{RawType}
 use Rattle.bl_parse.specs.At.{span}
 use Rattle.bl_parse.specs.Expressions.{SpellsExpr}
-use Rattle.bl_parse.specs.Statements.{
-  SpellsTyping,
-  SpellsMaybeTyping,
-  SpellsValue,
-  SpellsInitial,
-  SpellsConstant,
-  SpellsReceiver,
-  SpellsGuard,
-  SpellsWeak,
-  SpellsStmt,
-  SpellsKind,
-  SpellsBlock,
-  SpellsArm,
-  SpellsArms,
-  SpellsElse,
-  SpellsBranch,
-  SpellsBranches,
-}
+use Rattle.bl_parse.specs.Statements.{SpellsTyping, SpellsMaybeTyping, SpellsValue, SpellsInitial, SpellsConstant, SpellsReceiver, SpellsGuard, SpellsWeak}
+use Rattle.bl_parse.specs.Statements.{SpellsStmt, SpellsKind, SpellsBlock, SpellsArm, SpellsArms, SpellsElse, SpellsBranch, SpellsBranches}
 use Rattle.bl_joined.specs.Texts.{moved_place}
 use Rattle.bl_joined.specs.Trees.{placed_type, placed_expr, placed_path, placed_constant, placed_stmt}
-use Rattle.bl_joined_laws.proofs.Made.{
-  done,
-  armed,
-  branched,
-  stmt_is,
-  var_is,
-  let_is,
-  constant_is,
-  assign_is,
-  call_stmt_is,
-  await_is,
-  run_is,
-  if_is,
-  cobegin_is,
-  when_is,
-  repeat_is,
-  until_is,
-  while_is,
-  return_is,
-  arm_is,
-  branch_is,
-}
+use Rattle.bl_joined_laws.proofs.Made.{done, armed, branched, stmt_is, var_is, let_is, constant_is, assign_is, call_stmt_is, await_is, run_is, if_is}
+use Rattle.bl_joined_laws.proofs.Made.{cobegin_is, when_is, repeat_is, until_is, while_is, return_is, arm_is, branch_is}
 use Rattle.bl_joined_laws.proofs.Moved.{Stands, mapped_more, name, span_there, stay, takes}
 use Rattle.bl_joined_laws.proofs.MovedExpr.{expression, inputs, outputs, path, place, ty}
 use Rattle.bl_joined_laws.proofs.Reach.{Filled, expr_filled, kind, stmt_filled, taken, target_filled}
@@ -140,7 +105,7 @@ module _ {text whole : List ℕ} {tokens all : List Token} {n d : ℕ} (h : Stan
     block (SpellsBlock.no_stmts nothing is) = SpellsBlock.no_stmts (ap (map (placed_stmt f)) nothing) (stay h is)
     block (SpellsBlock.more_stmts body s is) = SpellsBlock.more_stmts (block body) (statement s) (mapped_more (placed_stmt f) _ _ is)
 
-    arm : {head : ℕ} {one : RawArm} {from to : ℕ} → SpellsArm text tokens head one from to → SpellsArm whole all head (armed f one) (d + from) (d + to)
+    arm : {head : Keyword} {one : RawArm} {from to : ℕ} → SpellsArm text tokens head one from to → SpellsArm whole all head (armed f one) (d + from) (d + to)
     arm (SpellsArm.headed w e t body is) =
         SpellsArm.headed (takes h w) (condition e) (takes h t) (block body) (ap (armed f) is ∙ arm_is f _ _)
 

@@ -1,49 +1,24 @@
 -- A piece of a text is a piece where the text stands in another, and no longer one begins there.
-use Rattle.std.proofs.Common.{
-  ◌≡◌,
-  ◌≢◌,
-  ℕ,
-  ◌+◌,
-  ◌-◌,
-  ◌<◌,
-  ◌≤◌,
-  Bool,
-  true,
-  false,
-  List,
-  [],
-  ◌∷◌,
-  ◌++◌,
-  ◌⊎◌,
-  inl,
-  inr,
-  ⊎_elim,
-  length,
-  get_or,
-  refl,
-  ap,
-  sym,
-  ◌∙◌,
-  subst,
-  arith,
-}
+use Rattle.std.proofs.Common.{◌≡◌, ◌≢◌, ℕ, ◌+◌, ◌-◌, ◌<◌, ◌≤◌, true, false, List, [], ◌∷◌, ◌++◌, ◌⊎◌, ⊎_elim, length, get_or, refl, ap, sym}
+use Rattle.std.proofs.Common.{◌∙◌, subst, arith}
 use Rattle.std.proofs.lemmas.Bool.Decides.{nat_tests}
 use Rattle.std.proofs.Math.ListN.{get_or-eq_default}
 use Rattle.std.proofs.str.Laws.{order}
 use Rattle.std.specs.Prelude.{slice_get, slice_range, Some}
 use Rattle.std.specs.Char.{is_ascii_digit}
-use Rattle.bl_tree.specs.declared.token.TokenKind.TheVariants.{Sign}
+use Rattle.bl_tree.proofs.Basics.{true_and_false}
 use Rattle.bl_lex.specs.declared.piece.Form.{Form}
-use Rattle.bl_lex.specs.declared.piece.Form.TheVariants.{Blank, Comment, Token}
+use Rattle.bl_lex.specs.declared.piece.Form.TheVariants.{Blank}
 use Rattle.bl_lex.specs.Spelling.{signs, is_blank, is_word_byte}
 use Rattle.bl_lex.specs.Pieces.{FractionAt, IsBlockComment, IsLineComment, IsPiece, IsSign, IsWord, OpensComment, WordIs}
 use Rattle.bl_lex.specs.Pieces.WordIs.{keyword, name, number, outside, octal, fraction}
 use Rattle.bl_lex.specs.Pieces.IsPiece.{blank, line_comment, block_comment, word, sign}
 use Rattle.bl_lex.specs.Tokens.{IsLongest}
-use Rattle.bl_lex.proofs.PieceLaws.{clash, longest_blank, longest_block_comment, longest_line_comment, longest_word, of_other, of_slash, piece_forward, piece_inside}
+use Rattle.bl_lex.proofs.PieceLaws.{longest_blank, longest_block_comment, longest_line_comment, longest_word, of_other, of_slash}
 use Rattle.bl_lex.proofs.Signs.{range_two, sign_ends, sign_first}
 use Rattle.bl_lex.proofs.Tables.{is_two_bytes, two_bytes_known}
-use Rattle.bl_joined_laws.proofs.Bytes.{byte, byte_inside, feed, long, range}
+use Rattle.bl_joined_laws.proofs.Bytes.{byte, feed, long, range}
+use Rattle.bl_lex.proofs.RuleLaws.{byte_inside}
 
 -- no sign ends with a line feed
 no_feed : (a : ℕ) → is_two_bytes a 10 ≡ true → ⊥
@@ -132,7 +107,7 @@ module _ (whole before text after : List ℕ) (is : whole ≡ before ++ (text ++
   fraction_back e inside f = ⊎_elim
       (λ less. ⊎_elim
       (λ next. (sym (at e (n + e) refl less) ∙ f.0, subst (λ b. is_ascii_digit b ≡ true) (at (e + 1) (n + e + 1) (omega arith) next) f.1))
-      (λ last. absurd (clash false (subst (λ b. is_ascii_digit b ≡ true) (end_at (n + e + 1) (omega arith)) f.1) refl))
+      (λ last. absurd (true_and_false false (subst (λ b. is_ascii_digit b ≡ true) (end_at (n + e + 1) (omega arith)) f.1) refl))
       (order (e + 1) (length text)))
       (λ more. absurd (no_point (sym (end_at (n + e) (omega arith)) ∙ f.0)))
       (order e (length text))
@@ -144,7 +119,7 @@ module _ (whole before text after : List ℕ) (is : whole ≡ before ++ (text ++
   fraction_there e f =
       let first = byte_inside text e 46 f.0 (omega arith) in
       let second : e + 1 < length text = ⊎_elim (λ less. less)
-      (λ more. absurd (clash false (subst (λ b. is_ascii_digit b ≡ true) (get_or-eq_default text 0 more) f.1) refl)) (order (e + 1) (length text)) in
+      (λ more. absurd (true_and_false false (subst (λ b. is_ascii_digit b ≡ true) (get_or-eq_default text 0 more) f.1) refl)) (order (e + 1) (length text)) in
       (at e (n + e) refl first ∙ f.0, subst (λ b. is_ascii_digit b ≡ true) (sym (at (e + 1) (n + e + 1) (omega arith) second)) f.1)
 
   means_there : (e : ℕ) (w : List ℕ) {f : Form} → e ≤ length text → WordIs text e w f → WordIs whole (n + e) w f

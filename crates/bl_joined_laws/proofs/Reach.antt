@@ -1,45 +1,16 @@
 -- How far what is spelled reaches: expressions, paths and statements have a token, and end within the list of tokens.
-use Rattle.std.proofs.Common.{
-  ◌≡◌,
-  ℕ,
-  zero,
-  suc,
-  ◌+◌,
-  ◌-◌,
-  ◌<◌,
-  ◌≤◌,
-  Bool,
-  true,
-  false,
-  cond,
-  not,
-  ◌&&◌,
-  List,
-  [],
-  ◌∷◌,
-  ◌++◌,
-  ⊎_elim,
-  length,
-  take,
-  refl,
-  ap,
-  sym,
-  ◌∙◌,
-  subst,
-  arith,
-}
-use Rattle.std.specs.Prelude.{Option, Some, nat_eq, option_map, slice_get}
+use Rattle.std.proofs.Common.{◌≡◌, ℕ, suc, ◌+◌, ◌-◌, ◌<◌, ◌≤◌, Bool, true, ◌&&◌, List, [], ◌∷◌, ◌++◌, ⊎_elim, length, take, refl, ap}
+use Rattle.std.proofs.Common.{sym, ◌∙◌, subst, arith}
+use Rattle.std.specs.Prelude.{Option, Some, option_map}
 use Rattle.std.proofs.lemmas.Option.{slice_get_within}
 use Rattle.std.proofs.str.Laws.{order}
+use Rattle.bl_tree.specs.declared.token.Keyword.{Keyword}
 use Rattle.bl_tree.specs.declared.token.Token.{Token}
 use Rattle.bl_tree.specs.declared.scalar.Op.{Op}
-use Rattle.bl_tree.specs.declared.scalar.Scalar.{Scalar as ScalarType}
 use Rattle.bl_tree.specs.declared.token.TokenKind.{TokenKind}
-use Rattle.bl_tree.specs.declared.token.TokenKind.TheVariants.{Name as NameToken, Number, Sign, Word}
-use Rattle.bl_tree.specs.declared.tree.Guard.{Guard}
-use Rattle.bl_tree.specs.declared.tree.UnitKind.{UnitKind}
-use Rattle.bl_lex.specs.declared.word.TheConstants.{END}
-use Rattle.bl_parse_syntax.specs.Depth.{blocks_after, is_one_of, open_after, opening_words}
+use Rattle.bl_tree.specs.declared.token.TokenKind.TheVariants.{Word}
+use Rattle.bl_tree.specs.declared.token.Keyword.TheVariants as keyword
+use Rattle.bl_parse_syntax.specs.Depth.{blocks_after, open_after}
 use Rattle.bl_parse_syntax.proofs.Depths.{open_next}
 use Rattle.bl_parse_tree.specs.declared.expr.RawExpr.{RawExpr}
 use Rattle.bl_parse_tree.specs.declared.expr.RawPart.{RawPart}
@@ -58,58 +29,25 @@ use Rattle.bl_parse_tree.specs.declared.stmt.RawStmtKind.{RawStmtKind}
 use Rattle.bl_parse_tree.specs.declared.types.RawLength.{RawLength}
 use Rattle.bl_parse_tree.specs.declared.types.RawType.{RawType}
 use Rattle.bl_parse.specs.At.{Takes}
-use Rattle.bl_parse.specs.Operators.{IsOperator, IsPrefix, IsScalar}
-use Rattle.bl_parse.specs.Expressions.{IsTruth, SpellsNone, SpellsExpr, SpellsTarget, SpellsPart, SpellsParts, SpellsInputs, SpellsExprs}
-use Rattle.bl_parse.specs.Programs.{
-  IsUnit,
-  SpellsField,
-  SpellsFieldList,
-  SpellsMark,
-  SpellsParam,
-  SpellsParamList,
-  SpellsParams,
-  SpellsOutputParams,
-  SpellsResult,
-  SpellsUnit,
-  SpellsItem,
-  SpellsItems,
-}
-use Rattle.bl_parse.specs.Statements.{
-  IsGuard,
-  SpellsTyping,
-  SpellsMaybeTyping,
-  SpellsValue,
-  SpellsInitial,
-  SpellsConstant,
-  SpellsFields,
-  SpellsPath,
-  SpellsPaths,
-  SpellsOutputs,
-  SpellsReceiver,
-  SpellsWeak,
-  SpellsStmt,
-  SpellsKind,
-  SpellsBlock,
-  SpellsArm,
-  SpellsArms,
-  SpellsElse,
-  SpellsBranch,
-  SpellsBranches,
-}
+use Rattle.bl_parse.specs.Operators.{IsOperator}
+use Rattle.bl_parse.specs.Expressions.{SpellsNone, SpellsExpr, SpellsTarget, SpellsPart, SpellsParts, SpellsInputs, SpellsExprs}
+use Rattle.bl_parse.specs.Programs.{SpellsField, SpellsFieldList, SpellsMark, SpellsParam, SpellsParamList, SpellsParams, SpellsOutputParams}
+use Rattle.bl_parse.specs.Programs.{SpellsResult, SpellsUnit, SpellsItem, SpellsItems}
+use Rattle.bl_parse.specs.Statements.{SpellsTyping, SpellsMaybeTyping, SpellsValue, SpellsInitial, SpellsConstant, SpellsFields, SpellsPath}
+use Rattle.bl_parse.specs.Statements.{SpellsPaths, SpellsOutputs, SpellsReceiver, SpellsWeak, SpellsStmt, SpellsKind, SpellsBlock, SpellsArm, SpellsArms}
+use Rattle.bl_parse.specs.Statements.{SpellsElse, SpellsBranch, SpellsBranches}
 use Rattle.bl_parse.specs.Types.{SpellsLength, SpellsType}
 use Rattle.bl_parse.proofs.ReturnLemmas.{token_at}
 use Rattle.bl_parse_laws.proofs.Counts.{is_level, is_opening}
+use Rattle.bl_parse_laws.proofs.Counts.{levels, opened as increased, take_more}
+use Rattle.bl_parse_laws.proofs.Level.{prefix_level, scalar_level, truth_level}
+use Rattle.bl_parse_laws.proofs.Nested.{guard_level, unit_opening}
 
 -- ---- one token
 
 -- the blocks that are open before the token at a position
 unfoldable pub opens : List Token → ℕ → ℕ
 opens tokens k = open_after 0 (take k tokens)
-
-take_more : (tokens : List Token) (k : ℕ) (one : Token) → slice_get tokens k ≡ Some one → take (suc k) tokens ≡ take k tokens ++ one ∷ []
-take_more [] k one e = cc
-take_more (x ∷ xs) zero one e = let same : x ≡ one = cc in ap (λ t. t ∷ []) same
-take_more (x ∷ xs) (suc k) one e = ap (λ ts. x ∷ ts) (take_more xs k one e)
 
 opens_next : {tokens : List Token} {kind : TokenKind} {from to : ℕ} → Takes tokens kind from to → opens tokens to ≡ blocks_after (opens tokens from) kind
 unfolding opens
@@ -122,23 +60,6 @@ opens_next {tokens} {kind} {from} {to} t =
   where
     kind_is : (one : Token) → Some one.kind ≡ Some kind → one.kind ≡ kind
     kind_is one e = cc
-
-unchanged : (n : ℕ) (kind : TokenKind) → is_level kind ≡ true → blocks_after n kind ≡ n
-unchanged n NameToken level = refl
-unchanged n (Number v) level = refl
-unchanged n (Sign k) level = refl
-unchanged n (Word k) level = by_tests (is_one_of opening_words k) (nat_eq k END) level
-  where
-    by_tests : (opening ends : Bool) → (not opening && not ends) ≡ true → cond opening (n + 1) (cond ends (n - 1) n) ≡ n
-    by_tests false false level = refl
-    by_tests false true level = cc
-    by_tests true ends level = cc
-
-increased : (n : ℕ) (kind : TokenKind) → is_opening kind ≡ true → blocks_after n kind ≡ n + 1
-increased n NameToken is = cc
-increased n (Number v) is = cc
-increased n (Sign k) is = cc
-increased n (Word k) is = rw is refl
 
 pub taken : {tokens : List Token} {kind : TokenKind} {from to : ℕ} → Takes tokens kind from to → from < length tokens
 taken {tokens} {from = from} t = let one = token_at tokens from t.stands in slice_get_within tokens from one.0 one.1
@@ -163,38 +84,6 @@ infix_level IsOperator.times = refl
 infix_level IsOperator.divided = refl
 infix_level IsOperator.remainder = refl
 
-prefix_level : {kind : TokenKind} {op : Op} → IsPrefix kind op → is_level kind ≡ true
-prefix_level IsPrefix.negation = refl
-prefix_level IsPrefix.complement = refl
-prefix_level IsPrefix.denial = refl
-
-truth_level : {kind : TokenKind} {b : Bool} → IsTruth kind b → is_level kind ≡ true
-truth_level IsTruth.yes = refl
-truth_level IsTruth.no = refl
-
-scalar_level : {kind : TokenKind} {s : ScalarType} → IsScalar kind s → is_level kind ≡ true
-scalar_level IsScalar.bool = refl
-scalar_level IsScalar.int8 = refl
-scalar_level IsScalar.int16 = refl
-scalar_level IsScalar.int32 = refl
-scalar_level IsScalar.int64 = refl
-scalar_level IsScalar.nat8 = refl
-scalar_level IsScalar.nat16 = refl
-scalar_level IsScalar.nat32 = refl
-scalar_level IsScalar.nat64 = refl
-scalar_level IsScalar.bits8 = refl
-scalar_level IsScalar.bits16 = refl
-scalar_level IsScalar.bits32 = refl
-scalar_level IsScalar.bits64 = refl
-
-guard_level : {kind : TokenKind} {guard : Guard} → IsGuard kind guard → is_level kind ≡ true
-guard_level IsGuard.abort = refl
-guard_level IsGuard.reset = refl
-
-unit_opening : {kind : TokenKind} {of : UnitKind} → IsUnit kind of → is_opening kind ≡ true
-unit_opening IsUnit.function = refl
-unit_opening IsUnit.activity = refl
-
 -- ---- parts
 
 -- where there is a token, the last one is in the list, and as many blocks are closed as are opened
@@ -213,7 +102,7 @@ token : {tokens : List Token} {kind : TokenKind} {from to : ℕ} → Takes token
 token {tokens} {kind} {from} t is = record {
   forward = omega (arith, t.next);
   inside = λ some. omega (arith, t.next, taken t);
-  same = opens_next t ∙ unchanged (opens tokens from) kind is;
+  same = opens_next t ∙ levels (opens tokens from) kind is;
 }
 
 stay : {tokens : List Token} {from to : ℕ} → to ≡ from → Goes tokens from to
@@ -271,7 +160,7 @@ go_on {tokens} {from} {at} {to} o rest = record {
   one_more = rest.same ∙ o.one_more;
 }
 
-end_block : {tokens : List Token} {from at to : ℕ} → Opened tokens from at → Takes tokens (Word END) at to → Filled tokens from to
+end_block : {tokens : List Token} {from at to : ℕ} → Opened tokens from at → Takes tokens (Word keyword.End) at to → Filled tokens from to
 end_block {tokens} {at = at} {to = to} o t = record {
   forward = omega (arith, o.forward, t.next);
   inside = omega (arith, t.next, taken t);
@@ -291,7 +180,7 @@ mark (SpellsMark.absent off is) = stay is
 mark (SpellsMark.written on at opening n closing) = then (token at refl) (then (token opening refl) (then (token n refl) (token closing refl)))
 
 -- the head of an arm, and what follows it
-record Headed (tokens : List Token) (head from to : ℕ) : Type 0 where
+record Headed (tokens : List Token) (head : Keyword) (from to : ℕ) : Type 0 where
   at : ℕ
   word : Takes tokens (Word head) from at
   rest : Goes tokens at to
@@ -413,7 +302,7 @@ module _ {text : List ℕ} {tokens : List Token} where
     block (SpellsBlock.more_stmts body s is) = then (block body) (goes (stmt_filled s))
 
     -- what follows the head of an arm
-    arm : {head : ℕ} {one : RawArm} {from to : ℕ} → SpellsArm text tokens head one from to → Headed tokens head from to
+    arm : {head : Keyword} {one : RawArm} {from to : ℕ} → SpellsArm text tokens head one from to → Headed tokens head from to
     arm (SpellsArm.headed w e t body is) = record { at = _; word = w; rest = then (goes (expr_filled e)) (then (token t refl) (block body)) }
 
     arms : {all : List RawArm} {from to : ℕ} → SpellsArms text tokens all from to → Opened tokens from to

@@ -1,45 +1,14 @@
 -- The items of each text, moved, are spelled by the joined tokens.
-use Rattle.std.proofs.Common.{
-  ◌≡◌,
-  ℕ,
-  zero,
-  suc,
-  ◌+◌,
-  ◌-◌,
-  ◌<◌,
-  ◌≤◌,
-  Bool,
-  true,
-  false,
-  ◌&&◌,
-  List,
-  [],
-  ◌∷◌,
-  ◌++◌,
-  ⊎_elim,
-  length,
-  map,
-  get_or,
-  take,
-  refl,
-  ap,
-  sym,
-  ◌∙◌,
-  subst,
-  arith,
-  append_assoc,
-  append-nil,
-  length-append,
-}
+use Rattle.std.proofs.Common.{◌≡◌, ℕ, zero, suc, ◌+◌, ◌-◌, ◌<◌, ◌≤◌, Bool, false, ◌&&◌, List, [], ◌∷◌, ◌++◌, ⊎_elim, length, map, refl, ap}
+use Rattle.std.proofs.Common.{sym, ◌∙◌, subst, arith, append_assoc, append-nil, length-append}
 use Rattle.std.proofs.lemmas.Bool.Decides.{nat_tests}
 use Rattle.std.proofs.lemmas.List.{length-map}
 use Rattle.std.proofs.lemmas.List.Elements.{All-head, All-tail}
 use Rattle.std.proofs.lemmas.Option.{get_or_from_slice_get, slice_get_past, slice_get_within}
 use Rattle.std.proofs.str.Laws.{order}
-use Rattle.std.specs.Prelude.{All, Option, Some, None, nat_eq, option_map, slice_get, slice_range, ⊤}
-use Rattle.bl_tree.specs.declared.place.Place.{Place}
+use Rattle.std.specs.Prelude.{All, Option, Some, nat_eq, slice_get, slice_range, ⊤}
+use Rattle.bl_tree.proofs.Basics.{some_within}
 use Rattle.bl_tree.specs.declared.token.Token.{Token}
-use Rattle.bl_tree.specs.declared.token.TokenKind.{TokenKind}
 use Rattle.bl_tree.specs.declared.token.TokenKind.TheVariants.{Name as NameToken}
 use Rattle.bl_lex.specs.Tokens.{Lexes}
 use Rattle.bl_lex.proofs.RuleLaws.{tokens_inside}
@@ -52,9 +21,9 @@ use Rattle.bl_parse_tree.specs.declared.item.RawItem.{RawItem}
 use Rattle.bl_joined.proofs.Lines.{line_inside}
 use Rattle.bl_joined.specs.Texts.{LexedText, joined_text, joined_tokens, line_feeds, moved_place, moved_token, texts_of, tokens_behind}
 use Rattle.bl_joined.specs.Trees.{placed_item}
-use Rattle.bl_joined_laws.specs.Items.{IsRead, ReadText, all_lexed, items_behind, joined_items, lexed}
+use Rattle.bl_joined_laws.specs.Items.{IsRead, ReadText, all_lexed, items_behind, joined_items}
 use Rattle.bl_joined_laws.proofs.Bytes.{range}
-use Rattle.bl_joined_laws.proofs.Moved.{Stands, some_at}
+use Rattle.bl_joined_laws.proofs.Moved.{Stands}
 use Rattle.bl_joined_laws.proofs.MovedItem.{items}
 use Rattle.bl_joined_laws.proofs.Joining.{feeds_more, further, more, size_more}
 
@@ -145,14 +114,14 @@ module _ (whole before text after : List ℕ) (all front tokens rest : List Toke
           lines_differ (line_feeds before + one.line) first.line (begins_expr first.kind) (omega (arith, l, own))
 
   values : (k : ℕ) → k < length tokens → takes_value all (length front + k) ≡ takes_value tokens k
-  values k inside = let one = some_at tokens k inside in
+  values k inside = let one = some_within tokens k inside in
       ap (λ (o : Option Token). goes_on o (slice_get all (length front + k + 1))) (there k one.0 one.1)
       ∙ (with_next one.0 one.1 ∙ sym (ap (λ (o : Option Token). goes_on o (slice_get tokens (k + 1))) one.1))
     where
       with_next : (one : Token) → slice_get tokens k ≡ Some one →
           goes_on (Some (moved_token (length before) (line_feeds before) one)) (slice_get all (length front + k + 1)) ≡ goes_on (Some one) (slice_get tokens (k + 1))
       with_next one at = ⊎_elim
-          (λ less. let next = some_at tokens (k + 1) less in
+          (λ less. let next = some_within tokens (k + 1) less in
           let position : length front + k + 1 ≡ length front + (k + 1) = omega arith in
           ap (goes_on (Some (moved_token (length before) (line_feeds before) one))) (ap (slice_get all) position ∙ there (k + 1) next.0 next.1)
           ∙ ap (λ b. b && begins_expr next.0.kind) (same_sums (line_feeds before) one.line next.0.line)

@@ -1,33 +1,6 @@
 -- What a token's text is, where the token is a name.
-use Rattle.std.proofs.Common.{
-  ◌≡◌,
-  ◌≢◌,
-  ℕ,
-  zero,
-  suc,
-  ◌+◌,
-  ◌-◌,
-  ◌<◌,
-  Bool,
-  true,
-  false,
-  not,
-  ◌&&◌,
-  List,
-  [],
-  ◌∷◌,
-  length,
-  get_or,
-  drop,
-  refl,
-  ap,
-  sym,
-  ◌∙◌,
-  subst,
-  arith,
-  get_or-take,
-  get_or-drop,
-}
+use Rattle.std.proofs.Common.{◌≡◌, ◌≢◌, ℕ, zero, suc, ◌+◌, ◌-◌, ◌<◌, Bool, true, false, not, ◌&&◌, List, [], ◌∷◌, length, get_or, drop, refl, ap, sym, ◌∙◌}
+use Rattle.std.proofs.Common.{subst, arith, get_or-take, get_or-drop}
 use Rattle.std.proofs.lemmas.List.Sums.{list_all-from_AllPass}
 use Rattle.std.proofs.lemmas.Slice.Eq.{bytes_eq-Decides}
 use Rattle.std.proofs.lemmas.List.{get_or_default}
@@ -35,6 +8,7 @@ use Rattle.std.specs.Prelude.{Option, Some, None, option_map, slice_get, slice_r
 use Rattle.std.specs.List.{list_all, cons_option}
 use Rattle.std.specs.Str.{bytes_eq}
 use Rattle.std.specs.Char.{is_ascii_digit}
+use Rattle.std.proofs.lemmas.Bool.{false_from_ne_true}
 use Rattle.bl_tree.specs.declared.token.Token.{Token as Lexed}
 use Rattle.bl_tree.specs.declared.token.TokenKind.{TokenKind}
 use Rattle.bl_tree.specs.declared.token.TokenKind.TheVariants.{Name}
@@ -46,12 +20,12 @@ use Rattle.bl_lex.specs.Pieces.{IsPiece, kind_of}
 use Rattle.bl_lex.specs.Pieces.WordIs.{name}
 use Rattle.bl_lex.specs.Pieces.IsPiece.{word}
 use Rattle.bl_lex.specs.Tokens.{LexedPiece, place_of, IsLongest, Covers, line_at, tokens_of, Lexes}
-use Rattle.bl_lex.proofs.ReservedWords.{found_by, false_unless}
+use Rattle.bl_lex.proofs.ReservedWords.{found_by}
 use Rattle.bl_lex.proofs.Signs.{range_length}
 
 -- a word in none of the lists is in neither as a test
 not_among : (list : List (List ℕ)) (w : List ℕ) → ((k : ℕ) → slice_get list k ≢ Some w) → is_among w list ≡ false
-not_among list w none = false_unless _ (λ is. let h = found_by (bytes_eq w) list is in let e : w ≡ h.1.0 =
+not_among list w none = false_from_ne_true _ (λ is. let h = found_by (bytes_eq w) list is in let e : w ≡ h.1.0 =
     (bytes_eq-Decides w h.1.0).0 h.1.2 in none h.0 (h.1.1 ∙ ap Some (sym e)))
 
 all_four : (a b c d : Bool) → a ≡ false → b ≡ true → c ≡ false → d ≡ false → (not a && b) && (not c && not d) ≡ true

@@ -1,30 +1,6 @@
 -- The kept value of digits, as one digit more is read, and how words spell numbers.
-use Rattle.std.proofs.Common.{
-  ◌≡◌,
-  subst,
-  ℕ,
-  ◌+◌,
-  ◌*◌,
-  ◌^◌,
-  ◌<◌,
-  ◌≤◌,
-  min,
-  List,
-  [],
-  ◌∷◌,
-  ◌++◌,
-  ◌⊎◌,
-  inl,
-  inr,
-  ⊎_elim,
-  length,
-  get_or,
-  take,
-  refl,
-  arith,
-  length-append,
-  add-one,
-}
+use Rattle.std.proofs.Common.{◌≡◌, subst, ℕ, ◌+◌, ◌*◌, ◌^◌, ◌<◌, ◌≤◌, min, List, [], ◌∷◌, ◌++◌, ◌⊎◌, inl, inr, ⊎_elim, length, get_or, take, refl, arith}
+use Rattle.std.proofs.Common.{length-append, add-one}
 use Rattle.std.proofs.Math.Nat.{pow-suc, min-eq_right, mul-le-mul_left, mul-le-mul_right, pow-zero}
 use Rattle.std.proofs.Math.Seq.{take-suc}
 use Rattle.std.proofs.lemmas.List.{get_or_default}

@@ -1,36 +1,12 @@
 -- What stands at a place, by its first byte; a piece has one form and one end; a fault begins no piece.
-use Rattle.std.proofs.Common.{
-  ◌≡◌,
-  ◌≢◌,
-  ℕ,
-  ◌+◌,
-  ◌-◌,
-  ◌<◌,
-  ◌≤◌,
-  ◌^◌,
-  min,
-  Bool,
-  true,
-  false,
-  List,
-  [],
-  ◌∷◌,
-  ◌⊎◌,
-  inl,
-  inr,
-  ⊎_elim,
-  length,
-  get_or,
-  refl,
-  ap,
-  sym,
-  ◌∙◌,
-  subst,
-  arith,
-}
+use Rattle.std.proofs.Common.{◌≡◌, ◌≢◌, ℕ, ◌+◌, ◌-◌, ◌<◌, ◌≤◌, ◌^◌, min, true, false, List, [], ◌∷◌, ◌⊎◌, inl, inr, ⊎_elim, length, get_or, refl, ap, sym}
+use Rattle.std.proofs.Common.{◌∙◌, subst, arith}
 use Rattle.std.proofs.lemmas.Bool.Decides.{nat_tests}
 use Rattle.std.proofs.str.Laws.{order}
 use Rattle.std.specs.Prelude.{slice_get, slice_range, Some, Result, Ok, Err, MatchResult}
+use Rattle.bl_tree.proofs.Basics.{true_and_false}
+use Rattle.bl_tree.proofs.KeywordLemmas.{position_is}
+use Rattle.bl_tree.specs.Keywords.{position}
 use Rattle.bl_tree.specs.declared.place.Place.{Place}
 use Rattle.bl_tree.specs.declared.token.TokenKind.TheVariants.{Number, Word, Sign}
 use Rattle.bl_lex.specs.declared.piece.Form.{Form}
@@ -45,25 +21,12 @@ use Rattle.bl_lex.specs.inner.Steps.{IsWordPiece, IsLongestAt}
 use Rattle.bl_lex.specs.Rules.{IsMalformedNumber, IsFault}
 use Rattle.bl_lex.proofs.Tables.{is_two_bytes, two_bytes_known}
 use Rattle.bl_lex.proofs.Signs.{sign_ends, sign_first, range_two}
-use Rattle.bl_lex.proofs.WordLaws.{
-  one_keyword,
-  one_sign,
-  keyword_not_outside,
-  keyword_begins,
-  outside_begins,
-  decimal_begins,
-  number_begins,
-  octal_begins,
-  one_number,
-  number_not_octal,
-}
+use Rattle.bl_lex.proofs.WordLaws.{one_keyword, one_sign, keyword_not_outside, keyword_begins, outside_begins, decimal_begins, number_begins, octal_begins}
+use Rattle.bl_lex.proofs.WordLaws.{one_number, number_not_octal}
 
 -- no byte of words is white space
 blank_no_word : (b : ℕ) → is_blank b ≡ true → is_word_byte b ≡ false
 blank_no_word b is = grind (arith, nat_tests)
-
-pub clash : (b : Bool) → b ≡ true → b ≡ false → ⊥
-clash b is isnt = cc
 
 -- two ends of one kind are the same, where the lesser end would be inside the other
 same_end : (P : ℕ → Type 0) → ((e f : ℕ) → P e → P f → e < f → ⊥) → (e f : ℕ) → P e → P f → e ≡ f
@@ -84,18 +47,18 @@ module _ (text : List ℕ) (start : ℕ) where
   pub of_blank : {end : ℕ} {form : Form} → is_blank (get_or text start 0) ≡ true → IsPiece text start end form →
       (end ≡ start + 1) × (form ≡ Blank)
   of_blank b (blank inside e is) = (e, refl)
-  of_blank b (line_comment c) = absurd (clash false (subst (λ (x : ℕ). is_blank x ≡ true) c.first b) refl)
-  of_blank b (block_comment c) = absurd (clash false (subst (λ (x : ℕ). is_blank x ≡ true) c.opens.0 b) refl)
-  of_blank b (word w is) = absurd (clash (is_word_byte (get_or text start 0)) (w.each start (omega arith) w.nonempty) (blank_no_word (get_or text start 0) b))
-  of_blank b (sign s) = absurd (clash (is_blank (get_or text start 0)) b (sign_first _ _ _ _ s).0)
+  of_blank b (line_comment c) = absurd (true_and_false false (subst (λ (x : ℕ). is_blank x ≡ true) c.first b) refl)
+  of_blank b (block_comment c) = absurd (true_and_false false (subst (λ (x : ℕ). is_blank x ≡ true) c.opens.0 b) refl)
+  of_blank b (word w is) = absurd (true_and_false (is_word_byte (get_or text start 0)) (w.each start (omega arith) w.nonempty) (blank_no_word (get_or text start 0) b))
+  of_blank b (sign s) = absurd (true_and_false (is_blank (get_or text start 0)) b (sign_first _ _ _ _ s).0)
 
   pub of_word : {end : ℕ} {form : Form} → is_word_byte (get_or text start 0) ≡ true → IsPiece text start end form →
       IsWord text start end × WordIs text end (slice_range text start end) form
-  of_word b (blank inside e is) = absurd (clash (is_word_byte (get_or text start 0)) b (blank_no_word (get_or text start 0) is))
-  of_word b (line_comment c) = absurd (clash false (subst (λ (x : ℕ). is_word_byte x ≡ true) c.first b) refl)
-  of_word b (block_comment c) = absurd (clash false (subst (λ (x : ℕ). is_word_byte x ≡ true) c.opens.0 b) refl)
+  of_word b (blank inside e is) = absurd (true_and_false (is_word_byte (get_or text start 0)) b (blank_no_word (get_or text start 0) is))
+  of_word b (line_comment c) = absurd (true_and_false false (subst (λ (x : ℕ). is_word_byte x ≡ true) c.first b) refl)
+  of_word b (block_comment c) = absurd (true_and_false false (subst (λ (x : ℕ). is_word_byte x ≡ true) c.opens.0 b) refl)
   of_word b (word w is) = (w, is)
-  of_word b (sign s) = absurd (clash (is_word_byte (get_or text start 0)) b (sign_first _ _ _ _ s).1)
+  of_word b (sign s) = absurd (true_and_false (is_word_byte (get_or text start 0)) b (sign_first _ _ _ _ s).1)
 
   -- what a piece is that begins with a slash
   abbrev pub SlashCases : ℕ → Form → Type 0
@@ -103,18 +66,18 @@ module _ (text : List ℕ) (start : ℕ) where
       ⊎ ((IsBlockComment text start end × (form ≡ Comment)) ⊎ ((k : ℕ) × IsSign text start end k × (form ≡ Token (Sign k))))
 
   pub of_slash : {end : ℕ} {form : Form} → get_or text start 0 ≡ 47 → IsPiece text start end form → SlashCases end form
-  of_slash b (blank inside e is) = absurd (clash false (subst (λ (x : ℕ). is_blank x ≡ true) b is) refl)
+  of_slash b (blank inside e is) = absurd (true_and_false false (subst (λ (x : ℕ). is_blank x ≡ true) b is) refl)
   of_slash b (line_comment c) = inl (c, refl)
   of_slash b (block_comment c) = inr (inl (c, refl))
-  of_slash b (word w is) = absurd (clash false (subst (λ (x : ℕ). is_word_byte x ≡ true) b (w.each start (omega arith) w.nonempty)) refl)
+  of_slash b (word w is) = absurd (true_and_false false (subst (λ (x : ℕ). is_word_byte x ≡ true) b (w.each start (omega arith) w.nonempty)) refl)
   of_slash b (sign s) = inr (inr (_, s, refl))
 
   pub of_other : {end : ℕ} {form : Form} → is_blank (get_or text start 0) ≡ false → is_word_byte (get_or text start 0) ≡ false →
       get_or text start 0 ≢ 47 → IsPiece text start end form → (k : ℕ) × IsSign text start end k × (form ≡ Token (Sign k))
-  of_other no_blank no_word no_slash (blank inside e is) = absurd (clash (is_blank (get_or text start 0)) is no_blank)
+  of_other no_blank no_word no_slash (blank inside e is) = absurd (true_and_false (is_blank (get_or text start 0)) is no_blank)
   of_other no_blank no_word no_slash (line_comment c) = absurd (no_slash c.first)
   of_other no_blank no_word no_slash (block_comment c) = absurd (no_slash c.opens.0)
-  of_other no_blank no_word no_slash (word w is) = absurd (clash (is_word_byte (get_or text start 0)) (w.each start (omega arith) w.nonempty) no_word)
+  of_other no_blank no_word no_slash (word w is) = absurd (true_and_false (is_word_byte (get_or text start 0)) (w.each start (omega arith) w.nonempty) no_word)
   of_other no_blank no_word no_slash (sign s) = (_, s, refl)
 
   -- pieces that are the longest at their place
@@ -160,7 +123,7 @@ module _ (text : List ℕ) (start : ℕ) where
           subst (λ (x : ℕ). slice_get signs k ≡ Some (slice_range text start x)) e s.spelled in
           let bytes : slice_get signs k ≡ Some (get_or text start 0 ∷ get_or text (start + 1) 0 ∷ []) =
           at_two ∙ ap Some (range_two text start inside) in
-          clash false (subst (λ (x : ℕ). is_two_bytes x (get_or text (start + 1) 0) ≡ true) b
+          true_and_false false (subst (λ (x : ℕ). is_two_bytes x (get_or text (start + 1) 0) ≡ true) b
           (two_bytes_known (get_or text start 0) (get_or text (start + 1) 0) k bytes)) refl
 
   pub longest_slash : (k : ℕ) → get_or text start 0 ≡ 47 → get_or text (start + 1) 0 ≢ 47 → get_or text (start + 1) 0 ≢ 42 →
@@ -188,39 +151,39 @@ module _ (text : List ℕ) (start : ℕ) where
   -- a word is one thing
 
   pub one_meaning : (end : ℕ) (w : List ℕ) {f g : Form} → WordIs text end w f → WordIs text end w g → f ≡ g
-  one_meaning end w (keyword {k = k} a) (keyword {k = j} b) = ap (λ n. Token (Word n)) (one_keyword k j w a b)
-  one_meaning end w (keyword {k = k} a) (name d no_word not_outside) = absurd (no_word k a)
-  one_meaning end w (keyword {k = k} a) (number n no_fraction kept) = absurd (clash _ (number_begins n) (keyword_begins k w a))
-  one_meaning end w (keyword {k = k} a) (outside j b) = absurd (keyword_not_outside k j w a b)
-  one_meaning end w (keyword {k = k} a) (octal o) = absurd (clash _ (octal_begins w o) (keyword_begins k w a))
-  one_meaning end w (keyword {k = k} a) (fraction d at) = absurd (clash _ (decimal_begins w d) (keyword_begins k w a))
-  one_meaning end w (name d no_word not_outside) (keyword {k = k} b) = absurd (no_word k b)
+  one_meaning end w (keyword {k = k} a) (keyword {k = j} b) = ap (λ n. Token (Word n)) (position_is k j (one_keyword (position k) (position j) w a b))
+  one_meaning end w (keyword {k = k} a) (name d no_word not_outside) = absurd (no_word (position k) a)
+  one_meaning end w (keyword {k = k} a) (number n no_fraction kept) = absurd (true_and_false _ (number_begins n) (keyword_begins (position k) w a))
+  one_meaning end w (keyword {k = k} a) (outside j b) = absurd (keyword_not_outside (position k) j w a b)
+  one_meaning end w (keyword {k = k} a) (octal o) = absurd (true_and_false _ (octal_begins w o) (keyword_begins (position k) w a))
+  one_meaning end w (keyword {k = k} a) (fraction d at) = absurd (true_and_false _ (decimal_begins w d) (keyword_begins (position k) w a))
+  one_meaning end w (name d no_word not_outside) (keyword {k = k} b) = absurd (no_word (position k) b)
   one_meaning end w (name d no_word not_outside) (name d' no_word' not_outside') = refl
-  one_meaning end w (name d no_word not_outside) (number n no_fraction kept) = absurd (clash _ (number_begins n) d)
+  one_meaning end w (name d no_word not_outside) (number n no_fraction kept) = absurd (true_and_false _ (number_begins n) d)
   one_meaning end w (name d no_word not_outside) (outside j b) = absurd (not_outside j b)
-  one_meaning end w (name d no_word not_outside) (octal o) = absurd (clash _ (octal_begins w o) d)
-  one_meaning end w (name d no_word not_outside) (fraction e at) = absurd (clash _ (decimal_begins w e) d)
-  one_meaning end w (number n no_fraction kept) (keyword {k = k} a) = absurd (clash _ (number_begins n) (keyword_begins k w a))
-  one_meaning end w (number n no_fraction kept) (name d no_word not_outside) = absurd (clash _ (number_begins n) d)
+  one_meaning end w (name d no_word not_outside) (octal o) = absurd (true_and_false _ (octal_begins w o) d)
+  one_meaning end w (name d no_word not_outside) (fraction e at) = absurd (true_and_false _ (decimal_begins w e) d)
+  one_meaning end w (number n no_fraction kept) (keyword {k = k} a) = absurd (true_and_false _ (number_begins n) (keyword_begins (position k) w a))
+  one_meaning end w (number n no_fraction kept) (name d no_word not_outside) = absurd (true_and_false _ (number_begins n) d)
   one_meaning end w (number n no_fraction kept) (number m no_fraction' kept') =
       ap (λ x. Token (Number x)) (kept ∙ ap (λ x. min x (2 ^ 64)) (one_number n m) ∙ sym kept')
-  one_meaning end w (number n no_fraction kept) (outside j b) = absurd (clash _ (number_begins n) (outside_begins j w b))
+  one_meaning end w (number n no_fraction kept) (outside j b) = absurd (true_and_false _ (number_begins n) (outside_begins j w b))
   one_meaning end w (number n no_fraction kept) (octal o) = absurd (number_not_octal n o)
   one_meaning end w (number n no_fraction kept) (fraction d at) = absurd (no_fraction d at)
-  one_meaning end w (outside j b) (keyword {k = k} a) = absurd (keyword_not_outside k j w a b)
+  one_meaning end w (outside j b) (keyword {k = k} a) = absurd (keyword_not_outside (position k) j w a b)
   one_meaning end w (outside j b) (name d no_word not_outside) = absurd (not_outside j b)
-  one_meaning end w (outside j b) (number n no_fraction kept) = absurd (clash _ (number_begins n) (outside_begins j w b))
+  one_meaning end w (outside j b) (number n no_fraction kept) = absurd (true_and_false _ (number_begins n) (outside_begins j w b))
   one_meaning end w (outside j b) (outside k a) = refl
   one_meaning end w (outside j b) (octal o) = refl
   one_meaning end w (outside j b) (fraction d at) = refl
-  one_meaning end w (octal o) (keyword {k = k} a) = absurd (clash _ (octal_begins w o) (keyword_begins k w a))
-  one_meaning end w (octal o) (name d no_word not_outside) = absurd (clash _ (octal_begins w o) d)
+  one_meaning end w (octal o) (keyword {k = k} a) = absurd (true_and_false _ (octal_begins w o) (keyword_begins (position k) w a))
+  one_meaning end w (octal o) (name d no_word not_outside) = absurd (true_and_false _ (octal_begins w o) d)
   one_meaning end w (octal o) (number n no_fraction kept) = absurd (number_not_octal n o)
   one_meaning end w (octal o) (outside j b) = refl
   one_meaning end w (octal o) (octal o') = refl
   one_meaning end w (octal o) (fraction d at) = refl
-  one_meaning end w (fraction d at) (keyword {k = k} a) = absurd (clash _ (decimal_begins w d) (keyword_begins k w a))
-  one_meaning end w (fraction d at) (name e no_word not_outside) = absurd (clash _ (decimal_begins w d) e)
+  one_meaning end w (fraction d at) (keyword {k = k} a) = absurd (true_and_false _ (decimal_begins w d) (keyword_begins (position k) w a))
+  one_meaning end w (fraction d at) (name e no_word not_outside) = absurd (true_and_false _ (decimal_begins w d) e)
   one_meaning end w (fraction d at) (number n no_fraction kept) = absurd (no_fraction d at)
   one_meaning end w (fraction d at) (outside j b) = refl
   one_meaning end w (fraction d at) (octal o) = refl
@@ -237,10 +200,10 @@ module _ (text : List ℕ) (start : ℕ) where
   one_form (line_comment c) q = comment_alone c.first c.body q
   one_form (block_comment c) q = comment_alone c.opens.0 (omega (arith, c.body)) q
   one_form {end} (word w is) q = one_meaning end (slice_range text start end) is (of_word (w.each start (omega arith) w.nonempty) q).1
-  one_form (sign s) (blank inside e is) = absurd (clash (is_blank (get_or text start 0)) is (sign_first _ _ _ _ s).0)
+  one_form (sign s) (blank inside e is) = absurd (true_and_false (is_blank (get_or text start 0)) is (sign_first _ _ _ _ s).0)
   one_form (sign s) (line_comment c) = sym (comment_alone c.first c.body (sign s))
   one_form (sign s) (block_comment c) = sym (comment_alone c.opens.0 (omega (arith, c.body)) (sign s))
-  one_form (sign s) (word w is) = absurd (clash (is_word_byte (get_or text start 0)) (w.each start (omega arith) w.nonempty) (sign_first _ _ _ _ s).1)
+  one_form (sign s) (word w is) = absurd (true_and_false (is_word_byte (get_or text start 0)) (w.each start (omega arith) w.nonempty) (sign_first _ _ _ _ s).1)
   one_form (sign {k = k} s) (sign {k = j} t) = ap (λ n. Token (Sign n)) (one_sign k j _ s.spelled t.spelled)
 
   pub piece_forward : {end : ℕ} {f : Form} → IsPiece text start end f → start < end

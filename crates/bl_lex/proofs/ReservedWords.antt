@@ -1,34 +1,8 @@
 -- A table of reserved words is right and whole if tests say so, which compute for each table.
 use Rattle.std.proofs.str.Laws.{order}
 use Rattle.std.proofs.lemmas.List.{get_or_default}
-use Rattle.std.proofs.Common.{
-  ap,
-  ◌≡◌,
-  ◌≢◌,
-  ℕ,
-  suc,
-  ◌+◌,
-  ◌<◌,
-  get_or,
-  ⊎_elim,
-  ◌≤◌,
-  Bool,
-  true,
-  false,
-  not,
-  ◌&&◌,
-  ◌||◌,
-  ◌==◌,
-  List,
-  [],
-  ◌∷◌,
-  length,
-  refl,
-  sym,
-  ◌∙◌,
-  arith,
-  leb-true,
-}
+use Rattle.std.proofs.Common.{ap, ◌≡◌, ◌≢◌, ℕ, suc, ◌+◌, ◌<◌, get_or, ⊎_elim, ◌≤◌, Bool, true, false, not, ◌&&◌, ◌||◌, ◌==◌, List, [], ◌∷◌, length, refl, sym}
+use Rattle.std.proofs.Common.{◌∙◌, arith, leb-true}
 use Rattle.std.proofs.lemmas.Bool.{eq-eqb}
 use Rattle.std.proofs.lemmas.List.Sums.{AllPass-from_list_all}
 use Rattle.std.proofs.lemmas.List.Folds.{list_any_none}
@@ -36,12 +10,14 @@ use Rattle.std.proofs.lemmas.Slice.Eq.{bytes_eq-Decides}
 use Rattle.std.specs.Prelude.{Option, Some, None, slice_get, nat_le}
 use Rattle.std.specs.List.{list_all, list_any}
 use Rattle.std.specs.Str.{bytes_eq}
+use Rattle.std.proofs.lemmas.Bool.{false_from_ne_true}
+use Rattle.bl_tree.proofs.Basics.{all_at}
+use Rattle.bl_tree.specs.Keywords.{position}
 use Rattle.bl_lex.specs.declared.reserved.Meaning.{Meaning}
 use Rattle.bl_lex.specs.declared.reserved.Meaning.TheVariants.{Keyword, Outside}
 use Rattle.bl_lex.specs.declared.reserved.Reserved.{Reserved}
 use Rattle.bl_lex.specs.Spelling.{keywords, words_outside}
 use Rattle.bl_lex.specs.inner.Steps.{IsMeaningOf, AreReservedOf}
-use Rattle.bl_lex.proofs.Tables.{pass_at}
 
 -- the word there is this text
 abbrev pub is_spelled : Option (List ℕ) → List ℕ → Bool
@@ -66,11 +42,11 @@ found_by {X} p (x ∷ xs) is = first (p x) refl is (found_by p xs)
 
 -- the meaning is that of the text
 abbrev pub means : List ℕ → Meaning → Bool
-means text (Keyword k) = is_spelled (slice_get keywords k) text
+means text (Keyword k) = is_spelled (slice_get keywords (position k)) text
 means text Outside = list_any (bytes_eq text) words_outside
 
 IsMeaningOf-means : (text : List ℕ) (meaning : Meaning) → means text meaning ≡ true → IsMeaningOf text meaning
-IsMeaningOf-means text (Keyword k) is = Some-is_spelled (slice_get keywords k) text is
+IsMeaningOf-means text (Keyword k) is = Some-is_spelled (slice_get keywords (position k)) text is
 IsMeaningOf-means text Outside is = let h = found_by (bytes_eq text) words_outside is in (h.0, let e = (bytes_eq-Decides text h.1.0).0 h.1.2 in cc)
 
 unfoldable pub is_right : Reserved → Bool
@@ -79,10 +55,6 @@ is_right entry = means entry.text.now entry.meaning
 -- the word has another length, or stands in the table
 unfoldable pub is_listed : ℕ → List Reserved → List ℕ → Bool
 is_listed n entries word = not (length word == n) || list_any (λ entry. bytes_eq entry.text.now word) entries
-
-pub false_unless : (b : Bool) → (b ≡ true → ⊥) → b ≡ false
-false_unless true never = absurd (never refl)
-false_unless false never = refl
 
 listed_absent : (n : ℕ) (entries : List Reserved) (word : List ℕ) → length word ≡ n →
     list_any (λ entry. bytes_eq entry.text.now word) entries ≡ false → is_listed n entries word ≡ true → ⊥
@@ -96,10 +68,10 @@ are_reserved n entries right listed listed_outside = record {
   right = λ k d inside. IsMeaningOf-means _ _ (AllPass-from_list_all is_right entries right k d inside);
   complete = λ word length_is absent.
       let none : list_any (λ entry. bytes_eq entry.text.now word) entries ≡ false =
-      list_any_none _ entries (λ k d inside. false_unless _ (λ e. absent k d inside ((bytes_eq-Decides _ _).0 e))) in
+      list_any_none _ entries (λ k d inside. false_from_ne_true _ (λ e. absent k d inside ((bytes_eq-Decides _ _).0 e))) in
       record {
-        no_keyword = λ k is. let h = pass_at (is_listed n entries) keywords k word listed is in listed_absent n entries word length_is none h;
-        not_outside = λ k is. let h = pass_at (is_listed n entries) words_outside k word listed_outside is in listed_absent n entries word length_is none h;
+        no_keyword = λ k is. let h = all_at (is_listed n entries) keywords k word listed is in listed_absent n entries word length_is none h;
+        not_outside = λ k is. let h = all_at (is_listed n entries) words_outside k word listed_outside is in listed_absent n entries word length_is none h;
       };
 }
 
@@ -136,7 +108,7 @@ pub none_reserved : (n : ℕ) → (2 ≤ n → 9 < n) → AreReservedOf n []
 none_reserved n other = record {
   right = λ k d inside. absurd (omega arith);
   complete = λ word length_is absent. record {
-    no_keyword = λ k is. let h = sized word (pass_at is_sized keywords k word keywords_sized is) in let g = other (omega arith) in omega arith;
-    not_outside = λ k is. let h = sized word (pass_at is_sized words_outside k word words_outside_sized is) in let g = other (omega arith) in omega arith;
+    no_keyword = λ k is. let h = sized word (all_at is_sized keywords k word keywords_sized is) in let g = other (omega arith) in omega arith;
+    not_outside = λ k is. let h = sized word (all_at is_sized words_outside k word words_outside_sized is) in let g = other (omega arith) in omega arith;
   };
 }

@@ -1,42 +1,12 @@
 -- What covers a text is one list of parts; so each of the first three rules fails at one place, and first where it is found.
-use Rattle.std.proofs.Common.{
-  ◌≡◌,
-  ◌≢◌,
-  ℕ,
-  zero,
-  suc,
-  ◌+◌,
-  ◌-◌,
-  ◌<◌,
-  ◌≤◌,
-  Bool,
-  true,
-  false,
-  cond,
-  not,
-  List,
-  [],
-  ◌∷◌,
-  ◌++◌,
-  ◌⊎◌,
-  inl,
-  inr,
-  ⊎_elim,
-  length,
-  get_or,
-  refl,
-  ap,
-  sym,
-  ◌∙◌,
-  subst,
-  arith,
-  add-one,
-}
+use Rattle.std.proofs.Common.{◌≡◌, ◌≢◌, ℕ, zero, suc, ◌+◌, ◌-◌, ◌<◌, ◌≤◌, Bool, true, false, cond, not, List, [], ◌∷◌, ◌++◌, ◌⊎◌, inl, inr, ⊎_elim, length}
+use Rattle.std.proofs.Common.{get_or, refl, ap, sym, ◌∙◌, subst, arith, add-one}
 use Rattle.std.proofs.lemmas.List.Elements.{All-head, All-tail}
 use Rattle.std.proofs.Math.ListN.{get_or-eq_default}
 use Rattle.std.proofs.str.Laws.{order}
 use Rattle.std.specs.Prelude.{Option, Some, None, option_map, slice_range, All}
 use Rattle.std.specs.List.{cons_option}
+use Rattle.bl_tree.proofs.Basics.{true_and_false}
 use Rattle.bl_tree.specs.declared.token.TokenKind.{TokenKind}
 use Rattle.bl_tree.specs.declared.place.Place.{Place}
 use Rattle.bl_tree.specs.declared.rule.Rule.{Rule}
@@ -54,7 +24,7 @@ use Rattle.bl_lex.specs.Rules.{FailsSize, FailsLex, FailsProfile, IsStrayByte, I
 use Rattle.bl_lex.specs.Rules.IsLeftOut.{outside as left_outside}
 use Rattle.bl_lex.specs.inner.Walk.{NoneLeftOut, IsFirstLeftOut}
 use Rattle.bl_lex.proofs.WordLaws.{keyword_begins, outside_begins}
-use Rattle.bl_lex.proofs.PieceLaws.{clash, one_word, one_form, of_slash, of_word, piece_forward, piece_inside}
+use Rattle.bl_lex.proofs.PieceLaws.{one_word, one_form, of_slash, of_word, piece_forward, piece_inside}
 
 same_part : (p q : LexedPiece) → p.start ≡ q.start → p.end ≡ q.end → p.form ≡ q.form → p ≡ q
 same_part p q s e f = λ i. record { start = s i; end = e i; form = f i }
@@ -120,10 +90,10 @@ fault_begins_nothing text place fault end form p = ⊎_elim
     fault
   where
     bad_word : {form : Form} → IsMalformedNumber text place → WordIs text end (slice_range text place.start place.end) form → ⊥
-    bad_word bad (keyword k) = clash _ bad.digit (keyword_begins _ _ k)
-    bad_word bad (name d no_word not_outside) = clash _ bad.digit d
+    bad_word bad (keyword k) = true_and_false _ bad.digit (keyword_begins _ _ k)
+    bad_word bad (name d no_word not_outside) = true_and_false _ bad.digit d
     bad_word bad (number n no_fraction kept) = bad.no_number _ n
-    bad_word bad (outside k o) = clash _ bad.digit (outside_begins k _ o)
+    bad_word bad (outside k o) = true_and_false _ bad.digit (outside_begins k _ o)
     bad_word bad (octal o) = bad.not_octal o
     bad_word bad (fraction d at) = bad.no_number _ (decimal d)
 
@@ -131,7 +101,7 @@ fault_begins_nothing text place fault end form p = ⊎_elim
     no_meaning bad same w = bad_word bad (subst (λ (e : ℕ). WordIs text end (slice_range text place.start e) form) same w)
 
 -- a byte other than 0 stands inside the text
-byte_inside : (text : List ℕ) (at byte : ℕ) → get_or text at 0 ≡ byte → 0 < byte → at < length text
+pub byte_inside : (text : List ℕ) (at byte : ℕ) → get_or text at 0 ≡ byte → 0 < byte → at < length text
 byte_inside text at byte is some = ⊎_elim (λ less. less) (λ more. let past = get_or-eq_default text 0 more in absurd (omega arith)) (order at (length text))
 
 pub fault_inside : (text : List ℕ) (place : Place) → IsFault text place → place.start < length text
@@ -148,16 +118,16 @@ slash_in_no_word b is = rw is refl
 module _ (text : List ℕ) (start : ℕ) where
   stray_end : (e f : ℕ) → IsStrayByte text (here start e) → IsFault text (here start f) → e ≡ f
   stray_end e f a b = ⊎_elim (λ stray. a.one_byte ∙ sym stray.one_byte)
-      (⊎_elim (λ unclosed. absurd (a.no_comment unclosed.opens)) (λ bad. absurd (clash _ (word_begins text (here start f) bad) a.no_word))) b
+      (⊎_elim (λ unclosed. absurd (a.no_comment unclosed.opens)) (λ bad. absurd (true_and_false _ (word_begins text (here start f) bad) a.no_word))) b
 
   unclosed_end : (e f : ℕ) → IsUnclosedComment text (here start e) → IsFault text (here start f) → e ≡ f
   unclosed_end e f a b = ⊎_elim (λ stray. absurd (stray.no_comment a.opens))
       (⊎_elim (λ unclosed. a.two_bytes ∙ sym unclosed.two_bytes)
-      (λ bad. absurd (clash _ (word_begins text (here start f) bad) (slash_in_no_word _ a.opens.0)))) b
+      (λ bad. absurd (true_and_false _ (word_begins text (here start f) bad) (slash_in_no_word _ a.opens.0)))) b
 
   malformed_end : (e f : ℕ) → IsMalformedNumber text (here start e) → IsFault text (here start f) → e ≡ f
-  malformed_end e f a b = ⊎_elim (λ stray. absurd (clash _ (word_begins text (here start e) a) stray.no_word))
-      (⊎_elim (λ unclosed. absurd (clash _ (word_begins text (here start e) a) (slash_in_no_word _ unclosed.opens.0)))
+  malformed_end e f a b = ⊎_elim (λ stray. absurd (true_and_false _ (word_begins text (here start e) a) stray.no_word))
+      (⊎_elim (λ unclosed. absurd (true_and_false _ (word_begins text (here start e) a) (slash_in_no_word _ unclosed.opens.0)))
       (λ bad. one_word text start e f a.whole_word bad.whole_word)) b
 
 -- a fault ends at one place

@@ -1,44 +1,12 @@
 -- Signs at a place of the text: one or two bytes, which begin neither white space nor a word.
-use Rattle.std.proofs.Common.{
-  ◌≡◌,
-  ◌≢◌,
-  ℕ,
-  zero,
-  suc,
-  ◌+◌,
-  ◌-◌,
-  ◌<◌,
-  ◌≤◌,
-  Bool,
-  true,
-  false,
-  not,
-  ◌&&◌,
-  List,
-  [],
-  ◌∷◌,
-  ◌⊎◌,
-  inl,
-  inr,
-  ⊎_elim,
-  length,
-  get_or,
-  drop,
-  refl,
-  ap,
-  sym,
-  ◌∙◌,
-  subst,
-  arith,
-  add-one,
-  length-drop,
-  length-take-le,
-}
+use Rattle.std.proofs.Common.{◌≡◌, ◌≢◌, ℕ, zero, suc, ◌+◌, ◌-◌, ◌<◌, ◌≤◌, Bool, true, false, not, ◌&&◌, List, [], ◌∷◌, ◌⊎◌, inl, inr, ⊎_elim, length, get_or}
+use Rattle.std.proofs.Common.{drop, refl, ap, sym, ◌∙◌, subst, arith, add-one, length-drop, length-take-le}
 use Rattle.std.proofs.Math.Seq.{drop-cons}
 use Rattle.std.specs.Prelude.{slice_get, slice_range, Some}
+use Rattle.bl_tree.proofs.Basics.{all_at}
 use Rattle.bl_lex.specs.Spelling.{signs, is_blank, is_word_byte}
 use Rattle.bl_lex.specs.Pieces.{IsSign}
-use Rattle.bl_lex.proofs.Tables.{is_known, pass_at, all_known, begins_as_sign, all_begin_as_signs}
+use Rattle.bl_lex.proofs.Tables.{is_known, all_known, begins_as_sign, all_begin_as_signs}
 
 module _ (text : List ℕ) (start : ℕ) where
   pub range_one : start < length text → slice_range text start (start + 1) ≡ get_or text start 0 ∷ []
@@ -70,7 +38,7 @@ pub sign_ends : (text : List ℕ) (start end k : ℕ) → IsSign text start end 
 sign_ends text start end k is =
     let long : length (slice_range text start end) ≡ end - start = range_length text start end (omega (arith, is.nonempty)) is.inside in
     ⊎_elim (λ one. inl (omega (arith, is.nonempty))) (λ two. inr (omega (arith, is.nonempty)))
-    (known_lengths _ (pass_at is_known signs k _ all_known is.spelled))
+    (known_lengths _ (all_at is_known signs k _ all_known is.spelled))
 
 -- the first byte of the bytes from one place up to another
 pub range_first : (text : List ℕ) (start end : ℕ) → start < end → end ≤ length text →
@@ -83,7 +51,7 @@ pub sign_first : (text : List ℕ) (start end k : ℕ) → IsSign text start end
     (is_blank (get_or text start 0) ≡ false) × (is_word_byte (get_or text start 0) ≡ false)
 unfolding begins_as_sign
 sign_first text start end k is =
-    let h = pass_at begins_as_sign signs k _ all_begin_as_signs is.spelled in
+    let h = all_at begins_as_sign signs k _ all_begin_as_signs is.spelled in
     let first = range_first text start end is.nonempty is.inside in
     let both : not (is_blank (get_or text start 0)) && not (is_word_byte (get_or text start 0)) ≡ true =
     subst (λ (b : ℕ). not (is_blank b) && not (is_word_byte b) ≡ true) first h in

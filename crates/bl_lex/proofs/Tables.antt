@@ -1,14 +1,9 @@
 -- What holds of each word and sign of the lists, found by computing it for all of them.
-use Rattle.std.proofs.Common.{◌≡◌, ℕ, zero, suc, Bool, true, false, not, ◌&&◌, ◌||◌, ◌==◌, List, [], ◌∷◌, refl, arith}
+use Rattle.std.proofs.Common.{◌≡◌, ℕ, Bool, true, false, not, ◌&&◌, ◌||◌, ◌==◌, List, [], ◌∷◌, refl, arith}
 use Rattle.std.specs.Prelude.{slice_get, slice_index, Some}
 use Rattle.std.specs.List.{list_all}
+use Rattle.bl_tree.proofs.Basics.{all_at}
 use Rattle.bl_lex.specs.Spelling.{signs, is_blank, is_word_byte}
-
--- a test that all elements pass holds of the one at an index
-pub pass_at : {X : Type 0} (p : X → Bool) (xs : List X) (k : ℕ) (x : X) → list_all p xs ≡ true → slice_get xs k ≡ Some x → p x ≡ true
-pass_at p [] k x all is = cc
-pass_at p (y ∷ ys) zero x all is = grind arith
-pass_at p (y ∷ ys) (suc k) x all is = grind (arith, pass_at p ys k x)
 
 -- a sign begins with neither white space nor a byte of words
 unfoldable pub begins_as_sign : List ℕ → Bool
@@ -39,8 +34,8 @@ all_known = refl
 
 pub one_byte_known : (a k : ℕ) → slice_get signs k ≡ Some (a ∷ []) → is_one_byte a ≡ true
 unfolding is_known
-one_byte_known a k is = pass_at is_known signs k (a ∷ []) all_known is
+one_byte_known a k is = all_at is_known signs k (a ∷ []) all_known is
 
 pub two_bytes_known : (a b k : ℕ) → slice_get signs k ≡ Some (a ∷ b ∷ []) → is_two_bytes a b ≡ true
 unfolding is_known
-two_bytes_known a b k is = pass_at is_known signs k (a ∷ b ∷ []) all_known is
+two_bytes_known a b k is = all_at is_known signs k (a ∷ b ∷ []) all_known is

@@ -1,31 +1,6 @@
 -- One part more, in the walk over a text.
-use Rattle.std.proofs.Common.{
-  ◌≡◌,
-  ◌≢◌,
-  ℕ,
-  ◌+◌,
-  ◌-◌,
-  ◌≤◌,
-  Bool,
-  true,
-  false,
-  List,
-  [],
-  ◌∷◌,
-  ◌++◌,
-  inl,
-  inr,
-  ⊎_elim,
-  take,
-  refl,
-  ap,
-  sym,
-  ◌∙◌,
-  subst,
-  arith,
-  append_assoc,
-  take-add,
-}
+use Rattle.std.proofs.Common.{◌≡◌, ◌≢◌, ℕ, ◌+◌, ◌-◌, ◌≤◌, Bool, true, false, List, [], ◌∷◌, ◌++◌, inl, inr, ⊎_elim, take, refl, ap, sym, ◌∙◌, subst, arith}
+use Rattle.std.proofs.Common.{append_assoc, take-add}
 use Rattle.std.proofs.lemmas.List.{append-nil}
 use Rattle.std.proofs.lemmas.List.Sums.{sum_by-append}
 use Rattle.std.proofs.lemmas.List.Elements.{filter-append, filter_map-append}
@@ -42,19 +17,8 @@ use Rattle.bl_lex.specs.Pieces.{is_between, line_feed}
 use Rattle.bl_lex.specs.Tokens.{LexedPiece, place_of, IsLongest, Covers, line_at, token_of, tokens_of, without_between}
 use Rattle.bl_lex.specs.Rules.{IsLeftOut}
 use Rattle.bl_lex.specs.Rules.IsLeftOut.{outside, open_brace, close_brace, attribute}
-use Rattle.bl_lex.specs.inner.Walk.{
-  EndsAt,
-  EndsAtBracket,
-  IsBefore,
-  NextBefore,
-  IsLeftOutAfter,
-  NoneLeftOut,
-  IsFirstLeftOut,
-  IsLeftOutPlace,
-  IsScanned,
-  earlier,
-  token_with,
-}
+use Rattle.bl_lex.specs.inner.Walk.{EndsAt, EndsAtBracket, IsBefore, NextBefore, IsLeftOutAfter, NoneLeftOut, IsFirstLeftOut, IsLeftOutPlace, IsScanned}
+use Rattle.bl_lex.specs.inner.Walk.{earlier, token_with}
 use Rattle.bl_lex.proofs.Ends.{never_empty, snoc_parts, where_in}
 use Rattle.bl_lex.proofs.PieceLaws.{piece_forward}
 

@@ -1,38 +1,15 @@
 -- A word is one thing: the lists of reserved words have each word once, and no word spells two numbers.
-use Rattle.std.proofs.Common.{
-  ◌≡◌,
-  ℕ,
-  zero,
-  suc,
-  ◌<◌,
-  ◌≤◌,
-  Bool,
-  true,
-  false,
-  not,
-  ◌&&◌,
-  ◌||◌,
-  List,
-  [],
-  ◌∷◌,
-  ◌⊎◌,
-  inl,
-  inr,
-  ⊎_elim,
-  get_or,
-  refl,
-  ap,
-  subst,
-  arith,
-}
+use Rattle.std.proofs.Common.{◌≡◌, ℕ, zero, suc, ◌<◌, ◌≤◌, Bool, true, false, not, ◌&&◌, ◌||◌, List, [], ◌∷◌, ◌⊎◌, inl, inr, ⊎_elim, get_or, refl, ap, subst}
+use Rattle.std.proofs.Common.{arith}
 use Rattle.std.proofs.lemmas.Bool.Decides.{nat_tests}
 use Rattle.std.proofs.lemmas.Slice.Eq.{bytes_eq-Decides}
 use Rattle.std.specs.Prelude.{slice_get, Some}
 use Rattle.std.specs.List.{list_all, list_any}
 use Rattle.std.specs.Str.{bytes_eq}
 use Rattle.std.specs.Char.{digit_value}
+use Rattle.std.proofs.lemmas.Bool.{not-true}
+use Rattle.bl_tree.proofs.Basics.{all_at}
 use Rattle.bl_lex.specs.Spelling.{keywords, words_outside, signs, begins_with_digit, IsDigits, IsNumber, IsOctal}
-use Rattle.bl_lex.proofs.Tables.{pass_at}
 use Rattle.bl_lex.proofs.Numbers.{number_cases, not_decimal-mark}
 
 -- each element stands once
@@ -90,7 +67,7 @@ keywords_inside = refl
 
 pub keyword_not_outside : (k j : ℕ) (w : List ℕ) → slice_get keywords k ≡ Some w → slice_get words_outside j ≡ Some w → ⊥
 unfolding is_inside
-keyword_not_outside k j w a b = clash (list_any (bytes_eq w) words_outside) (found words_outside j w b) (pass_at is_inside keywords k w keywords_inside a)
+keyword_not_outside k j w a b = clash (list_any (bytes_eq w) words_outside) (found words_outside j w b) (all_at is_inside keywords k w keywords_inside a)
   where
     clash : (b : Bool) → b ≡ true → not b ≡ true → ⊥
     clash true is isnt = cc
@@ -108,17 +85,13 @@ words_outside_begin : list_all begins_otherwise words_outside ≡ true
 unfolding words_outside begins_otherwise
 words_outside_begin = refl
 
-not_true : (b : Bool) → not b ≡ true → b ≡ false
-not_true true is = cc
-not_true false is = refl
-
 pub keyword_begins : (k : ℕ) (w : List ℕ) → slice_get keywords k ≡ Some w → begins_with_digit w ≡ false
 unfolding begins_otherwise
-keyword_begins k w is = not_true _ (pass_at begins_otherwise keywords k w keywords_begin is)
+keyword_begins k w is = not-true _ (all_at begins_otherwise keywords k w keywords_begin is)
 
 pub outside_begins : (k : ℕ) (w : List ℕ) → slice_get words_outside k ≡ Some w → begins_with_digit w ≡ false
 unfolding begins_otherwise
-outside_begins k w is = not_true _ (pass_at begins_otherwise words_outside k w words_outside_begin is)
+outside_begins k w is = not-true _ (all_at begins_otherwise words_outside k w words_outside_begin is)
 
 -- decimal digits begin with a digit
 pub decimal_begins : (w : List ℕ) → IsDigits 10 w → begins_with_digit w ≡ true

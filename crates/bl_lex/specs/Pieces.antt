@@ -1,27 +1,9 @@
 -- The pieces that a text is made of: white space, comments and tokens.
-use Rattle.std.specs.Prelude.{
-  ◌≡◌,
-  ◌≢◌,
-  ℕ,
-  ◌+◌,
-  ◌-◌,
-  ◌^◌,
-  ◌<◌,
-  ◌≤◌,
-  min,
-  true,
-  false,
-  List,
-  length,
-  slice_index,
-  slice_get,
-  slice_range,
-  Option,
-  Some,
-  None,
-  Bool,
-}
+use Rattle.std.specs.Prelude.{◌≡◌, ◌≢◌, ℕ, ◌+◌, ◌-◌, ◌^◌, ◌<◌, ◌≤◌, min, true, false, List, length, slice_index, slice_get, slice_range, Option, Some, None}
+use Rattle.std.specs.Prelude.{Bool}
 use Rattle.std.specs.Char.{is_ascii_digit}
+use Rattle.bl_tree.specs.declared.token.Keyword.{Keyword}
+use Rattle.bl_tree.specs.Keywords.{position}
 use Rattle.bl_tree.specs.declared.token.TokenKind.{TokenKind}
 use Rattle.bl_tree.specs.declared.token.TokenKind.TheVariants.{Name, Number, Word, Sign}
 use Rattle.bl_lex.specs.declared.piece.Form.{Form}
@@ -82,7 +64,7 @@ pub record IsWord (text : List ℕ) (start end : ℕ) : Type 0 where
 
 -- what a word is that ends here: a keyword, a name, a number, or what the profile leaves out
 pub data WordIs (text : List ℕ) (end : ℕ) (word : List ℕ) : Form → Type 0 where
-  keyword : {k : ℕ} → slice_get keywords k ≡ Some word → WordIs text end word (Token (Word k))
+  keyword : {k : Keyword} → slice_get keywords (position k) ≡ Some word → WordIs text end word (Token (Word k))
   name : begins_with_digit word ≡ false → ((k : ℕ) → slice_get keywords k ≢ Some word) →
       ((k : ℕ) → slice_get words_outside k ≢ Some word) → WordIs text end word (Token Name)
   -- a greater number than 2^64 is kept as 2^64

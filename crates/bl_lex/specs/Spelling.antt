@@ -1,23 +1,5 @@
 -- How words, numbers and signs are spelled.
-use Rattle.std.specs.Prelude.{
-  ◌≡◌,
-  ℕ,
-  ◌+◌,
-  ◌*◌,
-  ◌^◌,
-  ◌<◌,
-  Bool,
-  ◌||◌,
-  ◌==◌,
-  List,
-  [],
-  ◌∷◌,
-  ◌++◌,
-  length,
-  slice_index,
-  codes,
-  All,
-}
+use Rattle.std.specs.Prelude.{◌≡◌, ℕ, ◌+◌, ◌*◌, ◌^◌, ◌<◌, Bool, ◌||◌, ◌==◌, List, [], ◌∷◌, ◌++◌, length, slice_index, codes, All}
 use Rattle.std.specs.Char.{digit_value, is_ascii_digit}
 pub use Rattle.bl_tree.specs.Words.{is_word_byte}
 use Rattle.bl_tree.specs.Words

@@ -1,23 +1,5 @@
 -- The tokens of a text.
-use Rattle.std.specs.Prelude.{
-  ◌≡◌,
-  ◌≢◌,
-  ℕ,
-  ◌≤◌,
-  ◌==◌,
-  not,
-  List,
-  [],
-  ◌∷◌,
-  length,
-  take,
-  count_by,
-  filter,
-  filter_map,
-  All,
-  Option,
-  option_map,
-}
+use Rattle.std.specs.Prelude.{◌≡◌, ◌≢◌, ℕ, ◌≤◌, ◌==◌, not, List, [], ◌∷◌, length, take, count_by, filter, filter_map, All, Option, option_map}
 use Rattle.bl_tree.specs.declared.place.Place.{Place}
 use Rattle.bl_tree.specs.declared.token.Token.{Token}
 use Rattle.bl_lex.specs.declared.piece.Form.{Form}

@@ -15,7 +15,6 @@ mod piece;
 mod reserved;
 mod scan;
 pub mod sign;
-pub mod word;
 
 pub use front::{Front, tokens_up_to};
 pub use scan::lex;

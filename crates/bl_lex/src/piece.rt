@@ -145,7 +145,7 @@ fn word_form(word: &[u8]) -> Form
     ensures { (text : List ℕ) (end : ℕ) → WordIs text end word.now result }
 {
     match meaning_of(word) {
-        Some(Meaning::Keyword(position)) => Form::Token(TokenKind::Word(position)),
+        Some(Meaning::Keyword(keyword)) => Form::Token(TokenKind::Word(keyword)),
         Some(Meaning::Outside) => Form::Outside,
         None => Form::Token(TokenKind::Name),
     }

@@ -3,13 +3,12 @@
 ghost use Rattle.std.specs.Prelude.{◌≢◌, All, MatchOption, length};
 ghost use Rattle.bl_lex.specs.inner.Steps.{IsMeaningOf, IsUnreserved, AreReservedOf};
 
-use crate::word;
+use bl_tree::token::Keyword;
 
 /// What a reserved word is.
 #[derive(Clone, Copy, PartialEq, Eq, Debug)]
 pub enum Meaning {
-    /// The position in the list of keywords.
-    Keyword(u8),
+    Keyword(Keyword),
     /// A word of the whole language that the profile leaves out.
     Outside,
 }
@@ -23,85 +22,85 @@ pub struct Reserved {
 static OF_TWO: [Reserved; 3] = [
     Reserved {
         text: "if",
-        meaning: Meaning::Keyword(word::IF),
+        meaning: Meaning::Keyword(Keyword::If),
     },
     Reserved {
         text: "as",
-        meaning: Meaning::Keyword(word::AS),
+        meaning: Meaning::Keyword(Keyword::As),
     },
     Reserved {
         text: "or",
-        meaning: Meaning::Keyword(word::OR),
+        meaning: Meaning::Keyword(Keyword::Or),
     },
 ];
 
 static OF_THREE: [Reserved; 6] = [
     Reserved {
         text: "var",
-        meaning: Meaning::Keyword(word::VAR),
+        meaning: Meaning::Keyword(Keyword::Var),
     },
     Reserved {
         text: "let",
-        meaning: Meaning::Keyword(word::LET),
+        meaning: Meaning::Keyword(Keyword::Let),
     },
     Reserved {
         text: "end",
-        meaning: Meaning::Keyword(word::END),
+        meaning: Meaning::Keyword(Keyword::End),
     },
     Reserved {
         text: "run",
-        meaning: Meaning::Keyword(word::RUN),
+        meaning: Meaning::Keyword(Keyword::Run),
     },
     Reserved {
         text: "not",
-        meaning: Meaning::Keyword(word::NOT),
+        meaning: Meaning::Keyword(Keyword::Not),
     },
     Reserved {
         text: "and",
-        meaning: Meaning::Keyword(word::AND),
+        meaning: Meaning::Keyword(Keyword::And),
     },
 ];
 
 static OF_FOUR: [Reserved; 12] = [
     Reserved {
         text: "then",
-        meaning: Meaning::Keyword(word::THEN),
+        meaning: Meaning::Keyword(Keyword::Then),
     },
     Reserved {
         text: "else",
-        meaning: Meaning::Keyword(word::ELSE),
+        meaning: Meaning::Keyword(Keyword::Else),
     },
     Reserved {
         text: "weak",
-        meaning: Meaning::Keyword(word::WEAK),
+        meaning: Meaning::Keyword(Keyword::Weak),
     },
     Reserved {
         text: "with",
-        meaning: Meaning::Keyword(word::WITH),
+        meaning: Meaning::Keyword(Keyword::With),
     },
     Reserved {
         text: "when",
-        meaning: Meaning::Keyword(word::WHEN),
+        meaning: Meaning::Keyword(Keyword::When),
     },
     Reserved {
         text: "prev",
-        meaning: Meaning::Keyword(word::PREV),
+        meaning: Meaning::Keyword(Keyword::Prev),
     },
     Reserved {
         text: "true",
-        meaning: Meaning::Keyword(word::TRUE),
+        meaning: Meaning::Keyword(Keyword::True),
     },
     Reserved {
         text: "bool",
-        meaning: Meaning::Keyword(word::BOOL),
+        meaning: Meaning::Keyword(Keyword::Bool),
     },
     Reserved {
         text: "int8",
-        meaning: Meaning::Keyword(word::INT8),
+        meaning: Meaning::Keyword(Keyword::Int8),
     },
     Reserved {
         text: "nat8",
-        meaning: Meaning::Keyword(word::NAT8),
+        meaning: Meaning::Keyword(Keyword::Nat8),
     },
     Reserved {
         text: "unit",
@@ -116,59 +115,59 @@ static OF_FOUR: [Reserved; 12] = [
 static OF_FIVE: [Reserved; 15] = [
     Reserved {
         text: "const",
-        meaning: Meaning::Keyword(word::CONST),
+        meaning: Meaning::Keyword(Keyword::Const),
     },
     Reserved {
         text: "await",
-        meaning: Meaning::Keyword(word::AWAIT),
+        meaning: Meaning::Keyword(Keyword::Await),
     },
     Reserved {
         text: "abort",
-        meaning: Meaning::Keyword(word::ABORT),
+        meaning: Meaning::Keyword(Keyword::Abort),
     },
     Reserved {
         text: "reset",
-        meaning: Meaning::Keyword(word::RESET),
+        meaning: Meaning::Keyword(Keyword::Reset),
     },
     Reserved {
         text: "until",
-        meaning: Meaning::Keyword(word::UNTIL),
+        meaning: Meaning::Keyword(Keyword::Until),
     },
     Reserved {
         text: "while",
-        meaning: Meaning::Keyword(word::WHILE),
+        meaning: Meaning::Keyword(Keyword::While),
     },
     Reserved {
         text: "false",
-        meaning: Meaning::Keyword(word::FALSE),
+        meaning: Meaning::Keyword(Keyword::False),
     },
     Reserved {
         text: "int16",
-        meaning: Meaning::Keyword(word::INT16),
+        meaning: Meaning::Keyword(Keyword::Int16),
     },
     Reserved {
         text: "int32",
-        meaning: Meaning::Keyword(word::INT32),
+        meaning: Meaning::Keyword(Keyword::Int32),
     },
     Reserved {
         text: "int64",
-        meaning: Meaning::Keyword(word::INT64),
+        meaning: Meaning::Keyword(Keyword::Int64),
     },
     Reserved {
         text: "nat16",
-        meaning: Meaning::Keyword(word::NAT16),
+        meaning: Meaning::Keyword(Keyword::Nat16),
     },
     Reserved {
         text: "nat32",
-        meaning: Meaning::Keyword(word::NAT32),
+        meaning: Meaning::Keyword(Keyword::Nat32),
     },
     Reserved {
         text: "nat64",
-        meaning: Meaning::Keyword(word::NAT64),
+        meaning: Meaning::Keyword(Keyword::Nat64),
     },
     Reserved {
         text: "bits8",
-        meaning: Meaning::Keyword(word::BITS8),
+        meaning: Meaning::Keyword(Keyword::Bits8),
     },
     Reserved {
         text: "param",
@@ -179,31 +178,31 @@ static OF_FIVE: [Reserved; 15] = [
 static OF_SIX: [Reserved; 10] = [
     Reserved {
         text: "return",
-        meaning: Meaning::Keyword(word::RETURN),
+        meaning: Meaning::Keyword(Keyword::Return),
     },
     Reserved {
         text: "struct",
-        meaning: Meaning::Keyword(word::STRUCT),
+        meaning: Meaning::Keyword(Keyword::Struct),
     },
     Reserved {
         text: "elseif",
-        meaning: Meaning::Keyword(word::ELSEIF),
+        meaning: Meaning::Keyword(Keyword::Elseif),
     },
     Reserved {
         text: "repeat",
-        meaning: Meaning::Keyword(word::REPEAT),
+        meaning: Meaning::Keyword(Keyword::Repeat),
     },
     Reserved {
         text: "bits16",
-        meaning: Meaning::Keyword(word::BITS16),
+        meaning: Meaning::Keyword(Keyword::Bits16),
     },
     Reserved {
         text: "bits32",
-        meaning: Meaning::Keyword(word::BITS32),
+        meaning: Meaning::Keyword(Keyword::Bits32),
     },
     Reserved {
         text: "bits64",
-        meaning: Meaning::Keyword(word::BITS64),
+        meaning: Meaning::Keyword(Keyword::Bits64),
     },
     Reserved {
         text: "extern",
@@ -222,11 +221,11 @@ static OF_SIX: [Reserved; 10] = [
 static OF_SEVEN: [Reserved; 5] = [
     Reserved {
         text: "returns",
-        meaning: Meaning::Keyword(word::RETURNS),
+        meaning: Meaning::Keyword(Keyword::Returns),
     },
     Reserved {
         text: "cobegin",
-        meaning: Meaning::Keyword(word::COBEGIN),
+        meaning: Meaning::Keyword(Keyword::Cobegin),
     },
     Reserved {
         text: "float32",
@@ -245,11 +244,11 @@ static OF_SEVEN: [Reserved; 5] = [
 static OF_EIGHT: [Reserved; 2] = [
     Reserved {
         text: "function",
-        meaning: Meaning::Keyword(word::FUNCTION),
+        meaning: Meaning::Keyword(Keyword::Function),
     },
     Reserved {
         text: "activity",
-        meaning: Meaning::Keyword(word::ACTIVITY),
+        meaning: Meaning::Keyword(Keyword::Activity),
     },
 ];
 

@@ -13,33 +13,10 @@ use Rattle.bl_tree.proofs.FirstLemmas.{In, alike_first, alike_passes, contains_i
 use Rattle.bl_limits_measures.specs.Types.{nesting, struct_nestings}
 use Rattle.bl_limits_measures.specs.Units.{all_chains, cells_at, instances_at}
 use Rattle.bl_limits.specs.Rules.{Fails, FailsCells, FailsFrames, FailsNesting, NestingFails, NestingPasses, Passes}
-use Rattle.bl_limits.specs.inner.Failures.{
-  chain_failures,
-  failure_at,
-  failures,
-  large_state,
-  many_instances,
-  nesting_failures,
-  of_variable,
-  struct_failures,
-  unit_variable_failures,
-  variable_failures,
-}
-use Rattle.bl_limits.proofs.Members.{
-  above_in,
-  append_left,
-  append_right,
-  at_unit_in,
-  in_above,
-  in_append,
-  in_at_unit,
-  in_joined,
-  in_later,
-  in_numbered,
-  joined_in,
-  later_in,
-  numbered_in,
-}
+use Rattle.bl_limits.specs.inner.Failures.{chain_failures, failure_at, failures, large_state, many_instances, nesting_failures, of_variable, struct_failures}
+use Rattle.bl_limits.specs.inner.Failures.{unit_variable_failures, variable_failures}
+use Rattle.bl_limits.proofs.Members.{above_in, append_left, append_right, at_unit_in, in_above, in_append, in_at_unit, in_joined, in_later, in_numbered}
+use Rattle.bl_limits.proofs.Members.{joined_in, later_in, numbered_in}
 
 -- ---- nesting
 

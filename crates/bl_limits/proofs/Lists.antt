@@ -1,36 +1,8 @@
 -- The first of several failures, list by list.
-use Rattle.std.proofs.Common.{
-  ◌≡◌,
-  ℕ,
-  suc,
-  ◌+◌,
-  ◌-◌,
-  ◌^◌,
-  ◌<◌,
-  cond,
-  List,
-  [],
-  ◌∷◌,
-  ◌++◌,
-  map,
-  length,
-  ◌⊎◌,
-  ⊎_elim,
-  get_or,
-  drop,
-  Option,
-  Some,
-  None,
-  refl,
-  sym,
-  ap,
-  ◌∙◌,
-  add-one,
-  arith,
-}
+use Rattle.std.proofs.Common.{◌≡◌, ℕ, ◌+◌, ◌-◌, ◌^◌, ◌<◌, cond, List, [], ◌∷◌, ◌++◌, map, ◌⊎◌, ⊎_elim, Option, Some, None, refl, sym}
+use Rattle.std.proofs.Common.{ap, ◌∙◌, arith}
 use Rattle.std.specs.Prelude.{nat_lt}
 use Rattle.std.proofs.lemmas.Bool.Decides.{nat_tests}
-use Rattle.std.proofs.Math.Seq.{drop-cons}
 use Rattle.bl_tree.specs.declared.place.Place.{Place}
 use Rattle.bl_tree.specs.declared.rule.Failure.{Failure}
 use Rattle.bl_tree.specs.declared.rule.Rule.{Rule}
@@ -43,18 +15,6 @@ use Rattle.bl_limits.specs.inner.Failures.{above, at_unit, failure_at, numbered}
 pub first-append : (best : Option Failure) (xs ys : List Failure) → first_of best (xs ++ ys) ≡ first_of (first_of best xs) ys
 first-append best [] ys = refl
 first-append best (x ∷ xs) ys = first-append (lesser best x) xs ys
-
--- five lists, one after another
-pub five_are : (a b c d e : List Failure)
-    → first_of (first_of (first_of (first_of (first_of None a) b) c) d) e ≡ first_of None (a ++ (b ++ (c ++ (d ++ e))))
-five_are a b c d e =
-    sym (first-append (first_of (first_of (first_of None a) b) c) d e)
-    ∙ sym (first-append (first_of (first_of None a) b) c (d ++ e))
-    ∙ sym (first-append (first_of None a) b (c ++ (d ++ e)))
-    ∙ sym (first-append None a (b ++ (c ++ (d ++ e))))
-
-pub next_of : {X : Type 0} (xs : List X) (k : ℕ) (x : X) → k < length xs → x ≡ get_or xs k x → drop k xs ≡ x ∷ drop (k + 1) xs
-next_of xs k x within is = rw add-one (drop-cons xs k x within ∙ ap (λ y. y ∷ drop (suc k) xs) (sym is))
 
 -- one more list of failures
 pub first-next : {X : Type 0} (g : X → List Failure) (all rest : List X) (x : X) (best found : Option Failure) → all ≡ x ∷ rest →

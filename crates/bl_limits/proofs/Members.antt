@@ -1,34 +1,9 @@
 -- What stands in the lists of failures.
-use Rattle.std.proofs.Common.{
-  ◌≡◌,
-  ℕ,
-  ◌<◌,
-  ◌≤◌,
-  zero,
-  suc,
-  true,
-  false,
-  cond,
-  List,
-  [],
-  ◌∷◌,
-  ◌++◌,
-  map,
-  drop,
-  ◌⊎◌,
-  inl,
-  inr,
-  ⊎_elim,
-  Option,
-  Some,
-  None,
-  refl,
-  sym,
-  subst,
-  arith,
-}
+use Rattle.std.proofs.Common.{◌≡◌, ℕ, ◌<◌, ◌≤◌, zero, suc, true, false, cond, List, [], ◌∷◌, ◌++◌, map, drop, ◌⊎◌, inl, inr, ⊎_elim, Option, Some, None, refl}
+use Rattle.std.proofs.Common.{sym, subst, arith}
 use Rattle.std.specs.Prelude.{nat_lt, slice_get, slice_index}
 use Rattle.std.proofs.lemmas.Bool.Decides.{nat_tests}
+use Rattle.bl_tree.proofs.Basics.{same_some}
 use Rattle.bl_tree.specs.declared.place.Place.{Place}
 use Rattle.bl_tree.specs.declared.rule.Failure.{Failure}
 use Rattle.bl_tree.specs.declared.rule.Rule.{Rule}
@@ -101,15 +76,12 @@ in_numbered rule limit place (a ∷ rest) (n ∷ numbers) x h =
     (λ later. let found = in_numbered rule limit place rest numbers x later in (suc found.0, found.1, found.2, found.3, found.4))
     (in_append x (above limit n (failure_at rule (place a))) (numbered rule limit place rest numbers) h)
 
-some_is : {A : Type 0} (x y : A) → Some x ≡ Some y → x ≡ y
-some_is x y is = cc
-
 pub numbered_in : {A : Type 0} (rule : Rule) (limit : ℕ) (place : A → Place) (xs : List A) (numbers : List ℕ) (k : ℕ) (a : A)
     → slice_get xs k ≡ Some a → limit < slice_index numbers k → In (failure_at rule (place a)) (numbered rule limit place xs numbers)
 numbered_in rule limit place [] numbers k a there less = absurd (cc)
 numbered_in rule limit place (x ∷ rest) [] k a there less = absurd (omega arith)
 numbered_in rule limit place (x ∷ rest) (n ∷ numbers) zero a there less =
-    let is : x ≡ a = some_is x a there in
+    let is : x ≡ a = same_some x a there in
     append_left (failure_at rule (place a)) (above limit n (failure_at rule (place x))) (numbered rule limit place rest numbers)
     (subst (λ y. In (failure_at rule (place a)) (above limit n (failure_at rule (place y)))) (sym is) (above_in limit n (failure_at rule (place a)) less))
 numbered_in rule limit place (x ∷ rest) (n ∷ numbers) (suc k) a there less =

@@ -6,7 +6,7 @@ use Rattle.bl_tree.specs.declared.rule.Rule.TheVariants as rule
 use Rattle.bl_tree.specs.declared.tree.StructDef.{StructDef}
 use Rattle.bl_tree.specs.declared.tree.Unit.{Unit as UnitDef}
 use Rattle.bl_tree.specs.declared.tree.Var.{Var}
-use Rattle.bl_tree.specs.Rules.{FailsFirst as FirstOf, Passes as NoneOf}
+use Rattle.bl_tree.specs.Rules.{Passes as NoneOf}
 use Rattle.bl_limits_measures.specs.Types.{nesting, struct_nestings}
 use Rattle.bl_limits_measures.specs.Units.{cells_at, chain_at, instances_at}
 
@@ -73,10 +73,6 @@ abbrev pub Fails : List StructDef → List UnitDef → ℕ → Rule → Place �
 Fails structs units entry rule.Frames at also = FailsFrames units entry at × (also ≡ [])
 Fails structs units entry rule.Cells at also = FailsCells structs units entry at × (also ≡ [])
 Fails structs units entry _ at also = ⊥
-
--- the rule is the first of Frames and Cells that fails, and fails first at this place
-abbrev pub FailsFirst : List StructDef → List UnitDef → ℕ → Rule → Place → List Place → Type 0
-FailsFirst structs units entry = FirstOf (Fails structs units entry)
 
 -- neither Frames nor Cells fails
 abbrev pub Passes : List StructDef → List UnitDef → ℕ → Type 0

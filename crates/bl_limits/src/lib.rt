@@ -1,5 +1,5 @@
 //! The rules Frames and Cells (docs/LANGUAGE.md, "Rules"), by the measures of the program. `check` answers Ok exactly
-//! where neither fails. Else it names the first that fails, at its least place (`specs/Rules.antt`, `FailsFirst`); want of
+//! where neither fails. Else it names the first that fails, at its least place (`specs/Rules.antt`, `Fails`); want of
 //! memory aside. No instance is expanded. `check_nesting` judges structs and units without an entry, by nesting alone.
 #![tactic(auto, using(crate::proofs::Lists::firsts))]
 

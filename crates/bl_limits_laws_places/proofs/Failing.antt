@@ -1,8 +1,8 @@
 -- How deep structs and variables are nested doesn't hang on places.
-use Rattle.std.proofs.Common.{◌≡◌, ◌⊎◌, inl, inr, ℕ, ◌<◌, List, [], ◌∷◌, ◌++◌, map, refl, ap, ap₂, sym, subst, ◌∙◌}
-use Rattle.std.specs.Prelude.{◌↔◌, Contains, Some, slice_get, slice_index}
+use Rattle.std.proofs.Common.{◌≡◌, ◌⊎◌, inl, inr, ℕ, ◌<◌, List, [], ◌∷◌, ◌++◌, map, refl, ap, sym, subst, ◌∙◌}
+use Rattle.std.specs.Prelude.{◌↔◌, Contains, slice_index}
+use Rattle.bl_tree.proofs.Basics.{contains_mapped, get_mapped}
 use Rattle.bl_tree.specs.declared.place.Place.{Place}
-use Rattle.bl_tree.specs.declared.rule.Rule.{Rule}
 use Rattle.bl_tree.specs.declared.rule.Rule.TheVariants as rule
 use Rattle.bl_tree.specs.declared.tree.StructDef.{StructDef}
 use Rattle.bl_tree.specs.declared.tree.Ty.{Ty}
@@ -10,7 +10,7 @@ use Rattle.bl_tree.specs.declared.tree.Unit.{Unit as UnitDef}
 use Rattle.bl_tree.specs.declared.tree.Var.{Var}
 use Rattle.bl_tree_laws_places.specs.Laws.{FailsMoved}
 use Rattle.bl_tree_laws_places.specs.Placed.{placed_struct, placed_structs, placed_unit, placed_units, placed_var}
-use Rattle.bl_tree_laws_places.proofs.Lists.{from_got, from_map, into_got, into_map}
+use Rattle.bl_tree_laws_places.proofs.Lists.{from_got, from_map}
 use Rattle.bl_limits_measures.specs.InOrder.{answers_after}
 use Rattle.bl_limits_measures.specs.Types.{fields_nesting, nesting, nesting_by, struct_nestings}
 use Rattle.bl_limits.specs.Rules.{DeepStruct, DeepVariable, FailsNesting, NestingFails}
@@ -76,15 +76,15 @@ module _ (f : Place → Place) where
       position = h.position;
       later = h.later;
       def = placed_struct f h.def;
-      is_there = into_got (placed_struct f) structs h.position h.def h.is_there;
+      is_there = get_mapped (placed_struct f) structs h.position h.def h.is_there;
       deep = subst (λ known. 100 < slice_index known h.position) (sym (nestings_stay structs)) h.deep;
       at_name = is ∙ ap f h.at_name;
     })
     nesting_to at source is (inr h) = inr (record {
       unit = placed_unit f h.unit;
-      of_program = into_map (placed_unit f) units h.unit h.of_program;
+      of_program = contains_mapped (placed_unit f) units h.unit h.of_program;
       var = placed_var f h.var;
-      of_unit = into_map (placed_var f) h.unit.vars h.var h.of_unit;
+      of_unit = contains_mapped (placed_var f) h.unit.vars h.var h.of_unit;
       deep = subst (λ n. 100 < n) (sym (nesting_of structs h.var.ty)) h.deep;
       at_name = is ∙ ap f h.at_name;
     })

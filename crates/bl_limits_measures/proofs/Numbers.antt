@@ -1,29 +1,6 @@
 -- Sums, greatest numbers and products, as far as 64 bits tell them.
-use Rattle.std.proofs.Common.{
-  ◌≡◌,
-  ℕ,
-  zero,
-  suc,
-  ◌+◌,
-  ◌*◌,
-  ◌<◌,
-  ◌≤◌,
-  max,
-  List,
-  [],
-  ◌∷◌,
-  map,
-  length,
-  get_or,
-  take,
-  ap,
-  refl,
-  ◌∙◌,
-  suc-mul,
-  zero-mul,
-  take_all,
-  arith,
-}
+use Rattle.std.proofs.Common.{◌≡◌, ℕ, zero, suc, ◌+◌, ◌*◌, ◌<◌, ◌≤◌, max, List, [], ◌∷◌, map, length, get_or, take, ap, refl, ◌∙◌, suc-mul, zero-mul}
+use Rattle.std.proofs.Common.{arith}
 use Rattle.std.proofs.Math.ListN.{get_or-map}
 use Rattle.std.specs.Prelude.{slice_index}
 use Rattle.bl_tree.specs.Reduce.{total, greatest}
@@ -99,28 +76,14 @@ pub sum_step : {X : Type 0} (f : X → ℕ) (xs : List X) (k : ℕ) (x : X) (sum
     → sum ≡ saturated (total (map f (take k xs))) → more ≡ saturated (total (map f (take (k + 1) xs)))
 sum_step f xs k x sum here more within is e told so_far = let next = total_more f xs k x within is in omega arith
 
--- the sum over all
-pub sum_all : {X : Type 0} (f : X → ℕ) (xs : List X) (k sum : ℕ) → length xs ≤ k → sum ≡ saturated (total (map f (take k xs))) →
-    sum ≡ saturated (total (map f xs))
-sum_all f xs k sum over so_far = so_far ∙ ap (λ front. saturated (total (map f front))) (take_all k xs over)
-
 -- the greatest so far, and with one element more
 pub most_more : {X : Type 0} (f : X → ℕ) (xs : List X) (k : ℕ) (x : X) (most here more : ℕ) → k < length xs → x ≡ get_or xs k x →
     here ≡ saturated (f x) → more ≡ max most here
     → most ≡ saturated (greatest (map f (take k xs))) → more ≡ saturated (greatest (map f (take (k + 1) xs)))
 most_more f xs k x most here more within is e told so_far = let next = greatest_more f xs k x within is in omega arith
 
--- the greatest of all
-pub most_all : {X : Type 0} (f : X → ℕ) (xs : List X) (k most : ℕ) → length xs ≤ k →
-    most ≡ saturated (greatest (map f (take k xs))) → most ≡ saturated (greatest (map f xs))
-most_all f xs k most over so_far = so_far ∙ ap (λ front. saturated (greatest (map f front))) (take_all k xs over)
-
 -- the same where nothing saturates
 pub greatest_step : {X : Type 0} (f : X → ℕ) (xs : List X) (k : ℕ) (x : X) (most here more : ℕ) → k < length xs →
     x ≡ get_or xs k x → here ≡ f x → more ≡ max most here
     → most ≡ greatest (map f (take k xs)) → more ≡ greatest (map f (take (k + 1) xs))
 greatest_step f xs k x most here more within is e told so_far = let next = greatest_more f xs k x within is in omega arith
-
-pub greatest_done : {X : Type 0} (f : X → ℕ) (xs : List X) (k most : ℕ) → length xs ≤ k → most ≡ greatest (map f (take k xs)) →
-    most ≡ greatest (map f xs)
-greatest_done f xs k most over so_far = so_far ∙ ap (λ front. greatest (map f front)) (take_all k xs over)

@@ -1,26 +1,5 @@
 -- Answers in order, with one element more, and as far as 64 bits tell them.
-use Rattle.std.proofs.Common.{
-  ◌≡◌,
-  ℕ,
-  ◌+◌,
-  ◌<◌,
-  ◌≤◌,
-  List,
-  [],
-  ◌∷◌,
-  ◌++◌,
-  map,
-  length,
-  get_or,
-  take,
-  ap,
-  refl,
-  sym,
-  ◌∙◌,
-  take_all,
-  take-suc,
-  add-one,
-}
+use Rattle.std.proofs.Common.{◌≡◌, ℕ, ◌+◌, ◌<◌, ◌≤◌, List, [], ◌∷◌, ◌++◌, map, length, get_or, take, ap, refl, sym, ◌∙◌, take-suc, add-one}
 use Rattle.std.proofs.lemmas.List.{map-append}
 use Rattle.bl_limits_measures.specs.InOrder.{answers, answers_after}
 use Rattle.bl_limits_measures.specs.Saturated.{saturated}
@@ -56,7 +35,3 @@ pub told_more : {X : Type 0} (step : List ℕ → X → ℕ) (held then : List �
     then ≡ map saturated (answers step (take (k + 1) xs))
 told_more step held then xs k x respects within is told grown =
     told_push step held then (take k xs) x respects told grown ∙ ap (λ front. map saturated (answers step front)) (sym (take_one xs k x within is))
-
-pub told_all : {X : Type 0} (step : List ℕ → X → ℕ) (held : List ℕ) (xs : List X) (k : ℕ) → length xs ≤ k
-    → held ≡ map saturated (answers step (take k xs)) → held ≡ map saturated (answers step xs)
-told_all step held xs k over told = told ∙ ap (λ front. map saturated (answers step front)) (take_all k xs over)

@@ -14,19 +14,8 @@ use Rattle.bl_tree.specs.Reduce.{joined}
 use Rattle.bl_tree.specs.Rules.{same_place}
 use Rattle.bl_tree.proofs.StmtInduction.{Each, EachArm, EachBranch, induct, stmt}
 use Rattle.bl_limits_measures.specs.declared.runs.PlacedRun.{PlacedRun}
-use Rattle.bl_limits_measures.specs.Runs.{
-  activities_by_place,
-  activities_run,
-  arm_runs,
-  branch_runs,
-  kind_runs,
-  one_a_place,
-  runs_in,
-  runs_in_arm,
-  runs_in_branch,
-  stmt_layer_runs,
-  units_of,
-}
+use Rattle.bl_limits_measures.specs.Runs.{activities_by_place, activities_run, arm_runs, branch_runs, kind_runs, one_a_place, runs_in, runs_in_arm}
+use Rattle.bl_limits_measures.specs.Runs.{runs_in_branch, stmt_layer_runs, units_of}
 
 -- ---- activities without places
 
@@ -109,7 +98,7 @@ in_branch branch each =
     ∙ sym (fold_out-Branch (List ℕ) (List ℕ) (List ℕ) (List ℕ) kind_activities arm_activities branch_activities stmt_activities branch)
 
 -- from each element what is shown of it
-shown : {A : Type 0} (P Q : A → Type 0) → ((x : A) → P x → Q x) → (xs : List A) → All P xs → All Q xs
+pub shown : {A : Type 0} (P Q : A → Type 0) → ((x : A) → P x → Q x) → (xs : List A) → All P xs → All Q xs
 shown P Q gives xs all = λ k d within. gives _ (all k d within)
 
 arms_agree : (arms : List Arm) → EachArm Agrees arms → units_of (joined (map runs_in_arm arms)) ≡ joined (map activities_in_arm arms)

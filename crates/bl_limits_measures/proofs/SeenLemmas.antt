@@ -1,45 +1,18 @@
 -- The places of `run` statements that were seen, and the first `run` statement of each place.
-use Rattle.std.proofs.Common.{
-  ◌≡◌,
-  ℕ,
-  Bool,
-  true,
-  false,
-  not,
-  ◌&&◌,
-  ◌||◌,
-  cond,
-  List,
-  [],
-  ◌∷◌,
-  ◌++◌,
-  filter,
-  refl,
-  sym,
-  ap,
-  ◌∙◌,
-  subst,
-  append-nil,
-  nat_cmp,
-  nat_eq,
-  is_eq,
-  Ordering,
-  Less,
-  Equal,
-  Greater,
-  eqb→eq,
-  T,
-}
+use Rattle.std.proofs.Common.{◌≡◌, ℕ, Bool, true, false, not, ◌&&◌, ◌||◌, cond, List, [], ◌∷◌, ◌++◌, filter, refl, sym, ap, ◌∙◌, append-nil, nat_cmp}
+use Rattle.std.proofs.Common.{is_eq, Ordering, Less, Equal, Greater, eqb→eq}
 use Rattle.std.specs.BTreeMap.{is_at}
 use Rattle.std.specs.BTreeSet.{BTreeSet}
 use Rattle.std.specs.Cmp.{unsigned_tied}
 use Rattle.std.specs.List.{list_any}
 use Rattle.std.specs.Ordering.{ordering_then}
+use Rattle.bl_tree.proofs.Basics.{any_push, cond_or}
 use Rattle.bl_tree.specs.declared.place.Place.{Place}
 use Rattle.bl_tree.specs.Rules.{same_place}
 use Rattle.bl_limits_measures.specs.declared.runs.PlacedRun.{PlacedRun}
 use Rattle.bl_limits_measures.specs.Runs.{one_a_place}
 use Rattle.bl_limits_measures.specs.inner.Seen.{SeesRuns, has_place, key_cmp, place_key, starts_at}
+use Rattle.bl_tree.proofs.FirstLemmas.{same_true}
 
 -- ---- keys
 
@@ -48,44 +21,17 @@ both_equal Less s = refl
 both_equal Equal s = refl
 both_equal Greater s = refl
 
-both_true : (a b : Bool) → (a && b) ≡ true → (a ≡ true) × (b ≡ true)
-both_true true b is = (refl, is)
-both_true false b is = absurd (cc)
-
-nat_same : (m n : ℕ) → nat_eq m n ≡ true → m ≡ n
-nat_same m n is = eqb→eq m n (subst T (sym is) tt)
-
 -- a place is that of a key where the key ties
 same_place_key : (a b : Place) → is_at (key_cmp (place_key a)) (place_key b) ≡ same_place a b
 same_place_key a b = both_equal (nat_cmp a.start b.start) (nat_cmp a.end b.end) ∙ (λ i. unsigned_tied a.start b.start i && unsigned_tied a.end b.end i)
 
-same_place_is : (a b : Place) → same_place a b ≡ true → a ≡ b
-same_place_is a b is =
-    let both = both_true (nat_eq a.start b.start) (nat_eq a.end b.end) is in
-    let starts = nat_same a.start b.start both.0 in
-    let ends = nat_same a.end b.end both.1 in
-    λ i. record { start = starts i; end = ends i }
-
 -- ---- what was seen
-
-or_cond : (a b : Bool) → cond a true b ≡ (a || b)
-or_cond true b = refl
-or_cond false b = refl
-
-or_swap : (a b c : Bool) → (a || (b || c)) ≡ (b || (a || c))
-or_swap true true c = refl
-or_swap true false c = refl
-or_swap false b c = refl
-
-any_push : {A : Type 0} (p : A → Bool) (xs : List A) (x : A) → list_any p (xs ++ x ∷ []) ≡ (p x || list_any p xs)
-any_push p [] x = refl
-any_push p (y ∷ xs) x = ap (λ b. p y || b) (any_push p xs x) ∙ or_swap (p y) (p x) (list_any p xs)
 
 -- the set with one more place
 pub place_added : (old new : BTreeSet (ℕ × ℕ)) (place q : Place) →
     has_place new q ≡ cond (is_at (key_cmp (place_key place)) (place_key q)) true (has_place old q)
     → has_place new q ≡ (same_place place q || has_place old q)
-place_added old new place q is = is ∙ ap (λ b. cond b true (has_place old q)) (same_place_key place q) ∙ or_cond (same_place place q) (has_place old q)
+place_added old new place q is = is ∙ ap (λ b. cond b true (has_place old q)) (same_place_key place q) ∙ cond_or (same_place place q) (has_place old q)
 
 -- a place that was there tells nothing new
 pub sees_still : (old new : BTreeSet (ℕ × ℕ)) (place : Place) (runs : List PlacedRun) → has_place old place ≡ true →
@@ -94,7 +40,7 @@ pub sees_still : (old new : BTreeSet (ℕ × ℕ)) (place : Place) (runs : List 
 sees_still old new place runs there grown sees q = grown q ∙ step (same_place place q) refl ∙ sees q
   where
     step : (b : Bool) → same_place place q ≡ b → (b || has_place old q) ≡ has_place old q
-    step true is = sym (ap (has_place old) (sym (same_place_is place q is)) ∙ there)
+    step true is = sym (ap (has_place old) (sym (same_true place q is)) ∙ there)
     step false is = refl
 
 -- one more `run` statement of a place that was added
@@ -131,7 +77,7 @@ kept_one true o x rest is differs = sym (ap (λ b. b || list_any (starts_at x) r
 kept_one false o x rest is differs = absurd cc
 
 other_place : (r o : PlacedRun) (x : Place) → same_place r.place x ≡ false → same_place r.place o.place ≡ true → starts_at x o ≡ false
-other_place r o x differs is = sym (ap (λ p. same_place p x) (same_place_is r.place o.place is)) ∙ differs
+other_place r o x differs is = sym (ap (λ p. same_place p x) (same_true r.place o.place is)) ∙ differs
 
 any_step : (r o : PlacedRun) (x : Place) (ys : List PlacedRun) → same_place r.place x ≡ false →
     list_any (starts_at x) (others r ys) ≡ list_any (starts_at x) ys → (b : Bool) → same_place r.place o.place ≡ b

@@ -44,13 +44,13 @@ size_alike known =
     ∙ product_alike n (size_by (map saturated known) element) (size_by known element) inner
     ∙ ap saturated (sym (size_array known n element)))
 
-nesting_scalar : (known : List ℕ) (s : ScalarType) → nesting_by known (roll-Ty (Ty-F.Scalar s)) ≡ 0
+pub nesting_scalar : (known : List ℕ) (s : ScalarType) → nesting_by known (roll-Ty (Ty-F.Scalar s)) ≡ 0
 nesting_scalar known s = fold-roll-Ty ℕ (level_nesting known) (Ty-F.Scalar s)
 
-nesting_struct : (known : List ℕ) (k : ℕ) → nesting_by known (roll-Ty (Ty-F.Struct k)) ≡ slice_index known k
+pub nesting_struct : (known : List ℕ) (k : ℕ) → nesting_by known (roll-Ty (Ty-F.Struct k)) ≡ slice_index known k
 nesting_struct known k = fold-roll-Ty ℕ (level_nesting known) (Ty-F.Struct k)
 
-nesting_array : (known : List ℕ) (n : ℕ) (element : Ty) → nesting_by known (roll-Ty (Ty-F.Array n element)) ≡ 1 + nesting_by known element
+pub nesting_array : (known : List ℕ) (n : ℕ) (element : Ty) → nesting_by known (roll-Ty (Ty-F.Array n element)) ≡ 1 + nesting_by known element
 nesting_array known n element = fold-roll-Ty ℕ (level_nesting known) (Ty-F.Array n element)
 
 pub nesting_alike : (known : List ℕ) (ty : Ty) → saturated (nesting_by (map saturated known) ty) ≡ saturated (nesting_by known ty)

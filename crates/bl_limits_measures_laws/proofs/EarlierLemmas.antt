@@ -1,42 +1,13 @@
 -- The units of a typed program call and run earlier ones alone: what has a type names earlier functions, and what fits earlier activities.
-use Rattle.std.proofs.Common.{
-  ◌≡◌,
-  ℕ,
-  ℤ,
-  zero,
-  suc,
-  ◌+◌,
-  ◌<◌,
-  ◌≤◌,
-  Bool,
-  true,
-  false,
-  ◌&&◌,
-  ◌||◌,
-  List,
-  [],
-  ◌∷◌,
-  ◌++◌,
-  map,
-  length,
-  get_or,
-  take,
-  Option,
-  Some,
-  None,
-  refl,
-  sym,
-  subst,
-  ◌∙◌,
-  append_assoc,
-  append-nil,
-  arith,
-}
+use Rattle.std.proofs.Common.{◌≡◌, ℕ, ℤ, zero, suc, ◌+◌, ◌<◌, ◌≤◌, Bool, true, false, ◌&&◌, ◌||◌, List, [], ◌∷◌, ◌++◌, map, length, get_or, take, Option, Some}
+use Rattle.std.proofs.Common.{None, refl, sym, subst, ◌∙◌, append_assoc, append-nil, arith}
 use Rattle.std.specs.List.{list_all}
 use Rattle.std.specs.Prelude.{All, nat_eq, option_and_then, option_map, slice_get, if◌then◌else◌}
 use Rattle.std.proofs.lemmas.List.{length-take-le}
 use Rattle.std.proofs.lemmas.List.Elements.{All-append, All-cons, All-head, All-nil, All-tail}
 use Rattle.std.proofs.lemmas.Option.{same_Some, slice_get_within}
+use Rattle.std.proofs.lemmas.Bool.{and_from}
+use Rattle.bl_tree.proofs.Basics.{and_first, and_second}
 use Rattle.bl_tree.specs.declared.place.Place.{Place}
 use Rattle.bl_tree.specs.declared.scalar.Op.{Op}
 use Rattle.bl_tree.specs.declared.scalar.Scalar.{Scalar as ScalarType}
@@ -57,93 +28,21 @@ use Rattle.bl_tree.specs.declared.tree.Var.{Var}
 use Rattle.bl_tree.specs.Program.{unit_stands, units_stand_after}
 use Rattle.bl_tree.specs.Reduce.{all_of, joined}
 use Rattle.bl_tree.specs.Types.{same_type, scalar, scalar_in}
-use Rattle.bl_tree.specs.Typing.{
-  TypingContext,
-  after_parts,
-  are_same,
-  arguments_fit,
-  arm_fits,
-  branch_fits,
-  call_fits,
-  call_type,
-  cast_type,
-  declaration_fits,
-  element_in,
-  expr_type,
-  fits,
-  inputs_of,
-  is_activity,
-  is_assignable,
-  is_fixed,
-  is_function,
-  is_inhabited,
-  is_outlet,
-  is_procedure,
-  is_truth,
-  is_variable,
-  kind_fits,
-  kind_type,
-  one_type,
-  outputs_of,
-  part_type,
-  path_type,
-  return_fits,
-  run_fits,
-  site_of,
-  stmt_fits,
-  target_fits,
-  two_type,
-  type_of,
-  type_of_path,
-  types_match,
-  var_at,
-  where_same,
-  where_whole,
-}
+use Rattle.bl_tree.specs.Typing.{TypingContext, after_parts, are_same, arguments_fit, arm_fits, branch_fits, call_fits, call_type, cast_type, declaration_fits}
+use Rattle.bl_tree.specs.Typing.{element_in, expr_type, fits, inputs_of, is_activity, is_assignable, is_fixed, is_function, is_inhabited, is_outlet}
+use Rattle.bl_tree.specs.Typing.{is_procedure, is_truth, is_variable, kind_fits, kind_type, one_type, outputs_of, part_type, path_type, return_fits, run_fits}
+use Rattle.bl_tree.specs.Typing.{site_of, stmt_fits, target_fits, two_type, type_of, type_of_path, types_match, var_at, where_same, where_whole}
 use Rattle.bl_tree.proofs.ExprInduction.{Cases as ExprCases, EachIndex, OfIndex, expr, induct as expr_induct, induct_path}
 use Rattle.bl_tree.proofs.StmtInduction.{Cases, Each, EachArm, EachBranch, induct, stmt}
-use Rattle.bl_limits_measures.specs.Calls.{
-  argument_calls,
-  arm_calls,
-  branch_calls,
-  calls_in,
-  calls_in_arm,
-  calls_in_branch,
-  calls_in_expr,
-  calls_in_part,
-  calls_in_path,
-  calls_of,
-  optional_calls,
-  stmt_kind_calls,
-  stmt_layer_calls,
-  target_calls,
-}
+use Rattle.bl_limits_measures.specs.Calls.{argument_calls, arm_calls, branch_calls, calls_in, calls_in_arm, calls_in_branch, calls_in_expr, calls_in_part}
+use Rattle.bl_limits_measures.specs.Calls.{calls_in_path, calls_of, optional_calls, stmt_kind_calls, stmt_layer_calls, target_calls}
 use Rattle.bl_limits_measures.specs.Runs.{activities_run}
-use Rattle.bl_limits_measures.proofs.RunLemmas.{
-  activities_are,
-  activities_in as runs_in,
-  activities_in_arm as runs_in_arm,
-  activities_in_branch as runs_in_branch,
-  arm_activities as arm_runs,
-  branch_activities as branch_runs,
-  kind_activities as kind_runs,
-  stmt_activities as stmt_layer_runs,
-}
+use Rattle.bl_limits_measures.proofs.RunLemmas.{activities_are, activities_in as runs_in, activities_in_arm as runs_in_arm}
+use Rattle.bl_limits_measures.proofs.RunLemmas.{activities_in_branch as runs_in_branch, arm_activities as arm_runs, branch_activities as branch_runs}
+use Rattle.bl_limits_measures.proofs.RunLemmas.{kind_activities as kind_runs, stmt_activities as stmt_layer_runs}
 use Rattle.bl_limits_measures_laws.specs.Laws.{UnitsUseEarlierOnes}
 
 -- ---- tests
-
-and_left : (a b : Bool) → (a && b) ≡ true → a ≡ true
-and_left true b _ = refl
-and_left false b all = all
-
-and_right : (a b : Bool) → (a && b) ≡ true → b ≡ true
-and_right true b all = all
-and_right false b all = absurd (cc)
-
-both_true : (a b : Bool) → a ≡ true → b ≡ true → (a && b) ≡ true
-both_true true b _ other = other
-both_true false b one _ = one
 
 some_found : {A B : Type 0} (f : A → Option B) (o : Option A) (y : B) → option_and_then f o ≡ Some y → (x : A) × (o ≡ Some x) × (f x ≡ Some y)
 some_found f None y is = absurd (cc)
@@ -181,10 +80,6 @@ module _ (n : ℕ) where
   first : (j : ℕ) (xs : List ℕ) → j < n → Below xs → Below (j ∷ xs)
   first = All-cons (λ j. j < n)
 
-  each_below : {A : Type 0} (f : A → List ℕ) (xs : List A) → All (λ x. Below (f x)) xs → Below (joined (map f xs))
-  each_below f [] all = none
-  each_below f (x ∷ xs) all = both (f x) (joined (map f xs)) (All-head (λ x. Below (f x)) x xs all) (each_below f xs (All-tail (λ x. Below (f x)) x xs all))
-
   -- what has a type names positions below
   abbrev Good : {A : Type 0} → (A → Option Ty) → (A → List ℕ) → A → Type 0
   Good types names x = (ty : Ty) → types x ≡ Some ty → Below (names x)
@@ -197,7 +92,7 @@ module _ (n : ℕ) where
     match_first x xs [] None is matched good more = absurd (cc)
     match_first x xs (var ∷ vars) None is matched good more = absurd (cc)
     match_first x xs (var ∷ vars) (Some ty) is matched good more =
-        both (names x) (joined (map names xs)) (good ty is) (more vars (and_right (same_type ty var.ty) (types_match (map types xs) vars) matched))
+        both (names x) (joined (map names xs)) (good ty is) (more vars (and_second (same_type ty var.ty) (types_match (map types xs) vars) matched))
 
     -- of arguments that match
     match_below : (xs : List A) → All (Good types names) xs → (vars : List Var) → types_match (map types xs) vars ≡ true →
@@ -263,7 +158,7 @@ module _ (site : TypingContext) where
       let is = where_holds (is_function callee.kind && (nat_eq callee.outputs 0 && matches)) (option_map scalar callee.result) ty found.2 in
       first N f (joined (map calls_in_expr inputs)) (called f callee found.1)
       (match_below N (type_of site) calls_in_expr inputs each (inputs_of callee)
-      (and_right (nat_eq callee.outputs 0) matches (and_right (is_function callee.kind) (nat_eq callee.outputs 0 && matches) is.0)))
+      (and_second (nat_eq callee.outputs 0) matches (and_second (is_function callee.kind) (nat_eq callee.outputs 0 && matches) is.0)))
 
   call_below : (place : Place) (f : ℕ) (inputs : List Expr) → All P inputs → P (expr place (ExprKind-F.Call f inputs))
   call_below place f inputs each ty typed = rw (fold-roll-Expr, fold-roll-ExprKind)
@@ -329,9 +224,9 @@ parts_name : {A : Type 0} (n : ℕ) (fit : A → Bool) (f g : A → List ℕ) (x
     → Names n (joined (map f xs)) (joined (map g xs))
 parts_name n fit f g [] all fitted = record { calls = none n; runs = none n }
 parts_name n fit f g (x ∷ xs) all fitted =
-    let one : Names n (f x) (g x) = All-head (λ x. fit x ≡ true → Names n (f x) (g x)) x xs all (and_left (fit x) (all_of (map fit xs)) fitted) in
+    let one : Names n (f x) (g x) = All-head (λ x. fit x ≡ true → Names n (f x) (g x)) x xs all (and_first (fit x) (all_of (map fit xs)) fitted) in
     let more : Names n (joined (map f xs)) (joined (map g xs)) =
-    parts_name n fit f g xs (All-tail (λ x. fit x ≡ true → Names n (f x) (g x)) x xs all) (and_right (fit x) (all_of (map fit xs)) fitted) in
+    parts_name n fit f g xs (All-tail (λ x. fit x ≡ true → Names n (f x) (g x)) x xs all) (and_second (fit x) (all_of (map fit xs)) fitted) in
     record { calls = both n (f x) (joined (map f xs)) one.calls more.calls; runs = both n (g x) (joined (map g xs)) one.runs more.runs }
 
 abbrev call_parts : StmtKind-F StmtKind Arm Branch Stmt → StmtKind-F (List ℕ) (List ℕ) (List ℕ) (List ℕ)
@@ -370,7 +265,7 @@ module _ (site : TypingContext) where
   optional_named (Some e) None fitted = absurd (cc)
   optional_named (Some e) (Some var) fitted =
       let typed = (same_found (Some var.ty) (type_of site e)
-      (and_right (is_variable var.role || is_fixed var.role) (are_same (Some var.ty) (type_of site e)) fitted)).1 in
+      (and_second (is_variable var.role || is_fixed var.role) (are_same (Some var.ty) (type_of site e)) fitted)).1 in
       expr_earlier site e typed.0 typed.1
 
   returned_named : (e : Option Expr) (result : Option ScalarType) → return_fits site e result ≡ true → Below M (optional_calls e)
@@ -389,16 +284,16 @@ module _ (site : TypingContext) where
       let plain : Bool = all_of (map (is_outlet site) outputs) in
       both M (joined (map calls_in_expr inputs)) (joined (map calls_in_path outputs))
       (match_below M (type_of site) calls_in_expr inputs (λ k d within. expr_earlier site (get_or inputs k d)) (inputs_of callee)
-      (and_left ins (outs && plain) fitted))
+      (and_first ins (outs && plain) fitted))
       (match_below M (type_of_path site) calls_in_path outputs (λ k d within. path_earlier site (get_or outputs k d))
-      (outputs_of callee) (and_left outs plain (and_right ins (outs && plain) fitted)))
+      (outputs_of callee) (and_first outs plain (and_second ins (outs && plain) fitted)))
 
   target_named : (result : Option ScalarType) (target : Option Path) → target_fits site result target ≡ true → Below M (target_calls target)
   target_named result None fitted = none M
   target_named None (Some path) fitted = absurd (cc)
   target_named (Some s) (Some path) fitted =
       let typed = (same_found (Some (scalar s)) (type_of_path site path)
-      (and_right (is_outlet site path) (are_same (Some (scalar s)) (type_of_path site path)) fitted)).1 in
+      (and_second (is_outlet site path) (are_same (Some (scalar s)) (type_of_path site path)) fitted)).1 in
       path_earlier site path typed.0 typed.1
 
   call_named : (f : ℕ) (inputs : List Expr) (outputs : List Path) (found : Option UnitDef) → slice_get site.earlier f ≡ found →
@@ -407,19 +302,19 @@ module _ (site : TypingContext) where
   call_named f inputs outputs None there fitted = absurd (cc)
   call_named f inputs outputs (Some callee) there fitted =
       first M f (argument_calls inputs outputs) (slice_get_within site.earlier f callee there)
-      (arguments_named inputs outputs callee (and_right (is_procedure callee) (arguments_fit site inputs outputs callee) fitted))
+      (arguments_named inputs outputs callee (and_second (is_procedure callee) (arguments_fit site inputs outputs callee) fitted))
 
   run_named : (target : Option Path) (a : ℕ) (inputs : List Expr) (outputs : List Path) (found : Option UnitDef) →
       slice_get site.earlier a ≡ found → run_fits site target inputs outputs found ≡ true
       → Names M (target_calls target ++ argument_calls inputs outputs) (a ∷ [])
   run_named target a inputs outputs None there fitted = absurd (cc)
   run_named target a inputs outputs (Some callee) there fitted =
-      let fitting = and_right (is_activity site.kind && is_activity callee.kind)
+      let fitting = and_second (is_activity site.kind && is_activity callee.kind)
       (target_fits site callee.result target && arguments_fit site inputs outputs callee) fitted in
       record {
         calls = both M (target_calls target) (argument_calls inputs outputs)
-            (target_named callee.result target (and_left (target_fits site callee.result target) (arguments_fit site inputs outputs callee) fitting))
-            (arguments_named inputs outputs callee (and_right (target_fits site callee.result target) (arguments_fit site inputs outputs callee) fitting));
+            (target_named callee.result target (and_first (target_fits site callee.result target) (arguments_fit site inputs outputs callee) fitting))
+            (arguments_named inputs outputs callee (and_second (target_fits site callee.result target) (arguments_fit site inputs outputs callee) fitting));
         runs = first M a [] (slice_get_within site.earlier a callee there) (none M);
       }
 
@@ -435,11 +330,11 @@ module _ (site : TypingContext) where
       let inside : Bool = all_of (map (fits site) (out-Arm arm).body) in
       let fitting : (tested && inside) ≡ true = sym (fold_out-Arm Bool Bool Bool Bool (kind_fits site)
       (arm_fits site) branch_fits stmt_fits arm) ∙ fitted in
-      let body = block_names (out-Arm arm).body each (and_right tested inside fitting) in
+      let body = block_names (out-Arm arm).body each (and_second tested inside fitting) in
       record {
         calls = subst (Below M) (sym (fold_out-Arm (List ℕ) (List ℕ) (List ℕ) (List ℕ) stmt_kind_calls arm_calls branch_calls stmt_layer_calls arm))
             (both M (calls_in_expr (out-Arm arm).test) (joined (map calls_in (out-Arm arm).body))
-            (truth_named (out-Arm arm).test (and_left tested inside fitting)) body.calls);
+            (truth_named (out-Arm arm).test (and_first tested inside fitting)) body.calls);
         runs = subst (Below M) (sym (fold_out-Arm (List ℕ) (List ℕ) (List ℕ) (List ℕ) kind_runs arm_runs branch_runs stmt_layer_runs arm)) body.runs;
       }
 
@@ -503,42 +398,42 @@ module _ (site : TypingContext) where
         (λ fitted. calls_alone (optional_calls initial) (optional_named initial (var_at site k) fitted));
     assign = λ place path e. by_parts place (StmtKind-F.Assign path e) (λ fitted.
         let typed = same_found (type_of_path site path) (type_of site e)
-        (and_right (is_assignable site path) (are_same (type_of_path site path) (type_of site e)) fitted) in
+        (and_second (is_assignable site path) (are_same (type_of_path site path) (type_of site e)) fitted) in
         calls_alone (calls_in_path path ++ calls_in_expr e)
         (both M (calls_in_path path) (calls_in_expr e) (path_earlier site path typed.0.0 typed.0.1) (expr_earlier site e typed.1.0 typed.1.1)));
     call = λ place f inputs outputs. by_parts place (StmtKind-F.Call f inputs outputs)
         (λ fitted. calls_alone (f ∷ argument_calls inputs outputs) (call_named f inputs outputs (slice_get site.earlier f) refl fitted));
     await = λ place e. by_parts place (StmtKind-F.Await e)
-        (λ fitted. calls_alone (calls_in_expr e) (truth_named e (and_right (is_activity site.kind) (is_truth (type_of site e)) fitted)));
+        (λ fitted. calls_alone (calls_in_expr e) (truth_named e (and_second (is_activity site.kind) (is_truth (type_of site e)) fitted)));
     run = λ place target a inputs outputs. by_parts place (StmtKind-F.Run target a inputs outputs)
         (λ fitted. run_named target a inputs outputs (slice_get site.earlier a) refl fitted);
     branching = λ place arms other in_arms in_other. by_parts place (StmtKind-F.If arms other) (λ fitted.
         let choices : Bool = all_of (map arm_fitted arms) in
         let last : Bool = all_of (map (fits site) other) in
-        let fitting : (choices && last) ≡ true = and_right (is_inhabited (map arm_fitted arms)) (choices && last) fitted in
+        let fitting : (choices && last) ≡ true = and_second (is_inhabited (map arm_fitted arms)) (choices && last) fitted in
         joined_names (joined (map calls_in_arm arms)) (joined (map calls_in other)) (joined (map runs_in_arm arms)) (joined (map runs_in other))
-        (arms_named arms in_arms (and_left choices last fitting)) (block_names other in_other (and_right choices last fitting)));
+        (arms_named arms in_arms (and_first choices last fitting)) (block_names other in_other (and_second choices last fitting)));
     cobegin = λ place branches each. by_parts place (StmtKind-F.Cobegin branches) (λ fitted.
         let some : Bool = is_inhabited (map branch_fitted branches) in
         let inside : Bool = all_of (map branch_fitted branches) in
-        branches_named branches each (and_right some inside (and_right (is_activity site.kind) (some && inside) fitted)));
+        branches_named branches each (and_second some inside (and_second (is_activity site.kind) (some && inside) fitted)));
     guarded = λ place guard e body each. by_parts place (StmtKind-F.When guard e body) (λ fitted.
         let tested : Bool = is_truth (type_of site e) in
         let inside : Bool = all_of (map (fits site) body) in
-        let fitting : (tested && inside) ≡ true = and_right (is_activity site.kind) (tested && inside) fitted in
+        let fitting : (tested && inside) ≡ true = and_second (is_activity site.kind) (tested && inside) fitted in
         after_calls (calls_in_expr e) (joined (map calls_in body)) (joined (map runs_in body))
-        (truth_named e (and_left tested inside fitting)) (block_names body each (and_right tested inside fitting)));
+        (truth_named e (and_first tested inside fitting)) (block_names body each (and_second tested inside fitting)));
     repeat = λ place body each. by_parts place (StmtKind-F.Repeat body) (λ fitted. block_names body each fitted);
     until = λ place body e each. by_parts place (StmtKind-F.Until body e) (λ fitted.
         let tested : Bool = is_truth (type_of site e) in
         let inside : Bool = all_of (map (fits site) body) in
         before_calls (calls_in_expr e) (joined (map calls_in body)) (joined (map runs_in body))
-        (block_names body each (and_left inside tested fitted)) (truth_named e (and_right inside tested fitted)));
+        (block_names body each (and_first inside tested fitted)) (truth_named e (and_second inside tested fitted)));
     while = λ place e body each. by_parts place (StmtKind-F.While e body) (λ fitted.
         let tested : Bool = is_truth (type_of site e) in
         let inside : Bool = all_of (map (fits site) body) in
         after_calls (calls_in_expr e) (joined (map calls_in body)) (joined (map runs_in body))
-        (truth_named e (and_left tested inside fitted)) (block_names body each (and_right tested inside fitted)));
+        (truth_named e (and_first tested inside fitted)) (block_names body each (and_second tested inside fitted)));
     returns = λ place e. by_parts place (StmtKind-F.Return e) (λ fitted. calls_alone (optional_calls e) (returned_named e site.result fitted));
   }
 
@@ -548,8 +443,8 @@ module _ (site : TypingContext) where
 
   all_fit : (body : List Stmt) → list_all (fits site) body ≡ true → all_of (map (fits site) body) ≡ true
   all_fit [] fitted = refl
-  all_fit (s ∷ body) fitted = both_true (fits site s) (all_of (map (fits site) body))
-      (and_left (fits site s) (list_all (fits site) body) fitted) (all_fit body (and_right (fits site s) (list_all (fits site) body) fitted))
+  all_fit (s ∷ body) fitted = and_from (fits site s) (all_of (map (fits site) body))
+      (and_first (fits site s) (list_all (fits site) body) fitted) (all_fit body (and_second (fits site s) (list_all (fits site) body) fitted))
 
   body_names : (body : List Stmt) → list_all (fits site) body ≡ true → Names M (joined (map calls_in body)) (joined (map runs_in body))
   body_names body fitted = block_names body (λ k d within. stmt_earlier (get_or body k d)) (all_fit body fitted)
@@ -563,16 +458,16 @@ unit_at structs earlier [] k unit stand there = absurd (cc)
 unit_at structs earlier (first ∷ units) zero unit stand there =
     subst (λ earlier. unit_stands structs earlier unit ≡ true) (sym (append-nil earlier))
     (subst (λ unit. unit_stands structs earlier unit ≡ true) (same_Some first unit there)
-    (and_left (unit_stands structs earlier first) (units_stand_after structs (earlier ++ first ∷ []) units) stand))
+    (and_first (unit_stands structs earlier first) (units_stand_after structs (earlier ++ first ∷ []) units) stand))
 unit_at structs earlier (first ∷ units) (suc k) unit stand there =
     subst (λ earlier. unit_stands structs earlier unit ≡ true) (append_assoc earlier (first ∷ []) (take k units))
     (unit_at structs (earlier ++ first ∷ []) units k unit
-    (and_right (unit_stands structs earlier first) (units_stand_after structs (earlier ++ first ∷ []) units) stand) there)
+    (and_second (unit_stands structs earlier first) (units_stand_after structs (earlier ++ first ∷ []) units) stand) there)
 
 -- a unit that stands has a body that fits
 fitting : (structs : List StructDef) (earlier : List UnitDef) (unit : UnitDef) → unit_stands structs earlier unit ≡ true →
     list_all (fits (site_of structs earlier unit)) unit.body ≡ true
-fitting structs earlier unit stands = and_left _ _ (and_right _ _ (and_right _ _ stands))
+fitting structs earlier unit stands = and_first _ _ (and_second _ _ (and_second _ _ stands))
 
 pub units_use_earlier : UnitsUseEarlierOnes
 units_use_earlier structs units stand k unit there =

@@ -1,34 +1,6 @@
 -- The number of instances is how many the list of them has.
-use Rattle.std.proofs.Common.{
-  ◌≡◌,
-  ℕ,
-  zero,
-  suc,
-  ◌+◌,
-  ◌<◌,
-  ◌≤◌,
-  Bool,
-  true,
-  false,
-  not,
-  cond,
-  ◌⊎◌,
-  ⊎_elim,
-  List,
-  [],
-  ◌∷◌,
-  ◌++◌,
-  map,
-  length,
-  get_or,
-  Some,
-  None,
-  ap,
-  refl,
-  sym,
-  ◌∙◌,
-  arith,
-}
+use Rattle.std.proofs.Common.{◌≡◌, ℕ, zero, suc, ◌+◌, ◌<◌, ◌≤◌, Bool, true, false, not, cond, ◌⊎◌, ⊎_elim, List, [], ◌∷◌, ◌++◌, map, length, get_or, Some, None}
+use Rattle.std.proofs.Common.{ap, refl, sym, ◌∙◌, arith}
 use Rattle.std.specs.Prelude.{All, Option, filter, option_map, slice_get, unwrap_or}
 use Rattle.std.proofs.lemmas.List.{length-append, length-map, map-append}
 use Rattle.std.proofs.lemmas.List.Elements.{All-head, All-tail}
@@ -45,20 +17,8 @@ use Rattle.bl_tree.proofs.StmtInduction.{Each, EachArm, EachBranch, induct, stmt
 use Rattle.bl_tree.specs.Rules.{same_place}
 use Rattle.bl_ctree.specs.declared.instance.Instance.{Instance}
 use Rattle.bl_ctree.specs.declared.instance.Run.{Run}
-use Rattle.bl_ctree.specs.Instances.{
-  arm_runs,
-  branch_runs,
-  called_from,
-  expanded,
-  instances_below,
-  kind_runs,
-  one_a_place,
-  runs_in,
-  runs_in_arm,
-  runs_in_branch,
-  runs_of,
-  stmt_layer_runs,
-}
+use Rattle.bl_ctree.specs.Instances.{arm_runs, branch_runs, called_from, expanded, instances_below, kind_runs, one_a_place, runs_in, runs_in_arm}
+use Rattle.bl_ctree.specs.Instances.{runs_in_branch, runs_of, stmt_layer_runs}
 use Rattle.bl_limits_measures.specs.declared.runs.PlacedRun.{PlacedRun}
 use Rattle.bl_limits_measures.specs.Runs as placed
 use Rattle.bl_limits_measures.specs.Runs.{activities_by_place, activities_run}
@@ -67,6 +27,7 @@ use Rattle.bl_limits_measures.specs.Laws.{InstancesAdd, MissingIsNothing}
 use Rattle.bl_limits_measures.specs.Units.{instances_at}
 use Rattle.bl_limits_measures.specs.Uses.{UsesEarlier, UsesEarlierOnly}
 use Rattle.bl_limits_measures_laws.specs.Laws.{InstancesAreCounted}
+use Rattle.bl_limits_measures.proofs.RunLemmas.{shown}
 
 -- ---- `run` statements with their places and activities
 
@@ -121,10 +82,6 @@ in_branch branch each =
     ap placed_runs (fold_out-Branch (Place → List Run) (List Run) (List Run) (List Run) kind_runs arm_runs branch_runs stmt_layer_runs branch)
     ∙ block (out-Branch branch).body each
     ∙ sym (fold_out-Branch (Place → List PlacedRun) (List PlacedRun) (List PlacedRun) (List PlacedRun) placed.kind_runs placed.arm_runs placed.branch_runs placed.stmt_layer_runs branch)
-
--- from each element what is shown of it
-shown : {A : Type 0} (P Q : A → Type 0) → ((x : A) → P x → Q x) → (xs : List A) → All P xs → All Q xs
-shown P Q gives xs all = λ k d within. gives _ (all k d within)
 
 arms_agree : (arms : List Arm) → EachArm Agrees arms → placed_runs (joined (map runs_in_arm arms)) ≡ joined (map placed.runs_in_arm arms)
 arms_agree arms each = in_order runs_in_arm placed.runs_in_arm arms

@@ -3,12 +3,6 @@ use Rattle.std.specs.Prelude.{◌≡◌, ℕ, List, [], length, IsTrue}
 use Rattle.bl_tree.specs.declared.tree.StructDef.{StructDef}
 use Rattle.bl_tree.specs.declared.tree.Unit.{Unit as UnitDef}
 use Rattle.bl_tree.specs.Program.{units_stand_after}
-use Rattle.bl_parse_tree.specs.declared.item.RawItem.{RawItem}
-use Rattle.bl_parse_tree.specs.WellFormed.{RawIsWellFormed}
-use Rattle.bl_names_scopes.specs.Rules.{Passes as NamesPass}
-use Rattle.bl_names.specs.Named.{named_program}
-use Rattle.bl_types.specs.Programs.{typed_program}
-use Rattle.bl_types.specs.Rules.{Passes as TypesPass}
 use Rattle.bl_ctree.specs.Instances.{instances_of}
 use Rattle.bl_limits_measures.specs.Units.{instances_at}
 use Rattle.bl_limits_measures.specs.Uses.{UsesEarlier}
@@ -20,9 +14,3 @@ UnitsUseEarlierOnes = (structs : List StructDef) (units : List UnitDef) → IsTr
 -- the number of instances to which a unit expands is how many the list of them has
 abbrev pub InstancesAreCounted : Type 0
 InstancesAreCounted = (units : List UnitDef) (k : ℕ) → UsesEarlier units → length (instances_of units k) ≡ instances_at units k
-
--- the number of instances to which a unit of a program expands in which no rule fails is how many the list of them has
-abbrev pub TypedInstancesAreCounted : Type 0
-TypedInstancesAreCounted =
-    (items : List RawItem) (bytes : ℕ) → RawIsWellFormed items → NamesPass items → TypesPass (named_program items bytes) → (k : ℕ) →
-    length (instances_of (typed_program (named_program items bytes)).units k) ≡ instances_at (typed_program (named_program items bytes)).units k

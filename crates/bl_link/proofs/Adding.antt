@@ -1,43 +1,21 @@
 -- One file more behind the first ones, and their link.
-use Rattle.std.proofs.Common.{
-  ◌≡◌,
-  ◌∙◌,
-  ℕ,
-  ◌+◌,
-  ◌-◌,
-  ◌≤◌,
-  true,
-  false,
-  List,
-  [],
-  ◌∷◌,
-  ◌++◌,
-  length,
-  take,
-  drop,
-  refl,
-  sym,
-  ap,
-  subst,
-  inl,
-  inr,
-  arith,
-  length-append,
-}
+use Rattle.std.proofs.Common.{◌≡◌, ◌∙◌, ℕ, ◌+◌, ◌-◌, ◌≤◌, true, false, List, [], ◌∷◌, ◌++◌, length, take, drop, sym, ap, subst, inl, inr, arith}
+use Rattle.std.proofs.Common.{length-append}
 use Rattle.std.proofs.lemmas.Bool.{and_parts, cases_order}
 use Rattle.std.proofs.lemmas.List.{length-map, map-append, take-append-drop, take_all}
-use Rattle.std.proofs.lemmas.List.Elements.{All-nil, All-push}
+use Rattle.std.proofs.lemmas.List.Elements.{All-push}
 use Rattle.std.proofs.lemmas.Option.{slice_get_past}
 use Rattle.std.specs.Prelude.{IfSome, nat_eq, slice_get}
+use Rattle.bl_tree.proofs.Basics.{get_front}
 use Rattle.bl_face.specs.declared.face.Face.{Face}
 use Rattle.bl_face.specs.declared.item.FaceItem.{FaceItem}
-use Rattle.bl_link.proofs.Lists.{get-before, get-end, take-before}
+use Rattle.bl_link.proofs.Lists.{get-end, take-before}
 use Rattle.bl_link.proofs.Turns.{good_parts}
 use Rattle.bl_link.specs.declared.fault.LinkFault.{LinkFault}
 use Rattle.bl_link.specs.declared.fault.LinkFault.TheVariants as fault
 use Rattle.bl_link.specs.Files.{AreFilesOf, NextStops, JoinedStops}
 use Rattle.bl_link.specs.Fits.{FacesFit, PartsFit, faces_of, part_texts}
-use Rattle.bl_link.specs.inner.Whole.{AreFirst, ArePartsOf, LastsOf}
+use Rattle.bl_link.specs.inner.Whole.{AreFirst, LastsOf}
 use Rattle.bl_link.specs.Linked.{AreLinked, LinkStops}
 use Rattle.bl_module.proofs.FaceLemmas.{items-append, stand-append}
 use Rattle.bl_module.specs.Behind.{after_items, before_items, items_stand}
@@ -54,18 +32,6 @@ use Rattle.bl_tree.specs.declared.program.Program.{Program}
 
 abbrev items : Face → List FaceItem
 items face = face.items
-
--- no file yet
-pub no_files : (count : ℕ) (parts : List SeenPart) (faces : List Face) → 1 ≤ count → count ≤ 64 → parts ≡ [] → faces ≡ [] → AreFirst count parts faces
-no_files count parts faces some few none no_faces = record {
-  some = some;
-  few = few;
-  are = subst ArePartsOf (sym none) (All-nil IsPart);
-  fit = subst FacesFit (sym none) (λ k. tt);
-  lasts = subst (LastsOf count) (sym none) (λ k. tt);
-  same = ap items_of no_faces ∙ ap (λ them. items_of (faces_of them)) (sym none);
-  stand = subst FacesStand (sym no_faces) refl;
-}
 
 -- the face of a part stands behind those before it
 pub next_stands : FaceDeclares → (part : SeenPart) (faces : List Face) (face : Face) → IsPart part → items_of part.uses ≡ items_of faces →
@@ -93,7 +59,7 @@ module _ (count : ℕ) (parts : List SeenPart) (faces : List Face) (first : AreF
       | inl less ↦
           let most : k ≤ length parts = omega (arith, less) in
           subst (λ o. IfSome o (λ (it : SeenPart). items_of it.uses ≡ items_of (faces_of (take k (parts ++ part ∷ [])))))
-          (sym (get-before parts (part ∷ []) k less))
+          (sym (get_front parts (part ∷ []) k less))
           (subst (λ them. IfSome (slice_get parts k) (λ (it : SeenPart). items_of it.uses ≡ items_of (faces_of them)))
           (sym (take-before parts (part ∷ []) k most)) (first.fit k))
       | inr past ↦
@@ -110,7 +76,7 @@ module _ (count : ℕ) (parts : List SeenPart) (faces : List Face) (first : AreF
         (last ∙ ap (λ n. nat_eq (n + 1) count) (sym same))
     | inr apart ↦ elim apart [
       | inl less ↦
-          subst (λ o. IfSome o (λ (it : SeenPart). it.last ≡ nat_eq (k + 1) count)) (sym (get-before parts (part ∷ []) k less)) (first.lasts k)
+          subst (λ o. IfSome o (λ (it : SeenPart). it.last ≡ nat_eq (k + 1) count)) (sym (get_front parts (part ∷ []) k less)) (first.lasts k)
       | inr past ↦
           let beyond : length (parts ++ part ∷ []) ≤ k = omega (arith, long, past) in
           subst (λ o. IfSome o (λ (it : SeenPart). it.last ≡ nat_eq (k + 1) count)) (sym (slice_get_past (parts ++ part ∷ []) k beyond)) tt
@@ -131,9 +97,6 @@ module _ (count : ℕ) (parts : List SeenPart) (faces : List Face) (first : AreF
         ∙ ap items_of (sym (map-append (λ (it : SeenPart). it.face) parts (part ∷ [])));
     stand = stand;
   }
-
-pub next_texts : (parts : List SeenPart) (part : SeenPart) → part_texts (parts ++ part ∷ []) ≡ part_texts parts ++ part.text ∷ []
-next_texts parts part = map-append (λ (it : SeenPart). it.text) parts (part ∷ [])
 
 pub texts_length : (parts : List SeenPart) → length (part_texts parts) ≡ length parts
 texts_length parts = length-map parts (λ (it : SeenPart). it.text)
@@ -194,12 +157,6 @@ module _ (count : ℕ) (parts : List SeenPart) (faces : List Face) (first : AreF
 
     good : AreGoodFiles (length (part_texts parts)) (part_texts parts) faces
     good = subst (λ n. AreGoodFiles n (part_texts parts) faces) (sym all) first_good
-
-    pub some_parts : 1 ≤ length parts
-    some_parts = omega (arith, counted, first.some)
-
-    pub few_parts : length parts ≤ 64
-    few_parts = omega (arith, counted, first.few)
 
     pub files_of : (program : Program) → AreLinked parts program → AreFilesOf (part_texts parts) program
     files_of program linked = record { faces = faces; good = good; have = linked.have }

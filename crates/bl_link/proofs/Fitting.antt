@@ -1,13 +1,14 @@
 -- Whether a part fits where it stands.
 use Rattle.std.proofs.Common.{◌≡◌, ℕ, ◌+◌, ◌-◌, ◌<◌, ◌≤◌, List, length, take, get_or, refl, sym, ap, ◌∙◌, subst, inl, inr, arith}
 use Rattle.std.proofs.lemmas.Bool.{cases_lt}
-use Rattle.std.proofs.lemmas.List.{length-map, length-take-le, take_all}
-use Rattle.std.proofs.lemmas.Option.{slice_get-map, slice_get_past, slice_get_read}
-use Rattle.std.specs.Prelude.{IfSome, Option, Some, nat_eq, option_map, slice_get}
+use Rattle.std.proofs.lemmas.List.{take_all}
+use Rattle.std.proofs.lemmas.Option.{slice_get-map, slice_get_read}
+use Rattle.std.specs.Prelude.{IfSome, Option, Some, option_map, slice_get}
+use Rattle.bl_tree.proofs.Basics.{get_taken}
 use Rattle.bl_face.specs.declared.face.Face.{Face}
 use Rattle.bl_face.specs.declared.item.FaceItem.{FaceItem}
-use Rattle.bl_link.proofs.Lists.{agree-at, agree-length, agree-next, get-take, take-map}
-use Rattle.bl_link.specs.Fits.{FaceFits, FacesFit, IsFirstMisfit, LastFits, LastsFit, faces_of}
+use Rattle.bl_link.proofs.Lists.{agree-at, agree-next, take-map}
+use Rattle.bl_link.specs.Fits.{FaceFits, IsFirstMisfit, faces_of}
 use Rattle.bl_module.specs.Faces.{items_of}
 use Rattle.bl_module.specs.Parts.{SeenPart}
 
@@ -46,19 +47,11 @@ module _ (parts : List SeenPart) (k : ℕ) (part : SeenPart) (within : k < lengt
   pub same_fits : items_of part.uses ≡ items_of (take k (faces_of parts)) → FaceFits parts k
   same_fits same = subst Uses (sym (part_read parts k part within is)) (same ∙ ap items_of (take-map face_of k parts))
 
-  faces_long : k ≤ length (faces_of parts)
-  faces_long = let long : length (faces_of parts) ≡ length parts = length-map parts face_of in omega (arith, long, within)
-
   -- all faces that it uses are the same
   pub all_fit : length part.uses ≡ k → SameFaces part.uses parts k → FaceFits parts k
   all_fit size same =
       let most : length part.uses ≤ k = omega (arith, size) in
       same_fits (ap items_of (sym (take_all k part.uses most)) ∙ same)
-
-  -- it uses too few faces, or too many
-  pub no_length : (length part.uses ≡ k → ⊥) → ¬ FaceFits parts k
-  no_length differ fits =
-      differ (agree-length items items part.uses (take k (faces_of parts)) (fits_same fits) ∙ length-take-le k (faces_of parts) faces_long)
 
   -- one of the faces that it uses is another
   pub no_face : (j : ℕ) (one : Face) (other : SeenPart) → j < k → length part.uses ≡ k → one ≡ get_or part.uses j one → other ≡ get_or parts j other →
@@ -69,44 +62,9 @@ module _ (parts : List SeenPart) (k : ℕ) (part : SeenPart) (within : k < lengt
       differ
       (agree-at items items part.uses (take k (faces_of parts)) j one other.face (fits_same fits)
       (slice_get_read part.uses (length part.uses) j one refl inside at)
-      (get-take (faces_of parts) k j less ∙ face_read parts j other below there))
-
-  abbrev Lasts : Option SeenPart → Type 0
-  Lasts o = IfSome o (λ it. it.last ≡ nat_eq (k + 1) (length parts))
-
-  pub last_fits : part.last ≡ nat_eq (k + 1) (length parts) → LastFits parts k
-  last_fits same = subst Lasts (sym (part_read parts k part within is)) same
-
-  pub fits_last : LastFits parts k → part.last ≡ nat_eq (k + 1) (length parts)
-  fits_last fits = subst Lasts (part_read parts k part within is) fits
+      (get_taken (faces_of parts) k j less ∙ face_read parts j other below there))
 
 -- ---- all parts
-
-pub faces_fit : (parts : List SeenPart) (n : ℕ) → length parts ≤ n → ((k : ℕ) → k < n → FaceFits parts k) → FacesFit parts
-faces_fit parts n all fit k = elim (cases_lt k n) [
-  | inl less ↦ fit k less
-  | inr past ↦
-      let beyond : length parts ≤ k = omega (arith, all, past) in
-      subst (λ o. IfSome o (λ (it : SeenPart). items_of it.uses ≡ items_of (faces_of (take k parts)))) (sym (slice_get_past parts k beyond)) tt
-]
-
-pub lasts_fit : (parts : List SeenPart) (n : ℕ) → length parts ≤ n → ((k : ℕ) → k < n → LastFits parts k) → LastsFit parts
-lasts_fit parts n all fit k = elim (cases_lt k n) [
-  | inl less ↦ fit k less
-  | inr past ↦
-      let beyond : length parts ≤ k = omega (arith, all, past) in
-      subst (λ o. IfSome o (λ (it : SeenPart). it.last ≡ nat_eq (k + 1) (length parts))) (sym (slice_get_past parts k beyond)) tt
-]
-
--- the first position at which a condition doesn't hold, by its number
-pub first_misfit : (Fits : ℕ → Type 0) (parts k number : ℕ) → k < parts → number ≡ k + 1 → ((j : ℕ) → j < k → Fits j) → ¬ Fits k →
-    IsFirstMisfit Fits parts number
-first_misfit Fits parts k number within is before fails = record {
-  counted = omega (arith, is);
-  is_there = omega (arith, is, within);
-  earlier = λ j less. let sooner : j < k = omega (arith, is, less) in before j sooner;
-  fails = let back : k ≡ number - 1 = omega (arith, is) in subst (λ n. ¬ Fits n) back fails;
-}
 
 -- there is one first
 pub one_misfit : (Fits : ℕ → Type 0) (parts n m : ℕ) → IsFirstMisfit Fits parts n → IsFirstMisfit Fits parts m → n ≡ m

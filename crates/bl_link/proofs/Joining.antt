@@ -2,7 +2,7 @@
 use Rattle.std.proofs.Common.{◌≡◌, ℕ, ◌+◌, ◌*◌, ◌<◌, ◌≤◌, List, [], ◌∷◌, ◌++◌, length, take, get_or, refl, sym, ap, ◌∙◌, subst, inl, inr, arith, length-append}
 use Rattle.std.proofs.lemmas.Bool.{cases_lt}
 use Rattle.std.proofs.lemmas.List.{map-append}
-use Rattle.std.proofs.lemmas.List.Elements.{All-nil, All-push}
+use Rattle.std.proofs.lemmas.List.Elements.{All-push}
 use Rattle.std.proofs.lemmas.Option.{slice_get_read, slice_get_within}
 use Rattle.bl_joined.specs.declared.joined.Joined.{Joined}
 use Rattle.bl_joined.specs.Joined.{IsJoinedOf}
@@ -63,14 +63,6 @@ pub record Joins (parts : List SeenPart) (k : ℕ) (joined : Joined) : Type 0 wh
   pub is : IsJoinedOf (part_texts (take k parts)) joined
   pub short : length joined.text.items ≤ 1_048_577 * k
 
-pub joins_none : (parts : List SeenPart) (joined : Joined) → IsJoinedOf [] joined → Joins parts 0 joined
-joins_none parts joined is = record {
-  within = omega arith;
-  are = All-nil IsPart;
-  is = is;
-  short = let none : length joined.text.items ≡ 0 = ap length is.text in omega (arith, none);
-}
-
 pub joins_next : (parts : List SeenPart) (k : ℕ) (part : SeenPart) (before after : Joined) → k < length parts → part ≡ get_or parts k part →
     Joins parts k before → IsPart part →
     ((texts : List (List ℕ)) → IsJoinedOf texts before → IsJoinedOf (texts ++ part.text ∷ []) after) →
@@ -84,11 +76,6 @@ joins_next parts k part before after less at joins keeps more grow =
           (more (part_texts (take k parts)) joins.is);
       short = omega (arith, grow, joins.short);
     }
-
-pub joins_all : (parts : List SeenPart) (k : ℕ) (joined : Joined) → length parts ≤ k → Joins parts k joined → take k parts ≡ parts →
-    IsJoinedOf (part_texts parts) joined × ArePartsOf parts
-joins_all parts k joined end joins all =
-    (subst (λ them. IsJoinedOf (part_texts them) joined) all joins.is, subst ArePartsOf all joins.are)
 
 -- ---- the text in which a place is
 

@@ -1,6 +1,5 @@
 -- The program of joined parts.
 use Rattle.std.proofs.Common.{◌≡◌, ℕ, ◌<◌, ◌≤◌, ◌^◌, List, length, refl, sym, subst, arith}
-use Rattle.std.proofs.lemmas.List.{length-map}
 use Rattle.bl_joined.specs.declared.joined.Joined.{Joined}
 use Rattle.bl_joined.specs.Joined.{IsJoinedOf}
 use Rattle.bl_lex.specs.Tokens.{Lexes}
@@ -9,8 +8,8 @@ use Rattle.bl_link.proofs.Trees.{joined_lexes, part_tokens_pass}
 use Rattle.bl_link.proofs.Turns.{good_parts}
 use Rattle.bl_link.specs.declared.fault.LinkFault.{LinkFault}
 use Rattle.bl_link.specs.Fits.{PartsFit, faces_of, part_texts}
-use Rattle.bl_link.specs.inner.Whole.{ArePartsOf, IsOfFew, IsReadable, TellsIn}
-use Rattle.bl_link.specs.Linked.{AreLinked, HaveTree, LinkStops}
+use Rattle.bl_link.specs.inner.Whole.{ArePartsOf, IsReadable, TellsIn}
+use Rattle.bl_link.specs.Linked.{HaveTree, LinkStops}
 use Rattle.bl_module.specs.Parts.{SeenPart}
 use Rattle.bl_module_laws.proofs.Read.{JoinedLex, JoinedPass}
 use Rattle.bl_module_laws.specs.Files.{AreGoodFiles}
@@ -23,6 +22,7 @@ use Rattle.bl_tree.specs.declared.program.Program.{Program}
 use Rattle.bl_tree.specs.declared.rule.Refusal.{Refusal}
 use Rattle.bl_tree.specs.Rules.{IsCause}
 use Rattle.bl_types_program.specs.Programs.{IsProgramOf}
+use Rattle.bl_link.proofs.Adding.{texts_length}
 
 pub readable : JoinedLex → JoinedPass → TokensAreOne → (parts : List SeenPart) (joined : Joined) → IsJoinedOf (part_texts parts) joined →
     ArePartsOf parts → length joined.text.items < 2 ^ 32 → IsReadable joined
@@ -34,26 +34,8 @@ readable lex pass one parts joined is are short =
           (subst (λ (text : List ℕ). Lexes text joined.tokens.items) is.text lexes);
     }
 
-pub texts_count : (parts : List SeenPart) → length (part_texts parts) ≡ length parts
-texts_count parts = length-map parts (λ (it : SeenPart). it.text)
-
-pub of_few : (parts : List SeenPart) (joined : Joined) → IsJoinedOf (part_texts parts) joined → 1 ≤ length parts → length parts ≤ 64 → IsOfFew joined
-of_few parts joined is some few = record {
-  texts = part_texts parts;
-  is = is;
-  some = subst (λ n. 1 ≤ n) (sym (texts_count parts)) some;
-  few = subst (λ n. n ≤ 64) (sym (texts_count parts)) few;
-}
-
 pub tree_in : (texts : List (List ℕ)) (joined : Joined) (raw : Raw) → IsJoinedOf texts joined → Parses joined.text.items raw → HaveTree texts raw
 tree_in texts joined raw is parses = subst (λ (text : List ℕ). Parses text raw) is.text parses
-
-pub are_linked : (parts : List SeenPart) (joined : Joined) (raw : Raw) (program : Program) → PartsFit parts → IsJoinedOf (part_texts parts) joined →
-    Parses joined.text.items raw → TreePasses raw → IsProgramOf raw program → AreLinked parts program
-are_linked parts joined raw program fit is parses passes of = record {
-  fit = fit;
-  have = record { raw = raw; tree = tree_in (part_texts parts) joined raw is parses; passes = passes; is = of };
-}
 
 -- the joined texts of parts are short enough for a small tree
 pub of_small : SpelledAreSmall → (joined : Joined) (raw : Raw) (program : Program) → length joined.text.items < 2 ^ 32 →
@@ -67,7 +49,7 @@ pub fault_stops : GoodFilesPass → (parts : List SeenPart) (joined : Joined) (r
     PartsFit parts → 1 ≤ length parts → IsJoinedOf (part_texts parts) joined → Parses joined.text.items raw → IsCause (TreeFails raw) refused →
     (0 < length (part_texts parts) → TellsIn (part_texts parts) refused told) → LinkStops parts told
 fault_stops law parts joined raw refused told are fit some is parses cause tells =
-    let count = texts_count parts in
+    let count = texts_length parts in
     let any : 0 < length (part_texts parts) = omega (arith, count, some) in
     let tree = tree_in (part_texts parts) joined raw is parses in
     let good : AreGoodFiles (length (part_texts parts)) (part_texts parts) (faces_of parts) =

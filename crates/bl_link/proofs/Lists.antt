@@ -1,49 +1,15 @@
 -- Lists whose first elements agree.
-use Rattle.std.proofs.Common.{
-  ◌≡◌,
-  ℕ,
-  ◌+◌,
-  ◌<◌,
-  ◌≤◌,
-  zero,
-  suc,
-  List,
-  [],
-  ◌∷◌,
-  ◌++◌,
-  length,
-  map,
-  take,
-  refl,
-  sym,
-  ap,
-  ◌∙◌,
-  subst,
-  inl,
-  inr,
-  arith,
-}
-use Rattle.std.proofs.lemmas.Bool.{cases_lt}
+use Rattle.std.proofs.Common.{◌≡◌, ℕ, ◌+◌, ◌<◌, ◌≤◌, zero, suc, List, [], ◌∷◌, ◌++◌, length, map, take, refl, sym, ap, ◌∙◌, arith}
 use Rattle.std.proofs.lemmas.List.{length-map, map-append}
 use Rattle.std.proofs.lemmas.Option.{get_or_from_slice_get, same_Some, slice_get-map, slice_get_within}
 use Rattle.std.proofs.Math.Seq.{take-suc}
 use Rattle.std.specs.Prelude.{Some, option_map, slice_get}
-
-one_more : (k : ℕ) → k + 1 ≡ suc k
-one_more k = omega arith
+use Rattle.bl_tree.proofs.Basics.{plus_one}
 
 pub take-map : {A B : Type 0} (f : A → B) (n : ℕ) (xs : List A) → take n (map f xs) ≡ map f (take n xs)
 take-map f zero xs = refl
 take-map f (suc n) [] = refl
 take-map f (suc n) (x ∷ xs) = ap (λ ys. f x ∷ ys) (take-map f n xs)
-
-pub get-take : {A : Type 0} (xs : List A) (n k : ℕ) → k < n → slice_get (take n xs) k ≡ slice_get xs k
-get-take xs zero k less = absurd (omega (arith, less))
-get-take [] (suc n) k less = refl
-get-take (x ∷ xs) (suc n) zero less = refl
-get-take (x ∷ xs) (suc n) (suc k) less =
-    let below : k < n = omega (arith, less) in
-    get-take xs n k below
 
 pub take-take : {A : Type 0} (xs : List A) (n k : ℕ) → k ≤ n → take k (take n xs) ≡ take k xs
 take-take xs n zero less = refl
@@ -56,7 +22,7 @@ take-take (x ∷ xs) (suc n) (suc k) less =
 -- the first elements up to one are those before it, and then this one
 pub take-next : {A : Type 0} (xs : List A) (k : ℕ) (x : A) → slice_get xs k ≡ Some x → take (k + 1) xs ≡ take k xs ++ x ∷ []
 take-next xs k x at =
-    ap (λ n. take n xs) (one_more k) ∙ take-suc xs k x (slice_get_within xs k x at)
+    ap (λ n. take n xs) (plus_one k) ∙ take-suc xs k x (slice_get_within xs k x at)
     ∙ ap (λ y. take k xs ++ y ∷ []) (get_or_from_slice_get xs k x x at)
 
 -- one element more that agrees
@@ -78,15 +44,6 @@ agree-at f g xs ys k x y same at there =
 pub agree-length : {A B C : Type 0} (f : A → C) (g : B → C) (xs : List A) (ys : List B) → map f xs ≡ map g ys → length xs ≡ length ys
 agree-length f g xs ys same = sym (length-map xs f) ∙ ap length same ∙ length-map ys g
 
--- what holds at all positions before the next one
-pub below-next : (P : ℕ → Type 0) (k : ℕ) → ((j : ℕ) → j < k → P j) → P k → (j : ℕ) → j < k + 1 → P j
-below-next P k before here j less = elim (cases_lt j k) [
-  | inl earlier ↦ before j earlier
-  | inr later ↦
-      let same : k ≡ j = omega (arith, later, less) in
-      subst P same here
-]
-
 -- ---- elements at the end
 
 pub get-end : {A : Type 0} (xs : List A) (x : A) (n : ℕ) → n ≡ length xs → slice_get (xs ++ x ∷ []) n ≡ Some x
@@ -96,13 +53,6 @@ get-end (y ∷ xs) x zero is = absurd (omega (arith, is))
 get-end (y ∷ xs) x (suc n) is =
     let same : n ≡ length xs = omega (arith, is) in
     get-end xs x n same
-
-pub get-before : {A : Type 0} (xs ys : List A) (k : ℕ) → k < length xs → slice_get (xs ++ ys) k ≡ slice_get xs k
-get-before [] ys k less = absurd (omega (arith, less))
-get-before (x ∷ xs) ys zero less = refl
-get-before (x ∷ xs) ys (suc k) less =
-    let below : k < length xs = omega (arith, less) in
-    get-before xs ys k below
 
 pub take-before : {A : Type 0} (xs ys : List A) (k : ℕ) → k ≤ length xs → take k (xs ++ ys) ≡ take k xs
 take-before xs ys zero less = refl

@@ -5,9 +5,10 @@ use Rattle.std.proofs.lemmas.List.{length-map, length-take-le, take_all}
 use Rattle.std.proofs.lemmas.List.Elements.{All-get_or}
 use Rattle.std.proofs.lemmas.Option.{get_or_from_slice_get, same_Some, slice_get-map, slice_get_within}
 use Rattle.std.specs.Prelude.{IfSome, Some, nat_eq, option_map, slice_get}
+use Rattle.bl_tree.proofs.Basics.{get_front, get_taken, some_within}
 use Rattle.bl_face.specs.declared.face.Face.{Face}
 use Rattle.bl_face.specs.declared.item.FaceItem.{FaceItem}
-use Rattle.bl_link.proofs.Lists.{agree-at, agree-length, agree-next, get-before, get-take, take-before, take-map, take-take}
+use Rattle.bl_link.proofs.Lists.{agree-at, agree-length, agree-next, take-before, take-map, take-take}
 use Rattle.bl_link.specs.Files.{FailsAtFile}
 use Rattle.bl_link.specs.Fits.{FacesFit, faces_of, part_texts}
 use Rattle.bl_link.specs.inner.Whole.{ArePartsOf, LastsOf}
@@ -55,13 +56,6 @@ items face = face.items
 behind_alike : (faces others : List Face) → items_of faces ≡ items_of others → behind_faces faces ≡ behind_faces others
 behind_alike faces others same = ap (λ them. behind_items (joined them)) same
 
-element : {A : Type 0} (xs : List A) (k : ℕ) → k < length xs → (x : A) × (slice_get xs k ≡ Some x)
-element [] k less = absurd (omega (arith, less))
-element (x ∷ xs) zero less = (x, refl)
-element (x ∷ xs) (suc k) less =
-    let below : k < length xs = omega (arith, less) in
-    element xs k below
-
 -- ---- good files have one list of faces
 
 module _ (one_face : OneFace) (count : ℕ) (texts : List (List ℕ)) (faces others : List Face) (good : AreGoodFiles count texts faces)
@@ -73,9 +67,9 @@ module _ (one_face : OneFace) (count : ℕ) (texts : List (List ℕ)) (faces oth
       let inside : k < length faces = omega (arith, good.counted, less) in
       let there : k < length others = omega (arith, too.counted, less) in
       let before = first_faces k (omega (arith, less)) in
-      let text = element texts k less in
-      let face = element faces k inside in
-      let other = element others k there in
+      let text = some_within texts k less in
+      let face = some_within faces k inside in
+      let other = some_within others k there in
       let one = good.each k text.0 face.0 text.1 face.1 in
       let two = too.each k text.0 other.0 text.1 other.1 in
       let same : face.0.items ≡ other.0.items =
@@ -102,7 +96,7 @@ good_front count texts faces n within good = record {
       let less : k < n = omega (arith, slice_get_within (take n texts) k text at, length-take-le n texts within) in
       let most : k ≤ n = omega (arith, less) in
       subst (λ them. IsGoodBehind them (taken_at count k) text face) (sym (take-take faces n k most))
-      (good.each k text face (sym (get-take texts n k less) ∙ at) (sym (get-take faces n k less) ∙ there));
+      (good.each k text face (sym (get_taken texts n k less) ∙ at) (sym (get_taken faces n k less) ∙ there));
 }
 
 -- ---- where files fail
@@ -116,8 +110,8 @@ module _ (one_face : OneFace) (none : NoneFirst) (count : ℕ) (texts : List (Li
       let front : position ≤ n = omega (arith, less) in
       let long : length (take n texts) ≡ n = length-take-le n texts within in
       let inside : position < length faces = omega (arith, good.counted, long, less) in
-      let face = element faces position inside in
-      let one = good.each position text face.0 (get-take texts n position less ∙ at) face.1 in
+      let face = some_within faces position inside in
+      let one = good.each position text face.0 (get_taken texts n position less ∙ at) face.1 in
       let first_good : AreGoodFiles count (take position texts) (take position faces) =
       subst (λ them. AreGoodFiles count them (take position faces)) (take-take texts n position front)
       (good_front count (take n texts) faces position (omega (arith, long, less)) good) in
@@ -194,7 +188,7 @@ fails_among_more count texts more file rule place also fails =
       position = fails.position;
       counted = fails.counted;
       text = fails.text;
-      is_there = get-before texts more fails.position less ∙ fails.is_there;
+      is_there = get_front texts more fails.position less ∙ fails.is_there;
       faces = fails.faces;
       before = subst (λ them. AreGoodFiles count them fails.faces) (sym (take-before texts more fails.position most)) fails.before;
       fails = fails.fails;
@@ -228,7 +222,7 @@ module _ (count : ℕ) (parts : List SeenPart) (faces : List Face) (are : ArePar
   good_part k text face at there =
       let size : length (part_texts parts) ≡ length parts = length-map parts text_of in
       let less : k < length parts = omega (arith, slice_get_within (part_texts parts) k text at, size) in
-      let part = element parts k less in
+      let part = some_within parts k less in
       let is_text : part.0.text ≡ text =
       same_Some part.0.text text (sym (slice_get-map text_of parts k ∙ ap (option_map text_of) part.1) ∙ at) in
       let is_face : face.items ≡ part.0.face.items =

@@ -9,16 +9,11 @@ use Rattle.bl_io.specs.Left.{GivesUpTo, KeepsOthers, StandsFurther}
 use Rattle.bl_link_files.specs.inner.Fronts.{AreFirstTexts, AreFronts, FrontsRead}
 use Rattle.bl_module_files.proofs.Turns.{kept_same, names_next, names_split, one_further, read_further, read_more, text_of, was_read}
 use Rattle.bl_module_files.specs.Turns.{Left, StandFurther, WereRead, file_limit, next, none}
+use Rattle.bl_module_files.proofs.Sizes.{rose_from}
+use Rattle.bl_module_files.proofs.Turns.{nil_behind}
 
 pub none_read : (left : Left) (gots : List (List ℕ)) → gots ≡ [] → FrontsRead left [] gots left
 none_read left gots is = record { texts = []; read = none; fronts = subst (AreFronts []) (sym is) tt }
-
-nil_behind : (xs : List (List ℕ)) → xs ++ [] ≡ xs
-nil_behind [] = refl
-nil_behind (x ∷ xs) = ap (λ rest. x ∷ rest) (nil_behind xs)
-
-rose_from : (first second last : ℕ) → first ≤ second → Rose second last → Rose first last
-rose_from first second last below rose = λ differs. let above = rose differs in omega (arith, below, above)
 
 -- what was read of a file is a front of its text
 front_of : (left : Option (List ℕ)) (got : List ℕ) (after : Option (List ℕ)) → length got ≤ file_limit → GivesUpTo file_limit left got after →
@@ -39,7 +34,7 @@ fronts_count [] (other ∷ gots) fronts = absurd fronts
 fronts_count (one ∷ texts) [] fronts = absurd fronts
 fronts_count (one ∷ texts) (other ∷ gots) fronts = ap suc (fronts_count texts gots fronts.1)
 
-read_count : (before after : Left) (names texts : List (List ℕ)) → WereRead before names texts after → length texts ≡ length names
+pub read_count : (before after : Left) (names texts : List (List ℕ)) → WereRead before names texts after → length texts ≡ length names
 read_count _ _ _ _ none = refl
 read_count _ _ _ _ (next {before} {between} {after} {name} {text} {names} {texts} read more) = ap suc (read_count between after names texts more)
 

@@ -1,37 +1,14 @@
 -- What is judged of the fronts that were read holds of the whole texts.
-use Rattle.std.proofs.Common.{
-  ◌≡◌,
-  ◌∙◌,
-  ℕ,
-  ◌+◌,
-  ◌<◌,
-  ◌≤◌,
-  zero,
-  suc,
-  List,
-  [],
-  ◌∷◌,
-  ◌++◌,
-  length,
-  length-append,
-  take,
-  drop,
-  refl,
-  sym,
-  ap,
-  ap₂,
-  subst,
-  inl,
-  inr,
-  arith,
-}
+use Rattle.std.proofs.Common.{◌≡◌, ◌∙◌, ℕ, ◌+◌, ◌<◌, ◌≤◌, zero, suc, List, [], ◌∷◌, ◌++◌, length, length-append, take, drop, refl, sym, ap, ap₂, subst}
+use Rattle.std.proofs.Common.{arith}
 use Rattle.std.proofs.lemmas.List.{append_assoc, length-take-le, take-append-drop}
-use Rattle.std.proofs.lemmas.Option.{same_Some, slice_get_cases, slice_get_within}
+use Rattle.std.proofs.lemmas.Option.{same_Some, slice_get_within}
 use Rattle.std.specs.Prelude.{Some, slice_get}
+use Rattle.bl_tree.proofs.Basics.{get_taken, some_within}
 use Rattle.bl_io.specs.declared.fault.IoFault.{IoFault}
 use Rattle.bl_io.specs.declared.fault.IoFault.TheVariants as io
 use Rattle.bl_face.specs.declared.face.Face.{Face}
-use Rattle.bl_link.proofs.Lists.{get-take, take-take}
+use Rattle.bl_link.proofs.Lists.{take-take}
 use Rattle.bl_link.specs.Files.{AreFilesOf, FailsAtFile}
 use Rattle.bl_link_files.proofs.Fronts.{count_of}
 use Rattle.bl_link_files.specs.declared.fault.ProgramFault.{ProgramFault}
@@ -49,13 +26,6 @@ use Rattle.bl_module_laws.specs.Files.{AreGoodFiles, taken_at}
 use Rattle.bl_tree.specs.declared.place.Place.{Place}
 use Rattle.bl_tree.specs.declared.program.Program.{Program}
 use Rattle.bl_tree.specs.declared.rule.Rule.{Rule}
-
--- the element at a position within a list
-there_is : {A : Type 0} (xs : List A) (k : ℕ) → k < length xs → (x : A) × (slice_get xs k ≡ Some x)
-there_is xs k within = elim (slice_get_cases xs k).1 [
-  | inl here ↦ (here.0, here.2)
-  | inr past ↦ absurd (omega (arith, within, past.0))
-]
 
 -- ---- fronts
 
@@ -94,7 +64,7 @@ good_pass count texts faces good k text at =
     let within = slice_get_within texts k text at in
     let counted = good.counted in
     let less : k < length faces = omega (arith, within, counted) in
-    let here = there_is faces k less in
+    let here = some_within faces k less in
     (behind_faces (take k faces), (taken_at count k, (good.each k text here.0 at here.1).passes))
 
 same_all : FrontsThatPassAreWhole → (texts gots : List (List ℕ)) → AreFronts texts gots →
@@ -121,7 +91,7 @@ module _ (passing : FrontsThatPassAreWhole) (failing : FrontsFailAsWholes) where
       let counted = is.counted in
       let less : is.position < file = omega (arith, counted) in
       let most : is.position ≤ file = omega (arith, counted) in
-      let here = text_at texts gots is.position is.text fronts (sym (get-take gots file is.position less) ∙ is.is_there) in
+      let here = text_at texts gots is.position is.text fronts (sym (get_taken gots file is.position less) ∙ is.is_there) in
       let before : AreGoodFiles count (take is.position gots) is.faces =
       subst (λ ts. AreGoodFiles count ts is.faces) (take-take gots file is.position most) is.before in
       let same : take is.position texts ≡ take is.position gots =
@@ -130,7 +100,7 @@ module _ (passing : FrontsThatPassAreWhole) (failing : FrontsFailAsWholes) where
         position = is.position;
         counted = is.counted;
         text = here.text;
-        is_there = get-take texts file is.position less ∙ here.is_there;
+        is_there = get_taken texts file is.position less ∙ here.is_there;
         faces = is.faces;
         before = subst (λ ts. AreGoodFiles count ts is.faces) (sym (take-take texts file is.position most ∙ same)) before;
         fails = record {
@@ -153,7 +123,7 @@ module _ (passing : FrontsThatPassAreWhole) (failing : FrontsFailAsWholes) where
   file_there count gots file rule place also is =
       let counted = is.counted in
       let less : is.position < file = omega (arith, counted) in
-      let within = slice_get_within gots is.position is.text (sym (get-take gots file is.position less) ∙ is.is_there) in
+      let within = slice_get_within gots is.position is.text (sym (get_taken gots file is.position less) ∙ is.is_there) in
       omega (arith, counted, within)
 
   module _ (left now : Left) (names earlier behind gots : List (List ℕ)) (names_are : names ≡ earlier ++ behind)

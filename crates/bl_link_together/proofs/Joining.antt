@@ -1,49 +1,21 @@
 -- Texts that stand alone, joined one after another.
-use Rattle.std.proofs.Common.{
-  ◌≡◌,
-  ◌∙◌,
-  ℕ,
-  ◌+◌,
-  ◌*◌,
-  ◌<◌,
-  ◌≤◌,
-  ◌^◌,
-  Bool,
-  true,
-  false,
-  List,
-  [],
-  ◌∷◌,
-  ◌++◌,
-  ap,
-  arith,
-  get_or,
-  inl,
-  inr,
-  length,
-  refl,
-  subst,
-  sym,
-  take,
-}
+use Rattle.std.proofs.Common.{◌≡◌, ◌∙◌, ℕ, ◌+◌, ◌*◌, ◌<◌, ◌≤◌, ◌^◌, Bool, true, false, List, [], ◌∷◌, ◌++◌, ap, arith, get_or, inl, inr, length, refl, subst}
+use Rattle.std.proofs.Common.{sym, take}
 use Rattle.std.proofs.lemmas.Bool.{cases_order}
 use Rattle.std.proofs.lemmas.Bool.Decides.{nat_tests}
 use Rattle.std.proofs.lemmas.List.{length-take-le, take_all}
-use Rattle.std.proofs.lemmas.List.Elements.{All-nil, All-push}
+use Rattle.std.proofs.lemmas.List.Elements.{All-push}
 use Rattle.std.proofs.lemmas.Option.{same_Some, slice_get_read, slice_get_within}
 use Rattle.std.specs.Prelude.{All, Some, nat_eq, slice_get}
-use Rattle.std.specs.List.{list_any}
+use Rattle.bl_tree.proofs.Basics.{get_taken}
 use Rattle.bl_joined.specs.declared.joined.Joined.{Joined}
 use Rattle.bl_joined.specs.Joined.{IsJoinedOf}
-use Rattle.bl_joined.specs.Texts.{joined_text}
 use Rattle.bl_lex.specs.Tokens.{Lexes}
-use Rattle.bl_link.proofs.Joining.{text_short}
-use Rattle.bl_link.proofs.Linking.{of_small, tree_in}
-use Rattle.bl_link.proofs.Lists.{get-end, get-take, take-next}
+use Rattle.bl_link.proofs.Linking.{tree_in}
+use Rattle.bl_link.proofs.Lists.{take-next}
 use Rattle.bl_link.proofs.Trees.{joined_lexes}
 use Rattle.bl_link.specs.Files.{AreFilesOf}
 use Rattle.bl_link_together.specs.Alone.{AreJoinedAlone, EachStandsAlone, StandsAlone}
-use Rattle.bl_module.specs.Rules.{is_marked}
 use Rattle.bl_module_laws.proofs.Read.{JoinedLex}
 use Rattle.bl_module_laws.specs.Laws.{MarksAreInLast, ParsesAlone, PassingFilesAreGood}
 use Rattle.bl_parse.specs.Programs.{Spells}
@@ -61,15 +33,6 @@ pub record Joins (texts : List (List ℕ)) (k : ℕ) (joined : Joined) : Type 0 
   pub is : IsJoinedOf (take k texts) joined
   pub short : length joined.text.items ≤ 1_048_577 * k
 
-pub joins_none : (texts : List (List ℕ)) (joined : Joined) → IsJoinedOf [] joined → Joins texts 0 joined
-joins_none texts joined is = record {
-  within = omega arith;
-  alone = All-nil ParsesAlone;
-  stand = λ k text there. absurd (cc);
-  is = is;
-  short = let none : length joined.text.items ≡ 0 = ap length is.text in omega (arith, none);
-}
-
 module _ (texts : List (List ℕ)) (k : ℕ) (text : List ℕ) (less : k < length texts) (at : text ≡ get_or texts k text) where
   there : slice_get texts k ≡ Some text
   there = slice_get_read texts (length texts) k text refl less at
@@ -82,13 +45,13 @@ module _ (texts : List (List ℕ)) (k : ℕ) (text : List ℕ) (less : k < lengt
   stands_next before here j other found = elim (cases_order j k) [
     | inl same ↦
         let most : j < k + 1 = omega (arith, same) in
-        let is : other ≡ text = same_Some other text (sym found ∙ get-take texts (k + 1) j most ∙ ap (slice_get texts) same ∙ there) in
+        let is : other ≡ text = same_Some other text (sym found ∙ get_taken texts (k + 1) j most ∙ ap (slice_get texts) same ∙ there) in
         subst (λ t. StandsAlone (nat_eq (j + 1) (length texts)) t) (sym is)
         (subst (λ n. StandsAlone (nat_eq (n + 1) (length texts)) text) (sym same) here)
     | inr apart ↦ elim apart [
       | inl earlier ↦
           let most : j < k + 1 = omega (arith, earlier) in
-          before j other (get-take texts k j earlier ∙ sym (get-take texts (k + 1) j most) ∙ found)
+          before j other (get_taken texts k j earlier ∙ sym (get_taken texts (k + 1) j most) ∙ found)
       | inr later ↦
           let within : j < length (take (k + 1) texts) = slice_get_within (take (k + 1) texts) j other found in
           let most : length (take (k + 1) texts) ≤ k + 1 = length_of_take in

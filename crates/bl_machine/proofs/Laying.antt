@@ -1,22 +1,5 @@
 -- The counters that are made of statements are those of their plain statements.
-use Rattle.std.proofs.Common.{
-  ◌≡◌,
-  ℕ,
-  suc,
-  ◌+◌,
-  max,
-  List,
-  [],
-  ◌∷◌,
-  ◌++◌,
-  map,
-  refl,
-  ap,
-  sym,
-  ◌∙◌,
-  append_assoc,
-  arith,
-}
+use Rattle.std.proofs.Common.{◌≡◌, ℕ, suc, ◌+◌, max, List, [], ◌∷◌, ◌++◌, map, refl, ap, sym, ◌∙◌, append_assoc, arith}
 use Rattle.std.proofs.lemmas.List.{append-nil}
 use Rattle.std.proofs.lemmas.List.Elements.{All-head, All-tail}
 use Rattle.bl_tree.specs.declared.place.Place.{Place}
@@ -27,35 +10,11 @@ use Rattle.bl_tree.specs.declared.tree.StmtKind.{fold-roll-StmtKind}
 use Rattle.bl_tree.specs.declared.tree.StmtKind.TheOpen.{StmtKind-F}
 use Rattle.bl_tree.specs.Reduce.{greatest, total}
 use Rattle.bl_tree.proofs.StmtInduction.{Cases, Each, EachArm, EachBranch, induct, stmt}
-use Rattle.bl_graph_nodes.specs.Plain.{
-  Label,
-  Plain,
-  Position,
-  block_from,
-  bodies_from,
-  else_at,
-  inside,
-  label_at,
-  passed_one,
-  plain_block,
-  plain_stmt,
-}
+use Rattle.bl_graph_nodes.specs.Plain.{Label, Plain, Position, block_from, bodies_from, else_at, inside, label_at, passed_one, plain_block, plain_stmt}
 use Rattle.bl_graph_nodes.specs.Laws.{PlainStatements, plain_arm, plain_branch}
 use Rattle.bl_machine.specs.Layout.{counters_in, counters_in_each, counters_of, width_in, width_in_each, width_of}
-use Rattle.bl_machine.specs.inner.Laid.{
-  Laid,
-  arm_laid,
-  branch_counters,
-  branch_laid,
-  counters_from,
-  kind_laid,
-  laid,
-  laid_arm,
-  laid_block,
-  laid_branch,
-  stmt_laid,
-  widths,
-}
+use Rattle.bl_machine.specs.inner.Laid.{Laid, arm_laid, branch_counters, branch_laid, counters_from, kind_laid, laid, laid_arm, laid_block, laid_branch}
+use Rattle.bl_machine.specs.inner.Laid.{stmt_laid, widths}
 
 -- what is made of the statement is what its plain statement takes
 abbrev Alike : Plain → Laid → Type 0
@@ -66,10 +25,10 @@ Same s = (at : Position) → Alike (plain_stmt s at) (laid s)
 
 -- ---- numbers
 
-max_none : (n : ℕ) → max n 0 ≡ n
+pub max_none : (n : ℕ) → max n 0 ≡ n
 max_none n = omega arith
 
-max_apart : (a b c : ℕ) → max (max a b) c ≡ max a (max b c)
+pub max_apart : (a b c : ℕ) → max (max a b) c ≡ max a (max b c)
 max_apart a b c = omega arith
 
 -- ---- blocks

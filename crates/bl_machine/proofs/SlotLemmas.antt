@@ -1,45 +1,18 @@
 -- Numbers count up.
-use Rattle.std.proofs.Common.{
-  ◌≡◌,
-  ℕ,
-  suc,
-  ◌+◌,
-  ◌<◌,
-  ◌≤◌,
-  false,
-  List,
-  [],
-  ◌∷◌,
-  ◌++◌,
-  ◌⊎◌,
-  ⊎_elim,
-  length,
-  get_or,
-  set,
-  take,
-  drop,
-  refl,
-  ap,
-  sym,
-  subst,
-  ◌∙◌,
-  append_assoc,
-  arith,
-  eq-eqb,
-}
-use Rattle.std.specs.Prelude.{All, nat_eq, replicate}
+use Rattle.std.proofs.Common.{◌≡◌, ℕ, suc, ◌+◌, ◌<◌, ◌≤◌, false, List, [], ◌∷◌, ◌++◌, ◌⊎◌, ⊎_elim, length, get_or, set, take, drop, refl, ap, sym, subst, ◌∙◌}
+use Rattle.std.proofs.Common.{append_assoc, arith, eq-eqb}
+use Rattle.std.specs.Prelude.{All, nat_eq}
 use Rattle.std.proofs.Math.Seq.{drop-cons, take-suc}
-use Rattle.std.proofs.lemmas.List.{append-nil, get_or-replicate, get_or-set_other, get_or-set_same, length-replicate, length-set}
+use Rattle.std.proofs.lemmas.List.{get_or-set_other, get_or-set_same, length-set}
 use Rattle.std.proofs.lemmas.List.Elements.{All-get_or}
 use Rattle.std.proofs.lemmas.List.Sums.{count_by_more_no, count_by_more_yes}
 use Rattle.std.proofs.lemmas.Bool.{cases_eq}
 use Rattle.std.proofs.lemmas.Bool.Decides.{nat_tests}
-use Rattle.std.proofs.lemmas.Grind.{common_steps}
 use Rattle.bl_machine.specs.declared.slots.Slot.{Slot}
 use Rattle.bl_machine.specs.Slots.{counters_at, numbered_after, numbered_slots, times}
 
 -- the counters of numbers are those that were numbered
-counters_after : (before rest : List ℕ) → counters_at (numbered_after before rest) ≡ rest
+pub counters_after : (before rest : List ℕ) → counters_at (numbered_after before rest) ≡ rest
 counters_after before [] = refl
 counters_after before (counter ∷ rest) = ap (λ others. counter ∷ others) (counters_after (before ++ counter ∷ []) rest)
 
@@ -61,13 +34,6 @@ pub record Numbering (width : ℕ) (counters : List ℕ) (i : ℕ) (last : List 
   pub one_each : length last ≡ width
   pub counted : (k : ℕ) → k < width → get_or last k 0 ≡ times k (take i counters)
   pub goes_on : slots ++ numbered_after (take i counters) (drop i counters) ≡ numbered_slots counters
-
-pub numbering_begins : (width : ℕ) (counters : List ℕ) → Numbering width counters 0 (replicate width 0) []
-numbering_begins width counters = record {
-  one_each = length-replicate width 0;
-  counted = λ k lt. get_or-replicate width k 0 0 lt;
-  goes_on = refl;
-}
 
 module _ (counters : List ℕ) (i counter : ℕ) (lt : i < length counters) (is : counter ≡ get_or counters i counter) where
   same_counted : times counter (take (i + 1) counters) ≡ times counter (take i counters) + 1
@@ -119,11 +85,3 @@ numbering_goes_on width i counter value counters last slots all lt is adds h =
         (λ (differs : k ≡ counter → ⊥).
         get_or-set_other last counter k value 0 (λ e. differs e) ∙ h.counted k below ∙ sym (other_counted counters i counter lt is k differs))
         case
-
-pub numbering_ends : (width i : ℕ) (counters last : List ℕ) (slots : List Slot) → length counters ≤ i → Numbering width counters i last slots →
-    slots ≡ numbered_slots counters
-numbering_ends width i counters last slots le h =
-    sym (append-nil slots) ∙ ap (λ rest. slots ++ numbered_after (take i counters) rest) (sym (drop_all counters i le)) ∙ h.goes_on
-  where
-    drop_all : (xs : List ℕ) (n : ℕ) → length xs ≤ n → drop n xs ≡ []
-    drop_all xs n le = grind (arith, common_steps)

@@ -1,33 +1,7 @@
 -- The nodes of an activity in the order in which one pass takes them, some of them joined into one block.
-use Rattle.std.specs.Prelude.{
-  ◌≡◌,
-  ◌⊎◌,
-  ℕ,
-  zero,
-  suc,
-  ◌<◌,
-  Bool,
-  true,
-  false,
-  List,
-  [],
-  ◌∷◌,
-  ◌++◌,
-  Contains,
-  IsPermutation,
-  Some,
-  length,
-  slice_get,
-}
+use Rattle.std.specs.Prelude.{◌≡◌, ◌⊎◌, ℕ, zero, suc, ◌<◌, Bool, true, false, List, [], ◌∷◌, ◌++◌, Contains, IsPermutation, Some, length, slice_get}
 use Rattle.bl_tree.specs.Reduce.{joined}
-use Rattle.bl_graph_nodes.specs.Nodes.{
-  ActAt,
-  DepthJoinAt,
-  HeadAt,
-  Node,
-  SurfaceJoinAt,
-  nodes_in,
-}
+use Rattle.bl_graph_nodes.specs.Nodes.{ActAt, DepthJoinAt, HeadAt, Node, SurfaceJoinAt, nodes_in}
 use Rattle.bl_graph_nodes.specs.Plain.{Block}
 use Rattle.bl_graph.specs.DataEdges.{DataEdge}
 use Rattle.bl_graph.specs.Edges.{EdgeAll, Entry, ResumeAll}

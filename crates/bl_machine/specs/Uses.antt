@@ -1,25 +1,7 @@
 -- The numbers of an activity's resting places by the labels of their statements, and which counters a part of its body uses.
 use Rattle.std.specs.Prelude.{ℕ, suc, Bool, false, ◌||◌, nat_eq}
-use Rattle.bl_graph_nodes.specs.Plain.{
-  Act,
-  Again,
-  Await,
-  Block,
-  Bodies,
-  Body as BodyOf,
-  Cobegin,
-  Done,
-  If,
-  Label,
-  Last,
-  Plain,
-  Repeat,
-  Run as RunOf,
-  Then,
-  Until,
-  When,
-  While,
-}
+use Rattle.bl_graph_nodes.specs.Plain.{Act, Again, Await, Block, Bodies, Body as BodyOf, Cobegin, Done, If, Label, Last, Plain, Repeat, Run as RunOf, Then}
+use Rattle.bl_graph_nodes.specs.Plain.{Until, When, While}
 use Rattle.bl_machine.specs.declared.slots.Slot.{Slot}
 
 -- the numbers of an activity's resting places, by the labels of their statements

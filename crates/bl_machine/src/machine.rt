@@ -60,11 +60,11 @@ impl<'a> Machine<'a> {
     /// The machine of an accepted program: each node is a block of its own, and each activity takes as few counters as it can.
     /// Fails only for want of memory.
     pub fn of(alloc: Global, accepted: &'a Accepted) -> Result<Machine<'a>, NoMemory>
-        ensures program { IfOk result (λ machine. machine.program ≡ accepted.now.tree) }
+        ensures program { IfOk result (λ machine. machine.program ≡ accepted.now.program) }
         ensures plain { IfOk result IsPlainMachine }
     {
         accepted.is_accepted();
-        let program = accepted.tree();
+        let program = accepted.program();
         let activities = all(alloc, program, accepted.graphs(), accepted.orders())?;
         Ok(Machine::new(program, activities))
     }

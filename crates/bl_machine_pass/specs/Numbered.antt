@@ -2,23 +2,8 @@
 -- order.
 use Rattle.std.specs.Prelude.{ℕ, suc, Bool, false, ◌&&◌, List, [], ◌∷◌, bytes_eq, map, nat_eq, slice_get, unwrap_or, if◌then◌else◌}
 use Rattle.bl_tree.specs.Reduce.{greatest}
-use Rattle.bl_graph_nodes.specs.Nodes.{
-  ActAt,
-  CheckAt,
-  DepthEndAt,
-  DepthJoinAt,
-  EnterAt,
-  ForkAt,
-  HeadAt,
-  Node,
-  PauseAt,
-  ResumeAt,
-  StartAt,
-  SurfaceEndAt,
-  SurfaceJoinAt,
-  TestAt,
-  label_of,
-}
+use Rattle.bl_graph_nodes.specs.Nodes.{ActAt, CheckAt, DepthEndAt, DepthJoinAt, EnterAt, ForkAt, HeadAt, Node, PauseAt, ResumeAt, StartAt, SurfaceEndAt}
+use Rattle.bl_graph_nodes.specs.Nodes.{SurfaceJoinAt, TestAt, label_of}
 use Rattle.bl_graph_nodes.specs.Plain.{Block, Label}
 use Rattle.bl_machine.specs.declared.slots.Slot.{Slot}
 use Rattle.bl_machine.specs.Blocks.{up_to}

@@ -1,31 +1,6 @@
 -- The nodes of a body differ by their labels and sorts: no two of them have one label and one sort.
-use Rattle.std.proofs.Common.{
-  ◌≡◌,
-  ℕ,
-  zero,
-  suc,
-  ◌≤◌,
-  Bool,
-  true,
-  false,
-  ◌⊎◌,
-  inl,
-  inr,
-  List,
-  [],
-  ◌∷◌,
-  ◌++◌,
-  map,
-  Some,
-  None,
-  refl,
-  ap,
-  sym,
-  ◌∙◌,
-  subst,
-  arith,
-}
-use Rattle.std.specs.Prelude.{Contains, slice_get, ⊤}
+use Rattle.std.proofs.Common.{◌≡◌, ℕ, zero, suc, ◌≤◌, Bool, true, false, ◌⊎◌, inl, inr, List, [], ◌∷◌, ◌++◌, map, Some, refl, ap, sym, ◌∙◌, subst, arith}
+use Rattle.std.specs.Prelude.{slice_get, ⊤}
 use Rattle.std.proofs.lemmas.List.Elements.{All-head, All-tail}
 use Rattle.bl_tree.specs.declared.place.Place.{Place}
 use Rattle.bl_tree.specs.declared.tree.Arm.{Arm, out-Arm}
@@ -38,29 +13,15 @@ use Rattle.bl_tree.specs.declared.tree.StmtKind.TheOpen.{StmtKind-F}
 use Rattle.bl_tree.proofs.StmtInduction.{Cases, Each, EachArm, EachBranch, induct, stmt}
 use Rattle.bl_graph_nodes.specs.Nodes.{CheckAt, DepthEndAt, DepthJoinAt, ForkAt, HeadAt, Node, StartAt, SurfaceEndAt, SurfaceJoinAt, TestAt, are_instant}
 use Rattle.bl_graph_nodes.specs.Nodes.{is_instant, label_of, nodes_in, nodes_in_each, nodes_of, where_so}
-use Rattle.bl_graph_nodes.specs.Plain.{
-  Block,
-  Bodies,
-  Cobegin,
-  Label,
-  Plain,
-  Position,
-  block_from,
-  bodies_from,
-  else_at,
-  inside,
-  label_at,
-  never,
-  passed_one,
-  place_of_test,
-  plain_block,
-  plain_stmt,
-}
+use Rattle.bl_graph_nodes.specs.Plain.{Block, Bodies, Cobegin, Label, Plain, Position, block_from, bodies_from, else_at, inside, label_at, never, passed_one}
+use Rattle.bl_graph_nodes.specs.Plain.{place_of_test, plain_block, plain_stmt}
 use Rattle.bl_graph_nodes.specs.Laws.{Begins, Below, plain_arm, plain_branch}
 use Rattle.bl_graph_nodes.proofs.Equations.{plain_statements}
-use Rattle.bl_graph_nodes.proofs.Labels.{low, one_on, positions_part, tail_same, through}
+use Rattle.bl_graph_nodes.proofs.Labels.{low, one_on, positions_part, through}
 use Rattle.bl_machine_pass.specs.Numbered.{sort}
 use Rattle.bl_machine_pass_laws.specs.Keys.{NodesHaveKeys}
+use Rattle.bl_graph_nodes.proofs.Differing.{blocks_apart, is_no_further, none_is_some, some_same}
+use Rattle.bl_ctree_laws_traces.proofs.OnReady.Numbering.{stands_at}
 
 -- ---- what tells nodes apart
 
@@ -106,12 +67,6 @@ has_where : (test : Bool) (x : Node) (xs : List Node) (n : Node) → Has (where_
 has_where true x xs n h = h
 has_where false x xs n h = inr h
 
-none_is_some : (n : Node) → None ≡ Some n → ⊥
-none_is_some n is = cc
-
-some_same : (a b : Node) → Some a ≡ Some b → a ≡ b
-some_same a b is = cc
-
 to_first : (x n m : Node) → n ≡ x → Same n m → Same x m
 to_first x n m is same = subst (λ y. Same y m) is same
 
@@ -140,14 +95,6 @@ below_has : (at : Position) (xs : List Node) (n : Node) → Below at xs → Has 
 below_has at [] n below h = elim h [ ]
 below_has at (x ∷ xs) n below (inl e) = subst (λ l. Begins at l.position) (sym e.label) below.0
 below_has at (x ∷ xs) n below (inr h) = below_has at xs n below.1 h
-
-nil_is_more : (k : ℕ) (xs : List ℕ) → [] ≡ k ∷ xs → ⊥
-nil_is_more k xs is = cc
-
--- a position doesn't begin with one that is longer by a number
-is_no_further : (xs : List ℕ) (k : ℕ) (rest : List ℕ) → xs ≡ (xs ++ k ∷ []) ++ rest → ⊥
-is_no_further [] k rest is = nil_is_more k rest is
-is_no_further (x ∷ xs) k rest is = is_no_further xs k rest (tail_same x x xs ((xs ++ k ∷ []) ++ rest) is)
 
 -- a node with the label of a statement isn't one of those in its blocks
 own_apart : (l : Label) (k : ℕ) (own n : Node) → label_of own ≡ l → Same n own → Begins (inside l k) (label_of n).position → ⊥
@@ -293,10 +240,6 @@ of_plain one other is differ = subst (λ s. Differ (nodes_of s)) (sym is) differ
 before_body : (l : Label) (own : Node) (body : List Stmt) → label_of own ≡ l → Has (nodes_in (plain_block body (inside l 0))) own → ⊥
 before_body l own body labelled h = own_apart l 0 own own labelled (itself own) (inner_begins body l 0 own h)
 
-blocks_apart : (other : List Stmt) (l : Label) (n : Node) → Begins (inside l 0) (label_of n).position →
-    Begins (inside l 1) (label_of n).position → ⊥
-blocks_apart other l n one two = past_apart l.position 0 n one (record { number = 1; past = omega arith; begins = two })
-
 branching_differs : (place : Place) (arms : List Arm) (other : List Stmt) → EachArm Alone arms → Each Alone other →
     Alone (stmt place (StmtKind-F.If arms other))
 branching_differs place [] other each others at = rw (fold-roll-Stmt, fold-roll-StmtKind) (
@@ -436,12 +379,6 @@ bodies_differ_so : (body : List Stmt) (at : Position) → Differ (nodes_in (plai
 bodies_differ_so body at = block_differs body 0 at (each_alone body)
 
 -- ---- keys
-
--- a member stands somewhere
-stands_at : (xs : List Node) (x : Node) → Contains xs x → (k : ℕ) × (slice_get xs k ≡ Some x)
-stands_at [] x there = let below = there.1 in absurd (omega arith)
-stands_at (y ∷ xs) x (zero, within, is) = (0, ap Some is)
-stands_at (y ∷ xs) x (suc k, within, is) = let rest = stands_at xs x (k, omega arith, is) in (suc rest.0, rest.1)
 
 same_as : (x n : Node) → x ≡ n → Same x n
 same_as x n is = subst (Same x) is (itself x)

@@ -1,24 +1,5 @@
 -- The resting places of a body differ: those of different statements have labels at different positions.
-use Rattle.std.proofs.Common.{
-  ◌≡◌,
-  ◌⊎◌,
-  inl,
-  inr,
-  ℕ,
-  suc,
-  ◌≤◌,
-  List,
-  [],
-  ◌∷◌,
-  ◌++◌,
-  map,
-  refl,
-  ap,
-  sym,
-  ◌∙◌,
-  subst,
-  arith,
-}
+use Rattle.std.proofs.Common.{◌≡◌, ◌⊎◌, inl, inr, ℕ, suc, ◌≤◌, List, [], ◌∷◌, ◌++◌, map, refl, sym, ◌∙◌, subst, arith}
 use Rattle.std.proofs.lemmas.List.Elements.{All-head, All-tail}
 use Rattle.bl_tree.specs.declared.place.Place.{Place}
 use Rattle.bl_tree.specs.declared.tree.Arm.{Arm, out-Arm}
@@ -27,24 +8,13 @@ use Rattle.bl_tree.specs.declared.tree.Stmt.{Stmt, fold-roll-Stmt}
 use Rattle.bl_tree.specs.declared.tree.StmtKind.{fold-roll-StmtKind}
 use Rattle.bl_tree.specs.declared.tree.StmtKind.TheOpen.{StmtKind-F}
 use Rattle.bl_tree.proofs.StmtInduction.{Cases, Each, EachArm, EachBranch, induct, stmt}
-use Rattle.bl_graph_nodes.specs.Plain.{
-  Label,
-  Plain,
-  Position,
-  block_from,
-  bodies_from,
-  else_at,
-  inside,
-  label_at,
-  passed_one,
-  plain_block,
-  plain_stmt,
-}
+use Rattle.bl_graph_nodes.specs.Plain.{Label, Plain, Position, block_from, bodies_from, else_at, inside, label_at, passed_one, plain_block, plain_stmt}
 use Rattle.bl_graph_nodes.specs.Laws.{Begins, plain_arm, plain_branch}
 use Rattle.bl_graph_nodes.proofs.Equations.{plain_statements}
-use Rattle.bl_graph_nodes.proofs.Labels.{itself, one_on, positions_part, tail_same, through}
+use Rattle.bl_graph_nodes.proofs.Labels.{itself, one_on, positions_part, through}
 use Rattle.bl_machine_pass.specs.SlotLayout.{EndOf, RestOf, Spot, spots_in, spots_in_each, spots_of}
 use Rattle.bl_machine_pass_laws.specs.Spots.{Has, SpotsAreDistinct, SpotsDiffer, spot_position}
+use Rattle.bl_graph_nodes.proofs.Differing.{is_no_further}
 
 -- ---- lists
 
@@ -64,13 +34,6 @@ differ_append (x ∷ xs) ys one two apart = (
 )
 
 -- ---- positions
-
-nil_is_more : (k : ℕ) (xs : List ℕ) → [] ≡ k ∷ xs → ⊥
-nil_is_more k xs is = cc
-
-is_no_further : (xs : List ℕ) (k : ℕ) (rest : List ℕ) → xs ≡ (xs ++ k ∷ []) ++ rest → ⊥
-is_no_further [] k rest is = nil_is_more k rest is
-is_no_further (x ∷ xs) k rest is = is_no_further xs k rest (tail_same x x xs ((xs ++ k ∷ []) ++ rest) is)
 
 -- the place of a statement in one of the blocks from the one with number k on
 record Past (block : Position) (k : ℕ) (p : Spot) : Type 0 where

@@ -1,7 +1,7 @@
 -- The trees that runs reach between ticks are left of their bodies, with all that is called.
-use Rattle.std.proofs.Common.{◌≡◌, ◌⊎◌, inl, inr, ℕ, suc, ◌+◌, ◌<◌, Bool, true, false, List, [], ◌∷◌, ◌++◌, Option, Some, None, refl, sym}
+use Rattle.std.proofs.Common.{◌≡◌, ◌⊎◌, inl, inr, ℕ, ◌+◌, ◌<◌, Bool, true, false, List, [], ◌∷◌, ◌++◌, Option, Some, None, refl, sym}
 use Rattle.std.proofs.Common.{ap, ◌∙◌, subst, arith}
-use Rattle.std.specs.Prelude.{ℤ, option_and_then, option_map, slice_get, unwrap_or}
+use Rattle.std.specs.Prelude.{ℤ, option_map, slice_get, unwrap_or}
 use Rattle.bl_tree.specs.declared.tree.StructDef.{StructDef}
 use Rattle.bl_tree.specs.declared.tree.Unit.{Unit as UnitDef}
 use Rattle.bl_tree.specs.Program.{IsWellTyped, is_entry}
@@ -11,7 +11,7 @@ use Rattle.bl_graph_nodes.specs.Plain.{Block, plain_body}
 use Rattle.bl_ctree.specs.declared.instance.Instance.{Instance}
 use Rattle.bl_ctree.specs.Control as control
 use Rattle.bl_ctree.specs.Control.{Control}
-use Rattle.bl_ctree.specs.Instances.{Setting, expanded, instances_below, runs_of, setting_of, unit_at, unit_of}
+use Rattle.bl_ctree.specs.Instances.{Setting, setting_of, unit_at}
 use Rattle.bl_ctree.specs.Means.{entry_items}
 use Rattle.bl_ctree.specs.Positions.{body_items}
 use Rattle.bl_ctree.specs.Reaches.{Reaches, after_tick, at_first}
@@ -19,7 +19,6 @@ use Rattle.bl_ctree.specs.Store.{Store}
 use Rattle.bl_ctree.specs.Ticks.{Paused, Rests, Tick, Trapped, outcome_at, resting_outcome}
 use Rattle.bl_ctree_laws.specs.Bridge.{plain_items, plain_tree}
 use Rattle.bl_ctree_laws.specs.Ends as ends
-use Rattle.bl_ctree_laws.specs.Ends.{PlainTreeEnd}
 use Rattle.bl_ctree_laws.specs.Laws.{AnswersArePlain, StatementsArePlain}
 use Rattle.bl_ctree_laws.specs.Runs.{SameEnd, TicksEndAlikeByPlain, entry_block}
 use Rattle.bl_ctree_laws.specs.Trees.{Tree, do_block, is_nil, woken}
@@ -32,6 +31,7 @@ use Rattle.bl_machine_pass.specs.SlotLayout.{SlotsAreDistinct}
 use Rattle.bl_machine_pass_laws.specs.Same.Laws.{StaysResidual}
 use Rattle.bl_machine_pass_laws.specs.Turns.Laws.{StaysPlaced}
 use Rattle.bl_machine_pass_laws_counters.proofs.Calls.{After, begun, pass_left, woken_after}
+use Rattle.bl_ctree_laws_traces.proofs.OnBounded.Bounding.{entry_at}
 
 -- ---- the entry
 
@@ -41,17 +41,6 @@ entry_found (Some unit) is = (unit, refl)
 
 abbrev root : ℕ → Instance
 root entry = record { unit = entry; depth = 0; origin = None }
-
--- the entry is the unit of the first instance
-entry_at : (structs : List StructDef) (units : List UnitDef) (entry : ℕ) (unit : UnitDef) → slice_get units entry ≡ Some unit →
-    unit_at (setting_of structs units entry) 0 ≡ Some unit
-entry_at structs units entry unit there =
-    let one : entry + 1 ≡ suc entry = omega arith in
-    let first : slice_get (setting_of structs units entry).instances 0 ≡ Some (root entry) =
-    ap (λ n. slice_get (expanded units n entry) 0) one
-    ∙ ap (λ (o : Option UnitDef). slice_get (unwrap_or (option_map (λ (unit : UnitDef). root entry
-    ∷ instances_below (expanded units entry) 1 (runs_of unit)) o) []) 0) there in
-    ap (option_and_then (unit_of (setting_of structs units entry))) first ∙ there
 
 -- an accepted program has an instance of its entry
 pub entry_there : (structs : List StructDef) (units : List UnitDef) (entry : ℕ) → IsWellTyped structs units entry →

@@ -1,13 +1,14 @@
 -- Trees that runs reach with the same numbers are the same once woken.
-use Rattle.std.proofs.Common.{◌≡◌, ◌⊎◌, inl, inr, ℕ, zero, suc, ◌+◌, ◌<◌, ◌≤◌, Bool, true, false, not, List, [], ◌∷◌, Contains, Option}
-use Rattle.std.proofs.Common.{Some, length, map, refl, sym, ap, ◌∙◌, subst, arith}
+use Rattle.std.proofs.Common.{◌≡◌, ◌⊎◌, inl, inr, ℕ, zero, suc, ◌+◌, ◌<◌, ◌≤◌, Bool, true, false, not, List, [], ◌∷◌, Contains}
+use Rattle.std.proofs.Common.{Some, length, refl, sym, ap, ◌∙◌, subst, arith}
 use Rattle.std.specs.Prelude.{ℤ, option_and_then, slice_get}
+use Rattle.std.proofs.lemmas.Bool.{not-true}
+use Rattle.bl_tree.proofs.Basics.{and_first, and_second, contains_first, contains_mapped, same_some, true_false_any}
 use Rattle.bl_tree.specs.declared.place.Place.{Place as Source}
 use Rattle.bl_tree.specs.declared.tree.StructDef.{StructDef}
 use Rattle.bl_tree.specs.declared.tree.Unit.{Unit as UnitDef}
 use Rattle.bl_tree.specs.Program.{IsWellTyped}
 use Rattle.bl_effects.specs.Rules.{Passes as UnitsPass}
-use Rattle.bl_cause.proofs.ListLemmas.{contains_head}
 use Rattle.bl_graph_nodes.specs.Nodes.{Arguments, EnterAt, Node, ResumeAt, arguments_of, entry, nodes_in}
 use Rattle.bl_graph_nodes.specs.Plain.{Block, Bodies, Body as BodyOf, Done, Label, Last, Then, plain_body}
 use Rattle.bl_ctree.specs.declared.instance.Instance.{Instance}
@@ -22,38 +23,17 @@ use Rattle.bl_ctree.specs.Store.{Store}
 use Rattle.bl_ctree_laws.specs.Bridge.{plain_tree}
 use Rattle.bl_ctree_laws.specs.Laws.{AnswersArePlain, StatementsArePlain, WakingIsPlain}
 use Rattle.bl_ctree_laws.specs.Runs.{TicksEndAlikeByPlain, entry_block}
-use Rattle.bl_ctree_laws.specs.Trees.{
-  Tree,
-  Trees,
-  Nil,
-  Wait,
-  Test,
-  Idle,
-  Do,
-  Seq,
-  Par,
-  Guard,
-  Run,
-  are_done,
-  are_settled,
-  beside,
-  is_nil,
-  is_settled,
-  no_tree,
-  woken,
-}
+use Rattle.bl_ctree_laws.specs.Trees.{Tree, Trees, Nil, Wait, Test, Idle, Do, Seq, Par, Guard, Run, are_done, are_settled, beside, is_nil, is_settled, no_tree}
+use Rattle.bl_ctree_laws.specs.Trees.{woken}
 use Rattle.bl_ctree_laws_confluence.specs.Deeds.Nesting.{ProgramsNest}
 use Rattle.bl_ctree_laws_confluence.specs.Deeds.Orderly.{AcceptedIsOrderly}
 use Rattle.bl_ctree_laws_confluence.specs.Independent.Accepted.{AcceptedIsIndependent}
 use Rattle.bl_ctree_laws_plain.specs.Plain.{PlainTreesTell}
 use Rattle.bl_ctree_laws_traces.specs.Progress.Accepted.{AcceptedTreesFitGraphs}
-use Rattle.bl_ctree_laws_traces.specs.Progress.FitsGraph.{AllFitGraph, FitsGraph, call_stmt}
+use Rattle.bl_ctree_laws_traces.specs.Progress.FitsGraph.{AllFitGraph, FitsGraph}
 use Rattle.bl_ctree_laws_traces.specs.Progress.Places.{Place, ahead_of, guarded, in_branch, whole}
 use Rattle.bl_ctree_laws_traces.specs.Progress.Reached.{TreeFitsGraph, not_begun, rests}
-use Rattle.bl_machine.specs.declared.machine.Activity.{Activity}
-use Rattle.bl_machine.specs.Machines.{AreActivitiesOf}
 use Rattle.bl_machine.specs.Uses.{Slots}
-use Rattle.bl_machine_laws.proofs.OnWaiting.Quiet.{and_first, and_second, differ, not_true}
 use Rattle.bl_machine_laws.specs.Passes.Orders.{Orders}
 use Rattle.bl_machine_laws.specs.Passes.Ticks.{TicksArePasses}
 use Rattle.bl_machine_laws.specs.Traces.Runs.{MachinesHaveOneTrace}
@@ -64,15 +44,11 @@ use Rattle.bl_machine_pass_laws.specs.Same.Laws.{NumbersTell, RestsBetweenTicks,
 use Rattle.bl_machine_pass_laws.specs.Same.Residual.{Calls, OneCalls}
 use Rattle.bl_machine_pass_laws.specs.Turns.Laws.{StaysPlaced}
 use Rattle.bl_machine_pass_laws.specs.Turns.Sits.{SitEach, Sits}
-use Rattle.bl_machine_pass_laws_turns.proofs.OnWaiting.Lists.{contains_map}
 use Rattle.bl_machine_pass_laws_execution.specs.Frames.{AllCallsMatchTree, CallsMatchTree, Frames, FramesMatchTree}
 use Rattle.bl_machine_pass_laws_execution.specs.Machines.{MachinesGiveContexts, slots_at}
 use Rattle.bl_machine_pass_laws_counters.proofs.Calls.{AllCallsLeft, CallsLeft, Left}
 use Rattle.bl_machine_pass_laws_counters.proofs.Reached.{Between, entry_is, entry_there, reached_stands}
-use Rattle.bl_machine_pass_laws_counters.specs.Counters.{HasBegun, NumbersTellTrees, SameNumbers}
-
-some_is : {X : Type 0} (x y : X) → Some x ≡ Some y → x ≡ y
-some_is x y e = cc
+use Rattle.bl_machine_pass_laws_counters.specs.Counters.{HasBegun, NumbersTellTrees}
 
 enter_is : (l : Label) (at at' : Source) (a a' : Arguments) → EnterAt l at a ≡ EnterAt l at' a' → at ≡ at'
 enter_is l at at' a a' e = cc
@@ -133,11 +109,11 @@ module _ (w : Setting) (slots : ℕ → Slots) (frames : Frames) where
     call_there i own all (Guard s Body stood c) g next fits settled sits calls matches l d h =
         call_there i own all c (guarded s g) (body_ends s.label s.place s.body) fits.0 (and_first (is_settled c) (not (is_nil c)) settled) sits.1 calls
         matches l d h
-    call_there i own all (Guard s Check stood c) g next fits settled sits calls matches l d h = differ false settled refl
-    call_there i own all (Run s callee Check stood c) g next fits settled sits calls matches l d h = differ false settled refl
+    call_there i own all (Guard s Check stood c) g next fits settled sits calls matches l d h = true_false_any false settled refl
+    call_there i own all (Run s callee Check stood c) g next fits settled sits calls matches l d h = true_false_any false settled refl
     call_there i own all (Run s callee Body stood c) g next fits settled sits calls matches l d h =
         let known = calls.0 in
-        let same : fits.0 ≡ known.unit = some_is fits.0 known.unit (sym fits.2.is ∙ known.is) in
+        let same : fits.0 ≡ known.unit = same_some fits.0 known.unit (sym fits.2.is ∙ known.is) in
         let arguments : Arguments = arguments_of s.arguments.target s.arguments.inputs s.arguments.outputs in
         let rule : Transition = flagged (EnterAt s.label s.place arguments) (SetsCounter (own.rest s.label) ∷ []) in
         let resumes : Transition = record {
@@ -150,7 +126,7 @@ module _ (w : Setting) (slots : ℕ → Slots) (frames : Frames) where
           at = s.place;
           arguments = arguments;
           rule = rule;
-          there = sits rule (contains_head rule (resumes ∷ []));
+          there = sits rule (contains_first rule (resumes ∷ []));
           node = refl;
           callee = callee;
           called = fits.2.called;
@@ -160,7 +136,7 @@ module _ (w : Setting) (slots : ℕ → Slots) (frames : Frames) where
             stood = stood;
             fits = subst (λ (u : UnitDef). FitsGraph w callee c (whole stood (plain_body u.body))) same fits.1;
             settled = and_first (is_settled c) (not (is_nil c)) settled;
-            unended = not_true (is_nil c) (and_second (is_settled c) (not (is_nil c)) settled);
+            unended = not-true (is_nil c) (and_second (is_settled c) (not (is_nil c)) settled);
             left = known.left;
             calls = calls.1;
             matches = matches;
@@ -181,7 +157,7 @@ module _ (w : Setting) (slots : ℕ → Slots) (frames : Frames) where
 
   moved : (k m : ℕ) (u v : UnitDef) (d : Tree) → k ≡ m → unit_at w m ≡ Some u → unit_at w k ≡ Some v → Side k v d → Side m u d
   moved k m u v d e is is' side =
-      let units : v ≡ u = some_is v u (sym is' ∙ ap (unit_at w) e ∙ is) in
+      let units : v ≡ u = same_some v u (sym is' ∙ ap (unit_at w) e ∙ is) in
       subst (λ (x : UnitDef). Side m x d) units (subst (λ (x : ℕ). Side x v d) e side)
 
 -- ---- two trees
@@ -200,7 +176,7 @@ module _ (placed : StaysPlaced) (keys : NodesHaveKeys) (tell : NumbersTell) (nes
   node_there i unit l d one =
       subst (Contains (nodes_in (plain_body unit.body))) one.node
       (subst (λ (list : List Node). Contains list one.rule.node) (placed.nodes (slots i) (plain_body unit.body))
-      (contains_map (λ (rule : Transition). rule.node) (rules (slots i) (plain_body unit.body)) one.rule one.there))
+      (contains_mapped (λ (rule : Transition). rule.node) (rules (slots i) (plain_body unit.body)) one.rule one.there))
 
   -- two `run`s of a body with one label stand at one place
   same_place : (i : ℕ) (unit : UnitDef) (l : Label) (d d' : Tree) (one : At i unit l d) (other : At i unit l d') → one.at ≡ other.at
@@ -235,7 +211,7 @@ module _ (placed : StaysPlaced) (keys : NodesHaveKeys) (tell : NumbersTell) (nes
       let second = calls_of i unit c' two l d' there in
       let place : first.at ≡ second.at = same_place i unit l d d' first second in
       let callee : second.callee ≡ first.callee =
-      some_is second.callee first.callee (sym second.called ∙ ap (callee_of W i) (sym place) ∙ first.called) in
+      same_some second.callee first.callee (sym second.called ∙ ap (callee_of W i) (sym place) ∙ first.called) in
       let less : i < first.callee = (nest structs units program).later i first.callee first.at first.called in
       same n first.callee first.unit first.is (later (length W.instances) n i first.callee most less) d d' first.side
       (moved W slots frames second.callee first.callee first.unit second.unit d' callee first.is second.is second.side))
@@ -303,13 +279,13 @@ pub numbers_tell_trees : ReachedIsResidual → WokenTreeIsResidual → WakingIsP
     MachinesGiveContexts → NumbersTellTrees
 numbers_tell_trees reached whole waking tells plain answers alike orderly nest independent graphs have traces keys placed residual tell contexts
     accepted machine rows others c d store left keeps is_accepted are one two begun begun' same =
-    let program = accepted.tree in
+    let program = accepted.program in
     let w : Setting = setting_of program.structs program.units program.entry in
     let positions = traces.positions accepted machine keeps is_accepted are in
     let entry = entry_there program.structs program.units program.entry keeps in
     let context = λ (i : ℕ) (unit : UnitDef) (is : unit_at w i ≡ Some unit).
-    contexts.each program.structs program.units program.entry machine positions.rank i unit keeps is_accepted.tree_passes are positions.go_by is in
+    contexts.each program.structs program.units program.entry machine positions.rank i unit keeps is_accepted.passes are positions.go_by is in
     woken_same reached whole waking tells w rows others c d store left one two
     (same_trees plain answers alike orderly nest independent graphs have keys placed residual tell program.structs program.units program.entry
-    positions.rank (slots_at w machine) entry.0 keeps is_accepted.tree_passes (context 0 entry.0 entry.1).orders (λ i unit is. (context i unit is).laid)
+    positions.rank (slots_at w machine) entry.0 keeps is_accepted.passes (context 0 entry.0 entry.1).orders (λ i unit is. (context i unit is).laid)
     entry.1 same.frames rows others c d store left one two begun begun' same.first same.second)

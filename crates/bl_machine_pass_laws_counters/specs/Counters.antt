@@ -30,7 +30,7 @@ HasBegun _ = ⊤
 abbrev pub NumbersTellTrees : Type 0
 NumbersTellTrees =
     (accepted : AcceptedProgram) (machine : List Activity) (rows others : List (List ℤ)) (c d : Control) (store left : Store) →
-    let program = accepted.tree in
+    let program = accepted.program in
     let w = setting_of program.structs program.units program.entry in
     IsWellTyped program.structs program.units program.entry → IsAccepted accepted → AreActivitiesOf program.units machine →
     Reaches w rows c store → Reaches w others d left → HasBegun c → HasBegun d → SameNumbers (slots_at w machine) (plain_tree c) (plain_tree d) →

@@ -3,27 +3,8 @@ use Rattle.std.proofs.Common.{true, false, List, [], ◌∷◌, refl}
 use Rattle.bl_graph_nodes.specs.Nodes.{Node}
 use Rattle.bl_ctree_laws.specs.Trees.{Idle, Tree, woken}
 use Rattle.bl_ctree_laws_examples.specs.Trees.TwoWay.{plain_statements}
-use Rattle.bl_machine_laws.specs.Numbers.Turns.{
-  AnsweredDeed,
-  Passes,
-  aborts as abort_acts,
-  acts,
-  first,
-  forks,
-  goes_on,
-  guards,
-  in_guard,
-  in_par,
-  in_seq,
-  joins,
-  later,
-  lets,
-  pauses,
-  point,
-  repeats,
-  resets,
-  waits,
-}
+use Rattle.bl_machine_laws.specs.Numbers.Turns.{AnsweredDeed, Passes, aborts as abort_acts, acts, first, forks, goes_on, guards, in_guard, in_par, in_seq}
+use Rattle.bl_machine_laws.specs.Numbers.Turns.{joins, later, lets, pauses, point, repeats, resets, waits}
 use Rattle.bl_machine_pass_laws_examples.specs.Aborting as aborting
 use Rattle.bl_machine_pass_laws_examples.specs.Blinking as blinking
 use Rattle.bl_machine_pass_laws_examples.specs.Fields as fields

@@ -1,54 +1,17 @@
 -- The passes of the activity that runs two others, turn by turn.
 use Rattle.std.proofs.Common.{◌≡◌, ℕ, true, List, [], ◌∷◌, ◌++◌, refl, subst, sym}
 use Rattle.bl_tree.specs.declared.scalar.Op.TheVariants.{Add}
-use Rattle.bl_tree.specs.declared.tree.Expr.{Expr}
-use Rattle.bl_tree.specs.declared.tree.Stmt.{fold-roll-Stmt}
-use Rattle.bl_tree.specs.declared.tree.StmtKind.{fold-roll-StmtKind}
-use Rattle.bl_graph_nodes.specs.Plain.{Act, Await, Block, block_at, label_at, plain_body, plain_stmt}
+use Rattle.bl_graph_nodes.specs.Plain.{Block, block_at, plain_body}
 use Rattle.bl_ctree_laws.specs.Trees.{Idle, Nil, Tree, do_block, woken}
 use Rattle.bl_ctree_laws_examples.specs.Trees.Calls.{first_called, second_called}
-use Rattle.bl_ctree_laws_examples.specs.Trees.Made.{always, at, await_true, number, set, two, value}
-use Rattle.bl_machine_laws.specs.Numbers.Turns.{
-  AnsweredDeed,
-  Passes,
-  acts,
-  first,
-  forks,
-  goes_on,
-  in_par,
-  in_seq,
-  joins,
-  later,
-  pauses,
-  point,
-  repeats,
-  returns,
-  runs,
-}
-use Rattle.bl_machine_pass_laws_examples.specs.Calling.{
-  adds_x,
-  body,
-  first_body,
-  first_paused,
-  first_tick,
-  later_tick as deeds_later,
-  orders,
-  paused,
-  program,
-  raises_o,
-  raises_x,
-  second_body,
-  second_paused,
-  sets_x,
-}
+use Rattle.bl_ctree_laws_examples.specs.Trees.Made.{always, at, number, two, value}
+use Rattle.bl_machine_laws.specs.Numbers.Turns.{AnsweredDeed, Passes, acts, first, forks, goes_on, in_par, in_seq, joins, later, pauses, point, repeats}
+use Rattle.bl_machine_laws.specs.Numbers.Turns.{returns, runs}
+use Rattle.bl_machine_pass_laws_examples.specs.Calling.{adds_x, body, first_body, first_paused, first_tick, later_tick as deeds_later, orders, paused, program}
+use Rattle.bl_machine_pass_laws_examples.specs.Calling.{raises_o, raises_x, second_body, second_paused, sets_x}
 use Rattle.bl_machine_pass_laws_examples.specs.Worked.{act, asked, ranked, still}
 use Rattle.bl_machine_pass_laws_examples.proofs.Turning.{ends, then}
-
-set_is : (place k : ℕ) (e : Expr) → plain_stmt (set place k e) ≡ λ p. Act (label_at p) (set place k e)
-set_is place k e = rw (fold-roll-Stmt, fold-roll-StmtKind) refl
-
-pause_is : (place : ℕ) → plain_stmt (await_true place) ≡ λ p. Await (label_at p) (at place) always
-pause_is place = rw (fold-roll-Stmt, fold-roll-StmtKind) refl
+use Rattle.bl_ctree_laws_examples.proofs.OnTrees.Plainly.{pause_is, set_is}
 
 first_plain : plain_body first_called.body ≡ first_body
 first_plain i = block_at (set_is 1 1 (value 0) i ∷ pause_is 2 i ∷ set_is 3 1 (two Add (value 1) (number 10)) i ∷ []) []

@@ -1,22 +1,8 @@
 -- The ticks of the worked examples, one after another.
 use Rattle.bl_machine_pass_laws_examples.specs.Laws.{PassesOfRows}
-use Rattle.bl_machine_pass_laws_examples.proofs.PassesAlone.{
-  aborting_begins,
-  aborting_ends,
-  blinking_again,
-  blinking_begins,
-  blinking_goes_on,
-  fields_begin,
-  fields_go_on,
-  resetting_begins,
-  resetting_goes_on,
-  resetting_resets,
-  two_branches_begin,
-  two_branches_go_on,
-  weakly_begins,
-  weakly_ends,
-  weakly_goes_on,
-}
+use Rattle.bl_machine_pass_laws_examples.proofs.PassesAlone.{aborting_begins, aborting_ends, blinking_again, blinking_begins, blinking_goes_on, fields_begin}
+use Rattle.bl_machine_pass_laws_examples.proofs.PassesAlone.{fields_go_on, resetting_begins, resetting_goes_on, resetting_resets, two_branches_begin}
+use Rattle.bl_machine_pass_laws_examples.proofs.PassesAlone.{two_branches_go_on, weakly_begins, weakly_ends, weakly_goes_on}
 use Rattle.bl_machine_pass_laws_examples.proofs.PassesCalling.{calling_begins, calling_goes_on}
 
 pub passes : PassesOfRows

@@ -1,19 +1,12 @@
 -- Passes turn by turn, where numbers of nodes are computed.
-use Rattle.std.proofs.Common.{◌≡◌, ◌≤◌, ◌⊎◌, inl, inr, ℕ, suc, true, false, List, ◌++◌, sym, ◌∙◌}
+use Rattle.std.proofs.Common.{◌≡◌, ◌≤◌, ◌⊎◌, ℕ, suc, true, List, ◌++◌, ◌∙◌}
 use Rattle.std.specs.Prelude.{◌<◌, [], nat_le}
-use Rattle.std.proofs.lemmas.Bool.Decides.{leb_tells}
+use Rattle.bl_tree.proofs.Basics.{at_most_from}
 use Rattle.bl_graph_nodes.specs.Nodes.{Node}
 use Rattle.bl_ctree.specs.Instances.{Setting}
 use Rattle.bl_ctree_laws.specs.Trees.{Tree, is_settled}
 use Rattle.bl_machine_laws.specs.Numbers.Turns as turns
 use Rattle.bl_machine_laws.specs.Numbers.Turns.{AnsweredDeed, Passes, Turns}
-
-at_most : (j k : ℕ) → nat_le j k ≡ true → j ≤ k
-at_most j k is = told (leb_tells j k)
-  where
-    told : ((nat_le j k ≡ true) × (j ≤ k)) ⊎ ((nat_le j k ≡ false) × (k < j)) → j ≤ k
-    told (inl lower) = lower.1
-    told (inr above) = absurd (let wrong : true ≡ false = sym is ∙ above.0 in cc)
 
 module _ {w : Setting} {rank : ℕ → Node → ℕ} {i : ℕ} where
   -- nothing is left to do
@@ -24,4 +17,4 @@ module _ {w : Setting} {rank : ℕ → Node → ℕ} {i : ℕ} where
   pub then : {k : ℕ} {c : Tree} {done : List AnsweredDeed} {n : Node} {c' : Tree} {others : List AnsweredDeed} {c'' : Tree} →
       Turns w rank i c done n c' → nat_le k (rank i n) ≡ true → Passes w rank i (suc (rank i n)) c' others c'' →
       Passes w rank i k c (done ++ others) c''
-  then turn low rest = turns.goes (at_most _ _ low) turn rest
+  then turn low rest = turns.goes (at_most_from _ _ low) turn rest

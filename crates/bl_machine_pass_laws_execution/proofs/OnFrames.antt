@@ -5,45 +5,21 @@ use Rattle.bl_tree.specs.declared.place.Place.{Place as Source}
 use Rattle.bl_tree.specs.declared.tree.StructDef.{StructDef}
 use Rattle.bl_tree.specs.declared.tree.Unit.{Unit as UnitDef}
 use Rattle.bl_graph_nodes.specs.Nodes.{entry}
-use Rattle.bl_graph_nodes.specs.Plain.{Block, Bodies, Body as BodyOf, Done, Last, Then, plain_body}
+use Rattle.bl_graph_nodes.specs.Plain.{Bodies, Body as BodyOf, Done, Last, Then, plain_body}
 use Rattle.bl_ctree.specs.Control.{Body, Check}
 use Rattle.bl_ctree.specs.Instances.{Setting, callee_of, setting_of}
-use Rattle.bl_ctree_laws.specs.Trees.{
-  Tree,
-  Trees,
-  Nil,
-  Wait,
-  Test,
-  Idle,
-  Do,
-  Seq,
-  Par,
-  Guard,
-  Run,
-  all_woken,
-  beside,
-  do_block,
-  no_tree,
-  woken,
-}
-use Rattle.bl_ctree_laws_confluence.specs.Deeds.Nesting.{Inside, InstancesNest, ProgramsNest, deeper, itself}
+use Rattle.bl_ctree_laws.specs.Trees.{Tree, Trees, Nil, Wait, Test, Idle, Do, Seq, Par, Guard, Run, all_woken, beside, no_tree, woken}
+use Rattle.bl_ctree_laws_confluence.specs.Deeds.Nesting.{Inside, InstancesNest, ProgramsNest, itself}
 use Rattle.bl_ctree_laws_confluence.specs.Apart.Seen.{InCall}
 use Rattle.bl_ctree_laws_traces.specs.Progress.FitsGraph.{AllFitGraph, FitsGraph}
 use Rattle.bl_ctree_laws_traces.specs.Progress.Places.{Place, ahead_of, guarded, in_branch, later_on, whole}
 use Rattle.bl_machine.specs.Uses.{Slots}
 use Rattle.bl_machine_laws.specs.Waiting.Waking.{WakingKeepsNumbers}
 use Rattle.bl_machine_pass.specs.Registers.{with_at}
-use Rattle.bl_machine_pass_laws_execution.specs.Frames.{
-  AllCallsMatchTree,
-  AllFramesNest,
-  CalledIn,
-  CallsMatchTree,
-  ChangeOnly,
-  Frames,
-  FramesMatchTree,
-  FramesNest,
-  OneCalledIn,
-}
+use Rattle.bl_machine_pass_laws_execution.specs.Frames.{AllCallsMatchTree, AllFramesNest, CalledIn, CallsMatchTree, ChangeOnly, Frames, FramesMatchTree}
+use Rattle.bl_machine_pass_laws_execution.specs.Frames.{FramesNest, OneCalledIn}
+use Rattle.bl_machine_pass_laws_execution.proofs.OnPerforms.Touching.{inside_callee}
+use Rattle.bl_machine_pass_laws_execution.proofs.OnPerforms.Keeping.{block_holds as begins}
 
 -- ---- what isn't called doesn't matter
 
@@ -73,14 +49,6 @@ mutual
   )
 
 -- ---- what is called is inside
-
-through : (w : Setting) (a b k : ℕ) → Inside w a b → Inside w b k → Inside w a k
-through w a b k one itself = one
-through w a b k one (deeper j place more runs) = deeper j place (through w a b j one more) runs
-
--- what is inside a call of the callee is inside the callee
-inside_callee : (w : Setting) (callee k : ℕ) → InCall w callee k → Inside w callee k
-inside_callee w callee k call = through w callee call.callee k (deeper callee call.place itself call.runs) call.inside
 
 in_call : (w : Setting) (i callee k : ℕ) (place : Source) → callee_of w i place ≡ Some callee → Inside w callee k → InCall w i k
 in_call w i callee k place runs inside = record { place = place; callee = callee; runs = runs; inside = inside }
@@ -127,15 +95,10 @@ at_another i k counters frames lt j = by_test (nat_eq k i) refl
     by_test true test = let same : k ≡ i = eqb-true k i test in absurd (omega (arith, same, lt))
     by_test false test = ap (λ b. (if b then counters else frames k) j) test
 
-at_itself : (i : ℕ) (counters : ℕ → ℕ) (frames : Frames) (j : ℕ) → with_at i counters frames i j ≡ counters j
+pub at_itself : (i : ℕ) (counters : ℕ → ℕ) (frames : Frames) (j : ℕ) → with_at i counters frames i j ≡ counters j
 at_itself i counters frames j = ap (λ b. (if b then counters else frames i) j) (eq-eqb i i refl)
 
 -- ---- a body that begins, and a new tick
-
-begins : (slots : ℕ → Slots) (frames : Frames) (body : Block) → CallsMatchTree slots frames (do_block body)
-begins slots frames Done = tt
-begins slots frames (Then s Done) = tt
-begins slots frames (Then s (Then next rest)) = tt
 
 mutual
   wakes : WakingKeepsNumbers → (w : Setting) (slots : ℕ → Slots) (frames : Frames) (i : ℕ) (c : Tree) (g : Place) → FitsGraph w i c g →

@@ -1,6 +1,7 @@
 -- How an instance, its unit and its activity are found, and what they have.
 use Rattle.std.proofs.Common.{◌≡◌, ℕ, true, List, Option, Some, None, refl, sym, ap, ◌∙◌, subst}
 use Rattle.std.specs.Prelude.{option_and_then, slice_get}
+use Rattle.bl_tree.proofs.Basics.{none_is_some, same_some}
 use Rattle.bl_tree.specs.declared.tree.StructDef.{StructDef}
 use Rattle.bl_tree.specs.declared.tree.Unit.{Unit as UnitDef}
 use Rattle.bl_tree.specs.Program.{IsWellTyped}
@@ -24,12 +25,6 @@ use Rattle.bl_machine_pass_laws.specs.Slots.Laws.{NumbersAreDistinct, TypedHaveB
 use Rattle.bl_machine_pass_laws_turns.specs.Turns.{TurnContext}
 use Rattle.bl_machine_pass_laws_execution.specs.Machines.{HasActivity, MachinesGiveContexts, activity_of_instance, slots_at, slots_in}
 
-none_is : {X A : Type 0} (x : X) → None ≡ Some x → A
-none_is x e = absurd (cc)
-
-some_is : {X : Type 0} (x y : X) → Some x ≡ Some y → x ≡ y
-some_is x y e = cc
-
 -- ---- an instance, its unit, and its activity
 
 record InstanceThere (w : Setting) (i : ℕ) (unit : UnitDef) : Type 0 where
@@ -39,7 +34,7 @@ record InstanceThere (w : Setting) (i : ℕ) (unit : UnitDef) : Type 0 where
 
 instance_there : (w : Setting) (i : ℕ) (unit : UnitDef) (found : Option Instance) → slice_get w.instances i ≡ found →
     option_and_then (unit_of w) found ≡ Some unit → InstanceThere w i unit
-instance_there w i unit None is of = none_is unit of
+instance_there w i unit None is of = none_is_some unit of
 instance_there w i unit (Some instance) is of = record { instance = instance; is = is; is_unit = of }
 
 record ActivityThere (units : List UnitDef) (machine : List Activity) (at : ℕ) (unit : UnitDef) : Type 0 where
@@ -77,7 +72,7 @@ module _ (orderly : AcceptedIsOrderly) (give : MachinesGiveOrders) (laid : Numbe
   laid_in at unit activity active is is_active =
       let own = activity_there units machine are at unit is active in
       let counters : Counters (plain_body unit.body) activity.slots =
-      subst (λ (a : Activity). Counters (plain_body unit.body) a.slots) (some_is own.activity activity (sym own.is ∙ is_active)) own.counters in
+      subst (λ (a : Activity). Counters (plain_body unit.body) a.slots) (same_some own.activity activity (sym own.is ∙ is_active)) own.counters in
       laid unit.body activity.slots counters (branched structs units entry at unit keeps is)
 
   pub given : (rank : ℕ → Node → ℕ) (i : ℕ) (instance : Instance) (unit : UnitDef) (activity : Activity) → GoBy W machine rank →

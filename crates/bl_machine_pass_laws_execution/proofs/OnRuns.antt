@@ -1,6 +1,7 @@
 -- Runs of passes by rules, tick by tick beside runs of passes.
 use Rattle.std.proofs.Common.{◌≡◌, ℕ, Bool, true, false, List, [], ◌∷◌, Option, Some, refl, sym, ap, ◌∙◌, subst, arith}
 use Rattle.std.specs.Prelude.{ℤ, length, option_map, unwrap_or}
+use Rattle.bl_tree.proofs.Basics.{same_some}
 use Rattle.bl_tree.specs.declared.row.Last.TheVariants.{Open, Ended as HasEnded, Trap as HasTrapped}
 use Rattle.bl_tree.specs.declared.row.Trace.{Trace}
 use Rattle.bl_tree.specs.declared.tree.StructDef.{StructDef}
@@ -36,9 +37,6 @@ use Rattle.bl_machine_pass_laws_execution.specs.Machines.{MachinesGiveContexts, 
 use Rattle.bl_machine_pass_laws_execution.specs.Ticks.{Resting, TickExecuted, TicksExecute}
 use Rattle.bl_machine_pass_laws_execution.specs.Runs as rules_run
 use Rattle.bl_machine_pass_laws_execution.specs.Runs.{RowsFit, RuleRun, RunByRules, RunsGoByRules, TickStarts}
-
-some_is : {X : Type 0} (x y : X) → Some x ≡ Some y → x ≡ y
-some_is x y e = cc
 
 module _ (plain : StatementsArePlain) (begin_live : BodiesFitGraph) (callable : ProgramsAreCallable) (wake_live : WakingKeepsFitsGraph)
     (have : InstancesHavePasses) (meant : RunsAreMeant) (stores : StoresAreFresh) (ticks : TicksExecute) (structs : List StructDef)
@@ -131,7 +129,7 @@ module _ (plain : StatementsArePlain) (begin_live : BodiesFitGraph) (callable : 
 
   -- the row fits the unit that the entry has
   fits : (row : List ℤ) → InputsFit (length row) unit → (other : UnitDef) → unit_at W 0 ≡ Some other → InputsFit (length row) other
-  fits row fit other there = subst (λ (u : UnitDef). InputsFit (length row) u) (some_is unit other (sym is ∙ there)) fit
+  fits row fit other there = subst (λ (u : UnitDef). InputsFit (length row) u) (same_some unit other (sym is ∙ there)) fit
 
   both : (rows : List (List ℤ)) → RowsFit unit rows → FromAll rows
   both [] fit c frames store ready framed =
@@ -164,9 +162,9 @@ runs_go_by_rules plain begin_live callable wake_live have meant stores machines 
       by_rules plain begin_live callable wake_live have meant stores ticks structs units entry rank slots clear unit keeps passes text given clears
       is rows frames fit zero;
   machines = λ accepted machine rank clear unit rows frames keeps is_accepted are go_by text clears is fit zero.
-      by_rules plain begin_live callable wake_live have meant stores ticks accepted.tree.structs accepted.tree.units accepted.tree.entry rank
-      (slots_at (setting_of accepted.tree.structs accepted.tree.units accepted.tree.entry) machine) clear unit keeps is_accepted.tree_passes text
-      (λ i other there. machines.each accepted.tree.structs accepted.tree.units accepted.tree.entry machine rank i other keeps
-      is_accepted.tree_passes are go_by there)
+      by_rules plain begin_live callable wake_live have meant stores ticks accepted.program.structs accepted.program.units accepted.program.entry rank
+      (slots_at (setting_of accepted.program.structs accepted.program.units accepted.program.entry) machine) clear unit keeps is_accepted.passes text
+      (λ i other there. machines.each accepted.program.structs accepted.program.units accepted.program.entry machine rank i other keeps
+      is_accepted.passes are go_by there)
       clears is rows frames fit zero;
 }

@@ -1,38 +1,20 @@
 -- What rests between ticks stands in the next one.
-use Rattle.std.proofs.Common.{◌≡◌, inl, inr, ℕ, Bool, true, false, not, List, Option, Some, [], refl, sym, ◌∙◌, subst}
+use Rattle.std.proofs.Common.{◌≡◌, inl, inr, ℕ, Bool, true, false, not, List, Some, [], refl, sym, ◌∙◌, subst}
+use Rattle.std.proofs.lemmas.Bool.{not-true}
+use Rattle.bl_tree.proofs.Basics.{and_first, and_second, one_some, true_false_any}
 use Rattle.bl_tree.specs.declared.place.Place.{Place as Source}
 use Rattle.bl_tree.specs.declared.tree.StructDef.{StructDef}
 use Rattle.bl_tree.specs.declared.tree.Unit.{Unit as UnitDef}
 use Rattle.bl_tree.specs.Program.{IsWellTyped as Typed}
 use Rattle.bl_effects.specs.Rules.{Passes}
-use Rattle.bl_graph_nodes.specs.Nodes.{Node, are_instant, entry}
+use Rattle.bl_graph_nodes.specs.Nodes.{Node, entry}
 use Rattle.bl_graph_nodes.specs.Plain.{Block, Bodies, Body as BodyOf, Done, Last, Then, plain_body}
 use Rattle.bl_ctree.specs.Control.{Body, Check}
 use Rattle.bl_ctree.specs.Instances.{Setting, setting_of, unit_at}
 use Rattle.bl_machine_prevs.specs.Declared.{FromText}
 use Rattle.bl_ctree.specs.Store.{Store, view_at}
-use Rattle.bl_ctree_laws.specs.Trees.{
-  Tree,
-  Trees,
-  Nil,
-  Wait,
-  Test,
-  Idle,
-  Do,
-  Seq,
-  Par,
-  Guard,
-  Run,
-  all_woken,
-  are_done,
-  are_settled,
-  beside,
-  do_block,
-  is_nil,
-  is_settled,
-  no_tree,
-  woken,
-}
+use Rattle.bl_ctree_laws.specs.Trees.{Tree, Trees, Nil, Wait, Test, Idle, Do, Seq, Par, Guard, Run, all_woken, are_done, are_settled, beside, do_block, is_nil}
+use Rattle.bl_ctree_laws.specs.Trees.{is_settled, no_tree, woken}
 use Rattle.bl_ctree_laws_confluence.specs.Apart.Owned.{RunsAt, SomeIn}
 use Rattle.bl_ctree_laws_confluence.specs.Apart.Running.{AcceptedRunsApart}
 use Rattle.bl_ctree_laws_traces.specs.Progress.Accepted.{ProgramsAreCallable}
@@ -40,7 +22,6 @@ use Rattle.bl_ctree_laws_traces.specs.Progress.Laws.{BodiesFitGraph, WakingKeeps
 use Rattle.bl_ctree_laws_traces.specs.Progress.FitsGraph.{AllFitGraph, FitsGraph}
 use Rattle.bl_ctree_laws_traces.specs.Progress.Places.{Place, ahead_of, guarded, in_branch, whole}
 use Rattle.bl_machine.specs.Uses.{Slots}
-use Rattle.bl_machine_laws.proofs.OnWaiting.Quiet.{and_first, and_second, differ, not_true}
 use Rattle.bl_machine_laws.specs.Passes.Follows as follows
 use Rattle.bl_machine_laws.specs.Passes.Follows.{Fails, Follows}
 use Rattle.bl_machine_pass.specs.Registers.{Registers}
@@ -59,14 +40,7 @@ use Rattle.bl_machine_pass_laws_execution.specs.Performs.{AllInContext, AllTurns
 use Rattle.bl_machine_pass_laws_execution.proofs.OnPerforms.Copying.{view_length}
 use Rattle.bl_machine_pass_laws_execution.proofs.OnPerforms.Keeping.{block_apart, block_holds, block_rests}
 use Rattle.bl_machine_pass_laws_execution.specs.Ticks.{Resting, TickExecuted, TicksExecute}
-
-one_some : {A : Type 0} (a b : A) (o : Option A) → o ≡ Some a → o ≡ Some b → a ≡ b
-one_some a b o e f = let both : Some a ≡ Some b = sym e ∙ f in cc
-
-body_open : (body : Block) → are_instant body ≡ false → is_nil (do_block body) ≡ false
-body_open Done e = absurd cc
-body_open (Then s Done) e = refl
-body_open (Then s (Then next rest)) e = refl
+use Rattle.bl_machine_pass_laws_execution.proofs.OnPerforms.Touching.{body_open}
 
 -- ---- waking
 
@@ -128,8 +102,8 @@ mutual
       each_wakes_rests w slots i branches s.bodies stood g live.0 (and_first (are_settled branches) (not (are_done branches)) settled) rests
   wake_rests w slots i (Guard s Body stood c) g live settled rests =
       wake_rests w slots i c (guarded s g) live.0 (and_first (is_settled c) (not (is_nil c)) settled) rests
-  wake_rests w slots i (Guard s Check stood c) g live settled rests = differ false settled refl
-  wake_rests w slots i (Run s callee Check stood c) g live settled rests = differ false settled refl
+  wake_rests w slots i (Guard s Check stood c) g live settled rests = true_false_any false settled refl
+  wake_rests w slots i (Run s callee Check stood c) g live settled rests = true_false_any false settled refl
   wake_rests w slots i (Run s callee Body stood c) g live settled rests =
       let own = rests.0 in
       let same : live.0 ≡ own.unit = one_some live.0 own.unit (unit_at w callee) live.2.is own.is in
@@ -143,7 +117,7 @@ mutual
             lives = subst (λ (u : UnitDef). FitsGraph w callee c (whole stood (plain_body u.body))) same live.1;
             stands = own.stands;
             settled = inner;
-            unended = not_true (is_nil c) (and_second (is_settled c) (not (is_nil c)) settled);
+            unended = not-true (is_nil c) (and_second (is_settled c) (not (is_nil c)) settled);
           };
           wakes = refl;
         },

@@ -5,23 +5,7 @@ use Rattle.bl_tree.specs.declared.tree.StructDef.{StructDef}
 use Rattle.bl_tree.specs.declared.tree.Unit.{Unit as UnitDef}
 use Rattle.bl_graph_nodes.specs.Plain.{Block}
 use Rattle.bl_ctree.specs.Instances.{callee_of, setting_of}
-use Rattle.bl_ctree_laws.specs.Trees.{
-  Tree,
-  Trees,
-  Nil,
-  Wait,
-  Test,
-  Idle,
-  Do,
-  Seq,
-  Par,
-  Guard,
-  Run,
-  beside,
-  do_block,
-  no_tree,
-  woken,
-}
+use Rattle.bl_ctree_laws.specs.Trees.{Tree, Trees, Nil, Wait, Test, Idle, Do, Seq, Par, Guard, Run, beside, do_block, no_tree, woken}
 use Rattle.bl_ctree_laws_confluence.specs.Deeds.Nesting.{Inside}
 use Rattle.bl_ctree_laws_confluence.specs.Apart.Seen.{InCall}
 use Rattle.bl_ctree_laws_traces.specs.Progress.FitsGraph.{FitsGraph}

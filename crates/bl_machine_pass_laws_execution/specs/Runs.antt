@@ -75,7 +75,7 @@ pub record RunsGoByRules : Type 0 where
   pub machines : (accepted : AcceptedProgram) (machine : List Activity) (rank : ℕ → Node → ℕ) (clear : ℕ → Frames →
       Frames) (unit : UnitDef)
       (rows : List (List ℤ)) (frames : Frames) →
-      let program = accepted.tree in
+      let program = accepted.program in
       let w = setting_of program.structs program.units program.entry in
       IsWellTyped program.structs program.units program.entry → IsAccepted accepted → AreActivitiesOf program.units machine → GoBy w machine rank →
       FromText program.units → ClearsInside w clear → unit_at w 0 ≡ Some unit → RowsFit unit rows → frames 0 0 ≡ 0 →

@@ -3,6 +3,8 @@ use Rattle.std.proofs.Common.{◌≡◌, ℕ, zero, suc, ◌+◌, Bool, true, �
 use Rattle.std.proofs.Common.{Option, Some, None, refl, sym, ap, ◌∙◌, subst, arith}
 use Rattle.std.specs.Prelude.{ℤ, pos, is_none, is_some, option_and_then, option_map, slice_get, unwrap_or}
 use Rattle.std.specs.List.{list_all}
+use Rattle.std.proofs.lemmas.Bool.{and_from}
+use Rattle.bl_tree.proofs.Basics.{and_first, and_second}
 use Rattle.bl_tree.specs.declared.scalar.Scalar.{Scalar as ScalarType}
 use Rattle.bl_tree.specs.declared.scalar.Scalar.TheVariants.{Bool as OfBool, Int, Nat, Bits}
 use Rattle.bl_tree.specs.declared.scalar.Width.TheVariants.{W8, W16, W32, W64}
@@ -17,42 +19,24 @@ use Rattle.bl_tree.specs.Types.{scalar, scalar_in, type_stands}
 use Rattle.bl_tree.specs.Typing.{inputs_of, is_activity}
 use Rattle.bl_eval.specs.Values.{is_number_of, tests_after, value_fits, values_fit, zero_of}
 use Rattle.bl_eval.proofs.FitLemmas.{fits_scalar, scalar_is, zero_fits}
-use Rattle.bl_eval.proofs.PassLemmas.{and_left, and_right, both, pass_each}
+use Rattle.bl_eval.proofs.PassLemmas.{pass_each}
 use Rattle.bl_ctree.specs.declared.instance.Instance.{Instance}
 use Rattle.bl_ctree.specs.Instances.{Setting, expanded, instances_below, runs_of, setting_of, unit_at, unit_of}
 use Rattle.bl_ctree.specs.Store.{Frame, Store, aged, first_frame, first_store, frame_at_first, with_inputs, woken_store, zero_result}
 use Rattle.bl_ctree_laws_typing.specs.Fits.{FrameFits, HasFrame, StoreFits, result_fits}
 use Rattle.bl_ctree_laws_confluence.specs.Deeds.Origins.{InstancesHaveCallers}
-use Rattle.bl_ctree_laws_typing.proofs.OnViews.Running.{types_stand, unit_stands_at}
+use Rattle.bl_ctree_laws_typing.proofs.OnViews.Running.{types_stand}
 use Rattle.bl_machine_pass_laws_typing.proofs.OnFits.Changing.{changed_fits, inputs_fit}
 use Rattle.bl_machine_pass_laws_typing.proofs.OnFits.Doing.{stands_at}
 use Rattle.bl_machine_pass_laws_typing.specs.Starts.{AllStartsFit, StartsFit}
-
-get_mapped : {A B : Type 0} (f : A → B) (xs : List A) (k : ℕ) → slice_get (map f xs) k ≡ option_map f (slice_get xs k)
-get_mapped f [] zero = refl
-get_mapped f [] (suc k) = refl
-get_mapped f (x ∷ xs) zero = refl
-get_mapped f (x ∷ xs) (suc k) = get_mapped f xs k
+use Rattle.bl_eval.proofs.UnitFits.{unit_at as unit_stands_at}
+use Rattle.bl_machine_pass_laws_execution.proofs.OnFresh.Lists.{get_mapped}
+use Rattle.bl_eval.proofs.FitLemmas.{zero_scalar}
 
 -- ---- numbers
 
 number_fits : (structs : List StructDef) (s : ScalarType) (n : ℤ) → in_range s n ≡ true → value_fits structs (scalar s) (Number n) ≡ true
 number_fits structs s n within = fits_scalar (tests_after [] structs) s (Number n) ∙ ap (is_number_of s) (outs-Number n) ∙ within
-
-zero_within : (s : ScalarType) → in_range s (pos 0) ≡ true
-zero_within OfBool = refl
-zero_within (Int W8) = refl
-zero_within (Int W16) = refl
-zero_within (Int W32) = refl
-zero_within (Int W64) = refl
-zero_within (Nat W8) = refl
-zero_within (Nat W16) = refl
-zero_within (Nat W32) = refl
-zero_within (Nat W64) = refl
-zero_within (Bits W8) = refl
-zero_within (Bits W16) = refl
-zero_within (Bits W32) = refl
-zero_within (Bits W64) = refl
 
 -- a number of a column is one of the variable's type
 column_within : (s : ScalarType) (n : ℤ) → in_range (column_type s) n ≡ true → in_range s n ≡ true
@@ -66,7 +50,7 @@ column_within (Bits W64) n h = h
 
 -- ---- rows
 
-some_scalar : (o : Option ScalarType) → is_some o ≡ true → (s : ScalarType) × (o ≡ Some s)
+pub some_scalar : (o : Option ScalarType) → is_some o ≡ true → (s : ScalarType) × (o ≡ Some s)
 some_scalar None h = absurd cc
 some_scalar (Some s) h = (s, refl)
 
@@ -79,16 +63,16 @@ row_typed structs [] [] scalars fits = refl
 row_typed structs [] (n ∷ row) scalars fits = absurd cc
 row_typed structs (var ∷ vars) [] scalars fits = absurd cc
 row_typed structs (var ∷ vars) (n ∷ row) scalars fits =
-    let found = some_scalar (scalar_in var.ty) (and_left (is_scalar var) (list_all is_scalar vars) scalars) in
+    let found = some_scalar (scalar_in var.ty) (and_first (is_scalar var) (list_all is_scalar vars) scalars) in
     let column : ScalarType = column_type (unwrap_or (scalar_in var.ty) OfBool) in
-    let here : in_range column n ≡ true = and_left (in_range column n) (in_ranges (types_of (columns_of vars)) row) fits in
+    let here : in_range column n ≡ true = and_first (in_range column n) (in_ranges (types_of (columns_of vars)) row) fits in
     let within : in_range found.0 n ≡ true =
     column_within found.0 n (subst (λ o. in_range (column_type (unwrap_or o OfBool)) n ≡ true)
     found.1 here) in
-    both (value_fits structs var.ty (Number n)) (values_fit structs vars (map Number row))
+    and_from (value_fits structs var.ty (Number n)) (values_fit structs vars (map Number row))
     (subst (λ ty. value_fits structs ty (Number n) ≡ true) (sym (scalar_is var.ty found.0 found.1)) (number_fits structs found.0 n within))
-    (row_typed structs vars row (and_right (is_scalar var) (list_all is_scalar vars) scalars)
-    (and_right (in_range column n) (in_ranges (types_of (columns_of vars)) row) fits))
+    (row_typed structs vars row (and_second (is_scalar var) (list_all is_scalar vars) scalars)
+    (and_second (in_range column n) (in_ranges (types_of (columns_of vars)) row) fits))
 
 -- the first of several
 first_all : (test : Var → Bool) (n m : ℕ) (vars : List Var) → list_all test (take (n + m) vars) ≡ true →
@@ -99,8 +83,8 @@ first_all test (suc n) m (var ∷ vars) all =
     let one : ℕ = n + m in
     let sum : suc n + m ≡ suc one = omega arith in
     let whole : list_all test (take (suc one) (var ∷ vars)) ≡ true = subst (λ k. list_all test (take k (var ∷ vars)) ≡ true) sum all in
-    both (test var) (list_all test (take n vars)) (and_left (test var) (list_all test (take one vars)) whole)
-    (first_all test n m vars (and_right (test var) (list_all test (take one vars)) whole))
+    and_from (test var) (list_all test (take n vars)) (and_first (test var) (list_all test (take one vars)) whole)
+    (first_all test n m vars (and_second (test var) (list_all test (take one vars)) whole))
 
 -- ---- frames
 
@@ -117,7 +101,7 @@ first_fits structs units entry k unit keeps there = record { now = zeros; before
 
     by : (result : Option ScalarType) → result_fits structs result (zero_result result) ≡ true
     by None = refl
-    by (Some s) = number_fits structs s (pos 0) (zero_within s)
+    by (Some s) = number_fits structs s (pos 0) (zero_scalar s)
 
 aged_fits : (structs : List StructDef) (unit : UnitDef) (frame : Frame) → FrameFits structs unit frame → FrameFits structs unit (aged frame)
 aged_fits structs unit frame fits = record { now = fits.now; before = fits.now; result = fits.result }
@@ -169,7 +153,7 @@ module _ (callers : InstancesHaveCallers) (structs : List StructDef) (units : Li
       let same : other ≡ unit = cc in
       let all : Bool = list_all is_scalar (parameters_of other) in
       let scalars : list_all is_scalar (take (other.inputs + other.outputs) other.vars) ≡ true =
-      and_right (is_none other.result) all (and_right (is_activity other.kind) (is_none other.result && all) stands) in
+      and_second (is_none other.result) all (and_second (is_activity other.kind) (is_none other.result && all) stands) in
       subst (λ (unit : UnitDef). list_all is_scalar (inputs_of unit) ≡ true) same
       (first_all is_scalar other.inputs other.outputs other.vars scalars)
 

@@ -4,6 +4,7 @@ use Rattle.std.proofs.Common.{length, map, refl, ap, sym, ◌∙◌, arith}
 use Rattle.std.proofs.Common.{length-append}
 use Rattle.std.proofs.lemmas.List.{append-nil}
 use Rattle.std.proofs.lemmas.List.Elements.{All-head, All-tail}
+use Rattle.bl_tree.proofs.Basics.{and_true}
 use Rattle.bl_tree.specs.declared.place.Place.{Place}
 use Rattle.bl_tree.specs.declared.tree.Arm.{Arm, fold_out-Arm, out-Arm}
 use Rattle.bl_tree.specs.declared.tree.Expr.{Expr}
@@ -71,10 +72,6 @@ then_alike s rest a b h t = record {
   rules = λ layout k p next i. h.rules layout k p (t.enters layout (k + h.nodes i) next i) i
       ++ t.rules layout (k + h.nodes i) (p + h.places i) next i;
 }
-
-and_true : (b : Bool) → (b && true) ≡ b
-and_true true = refl
-and_true false = refl
 
 pub single_alike : (s : Plain) (a : Part) → Alike s a → AlikeIn (Then s Done) a
 single_alike s a h = record {

@@ -1,10 +1,11 @@
 -- Loops that go down lists of statements, arms and branches: one element more.
-use Rattle.std.proofs.Common.{◌≡◌, ℕ, zero, suc, ◌+◌, ◌-◌, ◌<◌, ◌≤◌, Bool, true, false, ◌&&◌, ◌||◌, List}
+use Rattle.std.proofs.Common.{◌≡◌, ℕ, suc, ◌+◌, ◌-◌, ◌<◌, ◌≤◌, Bool, true, false, ◌&&◌, ◌||◌, List}
 use Rattle.std.proofs.Common.{[], ◌∷◌, ◌++◌, length, map, drop, get_or}
 use Rattle.std.proofs.Common.{refl, ap, sym, ◌∙◌, subst, add_assoc, zero-add, append_assoc, arith, drop_of_length-le, nat_eq}
 use Rattle.std.proofs.Math.Dec.{eqb-suc-zero}
 use Rattle.std.proofs.lemmas.List.{append-nil}
 use Rattle.std.specs.Prelude.{IsTrue, ◌↔◌, if◌then◌else◌}
+use Rattle.bl_tree.proofs.Basics.{and_assoc, and_true, drop_next, or_assoc, or_false}
 use Rattle.bl_tree.specs.declared.place.Place.{Place}
 use Rattle.bl_tree.specs.declared.tree.Arm.{Arm, fold_out-Arm, out-Arm}
 use Rattle.bl_tree.specs.declared.tree.Branch.{Branch, fold_out-Branch, out-Branch}
@@ -21,53 +22,10 @@ use Rattle.bl_machine_transitions.specs.declared.size.Size.{Size}
 use Rattle.bl_machine_transitions.specs.Listed.{Layout, tested_rule}
 use Rattle.bl_machine_transitions.specs.Told.{NumberedTransition, Tests}
 use Rattle.bl_machine_transitions.specs.inner.Joined.{enter_unless_empty, fork_of, join_fork, no_fork, or_size, sized, then_size}
-use Rattle.bl_machine_transitions.specs.inner.Parts.{
-  ArmPart,
-  BranchPart,
-  Part,
-  arm_of,
-  arm_part,
-  branch_of,
-  branch_part,
-  chain,
-  condition_part,
-  each,
-  ends,
-  entry_changes,
-  follow,
-  forked,
-  if_part,
-  kind_part,
-  nothing,
-  part,
-  part_of_block,
-  places_in_branch,
-  stmt_of,
-}
+use Rattle.bl_machine_transitions.specs.inner.Parts.{ArmPart, BranchPart, Part, arm_of, arm_part, branch_of, branch_part, chain, condition_part, each, ends}
+use Rattle.bl_machine_transitions.specs.inner.Parts.{entry_changes, follow, forked, if_part, kind_part, nothing, part, part_of_block, places_in_branch, stmt_of}
 
 -- ---- lists
-
-pub next_drop : {A : Type 0} (xs : List A) (k : ℕ) (x : A) → k < length xs → x ≡ get_or xs k x → drop k xs ≡ x ∷ drop (k + 1) xs
-next_drop [] k x within is = absurd (omega arith)
-next_drop (y ∷ xs) zero x within is = ap (λ z. z ∷ xs) (sym is)
-next_drop (y ∷ xs) (suc k) x within is = next_drop xs k x (omega arith) is
-    ∙ (let next : suc k + 1 ≡ suc (k + 1) = omega arith in ap (λ n. x ∷ drop n (y ∷ xs)) (sym next))
-
-and_regroup : (a b c : Bool) → ((a && b) && c) ≡ (a && (b && c))
-and_regroup true b c = refl
-and_regroup false b c = refl
-
-or_regroup : (a b c : Bool) → ((a || b) || c) ≡ (a || (b || c))
-or_regroup true b c = refl
-or_regroup false b c = refl
-
-and_yes : (a : Bool) → (a && true) ≡ a
-and_yes true = refl
-and_yes false = refl
-
-or_no : (a : Bool) → (a || false) ≡ a
-or_no true = refl
-or_no false = refl
 
 add_none : (n : ℕ) → n + 0 ≡ n
 add_none n = omega arith
@@ -94,23 +52,23 @@ then_regroup : (a b c : Size) → then_size (then_size a b) c ≡ then_size a (t
 then_regroup a b c = λ i. record {
   nodes = add_assoc a.nodes b.nodes c.nodes i;
   places = add_assoc a.places b.places c.places i;
-  instant = and_regroup a.instant b.instant c.instant i;
+  instant = and_assoc a.instant b.instant c.instant i;
 }
 
 or_size_regroup : (a b c : Size) → or_size (or_size a b) c ≡ or_size a (or_size b c)
 or_size_regroup a b c = λ i. record {
   nodes = add_assoc a.nodes b.nodes c.nodes i;
   places = add_assoc a.places b.places c.places i;
-  instant = or_regroup a.instant b.instant c.instant i;
+  instant = or_assoc a.instant b.instant c.instant i;
 }
 
 fork_regroup : (a b c : Fork) → join_fork (join_fork a b) c ≡ join_fork a (join_fork b c)
 fork_regroup a b c = λ i. record {
   nodes = add_assoc a.nodes b.nodes c.nodes i;
   places = add_assoc a.places b.places c.places i;
-  strong = or_regroup a.strong b.strong c.strong i;
-  all = and_regroup a.all b.all c.all i;
-  some = or_regroup a.some b.some c.some i;
+  strong = or_assoc a.strong b.strong c.strong i;
+  all = and_assoc a.all b.all c.all i;
+  some = or_assoc a.some b.some c.some i;
 }
 
 pub none_then : (s : Size) → then_size (record { nodes = 0; places = 0; instant = true }) s ≡ s
@@ -123,15 +81,15 @@ pub none_beside : (f : Fork) → join_fork no_fork f ≡ f
 none_beside f = λ i. record { nodes = zero-add f.nodes i; places = zero-add f.places i; strong = f.strong; all = f.all; some = f.some }
 
 then_none : (s : Size) → then_size s nothing.size ≡ s
-then_none s = λ i. record { nodes = add_none s.nodes i; places = add_none s.places i; instant = and_yes s.instant i }
+then_none s = λ i. record { nodes = add_none s.nodes i; places = add_none s.places i; instant = and_true s.instant i }
 
 beside_none : (f : Fork) → join_fork f no_fork ≡ f
 beside_none f = λ i. record {
   nodes = add_none f.nodes i;
   places = add_none f.places i;
-  strong = or_no f.strong i;
-  all = and_yes f.all i;
-  some = or_no f.some i;
+  strong = or_false f.strong i;
+  all = and_true f.all i;
+  some = or_false f.some i;
 }
 
 pub size_next : (body : List Stmt) (k : ℕ) (s : Stmt) (all size next total : Size) → k < length body → s ≡ get_or body k s →
@@ -140,7 +98,7 @@ pub size_next : (body : List Stmt) (k : ℕ) (s : Stmt) (all size next total : S
 size_next body k s all size next total within is one grows before =
     ap (λ z. then_size z (part_of_block (map part (drop (k + 1) body))).size) (grows ∙ ap (then_size all) one)
     ∙ then_regroup all (part s).size (part_of_block (map part (drop (k + 1) body))).size
-    ∙ subst (λ rest. then_size all (part_of_block (map part rest)).size ≡ total) (next_drop body k s within is) before
+    ∙ subst (λ rest. then_size all (part_of_block (map part rest)).size ≡ total) (drop_next body k s within is) before
 
 pub size_end : (body : List Stmt) (k : ℕ) (all total : Size) → length body ≤ k → then_size all (part_of_block (map part (drop k body))).size
     ≡ total → all ≡ total
@@ -158,7 +116,7 @@ arm_next arms k arm other body all inner size next total within is out inside on
     ap (λ z. or_size z (chain (map arm_part (drop (k + 1) arms)) other).size)
     (grows ∙ ap (or_size all) (one ∙ ap (λ inner. sized 1 inner.instant inner) own))
     ∙ or_size_regroup all (sized 1 (arm_part arm).body.size.instant (arm_part arm).body.size) (chain (map arm_part (drop (k + 1) arms)) other).size
-    ∙ subst (λ rest. or_size all (chain (map arm_part rest) other).size ≡ total) (next_drop arms k arm within is) before
+    ∙ subst (λ rest. or_size all (chain (map arm_part rest) other).size ≡ total) (drop_next arms k arm within is) before
 
 pub arm_end : (arms : List Arm) (k : ℕ) (other : Part) (all total : Size) → length arms ≤ k →
     or_size all (chain (map arm_part (drop k arms)) other).size ≡ total → or_size all other.size ≡ total
@@ -176,7 +134,7 @@ fork_next branches k branch weak body size all one next total within is faint ou
     ∙ sym (ap (λ b. fork_of b.weak b.body.size) (branch_is branch)) in
     ap (λ z. join_fork z (forked (map branch_part (drop (k + 1) branches)))) (grows ∙ ap (join_fork all) own)
     ∙ fork_regroup all (fork_of (branch_part branch).weak (branch_part branch).body.size) (forked (map branch_part (drop (k + 1) branches)))
-    ∙ subst (λ rest. join_fork all (forked (map branch_part rest)) ≡ total) (next_drop branches k branch within is) before
+    ∙ subst (λ rest. join_fork all (forked (map branch_part rest)) ≡ total) (drop_next branches k branch within is) before
 
 pub fork_end : (branches : List Branch) (k : ℕ) (all total : Fork) → length branches ≤ k →
     join_fork all (forked (map branch_part (drop k branches))) ≡ total → all ≡ total
@@ -274,7 +232,7 @@ pub rests_of_next : (layout : Layout) (body : List Stmt) (k : ℕ) (s : Stmt) (a
 rests_of_next layout body k s at next places into more all within is step grows before =
     let rest : Part = part_of_block (map part (drop (k + 1) body)) in
     let known = subst (λ rest. (at + (part_of_block (map part rest)).size.places ≡ places) × (into ++ (part_of_block (map part rest)).rests layout at ≡ all))
-    (next_drop body k s within is) before in
+    (drop_next body k s within is) before in
     (places_next (part s).size rest.size at next step ∙ known.0, rests_next layout (part s) rest at next into more step grows ∙ known.1)
 
 pub rests_of_arm : (layout : Layout) (arms : List Arm) (k : ℕ) (arm : Arm) (body : List Stmt) (other : Part) (at next places : ℕ)
@@ -288,7 +246,7 @@ rests_of_arm layout arms k arm body other at next places into more all within is
     let own : part_of_block (map part body) ≡ (arm_part arm).body = ap (λ body. part_of_block (map part body)) out ∙ sym (ap (λ a. a.body) (arm_is arm)) in
     let rest : Part = chain (map arm_part (drop (k + 1) arms)) other in
     let known = subst (λ rest. (at + (chain (map arm_part rest) other).size.places ≡ places)
-    × (into ++ (chain (map arm_part rest) other).rests layout at ≡ all)) (next_drop arms k arm within is) before in (
+    × (into ++ (chain (map arm_part rest) other).rests layout at ≡ all)) (drop_next arms k arm within is) before in (
       places_next (arm_part arm).body.size rest.size at next (step ∙ ap (λ a. at + a.size.places) own) ∙ known.0,
       rests_next layout (arm_part arm).body rest at next into more (step ∙ ap (λ a. at + a.size.places) own)
           (grows ∙ ap (λ a. into ++ a.rests layout at) own) ∙ known.1,
@@ -297,7 +255,7 @@ rests_of_arm layout arms k arm body other at next places into more all within is
 one_left : {A : Type 0} (xs : List A) (k : ℕ) (x : A) (left : ℕ) → k < length xs → x ≡ get_or xs k x → left ≡ length (drop k xs) →
     left - 1 ≡ length (drop (k + 1) xs)
 one_left xs k x left within is count =
-    let whole : left ≡ suc (length (drop (k + 1) xs)) = count ∙ ap length (next_drop xs k x within is) in omega arith
+    let whole : left ≡ suc (length (drop (k + 1) xs)) = count ∙ ap length (drop_next xs k x within is) in omega arith
 
 pub left_next : {A : Type 0} (xs : List A) (k : ℕ) (x : A) (left : ℕ) → k < length xs → x ≡ get_or xs k x → left
     ≡ length (drop k xs) →
@@ -314,7 +272,7 @@ rules_of_next layout body i s size k p node place left next enters into more all
     rules_next layout (part s) (part_of_block (map part (drop (i + 1) body))) k p node place (nat_eq (left - 1) 0) next enters into more
     (first ∙ ap (λ size. k + size.nodes) one) (second ∙ ap (λ size. p + size.places) one)
     (ap (λ n. nat_eq n 0) (one_left body i s left within is count) ∙ sym (block_empty (drop (i + 1) body))) opens grows
-    ∙ subst (λ rest. into ++ (part_of_block (map part rest)).rules layout k p next ≡ all) (next_drop body i s within is) before
+    ∙ subst (λ rest. into ++ (part_of_block (map part rest)).rules layout k p next ≡ all) (drop_next body i s within is) before
 
 pub rules_of_arm : (layout : Layout) (arms : List Arm) (i : ℕ) (arm : Arm) (body : List Stmt) (other : Part) (size : Size)
     (k p inner node place left : ℕ) (bare last : Bool) (next on_true on_false : Change) (into first more all : List NumberedTransition) → i < length arms →
@@ -337,7 +295,7 @@ rules_of_arm layout arms i arm body other size k p inner node place left bare la
     ((λ j. nat_eq (one_left arms i arm left within is count j) 0 && ends j) ∙ sym (chain_empty (drop (i + 1) arms) other)) opens closes
     (puts ∙ ap (λ test. into ++ tested_rule layout k (Tests test) (on_true ∷ []) (on_false ∷ []) ∷ []) (sym (ap (λ a. a.test) (arm_is arm))))
     (grows ∙ ap (λ a. first ++ a.rules layout inner p next) own)
-    ∙ subst (λ rest. into ++ (chain (map arm_part rest) other).rules layout k p next ≡ all) (next_drop arms i arm within is) before
+    ∙ subst (λ rest. into ++ (chain (map arm_part rest) other).rules layout k p next ≡ all) (drop_next arms i arm within is) before
 
 body_of : (branch : Branch) (body : List Stmt) → body ≡ (out-Branch branch).body → part_of_block (map part body) ≡ (branch_part branch).body
 body_of branch body out = ap (λ body. part_of_block (map part body)) out ∙ sym (ap (λ b. b.body) (branch_is branch))
@@ -357,7 +315,7 @@ each_of_next layout branches i branch body size k p inner node more_places place
     each_next layout (branch_part branch) (map branch_part (drop (i + 1) branches)) k p node place inner into more one
     (first ∙ ap (λ size. k + size.nodes) known) (second ∙ ap (λ n. p + n) (wide ∙ ap (λ size. size.places + 1) known))
     (grows ∙ (λ j. into ++ (own j).rules layout k inner (SetCounter (rests j))))
-    ∙ subst (λ rest. into ++ each layout k p (map branch_part rest) ≡ all) (next_drop branches i branch within is) before
+    ∙ subst (λ rest. into ++ each layout k p (map branch_part rest) ≡ all) (drop_next branches i branch within is) before
 
 pub begins_of_next : (layout : Layout) (branches : List Branch) (i : ℕ) (branch : Branch) (body : List Stmt) (size : Size)
     (k p node more_places place : ℕ) (bare : Bool) (slot : Slot) (enters : Change) (into more all : List Change) → i < length branches →
@@ -374,7 +332,7 @@ begins_of_next layout branches i branch body size k p node more_places place bar
     (empty ∙ ap (λ a. a.empty) own)
     (opens ∙ ap (λ slot. enter_unless_empty layout bare k (SetCounter slot)) rests) (first ∙ ap (λ size. k + size.nodes) known)
     (second ∙ ap (λ n. p + n) (wide ∙ ap (λ size. size.places + 1) known)) grows
-    ∙ subst (λ rest. into ++ entry_changes layout k p (map branch_part rest) ≡ all) (next_drop branches i branch within is) before
+    ∙ subst (λ rest. into ++ entry_changes layout k p (map branch_part rest) ≡ all) (drop_next branches i branch within is) before
 
 pub ends_of_next : (layout : Layout) (branches : List Branch) (i : ℕ) (branch : Branch) (body : List Stmt) (size : Size) (strong weak : Bool)
     (p more_places place : ℕ) (slot : Slot) (into more all : List Slot) → i < length branches → branch ≡ get_or branches i branch →
@@ -389,7 +347,7 @@ ends_of_next layout branches i branch body size strong weak p more_places place 
     ends_next layout (branch_part branch) (map branch_part (drop (i + 1) branches)) strong weak p place into more
     (faint ∙ sym (ap (λ b. b.weak) (branch_is branch))) (second ∙ ap (λ n. p + n) (wide ∙ ap (λ size. size.places + 1) known))
     (grows ∙ ap (λ slot. into ++ (if strong && weak then [] else slot ∷ [])) rests)
-    ∙ subst (λ rest. into ++ ends strong layout p (map branch_part rest) ≡ all) (next_drop branches i branch within is) before
+    ∙ subst (λ rest. into ++ ends strong layout p (map branch_part rest) ≡ all) (drop_next branches i branch within is) before
 
 pub rules_of_end : (layout : Layout) (body : List Stmt) (i k p : ℕ) (next : Change) (into all : List NumberedTransition) → length body ≤ i →
     into ++ (part_of_block (map part (drop i body))).rules layout k p next ≡ all → into ≡ all

@@ -3,6 +3,7 @@ use Rattle.std.proofs.Common.{◌≡◌, ℕ, suc, ◌+◌, ◌-◌, ◌<◌, Bo
 use Rattle.std.proofs.Common.{refl, ap, sym, ◌∙◌, append_assoc, arith}
 use Rattle.std.specs.List.{list_any}
 use Rattle.std.specs.Prelude.{if◌then◌else◌}
+use Rattle.bl_tree.proofs.Basics.{or_swap}
 use Rattle.bl_machine_pass.specs.Transitions.{once_but}
 use Rattle.bl_machine_transitions.specs.Listed.{Layout, counters_from}
 
@@ -12,12 +13,6 @@ once_same [] seen others same = refl
 once_same (k ∷ xs) seen others same = λ i.
     if same k i then once_same xs seen others same i
     else k ∷ once_same xs (k ∷ seen) (k ∷ others) (λ j i. nat_eq j k || same j i) i
-
-or_swap : (a b c : Bool) → (a || (b || c)) ≡ (b || (a || c))
-or_swap true true c = refl
-or_swap true false c = refl
-or_swap false true c = refl
-or_swap false false c = refl
 
 pub any_last : (seen : List ℕ) (k j : ℕ) → list_any (nat_eq j) (seen ++ k ∷ []) ≡ list_any (nat_eq j) (k ∷ seen)
 any_last [] k j = refl

@@ -7,14 +7,11 @@ use Rattle.std.proofs.lemmas.Grind.{get_or_default_zero}
 use Rattle.std.proofs.lemmas.List.{get_or-replicate, get_or_past, length-replicate, length-set}
 use Rattle.std.proofs.lemmas.Bool.{cases_lt}
 use Rattle.std.proofs.lemmas.Bool.Decides.{eqb_tells}
+use Rattle.bl_tree.proofs.Basics.{drop_next, plus_none}
 use Rattle.bl_machine_pass.specs.Numbered.{position_where}
-use Rattle.bl_machine_transitions.proofs.Loops.{next_drop}
 
 one_more : (n m : ℕ) → n + 1 + m ≡ n + suc m
 one_more n m = omega arith
-
-no_more : (n : ℕ) → n ≡ n + 0
-no_more n = omega arith
 
 -- the node at one position before has that as its number, and the others have theirs
 pub ranks_next : (order ranks more : List ℕ) (at next node : ℕ) → at ≡ next + 1 → next < length order → node
@@ -26,15 +23,15 @@ ranks_next order ranks more at next node step within is fits grows before k =
     ap (λ all. get_or all k (length order)) grows
     ∙ (elim (eqb_tells k node) [
       | inl (hit, same) ↦
-          ap (λ k. get_or (set ranks node next) k (length order)) same ∙ get_or-set_same ranks node next (length order) fits ∙ no_more next
+          ap (λ k. get_or (set ranks node next) k (length order)) same ∙ get_or-set_same ranks node next (length order) fits ∙ plus_none next
           ∙ ap (λ b. next + cond b 0 (suc (position_where (nat_eq k) (drop (next + 1) order)))) (sym hit)
-          ∙ ap (λ rest. next + position_where (nat_eq k) rest) (sym (next_drop order next node within is))
+          ∙ ap (λ rest. next + position_where (nat_eq k) rest) (sym (drop_next order next node within is))
       | inr (not_so, other) ↦
           get_or-set_other ranks node k next (length order) other ∙ before k
           ∙ ap (λ at. at + position_where (nat_eq k) (drop at order)) step
           ∙ one_more next (position_where (nat_eq k) (drop (next + 1) order))
           ∙ ap (λ b. next + cond b 0 (suc (position_where (nat_eq k) (drop (next + 1) order)))) (sym not_so)
-          ∙ ap (λ rest. next + position_where (nat_eq k) rest) (sym (next_drop order next node within is))
+          ∙ ap (λ rest. next + position_where (nat_eq k) rest) (sym (drop_next order next node within is))
     ])
 
 pub ranks_end : (order ranks : List ℕ) (count step : ℕ) → count ≡ length order → count ≤ step →

@@ -15,7 +15,7 @@ both_equal Equal s = refl
 both_equal Greater s = refl
 
 -- a place is that of a key where the key ties
-same_place_key : (a b : Place) → is_at (key_cmp (key_of a)) (key_of b) ≡ same_place a b
+pub same_place_key : (a b : Place) → is_at (key_cmp (key_of a)) (key_of b) ≡ same_place a b
 same_place_key a b = both_equal (nat_cmp a.start b.start) (nat_cmp a.end b.end) ∙ (λ i. unsigned_tied a.start b.start i && unsigned_tied a.end b.end i)
 
 given : (b : Bool) (n : ℕ) (found : Option ℕ) → unwrap_or (cond b (Some n) found) 0 ≡ cond b n (unwrap_or found 0)

@@ -31,19 +31,8 @@ use Rattle.bl_machine_transitions.specs.inner.Joined.{all_joined, fork_instant, 
 use Rattle.bl_machine_transitions.specs.inner.Parts.{ArmPart, BranchPart, Part, act, arm_of, branch_of, branch_part, part_of_block}
 use Rattle.bl_machine_transitions.specs.inner.Parts.{chain, cobegin, ends, endless, forked}
 use Rattle.bl_machine_transitions.specs.inner.Parts.{kind_part, needs, part, stmt_of, until, when_part, while}
-use Rattle.bl_machine_transitions.proofs.Listing.{
-  Alike,
-  AlikeEach,
-  AlikeIn,
-  InArm,
-  Same,
-  arm_view,
-  arms_are,
-  block_alike,
-  chain_alike,
-  choice_alike,
-  watched_alike,
-}
+use Rattle.bl_machine_transitions.proofs.Listing.{Alike, AlikeEach, AlikeIn, InArm, Same, arm_view, arms_are, block_alike, chain_alike, choice_alike}
+use Rattle.bl_machine_transitions.proofs.Listing.{watched_alike}
 
 -- ---- branches
 

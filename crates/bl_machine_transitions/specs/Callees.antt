@@ -1,25 +1,8 @@
 -- What the blocks of nodes are told by: for each node the activity that it calls, and its number.
 use Rattle.std.specs.Prelude.{ℕ, Bool, true, false, List, [], ◌∷◌, ◌++◌, nat_eq}
 use Rattle.bl_graph_nodes.specs.Nodes.{Node, are_instant, is_instant, nodes_in}
-use Rattle.bl_graph_nodes.specs.Plain.{
-  Act,
-  Again,
-  Await,
-  Block,
-  Bodies,
-  Body as BodyOf,
-  Cobegin,
-  Done,
-  If,
-  Last,
-  Plain,
-  Repeat,
-  Run as RunOf,
-  Then,
-  Until,
-  When,
-  While,
-}
+use Rattle.bl_graph_nodes.specs.Plain.{Act, Again, Await, Block, Bodies, Body as BodyOf, Cobegin, Done, If, Last, Plain, Repeat, Run as RunOf, Then, Until}
+use Rattle.bl_graph_nodes.specs.Plain.{When, While}
 use Rattle.bl_machine_pass.specs.Numbered.{position_where, same_node}
 
 -- ---- the activities that nodes call

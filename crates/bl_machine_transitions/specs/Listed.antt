@@ -4,25 +4,8 @@ use Rattle.std.specs.Prelude.{if◌then◌else◌}
 use Rattle.bl_tree.specs.declared.tree.Guard.{Guard}
 use Rattle.bl_tree.specs.declared.tree.Guard.TheVariants.{Abort, Reset}
 use Rattle.bl_graph_nodes.specs.Nodes.{are_instant, arguments_of, is_instant, nodes_in, nodes_of, some_strong}
-use Rattle.bl_graph_nodes.specs.Plain.{
-  Act,
-  Again,
-  Await,
-  Block,
-  Bodies,
-  Body as BodyOf,
-  Cobegin,
-  Done,
-  If,
-  Last,
-  Plain,
-  Repeat,
-  Run as RunOf,
-  Then,
-  Until,
-  When,
-  While,
-}
+use Rattle.bl_graph_nodes.specs.Plain.{Act, Again, Await, Block, Bodies, Body as BodyOf, Cobegin, Done, If, Last, Plain, Repeat, Run as RunOf, Then, Until}
+use Rattle.bl_graph_nodes.specs.Plain.{When, While}
 use Rattle.bl_machine.specs.declared.slots.Slot.{Slot}
 use Rattle.bl_machine_pass.specs.SlotLayout.{spots_in, spots_of}
 use Rattle.bl_machine_pass.specs.Numbered.{no_slot, position_where}

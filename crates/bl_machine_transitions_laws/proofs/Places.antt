@@ -3,43 +3,15 @@ use Rattle.std.proofs.Common.{◌≡◌, ℕ, suc, ◌+◌, Bool, true, false, L
 use Rattle.std.proofs.Common.{arith, ap, refl, sym, ◌∙◌, if◌then◌else◌}
 use Rattle.std.proofs.lemmas.List.{length-append, map-append}
 use Rattle.bl_graph_nodes.specs.Nodes.{some_strong}
-use Rattle.bl_graph_nodes.specs.Plain.{
-  Act,
-  Again,
-  Await,
-  Block,
-  Bodies,
-  Body as BodyOf,
-  Cobegin,
-  Done,
-  If,
-  Label,
-  Last,
-  Plain,
-  Repeat,
-  Run as RunOf,
-  Then,
-  Until,
-  When,
-  While,
-}
+use Rattle.bl_graph_nodes.specs.Plain.{Act, Again, Await, Block, Bodies, Body as BodyOf, Cobegin, Done, If, Label, Last, Plain, Repeat, Run as RunOf, Then}
+use Rattle.bl_graph_nodes.specs.Plain.{Until, When, While}
 use Rattle.bl_machine.specs.declared.slots.Slot.{Slot}
 use Rattle.bl_machine.specs.Uses.{Slots}
 use Rattle.bl_machine_pass.specs.SlotLayout.{Spot, slot_at, spots_in, spots_in_each, spots_of}
 use Rattle.bl_machine_pass.specs.Transitions as nodes
 use Rattle.bl_machine_transitions.specs.declared.transition.Needed.{Needed}
-use Rattle.bl_machine_transitions.specs.Listed.{
-  Layout,
-  counters_from,
-  endings,
-  needed,
-  place_count,
-  places_in_branches,
-  rests_in,
-  rests_in_first,
-  rests_of,
-  strong_endings,
-}
+use Rattle.bl_machine_transitions.specs.Listed.{Layout, counters_from, endings, needed, place_count, places_in_branches, rests_in, rests_in_first, rests_of}
+use Rattle.bl_machine_transitions.specs.Listed.{strong_endings}
 use Rattle.bl_machine_transitions.specs.Told.{told_needed}
 use Rattle.bl_machine_transitions_laws.proofs.Agreeing.{Agrees, in_first, in_second_at}
 

@@ -1,13 +1,13 @@
 -- The nodes and places of a body have the numbers that their positions have.
-use Rattle.std.proofs.Common.{◌≡◌, inl, inr, ℕ, zero, suc, ◌+◌, Bool, true, false, ◌&&◌, List, [], ◌∷◌, Some, None}
-use Rattle.std.proofs.Common.{Contains, if◌then◌else◌}
+use Rattle.std.proofs.Common.{◌≡◌, ℕ, zero, suc, ◌+◌, Bool, true, false, ◌&&◌, List, [], ◌∷◌, Some}
+use Rattle.std.proofs.Common.{if◌then◌else◌}
 use Rattle.std.proofs.Common.{nat_eq, unwrap_or, refl, sym, ap, subst, ◌∙◌, eqb-true, eq-eqb, arith}
-use Rattle.std.specs.Prelude.{bytes_eq, slice_get}
-use Rattle.std.proofs.lemmas.Slice.Eq.{bytes_eq-Decides}
+use Rattle.std.specs.Prelude.{slice_get}
+use Rattle.std.proofs.lemmas.Bool.{and_from}
+use Rattle.bl_tree.proofs.Basics.{and_first, and_second, contains_at, none_is_some, same_some}
 use Rattle.bl_tree.specs.declared.tree.Stmt.{Stmt}
 use Rattle.bl_graph_nodes.specs.Nodes.{Node, label_of, nodes_in}
-use Rattle.bl_graph_nodes.specs.Plain.{Block, Label, plain_body}
-use Rattle.bl_cause.proofs.ListLemmas.{contains_head, contains_tail}
+use Rattle.bl_graph_nodes.specs.Plain.{Block, plain_body}
 use Rattle.bl_machine.specs.declared.slots.Slot.{Slot}
 use Rattle.bl_machine_pass.specs.SlotLayout.{EndOf, RestOf, Spot, slot_at, spots_in}
 use Rattle.bl_machine_pass.specs.Numbered.{no_slot, position_where, same_label, same_node, same_spot, slots_of, sort}
@@ -16,66 +16,19 @@ use Rattle.bl_machine_pass_laws.specs.Spots.{Has, SpotsAreDistinct, SpotsDiffer}
 use Rattle.bl_machine_transitions.specs.Callees.{node_number}
 use Rattle.bl_machine_transitions.specs.Listed.{layout_of}
 use Rattle.bl_machine_transitions_laws.proofs.Agreeing.{Agrees, each_agrees}
+use Rattle.bl_machine_pass_laws.proofs.OnSlots.Finding.{found_first, has_at, label_is, label_itself, spot_is, spot_itself}
 
 -- ---- tests
 
-both_first : (a b : Bool) → (a && b) ≡ true → a ≡ true
-both_first true b e = refl
-both_first false b e = absurd cc
-
-both_second : (a b : Bool) → (a && b) ≡ true → b ≡ true
-both_second true b e = e
-both_second false b e = absurd cc
-
-both_true : (a b : Bool) → a ≡ true → b ≡ true → (a && b) ≡ true
-both_true true b e f = f
-both_true false b e f = absurd cc
-
-label_is : (l m : Label) → same_label l m ≡ true → l ≡ m
-label_is l m e =
-    let position : l.position ≡ m.position =
-    (bytes_eq-Decides l.position m.position).0 (both_first (bytes_eq l.position m.position) (nat_eq l.passed m.passed) e) in
-    let passed : l.passed ≡ m.passed =
-    eqb-true l.passed m.passed (both_second (bytes_eq l.position m.position) (nat_eq l.passed m.passed) e) in
-    ap (λ p. record { position = p; passed = l.passed }) position ∙ ap (λ n. record { position = m.position; passed = n }) passed
-
-label_itself : (l : Label) → same_label l l ≡ true
-label_itself l =
-    both_true (bytes_eq l.position l.position) (nat_eq l.passed l.passed) ((bytes_eq-Decides l.position l.position).1 refl)
-    (eq-eqb l.passed l.passed refl)
-
-spot_is : (p q : Spot) → same_spot p q ≡ true → p ≡ q
-spot_is (RestOf l) (RestOf m) e = ap RestOf (label_is l m e)
-spot_is (EndOf l j) (EndOf m k) e =
-    let label : l ≡ m = label_is l m (both_first (same_label l m) (nat_eq j k) e) in
-    let number : j ≡ k = eqb-true j k (both_second (same_label l m) (nat_eq j k) e) in
-    ap (λ n. EndOf n j) label ∙ ap (λ n. EndOf m n) number
-spot_is (RestOf l) (EndOf m k) e = absurd cc
-spot_is (EndOf l j) (RestOf m) e = absurd cc
-
-spot_itself : (p : Spot) → same_spot p p ≡ true
-spot_itself (RestOf l) = label_itself l
-spot_itself (EndOf l k) = both_true (same_label l l) (nat_eq k k) (label_itself l) (eq-eqb k k refl)
-
-node_itself : (n : Node) → same_node n n ≡ true
+pub node_itself : (n : Node) → same_node n n ≡ true
 node_itself n =
-    both_true (same_label (label_of n) (label_of n)) (nat_eq (sort n) (sort n)) (label_itself (label_of n)) (eq-eqb (sort n) (sort n) refl)
+    and_from (same_label (label_of n) (label_of n)) (nat_eq (sort n) (sort n)) (label_itself (label_of n)) (eq-eqb (sort n) (sort n) refl)
 
 -- ---- positions
 
-none_is : {X A : Type 0} (x : X) → None ≡ Some x → A
-none_is x is = absurd (cc)
-
-some_is : {X : Type 0} (a b : X) → Some a ≡ Some b → a ≡ b
-some_is a b is = cc
-
-past : (b : Bool) (k : ℕ) → (b ≡ true → ⊥) → (if b then 0 else suc k) ≡ suc k
+pub past : (b : Bool) (k : ℕ) → (b ≡ true → ⊥) → (if b then 0 else suc k) ≡ suc k
 past true k none = absurd (none refl)
 past false k none = refl
-
-first : (b : Bool) (k : ℕ) → b ≡ true → (if b then 0 else suc k) ≡ 0
-first true k e = refl
-first false k e = absurd cc
 
 no_suc : (i : ℕ) → 0 ≡ suc i → ⊥
 no_suc i is = absurd (omega arith)
@@ -86,17 +39,12 @@ less i j is = omega arith
 -- what is true of one element alone stands where the element does
 found : {X : Type 0} (test : X → Bool) (xs : List X) (i : ℕ) (x : X) → slice_get xs i ≡ Some x → test x ≡ true →
     ((j : ℕ) (y : X) → slice_get xs j ≡ Some y → test y ≡ true → j ≡ i) → position_where test xs ≡ i
-found test [] i x is so alone = none_is x is
+found test [] i x is so alone = none_is_some x is
 found test (y ∷ xs) zero x is so alone =
-    first (test y) (position_where test xs) (subst (λ z. test z ≡ true) (sym (some_is y x is)) so)
+    found_first (test y) (position_where test xs) (subst (λ z. test z ≡ true) (sym (same_some y x is)) so)
 found test (y ∷ xs) (suc i) x is so alone =
     past (test y) (position_where test xs) (λ e. no_suc i (alone 0 y refl e))
     ∙ ap suc (found test xs i x is so (λ j z there e. less i j (alone (suc j) z there e)))
-
-contains_at : {X : Type 0} (xs : List X) (k : ℕ) (x : X) → slice_get xs k ≡ Some x → Contains xs x
-contains_at [] k x e = none_is x e
-contains_at (y ∷ xs) zero x e = subst (λ z. Contains (z ∷ xs) x) (sym (some_is y x e)) (contains_head x xs)
-contains_at (y ∷ xs) (suc k) x e = contains_tail y xs x (contains_at xs k x e)
 
 -- ---- nodes
 
@@ -106,9 +54,9 @@ node_at law body i n is =
     found (same_node n) (nodes_in (plain_body body)) i n is (node_itself n)
     (λ j m there same.
     (let label : label_of n ≡ label_of m =
-    label_is (label_of n) (label_of m) (both_first (same_label (label_of n) (label_of m)) (nat_eq (sort n) (sort m)) same) in
+    label_is (label_of n) (label_of m) (and_first (same_label (label_of n) (label_of m)) (nat_eq (sort n) (sort m)) same) in
     let sorted : sort n ≡ sort m =
-    eqb-true (sort n) (sort m) (both_second (same_label (label_of n) (label_of m)) (nat_eq (sort n) (sort m)) same) in
+    eqb-true (sort n) (sort m) (and_second (same_label (label_of n) (label_of m)) (nat_eq (sort n) (sort m)) same) in
     let one : n ≡ m =
     law.keys body [] n m (contains_at (nodes_in (plain_body body)) i n is) (contains_at (nodes_in (plain_body body)) j m there) label sorted in
     law.once body [] j i n (there ∙ ap Some (sym one)) is))
@@ -123,16 +71,11 @@ nodes_stand law body order list =
 
 -- ---- places
 
-has_at : (xs : List Spot) (i : ℕ) (p : Spot) → slice_get xs i ≡ Some p → Has xs p
-has_at [] i p is = none_is p is
-has_at (x ∷ xs) zero p is = inl (sym (some_is x p is))
-has_at (x ∷ xs) (suc i) p is = inr (has_at xs i p is)
-
 one_place : (xs : List Spot) → SpotsAreDistinct xs → (i j : ℕ) (p : Spot) → slice_get xs i ≡ Some p → slice_get xs j ≡ Some p → i ≡ j
-one_place [] differ i j p one two = none_is p one
+one_place [] differ i j p one two = none_is_some p one
 one_place (x ∷ xs) differ zero zero p one two = refl
-one_place (x ∷ xs) differ zero (suc j) p one two = absurd (differ.0 (subst (Has xs) (sym (some_is x p one)) (has_at xs j p two)))
-one_place (x ∷ xs) differ (suc i) zero p one two = absurd (differ.0 (subst (Has xs) (sym (some_is x p two)) (has_at xs i p one)))
+one_place (x ∷ xs) differ zero (suc j) p one two = absurd (differ.0 (subst (Has xs) (sym (same_some x p one)) (has_at xs j p two)))
+one_place (x ∷ xs) differ (suc i) zero p one two = absurd (differ.0 (subst (Has xs) (sym (same_some x p two)) (has_at xs i p one)))
 one_place (x ∷ xs) differ (suc i) (suc j) p one two = ap suc (one_place xs differ.1 i j p one two)
 
 place_at : SpotsDiffer → (body : List Stmt) (i : ℕ) (p : Spot) → slice_get (spots_in (plain_body body)) i ≡ Some p →

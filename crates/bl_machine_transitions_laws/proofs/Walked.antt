@@ -4,42 +4,10 @@ use Rattle.bl_tree.specs.declared.place.Place.{Place}
 use Rattle.bl_tree.specs.declared.tree.Expr.{Expr}
 use Rattle.bl_tree.specs.declared.tree.Guard.{Guard}
 use Rattle.bl_tree.specs.declared.tree.Stmt.{Stmt}
-use Rattle.bl_graph_nodes.specs.Nodes.{
-  EnterAt,
-  HeadAt,
-  Node,
-  PauseAt,
-  ResumeAt,
-  TestAt,
-  are_instant,
-  arguments_of,
-  entry,
-  is_instant,
-  nodes_in,
-  nodes_in_each,
-  nodes_of,
-}
-use Rattle.bl_graph_nodes.specs.Plain.{
-  Act,
-  Again,
-  Await,
-  Block,
-  Bodies,
-  Body as BodyOf,
-  Cobegin,
-  Done,
-  If,
-  Label,
-  Last,
-  Plain,
-  Repeat,
-  Run as RunOf,
-  Then,
-  Until,
-  When,
-  While,
-  plain_body,
-}
+use Rattle.bl_graph_nodes.specs.Nodes.{EnterAt, HeadAt, Node, PauseAt, ResumeAt, TestAt, are_instant, arguments_of, entry, is_instant, nodes_in, nodes_in_each}
+use Rattle.bl_graph_nodes.specs.Nodes.{nodes_of}
+use Rattle.bl_graph_nodes.specs.Plain.{Act, Again, Await, Block, Bodies, Body as BodyOf, Cobegin, Done, If, Label, Last, Plain, Repeat, Run as RunOf, Then}
+use Rattle.bl_graph_nodes.specs.Plain.{Until, When, While, plain_body}
 use Rattle.bl_machine.specs.declared.slots.Slot.{Slot}
 use Rattle.bl_machine.specs.Uses.{Slots}
 use Rattle.bl_machine_pass.specs.SlotLayout.{slot_at, spots_in, spots_in_each, spots_of}

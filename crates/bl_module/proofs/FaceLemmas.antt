@@ -1,34 +1,10 @@
 -- Items of faces, one face after another.
-use Rattle.std.proofs.Common.{
-  ◌≡◌,
-  ℕ,
-  ◌+◌,
-  ◌-◌,
-  ◌<◌,
-  ◌≤◌,
-  ◌∙◌,
-  zero,
-  suc,
-  Bool,
-  true,
-  false,
-  ◌&&◌,
-  List,
-  [],
-  ◌∷◌,
-  ◌++◌,
-  map,
-  take,
-  length,
-  get_or,
-  refl,
-  sym,
-  ap,
-  subst,
-  arith,
-}
+use Rattle.std.proofs.Common.{◌≡◌, ℕ, ◌+◌, ◌-◌, ◌<◌, ◌≤◌, ◌∙◌, zero, suc, true, false, ◌&&◌, List, [], ◌∷◌, ◌++◌, take, length, get_or, refl, sym}
+use Rattle.std.proofs.Common.{ap, subst, arith}
 use Rattle.std.specs.Prelude.{slice_index_or}
 use Rattle.std.proofs.Math.Seq.{take-suc}
+use Rattle.std.proofs.lemmas.Bool.{and_from}
+use Rattle.bl_tree.proofs.Basics.{and_regroup, plus_one, second_false}
 use Rattle.bl_tree.specs.Reduce.{joined}
 use Rattle.bl_tree.proofs.ReduceLemmas.{joined-append}
 use Rattle.bl_tree.specs.declared.tree.Ty.{Ty, roll-Ty}
@@ -45,22 +21,15 @@ use Rattle.bl_module.specs.declared.taken.Taken.{Taken}
 use Rattle.bl_module.specs.declared.walk.Walk.{Walk}
 use Rattle.bl_module.specs.Faces.{IsBadFace, all_items, items_of}
 
-one_more : (k : ℕ) → k + 1 ≡ suc k
-one_more k = omega arith
-
 pub after-append : (walk : Walk) (xs ys : List FaceItem) → after_items walk (xs ++ ys) ≡ after_items (after_items walk xs) ys
 after-append walk [] ys = refl
 after-append walk (x ∷ xs) ys = after-append (after_item walk x) xs ys
-
-and_assoc : (a b c : Bool) → (a && (b && c)) ≡ ((a && b) && c)
-and_assoc true b c = refl
-and_assoc false b c = refl
 
 pub stand-append : (walk : Walk) (xs ys : List FaceItem) → items_stand walk (xs ++ ys) ≡ (items_stand walk xs && items_stand (after_items walk xs) ys)
 stand-append walk [] ys = refl
 stand-append walk (x ∷ xs) ys =
     ap (λ rest. item_stands walk.names x && rest) (stand-append (after_item walk x) xs ys)
-    ∙ and_assoc (item_stands walk.names x) (items_stand (after_item walk x) xs) (items_stand (after_items (after_item walk x) xs) ys)
+    ∙ and_regroup (item_stands walk.names x) (items_stand (after_item walk x) xs) (items_stand (after_items (after_item walk x) xs) ys)
 
 pub items-append : (xs ys : List Face) → items_of (xs ++ ys) ≡ items_of xs ++ items_of ys
 items-append [] ys = refl
@@ -74,7 +43,7 @@ append_nil (x ∷ xs) = ap (λ rest. x ∷ rest) (append_nil xs)
 pub all_items-next : (faces : List Face) (k : ℕ) (face : Face) → k < length faces → face ≡ get_or faces k face →
     all_items (take (k + 1) faces) ≡ all_items (take k faces) ++ face.items
 all_items-next faces k face within is =
-    ap (λ n. all_items (take n faces)) (one_more k)
+    ap (λ n. all_items (take n faces)) (plus_one k)
     ∙ ap all_items (take-suc faces k face within)
     ∙ ap (λ it. all_items (take k faces ++ (it ∷ []))) (sym is)
     ∙ ap joined (items-append (take k faces) (face ∷ []))
@@ -110,13 +79,6 @@ pub record Walked (faces : List Face) (k : ℕ) (walk : Walk) : Type 0 where
   pub walk_is : walk ≡ after_items before_items (all_items (take k faces))
   pub stand : items_stand before_items (all_items (take k faces)) ≡ true
 
-both : (a b : Bool) → a ≡ true → b ≡ true → (a && b) ≡ true
-both a b ea eb = rw (ea, eb) refl
-
-none_of : (a b : Bool) → b ≡ false → (a && b) ≡ false
-none_of true b e = e
-none_of false b e = refl
-
 stand_next : (faces : List Face) (k : ℕ) (face : Face) → k < length faces → face ≡ get_or faces k face →
     items_stand before_items (all_items (take (k + 1) faces))
     ≡ (items_stand before_items (all_items (take k faces)) && items_stand (after_items before_items (all_items (take k faces))) face.items)
@@ -131,7 +93,7 @@ walked_next faces k face items walk next within is same walked stands goes = rec
       goes ∙ (λ i. after_items (walked.walk_is i) (same i)) ∙ sym (after-append before_items (all_items (take k faces)) face.items)
       ∙ ap (after_items before_items) (sym (all_items-next faces k face within is));
   stand = stand_next faces k face within is
-      ∙ both (items_stand before_items (all_items (take k faces))) _ walked.stand
+      ∙ and_from (items_stand before_items (all_items (take k faces))) _ walked.stand
       (sym (stands ∙ (λ i. items_stand (walked.walk_is i) (same i))));
 }
 
@@ -143,7 +105,7 @@ bad_next faces k face items walk within is same walked fails = record {
   is_there = omega (arith, within);
   stand = subst (λ n. items_stand before_items (all_items (take n faces)) ≡ true) back walked.stand;
   fails = stand_next faces k face within is
-      ∙ none_of (items_stand before_items (all_items (take k faces))) _ (sym (fails ∙ (λ i. items_stand (walked.walk_is i) (same i))));
+      ∙ second_false (items_stand before_items (all_items (take k faces))) _ (sym (fails ∙ (λ i. items_stand (walked.walk_is i) (same i))));
 }
   where
     back : k ≡ k + 1 - 1

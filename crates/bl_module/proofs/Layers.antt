@@ -1,38 +1,11 @@
 -- What fails first in its layer, where the layers before it pass, fails first of all rules.
-use Rattle.std.proofs.Common.{
-  ◌≡◌,
-  ℕ,
-  ◌∙◌,
-  ◌<◌,
-  ◌^◌,
-  Bool,
-  true,
-  false,
-  ◌&&◌,
-  not,
-  cond,
-  drop,
-  List,
-  [],
-  ◌∷◌,
-  ◌⊎◌,
-  ⊎_elim,
-  length,
-  inl,
-  inr,
-  refl,
-  sym,
-  ap,
-  subst,
-  arith,
-}
+use Rattle.std.proofs.Common.{◌≡◌, ℕ, ◌∙◌, ◌<◌, ◌^◌, Bool, true, false, ◌&&◌, not, cond, drop, List, [], ◌∷◌, ◌⊎◌, ⊎_elim, length, inl, inr, refl, sym, ap}
+use Rattle.std.proofs.Common.{subst, arith}
 use Rattle.std.specs.Prelude.{⊤, nat_eq}
 use Rattle.std.proofs.lemmas.Bool.Decides.{nat_tests}
-use Rattle.bl_cause_trees.specs.Rules.{Fails as GraphsFail, Passes as GraphsPass}
-use Rattle.bl_effects.specs.Rules.{Fails as UnitsFail, Passes as UnitsPass}
-use Rattle.bl_lex.specs.Rules.{Fails as TextFails, Passes as TextPasses}
+use Rattle.bl_tree.proofs.Basics.{and_first, and_second}
+use Rattle.bl_lex.specs.Rules.{Passes as TextPasses}
 use Rattle.bl_lex.specs.Tokens.{Lexes}
-use Rattle.bl_limits.specs.Rules.{NestingFails, NestingPasses}
 use Rattle.bl_names_scopes.specs.Marks.{Marks, marks_of}
 use Rattle.bl_names_scopes.specs.Rules.{FailsBehind as NamesFail, FailsDuplicate, FailsKind, FailsUnknown, PassesBehind as NamesPass}
 use Rattle.bl_names_scopes.specs.Scopes.{Scopes, opened_by}
@@ -59,75 +32,11 @@ use Rattle.bl_module.specs.Behind.{outside_text}
 use Rattle.bl_module.specs.declared.behind.Behind.{Behind}
 use Rattle.bl_module.specs.declared.taken.Taken.{Taken}
 use Rattle.bl_module.specs.inner.Layers.{NamesFailHere, OwnPasses}
-use Rattle.bl_module.specs.Rules.{
-  FailsIn,
-  OwnFails,
-  PassesIn,
-  TreeFails,
-  TreePasses,
-  here,
-  in_bytes,
-  in_graphs,
-  in_names,
-  in_nesting,
-  in_own,
-  in_tokens,
-  in_tree,
-  in_types,
-  in_units,
-  is_last,
-  known_at,
-  known_in,
-  named_in,
-  own_units,
-}
+use Rattle.bl_module.specs.Rules.{FailsIn, OwnFails, PassesIn, TreeFails, TreePasses, here, in_bytes, in_names, in_own, in_tokens}
+use Rattle.bl_module.specs.Rules.{in_tree, in_types, is_last, known_at, known_in, named_in, own_units}
+use Rattle.bl_tree.proofs.FirstLemmas.{all_compared}
 
 -- ---- own units and structs
-
-module _ (structs : List StructDef) (from : ℕ) (units : List UnitDef) where
-  pub units_cause : (told : Refusal) → IsCause (UnitsFail units) told → IsCause (OwnFails structs from units) told
-  units_cause (refusal.Rule rule at also) first =
-      alike_first (UnitsFail units) (OwnFails structs from units) (λ r p a f. in_units f) back rule at also first
-    where
-      back : (r : Rule) (p : Place) (a : List Place) → OwnFails structs from units r p a → UnitsFail units r p a
-      back r p a (in_units f) = f
-      back r p a (in_graphs passes f) = absurd (passes rule at also first.fails)
-      back r p a (in_nesting passes others f) = absurd (passes rule at also first.fails)
-  units_cause refusal.NoMemory first = tt
-
-  pub graphs_cause : UnitsPass units → (told : Refusal) → IsCause (GraphsFail units) told → IsCause (OwnFails structs from units) told
-  graphs_cause pass (refusal.Rule rule at also) first =
-      alike_first (GraphsFail units) (OwnFails structs from units) (λ r p a f. in_graphs pass f) back rule at also first
-    where
-      back : (r : Rule) (p : Place) (a : List Place) → OwnFails structs from units r p a → GraphsFail units r p a
-      back r p a (in_units f) = absurd (pass r p a f)
-      back r p a (in_graphs passes f) = f
-      back r p a (in_nesting passes others f) = absurd (others rule at also first.fails)
-  graphs_cause pass refusal.NoMemory first = tt
-
-  pub nesting_cause : UnitsPass units → GraphsPass units → (told : Refusal) → IsCause (NestingFails from structs units) told →
-      IsCause (OwnFails structs from units) told
-  nesting_cause pass more (refusal.Rule rule at also) first =
-      alike_first (NestingFails from structs units) (OwnFails structs from units) (λ r p a f. in_nesting pass more f) back rule at also first
-    where
-      back : (r : Rule) (p : Place) (a : List Place) → OwnFails structs from units r p a → NestingFails from structs units r p a
-      back r p a (in_units f) = absurd (pass r p a f)
-      back r p a (in_graphs passes f) = absurd (more r p a f)
-      back r p a (in_nesting passes others f) = f
-  nesting_cause pass more refusal.NoMemory first = tt
-
-  pub own_passes : UnitsPass units → GraphsPass units → NestingPasses from structs units → OwnPasses structs from units
-  own_passes pass more most r p a (in_units f) = pass r p a f
-  own_passes pass more most r p a (in_graphs passes f) = more r p a f
-  own_passes pass more most r p a (in_nesting passes others f) = most r p a f
-
-and_left : (a b : Bool) → (a && b) ≡ true → a ≡ true
-and_left true b is = refl
-and_left false b is = absurd (cc)
-
-and_right : (a b : Bool) → (a && b) ≡ true → b ≡ true
-and_right true b is = is
-and_right false b is = absurd (cc)
 
 -- ---- names: further places in other texts are left out
 
@@ -148,10 +57,10 @@ is_nowhere place is =
     λ i. record { start = start i; end = end i }
   where
     starts : (n : ℕ) (other : Bool) → (nat_eq n 0 && other) ≡ true → n ≡ 0
-    starts n other both = let e : nat_eq n 0 ≡ true = and_left (nat_eq n 0) other both in grind (arith, nat_tests)
+    starts n other both = let e : nat_eq n 0 ≡ true = and_first (nat_eq n 0) other both in grind (arith, nat_tests)
 
     ends : (other : Bool) (n : ℕ) → (other && nat_eq n 0) ≡ true → n ≡ 0
-    ends other n both = let e : nat_eq n 0 ≡ true = and_right other (nat_eq n 0) both in grind (arith, nat_tests)
+    ends other n both = let e : nat_eq n 0 ≡ true = and_second other (nat_eq n 0) both in grind (arith, nat_tests)
 
 -- of two lists with one place at most, the one that comes no later does so where places elsewhere are left out
 kept_no_later : (xs ys : List Place) → IsShort xs → IsShort ys → AreNoLater xs ys → AreNoLater (here xs) (here ys)
@@ -190,10 +99,6 @@ told_here start marks r at also fails =
     (λ (p : (r ≡ rule.Unknown) × FailsUnknown start marks at also). record { no_walk = ap tells_walk p.0; short = subst IsShort (sym p.1.alone) tt })
     (λ (p : (r ≡ rule.Kind) × FailsKind start marks at also).
     record { no_walk = ap tells_walk p.0; short = subst IsShort (sym p.1.at_declaration) tt }) rest) fails
-
--- where no walk is told, all places are compared
-all_compared : (r : Rule) (at : Place) (also : List Place) → tells_walk r ≡ false → compared r at also ≡ at ∷ also
-all_compared r at also no_walk = ap (λ walk. cond walk (at ∷ []) (at ∷ also)) no_walk
 
 -- the first place decides, and else the further ones
 first_kept : (at other : Place) (xs ys : List Place) → IsShort xs → IsShort ys → AreNoLater (at ∷ xs) (other ∷ ys) →
@@ -308,16 +213,6 @@ module _ (behind : Behind) (last : Bool) (raw : Raw) (named : Named) (env : Envi
 -- ---- texts
 
 module _ (one : TokensAreOne) (trees : TreesAreOne) (none : TokensThatPass) (behind : Behind) (taken : Taken) (text : List ℕ) where
-  pub bytes_cause : (told : Refusal) → IsCause (TextFails text) told → IsCause (FailsIn behind taken text) told
-  bytes_cause (refusal.Rule rule at also) first =
-      alike_first (TextFails text) (FailsIn behind taken text) (λ r p a f. in_bytes f) back rule at also first
-    where
-      back : (r : Rule) (p : Place) (a : List Place) → FailsIn behind taken text r p a → TextFails text r p a
-      back r p a (in_bytes f) = f
-      back r p a (in_tokens tokens passes lexes f) = absurd (passes rule at also first.fails)
-      back r p a (in_tree raw passes parses f) = absurd (passes rule at also first.fails)
-  bytes_cause refusal.NoMemory first = tt
-
   -- tokens that pass fail outside_text
   tokens_pass : (raw : Raw) → Parses text raw → (tokens : List Token) → Lexes text tokens → (r : Rule) (p : Place) (a : List Place) →
       TokensFail (length text) tokens r p a → ⊥

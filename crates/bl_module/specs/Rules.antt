@@ -71,7 +71,7 @@ own_units behind raw = drop (length behind.units) (known_in behind raw).units
 pub data OwnFails (structs : List StructDef) (from : ℕ) (units : List UnitDef) (rule : Rule) (at : Place) (also : List Place) : Type 0 where
   -- a failure of Pause, Conflict, Alias or Instant, on the units
   in_units : UnitsFail units rule at also → OwnFails structs from units rule at also
-  -- a failure of Twice or Cycle, on the tick graphs of the trees of the activities
+  -- a failure of Twice or Cycle, on the tick graphs of the peeled activities
   in_graphs : UnitsPass units → GraphsFail units rule at also → OwnFails structs from units rule at also
   -- a failure of Cells by types that are nested too deep
   in_nesting : UnitsPass units → GraphsPass units → NestingFails from structs units rule at also → OwnFails structs from units rule at also

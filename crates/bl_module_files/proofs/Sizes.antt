@@ -27,7 +27,7 @@ use Rattle.bl_module_files.proofs.Turns.{text_of, text_or_long, whole_or_long}
 abbrev first_beyond : Place
 first_beyond = record { start = 1_048_576; end = 1_048_577 }
 
-least_number : (r : Rule) → 1 ≤ number_of r
+pub least_number : (r : Rule) → 1 ≤ number_of r
 least_number rule.Size = omega arith
 least_number _ = omega arith
 
@@ -116,7 +116,7 @@ module _ (left : Left) (source got : List ℕ) (names : List (List ℕ)) (betwee
   }
   part_stops part.NoMemory none = tt
 
-rose_from : (first second last : ℕ) → first ≤ second → Rose second last → Rose first last
+pub rose_from : (first second last : ℕ) → first ≤ second → Rose second last → Rose first last
 rose_from first second last below rose = λ differs. let above = rose differs in omega (arith, below, above)
 
 -- why the interface files behind a source have no faces

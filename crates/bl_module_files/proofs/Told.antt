@@ -1,30 +1,6 @@
 -- Files whose texts are told.
-use Rattle.std.proofs.Common.{
-  ◌≡◌,
-  ◌∙◌,
-  ℕ,
-  Bool,
-  true,
-  false,
-  ◌&&◌,
-  List,
-  [],
-  ◌∷◌,
-  ◌++◌,
-  take,
-  drop,
-  length,
-  refl,
-  suc,
-  sym,
-  ap,
-  ap₂,
-  subst,
-  inl,
-  inr,
-  arith,
-  if◌then◌else◌,
-}
+use Rattle.std.proofs.Common.{◌≡◌, ◌∙◌, ℕ, Bool, true, false, ◌&&◌, List, [], ◌∷◌, ◌++◌, take, drop, length, refl, suc, sym, ap, ap₂, subst, inl, inr, arith}
+use Rattle.std.proofs.Common.{if◌then◌else◌}
 use Rattle.std.proofs.lemmas.Slice.Eq.{bytes_eq-Decides}
 use Rattle.std.proofs.lemmas.List.{take-append-drop}
 use Rattle.std.specs.Prelude.{◌≢◌, Option, Some, None, IfSome}
@@ -32,7 +8,7 @@ use Rattle.std.specs.Str.{bytes_eq}
 use Rattle.bl_io.specs.Left.{IsKept}
 use Rattle.bl_face.specs.declared.face.Face.{Face}
 use Rattle.bl_face.specs.declared.item.FaceItem.{FaceItem}
-use Rattle.bl_face.specs.Lexemes.{Lexeme, lexeme_at, lexemes}
+use Rattle.bl_face.specs.Lexemes.{lexemes}
 use Rattle.bl_face.specs.Reading.{NotFaceAt, ReadsAs, stops, too_long}
 use Rattle.bl_face.specs.Spells.{SpellsItems}
 use Rattle.bl_lex.specs.Tokens.{FrontOf, Lexes}
@@ -43,18 +19,11 @@ use Rattle.bl_module.specs.Faces.{all_items, items_of}
 use Rattle.bl_tree.proofs.ReduceLemmas.{joined-append}
 use Rattle.bl_tree.specs.Reduce.{joined}
 use Rattle.bl_module_files.specs.Faces.{AreSpelled}
-use Rattle.bl_module_files.specs.Told.{
-  AreTold,
-  BadFacesDontStand,
-  FirstToldTextsAreRead,
-  SpelledFacesAreTaken,
-  TextsHaveOneFaceEach,
-  ToldFilesAreRead,
-  ToldFilesHaveATextEach,
-  ToldTextsAreRead,
-}
+use Rattle.bl_module_files.specs.Told.{AreTold, BadFacesDontStand, FirstToldTextsAreRead, SpelledFacesAreTaken, TextsHaveOneFaceEach, ToldFilesAreRead}
+use Rattle.bl_module_files.specs.Told.{ToldFilesHaveATextEach, ToldTextsAreRead}
 use Rattle.bl_module_files.specs.Turns.{IsText, Left, WasRead, WereRead, file_limit, next, none}
 use Rattle.bl_module_files.proofs.Turns.{kept_same}
+use Rattle.bl_face.proofs.Reading.{lexemes_append}
 
 -- ---- texts
 
@@ -78,10 +47,6 @@ OneStop = (text : List ℕ) (tokens others : List Token) (stop elsewhere : ℕ) 
 
 abbrev WholeFront : Type 0
 WholeFront = (text : List ℕ) (tokens : List Token) → Lexes text tokens → FrontOf text tokens (length text)
-
-lexemes_append : (text : List ℕ) (xs ys : List Token) → lexemes text (xs ++ ys) ≡ lexemes text xs ++ lexemes text ys
-lexemes_append text [] ys = refl
-lexemes_append text (x ∷ xs) ys = ap (λ (ls : List Lexeme). lexeme_at text x ∷ ls) (lexemes_append text xs ys)
 
 behind_one : (xs : List Token) (y : Token) (ys : List Token) → xs ++ y ∷ ys ≡ (xs ++ y ∷ []) ++ ys
 behind_one [] y ys = refl

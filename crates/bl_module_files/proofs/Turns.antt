@@ -1,36 +1,10 @@
 -- Files that were read in turn.
-use Rattle.std.proofs.Common.{
-  ◌≡◌,
-  ◌∙◌,
-  ℕ,
-  ◌+◌,
-  ◌<◌,
-  ◌≤◌,
-  suc,
-  List,
-  [],
-  ◌∷◌,
-  ◌++◌,
-  map,
-  take,
-  drop,
-  length,
-  min,
-  get_or,
-  refl,
-  sym,
-  ap,
-  subst,
-  inl,
-  inr,
-  arith,
-}
+use Rattle.std.proofs.Common.{◌≡◌, ◌∙◌, ℕ, ◌+◌, ◌<◌, ◌≤◌, suc, List, [], ◌∷◌, ◌++◌, map, take, drop, length, min, get_or, refl, sym, ap, subst, inl, inr, arith}
 use Rattle.std.proofs.Math.Seq.{split_at, take-suc}
 use Rattle.std.proofs.lemmas.Bool.{cases_lt}
 use Rattle.std.proofs.lemmas.List.{length-take, length-take-le, take_all}
 use Rattle.std.specs.Prelude.{◌⊎◌, Option, Some, None, IfSome}
 use Rattle.bl_io.specs.Count.{NeverFell, Rose}
-use Rattle.bl_io.specs.declared.fault.IoFault.{IoFault}
 use Rattle.bl_io.specs.declared.fault.IoFault.TheVariants as io
 use Rattle.bl_io.specs.Left.{GivesUpTo, IsKept, KeepsOthers, StandsFurther}
 use Rattle.bl_face.specs.declared.face.Face.{Face}
@@ -39,7 +13,7 @@ use Rattle.bl_module_files.specs.declared.fault.FilesFault.{FilesFault}
 use Rattle.bl_module_files.specs.declared.fault.FilesFault.TheVariants as fault
 use Rattle.bl_module_files.specs.Faces.{AreFaces, AreSpelled, ComesTo, FacesStop, IsNoFace}
 use Rattle.bl_module_files.specs.Turns.{IsText, Left, StandFurther, WasRead, WereRead, file_limit, next, none}
-use Rattle.bl_module_files.specs.inner.Read.{FaceStops, IsFaceIn, IsNoFaceIn, IsUnreadOr}
+use Rattle.bl_module_files.specs.inner.Read.{FaceStops, IsFaceIn, IsNoFaceIn}
 
 -- ---- the text of a file of which a front was read
 
@@ -115,12 +89,6 @@ pub no_face_read : (left : Option (List ℕ)) (got : List ℕ) (after : Option (
     IsNoFaceIn left at
 no_face_read left got after at read shows =
     record { text = text_of left got; is_text = is_text_of left got; shows = stops_whole left got after at read shows }
-
--- what a read that failed comes to
-pub unread_stops : (number : ℕ) (left : Option (List ℕ)) (before after : ℕ) (fault : IoFault) (told : FilesFault) → IsUnreadOr fault told →
-    (fault ≡ io.Failed → Rose before after) → FaceStops number left before after told
-unread_stops number left before after io.Failed told is rose = rw is (rose refl)
-unread_stops number left before after io.NoMemory told is rose = rw is tt
 
 -- ---- what is left of files
 
@@ -273,7 +241,7 @@ module _ {A : Type 0} (f : A → List ℕ) where
       AreFaces before (map f names) faces now
   faces_all names k before now faces over are = subst (λ ns. AreFaces before (map f ns) faces now) (take_all k names over) are
 
-nil_behind : (xs : List (List ℕ)) → xs ++ [] ≡ xs
+pub nil_behind : (xs : List (List ℕ)) → xs ++ [] ≡ xs
 nil_behind [] = refl
 nil_behind (x ∷ xs) = ap (λ rest. x ∷ rest) (nil_behind xs)
 

@@ -2,22 +2,22 @@
 use Rattle.std.proofs.Common.{◌≡◌, ◌∙◌, ℕ, zero, suc, ◌+◌, ◌-◌, ◌<◌, ◌≤◌, List, [], ◌∷◌, ◌++◌, length, map, get_or, Some, None, refl, sym, ap, arith}
 use Rattle.std.proofs.lemmas.List.{get_or_past}
 use Rattle.std.specs.Prelude.{slice_get}
+use Rattle.bl_tree.proofs.Basics.{get_behind}
 use Rattle.bl_types.specs.declared.environment.Constant.{Constant}
 use Rattle.bl_module_laws.proofs.Globals.{HasAt}
-use Rattle.bl_module_laws.proofs.Lists.{got_right}
 
 -- behind other constants the same are found
 pub has_behind : (others xs : List Constant) (ks : List ℕ) (zs : List Constant) → HasAt xs ks zs → HasAt (others ++ xs) (map (λ k. length others + k) ks) zs
 has_behind others xs [] [] has = tt
 has_behind others xs [] (z ∷ zs) has = has
 has_behind others xs (k ∷ ks) [] has = has
-has_behind others xs (k ∷ ks) (z ∷ zs) has = (got_right others xs k ∙ has.0, has_behind others xs ks zs has.1)
+has_behind others xs (k ∷ ks) (z ∷ zs) has = (get_behind others xs k ∙ has.0, has_behind others xs ks zs has.1)
 
 pub has_among : (others xs : List Constant) (ks : List ℕ) (zs : List Constant) → HasAt (others ++ xs) (map (λ k. length others + k) ks) zs → HasAt xs ks zs
 has_among others xs [] [] has = tt
 has_among others xs [] (z ∷ zs) has = has
 has_among others xs (k ∷ ks) [] has = has
-has_among others xs (k ∷ ks) (z ∷ zs) has = (sym (got_right others xs k) ∙ has.0, has_among others xs ks zs has.1)
+has_among others xs (k ∷ ks) (z ∷ zs) has = (sym (get_behind others xs k) ∙ has.0, has_among others xs ks zs has.1)
 
 -- positions are as many as the constants that are found
 pub as_many : (all : List Constant) (ks : List ℕ) (zs : List Constant) → HasAt all ks zs → length zs ≡ length ks

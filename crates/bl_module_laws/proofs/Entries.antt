@@ -2,6 +2,8 @@
 use Rattle.std.proofs.Common.{◌≡◌, ◌∙◌, Bool, true, false, not, ◌&&◌, List, [], ◌∷◌, ◌++◌, map, Option, Some, None, refl, ap, cond}
 use Rattle.std.specs.Prelude.{◌||◌, if◌then◌else◌, is_none, option_map}
 use Rattle.std.specs.List.{list_all, list_any}
+use Rattle.std.proofs.lemmas.Bool.{and_from}
+use Rattle.bl_tree.proofs.Basics.{and_first, and_second, neither_first, neither_second}
 use Rattle.bl_names_laws_places.specs.Renamed.{Renaming, renamed_type, renamed_type_level, renamed_unit, renamed_var}
 use Rattle.bl_names_tree.specs.declared.item.NamedUnit.{NamedUnit}
 use Rattle.bl_names_tree.specs.declared.item.NamedVar.{NamedVar}
@@ -78,18 +80,6 @@ pub both_nothing : (xs ys : List Failure) → xs ≡ [] → ys ≡ [] → xs ++ 
 both_nothing [] ys first second = second
 both_nothing (x ∷ xs) ys first second = absurd (cc)
 
-both : (a b : Bool) → a ≡ true → b ≡ true → (a && b) ≡ true
-both true b ea eb = eb
-both false b ea eb = ea
-
-left_of : (a b : Bool) → (a && b) ≡ true → a ≡ true
-left_of true b e = refl
-left_of false b e = e
-
-right_of : (a b : Bool) → (a && b) ≡ true → b ≡ true
-right_of true b e = e
-right_of false b e = absurd (cc)
-
 pub stand_from : (seen : Bool) (end : Place) (units : List NamedUnit) → entries seen end units ≡ [] → entries_stand seen units ≡ true
 stand_from seen end [] is = unless_true seen end is
 stand_from seen end (unit ∷ rest) is =
@@ -101,7 +91,7 @@ stand_from seen end (unit ∷ rest) is =
         (if mark then unless (not seen && drives unit) rule.Entry unit.name.place ++ entries true end rest else entries seen end rest) ≡ [] →
         (if mark then (not seen && drives unit) && entries_stand true rest else entries_stand seen rest) ≡ true
     from_mark seen unit end rest marked unmarked true none =
-        both (not seen && drives unit) (entries_stand true rest)
+        and_from (not seen && drives unit) (entries_stand true rest)
         (unless_true (not seen && drives unit) unit.name.place
         (nothing_left (unless (not seen && drives unit) rule.Entry unit.name.place) (entries true end rest) none))
         (marked (nothing_right (unless (not seen && drives unit) rule.Entry unit.name.place) (entries true end rest) none))
@@ -118,8 +108,8 @@ stand_to seen end (unit ∷ rest) is = to_mark seen unit end rest (stand_to true
         (if mark then unless (not seen && drives unit) rule.Entry unit.name.place ++ entries true end rest else entries seen end rest) ≡ []
     to_mark seen unit end rest marked unmarked true stand =
         both_nothing (unless (not seen && drives unit) rule.Entry unit.name.place) (entries true end rest)
-        (unless_nil (not seen && drives unit) unit.name.place (left_of (not seen && drives unit) (entries_stand true rest) stand))
-        (marked (right_of (not seen && drives unit) (entries_stand true rest) stand))
+        (unless_nil (not seen && drives unit) unit.name.place (and_first (not seen && drives unit) (entries_stand true rest) stand))
+        (marked (and_second (not seen && drives unit) (entries_stand true rest) stand))
     to_mark seen unit end rest marked unmarked false stand = unmarked stand
 
 -- ---- changed units
@@ -135,22 +125,14 @@ stand_renamed by seen (unit ∷ rest) =
 abbrev pub has_mark : NamedUnit → Bool
 has_mark unit = unit.entry
 
-first_unmarked : (a b : Bool) → (a || b) ≡ false → a ≡ false
-first_unmarked true b is = absurd (cc)
-first_unmarked false b is = refl
-
-rest_unmarked : (a b : Bool) → (a || b) ≡ false → b ≡ false
-rest_unmarked true b is = absurd (cc)
-rest_unmarked false b is = is
-
 pub stand_behind : (seen : Bool) (before units : List NamedUnit) → list_any has_mark before ≡ false →
     entries_stand seen (before ++ units) ≡ entries_stand seen units
 stand_behind seen [] units none = refl
 stand_behind seen (unit ∷ before) units none =
     ap
     (λ mark. if mark then (not seen && drives unit) && entries_stand true (before ++ units) else entries_stand seen (before ++ units))
-    (first_unmarked unit.entry (list_any has_mark before) none)
-    ∙ stand_behind seen before units (rest_unmarked unit.entry (list_any has_mark before) none)
+    (neither_first unit.entry (list_any has_mark before) none)
+    ∙ stand_behind seen before units (neither_second unit.entry (list_any has_mark before) none)
 
 -- behind a mark there is no other
 pub unmarked_behind : (units : List NamedUnit) → entries_stand true units ≡ true → list_any has_mark units ≡ false
@@ -166,14 +148,14 @@ pub stand_unmarked : (units : List NamedUnit) → list_any has_mark units ≡ fa
 stand_unmarked [] none = refl
 stand_unmarked (unit ∷ rest) none =
     ap (λ mark. if mark then false && entries_stand true rest else entries_stand true rest)
-    (first_unmarked unit.entry (list_any has_mark rest) none)
-    ∙ stand_unmarked rest (rest_unmarked unit.entry (list_any has_mark rest) none)
+    (neither_first unit.entry (list_any has_mark rest) none)
+    ∙ stand_unmarked rest (neither_second unit.entry (list_any has_mark rest) none)
 
 pub unmarked_both : (one two : List NamedUnit) → list_any has_mark one ≡ false → list_any has_mark two ≡ false → list_any has_mark (one ++ two) ≡ false
 unmarked_both [] two first second = second
 unmarked_both (unit ∷ one) two first second =
-    ap (λ mark. mark || list_any has_mark (one ++ two)) (first_unmarked unit.entry (list_any has_mark one) first)
-    ∙ unmarked_both one two (rest_unmarked unit.entry (list_any has_mark one) first) second
+    ap (λ mark. mark || list_any has_mark (one ++ two)) (neither_first unit.entry (list_any has_mark one) first)
+    ∙ unmarked_both one two (neither_second unit.entry (list_any has_mark one) first) second
 
 pub unmarked_renamed : (by : Renaming) (units : List NamedUnit) → list_any has_mark (map (renamed_unit by) units) ≡ list_any has_mark units
 unmarked_renamed by [] = refl

@@ -3,6 +3,7 @@ use Rattle.std.proofs.Common.{◌≡◌, ◌∙◌, ℕ, ◌+◌, List, [], ◌�
 use Rattle.std.proofs.lemmas.List.{append-nil, append_assoc, length-append}
 use Rattle.std.specs.List.{cons_option}
 use Rattle.std.specs.Prelude.{slice_get, ⊤}
+use Rattle.bl_tree.proofs.Basics.{get_behind, get_in_front}
 use Rattle.bl_names.specs.Named.{along, blank_constant, blank_struct, blank_unit, blanks, constants_of, named_behind, structs_of, units_of}
 use Rattle.bl_names.specs.Order.{kind_of_item, order_of}
 use Rattle.bl_names_laws_files.specs.Globals.{DeclareItems, declared_constants, global_positions, own_position}
@@ -20,7 +21,6 @@ use Rattle.bl_types.specs.declared.environment.Environment.{Environment}
 use Rattle.bl_types.specs.Programs.{after_item, after_items, global_at, globals_of}
 use Rattle.bl_types_laws.specs.Within.{known_in}
 use Rattle.bl_types_laws_places_units.specs.Laws.{KnownAfter}
-use Rattle.bl_module_laws.proofs.Lists.{got_left, got_right}
 use Rattle.bl_module_laws.proofs.Parts.{NameLaws, TypeLaws}
 
 -- what a list has at positions
@@ -159,7 +159,7 @@ module _ (names : NameLaws) (types : TypeLaws) where
         let none : length env.constants ≡ length env.constants + 0 = omega arith in
         ap (λ them. slice_get them (length env.constants)) known_after.has_constants
         ∙ ap (slice_get (env.constants ++ known_after.constants)) none
-        ∙ got_right env.constants known_after.constants 0
+        ∙ get_behind env.constants known_after.constants 0
         ∙ ap (λ them. slice_get them 0) only.1 in
         subst (λ found. HasAt all (length env.constants ∷ ks) (cons_option found [] ++ xs)) (sym at)
         (stays (length env.constants) only.0 at, has)
@@ -177,6 +177,6 @@ module _ (names : NameLaws) (types : TypeLaws) where
         let grown = items_known (before ++ one ∷ []) items [] end next after_counts in
         let final : List Constant = (after_items N (order_of items) next).env.constants in
         global_there before one items is env counts final
-        (λ k x there. ap (λ them. slice_get them k) grown.has_constants ∙ got_left next.constants grown.constants k x there)
+        (λ k x there. ap (λ them. slice_get them k) grown.has_constants ∙ get_in_front next.constants grown.constants k x there)
         (global_positions (length env.constants + declared_constants (item_marks one)) items) (globals_of N (order_of items) next)
         (subst (λ n. HasAt final (global_positions n items) (globals_of N (order_of items) next)) (constants_after before one items is env counts) rest)

@@ -2,7 +2,8 @@
 use Rattle.std.proofs.Common.{◌≡◌, ◌∙◌, inl, inr, ⊎_elim, ℕ, zero, ◌≤◌, List, [], ◌∷◌, ◌++◌, refl, ap, sym, subst, arith}
 use Rattle.std.proofs.lemmas.List.{append-nil, append_assoc}
 use Rattle.std.specs.Prelude.{Contains, slice_index}
-use Rattle.bl_cause_trees.specs.Trees.{AreTrees, IsTreeOfUnit, clean, is_peeled, of_function, too_large}
+use Rattle.bl_tree.proofs.Basics.{contains_further as later, contains_none, first_or_further, get_in_front}
+use Rattle.bl_cause_trees.specs.Peeled.{ArePeeled, IsPeeledUnit, clean, of_function, too_large, with_turns}
 use Rattle.bl_limits.specs.Rules.{DeepStruct, DeepVariable, NestingPasses, Passes as LimitsPass}
 use Rattle.bl_limits_laws_places.specs.Laws.{NestingStays}
 use Rattle.bl_limits_measures.proofs.TypeLemmas.{induct}
@@ -15,9 +16,8 @@ use Rattle.bl_tree.specs.declared.tree.StructDef.{StructDef}
 use Rattle.bl_tree.specs.declared.tree.Ty.{Ty, fold-roll-Ty, roll-Ty}
 use Rattle.bl_tree.specs.declared.tree.Ty.TheOpen.{Ty-F}
 use Rattle.bl_tree.specs.declared.tree.Unit.{Unit as UnitDef}
-use Rattle.bl_tree_laws_places.proofs.Lists.{first_or, later, none_there}
 use Rattle.bl_tree_laws_places.specs.Placed.{placed_structs, placed_units}
-use Rattle.bl_module_laws.proofs.Lists.{got_left, index_grows}
+use Rattle.bl_module_laws.proofs.Lists.{index_grows}
 
 -- ---- nesting among more structs
 
@@ -63,23 +63,23 @@ module _ (structs more : List StructDef) where
     position = h.position;
     later = omega arith;
     def = h.def;
-    is_there = got_left structs more h.position h.def h.is_there;
+    is_there = get_in_front structs more h.position h.def h.is_there;
     deep = let grown = index_more h.position in let deep = h.deep in omega (arith, grown, deep);
     at_name = h.at_name;
   }
 
   -- a unit whose variables are those of another among others
   abbrev Shown : List UnitDef → UnitDef → Type 0
-  Shown all unit = (tree : UnitDef) × Contains all tree × (tree.vars ≡ unit.vars)
+  Shown all unit = (other : UnitDef) × Contains all other × (other.vars ≡ unit.vars)
 
   variable_among : (units all : List UnitDef) → ((unit : UnitDef) → Contains units unit → Shown all unit) → (at : Place) →
       DeepVariable structs units at → DeepVariable (structs ++ more) all at
   variable_among units all shown at h =
-      let tree = shown h.unit h.of_program in record {
-        unit = tree.0;
-        of_program = tree.1;
+      let other = shown h.unit h.of_program in record {
+        unit = other.0;
+        of_program = other.1;
         var = h.var;
-        of_unit = subst (λ vars. Contains vars h.var) (sym tree.2) h.of_unit;
+        of_unit = subst (λ vars. Contains vars h.var) (sym other.2) h.of_unit;
         deep = let grown = deeper h.var.ty in let deep = h.deep in omega (arith, grown, deep);
         at_name = h.at_name;
       }
@@ -91,23 +91,23 @@ module _ (structs more : List StructDef) where
       passes rule.Cells at also (⊎_elim (λ deep. inl (struct_among from at deep)) (λ deep. inr (variable_among units all shown at deep)) h.0, h.1)
   nesting_among from units all shown passes _ at also h = absurd h
 
--- ---- trees have the variables of their units
+-- ---- peeled units have the variables of their units
 
-vars_of_tree : (unit tree : UnitDef) → IsTreeOfUnit unit tree → tree.vars ≡ unit.vars
-vars_of_tree unit tree (of_function is) = refl
-vars_of_tree unit tree (clean is) = refl
-vars_of_tree unit tree (too_large is) = refl
-vars_of_tree unit tree (is_peeled is has few) = refl
+vars_of_peeled : (unit peeled_unit : UnitDef) → IsPeeledUnit unit peeled_unit → peeled_unit.vars ≡ unit.vars
+vars_of_peeled unit peeled_unit (of_function is) = refl
+vars_of_peeled unit peeled_unit (clean is) = refl
+vars_of_peeled unit peeled_unit (too_large is) = refl
+vars_of_peeled unit peeled_unit (with_turns is has few) = refl
 
-pub tree_there : (units trees : List UnitDef) → AreTrees units trees → (unit : UnitDef) → Contains units unit →
-    (tree : UnitDef) × Contains trees tree × (tree.vars ≡ unit.vars)
-tree_there [] trees are unit there = absurd (none_there unit there)
-tree_there (u ∷ units) [] are unit there = absurd are
-tree_there (u ∷ units) (tree ∷ trees) are unit there =
+pub peeled_there : (units peeled_units : List UnitDef) → ArePeeled units peeled_units → (unit : UnitDef) → Contains units unit →
+    (peeled_unit : UnitDef) × Contains peeled_units peeled_unit × (peeled_unit.vars ≡ unit.vars)
+peeled_there [] peeled_units are unit there = absurd (contains_none unit there)
+peeled_there (u ∷ units) [] are unit there = absurd are
+peeled_there (u ∷ units) (peeled_unit ∷ peeled_units) are unit there =
     ⊎_elim
-    (λ is. (tree, (zero, omega arith, refl), vars_of_tree u tree are.0 ∙ ap (λ (it : UnitDef). it.vars) is))
-    (λ further. let found = tree_there units trees are.1 unit further in (found.0, later tree trees found.0 found.1, found.2))
-    (first_or u units unit there)
+    (λ is. (peeled_unit, (zero, omega arith, refl), vars_of_peeled u peeled_unit are.0 ∙ ap (λ (it : UnitDef). it.vars) is))
+    (λ further. let found = peeled_there units peeled_units are.1 unit further in (found.0, later peeled_unit peeled_units found.0 found.1, found.2))
+    (first_or_further u units unit there)
 
 -- ---- rule Cells of a whole program
 

@@ -1,11 +1,11 @@
 -- The border behind one file more.
-use Rattle.std.proofs.Common.{◌≡◌, ◌∙◌, ℕ, ◌+◌, ◌-◌, ◌<◌, Bool, false, cond, List, [], ◌∷◌, ◌++◌, length, map, None, refl, sym, ap, subst, inl, inr, arith}
+use Rattle.std.proofs.Common.{◌≡◌, ◌∙◌, ℕ, ◌+◌, ◌-◌, ◌<◌, Bool, false, List, [], ◌∷◌, ◌++◌, length, map, None, refl, sym, ap, subst, inl, inr, arith}
 use Rattle.std.proofs.lemmas.Bool.{cases_lt}
 use Rattle.std.proofs.lemmas.List.{append_assoc, length-append, nil_from_length}
-use Rattle.std.proofs.lemmas.List.Sums.{sum_by-append}
 use Rattle.std.proofs.lemmas.Option.{slice_get_past}
 use Rattle.std.specs.List.{list_any}
 use Rattle.std.specs.Prelude.{slice_get}
+use Rattle.bl_tree.proofs.Basics.{get_behind, get_in_front}
 use Rattle.bl_face.specs.declared.face.Face.{Face}
 use Rattle.bl_joined.specs.Trees.{placed_item}
 use Rattle.bl_module.specs.Faces.{behind_faces}
@@ -14,9 +14,9 @@ use Rattle.bl_module.specs.declared.behind.Behind.{Behind}
 use Rattle.bl_module_laws_faces.specs.Declared.{FaceAdds, face_heading}
 use Rattle.bl_names.specs.Named.{along, units_of}
 use Rattle.bl_names.specs.Order.{order_of}
-use Rattle.bl_names_laws_files.specs.Globals.{DeclareItems, declared_constants, declares_constant, global_positions, name_and_kind, renumber}
+use Rattle.bl_names_laws_files.specs.Globals.{DeclareItems, declared_constants, global_positions, name_and_kind, renumber}
 use Rattle.bl_names_laws_files.specs.Laws.{RenumberedInTurn, declared_globals_with}
-use Rattle.bl_names_scopes.specs.Marks.{Marks, marks_of}
+use Rattle.bl_names_scopes.specs.Marks.{marks_of}
 use Rattle.bl_names_scopes.specs.Scopes.{file_scope, opened_by}
 use Rattle.bl_names_tree.specs.declared.named.Named.{Named}
 use Rattle.bl_parse_tree.specs.declared.item.RawItem.{RawItem}
@@ -34,9 +34,9 @@ use Rattle.bl_module_laws.proofs.Borders.{Border, IsNamedOf, border_counts, chan
 use Rattle.bl_module_laws.proofs.Constants.{as_many, found_at, goes_on, has_among, has_behind, there_is}
 use Rattle.bl_module_laws.proofs.Entries.{has_mark, unmarked_both, unmarked_renamed}
 use Rattle.bl_module_laws.proofs.Globals.{HasAt, globals_there}
-use Rattle.bl_module_laws.proofs.Lists.{got_left, got_right}
 use Rattle.bl_module_laws.proofs.Parts.{NameLaws, TypeLaws, UnitLaws}
 use Rattle.bl_module_laws.proofs.Steps.{NearPasses, alike, front_passes, known_both, named_units, names_far}
+use Rattle.bl_names_laws_files.proofs.Counting.{declared_both}
 
 -- ---- headings
 
@@ -47,9 +47,6 @@ headings_declare (ConstantItem constant ∷ items) = ap (λ them. name_and_kind 
 headings_declare (UnitItem def ∷ items) = ap (λ them. name_and_kind (face_heading (UnitItem def)) ∷ them) (headings_declare items)
 
 -- ---- constants of marks one after another
-
-declared-append : (one two : Marks) → declared_constants (one ++ two) ≡ declared_constants one + declared_constants two
-declared-append one two = sum_by-append (λ mark. cond (declares_constant mark) 1 0) one two
 
 module _ (names : NameLaws) (types : TypeLaws) (named : Named) (front : List RawItem) (f : Place → Place) (raw : Raw) (rest : List RawItem)
     (is : IsNamedOf named (front ++ (map (placed_item f) raw.items ++ rest))) (faces : List Face) (border : Border named front (behind_faces faces))
@@ -128,7 +125,7 @@ module _ (names : NameLaws) (types : TypeLaws) (named : Named) (front : List Raw
       let counted = names.counted file_scope (front ++ own) in
       let size = ap (λ counts. counts.constants) next_known.counts_are in
       let declared = counted.declared in
-      let both = ap declared_constants (names.marks_in_turn front own) ∙ declared-append (marks_of front) (marks_of own) in
+      let both = ap declared_constants (names.marks_in_turn front own) ∙ declared_both (marks_of front) (marks_of own) in
       omega (arith, size, declared, both)
 
   abbrev far_positions : List ℕ
@@ -166,8 +163,8 @@ module _ (names : NameLaws) (types : TypeLaws) (named : Named) (front : List Raw
       let among : k < length (global_positions 0 front) = let count = earlier_count in omega (arith, less, count) in
       ap (slice_get far_next.constants) (R.earlier k among)
       ∙ ap (λ them. slice_get them (renumber front k)) far_constants
-      ∙ got_left far.constants A.constants (renumber front k) found.0 ((border.agree f).constants k ∙ found.1)
-      ∙ sym (got_left behind.constants globals k found.0 found.1)
+      ∙ get_in_front far.constants A.constants (renumber front k) found.0 ((border.agree f).constants k ∙ found.1)
+      ∙ sym (get_in_front behind.constants globals k found.0 found.1)
       ∙ ap (λ them. slice_get them k) (sym next_constants)
 
   -- a constant of this file, or none
@@ -177,7 +174,7 @@ module _ (names : NameLaws) (types : TypeLaws) (named : Named) (front : List Raw
       ap (λ n. slice_get far_next.constants (renumber (front ++ own) (n + i))) earlier_count
       ∙ ap (slice_get far_next.constants) (R.later i)
       ∙ found_at far_next.constants end beyond far_positions globals far_there i
-      ∙ sym (got_right behind.constants globals i)
+      ∙ sym (get_behind behind.constants globals i)
       ∙ ap (λ them. slice_get them (length behind.constants + i)) (sym next_constants)
 
   constants_at : (k : ℕ) → slice_get far_next.constants (renumber (front ++ own) k) ≡ slice_get next.constants k

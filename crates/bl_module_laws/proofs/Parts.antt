@@ -1,25 +1,11 @@
 -- The laws of which these are put together, as one record.
-use Rattle.bl_cause_trees.specs.Laws.{TreesAreThere}
+use Rattle.bl_cause_trees.specs.Laws.{PeeledAreThere}
 use Rattle.bl_cause_trees_laws_places.specs.Laws.{PassingStays as GraphsStay}
 use Rattle.bl_effects_laws_places.specs.Laws.{PassingStays as UnitsStay}
 use Rattle.bl_limits_laws_places.specs.Laws.{NestingStays}
-use Rattle.bl_names_laws_files.specs.Laws.{
-  BlanksAreCounted,
-  DeclaredInTurn,
-  DeclaredPlaced,
-  FileNamed,
-  GivenInTurn,
-  GlobalsAreCounted,
-  GlobalsMove,
-  GlobalsPlaced,
-  HeadingsOpen,
-  ItemsAreCounted,
-  ItemsArePlaced,
-  MarksInTurn,
-  PassingInTurn,
-  RenumberInTurn,
-  ScopesInTurn,
-}
+use Rattle.bl_names_laws_files.specs.Laws.{BlanksAreCounted, DeclaredInTurn, DeclaredPlaced, FileNamed, GivenInTurn, GlobalsAreCounted, GlobalsMove}
+use Rattle.bl_names_laws_files.specs.Laws.{GlobalsPlaced, HeadingsOpen, ItemsAreCounted, ItemsArePlaced, MarksInTurn, PassingInTurn, RenumberInTurn}
+use Rattle.bl_names_laws_files.specs.Laws.{ScopesInTurn}
 use Rattle.bl_names_scopes_laws_places.specs.Laws.{MarksMove, PassingAgrees}
 use Rattle.bl_types_laws_places_units.specs.Laws.{ItemsAgree, ItemsAreKnown, ItemsFollow}
 
@@ -54,4 +40,4 @@ pub record UnitLaws : Type 0 where
   pub units : UnitsStay
   pub graphs : GraphsStay
   pub nesting : NestingStays
-  pub trees : TreesAreThere
+  pub peeled : PeeledAreThere

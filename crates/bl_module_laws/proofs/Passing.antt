@@ -1,27 +1,14 @@
 -- What passes of a tree behind faces, layer by layer, and of all items together.
 use Rattle.std.proofs.Common.{◌≡◌, ◌∙◌, ℕ, Bool, true, false, not, List, [], ◌∷◌, ◌++◌, length, refl, sym, subst, inl, inr, arith}
 use Rattle.std.specs.Prelude.{Contains}
-use Rattle.bl_cause_trees.specs.Trees.{AreTrees}
+use Rattle.bl_tree.proofs.Basics.{contains_none}
+use Rattle.bl_cause_trees.specs.Peeled.{ArePeeled}
 use Rattle.bl_effects.specs.Rules.{Passes as UnitsPass}
 use Rattle.bl_limits.specs.Rules.{Fails as LimitsFail, NestingPasses, Passes as LimitsPass}
 use Rattle.bl_module.specs.Faces.{behind_faces}
 use Rattle.bl_module.specs.Parts.{IsGoodBehind}
-use Rattle.bl_module.specs.Rules.{
-  TreePasses as TreePassesBehind,
-  here,
-  in_bytes,
-  in_graphs,
-  in_names,
-  in_nesting,
-  in_own,
-  in_tree,
-  in_types,
-  in_units,
-  known_at,
-  known_in as known_in_tree,
-  named_in,
-  own_units,
-}
+use Rattle.bl_module.specs.Rules.{TreePasses as TreePassesBehind, here, in_bytes, in_graphs, in_names, in_nesting, in_own, in_tree, in_types, in_units}
+use Rattle.bl_module.specs.Rules.{known_at, known_in as known_in_tree, named_in, own_units}
 use Rattle.bl_module.specs.declared.behind.Behind.{Behind}
 use Rattle.bl_module.specs.declared.taken.Taken.TheVariants.{AsLast}
 use Rattle.bl_face.specs.declared.face.Face.{Face}
@@ -43,7 +30,6 @@ use Rattle.bl_tree.specs.declared.rule.Rule.TheVariants as rule
 use Rattle.bl_tree.specs.declared.tree.StructDef.{StructDef}
 use Rattle.bl_tree.specs.declared.tree.Unit.{Unit as UnitDef}
 use Rattle.bl_tree.specs.Rules.{FailsAmong, Passes as NoneOf, further_places}
-use Rattle.bl_tree_laws_places.proofs.Lists.{none_there}
 use Rattle.bl_types.specs.Programs.{after_items, failures_behind, fresh, text_end}
 use Rattle.bl_types.specs.Rules.{PassesBehind as TypesPass}
 use Rattle.bl_types.specs.Units.{entries}
@@ -62,7 +48,7 @@ none_among (failure ∷ rest) passes =
     (record { failure = failure; is_there = (0, omega arith, refl); of_rule = refl; at_place = refl; further = refl }))
 
 among_none : (failures : List Failure) → failures ≡ [] → NoneOf (FailsAmong failures)
-among_none failures none of at also fails = none_there fails.failure (subst (λ them. Contains them fails.failure) none fails.is_there)
+among_none failures none of at also fails = contains_none fails.failure (subst (λ them. Contains them fails.failure) none fails.is_there)
 
 -- ---- a tree behind faces
 
@@ -129,11 +115,11 @@ pub record ItemsPass (named : Named) (all : List RawItem) : Type 0 where
   pub front : FrontPasses named all
   pub entry : entries_stand false (along units_of file_scope all) ≡ true
 
-limit_is : (structs : List StructDef) (trees : List UnitDef) (entry : ℕ) (of : Rule) (at : Place) (also : List Place) →
-    LimitsFail structs trees entry of at also → IsLimit of
-limit_is structs trees entry rule.Frames at also fails = inl refl
-limit_is structs trees entry rule.Cells at also fails = inr refl
-limit_is structs trees entry _ at also fails = absurd fails
+limit_is : (structs : List StructDef) (peeled_units : List UnitDef) (entry : ℕ) (of : Rule) (at : Place) (also : List Place) →
+    LimitsFail structs peeled_units entry of at also → IsLimit of
+limit_is structs peeled_units entry rule.Frames at also fails = inl refl
+limit_is structs peeled_units entry rule.Cells at also fails = inr refl
+limit_is structs peeled_units entry _ at also fails = absurd fails
 
 module _ (raw : Raw) where
   abbrev items_fail : List Failure
@@ -150,8 +136,8 @@ module _ (raw : Raw) where
       (stand_to false end (along units_of file_scope raw.items) all.entry)) of at also fails)
   limits_alone all of at also (whole.in_program names types (whole.in_units fails)) = absurd (all.front.units of at also fails)
   limits_alone all of at also (whole.in_program names types (whole.in_graphs units fails)) = absurd (all.front.graphs of at also fails)
-  limits_alone all of at also (whole.in_program names types (whole.in_limits trees units graphs are fails)) =
-      limit_is (typed_of raw).structs trees (typed_of raw).entry of at also fails
+  limits_alone all of at also (whole.in_program names types (whole.in_limits peeled_units units graphs are fails)) =
+      limit_is (typed_of raw).structs peeled_units (typed_of raw).entry of at also fails
 
   pub from_whole : TreePasses raw → ItemsPass (named_of raw) raw.items
   from_whole passes =
@@ -171,10 +157,10 @@ module _ (raw : Raw) where
             (nothing_right items_fail (entries false end (along units_of file_scope raw.items)) none);
       }
 
-  -- neither Frames nor Cells fails on trees of the units
-  pub limits_pass : TreePasses raw → (trees : List UnitDef) → AreTrees (typed_of raw).units trees →
-      LimitsPass (typed_of raw).structs trees (typed_of raw).entry
-  limits_pass passes trees are of at also fails =
+  -- neither Frames nor Cells fails on peeled units of the units
+  pub limits_pass : TreePasses raw → (peeled_units : List UnitDef) → ArePeeled (typed_of raw).units peeled_units →
+      LimitsPass (typed_of raw).structs peeled_units (typed_of raw).entry
+  limits_pass passes peeled_units are of at also fails =
       let all = from_whole passes in
       let types : TypesPass true fresh (named_of raw) = λ r p a f. passes r p a (whole.in_types all.front.names f) in
-      passes of at also (whole.in_program all.front.names types (whole.in_limits trees all.front.units all.front.graphs are fails))
+      passes of at also (whole.in_program all.front.names types (whole.in_limits peeled_units all.front.units all.front.graphs are fails))

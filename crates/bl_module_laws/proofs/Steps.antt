@@ -1,5 +1,5 @@
 -- One file more: it is judged behind faces as among the items of all files.
-use Rattle.std.proofs.Common.{◌≡◌, ◌∙◌, Bool, true, not, List, [], ◌∷◌, ◌++◌, length, map, drop, refl, sym, ap, subst}
+use Rattle.std.proofs.Common.{◌≡◌, ◌∙◌, Bool, true, not, List, [], ◌∷◌, ◌++◌, length, map, drop, sym, ap, subst}
 use Rattle.std.proofs.Math.Seq.{drop-append_seam}
 use Rattle.std.proofs.lemmas.List.{append-nil, map-append}
 use Rattle.std.specs.Prelude.{Some}
@@ -20,7 +20,6 @@ use Rattle.bl_names_tree.specs.declared.named.Named.{Named}
 use Rattle.bl_names_tree.specs.Placed.{in_turn, item_step}
 use Rattle.bl_joined.specs.Trees.{placed_item}
 use Rattle.bl_parse_tree.specs.declared.item.RawItem.{RawItem}
-use Rattle.bl_parse_tree.specs.declared.item.RawItem.TheVariants.{Struct, Constant, Unit as UnitItem}
 use Rattle.bl_parse_tree.specs.declared.raw.Raw.{Raw}
 use Rattle.bl_tree.specs.declared.place.Place.{Place}
 use Rattle.bl_tree_laws_places.specs.Laws.{BringsBack}
@@ -36,6 +35,7 @@ use Rattle.bl_module_laws.proofs.Entries.{both_nothing, entries_stand}
 use Rattle.bl_module_laws.proofs.Globals.{items_placed}
 use Rattle.bl_module_laws.proofs.Parts.{NameLaws, TypeLaws, UnitLaws}
 use Rattle.bl_module_laws.proofs.Units.{graphs_both, units_both}
+use Rattle.bl_names_laws_files.proofs.Among.{same_order}
 
 -- no rule from Duplicate to Cycle fails for a tree behind faces
 pub record NearPasses (behind : Behind) (last : Bool) (raw : Raw) : Type 0 where
@@ -46,15 +46,6 @@ pub record NearPasses (behind : Behind) (last : Bool) (raw : Raw) : Type 0 where
   pub graphs : GraphsPass (own_units behind raw)
 
 -- ---- places and the order of items
-
-same_kind : (f : Place → Place) (one : RawItem) → kind_of_item (placed_item f one) ≡ kind_of_item one
-same_kind f (Struct def) = refl
-same_kind f (Constant constant) = refl
-same_kind f (UnitItem unit) = refl
-
-pub order_placed : (f : Place → Place) (items : List RawItem) → order_of (map (placed_item f) items) ≡ order_of items
-order_placed f [] = refl
-order_placed f (one ∷ items) = λ i. same_kind f one i ∷ order_placed f items i
 
 module _ (names : NameLaws) (types : TypeLaws) (named : Named) (front : List RawItem) (f : Place → Place) (raw : Raw) (rest : List RawItem)
     (is : IsNamedOf named (front ++ (map (placed_item f) raw.items ++ rest))) (behind : Behind) (border : Border named front behind) where
@@ -103,7 +94,7 @@ module _ (names : NameLaws) (types : TypeLaws) (named : Named) (front : List Raw
   -- ---- what is known behind the file
 
   order : order_of (front ++ own) ≡ order_of front ++ order_of raw.items
-  order = map-append kind_of_item front own ∙ ap (λ them. order_of front ++ them) (order_placed f raw.items)
+  order = map-append kind_of_item front own ∙ ap (λ them. order_of front ++ them) (same_order f raw.items)
 
   behind_both : after_items named (order_of (front ++ own)) fresh ≡ and_then (after_items named (order_of front) fresh) (after_items named (order_of raw.items))
   behind_both = ap (λ items. after_items named items fresh) order ∙ types.follow named (order_of front) (order_of raw.items) fresh

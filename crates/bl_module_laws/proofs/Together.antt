@@ -2,6 +2,7 @@
 use Rattle.std.proofs.Common.{◌≡◌, ℕ, suc, ◌+◌, List, [], ◌∷◌, ◌++◌, length, refl, inl, inr, arith}
 use Rattle.std.proofs.lemmas.List.Elements.{All-head, All-tail}
 use Rattle.std.specs.Prelude.{All}
+use Rattle.bl_tree.proofs.Basics.{none_plus}
 use Rattle.bl_face.specs.declared.face.Face.{Face}
 use Rattle.bl_module.specs.Faces.{behind_faces}
 use Rattle.bl_module.specs.Rules.{known_at}
@@ -66,9 +67,6 @@ first_border named = record {
 is_named : (raw : Raw) → IsNamedOf (named_of raw) raw.items
 is_named raw = record { structs = refl; constants = refl; units = refl }
 
-from_none : (n : ℕ) → 0 + n ≡ n
-from_none n = omega arith
-
 -- ---- good files
 
 parsed_of : (count : ℕ) (before : List Face) (texts : List (List ℕ)) (faces : List Face) → GoodFrom count before texts faces → AllParsed texts
@@ -84,7 +82,7 @@ module _ (joins : TextLaws) (names : NameLaws) (types : TypeLaws) (units : UnitL
       let parsed = parsed_of (length texts) [] texts faces in_turn in
       limits_alone raw
       (all_pass names types units declares (named_of raw) raw.items (is_named raw) (length texts) [] texts faces in_turn parsed [] 0
-      (joined_tree joins texts parsed raw parses) (from_none (length texts)) some (first_border (named_of raw))) of at also fails
+      (joined_tree joins texts parsed raw parses) (none_plus (length texts)) some (first_border (named_of raw))) of at also fails
 
   -- ---- files that pass together
 
@@ -108,11 +106,11 @@ module _ (joins : TextLaws) (names : NameLaws) (types : TypeLaws) (units : UnitL
 
   whole_passes : (raw : Raw) → TreePasses raw → WholePasses (named_of raw) raw.items
   whole_passes raw passes =
-      let found = units.trees (typed_of raw).units in record {
+      let found = units.peeled (typed_of raw).units in record {
         items = from_whole raw passes;
-        trees = found.trees;
+        peeled_units = found.peeled_units;
         are = found.are;
-        nesting = limits_nesting (typed_of raw).structs found.trees (typed_of raw).entry (limits_pass raw passes found.trees found.are);
+        nesting = limits_nesting (typed_of raw).structs found.peeled_units (typed_of raw).entry (limits_pass raw passes found.peeled_units found.are);
       }
 
   pub passing_files_are_good : AloneLaws → TreeDeclares → TreesHaveFaces → PassingFilesAreGood
@@ -120,6 +118,6 @@ module _ (joins : TextLaws) (names : NameLaws) (types : TypeLaws) (units : UnitL
       let parsed = parsed_alone texts alone in
       let good =
       all_good alone_laws names types units declares have (named_of raw) raw.items (is_named raw) (whole_passes raw passes) (length texts) [] texts parsed
-      (all_alone texts alone) (marked_last texts marks parsed) [] 0 (joined_tree joins texts parsed raw parses) (from_none (length texts)) refl
+      (all_alone texts alone) (marked_last texts marks parsed) [] 0 (joined_tree joins texts parsed raw parses) (none_plus (length texts)) refl
       (first_border (named_of raw)) in
       record { faces = good.faces; good = in_turn_to (length texts) texts good.faces good.good }

@@ -2,15 +2,15 @@
 use Rattle.std.proofs.Common.{List, [], ◌++◌, ⊎_elim}
 use Rattle.std.proofs.lemmas.List.Elements.{Contains-append_cases, Contains-append_left, Contains-append_right}
 use Rattle.std.specs.Prelude.{Contains}
+use Rattle.bl_tree.proofs.Basics.{contains_none}
 use Rattle.bl_cause.specs.Fails.{FailsCycle, FailsTwice}
-use Rattle.bl_cause_trees.specs.Rules.{Fails as GraphsFail, FailsInTree, Passes as GraphsPass}
+use Rattle.bl_cause_trees.specs.Rules.{Fails as GraphsFail, FailsInPeeled, Passes as GraphsPass}
 use Rattle.bl_effects.specs.Rules.{Fails as UnitsFail, FailsAlias, FailsConflict, FailsInstant, FailsPause, Passes as UnitsPass}
 use Rattle.bl_tree.specs.declared.graph.Graph.{Graph}
 use Rattle.bl_tree.specs.declared.place.Place.{Place}
 use Rattle.bl_tree.specs.declared.rule.Rule.{Rule}
 use Rattle.bl_tree.specs.declared.rule.Rule.TheVariants as rule
 use Rattle.bl_tree.specs.declared.tree.Unit.{Unit as UnitDef}
-use Rattle.bl_tree_laws_places.proofs.Lists.{none_there}
 
 -- what fails among some units fails among others that have the same one
 module _ (from to : List UnitDef) (at : Place) (also : List Place) where
@@ -62,16 +62,16 @@ module _ (from to : List UnitDef) (at : Place) (also : List Place) where
     alone = h.alone;
   }
 
-  tree_in : (FailsIn : Graph → Place → List Place → Type 0) (h : FailsInTree FailsIn from at also) → Contains to h.unit →
-      FailsInTree FailsIn to at also
+  tree_in : (FailsIn : Graph → Place → List Place → Type 0) (h : FailsInPeeled FailsIn from at also) → Contains to h.unit →
+      FailsInPeeled FailsIn to at also
   tree_in FailsIn h there = record {
     unit = h.unit;
     is_there = there;
     activity = h.activity;
-    tree = h.tree;
-    is_tree = h.is_tree;
+    peeled_unit = h.peeled_unit;
+    is_peeled = h.is_peeled;
     graph = h.graph;
-    of_tree = h.of_tree;
+    of_peeled = h.of_peeled;
     fails = h.fails;
   }
 
@@ -89,9 +89,9 @@ module _ (from to : List UnitDef) (more : (unit : UnitDef) → Contains from uni
 
   graphs_more : (of : Rule) (at : Place) (also : List Place) → GraphsFail from of at also → GraphsFail to of at also
   graphs_more rule.Twice at also h =
-      let fails : FailsInTree FailsTwice from at also = h in tree_in from to at also FailsTwice fails (more fails.unit fails.is_there)
+      let fails : FailsInPeeled FailsTwice from at also = h in tree_in from to at also FailsTwice fails (more fails.unit fails.is_there)
   graphs_more rule.Cycle at also h =
-      let fails : FailsInTree FailsCycle from at also = h in tree_in from to at also FailsCycle fails (more fails.unit fails.is_there)
+      let fails : FailsInPeeled FailsCycle from at also = h in tree_in from to at also FailsCycle fails (more fails.unit fails.is_there)
   graphs_more _ at also h = absurd h
 
   pub units_fewer : UnitsPass to → UnitsPass from
@@ -140,12 +140,12 @@ module _ (one two : List UnitDef) where
 
   pub graphs_both : GraphsPass one → GraphsPass two → GraphsPass (one ++ two)
   graphs_both first second rule.Twice at also h =
-      let fails : FailsInTree FailsTwice (one ++ two) at also = h in
+      let fails : FailsInPeeled FailsTwice (one ++ two) at also = h in
       ⊎_elim (λ there. first rule.Twice at also (tree_in (one ++ two) one at also FailsTwice fails there))
       (λ there. second rule.Twice at also (tree_in (one ++ two) two at also FailsTwice fails there))
       (Contains-append_cases one two fails.unit fails.is_there)
   graphs_both first second rule.Cycle at also h =
-      let fails : FailsInTree FailsCycle (one ++ two) at also = h in
+      let fails : FailsInPeeled FailsCycle (one ++ two) at also = h in
       ⊎_elim (λ there. first rule.Cycle at also (tree_in (one ++ two) one at also FailsCycle fails there))
       (λ there. second rule.Cycle at also (tree_in (one ++ two) two at also FailsCycle fails there))
       (Contains-append_cases one two fails.unit fails.is_there)
@@ -154,13 +154,13 @@ module _ (one two : List UnitDef) where
 -- ---- no units
 
 pub units_none : UnitsPass []
-units_none rule.Pause at also h = let fails : FailsPause [] at also = h in none_there fails.unit fails.is_there
-units_none rule.Conflict at also h = let fails : FailsConflict [] at also = h in none_there fails.unit fails.is_there
-units_none rule.Alias at also h = let fails : FailsAlias [] at also = h in none_there fails.unit fails.is_there
-units_none rule.Instant at also h = let fails : FailsInstant [] at also = h in none_there fails.unit fails.is_there
+units_none rule.Pause at also h = let fails : FailsPause [] at also = h in contains_none fails.unit fails.is_there
+units_none rule.Conflict at also h = let fails : FailsConflict [] at also = h in contains_none fails.unit fails.is_there
+units_none rule.Alias at also h = let fails : FailsAlias [] at also = h in contains_none fails.unit fails.is_there
+units_none rule.Instant at also h = let fails : FailsInstant [] at also = h in contains_none fails.unit fails.is_there
 units_none _ at also h = absurd h
 
 pub graphs_none : GraphsPass []
-graphs_none rule.Twice at also h = let fails : FailsInTree FailsTwice [] at also = h in none_there fails.unit fails.is_there
-graphs_none rule.Cycle at also h = let fails : FailsInTree FailsCycle [] at also = h in none_there fails.unit fails.is_there
+graphs_none rule.Twice at also h = let fails : FailsInPeeled FailsTwice [] at also = h in contains_none fails.unit fails.is_there
+graphs_none rule.Cycle at also h = let fails : FailsInPeeled FailsCycle [] at also = h in contains_none fails.unit fails.is_there
 graphs_none _ at also h = absurd h

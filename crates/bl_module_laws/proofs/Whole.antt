@@ -4,8 +4,9 @@ use Rattle.std.proofs.lemmas.List.{append_assoc, map-append}
 use Rattle.std.proofs.lemmas.List.Elements.{Contains-append_left, Contains-append_right}
 use Rattle.std.specs.Prelude.{Contains}
 use Rattle.std.specs.List.{list_any}
+use Rattle.bl_tree.proofs.Basics.{neither_first, neither_second}
 use Rattle.bl_cause_trees.specs.Rules.{Passes as GraphsPass}
-use Rattle.bl_cause_trees.specs.Trees.{AreTrees}
+use Rattle.bl_cause_trees.specs.Peeled.{ArePeeled}
 use Rattle.bl_effects.specs.Rules.{Passes as UnitsPass}
 use Rattle.bl_joined.specs.Trees.{placed_item}
 use Rattle.bl_limits.specs.Rules.{NestingPasses}
@@ -33,21 +34,13 @@ use Rattle.bl_types_laws_places.specs.Agree.{placed_failures, unplaced}
 use Rattle.bl_types_laws_places_units.specs.Laws.{ItemsAlike, KnownAfter}
 use Rattle.bl_module_laws.proofs.Borders.{Border, FrontPasses, IsNamedOf, changed, known_behind_items, rest_known}
 use Rattle.bl_module_laws.proofs.Entries.{entries_stand, has_mark, nothing_left, nothing_right}
-use Rattle.bl_module_laws.proofs.Nesting.{nesting_alike, nesting_among, tree_there}
+use Rattle.bl_module_laws.proofs.Nesting.{nesting_alike, nesting_among, peeled_there}
 use Rattle.bl_module_laws.proofs.Parts.{NameLaws, TypeLaws, UnitLaws}
 use Rattle.bl_module_laws.proofs.Passing.{ItemsPass, to_tree}
 use Rattle.bl_module_laws.proofs.Steps.{NearPasses, alike, failures_both, far_units, known_both, names_near}
 use Rattle.bl_module_laws.proofs.Units.{graphs_left, graphs_right, units_left, units_right}
 
 -- ---- marks of raw items
-
-first_unmarked : (a b : Bool) → (a || b) ≡ false → a ≡ false
-first_unmarked true b is = absurd (cc)
-first_unmarked false b is = refl
-
-rest_unmarked : (a b : Bool) → (a || b) ≡ false → b ≡ false
-rest_unmarked true b is = absurd (cc)
-rest_unmarked false b is = is
 
 -- units of items without marks have none
 pub unmarked_named : (scopes : Scopes) (items : List RawItem) → list_any is_marked items ≡ false → list_any has_mark (along units_of scopes items) ≡ false
@@ -56,8 +49,8 @@ unmarked_named scopes (Struct def ∷ items) none = unmarked_named (after scopes
 unmarked_named scopes (Constant constant ∷ items) none = unmarked_named (after scopes (item_marks (Constant constant))) items none
 unmarked_named scopes (UnitItem unit ∷ items) none =
     ap (λ mark. mark || list_any has_mark (along units_of (after scopes (item_marks (UnitItem unit))) items))
-    (first_unmarked unit.entry (list_any is_marked items) none)
-    ∙ unmarked_named (after scopes (item_marks (UnitItem unit))) items (rest_unmarked unit.entry (list_any is_marked items) none)
+    (neither_first unit.entry (list_any is_marked items) none)
+    ∙ unmarked_named (after scopes (item_marks (UnitItem unit))) items (neither_second unit.entry (list_any is_marked items) none)
 
 -- ---- lists that are mapped to nothing
 
@@ -69,12 +62,12 @@ bare_structs : (f : Place → Place) (structs : List StructDef) → placed_struc
 bare_structs f [] = refl
 bare_structs f (def ∷ structs) = ap (λ them. record { name = def.name; place = unplaced def.place; fields = def.fields } ∷ them) (bare_structs f structs)
 
--- what passes of all items: rules by units, and the nesting of types on trees of units
+-- what passes of all items: rules by units, and the nesting of types on peeled units
 pub record WholePasses (named : Named) (all : List RawItem) : Type 0 where
   pub items : ItemsPass named all
-  pub trees : List UnitDef
-  pub are : AreTrees (known_behind_items named all).units trees
-  pub nesting : NestingPasses 0 (known_behind_items named all).structs trees
+  pub peeled_units : List UnitDef
+  pub are : ArePeeled (known_behind_items named all).units peeled_units
+  pub nesting : NestingPasses 0 (known_behind_items named all).structs peeled_units
 
 module _ (names : NameLaws) (types : TypeLaws) (laws : UnitLaws) (named : Named) (front : List RawItem) (f : Place → Place) (raw : Raw)
     (rest : List RawItem) (is : IsNamedOf named (front ++ (map (placed_item f) raw.items ++ rest))) (behind : Behind)
@@ -150,19 +143,19 @@ module _ (names : NameLaws) (types : TypeLaws) (laws : UnitLaws) (named : Named)
   abbrev structs : List StructDef
   structs = (known_behind_items named (front ++ own)).structs
 
-  -- a unit of the file has a tree with its variables
-  tree_of_own : (unit : UnitDef) → Contains (placed_units f (own_units behind raw)) unit →
-      (tree : UnitDef) × Contains whole.trees tree × (tree.vars ≡ unit.vars)
-  tree_of_own unit there =
-      tree_there (known_behind_items named (front ++ (own ++ rest))).units whole.trees whole.are unit
+  -- a unit of the file has a peeled unit with its variables
+  peeled_of_own : (unit : UnitDef) → Contains (placed_units f (own_units behind raw)) unit →
+      (peeled_unit : UnitDef) × Contains whole.peeled_units peeled_unit × (peeled_unit.vars ≡ unit.vars)
+  peeled_of_own unit there =
+      peeled_there (known_behind_items named (front ++ (own ++ rest))).units whole.peeled_units whole.are unit
       (subst (λ units. Contains units unit) (sym (ap (λ items. (known_behind_items named items).units) same ∙ units_are))
       (Contains-append_left (far.units ++ placed_units f (own_units behind raw)) grown.units unit
       (Contains-append_right far.units (placed_units f (own_units behind raw)) unit there)))
 
   nesting_far : NestingPasses (length behind.structs) structs (placed_units f (own_units behind raw))
   nesting_far =
-      nesting_among structs grown.structs (length behind.structs) (placed_units f (own_units behind raw)) whole.trees tree_of_own
-      (subst (λ them. NestingPasses 0 them whole.trees)
+      nesting_among structs grown.structs (length behind.structs) (placed_units f (own_units behind raw)) whole.peeled_units peeled_of_own
+      (subst (λ them. NestingPasses 0 them whole.peeled_units)
       (ap (λ items. (known_behind_items named items).structs) same ∙ grown.has_structs) whole.nesting)
 
   nesting_near : NestingPasses (length behind.structs) (known_in_tree behind raw).structs (own_units behind raw)

@@ -2,7 +2,7 @@
 
 ghost use Rattle.bl_module_laws.specs.Laws.{GoodFilesPass, PassingFilesAreGood};
 
-use bl_cause_trees::laws::units_have_one_list_of_trees;
+use bl_cause_trees::laws::units_are_peeled_in_one_way;
 use bl_cause_trees_laws_places::rules as graph_rules;
 use bl_effects_laws_places::rules as unit_rules;
 use bl_joined_laws::items::{joined_tokens_pass, joined_tokens_spell_joined_items};
@@ -49,7 +49,7 @@ pub fn files_are_the_whole()
     unit_rules::failures_move();
     graph_rules::failures_move();
     nesting_moves();
-    units_have_one_list_of_trees();
+    units_are_peeled_in_one_way();
     faces_declare();
     trees_have_faces();
 }

@@ -1,9 +1,9 @@
 -- What a walk over the items of a face is to show.
-use Rattle.std.proofs.Common.{◌≡◌, ℕ, ◌+◌, ◌≤◌, true, List, [], ◌∷◌, ◌++◌, length, map, Some, None, refl, sym, ap, subst, ◌∙◌, append_assoc}
+use Rattle.std.proofs.Common.{◌≡◌, ℕ, ◌+◌, ◌≤◌, true, List, [], ◌∷◌, ◌++◌, length, map, Some, None, sym, ap, subst, ◌∙◌, append_assoc}
 use Rattle.std.specs.Prelude.{nat_le, slice_get, slice_index}
 use Rattle.std.specs.List.{list_all}
 use Rattle.std.proofs.lemmas.List.{length-append, length-map, map-append}
-use Rattle.bl_eval.proofs.PassLemmas.{both}
+use Rattle.std.proofs.lemmas.Bool.{and_from}
 use Rattle.bl_face.specs.declared.item.FaceItem.{FaceItem}
 use Rattle.bl_limits_measures.specs.Types.{nesting_by, struct_nestings}
 use Rattle.bl_module.specs.Behind.{after_item as walk_on, after_items as walk_over, item_stands, items_stand}
@@ -39,10 +39,6 @@ next_at env walk = record { structs = length env.structs; constants = length wal
 
 pub same_long : {A B : Type 0} (f : A → B) (xs ys : List A) → map f xs ≡ map f ys → length xs ≡ length ys
 same_long f xs ys same = sym (length-map xs f) ∙ ap length same ∙ length-map ys f
-
-pub get_behind : {A : Type 0} (xs : List A) (x : A) (rest : List A) → slice_get (xs ++ x ∷ rest) (length xs) ≡ Some x
-get_behind [] x rest = refl
-get_behind (y ∷ xs) x rest = get_behind xs x rest
 
 pub one_behind : {A : Type 0} (xs : List A) (x : A) → length xs + 1 ≡ length (xs ++ x ∷ [])
 one_behind xs x = sym (length-append xs (x ∷ []))
@@ -89,7 +85,7 @@ module _ (named : Named) (known : Known) (from_structs from_units : ℕ) where
       (walk_on walk first).behind.headings ≡ walk.behind.headings ++ face_heading one ∷ [] → Adds items (walk_on walk first) rest →
       Adds (one ∷ items) walk (first ∷ rest)
   adds_first one items walk first rest stands heading adds = record {
-    stand = both (item_stands walk.names first) (items_stand (walk_on walk first) rest) stands adds.stand;
+    stand = and_from (item_stands walk.names first) (items_stand (walk_on walk first) rest) stands adds.stand;
     headings = adds.headings ∙ ap (λ l. l ++ map face_heading items) heading
         ∙ append_assoc walk.behind.headings (face_heading one ∷ []) (map face_heading items);
     structs = adds.structs;

@@ -2,7 +2,8 @@
 use Rattle.std.proofs.Common.{◌≡◌, ℕ, ◌+◌, true, false, List, [], ◌∷◌, ◌++◌, length, Some, None, refl, sym, ap, subst, ◌∙◌, append_assoc, arith}
 use Rattle.std.specs.Prelude.{Bool, slice_get}
 use Rattle.std.specs.List.{cons_option}
-use Rattle.bl_eval.proofs.PassLemmas.{both}
+use Rattle.std.proofs.lemmas.Bool.{and_from}
+use Rattle.bl_tree.proofs.Basics.{first_empty, get_seam, second_empty}
 use Rattle.bl_face.specs.declared.item.FaceItem.{FaceItem}
 use Rattle.bl_face.specs.declared.item.FaceItem.TheVariants as shows
 use Rattle.bl_limits_measures.specs.Types.{struct_nestings}
@@ -32,9 +33,8 @@ use Rattle.bl_types.specs.declared.environment.Environment.{Environment}
 use Rattle.bl_types.specs.declared.environment.Known.{Known}
 use Rattle.bl_types.specs.Declarations.{Declaring, after_constant, constant_of, initial}
 use Rattle.bl_types.specs.Programs.{after_items, globals_of}
-use Rattle.bl_types_laws.proofs.Forms.{nil_left, nil_right}
 use Rattle.bl_types_laws.specs.Within.{ConstantStands}
-use Rattle.bl_module_laws_faces.proofs.Adding.{Adding, Adds, Agrees, absent_behind, adds_first, by_first, get_behind, next_at, one_behind}
+use Rattle.bl_module_laws_faces.proofs.Adding.{Adding, Adds, Agrees, absent_behind, adds_first, by_first, next_at, one_behind}
 use Rattle.bl_names_tree.specs.declared.item.NamedConstant.{NamedConstant}
 use Rattle.bl_names_scopes.specs.Marks.{constant_marks}
 
@@ -70,18 +70,18 @@ module _ (named : Named) (known : Known) (from_structs from_units : ℕ) (def : 
 
   module _ (none : first.failures ≡ []) (others : List KnownConstant) (front : known.globals ≡ walk.behind.constants ++ (c ∷ [] ++ others)) where
     fit : ConstantStands c
-    fit = (here_constant named def items scopes env here none).at.between.known.constants (length env.constants) c (get_behind env.constants c [])
+    fit = (here_constant named def items scopes env here none).at.between.known.constants (length env.constants) c (get_seam env.constants c [])
 
     abbrev shows_constant : FaceItem
     shows_constant = shows.Constant def.name.text fit.ty c.value
 
     stands : item_stands walk.names shows_constant ≡ true
-    stands = both (is_new walk.names def.name.text) (in_range fit.ty c.value)
+    stands = and_from (is_new walk.names def.name.text) (in_range fit.ty c.value)
         (new_alike def.name.text scopes.inner walk.names agrees.names.texts absent) fit.is_number
 
     is_shown : constant_item def.name (slice_get known.globals (length walk.behind.constants)) ≡ shows_constant ∷ []
     is_shown =
-        ap (constant_item def.name) (ap (λ constants. slice_get constants (length walk.behind.constants)) front ∙ get_behind walk.behind.constants c others)
+        ap (constant_item def.name) (ap (λ constants. slice_get constants (length walk.behind.constants)) front ∙ get_seam walk.behind.constants c others)
         ∙ ap (λ ty. typed_constant def.name.text ty c.value) fit.is_typed
 
     abbrev next : Walk
@@ -123,10 +123,10 @@ module _ (named : Named) (known : Known) (from_structs from_units : ℕ) where
       let others : List KnownConstant = globals_of named (order_of items) first.env in
       by_first named known from_structs from_units (item.Constant def) items env walk first (constant_chosen named def items scopes env here)
       (λ none structs units globals.
-      let one = nil_left first.failures (after_items named (order_of items) first.env).failures none in
-      let more = nil_right first.failures (after_items named (order_of items) first.env).failures none in
+      let one = first_empty first.failures (after_items named (order_of items) first.env).failures none in
+      let more = second_empty first.failures (after_items named (order_of items) first.env).failures none in
       let front : known.globals ≡ walk.behind.constants ++ (c ∷ [] ++ others) =
-      globals ∙ ap (λ found. walk.behind.constants ++ (cons_option found [] ++ others)) (get_behind env.constants c []) in
+      globals ∙ ap (λ found. walk.behind.constants ++ (cons_option found [] ++ others)) (get_seam env.constants c []) in
       let it : FaceItem =
       shows.Constant def.name.text (fit named known from_structs from_units def items scopes env walk here agrees one others front).ty c.value in
       subst (Adds named known from_structs from_units (item.Constant def ∷ items) walk)

@@ -4,26 +4,17 @@ use Rattle.std.specs.Prelude.{Bool, ◌&&◌, nat_le, slice_get, slice_index}
 use Rattle.std.specs.List.{list_all}
 use Rattle.std.proofs.lemmas.Bool.{ltb-true}
 use Rattle.std.proofs.lemmas.List.{get_or-take}
-use Rattle.bl_eval.proofs.PassLemmas.{and_left, and_right}
+use Rattle.bl_tree.proofs.Basics.{and_first, and_second}
 use Rattle.bl_limits_measures.proofs.TableLemmas.{answer_at}
 use Rattle.bl_limits_measures.proofs.TypeLemmas.{induct}
-use Rattle.bl_limits_measures.specs.Types.{fields_nesting, level_nesting, nesting_by, struct_nestings}
-use Rattle.bl_tree.specs.declared.scalar.Scalar.{Scalar as ScalarType}
+use Rattle.bl_limits_measures.specs.Types.{fields_nesting, nesting_by, struct_nestings}
 use Rattle.bl_tree.specs.declared.tree.Field.{Field}
 use Rattle.bl_tree.specs.declared.tree.StructDef.{StructDef}
 use Rattle.bl_tree.specs.declared.tree.Ty.{Ty, fold-roll-Ty, roll-Ty}
 use Rattle.bl_tree.specs.declared.tree.Ty.TheOpen.{Ty-F}
 use Rattle.bl_tree.specs.Reduce.{greatest}
 use Rattle.bl_tree.specs.Types.{type_stands, type_stands_level}
-
-pub nesting_scalar : (known : List ℕ) (s : ScalarType) → nesting_by known (roll-Ty (Ty-F.Scalar s)) ≡ 0
-nesting_scalar known s = fold-roll-Ty ℕ (level_nesting known) (Ty-F.Scalar s)
-
-pub nesting_struct : (known : List ℕ) (k : ℕ) → nesting_by known (roll-Ty (Ty-F.Struct k)) ≡ slice_index known k
-nesting_struct known k = fold-roll-Ty ℕ (level_nesting known) (Ty-F.Struct k)
-
-pub nesting_array : (known : List ℕ) (n : ℕ) (element : Ty) → nesting_by known (roll-Ty (Ty-F.Array n element)) ≡ 1 + nesting_by known element
-nesting_array known n element = fold-roll-Ty ℕ (level_nesting known) (Ty-F.Array n element)
+use Rattle.bl_limits_measures.proofs.TypeLemmas.{nesting_array, nesting_scalar, nesting_struct}
 
 stands_struct : (n k : ℕ) → type_stands n (roll-Ty (Ty-F.Struct k)) ≡ nat_lt k n
 stands_struct n k = fold-roll-Ty Bool (type_stands_level n) (Ty-F.Struct k)
@@ -43,15 +34,15 @@ first_nesting known n =
     (λ length element inner stands.
     let both = sym (stands_array n length element) ∙ stands in
     nesting_array (take n known) length element
-    ∙ ap (λ m. 1 + m) (inner (and_right (nat_le 1 length && nat_le length 65536) (type_stands n element) both))
+    ∙ ap (λ m. 1 + m) (inner (and_second (nat_le 1 length && nat_le length 65536) (type_stands n element) both))
     ∙ sym (nesting_array known length element))
 
 first_nestings : (known : List ℕ) (n : ℕ) (fields : List Field) → list_all (λ (field : Field). type_stands n field.ty) fields ≡ true →
     map (λ (field : Field). nesting_by (take n known) field.ty) fields ≡ map (λ (field : Field). nesting_by known field.ty) fields
 first_nestings known n [] stand = refl
 first_nestings known n (field ∷ fields) stand = λ i.
-    first_nesting known n field.ty (and_left (type_stands n field.ty) (list_all (λ (field : Field). type_stands n field.ty) fields) stand) i
-    ∷ first_nestings known n fields (and_right (type_stands n field.ty) (list_all (λ (field : Field). type_stands n field.ty) fields) stand) i
+    first_nesting known n field.ty (and_first (type_stands n field.ty) (list_all (λ (field : Field). type_stands n field.ty) fields) stand) i
+    ∷ first_nestings known n fields (and_second (type_stands n field.ty) (list_all (λ (field : Field). type_stands n field.ty) fields) stand) i
 
 -- a struct is nested one deeper than its fields, as all structs are known
 pub depth_at : (structs : List StructDef) (k : ℕ) (def : StructDef) → slice_get structs k ≡ Some def →

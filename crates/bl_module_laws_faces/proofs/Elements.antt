@@ -4,22 +4,13 @@ use Rattle.std.specs.Prelude.{Bool, ◌&&◌, max, nat_le, slice_get, Some, None
 use Rattle.std.proofs.lemmas.List.{length-append}
 use Rattle.std.specs.List.{list_all}
 use Rattle.std.proofs.lemmas.Bool.{le-leb, leb-true}
-use Rattle.bl_eval.proofs.PassLemmas.{and_left, and_right, both}
+use Rattle.std.proofs.lemmas.Bool.{and_from}
+use Rattle.bl_tree.proofs.Basics.{and_first, and_second}
 use Rattle.bl_face.specs.declared.item.FaceField.{FaceField}
 use Rattle.bl_face.specs.declared.item.FaceType.{FaceType}
 use Rattle.bl_limits_measures.specs.Types.{nesting_by}
-use Rattle.bl_module.specs.Behind.{
-  base_stands,
-  fields_depth,
-  is_length,
-  outside_text,
-  resolved_field,
-  resolved_param,
-  resolved_type,
-  type_depth,
-  type_stands,
-  types_stand,
-}
+use Rattle.bl_module.specs.Behind.{base_stands, fields_depth, is_length, outside_text, resolved_field, resolved_param, resolved_type, type_depth, type_stands}
+use Rattle.bl_module.specs.Behind.{types_stand}
 use Rattle.bl_module.specs.declared.names.Referent.TheVariants as referent
 use Rattle.bl_module.specs.Names.{DeclaredNames, are_new, is_new, with_fields, with_name}
 use Rattle.bl_module.specs.Own.{base_of, face_type, field_type, fields_known_from, lengths_of, params_known_from, var_type}
@@ -86,7 +77,7 @@ get_next [] rest x k is = ap (slice_get (x ∷ rest)) (sym is)
 get_next (y ∷ before) rest x zero is = absurd (omega (arith, is))
 get_next (y ∷ before) rest x (suc k) is = get_next before rest x k (omega (arith, is))
 
-length_next : {A : Type 0} (before : List A) (x : A) (k : ℕ) → length before ≡ k → length (before ++ x ∷ []) ≡ k + 1
+pub length_next : {A : Type 0} (before : List A) (x : A) (k : ℕ) → length before ≡ k → length (before ++ x ∷ []) ≡ k + 1
 length_next before x k is = let one = length-append before (x ∷ []) in omega (arith, is, one)
 
 module _ (constants : List Constant) where
@@ -123,7 +114,7 @@ fields_new constants made [] scopes local texts fresh = refl
 fields_new constants made (field ∷ fields) scopes local texts fresh =
     let next : Scopes = enter scopes (field_mark field) in
     let more : DeclaredNames = with_name local field.name.text referent.Other in
-    both (is_new local field.name.text) (are_new more (shown_fields constants made fields))
+    and_from (is_new local field.name.text) (are_new more (shown_fields constants made fields))
     (new_alike field.name.text scopes.inner local texts fresh.0)
     (fields_new constants made fields next more
     (subst (λ inner. SameTexts inner more) (sym (declared_last scopes scopes.counts field.name kind.Field fresh.0))
@@ -152,8 +143,8 @@ module _ (known : List ℕ) (n : ℕ) (names : DeclaredNames) (told : DepthsTold
       nesting_by known (written_type constants (named_type scopes ty)) ≤ 100 → type_stands names (shown_type constants scopes ty) ≡ true
   shown_stands scopes ty structs is stands shallow =
       let typed : Ty = written_type constants (named_type scopes ty) in
-      both (base_stands names (base_of ty) && list_all is_length (lengths_of typed)) (nat_le (type_depth names (shown_type constants scopes ty)) 100)
-      (both (base_stands names (base_of ty)) (list_all is_length (lengths_of typed)) is.based (lengths_stand structs typed stands))
+      and_from (base_stands names (base_of ty) && list_all is_length (lengths_of typed)) (nat_le (type_depth names (shown_type constants scopes ty)) 100)
+      (and_from (base_stands names (base_of ty)) (list_all is_length (lengths_of typed)) is.based (lengths_stand structs typed stands))
       (le-leb (type_depth names (shown_type constants scopes ty)) 100 (subst (λ depth. depth ≤ 100) is.nests shallow))
 
   -- ---- fields
@@ -187,11 +178,11 @@ module _ (known : List ℕ) (n : ℕ) (names : DeclaredNames) (told : DepthsTold
       let rest : List Field = typed_fields constants scopes fields in
       let test : Field → Bool = λ (field : Field). typed_stands structs field.ty in
       let first = shown scopes field.ty resolves (fits_first scopes (type_marks field.ty) marks fits) in
-      both (type_stands names (shown_type constants scopes field.ty)) (types_stand names (shown_fields constants scopes fields))
-      (shown_stands scopes field.ty structs first (and_left (typed_stands structs (typed_field constants scopes field).ty) (list_all test rest) stand)
+      and_from (type_stands names (shown_type constants scopes field.ty)) (types_stand names (shown_fields constants scopes fields))
+      (shown_stands scopes field.ty structs first (and_first (typed_stands structs (typed_field constants scopes field).ty) (list_all test rest) stand)
       (omega (arith, shallow)))
       (fields_stand scopes resolves structs fields (fits_behind scopes (type_marks field.ty) marks (still_type field.ty) fits)
-      (and_right (typed_stands structs (typed_field constants scopes field).ty) (list_all test rest) stand) (omega (arith, shallow)))
+      (and_second (typed_stands structs (typed_field constants scopes field).ty) (list_all test rest) stand) (omega (arith, shallow)))
 
   -- ---- parameters
 
@@ -234,14 +225,14 @@ module _ (known : List ℕ) (n : ℕ) (names : DeclaredNames) (told : DepthsTold
         (subst (λ inner. SameTexts inner more) (sym (declared_last scopes scopes.counts param.name kind.Variable absent))
         (texts_next scopes.inner local param.name.text (declaration_of param.name kind.Variable scopes.counts.variables) referent.Other texts)))
         (fits_second scopes (own ++ last) marks fits) (fresh_second scopes (own ++ last) marks fresh)
-        (and_right (stands typed) (list_all stands later) stand) (and_right (is_shallow typed) (list_all is_shallow later) shallow) in
+        (and_second (stands typed) (list_all stands later) stand) (and_second (is_shallow typed) (list_all is_shallow later) shallow) in
         let all_of_them : after next marks ≡ after scopes ((own ++ last) ++ marks) = sym (after-append scopes (own ++ last) marks) in
         record {
           same = λ i. record { name = param.name.text; place = outside_text; ty = first.same i; role = role } ∷ rest.same i;
-          stand = both (type_stands names (shown_type constants scopes param.ty)) (types_stand names (shown_params constants next params))
-              (shown_stands scopes param.ty structs first (and_left (stands typed) (list_all stands later) stand)
-              (leb-true (nesting_by known typed.ty) 100 (and_left (is_shallow typed) (list_all is_shallow later) shallow))) rest.stand;
-          new = both (is_new local param.name.text) (are_new more (shown_params constants next params))
+          stand = and_from (type_stands names (shown_type constants scopes param.ty)) (types_stand names (shown_params constants next params))
+              (shown_stands scopes param.ty structs first (and_first (stands typed) (list_all stands later) stand)
+              (leb-true (nesting_by known typed.ty) 100 (and_first (is_shallow typed) (list_all is_shallow later) shallow))) rest.stand;
+          new = and_from (is_new local param.name.text) (are_new more (shown_params constants next params))
               (new_alike param.name.text scopes.inner local texts absent) rest.new;
           texts = subst (λ (s : Scopes). SameTexts s.inner (with_fields more (shown_params constants next params))) all_of_them rest.texts;
           resolves = subst (Resolves names) all_of_them rest.resolves;

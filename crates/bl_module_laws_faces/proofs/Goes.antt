@@ -1,5 +1,6 @@
 -- Structs and units are added alone behind the items of a file.
 use Rattle.std.proofs.Common.{◌≡◌, List, [], ◌∷◌, ◌++◌, refl, sym, ap, subst, ◌∙◌, append-nil, append_assoc}
+use Rattle.bl_tree.proofs.Basics.{first_empty, second_empty}
 use Rattle.bl_module_laws_faces.proofs.Here.{Here, constant_chosen, here_constant, here_struct, here_unit, struct_chosen, structs_still, unit_chosen, units_are}
 use Rattle.bl_names.specs.Named.{named_constant, named_struct, named_unit}
 use Rattle.bl_names.specs.Order.{kind_of_item, order_of}
@@ -16,7 +17,6 @@ use Rattle.bl_types.specs.declared.environment.Environment.{Environment}
 use Rattle.bl_types.specs.Declarations.{Declaring, after_constant, after_struct, struct_of}
 use Rattle.bl_types.specs.Programs.{after_item, after_items}
 use Rattle.bl_types.specs.Units.{after_unit}
-use Rattle.bl_types_laws.proofs.Forms.{nil_left, nil_right}
 use Rattle.bl_types_laws.proofs.Standing.{made_of}
 
 -- what is known later begins with what is known
@@ -50,8 +50,8 @@ module _ (named : Named) where
   by_first one items env first is shown =
       subst (λ (first : Declaring). first.failures ++ (after_items named (order_of items) first.env).failures ≡ [] →
       Goes env (after_items named (order_of items) first.env).env) (sym is)
-      (λ none. shown (nil_left first.failures (after_items named (order_of items) first.env).failures none)
-      (nil_right first.failures (after_items named (order_of items) first.env).failures none))
+      (λ none. shown (first_empty first.failures (after_items named (order_of items) first.env).failures none)
+      (second_empty first.failures (after_items named (order_of items) first.env).failures none))
 
   struct_goes : (def : RawStruct) (items : List RawItem) → Going items → Going (item.Struct def ∷ items)
   struct_goes def items rest scopes env here =

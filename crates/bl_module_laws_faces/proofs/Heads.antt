@@ -1,9 +1,9 @@
 -- The head of a unit in a face is that of the unit.
-use Rattle.std.proofs.Common.{◌≡◌, ℕ, true, false, List, [], ◌∷◌, ◌++◌, length, map, drop, take, Option, Some, None, refl, sym, ap, ◌∙◌, append-nil, arith}
+use Rattle.std.proofs.Common.{◌≡◌, ℕ, true, false, List, [], ◌∷◌, ◌++◌, length, map, drop, take, Option, Some, None, refl, sym, ap, ◌∙◌, arith}
 use Rattle.std.specs.Prelude.{Bool, ◌&&◌, ◌||◌, is_none, nat_eq, if◌then◌else◌}
 use Rattle.std.proofs.Math.Seq.{drop-append_seam, take-append_seam}
 use Rattle.std.proofs.lemmas.Bool.{eqb-true}
-use Rattle.bl_eval.proofs.PassLemmas.{and_left}
+use Rattle.bl_tree.proofs.Basics.{and_first}
 use Rattle.bl_face.specs.declared.item.FaceField.{FaceField}
 use Rattle.bl_module.specs.Behind.{gives_once}
 use Rattle.bl_tree.specs.declared.scalar.Scalar.{Scalar as ScalarType}
@@ -27,9 +27,6 @@ first_of_list xs ys n is = ap (λ n. take n (xs ++ ys)) (sym is) ∙ take-append
 second_of_list : {A : Type 0} (xs ys zs : List A) (n m : ℕ) → length xs ≡ n → length ys ≡ m → take m (drop n (xs ++ (ys ++ zs))) ≡ ys
 second_of_list xs ys zs n m one two =
     ap (λ n. take m (drop n (xs ++ (ys ++ zs)))) (sym one) ∙ ap (take m) (drop-append_seam xs (ys ++ zs)) ∙ first_of_list ys zs m two
-
-last_of_list : {A : Type 0} (xs ys : List A) (n m : ℕ) → length xs ≡ n → length ys ≡ m → take m (drop n (xs ++ ys)) ≡ ys
-last_of_list xs ys n m one two = ap (λ ys. take m (drop n (xs ++ ys))) (sym (append-nil ys)) ∙ second_of_list xs ys [] n m one two
 
 -- what a unit shows, whose variables begin with these
 pub head_is : (unit : UnitDef) (ins outs more : List Var) → unit.vars ≡ ins ++ (outs ++ more) → length ins ≡ unit.inputs → length outs ≡ unit.outputs →
@@ -57,7 +54,7 @@ head_is unit ins outs more are one two = λ i. record {
 
 without_outputs : (n : ℕ) (out : FaceField) (outs : List FaceField) (b : Bool) → (nat_eq n 0 && b) ≡ true → n ≡ length (out ∷ outs) → false ≡ true
 without_outputs n out outs b holds is =
-    absurd (let none : n ≡ 0 = eqb-true n 0 (and_left (nat_eq n 0) b holds) in omega (arith, none, is))
+    absurd (let none : n ≡ 0 = eqb-true n 0 (and_first (nat_eq n 0) b holds) in omega (arith, none, is))
 
 once : (kind : UnitKind) (outs : List FaceField) (result : Option ScalarType) (n : ℕ) (a b : Bool) →
     (if is_activity kind then a else (is_none result || (nat_eq n 0 && b))) ≡ true → n ≡ length outs → gives_once kind outs result ≡ true

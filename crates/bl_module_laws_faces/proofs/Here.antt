@@ -2,7 +2,7 @@
 use Rattle.std.proofs.Common.{◌≡◌, suc, ◌+◌, true, List, [], ◌∷◌, ◌++◌, length, map, Some, refl, sym, ap, subst, ◌∙◌, append-nil}
 use Rattle.std.specs.List.{list_all}
 use Rattle.std.proofs.lemmas.List.{map-append}
-use Rattle.bl_eval.proofs.PassLemmas.{and_left, and_right, get_seam}
+use Rattle.bl_tree.proofs.Basics.{and_first, and_second}
 use Rattle.bl_module_laws_faces.proofs.Fresh.{Fresh, fresh_first, fresh_second}
 use Rattle.bl_names.proofs.FitLemmas.{Fits, fits_first, fits_second}
 use Rattle.bl_names.proofs.ItemLemmas.{struct_scopes, unit_scopes}
@@ -11,29 +11,17 @@ use Rattle.bl_names.proofs.PlacedExpr.{earlier}
 use Rattle.bl_names.proofs.PlacedItem.{UnitHolds, struct_is, unit_holds}
 use Rattle.bl_names.proofs.PlacedStmt.{Within, closed_is}
 use Rattle.bl_names.proofs.StillLemmas.{after-append, still_value}
-use Rattle.bl_names.specs.Named.{
-  along,
-  block_piece,
-  constants_in_unit,
-  constants_of,
-  named_constant,
-  named_struct,
-  named_unit,
-  opened,
-  params_piece,
-  structs_of,
-  units_of,
-}
+use Rattle.bl_names.specs.Named.{along, block_piece, constants_in_unit, constants_of, named_constant, named_struct, named_unit, opened, params_piece}
+use Rattle.bl_names.specs.Named.{structs_of, units_of}
 use Rattle.bl_names_scopes.specs.declared.kind.Kind.TheVariants as kinds
-use Rattle.bl_names_scopes.specs.declared.scopes.Counts.{Counts}
 use Rattle.bl_names_scopes.specs.Marks.{constant_marks, declares, expr_marks, kind_of_unit, marks_of, optional, struct_marks, type_marks, unit_marks}
-use Rattle.bl_names_scopes.specs.Scopes.{Scopes, after, count_of, counted, enter}
+use Rattle.bl_names_scopes.specs.Scopes.{Scopes, after, enter}
 use Rattle.bl_names_tree.specs.declared.item.Item.TheVariants as next_kind
 use Rattle.bl_names_tree.specs.declared.item.NamedConstant.{NamedConstant}
 use Rattle.bl_names_tree.specs.declared.item.NamedStruct.{NamedStruct}
 use Rattle.bl_names_tree.specs.declared.item.NamedUnit.{NamedUnit}
 use Rattle.bl_names_tree.specs.declared.named.Named.{Named}
-use Rattle.bl_names_tree.specs.Placed.{DeclaredBefore, constant_placed, holds_of, struct_placed, unit_step}
+use Rattle.bl_names_tree.specs.Placed.{DeclaredBefore, constant_placed, struct_placed, unit_step}
 use Rattle.bl_parse_tree.specs.declared.item.RawItem.{RawItem}
 use Rattle.bl_parse_tree.specs.declared.item.RawItem.TheVariants as item
 use Rattle.bl_parse_tree.specs.declared.item.RawStruct.{RawStruct}
@@ -44,7 +32,6 @@ use Rattle.bl_tree.specs.declared.tree.StructDef.{StructDef}
 use Rattle.bl_tree.specs.declared.tree.Unit.{Unit as UnitDef}
 use Rattle.bl_tree.specs.declared.tree.UnitKind.{UnitKind}
 use Rattle.bl_tree.specs.declared.tree.UnitKind.TheVariants as unit
-use Rattle.bl_tree.specs.Typing.{is_activity, is_function}
 use Rattle.bl_types.specs.declared.environment.Environment.{Environment}
 use Rattle.bl_types.specs.Declarations.{after_constant, after_struct, constant_of, initial, struct_of}
 use Rattle.bl_types.specs.Programs.{after_item}
@@ -57,10 +44,11 @@ use Rattle.bl_types_laws.proofs.Reached.{At, constant_next, no_more, one_more, s
 use Rattle.bl_types_laws.proofs.Standing.{made_of, units_made}
 use Rattle.bl_types_laws.proofs.StmtNames.{value_is}
 use Rattle.bl_types_laws.proofs.Suits.{Suits}
-use Rattle.bl_types_laws.proofs.Told.{Told, kind_told, kinds_of, told_declared, told_more}
+use Rattle.bl_types_laws.proofs.Told.{Told, kinds_of, told_declared, told_more}
 use Rattle.bl_types_laws.proofs.Units.{unit_passes}
 use Rattle.bl_types_laws.specs.Standing.{UnitPassed, unit_named}
 use Rattle.bl_types_laws.specs.Within.{calls_functions, known_in}
+use Rattle.bl_types_laws.proofs.ItemNames.{unit_told}
 
 -- the items that are still to come, whose names pass, and what is known before them
 pub record Here (named : Named) (scopes : Scopes) (items : List RawItem) (env : Environment) : Type 0 where
@@ -116,7 +104,7 @@ module _ (named : Named) (def : RawStruct) (items : List RawItem) (scopes : Scop
           kinds = at.kinds ∙ ap (map (λ (unit : NamedUnit). unit.kind)) (sym (append-nil at.units.before));
         };
         told = subst (Told (kinds_of env.units)) (struct_scopes scopes def) (told_declared (kinds_of env.units) scopes def.name kinds.Struct refl here.told);
-        stand = and_right (item_stands (item.Struct def)) (list_all item_stands items) here.stand;
+        stand = and_second (item_stands (item.Struct def)) (list_all item_stands items) here.stand;
         fresh = fresh_second scopes (struct_marks def) (marks_of items) here.fresh;
       }
 
@@ -178,20 +166,11 @@ module _ (named : Named) (def : RawConstant) (items : List RawItem) (scopes : Sc
           kinds = at.kinds ∙ ap (map (λ (unit : NamedUnit). unit.kind)) (sym (append-nil at.units.before));
         };
         told = subst (Told (kinds_of env.units)) constant_scopes (told_declared (kinds_of env.units) scopes def.name kinds.Constant refl here.told);
-        stand = and_right (item_stands (item.Constant def)) (list_all item_stands items) here.stand;
+        stand = and_second (item_stands (item.Constant def)) (list_all item_stands items) here.stand;
         fresh = fresh_second scopes (constant_marks def) (marks_of items) here.fresh;
       }
 
 -- ---- behind a unit
-
-pub unit_counted : (kind : UnitKind) (counts : Counts) → counted counts (kind_of_unit kind) ≡ record counts { units = counts.units + 1; variables = 0 }
-unit_counted unit.Function counts = refl
-unit_counted unit.Activity counts = refl
-
-pub unit_told : (done : List UnitKind) (kind : UnitKind) (counts : Counts) → counts.units ≡ length done →
-    kind_told (done ++ (kind ∷ [])) (kind_of_unit kind) (count_of counts (kind_of_unit kind)) ≡ true
-unit_told done unit.Function counts is = ap (holds_of is_function) (get_seam done unit.Function counts.units is)
-unit_told done unit.Activity counts is = ap (holds_of is_activity) (get_seam done unit.Activity counts.units is)
 
 abbrev pub kind_made : UnitDef → UnitKind
 kind_made unit = unit.kind
@@ -239,7 +218,7 @@ module _ (named : Named) (def : RawUnit) (items : List RawItem) (scopes : Scopes
 
   suits : Suits env.units (unit_named named.constants env.units new_unit) (opened scopes) body_end new_unit.vars inside
   suits = unit_suits env.units named.constants scopes def here.told here.at.none unit_fits
-      (and_left (unit_stands def) (list_all item_stands items) here.stand) constants_within
+      (and_first (unit_stands def) (list_all item_stands items) here.stand) constants_within
 
   pub outer_still : body_end.outer ≡ scopes.inner ∷ scopes.outer
   outer_still = suits.outer
@@ -304,6 +283,6 @@ module _ (named : Named) (def : RawUnit) (items : List RawItem) (scopes : Scopes
         };
         told = subst (λ kinds. Told kinds behind_unit)
             (sym (ap kinds_of (units_are none) ∙ map-append kind_made env.units (made_of named.constants new_unit env ∷ []))) told_behind;
-        stand = and_right (item_stands (item.Unit def)) (list_all item_stands items) here.stand;
+        stand = and_second (item_stands (item.Unit def)) (list_all item_stands items) here.stand;
         fresh = fresh_second scopes (unit_marks def) (marks_of items) here.fresh;
       }

@@ -3,7 +3,7 @@ use Rattle.std.proofs.Common.{◌≡◌, ℕ, ◌≤◌, ◌^◌, ◌+◌, true,
 use Rattle.std.specs.Prelude.{ℤ, pos, negsuc, ◌&&◌, nat_abs, nat_le, unsigned_abs}
 use Rattle.std.specs.List.{list_all}
 use Rattle.std.proofs.lemmas.Bool.{leb-true}
-use Rattle.bl_eval.proofs.PassLemmas.{and_left, and_right}
+use Rattle.bl_tree.proofs.Basics.{and_first, and_second}
 use Rattle.bl_face.specs.declared.face.Face.{Face}
 use Rattle.bl_face.specs.declared.item.FaceField.{FaceField}
 use Rattle.bl_face.specs.declared.item.FaceItem.{FaceItem}
@@ -12,20 +12,8 @@ use Rattle.bl_face.specs.Reading.{ReadsAs, most_bytes}
 use Rattle.bl_face.specs.Text.{face_text}
 use Rattle.bl_face_laws.specs.Fits.{FieldsFit, ItemFits, ItemsFit, LengthsFit}
 use Rattle.bl_module.proofs.FaceLemmas.{stand-append}
-use Rattle.bl_module.specs.Behind.{
-  after_item,
-  after_items,
-  base_stands,
-  before_items,
-  fields_depth,
-  gives_once,
-  is_length,
-  item_stands,
-  items_stand,
-  type_depth,
-  type_stands,
-  types_stand,
-}
+use Rattle.bl_module.specs.Behind.{after_item, after_items, base_stands, before_items, fields_depth, gives_once, is_length, item_stands, items_stand}
+use Rattle.bl_module.specs.Behind.{type_depth, type_stands, types_stand}
 use Rattle.bl_module.specs.declared.walk.Walk.{Walk}
 use Rattle.bl_module.specs.Faces.{FacesStand, all_items}
 use Rattle.bl_module.specs.Names.{DeclaredNames, are_new, is_new, with_fields}
@@ -40,19 +28,19 @@ use Rattle.bl_tree.specs.Scalar.{in_range}
 lengths_fit : (lengths : List ℕ) → list_all is_length lengths ≡ true → LengthsFit lengths
 lengths_fit [] are = tt
 lengths_fit (n ∷ lengths) are = (
-  let most : n ≤ 65_536 = leb-true n 65_536 (and_right (nat_le 1 n) (nat_le n 65_536) (and_left (is_length n) (list_all is_length lengths) are)) in
+  let most : n ≤ 65_536 = leb-true n 65_536 (and_second (nat_le 1 n) (nat_le n 65_536) (and_first (is_length n) (list_all is_length lengths) are)) in
       omega (arith, most),
-  lengths_fit lengths (and_right (is_length n) (list_all is_length lengths) are),
+  lengths_fit lengths (and_second (is_length n) (list_all is_length lengths) are),
 )
 
 fields_fit : (names : DeclaredNames) (fields : List FaceField) → types_stand names fields ≡ true → FieldsFit fields
 fields_fit names [] stand = tt
 fields_fit names (field ∷ fields) stand =
     let ty = field.ty in
-    let first = and_left (type_stands names ty) (types_stand names fields) stand in
-    let inner = and_left (base_stands names ty.base && list_all is_length ty.lengths) (nat_le (type_depth names ty) 100) first in (
-      lengths_fit ty.lengths (and_right (base_stands names ty.base) (list_all is_length ty.lengths) inner),
-      fields_fit names fields (and_right (type_stands names ty) (types_stand names fields) stand),
+    let first = and_first (type_stands names ty) (types_stand names fields) stand in
+    let inner = and_first (base_stands names ty.base && list_all is_length ty.lengths) (nat_le (type_depth names ty) 100) first in (
+      lengths_fit ty.lengths (and_second (base_stands names ty.base) (list_all is_length ty.lengths) inner),
+      fields_fit names fields (and_second (type_stands names ty) (types_stand names fields) stand),
     )
 
 same_size : (value : ℤ) → nat_abs value ≡ unsigned_abs value
@@ -67,22 +55,22 @@ value_fits of value is = subst (λ n. n ≤ 2 ^ 64) (sym (same_size value)) (mag
 item_fits : (names : DeclaredNames) (item : FaceItem) → item_stands names item ≡ true → ItemFits item
 item_fits names (Struct name fields) stands =
     fields_fit names fields
-    (and_left (types_stand names fields) (nat_le (1 + fields_depth names fields) 100)
-    (and_right (is_new names name && are_new [] fields) (types_stand names fields && nat_le (1 + fields_depth names fields) 100) stands))
-item_fits names (Constant name of value) stands = value_fits of value (and_right (is_new names name) (in_range of value) stands)
+    (and_first (types_stand names fields) (nat_le (1 + fields_depth names fields) 100)
+    (and_second (is_new names name && are_new [] fields) (types_stand names fields && nat_le (1 + fields_depth names fields) 100) stands))
+item_fits names (Constant name of value) stands = value_fits of value (and_second (is_new names name) (in_range of value) stands)
 item_fits names (Head kind name inputs outputs result) stands =
-    let types = and_left (types_stand names inputs && types_stand names outputs) (gives_once kind outputs result)
-    (and_right (is_new names name && (are_new [] inputs && are_new (with_fields [] inputs) outputs))
+    let types = and_first (types_stand names inputs && types_stand names outputs) (gives_once kind outputs result)
+    (and_second (is_new names name && (are_new [] inputs && are_new (with_fields [] inputs) outputs))
     ((types_stand names inputs && types_stand names outputs) && gives_once kind outputs result) stands) in (
-      fields_fit names inputs (and_left (types_stand names inputs) (types_stand names outputs) types),
-      fields_fit names outputs (and_right (types_stand names inputs) (types_stand names outputs) types),
+      fields_fit names inputs (and_first (types_stand names inputs) (types_stand names outputs) types),
+      fields_fit names outputs (and_second (types_stand names inputs) (types_stand names outputs) types),
     )
 
 items_fit : (walk : Walk) (items : List FaceItem) → items_stand walk items ≡ true → ItemsFit items
 items_fit walk [] stand = tt
 items_fit walk (item ∷ items) stand = (
-  item_fits walk.names item (and_left (item_stands walk.names item) (items_stand (after_item walk item) items) stand),
-  items_fit (after_item walk item) items (and_right (item_stands walk.names item) (items_stand (after_item walk item) items) stand),
+  item_fits walk.names item (and_first (item_stands walk.names item) (items_stand (after_item walk item) items) stand),
+  items_fit (after_item walk item) items (and_second (item_stands walk.names item) (items_stand (after_item walk item) items) stand),
 )
 
 -- ---- faces
@@ -91,7 +79,7 @@ face_fits : (faces : List Face) (face : Face) → FacesStand (faces ++ face ∷ 
 face_fits faces face stand =
     let walk : Walk = after_items before_items (all_items faces) in
     items_fit walk face.items
-    (and_right (items_stand before_items (all_items faces)) (items_stand walk face.items)
+    (and_second (items_stand before_items (all_items faces)) (items_stand walk face.items)
     (sym (stand-append before_items (all_items faces) face.items) ∙ ap (items_stand before_items) (sym (faces_next faces face)) ∙ stand))
 
 abbrev pub PrintedIsRead : Type 0

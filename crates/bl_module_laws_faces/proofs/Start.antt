@@ -1,35 +1,13 @@
 -- What faces that stand declare, as a text behind them begins with it.
-use Rattle.std.proofs.Common.{
-  ◌≡◌,
-  ℕ,
-  ◌+◌,
-  ◌<◌,
-  true,
-  List,
-  [],
-  ◌∷◌,
-  ◌++◌,
-  length,
-  map,
-  inr,
-  Option,
-  Some,
-  None,
-  refl,
-  sym,
-  ap,
-  subst,
-  ◌∙◌,
-  append-nil,
-  append_assoc,
-  arith,
-}
-use Rattle.std.specs.Prelude.{Bool, ℤ, ◌&&◌, is_none, nat_le, nat_lt, slice_get, slice_index}
+use Rattle.std.proofs.Common.{◌≡◌, ℕ, ◌+◌, ◌<◌, true, List, [], ◌∷◌, ◌++◌, length, map, Option, Some, None, refl, sym, ap, subst, ◌∙◌, append-nil}
+use Rattle.std.proofs.Common.{append_assoc, arith}
+use Rattle.std.specs.Prelude.{Bool, ℤ, ◌&&◌, nat_le, nat_lt, slice_get, slice_index}
 use Rattle.std.specs.List.{list_all}
 use Rattle.std.proofs.lemmas.Bool.{le-leb, lt-ltb}
 use Rattle.std.proofs.lemmas.List.{length-append, length-map, map-append}
 use Rattle.std.proofs.lemmas.List.Folds.{list_all-append}
-use Rattle.bl_eval.proofs.PassLemmas.{and_left, and_right, both}
+use Rattle.std.proofs.lemmas.Bool.{and_from}
+use Rattle.bl_tree.proofs.Basics.{and_first, and_second, get_seam, none_from, plus_none}
 use Rattle.bl_face.specs.declared.item.FaceBase.{FaceBase}
 use Rattle.bl_face.specs.declared.item.FaceBase.TheVariants as base
 use Rattle.bl_face.specs.declared.item.FaceField.{FaceField}
@@ -37,45 +15,23 @@ use Rattle.bl_face.specs.declared.item.FaceItem.{FaceItem}
 use Rattle.bl_face.specs.declared.item.FaceItem.TheVariants as shows
 use Rattle.bl_face.specs.declared.item.FaceType.{FaceType}
 use Rattle.bl_limits_measures.specs.Types.{nesting_by, struct_nestings}
-use Rattle.bl_module.specs.Behind.{
-  after_item,
-  after_items,
-  array_of,
-  base_stands,
-  before_items,
-  depth_of,
-  fields_depth,
-  gives_once,
-  heading_of,
-  is_length,
-  item_stands,
-  items_stand,
-  outside_text,
-  resolved_base,
-  resolved_field,
-  resolved_head,
-  resolved_param,
-  resolved_struct,
-  resolved_type,
-  struct_position,
-  type_depth,
-  type_stands,
-  types_stand,
-}
+use Rattle.bl_module.specs.Behind.{after_item, after_items, array_of, base_stands, before_items, depth_of, fields_depth, gives_once, heading_of, is_length}
+use Rattle.bl_module.specs.Behind.{item_stands, items_stand, outside_text, resolved_base, resolved_field, resolved_head, resolved_param, resolved_struct}
+use Rattle.bl_module.specs.Behind.{resolved_type, struct_position, type_depth, type_stands, types_stand}
 use Rattle.bl_module.specs.declared.names.Referent.{Referent}
 use Rattle.bl_module.specs.declared.names.Referent.TheVariants as referent
 use Rattle.bl_module.specs.declared.walk.Walk.{Walk}
 use Rattle.bl_module.specs.Names.{DeclaredNames, are_new, is_new, referent_of, with_fields}
 use Rattle.bl_module.specs.Rules.{known_at}
-use Rattle.bl_module_laws_faces.proofs.Adding.{get_behind, one_behind}
+use Rattle.bl_module_laws_faces.proofs.Adding.{one_behind}
 use Rattle.bl_module_laws_faces.proofs.Constants.{no_constant, no_struct}
 use Rattle.bl_module_laws_faces.proofs.Depths.{depth_at}
-use Rattle.bl_module_laws_faces.proofs.Here.{kind_made, kind_named, kinds_long, unit_counted, unit_told}
+use Rattle.bl_module_laws_faces.proofs.Here.{kind_made, kind_named, kinds_long}
 use Rattle.bl_module_laws_faces.proofs.Lookups.{absent_alike, texts_back}
 use Rattle.bl_module_laws_faces.proofs.Scoped.{NamesAgree, names_next}
 use Rattle.bl_module_laws_faces.proofs.Types.{DepthsTold, some_struct, type_nests}
 use Rattle.bl_module_laws_faces.proofs.Units.{no_kind}
-use Rattle.bl_names.proofs.BelowLemmas.{Below, DeclarationBelow, Grown, constant_below, declare_below, struct_below}
+use Rattle.bl_names.proofs.BelowLemmas.{Below, Grown, constant_below, declare_below, struct_below}
 use Rattle.bl_names.proofs.StillLemmas.{after-append}
 use Rattle.bl_names.specs.Named.{blank_constant, blank_struct, blank_unit, blanks}
 use Rattle.bl_names_scopes.specs.declared.heading.Heading.{Heading}
@@ -84,7 +40,7 @@ use Rattle.bl_names_scopes.specs.declared.kind.Kind.TheVariants as kind
 use Rattle.bl_names_scopes.specs.declared.scopes.Counts.{Counts}
 use Rattle.bl_names_scopes.specs.declared.scopes.Declaration.{Declaration}
 use Rattle.bl_names_scopes.specs.Marks.{declares, kind_of_unit}
-use Rattle.bl_names_scopes.specs.Scopes.{Scopes, after, count_of, counted, declaration_of, enter, file_scope, found, heading_mark, opened_by}
+use Rattle.bl_names_scopes.specs.Scopes.{Scopes, after, counted, enter, file_scope, found, heading_mark, opened_by}
 use Rattle.bl_parse_tree.specs.declared.name.Name.{Name}
 use Rattle.bl_tree.proofs.ReduceLemmas.{joined-append}
 use Rattle.bl_tree.specs.declared.scalar.Scalar.{Scalar as ScalarType}
@@ -105,6 +61,10 @@ use Rattle.bl_types_laws.proofs.Told.{Told, kinds_of, told_declared, told_more}
 use Rattle.bl_types_laws.proofs.Turns.{push_further}
 use Rattle.bl_types_laws.specs.Standing.{BetweenUnits, VariableKnown}
 use Rattle.bl_types_laws.specs.Within.{ConstantStands, has_parameters}
+use Rattle.bl_names.proofs.PlacedItem.{unit_counted, unit_declared}
+use Rattle.bl_module_laws_faces.proofs.Elements.{length_next}
+use Rattle.bl_types_laws.proofs.ItemNames.{unit_told}
+use Rattle.bl_types_laws.proofs.ItemTurns.{no_struct as no_struct_there}
 
 -- ---- a heading more
 
@@ -121,10 +81,6 @@ blanks_next {A} blank headings heading =
     ∙ joined-append (map of headings) (of heading ∷ [])
     ∙ ap (λ rest. joined (map of headings) ++ rest) (append-nil (of heading))
 
-none_of : {A : Type 0} (found : Option A) → is_none found ≡ true → found ≡ None
-none_of None is = refl
-none_of (Some a) is = absurd (cc)
-
 abbrev name_at : List ℕ → Name
 name_at text = record { text = text; place = outside_text }
 
@@ -135,8 +91,8 @@ array_stands : (n : ℕ) (lengths : List ℕ) (ty : Ty) → list_all is_length l
 array_stands n [] ty are stands = stands
 array_stands n (length ∷ lengths) ty are stands =
     fold-roll-Ty Bool (type_stands_level n) (Ty-F.Array length (array_of lengths ty))
-    ∙ both (is_length length) (typed_stands n (array_of lengths ty)) (and_left (is_length length) (list_all is_length lengths) are)
-    (array_stands n lengths ty (and_right (is_length length) (list_all is_length lengths) are) stands)
+    ∙ and_from (is_length length) (typed_stands n (array_of lengths ty)) (and_first (is_length length) (list_all is_length lengths) are)
+    (array_stands n lengths ty (and_second (is_length length) (list_all is_length lengths) are) stands)
 
 module _ (nestings : List ℕ) (n : ℕ) (names : DeclaredNames) (told : DepthsTold nestings n names) where
   base_is_there : (of : FaceBase) → base_stands names of ≡ true → typed_stands n (resolved_base names of) ≡ true
@@ -154,10 +110,10 @@ module _ (nestings : List ℕ) (n : ℕ) (names : DeclaredNames) (told : DepthsT
 
   is_there : (ty : FaceType) → type_stands names ty ≡ true → IsThere ty
   is_there ty stands =
-      let first = and_left (base_stands names ty.base && list_all is_length ty.lengths) (nat_le (type_depth names ty) 100) stands in
-      let based = and_left (base_stands names ty.base) (list_all is_length ty.lengths) first in
+      let first = and_first (base_stands names ty.base && list_all is_length ty.lengths) (nat_le (type_depth names ty) 100) stands in
+      let based = and_first (base_stands names ty.base) (list_all is_length ty.lengths) first in
       record {
-        stands = array_stands n ty.lengths (resolved_base names ty.base) (and_right (base_stands names ty.base) (list_all is_length ty.lengths) first)
+        stands = array_stands n ty.lengths (resolved_base names ty.base) (and_second (base_stands names ty.base) (list_all is_length ty.lengths) first)
             (base_is_there ty.base based);
         nests = type_nests nestings n names told ty based;
       }
@@ -166,16 +122,16 @@ module _ (nestings : List ℕ) (n : ℕ) (names : DeclaredNames) (told : DepthsT
       list_all (λ (field : Field). typed_stands n field.ty) (map (resolved_field names) fields) ≡ true
   fields_there [] stand = refl
   fields_there (field ∷ fields) stand =
-      both (typed_stands n (resolved_type names field.ty)) (list_all (λ (field : Field). typed_stands n field.ty) (map (resolved_field names) fields))
-      (is_there field.ty (and_left (type_stands names field.ty) (types_stand names fields) stand)).stands
-      (fields_there fields (and_right (type_stands names field.ty) (types_stand names fields) stand))
+      and_from (typed_stands n (resolved_type names field.ty)) (list_all (λ (field : Field). typed_stands n field.ty) (map (resolved_field names) fields))
+      (is_there field.ty (and_first (type_stands names field.ty) (types_stand names fields) stand)).stands
+      (fields_there fields (and_second (type_stands names field.ty) (types_stand names fields) stand))
 
   fields_nest : (fields : List FaceField) → types_stand names fields ≡ true →
       map (λ (field : Field). nesting_by nestings field.ty) (map (resolved_field names) fields) ≡ map (λ (field : FaceField). type_depth names field.ty) fields
   fields_nest [] stand = refl
   fields_nest (field ∷ fields) stand = λ i.
-      (is_there field.ty (and_left (type_stands names field.ty) (types_stand names fields) stand)).nests i
-      ∷ fields_nest fields (and_right (type_stands names field.ty) (types_stand names fields) stand) i
+      (is_there field.ty (and_first (type_stands names field.ty) (types_stand names fields) stand)).nests i
+      ∷ fields_nest fields (and_second (type_stands names field.ty) (types_stand names fields) stand) i
 
 -- ---- what begins a text
 
@@ -206,12 +162,6 @@ more_blanks blank headings heading n m one two =
     ap length (blanks_next blank headings heading) ∙ length-append (blanks blank headings) (blank heading.kind heading.name)
     ∙ ap (λ n. n + length (blank heading.kind heading.name)) one ∙ sym two
 
-none_more : (n : ℕ) → n ≡ n + 0
-none_more n = omega arith
-
-one_counted : {A : Type 0} (xs : List A) (x : A) (n : ℕ) → length xs ≡ n → length (xs ++ x ∷ []) ≡ n + 1
-one_counted xs x n is = length-append xs (x ∷ []) ∙ ap (λ n. n + 1) is
-
 -- ---- a unit more
 
 unit_grown : (of : UnitKind) (counts : Counts) → counts.variables ≡ 0 → Grown counts (counted counts (kind_of_unit of))
@@ -227,14 +177,6 @@ unit_grown Activity counts none kind.Variable = omega (arith, none)
 unit_grown Activity counts none kind.Function = omega arith
 unit_grown Activity counts none kind.Activity = omega arith
 unit_grown Activity counts none kind.Field = omega arith
-
-less_one : (n m : ℕ) → m ≡ n + 1 → n < m
-less_one n m is = omega arith
-
-unit_declared : (of : UnitKind) (name : Name) (counts : Counts) →
-    DeclarationBelow (counted counts (kind_of_unit of)) (declaration_of name (kind_of_unit of) (count_of counts (kind_of_unit of)))
-unit_declared Function name counts = inr (less_one counts.units (counts.units + 1) refl)
-unit_declared Activity name counts = inr (less_one counts.units (counts.units + 1) refl)
 
 no_blank_struct : (of : UnitKind) (name : Name) (n : ℕ) → n ≡ n + length (blank_struct (kind_of_unit of) name)
 no_blank_struct Function name n = omega arith
@@ -255,7 +197,7 @@ blank_kind Activity name = refl
 module _ (nestings : List ℕ) (walk : Walk) (scopes : Scopes) (begins : Begins nestings walk scopes) where
   absent : (text : List ℕ) → is_new walk.names text ≡ true → found scopes.inner text ≡ None
   absent text new =
-      absent_alike text walk.names scopes.inner (texts_back scopes.inner walk.names begins.names.texts) (none_of (referent_of walk.names text) new)
+      absent_alike text walk.names scopes.inner (texts_back scopes.inner walk.names begins.names.texts) (none_from (referent_of walk.names text) new)
 
   -- ---- a struct
 
@@ -270,13 +212,13 @@ module _ (nestings : List ℕ) (walk : Walk) (scopes : Scopes) (begins : Begins 
     next = after_item walk (shows.Struct name fields)
 
     front : (is_new walk.names name && are_new [] fields) ≡ true
-    front = and_left (is_new walk.names name && are_new [] fields) (types_stand walk.names fields && nat_le (1 + fields_depth walk.names fields) 100) stands
+    front = and_first (is_new walk.names name && are_new [] fields) (types_stand walk.names fields && nat_le (1 + fields_depth walk.names fields) 100) stands
 
     back : (types_stand walk.names fields && nat_le (1 + fields_depth walk.names fields) 100) ≡ true
-    back = and_right (is_new walk.names name && are_new [] fields) (types_stand walk.names fields && nat_le (1 + fields_depth walk.names fields) 100) stands
+    back = and_second (is_new walk.names name && are_new [] fields) (types_stand walk.names fields && nat_le (1 + fields_depth walk.names fields) 100) stands
 
     types_are : types_stand walk.names fields ≡ true
-    types_are = and_left (types_stand walk.names fields) (nat_le (1 + fields_depth walk.names fields) 100) back
+    types_are = and_first (types_stand walk.names fields) (nat_le (1 + fields_depth walk.names fields) 100) back
 
     fields_are : list_all (λ (field : Field). typed_stands n field.ty) made.fields ≡ true
     fields_are = fields_there nestings n walk.names begins.names.told fields types_are
@@ -285,7 +227,7 @@ module _ (nestings : List ℕ) (walk : Walk) (scopes : Scopes) (begins : Begins 
         Begins nestings next (enter scopes (declares (name_at name) kind.Struct))
     begins_struct whole rest are first =
         let there : slice_get whole n ≡ Some made =
-        ap (λ structs. slice_get structs n) (first ∙ append_assoc walk.behind.structs (made ∷ []) rest) ∙ get_behind walk.behind.structs made rest in
+        ap (λ structs. slice_get structs n) (first ∙ append_assoc walk.behind.structs (made ∷ []) rest) ∙ get_seam walk.behind.structs made rest in
         let deep : slice_index nestings n ≡ 1 + fields_depth walk.names fields =
         ap (λ known. slice_index known n) are ∙ depth_at whole n made there fields_are
         ∙ ap (λ known. 1 + greatest (map (λ (field : Field). nesting_by known field.ty) made.fields)) (sym are)
@@ -294,7 +236,7 @@ module _ (nestings : List ℕ) (walk : Walk) (scopes : Scopes) (begins : Begins 
         record {
           names = names_next nestings n (length next.behind.structs) walk.names scopes scopes.counts (name_at name) kind.Struct
               (referent.Struct n (1 + fields_depth walk.names fields)) (omega (arith, more)) begins.names
-              (absent name (and_left (is_new walk.names name) (are_new [] fields) front))
+              (absent name (and_first (is_new walk.names name) (are_new [] fields) front))
               (λ suited. (1 + fields_depth walk.names fields, ap (λ n. referent.Struct n (1 + fields_depth walk.names fields)) begins.structs))
               (λ at depth is.
               let is_at : n ≡ at = ap (λ r. struct_position (Some r)) is in
@@ -302,7 +244,7 @@ module _ (nestings : List ℕ) (walk : Walk) (scopes : Scopes) (begins : Begins 
               (sym is_deep ∙ sym deep ∙ ap (slice_index nestings) is_at, omega (arith, is_at, more)));
           below = struct_below scopes (name_at name) begins.below;
           none = begins.none;
-          structs = one_counted walk.behind.structs made scopes.counts.structs begins.structs;
+          structs = length_next walk.behind.structs made scopes.counts.structs begins.structs;
           constants = begins.constants;
           units = begins.units;
           between = record {
@@ -319,9 +261,9 @@ module _ (nestings : List ℕ) (walk : Walk) (scopes : Scopes) (begins : Begins 
           blank_structs = more_blanks blank_struct walk.behind.headings (heading_of name kind.Struct) scopes.counts.structs (scopes.counts.structs + 1)
               begins.blank_structs refl;
           blank_constants = more_blanks blank_constant walk.behind.headings (heading_of name kind.Struct) scopes.counts.constants scopes.counts.constants
-              begins.blank_constants (none_more scopes.counts.constants);
+              begins.blank_constants (plus_none scopes.counts.constants);
           blank_units = more_blanks blank_unit walk.behind.headings (heading_of name kind.Struct) scopes.counts.units scopes.counts.units
-              begins.blank_units (none_more scopes.counts.units);
+              begins.blank_units (plus_none scopes.counts.units);
           kinds = begins.kinds ∙ ap (map kind_named) (sym (blanks_next blank_unit walk.behind.headings (heading_of name kind.Struct)
               ∙ append-nil (blanks blank_unit walk.behind.headings)));
         }
@@ -338,12 +280,12 @@ module _ (nestings : List ℕ) (walk : Walk) (scopes : Scopes) (begins : Begins 
     begins_constant : Begins nestings next_constant (enter scopes (declares (name_at name) kind.Constant))
     begins_constant = record {
       names = names_next nestings (length walk.behind.structs) (length walk.behind.structs) walk.names scopes scopes.counts (name_at name) kind.Constant
-          referent.Other (omega arith) begins.names (absent name (and_left (is_new walk.names name) (in_range of value) stands))
+          referent.Other (omega arith) begins.names (absent name (and_first (is_new walk.names name) (in_range of value) stands))
           (λ suited. absurd (no_constant suited)) (λ at depth is. absurd (no_struct at depth is));
       below = constant_below scopes (name_at name) begins.below;
       none = begins.none;
       structs = begins.structs;
-      constants = one_counted walk.behind.constants one scopes.counts.constants begins.constants;
+      constants = length_next walk.behind.constants one scopes.counts.constants begins.constants;
       units = begins.units;
       between = record {
         vars = refl;
@@ -352,17 +294,17 @@ module _ (nestings : List ℕ) (walk : Walk) (scopes : Scopes) (begins : Begins 
           fields = begins.between.known.fields;
           constants = push_further (λ (k : ℕ) (constant : KnownConstant). ConstantStands constant) walk.behind.constants one
               begins.between.known.constants
-              (record { ty = of; is_typed = refl; is_number = and_right (is_new walk.names name) (in_range of value) stands });
+              (record { ty = of; is_typed = refl; is_number = and_second (is_new walk.names name) (in_range of value) stands });
         };
         heads = begins.between.heads;
       };
       told = told_declared (kinds_of walk.behind.units) scopes (name_at name) kind.Constant refl begins.told;
       blank_structs = more_blanks blank_struct walk.behind.headings (heading_of name kind.Constant) scopes.counts.structs scopes.counts.structs
-          begins.blank_structs (none_more scopes.counts.structs);
+          begins.blank_structs (plus_none scopes.counts.structs);
       blank_constants = more_blanks blank_constant walk.behind.headings (heading_of name kind.Constant) scopes.counts.constants
           (scopes.counts.constants + 1) begins.blank_constants refl;
       blank_units = more_blanks blank_unit walk.behind.headings (heading_of name kind.Constant) scopes.counts.units scopes.counts.units
-          begins.blank_units (none_more scopes.counts.units);
+          begins.blank_units (plus_none scopes.counts.units);
       kinds = begins.kinds ∙ ap (map kind_named) (sym (blanks_next blank_unit walk.behind.headings (heading_of name kind.Constant)
           ∙ append-nil (blanks blank_unit walk.behind.headings)));
     }
@@ -385,8 +327,8 @@ module _ (nestings : List ℕ) (walk : Walk) (scopes : Scopes) (begins : Begins 
 
     is_new_there : is_new walk.names name ≡ true
     is_new_there =
-        and_left (is_new walk.names name) (are_new [] ins && are_new (with_fields [] ins) outs)
-        (and_left (is_new walk.names name && (are_new [] ins && are_new (with_fields [] ins) outs))
+        and_first (is_new walk.names name) (are_new [] ins && are_new (with_fields [] ins) outs)
+        (and_first (is_new walk.names name && (are_new [] ins && are_new (with_fields [] ins) outs))
         ((types_stand walk.names ins && types_stand walk.names outs) && gives_once of outs result) stands)
 
     counted_is : counted scopes.counts unit_kind ≡ record scopes.counts { units = scopes.counts.units + 1; variables = 0 }
@@ -410,7 +352,7 @@ module _ (nestings : List ℕ) (walk : Walk) (scopes : Scopes) (begins : Begins 
       none = ap (λ (c : Counts). c.variables) counted_is;
       structs = begins.structs ∙ sym (ap (λ (c : Counts). c.structs) counted_is);
       constants = begins.constants ∙ sym (ap (λ (c : Counts). c.constants) counted_is);
-      units = one_counted walk.behind.units head scopes.counts.units begins.units ∙ sym (ap (λ (c : Counts). c.units) counted_is);
+      units = length_next walk.behind.units head scopes.counts.units begins.units ∙ sym (ap (λ (c : Counts). c.units) counted_is);
       between = record {
         vars = refl;
         known = record {
@@ -419,7 +361,7 @@ module _ (nestings : List ℕ) (walk : Walk) (scopes : Scopes) (begins : Begins 
           constants = begins.between.known.constants;
         };
         heads = list_all-append has_parameters walk.behind.units (head ∷ [])
-            ∙ both (list_all has_parameters walk.behind.units) (has_parameters head && true) begins.between.heads (both (has_parameters head) true long refl);
+            ∙ and_from (list_all has_parameters walk.behind.units) (has_parameters head && true) begins.between.heads (and_from (has_parameters head) true long refl);
       };
       told = subst (λ kinds. Told kinds (enter scopes (declares (name_at name) unit_kind))) (sym (map-append kind_made walk.behind.units (head ∷ [])))
           (told_declared (kinds_of walk.behind.units ++ (of ∷ [])) scopes (name_at name) unit_kind
@@ -467,19 +409,16 @@ module _ (nestings : List ℕ) (whole : List StructDef) (are : nestings ≡ stru
   items_begin (one ∷ items) walk rest first stand begins =
       let next : Walk = after_item walk one in
       let grown = structs_grow items next in
-      items_begin items next rest first (and_right (item_stands walk.names one) (items_stand next items) stand)
+      items_begin items next rest first (and_second (item_stands walk.names one) (items_stand next items) stand)
       (one_begins one walk (grown.0 ++ rest)
       (first ∙ ap (λ structs. structs ++ rest) grown.1 ∙ append_assoc next.behind.structs grown.0 rest)
-      (and_left (item_stands walk.names one) (items_stand next items) stand) begins)
+      (and_first (item_stands walk.names one) (items_stand next items) stand) begins)
 
 nothing_stands : (text : List ℕ) (at depth : ℕ) → None ≡ Some (referent.Struct at depth) → ⊥
 nothing_stands text at depth is = absurd (cc)
 
 no_constant_there : (k : ℕ) (constant : KnownConstant) → slice_get [] k ≡ Some constant → ⊥
 no_constant_there k constant is = absurd (cc)
-
-no_struct_there : (k : ℕ) (def : StructDef) → slice_get [] k ≡ Some def → ⊥
-no_struct_there k def is = absurd (cc)
 
 nothing_bound : (text : List ℕ) (d : Declaration) → None ≡ Some d → ⊥
 nothing_bound text d is = absurd (cc)

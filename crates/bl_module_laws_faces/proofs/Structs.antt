@@ -3,7 +3,8 @@ use Rattle.std.proofs.Common.{◌≡◌, ℕ, ◌+◌, ◌≤◌, true, List, []
 use Rattle.std.specs.Prelude.{◌&&◌, nat_le, slice_get, slice_index}
 use Rattle.std.specs.List.{list_all}
 use Rattle.std.proofs.lemmas.Bool.{le-leb}
-use Rattle.bl_eval.proofs.PassLemmas.{both}
+use Rattle.std.proofs.lemmas.Bool.{and_from}
+use Rattle.bl_tree.proofs.Basics.{first_empty, get_seam, second_empty}
 use Rattle.bl_face.specs.declared.item.FaceField.{FaceField}
 use Rattle.bl_face.specs.declared.item.FaceItem.{FaceItem}
 use Rattle.bl_face.specs.declared.item.FaceItem.TheVariants as shows
@@ -21,12 +22,12 @@ use Rattle.bl_module_laws_faces.proofs.Here.{Here, here_struct, struct_chosen, s
 use Rattle.bl_module_laws_faces.proofs.Scoped.{NamesAgree, names_next, new_alike}
 use Rattle.bl_names.proofs.FitLemmas.{Fits, fits_first}
 use Rattle.bl_names.proofs.ItemLemmas.{struct_scopes}
-use Rattle.bl_names.proofs.StillLemmas.{Still, after-append, still_append, still_type}
+use Rattle.bl_names.proofs.StillLemmas.{still_append}
 use Rattle.bl_names.specs.Named.{named_field, named_struct, opened}
 use Rattle.bl_names.specs.Order.{order_of}
 use Rattle.bl_names_scopes.specs.declared.kind.Kind.TheVariants as kind
-use Rattle.bl_names_scopes.specs.Marks.{Marks, closes, declares, field_mark, field_type_marks, in_scope, struct_marks, type_marks}
-use Rattle.bl_names_scopes.specs.Scopes.{Scopes, after, enter, found, scopes_outside}
+use Rattle.bl_names_scopes.specs.Marks.{Marks, closes, declares, field_mark, field_type_marks, in_scope, struct_marks}
+use Rattle.bl_names_scopes.specs.Scopes.{Scopes, after, found}
 use Rattle.bl_names_tree.specs.declared.named.Named.{Named}
 use Rattle.bl_names_tree.specs.Placed.{DeclaredBefore}
 use Rattle.bl_parse_tree.specs.declared.item.RawField.{RawField}
@@ -42,41 +43,11 @@ use Rattle.bl_types.specs.declared.environment.Environment.{Environment}
 use Rattle.bl_types.specs.declared.environment.Known.{Known}
 use Rattle.bl_types.specs.Declarations.{Declaring, after_struct, field_of, struct_of}
 use Rattle.bl_types.specs.Programs.{after_items}
-use Rattle.bl_types_laws.proofs.Forms.{nil_left, nil_right}
 use Rattle.bl_types_laws_places.specs.Agree.{unplaced}
-use Rattle.bl_module_laws_faces.proofs.Adding.{
-  Adding,
-  Adds,
-  Agrees,
-  Shallow,
-  absent_behind,
-  adds_first,
-  by_first,
-  get_behind,
-  next_at,
-  one_behind,
-  pushed,
-  same_long,
-}
+use Rattle.bl_module_laws_faces.proofs.Adding.{Adding, Adds, Agrees, Shallow, absent_behind, adds_first, by_first, next_at, one_behind, pushed}
+use Rattle.bl_module_laws_faces.proofs.Adding.{same_long}
 use Rattle.bl_module_laws_faces.proofs.Elements.{FieldsShown}
-
-still_types : (fields : List RawField) → Still (joined (map field_type_marks fields))
-still_types [] scopes = refl
-still_types (field ∷ fields) scopes =
-    still_append (type_marks field.ty) (joined (map field_type_marks fields)) (still_type field.ty) (still_types fields) scopes
-
-fields_outer : (fields : List RawField) (scopes : Scopes) → (after scopes (map field_mark fields)).outer ≡ scopes.outer
-fields_outer [] scopes = refl
-fields_outer (field ∷ fields) scopes = fields_outer fields (enter scopes (field_mark field))
-
-fields_counts : (fields : List RawField) (scopes : Scopes) → (after scopes (map field_mark fields)).counts ≡ scopes.counts
-fields_counts [] scopes = refl
-fields_counts (field ∷ fields) scopes = fields_counts fields (enter scopes (field_mark field))
-
-still_fields : (fields : List RawField) → Still (in_scope (map field_mark fields))
-still_fields fields scopes =
-    after-append (opened scopes) (map field_mark fields) (closes ∷ [])
-    ∙ (λ i. scopes_outside (fields_outer fields (opened scopes) i) (fields_counts fields (opened scopes) i))
+use Rattle.bl_names.proofs.ItemLemmas.{still_fields, still_types}
 
 known_are : (env : Environment) (scopes : Scopes) (fields : List RawField) →
     map (field_of env) (map (named_field scopes) fields) ≡ typed_fields env.constants scopes fields
@@ -138,10 +109,10 @@ module _ (named : Named) (known : Known) (from_structs from_units : ℕ) (shallo
     there : slice_get known.structs n ≡ Some made
     there =
         ap (λ structs. slice_get structs n) (front ∙ append_assoc env.structs (made ∷ []) later)
-        ∙ get_behind env.structs made later
+        ∙ get_seam env.structs made later
 
     stand : list_all (λ (field : Field). typed_stands n field.ty) made.fields ≡ true
-    stand = (here_struct named def items scopes env here none).at.between.known.fields n made (get_behind env.structs made [])
+    stand = (here_struct named def items scopes env here none).at.between.known.fields n made (get_seam env.structs made [])
 
     deep : slice_index nestings n ≡ 1 + fields_depth walk.names fields
     deep = depth_at known.structs n made there stand
@@ -162,9 +133,9 @@ module _ (named : Named) (known : Known) (from_structs from_units : ℕ) (shallo
 
     stands : item_stands walk.names shows_struct ≡ true
     stands =
-        both (is_new walk.names def.name.text && are_new [] fields) (types_stand walk.names fields && nat_le (1 + fields_depth walk.names fields) 100)
-        (both (is_new walk.names def.name.text) (are_new [] fields) (new_alike def.name.text scopes.inner walk.names agrees.names.texts absent) fields_differ)
-        (both (types_stand walk.names fields) (nat_le (1 + fields_depth walk.names fields) 100) stand_shown
+        and_from (is_new walk.names def.name.text && are_new [] fields) (types_stand walk.names fields && nat_le (1 + fields_depth walk.names fields) 100)
+        (and_from (is_new walk.names def.name.text) (are_new [] fields) (new_alike def.name.text scopes.inner walk.names agrees.names.texts absent) fields_differ)
+        (and_from (types_stand walk.names fields) (nat_le (1 + fields_depth walk.names fields) 100) stand_shown
         (le-leb (1 + fields_depth walk.names fields) 100 not_deep))
 
     is_shown : struct_item def (slice_get known.structs n) ≡ shows_struct
@@ -215,8 +186,8 @@ module _ (named : Named) (known : Known) (from_structs from_units : ℕ) (shallo
       let behind : Scopes = after scopes (struct_marks def) in
       by_first named known from_structs from_units (item.Struct def) items env walk first (struct_chosen named def items scopes env here)
       (λ none structs units globals.
-      let one = nil_left first.failures (after_items named (order_of items) first.env).failures none in
-      let more = nil_right first.failures (after_items named (order_of items) first.env).failures none in
+      let one = first_empty first.failures (after_items named (order_of items) first.env).failures none in
+      let more = second_empty first.failures (after_items named (order_of items) first.env).failures none in
       let gone = goes named items behind first.env (here_struct named def items scopes env here one) more in
       let front = structs ∙ gone.structs in
       let it : FaceItem = shows.Struct def.name.text (shown_fields env.constants scopes def.fields) in

@@ -2,7 +2,8 @@
 use Rattle.std.proofs.Common.{◌≡◌, ℕ, ◌+◌, ◌<◌, suc, true, List, [], ◌∷◌, ◌++◌, length, refl, sym, ap, subst, ◌∙◌, Option, Some, None, arith}
 use Rattle.std.specs.Prelude.{Bool, ◌&&◌, nat_le, slice_index}
 use Rattle.std.specs.List.{list_all}
-use Rattle.bl_eval.proofs.PassLemmas.{and_left, and_right, both}
+use Rattle.std.proofs.lemmas.Bool.{and_from}
+use Rattle.bl_tree.proofs.Basics.{and_first, and_second}
 use Rattle.bl_face.specs.declared.item.FaceBase.{FaceBase}
 use Rattle.bl_face.specs.declared.item.FaceBase.TheVariants as base
 use Rattle.bl_face.specs.declared.item.FaceType.{FaceType}
@@ -13,7 +14,6 @@ use Rattle.bl_module.specs.declared.names.Referent.{Referent}
 use Rattle.bl_module.specs.declared.names.Referent.TheVariants as referent
 use Rattle.bl_module.specs.Names.{DeclaredNames, referent_of}
 use Rattle.bl_module.specs.Own.{base_of, lengths_level, lengths_of}
-use Rattle.bl_module_laws_faces.proofs.Depths.{nesting_array, nesting_scalar, nesting_struct}
 use Rattle.bl_names.proofs.FitLemmas.{Fits, fits_behind}
 use Rattle.bl_names.proofs.StillLemmas.{still_length}
 use Rattle.bl_names.specs.Naming.{named_length, named_type, position, position_of}
@@ -36,6 +36,7 @@ use Rattle.bl_tree.specs.declared.tree.Ty.TheVariants as type
 use Rattle.bl_tree.specs.Types.{type_stands, type_stands_level}
 use Rattle.bl_types.specs.declared.environment.Constant.{Constant}
 use Rattle.bl_types.specs.Written.{or_zero, type_level, written_length, written_type}
+use Rattle.bl_limits_measures.proofs.TypeLemmas.{nesting_array, nesting_scalar, nesting_struct}
 
 -- a name for a struct at some position, nested so deep
 pub record StandsForStruct (names : DeclaredNames) (text : List ℕ) (at : ℕ) : Type 0 where
@@ -126,9 +127,9 @@ lengths_stand n =
     (λ length element inner stands.
     let these = sym (fold-roll-Ty Bool (type_stands_level n) (Ty-F.Array length element)) ∙ stands in
     ap (list_all is_length) (fold-roll-Ty (List ℕ) lengths_level (Ty-F.Array length element))
-    ∙ both (is_length length) (list_all is_length (lengths_of element))
-    (and_left (nat_le 1 length && nat_le length 65536) (type_stands n element) these)
-    (inner (and_right (nat_le 1 length && nat_le length 65536) (type_stands n element) these)))
+    ∙ and_from (is_length length) (list_all is_length (lengths_of element))
+    (and_first (nat_le 1 length && nat_le length 65536) (type_stands n element) these)
+    (inner (and_second (nat_le 1 length && nat_le length 65536) (type_stands n element) these)))
 
 none_added : (n : ℕ) → n ≡ 0 + n
 none_added n = omega arith

@@ -4,7 +4,8 @@ use Rattle.std.specs.Prelude.{Bool, ◌&&◌, nat_le, slice_get}
 use Rattle.std.specs.List.{list_all}
 use Rattle.std.proofs.lemmas.List.{length-map}
 use Rattle.std.proofs.lemmas.List.Folds.{list_all-append}
-use Rattle.bl_eval.proofs.PassLemmas.{and_left, and_right, both}
+use Rattle.std.proofs.lemmas.Bool.{and_from}
+use Rattle.bl_tree.proofs.Basics.{and_first, and_second, first_empty, get_seam, second_empty}
 use Rattle.bl_face.specs.declared.item.FaceField.{FaceField}
 use Rattle.bl_face.specs.declared.item.FaceItem.{FaceItem}
 use Rattle.bl_face.specs.declared.item.FaceItem.TheVariants as shows
@@ -18,19 +19,8 @@ use Rattle.bl_module_laws_faces.proofs.Elements.{params_are, params_shown, shown
 use Rattle.bl_module_laws_faces.proofs.Fresh.{Fresh, fresh_first, fresh_second}
 use Rattle.bl_module_laws_faces.proofs.Goes.{goes}
 use Rattle.bl_module_laws_faces.proofs.Heads.{gives_once_is, head_is, placed_again}
-use Rattle.bl_module_laws_faces.proofs.Here.{
-  Here,
-  body_end,
-  here_unit,
-  passed,
-  step_there,
-  structs_still,
-  unit_behind,
-  unit_chosen,
-  unit_fits,
-  unit_fresh,
-  units_are,
-}
+use Rattle.bl_module_laws_faces.proofs.Here.{Here, body_end, here_unit, passed, step_there, structs_still, unit_behind, unit_chosen, unit_fits, unit_fresh}
+use Rattle.bl_module_laws_faces.proofs.Here.{units_are}
 use Rattle.bl_module_laws_faces.proofs.Scoped.{NamesAgree, names_next, new_alike, resolves_opened}
 use Rattle.bl_module_laws_faces.proofs.Variables.{VariablesAre, variables_are}
 use Rattle.bl_names.proofs.FitLemmas.{Fits, fits_first, fits_second}
@@ -64,10 +54,9 @@ use Rattle.bl_types.specs.declared.environment.Known.{Known}
 use Rattle.bl_types.specs.Declarations.{Declaring}
 use Rattle.bl_types.specs.Programs.{after_items}
 use Rattle.bl_types.specs.Units.{after_unit}
-use Rattle.bl_types_laws.proofs.Forms.{nil_left, nil_right}
 use Rattle.bl_types_laws.proofs.Standing.{made_of, passing}
 use Rattle.bl_types_laws_places.specs.Agree.{SameHeads, SameStructs, head_of_unit, unplaced}
-use Rattle.bl_module_laws_faces.proofs.Adding.{Adding, Adds, Agrees, Shallow, adds_first, by_first, get_behind, next_at, one_behind, pushed}
+use Rattle.bl_module_laws_faces.proofs.Adding.{Adding, Adds, Agrees, Shallow, adds_first, by_first, next_at, one_behind, pushed}
 use Rattle.bl_types_laws.proofs.Standing.{Passing}
 use Rattle.bl_names_tree.specs.declared.item.NamedUnit.{NamedUnit}
 use Rattle.bl_tree.specs.declared.tree.Role.{Role}
@@ -166,7 +155,7 @@ module _ (named : Named) (known : Known) (from_structs from_units : ℕ) (shallo
     there =
         ap (λ units. slice_get units (length env.units))
         (front ∙ ap (λ units. units ++ later) (units_are named def items scopes env here none) ∙ append_assoc env.units (made ∷ []) later)
-        ∙ get_behind env.units made later
+        ∙ get_seam env.units made later
 
     fit : Passing env.structs named_one env.units made
     fit = passing env.structs named.constants named_one env (earlier (after scopes (unit_marks def)))
@@ -189,8 +178,8 @@ module _ (named : Named) (known : Known) (from_structs from_units : ℕ) (shallo
     first_all test all =
         let one = sym (list_all-append test typed_ins (typed_outs ++ vars.more)) ∙ all in
         let two = sym (list_all-append test typed_outs vars.more)
-        ∙ and_right (list_all test typed_ins) (list_all test (typed_outs ++ vars.more)) one in
-        (and_left (list_all test typed_ins) (list_all test (typed_outs ++ vars.more)) one, and_left (list_all test typed_outs) (list_all test vars.more) two)
+        ∙ and_second (list_all test typed_ins) (list_all test (typed_outs ++ vars.more)) one in
+        (and_first (list_all test typed_ins) (list_all test (typed_outs ++ vars.more)) one, and_first (list_all test typed_outs) (list_all test vars.more) two)
 
     inputs : ParamsShown nestings n walk.names agrees.names.told env.constants role.Input begun def.inputs []
     inputs = params_shown nestings n walk.names agrees.names.told env.constants role.Input n def.inputs begun []
@@ -210,13 +199,13 @@ module _ (named : Named) (known : Known) (from_structs from_units : ℕ) (shallo
 
     stands : item_stands walk.names shows_unit ≡ true
     stands =
-        both (is_new walk.names def.name.text && (are_new [] ins && are_new (with_fields [] ins) outs))
+        and_from (is_new walk.names def.name.text && (are_new [] ins && are_new (with_fields [] ins) outs))
         ((types_stand walk.names ins && types_stand walk.names outs) && gives_once def.kind outs made.result)
-        (both (is_new walk.names def.name.text) (are_new [] ins && are_new (with_fields [] ins) outs)
+        (and_from (is_new walk.names def.name.text) (are_new [] ins && are_new (with_fields [] ins) outs)
         (new_alike def.name.text scopes.inner walk.names agrees.names.texts absent)
-        (both (are_new [] ins) (are_new (with_fields [] ins) outs) inputs.new outputs.new))
-        (both (types_stand walk.names ins && types_stand walk.names outs) (gives_once def.kind outs made.result)
-        (both (types_stand walk.names ins) (types_stand walk.names outs) inputs.stand outputs.stand)
+        (and_from (are_new [] ins) (are_new (with_fields [] ins) outs) inputs.new outputs.new))
+        (and_from (types_stand walk.names ins && types_stand walk.names outs) (gives_once def.kind outs made.result)
+        (and_from (types_stand walk.names ins) (types_stand walk.names outs) inputs.stand outputs.stand)
         (gives_once_is made outs fit.returns (sym (shown_long env.constants def.outputs between))))
 
     is_shown : unit_item def (slice_get known.units (length env.units)) ≡ shows_unit
@@ -303,8 +292,8 @@ module _ (named : Named) (known : Known) (from_structs from_units : ℕ) (shallo
       let begun : Scopes = opened scopes in
       by_first named known from_structs from_units (item.Unit def) items env walk first (unit_chosen named def items scopes env here)
       (λ none structs units globals.
-      let one = nil_left first.failures (after_items named (order_of items) first.env).failures none in
-      let more = nil_right first.failures (after_items named (order_of items) first.env).failures none in
+      let one = first_empty first.failures (after_items named (order_of items) first.env).failures none in
+      let more = second_empty first.failures (after_items named (order_of items) first.env).failures none in
       let gone = goes named items behind first.env (here_unit named def items scopes env here one) more in
       let front = units ∙ gone.units in
       let it : FaceItem = shows.Head def.kind def.name.text (shown_params env.constants begun def.inputs)

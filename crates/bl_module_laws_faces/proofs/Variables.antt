@@ -4,8 +4,8 @@ use Rattle.std.specs.Prelude.{Bool, ◌&&◌, nat_le, option_and_then}
 use Rattle.std.specs.List.{list_all}
 use Rattle.std.proofs.Math.Seq.{drop-append_seam}
 use Rattle.std.proofs.lemmas.List.Elements.{filter_map-append}
+use Rattle.bl_tree.proofs.Basics.{and_first, and_second}
 use Rattle.bl_eval.proofs.OperatorFits.{where_holds}
-use Rattle.bl_eval.proofs.PassLemmas.{and_left, and_right}
 use Rattle.bl_module_laws_faces.proofs.Bodies.{body_grown}
 use Rattle.bl_module_laws_faces.proofs.Elements.{typed_param, typed_params}
 use Rattle.bl_names.proofs.PieceLemmas.{role_marks}
@@ -15,20 +15,8 @@ use Rattle.bl_names_scopes.specs.Scopes.{Scopes, after}
 use Rattle.bl_names_tree.specs.declared.item.NamedConstant.{NamedConstant}
 use Rattle.bl_names_tree.specs.declared.item.NamedUnit.{NamedUnit}
 use Rattle.bl_names_tree.specs.declared.item.NamedVar.{NamedVar}
-use Rattle.bl_names_tree.specs.Placed.{
-  DeclaredBefore,
-  behind_unit,
-  head_placed,
-  holds_if,
-  in_turn,
-  parameters,
-  roles_placed,
-  stmt_step,
-  type_placed,
-  unit_step,
-  var_placed,
-  with_parameters,
-}
+use Rattle.bl_names_tree.specs.Placed.{DeclaredBefore, behind_unit, head_placed, holds_if, in_turn, parameters, roles_placed, stmt_step, type_placed, unit_step}
+use Rattle.bl_names_tree.specs.Placed.{var_placed, with_parameters}
 use Rattle.bl_parse_tree.specs.declared.item.RawParam.{RawParam}
 use Rattle.bl_parse_tree.specs.declared.item.RawUnit.{RawUnit}
 use Rattle.bl_tree.specs.declared.tree.Role.{Role}
@@ -115,11 +103,11 @@ module _ (constants : List NamedConstant) (scopes : Scopes) (def : RawUnit) (env
       let rest : Bool = list_all is_local (drop (parameters unit) unit.vars) in
       let holds = where_holds (head_placed earlier unit) (option_and_then (behind_unit unit)
       (in_turn (map (stmt_step unit.vars constants) unit.body) (with_parameters earlier unit))) counts step in
-      let roles : roles_placed unit ≡ true = and_left (roles_placed unit) (list_all (var_placed earlier) (take (parameters unit) unit.vars)
+      let roles : roles_placed unit ≡ true = and_first (roles_placed unit) (list_all (var_placed earlier) (take (parameters unit) unit.vars)
       && holds_if (type_placed earlier) unit.result) holds.0 in
       let all : list_all is_local (drop (parameters unit) unit.vars) ≡ true =
-      and_right outputs rest
-      (and_right inputs (outputs && rest) (and_right (nat_le (parameters unit) (length unit.vars)) (inputs && (outputs && rest)) roles)) in
+      and_second outputs rest
+      (and_second inputs (outputs && rest) (and_second (nat_le (parameters unit) (length unit.vars)) (inputs && (outputs && rest)) roles)) in
       ap (list_all is_local) (sym (drop-append_seam params locals) ∙ ap (λ n. drop n unit.vars) (head_long def (opened scopes))) ∙ all
 
   inside_is : (after_parameters unit.vars start).env ≡ (after_parameters params start).env

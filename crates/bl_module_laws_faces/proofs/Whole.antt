@@ -1,35 +1,11 @@
 -- The face of a tree that passes behind faces stands behind them, and declares what is known at its end.
-use Rattle.std.proofs.Common.{
-  ◌≡◌,
-  ℕ,
-  ◌≤◌,
-  ◌<◌,
-  zero,
-  suc,
-  true,
-  false,
-  List,
-  [],
-  ◌∷◌,
-  ◌++◌,
-  length,
-  drop,
-  inl,
-  inr,
-  Some,
-  refl,
-  sym,
-  ap,
-  subst,
-  ◌∙◌,
-  append-nil,
-  arith,
-}
+use Rattle.std.proofs.Common.{◌≡◌, ℕ, ◌≤◌, ◌<◌, zero, suc, true, false, List, [], ◌∷◌, ◌++◌, length, drop, inl, inr, Some, refl, sym, ap, subst, ◌∙◌}
+use Rattle.std.proofs.Common.{append-nil, arith}
 use Rattle.std.specs.Prelude.{Bool, Contains, nat_le, slice_get, slice_index}
 use Rattle.std.specs.List.{list_all}
 use Rattle.std.proofs.lemmas.Bool.{leb-false, leb-true}
-use Rattle.std.proofs.lemmas.Option.{get_or_from_slice_get, slice_get_within}
-use Rattle.bl_eval.proofs.PassLemmas.{both}
+use Rattle.std.proofs.lemmas.Bool.{and_from}
+use Rattle.bl_tree.proofs.Basics.{contains_at, first_empty}
 use Rattle.bl_face.specs.declared.face.Face.{Face}
 use Rattle.bl_limits.specs.Rules.{NestingPasses}
 use Rattle.bl_limits_measures.specs.Types.{nesting_by, struct_nestings}
@@ -40,23 +16,8 @@ use Rattle.bl_module.specs.declared.behind.Behind.{Behind}
 use Rattle.bl_module.specs.declared.walk.Walk.{Walk}
 use Rattle.bl_module.specs.Faces.{FacesStand, all_items, behind_faces, items_of}
 use Rattle.bl_module.specs.Own.{face_items, next_behind}
-use Rattle.bl_module.specs.Rules.{
-  TreePasses,
-  here,
-  in_bytes,
-  in_graphs,
-  in_names,
-  in_nesting,
-  in_own,
-  in_tree,
-  in_types,
-  in_units,
-  is_last,
-  known_at,
-  known_in,
-  named_in,
-  own_units,
-}
+use Rattle.bl_module.specs.Rules.{TreePasses, here, in_bytes, in_graphs, in_names, in_nesting, in_own, in_tree, in_types, in_units, is_last, known_at, known_in}
+use Rattle.bl_module.specs.Rules.{named_in, own_units}
 use Rattle.bl_module_laws_faces.proofs.Adding.{Adds, Agrees, Shallow}
 use Rattle.bl_module_laws_faces.proofs.Fresh.{marks_fresh}
 use Rattle.bl_module_laws_faces.proofs.Goes.{Goes, goes}
@@ -75,9 +36,7 @@ use Rattle.bl_names_tree.specs.declared.named.Named.{Named}
 use Rattle.bl_parse_tree.specs.declared.raw.Raw.{Raw}
 use Rattle.bl_parse_tree.specs.WellFormed.{RawIsWellFormed}
 use Rattle.bl_rules.proofs.Layers.{TokensAreOne, TreesAreOne, one_tree}
-use Rattle.bl_tree.proofs.FirstLemmas.{in_contains}
 use Rattle.bl_tree.proofs.ReduceLemmas.{joined-append}
-use Rattle.bl_tree.specs.declared.rule.Failure.{Failure}
 use Rattle.bl_tree.specs.declared.rule.Rule.TheVariants as rule
 use Rattle.bl_tree.specs.declared.tree.StructDef.{StructDef}
 use Rattle.bl_tree.specs.declared.tree.Var.{Var}
@@ -87,19 +46,15 @@ use Rattle.bl_types.specs.declared.environment.Environment.{Environment}
 use Rattle.bl_types.specs.declared.environment.Known.{Known}
 use Rattle.bl_types.specs.Programs.{after_items, failures_behind, program_behind}
 use Rattle.bl_types.specs.Rules.{PassesBehind as TypesPass}
-use Rattle.bl_types_laws.proofs.Forms.{nil_left}
 use Rattle.bl_types_laws.proofs.Reached.{same_counts}
 use Rattle.bl_types_laws_places.specs.Agree.{SameHeads, SameStructs}
 use Rattle.bl_lex.specs.Tokens.{Lexes}
 use Rattle.bl_parse.specs.Programs.{Spells}
 use Rattle.bl_parse_syntax.specs.Rules.{PassesDepth}
 use Rattle.bl_tree.specs.declared.token.Token.{Token}
+use Rattle.bl_types_laws.proofs.ItemTurns.{none_contained}
 
 -- ---- what passes
-
-none_contained : (xs : List Failure) → ((failure : Failure) → Contains xs failure → ⊥) → xs ≡ []
-none_contained [] none = refl
-none_contained (failure ∷ rest) none = absurd (none failure (in_contains failure (failure ∷ rest) (inl refl)))
 
 no_failure : (last : Bool) (env : Environment) (named : Named) → TypesPass last env named → failures_behind last env named ≡ []
 no_failure last env named passes =
@@ -139,15 +94,12 @@ test_at_most n m never =
 all_by : {A : Type 0} (test : A → Bool) (xs : List A) → ((x : A) → Contains xs x → test x ≡ true) → list_all test xs ≡ true
 all_by test [] each = refl
 all_by test (x ∷ xs) each =
-    both (test x) (list_all test xs) (each x (zero, omega arith, refl))
+    and_from (test x) (list_all test xs) (each x (zero, omega arith, refl))
     (all_by test xs (λ y there. let less = there.1 in each y (suc there.0, omega arith, there.2)))
-
-get_contains : {A : Type 0} (xs : List A) (k : ℕ) (x : A) → slice_get xs k ≡ Some x → Contains xs x
-get_contains xs k x there = (k, slice_get_within xs k x there, get_or_from_slice_get xs k x x there)
 
 -- an element from a position on
 behind_position : {A : Type 0} (xs : List A) (n k : ℕ) (x : A) → n ≤ k → slice_get xs k ≡ Some x → Contains (drop n xs) x
-behind_position xs zero k x from there = get_contains xs k x there
+behind_position xs zero k x from there = contains_at xs k x there
 behind_position [] (suc n) k x from there = absurd (cc)
 behind_position (y ∷ xs) (suc n) zero x from there = absurd (omega (arith, from))
 behind_position (y ∷ xs) (suc n) (suc k) x from there = behind_position xs n k x (omega (arith, from)) there
@@ -202,7 +154,7 @@ module _ (faces : List Face) (last : Bool) (raw : Raw) (face : Face) (stand : Fa
   scopes = opened_by behind.headings
 
   none : (after_items named (order_of raw.items) env).failures ≡ []
-  none = nil_left (program_behind env named).failures _ (no_failure last env named (types_pass behind last raw passes))
+  none = first_empty (program_behind env named).failures _ (no_failure last env named (types_pass behind last raw passes))
 
   -- where these are the structs in the end
   begun : (whole rest : List StructDef) → whole ≡ behind.structs ++ rest → BeginsWith (struct_nestings whole) walk
@@ -246,7 +198,7 @@ module _ (faces : List Face) (last : Bool) (raw : Raw) (face : Face) (stand : Fa
   pub face_adds : FaceAdds faces face raw
   face_adds = record {
     stand = ap (items_stand before_items) (faces_next faces face) ∙ stand-append before_items (all_items faces) face.items
-        ∙ both (items_stand before_items (all_items faces)) (items_stand walk face.items) stand (ap (items_stand walk) is_face ∙ adds.stand);
+        ∙ and_from (items_stand before_items (all_items faces)) (items_stand walk face.items) stand (ap (items_stand walk) is_face ∙ adds.stand);
     headings = ap (λ (w : Walk). w.behind.headings) next_is ∙ adds.headings;
     structs = subst (λ (w : Walk). SameStructs w.behind.structs known.structs) (sym next_is) adds.structs;
     constants = ap (λ (w : Walk). w.behind.constants) next_is ∙ adds.constants;

@@ -1,22 +1,5 @@
 -- The joined text of texts that keep the rules Lex and Profile and end in neither `@` nor `[` keeps them.
-use Rattle.std.proofs.Common.{
-  ◌≡◌,
-  ℕ,
-  ◌+◌,
-  List,
-  [],
-  ◌∷◌,
-  ◌++◌,
-  length,
-  map,
-  refl,
-  ap,
-  sym,
-  ◌∙◌,
-  subst,
-  arith,
-  append-nil,
-}
+use Rattle.std.proofs.Common.{◌≡◌, ℕ, ◌+◌, List, [], ◌∷◌, ◌++◌, length, map, refl, ap, sym, ◌∙◌, subst, arith, append-nil}
 use Rattle.std.proofs.lemmas.List.Elements.{filter-append}
 use Rattle.std.specs.Prelude.{None, ⊤, not}
 use Rattle.bl_tree.specs.declared.place.Place.{Place}
@@ -34,6 +17,7 @@ use Rattle.bl_joined_laws.proofs.Joining.{further, more, size_more}
 use Rattle.bl_joined_laws.proofs.Pieces.{longest_feed, longest_there}
 use Rattle.bl_module_laws_texts.proofs.Border.{both, covers_inside, last_form, last_moved, moved_piece, none_of_none, none_there, without_moved}
 use Rattle.bl_module_laws_texts.proofs.Last.{EndsItems}
+use Rattle.bl_joined_laws.proofs.Joining.{covers_append}
 
 -- pieces cover the text, the profile leaves none out, and the last is neither `@` nor `[`
 pub record HasPieces (text : List ℕ) : Type 0 where
@@ -52,11 +36,6 @@ pub none_where_passing : (text : List ℕ) → Passes text → (parts : List Lex
     NoneLeftOut text (without_between parts)
 none_where_passing text passes parts covers before part after stands left = passes rule.Profile (place_of part) []
     (record { parts = parts; covers = covers; before = before; part = part; after = after; stands = stands; left_out = left; at = refl }, refl)
-
-covers_append : (text : List ℕ) (start : ℕ) (xs : List LexedPiece) (middle : ℕ) (ys : List LexedPiece) (end : ℕ) →
-    Covers text start xs middle → Covers text middle ys end → Covers text start (xs ++ ys) end
-covers_append text start [] middle ys end a b = subst (λ (s : ℕ). Covers text s ys end) (sym a) b
-covers_append text start (x ∷ xs) middle ys end a b = (a.0, a.1, covers_append text x.end xs middle ys end a.2 b)
 
 -- the rest of the whole, from a position on, is covered, and the profile leaves none of it out
 record Rest (whole : List ℕ) (start : ℕ) : Type 0 where

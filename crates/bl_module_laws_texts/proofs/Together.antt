@@ -3,10 +3,10 @@ use Rattle.std.proofs.Common.{◌≡◌, inl, inr, ℕ, List, [], ◌∷◌, len
 use Rattle.std.proofs.lemmas.Option.{slice_get-get_or}
 use Rattle.std.proofs.lemmas.List.Elements.{All-cons, All-head, All-nil, All-tail}
 use Rattle.std.specs.Prelude.{All, None}
+use Rattle.bl_tree.proofs.Basics.{some_within}
 use Rattle.bl_face.specs.declared.face.Face.{Face}
 use Rattle.bl_joined.specs.Texts.{LexedText, joined_text, joined_tokens, texts_of}
 use Rattle.bl_joined_laws.specs.Items.{IsRead, ReadText, all_lexed, joined_items}
-use Rattle.bl_joined_laws.proofs.Moved.{some_at}
 use Rattle.bl_lex.specs.Tokens.{Lexes}
 use Rattle.bl_module.specs.Rules.{FailsIn}
 use Rattle.bl_module_laws.specs.Files.{AreGoodFiles}
@@ -119,7 +119,7 @@ module _ (laws : JoiningLaws) where
 
 good_alone : (count : ℕ) (texts : List (List ℕ)) (faces : List Face) → AreGoodFiles count texts faces → All ParsesAlone texts
 good_alone count texts faces good k d inside =
-    let face = some_at faces k (omega (arith, inside, good.counted)) in
+    let face = some_within faces k (omega (arith, inside, good.counted)) in
     let is = good.each k (get_or texts k d) face.0 (slice_get-get_or texts k d inside) face.1 in
     record { passes = λ of at also fails. is.passes of at also (FailsIn.in_bytes fails); raw = is.is_face.raw; parses = is.is_face.parses }
 

@@ -1,29 +1,5 @@
 -- What is declared in an open scope has a lesser position than what is declared next.
-use Rattle.std.proofs.Common.{
-  ◌≡◌,
-  ℕ,
-  ◌<◌,
-  ◌≤◌,
-  true,
-  false,
-  cond,
-  List,
-  [],
-  ◌∷◌,
-  ◌++◌,
-  inl,
-  inr,
-  ⊎_elim,
-  ◌⊎◌,
-  Option,
-  Some,
-  None,
-  refl,
-  ap,
-  subst,
-  ◌∙◌,
-  arith,
-}
+use Rattle.std.proofs.Common.{◌≡◌, ℕ, ◌<◌, ◌≤◌, true, false, cond, List, [], ◌∷◌, ◌++◌, inl, inr, ⊎_elim, ◌⊎◌, Option, Some, None, refl, ap, subst, ◌∙◌, arith}
 use Rattle.std.specs.Prelude.{bytes_eq, ⊤}
 use Rattle.std.specs.Option.{option_or}
 use Rattle.bl_names_scopes.specs.declared.kind.Kind.{Kind}

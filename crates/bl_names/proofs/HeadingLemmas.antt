@@ -1,10 +1,10 @@
 -- What stands for headings, one after another.
 use Rattle.std.proofs.Common.{◌≡◌, ℕ, ◌+◌, ◌<◌, List, [], ◌∷◌, ◌++◌, map, drop, length, get_or, refl, sym, ap, ◌∙◌, append-nil, append_assoc}
+use Rattle.bl_tree.proofs.Basics.{drop_next}
 use Rattle.bl_names_scopes.specs.declared.heading.Heading.{Heading}
 use Rattle.bl_names_scopes.specs.declared.kind.Kind.{Kind}
 use Rattle.bl_names_scopes.specs.declared.kind.Kind.TheVariants.{Struct, Constant, Variable, Function, Activity, Field}
 use Rattle.bl_names_scopes.specs.Scopes.{after, enter, heading_mark}
-use Rattle.bl_names_scopes.proofs.WalkLemmas.{next_of}
 use Rattle.bl_parse_tree.specs.declared.name.Name.{Name}
 use Rattle.bl_names.specs.declared.state.State.{State}
 use Rattle.bl_names.specs.Named.{blank_constant, blank_struct, blank_unit, blanks}
@@ -76,11 +76,4 @@ pub behind_next : (headings : List Heading) (k : ℕ) (heading : Heading) (state
     → new ≡ with_heading state heading → behind state (drop k headings) ≡ found → behind new (drop (k + 1) headings) ≡ found
 behind_next headings k heading state new found within is step h =
     ap (λ s. behind s (drop (k + 1) headings)) step ∙ behind_one state heading (drop (k + 1) headings)
-    ∙ ap (behind state) (sym (next_of headings k heading within is)) ∙ h
-
-pub behind_none : (state : State) → behind state [] ≡ state
-behind_none state = λ i. record state {
-  structs = append-nil state.structs i;
-  constants = append-nil state.constants i;
-  units = append-nil state.units i;
-}
+    ∙ ap (behind state) (sym (drop_next headings k heading within is)) ∙ h

@@ -1,25 +1,7 @@
 -- What is made behind structs, units and the items of a program.
-use Rattle.std.proofs.Common.{
-  ◌≡◌,
-  ℕ,
-  ◌+◌,
-  ◌<◌,
-  List,
-  [],
-  ◌∷◌,
-  ◌++◌,
-  map,
-  drop,
-  length,
-  get_or,
-  refl,
-  sym,
-  ap,
-  ◌∙◌,
-  append-nil,
-  append_assoc,
-}
+use Rattle.std.proofs.Common.{◌≡◌, ℕ, ◌+◌, ◌<◌, List, [], ◌∷◌, ◌++◌, map, drop, length, get_or, refl, sym, ap, ◌∙◌, append-nil, append_assoc}
 use Rattle.std.specs.Prelude.{Option, Some, option_map}
+use Rattle.bl_tree.proofs.Basics.{drop_next}
 use Rattle.bl_tree.specs.declared.tree.Role.{Role}
 use Rattle.bl_tree.specs.declared.tree.Role.TheVariants as role
 use Rattle.bl_tree.specs.Reduce.{joined}
@@ -28,23 +10,8 @@ use Rattle.bl_names_tree.specs.declared.item.NamedVar.{NamedVar}
 use Rattle.bl_names_tree.specs.declared.stmt.NamedStmt.{NamedStmt}
 use Rattle.bl_names_tree.specs.declared.types.NamedType.{NamedType}
 use Rattle.bl_names_scopes.specs.declared.kind.Kind.TheVariants as kind
-use Rattle.bl_names_scopes.specs.Marks.{
-  closes,
-  declares,
-  field_mark,
-  field_type_marks,
-  in_scope,
-  inside_unit,
-  item_marks,
-  kind_of_unit,
-  marks_of,
-  optional,
-  param_marks,
-  stmt_marks,
-  struct_marks,
-  type_marks,
-  unit_marks,
-}
+use Rattle.bl_names_scopes.specs.Marks.{closes, declares, field_mark, field_type_marks, in_scope, inside_unit, item_marks, kind_of_unit, marks_of, optional}
+use Rattle.bl_names_scopes.specs.Marks.{param_marks, stmt_marks, struct_marks, type_marks, unit_marks}
 use Rattle.bl_names_scopes.specs.Scopes.{Scopes, after, enter, scopes_outside}
 use Rattle.bl_parse_tree.specs.declared.item.RawField.{RawField}
 use Rattle.bl_parse_tree.specs.declared.item.RawItem.{RawItem}
@@ -57,27 +24,26 @@ use Rattle.bl_names.specs.declared.state.State.{State}
 use Rattle.bl_names.specs.Named.{along, block_piece, inside_piece, named_var, opened, param_piece, params_piece, role_piece, unit_inside}
 use Rattle.bl_names.specs.Naming.{named_type}
 use Rattle.bl_names.specs.inner.Past.{past, with_unit, with_variable}
-use Rattle.bl_names_scopes.proofs.WalkLemmas.{next_of}
 use Rattle.bl_names.proofs.PastLemmas.{enter-behind, past-followed}
 use Rattle.bl_names.proofs.PieceLemmas.{block_marks, role_marks}
 use Rattle.bl_names.proofs.StillLemmas.{Still, after-append, still_append, still_optional, still_type}
 
 -- ---- structs
 
-still_types : (fields : List RawField) → Still (joined (map field_type_marks fields))
+pub still_types : (fields : List RawField) → Still (joined (map field_type_marks fields))
 still_types [] scopes = refl
 still_types (field ∷ fields) scopes =
     still_append (type_marks field.ty) (joined (map field_type_marks fields)) (still_type field.ty) (still_types fields) scopes
 
-fields_outer : (fields : List RawField) (scopes : Scopes) → (after scopes (map field_mark fields)).outer ≡ scopes.outer
+pub fields_outer : (fields : List RawField) (scopes : Scopes) → (after scopes (map field_mark fields)).outer ≡ scopes.outer
 fields_outer [] scopes = refl
 fields_outer (field ∷ fields) scopes = fields_outer fields (enter scopes (field_mark field))
 
-fields_counts : (fields : List RawField) (scopes : Scopes) → (after scopes (map field_mark fields)).counts ≡ scopes.counts
+pub fields_counts : (fields : List RawField) (scopes : Scopes) → (after scopes (map field_mark fields)).counts ≡ scopes.counts
 fields_counts [] scopes = refl
 fields_counts (field ∷ fields) scopes = fields_counts fields (enter scopes (field_mark field))
 
-still_fields : (fields : List RawField) → Still (in_scope (map field_mark fields))
+pub still_fields : (fields : List RawField) → Still (in_scope (map field_mark fields))
 still_fields fields scopes =
     after-append (opened scopes) (map field_mark fields) (closes ∷ [])
     ∙ (λ i. scopes_outside (fields_outer fields (opened scopes) i) (fields_counts fields (opened scopes) i))
@@ -187,11 +153,11 @@ pub along-next : {A : Type 0} (gives : Scopes → RawItem → List A) (xs : List
 along-next gives xs k x scopes new old more found within is new_is more_is h =
     (λ i. more_is i ++ along gives (new_is i) (drop (k + 1) xs))
     ∙ append_assoc old (gives scopes x) (along gives (after scopes (item_marks x)) (drop (k + 1) xs))
-    ∙ ap (λ l. old ++ along gives scopes l) (sym (next_of xs k x within is)) ∙ h
+    ∙ ap (λ l. old ++ along gives scopes l) (sym (drop_next xs k x within is)) ∙ h
 
 pub scopes-next : (xs : List RawItem) (k : ℕ) (x : RawItem) (scopes new found : Scopes) → k < length xs → x ≡ get_or xs k x →
     new ≡ after scopes (item_marks x) → after scopes (marks_of (drop k xs)) ≡ found → after new (marks_of (drop (k + 1) xs)) ≡ found
 scopes-next xs k x scopes new found within is new_is h =
     ap (λ s. after s (marks_of (drop (k + 1) xs))) new_is
     ∙ sym (after-append scopes (item_marks x) (marks_of (drop (k + 1) xs)))
-    ∙ ap (λ l. after scopes (marks_of l)) (sym (next_of xs k x within is)) ∙ h
+    ∙ ap (λ l. after scopes (marks_of l)) (sym (drop_next xs k x within is)) ∙ h

@@ -23,53 +23,13 @@ use Rattle.bl_parse_tree.specs.declared.stmt.RawPath.{RawPath}
 use Rattle.bl_parse_tree.specs.declared.stmt.RawStmt.{RawStmt}
 use Rattle.bl_parse_tree.specs.declared.stmt.RawStmtKind.{RawStmtKind, out-RawStmtKind}
 use Rattle.bl_parse_tree.specs.declared.stmt.RawStmtKind.TheOpen.{RawStmtKind-F}
-use Rattle.bl_parse_tree.specs.declared.stmt.RawStmtKind.TheVariants.{
-  Assign,
-  Await,
-  Call,
-  If,
-  Let,
-  Return,
-  Run,
-  Until,
-  Var,
-  When,
-  While,
-  outs-Assign,
-  outs-Await,
-  outs-Call,
-  outs-If,
-  outs-Let,
-  outs-Return,
-  outs-Run,
-  outs-Until,
-  outs-Var,
-  outs-When,
-  outs-While,
-}
+use Rattle.bl_parse_tree.specs.declared.stmt.RawStmtKind.TheVariants.{Assign, Await, Call, If, Let, Return, Run, Until, Var, When, While, outs-Assign}
+use Rattle.bl_parse_tree.specs.declared.stmt.RawStmtKind.TheVariants.{outs-Await, outs-Call, outs-If, outs-Let, outs-Return, outs-Run, outs-Until, outs-Var}
+use Rattle.bl_parse_tree.specs.declared.stmt.RawStmtKind.TheVariants.{outs-When, outs-While}
 use Rattle.bl_parse_tree.specs.declared.types.RawType.{RawType}
 use Rattle.bl_names.specs.declared.state.State.{State}
-use Rattle.bl_names.specs.Named.{
-  Piece,
-  arm_piece,
-  arms_piece,
-  block_piece,
-  branch_piece,
-  constant_piece,
-  declaring,
-  kind_piece,
-  made_of_all,
-  marks_of_all,
-  named_constant,
-  named_var,
-  opened,
-  own_scope,
-  piece_of_arm,
-  piece_of_kind,
-  scoped,
-  stmt_layer_piece,
-  stmt_piece,
-}
+use Rattle.bl_names.specs.Named.{Piece, arm_piece, arms_piece, block_piece, branch_piece, constant_piece, declaring, kind_piece, made_of_all, marks_of_all}
+use Rattle.bl_names.specs.Named.{named_constant, named_var, opened, own_scope, piece_of_arm, piece_of_kind, scoped, stmt_layer_piece, stmt_piece}
 use Rattle.bl_names.specs.Naming.{named_expr}
 use Rattle.bl_names.specs.inner.Past.{past, with_constant, with_variable}
 use Rattle.bl_names.proofs.PastLemmas.{enter-behind, past-before, past-behind, past-followed, past-plain}

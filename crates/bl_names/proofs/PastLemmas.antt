@@ -1,31 +1,12 @@
 -- What is made behind one part and then another.
-use Rattle.std.proofs.Common.{
-  ◌≡◌,
-  ℕ,
-  ◌+◌,
-  ◌<◌,
-  List,
-  [],
-  ◌∷◌,
-  ◌++◌,
-  map,
-  drop,
-  length,
-  get_or,
-  sym,
-  ap,
-  ◌∙◌,
-  append_assoc,
-  append-nil,
-  arith,
-}
+use Rattle.std.proofs.Common.{◌≡◌, ℕ, ◌+◌, ◌<◌, List, [], ◌∷◌, ◌++◌, map, drop, length, get_or, sym, ap, ◌∙◌, append_assoc, append-nil, arith}
 use Rattle.std.proofs.lemmas.List.{length-append}
 use Rattle.std.specs.Prelude.{Result, Ok, Err, OnOk}
+use Rattle.bl_tree.proofs.Basics.{drop_next}
 use Rattle.bl_names_tree.specs.declared.stmt.NamedStmt.{NamedStmt}
 use Rattle.bl_names_scopes.specs.declared.kind.Kind.{Kind}
 use Rattle.bl_names_scopes.specs.Marks.{Marks, closes, declared_after, declares, in_scope, opens}
 use Rattle.bl_names_scopes.specs.Scopes.{Scopes, after, enter}
-use Rattle.bl_names_scopes.proofs.WalkLemmas.{next_of}
 use Rattle.bl_parse_tree.specs.declared.name.Name.{Name}
 use Rattle.bl_names.specs.declared.state.State.{State}
 use Rattle.bl_names.specs.Named.{Piece, all, constants_of_all, followed, marks_of_all, none, opened, own_scope, scoped, vars_of_all}
@@ -35,9 +16,6 @@ use Rattle.bl_names.proofs.StillLemmas.{Still, after-append}
 -- counts behind one part and then another
 pub sums : (a b c x y : ℕ) → b ≡ a + x → c ≡ b + y → c ≡ a + (x + y)
 sums a b c x y one two = omega arith
-
-pub none_more : (n : ℕ) → n ≡ n + 0
-none_more n = omega arith
 
 pub more : {A : Type 0} (xs ys : List A) (a b c : ℕ) → b ≡ a + length xs → c ≡ b + length ys → c ≡ a + length (xs ++ ys)
 more xs ys a b c one two = sums a b c (length xs) (length ys) one two ∙ ap (λ n. a + n) (sym (length-append xs ys))
@@ -119,7 +97,7 @@ pub loop_past : {X A : Type 0} (piece : X → Piece A) (xs : List X) (k : ℕ) (
     new ≡ past state (piece x) → past state (all (map piece (drop k xs))) ≡ found → past new (all (map piece (drop (k + 1) xs))) ≡ found
 loop_past piece xs k x state new found within is step h =
     ap (λ s. past s (all (map piece (drop (k + 1) xs)))) step
-    ∙ past-next piece (drop k xs) (drop (k + 1) xs) x state found (next_of xs k x within is) h
+    ∙ past-next piece (drop k xs) (drop (k + 1) xs) x state found (drop_next xs k x within is) h
 
 pub loop_made : {X A : Type 0} (piece : X → Piece A) (xs : List X) (k : ℕ) (x : X) (state new : State) (one : A)
     (made pushed found : List A) → k < length xs
@@ -130,7 +108,7 @@ pub loop_made : {X A : Type 0} (piece : X → Piece A) (xs : List X) (k : ℕ) (
     pushed ++ (all (map piece (drop (k + 1) xs))).made new.scopes ≡ found
 loop_made piece xs k x state new one made pushed found within is step one_is pushed_is h =
     (λ i. (pushed_is ∙ (λ j. made ++ (one_is j ∷ []))) i ++ (all (map piece (drop (k + 1) xs))).made (step i).scopes)
-    ∙ made-next piece (drop k xs) (drop (k + 1) xs) x state.scopes made found (next_of xs k x within is) h
+    ∙ made-next piece (drop k xs) (drop (k + 1) xs) x state.scopes made found (drop_next xs k x within is) h
 
 pub closed_past : {A : Type 0} (state new : State) (begun ended : Scopes) (piece : Piece A) → begun ≡ enter state.scopes opens →
     new ≡ past (record state { scopes = begun }) piece → ended ≡ enter new.scopes closes →

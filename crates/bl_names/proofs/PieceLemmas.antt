@@ -9,19 +9,8 @@ use Rattle.bl_names_tree.specs.declared.stmt.NamedArm.{NamedArm}
 use Rattle.bl_names_tree.specs.declared.stmt.NamedBranch.{NamedBranch}
 use Rattle.bl_names_tree.specs.declared.stmt.NamedStmt.{NamedStmt}
 use Rattle.bl_names_tree.specs.declared.stmt.NamedStmtKind.{NamedStmtKind}
-use Rattle.bl_names_scopes.specs.Marks.{
-  Marks,
-  arm_layer_marks,
-  branch_layer_marks,
-  expr_marks,
-  in_scope,
-  marks_of_arm,
-  marks_of_branch,
-  param_marks,
-  stmt_kind_marks,
-  stmt_layer_marks,
-  stmt_marks,
-}
+use Rattle.bl_names_scopes.specs.Marks.{Marks, arm_layer_marks, branch_layer_marks, expr_marks, in_scope, marks_of_arm, marks_of_branch, param_marks}
+use Rattle.bl_names_scopes.specs.Marks.{stmt_kind_marks, stmt_layer_marks, stmt_marks}
 use Rattle.bl_parse_tree.specs.declared.expr.RawExpr.{RawExpr}
 use Rattle.bl_parse_tree.specs.declared.item.RawParam.{RawParam}
 use Rattle.bl_parse_tree.specs.declared.stmt.RawArm.{RawArm, fold-roll-RawArm, roll-RawArm}
@@ -29,19 +18,8 @@ use Rattle.bl_parse_tree.specs.declared.stmt.RawBranch.{RawBranch, fold-roll-Raw
 use Rattle.bl_parse_tree.specs.declared.stmt.RawStmt.{RawStmt, fold-roll-RawStmt}
 use Rattle.bl_parse_tree.specs.declared.stmt.RawStmtKind.{RawStmtKind, fold-RawStmtKind, fold-roll-RawStmtKind, fold_out-RawStmtKind, map-RawStmtKind, out-RawStmtKind}
 use Rattle.bl_parse_tree.specs.declared.stmt.RawStmtKind.TheOpen.{RawStmtKind-F}
-use Rattle.bl_names.specs.Named.{
-  Piece,
-  arm_piece,
-  branch_piece,
-  kind_piece,
-  marks_of_all,
-  param_piece,
-  piece_of_arm,
-  piece_of_branch,
-  piece_of_kind,
-  stmt_layer_piece,
-  stmt_piece,
-}
+use Rattle.bl_names.specs.Named.{Piece, arm_piece, branch_piece, kind_piece, marks_of_all, param_piece, piece_of_arm, piece_of_branch, piece_of_kind}
+use Rattle.bl_names.specs.Named.{stmt_layer_piece, stmt_piece}
 use Rattle.bl_names.proofs.RawStmtInduction.{Cases, induct, stmt}
 
 abbrev pub parts : RawStmtKind-F RawStmtKind RawArm RawBranch RawStmt

@@ -1,33 +1,10 @@
 -- The positions in types and expressions are in place, where every use fits.
-use Rattle.std.proofs.Common.{
-  ◌≡◌,
-  ℕ,
-  ◌<◌,
-  Bool,
-  true,
-  ◌&&◌,
-  nat_lt,
-  List,
-  [],
-  ◌∷◌,
-  ◌++◌,
-  map,
-  inl,
-  inr,
-  ⊎_elim,
-  ◌⊎◌,
-  Option,
-  Some,
-  None,
-  refl,
-  ap,
-  subst,
-  ◌∙◌,
-}
+use Rattle.std.proofs.Common.{◌≡◌, ℕ, ◌<◌, Bool, true, ◌&&◌, nat_lt, List, [], ◌∷◌, ◌++◌, map, inl, inr, ⊎_elim, ◌⊎◌, Option, Some, None, refl, ap, subst, ◌∙◌}
 use Rattle.std.specs.Prelude.{All, option_map}
 use Rattle.std.specs.List.{list_all}
 use Rattle.std.proofs.lemmas.Bool.{lt-ltb}
 use Rattle.std.proofs.lemmas.List.Elements.{All-head, All-tail}
+use Rattle.std.proofs.lemmas.Bool.{and_from}
 use Rattle.bl_tree.specs.declared.place.Place.{Place}
 use Rattle.bl_tree.specs.Reduce.{all_of, joined}
 use Rattle.bl_names_tree.specs.declared.expr.NamedExpr.{NamedExpr, fold-roll-NamedExpr, roll-NamedExpr}
@@ -49,21 +26,8 @@ use Rattle.bl_names_scopes.specs.declared.kind.Wanted.{Wanted}
 use Rattle.bl_names_scopes.specs.declared.kind.Wanted.TheVariants as wants
 use Rattle.bl_names_scopes.specs.declared.scopes.Counts.{Counts}
 use Rattle.bl_names_scopes.specs.Kinds.{suits}
-use Rattle.bl_names_scopes.specs.Marks.{
-  Marks,
-  expr_layer_marks,
-  expr_marks,
-  kind_marks,
-  length_marks,
-  marks_of_part,
-  optional,
-  part_marks,
-  path_marks,
-  target_layer_marks,
-  target_marks,
-  type_marks,
-  uses,
-}
+use Rattle.bl_names_scopes.specs.Marks.{Marks, expr_layer_marks, expr_marks, kind_marks, length_marks, marks_of_part, optional, part_marks, path_marks}
+use Rattle.bl_names_scopes.specs.Marks.{target_layer_marks, target_marks, type_marks, uses}
 use Rattle.bl_names_scopes.specs.Scopes.{Scopes, count_of}
 use Rattle.bl_parse_tree.specs.declared.expr.RawExpr.{RawExpr, fold-roll-RawExpr}
 use Rattle.bl_parse_tree.specs.declared.expr.RawExprKind.{RawExprKind, fold-RawExprKind, fold-roll-RawExprKind, map-RawExprKind}
@@ -76,23 +40,8 @@ use Rattle.bl_parse_tree.specs.declared.types.RawLength.{RawLength}
 use Rattle.bl_parse_tree.specs.declared.types.RawLength.TheVariants as raw_length
 use Rattle.bl_parse_tree.specs.declared.types.RawType.{RawType, fold-roll-RawType, ind-RawType, map-RawType, roll-RawType}
 use Rattle.bl_parse_tree.specs.declared.types.RawType.TheOpen.{RawType-F}
-use Rattle.bl_names.specs.Naming.{
-  named_expr,
-  named_expr_layer,
-  named_kind,
-  named_length,
-  named_part,
-  named_path,
-  named_root,
-  named_step,
-  named_target,
-  named_target_layer,
-  named_type,
-  position,
-  position_of,
-  root_at,
-  root_of,
-}
+use Rattle.bl_names.specs.Naming.{named_expr, named_expr_layer, named_kind, named_length, named_part, named_path, named_root, named_step, named_target}
+use Rattle.bl_names.specs.Naming.{named_target_layer, named_type, position, position_of, root_at, root_of}
 use Rattle.bl_names.proofs.BelowLemmas.{Below, DeclarationBelow, bound_below}
 use Rattle.bl_names.proofs.FitLemmas.{Fits, IsFit, fits_behind, fits_first}
 use Rattle.bl_names.proofs.RawExprInduction.{Cases, EachIndex, OfIndex, expr, induct, induct_target}
@@ -103,9 +52,6 @@ earlier_of counts = record { structs = counts.structs; constants = counts.consta
 
 abbrev pub earlier : Scopes → DeclaredBefore
 earlier scopes = earlier_of scopes.counts
-
-pub both : (a b : Bool) → a ≡ true → b ≡ true → (a && b) ≡ true
-both a b one two = λ i. one i && two i
 
 -- ---- what a use is bound to
 
@@ -241,7 +187,7 @@ module _ (scopes : Scopes) (counts : Counts) (below : Below scopes) where
       rw fold-roll-RawType
       (type_at (type.Array (named_length scopes n) (named_type scopes element.0)) (NamedType-F.Array (named_length scopes n) (named_type scopes element.0))
       (type.outs-Array (named_length scopes n) (named_type scopes element.0))
-      ∙ both _ _ (length_is n (fits_first there (length_marks n) (type_marks element.0) at))
+      ∙ and_from _ _ (length_is n (fits_first there (length_marks n) (type_marks element.0) at))
       (element.1 (fits_behind there (length_marks n) (type_marks element.0) (still_length n) at)))
 
   pub type_is : (ty : RawType) → Fits there (type_marks ty) → type_placed (earlier scopes) (named_type scopes ty) ≡ true
@@ -258,7 +204,7 @@ module _ (scopes : Scopes) (counts : Counts) (below : Below scopes) where
       Fits there (joined (map marks xs)) → all_of (map placed (map made xs)) ≡ true
   all_is marks placed made [] still each fits = refl
   all_is marks placed made (x ∷ xs) still each fits =
-      both _ _ (All-head (λ x. Fits there (marks x) → placed (made x) ≡ true) x xs each (fits_first there (marks x) (joined (map marks xs)) fits))
+      and_from _ _ (All-head (λ x. Fits there (marks x) → placed (made x) ≡ true) x xs each (fits_first there (marks x) (joined (map marks xs)) fits))
       (all_is marks placed made xs still (All-tail (λ x. Fits there (marks x) → placed (made x) ≡ true) x xs each)
       (fits_behind there (marks x) (joined (map marks xs)) (still x) fits))
 
@@ -360,7 +306,7 @@ module _ (scopes : Scopes) (counts : Counts) (below : Below scopes) where
   target_case place root parts each wanted read fits =
       let at = rw fold-roll-RawTarget at fits in
       rw (fold-roll-RawTarget, fold-roll-NamedTarget)
-      (both _ _ (target_root_placed root wanted read at.0)
+      (and_from _ _ (target_root_placed root wanted read at.0)
       (all_is marks_of_part (step_placed (earlier scopes)) (named_step scopes) parts still_part (λ k d within. part_is _ _ refl (each k d within)) at.1))
 
   cases : Cases ExprPlaced TargetPlaced
@@ -374,13 +320,13 @@ module _ (scopes : Scopes) (counts : Counts) (below : Below scopes) where
     one = λ place op a is. kind_is place (RawExprKind-F.One op a) (NamedExprKind-F.One op (named_expr scopes a)) (what.outs-One op (named_expr scopes a)) is;
     two = λ place op a b is_a is_b. kind_is place (RawExprKind-F.Two op a b) (NamedExprKind-F.Two op (named_expr scopes a) (named_expr scopes b))
         (what.outs-Two op (named_expr scopes a) (named_expr scopes b))
-        (λ fits. both _ _ (is_a (fits_first there (expr_marks a) (expr_marks b) fits))
+        (λ fits. and_from _ _ (is_a (fits_first there (expr_marks a) (expr_marks b) fits))
         (is_b (fits_behind there (expr_marks a) (expr_marks b) (still_expr a) fits)));
     cast = λ place s a is. kind_is place (RawExprKind-F.Cast s a) (NamedExprKind-F.Cast s (named_expr scopes a)) (what.outs-Cast s (named_expr scopes a)) is;
     call = λ place f inputs all. kind_is place (RawExprKind-F.Call f inputs)
         (NamedExprKind-F.Call f.place (position scopes f) (map (named_expr scopes) inputs))
         (what.outs-Call f.place (position scopes f) (map (named_expr scopes) inputs))
-        (λ fits. both _ _ (function_placed f fits.0) (all_is expr_marks (expr_placed (earlier scopes)) (named_expr scopes) inputs still_expr all fits.1));
+        (λ fits. and_from _ _ (function_placed f fits.0) (all_is expr_marks (expr_placed (earlier scopes)) (named_expr scopes) inputs still_expr all fits.1));
     target = target_case;
   }
 
@@ -398,10 +344,10 @@ module _ (scopes : Scopes) (counts : Counts) (below : Below scopes) where
       list_all (expr_placed (earlier scopes)) (map (named_expr scopes) es) ≡ true
   exprs_are [] fits = refl
   exprs_are (e ∷ es) fits =
-      both _ _ (expr_is e (fits_first there (expr_marks e) (joined (map expr_marks es)) fits))
+      and_from _ _ (expr_is e (fits_first there (expr_marks e) (joined (map expr_marks es)) fits))
       (exprs_are es (fits_behind there (expr_marks e) (joined (map expr_marks es)) (still_expr e) fits))
 
   pub paths_are : (paths : List RawPath) → Fits there (joined (map path_marks paths))
       → list_all (path_placed (earlier scopes)) (map (named_path scopes) paths) ≡ true
   paths_are [] fits = refl
-  paths_are (path ∷ paths) fits = both _ _ (variable_placed path.root fits.0) (paths_are paths fits.1)
+  paths_are (path ∷ paths) fits = and_from _ _ (variable_placed path.root fits.0) (paths_are paths fits.1)

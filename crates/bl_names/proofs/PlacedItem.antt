@@ -1,40 +1,14 @@
 -- The positions in structs, constants and units are in place, where every use fits.
-use Rattle.std.proofs.Common.{
-  ◌≡◌,
-  ℕ,
-  ◌+◌,
-  ◌<◌,
-  ◌≤◌,
-  Bool,
-  true,
-  List,
-  [],
-  ◌∷◌,
-  ◌++◌,
-  map,
-  length,
-  take,
-  drop,
-  inr,
-  Option,
-  Some,
-  None,
-  refl,
-  sym,
-  ap,
-  subst,
-  ◌∙◌,
-  append-nil,
-  append_assoc,
-  arith,
-  suc,
-}
+use Rattle.std.proofs.Common.{◌≡◌, ℕ, ◌+◌, ◌<◌, ◌≤◌, Bool, true, List, [], ◌∷◌, ◌++◌, map, length, take, drop, inr, Option, Some, None, refl, sym, ap, subst}
+use Rattle.std.proofs.Common.{◌∙◌, append-nil, append_assoc, arith, suc}
 use Rattle.std.specs.Prelude.{option_and_then, option_map, if◌then◌else◌}
 use Rattle.std.specs.List.{list_all}
 use Rattle.std.proofs.Math.Seq.{drop-append_seam, take-append_seam}
 use Rattle.std.proofs.lemmas.Bool.{eq-eqb, le-leb}
 use Rattle.std.proofs.lemmas.List.{length-append}
 use Rattle.std.proofs.lemmas.List.Folds.{list_all-append}
+use Rattle.std.proofs.lemmas.Bool.{and_from}
+use Rattle.bl_tree.proofs.Basics.{plus_none}
 use Rattle.bl_tree.specs.declared.tree.Role.{Role}
 use Rattle.bl_tree.specs.declared.tree.Role.TheVariants as role
 use Rattle.bl_tree.specs.declared.tree.UnitKind.{UnitKind}
@@ -46,36 +20,12 @@ use Rattle.bl_names_tree.specs.declared.item.NamedUnit.{NamedUnit}
 use Rattle.bl_names_tree.specs.declared.item.NamedVar.{NamedVar}
 use Rattle.bl_names_tree.specs.declared.stmt.NamedStmt.{NamedStmt}
 use Rattle.bl_names_tree.specs.declared.types.NamedType.{NamedType}
-use Rattle.bl_names_tree.specs.Placed.{
-  DeclaredBefore,
-  behind_unit,
-  head_placed,
-  holds_if,
-  in_turn,
-  stmt_step,
-  struct_placed,
-  type_placed,
-  unit_step,
-  var_placed,
-  with_parameters,
-}
+use Rattle.bl_names_tree.specs.Placed.{DeclaredBefore, behind_unit, head_placed, holds_if, in_turn, stmt_step, struct_placed, type_placed, unit_step}
+use Rattle.bl_names_tree.specs.Placed.{var_placed, with_parameters}
 use Rattle.bl_names_scopes.specs.declared.kind.Kind.TheVariants as kinds
 use Rattle.bl_names_scopes.specs.declared.scopes.Counts.{Counts}
-use Rattle.bl_names_scopes.specs.Marks.{
-  Marks,
-  closes,
-  declares,
-  field_mark,
-  field_type_marks,
-  in_scope,
-  inside_unit,
-  kind_of_unit,
-  optional,
-  param_marks,
-  struct_marks,
-  type_marks,
-  unit_marks,
-}
+use Rattle.bl_names_scopes.specs.Marks.{Marks, closes, declares, field_mark, field_type_marks, in_scope, inside_unit, kind_of_unit, optional, param_marks}
+use Rattle.bl_names_scopes.specs.Marks.{struct_marks, type_marks, unit_marks}
 use Rattle.bl_names_scopes.specs.Scopes.{Scopes, after, count_of, counted, declaration_of, enter, found}
 use Rattle.bl_parse_tree.specs.declared.item.RawField.{RawField}
 use Rattle.bl_parse_tree.specs.declared.item.RawParam.{RawParam}
@@ -87,9 +37,9 @@ use Rattle.bl_names.specs.Naming.{named_type}
 use Rattle.bl_names.proofs.BelowLemmas.{Below, DeclarationBelow, Grown, declared_below, outer_grown, scope_grown, variable_below}
 use Rattle.bl_names.proofs.FitLemmas.{Fits, fits_behind, fits_first, fits_second}
 use Rattle.bl_names.proofs.ItemLemmas.{unit_scopes}
-use Rattle.bl_names.proofs.PastLemmas.{enter-behind, none_more}
+use Rattle.bl_names.proofs.PastLemmas.{enter-behind}
 use Rattle.bl_names.proofs.PieceLemmas.{block_marks, role_marks}
-use Rattle.bl_names.proofs.PlacedExpr.{both, earlier, optional_is, type_is}
+use Rattle.bl_names.proofs.PlacedExpr.{earlier, optional_is, type_is}
 use Rattle.bl_names.proofs.PlacedStmt.{Holds, Within, closed_is, every_block, is_local}
 use Rattle.bl_names.proofs.StillLemmas.{after-append, still_optional, still_type}
 
@@ -99,7 +49,7 @@ fields_are : (scopes : Scopes) → Below scopes → (fields : List RawField) →
     list_all (λ field. type_placed (earlier scopes) field.ty) (map (named_field scopes) fields) ≡ true
 fields_are scopes below [] fits = refl
 fields_are scopes below (field ∷ fields) fits =
-    both _ _ (type_is scopes scopes.counts below field.ty (fits_first scopes (type_marks field.ty) (joined (map field_type_marks fields)) fits))
+    and_from _ _ (type_is scopes scopes.counts below field.ty (fits_first scopes (type_marks field.ty) (joined (map field_type_marks fields)) fits))
     (fields_are scopes below fields (fits_behind scopes (type_marks field.ty) (joined (map field_type_marks fields)) (still_type field.ty) fits))
 
 pub struct_is : (scopes : Scopes) (def : RawStruct) → Below scopes → Fits scopes (struct_marks def)
@@ -133,7 +83,7 @@ pub record ParamsHold (e : DeclaredBefore) (test : Role → Bool) (scopes new : 
   pub roles : list_all (λ var. test var.role) vars ≡ true
   pub long : length vars ≡ count
 
-counted_on : (a b c n : ℕ) → b ≡ a + 1 → c ≡ b + n → c ≡ a + suc n
+pub counted_on : (a b c n : ℕ) → b ≡ a + 1 → c ≡ b + n → c ≡ a + suc n
 counted_on a b c n one two = omega arith
 
 params_hold : (e : DeclaredBefore) (role : Role) (test : Role → Bool) → test role ≡ true → (params : List RawParam) (scopes : Scopes)
@@ -143,7 +93,7 @@ params_hold : (e : DeclaredBefore) (role : Role) (test : Role → Bool) → test
 params_hold e role test passes [] scopes structs constants below fits = record {
   below = below;
   outer = refl;
-  more_vars = none_more scopes.counts.variables;
+  more_vars = plus_none scopes.counts.variables;
   same_constants = refl;
   same_structs = refl;
   same_units = refl;
@@ -171,15 +121,15 @@ params_hold e role test passes (param ∷ params) scopes structs constants below
       same_structs = ap (λ s. s.counts.structs) (sym whole) ∙ later.same_structs ∙ ap (λ s. s.counts.structs) (sym entered);
       same_units = ap (λ s. s.counts.units) (sym whole) ∙ later.same_units ∙ ap (λ s. s.counts.units) (sym entered);
       placed =
-          both _ _ (type_as e (earlier scopes) (named_type scopes param.ty) structs constants ∙ type_is scopes scopes.counts below param.ty in_type)
+          and_from _ _ (type_as e (earlier scopes) (named_type scopes param.ty) structs constants ∙ type_is scopes scopes.counts below param.ty in_type)
           later.placed;
-      roles = both _ _ passes later.roles;
+      roles = and_from _ _ passes later.roles;
       long = ap (λ n. suc n) later.long;
     }
 
 -- ---- units
 
--- behind both lists of parameters
+-- behind and_from lists of parameters
 pub record HeadHolds (scopes : Scopes) (def : RawUnit) (two : Scopes) (ins outs : List NamedVar) : Type 0 where
   pub below : Below two
   pub outer : two.outer ≡ scopes.inner ∷ scopes.outer
@@ -191,7 +141,7 @@ pub record HeadHolds (scopes : Scopes) (def : RawUnit) (two : Scopes) (ins outs 
   pub ins_long : length ins ≡ length def.inputs
   pub outs_long : length outs ≡ length def.outputs
 
-two_more : (a b c m n : ℕ) → a ≡ 0 → b ≡ a + m → c ≡ b + n → c ≡ m + n
+pub two_more : (a b c m n : ℕ) → a ≡ 0 → b ≡ a + m → c ≡ b + n → c ≡ m + n
 two_more a b c m n none one two = omega arith
 
 abbrev ins_of : RawUnit → Marks
@@ -267,13 +217,13 @@ head_is scopes two def ins outs locals body head local result =
     let m = length def.inputs in
     let n = length def.outputs in
     let long : length (ins ++ outs) ≡ m + n = both_long ins outs locals m n head.ins_long head.outs_long in
-    both _ _
-    (both _ _ (le-leb (m + n) (length ((ins ++ outs) ++ locals)) (at_most (ins ++ outs) locals (m + n) long))
-    (both _ _ (ap (list_all (λ var. is_input var.role)) (front_at ins outs locals m head.ins_long) ∙ head.ins_are)
-    (both _ _ (ap (list_all (λ var. is_output var.role)) (middle_at ins outs locals m n head.ins_long head.outs_long) ∙ head.outs_are)
+    and_from _ _
+    (and_from _ _ (le-leb (m + n) (length ((ins ++ outs) ++ locals)) (at_most (ins ++ outs) locals (m + n) long))
+    (and_from _ _ (ap (list_all (λ var. is_input var.role)) (front_at ins outs locals m head.ins_long) ∙ head.ins_are)
+    (and_from _ _ (ap (list_all (λ var. is_output var.role)) (middle_at ins outs locals m n head.ins_long head.outs_long) ∙ head.outs_are)
     (ap (list_all is_local) (locals_at ins outs locals (m + n) long) ∙ local))))
-    (both _ _ (ap (list_all (var_placed (earlier scopes))) (params_at ins outs locals (m + n) long) ∙ list_all-append (var_placed (earlier scopes)) ins outs
-    ∙ both _ _ head.ins_placed head.outs_placed) result)
+    (and_from _ _ (ap (list_all (var_placed (earlier scopes))) (params_at ins outs locals (m + n) long) ∙ list_all-append (var_placed (earlier scopes)) ins outs
+    ∙ and_from _ _ head.ins_placed head.outs_placed) result)
 
 -- the marks in a unit, with the result behind the parameters
 inside_are : (def : RawUnit) → inside_unit def ≡ (ins_of def ++ outs_of def) ++ (optional type_marks def.result ++ (block_piece def.body).marks)
@@ -282,14 +232,14 @@ inside_are def =
     ++ (optional type_marks def.result ++ sym (block_marks def.body) i)))
     ∙ sym (append_assoc (ins_of def) (outs_of def) (optional type_marks def.result ++ (block_piece def.body).marks))
 
-unit_counted : (kind : UnitKind) (counts : Counts) → counted counts (kind_of_unit kind) ≡ record counts { units = counts.units + 1; variables = 0 }
+pub unit_counted : (kind : UnitKind) (counts : Counts) → counted counts (kind_of_unit kind) ≡ record counts { units = counts.units + 1; variables = 0 }
 unit_counted unit.Function counts = refl
 unit_counted unit.Activity counts = refl
 
-less_one : (n m : ℕ) → m ≡ n + 1 → n < m
+pub less_one : (n m : ℕ) → m ≡ n + 1 → n < m
 less_one n m is = omega arith
 
-unit_declared : (kind : UnitKind) (name : Name) (counts : Counts)
+pub unit_declared : (kind : UnitKind) (name : Name) (counts : Counts)
     → DeclarationBelow (counted counts (kind_of_unit kind)) (declaration_of name (kind_of_unit kind) (count_of counts (kind_of_unit kind)))
 unit_declared unit.Function name counts = inr (less_one counts.units (counts.units + 1) refl)
 unit_declared unit.Activity name counts = inr (less_one counts.units (counts.units + 1) refl)

@@ -1,26 +1,7 @@
 -- The positions in a program are in place, where the rules on names hold.
-use Rattle.std.proofs.Common.{
-  ◌≡◌,
-  ℕ,
-  ◌+◌,
-  List,
-  [],
-  ◌∷◌,
-  ◌++◌,
-  map,
-  length,
-  Option,
-  Some,
-  None,
-  refl,
-  sym,
-  ap,
-  subst,
-  ◌∙◌,
-  append-nil,
-  arith,
-}
+use Rattle.std.proofs.Common.{◌≡◌, ℕ, ◌+◌, List, [], ◌∷◌, ◌++◌, map, length, Option, Some, None, refl, sym, ap, subst, ◌∙◌, append-nil, arith}
 use Rattle.std.specs.Prelude.{option_and_then, if◌then◌else◌}
+use Rattle.bl_tree.proofs.Basics.{none_plus, plus_none}
 use Rattle.bl_names_tree.specs.declared.item.Item.TheVariants as next
 use Rattle.bl_names_tree.specs.declared.item.NamedConstant.{NamedConstant}
 use Rattle.bl_names_tree.specs.declared.item.NamedStruct.{NamedStruct}
@@ -41,7 +22,7 @@ use Rattle.bl_names.specs.Order.{kind_of_item}
 use Rattle.bl_names.proofs.BelowLemmas.{Below, constant_below, struct_below}
 use Rattle.bl_names.proofs.FitLemmas.{Fits, fits_first, fits_second, program_fits}
 use Rattle.bl_names.proofs.ItemLemmas.{struct_scopes}
-use Rattle.bl_names.proofs.PastLemmas.{enter-behind, more, none_more}
+use Rattle.bl_names.proofs.PastLemmas.{enter-behind, more}
 use Rattle.bl_names.proofs.PlacedExpr.{earlier}
 use Rattle.bl_names.proofs.PlacedItem.{struct_is, unit_holds}
 use Rattle.bl_names.proofs.PlacedStmt.{Within, constant_is, within_first, within_one, within_second}
@@ -70,8 +51,8 @@ module _ (named : Named) where
         below = struct_below scopes def.name below;
         no_variables = none;
         more_structs = refl;
-        more_constants = none_more scopes.counts.constants;
-        more_units = none_more scopes.counts.units;
+        more_constants = plus_none scopes.counts.constants;
+        more_units = plus_none scopes.counts.units;
       })
 
   constant_holds : (scopes : Scopes) (def : RawConstant) → Below scopes → scopes.counts.variables ≡ 0 → Fits scopes (constant_marks def) →
@@ -86,9 +67,9 @@ module _ (named : Named) where
             (constant_is [] named.constants scopes def below (fits_first scopes marks (declares def.name kinds.Constant ∷ []) fits) constants);
         below = constant_below scopes def.name below;
         no_variables = none;
-        more_structs = none_more scopes.counts.structs;
+        more_structs = plus_none scopes.counts.structs;
         more_constants = refl;
-        more_units = none_more scopes.counts.units;
+        more_units = plus_none scopes.counts.units;
       })
 
   unit_hold : (scopes : Scopes) (def : RawUnit) → Below scopes → scopes.counts.variables ≡ 0 → Fits scopes (unit_marks def) →
@@ -104,7 +85,7 @@ module _ (named : Named) where
             (within_one named.units scopes.counts.units (named_unit scopes def) [] units) ∙ holds.steps;
         below = holds.below;
         no_variables = holds.no_variables;
-        more_structs = holds.same_structs ∙ none_more scopes.counts.structs;
+        more_structs = holds.same_structs ∙ plus_none scopes.counts.structs;
         more_constants = holds.more_constants;
         more_units = holds.more_units;
       }
@@ -128,9 +109,9 @@ module _ (named : Named) where
     steps = refl;
     below = below;
     no_variables = none;
-    more_structs = none_more scopes.counts.structs;
-    more_constants = none_more scopes.counts.constants;
-    more_units = none_more scopes.counts.units;
+    more_structs = plus_none scopes.counts.structs;
+    more_constants = plus_none scopes.counts.constants;
+    more_units = plus_none scopes.counts.units;
   }
   items_hold (one ∷ items) scopes below none fits structs constants units =
       let new = after scopes (item_marks one) in
@@ -163,10 +144,7 @@ module _ (named : Named) where
             (after new (marks_of items)).counts.units first.more_units later.more_units;
       })
 
-from_none : (n : ℕ) → 0 + n ≡ n
-from_none n = omega arith
-
-whole : {A : Type 0} (xs : List A) → Within xs 0 xs
+pub whole : {A : Type 0} (xs : List A) → Within xs 0 xs
 whole xs = record { before = []; rest = []; there = sym (append-nil xs); is_at = refl }
 
 pub is_placed : (items : List RawItem) (bytes : ℕ) → Passes items → IsPlaced (named_program items bytes)
@@ -174,8 +152,8 @@ is_placed items bytes passes =
     let named = named_program items bytes in
     let holds = items_hold named items file_scope (tt, tt) refl (program_fits items passes) (whole named.structs) (whole named.constants) (whole named.units) in
     holds.steps ∙ (λ i. Some (record {
-      structs = (holds.more_structs ∙ from_none (length named.structs)) i;
-      constants = (holds.more_constants ∙ from_none (length named.constants)) i;
-      units = (holds.more_units ∙ from_none (length named.units)) i;
+      structs = (holds.more_structs ∙ none_plus (length named.structs)) i;
+      constants = (holds.more_constants ∙ none_plus (length named.constants)) i;
+      units = (holds.more_units ∙ none_plus (length named.units)) i;
       variables = holds.no_variables i;
     }))

@@ -1,34 +1,14 @@
 -- The positions in statements are in place, where every use fits.
-use Rattle.std.proofs.Common.{
-  ◌≡◌,
-  ℕ,
-  ◌+◌,
-  Bool,
-  true,
-  ◌&&◌,
-  ◌||◌,
-  List,
-  [],
-  ◌∷◌,
-  ◌++◌,
-  map,
-  length,
-  Option,
-  Some,
-  None,
-  refl,
-  sym,
-  ap,
-  subst,
-  ◌∙◌,
-  append_assoc,
-}
+use Rattle.std.proofs.Common.{◌≡◌, ℕ, ◌+◌, Bool, true, ◌&&◌, ◌||◌, List, [], ◌∷◌, ◌++◌, map, length, Option, Some, None, refl, sym, ap, subst, ◌∙◌}
+use Rattle.std.proofs.Common.{append_assoc}
 use Rattle.std.specs.Prelude.{All, option_and_then, option_map, slice_get, if◌then◌else◌}
 use Rattle.std.specs.List.{list_all}
 use Rattle.std.proofs.lemmas.Bool.{eq-eqb}
 use Rattle.std.proofs.lemmas.List.{length-append}
 use Rattle.std.proofs.lemmas.List.Elements.{All-head, All-tail}
 use Rattle.std.proofs.lemmas.List.Folds.{list_all-append}
+use Rattle.std.proofs.lemmas.Bool.{and_from}
+use Rattle.bl_tree.proofs.Basics.{plus_none}
 use Rattle.bl_tree.specs.declared.place.Place.{Place}
 use Rattle.bl_tree.specs.declared.tree.Role.{Role}
 use Rattle.bl_tree.specs.declared.tree.Role.TheVariants as role
@@ -60,56 +40,18 @@ use Rattle.bl_parse_tree.specs.declared.stmt.RawStmt.{RawStmt}
 use Rattle.bl_parse_tree.specs.declared.stmt.RawStmtKind.{RawStmtKind}
 use Rattle.bl_parse_tree.specs.declared.stmt.RawStmtKind.TheOpen.{RawStmtKind-F}
 use Rattle.bl_parse_tree.specs.declared.types.RawType.{RawType}
-use Rattle.bl_names.specs.Named.{
-  Piece,
-  all,
-  constant_piece,
-  constants_of_all,
-  kind_piece,
-  made_of_all,
-  marks_of_all,
-  named_constant,
-  named_var,
-  opened,
-  own_scope,
-  piece_of_arm,
-  piece_of_branch,
-  stmt_piece,
-  vars_of_all,
-}
+use Rattle.bl_names.specs.Named.{Piece, all, constant_piece, constants_of_all, kind_piece, made_of_all, marks_of_all, named_constant, named_var, opened}
+use Rattle.bl_names.specs.Named.{own_scope, piece_of_arm, piece_of_branch, stmt_piece, vars_of_all}
 use Rattle.bl_names.specs.Naming.{named_expr, named_path, named_target, named_type, position}
 use Rattle.bl_names.proofs.BelowLemmas.{Below, OuterBelow, constant_below, variable_below}
 use Rattle.bl_names.proofs.FitLemmas.{Fits, fits_behind, fits_first, fits_second}
-use Rattle.bl_names.proofs.PastLemmas.{enter-behind, more, none_more}
+use Rattle.bl_names.proofs.PastLemmas.{enter-behind, more}
 use Rattle.bl_names.proofs.PieceLemmas.{arm_is, branch_is, parts, stmt_is}
-use Rattle.bl_names.proofs.PlacedExpr.{
-  activity_placed,
-  both,
-  earlier,
-  expr_is,
-  exprs_are,
-  function_placed,
-  optional_is,
-  path_is,
-  paths_are,
-  target_is,
-  type_is,
-  variable_read,
-}
+use Rattle.bl_names.proofs.PlacedExpr.{activity_placed, earlier, expr_is, exprs_are, function_placed, optional_is, path_is, paths_are, target_is, type_is}
+use Rattle.bl_names.proofs.PlacedExpr.{variable_read}
 use Rattle.bl_names.proofs.RawStmtInduction.{Cases, induct, stmt}
-use Rattle.bl_names.proofs.StillLemmas.{
-  Still,
-  after-append,
-  still_append,
-  still_arguments,
-  still_expr,
-  still_exprs,
-  still_optional,
-  still_target,
-  still_type,
-  still_use,
-  still_value,
-}
+use Rattle.bl_names.proofs.StillLemmas.{Still, after-append, still_append, still_arguments, still_expr, still_exprs, still_optional, still_target, still_type}
+use Rattle.bl_names.proofs.StillLemmas.{still_use, still_value}
 
 -- ---- parts of lists
 
@@ -172,7 +114,7 @@ holds_then reached step scopes middle new vars more_vars constants more_constant
   more_constants = more constants more_constants scopes.counts.constants middle.counts.constants new.counts.constants one.more_constants two.more_constants;
   same_structs = two.same_structs ∙ one.same_structs;
   same_units = two.same_units ∙ one.same_units;
-  locals = list_all-append is_local vars more_vars ∙ both (list_all is_local vars) (list_all is_local more_vars) one.locals two.locals;
+  locals = list_all-append is_local vars more_vars ∙ and_from (list_all is_local vars) (list_all is_local more_vars) one.locals two.locals;
 }
 
 holds_none : (scopes : Scopes) → Below scopes → Holds (Some (earlier scopes)) scopes scopes [] []
@@ -180,8 +122,8 @@ holds_none scopes below = record {
   steps = refl;
   below = below;
   outer = refl;
-  more_vars = none_more scopes.counts.variables;
-  more_constants = none_more scopes.counts.constants;
+  more_vars = plus_none scopes.counts.variables;
+  more_constants = plus_none scopes.counts.constants;
   same_structs = refl;
   same_units = refl;
   locals = refl;
@@ -211,7 +153,7 @@ holds_closed reached scopes inner vars constants holds = record {
   locals = holds.locals;
 }
 
-scope_is : (scopes : Scopes) (marks : Marks) → (after (opened scopes) marks).outer ≡ scopes.inner ∷ scopes.outer →
+pub scope_is : (scopes : Scopes) (marks : Marks) → (after (opened scopes) marks).outer ≡ scopes.inner ∷ scopes.outer →
     after scopes (in_scope marks) ≡ record scopes { counts = (after (opened scopes) marks).counts }
 scope_is scopes marks is = after-append (opened scopes) marks (closes ∷ []) ∙ closed_is scopes (after (opened scopes) marks) is
 
@@ -404,8 +346,8 @@ module _ (all_vars : List NamedVar) (all_constants : List NamedConstant) where
       let marks = optional type_marks ty ++ optional expr_marks value in
       let before = fits_first scopes marks (declares name kind.Variable ∷ []) fits in
       let k = scopes.counts.variables in
-      let test = both _ _ (eq-eqb k k refl)
-      (both _ _ (var_is scopes name ty role below (fits_first scopes (optional type_marks ty) (optional expr_marks value) before) vars)
+      let test = and_from _ _ (eq-eqb k k refl)
+      (and_from _ _ (var_is scopes name ty role below (fits_first scopes (optional type_marks ty) (optional expr_marks value) before) vars)
       (optional_is scopes scopes.counts below expr_marks (expr_placed (earlier scopes)) (named_expr scopes) value (expr_is scopes scopes.counts below)
       (fits_behind scopes (optional type_marks ty) (optional expr_marks value) (still_optional type_marks ty still_type) before))) in
       subst (λ new. Holds (layer_takes (NamedStmtKind-F.Declare k (option_map (named_expr scopes) value)) (earlier scopes)) scopes new
@@ -418,7 +360,7 @@ module _ (all_vars : List NamedVar) (all_constants : List NamedConstant) where
         below = variable_below scopes name below;
         outer = refl;
         more_vars = refl;
-        more_constants = none_more scopes.counts.constants;
+        more_constants = plus_none scopes.counts.constants;
         same_structs = refl;
         same_units = refl;
         locals = local;
@@ -430,7 +372,7 @@ module _ (all_vars : List NamedVar) (all_constants : List NamedConstant) where
       → holds_of (constant_placed (earlier scopes)) (slice_get all_constants scopes.counts.constants) ≡ true
   constant_is scopes constant below fits constants =
       ap (holds_of (constant_placed (earlier scopes))) (within_one all_constants scopes.counts.constants (named_constant scopes constant) [] constants)
-      ∙ both _ _ (optional_is scopes scopes.counts below type_marks (type_placed (earlier scopes)) (named_type scopes) constant.ty
+      ∙ and_from _ _ (optional_is scopes scopes.counts below type_marks (type_placed (earlier scopes)) (named_type scopes) constant.ty
       (type_is scopes scopes.counts below)
       (fits_first scopes (optional type_marks constant.ty) (expr_marks constant.value) fits))
       (expr_is scopes scopes.counts below constant.value
@@ -443,7 +385,7 @@ module _ (all_vars : List NamedVar) (all_constants : List NamedConstant) where
   constant_holds scopes constant below fits constants =
       let marks = optional type_marks constant.ty ++ expr_marks constant.value in
       let k = scopes.counts.constants in
-      let test = both _ _ (eq-eqb k k refl) (constant_is scopes constant below (fits_first scopes marks (declares constant.name kind.Constant ∷ []) fits)
+      let test = and_from _ _ (eq-eqb k k refl) (constant_is scopes constant below (fits_first scopes marks (declares constant.name kind.Constant ∷ []) fits)
       constants) in
       subst (λ new. Holds (layer_takes (NamedStmtKind-F.Const k) (earlier scopes)) scopes new [] (named_constant scopes constant ∷ []))
       (enter-behind scopes marks constant.name kind.Constant (still_value constant.ty (Some constant.value)))
@@ -453,7 +395,7 @@ module _ (all_vars : List NamedVar) (all_constants : List NamedConstant) where
         steps = refl;
         below = constant_below scopes constant.name below;
         outer = refl;
-        more_vars = none_more scopes.counts.variables;
+        more_vars = plus_none scopes.counts.variables;
         more_constants = refl;
         same_structs = refl;
         same_units = refl;
@@ -464,7 +406,7 @@ module _ (all_vars : List NamedVar) (all_constants : List NamedConstant) where
       (list_all (expr_placed (earlier scopes)) (map (named_expr scopes) inputs) && list_all (path_placed (earlier scopes)) (map (named_path scopes) outputs))
       ≡ true
   arguments_are scopes below inputs outputs fits =
-      both _ _ (exprs_are scopes scopes.counts below inputs (fits_first scopes (joined (map expr_marks inputs)) (joined (map path_marks outputs)) fits))
+      and_from _ _ (exprs_are scopes scopes.counts below inputs (fits_first scopes (joined (map expr_marks inputs)) (joined (map path_marks outputs)) fits))
       (paths_are scopes scopes.counts below outputs (fits_behind scopes (joined (map expr_marks inputs)) (joined (map path_marks outputs))
       (still_exprs inputs) fits))
 
@@ -514,7 +456,7 @@ module _ (all_vars : List NamedVar) (all_constants : List NamedConstant) where
         (λ scopes. what.outs-Assign (named_target scopes target) (named_expr scopes e))
         (λ scopes below fits vars constants. holds_plain _ scopes (target_marks target wanted.Variable ++ expr_marks e)
         (still_append (target_marks target wanted.Variable) (expr_marks e) (still_target target wanted.Variable) (still_expr e)) below
-        (both _ _ (target_is scopes scopes.counts below target wanted.Variable variable_read
+        (and_from _ _ (target_is scopes scopes.counts below target wanted.Variable variable_read
         (fits_first scopes (target_marks target wanted.Variable) (expr_marks e) fits))
         (expr_is scopes scopes.counts below e (fits_behind scopes (target_marks target wanted.Variable) (expr_marks e)
         (still_target target wanted.Variable) fits))));
@@ -523,7 +465,7 @@ module _ (all_vars : List NamedVar) (all_constants : List NamedConstant) where
         (λ scopes. what.outs-Call f.place (position scopes f) (map (named_expr scopes) inputs) (map (named_path scopes) outputs))
         (λ scopes below fits vars constants. holds_plain _ scopes (uses f wanted.Function ∷ argument_marks inputs outputs)
         (still_append (uses f wanted.Function ∷ []) (argument_marks inputs outputs) (still_use f wanted.Function) (still_arguments inputs outputs)) below
-        (both _ _ (function_placed scopes scopes.counts below f fits.0) (arguments_are scopes below inputs outputs fits.1)));
+        (and_from _ _ (function_placed scopes scopes.counts below f fits.0) (arguments_are scopes below inputs outputs fits.1)));
     await = λ place e. stmt_good place (RawStmtKind-F.Await e) (λ scopes. NamedStmtKind-F.Await (named_expr scopes e))
         (λ scopes. what.outs-Await (named_expr scopes e))
         (λ scopes below fits vars constants. holds_plain _ scopes (expr_marks e) (still_expr e) below (expr_is scopes scopes.counts below e fits));
@@ -537,10 +479,10 @@ module _ (all_vars : List NamedVar) (all_constants : List NamedConstant) where
         holds_plain _ scopes (optional path_marks target ++ (uses a wanted.Activity ∷ argument_marks inputs outputs))
         (still_append (optional path_marks target) (uses a wanted.Activity ∷ argument_marks inputs outputs) (target_marks_still target)
         (still_append (uses a wanted.Activity ∷ []) (argument_marks inputs outputs) (still_use a wanted.Activity) (still_arguments inputs outputs))) below
-        (both _ _ (optional_is scopes scopes.counts below path_marks (path_placed (earlier scopes)) (named_path scopes) target
+        (and_from _ _ (optional_is scopes scopes.counts below path_marks (path_placed (earlier scopes)) (named_path scopes) target
         (path_is scopes scopes.counts below)
         (fits_first scopes (optional path_marks target) (uses a wanted.Activity ∷ argument_marks inputs outputs) fits))
-        (both _ _ (activity_placed scopes scopes.counts below a behind.0) (arguments_are scopes below inputs outputs behind.1))));
+        (and_from _ _ (activity_placed scopes scopes.counts below a behind.0) (arguments_are scopes below inputs outputs behind.1))));
     branching = λ place arms other in_arms in_other. stmt_good place (RawStmtKind-F.If arms other)
         (λ scopes. NamedStmtKind-F.If (made_of_all (map piece_of_arm arms) scopes)
         (made_of_all (body_of other) (opened (after scopes (marks_of_all (map piece_of_arm arms))))))

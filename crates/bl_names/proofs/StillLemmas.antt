@@ -16,22 +16,8 @@ use Rattle.bl_parse_tree.specs.declared.types.RawType.{RawType, fold-roll-RawTyp
 use Rattle.bl_parse_tree.specs.declared.types.RawType.TheOpen.{RawType-F}
 use Rattle.bl_names_scopes.specs.declared.kind.Wanted.{Wanted}
 use Rattle.bl_names_scopes.specs.declared.kind.Wanted.TheVariants as wanted
-use Rattle.bl_names_scopes.specs.Marks.{
-  Marks,
-  argument_marks,
-  expr_layer_marks,
-  expr_marks,
-  kind_marks,
-  length_marks,
-  marks_of_part,
-  optional,
-  part_marks,
-  path_marks,
-  target_layer_marks,
-  target_marks,
-  type_marks,
-  uses,
-}
+use Rattle.bl_names_scopes.specs.Marks.{Marks, argument_marks, expr_layer_marks, expr_marks, kind_marks, length_marks, marks_of_part, optional, part_marks}
+use Rattle.bl_names_scopes.specs.Marks.{path_marks, target_layer_marks, target_marks, type_marks, uses}
 use Rattle.bl_names_scopes.specs.Scopes.{Scopes, after, enter}
 use Rattle.bl_names.proofs.RawExprInduction.{Cases, OfIndex, induct, induct_target}
 

@@ -37,22 +37,8 @@ use Rattle.bl_names_scopes.specs.declared.heading.Heading.{Heading}
 use Rattle.bl_names_scopes.specs.declared.kind.Kind.{Kind}
 use Rattle.bl_names_scopes.specs.declared.kind.Kind.TheVariants as kind
 use Rattle.bl_names_scopes.specs.declared.kind.Wanted.TheVariants as wanted
-use Rattle.bl_names_scopes.specs.Marks.{
-  Marks,
-  opens,
-  uses,
-  argument_marks,
-  constant_marks,
-  declared_after,
-  expr_marks,
-  in_scope,
-  item_marks,
-  optional,
-  param_marks,
-  path_marks,
-  target_marks,
-  type_marks,
-}
+use Rattle.bl_names_scopes.specs.Marks.{Marks, opens, uses, argument_marks, constant_marks, declared_after, expr_marks, in_scope, item_marks, optional}
+use Rattle.bl_names_scopes.specs.Marks.{param_marks, path_marks, target_marks, type_marks}
 use Rattle.bl_names.specs.Naming.{named_expr, named_path, named_target, named_type, position}
 use Rattle.bl_names.specs.Order.{order_of}
 use Rattle.bl_names_scopes.specs.Scopes.{Scopes, after, enter, file_scope, opened_by}

@@ -2,7 +2,7 @@
 use Rattle.std.proofs.Common.{◌≡◌, Bool, true, List, [], ◌∷◌, ◌++◌, refl, sym, ap, ◌∙◌}
 use Rattle.std.specs.Prelude.{Some}
 use Rattle.std.specs.List.{list_all}
-use Rattle.std.proofs.lemmas.List.Folds.{list_all-append}
+use Rattle.bl_tree.proofs.Basics.{all_append, and_first, and_second}
 use Rattle.bl_tree.specs.declared.tree.UnitKind.{UnitKind}
 use Rattle.bl_tree.specs.declared.tree.UnitKind.TheVariants as unit
 use Rattle.bl_parse_tree.specs.declared.item.RawItem.{RawItem}
@@ -15,12 +15,6 @@ use Rattle.bl_names.specs.Named.{along, inside_piece, opened}
 use Rattle.bl_names.proofs.ItemLemmas.{struct_scopes, unit_scopes}
 use Rattle.bl_names.proofs.PastLemmas.{enter-behind}
 use Rattle.bl_names.proofs.StillLemmas.{still_value}
-use Rattle.bl_names_laws.proofs.Tests.{both, first_holds, second_holds}
-
--- two lists one after another
-pub all_append : {A : Type 0} (test : A → Bool) (xs ys : List A) → list_all test xs ≡ true → list_all test ys ≡ true →
-    list_all test (xs ++ ys) ≡ true
-all_append test xs ys one two = list_all-append test xs ys ∙ both (list_all test xs) (list_all test ys) one two
 
 -- where what is known of the items from a place on stays known and shows that what the first gives passes a test, all that they give does
 pub along_under : {A : Type 0} (known : Scopes → List RawItem → Type 0) (gives : Scopes → RawItem → List A) (test : A → Bool) →
@@ -37,12 +31,12 @@ pub along_holds : {A : Type 0} (premise : RawItem → Bool) (gives : Scopes → 
     ((scopes : Scopes) (one : RawItem) → premise one ≡ true → list_all test (gives scopes one) ≡ true) →
     (scopes : Scopes) (items : List RawItem) → list_all premise items ≡ true → list_all test (along gives scopes items) ≡ true
 along_holds premise gives test each = along_under (λ scopes items. list_all premise items ≡ true) gives test
-    (λ scopes one items hold. second_holds (premise one) (list_all premise items) hold)
-    (λ scopes one items hold. each scopes one (first_holds (premise one) (list_all premise items) hold))
+    (λ scopes one items hold. and_second (premise one) (list_all premise items) hold)
+    (λ scopes one items hold. each scopes one (and_first (premise one) (list_all premise items) hold))
 
 -- ---- between items no variable is counted
 
-unit_counted : (kind : UnitKind) (counts : Counts) → (counted counts (kind_of_unit kind)).variables ≡ 0
+pub unit_counted : (kind : UnitKind) (counts : Counts) → (counted counts (kind_of_unit kind)).variables ≡ 0
 unit_counted unit.Function counts = refl
 unit_counted unit.Activity counts = refl
 

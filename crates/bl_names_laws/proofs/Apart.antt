@@ -1,31 +1,12 @@
 -- What is declared in a branch of a `cobegin` is named in no other: a branch begins with the scopes around the `cobegin`, and what
 -- it declares is counted from where the branch before it ended.
-use Rattle.std.proofs.Common.{
-  ◌≡◌,
-  ℕ,
-  ◌+◌,
-  ◌<◌,
-  ◌≤◌,
-  Bool,
-  true,
-  false,
-  ◌||◌,
-  List,
-  [],
-  ◌∷◌,
-  ◌++◌,
-  map,
-  refl,
-  sym,
-  ap,
-  subst,
-  ◌∙◌,
-  arith,
-}
+use Rattle.std.proofs.Common.{◌≡◌, ℕ, ◌+◌, ◌<◌, ◌≤◌, Bool, true, false, ◌||◌, List, [], ◌∷◌, ◌++◌, map, refl, sym, ap, subst, ◌∙◌, arith}
 use Rattle.std.specs.Prelude.{All, Option, Some, nat_le, nat_lt, option_map}
 use Rattle.std.specs.List.{list_all}
 use Rattle.std.proofs.lemmas.Bool.{le-leb, leb-true, lt-ltb, ltb-true}
 use Rattle.std.proofs.lemmas.List.Elements.{All-head, All-tail}
+use Rattle.std.proofs.lemmas.Bool.{and_from, or_left, or_right}
+use Rattle.bl_tree.proofs.Basics.{all_append, and_first, and_second, at_most_itself, at_most_then}
 use Rattle.bl_tree.specs.declared.place.Place.{Place}
 use Rattle.bl_tree.specs.Apart.{Naming, Roots, all_apart, and_naming, declares as naming_declared, keep_apart, naming, of_branches, together}
 use Rattle.bl_names_tree.specs.declared.stmt.NamedStmtKind.{out-NamedStmtKind}
@@ -41,20 +22,8 @@ use Rattle.bl_parse_tree.specs.declared.stmt.RawStmtKind.TheOpen.{RawStmtKind-F}
 use Rattle.bl_parse_tree.specs.declared.types.RawType.{RawType}
 use Rattle.bl_names_scopes.specs.declared.kind.Kind.TheVariants as kind
 use Rattle.bl_names_scopes.specs.declared.kind.Wanted.TheVariants as wanted
-use Rattle.bl_names_scopes.specs.Marks.{
-  Marks,
-  argument_marks,
-  closes,
-  constant_marks,
-  declares,
-  expr_marks,
-  in_scope,
-  optional,
-  path_marks,
-  target_marks,
-  type_marks,
-  uses,
-}
+use Rattle.bl_names_scopes.specs.Marks.{Marks, argument_marks, closes, constant_marks, declares, expr_marks, in_scope, optional, path_marks, target_marks}
+use Rattle.bl_names_scopes.specs.Marks.{type_marks, uses}
 use Rattle.bl_names_scopes.specs.Scopes.{Scopes, after}
 use Rattle.bl_names.specs.Named.{Piece, all, kind_piece, made_of_all, marks_of_all, opened, own_scope, piece_of_arm, piece_of_branch, stmt_piece, vars_of_all}
 use Rattle.bl_names.specs.Naming.{named_expr, named_path, named_target, position}
@@ -63,27 +32,15 @@ use Rattle.bl_names.proofs.PastLemmas.{enter-behind}
 use Rattle.bl_names.proofs.PieceLemmas.{arm_is, branch_is, parts, stmt_is}
 use Rattle.bl_names.proofs.PlacedExpr.{variable_read}
 use Rattle.bl_names.proofs.RawStmtInduction.{Cases, induct, stmt}
-use Rattle.bl_names.proofs.StillLemmas.{
-  Still,
-  after-append,
-  still_append,
-  still_arguments,
-  still_expr,
-  still_optional,
-  still_target,
-  still_type,
-  still_use,
-  still_value,
-}
+use Rattle.bl_names.proofs.StillLemmas.{Still, after-append, still_append, still_arguments, still_expr, still_optional, still_target, still_type, still_use}
+use Rattle.bl_names.proofs.StillLemmas.{still_value}
 use Rattle.bl_names_laws.specs.Apart.{arm_naming, branch_naming, naming_of, optional_roots, roots_in, stmt_kind_naming, stmt_layer_naming}
 use Rattle.bl_names_laws.specs.inner.Apart.{naming_of_arm, naming_of_branch}
-use Rattle.bl_names_laws.proofs.Along.{all_append}
 use Rattle.bl_names_laws.proofs.ExprRoots.{arguments_only, expr_only, optional_only, taker_only, target_only}
 use Rattle.bl_names_laws.proofs.Foreign.{all_weaker, apart_from_all, begins_at, between, from, outside, pair, together_append}
 use Rattle.bl_names_laws.proofs.Made.{NamedLayer, RawLayer, named_arm_at, named_at, named_branch_at, named_parts}
 use Rattle.bl_names_laws.proofs.Moves.{PieceMoves, body_moves, own_is}
 use Rattle.bl_names_laws.proofs.Only.{Low, Only, below, below_more, declare_only, low_variable, only_weaker}
-use Rattle.bl_names_laws.proofs.Tests.{both, first_holds, second_holds}
 
 -- what a part declares and names, from the scopes before it to those behind it, where variables have positions that pass a test
 pub record Holds (test : ℕ → Bool) (scopes new : Scopes) (naming : Naming) : Type 0 where
@@ -106,12 +63,6 @@ Good of piece =
 
 -- ---- numbers
 
-most_self : (n : ℕ) → n ≤ n
-most_self n = omega arith
-
-most_more : (a b c : ℕ) → a ≤ b → b ≤ c → a ≤ c
-most_more a b c one two = omega arith
-
 most_next : (n : ℕ) → n ≤ n + 1
 most_next n = omega arith
 
@@ -119,13 +70,13 @@ less_next : (n : ℕ) → n < n + 1
 less_next n = omega arith
 
 later_up : (test : ℕ → Bool) (m n : ℕ) → m ≤ n → UpFrom test m → UpFrom test n
-later_up test m n most up k more = up k (most_more m n k most more)
+later_up test m n most up k more = up k (at_most_then m n k most more)
 
 wider : (a m n b k : ℕ) → a ≤ m → n ≤ b → between m n k ≡ true → between a b k ≡ true
-wider a m n b k low high is = by_order (leb-true m k (first_holds (nat_le m k) (nat_lt k n) is)) (ltb-true k n (second_holds (nat_le m k) (nat_lt k n) is))
+wider a m n b k low high is = by_order (leb-true m k (and_first (nat_le m k) (nat_lt k n) is)) (ltb-true k n (and_second (nat_le m k) (nat_lt k n) is))
   where
     by_order : m ≤ k → k < n → between a b k ≡ true
-    by_order one two = both (nat_le a k) (nat_lt k b) (le-leb a k (omega arith)) (lt-ltb k b (omega arith))
+    by_order one two = and_from (nat_le a k) (nat_lt k b) (le-leb a k (omega arith)) (lt-ltb k b (omega arith))
 
 from_earlier : (m n k : ℕ) → m ≤ n → from n k ≡ true → from m k ≡ true
 from_earlier m n k most is = by_order (leb-true n k is)
@@ -133,15 +84,7 @@ from_earlier m n k most is = by_order (leb-true n k is)
     by_order : n ≤ k → from m k ≡ true
     by_order one = le-leb m k (omega arith)
 
-or_first : (a b : Bool) → a ≡ true → (a || b) ≡ true
-or_first true b is = refl
-or_first false b is = cc
-
-or_second : (a b : Bool) → b ≡ true → (a || b) ≡ true
-or_second true b is = refl
-or_second false b is = is
-
-or_weaker : (a b c : Bool) → (b ≡ true → c ≡ true) → (a || b) ≡ true → (a || c) ≡ true
+pub or_weaker : (a b c : Bool) → (b ≡ true → c ≡ true) → (a || b) ≡ true → (a || c) ≡ true
 or_weaker true b c weaker is = refl
 or_weaker false b c weaker is = weaker is
 
@@ -154,23 +97,23 @@ holds_pair test scopes middle new one other first second =
     let m = middle.counts.variables in
     let b = new.counts.variables in
     record {
-      grown = most_more a m b first.grown second.grown;
+      grown = at_most_then a m b first.grown second.grown;
       only = second.only;
       low = second.low;
       declared = all_append (between a b) one.declared other.declared
-          (all_weaker (between a m) (between a b) (λ k. wider a a m b k (most_self a) second.grown) one.declared first.declared)
-          (all_weaker (between m b) (between a b) (λ k. wider a m b b k first.grown (most_self b)) other.declared second.declared);
+          (all_weaker (between a m) (between a b) (λ k. wider a a m b k (at_most_itself a) second.grown) one.declared first.declared)
+          (all_weaker (between m b) (between a b) (λ k. wider a m b b k first.grown (at_most_itself b)) other.declared second.declared);
       named = all_append test one.named other.named first.named second.named;
       named_low =
           all_append (below b) one.named other.named (all_weaker (below m) (below b) (λ k. below_more m b k second.grown) one.named first.named_low)
           second.named_low;
-      apart = both one.apart other.apart first.apart second.apart;
+      apart = and_from one.apart other.apart first.apart second.apart;
     }
 
 holds_none : (test : ℕ → Bool) (scopes : Scopes) → Only test scopes → Low scopes → (roots : Roots) → list_all test roots ≡ true
     → list_all (below scopes.counts.variables) roots ≡ true → Holds test scopes scopes (naming roots)
 holds_none test scopes only low roots named named_low = record {
-  grown = most_self scopes.counts.variables;
+  grown = at_most_itself scopes.counts.variables;
   only = only;
   low = low;
   declared = refl;
@@ -297,14 +240,14 @@ begins_earlier : (start m n : ℕ) → m ≤ n → (namings : List Naming) → l
     list_all (begins_at start m) namings ≡ true
 begins_earlier start m n most [] all = refl
 begins_earlier start m n most (one ∷ namings) all =
-    let here = first_holds (begins_at start n one) (list_all (begins_at start n) namings) all in
-    both (begins_at start m one) (list_all (begins_at start m) namings)
-    (both (list_all (from m) one.declared) (list_all (outside start m) one.named)
+    let here = and_first (begins_at start n one) (list_all (begins_at start n) namings) all in
+    and_from (begins_at start m one) (list_all (begins_at start m) namings)
+    (and_from (list_all (from m) one.declared) (list_all (outside start m) one.named)
     (all_weaker (from n) (from m) (λ k. from_earlier m n k most) one.declared
-    (first_holds (list_all (from n) one.declared) (list_all (outside start n) one.named) here))
+    (and_first (list_all (from n) one.declared) (list_all (outside start n) one.named) here))
     (all_weaker (outside start n) (outside start m) (λ k. or_weaker (nat_lt k start) (nat_le n k) (nat_le m k) (from_earlier m n k most)) one.named
-    (second_holds (list_all (from n) one.declared) (list_all (outside start n) one.named) here)))
-    (begins_earlier start m n most namings (second_holds (begins_at start n one) (list_all (begins_at start n) namings) all))
+    (and_second (list_all (from n) one.declared) (list_all (outside start n) one.named) here)))
+    (begins_earlier start m n most namings (and_second (begins_at start n one) (list_all (begins_at start n) namings) all))
 
 -- branches from here on, where these variables were declared before all of them
 record Branches (start : ℕ) (scopes : Scopes) (namings : List Naming) : Type 0 where
@@ -324,17 +267,17 @@ branches_apart start (branch ∷ branches) each scopes most only low fits =
     let here = All-head BranchGood branch branches each in
     let one = naming_of_branch ((piece_of_branch branch).made scopes) in
     let others = map naming_of_branch (made_of_all (map piece_of_branch branches) new) in
-    let first = here.0 (outside start n) scopes (λ k more. or_second (nat_lt k start) (nat_le n k) (le-leb n k more))
-    (only_weaker (below start) (outside start n) (λ k. or_first (nat_lt k start) (nat_le n k)) scopes only) low (fits_first scopes marks rest fits) in
-    let later = branches_apart start branches (All-tail BranchGood branch branches each) new (most_more start n new.counts.variables most first.grown)
+    let first = here.0 (outside start n) scopes (λ k more. or_right (nat_lt k start) (nat_le n k) (le-leb n k more))
+    (only_weaker (below start) (outside start n) (λ k. or_left (nat_lt k start) (nat_le n k)) scopes only) low (fits_first scopes marks rest fits) in
+    let later = branches_apart start branches (All-tail BranchGood branch branches each) new (at_most_then start n new.counts.variables most first.grown)
     (here.1 (below start) scopes only) first.low (fits_second scopes marks rest fits) in
     record {
-      begin = both (begins_at start n one) (list_all (begins_at start n) others)
-          (both (list_all (from n) one.declared) (list_all (outside start n) one.named)
-          (all_weaker (between n new.counts.variables) (from n) (λ k. first_holds (nat_le n k) (nat_lt k new.counts.variables)) one.declared first.declared)
+      begin = and_from (begins_at start n one) (list_all (begins_at start n) others)
+          (and_from (list_all (from n) one.declared) (list_all (outside start n) one.named)
+          (all_weaker (between n new.counts.variables) (from n) (λ k. and_first (nat_le n k) (nat_lt k new.counts.variables)) one.declared first.declared)
           first.named)
           (begins_earlier start n new.counts.variables first.grown others later.begin);
-      apart = both (list_all (keep_apart one) others) (all_apart others)
+      apart = and_from (list_all (keep_apart one) others) (all_apart others)
           (apart_from_all start n new.counts.variables one others most first.declared first.named_low later.begin) later.apart;
     }
 
@@ -356,8 +299,8 @@ good_branches branches each test scopes up only low fits =
       declared = inside.declared;
       named = inside.named;
       named_low = inside.named_low;
-      apart = both (together namings).apart (all_apart namings) inside.apart
-          (branches_apart scopes.counts.variables branches each scopes (most_self scopes.counts.variables) low low fits).apart;
+      apart = and_from (together namings).apart (all_apart namings) inside.apart
+          (branches_apart scopes.counts.variables branches each scopes (at_most_itself scopes.counts.variables) low low fits).apart;
     }
 
 -- ---- each kind
@@ -391,11 +334,11 @@ good_declared name ty value test scopes up only low fits =
     subst (λ new. Holds test scopes new (naming_declared n roots)) (enter-behind scopes marks name kind.Variable (still_value ty value))
     (record {
       grown = most_next n;
-      only = declare_only test scopes name kind.Variable (λ is. up n (most_self n)) only;
+      only = declare_only test scopes name kind.Variable (λ is. up n (at_most_itself n)) only;
       low = low_variable scopes name low;
-      declared = both (between n (n + 1) n) true (both (nat_le n n) (nat_lt n (n + 1)) (le-leb n n (most_self n)) (lt-ltb n (n + 1) (less_next n))) refl;
-      named = both (test n) (list_all test roots) (up n (most_self n)) (optional_only test scopes scopes.counts only value fits_value);
-      named_low = both (nat_lt n (n + 1)) (list_all (below (n + 1)) roots) (lt-ltb n (n + 1) (less_next n))
+      declared = and_from (between n (n + 1) n) true (and_from (nat_le n n) (nat_lt n (n + 1)) (le-leb n n (at_most_itself n)) (lt-ltb n (n + 1) (less_next n))) refl;
+      named = and_from (test n) (list_all test roots) (up n (at_most_itself n)) (optional_only test scopes scopes.counts only value fits_value);
+      named_low = and_from (nat_lt n (n + 1)) (list_all (below (n + 1)) roots) (lt-ltb n (n + 1) (less_next n))
           (all_weaker (below n) (below (n + 1)) (λ k. below_more n (n + 1) k (most_next n)) roots
           (optional_only (below n) scopes scopes.counts low value fits_value));
       apart = refl;
@@ -407,7 +350,7 @@ good_constant constant test scopes only low =
     subst (λ new. Holds test scopes new (naming [])) (enter-behind scopes (optional type_marks constant.ty ++ expr_marks constant.value) constant.name
     kind.Constant (still_value constant.ty (Some constant.value)))
     (record {
-      grown = most_self scopes.counts.variables;
+      grown = at_most_itself scopes.counts.variables;
       only = declare_only test scopes constant.name kind.Constant (λ is. absurd (cc)) only;
       low = declare_only (below scopes.counts.variables) scopes constant.name kind.Constant (λ is. absurd (cc)) low;
       declared = refl;

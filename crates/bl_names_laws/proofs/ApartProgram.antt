@@ -2,6 +2,7 @@
 use Rattle.std.proofs.Common.{◌≡◌, ℕ, Bool, true, false, ◌&&◌, List, [], ◌∷◌, ◌++◌, map, refl, sym, ap, subst, ◌∙◌}
 use Rattle.std.specs.Prelude.{Some}
 use Rattle.std.specs.List.{list_all}
+use Rattle.std.proofs.lemmas.Bool.{and_from}
 use Rattle.bl_tree.specs.declared.tree.Role.{Role}
 use Rattle.bl_tree.specs.declared.tree.Role.TheVariants as role
 use Rattle.bl_tree.specs.declared.tree.UnitKind.{UnitKind}
@@ -14,21 +15,8 @@ use Rattle.bl_parse_tree.specs.declared.item.RawParam.{RawParam}
 use Rattle.bl_parse_tree.specs.declared.item.RawUnit.{RawUnit}
 use Rattle.bl_parse_tree.specs.declared.name.Name.{Name}
 use Rattle.bl_names_scopes.specs.declared.kind.Kind.TheVariants as kind
-use Rattle.bl_names_scopes.specs.Marks.{
-  closes,
-  declares,
-  expr_marks,
-  in_scope,
-  inside_unit,
-  item_marks,
-  kind_of_unit,
-  marks_of,
-  optional,
-  param_marks,
-  stmt_marks,
-  type_marks,
-  unit_marks,
-}
+use Rattle.bl_names_scopes.specs.Marks.{closes, declares, expr_marks, in_scope, inside_unit, item_marks, kind_of_unit, marks_of, optional, param_marks}
+use Rattle.bl_names_scopes.specs.Marks.{stmt_marks, type_marks, unit_marks}
 use Rattle.bl_names_scopes.specs.Rules.{Passes}
 use Rattle.bl_names_scopes.specs.Scopes.{Scopes, after, enter, file_scope}
 use Rattle.bl_names.specs.Named.{block_piece, inside_piece, named_program, named_unit, opened, params_piece, role_piece, stmt_piece, units_of}
@@ -44,7 +32,6 @@ use Rattle.bl_names_laws.proofs.Apart.{every_of, good_all}
 use Rattle.bl_names_laws.proofs.Filled.{params_move}
 use Rattle.bl_names_laws.proofs.Moves.{PieceMoves, body_moves, moving_then, own_is}
 use Rattle.bl_names_laws.proofs.Only.{Low, Only, below, declare_only, low_variable, only_weaker}
-use Rattle.bl_names_laws.proofs.Tests.{both}
 
 -- ---- parameters
 
@@ -56,7 +43,7 @@ low_params role (param ∷ params) scopes low =
     (subst Low (enter-behind scopes (type_marks param.ty) param.name kind.Variable (still_type param.ty)) (low_variable scopes param.name low)))
 
 -- what fits in a unit fits behind its parameters in its body
-body_fits : (scopes : Scopes) (def : RawUnit) → Fits scopes (inside_unit def) → Fits (after scopes (params_piece def).marks) (block_piece def.body).marks
+pub body_fits : (scopes : Scopes) (def : RawUnit) → Fits scopes (inside_unit def) → Fits (after scopes (params_piece def).marks) (block_piece def.body).marks
 body_fits scopes def fits =
     let ins = joined (map param_marks def.inputs) in
     let outs = joined (map param_marks def.outputs) in
@@ -130,7 +117,7 @@ known_next scopes one items known = (none_behind one scopes known.0, fits_second
 item_apart : (scopes : Scopes) (one : RawItem) → Only never scopes → Fits scopes (item_marks one) → list_all body_apart (units_of scopes one) ≡ true
 item_apart scopes (item.Struct def) none fits = refl
 item_apart scopes (item.Constant constant) none fits = refl
-item_apart scopes (item.Unit def) none fits = both (body_apart (named_unit scopes def)) true (unit_apart scopes def none fits) refl
+item_apart scopes (item.Unit def) none fits = and_from (body_apart (named_unit scopes def)) true (unit_apart scopes def none fits) refl
 
 pub units_are_apart : (items : List RawItem) (bytes : ℕ) → Passes items → list_all body_apart (named_program items bytes).units ≡ true
 units_are_apart items bytes passes = along_under Known units_of body_apart known_next

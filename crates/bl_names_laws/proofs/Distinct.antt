@@ -4,6 +4,7 @@ use Rattle.std.specs.Prelude.{Some}
 use Rattle.std.specs.List.{list_all}
 use Rattle.std.proofs.Math.Seq.{take-append_seam}
 use Rattle.std.proofs.lemmas.List.{length-append}
+use Rattle.std.proofs.lemmas.Bool.{and_from}
 use Rattle.bl_tree.specs.declared.tree.Role.{Role}
 use Rattle.bl_tree.specs.declared.tree.Role.TheVariants as role
 use Rattle.bl_tree.specs.Reduce.{joined}
@@ -17,63 +18,21 @@ use Rattle.bl_parse_tree.specs.declared.item.RawStruct.{RawStruct}
 use Rattle.bl_parse_tree.specs.declared.item.RawUnit.{RawUnit}
 use Rattle.bl_parse_tree.specs.declared.stmt.RawConstant.{RawConstant}
 use Rattle.bl_names_scopes.specs.declared.kind.Kind.TheVariants as kind
-use Rattle.bl_names_scopes.specs.Marks.{
-  closes,
-  constant_marks,
-  declares,
-  expr_marks,
-  field_mark,
-  field_type_marks,
-  in_scope,
-  inside_unit,
-  item_marks,
-  kind_of_unit,
-  marks_of,
-  optional,
-  param_marks,
-  stmt_marks,
-  struct_marks,
-  type_marks,
-  unit_marks,
-}
+use Rattle.bl_names_scopes.specs.Marks.{closes, constant_marks, declares, expr_marks, field_mark, field_type_marks, in_scope, inside_unit, item_marks}
+use Rattle.bl_names_scopes.specs.Marks.{kind_of_unit, marks_of, optional, param_marks, stmt_marks, struct_marks, type_marks, unit_marks}
 use Rattle.bl_names_scopes.specs.Rules.{Passes}
 use Rattle.bl_names_scopes.specs.Scopes.{Scopes, after, enter, file_scope}
-use Rattle.bl_names.specs.Named.{
-  along,
-  block_piece,
-  inside_piece,
-  named_field,
-  named_program,
-  named_struct,
-  named_unit,
-  none,
-  opened,
-  params_piece,
-  role_piece,
-  structs_of,
-  units_of,
-}
+use Rattle.bl_names.specs.Named.{along, block_piece, inside_piece, named_field, named_program, named_struct, named_unit, none, opened, params_piece, role_piece}
+use Rattle.bl_names.specs.Named.{structs_of, units_of}
 use Rattle.bl_names.proofs.ItemLemmas.{inside_scopes}
 use Rattle.bl_names.proofs.PieceLemmas.{role_marks}
 use Rattle.bl_names.proofs.StillLemmas.{Still, after-append, still_all, still_type, still_value}
 use Rattle.bl_names_laws.specs.WellFormed.{all_names, fields_differ, names_of, parameters_differ}
 use Rattle.bl_names_laws.proofs.Along.{along_under}
 use Rattle.bl_names_laws.proofs.ApartProgram.{inside_moves}
-use Rattle.bl_names_laws.proofs.Fresh.{
-  Adds,
-  Differ,
-  Fresh,
-  adds,
-  differ_first,
-  differ_middle,
-  differ_skip,
-  fresh_first,
-  fresh_second,
-  none_differ,
-  program_fresh,
-}
+use Rattle.bl_names_laws.proofs.Fresh.{Adds, Differ, Fresh, adds, differ_first, differ_middle, differ_skip, fresh_first, fresh_second, none_differ}
+use Rattle.bl_names_laws.proofs.Fresh.{program_fresh}
 use Rattle.bl_names_laws.proofs.Moves.{Moving, moving_still, own_is}
-use Rattle.bl_names_laws.proofs.Tests.{both}
 
 -- ---- fields
 
@@ -106,7 +65,7 @@ role_apart role (param ∷ params) scopes names fresh rest =
     (role_apart role params middle names (fresh_second scopes (param_marks param) marks fresh)
     (subst (λ s. Differ s.inner names) (after-append scopes (param_marks param) marks) rest))
 
-role_long : (role : Role) (params : List RawParam) (scopes : Scopes) → length ((role_piece role params).vars scopes) ≡ length params
+pub role_long : (role : Role) (params : List RawParam) (scopes : Scopes) → length ((role_piece role params).vars scopes) ≡ length params
 role_long role [] scopes = refl
 role_long role (param ∷ params) scopes = ap (λ n. suc n) (role_long role params (after scopes (param_marks param)))
 
@@ -206,14 +165,14 @@ known_next : (scopes : Scopes) (one : RawItem) (items : List RawItem) → Known 
 known_next scopes one items known = fresh_second scopes (item_marks one) (marks_of items) known
 
 item_fields : (scopes : Scopes) (one : RawItem) → Fresh scopes (item_marks one) → list_all fields_differ (structs_of scopes one) ≡ true
-item_fields scopes (item.Struct def) fresh = both (fields_differ (named_struct scopes def)) true (struct_apart scopes def fresh) refl
+item_fields scopes (item.Struct def) fresh = and_from (fields_differ (named_struct scopes def)) true (struct_apart scopes def fresh) refl
 item_fields scopes (item.Constant constant) fresh = refl
 item_fields scopes (item.Unit def) fresh = refl
 
 item_params : (scopes : Scopes) (one : RawItem) → Fresh scopes (item_marks one) → list_all parameters_differ (units_of scopes one) ≡ true
 item_params scopes (item.Struct def) fresh = refl
 item_params scopes (item.Constant constant) fresh = refl
-item_params scopes (item.Unit def) fresh = both (parameters_differ (named_unit scopes def)) true (unit_params scopes def fresh) refl
+item_params scopes (item.Unit def) fresh = and_from (parameters_differ (named_unit scopes def)) true (unit_params scopes def fresh) refl
 
 pub all_fields_differ : (items : List RawItem) (bytes : ℕ) → Passes items → list_all fields_differ (named_program items bytes).structs ≡ true
 all_fields_differ items bytes passes = along_under Known structs_of fields_differ known_next

@@ -32,80 +32,22 @@ use Rattle.bl_names_scopes.specs.declared.kind.Wanted.{Wanted}
 use Rattle.bl_names_scopes.specs.declared.kind.Wanted.TheVariants as wants
 use Rattle.bl_names_scopes.specs.declared.scopes.Counts.{Counts}
 use Rattle.bl_names_scopes.specs.Kinds.{suits}
-use Rattle.bl_names_scopes.specs.Marks.{
-  Marks,
-  argument_marks,
-  expr_layer_marks,
-  expr_marks,
-  kind_marks,
-  length_marks,
-  marks_of_part,
-  optional,
-  part_marks,
-  path_marks,
-  target_layer_marks,
-  target_marks,
-  type_level_marks,
-  type_marks,
-  uses,
-}
+use Rattle.bl_names_scopes.specs.Marks.{Marks, argument_marks, expr_layer_marks, expr_marks, kind_marks, length_marks, marks_of_part, optional, part_marks}
+use Rattle.bl_names_scopes.specs.Marks.{path_marks, target_layer_marks, target_marks, type_level_marks, type_marks, uses}
 use Rattle.bl_names_scopes.specs.Scopes.{Scopes}
-use Rattle.bl_names.specs.Naming.{
-  named_expr,
-  named_expr_layer,
-  named_kind,
-  named_length,
-  named_part,
-  named_path,
-  named_root,
-  named_step,
-  named_target,
-  named_target_layer,
-  named_type,
-  named_type_level,
-  position,
-  position_of,
-  root_at,
-  root_of,
-}
+use Rattle.bl_names.specs.Naming.{named_expr, named_expr_layer, named_kind, named_length, named_part, named_path, named_root, named_step, named_target}
+use Rattle.bl_names.specs.Naming.{named_target_layer, named_type, named_type_level, position, position_of, root_at, root_of}
 use Rattle.bl_names.proofs.FitLemmas.{Fits, IsFit, fits_behind, fits_first}
 use Rattle.bl_names.proofs.PlacedExpr.{IsRead, value_read}
 use Rattle.bl_names.proofs.RawExprInduction.{Cases, EachIndex, OfIndex, expr, induct, induct_target}
 use Rattle.bl_names.proofs.StillLemmas.{Still, still_expr, still_exprs, still_length, still_nil}
-use Rattle.bl_names_laws.specs.Referents.{
-  Referents,
-  argument_leads,
-  at_root,
-  constant_at,
-  expr_leads,
-  kind_leads,
-  leads_if,
-  length_leads,
-  part_leads,
-  path_leads,
-  struct_at,
-  target_layer_leads,
-  target_leads,
-  type_leads,
-  type_level_leads,
-  unit_at,
-  variable_at,
-}
+use Rattle.bl_names_laws.specs.Referents.{Referents, argument_leads, at_root, constant_at, expr_leads, kind_leads, leads_if, length_leads, part_leads}
+use Rattle.bl_names_laws.specs.Referents.{path_leads, struct_at, target_layer_leads, target_leads, type_leads, type_level_leads, unit_at, variable_at}
 use Rattle.bl_names_laws.specs.inner.Leads.{step_leads}
 use Rattle.bl_names_laws.proofs.Bindings.{bindings, bindings_behind}
 use Rattle.bl_names_laws.proofs.ExprMade.{NamedLayer, RawLayer, expr_made, field_made, index_made, named_parts, target_made}
-use Rattle.bl_names_laws.proofs.Listed.{
-  Listed,
-  activity_suits,
-  at_position,
-  bound_listed,
-  bound_name,
-  constant_suits,
-  function_suits,
-  name_at,
-  struct_suits,
-  variable_suits,
-}
+use Rattle.bl_names_laws.proofs.Listed.{Listed, activity_suits, at_position, bound_listed, bound_name, constant_suits, function_suits, name_at, struct_suits}
+use Rattle.bl_names_laws.proofs.Listed.{variable_suits}
 
 -- ---- what a raw expression does to names, by its parts
 

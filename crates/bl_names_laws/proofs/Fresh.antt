@@ -1,31 +1,10 @@
 -- Where rule Duplicate holds, each name is declared where its scope does not have it yet.
-use Rattle.std.proofs.Common.{
-  ◌≡◌,
-  ℕ,
-  Bool,
-  true,
-  false,
-  cond,
-  not,
-  ◌||◌,
-  List,
-  [],
-  ◌∷◌,
-  ◌++◌,
-  inl,
-  Some,
-  None,
-  refl,
-  sym,
-  ap,
-  subst,
-  ◌∙◌,
-  append_assoc,
-}
+use Rattle.std.proofs.Common.{◌≡◌, ℕ, Bool, true, false, cond, not, ◌||◌, List, [], ◌∷◌, ◌++◌, inl, Some, None, refl, sym, ap, subst, ◌∙◌, append_assoc}
 use Rattle.std.specs.Prelude.{bytes_eq, is_none, ⊤}
 use Rattle.std.specs.List.{list_all}
 use Rattle.std.proofs.lemmas.Bool.{not-true}
-use Rattle.std.proofs.lemmas.Slice.Eq.{bytes_eq-Decides}
+use Rattle.std.proofs.lemmas.Bool.{and_from}
+use Rattle.bl_tree.proofs.Basics.{and_first, and_second, bytes_differ_swap, neither_first, neither_second}
 use Rattle.bl_tree.specs.declared.rule.Rule.TheVariants as rule
 use Rattle.bl_tree.specs.Words.{are_distinct, is_among}
 use Rattle.bl_parse_tree.specs.declared.item.RawItem.{RawItem}
@@ -36,7 +15,6 @@ use Rattle.bl_names_scopes.specs.Marks.{Mark, Marks, closes, declared_after, dec
 use Rattle.bl_names_scopes.specs.Rules.{Passes}
 use Rattle.bl_names_scopes.specs.Scopes.{Declared, Scopes, after, count_of, declaration_of, declared, enter, file_scope, found}
 use Rattle.bl_names.proofs.StillLemmas.{after-append}
-use Rattle.bl_names_laws.proofs.Tests.{both, first_holds, second_holds}
 
 abbrev pub FreshAt : Scopes → Mark → Type 0
 FreshAt scopes opens = ⊤
@@ -131,17 +109,6 @@ pub record Differ (scope : Declared) (names : List (List ℕ)) : Type 0 where
 pub none_differ : (scope : Declared) → Differ scope []
 none_differ scope = record { unseen = refl; distinct = refl }
 
--- a name is another's other both ways
-pub other_way : (name text : List ℕ) → bytes_eq name text ≡ false → bytes_eq text name ≡ false
-other_way name text differ =
-    elim (bytes_eq text name) as (λ same. bytes_eq text name ≡ same → same ≡ false) [
-      | true ↦ λ is. absurd (both_ways (sym differ ∙ (bytes_eq-Decides name text).1 (sym ((bytes_eq-Decides text name).0 is))))
-      | false ↦ λ is. refl
-    ] refl
-  where
-    both_ways : false ≡ true → ⊥
-    both_ways is = cc
-
 -- what a longer scope does not have
 module _ (text : List ℕ) (entry : Declaration) where
   abbrev longer : Declared → Declared
@@ -157,7 +124,7 @@ module _ (text : List ℕ) (entry : Declaration) where
   -- the shorter scope does not have it either, and it is not the last
   unseen_before : (scope : Declared) (name : List ℕ) → unseen (longer scope) name ≡ true →
       (unseen scope name ≡ true) × (bytes_eq text name ≡ false)
-  unseen_before [] name none = (refl, other_way name text (last_differs name none))
+  unseen_before [] name none = (refl, bytes_differ_swap name text (last_differs name none))
   unseen_before (first ∷ scope) name none =
       elim (bytes_eq name first.0) as (λ same. is_none (cond same (Some first.1) (found (longer scope) name)) ≡ true →
       (is_none (cond same (Some first.1) (found scope name)) ≡ true) × (bytes_eq text name ≡ false)) [
@@ -169,9 +136,9 @@ module _ (text : List ℕ) (entry : Declaration) where
       → (list_all (unseen scope) names ≡ true) × (is_among text names ≡ false)
   all_before scope [] none = (refl, refl)
   all_before scope (name ∷ names) none =
-      let here = unseen_before scope name (first_holds (unseen (longer scope) name) (list_all (unseen (longer scope)) names) none) in
-      let rest = all_before scope names (second_holds (unseen (longer scope) name) (list_all (unseen (longer scope)) names) none) in
-      (both (unseen scope name) (list_all (unseen scope) names) here.0 rest.0, (λ i. here.1 i || rest.1 i))
+      let here = unseen_before scope name (and_first (unseen (longer scope) name) (list_all (unseen (longer scope)) names) none) in
+      let rest = all_before scope names (and_second (unseen (longer scope) name) (list_all (unseen (longer scope)) names) none) in
+      (and_from (unseen scope name) (list_all (unseen scope) names) here.0 rest.0, (λ i. here.1 i || rest.1 i))
 
 -- names behind one that is declared
 module _ (scopes new : Scopes) (text : List ℕ) (names : List (List ℕ)) (one : Adds scopes new text) (rest : Differ new.inner names) where
@@ -183,26 +150,18 @@ module _ (scopes new : Scopes) (text : List ℕ) (names : List (List ℕ)) (one 
 
   pub differ_first : Differ scopes.inner (text ∷ names)
   differ_first = record {
-    unseen = both (unseen scopes.inner text) (list_all (unseen scopes.inner) names) (ap is_none one.absent) before.0;
-    distinct = both (not (is_among text names)) (are_distinct names) (ap not before.1) rest.distinct;
+    unseen = and_from (unseen scopes.inner text) (list_all (unseen scopes.inner) names) (ap is_none one.absent) before.0;
+    distinct = and_from (not (is_among text names)) (are_distinct names) (ap not before.1) rest.distinct;
   }
-
-neither_first : (a b : Bool) → (a || b) ≡ false → a ≡ false
-neither_first true b is = is
-neither_first false b is = refl
-
-neither_second : (a b : Bool) → (a || b) ≡ false → b ≡ false
-neither_second true b is = absurd (cc)
-neither_second false b is = is
 
 -- a name between others
 module _ (text : List ℕ) (after : List (List ℕ)) where
   all_middle : (test : List ℕ → Bool) (before : List (List ℕ)) → test text ≡ true → list_all test (before ++ after) ≡ true
       → list_all test (before ++ (text ∷ after)) ≡ true
-  all_middle test [] here all = both (test text) (list_all test after) here all
+  all_middle test [] here all = and_from (test text) (list_all test after) here all
   all_middle test (name ∷ before) here all =
-      both (test name) (list_all test (before ++ (text ∷ after))) (first_holds (test name) (list_all test (before ++ after)) all)
-      (all_middle test before here (second_holds (test name) (list_all test (before ++ after)) all))
+      and_from (test name) (list_all test (before ++ (text ∷ after))) (and_first (test name) (list_all test (before ++ after)) all)
+      (all_middle test before here (and_second (test name) (list_all test (before ++ after)) all))
 
   among_middle : (name : List ℕ) (before : List (List ℕ)) → bytes_eq name text ≡ false → is_among name (before ++ after) ≡ false
       → is_among name (before ++ (text ∷ after)) ≡ false
@@ -213,14 +172,14 @@ module _ (text : List ℕ) (after : List (List ℕ)) where
 
   distinct_middle : (before : List (List ℕ)) → is_among text (before ++ after) ≡ false → are_distinct (before ++ after) ≡ true
       → are_distinct (before ++ (text ∷ after)) ≡ true
-  distinct_middle [] new distinct = both (not (is_among text after)) (are_distinct after) (ap not new) distinct
+  distinct_middle [] new distinct = and_from (not (is_among text after)) (are_distinct after) (ap not new) distinct
   distinct_middle (name ∷ before) new distinct =
       let others = before ++ after in
-      both (not (is_among name (before ++ (text ∷ after)))) (are_distinct (before ++ (text ∷ after)))
-      (ap not (among_middle name before (other_way text name (neither_first (bytes_eq text name) (is_among text others) new))
-      (not-true (is_among name others) (first_holds (not (is_among name others)) (are_distinct others) distinct))))
+      and_from (not (is_among name (before ++ (text ∷ after)))) (are_distinct (before ++ (text ∷ after)))
+      (ap not (among_middle name before (bytes_differ_swap text name (neither_first (bytes_eq text name) (is_among text others) new))
+      (not-true (is_among name others) (and_first (not (is_among name others)) (are_distinct others) distinct))))
       (distinct_middle before (neither_second (bytes_eq text name) (is_among text others) new)
-      (second_holds (not (is_among name others)) (are_distinct others) distinct))
+      (and_second (not (is_among name others)) (are_distinct others) distinct))
 
 pub differ_middle : (scopes new : Scopes) (text : List ℕ) (first second : List (List ℕ)) → Adds scopes new text → Differ new.inner (first ++ second)
     → Differ scopes.inner (first ++ (text ∷ second))

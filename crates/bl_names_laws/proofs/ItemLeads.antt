@@ -1,30 +1,9 @@
 -- The positions in structs, constants and units lead to what the uses in their places are bound to.
-use Rattle.std.proofs.Common.{
-  ◌≡◌,
-  ℕ,
-  suc,
-  ◌+◌,
-  List,
-  [],
-  ◌∷◌,
-  ◌++◌,
-  map,
-  length,
-  take,
-  Some,
-  None,
-  refl,
-  sym,
-  ap,
-  subst,
-  ◌∙◌,
-  append-nil,
-  append_assoc,
-  arith,
-}
+use Rattle.std.proofs.Common.{◌≡◌, ℕ, suc, ◌+◌, List, [], ◌∷◌, ◌++◌, map, length, take, Some, None, refl, sym, ap, subst, ◌∙◌, append-nil, append_assoc, arith}
 use Rattle.std.specs.Prelude.{option_and_then, option_map, if◌then◌else◌}
 use Rattle.std.proofs.Math.Seq.{take-append_seam}
 use Rattle.std.proofs.lemmas.List.{length-append}
+use Rattle.bl_tree.proofs.Basics.{plus_none}
 use Rattle.bl_tree.specs.declared.tree.Role.{Role}
 use Rattle.bl_tree.specs.declared.tree.Role.TheVariants as role
 use Rattle.bl_tree.specs.declared.tree.UnitKind.{UnitKind}
@@ -45,81 +24,31 @@ use Rattle.bl_parse_tree.specs.declared.name.Name.{Name}
 use Rattle.bl_parse_tree.specs.declared.stmt.RawConstant.{RawConstant}
 use Rattle.bl_names_scopes.specs.declared.kind.Kind.TheVariants as kind
 use Rattle.bl_names_scopes.specs.declared.scopes.Counts.{Counts}
-use Rattle.bl_names_scopes.specs.Marks.{
-  Marks,
-  closes,
-  constant_marks,
-  declares,
-  expr_marks,
-  field_mark,
-  field_type_marks,
-  in_scope,
-  inside_unit,
-  item_marks,
-  kind_of_unit,
-  marks_of,
-  optional,
-  param_marks,
-  struct_marks,
-  type_marks,
-  unit_marks,
-}
+use Rattle.bl_names_scopes.specs.Marks.{Marks, closes, constant_marks, declares, expr_marks, field_mark, field_type_marks, in_scope, inside_unit, item_marks}
+use Rattle.bl_names_scopes.specs.Marks.{kind_of_unit, marks_of, optional, param_marks, struct_marks, type_marks, unit_marks}
 use Rattle.bl_names_scopes.specs.Rules.{Passes}
 use Rattle.bl_names_scopes.specs.Scopes.{Scopes, after, count_of, enter, file_scope}
-use Rattle.bl_names.specs.Named.{
-  along,
-  block_piece,
-  constants_in_unit,
-  constants_of,
-  named_constant,
-  named_field,
-  named_program,
-  named_struct,
-  named_unit,
-  opened,
-  param_piece,
-  params_piece,
-  role_piece,
-  structs_of,
-  units_of,
-}
+use Rattle.bl_names.specs.Named.{along, block_piece, constants_in_unit, constants_of, named_constant, named_field, named_program, named_struct, named_unit}
+use Rattle.bl_names.specs.Named.{opened, param_piece, params_piece, role_piece, structs_of, units_of}
 use Rattle.bl_names.specs.Naming.{named_type}
 use Rattle.bl_names.specs.Order.{kind_of_item}
 use Rattle.bl_names.proofs.BelowLemmas.{Below, constant_below, struct_below}
 use Rattle.bl_names.proofs.FitLemmas.{Fits, fits_behind, fits_first, fits_second, program_fits}
 use Rattle.bl_names.proofs.ItemLemmas.{struct_scopes, unit_scopes}
-use Rattle.bl_names.proofs.PastLemmas.{enter-behind, none_more}
+use Rattle.bl_names.proofs.PastLemmas.{enter-behind}
 use Rattle.bl_names.proofs.PieceLemmas.{block_marks, role_marks}
 use Rattle.bl_names.proofs.PlacedExpr.{earlier}
 use Rattle.bl_names.proofs.PlacedItem.{struct_is, unit_holds}
 use Rattle.bl_names.proofs.PlacedStmt.{Within, closed_is, constant_is, within_first, within_one, within_second}
 use Rattle.bl_names.proofs.StillLemmas.{Still, after-append, still_all, still_optional, still_type, still_value}
 use Rattle.bl_names_laws.specs.Bound.{UsesAreBound, EachLeads, uses_of}
-use Rattle.bl_names_laws.specs.Referents.{
-  Referents,
-  field_leads,
-  item_leads,
-  items_lead,
-  leads_if,
-  stmt_leads,
-  struct_leads,
-  type_leads,
-  unit_at,
-  unit_leads,
-  var_leads,
-}
-use Rattle.bl_names_laws.proofs.Bindings.{
-  bindings,
-  bindings_append,
-  bindings_behind,
-  bindings_declared,
-  bindings_fields,
-  bindings_own,
-  each_bound,
-}
+use Rattle.bl_names_laws.specs.Referents.{Referents, field_leads, item_leads, items_lead, leads_if, stmt_leads, struct_leads, type_leads, unit_at, unit_leads}
+use Rattle.bl_names_laws.specs.Referents.{var_leads}
+use Rattle.bl_names_laws.proofs.Bindings.{bindings, bindings_append, bindings_behind, bindings_declared, bindings_fields, bindings_own, each_bound}
 use Rattle.bl_names_laws.proofs.ExprLeads.{joined_led, optional_led, type_led}
 use Rattle.bl_names_laws.proofs.Listed.{Listed, at_position, declare_listed}
 use Rattle.bl_names_laws.proofs.StmtLeads.{Good, Leading, constant_leading, every_block, good_all, good_then, lead_all, variable_leading}
+use Rattle.bl_names.proofs.PlacedProgram.{whole}
 
 module _ (named : Named) where
   -- ---- structs
@@ -334,8 +263,8 @@ module _ (named : Named) where
         below = struct_below scopes def.name below;
         no_variables = none;
         more_structs = refl;
-        more_constants = none_more scopes.counts.constants;
-        more_units = none_more scopes.counts.units;
+        more_constants = plus_none scopes.counts.constants;
+        more_units = plus_none scopes.counts.units;
       })
 
   constant_item : (scopes : Scopes) (def : RawConstant) → Below scopes → scopes.counts.variables ≡ 0 →
@@ -353,9 +282,9 @@ module _ (named : Named) where
             ∙ ap (λ s. Some (earlier s)) entered;
         below = subst Below entered (constant_below scopes def.name below);
         no_variables = ap (λ s. s.counts.variables) (sym entered) ∙ none;
-        more_structs = ap (λ s. s.counts.structs) (sym entered) ∙ none_more scopes.counts.structs;
+        more_structs = ap (λ s. s.counts.structs) (sym entered) ∙ plus_none scopes.counts.structs;
         more_constants = ap (λ s. s.counts.constants) (sym entered);
-        more_units = ap (λ s. s.counts.units) (sym entered) ∙ none_more scopes.counts.units;
+        more_units = ap (λ s. s.counts.units) (sym entered) ∙ plus_none scopes.counts.units;
       }
 
   unit_item : (scopes : Scopes) (def : RawUnit) → Below scopes → scopes.counts.variables ≡ 0 → ((vars : List NamedVar) → Listed named vars scopes) →
@@ -371,7 +300,7 @@ module _ (named : Named) where
         steps = ap (option_and_then (λ def. unit_step named.constants def (earlier scopes))) there ∙ holds.steps;
         below = holds.below;
         no_variables = holds.no_variables;
-        more_structs = holds.same_structs ∙ none_more scopes.counts.structs;
+        more_structs = holds.same_structs ∙ plus_none scopes.counts.structs;
         more_constants = holds.more_constants;
         more_units = holds.more_units;
       }
@@ -407,9 +336,6 @@ module _ (named : Named) where
       (λ i. first.is_led i ++ items_lead named (map kind_of_item items) (first.steps i))
       ∙ ap (λ l. bindings scopes (item_marks one) ++ l) later
       ∙ sym (bindings_append scopes (item_marks one) (marks_of items))
-
-whole : {A : Type 0} (xs : List A) → Within xs 0 xs
-whole xs = record { before = []; rest = []; there = sym (append-nil xs); is_at = refl }
 
 -- the positions in a program lead to what its uses are bound to
 pub uses_are_bound : (items : List RawItem) (bytes : ℕ) → Passes items → UsesAreBound items (named_program items bytes)

@@ -1,12 +1,12 @@
-mod Along
-mod Apart
-mod ApartProgram
+pub mod Along
+pub mod Apart
+pub mod ApartProgram
 mod Bindings
-mod Distinct
+pub mod Distinct
 mod ExprDepth
 mod ExprLeads
 mod ExprMade
-mod ExprRoots
+pub mod ExprRoots
 mod Filled
 mod Foreign
 mod Fresh
@@ -17,7 +17,7 @@ mod Moves
 mod Names
 mod Only
 mod Starts
-mod StmtDepth
+pub mod StmtDepth
 mod StmtLeads
 mod Tests
-mod WhatKeeps
+pub mod WhatKeeps

@@ -3,6 +3,7 @@ use Rattle.std.proofs.Common.{◌≡◌, ◌+◌, List, [], ◌∷◌, ◌++◌,
 use Rattle.std.specs.Prelude.{All, Option, Some}
 use Rattle.std.proofs.lemmas.List.{length-append}
 use Rattle.std.proofs.lemmas.List.Elements.{All-head, All-tail}
+use Rattle.bl_tree.proofs.Basics.{plus_none}
 use Rattle.bl_tree.specs.declared.place.Place.{Place}
 use Rattle.bl_tree.specs.declared.tree.Role.{Role}
 use Rattle.bl_tree.specs.declared.tree.Role.TheVariants as role
@@ -17,23 +18,11 @@ use Rattle.bl_parse_tree.specs.declared.stmt.RawStmtKind.TheOpen.{RawStmtKind-F}
 use Rattle.bl_parse_tree.specs.declared.types.RawType.{RawType}
 use Rattle.bl_names_scopes.specs.declared.kind.Kind.TheVariants as kind
 use Rattle.bl_names_scopes.specs.declared.kind.Wanted.TheVariants as wanted
-use Rattle.bl_names_scopes.specs.Marks.{
-  Marks,
-  argument_marks,
-  closes,
-  constant_marks,
-  declares,
-  expr_marks,
-  in_scope,
-  optional,
-  path_marks,
-  target_marks,
-  type_marks,
-  uses,
-}
+use Rattle.bl_names_scopes.specs.Marks.{Marks, argument_marks, closes, constant_marks, declares, expr_marks, in_scope, optional, path_marks, target_marks}
+use Rattle.bl_names_scopes.specs.Marks.{type_marks, uses}
 use Rattle.bl_names_scopes.specs.Scopes.{Scopes, after, scopes_outside}
 use Rattle.bl_names.specs.Named.{Piece, kind_piece, marks_of_all, named_var, none, opened, piece_of_arm, piece_of_branch, stmt_piece, vars_of_all}
-use Rattle.bl_names.proofs.PastLemmas.{enter-behind, none_more, sums}
+use Rattle.bl_names.proofs.PastLemmas.{enter-behind, sums}
 use Rattle.bl_names.proofs.PieceLemmas.{arm_is, branch_is, parts, stmt_is}
 use Rattle.bl_names.proofs.RawStmtInduction.{Cases, induct, induct_arm, induct_branch, stmt}
 use Rattle.bl_names.proofs.StillLemmas.{Still, after-append, still_append, still_arguments, still_expr, still_optional, still_target, still_use, still_value}
@@ -56,7 +45,7 @@ moves_then scopes middle new vars more one two = record {
 }
 
 pub moving_still : (marks : Marks) → Still marks → Moving marks none
-moving_still marks still scopes = subst (λ new. Moves scopes new []) (sym (still scopes)) (record { outer = refl; more = none_more scopes.counts.variables })
+moving_still marks still scopes = subst (λ new. Moves scopes new []) (sym (still scopes)) (record { outer = refl; more = plus_none scopes.counts.variables })
 
 pub moving_then : (first second : Marks) (vars more : Scopes → List NamedVar) → Moving first vars → Moving second more
     → Moving (first ++ second) (λ scopes. vars scopes ++ more (after scopes first))
@@ -86,7 +75,7 @@ moving_constant : (constant : RawConstant) → Moving (constant_marks constant) 
 moving_constant constant scopes =
     subst (λ new. Moves scopes new []) (enter-behind scopes (optional type_marks constant.ty ++ expr_marks constant.value) constant.name kind.Constant
     (still_value constant.ty (Some constant.value)))
-    (record { outer = refl; more = none_more scopes.counts.variables })
+    (record { outer = refl; more = plus_none scopes.counts.variables })
 
 -- ---- statements
 

@@ -24,20 +24,8 @@ use Rattle.bl_parse_tree.specs.declared.stmt.RawStmtKind.TheOpen.{RawStmtKind-F}
 use Rattle.bl_parse_tree.specs.Starts as raw
 use Rattle.bl_names_scopes.specs.Marks.{expr_marks, item_marks}
 use Rattle.bl_names_scopes.specs.Scopes.{Scopes, after, file_scope}
-use Rattle.bl_names.specs.Named.{
-  Piece,
-  along,
-  kind_piece,
-  made_of_all,
-  marks_of_all,
-  named_program,
-  opened,
-  params_piece,
-  piece_of_arm,
-  piece_of_branch,
-  stmt_piece,
-  units_of,
-}
+use Rattle.bl_names.specs.Named.{Piece, along, kind_piece, made_of_all, marks_of_all, named_program, opened, params_piece, piece_of_arm, piece_of_branch}
+use Rattle.bl_names.specs.Named.{stmt_piece, units_of}
 use Rattle.bl_names.specs.Naming.{named_expr, named_expr_layer, named_kind, named_part, named_path, named_target, named_target_layer, position}
 use Rattle.bl_names.proofs.PieceLemmas.{arm_is, branch_is, parts, stmt_is}
 use Rattle.bl_names.proofs.RawStmtInduction.{Cases, induct, stmt}

@@ -4,6 +4,8 @@ use Rattle.std.specs.Prelude.{All, max, nat_le, Some, option_map}
 use Rattle.std.specs.List.{list_all}
 use Rattle.std.proofs.lemmas.Bool.{le-leb, leb-true}
 use Rattle.std.proofs.lemmas.List.Elements.{All-head, All-tail}
+use Rattle.std.proofs.lemmas.Bool.{and_from}
+use Rattle.bl_tree.proofs.Basics.{and_first, and_second, none_at_most}
 use Rattle.bl_tree.specs.declared.place.Place.{Place}
 use Rattle.bl_tree.specs.Depths.{Depth, block, leaf, of_all}
 use Rattle.bl_names_tree.specs.declared.stmt.NamedStmtKind.{out-NamedStmtKind}
@@ -18,20 +20,8 @@ use Rattle.bl_parse_tree.specs.declared.stmt.RawStmtKind.TheOpen.{RawStmtKind-F}
 use Rattle.bl_parse_tree.specs.Depths as raw
 use Rattle.bl_names_scopes.specs.Marks.{expr_marks}
 use Rattle.bl_names_scopes.specs.Scopes.{Scopes, after, file_scope}
-use Rattle.bl_names.specs.Named.{
-  Piece,
-  kind_piece,
-  made_of_all,
-  marks_of_all,
-  named_program,
-  named_unit,
-  opened,
-  params_piece,
-  piece_of_arm,
-  piece_of_branch,
-  stmt_piece,
-  units_of,
-}
+use Rattle.bl_names.specs.Named.{Piece, kind_piece, made_of_all, marks_of_all, named_program, named_unit, opened, params_piece, piece_of_arm, piece_of_branch}
+use Rattle.bl_names.specs.Named.{stmt_piece, units_of}
 use Rattle.bl_names.specs.Naming.{named_expr, named_path, named_target, position}
 use Rattle.bl_names.proofs.PieceLemmas.{arm_is, branch_is, parts, stmt_is}
 use Rattle.bl_names.proofs.RawStmtInduction.{Cases, induct, stmt}
@@ -41,7 +31,6 @@ use Rattle.bl_names_laws.specs.WellFormed.{body_shallow}
 use Rattle.bl_names_laws.proofs.Along.{along_holds}
 use Rattle.bl_names_laws.proofs.ExprDepth.{expr_same, inputs_same, optional_same, target_same}
 use Rattle.bl_names_laws.proofs.Made.{NamedLayer, RawLayer, named_arm_at, named_at, named_branch_at, named_parts, raw_arm_at, raw_at, raw_branch_at, raw_parts}
-use Rattle.bl_names_laws.proofs.Tests.{both, first_holds, second_holds}
 
 abbrev arm_before : RawArm → Depth
 arm_before = fold-RawArm Depth Depth Depth Depth raw.stmt_kind_depth raw.arm_depth raw.branch_depth raw.stmt_layer_depth
@@ -63,14 +52,11 @@ max_grows a b c d one two = grind arith
 equal_most : (a b : ℕ) → a ≡ b → a ≤ b
 equal_most a b is = omega arith
 
-one_more : (a b : ℕ) → a ≤ b → 1 + a ≤ 1 + b
+pub one_more : (a b : ℕ) → a ≤ b → 1 + a ≤ 1 + b
 one_more a b is = omega arith
 
-nothing_most : (a : ℕ) → 0 ≤ a
-nothing_most a = omega arith
-
 leaf_most : (a b : ℕ) → a ≡ b → AtMost (leaf a) (leaf b)
-leaf_most a b is = record { blocks = nothing_most 0; exprs = equal_most a b is }
+leaf_most a b is = record { blocks = none_at_most 0; exprs = equal_most a b is }
 
 block_most : (head before : ℕ) (new old : List Depth) → head ≡ before → AtMost (of_all new) (of_all old) → AtMost (block head new) (block before old)
 block_most head before new old is at = record {
@@ -101,7 +87,7 @@ BranchGood branch = Good depth_of_branch (branch_before branch) (piece_of_branch
 good_all : {X A : Type 0} (depth : A → Depth) (before : X → Depth) (piece : X → Piece A) (xs : List X) →
     All (λ x. Good depth (before x) (piece x)) xs →
     (scopes : Scopes) → AtMost (of_all (map depth (made_of_all (map piece xs) scopes))) (of_all (map before xs))
-good_all depth before piece [] each scopes = record { blocks = nothing_most 0; exprs = nothing_most 0 }
+good_all depth before piece [] each scopes = record { blocks = none_at_most 0; exprs = none_at_most 0 }
 good_all depth before piece (x ∷ xs) each scopes =
     both_most (depth ((piece x).made scopes)) (before x) (map depth (made_of_all (map piece xs) (after scopes (piece x).marks))) (map before xs)
     (All-head (λ x. Good depth (before x) (piece x)) x xs each scopes)
@@ -141,7 +127,7 @@ cases = record {
       (λ scopes. leaf_most _ _ (expr_same scopes value));
   constant = λ place constant. stmt_good place (RawStmtKind-F.Const constant) (λ scopes. NamedStmtKind-F.Const scopes.counts.constants)
       (λ scopes. what.outs-Const scopes.counts.constants)
-      (λ scopes. record { blocks = nothing_most 0; exprs = nothing_most (raw.expr_depth constant.value) });
+      (λ scopes. record { blocks = none_at_most 0; exprs = none_at_most (raw.expr_depth constant.value) });
   assign = λ place target e. stmt_good place (RawStmtKind-F.Assign target e)
       (λ scopes. NamedStmtKind-F.Assign (named_target scopes target) (named_expr scopes e))
       (λ scopes. what.outs-Assign (named_target scopes target) (named_expr scopes e))
@@ -204,7 +190,7 @@ cases = record {
 every_of : (body : List RawStmt) → All StmtGood body
 every_of body = λ k d within. induct StmtGood ArmGood BranchGood cases _
 
-below_limit : (a b limit : ℕ) → a ≤ b → nat_le b limit ≡ true → nat_le a limit ≡ true
+pub below_limit : (a b limit : ℕ) → a ≤ b → nat_le b limit ≡ true → nat_le a limit ≡ true
 below_limit a b limit most is = let less : b ≤ limit = leb-true b limit is in le-leb a limit (omega arith)
 
 shallow_body : (body : List RawStmt) (scopes : Scopes) → raw.is_shallow body ≡ true → is_shallow (made_of_all (map stmt_piece body) scopes) ≡ true
@@ -212,16 +198,16 @@ shallow_body body scopes shallow =
     let at = good_all depth_of raw.depth_of stmt_piece body (every_of body) scopes in
     let new = of_all (map depth_of (made_of_all (map stmt_piece body) scopes)) in
     let old = of_all (map raw.depth_of body) in
-    both (nat_le (1 + new.blocks) 100) (nat_le new.exprs 200)
+    and_from (nat_le (1 + new.blocks) 100) (nat_le new.exprs 200)
     (below_limit (1 + new.blocks) (1 + old.blocks) 100 (one_more new.blocks old.blocks at.blocks)
-    (first_holds (nat_le (1 + old.blocks) 100) (nat_le old.exprs 200) shallow))
-    (below_limit new.exprs old.exprs 200 at.exprs (second_holds (nat_le (1 + old.blocks) 100) (nat_le old.exprs 200) shallow))
+    (and_first (nat_le (1 + old.blocks) 100) (nat_le old.exprs 200) shallow))
+    (below_limit new.exprs old.exprs 200 at.exprs (and_second (nat_le (1 + old.blocks) 100) (nat_le old.exprs 200) shallow))
 
 item_shallow : (scopes : Scopes) (one : RawItem) → raw.item_shallow one ≡ true → list_all body_shallow (units_of scopes one) ≡ true
 item_shallow scopes (item.Struct def) shallow = refl
 item_shallow scopes (item.Constant constant) shallow = refl
 item_shallow scopes (item.Unit def) shallow =
-    both (body_shallow (named_unit scopes def)) true (shallow_body def.body (after (opened scopes) (params_piece def).marks) shallow) refl
+    and_from (body_shallow (named_unit scopes def)) true (shallow_body def.body (after (opened scopes) (params_piece def).marks) shallow) refl
 
 pub units_are_shallow : (items : List RawItem) (bytes : ℕ) → list_all raw.item_shallow items ≡ true →
     list_all body_shallow (named_program items bytes).units

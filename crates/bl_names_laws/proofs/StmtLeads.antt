@@ -2,6 +2,7 @@
 use Rattle.std.proofs.Common.{◌≡◌, ◌+◌, List, [], ◌∷◌, ◌++◌, map, length, Option, Some, refl, sym, ap, subst, ◌∙◌}
 use Rattle.std.specs.Prelude.{All, option_map, slice_get}
 use Rattle.std.proofs.lemmas.List.Elements.{All-head, All-tail}
+use Rattle.bl_tree.proofs.Basics.{plus_none}
 use Rattle.bl_tree.specs.declared.place.Place.{Place}
 use Rattle.bl_tree.specs.declared.tree.Role.{Role}
 use Rattle.bl_tree.specs.declared.tree.Role.TheVariants as role
@@ -25,76 +26,28 @@ use Rattle.bl_parse_tree.specs.declared.stmt.RawStmtKind.TheOpen.{RawStmtKind-F}
 use Rattle.bl_parse_tree.specs.declared.types.RawType.{RawType}
 use Rattle.bl_names_scopes.specs.declared.kind.Kind.TheVariants as kind
 use Rattle.bl_names_scopes.specs.declared.kind.Wanted.TheVariants as wanted
-use Rattle.bl_names_scopes.specs.Marks.{
-  Marks,
-  argument_marks,
-  closes,
-  constant_marks,
-  declared_after,
-  declares,
-  expr_marks,
-  in_scope,
-  optional,
-  path_marks,
-  target_marks,
-  type_marks,
-  uses,
-}
+use Rattle.bl_names_scopes.specs.Marks.{Marks, argument_marks, closes, constant_marks, declared_after, declares, expr_marks, in_scope, optional, path_marks}
+use Rattle.bl_names_scopes.specs.Marks.{target_marks, type_marks, uses}
 use Rattle.bl_names_scopes.specs.Scopes.{Scopes, after}
-use Rattle.bl_names.specs.Named.{
-  Piece,
-  all,
-  kind_piece,
-  made_of_all,
-  marks_of_all,
-  named_constant,
-  named_var,
-  opened,
-  own_scope,
-  piece_of_arm,
-  piece_of_branch,
-  plain,
-  stmt_piece,
-}
+use Rattle.bl_names.specs.Named.{Piece, all, kind_piece, made_of_all, marks_of_all, named_constant, named_var, opened, own_scope, piece_of_arm, piece_of_branch}
+use Rattle.bl_names.specs.Named.{plain, stmt_piece}
 use Rattle.bl_names.specs.Naming.{named_expr, named_path, named_target, named_type, position}
 use Rattle.bl_names.proofs.FitLemmas.{Fits, fits_behind, fits_first, fits_second}
-use Rattle.bl_names.proofs.PastLemmas.{enter-behind, more, none_more}
+use Rattle.bl_names.proofs.PastLemmas.{enter-behind, more}
 use Rattle.bl_names.proofs.PieceLemmas.{arm_is, branch_is, parts, stmt_is}
 use Rattle.bl_names.proofs.PlacedExpr.{variable_read}
-use Rattle.bl_names.proofs.PlacedStmt.{Within, closed_is, within_first, within_one, within_second}
+use Rattle.bl_names.proofs.PlacedStmt.{Within, within_first, within_one, within_second}
 use Rattle.bl_names.proofs.RawStmtInduction.{Cases, induct, stmt}
-use Rattle.bl_names.proofs.StillLemmas.{
-  Still,
-  after-append,
-  still_append,
-  still_arguments,
-  still_expr,
-  still_optional,
-  still_target,
-  still_type,
-  still_use,
-  still_value,
-}
-use Rattle.bl_names_laws.specs.Referents.{
-  Referents,
-  arm_layer_leads,
-  branch_layer_leads,
-  constant_leads,
-  expr_leads,
-  leads_if,
-  path_leads,
-  stmt_kind_leads,
-  stmt_layer_leads,
-  stmt_leads,
-  target_leads,
-  type_leads,
-  var_leads,
-}
+use Rattle.bl_names.proofs.StillLemmas.{Still, after-append, still_append, still_arguments, still_expr, still_optional, still_target, still_type, still_use}
+use Rattle.bl_names.proofs.StillLemmas.{still_value}
+use Rattle.bl_names_laws.specs.Referents.{Referents, arm_layer_leads, branch_layer_leads, constant_leads, expr_leads, leads_if, path_leads, stmt_kind_leads}
+use Rattle.bl_names_laws.specs.Referents.{stmt_layer_leads, stmt_leads, target_leads, type_leads, var_leads}
 use Rattle.bl_names_laws.specs.inner.Leads.{leads_of_arm, leads_of_branch}
 use Rattle.bl_names_laws.proofs.Bindings.{bindings, bindings_append, bindings_behind, bindings_declared, bindings_own}
 use Rattle.bl_names_laws.proofs.ExprLeads.{activity_leads, arguments_led, expr_led, function_leads, optional_led, path_led, target_led, type_led}
 use Rattle.bl_names_laws.proofs.Listed.{Listed, declare_listed}
 use Rattle.bl_names_laws.proofs.Made.{NamedLayer, RawLayer, named_arm_at, named_at, named_branch_at, named_parts}
+use Rattle.bl_names.proofs.PlacedStmt.{scope_is}
 
 -- ---- what holds behind a part
 
@@ -108,11 +61,6 @@ pub record Leading (named : Named) (vars : List NamedVar) (scopes new : Scopes) 
   pub more_vars : new.counts.variables ≡ scopes.counts.variables + length own
   pub more_constants : new.counts.constants ≡ scopes.counts.constants + length constants
   pub same_units : new.counts.units ≡ scopes.counts.units
-
--- behind a scope of its own
-pub own_is : (scopes : Scopes) (marks : Marks) → (after (opened scopes) marks).outer ≡ scopes.inner ∷ scopes.outer →
-    after scopes (in_scope marks) ≡ record scopes { counts = (after (opened scopes) marks).counts }
-own_is scopes marks is = after-append (opened scopes) marks (closes ∷ []) ∙ closed_is scopes (after (opened scopes) marks) is
 
 module _ (named : Named) (vars : List NamedVar) where
   leading_then : (scopes middle new : Scopes) (leads bound more_leads more_bound : Referents) (own more_own : List NamedVar)
@@ -138,8 +86,8 @@ module _ (named : Named) (vars : List NamedVar) where
         is_led = is;
         listed = listed;
         outer = refl;
-        more_vars = none_more scopes.counts.variables;
-        more_constants = none_more scopes.counts.constants;
+        more_vars = plus_none scopes.counts.variables;
+        more_constants = plus_none scopes.counts.constants;
         same_units = refl;
       })
 
@@ -210,7 +158,7 @@ module _ (named : Named) (vars : List NamedVar) where
       let inside = good (opened scopes) (tt, listed) (fits_first (opened scopes) piece.marks (closes ∷ []) fits.1) own constants in
       let inner = after (opened scopes) piece.marks in
       subst (λ new. Leading named vars scopes new (leads (piece.made (opened scopes))) (bindings scopes (in_scope piece.marks)) (piece.vars (opened scopes))
-      (piece.constants (opened scopes))) (sym (own_is scopes piece.marks inside.outer))
+      (piece.constants (opened scopes))) (sym (scope_is scopes piece.marks inside.outer))
       (subst (λ bound. Leading named vars scopes (record scopes { counts = inner.counts }) (leads (piece.made (opened scopes))) bound
       (piece.vars (opened scopes)) (piece.constants (opened scopes))) (sym (bindings_own scopes piece.marks))
       (leading_closed scopes inner (leads (piece.made (opened scopes))) (bindings (opened scopes) piece.marks) (piece.vars (opened scopes))
@@ -257,7 +205,7 @@ module _ (named : Named) (vars : List NamedVar) where
       let leads = body_leads ((body_piece body).made (opened scopes)) in
       let inside = good_all stmt_piece (stmt_leads named vars) body each (opened scopes) (tt, listed)
       (fits_first (opened scopes) marks (closes ∷ []) (fits_first scopes (in_scope marks) (expr_marks e) fits).1) own constants in
-      let closed : after scopes (in_scope marks) ≡ record scopes { counts = inner.counts } = own_is scopes marks inside.outer in
+      let closed : after scopes (in_scope marks) ≡ record scopes { counts = inner.counts } = scope_is scopes marks inside.outer in
       let fits_e : Fits (record scopes { counts = inner.counts }) (expr_marks e) = subst (λ s. Fits s (expr_marks e)) closed
       (fits_second scopes (in_scope marks) (expr_marks e) fits) in
       subst (λ new. Leading named vars scopes new (leads ++ expr_leads named vars (named_expr scopes e)) (bindings scopes (in_scope marks ++ expr_marks e))
@@ -304,7 +252,7 @@ module _ (named : Named) (vars : List NamedVar) where
             (ap (option_map (λ (var : NamedVar). var.name)) (within_one vars scopes.counts.variables (named_var scopes name ty role) [] own)) listed;
         outer = refl;
         more_vars = refl;
-        more_constants = none_more scopes.counts.constants;
+        more_constants = plus_none scopes.counts.constants;
         same_units = refl;
       })
 
@@ -341,7 +289,7 @@ module _ (named : Named) (vars : List NamedVar) where
             ∙ sym (bindings_declared scopes marks constant.name kind.Constant);
         listed = declare_listed named vars scopes constant.name kind.Constant (ap (option_map (λ (one : NamedConstant). one.name)) there) listed;
         outer = refl;
-        more_vars = none_more scopes.counts.variables;
+        more_vars = plus_none scopes.counts.variables;
         more_constants = refl;
         same_units = refl;
       })

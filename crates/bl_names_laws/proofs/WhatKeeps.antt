@@ -1,6 +1,8 @@
 -- All that the named tree of a program keeps.
 use Rattle.std.proofs.Common.{◌≡◌, ℕ, Bool, true, ◌&&◌, List, [], ◌∷◌, refl}
 use Rattle.std.specs.List.{list_all}
+use Rattle.std.proofs.lemmas.Bool.{and_from}
+use Rattle.bl_tree.proofs.Basics.{and_first, and_second}
 use Rattle.bl_parse_tree.specs.declared.item.RawItem.{RawItem}
 use Rattle.bl_parse_tree.specs.WellFormed.{RawIsWellFormed}
 use Rattle.bl_names_scopes.specs.Rules.{Passes}
@@ -13,16 +15,15 @@ use Rattle.bl_names_laws.proofs.Filled.{units_are_filled}
 use Rattle.bl_names_laws.proofs.Names.{fields_are_named, names_are, variables_are_named}
 use Rattle.bl_names_laws.proofs.Starts.{in_order}
 use Rattle.bl_names_laws.proofs.StmtDepth.{units_are_shallow}
-use Rattle.bl_names_laws.proofs.Tests.{both, first_holds, second_holds}
 
 -- two tests that hold of all hold of all together
-all_both : {A : Type 0} (one other : A → Bool) (xs : List A) → list_all one xs ≡ true → list_all other xs ≡ true →
+pub all_both : {A : Type 0} (one other : A → Bool) (xs : List A) → list_all one xs ≡ true → list_all other xs ≡ true →
     list_all (λ x. one x && other x) xs ≡ true
 all_both one other [] first second = refl
 all_both one other (x ∷ xs) first second =
-    both (one x && other x) (list_all (λ x. one x && other x) xs)
-    (both (one x) (other x) (first_holds (one x) (list_all one xs) first) (first_holds (other x) (list_all other xs) second))
-    (all_both one other xs (second_holds (one x) (list_all one xs) first) (second_holds (other x) (list_all other xs) second))
+    and_from (one x && other x) (list_all (λ x. one x && other x) xs)
+    (and_from (one x) (other x) (and_first (one x) (list_all one xs) first) (and_first (other x) (list_all other xs) second))
+    (all_both one other xs (and_second (one x) (list_all one xs) first) (and_second (other x) (list_all other xs) second))
 
 pub what_keeps : (items : List RawItem) (bytes : ℕ) → RawIsWellFormed items → Passes items → NamedIsWellFormed (named_program items bytes)
 what_keeps items bytes keeps passes =

@@ -29,12 +29,12 @@ module _ {A : Type 0} (gives : Scopes → RawItem → List A) (before placed beh
       (along_both gives (after file_scope (marks_of before)) placed behind
       ∙ ap₂ (λ xs scopes. xs ++ along gives scopes behind) is last_scopes)
 
-same_kind : (f : Place → Place) (one : RawItem) → kind_of_item (placed_item f one) ≡ kind_of_item one
+pub same_kind : (f : Place → Place) (one : RawItem) → kind_of_item (placed_item f one) ≡ kind_of_item one
 same_kind f (item.Struct def) = refl
 same_kind f (item.Constant constant) = refl
 same_kind f (item.Unit def) = refl
 
-same_order : (f : Place → Place) (items : List RawItem) → order_of (map (placed_item f) items) ≡ order_of items
+pub same_order : (f : Place → Place) (items : List RawItem) → order_of (map (placed_item f) items) ≡ order_of items
 same_order f [] = refl
 same_order f (one ∷ items) = ap₂ (λ x xs. x ∷ xs) (same_kind f one) (same_order f items)
 

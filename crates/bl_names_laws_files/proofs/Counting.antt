@@ -3,6 +3,7 @@ use Rattle.std.proofs.Common.{◌≡◌, ℕ, ◌+◌, List, [], ◌∷◌, ◌+
 use Rattle.std.specs.Prelude.{All, Some}
 use Rattle.std.proofs.lemmas.List.Elements.{All-head, All-tail}
 use Rattle.std.proofs.lemmas.List.Sums.{sum_by-append, sum_by-cons}
+use Rattle.bl_tree.proofs.Basics.{plus_none}
 use Rattle.bl_tree.specs.declared.place.Place.{Place}
 use Rattle.bl_tree.specs.declared.tree.Role.{Role}
 use Rattle.bl_tree.specs.declared.tree.Role.TheVariants as role
@@ -29,46 +30,15 @@ use Rattle.bl_names_scopes.specs.declared.kind.Wanted.TheVariants as wanted
 use Rattle.bl_names_scopes.specs.declared.scopes.Counts.{Counts}
 use Rattle.bl_names_scopes.specs.Marks.{Mark, Marks, argument_marks, closes, constant_marks, declares, expr_marks, in_scope, item_marks, kind_of_unit, marks_of, opens, optional, path_marks, struct_marks, target_marks, type_marks, unit_marks, uses}
 use Rattle.bl_names_scopes.specs.Scopes.{Declared, Scopes, after, enter, scopes_outside}
-use Rattle.bl_names.specs.Named.{
-  Piece,
-  along,
-  block_piece,
-  constants_in_unit,
-  constants_of,
-  constants_of_all,
-  inside_piece,
-  kind_piece,
-  marks_of_all,
-  named_constant,
-  named_struct,
-  named_unit,
-  none,
-  opened,
-  param_piece,
-  params_piece,
-  piece_of_arm,
-  piece_of_branch,
-  role_piece,
-  stmt_piece,
-  structs_of,
-  units_of,
-}
+use Rattle.bl_names.specs.Named.{Piece, along, block_piece, constants_in_unit, constants_of, constants_of_all, inside_piece, kind_piece, marks_of_all}
+use Rattle.bl_names.specs.Named.{named_constant, named_struct, named_unit, none, opened, param_piece, params_piece, piece_of_arm, piece_of_branch, role_piece}
+use Rattle.bl_names.specs.Named.{stmt_piece, structs_of, units_of}
 use Rattle.bl_names.proofs.ItemLemmas.{struct_scopes, unit_scopes}
-use Rattle.bl_names.proofs.PastLemmas.{enter-behind, more, none_more, sums}
+use Rattle.bl_names.proofs.PastLemmas.{enter-behind, more, sums}
 use Rattle.bl_names.proofs.PieceLemmas.{arm_is, branch_is, parts, stmt_is}
 use Rattle.bl_names.proofs.RawStmtInduction.{Cases, induct, stmt}
-use Rattle.bl_names.proofs.StillLemmas.{
-  Still,
-  after-append,
-  still_append,
-  still_arguments,
-  still_expr,
-  still_optional,
-  still_target,
-  still_type,
-  still_use,
-  still_value,
-}
+use Rattle.bl_names.proofs.StillLemmas.{Still, after-append, still_append, still_arguments, still_expr, still_optional, still_target, still_type, still_use}
+use Rattle.bl_names.proofs.StillLemmas.{still_value}
 use Rattle.bl_names_laws_files.specs.Globals.{declared_constants, declares_constant}
 use Rattle.bl_names_laws_files.specs.Laws.{ItemsAreCounted}
 
@@ -89,27 +59,24 @@ counts_outside [] counts = refl
 counts_outside (scope ∷ outer) counts = refl
 
 entered : (scopes : Scopes) (mark : Mark) → (enter scopes mark).counts.constants ≡ scopes.counts.constants + one_if mark
-entered scopes opens = none_more scopes.counts.constants
-entered scopes closes = ap (λ (c : Counts). c.constants) (counts_outside scopes.outer scopes.counts) ∙ none_more scopes.counts.constants
-entered scopes (declares name kind.Struct) = none_more scopes.counts.constants
+entered scopes opens = plus_none scopes.counts.constants
+entered scopes closes = ap (λ (c : Counts). c.constants) (counts_outside scopes.outer scopes.counts) ∙ plus_none scopes.counts.constants
+entered scopes (declares name kind.Struct) = plus_none scopes.counts.constants
 entered scopes (declares name kind.Constant) = refl
-entered scopes (declares name kind.Variable) = none_more scopes.counts.constants
-entered scopes (declares name kind.Function) = none_more scopes.counts.constants
-entered scopes (declares name kind.Activity) = none_more scopes.counts.constants
-entered scopes (declares name kind.Field) = none_more scopes.counts.constants
-entered scopes (uses name needed) = none_more scopes.counts.constants
+entered scopes (declares name kind.Variable) = plus_none scopes.counts.constants
+entered scopes (declares name kind.Function) = plus_none scopes.counts.constants
+entered scopes (declares name kind.Activity) = plus_none scopes.counts.constants
+entered scopes (declares name kind.Field) = plus_none scopes.counts.constants
+entered scopes (uses name needed) = plus_none scopes.counts.constants
 
 -- behind marks each constant that they declare is counted
 pub constants_behind : (marks : Marks) (scopes : Scopes) →
     (after scopes marks).counts.constants ≡ scopes.counts.constants + declared_constants marks
-constants_behind [] scopes = none_more scopes.counts.constants
+constants_behind [] scopes = plus_none scopes.counts.constants
 constants_behind (mark ∷ rest) scopes =
     sums scopes.counts.constants (enter scopes mark).counts.constants (after (enter scopes mark) rest).counts.constants (one_if mark)
     (declared_constants rest) (entered scopes mark) (constants_behind rest (enter scopes mark))
     ∙ ap (λ n. scopes.counts.constants + n) (sym (declared_first mark rest))
-
-pub from_none : (n : ℕ) → 0 + n ≡ n
-from_none n = omega arith
 
 same_rest : (a b c n : ℕ) → c ≡ n + a → c ≡ n + b → a ≡ b
 same_rest a b c n one two = omega arith
@@ -139,7 +106,7 @@ moves_then scopes middle new constants others one two = record {
 moving_still : (marks : Marks) → Still marks → Moving marks none
 moving_still marks still scopes =
     subst (λ new. Moves scopes new []) (sym (still scopes))
-    (record { outer = refl; structs = refl; units = refl; more = none_more scopes.counts.constants })
+    (record { outer = refl; structs = refl; units = refl; more = plus_none scopes.counts.constants })
 
 moving_then : (first second : Marks) (constants others : Scopes → List NamedConstant) → Moving first constants → Moving second others →
     Moving (first ++ second) (λ scopes. constants scopes ++ others (after scopes first))
@@ -169,7 +136,7 @@ moving_own marks constants moving scopes =
 moving_variable : (marks : Marks) → Still marks → (name : Name) → Moving (marks ++ (declares name kind.Variable ∷ [])) none
 moving_variable marks still name scopes =
     subst (λ new. Moves scopes new []) (enter-behind scopes marks name kind.Variable still)
-    (record { outer = refl; structs = refl; units = refl; more = none_more scopes.counts.constants })
+    (record { outer = refl; structs = refl; units = refl; more = plus_none scopes.counts.constants })
 
 moving_constant : (constant : RawConstant) → Moving (constant_marks constant) (λ scopes. named_constant scopes constant ∷ [])
 moving_constant constant scopes =
@@ -331,14 +298,14 @@ gives_unit : (scopes : Scopes) (counts : Counts) (name : Name) (of : UnitKind) (
     Gives scopes (enter (record scopes { counts = counts }) (declares name (kind_of_unit of))) [] constants (named ∷ [])
 gives_unit scopes counts name unit.Function constants named structs units constants_are = record {
   outer = refl;
-  more_structs = structs ∙ none_more scopes.counts.structs;
+  more_structs = structs ∙ plus_none scopes.counts.structs;
   more_constants = constants_are;
   more_units = ap (λ n. n + 1) units;
   variables = λ none. refl;
 }
 gives_unit scopes counts name unit.Activity constants named structs units constants_are = record {
   outer = refl;
-  more_structs = structs ∙ none_more scopes.counts.structs;
+  more_structs = structs ∙ plus_none scopes.counts.structs;
   more_constants = constants_are;
   more_units = ap (λ n. n + 1) units;
   variables = λ none. refl;
@@ -351,17 +318,17 @@ item_gives scopes (item.Struct def) =
     (record {
       outer = refl;
       more_structs = refl;
-      more_constants = none_more scopes.counts.constants;
-      more_units = none_more scopes.counts.units;
+      more_constants = plus_none scopes.counts.constants;
+      more_units = plus_none scopes.counts.units;
       variables = λ none. none;
     })
 item_gives scopes (item.Constant constant) =
     subst (λ new. Gives scopes new [] (named_constant scopes constant ∷ []) []) (sym (constant_behind scopes constant))
     (record {
       outer = refl;
-      more_structs = none_more scopes.counts.structs;
+      more_structs = plus_none scopes.counts.structs;
       more_constants = refl;
-      more_units = none_more scopes.counts.units;
+      more_units = plus_none scopes.counts.units;
       variables = λ none. none;
     })
 item_gives scopes (item.Unit def) =
@@ -374,9 +341,9 @@ pub items_give : (items : List RawItem) (scopes : Scopes) →
     Gives scopes (after scopes (marks_of items)) (along structs_of scopes items) (along constants_of scopes items) (along units_of scopes items)
 items_give [] scopes = record {
   outer = refl;
-  more_structs = none_more scopes.counts.structs;
-  more_constants = none_more scopes.counts.constants;
-  more_units = none_more scopes.counts.units;
+  more_structs = plus_none scopes.counts.structs;
+  more_constants = plus_none scopes.counts.constants;
+  more_units = plus_none scopes.counts.units;
   variables = λ none. none;
 }
 items_give (one ∷ items) scopes =

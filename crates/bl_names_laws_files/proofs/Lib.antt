@@ -1,5 +1,5 @@
-mod Among
-mod Counting
+pub mod Among
+pub mod Counting
 mod InTurn
 mod Opening
 mod Placed

@@ -1,29 +1,13 @@
 -- Headings that declare the names of items open a scope that corresponds to that behind the items.
-use Rattle.std.proofs.Common.{
-  ◌≡◌,
-  ℕ,
-  ◌+◌,
-  List,
-  [],
-  ◌∷◌,
-  ◌++◌,
-  length,
-  map,
-  refl,
-  sym,
-  ap,
-  ap₂,
-  subst,
-  ◌∙◌,
-  arith,
-}
+use Rattle.std.proofs.Common.{◌≡◌, ℕ, ◌+◌, List, [], ◌∷◌, ◌++◌, length, map, refl, sym, ap, ap₂, subst, ◌∙◌, arith}
 use Rattle.std.proofs.lemmas.List.{map-append}
 use Rattle.std.specs.Prelude.{Option, Some, None}
+use Rattle.bl_tree.proofs.Basics.{none_plus, plus_none}
 use Rattle.bl_tree.specs.declared.place.Place.{Place}
 use Rattle.bl_tree.specs.declared.tree.UnitKind.{UnitKind}
 use Rattle.bl_tree.specs.declared.tree.UnitKind.TheVariants as unit
 use Rattle.bl_joined.specs.Trees.{placed_item}
-use Rattle.bl_names.proofs.PastLemmas.{more, none_more}
+use Rattle.bl_names.proofs.PastLemmas.{more}
 use Rattle.bl_names.proofs.StillLemmas.{after-append}
 use Rattle.bl_names.specs.Named.{blank_constant, blank_struct, blank_unit, blanks}
 use Rattle.bl_names_scopes.specs.declared.heading.Heading.{Heading}
@@ -38,26 +22,10 @@ use Rattle.bl_names_scopes_laws_places.proofs.Agreeing.{SameFound, found_agrees}
 use Rattle.bl_parse_tree.specs.declared.item.RawItem.{RawItem}
 use Rattle.bl_parse_tree.specs.declared.item.RawItem.TheVariants as item
 use Rattle.bl_parse_tree.specs.declared.name.Name.{Name}
-use Rattle.bl_names_laws_files.specs.Globals.{
-  DeclareItems,
-  declared_constants,
-  headings_of,
-  item_heading,
-  name_and_kind,
-  own_position,
-  renumber,
-  renumber_behind,
-}
+use Rattle.bl_names_laws_files.specs.Globals.{DeclareItems, declared_constants, headings_of, item_heading, name_and_kind, own_position, renumber}
+use Rattle.bl_names_laws_files.specs.Globals.{renumber_behind}
 use Rattle.bl_names_laws_files.specs.Laws.{BlanksAreCounted, DeclaredInTurn, DeclaredPlaced, HeadingsOpen}
-use Rattle.bl_names_laws_files.proofs.Counting.{
-  behind_inside,
-  constant_behind,
-  constants_behind,
-  from_none,
-  inside_moves,
-  struct_behind,
-  unit_behind,
-}
+use Rattle.bl_names_laws_files.proofs.Counting.{behind_inside, constant_behind, constants_behind, inside_moves, struct_behind, unit_behind}
 use Rattle.bl_names_laws_files.proofs.Positions.{constants_entered, declares_first, renumber_next}
 
 -- ---- what headings declare
@@ -88,36 +56,36 @@ declared_placed f headings items same = same ∙ placed_headings f items
 structs_entered : (of : Kind) (name : Name) (scopes : Scopes) →
     (enter scopes (declares name of)).counts.structs ≡ scopes.counts.structs + length (blank_struct of name)
 structs_entered kind.Struct name scopes = refl
-structs_entered kind.Constant name scopes = none_more scopes.counts.structs
-structs_entered kind.Variable name scopes = none_more scopes.counts.structs
-structs_entered kind.Function name scopes = none_more scopes.counts.structs
-structs_entered kind.Activity name scopes = none_more scopes.counts.structs
-structs_entered kind.Field name scopes = none_more scopes.counts.structs
+structs_entered kind.Constant name scopes = plus_none scopes.counts.structs
+structs_entered kind.Variable name scopes = plus_none scopes.counts.structs
+structs_entered kind.Function name scopes = plus_none scopes.counts.structs
+structs_entered kind.Activity name scopes = plus_none scopes.counts.structs
+structs_entered kind.Field name scopes = plus_none scopes.counts.structs
 
 constants_counted : (of : Kind) (name : Name) (scopes : Scopes) →
     (enter scopes (declares name of)).counts.constants ≡ scopes.counts.constants + length (blank_constant of name)
-constants_counted kind.Struct name scopes = none_more scopes.counts.constants
+constants_counted kind.Struct name scopes = plus_none scopes.counts.constants
 constants_counted kind.Constant name scopes = refl
-constants_counted kind.Variable name scopes = none_more scopes.counts.constants
-constants_counted kind.Function name scopes = none_more scopes.counts.constants
-constants_counted kind.Activity name scopes = none_more scopes.counts.constants
-constants_counted kind.Field name scopes = none_more scopes.counts.constants
+constants_counted kind.Variable name scopes = plus_none scopes.counts.constants
+constants_counted kind.Function name scopes = plus_none scopes.counts.constants
+constants_counted kind.Activity name scopes = plus_none scopes.counts.constants
+constants_counted kind.Field name scopes = plus_none scopes.counts.constants
 
 units_entered : (of : Kind) (name : Name) (scopes : Scopes) →
     (enter scopes (declares name of)).counts.units ≡ scopes.counts.units + length (blank_unit of name)
-units_entered kind.Struct name scopes = none_more scopes.counts.units
-units_entered kind.Constant name scopes = none_more scopes.counts.units
-units_entered kind.Variable name scopes = none_more scopes.counts.units
+units_entered kind.Struct name scopes = plus_none scopes.counts.units
+units_entered kind.Constant name scopes = plus_none scopes.counts.units
+units_entered kind.Variable name scopes = plus_none scopes.counts.units
 units_entered kind.Function name scopes = refl
 units_entered kind.Activity name scopes = refl
-units_entered kind.Field name scopes = none_more scopes.counts.units
+units_entered kind.Field name scopes = plus_none scopes.counts.units
 
 module _ {A : Type 0} (blank : Kind → Name → List A) (count : Counts → ℕ)
     (one : (of : Kind) (name : Name) (scopes : Scopes) →
     count (enter scopes (declares name of)).counts ≡ count scopes.counts + length (blank of name)) where
   blanks_behind : (headings : List Heading) (scopes : Scopes) →
       count (after scopes (map heading_mark headings)).counts ≡ count scopes.counts + length (blanks blank headings)
-  blanks_behind [] scopes = none_more (count scopes.counts)
+  blanks_behind [] scopes = plus_none (count scopes.counts)
   blanks_behind (heading ∷ headings) scopes =
       let new = enter scopes (heading_mark heading) in
       more (blank heading.kind heading.name) (blanks blank headings) (count scopes.counts) (count new.counts)
@@ -126,7 +94,7 @@ module _ {A : Type 0} (blank : Kind → Name → List A) (count : Counts → ℕ
   blanks_opened : (headings : List Heading) → count file_scope.counts ≡ 0 →
       length (blanks blank headings) ≡ count (after file_scope (map heading_mark headings)).counts
   blanks_opened headings none =
-      sym (blanks_behind headings file_scope ∙ ap (λ n. n + length (blanks blank headings)) none ∙ from_none (length (blanks blank headings)))
+      sym (blanks_behind headings file_scope ∙ ap (λ n. n + length (blanks blank headings)) none ∙ none_plus (length (blanks blank headings)))
 
 pub blanks_are_counted : BlanksAreCounted
 blanks_are_counted headings = record {
@@ -311,4 +279,4 @@ headings_open items headings same =
       units = refl;
       near_variables = refl;
       far_variables = refl;
-    }) (λ k. ap (renumber items) (from_none k)))
+    }) (λ k. ap (renumber items) (none_plus k)))

@@ -1,26 +1,5 @@
 -- The positions in items behind headings are of what is declared before them.
-use Rattle.std.proofs.Common.{
-  ◌≡◌,
-  ℕ,
-  ◌+◌,
-  inr,
-  List,
-  [],
-  ◌∷◌,
-  ◌++◌,
-  length,
-  map,
-  Option,
-  Some,
-  None,
-  refl,
-  sym,
-  ap,
-  subst,
-  ◌∙◌,
-  append-nil,
-  arith,
-}
+use Rattle.std.proofs.Common.{◌≡◌, ℕ, ◌+◌, inr, List, [], ◌∷◌, ◌++◌, length, map, Option, Some, None, refl, sym, ap, subst, ◌∙◌, append-nil, arith}
 use Rattle.std.specs.Prelude.{if◌then◌else◌, option_and_then}
 use Rattle.bl_tree.specs.declared.tree.UnitKind.{UnitKind}
 use Rattle.bl_tree.specs.declared.tree.UnitKind.TheVariants as unit
@@ -32,33 +11,13 @@ use Rattle.bl_names.proofs.PlacedExpr.{earlier}
 use Rattle.bl_names.proofs.PlacedItem.{struct_is, unit_holds}
 use Rattle.bl_names.proofs.PlacedStmt.{Within, constant_is, within_first, within_one, within_second}
 use Rattle.bl_names.proofs.StillLemmas.{after-append, still_value}
-use Rattle.bl_names.specs.Named.{
-  along,
-  constants_in_unit,
-  constants_of,
-  named_behind,
-  named_constant,
-  named_struct,
-  named_unit,
-  structs_of,
-  units_of,
-}
+use Rattle.bl_names.specs.Named.{along, constants_in_unit, constants_of, named_behind, named_constant, named_struct, named_unit, structs_of, units_of}
 use Rattle.bl_names.specs.Order.{kind_of_item, order_of}
 use Rattle.bl_names_scopes.specs.declared.heading.Heading.{Heading}
 use Rattle.bl_names_scopes.specs.declared.kind.Kind.TheVariants as kind
 use Rattle.bl_names_scopes.specs.declared.scopes.Counts.{Counts}
-use Rattle.bl_names_scopes.specs.Marks.{
-  constant_marks,
-  declares,
-  expr_marks,
-  item_marks,
-  kind_of_unit,
-  marks_of,
-  optional,
-  struct_marks,
-  type_marks,
-  unit_marks,
-}
+use Rattle.bl_names_scopes.specs.Marks.{constant_marks, declares, expr_marks, item_marks, kind_of_unit, marks_of, optional, struct_marks, type_marks}
+use Rattle.bl_names_scopes.specs.Marks.{unit_marks}
 use Rattle.bl_names_scopes.specs.Scopes.{Scopes, after, counted, enter, file_scope, heading_mark, opened_by}
 use Rattle.bl_names_tree.specs.declared.item.Item.TheVariants as next
 use Rattle.bl_names_tree.specs.declared.named.Named.{Named}

@@ -1,11 +1,11 @@
 -- The positions of constants among all that items declare.
 use Rattle.std.proofs.Common.{◌≡◌, ℕ, ◌+◌, ◌-◌, List, [], ◌∷◌, ◌++◌, drop, get_or, length, map, refl, sym, ap, ap₂, ◌∙◌, append_assoc, arith}
 use Rattle.std.proofs.lemmas.List.{get_or-append-add, get_or_append_left, get_or_default, length-append, map-append}
+use Rattle.bl_tree.proofs.Basics.{none_plus, plus_none, same_heads}
 use Rattle.bl_tree.specs.declared.place.Place.{Place}
 use Rattle.bl_tree.specs.declared.tree.UnitKind.{UnitKind}
 use Rattle.bl_tree.specs.declared.tree.UnitKind.TheVariants as unit
 use Rattle.bl_joined.specs.Trees.{placed_item}
-use Rattle.bl_names.proofs.PastLemmas.{none_more}
 use Rattle.bl_names_scopes.specs.declared.heading.Heading.{Heading}
 use Rattle.bl_names_scopes.specs.declared.kind.Kind.{Kind}
 use Rattle.bl_names_scopes.specs.declared.kind.Kind.TheVariants as kind
@@ -18,8 +18,9 @@ use Rattle.bl_parse_tree.specs.declared.item.RawItem.TheVariants as item
 use Rattle.bl_parse_tree.specs.declared.name.Name.{Name}
 use Rattle.bl_names_laws_files.specs.Globals.{DeclareItems, declared_constants, global_positions, headings_of, item_heading, name_and_kind, own_position, renumber_behind}
 use Rattle.bl_names_laws_files.specs.Laws.{GlobalsAreCounted, GlobalsInTurn, GlobalsMove, GlobalsPlaced, RenumberInTurn}
-use Rattle.bl_names_laws_files.proofs.Counting.{declared_both, declared_first, from_none, one_if}
+use Rattle.bl_names_laws_files.proofs.Counting.{declared_both, declared_first, one_if}
 use Rattle.bl_names_laws_files.proofs.InTurn.{marks_in_turn}
+use Rattle.bl_names.proofs.PastLemmas.{sums}
 
 -- ---- items one after another
 
@@ -31,7 +32,7 @@ behind_both : (n : ℕ) (a b : Marks) → n + declared_constants (a ++ b) ≡ (n
 behind_both n a b = sums_both n (declared_constants a) (declared_constants b) (declared_constants (a ++ b)) (declared_both a b)
 
 pub globals_in_turn : GlobalsInTurn
-globals_in_turn before [] second = ap (λ n. global_positions n second) (none_more before)
+globals_in_turn before [] second = ap (λ n. global_positions n second) (plus_none before)
 globals_in_turn before (one ∷ first) second =
     let next = before + declared_constants (item_marks one) in
     ap (λ list. own_position before one ++ list)
@@ -135,16 +136,13 @@ globals_placed f before (one ∷ items) =
 -- where a heading declares an item, one more constant is counted iff the item is one
 pub constants_entered : (scopes : Scopes) (name : Name) (before : ℕ) (one : RawItem) →
     (enter scopes (declares name (item_heading one).kind)).counts.constants ≡ scopes.counts.constants + length (own_position before one)
-constants_entered scopes name before (item.Struct def) = none_more scopes.counts.constants
+constants_entered scopes name before (item.Struct def) = plus_none scopes.counts.constants
 constants_entered scopes name before (item.Constant constant) = refl
 constants_entered scopes name before (item.Unit def) = by_kind def.kind
   where
     by_kind : (of : UnitKind) → (enter scopes (declares name (kind_of_unit of))).counts.constants ≡ scopes.counts.constants + 0
-    by_kind unit.Function = none_more scopes.counts.constants
-    by_kind unit.Activity = none_more scopes.counts.constants
-
-heads : {A : Type 0} (a b : A) (xs ys : List A) → a ∷ xs ≡ b ∷ ys → a ≡ b
-heads a b xs ys same = ap (λ list. get_or list 0 a) same
+    by_kind unit.Function = plus_none scopes.counts.constants
+    by_kind unit.Activity = plus_none scopes.counts.constants
 
 -- a heading declares an item, and the others declare the others
 pub record DeclaresFirst (heading : Heading) (headings : List Heading) (one : RawItem) (items : List RawItem) : Type 0 where
@@ -156,19 +154,16 @@ pub declares_first : (heading : Heading) (headings : List Heading) (one : RawIte
     DeclareItems (heading ∷ headings) (one ∷ items) → DeclaresFirst heading headings one items
 declares_first heading headings one items same =
     let first : name_and_kind heading ≡ name_and_kind (item_heading one) =
-    heads (name_and_kind heading) (name_and_kind (item_heading one)) (map name_and_kind headings) (map name_and_kind (headings_of items)) same in
+    same_heads (name_and_kind heading) (name_and_kind (item_heading one)) (map name_and_kind headings) (map name_and_kind (headings_of items)) same in
     record {
       text = ap (λ (p : List ℕ × Kind). p.0) first;
       of = ap (λ (p : List ℕ × Kind). p.1) first;
       rest = ap (drop 1) same;
     }
 
-more_than : (a b c x y : ℕ) → b ≡ a + x → c ≡ b + y → c ≡ a + (x + y)
-more_than a b c x y one two = omega arith
-
 counted_on : (before : ℕ) (items : List RawItem) (headings : List Heading) (scopes : Scopes) → DeclareItems headings items →
     (after scopes (map heading_mark headings)).counts.constants ≡ scopes.counts.constants + length (global_positions before items)
-counted_on before [] [] scopes same = none_more scopes.counts.constants
+counted_on before [] [] scopes same = plus_none scopes.counts.constants
 counted_on before [] (heading ∷ headings) scopes same = absurd cc
 counted_on before (one ∷ items) [] scopes same = absurd cc
 counted_on before (one ∷ items) (heading ∷ headings) scopes same =
@@ -176,11 +171,11 @@ counted_on before (one ∷ items) (heading ∷ headings) scopes same =
     let new = enter scopes (heading_mark heading) in
     let own = own_position before one in
     let rest = global_positions (before + declared_constants (item_marks one)) items in
-    more_than scopes.counts.constants new.counts.constants (after new (map heading_mark headings)).counts.constants (length own) (length rest)
+    sums scopes.counts.constants new.counts.constants (after new (map heading_mark headings)).counts.constants (length own) (length rest)
     (ap (λ of. (enter scopes (declares heading.name of)).counts.constants) first.of ∙ constants_entered scopes heading.name before one)
     (counted_on (before + declared_constants (item_marks one)) items headings new first.rest)
     ∙ ap (λ n. scopes.counts.constants + n) (sym (length-append own rest))
 
 pub globals_are_counted : GlobalsAreCounted
 globals_are_counted before items headings same =
-    counted_on before items headings file_scope same ∙ from_none (length (global_positions before items))
+    counted_on before items headings file_scope same ∙ none_plus (length (global_positions before items))

@@ -3,16 +3,7 @@ use Rattle.std.specs.Prelude.{◌≡◌, ℕ, ◌+◌, ◌<◌, List, ◌++◌, 
 use Rattle.bl_tree.specs.declared.place.Place.{Place}
 use Rattle.bl_tree.specs.declared.rule.Rule.{Rule}
 use Rattle.bl_joined.specs.Trees.{placed_item}
-use Rattle.bl_names.specs.Named.{
-  along,
-  blank_constant,
-  blank_struct,
-  blank_unit,
-  blanks,
-  constants_of,
-  structs_of,
-  units_of,
-}
+use Rattle.bl_names.specs.Named.{along, blank_constant, blank_struct, blank_unit, blanks, constants_of, structs_of, units_of}
 use Rattle.bl_names.specs.Order.{order_of}
 use Rattle.bl_names_laws_places.specs.Renamed.{Renaming, renamed_constant, renamed_struct, renamed_unit}
 use Rattle.bl_names_scopes.specs.declared.heading.Heading.{Heading}

@@ -8,18 +8,8 @@ use Rattle.bl_tree.specs.Reduce.{joined}
 use Rattle.bl_joined.specs.Trees.{placed_expr, placed_name, placed_path, placed_target}
 use Rattle.bl_names.proofs.FitLemmas.{Fits, fits_behind, fits_first}
 use Rattle.bl_names.proofs.StillLemmas.{Still, still_expr, still_use}
-use Rattle.bl_names.specs.Naming.{
-  named_expr,
-  named_expr_layer,
-  named_kind,
-  named_part,
-  named_path,
-  named_root,
-  named_step,
-  named_target,
-  named_target_layer,
-  position,
-}
+use Rattle.bl_names.specs.Naming.{named_expr, named_expr_layer, named_kind, named_part, named_path, named_root, named_step, named_target, named_target_layer}
+use Rattle.bl_names.specs.Naming.{position}
 use Rattle.bl_names_scopes.specs.declared.kind.Wanted.{Wanted}
 use Rattle.bl_names_scopes.specs.declared.kind.Wanted.TheVariants as wanted
 use Rattle.bl_names_scopes.specs.declared.scopes.Counts.{Counts}
@@ -30,16 +20,8 @@ use Rattle.bl_names_scopes_laws_places.proofs.MarksMoved.{marks_of_kind}
 use Rattle.bl_names_scopes_laws_places.proofs.RawExprs as exprs
 use Rattle.bl_names_tree.specs.declared.expr.NamedExpr.{NamedExpr, fold-roll-NamedExpr, roll-NamedExpr}
 use Rattle.bl_names_tree.specs.declared.expr.NamedExprKind.{NamedExprKind, fold-NamedExprKind, fold-roll-NamedExprKind}
-use Rattle.bl_names_tree.specs.declared.expr.NamedExprKind.TheVariants.{
-  rolls-Number,
-  rolls-Truth,
-  rolls-Read,
-  rolls-Prev,
-  rolls-One,
-  rolls-Two,
-  rolls-Cast,
-  rolls-Call,
-}
+use Rattle.bl_names_tree.specs.declared.expr.NamedExprKind.TheVariants.{rolls-Number, rolls-Truth, rolls-Read, rolls-Prev, rolls-One, rolls-Two, rolls-Cast}
+use Rattle.bl_names_tree.specs.declared.expr.NamedExprKind.TheVariants.{rolls-Call}
 use Rattle.bl_names_tree.specs.declared.expr.NamedExprKind.TheVariants as what
 use Rattle.bl_names_tree.specs.declared.expr.NamedPart.{NamedPart, fold-NamedPart, fold-roll-NamedPart}
 use Rattle.bl_names_tree.specs.declared.expr.NamedPart.TheVariants.{rolls-Field, rolls-Index}
@@ -53,17 +35,8 @@ use Rattle.bl_parse_tree.specs.declared.expr.RawPart.{RawPart, fold-roll-RawPart
 use Rattle.bl_parse_tree.specs.declared.expr.RawTarget.{RawTarget, fold-roll-RawTarget, roll-RawTarget}
 use Rattle.bl_parse_tree.specs.declared.name.Name.{Name}
 use Rattle.bl_parse_tree.specs.declared.stmt.RawPath.{RawPath}
-use Rattle.bl_names_laws_places.specs.Renamed.{
-  Renaming,
-  renamed_expr,
-  renamed_expr_layer,
-  renamed_kind,
-  renamed_part,
-  renamed_path,
-  renamed_root,
-  renamed_target,
-  renamed_target_layer,
-}
+use Rattle.bl_names_laws_places.specs.Renamed.{Renaming, renamed_expr, renamed_expr_layer, renamed_kind, renamed_part, renamed_path, renamed_root}
+use Rattle.bl_names_laws_places.specs.Renamed.{renamed_target, renamed_target_layer}
 use Rattle.bl_names_laws_places.proofs.Positions.{fit_there, both_ways, each_fits, map-made, position_same, root_same}
 
 module _ (by : Renaming) where

@@ -9,47 +9,12 @@ use Rattle.bl_joined.specs.Trees.{placed_field, placed_item, placed_name, placed
 use Rattle.bl_names.proofs.FitLemmas.{Fits, fits_behind, fits_first, fits_second, marks_fit}
 use Rattle.bl_names.proofs.PieceLemmas.{block_marks, role_marks}
 use Rattle.bl_names.proofs.StillLemmas.{after-append, still_optional, still_type}
-use Rattle.bl_names.specs.Named.{
-  Piece,
-  along,
-  block_piece,
-  constants_of,
-  followed,
-  inside_piece,
-  named_constant,
-  named_field,
-  named_struct,
-  named_unit,
-  named_var,
-  opened,
-  param_piece,
-  params_piece,
-  role_piece,
-  structs_of,
-  unit_inside,
-  units_of,
-}
+use Rattle.bl_names.specs.Named.{Piece, along, block_piece, constants_of, followed, inside_piece, named_constant, named_field, named_struct, named_unit}
+use Rattle.bl_names.specs.Named.{named_var, opened, param_piece, params_piece, role_piece, structs_of, unit_inside, units_of}
 use Rattle.bl_names.specs.Naming.{named_type}
 use Rattle.bl_names_scopes.specs.declared.kind.Kind.TheVariants as kind
-use Rattle.bl_names_scopes.specs.Marks.{
-  Marks,
-  closes,
-  constant_marks,
-  declares,
-  field_mark,
-  field_type_marks,
-  in_scope,
-  inside_unit,
-  item_marks,
-  kind_of_unit,
-  marks_of,
-  optional,
-  param_marks,
-  stmt_marks,
-  struct_marks,
-  type_marks,
-  unit_marks,
-}
+use Rattle.bl_names_scopes.specs.Marks.{Marks, closes, constant_marks, declares, field_mark, field_type_marks, in_scope, inside_unit, item_marks, kind_of_unit}
+use Rattle.bl_names_scopes.specs.Marks.{marks_of, optional, param_marks, stmt_marks, struct_marks, type_marks, unit_marks}
 use Rattle.bl_names_scopes.specs.Rules.{PassesBehind}
 use Rattle.bl_names_scopes.specs.Scopes.{Scopes, after, enter}
 use Rattle.bl_names_scopes_laws_places.specs.Agree.{ScopesAgree, placed_marks}
@@ -68,16 +33,7 @@ use Rattle.bl_parse_tree.specs.declared.item.RawUnit.{RawUnit}
 use Rattle.bl_parse_tree.specs.declared.stmt.RawConstant.{RawConstant}
 use Rattle.bl_parse_tree.specs.declared.types.RawType.{RawType}
 use Rattle.bl_names_laws_places.specs.Laws.{NamesAgree, SameItems}
-use Rattle.bl_names_laws_places.specs.Renamed.{
-  Renaming,
-  renamed_constant,
-  renamed_field,
-  renamed_stmt,
-  renamed_struct,
-  renamed_type,
-  renamed_unit,
-  renamed_var,
-}
+use Rattle.bl_names_laws_places.specs.Renamed.{Renaming, renamed_constant, renamed_field, renamed_stmt, renamed_struct, renamed_type, renamed_unit, renamed_var}
 use Rattle.bl_names_laws_places.proofs.Pieces.{PieceAgrees, all_agree, inward, keeps_append, keeps_still, onward}
 use Rattle.bl_names_laws_places.proofs.Positions.{both_ways, each_fits, map-made}
 use Rattle.bl_names_laws_places.proofs.Stmts.{block_agrees, constant_agrees, var_agrees}

@@ -5,18 +5,7 @@ use Rattle.std.proofs.lemmas.List.Elements.{All-head, All-tail}
 use Rattle.std.specs.Prelude.{All}
 use Rattle.bl_names.proofs.FitLemmas.{Fits, fits_first, fits_second}
 use Rattle.bl_names.proofs.StillLemmas.{Still, after-append}
-use Rattle.bl_names.specs.Named.{
-  Piece,
-  all,
-  constants_of_all,
-  made_of_all,
-  marks_of_all,
-  none,
-  opened,
-  plain,
-  scoped,
-  vars_of_all,
-}
+use Rattle.bl_names.specs.Named.{Piece, all, constants_of_all, made_of_all, marks_of_all, none, opened, plain, scoped, vars_of_all}
 use Rattle.bl_names_scopes.specs.Marks.{Marks, closes, in_scope, opens}
 use Rattle.bl_names_scopes.specs.Scopes.{Scopes, after, enter, scopes_outside}
 use Rattle.bl_names_scopes_laws_places.specs.Agree.{ScopesAgree, placed_marks}

@@ -8,73 +8,20 @@ use Rattle.bl_tree.specs.declared.tree.Role.{Role}
 use Rattle.bl_tree.specs.declared.tree.Role.TheVariants as role
 use Rattle.bl_joined.specs.Trees.{placed_constant, placed_expr, placed_name, placed_path, placed_stmt, placed_target, placed_type}
 use Rattle.bl_names.proofs.FitLemmas.{Fits, fits_behind, fits_first, fits_second}
-use Rattle.bl_names.proofs.StillLemmas.{
-  Still,
-  still_append,
-  still_arguments,
-  still_expr,
-  still_exprs,
-  still_optional,
-  still_target,
-  still_type,
-  still_use,
-}
-use Rattle.bl_names.specs.Named.{
-  Piece,
-  arm_piece,
-  block_piece,
-  branch_piece,
-  constant_piece,
-  constants_of_all,
-  declaring,
-  kind_piece,
-  made_of_all,
-  marks_of_all,
-  named_constant,
-  named_var,
-  none,
-  opened,
-  piece_of_arm,
-  piece_of_branch,
-  piece_of_kind,
-  scoped,
-  stmt_layer_piece,
-  stmt_piece,
-  vars_of_all,
-}
+use Rattle.bl_names.proofs.StillLemmas.{Still, still_append, still_arguments, still_expr, still_exprs, still_optional, still_target, still_type, still_use}
+use Rattle.bl_names.specs.Named.{Piece, arm_piece, block_piece, branch_piece, constant_piece, constants_of_all, declaring, kind_piece, made_of_all}
+use Rattle.bl_names.specs.Named.{marks_of_all, named_constant, named_var, none, opened, piece_of_arm, piece_of_branch, piece_of_kind, scoped, stmt_layer_piece}
+use Rattle.bl_names.specs.Named.{stmt_piece, vars_of_all}
 use Rattle.bl_names.specs.Naming.{named_expr, named_path, named_target, position}
 use Rattle.bl_names_scopes.specs.declared.kind.Kind.{Kind}
 use Rattle.bl_names_scopes.specs.declared.kind.Kind.TheVariants as kind
 use Rattle.bl_names_scopes.specs.declared.kind.Wanted.TheVariants as wanted
-use Rattle.bl_names_scopes.specs.Marks.{
-  Marks,
-  argument_marks,
-  closes,
-  constant_marks,
-  declared_after,
-  declares,
-  expr_marks,
-  in_scope,
-  optional,
-  path_marks,
-  target_marks,
-  type_marks,
-  uses,
-}
+use Rattle.bl_names_scopes.specs.Marks.{Marks, argument_marks, closes, constant_marks, declared_after, declares, expr_marks, in_scope, optional, path_marks}
+use Rattle.bl_names_scopes.specs.Marks.{target_marks, type_marks, uses}
 use Rattle.bl_names_scopes.specs.Scopes.{Scopes, after}
 use Rattle.bl_names_scopes_laws_places.specs.Agree.{ScopesAgree, placed_marks}
-use Rattle.bl_names_scopes_laws_places.proofs.MarksMoved.{
-  after_moves,
-  arguments_move,
-  both,
-  constant_moves,
-  expr_moves,
-  optional_moves,
-  path_moves,
-  scope_moves,
-  target_moves,
-  type_moves,
-}
+use Rattle.bl_names_scopes_laws_places.proofs.MarksMoved.{after_moves, arguments_move, both, constant_moves, expr_moves, optional_moves, path_moves}
+use Rattle.bl_names_scopes_laws_places.proofs.MarksMoved.{scope_moves, target_moves, type_moves}
 use Rattle.bl_names_scopes_laws_places.proofs.RawStmts as stmts
 use Rattle.bl_names_tree.specs.declared.expr.NamedExpr.{NamedExpr}
 use Rattle.bl_names_tree.specs.declared.expr.NamedTarget.{NamedTarget}
@@ -85,21 +32,8 @@ use Rattle.bl_names_tree.specs.declared.stmt.NamedBranch.{NamedBranch, fold-Name
 use Rattle.bl_names_tree.specs.declared.stmt.NamedPath.{NamedPath}
 use Rattle.bl_names_tree.specs.declared.stmt.NamedStmt.{NamedStmt, fold-roll-NamedStmt, roll-NamedStmt}
 use Rattle.bl_names_tree.specs.declared.stmt.NamedStmtKind.{NamedStmtKind, fold-NamedStmtKind, fold-roll-NamedStmtKind}
-use Rattle.bl_names_tree.specs.declared.stmt.NamedStmtKind.TheVariants.{
-  rolls-Declare,
-  rolls-Const,
-  rolls-Assign,
-  rolls-Call,
-  rolls-Await,
-  rolls-Run,
-  rolls-If,
-  rolls-Cobegin,
-  rolls-When,
-  rolls-Repeat,
-  rolls-Until,
-  rolls-While,
-  rolls-Return,
-}
+use Rattle.bl_names_tree.specs.declared.stmt.NamedStmtKind.TheVariants.{rolls-Declare, rolls-Const, rolls-Assign, rolls-Call, rolls-Await, rolls-Run, rolls-If}
+use Rattle.bl_names_tree.specs.declared.stmt.NamedStmtKind.TheVariants.{rolls-Cobegin, rolls-When, rolls-Repeat, rolls-Until, rolls-While, rolls-Return}
 use Rattle.bl_names_tree.specs.declared.stmt.NamedStmtKind.TheVariants as what
 use Rattle.bl_parse_tree.specs.declared.expr.RawExpr.{RawExpr}
 use Rattle.bl_parse_tree.specs.declared.expr.RawTarget.{RawTarget}
@@ -112,46 +46,11 @@ use Rattle.bl_parse_tree.specs.declared.stmt.RawStmt.{RawStmt, fold-roll-RawStmt
 use Rattle.bl_parse_tree.specs.declared.stmt.RawStmtKind.{RawStmtKind, fold-roll-RawStmtKind, roll-RawStmtKind}
 use Rattle.bl_parse_tree.specs.declared.stmt.RawStmtKind.TheOpen.{RawStmtKind-F}
 use Rattle.bl_parse_tree.specs.declared.types.RawType.{RawType}
-use Rattle.bl_names_laws_places.specs.Renamed.{
-  Renaming,
-  renamed_action,
-  renamed_arm,
-  renamed_branch,
-  renamed_constant,
-  renamed_expr,
-  renamed_path,
-  renamed_stmt,
-  renamed_stmt_layer,
-  renamed_target,
-  renamed_type,
-  renamed_var,
-}
-use Rattle.bl_names_laws_places.proofs.Exprs.{
-  expr_agrees,
-  exprs_agree,
-  optional_expr_agrees,
-  optional_path_agrees,
-  paths_agree,
-  target_agrees,
-}
-use Rattle.bl_names_laws_places.proofs.Pieces.{
-  Each,
-  Keeps,
-  PieceAgrees,
-  all_agree,
-  all_constants_agree,
-  all_keep,
-  all_made_agree,
-  all_marks_agree,
-  all_vars_agree,
-  inward,
-  keeps_append,
-  keeps_scope,
-  keeps_still,
-  onward,
-  plain_agrees,
-  scope_closed,
-}
+use Rattle.bl_names_laws_places.specs.Renamed.{Renaming, renamed_action, renamed_arm, renamed_branch, renamed_constant, renamed_expr, renamed_path}
+use Rattle.bl_names_laws_places.specs.Renamed.{renamed_stmt, renamed_stmt_layer, renamed_target, renamed_type, renamed_var}
+use Rattle.bl_names_laws_places.proofs.Exprs.{expr_agrees, exprs_agree, optional_expr_agrees, optional_path_agrees, paths_agree, target_agrees}
+use Rattle.bl_names_laws_places.proofs.Pieces.{Each, Keeps, PieceAgrees, all_agree, all_constants_agree, all_keep, all_made_agree, all_marks_agree}
+use Rattle.bl_names_laws_places.proofs.Pieces.{all_vars_agree, inward, keeps_append, keeps_scope, keeps_still, onward, plain_agrees, scope_closed}
 use Rattle.bl_names_laws_places.proofs.Positions.{fit_there, position_same}
 use Rattle.bl_names_laws_places.proofs.Types.{optional_type_agrees, type_agrees}
 

@@ -1,25 +1,5 @@
 -- What fails at marks behind a start is what the rules on names say of them.
-use Rattle.std.proofs.Common.{
-  ◌≡◌,
-  true,
-  false,
-  cond,
-  List,
-  ◌∷◌,
-  ◌++◌,
-  ◌⊎◌,
-  inl,
-  inr,
-  ⊎_elim,
-  Option,
-  Some,
-  None,
-  refl,
-  ap,
-  sym,
-  ◌∙◌,
-  subst,
-}
+use Rattle.std.proofs.Common.{◌≡◌, true, false, cond, List, ◌∷◌, ◌++◌, ◌⊎◌, inl, inr, ⊎_elim, Option, Some, None, refl, ap, sym, ◌∙◌, subst}
 use Rattle.bl_tree.specs.declared.place.Place.{Place}
 use Rattle.bl_tree.specs.declared.rule.Failure.{Failure}
 use Rattle.bl_tree.specs.declared.rule.Further.TheVariants.{Nothing, One}

@@ -1,37 +1,14 @@
 -- Scopes as maps and as lists of maps.
-use Rattle.std.proofs.Common.{
-  ◌≡◌,
-  ℕ,
-  ◌+◌,
-  ◌<◌,
-  cond,
-  List,
-  [],
-  ◌∷◌,
-  ◌++◌,
-  reverse,
-  take,
-  length,
-  get_or,
-  Some,
-  None,
-  refl,
-  ap,
-  ◌∙◌,
-  add-one,
-}
+use Rattle.std.proofs.Common.{◌≡◌, ℕ, ◌+◌, ◌<◌, cond, List, [], ◌∷◌, ◌++◌, Some, None, refl, ap, ◌∙◌}
 use Rattle.std.specs.Prelude.{bytes_eq}
 use Rattle.std.specs.Borrow.{Bor}
 use Rattle.std.specs.Map.{lookup}
-use Rattle.std.specs.Option.{option_or}
-use Rattle.std.proofs.lemmas.List.{reverse-append}
-use Rattle.std.proofs.Math.Seq.{take-suc}
 use Rattle.indexmap.specs.IndexMap.{IndexMap, insert_entry}
 use Rattle.indexmap.proofs.CallerLemmas.{insert_entry-new}
 use Rattle.bl_parse_tree.specs.declared.name.Name.{Name}
 use Rattle.bl_names_scopes.specs.declared.kind.Kind.{Kind}
 use Rattle.bl_names_scopes.specs.declared.scopes.Declaration.{Declaration}
-use Rattle.bl_names_scopes.specs.Scopes.{Declared, bound_around, declaration_of, found, named, with_name}
+use Rattle.bl_names_scopes.specs.Scopes.{Declared, declaration_of, found, named, with_name}
 
 -- a look-up in a map is one in the list of its names
 pub found_named : (asked : List ℕ) (entries : List (Bor (List ℕ) × Declaration)) →
@@ -50,12 +27,6 @@ pub inserted : {S : Type 0} (old new : IndexMap (Bor (List ℕ)) Declaration S) 
 inserted old new key declaration is absent =
     ap named (is ∙ insert_entry-new (λ x y. bytes_eq x.now y.now) old key declaration (found_named key.now old.entries ∙ absent))
     ∙ named-append old.entries ((key, declaration) ∷ [])
-
--- the scopes below a number, from the inside out
-pub bound_below : (name : List ℕ) (outer : List Declared) (k : ℕ) (scope : Declared) → k < length outer → scope ≡ get_or outer k scope
-    → bound_around (reverse (take (k + 1) outer)) name ≡ option_or (found scope name) (bound_around (reverse (take k outer)) name)
-bound_below name outer k scope within is =
-    rw (add-one, take-suc outer k scope within, reverse-append, ← is) refl
 
 pub added : {S : Type 0} (old new : IndexMap (Bor (List ℕ)) Declaration S) (key : Bor (List ℕ)) (name : Name) (kind : Kind)
     (position : ℕ) (scope : Declared)

@@ -1,25 +1,5 @@
 -- What a judge remembers after one part and then another.
-use Rattle.std.proofs.Common.{
-  ◌≡◌,
-  ℕ,
-  ◌+◌,
-  suc,
-  ◌<◌,
-  List,
-  [],
-  ◌∷◌,
-  ◌++◌,
-  map,
-  drop,
-  length,
-  get_or,
-  refl,
-  sym,
-  ap,
-  ◌∙◌,
-  add-one,
-}
-use Rattle.std.proofs.Math.Seq.{drop-cons}
+use Rattle.std.proofs.Common.{◌≡◌, ◌+◌, ◌<◌, List, [], ◌∷◌, ◌++◌, map, refl, sym, ap, ◌∙◌}
 use Rattle.std.specs.Prelude.{Result, Ok, Err, OnOk}
 use Rattle.bl_tree.specs.declared.scalar.Op.{Op}
 use Rattle.bl_tree.specs.declared.tree.Guard.{Guard}
@@ -40,31 +20,13 @@ use Rattle.bl_names_scopes.specs.declared.kind.Wanted.{Wanted}
 use Rattle.bl_names_scopes.specs.declared.kind.Wanted.TheVariants as wanted
 use Rattle.bl_names_scopes.specs.declared.judge.Judge.{Judge}
 use Rattle.bl_names_scopes.specs.inner.Judged.{judged, judged_by}
-use Rattle.bl_names_scopes.specs.Marks.{
-  Marks,
-  arm_layer_marks,
-  branch_layer_marks,
-  expr_layer_marks,
-  expr_marks,
-  in_scope,
-  kind_marks,
-  marks_of_arm,
-  marks_of_branch,
-  marks_of_part,
-  part_marks,
-  stmt_kind_marks,
-  stmt_layer_marks,
-  stmt_marks,
-  target_layer_marks,
-  target_marks,
-}
+use Rattle.bl_names_scopes.specs.Marks.{Marks, arm_layer_marks, branch_layer_marks, expr_layer_marks, expr_marks, in_scope, kind_marks, marks_of_arm}
+use Rattle.bl_names_scopes.specs.Marks.{marks_of_branch, marks_of_part, part_marks, stmt_kind_marks, stmt_layer_marks, stmt_marks, target_layer_marks}
+use Rattle.bl_names_scopes.specs.Marks.{target_marks}
 
 pub judged-append : (judge : Judge) (first second : Marks) → judged_by judge (first ++ second) ≡ judged_by (judged_by judge first) second
 judged-append judge [] second = refl
 judged-append judge (mark ∷ first) second = judged-append (judged judge mark) first second
-
-pub next_of : {X : Type 0} (xs : List X) (k : ℕ) (x : X) → k < length xs → x ≡ get_or xs k x → drop k xs ≡ x ∷ drop (k + 1) xs
-next_of xs k x within is = rw add-one (drop-cons xs k x within ∙ ap (λ y. y ∷ drop (suc k) xs) (sym is))
 
 -- one more part
 pub judged-next : {X : Type 0} (marks : X → Marks) (all rest : List X) (x : X) (judge found : Judge) → all ≡ x ∷ rest →

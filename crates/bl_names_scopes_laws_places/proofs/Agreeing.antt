@@ -10,31 +10,10 @@ use Rattle.bl_names_scopes.specs.declared.kind.Kind.TheVariants as kind
 use Rattle.bl_names_scopes.specs.declared.scopes.Counts.{Counts}
 use Rattle.bl_names_scopes.specs.declared.scopes.Declaration.{Declaration}
 use Rattle.bl_names_scopes.specs.Marks.{Mark, Marks, closes, declares, opens, uses}
-use Rattle.bl_names_scopes.specs.Scopes.{
-  Declared,
-  Scopes,
-  after,
-  bound,
-  bound_around,
-  count_of,
-  counted,
-  declaration_of,
-  declared,
-  enter,
-  found,
-  scopes_outside,
-  with_name,
-}
+use Rattle.bl_names_scopes.specs.Scopes.{Declared, Scopes, after, bound, bound_around, count_of, counted, declaration_of, declared, enter, found}
+use Rattle.bl_names_scopes.specs.Scopes.{scopes_outside, with_name}
 use Rattle.bl_parse_tree.specs.declared.name.Name.{Name}
-use Rattle.bl_names_scopes_laws_places.specs.Agree.{
-  SameAround,
-  SameDeclaration,
-  SameScope,
-  ScopesAgree,
-  other_position,
-  placed_mark,
-  placed_marks,
-}
+use Rattle.bl_names_scopes_laws_places.specs.Agree.{SameAround, SameDeclaration, SameScope, ScopesAgree, other_position, placed_mark, placed_marks}
 use Rattle.bl_names_scopes_laws_places.specs.Laws.{AgreementStays}
 
 module _ (renumber : ℕ → ℕ) where

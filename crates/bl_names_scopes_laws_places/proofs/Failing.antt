@@ -1,8 +1,9 @@
 -- The rules Duplicate, Unknown and Kind fail at the images of places, behind starts whose scopes correspond.
-use Rattle.std.proofs.Common.{◌≡◌, ◌⊎◌, inl, inr, ℕ, Bool, true, false, List, [], ◌∷◌, ◌++◌, drop, get_or, map, refl, ap, ap₂, sym, subst, ◌∙◌}
+use Rattle.std.proofs.Common.{◌≡◌, ◌⊎◌, inl, inr, ℕ, Bool, true, false, List, [], ◌∷◌, ◌++◌, map, refl, ap, ap₂, sym, subst, ◌∙◌}
 use Rattle.std.proofs.lemmas.List.{map-append}
 use Rattle.std.proofs.lemmas.Option.{same_Some}
 use Rattle.std.specs.Prelude.{◌↔◌, Option, Some, None}
+use Rattle.bl_tree.proofs.Basics.{same_heads, same_tails}
 use Rattle.bl_tree.specs.declared.place.Place.{Place}
 use Rattle.bl_tree.specs.declared.rule.Rule.{Rule}
 use Rattle.bl_tree.specs.declared.rule.Rule.TheVariants as rules
@@ -12,7 +13,7 @@ use Rattle.bl_names_scopes.specs.declared.kind.Wanted.{Wanted}
 use Rattle.bl_names_scopes.specs.declared.scopes.Declaration.{Declaration}
 use Rattle.bl_names_scopes.specs.Kinds.{suits}
 use Rattle.bl_names_scopes.specs.Marks.{Mark, Marks, closes, declares, opens, uses}
-use Rattle.bl_names_scopes.specs.Rules.{BindsBehind, FailsBehind, FailsDuplicate, FailsKind, FailsUnknown, MarkStands}
+use Rattle.bl_names_scopes.specs.Rules.{FailsBehind, FailsDuplicate, FailsKind, FailsUnknown, MarkStands}
 use Rattle.bl_names_scopes.specs.Scopes.{Scopes, after, bound, found}
 use Rattle.bl_parse_tree.specs.declared.name.Name.{Name}
 use Rattle.bl_names_scopes_laws_places.specs.Agree.{SameDeclaration, ScopesAgree, placed_mark, placed_marks}
@@ -30,26 +31,20 @@ record Split {A B : Type 0} (g : A → B) (xs : List A) (before : List B) (y : B
   is_first : before ≡ map g first
   is_at : y ≡ g at
 
-heads : {B : Type 0} (a b : B) (xs ys : List B) → a ∷ xs ≡ b ∷ ys → a ≡ b
-heads a b xs ys same = ap (λ list. get_or list 0 a) same
-
-tails : {B : Type 0} (a b : B) (xs ys : List B) → a ∷ xs ≡ b ∷ ys → xs ≡ ys
-tails a b xs ys same = ap (drop 1) same
-
 split_map : {A B : Type 0} (g : A → B) (xs : List A) (before : List B) (y : B) (rest : List B) → map g xs ≡ before ++ (y ∷ rest) →
     Split g xs before y rest
 split_map g [] [] y rest is = absurd cc
 split_map g [] (z ∷ before) y rest is = absurd cc
 split_map g (x ∷ xs) [] y rest is =
-    record { first = []; at = x; last = xs; is = refl; is_first = refl; is_at = sym (heads (g x) y (map g xs) rest is) }
+    record { first = []; at = x; last = xs; is = refl; is_first = refl; is_at = sym (same_heads (g x) y (map g xs) rest is) }
 split_map g (x ∷ xs) (z ∷ before) y rest is =
-    let more = split_map g xs before y rest (tails (g x) z (map g xs) (before ++ (y ∷ rest)) is) in
+    let more = split_map g xs before y rest (same_tails (g x) z (map g xs) (before ++ (y ∷ rest)) is) in
     record {
       first = x ∷ more.first;
       at = more.at;
       last = more.last;
       is = ap (λ list. x ∷ list) more.is;
-      is_first = ap₂ (λ b bs. b ∷ bs) (sym (heads (g x) z (map g xs) (before ++ (y ∷ rest)) is)) more.is_first;
+      is_first = ap₂ (λ b bs. b ∷ bs) (sym (same_heads (g x) z (map g xs) (before ++ (y ∷ rest)) is)) more.is_first;
       is_at = more.is_at;
     }
 

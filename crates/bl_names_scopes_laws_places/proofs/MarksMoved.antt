@@ -30,62 +30,17 @@ use Rattle.bl_parse_tree.specs.declared.types.RawLength.TheVariants.{Number, Con
 use Rattle.bl_parse_tree.specs.declared.types.RawType.{RawType, fold-roll-RawType, ind-RawType, map-RawType, roll-RawType}
 use Rattle.bl_parse_tree.specs.declared.types.RawType.TheOpen.{RawType-F}
 use Rattle.bl_parse_tree.specs.declared.types.RawType.TheVariants.{rolls-Scalar, rolls-Struct, rolls-Array}
-use Rattle.bl_joined.specs.Trees.{
-  placed_constant,
-  placed_expr,
-  placed_field,
-  placed_item,
-  placed_length,
-  placed_name,
-  placed_param,
-  placed_path,
-  placed_stmt,
-  placed_struct,
-  placed_target,
-  placed_type,
-  placed_unit,
-}
+use Rattle.bl_joined.specs.Trees.{placed_constant, placed_expr, placed_field, placed_item, placed_length, placed_name, placed_param, placed_path, placed_stmt}
+use Rattle.bl_joined.specs.Trees.{placed_struct, placed_target, placed_type, placed_unit}
 use Rattle.bl_names_scopes.specs.declared.kind.Kind.{Kind}
 use Rattle.bl_names_scopes.specs.declared.kind.Kind.TheVariants as kind
 use Rattle.bl_names_scopes.specs.declared.kind.Wanted.{Wanted}
 use Rattle.bl_names_scopes.specs.declared.kind.Wanted.TheVariants as wanted
-use Rattle.bl_names_scopes.specs.Marks.{
-  Marks,
-  argument_marks,
-  arm_layer_marks,
-  branch_layer_marks,
-  closes,
-  constant_marks,
-  declared_after,
-  declares,
-  expr_layer_marks,
-  expr_marks,
-  field_mark,
-  field_type_marks,
-  in_scope,
-  inside_unit,
-  item_marks,
-  kind_marks,
-  kind_of_unit,
-  length_marks,
-  marks_of_arm,
-  marks_of_branch,
-  marks_of_part,
-  opens,
-  optional,
-  param_marks,
-  part_marks,
-  path_marks,
-  stmt_kind_marks,
-  stmt_layer_marks,
-  stmt_marks,
-  struct_marks,
-  target_layer_marks,
-  target_marks,
-  type_marks,
-  unit_marks,
-  uses,
-}
+use Rattle.bl_names_scopes.specs.Marks.{Marks, argument_marks, arm_layer_marks, branch_layer_marks, closes, constant_marks, declared_after, declares}
+use Rattle.bl_names_scopes.specs.Marks.{expr_layer_marks, expr_marks, field_mark, field_type_marks, in_scope, inside_unit, item_marks, kind_marks, kind_of_unit}
+use Rattle.bl_names_scopes.specs.Marks.{length_marks, marks_of_arm, marks_of_branch, marks_of_part, opens, optional, param_marks, part_marks, path_marks}
+use Rattle.bl_names_scopes.specs.Marks.{stmt_kind_marks, stmt_layer_marks, stmt_marks, struct_marks, target_layer_marks, target_marks, type_marks, unit_marks}
+use Rattle.bl_names_scopes.specs.Marks.{uses}
 use Rattle.bl_names_scopes_laws_places.specs.Agree.{placed_mark, placed_marks}
 use Rattle.bl_names_scopes_laws_places.specs.Laws.{MarksMove}
 use Rattle.bl_names_scopes_laws_places.proofs.RawExprs as exprs

@@ -11,27 +11,11 @@ use Rattle.bl_parse_tree.specs.declared.expr.RawExprKind.TheOpen.{RawExprKind-F,
 use Rattle.bl_parse_tree.specs.declared.expr.RawPart.{RawPart, fold-RawPart, fold-roll-RawPart, out-RawPart, roll-RawPart, roll-out-RawPart}
 use Rattle.bl_parse_tree.specs.declared.expr.RawTarget.{RawTarget, fold-roll-RawTarget, ind-RawTarget, roll-RawTarget}
 use Rattle.bl_parse_tree.specs.declared.name.Name.{Name}
-use Rattle.bl_parse_tree.specs.declared.expr.RawExprKind.TheVariants.{
-  rolls-Number,
-  rolls-Truth,
-  rolls-Read,
-  rolls-Prev,
-  rolls-One,
-  rolls-Two,
-  rolls-Cast,
-  rolls-Call,
-}
+use Rattle.bl_parse_tree.specs.declared.expr.RawExprKind.TheVariants.{rolls-Number, rolls-Truth, rolls-Read, rolls-Prev, rolls-One, rolls-Two, rolls-Cast}
+use Rattle.bl_parse_tree.specs.declared.expr.RawExprKind.TheVariants.{rolls-Call}
 use Rattle.bl_parse_tree.specs.declared.expr.RawPart.TheVariants.{rolls-Field, rolls-Index}
 use Rattle.bl_tree.proofs.StmtInduction.{each_such}
-use Rattle.bl_joined.specs.Trees.{
-  placed_expr,
-  placed_expr_layer,
-  placed_kind,
-  placed_name,
-  placed_part,
-  placed_target,
-  placed_target_layer,
-}
+use Rattle.bl_joined.specs.Trees.{placed_expr, placed_expr_layer, placed_kind, placed_name, placed_part, placed_target, placed_target_layer}
 
 -- ---- the map of places at each layer
 

@@ -14,37 +14,12 @@ use Rattle.bl_parse_tree.specs.declared.stmt.RawStmt.{RawStmt, fold-roll-RawStmt
 use Rattle.bl_parse_tree.specs.declared.stmt.RawStmtKind.{RawStmtKind, fold-RawStmtKind, fold-roll-RawStmtKind, roll-RawStmtKind}
 use Rattle.bl_parse_tree.specs.declared.stmt.RawStmtKind.TheFolds.{map-RawStmtKind}
 use Rattle.bl_parse_tree.specs.declared.stmt.RawStmtKind.TheOpen.{RawStmtKind-F}
-use Rattle.bl_parse_tree.specs.declared.stmt.RawStmtKind.TheVariants.{
-  rolls-Var,
-  rolls-Let,
-  rolls-Const,
-  rolls-Assign,
-  rolls-Call,
-  rolls-Await,
-  rolls-Run,
-  rolls-If,
-  rolls-Cobegin,
-  rolls-When,
-  rolls-Repeat,
-  rolls-Until,
-  rolls-While,
-  rolls-Return,
-}
+use Rattle.bl_parse_tree.specs.declared.stmt.RawStmtKind.TheVariants.{rolls-Var, rolls-Let, rolls-Const, rolls-Assign, rolls-Call, rolls-Await, rolls-Run}
+use Rattle.bl_parse_tree.specs.declared.stmt.RawStmtKind.TheVariants.{rolls-If, rolls-Cobegin, rolls-When, rolls-Repeat, rolls-Until, rolls-While, rolls-Return}
 use Rattle.bl_parse_tree.specs.declared.types.RawType.{RawType}
 use Rattle.bl_tree.proofs.StmtInduction.{each_such}
-use Rattle.bl_joined.specs.Trees.{
-  placed_action,
-  placed_arm,
-  placed_branch,
-  placed_constant,
-  placed_expr,
-  placed_name,
-  placed_path,
-  placed_stmt,
-  placed_stmt_layer,
-  placed_target,
-  placed_type,
-}
+use Rattle.bl_joined.specs.Trees.{placed_action, placed_arm, placed_branch, placed_constant, placed_expr, placed_name, placed_path, placed_stmt}
+use Rattle.bl_joined.specs.Trees.{placed_stmt_layer, placed_target, placed_type}
 
 -- ---- the map of places at each layer
 

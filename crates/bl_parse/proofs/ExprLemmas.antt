@@ -38,9 +38,6 @@ looser other le (SpellsExpr.parentheses opens e closes) = SpellsExpr.parentheses
 pub placed_by : {A : Type 0} (f : A → RawExprKind) {p q : Place} {a b : A} → p ≡ q → a ≡ b → expr p (f a) ≡ expr q (f b)
 placed_by f {q = q} {a = a} e g = ap (λ place. expr place (f a)) e ∙ ap (λ x. expr q (f x)) g
 
-pub le_same : (a : ℕ) → a ≤ a
-le_same a = omega arith
-
 -- a minus before an operand is the sign
 pub minus_sign : {tokens : List Token} {from to : ℕ} → SpellsPrefix tokens Op.Minus from to → Takes tokens (Sign MINUS) from to
 minus_sign at = minus_kind at.kind at.token at.is where

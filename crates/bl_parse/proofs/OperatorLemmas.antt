@@ -1,80 +1,24 @@
 -- Chains of operators: what goes on with an expression whose operators bind as tightly as a level.
-use Rattle.std.proofs.Common.{
-  ◌≡◌,
-  ℕ,
-  zero,
-  suc,
-  ◌+◌,
-  ◌<◌,
-  ◌≤◌,
-  min,
-  Bool,
-  true,
-  false,
-  cond,
-  ◌||◌,
-  List,
-  [],
-  ◌∷◌,
-  ◌++◌,
-  refl,
-  ap,
-  sym,
-  ◌∙◌,
-  subst,
-  arith,
-}
+use Rattle.std.proofs.Common.{◌≡◌, ℕ, zero, suc, ◌+◌, ◌<◌, ◌≤◌, min, Bool, true, false, cond, ◌||◌, List, [], ◌∷◌, ◌++◌, refl, ap, sym, ◌∙◌, subst, arith}
 use Rattle.std.specs.Prelude.{Some, nat_le, nat_lt, nat_eq}
 use Rattle.std.proofs.lemmas.Bool.{le-leb, leb-true, eqb-true, eqb-false, eq-eqb, ltb-true, ltb-false}
 use Rattle.std.proofs.Math.Nat.{min-le_left, min-le_right, le-min}
+use Rattle.std.proofs.lemmas.Bool.{false_from_ne_true}
+use Rattle.bl_tree.proofs.Basics.{from_false}
 use Rattle.bl_tree.specs.declared.scalar.Op.{Op}
 use Rattle.bl_tree.specs.declared.token.Token.{Token}
 use Rattle.bl_tree.specs.declared.token.TokenKind.{TokenKind}
 use Rattle.bl_tree.specs.declared.token.TokenKind.TheVariants.{Name, Number, Word, Sign}
 use Rattle.bl_grammar.specs.declared.symbol.Symbol.TheVariants.{Terminal}
-use Rattle.bl_lex.specs.declared.word.TheConstants.{OR, AND}
-use Rattle.bl_lex.specs.declared.sign.TheConstants.{
-  EQUAL,
-  NOT_EQUAL,
-  LESS,
-  LESS_OR_EQUAL,
-  GREATER,
-  GREATER_OR_EQUAL,
-  BAR,
-  CARET,
-  AMPERSAND,
-  SHIFT_LEFT,
-  SHIFT_RIGHT,
-  PLUS,
-  MINUS,
-  STAR,
-  SLASH,
-  PERCENT,
-}
+use Rattle.bl_tree.specs.declared.token.Keyword.TheVariants as keyword
+use Rattle.bl_tree.specs.Keywords.{same_word}
+use Rattle.bl_lex.specs.declared.sign.TheConstants.{EQUAL, NOT_EQUAL, LESS, LESS_OR_EQUAL, GREATER, GREATER_OR_EQUAL, BAR, CARET, AMPERSAND, SHIFT_LEFT}
+use Rattle.bl_lex.specs.declared.sign.TheConstants.{SHIFT_RIGHT, PLUS, MINUS, STAR, SLASH, PERCENT}
 use Rattle.bl_parse_syntax.specs.declared.grammar.Class.{Class}
 use Rattle.bl_parse_syntax.specs.declared.grammar.Class.TheVariants.{Keyword, Mark}
 use Rattle.bl_parse_syntax.specs.declared.grammar.Part.{Part}
-use Rattle.bl_parse_syntax.specs.declared.grammar.Part.TheVariants.{
-  Expr,
-  And,
-  Comparison,
-  BitOr,
-  BitXor,
-  BitAnd,
-  Shift,
-  Sum,
-  Product,
-  Cast,
-  ExprRest,
-  AndRest,
-  ComparisonRest,
-  BitOrRest,
-  BitXorRest,
-  BitAndRest,
-  ShiftRest,
-  SumRest,
-  ProductRest,
-}
+use Rattle.bl_parse_syntax.specs.declared.grammar.Part.TheVariants.{Expr, And, Comparison, BitOr, BitXor, BitAnd, Shift, Sum, Product, Cast, ExprRest, AndRest}
+use Rattle.bl_parse_syntax.specs.declared.grammar.Part.TheVariants.{ComparisonRest, BitOrRest, BitXorRest, BitAndRest, ShiftRest, SumRest, ProductRest}
 use Rattle.bl_parse_syntax.specs.Grammar.{Piece, the, class_of, same_class, productions}
 use Rattle.bl_parse_syntax.specs.Tables.{has, has_empty, starts_within}
 use Rattle.bl_parse_syntax.proofs.Right.{same_is}
@@ -152,7 +96,7 @@ fits (suc (suc (suc b))) (suc (suc (suc n))) l e = let p = plain n in let h : n 
 level_of : TokenKind → ℕ
 level_of Name = 99
 level_of (Number n) = 99
-level_of (Word w) = cond (nat_eq w OR) 0 (cond (nat_eq w AND) 1 99)
+level_of (Word w) = cond (same_word w keyword.Or) 0 (cond (same_word w keyword.And) 1 99)
 level_of (Sign s) = (cond (nat_eq s EQUAL) 2 (cond (nat_eq s NOT_EQUAL) 2
     (cond (nat_eq s LESS) 2 (cond (nat_eq s LESS_OR_EQUAL) 2
     (cond (nat_eq s GREATER) 2 (cond (nat_eq s GREATER_OR_EQUAL) 2
@@ -189,20 +133,14 @@ one_of {c} {P} x xs here later on = by_here (same_class x c) refl on
     by_here true e on = here (same_is x c e)
     by_here false e on = later on
 
-of_none : {P : Type 0} → false ≡ true → P
-of_none e = absurd (no_truth e)
-  where
-    no_truth : false ≡ true → ⊥
-    no_truth e = cc
-
 abbrev pub Found : ℕ → TokenKind → Type 0
 Found m kind = (op : Op) × IsOperator kind m op
 
 operator_of : (m : ℕ) (kind : TokenKind) → m ≤ 8 → has (starts_within 20 (rest_of m)) (class_of kind) ≡ true → Found m kind
-operator_of zero kind le on = one_of (Keyword OR) ([])
-    (λ e. (Op.Or, subst (λ kind. IsOperator kind 0 Op.Or) (sym (class_word kind OR e)) IsOperator.either)) of_none on
-operator_of (suc zero) kind le on = one_of (Keyword AND) ([])
-    (λ e. (Op.And, subst (λ kind. IsOperator kind 1 Op.And) (sym (class_word kind AND e)) IsOperator.both)) of_none on
+operator_of zero kind le on = one_of (Keyword keyword.Or) ([])
+    (λ e. (Op.Or, subst (λ kind. IsOperator kind 0 Op.Or) (sym (class_word kind keyword.Or e)) IsOperator.either)) from_false on
+operator_of (suc zero) kind le on = one_of (Keyword keyword.And) ([])
+    (λ e. (Op.And, subst (λ kind. IsOperator kind 1 Op.And) (sym (class_word kind keyword.And e)) IsOperator.both)) from_false on
 operator_of (suc (suc zero)) kind le on = one_of (Mark EQUAL)
     ((Mark NOT_EQUAL) ∷ (Mark LESS) ∷ (Mark LESS_OR_EQUAL) ∷ (Mark GREATER) ∷ (Mark GREATER_OR_EQUAL) ∷ [])
     (λ e. (Op.Eq, subst (λ kind. IsOperator kind 2 Op.Eq) (sym (class_sign kind EQUAL e)) IsOperator.equal))
@@ -217,17 +155,17 @@ operator_of (suc (suc zero)) kind le on = one_of (Mark EQUAL)
     (one_of (Mark GREATER_OR_EQUAL) ([]) (λ e. (
       Op.Ge,
       subst (λ kind. IsOperator kind 2 Op.Ge) (sym (class_sign kind GREATER_OR_EQUAL e)) IsOperator.at_least,
-    )) of_none))))) on
+    )) from_false))))) on
 operator_of (suc (suc (suc zero))) kind le on = one_of (Mark BAR) ([])
-    (λ e. (Op.BitOr, subst (λ kind. IsOperator kind 3 Op.BitOr) (sym (class_sign kind BAR e)) IsOperator.bits_or)) of_none on
+    (λ e. (Op.BitOr, subst (λ kind. IsOperator kind 3 Op.BitOr) (sym (class_sign kind BAR e)) IsOperator.bits_or)) from_false on
 operator_of (suc (suc (suc (suc zero)))) kind le on =
-    one_of (Mark CARET) ([]) (λ e. (Op.BitXor, subst (λ kind. IsOperator kind 4 Op.BitXor) (sym (class_sign kind CARET e)) IsOperator.bits_xor)) of_none on
+    one_of (Mark CARET) ([]) (λ e. (Op.BitXor, subst (λ kind. IsOperator kind 4 Op.BitXor) (sym (class_sign kind CARET e)) IsOperator.bits_xor)) from_false on
 operator_of (suc (suc (suc (suc (suc zero))))) kind le on =
     one_of (Mark AMPERSAND) ([]) (λ e. (
       Op.BitAnd,
       subst (λ kind. IsOperator kind 5 Op.BitAnd)
           (sym (class_sign kind AMPERSAND e)) IsOperator.bits_and,
-    )) of_none on
+    )) from_false on
 operator_of (suc (suc (suc (suc (suc (suc zero)))))) kind le on =
     one_of (Mark SHIFT_LEFT) ((Mark SHIFT_RIGHT) ∷ [])
     (λ e. (Op.Shl, subst (λ kind. IsOperator kind 6 Op.Shl) (sym (class_sign kind SHIFT_LEFT e)) IsOperator.shift_left))
@@ -235,13 +173,13 @@ operator_of (suc (suc (suc (suc (suc (suc zero)))))) kind le on =
       Op.Shr,
       subst (λ kind. IsOperator kind 6 Op.Shr)
           (sym (class_sign kind SHIFT_RIGHT e)) IsOperator.shift_right,
-    )) of_none) on
+    )) from_false) on
 operator_of (suc (suc (suc (suc (suc (suc (suc zero))))))) kind le on =
     one_of (Mark PLUS) ((Mark MINUS) ∷ []) (λ e. (
       Op.Add,
       subst (λ kind. IsOperator kind 7 Op.Add) (sym (class_sign kind PLUS e)) IsOperator.plus,
     ))
-    (one_of (Mark MINUS) ([]) (λ e. (Op.Sub, subst (λ kind. IsOperator kind 7 Op.Sub) (sym (class_sign kind MINUS e)) IsOperator.minus)) of_none) on
+    (one_of (Mark MINUS) ([]) (λ e. (Op.Sub, subst (λ kind. IsOperator kind 7 Op.Sub) (sym (class_sign kind MINUS e)) IsOperator.minus)) from_false) on
 operator_of (suc (suc (suc (suc (suc (suc (suc (suc zero)))))))) kind le on =
     one_of (Mark STAR) ((Mark SLASH) ∷ (Mark PERCENT) ∷ [])
     (λ e. (Op.Mul, subst (λ kind. IsOperator kind 8 Op.Mul) (sym (class_sign kind STAR e)) IsOperator.times))
@@ -249,7 +187,7 @@ operator_of (suc (suc (suc (suc (suc (suc (suc (suc zero)))))))) kind le on =
       Op.Div,
       subst (λ kind. IsOperator kind 8 Op.Div) (sym (class_sign kind SLASH e)) IsOperator.divided,
     ))
-    (one_of (Mark PERCENT) ([]) (λ e. (Op.Rem, subst (λ kind. IsOperator kind 8 Op.Rem) (sym (class_sign kind PERCENT e)) IsOperator.remainder)) of_none)) on
+    (one_of (Mark PERCENT) ([]) (λ e. (Op.Rem, subst (λ kind. IsOperator kind 8 Op.Rem) (sym (class_sign kind PERCENT e)) IsOperator.remainder)) from_false)) on
 operator_of (suc (suc (suc (suc (suc (suc (suc (suc (suc n))))))))) kind le on = absurd (omega (arith, le))
 
 rests_empty : (m : ℕ) → has_empty (productions (rest_of m)) ≡ true
@@ -262,10 +200,6 @@ rests_empty (suc (suc (suc (suc (suc zero))))) = refl
 rests_empty (suc (suc (suc (suc (suc (suc zero)))))) = refl
 rests_empty (suc (suc (suc (suc (suc (suc (suc zero))))))) = refl
 rests_empty (suc (suc (suc (suc (suc (suc (suc (suc n)))))))) = refl
-
-not_true : (b : Bool) → (b ≡ true → ⊥) → b ≡ false
-not_true true none = absurd (none refl)
-not_true false none = refl
 
 module _ {tokens : List Token} {k : ℕ} where
   at_9 : {b : List Piece} → Turns (the Cast ∷ b) tokens k (the Cast ∷ tails 9 9 ++ b) k
@@ -316,18 +250,18 @@ module _ {tokens : List Token} {k : ℕ} where
   lacks : (m : ℕ) → m ≤ 8 → ((kind : TokenKind) (op : Op) → kind_at tokens k ≡ Some kind → IsOperator kind m op → ⊥) →
       NoneNext (starts_within 20 (rest_of m)) tokens k
   lacks m le none = record {
-    off = not_true _ (λ on. let h = kind_among (starts_within 20 (rest_of m)) (kind_at tokens k) on in
+    off = false_from_ne_true _ (λ on. let h = kind_among (starts_within 20 (rest_of m)) (kind_at tokens k) on in
         let f = operator_of m h.0 le h.2 in none h.0 f.0 h.1 f.1);
   }
 
   steps : (level own : ℕ) {kind : TokenKind} {op : Op} → kind_at tokens k ≡ Some kind → IsOperator kind own op → level ≤ own
       → Turns (the (rest_of own) ∷ tails own level) tokens k (Terminal (class_of kind) ∷ the (operand (own + 1)) ∷ tails (below own) level) k
   steps level own is IsOperator.either le = subst (λ t. Turns (the ExprRest ∷ tails 0 level) tokens k
-      (Terminal (Keyword OR) ∷ the And ∷ t) k) (sym (tails_step 0 level le))
-      (opened (Terminal (Keyword OR) ∷ the And ∷ the ExprRest ∷ []) (λ v. refl) is refl)
+      (Terminal (Keyword keyword.Or) ∷ the And ∷ t) k) (sym (tails_step 0 level le))
+      (opened (Terminal (Keyword keyword.Or) ∷ the And ∷ the ExprRest ∷ []) (λ v. refl) is refl)
   steps level own is IsOperator.both le = subst (λ t. Turns (the AndRest ∷ tails 1 level) tokens k
-      (Terminal (Keyword AND) ∷ the Comparison ∷ t) k) (sym (tails_step 1 level le))
-      (opened (Terminal (Keyword AND) ∷ the Comparison ∷ the AndRest ∷ []) (λ v. refl) is refl)
+      (Terminal (Keyword keyword.And) ∷ the Comparison ∷ t) k) (sym (tails_step 1 level le))
+      (opened (Terminal (Keyword keyword.And) ∷ the Comparison ∷ the AndRest ∷ []) (λ v. refl) is refl)
   steps level own is IsOperator.equal le = opened (Terminal (Mark EQUAL) ∷ the BitOr ∷ []) (λ v. refl) is refl
   steps level own is IsOperator.differs le = opened (Terminal (Mark NOT_EQUAL) ∷ the BitOr ∷ []) (λ v. refl) is refl
   steps level own is IsOperator.less le = opened (Terminal (Mark LESS) ∷ the BitOr ∷ []) (λ v. refl) is refl

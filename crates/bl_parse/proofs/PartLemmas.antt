@@ -1,65 +1,26 @@
 -- Which production of a part is left, where others are ruled out.
-use Rattle.std.proofs.Common.{
-  ◌≡◌,
-  ℕ,
-  Bool,
-  true,
-  false,
-  cond,
-  ◌||◌,
-  ◌&&◌,
-  ◌≤◌,
-  ◌⊎◌,
-  inl,
-  inr,
-  ⊎_elim,
-  List,
-  [],
-  ◌∷◌,
-  refl,
-  ap,
-  sym,
-  ◌∙◌,
-  subst,
-}
-use Rattle.std.specs.Prelude.{Option, Some, None, IsNone, nat_eq, nat_le}
+use Rattle.std.proofs.Common.{◌≡◌, ℕ, Bool, true, false, cond, ◌||◌, ◌&&◌, ◌≤◌, ◌⊎◌, inl, inr, ⊎_elim, List, [], ◌∷◌, refl, ap, sym, ◌∙◌, subst}
+use Rattle.std.specs.Prelude.{Option, Some, None, IsNone, nat_le}
+use Rattle.bl_tree.proofs.KeywordLemmas.{same_word_is}
 use Rattle.bl_tree.specs.declared.scalar.Scalar.{Scalar as ScalarType}
 use Rattle.bl_tree.specs.declared.token.Token.{Token}
 use Rattle.bl_tree.specs.declared.token.TokenKind.{TokenKind}
 use Rattle.bl_tree.specs.declared.token.TokenKind.TheVariants.{Name, Number, Word, Sign}
 use Rattle.bl_grammar.specs.declared.symbol.Symbol.TheVariants.{Terminal}
-use Rattle.bl_lex.specs.declared.word.TheConstants.{STRUCT, CONST, FUNCTION, ACTIVITY, RESET, ABORT, NOT, TRUE, FALSE, PREV}
+use Rattle.bl_tree.specs.declared.token.Keyword.{Keyword as AnyKeyword}
+use Rattle.bl_tree.specs.declared.token.Keyword.TheVariants as keyword
+use Rattle.bl_tree.specs.Keywords.{same_word}
 use Rattle.bl_lex.specs.declared.sign.TheConstants.{OPEN_BRACKET, CLOSE_BRACKET, OPEN_PAREN, ASSIGN, DOT, AT, MINUS, TILDE, COLON}
 use Rattle.bl_parse_syntax.specs.declared.grammar.Class.{Class}
 use Rattle.bl_parse_syntax.specs.declared.grammar.Class.TheVariants.{AnyNumber, Keyword, Mark}
 use Rattle.bl_parse_syntax.specs.declared.grammar.Part.{Part}
-use Rattle.bl_parse_syntax.specs.declared.grammar.Part.TheVariants.{
-  Item,
-  Unit,
-  PlainUnit,
-  UnitTail,
-  Scalar,
-  Guard,
-  RunTail,
-  RunTarget,
-  CallTail,
-  PathRest,
-  Unary,
-  Primary,
-  Access,
-  AssignTail,
-  VarTail,
-  Expr,
-  AfterName,
-  Length,
-  Block,
-  Stmt,
-}
+use Rattle.bl_parse_syntax.specs.declared.grammar.Part.TheVariants.{Item, Unit, PlainUnit, UnitTail, Scalar, Guard, RunTail, RunTarget, CallTail, PathRest}
+use Rattle.bl_parse_syntax.specs.declared.grammar.Part.TheVariants.{Unary, Primary, Access, AssignTail, VarTail, Expr, AfterName, Length, Block, Stmt}
 use Rattle.bl_parse_syntax.specs.Grammar.{Piece, the, name, word, sign, class_of, same_class, productions}
 use Rattle.bl_parse_syntax.specs.Follow.{statement_starts}
 use Rattle.bl_parse_syntax.specs.declared.grammar.TokenView.{TokenView}
 use Rattle.bl_parse_syntax.specs.Tables.{has, or_absent, choices_of, permits}
-use Rattle.std.proofs.lemmas.Bool.{eqb-true, leb-true, le-leb}
+use Rattle.std.proofs.lemmas.Bool.{leb-true, le-leb}
 use Rattle.bl_grammar.proofs.Predictive.{and_left, and_right, and_both}
 use Rattle.bl_parse_syntax.proofs.Right.{chosen_none, same_is}
 use Rattle.bl_parse.specs.At.{kind_at}
@@ -100,16 +61,16 @@ run_target c off = (_, second _ _ _ _ off)
 pub target_assign : (c : Class) → has (Mark DOT ∷ []) c ≡ false → Left RunTarget c (sign ASSIGN ∷ name ∷ the CallTail ∷ [])
 target_assign c off = (_, second _ _ _ _ off)
 
-pub item_unit : (c : Class) → has (Keyword STRUCT ∷ []) c ≡ false → has (Keyword CONST ∷ []) c ≡ false → Left Item c (the Unit ∷ [])
+pub item_unit : (c : Class) → has (Keyword keyword.Struct ∷ []) c ≡ false → has (Keyword keyword.Const ∷ []) c ≡ false → Left Item c (the Unit ∷ [])
 item_unit c a b = (_, third _ _ _ _ _ _ a b)
 
 pub unit_plain : (c : Class) → has (Mark AT ∷ []) c ≡ false → Left Unit c (the PlainUnit ∷ [])
 unit_plain c off = (_, second _ _ _ _ off)
 
-pub plain_activity : (c : Class) → has (Keyword FUNCTION ∷ []) c ≡ false → Left PlainUnit c (word ACTIVITY ∷ name ∷ the UnitTail ∷ [])
+pub plain_activity : (c : Class) → has (Keyword keyword.Function ∷ []) c ≡ false → Left PlainUnit c (word keyword.Activity ∷ name ∷ the UnitTail ∷ [])
 plain_activity c off = (_, second _ _ _ _ off)
 
-pub guard_reset : (c : Class) → has (Keyword ABORT ∷ []) c ≡ false → Left Guard c (word RESET ∷ [])
+pub guard_reset : (c : Class) → has (Keyword keyword.Abort ∷ []) c ≡ false → Left Guard c (word keyword.Reset ∷ [])
 guard_reset c off = (_, second _ _ _ _ off)
 
 pub var_value : (c : Class) → has (Mark COLON ∷ []) c ≡ false → Left VarTail c (sign ASSIGN ∷ the Expr ∷ [])
@@ -119,7 +80,7 @@ pub access_index : (c : Class) → has (Mark DOT ∷ []) c ≡ false → Left Ac
 access_index c off = (_, second _ _ _ _ off)
 
 pub unary_primary : (c : Class) → has (Mark MINUS ∷ []) c ≡ false → has (Mark TILDE ∷ []) c ≡ false →
-    has (Keyword NOT ∷ []) c ≡ false → Left Unary c (the Primary ∷ [])
+    has (Keyword keyword.Not ∷ []) c ≡ false → Left Unary c (the Primary ∷ [])
 unary_primary c a b d = (_, fourth _ _ _ _ _ _ _ _ a b d)
 
 pub scalar_never : (c : Class) → has scalar_classes c ≡ false → picks Scalar c ≡ None
@@ -164,20 +125,21 @@ no_number (Some (Number n)) off = absurd (no_truth off)
 no_number (Some (Word w)) off = refl
 no_number (Some (Sign w)) off = refl
 
-off_word : (w k : ℕ) → (k ≡ w → ⊥) → nat_eq w k || false ≡ false
-off_word w k none = by_test (nat_eq w k) refl
+off_word : (w k : AnyKeyword) → (k ≡ w → ⊥) → same_word w k || false ≡ false
+off_word w k none = by_test (same_word w k) refl
   where
-    by_test : (b : Bool) → nat_eq w k ≡ b → b || false ≡ false
-    by_test true e = absurd (none (sym (eqb-true w k e)))
+    by_test : (b : Bool) → same_word w k ≡ b → b || false ≡ false
+    by_test true e = absurd (none (sym (same_word_is w k e)))
     by_test false e = refl
 
 middle : (a b c : Bool) (p q r : List Piece) → a ≡ false → c ≡ false →
     or_absent false (cond a (Some p) (cond b (Some q) (cond c (Some r) None))) ≡ or_absent false (cond b (Some q) None)
 middle a b c p q r ea ec = rw (ea, ec) refl
 
-pub primary_false : (k : ℕ) → (k ≡ PREV → ⊥) → (k ≡ TRUE → ⊥) →
-    picks Primary (Keyword k) ≡ or_absent false (cond (nat_eq FALSE k || false) (Some (word FALSE ∷ [])) None)
-primary_false k np nt = middle (nat_eq TRUE k || false) (nat_eq FALSE k || false) (nat_eq PREV k || false) _ _ _ (off_word TRUE k nt) (off_word PREV k np)
+pub primary_false : (k : AnyKeyword) → (k ≡ keyword.Prev → ⊥) → (k ≡ keyword.True → ⊥) →
+    picks Primary (Keyword k) ≡ or_absent false (cond (same_word keyword.False k || false) (Some (word keyword.False ∷ [])) None)
+primary_false k np nt = middle (same_word keyword.True k || false) (same_word keyword.False k || false) (same_word keyword.Prev k || false) _ _ _
+    (off_word keyword.True k nt) (off_word keyword.Prev k np)
 
 pub none_is : {A : Type 0} {o : Option A} → o ≡ None → IsNone o
 none_is e = rw e refl

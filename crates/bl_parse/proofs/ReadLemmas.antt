@@ -1,33 +1,12 @@
 -- How a reader knows what stands next.
-use Rattle.std.proofs.Common.{
-  ◌≡◌,
-  ℕ,
-  zero,
-  suc,
-  ◌+◌,
-  ◌<◌,
-  ◌≤◌,
-  Bool,
-  true,
-  false,
-  cond,
-  ◌||◌,
-  List,
-  [],
-  ◌∷◌,
-  ◌++◌,
-  drop,
-  length,
-  refl,
-  ap,
-  sym,
-  ◌∙◌,
-  subst,
-  arith,
-}
+use Rattle.std.proofs.Common.{◌≡◌, ℕ, zero, suc, ◌+◌, ◌<◌, ◌≤◌, Bool, true, false, cond, ◌||◌, List, [], ◌∷◌, ◌++◌, drop, length, refl, ap, sym, ◌∙◌, subst}
+use Rattle.std.proofs.Common.{arith}
 use Rattle.std.specs.Prelude.{Option, Some, None, slice_get, option_map}
 use Rattle.std.proofs.lemmas.Bool.{eq-eqb}
 use Rattle.std.proofs.lemmas.Option.{slice_get_within}
+use Rattle.bl_tree.proofs.Basics.{plus_one, true_not_false}
+use Rattle.bl_tree.proofs.KeywordLemmas.{same_word_self}
+use Rattle.bl_tree.specs.declared.token.Keyword.{Keyword as AnyKeyword}
 use Rattle.bl_tree.specs.declared.token.Token.{Token}
 use Rattle.bl_tree.specs.declared.token.TokenKind.{TokenKind}
 use Rattle.bl_tree.specs.declared.token.TokenKind.TheVariants.{Name, Number, Word, Sign}
@@ -93,11 +72,8 @@ pub pick_is : (part : Part) (view : TokenView) → permits part view ≡ true �
 unfolding pick absent choices
 pick_is part view may = rw (may, chosen_is (productions part) view.class) refl
 
-same_some : {A : Type 0} {a b : A} → Some a ≡ Some b → a ≡ b
+pub same_some : {A : Type 0} {a b : A} → Some a ≡ Some b → a ≡ b
 same_some e = cc
-
-no_truth : true ≡ false → ⊥
-no_truth e = cc
 
 no_some : {A : Type 0} {a : A} → None ≡ Some a → ⊥
 no_some e = cc
@@ -107,7 +83,7 @@ abbrev picks_at : Part → Option TokenKind → Option (List Piece)
 picks_at part None = None
 picks_at part (Some kind) = picks part (class_of kind)
 
-pub class_word : (kind : TokenKind) (w : ℕ) → Keyword w ≡ class_of kind → kind ≡ Word w
+pub class_word : (kind : TokenKind) (w : AnyKeyword) → Keyword w ≡ class_of kind → kind ≡ Word w
 class_word Name w e = cc
 class_word (Number n) w e = cc
 class_word (Word v) w e = cc
@@ -134,11 +110,8 @@ class_same e = cc
 own_class : (c : Class) → has (c ∷ []) c ≡ true
 own_class AnyName = refl
 own_class AnyNumber = refl
-own_class (Keyword k) = rw (eq-eqb k k refl) refl
+own_class (Keyword k) = rw (same_word_self k) refl
 own_class (Mark k) = rw (eq-eqb k k refl) refl
-
-one_more : (k : ℕ) → k + 1 ≡ suc k
-one_more k = omega arith
 
 append_assoc : {A : Type 0} (xs ys zs : List A) → (xs ++ ys) ++ zs ≡ xs ++ (ys ++ zs)
 append_assoc [] ys zs = refl
@@ -260,7 +233,7 @@ module _ (tokens : List Token) (k : ℕ) where
           (token.kind, ap (option_map (λ token. token.kind)) is, same_is class next.next.class next.is ∙ (class_same (sym next.stands ∙ s.2) ∙ s.3))
 
 module _ {tokens : List Token} {k : ℕ} where
-  pub no_word : {w : ℕ} → NotNext tokens k (Word w) → NoneNext (Keyword w ∷ []) tokens k
+  pub no_word : {w : AnyKeyword} → NotNext tokens k (Word w) → NoneNext (Keyword w ∷ []) tokens k
   no_word {w} none = record { off = by_kind (kind_at tokens k) refl }
     where
       by_kind : (o : Option TokenKind) → kind_at tokens k ≡ o → next_among (Keyword w ∷ []) o ≡ false
@@ -276,7 +249,7 @@ module _ {tokens : List Token} {k : ℕ} where
 
   -- ---- what stands next
 
-  pub next_word : {w : ℕ} {b : List Piece} → Awaits (word w ∷ b) tokens k → kind_at tokens k ≡ Some (Word w)
+  pub next_word : {w : AnyKeyword} {b : List Piece} → Awaits (word w ∷ b) tokens k → kind_at tokens k ≡ Some (Word w)
   next_word {w} a = let h = kind_next tokens k a.here.expects in h.1 ∙ ap Some (class_word h.0 w h.2)
 
   pub next_sign : {w : ℕ} {b : List Piece} → Awaits (sign w ∷ b) tokens k → kind_at tokens k ≡ Some (Sign w)
@@ -330,7 +303,7 @@ module _ {tokens : List Token} {k : ℕ} where
     goes = λ rest e. let n = expects_token class (b ++ rest) (left tokens k) e.expects in
         record {
           within = token_within tokens k next (kind_next tokens k e.expects).1;
-          expects = subst (Expects (b ++ rest)) (sym (ap (left tokens) (next ∙ one_more k) ∙ drop_next k (views tokens) n.stands)) n.expects;
+          expects = subst (Expects (b ++ rest)) (sym (ap (left tokens) (next ∙ plus_one k) ∙ drop_next k (views tokens) n.stands)) n.expects;
         };
   }
 
@@ -372,7 +345,7 @@ module _ {tokens : List Token} {k : ℕ} where
     where
       opens_one : (rest : List Piece) → Expects (the part ∷ b ++ rest) (left tokens k) → Expects (p ++ (b ++ rest)) (left tokens k)
       opens_one rest e = decided tokens k e may (Expects (p ++ (b ++ rest)) (left tokens k))
-          (λ none may_end expects. absurd (no_truth (sym may_end ∙ never)))
+          (λ none may_end expects. absurd (true_not_false (sym may_end ∙ never)))
           (λ kind q at on expects. opens_last tokens k p (each kind at).0 may at (each kind at).1 e)
 
   -- a part has one production
@@ -383,7 +356,7 @@ module _ {tokens : List Token} {k : ℕ} where
   -- a part that isn't absent doesn't begin at the end
   pub never_ends : {part : Part} {b : List Piece} → ((view : TokenView) → permits part view ≡ true) →
       has_empty (productions part) ≡ false → Awaits (the part ∷ b) tokens k → kind_at tokens k ≡ None → ⊥
-  never_ends may never a is = decided tokens k a.here.expects may ⊥ (λ none may_end expects. no_truth (sym may_end ∙ never))
+  never_ends may never a is = decided tokens k a.here.expects may ⊥ (λ none may_end expects. true_not_false (sym may_end ∙ never))
       (λ kind q at on expects. no_some (sym is ∙ at))
 
   -- nor at a token that decides on no production
@@ -411,7 +384,7 @@ module _ {tokens : List Token} {k : ℕ} where
   }
     where
       stuck : (rest : List Piece) → Expects (Terminal class ∷ b ++ rest) (left tokens k) → ⊥
-      stuck rest e = let h = kind_next tokens k e in no_truth
+      stuck rest e = let h = kind_next tokens k e in true_not_false
           (sym (subst (λ c. has (c ∷ []) (class_of h.0) ≡ true) (sym h.2) (own_class (class_of h.0)))
           ∙ subst (λ o. next_among (class ∷ []) o ≡ false) h.1 off.off)
 

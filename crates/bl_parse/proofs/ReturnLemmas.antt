@@ -1,35 +1,13 @@
 -- What a `return` has after it.
-use Rattle.std.proofs.Common.{
-  ◌≡◌,
-  ℕ,
-  zero,
-  suc,
-  ◌+◌,
-  Bool,
-  true,
-  false,
-  not,
-  cond,
-  ◌&&◌,
-  ◌||◌,
-  List,
-  [],
-  ◌∷◌,
-  ◌++◌,
-  drop,
-  refl,
-  ap,
-  sym,
-  ◌∙◌,
-  subst,
-  arith,
-}
+use Rattle.std.proofs.Common.{◌≡◌, ℕ, zero, suc, ◌+◌, Bool, true, false, not, cond, ◌&&◌, ◌||◌, List, [], ◌∷◌, ◌++◌, drop, refl, ap, sym, ◌∙◌, subst, arith}
 use Rattle.std.specs.Prelude.{Option, Some, None, slice_get, option_map, nat_eq}
-use Rattle.std.proofs.lemmas.Bool.{eq-eqb, eqb-true}
+use Rattle.bl_tree.proofs.Basics.{number_test_swap}
+use Rattle.bl_tree.proofs.KeywordLemmas.{same_word_swap}
 use Rattle.bl_tree.specs.declared.token.Token.{Token}
 use Rattle.bl_tree.specs.declared.token.TokenKind.{TokenKind}
 use Rattle.bl_tree.specs.declared.token.TokenKind.TheVariants.{Name, Number, Word, Sign}
-use Rattle.bl_lex.specs.declared.word.TheConstants.{NOT, TRUE, FALSE, PREV, VAR, LET, CONST, AWAIT, RUN, COBEGIN, WHEN, REPEAT, WHILE, IF, RETURN}
+use Rattle.bl_tree.specs.declared.token.Keyword.TheVariants as keyword
+use Rattle.bl_tree.specs.Keywords.{same_word}
 use Rattle.bl_lex.specs.declared.sign.TheConstants.{OPEN_PAREN, MINUS, TILDE}
 use Rattle.bl_parse_syntax.specs.declared.grammar.TokenView.{TokenView}
 use Rattle.bl_parse_syntax.specs.declared.grammar.Part.TheVariants.{AfterReturn, Expr}
@@ -43,23 +21,14 @@ use Rattle.bl_parse.specs.Operators.{begins_expr}
 use Rattle.bl_parse.specs.inner.Reading.{left, next_among, Turns}
 use Rattle.bl_parse.specs.Statements.{begins_stmt, goes_on, takes_value}
 
-eq_sym : (a b : ℕ) → nat_eq a b ≡ nat_eq b a
-eq_sym a b = by_test (nat_eq a b) (nat_eq b a) refl refl
-  where
-    by_test : (p q : Bool) → nat_eq a b ≡ p → nat_eq b a ≡ q → p ≡ q
-    by_test true true e f = refl
-    by_test true false e f = sym (eq-eqb b a (sym (eqb-true a b e))) ∙ f
-    by_test false true e f = sym e ∙ eq-eqb a b (sym (eqb-true b a f))
-    by_test false false e f = refl
-
-four : (a b c d : Bool) → a || (b || (c || d)) ≡ a || (b || (c || (d || false)))
+pub four : (a b c d : Bool) → a || (b || (c || d)) ≡ a || (b || (c || (d || false)))
 four true b c d = refl
 four false true c d = refl
 four false false true d = refl
 four false false false true = refl
 four false false false false = refl
 
-three : (a b c : Bool) → a || (b || c) ≡ b || (c || (a || false))
+pub three : (a b c : Bool) → a || (b || c) ≡ b || (c || (a || false))
 three true true c = refl
 three true false true = refl
 three true false false = refl
@@ -70,8 +39,9 @@ three false false false = refl
 begins_is : (kind : TokenKind) → begins_expr kind ≡ has expression_starts (class_of kind)
 begins_is Name = refl
 begins_is (Number n) = refl
-begins_is (Word k) = rw (eq_sym k NOT, eq_sym k TRUE, eq_sym k FALSE, eq_sym k PREV) (four (nat_eq NOT k) (nat_eq TRUE k) (nat_eq FALSE k) (nat_eq PREV k))
-begins_is (Sign k) = rw (eq_sym k OPEN_PAREN, eq_sym k MINUS, eq_sym k TILDE) (three (nat_eq OPEN_PAREN k) (nat_eq MINUS k) (nat_eq TILDE k))
+begins_is (Word k) = rw (same_word_swap k keyword.Not, same_word_swap k keyword.True, same_word_swap k keyword.False, same_word_swap k keyword.Prev)
+    (four (same_word keyword.Not k) (same_word keyword.True k) (same_word keyword.False k) (same_word keyword.Prev k))
+begins_is (Sign k) = rw (number_test_swap k OPEN_PAREN, number_test_swap k MINUS, number_test_swap k TILDE) (three (nat_eq OPEN_PAREN k) (nat_eq MINUS k) (nat_eq TILDE k))
 
 after_return : (v : TokenView) → pick AfterReturn v ≡ or_absent true
     (cond (not v.fresh) (cond (has expression_starts v.class) (Some (the Expr ∷ [])) None) None)
@@ -89,7 +59,7 @@ get_head zero (x ∷ xs) = refl
 get_head (suc k) [] = refl
 get_head (suc k) (x ∷ xs) = get_head k xs
 
-views_from : (before : Option ℕ) (tokens : List Token) (k : ℕ) (one : Token) → slice_get tokens k ≡ Some one
+pub views_from : (before : Option ℕ) (tokens : List Token) (k : ℕ) (one : Token) → slice_get tokens k ≡ Some one
     → drop (suc k) (views_after before tokens) ≡ views_after (Some one.line) (drop (suc k) tokens)
 views_from before [] k one e = cc
 views_from before (x ∷ xs) zero one e = ap (λ line. views_after (Some line) xs) (same_line e)
@@ -187,16 +157,16 @@ stmt_starts (Some Name) = refl
 stmt_starts (Some (Number n)) = refl
 stmt_starts (Some (Sign s)) = refl
 stmt_starts (Some (Word k)) = rw (
-  eq_sym k VAR,
-  eq_sym k LET,
-  eq_sym k CONST,
-  eq_sym k AWAIT,
-  eq_sym k RUN,
-  eq_sym k COBEGIN,
-  eq_sym k WHEN,
-  eq_sym k REPEAT,
-  eq_sym k WHILE,
-  eq_sym k IF,
-  eq_sym k RETURN,
-  or_end (nat_eq RETURN k),
+  same_word_swap k keyword.Var,
+  same_word_swap k keyword.Let,
+  same_word_swap k keyword.Const,
+  same_word_swap k keyword.Await,
+  same_word_swap k keyword.Run,
+  same_word_swap k keyword.Cobegin,
+  same_word_swap k keyword.When,
+  same_word_swap k keyword.Repeat,
+  same_word_swap k keyword.While,
+  same_word_swap k keyword.If,
+  same_word_swap k keyword.Return,
+  or_end (same_word keyword.Return k),
 ) refl

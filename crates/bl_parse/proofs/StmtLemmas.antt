@@ -1,11 +1,13 @@
 -- Laws of spelled statements, and which keyword is left at the beginning of one.
 use Rattle.std.proofs.Common.{◌≡◌, ℕ, Bool, true, false, ◌||◌, List, ◌∷◌, refl, ap, sym, ◌∙◌}
-use Rattle.std.specs.Prelude.{Some, None, nat_eq}
-use Rattle.std.proofs.lemmas.Bool.{eqb-true}
+use Rattle.std.specs.Prelude.{Some, None}
+use Rattle.bl_tree.proofs.KeywordLemmas.{same_word_is}
 use Rattle.bl_tree.specs.declared.place.Place.{Place}
 use Rattle.bl_tree.specs.declared.token.Token.{Token}
 use Rattle.bl_tree.specs.declared.token.TokenKind.TheVariants.{Word}
-use Rattle.bl_lex.specs.declared.word.TheConstants.{VAR, LET, CONST, AWAIT, RUN, COBEGIN, WHEN, REPEAT, WHILE, IF, RETURN}
+use Rattle.bl_tree.specs.declared.token.Keyword.{Keyword}
+use Rattle.bl_tree.specs.declared.token.Keyword.TheVariants as keyword
+use Rattle.bl_tree.specs.Keywords.{same_word}
 use Rattle.bl_parse_syntax.specs.declared.grammar.Class.{Class}
 use Rattle.bl_parse_syntax.specs.declared.grammar.Class.TheVariants.{Keyword}
 use Rattle.bl_parse_syntax.specs.declared.grammar.Part.TheVariants.{Stmt}
@@ -34,22 +36,23 @@ all_off : (a b c d e f g h i j l : Bool) → a ≡ false → b ≡ false → c �
     → j ≡ false → l ≡ false → a || (b || (c || (false || (d || (e || (f || (g || (h || (i || (j || (l || false))))))))))) ≡ false
 all_off a b c d e f g h i j l ea eb ec ed ee ef eg eh ei ej el = rw (ea, eb, ec, ed, ee, ef, eg, eh, ei, ej, el) refl
 
-no_eq : (a w : ℕ) → (w ≡ a → ⊥) → nat_eq a w ≡ false
-no_eq a w none = by_test (nat_eq a w) refl
+no_eq : (a w : Keyword) → (w ≡ a → ⊥) → same_word a w ≡ false
+no_eq a w none = by_test (same_word a w) refl
   where
-    by_test : (b : Bool) → nat_eq a w ≡ b → b ≡ false
-    by_test true e = absurd (none (sym (eqb-true a w e)))
+    by_test : (b : Bool) → same_word a w ≡ b → b ≡ false
+    by_test true e = absurd (none (sym (same_word_is a w e)))
     by_test false e = refl
 
 -- where a statement begins with a keyword that is none of the others, it is `return`
-pub return_left : {tokens : List Token} {k : ℕ} {b : List Piece} (w : ℕ) → kind_at tokens k ≡ Some (Word w) → Awaits (the Stmt ∷ b) tokens k
-    → (w ≡ VAR → ⊥) → (w ≡ LET → ⊥) → (w ≡ CONST → ⊥) → (w ≡ AWAIT → ⊥) → (w ≡ RUN → ⊥) → (w ≡ COBEGIN → ⊥) →
-    (w ≡ WHEN → ⊥)
-    → (w ≡ REPEAT → ⊥) → (w ≡ WHILE → ⊥) → (w ≡ IF → ⊥) → kind_at tokens k ≡ Some (Word RETURN)
-return_left {tokens} {k} w is awaits na nb nc nd ne nf ng nh ni nj = by_test (nat_eq RETURN w) refl
+pub return_left : {tokens : List Token} {k : ℕ} {b : List Piece} (w : Keyword) → kind_at tokens k ≡ Some (Word w) → Awaits (the Stmt ∷ b) tokens k
+    → (w ≡ keyword.Var → ⊥) → (w ≡ keyword.Let → ⊥) → (w ≡ keyword.Const → ⊥) → (w ≡ keyword.Await → ⊥) → (w ≡ keyword.Run → ⊥) → (w ≡ keyword.Cobegin → ⊥) →
+    (w ≡ keyword.When → ⊥)
+    → (w ≡ keyword.Repeat → ⊥) → (w ≡ keyword.While → ⊥) → (w ≡ keyword.If → ⊥) → kind_at tokens k ≡ Some (Word keyword.Return)
+return_left {tokens} {k} w is awaits na nb nc nd ne nf ng nh ni nj = by_test (same_word keyword.Return w) refl
   where
-    by_test : (b : Bool) → nat_eq RETURN w ≡ b → kind_at tokens k ≡ Some (Word RETURN)
-    by_test true e = is ∙ ap (λ n. Some (Word n)) (sym (eqb-true RETURN w e))
+    by_test : (b : Bool) → same_word keyword.Return w ≡ b → kind_at tokens k ≡ Some (Word keyword.Return)
+    by_test true e = is ∙ ap (λ n. Some (Word n)) (sym (same_word_is keyword.Return w e))
     by_test false e = absurd (never (λ v. refl) is (stmt_never (Keyword w)
-        (all_off _ _ _ _ _ _ _ _ _ _ _ (no_eq VAR w na) (no_eq LET w nb) (no_eq CONST w nc) (no_eq AWAIT w nd)
-        (no_eq RUN w ne) (no_eq COBEGIN w nf) (no_eq WHEN w ng) (no_eq REPEAT w nh) (no_eq WHILE w ni) (no_eq IF w nj) e)) awaits)
+        (all_off _ _ _ _ _ _ _ _ _ _ _ (no_eq keyword.Var w na) (no_eq keyword.Let w nb) (no_eq keyword.Const w nc) (no_eq keyword.Await w nd)
+        (no_eq keyword.Run w ne) (no_eq keyword.Cobegin w nf) (no_eq keyword.When w ng) (no_eq keyword.Repeat w nh)
+        (no_eq keyword.While w ni) (no_eq keyword.If w nj) e)) awaits)

@@ -1,29 +1,6 @@
 -- Which token a kind is, from the tests that code makes of it, and what was read of a name.
-use Rattle.std.proofs.Common.{
-  ◌≡◌,
-  ℕ,
-  ◌<◌,
-  Bool,
-  true,
-  false,
-  not,
-  ◌&&◌,
-  ◌||◌,
-  ◌⊎◌,
-  inl,
-  inr,
-  ⊎_elim,
-  List,
-  [],
-  ◌∷◌,
-  slice_range,
-  refl,
-  ap,
-  sym,
-  ◌∙◌,
-  arith,
-  lit≤,
-}
+use Rattle.std.proofs.Common.{◌≡◌, ℕ, ◌<◌, Bool, true, false, not, ◌&&◌, ◌||◌, ◌⊎◌, inl, inr, ⊎_elim, List, [], ◌∷◌, slice_range, refl, ap, sym, ◌∙◌, arith}
+use Rattle.std.proofs.Common.{lit≤}
 use Rattle.std.specs.Prelude.{nat_le}
 use Rattle.std.specs.List.{list_all}
 use Rattle.std.specs.Char.{is_ascii_digit}
@@ -35,15 +12,12 @@ use Rattle.std.proofs.lemmas.Str.Ascii.{IsAscii-nil, IsAscii-cons}
 use Rattle.bl_tree.specs.Words.{is_word_byte, is_plain_word, is_name}
 use Rattle.bl_tree.specs.declared.token.Token.{Token}
 use Rattle.bl_tree.specs.declared.token.TokenKind.{TokenKind}
-use Rattle.bl_tree.specs.declared.token.TokenKind.TheVariants.{Word, Sign}
+use Rattle.bl_tree.specs.declared.token.TokenKind.TheVariants.{Sign}
 use Rattle.bl_parse_tree.specs.declared.name.Name.{Name}
 use Rattle.bl_parse.specs.At.{start_at, end_at, name_at}
 
 pub sign_is : {kind : TokenKind} {k n m : ℕ} → kind ≡ Sign k → m ≡ k → m ≡ n → kind ≡ Sign n
 sign_is is same test = is ∙ ap Sign (sym same ∙ test)
-
-pub word_is : {kind : TokenKind} {k n m : ℕ} → kind ≡ Word k → m ≡ k → m ≡ n → kind ≡ Word n
-word_is is same test = is ∙ ap Word (sym same ∙ test)
 
 -- what was read of a name is the name at the token
 pub name_spelled : (text : List ℕ) (tokens : List Token) (k : ℕ) {bytes : List ℕ} {start end : ℕ} →

@@ -7,7 +7,7 @@ use Rattle.bl_tree.specs.declared.token.Token.{Token}
 use Rattle.bl_tree.specs.declared.token.TokenKind.{TokenKind}
 use Rattle.bl_tree.specs.declared.token.TokenKind.TheVariants.{Number, Word, Sign}
 use Rattle.bl_lex.specs.declared.sign.TheConstants.{OPEN_PAREN, CLOSE_PAREN, OPEN_BRACKET, CLOSE_BRACKET, COMMA, DOT, MINUS}
-use Rattle.bl_lex.specs.declared.word.TheConstants.{AS, TRUE, FALSE, PREV}
+use Rattle.bl_tree.specs.declared.token.Keyword.TheVariants as keyword
 use Rattle.bl_parse_tree.specs.declared.expr.RawExpr.{RawExpr, roll-RawExpr}
 use Rattle.bl_parse_tree.specs.declared.expr.RawExprKind.{RawExprKind}
 use Rattle.bl_parse_tree.specs.declared.expr.RawExprKind as kind
@@ -33,8 +33,8 @@ is_number _ = false
 
 -- the words of the two truths
 pub data IsTruth : TokenKind → Bool → Type 0 where
-  yes : IsTruth (Word TRUE) true
-  no : IsTruth (Word FALSE) false
+  yes : IsTruth (Word keyword.True) true
+  no : IsTruth (Word keyword.False) false
 
 -- the token is a truth
 pub record SpellsTruth (tokens : List Token) (b : Bool) (from to : ℕ) : Type 0 where
@@ -57,7 +57,7 @@ mutual
         → e ≡ expr (span tokens from to) (kind.Two op a b) → SpellsExpr text tokens level e from to
     -- operand, `as`, type
     cast : {level : ℕ} {e a : RawExpr} {from m n to : ℕ} {s : ScalarType} → level ≤ casting
-        → SpellsExpr text tokens casting a from m → Takes tokens (Word AS) m n → SpellsScalar tokens s n to
+        → SpellsExpr text tokens casting a from m → Takes tokens (Word keyword.As) m n → SpellsScalar tokens s n to
         → e ≡ expr (span tokens from to) (kind.Cast s a) → SpellsExpr text tokens level e from to
     -- a minus directly before a number belongs to it
     negative : {level n : ℕ} {e : RawExpr} {from m to : ℕ} → level ≤ prefixing
@@ -72,7 +72,7 @@ mutual
     truth : {level : ℕ} {e : RawExpr} {from to : ℕ} {b : Bool} → SpellsTruth tokens b from to
         → e ≡ expr (span tokens from to) (kind.Truth b) → SpellsExpr text tokens level e from to
     -- `prev` and a name
-    before : {level : ℕ} {e : RawExpr} {from m to : ℕ} {name : Name} → Takes tokens (Word PREV) from m → SpellsName text tokens name m to
+    before : {level : ℕ} {e : RawExpr} {from m to : ℕ} {name : Name} → Takes tokens (Word keyword.Prev) from m → SpellsName text tokens name m to
         → e ≡ expr (span tokens from to) (kind.Prev name) → SpellsExpr text tokens level e from to
     read : {level : ℕ} {e : RawExpr} {place : RawTarget} {from to : ℕ} → SpellsTarget text tokens place from to
         → e ≡ expr (span tokens from to) (kind.Read place) → SpellsExpr text tokens level e from to

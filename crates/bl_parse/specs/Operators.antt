@@ -7,50 +7,13 @@ use Rattle.bl_tree.specs.declared.scalar.Width.TheVariants.{W8, W16, W32, W64}
 use Rattle.bl_tree.specs.declared.token.Token.{Token}
 use Rattle.bl_tree.specs.declared.token.TokenKind.{TokenKind}
 use Rattle.bl_tree.specs.declared.token.TokenKind.TheVariants.{Name, Number, Word, Sign}
-use Rattle.bl_lex.specs.declared.sign.TheConstants.{
-  EQUAL,
-  NOT_EQUAL,
-  LESS,
-  LESS_OR_EQUAL,
-  GREATER,
-  GREATER_OR_EQUAL,
-  PLUS,
-  MINUS,
-  STAR,
-  SLASH,
-  PERCENT,
-  AMPERSAND,
-  BAR,
-  CARET,
-  TILDE,
-  SHIFT_LEFT,
-  SHIFT_RIGHT,
-  OPEN_PAREN,
-}
+use Rattle.bl_lex.specs.declared.sign.TheConstants.{EQUAL, NOT_EQUAL, LESS, LESS_OR_EQUAL, GREATER, GREATER_OR_EQUAL, PLUS, MINUS, STAR, SLASH, PERCENT}
+use Rattle.bl_lex.specs.declared.sign.TheConstants.{AMPERSAND, BAR, CARET, TILDE, SHIFT_LEFT, SHIFT_RIGHT, OPEN_PAREN}
 use Rattle.bl_parse_syntax.specs.declared.grammar.Class.{Class}
 use Rattle.bl_parse_syntax.specs.declared.grammar.Class.TheVariants.{Keyword, Mark}
 use Rattle.bl_parse.specs.At.{Takes}
-use Rattle.bl_lex.specs.declared.word.TheConstants.{
-  AND,
-  OR,
-  NOT,
-  TRUE,
-  FALSE,
-  PREV,
-  BOOL,
-  INT8,
-  INT16,
-  INT32,
-  INT64,
-  NAT8,
-  NAT16,
-  NAT32,
-  NAT64,
-  BITS8,
-  BITS16,
-  BITS32,
-  BITS64,
-}
+use Rattle.bl_tree.specs.declared.token.Keyword.TheVariants as keyword
+use Rattle.bl_tree.specs.Keywords.{same_word}
 
 -- the level of a comparison
 abbrev pub comparing : ℕ
@@ -66,8 +29,8 @@ prefixing = 10
 
 -- the operators with two operands, each with its level: a greater one binds more tightly
 pub data IsOperator : TokenKind → ℕ → Op → Type 0 where
-  either : IsOperator (Word OR) 0 Op.Or
-  both : IsOperator (Word AND) 1 Op.And
+  either : IsOperator (Word keyword.Or) 0 Op.Or
+  both : IsOperator (Word keyword.And) 1 Op.And
   equal : IsOperator (Sign EQUAL) 2 Op.Eq
   differs : IsOperator (Sign NOT_EQUAL) 2 Op.Ne
   less : IsOperator (Sign LESS) 2 Op.Lt
@@ -99,7 +62,7 @@ pub record SpellsInfix (tokens : List Token) (level : ℕ) (op : Op) (from to : 
 pub data IsPrefix : TokenKind → Op → Type 0 where
   negation : IsPrefix (Sign MINUS) Op.Minus
   complement : IsPrefix (Sign TILDE) Op.BitNot
-  denial : IsPrefix (Word NOT) Op.Not
+  denial : IsPrefix (Word keyword.Not) Op.Not
 
 -- the token is an operator before one operand
 pub record SpellsPrefix (tokens : List Token) (op : Op) (from to : ℕ) : Type 0 where
@@ -109,19 +72,19 @@ pub record SpellsPrefix (tokens : List Token) (op : Op) (from to : ℕ) : Type 0
 
 -- the words of the types without parts
 pub data IsScalar : TokenKind → Scalar → Type 0 where
-  bool : IsScalar (Word BOOL) OfBool
-  int8 : IsScalar (Word INT8) (Int W8)
-  int16 : IsScalar (Word INT16) (Int W16)
-  int32 : IsScalar (Word INT32) (Int W32)
-  int64 : IsScalar (Word INT64) (Int W64)
-  nat8 : IsScalar (Word NAT8) (Nat W8)
-  nat16 : IsScalar (Word NAT16) (Nat W16)
-  nat32 : IsScalar (Word NAT32) (Nat W32)
-  nat64 : IsScalar (Word NAT64) (Nat W64)
-  bits8 : IsScalar (Word BITS8) (Bits W8)
-  bits16 : IsScalar (Word BITS16) (Bits W16)
-  bits32 : IsScalar (Word BITS32) (Bits W32)
-  bits64 : IsScalar (Word BITS64) (Bits W64)
+  bool : IsScalar (Word keyword.Bool) OfBool
+  int8 : IsScalar (Word keyword.Int8) (Int W8)
+  int16 : IsScalar (Word keyword.Int16) (Int W16)
+  int32 : IsScalar (Word keyword.Int32) (Int W32)
+  int64 : IsScalar (Word keyword.Int64) (Int W64)
+  nat8 : IsScalar (Word keyword.Nat8) (Nat W8)
+  nat16 : IsScalar (Word keyword.Nat16) (Nat W16)
+  nat32 : IsScalar (Word keyword.Nat32) (Nat W32)
+  nat64 : IsScalar (Word keyword.Nat64) (Nat W64)
+  bits8 : IsScalar (Word keyword.Bits8) (Bits W8)
+  bits16 : IsScalar (Word keyword.Bits16) (Bits W16)
+  bits32 : IsScalar (Word keyword.Bits32) (Bits W32)
+  bits64 : IsScalar (Word keyword.Bits64) (Bits W64)
 
 -- the token names a type without parts
 pub record SpellsScalar (tokens : List Token) (s : Scalar) (from to : ℕ) : Type 0 where
@@ -134,19 +97,19 @@ abbrev pub begins_expr : TokenKind → Bool
 begins_expr Name = true
 begins_expr (Number n) = true
 begins_expr (Sign k) = nat_eq k OPEN_PAREN || (nat_eq k MINUS || nat_eq k TILDE)
-begins_expr (Word k) = nat_eq k NOT || (nat_eq k TRUE || (nat_eq k FALSE || nat_eq k PREV))
+begins_expr (Word k) = same_word k keyword.Not || (same_word k keyword.True || (same_word k keyword.False || same_word k keyword.Prev))
 
 -- the words of the types without parts, as the grammar sees them
 abbrev pub scalar_classes : List Class
 scalar_classes =
-    Keyword BOOL ∷ Keyword INT8 ∷ Keyword INT16 ∷ Keyword INT32 ∷ Keyword INT64 ∷ Keyword NAT8 ∷ Keyword NAT16 ∷ Keyword NAT32
-    ∷ Keyword NAT64 ∷
-    Keyword BITS8 ∷ Keyword BITS16 ∷ Keyword BITS32 ∷ Keyword BITS64 ∷ []
+    Keyword keyword.Bool ∷ Keyword keyword.Int8 ∷ Keyword keyword.Int16 ∷ Keyword keyword.Int32 ∷ Keyword keyword.Int64 ∷
+    Keyword keyword.Nat8 ∷ Keyword keyword.Nat16 ∷ Keyword keyword.Nat32 ∷ Keyword keyword.Nat64 ∷
+    Keyword keyword.Bits8 ∷ Keyword keyword.Bits16 ∷ Keyword keyword.Bits32 ∷ Keyword keyword.Bits64 ∷ []
 
 -- the operators with two operands, as the grammar sees them
 abbrev pub operator_classes : List Class
 operator_classes =
-    Keyword OR ∷ Keyword AND ∷ Mark EQUAL ∷ Mark NOT_EQUAL ∷ Mark LESS ∷ Mark LESS_OR_EQUAL ∷ Mark GREATER ∷ Mark GREATER_OR_EQUAL ∷
+    Keyword keyword.Or ∷ Keyword keyword.And ∷ Mark EQUAL ∷ Mark NOT_EQUAL ∷ Mark LESS ∷ Mark LESS_OR_EQUAL ∷ Mark GREATER ∷ Mark GREATER_OR_EQUAL ∷
     Mark BAR ∷ Mark CARET ∷ Mark AMPERSAND ∷ Mark SHIFT_LEFT ∷ Mark SHIFT_RIGHT ∷ Mark PLUS ∷ Mark MINUS ∷ Mark STAR ∷ Mark SLASH
     ∷ Mark PERCENT ∷ []
 

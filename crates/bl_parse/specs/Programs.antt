@@ -6,7 +6,7 @@ use Rattle.bl_tree.specs.declared.token.TokenKind.TheVariants.{Name, Word, Sign}
 use Rattle.bl_tree.specs.declared.tree.UnitKind.{UnitKind}
 use Rattle.bl_tree.specs.declared.tree.UnitKind.TheVariants.{Function, Activity}
 use Rattle.bl_lex.specs.declared.sign.TheConstants.{OPEN_PAREN, CLOSE_PAREN, OPEN_BRACKET, CLOSE_BRACKET, COMMA, AT}
-use Rattle.bl_lex.specs.declared.word.TheConstants.{VAR, STRUCT, FUNCTION, ACTIVITY, RETURNS, END}
+use Rattle.bl_tree.specs.declared.token.Keyword.TheVariants as keyword
 use Rattle.bl_parse_tree.specs.declared.item.RawField.{RawField}
 use Rattle.bl_parse_tree.specs.declared.item.RawItem.{RawItem}
 use Rattle.bl_parse_tree.specs.declared.item.RawParam.{RawParam}
@@ -25,7 +25,7 @@ use Rattle.bl_parse.specs.Types.{SpellsType}
 pub record SpellsField (text : List ℕ) (tokens : List Token) (field : RawField) (from to : ℕ) : Type 0 where
   pub m : ℕ
   pub n : ℕ
-  pub word : Takes tokens (Word VAR) from m
+  pub word : Takes tokens (Word keyword.Var) from m
   pub name : SpellsName text tokens field.name m n
   pub ty : SpellsTyping text tokens field.ty n to
 
@@ -41,10 +41,10 @@ pub record SpellsStruct (text : List ℕ) (tokens : List Token) (def : RawStruct
   pub m : ℕ
   pub n : ℕ
   pub o : ℕ
-  pub word : Takes tokens (Word STRUCT) from m
+  pub word : Takes tokens (Word keyword.Struct) from m
   pub name : SpellsName text tokens def.name m n
   pub fields : SpellsFieldList text tokens def.fields n o
-  pub end : Takes tokens (Word END) o to
+  pub end : Takes tokens (Word keyword.End) o to
 
 -- ---- units
 
@@ -56,8 +56,8 @@ pub data SpellsMark (tokens : List Token) : Bool → ℕ → ℕ → Type 0 wher
 
 -- the words of the two kinds of units
 pub data IsUnit : TokenKind → UnitKind → Type 0 where
-  function : IsUnit (Word FUNCTION) Function
-  activity : IsUnit (Word ACTIVITY) Activity
+  function : IsUnit (Word keyword.Function) Function
+  activity : IsUnit (Word keyword.Activity) Activity
 
 -- the token is `function` or `activity`
 pub record SpellsUnitKind (tokens : List Token) (kind : UnitKind) (from to : ℕ) : Type 0 where
@@ -94,7 +94,7 @@ pub data SpellsOutputParams (text : List ℕ) (tokens : List Token) : List RawPa
 -- nothing, or `returns` and a type
 pub data SpellsResult (text : List ℕ) (tokens : List Token) : Option RawType → ℕ → ℕ → Type 0 where
   absent : {result : Option RawType} {from to : ℕ} → result ≡ None → to ≡ from → SpellsResult text tokens result from to
-  written : {result : Option RawType} {ty : RawType} {from m to : ℕ} → Takes tokens (Word RETURNS) from m → SpellsType text tokens ty m to
+  written : {result : Option RawType} {ty : RawType} {from m to : ℕ} → Takes tokens (Word keyword.Returns) from m → SpellsType text tokens ty m to
       → result ≡ Some ty → SpellsResult text tokens result from to
 
 -- maybe a mark, `function` or `activity`, a name, inputs, maybe outputs, maybe a result, a block and `end`
@@ -113,7 +113,7 @@ pub record SpellsUnit (text : List ℕ) (tokens : List Token) (unit : RawUnit) (
   pub outputs : SpellsOutputParams text tokens unit.outputs p q
   pub result : SpellsResult text tokens unit.result q r
   pub body : SpellsBlock text tokens unit.body r s
-  pub end : Takes tokens (Word END) s to
+  pub end : Takes tokens (Word keyword.End) s to
 
 -- ---- the whole
 

@@ -1,50 +1,13 @@
 -- How tokens spell a statement.
-use Rattle.std.specs.Prelude.{
-  ◌≡◌,
-  ℕ,
-  ◌+◌,
-  List,
-  [],
-  ◌∷◌,
-  ◌++◌,
-  Bool,
-  true,
-  false,
-  ◌&&◌,
-  ◌||◌,
-  nat_eq,
-  slice_get,
-  Option,
-  Some,
-  None,
-}
+use Rattle.std.specs.Prelude.{◌≡◌, ℕ, ◌+◌, List, [], ◌∷◌, ◌++◌, Bool, true, false, ◌&&◌, ◌||◌, nat_eq, slice_get, Option, Some, None}
 use Rattle.bl_tree.specs.declared.token.Token.{Token}
 use Rattle.bl_tree.specs.declared.token.TokenKind.{TokenKind}
 use Rattle.bl_tree.specs.declared.token.TokenKind.TheVariants.{Name as NameToken, Word, Sign}
 use Rattle.bl_tree.specs.declared.tree.Guard.{Guard}
 use Rattle.bl_lex.specs.declared.sign.TheConstants.{OPEN_PAREN, CLOSE_PAREN, COMMA, DOT, COLON, ASSIGN}
-use Rattle.bl_lex.specs.declared.word.TheConstants.{
-  VAR,
-  LET,
-  CONST,
-  AWAIT,
-  RUN,
-  COBEGIN,
-  WEAK,
-  WITH,
-  WHEN,
-  ABORT,
-  RESET,
-  REPEAT,
-  UNTIL,
-  WHILE,
-  IF,
-  THEN,
-  ELSEIF,
-  ELSE,
-  END,
-  RETURN,
-}
+use Rattle.bl_tree.specs.declared.token.Keyword.{Keyword}
+use Rattle.bl_tree.specs.declared.token.Keyword.TheVariants as keyword
+use Rattle.bl_tree.specs.Keywords.{same_word}
 use Rattle.bl_parse_tree.specs.declared.expr.RawExpr.{RawExpr}
 use Rattle.bl_parse_tree.specs.declared.expr.RawTarget.{RawTarget}
 use Rattle.bl_parse_tree.specs.declared.name.Name.{Name}
@@ -92,7 +55,7 @@ pub record SpellsConstant (text : List ℕ) (tokens : List Token) (constant : Ra
   pub m : ℕ
   pub n : ℕ
   pub o : ℕ
-  pub word : Takes tokens (Word CONST) from m
+  pub word : Takes tokens (Word keyword.Const) from m
   pub name : SpellsName text tokens constant.name m n
   pub typing : SpellsMaybeTyping text tokens constant.ty n o
   pub value : SpellsValue text tokens constant.value o to
@@ -142,10 +105,11 @@ abbrev pub takes_value : List Token → ℕ → Bool
 takes_value tokens k = goes_on (slice_get tokens k) (slice_get tokens (k + 1))
 
 -- the keywords that a statement may begin with
-abbrev pub leads_stmt : ℕ → Bool
+abbrev pub leads_stmt : Keyword → Bool
 leads_stmt k =
-    nat_eq k VAR || (nat_eq k LET || (nat_eq k CONST || (nat_eq k AWAIT || (nat_eq k RUN || (nat_eq k COBEGIN || (nat_eq k WHEN || (nat_eq k REPEAT ||
-    (nat_eq k WHILE || (nat_eq k IF || nat_eq k RETURN)))))))))
+    same_word k keyword.Var || (same_word k keyword.Let || (same_word k keyword.Const || (same_word k keyword.Await ||
+    (same_word k keyword.Run || (same_word k keyword.Cobegin || (same_word k keyword.When || (same_word k keyword.Repeat ||
+    (same_word k keyword.While || (same_word k keyword.If || same_word k keyword.Return)))))))))
 
 -- whether a statement may begin with the token
 abbrev pub begins_stmt : Option TokenKind → Bool
@@ -155,8 +119,8 @@ begins_stmt _ = false
 
 -- the words of the two guards
 pub data IsGuard : TokenKind → Guard → Type 0 where
-  abort : IsGuard (Word ABORT) Guard.Abort
-  reset : IsGuard (Word RESET) Guard.Reset
+  abort : IsGuard (Word keyword.Abort) Guard.Abort
+  reset : IsGuard (Word keyword.Reset) Guard.Reset
 
 -- the token is `abort` or `reset`
 pub record SpellsGuard (tokens : List Token) (guard : Guard) (from to : ℕ) : Type 0 where
@@ -167,7 +131,7 @@ pub record SpellsGuard (tokens : List Token) (guard : Guard) (from to : ℕ) : T
 -- nothing, or `weak`
 pub data SpellsWeak (tokens : List Token) : Bool → ℕ → ℕ → Type 0 where
   strong : {weak : Bool} {from to : ℕ} → weak ≡ false → to ≡ from → SpellsWeak tokens weak from to
-  weak : {weak : Bool} {from to : ℕ} → weak ≡ true → Takes tokens (Word WEAK) from to → SpellsWeak tokens weak from to
+  weak : {weak : Bool} {from to : ℕ} → weak ≡ true → Takes tokens (Word keyword.Weak) from to → SpellsWeak tokens weak from to
 
 -- ---- statements
 
@@ -180,15 +144,15 @@ mutual
   -- the tokens from a position up to another spell what a statement does, whichever kind of statement it is
   pub data SpellsKind (text : List ℕ) (tokens : List Token) : RawStmtKind → ℕ → ℕ → Type 0 where
     -- `var`, a name, a type, and maybe a value
-    typed : {what : RawStmtKind} {from m n o to : ℕ} {name : Name} {ty : RawType} {initial : Option RawExpr} → Takes tokens (Word VAR) from m
+    typed : {what : RawStmtKind} {from m n o to : ℕ} {name : Name} {ty : RawType} {initial : Option RawExpr} → Takes tokens (Word keyword.Var) from m
         → SpellsName text tokens name m n → SpellsTyping text tokens ty n o → SpellsInitial text tokens initial o to
         → what ≡ kind.Var name (Some ty) initial → SpellsKind text tokens what from to
     -- `var`, a name and a value
-    inferred : {what : RawStmtKind} {from m n to : ℕ} {name : Name} {value : RawExpr} → Takes tokens (Word VAR) from m
+    inferred : {what : RawStmtKind} {from m n to : ℕ} {name : Name} {value : RawExpr} → Takes tokens (Word keyword.Var) from m
         → SpellsName text tokens name m n → SpellsValue text tokens value n to
         → what ≡ kind.Var name None (Some value) → SpellsKind text tokens what from to
     -- `let`, a name, maybe a type, and a value
-    fixed : {what : RawStmtKind} {from m n o to : ℕ} {name : Name} {ty : Option RawType} {value : RawExpr} → Takes tokens (Word LET) from m
+    fixed : {what : RawStmtKind} {from m n o to : ℕ} {name : Name} {ty : Option RawType} {value : RawExpr} → Takes tokens (Word keyword.Let) from m
         → SpellsName text tokens name m n → SpellsMaybeTyping text tokens ty n o → SpellsValue text tokens value o to
         → what ≡ kind.Let name ty value → SpellsKind text tokens what from to
     constant : {what : RawStmtKind} {from to : ℕ} {constant : RawConstant} → SpellsConstant text tokens constant from to
@@ -199,42 +163,42 @@ mutual
     call : {what : RawStmtKind} {from m n to : ℕ} {name : Name} {inputs : List RawExpr} {outputs : List RawPath} → SpellsName text tokens name from m
         → SpellsInputs text tokens inputs m n → SpellsOutputs text tokens outputs n to
         → what ≡ kind.Call name inputs outputs → SpellsKind text tokens what from to
-    await : {what : RawStmtKind} {from m to : ℕ} {e : RawExpr} → Takes tokens (Word AWAIT) from m → SpellsExpr text tokens 0 e m to
+    await : {what : RawStmtKind} {from m to : ℕ} {e : RawExpr} → Takes tokens (Word keyword.Await) from m → SpellsExpr text tokens 0 e m to
         → what ≡ kind.Await e → SpellsKind text tokens what from to
     -- `run`, maybe what receives the result, a name, inputs and outputs
     run : {what : RawStmtKind} {from m n o p to : ℕ} {receiver : Option RawPath} {name : Name} {inputs : List RawExpr} {outputs : List RawPath}
-        → Takes tokens (Word RUN) from m → SpellsReceiver text tokens receiver m n → SpellsName text tokens name n o
+        → Takes tokens (Word keyword.Run) from m → SpellsReceiver text tokens receiver m n → SpellsName text tokens name n o
         → SpellsInputs text tokens inputs o p → SpellsOutputs text tokens outputs p to
         → what ≡ kind.Run receiver name inputs outputs → SpellsKind text tokens what from to
     -- `cobegin`, branches and `end`
-    cobegin : {what : RawStmtKind} {from m n to : ℕ} {branches : List RawBranch} → Takes tokens (Word COBEGIN) from m
-        → SpellsBranches text tokens branches m n → Takes tokens (Word END) n to
+    cobegin : {what : RawStmtKind} {from m n to : ℕ} {branches : List RawBranch} → Takes tokens (Word keyword.Cobegin) from m
+        → SpellsBranches text tokens branches m n → Takes tokens (Word keyword.End) n to
         → what ≡ kind.Cobegin branches → SpellsKind text tokens what from to
     -- `when`, a condition, `abort` or `reset`, a block and `end`
-    guarded : {what : RawStmtKind} {from m n o p to : ℕ} {e : RawExpr} {guard : Guard} {body : List RawStmt} → Takes tokens (Word WHEN) from m
-        → SpellsExpr text tokens 0 e m n → SpellsGuard tokens guard n o → SpellsBlock text tokens body o p → Takes tokens (Word END) p to
+    guarded : {what : RawStmtKind} {from m n o p to : ℕ} {e : RawExpr} {guard : Guard} {body : List RawStmt} → Takes tokens (Word keyword.When) from m
+        → SpellsExpr text tokens 0 e m n → SpellsGuard tokens guard n o → SpellsBlock text tokens body o p → Takes tokens (Word keyword.End) p to
         → what ≡ kind.When guard e body → SpellsKind text tokens what from to
     -- `repeat`, a block and `end`
-    repeat : {what : RawStmtKind} {from m n to : ℕ} {body : List RawStmt} → Takes tokens (Word REPEAT) from m
-        → SpellsBlock text tokens body m n → Takes tokens (Word END) n to
+    repeat : {what : RawStmtKind} {from m n to : ℕ} {body : List RawStmt} → Takes tokens (Word keyword.Repeat) from m
+        → SpellsBlock text tokens body m n → Takes tokens (Word keyword.End) n to
         → what ≡ kind.Repeat body → SpellsKind text tokens what from to
     -- `repeat`, a block, `until`, a condition and `end`
-    until : {what : RawStmtKind} {from m n o p to : ℕ} {body : List RawStmt} {e : RawExpr} → Takes tokens (Word REPEAT) from m
-        → SpellsBlock text tokens body m n → Takes tokens (Word UNTIL) n o → SpellsExpr text tokens 0 e o p → Takes tokens (Word END) p to
+    until : {what : RawStmtKind} {from m n o p to : ℕ} {body : List RawStmt} {e : RawExpr} → Takes tokens (Word keyword.Repeat) from m
+        → SpellsBlock text tokens body m n → Takes tokens (Word keyword.Until) n o → SpellsExpr text tokens 0 e o p → Takes tokens (Word keyword.End) p to
         → what ≡ kind.Until body e → SpellsKind text tokens what from to
     -- `while`, a condition, `repeat`, a block and `end`
-    while : {what : RawStmtKind} {from m n o p to : ℕ} {e : RawExpr} {body : List RawStmt} → Takes tokens (Word WHILE) from m
-        → SpellsExpr text tokens 0 e m n → Takes tokens (Word REPEAT) n o → SpellsBlock text tokens body o p → Takes tokens (Word END) p to
+    while : {what : RawStmtKind} {from m n o p to : ℕ} {e : RawExpr} {body : List RawStmt} → Takes tokens (Word keyword.While) from m
+        → SpellsExpr text tokens 0 e m n → Takes tokens (Word keyword.Repeat) n o → SpellsBlock text tokens body o p → Takes tokens (Word keyword.End) p to
         → what ≡ kind.While e body → SpellsKind text tokens what from to
     -- the arms, maybe an `else`, and `end`
     branching : {what : RawStmtKind} {from m n to : ℕ} {arms : List RawArm} {other : List RawStmt} → SpellsArms text tokens arms from m
-        → SpellsElse text tokens other m n → Takes tokens (Word END) n to
+        → SpellsElse text tokens other m n → Takes tokens (Word keyword.End) n to
         → what ≡ kind.If arms other → SpellsKind text tokens what from to
     -- `return` alone
-    returns : {what : RawStmtKind} {from to : ℕ} → Takes tokens (Word RETURN) from to → takes_value tokens from ≡ false
+    returns : {what : RawStmtKind} {from to : ℕ} → Takes tokens (Word keyword.Return) from to → takes_value tokens from ≡ false
         → what ≡ kind.Return None → SpellsKind text tokens what from to
     -- `return` and an expression
-    returns_value : {what : RawStmtKind} {from m to : ℕ} {e : RawExpr} → Takes tokens (Word RETURN) from m → takes_value tokens from ≡ true
+    returns_value : {what : RawStmtKind} {from m to : ℕ} {e : RawExpr} → Takes tokens (Word keyword.Return) from m → takes_value tokens from ≡ true
         → SpellsExpr text tokens 0 e m to
         → what ≡ kind.Return (Some e) → SpellsKind text tokens what from to
 
@@ -245,22 +209,22 @@ mutual
         → all ≡ body ++ s ∷ [] → SpellsBlock text tokens all from to
 
   -- `if` or `elseif`, a condition, `then` and a block
-  pub data SpellsArm (text : List ℕ) (tokens : List Token) : ℕ → RawArm → ℕ → ℕ → Type 0 where
-    headed : {head : ℕ} {arm : RawArm} {from m n o to : ℕ} {e : RawExpr} {body : List RawStmt} → Takes tokens (Word head) from m
-        → SpellsExpr text tokens 0 e m n → Takes tokens (Word THEN) n o → SpellsBlock text tokens body o to
+  pub data SpellsArm (text : List ℕ) (tokens : List Token) : Keyword → RawArm → ℕ → ℕ → Type 0 where
+    headed : {head : Keyword} {arm : RawArm} {from m n o to : ℕ} {e : RawExpr} {body : List RawStmt} → Takes tokens (Word head) from m
+        → SpellsExpr text tokens 0 e m n → Takes tokens (Word keyword.Then) n o → SpellsBlock text tokens body o to
         → arm ≡ roll-RawArm (record { test = e; body = body }) → SpellsArm text tokens head arm from to
 
   -- the arm of `if`, and those of `elseif`, as many as there are
   pub data SpellsArms (text : List ℕ) (tokens : List Token) : List RawArm → ℕ → ℕ → Type 0 where
-    first_arm : {arms : List RawArm} {arm : RawArm} {from to : ℕ} → SpellsArm text tokens IF arm from to → arms ≡ arm ∷ [] →
+    first_arm : {arms : List RawArm} {arm : RawArm} {from to : ℕ} → SpellsArm text tokens keyword.If arm from to → arms ≡ arm ∷ [] →
         SpellsArms text tokens arms from to
-    more_arms : {all arms : List RawArm} {arm : RawArm} {from m to : ℕ} → SpellsArms text tokens arms from m → SpellsArm text tokens ELSEIF arm m to
+    more_arms : {all arms : List RawArm} {arm : RawArm} {from m to : ℕ} → SpellsArms text tokens arms from m → SpellsArm text tokens keyword.Elseif arm m to
         → all ≡ arms ++ arm ∷ [] → SpellsArms text tokens all from to
 
   -- nothing, which is no statement, or `else` and a block
   pub data SpellsElse (text : List ℕ) (tokens : List Token) : List RawStmt → ℕ → ℕ → Type 0 where
     no_else : {other : List RawStmt} {from to : ℕ} → other ≡ [] → to ≡ from → SpellsElse text tokens other from to
-    with_else : {other : List RawStmt} {from m to : ℕ} → Takes tokens (Word ELSE) from m → SpellsBlock text tokens other m to →
+    with_else : {other : List RawStmt} {from m to : ℕ} → Takes tokens (Word keyword.Else) from m → SpellsBlock text tokens other m to →
         SpellsElse text tokens other from to
 
   -- maybe `weak`, and a block
@@ -273,5 +237,5 @@ mutual
     first_branch : {branches : List RawBranch} {branch : RawBranch} {from to : ℕ} → SpellsBranch text tokens branch from to → branches ≡ branch ∷ []
         → SpellsBranches text tokens branches from to
     more_branches : {all branches : List RawBranch} {branch : RawBranch} {from m n to : ℕ} → SpellsBranches text tokens branches from m
-        → Takes tokens (Word WITH) m n → SpellsBranch text tokens branch n to
+        → Takes tokens (Word keyword.With) m n → SpellsBranch text tokens branch n to
         → all ≡ branches ++ branch ∷ [] → SpellsBranches text tokens all from to

@@ -4,7 +4,6 @@ ghost use Rattle.std.specs.Prelude.{◌≡◌, ◌+◌, ◌<◌, ◌≤◌, ℕ,
 ghost use Rattle.std.specs.Prelude.{IfSome, IsSome, IsNone, IsTrue, ◌&&◌, nat_le};
 ghost use Rattle.bl_tree.specs.declared.scalar.Op.{Op};
 ghost use Rattle.bl_tree.specs.declared.token.TokenKind.{TokenKind};
-ghost use Rattle.bl_lex.specs.declared.word.TheConstants.{AS, PREV};
 ghost use Rattle.bl_parse_tree.specs.declared.expr.RawExprKind as kind;
 ghost use Rattle.bl_parse_syntax.specs.declared.grammar.Part.{Part};
 ghost use Rattle.bl_parse_syntax.specs.Grammar.{the};
@@ -20,10 +19,10 @@ use crate::name::name;
 use crate::operator::{Infix, infix_of};
 use crate::source::Source;
 use crate::types::read_scalar;
-use bl_lex::{sign, word};
+use bl_lex::sign;
 use bl_parse_tree::expr::{RawExpr, RawExprKind, RawPart, RawTarget};
 use bl_parse_tree::name::Name;
-use bl_tree::token::TokenKind;
+use bl_tree::token::{Keyword, TokenKind};
 use bl_tree::{Box, List, NoMemory, Op};
 
 /// The level of `as`, which binds more tightly than all operators with two operands.
@@ -128,8 +127,8 @@ fn cast(source: &Source, at: &mut usize) -> Result<RawExpr, NoMemory>
 {
     let from = *at;
     let mut e = unary(source, at)?;
-    'casts: while source.stands(*at, TokenKind::Word(word::AS)) {
-        source.take(at, TokenKind::Word(word::AS));
+    'casts: while source.stands(*at, TokenKind::Word(Keyword::As)) {
+        source.take(at, TokenKind::Word(Keyword::As));
         e = one_cast(source, at, from, e)?;
     }
     Ok(e)
@@ -144,7 +143,7 @@ fn one_cast(
 ) -> Result<RawExpr, NoMemory>
     requires awaits { Awaits (just Part.Scalar) source.now.tokens.now at.old }
     ensures spelled { IfOk result (λ e. (k : ℕ) → SpellsExpr source.now.text.now source.now.tokens.now 9 operand from k
-        → Takes source.now.tokens.now (TokenKind.Word AS) k at.old → SpellsExpr source.now.text.now source.now.tokens.now 9 e from at.new) }
+        → Takes source.now.tokens.now (TokenKind.Word Keyword.As) k at.old → SpellsExpr source.now.text.now source.now.tokens.now 9 e from at.new) }
     ensures follows { OnOk result (Turns (just Part.Scalar) source.now.tokens.now at.old [] at.new) }
     ensures next { OnOk result (at.new ≡ at.old + 1) }
 {
@@ -169,7 +168,7 @@ fn unary(source: &Source, at: &mut usize) -> Result<RawExpr, NoMemory>
         negative(source, at)
     } else if source.stands(*at, TokenKind::Sign(sign::TILDE)) {
         one(source, at, Op::BitNot)
-    } else if source.stands(*at, TokenKind::Word(word::NOT)) {
+    } else if source.stands(*at, TokenKind::Word(Keyword::Not)) {
         one(source, at, Op::Not)
     } else {
         let e = primary(source, at)?;
@@ -259,24 +258,24 @@ fn number(source: &Source, at: &mut usize, value: u128) -> RawExpr
 }
 
 /// An operand that begins with this keyword.
-fn led(source: &Source, at: &mut usize, k: u8) -> Result<RawExpr, NoMemory>
+fn led(source: &Source, at: &mut usize, k: Keyword) -> Result<RawExpr, NoMemory>
     requires awaits { Awaits (just Part.Primary) source.now.tokens.now at.old }
     requires stands { kind_at source.now.tokens.now at.old ≡ Some (TokenKind.Word k) }
     ensures spelled { IfOk result (λ e. SpellsExpr source.now.text.now source.now.tokens.now 10 e at.old at.new) }
     ensures follows { OnOk result (Turns (just Part.Primary) source.now.tokens.now at.old [] at.new) }
     ensures ahead { OnOk result (at.old < at.new) }
 {
-    if k == word::PREV {
+    if k == Keyword::Prev {
         previous(source, at)
-    } else if k == word::TRUE {
-        Ok(truth(source, at, word::TRUE, true))
+    } else if k == Keyword::True {
+        Ok(truth(source, at, Keyword::True, true))
     } else {
-        Ok(truth(source, at, word::FALSE, false))
+        Ok(truth(source, at, Keyword::False, false))
     }
 }
 
 /// A truth, by its word.
-fn truth(source: &Source, at: &mut usize, k: u8, b: bool) -> RawExpr
+fn truth(source: &Source, at: &mut usize, k: Keyword, b: bool) -> RawExpr
     requires awaits { Awaits (just Part.Primary) source.now.tokens.now at.old }
     requires stands { kind_at source.now.tokens.now at.old ≡ Some (TokenKind.Word k) }
     requires is { IsTruth (TokenKind.Word k) b }
@@ -294,13 +293,13 @@ fn truth(source: &Source, at: &mut usize, k: u8, b: bool) -> RawExpr
 
 fn previous(source: &Source, at: &mut usize) -> Result<RawExpr, NoMemory>
     requires awaits { Awaits (just Part.Primary) source.now.tokens.now at.old }
-    requires stands { kind_at source.now.tokens.now at.old ≡ Some (TokenKind.Word PREV) }
+    requires stands { kind_at source.now.tokens.now at.old ≡ Some (TokenKind.Word Keyword.Prev) }
     ensures spelled { IfOk result (λ e. SpellsExpr source.now.text.now source.now.tokens.now 10 e at.old at.new) }
     ensures follows { OnOk result (Turns (just Part.Primary) source.now.tokens.now at.old [] at.new) }
     ensures ahead { OnOk result (at.old < at.new) }
 {
     let from = *at;
-    source.take(at, TokenKind::Word(word::PREV));
+    source.take(at, TokenKind::Word(Keyword::Prev));
     let variable = name(source, at)?;
     Ok(RawExpr {
         place: source.span(from, *at),

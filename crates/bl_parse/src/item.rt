@@ -14,10 +14,10 @@ use crate::parts::{constant, typing};
 use crate::source::Source;
 use crate::stmt::block;
 use crate::types::read_type;
-use bl_lex::{sign, word};
+use bl_lex::sign;
 use bl_parse_tree::item::{RawField, RawItem, RawParam, RawStruct, RawUnit};
 use bl_parse_tree::types::RawType;
-use bl_tree::token::TokenKind;
+use bl_tree::token::{Keyword, TokenKind};
 use bl_tree::tree::UnitKind;
 use bl_tree::{List, NoMemory};
 
@@ -40,9 +40,9 @@ fn item(source: &Source, at: &mut usize) -> Result<RawItem, NoMemory>
     ensures follows { OnOk result (Turns (just Part.Item) source.now.tokens.now at.old [] at.new) }
     ensures ahead { OnOk result (at.old < at.new) }
 {
-    if source.stands(*at, TokenKind::Word(word::STRUCT)) {
+    if source.stands(*at, TokenKind::Word(Keyword::Struct)) {
         Ok(RawItem::Struct(structure(source, at)?))
-    } else if source.stands(*at, TokenKind::Word(word::CONST)) {
+    } else if source.stands(*at, TokenKind::Word(Keyword::Const)) {
         Ok(RawItem::Constant(constant(source, at)?))
     } else {
         Ok(RawItem::Unit(unit(source, at)?))
@@ -55,10 +55,10 @@ fn structure(source: &Source, at: &mut usize) -> Result<RawStruct, NoMemory>
     ensures follows { OnOk result (Turns (just Part.Struct) source.now.tokens.now at.old [] at.new) }
     ensures ahead { OnOk result (at.old < at.new) }
 {
-    source.take(at, TokenKind::Word(word::STRUCT));
+    source.take(at, TokenKind::Word(Keyword::Struct));
     let name = name(source, at)?;
     let fields = fields(source, at)?;
-    source.take(at, TokenKind::Word(word::END));
+    source.take(at, TokenKind::Word(Keyword::End));
     Ok(RawStruct { name, fields })
 }
 
@@ -71,7 +71,7 @@ fn fields(source: &Source, at: &mut usize) -> Result<List<RawField>, NoMemory>
 {
     let mut fields = List::new(source.alloc);
     fields.push(field(source, at)?)?;
-    'vars: while source.stands(*at, TokenKind::Word(word::VAR)) {
+    'vars: while source.stands(*at, TokenKind::Word(Keyword::Var)) {
         fields.push(field(source, at)?)?;
     }
     Ok(fields)
@@ -83,7 +83,7 @@ fn field(source: &Source, at: &mut usize) -> Result<RawField, NoMemory>
     ensures follows { OnOk result (Turns (just Part.Field) source.now.tokens.now at.old [] at.new) }
     ensures ahead { OnOk result (at.old < at.new) }
 {
-    source.take(at, TokenKind::Word(word::VAR));
+    source.take(at, TokenKind::Word(Keyword::Var));
     let name = name(source, at)?;
     let ty = typing(source, at)?;
     Ok(RawField { name, ty })
@@ -102,7 +102,7 @@ fn unit(source: &Source, at: &mut usize) -> Result<RawUnit, NoMemory>
     let outputs = output_params(source, at)?;
     let result = result_type(source, at)?;
     let body = block(source, at)?;
-    source.take(at, TokenKind::Word(word::END));
+    source.take(at, TokenKind::Word(Keyword::End));
     Ok(RawUnit {
         entry,
         kind,
@@ -138,11 +138,11 @@ fn unit_kind(source: &Source, at: &mut usize) -> Result<UnitKind, NoMemory>
     ensures follows { OnOk result (Turns (just Part.PlainUnit) source.now.tokens.now at.old (grammar.name ∷ the Part.UnitTail ∷ []) at.new) }
     ensures ahead { OnOk result (at.old < at.new) }
 {
-    if source.stands(*at, TokenKind::Word(word::FUNCTION)) {
-        source.take(at, TokenKind::Word(word::FUNCTION));
+    if source.stands(*at, TokenKind::Word(Keyword::Function)) {
+        source.take(at, TokenKind::Word(Keyword::Function));
         Ok(UnitKind::Function)
     } else {
-        source.take(at, TokenKind::Word(word::ACTIVITY));
+        source.take(at, TokenKind::Word(Keyword::Activity));
         Ok(UnitKind::Activity)
     }
 }
@@ -214,8 +214,8 @@ fn result_type(source: &Source, at: &mut usize) -> Result<Option<RawType>, NoMem
     ensures follows { OnOk result (Turns (just Part.Returns) source.now.tokens.now at.old [] at.new) }
     ensures ahead { OnOk result (at.old ≤ at.new) }
 {
-    if source.stands(*at, TokenKind::Word(word::RETURNS)) {
-        source.take(at, TokenKind::Word(word::RETURNS));
+    if source.stands(*at, TokenKind::Word(Keyword::Returns)) {
+        source.take(at, TokenKind::Word(Keyword::Returns));
         let ty = read_type(source, at)?;
         Ok(Some(ty))
     } else {

@@ -5,9 +5,9 @@ ghost use Rattle.bl_parse_syntax.specs.Grammar.{class_of};
 ghost use Rattle.bl_parse_syntax.specs.Tables.{has};
 ghost use Rattle.bl_parse.specs.Operators.{IsOperator, begins_expr, left_level, operator_classes};
 
-use bl_lex::{sign, word};
+use bl_lex::sign;
 use bl_tree::scalar::Op;
-use bl_tree::token::TokenKind;
+use bl_tree::token::{Keyword, TokenKind};
 
 /// The level of a comparison, of which none is an operand of another without parentheses.
 const COMPARING: u8 = 2;
@@ -39,8 +39,7 @@ pub fn infix_of(kind: TokenKind) -> Option<Infix>
     ensures none { IsNone result → has operator_classes (class_of kind) ≡ false }
 {
     let (level, op) = match kind {
-        TokenKind::Word(word::OR) => (0, Op::Or),
-        TokenKind::Word(word::AND) => (1, Op::And),
+        TokenKind::Word(word) => return infix_of_word(word),
         TokenKind::Sign(sign::EQUAL) => (COMPARING, Op::Eq),
         TokenKind::Sign(sign::NOT_EQUAL) => (COMPARING, Op::Ne),
         TokenKind::Sign(sign::LESS) => (COMPARING, Op::Lt),
@@ -62,6 +61,19 @@ pub fn infix_of(kind: TokenKind) -> Option<Infix>
     Some(Infix { level, op })
 }
 
+fn infix_of_word(word: Keyword) -> Option<Infix>
+    ensures is { IfSome result (λ found. IsOperator (TokenKind.Word word) found.level found.op) }
+    ensures level { IfSome result (λ found. found.level ≤ 8) }
+    ensures none { IsNone result → has operator_classes (class_of (TokenKind.Word word)) ≡ false }
+{
+    let (level, op) = match word {
+        Keyword::Or => (0, Op::Or),
+        Keyword::And => (1, Op::And),
+        _ => return None,
+    };
+    Some(Infix { level, op })
+}
+
 /// Whether an expression may begin with a token of this kind.
 pub fn begins_expr(kind: TokenKind) -> bool
     ensures { result ≡ begins_expr kind }
@@ -69,9 +81,9 @@ pub fn begins_expr(kind: TokenKind) -> bool
     match kind {
         TokenKind::Name | TokenKind::Number(_) => true,
         TokenKind::Sign(k) => k == sign::OPEN_PAREN || k == sign::MINUS || k == sign::TILDE,
-        TokenKind::Word(k) => k == word::NOT
-            || k == word::TRUE
-            || k == word::FALSE
-            || k == word::PREV,
+        TokenKind::Word(k) => k == Keyword::Not
+            || k == Keyword::True
+            || k == Keyword::False
+            || k == Keyword::Prev,
     }
 }

@@ -16,12 +16,12 @@ use crate::expr::read_expr;
 use crate::name::name;
 use crate::source::Source;
 use crate::types::read_type;
-use bl_lex::{sign, word};
+use bl_lex::sign;
 use bl_parse_tree::expr::RawExpr;
 use bl_parse_tree::name::Name;
 use bl_parse_tree::stmt::{RawConstant, RawPath};
 use bl_parse_tree::types::RawType;
-use bl_tree::token::TokenKind;
+use bl_tree::token::{Keyword, TokenKind};
 use bl_tree::{List, NoMemory};
 
 /// Reads `:` and a type.
@@ -85,7 +85,7 @@ pub fn constant(source: &Source, at: &mut usize) -> Result<RawConstant, NoMemory
     ensures follows { OnOk result (Turns (just Part.Constant) source.now.tokens.now at.old [] at.new) }
     ensures ahead { OnOk result (at.old < at.new) }
 {
-    source.take(at, TokenKind::Word(word::CONST));
+    source.take(at, TokenKind::Word(Keyword::Const));
     let name = name(source, at)?;
     let ty = maybe_typing(source, at)?;
     let value = value(source, at)?;

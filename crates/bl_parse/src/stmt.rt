@@ -2,7 +2,6 @@
 
 ghost use Rattle.std.specs.Prelude.{◌≡◌, ◌+◌, ◌<◌, ◌≤◌, [], ◌∷◌, Some, length, IfOk, OnOk, IsTrue};
 ghost use Rattle.bl_tree.specs.declared.token.TokenKind.{TokenKind};
-ghost use Rattle.bl_lex.specs.declared.word.TheConstants.{VAR, LET, CONST, AWAIT, RUN, COBEGIN, WHEN, REPEAT, WHILE, IF, THEN, RETURN};
 ghost use Rattle.bl_parse_syntax.specs.declared.grammar.Part.{Part};
 ghost use Rattle.bl_parse_syntax.specs.Grammar.{the};
 ghost use Rattle.bl_parse_syntax.specs.Grammar as grammar;
@@ -16,9 +15,9 @@ use crate::name::name;
 use crate::operator::begins_expr;
 use crate::parts::{constant, initial, maybe_typing, outputs, start_of_run, typing, value};
 use crate::source::Source;
-use bl_lex::{sign, word};
+use bl_lex::sign;
 use bl_parse_tree::stmt::{RawArm, RawBranch, RawStmt, RawStmtKind};
-use bl_tree::token::{Token, TokenKind};
+use bl_tree::token::{Keyword, Token, TokenKind};
 use bl_tree::tree::Guard;
 use bl_tree::{List, NoMemory};
 
@@ -50,20 +49,20 @@ fn begins_stmt(source: &Source, at: usize) -> bool
 }
 
 /// Whether a statement may begin with the keyword.
-fn leads_stmt(k: u8) -> bool
+fn leads_stmt(k: Keyword) -> bool
     ensures { result ≡ leads_stmt k }
 {
-    k == word::VAR
-        || k == word::LET
-        || k == word::CONST
-        || k == word::AWAIT
-        || k == word::RUN
-        || k == word::COBEGIN
-        || k == word::WHEN
-        || k == word::REPEAT
-        || k == word::WHILE
-        || k == word::IF
-        || k == word::RETURN
+    k == Keyword::Var
+        || k == Keyword::Let
+        || k == Keyword::Const
+        || k == Keyword::Await
+        || k == Keyword::Run
+        || k == Keyword::Cobegin
+        || k == Keyword::When
+        || k == Keyword::Repeat
+        || k == Keyword::While
+        || k == Keyword::If
+        || k == Keyword::Return
 }
 
 #[cycle(statements)]
@@ -99,32 +98,32 @@ fn kind(source: &Source, at: &mut usize) -> Result<RawStmtKind, NoMemory>
 
 /// A statement that begins with this keyword.
 #[cycle(statements)]
-fn led(source: &Source, at: &mut usize, k: u8) -> Result<RawStmtKind, NoMemory>
+fn led(source: &Source, at: &mut usize, k: Keyword) -> Result<RawStmtKind, NoMemory>
     requires awaits { Awaits (just Part.Stmt) source.now.tokens.now at.old }
     requires stands { kind_at source.now.tokens.now at.old ≡ Some (TokenKind.Word k) }
     ensures spelled { IfOk result (λ what. SpellsKind source.now.text.now source.now.tokens.now what at.old at.new) }
     ensures follows { OnOk result (Turns (just Part.Stmt) source.now.tokens.now at.old [] at.new) }
     ensures ahead { OnOk result (at.old < at.new) }
 {
-    if k == word::VAR {
+    if k == Keyword::Var {
         variable(source, at)
-    } else if k == word::LET {
+    } else if k == Keyword::Let {
         fixed(source, at)
-    } else if k == word::CONST {
+    } else if k == Keyword::Const {
         local_constant(source, at)
-    } else if k == word::AWAIT {
+    } else if k == Keyword::Await {
         awaiting(source, at)
-    } else if k == word::RUN {
+    } else if k == Keyword::Run {
         run(source, at)
-    } else if k == word::COBEGIN {
+    } else if k == Keyword::Cobegin {
         cobegin(source, at)
-    } else if k == word::WHEN {
+    } else if k == Keyword::When {
         guarded(source, at)
-    } else if k == word::REPEAT {
+    } else if k == Keyword::Repeat {
         repeat(source, at)
-    } else if k == word::WHILE {
+    } else if k == Keyword::While {
         while_loop(source, at)
-    } else if k == word::IF {
+    } else if k == Keyword::If {
         branching(source, at)
     } else {
         returning(source, at)
@@ -133,12 +132,12 @@ fn led(source: &Source, at: &mut usize, k: u8) -> Result<RawStmtKind, NoMemory>
 
 fn variable(source: &Source, at: &mut usize) -> Result<RawStmtKind, NoMemory>
     requires awaits { Awaits (just Part.Stmt) source.now.tokens.now at.old }
-    requires stands { kind_at source.now.tokens.now at.old ≡ Some (TokenKind.Word VAR) }
+    requires stands { kind_at source.now.tokens.now at.old ≡ Some (TokenKind.Word Keyword.Var) }
     ensures spelled { IfOk result (λ what. SpellsKind source.now.text.now source.now.tokens.now what at.old at.new) }
     ensures follows { OnOk result (Turns (just Part.Stmt) source.now.tokens.now at.old [] at.new) }
     ensures ahead { OnOk result (at.old < at.new) }
 {
-    source.take(at, TokenKind::Word(word::VAR));
+    source.take(at, TokenKind::Word(Keyword::Var));
     let name = name(source, at)?;
     if source.stands(*at, TokenKind::Sign(sign::COLON)) {
         let ty = typing(source, at)?;
@@ -152,12 +151,12 @@ fn variable(source: &Source, at: &mut usize) -> Result<RawStmtKind, NoMemory>
 
 fn fixed(source: &Source, at: &mut usize) -> Result<RawStmtKind, NoMemory>
     requires awaits { Awaits (just Part.Stmt) source.now.tokens.now at.old }
-    requires stands { kind_at source.now.tokens.now at.old ≡ Some (TokenKind.Word LET) }
+    requires stands { kind_at source.now.tokens.now at.old ≡ Some (TokenKind.Word Keyword.Let) }
     ensures spelled { IfOk result (λ what. SpellsKind source.now.text.now source.now.tokens.now what at.old at.new) }
     ensures follows { OnOk result (Turns (just Part.Stmt) source.now.tokens.now at.old [] at.new) }
     ensures ahead { OnOk result (at.old < at.new) }
 {
-    source.take(at, TokenKind::Word(word::LET));
+    source.take(at, TokenKind::Word(Keyword::Let));
     let name = name(source, at)?;
     let ty = maybe_typing(source, at)?;
     let value = value(source, at)?;
@@ -166,7 +165,7 @@ fn fixed(source: &Source, at: &mut usize) -> Result<RawStmtKind, NoMemory>
 
 fn local_constant(source: &Source, at: &mut usize) -> Result<RawStmtKind, NoMemory>
     requires awaits { Awaits (just Part.Stmt) source.now.tokens.now at.old }
-    requires stands { kind_at source.now.tokens.now at.old ≡ Some (TokenKind.Word CONST) }
+    requires stands { kind_at source.now.tokens.now at.old ≡ Some (TokenKind.Word Keyword.Const) }
     ensures spelled { IfOk result (λ what. SpellsKind source.now.text.now source.now.tokens.now what at.old at.new) }
     ensures follows { OnOk result (Turns (just Part.Stmt) source.now.tokens.now at.old [] at.new) }
     ensures ahead { OnOk result (at.old < at.new) }
@@ -198,24 +197,24 @@ fn named(source: &Source, at: &mut usize) -> Result<RawStmtKind, NoMemory>
 
 fn awaiting(source: &Source, at: &mut usize) -> Result<RawStmtKind, NoMemory>
     requires awaits { Awaits (just Part.Stmt) source.now.tokens.now at.old }
-    requires stands { kind_at source.now.tokens.now at.old ≡ Some (TokenKind.Word AWAIT) }
+    requires stands { kind_at source.now.tokens.now at.old ≡ Some (TokenKind.Word Keyword.Await) }
     ensures spelled { IfOk result (λ what. SpellsKind source.now.text.now source.now.tokens.now what at.old at.new) }
     ensures follows { OnOk result (Turns (just Part.Stmt) source.now.tokens.now at.old [] at.new) }
     ensures ahead { OnOk result (at.old < at.new) }
 {
-    source.take(at, TokenKind::Word(word::AWAIT));
+    source.take(at, TokenKind::Word(Keyword::Await));
     let e = read_expr(source, at)?;
     Ok(RawStmtKind::Await(e))
 }
 
 fn run(source: &Source, at: &mut usize) -> Result<RawStmtKind, NoMemory>
     requires awaits { Awaits (just Part.Stmt) source.now.tokens.now at.old }
-    requires stands { kind_at source.now.tokens.now at.old ≡ Some (TokenKind.Word RUN) }
+    requires stands { kind_at source.now.tokens.now at.old ≡ Some (TokenKind.Word Keyword.Run) }
     ensures spelled { IfOk result (λ what. SpellsKind source.now.text.now source.now.tokens.now what at.old at.new) }
     ensures follows { OnOk result (Turns (just Part.Stmt) source.now.tokens.now at.old [] at.new) }
     ensures ahead { OnOk result (at.old < at.new) }
 {
-    source.take(at, TokenKind::Word(word::RUN));
+    source.take(at, TokenKind::Word(Keyword::Run));
     let started = start_of_run(source, at)?;
     let inputs = read_inputs(source, at)?;
     let outputs = outputs(source, at)?;
@@ -224,17 +223,17 @@ fn run(source: &Source, at: &mut usize) -> Result<RawStmtKind, NoMemory>
 
 fn returning(source: &Source, at: &mut usize) -> Result<RawStmtKind, NoMemory>
     requires awaits { Awaits (just Part.Stmt) source.now.tokens.now at.old }
-    requires stands { kind_at source.now.tokens.now at.old ≡ Some (TokenKind.Word RETURN) }
+    requires stands { kind_at source.now.tokens.now at.old ≡ Some (TokenKind.Word Keyword.Return) }
     ensures spelled { IfOk result (λ what. SpellsKind source.now.text.now source.now.tokens.now what at.old at.new) }
     ensures follows { OnOk result (Turns (just Part.Stmt) source.now.tokens.now at.old [] at.new) }
     ensures ahead { OnOk result (at.old < at.new) }
 {
     if takes_value(source, *at) {
-        source.take(at, TokenKind::Word(word::RETURN));
+        source.take(at, TokenKind::Word(Keyword::Return));
         let e = read_expr(source, at)?;
         Ok(RawStmtKind::Return(Some(e)))
     } else {
-        source.take(at, TokenKind::Word(word::RETURN));
+        source.take(at, TokenKind::Word(Keyword::Return));
         Ok(RawStmtKind::Return(None))
     }
 }
@@ -262,14 +261,14 @@ fn goes_on(first: Token, next: Option<Token>) -> bool
 #[cycle(statements)]
 fn cobegin(source: &Source, at: &mut usize) -> Result<RawStmtKind, NoMemory>
     requires awaits { Awaits (just Part.Stmt) source.now.tokens.now at.old }
-    requires stands { kind_at source.now.tokens.now at.old ≡ Some (TokenKind.Word COBEGIN) }
+    requires stands { kind_at source.now.tokens.now at.old ≡ Some (TokenKind.Word Keyword.Cobegin) }
     ensures spelled { IfOk result (λ what. SpellsKind source.now.text.now source.now.tokens.now what at.old at.new) }
     ensures follows { OnOk result (Turns (just Part.Stmt) source.now.tokens.now at.old [] at.new) }
     ensures ahead { OnOk result (at.old < at.new) }
 {
-    source.take(at, TokenKind::Word(word::COBEGIN));
+    source.take(at, TokenKind::Word(Keyword::Cobegin));
     let branches = branches(source, at)?;
-    source.take(at, TokenKind::Word(word::END));
+    source.take(at, TokenKind::Word(Keyword::End));
     Ok(RawStmtKind::Cobegin(branches))
 }
 
@@ -282,8 +281,8 @@ fn branches(source: &Source, at: &mut usize) -> Result<List<RawBranch>, NoMemory
 {
     let mut branches = List::new(source.alloc);
     branches.push(branch(source, at)?)?;
-    'withs: while source.stands(*at, TokenKind::Word(word::WITH)) {
-        source.take(at, TokenKind::Word(word::WITH));
+    'withs: while source.stands(*at, TokenKind::Word(Keyword::With)) {
+        source.take(at, TokenKind::Word(Keyword::With));
         branches.push(branch(source, at)?)?;
     }
     Ok(branches)
@@ -308,8 +307,8 @@ fn weak(source: &Source, at: &mut usize) -> Result<bool, NoMemory>
     ensures follows { OnOk result (Turns (just Part.Weak) source.now.tokens.now at.old [] at.new) }
     ensures ahead { OnOk result (at.old ≤ at.new) }
 {
-    if source.stands(*at, TokenKind::Word(word::WEAK)) {
-        source.take(at, TokenKind::Word(word::WEAK));
+    if source.stands(*at, TokenKind::Word(Keyword::Weak)) {
+        source.take(at, TokenKind::Word(Keyword::Weak));
         Ok(true)
     } else {
         Ok(false)
@@ -319,16 +318,16 @@ fn weak(source: &Source, at: &mut usize) -> Result<bool, NoMemory>
 #[cycle(statements)]
 fn guarded(source: &Source, at: &mut usize) -> Result<RawStmtKind, NoMemory>
     requires awaits { Awaits (just Part.Stmt) source.now.tokens.now at.old }
-    requires stands { kind_at source.now.tokens.now at.old ≡ Some (TokenKind.Word WHEN) }
+    requires stands { kind_at source.now.tokens.now at.old ≡ Some (TokenKind.Word Keyword.When) }
     ensures spelled { IfOk result (λ what. SpellsKind source.now.text.now source.now.tokens.now what at.old at.new) }
     ensures follows { OnOk result (Turns (just Part.Stmt) source.now.tokens.now at.old [] at.new) }
     ensures ahead { OnOk result (at.old < at.new) }
 {
-    source.take(at, TokenKind::Word(word::WHEN));
+    source.take(at, TokenKind::Word(Keyword::When));
     let test = read_expr(source, at)?;
     let guard = guard(source, at)?;
     let body = block(source, at)?;
-    source.take(at, TokenKind::Word(word::END));
+    source.take(at, TokenKind::Word(Keyword::End));
     Ok(RawStmtKind::When(guard, test, body))
 }
 
@@ -338,11 +337,11 @@ fn guard(source: &Source, at: &mut usize) -> Result<Guard, NoMemory>
     ensures follows { OnOk result (Turns (just Part.Guard) source.now.tokens.now at.old [] at.new) }
     ensures ahead { OnOk result (at.old < at.new) }
 {
-    if source.stands(*at, TokenKind::Word(word::ABORT)) {
-        source.take(at, TokenKind::Word(word::ABORT));
+    if source.stands(*at, TokenKind::Word(Keyword::Abort)) {
+        source.take(at, TokenKind::Word(Keyword::Abort));
         Ok(Guard::Abort)
     } else {
-        source.take(at, TokenKind::Word(word::RESET));
+        source.take(at, TokenKind::Word(Keyword::Reset));
         Ok(Guard::Reset)
     }
 }
@@ -350,20 +349,20 @@ fn guard(source: &Source, at: &mut usize) -> Result<Guard, NoMemory>
 #[cycle(statements)]
 fn repeat(source: &Source, at: &mut usize) -> Result<RawStmtKind, NoMemory>
     requires awaits { Awaits (just Part.Stmt) source.now.tokens.now at.old }
-    requires stands { kind_at source.now.tokens.now at.old ≡ Some (TokenKind.Word REPEAT) }
+    requires stands { kind_at source.now.tokens.now at.old ≡ Some (TokenKind.Word Keyword.Repeat) }
     ensures spelled { IfOk result (λ what. SpellsKind source.now.text.now source.now.tokens.now what at.old at.new) }
     ensures follows { OnOk result (Turns (just Part.Stmt) source.now.tokens.now at.old [] at.new) }
     ensures ahead { OnOk result (at.old < at.new) }
 {
-    source.take(at, TokenKind::Word(word::REPEAT));
+    source.take(at, TokenKind::Word(Keyword::Repeat));
     let body = block(source, at)?;
-    if source.stands(*at, TokenKind::Word(word::UNTIL)) {
-        source.take(at, TokenKind::Word(word::UNTIL));
+    if source.stands(*at, TokenKind::Word(Keyword::Until)) {
+        source.take(at, TokenKind::Word(Keyword::Until));
         let test = read_expr(source, at)?;
-        source.take(at, TokenKind::Word(word::END));
+        source.take(at, TokenKind::Word(Keyword::End));
         Ok(RawStmtKind::Until(body, test))
     } else {
-        source.take(at, TokenKind::Word(word::END));
+        source.take(at, TokenKind::Word(Keyword::End));
         Ok(RawStmtKind::Repeat(body))
     }
 }
@@ -371,63 +370,63 @@ fn repeat(source: &Source, at: &mut usize) -> Result<RawStmtKind, NoMemory>
 #[cycle(statements)]
 fn while_loop(source: &Source, at: &mut usize) -> Result<RawStmtKind, NoMemory>
     requires awaits { Awaits (just Part.Stmt) source.now.tokens.now at.old }
-    requires stands { kind_at source.now.tokens.now at.old ≡ Some (TokenKind.Word WHILE) }
+    requires stands { kind_at source.now.tokens.now at.old ≡ Some (TokenKind.Word Keyword.While) }
     ensures spelled { IfOk result (λ what. SpellsKind source.now.text.now source.now.tokens.now what at.old at.new) }
     ensures follows { OnOk result (Turns (just Part.Stmt) source.now.tokens.now at.old [] at.new) }
     ensures ahead { OnOk result (at.old < at.new) }
 {
-    source.take(at, TokenKind::Word(word::WHILE));
+    source.take(at, TokenKind::Word(Keyword::While));
     let test = read_expr(source, at)?;
-    source.take(at, TokenKind::Word(word::REPEAT));
+    source.take(at, TokenKind::Word(Keyword::Repeat));
     let body = block(source, at)?;
-    source.take(at, TokenKind::Word(word::END));
+    source.take(at, TokenKind::Word(Keyword::End));
     Ok(RawStmtKind::While(test, body))
 }
 
 #[cycle(statements)]
 fn branching(source: &Source, at: &mut usize) -> Result<RawStmtKind, NoMemory>
     requires awaits { Awaits (just Part.Stmt) source.now.tokens.now at.old }
-    requires stands { kind_at source.now.tokens.now at.old ≡ Some (TokenKind.Word IF) }
+    requires stands { kind_at source.now.tokens.now at.old ≡ Some (TokenKind.Word Keyword.If) }
     ensures spelled { IfOk result (λ what. SpellsKind source.now.text.now source.now.tokens.now what at.old at.new) }
     ensures follows { OnOk result (Turns (just Part.Stmt) source.now.tokens.now at.old [] at.new) }
     ensures ahead { OnOk result (at.old < at.new) }
 {
     let arms = arms(source, at)?;
     let other = otherwise(source, at)?;
-    source.take(at, TokenKind::Word(word::END));
+    source.take(at, TokenKind::Word(Keyword::End));
     Ok(RawStmtKind::If(arms, other))
 }
 
 #[cycle(statements)]
 fn arms(source: &Source, at: &mut usize) -> Result<List<RawArm>, NoMemory>
     requires awaits { Awaits
-        (grammar.word IF ∷ the Part.Expr ∷ grammar.word THEN ∷ the Part.Block ∷ the Part.Elseifs ∷ []) source.now.tokens.now at.old }
+        (grammar.word Keyword.If ∷ the Part.Expr ∷ grammar.word Keyword.Then ∷ the Part.Block ∷ the Part.Elseifs ∷ []) source.now.tokens.now at.old }
     ensures spelled { IfOk result (λ arms. SpellsArms source.now.text.now source.now.tokens.now arms at.old at.new) }
     ensures follows { OnOk result
-        (Turns (grammar.word IF ∷ the Part.Expr ∷ grammar.word THEN ∷ the Part.Block ∷ the Part.Elseifs ∷ []) source.now.tokens.now
+        (Turns (grammar.word Keyword.If ∷ the Part.Expr ∷ grammar.word Keyword.Then ∷ the Part.Block ∷ the Part.Elseifs ∷ []) source.now.tokens.now
         at.old [] at.new) }
     ensures ahead { OnOk result (at.old < at.new) }
 {
     let mut arms = List::new(source.alloc);
-    arms.push(arm(source, at, word::IF)?)?;
-    'elseifs: while source.stands(*at, TokenKind::Word(word::ELSEIF)) {
-        arms.push(arm(source, at, word::ELSEIF)?)?;
+    arms.push(arm(source, at, Keyword::If)?)?;
+    'elseifs: while source.stands(*at, TokenKind::Word(Keyword::Elseif)) {
+        arms.push(arm(source, at, Keyword::Elseif)?)?;
     }
     Ok(arms)
 }
 
 /// An arm that this word heads.
 #[cycle(statements)]
-fn arm(source: &Source, at: &mut usize, head: u8) -> Result<RawArm, NoMemory>
-    requires awaits { Awaits (grammar.word head ∷ the Part.Expr ∷ grammar.word THEN ∷ the Part.Block ∷ []) source.now.tokens.now at.old }
+fn arm(source: &Source, at: &mut usize, head: Keyword) -> Result<RawArm, NoMemory>
+    requires awaits { Awaits (grammar.word head ∷ the Part.Expr ∷ grammar.word Keyword.Then ∷ the Part.Block ∷ []) source.now.tokens.now at.old }
     ensures spelled { IfOk result (λ arm. SpellsArm source.now.text.now source.now.tokens.now head arm at.old at.new) }
     ensures follows { OnOk result
-        (Turns (grammar.word head ∷ the Part.Expr ∷ grammar.word THEN ∷ the Part.Block ∷ []) source.now.tokens.now at.old [] at.new) }
+        (Turns (grammar.word head ∷ the Part.Expr ∷ grammar.word Keyword.Then ∷ the Part.Block ∷ []) source.now.tokens.now at.old [] at.new) }
     ensures ahead { OnOk result (at.old < at.new) }
 {
     source.take(at, TokenKind::Word(head));
     let test = read_expr(source, at)?;
-    source.take(at, TokenKind::Word(word::THEN));
+    source.take(at, TokenKind::Word(Keyword::Then));
     let body = block(source, at)?;
     Ok(RawArm { test, body })
 }
@@ -439,8 +438,8 @@ fn otherwise(source: &Source, at: &mut usize) -> Result<List<RawStmt>, NoMemory>
     ensures follows { OnOk result (Turns (just Part.Else) source.now.tokens.now at.old [] at.new) }
     ensures ahead { OnOk result (at.old ≤ at.new) }
 {
-    if source.stands(*at, TokenKind::Word(word::ELSE)) {
-        source.take(at, TokenKind::Word(word::ELSE));
+    if source.stands(*at, TokenKind::Word(Keyword::Else)) {
+        source.take(at, TokenKind::Word(Keyword::Else));
         let body = block(source, at)?;
         Ok(body)
     } else {

@@ -9,41 +9,16 @@ use Rattle.bl_tree.specs.declared.scalar.Width.TheVariants.{W8, W16, W32, W64}
 use Rattle.bl_tree.specs.declared.token.Token.{Token}
 use Rattle.bl_tree.specs.declared.token.TokenKind.{TokenKind}
 use Rattle.bl_tree.specs.declared.token.TokenKind.TheVariants.{Word, Sign}
-use Rattle.bl_lex.specs.declared.word.TheConstants.{OR, AS, INT8, INT16, INT32, INT64, NAT8, NAT16, NAT32, NAT64, BITS8, BITS16, BITS32, BITS64}
-use Rattle.bl_lex.specs.declared.sign.TheConstants.{
-  EQUAL,
-  NOT_EQUAL,
-  LESS,
-  LESS_OR_EQUAL,
-  GREATER,
-  GREATER_OR_EQUAL,
-  BAR,
-  CARET,
-  AMPERSAND,
-  SHIFT_LEFT,
-  SHIFT_RIGHT,
-  PLUS,
-  MINUS,
-  STAR,
-  SLASH,
-}
+use Rattle.bl_tree.specs.declared.token.Keyword.TheVariants as keyword
+use Rattle.bl_tree.specs.Keywords.{same_word}
+use Rattle.bl_lex.specs.declared.sign.TheConstants.{EQUAL, NOT_EQUAL, LESS, LESS_OR_EQUAL, GREATER, GREATER_OR_EQUAL, BAR, CARET, AMPERSAND, SHIFT_LEFT}
+use Rattle.bl_lex.specs.declared.sign.TheConstants.{SHIFT_RIGHT, PLUS, MINUS, STAR, SLASH}
 use Rattle.bl_parse_syntax.specs.declared.grammar.Class.{Class}
 use Rattle.bl_parse_syntax.specs.declared.grammar.Class.TheVariants.{Keyword}
 use Rattle.bl_parse_syntax.specs.Grammar.{class_of, same_class}
 use Rattle.bl_parse_syntax.specs.Tables.{has}
-use Rattle.bl_parse_syntax.specs.Follow.{
-  after_expression,
-  after_both,
-  after_comparison,
-  after_bits,
-  after_xor,
-  after_and,
-  after_shift,
-  after_sum,
-  after_product,
-  after_cast,
-  after_unary,
-}
+use Rattle.bl_parse_syntax.specs.Follow.{after_expression, after_both, after_comparison, after_bits, after_xor, after_and, after_shift, after_sum}
+use Rattle.bl_parse_syntax.specs.Follow.{after_product, after_cast, after_unary}
 use Rattle.bl_parse_tree.specs.declared.expr.RawExpr.{RawExpr}
 use Rattle.bl_parse_tree.specs.declared.expr.RawExprKind as kind
 use Rattle.bl_parse.specs.At.{span, Takes}
@@ -122,7 +97,7 @@ op_clash IsOperator.times t e s = token_none t e refl s
 op_clash IsOperator.divided t e s = token_none t e refl s
 op_clash IsOperator.remainder t e s = token_none t e refl s
 
-not_cast : {kind : TokenKind} {level : ℕ} {op : Op} → IsOperator kind level op → same_class (class_of kind) (Keyword AS) ≡ false
+not_cast : {kind : TokenKind} {level : ℕ} {op : Op} → IsOperator kind level op → same_class (class_of kind) (Keyword keyword.As) ≡ false
 not_cast IsOperator.either = refl
 not_cast IsOperator.both = refl
 not_cast IsOperator.equal = refl
@@ -163,7 +138,7 @@ left_fits IsOperator.divided = omega arith
 left_fits IsOperator.remainder = omega arith
 
 op_of : TokenKind → Op
-op_of (Word w) = cond (nat_eq w OR) Op.Or Op.And
+op_of (Word w) = cond (same_word w keyword.Or) Op.Or Op.And
 op_of (Sign s) = cond (nat_eq s EQUAL) Op.Eq (cond (nat_eq s NOT_EQUAL) Op.Ne
     (cond (nat_eq s LESS) Op.Lt (cond (nat_eq s LESS_OR_EQUAL) Op.Le
     (cond (nat_eq s GREATER) Op.Gt (cond (nat_eq s GREATER_OR_EQUAL) Op.Ge
@@ -195,12 +170,13 @@ same_as IsOperator.divided = refl
 same_as IsOperator.remainder = refl
 
 scalar_of : TokenKind → ScalarType
-scalar_of (Word w) = cond (nat_eq w INT8) (Int W8)
-    (cond (nat_eq w INT16) (Int W16) (cond (nat_eq w INT32) (Int W32)
-    (cond (nat_eq w INT64) (Int W64) (cond (nat_eq w NAT8) (Nat W8)
-    (cond (nat_eq w NAT16) (Nat W16) (cond (nat_eq w NAT32) (Nat W32)
-    (cond (nat_eq w NAT64) (Nat W64) (cond (nat_eq w BITS8) (Bits W8)
-    (cond (nat_eq w BITS16) (Bits W16) (cond (nat_eq w BITS32) (Bits W32) (cond (nat_eq w BITS64) (Bits W64) (OfBool))))))))))))
+scalar_of (Word w) = cond (same_word w keyword.Int8) (Int W8)
+    (cond (same_word w keyword.Int16) (Int W16) (cond (same_word w keyword.Int32) (Int W32)
+    (cond (same_word w keyword.Int64) (Int W64) (cond (same_word w keyword.Nat8) (Nat W8)
+    (cond (same_word w keyword.Nat16) (Nat W16) (cond (same_word w keyword.Nat32) (Nat W32)
+    (cond (same_word w keyword.Nat64) (Nat W64) (cond (same_word w keyword.Bits8) (Bits W8)
+    (cond (same_word w keyword.Bits16) (Bits W16) (cond (same_word w keyword.Bits32) (Bits W32)
+    (cond (same_word w keyword.Bits64) (Bits W64) (OfBool))))))))))))
 scalar_of _ = OfBool
 
 scalar_as : {kind : TokenKind} {s : ScalarType} → IsScalar kind s → scalar_of kind ≡ s
@@ -230,7 +206,7 @@ pub data Tail (text : List ℕ) (tokens : List Token) (level start : ℕ) : RawE
   ended : {acc e : RawExpr} {from to : ℕ} → acc ≡ e → from ≡ to → Tail text tokens level start acc from e to
   operated : {acc e b all : RawExpr} {op : Op} {from n m to : ℕ} → SpellsInfix tokens level op from n → SpellsExpr text tokens (level + 1) b n m
       → all ≡ expr (span tokens start m) (kind.Two op acc b) → Tail text tokens level start all m e to → Tail text tokens level start acc from e to
-  cast : {acc e all : RawExpr} {s : ScalarType} {from n m to : ℕ} → level ≡ 9 → Takes tokens (Word AS) from n → SpellsScalar tokens s n m
+  cast : {acc e all : RawExpr} {s : ScalarType} {from n m to : ℕ} → level ≡ 9 → Takes tokens (Word keyword.As) from n → SpellsScalar tokens s n m
       → all ≡ expr (span tokens start m) (kind.Cast s acc) → Tail text tokens level start all m e to → Tail text tokens level start acc from e to
 
 moved : {text : List ℕ} {tokens : List Token} {level start : ℕ} {e w f : RawExpr} {to m end : ℕ} → e ≡ w → to ≡ m →
@@ -281,7 +257,7 @@ two_flat {text} {tokens} {lower} {own} {e} {a} {b} {op} {from} {m} {n} {to} leve
         }
 
 cast_flat : {text : List ℕ} {tokens : List Token} {e a : RawExpr} {s : ScalarType} {from m n to : ℕ} (level : ℕ) → level ≤ 9
-    → SpellsExpr text tokens 9 a from m → Takes tokens (Word AS) m n → SpellsScalar tokens s n to → e ≡ expr (span tokens from to) (kind.Cast s a)
+    → SpellsExpr text tokens 9 a from m → Takes tokens (Word keyword.As) m n → SpellsScalar tokens s n to → e ≡ expr (span tokens from to) (kind.Cast s a)
     → (level ≤ 9 → Heads text tokens level a from m) → Heads text tokens level e from to
 cast_flat {text} {tokens} {e} {a} {s} {from} {m} {n} {to} level le left t scalar is deeper = by_less (nat_lt level 9) refl
   where
@@ -351,7 +327,7 @@ stepped {tokens = tokens} {level = level} {start = start} {a = a} op one is nine
 stepped op one is nine stop (Tail.cast l t sc also r) s = clash op.token refl t (not_cast op.is)
 
 cast_stepped : {text : List ℕ} {tokens : List Token} {start : ℕ} {e a f : RawExpr} {s : ScalarType} {m n to end : ℕ} →
-    Takes tokens (Word AS) m n → SpellsScalar tokens s n to
+    Takes tokens (Word keyword.As) m n → SpellsScalar tokens s n to
     → e ≡ expr (span tokens start to) (kind.Cast s a) → Tail text tokens 9 start a m f end → NoneNext (after 9) tokens end →
     Tail text tokens 9 start e to f end
 cast_stepped t sc is (Tail.ended e g) s = token_none t (sym g) refl s
@@ -363,7 +339,7 @@ done_at : {text : List ℕ} {tokens : List Token} {level start : ℕ} {e f : Raw
     Tail text tokens level start e to f end → NoneNext (after level) tokens to → (e ≡ f) × (to ≡ end)
 done_at (Tail.ended e g) s = (e, g)
 done_at (Tail.operated op b is r) s = op_clash op.is op.token refl s
-done_at (Tail.cast l t sc is r) s = token_none t refl (subst (λ k. has (after k) (Keyword AS) ≡ true) (sym l) refl) s
+done_at (Tail.cast l t sc is r) s = token_none t refl (subst (λ k. has (after k) (Keyword keyword.As) ≡ true) (sym l) refl) s
 
 finish : {text : List ℕ} {tokens : List Token} {e : RawExpr} {from to : ℕ} (level : ℕ) → level ≤ 9 →
     Grows text tokens level e from to → OneExpr text tokens level e from to
@@ -420,7 +396,7 @@ step : {text : List ℕ} {tokens : List Token} {level : ℕ} {e a b : RawExpr} {
     → OneExpr text tokens (level + 1) b n to → e ≡ expr (span tokens from to) (kind.Two op a b) → Grows text tokens level e from to
 step op nine g one is = record { goes = λ stop h k f end q t s. stepped op one is nine stop (g.goes (op_stop op.is op.token) h k f end q t s) s }
 
-cast_step : {text : List ℕ} {tokens : List Token} {e a : RawExpr} {s : ScalarType} {from m n to : ℕ} → Takes tokens (Word AS) m n →
+cast_step : {text : List ℕ} {tokens : List Token} {e a : RawExpr} {s : ScalarType} {from m n to : ℕ} → Takes tokens (Word keyword.As) m n →
     SpellsScalar tokens s n to → Grows text tokens 9 a from m
     → e ≡ expr (span tokens from to) (kind.Cast s a) → Grows text tokens 9 e from to
 cast_step t sc g is = record { goes = λ stop h k f end q tail s. cast_stepped t sc is (g.goes (stops t refl) h k f end q tail s) s }
@@ -435,7 +411,7 @@ two_closed {own = own} le op left right is = let r = room_left op.is in let r8 =
     (step op (omega (arith, r8)) (left_grows op.is (left r.0)) (right (omega (arith, r8))).one is))
 
 pub cast_closed : {text : List ℕ} {tokens : List Token} {level : ℕ} {e a : RawExpr} {s : ScalarType} {from m n to : ℕ} → level ≤ 9 →
-    Takes tokens (Word AS) m n → SpellsScalar tokens s n to
+    Takes tokens (Word keyword.As) m n → SpellsScalar tokens s n to
     → (9 ≤ 10 → Closed text tokens 9 a from m) → e ≡ expr (span tokens from to) (kind.Cast s a) → Closed text tokens level e from to
 cast_closed le t sc left is = lower_closed le (omega arith) (closed 9 (omega arith) (cast_step t sc ((left (omega arith)).grows (omega arith)) is))
 

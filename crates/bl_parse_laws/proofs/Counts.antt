@@ -1,57 +1,23 @@
 -- How the counts of rule Depth go on from token to token.
-use Rattle.std.proofs.Common.{
-  ◌≡◌,
-  ℕ,
-  zero,
-  suc,
-  ◌+◌,
-  ◌-◌,
-  ◌<◌,
-  ◌≤◌,
-  Bool,
-  true,
-  false,
-  cond,
-  not,
-  ◌&&◌,
-  ◌||◌,
-  List,
-  [],
-  ◌∷◌,
-  ◌++◌,
-  take,
-  refl,
-  ap,
-  sym,
-  ◌∙◌,
-  arith,
-  ◌⊎◌,
-  inl,
-  inr,
-}
+use Rattle.std.proofs.Common.{◌≡◌, ℕ, zero, suc, ◌+◌, ◌-◌, ◌<◌, ◌≤◌, Bool, true, false, cond, not, ◌&&◌, ◌||◌, List, [], ◌∷◌, ◌++◌, take, refl, ap, sym, ◌∙◌}
+use Rattle.std.proofs.Common.{arith, ◌⊎◌, inl, inr}
 use Rattle.std.specs.Prelude.{Option, Some, None, slice_get, option_map, nat_eq}
+use Rattle.std.proofs.lemmas.Bool.{not-true}
 use Rattle.bl_tree.specs.declared.token.Token.{Token}
 use Rattle.bl_tree.specs.declared.token.TokenKind.{TokenKind}
 use Rattle.bl_tree.specs.declared.token.TokenKind.TheVariants.{Name, Number, Word, Sign}
 use Rattle.bl_lex.specs.declared.sign.TheConstants.{ASSIGN, AT}
-use Rattle.bl_lex.specs.declared.word.TheConstants.{END}
-use Rattle.bl_parse_syntax.specs.Depth.{
-  is_one_of,
-  opening_words,
-  blocks_after,
-  is_counted,
-  is_last,
-  is_inner_word,
-  begins_run,
-  run_with,
-  open_after,
-  run_after,
-}
+use Rattle.bl_tree.specs.declared.token.Keyword.TheVariants as keyword
+use Rattle.bl_tree.specs.Keywords.{same_word}
+use Rattle.bl_parse_syntax.specs.Depth.{is_word_of, opening_words, blocks_after, is_counted, is_last, is_inner_word, begins_run, run_with}
+use Rattle.bl_parse_syntax.specs.Depth.{open_after, run_after}
 use Rattle.bl_parse_syntax.specs.inner.Depth.{last_kind}
 use Rattle.bl_parse_syntax.specs.Rules.{PassesDepth}
 use Rattle.bl_parse_syntax.proofs.Depths.{open_next, last_next, run_next}
 use Rattle.bl_parse.specs.At.{Takes}
 use Rattle.bl_parse.proofs.ReturnLemmas.{token_at}
+use Rattle.bl_parse.proofs.ReadLemmas.{same_some}
+use Rattle.bl_parse_laws.proofs.Spans.{position}
 
 -- the blocks that are open before the token at a position
 pub open_at : List Token → ℕ → ℕ
@@ -65,16 +31,10 @@ run_at tokens k = run_after 0 None (take k tokens)
 before_at : List Token → ℕ → Option TokenKind
 before_at tokens k = last_kind None (take k tokens)
 
-some_same : {A : Type 0} {a b : A} → Some a ≡ Some b → a ≡ b
-some_same e = cc
-
-take_more : (tokens : List Token) (k : ℕ) (one : Token) → slice_get tokens k ≡ Some one → take (suc k) tokens ≡ take k tokens ++ one ∷ []
+pub take_more : (tokens : List Token) (k : ℕ) (one : Token) → slice_get tokens k ≡ Some one → take (suc k) tokens ≡ take k tokens ++ one ∷ []
 take_more [] k one e = cc
-take_more (x ∷ xs) zero one e = ap (λ t. t ∷ []) (some_same e)
+take_more (x ∷ xs) zero one e = ap (λ t. t ∷ []) (same_some e)
 take_more (x ∷ xs) (suc k) one e = ap (λ ts. x ∷ ts) (take_more xs k one e)
-
-position : {k to : ℕ} → to ≡ k + 1 → to ≡ suc k
-position next = omega (arith, next)
 
 -- the tokens before a position, with the one there
 record Front (tokens : List Token) (kind : TokenKind) (from to : ℕ) : Type 0 where
@@ -86,7 +46,7 @@ front : {tokens : List Token} {kind : TokenKind} {from to : ℕ} → Takes token
 front {tokens} {from = from} t = let o = token_at tokens from t.stands in
     record {
       one = o.0;
-      kind_is = some_same (sym (ap (option_map (λ token. token.kind)) o.1) ∙ t.stands);
+      kind_is = same_some (sym (ap (option_map (λ token. token.kind)) o.1) ∙ t.stands);
       front_is = ap (λ k. take k tokens) (position t.next) ∙ take_more tokens from o.0 o.1;
     }
 
@@ -111,19 +71,19 @@ before_step {tokens} {from = from} t = let f = front t in
 
 -- the token opens and closes no block
 abbrev pub is_level : TokenKind → Bool
-is_level (Word k) = not (is_one_of opening_words k) && not (nat_eq k END)
+is_level (Word k) = not (is_word_of opening_words k) && not (same_word k keyword.End)
 is_level _ = true
 
 -- the token opens a block
 abbrev pub is_opening : TokenKind → Bool
-is_opening (Word k) = is_one_of opening_words k
+is_opening (Word k) = is_word_of opening_words k
 is_opening _ = false
 
-levels : (n : ℕ) (kind : TokenKind) → is_level kind ≡ true → blocks_after n kind ≡ n
+pub levels : (n : ℕ) (kind : TokenKind) → is_level kind ≡ true → blocks_after n kind ≡ n
 levels n Name level = refl
 levels n (Number v) level = refl
 levels n (Sign k) level = refl
-levels n (Word k) level = by_tests (is_one_of opening_words k) (nat_eq k END) level
+levels n (Word k) level = by_tests (is_word_of opening_words k) (same_word k keyword.End) level
   where
     by_tests : (opens ends : Bool) → (not opens && not ends) ≡ true → cond opens (n + 1) (cond ends (n - 1) n) ≡ n
     by_tests false false level = refl
@@ -134,7 +94,7 @@ pub level : {tokens : List Token} {kind : TokenKind} {from to : ℕ} → Takes t
     open_at tokens to ≡ open_at tokens from
 level {tokens} {kind} {from} t is = open_step t ∙ levels (open_at tokens from) kind is
 
-opened : (n : ℕ) (kind : TokenKind) → is_opening kind ≡ true → blocks_after n kind ≡ n + 1
+pub opened : (n : ℕ) (kind : TokenKind) → is_opening kind ≡ true → blocks_after n kind ≡ n + 1
 opened n Name is = cc
 opened n (Number v) is = cc
 opened n (Sign k) is = cc
@@ -144,7 +104,7 @@ pub opens : {tokens : List Token} {kind : TokenKind} {from to : ℕ} → Takes t
     open_at tokens to ≡ open_at tokens from + 1
 opens {tokens} {kind} {from} t is = open_step t ∙ opened (open_at tokens from) kind is
 
-pub closes : {tokens : List Token} {from to : ℕ} → Takes tokens (Word END) from to → open_at tokens to ≡ open_at tokens from - 1
+pub closes : {tokens : List Token} {from to : ℕ} → Takes tokens (Word keyword.End) from to → open_at tokens to ≡ open_at tokens from - 1
 closes t = open_step t
 
 -- ---- runs
@@ -156,18 +116,14 @@ is_inner (Number v) = true
 is_inner (Word k) = is_inner_word k
 is_inner (Sign k) = not (nat_eq k ASSIGN || nat_eq k AT)
 
-opposite : (b : Bool) → not b ≡ true → b ≡ false
-opposite true is = cc
-opposite false is = refl
-
 inner : (before : Option TokenKind) (kind : TokenKind) → is_inner kind ≡ true → begins_run before kind ≡ false
 inner before Name is = cc
 inner None (Number v) is = refl
 inner (Some p) (Number v) is = refl
 inner None (Word k) is = rw is refl
 inner (Some p) (Word k) is = rw is refl
-inner None (Sign k) is = opposite _ is
-inner (Some p) (Sign k) is = opposite _ is
+inner None (Sign k) is = not-true _ is
+inner (Some p) (Sign k) is = not-true _ is
 
 run_of : (run : ℕ) (before : Option TokenKind) (kind : TokenKind) (starts counted : Bool) → begins_run before kind ≡ starts →
     is_counted kind ≡ counted → run_with run before kind ≡ cond starts 0 (cond counted (run + 1) run)
@@ -208,7 +164,7 @@ pub record Limits (tokens : List Token) : Type 0 where
   pub blocks : (k : ℕ) → open_at tokens k ≤ 100
   pub run : (k : ℕ) → run_at tokens k ≤ 200
 
-at_most : (n limit : ℕ) → ¬ (limit < n) → n ≤ limit
+pub at_most : (n limit : ℕ) → ¬ (limit < n) → n ≤ limit
 at_most n limit never = by_order (order n limit)
   where
     order : (n limit : ℕ) → (n ≤ limit) ⊎ (limit < n)

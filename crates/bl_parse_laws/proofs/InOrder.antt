@@ -1,6 +1,7 @@
 -- Statements and the conditions of loops begin one after another in a tree that is spelled.
 use Rattle.std.proofs.Common.{◌≡◌, ℕ, ◌+◌, ◌≤◌, Bool, true, List, [], ◌∷◌, ◌++◌, map, refl, ap, sym, ◌∙◌, subst, arith}
 use Rattle.std.specs.Prelude.{Option}
+use Rattle.bl_tree.specs.declared.token.Keyword.{Keyword}
 use Rattle.bl_tree.specs.declared.place.Place.{Place}
 use Rattle.bl_tree.specs.declared.token.Token.{Token}
 use Rattle.bl_tree.specs.declared.tree.Guard.{Guard}
@@ -20,22 +21,8 @@ use Rattle.bl_parse_tree.specs.declared.stmt.RawPath.{RawPath}
 use Rattle.bl_parse_tree.specs.declared.stmt.RawStmt.{RawStmt, fold-roll-RawStmt, roll-RawStmt}
 use Rattle.bl_parse_tree.specs.declared.stmt.RawStmtKind.{RawStmtKind, fold-RawStmtKind, fold-roll-RawStmtKind}
 use Rattle.bl_parse_tree.specs.declared.stmt.RawStmtKind as kind
-use Rattle.bl_parse_tree.specs.declared.stmt.RawStmtKind.TheVariants.{
-  rolls-Var,
-  rolls-Let,
-  rolls-Const,
-  rolls-Assign,
-  rolls-Call,
-  rolls-Await,
-  rolls-Run,
-  rolls-If,
-  rolls-Cobegin,
-  rolls-When,
-  rolls-Repeat,
-  rolls-Until,
-  rolls-While,
-  rolls-Return,
-}
+use Rattle.bl_parse_tree.specs.declared.stmt.RawStmtKind.TheVariants.{rolls-Var, rolls-Let, rolls-Const, rolls-Assign, rolls-Call, rolls-Await, rolls-Run}
+use Rattle.bl_parse_tree.specs.declared.stmt.RawStmtKind.TheVariants.{rolls-If, rolls-Cobegin, rolls-When, rolls-Repeat, rolls-Until, rolls-While, rolls-Return}
 use Rattle.bl_parse_tree.specs.declared.types.RawType.{RawType}
 use Rattle.bl_parse_tree.specs.Starts.{RawStartOffsets, start_of, stmt_kind_starts, arm_starts, branch_starts, stmt_layer_starts, starts_of, item_starts, all_starts, ascends}
 use Rattle.bl_parse.specs.At.{span, start_at}
@@ -186,7 +173,7 @@ module _ {text : List ℕ} {tokens : List Token} where
     block (SpellsBlock.more_stmts body s is) = more_rise starts_of _ (block body) (statement s) is
 
     -- an arm begins with a keyword
-    arm : {head : ℕ} {one : RawArm} {from to : ℕ} → SpellsArm text tokens head one from to → Rising tokens (one_arm_starts one) (from + 1) to
+    arm : {head : Keyword} {one : RawArm} {from to : ℕ} → SpellsArm text tokens head one from to → Rising tokens (one_arm_starts one) (from + 1) to
     arm (SpellsArm.headed w e t body is) = same (ap one_arm_starts is ∙ arm_is _ _)
         (earlier (omega (arith, w.next, (level.expression e).moves, t.next)) (block body).rising)
 

@@ -19,30 +19,10 @@ use Rattle.bl_parse_tree.specs.declared.types.RawType.{RawType}
 use Rattle.bl_parse.specs.At.{Takes}
 use Rattle.bl_parse.specs.Operators.{IsOperator, IsPrefix, IsScalar}
 use Rattle.bl_parse.specs.Expressions.{IsTruth, SpellsNone, SpellsExpr, SpellsTarget, SpellsPart, SpellsParts, SpellsInputs, SpellsExprs}
-use Rattle.bl_parse.specs.Programs.{
-  SpellsField,
-  SpellsFieldList,
-  SpellsStruct,
-  SpellsMark,
-  SpellsParam,
-  SpellsParamList,
-  SpellsParams,
-  SpellsOutputParams,
-  SpellsResult,
-}
-use Rattle.bl_parse.specs.Statements.{
-  SpellsTyping,
-  SpellsMaybeTyping,
-  SpellsValue,
-  SpellsInitial,
-  SpellsConstant,
-  SpellsFields,
-  SpellsPath,
-  SpellsPaths,
-  SpellsOutputs,
-  SpellsReceiver,
-  SpellsWeak,
-}
+use Rattle.bl_parse.specs.Programs.{SpellsField, SpellsFieldList, SpellsStruct, SpellsMark, SpellsParam, SpellsParamList, SpellsParams, SpellsOutputParams}
+use Rattle.bl_parse.specs.Programs.{SpellsResult}
+use Rattle.bl_parse.specs.Statements.{SpellsTyping, SpellsMaybeTyping, SpellsValue, SpellsInitial, SpellsConstant, SpellsFields, SpellsPath, SpellsPaths}
+use Rattle.bl_parse.specs.Statements.{SpellsOutputs, SpellsReceiver, SpellsWeak}
 use Rattle.bl_parse.specs.Types.{SpellsLength, SpellsType}
 use Rattle.bl_parse_laws.proofs.Counts.{open_at, is_level, level, opens, closes}
 
@@ -80,16 +60,16 @@ infix_level IsOperator.times = refl
 infix_level IsOperator.divided = refl
 infix_level IsOperator.remainder = refl
 
-prefix_level : {kind : TokenKind} {op : Op} → IsPrefix kind op → is_level kind ≡ true
+pub prefix_level : {kind : TokenKind} {op : Op} → IsPrefix kind op → is_level kind ≡ true
 prefix_level IsPrefix.negation = refl
 prefix_level IsPrefix.complement = refl
 prefix_level IsPrefix.denial = refl
 
-truth_level : {kind : TokenKind} {b : Bool} → IsTruth kind b → is_level kind ≡ true
+pub truth_level : {kind : TokenKind} {b : Bool} → IsTruth kind b → is_level kind ≡ true
 truth_level IsTruth.yes = refl
 truth_level IsTruth.no = refl
 
-scalar_level : {kind : TokenKind} {s : ScalarType} → IsScalar kind s → is_level kind ≡ true
+pub scalar_level : {kind : TokenKind} {s : ScalarType} → IsScalar kind s → is_level kind ≡ true
 scalar_level IsScalar.bool = refl
 scalar_level IsScalar.int8 = refl
 scalar_level IsScalar.int16 = refl

@@ -5,32 +5,11 @@ use Rattle.bl_tree.specs.declared.scalar.Scalar.{Scalar as ScalarType}
 use Rattle.bl_tree.specs.declared.token.Token.{Token}
 use Rattle.bl_tree.specs.declared.token.TokenKind.{TokenKind}
 use Rattle.bl_tree.specs.declared.token.TokenKind.TheVariants.{Word}
-use Rattle.bl_lex.specs.declared.word.TheConstants.{AS}
+use Rattle.bl_tree.specs.declared.token.Keyword.TheVariants as keyword
 use Rattle.bl_parse_syntax.specs.declared.grammar.Part.{Part}
-use Rattle.bl_parse_syntax.specs.declared.grammar.Part.TheVariants.{
-  Expr,
-  ExprRest,
-  And,
-  AndRest,
-  Comparison,
-  ComparisonRest,
-  BitOr,
-  BitOrRest,
-  BitXor,
-  BitXorRest,
-  BitAnd,
-  BitAndRest,
-  Shift,
-  ShiftRest,
-  Sum,
-  SumRest,
-  Product,
-  ProductRest,
-  Cast,
-  CastRest,
-  Unary,
-  Primary,
-}
+use Rattle.bl_parse_syntax.specs.declared.grammar.Part.TheVariants.{Expr, ExprRest, And, AndRest, Comparison, ComparisonRest, BitOr, BitOrRest, BitXor}
+use Rattle.bl_parse_syntax.specs.declared.grammar.Part.TheVariants.{BitXorRest, BitAnd, BitAndRest, Shift, ShiftRest, Sum, SumRest, Product, ProductRest, Cast}
+use Rattle.bl_parse_syntax.specs.declared.grammar.Part.TheVariants.{CastRest, Unary, Primary}
 use Rattle.bl_parse_syntax.specs.Grammar.{Piece, the}
 use Rattle.bl_parse_syntax.specs.Grammar.IsAmong.{here, later}
 use Rattle.bl_parse.specs.At.{Takes}
@@ -190,7 +169,7 @@ two_open {own = own} le op a b = let r = room_left op.is in let r8 = r.1 in
     lower le (omega (arith, r8)) (chained op.is op.token (a r.0) (whole (own + 1) (b (omega (arith, r8)))))
 
 -- operand, `as`, type
-pub cast_open : {level : ℕ} {s : ScalarType} {tokens : List Token} {from m n to : ℕ} → level ≤ 9 → Takes tokens (Word AS) m n →
+pub cast_open : {level : ℕ} {s : ScalarType} {tokens : List Token} {from m n to : ℕ} → level ≤ 9 → Takes tokens (Word keyword.As) m n →
     SpellsScalar tokens s n to
     → (9 ≤ 10 → Open tokens 9 from m) → Open tokens level from to
 cast_open {tokens = tokens} {from} {to = to} le t s a = lower le (omega arith) casted

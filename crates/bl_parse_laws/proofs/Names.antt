@@ -19,18 +19,8 @@ use Rattle.bl_parse_tree.specs.declared.types.RawLength.{RawLength}
 use Rattle.bl_parse_tree.specs.declared.types.RawType.{RawType, fold-roll-RawType}
 use Rattle.bl_parse_tree.specs.declared.types.RawType as form
 use Rattle.bl_parse_tree.specs.declared.types.RawType.TheVariants.{rolls-Scalar, rolls-Struct, rolls-Array}
-use Rattle.bl_parse_tree.specs.Names.{
-  named,
-  length_named,
-  type_named,
-  kind_named,
-  part_named,
-  expr_layer_named,
-  target_layer_named,
-  expr_named,
-  target_named,
-  path_named,
-}
+use Rattle.bl_parse_tree.specs.Names.{named, length_named, type_named, kind_named, part_named, expr_layer_named, target_layer_named, expr_named, target_named}
+use Rattle.bl_parse_tree.specs.Names.{path_named}
 use Rattle.bl_parse.specs.At.{SpellsName}
 use Rattle.bl_parse.specs.Expressions.{expr, target, SpellsExpr, SpellsTarget, SpellsPart, SpellsParts, SpellsInputs, SpellsExprs}
 use Rattle.bl_parse.specs.inner.Reading.{NamesStand}

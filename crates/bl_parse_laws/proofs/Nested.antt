@@ -1,28 +1,10 @@
 -- Blocks nest within the limit of rule Depth in a tree that is spelled, and so do expressions.
-use Rattle.std.proofs.Common.{
-  ◌≡◌,
-  ℕ,
-  ◌+◌,
-  ◌-◌,
-  ◌≤◌,
-  Bool,
-  true,
-  List,
-  [],
-  ◌∷◌,
-  ◌++◌,
-  map,
-  max,
-  refl,
-  ap,
-  sym,
-  ◌∙◌,
-  subst,
-  arith,
-}
+use Rattle.std.proofs.Common.{◌≡◌, ℕ, ◌+◌, ◌-◌, ◌≤◌, Bool, true, List, [], ◌∷◌, ◌++◌, map, max, refl, ap, sym, ◌∙◌, subst, arith}
 use Rattle.std.specs.Prelude.{Option}
 use Rattle.std.specs.List.{list_all}
 use Rattle.std.proofs.lemmas.Bool.{le-leb}
+use Rattle.bl_tree.proofs.Basics.{map_push}
+use Rattle.bl_tree.specs.declared.token.Keyword.{Keyword}
 use Rattle.bl_tree.specs.declared.place.Place.{Place}
 use Rattle.bl_tree.specs.declared.token.Token.{Token}
 use Rattle.bl_tree.specs.declared.token.TokenKind.{TokenKind}
@@ -45,43 +27,18 @@ use Rattle.bl_parse_tree.specs.declared.stmt.RawPath.{RawPath}
 use Rattle.bl_parse_tree.specs.declared.stmt.RawStmt.{RawStmt, fold-roll-RawStmt, roll-RawStmt}
 use Rattle.bl_parse_tree.specs.declared.stmt.RawStmtKind.{RawStmtKind, fold-RawStmtKind, fold-roll-RawStmtKind}
 use Rattle.bl_parse_tree.specs.declared.stmt.RawStmtKind as kind
-use Rattle.bl_parse_tree.specs.declared.stmt.RawStmtKind.TheVariants.{
-  rolls-Var,
-  rolls-Let,
-  rolls-Const,
-  rolls-Assign,
-  rolls-Call,
-  rolls-Await,
-  rolls-Run,
-  rolls-If,
-  rolls-Cobegin,
-  rolls-When,
-  rolls-Repeat,
-  rolls-Until,
-  rolls-While,
-  rolls-Return,
-}
+use Rattle.bl_parse_tree.specs.declared.stmt.RawStmtKind.TheVariants.{rolls-Var, rolls-Let, rolls-Const, rolls-Assign, rolls-Call, rolls-Await, rolls-Run}
+use Rattle.bl_parse_tree.specs.declared.stmt.RawStmtKind.TheVariants.{rolls-If, rolls-Cobegin, rolls-When, rolls-Repeat, rolls-Until, rolls-While, rolls-Return}
 use Rattle.bl_parse_tree.specs.declared.types.RawType.{RawType}
 use Rattle.bl_parse_tree.specs.Depths.{expr_depth, target_depth, optional_depth, stmt_kind_depth, arm_depth, branch_depth, stmt_layer_depth, depth_of, item_shallow}
 use Rattle.bl_parse.specs.At.{Takes}
 use Rattle.bl_parse.specs.Expressions.{SpellsExpr, SpellsTarget, SpellsInputs}
 use Rattle.bl_parse.specs.Programs.{IsUnit, SpellsItem, SpellsItems, SpellsUnit, Spells}
-use Rattle.bl_parse.specs.Statements.{
-  IsGuard,
-  SpellsInitial,
-  SpellsConstant,
-  SpellsStmt,
-  SpellsKind,
-  SpellsBlock,
-  SpellsArm,
-  SpellsArms,
-  SpellsElse,
-  SpellsBranch,
-  SpellsBranches,
-}
+use Rattle.bl_parse.specs.Statements.{IsGuard, SpellsInitial, SpellsConstant, SpellsStmt, SpellsKind, SpellsBlock, SpellsArm, SpellsArms, SpellsElse}
+use Rattle.bl_parse.specs.Statements.{SpellsBranch, SpellsBranches}
 use Rattle.bl_parse_laws.proofs.Counts.{open_at, is_level, is_opening, level, opens, closes, from_nothing, Limits, limits}
 use Rattle.bl_parse_laws.proofs.Level as flat
-use Rattle.bl_parse_laws.proofs.Members.{mapped_more, greatest_more}
+use Rattle.bl_parse_laws.proofs.Members.{greatest_more}
 use Rattle.bl_parse_laws.proofs.Runs as runs
 use Rattle.bl_parse_laws.proofs.Tests.{both, Each, none_hold, more_hold, listed}
 
@@ -175,14 +132,14 @@ fits_more : {around : ℕ} (ds : List Depth) (d : Depth) → Fits around (of_all
 fits_more ds d h k = record {
   blocks = omega (
     arith,
-    ap greatest (mapped_more (λ (e : Depth). e.blocks) ds d)
+    ap greatest (map_push (λ (e : Depth). e.blocks) ds d)
         ∙ greatest_more (map (λ (e : Depth). e.blocks) ds) d.blocks,
     h.blocks,
     k.blocks,
   );
   exprs = omega (
     arith,
-    ap greatest (mapped_more (λ (e : Depth). e.exprs) ds d)
+    ap greatest (map_push (λ (e : Depth). e.exprs) ds d)
         ∙ greatest_more (map (λ (e : Depth). e.exprs) ds) d.exprs,
     h.exprs,
     k.exprs,
@@ -206,7 +163,7 @@ none_fit f {around} is room = record { fit = fits_as (ap (λ xs. of_all (map f x
 more_fit : {A : Type 0} (f : A → Depth) {around : ℕ} {all xs : List A} (x : A) → All f around xs → Fits around (f x) →
     all ≡ xs ++ x ∷ [] → All f around all
 more_fit f {xs = xs} x h k is = record {
-  fit = fits_as (ap (λ ys. of_all (map f ys)) is ∙ ap of_all (mapped_more f xs x))
+  fit = fits_as (ap (λ ys. of_all (map f ys)) is ∙ ap of_all (map_push f xs x))
       (fits_more (map f xs) (f x) h.fit k);
 }
 
@@ -252,11 +209,11 @@ nests_leaf : {tokens : List Token} {n from to : ℕ} → Limits tokens → n ≤
     Nests tokens from to (leaf n)
 nests_leaf {n = n} {from = from} limit short same = record { same = same; fits = fits_leaf n (limit.blocks from) short }
 
-unit_opening : {kind : TokenKind} {of : UnitKind} → IsUnit kind of → is_opening kind ≡ true
+pub unit_opening : {kind : TokenKind} {of : UnitKind} → IsUnit kind of → is_opening kind ≡ true
 unit_opening IsUnit.function = refl
 unit_opening IsUnit.activity = refl
 
-guard_level : {kind : TokenKind} {guard : Guard} → IsGuard kind guard → is_level kind ≡ true
+pub guard_level : {kind : TokenKind} {guard : Guard} → IsGuard kind guard → is_level kind ≡ true
 guard_level IsGuard.abort = refl
 guard_level IsGuard.reset = refl
 
@@ -326,7 +283,7 @@ module _ {text : List ℕ} {tokens : List Token} (limit : Limits tokens) where
     block_rows (SpellsBlock.more_stmts {from = from} body s is) = let front = block_rows body in let last = statement s in
         record { same = last.same ∙ front.same; all = more_fit depth_of _ front.all (refits front.same last.fits) is }
 
-    arm : {head : ℕ} {one : RawArm} {from to : ℕ} → SpellsArm text tokens head one from to → (around : ℕ) →
+    arm : {head : Keyword} {one : RawArm} {from to : ℕ} → SpellsArm text tokens head one from to → (around : ℕ) →
         ((m : ℕ) → Takes tokens (Word head) from m → open_at tokens m ≡ around + 1)
         → Under tokens around to (one_arm_depth one)
     arm (SpellsArm.headed w e t body is) around opening =

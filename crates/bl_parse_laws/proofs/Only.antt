@@ -1,6 +1,7 @@
 -- What is spelled from a position on is one, where nothing goes on with it.
 use Rattle.std.proofs.Common.{◌≡◌, ℕ, ◌+◌, Bool, true, false, List, [], ◌∷◌, ◌++◌, refl, ap, sym, ◌∙◌, subst}
 use Rattle.std.specs.Prelude.{Option, Some, None}
+use Rattle.bl_tree.proofs.Basics.{true_not_false}
 use Rattle.bl_tree.specs.declared.token.Token.{Token}
 use Rattle.bl_tree.specs.declared.token.TokenKind.{TokenKind}
 use Rattle.bl_parse_syntax.specs.declared.grammar.Class.{Class}
@@ -11,13 +12,8 @@ use Rattle.bl_parse_syntax.proofs.Right.{all_has, apart}
 use Rattle.bl_parse_tree.specs.declared.name.Name.{Name}
 use Rattle.bl_parse.specs.At.{kind_at, Takes, SpellsName}
 use Rattle.bl_parse.specs.inner.Reading.{next_among, NoneNext}
-use Rattle.bl_parse_laws.proofs.Spans.{same_self}
-
-no_truth : true ≡ false → ⊥
-no_truth e = cc
-
-some_same : {A : Type 0} {a b : A} → Some a ≡ Some b → a ≡ b
-some_same e = cc
+use Rattle.bl_parse.proofs.ReadLemmas.{same_some}
+use Rattle.bl_parse_syntax.proofs.Predictive.{same_self}
 
 -- a token of one of the classes stands next
 pub record Begun (classes : List Class) (tokens : List Token) (k : ℕ) : Type 0 where
@@ -28,11 +24,11 @@ there {tokens} e t = ap (kind_at tokens) e ∙ t.stands
 
 -- a position has one token
 pub same_kind : {tokens : List Token} {a b : TokenKind} {k j m n : ℕ} → Takes tokens a k m → k ≡ j → Takes tokens b j n → a ≡ b
-same_kind t e u = some_same (sym t.stands ∙ there e u)
+same_kind t e u = same_some (sym t.stands ∙ there e u)
 
 pub clash : {P : Type 0} {tokens : List Token} {a b : TokenKind} {k j m n : ℕ} → Takes tokens a k m → k ≡ j → Takes tokens b j n →
     same_class (class_of a) (class_of b) ≡ false → P
-clash {a = a} t e u differ = absurd (no_truth (sym (same_self (class_of a))
+clash {a = a} t e u differ = absurd (true_not_false (sym (same_self (class_of a))
     ∙ (ap (λ kind. same_class (class_of a) (class_of kind)) (same_kind t e u) ∙ differ)))
 
 pub next_same : {tokens : List Token} {kind other : TokenKind} {a b c d : ℕ} → a ≡ c → Takes tokens kind a b → Takes tokens other c d → b ≡ d
@@ -40,11 +36,11 @@ next_same e t u = t.next ∙ (ap (λ n. n + 1) e ∙ sym u.next)
 
 -- what doesn't stand next
 pub among_none : {P : Type 0} {tokens : List Token} {k : ℕ} {classes : List Class} → Begun classes tokens k → NoneNext classes tokens k → P
-among_none h none = absurd (no_truth (sym h.on ∙ none.off))
+among_none h none = absurd (true_not_false (sym h.on ∙ none.off))
 
 pub token_none : {P : Type 0} {tokens : List Token} {kind : TokenKind} {k j m : ℕ} {classes : List Class} → Takes tokens kind j m →
     k ≡ j → has classes (class_of kind) ≡ true → NoneNext classes tokens k → P
-token_none {classes = classes} t e on none = absurd (no_truth (sym on ∙ (ap (next_among classes) (sym (there e t)) ∙ none.off)))
+token_none {classes = classes} t e on none = absurd (true_not_false (sym on ∙ (ap (next_among classes) (sym (there e t)) ∙ none.off)))
 
 pub stops : {tokens : List Token} {kind : TokenKind} {k m : ℕ} {classes : List Class} → Takes tokens kind k m →
     has classes (class_of kind) ≡ false → NoneNext classes tokens k

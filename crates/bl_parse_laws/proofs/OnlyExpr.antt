@@ -5,7 +5,8 @@ use Rattle.bl_tree.specs.declared.scalar.Op.{Op}
 use Rattle.bl_tree.specs.declared.token.Token.{Token}
 use Rattle.bl_tree.specs.declared.token.TokenKind.{TokenKind}
 use Rattle.bl_tree.specs.declared.token.TokenKind.TheVariants.{Number, Word, Sign}
-use Rattle.bl_lex.specs.declared.word.TheConstants.{TRUE, FALSE, PREV, NOT}
+use Rattle.bl_tree.specs.declared.token.Keyword.TheVariants as keyword
+use Rattle.bl_tree.specs.Keywords.{same_word}
 use Rattle.bl_lex.specs.declared.sign.TheConstants.{OPEN_PAREN, CLOSE_PAREN, OPEN_BRACKET, CLOSE_BRACKET, COMMA, DOT, MINUS, TILDE}
 use Rattle.bl_parse_syntax.specs.declared.grammar.Class.{Class}
 use Rattle.bl_parse_syntax.specs.declared.grammar.Class.TheVariants.{AnyName, AnyNumber, Keyword, Mark}
@@ -21,52 +22,13 @@ use Rattle.bl_parse_tree.specs.declared.expr.RawTarget.{RawTarget}
 use Rattle.bl_parse_tree.specs.declared.name.Name.{Name}
 use Rattle.bl_parse.specs.At.{kind_at, span, Takes, SpellsName}
 use Rattle.bl_parse.specs.Operators.{IsPrefix, SpellsPrefix}
-use Rattle.bl_parse.specs.Expressions.{
-  expr,
-  target,
-  is_number,
-  IsTruth,
-  SpellsTruth,
-  SpellsNone,
-  SpellsExpr,
-  SpellsTarget,
-  SpellsPart,
-  SpellsParts,
-  SpellsInputs,
-  SpellsExprs,
-}
+use Rattle.bl_parse.specs.Expressions.{expr, target, is_number, IsTruth, SpellsTruth, SpellsNone, SpellsExpr, SpellsTarget, SpellsPart, SpellsParts}
+use Rattle.bl_parse.specs.Expressions.{SpellsInputs, SpellsExprs}
 use Rattle.bl_parse.specs.inner.Reading.{NoneNext}
 use Rattle.bl_parse_laws.proofs.Levels.{room_left}
-use Rattle.bl_parse_laws.proofs.Only.{
-  One,
-  Elem,
-  Row,
-  Lined,
-  Linked,
-  Begin,
-  Begun,
-  meets,
-  meets_free,
-  one_name,
-  begun,
-  begun_within,
-  begun_stops,
-  same_kind,
-  next_same,
-  clash,
-  token_none,
-  among_none,
-  stops,
-  fewer,
-  add_row,
-  line_one,
-  line_more,
-  rows_same,
-  lines_same,
-  follows_plain,
-  linked,
-  linked_begin,
-}
+use Rattle.bl_parse_laws.proofs.Only.{One, Elem, Row, Lined, Linked, Begin, Begun, meets, meets_free, one_name, begun, begun_within, begun_stops, same_kind}
+use Rattle.bl_parse_laws.proofs.Only.{next_same, clash, token_none, among_none, stops, fewer, add_row, line_one, line_more, rows_same, lines_same}
+use Rattle.bl_parse_laws.proofs.Only.{follows_plain, linked, linked_begin}
 use Rattle.bl_parse_laws.proofs.Chains.{OneExpr, Closed, two_closed, cast_closed, unary_closed}
 
 -- two tokens that can't be one
@@ -77,7 +39,7 @@ differ {tokens = tokens} a b h e g off = among_none (subst (λ n. Begun b tokens
 -- ---- what an expression begins with
 
 abbrev prefixes : List Class
-prefixes = Mark MINUS ∷ Mark TILDE ∷ Keyword NOT ∷ []
+prefixes = Mark MINUS ∷ Mark TILDE ∷ Keyword keyword.Not ∷ []
 
 pub begun_in : {tokens : List Token} {kind : TokenKind} {k m : ℕ} (all : List Class) → Takes tokens kind k m →
     are_within (class_of kind ∷ []) all ≡ true → Begun all tokens k
@@ -88,15 +50,15 @@ prefix_within IsPrefix.negation = refl
 prefix_within IsPrefix.complement = refl
 prefix_within IsPrefix.denial = refl
 
-truth_within : {kind : TokenKind} {b : Bool} → IsTruth kind b → are_within (class_of kind ∷ []) (Keyword TRUE ∷ Keyword FALSE ∷ []) ≡ true
+truth_within : {kind : TokenKind} {b : Bool} → IsTruth kind b → are_within (class_of kind ∷ []) (Keyword keyword.True ∷ Keyword keyword.False ∷ []) ≡ true
 truth_within IsTruth.yes = refl
 truth_within IsTruth.no = refl
 
 begun_prefix : {tokens : List Token} {op : Op} {k m : ℕ} → SpellsPrefix tokens op k m → Begun prefixes tokens k
 begun_prefix h = begun_in prefixes h.token (prefix_within h.is)
 
-begun_truth : {tokens : List Token} {b : Bool} {k m : ℕ} → SpellsTruth tokens b k m → Begun (Keyword TRUE ∷ Keyword FALSE ∷ []) tokens k
-begun_truth h = begun_in (Keyword TRUE ∷ Keyword FALSE ∷ []) h.token (truth_within h.is)
+begun_truth : {tokens : List Token} {b : Bool} {k m : ℕ} → SpellsTruth tokens b k m → Begun (Keyword keyword.True ∷ Keyword keyword.False ∷ []) tokens k
+begun_truth h = begun_in (Keyword keyword.True ∷ Keyword keyword.False ∷ []) h.token (truth_within h.is)
 
 -- the classes that one operand can begin with
 abbrev heads : {text : List ℕ} {tokens : List Token} {level : ℕ} {e : RawExpr} {from to : ℕ} → SpellsExpr text tokens level e from to → List Class
@@ -105,8 +67,8 @@ heads (SpellsExpr.cast le a t s is) = []
 heads (SpellsExpr.negative le minus n is) = Mark MINUS ∷ []
 heads (SpellsExpr.one le op none a is) = prefixes
 heads (SpellsExpr.number n is) = AnyNumber ∷ []
-heads (SpellsExpr.truth t is) = Keyword TRUE ∷ Keyword FALSE ∷ []
-heads (SpellsExpr.before word n is) = Keyword PREV ∷ []
+heads (SpellsExpr.truth t is) = Keyword keyword.True ∷ Keyword keyword.False ∷ []
+heads (SpellsExpr.before word n is) = Keyword keyword.Prev ∷ []
 heads (SpellsExpr.read place is) = AnyName ∷ []
 heads (SpellsExpr.call n inputs none is) = AnyName ∷ []
 heads (SpellsExpr.parentheses opens e closes) = Mark OPEN_PAREN ∷ []
@@ -135,7 +97,7 @@ begun_expr (SpellsExpr.cast le a t s is) = begun_expr a
 begun_expr (SpellsExpr.negative le minus n is) = begun_in expression_starts minus refl
 begun_expr (SpellsExpr.one le op none a is) = begun_within prefixes expression_starts refl (begun_prefix op)
 begun_expr (SpellsExpr.number n is) = begun_in expression_starts n refl
-begun_expr (SpellsExpr.truth t is) = begun_within (Keyword TRUE ∷ Keyword FALSE ∷ []) expression_starts refl (begun_truth t)
+begun_expr (SpellsExpr.truth t is) = begun_within (Keyword keyword.True ∷ Keyword keyword.False ∷ []) expression_starts refl (begun_truth t)
 begun_expr (SpellsExpr.before word n is) = begun_in expression_starts word refl
 begun_expr (SpellsExpr.read place is) = begun_within (AnyName ∷ []) expression_starts refl (begun_target place)
 begun_expr (SpellsExpr.call n inputs none is) = begun_in expression_starts n.token refl
@@ -209,7 +171,7 @@ prefix_as IsPrefix.complement = refl
 prefix_as IsPrefix.denial = refl
 
 truth_of : TokenKind → Bool
-truth_of (Word w) = nat_eq w TRUE
+truth_of (Word w) = same_word w keyword.True
 truth_of _ = false
 
 truth_as : {kind : TokenKind} {b : Bool} → IsTruth kind b → truth_of kind ≡ b
@@ -285,13 +247,13 @@ module _ {text : List ℕ} {tokens : List Token} {e : RawExpr} where
   only_truth : {b : Bool} {from to : ℕ} → SpellsTruth tokens b from to → e ≡ expr (span tokens from to) (kind.Truth b) → Only text tokens e from to
   only_truth {from = from} t is f end (SpellsExpr.truth u also) s r = let b = next_same refl t.token u.token in
       (placed tokens from is also (ap kind.Truth (sym (truth_as t.is) ∙ (ap truth_of (same_kind t.token refl u.token) ∙ truth_as u.is))) b, b)
-  only_truth {from = from} t is f end q s r = differ (Keyword TRUE ∷ Keyword FALSE ∷ []) (heads q) (begun_truth t) refl (begun_heads q ten) refl
+  only_truth {from = from} t is f end q s r = differ (Keyword keyword.True ∷ Keyword keyword.False ∷ []) (heads q) (begun_truth t) refl (begun_heads q ten) refl
 
-  only_before : {n : Name} {from m to : ℕ} → Takes tokens (Word PREV) from m → SpellsName text tokens n m to →
+  only_before : {n : Name} {from m to : ℕ} → Takes tokens (Word keyword.Prev) from m → SpellsName text tokens n m to →
       e ≡ expr (span tokens from to) (kind.Prev n) → Only text tokens e from to
   only_before {from = from} t n is f end (SpellsExpr.before u other also) s r = let x =
       meets_free (one_name n) (next_same refl t u) other in (placed tokens from is also (ap kind.Prev x.0) x.1, x.1)
-  only_before {from = from} t n is f end q s r = differ (Keyword PREV ∷ []) (heads q) (begun t) refl (begun_heads q ten) refl
+  only_before {from = from} t n is f end q s r = differ (Keyword keyword.Prev ∷ []) (heads q) (begun t) refl (begun_heads q ten) refl
 
   only_read : {place : RawTarget} {from to : ℕ} → SpellsTarget text tokens place from to → One (SpellsTarget text tokens) after_name tokens place from to
       → e ≡ expr (span tokens from to) (kind.Read place) → Only text tokens e from to

@@ -1,12 +1,13 @@
 -- A statement is read in one way.
 use Rattle.std.proofs.Common.{◌≡◌, ℕ, true, cond, List, [], ◌∷◌, refl, ap, sym, ◌∙◌}
-use Rattle.std.specs.Prelude.{Option, Some, nat_eq}
+use Rattle.std.specs.Prelude.{Option, Some}
 use Rattle.bl_tree.specs.declared.scalar.Scalar.{Scalar as ScalarType}
 use Rattle.bl_tree.specs.declared.token.Token.{Token}
 use Rattle.bl_tree.specs.declared.token.TokenKind.{TokenKind}
 use Rattle.bl_tree.specs.declared.token.TokenKind.TheVariants.{Word, Sign}
 use Rattle.bl_tree.specs.declared.tree.Guard.{Guard as GuardKind}
-use Rattle.bl_lex.specs.declared.word.TheConstants.{ABORT}
+use Rattle.bl_tree.specs.declared.token.Keyword.TheVariants as keyword
+use Rattle.bl_tree.specs.Keywords.{same_word}
 use Rattle.bl_lex.specs.declared.sign.TheConstants.{OPEN_PAREN, CLOSE_PAREN, OPEN_BRACKET, COMMA, DOT, COLON, ASSIGN}
 use Rattle.bl_parse_syntax.specs.declared.grammar.Class.TheVariants.{AnyName, Mark}
 use Rattle.bl_parse_syntax.specs.Grammar.{class_of}
@@ -25,46 +26,10 @@ use Rattle.bl_parse.specs.Expressions.{SpellsInputs}
 use Rattle.bl_parse.specs.Operators.{IsScalar, SpellsScalar, scalar_classes}
 use Rattle.bl_parse.specs.inner.Reading.{NoneNext}
 use Rattle.bl_parse.specs.Types.{SpellsLength, SpellsType}
-use Rattle.bl_parse.specs.Statements.{
-  SpellsTyping,
-  SpellsMaybeTyping,
-  SpellsValue,
-  SpellsInitial,
-  SpellsConstant,
-  SpellsFields,
-  SpellsPath,
-  SpellsPaths,
-  SpellsOutputs,
-  SpellsReceiver,
-  IsGuard,
-  SpellsGuard,
-}
-use Rattle.bl_parse_laws.proofs.Only.{
-  One,
-  Elem,
-  Row,
-  Lined,
-  Linked,
-  Begun,
-  meets,
-  meets_free,
-  one_name,
-  begun,
-  same_kind,
-  next_same,
-  clash,
-  token_none,
-  stops,
-  fewer,
-  add_row,
-  line_one,
-  line_more,
-  rows_same,
-  lines_same,
-  follows_plain,
-  linked,
-  linked_begin,
-}
+use Rattle.bl_parse.specs.Statements.{SpellsTyping, SpellsMaybeTyping, SpellsValue, SpellsInitial, SpellsConstant, SpellsFields, SpellsPath, SpellsPaths}
+use Rattle.bl_parse.specs.Statements.{SpellsOutputs, SpellsReceiver, IsGuard, SpellsGuard}
+use Rattle.bl_parse_laws.proofs.Only.{One, Elem, Row, Lined, Linked, Begun, meets, meets_free, one_name, begun, same_kind, next_same, clash, token_none, stops}
+use Rattle.bl_parse_laws.proofs.Only.{fewer, add_row, line_one, line_more, rows_same, lines_same, follows_plain, linked, linked_begin}
 use Rattle.bl_parse_laws.proofs.Chains.{same_scalar}
 use Rattle.bl_parse_laws.proofs.OnlyExpr.{differ, begun_in, same_number, no_paren, only_inputs, only_expr}
 
@@ -271,7 +236,7 @@ same_start (SpellsReceiver.given h t is) n i e (SpellsReceiver.given g u also) m
     record { receiver = by1 (λ (t : RawPath). Some t) w.0 is also; name = x.0; inputs = y.0; at = y.1 }
 
 guard_of : TokenKind → GuardKind
-guard_of (Word w) = cond (nat_eq w ABORT) GuardKind.Abort GuardKind.Reset
+guard_of (Word w) = cond (same_word w keyword.Abort) GuardKind.Abort GuardKind.Reset
 guard_of _ = GuardKind.Abort
 
 guard_as : {kind : TokenKind} {guard : GuardKind} → IsGuard kind guard → guard_of kind ≡ guard

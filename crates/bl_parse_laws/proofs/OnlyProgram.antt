@@ -1,12 +1,13 @@
 -- A text with its tokens has one tree.
 use Rattle.std.proofs.Common.{◌≡◌, ℕ, Bool, true, cond, List, [], ◌∷◌, length, refl, ap, sym, ◌∙◌, subst}
-use Rattle.std.specs.Prelude.{Option, Some, None, nat_eq}
+use Rattle.std.specs.Prelude.{Option, Some, None}
 use Rattle.bl_tree.specs.declared.token.Token.{Token}
 use Rattle.bl_tree.specs.declared.token.TokenKind.{TokenKind}
 use Rattle.bl_tree.specs.declared.token.TokenKind.TheVariants.{Word, Sign}
 use Rattle.bl_tree.specs.declared.tree.UnitKind.{UnitKind}
 use Rattle.bl_tree.specs.declared.tree.UnitKind.TheVariants.{Function, Activity}
-use Rattle.bl_lex.specs.declared.word.TheConstants.{VAR, STRUCT, CONST, FUNCTION, ACTIVITY, RETURNS, END}
+use Rattle.bl_tree.specs.declared.token.Keyword.TheVariants as keyword
+use Rattle.bl_tree.specs.Keywords.{same_word}
 use Rattle.bl_lex.specs.declared.sign.TheConstants.{OPEN_PAREN, CLOSE_PAREN, COMMA, AT}
 use Rattle.bl_parse_syntax.specs.declared.grammar.Class.{Class}
 use Rattle.bl_parse_syntax.specs.declared.grammar.Class.TheVariants.{AnyName, Keyword, Mark}
@@ -23,53 +24,13 @@ use Rattle.bl_parse_tree.specs.declared.raw.Raw.{Raw}
 use Rattle.bl_parse_tree.specs.declared.stmt.RawStmt.{RawStmt}
 use Rattle.bl_parse_tree.specs.declared.types.RawType.{RawType}
 use Rattle.bl_parse.specs.At.{kind_at, Takes}
-use Rattle.bl_parse.specs.Programs.{
-  SpellsField,
-  SpellsFieldList,
-  SpellsStruct,
-  SpellsMark,
-  IsUnit,
-  SpellsUnitKind,
-  SpellsParam,
-  SpellsParamList,
-  SpellsParams,
-  SpellsOutputParams,
-  SpellsResult,
-  SpellsUnit,
-  SpellsItem,
-  SpellsItems,
-  Spells,
-}
+use Rattle.bl_parse.specs.Programs.{SpellsField, SpellsFieldList, SpellsStruct, SpellsMark, IsUnit, SpellsUnitKind, SpellsParam, SpellsParamList, SpellsParams}
+use Rattle.bl_parse.specs.Programs.{SpellsOutputParams, SpellsResult, SpellsUnit, SpellsItem, SpellsItems, Spells}
 use Rattle.bl_parse.specs.inner.Reading.{next_among, NoneNext}
 use Rattle.bl_parse.specs.Statements.{SpellsBlock, SpellsStmt}
-use Rattle.bl_parse_laws.proofs.Only.{
-  One,
-  Elem,
-  Row,
-  Lined,
-  Linked,
-  Begin,
-  Begun,
-  meets_free,
-  one_name,
-  begun,
-  begun_within,
-  same_kind,
-  next_same,
-  clash,
-  token_none,
-  among_none,
-  stops,
-  fewer,
-  add_row,
-  line_one,
-  line_more,
-  rows_same,
-  lines_same,
-  follows_plain,
-  linked,
-  linked_begin,
-}
+use Rattle.bl_parse_laws.proofs.Only.{One, Elem, Row, Lined, Linked, Begin, Begun, meets_free, one_name, begun, begun_within, same_kind, next_same, clash}
+use Rattle.bl_parse_laws.proofs.Only.{token_none, among_none, stops, fewer, add_row, line_one, line_more, rows_same, lines_same, follows_plain, linked}
+use Rattle.bl_parse_laws.proofs.Only.{linked_begin}
 use Rattle.bl_parse_laws.proofs.OnlyExpr.{differ, begun_in}
 use Rattle.bl_parse_laws.proofs.OnlyParts.{by1, by2, by3, by4, same_type, same_typing, same_constant}
 use Rattle.bl_parse_laws.proofs.OnlyStmt.{same_block, only_block, row_of_block, begun_stmt}
@@ -80,7 +41,7 @@ field_of : Name → RawType → RawField
 field_of n ty = record { name = n; ty = ty }
 
 elem_field : {text : List ℕ} {tokens : List Token} {x : RawField} {from to : ℕ} → SpellsField text tokens x from to →
-    Elem (SpellsField text tokens) (Keyword VAR ∷ []) [] tokens x from to
+    Elem (SpellsField text tokens) (Keyword keyword.Var ∷ []) [] tokens x from to
 unfolding field_of
 elem_field h = record {
   begins = begun h.word;
@@ -91,7 +52,7 @@ elem_field h = record {
   };
 }
 
-begun_field : {text : List ℕ} {tokens : List Token} → Begin (SpellsField text tokens) (Keyword VAR ∷ []) tokens
+begun_field : {text : List ℕ} {tokens : List Token} → Begin (SpellsField text tokens) (Keyword keyword.Var ∷ []) tokens
 begun_field y a b h = begun h.word
 
 line_of_fields : {text : List ℕ} {tokens : List Token} {xs : List RawField} {from to : ℕ} → SpellsFieldList text tokens xs from to →
@@ -100,7 +61,7 @@ line_of_fields (SpellsFieldList.first x is) = line_one x is
 line_of_fields (SpellsFieldList.more xs x is) = line_more (line_of_fields xs) x is
 
 only_fields : {text : List ℕ} {tokens : List Token} {xs : List RawField} {from to : ℕ} → SpellsFieldList text tokens xs from to
-    → Lined (One (SpellsField text tokens) [] tokens) (Elem (SpellsField text tokens) (Keyword VAR ∷ []) [] tokens) xs from to
+    → Lined (One (SpellsField text tokens) [] tokens) (Elem (SpellsField text tokens) (Keyword keyword.Var ∷ []) [] tokens) xs from to
 only_fields (SpellsFieldList.first x is) = line_one (elem_field x).one is
 only_fields (SpellsFieldList.more xs x is) = line_more (only_fields xs) (elem_field x) is
 
@@ -112,8 +73,8 @@ same_struct : {text : List ℕ} {tokens : List Token} {x y : RawStruct} {a b d :
 unfolding struct_of
 same_struct {text} {tokens} h g =
     let n = meets_free (one_name h.name) (next_same refl h.word g.word) g.name in
-    let l = lines_same (SpellsField text tokens) (SpellsField text tokens) (Keyword VAR ∷ []) []
-    (Keyword VAR ∷ []) tokens begun_field refl refl refl (only_fields h.fields) n.1 (line_of_fields g.fields) (stops h.end refl) (stops g.end refl) in
+    let l = lines_same (SpellsField text tokens) (SpellsField text tokens) (Keyword keyword.Var ∷ []) []
+    (Keyword keyword.Var ∷ []) tokens begun_field refl refl refl (only_fields h.fields) n.1 (line_of_fields g.fields) (stops h.end refl) (stops g.end refl) in
     (by2 struct_of n.0 l.0 refl refl, next_same l.1 h.end g.end)
 
 -- ---- parameters
@@ -180,7 +141,7 @@ same_output_params (SpellsOutputParams.written ps) e (SpellsOutputParams.written
 
 same_result : {text : List ℕ} {tokens : List Token} {x y : Option RawType} {a b c d : ℕ} → SpellsResult text tokens x a b → a ≡ c →
     SpellsResult text tokens y c d
-    → NoneNext (Keyword RETURNS ∷ []) tokens b → NoneNext (Keyword RETURNS ∷ []) tokens d → (x ≡ y) × (b ≡ d)
+    → NoneNext (Keyword keyword.Returns ∷ []) tokens b → NoneNext (Keyword keyword.Returns ∷ []) tokens d → (x ≡ y) × (b ≡ d)
 same_result (SpellsResult.absent none is) e (SpellsResult.absent nil also) s r = (none ∙ sym nil, is ∙ (e ∙ sym also))
 same_result (SpellsResult.absent none is) e (SpellsResult.written u ty also) s r = token_none u (is ∙ e) refl s
 same_result (SpellsResult.written t ty is) e (SpellsResult.absent nil also) s r = token_none t (also ∙ sym e) refl r
@@ -189,18 +150,18 @@ same_result (SpellsResult.written t ty is) e (SpellsResult.written u other also)
 
 -- neither `(` nor `returns` begins a block
 block_front : {text : List ℕ} {tokens : List Token} {body : List RawStmt} {a b c : ℕ} → SpellsBlock text tokens body a b →
-    Takes tokens (Word END) b c → NoneNext (Mark OPEN_PAREN ∷ Keyword RETURNS ∷ []) tokens a
+    Takes tokens (Word keyword.End) b c → NoneNext (Mark OPEN_PAREN ∷ Keyword keyword.Returns ∷ []) tokens a
 block_front {text} {tokens} body t = follows_plain (SpellsStmt text tokens) statement_starts
-    (Mark OPEN_PAREN ∷ Keyword RETURNS ∷ []) (Keyword RETURNS ∷ after_block) tokens begun_stmt refl refl refl (row_of_block body) (stops t refl)
+    (Mark OPEN_PAREN ∷ Keyword keyword.Returns ∷ []) (Keyword keyword.Returns ∷ after_block) tokens begun_stmt refl refl refl (row_of_block body) (stops t refl)
 
 result_front : {text : List ℕ} {tokens : List Token} {x : Option RawType} {a b : ℕ} → SpellsResult text tokens x a b →
-    NoneNext (Mark OPEN_PAREN ∷ Keyword RETURNS ∷ []) tokens b → NoneNext (Mark OPEN_PAREN ∷ []) tokens a
+    NoneNext (Mark OPEN_PAREN ∷ Keyword keyword.Returns ∷ []) tokens b → NoneNext (Mark OPEN_PAREN ∷ []) tokens a
 result_front {tokens = tokens} (SpellsResult.absent none is) s =
-    subst (λ k. NoneNext (Mark OPEN_PAREN ∷ []) tokens k) is (fewer (Mark OPEN_PAREN ∷ []) (Mark OPEN_PAREN ∷ Keyword RETURNS ∷ []) refl s)
+    subst (λ k. NoneNext (Mark OPEN_PAREN ∷ []) tokens k) is (fewer (Mark OPEN_PAREN ∷ []) (Mark OPEN_PAREN ∷ Keyword keyword.Returns ∷ []) refl s)
 result_front (SpellsResult.written t ty is) s = stops t refl
 
 unit_kind_of : TokenKind → UnitKind
-unit_kind_of (Word w) = cond (nat_eq w FUNCTION) Function Activity
+unit_kind_of (Word w) = cond (same_word w keyword.Function) Function Activity
 unit_kind_of _ = Function
 
 kind_as : {kind : TokenKind} {unit : UnitKind} → IsUnit kind unit → unit_kind_of kind ≡ unit
@@ -213,7 +174,7 @@ same_unit_kind : {tokens : List Token} {x y : UnitKind} {a b c d : ℕ} → Spel
 same_unit_kind h e g = (sym (kind_as h.is) ∙ (ap unit_kind_of (same_kind h.token e g.token) ∙ kind_as g.is), next_same e h.token g.token)
 
 abbrev units : List Class
-units = Keyword FUNCTION ∷ Keyword ACTIVITY ∷ []
+units = Keyword keyword.Function ∷ Keyword keyword.Activity ∷ []
 
 unit_within : {kind : TokenKind} {unit : UnitKind} → IsUnit kind unit → are_within (class_of kind ∷ []) units ≡ true
 unit_within IsUnit.function = refl
@@ -250,15 +211,15 @@ same_unit h g =
     let hf = block_front h.body h.end in
     let gf = block_front g.body g.end in
     let o = same_output_params h.outputs i.1 g.outputs (result_front h.result hf) (result_front g.result gf) in
-    let r = same_result h.result o.1 g.result (fewer (Keyword RETURNS ∷ []) (Mark OPEN_PAREN ∷ Keyword RETURNS ∷ []) refl hf)
-    (fewer (Keyword RETURNS ∷ []) (Mark OPEN_PAREN ∷ Keyword RETURNS ∷ []) refl gf) in
+    let r = same_result h.result o.1 g.result (fewer (Keyword keyword.Returns ∷ []) (Mark OPEN_PAREN ∷ Keyword keyword.Returns ∷ []) refl hf)
+    (fewer (Keyword keyword.Returns ∷ []) (Mark OPEN_PAREN ∷ Keyword keyword.Returns ∷ []) refl gf) in
     let b = same_block (only_block h.body) r.1 g.body (stops h.end refl) (stops g.end refl) in
     (units_same k.0 l.0 n.0 i.0 o.0 r.0 b.0, next_same b.1 h.end g.end)
 
 -- ---- the whole
 
 abbrev item_starts : List Class
-item_starts = Keyword STRUCT ∷ Keyword CONST ∷ Mark AT ∷ Keyword FUNCTION ∷ Keyword ACTIVITY ∷ []
+item_starts = Keyword keyword.Struct ∷ Keyword keyword.Const ∷ Mark AT ∷ Keyword keyword.Function ∷ Keyword keyword.Activity ∷ []
 
 abbrev unit_starts : List Class
 unit_starts = Mark AT ∷ units
@@ -280,12 +241,12 @@ same_item : {text : List ℕ} {tokens : List Token} {x y : RawItem} {a b d : ℕ
     SpellsItem text tokens y a d → NoneNext after_expression tokens b → NoneNext after_expression tokens d → (x ≡ y) × (b ≡ d)
 same_item (SpellsItem.structure h is) (SpellsItem.structure g also) s r = let x = same_struct h g in (by1 RawItem.Struct x.0 is also, x.1)
 same_item (SpellsItem.structure h is) (SpellsItem.constant g also) s r = clash h.word refl g.word refl
-same_item (SpellsItem.structure h is) (SpellsItem.unit g also) s r = differ (Keyword STRUCT ∷ []) unit_starts (begun h.word) refl (begun_unit g) refl
+same_item (SpellsItem.structure h is) (SpellsItem.unit g also) s r = differ (Keyword keyword.Struct ∷ []) unit_starts (begun h.word) refl (begun_unit g) refl
 same_item (SpellsItem.constant h is) (SpellsItem.structure g also) s r = clash h.word refl g.word refl
 same_item (SpellsItem.constant h is) (SpellsItem.constant g also) s r = let x = same_constant h refl g s r in (by1 RawItem.Constant x.0 is also, x.1)
-same_item (SpellsItem.constant h is) (SpellsItem.unit g also) s r = differ (Keyword CONST ∷ []) unit_starts (begun h.word) refl (begun_unit g) refl
-same_item (SpellsItem.unit h is) (SpellsItem.structure g also) s r = differ (Keyword STRUCT ∷ []) unit_starts (begun g.word) refl (begun_unit h) refl
-same_item (SpellsItem.unit h is) (SpellsItem.constant g also) s r = differ (Keyword CONST ∷ []) unit_starts (begun g.word) refl (begun_unit h) refl
+same_item (SpellsItem.constant h is) (SpellsItem.unit g also) s r = differ (Keyword keyword.Const ∷ []) unit_starts (begun h.word) refl (begun_unit g) refl
+same_item (SpellsItem.unit h is) (SpellsItem.structure g also) s r = differ (Keyword keyword.Struct ∷ []) unit_starts (begun g.word) refl (begun_unit h) refl
+same_item (SpellsItem.unit h is) (SpellsItem.constant g also) s r = differ (Keyword keyword.Const ∷ []) unit_starts (begun g.word) refl (begun_unit h) refl
 same_item (SpellsItem.unit h is) (SpellsItem.unit g also) s r = let x = same_unit h g in (by1 RawItem.Unit x.0 is also, x.1)
 
 row_of_items : {text : List ℕ} {tokens : List Token} {xs : List RawItem} {from to : ℕ} → SpellsItems text tokens xs from to →

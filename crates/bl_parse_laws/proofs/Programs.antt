@@ -6,22 +6,8 @@ use Rattle.bl_tree.specs.declared.token.TokenKind.{TokenKind}
 use Rattle.bl_tree.specs.declared.tree.UnitKind.{UnitKind}
 use Rattle.bl_grammar.specs.declared.symbol.Symbol.TheVariants.{Terminal}
 use Rattle.bl_lex.specs.declared.sign.TheConstants.{COMMA}
-use Rattle.bl_parse_syntax.specs.declared.grammar.Part.TheVariants.{
-  Program,
-  Item,
-  Struct,
-  Field,
-  Fields,
-  Unit,
-  PlainUnit,
-  UnitTail,
-  Params,
-  SecondParams,
-  ParamList,
-  ParamRest,
-  Param,
-  Returns,
-}
+use Rattle.bl_parse_syntax.specs.declared.grammar.Part.TheVariants.{Program, Item, Struct, Field, Fields, Unit, PlainUnit, UnitTail, Params, SecondParams}
+use Rattle.bl_parse_syntax.specs.declared.grammar.Part.TheVariants.{ParamList, ParamRest, Param, Returns}
 use Rattle.bl_parse_syntax.specs.declared.grammar.TokenView.{TokenView}
 use Rattle.bl_parse_syntax.specs.Grammar.{the, name, sign, class_of, views, productions, IsAmong, SourceDerives}
 use Rattle.bl_parse_syntax.specs.Grammar.IsAmong.{here, later}
@@ -33,22 +19,8 @@ use Rattle.bl_parse_tree.specs.declared.item.RawStruct.{RawStruct}
 use Rattle.bl_parse_tree.specs.declared.item.RawUnit.{RawUnit}
 use Rattle.bl_parse_tree.specs.declared.raw.Raw.{Raw}
 use Rattle.bl_parse_tree.specs.declared.types.RawType.{RawType}
-use Rattle.bl_parse.specs.Programs.{
-  SpellsField,
-  SpellsFieldList,
-  SpellsStruct,
-  SpellsMark,
-  IsUnit,
-  SpellsParam,
-  SpellsParamList,
-  SpellsParams,
-  SpellsOutputParams,
-  SpellsResult,
-  SpellsUnit,
-  SpellsItem,
-  SpellsItems,
-  Spells,
-}
+use Rattle.bl_parse.specs.Programs.{SpellsField, SpellsFieldList, SpellsStruct, SpellsMark, IsUnit, SpellsParam, SpellsParamList, SpellsParams}
+use Rattle.bl_parse.specs.Programs.{SpellsOutputParams, SpellsResult, SpellsUnit, SpellsItem, SpellsItems, Spells}
 use Rattle.bl_parse_laws.proofs.Spans.{Spans, Chain, Listed, token, then, made, empty, from_there, add, repeated, listed_one, listed_more, all_left}
 use Rattle.bl_parse_laws.proofs.Types.{a_name, a_type}
 use Rattle.bl_parse_laws.proofs.Statements.{typing, a_constant, a_block, stmts}

@@ -1,31 +1,13 @@
 -- What a `return` has after it.
-use Rattle.std.proofs.Common.{
-  ◌≡◌,
-  ℕ,
-  zero,
-  suc,
-  ◌+◌,
-  Bool,
-  true,
-  false,
-  not,
-  ◌&&◌,
-  ◌||◌,
-  List,
-  [],
-  ◌∷◌,
-  drop,
-  refl,
-  ap,
-  sym,
-  ◌∙◌,
-}
+use Rattle.std.proofs.Common.{◌≡◌, ℕ, zero, suc, ◌+◌, Bool, true, false, not, ◌&&◌, ◌||◌, List, [], ◌∷◌, drop, refl, ap, sym, ◌∙◌}
 use Rattle.std.specs.Prelude.{Some, None, slice_get, nat_eq}
-use Rattle.std.proofs.lemmas.Bool.{eq-eqb, eqb-true}
+use Rattle.bl_tree.proofs.Basics.{number_test_swap}
+use Rattle.bl_tree.proofs.KeywordLemmas.{same_word_swap}
 use Rattle.bl_tree.specs.declared.token.Token.{Token}
 use Rattle.bl_tree.specs.declared.token.TokenKind.{TokenKind}
 use Rattle.bl_tree.specs.declared.token.TokenKind.TheVariants.{Name, Number, Word, Sign}
-use Rattle.bl_lex.specs.declared.word.TheConstants.{NOT, TRUE, FALSE, PREV, RETURN}
+use Rattle.bl_tree.specs.declared.token.Keyword.TheVariants as keyword
+use Rattle.bl_tree.specs.Keywords.{same_word}
 use Rattle.bl_lex.specs.declared.sign.TheConstants.{OPEN_PAREN, MINUS, TILDE}
 use Rattle.bl_grammar.specs.Derivations.{next_of}
 use Rattle.bl_grammar.specs.Derivations.Derives.{done, part}
@@ -37,37 +19,15 @@ use Rattle.bl_parse.specs.Operators.{begins_expr}
 use Rattle.bl_parse.specs.inner.Reading.{left}
 use Rattle.bl_parse.specs.Statements.{goes_on, takes_value}
 use Rattle.bl_parse.proofs.ReturnLemmas.{token_at}
-use Rattle.bl_parse_laws.proofs.Spans.{Spans, behind, position}
-
-eq_sym : (a b : ℕ) → nat_eq a b ≡ nat_eq b a
-eq_sym a b = by_test (nat_eq a b) (nat_eq b a) refl refl
-  where
-    by_test : (p q : Bool) → nat_eq a b ≡ p → nat_eq b a ≡ q → p ≡ q
-    by_test true true e f = refl
-    by_test true false e f = sym (eq-eqb b a (sym (eqb-true a b e))) ∙ f
-    by_test false true e f = sym e ∙ eq-eqb a b (sym (eqb-true b a f))
-    by_test false false e f = refl
-
-four : (a b c d : Bool) → a || (b || (c || d)) ≡ a || (b || (c || (d || false)))
-four true b c d = refl
-four false true c d = refl
-four false false true d = refl
-four false false false true = refl
-four false false false false = refl
-
-three : (a b c : Bool) → a || (b || c) ≡ b || (c || (a || false))
-three true true c = refl
-three true false true = refl
-three true false false = refl
-three false true c = refl
-three false false true = refl
-three false false false = refl
+use Rattle.bl_parse_laws.proofs.Spans.{Spans, position}
+use Rattle.bl_parse.proofs.ReturnLemmas.{four, three, views_from}
 
 begins_is : (kind : TokenKind) → begins_expr kind ≡ begins_expression (class_of kind)
 begins_is Name = refl
 begins_is (Number n) = refl
-begins_is (Word k) = rw (eq_sym k NOT, eq_sym k TRUE, eq_sym k FALSE, eq_sym k PREV) (four (nat_eq NOT k) (nat_eq TRUE k) (nat_eq FALSE k) (nat_eq PREV k))
-begins_is (Sign k) = rw (eq_sym k OPEN_PAREN, eq_sym k MINUS, eq_sym k TILDE) (three (nat_eq OPEN_PAREN k) (nat_eq MINUS k) (nat_eq TILDE k))
+begins_is (Word k) = rw (same_word_swap k keyword.Not, same_word_swap k keyword.True, same_word_swap k keyword.False, same_word_swap k keyword.Prev)
+    (four (same_word keyword.Not k) (same_word keyword.True k) (same_word keyword.False k) (same_word keyword.Prev k))
+begins_is (Sign k) = rw (number_test_swap k OPEN_PAREN, number_test_swap k MINUS, number_test_swap k TILDE) (three (nat_eq OPEN_PAREN k) (nat_eq MINUS k) (nat_eq TILDE k))
 
 get_head : (k : ℕ) (tokens : List Token) → slice_get tokens k ≡ slice_get (drop k tokens) 0
 get_head zero [] = refl
@@ -90,14 +50,14 @@ continues_is tokens k kind {to} is next = let t = token_at tokens k is in by_tok
   where
     by_token : (one : Token) → slice_get tokens k ≡ Some one → continues (next_of (left tokens to)) ≡ takes_value tokens k
     by_token one at =
-        ap (λ n. continues (next_of (left tokens n))) (position next) ∙ (ap (λ vs. continues (next_of vs)) (behind None tokens k one at)
+        ap (λ n. continues (next_of (left tokens n))) (position next) ∙ (ap (λ vs. continues (next_of vs)) (views_from None tokens k one at)
         ∙ (goes_alike one (drop (suc k) tokens) ∙ (ap (goes_on (Some one)) (sym (get_head (suc k) tokens))
         ∙ (ap (λ o. goes_on o (slice_get tokens (suc k))) (sym at) ∙ ap (λ n. goes_on (slice_get tokens k) (slice_get tokens n)) (sym (position refl))))))
 
-pub bare : {tokens : List Token} {from to : ℕ} → Takes tokens (Word RETURN) from to → takes_value tokens from ≡ false →
+pub bare : {tokens : List Token} {from to : ℕ} → Takes tokens (Word keyword.Return) from to → takes_value tokens from ≡ false →
     Spans (the AfterReturn ∷ []) tokens to to
-bare {tokens} {from} t none = record { goes = part (later here, ap not (continues_is tokens from (Word RETURN) t.stands t.next ∙ none)) done done }
+bare {tokens} {from} t none = record { goes = part (later here, ap not (continues_is tokens from (Word keyword.Return) t.stands t.next ∙ none)) done done }
 
-pub valued : {tokens : List Token} {from m to : ℕ} → Takes tokens (Word RETURN) from m → takes_value tokens from ≡ true →
+pub valued : {tokens : List Token} {from m to : ℕ} → Takes tokens (Word keyword.Return) from m → takes_value tokens from ≡ true →
     Spans (the Expr ∷ []) tokens m to → Spans (the AfterReturn ∷ []) tokens m to
-valued {tokens} {from} t on s = record { goes = part (here, continues_is tokens from (Word RETURN) t.stands t.next ∙ on) s.goes done }
+valued {tokens} {from} t on s = record { goes = part (here, continues_is tokens from (Word keyword.Return) t.stands t.next ∙ on) s.goes done }

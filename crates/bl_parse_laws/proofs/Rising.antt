@@ -1,33 +1,10 @@
 -- Where tokens begin that stand one after another.
-use Rattle.std.proofs.Common.{
-  ◌≡◌,
-  ℕ,
-  zero,
-  suc,
-  ◌+◌,
-  ◌<◌,
-  ◌≤◌,
-  true,
-  List,
-  [],
-  ◌∷◌,
-  ◌++◌,
-  map,
-  length,
-  get_or,
-  ◌-◌,
-  refl,
-  ap,
-  sym,
-  ◌∙◌,
-  subst,
-  arith,
-  append_assoc,
-  append-nil,
-}
+use Rattle.std.proofs.Common.{◌≡◌, ℕ, zero, suc, ◌+◌, ◌<◌, ◌≤◌, true, List, [], ◌∷◌, ◌++◌, map, length, get_or, ◌-◌, refl, ap, sym, ◌∙◌, subst, arith}
+use Rattle.std.proofs.Common.{append_assoc, append-nil}
 use Rattle.std.specs.Prelude.{nat_lt}
 use Rattle.std.specs.List.{list_all}
 use Rattle.std.proofs.lemmas.Bool.{lt-ltb}
+use Rattle.bl_tree.proofs.Basics.{map_push}
 use Rattle.bl_tree.specs.declared.token.Token.{Token}
 use Rattle.bl_tree.specs.Reduce.{joined}
 use Rattle.bl_lex.specs.Tokens.{Lexes}
@@ -35,7 +12,6 @@ use Rattle.bl_lex.proofs.RuleLaws.{tokens_inside, tokens_in_order}
 use Rattle.bl_parse_tree.specs.Starts.{ascends}
 use Rattle.bl_parse.specs.At.{start_at}
 use Rattle.bl_parse_laws.proofs.Tests.{both}
-use Rattle.bl_parse_laws.proofs.Members.{mapped_more}
 
 -- numbers at which tokens begin that stand one after another, from a position on and before another
 pub data Rising (tokens : List Token) : List ℕ → ℕ → ℕ → Type 0 where
@@ -78,7 +54,7 @@ pub more_rise : {A : Type 0} (f : A → List ℕ) {tokens : List Token} {all xs 
     Rise f tokens xs from at → Rising tokens (f x) at to → all ≡ xs ++ x ∷ [] → Rise f tokens all from to
 more_rise f {tokens} {xs = xs} x {from = from} {to = to} h k is = record {
   rising = subst (λ ys. Rising tokens ys from to) (sym
-      (ap (λ ys. joined (map f ys)) is ∙ (ap joined (mapped_more f xs x) ∙ joined_more (map f xs) (f x)))) (join h.rising k);
+      (ap (λ ys. joined (map f ys)) is ∙ (ap joined (map_push f xs x) ∙ joined_more (map f xs) (f x)))) (join h.rising k);
 }
 
 pub one_rises : {A : Type 0} (f : A → List ℕ) {tokens : List Token} {all : List A} (x : A) {from to : ℕ} →

@@ -1,19 +1,20 @@
 -- Which pieces of the grammar stand for the tokens between two positions.
 use Rattle.std.proofs.Common.{◌≡◌, ℕ, zero, suc, ◌+◌, true, List, [], ◌∷◌, ◌++◌, drop, length, refl, ap, sym, ◌∙◌, subst, arith}
 use Rattle.std.specs.Prelude.{Option, Some, None, slice_get, option_map}
-use Rattle.std.proofs.lemmas.Bool.{eq-eqb}
 use Rattle.bl_tree.specs.declared.token.Token.{Token}
 use Rattle.bl_tree.specs.declared.token.TokenKind.{TokenKind}
 use Rattle.bl_grammar.specs.declared.symbol.Symbol.TheVariants.{Terminal}
 use Rattle.bl_grammar.specs.Derivations.Derives.{done, terminal, part}
 use Rattle.bl_parse_syntax.specs.declared.grammar.Class.{Class}
-use Rattle.bl_parse_syntax.specs.declared.grammar.Class.TheVariants.{AnyName, AnyNumber, Keyword, Mark}
 use Rattle.bl_parse_syntax.specs.declared.grammar.Part.{Part}
 use Rattle.bl_parse_syntax.specs.declared.grammar.TokenView.{TokenView}
 use Rattle.bl_parse_syntax.specs.Grammar.{Piece, the, class_of, view_of, views_after, same_class, productions, may_stand, IsAmong, SourceDerives}
 use Rattle.bl_parse.specs.At.{Takes}
 use Rattle.bl_parse.specs.inner.Reading.{left}
 use Rattle.bl_parse.proofs.ReturnLemmas.{token_at}
+use Rattle.bl_parse.proofs.ReadLemmas.{same_some}
+use Rattle.bl_parse.proofs.ReturnLemmas.{views_from}
+use Rattle.bl_parse_syntax.proofs.Predictive.{same_self}
 
 -- the pieces, one after the other, stand for the tokens from a position up to another
 pub record Spans (pieces : List Piece) (tokens : List Token) (from to : ℕ) : Type 0 where
@@ -26,30 +27,15 @@ append (part made d r) e = part made d (append r e)
 
 -- ---- tokens
 
-same_some : {A : Type 0} {a b : A} → Some a ≡ Some b → a ≡ b
-same_some e = cc
-
--- what the grammar sees of a token, and of those behind it
+-- what the grammar sees of a token, and of those views_from it
 seen_at : (before : Option ℕ) (tokens : List Token) (k : ℕ) (one : Token) → slice_get tokens k ≡ Some one
     → (line : Option ℕ) × (drop k (views_after before tokens) ≡ view_of line one ∷ views_after (Some one.line) (drop (suc k) tokens))
 seen_at before [] k one e = cc
 seen_at before (x ∷ xs) zero one e = (before, ap (λ (t : Token). view_of before t ∷ views_after (Some t.line) xs) (same_some e))
 seen_at before (x ∷ xs) (suc k) one e = seen_at (Some x.line) xs k one e
 
-pub behind : (before : Option ℕ) (tokens : List Token) (k : ℕ) (one : Token) → slice_get tokens k ≡ Some one
-    → drop (suc k) (views_after before tokens) ≡ views_after (Some one.line) (drop (suc k) tokens)
-behind before [] k one e = cc
-behind before (x ∷ xs) zero one e = ap (λ (t : Token). views_after (Some t.line) xs) (same_some e)
-behind before (x ∷ xs) (suc k) one e = behind (Some x.line) xs k one e
-
 pub position : {k to : ℕ} → to ≡ k + 1 → to ≡ suc k
 position next = omega (arith, next)
-
-pub same_self : (c : Class) → same_class c c ≡ true
-same_self AnyName = refl
-same_self AnyNumber = refl
-same_self (Keyword k) = eq-eqb k k refl
-same_self (Mark k) = eq-eqb k k refl
 
 one_token : (class : Class) {vs ws : List TokenView} (view : TokenView) → vs ≡ view ∷ ws → view.class ≡ class → SourceDerives (Terminal class ∷ []) vs ws
 one_token class {vs} {ws} view is same = subst (λ (us : List TokenView). SourceDerives (Terminal class ∷ []) us ws) (sym is)
@@ -58,7 +44,7 @@ one_token class {vs} {ws} view is same = subst (λ (us : List TokenView). Source
 view_there : (tokens : List Token) (k : ℕ) (one : Token) {to : ℕ} → slice_get tokens k ≡ Some one → to ≡ k + 1 →
     (line : Option ℕ) × (left tokens k ≡ view_of line one ∷ left tokens to)
 view_there tokens k one at next = let s = seen_at None tokens k one at in
-    (s.0, s.1 ∙ ap (λ vs. view_of s.0 one ∷ vs) (sym (ap (left tokens) (position next) ∙ behind None tokens k one at)))
+    (s.0, s.1 ∙ ap (λ vs. view_of s.0 one ∷ vs) (sym (ap (left tokens) (position next) ∙ views_from None tokens k one at)))
 
 pub token : {kind : TokenKind} {tokens : List Token} {from to : ℕ} → Takes tokens kind from to → Spans (Terminal (class_of kind) ∷ []) tokens from to
 token {kind} {tokens} {from} t = let o = token_at tokens from t.stands in let s = view_there tokens from o.0 o.1 t.next in
@@ -104,14 +90,14 @@ pub add : {link : List Piece} {tokens : List Token} {from m to : ℕ} → Chain 
 add (Chain.over is) s = Chain.more (from_there is s) (Chain.over refl)
 add (Chain.more a c) s = Chain.more a (add c s)
 
--- a chain, and the part behind it that repeats its link
+-- a chain, and the part views_from it that repeats its link
 pub repeated : {tokens : List Token} (link : List Piece) (A : Part) → IsAmong (link ++ the A ∷ []) (productions A) →
     ((next : Option TokenView) → may_stand A next (link ++ the A ∷ []) ≡ true)
     → {from m to : ℕ} → Chain link tokens from m → Spans (the A ∷ []) tokens m to → Spans (the A ∷ []) tokens from to
 repeated link A among may (Chain.over is) s = from_there is s
 repeated link A among may (Chain.more a c) s = made A among may (join link a (repeated link A among may c s))
 
--- a beginning, and a chain behind it
+-- a beginning, and a chain views_from it
 pub record Listed (first link : List Piece) (tokens : List Token) (from to : ℕ) : Type 0 where
   pub m : ℕ
   pub head : Spans first tokens from m

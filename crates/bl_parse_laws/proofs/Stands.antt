@@ -2,6 +2,7 @@
 use Rattle.std.proofs.Common.{◌≡◌, ℕ, Bool, true, ◌&&◌, ◌||◌, List, map, refl, ap, sym, ◌∙◌}
 use Rattle.std.specs.Prelude.{Option, is_some}
 use Rattle.std.specs.List.{list_all}
+use Rattle.bl_tree.specs.declared.token.Keyword.{Keyword}
 use Rattle.bl_tree.specs.declared.place.Place.{Place}
 use Rattle.bl_tree.specs.declared.token.Token.{Token}
 use Rattle.bl_tree.specs.declared.tree.Guard.{Guard}
@@ -23,74 +24,17 @@ use Rattle.bl_parse_tree.specs.declared.stmt.RawPath.{RawPath}
 use Rattle.bl_parse_tree.specs.declared.stmt.RawStmt.{RawStmt, fold-roll-RawStmt, roll-RawStmt}
 use Rattle.bl_parse_tree.specs.declared.stmt.RawStmtKind.{RawStmtKind, fold-RawStmtKind, fold-roll-RawStmtKind}
 use Rattle.bl_parse_tree.specs.declared.stmt.RawStmtKind as kind
-use Rattle.bl_parse_tree.specs.declared.stmt.RawStmtKind.TheVariants.{
-  rolls-Var,
-  rolls-Let,
-  rolls-Const,
-  rolls-Assign,
-  rolls-Call,
-  rolls-Await,
-  rolls-Run,
-  rolls-If,
-  rolls-Cobegin,
-  rolls-When,
-  rolls-Repeat,
-  rolls-Until,
-  rolls-While,
-  rolls-Return,
-}
+use Rattle.bl_parse_tree.specs.declared.stmt.RawStmtKind.TheVariants.{rolls-Var, rolls-Let, rolls-Const, rolls-Assign, rolls-Call, rolls-Await, rolls-Run}
+use Rattle.bl_parse_tree.specs.declared.stmt.RawStmtKind.TheVariants.{rolls-If, rolls-Cobegin, rolls-When, rolls-Repeat, rolls-Until, rolls-While, rolls-Return}
 use Rattle.bl_parse_tree.specs.declared.types.RawType.{RawType}
-use Rattle.bl_parse_tree.specs.Names.{
-  named,
-  optional,
-  is_filled,
-  type_named,
-  expr_named,
-  target_named,
-  path_named,
-  constant_named,
-  arguments_named,
-  stmt_kind_stands,
-  arm_stands,
-  branch_stands,
-  stmt_layer_stands,
-  stmt_stands,
-  field_named,
-  struct_stands,
-  param_named,
-  item_stands,
-}
-use Rattle.bl_parse.specs.Programs.{
-  SpellsField,
-  SpellsFieldList,
-  SpellsStruct,
-  SpellsParam,
-  SpellsParamList,
-  SpellsParams,
-  SpellsOutputParams,
-  SpellsResult,
-  SpellsUnit,
-  SpellsItem,
-  SpellsItems,
-  Spells,
-}
+use Rattle.bl_parse_tree.specs.Names.{named, optional, is_filled, type_named, expr_named, target_named, path_named, constant_named, arguments_named}
+use Rattle.bl_parse_tree.specs.Names.{stmt_kind_stands, arm_stands, branch_stands, stmt_layer_stands, stmt_stands, field_named, struct_stands, param_named}
+use Rattle.bl_parse_tree.specs.Names.{item_stands}
+use Rattle.bl_parse.specs.Programs.{SpellsField, SpellsFieldList, SpellsStruct, SpellsParam, SpellsParamList, SpellsParams, SpellsOutputParams, SpellsResult}
+use Rattle.bl_parse.specs.Programs.{SpellsUnit, SpellsItem, SpellsItems, Spells}
 use Rattle.bl_parse.specs.inner.Reading.{NamesStand}
-use Rattle.bl_parse.specs.Statements.{
-  SpellsTyping,
-  SpellsMaybeTyping,
-  SpellsValue,
-  SpellsInitial,
-  SpellsConstant,
-  SpellsReceiver,
-  SpellsStmt,
-  SpellsKind,
-  SpellsBlock,
-  SpellsArm,
-  SpellsArms,
-  SpellsElse,
-  SpellsBranch,
-  SpellsBranches,
-}
+use Rattle.bl_parse.specs.Statements.{SpellsTyping, SpellsMaybeTyping, SpellsValue, SpellsInitial, SpellsConstant, SpellsReceiver, SpellsStmt, SpellsKind}
+use Rattle.bl_parse.specs.Statements.{SpellsBlock, SpellsArm, SpellsArms, SpellsElse, SpellsBranch, SpellsBranches}
 use Rattle.bl_parse.proofs.LexLemmas.{names_stand}
 use Rattle.bl_parse_laws.proofs.Tests.{Each, Filled, both, one_holds, none_hold, more_hold, listed, one_fills, more_fill, answers}
 use Rattle.bl_parse_laws.proofs.Names.{name, ty, expression, place, inputs, path, outputs}
@@ -219,7 +163,7 @@ module _ (text : List ℕ) (tokens : List Token) (stand : NamesStand text tokens
     block (SpellsBlock.no_stmts none is) = none_hold stmt_stands none
     block (SpellsBlock.more_stmts body s is) = more_hold stmt_stands _ (block body) (statement s) is
 
-    arm : {head : ℕ} {one : RawArm} {from to : ℕ} → SpellsArm text tokens head one from to → one_arm_stands one ≡ true
+    arm : {head : Keyword} {one : RawArm} {from to : ℕ} → SpellsArm text tokens head one from to → one_arm_stands one ≡ true
     arm (SpellsArm.headed w e t body is) = ap one_arm_stands is ∙ (arm_is _ _ ∙ both (expression text tokens stand e) (block body).hold)
 
     each_arm : {arms : List RawArm} {from to : ℕ} → SpellsArms text tokens arms from to → Each one_arm_stands arms

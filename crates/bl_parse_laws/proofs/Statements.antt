@@ -1,41 +1,16 @@
 -- What is spelled as a statement derives one.
 use Rattle.std.proofs.Common.{ℕ, Bool, List, [], ◌∷◌, refl}
 use Rattle.std.specs.Prelude.{Option}
+use Rattle.bl_tree.specs.declared.token.Keyword.{Keyword}
 use Rattle.bl_tree.specs.declared.token.Token.{Token}
 use Rattle.bl_tree.specs.declared.token.TokenKind.{TokenKind}
 use Rattle.bl_tree.specs.declared.tree.Guard.{Guard as GuardKind}
 use Rattle.bl_grammar.specs.declared.symbol.Symbol.TheVariants.{Terminal}
-use Rattle.bl_lex.specs.declared.word.TheConstants.{COBEGIN, WITH, IF, THEN, ELSEIF, END}
+use Rattle.bl_tree.specs.declared.token.Keyword.TheVariants as keyword
 use Rattle.bl_lex.specs.declared.sign.TheConstants.{COLON, ASSIGN, COMMA, DOT}
-use Rattle.bl_parse_syntax.specs.declared.grammar.Part.TheVariants.{
-  Constant,
-  TypeMark,
-  Ty,
-  Block,
-  Stmt,
-  VarTail,
-  Initial,
-  AfterName,
-  CallTail,
-  AssignTail,
-  Access,
-  RunTail,
-  RunTarget,
-  Weak,
-  Branches,
-  Guard,
-  Until,
-  Elseifs,
-  Else,
-  Inputs,
-  Outputs,
-  SecondOutputs,
-  OutputList,
-  OutputRest,
-  Path,
-  PathRest,
-  Expr,
-}
+use Rattle.bl_parse_syntax.specs.declared.grammar.Part.TheVariants.{Constant, TypeMark, Ty, Block, Stmt, VarTail, Initial, AfterName, CallTail, AssignTail}
+use Rattle.bl_parse_syntax.specs.declared.grammar.Part.TheVariants.{Access, RunTail, RunTarget, Weak, Branches, Guard, Until, Elseifs, Else, Inputs, Outputs}
+use Rattle.bl_parse_syntax.specs.declared.grammar.Part.TheVariants.{SecondOutputs, OutputList, OutputRest, Path, PathRest, Expr}
 use Rattle.bl_parse_syntax.specs.Grammar.{Piece, the, name, word, sign, class_of, productions, IsAmong}
 use Rattle.bl_parse_syntax.specs.Grammar.IsAmong.{here, later}
 use Rattle.bl_parse_tree.specs.declared.expr.RawExpr.{RawExpr}
@@ -48,29 +23,9 @@ use Rattle.bl_parse_tree.specs.declared.stmt.RawStmt.{RawStmt}
 use Rattle.bl_parse_tree.specs.declared.stmt.RawStmtKind.{RawStmtKind}
 use Rattle.bl_parse_tree.specs.declared.types.RawType.{RawType}
 use Rattle.bl_parse.specs.At.{SpellsName}
-use Rattle.bl_parse.specs.Statements.{
-  SpellsTyping,
-  SpellsMaybeTyping,
-  SpellsValue,
-  SpellsInitial,
-  SpellsConstant,
-  SpellsFields,
-  SpellsPath,
-  SpellsPaths,
-  SpellsOutputs,
-  SpellsReceiver,
-  IsGuard,
-  SpellsGuard,
-  SpellsWeak,
-  SpellsStmt,
-  SpellsKind,
-  SpellsBlock,
-  SpellsArm,
-  SpellsArms,
-  SpellsElse,
-  SpellsBranch,
-  SpellsBranches,
-}
+use Rattle.bl_parse.specs.Statements.{SpellsTyping, SpellsMaybeTyping, SpellsValue, SpellsInitial, SpellsConstant, SpellsFields, SpellsPath, SpellsPaths}
+use Rattle.bl_parse.specs.Statements.{SpellsOutputs, SpellsReceiver, IsGuard, SpellsGuard, SpellsWeak, SpellsStmt, SpellsKind, SpellsBlock, SpellsArm}
+use Rattle.bl_parse.specs.Statements.{SpellsArms, SpellsElse, SpellsBranch, SpellsBranches}
 use Rattle.bl_parse_laws.proofs.Spans.{Spans, Chain, Listed, token, then, join, made, empty, from_there, add, repeated, listed_one, listed_more}
 use Rattle.bl_parse_laws.proofs.Returns.{bare, valued}
 use Rattle.bl_parse_laws.proofs.Types.{a_name, a_type}
@@ -166,26 +121,26 @@ assigning r value = made Stmt (later (later (later here))) (λ n. refl)
     (repeated (the Access ∷ []) AssignTail (later here) (λ n. refl) r.parts (made AssignTail here (λ n. refl) value))))
 
 -- a condition and a block, headed by a keyword
-abbrev arm : ℕ → List Piece
-arm head = word head ∷ the Expr ∷ word THEN ∷ the Block ∷ []
+abbrev arm : Keyword → List Piece
+arm head = word head ∷ the Expr ∷ word keyword.Then ∷ the Block ∷ []
 
 abbrev Arms : List Token → ℕ → ℕ → Type 0
-Arms tokens from to = Listed (arm IF) (arm ELSEIF) tokens from to
+Arms tokens from to = Listed (arm keyword.If) (arm keyword.Elseif) tokens from to
 
 abbrev Sides : List Token → ℕ → ℕ → Type 0
-Sides tokens from to = Listed (the Weak ∷ the Block ∷ []) (word WITH ∷ the Weak ∷ the Block ∷ []) tokens from to
+Sides tokens from to = Listed (the Weak ∷ the Block ∷ []) (word keyword.With ∷ the Weak ∷ the Block ∷ []) tokens from to
 
 if_of : {tokens : List Token} {from m n to : ℕ} → Arms tokens from m → Spans (the Else ∷ []) tokens m n →
-    Spans (word END ∷ []) tokens n to → Spans (the Stmt ∷ []) tokens from to
+    Spans (word keyword.End ∷ []) tokens n to → Spans (the Stmt ∷ []) tokens from to
 if_of arms other ends = made Stmt (later (later (later (later (later (later (later (later (later (later here)))))))))) (λ n. refl)
-    (join (arm IF) arms.head (then (repeated (arm ELSEIF) Elseifs here (λ n. refl) arms.rest
+    (join (arm keyword.If) arms.head (then (repeated (arm keyword.Elseif) Elseifs here (λ n. refl) arms.rest
     (empty Elseifs (later here) (λ n. refl) refl)) (then other ends)))
 
-cobegin_of : {tokens : List Token} {from l m to : ℕ} → Spans (word COBEGIN ∷ []) tokens from l → Sides tokens l m →
-    Spans (word END ∷ []) tokens m to → Spans (the Stmt ∷ []) tokens from to
+cobegin_of : {tokens : List Token} {from l m to : ℕ} → Spans (word keyword.Cobegin ∷ []) tokens from l → Sides tokens l m →
+    Spans (word keyword.End ∷ []) tokens m to → Spans (the Stmt ∷ []) tokens from to
 cobegin_of starts sides ends = made Stmt (later (later (later (later (later (later here)))))) (λ n. refl)
     (then starts (join (the Weak ∷ the Block ∷ []) sides.head
-    (then (repeated (word WITH ∷ the Weak ∷ the Block ∷ []) Branches here (λ n. refl) sides.rest (empty Branches (later here) (λ n. refl) refl)) ends)))
+    (then (repeated (word keyword.With ∷ the Weak ∷ the Block ∷ []) Branches here (λ n. refl) sides.rest (empty Branches (later here) (λ n. refl) refl)) ends)))
 
 module _ {text : List ℕ} {tokens : List Token} where
   mutual
@@ -227,7 +182,7 @@ module _ {text : List ℕ} {tokens : List Token} where
     stmts (SpellsBlock.no_stmts none is) = Chain.over is
     stmts (SpellsBlock.more_stmts body s is) = add (stmts body) (a_stmt s)
 
-    an_arm : {head : ℕ} {one : RawArm} {from to : ℕ} → SpellsArm text tokens head one from to → Spans (arm head) tokens from to
+    an_arm : {head : Keyword} {one : RawArm} {from to : ℕ} → SpellsArm text tokens head one from to → Spans (arm head) tokens from to
     an_arm (SpellsArm.headed w e t body is) = then (token w) (then (an_expr e) (then (token t) (a_block (stmts body))))
 
     arms_of : {arms : List RawArm} {from to : ℕ} → SpellsArms text tokens arms from to → Arms tokens from to

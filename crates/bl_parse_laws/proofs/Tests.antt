@@ -1,19 +1,12 @@
 -- Tests that hold of all members of a list.
-use Rattle.std.proofs.Common.{◌≡◌, Bool, true, false, ◌&&◌, List, [], ◌∷◌, ◌++◌, map, refl, ap, ◌∙◌}
+use Rattle.std.proofs.Common.{◌≡◌, Bool, true, ◌&&◌, List, [], ◌∷◌, ◌++◌, map, refl, ap, ◌∙◌}
 use Rattle.std.specs.List.{list_all}
+use Rattle.bl_tree.proofs.Basics.{all_is_all_of, and_first, and_second}
 use Rattle.bl_tree.specs.Reduce.{all_of}
 use Rattle.bl_parse_tree.specs.Names.{is_filled}
 
 pub both : {a b : Bool} → a ≡ true → b ≡ true → (a && b) ≡ true
 both h k = rw (h, k) refl
-
-first_holds : (a b : Bool) → (a && b) ≡ true → a ≡ true
-first_holds true b h = refl
-first_holds false b h = h
-
-second_holds : (a b : Bool) → (a && b) ≡ true → b ≡ true
-second_holds true b h = h
-second_holds false b h = cc
 
 -- the test holds of each member
 pub record Each {A : Type 0} (test : A → Bool) (xs : List A) : Type 0 where
@@ -23,7 +16,7 @@ pub record Each {A : Type 0} (test : A → Bool) (xs : List A) : Type 0 where
 more_in : {A : Type 0} (test : A → Bool) (xs : List A) (x : A) → all_of (map test xs) ≡ true → test x ≡ true →
     all_of (map test (xs ++ x ∷ [])) ≡ true
 more_in test [] x h k = both k refl
-more_in test (y ∷ ys) x h k = both (first_holds (test y) _ h) (more_in test ys x (second_holds (test y) _ h) k)
+more_in test (y ∷ ys) x h k = both (and_first (test y) _ h) (more_in test ys x (and_second (test y) _ h) k)
 
 pub none_hold : {A : Type 0} (test : A → Bool) {all : List A} → all ≡ [] → Each test all
 none_hold test is = record { hold = ap (λ xs. all_of (map test xs)) is }
@@ -34,13 +27,8 @@ one_holds test k is = record { hold = ap (λ xs. all_of (map test xs)) is ∙ bo
 pub more_hold : {A : Type 0} (test : A → Bool) {all xs : List A} (x : A) → Each test xs → test x ≡ true → all ≡ xs ++ x ∷ [] → Each test all
 more_hold test {xs = xs} x h k is = record { hold = ap (λ xs. all_of (map test xs)) is ∙ more_in test xs x h.hold k }
 
--- the test of the library
-all_is : {A : Type 0} (test : A → Bool) (xs : List A) → list_all test xs ≡ all_of (map test xs)
-all_is test [] = refl
-all_is test (x ∷ xs) = ap (λ b. test x && b) (all_is test xs)
-
 pub listed : {A : Type 0} (test : A → Bool) {xs : List A} → Each test xs → list_all test xs ≡ true
-listed test {xs} h = all_is test xs ∙ h.hold
+listed test {xs} h = all_is_all_of test xs ∙ h.hold
 
 -- ---- filled lists
 

@@ -1,34 +1,6 @@
 -- How deep tokens are with one more, and where none is too deep.
-use Rattle.std.proofs.Common.{
-  ◌≡◌,
-  ℕ,
-  ◌+◌,
-  ◌<◌,
-  ◌≤◌,
-  List,
-  [],
-  ◌∷◌,
-  ◌++◌,
-  length,
-  take,
-  refl,
-  ap,
-  sym,
-  ◌∙◌,
-  subst,
-  arith,
-  ◌⊎◌,
-  inl,
-  inr,
-  ⊎_elim,
-  length-append,
-  take_all,
-  suc,
-  drop,
-  get_or,
-  add-one,
-  drop-cons,
-}
+use Rattle.std.proofs.Common.{◌≡◌, ℕ, ◌+◌, ◌<◌, ◌≤◌, List, [], ◌∷◌, ◌++◌, length, take, refl, ap, sym, ◌∙◌, subst, arith, ◌⊎◌, inl, inr, ⊎_elim, length-append}
+use Rattle.std.proofs.Common.{take_all, suc, drop, get_or, add-one, drop-cons}
 use Rattle.std.proofs.lemmas.List.{take-append-le, take-append-drop}
 use Rattle.std.proofs.Math.Seq.{take-suc}
 use Rattle.std.specs.Prelude.{Option, Some, None}

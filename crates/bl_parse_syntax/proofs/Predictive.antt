@@ -1,32 +1,10 @@
 -- The grammar is one that the next token decides.
-use Rattle.std.proofs.Common.{
-  ◌≡◌,
-  ℕ,
-  ◌<◌,
-  ◌≤◌,
-  Bool,
-  true,
-  false,
-  not,
-  cond,
-  ◌&&◌,
-  ◌||◌,
-  ◌⊎◌,
-  inl,
-  inr,
-  ⊎_elim,
-  List,
-  [],
-  ◌∷◌,
-  refl,
-  ap,
-  sym,
-  ◌∙◌,
-  subst,
-  arith,
-}
+use Rattle.std.proofs.Common.{◌≡◌, ℕ, ◌<◌, ◌≤◌, Bool, true, false, not, cond, ◌&&◌, ◌||◌, ◌⊎◌, inl, inr, ⊎_elim, List, [], ◌∷◌, refl, ap, sym, ◌∙◌, subst}
+use Rattle.std.proofs.Common.{arith}
 use Rattle.std.specs.Prelude.{Option, Some, None, nat_lt}
 use Rattle.std.proofs.lemmas.Bool.{ltb-true, eq-eqb}
+use Rattle.std.proofs.lemmas.Bool.{false_from_ne_true, not-true}
+use Rattle.bl_tree.proofs.KeywordLemmas.{same_word_self}
 use Rattle.bl_grammar.specs.declared.symbol.Symbol.TheVariants.{Terminal, Nonterminal}
 use Rattle.bl_grammar.specs.Predictive
 use Rattle.bl_grammar.proofs.Predictive.{or_left, and_left, and_right, not_both, same_some, no_some}
@@ -41,7 +19,7 @@ use Rattle.bl_parse_syntax.specs.Tables.{has, starts, absent, choices, permits, 
 use Rattle.bl_parse_syntax.specs.Follow.{avoided, height, depth, are_lower, lower_of}
 use Rattle.bl_parse_syntax.specs.Stack.{tables}
 use Rattle.bl_parse_syntax.proofs.Checks.{are_apart, are_within, heads_of, may_vanish, follows, is_headed, has_lower, headed, followed, shallow, lower}
-use Rattle.bl_parse_syntax.proofs.Right.{not_true, not_false, all_has, apart, has_append, all_among, empty_is, is_empty, chosen_among, pick_of, begins_of, empty_pick}
+use Rattle.bl_parse_syntax.proofs.Right.{all_has, apart, has_append, all_among, empty_is, is_empty, chosen_among, pick_of, begins_of, empty_pick}
 
 absent_of : (A : Part) → IsAmong [] (productions A) → absent A ≡ true
 unfolding absent
@@ -58,7 +36,7 @@ headed_of : (A : Part) (next : Option TokenView) (p : List Piece) → Produces A
 headed_of A next [] made = absent_of A made.0
 headed_of A next (Terminal k ∷ q) made = λ v e m. begins_of A v (Terminal k) q (subst (λ n. Produces A n (Terminal k ∷ q)) e made) (or_left _ _ m)
 headed_of A next (Nonterminal B ∷ q) made = (
-  not_false _ (and_left _ _ (head_of A next (Nonterminal B ∷ q) made)),
+  not-true _ (and_left _ _ (head_of A next (Nonterminal B ∷ q) made)),
   λ v e b. begins_of A v (Nonterminal B) q (subst (λ n. Produces A n (Nonterminal B ∷ q)) e made) (and_right (permits B v) _ b),
 )
 
@@ -84,7 +62,7 @@ vanish_same (Nonterminal B ∷ q) = ap (λ b. absent B && b) (vanish_same q)
 
 within_of : (B : Part) (outer : List Class) (q : List Piece) → not (may_vanish q) || are_within (avoided B) outer ≡ true →
     Predictive.vanish Produces matches tables q ≡ true → (v : TokenView) → has outer v.class ≡ false → has (avoided B) v.class ≡ false
-within_of B outer q is vanish v none = not_true _ (λ on. not_both _
+within_of B outer q is vanish v none = false_from_ne_true _ (λ on. not_both _
     (all_has (has outer) (avoided B) v.class (inner (may_vanish q) (sym (vanish_same q) ∙ vanish) is) on) none)
   where
     inner : (b : Bool) → b ≡ true → not b || are_within (avoided B) outer ≡ true → are_within (avoided B) outer ≡ true
@@ -153,7 +131,7 @@ descends_of : (A : Part) (v : TokenView) (p : List Piece) → IsAmong p (product
 descends_of A v [] among head = absent_of A among
 descends_of A v (Terminal k ∷ q) among head = tt
 descends_of A v (Nonterminal B ∷ q) among head = (
-  not_false _ (and_left _ _ head),
+  not-true _ (and_left _ _ head),
   λ may. by_absent (absent A) (and_right (not (absent B)) _ head) may,
   λ other. by_other (absent A) (and_right (not (absent B)) _ head) other,
 )
@@ -195,10 +173,10 @@ easy_stands AfterReturn (Some v) neutral = rw neutral refl
 easy_stands Program next neutral = refl
 easy_stands _ next neutral = refl
 
-same_self : (k : Class) → same_class k k ≡ true
+pub same_self : (k : Class) → same_class k k ≡ true
 same_self AnyName = refl
 same_self AnyNumber = refl
-same_self (Keyword k) = eq-eqb k k refl
+same_self (Keyword k) = same_word_self k
 same_self (Mark k) = eq-eqb k k refl
 
 ranked_of : (A : Part) → (0 < depth A) × (0 < 32) × (depth A ≤ 32)

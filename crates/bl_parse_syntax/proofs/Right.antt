@@ -3,6 +3,8 @@ use Rattle.std.proofs.Common.{◌≡◌, Bool, true, false, not, cond, ◌&&◌,
 use Rattle.std.specs.Prelude.{Some, None}
 use Rattle.std.specs.List.{list_all}
 use Rattle.std.proofs.lemmas.Bool.{eqb-true}
+use Rattle.std.proofs.lemmas.Bool.{false_from_ne_true, not-true}
+use Rattle.bl_tree.proofs.KeywordLemmas.{same_word_is}
 use Rattle.bl_grammar.proofs.Predictive.{or_left, or_right, and_both, and_left, and_right, not_both, same_some, no_some}
 use Rattle.bl_parse_syntax.specs.declared.grammar.Class.{Class}
 use Rattle.bl_parse_syntax.specs.declared.grammar.Class.TheVariants.{AnyName, AnyNumber, Keyword, Mark}
@@ -21,17 +23,9 @@ use Rattle.bl_parse_syntax.proofs.Checks.{are_apart, are_within, all_on, are_sep
 pub same_is : (a b : Class) → same_class a b ≡ true → a ≡ b
 same_is AnyName AnyName e = refl
 same_is AnyNumber AnyNumber e = refl
-same_is (Keyword k) (Keyword n) e = ap Keyword (eqb-true k n e)
+same_is (Keyword k) (Keyword n) e = ap Keyword (same_word_is k n e)
 same_is (Mark k) (Mark n) e = ap Mark (eqb-true k n e)
 same_is _ _ e = cc
-
-pub not_true : (b : Bool) → (b ≡ true → ⊥) → b ≡ false
-not_true true none = absurd (none refl)
-not_true false none = refl
-
-pub not_false : (b : Bool) → not b ≡ true → b ≡ false
-not_false true e = sym e
-not_false false e = refl
 
 -- of a test that all pass, what is among them passes it
 pub all_has : (test : Class → Bool) (xs : List Class) (c : Class) → list_all test xs ≡ true → has xs c ≡ true → test c ≡ true
@@ -43,7 +37,7 @@ all_has test (x ∷ xs) c all is = by_same (same_class x c) refl is (all_has tes
     by_same false e is rest = rest is
 
 pub apart : (xs ys : List Class) (c : Class) → are_apart xs ys ≡ true → has xs c ≡ true → has ys c ≡ false
-apart xs ys c all is = not_false _ (all_has (λ k. not (has ys k)) xs c all is)
+apart xs ys c all is = not-true _ (all_has (λ k. not (has ys k)) xs c all is)
 
 pub has_append : (xs ys : List Class) (c : Class) → has (xs ++ ys) c ≡ has xs c || has ys c
 has_append [] ys c = refl
@@ -87,7 +81,7 @@ chosen_choice (_ ∷ ps) x q c apart_all here is = rw is refl
 chosen_choice ([] ∷ ps) x q c apart_all (later among) is = chosen_choice ps x q c apart_all among is
 chosen_choice ((y ∷ r) ∷ ps) x q c apart_all (later among) is =
     let other : has (firsts starts (y ∷ r)) c ≡ false =
-    not_true _ (λ on. not_both _ (on_choice ps x q c among is) (apart _ (all_on (choices_of ps)) c (and_left _ _ apart_all) on)) in
+    false_from_ne_true _ (λ on. not_both _ (on_choice ps x q c among is) (apart _ (all_on (choices_of ps)) c (and_left _ _ apart_all) on)) in
     rw other (chosen_choice ps x q c (and_right (are_apart (firsts starts (y ∷ r)) (all_on (choices_of ps))) _ apart_all) among is)
 
 pub chosen_none : (cs : List Choice) (c : Class) → has (all_on cs) c ≡ false → chosen cs c ≡ None
@@ -183,7 +177,7 @@ own_apart A other may = by_absent (is_bare A) (absent A) other may (own_avoided 
     by_absent false false eb em own = absurd (not_both false em refl)
 
 pub other_pick : (A : Part) (v : TokenView) → is_bare A ≡ false → absent A ≡ true → has (avoided A) v.class ≡ false → pick A v ≡ Some []
-other_pick A v other may none = unpicked A v may (not_true _ (λ on. not_both _ (all_has (has (avoided A)) (starts A) v.class (own_apart A other may) on) none))
+other_pick A v other may none = unpicked A v may (false_from_ne_true _ (λ on. not_both _ (all_has (has (avoided A)) (starts A) v.class (own_apart A other may) on) none))
 
 pub empty_pick : (A : Part) (v : TokenView) → may_stand A (Some v) [] ≡ true → absent A ≡ true → has (avoided A) v.class ≡ false → pick A v ≡ Some []
 empty_pick AfterReturn v stands may none = bare_pick v stands

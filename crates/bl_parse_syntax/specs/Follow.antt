@@ -2,126 +2,19 @@
 use Rattle.std.proofs.Common.{ℕ, zero, suc, ◌+◌, Bool, true, cond, ◌&&◌, List, [], ◌∷◌, ◌++◌, max}
 use Rattle.std.specs.Prelude.{nat_lt}
 use Rattle.bl_grammar.specs.declared.symbol.Symbol.TheVariants.{Terminal, Nonterminal}
-use Rattle.bl_lex.specs.declared.word.TheConstants.{
-  STRUCT,
-  VAR,
-  CONST,
-  FUNCTION,
-  ACTIVITY,
-  RETURNS,
-  LET,
-  AWAIT,
-  RUN,
-  COBEGIN,
-  WHEN,
-  REPEAT,
-  WHILE,
-  IF,
-  RETURN,
-  WEAK,
-  WITH,
-  UNTIL,
-  ELSEIF,
-  ELSE,
-  OR,
-  AND,
-  AS,
-}
-use Rattle.bl_lex.specs.declared.sign.TheConstants.{
-  COLON,
-  ASSIGN,
-  AT,
-  OPEN_BRACKET,
-  OPEN_PAREN,
-  COMMA,
-  DOT,
-  EQUAL,
-  NOT_EQUAL,
-  LESS,
-  LESS_OR_EQUAL,
-  GREATER,
-  GREATER_OR_EQUAL,
-  BAR,
-  CARET,
-  AMPERSAND,
-  SHIFT_LEFT,
-  SHIFT_RIGHT,
-  PLUS,
-  MINUS,
-  STAR,
-  SLASH,
-  PERCENT,
-}
+use Rattle.bl_tree.specs.declared.token.Keyword.TheVariants as keyword
+use Rattle.bl_lex.specs.declared.sign.TheConstants.{COLON, ASSIGN, AT, OPEN_BRACKET, OPEN_PAREN, COMMA, DOT, EQUAL, NOT_EQUAL, LESS, LESS_OR_EQUAL, GREATER}
+use Rattle.bl_lex.specs.declared.sign.TheConstants.{GREATER_OR_EQUAL, BAR, CARET, AMPERSAND, SHIFT_LEFT, SHIFT_RIGHT, PLUS, MINUS, STAR, SLASH, PERCENT}
 use Rattle.bl_parse_syntax.specs.declared.grammar.Class.{Class}
 use Rattle.bl_parse_syntax.specs.declared.grammar.Class.TheVariants.{AnyName, Keyword, Mark}
 use Rattle.bl_parse_syntax.specs.declared.grammar.Part.{Part}
-use Rattle.bl_parse_syntax.specs.declared.grammar.Part.TheVariants.{
-  Program,
-  Item,
-  Struct,
-  Field,
-  Fields,
-  Constant,
-  TypeMark,
-  Unit,
-  PlainUnit,
-  UnitTail,
-  Params,
-  SecondParams,
-  ParamList,
-  ParamRest,
-  Param,
-  Returns,
-  Block,
-  Stmt,
-  VarTail,
-  Initial,
-  AfterName,
-  CallTail,
-  AssignTail,
-  Accesses,
-  RunTail,
-  RunTarget,
-  Weak,
-  Branches,
-  Until,
-  Elseifs,
-  Else,
-  AfterReturn,
-  Inputs,
-  InputList,
-  InputRest,
-  Outputs,
-  SecondOutputs,
-  OutputList,
-  OutputRest,
-  Path,
-  PathRest,
-  Expr,
-  ExprRest,
-  And,
-  AndRest,
-  Comparison,
-  ComparisonRest,
-  BitOr,
-  BitOrRest,
-  BitXor,
-  BitXorRest,
-  BitAnd,
-  BitAndRest,
-  Shift,
-  ShiftRest,
-  Sum,
-  SumRest,
-  Product,
-  ProductRest,
-  Cast,
-  CastRest,
-  Unary,
-  Primary,
-  NameUse,
-  NoOutputs,
-}
+use Rattle.bl_parse_syntax.specs.declared.grammar.Part.TheVariants.{Program, Item, Struct, Field, Fields, Constant, TypeMark, Unit, PlainUnit, UnitTail, Params}
+use Rattle.bl_parse_syntax.specs.declared.grammar.Part.TheVariants.{SecondParams, ParamList, ParamRest, Param, Returns, Block, Stmt, VarTail, Initial}
+use Rattle.bl_parse_syntax.specs.declared.grammar.Part.TheVariants.{AfterName, CallTail, AssignTail, Accesses, RunTail, RunTarget, Weak, Branches, Until}
+use Rattle.bl_parse_syntax.specs.declared.grammar.Part.TheVariants.{Elseifs, Else, AfterReturn, Inputs, InputList, InputRest, Outputs, SecondOutputs}
+use Rattle.bl_parse_syntax.specs.declared.grammar.Part.TheVariants.{OutputList, OutputRest, Path, PathRest, Expr, ExprRest, And, AndRest, Comparison}
+use Rattle.bl_parse_syntax.specs.declared.grammar.Part.TheVariants.{ComparisonRest, BitOr, BitOrRest, BitXor, BitXorRest, BitAnd, BitAndRest, Shift, ShiftRest}
+use Rattle.bl_parse_syntax.specs.declared.grammar.Part.TheVariants.{Sum, SumRest, Product, ProductRest, Cast, CastRest, Unary, Primary, NameUse, NoOutputs}
 use Rattle.bl_parse_syntax.specs.Grammar.{Piece, productions, expression_starts}
 
 -- the classes that go on with a name in an expression: none of them follows the whole
@@ -134,7 +27,7 @@ after_unary = after_name
 
 -- the classes that go on with a cast
 abbrev pub after_cast : List Class
-after_cast = Keyword AS ∷ after_unary
+after_cast = Keyword keyword.As ∷ after_unary
 
 -- the classes that go on with a product
 abbrev pub after_product : List Class
@@ -166,17 +59,17 @@ after_comparison = Mark EQUAL ∷ Mark NOT_EQUAL ∷ Mark LESS ∷ Mark LESS_OR_
 
 -- the classes that go on with a chain of `and`
 abbrev pub after_both : List Class
-after_both = Keyword AND ∷ after_comparison
+after_both = Keyword keyword.And ∷ after_comparison
 
 -- the classes that go on with an expression
 abbrev pub after_expression : List Class
-after_expression = Keyword OR ∷ after_both
+after_expression = Keyword keyword.Or ∷ after_both
 
 -- the classes that a statement begins with
 abbrev pub statement_starts : List Class
 statement_starts =
-    Keyword VAR ∷ Keyword LET ∷ Keyword CONST ∷ AnyName ∷ Keyword AWAIT ∷ Keyword RUN ∷ Keyword COBEGIN ∷ Keyword WHEN
-    ∷ Keyword REPEAT ∷ Keyword WHILE ∷ Keyword IF ∷ Keyword RETURN ∷ []
+    Keyword keyword.Var ∷ Keyword keyword.Let ∷ Keyword keyword.Const ∷ AnyName ∷ Keyword keyword.Await ∷ Keyword keyword.Run
+    ∷ Keyword keyword.Cobegin ∷ Keyword keyword.When ∷ Keyword keyword.Repeat ∷ Keyword keyword.While ∷ Keyword keyword.If ∷ Keyword keyword.Return ∷ []
 
 -- the classes that go on with a statement
 abbrev pub after_statement : List Class
@@ -188,19 +81,19 @@ after_block = statement_starts ++ after_statement
 
 -- the classes that go on with a program
 abbrev pub after_program : List Class
-after_program = Keyword STRUCT ∷ Keyword CONST ∷ Mark AT ∷ Keyword FUNCTION ∷ Keyword ACTIVITY ∷ after_expression
+after_program = Keyword keyword.Struct ∷ Keyword keyword.Const ∷ Mark AT ∷ Keyword keyword.Function ∷ Keyword keyword.Activity ∷ after_expression
 
 -- the classes that never follow a part, since they would go on with it or with what it ends with
 unfoldable pub avoided : Part → List Class
 avoided Program = after_program
 avoided Item = after_expression
-avoided Fields = Keyword VAR ∷ []
+avoided Fields = Keyword keyword.Var ∷ []
 avoided Constant = after_expression
 avoided TypeMark = Mark COLON ∷ []
 avoided SecondParams = Mark OPEN_PAREN ∷ []
 avoided ParamList = AnyName ∷ Mark COMMA ∷ []
 avoided ParamRest = Mark COMMA ∷ []
-avoided Returns = Keyword RETURNS ∷ []
+avoided Returns = Keyword keyword.Returns ∷ []
 avoided Block = after_block
 avoided Stmt = after_statement
 avoided VarTail = after_statement
@@ -211,11 +104,11 @@ avoided AssignTail = after_expression
 avoided Accesses = Mark DOT ∷ Mark OPEN_BRACKET ∷ []
 avoided RunTail = Mark OPEN_PAREN ∷ []
 avoided RunTarget = Mark OPEN_PAREN ∷ []
-avoided Weak = Keyword WEAK ∷ []
-avoided Branches = Keyword WITH ∷ Keyword WEAK ∷ after_block
-avoided Until = Keyword UNTIL ∷ after_expression
-avoided Elseifs = Keyword ELSEIF ∷ after_block
-avoided Else = Keyword ELSE ∷ after_block
+avoided Weak = Keyword keyword.Weak ∷ []
+avoided Branches = Keyword keyword.With ∷ Keyword keyword.Weak ∷ after_block
+avoided Until = Keyword keyword.Until ∷ after_expression
+avoided Elseifs = Keyword keyword.Elseif ∷ after_block
+avoided Else = Keyword keyword.Else ∷ after_block
 avoided AfterReturn = after_expression
 avoided InputList = Mark COMMA ∷ expression_starts ++ after_expression
 avoided InputRest = Mark COMMA ∷ after_expression

@@ -7,156 +7,24 @@ use Rattle.bl_tree.specs.declared.token.TokenKind.TheVariants.{Name, Number, Wor
 use Rattle.bl_grammar.specs.declared.symbol.Symbol.{Symbol}
 use Rattle.bl_grammar.specs.declared.symbol.Symbol.TheVariants.{Terminal, Nonterminal}
 use Rattle.bl_grammar.specs.Derivations
-use Rattle.bl_lex.specs.declared.word.TheConstants.{
-  STRUCT,
-  END,
-  VAR,
-  CONST,
-  FUNCTION,
-  ACTIVITY,
-  RETURNS,
-  BOOL,
-  INT8,
-  INT16,
-  INT32,
-  INT64,
-  NAT8,
-  NAT16,
-  NAT32,
-  NAT64,
-  BITS8,
-  BITS16,
-  BITS32,
-  BITS64,
-  LET,
-  AWAIT,
-  RUN,
-  COBEGIN,
-  WHEN,
-  REPEAT,
-  WHILE,
-  IF,
-  THEN,
-  RETURN,
-  WEAK,
-  WITH,
-  ABORT,
-  RESET,
-  UNTIL,
-  ELSEIF,
-  ELSE,
-  OR,
-  AND,
-  AS,
-  NOT,
-  TRUE,
-  FALSE,
-  PREV,
-}
-use Rattle.bl_lex.specs.declared.sign.TheConstants.{
-  COLON,
-  ASSIGN,
-  AT,
-  OPEN_BRACKET,
-  CLOSE_BRACKET,
-  OPEN_PAREN,
-  CLOSE_PAREN,
-  COMMA,
-  DOT,
-  EQUAL,
-  NOT_EQUAL,
-  LESS,
-  LESS_OR_EQUAL,
-  GREATER,
-  GREATER_OR_EQUAL,
-  BAR,
-  CARET,
-  AMPERSAND,
-  SHIFT_LEFT,
-  SHIFT_RIGHT,
-  PLUS,
-  MINUS,
-  STAR,
-  SLASH,
-  PERCENT,
-  TILDE,
-}
+use Rattle.bl_tree.specs.declared.token.Keyword.{Keyword as AnyKeyword}
+use Rattle.bl_tree.specs.declared.token.Keyword.TheVariants as keyword
+use Rattle.bl_tree.specs.Keywords.{same_word}
+use Rattle.bl_lex.specs.declared.sign.TheConstants.{COLON, ASSIGN, AT, OPEN_BRACKET, CLOSE_BRACKET, OPEN_PAREN, CLOSE_PAREN, COMMA, DOT, EQUAL, NOT_EQUAL, LESS}
+use Rattle.bl_lex.specs.declared.sign.TheConstants.{LESS_OR_EQUAL, GREATER, GREATER_OR_EQUAL, BAR, CARET, AMPERSAND, SHIFT_LEFT, SHIFT_RIGHT, PLUS, MINUS, STAR}
+use Rattle.bl_lex.specs.declared.sign.TheConstants.{SLASH, PERCENT, TILDE}
 use Rattle.bl_parse_syntax.specs.declared.grammar.Class.{Class}
 use Rattle.bl_parse_syntax.specs.declared.grammar.Class.TheVariants.{AnyName, AnyNumber, Keyword, Mark}
 use Rattle.bl_parse_syntax.specs.declared.grammar.TokenView.{TokenView}
 use Rattle.bl_parse_syntax.specs.declared.grammar.Part.{Part}
-use Rattle.bl_parse_syntax.specs.declared.grammar.Part.TheVariants.{
-  Program,
-  Item,
-  Struct,
-  Field,
-  Fields,
-  Constant,
-  TypeMark,
-  Unit,
-  PlainUnit,
-  UnitTail,
-  Params,
-  SecondParams,
-  ParamList,
-  ParamRest,
-  Param,
-  Returns,
-  Ty,
-  Scalar,
-  Length,
-  Block,
-  Stmt,
-  VarTail,
-  Initial,
-  AfterName,
-  CallTail,
-  AssignTail,
-  Access,
-  Accesses,
-  RunTail,
-  RunTarget,
-  Weak,
-  Branches,
-  Guard,
-  Until,
-  Elseifs,
-  Else,
-  AfterReturn,
-  Inputs,
-  InputList,
-  InputRest,
-  Outputs,
-  SecondOutputs,
-  OutputList,
-  OutputRest,
-  Path,
-  PathRest,
-  Expr,
-  ExprRest,
-  And,
-  AndRest,
-  Comparison,
-  ComparisonRest,
-  BitOr,
-  BitOrRest,
-  BitXor,
-  BitXorRest,
-  BitAnd,
-  BitAndRest,
-  Shift,
-  ShiftRest,
-  Sum,
-  SumRest,
-  Product,
-  ProductRest,
-  Cast,
-  CastRest,
-  Unary,
-  Primary,
-  NameUse,
-  NoOutputs,
-}
+use Rattle.bl_parse_syntax.specs.declared.grammar.Part.TheVariants.{Program, Item, Struct, Field, Fields, Constant, TypeMark, Unit, PlainUnit, UnitTail, Params}
+use Rattle.bl_parse_syntax.specs.declared.grammar.Part.TheVariants.{SecondParams, ParamList, ParamRest, Param, Returns, Ty, Scalar, Length, Block, Stmt}
+use Rattle.bl_parse_syntax.specs.declared.grammar.Part.TheVariants.{VarTail, Initial, AfterName, CallTail, AssignTail, Access, Accesses, RunTail, RunTarget}
+use Rattle.bl_parse_syntax.specs.declared.grammar.Part.TheVariants.{Weak, Branches, Guard, Until, Elseifs, Else, AfterReturn, Inputs, InputList, InputRest}
+use Rattle.bl_parse_syntax.specs.declared.grammar.Part.TheVariants.{Outputs, SecondOutputs, OutputList, OutputRest, Path, PathRest, Expr, ExprRest, And}
+use Rattle.bl_parse_syntax.specs.declared.grammar.Part.TheVariants.{AndRest, Comparison, ComparisonRest, BitOr, BitOrRest, BitXor, BitXorRest, BitAnd}
+use Rattle.bl_parse_syntax.specs.declared.grammar.Part.TheVariants.{BitAndRest, Shift, ShiftRest, Sum, SumRest, Product, ProductRest, Cast, CastRest, Unary}
+use Rattle.bl_parse_syntax.specs.declared.grammar.Part.TheVariants.{Primary, NameUse, NoOutputs}
 
 -- the class of a token of this kind
 abbrev pub class_of : TokenKind → Class
@@ -192,7 +60,7 @@ last_line before (token ∷ tokens) = last_line (Some token.line) tokens
 abbrev pub same_class : Class → Class → Bool
 same_class AnyName AnyName = true
 same_class AnyNumber AnyNumber = true
-same_class (Keyword k) (Keyword n) = nat_eq k n
+same_class (Keyword k) (Keyword n) = same_word k n
 same_class (Mark k) (Mark n) = nat_eq k n
 same_class _ _ = false
 
@@ -213,7 +81,7 @@ abbrev pub number : Piece
 number = Terminal AnyNumber
 
 -- the keyword with this position
-abbrev pub word : ℕ → Piece
+abbrev pub word : AnyKeyword → Piece
 word k = Terminal (Keyword k)
 
 -- the sign with this position
@@ -228,41 +96,41 @@ the part = Nonterminal part
 abbrev pub productions : Part → List (List Piece)
 productions Program = (the Item ∷ the Program ∷ []) ∷ [] ∷ []
 productions Item = (the Struct ∷ []) ∷ (the Constant ∷ []) ∷ (the Unit ∷ []) ∷ []
-productions Struct = (word STRUCT ∷ name ∷ the Field ∷ the Fields ∷ word END ∷ []) ∷ []
-productions Field = (word VAR ∷ name ∷ sign COLON ∷ the Ty ∷ []) ∷ []
+productions Struct = (word keyword.Struct ∷ name ∷ the Field ∷ the Fields ∷ word keyword.End ∷ []) ∷ []
+productions Field = (word keyword.Var ∷ name ∷ sign COLON ∷ the Ty ∷ []) ∷ []
 productions Fields = (the Field ∷ the Fields ∷ []) ∷ [] ∷ []
-productions Constant = (word CONST ∷ name ∷ the TypeMark ∷ sign ASSIGN ∷ the Expr ∷ []) ∷ []
+productions Constant = (word keyword.Const ∷ name ∷ the TypeMark ∷ sign ASSIGN ∷ the Expr ∷ []) ∷ []
 productions TypeMark = (sign COLON ∷ the Ty ∷ []) ∷ [] ∷ []
 -- the name is `EntryPoint`: rule Profile leaves out every other name after `@ [`
 productions Unit = (sign AT ∷ sign OPEN_BRACKET ∷ name ∷ sign CLOSE_BRACKET ∷ the PlainUnit ∷ []) ∷ (the PlainUnit ∷ []) ∷ []
-productions PlainUnit = (word FUNCTION ∷ name ∷ the UnitTail ∷ []) ∷ (word ACTIVITY ∷ name ∷ the UnitTail ∷ []) ∷ []
-productions UnitTail = (the Params ∷ the SecondParams ∷ the Returns ∷ the Block ∷ word END ∷ []) ∷ []
+productions PlainUnit = (word keyword.Function ∷ name ∷ the UnitTail ∷ []) ∷ (word keyword.Activity ∷ name ∷ the UnitTail ∷ []) ∷ []
+productions UnitTail = (the Params ∷ the SecondParams ∷ the Returns ∷ the Block ∷ word keyword.End ∷ []) ∷ []
 productions Params = (sign OPEN_PAREN ∷ the ParamList ∷ sign CLOSE_PAREN ∷ []) ∷ []
 productions SecondParams = (the Params ∷ []) ∷ [] ∷ []
 productions ParamList = (the Param ∷ the ParamRest ∷ []) ∷ [] ∷ []
 productions ParamRest = (sign COMMA ∷ the Param ∷ the ParamRest ∷ []) ∷ [] ∷ []
 productions Param = (name ∷ sign COLON ∷ the Ty ∷ []) ∷ []
-productions Returns = (word RETURNS ∷ the Ty ∷ []) ∷ [] ∷ []
+productions Returns = (word keyword.Returns ∷ the Ty ∷ []) ∷ [] ∷ []
 productions Ty = (the Scalar ∷ []) ∷ (name ∷ []) ∷ (sign OPEN_BRACKET ∷ the Length ∷ sign CLOSE_BRACKET ∷ the Ty ∷ []) ∷ []
 productions Scalar =
-    (word BOOL ∷ []) ∷ (word INT8 ∷ []) ∷ (word INT16 ∷ []) ∷ (word INT32 ∷ []) ∷ (word INT64 ∷ []) ∷
-    (word NAT8 ∷ []) ∷ (word NAT16 ∷ []) ∷ (word NAT32 ∷ []) ∷ (word NAT64 ∷ []) ∷
-    (word BITS8 ∷ []) ∷ (word BITS16 ∷ []) ∷ (word BITS32 ∷ []) ∷ (word BITS64 ∷ []) ∷ []
+    (word keyword.Bool ∷ []) ∷ (word keyword.Int8 ∷ []) ∷ (word keyword.Int16 ∷ []) ∷ (word keyword.Int32 ∷ []) ∷ (word keyword.Int64 ∷ []) ∷
+    (word keyword.Nat8 ∷ []) ∷ (word keyword.Nat16 ∷ []) ∷ (word keyword.Nat32 ∷ []) ∷ (word keyword.Nat64 ∷ []) ∷
+    (word keyword.Bits8 ∷ []) ∷ (word keyword.Bits16 ∷ []) ∷ (word keyword.Bits32 ∷ []) ∷ (word keyword.Bits64 ∷ []) ∷ []
 productions Length = (number ∷ []) ∷ (name ∷ []) ∷ []
 productions Block = (the Stmt ∷ the Block ∷ []) ∷ [] ∷ []
 productions Stmt =
-    (word VAR ∷ name ∷ the VarTail ∷ []) ∷
-    (word LET ∷ name ∷ the TypeMark ∷ sign ASSIGN ∷ the Expr ∷ []) ∷
+    (word keyword.Var ∷ name ∷ the VarTail ∷ []) ∷
+    (word keyword.Let ∷ name ∷ the TypeMark ∷ sign ASSIGN ∷ the Expr ∷ []) ∷
     (the Constant ∷ []) ∷
     (name ∷ the AfterName ∷ []) ∷
-    (word AWAIT ∷ the Expr ∷ []) ∷
-    (word RUN ∷ name ∷ the RunTail ∷ []) ∷
-    (word COBEGIN ∷ the Weak ∷ the Block ∷ the Branches ∷ word END ∷ []) ∷
-    (word WHEN ∷ the Expr ∷ the Guard ∷ the Block ∷ word END ∷ []) ∷
-    (word REPEAT ∷ the Block ∷ the Until ∷ word END ∷ []) ∷
-    (word WHILE ∷ the Expr ∷ word REPEAT ∷ the Block ∷ word END ∷ []) ∷
-    (word IF ∷ the Expr ∷ word THEN ∷ the Block ∷ the Elseifs ∷ the Else ∷ word END ∷ []) ∷
-    (word RETURN ∷ the AfterReturn ∷ []) ∷ []
+    (word keyword.Await ∷ the Expr ∷ []) ∷
+    (word keyword.Run ∷ name ∷ the RunTail ∷ []) ∷
+    (word keyword.Cobegin ∷ the Weak ∷ the Block ∷ the Branches ∷ word keyword.End ∷ []) ∷
+    (word keyword.When ∷ the Expr ∷ the Guard ∷ the Block ∷ word keyword.End ∷ []) ∷
+    (word keyword.Repeat ∷ the Block ∷ the Until ∷ word keyword.End ∷ []) ∷
+    (word keyword.While ∷ the Expr ∷ word keyword.Repeat ∷ the Block ∷ word keyword.End ∷ []) ∷
+    (word keyword.If ∷ the Expr ∷ word keyword.Then ∷ the Block ∷ the Elseifs ∷ the Else ∷ word keyword.End ∷ []) ∷
+    (word keyword.Return ∷ the AfterReturn ∷ []) ∷ []
 productions VarTail = (sign COLON ∷ the Ty ∷ the Initial ∷ []) ∷ (sign ASSIGN ∷ the Expr ∷ []) ∷ []
 productions Initial = (sign ASSIGN ∷ the Expr ∷ []) ∷ [] ∷ []
 productions AfterName = (the CallTail ∷ []) ∷ (the AssignTail ∷ []) ∷ []
@@ -272,12 +140,12 @@ productions Access = (sign DOT ∷ name ∷ []) ∷ (sign OPEN_BRACKET ∷ the E
 productions Accesses = (the Access ∷ the Accesses ∷ []) ∷ [] ∷ []
 productions RunTail = (the CallTail ∷ []) ∷ (the RunTarget ∷ []) ∷ []
 productions RunTarget = (sign DOT ∷ name ∷ the RunTarget ∷ []) ∷ (sign ASSIGN ∷ name ∷ the CallTail ∷ []) ∷ []
-productions Weak = (word WEAK ∷ []) ∷ [] ∷ []
-productions Branches = (word WITH ∷ the Weak ∷ the Block ∷ the Branches ∷ []) ∷ [] ∷ []
-productions Guard = (word ABORT ∷ []) ∷ (word RESET ∷ []) ∷ []
-productions Until = (word UNTIL ∷ the Expr ∷ []) ∷ [] ∷ []
-productions Elseifs = (word ELSEIF ∷ the Expr ∷ word THEN ∷ the Block ∷ the Elseifs ∷ []) ∷ [] ∷ []
-productions Else = (word ELSE ∷ the Block ∷ []) ∷ [] ∷ []
+productions Weak = (word keyword.Weak ∷ []) ∷ [] ∷ []
+productions Branches = (word keyword.With ∷ the Weak ∷ the Block ∷ the Branches ∷ []) ∷ [] ∷ []
+productions Guard = (word keyword.Abort ∷ []) ∷ (word keyword.Reset ∷ []) ∷ []
+productions Until = (word keyword.Until ∷ the Expr ∷ []) ∷ [] ∷ []
+productions Elseifs = (word keyword.Elseif ∷ the Expr ∷ word keyword.Then ∷ the Block ∷ the Elseifs ∷ []) ∷ [] ∷ []
+productions Else = (word keyword.Else ∷ the Block ∷ []) ∷ [] ∷ []
 productions AfterReturn = (the Expr ∷ []) ∷ [] ∷ []
 productions Inputs = (sign OPEN_PAREN ∷ the InputList ∷ sign CLOSE_PAREN ∷ []) ∷ []
 productions InputList = (the Expr ∷ the InputRest ∷ []) ∷ [] ∷ []
@@ -289,9 +157,9 @@ productions OutputRest = (sign COMMA ∷ the Path ∷ the OutputRest ∷ []) ∷
 productions Path = (name ∷ the PathRest ∷ []) ∷ []
 productions PathRest = (sign DOT ∷ name ∷ the PathRest ∷ []) ∷ [] ∷ []
 productions Expr = (the And ∷ the ExprRest ∷ []) ∷ []
-productions ExprRest = (word OR ∷ the And ∷ the ExprRest ∷ []) ∷ [] ∷ []
+productions ExprRest = (word keyword.Or ∷ the And ∷ the ExprRest ∷ []) ∷ [] ∷ []
 productions And = (the Comparison ∷ the AndRest ∷ []) ∷ []
-productions AndRest = (word AND ∷ the Comparison ∷ the AndRest ∷ []) ∷ [] ∷ []
+productions AndRest = (word keyword.And ∷ the Comparison ∷ the AndRest ∷ []) ∷ [] ∷ []
 productions Comparison = (the BitOr ∷ the ComparisonRest ∷ []) ∷ []
 productions ComparisonRest =
     (sign EQUAL ∷ the BitOr ∷ []) ∷ (sign NOT_EQUAL ∷ the BitOr ∷ []) ∷ (sign LESS ∷ the BitOr ∷ []) ∷
@@ -311,19 +179,19 @@ productions ProductRest =
     (sign STAR ∷ the Cast ∷ the ProductRest ∷ []) ∷ (sign SLASH ∷ the Cast ∷ the ProductRest ∷ []) ∷
     (sign PERCENT ∷ the Cast ∷ the ProductRest ∷ []) ∷ [] ∷ []
 productions Cast = (the Unary ∷ the CastRest ∷ []) ∷ []
-productions CastRest = (word AS ∷ the Scalar ∷ the CastRest ∷ []) ∷ [] ∷ []
+productions CastRest = (word keyword.As ∷ the Scalar ∷ the CastRest ∷ []) ∷ [] ∷ []
 -- a minus directly before a number makes one literal with it, which spells the same
 productions Unary =
-    (sign MINUS ∷ the Unary ∷ []) ∷ (sign TILDE ∷ the Unary ∷ []) ∷ (word NOT ∷ the Unary ∷ []) ∷ (the Primary ∷ []) ∷ []
+    (sign MINUS ∷ the Unary ∷ []) ∷ (sign TILDE ∷ the Unary ∷ []) ∷ (word keyword.Not ∷ the Unary ∷ []) ∷ (the Primary ∷ []) ∷ []
 productions Primary =
-    (number ∷ []) ∷ (word TRUE ∷ []) ∷ (word FALSE ∷ []) ∷ (word PREV ∷ name ∷ []) ∷ (name ∷ the NameUse ∷ []) ∷
+    (number ∷ []) ∷ (word keyword.True ∷ []) ∷ (word keyword.False ∷ []) ∷ (word keyword.Prev ∷ name ∷ []) ∷ (name ∷ the NameUse ∷ []) ∷
     (sign OPEN_PAREN ∷ the Expr ∷ sign CLOSE_PAREN ∷ []) ∷ []
 productions NameUse = (the Inputs ∷ the NoOutputs ∷ []) ∷ (the Access ∷ the Accesses ∷ []) ∷ [] ∷ []
 productions NoOutputs = (sign OPEN_PAREN ∷ sign CLOSE_PAREN ∷ []) ∷ [] ∷ []
 
 -- the classes that an expression can begin with
 abbrev pub expression_starts : List Class
-expression_starts = Mark MINUS ∷ Mark TILDE ∷ Keyword NOT ∷ AnyNumber ∷ Keyword TRUE ∷ Keyword FALSE ∷ Keyword PREV ∷ AnyName
+expression_starts = Mark MINUS ∷ Mark TILDE ∷ Keyword keyword.Not ∷ AnyNumber ∷ Keyword keyword.True ∷ Keyword keyword.False ∷ Keyword keyword.Prev ∷ AnyName
     ∷ Mark OPEN_PAREN ∷ []
 
 -- a token of the class can begin an expression

@@ -81,9 +81,8 @@ pub fn is_same(one: Class, other: Class) -> bool
 {
     match (one, other) {
         (Class::AnyName, Class::AnyName) | (Class::AnyNumber, Class::AnyNumber) => true,
-        (Class::Keyword(one), Class::Keyword(other)) | (Class::Mark(one), Class::Mark(other)) => {
-            one == other
-        }
+        (Class::Keyword(one), Class::Keyword(other)) => one == other,
+        (Class::Mark(one), Class::Mark(other)) => one == other,
         _ => false,
     }
 }

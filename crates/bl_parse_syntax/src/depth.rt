@@ -2,13 +2,13 @@
 
 ghost use Rattle.std.specs.Prelude.{◌≡◌, ℕ, ◌<◌, List, length, MatchOption};
 ghost use Rattle.bl_tree.specs.declared.token.Token.{Token};
-ghost use Rattle.bl_parse_syntax.specs.Depth.{is_one_of, opening_words, scalar_words, counted_words, counted_signs, blocks_after, is_counted, is_last};
-ghost use Rattle.bl_parse_syntax.specs.Depth.{is_inner_word, begins_run, run_with};
+ghost use Rattle.bl_parse_syntax.specs.Depth.{is_one_of, is_word_of, opening_words, scalar_words, counted_words, counted_signs, blocks_after, is_counted};
+ghost use Rattle.bl_parse_syntax.specs.Depth.{is_last, is_inner_word, begins_run, run_with};
 ghost use Rattle.bl_parse_syntax.specs.Rules.{FailsDepth, PassesDepth};
 
-use bl_lex::{sign, word};
+use bl_lex::sign;
 use bl_tree::Place;
-use bl_tree::token::{Token, TokenKind};
+use bl_tree::token::{Keyword, Token, TokenKind};
 
 /// The most blocks that may be open.
 const MOST_BLOCKS: u32 = 100;
@@ -45,13 +45,13 @@ fn blocks_after(blocks: u32, kind: TokenKind) -> u32
     }
 }
 
-fn blocks_after_word(blocks: u32, word: u8) -> u32
+fn blocks_after_word(blocks: u32, word: Keyword) -> u32
     requires { blocks < 1000 }
     ensures { result ≡ blocks_after blocks (TokenKind.Word word) }
 {
     if opens_block(word) {
         blocks + 1
-    } else if word == word::END {
+    } else if word == Keyword::End {
         blocks.saturating_sub(1)
     } else {
         blocks
@@ -99,7 +99,7 @@ fn is_last(kind: TokenKind) -> bool
 {
     match kind {
         TokenKind::Name | TokenKind::Number(_) => true,
-        TokenKind::Word(word) => word == word::TRUE || word == word::FALSE || is_scalar(word),
+        TokenKind::Word(word) => word == Keyword::True || word == Keyword::False || is_scalar(word),
         TokenKind::Sign(sign) => sign == sign::CLOSE_PAREN || sign == sign::CLOSE_BRACKET,
     }
 }
@@ -115,56 +115,56 @@ fn is_counted(kind: TokenKind) -> bool
 }
 
 /// The keyword can stand in an expression.
-fn is_inner_word(word: u8) -> bool
+fn is_inner_word(word: Keyword) -> bool
     ensures { result ≡ is_inner_word word }
 {
     is_word_operator(word)
-        || word == word::TRUE
-        || word == word::FALSE
-        || word == word::PREV
+        || word == Keyword::True
+        || word == Keyword::False
+        || word == Keyword::Prev
         || is_scalar(word)
 }
 
-fn opens_block(word: u8) -> bool
-    ensures { result ≡ is_one_of opening_words word }
+fn opens_block(word: Keyword) -> bool
+    ensures { result ≡ is_word_of opening_words word }
 {
     [
-        word::FUNCTION,
-        word::ACTIVITY,
-        word::STRUCT,
-        word::IF,
-        word::COBEGIN,
-        word::WHEN,
-        word::REPEAT,
+        Keyword::Function,
+        Keyword::Activity,
+        Keyword::Struct,
+        Keyword::If,
+        Keyword::Cobegin,
+        Keyword::When,
+        Keyword::Repeat,
     ]
     .contains(&word)
 }
 
-fn is_scalar(word: u8) -> bool
-    ensures { result ≡ is_one_of scalar_words word }
+fn is_scalar(word: Keyword) -> bool
+    ensures { result ≡ is_word_of scalar_words word }
 {
     [
-        word::BOOL,
-        word::INT8,
-        word::INT16,
-        word::INT32,
-        word::INT64,
-        word::NAT8,
-        word::NAT16,
-        word::NAT32,
-        word::NAT64,
-        word::BITS8,
-        word::BITS16,
-        word::BITS32,
-        word::BITS64,
+        Keyword::Bool,
+        Keyword::Int8,
+        Keyword::Int16,
+        Keyword::Int32,
+        Keyword::Int64,
+        Keyword::Nat8,
+        Keyword::Nat16,
+        Keyword::Nat32,
+        Keyword::Nat64,
+        Keyword::Bits8,
+        Keyword::Bits16,
+        Keyword::Bits32,
+        Keyword::Bits64,
     ]
     .contains(&word)
 }
 
-fn is_word_operator(word: u8) -> bool
-    ensures { result ≡ is_one_of counted_words word }
+fn is_word_operator(word: Keyword) -> bool
+    ensures { result ≡ is_word_of counted_words word }
 {
-    [word::AND, word::OR, word::NOT, word::AS].contains(&word)
+    [Keyword::And, Keyword::Or, Keyword::Not, Keyword::As].contains(&word)
 }
 
 fn is_counted_sign(sign: u8) -> bool

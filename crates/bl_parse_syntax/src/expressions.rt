@@ -3,17 +3,18 @@
 use crate::choice::Choice;
 use crate::grammar::{Class, Part};
 use bl_grammar::Symbol;
-use bl_lex::{sign, word};
+use bl_lex::sign;
+use bl_tree::token::Keyword;
 
 /// The classes that an expression begins with.
 const EXPRESSION_STARTS: [Class; 9] = [
     Class::Mark(sign::MINUS),
     Class::Mark(sign::TILDE),
-    Class::Keyword(word::NOT),
+    Class::Keyword(Keyword::Not),
     Class::AnyNumber,
-    Class::Keyword(word::TRUE),
-    Class::Keyword(word::FALSE),
-    Class::Keyword(word::PREV),
+    Class::Keyword(Keyword::True),
+    Class::Keyword(Keyword::False),
+    Class::Keyword(Keyword::Prev),
     Class::AnyName,
     Class::Mark(sign::OPEN_PAREN),
 ];
@@ -21,9 +22,9 @@ const EXPRESSION_STARTS: [Class; 9] = [
 /// The classes that an operand without a sign begins with.
 const PRIMARY_STARTS: [Class; 6] = [
     Class::AnyNumber,
-    Class::Keyword(word::TRUE),
-    Class::Keyword(word::FALSE),
-    Class::Keyword(word::PREV),
+    Class::Keyword(Keyword::True),
+    Class::Keyword(Keyword::False),
+    Class::Keyword(Keyword::Prev),
     Class::AnyName,
     Class::Mark(sign::OPEN_PAREN),
 ];
@@ -37,9 +38,9 @@ pub static EXPR: [Choice; 1] = [Choice {
 }];
 
 pub static EXPR_REST: [Choice; 1] = [Choice {
-    on: &[Class::Keyword(word::OR)],
+    on: &[Class::Keyword(Keyword::Or)],
     production: &[
-        Symbol::Terminal(Class::Keyword(word::OR)),
+        Symbol::Terminal(Class::Keyword(Keyword::Or)),
         Symbol::Nonterminal(Part::And),
         Symbol::Nonterminal(Part::ExprRest),
     ],
@@ -54,9 +55,9 @@ pub static AND: [Choice; 1] = [Choice {
 }];
 
 pub static AND_REST: [Choice; 1] = [Choice {
-    on: &[Class::Keyword(word::AND)],
+    on: &[Class::Keyword(Keyword::And)],
     production: &[
-        Symbol::Terminal(Class::Keyword(word::AND)),
+        Symbol::Terminal(Class::Keyword(Keyword::And)),
         Symbol::Nonterminal(Part::Comparison),
         Symbol::Nonterminal(Part::AndRest),
     ],
@@ -264,9 +265,9 @@ pub static CAST: [Choice; 1] = [Choice {
 }];
 
 pub static CAST_REST: [Choice; 1] = [Choice {
-    on: &[Class::Keyword(word::AS)],
+    on: &[Class::Keyword(Keyword::As)],
     production: &[
-        Symbol::Terminal(Class::Keyword(word::AS)),
+        Symbol::Terminal(Class::Keyword(Keyword::As)),
         Symbol::Nonterminal(Part::Scalar),
         Symbol::Nonterminal(Part::CastRest),
     ],
@@ -288,9 +289,9 @@ pub static UNARY: [Choice; 4] = [
         ],
     },
     Choice {
-        on: &[Class::Keyword(word::NOT)],
+        on: &[Class::Keyword(Keyword::Not)],
         production: &[
-            Symbol::Terminal(Class::Keyword(word::NOT)),
+            Symbol::Terminal(Class::Keyword(Keyword::Not)),
             Symbol::Nonterminal(Part::Unary),
         ],
     },
@@ -306,17 +307,17 @@ pub static PRIMARY: [Choice; 6] = [
         production: &[Symbol::Terminal(Class::AnyNumber)],
     },
     Choice {
-        on: &[Class::Keyword(word::TRUE)],
-        production: &[Symbol::Terminal(Class::Keyword(word::TRUE))],
+        on: &[Class::Keyword(Keyword::True)],
+        production: &[Symbol::Terminal(Class::Keyword(Keyword::True))],
     },
     Choice {
-        on: &[Class::Keyword(word::FALSE)],
-        production: &[Symbol::Terminal(Class::Keyword(word::FALSE))],
+        on: &[Class::Keyword(Keyword::False)],
+        production: &[Symbol::Terminal(Class::Keyword(Keyword::False))],
     },
     Choice {
-        on: &[Class::Keyword(word::PREV)],
+        on: &[Class::Keyword(Keyword::Prev)],
         production: &[
-            Symbol::Terminal(Class::Keyword(word::PREV)),
+            Symbol::Terminal(Class::Keyword(Keyword::Prev)),
             Symbol::Terminal(Class::AnyName),
         ],
     },

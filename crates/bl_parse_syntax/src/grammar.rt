@@ -1,14 +1,13 @@
 //! The grammar's parts, and tokens as the grammar sees them (docs/LANGUAGE.md, "Grammar").
 
-use bl_tree::token::{Token, TokenKind};
+use bl_tree::token::Keyword;
 
 /// What the grammar tells tokens apart by.
 #[derive(Clone, Copy, PartialEq, Eq, Debug)]
 pub enum Class {
     AnyName,
     AnyNumber,
-    /// The position in the list of keywords.
-    Keyword(u8),
+    Keyword(Keyword),
     /// The position in the list of signs.
     Mark(u8),
 }

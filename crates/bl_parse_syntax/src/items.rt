@@ -3,39 +3,40 @@
 use crate::choice::Choice;
 use crate::grammar::{Class, Part};
 use bl_grammar::Symbol;
-use bl_lex::{sign, word};
+use bl_lex::sign;
+use bl_tree::token::Keyword;
 
 /// The scalar types.
 const SCALARS: [Class; 13] = [
-    Class::Keyword(word::BOOL),
-    Class::Keyword(word::INT8),
-    Class::Keyword(word::INT16),
-    Class::Keyword(word::INT32),
-    Class::Keyword(word::INT64),
-    Class::Keyword(word::NAT8),
-    Class::Keyword(word::NAT16),
-    Class::Keyword(word::NAT32),
-    Class::Keyword(word::NAT64),
-    Class::Keyword(word::BITS8),
-    Class::Keyword(word::BITS16),
-    Class::Keyword(word::BITS32),
-    Class::Keyword(word::BITS64),
+    Class::Keyword(Keyword::Bool),
+    Class::Keyword(Keyword::Int8),
+    Class::Keyword(Keyword::Int16),
+    Class::Keyword(Keyword::Int32),
+    Class::Keyword(Keyword::Int64),
+    Class::Keyword(Keyword::Nat8),
+    Class::Keyword(Keyword::Nat16),
+    Class::Keyword(Keyword::Nat32),
+    Class::Keyword(Keyword::Nat64),
+    Class::Keyword(Keyword::Bits8),
+    Class::Keyword(Keyword::Bits16),
+    Class::Keyword(Keyword::Bits32),
+    Class::Keyword(Keyword::Bits64),
 ];
 
 /// The classes that an item begins with.
 const ITEM_STARTS: [Class; 5] = [
-    Class::Keyword(word::STRUCT),
-    Class::Keyword(word::CONST),
+    Class::Keyword(Keyword::Struct),
+    Class::Keyword(Keyword::Const),
     Class::Mark(sign::AT),
-    Class::Keyword(word::FUNCTION),
-    Class::Keyword(word::ACTIVITY),
+    Class::Keyword(Keyword::Function),
+    Class::Keyword(Keyword::Activity),
 ];
 
 /// The classes that a unit begins with.
 const UNIT_STARTS: [Class; 3] = [
     Class::Mark(sign::AT),
-    Class::Keyword(word::FUNCTION),
-    Class::Keyword(word::ACTIVITY),
+    Class::Keyword(Keyword::Function),
+    Class::Keyword(Keyword::Activity),
 ];
 
 pub static PROGRAM: [Choice; 1] = [Choice {
@@ -48,11 +49,11 @@ pub static PROGRAM: [Choice; 1] = [Choice {
 
 pub static ITEM: [Choice; 3] = [
     Choice {
-        on: &[Class::Keyword(word::STRUCT)],
+        on: &[Class::Keyword(Keyword::Struct)],
         production: &[Symbol::Nonterminal(Part::Struct)],
     },
     Choice {
-        on: &[Class::Keyword(word::CONST)],
+        on: &[Class::Keyword(Keyword::Const)],
         production: &[Symbol::Nonterminal(Part::Constant)],
     },
     Choice {
@@ -62,20 +63,20 @@ pub static ITEM: [Choice; 3] = [
 ];
 
 pub static STRUCT: [Choice; 1] = [Choice {
-    on: &[Class::Keyword(word::STRUCT)],
+    on: &[Class::Keyword(Keyword::Struct)],
     production: &[
-        Symbol::Terminal(Class::Keyword(word::STRUCT)),
+        Symbol::Terminal(Class::Keyword(Keyword::Struct)),
         Symbol::Terminal(Class::AnyName),
         Symbol::Nonterminal(Part::Field),
         Symbol::Nonterminal(Part::Fields),
-        Symbol::Terminal(Class::Keyword(word::END)),
+        Symbol::Terminal(Class::Keyword(Keyword::End)),
     ],
 }];
 
 pub static FIELD: [Choice; 1] = [Choice {
-    on: &[Class::Keyword(word::VAR)],
+    on: &[Class::Keyword(Keyword::Var)],
     production: &[
-        Symbol::Terminal(Class::Keyword(word::VAR)),
+        Symbol::Terminal(Class::Keyword(Keyword::Var)),
         Symbol::Terminal(Class::AnyName),
         Symbol::Terminal(Class::Mark(sign::COLON)),
         Symbol::Nonterminal(Part::Ty),
@@ -83,7 +84,7 @@ pub static FIELD: [Choice; 1] = [Choice {
 }];
 
 pub static FIELDS: [Choice; 1] = [Choice {
-    on: &[Class::Keyword(word::VAR)],
+    on: &[Class::Keyword(Keyword::Var)],
     production: &[
         Symbol::Nonterminal(Part::Field),
         Symbol::Nonterminal(Part::Fields),
@@ -91,9 +92,9 @@ pub static FIELDS: [Choice; 1] = [Choice {
 }];
 
 pub static CONSTANT: [Choice; 1] = [Choice {
-    on: &[Class::Keyword(word::CONST)],
+    on: &[Class::Keyword(Keyword::Const)],
     production: &[
-        Symbol::Terminal(Class::Keyword(word::CONST)),
+        Symbol::Terminal(Class::Keyword(Keyword::Const)),
         Symbol::Terminal(Class::AnyName),
         Symbol::Nonterminal(Part::TypeMark),
         Symbol::Terminal(Class::Mark(sign::ASSIGN)),
@@ -122,8 +123,8 @@ pub static UNIT: [Choice; 2] = [
     },
     Choice {
         on: &[
-            Class::Keyword(word::FUNCTION),
-            Class::Keyword(word::ACTIVITY),
+            Class::Keyword(Keyword::Function),
+            Class::Keyword(Keyword::Activity),
         ],
         production: &[Symbol::Nonterminal(Part::PlainUnit)],
     },
@@ -131,17 +132,17 @@ pub static UNIT: [Choice; 2] = [
 
 pub static PLAIN_UNIT: [Choice; 2] = [
     Choice {
-        on: &[Class::Keyword(word::FUNCTION)],
+        on: &[Class::Keyword(Keyword::Function)],
         production: &[
-            Symbol::Terminal(Class::Keyword(word::FUNCTION)),
+            Symbol::Terminal(Class::Keyword(Keyword::Function)),
             Symbol::Terminal(Class::AnyName),
             Symbol::Nonterminal(Part::UnitTail),
         ],
     },
     Choice {
-        on: &[Class::Keyword(word::ACTIVITY)],
+        on: &[Class::Keyword(Keyword::Activity)],
         production: &[
-            Symbol::Terminal(Class::Keyword(word::ACTIVITY)),
+            Symbol::Terminal(Class::Keyword(Keyword::Activity)),
             Symbol::Terminal(Class::AnyName),
             Symbol::Nonterminal(Part::UnitTail),
         ],
@@ -155,7 +156,7 @@ pub static UNIT_TAIL: [Choice; 1] = [Choice {
         Symbol::Nonterminal(Part::SecondParams),
         Symbol::Nonterminal(Part::Returns),
         Symbol::Nonterminal(Part::Block),
-        Symbol::Terminal(Class::Keyword(word::END)),
+        Symbol::Terminal(Class::Keyword(Keyword::End)),
     ],
 }];
 
@@ -200,9 +201,9 @@ pub static PARAM: [Choice; 1] = [Choice {
 }];
 
 pub static RETURNS: [Choice; 1] = [Choice {
-    on: &[Class::Keyword(word::RETURNS)],
+    on: &[Class::Keyword(Keyword::Returns)],
     production: &[
-        Symbol::Terminal(Class::Keyword(word::RETURNS)),
+        Symbol::Terminal(Class::Keyword(Keyword::Returns)),
         Symbol::Nonterminal(Part::Ty),
     ],
 }];
@@ -229,56 +230,56 @@ pub static TY: [Choice; 3] = [
 
 pub static SCALAR: [Choice; 13] = [
     Choice {
-        on: &[Class::Keyword(word::BOOL)],
-        production: &[Symbol::Terminal(Class::Keyword(word::BOOL))],
+        on: &[Class::Keyword(Keyword::Bool)],
+        production: &[Symbol::Terminal(Class::Keyword(Keyword::Bool))],
     },
     Choice {
-        on: &[Class::Keyword(word::INT8)],
-        production: &[Symbol::Terminal(Class::Keyword(word::INT8))],
+        on: &[Class::Keyword(Keyword::Int8)],
+        production: &[Symbol::Terminal(Class::Keyword(Keyword::Int8))],
     },
     Choice {
-        on: &[Class::Keyword(word::INT16)],
-        production: &[Symbol::Terminal(Class::Keyword(word::INT16))],
+        on: &[Class::Keyword(Keyword::Int16)],
+        production: &[Symbol::Terminal(Class::Keyword(Keyword::Int16))],
     },
     Choice {
-        on: &[Class::Keyword(word::INT32)],
-        production: &[Symbol::Terminal(Class::Keyword(word::INT32))],
+        on: &[Class::Keyword(Keyword::Int32)],
+        production: &[Symbol::Terminal(Class::Keyword(Keyword::Int32))],
     },
     Choice {
-        on: &[Class::Keyword(word::INT64)],
-        production: &[Symbol::Terminal(Class::Keyword(word::INT64))],
+        on: &[Class::Keyword(Keyword::Int64)],
+        production: &[Symbol::Terminal(Class::Keyword(Keyword::Int64))],
     },
     Choice {
-        on: &[Class::Keyword(word::NAT8)],
-        production: &[Symbol::Terminal(Class::Keyword(word::NAT8))],
+        on: &[Class::Keyword(Keyword::Nat8)],
+        production: &[Symbol::Terminal(Class::Keyword(Keyword::Nat8))],
     },
     Choice {
-        on: &[Class::Keyword(word::NAT16)],
-        production: &[Symbol::Terminal(Class::Keyword(word::NAT16))],
+        on: &[Class::Keyword(Keyword::Nat16)],
+        production: &[Symbol::Terminal(Class::Keyword(Keyword::Nat16))],
     },
     Choice {
-        on: &[Class::Keyword(word::NAT32)],
-        production: &[Symbol::Terminal(Class::Keyword(word::NAT32))],
+        on: &[Class::Keyword(Keyword::Nat32)],
+        production: &[Symbol::Terminal(Class::Keyword(Keyword::Nat32))],
     },
     Choice {
-        on: &[Class::Keyword(word::NAT64)],
-        production: &[Symbol::Terminal(Class::Keyword(word::NAT64))],
+        on: &[Class::Keyword(Keyword::Nat64)],
+        production: &[Symbol::Terminal(Class::Keyword(Keyword::Nat64))],
     },
     Choice {
-        on: &[Class::Keyword(word::BITS8)],
-        production: &[Symbol::Terminal(Class::Keyword(word::BITS8))],
+        on: &[Class::Keyword(Keyword::Bits8)],
+        production: &[Symbol::Terminal(Class::Keyword(Keyword::Bits8))],
     },
     Choice {
-        on: &[Class::Keyword(word::BITS16)],
-        production: &[Symbol::Terminal(Class::Keyword(word::BITS16))],
+        on: &[Class::Keyword(Keyword::Bits16)],
+        production: &[Symbol::Terminal(Class::Keyword(Keyword::Bits16))],
     },
     Choice {
-        on: &[Class::Keyword(word::BITS32)],
-        production: &[Symbol::Terminal(Class::Keyword(word::BITS32))],
+        on: &[Class::Keyword(Keyword::Bits32)],
+        production: &[Symbol::Terminal(Class::Keyword(Keyword::Bits32))],
     },
     Choice {
-        on: &[Class::Keyword(word::BITS64)],
-        production: &[Symbol::Terminal(Class::Keyword(word::BITS64))],
+        on: &[Class::Keyword(Keyword::Bits64)],
+        production: &[Symbol::Terminal(Class::Keyword(Keyword::Bits64))],
     },
 ];
 

@@ -3,35 +3,36 @@
 use crate::choice::Choice;
 use crate::grammar::{Class, Part};
 use bl_grammar::Symbol;
-use bl_lex::{sign, word};
+use bl_lex::sign;
+use bl_tree::token::Keyword;
 
 /// The classes that an expression begins with.
 const EXPRESSION_STARTS: [Class; 9] = [
     Class::Mark(sign::MINUS),
     Class::Mark(sign::TILDE),
-    Class::Keyword(word::NOT),
+    Class::Keyword(Keyword::Not),
     Class::AnyNumber,
-    Class::Keyword(word::TRUE),
-    Class::Keyword(word::FALSE),
-    Class::Keyword(word::PREV),
+    Class::Keyword(Keyword::True),
+    Class::Keyword(Keyword::False),
+    Class::Keyword(Keyword::Prev),
     Class::AnyName,
     Class::Mark(sign::OPEN_PAREN),
 ];
 
 /// The classes that a statement begins with.
 const STATEMENT_STARTS: [Class; 12] = [
-    Class::Keyword(word::VAR),
-    Class::Keyword(word::LET),
-    Class::Keyword(word::CONST),
+    Class::Keyword(Keyword::Var),
+    Class::Keyword(Keyword::Let),
+    Class::Keyword(Keyword::Const),
     Class::AnyName,
-    Class::Keyword(word::AWAIT),
-    Class::Keyword(word::RUN),
-    Class::Keyword(word::COBEGIN),
-    Class::Keyword(word::WHEN),
-    Class::Keyword(word::REPEAT),
-    Class::Keyword(word::WHILE),
-    Class::Keyword(word::IF),
-    Class::Keyword(word::RETURN),
+    Class::Keyword(Keyword::Await),
+    Class::Keyword(Keyword::Run),
+    Class::Keyword(Keyword::Cobegin),
+    Class::Keyword(Keyword::When),
+    Class::Keyword(Keyword::Repeat),
+    Class::Keyword(Keyword::While),
+    Class::Keyword(Keyword::If),
+    Class::Keyword(Keyword::Return),
 ];
 
 /// The classes that go on with an assignment after its first name.
@@ -51,17 +52,17 @@ pub static BLOCK: [Choice; 1] = [Choice {
 
 pub static STMT: [Choice; 12] = [
     Choice {
-        on: &[Class::Keyword(word::VAR)],
+        on: &[Class::Keyword(Keyword::Var)],
         production: &[
-            Symbol::Terminal(Class::Keyword(word::VAR)),
+            Symbol::Terminal(Class::Keyword(Keyword::Var)),
             Symbol::Terminal(Class::AnyName),
             Symbol::Nonterminal(Part::VarTail),
         ],
     },
     Choice {
-        on: &[Class::Keyword(word::LET)],
+        on: &[Class::Keyword(Keyword::Let)],
         production: &[
-            Symbol::Terminal(Class::Keyword(word::LET)),
+            Symbol::Terminal(Class::Keyword(Keyword::Let)),
             Symbol::Terminal(Class::AnyName),
             Symbol::Nonterminal(Part::TypeMark),
             Symbol::Terminal(Class::Mark(sign::ASSIGN)),
@@ -69,7 +70,7 @@ pub static STMT: [Choice; 12] = [
         ],
     },
     Choice {
-        on: &[Class::Keyword(word::CONST)],
+        on: &[Class::Keyword(Keyword::Const)],
         production: &[Symbol::Nonterminal(Part::Constant)],
     },
     Choice {
@@ -80,75 +81,75 @@ pub static STMT: [Choice; 12] = [
         ],
     },
     Choice {
-        on: &[Class::Keyword(word::AWAIT)],
+        on: &[Class::Keyword(Keyword::Await)],
         production: &[
-            Symbol::Terminal(Class::Keyword(word::AWAIT)),
+            Symbol::Terminal(Class::Keyword(Keyword::Await)),
             Symbol::Nonterminal(Part::Expr),
         ],
     },
     Choice {
-        on: &[Class::Keyword(word::RUN)],
+        on: &[Class::Keyword(Keyword::Run)],
         production: &[
-            Symbol::Terminal(Class::Keyword(word::RUN)),
+            Symbol::Terminal(Class::Keyword(Keyword::Run)),
             Symbol::Terminal(Class::AnyName),
             Symbol::Nonterminal(Part::RunTail),
         ],
     },
     Choice {
-        on: &[Class::Keyword(word::COBEGIN)],
+        on: &[Class::Keyword(Keyword::Cobegin)],
         production: &[
-            Symbol::Terminal(Class::Keyword(word::COBEGIN)),
+            Symbol::Terminal(Class::Keyword(Keyword::Cobegin)),
             Symbol::Nonterminal(Part::Weak),
             Symbol::Nonterminal(Part::Block),
             Symbol::Nonterminal(Part::Branches),
-            Symbol::Terminal(Class::Keyword(word::END)),
+            Symbol::Terminal(Class::Keyword(Keyword::End)),
         ],
     },
     Choice {
-        on: &[Class::Keyword(word::WHEN)],
+        on: &[Class::Keyword(Keyword::When)],
         production: &[
-            Symbol::Terminal(Class::Keyword(word::WHEN)),
+            Symbol::Terminal(Class::Keyword(Keyword::When)),
             Symbol::Nonterminal(Part::Expr),
             Symbol::Nonterminal(Part::Guard),
             Symbol::Nonterminal(Part::Block),
-            Symbol::Terminal(Class::Keyword(word::END)),
+            Symbol::Terminal(Class::Keyword(Keyword::End)),
         ],
     },
     Choice {
-        on: &[Class::Keyword(word::REPEAT)],
+        on: &[Class::Keyword(Keyword::Repeat)],
         production: &[
-            Symbol::Terminal(Class::Keyword(word::REPEAT)),
+            Symbol::Terminal(Class::Keyword(Keyword::Repeat)),
             Symbol::Nonterminal(Part::Block),
             Symbol::Nonterminal(Part::Until),
-            Symbol::Terminal(Class::Keyword(word::END)),
+            Symbol::Terminal(Class::Keyword(Keyword::End)),
         ],
     },
     Choice {
-        on: &[Class::Keyword(word::WHILE)],
+        on: &[Class::Keyword(Keyword::While)],
         production: &[
-            Symbol::Terminal(Class::Keyword(word::WHILE)),
+            Symbol::Terminal(Class::Keyword(Keyword::While)),
             Symbol::Nonterminal(Part::Expr),
-            Symbol::Terminal(Class::Keyword(word::REPEAT)),
+            Symbol::Terminal(Class::Keyword(Keyword::Repeat)),
             Symbol::Nonterminal(Part::Block),
-            Symbol::Terminal(Class::Keyword(word::END)),
+            Symbol::Terminal(Class::Keyword(Keyword::End)),
         ],
     },
     Choice {
-        on: &[Class::Keyword(word::IF)],
+        on: &[Class::Keyword(Keyword::If)],
         production: &[
-            Symbol::Terminal(Class::Keyword(word::IF)),
+            Symbol::Terminal(Class::Keyword(Keyword::If)),
             Symbol::Nonterminal(Part::Expr),
-            Symbol::Terminal(Class::Keyword(word::THEN)),
+            Symbol::Terminal(Class::Keyword(Keyword::Then)),
             Symbol::Nonterminal(Part::Block),
             Symbol::Nonterminal(Part::Elseifs),
             Symbol::Nonterminal(Part::Else),
-            Symbol::Terminal(Class::Keyword(word::END)),
+            Symbol::Terminal(Class::Keyword(Keyword::End)),
         ],
     },
     Choice {
-        on: &[Class::Keyword(word::RETURN)],
+        on: &[Class::Keyword(Keyword::Return)],
         production: &[
-            Symbol::Terminal(Class::Keyword(word::RETURN)),
+            Symbol::Terminal(Class::Keyword(Keyword::Return)),
             Symbol::Nonterminal(Part::AfterReturn),
         ],
     },
@@ -273,14 +274,14 @@ pub static RUN_TARGET: [Choice; 2] = [
 ];
 
 pub static WEAK: [Choice; 1] = [Choice {
-    on: &[Class::Keyword(word::WEAK)],
-    production: &[Symbol::Terminal(Class::Keyword(word::WEAK))],
+    on: &[Class::Keyword(Keyword::Weak)],
+    production: &[Symbol::Terminal(Class::Keyword(Keyword::Weak))],
 }];
 
 pub static BRANCHES: [Choice; 1] = [Choice {
-    on: &[Class::Keyword(word::WITH)],
+    on: &[Class::Keyword(Keyword::With)],
     production: &[
-        Symbol::Terminal(Class::Keyword(word::WITH)),
+        Symbol::Terminal(Class::Keyword(Keyword::With)),
         Symbol::Nonterminal(Part::Weak),
         Symbol::Nonterminal(Part::Block),
         Symbol::Nonterminal(Part::Branches),
@@ -289,38 +290,38 @@ pub static BRANCHES: [Choice; 1] = [Choice {
 
 pub static GUARD: [Choice; 2] = [
     Choice {
-        on: &[Class::Keyword(word::ABORT)],
-        production: &[Symbol::Terminal(Class::Keyword(word::ABORT))],
+        on: &[Class::Keyword(Keyword::Abort)],
+        production: &[Symbol::Terminal(Class::Keyword(Keyword::Abort))],
     },
     Choice {
-        on: &[Class::Keyword(word::RESET)],
-        production: &[Symbol::Terminal(Class::Keyword(word::RESET))],
+        on: &[Class::Keyword(Keyword::Reset)],
+        production: &[Symbol::Terminal(Class::Keyword(Keyword::Reset))],
     },
 ];
 
 pub static UNTIL: [Choice; 1] = [Choice {
-    on: &[Class::Keyword(word::UNTIL)],
+    on: &[Class::Keyword(Keyword::Until)],
     production: &[
-        Symbol::Terminal(Class::Keyword(word::UNTIL)),
+        Symbol::Terminal(Class::Keyword(Keyword::Until)),
         Symbol::Nonterminal(Part::Expr),
     ],
 }];
 
 pub static ELSEIFS: [Choice; 1] = [Choice {
-    on: &[Class::Keyword(word::ELSEIF)],
+    on: &[Class::Keyword(Keyword::Elseif)],
     production: &[
-        Symbol::Terminal(Class::Keyword(word::ELSEIF)),
+        Symbol::Terminal(Class::Keyword(Keyword::Elseif)),
         Symbol::Nonterminal(Part::Expr),
-        Symbol::Terminal(Class::Keyword(word::THEN)),
+        Symbol::Terminal(Class::Keyword(Keyword::Then)),
         Symbol::Nonterminal(Part::Block),
         Symbol::Nonterminal(Part::Elseifs),
     ],
 }];
 
 pub static ELSE: [Choice; 1] = [Choice {
-    on: &[Class::Keyword(word::ELSE)],
+    on: &[Class::Keyword(Keyword::Else)],
     production: &[
-        Symbol::Terminal(Class::Keyword(word::ELSE)),
+        Symbol::Terminal(Class::Keyword(Keyword::Else)),
         Symbol::Nonterminal(Part::Block),
     ],
 }];

@@ -1,8 +1,8 @@
 //! Tokens with their kinds, places and lines.
 
-use bl_lex::{lex, sign, word};
+use bl_lex::{lex, sign};
 use bl_tree::Place;
-use bl_tree::token::TokenKind;
+use bl_tree::token::{Keyword, TokenKind};
 use std::test::Fail;
 
 #[test]
@@ -14,7 +14,7 @@ fn a_program_has_its_tokens(rt: HostRuntime) -> Result<(), Fail> {
         (TokenKind::Name, 0, 1, 0),
         (TokenKind::Sign(sign::ASSIGN), 2, 3, 0),
         (TokenKind::Number(255), 4, 8, 0),
-        (TokenKind::Word(word::WHILE), 14, 19, 2),
+        (TokenKind::Word(Keyword::While), 14, 19, 2),
         (TokenKind::Name, 20, 21, 2),
         (TokenKind::Sign(sign::SHIFT_LEFT), 21, 23, 2),
         (TokenKind::Sign(sign::ASSIGN), 23, 24, 2),

@@ -22,31 +22,9 @@ use Rattle.bl_effects.proofs.GatherLemmas.{read_parts, written_parts}
 use Rattle.bl_effects.proofs.InstantLemmas.{surface_agrees}
 use Rattle.bl_peel.specs.Laws.{HasEffectsOf}
 use Rattle.bl_peel.specs.Peeled.{made_arm, made_if, made_stmt, place_of_expr}
-use Rattle.bl_peel.proofs.Equations.{
-  ends_branch,
-  instant_arm,
-  instant_at,
-  instant_parts,
-  made_branch,
-  reads_arm,
-  reads_at,
-  reads_branch,
-  surface_arm,
-  surface_at,
-  surface_branch,
-  surface_of_arm,
-  surface_of_branch,
-  surface_parts,
-  width_arm,
-  width_at,
-  width_branch,
-  width_of_arm,
-  width_of_branch,
-  width_parts,
-  writes_arm,
-  writes_at,
-  writes_branch,
-}
+use Rattle.bl_peel.proofs.Equations.{ends_branch, instant_arm, instant_at, instant_parts, made_branch, reads_arm, reads_at, reads_branch, surface_arm}
+use Rattle.bl_peel.proofs.Equations.{surface_at, surface_branch, surface_of_arm, surface_of_branch, surface_parts, width_arm, width_at, width_branch}
+use Rattle.bl_peel.proofs.Equations.{width_of_arm, width_of_branch, width_parts, writes_arm, writes_at, writes_branch}
 use Rattle.bl_peel.proofs.Sets.{set_alone, set_append, set_if}
 
 -- ---- blocks

@@ -1,34 +1,9 @@
 -- How counts of parts come to the count of the whole.
-use Rattle.std.proofs.Common.{
-  ◌≡◌,
-  ℕ,
-  ◌+◌,
-  ◌<◌,
-  ◌≤◌,
-  Bool,
-  true,
-  false,
-  not,
-  ◌&&◌,
-  ◌||◌,
-  List,
-  [],
-  ◌∷◌,
-  ◌++◌,
-  map,
-  length,
-  get_or,
-  take,
-  refl,
-  ap,
-  sym,
-  ◌∙◌,
-  arith,
-  append_assoc,
-  append-nil,
-}
+use Rattle.std.proofs.Common.{◌≡◌, ℕ, ◌+◌, ◌<◌, ◌≤◌, Bool, true, false, not, ◌&&◌, ◌||◌, List, [], ◌∷◌, ◌++◌, map, length, get_or, take, refl, ap, sym, ◌∙◌}
+use Rattle.std.proofs.Common.{arith, append_assoc, append-nil}
 use Rattle.std.specs.Prelude.{if◌then◌else◌}
 use Rattle.std.proofs.lemmas.List.{map-append, take_all, take_more}
+use Rattle.bl_tree.proofs.Basics.{and_true, or_false}
 use Rattle.bl_tree.specs.declared.place.Place.{Place}
 use Rattle.bl_tree.specs.declared.tree.Arm.{Arm, out-Arm}
 use Rattle.bl_tree.specs.declared.tree.Branch.{Branch, out-Branch}
@@ -44,49 +19,11 @@ use Rattle.bl_peel.specs.declared.count.BranchesCount.{BranchesCount}
 use Rattle.bl_peel.specs.declared.count.Count.{Count}
 use Rattle.bl_peel.specs.declared.ends.Ends.{Ends}
 use Rattle.bl_peel.specs.Count.{kind_statement_count, statement_count, stmt_count}
-use Rattle.bl_peel.specs.Peeled.{
-  ArmPeeling,
-  BranchPeeling,
-  Peeling,
-  deep_of,
-  front_ends,
-  front_of,
-  instants_within,
-  kind_deep,
-  kind_front,
-  kind_peeling,
-  made_arm,
-  made_if,
-  made_stmt,
-  peeling,
-  place_of_expr,
-}
-use Rattle.bl_peel.specs.inner.Parts.{
-  arm_count,
-  branch_count,
-  count_alone,
-  count_around,
-  count_beside,
-  count_cobegin,
-  count_repeated,
-  count_tested,
-  count_then,
-  counted_arm,
-  counted_arms,
-  counted_block,
-  counted_branches,
-  ends_at_once,
-  ends_of,
-  ends_with,
-  fronted,
-  kind_has_no_block,
-  peeled_count,
-  peeling_of_arm,
-  peeling_of_branch,
-  peeling_of_kind,
-  peeling_parts,
-  saturated,
-}
+use Rattle.bl_peel.specs.Peeled.{ArmPeeling, BranchPeeling, Peeling, deep_of, front_ends, front_of, instants_within, kind_deep, kind_front, kind_peeling}
+use Rattle.bl_peel.specs.Peeled.{made_arm, made_if, made_stmt, peeling, place_of_expr}
+use Rattle.bl_peel.specs.inner.Parts.{arm_count, branch_count, count_alone, count_around, count_beside, count_cobegin, count_repeated, count_tested, count_then}
+use Rattle.bl_peel.specs.inner.Parts.{counted_arm, counted_arms, counted_block, counted_branches, ends_at_once, ends_of, ends_with, fronted, kind_has_no_block}
+use Rattle.bl_peel.specs.inner.Parts.{peeled_count, peeling_of_arm, peeling_of_branch, peeling_of_kind, peeling_parts, saturated}
 use Rattle.bl_peel.proofs.Equations.{arm_out, branch_out, count_arm, count_at, count_branch, count_parts, kind_out}
 
 -- ---- lists with one element more
@@ -100,21 +37,13 @@ total_mapped : {A B : Type 0} (g : A → B) (f : B → ℕ) (xs : List A) (x : A
 total_mapped g f [] x = omega arith
 total_mapped g f (y ∷ xs) x = omega (arith, total_mapped g f xs x)
 
-and_yes : (a : Bool) → (a && true) ≡ a
-and_yes true = refl
-and_yes false = refl
-
-or_no : (a : Bool) → (a || false) ≡ a
-or_no true = refl
-or_no false = refl
-
 all_mapped : {A : Type 0} (f : A → Bool) (xs : List A) (x : A) → all_of (map f (xs ++ x ∷ [])) ≡ (all_of (map f xs) && f x)
 all_mapped f xs x =
-    ap all_of (map-append f xs (x ∷ [])) ∙ all_of-append (map f xs) (f x ∷ []) ∙ ap (λ last. all_of (map f xs) && last) (and_yes (f x))
+    ap all_of (map-append f xs (x ∷ [])) ∙ all_of-append (map f xs) (f x ∷ []) ∙ ap (λ last. all_of (map f xs) && last) (and_true (f x))
 
 any_mapped : {A : Type 0} (f : A → Bool) (xs : List A) (x : A) → any_of (map f (xs ++ x ∷ [])) ≡ (any_of (map f xs) || f x)
 any_mapped f xs x =
-    ap any_of (map-append f xs (x ∷ [])) ∙ any_of-append (map f xs) (f x ∷ []) ∙ ap (λ last. any_of (map f xs) || last) (or_no (f x))
+    ap any_of (map-append f xs (x ∷ [])) ∙ any_of-append (map f xs) (f x ∷ []) ∙ ap (λ last. any_of (map f xs) || last) (or_false (f x))
 
 pub ends_more : (branches : List BranchInstant) (branch : BranchInstant) →
     ends_of (branches ++ branch ∷ []) ≡ ends_with (ends_of branches) branch.weak branch.instant

@@ -11,22 +11,8 @@ use Rattle.bl_tree.specs.Effects.{kind_reads, kind_writes, reads, writes}
 use Rattle.bl_tree.specs.Instant.{BranchInstant, instant, is_instant_block, kind_instant}
 use Rattle.bl_tree.specs.Reduce.{joined}
 use Rattle.bl_tree.specs.Static.{mentions, set_of}
-use Rattle.bl_effects.specs.Surface.{
-  BranchSurface,
-  Surface,
-  arm_surface,
-  arm_width,
-  block_surface,
-  branch_surface,
-  branch_width,
-  kind_surface,
-  kind_width,
-  stmt_layer_width,
-  stmt_surface,
-  stmt_width,
-  surface_of,
-  width,
-}
+use Rattle.bl_effects.specs.Surface.{BranchSurface, Surface, arm_surface, arm_width, block_surface, branch_surface, branch_width, kind_surface, kind_width}
+use Rattle.bl_effects.specs.Surface.{stmt_layer_width, stmt_surface, stmt_width, surface_of, width}
 use Rattle.bl_effects.specs.inner.Gathered.{ends_of_branch, instant_of_arm, instant_of_kind, reads_of_arm, reads_of_branch, writes_of_arm, writes_of_branch}
 use Rattle.bl_effects.proofs.GatherLemmas.{read_parts, written_parts}
 use Rattle.bl_peel.specs.Count.{arm_statement_count, branch_statement_count, kind_statement_count, statement_count, stmt_count, stmt_layer_count}

@@ -1,6 +1,7 @@
 -- A loop behind its first turn has the effects of the loop.
 use Rattle.std.proofs.Common.{◌≡◌, ℕ, max, Bool, true, false, ◌&&◌, ◌||◌, List, [], ◌∷◌, ◌++◌, map, refl, ap, sym, subst, ◌∙◌, arith}
 use Rattle.std.specs.Prelude.{if◌then◌else◌}
+use Rattle.bl_tree.proofs.Basics.{and_false}
 use Rattle.bl_tree.specs.declared.place.Place.{Place}
 use Rattle.bl_tree.specs.declared.static_path.Static.{Static}
 use Rattle.bl_tree.specs.declared.tree.Expr.{Expr}
@@ -60,10 +61,6 @@ is_sub xs ys is = subst (λ list. Sub list xs) is (sub_itself xs)
 
 -- ---- a loop without a test
 
-and_never : (a : Bool) → (a && false) ≡ false
-and_never true = refl
-and_never false = refl
-
 max_itself : (n : ℕ) → max n n ≡ n
 max_itself n = omega arith
 
@@ -76,7 +73,7 @@ repeat_turn place body =
     let first : (surface_of (made_stmt place (StmtKind-F.Repeat body))).writes ≡ block_surface (map surface_of body) =
     ap (λ surface. surface.writes) (surface_at place (StmtKind-F.Repeat body)) in
     turn_effects body loop loop (record {
-      ends = ap (λ b. is_instant_block body && b) ends ∙ and_never (is_instant_block body) ∙ sym ends;
+      ends = ap (λ b. is_instant_block body && b) ends ∙ and_false (is_instant_block body) ∙ sym ends;
       rests = ap (λ n. max (width body) n) wide ∙ max_itself (width body) ∙ sym wide;
       reads_in = to_set (reads loop) (joined (map reads body)) (reads_at place (StmtKind-F.Repeat body));
       reads_next = sub_itself (reads loop);

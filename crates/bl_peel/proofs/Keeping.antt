@@ -16,47 +16,12 @@ use Rattle.bl_tree.specs.Within.{effect_of}
 use Rattle.bl_tree.proofs.StmtInduction.{Each, EachArm, EachBranch, induct, stmt}
 use Rattle.bl_effects.specs.inner.Gathered.{ends_of_branch, instant_of_arm}
 use Rattle.bl_peel.specs.Laws.{HasEffectsOf}
-use Rattle.bl_peel.specs.Peeled.{
-  ArmPeeling,
-  BranchPeeling,
-  Peeling,
-  deep_of,
-  front_of,
-  instants_within,
-  kind_deep,
-  kind_front,
-  made_arm,
-  made_if,
-  made_stmt,
-  peeled,
-  peeling,
-}
+use Rattle.bl_peel.specs.Peeled.{ArmPeeling, BranchPeeling, Peeling, deep_of, front_of, instants_within, kind_deep, kind_front, made_arm, made_if, made_stmt}
+use Rattle.bl_peel.specs.Peeled.{peeled, peeling}
 use Rattle.bl_peel.specs.inner.Parts.{peeling_of_arm, peeling_of_branch, peeling_parts}
-use Rattle.bl_peel.proofs.Alike.{
-  Alike,
-  ArmAlike,
-  ArmsAlike,
-  BranchAlike,
-  BranchesAlike,
-  alike_cobegin,
-  alike_if,
-  alike_repeat,
-  alike_same,
-  alike_test,
-  alike_until,
-  alike_when,
-  alike_while,
-  arm_alike,
-  branch_alike,
-  effects_alone,
-  effects_append,
-  effects_same,
-  effects_then,
-  more_arms,
-  more_branches,
-  no_arms,
-  no_branches,
-}
+use Rattle.bl_peel.proofs.Alike.{Alike, ArmAlike, ArmsAlike, BranchAlike, BranchesAlike, alike_cobegin, alike_if, alike_repeat, alike_same, alike_test}
+use Rattle.bl_peel.proofs.Alike.{alike_until, alike_when, alike_while, arm_alike, branch_alike, effects_alone, effects_append, effects_same, effects_then}
+use Rattle.bl_peel.proofs.Alike.{more_arms, more_branches, no_arms, no_branches}
 use Rattle.bl_peel.proofs.Equations.{arm_out, branch_out, ends_branch, instant_arm, instant_at, instant_parts, made_branch, peeling_at}
 use Rattle.bl_peel.proofs.FirstTurns.{repeat_turn, until_turn, while_turn}
 

@@ -1,32 +1,8 @@
 -- How what is made of parts comes to what is made of the whole.
-use Rattle.std.proofs.Common.{
-  ◌≡◌,
-  ℕ,
-  ◌+◌,
-  ◌<◌,
-  ◌≤◌,
-  Bool,
-  true,
-  false,
-  ◌&&◌,
-  ◌||◌,
-  List,
-  [],
-  ◌∷◌,
-  ◌++◌,
-  map,
-  length,
-  get_or,
-  drop,
-  refl,
-  ap,
-  sym,
-  ◌∙◌,
-  append_assoc,
-  append-nil,
-  drop_of_length-le,
-}
+use Rattle.std.proofs.Common.{◌≡◌, ℕ, ◌+◌, ◌<◌, ◌≤◌, Bool, true, false, ◌&&◌, ◌||◌, List, [], ◌∷◌, ◌++◌, map, length, get_or, drop, refl, ap, sym, ◌∙◌}
+use Rattle.std.proofs.Common.{append_assoc}
 use Rattle.std.proofs.lemmas.List.{drop_more}
+use Rattle.bl_tree.proofs.Basics.{and_assoc, or_assoc}
 use Rattle.bl_tree.specs.declared.place.Place.{Place}
 use Rattle.bl_tree.specs.declared.tree.Arm.{Arm, out-Arm}
 use Rattle.bl_tree.specs.declared.tree.Branch.{Branch, out-Branch}
@@ -39,20 +15,9 @@ use Rattle.bl_tree.specs.Reduce.{any_of}
 use Rattle.bl_peel.specs.declared.turns.FrontArm.{FrontArm}
 use Rattle.bl_peel.specs.declared.turns.FrontArms.{FrontArms}
 use Rattle.bl_peel.specs.declared.turns.FrontBlock.{FrontBlock}
-use Rattle.bl_peel.specs.Peeled.{ArmPeeling, BranchPeeling, Peeling, deep_of, front_ends, front_of, kind_deep, made_arm, peeling}
-use Rattle.bl_peel.specs.inner.Parts.{
-  deep_of_kind,
-  front_after,
-  front_arm,
-  front_arms,
-  front_block,
-  fronted,
-  peeling_of_arm,
-  peeling_of_branch,
-  peeling_of_kind,
-  peeling_parts,
-  placed_stmt,
-}
+use Rattle.bl_peel.specs.Peeled.{ArmPeeling, BranchPeeling, Peeling, deep_of, front_ends, front_of, made_arm, peeling}
+use Rattle.bl_peel.specs.inner.Parts.{deep_of_kind, front_after, front_arm, front_arms, front_block, fronted, peeling_of_arm, peeling_of_branch}
+use Rattle.bl_peel.specs.inner.Parts.{peeling_of_kind, placed_stmt}
 use Rattle.bl_peel.proofs.Counting.{kind_is}
 use Rattle.bl_peel.proofs.Equations.{arm_out, branch_out, kind_out, made_branch, peeling_out}
 
@@ -119,25 +84,6 @@ dropped : {A B : Type 0} (g : A → B) (xs : List A) (k : ℕ) (x : A) → k < l
     map g (drop k xs) ≡ g x ∷ map g (drop (k + 1) xs)
 dropped g xs k x within is = ap (map g) (drop_more xs k x within) ∙ ap (λ y. g y ∷ map g (drop (k + 1) xs)) (sym is)
 
-none_left : {A B : Type 0} (g : A → B) (xs : List A) (k : ℕ) → length xs ≤ k → map g (drop k xs) ≡ []
-none_left g xs k over = ap (map g) (drop_of_length-le xs over)
-
-or_assoc : (a b c : Bool) → ((a || b) || c) ≡ (a || (b || c))
-or_assoc true b c = refl
-or_assoc false b c = refl
-
-or_no : (a : Bool) → (a || false) ≡ a
-or_no true = refl
-or_no false = refl
-
-and_assoc : (a b c : Bool) → ((a && b) && c) ≡ (a && (b && c))
-and_assoc true b c = refl
-and_assoc false b c = refl
-
-and_yes : (a : Bool) → (a && true) ≡ a
-and_yes true = refl
-and_yes false = refl
-
 -- the parts so far, with one part more
 pub mapped_step : {A B C : Type 0} (g : A → B) (f : B → C) (xs : List A) (k : ℕ) (x : A) (before after all : List C) → k < length xs →
     x ≡ get_or xs k x → after ≡ before ++ f (g x) ∷ [] → before ++ map f (map g (drop k xs)) ≡ all → after ++ map f (map g (drop (k + 1) xs)) ≡ all
@@ -146,11 +92,6 @@ mapped_step g f xs k x before after all within is made so_far =
     ∙ append_assoc before (f (g x) ∷ []) (map f (map g (drop (k + 1) xs)))
     ∙ ap (λ rest. before ++ map f rest) (sym (dropped g xs k x within is)) ∙ so_far
 
-pub mapped_done : {A B C : Type 0} (g : A → B) (f : B → C) (xs : List A) (k : ℕ) (before all : List C) → length xs ≤ k →
-    before ++ map f (map g (drop k xs)) ≡ all → before ≡ all
-mapped_done g f xs k before all over so_far =
-    sym (append-nil before) ∙ ap (λ rest. before ++ map f rest) (sym (none_left g xs k over)) ∙ so_far
-
 pub any_step : {A B : Type 0} (g : A → B) (f : B → Bool) (xs : List A) (k : ℕ) (x : A) (before after all : Bool) → k < length xs →
     x ≡ get_or xs k x → after ≡ (before || f (g x)) → (before || any_of (map f (map g (drop k xs)))) ≡ all →
     (after || any_of (map f (map g (drop (k + 1) xs)))) ≡ all
@@ -158,11 +99,6 @@ any_step g f xs k x before after all within is made so_far =
     ap (λ b. b || any_of (map f (map g (drop (k + 1) xs)))) made
     ∙ or_assoc before (f (g x)) (any_of (map f (map g (drop (k + 1) xs))))
     ∙ ap (λ rest. before || any_of (map f rest)) (sym (dropped g xs k x within is)) ∙ so_far
-
-pub any_done : {A B : Type 0} (g : A → B) (f : B → Bool) (xs : List A) (k : ℕ) (before all : Bool) → length xs ≤ k →
-    (before || any_of (map f (map g (drop k xs)))) ≡ all → before ≡ all
-any_done g f xs k before all over so_far =
-    sym (or_no before) ∙ ap (λ rest. before || any_of (map f rest)) (sym (none_left g xs k over)) ∙ so_far
 
 -- ---- statements that begin a branch
 
@@ -186,18 +122,3 @@ fronts_step body k s begins next before after all within is ends made so_far =
     ∙ append_assoc before (fronted begins (peeling s)) (front_after (begins && (peeling s).instant) (map peeling (drop (k + 1) body)))
     ∙ ap (λ list. before ++ list) (front_more begins (peeling s) (map peeling (drop (k + 1) body)))
     ∙ ap (λ rest. before ++ front_after begins rest) (sym (dropped peeling body k s within is)) ∙ so_far
-
-pub fronts_end_done : (body : List Stmt) (k : ℕ) (begins all : Bool) → length body ≤ k → (begins && front_ends (map peeling (drop k body))) ≡ all →
-    begins ≡ all
-fronts_end_done body k begins all over so_far =
-    sym (and_yes begins) ∙ ap (λ rest. begins && front_ends rest) (sym (none_left peeling body k over)) ∙ so_far
-
-no_rest : (begins : Bool) → front_after begins [] ≡ []
-no_rest true = refl
-no_rest false = refl
-
-pub fronts_done : (body : List Stmt) (k : ℕ) (begins : Bool) (before all : List Stmt) → length body ≤ k →
-    before ++ front_after begins (map peeling (drop k body)) ≡ all → before ≡ all
-fronts_done body k begins before all over so_far =
-    sym (append-nil before) ∙ ap (λ list. before ++ list) (sym (no_rest begins))
-    ∙ ap (λ rest. before ++ front_after begins rest) (sym (none_left peeling body k over)) ∙ so_far

@@ -12,4 +12,5 @@ pub data UnitPeels : UnitDef → UnitDef → Type 0 where
 -- the units of two programs, one by one
 pub data UnitsPeel : List UnitDef → List UnitDef → Type 0 where
   no_units : UnitsPeel [] []
-  more_units : {unit tree : UnitDef} {units trees : List UnitDef} → UnitPeels unit tree → UnitsPeel units trees → UnitsPeel (unit ∷ units) (tree ∷ trees)
+  more_units : {unit peeled_unit : UnitDef} {units peeled_units : List UnitDef} → UnitPeels unit peeled_unit → UnitsPeel units peeled_units →
+      UnitsPeel (unit ∷ units) (peeled_unit ∷ peeled_units)

@@ -11,35 +11,11 @@ use Rattle.bl_tree.specs.declared.tree.StmtKind.TheFolds.{map-StmtKind}
 use Rattle.bl_tree.specs.declared.tree.StmtKind.TheOpen.{StmtKind-F}
 use Rattle.bl_tree.specs.Reduce.{joined}
 use Rattle.bl_effects.specs.declared.marked.Marked.{Marked}
-use Rattle.bl_effects.specs.Rules.{
-  Parallel,
-  Split,
-  arm_parallel,
-  beside,
-  branch_parallel,
-  kind_parallel,
-  parallel_of,
-  splits_after,
-  stmt_parallel,
-  together,
-}
+use Rattle.bl_effects.specs.Rules.{Parallel, Split, arm_parallel, beside, branch_parallel, kind_parallel, parallel_of, splits_after, stmt_parallel, together}
 use Rattle.bl_peel.specs.Peeled.{made_stmt, peeled}
 use Rattle.bl_peel_laws.proofs.Inheriting.{BranchesBelow, Inherits, inherited, more_branches, no_branches}
-use Rattle.bl_peel_laws.proofs.Lists.{
-  Both,
-  Covers,
-  Has,
-  Listed,
-  anything,
-  cobegin_covered,
-  covers_beside,
-  covers_by,
-  covers_itself,
-  covers_none,
-  covers_one,
-  fuse,
-  with_listed,
-}
+use Rattle.bl_peel_laws.proofs.Lists.{Both, Covers, Has, Listed, anything, cobegin_covered, covers_beside, covers_by, covers_itself, covers_none, covers_one}
+use Rattle.bl_peel_laws.proofs.Lists.{fuse, with_listed}
 
 abbrev parallel_of_kind : StmtKind → Place → Parallel
 parallel_of_kind = fold-StmtKind (Place → Parallel) Parallel Parallel Parallel kind_parallel arm_parallel branch_parallel stmt_parallel

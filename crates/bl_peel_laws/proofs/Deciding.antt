@@ -23,14 +23,14 @@ record OfUnits (units : List UnitDef) (made : Stmt) : Type 0 where
   pub stands : StandsInUnits units source
   pub origin : IsCopy source made ⊎ IsTest source made
 
-of_unit : {unit tree : UnitDef} → UnitPeels unit tree → (x : Stmt) → StandsIn tree.body x → OfBlock unit.body x
+of_unit : {unit peeled_unit : UnitDef} → UnitPeels unit peeled_unit → (x : Stmt) → StandsIn peeled_unit.body x → OfBlock unit.body x
 of_unit kept x stands =
     record { source = x; stands = stands; origin = inl (record { effect = refl; same_run = λ runs. refl; branch_runs = λ k y runs. runs }) }
 of_unit (is_peeled {unit} activity) x stands = all_made unit.body x stands
 
-of_units : {units trees : List UnitDef} → UnitsPeel units trees → (x : Stmt) → StandsInUnits trees x → OfUnits units x
-of_units {units} {trees} peel x stands =
-    let unit : SourceOf units stands.unit = source_of peel stands.unit (contains_in stands.unit trees stands.is_there) in
+of_units : {units peeled_units : List UnitDef} → UnitsPeel units peeled_units → (x : Stmt) → StandsInUnits peeled_units x → OfUnits units x
+of_units {units} {peeled_units} peel x stands =
+    let unit : SourceOf units stands.unit = source_of peel stands.unit (contains_in stands.unit peeled_units stands.is_there) in
     let of : OfBlock unit.unit.body x = of_unit unit.peels x stands.stands in
     record {
       source = of.source;
@@ -44,7 +44,7 @@ test_effect : (s x : Stmt) → IsTest s x → effect_of x ≡ record { place = p
 test_effect s x test =
     λ i. record { place = place_of x; reads = test.has_effect.reads_same i; writes = test.has_effect.writes_same i; instant = test.has_effect.ends i }
 
-module _ (units trees : List UnitDef) (peel : UnitsPeel units trees) (up : ascends (all_starts units) ≡ true) where
+module _ (units peeled_units : List UnitDef) (peel : UnitsPeel units peeled_units) (up : ascends (all_starts units) ≡ true) where
   -- a copy has the place of its source
   copy_owns : (s x : Stmt) → IsCopy s x → In (place_of x).start (own_of s)
   copy_owns s x copy = inl (ap (λ (effect : Effect). effect.place.start) copy.effect)
@@ -85,18 +85,18 @@ module _ (units trees : List UnitDef) (peel : UnitsPeel units trees) (up : ascen
       two.origin)
       one.origin
 
-  places_decide : PlacesDecide trees
+  places_decide : PlacesDecide peeled_units
   places_decide x y one two same = same_effect x y (of_units peel x one) (of_units peel y two) same
 
   -- ---- `run` statements
 
-  run_stands : (x : Stmt) → IsTrue (is_run x) → StandsInUnits trees x → StandsInUnits units x
+  run_stands : (x : Stmt) → IsTrue (is_run x) → StandsInUnits peeled_units x → StandsInUnits units x
   run_stands x runs stands =
       let of : OfUnits units x = of_units peel x stands in
       ⊎_elim (λ (copy : IsCopy of.source x). subst (StandsInUnits units) (sym (copy.same_run runs)) of.stands)
       (λ (test : IsTest of.source x). absurd (let no = test.no_run in cc)) of.origin
 
-  runs_apart : RunsDecide units → (outer s t : Stmt) (j k : ℕ) → StandsInUnits trees outer → RunsIn outer j s → RunsIn outer k t →
+  runs_apart : RunsDecide units → (outer s t : Stmt) (j k : ℕ) → StandsInUnits peeled_units outer → RunsIn outer j s → RunsIn outer k t →
       place_of s ≡ place_of t → j ≡ k
   runs_apart runs outer s t j k stands one two same =
       let of : OfUnits units outer = of_units peel outer stands in
@@ -106,14 +106,14 @@ module _ (units trees : List UnitDef) (peel : UnitsPeel units trees) (up : ascen
       absurd
       (none_there j one.branch (subst (λ branches. slice_get branches j ≡ Some one.branch) test.no_branch one.is_there))) of.origin
 
-  runs_decide : RunsDecide units → RunsDecide trees
+  runs_decide : RunsDecide units → RunsDecide peeled_units
   runs_decide runs = record {
     same = λ s t one two run_one run_two same. runs.same s t (run_stands s run_one one) (run_stands t run_two two) run_one run_two same;
     apart = runs_apart runs;
   }
 
 pub peeled_places_decide : PeeledPlacesDecide
-peeled_places_decide units trees peel up = places_decide units trees peel up
+peeled_places_decide units peeled_units peel up = places_decide units peeled_units peel up
 
 pub peeled_runs_decide : PeeledRunsDecide
-peeled_runs_decide units trees peel up runs = runs_decide units trees peel up runs
+peeled_runs_decide units peeled_units peel up runs = runs_decide units peeled_units peel up runs

@@ -1,7 +1,9 @@
 -- What a peeled body asks of the past is declared before.
-use Rattle.std.proofs.Common.{◌≡◌, ℕ, suc, Bool, true, false, ◌&&◌, ◌||◌, List, [], ◌∷◌, ◌++◌, map, refl, ap, sym, subst, ◌∙◌, ◌⊎◌, inl, inr, ⊎_elim}
+use Rattle.std.proofs.Common.{◌≡◌, ℕ, suc, true, ◌&&◌, ◌||◌, List, [], ◌∷◌, ◌++◌, map, refl, ap, sym, subst, ◌∙◌, ◌⊎◌, ⊎_elim}
 use Rattle.std.specs.Prelude.{nat_eq}
 use Rattle.std.specs.List.{list_any}
+use Rattle.std.proofs.lemmas.Bool.{and_from, or_left, or_right}
+use Rattle.bl_tree.proofs.Basics.{and_assoc, and_first, and_second, either_of}
 use Rattle.bl_tree.specs.declared.place.Place.{Place}
 use Rattle.bl_tree.specs.declared.tree.Arm.{Arm, out-Arm, out-roll-Arm}
 use Rattle.bl_tree.specs.declared.tree.Branch.{Branch, out-Branch}
@@ -13,33 +15,8 @@ use Rattle.bl_tree.specs.declared.tree.StmtKind.TheOpen.{StmtKind-F}
 use Rattle.bl_tree.specs.declared.tree.Unit.{Unit as UnitDef}
 use Rattle.bl_tree.proofs.FirstLemmas.{contains_in, in_contains}
 use Rattle.bl_graph_nodes.specs.Laws.{plain_arm, plain_branch, stmt}
-use Rattle.bl_graph_nodes.specs.Plain.{
-  Act,
-  Await,
-  Block,
-  Cobegin,
-  Done,
-  If,
-  Label,
-  Plain,
-  Position,
-  Repeat,
-  Run as RunOf,
-  Then,
-  Until,
-  When,
-  While,
-  block_from,
-  bodies_from,
-  else_at,
-  inside,
-  label_at,
-  never,
-  passed_one,
-  place_of_test,
-  plain_block,
-  plain_stmt,
-}
+use Rattle.bl_graph_nodes.specs.Plain.{Act, Await, Block, Cobegin, Done, If, Label, Plain, Position, Repeat, Run as RunOf, Then, Until, When, While, block_from}
+use Rattle.bl_graph_nodes.specs.Plain.{bodies_from, else_at, inside, label_at, never, passed_one, place_of_test, plain_block, plain_stmt}
 use Rattle.bl_graph_nodes.proofs.Equations.{plain_statements}
 use Rattle.bl_machine_prevs.specs.Declared.{are_known, declared_by, prevs_are_declared, prevs_stand, prevs_stand_in, prevs_stand_in_each, prevs_in_inputs}
 use Rattle.bl_machine_prevs.specs.Prevs.{prevs_in, prevs_in_expr}
@@ -52,39 +29,11 @@ use Rattle.bl_peel_laws.proofs.Inheriting.{ArmsBelow, BranchesBelow, inherited, 
 
 -- ---- tests
 
-both : (a b : Bool) → a ≡ true → b ≡ true → (a && b) ≡ true
-both true b one other = other
-both false b one other = absurd (cc)
-
-first_of : (a b : Bool) → (a && b) ≡ true → a ≡ true
-first_of true b h = refl
-first_of false b h = h
-
-second_of : (a b : Bool) → (a && b) ≡ true → b ≡ true
-second_of true b h = h
-second_of false b h = absurd (cc)
-
-and_regroup : (a b c : Bool) → ((a && b) && c) ≡ (a && (b && c))
-and_regroup true b c = refl
-and_regroup false b c = refl
-
 -- ---- known variables
 
 -- each variable of the first list is in the second
 abbrev Knows : List ℕ → List ℕ → Type 0
 Knows known more = (k : ℕ) → list_any (nat_eq k) known ≡ true → list_any (nat_eq k) more ≡ true
-
-or_cases : (a b : Bool) → (a || b) ≡ true → (a ≡ true) ⊎ (b ≡ true)
-or_cases true b h = inl refl
-or_cases false b h = inr h
-
-or_left : (a b : Bool) → a ≡ true → (a || b) ≡ true
-or_left true b h = refl
-or_left false b h = absurd (cc)
-
-or_right : (a b : Bool) → b ≡ true → (a || b) ≡ true
-or_right true b h = refl
-or_right false b h = h
 
 knows_later : (xs known : List ℕ) → Knows known (xs ++ known)
 knows_later [] known k h = h
@@ -95,13 +44,13 @@ knows_beside [] known more knows k h = knows k h
 knows_beside (x ∷ xs) known more knows k h =
     ⊎_elim (λ is. or_left (nat_eq k x) (list_any (nat_eq k) (xs ++ more)) is)
     (λ later. or_right (nat_eq k x) (list_any (nat_eq k) (xs ++ more)) (knows_beside xs known more knows k later))
-    (or_cases (nat_eq k x) (list_any (nat_eq k) (xs ++ known)) h)
+    (either_of (nat_eq k x) (list_any (nat_eq k) (xs ++ known)) h)
 
 still_known : (known more : List ℕ) → Knows known more → (ks : List ℕ) → are_known known ks ≡ true → are_known more ks ≡ true
 still_known known more knows [] all = refl
 still_known known more knows (k ∷ ks) all =
-    both (list_any (nat_eq k) more) (are_known more ks) (knows k (first_of (list_any (nat_eq k) known) (are_known known ks) all))
-    (still_known known more knows ks (second_of (list_any (nat_eq k) known) (are_known known ks) all))
+    and_from (list_any (nat_eq k) more) (are_known more ks) (knows k (and_first (list_any (nat_eq k) known) (are_known known ks) all))
+    (still_known known more knows ks (and_second (list_any (nat_eq k) known) (are_known known ks) all))
 
 -- ---- blocks
 
@@ -129,7 +78,7 @@ split_stands known [] ys k q = refl
 split_stands known (s ∷ xs) ys k q =
     let made = plain_stmt s (q ++ k ∷ []) in
     ap (λ b. prevs_stand known made && b) (split_stands (declared_by made ++ known) xs ys (suc k) q)
-    ∙ sym (and_regroup (prevs_stand known made) (prevs_stand_in (declared_by made ++ known) (block_of xs (suc k) q))
+    ∙ sym (and_assoc (prevs_stand known made) (prevs_stand_in (declared_by made ++ known) (block_of xs (suc k) q))
     (prevs_stand_in (known_after (declared_by made ++ known) (block_of xs (suc k) q)) (block_of ys (after_all xs (suc k)) q)))
 
 split_known : (known : List ℕ) (xs ys : List Stmt) (k : ℕ) (q : Position) →
@@ -156,18 +105,18 @@ asks_both : (known now more : List ℕ) (xs ys : List Stmt) (k : ℕ) (q : Posit
     prevs_stand_in more (block_of (xs ++ ys) k q) ≡ true
 asks_both known now more xs ys k q source one rest =
     split_stands more xs ys k q
-    ∙ both (prevs_stand_in more (block_of xs k q)) (prevs_stand_in (known_after more (block_of xs k q)) (block_of ys (after_all xs k) q)) one rest.stands
+    ∙ and_from (prevs_stand_in more (block_of xs k q)) (prevs_stand_in (known_after more (block_of xs k q)) (block_of ys (after_all xs k) q)) one rest.stands
 
 declares_next : (s : Stmt) (body xs ys : List Stmt) → Declares (s ∷ []) xs → Declares body ys → Declares (s ∷ body) (xs ++ ys)
 declares_next s body xs ys one rest j k p q known more knows stands =
     let source = plain_stmt s (p ++ j ∷ []) in
     let first : Asks known more (block_of xs k q) (block_of (s ∷ []) j p) =
     one j k p q known more knows
-    (both (prevs_stand known source) true
-    (first_of (prevs_stand known source) (prevs_stand_in (declared_by source ++ known) (block_of body (suc j) p)) stands) refl) in
+    (and_from (prevs_stand known source) true
+    (and_first (prevs_stand known source) (prevs_stand_in (declared_by source ++ known) (block_of body (suc j) p)) stands) refl) in
     let later : Asks (declared_by source ++ known) (known_after more (block_of xs k q)) (block_of ys (after_all xs k) q) (block_of body (suc j) p) =
     rest (suc j) (after_all xs k) p q (declared_by source ++ known) (known_after more (block_of xs k q)) first.knows
-    (second_of (prevs_stand known source) (prevs_stand_in (declared_by source ++ known) (block_of body (suc j) p)) stands) in
+    (and_second (prevs_stand known source) (prevs_stand_in (declared_by source ++ known) (block_of body (suc j) p)) stands) in
     record {
       stands = asks_both known (declared_by source ++ known) more xs ys k q (block_of body (suc j) p) first.stands later;
       knows = subst (Knows (known_after known (block_of (s ∷ body) j p))) (sym (split_known more xs ys k q)) later.knows;
@@ -197,11 +146,11 @@ declares_one s t source made is_source is_made stands_as declared j k p q known 
     let at = p ++ j ∷ [] in
     let to = q ++ k ∷ [] in
     let holds : prevs_stand known (source at) ≡ true =
-    subst (λ s. prevs_stand known s ≡ true) (is_source at) (first_of (prevs_stand known (plain_stmt s at)) true stands) in
+    subst (λ s. prevs_stand known s ≡ true) (is_source at) (and_first (prevs_stand known (plain_stmt s at)) true stands) in
     let same : declared_by (plain_stmt t to) ≡ declared_by (plain_stmt s at) = ap declared_by (is_made to) ∙ declared at to
     ∙ sym (ap declared_by (is_source at)) in
     record {
-      stands = both (prevs_stand more (plain_stmt t to)) true
+      stands = and_from (prevs_stand more (plain_stmt t to)) true
           (subst (λ s. prevs_stand more s ≡ true) (sym (is_made to)) (stands_as at to known more knows holds)) refl;
       knows = subst (λ ks. Knows (declared_by (plain_stmt s at) ++ known) (ks ++ more)) (sym same)
           (knows_beside (declared_by (plain_stmt s at)) known more knows);
@@ -216,9 +165,9 @@ inner_stands a b inner p q known more knows stands = (inner 0 0 p q known more k
 pair_stands : (ks : List ℕ) (a b : List Stmt) → Declares a b → (p q : Position) (known more : List ℕ) → Knows known more →
     (are_known known ks && prevs_stand_in known (plain_block a p)) ≡ true → (are_known more ks && prevs_stand_in more (plain_block b q)) ≡ true
 pair_stands ks a b inner p q known more knows stands =
-    both (are_known more ks) (prevs_stand_in more (plain_block b q))
-    (still_known known more knows ks (first_of (are_known known ks) (prevs_stand_in known (plain_block a p)) stands))
-    (inner_stands a b inner p q known more knows (second_of (are_known known ks) (prevs_stand_in known (plain_block a p)) stands))
+    and_from (are_known more ks) (prevs_stand_in more (plain_block b q))
+    (still_known known more knows ks (and_first (are_known known ks) (prevs_stand_in known (plain_block a p)) stands))
+    (inner_stands a b inner p q known more knows (and_second (are_known known ks) (prevs_stand_in known (plain_block a p)) stands))
 
 -- ---- statements without blocks
 
@@ -259,20 +208,20 @@ if_stands : (l m : Label) (at at' : Place) (e e' : Expr) (body body' other other
     prevs_stand known (If l at e body other) ≡ true → prevs_stand more (If m at' e' body' other') ≡ true
 if_stands l m at at' e e' body body' other other' same known more knows inner rest stands =
     let blocks =
-    second_of (are_known known (prevs_in_expr e)) (prevs_stand_in known body && prevs_stand_in known other) stands in
-    both (are_known more (prevs_in_expr e')) (prevs_stand_in more body' && prevs_stand_in more other')
+    and_second (are_known known (prevs_in_expr e)) (prevs_stand_in known body && prevs_stand_in known other) stands in
+    and_from (are_known more (prevs_in_expr e')) (prevs_stand_in more body' && prevs_stand_in more other')
     (subst (λ e. are_known more (prevs_in_expr e) ≡ true) (sym same)
     (still_known known more knows (prevs_in_expr e)
-    (first_of (are_known known (prevs_in_expr e)) (prevs_stand_in known body && prevs_stand_in known other) stands)))
-    (both (prevs_stand_in more body') (prevs_stand_in more other') (inner (first_of (prevs_stand_in known body) (prevs_stand_in known other) blocks))
-    (rest (second_of (prevs_stand_in known body) (prevs_stand_in known other) blocks)))
+    (and_first (are_known known (prevs_in_expr e)) (prevs_stand_in known body && prevs_stand_in known other) stands)))
+    (and_from (prevs_stand_in more body') (prevs_stand_in more other') (inner (and_first (prevs_stand_in known body) (prevs_stand_in known other) blocks))
+    (rest (and_second (prevs_stand_in known body) (prevs_stand_in known other) blocks)))
 
 else_stands : (a b : List Stmt) {arms others : List Arm} → ArmsBelow Declares arms others → Declares a b → (l m : Label) (known more : List ℕ) →
     Knows known more → prevs_stand_in known (else_at l (map plain_arm arms) (plain_block a)) ≡ true →
     prevs_stand_in more (else_at m (map plain_arm others) (plain_block b)) ≡ true
 else_stands a b no_arms inner l m known more knows stands = inner_stands a b inner (inside l l.passed) (inside m m.passed) known more knows stands
 else_stands a b (more_arms {arm} {made} {arms} {others} test first rest) inner l m known more knows stands =
-    both
+    and_from
     (prevs_stand more
     (If m (place_of_test (plain_arm made)) (out-Arm made).test (plain_block (out-Arm made).body (inside m m.passed))
     (else_at (passed_one m) (map plain_arm others) (plain_block b))))
@@ -282,7 +231,7 @@ else_stands a b (more_arms {arm} {made} {arms} {others} test first rest) inner l
     (else_at (passed_one l) (map plain_arm arms) (plain_block a)) (else_at (passed_one m) (map plain_arm others) (plain_block b)) test known more knows
     (inner_stands (out-Arm arm).body (out-Arm made).body first (inside l l.passed) (inside m m.passed) known more knows)
     (else_stands a b rest inner (passed_one l) (passed_one m) known more knows)
-    (first_of
+    (and_first
     (prevs_stand known
     (If l (place_of_test (plain_arm arm)) (out-Arm arm).test (plain_block (out-Arm arm).body (inside l l.passed))
     (else_at (passed_one l) (map plain_arm arms) (plain_block a))))
@@ -330,13 +279,13 @@ branches_stand : {branches others : List Branch} → BranchesBelow Declares bran
     prevs_stand_in_each more (bodies_from (map plain_branch others) n m) ≡ true
 branches_stand no_branches i n l m known more knows stands = refl
 branches_stand (more_branches {branch} {made} {branches} {others} weak inner rest) i n l m known more knows stands =
-    both (prevs_stand_in more (plain_block (out-Branch made).body (inside m n)))
+    and_from (prevs_stand_in more (plain_block (out-Branch made).body (inside m n)))
     (prevs_stand_in_each more (bodies_from (map plain_branch others) (suc n) m))
     (inner_stands (out-Branch branch).body (out-Branch made).body inner (inside l i) (inside m n) known more knows
-    (first_of (prevs_stand_in known (plain_block (out-Branch branch).body (inside l i)))
+    (and_first (prevs_stand_in known (plain_block (out-Branch branch).body (inside l i)))
     (prevs_stand_in_each known (bodies_from (map plain_branch branches) (suc i) l)) stands))
     (branches_stand rest (suc i) (suc n) l m known more knows
-    (second_of (prevs_stand_in known (plain_block (out-Branch branch).body (inside l i)))
+    (and_second (prevs_stand_in known (plain_block (out-Branch branch).body (inside l i)))
     (prevs_stand_in_each known (bodies_from (map plain_branch branches) (suc i) l)) stands))
 
 declares_cobegin : (place : Place) (branches others : List Branch) → BranchesBelow Declares branches others →
@@ -396,7 +345,7 @@ declares_inside : (s : Stmt) (a b : List Stmt) (source : Position → Plain) →
 declares_inside s a b source is none opens inner j k p q known more knows stands =
     let at = p ++ j ∷ [] in
     let holds : prevs_stand known (source at) ≡ true =
-    subst (λ s. prevs_stand known s ≡ true) (is at) (first_of (prevs_stand known (plain_stmt s at)) true stands) in
+    subst (λ s. prevs_stand known s ≡ true) (is at) (and_first (prevs_stand known (plain_stmt s at)) true stands) in
     record {
       stands = (inner 0 k (inside (label_at at) 0) q known more knows (opens at known holds)).stands;
       knows = subst (λ ks. Knows (ks ++ known) (known_after more (block_of b k q))) (sym (ap declared_by (is at) ∙ none at))
@@ -420,16 +369,16 @@ declares_test s e a c source is none asks first second j k p q known more knows 
     let at = p ++ j ∷ [] in
     let to = q ++ k ∷ [] in
     let known_test =
-    asks at known (subst (λ s. prevs_stand known s ≡ true) (is at) (first_of (prevs_stand known (plain_stmt s at)) true stands)) in
+    asks at known (subst (λ s. prevs_stand known s ≡ true) (is at) (and_first (prevs_stand known (plain_stmt s at)) true stands)) in
     let made = If (label_at to) (place_of_expr e) e (plain_block a (inside (label_at to) 0)) (plain_block c (inside (label_at to) 1)) in
     let holds : prevs_stand more made ≡ true =
-    both (are_known more (prevs_in_expr e))
+    and_from (are_known more (prevs_in_expr e))
     (prevs_stand_in more (plain_block a (inside (label_at to) 0)) && prevs_stand_in more (plain_block c (inside (label_at to) 1)))
     (still_known known more knows (prevs_in_expr e) known_test)
-    (both (prevs_stand_in more (plain_block a (inside (label_at to) 0))) (prevs_stand_in more (plain_block c (inside (label_at to) 1)))
+    (and_from (prevs_stand_in more (plain_block a (inside (label_at to) 0))) (prevs_stand_in more (plain_block c (inside (label_at to) 1)))
     (first j 0 p (inside (label_at to) 0) known more knows stands).stands (second j 0 p (inside (label_at to) 1) known more knows stands).stands) in
     record {
-      stands = both (prevs_stand more (plain_stmt (made_if e a c) to)) true (subst (λ s. prevs_stand more s ≡ true) (sym (made_if_is e a c to)) holds) refl;
+      stands = and_from (prevs_stand more (plain_stmt (made_if e a c) to)) true (subst (λ s. prevs_stand more s ≡ true) (sym (made_if_is e a c to)) holds) refl;
       knows = subst (λ ks. Knows (ks ++ known) (declared_by (plain_stmt (made_if e a c) to) ++ more)) (sym (ap declared_by (is at) ∙ none at))
           (λ x h. knows_later (declared_by (plain_stmt (made_if e a c) to)) more x (knows x h));
     }
@@ -461,35 +410,35 @@ all_declare = inherited Declares (record {
   in_until = λ place a b e inner.
       declares_inside (stmt place (StmtKind-F.Until a e)) a b (λ p. Until (label_at p) place (plain_block a (inside (label_at p) 0)) e)
       (λ p. plain_statements.until place p a e) (λ p. refl)
-      (λ p known stands. second_of (are_known known (prevs_in_expr e)) (prevs_stand_in known (plain_block a (inside (label_at p) 0))) stands) inner;
+      (λ p known stands. and_second (are_known known (prevs_in_expr e)) (prevs_stand_in known (plain_block a (inside (label_at p) 0))) stands) inner;
   in_while = λ place e a b inner.
       declares_inside (stmt place (StmtKind-F.While e a)) a b (λ p. While (label_at p) place e (plain_block a (inside (label_at p) 0)))
       (λ p. plain_statements.while place p e a) (λ p. refl)
-      (λ p known stands. second_of (are_known known (prevs_in_expr e)) (prevs_stand_in known (plain_block a (inside (label_at p) 0))) stands) inner;
+      (λ p known stands. and_second (are_known known (prevs_in_expr e)) (prevs_stand_in known (plain_block a (inside (label_at p) 0))) stands) inner;
   until_test = λ place a b e inner test.
       declares_test (stmt place (StmtKind-F.Until a e)) e [] b (λ p. Until (label_at p) place (plain_block a (inside (label_at p) 0)) e)
       (λ p. plain_statements.until place p a e) (λ p. refl)
-      (λ p known stands. first_of (are_known known (prevs_in_expr e)) (prevs_stand_in known (plain_block a (inside (label_at p) 0))) stands)
+      (λ p known stands. and_first (are_known known (prevs_in_expr e)) (prevs_stand_in known (plain_block a (inside (label_at p) 0))) stands)
       (declares_nothing (stmt place (StmtKind-F.Until a e)) (λ p. Until (label_at p) place (plain_block a (inside (label_at p) 0)) e)
       (λ p. plain_statements.until place p a e) (λ p. refl)) inner;
   while_test = λ place e a b inner test.
       declares_test (stmt place (StmtKind-F.While e a)) e b [] (λ p. While (label_at p) place e (plain_block a (inside (label_at p) 0)))
       (λ p. plain_statements.while place p e a) (λ p. refl)
-      (λ p known stands. first_of (are_known known (prevs_in_expr e)) (prevs_stand_in known (plain_block a (inside (label_at p) 0))) stands) inner
+      (λ p known stands. and_first (are_known known (prevs_in_expr e)) (prevs_stand_in known (plain_block a (inside (label_at p) 0))) stands) inner
       (declares_nothing (stmt place (StmtKind-F.While e a)) (λ p. While (label_at p) place e (plain_block a (inside (label_at p) 0)))
       (λ p. plain_statements.while place p e a) (λ p. refl));
 })
 
 pub peeled_prevs_are_declared : PeeledPrevsAreDeclared
-peeled_prevs_are_declared unit tree peels = by_case peels
+peeled_prevs_are_declared unit peeled_unit peels = by_case peels
   where
-    by_case : {unit tree : UnitDef} → UnitPeels unit tree → prevs_are_declared unit ≡ true → prevs_are_declared tree ≡ true
+    by_case : {unit peeled_unit : UnitDef} → UnitPeels unit peeled_unit → prevs_are_declared unit ≡ true → prevs_are_declared peeled_unit ≡ true
     by_case kept declared = declared
     by_case (is_peeled {unit} activity) declared = (all_declare unit.body 0 0 [] [] [] [] (λ k h. h) declared).stands
 
 pub peeled_is_from_text : PeeledIsFromText
-peeled_is_from_text units trees peel text = record {
-  declared = λ tree there.
-      let source : SourceOf units tree = source_of peel tree (contains_in tree trees there) in
-      peeled_prevs_are_declared source.unit tree source.peels (text.declared source.unit (in_contains source.unit units source.is_there));
+peeled_is_from_text units peeled_units peel text = record {
+  declared = λ peeled_unit there.
+      let source : SourceOf units peeled_unit = source_of peel peeled_unit (contains_in peeled_unit peeled_units there) in
+      peeled_prevs_are_declared source.unit peeled_unit source.peels (text.declared source.unit (in_contains source.unit units source.is_there));
 }

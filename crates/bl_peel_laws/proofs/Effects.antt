@@ -1,5 +1,6 @@
 -- Effects of single statements that peeling makes.
-use Rattle.std.proofs.Common.{◌≡◌, Bool, true, false, ◌&&◌, ◌||◌, List, [], ◌∷◌, ◌++◌, map, refl, ap, sym, subst, ◌∙◌}
+use Rattle.std.proofs.Common.{◌≡◌, true, false, ◌&&◌, ◌||◌, List, [], ◌∷◌, ◌++◌, map, ap, sym, subst, ◌∙◌}
+use Rattle.bl_tree.proofs.Basics.{and_true}
 use Rattle.bl_tree.specs.declared.place.Place.{Place}
 use Rattle.bl_tree.specs.declared.static_path.Static.{Static}
 use Rattle.bl_tree.specs.declared.tree.Arm.{Arm}
@@ -49,10 +50,6 @@ writes_again s =
     fold_out-Stmt (List Static) (List Static) (List Static) (List Static) kind_writes arm_writes branch_paths stmt_set s in
     ap (λ paths. set_of (paths ++ [])) is ∙ set_again (writes_of_kind (out-Stmt s).what) ∙ sym is
 
-one_yes : (a : Bool) → (a && true) ≡ a
-one_yes true = refl
-one_yes false = refl
-
 module _ (s made : Stmt) (same : HasEffectsOf (s ∷ []) (made ∷ [])) where
   reads_alone : reads made ≡ reads s
   reads_alone = sym (reads_again made) ∙ same.reads ∙ reads_again s
@@ -61,14 +58,14 @@ module _ (s made : Stmt) (same : HasEffectsOf (s ∷ []) (made ∷ [])) where
   writes_alone = sym (writes_again made) ∙ same.writes ∙ writes_again s
 
   instant_alone : instant made ≡ instant s
-  instant_alone = sym (one_yes (instant made)) ∙ same.instant ∙ one_yes (instant s)
+  instant_alone = sym (and_true (instant made)) ∙ same.instant ∙ and_true (instant s)
 
   effect_alone : place_of made ≡ place_of s → effect_of made ≡ effect_of s
   effect_alone there = λ i. record { place = there i; reads = reads_alone i; writes = writes_alone i; instant = instant_alone i }
 
 -- ---- statements that take the place of another
 
-placed : (place : Place) (layer : StmtKind-F StmtKind Arm Branch Stmt) → place_of (made_stmt place layer) ≡ place
+pub placed : (place : Place) (layer : StmtKind-F StmtKind Arm Branch Stmt) → place_of (made_stmt place layer) ≡ place
 placed place layer = ap (λ s. s.place) (out-roll-Stmt (record { place = place; what = roll-StmtKind layer }))
 
 pub deep_effect_at : (place : Place) (layer : StmtKind-F StmtKind Arm Branch Stmt) →

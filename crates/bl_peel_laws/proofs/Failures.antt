@@ -9,17 +9,7 @@ use Rattle.bl_tree.specs.Instant.{is_instant_block}
 use Rattle.bl_tree.specs.Reduce.{joined}
 use Rattle.bl_tree.specs.Typing.{is_activity}
 use Rattle.bl_tree.proofs.FirstLemmas.{In, contains_in, in_contains}
-use Rattle.bl_effects.specs.Rules.{
-  Aliased,
-  Fails,
-  FailsAlias,
-  FailsConflict,
-  FailsInstant,
-  FailsPause,
-  aliases_in,
-  instant_loops,
-  splits_of,
-}
+use Rattle.bl_effects.specs.Rules.{Aliased, Fails, FailsAlias, FailsConflict, FailsInstant, FailsPause, aliases_in, instant_loops, splits_of}
 use Rattle.bl_peel.specs.Units.{UnitPeels, UnitsPeel, is_peeled, kept, more_units, no_units}
 use Rattle.bl_peel.proofs.Keeping.{peeled_keeps}
 use Rattle.bl_peel_laws.specs.Rules.{FailuresAreOfSources, PeeledUnitsPass}
@@ -31,55 +21,57 @@ use Rattle.bl_peel_laws.proofs.Loops.{loops_inherited, of_block, places_in}
 -- ---- units
 
 -- a unit of which another is the peeled one, or which it is
-pub record SourceOf (units : List UnitDef) (tree : UnitDef) : Type 0 where
+pub record SourceOf (units : List UnitDef) (peeled_unit : UnitDef) : Type 0 where
   pub unit : UnitDef
   pub is_there : In unit units
-  pub peels : UnitPeels unit tree
+  pub peels : UnitPeels unit peeled_unit
 
-pub source_of : {units trees : List UnitDef} → UnitsPeel units trees → (tree : UnitDef) → In tree trees → SourceOf units tree
-source_of no_units tree there = absurd there
-source_of (more_units {unit} one more) tree there =
+pub source_of : {units peeled_units : List UnitDef} → UnitsPeel units peeled_units → (peeled_unit : UnitDef) → In peeled_unit peeled_units →
+    SourceOf units peeled_unit
+source_of no_units peeled_unit there = absurd there
+source_of (more_units {unit} one more) peeled_unit there =
     ⊎_elim (λ is. record { unit = unit; is_there = inl refl; peels = subst (UnitPeels unit) (sym is) one })
-    (λ later. let source = source_of more tree later in record { unit = source.unit; is_there = inr source.is_there; peels = source.peels })
+    (λ later. let source = source_of more peeled_unit later in record { unit = source.unit; is_there = inr source.is_there; peels = source.peels })
     there
 
 -- ---- a unit and its source
 
-place_same : {unit tree : UnitDef} → UnitPeels unit tree → tree.place ≡ unit.place
+place_same : {unit peeled_unit : UnitDef} → UnitPeels unit peeled_unit → peeled_unit.place ≡ unit.place
 place_same kept = refl
 place_same (is_peeled activity) = refl
 
-kind_same : {unit tree : UnitDef} → UnitPeels unit tree → tree.kind ≡ unit.kind
+kind_same : {unit peeled_unit : UnitDef} → UnitPeels unit peeled_unit → peeled_unit.kind ≡ unit.kind
 kind_same kept = refl
 kind_same (is_peeled activity) = refl
 
-vars_same : {unit tree : UnitDef} → UnitPeels unit tree → tree.vars ≡ unit.vars
+vars_same : {unit peeled_unit : UnitDef} → UnitPeels unit peeled_unit → peeled_unit.vars ≡ unit.vars
 vars_same kept = refl
 vars_same (is_peeled activity) = refl
 
-ends_same : {unit tree : UnitDef} → UnitPeels unit tree → is_instant_block tree.body ≡ is_instant_block unit.body
+ends_same : {unit peeled_unit : UnitDef} → UnitPeels unit peeled_unit → is_instant_block peeled_unit.body ≡ is_instant_block unit.body
 ends_same kept = refl
 ends_same (is_peeled {unit} activity) = (peeled_keeps unit.body).instant
 
-aliases_of : {unit tree : UnitDef} → UnitPeels unit tree → Has (joined (map aliases_in unit.body)) (joined (map aliases_in tree.body))
+aliases_of : {unit peeled_unit : UnitDef} → UnitPeels unit peeled_unit → Has (joined (map aliases_in unit.body)) (joined (map aliases_in peeled_unit.body))
 aliases_of (kept {unit}) = covers_itself (λ (x y : Aliased). x ≡ y) (λ x. refl) (joined (map aliases_in unit.body))
 aliases_of (is_peeled {unit} activity) = aliases_inherited unit.body
 
-loops_of : {unit tree : UnitDef} → UnitPeels unit tree → Has (joined (map places_in unit.body)) (joined (map places_in tree.body))
+loops_of : {unit peeled_unit : UnitDef} → UnitPeels unit peeled_unit → Has (joined (map places_in unit.body)) (joined (map places_in peeled_unit.body))
 loops_of (kept {unit}) = covers_itself (λ (x y : Place). x ≡ y) (λ x. refl) (joined (map places_in unit.body))
 loops_of (is_peeled {unit} activity) = loops_inherited unit.body
 
-branches_of : {unit tree : UnitDef} → UnitPeels unit tree → Covers SplitWithin (joined (map splits_in unit.body)) (joined (map splits_in tree.body))
+branches_of : {unit peeled_unit : UnitDef} → UnitPeels unit peeled_unit →
+    Covers SplitWithin (joined (map splits_in unit.body)) (joined (map splits_in peeled_unit.body))
 branches_of (kept {unit}) = covers_itself SplitWithin split_itself (joined (map splits_in unit.body))
 branches_of (is_peeled {unit} activity) = splits_inherited unit.body
 
 -- ---- each rule
 
-module _ {units trees : List UnitDef} (peel : UnitsPeel units trees) (at : Place) (also : List Place) where
-  abbrev of : (tree : UnitDef) → Contains trees tree → SourceOf units tree
-  of tree there = source_of peel tree (contains_in tree trees there)
+module _ {units peeled_units : List UnitDef} (peel : UnitsPeel units peeled_units) (at : Place) (also : List Place) where
+  abbrev of : (peeled_unit : UnitDef) → Contains peeled_units peeled_unit → SourceOf units peeled_unit
+  of peeled_unit there = source_of peel peeled_unit (contains_in peeled_unit peeled_units there)
 
-  pause_fails : FailsPause trees at also → FailsPause units at also
+  pause_fails : FailsPause peeled_units at also → FailsPause units at also
   pause_fails fails =
       let source : SourceOf units fails.unit = of fails.unit fails.is_there in
       record {
@@ -91,7 +83,7 @@ module _ {units trees : List UnitDef} (peel : UnitsPeel units trees) (at : Place
         alone = fails.alone;
       }
 
-  conflict_fails : FailsConflict trees at also → FailsConflict units at also
+  conflict_fails : FailsConflict peeled_units at also → FailsConflict units at also
   conflict_fails fails =
       let source : SourceOf units fails.unit = of fails.unit fails.is_there in
       let covered : CoveredBy SplitWithin (joined (map splits_in source.unit.body)) fails.split =
@@ -116,7 +108,7 @@ module _ {units trees : List UnitDef} (peel : UnitsPeel units trees) (at : Place
         at_second = fails.at_second;
       }
 
-  alias_fails : FailsAlias trees at also → FailsAlias units at also
+  alias_fails : FailsAlias peeled_units at also → FailsAlias units at also
   alias_fails fails =
       let source : SourceOf units fails.unit = of fails.unit fails.is_there in
       record {
@@ -130,7 +122,7 @@ module _ {units trees : List UnitDef} (peel : UnitsPeel units trees) (at : Place
         at_other = fails.at_other;
       }
 
-  instant_fails : FailsInstant trees at also → FailsInstant units at also
+  instant_fails : FailsInstant peeled_units at also → FailsInstant units at also
   instant_fails fails =
       let source : SourceOf units fails.unit = of fails.unit fails.is_there in
       record {
@@ -146,7 +138,7 @@ module _ {units trees : List UnitDef} (peel : UnitsPeel units trees) (at : Place
         alone = fails.alone;
       }
 
-  by_rule : (rule : Rule) → Fails trees rule at also → Fails units rule at also
+  by_rule : (rule : Rule) → Fails peeled_units rule at also → Fails units rule at also
   by_rule rule.Pause fails = pause_fails fails
   by_rule rule.Conflict fails = conflict_fails fails
   by_rule rule.Alias fails = alias_fails fails
@@ -154,7 +146,7 @@ module _ {units trees : List UnitDef} (peel : UnitsPeel units trees) (at : Place
   by_rule _ fails = absurd fails
 
 pub failures_are_of_sources : FailuresAreOfSources
-failures_are_of_sources units trees rule at also peel fails = by_rule peel at also rule fails
+failures_are_of_sources units peeled_units rule at also peel fails = by_rule peel at also rule fails
 
 pub peeled_units_pass : PeeledUnitsPass
-peeled_units_pass units trees peel passes rule at also fails = passes rule at also (by_rule peel at also rule fails)
+peeled_units_pass units peeled_units peel passes rule at also fails = passes rule at also (by_rule peel at also rule fails)

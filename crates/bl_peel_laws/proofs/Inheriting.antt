@@ -13,20 +13,7 @@ use Rattle.bl_tree.specs.declared.tree.StmtKind.TheOpen.{StmtKind-F}
 use Rattle.bl_tree.specs.Within.{effect_of}
 use Rattle.bl_tree.proofs.StmtInduction.{Each, EachArm, EachBranch, induct, stmt}
 use Rattle.bl_peel.specs.Laws.{HasEffectsOf}
-use Rattle.bl_peel.specs.Peeled.{
-  ArmPeeling,
-  BranchPeeling,
-  Peeling,
-  deep_of,
-  front_of,
-  kind_deep,
-  kind_front,
-  made_arm,
-  made_if,
-  made_stmt,
-  peeled,
-  peeling,
-}
+use Rattle.bl_peel.specs.Peeled.{ArmPeeling, BranchPeeling, Peeling, deep_of, front_of, kind_deep, kind_front, made_arm, made_if, made_stmt, peeled, peeling}
 use Rattle.bl_peel.specs.inner.Parts.{kind_has_no_block, peeling_of_arm, peeling_of_branch, peeling_parts}
 use Rattle.bl_peel.proofs.Equations.{arm_out, branch_out, peeling_at}
 use Rattle.bl_peel.proofs.Keeping.{peeled_keeps}

@@ -2,10 +2,10 @@ mod Aliases
 mod Conflicts
 mod Deciding
 mod Declaring
-mod Effects
+pub mod Effects
 mod Failures
 mod Inheriting
-mod Lists
+pub mod Lists
 mod Loops
 mod Origins
 mod Owners

@@ -15,6 +15,7 @@ use Rattle.bl_tree.proofs.FirstLemmas.{In}
 use Rattle.bl_tree.proofs.ReduceLemmas.{joined-append}
 use Rattle.bl_peel.specs.Peeled.{made_arm, made_if, made_stmt, place_of_expr}
 use Rattle.bl_peel_laws.proofs.Inheriting.{ArmsBelow, BranchesBelow, Inherits, more_arms, more_branches, no_arms, no_branches}
+use Rattle.bl_types_laws.proofs.Starts.{in_left, in_right}
 
 -- ---- covered lists
 
@@ -34,14 +35,6 @@ Has {A} ys xs = Covers (λ (x y : A). x ≡ y) ys xs
 
 pub has_in : {A : Type 0} (ys xs : List A) → Has ys xs → (x : A) → In x xs → In x ys
 has_in ys xs has x h = let it = has x h in subst (λ y. In y ys) (sym it.covers) it.is_there
-
-in_left : {A : Type 0} (x : A) (xs ys : List A) → In x xs → In x (xs ++ ys)
-in_left x [] ys there = absurd there
-in_left x (y ∷ xs) ys there = ⊎_elim (λ is. inl is) (λ later. inr (in_left x xs ys later)) there
-
-in_right : {A : Type 0} (x : A) (xs ys : List A) → In x ys → In x (xs ++ ys)
-in_right x [] ys there = there
-in_right x (y ∷ xs) ys there = inr (in_right x xs ys there)
 
 module _ {A : Type 0} (R : A → A → Type 0) where
   pub covers_none : (ys : List A) → Covers R ys []
@@ -99,7 +92,7 @@ pub record Listed {A : Type 0} (f : Stmt → List A) (own : Place → Bool → L
   pub while_is : (place : Place) (e : Expr) (body : List Stmt) →
       f (made_stmt place (StmtKind-F.While e body)) ≡ joined (map f body) ++ own place (is_instant_block body)
 
-body_is : (e : Expr) (body : List Stmt) → (out-Arm (made_arm e body)).body ≡ body
+pub body_is : (e : Expr) (body : List Stmt) → (out-Arm (made_arm e body)).body ≡ body
 body_is e body = ap (λ arm. arm.body) (out-roll-Arm (record { test = e; body = body }))
 
 -- nothing has to be kept

@@ -10,18 +10,7 @@ use Rattle.bl_tree.specs.declared.tree.StmtKind.TheFolds.{map-StmtKind}
 use Rattle.bl_tree.specs.declared.tree.StmtKind.TheOpen.{StmtKind-F}
 use Rattle.bl_tree.specs.Instant.{is_instant_block}
 use Rattle.bl_tree.specs.Reduce.{joined}
-use Rattle.bl_effects.specs.Rules.{
-  BranchLoops,
-  Loops,
-  arm_loops,
-  block_ends,
-  block_loops,
-  branch_loops,
-  kind_loops,
-  loop_places,
-  loops_in,
-  stmt_loops,
-}
+use Rattle.bl_effects.specs.Rules.{BranchLoops, Loops, arm_loops, block_ends, block_loops, branch_loops, kind_loops, loop_places, loops_in, stmt_loops}
 use Rattle.bl_effects.proofs.InstantLemmas.{loops_agree}
 use Rattle.bl_peel.specs.Peeled.{made_stmt, peeled}
 use Rattle.bl_peel_laws.proofs.Inheriting.{inherited}

@@ -1,36 +1,25 @@
 -- Where each statement of what is peeled comes from: it is a copy, or the test of a loop behind or around its first turn.
 use Rattle.std.proofs.Common.{◌≡◌, ℕ, zero, suc, true, false, List, [], ◌∷◌, ◌++◌, map, Some, refl, ap, sym, subst, ◌∙◌, arith, inl, inr, ⊎_elim, ◌⊎◌}
 use Rattle.std.specs.Prelude.{Contains, IsTrue, slice_get}
-use Rattle.std.proofs.lemmas.List.Elements.{Contains-append_cases, Contains-append_left, Contains-append_right}
 use Rattle.std.proofs.lemmas.Option.{same_Some}
 use Rattle.bl_tree.specs.declared.place.Place.{Place}
-use Rattle.bl_tree.specs.declared.tree.Arm.{Arm, out-Arm, out-roll-Arm}
+use Rattle.bl_tree.specs.declared.tree.Arm.{Arm, out-Arm}
 use Rattle.bl_tree.specs.declared.tree.Branch.{Branch, out-Branch}
 use Rattle.bl_tree.specs.declared.tree.Expr.{Expr, out-Expr}
 use Rattle.bl_tree.specs.declared.tree.Stmt.{Stmt, out-Stmt, out-roll-Stmt}
 use Rattle.bl_tree.specs.declared.tree.StmtKind.{StmtKind, out-StmtKind, out-roll-StmtKind, roll-StmtKind}
 use Rattle.bl_tree.specs.declared.tree.StmtKind.TheOpen.{StmtKind-F}
 use Rattle.bl_tree.specs.Reduce.{joined}
-use Rattle.bl_tree.specs.Within.{
-  RunsIn,
-  StandsIn,
-  Within,
-  branches_of,
-  children,
-  deeper,
-  effect_of,
-  is_run,
-  is_run_kind,
-  itself,
-  kind_branches,
-  kind_children,
-  place_of,
-}
+use Rattle.bl_tree.specs.Within.{RunsIn, StandsIn, Within, branches_of, children, deeper, effect_of, is_run, is_run_kind, itself, kind_branches, kind_children}
+use Rattle.bl_tree.specs.Within.{place_of}
 use Rattle.bl_tree.proofs.FirstLemmas.{In, contains_in, in_contains}
 use Rattle.bl_peel.specs.Peeled.{made_arm, made_if, made_stmt, peeled, place_of_expr}
 use Rattle.bl_peel.specs.inner.Parts.{kind_has_no_block}
 use Rattle.bl_peel_laws.proofs.Effects.{TestOf}
 use Rattle.bl_peel_laws.proofs.Inheriting.{ArmsBelow, BranchesBelow, inherited, more_arms, more_branches, no_arms, no_branches}
+use Rattle.bl_effects.proofs.GatherLemmas.{stands_cases, stands_left, stands_right, within_cases}
+use Rattle.bl_peel_laws.proofs.Effects.{placed}
+use Rattle.bl_peel_laws.proofs.Lists.{body_is}
 
 -- ---- the condition of a loop
 
@@ -88,31 +77,11 @@ branches_at place layer = ap kind_branches (layer_at place layer)
 conditions_at : (place : Place) (layer : StmtKind-F StmtKind Arm Branch Stmt) → conditions_of (made_stmt place layer) ≡ kind_conditions layer
 conditions_at place layer = ap kind_conditions (layer_at place layer)
 
-placed : (place : Place) (layer : StmtKind-F StmtKind Arm Branch Stmt) → place_of (made_stmt place layer) ≡ place
-placed place layer = ap (λ s. s.place) (out-roll-Stmt (record { place = place; what = roll-StmtKind layer }))
-
 pub none_there : (k : ℕ) (branch : Branch) → slice_get [] k ≡ Some branch → ⊥
 none_there k branch is = absurd (cc)
 
 nowhere : (x : Stmt) → StandsIn [] x → ⊥
 nowhere x stands = let below = stands.is_there.1 in omega arith
-
-stands_left : (xs ys : List Stmt) (x : Stmt) → StandsIn xs x → StandsIn (xs ++ ys) x
-stands_left xs ys x stands = record { outer = stands.outer; is_there = Contains-append_left xs ys stands.outer stands.is_there; within = stands.within }
-
-stands_right : (xs ys : List Stmt) (x : Stmt) → StandsIn ys x → StandsIn (xs ++ ys) x
-stands_right xs ys x stands = record { outer = stands.outer; is_there = Contains-append_right xs ys stands.outer stands.is_there; within = stands.within }
-
-stands_cases : (xs ys : List Stmt) (x : Stmt) → StandsIn (xs ++ ys) x → StandsIn xs x ⊎ StandsIn ys x
-stands_cases xs ys x stands =
-    ⊎_elim (λ there. inl (record { outer = stands.outer; is_there = there; within = stands.within }))
-    (λ there. inr (record { outer = stands.outer; is_there = there; within = stands.within }))
-    (Contains-append_cases xs ys stands.outer stands.is_there)
-
--- what stands in a block of one statement is that, or stands in its blocks
-within_cases : (x s : Stmt) → Within x s → (x ≡ s) ⊎ StandsIn (children s) x
-within_cases x s itself = inl refl
-within_cases x whole (deeper outer next there within) = inr (record { outer = next; is_there = there; within = within })
 
 sole_cases : (s x : Stmt) → StandsIn (s ∷ []) x → (x ≡ s) ⊎ StandsIn (children s) x
 sole_cases s x stands =
@@ -274,9 +243,6 @@ made_cobegin place branches others each effect =
 made_inside : (place : Place) (layer : StmtKind-F StmtKind Arm Branch Stmt) (made : List Stmt) → Made (kind_children layer) made →
     Made (made_stmt place layer ∷ []) made
 made_inside place layer made inner x stands = of_inner place layer x (inner x stands)
-
-body_is : (e : Expr) (body : List Stmt) → (out-Arm (made_arm e body)).body ≡ body
-body_is e body = ap (λ arm. arm.body) (out-roll-Arm (record { test = e; body = body }))
 
 made_test : (loop : Stmt) (e : Expr) (a c : List Stmt) → In (place_of_expr e).start (conditions_of loop) → TestOf loop (made_if e a c) →
     Made (loop ∷ []) a → Made (loop ∷ []) c → Made (loop ∷ []) (made_if e a c ∷ [])

@@ -11,34 +11,11 @@ use Rattle.bl_tree.specs.Reduce.{joined}
 use Rattle.bl_tree.specs.Within.{StandsIn, StandsInUnits, Within, children, deeper, itself, kind_children, place_of}
 use Rattle.bl_tree.proofs.FirstLemmas.{In, contains_in}
 use Rattle.bl_parse_tree.specs.Starts.{ascends}
-use Rattle.bl_types_laws.specs.Starts.{
-  StatementOffsets,
-  all_starts,
-  arm_layer_starts,
-  branch_layer_starts,
-  start_of,
-  starts_of,
-  stmt_kind_starts,
-  stmt_layer_starts,
-  unit_starts,
-}
+use Rattle.bl_types_laws.specs.Starts.{StatementOffsets, all_starts, arm_layer_starts, branch_layer_starts, start_of, starts_of, stmt_kind_starts}
+use Rattle.bl_types_laws.specs.Starts.{stmt_layer_starts, unit_starts}
 use Rattle.bl_types_laws.specs.inner.Starts.{starts_of_arm, starts_of_branch}
-use Rattle.bl_types_laws.proofs.Starts.{
-  Picked,
-  ascends_rest,
-  first_less,
-  in_joined,
-  in_right,
-  left,
-  one_part,
-  part_ascends,
-  parts_apart,
-  picked_append,
-  picked_ascends,
-  picked_in,
-  picked_none,
-  picked_self,
-}
+use Rattle.bl_types_laws.proofs.Starts.{Picked, ascends_rest, first_less, in_joined, in_right, left, one_part, part_ascends, parts_apart, picked_append}
+use Rattle.bl_types_laws.proofs.Starts.{picked_ascends, picked_in, picked_none, picked_self}
 use Rattle.bl_peel_laws.proofs.Origins.{conditions_of, kind_conditions}
 
 -- ---- by the statements directly in blocks

@@ -8,8 +8,9 @@ use Rattle.bl_peel.specs.Units.{UnitsPeel}
 
 -- places decide on effects in peeled units, where statements of the sources and the conditions of their loops begin one after another
 abbrev pub PeeledPlacesDecide : Type 0
-PeeledPlacesDecide = (units trees : List UnitDef) → UnitsPeel units trees → IsTrue (ascends (all_starts units)) → PlacesDecide trees
+PeeledPlacesDecide = (units peeled_units : List UnitDef) → UnitsPeel units peeled_units → IsTrue (ascends (all_starts units)) → PlacesDecide peeled_units
 
 -- `run`s are known by their places in peeled units, if so in the sources, whose statements and conditions of loops begin one after another
 abbrev pub PeeledRunsDecide : Type 0
-PeeledRunsDecide = (units trees : List UnitDef) → UnitsPeel units trees → IsTrue (ascends (all_starts units)) → RunsDecide units → RunsDecide trees
+PeeledRunsDecide =
+    (units peeled_units : List UnitDef) → UnitsPeel units peeled_units → IsTrue (ascends (all_starts units)) → RunsDecide units → RunsDecide peeled_units

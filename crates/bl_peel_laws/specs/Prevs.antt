@@ -6,8 +6,8 @@ use Rattle.bl_peel.specs.Units.{UnitPeels, UnitsPeel}
 
 -- a peeled unit asks what a variable was only behind its declaration, if its source does
 abbrev pub PeeledPrevsAreDeclared : Type 0
-PeeledPrevsAreDeclared = (unit tree : UnitDef) → UnitPeels unit tree → prevs_are_declared unit ≡ true → prevs_are_declared tree ≡ true
+PeeledPrevsAreDeclared = (unit peeled_unit : UnitDef) → UnitPeels unit peeled_unit → prevs_are_declared unit ≡ true → prevs_are_declared peeled_unit ≡ true
 
 -- peeled units keep what holds of the units of a source text
 abbrev pub PeeledIsFromText : Type 0
-PeeledIsFromText = (units trees : List UnitDef) → UnitsPeel units trees → FromText units → FromText trees
+PeeledIsFromText = (units peeled_units : List UnitDef) → UnitsPeel units peeled_units → FromText units → FromText peeled_units

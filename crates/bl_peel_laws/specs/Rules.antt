@@ -9,9 +9,9 @@ use Rattle.bl_peel.specs.Units.{UnitsPeel}
 -- a rule on effects that fails for peeled units fails for their sources, at the same places
 abbrev pub FailuresAreOfSources : Type 0
 FailuresAreOfSources =
-    (units trees : List UnitDef) (rule : Rule) (at : Place) (also : List Place) → UnitsPeel units trees → Fails trees rule at also →
+    (units peeled_units : List UnitDef) (rule : Rule) (at : Place) (also : List Place) → UnitsPeel units peeled_units → Fails peeled_units rule at also →
     Fails units rule at also
 
 -- none of the rules Pause, Conflict, Alias and Instant fails for peeled units where none fails for their sources
 abbrev pub PeeledUnitsPass : Type 0
-PeeledUnitsPass = (units trees : List UnitDef) → UnitsPeel units trees → Passes units → Passes trees
+PeeledUnitsPass = (units peeled_units : List UnitDef) → UnitsPeel units peeled_units → Passes units → Passes peeled_units

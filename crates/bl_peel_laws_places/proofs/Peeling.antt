@@ -15,25 +15,8 @@ use Rattle.bl_tree_laws_places.specs.Placed.{placed_expr, placed_level, placed_s
 use Rattle.bl_tree_laws_places.proofs.Exprs.{expr_out}
 use Rattle.bl_tree_laws_places.proofs.Lists.{map-behind, map-twice}
 use Rattle.bl_tree_laws_places.proofs.Stmts.{armed, branched, layered, stmt_is, stmts_turn, turned}
-use Rattle.bl_peel.specs.Peeled.{
-  ArmPeeling,
-  BranchPeeling,
-  Peeling,
-  arm_peeling,
-  branch_peeling,
-  deep_of,
-  front_ends,
-  front_of,
-  instants_within,
-  kind_deep,
-  kind_front,
-  kind_peeling,
-  made_arm,
-  made_if,
-  made_stmt,
-  peeling,
-  stmt_peeling,
-}
+use Rattle.bl_peel.specs.Peeled.{ArmPeeling, BranchPeeling, Peeling, arm_peeling, branch_peeling, deep_of, front_ends, front_of, instants_within, kind_deep}
+use Rattle.bl_peel.specs.Peeled.{kind_front, kind_peeling, made_arm, made_if, made_stmt, peeling, stmt_peeling}
 use Rattle.bl_peel_laws_places.specs.Laws.{PeeledBodiesMove}
 
 module _ (f : Place → Place) where

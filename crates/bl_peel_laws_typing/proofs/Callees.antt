@@ -15,38 +15,9 @@ use Rattle.bl_tree.specs.declared.tree.UnitKind.{UnitKind}
 use Rattle.bl_tree.specs.declared.tree.Var.{Var}
 use Rattle.bl_tree.specs.Reduce.{all_of}
 use Rattle.bl_tree.specs.Types.{scalar}
-use Rattle.bl_tree.specs.Typing.{
-  TypingContext,
-  are_same,
-  arm_fits,
-  branch_fits,
-  call_fits,
-  call_type,
-  declaration_fits,
-  expr_type,
-  fits,
-  inputs_of,
-  is_activity,
-  is_assignable,
-  is_fixed,
-  is_outlet,
-  is_procedure,
-  is_truth,
-  is_variable,
-  kind_fits,
-  kind_type,
-  outputs_of,
-  part_type,
-  path_type,
-  return_fits,
-  run_fits,
-  site_of,
-  stmt_fits,
-  target_fits,
-  type_of,
-  type_of_path,
-  types_match,
-}
+use Rattle.bl_tree.specs.Typing.{TypingContext, are_same, arm_fits, branch_fits, call_fits, call_type, declaration_fits, expr_type, fits, inputs_of}
+use Rattle.bl_tree.specs.Typing.{is_activity, is_assignable, is_fixed, is_outlet, is_procedure, is_truth, is_variable, kind_fits, kind_type, outputs_of}
+use Rattle.bl_tree.specs.Typing.{part_type, path_type, return_fits, run_fits, site_of, stmt_fits, target_fits, type_of, type_of_path, types_match}
 use Rattle.bl_peel.specs.Units.{UnitPeels, UnitsPeel, is_peeled, kept, more_units, no_units}
 use Rattle.bl_peel_laws_typing.specs.Typing.{FitsAsksNoBodies}
 
@@ -54,11 +25,11 @@ use Rattle.bl_peel_laws_typing.specs.Typing.{FitsAsksNoBodies}
 abbrev pub bare : UnitDef → UnitDef
 bare unit = record unit { body = [] }
 
-pub bare_one : {unit tree : UnitDef} → UnitPeels unit tree → bare unit ≡ bare tree
+pub bare_one : {unit peeled_unit : UnitDef} → UnitPeels unit peeled_unit → bare unit ≡ bare peeled_unit
 bare_one kept = refl
 bare_one (is_peeled activity) = refl
 
-pub all_bare : {units trees : List UnitDef} → UnitsPeel units trees → map bare units ≡ map bare trees
+pub all_bare : {units peeled_units : List UnitDef} → UnitsPeel units peeled_units → map bare units ≡ map bare peeled_units
 all_bare no_units = refl
 all_bare (more_units one more) = λ i. bare_one one i ∷ all_bare more i
 
@@ -156,12 +127,12 @@ module _ (structs : List StructDef) (kind : UnitKind) (vars : List Var) (result 
   fits_bare = λ i. fold-Stmt Bool Bool Bool Bool (λ layer. layer_is layer i) (λ arm. arm_is arm i) branch_fits stmt_fits
 
 -- units that differ in bodies alone let the same statements stand behind them
-pub fits_beside : (structs : List StructDef) (units trees : List UnitDef) (unit : UnitDef) → map bare units ≡ map bare trees →
-    fits (site_of structs units unit) ≡ fits (site_of structs trees unit)
-fits_beside structs units trees unit same =
+pub fits_beside : (structs : List StructDef) (units peeled_units : List UnitDef) (unit : UnitDef) → map bare units ≡ map bare peeled_units →
+    fits (site_of structs units unit) ≡ fits (site_of structs peeled_units unit)
+fits_beside structs units peeled_units unit same =
     fits_bare structs unit.kind unit.vars unit.result units
     ∙ (λ i. fits (record { structs = structs; earlier = same i; kind = unit.kind; vars = unit.vars; result = unit.result }))
-    ∙ sym (fits_bare structs unit.kind unit.vars unit.result trees)
+    ∙ sym (fits_bare structs unit.kind unit.vars unit.result peeled_units)
 
 pub fits_asks_no_bodies : FitsAsksNoBodies
-fits_asks_no_bodies structs earlier trees unit s peels = ap (λ fit. fit s) (sym (fits_beside structs earlier trees unit (all_bare peels)))
+fits_asks_no_bodies structs earlier peeled_units unit s peels = ap (λ fit. fit s) (sym (fits_beside structs earlier peeled_units unit (all_bare peels)))

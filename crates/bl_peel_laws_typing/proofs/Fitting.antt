@@ -1,7 +1,7 @@
 -- Statements of peeled bodies fit where their sources do.
 use Rattle.std.proofs.Common.{◌≡◌, Bool, true, false, ◌&&◌, List, [], ◌∷◌, ◌++◌, map, refl, ap, sym, ◌∙◌}
-use Rattle.std.specs.List.{list_all}
 use Rattle.std.proofs.lemmas.List.{map-append}
+use Rattle.bl_tree.proofs.Basics.{all_is_all_of}
 use Rattle.bl_tree.specs.declared.place.Place.{Place}
 use Rattle.bl_tree.specs.declared.tree.Arm.{Arm, fold-Arm, fold-roll-Arm}
 use Rattle.bl_tree.specs.declared.tree.Branch.{Branch, fold-Branch, fold-roll-Branch}
@@ -35,10 +35,6 @@ while_again true true = refl
 while_again true false = refl
 while_again false true = refl
 while_again false false = refl
-
-pub listed : {A : Type 0} (test : A → Bool) (xs : List A) → list_all test xs ≡ all_of (map test xs)
-listed test [] = refl
-listed test (x ∷ xs) = ap (λ rest. test x && rest) (listed test xs)
 
 module _ (site : TypingContext) where
   -- ---- what fits is at one statement, arm and branch
@@ -144,4 +140,4 @@ module _ (site : TypingContext) where
 
 pub peeled_fits : PeeledFits
 peeled_fits site body =
-    listed (fits site) (peeled body) ∙ body_copied (FitAlike site) (fit_copies site) body ∙ sym (listed (fits site) body)
+    all_is_all_of (fits site) (peeled body) ∙ body_copied (FitAlike site) (fit_copies site) body ∙ sym (all_is_all_of (fits site) body)

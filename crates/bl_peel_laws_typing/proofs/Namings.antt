@@ -4,10 +4,12 @@ use Rattle.std.specs.Prelude.{nat_eq}
 use Rattle.std.specs.List.{list_all, list_any}
 use Rattle.std.proofs.lemmas.List.{map-append}
 use Rattle.std.proofs.lemmas.List.Folds.{list_all-append}
+use Rattle.std.proofs.lemmas.Bool.{and_from}
+use Rattle.bl_tree.proofs.Basics.{all_weaker, and_first, and_second}
 use Rattle.bl_tree.specs.Apart.{Naming, Roots, all_apart, is_foreign, keep_apart, of_branches, together}
 use Rattle.bl_tree.specs.Reduce.{all_of, joined}
 use Rattle.bl_tree.proofs.ReduceLemmas.{all_of-append, joined-append}
-use Rattle.bl_peel_laws_typing.proofs.Flags.{and_left, and_right, beside_each, both}
+use Rattle.bl_peel_laws_typing.proofs.Flags.{beside_each}
 
 -- ---- variables among others
 
@@ -16,13 +18,13 @@ abbrev pub AmongRoots : Roots → Roots → Type 0
 AmongRoots roots others = (test : ℕ → Bool) → list_all test others ≡ true → list_all test roots ≡ true
 
 both_among : (a b c : Roots) → AmongRoots a c → AmongRoots b c → AmongRoots (a ++ b) c
-both_among a b c one other test all = list_all-append test a b ∙ both (list_all test a) (list_all test b) (one test all) (other test all)
+both_among a b c one other test all = list_all-append test a b ∙ and_from (list_all test a) (list_all test b) (one test all) (other test all)
 
 front_among : (a b : Roots) → AmongRoots a (a ++ b)
-front_among a b test all = and_left (list_all test a) (list_all test b) (sym (list_all-append test a b) ∙ all)
+front_among a b test all = and_first (list_all test a) (list_all test b) (sym (list_all-append test a b) ∙ all)
 
 behind_among : (a b : Roots) → AmongRoots b (a ++ b)
-behind_among a b test all = and_right (list_all test a) (list_all test b) (sym (list_all-append test a b) ∙ all)
+behind_among a b test all = and_second (list_all test a) (list_all test b) (sym (list_all-append test a b) ∙ all)
 
 -- ---- foreign variables
 
@@ -33,11 +35,6 @@ none_of test (x ∷ xs) = neither (test x) (list_any test xs) ∙ ap (λ rest. n
     neither : (a b : Bool) → not (a || b) ≡ (not a && not b)
     neither true b = refl
     neither false b = refl
-
-all_weaker : {A : Type 0} (one other : A → Bool) → ((x : A) → one x ≡ true → other x ≡ true) → (xs : List A) → list_all one xs ≡ true →
-    list_all other xs ≡ true
-all_weaker one other step [] all = refl
-all_weaker one other step (x ∷ xs) all = beside_each (one x) (list_all one xs) (other x) (list_all other xs) (step x) (all_weaker one other step xs) all
 
 foreign_still : (declared named others more : Roots) → AmongRoots declared others → AmongRoots named more → is_foreign others more ≡ true →
     is_foreign declared named ≡ true
@@ -77,26 +74,26 @@ no_more_then a b c one more = record {
 pub no_more_none : (a : Naming) → NoMore (together []) a
 no_more_none a = record { declared = λ test all. refl; named = λ test all. refl; apart = λ holds. refl }
 
--- both are no more than a third
+-- and_from are no more than a third
 pub no_more_joined : (a b c : Naming) → NoMore a c → NoMore b c → NoMore (pair a b) c
 no_more_joined a b c one other = record {
   declared = both_among a.declared b.declared c.declared one.declared other.declared;
   named = both_among a.named b.named c.named one.named other.named;
-  apart = λ holds. both a.apart b.apart (one.apart holds) (other.apart holds);
+  apart = λ holds. and_from a.apart b.apart (one.apart holds) (other.apart holds);
 }
 
 pub no_more_front : (a b : Naming) → NoMore a (pair a b)
 no_more_front a b = record {
   declared = front_among a.declared b.declared;
   named = front_among a.named b.named;
-  apart = and_left a.apart b.apart;
+  apart = and_first a.apart b.apart;
 }
 
 pub no_more_behind : (a b : Naming) → NoMore b (pair a b)
 no_more_behind a b = record {
   declared = behind_among a.declared b.declared;
   named = behind_among a.named b.named;
-  apart = and_right a.apart b.apart;
+  apart = and_second a.apart b.apart;
 }
 
 pub no_more_pair : (a b c d : Naming) → NoMore a c → NoMore b d → NoMore (pair a b) (pair c d)

@@ -3,6 +3,8 @@ use Rattle.std.proofs.Common.{◌≡◌, ℕ, ◌+◌, ◌*◌, ◌≤◌, max, 
 use Rattle.std.specs.Prelude.{nat_le}
 use Rattle.std.proofs.lemmas.Bool.{le-leb, leb-true}
 use Rattle.std.proofs.lemmas.List.{map-append}
+use Rattle.std.proofs.lemmas.Bool.{and_from}
+use Rattle.bl_tree.proofs.Basics.{and_first, and_second, at_most_itself}
 use Rattle.bl_tree.specs.declared.place.Place.{Place}
 use Rattle.bl_tree.specs.declared.tree.Arm.{Arm, fold-Arm, fold-roll-Arm}
 use Rattle.bl_tree.specs.declared.tree.Branch.{Branch, fold-Branch, fold-roll-Branch}
@@ -19,7 +21,6 @@ use Rattle.bl_peel.specs.Peeled.{made_arm, made_if, peeled, place_of_expr}
 use Rattle.bl_peel.proofs.Equations.{made_branch}
 use Rattle.bl_peel_laws_typing.specs.Typing.{PeeledIsShallow}
 use Rattle.bl_peel_laws_typing.proofs.Copying.{ArmsCopy, BranchesCopy, Copies, body_copied, more_arms, more_branches, no_arms, no_branches}
-use Rattle.bl_peel_laws_typing.proofs.Flags.{and_left, and_right, both}
 
 -- ---- how deep statements, arms and branches are
 
@@ -90,9 +91,6 @@ test_exprs e body other =
 
 twice_same : (n : ℕ) → n ≤ 2 * n
 twice_same n = omega arith
-
-no_more : (n : ℕ) → n ≤ n
-no_more n = omega arith
 
 twice_both : (a b c d : ℕ) → b ≤ 2 * a → d ≤ 2 * c → max b d ≤ 2 * max a c
 twice_both a b c d one other = grind arith
@@ -166,7 +164,7 @@ nested_at place one other blocks exprs = record {
 
 arms_nested : {arms others : List Arm} → ArmsCopy NestedTwice arms others →
     TwiceAsDeep (of_all (map depth_of_arm arms)) (of_all (map depth_of_arm others))
-arms_nested no_arms = record { blocks = twice_same 0; exprs = no_more 0 }
+arms_nested no_arms = record { blocks = twice_same 0; exprs = at_most_itself 0 }
 arms_nested (more_arms e a b {arms} {others} one more) = record {
   blocks = by_twice _ _ _ _
       (ap (λ (arm : Depth). max arm.blocks (of_all (map depth_of_arm arms)).blocks) (arm_is e a))
@@ -176,7 +174,7 @@ arms_nested (more_arms e a b {arms} {others} one more) = record {
   exprs = by_values _ _ _ _
       (ap (λ (arm : Depth). max arm.exprs (of_all (map depth_of_arm arms)).exprs) (arm_is e a))
       (ap (λ (arm : Depth). max arm.exprs (of_all (map depth_of_arm others)).exprs) (arm_is e b))
-      (both_most _ _ _ _ (both_most _ _ _ _ (no_more (expr_depth e)) one.exprs) (arms_nested more).exprs);
+      (both_most _ _ _ _ (both_most _ _ _ _ (at_most_itself (expr_depth e)) one.exprs) (arms_nested more).exprs);
 }
   where
     first : (n m k l : ℕ) → m ≤ 2 * n → l ≤ 2 * k → max (1 + m) l ≤ 2 * max (1 + n) k
@@ -184,7 +182,7 @@ arms_nested (more_arms e a b {arms} {others} one more) = record {
 
 branches_nested : {branches others : List Branch} → BranchesCopy NestedTwice branches others →
     TwiceAsDeep (of_all (map depth_of_branch branches)) (of_all (map depth_of_branch others))
-branches_nested no_branches = record { blocks = twice_same 0; exprs = no_more 0 }
+branches_nested no_branches = record { blocks = twice_same 0; exprs = at_most_itself 0 }
 branches_nested (more_branches weak a b {branches} {others} one more) = record {
   blocks = by_twice _ _ _ _
       (ap (λ (branch : Depth). max branch.blocks (of_all (map depth_of_branch branches)).blocks) (branch_is weak a))
@@ -194,7 +192,7 @@ branches_nested (more_branches weak a b {branches} {others} one more) = record {
   exprs = by_values _ _ _ _
       (ap (λ (branch : Depth). max branch.exprs (of_all (map depth_of_branch branches)).exprs) (branch_is weak a))
       (ap (λ (branch : Depth). max branch.exprs (of_all (map depth_of_branch others)).exprs) (branch_is weak b))
-      (both_most _ _ _ _ (both_most _ _ _ _ (no_more 0) one.exprs) (branches_nested more).exprs);
+      (both_most _ _ _ _ (both_most _ _ _ _ (at_most_itself 0) one.exprs) (branches_nested more).exprs);
 }
   where
     first : (n m k l : ℕ) → m ≤ 2 * n → l ≤ 2 * k → max (1 + m) l ≤ 2 * max (1 + n) k
@@ -243,7 +241,7 @@ while_nested place e a b c first rest = record {
 
 nested_copies : Copies NestedTwice
 nested_copies = record {
-  same = λ body. record { blocks = twice_same (blocks_of body); exprs = no_more (exprs_of body) };
+  same = λ body. record { blocks = twice_same (blocks_of body); exprs = at_most_itself (exprs_of body) };
   append = λ a b c d one other. record {
     blocks = by_twice _ _ _ _ (blocks_join a c) (blocks_join b d) (twice_both (blocks_of a) (blocks_of b) (blocks_of c) (blocks_of d) one.blocks other.blocks);
     exprs = by_values _ _ _ _ (exprs_join a c) (exprs_join b d) (both_most (exprs_of a) (exprs_of b) (exprs_of c) (exprs_of d) one.exprs other.exprs);
@@ -283,8 +281,8 @@ within most a b deep is = let less : a ≤ most = leb-true a most is in le-leb b
 pub peeled_is_shallow : PeeledIsShallow
 peeled_is_shallow most body shallow =
     let deep = body_copied NestedTwice nested_copies body in
-    both (nat_le (1 + blocks_of (peeled body)) (2 * most)) (nat_le (exprs_of (peeled body)) 200)
+    and_from (nat_le (1 + blocks_of (peeled body)) (2 * most)) (nat_le (exprs_of (peeled body)) 200)
     (within_twice most (blocks_of body) (blocks_of (peeled body)) deep.blocks
-    (and_left (nat_le (1 + blocks_of body) most) (nat_le (exprs_of body) 200) shallow))
+    (and_first (nat_le (1 + blocks_of body) most) (nat_le (exprs_of body) 200) shallow))
     (within 200 (exprs_of body) (exprs_of (peeled body)) deep.exprs
-    (and_right (nat_le (1 + blocks_of body) most) (nat_le (exprs_of body) 200) shallow))
+    (and_second (nat_le (1 + blocks_of body) most) (nat_le (exprs_of body) 200) shallow))

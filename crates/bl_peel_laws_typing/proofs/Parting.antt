@@ -16,23 +16,8 @@ use Rattle.bl_peel.specs.Peeled.{made_arm, made_if, peeled, place_of_expr}
 use Rattle.bl_peel.proofs.Equations.{made_branch}
 use Rattle.bl_peel_laws_typing.specs.Typing.{PeeledIsApart}
 use Rattle.bl_peel_laws_typing.proofs.Copying.{ArmsCopy, BranchesCopy, Copies, body_copied, more_arms, more_branches, no_arms, no_branches}
-use Rattle.bl_peel_laws_typing.proofs.Namings.{
-  NoMore,
-  NoMoreEach,
-  branches_no_more,
-  each_more,
-  each_none,
-  no_more_behind,
-  no_more_front,
-  no_more_is,
-  no_more_itself,
-  no_more_joined,
-  no_more_none,
-  no_more_pair,
-  no_more_then,
-  pair,
-  together_joins,
-}
+use Rattle.bl_peel_laws_typing.proofs.Namings.{NoMore, NoMoreEach, branches_no_more, each_more, each_none, no_more_behind, no_more_front, no_more_is}
+use Rattle.bl_peel_laws_typing.proofs.Namings.{no_more_itself, no_more_joined, no_more_none, no_more_pair, no_more_then, pair, together_joins}
 
 -- ---- what statements, arms and branches declare and name
 

@@ -2,6 +2,7 @@
 use Rattle.std.proofs.Common.{◌≡◌, Bool, true, false, not, ◌&&◌, ◌||◌, List, [], ◌∷◌, ◌++◌, map, refl, ap, sym, ◌∙◌}
 use Rattle.std.specs.Prelude.{if◌then◌else◌, is_none}
 use Rattle.std.proofs.lemmas.List.{map-append}
+use Rattle.bl_tree.proofs.Basics.{or_false}
 use Rattle.bl_tree.specs.declared.place.Place.{Place}
 use Rattle.bl_tree.specs.declared.tree.Arm.{Arm, fold-Arm, fold-roll-Arm}
 use Rattle.bl_tree.specs.declared.tree.Branch.{Branch, fold-Branch, fold-roll-Branch}
@@ -11,19 +12,8 @@ use Rattle.bl_tree.specs.declared.tree.StmtKind.{StmtKind, fold-StmtKind, fold-r
 use Rattle.bl_tree.specs.declared.tree.StmtKind.TheFolds.{map-StmtKind}
 use Rattle.bl_tree.specs.declared.tree.StmtKind.TheOpen.{StmtKind-F, Stmt-F}
 use Rattle.bl_tree.specs.Reduce.{any_of}
-use Rattle.bl_tree.specs.Returns.{
-  activity_returns,
-  arm_has_return,
-  branch_has_return,
-  function_returns,
-  has_return,
-  is_return,
-  is_return_kind,
-  kind_has_return,
-  last_of,
-  returns_last_alone,
-  stmt_returns,
-}
+use Rattle.bl_tree.specs.Returns.{activity_returns, arm_has_return, branch_has_return, function_returns, has_return, is_return, is_return_kind, kind_has_return}
+use Rattle.bl_tree.specs.Returns.{last_of, returns_last_alone, stmt_returns}
 use Rattle.bl_tree.specs.Typing.{is_activity}
 use Rattle.bl_tree.proofs.ReduceLemmas.{any_of-append}
 use Rattle.bl_tree.proofs.StmtInduction.{stmt}
@@ -130,12 +120,8 @@ return_copies = record {
 
 -- ---- statements outside of first turns
 
-or_itself : (a : Bool) → (a || false) ≡ a
-or_itself true = refl
-or_itself false = refl
-
 deep_has : (s : Stmt) → has_return (peeling s).deep ≡ has_return s
-deep_has s = sym (or_itself (has_return (peeling s).deep)) ∙ (copied ReturnAlike return_copies s).deep ∙ or_itself (has_return s)
+deep_has s = sym (or_false (has_return (peeling s).deep)) ∙ (copied ReturnAlike return_copies s).deep ∙ or_false (has_return s)
 
 made_is : (place : Place) (layer : StmtKind-F StmtKind Arm Branch Stmt) → is_return (stmt place layer) ≡ is_return_kind layer
 made_is place layer =

@@ -4,6 +4,7 @@ use Rattle.std.specs.Prelude.{option_map, slice_get}
 use Rattle.std.specs.List.{list_all}
 use Rattle.std.proofs.lemmas.List.{map-append}
 use Rattle.std.proofs.lemmas.Option.{slice_get-map}
+use Rattle.bl_tree.proofs.Basics.{and_first, and_second}
 use Rattle.bl_tree.specs.declared.tree.Stmt.{Stmt}
 use Rattle.bl_tree.specs.declared.tree.StructDef.{StructDef}
 use Rattle.bl_tree.specs.declared.tree.Unit.{Unit as UnitDef}
@@ -19,7 +20,7 @@ use Rattle.bl_peel.specs.Units.{UnitPeels, UnitsPeel, is_peeled, kept, more_unit
 use Rattle.bl_peel_laws_typing.specs.Typing.{PeeledKeepsTyping, PeeledUnitsStand, bodies_are_shallow}
 use Rattle.bl_peel_laws_typing.proofs.Callees.{all_bare, bare, bare_one, fits_beside}
 use Rattle.bl_peel_laws_typing.proofs.Fitting.{peeled_fits}
-use Rattle.bl_peel_laws_typing.proofs.Flags.{and_left, and_right, beside_each, under}
+use Rattle.bl_peel_laws_typing.proofs.Flags.{beside_each, under}
 use Rattle.bl_peel_laws_typing.proofs.Nesting.{peeled_is_shallow}
 use Rattle.bl_peel_laws_typing.proofs.Parting.{peeled_is_apart}
 use Rattle.bl_peel_laws_typing.proofs.Returning.{peeled_returns}
@@ -57,8 +58,8 @@ stands_beside structs earlier others unit same =
     (λ holds. sym (ap (λ fit. list_all fit unit.body) (fits_beside structs earlier others unit same)) ∙ holds) (λ holds. holds)
 
 -- an activity that stands does so with its body peeled
-stands_peeled : (structs : List StructDef) (earlier : List UnitDef) {unit tree : UnitDef} → UnitPeels unit tree → is_shallow 100 unit.body ≡ true →
-    unit_stands structs earlier unit ≡ true → unit_stands structs earlier tree ≡ true
+stands_peeled : (structs : List StructDef) (earlier : List UnitDef) {unit peeled_unit : UnitDef} → UnitPeels unit peeled_unit →
+    is_shallow 100 unit.body ≡ true → unit_stands structs earlier unit ≡ true → unit_stands structs earlier peeled_unit ≡ true
 stands_peeled structs earlier kept shallow stands = stands
 stands_peeled structs earlier (is_peeled {unit} activity) shallow stands =
     stands_still structs earlier earlier unit (peeled unit.body) (λ holds. peeled_fits (site_of structs earlier unit) unit.body ∙ holds)
@@ -69,57 +70,60 @@ stands_peeled structs earlier (is_peeled {unit} activity) shallow stands =
     (λ holds. peeled_is_shallow 100 unit.body shallow) (peeled_is_apart unit.body)))
     stands
 
-bare_behind : (earlier others : List UnitDef) {unit tree : UnitDef} → UnitPeels unit tree → map bare earlier ≡ map bare others →
-    map bare (earlier ++ unit ∷ []) ≡ map bare (others ++ tree ∷ [])
-bare_behind earlier others {unit} {tree} one same =
-    map-append bare earlier (unit ∷ []) ∙ (λ i. same i ++ bare_one one i ∷ []) ∙ sym (map-append bare others (tree ∷ []))
+bare_behind : (earlier others : List UnitDef) {unit peeled_unit : UnitDef} → UnitPeels unit peeled_unit → map bare earlier ≡ map bare others →
+    map bare (earlier ++ unit ∷ []) ≡ map bare (others ++ peeled_unit ∷ [])
+bare_behind earlier others {unit} {peeled_unit} one same =
+    map-append bare earlier (unit ∷ []) ∙ (λ i. same i ++ bare_one one i ∷ []) ∙ sym (map-append bare others (peeled_unit ∷ []))
 
-stand_after : (structs : List StructDef) {units trees : List UnitDef} → UnitsPeel units trees → (earlier others : List UnitDef) →
+stand_after : (structs : List StructDef) {units peeled_units : List UnitDef} → UnitsPeel units peeled_units → (earlier others : List UnitDef) →
     map bare earlier ≡ map bare others → bodies_are_shallow 100 units ≡ true → units_stand_after structs earlier units ≡ true →
-    units_stand_after structs others trees ≡ true
+    units_stand_after structs others peeled_units ≡ true
 stand_after structs no_units earlier others same shallow stand = refl
-stand_after structs (more_units {unit} {tree} {units} {trees} one more) earlier others same shallow stand =
-    beside_each (unit_stands structs earlier unit) (units_stand_after structs (earlier ++ unit ∷ []) units) (unit_stands structs others tree)
-    (units_stand_after structs (others ++ tree ∷ []) trees)
-    (λ holds. stands_peeled structs others one (and_left (is_shallow 100 unit.body) (bodies_are_shallow 100 units) shallow)
+stand_after structs (more_units {unit} {peeled_unit} {units} {peeled_units} one more) earlier others same shallow stand =
+    beside_each (unit_stands structs earlier unit) (units_stand_after structs (earlier ++ unit ∷ []) units) (unit_stands structs others peeled_unit)
+    (units_stand_after structs (others ++ peeled_unit ∷ []) peeled_units)
+    (λ holds. stands_peeled structs others one (and_first (is_shallow 100 unit.body) (bodies_are_shallow 100 units) shallow)
     (stands_beside structs earlier others unit same holds))
-    (stand_after structs more (earlier ++ unit ∷ []) (others ++ tree ∷ []) (bare_behind earlier others one same)
-    (and_right (is_shallow 100 unit.body) (bodies_are_shallow 100 units) shallow)) stand
+    (stand_after structs more (earlier ++ unit ∷ []) (others ++ peeled_unit ∷ []) (bare_behind earlier others one same)
+    (and_second (is_shallow 100 unit.body) (bodies_are_shallow 100 units) shallow)) stand
 
 pub units_stand_peeled : PeeledUnitsStand
-units_stand_peeled structs units trees peels = stand_after structs peels [] [] refl
+units_stand_peeled structs units peeled_units peels = stand_after structs peels [] [] refl
 
 -- ---- programs
 
-name_same : {unit tree : UnitDef} → UnitPeels unit tree → unit.name ≡ tree.name
+name_same : {unit peeled_unit : UnitDef} → UnitPeels unit peeled_unit → unit.name ≡ peeled_unit.name
 name_same kept = refl
 name_same (is_peeled activity) = refl
 
-names_same : {units trees : List UnitDef} → UnitsPeel units trees → map (λ (unit : UnitDef). unit.name) units ≡ map (λ (unit : UnitDef). unit.name) trees
+names_same : {units peeled_units : List UnitDef} → UnitsPeel units peeled_units →
+    map (λ (unit : UnitDef). unit.name) units ≡ map (λ (unit : UnitDef). unit.name) peeled_units
 names_same no_units = refl
 names_same (more_units one more) = λ i. name_same one i ∷ names_same more i
 
-all_names_same : (structs : List StructDef) (units trees : List UnitDef) → UnitsPeel units trees → all_names structs units ≡ all_names structs trees
-all_names_same structs units trees peels = ap (λ names. map (λ (def : StructDef). def.name) structs ++ names) (names_same peels)
+all_names_same : (structs : List StructDef) (units peeled_units : List UnitDef) → UnitsPeel units peeled_units →
+    all_names structs units ≡ all_names structs peeled_units
+all_names_same structs units peeled_units peels = ap (λ names. map (λ (def : StructDef). def.name) structs ++ names) (names_same peels)
 
 -- an entry is one whatever its body
 entry_bare : (unit : Option UnitDef) → is_entry (option_map bare unit) ≡ is_entry unit
 entry_bare (Some unit) = refl
 entry_bare None = refl
 
-entry_same : (units trees : List UnitDef) (entry : ℕ) → UnitsPeel units trees → is_entry (slice_get units entry) ≡ is_entry (slice_get trees entry)
-entry_same units trees entry peels =
+entry_same : (units peeled_units : List UnitDef) (entry : ℕ) → UnitsPeel units peeled_units →
+    is_entry (slice_get units entry) ≡ is_entry (slice_get peeled_units entry)
+entry_same units peeled_units entry peels =
     sym (entry_bare (slice_get units entry))
-    ∙ ap is_entry (sym (slice_get-map bare units entry) ∙ ap (λ bares. slice_get bares entry) (all_bare peels) ∙ slice_get-map bare trees entry)
-    ∙ entry_bare (slice_get trees entry)
+    ∙ ap is_entry (sym (slice_get-map bare units entry) ∙ ap (λ bares. slice_get bares entry) (all_bare peels) ∙ slice_get-map bare peeled_units entry)
+    ∙ entry_bare (slice_get peeled_units entry)
 
 pub peeled_keeps_typing : PeeledKeepsTyping
-peeled_keeps_typing structs units trees entry typed shallow peels places runs = record {
-  named = ap (list_all is_name) (sym (all_names_same structs units trees peels)) ∙ typed.named;
-  distinct = ap are_distinct (sym (all_names_same structs units trees peels)) ∙ typed.distinct;
+peeled_keeps_typing structs units peeled_units entry typed shallow peels places runs = record {
+  named = ap (list_all is_name) (sym (all_names_same structs units peeled_units peels)) ∙ typed.named;
+  distinct = ap are_distinct (sym (all_names_same structs units peeled_units peels)) ∙ typed.distinct;
   structs_stand = typed.structs_stand;
-  units_stand = units_stand_peeled structs units trees peels shallow typed.units_stand;
-  entry_stands = sym (entry_same units trees entry peels) ∙ typed.entry_stands;
+  units_stand = units_stand_peeled structs units peeled_units peels shallow typed.units_stand;
+  entry_stands = sym (entry_same units peeled_units entry peels) ∙ typed.entry_stands;
   places_decide = places;
   runs_decide = runs;
 }

@@ -22,8 +22,8 @@ PeeledFits = (site : TypingContext) (body : List Stmt) → list_all (fits site) 
 -- a statement fits beside earlier units exactly where it does beside those with activities peeled
 abbrev pub FitsAsksNoBodies : Type 0
 FitsAsksNoBodies =
-    (structs : List StructDef) (earlier trees : List UnitDef) (unit : UnitDef) (s : Stmt) → UnitsPeel earlier trees →
-    fits (site_of structs trees unit) s ≡ fits (site_of structs earlier unit) s
+    (structs : List StructDef) (earlier peeled_units : List UnitDef) (unit : UnitDef) (s : Stmt) → UnitsPeel earlier peeled_units →
+    fits (site_of structs peeled_units unit) s ≡ fits (site_of structs earlier unit) s
 
 -- the `return`s of an activity stand as its kind wants them exactly where those of the peeled activity do
 abbrev pub PeeledReturns : Type 0
@@ -46,11 +46,11 @@ bodies_are_shallow most units = list_all (λ unit. is_shallow most unit.body) un
 -- units that stand, with blocks that nest at most 100 deep, stand with activities peeled
 abbrev pub PeeledUnitsStand : Type 0
 PeeledUnitsStand =
-    (structs : List StructDef) (units trees : List UnitDef) → UnitsPeel units trees → bodies_are_shallow 100 units ≡ true →
-    IsTrue (units_stand_after structs [] units) → IsTrue (units_stand_after structs [] trees)
+    (structs : List StructDef) (units peeled_units : List UnitDef) → UnitsPeel units peeled_units → bodies_are_shallow 100 units ≡ true →
+    IsTrue (units_stand_after structs [] units) → IsTrue (units_stand_after structs [] peeled_units)
 
 -- a well-typed program, with blocks at most 100 deep, is well-typed with activities peeled if places and `run`s still decide
 abbrev pub PeeledKeepsTyping : Type 0
 PeeledKeepsTyping =
-    (structs : List StructDef) (units trees : List UnitDef) (entry : ℕ) → IsWellTyped structs units entry → bodies_are_shallow 100 units ≡ true →
-    UnitsPeel units trees → PlacesDecide trees → RunsDecide trees → IsWellTyped structs trees entry
+    (structs : List StructDef) (units peeled_units : List UnitDef) (entry : ℕ) → IsWellTyped structs units entry → bodies_are_shallow 100 units ≡ true →
+    UnitsPeel units peeled_units → PlacesDecide peeled_units → RunsDecide peeled_units → IsWellTyped structs peeled_units entry

@@ -1,42 +1,9 @@
 -- Plants that answer by their rules.
-use Rattle.std.proofs.Common.{
-  ◌≡◌,
-  ℕ,
-  zero,
-  suc,
-  ◌+◌,
-  ◌<◌,
-  ◌≤◌,
-  ℤ,
-  Bool,
-  true,
-  false,
-  if◌then◌else◌,
-  List,
-  [],
-  ◌∷◌,
-  ◌++◌,
-  length,
-  take,
-  set,
-  fold,
-  Some,
-  None,
-  nat_lt,
-  refl,
-  ap,
-  sym,
-  ◌∙◌,
-  arith,
-  add-one,
-  length-append,
-  get_or,
-  le_refl,
-}
-use Rattle.std.proofs.lemmas.Bool.{le-ltb, lt-ltb}
+use Rattle.std.proofs.Common.{◌≡◌, ℕ, zero, suc, ◌+◌, ◌<◌, ◌≤◌, ℤ, if◌then◌else◌, List, [], ◌∷◌, ◌++◌, length, take, set, fold, Some}
+use Rattle.std.proofs.Common.{refl, ap, sym, ◌∙◌, arith, get_or, le_refl}
 use Rattle.std.proofs.lemmas.Option.{slice_get_read}
 use Rattle.std.specs.List.{slice_get}
-use Rattle.bl_plant.specs.Kinds.{level_after, level_then, ramp, ramp_at, ramp_then, rows_in, script, tank}
+use Rattle.bl_plant.specs.Kinds.{level_after, level_then, rows_in, script}
 use Rattle.bl_plant.specs.Plants.{Gives, with_given}
 use Rattle.bl_plant.specs.declared.log.Log.{Log}
 use Rattle.bl_plant.specs.declared.plant.Give.{Give}
@@ -59,58 +26,6 @@ fold-snoc f b (y ∷ xs) x = fold-snoc f (f b y) xs x
 pub level-more : (first drain : ℤ) (told : List (List ℤ)) (outs : List ℤ) →
     level_after first drain (told ++ outs ∷ []) ≡ level_then drain (level_after first drain told) outs
 level-more first drain told outs = fold-snoc (level_then drain) first told outs
-
-pub ramp-more : (first step : ℤ) (given : List (List ℤ)) (row : List ℤ) → ramp_at first step (given ++ row ∷ [])
-    ≡ ramp_then step (ramp_at first step given)
-ramp-more first step given row = fold-snoc (λ number (row : List ℤ). ramp_then step number) first given row
-
--- ---- what gives
-
-pub tank-gives : (first drain number : ℤ) (rows : ℕ) (log now : Log) (answer : Give) (into : List ℤ) → length log.given < rows →
-    number ≡ level_after first drain log.told → IsGiven log (number ∷ []) answer into now →
-    Gives (tank first drain rows log) answer into (tank first drain rows now)
-tank-gives first drain number rows log now give.Gave into more level given = record {
-  same = record { name = refl; width = refl; rule = refl; faults = le_refl 0 };
-  answered = (
-    given.1 ∙ ap (with_given log) (sym given.0),
-    ap (λ (b : Bool). if b then Some (level_after first drain log.told ∷ []) else None) (lt-ltb (length log.given) rows more)
-        ∙ ap (λ z. Some (z ∷ [])) (sym level) ∙ ap Some (sym given.0),
-  );
-}
-tank-gives first drain number rows log now give.Finished into more level given = absurd given
-tank-gives first drain number rows log now give.Failed into more level given = absurd given
-tank-gives first drain number rows log now give.NoMemory into more level given = record {
-  same = record { name = refl; width = refl; rule = refl; faults = le_refl 0 };
-  answered = given;
-}
-
-pub tank-finishes : (first drain : ℤ) (rows : ℕ) (log : Log) (into : List ℤ) → rows ≤ length log.given →
-    Gives (tank first drain rows log) give.Finished into (tank first drain rows log)
-tank-finishes first drain rows log into none = record {
-  same = record { name = refl; width = refl; rule = refl; faults = le_refl 0 };
-  answered = (refl, ap (λ (b : Bool). if b then Some (level_after first drain log.told ∷ []) else None) (le-ltb (length log.given) rows none));
-}
-
-pub ramp-gives : (first step number : ℤ) (log now : Log) (answer : Give) (into : List ℤ) → number ≡ ramp_at first step log.given →
-    IsGiven log (number ∷ []) answer into now → Gives (ramp first step log) answer into (ramp first step now)
-ramp-gives first step number log now give.Gave into is given = record {
-  same = record { name = refl; width = refl; rule = refl; faults = le_refl 0 };
-  answered = (given.1 ∙ ap (with_given log) (sym given.0), ap (λ z. Some (z ∷ [])) (sym is) ∙ ap Some (sym given.0));
-}
-ramp-gives first step number log now give.Finished into is given = absurd given
-ramp-gives first step number log now give.Failed into is given = absurd given
-ramp-gives first step number log now give.NoMemory into is given = record {
-  same = record { name = refl; width = refl; rule = refl; faults = le_refl 0 };
-  answered = given;
-}
-
--- the number after an answer
-pub ramp-number : (first step : ℤ) (log now : Log) (answer : Give) (into row : List ℤ) → answer ≡ give.Gave → IsGiven log row answer into now →
-    ramp_at first step now.given ≡ ramp_then step (ramp_at first step log.given)
-ramp-number first step log now give.Gave into row gave given = ap (λ (l : Log). ramp_at first step l.given) given.1 ∙ ramp-more first step log.given row
-ramp-number first step log now give.Finished into row gave given = absurd given
-ramp-number first step log now give.Failed into row gave given = absurd given
-ramp-number first step log now give.NoMemory into row gave given = cc
 
 -- ---- scripts
 
@@ -139,14 +54,6 @@ next-row (turn.Give x ∷ turns) zero row is = ap Some (same-give x row is)
 next-row (turn.Fail ∷ turns) zero row is = cc
 next-row (turn.Give x ∷ turns) (suc k) row is = next-row turns k row is
 next-row (turn.Fail ∷ turns) (suc k) row is = next-row turns k row is
-
--- after the last turn there is none
-pub no-row : (turns : List Turn) (k : ℕ) → length turns ≤ k → slice_get (rows_in turns) (length (rows_in (take k turns))) ≡ None
-no-row [] k past = refl
-no-row (turn.Give x ∷ turns) zero past = absurd (omega (arith, past))
-no-row (turn.Fail ∷ turns) zero past = absurd (omega (arith, past))
-no-row (turn.Give x ∷ turns) (suc k) past = no-row turns k (omega (arith, past))
-no-row (turn.Fail ∷ turns) (suc k) past = no-row turns k (omega (arith, past))
 
 -- how many rows there are after one more turn
 pub rows-given : (turns : List Turn) (k : ℕ) (row : List ℤ) → slice_get turns k ≡ Some (turn.Give row) →

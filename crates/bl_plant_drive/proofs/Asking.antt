@@ -8,6 +8,7 @@ use Rattle.std.proofs.lemmas.Bool.{eq-eqb}
 use Rattle.std.proofs.lemmas.List.{length-map}
 use Rattle.std.proofs.lemmas.Grind.{flat_map-append}
 use Rattle.std.proofs.lemmas.List.{append-nil, map-append, take-append-le}
+use Rattle.bl_tree.proofs.Basics.{same_number}
 use Rattle.bl_plant.specs.Plants.{Gives, PlantView}
 use Rattle.bl_plant_drive.specs.Roles.{IsCast, PlantRecord, Plays, Role, after_part, gone_at, gone_before}
 use Rattle.bl_plant_drive.specs.Roles.{gone_in, inputs_at, inputs_before, last_row, left_in, left_of, numbers_at}
@@ -15,7 +16,7 @@ use Rattle.bl_plant_drive.specs.declared.driven.Gone.{Gone}
 use Rattle.bl_plant.specs.declared.plant.Give.TheVariants as give
 use Rattle.bl_plant_drive.specs.declared.seat.Seat.{Seat}
 use Rattle.bl_plant_drive.specs.inner.Stands.{AskedSoFar, Scene, gone_from, over, seat_of, with_columns}
-use Rattle.bl_plant_drive.proofs.Casts.{Around, eq-same, playing, recast, split}
+use Rattle.bl_plant_drive.proofs.Casts.{Around, playing, recast, split}
 use Rattle.bl_plant_drive.proofs.Playing.{after-gave, all-snoc, dropped, gave, plays-finished, plays-gave, plays-over}
 
 -- ---- a list of roles in which one is another
@@ -60,7 +61,7 @@ gone-by k r b c e f =
     ∙ ap (λ (z : Bool). if b && z then record { name = record { number = r.plant.name }; rows = k } ∷ [] else []) f
 
 other-tick : (a k : ℕ) → k < a → nat_eq a k ≡ false
-other-tick a k low = split (nat_eq a k) (λ same. let e : a ≡ k = eq-same a k same in absurd (omega (arith, e, low))) (λ fails. fails)
+other-tick a k low = split (nat_eq a k) (λ same. let e : a ≡ k = same_number a k same in absurd (omega (arith, e, low))) (λ fails. fails)
 
 pub gone-later : (k : ℕ) (r : Role) (faults : ℕ) → k < length r.part.given → gone_in k (dropped r faults) ≡ []
 gone-later k r faults low = gone-by k (dropped r faults) true false refl (other-tick (length r.part.given) k low)
@@ -189,6 +190,6 @@ asked-over s done r rest plants seats gone over_now cast left seats_are earlier 
     (gone_is ∙ none-gone (done ++ r ∷ rest) (done ++ r ∷ rest) done n r refl
     (gone-by n r true false over_now
     (split (nat_eq (length r.part.given) n)
-    (λ same. let e : length r.part.given ≡ n = eq-same (length r.part.given) n same in absurd (omega (arith, e, earlier_tick)))
+    (λ same. let e : length r.part.given ≡ n = same_number (length r.part.given) n same in absurd (omega (arith, e, earlier_tick)))
     (λ fails. fails))))
     long

@@ -1,35 +1,14 @@
 -- Roles by their names, and what is left of a list.
-use Rattle.std.proofs.Common.{
-  ◌≡◌,
-  ℕ,
-  Bool,
-  true,
-  false,
-  ◌||◌,
-  cond,
-  List,
-  [],
-  ◌∷◌,
-  ◌++◌,
-  map,
-  Option,
-  Some,
-  None,
-  nat_eq,
-  refl,
-  ap,
-  sym,
-  subst,
-  ◌∙◌,
-  append_assoc,
-  if◌then◌else◌,
-}
+use Rattle.std.proofs.Common.{◌≡◌, ℕ, Bool, true, false, ◌||◌, cond, List, [], ◌∷◌, ◌++◌, map, Option, Some, None, nat_eq, refl, ap, sym, subst, ◌∙◌}
+use Rattle.std.proofs.Common.{append_assoc, if◌then◌else◌}
 use Rattle.std.specs.List.{AllByRecursion, IsDistinct, list_any}
-use Rattle.std.proofs.lemmas.Bool.{eqb-true, eq-eqb}
+use Rattle.std.proofs.lemmas.Bool.{eq-eqb}
 use Rattle.std.proofs.lemmas.List.Folds.{list_any-append}
+use Rattle.std.proofs.lemmas.Bool.{or_from}
+use Rattle.bl_tree.proofs.Basics.{number_itself, same_number, same_some}
 use Rattle.bl_plant.specs.Plants.{PlantView}
 use Rattle.bl_plant_drive.specs.Roles.{IsCast, PlantRecord, Role, after_part, first_named, left_by, left_in, left_of, role_of}
-use Rattle.bl_plant_drive.proofs.Lists.{same-some}
+use Rattle.bl_crun.proofs.Cells.{chosen-true}
 
 -- whether a test passes is known
 pub split : {P : Type 0} (b : Bool) → (b ≡ true → P) → (b ≡ false → P) → P
@@ -38,31 +17,11 @@ split false at_true at_false = at_false refl
 
 -- ---- names
 
-pub eq-refl : (n : ℕ) → nat_eq n n ≡ true
-eq-refl n = eq-eqb n n refl
-
-pub eq-same : (a b : ℕ) → nat_eq a b ≡ true → a ≡ b
-eq-same a b e = eqb-true a b e
-
 pub eq-flip : (a b : ℕ) → nat_eq a b ≡ false → nat_eq b a ≡ false
-eq-flip a b e = split (nat_eq b a) (λ t. t ∙ sym (eq-refl b) ∙ subst (λ n. nat_eq n b ≡ false) (sym (eq-same b a t)) e) (λ f. f)
-
-if-true : {A : Type 0} (b : Bool) (x y : A) → b ≡ true → (if b then x else y) ≡ x
-if-true b x y e = ap (λ (z : Bool). if z then x else y) e
+eq-flip a b e = split (nat_eq b a) (λ t. t ∙ sym (number_itself b) ∙ subst (λ n. nat_eq n b ≡ false) (sym (same_number b a t)) e) (λ f. f)
 
 if-false : {A : Type 0} (b : Bool) (x y : A) → b ≡ false → (if b then x else y) ≡ y
 if-false b x y e = ap (λ (z : Bool). if z then x else y) e
-
-pub or-false : (a b : Bool) → a ≡ false → b ≡ false → (a || b) ≡ false
-or-false a b ea eb = ap (λ z. z || b) ea ∙ eb
-
-pub or-left : (a b : Bool) → (a || b) ≡ false → a ≡ false
-or-left true b e = e
-or-left false b e = refl
-
-pub or-right : (a b : Bool) → (a || b) ≡ false → b ≡ false
-or-right true b e = cc
-or-right false b e = e
 
 -- ---- the role of a name
 
@@ -73,9 +32,9 @@ role-skip n (d ∷ done) r rest other = ap (λ z. if nat_eq d.plant.name n then 
 
 pub role-here : (n : ℕ) (done : List Role) (r : Role) (rest : List Role) → r.plant.name ≡ n → role_of n done ≡ None →
     role_of n (done ++ r ∷ rest) ≡ Some r
-role-here n [] r rest is none = if-true (nat_eq r.plant.name n) (Some r) (role_of n rest) (eq-eqb r.plant.name n is)
+role-here n [] r rest is none = chosen-true (nat_eq r.plant.name n) (Some r) (role_of n rest) (eq-eqb r.plant.name n is)
 role-here n (d ∷ done) r rest is none = split (nat_eq d.plant.name n)
-    (λ holds. let bad = sym none ∙ if-true (nat_eq d.plant.name n) (Some d) (role_of n done) holds in cc)
+    (λ holds. let bad = sym none ∙ chosen-true (nat_eq d.plant.name n) (Some d) (role_of n done) holds in cc)
     (λ fails.
     if-false (nat_eq d.plant.name n) (Some d) (role_of n (done ++ r ∷ rest)) fails
     ∙ role-here n done r rest is (sym (if-false (nat_eq d.plant.name n) (Some d) (role_of n done) fails) ∙ none))
@@ -83,8 +42,8 @@ role-here n (d ∷ done) r rest is none = split (nat_eq d.plant.name n)
 pub role-name : (n : ℕ) (cast : List Role) (r : Role) → role_of n cast ≡ Some r → r.plant.name ≡ n
 role-name n [] r e = cc
 role-name n (d ∷ cast) r e = split (nat_eq d.plant.name n)
-    (λ holds. let is = same-some d r (sym (if-true (nat_eq d.plant.name n) (Some d) (role_of n cast) holds) ∙ e) in
-    ap (λ (x : Role). x.plant.name) (sym is) ∙ eq-same d.plant.name n holds)
+    (λ holds. let is = same_some d r (sym (chosen-true (nat_eq d.plant.name n) (Some d) (role_of n cast) holds) ∙ e) in
+    ap (λ (x : Role). x.plant.name) (sym is) ∙ same_number d.plant.name n holds)
     (λ fails. role-name n cast r (sym (if-false (nat_eq d.plant.name n) (Some d) (role_of n cast) fails) ∙ e))
 
 all-seam : {A : Type 0} (P : ℕ → Type 0) (f : A → ℕ) (xs : List A) (y : A) (ys : List A) → AllByRecursion P (map f (xs ++ y ∷ ys)) → P (f y)
@@ -117,8 +76,8 @@ left-dropped done rest p part earlier (q ∷ ps) is =
     split (list_any (nat_eq q.name) earlier)
     (λ holds.
     ap (λ z. z ++ left_in (done ++ playing p part ∷ rest) (q.name ∷ earlier) ps)
-    (if-true (list_any (nat_eq q.name) earlier) (q ∷ []) (left_by (role_of q.name (done ++ playing p part ∷ rest)) q) holds
-    ∙ sym (if-true (list_any (nat_eq q.name) earlier) (q ∷ []) (left_by (role_of q.name (done ++ rest)) q) holds))
+    (chosen-true (list_any (nat_eq q.name) earlier) (q ∷ []) (left_by (role_of q.name (done ++ playing p part ∷ rest)) q) holds
+    ∙ sym (chosen-true (list_any (nat_eq q.name) earlier) (q ∷ []) (left_by (role_of q.name (done ++ rest)) q) holds))
     ∙ ap (λ z. (if list_any (nat_eq q.name) earlier then q ∷ [] else left_by (role_of q.name (done ++ rest)) q) ++ z) tail)
     (λ fails.
     ap (λ z. (if list_any (nat_eq q.name) earlier then q ∷ [] else left_by z q) ++ left_in (done ++ playing p part ∷ rest) (q.name ∷ earlier) ps)
@@ -131,7 +90,7 @@ left-dropped done rest p part earlier (q ∷ ps) is =
 
     differs : (a b : ℕ) (names : List ℕ) → list_any (nat_eq a) names ≡ true → list_any (nat_eq b) names ≡ false → nat_eq a b ≡ false
     differs a b names here apart = split (nat_eq a b)
-        (λ e. let bad = sym apart ∙ ap (λ n. list_any (nat_eq n) names) (sym (eq-same a b e)) ∙ here in cc) (λ f. f)
+        (λ e. let bad = sym apart ∙ ap (λ n. list_any (nat_eq n) names) (sym (same_number a b e)) ∙ here in cc) (λ f. f)
 
 -- the plants around a named one, whatever its part is
 pub record Around (done rest : List Role) (p : PlantView) (earlier : List ℕ) (ps : List PlantView) : Type 0 where
@@ -142,16 +101,16 @@ pub record Around (done rest : List Role) (p : PlantView) (earlier : List ℕ) (
 
 left-none : (n : ℕ) (o : Option Role) (q : PlantView) → nat_eq q.name n ≡ false → ((r : Role) → o ≡ Some r → r.plant.name ≡ q.name) →
     list_any (λ (x : PlantView). nat_eq x.name n) (left_by o q) ≡ false
-left-none n None q other named = or-false (nat_eq q.name n) false other refl
+left-none n None q other named = or_from (nat_eq q.name n) false other refl
 left-none n (Some r) q other named = left-none-by r.part.gone
   where
     left-none-by : (b : Bool) → list_any (λ (x : PlantView). nat_eq x.name n) (if b then [] else after_part r ∷ []) ≡ false
     left-none-by true = refl
-    left-none-by false = or-false (nat_eq r.plant.name n) false (ap (λ m. nat_eq m n) (named r refl) ∙ other) refl
+    left-none-by false = or_from (nat_eq r.plant.name n) false (ap (λ m. nat_eq m n) (named r refl) ∙ other) refl
 
 head-none : (n : ℕ) (b : Bool) (o : Option Role) (q : PlantView) → nat_eq q.name n ≡ false → ((r : Role) → o ≡ Some r → r.plant.name ≡ q.name) →
     list_any (λ (x : PlantView). nat_eq x.name n) (if b then q ∷ [] else left_by o q) ≡ false
-head-none n true o q other named = or-false (nat_eq q.name n) false other refl
+head-none n true o q other named = or_from (nat_eq q.name n) false other refl
 head-none n false o q other named = left-none n o q other named
 
 pub around : (done rest : List Role) (p : PlantView) (earlier : List ℕ) (ps : List PlantView) → role_of p.name done ≡ None →
@@ -162,7 +121,7 @@ around done rest p earlier [] none fresh found = absurd (no-some p found)
     no-some x e = cc
 around done rest p earlier (q ∷ ps) none fresh found = split (nat_eq q.name p.name)
     (λ holds.
-    let is-p : q ≡ p = same-some q p (sym (ap (λ z. cond z (Some q) (first_named p.name ps)) holds) ∙ found) in
+    let is-p : q ≡ p = same_some q p (sym (ap (λ z. cond z (Some q) (first_named p.name ps)) holds) ∙ found) in
     record {
       before = [];
       after = left_in (done ++ rest) (q.name ∷ earlier) ps;
@@ -182,14 +141,14 @@ around done rest p earlier (q ∷ ps) none fresh found = split (nat_eq q.name p.
     let found-later : first_named p.name ps ≡ Some p = sym (ap (λ z. cond z (Some q) (first_named p.name ps)) fails) ∙ found in
     let further =
     around done rest p (q.name ∷ earlier) ps none
-    (or-false (nat_eq p.name q.name) (list_any (nat_eq p.name) earlier) (eq-flip q.name p.name fails) fresh) found-later in
+    (or_from (nat_eq p.name q.name) (list_any (nat_eq p.name) earlier) (eq-flip q.name p.name fails) fresh) found-later in
     let head : List PlantView = if list_any (nat_eq q.name) earlier then q ∷ [] else left_by (role_of q.name (done ++ rest)) q in
     record {
       before = head ++ further.before;
       after = further.after;
       none =
           list_any-append (λ (x : PlantView). nat_eq x.name p.name) head further.before
-          ∙ or-false (list_any (λ (x : PlantView). nat_eq x.name p.name) head) (list_any (λ (x : PlantView). nat_eq x.name p.name) further.before)
+          ∙ or_from (list_any (λ (x : PlantView). nat_eq x.name p.name) head) (list_any (λ (x : PlantView). nat_eq x.name p.name) further.before)
           (head-none p.name (list_any (nat_eq q.name) earlier) (role_of q.name (done ++ rest)) q fails (role-name q.name (done ++ rest)))
           further.none;
       is = λ part.

@@ -7,6 +7,7 @@ use Rattle.std.specs.List.{AllByRecursion}
 use Rattle.std.proofs.Math.Seq.{take-append_seam}
 use Rattle.std.proofs.lemmas.Grind.{flat_map-append}
 use Rattle.std.proofs.lemmas.List.{append-nil, length-map}
+use Rattle.bl_tree.proofs.Basics.{same_number}
 use Rattle.bl_crun.specs.Running.{Running, answer_of, outputs_after, reply_at}
 use Rattle.bl_crun.specs.declared.tick.TickAnswer.{TickAnswer}
 use Rattle.bl_crun.specs.declared.tick.TickAnswer.TheVariants as tick
@@ -19,7 +20,7 @@ use Rattle.bl_plant_drive.specs.inner.Round.{seat_numbers}
 use Rattle.bl_plant_drive.specs.inner.Stands.{AskedSoFar, seat_of}
 use Rattle.bl_plant_drive.specs.inner.Ticks.{Goes, HasInputs, IsTickOfRunner, RunsOn, ToldSoFar, hearing_of, scene_of, with_tick, with_trap}
 use Rattle.bl_plant_drive.proofs.Asking.{gone-by, gone-not, last-snoc}
-use Rattle.bl_plant_drive.proofs.Casts.{eq-same, split}
+use Rattle.bl_plant_drive.proofs.Casts.{split}
 use Rattle.bl_plant_drive.proofs.Telling.{all-both, all-map, given-low, plays-same, take-front}
 use Rattle.bl_plant_drive.proofs.Traces.{fit-more, live-more, runner-more, trace-more, trace_with}
 use Rattle.bl_plant.specs.Plants.{PlantView}
@@ -43,7 +44,7 @@ numbers-at (r ∷ cast) outs told n plays =
 -- ---- plants that were dropped
 
 not-yet : (a n : ℕ) → a < n → nat_eq a n ≡ false
-not-yet a n low = split (nat_eq a n) (λ same. let e : a ≡ n = eq-same a n same in absurd (omega (arith, e, low))) (λ fails. fails)
+not-yet a n low = split (nat_eq a n) (λ same. let e : a ≡ n = same_number a n same in absurd (omega (arith, e, low))) (λ fails. fails)
 
 -- no plant was dropped in a tick in which it wasn't asked
 pub none-later : (outs told : List (List ℤ)) (n : ℕ) (rest : List Role) → AllByRecursion (Plays outs told n) rest → gone_at n rest ≡ []

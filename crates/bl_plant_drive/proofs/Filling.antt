@@ -2,7 +2,6 @@
 use Rattle.std.proofs.Common.{◌≡◌, ℕ, zero, suc, ◌+◌, ◌<◌, ◌≤◌, ℤ, List, [], ◌∷◌, ◌++◌, length, take, drop, set, get_or, Some}
 use Rattle.std.proofs.Common.{refl, ap, sym, ◌∙◌, append_assoc, arith, add-one, length-append, take-suc, take_all, drop-cons}
 use Rattle.std.specs.List.{slice_get}
-use Rattle.std.proofs.Math.ListN.{drop_of_length-le}
 use Rattle.std.proofs.Math.Seq.{drop-append-add, set-append_seam, take-append_seam}
 use Rattle.std.proofs.lemmas.List.{length-take-le}
 use Rattle.std.proofs.lemmas.Option.{get_or_from_slice_get}
@@ -122,15 +121,3 @@ filled-within k first seats row now seat low is at wide are =
     let same : length seat.columns ≡ length (get_or seats k seat).columns = ap (λ (x : Seat). length x.columns) is in
     let long = filled-long k seats row now seat low wide are in
     omega (arith, most, same, long, wide, at)
-
--- the row is filled
-pub filled-all : (k : ℕ) (seats : List Seat) (row now : List ℤ) → length seats ≤ k → length (seat_numbers seats) ≡ length row → now
-    ≡ filled k seats row →
-    now ≡ seat_numbers seats
-filled-all k seats row now past wide are =
-    are ∙ ap (λ z. seat_numbers z ++ drop (length (seat_numbers z)) row) (take_all k seats past)
-    ∙ ap (λ z. seat_numbers seats ++ z) (drop_of_length-le row (let w = wide in omega (arith, w))) ∙ append-none (seat_numbers seats)
-  where
-    append-none : (xs : List ℤ) → xs ++ [] ≡ xs
-    append-none [] = refl
-    append-none (x ∷ xs) = ap (λ z. x ∷ z) (append-none xs)

@@ -6,25 +6,24 @@ use Rattle.std.proofs.Math.Seq.{set-append_seam, take-append_seam}
 use Rattle.std.proofs.lemmas.Bool.{eq-eqb}
 use Rattle.std.proofs.lemmas.List.{length-map, length-set}
 use Rattle.std.specs.Result.{IsErrAnd}
+use Rattle.bl_tree.proofs.Basics.{get_seam, neither_first, neither_second, same_some}
 use Rattle.bl_plant.specs.Plants.{PlantView}
 use Rattle.bl_plant_drive.specs.declared.fault.DriveFault.{DriveFault}
 use Rattle.bl_plant_drive.specs.declared.fault.DriveFault.TheVariants as fault
 use Rattle.bl_plant_drive.specs.inner.Stands.{IsAround, IsThere}
-use Rattle.bl_plant_drive.proofs.Casts.{or-left, or-right}
-use Rattle.bl_plant_drive.proofs.Lists.{same-some}
 
 found : {A : Type 0} (t : A → Bool) (before : List A) (p : A) (after : List A) (i : ℕ) → list_any t before ≡ false → t p ≡ true →
     position_from t i (before ++ p ∷ after) ≡ Some (i + length before)
 found t [] p after i none passes = ap (λ b. cond b (Some i) (position_from t (i + 1) after)) passes ∙ ap Some (omega arith)
 found t (x ∷ before) p after i none passes =
-    ap (λ b. cond b (Some i) (position_from t (i + 1) (before ++ p ∷ after))) (or-left (t x) (list_any t before) none)
-    ∙ found t before p after (i + 1) (or-right (t x) (list_any t before) none) passes ∙ ap Some (omega arith)
+    ap (λ b. cond b (Some i) (position_from t (i + 1) (before ++ p ∷ after))) (neither_first (t x) (list_any t before) none)
+    ∙ found t before p after (i + 1) (neither_second (t x) (list_any t before) none) passes ∙ ap Some (omega arith)
 
 -- where the plant is found
 pub at-place : (plants : List PlantView) (n : ℕ) (before : List PlantView) (p : PlantView) (after : List PlantView) (at : ℕ) → IsAround plants n before p after →
     Some at ≡ position_from (λ (q : PlantView). nat_eq q.name n) 0 plants → at ≡ length before
 at-place plants n before p after at around is =
-    let e = same-some at (0 + length before)
+    let e = same_some at (0 + length before)
     (is ∙ ap (position_from (λ (q : PlantView). nat_eq q.name n) 0) around.list
     ∙ found (λ (q : PlantView). nat_eq q.name n) before p after 0 around.none (eq-eqb p.name n around.name)) in
     omega (arith, e)
@@ -51,13 +50,9 @@ place-within f xs n at there is =
     within : (more whole at before : ℕ) → at ≡ before → whole ≡ before + suc more → at < whole
     within more whole at before e long = omega (arith, e, long)
 
-get-seam : {A : Type 0} (before : List A) (p : A) (after : List A) → slice_get (before ++ p ∷ after) (length before) ≡ Some p
-get-seam [] p after = refl
-get-seam (x ∷ before) p after = get-seam before p after
-
 pub get-around : (plants : List PlantView) (n : ℕ) (before : List PlantView) (p : PlantView) (after : List PlantView) (at : ℕ) → IsAround plants n before p after →
     at ≡ length before → slice_get plants at ≡ Some p
-get-around plants n before p after at around is = ap (slice_get plants) is ∙ ap (λ z. slice_get z (length before)) around.list ∙ get-seam before p after
+get-around plants n before p after at around is = ap (slice_get plants) is ∙ ap (λ z. slice_get z (length before)) around.list ∙ get_seam before p after
 
 pub set-around : (plants now : List PlantView) (n : ℕ) (before : List PlantView) (p q : PlantView) (after : List PlantView) (at : ℕ) →
     IsAround plants n before p after → at ≡ length before → now ≡ set plants at q → now ≡ before ++ q ∷ after

@@ -3,12 +3,12 @@ use Rattle.std.proofs.Common.{◌≡◌, ℕ, suc, ◌+◌, ◌<◌, ◌≤◌, 
 use Rattle.std.proofs.Common.{drop, ap, sym, subst, ◌∙◌, add-one, length-append}
 use Rattle.std.proofs.lemmas.List.Folds.{length-flat_map-take}
 use Rattle.std.proofs.lemmas.Option.{slice_get-get_or}
+use Rattle.bl_tree.proofs.Basics.{same_some}
 use Rattle.bl_plant.specs.Plants.{PlantView}
 use Rattle.bl_plant_drive.specs.declared.driven.Gone.{Gone}
 use Rattle.bl_plant_drive.specs.declared.seat.Seat.{Seat}
 use Rattle.bl_plant_drive.specs.inner.Round.{FrontFits, seat_numbers}
 use Rattle.bl_plant_drive.specs.inner.Stands.{AskedSoFar, Scene}
-use Rattle.bl_plant_drive.proofs.Lists.{same-some}
 use Rattle.bl_plant_drive.proofs.Ranges.{front-kept, front-more, numbers-more}
 use Rattle.bl_tree.specs.declared.row.Column.{Column}
 use Rattle.bl_tree.specs.Ports.{in_ranges, types_of}
@@ -43,7 +43,7 @@ round-within inputs k first seats now seat same at low is wide =
 pub same-seat : (seats : List Seat) (k : ℕ) (seat again : Seat) → k < length seats → seat ≡ get_or seats k seat → again ≡ get_or seats k again →
     again ≡ seat
 same-seat seats k seat again low is is_too =
-    same-some again seat (ap Some is_too ∙ sym (slice_get-get_or seats k again low) ∙ slice_get-get_or seats k seat low ∙ ap Some (sym is))
+    same_some again seat (ap Some is_too ∙ sym (slice_get-get_or seats k again low) ∙ slice_get-get_or seats k seat low ∙ ap Some (sym is))
 
 -- so many plants and one more were asked
 pub one-more : (s : Scene) (k : ℕ) (plants : List PlantView) (seats : List Seat) (gone : List Gone) → AskedSoFar s (suc k) plants seats gone →

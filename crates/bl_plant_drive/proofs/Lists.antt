@@ -1,22 +1,19 @@
 -- Lists and what is seen of their elements.
 use Rattle.std.proofs.Common.{◌≡◌, ℕ, suc, ◌+◌, ◌<◌, ◌≤◌, Bool, true, false, cond, List, ◌∷◌, ◌++◌, length, map}
-use Rattle.std.proofs.Common.{get_or, set, take, drop, refl, ap, sym, subst, ◌∙◌, Option, Some, None, option_map, add-one, drop-cons}
+use Rattle.std.proofs.Common.{get_or, set, take, drop, refl, ap, sym, subst, ◌∙◌, Option, Some, option_map, add-one, drop-cons}
 use Rattle.std.specs.List.{slice_get, position_from, remove, drop-map, take-map}
 use Rattle.std.proofs.lemmas.List.{map-set, map-append}
 use Rattle.std.proofs.lemmas.Option.{slice_get-get_or, slice_get-map, slice_get_read}
-use Rattle.std.proofs.Math.ListN.{drop_of_length-le}
+use Rattle.bl_tree.proofs.Basics.{same_some}
 
 -- what is seen of the element at a place
 pub seen-at : {A B : Type 0} (f : A → B) (xs : List A) (i : ℕ) (x : A) → i < length xs → x ≡ get_or xs i x → slice_get (map f xs) i ≡ Some (f x)
 seen-at f xs i x within is = slice_get-map f xs i ∙ ap (option_map f) (slice_get_read xs (length xs) i x refl within is)
 
-pub same-some : {A : Type 0} (x y : A) → Some x ≡ Some y → x ≡ y
-same-some x y e = cc
-
 -- and it is the one that is known
 pub seen-is : {A B : Type 0} (f : A → B) (xs : List A) (i : ℕ) (x : A) (p : B) → i < length xs → x ≡ get_or xs i x →
     slice_get (map f xs) i ≡ Some p → f x ≡ p
-seen-is f xs i x p within is e = same-some (f x) p (sym (seen-at f xs i x within is) ∙ e)
+seen-is f xs i x p within is e = same_some (f x) p (sym (seen-at f xs i x within is) ∙ e)
 
 -- an element changes, and so does what is seen of it
 pub changed-at : {A B : Type 0} (R : B → B → Type 0) (f : A → B) (xs : List A) (i : ℕ) (x y : A) (p : B) → i < length xs → x ≡ get_or xs i x →
@@ -54,14 +51,10 @@ pub place-later : {A B : Type 0} (t : B → Bool) (f : A → B) (xs : List A) (k
 place-later t f xs k x whole low is at fails =
     sym (from-next t k false (f x) (drop (k + 1) (map f xs)) fails) ∙ sym (ap (position_from t k) (next f xs k x low is)) ∙ at
 
-pub place-none : {A B : Type 0} (t : B → Bool) (f : A → B) (xs : List A) (k : ℕ) (whole : Option ℕ) → length xs ≤ k →
-    position_from t k (drop k (map f xs)) ≡ whole → None ≡ whole
-place-none t f xs k whole past at = sym (ap (position_from t k) (drop-map f k xs ∙ ap (map f) (drop_of_length-le xs past))) ∙ at
-
 -- ---- an element that is read
 
 pub read-same : {A : Type 0} (xs : List A) (k : ℕ) (d e : A) → k < length xs → get_or xs k d ≡ get_or xs k e
-read-same xs k d e low = same-some (get_or xs k d) (get_or xs k e) (sym (slice_get-get_or xs k d low) ∙ slice_get-get_or xs k e low)
+read-same xs k d e low = same_some (get_or xs k d) (get_or xs k e) (sym (slice_get-get_or xs k d low) ∙ slice_get-get_or xs k e low)
 
 pub read-again : {A : Type 0} (xs : List A) (k : ℕ) (d : A) → k < length xs → get_or xs k d ≡ get_or xs k (get_or xs k d)
 read-again xs k d low = read-same xs k d (get_or xs k d) low

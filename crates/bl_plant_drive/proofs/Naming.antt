@@ -9,20 +9,21 @@ use Rattle.std.proofs.lemmas.Option.{get_or_from_slice_get}
 use Rattle.std.proofs.lemmas.List.{length-map, take-append-drop}
 use Rattle.std.proofs.Math.Nat.{min-eq_left, min-eq_right}
 use Rattle.std.proofs.lemmas.Bool.{cases_lt}
+use Rattle.bl_tree.proofs.Basics.{neither_first, neither_second, some_within}
 use Rattle.bl_ctext_semantics.specs.Saturated.{saturated}
 use Rattle.bl_plant_drive.specs.Drives.{AreThere, widths_of, plant_width}
 use Rattle.bl_plant_drive.specs.Roles.{first_named}
 use Rattle.bl_plant_drive.specs.declared.fault.DriveFault.{DriveFault}
 use Rattle.bl_plant_drive.specs.declared.fault.DriveFault.TheVariants as fault
 use Rattle.bl_plant_drive.specs.inner.Names.{AreDistinct, AreMeant, AreNamed, HasAbsent, HasTwice}
-use Rattle.bl_plant_drive.proofs.Casts.{eq-flip, or-left, or-right, split}
+use Rattle.bl_plant_drive.proofs.Casts.{eq-flip, split}
 use Rattle.bl_plant_drive.proofs.Lists.{seen-at}
 use Rattle.bl_plant_drive.proofs.Playing.{all-snoc}
 use Rattle.bl_plant.specs.Plants.{PlantView}
 
 -- ---- where a plant is found
 
--- the element that passes, where it is known where it stands
+-- the some_within that passes, where it is known where it stands
 pub found-at : {A : Type 0} (t : A → Bool) (xs : List A) (i at : ℕ) → position_from t i xs ≡ Some at →
     (j : ℕ) × ((at ≡ i + j) × ((j < length xs) × (find t xs ≡ slice_get xs j)))
 found-at t [] i at e = cc
@@ -59,16 +60,11 @@ pub named-none : (plants : List PlantView) (name : ℕ) → None ≡ position_fr
     first_named name plants ≡ None
 named-none plants name e = found-none (λ (p : PlantView). nat_eq p.name name) plants 0 (sym e)
 
-element : {A : Type 0} (xs : List A) (k : ℕ) → k < length xs → (x : A) × (slice_get xs k ≡ Some x)
-element [] k low = let l : k < 0 = low in absurd (omega (arith, l))
-element (x ∷ xs) zero low = (x, refl)
-element (x ∷ xs) (suc k) low = let l : suc k < suc (length xs) = low in element xs k (omega (arith, l))
-
 pub named-some : (plants : List PlantView) (name at : ℕ) → Some at ≡ position_from (λ (p : PlantView). nat_eq p.name name) 0 plants →
     is_some (first_named name plants) ≡ true
 named-some plants name at e =
     let n = named-at plants name at e in
-    let x = element plants at n.0 in
+    let x = some_within plants at n.0 in
     ap is_some (n.1 ∙ x.1)
 
 -- the width of what is there
@@ -76,7 +72,7 @@ pub named-width : (plants : List PlantView) (name at width : ℕ) → Some at �
     ((p : PlantView) → slice_get plants at ≡ Some p → width ≡ p.width) → width ≡ plant_width (first_named name plants)
 named-width plants name at width e told =
     let n = named-at plants name at e in
-    let x = element plants at n.0 in
+    let x = some_within plants at n.0 in
     told x.0 x.1 ∙ sym (ap plant_width (n.1 ∙ x.1))
 
 -- it is within the list
@@ -152,8 +148,8 @@ distinct-snoc : (names : List ℕ) (n : ℕ) → IsDistinct nat_eq names → lis
 unfolding IsDistinct
 distinct-snoc [] n apart none = (tt, tt)
 distinct-snoc (m ∷ names) n apart none = (
-  all-snoc (λ y. nat_eq m y ≡ false) names n apart.0 (eq-flip n m (or-left (nat_eq n m) (list_any (nat_eq n) names) none)),
-  distinct-snoc names n apart.1 (or-right (nat_eq n m) (list_any (nat_eq n) names) none),
+  all-snoc (λ y. nat_eq m y ≡ false) names n apart.0 (eq-flip n m (neither_first (nat_eq n m) (list_any (nat_eq n) names) none)),
+  distinct-snoc names n apart.1 (neither_second (nat_eq n m) (list_any (nat_eq n) names) none),
 )
 
 distinct-none : IsDistinct nat_eq []
@@ -247,18 +243,3 @@ widths-more f plants xs k x sum width low is so_far own =
 pub widths-all : {A : Type 0} (f : A → ℕ) (plants : List PlantView) (xs : List A) (k sum : ℕ) → length xs ≤ k →
     sum ≡ saturated (widths_of plants (take k (map f xs))) → sum ≡ saturated (widths_of plants (map f xs))
 widths-all f plants xs k sum past so_far = so_far ∙ ap (λ z. saturated (widths_of plants z)) (all-names f xs k past)
-
--- a width below 2 to the 32 isn't told saturated
-told-by : (wanted whole most : ℕ) → wanted < most → wanted ≡ min whole most → (whole ≤ most) ⊎ (most ≤ whole) → whole ≡ wanted
-told-by wanted whole most low told (inl fits) = sym (told ∙ min-eq_left fits)
-told-by wanted whole most low told (inr past) = let is : wanted ≡ most = told ∙ min-eq_right past in absurd (omega (arith, low, is))
-
-below : (wanted : ℕ) → wanted < 2 ^ 32 → wanted < 2 ^ 64 - 1
-below wanted low = omega (arith, low)
-
-pub same-width : (given wanted whole : ℕ) → wanted < 2 ^ 32 → given ≡ saturated whole → given ≡ wanted → whole ≡ wanted
-same-width given wanted whole low told same = told-by wanted whole (2 ^ 64 - 1) (below wanted low) (sym same ∙ told) (either-way whole (2 ^ 64 - 1))
-
-pub other-width : (given wanted whole : ℕ) → wanted < 2 ^ 32 → given ≡ saturated whole → (given ≡ wanted → ⊥) → whole ≡ wanted → ⊥
-other-width given wanted whole low told differ same =
-    differ (told ∙ ap saturated same ∙ min-eq_left (let l = below wanted low in let le : wanted ≤ 2 ^ 64 - 1 = omega (arith, l) in le))

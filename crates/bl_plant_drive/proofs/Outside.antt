@@ -6,6 +6,7 @@ use Rattle.std.specs.List.{AllByRecursion, flat_map, list_all, slice_get}
 use Rattle.std.proofs.lemmas.Grind.{flat_map-append}
 use Rattle.std.proofs.lemmas.List.{length-replicate}
 use Rattle.std.proofs.lemmas.List.Folds.{list_all-append}
+use Rattle.bl_tree.proofs.Basics.{and_first, and_second, same_some}
 use Rattle.bl_plant_drive.specs.Drives.{IsFirstOutside}
 use Rattle.bl_plant_drive.specs.Roles.{IsGone, Plays, Role, inputs_at, inputs_before, last_row, numbers_at}
 use Rattle.bl_tree.specs.Ports.{RowsFit, in_ranges, row_fits, types_of}
@@ -15,17 +16,6 @@ use Rattle.bl_tree.specs.declared.scalar.Scalar.{Scalar}
 use Rattle.bl_tree.specs.declared.scalar.Scalar.TheVariants as scalar
 use Rattle.bl_tree.specs.declared.scalar.Width.TheVariants as width
 
-some-is : {A : Type 0} (a b : A) → Some a ≡ Some b → a ≡ b
-some-is a b e = cc
-
-and-left : (a b : Bool) → (a && b) ≡ true → a ≡ true
-and-left true b e = refl
-and-left false b e = e
-
-and-right : (a b : Bool) → (a && b) ≡ true → b ≡ true
-and-right true b e = e
-and-right false b e = cc
-
 -- ---- ranges
 
 range-at : (columns : List Column) (numbers : List ℤ) (k : ℕ) (c : Column) (n : ℤ) → in_ranges (types_of columns) numbers ≡ true →
@@ -33,10 +23,10 @@ range-at : (columns : List Column) (numbers : List ℤ) (k : ℕ) (c : Column) (
 range-at [] numbers k c n fit column number = cc
 range-at (d ∷ columns) [] k c n fit column number = cc
 range-at (d ∷ columns) (m ∷ numbers) zero c n fit column number =
-    sym (ap (λ (x : Column). in_range x.ty m) (some-is d c column) ∙ ap (in_range c.ty) (some-is m n number))
-    ∙ and-left (in_range d.ty m) (in_ranges (types_of columns) numbers) fit
+    sym (ap (λ (x : Column). in_range x.ty m) (same_some d c column) ∙ ap (in_range c.ty) (same_some m n number))
+    ∙ and_first (in_range d.ty m) (in_ranges (types_of columns) numbers) fit
 range-at (d ∷ columns) (m ∷ numbers) (suc k) c n fit column number =
-    range-at columns numbers k c n (and-right (in_range d.ty m) (in_ranges (types_of columns) numbers) fit) column number
+    range-at columns numbers k c n (and_second (in_range d.ty m) (in_ranges (types_of columns) numbers) fit) column number
 
 zero-fits : (s : Scalar) → in_range s (pos 0) ≡ true
 zero-fits scalar.Bool = refl
@@ -55,7 +45,7 @@ zero-fits (scalar.Bits width.W64) = refl
 
 zeros-at : (n k : ℕ) (x : ℤ) → slice_get (replicate n (pos 0)) k ≡ Some x → x ≡ pos 0
 zeros-at zero k x e = cc
-zeros-at (suc n) zero x e = sym (some-is (pos 0) x e)
+zeros-at (suc n) zero x e = sym (same_some (pos 0) x e)
 zeros-at (suc n) (suc k) x e = zeros-at n k x e
 
 behind-front : (front : List ℤ) (rest more : List ℤ) (k : ℕ) (x : ℤ) → slice_get rest k ≡ Some x →
@@ -72,7 +62,7 @@ behind-front (f ∷ front) rest more k x e =
 
 -- ---- widths
 
-last-wide : (w : ℕ) (first : List ℤ) (rows : List (List ℤ)) → length first ≡ w → AllByRecursion (λ row. length row ≡ w) rows →
+pub last-wide : (w : ℕ) (first : List ℤ) (rows : List (List ℤ)) → length first ≡ w → AllByRecursion (λ row. length row ≡ w) rows →
     length (last_row first rows) ≡ w
 last-wide w first [] is all = is
 last-wide w first (row ∷ rows) is all = last-wide w row rows all.0 all.1
@@ -127,8 +117,8 @@ none-outside columns ins outs asked role others column number (suc m) long fit a
     let cast : List Role = (asked ++ role ∷ []) ++ others in
     let rows : ins ≡ inputs_before cast m ++ inputs_at m cast ∷ [] = are ∙ ap (inputs_before cast) (sym long) in
     let last-fits : row_fits columns (inputs_at m cast) ≡ true =
-    and-left (row_fits columns (inputs_at m cast)) true
-    (and-right (list_all (row_fits columns) (inputs_before cast m)) (list_all (row_fits columns) (inputs_at m cast ∷ []))
+    and_first (row_fits columns (inputs_at m cast)) true
+    (and_second (list_all (row_fits columns) (inputs_before cast m)) (list_all (row_fits columns) (inputs_at m cast ∷ []))
     (sym (list_all-append (row_fits columns) (inputs_before cast m) (inputs_at m cast ∷ [])) ∙ ap (list_all (row_fits columns)) (sym rows) ∙ fit)) in
     let split : inputs_at m cast ≡ inputs_at m asked ++ (numbers_at m role ++ inputs_at m others) =
     ap (flat_map (numbers_at m)) (append_assoc asked (role ∷ []) others) ∙ flat_map-append (numbers_at m) asked (role ∷ others) in

@@ -4,12 +4,12 @@ use Rattle.std.proofs.Common.{take, Option, Some, None, IfSome, inl, inr, refl, 
 use Rattle.std.specs.List.{AllByRecursion, slice_get}
 use Rattle.std.proofs.lemmas.List.{take-append-le}
 use Rattle.std.proofs.Math.Seq.{take-append_seam, take-length}
+use Rattle.bl_tree.proofs.Basics.{same_some}
 use Rattle.bl_plant.specs.Plants.{Gives, IsSame, PlantView, with_given}
 use Rattle.bl_plant_drive.specs.Roles.{IsGone, IsThere, Plays, Role, after_part, log_at}
 use Rattle.bl_plant.specs.declared.log.Log.{Log}
 use Rattle.bl_plant.specs.declared.plant.Give.TheVariants as give
 use Rattle.bl_plant_drive.proofs.Casts.{playing}
-use Rattle.bl_plant_drive.proofs.Lists.{same-some}
 
 -- ---- parts after an answer
 
@@ -56,7 +56,7 @@ after-counted r q same is = same-shown (after_part r) q (after_part r).log same 
 
 pub snoc-get : {A : Type 0} (xs : List A) (y x : A) (k : ℕ) → slice_get (xs ++ y ∷ []) k ≡ Some x →
     ((k < length xs) × (slice_get xs k ≡ Some x)) ⊎ ((k ≡ length xs) × (y ≡ x))
-snoc-get [] y x zero e = inr (refl, same-some y x e)
+snoc-get [] y x zero e = inr (refl, same_some y x e)
 snoc-get [] y x (suc k) e = absurd (no-some x e)
   where
     no-some : {A : Type 0} (x : A) → None ≡ Some x → ⊥

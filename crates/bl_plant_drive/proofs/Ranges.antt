@@ -1,12 +1,14 @@
 -- Numbers in the ranges of their inputs, and how many numbers the seats have.
-use Rattle.std.proofs.Common.{◌≡◌, ℕ, zero, suc, ◌+◌, ◌<◌, ◌≤◌, ℤ, pos, Bool, true, false, ◌&&◌, List, [], ◌∷◌, ◌++◌}
-use Rattle.std.proofs.Common.{length, map, get_or, take, drop, replicate, Some, refl, ap, sym, ◌∙◌, arith, length-append, take-suc, take_all}
+use Rattle.std.proofs.Common.{◌≡◌, ℕ, zero, suc, ◌+◌, ◌<◌, ◌≤◌, ℤ, pos, true, ◌&&◌, List, [], ◌∷◌, ◌++◌}
+use Rattle.std.proofs.Common.{length, map, get_or, take, drop, replicate, Some, refl, ap, sym, ◌∙◌, arith, length-append, take-suc}
 use Rattle.std.specs.List.{AllByRecursion, slice_get}
 use Rattle.std.proofs.lemmas.Grind.{flat_map-append}
 use Rattle.std.proofs.lemmas.List.{append-nil, length-replicate}
+use Rattle.std.proofs.lemmas.Bool.{and_from}
+use Rattle.bl_tree.proofs.Basics.{and_first, and_second, same_some}
 use Rattle.bl_plant.specs.Plants.{PlantView}
 use Rattle.bl_plant_drive.specs.Drives.{plant_width, widths_of}
-use Rattle.bl_plant_drive.specs.Roles.{Plays, Role, first_named, last_row}
+use Rattle.bl_plant_drive.specs.Roles.{Plays, Role, first_named}
 use Rattle.bl_plant_drive.specs.declared.driven.Gone.{Gone}
 use Rattle.bl_plant_drive.specs.declared.seat.Seat.{Seat}
 use Rattle.bl_plant_drive.specs.inner.Round.{FrontFits, seat_numbers}
@@ -14,20 +16,7 @@ use Rattle.bl_plant_drive.specs.inner.Stands.{AskedSoFar, Scene, seat_of}
 use Rattle.bl_tree.specs.declared.row.Column.{Column}
 use Rattle.bl_tree.specs.Ports.{in_ranges, types_of}
 use Rattle.bl_tree.specs.Scalar.{in_range}
-
-some-is : {A : Type 0} (a b : A) → Some a ≡ Some b → a ≡ b
-some-is a b e = cc
-
-and-left : (a b : Bool) → (a && b) ≡ true → a ≡ true
-and-left true b e = refl
-and-left false b e = e
-
-and-right : (a b : Bool) → (a && b) ≡ true → b ≡ true
-and-right true b e = e
-and-right false b e = cc
-
-and-both : (a b : Bool) → a ≡ true → b ≡ true → (a && b) ≡ true
-and-both a b ea eb = ap (λ z. z && b) ea ∙ eb
+use Rattle.bl_plant_drive.proofs.Outside.{last-wide}
 
 -- one more number is in its range
 pub ranges-more : (k : ℕ) (inputs : List Column) (numbers : List ℤ) (c : Column) (n : ℤ) → slice_get inputs k ≡ Some c →
@@ -36,13 +25,13 @@ pub ranges-more : (k : ℕ) (inputs : List Column) (numbers : List ℤ) (c : Col
 ranges-more k [] numbers c n input number holds before = cc
 ranges-more k (d ∷ inputs) [] c n input number holds before = cc
 ranges-more zero (d ∷ inputs) (m ∷ numbers) c n input number holds before =
-    and-both (in_range d.ty m) true
-    (ap (λ (x : Column). in_range x.ty m) (some-is d c input) ∙ ap (in_range c.ty) (some-is m n number) ∙ holds) refl
+    and_from (in_range d.ty m) true
+    (ap (λ (x : Column). in_range x.ty m) (same_some d c input) ∙ ap (in_range c.ty) (same_some m n number) ∙ holds) refl
 ranges-more (suc k) (d ∷ inputs) (m ∷ numbers) c n input number holds before =
-    and-both (in_range d.ty m) (in_ranges (types_of (take (suc k) inputs)) (take (suc k) numbers))
-    (and-left (in_range d.ty m) (in_ranges (types_of (take k inputs)) (take k numbers)) before)
+    and_from (in_range d.ty m) (in_ranges (types_of (take (suc k) inputs)) (take (suc k) numbers))
+    (and_first (in_range d.ty m) (in_ranges (types_of (take k inputs)) (take k numbers)) before)
     (ranges-more k inputs numbers c n input number holds
-    (and-right (in_range d.ty m) (in_ranges (types_of (take k inputs)) (take k numbers)) before))
+    (and_second (in_range d.ty m) (in_ranges (types_of (take k inputs)) (take k numbers)) before))
 
 pub get-drop : {A : Type 0} (first k : ℕ) (xs : List A) → slice_get (drop first xs) k ≡ slice_get xs (first + k)
 get-drop zero k xs = ap (slice_get xs) (omega arith)
@@ -58,9 +47,9 @@ ranges-both [] (x ∷ xs) ys b first then = cc
 ranges-both (c ∷ inputs) (x ∷ xs) ys b first then =
     let e : suc (length xs) + b ≡ suc (length xs + b) = omega arith in
     ap (λ n. in_ranges (types_of (take n (c ∷ inputs))) (x ∷ (xs ++ ys))) e
-    ∙ and-both (in_range c.ty x) (in_ranges (types_of (take (length xs + b) inputs)) (xs ++ ys))
-    (and-left (in_range c.ty x) (in_ranges (types_of (take (length xs) inputs)) xs) first)
-    (ranges-both inputs xs ys b (and-right (in_range c.ty x) (in_ranges (types_of (take (length xs) inputs)) xs) first) then)
+    ∙ and_from (in_range c.ty x) (in_ranges (types_of (take (length xs + b) inputs)) (xs ++ ys))
+    (and_first (in_range c.ty x) (in_ranges (types_of (take (length xs) inputs)) xs) first)
+    (ranges-both inputs xs ys b (and_second (in_range c.ty x) (in_ranges (types_of (take (length xs) inputs)) xs) first) then)
 
 -- ---- the numbers of seats
 
@@ -87,24 +76,10 @@ pub front-kept : (inputs : List Column) (k : ℕ) (seats now : List Seat) → ta
     FrontFits inputs k now
 front-kept inputs k seats now same fit = ap (λ z. in_ranges (types_of (take (length (seat_numbers z)) inputs)) (seat_numbers z)) same ∙ fit
 
--- all seats' numbers are
-pub front-all : (inputs : List Column) (k : ℕ) (seats : List Seat) → length seats ≤ k → length (seat_numbers seats) ≡ length inputs →
-    FrontFits inputs k seats → in_ranges (types_of inputs) (seat_numbers seats) ≡ true
-front-all inputs k seats past wide fit =
-    let all : take k seats ≡ seats = take_all k seats past in
-    let whole : take (length (seat_numbers seats)) inputs ≡ inputs = take_all (length (seat_numbers seats)) inputs (omega (arith, wide)) in
-    sym (ap (λ z. in_ranges (types_of z) (seat_numbers seats)) whole)
-    ∙ sym (ap (λ z. in_ranges (types_of (take (length (seat_numbers z)) inputs)) (seat_numbers z)) all) ∙ fit
-
 -- ---- how many numbers seats have
 
 abbrev IsWide : Role → Type 0
 IsWide r = AllByRecursion (λ row. length row ≡ r.plant.width) r.part.given
-
-last-wide : (w : ℕ) (first : List ℤ) (rows : List (List ℤ)) → length first ≡ w → AllByRecursion (λ row. length row ≡ w) rows →
-    length (last_row first rows) ≡ w
-last-wide w first [] is all = is
-last-wide w first (row ∷ rows) is all = last-wide w row rows all.0 all.1
 
 all-wide : (outs told : List (List ℤ)) (a b : ℕ) (done rest : List Role) → AllByRecursion (Plays outs told a) done →
     AllByRecursion (Plays outs told b) rest → AllByRecursion IsWide (done ++ rest)

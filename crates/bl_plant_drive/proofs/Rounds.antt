@@ -61,7 +61,7 @@ pub next : (s : Scene) (k : ℕ) (plants : List PlantView) (seats : List Seat) (
 next s k plants seats gone st low =
     next-by s k plants seats gone st.done st.rest st.asked st.cast st.left st.seats_are st.earlier st.later st.ins st.gone st.long low
 
-get-mid : (done : List Role) (r : Role) (rest : List Role) → slice_get (map seat_of (done ++ r ∷ rest)) (length done) ≡ Some (seat_of r)
+pub get-mid : (done : List Role) (r : Role) (rest : List Role) → slice_get (map seat_of (done ++ r ∷ rest)) (length done) ≡ Some (seat_of r)
 get-mid [] r rest = refl
 get-mid (d ∷ done) r rest = get-mid done r rest
 

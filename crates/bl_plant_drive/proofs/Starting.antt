@@ -6,13 +6,14 @@ use Rattle.std.proofs.Common.{append_assoc, le_refl}
 use Rattle.std.specs.List.{AllByRecursion, IsDistinct, find, list_any, slice_get}
 use Rattle.std.proofs.lemmas.List.{append-nil, map-append}
 use Rattle.std.proofs.lemmas.List.Folds.{list_any-append}
+use Rattle.std.proofs.lemmas.Bool.{or_from}
+use Rattle.bl_tree.proofs.Basics.{neither_first, neither_second, number_itself, same_number, same_some}
 use Rattle.bl_plant_drive.specs.Roles.{IsCast, Plays, Role, after_part, first_named, left_by, left_in, left_of, log_at, role_of}
 use Rattle.bl_plant_drive.specs.declared.seat.Seat.{Seat}
 use Rattle.bl_plant_drive.specs.Drives.{AreThere, plant_width}
 use Rattle.bl_plant_drive.specs.inner.Stands.{AskedSoFar, Scene, seat_of}
 use Rattle.bl_plant_drive.specs.inner.Ticks.{new_seat}
-use Rattle.bl_plant_drive.proofs.Casts.{eq-flip, eq-refl, eq-same, or-false, or-left, or-right, split}
-use Rattle.bl_plant_drive.proofs.Lists.{same-some}
+use Rattle.bl_plant_drive.proofs.Casts.{eq-flip, split}
 use Rattle.bl_plant_drive.proofs.Naming.{all-names, next-name}
 use Rattle.bl_plant.specs.Plants.{PlantView}
 use Rattle.bl_plant.specs.declared.log.Log.{Log}
@@ -34,11 +35,11 @@ new_cast plants (name ∷ names) = new_by (first_named name plants) ++ new_cast 
 found-passes : {A : Type 0} (t : A → Bool) (xs : List A) (x : A) → find t xs ≡ Some x → t x ≡ true
 found-passes t [] x e = cc
 found-passes t (y ∷ xs) x e = split (t y)
-    (λ passes. ap t (sym (same-some y x (sym (ap (λ b. cond b (Some y) (find t xs)) passes) ∙ e))) ∙ passes)
+    (λ passes. ap t (sym (same_some y x (sym (ap (λ b. cond b (Some y) (find t xs)) passes) ∙ e))) ∙ passes)
     (λ fails. found-passes t xs x (sym (ap (λ b. cond b (Some y) (find t xs)) fails) ∙ e))
 
 named-is : (name : ℕ) (plants : List PlantView) (p : PlantView) → first_named name plants ≡ Some p → p.name ≡ name
-named-is name plants p e = eq-same p.name name (found-passes (λ (q : PlantView). nat_eq q.name name) plants p e)
+named-is name plants p e = same_number p.name name (found-passes (λ (q : PlantView). nat_eq q.name name) plants p e)
 
 -- a plant that a name means, or there is none
 data Means (name : ℕ) (plants : List PlantView) : Type 0 where
@@ -129,8 +130,8 @@ role-holds : (P : Role → Type 0) (n : ℕ) (cast : List Role) (r : Role) → A
 role-holds P n [] r all e = cc
 role-holds P n (d ∷ cast) r all e = split (nat_eq d.plant.name n)
     (λ holds.
-    let is : d ≡ r = same-some d r (sym (ap (λ (b : Bool). if b then Some d else role_of n cast) holds) ∙ e) in
-    (subst P is all.0, ap (λ (x : Role). x.plant.name) (sym is) ∙ eq-same d.plant.name n holds))
+    let is : d ≡ r = same_some d r (sym (ap (λ (b : Bool). if b then Some d else role_of n cast) holds) ∙ e) in
+    (subst P is all.0, ap (λ (x : Role). x.plant.name) (sym is) ∙ same_number d.plant.name n holds))
     (λ fails. role-holds P n cast r all.1 (sym (ap (λ (b : Bool). if b then Some d else role_of n cast) fails) ∙ e))
 
 -- a role of a plant that did nothing yet
@@ -150,8 +151,8 @@ find-behind : (t : PlantView → Bool) (before : List PlantView) (p : PlantView)
     find t (before ++ p ∷ after) ≡ Some p
 find-behind t [] p after none passes = ap (λ b. cond b (Some p) (find t after)) passes
 find-behind t (x ∷ before) p after none passes =
-    ap (λ b. cond b (Some x) (find t (before ++ p ∷ after))) (or-left (t x) (list_any t before) none)
-    ∙ find-behind t before p after (or-right (t x) (list_any t before) none) passes
+    ap (λ b. cond b (Some x) (find t (before ++ p ∷ after))) (neither_first (t x) (list_any t before) none)
+    ∙ find-behind t before p after (neither_second (t x) (list_any t before) none) passes
 
 left-one : (plants : List PlantView) (cast : List Role) (before after : List PlantView) (p : PlantView) → AllByRecursion (IsNew plants) cast →
     plants ≡ before ++ p ∷ after → list_any (λ (q : PlantView). nat_eq q.name p.name) before ≡ false → (o : Option Role) → role_of p.name cast
@@ -161,9 +162,9 @@ left-one plants cast before after p all are none None is = refl
 left-one plants cast before after p all are none (Some r) is =
     let holds = role-holds (IsNew plants) p.name cast r all is in
     let found : first_named p.name plants ≡ Some p =
-    ap (first_named p.name) are ∙ find-behind (λ (q : PlantView). nat_eq q.name p.name) before p after none (eq-refl p.name) in
+    ap (first_named p.name) are ∙ find-behind (λ (q : PlantView). nat_eq q.name p.name) before p after none (number_itself p.name) in
     let same : r.plant ≡ p =
-    same-some r.plant p (sym holds.0.meant ∙ ap (λ n. first_named n plants) holds.1 ∙ found) in
+    same_some r.plant p (sym holds.0.meant ∙ ap (λ n. first_named n plants) holds.1 ∙ found) in
     ap left_of (holds.0.new ∙ ap new_role same) ∙ ap (λ q. q ∷ []) (after-new p)
 
 -- nothing of the list has changed
@@ -183,9 +184,9 @@ left-new plants cast all before (p ∷ ps) are earlier none =
     (left-new plants cast all (before ++ p ∷ []) ps (are ∙ sym (append_assoc before (p ∷ []) ps)) (p.name ∷ earlier)
     (λ n apart.
     list_any-append (λ (q : PlantView). nat_eq q.name n) before (p ∷ [])
-    ∙ or-false (list_any (λ (q : PlantView). nat_eq q.name n) before) (nat_eq p.name n || false)
-    (none n (or-right (nat_eq n p.name) (list_any (nat_eq n) earlier) apart))
-    (or-false (nat_eq p.name n) false (eq-flip n p.name (or-left (nat_eq n p.name) (list_any (nat_eq n) earlier) apart)) refl)))
+    ∙ or_from (list_any (λ (q : PlantView). nat_eq q.name n) before) (nat_eq p.name n || false)
+    (none n (neither_second (nat_eq n p.name) (list_any (nat_eq n) earlier) apart))
+    (or_from (nat_eq p.name n) false (eq-flip n p.name (neither_first (nat_eq n p.name) (list_any (nat_eq n) earlier) apart)) refl)))
 
 -- ---- the first tick
 

@@ -16,6 +16,7 @@ use Rattle.bl_plant_drive.proofs.Playing.{after-counted, all-snoc, counted, hear
 use Rattle.bl_plant.specs.Plants.{IsSame, IsTold, LogTold, PlantView, with_told}
 use Rattle.bl_plant.specs.declared.log.Log.{Log}
 use Rattle.bl_tree.specs.declared.memory.NoMemory.{NoMemory}
+use Rattle.bl_plant_drive.proofs.Rounds.{get-mid}
 
 -- ---- one part
 
@@ -148,10 +149,6 @@ pub next-told : (h : Hearing) (k : ℕ) (plants : List PlantView) (seats : List 
     NextTold h k plants seats
 next-told h k plants seats t low =
     next-by h k plants seats t.done t.rest t.told t.cast t.left t.seats_are t.earlier t.later t.ins t.gone t.long low
-
-get-mid : (done : List Role) (r : Role) (rest : List Role) → slice_get (map seat_of (done ++ r ∷ rest)) (length done) ≡ Some (seat_of r)
-get-mid [] r rest = refl
-get-mid (d ∷ done) r rest = get-mid done r rest
 
 -- its seat
 pub seat-told : (h : Hearing) (k : ℕ) (plants : List PlantView) (seats : List Seat) (n : NextTold h k plants seats) (seat : Seat) →

@@ -2,19 +2,16 @@
 use Rattle.std.proofs.Common.{◌≡◌, ℕ, suc, ◌<◌, ◌+◌, ◌^◌, ℤ, Bool, true, false, List, [], ◌∷◌}
 use Rattle.std.proofs.Common.{◌++◌, length, map, nat_eq, Result, Ok, Err}
 use Rattle.std.proofs.Common.{refl, ap, sym, subst, ◌∙◌, arith, add-one}
-use Rattle.std.specs.List.{AllByRecursion, IsDistinct}
+use Rattle.std.specs.List.{IsDistinct}
 use Rattle.std.specs.Prelude.{IfErr, OnErr, OnOk}
 use Rattle.std.specs.Result.{IsErrAnd}
-use Rattle.std.proofs.lemmas.List.{append-nil}
 use Rattle.bl_ctext_semantics.specs.Cells.{inputs_of}
-use Rattle.bl_ctext_semantics.specs.Saturated.{saturated}
 use Rattle.bl_crun.specs.Running.{Running, after_tick, answer_of, is_row, outputs_after, reply_at}
 use Rattle.bl_crun.specs.declared.tick.TickAnswer.{TickAnswer}
 use Rattle.bl_crun.specs.declared.tick.TickAnswer.TheVariants as tick
 use Rattle.bl_plant_drive.specs.Drives.{DriveEnds, DriveIsOver, DriveSetting, IsShort, IsUntouched}
 use Rattle.bl_plant_drive.specs.Drives.{AreThere, columns_in, widths_of}
 use Rattle.bl_plant_drive.specs.Driven.{nothing_driven}
-use Rattle.bl_plant_drive.specs.Roles.{IsCast, Plays, Role, gone_at, gone_before, inputs_before, left_in}
 use Rattle.bl_plant_drive.specs.declared.driven.Driven.{Driven}
 use Rattle.bl_plant_drive.specs.declared.driven.Gone.{Gone}
 use Rattle.bl_plant_drive.specs.declared.fault.DriveFault.{DriveFault}
@@ -26,8 +23,7 @@ use Rattle.bl_plant_drive.specs.inner.Round.{RoundEnds, seat_numbers}
 use Rattle.bl_plant_drive.specs.inner.Stands.{Scene}
 use Rattle.bl_plant_drive.specs.inner.Ticks.{AreTold, Goes, IsTickOfRunner, RowCloses, RowEnds, RunsOn, TickCloses, TickEnds, hearing_of, new_seat}
 use Rattle.bl_plant_drive.specs.inner.Ticks.{scene_of, with_tick, with_trap}
-use Rattle.bl_plant_drive.proofs.Closing.{driven-by, goes-on, has-ended, has-trapped, short-asking, short-standing, short-telling, short-trapped}
-use Rattle.bl_plant_drive.proofs.Naming.{other-width, same-width}
+use Rattle.bl_plant_drive.proofs.Closing.{goes-on, has-ended, has-trapped, short-asking, short-standing, short-telling, short-trapped}
 use Rattle.bl_plant_drive.proofs.Ranges.{wide-by}
 use Rattle.bl_plant_drive.proofs.Starting.{starts}
 use Rattle.bl_plant_drive.proofs.Stopping.{round-stops, runs-same}
@@ -213,34 +209,6 @@ pub close-done : (s : DriveSetting) (n ticks : ℕ) (runner : Running) (plants :
 close-done s n ticks runner plants seats other d answer u same number closed =
     subst (λ m. TickEnds s m runner plants seats d (Ok answer)) number (subst (λ xs. TickEnds s n runner plants xs d (Ok answer)) same closed)
 
--- ---- the loop
-
-all-done-by : (s : DriveSetting) (runner : Running) (plants : List PlantView) (seats : List Seat) (d : Driven) (done rest : List Role) → length done ≡ 0 →
-    length d.ins ≡ s.ticks → IsCast s.plants s.names (done ++ rest) → plants ≡ left_in (done ++ rest) [] s.plants →
-    AllByRecursion (Plays d.trace.rows d.trace.rows (length d.ins)) rest → d.ins ≡ inputs_before (done ++ rest) (length d.ins) →
-    d.gone ≡ gone_before (done ++ rest) (length d.ins) ++ gone_at (length d.ins) done → length d.trace.rows ≡ length d.ins → RunsOn s runner d →
-    DriveIsOver s (record { runner = runner; plants = plants; driven = d })
-all-done-by s runner plants seats d [] rest none whole cast left later ins gone long runs = record {
-  cast = rest;
-  driven = driven-by s rest runner d cast ins runs long;
-  wide = runs.wide;
-  within = omega (arith, whole);
-  whole = λ e. whole;
-  runner = runs.runner_is;
-  plants = left;
-  parts = later;
-  gone = gone ∙ append-nil (gone_before rest (length d.ins));
-}
-all-done-by s runner plants seats d (r ∷ done) rest none whole cast left later ins gone long runs =
-    let bad : suc (length done) ≡ 0 = none in absurd (omega (arith, bad))
-
--- all ticks were done
-pub all-done : (s : DriveSetting) (runner : Running) (plants : List PlantView) (seats : List Seat) (d : Driven) (ticks : ℕ) → ticks ≡ s.ticks →
-    Goes s ticks runner plants seats d → DriveIsOver s (record { runner = runner; plants = plants; driven = d })
-all-done s runner plants seats d ticks all goes =
-    let st = goes.stands in
-    all-done-by s runner plants seats d st.done st.rest st.asked (goes.done ∙ all) st.cast st.left st.later st.ins st.gone st.long goes.runs
-
 -- ---- before the first tick
 
 abbrev pub setting : Running → List PlantView → List ℕ → ℕ → DriveSetting
@@ -372,19 +340,6 @@ has-begun runner plants names wanted seats there apart is few wide are = record 
   wide = wide ∙ is;
   few = subst (λ n. n < 2 ^ 32) is few;
   seats_are = are;
-}
-
--- whether widths pass
-pub wide-enough : (plants : List PlantView) (names : List ℕ) (given wanted : ℕ) → wanted < 2 ^ 32 → given ≡ saturated (widths_of plants names) →
-    given ≡ wanted → IsWide plants names wanted (Ok tt)
-wide-enough plants names given wanted few told same = same-width given wanted (widths_of plants names) few told same
-
-pub not-wide : (plants : List PlantView) (names : List ℕ) (given wanted : ℕ) → wanted < 2 ^ 32 → given ≡ saturated (widths_of plants names) →
-    (given ≡ wanted → ⊥) → IsWide plants names wanted (Err (fault.Width given wanted))
-not-wide plants names given wanted few told differ = record {
-  given_is = told;
-  told_is = refl;
-  differ = other-width given wanted (widths_of plants names) few told differ;
 }
 
 -- the same with the plants as they were looked at

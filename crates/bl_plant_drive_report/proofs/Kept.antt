@@ -4,9 +4,9 @@ use Rattle.std.specs.Prelude.{Result, Ok, Err, IfErr}
 use Rattle.bl_ctext_semantics.specs.Cells.{outputs_of}
 use Rattle.bl_ctext_semantics.specs.Parts.{Parts}
 use Rattle.bl_ctext_semantics.specs.Trace.{cells_if, trace_after}
-use Rattle.bl_crun.specs.Running.{Running, after_tick}
+use Rattle.bl_crun.specs.Running.{Running}
 use Rattle.bl_plant_drive.specs.Driven.{nothing_driven}
-use Rattle.bl_plant_drive.specs.Drives.{DriveEnds, DriveSetting, Outcome, columns_in, runner_after, trace_over}
+use Rattle.bl_plant_drive.specs.Drives.{DriveEnds, DriveSetting, Outcome, columns_in, trace_over}
 use Rattle.bl_plant_drive.specs.declared.driven.Driven.{Driven}
 use Rattle.bl_plant_drive_report.specs.Reports.{IsDriven, IsReport, IsReportOf}
 use Rattle.bl_plant_drive_report.specs.declared.report.Report.{Report}
@@ -15,21 +15,17 @@ use Rattle.bl_tree.specs.Ports.{RowsFit}
 use Rattle.bl_tree.specs.declared.row.Column.{Column}
 use Rattle.bl_plant_drive.specs.declared.fault.DriveFault.{DriveFault}
 use Rattle.bl_plant_drive.specs.declared.fault.DriveFault.TheVariants as fault
-
--- ticks keep the file
-after_keeps : (r : Running) (rows : List (List ℤ)) → (runner_after r rows).parts ≡ r.parts
-after_keeps r [] = refl
-after_keeps r (row ∷ rows) = after_keeps (after_tick r row) rows
+use Rattle.bl_plant_drive.proofs.Traces.{runner-parts}
 
 -- however the drive ends
 pub drives_keep : (s : DriveSetting) (o : Outcome) (how : Result (Unit {0}) DriveFault) → DriveEnds s o how → o.runner.parts ≡ s.runner.parts
-drives_keep s o (Ok done) h = ap (λ (r : Running). r.parts) h.runner ∙ after_keeps s.runner o.driven.ins
-drives_keep s o (Err (fault.Failed name)) h = ap (λ (r : Running). r.parts) h.stopped.runner ∙ after_keeps s.runner o.driven.ins
+drives_keep s o (Ok done) h = ap (λ (r : Running). r.parts) h.runner ∙ runner-parts s.runner o.driven.ins
+drives_keep s o (Err (fault.Failed name)) h = ap (λ (r : Running). r.parts) h.stopped.runner ∙ runner-parts s.runner o.driven.ins
 drives_keep s o (Err (fault.Absent name)) h = ap (λ (r : Running). r.parts) h.1.runner
 drives_keep s o (Err (fault.Twice name)) h = ap (λ (r : Running). r.parts) h.1.runner
 drives_keep s o (Err (fault.Width given wanted)) h = ap (λ (r : Running). r.parts) h.1.runner
-drives_keep s o (Err (fault.Range column number)) h = ap (λ (r : Running). r.parts) h.stopped.runner ∙ after_keeps s.runner o.driven.ins
-drives_keep s o (Err fault.NoMemory) h = ap (λ (r : Running). r.parts) h.runner ∙ after_keeps s.runner (o.driven.ins ++ h.further)
+drives_keep s o (Err (fault.Range column number)) h = ap (λ (r : Running). r.parts) h.stopped.runner ∙ runner-parts s.runner o.driven.ins
+drives_keep s o (Err fault.NoMemory) h = ap (λ (r : Running). r.parts) h.runner ∙ runner-parts s.runner (o.driven.ins ++ h.further)
 
 -- ---- what is recorded
 

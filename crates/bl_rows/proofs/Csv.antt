@@ -1,20 +1,8 @@
 -- What two reads of a line alone tell of its records.
 use Rattle.std.proofs.Common.{◌≡◌, ℕ, suc, zero, List, [], ◌∷◌, length, Option, Some, None, Bool, true, false, refl, ap, ◌∙◌, add-one}
 use Rattle.csv.specs.Machine.{Read, next_record}
-use Rattle.csv.specs.Reading.{
-  default_config,
-  records,
-  records_from,
-  records_next,
-  ReadsNext,
-  ReadRecord,
-  NextIs,
-  source_of,
-  pending_of,
-  reader_config,
-  reader_state,
-  strip_bom,
-}
+use Rattle.csv.specs.Reading.{default_config, records, records_from, records_next, ReadsNext, ReadRecord, NextIs, source_of, pending_of, reader_config}
+use Rattle.csv.specs.Reading.{reader_state, strip_bom}
 use Rattle.csv.specs.declared.parser.Config.{Config}
 use Rattle.bl_rows.specs.Fields.{records_in}
 use Rattle.csv.specs.declared.parser.State.{State}

@@ -1,43 +1,6 @@
 -- Bytes cut at line feeds, and their parts.
-use Rattle.std.proofs.Common.{
-  ◌≡◌,
-  ℕ,
-  suc,
-  ◌+◌,
-  ◌<◌,
-  ◌≤◌,
-  List,
-  [],
-  ◌∷◌,
-  ◌++◌,
-  length,
-  refl,
-  ap,
-  sym,
-  subst,
-  ◌∙◌,
-  Bool,
-  true,
-  false,
-  ◌||◌,
-  ◌==◌,
-  append_assoc,
-  arith,
-  rules,
-  Option,
-  Some,
-  None,
-  get_or,
-  take,
-  drop,
-  position,
-  add-one,
-  not,
-  cond,
-  nat_lt,
-  length-take,
-  eqb-true,
-}
+use Rattle.std.proofs.Common.{◌≡◌, ℕ, suc, ◌+◌, ◌<◌, ◌≤◌, List, [], ◌∷◌, ◌++◌, length, refl, ap, sym, subst, ◌∙◌, Bool, true, false, ◌||◌, ◌==◌, append_assoc}
+use Rattle.std.proofs.Common.{arith, rules, Option, Some, None, get_or, take, drop, position, add-one, not, cond, nat_lt, length-take, eqb-true}
 use Rattle.std.proofs.lemmas.List.Quantifiers.{position-Some}
 use Rattle.std.proofs.lemmas.List.{get_or-take}
 use Rattle.std.proofs.lemmas.Bool.Decides.{nat_tests}

@@ -1,29 +1,6 @@
 -- A number that is too large for every type, while its digits are still read.
-use Rattle.std.proofs.Common.{
-  ◌≡◌,
-  ℕ,
-  suc,
-  drop-cons,
-  ◌+◌,
-  ◌*◌,
-  ◌<◌,
-  ◌≤◌,
-  List,
-  [],
-  ◌∷◌,
-  length,
-  get_or,
-  refl,
-  drop,
-  Bool,
-  true,
-  false,
-  Some,
-  None,
-  IfSome,
-  arith,
-  if◌then◌else◌,
-}
+use Rattle.std.proofs.Common.{◌≡◌, ℕ, suc, drop-cons, ◌+◌, ◌*◌, ◌<◌, ◌≤◌, List, [], ◌∷◌, length, get_or, refl, drop, Bool, true, false, Some, None, IfSome}
+use Rattle.std.proofs.Common.{arith, if◌then◌else◌}
 use Rattle.std.specs.Char.{digit_value}
 use Rattle.std.specs.Str.Parse.{digits_value_after, digits_value}
 use Rattle.std.proofs.Common.{◌^◌, ◌&&◌, Option, ℤ, pos, negsuc, unsigned_abs, int_le, lit<}

@@ -1,35 +1,6 @@
 -- What a reader tells does not depend on where the bytes are cut.
-use Rattle.std.proofs.Common.{
-  ◌≡◌,
-  ◌≢◌,
-  Result,
-  Ok,
-  Err,
-  OnOk,
-  OnErr,
-  ℕ,
-  ◌≤◌,
-  List,
-  [],
-  ◌∷◌,
-  ◌++◌,
-  length,
-  refl,
-  ap,
-  sym,
-  ◌∙◌,
-  subst,
-  false,
-  Option,
-  Some,
-  None,
-  ℤ,
-  append_assoc,
-  append-nil,
-  arith,
-  length-append,
-  ◌==◌,
-}
+use Rattle.std.proofs.Common.{◌≡◌, ◌≢◌, Result, Ok, Err, OnOk, OnErr, ℕ, ◌≤◌, List, [], ◌∷◌, ◌++◌, length, refl, ap, sym, ◌∙◌, subst, false, Option, Some, None}
+use Rattle.std.proofs.Common.{ℤ, append_assoc, append-nil, arith, length-append, ◌==◌}
 use Rattle.std.proofs.lemmas.Bool.Decides.{nat_tests}
 use Rattle.bl_tree.specs.declared.row.Column.{Column}
 use Rattle.bl_rows.specs.declared.fault.RowFault.{RowFault}
@@ -38,30 +9,8 @@ use Rattle.bl_rows.specs.declared.verdict.Verdict.{Verdict}
 use Rattle.bl_rows.specs.declared.verdict.Verdict.TheVariants.{Passed, Header, Numbers, Bad}
 use Rattle.bl_rows.specs.declared.verdict.RowPlace.{RowPlace}
 use Rattle.bl_rows.specs.Lines.{Cut, cut, led_by_byte, whole_lines, unfinished, last_line, lines_of, has_feed}
-use Rattle.bl_rows.specs.Reading.{
-  Reading,
-  Scan,
-  scan,
-  scanned,
-  verdict,
-  over_limit,
-  overrun,
-  place_after,
-  led_by_line,
-  RowsRead,
-  read_to_end,
-  earlier_fault,
-  fault_in,
-  rows_in,
-  read_on,
-  rows_after,
-  led_by_rows,
-  unless_stopped,
-  fault_at_end,
-  Front,
-  Unrefused,
-  call_answer,
-}
+use Rattle.bl_rows.specs.Reading.{Reading, Scan, scan, scanned, verdict, over_limit, overrun, place_after, led_by_line, RowsRead, read_to_end, earlier_fault}
+use Rattle.bl_rows.specs.Reading.{fault_in, rows_in, read_on, rows_after, led_by_rows, unless_stopped, fault_at_end, Front, Unrefused, call_answer}
 use Rattle.bl_rows.specs.inner.Steps.{fault_of, rows_by, with_rows}
 use Rattle.bl_rows.proofs.Scans.{ok_by, rows_of_scan}
 use Rattle.bl_rows.proofs.Cuts.{cut_none, cut_append, cut_other, lines_append, unfinished_feedless, or_false}
@@ -138,9 +87,6 @@ overrun_stops columns at (b ∷ u) rest fault h e =
     let long : over_limit at (length ((b ∷ u) ++ start.more)) ≡ Some fault =
     over_grows at (length (b ∷ u)) _ fault (omega (arith, length-append (b ∷ u) start.more)) e in
     rw (start.is, past_limit columns at ((b ∷ u) ++ start.more) fault long) refl
-
-told_rows : (rows : List (List ℤ)) (s : Scan) → read_to_end (with_rows rows s) ≡ led_by_rows rows (read_to_end s)
-told_rows rows s = refl
 
 -- a scan that stopped, or goes on with what is unfinished
 by_scan : (columns : List Column) (s : Scan) (u rest : List ℕ) (o p stop : Option RowFault) (later : RowsRead) → has_feed u ≡ false →
@@ -268,7 +214,7 @@ record Joins (before now : Reading) (piece more : List ℕ) : Type 0 where
   pub rows : rows_in before (piece ++ more) ≡ rows_in before piece ++ rows_in now more
   pub fault : fault_in before (piece ++ more) ≡ fault_in now more
 
-no_fault : (first later : Option RowFault) → earlier_fault first later ≡ None → (first ≡ None) × (later ≡ None)
+pub no_fault : (first later : Option RowFault) → earlier_fault first later ≡ None → (first ≡ None) × (later ≡ None)
 no_fault None later e = (refl, e)
 no_fault (Some fault) later e = cc
 

@@ -1,40 +1,6 @@
 -- How csv reads a line without quotes and line ends: its fields lie between commas.
-use Rattle.std.proofs.Common.{
-  ◌≡◌,
-  ◌≢◌,
-  ℕ,
-  zero,
-  suc,
-  ◌+◌,
-  ◌-◌,
-  ◌<◌,
-  ◌≤◌,
-  List,
-  [],
-  ◌∷◌,
-  ◌++◌,
-  length,
-  take,
-  drop,
-  get_or,
-  refl,
-  ap,
-  sym,
-  ◌∙◌,
-  Some,
-  Bool,
-  true,
-  false,
-  ◌==◌,
-  ◌||◌,
-  arith,
-  add-one,
-  drop-cons,
-  length-drop,
-  ◌⊎◌,
-  inl,
-  inr,
-}
+use Rattle.std.proofs.Common.{◌≡◌, ◌≢◌, ℕ, zero, suc, ◌+◌, ◌-◌, ◌<◌, ◌≤◌, List, [], ◌∷◌, ◌++◌, length, take, drop, get_or, refl, ap, sym, ◌∙◌, Some, Bool, true}
+use Rattle.std.proofs.Common.{false, ◌==◌, ◌||◌, arith, add-one, drop-cons, length-drop, ◌⊎◌, inl, inr}
 use Rattle.std.proofs.lemmas.Bool.Decides.{eqb_tells}
 use Rattle.std.proofs.lemmas.List.{get_or-drop, drop_all}
 use Rattle.std.proofs.Math.Seq.{take-suc}

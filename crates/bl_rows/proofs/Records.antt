@@ -1,43 +1,14 @@
 -- The fields of a record from a column on.
-use Rattle.std.proofs.Common.{
-  ◌≡◌,
-  ◌≢◌,
-  ℕ,
-  zero,
-  suc,
-  ◌+◌,
-  ◌<◌,
-  List,
-  [],
-  ◌∷◌,
-  ◌++◌,
-  length,
-  get_or,
-  drop,
-  ap,
-  refl,
-  sym,
-  ◌∙◌,
-  Option,
-  Some,
-  None,
-  option_map,
-  ℤ,
-  arith,
-  Bool,
-  true,
-  false,
-  ◌&&◌,
-  if◌then◌else◌,
-  codes,
-}
+use Rattle.std.proofs.Common.{◌≡◌, ◌≢◌, ℕ, zero, suc, ◌+◌, ◌<◌, List, [], ◌∷◌, ◌++◌, length, get_or, drop, ap, refl, sym, ◌∙◌, Option, Some, None, option_map}
+use Rattle.std.proofs.Common.{ℤ, arith, Bool, true, false, ◌&&◌, if◌then◌else◌, codes}
 use Rattle.std.specs.List.{slice_get}
 use Rattle.std.specs.Str.{bytes_eq}
+use Rattle.bl_tree.proofs.Basics.{drop_next}
 use Rattle.csv.specs.Records.{field_at}
 use Rattle.bl_tree.specs.declared.row.Column.{Column}
 use Rattle.bl_rows.specs.Fields.{both, value_of, values_of, is_header, are_names, row_of, is_this_number, number_of}
-use Rattle.bl_rows.specs.inner.Found.{is_word, starts_with_tick}
-use Rattle.bl_rows.proofs.Seq.{drop-at, drop-got}
+use Rattle.bl_rows.specs.inner.Found.{is_word}
+use Rattle.bl_rows.proofs.Seq.{drop-got}
 
 -- csv's place is std's
 pub field_get : (fields : List (List ℕ)) (k : ℕ) → field_at fields k ≡ slice_get fields k
@@ -81,7 +52,7 @@ names_by columns fields j c (Some f) e = rw (drop-got fields j f e) refl
 
 names_at : (columns : List Column) (fields : List (List ℕ)) (k j : ℕ) (c : Column) → k < length columns → c ≡ get_or columns k c
     → are_names (drop k columns) (drop j fields) ≡ (is_word c.name (slice_get fields j) && are_names (drop (k + 1) columns) (drop (j + 1) fields))
-names_at columns fields k j c h e = rw (drop-at columns k c h e) (names_by (drop (k + 1) columns) fields j c (slice_get fields j) refl)
+names_at columns fields k j c h e = rw (drop_next columns k c h e) (names_by (drop (k + 1) columns) fields j c (slice_get fields j) refl)
 
 -- as the loop over the columns says it, where the field at hand isn't, or is, the name
 pub names_differ : (columns list : List Column) (fields : List (List ℕ)) (k : ℕ) (c : Column) (word name : List ℕ)
@@ -105,17 +76,6 @@ names_agree columns list fields k c word name same all e h place e2 e3 tested so
     let passed : is_word c.name (slice_get fields (k + 1)) ≡ true = rw name_is at (sym tested ∙ holds) in
     so_far ∙ (names_at columns fields k (k + 1) c h here ∙ rw passed refl)
 
--- `tick` and then names
-pub header_by : (columns : List Column) (fields : List (List ℕ)) → is_word (codes "tick") (slice_get fields 0) ≡ true →
-    is_header columns fields ≡ are_names columns (drop 1 fields)
-header_by columns [] e = cc
-header_by columns (word ∷ names) e = rw e refl
-
-pub not_header : (columns : List Column) (fields : List (List ℕ)) → is_word (codes "tick") (slice_get fields 0) ≡ false →
-    false ≡ is_header columns fields
-not_header columns [] e = refl
-not_header columns (word ∷ names) e = rw e refl
-
 values_length : (columns : List Column) (fields : List (List ℕ)) → length fields ≢ length columns → values_of columns fields ≡ None
 values_length [] [] h = absurd (h refl)
 values_length [] (f ∷ fields) h = refl
@@ -134,15 +94,6 @@ row_length columns n (tick ∷ fields) h = if_none (is_this_number n (number_of 
     if_none : (b : Bool) (o : Option (List ℤ)) → o ≡ None → None ≡ (if b then o else None)
     if_none true o e = sym e
     if_none false o e = refl
-
-pub row_by : (columns : List Column) (n : ℕ) (fields : List (List ℕ)) → starts_with_tick n fields ≡ true →
-    row_of columns n fields ≡ values_of columns (drop 1 fields)
-row_by columns n [] e = cc
-row_by columns n (tick ∷ fields) e = rw e refl
-
-pub no_row : (columns : List Column) (n : ℕ) (fields : List (List ℕ)) → starts_with_tick n fields ≡ false → None ≡ row_of columns n fields
-no_row columns n [] e = refl
-no_row columns n (tick ∷ fields) e = rw e refl
 
 -- numbers before those of the columns that are left
 abbrev pub after_front : List ℤ → Option (List ℤ) → Option (List ℤ)

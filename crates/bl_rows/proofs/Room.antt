@@ -3,11 +3,12 @@ use Rattle.std.proofs.Common.{◌≡◌, ℕ, ◌+◌, ◌/◌, ◌^◌, ◌<◌
 use Rattle.std.specs.List.{slice_get}
 use Rattle.std.proofs.Math.Seq.{take-add, take-append_seam}
 use Rattle.std.proofs.lemmas.Fmt.{length-decimal-le}
+use Rattle.bl_tree.proofs.Basics.{drop_next}
 use Rattle.itoa.proofs.Decimal.{length_four, length_one, length_pair, length_two}
 use Rattle.bl_tree.specs.declared.row.Column.{Column}
 use Rattle.bl_tree.specs.declared.scalar.Scalar.{Scalar}
 use Rattle.bl_rows.specs.Text.{value_text, values_text}
-use Rattle.bl_rows.proofs.Seq.{drop-at, drop-got}
+use Rattle.bl_rows.proofs.Seq.{drop-got}
 
 -- ---- a number whose digits end at a place
 
@@ -44,7 +45,7 @@ pub output_more : (outs : List Column) (row : List ℤ) (k : ℕ) (c : Column) (
     → printed ++ values_text (drop k outs) (drop k row) ≡ all → now ≡ printed ++ (44 ∷ value_text t x)
     → now ++ values_text (drop (k + 1) outs) (drop (k + 1) row) ≡ all
 output_more outs row k c z printed now all t x inside e f same_type same_number h g =
-    let a = drop-at outs k c inside e in
+    let a = drop_next outs k c inside e in
     let b = drop-got row k z f in
     let h2 : printed ++ (44 ∷ (value_text c.ty z ++ values_text (drop (k + 1) outs) (drop (k + 1) row))) ≡ all = rw (a, b) at h in
     rw (g, same_type, same_number) (simp append_assoc h2)

@@ -1,34 +1,6 @@
 -- What lines give, in parts.
-use Rattle.std.proofs.Common.{
-  ◌≡◌,
-  ℕ,
-  List,
-  [],
-  ◌∷◌,
-  ◌++◌,
-  drop,
-  refl,
-  ap,
-  sym,
-  ◌∙◌,
-  Bool,
-  true,
-  false,
-  Option,
-  Some,
-  None,
-  ℤ,
-  append_assoc,
-  append-nil,
-  is_none,
-  is_some,
-  not,
-  Result,
-  Ok,
-  Err,
-  OnOk,
-  IfSome,
-}
+use Rattle.std.proofs.Common.{◌≡◌, ℕ, List, [], ◌∷◌, ◌++◌, drop, refl, ap, sym, ◌∙◌, Bool, true, false, Option, Some, None, ℤ, append_assoc, append-nil}
+use Rattle.std.proofs.Common.{is_none, is_some, not, Result, Ok, Err, OnOk, IfSome}
 use Rattle.bl_tree.specs.declared.row.Column.{Column}
 use Rattle.bl_rows.specs.declared.fault.RowFault.{RowFault}
 use Rattle.bl_rows.specs.declared.verdict.Verdict.{Verdict}

@@ -1,27 +1,6 @@
 -- What the fields of a record of rows mean.
-use Rattle.std.specs.Prelude.{
-  ℕ,
-  ◌==◌,
-  List,
-  [],
-  ◌∷◌,
-  length,
-  codes,
-  ℤ,
-  pos,
-  neg_ℤ,
-  Bool,
-  true,
-  false,
-  ◌&&◌,
-  nat_lt,
-  nat_le,
-  Option,
-  Some,
-  None,
-  option_map,
-  if◌then◌else◌,
-}
+use Rattle.std.specs.Prelude.{ℕ, ◌==◌, List, [], ◌∷◌, length, codes, ℤ, pos, neg_ℤ, Bool, true, false, ◌&&◌, nat_lt, nat_le, Option, Some, None, option_map}
+use Rattle.std.specs.Prelude.{if◌then◌else◌}
 use Rattle.std.specs.Ordering.{int_eq}
 use Rattle.std.specs.Str.{bytes_eq, all_ascii_digits}
 use Rattle.std.specs.Str.Parse.{digits_value, true_text, false_text}

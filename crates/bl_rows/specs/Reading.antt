@@ -1,26 +1,5 @@
 -- What the bytes of a row file say: the rows up to the first bad line, and that line's fault.
-use Rattle.std.specs.Prelude.{
-  ℕ,
-  ◌+◌,
-  List,
-  [],
-  ◌∷◌,
-  ◌++◌,
-  length,
-  ℤ,
-  Bool,
-  false,
-  nat_lt,
-  nat_le,
-  Option,
-  Some,
-  None,
-  Result,
-  Ok,
-  Err,
-  ◌≡◌,
-  if◌then◌else◌,
-}
+use Rattle.std.specs.Prelude.{ℕ, ◌+◌, List, [], ◌∷◌, ◌++◌, length, ℤ, Bool, false, nat_lt, nat_le, Option, Some, None, Result, Ok, Err, ◌≡◌, if◌then◌else◌}
 use Rattle.bl_tree.specs.declared.row.Column.{Column}
 use Rattle.bl_rows.specs.declared.fault.RowFault.{RowFault}
 use Rattle.bl_rows.specs.declared.fault.RowFault.TheVariants.{BadHeader, BadRow, LongLine, NoMemory}

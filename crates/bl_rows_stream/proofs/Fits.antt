@@ -1,34 +1,12 @@
 -- Rows that are read fit, and there are no more of them than lines.
-use Rattle.std.proofs.Common.{
-  ◌≡◌,
-  ℕ,
-  ◌+◌,
-  ◌<◌,
-  ◌≤◌,
-  ℤ,
-  pos,
-  Bool,
-  true,
-  false,
-  ◌&&◌,
-  List,
-  [],
-  ◌∷◌,
-  ◌++◌,
-  length,
-  Option,
-  Some,
-  None,
-  refl,
-  ap,
-  subst,
-  arith,
-}
+use Rattle.std.proofs.Common.{◌≡◌, ℕ, ◌+◌, ◌<◌, ◌≤◌, ℤ, pos, Bool, true, false, ◌&&◌, List, [], ◌∷◌, ◌++◌, length, Option, Some, None, refl, ap, subst, arith}
 use Rattle.std.specs.Prelude.{nat_le, nat_lt, if◌then◌else◌}
 use Rattle.std.specs.List.{list_all}
 use Rattle.std.specs.Str.{bytes_eq}
 use Rattle.std.specs.Str.Parse.{true_text, false_text}
 use Rattle.std.proofs.lemmas.Bool.Decides.{nat_tests}
+use Rattle.std.proofs.lemmas.Bool.{and_from}
+use Rattle.bl_tree.proofs.Basics.{and_second}
 use Rattle.bl_tree.specs.Scalar.{in_range}
 use Rattle.bl_tree.specs.Ports.{RowsFit, row_fits}
 use Rattle.bl_tree.specs.declared.row.Column.{Column}
@@ -36,24 +14,8 @@ use Rattle.bl_tree.specs.declared.scalar.Scalar.{Scalar}
 use Rattle.bl_tree.specs.declared.scalar.Scalar.TheVariants.{Bool as OfBool, Int, Nat, Bits}
 use Rattle.bl_rows.specs.Fields.{both, is_header, is_this_number, number_of, records_in, row_of, value_of, values_of, within}
 use Rattle.bl_rows.specs.Lines.{lines_of, whole_lines}
-use Rattle.bl_rows.specs.Reading.{
-  Scan,
-  at_start,
-  bad_or,
-  empty_reading,
-  judged_line,
-  judged_record,
-  led_by_line,
-  line_number,
-  longest_line,
-  numbers_or_bad,
-  over_limit,
-  place_after,
-  rows_in,
-  rows_of,
-  scan,
-  verdict,
-}
+use Rattle.bl_rows.specs.Reading.{Scan, at_start, bad_or, empty_reading, judged_line, judged_record, led_by_line, line_number, longest_line, numbers_or_bad}
+use Rattle.bl_rows.specs.Reading.{over_limit, place_after, rows_in, rows_of, scan, verdict}
 use Rattle.bl_rows.specs.declared.fault.RowFault.{RowFault}
 use Rattle.bl_rows.specs.declared.fault.RowFault.TheVariants.{BadHeader, BadRow, LongLine}
 use Rattle.bl_rows.specs.declared.verdict.RowPlace.{RowPlace}
@@ -85,18 +47,6 @@ value-fits (Bits w) field z e = within-fits (Bits w) (number_of field) z e
 
 -- ---- tests
 
-pub and-both : (a b : Bool) → a ≡ true → b ≡ true → (a && b) ≡ true
-and-both true b h k = k
-and-both false b h k = absurd (cc)
-
-pub and-left : (a b : Bool) → (a && b) ≡ true → a ≡ true
-and-left true b h = refl
-and-left false b h = absurd (cc)
-
-pub and-right : (a b : Bool) → (a && b) ≡ true → b ≡ true
-and-right true b h = h
-and-right false b h = absurd (cc)
-
 -- ---- rows
 
 abbrev Fits : List Column → List ℤ → Type 0
@@ -108,7 +58,7 @@ both-fits c columns None b row e first later = absurd (cc)
 both-fits c columns (Some z) None row e first later = absurd (cc)
 both-fits c columns (Some z) (Some zs) row e first later =
     let is : z ∷ zs ≡ row = cc in
-    subst (Fits (c ∷ columns)) is (and-both (in_range c.ty z) (row_fits columns zs) (first z refl) (later zs refl))
+    subst (Fits (c ∷ columns)) is (and_from (in_range c.ty z) (row_fits columns zs) (first z refl) (later zs refl))
 
 values-fit : (columns : List Column) (fields : List (List ℕ)) (row : List ℤ) → values_of columns fields ≡ Some row → Fits columns row
 values-fit [] [] row e = let is : [] ≡ row = cc in subst (Fits []) is refl
@@ -164,7 +114,7 @@ led-fits : (columns : List Column) (at : RowPlace) (v : Verdict) (s : Scan) → 
     RowsFit columns s.rows → RowsFit columns (led_by_line at v s).rows
 led-fits columns at Passed s first later = later
 led-fits columns at Header s first later = later
-led-fits columns at (Numbers row) s first later = and-both (row_fits columns row) (list_all (row_fits columns) s.rows) (first row refl) later
+led-fits columns at (Numbers row) s first later = and_from (row_fits columns row) (list_all (row_fits columns) s.rows) (first row refl) later
 led-fits columns at (Bad fault) s first later = refl
 
 pub scan-fits : (columns : List Column) (at : RowPlace) (lines : List (List ℕ)) → RowsFit columns (scan columns at lines).rows
@@ -223,7 +173,7 @@ lines-few bytes columns = let h = scan-few columns at_start (whole_lines bytes) 
 
 pub fit-later : (columns : List Column) (a b : List (List ℤ)) → RowsFit columns (a ++ b) → RowsFit columns b
 fit-later columns [] b fit = fit
-fit-later columns (row ∷ a) b fit = fit-later columns a b (and-right (row_fits columns row) (list_all (row_fits columns) (a ++ b)) fit)
+fit-later columns (row ∷ a) b fit = fit-later columns a b (and_second (row_fits columns row) (list_all (row_fits columns) (a ++ b)) fit)
 
 -- ---- lengths
 
@@ -231,4 +181,4 @@ pub fits-long : (columns : List Column) (row : List ℤ) → Fits columns row �
 fits-long [] [] fit = refl
 fits-long [] (z ∷ row) fit = absurd (cc)
 fits-long (c ∷ columns) [] fit = absurd (cc)
-fits-long (c ∷ columns) (z ∷ row) fit = let h = fits-long columns row (and-right (in_range c.ty z) (row_fits columns row) fit) in omega arith
+fits-long (c ∷ columns) (z ∷ row) fit = let h = fits-long columns row (and_second (in_range c.ty z) (row_fits columns row) fit) in omega arith

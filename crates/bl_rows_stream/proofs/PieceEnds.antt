@@ -1,31 +1,6 @@
 -- How the rows of a piece, and those of the file's end, leave a run.
-use Rattle.std.proofs.Common.{
-  ◌≡◌,
-  ℕ,
-  ◌+◌,
-  ◌≤◌,
-  ◌⊎◌,
-  ℤ,
-  true,
-  false,
-  List,
-  [],
-  ◌++◌,
-  length,
-  Option,
-  Some,
-  None,
-  IfSome,
-  refl,
-  ap,
-  sym,
-  subst,
-  ◌∙◌,
-  arith,
-  append_assoc,
-  append-nil,
-  length-append,
-}
+use Rattle.std.proofs.Common.{◌≡◌, ℕ, ◌+◌, ◌≤◌, ◌⊎◌, ℤ, true, false, List, [], ◌++◌, length, Option, Some, None, IfSome, refl, ap, sym, subst, ◌∙◌, arith}
+use Rattle.std.proofs.Common.{append_assoc, append-nil, length-append}
 use Rattle.bl_tree.specs.declared.row.Last.{Last}
 use Rattle.bl_tree.specs.declared.row.Last.TheVariants.{Open, Ended, Trap}
 use Rattle.bl_tree.specs.Ports.{RowsFit}
@@ -45,8 +20,9 @@ use Rattle.bl_rows_stream.specs.declared.pieces.Session.{Session}
 use Rattle.bl_rows_stream.specs.declared.ticks.Report.{Report}
 use Rattle.bl_rows_stream.proofs.Ends.{ends-before, ends-closed, ends-front, ends-whole, last-more, text-more}
 use Rattle.bl_rows_stream.proofs.Reaches.{reads-low, reads-on}
-use Rattle.bl_rows_stream.proofs.Readers.{end-few, end-fits, end-told, fed-more, piece-few, piece-fits, stopped-told, told-more}
+use Rattle.bl_rows_stream.proofs.Readers.{end-few, end-fits, end-told, fed-more, piece-few, piece-fits, told-more}
 use Rattle.bl_rows_stream.proofs.Traces.{after-more, after-parts}
+use Rattle.bl_rows.proofs.Pieces.{stopped_told}
 
 module _ (report : Report) (start : Start) where
   -- a run is refused before anything more is written
@@ -163,7 +139,7 @@ module _ (report : Report) (start : Start) (read piece : List ℕ) (before now n
     ends-bad : (f : RowFault) → last ≡ Open → fault ≡ Some f → (rest : List ℕ) →
         RunEnds report (runner_at start r.parts) ((read ++ piece) ++ rest) before now2 r2 (finish_of Open (Some f))
     ends-bad f e g rest =
-        let none = stopped-told s2.reader rest f (stopped-by f g) in
+        let none = stopped_told s2.reader rest f (stopped-by f g) in
         ends-whole report start r.parts read before s r now stands ((read ++ piece) ++ rest) rows (rows_after s2.reader rest).rows
         (tells-rows rest) now2 r2 (finish_of Open (Some f)) (ap (λ (t : RowsRead). t.rows) none) has-run
         (ap (λ l. finish_of l (Some f)) (sym e ∙ came) ∙ ap (finish_of (trace_from r rows).last)

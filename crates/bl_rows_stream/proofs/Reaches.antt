@@ -1,57 +1,14 @@
 -- How far a reader has come: each byte of a good piece moves it on.
-use Rattle.std.proofs.Common.{
-  ◌≡◌,
-  ℕ,
-  ◌+◌,
-  ◌*◌,
-  ◌<◌,
-  ◌≤◌,
-  Bool,
-  true,
-  false,
-  List,
-  [],
-  ◌∷◌,
-  ◌++◌,
-  length,
-  Option,
-  Some,
-  None,
-  refl,
-  ap,
-  sym,
-  subst,
-  ◌∙◌,
-  arith,
-  length-append,
-}
+use Rattle.std.proofs.Common.{◌≡◌, ℕ, ◌+◌, ◌*◌, ◌<◌, ◌≤◌, Bool, true, false, List, [], ◌∷◌, ◌++◌, length, Option, Some, None, refl, ap, sym, subst, ◌∙◌, arith}
+use Rattle.std.proofs.Common.{length-append}
 use Rattle.std.specs.Prelude.{nat_le, nat_lt, if◌then◌else◌, ◌==◌}
 use Rattle.std.proofs.lemmas.Bool.Decides.{nat_tests}
 use Rattle.bl_tree.specs.declared.row.Column.{Column}
 use Rattle.bl_rows.specs.Fields.{records_in}
 use Rattle.bl_rows.specs.Lines.{Cut, cut, has_feed, last_line, led_by_byte, lines_of, unfinished, whole_lines}
 use Rattle.bl_rows.proofs.Cuts.{cut_append, cut_other, lines_append, or_false, unfinished_feedless}
-use Rattle.bl_rows.specs.Reading.{
-  Reading,
-  Scan,
-  at_start,
-  bad_or,
-  earlier_fault,
-  empty_reading,
-  fault_in,
-  fault_of_scan,
-  judged_line,
-  led_by_line,
-  line_number,
-  most_lines,
-  over_limit,
-  overrun,
-  place_after,
-  read_on,
-  scan,
-  scanned,
-  verdict,
-}
+use Rattle.bl_rows.specs.Reading.{Reading, Scan, at_start, bad_or, empty_reading, fault_in, fault_of_scan, judged_line, led_by_line, line_number}
+use Rattle.bl_rows.specs.Reading.{most_lines, over_limit, overrun, place_after, read_on, scan, scanned, verdict}
 use Rattle.bl_rows.specs.declared.fault.RowFault.{RowFault}
 use Rattle.bl_rows.specs.declared.fault.RowFault.TheVariants.{BadRow, LongLine}
 use Rattle.bl_rows.specs.declared.verdict.RowPlace.{RowPlace}
@@ -59,6 +16,7 @@ use Rattle.bl_rows.specs.declared.verdict.Verdict.{Verdict}
 use Rattle.bl_rows.specs.declared.verdict.Verdict.TheVariants.{Passed, Header, Numbers, Bad}
 use Rattle.bl_rows_stream.specs.inner.Going.{reach}
 use Rattle.bl_rows_stream.proofs.Fits.{lines-left}
+use Rattle.bl_rows.proofs.Pieces.{no_fault}
 
 -- ---- bytes of lines, each with its line feed
 
@@ -140,15 +98,11 @@ scan-comes columns at (line ∷ lines) low none =
 
 -- ---- pieces
 
-first-none : (a b : Option RowFault) → earlier_fault a b ≡ None → (a ≡ None) × (b ≡ None)
-first-none None b e = (refl, e)
-first-none (Some f) b e = absurd (cc)
-
 scanned-good : (s : Reading) (piece : List ℕ) → fault_in s piece ≡ None → (scanned s piece).fault ≡ None
 unfolding fault_in
 scanned-good s piece good =
-    let later = (first-none s.stop (fault_of_scan (scanned s piece) (unfinished (s.line ++ piece))) good).1 in
-    (first-none (scanned s piece).fault (overrun (scanned s piece).at (unfinished (s.line ++ piece))) later).0
+    let later = (no_fault s.stop (fault_of_scan (scanned s piece) (unfinished (s.line ++ piece))) good).1 in
+    (no_fault (scanned s piece).fault (overrun (scanned s piece).at (unfinished (s.line ++ piece))) later).0
 
 piece-comes : (s : Reading) (piece : List ℕ) → s.at.lines ≤ 1000000 → fault_in s piece ≡ None →
     Comes s.at (bytes_in (whole_lines (s.line ++ piece))) (scanned s piece).at
@@ -205,7 +159,7 @@ last-room at (b ∷ rest) low none =
 pub few-lines : (ins : List Column) (read : List ℕ) → fault_in (empty_reading ins) read ≡ None → length (lines_of read) ≤ most_lines
 unfolding fault_in
 few-lines ins read good =
-    let later = first-none (scanned (empty_reading ins) read).fault (overrun (scanned (empty_reading ins) read).at (unfinished read)) good in
+    let later = no_fault (scanned (empty_reading ins) read).fault (overrun (scanned (empty_reading ins) read).at (unfinished read)) good in
     let low = (scan-comes ins at_start (whole_lines read) (omega arith) later.0).low in
     let count = scan-count ins at_start (whole_lines read) later.0 in
     let room = last-room (scanned (empty_reading ins) read).at (unfinished read) low later.1 in

@@ -1,36 +1,16 @@
 -- A reader from piece to piece.
-use Rattle.std.proofs.Common.{
-  ◌≡◌,
-  ℕ,
-  ◌+◌,
-  ◌≤◌,
-  ℤ,
-  false,
-  List,
-  [],
-  ◌∷◌,
-  ◌++◌,
-  length,
-  Some,
-  None,
-  refl,
-  ap,
-  sym,
-  subst,
-  ◌∙◌,
-  arith,
-  append_assoc,
-  append-nil,
-  length-append,
-}
+use Rattle.std.proofs.Common.{◌≡◌, ℕ, ◌+◌, ◌≤◌, ℤ, false, List, [], ◌∷◌, ◌++◌, length, None, refl, ap, sym, subst, ◌∙◌, arith, append_assoc, append-nil}
+use Rattle.std.proofs.Common.{length-append}
 use Rattle.std.specs.List.{list_all}
+use Rattle.std.proofs.lemmas.Bool.{and_from}
+use Rattle.bl_tree.proofs.Basics.{and_first, and_second}
 use Rattle.bl_tree.specs.declared.row.Column.{Column}
 use Rattle.bl_rows.specs.Reading.{Reading, RowsRead, empty_reading, fault_in, led_by_rows, read_on, rows_after, rows_in, rows_of}
-use Rattle.bl_rows.specs.declared.fault.RowFault.{RowFault}
 use Rattle.bl_rows_stream.specs.inner.Going.{HasFed}
 use Rattle.bl_tree.specs.Ports.{RowsFit, row_fits}
-use Rattle.bl_rows_stream.proofs.Fits.{and-both, and-left, and-right, fit-later, told-few, told-fits}
+use Rattle.bl_rows_stream.proofs.Fits.{fit-later, told-few, told-fits}
 use Rattle.bl_rows_stream.proofs.Reaches.{line-on, lines-on}
+use Rattle.bl_rows.proofs.Pieces.{stopped_told}
 
 pub none-in : (ins : List Column) → rows_in (empty_reading ins) [] ≡ []
 unfolding rows_in
@@ -101,9 +81,9 @@ piece-later ins read piece s s2 fed cuts =
 pub fit-first : (ins : List Column) (a b : List (List ℤ)) → RowsFit ins (a ++ b) → RowsFit ins a
 fit-first ins [] b fit = refl
 fit-first ins (row ∷ a) b fit =
-    let first = and-left (row_fits ins row) (list_all (row_fits ins) (a ++ b)) fit in
-    let rest = fit-first ins a b (and-right (row_fits ins row) (list_all (row_fits ins) (a ++ b)) fit) in
-    and-both (row_fits ins row) (list_all (row_fits ins) a) first rest
+    let first = and_first (row_fits ins row) (list_all (row_fits ins) (a ++ b)) fit in
+    let rest = fit-first ins a b (and_second (row_fits ins row) (list_all (row_fits ins) (a ++ b)) fit) in
+    and_from (row_fits ins row) (list_all (row_fits ins) a) first rest
 
 pub piece-fits : (ins : List Column) (read piece : List ℕ) (s s2 : Reading) → HasFed ins read s →
     ((rest : List ℕ) → rows_after s (piece ++ rest) ≡ led_by_rows (rows_in s piece) (rows_after s2 rest)) → RowsFit ins (rows_in s piece)
@@ -133,8 +113,5 @@ pub end-few : (ins : List Column) (read : List ℕ) (s : Reading) → HasFed ins
     length (rows_in (empty_reading ins) read) + length (rows_after s []).rows ≤ 1000000
 end-few ins read s fed = later-few ins read (rows_in (empty_reading ins) read) (rows_after s []).rows (ap (λ (t : RowsRead). t.rows) (end-told ins read s fed))
 
--- a reader that has stopped
-pub stopped-told : (s : Reading) (rest : List ℕ) (fault : RowFault) → s.stop ≡ Some fault →
-    rows_after s rest ≡ record { rows = []; fault = Some fault }
 unfolding rows_after
-stopped-told s rest fault is = rw is refl
+stopped_told s rest fault is = rw is refl

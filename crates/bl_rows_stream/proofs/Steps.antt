@@ -1,33 +1,7 @@
 -- From one piece of the file to the next.
-use Rattle.std.proofs.Common.{
-  ◌≡◌,
-  ℕ,
-  ◌+◌,
-  ◌≤◌,
-  ◌⊎◌,
-  true,
-  List,
-  [],
-  ◌++◌,
-  length,
-  take,
-  drop,
-  Option,
-  Some,
-  None,
-  inl,
-  inr,
-  refl,
-  ap,
-  sym,
-  subst,
-  ◌∙◌,
-  arith,
-  append_assoc,
-  append-nil,
-  length-append,
-}
-use Rattle.std.proofs.lemmas.List.{length-take-le, take-append-drop, take-append-le}
+use Rattle.std.proofs.Common.{◌≡◌, ℕ, ◌+◌, ◌≤◌, ◌⊎◌, true, List, [], ◌++◌, length, take, drop, Option, Some, None, inl, inr, refl, ap, sym, subst, ◌∙◌, arith}
+use Rattle.std.proofs.Common.{append_assoc, append-nil, length-append}
+use Rattle.std.proofs.lemmas.List.{length-take-le, take-append-drop}
 use Rattle.bl_ctext_semantics.specs.Cells.{inputs_of, outputs_of}
 use Rattle.bl_ctext_semantics.specs.Parts.{Parts}
 use Rattle.bl_crun.specs.Running.{Running}
@@ -44,40 +18,10 @@ use Rattle.bl_tree.specs.declared.row.Last.{Last}
 use Rattle.bl_tree.specs.declared.row.Last.TheVariants.{Open, Ended, Trap}
 use Rattle.bl_tree.specs.declared.row.Trace.{Trace}
 use Rattle.bl_rows_stream.specs.Reports.{after_rows, report_from, report_header, report_of, trace_from}
-use Rattle.bl_rows_stream.specs.inner.Going.{
-  RunEnds,
-  Going,
-  GoesOrEnds,
-  HasFed,
-  Leaves,
-  RunStands,
-  Start,
-  most_reach,
-  reach,
-  runner_at,
-  runner_start,
-  stopped,
-  whole,
-}
-use Rattle.bl_rows_stream.specs.Streams.{
-  AppendsFront,
-  AreLeft,
-  HasRead,
-  ReadsLines,
-  Reported,
-  Streamed,
-  all,
-  broken,
-  course_from,
-  cut,
-  finish_of,
-  front,
-  last_over,
-  ran,
-  report_over,
-  rows_so_far,
-  unread,
-}
+use Rattle.bl_rows_stream.specs.inner.Going.{RunEnds, Going, GoesOrEnds, HasFed, Leaves, RunStands, Start, most_reach, reach, runner_at, runner_start, stopped}
+use Rattle.bl_rows_stream.specs.inner.Going.{whole}
+use Rattle.bl_rows_stream.specs.Streams.{AppendsFront, AreLeft, HasRead, ReadsLines, Reported, Streamed, all, broken, course_from, cut, finish_of, front}
+use Rattle.bl_rows_stream.specs.Streams.{last_over, ran, report_over, rows_so_far, unread}
 use Rattle.bl_rows_stream.specs.declared.finish.Finish.{Finish}
 use Rattle.bl_rows_stream.specs.declared.finish.Finish.TheVariants as finish
 use Rattle.bl_rows_stream.specs.declared.finish.Progress.{Progress}
@@ -181,13 +125,6 @@ pub reads-none : (most : ℕ) (left : Option (List ℕ)) → ReadsLines most lef
 reads-none most None = tt
 reads-none most (Some bytes) =
     record { read = []; piece = []; rest = bytes; are = refl; few = omega arith; short = omega arith; within = omega arith; left = refl }
-
--- bytes are handed over into a room of which a front was given
-pub hands-front : (left left2 : Option (List ℕ)) (n : ℕ) (room behind : List ℕ) → n ≤ length room → HandsOver left n room left2 →
-    HandsOver left n (room ++ behind) left2
-hands-front None left2 n room behind low next = tt
-hands-front (Some bytes) left2 n room behind low next =
-    record { within = next.within; front = take-append-le n room behind low ∙ next.front; rest = next.rest; at_end = next.at_end }
 
 -- the piece behind what was read so far, or none
 pub reads-piece : (ins : List Column) (every left left2 : Option (List ℕ)) (read room : List ℕ) (n size : ℕ) (s : Reading) → HasRead every read left →

@@ -1,26 +1,5 @@
 -- Rows of a file that are gathered, from piece to piece.
-use Rattle.std.proofs.Common.{
-  ◌≡◌,
-  ℕ,
-  ◌≤◌,
-  ℤ,
-  false,
-  List,
-  [],
-  ◌++◌,
-  length,
-  Option,
-  Some,
-  None,
-  IfSome,
-  refl,
-  ap,
-  sym,
-  subst,
-  ◌∙◌,
-  arith,
-  append-nil,
-}
+use Rattle.std.proofs.Common.{◌≡◌, ℕ, ◌≤◌, ℤ, false, List, [], ◌++◌, length, Option, Some, None, IfSome, refl, ap, sym, subst, ◌∙◌, arith, append-nil}
 use Rattle.bl_io.specs.Left.{IsKept}
 use Rattle.bl_tree.specs.declared.row.Column.{Column}
 use Rattle.bl_rows.specs.Reading.{Reading, RowsRead, empty_reading, fault_in, led_by_rows, read_on, rows_after, rows_in, rows_of}
@@ -32,8 +11,9 @@ use Rattle.bl_rows_stream.specs.declared.gathered.RowsEnd.TheVariants.{Read, Unr
 use Rattle.bl_rows_stream.specs.inner.Taking.{Taken, TakesOn, at_fault}
 use Rattle.bl_rows_stream.proofs.Fits.{lines-few, told-few}
 use Rattle.bl_rows_stream.proofs.Reaches.{reads-low}
-use Rattle.bl_rows_stream.proofs.Readers.{end-told, fed-first, fed-more, none-in, stopped-told, told-more}
+use Rattle.bl_rows_stream.proofs.Readers.{end-told, fed-first, fed-more, none-in, told-more}
 use Rattle.bl_rows_stream.proofs.Steps.{rest-left}
+use Rattle.bl_rows.proofs.Pieces.{stopped_told}
 
 has-read-none : (all : Option (List ℕ)) → HasRead all [] all
 has-read-none None = tt
@@ -82,7 +62,7 @@ module _ (ins : List Column) (all left left2 : Option (List ℕ)) (s s2 : Readin
       let tells : rows_of ((taken.read ++ piece) ++ rest.0) ins
       ≡ led_by_rows (rows_in (empty_reading ins) taken.read ++ rows_in s piece) (record { rows = []; fault = Some fault }) =
       told-more ins taken.read piece rest.0 s s2 taken.fed (cuts rest.0)
-      ∙ ap (led_by_rows (rows_in (empty_reading ins) taken.read ++ rows_in s piece)) (stopped-told s2 rest.0 fault stop) in
+      ∙ ap (led_by_rows (rows_in (empty_reading ins) taken.read ++ rows_in s piece)) (stopped_told s2 rest.0 fault stop) in
       whole ((taken.read ++ piece) ++ rest.0) rest.1
       (both-rows ∙ sym (append-nil (rows_in (empty_reading ins) taken.read ++ rows_in s piece)) ∙ sym (ap (λ (t : RowsRead). t.rows) tells))
       (sym (ap (λ (t : RowsRead). t.fault) tells))

@@ -1,28 +1,6 @@
 -- What is written of a run, in two parts, and fronts of it.
-use Rattle.std.proofs.Common.{
-  ◌≡◌,
-  ℕ,
-  suc,
-  ◌+◌,
-  ℤ,
-  List,
-  [],
-  ◌∷◌,
-  ◌++◌,
-  length,
-  take,
-  Option,
-  Some,
-  None,
-  refl,
-  ap,
-  sym,
-  ◌∙◌,
-  arith,
-  append_assoc,
-  append-nil,
-  length-append,
-}
+use Rattle.std.proofs.Common.{◌≡◌, ℕ, suc, ◌+◌, ℤ, List, [], ◌∷◌, ◌++◌, length, take, Option, Some, None, refl, ap, sym, ◌∙◌, arith, append_assoc, append-nil}
+use Rattle.std.proofs.Common.{length-append}
 use Rattle.std.proofs.Math.Seq.{take-append_seam, take-append-add}
 use Rattle.std.proofs.lemmas.List.{take-append-le}
 use Rattle.bl_tree.specs.declared.row.Column.{Column}
@@ -38,7 +16,7 @@ use Rattle.bl_rows_stream.specs.Reports.{after_rows, end_text, if_row, report_fr
 use Rattle.bl_rows_stream.specs.inner.Reports.{text_from}
 use Rattle.bl_rows_stream.specs.Streams.{AppendsFront}
 use Rattle.bl_rows_stream.specs.declared.ticks.Report.{Report}
-use Rattle.bl_rows_stream.specs.declared.ticks.Report.TheVariants.{Trace, Counts, Nothing}
+use Rattle.bl_rows_stream.specs.declared.ticks.Report.TheVariants.{Trace}
 use Rattle.bl_rows_stream.proofs.Traces.{Standing, goes, closed, standing, trace-first, trace-none, traced_by}
 
 -- ---- two parts
@@ -95,26 +73,6 @@ report-of-on report r first rest running =
     ap (λ l. heading ++ l) (report-on report 1 r first rest running)
     ∙ sym (append_assoc heading (report_from report 1 r first) (report_from report (1 + length first) (after_rows r first) rest))
     ∙ ap (λ k. report_of report r first ++ report_from report k (after_rows r first) rest) e
-
--- ---- one tick
-
-pub written-same : (report : Report) (n : ℕ) (outs : List Column) (answer : TickAnswer) (outputs before : List ℤ) (count : ℕ) →
-    tick_text report n outs answer (unless_trapped answer outputs before) count ≡ tick_text report n outs answer outputs count
-written-same Trace n outs tick.Row outputs before count = refl
-written-same Trace n outs tick.Ended outputs before count = refl
-written-same Trace n outs tick.Trap outputs before count = refl
-written-same Counts n outs answer outputs before count = refl
-written-same Nothing n outs answer outputs before count = refl
-
-none-behind : (answer : TickAnswer) → if_row answer [] ≡ []
-none-behind tick.Row = refl
-none-behind tick.Ended = refl
-none-behind tick.Trap = refl
-
--- what is written of one row alone
-pub report-one : (report : Report) (n : ℕ) (r : Running) (ins : List ℤ) → report_from report n r (ins ∷ []) ≡ first_text report n r ins
-report-one report n r ins =
-    ap (λ l. first_text report n r ins ++ l) (none-behind (answer_of (reply_at r ins))) ∙ append-nil (first_text report n r ins)
 
 -- ---- the text of a trace
 

@@ -1,5 +1,5 @@
 -- The trace over rows, in two parts.
-use Rattle.std.proofs.Common.{◌≡◌, ℕ, suc, ℤ, Bool, true, false, List, [], ◌∷◌, ◌++◌, length, refl, ap, sym, ◌∙◌}
+use Rattle.std.proofs.Common.{◌≡◌, ℤ, Bool, true, false, List, [], ◌∷◌, ◌++◌, refl, ap, sym, ◌∙◌}
 use Rattle.bl_tree.specs.declared.row.Last.{Last}
 use Rattle.bl_tree.specs.declared.row.Last.TheVariants.{Open, Ended, Trap}
 use Rattle.bl_tree.specs.declared.row.Trace.{Trace}
@@ -87,23 +87,6 @@ trace-closed r (ins ∷ first) rest closed =
     ∙ closed-first answer outputs (trace_from (after_tick r ins) first) (trace_from (after_tick r ins) (first ++ rest))
     (λ e. closed (ap (λ (t : Trace). t.last) is ∙ e)) (trace-closed (after_tick r ins) first rest)
     ∙ sym is
-
-long-first : (answer : TickAnswer) (outputs : List ℤ) (first : Trace) (n : ℕ) → (traced_by answer outputs first).last ≡ Open →
-    (first.last ≡ Open → length first.rows ≡ n) → length (traced_by answer outputs first).rows ≡ suc n
-long-first tick.Row outputs first n running long = ap suc (long running)
-long-first tick.Ended outputs first n running long = cc
-long-first tick.Trap outputs first n running long = cc
-
--- a run that is open has a row of outputs for each row
-pub trace-long : (r : Running) (rows : List (List ℤ)) → (trace_from r rows).last ≡ Open → length (trace_from r rows).rows ≡ length rows
-trace-long r [] running = ap (λ (t : Trace). length t.rows) (trace-none r)
-trace-long r (ins ∷ rows) running =
-    let answer : TickAnswer = answer_of (reply_at r ins) in
-    let outputs : List ℤ = outputs_after r ins [] in
-    let is = trace-first r ins [] rows in
-    ap (λ (t : Trace). length t.rows) is
-    ∙ long-first answer outputs (trace_from (after_tick r ins) rows) (length rows) (ap (λ (t : Trace). t.last) (sym is) ∙ running)
-    (trace-long (after_tick r ins) rows)
 
 -- ---- the runner after rows
 

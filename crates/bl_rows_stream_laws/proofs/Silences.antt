@@ -1,5 +1,5 @@
 -- What a silent run comes to.
-use Rattle.std.proofs.Common.{◌≡◌, ◌∙◌, ℕ, ℤ, true, false, List, [], ◌∷◌, refl, sym, ap, subst, inl, inr}
+use Rattle.std.proofs.Common.{◌≡◌, ◌∙◌, ℕ, ℤ, true, false, List, [], ◌∷◌, refl, sym, ap, inl, inr}
 use Rattle.std.specs.Prelude.{Option, Some, None}
 use Rattle.bl_ctext_semantics.specs.Cells.{inputs_of}
 use Rattle.bl_ctext_semantics.specs.Parts.{Parts}
@@ -41,14 +41,6 @@ after file (ins ∷ rows) cells is =
     ap (λ reply. after_rows (ticked file reply t.cells) rows) on.0 ∙ after file rows t.cells on.1
 
 -- ---- how it ends
-
--- a run that is open and done has no bad line
-no_fault : (f : Option RowFault) → finish.Done ≡ while_open f → f ≡ None
-no_fault None is = refl
-no_fault (Some (fault.BadHeader line)) is = absurd (cc)
-no_fault (Some (fault.BadRow line)) is = absurd (cc)
-no_fault (Some (fault.LongLine line)) is = absurd (cc)
-no_fault (Some fault.NoMemory) is = absurd (cc)
 
 module _ (file : Parts) (numbers : List ℤ) (left rest : Option (List ℕ)) (now : Running) (bytes : List ℕ) (are : AreLeft left bytes) where
   abbrev rows : List (List ℤ)

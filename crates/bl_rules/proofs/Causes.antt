@@ -1,9 +1,9 @@
 -- Refusals of the judges have a cause in the rules together.
 use Rattle.std.proofs.Common.{◌≡◌, ℕ, ap, sym, ◌∙◌, ◌<◌, ◌^◌, List, [], length, inl, inr, refl, subst, arith}
 use Rattle.std.proofs.lemmas.Bool.{cases_lt}
-use Rattle.bl_cause_trees.specs.Laws.{TreesAreOne as UnitsHaveOneTree}
+use Rattle.bl_cause_trees.specs.Laws.{PeeledAreOne}
 use Rattle.bl_cause_trees.specs.Rules.{Fails as GraphsFail, Passes as GraphsPass}
-use Rattle.bl_cause_trees.specs.Trees.{AreTrees, IsTreeOf}
+use Rattle.bl_cause_trees.specs.Peeled.{ArePeeled, IsPeeled}
 use Rattle.bl_effects.specs.Rules.{Fails as UnitsFail, Passes as UnitsPass}
 use Rattle.bl_lex.specs.Rules.{Fails as TextFails, Passes as TextPasses}
 use Rattle.bl_lex.specs.Tokens.{Lexes}
@@ -12,23 +12,8 @@ use Rattle.bl_parse.specs.Programs.{Spells}
 use Rattle.bl_types_program.specs.Cause.{IsCause as IsTypingCause, names as by_names, types as by_types}
 use Rattle.bl_types_program.specs.Programs.{IsProgramOf, named_of, typed_of}
 use Rattle.bl_parse_tree.specs.declared.raw.Raw.{Raw}
-use Rattle.bl_rules.proofs.Layers.{
-  TokensAreOne,
-  TokensThatPass,
-  TreesAreOne,
-  all_pass,
-  bytes_first,
-  graphs_first,
-  limits_first,
-  names_first,
-  program_first,
-  text_passes,
-  tokens_first,
-  tree_first,
-  tree_passes,
-  types_first,
-  units_first,
-}
+use Rattle.bl_rules.proofs.Layers.{TokensAreOne, TokensThatPass, TreesAreOne, all_pass, bytes_first, graphs_first, limits_first, names_first, program_first}
+use Rattle.bl_rules.proofs.Layers.{text_passes, tokens_first, tree_first, tree_passes, types_first, units_first}
 use Rattle.bl_rules.specs.Accepted.{HasProgram}
 use Rattle.bl_rules.specs.Rules.{Fails, Parses, ProgramFails, ProgramPasses, TreeFails, TreePasses}
 use Rattle.bl_names_scopes.specs.Rules.{Passes as NamesPass}
@@ -92,28 +77,28 @@ module _ (structs : List StructDef) (units : List UnitDef) (entry : ℕ) where
   graphs_cause (refusal.Rule rule place also) pass first = graphs_first structs units entry pass rule place also first
   graphs_cause refusal.NoMemory pass first = tt
 
-  pub limits_cause : UnitsHaveOneTree → (trees : List UnitDef) → AreTrees units trees → (told : Refusal) → UnitsPass units → GraphsPass units →
-      IsCause (LimitsFail structs trees entry) told → IsCause (ProgramFails structs units entry) told
-  limits_cause one trees are (refusal.Rule rule place also) pass more first =
-      limits_first structs units entry one trees are pass more rule place also first
-  limits_cause one trees are refusal.NoMemory pass more first = tt
+  pub limits_cause : PeeledAreOne → (peeled : List UnitDef) → ArePeeled units peeled → (told : Refusal) → UnitsPass units → GraphsPass units →
+      IsCause (LimitsFail structs peeled entry) told → IsCause (ProgramFails structs units entry) told
+  limits_cause one peeled are (refusal.Rule rule place also) pass more first =
+      limits_first structs units entry one peeled are pass more rule place also first
+  limits_cause one peeled are refusal.NoMemory pass more first = tt
 
--- ---- the program of the trees
+-- ---- the peeled program
 
-module _ (one : UnitsHaveOneTree) (program tree : Program) (is : IsTreeOf program tree) where
-  pub tree_passes_limits : UnitsPass program.units → GraphsPass program.units → LimitsPass tree.structs tree.units tree.entry →
+module _ (one : PeeledAreOne) (program peeled : Program) (is : IsPeeled program peeled) where
+  pub peeled_passes_limits : UnitsPass program.units → GraphsPass program.units → LimitsPass peeled.structs peeled.units peeled.entry →
       ProgramPasses program.structs program.units program.entry
-  tree_passes_limits pass more most =
-      all_pass program.structs program.units program.entry one tree.units is.units pass more
-      (subst (λ structs. LimitsPass structs tree.units program.entry) is.structs
-      (subst (λ entry. LimitsPass tree.structs tree.units entry) is.entry most))
+  peeled_passes_limits pass more most =
+      all_pass program.structs program.units program.entry one peeled.units is.units pass more
+      (subst (λ structs. LimitsPass structs peeled.units program.entry) is.structs
+      (subst (λ entry. LimitsPass peeled.structs peeled.units entry) is.entry most))
 
-  pub tree_limits_cause : (told : Refusal) → UnitsPass program.units → GraphsPass program.units →
-      IsCause (LimitsFail tree.structs tree.units tree.entry) told → IsCause (ProgramFails program.structs program.units program.entry) told
-  tree_limits_cause told pass more first =
-      limits_cause program.structs program.units program.entry one tree.units is.units told pass more
-      (subst (λ structs. IsCause (LimitsFail structs tree.units program.entry) told) is.structs
-      (subst (λ entry. IsCause (LimitsFail tree.structs tree.units entry) told) is.entry first))
+  pub peeled_limits_cause : (told : Refusal) → UnitsPass program.units → GraphsPass program.units →
+      IsCause (LimitsFail peeled.structs peeled.units peeled.entry) told → IsCause (ProgramFails program.structs program.units program.entry) told
+  peeled_limits_cause told pass more first =
+      limits_cause program.structs program.units program.entry one peeled.units is.units told pass more
+      (subst (λ structs. IsCause (LimitsFail structs peeled.units program.entry) told) is.structs
+      (subst (λ entry. IsCause (LimitsFail peeled.structs peeled.units entry) told) is.entry first))
 
 -- ---- texts
 

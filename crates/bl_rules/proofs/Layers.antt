@@ -1,8 +1,8 @@
 -- What fails first in its layer, where the layers before it pass, fails first of all rules.
 use Rattle.std.proofs.Common.{◌≡◌, ℕ, List, length, subst}
-use Rattle.bl_cause_trees.specs.Laws.{TreesAreOne as UnitsHaveOneTree}
+use Rattle.bl_cause_trees.specs.Laws.{PeeledAreOne}
 use Rattle.bl_cause_trees.specs.Rules.{Fails as GraphsFail, Passes as GraphsPass}
-use Rattle.bl_cause_trees.specs.Trees.{AreTrees}
+use Rattle.bl_cause_trees.specs.Peeled.{ArePeeled}
 use Rattle.bl_effects.specs.Rules.{Fails as UnitsFail, Passes as UnitsPass}
 use Rattle.bl_lex.specs.Rules.{Fails as TextFails, Passes as TextPasses}
 use Rattle.bl_lex.specs.Tokens.{Lexes}
@@ -12,24 +12,8 @@ use Rattle.bl_types_program.specs.Programs.{IsProgramOf, named_of, typed_of}
 use Rattle.bl_parse_tree.specs.declared.raw.Raw.{Raw}
 use Rattle.bl_parse_tree.specs.WellFormed.{RawIsWellFormed}
 use Rattle.bl_rules.specs.Accepted.{HasProgram, IsOfTree}
-use Rattle.bl_rules.specs.Rules.{
-  Fails,
-  Parses,
-  Passes,
-  ProgramFails,
-  ProgramPasses,
-  TreeFails,
-  TreePasses,
-  in_bytes,
-  in_graphs,
-  in_limits,
-  in_names,
-  in_program,
-  in_tokens,
-  in_tree,
-  in_types,
-  in_units,
-}
+use Rattle.bl_rules.specs.Rules.{Fails, Parses, Passes, ProgramFails, ProgramPasses, TreeFails, TreePasses, in_bytes, in_graphs, in_limits, in_names}
+use Rattle.bl_rules.specs.Rules.{in_program, in_tokens, in_tree, in_types, in_units}
 use Rattle.bl_names_scopes.specs.Rules.{Fails as NamesFail, Passes as NamesPass}
 use Rattle.bl_parse_syntax.specs.Rules.{Fails as TokensFail, Passes as TokensPass, PassesDepth}
 use Rattle.bl_tree.proofs.FirstLemmas.{alike_first}
@@ -52,7 +36,7 @@ module _ (structs : List StructDef) (units : List UnitDef) (entry : ℕ) where
       back : (r : Rule) (p : Place) (a : List Place) → ProgramFails structs units entry r p a → UnitsFail units r p a
       back r p a (in_units f) = f
       back r p a (in_graphs passes f) = absurd (passes rule at also first.fails)
-      back r p a (in_limits trees passes others are f) = absurd (passes rule at also first.fails)
+      back r p a (in_limits peeled passes others are f) = absurd (passes rule at also first.fails)
 
   pub graphs_first : UnitsPass units → (rule : Rule) (at : Place) (also : List Place) → FailsFirst (GraphsFail units) rule at also →
       FailsFirst (ProgramFails structs units entry) rule at also
@@ -62,26 +46,26 @@ module _ (structs : List StructDef) (units : List UnitDef) (entry : ℕ) where
       back : (r : Rule) (p : Place) (a : List Place) → ProgramFails structs units entry r p a → GraphsFail units r p a
       back r p a (in_units f) = absurd (pass r p a f)
       back r p a (in_graphs passes f) = f
-      back r p a (in_limits trees passes others are f) = absurd (others rule at also first.fails)
+      back r p a (in_limits peeled passes others are f) = absurd (others rule at also first.fails)
 
-  module _ (one : UnitsHaveOneTree) (trees : List UnitDef) (are : AreTrees units trees) where
-    -- what fails on trees fails on these
-    on_these : (others : List UnitDef) → AreTrees units others → (r : Rule) (p : Place) (a : List Place) → LimitsFail structs others entry r p a →
-        LimitsFail structs trees entry r p a
-    on_these others too r p a f = subst (λ them. LimitsFail structs them entry r p a) (one units others trees too are) f
+  module _ (one : PeeledAreOne) (peeled : List UnitDef) (are : ArePeeled units peeled) where
+    -- what fails on peeled units fails on these
+    on_these : (others : List UnitDef) → ArePeeled units others → (r : Rule) (p : Place) (a : List Place) → LimitsFail structs others entry r p a →
+        LimitsFail structs peeled entry r p a
+    on_these others too r p a f = subst (λ them. LimitsFail structs them entry r p a) (one units others peeled too are) f
 
     pub limits_first : UnitsPass units → GraphsPass units → (rule : Rule) (at : Place) (also : List Place) →
-        FailsFirst (LimitsFail structs trees entry) rule at also → FailsFirst (ProgramFails structs units entry) rule at also
+        FailsFirst (LimitsFail structs peeled entry) rule at also → FailsFirst (ProgramFails structs units entry) rule at also
     limits_first pass more rule at also first =
-        alike_first (LimitsFail structs trees entry) (ProgramFails structs units entry) (λ r p a f. in_limits trees pass more are f) back
+        alike_first (LimitsFail structs peeled entry) (ProgramFails structs units entry) (λ r p a f. in_limits peeled pass more are f) back
         rule at also first
       where
-        back : (r : Rule) (p : Place) (a : List Place) → ProgramFails structs units entry r p a → LimitsFail structs trees entry r p a
+        back : (r : Rule) (p : Place) (a : List Place) → ProgramFails structs units entry r p a → LimitsFail structs peeled entry r p a
         back r p a (in_units f) = absurd (pass r p a f)
         back r p a (in_graphs passes f) = absurd (more r p a f)
         back r p a (in_limits others passes graphs too f) = on_these others too r p a f
 
-    pub all_pass : UnitsPass units → GraphsPass units → LimitsPass structs trees entry → ProgramPasses structs units entry
+    pub all_pass : UnitsPass units → GraphsPass units → LimitsPass structs peeled entry → ProgramPasses structs units entry
     all_pass pass more most r p a (in_units f) = pass r p a f
     all_pass pass more most r p a (in_graphs passes f) = more r p a f
     all_pass pass more most r p a (in_limits others passes graphs too f) = most r p a (on_these others too r p a f)

@@ -1,3 +1,3 @@
 pub mod Causes
 pub mod Layers
-pub mod Trees
+pub mod Peeled

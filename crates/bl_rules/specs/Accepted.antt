@@ -1,7 +1,7 @@
 -- The program of a source text, or of a raw tree, that is accepted.
 use Rattle.std.specs.Prelude.{ℕ, List}
 use Rattle.bl_cause.specs.Accepted.{AcceptedProgram}
-use Rattle.bl_cause_trees.specs.Trees.{IsTreeOf}
+use Rattle.bl_cause_trees.specs.Peeled.{IsPeeled}
 use Rattle.bl_types_program.specs.Programs.{IsProgramOf}
 use Rattle.bl_parse_tree.specs.declared.raw.Raw.{Raw}
 use Rattle.bl_parse_tree.specs.WellFormed.{RawIsWellFormed}
@@ -30,11 +30,11 @@ pub record IsOfTree (program : Program) : Type 0 where
 pub record SeenSource : Type 0 where
   -- the program of the source
   pub program : Program
-  -- the program of the trees of its units, accepted by itself: C is made of it
-  pub tree : AcceptedProgram
+  -- its peeled program, accepted by itself: C is made of it
+  pub peeled : AcceptedProgram
 
--- the program of a source is that of a well-formed tree for which no rule fails, and the other program is that of the trees of its units
+-- the program of a source is that of a well-formed tree for which no rule fails, and the other program is the peeled one
 pub record IsAcceptedSource (source : SeenSource) : Type 0 where
   pub of_tree : IsOfTree source.program
   pub passes : ProgramPasses source.program.structs source.program.units source.program.entry
-  pub is_tree : IsTreeOf source.program source.tree.program
+  pub is_peeled : IsPeeled source.program source.peeled.program

@@ -1,7 +1,7 @@
 -- How a source text fails the rules, all of them in one relation, and the first rule that fails.
 use Rattle.std.specs.Prelude.{ℕ, List, length}
 use Rattle.bl_cause_trees.specs.Rules.{Fails as GraphsFail, Passes as GraphsPass}
-use Rattle.bl_cause_trees.specs.Trees.{AreTrees}
+use Rattle.bl_cause_trees.specs.Peeled.{ArePeeled}
 use Rattle.bl_effects.specs.Rules.{Fails as UnitsFail, Passes as UnitsPass}
 use Rattle.bl_lex.specs.Rules.{Fails as TextFails, Passes as TextPasses}
 use Rattle.bl_lex.specs.Tokens.{Lexes}
@@ -30,10 +30,10 @@ pub record Parses (text : List ℕ) (raw : Raw) : Type 0 where
 pub data ProgramFails (structs : List StructDef) (units : List UnitDef) (entry : ℕ) (rule : Rule) (at : Place) (also : List Place) : Type 0 where
   -- a failure of Pause, Conflict, Alias or Instant, on the units
   in_units : UnitsFail units rule at also → ProgramFails structs units entry rule at also
-  -- a failure of Twice or Cycle, on the tick graphs of the trees of the activities
+  -- a failure of Twice or Cycle, on the tick graphs of the peeled activities
   in_graphs : UnitsPass units → GraphsFail units rule at also → ProgramFails structs units entry rule at also
-  -- a failure of Frames or Cells, on the measures of the program of the units' trees
-  in_limits : (trees : List UnitDef) → UnitsPass units → GraphsPass units → AreTrees units trees → LimitsFail structs trees entry rule at also →
+  -- a failure of Frames or Cells, on the measures of the peeled program
+  in_limits : (peeled : List UnitDef) → UnitsPass units → GraphsPass units → ArePeeled units peeled → LimitsFail structs peeled entry rule at also →
       ProgramFails structs units entry rule at also
 
 -- no rule on typed programs fails for the program

@@ -4,13 +4,13 @@ use bl_cause::{Accepted, Schedule};
 use bl_tree::Program;
 use std::marker::Model;
 
-/// A source for which no rule fails: its program, and the program of the trees of its units, accepted by itself, of which C is made
-/// (`specs/Accepted.antt`, `SeenSource`). Where each unit is its own tree there is one program, and nothing is kept twice.
+/// A source for which no rule fails: its program, and its peeled program, accepted by itself, of which C is made
+/// (`specs/Accepted.antt`, `SeenSource`). Where each unit stays as it is there is one program, and nothing is kept twice.
 #[derive(Drop)]
 pub struct AcceptedSource {
-    /// The program of the source, where it isn't that of the trees.
+    /// The program of the source, where it isn't the peeled one.
     source: Option<Program>,
-    tree: Accepted,
+    peeled: Accepted,
 }
 
 impl Model for AcceptedSource {
@@ -25,41 +25,44 @@ impl Model for AcceptedSource {
 
     ghost coded = { Prim.hlevel (codes, stmt.the_row.coded, kind.the_row.coded, ty.the_row.coded) };
 
-    ghost view = { λ a. record { program = unwrap_or a.source a.tree.program; tree = a.tree } };
+    ghost view = { λ a. record { program = unwrap_or a.source a.peeled.program; peeled = a.peeled } };
 
-    ghost invariant = { λ a. IsAcceptedSource (record { program = unwrap_or a.source a.tree.program; tree = a.tree }) };
+    ghost invariant = { λ a. IsAcceptedSource (record { program = unwrap_or a.source a.peeled.program; peeled = a.peeled }) };
 }
 
 impl AcceptedSource {
     ghost use Rattle.std.specs.Prelude.{◌≡◌, unwrap_or};
     ghost use Rattle.bl_cause.specs.Accepted.{IsSchedule};
     ghost use Rattle.bl_cause.specs.Rules.{Passes as OwnGraphsPass};
-    ghost use Rattle.bl_cause_trees.specs.Trees.{IsTreeOf};
+    ghost use Rattle.bl_cause_trees.specs.Peeled.{IsPeeled};
     ghost use Rattle.bl_effects.specs.Rules.{Passes as UnitsPass};
     ghost use Rattle.bl_limits.specs.Rules.{Passes as KeepsLimits};
     ghost use Rattle.bl_rules.specs.Accepted.{IsAcceptedSource, IsOfTree};
     ghost use Rattle.bl_rules.specs.Rules.{ProgramPasses};
 
-    /// The program of a tree for which no rule fails, with the program of the trees of its units, unless it is that itself, and the
-    /// schedule of that.
-    pub(crate) fn new(program: Program, tree: Option<Program>, schedule: Schedule) -> AcceptedSource
+    /// The program of a tree for which no rule fails, with its peeled program, unless it is that itself, and the schedule of that.
+    pub(crate) fn new(
+        program: Program,
+        peeled: Option<Program>,
+        schedule: Schedule,
+    ) -> AcceptedSource
         requires of_tree { IsOfTree program }
         requires passes { ProgramPasses program.structs program.units program.entry }
-        requires is_tree { IsTreeOf program (unwrap_or tree program) }
-        requires units { UnitsPass (unwrap_or tree program).units }
-        requires no_walks { OwnGraphsPass (unwrap_or tree program).units }
-        requires limits { KeepsLimits (unwrap_or tree program).structs (unwrap_or tree program).units (unwrap_or tree program).entry }
-        requires schedule { IsSchedule (unwrap_or tree program).units schedule.effects schedule.graphs schedule.orders }
+        requires is_peeled { IsPeeled program (unwrap_or peeled program) }
+        requires units { UnitsPass (unwrap_or peeled program).units }
+        requires no_walks { OwnGraphsPass (unwrap_or peeled program).units }
+        requires limits { KeepsLimits (unwrap_or peeled program).structs (unwrap_or peeled program).units (unwrap_or peeled program).entry }
+        requires schedule { IsSchedule (unwrap_or peeled program).units schedule.effects schedule.graphs schedule.orders }
         ensures { result.program ≡ program }
     {
-        match tree {
-            Some(tree) => AcceptedSource {
+        match peeled {
+            Some(peeled) => AcceptedSource {
                 source: Some(program),
-                tree: Accepted::new(tree, schedule),
+                peeled: Accepted::new(peeled, schedule),
             },
             None => AcceptedSource {
                 source: None,
-                tree: Accepted::new(program, schedule),
+                peeled: Accepted::new(program, schedule),
             },
         }
     }
@@ -70,21 +73,21 @@ impl AcceptedSource {
     {
         match &self.source {
             Some(program) => program,
-            None => self.tree.program(),
+            None => self.peeled.program(),
         }
     }
 
-    /// The program of the trees of its units, of which C is made.
-    pub fn tree(&self) -> &Accepted
-        ensures { result.now ≡ self.now.tree }
+    /// The peeled program, of which C is made.
+    pub fn peeled(&self) -> &Accepted
+        ensures { result.now ≡ self.now.peeled }
     {
-        &self.tree
+        &self.peeled
     }
 
     /// No rule fails for the source, and its program is that of a tree.
     pub fn is_accepted(&self)
         ensures { IsAcceptedSource self.now }
     {
-        let _ = &self.tree;
+        let _ = &self.peeled;
     }
 }

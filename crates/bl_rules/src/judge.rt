@@ -1,7 +1,7 @@
 //! Texts and trees judged by the rules in their order.
 
 ghost use Rattle.std.specs.Prelude.{◌≡◌, IfErr, IfOk, OnOk, unwrap_or};
-ghost use Rattle.bl_cause_trees.specs.Trees.{TreesAreTyped};
+ghost use Rattle.bl_cause_trees.specs.Peeled.{PeeledAreTyped};
 ghost use Rattle.bl_limits.specs.Rules.{Fails as LimitsFail, Passes as LimitsPass};
 ghost use Rattle.bl_types_program.specs.Programs.{IsProgramOf};
 ghost use Rattle.bl_rules.specs.Accepted.{HasProgram, IsOfTree};
@@ -9,9 +9,9 @@ ghost use Rattle.bl_rules.specs.Rules.{Fails, Passes, ProgramFails, ProgramPasse
 ghost use Rattle.bl_tree.specs.Rules.{IsCause};
 
 use crate::accepted::AcceptedSource;
-use crate::laws::{trees_keep_the_rules, trees_stay_typed};
+use crate::laws::{peeled_units_pass_the_rules, peeled_units_stay_typed};
 use bl_cause_trees::Scheduled;
-use bl_cause_trees::laws::units_have_one_list_of_trees;
+use bl_cause_trees::laws::units_are_peeled_in_one_way;
 use bl_lex::laws::tokens_are_one;
 use bl_parse_laws::spelled::a_text_has_one_tree;
 use bl_parse_syntax::laws::first_failure_is_one;
@@ -48,7 +48,7 @@ pub fn accept_raw(alloc: Global, tree: &WellFormedTree) -> Result<AcceptedSource
     ensures program { IfOk result (λ accepted. IsProgramOf tree.now.raw accepted.program) }
     ensures cause { IfErr result (IsCause (TreeFails tree.now.raw)) }
 {
-    trees_stay_typed();
+    peeled_units_stay_typed();
     let program = match bl_types_program::check(alloc, &tree.raw) {
         Ok(program) => program,
         Err(refusal) => return Err(refusal),
@@ -59,17 +59,17 @@ pub fn accept_raw(alloc: Global, tree: &WellFormedTree) -> Result<AcceptedSource
     }
 }
 
-/// Judges those of a typed program of a tree, from Pause on, and gives the program of the trees of its units with its schedule. That program
+/// Judges those of a typed program of a tree, from Pause on, and gives its peeled program with the schedule of that. The peeled program
 /// is typed too: bodies with first turns of loops nest deeper than their sources, and keep the places of these.
 fn accept_program(alloc: Global, program: Program) -> Result<AcceptedSource, Refusal>
-    requires typed { TreesAreTyped program.structs program.units program.entry }
+    requires typed { PeeledAreTyped program.structs program.units program.entry }
     requires of_tree { ProgramPasses program.structs program.units program.entry → IsOfTree program }
     ensures passes { OnOk result (ProgramPasses program.structs program.units program.entry) }
     ensures program { IfOk result (λ accepted. accepted.program ≡ program) }
     ensures cause { IfErr result (IsCause (ProgramFails program.structs program.units program.entry)) }
 {
-    units_have_one_list_of_trees();
-    trees_keep_the_rules();
+    units_are_peeled_in_one_way();
+    peeled_units_pass_the_rules();
     match bl_conflict::check(alloc, &program) {
         Ok(()) => {}
         Err(refusal) => return Err(refusal),
@@ -78,22 +78,22 @@ fn accept_program(alloc: Global, program: Program) -> Result<AcceptedSource, Ref
         Ok(scheduled) => scheduled,
         Err(refusal) => return Err(refusal),
     };
-    let Scheduled { tree, schedule } = scheduled;
-    match check_limits(alloc, &program, &tree) {
-        Ok(()) => Ok(AcceptedSource::new(program, tree, schedule)),
+    let Scheduled { peeled, schedule } = scheduled;
+    match check_limits(alloc, &program, &peeled) {
+        Ok(()) => Ok(AcceptedSource::new(program, peeled, schedule)),
         Err(refusal) => Err(refusal),
     }
 }
 
-/// Judges Frames and Cells, on the program of the trees. Without one the program itself is that.
-fn check_limits(alloc: Global, program: &Program, tree: &Option<Program>) -> Result<(), Refusal>
-    ensures passes { OnOk result (LimitsPass (unwrap_or tree.now program.now).structs (unwrap_or tree.now program.now).units
-        (unwrap_or tree.now program.now).entry) }
-    ensures cause { IfErr result (IsCause (LimitsFail (unwrap_or tree.now program.now).structs (unwrap_or tree.now program.now).units
-        (unwrap_or tree.now program.now).entry)) }
+/// Judges Frames and Cells, on the peeled program. Without one the program itself is that.
+fn check_limits(alloc: Global, program: &Program, peeled: &Option<Program>) -> Result<(), Refusal>
+    ensures passes { OnOk result (LimitsPass (unwrap_or peeled.now program.now).structs (unwrap_or peeled.now program.now).units
+        (unwrap_or peeled.now program.now).entry) }
+    ensures cause { IfErr result (IsCause (LimitsFail (unwrap_or peeled.now program.now).structs (unwrap_or peeled.now program.now).units
+        (unwrap_or peeled.now program.now).entry)) }
 {
-    match tree {
-        Some(tree) => bl_limits::check(alloc, tree),
+    match peeled {
+        Some(peeled) => bl_limits::check(alloc, peeled),
         None => bl_limits::check(alloc, program),
     }
 }

@@ -3,7 +3,7 @@
 ghost use Rattle.std.specs.Prelude.{◌≡◌, false, ℕ, List};
 ghost use Rattle.bl_parse_tree.specs.declared.raw.Raw.{Raw};
 ghost use Rattle.bl_rules.specs.Accepted.{HasProgram, HasTree, IsOfTree};
-ghost use Rattle.bl_rules.specs.Laws.{TreesKeepGraphRules, TreesKeepUnitRules, TreesStayTyped};
+ghost use Rattle.bl_rules.specs.Laws.{PeeledKeepGraphRules, PeeledKeepUnitRules, PeeledStayTyped};
 ghost use Rattle.bl_rules.specs.Rules.{FirstFailing, Parses, Passes, TreePasses};
 ghost use Rattle.bl_tree.specs.declared.place.Place.{Place};
 ghost use Rattle.bl_tree.specs.declared.program.Program.{Program};
@@ -11,7 +11,7 @@ ghost use Rattle.bl_tree.specs.declared.rule.Rule.{Rule};
 ghost use Rattle.bl_tree.specs.Rules.{tells_walk};
 ghost use Rattle.bl_types_program.specs.Programs.{IsProgramOf};
 
-use bl_cause_trees::laws::{trees_are_judged, trees_are_peeled};
+use bl_cause_trees::laws::{peeled_units_are_judged, units_are_peeled};
 use bl_lex::laws::tokens_are_one;
 use bl_parse_laws::kept::what_is_spelled_keeps;
 use bl_parse_laws::spelled::a_text_has_one_tree;
@@ -48,21 +48,21 @@ pub fn programs_of_texts_are_of_trees()
     what_is_spelled_keeps();
 }
 
-/// The trees of the units of a source's program are the units of a typed program.
-pub fn trees_stay_typed()
-    ensures { TreesStayTyped }
+/// The peeled units of a source's program are the units of a typed program.
+pub fn peeled_units_stay_typed()
+    ensures { PeeledStayTyped }
 {
-    trees_are_peeled();
+    units_are_peeled();
     places_of_peeled_units_decide();
     peeled_programs_keep_typing();
 }
 
-/// The trees of units for which no rule on units and none on tick graphs fails pass these rules by themselves.
-pub fn trees_keep_the_rules()
-    ensures units { TreesKeepUnitRules }
-    ensures graphs { TreesKeepGraphRules }
+/// The peeled units of units for which no rule on units and none on tick graphs fails pass these rules by themselves.
+pub fn peeled_units_pass_the_rules()
+    ensures units { PeeledKeepUnitRules }
+    ensures graphs { PeeledKeepGraphRules }
 {
-    trees_are_peeled();
-    trees_are_judged();
+    units_are_peeled();
+    peeled_units_are_judged();
     peeled_units_keep_the_rules();
 }

@@ -2,8 +2,8 @@
 use Rattle.std.proofs.Common.{ℕ, List, sym, subst}
 use Rattle.bl_tree.specs.declared.program.Program.{Program}
 use Rattle.bl_tree.specs.declared.tree.Unit.{Unit as UnitDef}
-use Rattle.bl_cause_trees.specs.Laws.{TreesArePeeled}
-use Rattle.bl_cause_trees.specs.Trees.{AreTrees}
+use Rattle.bl_cause_trees.specs.Laws.{UnitsArePeeled}
+use Rattle.bl_cause_trees.specs.Peeled.{ArePeeled}
 use Rattle.bl_peel_laws.specs.Prevs.{PeeledIsFromText}
 use Rattle.bl_machine_prevs.specs.Declared.{FromText}
 use Rattle.bl_types_program.specs.Programs.{named_of}
@@ -27,7 +27,7 @@ trees_declare typed program of =
     let types : TypesPass (named_of raw) = λ r p a f. of.passes r p a (in_types names f) in
     subst FromText (sym of.is.units) (typed raw.items raw.bytes of.well_formed names types)
 
--- and so do the trees of these units
-pub peeled_declare : ((program : Program) → IsOfTree program → FromText program.units) → TreesArePeeled → PeeledIsFromText →
-    (program : Program) (trees : List UnitDef) → IsOfTree program → AreTrees program.units trees → FromText trees
-peeled_declare declare peel peeled program trees of are = peeled program.units trees (peel program.units trees are) (declare program of)
+-- and so do the peeled units
+pub peeled_declare : ((program : Program) → IsOfTree program → FromText program.units) → UnitsArePeeled → PeeledIsFromText →
+    (program : Program) (peeled : List UnitDef) → IsOfTree program → ArePeeled program.units peeled → FromText peeled
+peeled_declare declare peel stays program peeled of are = stays program.units peeled (peel program.units peeled are) (declare program of)

@@ -1,3 +1,3 @@
 pub mod Instances
 pub mod OneTrace
-pub mod Trees
+pub mod Peeled

@@ -1,14 +1,14 @@
 //! Trees in which no rule fails have exactly one trace (`specs/Traces/OneTrace.antt`). There is no code here. Laws, as
 //! contracts of functions that do nothing: where neither of the rules Twice and Cycle fails the tick graph of each activity
-//! has an order. So the program of the trees of units has exactly one trace, and the source's program has the same: over
+//! has an order. So the peeled program has exactly one trace, and the source's program has the same: over
 //! all rows, exactly one trace that the parallel meaning allows. No tick has more steps than the number of steps of the
-//! program of the trees, and none is stuck. It expands to 4,096 activity instances at most (`specs/Traces/Instances.antt`).
+//! peeled program, and none is stuck. It expands to 4,096 activity instances at most (`specs/Traces/Instances.antt`).
 
 ghost use Rattle.bl_rules_laws.specs.Traces.Instances.{TreesHaveFewInstances};
 ghost use Rattle.bl_rules_laws.specs.Traces.OneTrace.{TreesHaveOneTrace};
-ghost use Rattle.bl_rules_laws.specs.Traces.Trees.{AcceptedKeepOnTrees, TreesMeanTheSame};
+ghost use Rattle.bl_rules_laws.specs.Traces.Peeled.{AcceptedKeepPeeled, PeeledMeanTheSame};
 
-use bl_cause_trees::laws::{trees_are_peeled, units_have_one_list_of_trees};
+use bl_cause_trees::laws::{units_are_peeled, units_are_peeled_in_one_way};
 use bl_ctree_laws_confluence::deeds::accepted_programs_are_orderly;
 use bl_ctree_laws_peeled::bodies::{peeled_programs_are_alike, peeled_programs_run_alike};
 use bl_ctree_laws_peeled_bounds::bounds::peeled_programs_are_bounded;
@@ -17,25 +17,25 @@ use bl_ctree_laws_traces::traces::{
     bounded_programs_have_meanings, ordered_programs_are_numbered, ordered_programs_have_one_trace,
 };
 use bl_limits_measures_laws::laws::{instances_are_counted, units_use_earlier_ones};
-use bl_rules::laws::{trees_keep_the_rules, trees_stay_typed};
+use bl_rules::laws::{peeled_units_pass_the_rules, peeled_units_stay_typed};
 use bl_types_laws::kept::what_is_typed_keeps;
 use bl_types_laws::order::statements_begin_in_order;
 
-/// Where no rule fails for a tree, its program and the program of the trees of its units are typed and pass the rules.
+/// Where no rule fails for a tree, its program and its peeled program are typed and pass the rules.
 pub fn accepted_trees_keep()
-    ensures { AcceptedKeepOnTrees }
+    ensures { AcceptedKeepPeeled }
 {
     accepted_programs_are_ordered();
     statements_begin_in_order();
-    trees_are_peeled();
-    trees_keep_the_rules();
-    trees_stay_typed();
+    units_are_peeled();
+    peeled_units_pass_the_rules();
+    peeled_units_stay_typed();
     what_is_typed_keeps();
 }
 
-/// Where no rule fails for a tree, its program means what the program of the trees of its units means.
-pub fn accepted_trees_mean_the_same()
-    ensures { TreesMeanTheSame }
+/// Where no rule fails for a tree, its program means what its peeled program means.
+pub fn peeled_programs_mean_the_same()
+    ensures { PeeledMeanTheSame }
 {
     accepted_trees_keep();
     accepted_programs_are_orderly();
@@ -66,6 +66,6 @@ pub fn accepted_trees_have_few_instances()
     accepted_trees_keep();
     instances_are_counted();
     peeled_programs_are_alike();
-    units_have_one_list_of_trees();
+    units_are_peeled_in_one_way();
     units_use_earlier_ones();
 }

@@ -1,5 +1,5 @@
 mod NamedParts
-mod Naming
+pub mod Naming
 mod Narrow
 mod Small
 mod Spelled

@@ -8,14 +8,8 @@ use Rattle.bl_names_tree.specs.declared.item.NamedUnit.{NamedUnit}
 use Rattle.bl_names_tree.specs.declared.stmt.NamedArm.{NamedArm, fold-NamedArm, fold-roll-NamedArm, roll-NamedArm}
 use Rattle.bl_names_tree.specs.declared.stmt.NamedBranch.{NamedBranch, fold-NamedBranch, fold-roll-NamedBranch, roll-NamedBranch}
 use Rattle.bl_names_tree.specs.declared.stmt.NamedStmt.{NamedStmt, fold-NamedStmt, fold-roll-NamedStmt, roll-NamedStmt}
-use Rattle.bl_names_tree.specs.declared.stmt.NamedStmtKind.{
-  NamedStmtKind,
-  fold-NamedStmtKind,
-  fold-roll-NamedStmtKind,
-  fold_out-NamedStmtKind,
-  map-NamedStmtKind,
-  out-NamedStmtKind,
-}
+use Rattle.bl_names_tree.specs.declared.stmt.NamedStmtKind.{NamedStmtKind, fold-NamedStmtKind, fold-roll-NamedStmtKind, fold_out-NamedStmtKind}
+use Rattle.bl_names_tree.specs.declared.stmt.NamedStmtKind.{map-NamedStmtKind, out-NamedStmtKind}
 use Rattle.bl_names_tree.specs.declared.stmt.NamedStmtKind.TheOpen.{NamedStmtKind-F, NamedArm-F, NamedBranch-F, NamedStmt-F}
 use Rattle.bl_types_laws.proofs.NamedStmtInduction.{stmt}
 

@@ -23,41 +23,14 @@ use Rattle.bl_parse_tree.specs.declared.stmt.RawStmtKind.{RawStmtKind, fold-RawS
 use Rattle.bl_parse_tree.specs.declared.stmt.RawStmtKind.TheOpen.{RawStmtKind-F}
 use Rattle.bl_names_scopes.specs.Marks.{expr_marks, item_marks}
 use Rattle.bl_names_scopes.specs.Scopes.{Scopes, after, file_scope}
-use Rattle.bl_names.specs.Named.{
-  Piece,
-  along,
-  kind_piece,
-  made_of_all,
-  marks_of_all,
-  named_program,
-  named_unit,
-  opened,
-  param_piece,
-  params_piece,
-  piece_of_arm,
-  piece_of_branch,
-  role_piece,
-  stmt_piece,
-  units_of,
-  vars_of_all,
-}
+use Rattle.bl_names.specs.Named.{Piece, along, kind_piece, made_of_all, marks_of_all, named_program, named_unit, opened, param_piece, params_piece}
+use Rattle.bl_names.specs.Named.{piece_of_arm, piece_of_branch, role_piece, stmt_piece, units_of, vars_of_all}
 use Rattle.bl_names.specs.Naming.{named_expr, named_path, named_target, position}
 use Rattle.bl_names.proofs.PieceLemmas.{arm_is, branch_is, parts, stmt_is}
 use Rattle.bl_names.proofs.RawStmtInduction.{Cases, induct, stmt}
 use Rattle.bl_rules_laws_sizes.specs.Parts.{arm_parts, branch_parts, kind_parts, parts_of_stmt, parts_of_items, parts_of_unit, stmt_layer_parts}
-use Rattle.bl_rules_laws_sizes.proofs.NamedParts.{
-  AllNamedWithin,
-  NamedLayer,
-  NamedWithin,
-  named_arm_at,
-  named_below,
-  named_branch_at,
-  named_by,
-  named_kind_parts,
-  named_parts,
-  parts_of_named_arm,
-  parts_of_named_branch,
-}
+use Rattle.bl_rules_laws_sizes.proofs.NamedParts.{AllNamedWithin, NamedLayer, NamedWithin, named_arm_at, named_below, named_branch_at, named_by}
+use Rattle.bl_rules_laws_sizes.proofs.NamedParts.{named_kind_parts, named_parts, parts_of_named_arm, parts_of_named_branch}
 
 -- ---- raw parts
 
@@ -148,7 +121,7 @@ stmt_sized place layer made is gives few = record {
   vars = λ scopes. by_values _ _ _ _ (ap (λ piece. length (piece.vars scopes)) (stmt_is place layer)) (raw_at place layer) (few scopes);
 }
 
-none_in_one : 0 ≤ 1
+pub none_in_one : 0 ≤ 1
 none_in_one = omega arith
 
 one_in_one : 1 ≤ 1

@@ -5,6 +5,8 @@ use Rattle.std.proofs.Math.Nat.{add-mul}
 use Rattle.std.proofs.lemmas.Bool.{le-leb, leb-true}
 use Rattle.std.proofs.lemmas.List.{map-append}
 use Rattle.std.proofs.lemmas.List.Elements.{All-head, All-tail}
+use Rattle.std.proofs.lemmas.Bool.{and_from}
+use Rattle.bl_tree.proofs.Basics.{and_first, and_second}
 use Rattle.bl_tree.specs.declared.place.Place.{Place}
 use Rattle.bl_tree.specs.declared.tree.Arm.{Arm, fold-Arm, fold-roll-Arm, fold_out-Arm, out-Arm}
 use Rattle.bl_tree.specs.declared.tree.Branch.{Branch, fold-Branch, fold-roll-Branch, fold_out-Branch, out-Branch}
@@ -16,22 +18,14 @@ use Rattle.bl_tree.specs.declared.tree.StmtKind.TheOpen.{StmtKind-F, Arm-F, Bran
 use Rattle.bl_tree.specs.Reduce.{all_of, total}
 use Rattle.bl_tree.proofs.ReduceLemmas.{all_of-append}
 use Rattle.bl_tree.proofs.StmtInduction.{Each, EachArm, EachBranch, induct, stmt}
-use Rattle.bl_limits_measures.specs.Statements.{
-  arm_cell_statements,
-  branch_cell_statements,
-  cell_statements_in,
-  cell_statements_in_arm,
-  cell_statements_in_block,
-  cell_statements_in_branch,
-  kind_cell_statements,
-  layer_cell_statements,
-}
+use Rattle.bl_limits_measures.specs.Statements.{arm_cell_statements, branch_cell_statements, cell_statements_in, cell_statements_in_arm}
+use Rattle.bl_limits_measures.specs.Statements.{cell_statements_in_block, cell_statements_in_branch, kind_cell_statements, layer_cell_statements}
 use Rattle.bl_peel.specs.Count.{arm_statement_count, branch_statement_count, kind_statement_count, statement_count, stmt_count, stmt_layer_count}
 use Rattle.bl_peel.specs.inner.Parts.{arm_count, branch_count}
 use Rattle.bl_peel.specs.Peeled.{made_arm, made_if, peeled, place_of_expr}
 use Rattle.bl_peel.proofs.Equations.{count_at, count_parts, made_branch}
 use Rattle.bl_peel_laws_typing.proofs.Copying.{ArmsCopy, BranchesCopy, Copies, body_copied, more_arms, more_branches, no_arms, no_branches}
-use Rattle.bl_peel_laws_typing.proofs.Flags.{and_left, and_right, both}
+use Rattle.bl_limits_measures.proofs.StatementLemmas.{arm_out as arm_cells, branch_out as branch_cells}
 
 abbrev Layer : Type 0
 Layer = StmtKind-F StmtKind Arm Branch Stmt
@@ -46,12 +40,6 @@ cells_below = map-StmtKind StmtKind Arm Branch Stmt ℕ ℕ ℕ ℕ cells_of_kin
 
 cells_at : (place : Place) (layer : Layer) → cell_statements_in (stmt place layer) ≡ kind_cell_statements (cells_below layer)
 cells_at place layer = rw (fold-roll-Stmt, fold-roll-StmtKind) refl
-
-arm_cells : (arm : Arm) → cell_statements_in_arm arm ≡ cell_statements_in_block (out-Arm arm).body
-arm_cells = fold_out-Arm ℕ ℕ ℕ ℕ kind_cell_statements arm_cell_statements branch_cell_statements layer_cell_statements
-
-branch_cells : (branch : Branch) → cell_statements_in_branch branch ≡ 1 + cell_statements_in_block (out-Branch branch).body
-branch_cells = fold_out-Branch ℕ ℕ ℕ ℕ kind_cell_statements arm_cell_statements branch_cell_statements layer_cell_statements
 
 -- ---- as each counts once
 
@@ -129,7 +117,7 @@ module _ (w : ℕ) where
   small_block : (body : List Stmt) → Each Small body → cell_statements_in_block body ≤ w → narrow_block body ≡ true
   small_block [] each few = refl
   small_block (s ∷ body) each few =
-      both (narrow s) (narrow_block body) (All-head Small s body each (omega (arith, few)))
+      and_from (narrow s) (narrow_block body) (All-head Small s body each (omega (arith, few)))
       (small_block body (All-tail Small s body each) (omega (arith, few)))
 
   abbrev ArmSmall : Arm → Type 0
@@ -139,7 +127,7 @@ module _ (w : ℕ) where
   small_arms [] each few = refl
   small_arms (arm ∷ arms) each few =
       let is = arm_cells arm in
-      both (narrow_arm arm) (all_of (map narrow_arm arms))
+      and_from (narrow_arm arm) (all_of (map narrow_arm arms))
       (arm_out arm ∙ small_block (out-Arm arm).body (All-head ArmSmall arm arms each) (omega (arith, is, few)))
       (small_arms arms (All-tail ArmSmall arm arms each) (omega (arith, few)))
 
@@ -153,7 +141,7 @@ module _ (w : ℕ) where
       let is = branch_cells branch in
       let rest = small_branches branches (All-tail BranchSmall branch branches each) (omega (arith, few)) in
       let others = rest.1 in (
-        both (narrow_branch branch) (all_of (map narrow_branch branches))
+        and_from (narrow_branch branch) (all_of (map narrow_branch branches))
             (branch_out branch ∙ small_block (out-Branch branch).body (All-head BranchSmall branch branches each) (omega (arith, is, few))) rest.0,
         omega (arith, is, others),
       )
@@ -168,9 +156,9 @@ module _ (w : ℕ) where
       let long = mapped cell_statements_in_arm arms in
       let wide = mapped narrow_arm arms in
       narrow_at place (StmtKind-F.If arms other)
-      ∙ both (nat_le (length (map narrow_arm arms)) (w + 1)) (all_of (map narrow_arm arms) && narrow_block other)
+      ∙ and_from (nat_le (length (map narrow_arm arms)) (w + 1)) (all_of (map narrow_arm arms) && narrow_block other)
       (le-leb (length (map narrow_arm arms)) (w + 1) (omega (arith, is, few, long, wide)))
-      (both (all_of (map narrow_arm arms)) (narrow_block other) (small_arms arms in_arms (omega (arith, is, few)))
+      (and_from (all_of (map narrow_arm arms)) (narrow_block other) (small_arms arms in_arms (omega (arith, is, few)))
       (small_block other in_other (omega (arith, is, few))))
 
   small_cobegin : (place : Place) (branches : List Branch) → EachBranch Small branches → Small (stmt place (StmtKind-F.Cobegin branches))
@@ -180,7 +168,7 @@ module _ (w : ℕ) where
       let most = inner.1 in
       let wide = mapped narrow_branch branches in
       narrow_at place (StmtKind-F.Cobegin branches)
-      ∙ both (nat_le (length (map narrow_branch branches)) (w + 1)) (all_of (map narrow_branch branches))
+      ∙ and_from (nat_le (length (map narrow_branch branches)) (w + 1)) (all_of (map narrow_branch branches))
       (le-leb (length (map narrow_branch branches)) (w + 1) (omega (arith, is, few, most, wide))) inner.0
 
   -- a statement around one block
@@ -222,17 +210,17 @@ module _ (w : ℕ) where
   alone place layer = ap (λ (one : Bool). one && true) (narrow_at place layer)
 
   inside : (place : Place) (layer : Layer) → narrow_block (stmt place layer ∷ []) ≡ true → kind_narrow w (narrow_below layer) ≡ true
-  inside place layer h = and_left (kind_narrow w (narrow_below layer)) true (sym (alone place layer) ∙ h)
+  inside place layer h = and_first (kind_narrow w (narrow_below layer)) true (sym (alone place layer) ∙ h)
 
   outside : (place : Place) (layer : Layer) → kind_narrow w (narrow_below layer) ≡ true → narrow_block (stmt place layer ∷ []) ≡ true
-  outside place layer h = alone place layer ∙ both (kind_narrow w (narrow_below layer)) true h refl
+  outside place layer h = alone place layer ∙ and_from (kind_narrow w (narrow_below layer)) true h refl
 
   arms_stay : {arms others : List Arm} → ArmsCopy Stays arms others → all_of (map narrow_arm arms) ≡ true → all_of (map narrow_arm others) ≡ true
   arms_stay no_arms h = refl
   arms_stay (more_arms e a b {arms} {others} one more) h =
-      both (narrow_arm (made_arm e b)) (all_of (map narrow_arm others))
-      (arm_at e b ∙ one (sym (arm_at e a) ∙ and_left (narrow_arm (made_arm e a)) (all_of (map narrow_arm arms)) h))
-      (arms_stay more (and_right (narrow_arm (made_arm e a)) (all_of (map narrow_arm arms)) h))
+      and_from (narrow_arm (made_arm e b)) (all_of (map narrow_arm others))
+      (arm_at e b ∙ one (sym (arm_at e a) ∙ and_first (narrow_arm (made_arm e a)) (all_of (map narrow_arm arms)) h))
+      (arms_stay more (and_second (narrow_arm (made_arm e a)) (all_of (map narrow_arm arms)) h))
 
   arms_long : {arms others : List Arm} → ArmsCopy Stays arms others → length (map narrow_arm others) ≡ length (map narrow_arm arms)
   arms_long no_arms = refl
@@ -242,9 +230,9 @@ module _ (w : ℕ) where
       all_of (map narrow_branch others) ≡ true
   branches_stay no_branches h = refl
   branches_stay (more_branches weak a b {branches} {others} one more) h =
-      both (narrow_branch (made_branch weak b)) (all_of (map narrow_branch others))
-      (branch_at weak b ∙ one (sym (branch_at weak a) ∙ and_left (narrow_branch (made_branch weak a)) (all_of (map narrow_branch branches)) h))
-      (branches_stay more (and_right (narrow_branch (made_branch weak a)) (all_of (map narrow_branch branches)) h))
+      and_from (narrow_branch (made_branch weak b)) (all_of (map narrow_branch others))
+      (branch_at weak b ∙ one (sym (branch_at weak a) ∙ and_first (narrow_branch (made_branch weak a)) (all_of (map narrow_branch branches)) h))
+      (branches_stay more (and_second (narrow_branch (made_branch weak a)) (all_of (map narrow_branch branches)) h))
 
   branches_long : {branches others : List Branch} → BranchesCopy Stays branches others → length (map narrow_branch others) ≡ length (map narrow_branch branches)
   branches_long no_branches = refl
@@ -254,33 +242,33 @@ module _ (w : ℕ) where
   tests : (e : Expr) (body other : List Stmt) → narrow_block body ≡ true → narrow_block other ≡ true → narrow_block (made_if e body other ∷ []) ≡ true
   tests e body other one rest =
       outside (place_of_expr e) (StmtKind-F.If (made_arm e body ∷ []) other)
-      (both (nat_le 1 (w + 1)) ((narrow_arm (made_arm e body) && true) && narrow_block other) (le-leb 1 (w + 1) (omega arith))
-      (both (narrow_arm (made_arm e body) && true) (narrow_block other) (both (narrow_arm (made_arm e body)) true (arm_at e body ∙ one) refl) rest))
+      (and_from (nat_le 1 (w + 1)) ((narrow_arm (made_arm e body) && true) && narrow_block other) (le-leb 1 (w + 1) (omega arith))
+      (and_from (narrow_arm (made_arm e body) && true) (narrow_block other) (and_from (narrow_arm (made_arm e body)) true (arm_at e body ∙ one) refl) rest))
 
   joined : (a b : List Stmt) → narrow_block a ≡ true → narrow_block b ≡ true → narrow_block (a ++ b) ≡ true
-  joined a b one other = joins a b ∙ both (narrow_block a) (narrow_block b) one other
+  joined a b one other = joins a b ∙ and_from (narrow_block a) (narrow_block b) one other
 
   narrow_copies : Copies Stays
   narrow_copies = record {
     same = λ body h. h;
     append = λ a b c d one other h.
         let each : (narrow_block a && narrow_block c) ≡ true = sym (joins a c) ∙ h in
-        joined b d (one (and_left (narrow_block a) (narrow_block c) each)) (other (and_right (narrow_block a) (narrow_block c) each));
+        joined b d (one (and_first (narrow_block a) (narrow_block c) each)) (other (and_second (narrow_block a) (narrow_block c) each));
     branching = λ place arms others a b in_arms same h.
         let all = inside place (StmtKind-F.If arms a) h in
-        let few = and_left (nat_le (length (map narrow_arm arms)) (w + 1)) (all_of (map narrow_arm arms) && narrow_block a) all in
-        let rest = and_right (nat_le (length (map narrow_arm arms)) (w + 1)) (all_of (map narrow_arm arms) && narrow_block a) all in
+        let few = and_first (nat_le (length (map narrow_arm arms)) (w + 1)) (all_of (map narrow_arm arms) && narrow_block a) all in
+        let rest = and_second (nat_le (length (map narrow_arm arms)) (w + 1)) (all_of (map narrow_arm arms) && narrow_block a) all in
         outside place (StmtKind-F.If others b)
-        (both (nat_le (length (map narrow_arm others)) (w + 1)) (all_of (map narrow_arm others) && narrow_block b)
+        (and_from (nat_le (length (map narrow_arm others)) (w + 1)) (all_of (map narrow_arm others) && narrow_block b)
         (subst (λ n. nat_le n (w + 1) ≡ true) (sym (arms_long in_arms)) few)
-        (both (all_of (map narrow_arm others)) (narrow_block b) (arms_stay in_arms (and_left (all_of (map narrow_arm arms)) (narrow_block a) rest))
-        (same (and_right (all_of (map narrow_arm arms)) (narrow_block a) rest))));
+        (and_from (all_of (map narrow_arm others)) (narrow_block b) (arms_stay in_arms (and_first (all_of (map narrow_arm arms)) (narrow_block a) rest))
+        (same (and_second (all_of (map narrow_arm arms)) (narrow_block a) rest))));
     cobegin = λ place branches others each h.
         let all = inside place (StmtKind-F.Cobegin branches) h in
-        let few = and_left (nat_le (length (map narrow_branch branches)) (w + 1)) (all_of (map narrow_branch branches)) all in
-        let rest = and_right (nat_le (length (map narrow_branch branches)) (w + 1)) (all_of (map narrow_branch branches)) all in
+        let few = and_first (nat_le (length (map narrow_branch branches)) (w + 1)) (all_of (map narrow_branch branches)) all in
+        let rest = and_second (nat_le (length (map narrow_branch branches)) (w + 1)) (all_of (map narrow_branch branches)) all in
         outside place (StmtKind-F.Cobegin others)
-        (both (nat_le (length (map narrow_branch others)) (w + 1)) (all_of (map narrow_branch others))
+        (and_from (nat_le (length (map narrow_branch others)) (w + 1)) (all_of (map narrow_branch others))
         (subst (λ n. nat_le n (w + 1) ≡ true) (sym (branches_long each)) few) (branches_stay each rest));
     guarded = λ place guard e a b same h. outside place (StmtKind-F.When guard e b) (same (inside place (StmtKind-F.When guard e a) h));
     repeat = λ place a b same h. outside place (StmtKind-F.Repeat b) (same (inside place (StmtKind-F.Repeat a) h));
@@ -320,8 +308,8 @@ module _ (w : ℕ) where
   few_block : (body : List Stmt) → Each Few body → narrow_block body ≡ true → cell_statements_in_block body ≤ times (statement_count body)
   few_block [] each h = omega arith
   few_block (s ∷ body) each h =
-      let first = All-head Few s body each (and_left (narrow s) (narrow_block body) h) in
-      let rest = few_block body (All-tail Few s body each) (and_right (narrow s) (narrow_block body) h) in
+      let first = All-head Few s body each (and_first (narrow s) (narrow_block body) h) in
+      let rest = few_block body (All-tail Few s body each) (and_second (narrow s) (narrow_block body) h) in
       let sum = times_sum (stmt_count s) (statement_count body) in
       omega (arith, first, rest, sum)
 
@@ -335,8 +323,8 @@ module _ (w : ℕ) where
       let cells = arm_cells arm in
       let counts = ap times (arm_counts arm) in
       let first = few_block (out-Arm arm).body (All-head ArmFew arm arms each)
-      (sym (arm_out arm) ∙ and_left (narrow_arm arm) (all_of (map narrow_arm arms)) h) in
-      let rest = few_arms arms (All-tail ArmFew arm arms each) (and_right (narrow_arm arm) (all_of (map narrow_arm arms)) h) in
+      (sym (arm_out arm) ∙ and_first (narrow_arm arm) (all_of (map narrow_arm arms)) h) in
+      let rest = few_arms arms (All-tail ArmFew arm arms each) (and_second (narrow_arm arm) (all_of (map narrow_arm arms)) h) in
       let sum = times_sum (arm_count arm) (total (map arm_count arms)) in
       omega (arith, cells, counts, first, rest, sum)
 
@@ -350,8 +338,8 @@ module _ (w : ℕ) where
       let cells = branch_cells branch in
       let counts = ap times (branch_counts branch) in
       let first = few_block (out-Branch branch).body (All-head BranchFew branch branches each)
-      (sym (branch_out branch) ∙ and_left (narrow_branch branch) (all_of (map narrow_branch branches)) h) in
-      let rest = few_branches branches (All-tail BranchFew branch branches each) (and_right (narrow_branch branch) (all_of (map narrow_branch branches)) h) in
+      (sym (branch_out branch) ∙ and_first (narrow_branch branch) (all_of (map narrow_branch branches)) h) in
+      let rest = few_branches branches (All-tail BranchFew branch branches each) (and_second (narrow_branch branch) (all_of (map narrow_branch branches)) h) in
       let sum = times_sum (branch_count branch) (total (map branch_count branches)) in
       omega (arith, cells, counts, first, rest, sum)
 
@@ -359,10 +347,10 @@ module _ (w : ℕ) where
   few_if place arms other in_arms in_other h =
       let all = sym (narrow_at place (StmtKind-F.If arms other)) ∙ h in
       let wide = leb-true (length (map narrow_arm arms)) (w + 1)
-      (and_left (nat_le (length (map narrow_arm arms)) (w + 1)) (all_of (map narrow_arm arms) && narrow_block other) all) in
-      let parts = and_right (nat_le (length (map narrow_arm arms)) (w + 1)) (all_of (map narrow_arm arms) && narrow_block other) all in
-      let first = few_arms arms in_arms (and_left (all_of (map narrow_arm arms)) (narrow_block other) parts) in
-      let rest = few_block other in_other (and_right (all_of (map narrow_arm arms)) (narrow_block other) parts) in
+      (and_first (nat_le (length (map narrow_arm arms)) (w + 1)) (all_of (map narrow_arm arms) && narrow_block other) all) in
+      let parts = and_second (nat_le (length (map narrow_arm arms)) (w + 1)) (all_of (map narrow_arm arms) && narrow_block other) all in
+      let first = few_arms arms in_arms (and_first (all_of (map narrow_arm arms)) (narrow_block other) parts) in
+      let rest = few_block other in_other (and_second (all_of (map narrow_arm arms)) (narrow_block other) parts) in
       let long = mapped cell_statements_in_arm arms in
       let same = mapped narrow_arm arms in
       let cells = cells_at place (StmtKind-F.If arms other) in
@@ -375,8 +363,8 @@ module _ (w : ℕ) where
   few_cobegin place branches each h =
       let all = sym (narrow_at place (StmtKind-F.Cobegin branches)) ∙ h in
       let wide = leb-true (length (map narrow_branch branches)) (w + 1)
-      (and_left (nat_le (length (map narrow_branch branches)) (w + 1)) (all_of (map narrow_branch branches)) all) in
-      let inner = few_branches branches each (and_right (nat_le (length (map narrow_branch branches)) (w + 1)) (all_of (map narrow_branch branches)) all) in
+      (and_first (nat_le (length (map narrow_branch branches)) (w + 1)) (all_of (map narrow_branch branches)) all) in
+      let inner = few_branches branches each (and_second (nat_le (length (map narrow_branch branches)) (w + 1)) (all_of (map narrow_branch branches)) all) in
       let same = mapped narrow_branch branches in
       let cells = cells_at place (StmtKind-F.Cobegin branches) in
       let counts = ap times (count_at place (StmtKind-F.Cobegin branches)) in

@@ -2,6 +2,7 @@
 use Rattle.std.proofs.Common.{◌≡◌, ℕ, zero, suc, ◌+◌, ◌≤◌, ◌<◌, Bool, List, [], ◌∷◌, ◌++◌, map, length, get_or, refl, ap, sym, ◌∙◌, subst, arith}
 use Rattle.std.proofs.lemmas.List.{length_push}
 use Rattle.std.specs.Prelude.{Option}
+use Rattle.bl_tree.proofs.Basics.{map_push}
 use Rattle.bl_tree.specs.declared.place.Place.{Place}
 use Rattle.bl_tree.specs.declared.token.Token.{Token}
 use Rattle.bl_tree.specs.declared.tree.Guard.{Guard}
@@ -23,27 +24,12 @@ use Rattle.bl_parse_tree.specs.declared.stmt.RawPath.{RawPath}
 use Rattle.bl_parse_tree.specs.declared.stmt.RawStmt.{RawStmt, fold-roll-RawStmt, roll-RawStmt}
 use Rattle.bl_parse_tree.specs.declared.stmt.RawStmtKind.{RawStmtKind, fold-RawStmtKind, fold-roll-RawStmtKind}
 use Rattle.bl_parse_tree.specs.declared.stmt.RawStmtKind as kind
-use Rattle.bl_parse_tree.specs.declared.stmt.RawStmtKind.TheVariants.{
-  rolls-Var,
-  rolls-Let,
-  rolls-Const,
-  rolls-Assign,
-  rolls-Call,
-  rolls-Await,
-  rolls-Run,
-  rolls-If,
-  rolls-Cobegin,
-  rolls-When,
-  rolls-Repeat,
-  rolls-Until,
-  rolls-While,
-  rolls-Return,
-}
+use Rattle.bl_parse_tree.specs.declared.stmt.RawStmtKind.TheVariants.{rolls-Var, rolls-Let, rolls-Const, rolls-Assign, rolls-Call, rolls-Await, rolls-Run}
+use Rattle.bl_parse_tree.specs.declared.stmt.RawStmtKind.TheVariants.{rolls-If, rolls-Cobegin, rolls-When, rolls-Repeat, rolls-Until, rolls-While, rolls-Return}
 use Rattle.bl_parse_tree.specs.declared.types.RawType.{RawType}
 use Rattle.bl_parse.specs.Programs.{SpellsItem, SpellsItems, SpellsOutputParams, SpellsParam, SpellsParamList, SpellsParams, SpellsUnit, Spells}
 use Rattle.bl_parse.specs.Statements.{SpellsStmt, SpellsKind, SpellsBlock, SpellsArm, SpellsArms, SpellsElse, SpellsBranch, SpellsBranches}
 use Rattle.bl_parse_laws.proofs.Level as level
-use Rattle.bl_parse_laws.proofs.Members.{mapped_more}
 use Rattle.bl_rules_laws_sizes.specs.Parts.{arm_parts, branch_parts, kind_parts, parts_of_stmt, parts_of_items, parts_of_item, parts_of_unit, stmt_layer_parts}
 
 -- ---- the parts of what is made
@@ -123,7 +109,7 @@ record Room {A : Type 0} (f : A → ℕ) (xs : List A) (from to : ℕ) : Type 0 
 
 total_more : {A : Type 0} (f : A → ℕ) (xs : List A) (x : A) → total (map f (xs ++ x ∷ [])) ≡ total (map f xs) + f x
 total_more f xs x =
-    ap total (mapped_more f xs x) ∙ total-append (map f xs) (f x ∷ []) ∙ (let alone : f x + 0 ≡ f x = omega arith in ap (λ n. total (map f xs) + n) alone)
+    ap total (map_push f xs x) ∙ total-append (map f xs) (f x ∷ []) ∙ (let alone : f x + 0 ≡ f x = omega arith in ap (λ n. total (map f xs) + n) alone)
 
 none_fit : {A : Type 0} (f : A → ℕ) {all : List A} {from to : ℕ} → all ≡ [] → from ≤ to → Room f all from to
 none_fit f is le = record { room = same _ _ _ _ (ap (λ ys. total (map f ys)) is) (omega (arith, le)) }

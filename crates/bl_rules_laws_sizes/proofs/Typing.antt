@@ -1,37 +1,12 @@
 -- What is typed of a unit has at most as many statements as the unit has parts, and at most so many variables.
-use Rattle.std.proofs.Common.{
-  ◌≡◌,
-  ℕ,
-  zero,
-  suc,
-  ◌+◌,
-  ◌-◌,
-  ◌*◌,
-  ◌≤◌,
-  Bool,
-  true,
-  false,
-  List,
-  [],
-  ◌∷◌,
-  ◌++◌,
-  map,
-  length,
-  Option,
-  Some,
-  None,
-  refl,
-  sym,
-  ap,
-  subst,
-  ◌∙◌,
-  arith,
-}
+use Rattle.std.proofs.Common.{◌≡◌, ℕ, zero, suc, ◌+◌, ◌-◌, ◌*◌, ◌≤◌, Bool, true, false, List, [], ◌∷◌, ◌++◌, map, length, Option, Some, None, refl, sym, ap}
+use Rattle.std.proofs.Common.{subst, ◌∙◌, arith}
 use Rattle.std.specs.List.{cons_option}
 use Rattle.std.specs.Prelude.{All, filter_map, if◌then◌else◌, option_map, slice_get}
 use Rattle.std.proofs.lemmas.List.{length-map, length_push}
 use Rattle.std.proofs.lemmas.List.Elements.{All-head, All-tail}
 use Rattle.std.proofs.lemmas.Option.{same_Some}
+use Rattle.bl_tree.proofs.Basics.{none_at_most}
 use Rattle.bl_tree.specs.declared.place.Place.{Place}
 use Rattle.bl_tree.specs.declared.rule.Failure.{Failure}
 use Rattle.bl_tree.specs.declared.scalar.Scalar.{Scalar as ScalarType}
@@ -46,16 +21,8 @@ use Rattle.bl_tree.specs.declared.tree.StmtKind.TheVariants as what
 use Rattle.bl_tree.specs.declared.tree.Unit.{Unit as UnitDef}
 use Rattle.bl_tree.specs.Reduce.{total}
 use Rattle.bl_tree.specs.Types.{scalar}
-use Rattle.bl_limits_measures.specs.Statements.{
-  arm_cell_statements,
-  branch_cell_statements,
-  cell_statements_in,
-  cell_statements_in_arm,
-  cell_statements_in_branch,
-  cell_statements_of,
-  kind_cell_statements,
-  layer_cell_statements,
-}
+use Rattle.bl_limits_measures.specs.Statements.{arm_cell_statements, branch_cell_statements, cell_statements_in, cell_statements_in_arm}
+use Rattle.bl_limits_measures.specs.Statements.{cell_statements_in_branch, cell_statements_of, kind_cell_statements, layer_cell_statements}
 use Rattle.bl_names_tree.specs.declared.expr.NamedExpr.{NamedExpr}
 use Rattle.bl_names_tree.specs.declared.item.Item.{Item}
 use Rattle.bl_names_tree.specs.declared.item.Item.TheVariants as item
@@ -74,47 +41,15 @@ use Rattle.bl_types.specs.declared.form.Found.TheVariants as found
 use Rattle.bl_types.specs.Declarations.{after_constant, after_parameter, after_parameters, after_struct, initial, is_parameter}
 use Rattle.bl_types.specs.Expressions.{in_context, judged, targeted}
 use Rattle.bl_types.specs.Programs.{after_item, after_items, after_next, fresh, typed_program}
-use Rattle.bl_types.specs.Statements.{
-  Arguments,
-  Block,
-  StatementJudgement,
-  Walked,
-  after_optional_constant,
-  arguments,
-  arm_of,
-  arm_walked,
-  assign_made,
-  branch_walked,
-  condition,
-  constant_walked,
-  declare,
-  if_complete,
-  in_order,
-  returned,
-  run_made,
-  run_target,
-  stmt_made,
-  type_found,
-  walked,
-  walked_arm,
-  walked_branch,
-  walked_stmt,
-}
+use Rattle.bl_types.specs.Statements.{Arguments, Block, StatementJudgement, Walked, after_optional_constant, arguments, arm_of, arm_walked, assign_made}
+use Rattle.bl_types.specs.Statements.{branch_walked, condition, constant_walked, declare, if_complete, in_order, returned, run_made, run_target, stmt_made}
+use Rattle.bl_types.specs.Statements.{type_found, walked, walked_arm, walked_branch, walked_stmt}
 use Rattle.bl_types.specs.Units.{after_head, after_unit, entered, unit_of, var_of}
 use Rattle.bl_types_laws.proofs.NamedStmtInduction.{Cases, induct, stmt}
 use Rattle.bl_types_laws.proofs.StmtLayers.{Layer, walked_by, walked_is}
-use Rattle.bl_rules_laws_sizes.proofs.NamedParts.{
-  AllNamedWithin,
-  NamedWithin,
-  named_arm_at,
-  named_at,
-  named_below,
-  named_branch_at,
-  named_kind_parts,
-  named_parts,
-  parts_of_named_arm,
-  parts_of_named_branch,
-}
+use Rattle.bl_rules_laws_sizes.proofs.NamedParts.{AllNamedWithin, NamedWithin, named_arm_at, named_at, named_below, named_branch_at, named_kind_parts}
+use Rattle.bl_rules_laws_sizes.proofs.NamedParts.{named_parts, parts_of_named_arm, parts_of_named_branch}
+use Rattle.bl_rules_laws_sizes.proofs.Naming.{none_in_one}
 
 -- ---- typed statements
 
@@ -167,9 +102,6 @@ record BlockFits {A : Type 0} (cells : A → ℕ) (n : ℕ) (env : Environment) 
   vars : length block.env.vars ≤ length env.vars + n
   units : block.env.units ≡ env.units
 
-zero_least : (n : ℕ) → 0 ≤ n
-zero_least n = omega arith
-
 no_less : (a n : ℕ) → a ≤ a + n
 no_less a n = omega arith
 
@@ -184,7 +116,7 @@ total_with cells None rest = zero_more (total (map cells rest))
 block_fits : {X A : Type 0} (cells : A → ℕ) (size : X → ℕ) (walk : X → StatementJudgement A) (xs : List X) →
     All (λ x. (env : Environment) → Fits cells (size x) env (walk x env)) xs → (env : Environment) →
     BlockFits cells (total (map size xs)) env (in_order (map walk xs) env)
-block_fits cells size walk [] each env = record { made = zero_least 0; vars = no_less (length env.vars) 0; units = refl }
+block_fits cells size walk [] each env = record { made = none_at_most 0; vars = no_less (length env.vars) 0; units = refl }
 block_fits cells size walk (x ∷ xs) each env =
     let first = All-head (λ x. (env : Environment) → Fits cells (size x) env (walk x env)) x xs each env in
     let rest = block_fits cells size walk xs (All-tail (λ x. (env : Environment) → Fits cells (size x) env (walk x env)) x xs each) (walk x env).env in
@@ -200,13 +132,10 @@ block_fits cells size walk (x ∷ xs) each env =
 if_some : {A : Type 0} (cells : A → ℕ) (n : ℕ) (make : Expr → A) (e : Option Expr) → ((e : Expr) → cells (make e) ≤ n) →
     made_cells cells (option_map make e) ≤ n
 if_some cells n make (Some e) few = few e
-if_some cells n make None few = zero_least n
+if_some cells n make None few = none_at_most n
 
 no_more : (a n : ℕ) → a ≡ n → a ≤ n
 no_more a n is = omega (arith, is)
-
-none_most : 0 ≤ 1
-none_most = omega arith
 
 declares : (k : ℕ) (e : Option Expr) → cells_of_kind (what.Declare k e) ≤ 1
 declares k e = no_more _ _ (kind_is (what.Declare k e) (StmtKind-F.Declare k e) (what.outs-Declare k e))
@@ -218,21 +147,21 @@ declare_fits k (Some var) (Some e) env = record {
   units = refl;
 }
 declare_fits k (Some var) None env = record { made = declares k None; vars = no_more _ _ (length_push env.vars _); units = refl }
-declare_fits k None e env = record { made = none_most; vars = no_less (length env.vars) 1; units = refl }
+declare_fits k None e env = record { made = none_in_one; vars = no_less (length env.vars) 1; units = refl }
 
 constant_fits : (constant : Option NamedConstant) (env : Environment) → Fits cells_of_kind 1 env (constant_walked (after_optional_constant constant env))
-constant_fits (Some constant) env = record { made = none_most; vars = no_less (length env.vars) 1; units = refl }
-constant_fits None env = record { made = none_most; vars = no_less (length env.vars) 1; units = refl }
+constant_fits (Some constant) env = record { made = none_in_one; vars = no_less (length env.vars) 1; units = refl }
+constant_fits None env = record { made = none_in_one; vars = no_less (length env.vars) 1; units = refl }
 
 assign_most : (leads : Found) (e : Option Expr) → made_cells cells_of_kind (assign_made leads e) ≤ 1
 assign_most (found.Place path) (Some e) = no_more _ _ (kind_is (what.Assign path e) (StmtKind-F.Assign path e) (what.outs-Assign path e))
-assign_most (found.Place path) None = none_most
-assign_most (found.Constant s n) e = none_most
-assign_most found.Nothing e = none_most
+assign_most (found.Place path) None = none_in_one
+assign_most (found.Constant s n) e = none_in_one
+assign_most found.Nothing e = none_in_one
 
 either_most : (holds : Bool) (kind : StmtKind) → cells_of_kind kind ≤ 1 → made_cells cells_of_kind (if holds then Some kind else None) ≤ 1
 either_most true kind most = most
-either_most false kind most = none_most
+either_most false kind most = none_in_one
 
 call_most : (f : ℕ) (given : Arguments) → made_cells cells_of_kind (if_complete given (what.Call f)) ≤ 1
 call_most f given = either_most given.complete (what.Call f given.inputs given.outputs)
@@ -243,7 +172,7 @@ run_most : (target : Option (Option Path)) (a : ℕ) (given : Arguments) → mad
 run_most (Some target) a given = either_most given.complete (what.Run target a given.inputs given.outputs)
     (no_more _ _ (kind_is (what.Run target a given.inputs given.outputs) (StmtKind-F.Run target a given.inputs given.outputs)
     (what.outs-Run target a given.inputs given.outputs)))
-run_most None a given = none_most
+run_most None a given = none_in_one
 
 gives_back : (e : Option Expr) → cells_of_kind (what.Return e) ≤ 1
 gives_back e = no_more _ _ (kind_is (what.Return e) (StmtKind-F.Return e) (what.outs-Return e))

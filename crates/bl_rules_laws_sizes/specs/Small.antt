@@ -3,7 +3,7 @@ use Rattle.std.specs.Prelude.{◌≡◌, ℕ, ◌≤◌, ◌^◌, List, length, 
 use Rattle.bl_tree.specs.declared.program.Program.{Program}
 use Rattle.bl_tree.specs.declared.tree.Unit.{Unit as UnitDef}
 use Rattle.bl_limits_measures.specs.Statements.{cell_statements_of}
-use Rattle.bl_cause_trees.specs.Trees.{AreTrees}
+use Rattle.bl_cause_trees.specs.Peeled.{ArePeeled}
 use Rattle.bl_parse_tree.specs.declared.raw.Raw.{Raw}
 use Rattle.bl_rules.specs.Accepted.{HasProgram, IsOfTree}
 use Rattle.bl_rules.specs.Rules.{Parses, TreePasses}
@@ -34,6 +34,6 @@ SpelledAreSmall =
 abbrev pub TextsAreSmall : Type 0
 TextsAreSmall = (text : List ℕ) (program : Program) → HasProgram text program → IsOfSmallTree program
 
--- the units of the program of a small tree are small, and so are the trees of these units
-abbrev pub TreesAreSmall : Type 0
-TreesAreSmall = (program : Program) (trees : List UnitDef) → IsOfSmallTree program → AreTrees program.units trees → AreSmall trees
+-- the units of the program of a small tree are small, and so are its peeled units
+abbrev pub PeeledAreSmall : Type 0
+PeeledAreSmall = (program : Program) (peeled : List UnitDef) → IsOfSmallTree program → ArePeeled program.units peeled → AreSmall peeled

@@ -1,9 +1,9 @@
 //! Programs of source texts are small. Lemmas only. A tree has at most as many parts as its text has bytes: parameters,
 //! statements, arms and branches (`specs/Parts.antt`). So 64 bits count the variables of each unit, and what stands at its
-//! statements, also in the trees of units, in which loops have first turns (`specs/Small.antt`).
+//! statements, also in peeled units, in which loops have first turns (`specs/Small.antt`).
 #![tactic(auto)]
 
-ghost use Rattle.bl_rules_laws_sizes.specs.Small.{SpelledAreSmall, TextsAreSmall, TreesAreSmall};
+ghost use Rattle.bl_rules_laws_sizes.specs.Small.{PeeledAreSmall, SpelledAreSmall, TextsAreSmall};
 
 use bl_parse_laws::kept::what_is_spelled_keeps;
 
@@ -15,7 +15,7 @@ pub fn programs_of_texts_are_small()
     what_is_spelled_keeps();
 }
 
-/// Where a tree has few parts, each unit of its program has few variables and statements, and so has the tree of each unit.
-pub fn trees_of_units_stay_small()
-    ensures { TreesAreSmall }
+/// Where a tree has few parts, each unit of its program has few variables and statements, and so has each peeled unit.
+pub fn peeled_units_stay_small()
+    ensures { PeeledAreSmall }
 {}

@@ -1,7 +1,8 @@
 -- Bytes that leave the shape of a state show there that they are none, and those that have it are one.
-use Rattle.std.proofs.Common.{◌≡◌, ◌∙◌, sym, ap, subst, arith, ℕ, ◌+◌, suc, ◌<◌, ℤ, Bool, true, false, List, ◌++◌}
+use Rattle.std.proofs.Common.{◌≡◌, ◌∙◌, sym, ap, subst, arith, ℕ, ◌+◌, suc, ◌<◌, ℤ, true, false, List, ◌++◌}
 use Rattle.std.proofs.Common.{length, map, take, drop, Option, Some, None}
 use Rattle.std.proofs.lemmas.List.{length-map, take-append-drop}
+use Rattle.bl_tree.proofs.Basics.{not_both}
 use Rattle.bl_tree.specs.Ports.{in_ranges}
 use Rattle.bl_ctext_semantics.specs.Cells.{cells_of}
 use Rattle.bl_ctext_semantics.specs.Parts.{Parts}
@@ -61,17 +62,12 @@ bad-state file bytes at starts leaves = record {
         leaves-there (state_shape (kinds_of file)) bytes at begun.rest leaves within
         (subst (λ (k : ℕ). misfit (state_shape (kinds_of file)) (take k bytes ++ begun.rest) ≡ None) same fits)
 
--- a file whose start traps has no saved state, which any bytes show at once
-never : {A : Type 0} (b : Bool) → b ≡ false → b ≡ true → A
-never true traps starts = absurd (cc)
-never false traps starts = absurd (cc)
-
 pub bad-at-once : (file : Parts) (bytes : List ℕ) → start_succeeds file ≡ false → ShowsBadState file bytes 0
 bad-at-once file bytes traps = record {
-  none = λ numbers saved. never (start_succeeds file) traps saved.starts;
+  none = λ numbers saved. not_both (start_succeeds file) traps saved.starts;
   within = omega arith;
   before = λ n early. absurd (omega (arith, early));
-  here = λ within begun. never (start_succeeds file) traps begun.saved.starts;
+  here = λ within begun. not_both (start_succeeds file) traps begun.saved.starts;
 }
 
 -- bytes of the shape whose cells are those of numbers are the saved state of these

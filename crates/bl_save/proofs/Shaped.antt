@@ -95,17 +95,6 @@ exactly-is (n ∷ wanted) (byte ∷ bytes) fits = both (byte == n) (misfit (map 
 
 -- ---- any byte
 
--- bytes of a shape that takes all
-pub any-fits : (k : ℕ) (bytes : List ℕ) → length bytes ≡ k → ((i : ℕ) → slice_index bytes i < 256) →
-    misfit (replicate k (at_most 255)) bytes ≡ None
-any-fits zero [] is small = refl
-any-fits zero (byte ∷ bytes) is small = absurd (omega arith)
-any-fits (suc k) [] is small = absurd (omega arith)
-any-fits (suc k) (byte ∷ bytes) is small =
-    let low : byte < 256 = small 0 in
-    let passes : nat_le byte 255 ≡ true = grind (arith, nat_tests) in
-    rw passes (ap (option_map suc) (any-fits k bytes (omega arith) (λ i. small (suc i))))
-
 -- too few bytes leave it behind the last
 pub any-ends : (k : ℕ) (bytes : List ℕ) → length bytes < k → ((i : ℕ) → slice_index bytes i < 256) →
     misfit (replicate k (at_most 255)) bytes ≡ Some (length bytes)

@@ -9,6 +9,7 @@ use Rattle.byteorder.specs.Numbers.{big_from-take}
 use Rattle.std.proofs.lemmas.Bool.Decides.{nat_tests}
 use Rattle.std.proofs.lemmas.Int.{ints}
 use Rattle.std.specs.Int.{bytes_high_first, byte_at, w128}
+use Rattle.std.proofs.lemmas.Bool.{and_parts}
 use Rattle.byteorder.specs.Endian.{big_number, low_bytes, twos_complement}
 use Rattle.bl_tree.specs.declared.scalar.Width.{Width}
 use Rattle.bl_tree.specs.declared.scalar.Width.TheVariants.{W8, W16, W32, W64}
@@ -45,19 +46,13 @@ cell-fits (Int w) n range = digits-fit (size_of (Int w)) (low_bytes w128 (size_o
 cell-fits (Nat w) n range = digits-fit (size_of (Nat w)) (low_bytes w128 (size_of (Nat w)) n)
 cell-fits (Bits w) n range = digits-fit (size_of (Bits w)) (low_bytes w128 (size_of (Bits w)) n)
 
--- the parts of a test on two
-pub both-hold : (a b : Bool) → (a && b) ≡ true → (a ≡ true) × (b ≡ true)
-both-hold true true h = (refl, refl)
-both-hold true false h = absurd (cc)
-both-hold false b h = absurd (cc)
-
 -- and so have those of cells
 pub cells-fit : (kinds : List Scalar) (ns : List ℤ) → in_ranges kinds ns ≡ true → misfit (cells_shape kinds) (cells_bytes kinds ns) ≡ None
 cells-fit [] [] range = refl
 cells-fit [] (n ∷ ns) range = absurd (cc)
 cells-fit (kind ∷ kinds) [] range = absurd (cc)
 cells-fit (kind ∷ kinds) (n ∷ ns) range =
-    let parts = both-hold (in_range kind n) (in_ranges kinds ns) range in
+    let parts = and_parts (in_range kind n) (in_ranges kinds ns) range in
     joins (cell_shape kind) (cells_shape kinds) (cell_bytes kind n) (cells_bytes kinds ns) (cell-fits kind n parts.0) (cells-fit kinds ns parts.1)
 
 -- and that of a state
@@ -183,17 +178,6 @@ size-some (Int w) = width-some w
 size-some (Nat w) = width-some w
 size-some (Bits w) = width-some w
 
--- a first byte that is too great leaves it at once
-pub cell-leaves : (kind : Scalar) (bytes : List ℕ) → size_of kind ≤ length bytes → most_of kind < slice_index bytes 0 →
-    misfit (cell_shape kind) (take (size_of kind) bytes) ≡ Some 0
-cell-leaves kind bytes long great = go (size_of kind) (most_of kind) bytes (size-some kind).0 long great
-  where
-    go : (k most : ℕ) (bytes : List ℕ) → 1 ≤ k → k ≤ length bytes → most < slice_index bytes 0 →
-        misfit (replicate k (at_most most)) (take k bytes) ≡ Some 0
-    go zero most bytes some long great = absurd (omega arith)
-    go (suc k) most [] some long great = absurd (omega arith)
-    go (suc k) most (b ∷ bytes) some long great = let no : nat_le b most ≡ false = grind (arith, nat_tests) in rw no refl
-
 -- all others have it
 pub cell-holds : (kind : Scalar) (bytes : List ℕ) → size_of kind ≤ length bytes → AreBytes bytes → slice_index bytes 0 ≤ most_of kind →
     misfit (cell_shape kind) (take (size_of kind) bytes) ≡ None
@@ -226,7 +210,7 @@ numbers-back [] [] range = refl
 numbers-back [] (n ∷ ns) range = absurd (cc)
 numbers-back (kind ∷ kinds) [] range = absurd (cc)
 numbers-back (kind ∷ kinds) (n ∷ ns) range =
-    let parts = both-hold (in_range kind n) (in_ranges kinds ns) range in
+    let parts = and_parts (in_range kind n) (in_ranges kinds ns) range in
     let behind : drop (size_of kind) (cell_bytes kind n ++ cells_bytes kinds ns) ≡ cells_bytes kinds ns =
     ap (λ (k : ℕ). drop k (cell_bytes kind n ++ cells_bytes kinds ns)) (sym (length-cell_bytes kind n))
     ∙ drop-append_seam (cell_bytes kind n) (cells_bytes kinds ns) in

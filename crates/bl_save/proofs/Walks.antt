@@ -5,6 +5,7 @@ use Rattle.std.specs.Prelude.{◌&&◌, ◌==◌, slice_get, slice_set, slice_in
 use Rattle.std.proofs.Math.Seq.{take-suc-set}
 use Rattle.std.proofs.lemmas.Bool.Decides.{nat_tests}
 use Rattle.std.proofs.lemmas.List.{append-nil, append_assoc, drop-drop, drop_all, length-drop, length-take, take_all}
+use Rattle.bl_tree.proofs.Basics.{plus_one}
 use Rattle.bl_tree.specs.declared.scalar.Scalar.{Scalar}
 use Rattle.bl_tree.specs.Ports.{in_ranges}
 use Rattle.bl_tree.specs.Scalar.{in_range}
@@ -24,10 +25,6 @@ drop-get (y ∷ xs) (suc k) x is = drop-get xs k x is ∙ ap (λ (n : ℕ). x �
   where
     more : (k : ℕ) → suc (k + 1) ≡ suc k + 1
     more k = omega arith
-
--- the next number
-next : (k : ℕ) → k + 1 ≡ suc k
-next k = omega arith
 
 -- ---- saving
 
@@ -138,7 +135,7 @@ pub put-step : (kinds : List Scalar) (bytes : List ℕ) (cells : List ℤ) (k at
     take (k + 1) (slice_set cells k n) ++ numbers_in (drop (k + 1) kinds) (drop (at + size_of kind) bytes) ≡
     take k cells ++ numbers_in (drop k kinds) (drop at bytes)
 put-step kinds bytes cells k at kind n is within number =
-    let front : take (k + 1) (slice_set cells k n) ≡ take k cells ++ n ∷ [] = ap (λ (i : ℕ). take i (slice_set cells k n)) (next k)
+    let front : take (k + 1) (slice_set cells k n) ≡ take k cells ++ n ∷ [] = ap (λ (i : ℕ). take i (slice_set cells k n)) (plus_one k)
     ∙ take-suc-set cells k n within in
     let behind : drop (at + size_of kind) bytes ≡ drop (size_of kind) (drop at bytes) = sym (drop-drop (size_of kind) at bytes) in
     ap (λ (s : List ℤ). s ++ numbers_in (drop (k + 1) kinds) (drop (at + size_of kind) bytes)) front

@@ -13,22 +13,14 @@ use Rattle.bl_parse_tree.specs.declared.raw.Raw.{Raw}
 use Rattle.bl_rows.specs.Reading.{empty_reading, fault_in, rows_in, rows_of}
 use Rattle.bl_rows.specs.Text.{text_of}
 use Rattle.bl_rules.specs.Accepted.{HasTree}
-use Rattle.bl_rows_stream.specs.Streams.{
-  AppendsFront,
-  Course,
-  Unread,
-  finish_of,
-  last_over,
-  last_so_far,
-  text_over,
-  text_so_far,
-}
+use Rattle.bl_rows_stream.specs.Streams.{AppendsFront, Course, Unread, finish_of, last_over, last_so_far, text_over, text_so_far}
 use Rattle.bl_rows_stream.specs.declared.finish.Finish.{Finish}
 use Rattle.bl_tree.specs.Ports.{RowsFit, input_columns, output_columns}
 use Rattle.bl_tree.specs.declared.row.Last.{Last}
 use Rattle.bl_tree.specs.declared.row.Trace.{Trace}
 use Rattle.bl_tree.specs.declared.tree.StructDef.{StructDef}
 use Rattle.bl_tree.specs.declared.tree.Unit.{Unit as UnitDef}
+use Rattle.bl_top_commands.proofs.Walks.{same_shown}
 
 -- over the rows of any bytes both end alike and show the same, and so they do over those of whole lines
 pub record Alike (course other : Course) : Type 0 where
@@ -86,11 +78,6 @@ same_last trace other e = ap (λ (shows : ShownTrace). unwrap_or shows.last trac
 same_rows : (trace other : Trace) → shown_trace trace ≡ shown_trace other → trace.rows ≡ other.rows
 same_rows trace other e = ap (λ (shows : ShownTrace). shows.rows) e
 
--- a trace is what it shows
-same_trace : (trace other : Trace) → shown_trace trace ≡ shown_trace other → trace ≡ other
-same_trace trace other e =
-    ap (λ last. trace_with trace.rows last) (same_last trace other e) ∙ ap (λ rows. trace_with rows other.last) (same_rows trace other e)
-
 module _ (structs : List StructDef) (units : List UnitDef) (entry : ℕ) (course other : Course) (is : HasCourse structs units entry course)
     (too : HasCourse structs units entry other) where
   one_unit : is.unit ≡ too.unit
@@ -98,7 +85,7 @@ module _ (structs : List StructDef) (units : List UnitDef) (entry : ℕ) (course
 
   one_trace : (rows : List (List ℤ)) → RowsFit (input_columns is.unit) rows → is.trace rows ≡ too.trace rows
   one_trace rows fit =
-      same_trace (is.trace rows) (too.trace rows)
+      same_shown (is.trace rows) (too.trace rows)
       ((too.one rows (shown_trace (is.trace rows)) (subst (λ unit. RowsFit (input_columns unit) rows) one_unit fit)).0
       ((is.one rows (shown_trace (is.trace rows)) fit).1 refl))
 

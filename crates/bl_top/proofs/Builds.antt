@@ -7,25 +7,11 @@ use Rattle.bl_ctext_semantics.specs.Sizes.{cells_needed}
 use Rattle.bl_ctext_semantics_laws_places.specs.Behaviour.{Behaviour, behaviour_of}
 use Rattle.bl_ctext_semantics_laws_places.specs.Bytes.{Behaves}
 use Rattle.bl_top_commands.specs.Calls.{Call}
-use Rattle.bl_top_commands.specs.Exec.{
-  ExecEnds,
-  HasFile,
-  Rejects,
-  TextStops,
-  ill_formed,
-  no_file,
-  no_memory,
-  ran,
-  rejected,
-  stopped,
-  too_long,
-  too_many_cells,
-  unread,
-  want,
-}
+use Rattle.bl_top_commands.specs.Exec.{ExecEnds, HasFile, Rejects, TextStops, ill_formed, no_file, no_memory, ran, rejected, stopped, too_long, too_many_cells}
+use Rattle.bl_top_commands.specs.Exec.{unread, want}
 use Rattle.bl_top_commands.specs.Notes.{line_of}
 use Rattle.bl_top_commands.specs.Reads.{longest_text}
-use Rattle.bl_top_commands.specs.Sources.{IsSource, IsTextOf, IsTextOfProgram, RunsAs}
+use Rattle.bl_top_commands.specs.Sources.{IsTextOf, IsTextOfProgram, RunsAs}
 use Rattle.bl_top_commands.specs.Traces.{HasCourse, course_by}
 use Rattle.bl_top_commands.specs.declared.status.Status.{Status}
 use Rattle.bl_top_commands.specs.declared.status.Status.TheVariants as status
@@ -40,6 +26,7 @@ use Rattle.bl_tree.specs.declared.tree.StructDef.{StructDef}
 use Rattle.bl_tree.specs.declared.tree.Unit.{Unit as UnitDef}
 use Rattle.bl_top_args.specs.Jobs.{Word}
 use Rattle.bl_top.proofs.Courses.{BytesFit, LinesFit, course_of_behaviour, faultless, not_large}
+use Rattle.bl_top_commands.proofs.Resumes.{told_source}
 
 -- what spells the file of a program is built of it
 pub text_of_file : (structs : List StructDef) (units : List UnitDef) (entry : ℕ) (file : CFile) (text : List ℕ) → SpellsC file text →
@@ -108,10 +95,7 @@ built_rejected each structs units entry text _ _ is no_memory = inr (refl, refl)
 
 -- ---- how `exec` ends
 
-told_source : (left : Option (List ℕ)) (text bytes : List ℕ) → left ≡ Some text → IsSource left bytes → text ≡ bytes
-told_source left text bytes stands source = subst (λ l. IsSource l bytes) stands source
-
-within_limit : (text : List ℕ) → length text ≤ longest_text → longest_text < length text → ⊥
+pub within_limit : (text : List ℕ) → length text ≤ longest_text → longest_text < length text → ⊥
 within_limit text fits long = omega (arith, fits, long)
 
 unless_rejected : (left : Option (List ℕ)) (built : List ℕ) (c : Call) (text rows : Word) (ended : Status) (line : List ℕ) →

@@ -1,13 +1,13 @@
 -- What is run of a program has the program's one trace.
 use Rattle.std.proofs.Common.{◌≡◌, ℕ, ℤ, List, refl, sym, ap, ◌∙◌, subst, arith}
-use Rattle.std.specs.Prelude.{◌<◌, ◌≤◌, Option, Some, None}
+use Rattle.std.specs.Prelude.{◌<◌, ◌≤◌, Some}
 use Rattle.bl_ctext_semantics.specs.Faults.{WellFormed, first_fault, first_place}
 use Rattle.bl_ctext_semantics.specs.Parts.{Parts, parts_of}
 use Rattle.bl_ctext_semantics.specs.Sizes.{cells_needed}
 use Rattle.bl_ctext_semantics_laws_places.specs.Behaviour.{Behaviour, behaviour_of}
 use Rattle.bl_top_commands.specs.Traces.{HasCourse, OneTrace, course_by}
 use Rattle.bl_crun.specs.Cause.{IsCause}
-use Rattle.bl_crun.specs.Running.{Running, loaded}
+use Rattle.bl_crun.specs.Running.{loaded}
 use Rattle.bl_crun.specs.declared.fault.LoadFault.{LoadFault}
 use Rattle.bl_crun.specs.declared.fault.LoadFault.TheVariants as load
 use Rattle.bl_ctext.specs.declared.file.CFile.{CFile}
@@ -20,6 +20,7 @@ use Rattle.bl_tree.specs.declared.place.Place.{Place}
 use Rattle.bl_tree.specs.declared.row.Column.{Column}
 use Rattle.bl_tree.specs.declared.tree.StructDef.{StructDef}
 use Rattle.bl_tree.specs.declared.tree.Unit.{Unit as UnitDef}
+use Rattle.bl_top_commands.proofs.Resumes.{none_and_some}
 
 -- ---- rows that fit columns
 
@@ -48,8 +49,8 @@ course_of_behaviour structs units entry behaviour is fit so_far = record {
   fit = λ bytes. columns_fit behaviour.inputs (input_columns is.unit) (rows_of bytes behaviour.inputs).rows is.inputs (fit bytes behaviour.inputs);
   fit_so_far = λ bytes. columns_fit behaviour.inputs (input_columns is.unit) (rows_in (empty_reading behaviour.inputs) bytes) is.inputs
       (so_far bytes behaviour.inputs);
-  trees = is.trees;
-  are_trees = is.are_trees;
+  peeled = is.peeled;
+  are_peeled = is.are_peeled;
   bounded = is.bounded;
   never_stuck = is.never_stuck;
 }
@@ -62,12 +63,9 @@ course_of_parts structs units entry file ready same is fit so_far =
 
 -- ---- it is loaded, unless memory is wanting
 
-not_both : (found : Option Place) (at : Place) → found ≡ None → found ≡ Some at → ⊥
-not_both found at none some = let e = sym none ∙ some in cc
-
 -- a well-formed file has no first fault
 pub faultless : (file : Parts) (at : Place) → WellFormed file → first_fault file ≡ Some at → ⊥
-faultless file at formed is = not_both (first_fault file) at (ap first_place formed.none) is
+faultless file at formed is = none_and_some (first_fault file) at (ap first_place formed.none) is
 
 pub not_large : (cells : ℕ) → 1000000 < cells → cells ≤ 1000000 → ⊥
 not_large cells large small = omega (arith, large, small)
@@ -80,9 +78,3 @@ wants_memory file structs units entry (load.TooLarge cells) is cause = absurd (n
 wants_memory file structs units entry load.NoMemory is cause = refl
 
 -- ---- what was just loaded
-
-pub loaded_parts : (ready : Running) (file : Parts) → ready ≡ loaded file → ready.parts ≡ file
-loaded_parts ready file e = ap (λ (r : Running). r.parts) e
-
-pub loaded_fresh : (ready : Running) (file : Parts) → ready ≡ loaded file → ready ≡ loaded ready.parts
-loaded_fresh ready file e = e ∙ ap loaded (sym (loaded_parts ready file e))

@@ -1,12 +1,11 @@
 -- What is driven of a source, and how the command ends.
 use Rattle.std.proofs.Common.{◌≡◌, ◌∙◌, ℕ, List, [], ◌++◌, ap, ap₂, inl, inr, refl, subst, sym}
-use Rattle.std.specs.Prelude.{◌⊎◌, ◌↔◌, Option, Some, None, Result, Ok, Err}
+use Rattle.std.specs.Prelude.{◌⊎◌, ◌↔◌, Option, Some, Result, Ok, Err}
 use Rattle.bl_ctext_semantics.specs.Cells.{outputs_of}
 use Rattle.bl_ctext_semantics.specs.Parts.{Parts}
 use Rattle.bl_ctext_semantics_laws_places.specs.Behaviour.{Behaviour, behaviour_of}
 use Rattle.bl_top_commands.specs.Calls.{Call, Output}
 use Rattle.bl_top_commands.specs.inner.Outcomes.{chosen_line, line_in, lines_in}
-use Rattle.bl_top_commands.specs.Notes.{line_of}
 use Rattle.bl_top_commands.specs.Refusals.{IsNotAccepted}
 use Rattle.bl_top_commands.specs.Sources.{IsProgramOfSource}
 use Rattle.bl_top_commands.specs.declared.answer.Answer.{Answer}
@@ -28,7 +27,7 @@ use Rattle.bl_top.specs.Answers.{Answers, drives}
 use Rattle.bl_top.specs.Drive.{DriveEnds, DriveNotes, HasDrivenSource, LeavesDrivenPlants, Plants, drive_line, drive_setting, drive_status}
 use Rattle.bl_top.specs.Drive.{drove, kept, short, stopped, unwritten, want, was_driven, whole}
 use Rattle.bl_top.specs.inner.Driven.{Drives, MayHaveDriven, TellsReport, WritesReport, failed, refused, wrote}
-use Rattle.bl_tree.specs.Ports.{RowsFit, input_columns}
+use Rattle.bl_tree.specs.Ports.{RowsFit}
 use Rattle.bl_tree.specs.declared.program.Program.{Program}
 use Rattle.bl_tree.specs.declared.row.Column.{Column}
 use Rattle.bl_tree.specs.declared.row.Last.{Last}
@@ -37,7 +36,7 @@ use Rattle.bl_tree.specs.declared.row.Trace.{Trace}
 use Rattle.bl_tree.specs.declared.tree.StructDef.{StructDef}
 use Rattle.bl_tree.specs.declared.tree.Unit.{Unit as UnitDef}
 use Rattle.bl_top_args.specs.Jobs.{JobSpec, Word, drive}
-use Rattle.bl_top.proofs.Programs.{tree_of_program}
+use Rattle.bl_top_commands.proofs.Fronts.{tree_of_program}
 
 -- ---- the drive of a program
 

@@ -2,7 +2,7 @@
 use Rattle.std.proofs.Common.{◌≡◌, ℕ, ◌≤◌, List, length, subst, sym}
 use Rattle.std.specs.Prelude.{Option, Some, None, IfSome}
 use Rattle.bl_top_commands.specs.Bound.{BoundEnds}
-use Rattle.bl_top_commands.specs.Calls.{Call, Count, Output}
+use Rattle.bl_top_commands.specs.Calls.{Call}
 use Rattle.bl_top_commands.specs.Check.{CheckEnds}
 use Rattle.bl_top_commands.specs.Count.{CountEnds}
 use Rattle.bl_top_commands.specs.Exec.{ExecEnds}
@@ -13,8 +13,8 @@ use Rattle.bl_top_commands.specs.Linked.{AreNotLinked}
 use Rattle.bl_top_commands.specs.Laws.{FaultsCountFromBefore, ProgramsRunAsTheirSource}
 use Rattle.bl_top_commands.specs.Notes.{line_of}
 use Rattle.bl_top_commands.specs.Reads.{LeftBehind, source_limit}
-use Rattle.bl_top_commands.specs.Refusals.{IsNotAccepted, short as source_short}
-use Rattle.bl_top_commands.specs.Results.{WritesResult, fault, nothing, want, whole}
+use Rattle.bl_top_commands.specs.Refusals.{IsNotAccepted}
+use Rattle.bl_top_commands.specs.Results.{WritesResult}
 use Rattle.bl_top_commands.specs.Rows.{IsInStep, Streams}
 use Rattle.bl_top_commands.specs.Sources.{IsProgramOfSource}
 use Rattle.bl_top_commands.specs.Save.{ResumeEnds, SaveEnds, SaveFromEnds}
@@ -35,20 +35,9 @@ use Rattle.bl_top.specs.Run.{RunEnds, ran, stopped as run_stopped}
 use Rattle.bl_tree.specs.declared.program.Program.{Program}
 use Rattle.bl_top_args.specs.Jobs.{IsCounted, JobSpec, Word, bound, build, check, count, exec, face, gen, link, resume, run, save, save_from, walk}
 use Rattle.bl_top.proofs.Programs.{built_of_source}
+use Rattle.bl_top_commands.proofs.Ends.{writes_as}
 
 -- ---- `build`
-
-pub wrote_nothing : (IsResult : List ℕ → Type 0) (out : Output) (ended : Status) → ended ≡ status.NoMemory → IsKept out.before out.after →
-    WritesResult IsResult out ended
-wrote_nothing IsResult out ended e kept = rw e (nothing kept)
-
--- what is a result in one sense is one in another
-pub writes_as : (P Q : List ℕ → Type 0) (out : Output) (ended : Status) → ((text : List ℕ) → P text → Q text) → WritesResult P out ended →
-    WritesResult Q out ended
-writes_as P Q out _ turned (whole text is grew) = whole text (turned text is) grew
-writes_as P Q out _ turned (fault text is grew risen) = fault text (turned text is) grew risen
-writes_as P Q out _ turned (want text is grew) = want text (turned text is) grew
-writes_as P Q out _ turned (nothing kept) = nothing kept
 
 pub build_written : (c : Call) (source : Word) (program : Program) (ended : Status) (line : List ℕ) → IsProgramOfSource (c.left source) program →
     WritesResult (IsBuiltOfProgram program.structs program.units program.entry) c.out ended → line ≡ line_of ended → BuildEnds c source ended line
@@ -89,11 +78,6 @@ run_ran as_source from_before c source rows program course between second ended 
 pub run_stops : (c : Call) (source rows : Word) (ended : Status) (line : List ℕ) →
     IsNotAccepted (c.left source) (c.file source) ended line → IsKept c.out.before c.out.after → RunEnds c source rows ended line
 run_stops c source rows ended line stops kept = run_stopped stops kept
-
--- memory was refused once the source was accepted
-pub stops_short : (before : Option (List ℕ)) (file : Count) (ended : Status) (own : List ℕ) → ended ≡ status.NoMemory →
-    IsNotAccepted before file ended (chosen_line ended own)
-stops_short before file ended own none = rw none source_short
 
 -- ---- the job
 

@@ -1,74 +1,25 @@
 -- No count of faults of a plant falls in a call.
-use Rattle.std.proofs.Common.{
-  ◌≡◌,
-  ◌∙◌,
-  ℕ,
-  suc,
-  ◌≤◌,
-  ℤ,
-  Bool,
-  true,
-  false,
-  cond,
-  if◌then◌else◌,
-  List,
-  [],
-  ◌∷◌,
-  ◌++◌,
-  length,
-  nat_eq,
-  Option,
-  Some,
-  None,
-  Result,
-  Ok,
-  Err,
-  refl,
-  sym,
-  ap,
-  subst,
-  append_assoc,
-  le_refl,
-}
+use Rattle.std.proofs.Common.{◌≡◌, ◌∙◌, ℕ, suc, ◌≤◌, ℤ, Bool, true, false, cond, if◌then◌else◌, List, [], ◌∷◌, ◌++◌, length, nat_eq, Option, Some, None, Result}
+use Rattle.std.proofs.Common.{Ok, Err, refl, sym, ap, subst, append_assoc, le_refl}
 use Rattle.std.specs.List.{AllByRecursion, list_any}
 use Rattle.std.proofs.lemmas.Bool.{eq-eqb}
 use Rattle.std.proofs.lemmas.List.Folds.{list_any-append}
+use Rattle.std.proofs.lemmas.Bool.{or_from}
+use Rattle.bl_tree.proofs.Basics.{neither_first, neither_second, same_some}
 use Rattle.bl_plant.specs.Plants.{IsSame, PlantView}
 use Rattle.bl_plant_drive.specs.Drives.{DriveEnds as EndsOf, DriveSetting, HasStopped, MayGoOn, Outcome, trace_over}
 use Rattle.bl_plant_drive.specs.Roles.{Plays, Role, after_part, first_named, left_by, left_in, role_of}
 use Rattle.bl_plant_drive.specs.declared.driven.Driven.{Driven}
 use Rattle.bl_plant_drive.specs.declared.fault.DriveFault.{DriveFault}
 use Rattle.bl_plant_drive.specs.declared.fault.DriveFault.TheVariants as fault
-use Rattle.bl_plant_drive.proofs.Casts.{eq-flip, or-false, or-left, or-right, role-name, split}
-use Rattle.bl_plant_drive.proofs.Lists.{same-some}
-use Rattle.bl_top.specs.Answers.{
-  Answers,
-  KeepsCounts,
-  KeepsPlants,
-  bounds,
-  builds,
-  checks,
-  counts,
-  drives,
-  dropped,
-  execs,
-  gens,
-  no_job,
-  no_plant,
-  resumes,
-  faces,
-  links,
-  runs,
-  saves,
-  saves_from,
-  short as answers_short,
-  stays,
-  walks,
-}
+use Rattle.bl_plant_drive.proofs.Casts.{eq-flip, role-name, split}
+use Rattle.bl_top.specs.Answers.{Answers, KeepsCounts, KeepsPlants, bounds, builds, checks, counts, drives, dropped, execs, gens, no_job, no_plant, resumes}
+use Rattle.bl_top.specs.Answers.{faces, links, runs, saves, saves_from, short as answers_short, stays, walks}
 use Rattle.bl_top.specs.Drive.{DriveEnds, HasDrivenSource, LeavesDrivenPlants, Plants, drive_setting, drove, kept, short, stopped, was_driven}
 use Rattle.bl_top_args.specs.Jobs.{JobSpec, Word}
 use Rattle.bl_top_commands.specs.Calls.{Call}
 use Rattle.bl_top_commands.specs.declared.status.Status.{Status}
+use Rattle.bl_plant_drive.proofs.Telling.{all-both, all-map}
 
 same-as : (p : PlantView) → IsSame p p
 same-as p = record { name = refl; width = refl; rule = refl; faults = le_refl p.faults }
@@ -82,27 +33,19 @@ keeps-same before after same = subst (KeepsCounts before) (sym same) (keeps-all 
 
 -- ---- lists
 
-all-by : {A : Type 0} (P Q : A → Type 0) → ((a : A) → P a → Q a) → (xs : List A) → AllByRecursion P xs → AllByRecursion Q xs
-all-by P Q on [] all = tt
-all-by P Q on (x ∷ xs) all = (on x all.0, all-by P Q on xs all.1)
-
-all-join : {A : Type 0} (P : A → Type 0) (xs ys : List A) → AllByRecursion P xs → AllByRecursion P ys → AllByRecursion P (xs ++ ys)
-all-join P [] ys first later = later
-all-join P (x ∷ xs) ys first later = (first.0, all-join P xs ys first.1 later)
-
 role-in : (P : Role → Type 0) (n : ℕ) (cast : List Role) → AllByRecursion P cast → (r : Role) → role_of n cast ≡ Some r → P r
 role-in P n [] all r found = absurd (cc)
 role-in P n (d ∷ cast) all r found = split (nat_eq d.plant.name n)
-    (λ holds. subst P (same-some d r (sym (ap (λ (z : Bool). if z then Some d else role_of n cast) holds) ∙ found)) all.0)
+    (λ holds. subst P (same_some d r (sym (ap (λ (z : Bool). if z then Some d else role_of n cast) holds) ∙ found)) all.0)
     (λ fails. role-in P n cast all.1 r (sym (ap (λ (z : Bool). if z then Some d else role_of n cast) fails) ∙ found))
 
-first-behind : (n : ℕ) (before : List PlantView) (q : PlantView) (after : List PlantView) → list_any (λ (x : PlantView). nat_eq x.name n) before ≡ false →
+pub first-behind : (n : ℕ) (before : List PlantView) (q : PlantView) (after : List PlantView) → list_any (λ (x : PlantView). nat_eq x.name n) before ≡ false →
     q.name ≡ n → first_named n (before ++ q ∷ after) ≡ Some q
 first-behind n [] q after none is = ap (λ b. cond b (Some q) (first_named n after)) (eq-eqb q.name n is)
 first-behind n (x ∷ before) q after none is =
     ap (λ b. cond b (Some x) (first_named n (before ++ q ∷ after)))
-    (or-left (nat_eq x.name n) (list_any (λ (y : PlantView). nat_eq y.name n) before) none)
-    ∙ first-behind n before q after (or-right (nat_eq x.name n) (list_any (λ (y : PlantView). nat_eq y.name n) before) none) is
+    (neither_first (nat_eq x.name n) (list_any (λ (y : PlantView). nat_eq y.name n) before) none)
+    ∙ first-behind n before q after (neither_second (nat_eq x.name n) (list_any (λ (y : PlantView). nat_eq y.name n) before) none) is
 
 -- ---- what a cast leaves
 
@@ -118,7 +61,7 @@ module _ (whole : List PlantView) (cast : List Role) (meant : AllByRecursion (Is
   same-part r p found first =
       let named = role-name p.name cast r found in
       let is : r.plant ≡ p =
-      same-some r.plant p (sym (role-in (IsMeant whole) p.name cast meant r found) ∙ ap (λ n. first_named n whole) named ∙ first) in
+      same_some r.plant p (sym (role-in (IsMeant whole) p.name cast meant r found) ∙ ap (λ n. first_named n whole) named ∙ first) in
       subst (λ x. IsSame x (after_part r)) is
       (record { name = refl; width = refl; rule = refl; faults = role-in HasNotFallen p.name cast grew r found })
 
@@ -142,9 +85,9 @@ module _ (whole : List PlantView) (cast : List Role) (meant : AllByRecursion (Is
       apart-more : (n : ℕ) → list_any (nat_eq n) (p.name ∷ earlier) ≡ false → list_any (λ (x : PlantView). nat_eq x.name n) (front ++ p ∷ []) ≡ false
       apart-more n other =
           list_any-append (λ (x : PlantView). nat_eq x.name n) front (p ∷ [])
-          ∙ or-false (list_any (λ (x : PlantView). nat_eq x.name n) front) (list_any (λ (x : PlantView). nat_eq x.name n) (p ∷ []))
-          (apart n (or-right (nat_eq n p.name) (list_any (nat_eq n) earlier) other))
-          (or-false (nat_eq p.name n) false (eq-flip n p.name (or-left (nat_eq n p.name) (list_any (nat_eq n) earlier) other)) refl)
+          ∙ or_from (list_any (λ (x : PlantView). nat_eq x.name n) front) (list_any (λ (x : PlantView). nat_eq x.name n) (p ∷ []))
+          (apart n (neither_second (nat_eq n p.name) (list_any (nat_eq n) earlier) other))
+          (or_from (nat_eq p.name n) false (eq-flip n p.name (neither_first (nat_eq n p.name) (list_any (nat_eq n) earlier) other)) refl)
 
       by-name : (b : Bool) → list_any (nat_eq p.name) earlier ≡ b → KeepsCounts plants (left_in cast (p.name ∷ earlier) plants) →
           KeepsCounts (p ∷ plants) ((if b then p ∷ [] else left_by (role_of p.name cast) p) ++ left_in cast (p.name ∷ earlier) plants)
@@ -167,15 +110,15 @@ stopped-keeps s o asked others is =
     let n : ℕ = length o.driven.ins in
     subst (KeepsCounts s.plants) (sym is.plants)
     (cast-keeps s.plants (asked ++ others) is.driven.is_cast.meant
-    (all-join HasNotFallen asked others (all-by (Plays outs outs (suc n)) HasNotFallen (plays-count outs outs (suc n)) asked is.earlier)
-    (all-by (Plays outs outs n) HasNotFallen (plays-count outs outs n) others is.later)))
+    (all-both HasNotFallen asked others (all-map (Plays outs outs (suc n)) HasNotFallen (plays-count outs outs (suc n)) asked is.earlier)
+    (all-map (Plays outs outs n) HasNotFallen (plays-count outs outs n) others is.later)))
 
 ends-keep : (s : DriveSetting) (o : Outcome) (how : Result (Unit {0}) DriveFault) → EndsOf s o how → KeepsCounts s.plants o.plants
 ends-keep s o (Ok done) ends =
     let outs : List (List ℤ) = o.driven.trace.rows in
     let n : ℕ = length o.driven.ins in
     subst (KeepsCounts s.plants) (sym ends.plants)
-    (cast-keeps s.plants ends.cast ends.driven.is_cast.meant (all-by (Plays outs outs n) HasNotFallen (plays-count outs outs n) ends.cast ends.parts))
+    (cast-keeps s.plants ends.cast ends.driven.is_cast.meant (all-map (Plays outs outs n) HasNotFallen (plays-count outs outs n) ends.cast ends.parts))
 ends-keep s o (Err (fault.Failed name)) ends = stopped-keeps s o ends.asked (ends.role ∷ ends.others) ends.stopped
 ends-keep s o (Err (fault.Absent name)) ends = keeps-same s.plants o.plants ends.1.plants
 ends-keep s o (Err (fault.Twice name)) ends = keeps-same s.plants o.plants ends.1.plants
@@ -184,7 +127,7 @@ ends-keep s o (Err (fault.Range column number)) ends = stopped-keeps s o (ends.a
 ends-keep s o (Err fault.NoMemory) ends =
     subst (KeepsCounts s.plants) (sym ends.plants)
     (cast-keeps s.plants ends.cast ends.driven.is_cast.meant
-    (all-by (MayGoOn o.driven.trace.rows (trace_over s.runner (o.driven.ins ++ ends.further)).rows) HasNotFallen (λ r may. may.plays.faults) ends.cast
+    (all-map (MayGoOn o.driven.trace.rows (trace_over s.runner (o.driven.ins ++ ends.further)).rows) HasNotFallen (λ r may. may.plays.faults) ends.cast
     ends.parts))
 
 source-keeps : (left : Option (List ℕ)) (plants : Plants) (ticks : ℕ) (names : List ℕ) (driven : Driven) (how : Result (Unit {0}) DriveFault)

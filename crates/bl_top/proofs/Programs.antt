@@ -1,19 +1,17 @@
 -- The program of a source, and what is written for it.
 use Rattle.std.proofs.Common.{◌≡◌, ℕ, List, subst}
 use Rattle.std.specs.Prelude.{Option}
-use Rattle.bl_top_commands.specs.Sources.{IsProgramOfSource, IsRawTreeOf}
+use Rattle.bl_top_commands.specs.Sources.{IsProgramOfSource}
 use Rattle.bl_types_program.specs.Programs.{typed_of}
 use Rattle.bl_rules_laws_sizes.specs.Small.{IsOfSmallTree, TextsAreSmall}
 use Rattle.bl_top.specs.Build.{IsBuiltOf, IsBuiltOfProgram}
 use Rattle.bl_tree.specs.declared.program.Program.{Program}
 use Rattle.bl_tree.specs.declared.tree.StructDef.{StructDef}
 use Rattle.bl_tree.specs.declared.tree.Unit.{Unit as UnitDef}
+use Rattle.bl_top_commands.proofs.Fronts.{tree_of_program}
 
 pub is_of_small_tree : TextsAreSmall → (left : Option (List ℕ)) (program : Program) → IsProgramOfSource left program → IsOfSmallTree program
 is_of_small_tree of left program is = of is.source program is.has
-
-pub tree_of_program : (left : Option (List ℕ)) (program : Program) (is : IsProgramOfSource left program) → IsRawTreeOf left is.has.raw
-tree_of_program left program is = record { source = is.source; of_source = is.of_source; has = is.has.has }
 
 -- what is built of the program is built of the tree
 built_of_tree : (text : List ℕ) (structs structs' : List StructDef) (units units' : List UnitDef) (entry entry' : ℕ) →

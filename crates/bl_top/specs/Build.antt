@@ -18,12 +18,12 @@ use Rattle.bl_tree.specs.declared.tree.Unit.{Unit as UnitDef}
 use Rattle.bl_top_args.specs.Jobs.{Word}
 
 -- the bytes are a C text of the program with this entry. Each activity with an instance has one function in its file, which alone names its counters. There are
--- as many counters as the activity's width. The function's body has as many `if`s as a machine of the trees' program with merged blocks has blocks
+-- as many counters as the activity's width. The function's body has as many `if`s as a machine of the peeled program with merged blocks has blocks
 pub record IsBuiltOfProgram (structs : List StructDef) (units : List UnitDef) (entry : ℕ) (text : List ℕ) : Type 0 where
   pub is : IsTextOfProgram structs units entry text
-  pub functions : FunctionsOwn structs is.one_trace.trees entry (parts_of is.behaves.file)
-  pub frames : EachFrameHasWidth structs is.one_trace.trees entry (parts_of is.behaves.file)
-  pub blocks : HasMergedBlocks structs is.one_trace.trees entry (parts_of is.behaves.file)
+  pub functions : FunctionsOwn structs is.one_trace.peeled entry (parts_of is.behaves.file)
+  pub frames : EachFrameHasWidth structs is.one_trace.peeled entry (parts_of is.behaves.file)
+  pub blocks : HasMergedBlocks structs is.one_trace.peeled entry (parts_of is.behaves.file)
 
 -- the bytes are a C text of the program of a source, with its functions, counters and `if`s
 pub record IsBuiltOf (left : Option (List ℕ)) (text : List ℕ) : Type 0 where

@@ -1,26 +1,5 @@
 -- The program's command line, and what every command's reading stands on.
-use Rattle.std.proofs.Common.{
-  ◌≡◌,
-  ◌∙◌,
-  ◌==◌,
-  ◌⊎◌,
-  ap,
-  inl,
-  inr,
-  false,
-  true,
-  ℕ,
-  sym,
-  List,
-  [],
-  ◌∷◌,
-  Option,
-  Some,
-  None,
-  codes,
-  find,
-  true≢false,
-}
+use Rattle.std.proofs.Common.{◌≡◌, ◌∙◌, ◌==◌, ◌⊎◌, ap, inl, inr, false, true, ℕ, sym, List, [], ◌∷◌, Option, Some, None, codes, find, true≢false}
 use Rattle.std.specs.List.{list_all}
 use Rattle.std.specs.Str.{bytes_eq}
 use Rattle.clap.specs.Faults.{fault_of, level_fault}

@@ -1,25 +1,5 @@
 -- What the parser reads of plain words is the job that they ask for.
-use Rattle.std.proofs.Common.{
-  ◌≡◌,
-  Bool,
-  false,
-  true,
-  inl,
-  inr,
-  refl,
-  sym,
-  subst,
-  List,
-  [],
-  ◌∷◌,
-  Option,
-  Some,
-  None,
-  codes,
-  find,
-  if◌then◌else◌,
-  true≢false,
-}
+use Rattle.std.proofs.Common.{◌≡◌, Bool, false, true, inl, inr, refl, sym, subst, List, [], ◌∷◌, Option, Some, None, codes, find, if◌then◌else◌, true≢false}
 use Rattle.std.specs.List.{list_all}
 use Rattle.std.specs.Str.{bytes_eq}
 use Rattle.std.proofs.lemmas.Slice.Eq.{bytes_eq-Decides}
@@ -33,25 +13,8 @@ use Rattle.clap.specs.declared.error.kind.ErrorKind.TheVariants.{OutOfMemory}
 use Rattle.clap.proofs.OnLiterals.{clap_on_literals}
 use Rattle.bl_top_args.specs.inner.FirstWords.{behind_first, first_is}
 use Rattle.bl_top_args.specs.inner.CommandLine.{command_line, job_read, named_read, one_if_read, one_read, three_read, two_or_three_read, two_read}
-use Rattle.bl_top_args.specs.Jobs.{
-  JobSpec,
-  Word,
-  bound,
-  build,
-  check,
-  count,
-  driven,
-  exec,
-  faced,
-  is_plain_word,
-  job_of,
-  linked,
-  of_one,
-  of_one_if,
-  of_three,
-  of_two,
-  other_job,
-}
+use Rattle.bl_top_args.specs.Jobs.{JobSpec, Word, bound, build, check, count, driven, exec, faced, is_plain_word, job_of, linked, of_one, of_one_if, of_three}
+use Rattle.bl_top_args.specs.Jobs.{of_two, other_job}
 use Rattle.bl_top_args.specs.Jobs.{of_two_or_three, resumed, run, save, save_from, seeded, staged}
 use Rattle.bl_top_args.proofs.Program.{ReadsAs, commands, name_refused, others_plain, program, takes_reads}
 use Rattle.bl_top_args.proofs.Values.{one, one_if_taken, one_taken, three, three_taken, two, two_or_three, two_or_three_taken, two_taken}

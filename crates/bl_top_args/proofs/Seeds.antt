@@ -1,23 +1,5 @@
 -- What `parse` makes of a word that is a seed.
-use Rattle.std.proofs.Common.{
-  ◌≡◌,
-  ◌∙◌,
-  ℕ,
-  ◌<◌,
-  ◌^◌,
-  ◌&&◌,
-  Bool,
-  true,
-  false,
-  List,
-  length,
-  refl,
-  ap,
-  arith,
-  Some,
-  None,
-  if◌then◌else◌,
-}
+use Rattle.std.proofs.Common.{◌≡◌, ◌∙◌, ℕ, ◌<◌, ◌^◌, ◌&&◌, Bool, true, false, List, length, refl, ap, arith, Some, None, if◌then◌else◌}
 use Rattle.std.specs.Prelude.{Result, Ok, Err, nat_lt}
 use Rattle.std.specs.Result.{OkIff, result_ok}
 use Rattle.std.specs.Str.{all_ascii_digits}

@@ -1,26 +1,5 @@
 -- How commands with one value, with two and with three are read, whatever their names.
-use Rattle.std.proofs.Common.{
-  ◌≡◌,
-  ◌∙◌,
-  ◌==◌,
-  false,
-  true,
-  inl,
-  inr,
-  ℕ,
-  refl,
-  sym,
-  ap,
-  ap₂,
-  List,
-  [],
-  ◌∷◌,
-  Option,
-  Some,
-  None,
-  codes,
-  true≢false,
-}
+use Rattle.std.proofs.Common.{◌≡◌, ◌∙◌, ◌==◌, false, true, inl, inr, ℕ, refl, sym, ap, ap₂, List, [], ◌∷◌, Option, Some, None, codes, true≢false}
 use Rattle.std.specs.List.{list_all}
 use Rattle.clap.specs.Faults.{level_fault}
 use Rattle.clap.specs.Simple.{Shape, rows_at}

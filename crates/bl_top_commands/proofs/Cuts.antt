@@ -6,9 +6,10 @@ use Rattle.std.specs.Prelude.{◌⊎◌, Option, Some, None, IfSome}
 use Rattle.bl_module_files.specs.Turns.{StandFurther}
 use Rattle.bl_top_commands.specs.Reads.{FileRead, LeftBehind, Limit, Reads, StandsWithin, in_bytes, in_lines, source_file}
 use Rattle.bl_top_commands.specs.Sources.{IsSource}
-use Rattle.bl_io.specs.Left.{GivesUpTo, IsKept, KeepsOthers, StandsFurther}
-use Rattle.bl_rows_stream.specs.Streams.{ReadsLines}
+use Rattle.bl_io.specs.Left.{GivesUpTo, KeepsOthers, StandsFurther}
 use Rattle.bl_top_args.specs.Jobs.{Word}
+use Rattle.bl_rows_stream.proofs.Takings.{kept-same}
+use Rattle.bl_rows_stream.proofs.Steps.{reads-none}
 
 -- ---- fronts
 
@@ -37,10 +38,6 @@ sourced limit P (Some whole) got after read here further = (whole, (refl, furthe
 
 -- ---- files
 
-pub kept_same : (held : Option (List ℕ)) → IsKept held held
-kept_same None = tt
-kept_same (Some bytes) = refl
-
 -- a file that was read as far as asked stands no further than that
 pub further_from_up_to : (limit : ℕ) (before : Option (List ℕ)) (got : List ℕ) (after : Option (List ℕ)) →
     GivesUpTo limit before got after → StandsFurther limit before after
@@ -63,19 +60,14 @@ further_same : (limit : ℕ) (left : Option (List ℕ)) → StandsFurther limit 
 further_same limit None = tt
 further_same limit (Some bytes) = (0, omega arith, refl)
 
-pub lines_same : (most : ℕ) (left : Option (List ℕ)) → ReadsLines most left left
-lines_same most None = tt
-lines_same most (Some bytes) =
-    record { read = []; piece = []; rest = bytes; are = refl; few = omega arith; short = omega arith; within = omega arith; left = refl }
-
 within_same : (limit : Limit) (left : Option (List ℕ)) → StandsWithin limit left left
 within_same (in_bytes most) left = further_same most left
-within_same (in_lines most) left = lines_same most left
+within_same (in_lines most) left = reads-none most left
 
 -- nothing is read
 pub reads_nothing : (files : List FileRead) (left : Word → Option (List ℕ)) → Reads files left left
-reads_nothing [] left = λ name. kept_same (left name)
-reads_nothing (file ∷ files) left = (left, within_same file.limit (left file.name), (λ other differs. kept_same (left other)), reads_nothing files left)
+reads_nothing [] left = λ name. kept-same (left name)
+reads_nothing (file ∷ files) left = (left, within_same file.limit (left file.name), (λ other differs. kept-same (left other)), reads_nothing files left)
 
 -- one file, and then nothing
 pub reads_first : (file : FileRead) (files : List FileRead) (before after : Word → Option (List ℕ)) →

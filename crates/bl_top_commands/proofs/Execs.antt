@@ -9,23 +9,8 @@ use Rattle.bl_ctext_semantics_laws_places.specs.Behaviour.{Behaviour, behaviour_
 use Rattle.bl_ctext_semantics_laws_places.specs.Bytes.{Behaves}
 use Rattle.bl_top_commands.specs.Calls.{Call, Count, HasRisen, Output}
 use Rattle.bl_top_commands.specs.Bound.{BoundEnds, TellsBounds, costs_told, stopped as bound_stopped}
-use Rattle.bl_top_commands.specs.Exec.{
-  HasFile,
-  Loads,
-  Rejects,
-  TextEnds,
-  TextStops,
-  ill_formed,
-  no_file,
-  ran,
-  rejected,
-  no_memory,
-  stopped,
-  too_long,
-  too_many_cells,
-  unread,
-  want,
-}
+use Rattle.bl_top_commands.specs.Exec.{HasFile, Loads, Rejects, TextEnds, TextStops, ill_formed, no_file, ran, rejected, no_memory, stopped, too_long}
+use Rattle.bl_top_commands.specs.Exec.{too_many_cells, unread, want}
 use Rattle.bl_top_commands.specs.inner.Outcomes.{IsEndAtLoad, IsEndAtText, IsTold, chosen_line, line_in}
 use Rattle.bl_top_commands.specs.inner.Texts.{HasBounds, HasLoaded, IsFileIn, IsFileOf}
 use Rattle.bl_top_commands.specs.Notes.{line_of, not_subset_line, too_large_line}

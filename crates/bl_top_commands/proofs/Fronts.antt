@@ -6,14 +6,7 @@ use Rattle.bl_top_commands.specs.Reads.{source_limit}
 use Rattle.bl_top_commands.specs.declared.outcome.Outcome.{Outcome}
 use Rattle.bl_top_commands.specs.declared.status.Status.{Status}
 use Rattle.bl_top_commands.specs.declared.status.Status.TheVariants as status
-use Rattle.bl_top_commands.specs.Refusals.{
-  IsNotAccepted,
-  RefusedText,
-  refusal_line,
-  refused as stopped,
-  short as no_memory,
-  unread,
-}
+use Rattle.bl_top_commands.specs.Refusals.{IsNotAccepted, RefusedText, refusal_line, refused as stopped, short as no_memory, unread}
 use Rattle.bl_top_commands.specs.inner.Outcomes.{IsRefusedBy, chosen_line, line_in}
 use Rattle.bl_top_commands.specs.Sources.{IsProgramOfSource, IsRawTreeOf}
 use Rattle.bl_io.specs.Left.{GivesUpTo}
@@ -27,6 +20,7 @@ use Rattle.bl_tree.specs.declared.rule.Rule.{Rule}
 use Rattle.bl_tree.specs.declared.rule.Rule.TheVariants as rule
 use Rattle.bl_tree.specs.Rules.{IsCause, number_of}
 use Rattle.bl_top_commands.proofs.Cuts.{whole_or_long}
+use Rattle.bl_module_files.proofs.Sizes.{least_number}
 
 -- the front is the whole, or both have more bytes than may be
 front_or_long : (whole got : List ℕ) → got ≡ take source_limit whole → (whole ≡ got) ⊎ ((1_048_576 < length got) × (1_048_576 < length whole))
@@ -68,10 +62,6 @@ size_place : (text : List ℕ) → 1_048_576 < length text → (place : Place) (
 size_place text long place also (in_bytes f) = (f.0.at, f.1)
 size_place text long place also (in_tokens ts passes lexes f) = absurd (passes rule.Size first_beyond [] (record { too_long = long; at = refl }, refl))
 size_place text long place also (in_tree raw passes parses f) = absurd (passes rule.Size first_beyond [] (record { too_long = long; at = refl }, refl))
-
-least_number : (r : Rule) → 1 ≤ number_of r
-least_number rule.Size = omega arith
-least_number _ = omega arith
 
 -- Size is the first rule that fails for it
 size_first : (text : List ℕ) → 1_048_576 < length text → FirstFailing text rule.Size first_beyond []

@@ -1,6 +1,7 @@
 -- What goes on from a saved state shows the rest of the one trace of the program.
-use Rattle.std.proofs.Common.{◌≡◌, ℕ, ℤ, Bool, true, false, List, [], ◌∷◌, ◌++◌, refl, ap, subst}
+use Rattle.std.proofs.Common.{◌≡◌, ℕ, ℤ, List, [], ◌∷◌, ◌++◌, refl, ap, subst}
 use Rattle.std.specs.Prelude.{◌↔◌, ◌&&◌}
+use Rattle.std.proofs.lemmas.Bool.{and_from, and_parts}
 use Rattle.bl_ctext_semantics.specs.Cells.{inputs_of}
 use Rattle.bl_ctext_semantics.specs.Parts.{Parts, parts_of}
 use Rattle.bl_ctext_semantics.specs.Trace.{c_trace, c_trace_from, trace_then}
@@ -26,20 +27,12 @@ use Rattle.bl_tree.specs.declared.tree.Unit.{Unit as UnitDef}
 
 -- ---- rows
 
-both_hold : (a b : Bool) → (a && b) ≡ true → (a ≡ true) × (b ≡ true)
-both_hold true b h = (refl, h)
-both_hold false b h = absurd (cc)
-
-hold_both : (a b : Bool) → a ≡ true → b ≡ true → (a && b) ≡ true
-hold_both true b h k = k
-hold_both false b h k = absurd (cc)
-
 -- rows that fit, and others behind them
 pub rows_join : (columns : List Column) (first rest : List (List ℤ)) → RowsFit columns first → RowsFit columns rest → RowsFit columns (first ++ rest)
 rows_join columns [] rest fit more = more
 rows_join columns (row ∷ first) rest fit more =
-    let both = both_hold (row_fits columns row) _ fit in
-    hold_both (row_fits columns row) _ both.0 (rows_join columns first rest both.1 more)
+    let both = and_parts (row_fits columns row) _ fit in
+    and_from (row_fits columns row) _ both.0 (rows_join columns first rest both.1 more)
 
 -- ---- the trace
 

@@ -1,29 +1,6 @@
 -- What `notes` hold after lines were to be written.
-use Rattle.std.proofs.Common.{
-  ◌≡◌,
-  ◌≢◌,
-  ℕ,
-  ◌+◌,
-  ◌≤◌,
-  List,
-  [],
-  ◌∷◌,
-  ◌++◌,
-  refl,
-  sym,
-  subst,
-  ap,
-  ◌∙◌,
-  append-nil,
-  append_assoc,
-  Bool,
-  true,
-  false,
-  length,
-  length-append,
-  take,
-  arith,
-}
+use Rattle.std.proofs.Common.{◌≡◌, ◌≢◌, ℕ, ◌+◌, ◌≤◌, List, [], ◌∷◌, ◌++◌, refl, sym, subst, ap, ◌∙◌, append-nil, append_assoc, Bool, true, false, length}
+use Rattle.std.proofs.Common.{length-append, take, arith}
 use Rattle.std.proofs.Math.Seq.{take-append-add}
 use Rattle.std.proofs.lemmas.List.{take-append-le}
 use Rattle.std.proofs.lemmas.Bool.Decides.{nat_tests}
@@ -33,7 +10,7 @@ use Rattle.bl_top_commands.specs.Notes.{WritesLines, whole, fault, want}
 use Rattle.bl_top_commands.specs.declared.status.Status.{Status}
 use Rattle.bl_top_commands.specs.declared.status.Status.TheVariants as status
 use Rattle.bl_io.specs.Held.{Appends, AppendsPart}
-use Rattle.bl_top_commands.proofs.Streams.{rose_earlier}
+use Rattle.bl_module_files.proofs.Sizes.{rose_from}
 
 pub appends_nothing : (held : Option (List ℕ)) (line : List ℕ) → line ≡ [] → Appends held line held
 appends_nothing None line e = tt
@@ -108,7 +85,7 @@ pub written_behind : (notes : Output) (told line : List ℕ) (middle : ℕ) (hel
 written_behind notes told line middle held meant _ below first (whole grew) = whole (appends_both notes.before told line held notes.after first grew)
 written_behind notes told line middle held meant _ below first (fault some grew risen) =
     fault (some_behind told line some) (appends_behind notes.before told line held notes.after first grew)
-    (rose_earlier notes.faults.before middle notes.faults.after below risen)
+    (rose_from notes.faults.before middle notes.faults.after below risen)
 written_behind notes told line middle held meant _ below first (want some grew) =
     want (some_behind told line some) (appends_behind notes.before told line held notes.after first grew)
 

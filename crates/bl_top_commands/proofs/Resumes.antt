@@ -13,61 +13,16 @@ use Rattle.bl_top_commands.proofs.Courses.{BytesFit, LinesFit}
 use Rattle.bl_top_commands.proofs.GoesOn.{RunsGoOn, joined, rows_join, states_source}
 use Rattle.bl_top_commands.proofs.SameFiles.{EachBehaves, file_behaves, file_formed, files_alike, leaves_alike}
 use Rattle.bl_top_commands.specs.Calls.{Call, Count, Output}
-use Rattle.bl_top_commands.specs.Exec.{
-  HasFile,
-  Loads,
-  Rejects,
-  TextStops,
-  ill_formed,
-  no_file,
-  no_memory as text_no_memory,
-  rejected,
-  too_long,
-  too_many_cells,
-  unread as text_unread,
-  want as text_want,
-}
+use Rattle.bl_top_commands.specs.Exec.{HasFile, Loads, Rejects, TextStops, ill_formed, no_file, no_memory as text_no_memory, rejected, too_long, too_many_cells}
+use Rattle.bl_top_commands.specs.Exec.{unread as text_unread, want as text_want}
 use Rattle.bl_top_commands.specs.Notes.{line_of}
 use Rattle.bl_top_commands.specs.Reads.{LeftBehind, longest_text, state_limit, text_limit}
 use Rattle.bl_top_commands.specs.Results.{WritesResult, fault, nothing, want as write_want, whole}
-use Rattle.bl_top_commands.specs.Resumed.{
-  FurtherSavesLeaveStates,
-  GoesOnAs,
-  HasSaved,
-  IsStateOf,
-  LeavesState,
-  ResumedEnds,
-  ResumesShowTheRest,
-  SavesLeaveStates,
-  unread as resumed_unread,
-  want as resumed_want,
-  went as resumed_went,
-}
-use Rattle.bl_top_commands.specs.Save.{
-  AreRead,
-  HoldsState,
-  IsStateAfter,
-  ResumeEnds,
-  SaveEnds,
-  SaveFromEnds,
-  SavesOver,
-  StateStops,
-  bad_rows,
-  bad_state,
-  ended as save_ended,
-  no_memory,
-  ran,
-  saved as saved_over,
-  state_unread,
-  state_want,
-  stopped,
-  stopped_at_state,
-  stopped_at_text,
-  trapped,
-  trapped_at_start,
-  unread,
-  went,
-}
+use Rattle.bl_top_commands.specs.Resumed.{FurtherSavesLeaveStates, GoesOnAs, HasSaved, IsStateOf, LeavesState, ResumedEnds, ResumesShowTheRest}
+use Rattle.bl_top_commands.specs.Resumed.{SavesLeaveStates, unread as resumed_unread, want as resumed_want, went as resumed_went}
+use Rattle.bl_top_commands.specs.Save.{AreRead, HoldsState, IsStateAfter, ResumeEnds, SaveEnds, SaveFromEnds, SavesOver, StateStops, bad_rows, bad_state}
+use Rattle.bl_top_commands.specs.Save.{ended as save_ended, no_memory, ran, saved as saved_over, state_unread, state_want, stopped, stopped_at_state}
+use Rattle.bl_top_commands.specs.Save.{stopped_at_text, trapped, trapped_at_start, unread, went}
 use Rattle.bl_top_commands.specs.Sources.{IsSource, IsTextOf}
 use Rattle.bl_top_commands.specs.declared.status.Status.{Status}
 use Rattle.bl_top_commands.specs.declared.status.Status.TheVariants as status
@@ -155,7 +110,7 @@ record SavedOver (file : Parts) (numbers : List ℤ) (left : Option (List ℕ)) 
   saved : SavedState file (cells_after file (rows_of bytes (inputs_of file)).rows numbers) state
   grew : Appends out.before state out.after
 
-what_grew : (Is : List ℕ → Type 0) (out : Output) (ended : Status) → WritesResult Is out ended → ended ≡ status.Ok →
+pub what_grew : (Is : List ℕ → Type 0) (out : Output) (ended : Status) → WritesResult Is out ended → ended ≡ status.Ok →
     (text : List ℕ) × Is text × Appends out.before text out.after
 what_grew Is out _ (whole text is grew) e = (text, is, grew)
 what_grew Is out _ (fault text is grew risen) e = absurd (cc)
@@ -173,7 +128,7 @@ saved_ok file numbers left rest rows out _ _ (bad_rows n bytes are is why kept) 
 saved_ok file numbers left rest rows out _ _ (unread why risen kept) e = absurd (cc)
 saved_ok file numbers left rest rows out _ _ (no_memory kept) e = absurd (cc)
 
-started_trace : (file : Parts) (rows : List (List ℤ)) → start_succeeds file ≡ true → c_trace file rows ≡ c_trace_from file rows (start_cells file)
+pub started_trace : (file : Parts) (rows : List (List ℤ)) → start_succeeds file ≡ true → c_trace file rows ≡ c_trace_from file rows (start_cells file)
 started_trace file rows begins = ap (λ b. trace_after file (cells_if b (start_cells file)) rows) begins
 
 -- from what the start leaves
@@ -286,7 +241,7 @@ further_saves_leave each short fit law join c text state rows line built kept fi
 
 -- ---- `resume`
 
-none_and_some : (found : Option Place) (at : Place) → found ≡ None → found ≡ Some at → ⊥
+pub none_and_some : (found : Option Place) (at : Place) → found ≡ None → found ≡ Some at → ⊥
 none_and_some found at none some = let e = sym none ∙ some in cc
 
 -- a text that was built is rejected only for want of memory, where it has a file

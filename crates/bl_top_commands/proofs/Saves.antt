@@ -1,6 +1,7 @@
 -- How `save` and `resume` end.
 use Rattle.std.proofs.Common.{◌≡◌, ◌≢◌, ◌∙◌, ℕ, ◌≤◌, ℤ, Bool, true, false, List, [], refl, sym, ap, subst, inl, inr, arith}
 use Rattle.std.specs.Prelude.{Option, Some, None}
+use Rattle.bl_tree.proofs.Basics.{not_both}
 use Rattle.bl_ctext_semantics.specs.Parts.{Parts}
 use Rattle.bl_ctext_semantics.specs.Cells.{inputs_of}
 use Rattle.bl_ctext_semantics.specs.Trace.{cells_after, start_cells, start_succeeds}
@@ -12,29 +13,9 @@ use Rattle.bl_top_commands.specs.inner.Texts.{HasLoaded, StandsAt}
 use Rattle.bl_top_commands.specs.Notes.{bad_state_line, line_of}
 use Rattle.bl_top_commands.specs.Reads.{LeftBehind, state_limit, text_limit}
 use Rattle.bl_top_commands.specs.Results.{WritesResult}
-use Rattle.bl_top_commands.specs.Save.{
-  AreRead,
-  FromStateEnds,
-  HoldsState,
-  SaveEnds,
-  SavesOver,
-  StateStops,
-  bad_rows,
-  bad_state,
-  ended as save_ended,
-  no_memory,
-  ran,
-  saved,
-  state_unread as unread_state,
-  state_want,
-  stopped,
-  stopped_at_state,
-  stopped_at_text,
-  trapped,
-  trapped_at_start,
-  unread as rows_unread,
-  went,
-}
+use Rattle.bl_top_commands.specs.Save.{AreRead, FromStateEnds, HoldsState, SaveEnds, SavesOver, StateStops, bad_rows, bad_state, ended as save_ended, no_memory}
+use Rattle.bl_top_commands.specs.Save.{ran, saved, state_unread as unread_state, state_want, stopped, stopped_at_state, stopped_at_text, trapped}
+use Rattle.bl_top_commands.specs.Save.{trapped_at_start, unread as rows_unread, went}
 use Rattle.bl_top_commands.specs.declared.outcome.Outcome.{Outcome}
 use Rattle.bl_top_commands.specs.declared.status.Status.{Status}
 use Rattle.bl_top_commands.specs.declared.status.Status.TheVariants as status
@@ -49,32 +30,19 @@ use Rattle.bl_rows_stream.specs.declared.finish.Finish.{Finish}
 use Rattle.bl_rows_stream.specs.declared.finish.Finish.TheVariants as finish
 use Rattle.bl_rows_stream.specs.Streams.{Reported, course_from}
 use Rattle.bl_rows_stream.specs.declared.ticks.Report.TheVariants.{Nothing}
-use Rattle.bl_rows_stream_laws.specs.Resumed.{
-  RunsSilently,
-  bad_rows as silent_bad_rows,
-  ended as silent_ended,
-  goes_on,
-  no_memory as silent_no_memory,
-  resumed_by,
-  runner_from,
-  trapped as silent_trapped,
-  unread as silent_unread,
-}
+use Rattle.bl_rows_stream_laws.specs.Resumed.{RunsSilently, bad_rows as silent_bad_rows, ended as silent_ended, goes_on, no_memory as silent_no_memory}
+use Rattle.bl_rows_stream_laws.specs.Resumed.{resumed_by, runner_from, trapped as silent_trapped, unread as silent_unread}
 use Rattle.bl_rows_stream_laws.specs.Laws.{RunsAreSilent}
 use Rattle.bl_top_args.specs.Jobs.{Word}
 use Rattle.bl_top_commands.proofs.Ends.{writes_as}
-use Rattle.bl_top_commands.proofs.Streams.{rose_earlier, streams_from}
+use Rattle.bl_top_commands.proofs.Streams.{streams_from}
+use Rattle.bl_module_files.proofs.Sizes.{rose_from}
 
 -- ---- the state of a job
 
 are_read : (left : Option (List ℕ)) (got : List ℕ) (after : Option (List ℕ)) → GivesUpTo state_limit left got after → AreRead left got
 are_read None got after read = tt
 are_read (Some whole) got after read = read.front
-
--- no test is both
-never : {A : Type 0} (b : Bool) → b ≡ false → b ≡ true → A
-never true e f = absurd (cc)
-never false e f = absurd (cc)
 
 pub state_bad : (file : Parts) (left : Option (List ℕ)) (count : Count) (got : List ℕ) (after : Option (List ℕ)) (at : ℕ) (outcome : Outcome) →
     GivesUpTo state_limit left got after → ShowsBadState file got at → IsTold status.BadState (bad_state_line at) outcome →
@@ -143,7 +111,7 @@ silently law r from left rest now how no_write reported =
 pub open_ready : (file : Parts) (numbers : List ℤ) (left rest : Option (List ℕ)) (now : Running) (how : Finish) →
     RunsSilently file numbers left rest now how → how ≡ finish.Done → now.live ≡ true → start_succeeds file ≡ true → start_succeeds now.parts ≡ true
 open_ready file numbers left rest now _ (goes_on leaves) e live starts = ap start_succeeds leaves.parts ∙ starts
-open_ready file numbers left rest now _ (silent_ended bytes are is closed) e live starts = never now.live closed live
+open_ready file numbers left rest now _ (silent_ended bytes are is closed) e live starts = not_both now.live closed live
 open_ready file numbers left rest now _ (silent_trapped bytes are is) e live starts = absurd (cc)
 open_ready file numbers left rest now _ (silent_bad_rows n bytes are is why) e live starts = absurd (cc)
 open_ready file numbers left rest now _ (silent_unread why) e live starts = absurd (cc)
@@ -159,7 +127,7 @@ module _ (file : Parts) (numbers : List ℤ) (left rest : Option (List ℕ)) (ro
       rw told (saved leaves.bytes leaves.are_left leaves.good leaves.going
       (writes_as (SavedState now.parts now.cells) (SavedState file (cells_after file rows_run numbers)) out ended
       (λ written is. subst (λ ns. SavedState file ns written) leaves.cells (subst (λ p. SavedState p now.cells written) leaves.parts is)) writes))
-  saves_open _ (silent_ended bytes are is closed) e live ended line writes told = never now.live closed live
+  saves_open _ (silent_ended bytes are is closed) e live ended line writes told = not_both now.live closed live
   saves_open _ (silent_trapped bytes are is) e live ended line writes told = absurd (cc)
   saves_open _ (silent_bad_rows n bytes are is why) e live ended line writes told = absurd (cc)
   saves_open _ (silent_unread why) e live ended line writes told = absurd (cc)
@@ -169,7 +137,7 @@ module _ (file : Parts) (numbers : List ℤ) (left rest : Option (List ℕ)) (ro
   pub saves_ended : (how : Finish) → RunsSilently file numbers left rest now how → how ≡ finish.Done → now.live ≡ false →
       (ended : Status) (own : List ℕ) → ended ≡ status.SaveEnded → IsKept out.before out.after →
       SavesOver file numbers left rest rows out ended (chosen_line ended own)
-  saves_ended _ (goes_on leaves) e closed ended own is kept = never now.live closed leaves.live
+  saves_ended _ (goes_on leaves) e closed ended own is kept = not_both now.live closed leaves.live
   saves_ended _ (silent_ended bytes are has closed) e live ended own is kept = rw is (save_ended bytes are has kept)
   saves_ended _ (silent_trapped bytes are has) e live ended own is kept = absurd (cc)
   saves_ended _ (silent_bad_rows n bytes are has why) e live ended own is kept = absurd (cc)
@@ -200,13 +168,13 @@ saves_from file numbers left rest first second last out _ _ below (save_ended by
 saves_from file numbers left rest first second last out _ _ below (trapped bytes are is kept) = trapped bytes are is kept
 saves_from file numbers left rest first second last out _ _ below (bad_rows n bytes are is why kept) = bad_rows n bytes are is why kept
 saves_from file numbers left rest first second last out _ _ below (rows_unread why risen kept) =
-    rows_unread why (rose_earlier first second last below risen) kept
+    rows_unread why (rose_from first second last below risen) kept
 saves_from file numbers left rest first second last out _ _ below (no_memory kept) = no_memory kept
 
 state_from : (file : Parts) (left : Option (List ℕ)) (first second last : ℕ) (ended : Status) (line : List ℕ) → first ≤ second →
     StateStops file left (record { before = second; after = last }) ended line → StateStops file left (record { before = first; after = last }) ended line
 state_from file left first second last _ _ below (bad_state bytes at are shows) = bad_state bytes at are shows
-state_from file left first second last _ _ below (unread_state risen) = unread_state (rose_earlier first second last below risen)
+state_from file left first second last _ _ below (unread_state risen) = unread_state (rose_from first second last below risen)
 state_from file left first second last _ _ below state_want = state_want
 
 -- ---- the commands
@@ -280,6 +248,3 @@ state_written file numbers out ended bytes written is same writes =
 
 pub stands_live : (left : Option (List ℕ)) (file : Parts) (now : Running) → StandsAt left file now → now.live ≡ true
 stands_live left file now stands = ap (λ (r : Running). r.live) stands.is
-
-pub counts_rise : (first second last : ℕ) → first ≤ second → second ≤ last → first ≤ last
-counts_rise first second last below above = omega (arith, below, above)

@@ -9,7 +9,6 @@ use Rattle.bl_top_commands.specs.Rows.{IsInStep, Ran, RanInPart, Streams, bad_ro
 use Rattle.bl_top_commands.specs.declared.outcome.Outcome.{Outcome}
 use Rattle.bl_top_commands.specs.declared.status.Status.{Status}
 use Rattle.bl_top_commands.specs.declared.status.Status.TheVariants as status
-use Rattle.bl_io.specs.Count.{Rose}
 use Rattle.bl_crun.specs.Running.{Running}
 use Rattle.bl_ctext_semantics.specs.Cells.{inputs_of}
 use Rattle.bl_io.specs.Held.{Appends}
@@ -18,27 +17,15 @@ use Rattle.bl_rows.specs.declared.fault.RowFault.{RowFault}
 use Rattle.bl_rows.specs.declared.fault.RowFault.TheVariants as fault
 use Rattle.bl_rows_stream.proofs.Texts.{trace-text}
 use Rattle.bl_rows_stream.specs.Reports.{report_of}
-use Rattle.bl_rows_stream.specs.Streams.{
-  AppendsFront,
-  Course,
-  Extends,
-  InStep,
-  Streamed,
-  all,
-  course_from,
-  finish_of,
-  front,
-  last_over,
-  rows_so_far,
-  text_over,
-  unread,
-}
+use Rattle.bl_rows_stream.specs.Streams.{AppendsFront, Course, Extends, InStep, Streamed, all, course_from, finish_of, front, last_over, rows_so_far, text_over}
+use Rattle.bl_rows_stream.specs.Streams.{unread}
 use Rattle.bl_rows_stream.specs.declared.finish.Finish.{Finish}
 use Rattle.bl_rows_stream.specs.declared.finish.Finish.TheVariants as finish
 use Rattle.bl_rows_stream.specs.declared.ticks.Report.{Report}
 use Rattle.bl_rows_stream.specs.declared.ticks.Report.TheVariants.{Trace}
 use Rattle.bl_tree.specs.declared.row.Last.{Last}
 use Rattle.bl_tree.specs.declared.row.Last.TheVariants.{Open, Ended, Trap}
+use Rattle.bl_module_files.proofs.Sizes.{rose_from}
 
 -- a whole text is a front of it
 whole_front : (before : Option (List ℕ)) (text : List ℕ) (after : Option (List ℕ)) → Appends before text after → AppendsFront before text after
@@ -114,9 +101,6 @@ pub trace_in_step : (r : Running) (left rest : Option (List ℕ)) (out : Output)
     IsInStep (course_from r) left rest out
 trace_in_step r left rest out stands = in_step Trace r (course_from r) left rest out refl (trace-text r) stands
 
-pub rose_earlier : (first second last : ℕ) → first ≤ second → Rose second last → Rose first last
-rose_earlier first second last below rose = λ counts. let up : second < last = rose counts in omega (arith, below, up)
-
 -- a count that stood lower before
 pub streams_from : (course : Course) (left rest : Option (List ℕ)) (first second last : ℕ) (out : Output) (ended : Status) (line : List ℕ) →
     first ≤ second → Streams course left rest (record { before = second; after = last }) out ended line →
@@ -124,6 +108,6 @@ pub streams_from : (course : Course) (left rest : Option (List ℕ)) (first seco
 streams_from course left rest first second last out _ _ below (done is) = done is
 streams_from course left rest first second last out _ _ below (trapped is) = trapped is
 streams_from course left rest first second last out _ _ below (bad_rows line is) = bad_rows line is
-streams_from course left rest first second last out _ _ below (unread_rows why risen) = unread_rows why (rose_earlier first second last below risen)
+streams_from course left rest first second last out _ _ below (unread_rows why risen) = unread_rows why (rose_from first second last below risen)
 streams_from course left rest first second last out _ _ below (unwritten is risen) = unwritten is risen
 streams_from course left rest first second last out _ _ below (no_memory is) = no_memory is

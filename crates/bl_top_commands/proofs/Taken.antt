@@ -6,47 +6,14 @@ use Rattle.bl_ctext_semantics_laws_places.specs.Behaviour.{Behaviour}
 use Rattle.bl_top_commands.proofs.Resumes.{not_bad, state_kept, told_source}
 use Rattle.bl_top_commands.proofs.SameFiles.{EachBehaves}
 use Rattle.bl_top_commands.specs.Calls.{Call, Count, Output}
-use Rattle.bl_top_commands.specs.Exec.{
-  Loads,
-  Rejects,
-  TextStops,
-  ill_formed,
-  no_file,
-  no_memory as text_no_memory,
-  rejected,
-  too_long,
-  too_many_cells,
-  unread as text_unread,
-  want as text_want,
-}
+use Rattle.bl_top_commands.specs.Exec.{Loads, Rejects, TextStops, ill_formed, no_file, no_memory as text_no_memory, rejected, too_long, too_many_cells}
+use Rattle.bl_top_commands.specs.Exec.{unread as text_unread, want as text_want}
 use Rattle.bl_top_commands.specs.Resumed.{IsStateOf, SavedStatesAreTaken}
 use Rattle.bl_top_commands.specs.Results.{WritesResult, fault, nothing, want as write_want, whole}
-use Rattle.bl_top_commands.specs.Rows.{
-  Streams,
-  bad_rows as shown_bad_rows,
-  done,
-  no_memory as shown_no_memory,
-  trapped as shown_trapped,
-  unread as shown_unread,
-  unwritten,
-}
-use Rattle.bl_top_commands.specs.Save.{
-  FromStateEnds,
-  SavesOver,
-  StateStops,
-  bad_rows,
-  bad_state,
-  ended as save_ended,
-  no_memory,
-  saved as saved_over,
-  state_unread,
-  state_want,
-  stopped_at_state,
-  stopped_at_text,
-  trapped,
-  unread,
-  went,
-}
+use Rattle.bl_top_commands.specs.Rows.{Streams, bad_rows as shown_bad_rows, done, no_memory as shown_no_memory, trapped as shown_trapped}
+use Rattle.bl_top_commands.specs.Rows.{unread as shown_unread, unwritten}
+use Rattle.bl_top_commands.specs.Save.{FromStateEnds, SavesOver, StateStops, bad_rows, bad_state, ended as save_ended, no_memory, saved as saved_over}
+use Rattle.bl_top_commands.specs.Save.{state_unread, state_want, stopped_at_state, stopped_at_text, trapped, unread, went}
 use Rattle.bl_top_commands.specs.declared.status.Status.{Status}
 use Rattle.bl_top_commands.specs.declared.status.Status.TheVariants as status
 use Rattle.bl_save_laws.specs.Laws.{ShortStates}

@@ -1,34 +1,6 @@
 -- How a walk ends, by what was written of it.
-use Rattle.std.proofs.Common.{
-  ◌≡◌,
-  ℕ,
-  ◌+◌,
-  ◌-◌,
-  ◌^◌,
-  ◌<◌,
-  ◌≤◌,
-  ℤ,
-  List,
-  [],
-  ◌∷◌,
-  ◌++◌,
-  length,
-  get_or,
-  take,
-  refl,
-  sym,
-  ap,
-  ap₂,
-  ◌∙◌,
-  subst,
-  inl,
-  inr,
-  true,
-  append_assoc,
-  append-nil,
-  length-append,
-  arith,
-}
+use Rattle.std.proofs.Common.{◌≡◌, ℕ, ◌+◌, ◌-◌, ◌^◌, ◌<◌, ◌≤◌, ℤ, List, [], ◌∷◌, ◌++◌, length, get_or, take, refl, sym, ap, ap₂, ◌∙◌, subst, inl, inr, true}
+use Rattle.std.proofs.Common.{append_assoc, append-nil, length-append, arith}
 use Rattle.std.proofs.lemmas.List.{take-append-le}
 use Rattle.std.proofs.lemmas.Option.{slice_get_read, slice_get_within}
 use Rattle.std.specs.Prelude.{Option, Some, None, ◌≢◌, IsTrue, slice_get}
@@ -45,7 +17,7 @@ use Rattle.bl_top_commands.specs.Walk.{WalkEnds, ran, steps, stopped, unwritten,
 use Rattle.bl_top_commands.specs.declared.answer.Answer.{Answer}
 use Rattle.bl_top_commands.specs.declared.outcome.Outcome.{Outcome}
 use Rattle.bl_top_commands.specs.declared.status.Status.TheVariants as status
-use Rattle.bl_cause_trees.specs.Trees.{AreTrees}
+use Rattle.bl_cause_trees.specs.Peeled.{ArePeeled}
 use Rattle.bl_ctree.specs.Control.{Idle}
 use Rattle.bl_ctree.specs.Instances.{setting_of}
 use Rattle.bl_ctree.specs.Means.{Means, ShownTrace, entry_items, shown_trace}
@@ -153,7 +125,7 @@ bytes_of (Some every) = record { bytes = every; are = refl }
 
 -- ---- the one trace
 
-same_shown : (t u : Trace) → shown_trace t ≡ shown_trace u → t ≡ u
+pub same_shown : (t u : Trace) → shown_trace t ≡ shown_trace u → t ≡ u
 same_shown t u e =
     let same_rows : t.rows ≡ u.rows = ap (λ (s : ShownTrace). s.rows) e in
     let both : Some t.last ≡ Some u.last = ap (λ (s : ShownTrace). s.last) e in
@@ -180,7 +152,7 @@ not_unwritten finish.ReadFault outcome other ends = λ e. let same : status.Read
 not_unwritten finish.WriteFault outcome other ends = absurd (other refl)
 not_unwritten finish.NoMemory outcome other ends = λ e. let same : status.NoMemory ≡ status.WriteFault = sym ends ∙ e in cc
 
-module _ (structs : List StructDef) (units : List UnitDef) (entry : ℕ) (trees : List UnitDef) (one : SourceHasOneTrace structs units entry trees)
+module _ (structs : List StructDef) (units : List UnitDef) (entry : ℕ) (peeled : List UnitDef) (one : SourceHasOneTrace structs units entry peeled)
     (unit : UnitDef) where
   abbrev trace_over : List (List ℤ) → Trace
   trace_over rows = (one.each rows).trace
@@ -196,7 +168,7 @@ module _ (structs : List StructDef) (units : List UnitDef) (entry : ℕ) (trees 
     text = λ rows. text_of (trace_over rows) outs;
   }
 
-  pub walk_has_course : AreTrees units trees → slice_get units entry ≡ Some unit → BytesFit → LinesFit → HasCourse structs units entry walk_course
+  pub walk_has_course : ArePeeled units peeled → slice_get units entry ≡ Some unit → BytesFit → LinesFit → HasCourse structs units entry walk_course
   walk_has_course are is_entry fit so_far = record {
     unit = unit;
     is_entry = is_entry;
@@ -210,8 +182,8 @@ module _ (structs : List StructDef) (units : List UnitDef) (entry : ℕ) (trees 
     shows = λ rows. refl;
     fit = λ bytes. fit bytes (input_columns unit);
     fit_so_far = λ bytes. so_far bytes (input_columns unit);
-    trees = trees;
-    are_trees = are;
+    peeled = peeled;
+    are_peeled = are;
     bounded = one.bounded;
     never_stuck = one.never_stuck;
   }
@@ -326,16 +298,16 @@ entry_from : (found : Option UnitDef) → is_entry found ≡ true → (unit : Un
 entry_from (Some unit) e = (unit, refl)
 entry_from None e = absurd cc
 
-module _ (c : Call) (source rows : Word) (seed : ℕ) (program : Program) (trees : List UnitDef) (are : AreTrees program.units trees)
-    (is : IsProgramOfSource (c.left source) program) (one : SourceHasOneTrace program.structs program.units program.entry trees) (fit : BytesFit)
+module _ (c : Call) (source rows : Word) (seed : ℕ) (program : Program) (peeled : List UnitDef) (are : ArePeeled program.units peeled)
+    (is : IsProgramOfSource (c.left source) program) (one : SourceHasOneTrace program.structs program.units program.entry peeled) (fit : BytesFit)
     (so_far : LinesFit) (between : Word → Option (List ℕ)) (behind : LeftBehind source_limit source c.left between) where
   abbrev course_at : UnitDef → Course
-  course_at unit = walk_course program.structs program.units program.entry trees one unit
+  course_at unit = walk_course program.structs program.units program.entry peeled one unit
 
   runs : (unit : UnitDef) → slice_get program.units program.entry ≡ Some unit → RunsAs (c.left source) (course_at unit)
   runs unit is_entry =
       runs_as_program (c.left source) program (course_at unit) is
-      (walk_has_course program.structs program.units program.entry trees one unit are is_entry fit so_far)
+      (walk_has_course program.structs program.units program.entry peeled one unit are is_entry fit so_far)
 
   -- memory was refused before anything was written
   pub walk_refused : (answer : Answer) → IsTrue (is_entry (slice_get program.units program.entry)) → c.out.after ≡ c.out.before →
@@ -361,12 +333,12 @@ module _ (c : Call) (source rows : Word) (seed : ℕ) (program : Program) (trees
     streamed : Appends c.out.before text c.out.after → Streamed (course_at walk.unit) (between rows) (c.rest rows) c.out.before c.out.after how
     streamed grew =
         subst (λ h. Streamed (course_at walk.unit) (between rows) (c.rest rows) c.out.before c.out.after h) (sym walk.walks.how_is)
-        (walk_streamed program.structs program.units program.entry trees one walk.unit closed fronts (between rows) (c.rest rows) c.out walk.gathered
+        (walk_streamed program.structs program.units program.entry peeled one walk.unit closed fronts (between rows) (c.rest rows) c.out walk.gathered
         walk.walks.trace means walk.end walk.gathers (subst (λ t. Appends c.out.before t c.out.after) walk.walks.text_is grew))
 
     part : AppendsPart c.out.before text c.out.after → RanInPart (course_at walk.unit) (between rows) c.out
     part grew =
-        walk_part program.structs program.units program.entry trees one walk.unit closed fronts (between rows) (c.rest rows) c.out walk.gathered
+        walk_part program.structs program.units program.entry peeled one walk.unit closed fronts (between rows) (c.rest rows) c.out walk.gathered
         walk.walks.trace means walk.end walk.gathers (subst (λ t. AppendsPart c.out.before t c.out.after) walk.walks.text_is grew)
 
     no_fault_of_out : how ≡ finish.WriteFault → ⊥

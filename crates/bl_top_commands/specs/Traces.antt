@@ -1,6 +1,6 @@
 -- That what is written for a program, and what is run of it, has the trace of the program.
 use Rattle.std.specs.Prelude.{◌≡◌, ◌↔◌, ◌≤◌, ℕ, ℤ, List, Some, slice_get}
-use Rattle.bl_cause_trees.specs.Trees.{AreTrees}
+use Rattle.bl_cause_trees.specs.Peeled.{ArePeeled}
 use Rattle.bl_ctext_semantics_laws_places.specs.Behaviour.{Behaviour}
 use Rattle.bl_ctree.specs.Means.{Means, ShownTrace, shown_trace}
 use Rattle.bl_ctree.specs.Measure.{steps}
@@ -18,11 +18,11 @@ use Rattle.bl_tree.specs.Ports.{RowsFit, input_columns, output_columns}
 pub record OneTrace (structs : List StructDef) (units : List UnitDef) (entry : ℕ) (behaviour : Behaviour) : Type 0 where
   pub unit : UnitDef
   pub is_entry : slice_get units entry ≡ Some unit
-  -- the trees of the program's units: the bodies by which the rules Twice to Cells are judged
-  pub trees : List UnitDef
-  pub are_trees : AreTrees units trees
+  -- the program's peeled units: their bodies are those by which the rules Twice to Cells are judged
+  pub peeled : List UnitDef
+  pub are_peeled : ArePeeled units peeled
   -- the file needs no more cells than rule Cells counts for the entry
-  pub counted : behaviour.needed ≤ cells_at structs trees entry
+  pub counted : behaviour.needed ≤ cells_at structs peeled entry
   -- the file needs no more cells than can be loaded, and its inputs and outputs are those of the entry
   pub small : behaviour.needed ≤ 1000000
   pub inputs : behaviour.inputs ≡ input_columns unit
@@ -30,8 +30,8 @@ pub record OneTrace (structs : List StructDef) (units : List UnitDef) (entry : �
   -- the semantics allows the trace of the C file, and no other, over all rows that fit its inputs
   pub trace : (rows : List (List ℤ)) (shows : ShownTrace) → RowsFit (input_columns unit) rows →
       Means structs units entry rows shows ↔ (shows ≡ shown_trace (behaviour.trace rows))
-  -- no list of steps within a tick is longer than the number of steps of the program of the trees
-  pub bounded : Bounded (steps structs trees entry) structs units entry
+  -- no list of steps within a tick is longer than the number of steps of the peeled program
+  pub bounded : Bounded (steps structs peeled entry) structs units entry
   -- no tick is stuck: where no point is enabled, nothing is left to do
   pub never_stuck : NeverStuck structs units entry
 
@@ -59,9 +59,9 @@ pub record HasCourse (structs : List StructDef) (units : List UnitDef) (entry : 
   -- the rows of any bytes fit, and so do the rows of the complete lines in a prefix
   pub fit : (bytes : List ℕ) → RowsFit (input_columns unit) (rows_of bytes course.ins).rows
   pub fit_so_far : (bytes : List ℕ) → RowsFit (input_columns unit) (rows_in (empty_reading course.ins) bytes)
-  -- no list of steps within a tick is longer than the number of steps of the program of the units' trees
-  pub trees : List UnitDef
-  pub are_trees : AreTrees units trees
-  pub bounded : Bounded (steps structs trees entry) structs units entry
+  -- no list of steps within a tick is longer than the number of steps of the peeled program
+  pub peeled : List UnitDef
+  pub are_peeled : ArePeeled units peeled
+  pub bounded : Bounded (steps structs peeled entry) structs units entry
   -- where no point may act nothing is left to do
   pub never_stuck : NeverStuck structs units entry

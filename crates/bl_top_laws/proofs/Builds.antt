@@ -11,17 +11,11 @@ use Rattle.bl_top_commands.specs.Refusals.{IsNotAccepted, RefusedText, refused, 
 use Rattle.bl_top_commands.specs.Results.{WritesResult, fault, nothing, want, whole}
 use Rattle.bl_top_commands.specs.declared.status.Status.{Status}
 use Rattle.bl_top_commands.specs.declared.status.Status.TheVariants as status
-use Rattle.bl_top_laws.specs.Correct.{
-  BuildsAreCorrect,
-  BuildsDecide,
-  HasToldFirst,
-  HasWrittenCorrect,
-  NoneRose,
-  RefusedBuildsTellFirst,
-}
+use Rattle.bl_top_laws.specs.Correct.{BuildsAreCorrect, BuildsDecide, HasToldFirst, HasWrittenCorrect, NoneRose, RefusedBuildsTellFirst}
 use Rattle.bl_top_laws.proofs.Runs.{refused_fails}
 use Rattle.bl_top_laws.proofs.Jobs.{job_ended}
-use Rattle.bl_top_laws.proofs.Texts.{built_correct, told_source, tree_of_source}
+use Rattle.bl_top_laws.proofs.Texts.{built_correct, tree_of_source}
+use Rattle.bl_top_commands.proofs.Resumes.{told_source, what_grew}
 
 -- ---- Ok
 
@@ -30,13 +24,6 @@ ok_meant : (notes : Output) (lines : List ℕ) (meant ended : Status) → Writes
 ok_meant notes lines meant _ (notes_whole grew) ok = ok
 ok_meant notes lines meant _ (notes_fault some grew risen) ok = absurd (cc)
 ok_meant notes lines meant _ (notes_want some grew) ok = absurd (cc)
-
-ok_grew : (Is : List ℕ → Type 0) (out : Output) (ended : Status) → WritesResult Is out ended → ended ≡ status.Ok →
-    (text : List ℕ) × Is text × Appends out.before text out.after
-ok_grew Is out _ (whole text is grew) ok = (text, is, grew)
-ok_grew Is out _ (fault text is grew risen) ok = absurd (cc)
-ok_grew Is out _ (want text is grew) ok = absurd (cc)
-ok_grew Is out _ (nothing kept) ok = absurd (cc)
 
 -- a source that isn't accepted doesn't end a job Ok
 not_ok : (left : Option (List ℕ)) (file : Count) (ended : Status) (line : List ℕ) → IsNotAccepted left file ended line → ended ≡ status.Ok → ⊥
@@ -51,7 +38,7 @@ told_grew before after held text holds grew = subst (λ b. Appends b text after)
 build_wrote : (c : Call) (name : Word) (source before : List ℕ) (ended : Status) (lines : List ℕ) → c.left name ≡ Some source →
     c.out.before ≡ Some before → BuildEnds c name ended lines → ended ≡ status.Ok → HasWrittenCorrect source before c.out.after
 build_wrote c name source before ended _ holds held (written writes) ok =
-    let some = ok_grew (IsBuiltOf (c.left name)) c.out ended writes ok in
+    let some = what_grew (IsBuiltOf (c.left name)) c.out ended writes ok in
     record {
       text = some.0;
       correct = built_correct source some.0 (subst (λ left. IsBuiltOf left some.0) holds some.1);

@@ -37,51 +37,18 @@ use Rattle.bl_top_laws.proofs.Links.{LinksDecide, link_due, link_fails, link_fai
 use Rattle.bl_top_laws.proofs.Loading.{FollowsBehaviour, never_loaded, text_due, text_stops, text_stops_due}
 use Rattle.bl_top_laws.proofs.Runs.{IsDone, OneTree, course_due, refused_fails, result_done, source_accepted, source_to}
 use Rattle.bl_top_laws.proofs.States.{from_rejected, resume_due, save_due, save_from_due, save_rejected, save_traps, stops_at_state}
-use Rattle.bl_top_laws.proofs.Texts.{told_source, tree_of_source}
-use Rattle.bl_top_laws.specs.Complete.{
-  CallsEndAsDue,
-  GeneratesTo,
-  HoldsBehind,
-  IsDue,
-  IsLoadable,
-  IsRejected,
-  NothingRose,
-  RunsTo,
-  bound_done,
-  build_done,
-  check_done,
-  count_done,
-  exec_done,
-  face_done,
-  face_refused,
-  face_stopped,
-  face_stopped_in,
-  gen_done,
-  gen_refused,
-  gen_too_large,
-  link_done,
-  link_refused,
-  link_refused_in,
-  resume_done,
-  resume_stopped,
-  run_done,
-  run_status,
-  save_done,
-  save_from_done,
-  save_from_stopped,
-  save_trapped,
-  source_named,
-  source_refused,
-  text_named,
-  text_rejected,
-  walk_done,
-}
+use Rattle.bl_top_laws.proofs.Texts.{tree_of_source}
+use Rattle.bl_top_laws.specs.Complete.{CallsEndAsDue, GeneratesTo, HoldsBehind, IsDue, IsLoadable, IsRejected, NothingRose, RunsTo, bound_done, build_done}
+use Rattle.bl_top_laws.specs.Complete.{check_done, count_done, exec_done, face_done, face_refused, face_stopped, face_stopped_in, gen_done, gen_refused}
+use Rattle.bl_top_laws.specs.Complete.{gen_too_large, link_done, link_refused, link_refused_in, resume_done, resume_stopped, run_done, run_status, save_done}
+use Rattle.bl_top_laws.specs.Complete.{save_from_done, save_from_stopped, save_trapped, source_named, source_refused, text_named, text_rejected, walk_done}
 use Rattle.bl_tree.specs.declared.program.Program.{Program}
-use Rattle.bl_tree.specs.declared.row.Last.{Last}
 use Rattle.bl_tree.specs.declared.row.Trace.{Trace}
 use Rattle.bl_tree.specs.declared.tree.StructDef.{StructDef}
 use Rattle.bl_tree.specs.declared.tree.Unit.{Unit as UnitDef}
 use Rattle.bl_types_program.specs.Programs.{typed_of}
+use Rattle.bl_top_laws.proofs.Runs.{one_last}
+use Rattle.bl_top_commands.proofs.Resumes.{told_source}
 
 -- ---- sources that pass
 
@@ -255,9 +222,6 @@ not_many stages few many = omega (arith, few, many)
 abbrev Generates : Trace → List StructDef → List UnitDef → ℕ → Type 0
 Generates trace structs units entry = Means structs units entry input_rows (shown_trace trace)
 
-same_last : (one other : Last) → Some one ≡ Some other → one ≡ other
-same_last one other same = cc
-
 generated_last : OneTree → (stages : ℕ) (trace other : Trace) → GeneratesTo stages trace → HasTrace stages other → other.last ≡ trace.last
 generated_last one stages trace other to has =
     let made : Raw = has.has.raw in
@@ -269,7 +233,7 @@ generated_last one stages trace other to has =
     subst (λ structs. Generates trace structs program.units program.entry) (sym has.has.is.structs)
     (subst (λ units. Generates trace (typed_of made).structs units program.entry) (sym has.has.is.units)
     (subst (λ entry. Generates trace (typed_of made).structs (typed_of made).units entry) (sym has.has.is.entry) by_tree)) in
-    sym (same_last trace.last other.last (ap (λ (s : ShownTrace). s.last) ((has.one (shown_trace trace)).0 means)))
+    sym (one_last trace.last other.last (ap (λ (s : ShownTrace). s.last) ((has.one (shown_trace trace)).0 means)))
 
 unrun_due : (stages : ℕ) (trace : Trace) (ended : Status) (line : List ℕ) → GeneratesTo stages trace → IsNotRun stages ended line →
     ended ≡ status.NoMemory

@@ -1,76 +1,21 @@
 -- What a drive that was stopped shows of its plants.
-use Rattle.std.proofs.Common.{
-  ◌≡◌,
-  ◌∙◌,
-  ℕ,
-  zero,
-  suc,
-  ◌+◌,
-  ℤ,
-  pos,
-  Bool,
-  true,
-  false,
-  ◌||◌,
-  cond,
-  if◌then◌else◌,
-  List,
-  [],
-  ◌∷◌,
-  ◌++◌,
-  length,
-  map,
-  take,
-  replicate,
-  nat_eq,
-  Option,
-  Some,
-  None,
-  is_some,
-  refl,
-  sym,
-  ap,
-  subst,
-  append_assoc,
-  arith,
-  length-append,
-  take_all,
-}
+use Rattle.std.proofs.Common.{◌≡◌, ◌∙◌, ℕ, zero, suc, ◌+◌, ℤ, pos, Bool, true, false, ◌||◌, if◌then◌else◌, List, [], ◌∷◌, ◌++◌, length, map, take}
+use Rattle.std.proofs.Common.{replicate, nat_eq, Option, Some, None, is_some, refl, sym, ap, subst, append_assoc, arith, length-append, take_all}
 use Rattle.std.specs.List.{AllByRecursion, IsDistinct, list_any, slice_get}
 use Rattle.std.proofs.lemmas.Bool.{eq-eqb}
 use Rattle.std.proofs.lemmas.List.{length-replicate, map-append}
+use Rattle.bl_tree.proofs.Basics.{same_number, same_some}
 use Rattle.bl_plant.specs.Plants.{PlantView}
-use Rattle.bl_plant_drive.specs.Drives.{
-  AreThere,
-  DriveSetting,
-  HasFailed,
-  HasGivenOutside,
-  IsFirstAbsent,
-  IsFirstTwice,
-  Outcome,
-  columns_in,
-  plant_width,
-  widths_of,
-}
-use Rattle.bl_plant_drive.specs.Roles.{
-  IsCast,
-  Plays,
-  Role,
-  after_part,
-  first_named,
-  inputs_at,
-  last_row,
-  left_by,
-  left_in,
-  numbers_at,
-  role_of,
-}
+use Rattle.bl_plant_drive.specs.Drives.{AreThere, DriveSetting, HasFailed, HasGivenOutside, IsFirstAbsent, IsFirstTwice, Outcome, columns_in, plant_width}
+use Rattle.bl_plant_drive.specs.Drives.{widths_of}
+use Rattle.bl_plant_drive.specs.Roles.{IsCast, Plays, Role, after_part, first_named, inputs_at, last_row, left_by, left_in, numbers_at, role_of}
 use Rattle.bl_plant_drive.proofs.Asking.{last-snoc, left-there}
-use Rattle.bl_plant_drive.proofs.Casts.{around-role, eq-same, or-left, or-right, role-here, role-name, role-none, split}
-use Rattle.bl_plant_drive.proofs.Lists.{same-some}
+use Rattle.bl_plant_drive.proofs.Casts.{around-role, role-here, role-name, role-none, split}
 use Rattle.bl_top.specs.Drive.{Plants}
 use Rattle.bl_top_laws.specs.Driven.{AreAgreed, HasOutsideRow, HasRisenPlant, IsKeptPlant, count_named}
 use Rattle.bl_tree.specs.declared.row.Column.{Column}
+use Rattle.bl_plant_drive.proofs.Outside.{last-wide}
+use Rattle.bl_top.proofs.Plants.{first-behind}
 
 abbrev name_of : Role → ℕ
 name_of r = r.plant.name
@@ -130,7 +75,7 @@ twice-never [] n later apart again = cc
 twice-never (m ∷ earlier) n later apart again = split (nat_eq n m)
     (λ same.
     let other = all-at (λ y. nat_eq m y ≡ false) earlier n later apart.0 in
-    let bad = sym other ∙ eq-eqb m n (sym (eq-same n m same)) in cc)
+    let bad = sym other ∙ eq-eqb m n (sym (same_number n m same)) in cc)
     (λ differs. twice-never earlier n later apart.1 (sym (ap (λ b. b || list_any (nat_eq n) earlier) differs) ∙ again))
 
 pub never-twice : (s : DriveSetting) (name : ℕ) → IsDistinct nat_eq s.names → IsFirstTwice s name → ⊥
@@ -151,7 +96,7 @@ count-part n (Some r) p named stays = by-gone r.part.gone refl
     by-gone : (b : Bool) → r.part.gone ≡ b → count_named n (if b then [] else after_part r ∷ []) ≡ count_named n (p ∷ [])
     by-gone false e = ap (λ m. (if nat_eq m n then 1 else 0) + 0) (named r refl)
     by-gone true e = split (nat_eq p.name n)
-        (λ same. let bad = sym e ∙ stays r refl (eq-same p.name n same) in cc)
+        (λ same. let bad = sym e ∙ stays r refl (same_number p.name n same) in cc)
         (λ differs. sym (ap (λ (z : Bool). (if z then 1 else 0) + 0) differs))
 
 count-left : (n : ℕ) (cast : List Role) (earlier : List ℕ) (plants : List PlantView) → ((r : Role) → role_of n cast ≡ Some r → r.part.gone ≡ false) →
@@ -171,14 +116,6 @@ count-left n cast earlier (p ∷ plants) stays =
     one-more : (a b : ℕ) → (a + 0) + b ≡ a + b
     one-more a b = omega arith
 
-first-behind : (n : ℕ) (before : List PlantView) (q : PlantView) (after : List PlantView) → list_any (λ (x : PlantView). nat_eq x.name n) before ≡ false →
-    q.name ≡ n → first_named n (before ++ q ∷ after) ≡ Some q
-first-behind n [] q after none is = ap (λ b. cond b (Some q) (first_named n after)) (eq-eqb q.name n is)
-first-behind n (x ∷ before) q after none is =
-    ap (λ b. cond b (Some x) (first_named n (before ++ q ∷ after)))
-    (or-left (nat_eq x.name n) (list_any (λ (y : PlantView). nat_eq y.name n) before) none)
-    ∙ first-behind n before q after (or-right (nat_eq x.name n) (list_any (λ (y : PlantView). nat_eq y.name n) before) none) is
-
 -- a plant of a cast that wasn't dropped
 pub kept-plant : (plants : Plants) (names : List ℕ) (done : List Role) (r : Role) (rest : List Role) → IsCast plants.before names (done ++ r ∷ rest) →
     plants.after ≡ left_in (done ++ r ∷ rest) [] plants.before → r.part.gone ≡ false → IsKeptPlant plants r.plant.name r.plant (after_part r)
@@ -196,7 +133,7 @@ kept-plant plants names done r rest cast after_is stays =
       as_many =
           ap (count_named r.plant.name) after_is
           ∙ count-left r.plant.name (done ++ r ∷ rest) [] plants.before
-          (λ other is. ap (λ (x : Role). x.part.gone) (same-some other r (sym is ∙ here)) ∙ stays);
+          (λ other is. ap (λ (x : Role). x.part.gone) (same_some other r (sym is ∙ here)) ∙ stays);
     }
 
 names-around : (names : List ℕ) (done : List Role) (r : Role) (rest : List Role) → map name_of (done ++ r ∷ rest) ≡ names →
@@ -223,11 +160,6 @@ module _ (plants : Plants) (s : DriveSetting) (o : Outcome) (found_is : s.plants
       }
 
 -- ---- a plant whose number is outside its range
-
-last-wide : (w : ℕ) (first : List ℤ) (rows : List (List ℤ)) → length first ≡ w → AllByRecursion (λ row. length row ≡ w) rows →
-    length (last_row first rows) ≡ w
-last-wide w first [] is all = is
-last-wide w first (row ∷ rows) is all = last-wide w row rows all.0 all.1
 
 asked-wide : (plants : List PlantView) (outs : List (List ℤ)) (n : ℕ) (asked : List Role) →
     AllByRecursion (λ (r : Role). first_named r.plant.name plants ≡ Some r.plant) asked → AllByRecursion (Plays outs outs (suc n)) asked →

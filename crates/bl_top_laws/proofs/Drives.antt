@@ -11,20 +11,7 @@ use Rattle.bl_plant_drive.specs.declared.fault.DriveFault.TheVariants as fault
 use Rattle.bl_plant_drive_report.specs.Reports.{end_at, fault_end}
 use Rattle.bl_plant_drive_report.specs.declared.report.End.TheVariants as end
 use Rattle.bl_rules.specs.Accepted.{HasTree}
-use Rattle.bl_top.specs.Drive.{
-  DriveEnds,
-  DriveNotes,
-  HasDrivenSource,
-  Plants,
-  drive_setting,
-  drive_status,
-  drove,
-  short,
-  stopped,
-  unwritten,
-  want,
-  whole,
-}
+use Rattle.bl_top.specs.Drive.{DriveEnds, DriveNotes, HasDrivenSource, Plants, drive_setting, drive_status, drove, short, stopped, unwritten, want, whole}
 use Rattle.bl_top_args.specs.Jobs.{Word, drive}
 use Rattle.bl_top_commands.specs.Calls.{Call, HasRisen, Output}
 use Rattle.bl_top_commands.specs.declared.status.Status.{Status}
@@ -33,15 +20,7 @@ use Rattle.bl_top_laws.proofs.Casts.{agreed-by, failed-rises, never-absent, neve
 use Rattle.bl_top_laws.proofs.Jobs.{job_ended, lines_written}
 use Rattle.bl_top_laws.proofs.Runs.{OneTree, one_unit, source_accepted}
 use Rattle.bl_top_laws.proofs.Texts.{tree_of_source}
-use Rattle.bl_top_laws.specs.Driven.{
-  AreAgreed,
-  DrivesAndEnds,
-  DrivesEndAsDue,
-  EndsAsDriven,
-  HasOutsideRow,
-  HasRisenPlant,
-  OthersHaveOtherShapes,
-}
+use Rattle.bl_top_laws.specs.Driven.{AreAgreed, DrivesAndEnds, DrivesEndAsDue, EndsAsDriven, HasOutsideRow, HasRisenPlant, OthersHaveOtherShapes}
 use Rattle.bl_tree.specs.Ports.{input_columns}
 use Rattle.bl_tree.specs.declared.row.Column.{Column}
 use Rattle.bl_tree.specs.declared.row.Last.{Last}

@@ -1,25 +1,8 @@
 -- How the job ends that words ask for, and how its lines are written.
 use Rattle.std.proofs.Common.{◌≡◌, ℕ, List, refl, subst, inl, inr}
 use Rattle.std.specs.Prelude.{◌⊎◌, Option, Some}
-use Rattle.bl_top.specs.Answers.{
-  Answers,
-  bounds,
-  builds,
-  checks,
-  counts,
-  drives,
-  execs,
-  faces,
-  gens,
-  links,
-  no_job,
-  resumes,
-  runs,
-  saves,
-  saves_from,
-  short,
-  walks,
-}
+use Rattle.bl_top.specs.Answers.{Answers, bounds, builds, checks, counts, drives, execs, faces, gens, links, no_job, resumes, runs, saves, saves_from, short}
+use Rattle.bl_top.specs.Answers.{walks}
 use Rattle.bl_top.specs.Build.{BuildEnds}
 use Rattle.bl_top.specs.Drive.{DriveEnds, Plants}
 use Rattle.bl_top.specs.Link.{LinkEnds}

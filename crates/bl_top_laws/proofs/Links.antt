@@ -18,11 +18,12 @@ use Rattle.bl_top_commands.specs.declared.status.Status.{Status}
 use Rattle.bl_top_commands.specs.declared.status.Status.TheVariants as status
 use Rattle.bl_top_laws.proofs.Faces.{none_at}
 use Rattle.bl_top_laws.proofs.Runs.{IsDone, result_done}
-use Rattle.bl_top_laws.proofs.Turns.{first_were_read, read_counted}
+use Rattle.bl_top_laws.proofs.Turns.{first_were_read}
 use Rattle.bl_top_laws.specs.Complete.{NoneOfThemRose}
 use Rattle.bl_tree.specs.declared.place.Place.{Place}
 use Rattle.bl_tree.specs.declared.program.Program.{Program}
 use Rattle.bl_tree.specs.declared.rule.Rule.{Rule}
+use Rattle.bl_link_files.proofs.Fronts.{read_count}
 
 -- the texts of files decide what comes of their link
 pub record LinksDecide : Type 0 where
@@ -61,7 +62,7 @@ module _ (decide : LinksDecide) (c : Call) (names : List Word) (none : NoneOfThe
     fails_in found after read =
         let first = first_were_read c.left after names found earlier later are read in
         let same : first.found ≡ texts = decide.read c.left first.now earlier texts first.found told first.read in
-        subst (λ n. FailsAtFile n found file rule place also) (sym (read_counted c.left after names found read))
+        subst (λ n. FailsAtFile n found file rule place also) (sym (read_count c.left after names found read))
         (subst (λ ts. FailsAtFile (length names) ts file rule place also) (sym (first.texts_are ∙ ap (λ ts. ts ++ first.rest) same))
         (decide.more (length names) texts first.rest file rule place also fails))
 

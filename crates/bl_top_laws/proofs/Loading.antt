@@ -1,9 +1,9 @@
 -- C texts that can be loaded aren't rejected, and run as their files do; others are rejected.
 use Rattle.std.proofs.Common.{◌≡◌, ◌∙◌, ℕ, ◌≤◌, ◌<◌, ℤ, List, length, refl, sym, ap, subst, inl, inr, arith}
-use Rattle.std.specs.Prelude.{Option, Some, None}
+use Rattle.std.specs.Prelude.{Option, Some}
 use Rattle.bl_ctext.specs.SpellsC.{SpellsC}
 use Rattle.bl_ctext.specs.declared.file.CFile.{CFile}
-use Rattle.bl_ctext_semantics.specs.Faults.{WellFormed, first_fault, first_place}
+use Rattle.bl_ctext_semantics.specs.Faults.{WellFormed, first_fault}
 use Rattle.bl_ctext_semantics.specs.Parts.{Parts, parts_of}
 use Rattle.bl_ctext_semantics.specs.Sizes.{cells_needed}
 use Rattle.bl_ctext_semantics_laws_places.specs.Behaviour.{Behaviour, behaviour_of}
@@ -13,54 +13,19 @@ use Rattle.bl_rows_stream.specs.Streams.{Course}
 use Rattle.bl_top_args.specs.Jobs.{Word}
 use Rattle.bl_top_commands.proofs.SameFiles.{EachBehaves, file_behaves, file_formed}
 use Rattle.bl_top_commands.specs.Calls.{Call, Count, HasRisen}
-use Rattle.bl_top_commands.specs.Exec.{
-  HasFile,
-  Loads,
-  Rejects,
-  TextEnds,
-  TextStops,
-  ill_formed,
-  no_file,
-  no_memory,
-  ran,
-  rejected,
-  stopped,
-  too_long,
-  too_many_cells,
-  unread,
-  want,
-}
+use Rattle.bl_top_commands.specs.Exec.{HasFile, Loads, Rejects, TextEnds, TextStops, ill_formed, no_file, no_memory, ran, rejected, stopped, too_long}
+use Rattle.bl_top_commands.specs.Exec.{too_many_cells, unread, want}
 use Rattle.bl_top_commands.specs.Reads.{longest_text, text_limit}
 use Rattle.bl_top_commands.specs.declared.status.Status.{Status}
 use Rattle.bl_top_commands.specs.declared.status.Status.TheVariants as status
 use Rattle.bl_top_laws.proofs.Runs.{GoesTo, IsDone, course_due}
-use Rattle.bl_top_laws.proofs.Texts.{told_source}
-use Rattle.bl_top_laws.specs.Complete.{
-  ExecutesTo,
-  HoldsBehind,
-  IsLoadable,
-  IsRejected,
-  ill_formed as is_ill_formed,
-  no_file as spells_none,
-  run_status,
-  too_long as is_long,
-  too_many_cells as needs_many_cells,
-}
+use Rattle.bl_top_laws.specs.Complete.{ExecutesTo, HoldsBehind, IsLoadable, IsRejected, ill_formed as is_ill_formed, no_file as spells_none, run_status}
+use Rattle.bl_top_laws.specs.Complete.{too_long as is_long, too_many_cells as needs_many_cells}
 use Rattle.bl_tree.specs.declared.place.Place.{Place}
 use Rattle.bl_tree.specs.declared.row.Trace.{Trace}
-
-not_both : (found : Option Place) (at : Place) → found ≡ None → found ≡ Some at → ⊥
-not_both found at none some = let e = sym none ∙ some in cc
-
--- a well-formed file has no first fault
-faultless : (file : Parts) (at : Place) → WellFormed file → first_fault file ≡ Some at → ⊥
-faultless file at well is = not_both (first_fault file) at (ap first_place well.none) is
-
-not_large : (cells : ℕ) → 1000000 < cells → cells ≤ 1000000 → ⊥
-not_large cells large small = omega (arith, large, small)
-
-not_long : (text : List ℕ) → length text ≤ longest_text → longest_text < length text → ⊥
-not_long text short long = omega (arith, short, long)
+use Rattle.bl_top_commands.proofs.Resumes.{told_source}
+use Rattle.bl_top.proofs.Builds.{within_limit}
+use Rattle.bl_top.proofs.Courses.{faultless, not_large}
 
 module _ (each : EachBehaves) (text : List ℕ) (file : CFile) (is : IsLoadable text file) where
   behaves : Behaves text (behaviour_of (parts_of file))
@@ -75,7 +40,7 @@ module _ (each : EachBehaves) (text : List ℕ) (file : CFile) (is : IsLoadable 
 
   -- a text that can be loaded is rejected for want of memory alone
   rejects_none : (ended : Status) (line : List ℕ) → Rejects text ended line → ended ≡ status.NoMemory
-  rejects_none _ _ (too_long long) = absurd (not_long text is.short long)
+  rejects_none _ _ (too_long long) = absurd (within_limit text is.short long)
   rejects_none _ _ (no_file at fits shows) = absurd (shows.none file is.spells)
   rejects_none _ _ (ill_formed other at has first) = absurd (faultless other at (formed other has) first)
   rejects_none _ _ (too_many_cells other cells has large) = absurd (not_large (cells_needed other) large.large (small other has))
@@ -125,7 +90,7 @@ module _ (each : EachBehaves) (course : Behaviour → Course) (follows : Follows
 -- ---- texts that are rejected
 
 not_both_lengths : (text : List ℕ) → longest_text < length text → length text ≤ longest_text → ⊥
-not_both_lengths text long short = not_long text short long
+not_both_lengths text long short = within_limit text short long
 
 -- the file of a text that is loaded is well formed, and so is each one that the text spells
 loaded_formed : EachBehaves → (text : List ℕ) (behaviour : Behaviour) → Behaves text behaviour → (file : CFile) → SpellsC file text →
@@ -164,12 +129,12 @@ rejects_due each text _ _ _ (is_long long) (no_file at short shows) = absurd (no
 rejects_due each text _ _ _ (is_long long) (ill_formed other at has first) = absurd (not_both_lengths text long has.short)
 rejects_due each text _ _ _ (is_long long) (too_many_cells other cells has large) = inr refl
 rejects_due each text _ _ _ (is_long long) no_memory = inl refl
-rejects_due each text _ _ _ (spells_none short none) (too_long long) = absurd (not_long text short long)
+rejects_due each text _ _ _ (spells_none short none) (too_long long) = absurd (within_limit text short long)
 rejects_due each text _ _ _ (spells_none short none) (no_file at fits shows) = inr refl
 rejects_due each text _ _ _ (spells_none short none) (ill_formed other at has first) = inr refl
 rejects_due each text _ _ _ (spells_none short none) (too_many_cells other cells has large) = absurd (none has.spelled has.spells)
 rejects_due each text _ _ _ (spells_none short none) no_memory = inl refl
-rejects_due each text _ _ _ (is_ill_formed file short spells ill) (too_long long) = absurd (not_long text short long)
+rejects_due each text _ _ _ (is_ill_formed file short spells ill) (too_long long) = absurd (within_limit text short long)
 rejects_due each text _ _ _ (is_ill_formed file short spells ill) (no_file at fits shows) = inr refl
 rejects_due each text _ _ _ (is_ill_formed file short spells ill) (ill_formed other at has first) = inr refl
 rejects_due each text _ _ _ (is_ill_formed file short spells ill) (too_many_cells other cells has large) =

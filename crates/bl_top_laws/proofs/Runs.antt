@@ -18,13 +18,14 @@ use Rattle.bl_top_commands.specs.Sources.{RunsAs}
 use Rattle.bl_top_commands.specs.Traces.{HasCourse}
 use Rattle.bl_top_commands.specs.declared.status.Status.{Status}
 use Rattle.bl_top_commands.specs.declared.status.Status.TheVariants as status
-use Rattle.bl_top_laws.proofs.Texts.{told_source, tree_of_source}
+use Rattle.bl_top_laws.proofs.Texts.{tree_of_source}
 use Rattle.bl_top_laws.specs.Complete.{RunsTo, finish_status, run_status}
 use Rattle.bl_tree.specs.Ports.{input_columns}
 use Rattle.bl_tree.specs.declared.row.Last.{Last}
 use Rattle.bl_tree.specs.declared.row.Trace.{Trace}
 use Rattle.bl_tree.specs.declared.tree.Unit.{Unit as UnitDef}
 use Rattle.bl_types_program.specs.Programs.{typed_of}
+use Rattle.bl_top_commands.proofs.Resumes.{told_source}
 
 -- a status is the one that is due, or that of want of memory
 abbrev pub IsDone : Status → Status → Type 0
@@ -89,7 +90,7 @@ OneTree = (text : List ℕ) (raw other : Raw) → HasTree text raw → HasTree t
 pub one_unit : (found : Option UnitDef) (one other : UnitDef) → found ≡ Some one → found ≡ Some other → one ≡ other
 one_unit found one other is too = let both = sym is ∙ too in cc
 
-one_last : (one other : Last) → Some one ≡ Some other → one ≡ other
+pub one_last : (one other : Last) → Some one ≡ Some other → one ≡ other
 one_last one other same = cc
 
 -- the rows of these bytes end by this fault, if any, and the course stands so after them

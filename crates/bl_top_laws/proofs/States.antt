@@ -1,10 +1,11 @@
 -- How states of C texts that can be loaded are saved and resumed.
 use Rattle.std.proofs.Common.{◌≡◌, ◌∙◌, ℕ, ℤ, Bool, true, false, List, refl, sym, ap, subst, inl, inr}
 use Rattle.std.specs.Prelude.{Option, Some, take}
+use Rattle.bl_tree.proofs.Basics.{true_and_false}
 use Rattle.bl_ctext.specs.declared.file.CFile.{CFile}
 use Rattle.bl_ctext_semantics.specs.Cells.{inputs_of}
 use Rattle.bl_ctext_semantics.specs.Parts.{Parts, parts_of}
-use Rattle.bl_ctext_semantics.specs.Trace.{c_trace, c_trace_from, cells_if, start_cells, start_succeeds, trace_after}
+use Rattle.bl_ctext_semantics.specs.Trace.{c_trace_from, start_cells, start_succeeds}
 use Rattle.bl_ctext_semantics_laws_places.specs.Behaviour.{Behaviour, behaviour_of}
 use Rattle.bl_ctext_semantics_laws_places.specs.Bytes.{Behaves}
 use Rattle.bl_rows.specs.Reading.{rows_of}
@@ -19,51 +20,18 @@ use Rattle.bl_top_commands.proofs.SameFiles.{EachBehaves, saved_alike, starts_al
 use Rattle.bl_top_commands.specs.Calls.{Call, Count, HasRisen, Output}
 use Rattle.bl_top_commands.specs.Exec.{Loads}
 use Rattle.bl_top_commands.specs.Reads.{state_limit, text_limit}
-use Rattle.bl_top_commands.specs.Save.{
-  AreRead,
-  FromStateEnds,
-  HoldsState,
-  IsStateAfter,
-  ResumeEnds,
-  SaveEnds,
-  SaveFromEnds,
-  SavesOver,
-  StateStops,
-  bad_rows,
-  bad_state,
-  ended as save_ended,
-  no_memory,
-  ran,
-  saved as state_saved,
-  state_unread,
-  state_want,
-  stopped,
-  stopped_at_state,
-  stopped_at_text,
-  trapped,
-  trapped_at_start,
-  unread,
-  went,
-}
+use Rattle.bl_top_commands.specs.Save.{AreRead, FromStateEnds, HoldsState, IsStateAfter, ResumeEnds, SaveEnds, SaveFromEnds, SavesOver, StateStops, bad_rows}
+use Rattle.bl_top_commands.specs.Save.{bad_state, ended as save_ended, no_memory, ran, saved as state_saved, state_unread, state_want, stopped}
+use Rattle.bl_top_commands.specs.Save.{stopped_at_state, stopped_at_text, trapped, trapped_at_start, unread, went}
 use Rattle.bl_top_commands.specs.declared.status.Status.{Status}
 use Rattle.bl_top_commands.specs.declared.status.Status.TheVariants as status
 use Rattle.bl_top_laws.proofs.Runs.{GoesTo, IsDone, course_due, result_done}
 use Rattle.bl_top_laws.proofs.Loading.{never_loaded, one_behaviour, text_stops, text_stops_due}
-use Rattle.bl_top_laws.proofs.Texts.{told_source}
-use Rattle.bl_top_laws.specs.Complete.{
-  ExecutesTo,
-  HoldsBehind,
-  HoldsBehindBoth,
-  IsLoadable,
-  IsRejected,
-  ResumesTo,
-  finish_status,
-  run_status,
-  save_status,
-}
+use Rattle.bl_top_laws.specs.Complete.{ExecutesTo, HoldsBehind, HoldsBehindBoth, IsLoadable, IsRejected, ResumesTo, finish_status, run_status, save_status}
 use Rattle.bl_tree.specs.declared.row.Last.{Last}
 use Rattle.bl_tree.specs.declared.row.Last.TheVariants.{Open, Ended, Trap}
 use Rattle.bl_tree.specs.declared.row.Trace.{Trace}
+use Rattle.bl_top_commands.proofs.Resumes.{started_trace, told_source}
 
 -- ---- what is saved
 
@@ -110,12 +78,6 @@ saved_due file numbers left rest rows out bytes last why holds none_read none_wr
 
 -- ---- files of one text
 
-trace_if : (file : Parts) (rows : List (List ℤ)) → start_succeeds file ≡ true → c_trace file rows ≡ c_trace_from file rows (start_cells file)
-trace_if file rows begins = ap (λ b. trace_after file (cells_if b (start_cells file)) rows) begins
-
-not_both : (b : Bool) → b ≡ true → b ≡ false → ⊥
-not_both b is isnt = let e = sym is ∙ isnt in cc
-
 -- ---- `save`
 
 -- the file that is loaded behaves as the one that the text spells
@@ -138,7 +100,7 @@ saves_to each text bytes trace to begins behaviour read loads same =
     let goes = starts_as each text to.file to.loadable behaviour read loads same true begins in
     record {
       first = subst (λ (b : Behaviour). (rows_of bytes b.inputs).fault ≡ to.fault) alike to.first;
-      is = ap (λ (t : Trace). t.last) (sym (trace_if loads.file (rows_of bytes (inputs_of loads.file)).rows goes))
+      is = ap (λ (t : Trace). t.last) (sym (started_trace loads.file (rows_of bytes (inputs_of loads.file)).rows goes))
           ∙ ap (λ (b : Behaviour). (b.trace (rows_of bytes b.inputs).rows).last) (sym alike) ∙ ap (λ (t : Trace). t.last) to.is;
     }
 
@@ -154,7 +116,7 @@ save_due each c name rows text bytes trace to begins holds behind none_text none
 save_due each c name rows text bytes trace to begins holds behind none_text none_rows none_out _ _
     (trapped_at_start read behaviour source loads traps kept) =
     let same = told_source (c.left name) text read holds source in
-    absurd (not_both (start_succeeds loads.file) (starts_as each text to.file to.loadable behaviour read loads same true begins) traps)
+    absurd (true_and_false (start_succeeds loads.file) (starts_as each text to.file to.loadable behaviour read loads same true begins) traps)
 save_due each c name rows text bytes trace to begins holds behind none_text none_rows none_out ended line (stopped why kept) =
     inl (text_stops each text to.file to.loadable (c.left name) (c.file name) ended line holds none_text why)
 
@@ -163,7 +125,7 @@ pub save_traps : EachBehaves → (c : Call) (name rows : Word) (text : List ℕ)
     IsDone ended status.Trapped
 save_traps each c name rows text file is traps holds none_text ended line (ran read behaviour source loads going between left saves) =
     let same = told_source (c.left name) text read holds source in
-    absurd (not_both (start_succeeds loads.file) going (starts_as each text file is behaviour read loads same false traps))
+    absurd (true_and_false (start_succeeds loads.file) going (starts_as each text file is behaviour read loads same false traps))
 save_traps each c name rows text file is traps holds none_text _ _ (trapped_at_start read behaviour source loads none kept) = inr refl
 save_traps each c name rows text file is traps holds none_text ended line (stopped why kept) =
     inl (text_stops each text file is (c.left name) (c.file name) ended line holds none_text why)

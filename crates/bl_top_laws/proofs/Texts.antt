@@ -7,7 +7,7 @@ use Rattle.bl_ctree.specs.Means.{shown_trace}
 use Rattle.bl_ctree_laws_traces.specs.Traces.OneTrace.{OneTrace as MeansOneTrace}
 use Rattle.bl_parse_tree.specs.declared.raw.Raw.{Raw}
 use Rattle.bl_rules.specs.Accepted.{HasTree}
-use Rattle.bl_top_commands.specs.Sources.{IsRawTreeOf, IsSource, IsTextOfProgram}
+use Rattle.bl_top_commands.specs.Sources.{IsRawTreeOf, IsTextOfProgram}
 use Rattle.bl_top_commands.specs.Traces.{OneTrace}
 use Rattle.bl_top_laws.specs.Correct.{BuiltTextsAreCorrect}
 use Rattle.bl_top_laws.specs.Theorem.{Correct}
@@ -15,10 +15,7 @@ use Rattle.bl_tree.specs.declared.tree.StructDef.{StructDef}
 use Rattle.bl_tree.specs.declared.tree.Unit.{Unit as UnitDef}
 use Rattle.bl_tree.specs.Ports.{RowsFit, input_columns}
 use Rattle.bl_types_program.specs.Programs.{typed_of}
-
--- the text of a source whose content is told is that content
-pub told_source : (left : Option (List ℕ)) (text bytes : List ℕ) → left ≡ Some text → IsSource left bytes → text ≡ bytes
-told_source left text bytes stands source = subst (λ l. IsSource l bytes) stands source
+use Rattle.bl_top_commands.proofs.Resumes.{told_source}
 
 -- a tree of a source whose content is told is one of that content
 pub tree_of_source : (left : Option (List ℕ)) (source : List ℕ) (raw : Raw) → left ≡ Some source → IsRawTreeOf left raw → HasTree source raw
@@ -60,8 +57,8 @@ correct_text source text raw has is =
       outputs = one.outputs;
       trace = one.trace;
       one = one_over_rows (typed_of raw).structs (typed_of raw).units (typed_of raw).entry behaviour one;
-      trees = one.trees;
-      are_trees = one.are_trees;
+      peeled = one.peeled;
+      are_peeled = one.are_peeled;
       bounded = one.bounded;
       never_stuck = one.never_stuck;
     }

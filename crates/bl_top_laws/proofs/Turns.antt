@@ -1,9 +1,9 @@
 -- The first of files that were read in turn.
-use Rattle.std.proofs.Common.{◌≡◌, ◌++◌, List, [], ◌∷◌, ℕ, length, refl, suc, ap, subst}
+use Rattle.std.proofs.Common.{◌≡◌, ◌++◌, List, [], ◌∷◌, ℕ, refl, ap, subst}
 use Rattle.bl_face.specs.declared.face.Face.{Face}
 use Rattle.bl_module_files.specs.Faces.{AreSpelled}
 use Rattle.bl_module_files.specs.Judged.{AreRead}
-use Rattle.bl_module_files.specs.Turns.{Left, WasRead, WereRead, next, none}
+use Rattle.bl_module_files.specs.Turns.{Left, WereRead, next, none}
 
 -- files were read in turn, and their texts are the first of these
 pub record FirstWereRead (left : Left) (names texts : List (List ℕ)) : Type 0 where
@@ -28,11 +28,6 @@ first_were_read _ _ _ _ (one ∷ earlier) later are (next {before} {between} {af
       read = subst (λ n. WereRead before (n ∷ earlier) (text ∷ behind.found) behind.now) head (next read behind.read);
       texts_are = ap (λ (ts : List (List ℕ)). text ∷ ts) behind.texts_are;
     }
-
--- each file that was read has a text
-pub read_counted : (left after : Left) (names texts : List (List ℕ)) → WereRead left names texts after → length texts ≡ length names
-read_counted _ _ _ _ none = refl
-read_counted _ _ _ _ (next {before} {between} {after} {name} {text} {names} {texts} read more) = ap suc (read_counted between after names texts more)
 
 first_spelled : (found rest : List (List ℕ)) (faces : List Face) → AreSpelled (found ++ rest) faces → (first : List Face) × AreSpelled found first
 first_spelled [] rest faces spelled = ([], tt)

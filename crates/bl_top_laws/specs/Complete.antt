@@ -30,26 +30,8 @@ use Rattle.bl_rules.specs.Rules.{Passes, TreePasses}
 use Rattle.bl_save.specs.States.{SavedState}
 use Rattle.bl_top.specs.Answers.{Answered}
 use Rattle.bl_top.specs.Drive.{Plants}
-use Rattle.bl_top_args.specs.Jobs.{
-  JobSpec,
-  Word,
-  bound,
-  build,
-  check,
-  count,
-  drive,
-  exec,
-  face,
-  files_of,
-  gen,
-  job_of,
-  link,
-  resume,
-  run,
-  save,
-  save_from,
-  walk,
-}
+use Rattle.bl_top_args.specs.Jobs.{JobSpec, Word, bound, build, check, count, drive, exec, face, files_of, gen, job_of, link, resume, run, save, save_from}
+use Rattle.bl_top_args.specs.Jobs.{walk}
 use Rattle.bl_top_commands.specs.Calls.{Call, HasRisen}
 use Rattle.bl_top_commands.specs.Gen.{last_status}
 use Rattle.bl_top_commands.specs.Reads.{LeftBehind, longest_text, source_limit, state_limit, text_limit}

@@ -1,6 +1,6 @@
 -- The theorem in one formula: what it is for a C text to be correct for a source text. docs/THEOREM.md explains each word.
 use Rattle.std.specs.Prelude.{◌≡◌, ◌↔◌, ℕ, ℤ, List, Some, slice_get}
-use Rattle.bl_cause_trees.specs.Trees.{AreTrees}
+use Rattle.bl_cause_trees.specs.Peeled.{ArePeeled}
 use Rattle.bl_ctext.specs.SpellsC.{SpellsC}
 use Rattle.bl_ctext.specs.declared.file.CFile.{CFile}
 use Rattle.bl_ctext_semantics.specs.Cells.{inputs_of, outputs_of}
@@ -40,9 +40,9 @@ pub record Correct (source text : List ℕ) : Type 0 where
       Means p.structs p.units p.entry rows shows ↔ (shows ≡ shown_trace (c_trace (parts_of file) rows))
   -- over all rows that fit, the semantics allows exactly one trace
   pub one : (rows : List (List ℤ)) → RowsFit (input_columns entry) rows → OneTrace p.structs p.units p.entry rows
-  -- the trees of p's units: the bodies by which the rules Twice to Cells are judged
-  pub trees : List UnitDef
-  pub are_trees : AreTrees p.units trees
+  -- p's peeled units: their bodies are those by which the rules Twice to Cells are judged
+  pub peeled : List UnitDef
+  pub are_peeled : ArePeeled p.units peeled
   -- no tick has more steps than a number that they determine, and none is stuck
-  pub bounded : Bounded (steps p.structs trees p.entry) p.structs p.units p.entry
+  pub bounded : Bounded (steps p.structs peeled p.entry) p.structs p.units p.entry
   pub never_stuck : NeverStuck p.structs p.units p.entry

@@ -1,60 +1,18 @@
 -- The first of several failures is one of them, and comes no later than each; so it is the first rule that fails.
-use Rattle.std.proofs.Common.{
-  ◌≡◌,
-  ℕ,
-  ◌<◌,
-  zero,
-  suc,
-  Bool,
-  true,
-  false,
-  ◌&&◌,
-  ◌||◌,
-  cond,
-  List,
-  [],
-  ◌∷◌,
-  ◌⊎◌,
-  inl,
-  inr,
-  ⊎_elim,
-  Option,
-  Some,
-  None,
-  refl,
-  sym,
-  ap,
-  ◌∙◌,
-  subst,
-  arith,
-}
+use Rattle.std.proofs.Common.{◌≡◌, ℕ, ◌<◌, zero, suc, true, false, ◌&&◌, ◌||◌, cond, List, [], ◌∷◌, ◌⊎◌, inl, inr, ⊎_elim, Option, Some, None, refl, sym}
+use Rattle.std.proofs.Common.{ap, ◌∙◌, subst, arith}
 use Rattle.std.specs.Prelude.{Contains, nat_eq, nat_lt, slice_get}
 use Rattle.std.proofs.lemmas.Bool.Decides.{nat_tests}
+use Rattle.std.proofs.lemmas.Bool.{and_parts}
+use Rattle.bl_tree.proofs.Basics.{same_some}
 use Rattle.bl_tree.specs.declared.place.Place.{Place}
 use Rattle.bl_tree.specs.declared.rule.Failure.{Failure}
 use Rattle.bl_tree.specs.declared.rule.Refusal.{Refusal}
 use Rattle.bl_tree.specs.declared.rule.Refusal.TheVariants as refusal
 use Rattle.bl_tree.specs.declared.rule.Rule.{Rule}
 use Rattle.bl_tree.specs.declared.rule.Rule.TheVariants as rule
-use Rattle.bl_tree.specs.Rules.{
-  AreNoLater,
-  FailsAmong,
-  FailsFirst,
-  IsBefore,
-  IsCause,
-  Passes,
-  Refuses,
-  come_before,
-  comes_before,
-  compared,
-  first_of,
-  further_places,
-  is_before,
-  number_of,
-  places_of,
-  same_place,
-  tells_walk,
-}
+use Rattle.bl_tree.specs.Rules.{AreNoLater, FailsAmong, FailsFirst, IsBefore, IsCause, Passes, Refuses, come_before, comes_before, compared, first_of}
+use Rattle.bl_tree.specs.Rules.{further_places, is_before, number_of, places_of, same_place, tells_walk}
 
 -- ---- rules by number
 
@@ -97,34 +55,27 @@ rule_back rule.Cycle = refl
 rule_back rule.Frames = refl
 rule_back rule.Cells = refl
 
-some_is : {A : Type 0} (x y : A) → Some x ≡ Some y → x ≡ y
-some_is x y is = cc
-
 -- rules of one number are one
 pub same_rule : (r s : Rule) → number_of r ≡ number_of s → r ≡ s
-same_rule r s is = some_is r s (sym (rule_back r) ∙ ap rule_at is ∙ rule_back s)
+same_rule r s is = same_some r s (sym (rule_back r) ∙ ap rule_at is ∙ rule_back s)
 
 -- ---- places
 
-and_true : (a b : Bool) → (a && b) ≡ true → (a ≡ true) × (b ≡ true)
-and_true true b is = (refl, is)
-and_true false b is = absurd (cc)
-
-same_true : (a b : Place) → same_place a b ≡ true → a ≡ b
+pub same_true : (a b : Place) → same_place a b ≡ true → a ≡ b
 same_true a b is =
-    let both = and_true (nat_eq a.start b.start) (nat_eq a.end b.end) is in
+    let both = and_parts (nat_eq a.start b.start) (nat_eq a.end b.end) is in
     let e1 = both.0 in let e2 = both.1 in
     let start : a.start ≡ b.start = grind (arith, nat_tests) in
     let end : a.end ≡ b.end = grind (arith, nat_tests) in
     λ i. record { start = start i; end = end i }
 
-before_true : (a b : Place) → is_before a b ≡ true → IsBefore a b
+pub before_true : (a b : Place) → is_before a b ≡ true → IsBefore a b
 before_true a b is =
     elim (nat_lt a.start b.start) as
     (λ less. nat_lt a.start b.start ≡ less → (less || (nat_eq a.start b.start && nat_lt a.end b.end)) ≡ true → IsBefore a b) [
       | true ↦ λ less h. inl (grind (arith, nat_tests))
       | false ↦ λ less h.
-          let both = and_true (nat_eq a.start b.start) (nat_lt a.end b.end) h in
+          let both = and_parts (nat_eq a.start b.start) (nat_lt a.end b.end) h in
           let e1 = both.0 in let e2 = both.1 in inr (grind (arith, nat_tests), grind (arith, nat_tests))
     ] refl is
 
@@ -137,7 +88,7 @@ before_false a b apart is =
           let end : b.end < a.end = grind (arith, nat_tests) in inr (start, end)
     ] refl
 
-before_trans : (a b c : Place) → IsBefore a b → IsBefore b c → IsBefore a c
+pub before_trans : (a b c : Place) → IsBefore a b → IsBefore b c → IsBefore a c
 before_trans a b c one two =
     ⊎_elim
     (λ (p : a.start < b.start).
@@ -328,7 +279,7 @@ no_later_compared r p q a b h =
     ]
 
 -- where no walk is told, all places are compared
-all_compared : (r : Rule) (p : Place) (a : List Place) → tells_walk r ≡ false → compared r p a ≡ p ∷ a
+pub all_compared : (r : Rule) (p : Place) (a : List Place) → tells_walk r ≡ false → compared r p a ≡ p ∷ a
 all_compared r p a no_walk = ap (λ walk. cond walk (p ∷ []) (p ∷ a)) no_walk
 
 -- where nothing comes first, no rule fails

@@ -1,41 +1,6 @@
 -- What holds of the ranges and the arithmetic of the types without parts.
-use Rattle.std.proofs.Common.{
-  ◌≡◌,
-  ℕ,
-  ◌-◌,
-  ◌/◌,
-  ◌^◌,
-  ◌<◌,
-  ◌≤◌,
-  ℤ,
-  pos,
-  negsuc,
-  ◌-ℤ◌,
-  ◌*ℤ◌,
-  neg_ℤ,
-  Bool,
-  true,
-  false,
-  IsTrue,
-  refl,
-  ap,
-  arith,
-  to_z,
-  of_z,
-  unsigned_abs,
-  bit_and,
-  bit_or,
-  bit_xor,
-  Option,
-  Some,
-  IfSome,
-  nat_lt,
-  lit<,
-  zero,
-  suc,
-  FitsSigned,
-  int_div,
-}
+use Rattle.std.proofs.Common.{◌≡◌, ℕ, ◌-◌, ◌/◌, ◌^◌, ◌<◌, ◌≤◌, ℤ, pos, negsuc, ◌-ℤ◌, ◌*ℤ◌, neg_ℤ, Bool, true, false, IsTrue, refl, ap, arith, to_z, of_z}
+use Rattle.std.proofs.Common.{unsigned_abs, bit_and, bit_or, bit_xor, Option, Some, IfSome, nat_lt, lit<, zero, suc, FitsSigned, int_div}
 use Rattle.std.proofs.Math.Nat.{div-le_self, mod-eq_of_lt}
 use Rattle.std.proofs.lemmas.Int.{ints, to_z_pos, fits_signed_mul, fits_signed_from_abs}
 use Rattle.std.proofs.lemmas.Nat.{and_le_l, div-add-mod', or_lt, xor_lt, shr_le, pow_pos}
@@ -45,45 +10,11 @@ use Rattle.bl_tree.specs.declared.scalar.Width.TheVariants.{W8, W16, W32, W64}
 use Rattle.bl_tree.specs.declared.scalar.Scalar.{Scalar}
 use Rattle.bl_tree.specs.declared.scalar.Scalar.TheVariants.{Bool as OfBool, Int, Nat, Bits}
 use Rattle.bl_tree.specs.declared.scalar.Op.{Op}
-use Rattle.bl_tree.specs.declared.scalar.Op.TheVariants.{
-  Add,
-  Sub,
-  Mul,
-  Div,
-  Rem,
-  Minus,
-  BitAnd,
-  BitOr,
-  BitXor,
-  BitNot,
-  Shl,
-  Shr,
-  Eq,
-  Ne,
-  Lt,
-  Le,
-  Gt,
-  Ge,
-  And,
-  Or,
-  Not,
-}
+use Rattle.bl_tree.specs.declared.scalar.Op.TheVariants.{Add, Sub, Mul, Div, Rem, Minus, BitAnd, BitOr, BitXor, BitNot, Shl, Shr, Eq, Ne, Lt, Le, Gt, Ge, And}
+use Rattle.bl_tree.specs.declared.scalar.Op.TheVariants.{Or, Not}
 use Rattle.bl_tree.specs.Scalar.{bits_of, width_of, in_range, is_bits, InRange}
-use Rattle.bl_tree.specs.Numbers.{
-  fitted,
-  WrapsTo,
-  divided_by,
-  number_of,
-  checked_of,
-  checked_one_of,
-  TakesTwo,
-  TakesOne,
-  type_of_result,
-  left_digits,
-  right_digits,
-  shifted_left,
-  shifted_right,
-}
+use Rattle.bl_tree.specs.Numbers.{fitted, WrapsTo, divided_by, number_of, checked_of, checked_one_of, TakesTwo, TakesOne, type_of_result, left_digits}
+use Rattle.bl_tree.specs.Numbers.{right_digits, shifted_left, shifted_right}
 
 -- a number below 2 to the width is one of the bits type
 pub in_bits : (w : Width) (r : ℕ) → r < 2 ^ bits_of w → InRange (Bits w) (pos r)

@@ -1,48 +1,16 @@
 -- Laws of what a list of answers comes to: at an element, and at one list put behind another.
-use Rattle.std.proofs.Common.{
-  ◌≡◌,
-  ℕ,
-  ◌+◌,
-  ◌<◌,
-  ◌≤◌,
-  Bool,
-  true,
-  false,
-  ◌&&◌,
-  ◌||◌,
-  List,
-  [],
-  ◌∷◌,
-  ◌++◌,
-  length,
-  get_or,
-  refl,
-  sym,
-  ap,
-  ◌∙◌,
-  append_assoc,
-  zero,
-  suc,
-  arith,
-  max,
-}
+use Rattle.std.proofs.Common.{◌≡◌, ℕ, ◌+◌, ◌<◌, ◌≤◌, Bool, true, false, ◌&&◌, ◌||◌, List, [], ◌∷◌, ◌++◌, length, get_or, refl, sym, ap, ◌∙◌, append_assoc, zero}
+use Rattle.std.proofs.Common.{suc, arith, max}
+use Rattle.bl_tree.proofs.Basics.{and_regroup, or_regroup}
 use Rattle.bl_tree.specs.Reduce.{all_of, any_of, joined, total, greatest}
-
-and_assoc : (a b c : Bool) → (a && (b && c)) ≡ ((a && b) && c)
-and_assoc true b c = refl
-and_assoc false b c = refl
-
-or_assoc : (a b c : Bool) → (a || (b || c)) ≡ ((a || b) || c)
-or_assoc true b c = refl
-or_assoc false b c = refl
 
 pub all_of-append : (xs ys : List Bool) → all_of (xs ++ ys) ≡ (all_of xs && all_of ys)
 all_of-append [] ys = refl
-all_of-append (x ∷ xs) ys = ap (λ rest. x && rest) (all_of-append xs ys) ∙ and_assoc x (all_of xs) (all_of ys)
+all_of-append (x ∷ xs) ys = ap (λ rest. x && rest) (all_of-append xs ys) ∙ and_regroup x (all_of xs) (all_of ys)
 
 pub any_of-append : (xs ys : List Bool) → any_of (xs ++ ys) ≡ (any_of xs || any_of ys)
 any_of-append [] ys = refl
-any_of-append (x ∷ xs) ys = ap (λ rest. x || rest) (any_of-append xs ys) ∙ or_assoc x (any_of xs) (any_of ys)
+any_of-append (x ∷ xs) ys = ap (λ rest. x || rest) (any_of-append xs ys) ∙ or_regroup x (any_of xs) (any_of ys)
 
 pub total-append : (xs ys : List ℕ) → total (xs ++ ys) ≡ total xs + total ys
 total-append [] ys = omega arith

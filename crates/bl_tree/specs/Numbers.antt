@@ -1,71 +1,14 @@
 -- The arithmetic of the types without parts, by exact whole numbers.
-use Rattle.std.specs.Prelude.{
-  ◌≡◌,
-  ℕ,
-  zero,
-  suc,
-  ◌-◌,
-  ◌*◌,
-  ◌/◌,
-  ◌%◌,
-  ◌^◌,
-  ℤ,
-  pos,
-  negsuc,
-  neg_ℤ,
-  ◌+ℤ◌,
-  ◌-ℤ◌,
-  ◌*ℤ◌,
-  Bool,
-  true,
-  false,
-  not,
-  ◌&&◌,
-  ◌||◌,
-  int_lt,
-  int_le,
-  int_div,
-  int_rem,
-  unsigned_abs,
-  nat_lt,
-  bit_and,
-  bit_or,
-  bit_xor,
-  Option,
-  Some,
-  None,
-  IsTrue,
-  if◌then◌else◌,
-}
+use Rattle.std.specs.Prelude.{◌≡◌, ℕ, zero, suc, ◌-◌, ◌*◌, ◌/◌, ◌%◌, ◌^◌, ℤ, pos, negsuc, neg_ℤ, ◌+ℤ◌, ◌-ℤ◌, ◌*ℤ◌, Bool, true, false, not, ◌&&◌, ◌||◌, int_lt}
+use Rattle.std.specs.Prelude.{int_le, int_div, int_rem, unsigned_abs, nat_lt, bit_and, bit_or, bit_xor, Option, Some, None, IsTrue, if◌then◌else◌}
 use Rattle.std.specs.Int.{int_rem_euclid}
 use Rattle.std.specs.Ordering.{int_eq}
 use Rattle.bl_tree.specs.declared.scalar.Width.{Width}
 use Rattle.bl_tree.specs.declared.scalar.Scalar.{Scalar}
 use Rattle.bl_tree.specs.declared.scalar.Scalar.TheVariants.{Bool as OfBool, Bits}
 use Rattle.bl_tree.specs.declared.scalar.Op.{Op}
-use Rattle.bl_tree.specs.declared.scalar.Op.TheVariants.{
-  Add,
-  Sub,
-  Mul,
-  Div,
-  Rem,
-  Minus,
-  BitAnd,
-  BitOr,
-  BitXor,
-  BitNot,
-  Shl,
-  Shr,
-  Eq,
-  Ne,
-  Lt,
-  Le,
-  Gt,
-  Ge,
-  And,
-  Or,
-  Not,
-}
+use Rattle.bl_tree.specs.declared.scalar.Op.TheVariants.{Add, Sub, Mul, Div, Rem, Minus, BitAnd, BitOr, BitXor, BitNot, Shl, Shr, Eq, Ne, Lt, Le, Gt, Ge, And}
+use Rattle.bl_tree.specs.declared.scalar.Op.TheVariants.{Or, Not}
 use Rattle.bl_tree.specs.Scalar.{bits_of, width_of, in_range, is_whole, is_int, is_bits, is_bool, InRange}
 
 -- ---- which operator takes operands of which type

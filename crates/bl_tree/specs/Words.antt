@@ -7,7 +7,7 @@ use Rattle.std.specs.List.{list_all, list_any}
 abbrev pub is_word_byte : ℕ → Bool
 is_word_byte byte = is_ascii_alphanumeric byte || nat_eq byte 95
 
--- the keywords, in the order in which tokens number them
+-- the keywords, in the order of their positions
 abbrev pub keywords : List (List ℕ)
 keywords =
     codes "function" ∷ codes "activity" ∷ codes "returns" ∷ codes "return" ∷ codes "struct" ∷

@@ -7,35 +7,12 @@ use Rattle.bl_tree.specs.declared.tree.Expr.{Expr}
 use Rattle.bl_tree.specs.declared.tree.Path.{Path}
 use Rattle.bl_tree.specs.declared.tree.Stmt.{Stmt}
 use Rattle.bl_tree.specs.declared.tree.StmtKind.TheOpen.{StmtKind-F}
-use Rattle.bl_tree.specs.Effects.{
-  argument_mentions,
-  arm_reads,
-  arm_writes,
-  branch_paths,
-  kind_reads,
-  kind_writes,
-  optional_mentions,
-  reads,
-  stmt_set,
-  target_mentions,
-  target_static,
-  writes,
-}
+use Rattle.bl_tree.specs.Effects.{argument_mentions, arm_reads, arm_writes, branch_paths, kind_reads, kind_writes, optional_mentions, reads, stmt_set}
+use Rattle.bl_tree.specs.Effects.{target_mentions, target_static, writes}
 use Rattle.bl_tree.specs.Instant.{BranchInstant, arm_instant, branch_ends, instant, is_instant_block, kind_instant, stmt_instant}
 use Rattle.bl_tree.specs.Reduce.{all_of, joined}
-use Rattle.bl_tree.specs.Static.{
-  Reach,
-  StaticStep,
-  expr_mentions,
-  index_mentions,
-  kind_mentions,
-  mentions,
-  part_step,
-  path_mentions,
-  path_reach,
-  reach_of,
-  static_of,
-}
+use Rattle.bl_tree.specs.Static.{Reach, StaticStep, expr_mentions, index_mentions, kind_mentions, mentions, part_step, path_mentions, path_reach, reach_of}
+use Rattle.bl_tree.specs.Static.{static_of}
 use Rattle.bl_tree_laws_places.specs.Laws.{EffectsStay}
 use Rattle.bl_tree_laws_places.specs.Placed.{placed_expr, placed_level, placed_path, placed_stmt}
 use Rattle.bl_tree_laws_places.proofs.Exprs.{expr_stays, path_stays}

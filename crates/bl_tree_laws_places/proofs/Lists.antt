@@ -1,9 +1,10 @@
 -- Lists that are mapped after one another, and their elements.
-use Rattle.std.proofs.Common.{◌≡◌, ◌⊎◌, inl, inr, ⊎_elim, ℕ, zero, suc, List, [], ◌∷◌, ◌++◌, map, refl, ap, ap₂, sym, ◌∙◌, arith}
-use Rattle.std.specs.Prelude.{All, Contains, Some, option_map, slice_get}
-use Rattle.std.proofs.lemmas.Option.{same_Some, slice_get-map}
+use Rattle.std.proofs.Common.{◌≡◌, ◌⊎◌, ⊎_elim, ℕ, zero, suc, List, [], ◌∷◌, ◌++◌, map, refl, ap, ap₂, sym, ◌∙◌, arith}
+use Rattle.std.specs.Prelude.{All, Contains, Some, slice_get}
+use Rattle.std.proofs.lemmas.Option.{same_Some}
 use Rattle.std.proofs.lemmas.List.{map-append, map-id}
 use Rattle.std.proofs.lemmas.List.Elements.{All-head, All-tail}
+use Rattle.bl_tree.proofs.Basics.{contains_further, contains_none, first_or_further}
 use Rattle.bl_tree.specs.Reduce.{joined}
 
 pub map-twice : {A B C : Type 0} (g : B → C) (f : A → B) (xs : List A) → map g (map f xs) ≡ map (λ x. g (f x)) xs
@@ -42,16 +43,6 @@ joined-map f (x ∷ xs) = ap (λ ys. map f x ++ ys) (joined-map f xs) ∙ sym (m
 
 -- ---- elements
 
-pub none_there : {X : Type 0} (x : X) → Contains [] x → ⊥
-none_there x there = let less = there.1 in omega arith
-
-pub first_or : {X : Type 0} (y : X) (xs : List X) (x : X) → Contains (y ∷ xs) x → (y ≡ x) ⊎ Contains xs x
-first_or y xs x (zero, within, is) = inl is
-first_or y xs x (suc k, within, is) = inr (k, omega arith, is)
-
-pub later : {X : Type 0} (y : X) (xs : List X) (x : X) → Contains xs x → Contains (y ∷ xs) x
-later y xs x (k, within, is) = (suc k, omega arith, is)
-
 -- an element of a mapped list, by what it is made of
 pub record Made {X Y : Type 0} (f : X → Y) (xs : List X) (y : Y) : Type 0 where
   pub source : X
@@ -59,17 +50,12 @@ pub record Made {X Y : Type 0} (f : X → Y) (xs : List X) (y : Y) : Type 0 wher
   pub is : y ≡ f source
 
 pub from_map : {X Y : Type 0} (f : X → Y) (xs : List X) (y : Y) → Contains (map f xs) y → Made f xs y
-from_map f [] y has = absurd (none_there y has)
+from_map f [] y has = absurd (contains_none y has)
 from_map f (x ∷ xs) y has =
     ⊎_elim (λ is. record { source = x; is_there = (0, omega arith, refl); is = sym is })
     (λ behind. let found = from_map f xs y behind in
-    record { source = found.source; is_there = later x xs found.source found.is_there; is = found.is })
-    (first_or (f x) (map f xs) y has)
-
-pub into_map : {X Y : Type 0} (f : X → Y) (xs : List X) (x : X) → Contains xs x → Contains (map f xs) (f x)
-into_map f [] x has = absurd (none_there x has)
-into_map f (y ∷ xs) x has =
-    ⊎_elim (λ is. (0, omega arith, ap f is)) (λ behind. later (f y) (map f xs) (f x) (into_map f xs x behind)) (first_or y xs x has)
+    record { source = found.source; is_there = contains_further x xs found.source found.is_there; is = found.is })
+    (first_or_further (f x) (map f xs) y has)
 
 -- an element at a position of a mapped list, by what it is made of
 pub record Got {X Y : Type 0} (f : X → Y) (xs : List X) (k : ℕ) (y : Y) : Type 0 where
@@ -82,9 +68,6 @@ from_got f [] zero y has = absurd cc
 from_got f [] (suc k) y has = absurd cc
 from_got f (x ∷ xs) zero y has = record { source = x; got = refl; is = sym (same_Some (f x) y has) }
 from_got f (x ∷ xs) (suc k) y has = let rest = from_got f xs k y has in record { source = rest.source; got = rest.got; is = rest.is }
-
-pub into_got : {X Y : Type 0} (f : X → Y) (xs : List X) (k : ℕ) (x : X) → slice_get xs k ≡ Some x → slice_get (map f xs) k ≡ Some (f x)
-into_got f xs k x has = slice_get-map f xs k ∙ ap (option_map f) has
 
 -- lists that parts list, where these are mapped
 pub joined-behind : {A B C : Type 0} (g : A → List B) (turned : C → A) (of : C → List B) (mapped : B → B) →

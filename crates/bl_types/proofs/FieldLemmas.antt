@@ -1,28 +1,6 @@
 -- Tables of the positions of fields by their names.
-use Rattle.std.proofs.Common.{
-  ◌≡◌,
-  ℕ,
-  suc,
-  ◌+◌,
-  Bool,
-  true,
-  false,
-  cond,
-  List,
-  [],
-  ◌∷◌,
-  Option,
-  Some,
-  None,
-  refl,
-  sym,
-  ap,
-  ◌∙◌,
-  arith,
-  if◌then◌else◌,
-  map,
-  option_map,
-}
+use Rattle.std.proofs.Common.{◌≡◌, ℕ, suc, ◌+◌, Bool, true, false, List, [], ◌∷◌, Option, Some, None, refl, sym, ap, ◌∙◌, arith, if◌then◌else◌, map}
+use Rattle.std.proofs.Common.{option_map}
 use Rattle.std.specs.Prelude.{bytes_eq, option_and_then, slice_get}
 use Rattle.std.proofs.lemmas.Option.{slice_get-map}
 use Rattle.bl_tree.specs.declared.tree.Field.{Field}
@@ -31,28 +9,6 @@ use Rattle.bl_tree.specs.declared.tree.Ty.{Ty}
 use Rattle.bl_tree.specs.declared.tree.Ty.TheOpen.{Ty-F}
 use Rattle.bl_types.specs.Expressions.{FieldAt, field_among, field_in}
 use Rattle.bl_types.specs.inner.Fields.{first_named}
-
--- a position, counted from one place earlier
-one_back : (k more : ℕ) (o : Option ℕ) → more ≡ k + 1 → option_map (λ i. more + i) o ≡ option_map (λ i. k + i) (option_map suc o)
-one_back k more None is = refl
-one_back k more (Some i) is = let same : more + i ≡ k + suc i = omega arith in ap Some same
-
-from_here : (b : Bool) (k more : ℕ) (o : Option ℕ) → more ≡ k + 1
-    → cond b (Some k) (option_map (λ i. more + i) o) ≡ option_map (λ i. k + i) (if b then Some 0 else option_map suc o)
-from_here true k more o is = let same : k ≡ k + 0 = omega arith in ap Some same
-from_here false k more o is = one_back k more o is
-
--- a table of the fields from one position on, with the field before them
-pub one_earlier : (name : List ℕ) (field : Field) (rest : List Field) (k more : ℕ) (had has : Option ℕ) → more ≡ k + 1
-    → had ≡ option_map (λ i. more + i) (first_named name rest) → has ≡ cond (bytes_eq field.name name) (Some k) had
-    → has ≡ option_map (λ i. k + i) (first_named name (field ∷ rest))
-one_earlier name field rest k more had has is old new =
-    new ∙ ap (cond (bytes_eq field.name name) (Some k)) old ∙ from_here (bytes_eq field.name name) k more (first_named name rest) is
-
--- a table of all fields
-pub from_start : (k : ℕ) (o : Option ℕ) → k ≡ 0 → option_map (λ i. k + i) o ≡ o
-from_start k None is = refl
-from_start k (Some i) is = let same : k + i ≡ i = omega arith in ap Some same
 
 -- the field at the position, where the fields begin at another one
 abbrev pub placed : ℕ → List Field → ℕ → Option FieldAt

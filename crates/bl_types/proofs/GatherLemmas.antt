@@ -30,10 +30,6 @@ mapped_one f all rest item made grown found x is same push h =
     ap (λ l. l ++ map f rest) (push ∙ ap (λ y. made ++ y ∷ []) same) ∙ append_assoc made (f item ∷ []) (map f rest)
     ∙ ap (λ l. made ++ map f l) (sym is) ∙ h
 
-pub append-none : {A : Type 0} (xs : List A) → xs ++ [] ≡ xs
-append-none [] = λ i. []
-append-none (x ∷ xs) = ap (λ rest. x ∷ rest) (append-none xs)
-
 with_option : {A : Type 0} (one : Option A) (xs ys : List A) → cons_option one (xs ++ ys) ≡ cons_option one xs ++ ys
 with_option (Some x) xs ys = refl
 with_option None xs ys = refl

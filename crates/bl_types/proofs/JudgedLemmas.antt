@@ -1,26 +1,5 @@
 -- Expressions, arguments and targets by their parts.
-use Rattle.std.proofs.Common.{
-  ◌≡◌,
-  ℕ,
-  ◌+◌,
-  suc,
-  ◌<◌,
-  List,
-  [],
-  ◌∷◌,
-  ◌++◌,
-  drop,
-  length,
-  get_or,
-  Option,
-  refl,
-  sym,
-  ap,
-  ◌∙◌,
-  append_assoc,
-  add-one,
-}
-use Rattle.std.proofs.Math.Seq.{drop-cons}
+use Rattle.std.proofs.Common.{◌≡◌, ◌+◌, suc, ◌<◌, List, [], ◌∷◌, ◌++◌, length, Option, refl, sym, ap, ◌∙◌, append_assoc}
 use Rattle.bl_tree.specs.declared.place.Place.{Place}
 use Rattle.bl_tree.specs.declared.scalar.Op.{Op}
 use Rattle.bl_tree.specs.declared.scalar.Scalar.{Scalar as ScalarType}
@@ -35,30 +14,8 @@ use Rattle.bl_names_tree.specs.declared.expr.NamedPart.TheVariants.{Index, outs-
 use Rattle.bl_names_tree.specs.declared.expr.NamedTarget.{NamedTarget}
 use Rattle.bl_types.specs.declared.environment.Environment.{Environment}
 use Rattle.bl_types.specs.declared.form.Form.{Form}
-use Rattle.bl_types.specs.Expressions.{
-  Formed,
-  Judged,
-  Stepped,
-  Targeted,
-  but_first,
-  cast_formed,
-  fitted,
-  fitting,
-  in_context,
-  judged,
-  judged_kind,
-  judged_layer,
-  judged_part,
-  judged_target,
-  one_formed,
-  step_of,
-  targeted,
-  to_element,
-  two_formed,
-}
-
-pub next_of : {X : Type 0} (xs : List X) (k : ℕ) (x : X) → k < length xs → x ≡ get_or xs k x → drop k xs ≡ x ∷ drop (k + 1) xs
-next_of xs k x within is = rw add-one (drop-cons xs k x within ∙ ap (λ y. y ∷ drop (suc k) xs) (sym is))
+use Rattle.bl_types.specs.Expressions.{Formed, Judged, Stepped, Targeted, but_first, cast_formed, fitted, fitting, in_context, judged, judged_kind}
+use Rattle.bl_types.specs.Expressions.{judged_layer, judged_part, judged_target, one_formed, step_of, targeted, to_element, two_formed}
 
 -- one settled argument for each
 pub fitted-length : (arguments : List Judged) (params : List Var) → length (fitted arguments params) ≡ length arguments

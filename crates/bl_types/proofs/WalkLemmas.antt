@@ -1,10 +1,9 @@
 -- Statements by their parts, and lists of them one by one.
-use Rattle.std.proofs.Common.{◌≡◌, List, [], ◌∷◌, ◌++◌, map, Option, Some, sym, ap, ◌∙◌}
-use Rattle.std.specs.Prelude.{option_map}
+use Rattle.std.proofs.Common.{◌≡◌, List, [], ◌∷◌, ◌++◌, map, Option, sym, ap, ◌∙◌}
 use Rattle.std.specs.List.{cons_option}
 use Rattle.bl_tree.specs.declared.place.Place.{Place}
 use Rattle.bl_tree.specs.declared.tree.Arm.{Arm}
-use Rattle.bl_tree.specs.declared.tree.Branch.{Branch, roll-Branch}
+use Rattle.bl_tree.specs.declared.tree.Branch.{Branch}
 use Rattle.bl_tree.specs.declared.tree.Guard.{Guard}
 use Rattle.bl_tree.specs.declared.tree.Stmt.{Stmt}
 use Rattle.bl_tree.specs.declared.tree.StmtKind.{StmtKind}
@@ -13,37 +12,16 @@ use Rattle.bl_names_tree.specs.declared.expr.NamedExpr.{NamedExpr}
 use Rattle.bl_names_tree.specs.declared.item.NamedConstant.{NamedConstant}
 use Rattle.bl_names_tree.specs.declared.item.NamedVar.{NamedVar}
 use Rattle.bl_names_tree.specs.declared.stmt.NamedArm.{NamedArm, fold_out-NamedArm, out-NamedArm}
-use Rattle.bl_names_tree.specs.declared.stmt.NamedBranch.{NamedBranch, fold_out-NamedBranch, out-NamedBranch}
-use Rattle.bl_names_tree.specs.declared.stmt.NamedStmt.{NamedStmt, fold_out-NamedStmt, out-NamedStmt}
+use Rattle.bl_names_tree.specs.declared.stmt.NamedBranch.{NamedBranch}
+use Rattle.bl_names_tree.specs.declared.stmt.NamedStmt.{NamedStmt, out-NamedStmt}
 use Rattle.bl_names_tree.specs.declared.stmt.NamedStmtKind.{NamedStmtKind, fold-NamedStmtKind, fold_out-NamedStmtKind, map-NamedStmtKind, out-NamedStmtKind}
 use Rattle.bl_names_tree.specs.declared.stmt.NamedStmtKind.TheOpen.{NamedStmtKind-F}
 use Rattle.bl_names_tree.specs.declared.stmt.NamedStmtKind.TheVariants.{If, Until, When, While, outs-If, outs-Until, outs-When, outs-While}
 use Rattle.bl_types.specs.declared.environment.Environment.{Environment}
 use Rattle.bl_types.specs.declared.environment.State.{State}
 use Rattle.bl_types.specs.inner.States.{passed}
-use Rattle.bl_types.specs.Statements.{
-  Block,
-  StatementJudgement,
-  Walked,
-  arm_of,
-  arm_walked,
-  branch_walked,
-  choice,
-  condition,
-  in_order,
-  kind_walked,
-  misplaced,
-  stmt_made,
-  under,
-  until,
-  walked,
-  walked_arm,
-  walked_block,
-  walked_branch,
-  walked_kind,
-  walked_layer,
-  walked_stmt,
-}
+use Rattle.bl_types.specs.Statements.{StatementJudgement, Walked, arm_of, arm_walked, branch_walked, choice, condition, in_order, kind_walked, misplaced}
+use Rattle.bl_types.specs.Statements.{under, until, walked_arm, walked_block, walked_branch, walked_kind, walked_layer, walked_stmt}
 use Rattle.bl_types.proofs.GatherLemmas.{kept_one}
 use Rattle.bl_types.proofs.StateLemmas.{passed-passed}
 
@@ -89,28 +67,12 @@ module _ (constants : List NamedConstant) (vars : List NamedVar) where
       (walked_kind constants vars) walked_arm walked_branch walked_layer (out-NamedStmt s).what)
       ∙ ap (λ layer. walked_kind constants vars (parts layer) (out-NamedStmt s).place env) is
 
-  pub stmt_is : (s : NamedStmt) (env : Environment)
-      → walked_stmt constants vars s env ≡ walked (kind_walked constants vars s env).env
-      (option_map (stmt_made (out-NamedStmt s).place) (kind_walked constants vars s env).made) (kind_walked constants vars s env).failures
-  stmt_is s env = ap (λ f. f env) (fold_out-NamedStmt (Place → StatementJudgement StmtKind) (StatementJudgement Arm) (StatementJudgement Branch) (StatementJudgement Stmt)
-      (walked_kind constants vars) walked_arm walked_branch walked_layer s)
-
   pub arm_is : (arm : NamedArm) (body : List NamedStmt) (env : Environment) → body ≡ (out-NamedArm arm).body
       → arm_walked constants vars arm env ≡ under [] (condition env (out-NamedArm arm).test) (walked_block constants vars body env) arm_of
   arm_is arm body env same =
       ap (λ f. f env) (fold_out-NamedArm (Place → StatementJudgement StmtKind) (StatementJudgement Arm) (StatementJudgement Branch) (StatementJudgement Stmt)
       (walked_kind constants vars) walked_arm walked_branch walked_layer arm)
       ∙ ap (λ body. under [] (condition env (out-NamedArm arm).test) (walked_block constants vars body env) arm_of) (sym same)
-
-  abbrev of_branch : NamedBranch → Block Stmt → Walked Branch
-  of_branch branch body = walked body.env (Some (roll-Branch (record { weak = (out-NamedBranch branch).weak; body = body.made }))) body.failures
-
-  pub branch_is : (branch : NamedBranch) (body : List NamedStmt) (env : Environment) → body ≡ (out-NamedBranch branch).body
-      → branch_walked constants vars branch env ≡ of_branch branch (walked_block constants vars body env)
-  branch_is branch body env same =
-      ap (λ f. f env) (fold_out-NamedBranch (Place → StatementJudgement StmtKind) (StatementJudgement Arm) (StatementJudgement Branch) (StatementJudgement Stmt)
-      (walked_kind constants vars) walked_arm walked_branch walked_layer branch)
-      ∙ ap (λ body. of_branch branch (walked_block constants vars body env)) (sym same)
 
   abbrev of_choice : List NamedArm → List NamedStmt → Environment → Walked StmtKind
   of_choice arms other env = choice (in_order (map (arm_walked constants vars) arms) env)

@@ -1,34 +1,6 @@
 -- Expressions and targets with their types, and what fails in them.
-use Rattle.std.specs.Prelude.{
-  ℕ,
-  ℤ,
-  pos,
-  neg_ℤ,
-  ◌+◌,
-  min,
-  ◌^◌,
-  Bool,
-  true,
-  false,
-  ◌&&◌,
-  nat_eq,
-  is_some,
-  List,
-  [],
-  ◌∷◌,
-  ◌++◌,
-  map,
-  length,
-  slice_get,
-  bytes_eq,
-  filter_map,
-  Option,
-  Some,
-  None,
-  option_map,
-  option_and_then,
-  if◌then◌else◌,
-}
+use Rattle.std.specs.Prelude.{ℕ, ℤ, pos, neg_ℤ, ◌+◌, min, ◌^◌, Bool, true, false, ◌&&◌, nat_eq, is_some, List, [], ◌∷◌, ◌++◌, map, length, slice_get, bytes_eq}
+use Rattle.std.specs.Prelude.{filter_map, Option, Some, None, option_map, option_and_then, if◌then◌else◌}
 use Rattle.std.specs.List.{cons_option}
 use Rattle.bl_tree.specs.declared.place.Place.{Place}
 use Rattle.bl_tree.specs.declared.rule.Failure.{Failure}
@@ -69,23 +41,8 @@ use Rattle.bl_types.specs.declared.form.Form.TheVariants.{Failing, Open, Of}
 use Rattle.bl_types.specs.declared.form.Found.{Found}
 use Rattle.bl_types.specs.declared.form.Found.TheVariants as found
 use Rattle.bl_types.specs.Failures.{fails_at, unless}
-use Rattle.bl_types.specs.Settled.{
-  Settled,
-  behind,
-  given,
-  int32,
-  is_logical,
-  keeps_one_open,
-  keeps_two_open,
-  kept,
-  literal,
-  nothing,
-  one,
-  settled,
-  settled_if,
-  two,
-  unfit,
-}
+use Rattle.bl_types.specs.Settled.{Settled, behind, given, int32, is_logical, keeps_one_open, keeps_two_open, kept, literal, nothing, one, settled, settled_if}
+use Rattle.bl_types.specs.Settled.{two, unfit}
 
 -- what is known of an expression by itself, and what fails in it
 pub record Judged : Type 0 where

@@ -31,10 +31,6 @@ IsCause named = rules.IsCause (Fails named)
 abbrev pub FailsBehind : Bool → Environment → Named → Rule → Place → List Place → Type 0
 FailsBehind last env named = rules.FailsAmong (failures_behind last env named)
 
--- the rule is the first that fails behind a start, at its first places
-abbrev pub FailsFirstBehind : Bool → Environment → Named → Rule → Place → List Place → Type 0
-FailsFirstBehind last env named = rules.FailsFirst (FailsBehind last env named)
-
 -- none of the rules from Type to Entry fails behind a start
 abbrev pub PassesBehind : Bool → Environment → Named → Type 0
 PassesBehind last env named = rules.Passes (FailsBehind last env named)

@@ -1,26 +1,6 @@
 -- Statements with their types, and what fails in them.
-use Rattle.std.specs.Prelude.{
-  ℕ,
-  Bool,
-  ◌&&◌,
-  nat_eq,
-  is_none,
-  is_some,
-  List,
-  [],
-  ◌∷◌,
-  ◌++◌,
-  map,
-  length,
-  slice_get,
-  filter_map,
-  Option,
-  Some,
-  None,
-  option_map,
-  option_and_then,
-  if◌then◌else◌,
-}
+use Rattle.std.specs.Prelude.{ℕ, Bool, ◌&&◌, nat_eq, is_none, is_some, List, [], ◌∷◌, ◌++◌, map, length, slice_get, filter_map, Option, Some, None, option_map}
+use Rattle.std.specs.Prelude.{option_and_then, if◌then◌else◌}
 use Rattle.bl_tree.specs.declared.place.Place.{Place}
 use Rattle.bl_tree.specs.declared.rule.Failure.{Failure}
 use Rattle.bl_tree.specs.declared.rule.Further.TheVariants.{One}
@@ -58,25 +38,8 @@ use Rattle.bl_types.specs.declared.environment.Variable.{Variable}
 use Rattle.bl_types.specs.declared.form.Found.{Found}
 use Rattle.bl_types.specs.declared.form.Found.TheVariants as found
 use Rattle.bl_types.specs.Declarations.{Declaring, Initial, after_constant, after_variable, initial, unchanged, with_variable}
-use Rattle.bl_types.specs.Expressions.{
-  Led,
-  Targeted,
-  all_failures,
-  all_made,
-  but_first,
-  first_type,
-  fitted,
-  in_context,
-  judged,
-  miscounted,
-  params_of,
-  path_found,
-  stepped,
-  targeted,
-  to_field,
-  type_of_variable,
-  with_made,
-}
+use Rattle.bl_types.specs.Expressions.{Led, Targeted, all_failures, all_made, but_first, first_type, fitted, in_context, judged, miscounted, params_of}
+use Rattle.bl_types.specs.Expressions.{path_found, stepped, targeted, to_field, type_of_variable, with_made}
 use Rattle.bl_types.specs.Failures.{fails_at, unless}
 use Rattle.bl_types.specs.Settled.{Settled}
 

@@ -1,23 +1,5 @@
 -- Types as they are written, and the lengths in them.
-use Rattle.std.specs.Prelude.{
-  ℕ,
-  ℤ,
-  pos,
-  negsuc,
-  Bool,
-  false,
-  ◌&&◌,
-  nat_le,
-  List,
-  [],
-  ◌++◌,
-  slice_get,
-  Option,
-  Some,
-  None,
-  option_and_then,
-  if◌then◌else◌,
-}
+use Rattle.std.specs.Prelude.{ℕ, ℤ, pos, negsuc, Bool, false, ◌&&◌, nat_le, List, [], ◌++◌, slice_get, Option, Some, None, option_and_then, if◌then◌else◌}
 use Rattle.bl_tree.specs.declared.place.Place.{Place}
 use Rattle.bl_tree.specs.declared.rule.Failure.{Failure}
 use Rattle.bl_tree.specs.declared.rule.Rule.TheVariants as rule

@@ -4,6 +4,8 @@ use Rattle.std.specs.Prelude.{All, Bool, true, false, ◌&&◌, option_map, slic
 use Rattle.std.specs.List.{list_all}
 use Rattle.std.proofs.lemmas.List.Elements.{All-cons, All-head, All-nil, All-tail}
 use Rattle.std.proofs.lemmas.Option.{same_Some}
+use Rattle.std.proofs.lemmas.Bool.{and_from}
+use Rattle.bl_tree.proofs.Basics.{all_of_each, and_first, and_second, false_not_true, first_empty, second_empty}
 use Rattle.bl_tree.specs.declared.place.Place.{Place}
 use Rattle.bl_tree.specs.declared.rule.Failure.{Failure}
 use Rattle.bl_tree.specs.declared.scalar.Scalar.TheVariants.{Bool as OfBool}
@@ -19,7 +21,6 @@ use Rattle.bl_tree.specs.Reduce.{all_of}
 use Rattle.bl_tree.specs.Types.{scalar}
 use Rattle.bl_tree.specs.Typing.{TypingContext, declaration_fits, fits, is_activity, is_inhabited, is_truth, type_of, var_at}
 use Rattle.bl_eval.proofs.OperatorFits.{some_found, where_holds}
-use Rattle.bl_eval.proofs.PassLemmas.{and_left, and_right, both}
 use Rattle.bl_names_tree.specs.declared.expr.NamedExpr.{NamedExpr}
 use Rattle.bl_names_tree.specs.declared.item.NamedConstant.{NamedConstant}
 use Rattle.bl_names_tree.specs.declared.item.NamedVar.{NamedVar}
@@ -32,74 +33,32 @@ use Rattle.bl_names_tree.specs.Placed.{DeclaredBefore, PlacedStep, expr_placed, 
 use Rattle.bl_names_tree.specs.inner.Placed.{step_of_arm, step_of_branch}
 use Rattle.bl_types.specs.declared.environment.Environment.{Environment}
 use Rattle.bl_types.specs.Settled.{Settled}
-use Rattle.bl_types.specs.Statements.{
-  Block,
-  StatementJudgement,
-  Walked,
-  arm_of,
-  arm_walked,
-  branch_walked,
-  condition,
-  in_order,
-  misplaced,
-  stmt_made,
-  under,
-  walked,
-  walked_arm,
-  walked_block,
-  walked_branch,
-  walked_stmt,
-}
+use Rattle.bl_types.specs.Statements.{Block, StatementJudgement, Walked, arm_of, arm_walked, branch_walked, condition, in_order, misplaced, stmt_made, under}
+use Rattle.bl_types.specs.Statements.{walked, walked_arm, walked_block, walked_branch, walked_stmt}
 use Rattle.bl_types_laws.specs.Fitting.{IsMade}
-use Rattle.bl_types_laws.specs.Standing.{
-  Around,
-  BlockPassed,
-  Known,
-  PartPassed,
-  VariablesThere,
-  arm_named,
-  branch_named,
-  kind_named,
-  stmt_layer_named,
-  stmt_named,
-}
+use Rattle.bl_types_laws.specs.Standing.{Around, BlockPassed, Known, PartPassed, VariablesThere, arm_named, branch_named, kind_named, stmt_layer_named}
+use Rattle.bl_types_laws.specs.Standing.{stmt_named}
 use Rattle.bl_types_laws.specs.Within.{calls_functions, known_in}
 use Rattle.bl_types_laws.specs.inner.Named.{named_arm, named_branch}
 use Rattle.bl_types_laws.proofs.Arguments.{condition_fits}
 use Rattle.bl_types_laws.proofs.Declared.{constant_walk_fits, declare_fits}
-use Rattle.bl_types_laws.proofs.Forms.{map_found, nil_left, nil_right}
+use Rattle.bl_types_laws.proofs.Forms.{map_found}
 use Rattle.bl_types_laws.proofs.MorePlaced.{placed_still}
 use Rattle.bl_types_laws.proofs.NamedStmtInduction.{Cases, induct, induct_arm, stmt}
-use Rattle.bl_types_laws.proofs.Statements.{
-  arm_is,
-  assign_fits,
-  await_fits,
-  call_fit,
-  fits_is,
-  good_arm,
-  good_branch,
-  own_kind,
-  return_walk_fits,
-  run_fit,
-  truth_made,
-}
+use Rattle.bl_types_laws.proofs.Statements.{arm_is, assign_fits, await_fits, call_fit, fits_is, good_arm, good_branch, own_kind, return_walk_fits, run_fit}
+use Rattle.bl_types_laws.proofs.Statements.{truth_made}
 use Rattle.bl_types_laws.proofs.StmtLayers.{Layer, step_by, step_is, walked_by, walked_is}
-use Rattle.bl_types_laws.proofs.Walks.{own_calls, WalkFits, block_fits, grown_around, grown_further, grown_there, not_must, within_of}
+use Rattle.bl_types_laws.proofs.Walks.{own_calls, WalkFits, block_fits, grown_around, grown_further, grown_there, within_of}
 
 -- what holds of each that passes a test, where all pass
-each_walk : {X : Type 0} (named : X → Bool) (W : X → Type 0) (xs : List X) → All (λ x. named x ≡ true → W x) xs →
+pub each_walk : {X : Type 0} (named : X → Bool) (W : X → Type 0) (xs : List X) → All (λ x. named x ≡ true → W x) xs →
     all_of (map named xs) ≡ true → All W xs
 each_walk named W [] each all = All-nil W
 each_walk named W (x ∷ xs) each all =
-    All-cons W x xs (All-head (λ x. named x ≡ true → W x) x xs each (and_left (named x) (all_of (map named xs)) all))
-    (each_walk named W xs (All-tail (λ x. named x ≡ true → W x) x xs each) (and_right (named x) (all_of (map named xs)) all))
+    All-cons W x xs (All-head (λ x. named x ≡ true → W x) x xs each (and_first (named x) (all_of (map named xs)) all))
+    (each_walk named W xs (All-tail (λ x. named x ≡ true → W x) x xs each) (and_second (named x) (all_of (map named xs)) all))
 
-pub all_mapped : {X : Type 0} (named : X → Bool) (xs : List X) → list_all named xs ≡ true → all_of (map named xs) ≡ true
-all_mapped named [] all = refl
-all_mapped named (x ∷ xs) all = both (named x) (all_of (map named xs)) (and_left (named x) (list_all named xs) all)
-    (all_mapped named xs (and_right (named x) (list_all named xs) all))
-
-inhabited_mapped : {X Y : Type 0} (f : X → Y) (xs : List X) → is_inhabited (map f xs) ≡ is_inhabited xs
+pub inhabited_mapped : {X Y : Type 0} (f : X → Y) (xs : List X) → is_inhabited (map f xs) ≡ is_inhabited xs
 inhabited_mapped f [] = refl
 inhabited_mapped f (x ∷ xs) = refl
 
@@ -112,7 +71,7 @@ may_be_made site good env counts after passed = record {
   known = passed.known;
   counts_are = passed.counts_are;
   is_good = passed.is_good;
-  is_made = λ must there. absurd (not_must must);
+  is_made = λ must there. absurd (false_not_true must);
 }
 
 -- a block of which something is made
@@ -164,12 +123,12 @@ module _ (constants : List NamedConstant) (vars : List NamedVar) (site : TypingC
       let test : Settled = condition env e in
       let all : Block Stmt = in_order (map (walked_stmt constants vars) body) env in
       let holds = where_holds (expr_placed (known_in env) e) (in_turn (map (stmt_step vars constants) body) (known_in env)) counts step in
-      let behind : test.failures ++ all.failures ≡ [] = nil_right earlier (test.failures ++ all.failures) none in
-      let passed = body_fits body each named env around known counts holds.1 (nil_right test.failures all.failures behind) in
+      let behind : test.failures ++ all.failures ≡ [] = second_empty earlier (test.failures ++ all.failures) none in
+      let passed = body_fits body each named env around known counts holds.1 (second_empty test.failures all.failures behind) in
       let tests : VariablesThere all.env site → IsMade site (scalar OfBool) test.made =
       λ there. condition_fits env site (within_of env site around known (grown_there env all.env site passed.grown there)) e holds.0
       (own_calls env site around e calls)
-      (nil_left test.failures all.failures behind) in
+      (first_empty test.failures all.failures behind) in
       record {
         grown = passed.grown;
         known = passed.known;
@@ -203,7 +162,7 @@ module _ (constants : List NamedConstant) (vars : List NamedVar) (site : TypingC
     is_good = λ there a is.
         let found = map_found (stmt_made place) kind.made a is in
         subst (λ a. fits site a ≡ true) found.2 (passed.is_good there found.0 found.1);
-    is_made = λ must there. absurd (not_must must);
+    is_made = λ must there. absurd (false_not_true must);
   }
 
   by_kind : (place : Place) (layer : Layer) → (named_by layer ≡ true → WalkFits false site (good place) (walked_by constants vars layer place)
@@ -221,15 +180,15 @@ module _ (constants : List NamedConstant) (vars : List NamedVar) (site : TypingC
       all_of (map (fits site) other) ≡ true → good place (what.If arms other) ≡ true
   if_good place arms other some each rest =
       fits_is site place (what.If arms other) (StmtKind-F.If arms other) (what.outs-If arms other)
-      ∙ both (is_inhabited (map (good_arm site) arms)) _ (inhabited_mapped (good_arm site) arms ∙ some)
-      (both (all_of (map (good_arm site) arms)) (all_of (map (fits site) other)) each rest)
+      ∙ and_from (is_inhabited (map (good_arm site) arms)) _ (inhabited_mapped (good_arm site) arms ∙ some)
+      (and_from (all_of (map (good_arm site) arms)) (all_of (map (fits site) other)) each rest)
 
   if_fits : (place : Place) (arms : List NamedArm) (other : List NamedStmt) → All Q arms → All P other → P (stmt place (NamedStmtKind-F.If arms other))
   if_fits place arms other each rest = by_kind place (NamedStmtKind-F.If arms other)
       (λ named env around known counts step none.
       let some : is_inhabited (map (named_arm constants vars site.earlier) arms) ≡ true =
-      and_left (is_inhabited (map (named_arm constants vars site.earlier) arms)) _ named in
-      let parts = and_right (is_inhabited (map (named_arm constants vars site.earlier) arms))
+      and_first (is_inhabited (map (named_arm constants vars site.earlier) arms)) _ named in
+      let parts = and_second (is_inhabited (map (named_arm constants vars site.earlier) arms))
       (all_of (map (named_arm constants vars site.earlier) arms) && all_of (map (stmt_named constants vars site.earlier) other)) named in
       let all : Block Arm = in_order (map (arm_walked constants vars) arms) env in
       let last : Block Stmt = in_order (map (walked_stmt constants vars) other) all.env in
@@ -237,12 +196,12 @@ module _ (constants : List NamedConstant) (vars : List NamedVar) (site : TypingC
       let first = block_fits true site (good_arm site) (arm_walked constants vars) (step_of_arm vars constants) arms
       (each_walk (named_arm constants vars site.earlier) (λ arm. WalkFits true site (good_arm site) (arm_walked constants vars arm)
       (step_of_arm vars constants arm)) arms each
-      (and_left (all_of (map (named_arm constants vars site.earlier) arms)) (all_of (map (stmt_named constants vars site.earlier) other)) parts))
-      env around known found.0 found.1 (nil_left all.failures last.failures none) in
-      let second = body_fits other rest (and_right (all_of (map (named_arm constants vars site.earlier) arms))
+      (and_first (all_of (map (named_arm constants vars site.earlier) arms)) (all_of (map (stmt_named constants vars site.earlier) other)) parts))
+      env around known found.0 found.1 (first_empty all.failures last.failures none) in
+      let second = body_fits other rest (and_second (all_of (map (named_arm constants vars site.earlier) arms))
       (all_of (map (stmt_named constants vars site.earlier) other)) parts) all.env
       (grown_around env all.env site first.grown around) first.known counts (ap (in_turn (map (stmt_step vars constants) other)) first.counts_are ∙ found.2)
-      (nil_right all.failures last.failures none) in
+      (second_empty all.failures last.failures none) in
       record {
         grown = grown_further env all.env last.env first.grown second.grown;
         known = second.known;
@@ -252,37 +211,37 @@ module _ (constants : List NamedConstant) (vars : List NamedVar) (site : TypingC
             subst (λ a. good place a ≡ true) (same_Some (what.If all.made last.made) a is)
             (if_good place all.made last.made (first.is_inhabited_still (sym (inhabited_mapped (named_arm constants vars site.earlier) arms) ∙ some) before)
             (first.is_good before) (second.is_good there));
-        is_made = λ must there. absurd (not_must must);
+        is_made = λ must there. absurd (false_not_true must);
       })
 
   cobegin_good : (place : Place) (branches : List Branch) → is_activity site.kind ≡ true → is_inhabited branches ≡ true →
       all_of (map (good_branch site) branches) ≡ true → good place (what.Cobegin branches) ≡ true
   cobegin_good place branches own some each =
       fits_is site place (what.Cobegin branches) (StmtKind-F.Cobegin branches) (what.outs-Cobegin branches)
-      ∙ both (is_activity site.kind) _ own (both (is_inhabited (map (good_branch site) branches)) (all_of (map (good_branch site) branches))
+      ∙ and_from (is_activity site.kind) _ own (and_from (is_inhabited (map (good_branch site) branches)) (all_of (map (good_branch site) branches))
       (inhabited_mapped (good_branch site) branches ∙ some) each)
 
   cobegin_fits : (place : Place) (branches : List NamedBranch) → All R branches → P (stmt place (NamedStmtKind-F.Cobegin branches))
   cobegin_fits place branches each = by_kind place (NamedStmtKind-F.Cobegin branches)
       (λ named env around known counts step none.
       let all : Block Branch = in_order (map (branch_walked constants vars) branches) env in
-      let some = and_left (is_inhabited (map (named_branch constants vars site.earlier) branches))
+      let some = and_first (is_inhabited (map (named_branch constants vars site.earlier) branches))
       (all_of (map (named_branch constants vars site.earlier) branches)) named in
       let passed = block_fits true site (good_branch site) (branch_walked constants vars) (step_of_branch vars constants) branches
       (each_walk (named_branch constants vars site.earlier) (λ branch. WalkFits true site (good_branch site) (branch_walked constants vars branch)
       (step_of_branch vars constants branch)) branches each
-      (and_right (is_inhabited (map (named_branch constants vars site.earlier) branches)) (all_of (map (named_branch constants vars site.earlier) branches))
+      (and_second (is_inhabited (map (named_branch constants vars site.earlier) branches)) (all_of (map (named_branch constants vars site.earlier) branches))
       named))
-      env around known counts step (nil_right (misplaced env.kind place) all.failures none) in
+      env around known counts step (second_empty (misplaced env.kind place) all.failures none) in
       record {
         grown = passed.grown;
         known = passed.known;
         counts_are = passed.counts_are;
         is_good = λ there a is.
             subst (λ a. good place a ≡ true) (same_Some (what.Cobegin all.made) a is)
-            (cobegin_good place all.made (own_kind site place env around (nil_left (misplaced env.kind place) all.failures none))
+            (cobegin_good place all.made (own_kind site place env around (first_empty (misplaced env.kind place) all.failures none))
             (passed.is_inhabited_still (sym (inhabited_mapped (named_branch constants vars site.earlier) branches) ∙ some) there) (passed.is_good there));
-        is_made = λ must there. absurd (not_must must);
+        is_made = λ must there. absurd (false_not_true must);
       })
 
   when_fits : (place : Place) (guard : Guard) (e : NamedExpr) (body : List NamedStmt) → All P body → P (stmt place (NamedStmtKind-F.When guard e body))
@@ -291,13 +250,13 @@ module _ (constants : List NamedConstant) (vars : List NamedVar) (site : TypingC
       may_be_made site (good place) env counts (under (misplaced env.kind place) (condition env e) (in_order (map (walked_stmt constants vars) body) env)
       (what.When guard))
       (under_passed (good place) (misplaced env.kind place) e body (what.When guard) each
-      (and_right (calls_functions site.earlier e) (all_of (map (stmt_named constants vars site.earlier) body)) named)
-      (and_left (calls_functions site.earlier e) (all_of (map (stmt_named constants vars site.earlier) body)) named)
+      (and_second (calls_functions site.earlier e) (all_of (map (stmt_named constants vars site.earlier) body)) named)
+      (and_first (calls_functions site.earlier e) (all_of (map (stmt_named constants vars site.earlier) body)) named)
       env around known counts step
       (λ test made truth all.
       fits_is site place (what.When guard test made) (StmtKind-F.When guard test made) (what.outs-When guard test made)
-      ∙ both (is_activity site.kind) _ (own_kind site place env around (nil_left (misplaced env.kind place) _ none))
-      (both (is_truth (type_of site test)) (all_of (map (fits site) made)) truth all))
+      ∙ and_from (is_activity site.kind) _ (own_kind site place env around (first_empty (misplaced env.kind place) _ none))
+      (and_from (is_truth (type_of site test)) (all_of (map (fits site) made)) truth all))
       none))
 
   repeat_fits : (place : Place) (body : List NamedStmt) → All P body → P (stmt place (NamedStmtKind-F.Repeat body))
@@ -312,7 +271,7 @@ module _ (constants : List NamedConstant) (vars : List NamedVar) (site : TypingC
       good place (what.Until body test) ≡ true
   until_good place body test all truth =
       fits_is site place (what.Until body test) (StmtKind-F.Until body test) (what.outs-Until body test)
-      ∙ both (all_of (map (fits site) body)) (is_truth (type_of site test)) all truth
+      ∙ and_from (all_of (map (fits site) body)) (is_truth (type_of site test)) all truth
 
   until_fits : (place : Place) (body : List NamedStmt) (e : NamedExpr) → All P body → P (stmt place (NamedStmtKind-F.Until body e))
   until_fits place body e each = by_kind place (NamedStmtKind-F.Until body e)
@@ -320,8 +279,8 @@ module _ (constants : List NamedConstant) (vars : List NamedVar) (site : TypingC
       let all : Block Stmt = in_order (map (walked_stmt constants vars) body) env in
       let test : Settled = condition all.env e in
       let holds = where_holds (expr_placed (known_in env) e) (in_turn (map (stmt_step vars constants) body) (known_in env)) counts step in
-      let passed = body_fits body each (and_left (all_of (map (stmt_named constants vars site.earlier) body)) (calls_functions site.earlier e) named) env around
-      known counts holds.1 (nil_left all.failures test.failures none) in
+      let passed = body_fits body each (and_first (all_of (map (stmt_named constants vars site.earlier) body)) (calls_functions site.earlier e) named) env around
+      known counts holds.1 (first_empty all.failures test.failures none) in
       let after : Around all.env site = grown_around env all.env site passed.grown around in
       record {
         grown = passed.grown;
@@ -330,11 +289,11 @@ module _ (constants : List NamedConstant) (vars : List NamedVar) (site : TypingC
         is_good = λ there a is.
             let found = map_found (λ e. what.Until all.made e) test.made a is in
             let made = condition_fits all.env site (within_of all.env site after passed.known there) e (placed_still env all.env passed.grown e holds.0)
-            (own_calls all.env site after e (and_right (all_of (map (stmt_named constants vars site.earlier) body)) (calls_functions site.earlier e) named))
-            (nil_right all.failures test.failures none) in
+            (own_calls all.env site after e (and_second (all_of (map (stmt_named constants vars site.earlier) body)) (calls_functions site.earlier e) named))
+            (second_empty all.failures test.failures none) in
             subst (λ a. good place a ≡ true) found.2 (until_good place all.made found.0 (passed.is_good there)
             (truth_made site test.made found.0 made found.1));
-        is_made = λ must there. absurd (not_must must);
+        is_made = λ must there. absurd (false_not_true must);
       })
 
   while_fits : (place : Place) (e : NamedExpr) (body : List NamedStmt) → All P body → P (stmt place (NamedStmtKind-F.While e body))
@@ -342,12 +301,12 @@ module _ (constants : List NamedConstant) (vars : List NamedVar) (site : TypingC
       (λ named env around known counts step none.
       may_be_made site (good place) env counts (under [] (condition env e) (in_order (map (walked_stmt constants vars) body) env) what.While)
       (under_passed (good place) [] e body what.While each
-      (and_right (calls_functions site.earlier e) (all_of (map (stmt_named constants vars site.earlier) body)) named)
-      (and_left (calls_functions site.earlier e) (all_of (map (stmt_named constants vars site.earlier) body)) named)
+      (and_second (calls_functions site.earlier e) (all_of (map (stmt_named constants vars site.earlier) body)) named)
+      (and_first (calls_functions site.earlier e) (all_of (map (stmt_named constants vars site.earlier) body)) named)
       env around known counts step
       (λ test made truth all.
       fits_is site place (what.While test made) (StmtKind-F.While test made) (what.outs-While test made)
-      ∙ both (is_truth (type_of site test)) (all_of (map (fits site) made)) truth all)
+      ∙ and_from (is_truth (type_of site test)) (all_of (map (fits site) made)) truth all)
       none))
 
   -- ---- arms and branches
@@ -363,10 +322,10 @@ module _ (constants : List NamedConstant) (vars : List NamedVar) (site : TypingC
       let named' : (calls_functions site.earlier test && all_of (map (stmt_named constants vars site.earlier) body)) ≡ true = sym named_as ∙ named in
       subst (λ (walk : StatementJudgement Arm). PartPassed true site (good_arm site) env counts (walk env)) (sym walked_as)
       (under_passed (good_arm site) [] test body arm_of each
-      (and_right (calls_functions site.earlier test) (all_of (map (stmt_named constants vars site.earlier) body)) named')
-      (and_left (calls_functions site.earlier test) (all_of (map (stmt_named constants vars site.earlier) body)) named')
+      (and_second (calls_functions site.earlier test) (all_of (map (stmt_named constants vars site.earlier) body)) named')
+      (and_first (calls_functions site.earlier test) (all_of (map (stmt_named constants vars site.earlier) body)) named')
       env around known counts (ap (λ (step : PlacedStep). step (known_in env)) (sym step_as) ∙ step)
-      (λ test made truth all. arm_is site test made ∙ both (is_truth (type_of site test)) (all_of (map (fits site) made)) truth all)
+      (λ test made truth all. arm_is site test made ∙ and_from (is_truth (type_of site test)) (all_of (map (fits site) made)) truth all)
       (ap (λ (walk : StatementJudgement Arm). (walk env).failures) (sym walked_as) ∙ none))
 
   branch_case : (weak : Bool) (body : List NamedStmt) → All P body → R (roll-NamedBranch (record { weak = weak; body = body }))
@@ -426,8 +385,8 @@ module _ (constants : List NamedConstant) (vars : List NamedVar) (site : TypingC
   each_arm [] named = All-nil (λ arm. WalkFits true site (good_arm site) (arm_walked constants vars arm) (step_of_arm vars constants arm))
   each_arm (arm ∷ rest) named =
       All-cons (λ arm. WalkFits true site (good_arm site) (arm_walked constants vars arm) (step_of_arm vars constants arm)) arm rest
-      (arm_fits_there arm (and_left (named_arm constants vars site.earlier arm) (all_of (map (named_arm constants vars site.earlier) rest)) named))
-      (each_arm rest (and_right (named_arm constants vars site.earlier arm) (all_of (map (named_arm constants vars site.earlier) rest)) named))
+      (arm_fits_there arm (and_first (named_arm constants vars site.earlier arm) (all_of (map (named_arm constants vars site.earlier) rest)) named))
+      (each_arm rest (and_second (named_arm constants vars site.earlier arm) (all_of (map (named_arm constants vars site.earlier) rest)) named))
 
   pub arms_fit : (arms : List NamedArm) → all_of (map (named_arm constants vars site.earlier) arms) ≡ true → (env : Environment) →
       Around env site → Known env →
@@ -447,4 +406,4 @@ module _ (constants : List NamedConstant) (vars : List NamedVar) (site : TypingC
       Known env → (counts : DeclaredBefore) →
       in_turn (map (stmt_step vars constants) body) (known_in env) ≡ Some counts → (walked_block constants vars body env).failures ≡ [] →
       BlockPassed site (fits site) false env counts (walked_block constants vars body env)
-  statements_fit body named = body_fits body (each_fits body) (all_mapped (stmt_named constants vars site.earlier) body named)
+  statements_fit body named = body_fits body (each_fits body) (all_of_each (stmt_named constants vars site.earlier) body named)

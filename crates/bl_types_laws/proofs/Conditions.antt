@@ -31,61 +31,12 @@ use Rattle.bl_types.specs.declared.form.Form.{Form}
 use Rattle.bl_types.specs.declared.form.Form.TheVariants.{Failing, Open, Of}
 use Rattle.bl_types.specs.declared.form.Found.{Found}
 use Rattle.bl_types.specs.declared.form.Found.TheVariants as found
-use Rattle.bl_types.specs.Expressions.{
-  Formed,
-  Judged,
-  Stepped,
-  Targeted,
-  all_made,
-  beside,
-  beside_none,
-  call_form,
-  cast,
-  cast_formed,
-  cast_made,
-  fails_type,
-  fitted,
-  formed_as,
-  in_context,
-  judged,
-  judged_kind,
-  judged_layer,
-  judged_part,
-  judged_target,
-  one_formed,
-  operands_made,
-  params_of,
-  previous_formed,
-  previous_typed,
-  reading,
-  settled_two,
-  step_of,
-  targeted,
-  two_formed,
-  type_of_two,
-  wanted_as,
-  written_number,
-}
-use Rattle.bl_types.specs.Settled.{
-  Settled,
-  given,
-  given_scalar,
-  int32,
-  keeps_one_open,
-  keeps_two_open,
-  kept,
-  one,
-  one_made,
-  settled,
-  settled_if,
-  settled_kind,
-  settled_layer,
-  settled_part,
-  settled_path,
-  two,
-  two_made,
-  unfit,
-}
+use Rattle.bl_types.specs.Expressions.{Formed, Judged, Stepped, Targeted, all_made, beside, beside_none, call_form, cast, cast_formed, cast_made, fails_type}
+use Rattle.bl_types.specs.Expressions.{fitted, formed_as, in_context, judged, judged_kind, judged_layer, judged_part, judged_target, one_formed, operands_made}
+use Rattle.bl_types.specs.Expressions.{params_of, previous_formed, previous_typed, reading, settled_two, step_of, targeted, two_formed, type_of_two, wanted_as}
+use Rattle.bl_types.specs.Expressions.{written_number}
+use Rattle.bl_types.specs.Settled.{Settled, given, given_scalar, int32, keeps_one_open, keeps_two_open, kept, one, one_made, settled, settled_if, settled_kind}
+use Rattle.bl_types.specs.Settled.{settled_layer, settled_part, settled_path, two, two_made, unfit}
 use Rattle.bl_types.specs.Statements.{condition}
 
 -- what is made stands at the place

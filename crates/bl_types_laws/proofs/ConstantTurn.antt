@@ -1,6 +1,6 @@
 -- What is made of the items behind a constant.
 use Rattle.std.proofs.Common.{◌≡◌, refl, true, List, [], ◌∷◌, length, map, take, sym, ap, ◌∙◌, append-nil}
-use Rattle.bl_eval.proofs.PassLemmas.{and_right}
+use Rattle.bl_tree.proofs.Basics.{and_second, first_empty, second_empty}
 use Rattle.bl_names_tree.specs.declared.item.Item.TheVariants as kind
 use Rattle.bl_names_tree.specs.declared.item.NamedConstant.{NamedConstant}
 use Rattle.bl_names_tree.specs.declared.item.NamedUnit.{NamedUnit}
@@ -19,7 +19,6 @@ use Rattle.bl_types.specs.declared.environment.Environment.{Environment}
 use Rattle.bl_types.specs.Declarations.{after_constant, constant_of, initial}
 use Rattle.bl_types.specs.Programs.{after_item, after_items}
 use Rattle.bl_types_laws.specs.Within.{calls_functions, known_in}
-use Rattle.bl_types_laws.proofs.Forms.{nil_left, nil_right}
 use Rattle.bl_types_laws.proofs.Items.{constant_between}
 use Rattle.bl_types_laws.proofs.Premises.{Suits}
 use Rattle.bl_types_laws.proofs.Ends.{ends_first, ends_next, ends_on, ends_take}
@@ -54,7 +53,7 @@ module _ (named : Named) (suits : Suits named) where
         (at.kinds ∙ ap (map (λ (unit : NamedUnit). unit.kind))
         (sym (ends_take named.units scopes.counts.units (along units_of behind_constant items) at.units))
         ∙ ap (λ n. map (λ (unit : NamedUnit). unit.kind) (take n named.units)) count)
-        (and_right (holds_if (type_placed (earlier scopes)) new_constant.ty) (expr_placed (earlier scopes) new_constant.value) placed_earlier)
+        (and_second (holds_if (type_placed (earlier scopes)) new_constant.ty) (expr_placed (earlier scopes) new_constant.value) placed_earlier)
 
     at_constant : (after_constant new_constant env).failures ≡ [] → At named behind_constant items (after_constant new_constant env).env
     at_constant none =
@@ -99,7 +98,7 @@ module _ (named : Named) (suits : Suits named) where
       let d = named_constant scopes def in
       first_taken named (item.Constant def) items scopes env (after_constant d env) (constant_chosen def items scopes env at)
       (λ none.
-      let first = nil_left (after_constant d env).failures (after_items named (order_of items) (after_constant d env).env).failures none in
+      let first = first_empty (after_constant d env).failures (after_items named (order_of items) (after_constant d env).env).failures none in
       constant_case def items scopes env at (after_items named (order_of items) (after_constant d env).env).env
       (rec (after scopes (constant_marks def)) (after_constant d env).env (at_constant def items scopes env at first) keep_structs keep_units
-      (nil_right (after_constant d env).failures (after_items named (order_of items) (after_constant d env).env).failures none)))
+      (second_empty (after_constant d env).failures (after_items named (order_of items) (after_constant d env).env).failures none)))

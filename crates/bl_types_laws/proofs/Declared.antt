@@ -4,6 +4,8 @@ use Rattle.std.specs.Prelude.{Bool, true, false, ◌&&◌, ◌||◌, is_some, na
 use Rattle.std.proofs.lemmas.Bool.{eqb-true}
 use Rattle.std.proofs.lemmas.List.{append-nil, length-append}
 use Rattle.std.proofs.lemmas.Option.{same_Some}
+use Rattle.std.proofs.lemmas.Bool.{and_from}
+use Rattle.bl_tree.proofs.Basics.{and_first, and_second, false_not_true}
 use Rattle.bl_tree.specs.declared.tree.Expr.{Expr}
 use Rattle.bl_tree.specs.declared.tree.StmtKind.{StmtKind}
 use Rattle.bl_tree.specs.declared.tree.StmtKind.TheVariants as what
@@ -11,21 +13,12 @@ use Rattle.bl_tree.specs.declared.tree.Ty.{Ty}
 use Rattle.bl_tree.specs.Types.{same_type, type_stands}
 use Rattle.bl_tree.specs.Typing.{TypingContext, are_same, declaration_fits, is_fixed, is_variable, type_of, var_at}
 use Rattle.bl_eval.proofs.OperatorFits.{where_holds}
-use Rattle.bl_eval.proofs.PassLemmas.{and_left, and_right, both, get_seam}
+use Rattle.bl_eval.proofs.PassLemmas.{get_seam}
 use Rattle.bl_names_tree.specs.declared.expr.NamedExpr.{NamedExpr}
 use Rattle.bl_names_tree.specs.declared.item.NamedConstant.{NamedConstant}
 use Rattle.bl_names_tree.specs.declared.item.NamedVar.{NamedVar}
-use Rattle.bl_names_tree.specs.Placed.{
-  DeclaredBefore,
-  constant_placed,
-  expr_placed,
-  holds_if,
-  holds_of,
-  type_placed,
-  var_placed,
-  with_constant as constant_counted,
-  with_variable as variable_counted,
-}
+use Rattle.bl_names_tree.specs.Placed.{DeclaredBefore, constant_placed, expr_placed, holds_if, holds_of, type_placed, var_placed}
+use Rattle.bl_names_tree.specs.Placed.{with_constant as constant_counted, with_variable as variable_counted}
 use Rattle.bl_types.specs.declared.environment.Constant.{Constant}
 use Rattle.bl_types.specs.declared.environment.Environment.{Environment}
 use Rattle.bl_types.specs.declared.environment.Variable.{Variable}
@@ -39,7 +32,7 @@ use Rattle.bl_types_laws.proofs.Forms.{map_found, same_type_self}
 use Rattle.bl_types_laws.proofs.Initials.{constant_fits, initial_fits}
 use Rattle.bl_types_laws.proofs.TypesStand.{typed_stands, vars_stand, written_stands}
 use Rattle.bl_names_tree.specs.declared.types.NamedType.{NamedType}
-use Rattle.bl_types_laws.proofs.Walks.{WalkFits, grown_there, not_must, site_in, within_in, within_of}
+use Rattle.bl_types_laws.proofs.Walks.{WalkFits, grown_there, site_in, within_in, within_of}
 
 -- what holds of each before and of one more
 push_each : {A : Type 0} (P : A → Type 0) (xs : List A) (x : A) → ((k : ℕ) (y : A) → slice_get xs k ≡ Some y → P y) → P x →
@@ -62,7 +55,7 @@ variable_grown env var ty = record {
   result = refl;
 }
 
-constant_grown : (env : Environment) (constant : Constant) → Grown env (with_constant env constant)
+pub constant_grown : (env : Environment) (constant : Constant) → Grown env (with_constant env constant)
 constant_grown env constant = record {
   vars = [];
   has_vars = sym (append-nil env.vars);
@@ -125,7 +118,7 @@ declared_good : (site : TypingContext) (k : ℕ) (known : Variable) (e : Expr) (
     declaration_fits site (Some e) (var_at site k) ≡ true
 declared_good site k known e ty there role is typed =
     ap (declaration_fits site (Some e)) there.is_there
-    ∙ both (is_variable there.var.role || is_fixed there.var.role) (are_same (Some there.var.ty) (type_of site e))
+    ∙ and_from (is_variable there.var.role || is_fixed there.var.role) (are_same (Some there.var.ty) (type_of site e))
     (ap (λ role. is_variable role || is_fixed role) (sym there.role) ∙ role)
     (ap (are_same (Some there.var.ty)) typed ∙ ap (λ other. same_type other ty) (same_Some there.var.ty ty (sym there.ty ∙ is)) ∙ same_type_self ty)
 
@@ -162,7 +155,7 @@ module _ (site : TypingContext) (good : StmtKind → Bool) where
             (declared_good site k (record { name = var.name.text; place = var.name.place; ty = value.valued.ty; role = var.role }) made.0 fit.ty
             (declared_there env site var value.valued.ty k next there) role fit.is_typed
             (ap (type_of site) same ∙ fit.fits)));
-        is_made = λ must there. absurd (not_must must);
+        is_made = λ must there. absurd (false_not_true must);
       }
 
   -- a declaration without one
@@ -173,7 +166,7 @@ module _ (site : TypingContext) (good : StmtKind → Bool) where
       PartPassed false site good env counts (declared_without k (after_variable var env))
   without_value k var fits declared env around known next placed counts count none =
       let ty : Option Ty = option_map (written_type env.constants) var.ty in
-      let written = some_of var.ty (and_right (is_variable var.role) (is_some var.ty) declared) in
+      let written = some_of var.ty (and_second (is_variable var.role) (is_some var.ty) declared) in
       record {
         grown = variable_grown env var ty;
         known = variable_known env var ty (written_type env.constants written.0) known (ap (option_map (written_type env.constants)) written.1)
@@ -182,8 +175,8 @@ module _ (site : TypingContext) (good : StmtKind → Bool) where
         is_good = λ there a is.
             subst (λ a. good a ≡ true) (same_Some (what.Declare k None) a is)
             (fits (bare_good site k (record { name = var.name.text; place = var.name.place; ty = ty; role = var.role })
-            (declared_there env site var ty k next there) (and_left (is_variable var.role) (is_some var.ty) declared)));
-        is_made = λ must there. absurd (not_must must);
+            (declared_there env site var ty k next there) (and_first (is_variable var.role) (is_some var.ty) declared)));
+        is_made = λ must there. absurd (false_not_true must);
       }
 
   abbrev declare_step : ℕ → Option NamedVar → Option NamedExpr → DeclaredBefore → Option DeclaredBefore
@@ -197,19 +190,19 @@ module _ (site : TypingContext) (good : StmtKind → Bool) where
   declare_fits k None e fits named env around known counts step none = absurd (cc)
   declare_fits k (Some var) None fits named env around known counts step none =
       let holds = where_holds (nat_eq k (length env.vars) && (var_placed (known_in env) var && true)) (Some (variable_counted (known_in env))) counts step in
-      without_value k var (fits None) (and_left (is_variable var.role && is_some var.ty) true named) env around known
-      (eqb-true k (length env.vars) (and_left (nat_eq k (length env.vars)) (var_placed (known_in env) var && true) holds.0))
-      (and_left (var_placed (known_in env) var) true (and_right (nat_eq k (length env.vars)) (var_placed (known_in env) var && true) holds.0)) counts holds.1
+      without_value k var (fits None) (and_first (is_variable var.role && is_some var.ty) true named) env around known
+      (eqb-true k (length env.vars) (and_first (nat_eq k (length env.vars)) (var_placed (known_in env) var && true) holds.0))
+      (and_first (var_placed (known_in env) var) true (and_second (nat_eq k (length env.vars)) (var_placed (known_in env) var && true) holds.0)) counts holds.1
       none
   declare_fits k (Some var) (Some e) fits named env around known counts step none =
       let holds = where_holds (nat_eq k (length env.vars) && (var_placed (known_in env) var && expr_placed (known_in env) e))
       (Some (variable_counted (known_in env))) counts step in
-      with_value k var e (λ it. fits (Some it)) (and_left (is_variable var.role || is_fixed var.role) (calls_functions site.earlier e) named)
-      (and_right (is_variable var.role || is_fixed var.role) (calls_functions site.earlier e) named)
+      with_value k var e (λ it. fits (Some it)) (and_first (is_variable var.role || is_fixed var.role) (calls_functions site.earlier e) named)
+      (and_second (is_variable var.role || is_fixed var.role) (calls_functions site.earlier e) named)
       env around known
-      (eqb-true k (length env.vars) (and_left (nat_eq k (length env.vars)) (var_placed (known_in env) var && expr_placed (known_in env) e) holds.0))
-      (and_right (var_placed (known_in env) var) (expr_placed (known_in env) e)
-      (and_right (nat_eq k (length env.vars)) (var_placed (known_in env) var && expr_placed (known_in env) e) holds.0))
+      (eqb-true k (length env.vars) (and_first (nat_eq k (length env.vars)) (var_placed (known_in env) var && expr_placed (known_in env) e) holds.0))
+      (and_second (var_placed (known_in env) var) (expr_placed (known_in env) e)
+      (and_second (nat_eq k (length env.vars)) (var_placed (known_in env) var && expr_placed (known_in env) e) holds.0))
       counts holds.1 none
 
   abbrev constant_step : ℕ → Option NamedConstant → DeclaredBefore → Option DeclaredBefore
@@ -222,8 +215,8 @@ module _ (site : TypingContext) (good : StmtKind → Bool) where
   constant_walk_fits k (Some constant) named env around known counts step none =
       let holds = where_holds (nat_eq k (length env.constants) && constant_placed (known_in env) constant) (Some (constant_counted (known_in env))) counts step
       in
-      let placed = and_right (holds_if (type_placed (known_in env)) constant.ty) (expr_placed (known_in env) constant.value)
-      (and_right (nat_eq k (length env.constants)) (constant_placed (known_in env) constant) holds.0) in
+      let placed = and_second (holds_if (type_placed (known_in env)) constant.ty) (expr_placed (known_in env) constant.value)
+      (and_second (nat_eq k (length env.constants)) (constant_placed (known_in env) constant) holds.0) in
       let own : calls_functions env.units constant.value ≡ true = ap (λ units. calls_functions units constant.value) around.units ∙ named in
       let stands = constant_fits env (site_in env) (within_in env site around known) constant placed own none in
       let value : Initial = initial env constant.ty constant.value in
@@ -232,7 +225,7 @@ module _ (site : TypingContext) (good : StmtKind → Bool) where
         known = constant_known env (constant_of constant.value value.valued) known stands;
         counts_are = constant_counts env (constant_of constant.value value.valued) counts holds.1;
         is_good = λ there a is. absurd (nothing_made a is);
-        is_made = λ must there. absurd (not_must must);
+        is_made = λ must there. absurd (false_not_true must);
       }
     where
       nothing_made : (a : StmtKind) → None ≡ Some a → ⊥

@@ -1,6 +1,7 @@
 -- The entry is a unit that the environment can drive.
 use Rattle.std.proofs.Common.{◌≡◌, ℕ, suc, ◌+◌, List, [], ◌∷◌, ◌++◌, Some, refl, ap, ◌∙◌, arith}
 use Rattle.std.specs.Prelude.{Bool, true, false, not, ◌&&◌, slice_get, if◌then◌else◌}
+use Rattle.bl_tree.proofs.Basics.{first_empty}
 use Rattle.bl_tree.specs.declared.place.Place.{Place}
 use Rattle.bl_tree.specs.declared.rule.Failure.{Failure}
 use Rattle.bl_tree.specs.declared.rule.Rule.TheVariants as rule
@@ -8,7 +9,7 @@ use Rattle.bl_names_tree.specs.declared.item.NamedUnit.{NamedUnit}
 use Rattle.bl_types.specs.Failures.{unless}
 use Rattle.bl_types.specs.Units.{drives, entries, entry_among}
 use Rattle.bl_types_laws.specs.Standing.{IsDriven}
-use Rattle.bl_types_laws.proofs.Forms.{nil_left, unless_holds}
+use Rattle.bl_types_laws.proofs.Forms.{unless_holds}
 
 -- a unit that is marked stands so far behind the first of the units, which begin at the position
 pub record EntryFound (units : List NamedUnit) (k position : ℕ) : Type 0 where
@@ -29,7 +30,7 @@ entry_first k end unit rest true none further = record {
   far = 0;
   unit = unit;
   is_there = refl;
-  is_driven = unless_holds (drives unit) rule.Entry unit.name.place (nil_left (unless (drives unit) rule.Entry unit.name.place) (entries true end rest) none);
+  is_driven = unless_holds (drives unit) rule.Entry unit.name.place (first_empty (unless (drives unit) rule.Entry unit.name.place) (entries true end rest) none);
   is_at = omega arith;
 }
 entry_first k end unit rest false none further =

@@ -3,6 +3,7 @@ use Rattle.std.proofs.Common.{◌≡◌, Bool, true, List, [], ◌∷◌, map, O
 use Rattle.std.specs.Prelude.{All, option_map, slice_get}
 use Rattle.std.specs.List.{list_all}
 use Rattle.std.proofs.lemmas.List.Elements.{All-head, All-tail}
+use Rattle.std.proofs.lemmas.Bool.{and_from}
 use Rattle.bl_tree.specs.declared.place.Place.{Place}
 use Rattle.bl_tree.specs.declared.tree.Unit.{Unit as UnitDef}
 use Rattle.bl_tree.specs.Reduce.{all_of, joined}
@@ -30,9 +31,9 @@ use Rattle.bl_names.specs.Naming.{named_expr, named_expr_layer, named_kind, name
 use Rattle.bl_names.proofs.FitLemmas.{Fits, IsFit, fits_behind, fits_first}
 use Rattle.bl_names.proofs.RawExprInduction.{Cases, EachIndex, OfIndex, expr, induct, induct_target}
 use Rattle.bl_names.proofs.StillLemmas.{Still, still_expr}
-use Rattle.bl_eval.proofs.PassLemmas.{both}
 use Rattle.bl_types_laws.specs.Within.{calls_functions, expr_layer_calls, kind_calls, part_calls, target_calls, target_layer_calls}
 use Rattle.bl_types_laws.proofs.Told.{Told, activity_there, function_there, kinds_of}
+use Rattle.bl_names_laws.proofs.ExprRoots.{still_part}
 
 abbrev RawLayer : Type 0
 RawLayer = RawExprKind-F RawExprKind RawPart RawExpr RawTarget
@@ -100,17 +101,6 @@ mark_parts = map-RawExprKind RawExprKind RawPart RawExpr RawTarget Marks Marks M
 marks_at : (place : Place) (layer : RawLayer) → expr_marks (expr place layer) ≡ kind_marks (mark_parts layer)
 marks_at place layer = rw (fold-roll-RawExpr, fold-roll-RawExprKind) refl
 
-still_part : (part : RawPart) (layer : RawPart-F RawExprKind RawPart RawExpr RawTarget) → out-RawPart part ≡ layer → Still (marks_of_part part)
-still_part part (RawPart-F.Field name) is = rw (
-  fold_out-RawPart Marks Marks Marks (Wanted → Marks) kind_marks part_marks expr_layer_marks target_layer_marks
-      part,
-  is,
-) (λ scopes. refl)
-still_part part (RawPart-F.Index e) is = rw (
-  fold_out-RawPart Marks Marks Marks (Wanted → Marks) kind_marks part_marks expr_layer_marks target_layer_marks part,
-  is,
-) (still_expr e)
-
 -- the names that are used are bound as in these scopes, whatever is counted
 module _ (units : List UnitDef) (scopes : Scopes) (counts : Counts) (told : Told (kinds_of units) scopes) where
   abbrev there : Scopes
@@ -135,7 +125,7 @@ module _ (units : List UnitDef) (scopes : Scopes) (counts : Counts) (told : Told
       Fits there (joined (map marks xs)) → all_of (map calls (map made xs)) ≡ true
   all_are marks calls made [] still each fits = refl
   all_are marks calls made (x ∷ xs) still each fits =
-      both (calls (made x)) (all_of (map calls (map made xs))) (All-head (λ x. Fits there (marks x) → calls (made x) ≡ true) x xs each
+      and_from (calls (made x)) (all_of (map calls (map made xs))) (All-head (λ x. Fits there (marks x) → calls (made x) ≡ true) x xs each
       (fits_first there (marks x) (joined (map marks xs)) fits))
       (all_are marks calls made xs still (All-tail (λ x. Fits there (marks x) → calls (made x) ≡ true) x xs each)
       (fits_behind there (marks x) (joined (map marks xs)) (still x) fits))
@@ -176,13 +166,13 @@ module _ (units : List UnitDef) (scopes : Scopes) (counts : Counts) (told : Told
     one = λ place op a is. kind_is place (RawExprKind-F.One op a) (NamedExprKind-F.One op (named_expr scopes a)) (what.outs-One op (named_expr scopes a)) is;
     two = λ place op a b is_a is_b. kind_is place (RawExprKind-F.Two op a b) (NamedExprKind-F.Two op (named_expr scopes a) (named_expr scopes b))
         (what.outs-Two op (named_expr scopes a) (named_expr scopes b))
-        (λ fits. both _ _ (is_a (fits_first there (expr_marks a) (expr_marks b) fits))
+        (λ fits. and_from _ _ (is_a (fits_first there (expr_marks a) (expr_marks b) fits))
         (is_b (fits_behind there (expr_marks a) (expr_marks b) (still_expr a) fits)));
     cast = λ place s a is. kind_is place (RawExprKind-F.Cast s a) (NamedExprKind-F.Cast s (named_expr scopes a)) (what.outs-Cast s (named_expr scopes a)) is;
     call = λ place f inputs all. kind_is place (RawExprKind-F.Call f inputs)
         (NamedExprKind-F.Call f.place (position scopes f) (map (named_expr scopes) inputs))
         (what.outs-Call f.place (position scopes f) (map (named_expr scopes) inputs))
-        (λ fits. both _ _ (function_is f fits.0) (all_are expr_marks (calls_functions units) (named_expr scopes) inputs still_expr all fits.1));
+        (λ fits. and_from _ _ (function_is f fits.0) (all_are expr_marks (calls_functions units) (named_expr scopes) inputs still_expr all fits.1));
     target = target_case;
   }
 
@@ -196,7 +186,7 @@ module _ (units : List UnitDef) (scopes : Scopes) (counts : Counts) (told : Told
   pub exprs_are : (es : List RawExpr) → Fits there (joined (map expr_marks es)) → list_all (calls_functions units) (map (named_expr scopes) es) ≡ true
   exprs_are [] fits = refl
   exprs_are (e ∷ es) fits =
-      both (calls_functions units (named_expr scopes e)) (list_all (calls_functions units) (map (named_expr scopes) es))
+      and_from (calls_functions units (named_expr scopes e)) (list_all (calls_functions units) (map (named_expr scopes) es))
       (expr_is e (fits_first there (expr_marks e) (joined (map expr_marks es)) fits))
       (exprs_are es (fits_behind there (expr_marks e) (joined (map expr_marks es)) (still_expr e) fits))
 

@@ -1,31 +1,12 @@
 -- What is made of an expression fits, and where a target leads.
-use Rattle.std.proofs.Common.{
-  ◌≡◌,
-  ℕ,
-  ℤ,
-  zero,
-  suc,
-  List,
-  [],
-  ◌∷◌,
-  map,
-  length,
-  nat_lt,
-  Option,
-  Some,
-  None,
-  refl,
-  ap,
-  sym,
-  subst,
-  ◌∙◌,
-  arith,
-}
+use Rattle.std.proofs.Common.{◌≡◌, ℕ, ℤ, zero, suc, List, [], ◌∷◌, map, length, nat_lt, Option, Some, None, refl, ap, sym, subst, ◌∙◌, arith}
 use Rattle.std.specs.Prelude.{All, Bool, true, false, ◌&&◌, nat_eq, is_some, option_and_then, option_map, slice_get, if◌then◌else◌}
 use Rattle.std.specs.List.{cons_option}
 use Rattle.std.proofs.lemmas.Bool.{eq-eqb, eqb-true, ltb-true}
 use Rattle.std.proofs.lemmas.List.{length-take-le}
 use Rattle.std.proofs.lemmas.List.Elements.{All-cons, All-head, All-nil, All-tail}
+use Rattle.std.proofs.lemmas.Bool.{and_from}
+use Rattle.bl_tree.proofs.Basics.{and_first, and_second, first_empty, second_empty}
 use Rattle.bl_tree.specs.declared.place.Place.{Place}
 use Rattle.bl_tree.specs.declared.rule.Rule.TheVariants as rule
 use Rattle.bl_tree.specs.declared.scalar.Op.{Op}
@@ -42,7 +23,7 @@ use Rattle.bl_tree.specs.Types.{same_type, scalar, scalar_in}
 use Rattle.bl_tree.specs.Typing.{TypingContext, call_type, inputs_of, is_function, literal_type, prev_type, types_match, type_of, var_at, where_same, after_parts}
 use Rattle.bl_eval.proofs.OperatorFits.{scalar_alone}
 use Rattle.bl_eval.proofs.PartFits.{type_of_part}
-use Rattle.bl_eval.proofs.PassLemmas.{all_at, and_left, and_right, both}
+use Rattle.bl_eval.proofs.PassLemmas.{all_at}
 use Rattle.bl_names_tree.specs.declared.expr.NamedExpr.{NamedExpr, fold-roll-NamedExpr}
 use Rattle.bl_names_tree.specs.declared.expr.NamedExprKind.{NamedExprKind, fold-NamedExprKind, fold-roll-NamedExprKind, map-NamedExprKind}
 use Rattle.bl_names_tree.specs.declared.expr.NamedExprKind.TheOpen.{NamedExprKind-F, NamedPart-F}
@@ -53,70 +34,21 @@ use Rattle.bl_names_tree.specs.declared.expr.Root.TheVariants as root
 use Rattle.bl_names_tree.specs.Placed.{expr_layer_placed, expr_placed, holds_of, kind_placed, part_placed, root_placed, target_layer_placed, target_placed}
 use Rattle.bl_names_tree.specs.inner.Placed.{step_placed}
 use Rattle.bl_types.specs.declared.environment.Environment.{Environment}
-use Rattle.bl_types.specs.Expressions.{
-  Formed,
-  Judged,
-  Led,
-  Stepped,
-  Targeted,
-  all_failures,
-  all_made,
-  call,
-  call_form,
-  call_formed,
-  constant_found,
-  fitted,
-  in_context,
-  judged,
-  judged_kind,
-  judged_layer,
-  judged_part,
-  judged_target,
-  misnamed,
-  params_of,
-  path_found,
-  previous_fits,
-  previous_formed,
-  previous_typed,
-  step_of,
-  stepped,
-  targeted,
-  targeted_from,
-  type_of_constant,
-  type_of_variable,
-  value_of_constant,
-  written_number,
-}
+use Rattle.bl_types.specs.Expressions.{Formed, Judged, Led, Stepped, Targeted, all_failures, all_made, call, call_form, call_formed, constant_found, fitted}
+use Rattle.bl_types.specs.Expressions.{in_context, judged, judged_kind, judged_layer, judged_part, judged_target, misnamed, params_of, path_found}
+use Rattle.bl_types.specs.Expressions.{previous_fits, previous_formed, previous_typed, step_of, stepped, targeted, targeted_from, type_of_constant}
+use Rattle.bl_types.specs.Expressions.{type_of_variable, value_of_constant, written_number}
 use Rattle.bl_types.specs.Failures.{unless}
 use Rattle.bl_types.specs.Settled.{Settled, int32}
 use Rattle.bl_types_laws.specs.Fitting.{FormFits, FoundFits, IsMade, SettledFits}
-use Rattle.bl_types_laws.specs.Within.{
-  EnvironmentWithin,
-  calls_functions,
-  expr_layer_calls,
-  has_parameters,
-  kind_calls,
-  known_in,
-  part_calls,
-  target_calls,
-  target_layer_calls,
-}
-use Rattle.bl_types_laws.proofs.Forms.{
-  FormedFits,
-  cast_fits,
-  in_context_fits,
-  literal_open,
-  nil_left,
-  nil_right,
-  one_fits,
-  reading_fits,
-  same_type_self,
-  two_fits,
-  unless_holds,
-}
+use Rattle.bl_types_laws.specs.Within.{EnvironmentWithin, calls_functions, expr_layer_calls, has_parameters, kind_calls, known_in, part_calls, target_calls}
+use Rattle.bl_types_laws.specs.Within.{target_layer_calls}
+use Rattle.bl_types_laws.proofs.Forms.{FormedFits, cast_fits, in_context_fits, literal_open, one_fits, reading_fits, same_type_self}
+use Rattle.bl_types_laws.proofs.Forms.{two_fits, unless_holds}
 use Rattle.bl_types_laws.proofs.NamedExprInduction.{Cases, EachIndex, OfIndex, expr, induct, induct_target}
 use Rattle.bl_types_laws.proofs.Targets.{LedFits, StepFits, field_fits, first_leads, index_fits, no_element, no_field, none_lead}
 use Rattle.bl_types_laws.proofs.Typed.{call_is, literal_is, path_is, previous_is}
+use Rattle.bl_types.proofs.JudgedLemmas.{fitted-length}
 
 -- a position below the length is that of an element
 pub there_at : {X : Type 0} (xs : List X) (k : ℕ) → nat_lt k (length xs) ≡ true → (x : X) × (slice_get xs k ≡ Some x)
@@ -125,10 +57,6 @@ there_at (x ∷ xs) zero less = (x, refl)
 there_at (x ∷ xs) (suc k) less = there_at xs k (let below = ltb-true (suc k) (suc (length xs)) less in grind arith)
 
 -- ---- calls
-
-pub length-fitted : (arguments : List Judged) (params : List Var) → length (fitted arguments params) ≡ length arguments
-length-fitted [] params = refl
-length-fitted (argument ∷ rest) params = ap suc (length-fitted rest _)
 
 -- a judged expression that fits, where nothing fails
 abbrev pub JudgedFits : TypingContext → Judged → Type 0
@@ -147,7 +75,7 @@ made_first site var vars first rest made more = record {
   match =
       ap (λ made. types_match (map (type_of site) (cons_option made (all_made rest))) (var ∷ vars)) made.is
       ∙ ap (λ typed. types_match (typed ∷ map (type_of site) (all_made rest)) (var ∷ vars)) made.is_typed
-      ∙ both (same_type var.ty var.ty) (types_match (map (type_of site) (all_made rest)) vars) (same_type_self var.ty) more.match;
+      ∙ and_from (same_type var.ty var.ty) (types_match (map (type_of site) (all_made rest)) vars) (same_type_self var.ty) more.match;
 }
 
 pub arguments_fit : (site : TypingContext) (arguments : List Judged) (params : List Var) → All (JudgedFits site) arguments → length arguments ≡ length params →
@@ -159,9 +87,9 @@ arguments_fit site (argument ∷ rest) [] each same none = absurd (omega arith)
 arguments_fit site (argument ∷ rest) (var ∷ vars) each same none =
     let first : Settled = in_context (Some var.ty) argument in
     made_first site var vars first (fitted rest vars)
-    (in_context_fits site var.ty argument (All-head (JudgedFits site) argument rest each) (nil_left first.failures (all_failures (fitted rest vars)) none))
+    (in_context_fits site var.ty argument (All-head (JudgedFits site) argument rest each) (first_empty first.failures (all_failures (fitted rest vars)) none))
     (arguments_fit site rest vars (All-tail (JudgedFits site) argument rest each) (omega arith)
-    (nil_right first.failures (all_failures (fitted rest vars)) none))
+    (second_empty first.failures (all_failures (fitted rest vars)) none))
 
 pub some_of : {X : Type 0} (o : Option X) → is_some o ≡ true → (x : X) × (o ≡ Some x)
 some_of None is = absurd (cc)
@@ -174,7 +102,7 @@ call_by site at f inputs unit s there function none match result =
     call_is site at f inputs
     ∙ ap (option_and_then (call_type (map (type_of site) inputs))) there
     ∙ ap (λ holds. if holds then option_map scalar unit.result else None)
-    (both (is_function unit.kind) _ function (both (nat_eq unit.outputs 0) (types_match (map (type_of site) inputs) (inputs_of unit)) none match))
+    (and_from (is_function unit.kind) _ function (and_from (nat_eq unit.outputs 0) (types_match (map (type_of site) inputs) (inputs_of unit)) none match))
     ∙ ap (option_map scalar) result
 
 form_by : (site : TypingContext) (at : Place) (f : ℕ) (inputs : List Expr) (all : Bool) (result : Option ScalarType) (s : ScalarType) →
@@ -190,18 +118,18 @@ call_fits : (site : TypingContext) (at name : Place) (f : ℕ) (arguments : List
 call_fits site at name f arguments unit there function has each none =
     let given : List Settled = fitted arguments (inputs_of unit) in
     let counts : Bool = nat_eq (length given) unit.inputs && nat_eq 0 unit.outputs in
-    let named : misnamed name (length given) (Some unit) ≡ [] = nil_right (all_failures given) (misnamed name (length given) (Some unit)) none in
+    let named : misnamed name (length given) (Some unit) ≡ [] = second_empty (all_failures given) (misnamed name (length given) (Some unit)) none in
     let counted : counts ≡ true = unless_holds counts rule.Arity name
-    (nil_left (unless counts rule.Arity name) (unless (is_some unit.result) rule.Return name)
+    (first_empty (unless counts rule.Arity name) (unless (is_some unit.result) rule.Return name)
     named) in
     let result = some_of unit.result (unless_holds (is_some unit.result) rule.Return name
-    (nil_right (unless counts rule.Arity name) (unless (is_some unit.result) rule.Return name) named)) in
+    (second_empty (unless counts rule.Arity name) (unless (is_some unit.result) rule.Return name) named)) in
     let inputs : length given ≡ unit.inputs = eqb-true (length given) unit.inputs
-    (and_left (nat_eq (length given) unit.inputs) (nat_eq 0 unit.outputs) counted)
+    (and_first (nat_eq (length given) unit.inputs) (nat_eq 0 unit.outputs) counted)
     in
-    let outputs : 0 ≡ unit.outputs = eqb-true 0 unit.outputs (and_right (nat_eq (length given) unit.inputs) (nat_eq 0 unit.outputs) counted) in
-    let fit = arguments_fit site arguments (inputs_of unit) each (sym (length-fitted arguments (inputs_of unit)) ∙ inputs ∙ sym (inputs_length unit has))
-    (nil_left (all_failures given) (misnamed name (length given) (Some unit)) none) in
+    let outputs : 0 ≡ unit.outputs = eqb-true 0 unit.outputs (and_second (nat_eq (length given) unit.inputs) (nat_eq 0 unit.outputs) counted) in
+    let fit = arguments_fit site arguments (inputs_of unit) each (sym (fitted-length arguments (inputs_of unit)) ∙ inputs ∙ sym (inputs_length unit has))
+    (first_empty (all_failures given) (misnamed name (length given) (Some unit)) none) in
     form_by site at f (all_made given) (nat_eq (length (all_made given)) (length given)) unit.result result.0
     (eq-eqb (length (all_made given)) (length given) fit.count) result.1
     (call_by site at f (all_made given) unit result.0 there function (eq-eqb unit.outputs 0 (sym outputs)) fit.match result.1)
@@ -303,36 +231,36 @@ module _ (env : Environment) (site : TypingContext) (within : EnvironmentWithin 
   one_case place op a fit = by_kind place (NamedExprKind-F.One op a)
       (λ placed calls none.
       let first : Judged = judged env a in
-      one_fits site place op first.form (fit placed calls (nil_left first.failures _ none)) (nil_right first.failures _ none))
+      one_fits site place op first.form (fit placed calls (first_empty first.failures _ none)) (second_empty first.failures _ none))
 
   two_case : (place : Place) (op : Op) (a b : NamedExpr) → P a → P b → P (expr place (NamedExprKind-F.Two op a b))
   two_case place op a b fit other = by_kind place (NamedExprKind-F.Two op a b)
       (λ placed calls none.
       let first : Judged = judged env a in
       let second : Judged = judged env b in
-      let behind = nil_right first.failures _ none in
+      let behind = second_empty first.failures _ none in
       two_fits site place op first.form second.form
-      (fit (and_left (expr_placed (known_in env) a) (expr_placed (known_in env) b) placed)
-      (and_left (calls_functions env.units a) (calls_functions env.units b) calls) (nil_left first.failures _ none))
-      (other (and_right (expr_placed (known_in env) a) (expr_placed (known_in env) b) placed)
-      (and_right (calls_functions env.units a) (calls_functions env.units b) calls) (nil_left second.failures _ behind))
-      (nil_right second.failures _ behind))
+      (fit (and_first (expr_placed (known_in env) a) (expr_placed (known_in env) b) placed)
+      (and_first (calls_functions env.units a) (calls_functions env.units b) calls) (first_empty first.failures _ none))
+      (other (and_second (expr_placed (known_in env) a) (expr_placed (known_in env) b) placed)
+      (and_second (calls_functions env.units a) (calls_functions env.units b) calls) (first_empty second.failures _ behind))
+      (second_empty second.failures _ behind))
 
   cast_case : (place : Place) (target : ScalarType) (a : NamedExpr) → P a → P (expr place (NamedExprKind-F.Cast target a))
   cast_case place target a fit = by_kind place (NamedExprKind-F.Cast target a)
       (λ placed calls none.
       let first : Judged = judged env a in
-      cast_fits site place target first.form (fit placed calls (nil_left first.failures _ none)) (nil_right first.failures _ none))
+      cast_fits site place target first.form (fit placed calls (first_empty first.failures _ none)) (second_empty first.failures _ none))
 
   each_judged : (inputs : List NamedExpr) → All P inputs → all_of (map (expr_placed (known_in env)) inputs) ≡ true →
       all_of (map (calls_functions env.units) inputs) ≡ true → All (JudgedFits site) (map (judged env) inputs)
   each_judged [] each placed calls = All-nil (JudgedFits site)
   each_judged (e ∷ rest) each placed calls =
       All-cons (JudgedFits site) (judged env e) (map (judged env) rest)
-      (All-head P e rest each (and_left (expr_placed (known_in env) e) (all_of (map (expr_placed (known_in env)) rest)) placed)
-      (and_left (calls_functions env.units e) (all_of (map (calls_functions env.units) rest)) calls))
-      (each_judged rest (All-tail P e rest each) (and_right (expr_placed (known_in env) e) (all_of (map (expr_placed (known_in env)) rest)) placed)
-      (and_right (calls_functions env.units e) (all_of (map (calls_functions env.units) rest)) calls))
+      (All-head P e rest each (and_first (expr_placed (known_in env) e) (all_of (map (expr_placed (known_in env)) rest)) placed)
+      (and_first (calls_functions env.units e) (all_of (map (calls_functions env.units) rest)) calls))
+      (each_judged rest (All-tail P e rest each) (and_second (expr_placed (known_in env) e) (all_of (map (expr_placed (known_in env)) rest)) placed)
+      (and_second (calls_functions env.units e) (all_of (map (calls_functions env.units) rest)) calls))
 
   function_at : (f : ℕ) (unit : UnitDef) → slice_get env.units f ≡ Some unit →
       holds_of (λ (unit : UnitDef). is_function unit.kind) (slice_get env.units f) ≡ true → is_function unit.kind ≡ true
@@ -341,7 +269,7 @@ module _ (env : Environment) (site : TypingContext) (within : EnvironmentWithin 
   call_case : (place name : Place) (f : ℕ) (inputs : List NamedExpr) → All P inputs → P (expr place (NamedExprKind-F.Call name f inputs))
   call_case place name f inputs each = by_kind place (NamedExprKind-F.Call name f inputs)
       (λ placed calls none.
-      let known = there_at env.units f (and_left (nat_lt f (length env.units)) (all_of (map (expr_placed (known_in env)) inputs)) placed) in
+      let known = there_at env.units f (and_first (nat_lt f (length env.units)) (all_of (map (expr_placed (known_in env)) inputs)) placed) in
       let unit : UnitDef = known.0 in
       let there : slice_get site.earlier f ≡ Some unit = ap (λ units. slice_get units f) (sym within.units) ∙ known.1 in
       let is : call_formed place name f (fitted (map (judged env) inputs) (params_of (slice_get env.units f))) (slice_get env.units f)
@@ -349,11 +277,11 @@ module _ (env : Environment) (site : TypingContext) (within : EnvironmentWithin 
       ap (λ (unit : Option UnitDef). call_formed place name f (fitted (map (judged env) inputs) (params_of unit)) unit) known.1 in
       subst (λ (formed : Formed). FormFits site formed.form) (sym is)
       (call_fits site place name f (map (judged env) inputs) unit there
-      (function_at f unit known.1 (and_left (holds_of (λ (unit : UnitDef). is_function unit.kind) (slice_get env.units f))
+      (function_at f unit known.1 (and_first (holds_of (λ (unit : UnitDef). is_function unit.kind) (slice_get env.units f))
       (all_of (map (calls_functions env.units) inputs)) calls))
       (all_at has_parameters site.earlier f unit within.heads there)
-      (each_judged inputs each (and_right (nat_lt f (length env.units)) (all_of (map (expr_placed (known_in env)) inputs)) placed)
-      (and_right (holds_of (λ (unit : UnitDef). is_function unit.kind) (slice_get env.units f)) (all_of (map (calls_functions env.units) inputs)) calls))
+      (each_judged inputs each (and_second (nat_lt f (length env.units)) (all_of (map (expr_placed (known_in env)) inputs)) placed)
+      (and_second (holds_of (λ (unit : UnitDef). is_function unit.kind) (slice_get env.units f)) (all_of (map (calls_functions env.units) inputs)) calls))
       (ap (λ (formed : Formed). formed.failures) (sym is) ∙ none)))
 
   -- ---- targets
@@ -417,11 +345,11 @@ module _ (env : Environment) (site : TypingContext) (within : EnvironmentWithin 
   parts_lead (part ∷ rest) each placed calls =
       first_leads site (step_of env) part rest
       (one_part part (All-head (λ part. OfIndex P (out-NamedPart part)) part rest each)
-      (and_left (step_placed (known_in env) part) (all_of (map (step_placed (known_in env)) rest)) placed)
-      (and_left (step_calls part) (all_of (map step_calls rest)) calls))
+      (and_first (step_placed (known_in env) part) (all_of (map (step_placed (known_in env)) rest)) placed)
+      (and_first (step_calls part) (all_of (map step_calls rest)) calls))
       (parts_lead rest (All-tail (λ part. OfIndex P (out-NamedPart part)) part rest each)
-      (and_right (step_placed (known_in env) part) (all_of (map (step_placed (known_in env)) rest)) placed)
-      (and_right (step_calls part) (all_of (map step_calls rest)) calls))
+      (and_second (step_placed (known_in env) part) (all_of (map (step_placed (known_in env)) rest)) placed)
+      (and_second (step_calls part) (all_of (map step_calls rest)) calls))
 
   pub variable_found : (place : Place) (k : ℕ) (var : Var) (led : Led) → var_at site k ≡ Some var → LedFits site var.ty led →
       FoundFits site (path_found place k led.parts led.ty)
@@ -439,21 +367,21 @@ module _ (env : Environment) (site : TypingContext) (within : EnvironmentWithin 
   no_parts [] n s number none = subst (λ s. FoundFits site (constant_found n s)) (sym (scalar_alone s)) number
   no_parts (part ∷ rest) n s number none =
       absurd (no_part (out-NamedPart part) s (ap (λ (step : Option Ty → Stepped). (step (Some (scalar s))).failures) (sym (step_is part))
-      ∙ nil_left (step_of env part (Some (scalar s))).failures _ none))
+      ∙ first_empty (step_of env part (Some (scalar s))).failures _ none))
 
   root_fits : (place : Place) (root : Root) (parts : List NamedPart) → EachIndex P parts →
       (root_placed (known_in env) root && all_of (map (step_placed (known_in env)) parts)) ≡ true → all_of (map step_calls parts) ≡ true →
       (targeted_from env place root (map (step_of env) parts)).failures ≡ [] → FoundFits site (targeted_from env place root (map (step_of env) parts)).found
   root_fits place (root.Variable k) parts each placed calls none =
-      let known = there_at env.vars k (and_left (nat_lt k (length env.vars)) (all_of (map (step_placed (known_in env)) parts)) placed) in
+      let known = there_at env.vars k (and_first (nat_lt k (length env.vars)) (all_of (map (step_placed (known_in env)) parts)) placed) in
       let there = within.vars k known.0 known.1 in
       let typed : type_of_variable (slice_get env.vars k) ≡ Some there.var.ty = ap type_of_variable known.1 ∙ there.ty in
       subst (λ ty. FoundFits site (path_found place k (stepped (map (step_of env) parts) ty).parts (stepped (map (step_of env) parts) ty).ty)) (sym typed)
       (variable_found place k there.var (stepped (map (step_of env) parts) (Some there.var.ty)) there.is_there
-      (parts_lead parts each (and_right (nat_lt k (length env.vars)) (all_of (map (step_placed (known_in env)) parts)) placed) calls there.var.ty
+      (parts_lead parts each (and_second (nat_lt k (length env.vars)) (all_of (map (step_placed (known_in env)) parts)) placed) calls there.var.ty
       (ap (λ ty. (stepped (map (step_of env) parts) ty).failures) (sym typed) ∙ none)))
   root_fits place (root.Constant k) parts each placed calls none =
-      let known = there_at env.constants k (and_left (nat_lt k (length env.constants)) (all_of (map (step_placed (known_in env)) parts)) placed) in
+      let known = there_at env.constants k (and_first (nat_lt k (length env.constants)) (all_of (map (step_placed (known_in env)) parts)) placed) in
       let stands = within.constants k known.0 known.1 in
       let typed : type_of_constant (slice_get env.constants k) ≡ Some (scalar stands.ty) = ap type_of_constant known.1
       ∙ ap (option_map scalar) stands.is_typed in

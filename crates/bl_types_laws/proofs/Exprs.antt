@@ -29,78 +29,17 @@ use Rattle.bl_names_laws.specs.Depths as nested
 use Rattle.bl_names_laws.specs.inner.Depths as levels
 use Rattle.bl_types.specs.declared.environment.Environment.{Environment}
 use Rattle.bl_types.specs.declared.form.Form.{Form}
-use Rattle.bl_types.specs.Expressions.{
-  FieldAt,
-  Formed,
-  Judged,
-  Stepped,
-  Targeted,
-  all_made,
-  as_index,
-  constant_found,
-  field_found,
-  field_in,
-  fitted,
-  in_context,
-  judged,
-  judged_kind,
-  judged_layer,
-  judged_part,
-  judged_target,
-  params_of,
-  path,
-  path_found,
-  step_of,
-  stepped,
-  targeted,
-  targeted_from,
-  to_element,
-  to_field,
-  type_of_constant,
-  type_of_variable,
-  value_of_constant,
-  written_number,
-}
+use Rattle.bl_types.specs.Expressions.{FieldAt, Formed, Judged, Stepped, Targeted, all_made, as_index, constant_found, field_found, field_in, fitted}
+use Rattle.bl_types.specs.Expressions.{in_context, judged, judged_kind, judged_layer, judged_part, judged_target, params_of, path, path_found, step_of, stepped}
+use Rattle.bl_types.specs.Expressions.{targeted, targeted_from, to_element, to_field, type_of_constant, type_of_variable, value_of_constant, written_number}
 use Rattle.bl_types.specs.Settled.{int32, literal}
 use Rattle.bl_types_laws.proofs.NamedExprInduction.{Cases, EachIndex, OfIndex, expr, induct, induct_target}
 use Rattle.bl_types_laws.proofs.ShapeForms.{FormIn, FoundIn, as_index_in, call_in, cast_in, fitting_in, one_in, previous_in, reading_in, two_in}
-use Rattle.bl_types_laws.proofs.NamedSizes.{
-  Layer,
-  PartLayer,
-  inputs_size,
-  named_kind_size,
-  named_size,
-  named_size_at,
-  step_kind_size,
-  step_size,
-  step_size_is,
-  target_size,
-  target_size_is,
-}
+use Rattle.bl_types_laws.proofs.NamedSizes.{Layer, PartLayer, inputs_size, named_kind_size, named_size, named_size_at, step_kind_size, step_size, step_size_is}
+use Rattle.bl_types_laws.proofs.NamedSizes.{target_size, target_size_is}
 use Rattle.bl_types_laws.proofs.Opens.{ExprIn}
-use Rattle.bl_types_laws.proofs.Sizes.{
-  MadeIn,
-  Size,
-  SizeMost,
-  deeper,
-  empty,
-  field_size,
-  index_size,
-  literal_size,
-  made_first,
-  part_depth,
-  part_roots,
-  path_size,
-  rooted,
-  size_all,
-  size_deeper,
-  size_empty,
-  size_is,
-  size_of,
-  size_of_part,
-  size_of_path,
-  size_rooted,
-}
+use Rattle.bl_types_laws.proofs.Sizes.{MadeIn, Size, SizeMost, deeper, empty, field_size, index_size, literal_size, made_first, part_depth, part_roots}
+use Rattle.bl_types_laws.proofs.Sizes.{path_size, rooted, size_all, size_deeper, size_empty, size_is, size_of, size_of_part, size_of_path, size_rooted}
 
 abbrev pub PartIn : Size → Option Part → Type 0
 PartIn = MadeIn size_of_part

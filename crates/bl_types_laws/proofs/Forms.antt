@@ -1,9 +1,10 @@
 -- What fits stays so: under operators and casts, and where a type is wanted.
-use Rattle.std.proofs.Common.{◌≡◌, ℕ, ℤ, List, [], ◌∷◌, ◌++◌, Option, Some, None, refl, ap, sym, subst, ◌∙◌, arith}
+use Rattle.std.proofs.Common.{◌≡◌, ℤ, [], ◌∷◌, ◌++◌, Option, Some, None, refl, ap, sym, subst, ◌∙◌, arith}
 use Rattle.std.specs.Prelude.{option_map, Bool, true, false, ◌&&◌, nat_eq, option_and_then, if◌then◌else◌}
 use Rattle.std.proofs.lemmas.Option.{same_Some}
+use Rattle.std.proofs.lemmas.Bool.{and_from}
+use Rattle.bl_tree.proofs.Basics.{first_empty, number_itself, second_empty}
 use Rattle.bl_tree.specs.declared.place.Place.{Place}
-use Rattle.bl_tree.specs.declared.rule.Failure.{Failure}
 use Rattle.bl_tree.specs.declared.rule.Rule.{Rule}
 use Rattle.bl_tree.specs.declared.rule.Rule.TheVariants as rule
 use Rattle.bl_tree.specs.declared.scalar.Op.{Op}
@@ -22,64 +23,19 @@ use Rattle.bl_tree.specs.Types.{same_as_array, same_as_scalar, same_as_struct, s
 use Rattle.bl_tree.specs.Typing.{TypingContext, cast_type, literal_type, one_type, two_type, type_of}
 use Rattle.bl_eval.proofs.FitLemmas.{same_type_is, scalar_is}
 use Rattle.bl_eval.proofs.OperatorFits.{scalar_alone}
-use Rattle.bl_eval.proofs.PassLemmas.{both}
 use Rattle.bl_types.specs.declared.form.Form.{Form}
 use Rattle.bl_types.specs.declared.form.Form.TheVariants.{Failing, Open, Of}
 use Rattle.bl_types.specs.declared.form.Found.{Found}
 use Rattle.bl_types.specs.declared.form.Found.TheVariants as found
-use Rattle.bl_types.specs.Expressions.{
-  Formed,
-  Judged,
-  after_failures,
-  beside,
-  cast,
-  cast_formed,
-  cast_made,
-  cast_settled,
-  fails_type,
-  formed_as,
-  in_context,
-  one_formed,
-  operands_made,
-  reading,
-  settled_two,
-  two_formed,
-  two_of,
-  type_of_two,
-  unwanted,
-  wanted_as,
-}
+use Rattle.bl_types.specs.Expressions.{Formed, Judged, beside, cast, cast_formed, cast_made, cast_settled, fails_type, formed_as, in_context}
+use Rattle.bl_types.specs.Expressions.{one_formed, operands_made, reading, settled_two, two_formed, two_of, type_of_two, wanted_as}
 use Rattle.bl_types.specs.Failures.{unless}
-use Rattle.bl_types.specs.Settled.{
-  Settled,
-  given,
-  given_scalar,
-  int32,
-  is_logical,
-  keeps_one_open,
-  keeps_two_open,
-  kept,
-  literal,
-  one,
-  one_made,
-  settled,
-  settled_if,
-  two,
-  two_made,
-  unfit,
-}
+use Rattle.bl_types.specs.Settled.{Settled, given, given_scalar, int32, is_logical, keeps_one_open, keeps_two_open, kept, literal, one, one_made, settled}
+use Rattle.bl_types.specs.Settled.{settled_if, two, two_made, unfit}
 use Rattle.bl_types_laws.specs.Fitting.{FormFits, FoundFits, IsMade, OpenFits, SettledFits}
 use Rattle.bl_types_laws.proofs.Typed.{cast_is, literal_is, one_is, read_is, settled_literal, settled_one, settled_two as settled_two_is, two_is}
 
 -- ---- nothing fails
-
-pub nil_left : {A : Type 0} (xs ys : List A) → xs ++ ys ≡ [] → xs ≡ []
-nil_left [] ys is = refl
-nil_left (x ∷ xs) ys is = absurd (cc)
-
-pub nil_right : {A : Type 0} (xs ys : List A) → xs ++ ys ≡ [] → ys ≡ []
-nil_right [] ys is = is
-nil_right (x ∷ xs) ys is = absurd (cc)
 
 pub unless_holds : (test : Bool) (broken : Rule) (at : Place) → unless test broken at ≡ [] → test ≡ true
 unless_holds true broken at is = refl
@@ -105,18 +61,15 @@ same_scalar_self (Int w) = width_self w
 same_scalar_self (Nat w) = width_self w
 same_scalar_self (Bits w) = width_self w
 
-nat_eq_self : (n : ℕ) → nat_eq n n ≡ true
-nat_eq_self n = grind arith
-
 abbrev IsSelf : Ty → Type 0
 IsSelf ty = same_type ty ty ≡ true
 
 self_by : (layer : Ty-F ((ty : Ty) × IsSelf ty)) → IsSelf (roll-Ty (map-Ty ((ty : Ty) × IsSelf ty) Ty (λ e. e.0) layer))
 self_by (Ty-F.Scalar s) = rw fold-roll-Ty (ap (same_as_scalar s) (out-roll-Ty (Ty-F.Scalar s)) ∙ same_scalar_self s)
-self_by (Ty-F.Struct k) = rw fold-roll-Ty (ap (same_as_struct k) (out-roll-Ty (Ty-F.Struct k)) ∙ nat_eq_self k)
+self_by (Ty-F.Struct k) = rw fold-roll-Ty (ap (same_as_struct k) (out-roll-Ty (Ty-F.Struct k)) ∙ number_itself k)
 self_by (Ty-F.Array n element) =
     rw fold-roll-Ty (ap (same_as_array n (same_type element.0)) (out-roll-Ty (Ty-F.Array n element.0))
-    ∙ both (nat_eq n n) (same_type element.0 element.0) (nat_eq_self n) element.1)
+    ∙ and_from (nat_eq n n) (same_type element.0 element.0) (number_itself n) element.1)
 
 pub same_type_self : (ty : Ty) → same_type ty ty ≡ true
 same_type_self = ind-Ty IsSelf (λ x y is. subst (λ layer. IsSelf (roll-Ty layer)) is (self_by y))
@@ -151,7 +104,7 @@ one_taken op s stays takes =
 two_taken : (op : Op) (s : ScalarType) → keeps_two_open op ≡ true → takes_two op s ≡ true → type_of_two op (scalar s) (scalar s) ≡ Some (scalar s)
 two_taken op s stays takes =
     ap (λ found. option_and_then (λ s. option_and_then (two_type op s) found) found) (scalar_alone s)
-    ∙ ap (λ holds. if holds then Some (scalar (type_of_result op s)) else None) (both (same_scalar s s) (takes_two op s) (same_scalar_self s) takes)
+    ∙ ap (λ holds. if holds then Some (scalar (type_of_result op s)) else None) (and_from (same_scalar s s) (takes_two op s) (same_scalar_self s) takes)
     ∙ ap (λ t. Some (scalar t)) (two_result op s stays)
 
 abbrev pub FormedFits : TypingContext → Formed → Type 0
@@ -193,8 +146,8 @@ module _ (site : TypingContext) where
   one_open at op a stays fit s whole =
       subst (λ (settled : Settled). SettledFits site (scalar s) settled) (sym (settled_one s at op a))
       (λ none. one_made_fits at op s (settled s a).made stays (fit s whole
-      (nil_left (settled s a).failures (one_made s at op (settled s a).made).failures none))
-      (nil_right (settled s a).failures (one_made s at op (settled s a).made).failures none))
+      (first_empty (settled s a).failures (one_made s at op (settled s a).made).failures none))
+      (second_empty (settled s a).failures (one_made s at op (settled s a).made).failures none))
 
   two_made_by : (at : Place) (op : Op) (s : ScalarType) (a b : Expr) (holds : Bool) → keeps_two_open op ≡ true → takes_two op s ≡ holds →
       type_of site a ≡ Some (scalar s) → type_of site b ≡ Some (scalar s) →
@@ -216,10 +169,10 @@ module _ (site : TypingContext) where
       subst (λ (settled : Settled). SettledFits site (scalar s) settled) (sym (settled_two_is s at op a b))
       (λ none.
       let second : (settled s b).failures ++ (two_made s at op (settled s a).made (settled s b).made).failures ≡ [] =
-      nil_right (settled s a).failures _ none in
-      two_made_fits at op s (settled s a).made (settled s b).made stays (fit s whole (nil_left (settled s a).failures _ none))
-      (other s whole (nil_left (settled s b).failures _ second))
-      (nil_right (settled s b).failures _ second))
+      second_empty (settled s a).failures _ none in
+      two_made_fits at op s (settled s a).made (settled s b).made stays (fit s whole (first_empty (settled s a).failures _ none))
+      (other s whole (first_empty (settled s b).failures _ second))
+      (second_empty (settled s b).failures _ second))
 
   -- ---- where a type is wanted
 
@@ -254,19 +207,10 @@ module _ (site : TypingContext) where
   pub in_context_fits : (wanted : Ty) (judged : Judged) → (judged.failures ≡ [] → FormFits site judged.form) →
       SettledFits site wanted (in_context (Some wanted) judged)
   in_context_fits wanted judged fit none =
-      wanted_form wanted judged.place judged.form (fit (nil_left judged.failures (wanted_as wanted judged.place judged.form).failures none))
-      (nil_right judged.failures (wanted_as wanted judged.place judged.form).failures none)
-
-  -- and where none is wanted
-  pub unwanted_fits : (form : Form) → FormFits site form → (unwanted form).failures ≡ [] → (ty : Ty) × IsMade site ty (unwanted form).made
-  unwanted_fits Failing fit none = absurd fit
-  unwanted_fits (Open e) fit none = (scalar int32, fit int32 refl none)
-  unwanted_fits (Of ty e) fit none = (ty, record { it = e; is = refl; is_typed = fit })
+      wanted_form wanted judged.place judged.form (fit (first_empty judged.failures (wanted_as wanted judged.place judged.form).failures none))
+      (second_empty judged.failures (wanted_as wanted judged.place judged.form).failures none)
 
   -- ---- operators
-
-  pub after_fits : (earlier : List Failure) (formed : Formed) → FormedFits site formed → FormedFits site (after_failures earlier formed)
-  after_fits earlier formed fit none = fit (nil_right earlier formed.failures none)
 
   formed_fits : (ty : Option Ty) (at : Place) (e : Expr) → type_of site e ≡ ty → FormedFits site (formed_as ty at e)
   formed_fits (Some ty) at e is none = is
@@ -293,9 +237,9 @@ module _ (site : TypingContext) where
       FormedFits site (two_of at op (type_of_two op left right) a b)
   two_of_fits at op left right a b fit other none =
       let formed : Formed = operands_made at op (type_of_two op left right) a.made b.made in
-      let second : b.failures ++ formed.failures ≡ [] = nil_right a.failures (b.failures ++ formed.failures) none in
-      operands_fit at op left right a.made b.made (fit (nil_left a.failures (b.failures ++ formed.failures) none))
-      (other (nil_left b.failures formed.failures second)) (nil_right b.failures formed.failures second)
+      let second : b.failures ++ formed.failures ≡ [] = second_empty a.failures (b.failures ++ formed.failures) none in
+      operands_fit at op left right a.made b.made (fit (first_empty a.failures (b.failures ++ formed.failures) none))
+      (other (first_empty b.failures formed.failures second)) (second_empty b.failures formed.failures second)
 
   beside_by : (op : Op) (ty : Ty) (e : Expr) (logical : Bool) → OpenFits site e →
       SettledFits site ty (if logical then unfit (out-Expr e).place else given ty e)

@@ -1,37 +1,17 @@
 -- The head of a unit: its parameters and its result.
-use Rattle.std.proofs.Common.{
-  ◌≡◌,
-  ℕ,
-  suc,
-  ◌+◌,
-  List,
-  [],
-  ◌∷◌,
-  ◌++◌,
-  length,
-  take,
-  drop,
-  Option,
-  Some,
-  None,
-  refl,
-  ap,
-  sym,
-  subst,
-  ◌∙◌,
-  arith,
-}
+use Rattle.std.proofs.Common.{◌≡◌, ℕ, suc, ◌+◌, List, [], ◌∷◌, ◌++◌, length, take, drop, Option, Some, None, refl, ap, sym, subst, ◌∙◌, arith}
 use Rattle.std.specs.Prelude.{Bool, true, false, ◌&&◌, ◌||◌, is_some, option_map, slice_get, if◌then◌else◌}
 use Rattle.std.specs.List.{cons_option, list_all}
 use Rattle.std.proofs.Math.Seq.{take-add}
 use Rattle.std.proofs.lemmas.List.Folds.{list_all-append}
 use Rattle.std.proofs.lemmas.List.{length-append, take-append-drop}
+use Rattle.std.proofs.lemmas.Bool.{and_from}
+use Rattle.bl_tree.proofs.Basics.{all_weaker, and_first, and_second, first_empty, second_empty}
 use Rattle.bl_tree.specs.declared.tree.Role.{Role}
 use Rattle.bl_tree.specs.declared.tree.Role.TheVariants.{Input, Output, Variable as Var, Fixed}
 use Rattle.bl_tree.specs.declared.tree.Ty.{Ty}
 use Rattle.bl_tree.specs.Program.{is_input, is_output}
 use Rattle.bl_tree.specs.Typing.{is_fixed, is_variable}
-use Rattle.bl_eval.proofs.PassLemmas.{and_left, and_right, both}
 use Rattle.bl_names_tree.specs.declared.item.NamedVar.{NamedVar}
 use Rattle.bl_types.specs.declared.environment.Environment.{Environment}
 use Rattle.bl_types.specs.declared.environment.Variable.{Variable}
@@ -42,12 +22,12 @@ use Rattle.bl_names_tree.specs.declared.types.NamedType.{NamedType}
 use Rattle.bl_names_tree.specs.Placed.{DeclaredBefore, holds_if, type_placed, var_placed}
 use Rattle.bl_tree.specs.Types.{type_stands}
 use Rattle.bl_types.specs.declared.environment.Constant.{Constant}
-use Rattle.bl_types_laws.proofs.Forms.{nil_left, nil_right}
 use Rattle.bl_types_laws.proofs.TypesStand.{written_stands}
 use Rattle.bl_types_laws.specs.Standing.{Grown, Known, VariableKnown}
 use Rattle.bl_types_laws.proofs.Declared.{variable_grown, variable_known}
 use Rattle.bl_types_laws.proofs.Expressions.{some_of}
 use Rattle.bl_types_laws.proofs.Walks.{grown_further, grown_self}
+use Rattle.bl_names_laws.proofs.WhatKeeps.{all_both}
 
 -- parameters that have types are all known
 pub record ParametersPassed (before : Environment) (count : ℕ) (after : Environment) : Type 0 where
@@ -73,7 +53,7 @@ one_parameter : (n : ℕ) (constants : List Constant) (var : NamedVar) (env : En
     ParametersPassed env 1 (with_variable env var (option_map (written_type env.constants) var.ty))
 one_parameter n constants var env structs same known is good =
     let ty : Option Ty = option_map (written_type env.constants) var.ty in
-    let written = some_of var.ty (and_right (is_parameter var.role) (is_some var.ty) is) in
+    let written = some_of var.ty (and_second (is_parameter var.role) (is_some var.ty) is) in
     record {
       grown = variable_grown env var ty;
       known = variable_known env var ty (written_type env.constants written.0) known (ap (option_map (written_type env.constants)) written.1)
@@ -98,15 +78,15 @@ parameters_pass : (n : ℕ) (constants : List Constant) (vars : List NamedVar) (
     list_all (written_good n constants) vars ≡ true → ParametersPassed env (length vars) (after_parameters vars env).env
 parameters_pass n constants [] env structs same known all good = record { grown = grown_self env; known = known; longer = omega arith; same_constants = refl }
 parameters_pass n constants (var ∷ rest) env structs same known all good =
-    let typed : is_typed_parameter var ≡ true = and_left (is_typed_parameter var) (list_all is_typed_parameter rest) all in
+    let typed : is_typed_parameter var ≡ true = and_first (is_typed_parameter var) (list_all is_typed_parameter rest) all in
     let first : Environment = (after_parameter var env).env in
     let one : ParametersPassed env 1 first =
-    subst (ParametersPassed env 1) (sym (parameter_is var env (and_left (is_parameter var.role) (is_some var.ty) typed)))
-    (one_parameter n constants var env structs same known typed (and_left (written_good n constants var) (list_all (written_good n constants) rest) good)) in
+    subst (ParametersPassed env 1) (sym (parameter_is var env (and_first (is_parameter var.role) (is_some var.ty) typed)))
+    (one_parameter n constants var env structs same known typed (and_first (written_good n constants var) (list_all (written_good n constants) rest) good)) in
     further_parameters env first (after_parameters rest first).env (length rest) one
     (parameters_pass n constants rest first (ap length one.grown.structs ∙ structs) (one.same_constants ∙ same) one.known
-    (and_right (is_typed_parameter var) (list_all is_typed_parameter rest) all)
-    (and_right (written_good n constants var) (list_all (written_good n constants) rest) good))
+    (and_second (is_typed_parameter var) (list_all is_typed_parameter rest) all)
+    (and_second (written_good n constants var) (list_all (written_good n constants) rest) good))
 
 optional_good : (earlier : DeclaredBefore) (constants : List Constant) (env : Environment) (ty : Option NamedType) → env.constants ≡ constants →
     holds_if (type_placed earlier) ty ≡ true → optional_lengths env ty ≡ [] →
@@ -122,25 +102,25 @@ parameters_good : (earlier : DeclaredBefore) (constants : List Constant) (vars :
 parameters_good earlier constants [] env same all placed none = refl
 parameters_good earlier constants (var ∷ rest) env same all placed none =
     let first : Declaring = after_parameter var env in
-    let role : is_parameter var.role ≡ true = and_left (is_parameter var.role) (is_some var.ty)
-    (and_left (is_typed_parameter var) (list_all is_typed_parameter rest) all) in
+    let role : is_parameter var.role ≡ true = and_first (is_parameter var.role) (is_some var.ty)
+    (and_first (is_typed_parameter var) (list_all is_typed_parameter rest) all) in
     let lengths : optional_lengths env var.ty ≡ [] =
     ap (λ holds. (if holds then after_variable var env else unchanged env).failures) (sym role)
-    ∙ nil_left first.failures (after_parameters rest first.env).failures none in
-    both (written_good earlier.structs constants var) (list_all (written_good earlier.structs constants) rest)
-    (optional_good earlier constants env var.ty same (and_left (var_placed earlier var) (list_all (var_placed earlier) rest) placed) lengths)
+    ∙ first_empty first.failures (after_parameters rest first.env).failures none in
+    and_from (written_good earlier.structs constants var) (list_all (written_good earlier.structs constants) rest)
+    (optional_good earlier constants env var.ty same (and_first (var_placed earlier var) (list_all (var_placed earlier) rest) placed) lengths)
     (parameters_good earlier constants rest first.env (ap (λ (env : Environment). env.constants) (parameter_is var env role) ∙ same)
-    (and_right (is_typed_parameter var) (list_all is_typed_parameter rest) all)
-    (and_right (var_placed earlier var) (list_all (var_placed earlier) rest) placed) (nil_right first.failures (after_parameters rest first.env).failures none))
+    (and_second (is_typed_parameter var) (list_all is_typed_parameter rest) all)
+    (and_second (var_placed earlier var) (list_all (var_placed earlier) rest) placed) (second_empty first.failures (after_parameters rest first.env).failures none))
 
 -- what fails in some fails in all
 failures_front : (xs ys : List NamedVar) (env : Environment) → (after_parameters (xs ++ ys) env).failures ≡ [] → (after_parameters xs env).failures ≡ []
 failures_front [] ys env none = refl
 failures_front (x ∷ xs) ys env none =
     let first : Declaring = after_parameter x env in
-    let one : first.failures ≡ [] = nil_left first.failures (after_parameters (xs ++ ys) first.env).failures none in
+    let one : first.failures ≡ [] = first_empty first.failures (after_parameters (xs ++ ys) first.env).failures none in
     let more : (after_parameters xs first.env).failures ≡ [] = failures_front xs ys first.env
-    (nil_right first.failures (after_parameters (xs ++ ys) first.env).failures none) in
+    (second_empty first.failures (after_parameters (xs ++ ys) first.env).failures none) in
     λ i. one i ++ more i
 
 abbrev pub is_local : NamedVar → Bool
@@ -156,44 +136,32 @@ pub locals_pass : (vars : List NamedVar) (env : Environment) → list_all is_loc
 locals_pass [] env all = refl
 locals_pass (var ∷ rest) env all =
     ap (λ holds. (after_parameters rest (if holds then after_variable var env else unchanged env).env).env)
-    (local_role var.role (and_left (is_local var) (list_all is_local rest) all))
-    ∙ locals_pass rest env (and_right (is_local var) (list_all is_local rest) all)
+    (local_role var.role (and_first (is_local var) (list_all is_local rest) all))
+    ∙ locals_pass rest env (and_second (is_local var) (list_all is_local rest) all)
 
 pub parameters_append : (xs ys : List NamedVar) (env : Environment) → (after_parameters (xs ++ ys) env).env
     ≡ (after_parameters ys (after_parameters xs env).env).env
 parameters_append [] ys env = refl
 parameters_append (x ∷ xs) ys env = parameters_append xs ys (after_parameter x env).env
 
-input_role : (role : Role) → is_input role ≡ true → is_parameter role ≡ true
+pub input_role : (role : Role) → is_input role ≡ true → is_parameter role ≡ true
 input_role Input is = refl
 input_role Output is = absurd (cc)
 input_role Var is = absurd (cc)
 input_role Fixed is = absurd (cc)
 
-output_role : (role : Role) → is_output role ≡ true → is_parameter role ≡ true
+pub output_role : (role : Role) → is_output role ≡ true → is_parameter role ≡ true
 output_role Input is = absurd (cc)
 output_role Output is = refl
 output_role Var is = absurd (cc)
 output_role Fixed is = absurd (cc)
-
-pub all_weaker : {X : Type 0} (p q : X → Bool) → ((x : X) → p x ≡ true → q x ≡ true) → (xs : List X) → list_all p xs ≡ true →
-    list_all q xs ≡ true
-all_weaker p q each [] all = refl
-all_weaker p q each (x ∷ xs) all = both (q x) (list_all q xs) (each x (and_left (p x) (list_all p xs) all))
-    (all_weaker p q each xs (and_right (p x) (list_all p xs) all))
-
-all_both : {X : Type 0} (p q : X → Bool) (xs : List X) → list_all p xs ≡ true → list_all q xs ≡ true → list_all (λ x. p x && q x) xs ≡ true
-all_both p q [] all more = refl
-all_both p q (x ∷ xs) all more =
-    both (p x && q x) (list_all (λ x. p x && q x) xs) (both (p x) (q x) (and_left (p x) (list_all p xs) all) (and_left (q x) (list_all q xs) more))
-    (all_both p q xs (and_right (p x) (list_all p xs) all) (and_right (q x) (list_all q xs) more))
 
 -- the first n and the next m
 take_both : {X : Type 0} (p : X → Bool) (xs : List X) (n m : ℕ) → list_all p (take n xs) ≡ true → list_all p (take m (drop n xs)) ≡ true →
     list_all p (take (n + m) xs) ≡ true
 take_both p xs n m first next =
     ap (list_all p) (take-add n m xs) ∙ list_all-append p (take n xs) (take m (drop n xs))
-    ∙ both (list_all p (take n xs)) (list_all p (take m (drop n xs))) first next
+    ∙ and_from (list_all p (take n xs)) (list_all p (take m (drop n xs))) first next
 
 -- the inputs and outputs of a unit, where they have types, are typed parameters
 pub typed_parameters : (vars : List NamedVar) (inputs outputs : ℕ) → list_all (λ (var : NamedVar). is_input var.role) (take inputs vars) ≡ true →

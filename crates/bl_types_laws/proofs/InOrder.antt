@@ -1,6 +1,7 @@
 -- The statements of a typed program and the conditions of its loops begin one after another.
 use Rattle.std.proofs.Common.{◌≡◌, ℕ, true, false, map, refl, sym, ◌∙◌}
 use Rattle.std.specs.Prelude.{List, IsTrue}
+use Rattle.bl_tree.proofs.Basics.{first_empty}
 use Rattle.bl_tree.specs.declared.tree.Stmt.{fold-Stmt}
 use Rattle.bl_tree.specs.declared.tree.StmtKind.TheOpen.{StmtKind-F}
 use Rattle.bl_tree.specs.declared.tree.Unit.{Unit as UnitDef}
@@ -16,7 +17,6 @@ use Rattle.bl_types.specs.Programs.{after_program, fresh, text_end, typed_progra
 use Rattle.bl_types.specs.Rules.{Passes as TypesPass}
 use Rattle.bl_types.specs.Units.{entries}
 use Rattle.bl_types_laws.specs.Starts.{StatementOffsets, all_starts, arm_layer_starts, branch_layer_starts, starts_of, stmt_kind_starts, stmt_layer_starts}
-use Rattle.bl_types_laws.proofs.Forms.{nil_left}
 use Rattle.bl_types_laws.proofs.Occurrences as standing
 use Rattle.bl_types_laws.proofs.Premises.{ApartStays, ConstantsSuit, ShallowStays, Shapes, Suits, UnitsSuit}
 use Rattle.bl_types_laws.proofs.Reached.{Made}
@@ -46,7 +46,7 @@ in_order : (items : List RawItem) (bytes : ℕ) → Suits (named_program items b
 in_order items bytes suits shapes keeps passes types =
     let named = named_program items bytes in
     let made : Made file_scope items fresh (after_program named).env = turns named suits shapes items file_scope fresh (at_start items bytes passes)
-    keeps.structs keeps.units (nil_left (after_program named).failures (entries false (text_end named) named.units) (no_failure named types)) in
+    keeps.structs keeps.units (first_empty (after_program named).failures (entries false (text_end named) named.units) (no_failure named types)) in
     (λ i. ascends (joined (map (λ (unit : UnitDef). joined (map (sym same_starts i) unit.body)) (made.units i))))
     ∙ picked_ascends made.starts keeps.in_order
 

@@ -2,6 +2,7 @@
 use Rattle.std.proofs.Common.{◌≡◌, List, [], Option, Some, None, refl, ap, sym, subst, ◌∙◌}
 use Rattle.std.specs.Prelude.{Bool, true, not, ◌&&◌, is_none, is_some, option_and_then, if◌then◌else◌, IfSome}
 use Rattle.std.proofs.lemmas.Option.{same_Some}
+use Rattle.bl_tree.proofs.Basics.{and_first, and_second, first_empty, second_empty}
 use Rattle.bl_tree.specs.declared.place.Place.{Place}
 use Rattle.bl_tree.specs.declared.rule.Failure.{Failure}
 use Rattle.bl_tree.specs.declared.rule.Rule.TheVariants as rule
@@ -24,7 +25,6 @@ use Rattle.bl_eval.proofs.ExprFits.{Sound, expr_fits}
 use Rattle.bl_eval.proofs.FitLemmas.{scalar_is}
 use Rattle.bl_eval.proofs.OperatorFits.{DatumFits, OperandFits, operand_fits}
 use Rattle.bl_eval.proofs.PartFits.{type_of_part}
-use Rattle.bl_eval.proofs.PassLemmas.{and_left, and_right}
 use Rattle.bl_names_tree.specs.declared.expr.NamedExpr.{NamedExpr, out-NamedExpr}
 use Rattle.bl_names_tree.specs.declared.item.NamedConstant.{NamedConstant}
 use Rattle.bl_names_tree.specs.declared.types.NamedType.{NamedType}
@@ -33,18 +33,8 @@ use Rattle.bl_types.specs.declared.environment.Environment.{Environment}
 use Rattle.bl_types.specs.declared.form.Form.{Form}
 use Rattle.bl_types.specs.declared.form.Form.TheVariants.{Failing, Open, Of}
 use Rattle.bl_types.specs.declared.form.Valued.{Valued}
-use Rattle.bl_types.specs.Declarations.{
-  Initial,
-  after_constant,
-  closed_initial,
-  constant_failures,
-  constant_of,
-  expr_of_form,
-  initial,
-  not_scalar,
-  type_of_form,
-  typed_initial,
-}
+use Rattle.bl_types.specs.Declarations.{Initial, after_constant, closed_initial, constant_failures, constant_of, expr_of_form, initial, not_scalar}
+use Rattle.bl_types.specs.Declarations.{type_of_form, typed_initial}
 use Rattle.bl_types.specs.Expressions.{Judged, closed_form, in_context, judged, of_settled}
 use Rattle.bl_types.specs.Folded.{folded, is_constant, no_values, not_constant, nowhere, number_in, number_or_zero, traps}
 use Rattle.bl_types.specs.Settled.{Settled, int32}
@@ -52,7 +42,7 @@ use Rattle.bl_types.specs.Written.{bad_lengths, written_type}
 use Rattle.bl_types_laws.specs.Fitting.{FormFits, InitialFits, IsMade}
 use Rattle.bl_types_laws.specs.Within.{ConstantStands, EnvironmentWithin, calls_functions, known_in}
 use Rattle.bl_types_laws.proofs.Expressions.{expressions_fit, some_of, wanted_fits}
-use Rattle.bl_types_laws.proofs.Forms.{nil_left, nil_right, unless_holds}
+use Rattle.bl_types_laws.proofs.Forms.{unless_holds}
 use Rattle.bl_types_laws.proofs.Nameless.{Layer, MadeNameless, initial_nameless, is_nameless, nameless_by, nameless_is}
 use Rattle.bl_types_laws.proofs.Typed.{kind_at}
 
@@ -87,10 +77,10 @@ module _ (site other : TypingContext) where
     two = λ place op a b same more. by_kind place (ExprKind-F.Two op a b)
         (λ is.
         ap (λ found. option_and_then (λ s. option_and_then (two_type op s) (option_and_then scalar_in (type_of site b))) (option_and_then scalar_in found))
-        (same (and_left (is_nameless a) (is_nameless b) is))
+        (same (and_first (is_nameless a) (is_nameless b) is))
         ∙ ap (λ found. option_and_then (λ s. option_and_then (two_type op s) (option_and_then scalar_in found))
         (option_and_then scalar_in (type_of other a)))
-        (more (and_right (is_nameless a) (is_nameless b) is)));
+        (more (and_second (is_nameless a) (is_nameless b) is)));
     cast = λ place target a same. by_kind place (ExprKind-F.Cast target a)
         (λ is. ap (λ found. option_and_then (cast_type target) (option_and_then scalar_in found)) (same is));
     call = λ place f inputs each. by_kind place (ExprKind-F.Call f inputs) (λ is. absurd (cc));
@@ -151,11 +141,11 @@ module _ (env : Environment) (site : TypingContext) (within : EnvironmentWithin 
   initial_fits (Some written) e placed calls none =
       let value : Settled = in_context (Some (written_type env.constants written)) (judged env e) in
       wanted_initial site (written_type env.constants written) (bad_lengths env.constants written) value
-      (wanted_fits env site within e placed calls (written_type env.constants written) (nil_right (bad_lengths env.constants written) value.failures none))
+      (wanted_fits env site within e placed calls (written_type env.constants written) (second_empty (bad_lengths env.constants written) value.failures none))
   initial_fits None e placed calls none =
       let value : Judged = judged env e in
       closed_fits site value.failures value.form (expressions_fit env site within e placed calls
-      (nil_left value.failures (closed_form value.form).failures none)) (nil_right value.failures (closed_form value.form).failures none)
+      (first_empty value.failures (closed_form value.form).failures none)) (second_empty value.failures (closed_form value.form).failures none)
 
   constant_by_value : (name : Place) (e : NamedExpr) (valued : Valued) → InitialFits site valued →
       (is_constant e ≡ true → MadeNameless valued.value) →
@@ -163,13 +153,13 @@ module _ (env : Environment) (site : TypingContext) (within : EnvironmentWithin 
       ConstantStands (constant_of e valued)
   constant_by_value name e valued fit nameless none =
       let scalar_none : not_scalar name (Some fit.ty) ≡ [] = ap (not_scalar name) (sym fit.is_typed)
-      ∙ nil_left (not_scalar name valued.ty) (not_constant e valued.value) none in
+      ∙ first_empty (not_scalar name valued.ty) (not_constant e valued.value) none in
       let found = some_of (scalar_in fit.ty) (unless_holds (is_some (scalar_in fit.ty)) rule.Type name scalar_none) in
       let good = unless_holds (is_constant e && not (traps valued.value)) rule.Constant (out-NamedExpr e).place
-      (nil_right (not_scalar name valued.ty) (not_constant e valued.value) none) in
-      let constant = and_left (is_constant e) (not (traps valued.value)) good in
+      (second_empty (not_scalar name valued.ty) (not_constant e valued.value) none) in
+      let constant = and_first (is_constant e) (not (traps valued.value)) good in
       let number = not_none (number_in fit.it)
-      (ap (λ value. not (traps value)) (sym fit.is_made) ∙ and_right (is_constant e) (not (traps valued.value)) good) in
+      (ap (λ value. not (traps value)) (sym fit.is_made) ∙ and_second (is_constant e) (not (traps valued.value)) good) in
       let value : number_or_zero (folded e valued.value) ≡ number.0.n =
       ap (λ (holds : Bool). number_or_zero (if holds then option_and_then number_in valued.value else None)) constant
       ∙ ap (λ made. number_or_zero (option_and_then number_in made)) fit.is_made
@@ -189,7 +179,7 @@ module _ (env : Environment) (site : TypingContext) (within : EnvironmentWithin 
   constant_fits constant placed calls none =
       let value : Initial = initial env constant.ty constant.value in
       constant_by_value constant.name.place constant.value value.valued
-      (initial_fits constant.ty constant.value placed calls (nil_left value.failures
+      (initial_fits constant.ty constant.value placed calls (first_empty value.failures
       (constant_failures constant.name.place constant.value value.valued) none))
       (initial_nameless env constant.ty constant.value)
-      (nil_right value.failures (constant_failures constant.name.place constant.value value.valued) none)
+      (second_empty value.failures (constant_failures constant.name.place constant.value value.valued) none)

@@ -1,36 +1,13 @@
 -- Units are named as their types want it, and calls in the values of constants name functions, where every use fits.
-use Rattle.std.proofs.Common.{
-  ◌≡◌,
-  ℕ,
-  zero,
-  suc,
-  ◌+◌,
-  Bool,
-  true,
-  ◌&&◌,
-  List,
-  [],
-  ◌∷◌,
-  ◌++◌,
-  map,
-  length,
-  take,
-  Some,
-  None,
-  refl,
-  sym,
-  ap,
-  subst,
-  ◌∙◌,
-  append_assoc,
-  append-nil,
-  arith,
-}
+use Rattle.std.proofs.Common.{◌≡◌, ℕ, zero, suc, ◌+◌, Bool, true, ◌&&◌, List, [], ◌∷◌, ◌++◌, map, length, take, Some, None, refl, sym, ap, subst, ◌∙◌}
+use Rattle.std.proofs.Common.{append_assoc, append-nil, arith}
 use Rattle.std.specs.Prelude.{slice_get, ⊤}
 use Rattle.std.specs.List.{list_all}
 use Rattle.std.proofs.lemmas.Option.{same_Some}
 use Rattle.std.proofs.lemmas.List.{length-append}
 use Rattle.std.proofs.lemmas.List.Folds.{list_all-append}
+use Rattle.std.proofs.lemmas.Bool.{and_from}
+use Rattle.bl_tree.proofs.Basics.{all_is_all_of, and_first, and_second, plus_none}
 use Rattle.bl_tree.specs.declared.tree.Role.TheVariants as role
 use Rattle.bl_tree.specs.declared.tree.Unit.{Unit as UnitDef}
 use Rattle.bl_tree.specs.declared.tree.UnitKind.{UnitKind}
@@ -44,21 +21,8 @@ use Rattle.bl_names_tree.specs.declared.stmt.NamedStmt.{NamedStmt}
 use Rattle.bl_names_tree.specs.Placed.{holds_of}
 use Rattle.bl_names_scopes.specs.declared.kind.Kind.TheVariants as kinds
 use Rattle.bl_names_scopes.specs.declared.scopes.Counts.{Counts}
-use Rattle.bl_names_scopes.specs.Marks.{
-  closes,
-  constant_marks,
-  declares,
-  expr_marks,
-  in_scope,
-  inside_unit,
-  item_marks,
-  kind_of_unit,
-  marks_of,
-  optional,
-  struct_marks,
-  type_marks,
-  unit_marks,
-}
+use Rattle.bl_names_scopes.specs.Marks.{closes, constant_marks, declares, expr_marks, in_scope, inside_unit, item_marks, kind_of_unit, marks_of, optional}
+use Rattle.bl_names_scopes.specs.Marks.{struct_marks, type_marks, unit_marks}
 use Rattle.bl_names_scopes.specs.Scopes.{Scopes, after, count_of, counted, enter}
 use Rattle.bl_parse_tree.specs.declared.item.RawItem.{RawItem}
 use Rattle.bl_parse_tree.specs.declared.item.RawItem.TheVariants as item
@@ -73,18 +37,15 @@ use Rattle.bl_names.proofs.PastLemmas.{enter-behind}
 use Rattle.bl_names.proofs.PieceLemmas.{block_marks, role_marks}
 use Rattle.bl_names.proofs.PlacedStmt.{Within, closed_is, within_first, within_second}
 use Rattle.bl_names.proofs.StillLemmas.{after-append, still_optional, still_type, still_value}
-use Rattle.bl_eval.proofs.PassLemmas.{and_left, and_right, both, get_seam}
+use Rattle.bl_eval.proofs.PassLemmas.{get_seam}
 use Rattle.bl_types_laws.specs.Standing.{stmt_named, unit_named}
 use Rattle.bl_types_laws.proofs.NamedHeads.{head_at, head_long, head_suits, is_typed}
 use Rattle.bl_types_laws.proofs.StmtNames.{every_body, value_is}
 use Rattle.bl_types_laws.proofs.Suits.{Suits, constant_calls, suits_so, suits_then, told_opened}
 use Rattle.bl_types_laws.proofs.Told.{Told, kind_told, kinds_of, told_declared, told_more}
+use Rattle.bl_names.proofs.PlacedItem.{unit_counted}
 
 -- ---- units
-
-all_is : {A : Type 0} (test : A → Bool) (xs : List A) → list_all test xs ≡ all_of (map test xs)
-all_is test [] = refl
-all_is test (x ∷ xs) = ap (λ rest. test x && rest) (all_is test xs)
 
 -- the marks in a unit, with the result behind the parameters
 inside_are : (def : RawUnit) → inside_unit def ≡ (params_piece def).marks ++ (optional type_marks def.result ++ (block_piece def.body).marks)
@@ -131,9 +92,9 @@ module _ (units : List UnitDef) (all_constants : List NamedConstant) (scopes : S
 
   body_stands : all_of (map stmt_stands def.body) ≡ true
   body_stands =
-      sym (all_is stmt_stands def.body)
-      ∙ and_right (if_there type_named def.result) (list_all stmt_stands def.body)
-      (and_right (named def.name && (list_all param_named def.inputs && list_all param_named def.outputs))
+      sym (all_is_all_of stmt_stands def.body)
+      ∙ and_second (if_there type_named def.result) (list_all stmt_stands def.body)
+      (and_second (named def.name && (list_all param_named def.inputs && list_all param_named def.outputs))
       (if_there type_named def.result && list_all stmt_stands def.body) stands)
 
   head : Suits units (list_all is_typed params) (opened scopes) two params ((params_piece def).constants (opened scopes))
@@ -162,19 +123,15 @@ module _ (units : List UnitDef) (all_constants : List NamedConstant) (scopes : S
   unit_suits =
       suits_so units (list_all is_typed params && body_test made.body) (unit_named all_constants units made) (opened scopes) three made.vars
       (constants_in_unit scopes def)
-      (λ is. both (list_all is_typed (take (length def.inputs + length def.outputs) made.vars)) (list_all (stmt_named all_constants made.vars units) made.body)
-      (ap (list_all is_typed) params_typed ∙ and_left (list_all is_typed params) (body_test made.body) is)
-      (all_is (stmt_named all_constants made.vars units) made.body ∙ and_right (list_all is_typed params) (body_test made.body) is))
+      (λ is. and_from (list_all is_typed (take (length def.inputs + length def.outputs) made.vars)) (list_all (stmt_named all_constants made.vars units) made.body)
+      (ap (list_all is_typed) params_typed ∙ and_first (list_all is_typed params) (body_test made.body) is)
+      (all_is_all_of (stmt_named all_constants made.vars units) made.body ∙ and_second (list_all is_typed params) (body_test made.body) is))
       (suits_then units (list_all is_typed params) (body_test made.body) (opened scopes) two three params locals ((params_piece def).constants (opened scopes))
       ((block_piece def.body).constants two) head body)
 
 -- ---- behind a unit
 
-unit_counted : (kind : UnitKind) (counts : Counts) → counted counts (kind_of_unit kind) ≡ record counts { units = counts.units + 1; variables = 0 }
-unit_counted unit.Function counts = refl
-unit_counted unit.Activity counts = refl
-
-unit_told : (done : List UnitKind) (kind : UnitKind) (counts : Counts) → counts.units ≡ length done →
+pub unit_told : (done : List UnitKind) (kind : UnitKind) (counts : Counts) → counts.units ≡ length done →
     kind_told (done ++ (kind ∷ [])) (kind_of_unit kind) (count_of counts (kind_of_unit kind)) ≡ true
 unit_told done unit.Function counts is = ap (holds_of is_function) (get_seam done unit.Function counts.units is)
 unit_told done unit.Activity counts is = ap (holds_of is_activity) (get_seam done unit.Activity counts.units is)
@@ -212,9 +169,6 @@ behind_unit units holds done scopes def vars constants told counted_is suits =
 
 -- ---- items
 
-none_more : (n : ℕ) → n ≡ n + 0
-none_more n = omega arith
-
 behind_struct : (done : List UnitKind) (scopes : Scopes) (def : RawStruct) → Told done scopes → scopes.counts.variables ≡ 0 →
     scopes.counts.units ≡ length done → Behind done scopes (after scopes (struct_marks def)) []
 behind_struct done scopes def told none counted =
@@ -224,7 +178,7 @@ behind_struct done scopes def told none counted =
       no_variables = none;
       counted = counted;
       more_constants =
-          none_more scopes.counts.constants;
+          plus_none scopes.counts.constants;
     })
 
 behind_constant : (done : List UnitKind) (scopes : Scopes) (def : RawConstant) → Told done scopes → scopes.counts.variables ≡ 0 →
@@ -275,7 +229,7 @@ module _ (all_constants : List NamedConstant) where
     none = behind.no_variables;
     counted = behind.counted;
     fits = fits_second scopes (item_marks one) (marks_of items) known.fits;
-    stand = and_right (item_stands one) (list_all item_stands items) known.stand;
+    stand = and_second (item_stands one) (list_all item_stands items) known.stand;
     within = subst (λ at. Within all_constants at (along constants_of (after scopes (item_marks one)) items)) (sym behind.more_constants)
         (within_second all_constants scopes.counts.constants (constants_of scopes one) (along constants_of (after scopes (item_marks one)) items) known.within);
   }
@@ -291,7 +245,7 @@ module _ (all_constants : List NamedConstant) where
       ItemsSuit done units constants → ItemsSuit done units (named_constant scopes def ∷ constants)
   constant_then done scopes def units constants told fits later = record {
     are_named = later.are_named;
-    calls = λ whole is. both (constant_calls whole (named_constant scopes def)) (list_all (constant_calls whole) constants)
+    calls = λ whole is. and_from (constant_calls whole (named_constant scopes def)) (list_all (constant_calls whole) constants)
         (value_is whole scopes def (told_among done (map (λ (unit : NamedUnit). unit.kind) units) scopes whole told is)
         (fits_first scopes (optional type_marks def.ty ++ expr_marks def.value) (declares def.name kinds.Constant ∷ []) fits))
         (later.calls whole is);
@@ -307,7 +261,7 @@ module _ (all_constants : List NamedConstant) where
     calls = λ whole is.
         let kinds = map (λ (unit : NamedUnit). unit.kind) units in
         list_all-append (constant_calls whole) (constants_in_unit scopes def) constants
-        ∙ both (list_all (constant_calls whole) (constants_in_unit scopes def)) (list_all (constant_calls whole) constants)
+        ∙ and_from (list_all (constant_calls whole) (constants_in_unit scopes def)) (list_all (constant_calls whole) constants)
         (suits whole (told_among done (def.kind ∷ kinds) scopes whole told is)).calls
         (later.calls whole (is ∙ sym (append_assoc done (def.kind ∷ []) kinds)));
   }
@@ -318,7 +272,7 @@ module _ (all_constants : List NamedConstant) where
       (constants_in_unit scopes def)
   unit_at done scopes def items known whole told =
       unit_suits whole all_constants scopes def told known.none (fits_first scopes (unit_marks def) (marks_of items) known.fits)
-      (and_left (unit_stands def) (list_all item_stands items) known.stand)
+      (and_first (unit_stands def) (list_all item_stands items) known.stand)
       (within_first all_constants scopes.counts.constants (constants_in_unit scopes def) (along constants_of (after scopes (unit_marks def)) items)
       known.within)
 

@@ -37,7 +37,7 @@ module _ (named : Named) (suits : Suits named) (shapes : Shapes) where
 
 -- ---- where nothing fails
 
-none_contained : (xs : List Failure) → ((failure : Failure) → Contains xs failure → ⊥) → xs ≡ []
+pub none_contained : (xs : List Failure) → ((failure : Failure) → Contains xs failure → ⊥) → xs ≡ []
 none_contained [] none = refl
 none_contained (failure ∷ rest) none = absurd (none failure (in_contains failure (failure ∷ rest) (inl refl)))
 
@@ -49,13 +49,13 @@ no_failure named passes =
 
 -- ---- the first turn
 
-no_variable : (k : ℕ) (known : Variable) → slice_get [] k ≡ Some known → ⊥
+pub no_variable : (k : ℕ) (known : Variable) → slice_get [] k ≡ Some known → ⊥
 no_variable k known is = absurd (cc)
 
 no_constant : (k : ℕ) (constant : Constant) → slice_get [] k ≡ Some constant → ⊥
 no_constant k constant is = absurd (cc)
 
-no_struct : (k : ℕ) (def : StructDef) → slice_get [] k ≡ Some def → ⊥
+pub no_struct : (k : ℕ) (def : StructDef) → slice_get [] k ≡ Some def → ⊥
 no_struct k def is = absurd (cc)
 
 fresh_between : BetweenUnits fresh

@@ -3,10 +3,10 @@ use Rattle.std.proofs.Common.{◌≡◌, ℕ, List, [], length, Some, refl, ap, 
 use Rattle.std.specs.Prelude.{true, slice_get}
 use Rattle.std.specs.List.{list_all}
 use Rattle.std.proofs.lemmas.List.{append-nil}
+use Rattle.bl_tree.proofs.Basics.{and_second}
 use Rattle.bl_tree.specs.declared.tree.Field.{Field}
 use Rattle.bl_tree.specs.declared.tree.StructDef.{StructDef}
 use Rattle.bl_tree.specs.Types.{type_stands}
-use Rattle.bl_eval.proofs.PassLemmas.{and_right}
 use Rattle.bl_names_tree.specs.declared.item.NamedConstant.{NamedConstant}
 use Rattle.bl_names_tree.specs.declared.item.NamedStruct.{NamedStruct}
 use Rattle.bl_names_tree.specs.Placed.{constant_placed, expr_placed, holds_if, struct_placed, type_placed}
@@ -49,6 +49,6 @@ constant_between constant env between placed calls none = record {
   vars = between.vars;
   known = constant_known env (constant_of constant.value (initial env constant.ty constant.value).valued) between.known
       (constant_fits env (site_in env) (within_in env (site_in env) (around_self env between) between.known) constant
-      (and_right (holds_if (type_placed (known_in env)) constant.ty) (expr_placed (known_in env) constant.value) placed) calls none);
+      (and_second (holds_if (type_placed (known_in env)) constant.ty) (expr_placed (known_in env) constant.value) placed) calls none);
   heads = between.heads;
 }

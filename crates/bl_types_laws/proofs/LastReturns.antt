@@ -3,6 +3,8 @@ use Rattle.std.proofs.Common.{◌≡◌, List, [], ◌∷◌, map, Option, Some,
 use Rattle.std.specs.Prelude.{Bool, true, false, not, ◌||◌, option_map, if◌then◌else◌}
 use Rattle.std.specs.List.{cons_option}
 use Rattle.std.proofs.lemmas.Option.{same_Some}
+use Rattle.std.proofs.lemmas.Bool.{and_from}
+use Rattle.bl_tree.proofs.Basics.{first_empty, second_empty}
 use Rattle.bl_tree.specs.declared.place.Place.{Place}
 use Rattle.bl_tree.specs.declared.scalar.Scalar.{Scalar as ScalarType}
 use Rattle.bl_tree.specs.declared.tree.Stmt.{Stmt, out-roll-Stmt}
@@ -10,7 +12,6 @@ use Rattle.bl_tree.specs.declared.tree.StmtKind.{StmtKind, out-StmtKind}
 use Rattle.bl_tree.specs.declared.tree.StmtKind.TheOpen.{StmtKind-F}
 use Rattle.bl_tree.specs.declared.tree.StmtKind.TheVariants as what
 use Rattle.bl_tree.specs.Returns.{has_return, is_return, is_return_kind, returns_last_alone}
-use Rattle.bl_eval.proofs.PassLemmas.{both}
 use Rattle.bl_names_tree.specs.declared.expr.NamedExpr.{NamedExpr}
 use Rattle.bl_names_tree.specs.declared.item.NamedConstant.{NamedConstant}
 use Rattle.bl_names_tree.specs.declared.item.NamedVar.{NamedVar}
@@ -20,7 +21,7 @@ use Rattle.bl_names_tree.specs.declared.stmt.NamedStmtKind.TheOpen.{NamedStmtKin
 use Rattle.bl_types.specs.declared.environment.Environment.{Environment}
 use Rattle.bl_types.specs.Returns.{is_return as named_is_return, is_return_kind as named_return_kind, stray, strays, strays_in}
 use Rattle.bl_types.specs.Statements.{StatementJudgement, in_order, returned, stmt_made, walked_stmt}
-use Rattle.bl_types_laws.proofs.Forms.{map_found, nil_left, nil_right}
+use Rattle.bl_types_laws.proofs.Forms.{map_found}
 use Rattle.bl_types_laws.proofs.NamedStmtInduction.{stmt}
 use Rattle.bl_types_laws.proofs.Straying.{statement_none}
 use Rattle.bl_types_laws.proofs.StmtLayers.{Layer, walked_by, walked_is}
@@ -90,15 +91,15 @@ module _ (constants : List NamedConstant) (vars : List NamedVar) where
       returns_last_alone (cons_option made rest) ≡ true
   front_alone None rest none alone = alone
   front_alone (Some t) [] none alone = ap (λ holds. not holds || is_return t) (none t refl)
-  front_alone (Some t) (u ∷ rest) none alone = both (not (has_return t)) (returns_last_alone (u ∷ rest)) (ap not (none t refl)) alone
+  front_alone (Some t) (u ∷ rest) none alone = and_from (not (has_return t)) (returns_last_alone (u ∷ rest)) (ap not (none t refl)) alone
 
   -- a body in which no `return` strays is made one that returns with its last statement alone
   pub body_alone : (body : List NamedStmt) → strays body ≡ [] → (env : Environment) →
       returns_last_alone (in_order (map (walked_stmt constants vars) body) env).made ≡ true
   body_alone [] none env = refl
   body_alone (s ∷ []) none env =
-      one_alone (walked_stmt constants vars s env).made (last_by s env (named_is_return s) refl (nil_left (stray false s) [] none))
+      one_alone (walked_stmt constants vars s env).made (last_by s env (named_is_return s) refl (first_empty (stray false s) [] none))
   body_alone (s ∷ t ∷ rest) none env =
       front_alone (walked_stmt constants vars s env).made (in_order (map (walked_stmt constants vars) (t ∷ rest)) (walked_stmt constants vars s env).env).made
-      (statement_none constants vars s (nil_left (strays_in s) (strays (t ∷ rest)) none) env)
-      (body_alone (t ∷ rest) (nil_right (strays_in s) (strays (t ∷ rest)) none) (walked_stmt constants vars s env).env)
+      (statement_none constants vars s (first_empty (strays_in s) (strays (t ∷ rest)) none) env)
+      (body_alone (t ∷ rest) (second_empty (strays_in s) (strays (t ∷ rest)) none) (walked_stmt constants vars s env).env)

@@ -2,11 +2,12 @@
 use Rattle.std.proofs.Common.{◌≡◌, ◌+◌, true, ◌&&◌, List, [], ◌∷◌, map, refl, ap, sym, ◌∙◌}
 use Rattle.std.specs.Prelude.{nat_le}
 use Rattle.std.specs.List.{list_all}
+use Rattle.std.proofs.lemmas.Bool.{and_from}
+use Rattle.bl_tree.proofs.Basics.{and_first, and_second}
 use Rattle.bl_tree.specs.declared.tree.Stmt.{Stmt}
 use Rattle.bl_tree.specs.Apart.{Naming, is_apart, naming_of}
 use Rattle.bl_tree.specs.Depths.{Depth, depth_of, is_shallow, of_all}
 use Rattle.bl_tree.specs.Reduce.{all_of}
-use Rattle.bl_eval.proofs.PassLemmas.{and_left, and_right, both}
 use Rattle.bl_names_tree.specs.declared.item.NamedConstant.{NamedConstant}
 use Rattle.bl_names_tree.specs.declared.item.NamedVar.{NamedVar}
 use Rattle.bl_names_tree.specs.declared.stmt.NamedStmt.{NamedStmt}
@@ -14,16 +15,17 @@ use Rattle.bl_names_laws.specs.Apart as named
 use Rattle.bl_names_laws.specs.Depths as nested
 use Rattle.bl_types.specs.declared.environment.Environment.{Environment}
 use Rattle.bl_types.specs.Statements.{walked_block}
-use Rattle.bl_types_laws.proofs.Orders.{DepthMost, at_limit, one_more}
+use Rattle.bl_types_laws.proofs.Orders.{DepthMost}
 use Rattle.bl_types_laws.proofs.ShapeStatements.{statements_in}
+use Rattle.bl_names_laws.proofs.StmtDepth.{below_limit, one_more}
 
 shallow_still : (ones others : Depth) → DepthMost ones others → (nat_le (1 + others.blocks) 100 && nat_le others.exprs 200) ≡ true →
     (nat_le (1 + ones.blocks) 100 && nat_le ones.exprs 200) ≡ true
 shallow_still ones others most shallow =
-    both (nat_le (1 + ones.blocks) 100) (nat_le ones.exprs 200)
-    (at_limit (1 + ones.blocks) (1 + others.blocks) 100 (one_more ones.blocks others.blocks most.blocks)
-    (and_left (nat_le (1 + others.blocks) 100) (nat_le others.exprs 200) shallow))
-    (at_limit ones.exprs others.exprs 200 most.exprs (and_right (nat_le (1 + others.blocks) 100) (nat_le others.exprs 200) shallow))
+    and_from (nat_le (1 + ones.blocks) 100) (nat_le ones.exprs 200)
+    (below_limit (1 + ones.blocks) (1 + others.blocks) 100 (one_more ones.blocks others.blocks most.blocks)
+    (and_first (nat_le (1 + others.blocks) 100) (nat_le others.exprs 200) shallow))
+    (below_limit ones.exprs others.exprs 200 most.exprs (and_second (nat_le (1 + others.blocks) 100) (nat_le others.exprs 200) shallow))
 
 -- the test of the library
 all_apart_is : {A : Type 0} (naming : A → Naming) (xs : List A) → list_all (λ x. (naming x).apart) xs ≡ all_of (map (λ n. n.apart) (map naming xs))

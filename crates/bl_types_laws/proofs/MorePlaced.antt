@@ -4,9 +4,10 @@ use Rattle.std.specs.Prelude.{All, Bool, true, ◌&&◌}
 use Rattle.std.proofs.lemmas.Bool.{lt-ltb, ltb-true}
 use Rattle.std.proofs.lemmas.List.{length-append}
 use Rattle.std.proofs.lemmas.List.Elements.{All-head, All-tail}
+use Rattle.std.proofs.lemmas.Bool.{and_from}
+use Rattle.bl_tree.proofs.Basics.{and_first, and_second}
 use Rattle.bl_tree.specs.declared.place.Place.{Place}
 use Rattle.bl_tree.specs.Reduce.{all_of}
-use Rattle.bl_eval.proofs.PassLemmas.{and_left, and_right, both}
 use Rattle.bl_names_tree.specs.declared.expr.NamedExpr.{NamedExpr, fold-roll-NamedExpr}
 use Rattle.bl_names_tree.specs.declared.expr.NamedExprKind.{NamedExprKind, fold-NamedExprKind, fold-roll-NamedExprKind, map-NamedExprKind}
 use Rattle.bl_names_tree.specs.declared.expr.NamedExprKind.TheOpen.{NamedExprKind-F, NamedPart-F}
@@ -54,8 +55,8 @@ all_more : {X : Type 0} (a b : X → Bool) (xs : List X) → All (λ x. a x ≡ 
     all_of (map b xs) ≡ true
 all_more a b [] each all = refl
 all_more a b (x ∷ xs) each all =
-    both (b x) (all_of (map b xs)) (All-head (λ x. a x ≡ true → b x ≡ true) x xs each (and_left (a x) (all_of (map a xs)) all))
-    (all_more a b xs (All-tail (λ x. a x ≡ true → b x ≡ true) x xs each) (and_right (a x) (all_of (map a xs)) all))
+    and_from (b x) (all_of (map b xs)) (All-head (λ x. a x ≡ true → b x ≡ true) x xs each (and_first (a x) (all_of (map a xs)) all))
+    (all_more a b xs (All-tail (λ x. a x ≡ true → b x ≡ true) x xs each) (and_second (a x) (all_of (map a xs)) all))
 
 module _ (before after : DeclaredBefore) (constants : before.constants ≤ after.constants) (units : before.units ≤ after.units)
     (variables : before.variables ≤ after.variables) where
@@ -81,11 +82,11 @@ module _ (before after : DeclaredBefore) (constants : before.constants ≤ after
       all_of (map (step_placed after) parts) ≡ true
   parts_more [] each all = refl
   parts_more (part ∷ rest) each all =
-      both (step_placed after part) (all_of (map (step_placed after) rest))
+      and_from (step_placed after part) (all_of (map (step_placed after) rest))
       (placed_part_is after part ∙ layer_more (out-NamedPart part) (All-head (λ part. OfIndex P (out-NamedPart part)) part rest each)
-      (sym (placed_part_is before part) ∙ and_left (step_placed before part) (all_of (map (step_placed before) rest)) all))
+      (sym (placed_part_is before part) ∙ and_first (step_placed before part) (all_of (map (step_placed before) rest)) all))
       (parts_more rest (All-tail (λ part. OfIndex P (out-NamedPart part)) part rest each)
-      (and_right (step_placed before part) (all_of (map (step_placed before) rest)) all))
+      (and_second (step_placed before part) (all_of (map (step_placed before) rest)) all))
 
   more_cases : Cases P Q
   more_cases = record {
@@ -95,19 +96,19 @@ module _ (before after : DeclaredBefore) (constants : before.constants ≤ after
     prev = λ place k. by_kind place (NamedExprKind-F.Prev k) (more_below k before.variables after.variables variables);
     one = λ place op a more. by_kind place (NamedExprKind-F.One op a) more;
     two = λ place op a b more other. by_kind place (NamedExprKind-F.Two op a b)
-        (λ is. both (expr_placed after a) (expr_placed after b) (more (and_left (expr_placed before a) (expr_placed before b) is))
-        (other (and_right (expr_placed before a) (expr_placed before b) is)));
+        (λ is. and_from (expr_placed after a) (expr_placed after b) (more (and_first (expr_placed before a) (expr_placed before b) is))
+        (other (and_second (expr_placed before a) (expr_placed before b) is)));
     cast = λ place target a more. by_kind place (NamedExprKind-F.Cast target a) more;
     call = λ place name f inputs each. by_kind place (NamedExprKind-F.Call name f inputs)
-        (λ is. both (nat_lt f after.units) (all_of (map (expr_placed after) inputs))
-        (more_below f before.units after.units units (and_left (nat_lt f before.units) (all_of (map (expr_placed before) inputs)) is))
-        (all_more (expr_placed before) (expr_placed after) inputs each (and_right (nat_lt f before.units) (all_of (map (expr_placed before) inputs)) is)));
+        (λ is. and_from (nat_lt f after.units) (all_of (map (expr_placed after) inputs))
+        (more_below f before.units after.units units (and_first (nat_lt f before.units) (all_of (map (expr_placed before) inputs)) is))
+        (all_more (expr_placed before) (expr_placed after) inputs each (and_second (nat_lt f before.units) (all_of (map (expr_placed before) inputs)) is)));
     target = λ place root parts each is.
         let placed = sym (target_is before place root parts) ∙ is in
         target_is after place root parts
-        ∙ both (root_placed after root) (all_of (map (step_placed after) parts))
-        (root_more root (and_left (root_placed before root) (all_of (map (step_placed before) parts)) placed))
-        (parts_more parts each (and_right (root_placed before root) (all_of (map (step_placed before) parts)) placed));
+        ∙ and_from (root_placed after root) (all_of (map (step_placed after) parts))
+        (root_more root (and_first (root_placed before root) (all_of (map (step_placed before) parts)) placed))
+        (parts_more parts each (and_second (root_placed before root) (all_of (map (step_placed before) parts)) placed));
   }
 
   more_placed : (e : NamedExpr) → expr_placed before e ≡ true → expr_placed after e ≡ true

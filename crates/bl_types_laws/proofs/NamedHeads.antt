@@ -1,5 +1,5 @@
 -- The parameters of a unit have types, and the rest of its variables stand behind them.
-use Rattle.std.proofs.Common.{◌≡◌, ℕ, ◌+◌, suc, Bool, true, ◌&&◌, List, [], ◌∷◌, ◌++◌, length, take, refl, sym, ap, subst, ◌∙◌}
+use Rattle.std.proofs.Common.{◌≡◌, ℕ, ◌+◌, Bool, true, ◌&&◌, List, [], ◌∷◌, ◌++◌, length, take, refl, sym, subst, ◌∙◌}
 use Rattle.std.specs.Prelude.{Some, is_some}
 use Rattle.std.specs.List.{list_all}
 use Rattle.std.proofs.Math.Seq.{take-append_seam}
@@ -19,13 +19,10 @@ use Rattle.bl_names.proofs.PastLemmas.{enter-behind}
 use Rattle.bl_names.proofs.StillLemmas.{after-append, still_type}
 use Rattle.bl_types_laws.proofs.Suits.{Suits, suits_none, suits_so, suits_then, suits_variable}
 use Rattle.bl_types_laws.proofs.Told.{Told, kinds_of}
+use Rattle.bl_names_laws.proofs.Distinct.{role_long}
 
 abbrev pub is_typed : NamedVar → Bool
 is_typed var = is_some var.ty
-
-role_long : (role : Role) (params : List RawParam) (scopes : Scopes) → length ((role_piece role params).vars scopes) ≡ length params
-role_long role [] scopes = refl
-role_long role (param ∷ params) scopes = ap (λ n. suc n) (role_long role params (after scopes (param_marks param)))
 
 module _ (units : List UnitDef) where
   param_suits : (role : Role) (param : RawParam) (scopes : Scopes) → Told (kinds_of units) scopes →

@@ -2,6 +2,8 @@
 -- that is made of constants too.
 use Rattle.std.proofs.Common.{◌≡◌, ℤ, List, [], map, Option, Some, None, refl, sym, ap, subst, ◌∙◌}
 use Rattle.std.specs.Prelude.{Bool, true, false, ◌&&◌, option_and_then, slice_get, if◌then◌else◌}
+use Rattle.std.proofs.lemmas.Bool.{and_from}
+use Rattle.bl_tree.proofs.Basics.{and_first, and_second}
 use Rattle.bl_tree.specs.declared.place.Place.{Place}
 use Rattle.bl_tree.specs.declared.scalar.Op.{Op}
 use Rattle.bl_tree.specs.declared.scalar.Scalar.{Scalar as ScalarType}
@@ -18,7 +20,6 @@ use Rattle.bl_tree.specs.Scalar.{is_whole}
 use Rattle.bl_tree.specs.Types.{same_type, scalar, scalar_in}
 use Rattle.bl_tree.specs.Typing.{cast_type, one_type}
 use Rattle.bl_tree.proofs.ExprInduction as trees
-use Rattle.bl_eval.proofs.PassLemmas.{and_left, and_right, both}
 use Rattle.bl_names_tree.specs.declared.expr.NamedExpr.{NamedExpr, fold-roll-NamedExpr}
 use Rattle.bl_names_tree.specs.declared.expr.NamedExprKind.{NamedExprKind, fold-NamedExprKind, fold-roll-NamedExprKind, map-NamedExprKind}
 use Rattle.bl_names_tree.specs.declared.expr.NamedExprKind.TheOpen.{NamedExprKind-F}
@@ -31,64 +32,13 @@ use Rattle.bl_types.specs.declared.environment.Environment.{Environment}
 use Rattle.bl_types.specs.declared.form.Form.{Form}
 use Rattle.bl_types.specs.declared.form.Form.TheVariants.{Failing, Open, Of}
 use Rattle.bl_types.specs.Declarations.{expr_of_form, initial}
-use Rattle.bl_types.specs.Expressions.{
-  Formed,
-  Judged,
-  Stepped,
-  Targeted,
-  beside,
-  beside_none,
-  cast,
-  cast_formed,
-  cast_made,
-  closed_form,
-  constant_found,
-  fails_type,
-  formed_as,
-  judged,
-  judged_kind,
-  judged_layer,
-  judged_part,
-  judged_target,
-  of_settled,
-  one_formed,
-  operands_made,
-  reading,
-  settled_two,
-  step_of,
-  stepped,
-  targeted,
-  targeted_from,
-  two_formed,
-  type_of_constant,
-  type_of_two,
-  value_of_constant,
-  wanted_as,
-  written_number,
-}
+use Rattle.bl_types.specs.Expressions.{Formed, Judged, Stepped, Targeted, beside, beside_none, cast, cast_formed, cast_made, closed_form, constant_found}
+use Rattle.bl_types.specs.Expressions.{fails_type, formed_as, judged, judged_kind, judged_layer, judged_part, judged_target, of_settled, one_formed}
+use Rattle.bl_types.specs.Expressions.{operands_made, reading, settled_two, step_of, stepped, targeted, targeted_from, two_formed, type_of_constant}
+use Rattle.bl_types.specs.Expressions.{type_of_two, value_of_constant, wanted_as, written_number}
 use Rattle.bl_types.specs.Folded.{constant_kind, constant_layer, constant_part, constant_target, constant_target_of, is_constant, whole_constant}
-use Rattle.bl_types.specs.Settled.{
-  Settled,
-  given,
-  given_scalar,
-  int32,
-  is_logical,
-  keeps_one_open,
-  keeps_two_open,
-  kept,
-  literal,
-  one,
-  one_made,
-  settled,
-  settled_if,
-  settled_kind,
-  settled_layer,
-  settled_part,
-  settled_path,
-  two,
-  two_made,
-  unfit,
-}
+use Rattle.bl_types.specs.Settled.{Settled, given, given_scalar, int32, is_logical, keeps_one_open, keeps_two_open, kept, literal, one, one_made, settled}
+use Rattle.bl_types.specs.Settled.{settled_if, settled_kind, settled_layer, settled_part, settled_path, two, two_made, unfit}
 use Rattle.bl_types.specs.Written.{written_type}
 use Rattle.bl_types_laws.proofs.NamedExprInduction.{Cases, EachIndex, expr, induct}
 
@@ -156,7 +106,7 @@ FormNameless (Open e) = is_nameless e ≡ true
 FormNameless (Of ty e) = is_nameless e ≡ true
 
 both_nameless : (at : Place) (op : Op) (a b : Expr) → is_nameless a ≡ true → is_nameless b ≡ true → is_nameless (two at op a b) ≡ true
-both_nameless at op a b left right = two_nameless at op a b ∙ both (is_nameless a) (is_nameless b) left right
+both_nameless at op a b left right = two_nameless at op a b ∙ and_from (is_nameless a) (is_nameless b) left right
 
 -- ---- open expressions as ones of a type: what is made of them never names a thing
 
@@ -370,8 +320,8 @@ module _ (env : Environment) where
     prev = λ place k. by_kind place (NamedExprKind-F.Prev k) (λ constant. absurd (cc));
     one = λ place op a shown. by_kind place (NamedExprKind-F.One op a) (λ constant. one_form place op (judged env a).form (shown constant));
     two = λ place op a b shown more. by_kind place (NamedExprKind-F.Two op a b)
-        (λ constant. two_form place op (judged env a).form (judged env b).form (shown (and_left (is_constant a) (is_constant b) constant))
-        (more (and_right (is_constant a) (is_constant b) constant)));
+        (λ constant. two_form place op (judged env a).form (judged env b).form (shown (and_first (is_constant a) (is_constant b) constant))
+        (more (and_second (is_constant a) (is_constant b) constant)));
     cast = λ place s a shown. by_kind place (NamedExprKind-F.Cast s a) (λ constant. cast_form place s (judged env a).form (shown constant));
     call = λ place name f inputs each. by_kind place (NamedExprKind-F.Call name f inputs) (λ constant. absurd (cc));
     target = target_case;

@@ -2,20 +2,15 @@
 use Rattle.std.proofs.Common.{◌≡◌, ℕ, Bool, true, ◌&&◌, nat_lt, List, [], ◌∷◌, map, refl, sym, ◌∙◌}
 use Rattle.std.specs.Prelude.{All, slice_get}
 use Rattle.std.proofs.lemmas.List.Elements.{All-head, All-tail}
+use Rattle.std.proofs.lemmas.Bool.{and_from}
+use Rattle.bl_tree.proofs.Basics.{and_first, and_second}
 use Rattle.bl_tree.specs.declared.place.Place.{Place}
 use Rattle.bl_tree.specs.declared.tree.Unit.{Unit as UnitDef}
 use Rattle.bl_tree.specs.Reduce.{all_of}
 use Rattle.bl_tree.specs.Typing.{is_function}
-use Rattle.bl_eval.proofs.PassLemmas.{and_left, and_right, both}
 use Rattle.bl_names_tree.specs.declared.expr.NamedExpr.{NamedExpr, fold-roll-NamedExpr}
-use Rattle.bl_names_tree.specs.declared.expr.NamedExprKind.{
-  NamedExprKind,
-  fold-NamedExprKind,
-  fold-roll-NamedExprKind,
-  map-NamedExprKind,
-  out-roll-NamedExprKind,
-  roll-NamedExprKind,
-}
+use Rattle.bl_names_tree.specs.declared.expr.NamedExprKind.{NamedExprKind, fold-NamedExprKind, fold-roll-NamedExprKind, map-NamedExprKind}
+use Rattle.bl_names_tree.specs.declared.expr.NamedExprKind.{out-roll-NamedExprKind, roll-NamedExprKind}
 use Rattle.bl_names_tree.specs.declared.expr.NamedExprKind.TheOpen.{NamedExprKind-F, NamedPart-F}
 use Rattle.bl_names_tree.specs.declared.expr.NamedPart.{NamedPart, fold_out-NamedPart, map-NamedPart, out-NamedPart}
 use Rattle.bl_names_tree.specs.declared.expr.NamedTarget.{NamedTarget, fold-roll-NamedTarget, roll-NamedTarget}
@@ -65,11 +60,11 @@ all_narrow : {X : Type 0} (a b c : X → Bool) (xs : List X) → All (λ x. a x 
     all_of (map b xs) ≡ true → all_of (map c xs) ≡ true
 all_narrow a b c [] each one two = refl
 all_narrow a b c (x ∷ xs) each one two =
-    both (c x) (all_of (map c xs))
-    (All-head (λ x. a x ≡ true → b x ≡ true → c x ≡ true) x xs each (and_left (a x) (all_of (map a xs)) one)
-    (and_left (b x) (all_of (map b xs)) two))
-    (all_narrow a b c xs (All-tail (λ x. a x ≡ true → b x ≡ true → c x ≡ true) x xs each) (and_right (a x) (all_of (map a xs)) one)
-    (and_right (b x) (all_of (map b xs)) two))
+    and_from (c x) (all_of (map c xs))
+    (All-head (λ x. a x ≡ true → b x ≡ true → c x ≡ true) x xs each (and_first (a x) (all_of (map a xs)) one)
+    (and_first (b x) (all_of (map b xs)) two))
+    (all_narrow a b c xs (All-tail (λ x. a x ≡ true → b x ≡ true → c x ≡ true) x xs each) (and_second (a x) (all_of (map a xs)) one)
+    (and_second (b x) (all_of (map b xs)) two))
 
 -- a position of these units that is one of a function among all is one among these
 abbrev pub Narrows : List UnitDef → List UnitDef → ℕ → Type 0
@@ -104,7 +99,7 @@ module _ (whole first : List UnitDef) (counts : DeclaredBefore) (narrows : Narro
   target_case place root parts each placed calls =
       calls_target_is first place root parts
       ∙ all_narrow (step_placed counts) (calls_step whole) (calls_step first) parts (λ k d within. part_narrows _ (each k d within))
-      (and_right (root_placed counts root) (all_of (map (step_placed counts) parts)) (sym (placed_target_is counts place root parts) ∙ placed))
+      (and_second (root_placed counts root) (all_of (map (step_placed counts) parts)) (sym (placed_target_is counts place root parts) ∙ placed))
       (sym (calls_target_is whole place root parts) ∙ calls)
 
   cases : Cases P Q
@@ -115,19 +110,19 @@ module _ (whole first : List UnitDef) (counts : DeclaredBefore) (narrows : Narro
     prev = λ place k. by_kind place (NamedExprKind-F.Prev k) (λ placed calls. refl);
     one = λ place op a so. by_kind place (NamedExprKind-F.One op a) so;
     two = λ place op a b is_a is_b. by_kind place (NamedExprKind-F.Two op a b)
-        (λ placed calls. both (calls_functions first a) (calls_functions first b)
-        (is_a (and_left (expr_placed counts a) (expr_placed counts b) placed) (and_left (calls_functions whole a) (calls_functions whole b) calls))
-        (is_b (and_right (expr_placed counts a) (expr_placed counts b) placed) (and_right (calls_functions whole a) (calls_functions whole b) calls)));
+        (λ placed calls. and_from (calls_functions first a) (calls_functions first b)
+        (is_a (and_first (expr_placed counts a) (expr_placed counts b) placed) (and_first (calls_functions whole a) (calls_functions whole b) calls))
+        (is_b (and_second (expr_placed counts a) (expr_placed counts b) placed) (and_second (calls_functions whole a) (calls_functions whole b) calls)));
     cast = λ place s a so. by_kind place (NamedExprKind-F.Cast s a) so;
     call = λ place name f inputs each. by_kind place (NamedExprKind-F.Call name f inputs)
         (λ placed calls.
         let is_there = holds_of (λ (unit : UnitDef). is_function unit.kind) (slice_get whole f) in
-        both (holds_of (λ (unit : UnitDef). is_function unit.kind) (slice_get first f)) (all_of (map (calls_functions first) inputs))
-        (narrows f (and_left (nat_lt f counts.units) (all_of (map (expr_placed counts) inputs)) placed)
-        (and_left is_there (all_of (map (calls_functions whole) inputs)) calls))
+        and_from (holds_of (λ (unit : UnitDef). is_function unit.kind) (slice_get first f)) (all_of (map (calls_functions first) inputs))
+        (narrows f (and_first (nat_lt f counts.units) (all_of (map (expr_placed counts) inputs)) placed)
+        (and_first is_there (all_of (map (calls_functions whole) inputs)) calls))
         (all_narrow (expr_placed counts) (calls_functions whole) (calls_functions first) inputs each
-        (and_right (nat_lt f counts.units) (all_of (map (expr_placed counts) inputs)) placed)
-        (and_right is_there (all_of (map (calls_functions whole) inputs)) calls)));
+        (and_second (nat_lt f counts.units) (all_of (map (expr_placed counts) inputs)) placed)
+        (and_second is_there (all_of (map (calls_functions whole) inputs)) calls)));
     target = target_case;
   }
 

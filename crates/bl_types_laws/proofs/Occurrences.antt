@@ -1,26 +1,5 @@
 -- A statement of a program whose statements begin one after another is known by where it begins.
-use Rattle.std.proofs.Common.{
-  ◌≡◌,
-  ℕ,
-  ◌<◌,
-  true,
-  List,
-  [],
-  ◌∷◌,
-  ◌++◌,
-  map,
-  refl,
-  sym,
-  ap,
-  subst,
-  ◌∙◌,
-  append_assoc,
-  inl,
-  inr,
-  ⊎_elim,
-  ◌⊎◌,
-  arith,
-}
+use Rattle.std.proofs.Common.{◌≡◌, ℕ, ◌<◌, true, List, [], ◌∷◌, ◌++◌, map, refl, sym, ap, subst, ◌∙◌, append_assoc, inl, inr, ⊎_elim, ◌⊎◌, arith}
 use Rattle.std.proofs.lemmas.List.{append-nil}
 use Rattle.bl_tree.specs.declared.place.Place.{Place}
 use Rattle.bl_tree.specs.declared.tree.Arm.{Arm, fold-Arm, fold_out-Arm, out-Arm}
@@ -31,39 +10,12 @@ use Rattle.bl_tree.specs.declared.tree.StmtKind.{StmtKind, fold-StmtKind, fold_o
 use Rattle.bl_tree.specs.declared.tree.StmtKind.TheOpen.{StmtKind-F, Arm-F, Branch-F, Stmt-F}
 use Rattle.bl_tree.specs.declared.tree.Unit.{Unit as UnitDef}
 use Rattle.bl_tree.specs.Reduce.{joined}
-use Rattle.bl_tree.specs.Within.{
-  PlacesDecide,
-  RunsDecide,
-  RunsIn,
-  StandsIn,
-  StandsInUnits,
-  Within,
-  branches_of,
-  children,
-  deeper,
-  effect_of,
-  itself,
-  kind_branches,
-  kind_children,
-  place_of,
-}
+use Rattle.bl_tree.specs.Within.{PlacesDecide, RunsDecide, RunsIn, StandsIn, StandsInUnits, Within, branches_of, children, deeper, effect_of, itself}
+use Rattle.bl_tree.specs.Within.{kind_branches, kind_children, place_of}
 use Rattle.bl_tree.proofs.FirstLemmas.{In, contains_in}
 use Rattle.bl_parse_tree.specs.Starts.{ascends}
-use Rattle.bl_types_laws.proofs.Starts.{
-  Picked,
-  ascends_rest,
-  first_less,
-  in_joined,
-  left,
-  one_part,
-  one_position,
-  part_ascends,
-  picked_append,
-  picked_ascends,
-  picked_in,
-  picked_none,
-  picked_self,
-}
+use Rattle.bl_types_laws.proofs.Starts.{Picked, ascends_rest, first_less, in_joined, left, one_part, one_position, part_ascends, picked_append, picked_ascends}
+use Rattle.bl_types_laws.proofs.Starts.{picked_in, picked_none, picked_self}
 
 -- ---- where statements and the conditions of loops begin
 
@@ -130,9 +82,6 @@ kind_is kind layer is = fold_out-StmtKind Starts Starts Starts Starts kind_start
 block_append : (xs ys : List Stmt) → block_starts (xs ++ ys) ≡ block_starts xs ++ block_starts ys
 block_append [] ys = refl
 block_append (x ∷ xs) ys = ap (λ rest. starts_of x ++ rest) (block_append xs ys) ∙ sym (append_assoc (starts_of x) (block_starts xs) (block_starts ys))
-
-abbrev pub arm_starts : Arm → Starts
-arm_starts arm = block_starts (out-Arm arm).body
 
 abbrev pub branch_starts : Branch → Starts
 branch_starts branch = block_starts (out-Branch branch).body

@@ -1,5 +1,6 @@
 -- What is counted and placed behind an item of a program in which the rules on names hold.
-use Rattle.std.proofs.Common.{◌≡◌, ℕ, ◌+◌, true, List, [], ◌∷◌, ◌++◌, length, Some, refl, sym, ap, subst, ◌∙◌, arith}
+use Rattle.std.proofs.Common.{◌≡◌, ◌+◌, true, List, [], ◌∷◌, ◌++◌, length, Some, refl, sym, ap, subst, ◌∙◌, arith}
+use Rattle.bl_tree.proofs.Basics.{plus_none}
 use Rattle.bl_names_tree.specs.declared.item.NamedConstant.{NamedConstant}
 use Rattle.bl_names_tree.specs.declared.item.NamedStruct.{NamedStruct}
 use Rattle.bl_names_tree.specs.declared.item.NamedUnit.{NamedUnit}
@@ -27,9 +28,6 @@ pub record Onward (scopes new : Scopes) (structs : List NamedStruct) (constants 
   pub more_constants : new.counts.constants ≡ scopes.counts.constants + length constants
   pub more_units : new.counts.units ≡ scopes.counts.units + length units
 
-none_on : (a : ℕ) → a ≡ a + 0
-none_on a = omega arith
-
 pub struct_onward : (scopes : Scopes) (def : RawStruct) → Below scopes → scopes.counts.variables ≡ 0 →
     Onward scopes (after scopes (struct_marks def)) (named_struct scopes def ∷ []) [] []
 struct_onward scopes def below none =
@@ -38,8 +36,8 @@ struct_onward scopes def below none =
       below = struct_below scopes def.name below;
       none = none;
       more_structs = refl;
-      more_constants = none_on scopes.counts.constants;
-      more_units = none_on scopes.counts.units;
+      more_constants = plus_none scopes.counts.constants;
+      more_units = plus_none scopes.counts.units;
     })
 
 pub constant_onward : (scopes : Scopes) (def : RawConstant) → Below scopes → scopes.counts.variables ≡ 0 →
@@ -51,9 +49,9 @@ constant_onward scopes def below none =
     (record {
       below = constant_below scopes def.name below;
       none = none;
-      more_structs = none_on scopes.counts.structs;
+      more_structs = plus_none scopes.counts.structs;
       more_constants = refl;
-      more_units = none_on scopes.counts.units;
+      more_units = plus_none scopes.counts.units;
     })
 
 pub constant_there : (constants : List NamedConstant) (scopes : Scopes) (def : RawConstant) → Below scopes → Fits scopes (constant_marks def) →
@@ -68,7 +66,7 @@ pub unit_onward : (constants : List NamedConstant) (scopes new : Scopes) (unit :
 unit_onward constants scopes new unit inside holds = record {
   below = holds.below;
   none = holds.no_variables;
-  more_structs = holds.same_structs ∙ none_on scopes.counts.structs;
+  more_structs = holds.same_structs ∙ plus_none scopes.counts.structs;
   more_constants = holds.more_constants;
   more_units = holds.more_units;
 }

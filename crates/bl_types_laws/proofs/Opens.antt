@@ -14,41 +14,10 @@ use Rattle.bl_tree.specs.Numbers.{takes_one, takes_two}
 use Rattle.bl_tree.specs.Scalar.{is_whole}
 use Rattle.bl_tree.specs.Types.{scalar_in}
 use Rattle.bl_tree.proofs.ExprInduction.{Cases, expr, induct}
-use Rattle.bl_types.specs.Settled.{
-  Settled,
-  given,
-  given_scalar,
-  kept,
-  literal,
-  one,
-  one_made,
-  settled,
-  settled_if,
-  settled_kind,
-  settled_layer,
-  settled_part,
-  settled_path,
-  two,
-  two_made,
-  unfit,
-}
-use Rattle.bl_types_laws.proofs.Sizes.{
-  Layer,
-  MadeIn,
-  Size,
-  SizeMost,
-  beside,
-  deeper,
-  empty,
-  literal_size,
-  one_most,
-  size_at,
-  size_empty,
-  size_is,
-  size_kind,
-  size_of,
-  two_most,
-}
+use Rattle.bl_types.specs.Settled.{Settled, given, given_scalar, kept, literal, one, one_made, settled, settled_if, settled_kind, settled_layer, settled_part}
+use Rattle.bl_types.specs.Settled.{settled_path, two, two_made, unfit}
+use Rattle.bl_types_laws.proofs.Sizes.{Layer, MadeIn, Size, SizeMost, beside, deeper, empty, literal_size, one_most, size_at, size_empty, size_is, size_kind}
+use Rattle.bl_types_laws.proofs.Sizes.{size_of, two_most}
 
 abbrev pub ExprIn : Size → Option Expr → Type 0
 ExprIn = MadeIn size_of

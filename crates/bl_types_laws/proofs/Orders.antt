@@ -1,33 +1,13 @@
 -- What is no more: variables among others, and trees that are nested no deeper.
-use Rattle.std.proofs.Common.{
-  ◌≡◌,
-  ℕ,
-  ◌+◌,
-  ◌≤◌,
-  Bool,
-  true,
-  false,
-  not,
-  ◌&&◌,
-  ◌||◌,
-  List,
-  [],
-  ◌∷◌,
-  ◌++◌,
-  refl,
-  ap,
-  sym,
-  ◌∙◌,
-  arith,
-}
-use Rattle.std.specs.Prelude.{max, nat_eq, nat_le}
+use Rattle.std.proofs.Common.{◌≡◌, ℕ, ◌+◌, ◌≤◌, Bool, true, false, not, ◌&&◌, ◌||◌, List, [], ◌∷◌, ◌++◌, refl, ap, sym, ◌∙◌, arith}
+use Rattle.std.specs.Prelude.{max, nat_eq}
 use Rattle.std.specs.List.{list_all, list_any}
-use Rattle.std.proofs.lemmas.Bool.{le-leb, leb-true}
 use Rattle.std.proofs.lemmas.List.Folds.{list_all-append}
+use Rattle.std.proofs.lemmas.Bool.{and_from}
+use Rattle.bl_tree.proofs.Basics.{all_weaker, and_first, and_second, none_at_most}
 use Rattle.bl_tree.specs.Apart.{Naming, Roots, all_apart, is_foreign, keep_apart, of_branches, together}
 use Rattle.bl_tree.specs.Depths.{Depth, block, leaf, of_all}
-use Rattle.bl_eval.proofs.PassLemmas.{and_left, and_right, both}
-use Rattle.bl_types_laws.proofs.Heads.{all_weaker}
+use Rattle.bl_names_laws.proofs.StmtDepth.{one_more}
 
 -- ---- variables among others
 
@@ -45,14 +25,14 @@ pub among_further : (a b c : Roots) → Among a b → Among b c → Among a c
 among_further a b c one more test all = one test (more test all)
 
 among_front : (a b c : Roots) → Among a b → Among a (b ++ c)
-among_front a b c one test all = one test (and_left (list_all test b) (list_all test c) (sym (list_all-append test b c) ∙ all))
+among_front a b c one test all = one test (and_first (list_all test b) (list_all test c) (sym (list_all-append test b c) ∙ all))
 
 pub among_behind : (a b c : Roots) → Among a c → Among a (b ++ c)
-among_behind a b c one test all = one test (and_right (list_all test b) (list_all test c) (sym (list_all-append test b c) ∙ all))
+among_behind a b c one test all = one test (and_second (list_all test b) (list_all test c) (sym (list_all-append test b c) ∙ all))
 
 pub among_both : (a b c d : Roots) → Among a c → Among b d → Among (a ++ b) (c ++ d)
 among_both a b c d one other test all =
-    list_all-append test a b ∙ both (list_all test a) (list_all test b) (among_front a c d one test all) (among_behind b c d other test all)
+    list_all-append test a b ∙ and_from (list_all test a) (list_all test b) (among_front a c d one test all) (among_behind b c d other test all)
 
 -- ---- foreign variables
 
@@ -84,11 +64,11 @@ pub record NamingMost (one other : Naming) : Type 0 where
 
 keep_still : (a b c d : Naming) → NamingMost a c → NamingMost b d → keep_apart c d ≡ true → keep_apart a b ≡ true
 keep_still a b c d one other keeps =
-    both (is_foreign a.declared b.named) (is_foreign b.declared a.named)
+    and_from (is_foreign a.declared b.named) (is_foreign b.declared a.named)
     (foreign_still a.declared b.named c.declared d.named one.declared other.named
-    (and_left (is_foreign c.declared d.named) (is_foreign d.declared c.named) keeps))
+    (and_first (is_foreign c.declared d.named) (is_foreign d.declared c.named) keeps))
     (foreign_still b.declared a.named d.declared c.named other.declared one.named
-    (and_right (is_foreign c.declared d.named) (is_foreign d.declared c.named) keeps))
+    (and_second (is_foreign c.declared d.named) (is_foreign d.declared c.named) keeps))
 
 -- so it is with all of these together, and with one of these beside each
 pub record NamingsMost (ones others : List Naming) : Type 0 where
@@ -108,10 +88,10 @@ namings_skip other ones others most = record {
   all = record {
     declared = among_behind (together ones).declared other.declared (together others).declared most.all.declared;
     named = among_behind (together ones).named other.named (together others).named most.all.named;
-    apart = λ holds. most.all.apart (and_right other.apart (together others).apart holds);
+    apart = λ holds. most.all.apart (and_second other.apart (together others).apart holds);
   };
-  keep = λ a b less holds. most.keep a b less (and_right (keep_apart b other) (list_all (keep_apart b) others) holds);
-  apart = λ holds. most.apart (and_right (list_all (keep_apart other) others) (all_apart others) holds);
+  keep = λ a b less holds. most.keep a b less (and_second (keep_apart b other) (list_all (keep_apart b) others) holds);
+  apart = λ holds. most.apart (and_second (list_all (keep_apart other) others) (all_apart others) holds);
 }
 
 pub namings_first : (one other : Naming) (ones others : List Naming) → NamingMost one other → NamingsMost ones others →
@@ -120,23 +100,23 @@ namings_first one other ones others first most = record {
   all = record {
     declared = among_both one.declared (together ones).declared other.declared (together others).declared first.declared most.all.declared;
     named = among_both one.named (together ones).named other.named (together others).named first.named most.all.named;
-    apart = λ holds. both one.apart (together ones).apart (first.apart (and_left other.apart (together others).apart holds))
-        (most.all.apart (and_right other.apart (together others).apart holds));
+    apart = λ holds. and_from one.apart (together ones).apart (first.apart (and_first other.apart (together others).apart holds))
+        (most.all.apart (and_second other.apart (together others).apart holds));
   };
-  keep = λ a b less holds. both (keep_apart a one) (list_all (keep_apart a) ones)
-      (keep_still a one b other less first (and_left (keep_apart b other) (list_all (keep_apart b) others) holds))
-      (most.keep a b less (and_right (keep_apart b other) (list_all (keep_apart b) others) holds));
-  apart = λ holds. both (list_all (keep_apart one) ones) (all_apart ones)
-      (most.keep one other first (and_left (list_all (keep_apart other) others) (all_apart others) holds))
-      (most.apart (and_right (list_all (keep_apart other) others) (all_apart others) holds));
+  keep = λ a b less holds. and_from (keep_apart a one) (list_all (keep_apart a) ones)
+      (keep_still a one b other less first (and_first (keep_apart b other) (list_all (keep_apart b) others) holds))
+      (most.keep a b less (and_second (keep_apart b other) (list_all (keep_apart b) others) holds));
+  apart = λ holds. and_from (list_all (keep_apart one) ones) (all_apart ones)
+      (most.keep one other first (and_first (list_all (keep_apart other) others) (all_apart others) holds))
+      (most.apart (and_second (list_all (keep_apart other) others) (all_apart others) holds));
 }
 
 pub branches_most : (ones others : List Naming) → NamingsMost ones others → NamingMost (of_branches ones) (of_branches others)
 branches_most ones others most = record {
   declared = most.all.declared;
   named = most.all.named;
-  apart = λ holds. both (together ones).apart (all_apart ones) (most.all.apart (and_left (together others).apart (all_apart others) holds))
-      (most.apart (and_right (together others).apart (all_apart others) holds));
+  apart = λ holds. and_from (together ones).apart (all_apart ones) (most.all.apart (and_first (together others).apart (all_apart others) holds))
+      (most.apart (and_second (together others).apart (all_apart others) holds));
 }
 
 -- ---- how deep trees are nested
@@ -146,12 +126,6 @@ pub record DepthMost (one other : Depth) : Type 0 where
   pub blocks : one.blocks ≤ other.blocks
   pub exprs : one.exprs ≤ other.exprs
 
-pub none_most : (a : ℕ) → 0 ≤ a
-none_most a = omega arith
-
-pub one_more : (a b : ℕ) → a ≤ b → 1 + a ≤ 1 + b
-one_more a b most = omega arith
-
 pub max_grows : (a b c d : ℕ) → a ≤ c → b ≤ d → max a b ≤ max c d
 max_grows a b c d one other = grind arith
 
@@ -159,7 +133,7 @@ pub max_behind : (a b c : ℕ) → a ≤ c → a ≤ max b c
 max_behind a b c most = grind arith
 
 pub leaf_most : (a b : ℕ) → a ≤ b → DepthMost (leaf a) (leaf b)
-leaf_most a b most = record { blocks = none_most 0; exprs = most }
+leaf_most a b most = record { blocks = none_at_most 0; exprs = most }
 
 pub block_most : (a b : ℕ) (ones others : List Depth) → a ≤ b → DepthMost (of_all ones) (of_all others) → DepthMost (block a ones) (block b others)
 block_most a b ones others head most = record {
@@ -168,7 +142,7 @@ block_most a b ones others head most = record {
 }
 
 pub depths_none : DepthMost (of_all []) (of_all [])
-depths_none = record { blocks = none_most 0; exprs = none_most 0 }
+depths_none = record { blocks = none_at_most 0; exprs = none_at_most 0 }
 
 pub depths_skip : (other : Depth) (ones others : List Depth) → DepthMost (of_all ones) (of_all others) → DepthMost (of_all ones) (of_all (other ∷ others))
 depths_skip other ones others most = record {
@@ -182,6 +156,3 @@ depths_first one other ones others first most = record {
   blocks = max_grows one.blocks (of_all ones).blocks other.blocks (of_all others).blocks first.blocks most.blocks;
   exprs = max_grows one.exprs (of_all ones).exprs other.exprs (of_all others).exprs first.exprs most.exprs;
 }
-
-pub at_limit : (a b limit : ℕ) → a ≤ b → nat_le b limit ≡ true → nat_le a limit ≡ true
-at_limit a b limit most is = let less : b ≤ limit = leb-true b limit is in le-leb a limit (omega arith)

@@ -1,28 +1,9 @@
 -- Paths that stand for outputs, and targets that are assigned.
-use Rattle.std.proofs.Common.{
-  ◌≡◌,
-  ℕ,
-  suc,
-  ℤ,
-  List,
-  [],
-  ◌∷◌,
-  ◌++◌,
-  map,
-  length,
-  nat_lt,
-  Option,
-  Some,
-  None,
-  refl,
-  ap,
-  sym,
-  subst,
-  ◌∙◌,
-  arith,
-}
+use Rattle.std.proofs.Common.{◌≡◌, ℕ, suc, ℤ, List, [], ◌∷◌, ◌++◌, map, length, nat_lt, Option, Some, None, refl, ap, sym, subst, ◌∙◌, arith}
 use Rattle.std.specs.Prelude.{Bool, true, false, is_some, option_and_then, slice_get, if◌then◌else◌}
 use Rattle.std.specs.List.{cons_option, list_all}
+use Rattle.std.proofs.lemmas.Bool.{and_from}
+use Rattle.bl_tree.proofs.Basics.{and_first, and_second, first_empty, second_empty}
 use Rattle.bl_tree.specs.declared.place.Place.{Place}
 use Rattle.bl_tree.specs.declared.rule.Failure.{Failure}
 use Rattle.bl_tree.specs.declared.rule.Further.TheVariants.{One}
@@ -38,22 +19,9 @@ use Rattle.bl_tree.specs.declared.tree.Var.{Var}
 use Rattle.bl_tree.specs.Reduce.{all_of}
 use Rattle.bl_tree.specs.declared.scalar.Scalar.{Scalar as ScalarType}
 use Rattle.bl_tree.specs.Types.{same_type, scalar_in}
-use Rattle.bl_tree.specs.Typing.{
-  TypingContext,
-  expr_ignored,
-  is_assignable,
-  is_outlet,
-  is_plain,
-  kind_ignored,
-  may_change,
-  part_is_field,
-  path_is_plain,
-  type_of_path,
-  types_match,
-  var_at,
-}
+use Rattle.bl_tree.specs.Typing.{TypingContext, expr_ignored, is_assignable, is_outlet, is_plain, kind_ignored, may_change, part_is_field, path_is_plain}
+use Rattle.bl_tree.specs.Typing.{type_of_path, types_match, var_at}
 use Rattle.bl_eval.proofs.FitLemmas.{same_type_is}
-use Rattle.bl_eval.proofs.PassLemmas.{and_left, and_right, both}
 use Rattle.bl_parse_tree.specs.declared.name.Name.{Name}
 use Rattle.bl_names_tree.specs.declared.expr.NamedTarget.{NamedTarget, fold_out-NamedTarget, out-NamedTarget}
 use Rattle.bl_names_tree.specs.declared.expr.Root.{Root}
@@ -64,37 +32,15 @@ use Rattle.bl_names_tree.specs.inner.Placed.{step_placed}
 use Rattle.bl_types.specs.declared.environment.Environment.{Environment}
 use Rattle.bl_types.specs.declared.environment.Variable.{Variable}
 use Rattle.bl_types.specs.declared.form.Found.TheVariants as found
-use Rattle.bl_types.specs.Expressions.{
-  FieldAt,
-  Formed,
-  Judged,
-  Led,
-  Stepped,
-  Targeted,
-  constant_found,
-  field_found,
-  field_in,
-  judged_kind,
-  judged_layer,
-  judged_part,
-  judged_target,
-  path,
-  path_found,
-  stepped,
-  step_of,
-  targeted,
-  targeted_from,
-  to_field,
-  type_of_constant,
-  type_of_variable,
-  value_of_constant,
-}
+use Rattle.bl_types.specs.Expressions.{FieldAt, Formed, Judged, Led, Stepped, Targeted, constant_found, field_found, field_in, judged_kind, judged_layer}
+use Rattle.bl_types.specs.Expressions.{judged_part, judged_target, path, path_found, stepped, step_of, targeted, targeted_from, to_field, type_of_constant}
+use Rattle.bl_types.specs.Expressions.{type_of_variable, value_of_constant}
 use Rattle.bl_types.specs.Failures.{fails_at}
 use Rattle.bl_types.specs.Statements.{Lent, all_lent, immutable, immutable_variable, lent, lent_as, paths_failures, paths_made}
 use Rattle.bl_types_laws.specs.Fitting.{AllLent, FoundFits, IsLent}
 use Rattle.bl_types_laws.specs.Within.{EnvironmentWithin, known_in}
 use Rattle.bl_types_laws.proofs.Expressions.{there_at, variable_found}
-use Rattle.bl_types_laws.proofs.Forms.{nil_left, nil_right, same_type_self}
+use Rattle.bl_types_laws.proofs.Forms.{same_type_self}
 use Rattle.bl_types_laws.proofs.Targets.{LedFits, field_fits, first_leads, none_lead}
 
 -- ---- by fields alone
@@ -112,7 +58,7 @@ field_alone k =
 plain_cons : (at : Place) (o : Option FieldAt) (rest : List Part) → all_of (map is_field rest) ≡ true →
     all_of (map is_field (cons_option (field_found at o).part rest)) ≡ true
 plain_cons at None rest all = all
-plain_cons at (Some field) rest all = both (is_field (part.Field field.position)) (all_of (map is_field rest)) (field_alone field.position) all
+plain_cons at (Some field) rest all = and_from (is_field (part.Field field.position)) (all_of (map is_field rest)) (field_alone field.position) all
 
 plain_first : (structs : List StructDef) (name : Name) (ty : Option Ty) (rest : List Part) → all_of (map is_field rest) ≡ true →
     all_of (map is_field (cons_option (to_field structs name ty).part rest)) ≡ true
@@ -131,9 +77,6 @@ plain_is at k parts ty = rw fold-roll-Path refl
 
 root_is : (at : Place) (k : ℕ) (parts : List Part) (ty : Ty) → (out-Path (path at k parts ty)).root ≡ k
 root_is at k parts ty = ap (λ layer. layer.root) (out-roll-Path (record { place = at; root = k; parts = parts; ty = ty }))
-
-type_is : (at : Place) (k : ℕ) (parts : List Part) (ty : Ty) → (out-Path (path at k parts ty)).ty ≡ ty
-type_is at k parts ty = ap (λ layer. layer.ty) (out-roll-Path (record { place = at; root = k; parts = parts; ty = ty }))
 
 -- a path, where its type is the one that is wanted
 abbrev lent_if : Place → Path → Bool → Lent
@@ -169,7 +112,7 @@ module _ (env : Environment) (site : TypingContext) (within : EnvironmentWithin 
   outlet : (at : Place) (k : ℕ) (parts : List Part) (ty : Ty) → all_of (map is_field parts) ≡ true → nat_lt k (length env.vars) ≡ true →
       immutable_variable at (slice_get env.vars k) ≡ [] → is_outlet site (path at k parts ty) ≡ true
   outlet at k parts ty all less none =
-      both (is_plain (path at k parts ty)) (is_assignable site (path at k parts ty)) (plain_is at k parts ty ∙ all)
+      and_from (is_plain (path at k parts ty)) (is_assignable site (path at k parts ty)) (plain_is at k parts ty ∙ all)
       (may_assign at k (path at k parts ty) less (root_is at k parts ty) none)
 
   same_lent : (wanted : Ty) (at : Place) (it : Path) (same : Bool) → same_type wanted (out-Path it).ty ≡ same →
@@ -203,14 +146,14 @@ module _ (env : Environment) (site : TypingContext) (within : EnvironmentWithin 
       let typed : type_of_variable (slice_get env.vars path.root) ≡ Some there.var.ty = ap type_of_variable known.1 ∙ there.ty in
       let led : Led = stepped (map (to_field env.structs) path.fields) (type_of_variable (slice_get env.vars path.root)) in
       let fitted : Lent = lent_as (Some wanted) path.place (path_found path.place path.root led.parts led.ty) in
-      let none_led : led.failures ≡ [] = nil_left led.failures _ none in
-      let behind : fitted.failures ++ immutable_variable path.place (slice_get env.vars path.root) ≡ [] = nil_right led.failures _ none in
+      let none_led : led.failures ≡ [] = first_empty led.failures _ none in
+      let behind : fitted.failures ++ immutable_variable path.place (slice_get env.vars path.root) ≡ [] = second_empty led.failures _ none in
       let leads : LedFits site there.var.ty led =
       subst (λ ty. LedFits site there.var.ty (stepped (map (to_field env.structs) path.fields) ty)) (sym typed)
       (fields_lead path.fields there.var.ty (ap (λ ty. (stepped (map (to_field env.structs) path.fields) ty).failures) (sym typed) ∙ none_led)) in
       lent_by wanted path.place path.root led led.ty refl (variable_found env site within path.place path.root there.var led there.is_there leads)
-      (plain_parts env.structs path.fields (type_of_variable (slice_get env.vars path.root))) placed (nil_right fitted.failures _ behind)
-      (nil_left fitted.failures _ behind)
+      (plain_parts env.structs path.fields (type_of_variable (slice_get env.vars path.root))) placed (second_empty fitted.failures _ behind)
+      (first_empty fitted.failures _ behind)
 
   lent_first : (var : Var) (vars : List Var) (first : Lent) (rest : List Lent) → IsLent site var.ty first.made → AllLent site vars rest →
       AllLent site (var ∷ vars) (first ∷ rest)
@@ -219,10 +162,10 @@ module _ (env : Environment) (site : TypingContext) (within : EnvironmentWithin 
     match =
         ap (λ made. types_match (map (type_of_path site) (cons_option made (paths_made rest))) (var ∷ vars)) one.is
         ∙ ap (λ typed. types_match (typed ∷ map (type_of_path site) (paths_made rest)) (var ∷ vars)) one.is_typed
-        ∙ both (same_type var.ty var.ty) (types_match (map (type_of_path site) (paths_made rest)) vars) (same_type_self var.ty) more.match;
+        ∙ and_from (same_type var.ty var.ty) (types_match (map (type_of_path site) (paths_made rest)) vars) (same_type_self var.ty) more.match;
     outlets =
         ap (λ made. all_of (map (is_outlet site) (cons_option made (paths_made rest)))) one.is
-        ∙ both (is_outlet site one.it) (all_of (map (is_outlet site) (paths_made rest))) one.is_outlet_there more.outlets;
+        ∙ and_from (is_outlet site one.it) (all_of (map (is_outlet site) (paths_made rest))) one.is_outlet_there more.outlets;
   }
 
   -- and paths, one for each parameter
@@ -235,10 +178,10 @@ module _ (env : Environment) (site : TypingContext) (within : EnvironmentWithin 
   all_lent_fit (path ∷ rest) [] placed same none = absurd (omega arith)
   all_lent_fit (path ∷ rest) (var ∷ vars) placed same none =
       lent_first var vars (lent env (Some var.ty) path) (all_lent env rest vars)
-      (lent_fits path (and_left (path_placed (known_in env) path) (list_all (path_placed (known_in env)) rest) placed) var.ty
-      (nil_left (lent env (Some var.ty) path).failures (paths_failures (all_lent env rest vars)) none))
-      (all_lent_fit rest vars (and_right (path_placed (known_in env) path) (list_all (path_placed (known_in env)) rest) placed) (omega arith)
-      (nil_right (lent env (Some var.ty) path).failures (paths_failures (all_lent env rest vars)) none))
+      (lent_fits path (and_first (path_placed (known_in env) path) (list_all (path_placed (known_in env)) rest) placed) var.ty
+      (first_empty (lent env (Some var.ty) path).failures (paths_failures (all_lent env rest vars)) none))
+      (all_lent_fit rest vars (and_second (path_placed (known_in env) path) (list_all (path_placed (known_in env)) rest) placed) (omega arith)
+      (second_empty (lent env (Some var.ty) path).failures (paths_failures (all_lent env rest vars)) none))
 
   -- ---- targets
 
@@ -267,7 +210,7 @@ module _ (env : Environment) (site : TypingContext) (within : EnvironmentWithin 
       immutable env (out-NamedTarget target).place (out-NamedTarget target).root ≡ [] → is_assignable site it ≡ true
   target_assignable target it placed is none =
       assign_by (out-NamedTarget target).place (out-NamedTarget target).root (map (step_of env) (out-NamedTarget target).parts) it
-      (and_left (root_placed (known_in env) (out-NamedTarget target).root) (all_of (map (step_placed (known_in env)) (out-NamedTarget target).parts))
+      (and_first (root_placed (known_in env) (out-NamedTarget target).root) (all_of (map (step_placed (known_in env)) (out-NamedTarget target).parts))
       (sym (fold_out-NamedTarget Bool Bool Bool Bool (kind_placed (known_in env)) part_placed expr_layer_placed (target_layer_placed (known_in env)) target)
       ∙ placed))
       (ap (λ (targeted : Targeted). targeted.found)

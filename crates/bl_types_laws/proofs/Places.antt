@@ -30,29 +30,9 @@ use Rattle.bl_types.specs.declared.form.Found.{Found}
 use Rattle.bl_types.specs.declared.form.Found.TheVariants as found
 use Rattle.bl_types.specs.Declarations.{initial}
 use Rattle.bl_types.specs.Expressions.{in_context, judged, targeted, with_made}
-use Rattle.bl_types.specs.Statements.{
-  Arguments,
-  Block,
-  StatementJudgement,
-  Walked,
-  arguments,
-  arm_of,
-  arm_walked,
-  assign_made,
-  branch_walked,
-  condition,
-  declare,
-  if_complete,
-  in_order,
-  returned,
-  run_made,
-  run_target,
-  stmt_made,
-  type_found,
-  walked_arm,
-  walked_branch,
-  walked_stmt,
-}
+use Rattle.bl_types.specs.Statements.{Arguments, Block, StatementJudgement, Walked, arguments, arm_of, arm_walked, assign_made, branch_walked, condition}
+use Rattle.bl_types.specs.Statements.{declare, if_complete, in_order, returned, run_made, run_target, stmt_made, type_found, walked_arm, walked_branch}
+use Rattle.bl_types.specs.Statements.{walked_stmt}
 use Rattle.bl_types_laws.proofs.Conditions.{MadeFrom, condition_from}
 use Rattle.bl_types_laws.proofs.NamedStmtInduction.{Cases, induct, stmt}
 use Rattle.bl_types_laws.proofs.Occurrences.{Starts, block_starts, kind_is, layer_starts, starts_in, starts_of, starts_of_arm, starts_of_branch}

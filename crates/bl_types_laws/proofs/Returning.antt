@@ -3,6 +3,8 @@ use Rattle.std.proofs.Common.{◌≡◌, List, [], ◌∷◌, ◌++◌, map, Opt
 use Rattle.std.specs.Prelude.{All, Bool, true, false, ◌&&◌, option_map}
 use Rattle.std.specs.List.{cons_option}
 use Rattle.std.proofs.lemmas.List.Elements.{All-cons, All-head, All-nil, All-tail}
+use Rattle.std.proofs.lemmas.Bool.{and_from}
+use Rattle.bl_tree.proofs.Basics.{and_first, and_second, first_empty, second_empty}
 use Rattle.bl_tree.specs.declared.place.Place.{Place}
 use Rattle.bl_tree.specs.declared.scalar.Scalar.{Scalar as ScalarType}
 use Rattle.bl_tree.specs.declared.tree.Arm.{Arm, fold-Arm, fold-roll-Arm}
@@ -17,7 +19,6 @@ use Rattle.bl_tree.specs.Returns.{arm_returns, branch_returns, kind_returns, las
 use Rattle.bl_tree.specs.Types.{scalar}
 use Rattle.bl_tree.specs.Typing.{TypingContext}
 use Rattle.bl_eval.proofs.OperatorFits.{some_found, where_holds}
-use Rattle.bl_eval.proofs.PassLemmas.{and_left, and_right, both}
 use Rattle.bl_names_tree.specs.declared.expr.NamedExpr.{NamedExpr}
 use Rattle.bl_names_tree.specs.declared.item.NamedConstant.{NamedConstant}
 use Rattle.bl_names_tree.specs.declared.item.NamedVar.{NamedVar}
@@ -30,14 +31,8 @@ use Rattle.bl_names_tree.specs.Placed.{DeclaredBefore, PlacedStep, declares_none
 use Rattle.bl_names_tree.specs.inner.Placed.{step_of_arm}
 use Rattle.bl_types.specs.declared.environment.Environment.{Environment}
 use Rattle.bl_types.specs.Expressions.{in_context, judged}
-use Rattle.bl_types.specs.Returns.{
-  arm_surely_returns,
-  arm_returns as named_arm_returns,
-  branch_returns as named_branch_returns,
-  kind_returns as named_kind_returns,
-  layer_returns,
-  surely_returns as named_surely_returns,
-}
+use Rattle.bl_types.specs.Returns.{arm_surely_returns, arm_returns as named_arm_returns, branch_returns as named_branch_returns}
+use Rattle.bl_types.specs.Returns.{kind_returns as named_kind_returns, layer_returns, surely_returns as named_surely_returns}
 use Rattle.bl_types.specs.Statements.{Block, StatementJudgement, Walked, arm_of, arm_walked, condition, in_order, returned, stmt_made, walked_arm, walked_stmt}
 use Rattle.bl_types_laws.specs.Standing.{Around, Known, stmt_named}
 use Rattle.bl_types_laws.specs.Within.{calls_functions, known_in}
@@ -45,7 +40,6 @@ use Rattle.bl_types_laws.specs.inner.Named.{named_arm}
 use Rattle.bl_types_laws.proofs.Arguments.{condition_fits}
 use Rattle.bl_types_laws.proofs.Blocks.{arm_fits_there, arms_fit, named_by, named_is, statement_fits}
 use Rattle.bl_types_laws.proofs.Expressions.{wanted_fits}
-use Rattle.bl_types_laws.proofs.Forms.{nil_left, nil_right}
 use Rattle.bl_types_laws.proofs.NamedStmtInduction.{Cases, induct, stmt}
 use Rattle.bl_types_laws.proofs.StmtLayers.{Layer, step_by, step_is, walked_by, walked_is}
 use Rattle.bl_types_laws.proofs.Walks.{own_calls, grown_around, site_in, within_in}
@@ -82,7 +76,7 @@ last_front (Some a) (b ∷ rest) is = is
 all_front : (made : Option Arm) (rest : List Arm) → ReturnMade arm_surely made → all_of (map arm_surely rest) ≡ true →
     all_of (map arm_surely (cons_option made rest)) ≡ true
 all_front made rest one more = ap (λ made. all_of (map arm_surely (cons_option made rest))) one.is
-    ∙ both (arm_surely one.it) (all_of (map arm_surely rest)) one.is_returning more
+    ∙ and_from (arm_surely one.it) (all_of (map arm_surely rest)) one.is_returning more
 
 abbrev pub named_kind_surely : Layer → Bool
 named_kind_surely layer = named_kind_returns
@@ -119,22 +113,22 @@ module _ (constants : List NamedConstant) (vars : List NamedVar) (site : TypingC
   body_returns [] each named last env around known counts step none = absurd (cc)
   body_returns (s ∷ []) each named last env around known counts step none =
       let found = some_found (in_turn []) (stmt_step vars constants s (known_in env)) counts step in
-      let one = All-head P s [] each (and_left (stmt_named constants vars site.earlier s) true named) last env around known found.0 found.1
-      (nil_left (walked_stmt constants vars s env).failures [] none) in
+      let one = All-head P s [] each (and_first (stmt_named constants vars site.earlier s) true named) last env around known found.0 found.1
+      (first_empty (walked_stmt constants vars s env).failures [] none) in
       ap (λ made. last_of (map surely_returns (cons_option made []))) one.is ∙ one.is_returning
   body_returns (s ∷ t ∷ rest) each named last env around known counts step none =
       let next : Environment = (walked_stmt constants vars s env).env in
       let further : Block Stmt = in_order (map (walked_stmt constants vars) (t ∷ rest)) next in
       let found = some_found (in_turn (map (stmt_step vars constants) (t ∷ rest))) (stmt_step vars constants s (known_in env)) counts step in
-      let passed = statement_fits constants vars site s (and_left (stmt_named constants vars site.earlier s)
+      let passed = statement_fits constants vars site s (and_first (stmt_named constants vars site.earlier s)
       (all_of (map (stmt_named constants vars site.earlier) (t ∷ rest))) named) env around known found.0 found.1
-      (nil_left (walked_stmt constants vars s env).failures further.failures none) in
+      (first_empty (walked_stmt constants vars s env).failures further.failures none) in
       last_front (walked_stmt constants vars s env).made further.made
-      (body_returns (t ∷ rest) (All-tail P s (t ∷ rest) each) (and_right (stmt_named constants vars site.earlier s)
+      (body_returns (t ∷ rest) (All-tail P s (t ∷ rest) each) (and_second (stmt_named constants vars site.earlier s)
       (all_of (map (stmt_named constants vars site.earlier) (t ∷ rest))) named) last next
       (grown_around env next site passed.grown around) passed.known counts
       (ap (in_turn (map (stmt_step vars constants) (t ∷ rest))) passed.counts_are ∙ found.2)
-      (nil_right (walked_stmt constants vars s env).failures further.failures none))
+      (second_empty (walked_stmt constants vars s env).failures further.failures none))
 
   arms_return : (arms : List NamedArm) → All Q arms → all_of (map (named_arm constants vars site.earlier) arms) ≡ true →
       all_of (map arm_surely_returns arms) ≡ true → (env : Environment) → Around env site → Known env →
@@ -146,16 +140,16 @@ module _ (constants : List NamedConstant) (vars : List NamedVar) (site : TypingC
       let next : Environment = (arm_walked constants vars arm env).env in
       let further : Block Arm = in_order (map (arm_walked constants vars) rest) next in
       let found = some_found (in_turn (map (step_of_arm vars constants) rest)) (step_of_arm vars constants arm (known_in env)) counts step in
-      let own = and_left (named_arm constants vars site.earlier arm) (all_of (map (named_arm constants vars site.earlier) rest)) named in
-      let fine = nil_left (arm_walked constants vars arm env).failures further.failures none in
+      let own = and_first (named_arm constants vars site.earlier arm) (all_of (map (named_arm constants vars site.earlier) rest)) named in
+      let fine = first_empty (arm_walked constants vars arm env).failures further.failures none in
       let passed = arm_fits_there constants vars site arm own env around known found.0 found.1 fine in
       all_front (arm_walked constants vars arm env).made further.made
-      (All-head Q arm rest each own (and_left (arm_surely_returns arm) (all_of (map arm_surely_returns rest)) all) env around known found.0 found.1 fine)
-      (arms_return rest (All-tail Q arm rest each) (and_right (named_arm constants vars site.earlier arm)
+      (All-head Q arm rest each own (and_first (arm_surely_returns arm) (all_of (map arm_surely_returns rest)) all) env around known found.0 found.1 fine)
+      (arms_return rest (All-tail Q arm rest each) (and_second (named_arm constants vars site.earlier arm)
       (all_of (map (named_arm constants vars site.earlier) rest)) named)
-      (and_right (arm_surely_returns arm) (all_of (map arm_surely_returns rest)) all) next (grown_around env next site passed.grown around) passed.known counts
+      (and_second (arm_surely_returns arm) (all_of (map arm_surely_returns rest)) all) next (grown_around env next site passed.grown around) passed.known counts
       (ap (in_turn (map (step_of_arm vars constants) rest)) passed.counts_are ∙ found.2)
-      (nil_right (arm_walked constants vars arm env).failures further.failures none))
+      (second_empty (arm_walked constants vars arm env).failures further.failures none))
 
   -- ---- by the kind of a statement
 
@@ -188,7 +182,7 @@ module _ (constants : List NamedConstant) (vars : List NamedVar) (site : TypingC
       let placed = where_holds (expr_placed (known_in env) e) (Some (known_in env)) counts step in
       let made = wanted_fits env (site_in env) (within_in env site around known) e placed.0 (own_calls env site around e named) (scalar s) none in
       record { it = what.Return (Some made.it); is = ap (option_map (λ e. what.Return (Some e))) made.is; is_returning = return_is place (Some made.it) }
-  return_by place (Some e) None env named around known counts step none = absurd (let fails = nil_right (in_context None (judged env e)).failures _ none in cc)
+  return_by place (Some e) None env named around known counts step none = absurd (let fails = second_empty (in_context None (judged env e)).failures _ none in cc)
   return_by place None (Some s) env named around known counts step none = absurd (cc)
   return_by place None None env named around known counts step none = record { it = what.Return None; is = refl; is_returning = return_is place None }
 
@@ -201,25 +195,25 @@ module _ (constants : List NamedConstant) (vars : List NamedVar) (site : TypingC
       (λ named surely env around known counts step none.
       let all : Block Arm = in_order (map (arm_walked constants vars) arms) env in
       let last : Block Stmt = in_order (map (walked_stmt constants vars) other) all.env in
-      let parts = and_right _ (all_of (map (named_arm constants vars site.earlier) arms) && all_of (map (stmt_named constants vars site.earlier) other)) named
+      let parts = and_second _ (all_of (map (named_arm constants vars site.earlier) arms) && all_of (map (stmt_named constants vars site.earlier) other)) named
       in
-      let arms_named = and_left (all_of (map (named_arm constants vars site.earlier) arms)) (all_of (map (stmt_named constants vars site.earlier) other)) parts
+      let arms_named = and_first (all_of (map (named_arm constants vars site.earlier) arms)) (all_of (map (stmt_named constants vars site.earlier) other)) parts
       in
       let found = some_found (in_turn (map (stmt_step vars constants) other)) (in_turn (map (step_of_arm vars constants) arms) (known_in env)) counts step in
-      let fine = nil_left all.failures last.failures none in
+      let fine = first_empty all.failures last.failures none in
       let passed = arms_fit constants vars site arms arms_named env around known found.0 found.1 fine in
-      let first = arms_return arms each arms_named (and_left (all_of (map arm_surely_returns arms)) (last_of (map named_surely_returns other)) surely) env
+      let first = arms_return arms each arms_named (and_first (all_of (map arm_surely_returns arms)) (last_of (map named_surely_returns other)) surely) env
       around known found.0 found.1 fine in
-      let second = body_returns other rest (and_right (all_of (map (named_arm constants vars site.earlier) arms))
+      let second = body_returns other rest (and_second (all_of (map (named_arm constants vars site.earlier) arms))
       (all_of (map (stmt_named constants vars site.earlier) other)) parts)
-      (and_right (all_of (map arm_surely_returns arms)) (last_of (map named_surely_returns other)) surely) all.env
+      (and_second (all_of (map arm_surely_returns arms)) (last_of (map named_surely_returns other)) surely) all.env
       (grown_around env all.env site passed.grown around) passed.known counts
-      (ap (in_turn (map (stmt_step vars constants) other)) passed.counts_are ∙ found.2) (nil_right all.failures last.failures none) in
+      (ap (in_turn (map (stmt_step vars constants) other)) passed.counts_are ∙ found.2) (second_empty all.failures last.failures none) in
       record {
         it = what.If all.made last.made;
         is = refl;
         is_returning = surely_is place (what.If all.made last.made) (StmtKind-F.If all.made last.made) (what.outs-If all.made last.made)
-            ∙ both (all_of (map arm_surely all.made)) (last_of (map surely_returns last.made)) first second;
+            ∙ and_from (all_of (map arm_surely all.made)) (last_of (map surely_returns last.made)) first second;
       })
 
   arm_case : (test : NamedExpr) (body : List NamedStmt) → All P body → Q (roll-NamedArm (record { test = test; body = body }))
@@ -238,11 +232,11 @@ module _ (constants : List NamedConstant) (vars : List NamedVar) (site : TypingC
       (ap (λ (step : PlacedStep). step (known_in env)) (sym step_as) ∙ step) in
       let fine : (condition env test).failures ++ all.failures ≡ [] = ap (λ (walk : StatementJudgement Arm). (walk env).failures) (sym walked_as) ∙ none in
       let made = condition_fits env (site_in env) (within_in env site around known) test holds.0
-      (own_calls env site around test (and_left (calls_functions site.earlier test) (all_of (map (stmt_named constants vars site.earlier) body)) own))
-      (nil_left (condition env test).failures all.failures fine) in
-      let last = body_returns body each (and_right (calls_functions site.earlier test) (all_of (map (stmt_named constants vars site.earlier) body)) own)
+      (own_calls env site around test (and_first (calls_functions site.earlier test) (all_of (map (stmt_named constants vars site.earlier) body)) own))
+      (first_empty (condition env test).failures all.failures fine) in
+      let last = body_returns body each (and_second (calls_functions site.earlier test) (all_of (map (stmt_named constants vars site.earlier) body)) own)
       (sym surely_as ∙ surely) env around known counts holds.1
-      (nil_right (condition env test).failures all.failures fine) in
+      (second_empty (condition env test).failures all.failures fine) in
       subst (λ (walk : StatementJudgement Arm). ReturnMade arm_surely (walk env).made) (sym walked_as)
       (record { it = arm_of made.it all.made; is = ap (option_map (λ e. arm_of e all.made)) made.is; is_returning = arm_surely_is made.it all.made ∙ last })
 

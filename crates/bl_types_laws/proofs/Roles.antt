@@ -1,38 +1,19 @@
 -- The names and roles of a unit's variables are those that are named.
-use Rattle.std.proofs.Common.{
-  ◌≡◌,
-  ℕ,
-  suc,
-  ◌+◌,
-  List,
-  [],
-  ◌∷◌,
-  map,
-  length,
-  take,
-  drop,
-  Option,
-  Some,
-  None,
-  refl,
-  ap,
-  sym,
-  subst,
-  ◌∙◌,
-  arith,
-}
+use Rattle.std.proofs.Common.{◌≡◌, ℕ, suc, ◌+◌, List, [], ◌∷◌, map, length, take, drop, Option, Some, None, refl, ap, sym, subst, ◌∙◌, arith}
 use Rattle.std.specs.Prelude.{Bool, true, false, ◌&&◌, ◌||◌, is_none, is_some, nat_le, option_map, slice_get, if◌then◌else◌}
 use Rattle.std.specs.List.{cons_option, list_all}
 use Rattle.std.proofs.lemmas.List.{drop-map, length-append, take-append-drop, take-map}
 use Rattle.std.proofs.lemmas.List.Folds.{list_all-append, list_all-map}
 use Rattle.std.proofs.lemmas.Option.{same_Some}
+use Rattle.std.proofs.lemmas.Bool.{and_from}
+use Rattle.bl_tree.proofs.Basics.{and_first, and_second, get_in_front}
 use Rattle.bl_tree.specs.declared.tree.Role.{Role}
 use Rattle.bl_tree.specs.declared.tree.Stmt.{Stmt}
 use Rattle.bl_tree.specs.declared.tree.Ty.{Ty}
 use Rattle.bl_tree.specs.declared.tree.Var.{Var}
 use Rattle.bl_tree.specs.Program.{is_entry, is_input, is_output, roles_stand}
 use Rattle.bl_tree.specs.Typing.{is_activity, is_fixed, is_variable}
-use Rattle.bl_eval.proofs.PassLemmas.{all_at, and_left, and_right, both, get_front}
+use Rattle.bl_eval.proofs.PassLemmas.{all_at}
 use Rattle.bl_names_tree.specs.declared.item.NamedUnit.{NamedUnit}
 use Rattle.bl_names_tree.specs.declared.item.NamedVar.{NamedVar}
 use Rattle.bl_names_tree.specs.Placed.{parameters, roles_placed}
@@ -74,12 +55,12 @@ parameters_named : (vars xs : List NamedVar) (env : Environment) → list_all is
     VariablesNamed vars env.vars → VariablesNamed vars (after_parameters xs env).env.vars
 parameters_named vars [] env all behind named = named
 parameters_named vars (x ∷ rest) env all behind named =
-    let role : is_parameter x.role ≡ true = and_left (is_parameter x.role) (is_some x.ty)
-    (and_left (is_typed_parameter x) (list_all is_typed_parameter rest) all) in
+    let role : is_parameter x.role ≡ true = and_first (is_parameter x.role) (is_some x.ty)
+    (and_first (is_typed_parameter x) (list_all is_typed_parameter rest) all) in
     let ty : Option Ty = option_map (written_type env.constants) x.ty in
     let next : Environment = with_variable env x ty in
     ap_named vars rest (after_parameter x env).env next (parameter_is x env role)
-    (parameters_named vars rest next (and_right (is_typed_parameter x) (list_all is_typed_parameter rest) all)
+    (parameters_named vars rest next (and_second (is_typed_parameter x) (list_all is_typed_parameter rest) all)
     (further_behind vars (length env.vars) (length next.vars) x rest (length-append env.vars
     (record { name = x.name.text; place = x.name.place; ty = ty; role = x.role } ∷ [])) behind)
     (one_named vars env x ty (behind 0 x refl) (scalar_optional env.constants x.ty) named))
@@ -101,7 +82,7 @@ head_named vars n env none first rest =
     (λ k x there.
     ap (slice_get vars) (nothing_before (length env.vars) k (ap length none))
     ∙ ap (λ vars. slice_get vars k) (sym (take-append-drop n vars))
-    ∙ get_front (take n vars) (drop n vars) k x there)
+    ∙ get_in_front (take n vars) (drop n vars) k x there)
     (subst (VariablesNamed vars) (sym none) (λ k known there. absurd (nothing_there k known there))))
   where
     nothing_before : (n k : ℕ) → n ≡ 0 → n + k ≡ k
@@ -168,17 +149,17 @@ roles_made unit made env same count roles =
     let inputs : Bool = list_all (λ (var : NamedVar). is_input var.role) (take unit.inputs unit.vars) in
     let outputs : Bool = list_all (λ (var : NamedVar). is_output var.role) (take unit.outputs (drop unit.inputs unit.vars)) in
     let locals : Bool = list_all (λ (var : NamedVar). is_variable var.role || is_fixed var.role) (drop (parameters unit) unit.vars) in
-    let behind : (inputs && (outputs && locals)) ≡ true = and_right enough (inputs && (outputs && locals)) roles in
-    let last : (outputs && locals) ≡ true = and_right inputs (outputs && locals) behind in
+    let behind : (inputs && (outputs && locals)) ≡ true = and_second enough (inputs && (outputs && locals)) roles in
+    let last : (outputs && locals) ≡ true = and_second inputs (outputs && locals) behind in
     let f : Var → Role = λ (var : Var). var.role in
     let g : NamedVar → Role = λ (var : NamedVar). var.role in
-    both (nat_le (parameters unit) (length (vars_of env.vars))) _
-    (ap (nat_le (parameters unit)) count ∙ and_left enough (inputs && (outputs && locals)) roles)
-    (both (list_all (λ (var : Var). is_input var.role) (take unit.inputs (vars_of env.vars))) _
-    (front_same f g (vars_of env.vars) unit.vars same is_input unit.inputs (and_left inputs (outputs && locals) behind))
-    (both (list_all (λ (var : Var). is_output var.role) (take unit.outputs (drop unit.inputs (vars_of env.vars)))) _
-    (between_same f g (vars_of env.vars) unit.vars same is_output unit.inputs unit.outputs (and_left outputs locals last))
-    (behind_same f g (vars_of env.vars) unit.vars same (λ role. is_variable role || is_fixed role) (parameters unit) (and_right outputs locals last))))
+    and_from (nat_le (parameters unit) (length (vars_of env.vars))) _
+    (ap (nat_le (parameters unit)) count ∙ and_first enough (inputs && (outputs && locals)) roles)
+    (and_from (list_all (λ (var : Var). is_input var.role) (take unit.inputs (vars_of env.vars))) _
+    (front_same f g (vars_of env.vars) unit.vars same is_input unit.inputs (and_first inputs (outputs && locals) behind))
+    (and_from (list_all (λ (var : Var). is_output var.role) (take unit.outputs (drop unit.inputs (vars_of env.vars)))) _
+    (between_same f g (vars_of env.vars) unit.vars same is_output unit.inputs unit.outputs (and_first outputs locals last))
+    (behind_same f g (vars_of env.vars) unit.vars same (λ role. is_variable role || is_fixed role) (parameters unit) (and_second outputs locals last))))
 
 -- ---- the entry
 
@@ -191,7 +172,7 @@ each_made test n [] typed each = refl
 each_made test n (x ∷ xs) typed each =
     let first = typed 0 x refl in
     ap (λ found. list_all test (cons_option (option_map (var_typed x) found) (vars_of xs))) first.is_typed
-    ∙ both (test (var_typed x first.ty)) (list_all test (vars_of xs)) (each 0 x first.ty refl first.is_typed)
+    ∙ and_from (test (var_typed x first.ty)) (list_all test (vars_of xs)) (each 0 x first.ty refl first.is_typed)
     (each_made test n xs (λ k known is. typed (suc k) known is) (λ k known ty is are. each (suc k) known ty is are))
 
 -- a parameter is scalar
@@ -217,7 +198,7 @@ driven_all vars n xs typed named all =
 
 take_all : {X : Type 0} (test : X → Bool) (n : ℕ) (xs : List X) → list_all test xs ≡ true → list_all test (take n xs) ≡ true
 take_all test n xs all =
-    and_left (list_all test (take n xs)) (list_all test (drop n xs))
+    and_first (list_all test (take n xs)) (list_all test (drop n xs))
     (sym (list_all-append test (take n xs) (drop n xs)) ∙ ap (list_all test) (take-append-drop n xs) ∙ all)
 
 both_alone : (parameter found : Bool) → parameter ≡ true → (if parameter then found else true) ≡ true → found ≡ true
@@ -228,11 +209,11 @@ only_scalar : (xs : List Var) → list_all (λ (var : Var). is_parameter var.rol
     list_all (λ (var : Var). is_some (scalar_in var.ty)) xs ≡ true
 only_scalar [] parameters all = refl
 only_scalar (x ∷ xs) parameters all =
-    both (is_some (scalar_in x.ty)) (list_all (λ (var : Var). is_some (scalar_in var.ty)) xs)
-    (both_alone (is_parameter x.role) (is_some (scalar_in x.ty)) (and_left (is_parameter x.role) (list_all (λ (var : Var). is_parameter var.role) xs)
-    parameters) (and_left (scalar_parameter x) (list_all scalar_parameter xs) all))
-    (only_scalar xs (and_right (is_parameter x.role) (list_all (λ (var : Var). is_parameter var.role) xs) parameters)
-    (and_right (scalar_parameter x) (list_all scalar_parameter xs) all))
+    and_from (is_some (scalar_in x.ty)) (list_all (λ (var : Var). is_some (scalar_in var.ty)) xs)
+    (both_alone (is_parameter x.role) (is_some (scalar_in x.ty)) (and_first (is_parameter x.role) (list_all (λ (var : Var). is_parameter var.role) xs)
+    parameters) (and_first (scalar_parameter x) (list_all scalar_parameter xs) all))
+    (only_scalar xs (and_second (is_parameter x.role) (list_all (λ (var : Var). is_parameter var.role) xs) parameters)
+    (and_second (scalar_parameter x) (list_all scalar_parameter xs) all))
 
 -- a unit that the environment can drive may be the entry
 pub entry_made : (unit : NamedUnit) (made : List Stmt) (env : Environment) (n : ℕ) → env.result ≡ None →
@@ -241,8 +222,8 @@ pub entry_made : (unit : NamedUnit) (made : List Stmt) (env : Environment) (n : 
     list_all (λ (var : NamedVar). is_parameter var.role) (take (parameters unit) unit.vars) ≡ true → is_activity unit.kind ≡ true →
     list_all can_be_driven unit.vars ≡ true → is_entry (Some (unit_of unit made env)) ≡ true
 entry_made unit made env n result typed named same roles activity all =
-    both (is_activity unit.kind) _ activity
-    (both (is_none env.result) _ (ap is_none result)
+    and_from (is_activity unit.kind) _ activity
+    (and_from (is_none env.result) _ (ap is_none result)
     (only_scalar (take (parameters unit) (vars_of env.vars))
     (front_same (λ (var : Var). var.role) (λ (var : NamedVar). var.role) (vars_of env.vars) unit.vars same is_parameter (parameters unit) roles)
     (take_all scalar_parameter (parameters unit) (vars_of env.vars) (driven_all unit.vars n env.vars typed named all))))

@@ -18,58 +18,13 @@ use Rattle.bl_types.specs.declared.form.Form.TheVariants.{Failing, Open, Of}
 use Rattle.bl_types.specs.declared.form.Found.{Found}
 use Rattle.bl_types.specs.declared.form.Found.TheVariants as found
 use Rattle.bl_types.specs.Declarations.{expr_of_form}
-use Rattle.bl_types.specs.Expressions.{
-  as_index,
-  beside as taken,
-  beside_none,
-  call,
-  call_form,
-  cast,
-  cast_formed,
-  cast_made,
-  closed_form,
-  fails_type,
-  fitting,
-  formed_as,
-  of_settled,
-  one_formed,
-  operands_made,
-  previous,
-  previous_formed,
-  previous_typed,
-  read,
-  reading,
-  settled_two,
-  two_formed,
-  type_of_two,
-  unwanted,
-  wanted_as,
-  whole_or_unfit,
-}
+use Rattle.bl_types.specs.Expressions.{as_index, beside as taken, beside_none, call, call_form, cast, cast_formed, cast_made, closed_form, fails_type, fitting}
+use Rattle.bl_types.specs.Expressions.{formed_as, of_settled, one_formed, operands_made, previous, previous_formed, previous_typed, read, reading, settled_two}
+use Rattle.bl_types.specs.Expressions.{two_formed, type_of_two, unwanted, wanted_as, whole_or_unfit}
 use Rattle.bl_types.specs.Settled.{given, int32, is_logical, keeps_one_open, keeps_two_open, kept, literal, one, settled, settled_if, two, unfit}
 use Rattle.bl_types_laws.proofs.Opens.{ExprIn, given_in, settled_if_in, settled_in}
-use Rattle.bl_types_laws.proofs.Sizes.{
-  Size,
-  SizeMost,
-  beside,
-  call_size,
-  cast_most,
-  deeper,
-  empty,
-  literal_size,
-  one_most,
-  previous_size,
-  read_size,
-  size_all,
-  size_deeper,
-  size_empty,
-  size_further,
-  size_is,
-  size_of,
-  size_of_path,
-  size_self,
-  two_most,
-}
+use Rattle.bl_types_laws.proofs.Sizes.{Size, SizeMost, beside, call_size, cast_most, deeper, empty, literal_size, one_most, previous_size, read_size, size_all}
+use Rattle.bl_types_laws.proofs.Sizes.{size_deeper, size_empty, size_further, size_is, size_of, size_of_path, size_self, two_most}
 
 -- what is known of an expression has at most this size
 abbrev pub FormIn : Size → Form → Type 0

@@ -3,31 +3,16 @@ use Rattle.std.proofs.Common.{◌≡◌, ℕ, ◌&&◌, List, [], ◌∷◌, ◌
 use Rattle.std.specs.Prelude.{All, ⊤}
 use Rattle.std.specs.List.{cons_option}
 use Rattle.std.proofs.lemmas.List.Elements.{All-head, All-tail}
+use Rattle.std.proofs.lemmas.Bool.{and_from}
+use Rattle.bl_tree.proofs.Basics.{and_first, and_second, none_at_most}
 use Rattle.bl_tree.specs.Apart.{Naming, and_naming, declares, naming, of_branches, together}
 use Rattle.bl_tree.specs.Depths.{Depth, block, leaf, of_all}
 use Rattle.bl_tree.specs.Reduce.{all_of, joined}
 use Rattle.bl_tree.proofs.ReduceLemmas.{all_of-append, joined-append}
-use Rattle.bl_eval.proofs.PassLemmas.{and_left, and_right, both}
 use Rattle.bl_types.specs.declared.environment.Environment.{Environment}
 use Rattle.bl_types.specs.Statements.{Walked, in_order}
-use Rattle.bl_types_laws.proofs.Orders.{
-  DepthMost,
-  NamingMost,
-  NamingsMost,
-  among_both,
-  among_none,
-  among_self,
-  block_most,
-  branches_most,
-  depths_first,
-  depths_none,
-  depths_skip,
-  leaf_most,
-  namings_first,
-  namings_none,
-  namings_skip,
-  none_most,
-}
+use Rattle.bl_types_laws.proofs.Orders.{DepthMost, NamingMost, NamingsMost, among_both, among_none, among_self, block_most, branches_most, depths_first}
+use Rattle.bl_types_laws.proofs.Orders.{depths_none, depths_skip, leaf_most, namings_first, namings_none, namings_skip}
 use Rattle.bl_types_laws.proofs.Sizes.{Size, SizeMost}
 
 -- what a statement, an arm or a branch is by its depth, what it declares and names
@@ -131,7 +116,7 @@ tested_most a b ones others head most = record {
 }
 
 pub bodies_most : (ones others : Shapes) → ShapesMost ones others → ShapeMost (block_shape ones) (block_shape others)
-bodies_most ones others most = record { depth = block_most 0 0 ones.depths others.depths (none_most 0) most.depths; naming = most.namings.all }
+bodies_most ones others most = record { depth = block_most 0 0 ones.depths others.depths (none_at_most 0) most.depths; naming = most.namings.all }
 
 pub branching_most : (ones others : Shapes) → ShapesMost ones others → ShapeMost (branches_shape ones) (branches_shape others)
 branching_most ones others most = record { depth = most.depths; naming = branches_most ones.namings others.namings most.namings }
@@ -156,7 +141,7 @@ pair_most : (a b c d : Naming) → NamingMost a c → NamingMost b d → NamingM
 pair_most a b c d one other = record {
   declared = among_both a.declared b.declared c.declared d.declared one.declared other.declared;
   named = among_both a.named b.named c.named d.named one.named other.named;
-  apart = λ holds. both a.apart b.apart (one.apart (and_left c.apart d.apart holds)) (other.apart (and_right c.apart d.apart holds));
+  apart = λ holds. and_from a.apart b.apart (one.apart (and_first c.apart d.apart holds)) (other.apart (and_second c.apart d.apart holds));
 }
 
 both_most : (a b c d : List Naming) → NamingsMost a c → NamingsMost b d → NamingMost (together (a ++ b)) (together (c ++ d))
@@ -168,7 +153,7 @@ both_most a b c d one other =
 pub choice_most : (arms other tests last : Shapes) → ShapesMost arms tests → ShapesMost other last →
     ShapeMost (choice_shape arms other) (choice_shape tests last)
 choice_most arms other tests last one more = record {
-  depth = depths_first (block 0 other.depths) (block 0 last.depths) arms.depths tests.depths (block_most 0 0 other.depths last.depths (none_most 0) more.depths)
+  depth = depths_first (block 0 other.depths) (block 0 last.depths) arms.depths tests.depths (block_most 0 0 other.depths last.depths (none_at_most 0) more.depths)
       one.depths;
   naming = both_most arms.namings other.namings tests.namings last.namings one.namings more.namings;
 }

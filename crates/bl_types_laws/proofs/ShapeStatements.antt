@@ -36,29 +36,9 @@ use Rattle.bl_types.specs.declared.form.Found.{Found}
 use Rattle.bl_types.specs.declared.form.Found.TheVariants as found
 use Rattle.bl_types.specs.Declarations.{initial}
 use Rattle.bl_types.specs.Expressions.{in_context, judged, params_of, targeted}
-use Rattle.bl_types.specs.Statements.{
-  Arguments,
-  Block,
-  StatementJudgement,
-  arguments,
-  arm_of,
-  arm_walked,
-  assign_made,
-  branch_walked,
-  condition,
-  declare,
-  if_complete,
-  in_order,
-  outputs_wanted,
-  returned,
-  run_made,
-  run_target,
-  stmt_made,
-  type_found,
-  walked_arm,
-  walked_branch,
-  walked_stmt,
-}
+use Rattle.bl_types.specs.Statements.{Arguments, Block, StatementJudgement, arguments, arm_of, arm_walked, assign_made, branch_walked, condition, declare}
+use Rattle.bl_types.specs.Statements.{if_complete, in_order, outputs_wanted, returned, run_made, run_target, stmt_made, type_found, walked_arm, walked_branch}
+use Rattle.bl_types.specs.Statements.{walked_stmt}
 use Rattle.bl_types_laws.proofs.NamedStmtInduction.{Cases, induct, stmt}
 use Rattle.bl_types_laws.proofs.StmtLayers.{Layer, walked_by, walked_is}
 use Rattle.bl_types_laws.proofs.Exprs.{context_in, inputs_in, targeted_in}
@@ -66,27 +46,9 @@ use Rattle.bl_types_laws.proofs.ShapeForms.{FoundIn}
 use Rattle.bl_types_laws.proofs.NamedSizes.{inputs_size, named_size, target_size}
 use Rattle.bl_types_laws.proofs.Opens.{ExprIn}
 use Rattle.bl_types_laws.proofs.ShapePaths.{TargetIn, all_lent_in, initial_in, paths_size, run_target_in, size_of_target, taker_size}
-use Rattle.bl_types_laws.proofs.ShapeParts.{
-  Shape,
-  ShapeIn,
-  ShapeMost,
-  Shapes,
-  ShapesMost,
-  block_shape,
-  bodies_most,
-  branches_shape,
-  branching_most,
-  choice_most,
-  choice_shape,
-  declared_most,
-  declared_shape,
-  in_order_in,
-  plain_most,
-  plain_shape,
-  shapes_of,
-  tested_most,
-  tested_shape,
-}
+use Rattle.bl_types_laws.proofs.ShapeParts.{Shape, ShapeIn, ShapeMost, Shapes, ShapesMost, block_shape, bodies_most, branches_shape, branching_most}
+use Rattle.bl_types_laws.proofs.ShapeParts.{choice_most, choice_shape, declared_most, declared_shape, in_order_in, plain_most, plain_shape, shapes_of}
+use Rattle.bl_types_laws.proofs.ShapeParts.{tested_most, tested_shape}
 use Rattle.bl_types_laws.proofs.Sizes.{Size, SizeMost, beside, empty, size_all, size_beside, size_empty, size_first, size_of, size_of_path, size_second}
 
 -- ---- typed statements

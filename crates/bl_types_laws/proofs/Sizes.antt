@@ -1,27 +1,8 @@
 -- How deep an expression is nested, and which variables it names.
-use Rattle.std.proofs.Common.{
-  ◌≡◌,
-  ℕ,
-  ℤ,
-  ◌+◌,
-  ◌≤◌,
-  List,
-  [],
-  ◌∷◌,
-  ◌++◌,
-  map,
-  Option,
-  Some,
-  None,
-  refl,
-  ap,
-  subst,
-  sym,
-  ◌∙◌,
-  arith,
-}
+use Rattle.std.proofs.Common.{◌≡◌, ℕ, ℤ, ◌+◌, ◌≤◌, List, [], ◌∷◌, ◌++◌, map, Option, Some, None, refl, ap, subst, sym, ◌∙◌, arith}
 use Rattle.std.specs.Prelude.{max, ⊤}
 use Rattle.std.specs.List.{cons_option}
+use Rattle.bl_tree.proofs.Basics.{none_at_most}
 use Rattle.bl_tree.specs.declared.place.Place.{Place}
 use Rattle.bl_tree.specs.declared.scalar.Op.{Op}
 use Rattle.bl_tree.specs.declared.scalar.Scalar.{Scalar as ScalarType}
@@ -39,7 +20,8 @@ use Rattle.bl_tree.specs.Depths as depths
 use Rattle.bl_tree.specs.Reduce.{greatest, joined}
 use Rattle.bl_types.specs.Expressions.{call, cast, path, previous, read}
 use Rattle.bl_types.specs.Settled.{literal, one, two}
-use Rattle.bl_types_laws.proofs.Orders.{Among, among_behind, among_both, among_further, among_none, among_self, max_behind, max_grows, none_most, one_more}
+use Rattle.bl_types_laws.proofs.Orders.{Among, among_behind, among_both, among_further, among_none, among_self, max_behind, max_grows}
+use Rattle.bl_names_laws.proofs.StmtDepth.{one_more}
 
 -- ---- sizes
 
@@ -65,7 +47,7 @@ pub size_self : (size : Size) → SizeMost size size
 size_self size = record { depth = omega arith; roots = among_self size.roots }
 
 pub size_empty : (size : Size) → SizeMost empty size
-size_empty size = record { depth = none_most size.depth; roots = among_none size.roots }
+size_empty size = record { depth = none_at_most size.depth; roots = among_none size.roots }
 
 pub size_further : (a b c : Size) → SizeMost a b → SizeMost b c → SizeMost a c
 size_further a b c one more = record {

@@ -1,31 +1,12 @@
 -- What is made of a struct and of a unit stands.
-use Rattle.std.proofs.Common.{
-  ◌≡◌,
-  ℕ,
-  ◌+◌,
-  ◌≤◌,
-  arith,
-  true,
-  ◌&&◌,
-  List,
-  [],
-  ◌∷◌,
-  ◌++◌,
-  length,
-  map,
-  take,
-  Some,
-  refl,
-  sym,
-  ap,
-  subst,
-  ◌∙◌,
-}
+use Rattle.std.proofs.Common.{◌≡◌, ℕ, ◌+◌, ◌≤◌, arith, true, ◌&&◌, List, [], ◌∷◌, ◌++◌, length, map, take, Some, refl, sym, ap, subst, ◌∙◌}
 use Rattle.std.specs.Prelude.{nat_le}
 use Rattle.std.specs.List.{list_all}
 use Rattle.std.proofs.lemmas.Bool.{le-leb, leb-true}
 use Rattle.std.proofs.lemmas.List.{take-map}
 use Rattle.std.proofs.lemmas.Simd.{map-map}
+use Rattle.std.proofs.lemmas.Bool.{and_from}
+use Rattle.bl_tree.proofs.Basics.{and_first, and_second}
 use Rattle.bl_tree.specs.Apart.{is_apart}
 use Rattle.bl_tree.specs.declared.tree.Field.{Field}
 use Rattle.bl_tree.specs.declared.tree.Stmt.{Stmt}
@@ -38,26 +19,13 @@ use Rattle.bl_tree.specs.Returns.{unit_returns}
 use Rattle.bl_tree.specs.Types.{type_stands}
 use Rattle.bl_tree.specs.Typing.{fits, is_inhabited, site_of}
 use Rattle.bl_tree.specs.Words.{are_distinct, is_name}
-use Rattle.bl_eval.proofs.PassLemmas.{and_left, and_right, both}
 use Rattle.bl_names_tree.specs.declared.item.NamedConstant.{NamedConstant}
 use Rattle.bl_names_tree.specs.declared.item.NamedStruct.{NamedStruct}
 use Rattle.bl_names_tree.specs.declared.item.NamedUnit.{NamedUnit}
 use Rattle.bl_names_tree.specs.declared.item.NamedVar.{NamedVar}
 use Rattle.bl_names_tree.specs.Placed.{DeclaredBefore, parameters, struct_placed}
-use Rattle.bl_names_laws.specs.WellFormed.{
-  body_apart,
-  body_filled,
-  body_shallow,
-  fields_differ,
-  fields_named,
-  has_name,
-  parameters_differ,
-  variables_named,
-  field_names as named_fields,
-  names_of as named_names,
-  struct_stands as struct_keeps,
-  unit_stands as unit_keeps,
-}
+use Rattle.bl_names_laws.specs.WellFormed.{body_apart, body_filled, body_shallow, fields_differ, fields_named, has_name, parameters_differ, variables_named}
+use Rattle.bl_names_laws.specs.WellFormed.{field_names as named_fields, names_of as named_names, struct_stands as struct_keeps, unit_stands as unit_keeps}
 use Rattle.bl_types.specs.declared.environment.Environment.{Environment}
 use Rattle.bl_types.specs.Declarations.{after_struct, field_of, struct_of}
 use Rattle.bl_types.specs.Statements.{Block, walked_block}
@@ -67,10 +35,7 @@ use Rattle.bl_types_laws.specs.Within.{known_in}
 use Rattle.bl_types_laws.proofs.TypesStand.{struct_stands as fields_stand}
 use Rattle.bl_types_laws.proofs.Premises.{Shapes}
 use Rattle.bl_types_laws.proofs.Ends.{same_last}
-
-inhabited_map : {A B : Type 0} (f : A → B) (xs : List A) → is_inhabited (map f xs) ≡ is_inhabited xs
-inhabited_map f [] = refl
-inhabited_map f (x ∷ xs) = refl
+use Rattle.bl_types_laws.proofs.Blocks.{inhabited_mapped}
 
 -- ---- structs
 
@@ -80,16 +45,16 @@ fields_are env def = map-map (λ (field : Field). field.name) (field_of env) def
 pub struct_made : (def : NamedStruct) (env : Environment) → struct_keeps def ≡ true → struct_placed (known_in env) def ≡ true →
     (after_struct def env).failures ≡ [] → struct_stands (length env.structs) (struct_of env def) ≡ true
 struct_made def env keeps placed none =
-    let named : fields_named def ≡ true = and_left (fields_named def) (fields_differ def) keeps in
+    let named : fields_named def ≡ true = and_first (fields_named def) (fields_differ def) keeps in
     let made : StructDef = struct_of env def in
-    both (is_inhabited made.fields) ((list_all is_name (field_names made) && are_distinct (field_names made))
+    and_from (is_inhabited made.fields) ((list_all is_name (field_names made) && are_distinct (field_names made))
     && list_all (λ (field : Field). type_stands (length env.structs) field.ty) made.fields)
-    (inhabited_map (field_of env) def.fields ∙ and_left (is_inhabited def.fields) (list_all is_name (named_fields def)) named)
-    (both (list_all is_name (field_names made) && are_distinct (field_names made))
+    (inhabited_mapped (field_of env) def.fields ∙ and_first (is_inhabited def.fields) (list_all is_name (named_fields def)) named)
+    (and_from (list_all is_name (field_names made) && are_distinct (field_names made))
     (list_all (λ (field : Field). type_stands (length env.structs) field.ty) made.fields)
-    (both (list_all is_name (field_names made)) (are_distinct (field_names made))
-    (ap (list_all is_name) (fields_are env def) ∙ and_right (is_inhabited def.fields) (list_all is_name (named_fields def)) named)
-    (ap are_distinct (fields_are env def) ∙ and_right (fields_named def) (fields_differ def) keeps))
+    (and_from (list_all is_name (field_names made)) (are_distinct (field_names made))
+    (ap (list_all is_name) (fields_are env def) ∙ and_second (is_inhabited def.fields) (list_all is_name (named_fields def)) named)
+    (ap are_distinct (fields_are env def) ∙ and_second (fields_named def) (fields_differ def) keeps))
     (fields_stand def env placed none))
 
 -- ---- units
@@ -129,8 +94,8 @@ module _ (structs : List StructDef) (constants : List NamedConstant) (unit : Nam
 
 names_named : (vars : List NamedVar) → list_all has_name vars ≡ true → list_all is_name (map (λ (var : NamedVar). var.name.text) vars) ≡ true
 names_named [] named = refl
-names_named (var ∷ vars) named = both (has_name var) (list_all is_name (map (λ (var : NamedVar). var.name.text) vars))
-    (and_left (has_name var) (list_all has_name vars) named) (names_named vars (and_right (has_name var) (list_all has_name vars) named))
+names_named (var ∷ vars) named = and_from (has_name var) (list_all is_name (map (λ (var : NamedVar). var.name.text) vars))
+    (and_first (has_name var) (list_all has_name vars) named) (names_named vars (and_second (has_name var) (list_all has_name vars) named))
 
 parameter_names : (unit : NamedUnit) (made : UnitDef) (n : ℕ) → names_of made.vars ≡ map (λ (var : NamedVar). var.name.text) unit.vars →
     names_of (take n made.vars) ≡ named_names (take n unit.vars)
@@ -142,48 +107,48 @@ stands_by : (structs : List StructDef) (earlier : List UnitDef) (unit : NamedUni
     Passing structs unit earlier made → made.inputs + made.outputs ≡ parameters unit →
     is_shallow 200 made.body ≡ true → list_all is_apart made.body ≡ true → unit_stands structs earlier made ≡ true
 stands_by structs earlier unit made keeps passing same shallow apart =
-    let head = and_left (variables_named unit && parameters_differ unit) (body_filled unit && (body_shallow unit && body_apart unit)) keeps in
+    let head = and_first (variables_named unit && parameters_differ unit) (body_filled unit && (body_shallow unit && body_apart unit)) keeps in
     let named : list_all is_name (names_of made.vars) ≡ true = ap (list_all is_name) passing.names
-    ∙ names_named unit.vars (and_left (variables_named unit) (parameters_differ unit) head) in
+    ∙ names_named unit.vars (and_first (variables_named unit) (parameters_differ unit) head) in
     let differ : are_distinct (names_of (parameters_of made)) ≡ true =
     ap are_distinct (ap (λ n. names_of (take n made.vars)) same ∙ parameter_names unit made (parameters unit) passing.names)
-    ∙ and_right (variables_named unit) (parameters_differ unit) head in
-    both (roles_stand made && (list_all is_name (names_of made.vars) && are_distinct (names_of (parameters_of made))))
+    ∙ and_second (variables_named unit) (parameters_differ unit) head in
+    and_from (roles_stand made && (list_all is_name (names_of made.vars) && are_distinct (names_of (parameters_of made))))
     (list_all (λ (var : Var). type_stands (length structs) var.ty) made.vars
     && (list_all (fits (site_of structs earlier made)) made.body && (unit_returns made && (is_shallow 200 made.body && list_all is_apart made.body))))
-    (both (roles_stand made) (list_all is_name (names_of made.vars) && are_distinct (names_of (parameters_of made))) passing.roles
-    (both (list_all is_name (names_of made.vars)) (are_distinct (names_of (parameters_of made))) named differ))
-    (both (list_all (λ (var : Var). type_stands (length structs) var.ty) made.vars)
+    (and_from (roles_stand made) (list_all is_name (names_of made.vars) && are_distinct (names_of (parameters_of made))) passing.roles
+    (and_from (list_all is_name (names_of made.vars)) (are_distinct (names_of (parameters_of made))) named differ))
+    (and_from (list_all (λ (var : Var). type_stands (length structs) var.ty) made.vars)
     (list_all (fits (site_of structs earlier made)) made.body && (unit_returns made && (is_shallow 200 made.body && list_all is_apart made.body)))
     passing.vars_stand
-    (both (list_all (fits (site_of structs earlier made)) made.body) (unit_returns made && (is_shallow 200 made.body && list_all is_apart made.body))
+    (and_from (list_all (fits (site_of structs earlier made)) made.body) (unit_returns made && (is_shallow 200 made.body && list_all is_apart made.body))
     passing.is_good
-    (both (unit_returns made) (is_shallow 200 made.body && list_all is_apart made.body) passing.returns
-    (both (is_shallow 200 made.body) (list_all is_apart made.body) shallow apart))))
+    (and_from (unit_returns made) (is_shallow 200 made.body && list_all is_apart made.body) passing.returns
+    (and_from (is_shallow 200 made.body) (list_all is_apart made.body) shallow apart))))
 
 -- what is nested at most 100 deep is nested at most 200 deep
 deeper_too : (body : List Stmt) → is_shallow 100 body ≡ true → is_shallow 200 body ≡ true
 deeper_too body shallow =
     let d = (block 0 (map depth_of body)).blocks in
     let exprs = nat_le (of_all (map depth_of body)).exprs 200 in
-    let less : d ≤ 100 = leb-true d 100 (and_left (nat_le d 100) exprs shallow) in
-    both (nat_le d 200) exprs (le-leb d 200 (omega arith)) (and_right (nat_le d 100) exprs shallow)
+    let less : d ≤ 100 = leb-true d 100 (and_first (nat_le d 100) exprs shallow) in
+    and_from (nat_le d 200) exprs (le-leb d 200 (omega arith)) (and_second (nat_le d 100) exprs shallow)
 
 -- what is made of a unit is nested no deeper than it may be itself
 pub unit_shallow : Shapes → (constants : List NamedConstant) (unit : NamedUnit) (env : Environment) → unit_keeps unit ≡ true →
     is_shallow 100 (made_of constants unit env).body ≡ true
 unit_shallow shapes constants unit env keeps =
-    let rest = and_right (variables_named unit && parameters_differ unit) (body_filled unit && (body_shallow unit && body_apart unit)) keeps in
-    let inner = and_right (body_filled unit) (body_shallow unit && body_apart unit) rest in
-    shapes.shallow constants unit.vars unit.body (after_head unit env).env (and_left (body_shallow unit) (body_apart unit) inner)
+    let rest = and_second (variables_named unit && parameters_differ unit) (body_filled unit && (body_shallow unit && body_apart unit)) keeps in
+    let inner = and_second (body_filled unit) (body_shallow unit && body_apart unit) rest in
+    shapes.shallow constants unit.vars unit.body (after_head unit env).env (and_first (body_shallow unit) (body_apart unit) inner)
 
 pub unit_made : Shapes → (structs : List StructDef) (constants : List NamedConstant) (unit : NamedUnit) (env : Environment) → unit_keeps unit ≡ true →
     Passing structs unit env.units (made_of constants unit env) →
     unit_stands structs env.units (made_of constants unit env) ≡ true
 unit_made shapes structs constants unit env keeps passing =
-    let rest = and_right (variables_named unit && parameters_differ unit) (body_filled unit && (body_shallow unit && body_apart unit)) keeps in
-    let inner = and_right (body_filled unit) (body_shallow unit && body_apart unit) rest in
+    let rest = and_second (variables_named unit && parameters_differ unit) (body_filled unit && (body_shallow unit && body_apart unit)) keeps in
+    let inner = and_second (body_filled unit) (body_shallow unit && body_apart unit) rest in
     let head : Environment = (after_head unit env).env in
     stands_by structs env.units unit (made_of constants unit env) keeps passing refl
     (deeper_too (made_of constants unit env).body (unit_shallow shapes constants unit env keeps))
-    (shapes.apart constants unit.vars unit.body head (and_right (body_shallow unit) (body_apart unit) inner))
+    (shapes.apart constants unit.vars unit.body head (and_second (body_shallow unit) (body_apart unit) inner))

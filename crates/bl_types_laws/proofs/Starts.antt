@@ -1,34 +1,13 @@
 -- Lists of numbers that ascend, and lists that are picked from others.
-use Rattle.std.proofs.Common.{
-  ◌≡◌,
-  ℕ,
-  zero,
-  suc,
-  ◌<◌,
-  Bool,
-  true,
-  List,
-  [],
-  ◌∷◌,
-  ◌++◌,
-  map,
-  Some,
-  refl,
-  sym,
-  ap,
-  subst,
-  inl,
-  inr,
-  ⊎_elim,
-  arith,
-}
+use Rattle.std.proofs.Common.{◌≡◌, ℕ, zero, suc, ◌<◌, Bool, true, List, [], ◌∷◌, ◌++◌, map, Some, refl, sym, ap, subst, inl, inr, ⊎_elim, arith}
 use Rattle.std.specs.Prelude.{nat_lt, slice_get}
 use Rattle.std.specs.List.{list_all}
 use Rattle.std.proofs.lemmas.Bool.Decides.{nat_tests}
 use Rattle.std.proofs.lemmas.Option.{same_Some}
+use Rattle.std.proofs.lemmas.Bool.{and_from}
+use Rattle.bl_tree.proofs.Basics.{and_first, and_second}
 use Rattle.bl_tree.specs.Reduce.{joined}
 use Rattle.bl_tree.proofs.FirstLemmas.{In}
-use Rattle.bl_eval.proofs.PassLemmas.{and_left, and_right, both}
 use Rattle.bl_parse_tree.specs.Starts.{ascends}
 
 -- ---- lists picked from others
@@ -54,17 +33,17 @@ picked_append (taken x more) rest = taken x (picked_append more rest)
 
 picked_all : (test : ℕ → Bool) {xs ys : List ℕ} → Picked xs ys → list_all test ys ≡ true → list_all test xs ≡ true
 picked_all test none all = refl
-picked_all test (left {xs} {ys} y more) all = picked_all test more (and_right (test y) (list_all test ys) all)
+picked_all test (left {xs} {ys} y more) all = picked_all test more (and_second (test y) (list_all test ys) all)
 picked_all test (taken {xs} {ys} x more) all =
-    both (test x) (list_all test xs) (and_left (test x) (list_all test ys) all) (picked_all test more (and_right (test x) (list_all test ys) all))
+    and_from (test x) (list_all test xs) (and_first (test x) (list_all test ys) all) (picked_all test more (and_second (test x) (list_all test ys) all))
 
 -- what is picked from a list that ascends does too
 pub picked_ascends : {xs ys : List ℕ} → Picked xs ys → ascends ys ≡ true → ascends xs ≡ true
 picked_ascends none up = refl
-picked_ascends (left {xs} {ys} y more) up = picked_ascends more (and_right (list_all (nat_lt y) ys) (ascends ys) up)
+picked_ascends (left {xs} {ys} y more) up = picked_ascends more (and_second (list_all (nat_lt y) ys) (ascends ys) up)
 picked_ascends (taken {xs} {ys} x more) up =
-    both (list_all (nat_lt x) xs) (ascends xs) (picked_all (nat_lt x) more (and_left (list_all (nat_lt x) ys) (ascends ys) up))
-    (picked_ascends more (and_right (list_all (nat_lt x) ys) (ascends ys) up))
+    and_from (list_all (nat_lt x) xs) (ascends xs) (picked_all (nat_lt x) more (and_first (list_all (nat_lt x) ys) (ascends ys) up))
+    (picked_ascends more (and_second (list_all (nat_lt x) ys) (ascends ys) up))
 
 -- ---- members of lists
 
@@ -99,26 +78,26 @@ in_joined f (z ∷ xs) x y there inside =
 above : (n : ℕ) (xs : List ℕ) (x : ℕ) → list_all (nat_lt n) xs ≡ true → In x xs → n < x
 above n [] x all there = absurd there
 above n (y ∷ xs) x all there =
-    ⊎_elim (λ is. let first = and_left (nat_lt n y) (list_all (nat_lt n) xs) all in let less : n < y = grind (arith, nat_tests) in omega arith)
-    (λ later. above n xs x (and_right (nat_lt n y) (list_all (nat_lt n) xs) all) later) there
+    ⊎_elim (λ is. let first = and_first (nat_lt n y) (list_all (nat_lt n) xs) all in let less : n < y = grind (arith, nat_tests) in omega arith)
+    (λ later. above n xs x (and_second (nat_lt n y) (list_all (nat_lt n) xs) all) later) there
 
 -- the first is less than all later ones
 pub first_less : (n : ℕ) (xs : List ℕ) (x : ℕ) → ascends (n ∷ xs) ≡ true → In x xs → n < x
-first_less n xs x up there = above n xs x (and_left (list_all (nat_lt n) xs) (ascends xs) up) there
+first_less n xs x up there = above n xs x (and_first (list_all (nat_lt n) xs) (ascends xs) up) there
 
 pub ascends_rest : (n : ℕ) (xs : List ℕ) → ascends (n ∷ xs) ≡ true → ascends xs ≡ true
-ascends_rest n xs up = and_right (list_all (nat_lt n) xs) (ascends xs) up
+ascends_rest n xs up = and_second (list_all (nat_lt n) xs) (ascends xs) up
 
 all_before : (test : ℕ → Bool) (xs ys : List ℕ) → list_all test (xs ++ ys) ≡ true → list_all test xs ≡ true
 all_before test [] ys all = refl
 all_before test (x ∷ xs) ys all =
-    both (test x) (list_all test xs) (and_left (test x) (list_all test (xs ++ ys)) all)
-    (all_before test xs ys (and_right (test x) (list_all test (xs ++ ys)) all))
+    and_from (test x) (list_all test xs) (and_first (test x) (list_all test (xs ++ ys)) all)
+    (all_before test xs ys (and_second (test x) (list_all test (xs ++ ys)) all))
 
 pub ascends_left : (xs ys : List ℕ) → ascends (xs ++ ys) ≡ true → ascends xs ≡ true
 ascends_left [] ys up = refl
 ascends_left (x ∷ xs) ys up =
-    both (list_all (nat_lt x) xs) (ascends xs) (all_before (nat_lt x) xs ys (and_left (list_all (nat_lt x) (xs ++ ys)) (ascends (xs ++ ys)) up))
+    and_from (list_all (nat_lt x) xs) (ascends xs) (all_before (nat_lt x) xs ys (and_first (list_all (nat_lt x) (xs ++ ys)) (ascends (xs ++ ys)) up))
     (ascends_left xs ys (ascends_rest x (xs ++ ys) up))
 
 pub ascends_right : (xs ys : List ℕ) → ascends (xs ++ ys) ≡ true → ascends ys ≡ true
@@ -132,7 +111,7 @@ parts_less (n ∷ xs) ys x y up one two =
     ⊎_elim (λ is. let less = first_less n (xs ++ ys) y up (in_right y xs ys two) in omega arith)
     (λ later. parts_less xs ys x y (ascends_rest n (xs ++ ys) up) later two) one
 
--- so no number is in both
+-- so no number is in and_from
 pub parts_apart : (xs ys : List ℕ) (x : ℕ) → ascends (xs ++ ys) ≡ true → In x xs → In x ys → ⊥
 parts_apart xs ys x up one two = let less = parts_less xs ys x x up one two in omega arith
 

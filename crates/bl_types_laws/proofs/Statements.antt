@@ -3,6 +3,8 @@ use Rattle.std.proofs.Common.{◌≡◌, ℕ, List, [], ◌++◌, map, length, O
 use Rattle.std.specs.Prelude.{Bool, true, false, ◌&&◌, is_none, is_some, nat_lt, option_map, slice_get}
 use Rattle.std.specs.List.{list_all}
 use Rattle.std.proofs.lemmas.Option.{same_Some}
+use Rattle.std.proofs.lemmas.Bool.{and_from}
+use Rattle.bl_tree.proofs.Basics.{and_first, and_second, first_empty, second_empty}
 use Rattle.bl_tree.specs.declared.place.Place.{Place}
 use Rattle.bl_tree.specs.declared.rule.Failure.{Failure}
 use Rattle.bl_tree.specs.declared.rule.Rule.TheVariants as rule
@@ -20,29 +22,9 @@ use Rattle.bl_tree.specs.declared.tree.Ty.{Ty}
 use Rattle.bl_tree.specs.declared.tree.Unit.{Unit as UnitDef}
 use Rattle.bl_tree.specs.Reduce.{all_of}
 use Rattle.bl_tree.specs.Types.{scalar}
-use Rattle.bl_tree.specs.Typing.{
-  TypingContext,
-  are_same,
-  arguments_fit,
-  arm_fits,
-  branch_fits,
-  call_fits,
-  fits,
-  is_activity,
-  is_assignable,
-  is_function,
-  is_outlet,
-  is_truth,
-  kind_fits,
-  return_fits,
-  run_fits,
-  stmt_fits,
-  target_fits,
-  type_of,
-  type_of_path,
-}
+use Rattle.bl_tree.specs.Typing.{TypingContext, are_same, arguments_fit, arm_fits, branch_fits, call_fits, fits, is_activity, is_assignable, is_function}
+use Rattle.bl_tree.specs.Typing.{is_outlet, is_truth, kind_fits, return_fits, run_fits, stmt_fits, target_fits, type_of, type_of_path}
 use Rattle.bl_eval.proofs.OperatorFits.{where_holds}
-use Rattle.bl_eval.proofs.PassLemmas.{and_left, and_right, both}
 use Rattle.bl_names_tree.specs.declared.expr.NamedExpr.{NamedExpr}
 use Rattle.bl_names_tree.specs.declared.expr.NamedTarget.{NamedTarget, out-NamedTarget}
 use Rattle.bl_names_tree.specs.declared.stmt.NamedPath.{NamedPath}
@@ -53,36 +35,14 @@ use Rattle.bl_types.specs.declared.form.Found.TheVariants as found
 use Rattle.bl_types.specs.Expressions.{Targeted, in_context, judged, targeted}
 use Rattle.bl_types.specs.Failures.{unless}
 use Rattle.bl_types.specs.Settled.{Settled}
-use Rattle.bl_types.specs.Statements.{
-  Arguments,
-  RunTarget,
-  arguments,
-  arm_of,
-  assign,
-  assign_made,
-  call_walked,
-  condition,
-  has_result,
-  if_complete,
-  immutable,
-  lent,
-  misplaced,
-  no_result,
-  result_type,
-  returned,
-  run_made,
-  run_target,
-  run_walked,
-  stmt_made,
-  type_found,
-  walked,
-}
+use Rattle.bl_types.specs.Statements.{Arguments, RunTarget, arguments, arm_of, assign, assign_made, call_walked, condition, has_result, if_complete, immutable}
+use Rattle.bl_types.specs.Statements.{lent, misplaced, no_result, result_type, returned, run_made, run_target, run_walked, stmt_made, type_found, walked}
 use Rattle.bl_types_laws.specs.Fitting.{FoundFits, IsLent, IsMade}
 use Rattle.bl_types_laws.specs.Standing.{Around, Known, PartPassed}
 use Rattle.bl_types_laws.specs.Within.{EnvironmentWithin, calls_functions, known_in, target_calls}
 use Rattle.bl_types_laws.proofs.Arguments.{complete_if, arguments_good, condition_fits, truth_is}
 use Rattle.bl_types_laws.proofs.Expressions.{targets_fit, there_at, wanted_fits}
-use Rattle.bl_types_laws.proofs.Forms.{map_found, nil_left, nil_right, same_type_self, unless_holds}
+use Rattle.bl_types_laws.proofs.Forms.{map_found, same_type_self, unless_holds}
 use Rattle.bl_types_laws.proofs.Paths.{lent_fits, target_assignable}
 use Rattle.bl_types_laws.proofs.Walks.{own_calls, WalkFits, passed_still}
 
@@ -124,7 +84,7 @@ module _ (site : TypingContext) where
       let value : type_of site e ≡ Some (out-Path path).ty = ap (type_of site) (same_Some e made.it made.is) ∙ made.is_typed in
       subst (λ a. fits site (stmt_made at a) ≡ true) (same_Some (what.Assign path e) a is)
       (fits_is at (what.Assign path e) (StmtKind-F.Assign path e) (what.outs-Assign path e)
-      ∙ both (is_assignable site path) (are_same (type_of_path site path) (type_of site e)) (may path refl)
+      ∙ and_from (is_assignable site path) (are_same (type_of_path site path) (type_of site e)) (may path refl)
       (same_types (type_of_path site path) (type_of site e) (out-Path path).ty fit value))
 
   -- ---- calls and runs
@@ -138,8 +98,8 @@ module _ (site : TypingContext) where
       (fits_is at (what.Call f arguments.inputs arguments.outputs) (StmtKind-F.Call f arguments.inputs arguments.outputs)
       (what.outs-Call f arguments.inputs arguments.outputs)
       ∙ ap (call_fits site arguments.inputs arguments.outputs) there
-      ∙ both (is_function unit.kind && is_none unit.result) (arguments_fit site arguments.inputs arguments.outputs unit)
-      (both (is_function unit.kind) (is_none unit.result) function none) fit)
+      ∙ and_from (is_function unit.kind && is_none unit.result) (arguments_fit site arguments.inputs arguments.outputs unit)
+      (and_from (is_function unit.kind) (is_none unit.result) function none) fit)
 
   run_good : (at : Place) (f : ℕ) (target : Option (Option Path)) (arguments : Arguments) (unit : UnitDef) (a : StmtKind) →
       slice_get site.earlier f ≡ Some unit → is_activity site.kind ≡ true → is_activity unit.kind ≡ true →
@@ -152,8 +112,8 @@ module _ (site : TypingContext) where
       (fits_is at (what.Run path f arguments.inputs arguments.outputs) (StmtKind-F.Run path f arguments.inputs arguments.outputs)
       (what.outs-Run path f arguments.inputs arguments.outputs)
       ∙ ap (run_fits site path arguments.inputs arguments.outputs) there
-      ∙ both (is_activity site.kind && is_activity unit.kind) _ (both (is_activity site.kind) (is_activity unit.kind) own activity)
-      (both (target_fits site unit.result path) (arguments_fit site arguments.inputs arguments.outputs unit) (leads path refl) fit))
+      ∙ and_from (is_activity site.kind && is_activity unit.kind) _ (and_from (is_activity site.kind) (is_activity unit.kind) own activity)
+      (and_from (target_fits site unit.result path) (arguments_fit site arguments.inputs arguments.outputs unit) (leads path refl) fit))
 
   target_lent : (result : Option ScalarType) (s : ScalarType) (made : Option Path) (path : Option Path) → result ≡ Some s →
       IsLent site (scalar s) made →
@@ -164,7 +124,7 @@ module _ (site : TypingContext) where
       subst (λ path. target_fits site result path ≡ true) found.2
       (subst (λ (path : Path). target_fits site result (Some path) ≡ true) same
       (ap (λ result. target_fits site result (Some lent.it)) is
-      ∙ both (is_outlet site lent.it) (are_same (Some (scalar s)) (type_of_path site lent.it)) lent.is_outlet_there
+      ∙ and_from (is_outlet site lent.it) (are_same (Some (scalar s)) (type_of_path site lent.it)) lent.is_outlet_there
       (same_types (Some (scalar s)) (type_of_path site lent.it) (scalar s) refl lent.is_typed)))
 
   -- ---- conditions
@@ -178,7 +138,7 @@ module _ (site : TypingContext) where
       let found = map_found what.Await test a is in
       subst (λ a. fits site (stmt_made at a) ≡ true) found.2
       (fits_is at (what.Await found.0) (StmtKind-F.Await found.0) (what.outs-Await found.0)
-      ∙ both (is_activity site.kind) (is_truth (type_of site found.0)) own (truth_made test found.0 made found.1))
+      ∙ and_from (is_activity site.kind) (is_truth (type_of site found.0)) own (truth_made test found.0 made found.1))
 
   return_good : (at : Place) (s : ScalarType) (value : Option Expr) (a : StmtKind) → site.result ≡ Some s → IsMade site (scalar s) value →
       option_map (λ e. what.Return (Some e)) value ≡ Some a → fits site (stmt_made at a) ≡ true
@@ -220,21 +180,21 @@ module _ (site : TypingContext) (at : Place) where
       let leads : Targeted = targeted env target in
       let value : Settled = in_context (type_found leads.found) (judged env e) in
       let may : List Failure = immutable env (out-NamedTarget target).place (out-NamedTarget target).root in
-      let behind : value.failures ++ may ≡ [] = nil_right leads.failures (value.failures ++ may) none in
-      let target_in : target_placed (known_in env) target ≡ true = and_left (target_placed (known_in env) target) (expr_placed (known_in env) e) placed.0 in
-      let expr_in : expr_placed (known_in env) e ≡ true = and_right (target_placed (known_in env) target) (expr_placed (known_in env) e) placed.0 in
+      let behind : value.failures ++ may ≡ [] = second_empty leads.failures (value.failures ++ may) none in
+      let target_in : target_placed (known_in env) target ≡ true = and_first (target_placed (known_in env) target) (expr_placed (known_in env) e) placed.0 in
+      let expr_in : expr_placed (known_in env) e ≡ true = and_second (target_placed (known_in env) target) (expr_placed (known_in env) e) placed.0 in
       let target_own : target_calls env.units target ≡ true = ap (λ units. target_calls units target) around.units
-      ∙ and_left (target_calls site.earlier target) (calls_functions site.earlier e) named in
+      ∙ and_first (target_calls site.earlier target) (calls_functions site.earlier e) named in
       let expr_own : calls_functions env.units e ≡ true = own_calls env site around e
-      (and_right (target_calls site.earlier target) (calls_functions site.earlier e) named) in
+      (and_second (target_calls site.earlier target) (calls_functions site.earlier e) named) in
       passed_still site good env counts (assign_made leads.found value.made) (leads.failures ++ (value.failures ++ may)) around known placed.1
       (λ within a is.
       assign_by site at leads.found value.made a (targets_fit env site within target target_in target_own
-      (nil_left leads.failures (value.failures ++ may) none))
-      (λ path is. target_assignable env site within target path target_in is (nil_right value.failures may behind))
+      (first_empty leads.failures (value.failures ++ may) none))
+      (λ path is. target_assignable env site within target path target_in is (second_empty value.failures may behind))
       (λ ty is.
       subst (λ wanted. (in_context wanted (judged env e)).failures ≡ [] → IsMade site ty (in_context wanted (judged env e)).made) (sym is)
-      (wanted_fits env site within e expr_in expr_own ty) (nil_left value.failures may behind))
+      (wanted_fits env site within e expr_in expr_own ty) (first_empty value.failures may behind))
       is)
 
   pub call_fit : (name : Place) (f : ℕ) (inputs : List NamedExpr) (outputs : List NamedPath) →
@@ -244,25 +204,25 @@ module _ (site : TypingContext) (at : Place) where
   call_fit name f inputs outputs named env around known counts step none =
       let placed = placed_of env (arguments_placed (known_in env) f inputs outputs) counts step in
       let given : Arguments = arguments env name f inputs outputs in
-      let found = there_at env.units f (and_left (nat_lt f (length env.units)) _ placed.0) in
+      let found = there_at env.units f (and_first (nat_lt f (length env.units)) _ placed.0) in
       let unit : UnitDef = found.0 in
       let there : slice_get site.earlier f ≡ Some unit = ap (λ units. slice_get units f) (sym around.units) ∙ found.1 in
-      let parts = and_right (nat_lt f (length env.units)) (list_all (expr_placed (known_in env)) inputs && list_all (path_placed (known_in env)) outputs)
+      let parts = and_second (nat_lt f (length env.units)) (list_all (expr_placed (known_in env)) inputs && list_all (path_placed (known_in env)) outputs)
       placed.0 in
       let function : is_function unit.kind ≡ true =
       ap (holds_of (λ (unit : UnitDef). is_function unit.kind)) (sym there)
-      ∙ and_left (holds_of (λ (unit : UnitDef). is_function unit.kind) (slice_get site.earlier f)) (list_all (calls_functions site.earlier) inputs) named in
+      ∙ and_first (holds_of (λ (unit : UnitDef). is_function unit.kind) (slice_get site.earlier f)) (list_all (calls_functions site.earlier) inputs) named in
       let bare : is_none unit.result ≡ true =
       unless_holds (is_none unit.result) rule.Return name (ap (has_result name) (sym found.1)
-      ∙ nil_right given.failures (has_result name (slice_get env.units f)) none) in
+      ∙ second_empty given.failures (has_result name (slice_get env.units f)) none) in
       passed_still site good env counts (if_complete given (what.Call f)) (given.failures ++ has_result name (slice_get env.units f)) around known placed.1
       (λ within a is.
       let complete = arguments_good env site within name f inputs outputs unit found.1
-      (and_left (list_all (expr_placed (known_in env)) inputs) (list_all (path_placed (known_in env)) outputs) parts)
-      (and_right (list_all (expr_placed (known_in env)) inputs) (list_all (path_placed (known_in env)) outputs) parts)
-      (own_all env around inputs (and_right (holds_of (λ (unit : UnitDef). is_function unit.kind) (slice_get site.earlier f))
+      (and_first (list_all (expr_placed (known_in env)) inputs) (list_all (path_placed (known_in env)) outputs) parts)
+      (and_second (list_all (expr_placed (known_in env)) inputs) (list_all (path_placed (known_in env)) outputs) parts)
+      (own_all env around inputs (and_second (holds_of (λ (unit : UnitDef). is_function unit.kind) (slice_get site.earlier f))
       (list_all (calls_functions site.earlier) inputs) named))
-      (nil_left given.failures (has_result name (slice_get env.units f)) none) in
+      (first_empty given.failures (has_result name (slice_get env.units f)) none) in
       call_good site at f given unit a there function bare complete.fit is)
 
   target_by : (env : Environment) → EnvironmentWithin env site → (unit : UnitDef) (target : Option NamedPath) →
@@ -279,13 +239,13 @@ module _ (site : TypingContext) (at : Place) where
     where
       result_by : (result : Option ScalarType) → unit.result ≡ result → target_fits site unit.result path ≡ true
       result_by None result = absurd (let fails = ap (λ result. unless (is_some result) rule.Return target.place) (sym result)
-          ∙ nil_right (lent env (result_type (Some unit)) target).failures (no_result target.place (Some unit)) none in cc)
+          ∙ second_empty (lent env (result_type (Some unit)) target).failures (no_result target.place (Some unit)) none in cc)
       result_by (Some s) result =
           let wanted : result_type (Some unit) ≡ Some (scalar s) = ap (option_map scalar) result in
           target_lent site unit.result s (lent env (result_type (Some unit)) target).made path result
           (subst (λ wanted. (lent env wanted target).failures ≡ [] → IsLent site (scalar s) (lent env wanted target).made) (sym wanted)
           (lent_fits env site within target placed (scalar s))
-          (nil_left (lent env (result_type (Some unit)) target).failures (no_result target.place (Some unit)) none))
+          (first_empty (lent env (result_type (Some unit)) target).failures (no_result target.place (Some unit)) none))
           is
 
   pub run_fit : (target : Option NamedPath) (name : Place) (f : ℕ) (inputs : List NamedExpr) (outputs : List NamedPath) →
@@ -295,33 +255,33 @@ module _ (site : TypingContext) (at : Place) where
   run_fit target name f inputs outputs named env around known counts step none =
       let placed = placed_of env (holds_if (path_placed (known_in env)) target && arguments_placed (known_in env) f inputs outputs) counts step in
       let target_in : holds_if (path_placed (known_in env)) target ≡ true =
-      and_left (holds_if (path_placed (known_in env)) target) (arguments_placed (known_in env) f inputs outputs) placed.0 in
+      and_first (holds_if (path_placed (known_in env)) target) (arguments_placed (known_in env) f inputs outputs) placed.0 in
       let arguments_in : arguments_placed (known_in env) f inputs outputs ≡ true =
-      and_right (holds_if (path_placed (known_in env)) target) (arguments_placed (known_in env) f inputs outputs) placed.0 in
+      and_second (holds_if (path_placed (known_in env)) target) (arguments_placed (known_in env) f inputs outputs) placed.0 in
       let given : Arguments = arguments env name f inputs outputs in
       let leads : RunTarget = run_target env (slice_get env.units f) target in
-      let found = there_at env.units f (and_left (nat_lt f (length env.units)) _ arguments_in) in
+      let found = there_at env.units f (and_first (nat_lt f (length env.units)) _ arguments_in) in
       let unit : UnitDef = found.0 in
       let there : slice_get site.earlier f ≡ Some unit = ap (λ units. slice_get units f) (sym around.units) ∙ found.1 in
-      let parts = and_right (nat_lt f (length env.units)) (list_all (expr_placed (known_in env)) inputs && list_all (path_placed (known_in env)) outputs)
+      let parts = and_second (nat_lt f (length env.units)) (list_all (expr_placed (known_in env)) inputs && list_all (path_placed (known_in env)) outputs)
       arguments_in in
       let activity : is_activity unit.kind ≡ true =
       ap (holds_of (λ (unit : UnitDef). is_activity unit.kind)) (sym there)
-      ∙ and_left (holds_of (λ (unit : UnitDef). is_activity unit.kind) (slice_get site.earlier f)) (list_all (calls_functions site.earlier) inputs) named in
-      let behind : leads.failures ++ given.failures ≡ [] = nil_right (misplaced env.kind at) (leads.failures ++ given.failures) none in
+      ∙ and_first (holds_of (λ (unit : UnitDef). is_activity unit.kind) (slice_get site.earlier f)) (list_all (calls_functions site.earlier) inputs) named in
+      let behind : leads.failures ++ given.failures ≡ [] = second_empty (misplaced env.kind at) (leads.failures ++ given.failures) none in
       let target_is : run_target env (slice_get env.units f) target ≡ run_target env (Some unit) target =
       ap (λ callee. run_target env callee target) found.1 in
       passed_still site good env counts (run_made leads.made f given) (misplaced env.kind at ++ (leads.failures ++ given.failures)) around known placed.1
       (λ within a is.
       let complete = arguments_good env site within name f inputs outputs unit found.1
-      (and_left (list_all (expr_placed (known_in env)) inputs) (list_all (path_placed (known_in env)) outputs) parts)
-      (and_right (list_all (expr_placed (known_in env)) inputs) (list_all (path_placed (known_in env)) outputs) parts)
-      (own_all env around inputs (and_right (holds_of (λ (unit : UnitDef). is_activity unit.kind) (slice_get site.earlier f))
+      (and_first (list_all (expr_placed (known_in env)) inputs) (list_all (path_placed (known_in env)) outputs) parts)
+      (and_second (list_all (expr_placed (known_in env)) inputs) (list_all (path_placed (known_in env)) outputs) parts)
+      (own_all env around inputs (and_second (holds_of (λ (unit : UnitDef). is_activity unit.kind) (slice_get site.earlier f))
       (list_all (calls_functions site.earlier) inputs) named))
-      (nil_right leads.failures given.failures behind) in
-      run_good site at f leads.made given unit a there (own_kind env around (nil_left (misplaced env.kind at) (leads.failures ++ given.failures) none)) activity
+      (second_empty leads.failures given.failures behind) in
+      run_good site at f leads.made given unit a there (own_kind env around (first_empty (misplaced env.kind at) (leads.failures ++ given.failures) none)) activity
       (λ path is. target_by env within unit target target_in (ap (λ (target : RunTarget). target.failures) (sym target_is)
-      ∙ nil_left leads.failures given.failures behind) path (ap (λ (target : RunTarget). target.made) (sym target_is) ∙ is))
+      ∙ first_empty leads.failures given.failures behind) path (ap (λ (target : RunTarget). target.made) (sym target_is) ∙ is))
       complete.fit is)
 
   pub await_fits : (e : NamedExpr) → calls_functions site.earlier e ≡ true →
@@ -332,8 +292,8 @@ module _ (site : TypingContext) (at : Place) where
       let test : Settled = condition env e in
       passed_still site good env counts (option_map what.Await test.made) (misplaced env.kind at ++ test.failures) around known placed.1
       (λ within a is.
-      await_good site at test.made a (own_kind env around (nil_left (misplaced env.kind at) test.failures none))
-      (condition_fits env site within e placed.0 (own_calls env site around e named) (nil_right (misplaced env.kind at) test.failures none)) is)
+      await_good site at test.made a (own_kind env around (first_empty (misplaced env.kind at) test.failures none))
+      (condition_fits env site within e placed.0 (own_calls env site around e named) (second_empty (misplaced env.kind at) test.failures none)) is)
 
   return_by : (e : Option NamedExpr) (result : Option ScalarType) (env : Environment) → env.result ≡ result →
       holds_if (calls_functions site.earlier) e ≡ true →
@@ -347,7 +307,7 @@ module _ (site : TypingContext) (at : Place) where
       (λ within a is. return_good site at s value.made a (sym around.result ∙ result)
       (wanted_fits env site within e placed.0 (own_calls env site around e named) (scalar s) none) is)
   return_by (Some e) None env result named around known counts step none =
-      absurd (let fails = nil_right (in_context None (judged env e)).failures _ none in cc)
+      absurd (let fails = second_empty (in_context None (judged env e)).failures _ none in cc)
   return_by None (Some s) env result named around known counts step none = absurd (cc)
   return_by None None env result named around known counts step none =
       let placed = placed_of env true counts step in

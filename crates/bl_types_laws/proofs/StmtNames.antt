@@ -1,26 +1,9 @@
 -- Statements are named as their types want it, where every use fits.
-use Rattle.std.proofs.Common.{
-  ◌≡◌,
-  Bool,
-  true,
-  ◌&&◌,
-  ◌||◌,
-  List,
-  [],
-  ◌∷◌,
-  ◌++◌,
-  map,
-  Option,
-  Some,
-  None,
-  refl,
-  sym,
-  ap,
-  subst,
-  ◌∙◌,
-}
+use Rattle.std.proofs.Common.{◌≡◌, Bool, true, ◌&&◌, ◌||◌, List, [], ◌∷◌, ◌++◌, map, Option, Some, None, refl, sym, ap, subst, ◌∙◌}
 use Rattle.std.specs.Prelude.{All, is_some, option_map, slice_get}
 use Rattle.std.proofs.lemmas.List.Elements.{All-head, All-tail}
+use Rattle.std.proofs.lemmas.Bool.{and_from}
+use Rattle.bl_tree.proofs.Basics.{and_first, and_second}
 use Rattle.bl_tree.specs.declared.place.Place.{Place}
 use Rattle.bl_tree.specs.declared.tree.Role.{Role}
 use Rattle.bl_tree.specs.declared.tree.Role.TheVariants as role
@@ -51,73 +34,26 @@ use Rattle.bl_parse_tree.specs.declared.stmt.RawStmt.{RawStmt, fold-roll-RawStmt
 use Rattle.bl_parse_tree.specs.declared.stmt.RawStmtKind.{RawStmtKind, fold-RawStmtKind, fold-roll-RawStmtKind, map-RawStmtKind}
 use Rattle.bl_parse_tree.specs.declared.stmt.RawStmtKind.TheOpen.{RawStmtKind-F}
 use Rattle.bl_parse_tree.specs.declared.types.RawType.{RawType}
-use Rattle.bl_parse_tree.specs.Names.{
-  arm_stands,
-  branch_stands,
-  expr_named,
-  is_filled,
-  named,
-  optional as if_there,
-  stmt_kind_stands,
-  stmt_layer_stands,
-  stmt_stands,
-  type_named,
-}
-use Rattle.bl_names.specs.Named.{
-  Piece,
-  all,
-  arm_piece,
-  branch_piece,
-  constant_piece,
-  kind_piece,
-  made_of_all,
-  marks_of_all,
-  named_constant,
-  named_var,
-  opened,
-  own_scope,
-  piece_of_arm,
-  piece_of_branch,
-  plain,
-  stmt_layer_piece,
-  stmt_piece,
-}
+use Rattle.bl_parse_tree.specs.Names.{arm_stands, branch_stands, expr_named, is_filled, named, optional as if_there, stmt_kind_stands, stmt_layer_stands}
+use Rattle.bl_parse_tree.specs.Names.{stmt_stands, type_named}
+use Rattle.bl_names.specs.Named.{Piece, all, constant_piece, kind_piece, made_of_all, marks_of_all, named_constant, named_var, opened}
+use Rattle.bl_names.specs.Named.{own_scope, piece_of_arm, piece_of_branch, plain, stmt_layer_piece, stmt_piece}
 use Rattle.bl_names.specs.Naming.{named_expr, named_path, named_target, position}
 use Rattle.bl_names.proofs.FitLemmas.{Fits, fits_behind, fits_first, fits_second}
 use Rattle.bl_names.proofs.PastLemmas.{enter-behind}
 use Rattle.bl_names.proofs.PieceLemmas.{parts}
 use Rattle.bl_names.proofs.PlacedStmt.{Within, within_first, within_one, within_second}
 use Rattle.bl_names.proofs.RawStmtInduction.{Cases, induct, stmt}
-use Rattle.bl_names.proofs.StillLemmas.{
-  Still,
-  after-append,
-  still_append,
-  still_arguments,
-  still_expr,
-  still_optional,
-  still_target,
-  still_type,
-  still_use,
-  still_value,
-}
-use Rattle.bl_eval.proofs.PassLemmas.{and_left, and_right, both}
+use Rattle.bl_names.proofs.StillLemmas.{Still, after-append, still_append, still_arguments, still_expr, still_optional, still_target, still_type, still_use}
+use Rattle.bl_names.proofs.StillLemmas.{still_value}
 use Rattle.bl_types_laws.specs.Standing.{arm_named, branch_named, declared_by, kind_named, stmt_layer_named, stmt_named}
 use Rattle.bl_types_laws.specs.Within.{calls_functions}
 use Rattle.bl_types_laws.specs.inner.Named.{named_arm, named_branch}
 use Rattle.bl_types_laws.proofs.ExprCalls.{activity_is, expr_is, exprs_are, function_is, optional_is, target_is}
-use Rattle.bl_types_laws.proofs.Suits.{
-  Suits,
-  scope_is,
-  suits_closed,
-  suits_constant,
-  suits_none,
-  suits_so,
-  suits_still,
-  suits_then,
-  suits_variable,
-  told_opened,
-}
+use Rattle.bl_types_laws.proofs.Suits.{Suits, scope_is, suits_closed, suits_constant, suits_none, suits_so, suits_still, suits_then, suits_variable}
+use Rattle.bl_types_laws.proofs.Suits.{told_opened}
 use Rattle.bl_types_laws.proofs.Told.{Told, kinds_of}
+use Rattle.bl_names.proofs.PieceLemmas.{arm_is, branch_is}
 
 abbrev RawLayer : Type 0
 RawLayer = RawStmtKind-F RawStmtKind RawArm RawBranch RawStmt
@@ -129,14 +65,6 @@ Layer = NamedStmtKind-F NamedStmtKind NamedArm NamedBranch NamedStmt
 
 stmt_is : (place : Place) (layer : RawLayer) → stmt_piece (stmt place layer) ≡ stmt_layer_piece (record { place = place; what = kind_piece (parts layer) })
 stmt_is place layer = rw (fold-roll-RawStmt, fold-roll-RawStmtKind) refl
-
-arm_is : (test : RawExpr) (body : List RawStmt) → piece_of_arm (roll-RawArm (record { test = test; body = body }))
-    ≡ arm_piece (record { test = test; body = map stmt_piece body })
-arm_is test body = rw fold-roll-RawArm refl
-
-branch_is : (weak : Bool) (body : List RawStmt) → piece_of_branch (roll-RawBranch (record { weak = weak; body = body }))
-    ≡ branch_piece (record { weak = weak; body = map stmt_piece body })
-branch_is weak body = rw fold-roll-RawBranch refl
 
 abbrev pub arm_filled : RawArm → Bool
 arm_filled = fold-RawArm Bool Bool Bool Bool stmt_kind_stands arm_stands branch_stands stmt_layer_stands
@@ -241,9 +169,9 @@ module _ (units : List UnitDef) (all_vars : List NamedVar) (all_constants : List
   good_all piece test stands [] each hold scopes told fits vars constants = suits_none units scopes told
   good_all piece test stands (x ∷ xs) each hold scopes told fits vars constants =
       good_then (piece x) (all (map piece xs)) test (λ made. all_of (map test made)) scopes
-      (All-head (λ x. stands x ≡ true → Good test (piece x)) x xs each (and_left (stands x) (all_of (map stands xs)) hold))
+      (All-head (λ x. stands x ≡ true → Good test (piece x)) x xs each (and_first (stands x) (all_of (map stands xs)) hold))
       (good_all piece test stands xs (All-tail (λ x. stands x ≡ true → Good test (piece x)) x xs each)
-      (and_right (stands x) (all_of (map stands xs)) hold))
+      (and_second (stands x) (all_of (map stands xs)) hold))
       told fits vars constants
 
   -- in a scope of its own
@@ -298,7 +226,7 @@ module _ (units : List UnitDef) (all_vars : List NamedVar) (all_constants : List
       (sym (after-append scopes (in_scope marks) (expr_marks e) ∙ still_expr e (after scopes (in_scope marks))))
       (suits_so units made (made && calls_functions units (named_expr scopes e)) scopes (after scopes (in_scope marks)) ((body_of body).vars (opened scopes))
       ((body_of body).constants (opened scopes))
-      (λ is. both made (calls_functions units (named_expr scopes e)) is calls)
+      (λ is. and_from made (calls_functions units (named_expr scopes e)) is calls)
       (suits_closed units made scopes marks ((body_of body).vars (opened scopes)) ((body_of body).constants (opened scopes)) told inside))
 
   -- ---- each kind
@@ -346,7 +274,7 @@ module _ (units : List UnitDef) (all_vars : List NamedVar) (all_constants : List
       subst (λ new. Suits units (layer_test (NamedStmtKind-F.Declare k made)) scopes new (named_var scopes name ty role ∷ []) [])
       (enter-behind scopes marks name kind.Variable (still_value ty value))
       (suits_variable units (layer_test (NamedStmtKind-F.Declare k made)) scopes name (named_var scopes name ty role) told
-      (both (holds_of (λ (var : NamedVar). declared_by var made) (slice_get all_vars k)) (holds_if (calls_functions units) made)
+      (and_from (holds_of (λ (var : NamedVar). declared_by var made) (slice_get all_vars k)) (holds_if (calls_functions units) made)
       (ap (holds_of (λ (var : NamedVar). declared_by var made)) (within_one all_vars k (named_var scopes name ty role) [] vars) ∙ by)
       (optional_is units scopes scopes.counts told value
       (fits_behind scopes (optional type_marks ty) (optional expr_marks value) (still_optional type_marks ty still_type)
@@ -387,15 +315,15 @@ module _ (units : List UnitDef) (all_vars : List NamedVar) (all_constants : List
       let new = after scopes first.marks in
       let tests = map arm_filled arms in
       let others = all_of (map stmt_stands other) in
-      let hold = and_right (is_filled tests) (all_of tests && others) stands in
+      let hold = and_second (is_filled tests) (all_of tests && others) stands in
       let made = all_of (map arm_test (first.made scopes)) && body_test ((body_of other).made (opened new)) in
       suits_so units made (is_inhabited (map arm_test (first.made scopes)) && made) scopes (after scopes (first.marks ++ in_scope (body_of other).marks))
       (first.vars scopes ++ (body_of other).vars (opened new)) (first.constants scopes ++ (body_of other).constants (opened new))
-      (λ is. both (is_inhabited (map arm_test (first.made scopes))) made
-      (inhabited arm_test arm_filled piece_of_arm arms scopes (and_left (is_filled tests) (all_of tests && others) stands)) is)
+      (λ is. and_from (is_inhabited (map arm_test (first.made scopes))) made
+      (inhabited arm_test arm_filled piece_of_arm arms scopes (and_first (is_filled tests) (all_of tests && others) stands)) is)
       (good_then first (own_scope (body_of other)) (λ made. all_of (map arm_test made)) body_test scopes
-      (good_all piece_of_arm arm_test arm_filled arms in_arms (and_left (all_of tests) others hold))
-      (good_own (body_of other) body_test (good_body other in_other (and_right (all_of tests) others hold))) told fits vars constants)
+      (good_all piece_of_arm arm_test arm_filled arms in_arms (and_first (all_of tests) others hold))
+      (good_own (body_of other) body_test (good_body other in_other (and_second (all_of tests) others hold))) told fits vars constants)
 
   cobegin_good : (branches : List RawBranch) → All BranchGood branches → stands_of (RawStmtKind-F.Cobegin branches) ≡ true →
       (scopes : Scopes) → Told kinds scopes → Fits scopes (all (map piece_of_branch branches)).marks →
@@ -410,9 +338,9 @@ module _ (units : List UnitDef) (all_vars : List NamedVar) (all_constants : List
       let made = all_of (map branch_test (whole.made scopes)) in
       suits_so units made (is_inhabited (map branch_test (whole.made scopes)) && made) scopes (after scopes whole.marks) (whole.vars scopes)
       (whole.constants scopes)
-      (λ is. both (is_inhabited (map branch_test (whole.made scopes))) made
-      (inhabited branch_test branch_filled piece_of_branch branches scopes (and_left (is_filled tests) (all_of tests) stands)) is)
-      (good_all piece_of_branch branch_test branch_filled branches in_branches (and_right (is_filled tests) (all_of tests) stands) scopes told fits vars
+      (λ is. and_from (is_inhabited (map branch_test (whole.made scopes))) made
+      (inhabited branch_test branch_filled piece_of_branch branches scopes (and_first (is_filled tests) (all_of tests) stands)) is)
+      (good_all piece_of_branch branch_test branch_filled branches in_branches (and_second (is_filled tests) (all_of tests) stands) scopes told fits vars
       constants)
 
   arm_good : (test : RawExpr) (body : List RawStmt) → All StmtGood body → ArmGood (roll-RawArm (record { test = test; body = body }))
@@ -424,7 +352,7 @@ module _ (units : List UnitDef) (all_vars : List NamedVar) (all_constants : List
       ≡ (calls_functions units (named_expr scopes test) && body_test ((body_of body).made inner)) = rw fold-roll-NamedArm refl in
       subst (λ holds. Suits units holds scopes (after scopes (expr_marks test ++ in_scope (body_of body).marks)) ((body_of body).vars inner)
       ((body_of body).constants inner)) (sym at)
-      (good_tested test body each (and_right (expr_named test) (all_of (map stmt_stands body)) (sym (arm_stands_at test body) ∙ stands)) scopes told fits vars
+      (good_tested test body each (and_second (expr_named test) (all_of (map stmt_stands body)) (sym (arm_stands_at test body) ∙ stands)) scopes told fits vars
       constants))
 
   branch_good : (weak : Bool) (body : List RawStmt) → All StmtGood body → BranchGood (roll-RawBranch (record { weak = weak; body = body }))
@@ -443,9 +371,9 @@ module _ (units : List UnitDef) (all_vars : List NamedVar) (all_constants : List
         (λ scopes. NamedStmtKind-F.Declare scopes.counts.variables (option_map (named_expr scopes) value))
         (λ scopes. what.outs-Declare scopes.counts.variables (option_map (named_expr scopes) value))
         (λ stands scopes told fits vars constants. declared scopes name ty role.Variable value
-        (declared_so scopes name ty value (and_right (if_there expr_named value) (is_some ty || is_some value)
-        (and_right (if_there type_named ty) (if_there expr_named value && (is_some ty || is_some value))
-        (and_right (named name) (if_there type_named ty && (if_there expr_named value && (is_some ty || is_some value))) stands)))) told fits vars);
+        (declared_so scopes name ty value (and_second (if_there expr_named value) (is_some ty || is_some value)
+        (and_second (if_there type_named ty) (if_there expr_named value && (is_some ty || is_some value))
+        (and_second (named name) (if_there type_named ty && (if_there expr_named value && (is_some ty || is_some value))) stands)))) told fits vars);
     fixed = λ place name ty value. stmt_good place (RawStmtKind-F.Let name ty value)
         (λ scopes. NamedStmtKind-F.Declare scopes.counts.variables (Some (named_expr scopes value)))
         (λ scopes. what.outs-Declare scopes.counts.variables (Some (named_expr scopes value)))
@@ -458,7 +386,7 @@ module _ (units : List UnitDef) (all_vars : List NamedVar) (all_constants : List
         (λ scopes. what.outs-Assign (named_target scopes target) (named_expr scopes e))
         (λ stands scopes told fits vars constants. suits_still units _ scopes (target_marks target wanted.Variable ++ expr_marks e)
         (still_append (target_marks target wanted.Variable) (expr_marks e) (still_target target wanted.Variable) (still_expr e)) told
-        (both _ _ (target_is units scopes scopes.counts told target wanted.Variable
+        (and_from _ _ (target_is units scopes scopes.counts told target wanted.Variable
         (fits_first scopes (target_marks target wanted.Variable) (expr_marks e) fits))
         (expr_is units scopes scopes.counts told e (fits_behind scopes (target_marks target wanted.Variable) (expr_marks e)
         (still_target target wanted.Variable) fits))));
@@ -467,7 +395,7 @@ module _ (units : List UnitDef) (all_vars : List NamedVar) (all_constants : List
         (λ scopes. what.outs-Call f.place (position scopes f) (map (named_expr scopes) inputs) (map (named_path scopes) outputs))
         (λ stands scopes told fits vars constants. suits_still units _ scopes (uses f wanted.Function ∷ argument_marks inputs outputs)
         (still_append (uses f wanted.Function ∷ []) (argument_marks inputs outputs) (still_use f wanted.Function) (still_arguments inputs outputs)) told
-        (both _ _ (function_is units scopes scopes.counts told f fits.0)
+        (and_from _ _ (function_is units scopes scopes.counts told f fits.0)
         (exprs_are units scopes scopes.counts told inputs (fits_first scopes (joined (map expr_marks inputs)) (joined (map path_marks outputs)) fits.1))));
     await = λ place e. stmt_good place (RawStmtKind-F.Await e) (λ scopes. NamedStmtKind-F.Await (named_expr scopes e))
         (λ scopes. what.outs-Await (named_expr scopes e))
@@ -482,7 +410,7 @@ module _ (units : List UnitDef) (all_vars : List NamedVar) (all_constants : List
         suits_still units _ scopes (optional path_marks target ++ (uses a wanted.Activity ∷ argument_marks inputs outputs))
         (still_append (optional path_marks target) (uses a wanted.Activity ∷ argument_marks inputs outputs) (target_still target)
         (still_append (uses a wanted.Activity ∷ []) (argument_marks inputs outputs) (still_use a wanted.Activity) (still_arguments inputs outputs))) told
-        (both _ _ (activity_is units scopes scopes.counts told a behind.0)
+        (and_from _ _ (activity_is units scopes scopes.counts told a behind.0)
         (exprs_are units scopes scopes.counts told inputs (fits_first scopes (joined (map expr_marks inputs)) (joined (map path_marks outputs)) behind.1))));
     branching = λ place arms other in_arms in_other. stmt_good place (RawStmtKind-F.If arms other)
         (λ scopes. NamedStmtKind-F.If (made_of_all (map piece_of_arm arms) scopes)
@@ -497,7 +425,7 @@ module _ (units : List UnitDef) (all_vars : List NamedVar) (all_constants : List
     guarded = λ place guard e body each. stmt_good place (RawStmtKind-F.When guard e body)
         (λ scopes. NamedStmtKind-F.When guard (named_expr scopes e) (made_of_all (map stmt_piece body) (opened (after scopes (expr_marks e)))))
         (λ scopes. what.outs-When guard (named_expr scopes e) (made_of_all (map stmt_piece body) (opened (after scopes (expr_marks e)))))
-        (λ stands. good_tested e body each (and_right (expr_named e) (all_of (map stmt_stands body)) stands));
+        (λ stands. good_tested e body each (and_second (expr_named e) (all_of (map stmt_stands body)) stands));
     repeat = λ place body each. stmt_good place (RawStmtKind-F.Repeat body)
         (λ scopes. NamedStmtKind-F.Repeat (made_of_all (map stmt_piece body) (opened scopes)))
         (λ scopes. what.outs-Repeat (made_of_all (map stmt_piece body) (opened scopes)))
@@ -505,11 +433,11 @@ module _ (units : List UnitDef) (all_vars : List NamedVar) (all_constants : List
     until = λ place body e each. stmt_good place (RawStmtKind-F.Until body e)
         (λ scopes. NamedStmtKind-F.Until (made_of_all (map stmt_piece body) (opened scopes)) (named_expr scopes e))
         (λ scopes. what.outs-Until (made_of_all (map stmt_piece body) (opened scopes)) (named_expr scopes e))
-        (λ stands. good_until body e each (and_left (all_of (map stmt_stands body)) (expr_named e) stands));
+        (λ stands. good_until body e each (and_first (all_of (map stmt_stands body)) (expr_named e) stands));
     while = λ place e body each. stmt_good place (RawStmtKind-F.While e body)
         (λ scopes. NamedStmtKind-F.While (named_expr scopes e) (made_of_all (map stmt_piece body) (opened (after scopes (expr_marks e)))))
         (λ scopes. what.outs-While (named_expr scopes e) (made_of_all (map stmt_piece body) (opened (after scopes (expr_marks e)))))
-        (λ stands. good_tested e body each (and_right (expr_named e) (all_of (map stmt_stands body)) stands));
+        (λ stands. good_tested e body each (and_second (expr_named e) (all_of (map stmt_stands body)) stands));
     returns = λ place e. stmt_good place (RawStmtKind-F.Return e) (λ scopes. NamedStmtKind-F.Return (option_map (named_expr scopes) e))
         (λ scopes. what.outs-Return (option_map (named_expr scopes) e))
         (λ stands scopes told fits vars constants. suits_still units _ scopes (optional expr_marks e) (still_optional expr_marks e still_expr) told

@@ -4,6 +4,8 @@ use Rattle.std.specs.Prelude.{All, Bool, false, ◌||◌, option_map, slice_get}
 use Rattle.std.specs.List.{cons_option}
 use Rattle.std.proofs.lemmas.List.Elements.{All-head, All-tail}
 use Rattle.std.proofs.lemmas.Option.{same_Some}
+use Rattle.std.proofs.lemmas.Bool.{or_from}
+use Rattle.bl_tree.proofs.Basics.{first_empty, second_empty}
 use Rattle.bl_tree.specs.declared.place.Place.{Place}
 use Rattle.bl_tree.specs.declared.rule.Failure.{Failure}
 use Rattle.bl_tree.specs.declared.tree.Arm.{Arm, fold-Arm, fold-roll-Arm}
@@ -28,34 +30,12 @@ use Rattle.bl_types.specs.declared.environment.Environment.{Environment}
 use Rattle.bl_types.specs.declared.form.Found.{Found}
 use Rattle.bl_types.specs.declared.form.Found.TheVariants as found
 use Rattle.bl_types.specs.Returns.{arm_layer_strays, branch_layer_strays, kind_strays, layer_strays, strays_in, strays_in_arm, strays_in_branch}
-use Rattle.bl_types.specs.Statements.{
-  Arguments,
-  Block,
-  StatementJudgement,
-  Walked,
-  arguments,
-  run_target,
-  arm_of,
-  arm_walked,
-  assign_made,
-  branch_walked,
-  condition,
-  declare,
-  if_complete,
-  in_order,
-  run_made,
-  stmt_made,
-  walked_arm,
-  walked_branch,
-  walked_stmt,
-}
+use Rattle.bl_types.specs.Statements.{Arguments, Block, StatementJudgement, Walked, arguments, run_target, arm_of, arm_walked, assign_made, branch_walked}
+use Rattle.bl_types.specs.Statements.{condition, declare, if_complete, in_order, run_made, stmt_made, walked_arm, walked_branch, walked_stmt}
 use Rattle.bl_types_laws.proofs.Arguments.{complete_if}
-use Rattle.bl_types_laws.proofs.Forms.{map_found, nil_left, nil_right}
+use Rattle.bl_types_laws.proofs.Forms.{map_found}
 use Rattle.bl_types_laws.proofs.NamedStmtInduction.{Cases, induct, stmt}
 use Rattle.bl_types_laws.proofs.StmtLayers.{Layer, walked_by, walked_is}
-
-neither : (a b : Bool) → a ≡ false → b ≡ false → (a || b) ≡ false
-neither a b one more = λ i. one i || more i
 
 abbrev arm_has : Arm → Bool
 arm_has = fold-Arm Bool Bool Bool Bool kind_has_return arm_has_return branch_has_return stmt_returns
@@ -88,15 +68,15 @@ module _ {X A : Type 0} (strays : X → List Failure) (walk : X → Environment 
   none_front : (made : Option A) (rest : List A) → ((a : A) → made ≡ Some a → has a ≡ false) → any_of (map has rest) ≡ false →
       any_of (map has (cons_option made rest)) ≡ false
   none_front None rest one more = more
-  none_front (Some a) rest one more = neither (has a) (any_of (map has rest)) (one a refl) more
+  none_front (Some a) rest one more = or_from (has a) (any_of (map has rest)) (one a refl) more
 
   none_in : (xs : List X) → All (λ x. NoneIn (strays x) (walk x) has) xs → joined (map strays xs) ≡ [] → (env : Environment) →
       any_of (map has (in_order (map walk xs) env).made) ≡ false
   none_in [] each none env = refl
   none_in (x ∷ xs) each none env =
       none_front (walk x env).made (in_order (map walk xs) (walk x env).env).made
-      (All-head (λ x. NoneIn (strays x) (walk x) has) x xs each (nil_left (strays x) (joined (map strays xs)) none) env)
-      (none_in xs (All-tail (λ x. NoneIn (strays x) (walk x) has) x xs each) (nil_right (strays x) (joined (map strays xs)) none) (walk x env).env)
+      (All-head (λ x. NoneIn (strays x) (walk x) has) x xs each (first_empty (strays x) (joined (map strays xs)) none) env)
+      (none_in xs (All-tail (λ x. NoneIn (strays x) (walk x) has) x xs each) (second_empty (strays x) (joined (map strays xs)) none) (walk x env).env)
 
 module _ (constants : List NamedConstant) (vars : List NamedVar) where
   abbrev P : NamedStmt → Type 0
@@ -204,10 +184,10 @@ module _ (constants : List NamedConstant) (vars : List NamedVar) where
         let last : Block Stmt = in_order (map (walked_stmt constants vars) other) all.env in
         kind_none place (what.If all.made last.made) a (StmtKind-F.If all.made last.made) (same_Some (what.If all.made last.made) a is)
         (what.outs-If all.made last.made)
-        (neither (any_of (map arm_has all.made)) (any_of (map has_return last.made))
-        (none_in strays_in_arm (arm_walked constants vars) arm_has arms each (nil_left (joined (map strays_in_arm arms)) (joined (map strays_in other)) none)
+        (or_from (any_of (map arm_has all.made)) (any_of (map has_return last.made))
+        (none_in strays_in_arm (arm_walked constants vars) arm_has arms each (first_empty (joined (map strays_in_arm arms)) (joined (map strays_in other)) none)
         env)
-        (body_none other rest (nil_right (joined (map strays_in_arm arms)) (joined (map strays_in other)) none) all.env)));
+        (body_none other rest (second_empty (joined (map strays_in_arm arms)) (joined (map strays_in other)) none) all.env)));
     cobegin = λ place branches each. by_kind place (NamedStmtKind-F.Cobegin branches)
         (λ none env a is.
         let all : Block Branch = in_order (map (branch_walked constants vars) branches) env in

@@ -2,8 +2,9 @@
 use Rattle.std.proofs.Common.{◌≡◌, refl, ◌+◌, true, List, [], ◌∷◌, length, map, sym, ap, subst, ◌∙◌, append-nil, append_assoc}
 use Rattle.std.specs.List.{list_all}
 use Rattle.std.proofs.lemmas.List.{length-append}
+use Rattle.std.proofs.lemmas.Bool.{and_from}
+use Rattle.bl_tree.proofs.Basics.{and_first, and_second, first_empty, second_empty}
 use Rattle.bl_tree.specs.Program.{struct_stands, structs_stand_from}
-use Rattle.bl_eval.proofs.PassLemmas.{and_left, and_right, both}
 use Rattle.bl_names_tree.specs.declared.item.Item.TheVariants as kind
 use Rattle.bl_names_tree.specs.declared.item.NamedStruct.{NamedStruct}
 use Rattle.bl_names_tree.specs.declared.item.NamedUnit.{NamedUnit}
@@ -23,7 +24,6 @@ use Rattle.bl_types.specs.declared.environment.Environment.{Environment}
 use Rattle.bl_types.specs.Declarations.{after_struct, struct_of}
 use Rattle.bl_types.specs.Programs.{after_item, after_items}
 use Rattle.bl_types_laws.specs.Within.{known_in}
-use Rattle.bl_types_laws.proofs.Forms.{nil_left, nil_right}
 use Rattle.bl_types_laws.proofs.Items.{struct_between}
 use Rattle.bl_types_laws.proofs.Ends.{ends_on}
 use Rattle.bl_types_laws.proofs.Onward.{struct_onward}
@@ -76,7 +76,7 @@ module _ (named : Named) where
         record {
           later = made ∷ rest.later;
           structs = rest.structs ∙ append_assoc env.structs (made ∷ []) rest.later;
-          structs_stand = both (struct_stands (length env.structs) made) (structs_stand_from (length env.structs + 1) rest.later)
+          structs_stand = and_from (struct_stands (length env.structs) made) (structs_stand_from (length env.structs + 1) rest.later)
               (struct_made new_struct env keeps struct_there none)
               (subst (λ n. structs_stand_from n rest.later ≡ true) (length-append env.structs (made ∷ [])) rest.structs_stand);
           struct_names = ap (λ names. def.name.text ∷ names) rest.struct_names;
@@ -95,9 +95,9 @@ module _ (named : Named) where
       let new = after scopes (struct_marks def) in
       first_taken named (item.Struct def) items scopes env (after_struct d env) (struct_chosen def items scopes env at)
       (λ none.
-      let first = nil_left (after_struct d env).failures (after_items named (order_of items) (after_struct d env).env).failures none in
+      let first = first_empty (after_struct d env).failures (after_items named (order_of items) (after_struct d env).env).failures none in
       struct_case def items scopes env at (after_items named (order_of items) (after_struct d env).env).env
-      (and_left (struct_keeps d) (list_all struct_keeps (along structs_of new items)) keep_structs) first
+      (and_first (struct_keeps d) (list_all struct_keeps (along structs_of new items)) keep_structs) first
       (rec new (after_struct d env).env (at_struct def items scopes env at first)
-      (and_right (struct_keeps d) (list_all struct_keeps (along structs_of new items)) keep_structs) keep_units
-      (nil_right (after_struct d env).failures (after_items named (order_of items) (after_struct d env).env).failures none)))
+      (and_second (struct_keeps d) (list_all struct_keeps (along structs_of new items)) keep_structs) keep_units
+      (second_empty (after_struct d env).failures (after_items named (order_of items) (after_struct d env).env).failures none)))

@@ -1,8 +1,9 @@
 -- From the scopes before a part to those behind it, where a test holds of what is made of it.
-use Rattle.std.proofs.Common.{◌≡◌, ℕ, ◌+◌, Bool, true, ◌&&◌, List, [], ◌∷◌, ◌++◌, length, refl, sym, ap, subst, ◌∙◌, arith}
+use Rattle.std.proofs.Common.{◌≡◌, ◌+◌, Bool, true, ◌&&◌, List, [], ◌∷◌, ◌++◌, length, refl, sym, subst, ◌∙◌, arith}
 use Rattle.std.specs.List.{list_all}
-use Rattle.std.proofs.lemmas.List.{length-append}
 use Rattle.std.proofs.lemmas.List.Folds.{list_all-append}
+use Rattle.std.proofs.lemmas.Bool.{and_from}
+use Rattle.bl_tree.proofs.Basics.{plus_none}
 use Rattle.bl_tree.specs.declared.tree.Unit.{Unit as UnitDef}
 use Rattle.bl_names_tree.specs.declared.item.NamedConstant.{NamedConstant}
 use Rattle.bl_names_tree.specs.declared.item.NamedVar.{NamedVar}
@@ -13,9 +14,9 @@ use Rattle.bl_parse_tree.specs.declared.name.Name.{Name}
 use Rattle.bl_names.specs.Named.{opened}
 use Rattle.bl_names.proofs.PlacedStmt.{closed_is}
 use Rattle.bl_names.proofs.StillLemmas.{Still, after-append}
-use Rattle.bl_eval.proofs.PassLemmas.{both}
 use Rattle.bl_types_laws.specs.Within.{calls_functions}
 use Rattle.bl_types_laws.proofs.Told.{Told, kinds_of, told_declared}
+use Rattle.bl_names.proofs.PastLemmas.{more}
 
 -- whether calls in the value of a constant name functions
 abbrev pub constant_calls : List UnitDef → NamedConstant → Bool
@@ -31,17 +32,8 @@ pub record Suits (units : List UnitDef) (holds : Bool) (scopes new : Scopes) (va
   pub same_units : new.counts.units ≡ scopes.counts.units
   pub calls : list_all (constant_calls units) constants ≡ true
 
-sums : (a b c x y : ℕ) → b ≡ a + x → c ≡ b + y → c ≡ a + (x + y)
-sums a b c x y one two = omega arith
-
-more : {A : Type 0} (xs ys : List A) (a b c : ℕ) → b ≡ a + length xs → c ≡ b + length ys → c ≡ a + length (xs ++ ys)
-more xs ys a b c one two = sums a b c (length xs) (length ys) one two ∙ ap (λ n. a + n) (sym (length-append xs ys))
-
-none_more : (n : ℕ) → n ≡ n + 0
-none_more n = omega arith
-
 pub told_opened : (units : List UnitDef) (scopes : Scopes) → Told (kinds_of units) scopes → Told (kinds_of units) (opened scopes)
-told_opened units scopes told = (refl, both _ _ told.0 told.1)
+told_opened units scopes told = (refl, and_from _ _ told.0 told.1)
 
 module _ (units : List UnitDef) where
   -- one part and then another
@@ -49,7 +41,7 @@ module _ (units : List UnitDef) where
       Suits units one scopes middle vars constants → Suits units other middle new more_vars more_constants →
       Suits units (one && other) scopes new (vars ++ more_vars) (constants ++ more_constants)
   suits_then one other scopes middle new vars more_vars constants more_constants first second = record {
-    named = both one other first.named second.named;
+    named = and_from one other first.named second.named;
     told = second.told;
     outer = second.outer ∙ first.outer;
     more_vars = more vars more_vars scopes.counts.variables middle.counts.variables new.counts.variables first.more_vars second.more_vars;
@@ -57,7 +49,7 @@ module _ (units : List UnitDef) where
         second.more_constants;
     same_units = second.same_units ∙ first.same_units;
     calls = list_all-append (constant_calls units) constants more_constants
-        ∙ both (list_all (constant_calls units) constants) (list_all (constant_calls units) more_constants) first.calls second.calls;
+        ∙ and_from (list_all (constant_calls units) constants) (list_all (constant_calls units) more_constants) first.calls second.calls;
   }
 
   -- another test
@@ -78,8 +70,8 @@ module _ (units : List UnitDef) where
     named = refl;
     told = told;
     outer = refl;
-    more_vars = none_more scopes.counts.variables;
-    more_constants = none_more scopes.counts.constants;
+    more_vars = plus_none scopes.counts.variables;
+    more_constants = plus_none scopes.counts.constants;
     same_units = refl;
     calls = refl;
   }
@@ -98,7 +90,7 @@ module _ (units : List UnitDef) where
     told = told_declared (kinds_of units) scopes name kind.Variable refl told;
     outer = refl;
     more_vars = refl;
-    more_constants = none_more scopes.counts.constants;
+    more_constants = plus_none scopes.counts.constants;
     same_units = refl;
     calls = refl;
   }
@@ -111,10 +103,10 @@ module _ (units : List UnitDef) where
     named = is;
     told = told_declared (kinds_of units) scopes name kind.Constant refl told;
     outer = refl;
-    more_vars = none_more scopes.counts.variables;
+    more_vars = plus_none scopes.counts.variables;
     more_constants = refl;
     same_units = refl;
-    calls = both (constant_calls units constant) true is refl;
+    calls = and_from (constant_calls units constant) true is refl;
   }
 
   -- behind a scope of its own

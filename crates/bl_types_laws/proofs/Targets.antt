@@ -3,6 +3,7 @@ use Rattle.std.proofs.Common.{◌≡◌, ℕ, suc, ◌+◌, List, [], ◌∷◌,
 use Rattle.std.specs.Prelude.{Bool, true, false, bytes_eq, is_some, option_and_then, option_map, slice_get, if◌then◌else◌}
 use Rattle.std.specs.List.{cons_option}
 use Rattle.std.proofs.lemmas.Option.{same_Some}
+use Rattle.bl_tree.proofs.Basics.{first_empty, get_in_front, second_empty}
 use Rattle.bl_tree.specs.declared.place.Place.{Place}
 use Rattle.bl_tree.specs.declared.rule.Rule.TheVariants as rule
 use Rattle.bl_tree.specs.declared.scalar.Scalar.{Scalar as ScalarType}
@@ -19,32 +20,16 @@ use Rattle.bl_tree.specs.Typing.{TypingContext, after_parts, element_in, field_i
 use Rattle.bl_eval.proofs.FitLemmas.{scalar_is}
 use Rattle.bl_eval.proofs.OperatorFits.{scalar_alone, some_found}
 use Rattle.bl_eval.proofs.PartFits.{type_of_part}
-use Rattle.bl_eval.proofs.PassLemmas.{get_front}
 use Rattle.bl_parse_tree.specs.declared.name.Name.{Name}
 use Rattle.bl_types.specs.declared.form.Form.{Form}
 use Rattle.bl_types.specs.declared.form.Form.TheVariants.{Failing, Open, Of}
-use Rattle.bl_types.specs.Expressions.{
-  FieldAt,
-  Judged,
-  Led,
-  Stepped,
-  after_index,
-  as_index,
-  field_among,
-  field_found,
-  field_in as field_named,
-  no_array,
-  stepped,
-  to_element,
-  to_field,
-  whole_or_unfit,
-}
+use Rattle.bl_types.specs.Expressions.{FieldAt, Judged, Led, Stepped, after_index, as_index, field_among, field_found, field_in as field_named, no_array}
+use Rattle.bl_types.specs.Expressions.{stepped, to_element, to_field, whole_or_unfit}
 use Rattle.bl_types.specs.declared.environment.Environment.{Environment}
 use Rattle.bl_types.specs.Failures.{unless}
 use Rattle.bl_types.specs.Settled.{Settled, int32, kept, unfit}
 use Rattle.bl_types_laws.specs.Fitting.{FormFits, IsMade}
 use Rattle.bl_types_laws.specs.Within.{EnvironmentWithin}
-use Rattle.bl_types_laws.proofs.Forms.{nil_left, nil_right}
 use Rattle.bl_types_laws.proofs.Typed.{field_is, index_is}
 
 -- a step leads from the type to the next
@@ -102,7 +87,7 @@ module _ (env : Environment) (site : TypingContext) (within : EnvironmentWithin 
       ap (λ structs. option_and_then (λ (def : StructDef). option_map (λ (field : Field). field.ty) (slice_get def.fields found.position))
       (slice_get structs s)) within.structs
       ∙ ap (option_and_then (λ (def : StructDef). option_map (λ (field : Field). field.ty) (slice_get def.fields found.position)))
-      (get_front env.structs within.later s def there.1)
+      (get_in_front env.structs within.later s def there.1)
       ∙ field_there def.fields name found there.2
 
   field_by : (name : Name) (ty : Ty) (found : Option FieldAt) → field_named env.structs name.text (out-Ty ty) ≡ found →
@@ -180,12 +165,12 @@ module _ (site : TypingContext) where
       StepFits site ty (after_index index (to_element index.place index.form (Some ty)))
   index_fits index ty fit none =
       let step : Stepped = to_element index.place index.form (Some ty) in
-      let inside : step.failures ≡ [] = nil_right index.failures step.failures none in
+      let inside : step.failures ≡ [] = second_empty index.failures step.failures none in
       let given : Settled = as_index index.place index.form in
-      let array = array_by ty index.place (element_in (out-Ty ty)) refl (nil_left (no_array index.place (Some ty)) given.failures inside) in
+      let array = array_by ty index.place (element_in (out-Ty ty)) refl (first_empty (no_array index.place (Some ty)) given.failures inside) in
       let found = index_by ty array.0 index.place index.form array.1
-      (as_index_fits index.place index.form (fit (nil_left index.failures step.failures none))
-      (nil_right (no_array index.place (Some ty)) given.failures inside)) in
+      (as_index_fits index.place index.form (fit (first_empty index.failures step.failures none))
+      (second_empty (no_array index.place (Some ty)) given.failures inside)) in
       record { next = found.next; made = found.made; is_next = found.is_next; is_made = found.is_made; leads = found.leads }
 
 -- ---- constants have no parts
@@ -198,10 +183,10 @@ no_field structs name s none =
 
 pub no_element : (index : Judged) (s : ScalarType) → (after_index index (to_element index.place index.form (Some (scalar s)))).failures ≡ [] → ⊥
 no_element index s none =
-    let inside : no_array index.place (Some (scalar s)) ++ (as_index index.place index.form).failures ≡ [] = nil_right index.failures _ none in
+    let inside : no_array index.place (Some (scalar s)) ++ (as_index index.place index.form).failures ≡ [] = second_empty index.failures _ none in
     let fails : unless (is_some (element_in (Ty-F.Scalar s))) rule.Type index.place ≡ [] =
     ap (λ layer. unless (is_some (element_in layer)) rule.Type index.place) (sym (out-roll-Ty (Ty-F.Scalar s)))
-    ∙ nil_left (no_array index.place (Some (scalar s))) (as_index index.place index.form).failures inside in
+    ∙ first_empty (no_array index.place (Some (scalar s))) (as_index index.place index.form).failures inside in
     absurd (cc)
 
 -- ---- one part after another
@@ -239,5 +224,5 @@ module _ {X : Type 0} (site : TypingContext) (to : X → Option Ty → Stepped) 
   pub first_leads : (x : X) (xs : List X) → EachSteps x → Leads xs → Leads (x ∷ xs)
   first_leads x xs one more ty none =
       first_by x xs ty (to x (Some ty)) refl more
-      (one ty (nil_left (to x (Some ty)).failures (stepped (map to xs) (to x (Some ty)).ty).failures none))
-      (nil_right (to x (Some ty)).failures (stepped (map to xs) (to x (Some ty)).ty).failures none)
+      (one ty (first_empty (to x (Some ty)).failures (stepped (map to xs) (to x (Some ty)).ty).failures none))
+      (second_empty (to x (Some ty)).failures (stepped (map to xs) (to x (Some ty)).ty).failures none)

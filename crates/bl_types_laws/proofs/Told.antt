@@ -1,32 +1,12 @@
 -- What open scopes say of functions and activities: each is declared with the position of one.
-use Rattle.std.proofs.Common.{
-  ◌≡◌,
-  ℕ,
-  zero,
-  suc,
-  Bool,
-  true,
-  false,
-  ◌&&◌,
-  cond,
-  List,
-  [],
-  ◌∷◌,
-  ◌++◌,
-  map,
-  Option,
-  Some,
-  None,
-  refl,
-  ap,
-  subst,
-  ◌∙◌,
-}
+use Rattle.std.proofs.Common.{◌≡◌, ℕ, zero, suc, Bool, true, false, ◌&&◌, cond, List, [], ◌∷◌, ◌++◌, map, Option, Some, None, refl, ap, subst, ◌∙◌}
 use Rattle.std.proofs.lemmas.Option.{same_Some}
 use Rattle.std.specs.Prelude.{bytes_eq, slice_get}
 use Rattle.std.specs.List.{list_all}
 use Rattle.std.specs.Option.{option_or}
 use Rattle.std.proofs.lemmas.List.Folds.{list_all-append}
+use Rattle.std.proofs.lemmas.Bool.{and_from}
+use Rattle.bl_tree.proofs.Basics.{all_weaker, and_first, and_second, get_in_front}
 use Rattle.bl_tree.specs.declared.tree.Unit.{Unit as UnitDef}
 use Rattle.bl_tree.specs.declared.tree.UnitKind.{UnitKind}
 use Rattle.bl_tree.specs.Typing.{is_activity, is_function}
@@ -40,7 +20,6 @@ use Rattle.bl_names_scopes.specs.Kinds.{suits}
 use Rattle.bl_names_scopes.specs.Marks.{declares}
 use Rattle.bl_names_scopes.specs.Scopes.{Declared, Scopes, bound, bound_around, count_of, declaration_of, declared, enter, found}
 use Rattle.bl_names.specs.Naming.{position, position_of}
-use Rattle.bl_eval.proofs.PassLemmas.{and_left, and_right, both, get_front}
 
 abbrev pub kinds_of : List UnitDef → List UnitKind
 kinds_of units = map (λ unit. unit.kind) units
@@ -70,8 +49,8 @@ found_told units [] name d told is = absurd (cc)
 found_told units (entry ∷ rest) name d told is =
     elim (bytes_eq name entry.0) as (λ test. cond test (Some entry.1) (found rest name) ≡ Some d → DeclarationTold units d) [
       | true ↦ λ h.
-          subst (DeclarationTold units) (same_Some entry.1 d h) (and_left (kind_told units entry.1.kind entry.1.position) (scope_told units rest) told)
-      | false ↦ λ h. found_told units rest name d (and_right (kind_told units entry.1.kind entry.1.position) (scope_told units rest) told) h
+          subst (DeclarationTold units) (same_Some entry.1 d h) (and_first (kind_told units entry.1.kind entry.1.position) (scope_told units rest) told)
+      | false ↦ λ h. found_told units rest name d (and_second (kind_told units entry.1.kind entry.1.position) (scope_told units rest) told) h
     ] is
 
 around_told : (units : List UnitKind) (outer : List Declared) (name : List ℕ) (d : Declaration) → list_all (scope_told units) outer ≡ true →
@@ -79,8 +58,8 @@ around_told : (units : List UnitKind) (outer : List Declared) (name : List ℕ) 
 around_told units [] name d told is = absurd (cc)
 around_told units (scope ∷ outer) name d told is =
     elim (found scope name) as (λ first. found scope name ≡ first → option_or first (bound_around outer name) ≡ Some d → DeclarationTold units d) [
-      | Some e ↦ λ there h. found_told units scope name d (and_left (scope_told units scope) (list_all (scope_told units) outer) told) (there ∙ h)
-      | None ↦ λ there h. around_told units outer name d (and_right (scope_told units scope) (list_all (scope_told units) outer) told) h
+      | Some e ↦ λ there h. found_told units scope name d (and_first (scope_told units scope) (list_all (scope_told units) outer) told) (there ∙ h)
+      | None ↦ λ there h. around_told units outer name d (and_second (scope_told units scope) (list_all (scope_told units) outer) told) h
     ] refl is
 
 bound_told : (units : List UnitKind) (scopes : Scopes) (name : List ℕ) (d : Declaration) → Told units scopes → bound scopes name ≡ Some d →
@@ -141,7 +120,7 @@ declared_told : (units : List UnitKind) (earlier : Option Declaration) (scope : 
 declared_told units (Some d) scope name kind k told one = told
 declared_told units None scope name kind k told one =
     list_all-append (λ (entry : List ℕ × Declaration). kind_told units entry.1.kind entry.1.position) scope ((name.text, declaration_of name kind k) ∷ [])
-    ∙ both (scope_told units scope) (kind_told units kind k && true) told (both (kind_told units kind k) true one refl)
+    ∙ and_from (scope_told units scope) (kind_told units kind k && true) told (and_from (kind_told units kind k) true one refl)
 
 pub told_declared : (units : List UnitKind) (scopes : Scopes) (name : Name) (kind : Kind) → kind_told units kind (count_of scopes.counts kind) ≡ true →
     Told units scopes → Told units (enter scopes (declares name kind))
@@ -153,16 +132,10 @@ told_declared units scopes name kind one told = (
 
 -- ---- where there are more units
 
-pub list_more : {A : Type 0} (one other : A → Bool) → ((x : A) → one x ≡ true → other x ≡ true) → (xs : List A) → list_all one xs ≡ true →
-    list_all other xs ≡ true
-list_more one other each [] all = refl
-list_more one other each (x ∷ xs) all =
-    both (other x) (list_all other xs) (each x (and_left (one x) (list_all one xs) all)) (list_more one other each xs (and_right (one x) (list_all one xs) all))
-
 module _ (units more : List UnitKind) where
   found_more : (test : UnitKind → Bool) (k : ℕ) (found : Option UnitKind) → slice_get units k ≡ found → holds_of test found ≡ true →
       holds_of test (slice_get (units ++ more) k) ≡ true
-  found_more test k (Some kind) is holds = ap (holds_of test) (get_front units more k kind is) ∙ holds
+  found_more test k (Some kind) is holds = ap (holds_of test) (get_in_front units more k kind is) ∙ holds
   found_more test k None is holds = absurd (cc)
 
   kind_more : (kind : Kind) (k : ℕ) → kind_told units kind k ≡ true → kind_told (units ++ more) kind k ≡ true
@@ -175,10 +148,10 @@ module _ (units more : List UnitKind) where
 
   scope_more : (scope : Declared) → scope_told units scope ≡ true → scope_told (units ++ more) scope ≡ true
   scope_more scope told =
-      list_more (λ (entry : List ℕ × Declaration). kind_told units entry.1.kind entry.1.position)
+      all_weaker (λ (entry : List ℕ × Declaration). kind_told units entry.1.kind entry.1.position)
       (λ (entry : List ℕ × Declaration). kind_told (units ++ more) entry.1.kind entry.1.position)
       (λ entry. kind_more entry.1.kind entry.1.position) scope told
 
   -- what is told of these units is told of more of them
   pub told_more : (scopes : Scopes) → Told units scopes → Told (units ++ more) scopes
-  told_more scopes told = (scope_more scopes.inner told.0, list_more (scope_told units) (scope_told (units ++ more)) scope_more scopes.outer told.1)
+  told_more scopes told = (scope_more scopes.inner told.0, all_weaker (scope_told units) (scope_told (units ++ more)) scope_more scopes.outer told.1)

@@ -4,6 +4,7 @@ use Rattle.std.specs.Prelude.{All, Bool, true, false, ◌&&◌, nat_eq, slice_ge
 use Rattle.std.proofs.lemmas.Bool.{eqb-true}
 use Rattle.std.proofs.lemmas.List.Elements.{All-cons, All-head, All-nil, All-tail}
 use Rattle.std.proofs.lemmas.Option.{same_Some}
+use Rattle.bl_tree.proofs.Basics.{and_first, and_second}
 use Rattle.bl_tree.specs.declared.place.Place.{Place}
 use Rattle.bl_tree.specs.declared.scalar.Scalar.{Scalar as ScalarType}
 use Rattle.bl_tree.specs.declared.tree.Arm.{Arm}
@@ -11,7 +12,6 @@ use Rattle.bl_tree.specs.declared.tree.Branch.{Branch}
 use Rattle.bl_tree.specs.declared.tree.Stmt.{Stmt}
 use Rattle.bl_tree.specs.declared.tree.Ty.{Ty}
 use Rattle.bl_eval.proofs.OperatorFits.{some_found, where_holds}
-use Rattle.bl_eval.proofs.PassLemmas.{and_left, and_right}
 use Rattle.bl_names_tree.specs.declared.expr.NamedExpr.{NamedExpr}
 use Rattle.bl_names_tree.specs.declared.item.NamedConstant.{NamedConstant}
 use Rattle.bl_names_tree.specs.declared.item.NamedVar.{NamedVar}
@@ -25,21 +25,8 @@ use Rattle.bl_names_tree.specs.inner.Placed.{step_of_arm, step_of_branch}
 use Rattle.bl_types.specs.declared.environment.Environment.{Environment}
 use Rattle.bl_types.specs.declared.environment.Variable.{Variable}
 use Rattle.bl_types.specs.Declarations.{constant_of, initial, with_variable}
-use Rattle.bl_types.specs.Statements.{
-  Block,
-  StatementJudgement,
-  Walked,
-  after_optional_constant,
-  arm_walked,
-  branch_walked,
-  constant_walked,
-  declare,
-  in_order,
-  returned,
-  walked_arm,
-  walked_branch,
-  walked_stmt,
-}
+use Rattle.bl_types.specs.Statements.{Block, StatementJudgement, Walked, after_optional_constant, arm_walked, branch_walked, constant_walked, declare, in_order}
+use Rattle.bl_types.specs.Statements.{returned, walked_arm, walked_branch, walked_stmt}
 use Rattle.bl_types_laws.proofs.TypesStand.{scalar_initial, scalar_optional}
 use Rattle.bl_types.specs.Units.{is_scalar}
 use Rattle.bl_types_laws.specs.Within.{known_in}
@@ -106,16 +93,16 @@ module _ (constants : List NamedConstant) (vars : List NamedVar) where
       && (holds_of (var_placed earlier) found && holds_if (expr_placed earlier) e) then Some (variable_counted earlier) else None)
   declare_turns k None e there env counts named step =
       let holds = where_holds (nat_eq k (length env.vars) && false) (Some (variable_counted (known_in env))) counts step in
-      absurd (let no = and_right (nat_eq k (length env.vars)) false holds.0 in cc)
+      absurd (let no = and_second (nat_eq k (length env.vars)) false holds.0 in cc)
   declare_turns k (Some var) None there env counts named step =
       let holds = where_holds (nat_eq k (length env.vars) && (var_placed (known_in env) var && true)) (Some (variable_counted (known_in env))) counts step in
       declared_turns k var _ env counts there (eqb-true k (length env.vars)
-      (and_left (nat_eq k (length env.vars)) (var_placed (known_in env) var && true) holds.0)) (scalar_optional env.constants var.ty) named holds.1
+      (and_first (nat_eq k (length env.vars)) (var_placed (known_in env) var && true) holds.0)) (scalar_optional env.constants var.ty) named holds.1
   declare_turns k (Some var) (Some e) there env counts named step =
       let holds = where_holds (nat_eq k (length env.vars) && (var_placed (known_in env) var && expr_placed (known_in env) e))
       (Some (variable_counted (known_in env))) counts step in
       declared_turns k var _ env counts there (eqb-true k (length env.vars)
-      (and_left (nat_eq k (length env.vars)) (var_placed (known_in env) var && expr_placed (known_in env) e) holds.0)) (scalar_initial env var.ty e) named
+      (and_first (nat_eq k (length env.vars)) (var_placed (known_in env) var && expr_placed (known_in env) e) holds.0)) (scalar_initial env var.ty e) named
       holds.1
 
   constant_turns : (k : ℕ) (found : Option NamedConstant) →
@@ -123,7 +110,7 @@ module _ (constants : List NamedConstant) (vars : List NamedVar) where
       (λ earlier. if nat_eq k earlier.constants && holds_of (constant_placed earlier) found then Some (constant_counted earlier) else None)
   constant_turns k None env counts named step =
       let holds = where_holds (nat_eq k (length env.constants) && false) (Some (constant_counted (known_in env))) counts step in
-      absurd (let no = and_right (nat_eq k (length env.constants)) false holds.0 in cc)
+      absurd (let no = and_second (nat_eq k (length env.constants)) false holds.0 in cc)
   constant_turns k (Some constant) env counts named step =
       let holds = where_holds (nat_eq k (length env.constants) && constant_placed (known_in env) constant) (Some (constant_counted (known_in env))) counts step
       in

@@ -16,27 +16,8 @@ use Rattle.bl_tree.specs.declared.tree.Ty.{Ty, out-Ty}
 use Rattle.bl_tree.specs.declared.tree.Var.{Var}
 use Rattle.bl_tree.specs.Scalar.{in_range}
 use Rattle.bl_tree.specs.Types.{scalar_in}
-use Rattle.bl_tree.specs.Typing.{
-  TypingContext,
-  after_parts,
-  call_type,
-  cast_type,
-  element_in,
-  expr_type,
-  field_in,
-  kind_type,
-  literal_type,
-  one_type,
-  part_type,
-  path_type,
-  prev_type,
-  two_type,
-  type_of,
-  type_of_path,
-  var_at,
-  where_same,
-  where_whole,
-}
+use Rattle.bl_tree.specs.Typing.{TypingContext, after_parts, call_type, cast_type, element_in, expr_type, field_in, kind_type, literal_type, one_type}
+use Rattle.bl_tree.specs.Typing.{part_type, path_type, prev_type, two_type, type_of, type_of_path, var_at, where_same, where_whole}
 use Rattle.bl_eval.proofs.PartFits.{type_of_part}
 use Rattle.bl_types.specs.Expressions.{call, cast, path, previous, read}
 use Rattle.bl_types.specs.Failures.{unless}

@@ -1,36 +1,17 @@
 -- Types that are written or that expressions have name structs that are declared, and have lengths.
-use Rattle.std.proofs.Common.{
-  ◌≡◌,
-  ℕ,
-  suc,
-  ◌≤◌,
-  List,
-  [],
-  ◌∷◌,
-  ◌++◌,
-  map,
-  length,
-  nat_lt,
-  Option,
-  Some,
-  None,
-  refl,
-  ap,
-  sym,
-  subst,
-  ◌∙◌,
-  arith,
-}
+use Rattle.std.proofs.Common.{◌≡◌, ℕ, suc, ◌≤◌, List, [], ◌∷◌, ◌++◌, map, length, nat_lt, Option, Some, None, refl, ap, sym, subst, ◌∙◌, arith}
 use Rattle.std.specs.Prelude.{is_some, Bool, true, ◌&&◌, nat_le, option_and_then, option_map, slice_get, if◌then◌else◌}
 use Rattle.std.specs.List.{cons_option, list_all}
 use Rattle.bl_types.specs.declared.environment.Variable.{Variable}
 use Rattle.bl_types.specs.Units.{is_scalar, is_scalar_level, var_typed, vars_of}
 use Rattle.std.proofs.lemmas.Option.{same_Some, slice_get_within}
+use Rattle.std.proofs.lemmas.Bool.{and_from}
+use Rattle.bl_tree.proofs.Basics.{and_first, and_second, first_empty, second_empty}
 use Rattle.bl_tree.specs.declared.place.Place.{Place}
 use Rattle.bl_tree.specs.declared.scalar.Op.{Op}
 use Rattle.bl_tree.specs.declared.scalar.Scalar.{Scalar as ScalarType}
 use Rattle.bl_tree.specs.declared.tree.Expr.{Expr}
-use Rattle.bl_tree.specs.declared.tree.ExprKind.{ExprKind, out-roll-ExprKind, roll-ExprKind}
+use Rattle.bl_tree.specs.declared.tree.ExprKind.{out-roll-ExprKind, roll-ExprKind}
 use Rattle.bl_tree.specs.declared.tree.ExprKind.TheOpen.{ExprKind-F, Part-F}
 use Rattle.bl_tree.specs.declared.tree.Field.{Field}
 use Rattle.bl_tree.specs.declared.tree.Part.{Part, out-Part}
@@ -44,62 +25,30 @@ use Rattle.bl_tree.specs.Numbers.{takes_one, takes_two, type_of_result}
 use Rattle.bl_tree.specs.Reduce.{joined}
 use Rattle.bl_tree.specs.Scalar.{in_range, is_whole}
 use Rattle.bl_tree.specs.Types.{scalar_at, same_scalar, same_type, scalar, scalar_in, type_stands, type_stands_level}
-use Rattle.bl_tree.specs.Typing.{
-  TypingContext,
-  after_parts,
-  call_type,
-  cast_type,
-  element_in,
-  field_in,
-  one_type,
-  prev_type,
-  two_type,
-  type_of,
-  type_of_path,
-  var_at,
-  where_same,
-  where_whole,
-}
+use Rattle.bl_tree.specs.Typing.{TypingContext, after_parts, call_type, cast_type, element_in, field_in, one_type, prev_type, two_type, type_of, type_of_path}
+use Rattle.bl_tree.specs.Typing.{var_at, where_same, where_whole}
 use Rattle.bl_tree.proofs.ExprInduction.{Cases, induct}
 use Rattle.bl_eval.proofs.OperatorFits.{some_found, where_holds}
 use Rattle.bl_eval.proofs.PartFits.{type_of_part}
-use Rattle.bl_eval.proofs.PassLemmas.{all_at, and_left, and_right, both}
+use Rattle.bl_eval.proofs.PassLemmas.{all_at}
 use Rattle.bl_names_tree.specs.declared.item.NamedField.{NamedField}
 use Rattle.bl_names_tree.specs.declared.item.NamedStruct.{NamedStruct}
 use Rattle.bl_names_tree.specs.declared.types.NamedLength.{NamedLength}
 use Rattle.bl_names_tree.specs.declared.types.NamedLength.TheVariants as length_of
-use Rattle.bl_names_tree.specs.declared.types.NamedType.{
-  NamedType,
-  fold_out-NamedType,
-  out-NamedType,
-  fold-roll-NamedType,
-  ind-NamedType,
-  map-NamedType,
-  roll-NamedType,
-}
+use Rattle.bl_names_tree.specs.declared.types.NamedType.{NamedType, fold_out-NamedType, out-NamedType, fold-roll-NamedType, ind-NamedType, map-NamedType}
+use Rattle.bl_names_tree.specs.declared.types.NamedType.{roll-NamedType}
 use Rattle.bl_names_tree.specs.declared.types.NamedType.TheOpen.{NamedType-F}
 use Rattle.bl_names_tree.specs.Placed.{DeclaredBefore, length_placed, struct_placed, type_placed}
 use Rattle.bl_types.specs.declared.environment.Constant.{Constant}
 use Rattle.bl_types.specs.declared.environment.Environment.{Environment}
 use Rattle.bl_names_tree.specs.declared.expr.NamedExpr.{NamedExpr}
 use Rattle.bl_types.specs.Declarations.{initial, after_struct, field_lengths, field_of, struct_of}
-use Rattle.bl_types.specs.Written.{
-  type_level,
-  as_length,
-  bad_length,
-  bad_lengths,
-  constant_length,
-  is_whole_type,
-  natural,
-  or_zero,
-  place_of_length,
-  written_length,
-  written_type,
-}
+use Rattle.bl_types.specs.Written.{type_level, as_length, bad_length, bad_lengths, constant_length, is_whole_type, natural, or_zero, place_of_length}
+use Rattle.bl_types.specs.Written.{written_length, written_type}
 use Rattle.bl_types_laws.specs.Standing.{FieldsStand, VariableKnown}
 use Rattle.bl_types_laws.specs.Within.{known_in}
 use Rattle.bl_types_laws.specs.inner.Named.{has_scalar}
-use Rattle.bl_types_laws.proofs.Forms.{map_found, nil_left, nil_right}
+use Rattle.bl_types_laws.proofs.Forms.{map_found}
 use Rattle.bl_types_laws.proofs.MorePlaced.{more_below}
 use Rattle.bl_types_laws.proofs.Typed.{kind_at, part_at}
 
@@ -146,11 +95,11 @@ module _ (earlier : DeclaredBefore) (constants : List Constant) where
       let count : ℕ = or_zero (written_length constants n) in
       rw fold-roll-NamedType
       (stands_at earlier.structs (type.Array count inner) (Ty-F.Array count inner) (type.outs-Array count inner)
-      ∙ both (has_length count) (type_stands earlier.structs inner)
+      ∙ and_from (has_length count) (type_stands earlier.structs inner)
       (length_stands (place_of_length n) (written_length constants n) (length_in constants n)
-      (nil_left (bad_length (place_of_length n) (written_length constants n)) (bad_lengths constants element.0) good))
-      (element.1 (and_right (length_placed earlier n) (type_placed earlier element.0) at)
-      (nil_right (bad_length (place_of_length n) (written_length constants n)) (bad_lengths constants element.0) good)))
+      (first_empty (bad_length (place_of_length n) (written_length constants n)) (bad_lengths constants element.0) good))
+      (element.1 (and_second (length_placed earlier n) (type_placed earlier element.0) at)
+      (second_empty (bad_length (place_of_length n) (written_length constants n)) (bad_lengths constants element.0) good)))
 
   -- a written type stands, where none of its lengths fails
   pub written_stands : (ty : NamedType) → type_placed earlier ty ≡ true → bad_lengths constants ty ≡ [] →
@@ -163,12 +112,12 @@ pub fields_stand : (earlier : DeclaredBefore) (env : Environment) (fields : List
     list_all (λ (field : Field). type_stands earlier.structs field.ty) (map (field_of env) fields) ≡ true
 fields_stand earlier env [] placed none = refl
 fields_stand earlier env (field ∷ rest) placed none =
-    both (type_stands earlier.structs (written_type env.constants field.ty)) _
-    (written_stands earlier env.constants field.ty (and_left (type_placed earlier field.ty)
+    and_from (type_stands earlier.structs (written_type env.constants field.ty)) _
+    (written_stands earlier env.constants field.ty (and_first (type_placed earlier field.ty)
     (list_all (λ (field : NamedField). type_placed earlier field.ty) rest) placed)
-    (nil_left (bad_lengths env.constants field.ty) (joined (map (field_lengths env) rest)) none))
-    (fields_stand earlier env rest (and_right (type_placed earlier field.ty) (list_all (λ (field : NamedField). type_placed earlier field.ty) rest) placed)
-    (nil_right (bad_lengths env.constants field.ty) (joined (map (field_lengths env) rest)) none))
+    (first_empty (bad_lengths env.constants field.ty) (joined (map (field_lengths env) rest)) none))
+    (fields_stand earlier env rest (and_second (type_placed earlier field.ty) (list_all (λ (field : NamedField). type_placed earlier field.ty) rest) placed)
+    (second_empty (bad_lengths env.constants field.ty) (joined (map (field_lengths env) rest)) none))
 
 -- ---- types of expressions
 
@@ -186,8 +135,8 @@ module _ (n m : ℕ) (less : n ≤ m) where
       rw fold-roll-Ty (more_below k n m less at)
   more_by (Ty-F.Array count element) is =
       let at : (has_length count && type_stands n element.0) ≡ true = rw fold-roll-Ty at is in
-      rw fold-roll-Ty (both (has_length count) (type_stands m element.0) (and_left (has_length count) (type_stands n element.0) at)
-      (element.1 (and_right (has_length count) (type_stands n element.0) at)))
+      rw fold-roll-Ty (and_from (has_length count) (type_stands m element.0) (and_first (has_length count) (type_stands n element.0) at)
+      (element.1 (and_second (has_length count) (type_stands n element.0) at)))
 
   pub stands_more : (ty : Ty) → type_stands n ty ≡ true → type_stands m ty ≡ true
   stands_more = ind-Ty More (λ x y is. subst (λ layer. More (roll-Ty layer)) is (more_by y))
@@ -219,7 +168,7 @@ module _ (site : TypingContext) (fields : FieldsStand site.structs) (vars : list
       stands ty ≡ true
   element_stands (Ty-F.Scalar s) ty whole is = absurd (cc)
   element_stands (Ty-F.Struct s) ty whole is = absurd (cc)
-  element_stands (Ty-F.Array count element) ty whole is = ap stands (sym (same_Some element ty is)) ∙ and_right (has_length count) (stands element) whole
+  element_stands (Ty-F.Array count element) ty whole is = ap stands (sym (same_Some element ty is)) ∙ and_second (has_length count) (stands element) whole
 
   where_true : (holds : Bool) (t : Option Ty) (ty : Ty) → (if holds then t else None) ≡ Some ty → t ≡ Some ty
   where_true holds t ty is = (where_holds holds t ty is).1
@@ -255,9 +204,6 @@ module _ (site : TypingContext) (fields : FieldsStand site.structs) (vars : list
       let found = some_found (λ (var : Var). after_parts (map (type_of_part site) parts) var.ty) (slice_get site.vars root) whole.0 whole.1 in
       let same : whole.0 ≡ ty = same_Some whole.0 ty (where_true (same_type written whole.0) (Some whole.0) ty whole.2) in
       ap stands (sym same) ∙ parts_stand parts found.0.ty whole.0 (all_at (λ (var : Var). stands var.ty) site.vars root found.0 vars found.1) found.2
-
-  abbrev Layer : Type 0
-  Layer = ExprKind-F ExprKind Part Expr Path
 
   stand_cases : Cases P Q
   stand_cases = record {
@@ -309,7 +255,7 @@ vars_stand n [] each = refl
 vars_stand n (x ∷ xs) each =
     let first = each 0 x refl in
     ap (λ found. list_all (λ (var : Var). type_stands n var.ty) (cons_option (option_map (var_typed x) found) (vars_of xs))) first.is_typed
-    ∙ both (type_stands n first.ty) (list_all (λ (var : Var). type_stands n var.ty) (vars_of xs)) first.stands
+    ∙ and_from (type_stands n first.ty) (list_all (λ (var : Var). type_stands n var.ty) (vars_of xs)) first.stands
     (vars_stand n xs (λ k known is. each (suc k) known is))
 
 -- ---- scalar types

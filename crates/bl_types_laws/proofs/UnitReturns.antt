@@ -2,6 +2,8 @@
 use Rattle.std.proofs.Common.{◌≡◌, List, [], ◌∷◌, ◌++◌, map, Option, Some, None, refl, ap, sym, ◌∙◌}
 use Rattle.std.specs.Prelude.{Bool, true, false, ◌&&◌, ◌||◌, is_none, nat_eq, if◌then◌else◌}
 use Rattle.std.specs.List.{cons_option}
+use Rattle.std.proofs.lemmas.Bool.{and_from}
+use Rattle.bl_tree.proofs.Basics.{and_first, and_second, first_empty, second_empty}
 use Rattle.bl_tree.specs.declared.rule.Rule.TheVariants as rule
 use Rattle.bl_tree.specs.declared.tree.Stmt.{Stmt}
 use Rattle.bl_tree.specs.declared.tree.Unit.{Unit as UnitDef}
@@ -9,7 +11,6 @@ use Rattle.bl_tree.specs.Reduce.{all_of}
 use Rattle.bl_tree.specs.Returns.{activity_returns, function_returns, is_return, last_of, returns_last_alone, surely_returns, unit_returns}
 use Rattle.bl_tree.specs.Typing.{TypingContext, is_activity}
 use Rattle.bl_eval.proofs.OperatorFits.{some_found}
-use Rattle.bl_eval.proofs.PassLemmas.{and_left, and_right, both}
 use Rattle.bl_names_tree.specs.declared.item.NamedConstant.{NamedConstant}
 use Rattle.bl_names_tree.specs.declared.item.NamedUnit.{NamedUnit}
 use Rattle.bl_names_tree.specs.declared.item.NamedVar.{NamedVar}
@@ -19,20 +20,13 @@ use Rattle.bl_names_tree.specs.declared.stmt.NamedStmtKind.TheOpen.{NamedStmtKin
 use Rattle.bl_names_tree.specs.Placed.{DeclaredBefore, in_turn, stmt_step}
 use Rattle.bl_types.specs.declared.environment.Environment.{Environment}
 use Rattle.bl_types.specs.Failures.{unless}
-use Rattle.bl_types.specs.Returns.{
-  activity_returns as named_activity_returns,
-  function_returns as named_function_returns,
-  is_return as named_is_return,
-  is_return_kind as named_return_kind,
-  return_failures,
-  strays,
-  surely_returns as named_surely_returns,
-}
+use Rattle.bl_types.specs.Returns.{activity_returns as named_activity_returns, function_returns as named_function_returns, is_return as named_is_return}
+use Rattle.bl_types.specs.Returns.{is_return_kind as named_return_kind, return_failures, strays, surely_returns as named_surely_returns}
 use Rattle.bl_types.specs.Statements.{Block, in_order, walked_stmt}
 use Rattle.bl_types_laws.specs.Standing.{Around, Known, stmt_named}
 use Rattle.bl_types_laws.specs.Within.{known_in}
 use Rattle.bl_types_laws.proofs.Blocks.{statement_fits}
-use Rattle.bl_types_laws.proofs.Forms.{nil_left, nil_right, unless_holds}
+use Rattle.bl_types_laws.proofs.Forms.{unless_holds}
 use Rattle.bl_types_laws.proofs.LastReturns.{body_alone, return_returned, stmt_whole}
 use Rattle.bl_types_laws.proofs.Returning.{bodies_return, named_kind_surely, named_surely_is, statement_returns}
 use Rattle.bl_types_laws.proofs.StmtLayers.{Layer}
@@ -72,23 +66,23 @@ module _ (constants : List NamedConstant) (vars : List NamedVar) (site : TypingC
   body_last [] named last env around known counts step none = absurd (cc)
   body_last (s ∷ []) named last env around known counts step none =
       let found = some_found (in_turn []) (stmt_step vars constants s (known_in env)) counts step in
-      let one = statement_returns constants vars site s (and_left (stmt_named constants vars site.earlier s) true named) (return_surely s last) env around known
-      found.0 found.1 (nil_left (walked_stmt constants vars s env).failures [] none) in
+      let one = statement_returns constants vars site s (and_first (stmt_named constants vars site.earlier s) true named) (return_surely s last) env around known
+      found.0 found.1 (first_empty (walked_stmt constants vars s env).failures [] none) in
       ap (λ made. last_of (map is_return (cons_option made []))) one.is ∙ return_returned constants vars s env one.it last one.is
   body_last (s ∷ t ∷ rest) named last env around known counts step none =
       let next : Environment = (walked_stmt constants vars s env).env in
       let further : Block Stmt = in_order (map (walked_stmt constants vars) (t ∷ rest)) next in
       let found = some_found (in_turn (map (stmt_step vars constants) (t ∷ rest))) (stmt_step vars constants s (known_in env)) counts step in
-      let passed = statement_fits constants vars site s (and_left (stmt_named constants vars site.earlier s)
+      let passed = statement_fits constants vars site s (and_first (stmt_named constants vars site.earlier s)
       (all_of (map (stmt_named constants vars site.earlier) (t ∷ rest))) named) env around known found.0 found.1
-      (nil_left (walked_stmt constants vars s env).failures further.failures none) in
+      (first_empty (walked_stmt constants vars s env).failures further.failures none) in
       last_front (walked_stmt constants vars s env).made further.made
-      (body_last (t ∷ rest) (and_right (stmt_named constants vars site.earlier s)
+      (body_last (t ∷ rest) (and_second (stmt_named constants vars site.earlier s)
       (all_of (map (stmt_named constants vars site.earlier) (t ∷ rest))) named) last
       next
       (grown_around env next site passed.grown around) passed.known counts
       (ap (in_turn (map (stmt_step vars constants) (t ∷ rest))) passed.counts_are ∙ found.2)
-      (nil_right (walked_stmt constants vars s env).failures further.failures none))
+      (second_empty (walked_stmt constants vars s env).failures further.failures none))
 
   module _ (unit : NamedUnit) (made : UnitDef) (env : Environment) (counts : DeclaredBefore) (kind : made.kind ≡ unit.kind) (outputs : made.outputs ≡ unit.outputs)
       (result : is_none unit.result ≡ true → is_none made.result ≡ true)
@@ -100,15 +94,15 @@ module _ (constants : List NamedConstant) (vars : List NamedVar) (site : TypingC
     function_by returns =
         either_by (is_none unit.result) (nat_eq unit.outputs 0 && last_of (map named_surely_returns unit.body)) (is_none made.result)
         (nat_eq made.outputs 0 && last_of (map surely_returns made.body)) returns result
-        (λ both_hold. both (nat_eq made.outputs 0) (last_of (map surely_returns made.body))
-        (ap (λ n. nat_eq n 0) outputs ∙ and_left (nat_eq unit.outputs 0) (last_of (map named_surely_returns unit.body)) both_hold)
+        (λ both_hold. and_from (nat_eq made.outputs 0) (last_of (map surely_returns made.body))
+        (ap (λ n. nat_eq n 0) outputs ∙ and_first (nat_eq unit.outputs 0) (last_of (map named_surely_returns unit.body)) both_hold)
         (ap (λ body. last_of (map surely_returns body)) body
-        ∙ bodies_return constants vars site unit.body named (and_right (nat_eq unit.outputs 0) (last_of (map named_surely_returns unit.body)) both_hold) env
+        ∙ bodies_return constants vars site unit.body named (and_second (nat_eq unit.outputs 0) (last_of (map named_surely_returns unit.body)) both_hold) env
         around known counts step none))
 
     activity_by : named_activity_returns unit ≡ true → strays unit.body ≡ [] → activity_returns made ≡ true
     activity_by returns straying =
-        both (returns_last_alone made.body) (is_none made.result || last_of (map is_return made.body))
+        and_from (returns_last_alone made.body) (is_none made.result || last_of (map is_return made.body))
         (ap returns_last_alone body ∙ body_alone constants vars unit.body straying env)
         (either_by (is_none unit.result) (last_of (map named_is_return unit.body)) (is_none made.result) (last_of (map is_return made.body)) returns result
         (λ last. ap (λ body. last_of (map is_return body)) body ∙ body_last unit.body named last env around known counts step none))
@@ -118,8 +112,8 @@ module _ (constants : List NamedConstant) (vars : List NamedVar) (site : TypingC
         (if activity then activity_returns made else function_returns made) ≡ true
     returns_by true fine =
         activity_by (unless_holds (named_activity_returns unit) rule.Return unit.name.place
-        (nil_left (unless (named_activity_returns unit) rule.Return unit.name.place) (strays unit.body) fine))
-        (nil_right (unless (named_activity_returns unit) rule.Return unit.name.place) (strays unit.body) fine)
+        (first_empty (unless (named_activity_returns unit) rule.Return unit.name.place) (strays unit.body) fine))
+        (second_empty (unless (named_activity_returns unit) rule.Return unit.name.place) (strays unit.body) fine)
     returns_by false fine = function_by (unless_holds (named_function_returns unit) rule.Return unit.name.place fine)
 
     pub unit_made_returns : return_failures unit ≡ [] → unit_returns made ≡ true

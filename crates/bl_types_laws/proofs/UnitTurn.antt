@@ -1,35 +1,16 @@
 -- What is made of a unit, and of the items behind it.
-use Rattle.std.proofs.Common.{
-  ◌≡◌,
-  ℕ,
-  suc,
-  zero,
-  true,
-  List,
-  [],
-  ◌∷◌,
-  ◌++◌,
-  length,
-  map,
-  Some,
-  refl,
-  sym,
-  ap,
-  subst,
-  ◌∙◌,
-  append-nil,
-  append_assoc,
-}
+use Rattle.std.proofs.Common.{◌≡◌, ℕ, suc, zero, true, List, [], ◌∷◌, ◌++◌, length, map, Some, refl, sym, ap, subst, ◌∙◌, append-nil, append_assoc}
 use Rattle.std.specs.Prelude.{slice_get}
 use Rattle.std.specs.List.{list_all}
 use Rattle.std.proofs.lemmas.Option.{same_Some}
 use Rattle.std.proofs.lemmas.List.{map-append}
+use Rattle.std.proofs.lemmas.Bool.{and_from}
+use Rattle.bl_tree.proofs.Basics.{and_first, and_second, first_empty, second_empty}
 use Rattle.bl_tree.specs.declared.tree.StructDef.{StructDef}
 use Rattle.bl_tree.specs.declared.tree.Unit.{Unit as UnitDef}
 use Rattle.bl_tree.specs.declared.tree.UnitKind.{UnitKind}
 use Rattle.bl_tree.specs.Depths.{is_shallow}
 use Rattle.bl_tree.specs.Program.{is_entry, structs_stand_from, unit_stands, units_stand_after}
-use Rattle.bl_eval.proofs.PassLemmas.{and_left, and_right, both}
 use Rattle.bl_names_tree.specs.declared.item.Item.TheVariants as kind
 use Rattle.bl_names_tree.specs.declared.item.NamedConstant.{NamedConstant}
 use Rattle.bl_names_tree.specs.declared.item.NamedUnit.{NamedUnit}
@@ -51,7 +32,6 @@ use Rattle.bl_types.specs.Programs.{after_item, after_items}
 use Rattle.bl_types.specs.Units.{after_head, after_unit, drives}
 use Rattle.bl_types_laws.specs.Standing.{UnitPassed, are_shallow, unit_named}
 use Rattle.bl_types_laws.specs.Within.{known_in}
-use Rattle.bl_types_laws.proofs.Forms.{nil_left, nil_right}
 use Rattle.bl_types_laws.proofs.Units.{unit_passes}
 use Rattle.bl_types_laws.proofs.Premises.{Shapes, Suits}
 use Rattle.bl_types_laws.proofs.Ends.{ends_first, ends_next, ends_on, ends_take}
@@ -158,10 +138,10 @@ module _ (named : Named) (suits : Suits named) (shapes : Shapes) where
           struct_names = rest.struct_names;
           more = made ∷ rest.more;
           units = rest.units ∙ ap (λ units. units ++ rest.more) (units_are none) ∙ append_assoc env.units (made ∷ []) rest.more;
-          units_stand = both (unit_stands final.structs env.units made) (units_stand_after final.structs (env.units ++ made ∷ []) rest.more)
+          units_stand = and_from (unit_stands final.structs env.units made) (units_stand_after final.structs (env.units ++ made ∷ []) rest.more)
               (unit_made shapes final.structs named.constants new_unit env keeps passes)
               (subst (λ units. units_stand_after final.structs units rest.more ≡ true) (units_are none) rest.units_stand);
-          shallow = both (is_shallow 100 made.body) (are_shallow rest.more) (unit_shallow shapes named.constants new_unit env keeps) rest.shallow;
+          shallow = and_from (is_shallow 100 made.body) (are_shallow rest.more) (unit_shallow shapes named.constants new_unit env keeps) rest.shallow;
           unit_names = ap (λ names. def.name.text ∷ names) rest.unit_names;
           driven = unit_driven final.structs rest.more passes rest.driven;
           starts = picked_append (starts_stay named.constants new_unit.vars new_unit.body (after_head new_unit env).env) rest.starts;
@@ -174,9 +154,9 @@ module _ (named : Named) (suits : Suits named) (shapes : Shapes) where
       let taken = after_unit named.constants u env in
       first_taken named (item.Unit def) items scopes env taken (unit_chosen def items scopes env at)
       (λ none.
-      let first = nil_left taken.failures (after_items named (order_of items) taken.env).failures none in
+      let first = first_empty taken.failures (after_items named (order_of items) taken.env).failures none in
       unit_case def items scopes env at (after_items named (order_of items) taken.env).env
-      (and_left (unit_keeps u) (list_all unit_keeps (along units_of new items)) keep_units) first
+      (and_first (unit_keeps u) (list_all unit_keeps (along units_of new items)) keep_units) first
       (rec new taken.env (at_unit def items scopes env at first) keep_structs
-      (and_right (unit_keeps u) (list_all unit_keeps (along units_of new items)) keep_units)
-      (nil_right taken.failures (after_items named (order_of items) taken.env).failures none)))
+      (and_second (unit_keeps u) (list_all unit_keeps (along units_of new items)) keep_units)
+      (second_empty taken.failures (after_items named (order_of items) taken.env).failures none)))

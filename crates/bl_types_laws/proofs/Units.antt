@@ -1,33 +1,13 @@
 -- What is made of a unit fits.
-use Rattle.std.proofs.Common.{
-  ◌≡◌,
-  ℕ,
-  ◌+◌,
-  ◌≤◌,
-  List,
-  [],
-  ◌∷◌,
-  ◌++◌,
-  length,
-  map,
-  take,
-  drop,
-  Option,
-  Some,
-  None,
-  refl,
-  ap,
-  sym,
-  subst,
-  ◌∙◌,
-  arith,
-}
+use Rattle.std.proofs.Common.{◌≡◌, ℕ, ◌+◌, ◌≤◌, List, [], ◌∷◌, ◌++◌, length, map, take, drop, Option, Some, None, refl, ap, sym, subst, ◌∙◌, arith}
 use Rattle.std.specs.Prelude.{is_none, Bool, true, false, ◌&&◌, ◌||◌, is_some, nat_eq, nat_le, option_and_then, slice_get}
 use Rattle.std.specs.List.{list_all}
 use Rattle.std.proofs.lemmas.Bool.{eqb-true, le-leb, leb-true}
 use Rattle.std.proofs.lemmas.List.{length-append, length-take-le}
 use Rattle.std.proofs.lemmas.List.Folds.{list_all-append}
 use Rattle.std.proofs.lemmas.Option.{same_Some}
+use Rattle.std.proofs.lemmas.Bool.{and_from}
+use Rattle.bl_tree.proofs.Basics.{all_of_each, all_weaker, and_first, and_second, first_empty, second_empty}
 use Rattle.bl_tree.specs.declared.scalar.Scalar.{Scalar as ScalarType}
 use Rattle.bl_tree.specs.declared.tree.Stmt.{Stmt}
 use Rattle.bl_tree.specs.declared.tree.StructDef.{StructDef}
@@ -38,24 +18,11 @@ use Rattle.bl_tree.specs.Types.{type_stands}
 use Rattle.bl_tree.specs.Reduce.{all_of}
 use Rattle.bl_tree.specs.Typing.{is_activity, TypingContext, fits, is_fixed, is_variable, site_of}
 use Rattle.bl_eval.proofs.OperatorFits.{some_found, where_holds}
-use Rattle.bl_eval.proofs.PassLemmas.{and_left, and_right, both}
 use Rattle.bl_names_tree.specs.declared.item.NamedConstant.{NamedConstant}
 use Rattle.bl_names_tree.specs.declared.item.NamedUnit.{NamedUnit}
 use Rattle.bl_names_tree.specs.declared.item.NamedVar.{NamedVar}
-use Rattle.bl_names_tree.specs.Placed.{
-  DeclaredBefore,
-  behind_unit,
-  head_placed,
-  holds_if,
-  in_turn,
-  parameters,
-  roles_placed,
-  stmt_step,
-  type_placed,
-  unit_step,
-  var_placed,
-  with_parameters,
-}
+use Rattle.bl_names_tree.specs.Placed.{DeclaredBefore, behind_unit, head_placed, holds_if, in_turn, parameters, roles_placed, stmt_step, type_placed, unit_step}
+use Rattle.bl_names_tree.specs.Placed.{var_placed, with_parameters}
 use Rattle.bl_types.specs.declared.environment.Environment.{Environment}
 use Rattle.bl_types.specs.declared.environment.Variable.{Variable}
 use Rattle.bl_tree.specs.declared.place.Place.{Place}
@@ -67,9 +34,8 @@ use Rattle.bl_types.specs.Units.{can_be_driven, after_head, after_unit, entered,
 use Rattle.bl_types_laws.specs.Standing.{Around, BetweenUnits, BlockPassed, Known, UnitPassed, VariablesThere, stmt_named, unit_named}
 use Rattle.bl_types_laws.specs.Within.{has_parameters, known_in}
 use Rattle.bl_types_laws.specs.inner.Named.{VariablesNamed}
-use Rattle.bl_types_laws.proofs.Blocks.{all_mapped, statements_fit}
-use Rattle.bl_types_laws.proofs.Forms.{nil_left, nil_right}
-use Rattle.bl_types_laws.proofs.Heads.{is_typed_parameter, all_weaker, ParametersPassed, head_passes, length-vars_of, typed_parameters}
+use Rattle.bl_types_laws.proofs.Blocks.{statements_fit}
+use Rattle.bl_types_laws.proofs.Heads.{is_typed_parameter, ParametersPassed, head_passes, length-vars_of, typed_parameters}
 use Rattle.bl_types_laws.proofs.Roles.{entry_made, head_named, roles_made, same_names, same_roles}
 use Rattle.bl_types_laws.proofs.Turns.{bodies_turn}
 use Rattle.bl_types_laws.proofs.TypesStand.{stands_more, vars_stand}
@@ -78,11 +44,11 @@ use Rattle.bl_types_laws.proofs.Walks.{there_in}
 
 all_listed : {X : Type 0} (test : X → Bool) (xs : List X) → all_of (map test xs) ≡ true → list_all test xs ≡ true
 all_listed test [] all = refl
-all_listed test (x ∷ xs) all = both (test x) (list_all test xs) (and_left (test x) (all_of (map test xs)) all)
-    (all_listed test xs (and_right (test x) (all_of (map test xs)) all))
+all_listed test (x ∷ xs) all = and_from (test x) (list_all test xs) (and_first (test x) (all_of (map test xs)) all)
+    (all_listed test xs (and_second (test x) (all_of (map test xs)) all))
 
 -- no variable is known where the unit begins
-entered_known : (unit : NamedUnit) (env : Environment) → Known env → Known (entered unit env)
+pub entered_known : (unit : NamedUnit) (env : Environment) → Known env → Known (entered unit env)
 entered_known unit env known = record { vars = λ k variable is. absurd (nothing_there k variable is); fields = known.fields; constants = known.constants }
   where
     nothing_there : (k : ℕ) (variable : Variable) → slice_get [] k ≡ Some variable → ⊥
@@ -127,7 +93,7 @@ head_by unit env inside result enough passed named none typed =
       named = named;
       result = none;
       parameters_are = all_weaker is_typed_parameter (λ (var : NamedVar). is_parameter var.role)
-          (λ var is. and_left (is_parameter var.role) (is_some var.ty) is) (take (parameters unit) unit.vars) typed;
+          (λ var is. and_first (is_parameter var.role) (is_some var.ty) is) (take (parameters unit) unit.vars) typed;
     }
 
 no_result : (env : Environment) (name : Place) (written : Option NamedType) → is_none written ≡ true → (result_of env name written).result ≡ None
@@ -143,17 +109,17 @@ unit_head unit env known roles typed placed none =
     let inputs : Bool = list_all (λ (var : NamedVar). is_input var.role) (take unit.inputs unit.vars) in
     let outputs : Bool = list_all (λ (var : NamedVar). is_output var.role) (take unit.outputs (drop unit.inputs unit.vars)) in
     let locals : Bool = list_all (λ (var : NamedVar). is_variable var.role || is_fixed var.role) (drop (parameters unit) unit.vars) in
-    let behind : (inputs && (outputs && locals)) ≡ true = and_right enough (inputs && (outputs && locals)) roles in
-    let last : (outputs && locals) ≡ true = and_right inputs (outputs && locals) behind in
+    let behind : (inputs && (outputs && locals)) ≡ true = and_second enough (inputs && (outputs && locals)) roles in
+    let last : (outputs && locals) ≡ true = and_second inputs (outputs && locals) behind in
     let inside : Environment = (after_parameters unit.vars (entered unit env)).env in
-    let typed_all = typed_parameters unit.vars unit.inputs unit.outputs (and_left inputs (outputs && locals) behind) (and_left outputs locals last) typed in
+    let typed_all = typed_parameters unit.vars unit.inputs unit.outputs (and_first inputs (outputs && locals) behind) (and_first outputs locals last) typed in
     head_by unit env inside (result_of inside unit.name.place unit.result).result
-    (leb-true (parameters unit) (length unit.vars) (and_left enough (inputs && (outputs && locals)) roles))
+    (leb-true (parameters unit) (length unit.vars) (and_first enough (inputs && (outputs && locals)) roles))
     (head_passes unit.vars (parameters unit) (known_in env) (entered unit env) refl (entered_known unit env known)
-    (typed_parameters unit.vars unit.inputs unit.outputs (and_left inputs (outputs && locals) behind) (and_left outputs locals last) typed)
-    placed (and_right outputs locals last) (nil_left (after_parameters unit.vars (entered unit env)).failures
+    (typed_parameters unit.vars unit.inputs unit.outputs (and_first inputs (outputs && locals) behind) (and_first outputs locals last) typed)
+    placed (and_second outputs locals last) (first_empty (after_parameters unit.vars (entered unit env)).failures
     (result_of inside unit.name.place unit.result).failures none))
-    (head_named unit.vars (parameters unit) (entered unit env) refl typed_all (and_right outputs locals last)) (no_result inside unit.name.place unit.result)
+    (head_named unit.vars (parameters unit) (entered unit env) refl typed_all (and_second outputs locals last)) (no_result inside unit.name.place unit.result)
     typed_all
 
 -- the site of a unit whose body has come to this
@@ -200,8 +166,8 @@ left_between unit made env body known units heads has = record {
   heads =
       ap (λ units. list_all has_parameters (units ++ unit_of unit made body ∷ [])) units
       ∙ list_all-append has_parameters env.units (unit_of unit made body ∷ [])
-      ∙ both (list_all has_parameters env.units) (has_parameters (unit_of unit made body) && true) heads
-      (both (has_parameters (unit_of unit made body)) true has refl);
+      ∙ and_from (list_all has_parameters env.units) (has_parameters (unit_of unit made body) && true) heads
+      (and_from (has_parameters (unit_of unit made body)) true has refl);
 }
   where
     nothing_there : (k : ℕ) (variable : Variable) → slice_get [] k ≡ Some variable → ⊥
@@ -225,7 +191,7 @@ module _ (constants : List NamedConstant) (unit : NamedUnit) (env : Environment)
   body_passes head inner passed step none site structs units kind result =
       statements_fit constants unit.vars site unit.body
       (ap (λ units. list_all (stmt_named constants unit.vars units) unit.body) (sym units)
-      ∙ and_right (list_all (λ (var : NamedVar). is_some var.ty) (take (parameters unit) unit.vars))
+      ∙ and_second (list_all (λ (var : NamedVar). is_some var.ty) (take (parameters unit) unit.vars))
       (list_all (stmt_named constants unit.vars env.units) unit.body) named)
       head (around_head unit env head site later passed structs units kind result
       (subst (λ units. list_all has_parameters units ≡ true) units between.heads))
@@ -264,17 +230,17 @@ module _ (constants : List NamedConstant) (unit : NamedUnit) (env : Environment)
         returns =
             unit_made_returns constants unit.vars site unit made head inner refl refl
             (λ no_result. ap is_none (first.grown.result ∙ passed.result no_result)) refl
-            (all_mapped (stmt_named constants unit.vars env.units) unit.body
-            (and_right (list_all (λ (var : NamedVar). is_some var.ty) (take (parameters unit) unit.vars))
+            (all_of_each (stmt_named constants unit.vars env.units) unit.body
+            (and_second (list_all (λ (var : NamedVar). is_some var.ty) (take (parameters unit) unit.vars))
             (list_all (stmt_named constants unit.vars env.units) unit.body) named))
             (around_head unit env head site later passed front refl refl (sym first.grown.result) between.heads) passed.known step none returning;
         entry = λ driven.
-            let rest = and_right (is_activity unit.kind) (is_none unit.result && list_all can_be_driven unit.vars) driven in
+            let rest = and_second (is_activity unit.kind) (is_none unit.result && list_all can_be_driven unit.vars) driven in
             entry_made unit body.made body.env (length body.env.structs)
-            (first.grown.result ∙ passed.result (and_left (is_none unit.result) (list_all can_be_driven unit.vars) rest)) first.known.vars turned.named
+            (first.grown.result ∙ passed.result (and_first (is_none unit.result) (list_all can_be_driven unit.vars) rest)) first.known.vars turned.named
             (same_roles unit.vars (length body.env.structs) body.env.vars count first.known.vars turned.named) passed.parameters_are
-            (and_left (is_activity unit.kind) (is_none unit.result && list_all can_be_driven unit.vars) driven)
-            (and_right (is_none unit.result) (list_all can_be_driven unit.vars) rest);
+            (and_first (is_activity unit.kind) (is_none unit.result && list_all can_be_driven unit.vars) driven)
+            (and_second (is_none unit.result) (list_all can_be_driven unit.vars) rest);
         vars_stand = later_stand structs later env body.env front (first.grown.structs ∙ passed.structs) first.known;
       }
 
@@ -286,20 +252,20 @@ module _ (constants : List NamedConstant) (unit : NamedUnit) (env : Environment)
       let found = some_found (behind_unit unit) (in_turn (map (stmt_step unit.vars constants) unit.body) (with_parameters (known_in env) unit)) counts holds.1
       in
       let roles : roles_placed unit ≡ true =
-      and_left (roles_placed unit) (list_all (var_placed (known_in env)) (take (parameters unit) unit.vars)
+      and_first (roles_placed unit) (list_all (var_placed (known_in env)) (take (parameters unit) unit.vars)
       && holds_if (type_placed (known_in env)) unit.result) holds.0 in
       let head : Declaring = after_head unit env in
       let body : Block Stmt = walked_block constants unit.vars unit.body head.env in
-      let passed = unit_head unit env between.known roles (and_left (list_all (λ (var : NamedVar). is_some var.ty) (take (parameters unit) unit.vars))
+      let passed = unit_head unit env between.known roles (and_first (list_all (λ (var : NamedVar). is_some var.ty) (take (parameters unit) unit.vars))
       (list_all (stmt_named constants unit.vars env.units) unit.body) named)
-      (and_left (list_all (var_placed (known_in env)) (take (parameters unit) unit.vars)) (holds_if (type_placed (known_in env)) unit.result)
-      (and_right (roles_placed unit) (list_all (var_placed (known_in env)) (take (parameters unit) unit.vars)
+      (and_first (list_all (var_placed (known_in env)) (take (parameters unit) unit.vars)) (holds_if (type_placed (known_in env)) unit.result)
+      (and_second (roles_placed unit) (list_all (var_placed (known_in env)) (take (parameters unit) unit.vars)
       && holds_if (type_placed (known_in env)) unit.result) holds.0))
-      (nil_left head.failures (body.failures ++ return_failures unit) none) in
+      (first_empty head.failures (body.failures ++ return_failures unit) none) in
       unit_by head.env found.0 counts passed (ap (in_turn (map (stmt_step unit.vars constants) unit.body)) passed.counts_are ∙ found.1) found.2
-      (leb-true (parameters unit) (length unit.vars) (and_left (nat_le (parameters unit) (length unit.vars)) _ roles)) roles
-      (nil_left body.failures (return_failures unit) (nil_right head.failures (body.failures ++ return_failures unit) none))
-      (nil_right body.failures (return_failures unit) (nil_right head.failures (body.failures ++ return_failures unit) none))
+      (leb-true (parameters unit) (length unit.vars) (and_first (nat_le (parameters unit) (length unit.vars)) _ roles)) roles
+      (first_empty body.failures (return_failures unit) (second_empty head.failures (body.failures ++ return_failures unit) none))
+      (second_empty body.failures (return_failures unit) (second_empty head.failures (body.failures ++ return_failures unit) none))
 
 -- each statement of a unit in which nothing fails fits
 pub unit_passes : (constants : List NamedConstant) (unit : NamedUnit) (env : Environment) (structs later : List StructDef) →

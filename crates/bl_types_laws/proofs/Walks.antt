@@ -1,36 +1,17 @@
 -- One part of a body after another.
-use Rattle.std.proofs.Common.{
-  ◌≡◌,
-  ℕ,
-  zero,
-  suc,
-  List,
-  [],
-  ◌∷◌,
-  ◌++◌,
-  map,
-  length,
-  Option,
-  Some,
-  None,
-  refl,
-  ap,
-  sym,
-  subst,
-  ◌∙◌,
-  append_assoc,
-}
+use Rattle.std.proofs.Common.{◌≡◌, ℕ, zero, suc, List, [], ◌∷◌, ◌++◌, map, length, Option, Some, None, refl, ap, sym, subst, ◌∙◌, append_assoc}
 use Rattle.std.specs.Prelude.{All, Bool, true, false, ◌&&◌, option_map, slice_get}
 use Rattle.std.specs.List.{cons_option, list_all}
 use Rattle.std.proofs.lemmas.List.{append-nil}
 use Rattle.std.proofs.lemmas.List.Elements.{All-head, All-tail}
 use Rattle.std.proofs.lemmas.Option.{same_Some}
+use Rattle.std.proofs.lemmas.Bool.{and_from}
+use Rattle.bl_tree.proofs.Basics.{false_not_true, first_empty, get_in_front, second_empty}
 use Rattle.bl_tree.specs.declared.rule.Failure.{Failure}
 use Rattle.bl_tree.specs.declared.tree.Ty.{Ty}
 use Rattle.bl_tree.specs.Reduce.{all_of}
 use Rattle.bl_tree.specs.Typing.{TypingContext, is_inhabited}
 use Rattle.bl_eval.proofs.OperatorFits.{some_found}
-use Rattle.bl_eval.proofs.PassLemmas.{both, get_front}
 use Rattle.bl_names_tree.specs.declared.expr.NamedExpr.{NamedExpr}
 use Rattle.bl_names_tree.specs.Placed.{DeclaredBefore, in_turn}
 use Rattle.bl_types.specs.declared.environment.Environment.{Environment}
@@ -39,7 +20,6 @@ use Rattle.bl_types.specs.Statements.{Block, Walked, in_order, walked}
 use Rattle.bl_types.specs.Units.{var_of, var_typed, vars_of}
 use Rattle.bl_types_laws.specs.Standing.{Around, BlockPassed, Grown, Known, PartPassed, VariableKnown, VariablesThere}
 use Rattle.bl_types_laws.specs.Within.{EnvironmentWithin, calls_functions, has_parameters, known_in}
-use Rattle.bl_types_laws.proofs.Forms.{nil_left, nil_right}
 
 pub within_of : (env : Environment) (site : TypingContext) → Around env site → Known env → VariablesThere env site → EnvironmentWithin env site
 within_of env site around known there = record {
@@ -97,7 +77,7 @@ grown_around before after site grown around = record {
 
 pub grown_there : (before after : Environment) (site : TypingContext) → Grown before after → VariablesThere after site → VariablesThere before site
 grown_there before after site grown there k known is =
-    there k known (ap (λ vars. slice_get vars k) grown.has_vars ∙ get_front before.vars grown.vars k known is)
+    there k known (ap (λ vars. slice_get vars k) grown.has_vars ∙ get_in_front before.vars grown.vars k known is)
 
 -- ---- a site of what is known
 
@@ -152,9 +132,6 @@ must_of : (must : Bool) → (must && true) ≡ true → must ≡ true
 must_of true is = refl
 must_of false is = absurd (cc)
 
-pub not_must : false ≡ true → ⊥
-not_must is = absurd (cc)
-
 abbrev pub WalkFits : {A : Type 0} → Bool → TypingContext → (A → Bool) → (Environment → Walked A) → (DeclaredBefore → Option DeclaredBefore) → Type 0
 WalkFits must site good walk step =
     (env : Environment) → Around env site → Known env → (counts : DeclaredBefore) → step (known_in env) ≡ Some counts → (walk env).failures ≡ [] →
@@ -167,7 +144,7 @@ module _ {X A : Type 0} (must : Bool) (site : TypingContext) (good : A → Bool)
   good_first : (made : Option A) (rest : List A) → ((a : A) → made ≡ Some a → good a ≡ true) → all_of (map good rest) ≡ true →
       all_of (map good (cons_option made rest)) ≡ true
   good_first None rest one more = more
-  good_first (Some a) rest one more = both (good a) (all_of (map good rest)) (one a refl) more
+  good_first (Some a) rest one more = and_from (good a) (all_of (map good rest)) (one a refl) more
 
   inhabited_first : (made : Option A) (rest : List A) (a : A) → made ≡ Some a → is_inhabited (cons_option made rest) ≡ true
   inhabited_first made rest a is = ap (λ made. is_inhabited (cons_option made rest)) is
@@ -185,9 +162,9 @@ module _ {X A : Type 0} (must : Bool) (site : TypingContext) (good : A → Bool)
   block_fits (x ∷ xs) each env around known counts is none =
       let further : Block A = in_order (map walk xs) (walk x env).env in
       let found = some_found (in_turn (map step xs)) (step x (known_in env)) counts is in
-      let one = All-head Each x xs each env around known found.0 found.1 (nil_left (walk x env).failures further.failures none) in
+      let one = All-head Each x xs each env around known found.0 found.1 (first_empty (walk x env).failures further.failures none) in
       let more = block_fits xs (All-tail Each x xs each) (walk x env).env (grown_around env (walk x env).env site one.grown around) one.known counts
-      (ap (in_turn (map step xs)) one.counts_are ∙ found.2) (nil_right (walk x env).failures further.failures none) in
+      (ap (in_turn (map step xs)) one.counts_are ∙ found.2) (second_empty (walk x env).failures further.failures none) in
       record {
         grown = grown_further env (walk x env).env further.env one.grown more.grown;
         known = more.known;
@@ -209,5 +186,5 @@ passed_still site good env counts made failures around known is fit = record {
   known = known;
   counts_are = is;
   is_good = λ there. fit (within_of env site around known there);
-  is_made = λ must there. absurd (not_must must);
+  is_made = λ must there. absurd (false_not_true must);
 }

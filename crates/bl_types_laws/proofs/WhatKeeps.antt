@@ -2,6 +2,7 @@
 use Rattle.std.proofs.Common.{◌≡◌, ℕ, true, false, List, [], ◌++◌, map, ap, ◌∙◌}
 use Rattle.std.specs.Prelude.{slice_get}
 use Rattle.std.specs.List.{list_all}
+use Rattle.bl_tree.proofs.Basics.{first_empty, second_empty}
 use Rattle.bl_tree.specs.declared.tree.StructDef.{StructDef}
 use Rattle.bl_tree.specs.declared.tree.Unit.{Unit as UnitDef}
 use Rattle.bl_tree.specs.Program.{IsWellTyped, all_names, is_entry, structs_stand_from, units_stand_after}
@@ -20,7 +21,6 @@ use Rattle.bl_types.specs.Rules.{Passes as TypesPass}
 use Rattle.bl_types.specs.Units.{entries, entry_among}
 use Rattle.bl_types_laws.specs.Standing.{are_shallow}
 use Rattle.bl_types_laws.proofs.Entry.{entry_is_driven}
-use Rattle.bl_types_laws.proofs.Forms.{nil_left, nil_right}
 use Rattle.bl_types_laws.proofs.Occurrences.{places_decide, runs_decide, unit_starts}
 use Rattle.bl_types_laws.proofs.Premises.{ApartStays, ConstantsSuit, ShallowStays, Shapes, Suits, UnitsSuit}
 use Rattle.bl_types_laws.proofs.Reached.{Made}
@@ -34,7 +34,7 @@ program_made : (items : List RawItem) (bytes : ℕ) → Suits (named_program ite
 program_made items bytes suits shapes keeps passes types =
     let named = named_program items bytes in
     turns named suits shapes items file_scope fresh (at_start items bytes passes) keeps.structs keeps.units
-    (nil_left (after_program named).failures (entries false (text_end named) named.units) (no_failure named types))
+    (first_empty (after_program named).failures (entries false (text_end named) named.units) (no_failure named types))
 
 same_names : (items : List RawItem) (bytes : ℕ) → Made file_scope items fresh (after_program (named_program items bytes)).env →
     all_names (typed_program (named_program items bytes)).structs (typed_program (named_program items bytes)).units ≡ named_names (named_program items bytes)
@@ -54,7 +54,7 @@ what_keeps items bytes suits shapes keeps passes types =
     let final : Environment = (after_program named).env in
     let in_order : ascends (joined (map unit_starts final.units)) ≡ true =
     ap (λ units. ascends (joined (map unit_starts units))) made.units ∙ picked_ascends made.starts keeps.in_order in
-    let driven = entry_is_driven (text_end named) named.units (nil_right (after_program named).failures (entries false (text_end named) named.units)
+    let driven = entry_is_driven (text_end named) named.units (second_empty (after_program named).failures (entries false (text_end named) named.units)
     (no_failure named types)) in
     record {
       named = ap (list_all is_name) (same_names items bytes made) ∙ keeps.names;

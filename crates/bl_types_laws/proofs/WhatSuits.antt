@@ -1,9 +1,8 @@
 -- What naming a program gives where no rule on names fails.
-use Rattle.std.proofs.Common.{◌≡◌, ℕ, zero, suc, Bool, true, List, [], ◌∷◌, map, length, take, Some, refl, sym, ap, ◌∙◌, append-nil}
+use Rattle.std.proofs.Common.{◌≡◌, ℕ, zero, suc, true, List, [], ◌∷◌, map, length, take, Some, refl, sym, ap, ◌∙◌}
 use Rattle.std.specs.Prelude.{slice_get}
-use Rattle.std.specs.List.{list_all}
 use Rattle.std.proofs.lemmas.Bool.{ltb-true}
-use Rattle.std.proofs.lemmas.Option.{same_Some}
+use Rattle.bl_tree.proofs.Basics.{all_at, get_taken}
 use Rattle.bl_tree.specs.declared.tree.Unit.{Unit as UnitDef}
 use Rattle.bl_tree.specs.declared.tree.UnitKind.{UnitKind}
 use Rattle.bl_tree.specs.Typing.{is_function}
@@ -16,17 +15,13 @@ use Rattle.bl_names_scopes.specs.Rules.{Passes}
 use Rattle.bl_names_scopes.specs.Scopes.{file_scope}
 use Rattle.bl_names.specs.Named.{named_program}
 use Rattle.bl_names.proofs.FitLemmas.{program_fits}
-use Rattle.bl_names.proofs.PlacedStmt.{Within}
-use Rattle.bl_eval.proofs.PassLemmas.{and_left, and_right, get_take}
 use Rattle.bl_types_laws.specs.Standing.{unit_named}
 use Rattle.bl_types_laws.specs.Within.{calls_functions}
 use Rattle.bl_types_laws.proofs.ItemNames.{ItemsSuit, items_suit, named_at, stand_ins, stand_ins_are}
 use Rattle.bl_types_laws.proofs.Narrow.{Narrows, calls_narrow}
 use Rattle.bl_types_laws.proofs.Suits.{constant_calls}
 use Rattle.bl_types_laws.proofs.Told.{kind_at, kinds_of}
-
-whole : {A : Type 0} (xs : List A) → Within xs 0 xs
-whole xs = record { before = []; rest = []; there = sym (append-nil xs); is_at = refl }
+use Rattle.bl_names.proofs.PlacedProgram.{whole}
 
 program_suits : (items : List RawItem) (bytes : ℕ) → RawIsWellFormed items → Passes items →
     ItemsSuit (named_program items bytes).constants [] (named_program items bytes).units (named_program items bytes).constants
@@ -52,11 +47,6 @@ units_are_named items bytes keeps passes k unit there earlier kinds =
 
 -- ---- constants
 
-member : {A : Type 0} (test : A → Bool) (xs : List A) (k : ℕ) (x : A) → list_all test xs ≡ true → slice_get xs k ≡ Some x → test x ≡ true
-member test [] k x all there = absurd (cc)
-member test (y ∷ xs) zero x all there = ap test (sym (same_Some y x there)) ∙ and_left (test y) (list_all test xs) all
-member test (y ∷ xs) (suc k) x all there = member test xs k x (and_right (test y) (list_all test xs) all) there
-
 map_take : {A B : Type 0} (f : A → B) (n : ℕ) (xs : List A) → map f (take n xs) ≡ take n (map f xs)
 map_take f zero xs = refl
 map_take f (suc n) [] = refl
@@ -68,7 +58,7 @@ narrows : (all : List UnitDef) (kinds : List UnitKind) (earlier : List UnitDef) 
 narrows all kinds earlier n is first f less there =
     kind_at is_function earlier f
     ∙ ap (λ units. holds_of is_function (slice_get units f)) first
-    ∙ ap (holds_of is_function) (get_take kinds n f (ltb-true f n less))
+    ∙ ap (holds_of is_function) (get_taken kinds n f (ltb-true f n less))
     ∙ ap (λ units. holds_of is_function (slice_get units f)) (sym is)
     ∙ sym (kind_at is_function all f) ∙ there
 
@@ -85,4 +75,4 @@ constants_call_functions items bytes keeps passes k constant there earlier count
     calls_narrow all earlier counts
     (narrows all all_kinds earlier counts.units (stand_ins_are all_kinds)
     (kinds ∙ map_take (λ (u : NamedUnit). u.kind) (length earlier) named.units ∙ ap (λ n. take n all_kinds) (sym known)))
-    constant.value placed (member (constant_calls all) named.constants k constant calls there)
+    constant.value placed (all_at (constant_calls all) named.constants k constant calls there)

@@ -24,50 +24,13 @@ use Rattle.bl_types.specs.declared.environment.Environment.{Environment}
 use Rattle.bl_types.specs.declared.environment.Variable.{Variable}
 use Rattle.bl_types.specs.declared.form.Found.{Found}
 use Rattle.bl_types.specs.declared.form.Found.TheVariants as found
-use Rattle.bl_types.specs.Expressions.{
-  Targeted,
-  all_failures,
-  all_made,
-  but_first,
-  first_type,
-  fitted,
-  judged,
-  params_of,
-  stepped,
-  to_field,
-  type_of_variable,
-}
+use Rattle.bl_types.specs.Expressions.{Targeted, all_failures, all_made, but_first, first_type, fitted, judged, params_of, stepped, to_field, type_of_variable}
 use Rattle.bl_types.specs.Failures.{fails_at, unless}
 use Rattle.bl_types.specs.Settled.{Settled}
-use Rattle.bl_types.specs.Statements.{
-  Lent,
-  RunTarget,
-  all_lent,
-  arguments,
-  arguments_from,
-  counted,
-  has_result,
-  immutable,
-  immutable_variable,
-  lent,
-  lent_as,
-  no_result,
-  outputs_wanted,
-  paths_failures,
-  paths_made,
-  result_type,
-  run_target,
-  targeted_path,
-}
+use Rattle.bl_types.specs.Statements.{Lent, RunTarget, all_lent, arguments, arguments_from, counted, has_result, immutable, immutable_variable, lent, lent_as}
+use Rattle.bl_types.specs.Statements.{no_result, outputs_wanted, paths_failures, paths_made, result_type, run_target, targeted_path}
 use Rattle.bl_types_laws_places.specs.Agree.{EnvironmentsAgree, UnitHead, head_of_unit, placed_failures, placed_variable, unplaced}
-use Rattle.bl_types_laws_places.specs.Judgements.{
-  placed_arguments,
-  placed_found,
-  placed_lent,
-  placed_run_target,
-  placed_settled,
-  placed_targeted,
-}
+use Rattle.bl_types_laws_places.specs.Judgements.{placed_arguments, placed_found, placed_lent, placed_run_target, placed_settled, placed_targeted}
 use Rattle.bl_types_laws_places.proofs.Calls.{failures_placed, made_placed}
 use Rattle.bl_types_laws_places.proofs.Environments.{by_head, callee_same, type_same, variable_same}
 use Rattle.bl_types_laws_places.proofs.Exprs.{inputs_agree}

@@ -16,23 +16,8 @@ use Rattle.bl_tree.specs.Types.{scalar}
 use Rattle.bl_tree_laws_places.specs.Placed.{placed_expr, placed_var}
 use Rattle.bl_types.specs.declared.environment.Variable.{Variable}
 use Rattle.bl_types.specs.declared.form.Form.TheVariants as form
-use Rattle.bl_types.specs.Expressions.{
-  Judged,
-  all_failures,
-  all_made,
-  but_first,
-  call_form,
-  call_formed,
-  first_type,
-  fitted,
-  in_context,
-  miscounted,
-  misnamed,
-  params_of,
-  previous_fits,
-  previous_formed,
-  previous_typed,
-}
+use Rattle.bl_types.specs.Expressions.{Judged, all_failures, all_made, but_first, call_form, call_formed, first_type, fitted, in_context, miscounted, misnamed}
+use Rattle.bl_types.specs.Expressions.{params_of, previous_fits, previous_formed, previous_typed}
 use Rattle.bl_types.specs.Failures.{unless}
 use Rattle.bl_types.specs.Settled.{Settled}
 use Rattle.bl_types_laws_places.specs.Agree.{UnitHead, head_of_unit, placed_failures, placed_variable, unplaced}

@@ -1,35 +1,11 @@
 -- What one text declares in environments that agree.
-use Rattle.std.proofs.Common.{
-  ◌≡◌,
-  inr,
-  ⊎_elim,
-  ℕ,
-  zero,
-  suc,
-  ◌+◌,
-  ◌<◌,
-  ◌≤◌,
-  Bool,
-  true,
-  false,
-  List,
-  [],
-  ◌∷◌,
-  ◌++◌,
-  map,
-  length,
-  refl,
-  ap,
-  ap₂,
-  subst,
-  sym,
-  ◌∙◌,
-  arith,
-}
+use Rattle.std.proofs.Common.{◌≡◌, inr, ⊎_elim, ℕ, ◌+◌, ◌<◌, ◌≤◌, Bool, true, false, List, [], ◌∷◌, ◌++◌, map, length, refl, ap, ap₂, subst, sym}
+use Rattle.std.proofs.Common.{◌∙◌, arith}
 use Rattle.std.specs.Prelude.{Option, Some, None, if◌then◌else◌, is_some, option_and_then, option_map, slice_get}
 use Rattle.std.proofs.lemmas.Bool.{cases_lt}
 use Rattle.std.proofs.lemmas.List.{length-append, map-append}
 use Rattle.std.proofs.lemmas.Option.{slice_get_within}
+use Rattle.bl_tree.proofs.Basics.{get_front, get_last, none_within}
 use Rattle.bl_tree.specs.declared.place.Place.{Place}
 use Rattle.bl_tree.specs.declared.rule.Failure.{Failure}
 use Rattle.bl_tree.specs.declared.rule.Rule.TheVariants as rule
@@ -50,32 +26,9 @@ use Rattle.bl_types.specs.declared.environment.Environment.{Environment}
 use Rattle.bl_types.specs.declared.form.Form.{Form}
 use Rattle.bl_types.specs.declared.form.Form.TheVariants as form
 use Rattle.bl_types.specs.declared.form.Valued.{Valued}
-use Rattle.bl_types.specs.Declarations.{
-  Declaring,
-  Initial,
-  after_constant,
-  after_parameter,
-  after_parameters,
-  after_struct,
-  after_variable,
-  and_then,
-  closed_initial,
-  constant_failures,
-  constant_of,
-  expr_of_form,
-  field_lengths,
-  field_of,
-  initial,
-  is_parameter,
-  not_scalar,
-  optional_lengths,
-  struct_of,
-  type_of_form,
-  typed_initial,
-  unchanged,
-  with_constant,
-  with_variable,
-}
+use Rattle.bl_types.specs.Declarations.{Declaring, Initial, after_constant, after_parameter, after_parameters, after_struct, after_variable, and_then}
+use Rattle.bl_types.specs.Declarations.{closed_initial, constant_failures, constant_of, expr_of_form, field_lengths, field_of, initial, is_parameter}
+use Rattle.bl_types.specs.Declarations.{not_scalar, optional_lengths, struct_of, type_of_form, typed_initial, unchanged, with_constant, with_variable}
 use Rattle.bl_types.specs.Expressions.{Formed, Judged, closed_form, in_context, judged}
 use Rattle.bl_types.specs.Folded.{not_constant, number_or_zero}
 use Rattle.bl_types.specs.Settled.{Settled}
@@ -91,24 +44,6 @@ use Rattle.bl_types_laws_places.proofs.Writing.{lengths_agree, written_agrees}
 
 -- ---- lists with one element more at their end
 
-get_before : {A : Type 0} (xs ys : List A) (k : ℕ) → k < length xs → slice_get (xs ++ ys) k ≡ slice_get xs k
-get_before [] ys k less = absurd (omega (arith, less))
-get_before (x ∷ xs) ys zero less = refl
-get_before (x ∷ xs) ys (suc k) less =
-    let below : k < length xs = omega (arith, less) in
-    get_before xs ys k below
-
-get_end : {A : Type 0} (xs : List A) (x : A) → slice_get (xs ++ x ∷ []) (length xs) ≡ Some x
-get_end [] x = refl
-get_end (y ∷ xs) x = get_end xs x
-
-no_element : {A : Type 0} (xs : List A) (k : ℕ) → k < length xs → slice_get xs k ≡ None → ⊥
-no_element [] k less is = absurd (omega (arith, less))
-no_element (x ∷ xs) zero less is = absurd cc
-no_element (x ∷ xs) (suc k) less is =
-    let below : k < length xs = omega (arith, less) in
-    no_element xs k below is
-
 module _ (constant : ℕ → ℕ) (near far : List Constant) (same : (k : ℕ) → slice_get far (constant k) ≡ slice_get near k)
     (next : (j : ℕ) → constant (length near + j) ≡ length far + j) (one : Constant) where
   next_then : (j : ℕ) → constant (length (near ++ one ∷ []) + j) ≡ length (far ++ one ∷ []) + j
@@ -121,11 +56,11 @@ module _ (constant : ℕ → ℕ) (near far : List Constant) (same : (k : ℕ) �
 
   known_before : (k : ℕ) → k < length near → slice_get (far ++ one ∷ []) (constant k) ≡ slice_get (near ++ one ∷ []) k
   known_before k less =
-      get_before far (one ∷ []) (constant k) (within (slice_get near k) refl) ∙ same k ∙ sym (get_before near (one ∷ []) k less)
+      get_front far (one ∷ []) (constant k) (within (slice_get near k) refl) ∙ same k ∙ sym (get_front near (one ∷ []) k less)
     where
       within : (found : Option Constant) → slice_get near k ≡ found → constant k < length far
       within (Some x) is = slice_get_within far (constant k) x (same k ∙ is)
-      within None is = absurd (no_element near k less is)
+      within None is = absurd (none_within near k less is)
 
   known_then : (k : ℕ) → k < length (near ++ one ∷ []) → slice_get (far ++ one ∷ []) (constant k) ≡ slice_get (near ++ one ∷ []) k
   known_then k less = ⊎_elim (known_before k) last (cases_lt k (length near))
@@ -137,7 +72,7 @@ module _ (constant : ℕ → ℕ) (near far : List Constant) (same : (k : ℕ) �
           let at_end : length far + 0 ≡ length far = omega arith in
           let is_end : length near ≡ k = omega (arith, is_last) in
           ap (slice_get (far ++ one ∷ [])) (ap constant is_last ∙ next 0 ∙ at_end)
-          ∙ get_end far one ∙ sym (get_end near one) ∙ ap (slice_get (near ++ one ∷ [])) is_end
+          ∙ get_last far one ∙ sym (get_last near one) ∙ ap (slice_get (near ++ one ∷ [])) is_end
 
   -- constants correspond with one more on both sides
   pub one_more : (k : ℕ) → slice_get (far ++ one ∷ []) (constant k) ≡ slice_get (near ++ one ∷ []) k

@@ -11,39 +11,15 @@ use Rattle.bl_tree_laws_places.proofs.Lists.{map-twice}
 use Rattle.bl_names_tree.specs.declared.expr.NamedExpr.{NamedExpr, fold-roll-NamedExpr}
 use Rattle.bl_names_tree.specs.declared.expr.NamedExprKind.{NamedExprKind, fold-NamedExprKind, fold-roll-NamedExprKind, map-NamedExprKind}
 use Rattle.bl_names_tree.specs.declared.expr.NamedExprKind.TheOpen.{NamedExprKind-F, NamedPart-F}
-use Rattle.bl_names_tree.specs.declared.expr.NamedPart.{
-  NamedPart,
-  fold-roll-NamedPart,
-  fold_out-NamedPart,
-  map-NamedPart,
-  out-NamedPart,
-  roll-NamedPart,
-}
+use Rattle.bl_names_tree.specs.declared.expr.NamedPart.{NamedPart, fold-roll-NamedPart, fold_out-NamedPart, map-NamedPart, out-NamedPart, roll-NamedPart}
 use Rattle.bl_names_tree.specs.declared.expr.NamedTarget.{NamedTarget, fold-roll-NamedTarget, roll-NamedTarget}
 use Rattle.bl_names_tree.specs.declared.expr.Root.{Root}
 use Rattle.bl_names_laws_places.specs.Renamed.{Renaming, renamed_expr, renamed_root, renamed_target}
 use Rattle.bl_names_laws_places.proofs.Positions.{map-made}
 use Rattle.bl_types.specs.declared.environment.Environment.{Environment}
 use Rattle.bl_types.specs.declared.form.Form.TheVariants as form
-use Rattle.bl_types.specs.Expressions.{
-  Formed,
-  Judged,
-  Stepped,
-  Targeted,
-  fitted,
-  judged,
-  judged_kind,
-  judged_layer,
-  judged_part,
-  judged_target,
-  params_of,
-  previous_formed,
-  reading,
-  step_of,
-  targeted,
-  targeted_from,
-  written_number,
-}
+use Rattle.bl_types.specs.Expressions.{Formed, Judged, Stepped, Targeted, fitted, judged, judged_kind, judged_layer, judged_part, judged_target, params_of}
+use Rattle.bl_types.specs.Expressions.{previous_formed, reading, step_of, targeted, targeted_from, written_number}
 use Rattle.bl_types.specs.Settled.{int32}
 use Rattle.bl_types_laws.proofs.NamedExprInduction.{Cases, EachIndex, OfIndex, expr, induct, induct_target}
 use Rattle.bl_types_laws_places.specs.Agree.{EnvironmentsAgree, placed_failures, placed_variable}

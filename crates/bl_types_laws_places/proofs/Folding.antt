@@ -16,21 +16,8 @@ use Rattle.bl_names_tree.specs.declared.expr.Root.TheVariants as root
 use Rattle.bl_names_laws_places.specs.Renamed.{Renaming, renamed_expr, renamed_root, renamed_target}
 use Rattle.bl_eval.specs.Meaning.{Meaning, PathMeaning, PathPosition, expr_means, kind_means, meaning_of, operand, part_means, path_means}
 use Rattle.bl_types.specs.Failures.{unless}
-use Rattle.bl_types.specs.Folded.{
-  constant_kind,
-  constant_layer,
-  constant_part,
-  constant_target,
-  constant_target_of,
-  folded,
-  is_constant,
-  no_values,
-  not_constant,
-  nowhere,
-  number_in,
-  traps,
-  whole_constant,
-}
+use Rattle.bl_types.specs.Folded.{constant_kind, constant_layer, constant_part, constant_target, constant_target_of, folded, is_constant, no_values}
+use Rattle.bl_types.specs.Folded.{not_constant, nowhere, number_in, traps, whole_constant}
 use Rattle.bl_types_laws.proofs.NamedExprInduction.{Cases, EachIndex, expr, induct}
 use Rattle.bl_types_laws_places.specs.Agree.{placed_failures}
 use Rattle.bl_types_laws_places.proofs.Renames.{Layer, expr_is, expr_place, renamed_layer, stepping, target_is}

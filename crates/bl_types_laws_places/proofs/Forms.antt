@@ -13,49 +13,10 @@ use Rattle.bl_tree.specs.Typing.{cast_type, one_type}
 use Rattle.bl_tree_laws_places.specs.Placed.{placed_expr}
 use Rattle.bl_types.specs.declared.form.Form.{Form}
 use Rattle.bl_types.specs.declared.form.Form.TheVariants.{Failing, Open, Of}
-use Rattle.bl_types.specs.Expressions.{
-  Formed,
-  Judged,
-  after_failures,
-  beside,
-  beside_none,
-  cast,
-  cast_formed,
-  cast_made,
-  cast_settled,
-  closed_form,
-  fails_type,
-  fitting,
-  formed_as,
-  has_type,
-  in_context,
-  of_settled,
-  one_formed,
-  open_two,
-  operands_made,
-  same_or_unfit,
-  settled_two,
-  two_formed,
-  two_of,
-  type_of_two,
-  unwanted,
-  wanted_as,
-}
-use Rattle.bl_types.specs.Settled.{
-  Settled,
-  behind,
-  given,
-  int32,
-  is_logical,
-  keeps_one_open,
-  keeps_two_open,
-  kept,
-  one,
-  settled,
-  settled_if,
-  two,
-  unfit,
-}
+use Rattle.bl_types.specs.Expressions.{Formed, Judged, after_failures, beside, beside_none, cast, cast_formed, cast_made, cast_settled, closed_form, fails_type}
+use Rattle.bl_types.specs.Expressions.{fitting, formed_as, has_type, in_context, of_settled, one_formed, open_two, operands_made, same_or_unfit, settled_two}
+use Rattle.bl_types.specs.Expressions.{two_formed, two_of, type_of_two, unwanted, wanted_as}
+use Rattle.bl_types.specs.Settled.{Settled, behind, given, int32, is_logical, keeps_one_open, keeps_two_open, kept, one, settled, settled_if, two, unfit}
 use Rattle.bl_types_laws_places.specs.Agree.{placed_failures}
 use Rattle.bl_types_laws_places.specs.Judgements.{placed_form, placed_formed, placed_judged, placed_settled}
 use Rattle.bl_types_laws_places.proofs.Settling.{behind_placed, choice_placed, given_placed, settled_if_placed, settled_placed}

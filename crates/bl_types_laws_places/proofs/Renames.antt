@@ -2,47 +2,18 @@
 use Rattle.std.proofs.Common.{◌≡◌, List, map, refl, ap, sym, ◌∙◌}
 use Rattle.bl_tree.specs.declared.place.Place.{Place}
 use Rattle.bl_joined.specs.Trees.{placed_name}
-use Rattle.bl_names_tree.specs.declared.expr.NamedExpr.{
-  NamedExpr,
-  fold-roll-NamedExpr,
-  out-NamedExpr,
-  out-roll-NamedExpr,
-  fold_out-NamedExpr,
-  roll-NamedExpr,
-}
+use Rattle.bl_names_tree.specs.declared.expr.NamedExpr.{NamedExpr, fold-roll-NamedExpr, out-NamedExpr, out-roll-NamedExpr, fold_out-NamedExpr, roll-NamedExpr}
 use Rattle.bl_names_tree.specs.declared.expr.NamedExprKind.{NamedExprKind, fold-NamedExprKind, fold-roll-NamedExprKind, roll-NamedExprKind}
 use Rattle.bl_names_tree.specs.declared.expr.NamedExprKind.TheOpen.{NamedExprKind-F, NamedPart-F}
-use Rattle.bl_names_tree.specs.declared.expr.NamedExprKind.TheVariants.{
-  rolls-Number,
-  rolls-Truth,
-  rolls-Read,
-  rolls-Prev,
-  rolls-One,
-  rolls-Two,
-  rolls-Cast,
-  rolls-Call,
-}
+use Rattle.bl_names_tree.specs.declared.expr.NamedExprKind.TheVariants.{rolls-Number, rolls-Truth, rolls-Read, rolls-Prev, rolls-One, rolls-Two, rolls-Cast}
+use Rattle.bl_names_tree.specs.declared.expr.NamedExprKind.TheVariants.{rolls-Call}
 use Rattle.bl_names_tree.specs.declared.expr.NamedPart.{NamedPart, fold-NamedPart, fold_out-NamedPart, map-NamedPart, out-NamedPart, roll-NamedPart}
 use Rattle.bl_names_tree.specs.declared.expr.NamedPart.TheVariants.{rolls-Field, rolls-Index}
-use Rattle.bl_names_tree.specs.declared.expr.NamedTarget.{
-  NamedTarget,
-  fold-roll-NamedTarget,
-  fold_out-NamedTarget,
-  out-NamedTarget,
-  out-roll-NamedTarget,
-  roll-NamedTarget,
-}
+use Rattle.bl_names_tree.specs.declared.expr.NamedTarget.{NamedTarget, fold-roll-NamedTarget}
+use Rattle.bl_names_tree.specs.declared.expr.NamedTarget.{roll-NamedTarget}
 use Rattle.bl_names_tree.specs.declared.expr.Root.{Root}
-use Rattle.bl_names_laws_places.specs.Renamed.{
-  Renaming,
-  renamed_expr,
-  renamed_expr_layer,
-  renamed_kind,
-  renamed_part,
-  renamed_root,
-  renamed_target,
-  renamed_target_layer,
-}
+use Rattle.bl_names_laws_places.specs.Renamed.{Renaming, renamed_expr, renamed_expr_layer, renamed_kind, renamed_part, renamed_root, renamed_target}
+use Rattle.bl_names_laws_places.specs.Renamed.{renamed_target_layer}
 use Rattle.bl_types_laws.proofs.NamedExprInduction.{expr}
 
 abbrev pub Layer : Type 0
@@ -126,21 +97,3 @@ module _ (by : Renaming) where
 
   pub expr_place : (e : NamedExpr) → (out-NamedExpr (renamed_expr by e)).place ≡ by.place (out-NamedExpr e).place
   expr_place e = ap (λ layer. layer.place) (expr_out e)
-
-  target_out : (target : NamedTarget) → out-NamedTarget (renamed_target by target)
-      ≡ record {
-        place = by.place (out-NamedTarget target).place;
-        root = renamed_root by (out-NamedTarget target).root;
-        parts = map stepping (out-NamedTarget target).parts;
-      }
-  target_out target =
-      ap out-NamedTarget
-      (fold_out-NamedTarget NamedExprKind NamedPart NamedExpr NamedTarget (renamed_kind by) (renamed_part by) (renamed_expr_layer by)
-      (renamed_target_layer by) target)
-      ∙ out-roll-NamedTarget _
-
-  pub target_place : (target : NamedTarget) → (out-NamedTarget (renamed_target by target)).place ≡ by.place (out-NamedTarget target).place
-  target_place target = ap (λ layer. layer.place) (target_out target)
-
-  pub target_root : (target : NamedTarget) → (out-NamedTarget (renamed_target by target)).root ≡ renamed_root by (out-NamedTarget target).root
-  target_root target = ap (λ layer. layer.root) (target_out target)

@@ -17,38 +17,12 @@ use Rattle.bl_tree.specs.Scalar.{in_range, is_whole}
 use Rattle.bl_tree.specs.Types.{scalar_in}
 use Rattle.bl_tree_laws_places.specs.Placed.{placed_expr}
 use Rattle.bl_tree_laws_places.proofs.Exprs.{Cases, induct_expr, said}
-use Rattle.bl_types.specs.Settled.{
-  Settled,
-  behind,
-  given,
-  given_scalar,
-  kept,
-  one,
-  one_made,
-  settled,
-  settled_if,
-  settled_kind,
-  settled_layer,
-  settled_part,
-  settled_path,
-  two,
-  two_made,
-  unfit,
-}
+use Rattle.bl_types.specs.Settled.{Settled, behind, given, given_scalar, kept, one, one_made, settled, settled_if, settled_kind, settled_layer, settled_part}
+use Rattle.bl_types.specs.Settled.{settled_path, two, two_made, unfit}
 use Rattle.bl_types_laws_places.specs.Agree.{placed_failures}
 use Rattle.bl_types_laws_places.specs.Judgements.{placed_settled}
-use Rattle.bl_types_laws_places.proofs.Trees.{
-  Layer,
-  both_placed,
-  chosen,
-  literal_placed,
-  one_placed,
-  place_placed,
-  said_is,
-  said_layer,
-  two_placed,
-  unless_placed,
-}
+use Rattle.bl_types_laws_places.proofs.Trees.{Layer, both_placed, chosen, literal_placed, one_placed, place_placed, said_is, said_layer, two_placed}
+use Rattle.bl_types_laws_places.proofs.Trees.{unless_placed}
 
 -- what is made and what fails, put together
 abbrev settled_of : Option Expr → List Failure → Settled

@@ -25,47 +25,16 @@ use Rattle.bl_types.specs.declared.form.Form.{Form}
 use Rattle.bl_types.specs.declared.form.Form.TheVariants as form
 use Rattle.bl_types.specs.declared.form.Found.{Found}
 use Rattle.bl_types.specs.declared.form.Found.TheVariants as found
-use Rattle.bl_types.specs.Expressions.{
-  FieldAt,
-  Judged,
-  Led,
-  Stepped,
-  Targeted,
-  after_index,
-  as_index,
-  constant_found,
-  element_type,
-  field_found,
-  field_in,
-  no_array,
-  path_found,
-  reading,
-  stepped,
-  targeted_from,
-  to_element,
-  to_field,
-  type_of_constant,
-  type_of_variable,
-  value_of_constant,
-  whole_or_unfit,
-  with_made,
-}
+use Rattle.bl_types.specs.Expressions.{FieldAt, Judged, Led, Stepped, Targeted, after_index, as_index, constant_found, element_type, field_found, field_in}
+use Rattle.bl_types.specs.Expressions.{no_array, path_found, reading, stepped, targeted_from, to_element, to_field, type_of_constant, type_of_variable}
+use Rattle.bl_types.specs.Expressions.{value_of_constant, whole_or_unfit, with_made}
 use Rattle.bl_types.specs.Settled.{Settled, int32, kept, unfit}
 use Rattle.bl_types_laws_places.specs.Agree.{EnvironmentsAgree, placed_failures}
 use Rattle.bl_types_laws_places.specs.Judgements.{placed_form, placed_found, placed_judged, placed_settled, placed_targeted}
 use Rattle.bl_types_laws_places.proofs.Environments.{field_same, type_same}
 use Rattle.bl_types_laws_places.proofs.Settling.{choice_placed, settled_placed}
-use Rattle.bl_types_laws_places.proofs.Trees.{
-  both_placed,
-  field_moved,
-  index_moved,
-  literal_placed,
-  made_first,
-  path_placed,
-  read_placed,
-  type_placed,
-  unless_placed,
-}
+use Rattle.bl_types_laws_places.proofs.Trees.{both_placed, field_moved, index_moved, literal_placed, made_first, path_placed, read_placed, type_placed}
+use Rattle.bl_types_laws_places.proofs.Trees.{unless_placed}
 
 -- where one part leads, with the places in its index mapped
 abbrev pub placed_stepped : (Place → Place) → Stepped → Stepped

@@ -3,23 +3,10 @@ use Rattle.std.proofs.Common.{Some}
 use Rattle.bl_tree.specs.declared.scalar.Scalar.TheVariants.{Bool as OfBool}
 use Rattle.bl_tree.specs.Types.{scalar}
 use Rattle.bl_types_laws_places.specs.Laws.{ArgumentsAgree, DeclarationsAgree, ExpressionsAgree}
-use Rattle.bl_types_laws_places.proofs.Arguments.{
-  arguments_agree as calls_agree,
-  has_result_agrees,
-  immutable_agrees,
-  lent_agrees,
-  path_agrees,
-  run_target_agrees,
-}
-use Rattle.bl_types_laws_places.proofs.Declared.{
-  constant_agrees,
-  context_agrees,
-  initial_agrees,
-  parameters_agree,
-  struct_agrees,
-  variable_agrees,
-  with_variable_agrees,
-}
+use Rattle.bl_types_laws_places.proofs.Arguments.{arguments_agree as calls_agree, has_result_agrees, immutable_agrees, lent_agrees, path_agrees}
+use Rattle.bl_types_laws_places.proofs.Arguments.{run_target_agrees}
+use Rattle.bl_types_laws_places.proofs.Declared.{constant_agrees, context_agrees, initial_agrees, parameters_agree, struct_agrees, variable_agrees}
+use Rattle.bl_types_laws_places.proofs.Declared.{with_variable_agrees}
 use Rattle.bl_types_laws_places.proofs.Environments.{callee_same, variable_same}
 use Rattle.bl_types_laws_places.proofs.Exprs.{judged_agrees, target_agrees}
 use Rattle.bl_types_laws_places.proofs.Writing.{lengths_agree, written_agrees}

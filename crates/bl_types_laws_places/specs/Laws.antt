@@ -2,17 +2,8 @@
 use Rattle.std.specs.Prelude.{◌≡◌, ℕ, List, map, Option, option_map, slice_get}
 use Rattle.bl_tree.specs.declared.place.Place.{Place}
 use Rattle.bl_tree.specs.declared.tree.Ty.{Ty}
-use Rattle.bl_names_laws_places.specs.Renamed.{
-  Renaming,
-  renamed_constant,
-  renamed_expr,
-  renamed_path,
-  renamed_root,
-  renamed_struct,
-  renamed_target,
-  renamed_type,
-  renamed_var,
-}
+use Rattle.bl_names_laws_places.specs.Renamed.{Renaming, renamed_constant, renamed_expr, renamed_path, renamed_root, renamed_struct, renamed_target}
+use Rattle.bl_names_laws_places.specs.Renamed.{renamed_type, renamed_var}
 use Rattle.bl_names_tree.specs.declared.expr.NamedExpr.{NamedExpr}
 use Rattle.bl_names_tree.specs.declared.expr.NamedTarget.{NamedTarget}
 use Rattle.bl_names_tree.specs.declared.expr.Root.{Root}
@@ -27,16 +18,8 @@ use Rattle.bl_types.specs.Expressions.{in_context, judged, targeted}
 use Rattle.bl_types.specs.Statements.{arguments, condition, has_result, immutable, lent, run_target, targeted_path}
 use Rattle.bl_types.specs.Written.{bad_lengths, written_type}
 use Rattle.bl_types_laws_places.specs.Agree.{EnvironmentsAgree, head_of_unit, placed_failures, placed_variable}
-use Rattle.bl_types_laws_places.specs.Judgements.{
-  DeclaringsAgree,
-  placed_arguments,
-  placed_initial,
-  placed_judged,
-  placed_lent,
-  placed_run_target,
-  placed_settled,
-  placed_targeted,
-}
+use Rattle.bl_types_laws_places.specs.Judgements.{DeclaringsAgree, placed_arguments, placed_initial, placed_judged, placed_lent, placed_run_target}
+use Rattle.bl_types_laws_places.specs.Judgements.{placed_settled, placed_targeted}
 
 -- in the one environment each part of an expression is judged as it is in the other, with places mapped
 pub record SameJudgements (by : Renaming) (near far : Environment) : Type 0 where

@@ -22,37 +22,13 @@ use Rattle.bl_names_tree.specs.declared.stmt.NamedArm.{NamedArm, fold-roll-Named
 use Rattle.bl_names_tree.specs.declared.stmt.NamedBranch.{NamedBranch, fold-roll-NamedBranch, roll-NamedBranch}
 use Rattle.bl_names_tree.specs.declared.stmt.NamedStmt.{NamedStmt}
 use Rattle.bl_names_tree.specs.declared.stmt.NamedStmtKind.TheOpen.{NamedStmtKind-F}
-use Rattle.bl_names_tree.specs.Placed.{
-  DeclaredBefore,
-  PlacedStep,
-  constant_placed,
-  expr_placed,
-  holds_of,
-  in_turn,
-  stmt_step,
-  tested,
-  with_constant as constant_counted,
-}
+use Rattle.bl_names_tree.specs.Placed.{DeclaredBefore, PlacedStep, constant_placed, expr_placed, holds_of, in_turn, stmt_step, tested}
+use Rattle.bl_names_tree.specs.Placed.{with_constant as constant_counted}
 use Rattle.bl_names_tree.specs.inner.Placed.{step_of_arm, step_of_branch}
 use Rattle.bl_types.specs.declared.environment.Environment.{Environment}
 use Rattle.bl_types.specs.Settled.{Settled}
-use Rattle.bl_types.specs.Statements.{
-  Block,
-  StatementJudgement,
-  arm_of,
-  arm_walked,
-  branch_walked,
-  condition,
-  in_order,
-  misplaced,
-  stmt_made,
-  under,
-  walked_arm,
-  walked_block,
-  walked_branch,
-  walked_layer,
-  walked_stmt,
-}
+use Rattle.bl_types.specs.Statements.{Block, StatementJudgement, arm_of, arm_walked, branch_walked, condition, in_order, misplaced, stmt_made, under}
+use Rattle.bl_types.specs.Statements.{walked_arm, walked_block, walked_branch, walked_layer, walked_stmt}
 use Rattle.bl_types_laws.specs.Within.{known_in}
 use Rattle.bl_types_laws.proofs.NamedStmtInduction.{Cases, induct, stmt}
 use Rattle.bl_types_laws.proofs.StmtLayers.{Layer, step_by, step_is, walked_by, walked_is}
@@ -60,29 +36,11 @@ use Rattle.std.proofs.lemmas.Option.{same_Some}
 use Rattle.bl_types_laws_places.specs.Agree.{placed_failures}
 use Rattle.bl_types_laws_places.specs.Judgements.{placed_settled}
 use Rattle.bl_types_laws_places.specs.Laws.{ArgumentsAgree, DeclarationsAgree, ExpressionsAgree}
-use Rattle.bl_types_laws_places_units.proofs.Alike.{
-  Alike,
-  BlocksAlike,
-  Inside,
-  SameConstants,
-  WalksAlike,
-  block_alike,
-  both_placed,
-  earlier_below,
-  inside_further,
-}
+use Rattle.bl_types_laws_places_units.proofs.Alike.{Alike, BlocksAlike, Inside, SameConstants, WalksAlike, block_alike, both_placed, earlier_below}
+use Rattle.bl_types_laws_places_units.proofs.Alike.{inside_further}
 use Rattle.bl_types_laws_places_units.proofs.Grows.{arm_grows, block_grows, bodies_grow, branch_grows, stmt_grows}
-use Rattle.bl_types_laws_places_units.proofs.Layers.{
-  assign_layer,
-  await_layer,
-  call_layer,
-  constant_layer,
-  declare_layer,
-  misplaced_placed,
-  one_placed,
-  return_layer,
-  run_layer,
-}
+use Rattle.bl_types_laws_places_units.proofs.Layers.{assign_layer, await_layer, call_layer, constant_layer, declare_layer, misplaced_placed, one_placed}
+use Rattle.bl_types_laws_places_units.proofs.Layers.{return_layer, run_layer}
 use Rattle.bl_types_laws_places_units.proofs.Made as made
 use Rattle.bl_types_laws_places_units.proofs.Renamed as renamed
 use Rattle.bl_types_laws_places_units.proofs.Renamed.{relayered}

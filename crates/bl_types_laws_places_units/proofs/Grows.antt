@@ -1,8 +1,9 @@
 -- What is known after a part of a body: it grows, by as much as is counted.
-use Rattle.std.proofs.Common.{◌≡◌, ℕ, List, [], ◌∷◌, map, length, Option, Some, None, refl, ap, sym, subst, ◌∙◌, append-nil}
+use Rattle.std.proofs.Common.{◌≡◌, ℕ, List, [], ◌∷◌, map, length, Option, Some, None, refl, ap, sym, subst, ◌∙◌}
 use Rattle.std.specs.Prelude.{All, Bool, true, false, ◌&&◌, nat_eq, slice_get, if◌then◌else◌}
 use Rattle.std.proofs.lemmas.List.Elements.{All-head, All-tail}
 use Rattle.std.proofs.lemmas.Option.{same_Some}
+use Rattle.bl_tree.proofs.Basics.{and_second}
 use Rattle.bl_tree.specs.declared.place.Place.{Place}
 use Rattle.bl_tree.specs.declared.scalar.Scalar.{Scalar as ScalarType}
 use Rattle.bl_tree.specs.declared.tree.Arm.{Arm}
@@ -10,7 +11,6 @@ use Rattle.bl_tree.specs.declared.tree.Branch.{Branch}
 use Rattle.bl_tree.specs.declared.tree.Stmt.{Stmt}
 use Rattle.bl_tree.specs.declared.tree.Ty.{Ty}
 use Rattle.bl_eval.proofs.OperatorFits.{some_found, where_holds}
-use Rattle.bl_eval.proofs.PassLemmas.{and_right}
 use Rattle.bl_names_tree.specs.declared.expr.NamedExpr.{NamedExpr}
 use Rattle.bl_names_tree.specs.declared.item.NamedConstant.{NamedConstant}
 use Rattle.bl_names_tree.specs.declared.item.NamedVar.{NamedVar}
@@ -18,46 +18,21 @@ use Rattle.bl_names_tree.specs.declared.stmt.NamedArm.{NamedArm, fold-roll-Named
 use Rattle.bl_names_tree.specs.declared.stmt.NamedBranch.{NamedBranch, fold-roll-NamedBranch, roll-NamedBranch}
 use Rattle.bl_names_tree.specs.declared.stmt.NamedStmt.{NamedStmt}
 use Rattle.bl_names_tree.specs.declared.stmt.NamedStmtKind.TheOpen.{NamedStmtKind-F}
-use Rattle.bl_names_tree.specs.Placed.{
-  DeclaredBefore,
-  PlacedStep,
-  constant_placed,
-  declares_none,
-  expr_placed,
-  holds_if,
-  holds_of,
-  in_turn,
-  stmt_step,
-  tested,
-  var_placed,
-  with_constant as constant_counted,
-  with_variable as variable_counted,
-}
+use Rattle.bl_names_tree.specs.Placed.{DeclaredBefore, PlacedStep, constant_placed, declares_none, expr_placed, holds_if, holds_of, in_turn, stmt_step, tested}
+use Rattle.bl_names_tree.specs.Placed.{var_placed, with_constant as constant_counted, with_variable as variable_counted}
 use Rattle.bl_names_tree.specs.inner.Placed.{step_of_arm, step_of_branch}
 use Rattle.bl_types.specs.declared.environment.Constant.{Constant}
 use Rattle.bl_types.specs.declared.environment.Environment.{Environment}
-use Rattle.bl_types.specs.Declarations.{constant_of, initial, with_constant, with_variable}
-use Rattle.bl_types.specs.Statements.{
-  Block,
-  StatementJudgement,
-  Walked,
-  after_optional_constant,
-  arm_walked,
-  branch_walked,
-  constant_walked,
-  declare,
-  in_order,
-  returned,
-  walked_arm,
-  walked_branch,
-  walked_stmt,
-}
+use Rattle.bl_types.specs.Declarations.{constant_of, initial, with_variable}
+use Rattle.bl_types.specs.Statements.{Block, StatementJudgement, Walked, after_optional_constant, arm_walked, branch_walked, constant_walked, declare, in_order}
+use Rattle.bl_types.specs.Statements.{returned, walked_arm, walked_branch, walked_stmt}
 use Rattle.bl_types_laws.specs.Standing.{Grown}
 use Rattle.bl_types_laws.specs.Within.{known_in}
 use Rattle.bl_types_laws.proofs.Declared.{constant_counts, variable_counts, variable_grown}
 use Rattle.bl_types_laws.proofs.NamedStmtInduction.{Cases, induct, induct_arm, induct_branch, stmt}
 use Rattle.bl_types_laws.proofs.StmtLayers.{Layer, step_by, step_is, walked_by, walked_is}
 use Rattle.bl_types_laws.proofs.Walks.{grown_further, grown_self}
+use Rattle.bl_types_laws.proofs.Declared.{constant_grown}
 
 -- what is known grows; where the positions in a part are in place, it is as much as is counted
 pub record Grows (step : PlacedStep) (before after : Environment) : Type 0 where
@@ -66,18 +41,6 @@ pub record Grows (step : PlacedStep) (before after : Environment) : Type 0 where
 
 abbrev pub Steps : {A : Type 0} → (Environment → Walked A) → PlacedStep → Type 0
 Steps walk step = (env : Environment) → Grows step env (walk env).env
-
-pub constant_grown : (env : Environment) (constant : Constant) → Grown env (with_constant env constant)
-constant_grown env constant = record {
-  vars = [];
-  has_vars = sym (append-nil env.vars);
-  constants = constant ∷ [];
-  has_constants = refl;
-  structs = refl;
-  units = refl;
-  kind = refl;
-  result = refl;
-}
 
 grows_still : (placed : DeclaredBefore → Bool) (env : Environment) → Grows (λ earlier. declares_none (placed earlier) earlier) env env
 grows_still placed env = record {
@@ -117,7 +80,7 @@ module _ (constants : List NamedConstant) (vars : List NamedVar) where
     grown = grown_self env;
     counts_are = λ counts step.
         let holds = where_holds (nat_eq k (length env.vars) && false) (Some (variable_counted (known_in env))) counts step in
-        absurd (let no = and_right (nat_eq k (length env.vars)) false holds.0 in cc);
+        absurd (let no = and_second (nat_eq k (length env.vars)) false holds.0 in cc);
   }
   declare_grows k (Some var) None env = declared_grows k (λ earlier. var_placed earlier var && true) var _ env
   declare_grows k (Some var) (Some e) env = declared_grows k (λ earlier. var_placed earlier var && expr_placed earlier e) var _ env
@@ -129,7 +92,7 @@ module _ (constants : List NamedConstant) (vars : List NamedVar) where
     grown = grown_self env;
     counts_are = λ counts step.
         let holds = where_holds (nat_eq k (length env.constants) && false) (Some (constant_counted (known_in env))) counts step in
-        absurd (let no = and_right (nat_eq k (length env.constants)) false holds.0 in cc);
+        absurd (let no = and_second (nat_eq k (length env.constants)) false holds.0 in cc);
   }
   constant_grows k (Some constant) env =
       let new : Constant = constant_of constant.value (initial env constant.ty constant.value).valued in

@@ -7,29 +7,16 @@ use Rattle.std.proofs.lemmas.Bool.{leb-true}
 use Rattle.std.proofs.lemmas.List.{length-append, length-take-le, take-append-drop}
 use Rattle.std.proofs.lemmas.List.Folds.{list_all-append}
 use Rattle.std.proofs.lemmas.Option.{same_Some}
-use Rattle.bl_tree.specs.declared.tree.Role.{Role}
-use Rattle.bl_tree.specs.declared.tree.Role.TheVariants.{Input, Output, Variable as Var, Fixed}
+use Rattle.std.proofs.lemmas.Bool.{and_from}
+use Rattle.bl_tree.proofs.Basics.{all_weaker, and_first, and_second, none_plus, plus_none}
 use Rattle.bl_tree.specs.declared.tree.Stmt.{Stmt}
 use Rattle.bl_tree.specs.Program.{is_input, is_output}
 use Rattle.bl_eval.proofs.OperatorFits.{some_found, where_holds}
-use Rattle.bl_eval.proofs.PassLemmas.{and_left, and_right, both}
 use Rattle.bl_names_tree.specs.declared.item.NamedConstant.{NamedConstant}
 use Rattle.bl_names_tree.specs.declared.item.NamedUnit.{NamedUnit}
 use Rattle.bl_names_tree.specs.declared.item.NamedVar.{NamedVar}
-use Rattle.bl_names_tree.specs.Placed.{
-  DeclaredBefore,
-  behind_unit,
-  head_placed,
-  holds_if,
-  in_turn,
-  parameters,
-  roles_placed,
-  stmt_step,
-  type_placed,
-  unit_step,
-  var_placed,
-  with_parameters,
-}
+use Rattle.bl_names_tree.specs.Placed.{DeclaredBefore, behind_unit, head_placed, holds_if, in_turn, parameters, roles_placed, stmt_step, type_placed, unit_step}
+use Rattle.bl_names_tree.specs.Placed.{var_placed, with_parameters}
 use Rattle.bl_types.specs.declared.environment.Constant.{Constant}
 use Rattle.bl_types.specs.declared.environment.Environment.{Environment}
 use Rattle.bl_types.specs.Declarations.{after_parameter, after_parameters, after_variable, is_parameter, unchanged}
@@ -39,9 +26,10 @@ use Rattle.bl_types.specs.Written.{written_type}
 use Rattle.bl_types_laws.specs.Standing.{Grown}
 use Rattle.bl_types_laws.specs.Within.{known_in}
 use Rattle.bl_types_laws.proofs.Declared.{variable_grown}
-use Rattle.bl_types_laws.proofs.Heads.{all_weaker, is_local, locals_pass, parameter_is, parameters_append}
+use Rattle.bl_types_laws.proofs.Heads.{is_local, locals_pass, parameter_is, parameters_append}
 use Rattle.bl_types_laws.proofs.Walks.{grown_further, grown_self}
 use Rattle.bl_types_laws_places_units.proofs.Grows.{bodies_grow}
+use Rattle.bl_types_laws.proofs.Heads.{input_role, output_role}
 
 -- ---- parameters
 
@@ -74,35 +62,17 @@ is_taken var = is_parameter var.role
 one_longer : (a b c n : ℕ) → b ≡ a + 1 → c ≡ b + n → c ≡ a + suc n
 one_longer a b c n one two = omega arith
 
-none_longer : (a : ℕ) → a ≡ a + 0
-none_longer a = omega arith
-
 -- each of parameters alone is known
 parameters_counted : (vars : List NamedVar) (env : Environment) → list_all is_taken vars ≡ true →
     length (after_parameters vars env).env.vars ≡ length env.vars + length vars
-parameters_counted [] env all = none_longer (length env.vars)
+parameters_counted [] env all = plus_none (length env.vars)
 parameters_counted (var ∷ rest) env all =
     let first : Environment = (after_parameter var env).env in
     let one : length first.vars ≡ length env.vars + 1 =
-    ap (λ (env : Environment). length env.vars) (parameter_is var env (and_left (is_taken var) (list_all is_taken rest) all))
+    ap (λ (env : Environment). length env.vars) (parameter_is var env (and_first (is_taken var) (list_all is_taken rest) all))
     ∙ length-append env.vars _ in
     one_longer (length env.vars) (length first.vars) (length (after_parameters rest first).env.vars) (length rest) one
-    (parameters_counted rest first (and_right (is_taken var) (list_all is_taken rest) all))
-
-input_role : (role : Role) → is_input role ≡ true → is_parameter role ≡ true
-input_role Input is = refl
-input_role Output is = absurd (cc)
-input_role Var is = absurd (cc)
-input_role Fixed is = absurd (cc)
-
-output_role : (role : Role) → is_output role ≡ true → is_parameter role ≡ true
-output_role Input is = absurd (cc)
-output_role Output is = refl
-output_role Var is = absurd (cc)
-output_role Fixed is = absurd (cc)
-
-from_none : (n : ℕ) → 0 + n ≡ n
-from_none n = omega arith
+    (parameters_counted rest first (and_second (is_taken var) (list_all is_taken rest) all))
 
 -- where variables are ordered by role, so many parameters are known
 all_counted : (unit : NamedUnit) (env : Environment) → roles_placed unit ≡ true →
@@ -114,24 +84,24 @@ all_counted unit env roles =
     let inputs : Bool = list_all (λ (var : NamedVar). is_input var.role) (take unit.inputs vars) in
     let outputs : Bool = list_all (λ (var : NamedVar). is_output var.role) (take unit.outputs (drop unit.inputs vars)) in
     let locals : Bool = list_all is_local (drop n vars) in
-    let behind : (inputs && (outputs && locals)) ≡ true = and_right enough (inputs && (outputs && locals)) roles in
-    let last : (outputs && locals) ≡ true = and_right inputs (outputs && locals) behind in
+    let behind : (inputs && (outputs && locals)) ≡ true = and_second enough (inputs && (outputs && locals)) roles in
+    let last : (outputs && locals) ≡ true = and_second inputs (outputs && locals) behind in
     let taken_inputs : list_all is_taken (take unit.inputs vars) ≡ true =
     all_weaker (λ (var : NamedVar). is_input var.role) is_taken (λ var. input_role var.role) (take unit.inputs vars)
-    (and_left inputs (outputs && locals) behind) in
+    (and_first inputs (outputs && locals) behind) in
     let taken_outputs : list_all is_taken (take unit.outputs (drop unit.inputs vars)) ≡ true =
     all_weaker (λ (var : NamedVar). is_output var.role) is_taken (λ var. output_role var.role) (take unit.outputs (drop unit.inputs vars))
-    (and_left outputs locals last) in
+    (and_first outputs locals last) in
     let all : list_all is_taken (take n vars) ≡ true =
     ap (list_all is_taken) (take-add unit.inputs unit.outputs vars)
     ∙ list_all-append is_taken (take unit.inputs vars) (take unit.outputs (drop unit.inputs vars))
-    ∙ both (list_all is_taken (take unit.inputs vars)) (list_all is_taken (take unit.outputs (drop unit.inputs vars))) taken_inputs taken_outputs in
+    ∙ and_from (list_all is_taken (take unit.inputs vars)) (list_all is_taken (take unit.outputs (drop unit.inputs vars))) taken_inputs taken_outputs in
     let inside : Environment = (after_parameters (take n vars) (entered unit env)).env in
     let is : (after_parameters vars (entered unit env)).env ≡ inside =
     ap (λ vars. (after_parameters vars (entered unit env)).env) (sym (take-append-drop n vars))
-    ∙ parameters_append (take n vars) (drop n vars) (entered unit env) ∙ locals_pass (drop n vars) inside (and_right outputs locals last) in
-    ap (λ (env : Environment). length env.vars) is ∙ parameters_counted (take n vars) (entered unit env) all ∙ from_none (length (take n vars))
-    ∙ length-take-le n vars (leb-true n (length vars) (and_left enough (inputs && (outputs && locals)) roles))
+    ∙ parameters_append (take n vars) (drop n vars) (entered unit env) ∙ locals_pass (drop n vars) inside (and_second outputs locals last) in
+    ap (λ (env : Environment). length env.vars) is ∙ parameters_counted (take n vars) (entered unit env) all ∙ none_plus (length (take n vars))
+    ∙ length-take-le n vars (leb-true n (length vars) (and_first enough (inputs && (outputs && locals)) roles))
 
 -- ---- the head
 
@@ -190,7 +160,7 @@ unit_placed constants unit earlier counts step =
     found.2 in
     record {
       roles =
-          and_left (roles_placed unit)
+          and_first (roles_placed unit)
           (list_all (var_placed earlier) (take (parameters unit) unit.vars) && holds_if (type_placed earlier) unit.result) holds.0;
       inner = found.0;
       body = found.1;

@@ -3,6 +3,7 @@ use Rattle.std.proofs.Common.{◌≡◌, ℕ, ◌+◌, ◌-◌, ◌<◌, ◌≤�
 use Rattle.std.specs.Prelude.{option_and_then, slice_get, if◌then◌else◌}
 use Rattle.std.proofs.lemmas.List.{length-append, length-map, map-append}
 use Rattle.std.proofs.lemmas.Option.{same_Some}
+use Rattle.bl_tree.proofs.Basics.{get_behind}
 use Rattle.bl_tree.specs.declared.place.Place.{Place}
 use Rattle.bl_tree.specs.declared.tree.StructDef.{StructDef}
 use Rattle.bl_tree.specs.declared.tree.Unit.{Unit as UnitDef}
@@ -17,16 +18,8 @@ use Rattle.bl_names_tree.specs.declared.item.NamedField.{NamedField}
 use Rattle.bl_names_tree.specs.declared.item.NamedStruct.{NamedStruct}
 use Rattle.bl_names_tree.specs.declared.item.NamedUnit.{NamedUnit}
 use Rattle.bl_names_tree.specs.declared.named.Named.{Named}
-use Rattle.bl_names_tree.specs.Placed.{
-  DeclaredBefore,
-  constant_placed,
-  holds_of,
-  in_turn,
-  item_step,
-  struct_placed,
-  unit_step,
-  with_constant as constant_counted,
-}
+use Rattle.bl_names_tree.specs.Placed.{DeclaredBefore, constant_placed, holds_of, in_turn, item_step, struct_placed, unit_step}
+use Rattle.bl_names_tree.specs.Placed.{with_constant as constant_counted}
 use Rattle.bl_types.specs.declared.environment.Constant.{Constant}
 use Rattle.bl_types.specs.declared.environment.Environment.{Environment}
 use Rattle.bl_types.specs.Declarations.{Declaring, after_constant, after_struct, field_of, struct_of, unchanged}
@@ -39,7 +32,7 @@ use Rattle.bl_types_laws_places_units.specs.Laws.{ComeNext, ItemsAlike, counts_b
 use Rattle.bl_types_laws_places_units.proofs.Alike.{SameConstants, both_placed}
 use Rattle.bl_types_laws_places_units.proofs.Heads.{unit_known}
 use Rattle.bl_types_laws_places_units.proofs.Known.{Extends, further, item_grows, items_grow}
-use Rattle.bl_types_laws_places_units.proofs.Lists.{get_past, same_list, stands_changed}
+use Rattle.bl_types_laws_places_units.proofs.Lists.{same_list, stands_changed}
 use Rattle.bl_types_laws_places_units.proofs.Units.{unit_alike}
 
 -- ---- constants that are declared are equal
@@ -49,9 +42,9 @@ same_more : (by : Renaming) (near far near_after far_after : Environment) (near_
     far_after.constants ≡ far.constants ++ far_more → far_more ≡ near_more
 same_more by near far near_after far_after near_more far_more before behind one two =
     same_list near_more far_more
-    (λ k. sym (get_past far.constants far_more k) ∙ (λ i. slice_get (sym two i) (sym (before.next k) i))
+    (λ k. sym (get_behind far.constants far_more k) ∙ (λ i. slice_get (sym two i) (sym (before.next k) i))
     ∙ behind.constants (length near.constants + k) ∙ ap (λ xs. slice_get xs (length near.constants + k)) one
-    ∙ get_past near.constants near_more k)
+    ∙ get_behind near.constants near_more k)
 
 -- what items come to, with equal constants where what is known grows
 alike_by : (by : Renaming) (near far : Environment) (one two : Declaring) → EnvironmentsAgree by near far → Extends near one.env →

@@ -13,16 +13,8 @@ use Rattle.bl_names_tree.specs.declared.item.NamedConstant.{NamedConstant}
 use Rattle.bl_names_tree.specs.declared.item.NamedStruct.{NamedStruct}
 use Rattle.bl_names_tree.specs.declared.item.NamedUnit.{NamedUnit}
 use Rattle.bl_names_tree.specs.declared.named.Named.{Named}
-use Rattle.bl_names_tree.specs.Placed.{
-  DeclaredBefore,
-  constant_placed,
-  holds_of,
-  in_turn,
-  item_step,
-  struct_placed,
-  unit_step,
-  with_constant as constant_counted,
-}
+use Rattle.bl_names_tree.specs.Placed.{DeclaredBefore, constant_placed, holds_of, in_turn, item_step, struct_placed, unit_step}
+use Rattle.bl_names_tree.specs.Placed.{with_constant as constant_counted}
 use Rattle.bl_types.specs.declared.environment.Constant.{Constant}
 use Rattle.bl_types.specs.declared.environment.Environment.{Environment}
 use Rattle.bl_types.specs.Declarations.{Declaring, after_constant, after_struct, and_then, constant_of, initial, struct_of}

@@ -3,6 +3,7 @@ use Rattle.std.proofs.Common.{◌≡◌, ℕ, ◌+◌, ◌≤◌, arith, List, [
 use Rattle.std.specs.Prelude.{Bool, true, false, ◌&&◌, nat_eq, option_map, slice_get, if◌then◌else◌}
 use Rattle.std.proofs.lemmas.Bool.{eqb-true}
 use Rattle.std.proofs.lemmas.Option.{slice_get-map}
+use Rattle.bl_tree.proofs.Basics.{and_first, and_second}
 use Rattle.bl_tree.specs.declared.place.Place.{Place}
 use Rattle.bl_tree.specs.declared.rule.Failure.{Failure}
 use Rattle.bl_tree.specs.declared.rule.Rule.TheVariants as rule
@@ -16,20 +17,8 @@ use Rattle.bl_tree.specs.Typing.{is_activity}
 use Rattle.bl_tree_laws_places.specs.Placed.{placed_expr, placed_path}
 use Rattle.bl_tree_laws_places.proofs.Exprs.{path_out}
 use Rattle.bl_tree_laws_places.proofs.Stmts.{acted}
-use Rattle.bl_eval.proofs.PassLemmas.{and_left, and_right}
-use Rattle.bl_names_laws_places.specs.Renamed.{
-  Renaming,
-  renamed_constant,
-  renamed_expr,
-  renamed_expr_layer,
-  renamed_kind,
-  renamed_part,
-  renamed_path,
-  renamed_root,
-  renamed_target,
-  renamed_target_layer,
-  renamed_var,
-}
+use Rattle.bl_names_laws_places.specs.Renamed.{Renaming, renamed_constant, renamed_expr, renamed_expr_layer, renamed_kind, renamed_part, renamed_path}
+use Rattle.bl_names_laws_places.specs.Renamed.{renamed_root, renamed_target, renamed_target_layer, renamed_var}
 use Rattle.bl_names_tree.specs.declared.expr.NamedExpr.{NamedExpr}
 use Rattle.bl_names_tree.specs.declared.expr.NamedExprKind.{NamedExprKind}
 use Rattle.bl_names_tree.specs.declared.expr.NamedPart.{NamedPart, fold-NamedPart}
@@ -45,40 +34,13 @@ use Rattle.bl_types.specs.Declarations.{Initial, after_constant, initial}
 use Rattle.bl_types.specs.Expressions.{Targeted, in_context, judged, targeted}
 use Rattle.bl_types.specs.Failures.{fails_at}
 use Rattle.bl_types.specs.Settled.{Settled}
-use Rattle.bl_types.specs.Statements.{
-  Arguments,
-  RunTarget,
-  after_optional_constant,
-  arguments,
-  assign,
-  assign_made,
-  call_walked,
-  condition,
-  constant_walked,
-  declare,
-  declared_with,
-  has_result,
-  if_complete,
-  immutable,
-  misplaced,
-  returned,
-  run_made,
-  run_target,
-  run_walked,
-  type_found,
-  walked,
-}
+use Rattle.bl_types.specs.Statements.{Arguments, RunTarget, after_optional_constant, arguments, assign, assign_made, call_walked, condition, constant_walked}
+use Rattle.bl_types.specs.Statements.{declare, declared_with, has_result, if_complete, immutable, misplaced, returned, run_made, run_target, run_walked}
+use Rattle.bl_types.specs.Statements.{type_found, walked}
 use Rattle.bl_types_laws.specs.Within.{known_in}
 use Rattle.bl_types_laws_places.specs.Agree.{placed_failures}
 use Rattle.bl_types_laws_places.specs.Judgements.{placed_arguments, placed_found, placed_run_target, placed_settled, placed_targeted}
-use Rattle.bl_types_laws_places.specs.Laws.{
-  ArgumentsAgree,
-  DeclarationsAgree,
-  ExpressionsAgree,
-  SameArguments,
-  SameDeclarations,
-  SameJudgements,
-}
+use Rattle.bl_types_laws_places.specs.Laws.{ArgumentsAgree, DeclarationsAgree, ExpressionsAgree, SameArguments, SameDeclarations, SameJudgements}
 use Rattle.bl_types_laws_places_units.proofs.Alike.{Inside, SameConstants, WalksAlike, both_placed, unless_placed}
 use Rattle.bl_types_laws_places_units.proofs.Made as made
 
@@ -199,10 +161,10 @@ module _ (by : Renaming) (from upto : ℕ) (expressions : ExpressionsAgree) (arg
       (nat_eq k (length near.constants) && holds_of (constant_placed (known_in near)) near_found) ≡ true →
       WalksAlike by same (constant_walked (after_optional_constant near_found near))
       (constant_walked (after_optional_constant (slice_get other (by.constant k)) far))
-  constant_layer k one other there None is less placed = absurd (let no = and_right (nat_eq k (length near.constants)) false placed in cc)
+  constant_layer k one other there None is less placed = absurd (let no = and_second (nat_eq k (length near.constants)) false placed in cc)
   constant_layer k one other there (Some constant) is less placed =
       let at : k ≡ length near.constants =
-      eqb-true k (length near.constants) (and_left (nat_eq k (length near.constants)) (constant_placed (known_in near) constant) placed) in
+      eqb-true k (length near.constants) (and_first (nat_eq k (length near.constants)) (constant_placed (known_in near) constant) placed) in
       subst
       (λ far_found. WalksAlike by same (constant_walked (after_constant constant near)) (constant_walked (after_optional_constant far_found far)))
       (sym (there k constant (subst (λ n. from ≤ n) (sym at) inside.behind) (omega arith) is)) (constant_alike constant)

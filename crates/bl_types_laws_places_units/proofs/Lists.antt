@@ -1,8 +1,9 @@
 -- Elements of lists at positions.
-use Rattle.std.proofs.Common.{◌≡◌, ℕ, zero, suc, ◌+◌, ◌-◌, ◌<◌, ◌≤◌, List, [], ◌∷◌, ◌++◌, map, length, Some, arith, refl, ap, sym, ◌∙◌}
+use Rattle.std.proofs.Common.{◌≡◌, ℕ, suc, ◌+◌, ◌-◌, ◌<◌, ◌≤◌, List, [], ◌∷◌, ◌++◌, map, length, Some, arith, refl, ap, sym, ◌∙◌}
 use Rattle.std.specs.Prelude.{option_map, slice_get}
 use Rattle.std.proofs.lemmas.List.{length-map}
 use Rattle.std.proofs.lemmas.Option.{same_Some, slice_get-map}
+use Rattle.bl_tree.proofs.Basics.{get_behind, get_front}
 use Rattle.bl_names_laws_files.specs.Laws.{StandsFrom}
 
 -- lists with equal elements are equal
@@ -15,25 +16,11 @@ same_list (x ∷ xs) (y ∷ ys) same = λ i. same_Some y x (same 0) i ∷ same_l
 one_on : (n k : ℕ) → suc n + k ≡ suc (n + k)
 one_on n k = omega arith
 
-none_on : (k : ℕ) → 0 + k ≡ k
-none_on k = omega arith
-
--- an element behind others
-pub get_past : {A : Type 0} (before rest : List A) (k : ℕ) → slice_get (before ++ rest) (length before + k) ≡ slice_get rest k
-get_past [] rest k = ap (slice_get rest) (none_on k)
-get_past (x ∷ before) rest k = ap (slice_get (x ∷ (before ++ rest))) (one_on (length before) k) ∙ get_past before rest k
-
--- an element before others
-get_front : {A : Type 0} (part rest : List A) (k : ℕ) → k < length part → slice_get (part ++ rest) k ≡ slice_get part k
-get_front [] rest k less = absurd (omega arith)
-get_front (x ∷ part) rest zero less = refl
-get_front (x ∷ part) rest (suc k) less = get_front part rest k (omega arith)
-
 -- an element of a part of a list
 pub stands_get : {A : Type 0} (xs : List A) (at : ℕ) (part : List A) → StandsFrom xs at part → (k : ℕ) → k < length part →
     slice_get xs (at + k) ≡ slice_get part k
 stands_get xs at part stands k less =
-    (λ i. slice_get (stands.there i) (sym stands.is_at i + k)) ∙ get_past stands.before (part ++ stands.rest) k
+    (λ i. slice_get (stands.there i) (sym stands.is_at i + k)) ∙ get_behind stands.before (part ++ stands.rest) k
     ∙ get_front part stands.rest k less
 
 apart : (at k upto : ℕ) → at ≤ k → k < at + upto → at + (k - at) ≡ k

@@ -9,20 +9,8 @@ use Rattle.bl_tree.specs.declared.tree.Guard.{Guard}
 use Rattle.bl_tree.specs.declared.tree.Path.{Path}
 use Rattle.bl_tree.specs.declared.tree.Stmt.{Stmt, fold-roll-Stmt}
 use Rattle.bl_tree.specs.declared.tree.StmtKind.{StmtKind, fold-roll-StmtKind}
-use Rattle.bl_tree.specs.declared.tree.StmtKind.TheVariants.{
-  rolls-Declare,
-  rolls-Assign,
-  rolls-Call,
-  rolls-Await,
-  rolls-Run,
-  rolls-If,
-  rolls-Cobegin,
-  rolls-When,
-  rolls-Repeat,
-  rolls-Until,
-  rolls-While,
-  rolls-Return,
-}
+use Rattle.bl_tree.specs.declared.tree.StmtKind.TheVariants.{rolls-Declare, rolls-Assign, rolls-Call, rolls-Await, rolls-Run, rolls-If, rolls-Cobegin}
+use Rattle.bl_tree.specs.declared.tree.StmtKind.TheVariants.{rolls-When, rolls-Repeat, rolls-Until, rolls-While, rolls-Return}
 use Rattle.bl_tree.specs.declared.tree.StmtKind.TheVariants as what
 use Rattle.bl_tree_laws_places.specs.Placed.{placed_expr, placed_path, placed_stmt}
 use Rattle.bl_tree_laws_places.proofs.Stmts.{acted, armed, branched}

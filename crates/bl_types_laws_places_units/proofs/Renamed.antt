@@ -8,32 +8,10 @@ use Rattle.bl_names_tree.specs.declared.stmt.NamedBranch.{NamedBranch, fold-roll
 use Rattle.bl_names_tree.specs.declared.stmt.NamedStmt.{NamedStmt, fold-roll-NamedStmt, roll-NamedStmt}
 use Rattle.bl_names_tree.specs.declared.stmt.NamedStmtKind.{NamedStmtKind, fold-NamedStmtKind, fold-roll-NamedStmtKind, roll-NamedStmtKind}
 use Rattle.bl_names_tree.specs.declared.stmt.NamedStmtKind.TheOpen.{NamedStmtKind-F}
-use Rattle.bl_names_tree.specs.declared.stmt.NamedStmtKind.TheVariants.{
-  rolls-Declare,
-  rolls-Const,
-  rolls-Assign,
-  rolls-Call,
-  rolls-Await,
-  rolls-Run,
-  rolls-If,
-  rolls-Cobegin,
-  rolls-When,
-  rolls-Repeat,
-  rolls-Until,
-  rolls-While,
-  rolls-Return,
-}
-use Rattle.bl_names_laws_places.specs.Renamed.{
-  Renaming,
-  renamed_action,
-  renamed_arm,
-  renamed_branch,
-  renamed_expr,
-  renamed_path,
-  renamed_stmt,
-  renamed_stmt_layer,
-  renamed_target,
-}
+use Rattle.bl_names_tree.specs.declared.stmt.NamedStmtKind.TheVariants.{rolls-Declare, rolls-Const, rolls-Assign, rolls-Call, rolls-Await, rolls-Run, rolls-If}
+use Rattle.bl_names_tree.specs.declared.stmt.NamedStmtKind.TheVariants.{rolls-Cobegin, rolls-When, rolls-Repeat, rolls-Until, rolls-While, rolls-Return}
+use Rattle.bl_names_laws_places.specs.Renamed.{Renaming, renamed_action, renamed_arm, renamed_branch, renamed_expr, renamed_path, renamed_stmt}
+use Rattle.bl_names_laws_places.specs.Renamed.{renamed_stmt_layer, renamed_target}
 use Rattle.bl_names_laws_places.proofs.Stmts.{arming, branching}
 use Rattle.bl_types_laws.proofs.NamedStmtInduction.{stmt}
 use Rattle.bl_types_laws.proofs.StmtLayers.{Layer}

@@ -15,40 +15,14 @@ use Rattle.bl_names_tree.specs.declared.item.NamedUnit.{NamedUnit}
 use Rattle.bl_names_tree.specs.declared.stmt.NamedArm.{NamedArm, fold-roll-NamedArm, roll-NamedArm}
 use Rattle.bl_names_tree.specs.declared.stmt.NamedBranch.{NamedBranch, fold-NamedBranch, fold-roll-NamedBranch, roll-NamedBranch}
 use Rattle.bl_names_tree.specs.declared.stmt.NamedStmt.{NamedStmt, fold-roll-NamedStmt, out-roll-NamedStmt}
-use Rattle.bl_names_tree.specs.declared.stmt.NamedStmtKind.{
-  NamedStmtKind,
-  fold-NamedStmtKind,
-  fold-roll-NamedStmtKind,
-  map-NamedStmtKind,
-  out-NamedStmtKind,
-  out-roll-NamedStmtKind,
-  roll-NamedStmtKind,
-}
+use Rattle.bl_names_tree.specs.declared.stmt.NamedStmtKind.{NamedStmtKind, fold-NamedStmtKind, fold-roll-NamedStmtKind, map-NamedStmtKind, out-NamedStmtKind}
+use Rattle.bl_names_tree.specs.declared.stmt.NamedStmtKind.{out-roll-NamedStmtKind, roll-NamedStmtKind}
 use Rattle.bl_names_tree.specs.declared.stmt.NamedStmtKind.TheOpen.{NamedStmtKind-F}
 use Rattle.bl_names_tree.specs.declared.types.NamedType.{NamedType}
 use Rattle.bl_types.specs.Failures.{unless}
-use Rattle.bl_types.specs.Returns.{
-  activity_returns,
-  arm_layer_strays,
-  arm_returns,
-  arm_surely_returns,
-  branch_layer_strays,
-  branch_returns,
-  function_returns,
-  is_return,
-  is_return_kind,
-  kind_returns,
-  kind_strays,
-  layer_returns,
-  layer_strays,
-  return_failures,
-  stray,
-  strays,
-  strays_in,
-  strays_in_arm,
-  strays_in_branch,
-  surely_returns,
-}
+use Rattle.bl_types.specs.Returns.{activity_returns, arm_layer_strays, arm_returns, arm_surely_returns, branch_layer_strays, branch_returns, function_returns}
+use Rattle.bl_types.specs.Returns.{is_return, is_return_kind, kind_returns, kind_strays, layer_returns, layer_strays, return_failures, stray, strays, strays_in}
+use Rattle.bl_types.specs.Returns.{strays_in_arm, strays_in_branch, surely_returns}
 use Rattle.bl_types_laws.proofs.NamedStmtInduction.{Cases, induct, stmt}
 use Rattle.bl_types_laws.proofs.StmtLayers.{Layer}
 use Rattle.bl_types_laws_places.specs.Agree.{placed_failure, placed_failures}

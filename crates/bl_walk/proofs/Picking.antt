@@ -1,28 +1,22 @@
 -- Picked steps are steps, and lists of them go on.
 use Rattle.std.proofs.Common.{◌≡◌, zero, suc, ℕ, true, List, [], ◌∷◌, ◌++◌, refl, subst}
 use Rattle.std.specs.Prelude.{Some, slice_get}
-use Rattle.bl_ctree.specs.Actions.{Action, Acts, Asks, Copies, Effect, Gives, Silent}
+use Rattle.bl_ctree.specs.Actions.{Action}
 use Rattle.bl_ctree.specs.Control.{Control}
 use Rattle.bl_ctree.specs.Instances.{Setting}
-use Rattle.bl_ctree.specs.Laws.{PointsMove, StepsAreListed, can_answer}
+use Rattle.bl_ctree.specs.Laws.{PointsMove, StepsAreListed}
 use Rattle.bl_ctree.specs.Points.{IsMember, here, points, there}
 use Rattle.bl_ctree.specs.Store.{Store}
 use Rattle.bl_ctree.specs.Ticks.{End, Rests, Steps, none, step, traps}
 use Rattle.bl_walk.specs.declared.choice.Choice.{Choice}
 use Rattle.bl_walk.specs.Laws.{PicksAreSteps, PointsStepOrTrap}
 use Rattle.bl_walk.specs.Walks.{Picks, no_step, one_step, trap_step}
+use Rattle.bl_ctree.proofs.Listing.{can_true}
 
 pub among_at : {A : Type 0} (xs : List A) (k : ℕ) (x : A) → slice_get xs k ≡ Some x → IsMember A x xs
 among_at [] k x e = cc
 among_at {A} (y ∷ xs) zero x e = let same : y ≡ x = cc in subst (λ (z : A). IsMember A z (y ∷ xs)) same here
 among_at (y ∷ xs) (suc k) x e = there (among_at xs k x e)
-
-can_true : (effect : Effect) → can_answer effect true ≡ true
-can_true Silent = refl
-can_true (Acts s) = refl
-can_true (Asks e) = refl
-can_true (Copies callee inputs) = refl
-can_true (Gives callee target) = refl
 
 pub step_or_trap : PointsMove → StepsAreListed → PointsStepOrTrap
 step_or_trap moves listed = record {

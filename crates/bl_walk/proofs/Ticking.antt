@@ -20,22 +20,8 @@ use Rattle.bl_ctree_run.specs.Running.{Acted, RunState, action_of, stepped, step
 use Rattle.bl_ctree_run.specs.declared.action.Action.{Action as Told}
 use Rattle.bl_walk.specs.declared.choice.Choice.{Choice}
 use Rattle.bl_walk.specs.Choices.{picked, word_moved}
-use Rattle.bl_walk.specs.inner.Ticks.{
-  Begun,
-  Reacted,
-  Steady,
-  StepsTo,
-  Ticked,
-  Took,
-  WalkBetweenTicks,
-  breaks_off,
-  ends,
-  fails,
-  goes,
-  pauses,
-  rests,
-  traps as tick_traps,
-}
+use Rattle.bl_walk.specs.inner.Ticks.{Begun, Reacted, Steady, StepsTo, Ticked, Took, WalkBetweenTicks, breaks_off, ends, fails, goes, pauses, rests}
+use Rattle.bl_walk.specs.inner.Ticks.{traps as tick_traps}
 use Rattle.bl_walk.specs.Laws.{PicksAreSteps}
 use Rattle.bl_walk.specs.Walks.{IsPicked, PickedTick, Picks, no_step, one_step, places_of, trap_step}
 use Rattle.bl_walk.proofs.Picking.{picks_append}

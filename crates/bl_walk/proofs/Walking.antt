@@ -1,29 +1,6 @@
 -- How ticks lead through all rows, and what walks show.
-use Rattle.std.proofs.Common.{
-  ◌≡◌,
-  ℕ,
-  suc,
-  ◌+◌,
-  ◌<◌,
-  ◌≤◌,
-  ℤ,
-  List,
-  [],
-  ◌∷◌,
-  ◌++◌,
-  length,
-  map,
-  drop,
-  get_or,
-  add-one,
-  drop-cons,
-  refl,
-  sym,
-  ap,
-  ◌∙◌,
-  subst,
-  arith,
-}
+use Rattle.std.proofs.Common.{◌≡◌, ℕ, ◌+◌, ◌<◌, ◌≤◌, ℤ, List, [], ◌∷◌, ◌++◌, length, map, refl, sym, ap, ◌∙◌, subst}
+use Rattle.std.proofs.Common.{arith}
 use Rattle.std.proofs.lemmas.List.{append-nil, append_assoc, length-map, map-append}
 use Rattle.std.specs.Prelude.{Some, None, ◌≢◌}
 use Rattle.bl_tree.specs.declared.place.Place.{Place}
@@ -36,19 +13,8 @@ use Rattle.bl_ctree.specs.Actions.{Action}
 use Rattle.bl_ctree.specs.Control.{Control, Idle}
 use Rattle.bl_ctree.specs.Instances.{Setting, setting_of}
 use Rattle.bl_ctree.specs.Laws.{StillIsUnlisted}
-use Rattle.bl_ctree.specs.Means.{
-  Allows,
-  ShownTrace,
-  ends as allows_end,
-  entry_items,
-  goes_on as allows_more,
-  is_stuck as allows_stuck,
-  nothing_more,
-  row_then,
-  shown_trace,
-  stays_open as allows_none,
-  traps as allows_trap,
-}
+use Rattle.bl_ctree.specs.Means.{Allows, ShownTrace, ends as allows_end, entry_items, goes_on as allows_more, is_stuck as allows_stuck, nothing_more, row_then}
+use Rattle.bl_ctree.specs.Means.{shown_trace, stays_open as allows_none, traps as allows_trap}
 use Rattle.bl_ctree.specs.Reaches.{Bounded, NeverStuck, after_tick, at_first}
 use Rattle.bl_ctree.specs.Store.{Store, first_store, outputs_row}
 use Rattle.bl_ctree.specs.Ticks.{Tick, End}
@@ -274,9 +240,6 @@ appended structs units entry seed rows trace lists after w s choice we se ce who
 }
 
 -- ---- as it is told
-
-pub next_row : {A : Type 0} (rows : List A) (k : ℕ) (row : A) → k < length rows → row ≡ get_or rows k row → drop k rows ≡ row ∷ drop (k + 1) rows
-next_row rows k row low is = rw add-one (drop-cons rows k row low ∙ ap (λ x. x ∷ drop (suc k) rows) (sym is))
 
 module _ (w w' : Setting) (same : w' ≡ w) (choice : Choice) (rows : List (List ℤ)) (s : RunState) (lists : List (List Place)) (now later : Choice)
     (row : List ℤ) (rows2 rows3 : List (List ℤ)) (t u : RunState) (outs outs' : List (List ℤ)) (lists2 lists3 : List (List Place))

@@ -1,25 +1,6 @@
 -- What the control edges of a tick graph tell of each node.
-use Rattle.std.specs.Prelude.{
-  ℕ,
-  nat_eq,
-  Bool,
-  true,
-  false,
-  not,
-  ◌&&◌,
-  List,
-  [],
-  ◌∷◌,
-  Option,
-  Some,
-  None,
-  if◌then◌else◌,
-  length,
-  replicate,
-  slice_get,
-  slice_index_or,
-  slice_set,
-}
+use Rattle.std.specs.Prelude.{ℕ, nat_eq, Bool, true, false, not, ◌&&◌, List, [], ◌∷◌, Option, Some, None, if◌then◌else◌, length, replicate, slice_get}
+use Rattle.std.specs.Prelude.{slice_index_or, slice_set}
 use Rattle.bl_tree.specs.declared.graph.Edge.{Edge}
 use Rattle.bl_tree.specs.declared.graph.Node.{Node}
 use Rattle.bl_tree.specs.declared.graph.NodeKind.{NodeKind}

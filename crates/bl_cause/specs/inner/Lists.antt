@@ -1,25 +1,6 @@
 -- Nodes in lists, and the edges of a graph by the nodes at which they begin or end.
-use Rattle.std.specs.Prelude.{
-  Contains,
-  ◌&&◌,
-  slice_index,
-  ◌≡◌,
-  ℕ,
-  ◌<◌,
-  ◌⊎◌,
-  nat_eq,
-  not,
-  Bool,
-  if◌then◌else◌,
-  List,
-  [],
-  ◌∷◌,
-  All,
-  filter,
-  length,
-  slice_index_or,
-  sum_by,
-}
+use Rattle.std.specs.Prelude.{Contains, ◌&&◌, slice_index, ◌≡◌, ℕ, ◌<◌, ◌⊎◌, nat_eq, not, Bool, if◌then◌else◌, List, [], ◌∷◌, All, filter, length}
+use Rattle.std.specs.Prelude.{slice_index_or, sum_by}
 use Rattle.bl_tree.specs.declared.graph.Edge.{Edge}
 use Rattle.bl_cause.specs.Walks.{ClosedWalk}
 

@@ -1,28 +1,6 @@
 -- The order in which a depth-first search is done with the nodes.
-use Rattle.std.specs.Prelude.{
-  ◌≡◌,
-  ◌+◌,
-  ◌<◌,
-  ◌⊎◌,
-  ℕ,
-  true,
-  false,
-  Option,
-  Some,
-  None,
-  slice_get,
-  Bool,
-  Contains,
-  List,
-  [],
-  ◌∷◌,
-  ◌++◌,
-  length,
-  reverse,
-  slice_index_or,
-  slice_set,
-  ⊤,
-}
+use Rattle.std.specs.Prelude.{◌≡◌, ◌+◌, ◌<◌, ◌⊎◌, ℕ, true, false, Option, Some, None, slice_get, Bool, Contains, List, [], ◌∷◌, ◌++◌, length, reverse}
+use Rattle.std.specs.Prelude.{slice_index_or, slice_set, ⊤}
 use Rattle.bl_tree.specs.declared.graph.Edge.{Edge}
 use Rattle.bl_cause.specs.declared.finishing.Frame.{Frame}
 use Rattle.bl_cause.specs.declared.finishing.Search.{Search}

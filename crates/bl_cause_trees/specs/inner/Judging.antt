@@ -14,7 +14,7 @@ use Rattle.bl_cause.specs.Activities.{AreGraphs, AreOrders, EachTwo}
 use Rattle.bl_cause.specs.inner.Graphs.{GraphsFail}
 use Rattle.bl_cause_trees.specs.declared.activity.Judged.{Judged}
 use Rattle.bl_cause_trees.specs.declared.units.Kept.{Kept}
-use Rattle.bl_cause_trees.specs.Trees.{IsTreeOfUnit}
+use Rattle.bl_cause_trees.specs.Peeled.{IsPeeledUnit}
 
 -- ---- units with other bodies
 
@@ -29,9 +29,9 @@ with_bodies [] bodies = []
 with_bodies (unit ∷ rest) [] = []
 with_bodies (unit ∷ rest) (body ∷ bodies) = with_body unit body ∷ with_bodies rest bodies
 
--- the unit with this body, or as it is, is its tree
-abbrev pub IsTreeBy : UnitDef → Option (List Stmt) → Type 0
-IsTreeBy unit body = IsTreeOfUnit unit (with_body unit body)
+-- the unit with this body, or as it is, is its peeled unit
+abbrev pub IsPeeledBy : UnitDef → Option (List Stmt) → Type 0
+IsPeeledBy unit body = IsPeeledUnit unit (with_body unit body)
 
 -- ---- one body
 
@@ -48,19 +48,19 @@ IsCauseInBody body refusal.NoMemory = ⊤
 
 -- ---- several units
 
--- what is kept of units for which neither rule fails: their trees, with a tick graph and an order for each activity
+-- what is kept of units for which neither rule fails: their peeled bodies, with a tick graph and an order for each activity
 pub record AreKept (units : List UnitDef) (kept : Kept) : Type 0 where
-  pub each_tree : EachTwo IsTreeBy units kept.bodies
+  pub each_peeled : EachTwo IsPeeledBy units kept.bodies
   pub each_graph : AreGraphs (with_bodies units kept.bodies) kept.graphs
   pub each_order : AreOrders kept.graphs kept.orders
-  -- without a peeled body the units are their own trees
+  -- without a peeled body the units stay as they are
   pub own : kept.peels ≡ false → with_bodies units kept.bodies ≡ units
 
 -- what is kept with a function more
 abbrev pub after_function : Kept → Kept
 after_function kept = record kept { bodies = kept.bodies ++ None ∷ [] }
 
--- what is kept with the tree of an activity more
+-- what is kept with one activity more
 abbrev pub after_activity : Kept → Judged → Kept
 after_activity kept judged =
     record {

@@ -15,28 +15,8 @@ use Rattle.bl_tree.specs.Typing.{is_activity}
 use Rattle.bl_effects.specs.declared.marked.Marked.{Marked}
 use Rattle.bl_tree.specs.declared.static_path.Static.{Static}
 use Rattle.bl_tree.specs.Instant.{is_instant_block}
-use Rattle.bl_effects.specs.Rules.{
-  Aliased,
-  BranchLoops,
-  Loops,
-  Parallel,
-  Split,
-  aliases_in,
-  arm_aliases,
-  arm_loops,
-  arm_parallel,
-  branch_aliases,
-  branch_loops,
-  branch_parallel,
-  instant_loops,
-  kind_aliases,
-  kind_loops,
-  kind_parallel,
-  splits_of,
-  stmt_aliases,
-  stmt_loops,
-  stmt_parallel,
-}
+use Rattle.bl_effects.specs.Rules.{Aliased, BranchLoops, Loops, Parallel, Split, aliases_in, arm_aliases, arm_loops, arm_parallel, branch_aliases, branch_loops}
+use Rattle.bl_effects.specs.Rules.{branch_parallel, instant_loops, kind_aliases, kind_loops, kind_parallel, splits_of, stmt_aliases, stmt_loops, stmt_parallel}
 use Rattle.bl_tree.specs.Static.{overlaps, static_of}
 use Rattle.bl_tree.specs.Rules.{first_of, lesser}
 

@@ -1,23 +1,5 @@
 -- What the values of the check stand for.
-use Rattle.std.specs.Prelude.{
-  ℕ,
-  List,
-  map,
-  Bool,
-  true,
-  false,
-  Option,
-  Some,
-  None,
-  option_map,
-  slice_get,
-  drop,
-  length,
-  not,
-  ◌&&◌,
-  nat_le,
-  if◌then◌else◌,
-}
+use Rattle.std.specs.Prelude.{ℕ, List, map, Bool, true, false, Option, Some, None, option_map, slice_get, drop, length, not, ◌&&◌, nat_le, if◌then◌else◌}
 use Rattle.bl_tree.specs.declared.c.CType.{CType}
 use Rattle.bl_tree.specs.declared.c.CType.TheVariants.{Scalar as OfScalar, Struct as OfStruct}
 use Rattle.bl_tree.specs.declared.c.CMember.{CMember}

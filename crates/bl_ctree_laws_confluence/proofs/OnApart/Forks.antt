@@ -1,73 +1,26 @@
 -- Branches of one `cobegin` keep their variables apart.
-use Rattle.std.proofs.Common.{
-  ◌≡◌,
-  inl,
-  inr,
-  ℕ,
-  suc,
-  Bool,
-  true,
-  false,
-  not,
-  ◌&&◌,
-  ◌||◌,
-  List,
-  [],
-  ◌∷◌,
-  ◌++◌,
-  map,
-  get_or,
-  refl,
-  sym,
-  ap,
-  ◌∙◌,
-  subst,
-  eqb-true,
-}
+use Rattle.std.proofs.Common.{◌≡◌, inl, inr, ℕ, suc, Bool, true, false, not, ◌&&◌, ◌||◌, List, [], ◌∷◌, ◌++◌, map, get_or, refl, sym, ap, ◌∙◌, subst, eqb-true}
 use Rattle.std.specs.Prelude.{nat_eq}
 use Rattle.std.specs.List.{list_all, list_any}
 use Rattle.std.proofs.lemmas.List.Elements.{All-head, All-tail}
+use Rattle.std.proofs.lemmas.Bool.{or_left, or_right}
+use Rattle.bl_tree.proofs.Basics.{and_first, and_second}
 use Rattle.bl_tree.specs.declared.place.Place.{Place}
 use Rattle.bl_tree.specs.declared.tree.Arm.{Arm, fold_out-Arm, out-Arm}
 use Rattle.bl_tree.specs.declared.tree.Branch.{Branch, fold_out-Branch, out-Branch}
 use Rattle.bl_tree.specs.declared.tree.Stmt.{Stmt, fold-roll-Stmt}
 use Rattle.bl_tree.specs.declared.tree.StmtKind.{StmtKind, fold-roll-StmtKind}
 use Rattle.bl_tree.specs.declared.tree.StmtKind.TheOpen.{StmtKind-F}
-use Rattle.bl_tree.specs.Apart.{
-  Naming,
-  Roots,
-  all_apart,
-  arm_naming,
-  branch_naming,
-  is_apart,
-  is_foreign,
-  keep_apart,
-  naming_of,
-  stmt_kind_naming,
-  stmt_layer_naming,
-}
+use Rattle.bl_tree.specs.Apart.{Naming, Roots, all_apart, arm_naming, branch_naming, is_apart, is_foreign, keep_apart, naming_of, stmt_kind_naming}
+use Rattle.bl_tree.specs.Apart.{stmt_layer_naming}
 use Rattle.bl_tree.specs.Reduce.{all_of}
 use Rattle.bl_tree.proofs.StmtInduction.{Cases, Each, EachArm, EachBranch, induct, stmt}
 use Rattle.bl_graph_nodes.specs.Laws.{plain_arm, plain_branch}
-use Rattle.bl_graph_nodes.specs.Plain.{
-  Label,
-  Plain,
-  Position,
-  If,
-  block_from,
-  bodies_from,
-  else_at,
-  inside,
-  label_at,
-  never,
-  passed_one,
-  plain_stmt,
-  plain_block,
-}
+use Rattle.bl_graph_nodes.specs.Plain.{Label, Plain, Position, If, block_from, bodies_from, else_at, inside, label_at, never, passed_one, plain_stmt}
+use Rattle.bl_graph_nodes.specs.Plain.{plain_block}
 use Rattle.bl_graph_nodes.proofs.Equations.{plain_statements}
 use Rattle.bl_ctree.specs.Actions.{Effect}
 use Rattle.bl_ctree.specs.Instances.{Setting}
-use Rattle.bl_ctree_laws.proofs.Tests.{and_first, and_second, or_left, or_right}
 use Rattle.bl_ctree_laws_confluence.specs.Apart.Forks.{BranchesKeepApart, EachFork, EachForkIn, EachForkInEach, Foreign, KeepApart}
 use Rattle.bl_ctree_laws_confluence.specs.Apart.Named.{OneOf, effect_declares, effect_roots}
 use Rattle.bl_ctree_laws_confluence.specs.Apart.Owned.{HasEffect, SomeIn, SomeInEach}

@@ -1,28 +1,9 @@
 -- Bodies name what their statements do.
-use Rattle.std.proofs.Common.{
-  ◌≡◌,
-  ◌⊎◌,
-  inl,
-  inr,
-  ℕ,
-  suc,
-  Bool,
-  true,
-  false,
-  ◌||◌,
-  List,
-  [],
-  ◌∷◌,
-  ◌++◌,
-  map,
-  get_or,
-  refl,
-  sym,
-  subst,
-}
+use Rattle.std.proofs.Common.{◌≡◌, ◌⊎◌, inl, inr, ℕ, suc, Bool, true, false, ◌||◌, List, [], ◌∷◌, ◌++◌, map, get_or, refl, sym, subst}
 use Rattle.std.specs.Prelude.{nat_eq}
 use Rattle.std.specs.List.{list_any}
 use Rattle.std.proofs.lemmas.List.Elements.{All-head, All-tail}
+use Rattle.std.proofs.lemmas.Bool.{or_right}
 use Rattle.bl_tree.specs.declared.place.Place.{Place}
 use Rattle.bl_tree.specs.declared.tree.Arm.{Arm, fold-Arm, fold_out-Arm, out-Arm}
 use Rattle.bl_tree.specs.declared.tree.Branch.{Branch, fold-Branch, fold_out-Branch, out-Branch}
@@ -31,18 +12,7 @@ use Rattle.bl_tree.specs.declared.tree.ExprKind.{fold-roll-ExprKind}
 use Rattle.bl_tree.specs.declared.tree.Stmt.{Stmt, fold-roll-Stmt}
 use Rattle.bl_tree.specs.declared.tree.StmtKind.{StmtKind, fold-StmtKind, fold-roll-StmtKind, map-StmtKind}
 use Rattle.bl_tree.specs.declared.tree.StmtKind.TheOpen.{StmtKind-F}
-use Rattle.bl_tree.specs.Apart.{
-  Naming,
-  Roots,
-  arm_naming,
-  branch_naming,
-  naming_of,
-  roots_in,
-  roots_in_path,
-  stmt_kind_naming,
-  stmt_layer_naming,
-  target_roots,
-}
+use Rattle.bl_tree.specs.Apart.{Naming, Roots, arm_naming, branch_naming, naming_of, roots_in, roots_in_path, stmt_kind_naming, stmt_layer_naming, target_roots}
 use Rattle.bl_tree.specs.Reduce.{joined}
 use Rattle.bl_tree.proofs.StmtInduction.{Cases, Each, EachArm, EachBranch, induct, stmt}
 use Rattle.bl_graph_nodes.specs.Laws.{plain_arm, plain_branch}
@@ -50,7 +20,6 @@ use Rattle.bl_graph_nodes.specs.Plain.{Label, Plain, Position, Act, If, block_fr
 use Rattle.bl_graph_nodes.proofs.Equations.{plain_statements}
 use Rattle.bl_ctree.specs.Actions.{Effect, Silent, Acts, Asks, Copies, Gives}
 use Rattle.bl_ctree.specs.Instances.{Setting}
-use Rattle.bl_ctree_laws.proofs.Tests.{or_right}
 use Rattle.bl_ctree_laws_confluence.specs.Apart.Named.{BodiesNameWhatTheyDo, OneOf, effect_roots}
 use Rattle.bl_ctree_laws_confluence.specs.Apart.Owned.{HasEffect, SomeIn, SomeInEach, SomeOf}
 
@@ -72,15 +41,6 @@ not_one k e = absurd cc
 -- the variables that these name
 abbrev all_named : List Naming → Roots
 all_named namings = joined (map (λ n. n.named) namings)
-
-pub one_split : (k : ℕ) (xs ys : Roots) → OneOf k (xs ++ ys) → OneOf k xs ⊎ OneOf k ys
-one_split k [] ys e = inr e
-one_split k (x ∷ xs) ys e = by_test (nat_eq k x) (one_split k xs ys) e
-  where
-    by_test : (b : Bool) → (OneOf k (xs ++ ys) → OneOf k xs ⊎ OneOf k ys) → (b || list_any (nat_eq k) (xs ++ ys)) ≡ true →
-        ((b || list_any (nat_eq k) xs) ≡ true) ⊎ OneOf k ys
-    by_test true more e = inl refl
-    by_test false more e = more e
 
 abbrev pub folded_arm : Arm → Naming
 folded_arm = fold-Arm Naming Naming Naming Naming stmt_kind_naming arm_naming branch_naming stmt_layer_naming

@@ -1,37 +1,13 @@
 -- Calls in trees that runs reach stand as their `run` statements do.
-use Rattle.std.proofs.Common.{
-  ◌≡◌,
-  inl,
-  inr,
-  ℕ,
-  zero,
-  suc,
-  ◌<◌,
-  Bool,
-  true,
-  List,
-  [],
-  ◌∷◌,
-  ◌++◌,
-  map,
-  length,
-  get_or,
-  Option,
-  Some,
-  refl,
-  sym,
-  ap,
-  ◌∙◌,
-  subst,
-  arith,
-  eqb-true,
-}
+use Rattle.std.proofs.Common.{◌≡◌, inl, inr, ℕ, ◌<◌, Bool, true, List, [], ◌∷◌, ◌++◌, map, get_or, Option, Some, refl, sym, ap, ◌∙◌, subst}
+use Rattle.std.proofs.Common.{arith, eqb-true}
 use Rattle.std.proofs.Math.Logic.{∥∥₁_elim}
 use mathlib.Core.Bool.{Bool-set}
 use Rattle.std.proofs.lemmas.List.Quantifiers.{position-Some}
 use Rattle.std.specs.Prelude.{Contains, IsTrue, nat_eq, option_and_then, slice_get}
 use Rattle.std.specs.List.{list_any}
 use Rattle.std.proofs.lemmas.List.Elements.{All-head, All-tail}
+use Rattle.bl_tree.proofs.Basics.{and_first, and_second, contains_at, get_within, one_some}
 use Rattle.bl_tree.specs.declared.place.Place.{Place}
 use Rattle.bl_tree.specs.declared.static_path.Static.{Static}
 use Rattle.bl_tree.specs.declared.tree.Arm.{Arm, fold_out-Arm, out-Arm}
@@ -49,77 +25,20 @@ use Rattle.bl_tree.specs.Rules.{same_place}
 use Rattle.bl_tree.specs.Static.{static_of}
 use Rattle.bl_tree.specs.Within.{StandsIn, Within, is_run, is_run_kind, itself, kind_children, place_of}
 use Rattle.bl_tree.proofs.StmtInduction.{Cases, Each, EachArm, EachBranch, induct, stmt}
-use Rattle.bl_effects.proofs.EntryLemmas.{same_place_is}
-use Rattle.bl_graph_nodes.specs.Plain.{
-  Block,
-  Bodies,
-  Plain,
-  Act,
-  Again,
-  Await,
-  Body as BodyOf,
-  Cobegin,
-  Done,
-  If,
-  Last,
-  Repeat,
-  Run as RunOf,
-  Then,
-  Until,
-  When,
-  While,
-  plain_body,
-}
+use Rattle.bl_graph_nodes.specs.Plain.{Block, Bodies, Plain, Act, Again, Await, Body as BodyOf, Cobegin, Done, If, Last, Repeat, Run as RunOf, Then, Until}
+use Rattle.bl_graph_nodes.specs.Plain.{When, While, plain_body}
 use Rattle.bl_ctree.specs.declared.instance.Instance.{Instance}
 use Rattle.bl_ctree.specs.declared.instance.Origin.{Origin}
 use Rattle.bl_ctree.specs.declared.instance.Run.{Run}
-use Rattle.bl_ctree.specs.Instances.{
-  Setting,
-  arm_runs,
-  begins_at,
-  branch_runs,
-  callee_of,
-  kind_runs,
-  runs_in,
-  runs_in_arm,
-  runs_in_branch,
-  runs_of,
-  setting_of,
-  stmt_layer_runs,
-  unit_at,
-  unit_of,
-}
-use Rattle.bl_ctree_laws.specs.Residual.{
-  PlainResidual,
-  PlainResidualEach,
-  PlainResidualOf,
-  ended,
-  none_left,
-  nothing,
-  of_again,
-  of_else,
-  of_guard,
-  of_last,
-  of_one,
-  of_par,
-  of_repeat,
-  of_run,
-  of_then,
-  of_until,
-  of_while,
-  one_left,
-  paused,
-  tested,
-  to_begin,
-}
+use Rattle.bl_ctree.specs.Instances.{Setting, arm_runs, begins_at, branch_runs, callee_of, kind_runs, runs_in, runs_in_arm, runs_in_branch, runs_of, setting_of}
+use Rattle.bl_ctree.specs.Instances.{stmt_layer_runs, unit_at, unit_of}
+use Rattle.bl_ctree_laws.specs.Residual.{PlainResidual, PlainResidualEach, PlainResidualOf, ended, none_left, nothing, of_again, of_else, of_guard, of_last}
+use Rattle.bl_ctree_laws.specs.Residual.{of_one, of_par, of_repeat, of_run, of_then, of_until, of_while, one_left, paused, tested, to_begin}
 use Rattle.bl_ctree_laws.specs.Steps.{turn}
 use Rattle.bl_ctree_laws.specs.Trees.{Tree, Trees}
-use Rattle.bl_ctree_laws.proofs.Tests.{and_first, and_second}
 use Rattle.bl_ctree_laws_confluence.specs.Deeds.Origins.{CalledBy, HasCaller}
-use Rattle.bl_ctree_laws_confluence.proofs.OnDeeds.Accepted.{contains_at}
 use Rattle.bl_ctree_laws_confluence.proofs.OnDeeds.Activities.{AllOf, all_both, one_a_place_so}
 use Rattle.bl_ctree_laws_confluence.proofs.OnDeeds.Aliases.{of_member}
-use Rattle.bl_ctree_laws_confluence.proofs.OnDeeds.Nesting.{one_some}
 use Rattle.bl_ctree_laws_confluence.proofs.OnDeeds.Origins.{instances_have_callers_so}
 use Rattle.bl_ctree_laws_confluence.specs.Apart.Forks.{EachFork, EachForkIn, EachForkInEach}
 use Rattle.bl_ctree_laws_confluence.specs.Apart.Outputs.{BranchesHaveOutputs, ResidualCallsMatch, RunsHaveOutputs, RunsWith, TypedRunsHaveOutputs}
@@ -128,6 +47,7 @@ use Rattle.bl_ctree_laws_confluence.specs.Apart.Seen.{AllCallsMatchCallees, Call
 use Rattle.bl_ctree_laws_confluence.proofs.OnApart.Owned.{looped, stands_in}
 use Rattle.bl_ctree_laws_confluence.proofs.OnApart.Running.{layer_at, outputs_at, outputs_of, placed_at, run_found, stands_below, stands_first, stands_left}
 use Rattle.bl_ctree_laws_confluence.proofs.OnApart.Running.{stands_right}
+use Rattle.bl_tree.proofs.FirstLemmas.{same_true}
 
 -- ---- the listed `run` statements of a body stand in it
 
@@ -256,11 +176,6 @@ unit_listed unit run there =
 
 -- ---- the outputs of a `run`
 
-got_or : {A : Type 0} (xs : List A) (k : ℕ) (d : A) → k < length xs → slice_get xs k ≡ Some (get_or xs k d)
-got_or [] k d within = absurd (omega arith)
-got_or (x ∷ xs) zero d within = refl
-got_or (x ∷ xs) (suc k) d within = got_or xs k d (omega arith)
-
 module _ (structs : List StructDef) (units : List UnitDef) (entry : ℕ) (keeps : IsWellTyped structs units entry) where
   abbrev W : Setting
   W = setting_of structs units entry
@@ -275,12 +190,12 @@ module _ (structs : List StructDef) (units : List UnitDef) (entry : ℕ) (keeps 
       let p : Instance → Bool = λ instance. begins_at i place instance.origin in
       let found = position-Some p W.instances callee instance begun in
       let same : get_or W.instances callee instance ≡ instance =
-      one_some (get_or W.instances callee instance) instance (slice_get W.instances callee) (got_or W.instances callee instance found.0) there in
+      one_some (get_or W.instances callee instance) instance (slice_get W.instances callee) (get_within W.instances callee instance found.0) there in
       let is : begins_at i place (Some origin) ≡ true =
       subst (λ o. begins_at i place o ≡ true) began (subst (λ instance. begins_at i place instance.origin ≡ true) same found.1) in
       record {
         caller = eqb-true origin.caller i (and_first (nat_eq origin.caller i) (same_place origin.place place) is);
-        at = same_place_is origin.place place (and_second (nat_eq origin.caller i) (same_place origin.place place) is);
+        at = same_true origin.place place (and_second (nat_eq origin.caller i) (same_place origin.place place) is);
       }
 
   -- statements of one place have outputs of which one test says the same

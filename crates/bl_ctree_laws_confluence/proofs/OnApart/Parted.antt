@@ -1,64 +1,12 @@
 -- Deeds that are done in either order are those of two branches of one `cobegin`.
 use Rattle.std.proofs.Common.{◌⊎◌, inl, inr, ℕ, Bool, []}
-use Rattle.bl_graph_nodes.specs.Plain.{
-  Block,
-  Bodies,
-  Plain,
-  Act,
-  Again,
-  Await,
-  Body as BodyOf,
-  Cobegin,
-  Done,
-  If,
-  Last,
-  Repeat,
-  Run as RunOf,
-  Then,
-  Until,
-  When,
-  While,
-  plain_body,
-}
+use Rattle.bl_graph_nodes.specs.Plain.{Block, Bodies, Plain, Act, Again, Await, Body as BodyOf, Cobegin, Done, If, Last, Repeat, Run as RunOf, Then, Until}
+use Rattle.bl_graph_nodes.specs.Plain.{When, While, plain_body}
 use Rattle.bl_ctree.specs.Instances.{Setting, setting_of}
-use Rattle.bl_ctree_laws.specs.Commutes.{
-  Apart,
-  ApartIn,
-  in_branches,
-  in_first,
-  in_others,
-  in_sequence,
-  left_right,
-  right_left,
-  under_guard,
-  under_run,
-}
-use Rattle.bl_ctree_laws.specs.Residual.{
-  BlockSplitsAt,
-  PlainResidual,
-  PlainResidualEach,
-  PlainResidualOf,
-  ended,
-  here,
-  none_left,
-  nothing,
-  of_again,
-  of_else,
-  of_guard,
-  of_last,
-  of_one,
-  of_par,
-  of_repeat,
-  of_run,
-  of_then,
-  of_until,
-  of_while,
-  one_left,
-  paused,
-  tested,
-  there,
-  to_begin,
-}
+use Rattle.bl_ctree_laws.specs.Commutes.{Apart, ApartIn, in_branches, in_first, in_others, in_sequence, left_right, right_left, under_guard, under_run}
+use Rattle.bl_ctree_laws.specs.Residual.{BlockSplitsAt, PlainResidual, PlainResidualEach, PlainResidualOf, ended, here, none_left, nothing, of_again, of_else}
+use Rattle.bl_ctree_laws.specs.Residual.{of_guard, of_last, of_one, of_par, of_repeat, of_run, of_then, of_until, of_while, one_left, paused, tested, there}
+use Rattle.bl_ctree_laws.specs.Residual.{to_begin}
 use Rattle.bl_ctree_laws.specs.Pending.{Deed}
 use Rattle.bl_ctree_laws.specs.Trees.{Tree, Trees, before}
 use Rattle.bl_ctree_laws_confluence.proofs.OnDeeds.Accepted.{accepted_is_orderly}

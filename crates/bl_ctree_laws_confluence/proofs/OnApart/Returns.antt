@@ -1,29 +1,9 @@
 -- No `return` stands in a branch.
-use Rattle.std.proofs.Common.{
-  ◌≡◌,
-  ◌⊎◌,
-  inl,
-  inr,
-  ℕ,
-  suc,
-  Bool,
-  true,
-  false,
-  not,
-  ◌||◌,
-  List,
-  [],
-  ◌∷◌,
-  ◌++◌,
-  map,
-  refl,
-  sym,
-  ap,
-  ◌∙◌,
-  subst,
-}
+use Rattle.std.proofs.Common.{◌≡◌, ◌⊎◌, inl, inr, ℕ, suc, Bool, true, false, not, ◌||◌, List, [], ◌∷◌, ◌++◌, map, refl, sym, ap, ◌∙◌, subst}
 use Rattle.std.proofs.lemmas.List.Elements.{All-head, All-tail}
 use Rattle.std.specs.Prelude.{is_none}
+use Rattle.std.proofs.lemmas.Bool.{or_left, or_right}
+use Rattle.bl_tree.proofs.Basics.{and_first, and_second}
 use Rattle.bl_tree.specs.declared.place.Place.{Place}
 use Rattle.bl_tree.specs.declared.tree.Arm.{Arm, fold-Arm, fold_out-Arm, out-Arm}
 use Rattle.bl_tree.specs.declared.tree.Branch.{Branch, fold-Branch, fold_out-Branch, out-Branch}
@@ -31,51 +11,13 @@ use Rattle.bl_tree.specs.declared.tree.Stmt.{Stmt, fold-roll-Stmt, out-Stmt, out
 use Rattle.bl_tree.specs.declared.tree.StmtKind.{StmtKind, fold-StmtKind, fold-roll-StmtKind, map-StmtKind, out-StmtKind, out-roll-StmtKind, roll-StmtKind}
 use Rattle.bl_tree.specs.declared.tree.StmtKind.TheOpen.{StmtKind-F}
 use Rattle.bl_tree.specs.Reduce.{any_of}
-use Rattle.bl_tree.specs.Returns.{
-  arm_has_return,
-  branch_has_return,
-  has_return,
-  is_return,
-  is_return_kind,
-  kind_has_return,
-  last_of,
-  returns_last_alone,
-  stmt_returns,
-}
+use Rattle.bl_tree.specs.Returns.{arm_has_return, branch_has_return, has_return, is_return, is_return_kind, kind_has_return, last_of, returns_last_alone}
+use Rattle.bl_tree.specs.Returns.{stmt_returns}
 use Rattle.bl_tree.proofs.StmtInduction.{Cases, Each, EachArm, EachBranch, induct, stmt}
 use Rattle.bl_graph_nodes.specs.Laws.{plain_arm, plain_branch}
-use Rattle.bl_graph_nodes.specs.Plain.{
-  Block,
-  Bodies,
-  Label,
-  Plain,
-  Position,
-  Act,
-  Again,
-  Await,
-  Body as BodyOf,
-  Cobegin,
-  Done,
-  If,
-  Last,
-  Repeat,
-  Run as RunOf,
-  Then,
-  Until,
-  When,
-  While,
-  block_from,
-  bodies_from,
-  else_at,
-  inside,
-  label_at,
-  never,
-  passed_one,
-  plain_stmt,
-  plain_block,
-}
+use Rattle.bl_graph_nodes.specs.Plain.{Block, Bodies, Label, Plain, Position, Act, Again, Await, Body as BodyOf, Cobegin, Done, If, Last, Repeat, Run as RunOf}
+use Rattle.bl_graph_nodes.specs.Plain.{Then, Until, When, While, block_from, bodies_from, else_at, inside, label_at, never, passed_one, plain_stmt, plain_block}
 use Rattle.bl_graph_nodes.proofs.Equations.{made_of_parts, plain_statements}
-use Rattle.bl_ctree_laws.proofs.Tests.{and_first, and_second, or_left, or_right}
 use Rattle.bl_ctree_laws_confluence.proofs.OnDeeds.Accepted.{accepted_is_orderly}
 use Rattle.bl_ctree_laws_confluence.specs.Apart.Forks.{EachFork, EachForkIn, EachForkInEach}
 use Rattle.bl_ctree_laws_confluence.specs.Apart.Owned.{SomeIn, SomeInEach, SomeOf}

@@ -1,31 +1,9 @@
 -- No two branches of one `cobegin` run at one place.
-use Rattle.std.proofs.Common.{
-  ◌≡◌,
-  ◌⊎◌,
-  inl,
-  inr,
-  ℕ,
-  zero,
-  suc,
-  pred,
-  true,
-  List,
-  [],
-  ◌∷◌,
-  ◌++◌,
-  map,
-  get_or,
-  Some,
-  refl,
-  sym,
-  ap,
-  ◌∙◌,
-  subst,
-  append_assoc,
-  arith,
-}
+use Rattle.std.proofs.Common.{◌≡◌, ◌⊎◌, inl, inr, ℕ, zero, suc, pred, true, List, [], ◌∷◌, ◌++◌, map, get_or, Some, refl, sym, ap, ◌∙◌, subst, append_assoc}
+use Rattle.std.proofs.Common.{arith}
 use Rattle.std.specs.Prelude.{Contains, IsTrue, slice_get}
 use Rattle.std.proofs.lemmas.List.Elements.{All-head, All-tail, Contains-append_left, Contains-append_right}
+use Rattle.bl_tree.proofs.Basics.{contains_first}
 use Rattle.bl_tree.specs.declared.place.Place.{Place}
 use Rattle.bl_tree.specs.declared.tree.Arm.{Arm, out-Arm}
 use Rattle.bl_tree.specs.declared.tree.Branch.{Branch, out-Branch}
@@ -34,20 +12,7 @@ use Rattle.bl_tree.specs.declared.tree.Stmt.{Stmt, fold-roll-Stmt, out-Stmt, out
 use Rattle.bl_tree.specs.declared.tree.StmtKind.{StmtKind, fold-roll-StmtKind, out-StmtKind, out-roll-StmtKind, roll-StmtKind}
 use Rattle.bl_tree.specs.declared.tree.StmtKind.TheOpen.{StmtKind-F}
 use Rattle.bl_tree.specs.Reduce.{joined}
-use Rattle.bl_tree.specs.Within.{
-  RunsIn,
-  StandsIn,
-  Within,
-  branches_of,
-  children,
-  deeper,
-  is_run,
-  is_run_kind,
-  itself,
-  kind_branches,
-  kind_children,
-  place_of,
-}
+use Rattle.bl_tree.specs.Within.{RunsIn, StandsIn, Within, branches_of, children, deeper, is_run, is_run_kind, itself, kind_branches, kind_children, place_of}
 use Rattle.bl_tree.proofs.StmtInduction.{Cases, Each, EachArm, EachBranch, induct, stmt}
 use Rattle.bl_graph_nodes.specs.Laws.{plain_arm, plain_branch}
 use Rattle.bl_graph_nodes.specs.Plain.{Label, Plain, Position, Act, If, block_from, bodies_from, else_at, inside, label_at, never, passed_one, plain_stmt, plain_block}
@@ -70,9 +35,6 @@ children_at place layer = ap kind_children (layer_at place layer)
 
 -- ---- what stands in blocks
 
-pub first_one : {A : Type 0} (x : A) (xs : List A) → Contains (x ∷ xs) x
-first_one x xs = (zero, omega arith, refl)
-
 pub stands_left : (xs ys : List Stmt) {s : Stmt} → StandsIn xs s → StandsIn (xs ++ ys) s
 stands_left xs ys one = record { outer = one.outer; is_there = Contains-append_left xs ys one.outer one.is_there; within = one.within }
 
@@ -83,7 +45,7 @@ pub stands_between : (xs ys zs : List Stmt) {s : Stmt} → StandsIn (ys ++ zs) s
 stands_between xs ys zs {s} one = subst (λ body. StandsIn body s) (sym (append_assoc xs ys zs)) (stands_right xs (ys ++ zs) one)
 
 pub stands_first : (s : Stmt) (rest : List Stmt) {inner : Stmt} → Within inner s → StandsIn (s ∷ rest) inner
-stands_first s rest within = record { outer = s; is_there = first_one s rest; within = within }
+stands_first s rest within = record { outer = s; is_there = contains_first s rest; within = within }
 
 pub stands_below : (place : Place) (layer : StmtKind-F StmtKind Arm Branch Stmt) {s : Stmt} → StandsIn (kind_children layer) s → Within s (stmt place layer)
 stands_below place layer one =
@@ -256,7 +218,7 @@ in_one (branch ∷ rest) n l place (inr some) =
 later_one : (branch : Branch) (rest : List Branch) (k : ℕ) (place : Place) → InBranch rest k place → InBranch (branch ∷ rest) (suc k) place
 later_one branch rest k place one = record { branch = one.branch; is_there = one.is_there; found = one.found }
 
-not_first : (k : ℕ) → zero ≡ suc k → ⊥
+pub not_first : (k : ℕ) → zero ≡ suc k → ⊥
 not_first k e = absurd cc
 
 distinct_so : (branches : List Branch) (n : ℕ) (l : Label) → Distinct branches → RunApart (bodies_from (map plain_branch branches) n l)

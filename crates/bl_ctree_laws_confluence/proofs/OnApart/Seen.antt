@@ -1,38 +1,10 @@
 -- What deeds write is seen in what their tree may still write, or lies in a call.
-use Rattle.std.proofs.Common.{
-  ◌≡◌,
-  ◌⊎◌,
-  inl,
-  inr,
-  ℕ,
-  zero,
-  suc,
-  ◌<◌,
-  Bool,
-  true,
-  false,
-  not,
-  ◌&&◌,
-  ◌||◌,
-  List,
-  [],
-  ◌∷◌,
-  ◌++◌,
-  map,
-  length,
-  Some,
-  refl,
-  sym,
-  ap,
-  ◌∙◌,
-  subst,
-  arith,
-  append_assoc,
-  eq-eqb,
-  eqb-true,
-}
+use Rattle.std.proofs.Common.{◌≡◌, ◌⊎◌, inl, inr, ℕ, zero, suc, ◌<◌, Bool, true, false, not, ◌&&◌, ◌||◌, List, [], ◌∷◌, ◌++◌, map, length, Some, refl, sym, ap}
+use Rattle.std.proofs.Common.{◌∙◌, subst, arith, append_assoc, eq-eqb, eqb-true}
 use Rattle.std.specs.Prelude.{nat_eq, slice_get, slice_index_or}
 use Rattle.std.specs.List.{list_any}
+use Rattle.std.proofs.lemmas.Bool.{and_from, or_left, or_right}
+use Rattle.bl_tree.proofs.Basics.{and_first, and_second, get_of_map, not_of_false}
 use Rattle.bl_tree.specs.declared.static_path.Static.{Static}
 use Rattle.bl_tree.specs.declared.tree.StructDef.{StructDef}
 use Rattle.bl_tree.specs.declared.tree.Unit.{Unit as UnitDef}
@@ -44,48 +16,17 @@ use Rattle.bl_ctree.specs.Control.{Body}
 use Rattle.bl_ctree.specs.Instances.{Setting, callee_of, setting_of}
 use Rattle.bl_ctree.specs.Store.{Location, home, homes, overlap, whole_of}
 use Rattle.bl_ctree_laws.specs.Pending.{Deed, any_writes, anew, leads_over, may_end, may_write, soon_in}
-use Rattle.bl_ctree_laws.specs.Steps.{
-  Anyway,
-  Moves,
-  OneMoves,
-  acts,
-  takes,
-  passes,
-  pauses,
-  runs,
-  repeats,
-  repeats_until,
-  leaves,
-  turns,
-  enters,
-  skips,
-  forks,
-  guards,
-  goes_on,
-  waits,
-  lets,
-  aborts,
-  resets,
-  guard_ends,
-  copies,
-  run_ends,
-  joins,
-  in_seq,
-  in_par,
-  in_guard,
-  in_run,
-  first,
-  later,
-}
+use Rattle.bl_ctree_laws.specs.Steps.{Anyway, Moves, OneMoves, acts, takes, passes, pauses, runs, repeats, repeats_until, leaves, turns, enters, skips, forks}
+use Rattle.bl_ctree_laws.specs.Steps.{guards, goes_on, waits, lets, aborts, resets, guard_ends, copies, run_ends, joins, in_seq, in_par, in_guard, in_run}
+use Rattle.bl_ctree_laws.specs.Steps.{first, later}
 use Rattle.bl_ctree_laws.specs.Trees.{Call, Tree, Trees, Run, is_settled}
 use Rattle.bl_ctree_laws.proofs.Less.{moving_is_unsettled}
-use Rattle.bl_ctree_laws.proofs.Tests.{and_both, and_first, and_second, or_le, or_left, or_of, or_right}
+use Rattle.bl_ctree_laws.proofs.Tests.{or_le, or_of}
 use Rattle.bl_ctree_laws_confluence.specs.Stores.{onward}
 use Rattle.bl_ctree_laws_confluence.proofs.OnStores.Homes.{homes_lead_on}
 use Rattle.bl_ctree_laws_confluence.specs.Deeds.Deeds.{effect_writes}
 use Rattle.bl_ctree_laws_confluence.specs.Deeds.Nesting.{Inside, IsOutput}
 use Rattle.bl_ctree_laws_confluence.proofs.OnDeeds.Nesting.{programs_nest}
-use Rattle.bl_ctree_laws_confluence.proofs.OnDeeds.Origins.{map_got}
 use Rattle.bl_ctree_laws_confluence.specs.Apart.Seen.{AllCallsMatchCallees, CallsMatchCallees, HasOutputs, InCall, WritesAreSeen}
 use Rattle.bl_ctree_laws_confluence.proofs.OnApart.Calls.{stays}
 
@@ -111,7 +52,7 @@ cut_front (x ∷ xs) (y ∷ ys) more e =
 
     both : nat_eq x y ≡ true → nat_eq y x ≡ true → (is_front xs ys || is_front ys xs) ≡ true → Goal ≡ true
     both same back fronts = or_le (is_front xs ys) (is_front ys xs) (nat_eq x y && is_front xs ys) (nat_eq y x && is_front ys xs)
-        (λ one. and_both (nat_eq x y) (is_front xs ys) same one) (λ other. and_both (nat_eq y x) (is_front ys xs) back other) fronts
+        (λ one. and_from (nat_eq x y) (is_front xs ys) same one) (λ other. and_from (nat_eq y x) (is_front ys xs) back other) fronts
 
 -- what overlaps what leads on overlaps what is before
 cut_onward : (over at : Location) (fields more : List ℕ) → overlap over (onward at (fields ++ more)) ≡ true → overlap over (onward at fields) ≡ true
@@ -121,10 +62,10 @@ cut_onward over at fields more e =
     let fronts : Bool = is_front over.path.fields long || is_front long over.path.fields in
     let paths : (nat_eq over.path.root at.path.root && fronts) ≡ true =
     and_second (nat_eq over.instance at.instance) (nat_eq over.path.root at.path.root && fronts) e in
-    and_both (nat_eq over.instance at.instance)
+    and_from (nat_eq over.instance at.instance)
     (nat_eq over.path.root at.path.root && (is_front over.path.fields short || is_front short over.path.fields))
     (and_first (nat_eq over.instance at.instance) (nat_eq over.path.root at.path.root && fronts) e)
-    (and_both (nat_eq over.path.root at.path.root) (is_front over.path.fields short || is_front short over.path.fields)
+    (and_from (nat_eq over.path.root at.path.root) (is_front over.path.fields short || is_front short over.path.fields)
     (and_first (nat_eq over.path.root at.path.root) fronts paths)
     (cut_front over.path.fields short more
     (subst (λ all. (is_front over.path.fields all || is_front all over.path.fields) ≡ true) (sym (append_assoc at.path.fields fields more))
@@ -151,11 +92,11 @@ any_home w i at over (path ∷ rest) (suc k) e is =
 written_home : (w : Setting) (i : ℕ) (effect : Effect) (k : ℕ) (at : Location) → slice_get (effect_writes w i effect) k ≡ Some at →
     (path : Static) × (home w (record { instance = i; path = path }) ≡ at)
 written_home w i Silent k at e = absurd cc
-written_home w i (Acts s) k at e = let got = map_got (λ path. home w (record { instance = i; path = path })) (writes s) k at e in (got.0, got.2)
+written_home w i (Acts s) k at e = let got = get_of_map (λ path. home w (record { instance = i; path = path })) (writes s) k at e in (got.0, got.2)
 written_home w i (Asks test) k at e = absurd cc
 written_home w i (Copies callee inputs) k at e = absurd cc
 written_home w i (Gives callee target) k at e =
-    let got = map_got (λ path. home w (record { instance = i; path = path })) (target_static target) k at e in (got.0, got.2)
+    let got = get_of_map (λ path. home w (record { instance = i; path = path })) (target_static target) k at e in (got.0, got.2)
 
 nothing_written : {A : Type 0} (k : ℕ) (at : Location) → slice_get {X = Location} [] k ≡ Some at → A
 nothing_written k at e = absurd cc
@@ -165,9 +106,6 @@ any_at : {A : Type 0} (test : A → Bool) (xs : List A) (k : ℕ) (x : A) → k 
 any_at test [] k x within e is = absurd (omega arith)
 any_at test (y ∷ xs) zero x within e is = or_left (test y) (list_any test xs) (ap test e ∙ is)
 any_at test (y ∷ xs) (suc k) x within e is = or_right (test y) (list_any test xs) (any_at test xs k x (omega arith) e is)
-
-not_so : (b : Bool) → b ≡ false → not b ≡ true
-not_so b e = ap not e
 
 either : {A B C : Type 0} → (A → B) → A ⊎ C → B ⊎ C
 either f (inl a) = inl (f a)
@@ -193,9 +131,9 @@ module _ (structs : List StructDef) (units : List UnitDef) (entry : ℕ) (over :
       let some : list_any (leads_over W i over) paths ≡ true =
       has out.instance out.origin (leads_over W i over) out.there out.began
       (any_at (leads_over W i over) out.origin.outputs out.is_output.0 out.output out.is_output.1 out.is_output.2 met) in
-      and_both (not (is_settled (Run s callee Body stood c)))
+      and_from (not (is_settled (Run s callee Body stood c)))
       (list_any (leads_over W i over) paths || (may_end c && list_any (leads_over W i over) (target_static s.arguments.target)))
-      (not_so (is_settled (Run s callee Body stood c)) moving)
+      (not_of_false (is_settled (Run s callee Body stood c)) moving)
       (or_left (list_any (leads_over W i over) paths) (may_end c && list_any (leads_over W i over) (target_static s.arguments.target)) some)
 
   -- what a called instance does is in the call, or writes an output

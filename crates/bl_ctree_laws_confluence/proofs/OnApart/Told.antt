@@ -1,35 +1,11 @@
 -- What is told of a path that a statement of a body writes: some act of it writes it, or declares its variable.
-use Rattle.std.proofs.Common.{
-  ◌≡◌,
-  ◌⊎◌,
-  inl,
-  inr,
-  ℕ,
-  suc,
-  Bool,
-  true,
-  false,
-  ◌&&◌,
-  List,
-  [],
-  ◌∷◌,
-  ◌++◌,
-  map,
-  get_or,
-  Option,
-  Some,
-  None,
-  refl,
-  sym,
-  ap,
-  ◌∙◌,
-  subst,
-  append_assoc,
-  eq-eqb,
-}
+use Rattle.std.proofs.Common.{◌≡◌, ◌⊎◌, inl, inr, ℕ, suc, Bool, true, false, ◌&&◌, List, [], ◌∷◌, ◌++◌, map, get_or, Option, Some, None, refl, sym, ap, ◌∙◌}
+use Rattle.std.proofs.Common.{subst, append_assoc, eq-eqb}
 use Rattle.std.specs.Prelude.{Contains, is_some, nat_eq, option_and_then, slice_get, if◌then◌else◌}
 use Rattle.std.specs.List.{list_any}
 use Rattle.std.proofs.lemmas.List.Elements.{All-head, All-tail}
+use Rattle.std.proofs.lemmas.Bool.{or_left}
+use Rattle.bl_tree.proofs.Basics.{and_first, and_second}
 use Rattle.bl_tree.specs.declared.place.Place.{Place}
 use Rattle.bl_tree.specs.declared.static_path.Static.{Static}
 use Rattle.bl_tree.specs.declared.tree.Arm.{Arm, fold-Arm, fold_out-Arm, out-Arm}
@@ -41,80 +17,24 @@ use Rattle.bl_tree.specs.declared.tree.StmtKind.{StmtKind, fold-StmtKind, fold-r
 use Rattle.bl_tree.specs.declared.tree.StmtKind.TheOpen.{StmtKind-F}
 use Rattle.bl_tree.specs.declared.tree.Unit.{Unit as UnitDef}
 use Rattle.bl_tree.specs.declared.tree.Var.{Var}
-use Rattle.bl_tree.specs.Apart.{
-  Naming,
-  Roots,
-  and_naming,
-  argument_roots,
-  arm_naming,
-  branch_naming,
-  declares,
-  expr_layer_roots,
-  kind_roots,
-  naming,
-  naming_of,
-  of_branches as names_of_branches,
-  optional_roots,
-  part_roots,
-  path_layer_roots,
-  roots_in,
-  roots_in_path,
-  stmt_kind_naming,
-  stmt_layer_naming,
-  target_roots,
-  together as names_together,
-}
+use Rattle.bl_tree.specs.Apart.{Naming, Roots, and_naming, argument_roots, arm_naming, branch_naming, declares, expr_layer_roots, kind_roots, naming, naming_of}
+use Rattle.bl_tree.specs.Apart.{of_branches as names_of_branches, optional_roots, part_roots, path_layer_roots, roots_in, roots_in_path, stmt_kind_naming}
+use Rattle.bl_tree.specs.Apart.{stmt_layer_naming, target_roots, together as names_together}
 use Rattle.bl_tree.specs.Effects.{arm_writes, branch_paths, kind_writes, stmt_set, target_static, writes}
 use Rattle.bl_tree.specs.Reduce.{all_of, joined}
 use Rattle.bl_tree.specs.Static.{Reach, StaticStep, expr_mentions, kind_mentions, part_step, path_reach, set_of, static_of, whole}
 use Rattle.bl_tree.specs.Types.{scalar as scalar_type}
-use Rattle.bl_tree.specs.Typing.{
-  TypingContext,
-  are_same,
-  arguments_fit,
-  arm_fits,
-  branch_fits,
-  call_fits,
-  declaration_fits,
-  fits,
-  inputs_of,
-  is_activity,
-  is_assignable,
-  is_inhabited,
-  is_outlet,
-  is_plain,
-  is_procedure,
-  is_truth,
-  kind_fits,
-  may_change,
-  outputs_of,
-  run_fits,
-  stmt_fits,
-  target_fits,
-  type_of,
-  type_of_path,
-  types_match,
-  var_at,
-}
+use Rattle.bl_tree.specs.Typing.{TypingContext, are_same, arguments_fit, arm_fits, branch_fits, call_fits, declaration_fits, fits, inputs_of, is_activity}
+use Rattle.bl_tree.specs.Typing.{is_assignable, is_inhabited, is_outlet, is_plain, is_procedure, is_truth, kind_fits, may_change, outputs_of, run_fits}
+use Rattle.bl_tree.specs.Typing.{stmt_fits, target_fits, type_of, type_of_path, types_match, var_at}
 use Rattle.bl_tree.proofs.StmtInduction.{Cases, Each, EachArm, EachBranch, induct, stmt}
 use Rattle.bl_effects.specs.declared.marked.Marked.{Marked}
-use Rattle.bl_effects.specs.Rules.{
-  Parallel,
-  acting,
-  arm_parallel,
-  beside as beside_of,
-  branch_parallel,
-  kind_parallel,
-  of_branches as branches_of_all,
-  parallel_of,
-  stmt_parallel,
-  together,
-}
+use Rattle.bl_effects.specs.Rules.{Parallel, acting, arm_parallel, beside as beside_of, branch_parallel, kind_parallel, of_branches as branches_of_all}
+use Rattle.bl_effects.specs.Rules.{parallel_of, stmt_parallel, together}
 use Rattle.bl_effects.proofs.SetLemmas.{set_members}
 use Rattle.bl_graph_nodes.specs.Laws.{plain_arm, plain_branch}
 use Rattle.bl_graph_nodes.specs.Plain.{Label, Plain, Position, Act, block_from, bodies_from, else_at, inside, label_at, passed_one, plain_stmt, plain_block}
 use Rattle.bl_graph_nodes.proofs.Equations.{plain_statements}
-use Rattle.bl_ctree_laws.proofs.Tests.{and_first, and_second, or_left}
 use Rattle.bl_ctree_laws_confluence.specs.Apart.Named.{OneOf}
 use Rattle.bl_ctree_laws_confluence.specs.Apart.Owned.{SomeIn, SomeInEach, SomeOf}
 use Rattle.bl_ctree_laws_confluence.specs.Apart.Writing.{StatementWrites}
@@ -167,7 +87,7 @@ written_in place layer p there =
     contains_in p (kind_writes (written_parts layer))
     ((set_members (kind_writes (written_parts layer)) p).0 (subst (λ xs. Contains xs p) (written_at place layer) there))
 
-static_at : (path : Path) → (static_of path).root ≡ (out-Path path).root
+pub static_at : (path : Path) → (static_of path).root ≡ (out-Path path).root
 static_at path = ap (λ reach. reach.static.root) (fold_out-Path (List Static) StaticStep (List Static) Reach kind_mentions part_step expr_mentions path_reach path)
 
 root_named : (path : Path) → OneOf (static_of path).root (roots_in_path path)

@@ -1,32 +1,10 @@
 -- No two branches of one `cobegin` write paths that overlap.
-use Rattle.std.proofs.Common.{
-  ◌≡◌,
-  ◌⊎◌,
-  inl,
-  inr,
-  ℕ,
-  suc,
-  Bool,
-  true,
-  false,
-  ◌||◌,
-  List,
-  [],
-  ◌∷◌,
-  ◌++◌,
-  map,
-  get_or,
-  Some,
-  refl,
-  sym,
-  ap,
-  ◌∙◌,
-  subst,
-  eqb-true,
-}
+use Rattle.std.proofs.Common.{◌≡◌, ◌⊎◌, inl, inr, ℕ, suc, true, false, ◌||◌, List, [], ◌∷◌, ◌++◌, map, get_or, Some, refl, sym, ap, ◌∙◌, subst, eqb-true}
 use Rattle.std.specs.Prelude.{nat_eq, slice_get}
 use Rattle.std.specs.List.{list_all}
 use Rattle.std.proofs.lemmas.List.Elements.{All-head, All-tail}
+use Rattle.std.proofs.lemmas.Bool.{false_from_ne_true}
+use Rattle.bl_tree.proofs.Basics.{and_first, and_second}
 use Rattle.bl_tree.specs.declared.place.Place.{Place}
 use Rattle.bl_tree.specs.declared.static_path.Static.{Static}
 use Rattle.bl_tree.specs.declared.tree.Arm.{Arm, out-Arm}
@@ -43,9 +21,8 @@ use Rattle.bl_tree.proofs.StmtInduction.{Cases, Each, EachArm, EachBranch, induc
 use Rattle.bl_effects.specs.declared.marked.Marked.{Marked}
 use Rattle.bl_effects.specs.Rules.{Parallel, Split, kind_parallel, parallel_of, splits_after, splits_of}
 use Rattle.bl_graph_nodes.specs.Laws.{plain_arm, plain_branch}
-use Rattle.bl_graph_nodes.specs.Plain.{Label, Plain, Position, block_from, bodies_from, else_at, inside, label_at, never, passed_one, plain_block, plain_stmt}
+use Rattle.bl_graph_nodes.specs.Plain.{Label, Plain, Position, block_from, bodies_from, else_at, inside, label_at, passed_one, plain_block, plain_stmt}
 use Rattle.bl_graph_nodes.proofs.Equations.{plain_statements}
-use Rattle.bl_ctree_laws.proofs.Tests.{and_first, and_second}
 use Rattle.bl_ctree_laws_confluence.specs.Deeds.Orderly.{OrderlyUnit}
 use Rattle.bl_ctree_laws_confluence.proofs.OnDeeds.Accepted.{accepted_is_orderly}
 use Rattle.bl_ctree_laws_confluence.specs.Apart.Forks.{EachFork, EachForkIn, EachForkInEach}
@@ -55,37 +32,10 @@ use Rattle.bl_ctree_laws_confluence.specs.Apart.Writing.{AcceptedWritesApart, St
 use Rattle.bl_ctree_laws_confluence.proofs.OnApart.Forks.{all_true, each_apart, foreign_so}
 use Rattle.bl_ctree_laws_confluence.proofs.OnApart.Members.{In, in_contains, in_left, in_right}
 use Rattle.bl_ctree_laws_confluence.proofs.OnApart.Named.{folded_arm, folded_branch, naming_at, naming_parts}
-use Rattle.bl_ctree_laws_confluence.proofs.OnApart.Told.{
-  ArmsFit,
-  BranchesFit,
-  Fit,
-  OneMark,
-  Told,
-  arm_fitted,
-  arm_naming_at,
-  arm_parallel_at,
-  branch_fitted,
-  branch_naming_at,
-  branch_parallel_at,
-  branch_told,
-  fit_arm,
-  fit_arms,
-  fit_at,
-  fit_branch,
-  fit_branches,
-  fit_first,
-  fit_guarded,
-  fit_parts,
-  fit_rest,
-  folded_arm_parallel,
-  folded_branch_parallel,
-  parallel_at,
-  parallel_parts,
-}
-
-not_true : (b : Bool) → (b ≡ true → ⊥) → b ≡ false
-not_true true never = absurd (never refl)
-not_true false never = refl
+use Rattle.bl_ctree_laws_confluence.proofs.OnApart.Told.{ArmsFit, BranchesFit, Fit, OneMark, Told, arm_fitted, arm_naming_at, arm_parallel_at, branch_fitted}
+use Rattle.bl_ctree_laws_confluence.proofs.OnApart.Told.{branch_naming_at, branch_parallel_at, branch_told, fit_arm, fit_arms, fit_at, fit_branch, fit_branches}
+use Rattle.bl_ctree_laws_confluence.proofs.OnApart.Told.{fit_first, fit_guarded, fit_parts, fit_rest, folded_arm_parallel, folded_branch_parallel, parallel_at}
+use Rattle.bl_ctree_laws_confluence.proofs.OnApart.Told.{parallel_parts}
 
 -- ---- branches
 
@@ -116,11 +66,11 @@ module _ (site : TypingContext) where
           sym (λ i. overlaps (is i) (is' i)) ∙ clear mark mark' second.var (among mark there) there'
           (subst (λ path. slice_get site.vars path.root ≡ Some second.var) (sym is') second.there)
       by_both (inr declared) marked =
-          not_true (overlaps p q) (λ over. foreign_so q.root n.declared m.named
+          false_from_ne_true (overlaps p q) (λ over. foreign_so q.root n.declared m.named
           (and_first (is_foreign n.declared m.named) (is_foreign m.declared n.named) apart)
           (subst (λ k. OneOf k n.declared) (roots_meet p q over) declared) second.names)
       by_both (inl mark) (inr declared) =
-          not_true (overlaps p q) (λ over. foreign_so q.root m.declared n.named
+          false_from_ne_true (overlaps p q) (λ over. foreign_so q.root m.declared n.named
           (and_second (is_foreign n.declared m.named) (is_foreign m.declared n.named) apart) declared
           (subst (λ k. OneOf k n.named) (roots_meet p q over) first.names))
 

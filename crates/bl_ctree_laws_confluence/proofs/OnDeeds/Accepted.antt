@@ -1,41 +1,17 @@
 -- Accepted programs are orderly.
-use Rattle.std.proofs.Common.{
-  ◌≡◌,
-  ℕ,
-  zero,
-  suc,
-  ◌+◌,
-  Bool,
-  true,
-  false,
-  ◌&&◌,
-  List,
-  [],
-  ◌∷◌,
-  ◌++◌,
-  map,
-  take,
-  Option,
-  Some,
-  None,
-  refl,
-  sym,
-  ap,
-  ◌∙◌,
-  subst,
-  append_assoc,
-  append-nil,
-  arith,
-}
+use Rattle.std.proofs.Common.{◌≡◌, ℕ, zero, ◌+◌, Bool, true, false, ◌&&◌, List, [], ◌∷◌, ◌++◌, map, take, Option, Some, None, refl, sym, ap, ◌∙◌, subst}
+use Rattle.std.proofs.Common.{arith}
 use Rattle.std.specs.List.{list_all}
 use Rattle.std.specs.Prelude.{Contains, is_none, is_some, length, option_and_then, slice_get, if◌then◌else◌}
+use Rattle.std.proofs.lemmas.Bool.{false_from_ne_true}
+use Rattle.bl_tree.proofs.Basics.{all_of_each, and_first, and_second, contains_at}
 use Rattle.bl_tree.specs.declared.rule.Rule.TheVariants as rule
 use Rattle.bl_tree.specs.declared.tree.StructDef.{StructDef}
 use Rattle.bl_tree.specs.declared.tree.Unit.{Unit as UnitDef}
 use Rattle.bl_tree.specs.Apart.{is_apart}
 use Rattle.bl_tree.specs.Depths.{is_shallow}
 use Rattle.bl_tree.specs.Instant.{is_instant_block}
-use Rattle.bl_tree.specs.Program.{IsWellTyped, is_entry, names_of, parameters_of, roles_stand, unit_stands, units_stand_after}
+use Rattle.bl_tree.specs.Program.{IsWellTyped, is_entry, names_of, parameters_of, roles_stand, unit_stands}
 use Rattle.bl_tree.specs.Reduce.{all_of, joined}
 use Rattle.bl_tree.specs.Returns.{activity_returns, function_returns, unit_returns}
 use Rattle.bl_tree.specs.Static.{overlaps}
@@ -51,42 +27,12 @@ use Rattle.bl_ctree_laws_confluence.specs.Deeds.Origins.{CalledBy, HasCaller}
 use Rattle.bl_ctree_laws_confluence.specs.Deeds.Orderly.{AcceptedIsOrderly, OrderlyUnit}
 use Rattle.bl_ctree_laws_confluence.proofs.OnDeeds.Aliases.{of_member, unit_outputs}
 use Rattle.bl_ctree_laws_confluence.proofs.OnDeeds.Origins.{instances_have_callers_so}
-use Rattle.bl_ctree_laws_confluence.proofs.OnDeeds.Activities.{AllOf, IsActivity, all_at, and_left, and_right, expanded_so}
-
-pub contains_at : {A : Type 0} (xs : List A) (k : ℕ) (x : A) → slice_get xs k ≡ Some x → Contains xs x
-contains_at [] k x e = absurd cc
-contains_at (y ∷ xs) zero x e = let same : y ≡ x = cc in (zero, omega arith, same)
-contains_at (y ∷ xs) (suc k) x e = let there = contains_at xs k x e in let below = there.1 in (suc there.0, omega arith, there.2)
-
-each_true : {A : Type 0} (test : A → Bool) (xs : List A) → list_all test xs ≡ true → all_of (map test xs) ≡ true
-each_true test [] e = refl
-each_true test (x ∷ xs) e = both (test x) (all_of (map test xs)) (and_left (test x) (list_all test xs) e)
-    (each_true test xs (and_right (test x) (list_all test xs) e))
-  where
-    both : (a b : Bool) → a ≡ true → b ≡ true → (a && b) ≡ true
-    both true b one other = other
-    both false b one other = one
+use Rattle.bl_ctree_laws_confluence.proofs.OnDeeds.Activities.{AllOf, IsActivity, all_at, expanded_so}
+use Rattle.bl_eval.proofs.UnitFits.{unit_at as unit_stands_at}
 
 no_member : {A : Type 0} (xs : List A) → ((x : A) → Contains xs x → ⊥) → xs ≡ []
 no_member [] none = refl
 no_member (x ∷ xs) none = absurd (none x (zero, omega arith, refl))
-
-not_true : (b : Bool) → (b ≡ true → ⊥) → b ≡ false
-not_true true never = absurd (never refl)
-not_true false never = refl
-
-unit_stands_at : (structs : List StructDef) (earlier units : List UnitDef) (k : ℕ) (unit : UnitDef) →
-    units_stand_after structs earlier units ≡ true → slice_get units k ≡ Some unit → unit_stands structs (earlier ++ take k units) unit ≡ true
-unit_stands_at structs earlier [] k unit stand there = absurd cc
-unit_stands_at structs earlier (first ∷ units) zero unit stand there =
-    let same : first ≡ unit = cc in
-    subst (λ earlier. unit_stands structs earlier unit ≡ true) (sym (append-nil earlier))
-    (subst (λ unit. unit_stands structs earlier unit ≡ true) same
-    (and_left (unit_stands structs earlier first) (units_stand_after structs (earlier ++ first ∷ []) units) stand))
-unit_stands_at structs earlier (first ∷ units) (suc k) unit stand there =
-    subst (λ earlier. unit_stands structs earlier unit ≡ true) (append_assoc earlier (first ∷ []) (take k units))
-    (unit_stands_at structs (earlier ++ first ∷ []) units k unit
-    (and_right (unit_stands structs earlier first) (units_stand_after structs (earlier ++ first ∷ []) units) stand) there)
 
 -- what `unit_stands` says, one by one
 record Standing (structs : List StructDef) (earlier : List UnitDef) (unit : UnitDef) : Type 0 where
@@ -104,15 +50,15 @@ standing structs earlier unit stands =
     let apart : Bool = list_all is_apart unit.body in
     let all : ((roles_stand unit && named) && (types && (fit && (unit_returns unit && (flat && apart))))) ≡ true = stands in
     let rest : (fit && (unit_returns unit && (flat && apart))) ≡ true =
-    and_right types (fit && (unit_returns unit && (flat && apart)))
-    (and_right (roles_stand unit && named) (types && (fit && (unit_returns unit && (flat && apart)))) all) in
-    let last : (unit_returns unit && (flat && apart)) ≡ true = and_right fit (unit_returns unit && (flat && apart)) rest in
+    and_second types (fit && (unit_returns unit && (flat && apart)))
+    (and_second (roles_stand unit && named) (types && (fit && (unit_returns unit && (flat && apart)))) all) in
+    let last : (unit_returns unit && (flat && apart)) ≡ true = and_second fit (unit_returns unit && (flat && apart)) rest in
     record {
-      roles = and_left (roles_stand unit) named
-          (and_left (roles_stand unit && named) (types && (fit && (unit_returns unit && (flat && apart)))) all);
-      typed = each_true (fits (site_of structs earlier unit)) unit.body (and_left fit (unit_returns unit && (flat && apart)) rest);
-      returns = and_left (unit_returns unit) (flat && apart) last;
-      apart = and_right flat apart (and_right (unit_returns unit) (flat && apart) last);
+      roles = and_first (roles_stand unit) named
+          (and_first (roles_stand unit && named) (types && (fit && (unit_returns unit && (flat && apart)))) all);
+      typed = all_of_each (fits (site_of structs earlier unit)) unit.body (and_first fit (unit_returns unit && (flat && apart)) rest);
+      returns = and_first (unit_returns unit) (flat && apart) last;
+      apart = and_second flat apart (and_second (unit_returns unit) (flat && apart) last);
     }
 
 activity_does : (unit : UnitDef) → is_activity unit.kind ≡ true → unit_returns unit ≡ true → activity_returns unit ≡ true
@@ -122,14 +68,14 @@ activity_does unit is returns = by_kind (is_activity unit.kind) is returns
     by_kind true e r = r
     by_kind false e r = absurd cc
 
-entry_is : (units : List UnitDef) (entry : ℕ) (found : Option UnitDef) → slice_get units entry ≡ found → is_entry found ≡ true →
+pub entry_is : (units : List UnitDef) (entry : ℕ) (found : Option UnitDef) → slice_get units entry ≡ found → is_entry found ≡ true →
     IsActivity units entry
 entry_is units entry None there is = absurd cc
 entry_is units entry (Some unit) there is = record {
   unit = unit;
   there = there;
   activity =
-      and_left (is_activity unit.kind) (is_none unit.result && list_all (λ var. is_some (scalar_in var.ty)) (parameters_of unit)) is;
+      and_first (is_activity unit.kind) (is_none unit.result && list_all (λ var. is_some (scalar_in var.ty)) (parameters_of unit)) is;
 }
 
 module _ (structs : List StructDef) (units : List UnitDef) (entry : ℕ) (keeps : IsWellTyped structs units entry) (passes : Passes units) where
@@ -153,10 +99,10 @@ module _ (structs : List StructDef) (units : List UnitDef) (entry : ℕ) (keeps 
         roles = stands.roles;
         earlier = take k units;
         typed = stands.typed;
-        pauses = not_true (is_instant_block unit.body) (λ ends. passes rule.Pause unit.place []
+        pauses = false_from_ne_true (is_instant_block unit.body) (λ ends. passes rule.Pause unit.place []
             (record { unit = unit; is_there = found; activity = activity; ends = ends; at_name = refl; alone = refl }));
         conflicts = λ split first second var in_unit in_earlier in_later declared.
-            not_true (overlaps first.path second.path) (λ over. passes rule.Conflict first.place (second.place ∷ var.place ∷ [])
+            false_from_ne_true (overlaps first.path second.path) (λ over. passes rule.Conflict first.place (second.place ∷ var.place ∷ [])
             (record {
               unit = unit;
               is_there = found;

@@ -1,33 +1,9 @@
 -- Outputs of a `run` don't overlap in a unit that passes the rule on aliases.
-use Rattle.std.proofs.Common.{
-  ◌≡◌,
-  ℕ,
-  zero,
-  suc,
-  ◌<◌,
-  Bool,
-  true,
-  false,
-  cond,
-  List,
-  [],
-  ◌∷◌,
-  ◌++◌,
-  map,
-  length,
-  get_or,
-  Option,
-  Some,
-  None,
-  refl,
-  sym,
-  ap,
-  ◌∙◌,
-  subst,
-  arith,
-}
+use Rattle.std.proofs.Common.{◌≡◌, ℕ, zero, suc, ◌<◌, Bool, true, false, cond, List, [], ◌∷◌, ◌++◌, map, length, get_or, Option, Some, None, refl, sym, ap, ◌∙◌}
+use Rattle.std.proofs.Common.{subst, arith}
 use Rattle.std.specs.Prelude.{All, find, option_map, option_to_list, slice_get, slice_index_or}
 use Rattle.std.proofs.lemmas.List.Elements.{All-head, All-tail}
+use Rattle.bl_tree.proofs.Basics.{first_empty, get_mapped, get_of_map, not_both, second_empty}
 use Rattle.bl_tree.specs.declared.place.Place.{Place}
 use Rattle.bl_tree.specs.declared.tree.Arm.{Arm, fold-Arm, fold_out-Arm, out-Arm}
 use Rattle.bl_tree.specs.declared.tree.Branch.{Branch, fold-Branch, fold_out-Branch, out-Branch}
@@ -40,39 +16,19 @@ use Rattle.bl_tree.specs.Reduce.{joined}
 use Rattle.bl_tree.specs.Static.{overlaps, static_of}
 use Rattle.bl_tree.proofs.StmtInduction.{Cases, Each, EachArm, EachBranch, induct, stmt}
 use Rattle.bl_effects.specs.declared.marked.Marked.{Marked}
-use Rattle.bl_effects.specs.Rules.{
-  Aliased,
-  aliased_with,
-  aliases_in,
-  arm_aliases,
-  branch_aliases,
-  kind_aliases,
-  marked_inputs,
-  marked_path,
-  outputs_aliased,
-  stmt_aliases,
-  target_aliased,
-}
+use Rattle.bl_effects.specs.Rules.{Aliased, aliased_with, aliases_in, arm_aliases, branch_aliases, kind_aliases, marked_inputs, marked_path, outputs_aliased}
+use Rattle.bl_effects.specs.Rules.{stmt_aliases, target_aliased}
 use Rattle.bl_effects.proofs.SetLemmas.{overlaps_symm}
 use Rattle.bl_ctree.specs.declared.instance.Run.{Run}
 use Rattle.bl_ctree.specs.Instances.{arm_runs, branch_runs, kind_runs, runs_in, runs_in_arm, runs_in_branch, runs_of, stmt_layer_runs}
 use Rattle.bl_ctree_laws_confluence.specs.Deeds.Homes.{AreApart}
 use Rattle.bl_ctree_laws_confluence.proofs.OnDeeds.Activities.{AllOf, all_both, one_a_place_so}
-use Rattle.bl_ctree_laws_confluence.proofs.OnDeeds.Origins.{got_map, map_got}
 
-none_first : {A : Type 0} (xs ys : List A) → xs ++ ys ≡ [] → xs ≡ []
-none_first [] ys e = refl
-none_first (x ∷ xs) ys e = absurd cc
-
-none_second : {A : Type 0} (xs ys : List A) → xs ++ ys ≡ [] → ys ≡ []
-none_second [] ys e = e
-none_second (x ∷ xs) ys e = absurd cc
-
-of_first : {A : Type 0} (P : A → Type 0) (xs ys : List A) → AllOf P (xs ++ ys) → AllOf P xs
+pub of_first : {A : Type 0} (P : A → Type 0) (xs ys : List A) → AllOf P (xs ++ ys) → AllOf P xs
 of_first P [] ys all = tt
 of_first P (x ∷ xs) ys all = (all.0, of_first P xs ys all.1)
 
-of_second : {A : Type 0} (P : A → Type 0) (xs ys : List A) → AllOf P (xs ++ ys) → AllOf P ys
+pub of_second : {A : Type 0} (P : A → Type 0) (xs ys : List A) → AllOf P (xs ++ ys) → AllOf P ys
 of_second P [] ys all = all
 of_second P (x ∷ xs) ys all = of_second P xs ys all.1
 
@@ -110,15 +66,11 @@ later_past inputs before (x ∷ rest) e zero o is =
     let same : x ≡ o = cc in
     subst (λ o. Past o before) same
     (of_first (λ other. overlaps x.path other.path ≡ false) before inputs
-    (none_aliased (before ++ inputs) x (none_first (aliased_with (before ++ inputs) x) (outputs_aliased inputs (before ++ x ∷ []) rest) e)))
+    (none_aliased (before ++ inputs) x (first_empty (aliased_with (before ++ inputs) x) (outputs_aliased inputs (before ++ x ∷ []) rest) e)))
 later_past inputs before (x ∷ rest) e (suc k) o is =
     of_first (λ other. overlaps o.path other.path ≡ false) before (x ∷ [])
     (later_past inputs (before ++ x ∷ []) rest
-    (none_second (aliased_with (before ++ inputs) x) (outputs_aliased inputs (before ++ x ∷ []) rest) e) k o is)
-
-not_false : {A : Type 0} (b : Bool) → b ≡ false → b ≡ true → A
-not_false true e f = absurd cc
-not_false false e f = absurd cc
+    (second_empty (aliased_with (before ++ inputs) x) (outputs_aliased inputs (before ++ x ∷ []) rest) e) k o is)
 
 one_index : (inputs before rest : List Marked) → outputs_aliased inputs before rest ≡ [] → (j k : ℕ) (a b : Marked) → slice_get rest j ≡ Some a →
     slice_get rest k ≡ Some b → overlaps a.path b.path ≡ true → j ≡ k
@@ -127,25 +79,25 @@ one_index inputs before (x ∷ rest) e zero zero a b is is' over = refl
 one_index inputs before (x ∷ rest) e zero (suc k) a b is is' over =
     let same : x ≡ a = cc in
     let past = later_past inputs (before ++ x ∷ []) rest
-    (none_second (aliased_with (before ++ inputs) x) (outputs_aliased inputs (before ++ x ∷ []) rest) e) k b is' in
+    (second_empty (aliased_with (before ++ inputs) x) (outputs_aliased inputs (before ++ x ∷ []) rest) e) k b is' in
     let clear = (of_second (λ other. overlaps b.path other.path ≡ false) before (x ∷ []) past).0 in
-    not_false (overlaps a.path b.path) (overlaps_symm a.path b.path ∙ ap (λ x. overlaps b.path x.path) (sym same) ∙ clear) over
+    not_both (overlaps a.path b.path) (overlaps_symm a.path b.path ∙ ap (λ x. overlaps b.path x.path) (sym same) ∙ clear) over
 one_index inputs before (x ∷ rest) e (suc j) zero a b is is' over =
     let same : x ≡ b = cc in
     let past = later_past inputs (before ++ x ∷ []) rest
-    (none_second (aliased_with (before ++ inputs) x) (outputs_aliased inputs (before ++ x ∷ []) rest) e) j a is in
+    (second_empty (aliased_with (before ++ inputs) x) (outputs_aliased inputs (before ++ x ∷ []) rest) e) j a is in
     let clear = (of_second (λ other. overlaps a.path other.path ≡ false) before (x ∷ []) past).0 in
-    not_false (overlaps a.path b.path) (ap (λ x. overlaps a.path x.path) (sym same) ∙ clear) over
+    not_both (overlaps a.path b.path) (ap (λ x. overlaps a.path x.path) (sym same) ∙ clear) over
 one_index inputs before (x ∷ rest) e (suc j) (suc k) a b is is' over =
     ap suc (one_index inputs (before ++ x ∷ []) rest
-    (none_second (aliased_with (before ++ inputs) x) (outputs_aliased inputs (before ++ x ∷ []) rest) e) j k a b is is' over)
+    (second_empty (aliased_with (before ++ inputs) x) (outputs_aliased inputs (before ++ x ∷ []) rest) e) j k a b is is' over)
 
 outputs_apart : (inputs : List Marked) (outputs : List Path) → outputs_aliased inputs [] (map marked_path outputs) ≡ [] → AreApart (map static_of outputs)
 outputs_apart inputs outputs e j k a b is is' over =
-    let one = map_got static_of outputs j a is in
-    let two = map_got static_of outputs k b is' in
-    one_index inputs [] (map marked_path outputs) e j k (marked_path one.0) (marked_path two.0) (got_map marked_path outputs j one.0 one.1)
-    (got_map marked_path outputs k two.0 two.1) ((λ i. overlaps (one.2 i) (two.2 i)) ∙ over)
+    let one = get_of_map static_of outputs j a is in
+    let two = get_of_map static_of outputs k b is' in
+    one_index inputs [] (map marked_path outputs) e j k (marked_path one.0) (marked_path two.0) (get_mapped marked_path outputs j one.0 one.1)
+    (get_mapped marked_path outputs k two.0 two.1) ((λ i. overlaps (one.2 i) (two.2 i)) ∙ over)
 
 -- ---- statements
 
@@ -160,8 +112,8 @@ parts_apart : {A : Type 0} (g : A → List Aliased) (f : A → List Run) (xs : L
     AllOf R (joined (map f xs))
 parts_apart g f [] all none = tt
 parts_apart g f (x ∷ xs) all none =
-    all_both R (f x) (joined (map f xs)) (All-head (λ x. g x ≡ [] → AllOf R (f x)) x xs all (none_first (g x) (joined (map g xs)) none))
-    (parts_apart g f xs (All-tail (λ x. g x ≡ [] → AllOf R (f x)) x xs all) (none_second (g x) (joined (map g xs)) none))
+    all_both R (f x) (joined (map f xs)) (All-head (λ x. g x ≡ [] → AllOf R (f x)) x xs all (first_empty (g x) (joined (map g xs)) none))
+    (parts_apart g f xs (All-tail (λ x. g x ≡ [] → AllOf R (f x)) x xs all) (second_empty (g x) (joined (map g xs)) none))
 
 block_apart : (body : List Stmt) → Each S body → joined (map aliases_in body) ≡ [] → AllOf R (joined (map runs_in body))
 block_apart body each none = parts_apart aliases_in runs_in body each none
@@ -224,13 +176,13 @@ stmt_cases = record {
   await = λ place e. by_parts place (StmtKind-F.Await e) (λ none. tt);
   run = λ place target a inputs outputs. by_parts place (StmtKind-F.Run target a inputs outputs) (λ none. (
     outputs_apart (marked_inputs inputs) outputs
-        (none_second (target_aliased (map marked_path outputs) target) (outputs_aliased (marked_inputs inputs) [] (map marked_path outputs)) none),
+        (second_empty (target_aliased (map marked_path outputs) target) (outputs_aliased (marked_inputs inputs) [] (map marked_path outputs)) none),
     tt,
   ));
   branching = λ place arms other in_arms in_other. by_parts place (StmtKind-F.If arms other) (λ none.
       all_both R (joined (map runs_in_arm arms)) (joined (map runs_in other))
-      (arms_apart arms in_arms (none_first (joined (map arm_aliased arms)) (joined (map aliases_in other)) none))
-      (block_apart other in_other (none_second (joined (map arm_aliased arms)) (joined (map aliases_in other)) none)));
+      (arms_apart arms in_arms (first_empty (joined (map arm_aliased arms)) (joined (map aliases_in other)) none))
+      (block_apart other in_other (second_empty (joined (map arm_aliased arms)) (joined (map aliases_in other)) none)));
   cobegin = λ place branches each. by_parts place (StmtKind-F.Cobegin branches) (λ none. branches_apart branches each none);
   guarded = λ place guard e body each. by_parts place (StmtKind-F.When guard e body) (λ none. block_apart body each none);
   repeat = λ place body each. by_parts place (StmtKind-F.Repeat body) (λ none. block_apart body each none);

@@ -1,35 +1,10 @@
 -- Two paths of an instance have homes that overlap only where they overlap themselves.
-use Rattle.std.proofs.Common.{
-  ◌≡◌,
-  ℕ,
-  zero,
-  suc,
-  ◌+◌,
-  ◌<◌,
-  ◌≤◌,
-  Bool,
-  true,
-  false,
-  ◌&&◌,
-  ◌||◌,
-  List,
-  [],
-  ◌∷◌,
-  ◌++◌,
-  Option,
-  Some,
-  None,
-  refl,
-  sym,
-  ap,
-  ◌∙◌,
-  subst,
-  arith,
-  eq-eqb,
-  eqb-true,
-}
+use Rattle.std.proofs.Common.{◌≡◌, ℕ, zero, suc, ◌+◌, ◌<◌, ◌≤◌, Bool, true, false, ◌&&◌, ◌||◌, List, [], ◌∷◌, ◌++◌, Option, Some, None, refl, sym, ap, ◌∙◌}
+use Rattle.std.proofs.Common.{subst, arith, eq-eqb, eqb-true}
 use Rattle.std.specs.Prelude.{◌-◌, nat_eq, nat_le, nat_lt, option_map, slice_get, if◌then◌else◌}
 use Rattle.std.proofs.lemmas.Bool.{leb-true}
+use Rattle.std.proofs.lemmas.Bool.{and_from, or_left, or_right}
+use Rattle.bl_tree.proofs.Basics.{and_first, and_second, either_case, one_some}
 use Rattle.bl_tree.specs.declared.static_path.Static.{Static}
 use Rattle.bl_tree.specs.declared.tree.StructDef.{StructDef}
 use Rattle.bl_tree.specs.declared.tree.Unit.{Unit as UnitDef}
@@ -38,25 +13,7 @@ use Rattle.bl_ctree.specs.declared.instance.Origin.{Origin}
 use Rattle.bl_ctree.specs.Instances.{Setting, setting_of, unit_of}
 use Rattle.bl_ctree.specs.Store.{Location, home, is_output_of, led, led_by, overlap, under}
 use Rattle.bl_ctree_laws_confluence.specs.Deeds.Homes.{HomesAreApart, OutputsAreApart}
-use Rattle.bl_ctree_laws_confluence.proofs.OnDeeds.Activities.{and_left, and_right}
-use Rattle.bl_ctree_laws_confluence.proofs.OnDeeds.Nesting.{one_some}
 use Rattle.bl_ctree_laws_confluence.proofs.OnDeeds.Origins.{homes_lead_out, led_from}
-
-both_true : (a b : Bool) → a ≡ true → b ≡ true → (a && b) ≡ true
-both_true true b one other = other
-both_true false b one other = one
-
-or_left : (a b : Bool) → a ≡ true → (a || b) ≡ true
-or_left true b e = refl
-or_left false b e = absurd cc
-
-or_right : (a b : Bool) → b ≡ true → (a || b) ≡ true
-or_right true b e = refl
-or_right false b e = e
-
-by_or : {A : Type 0} (a b : Bool) → (a || b) ≡ true → (a ≡ true → A) → (b ≡ true → A) → A
-by_or true b e one other = one refl
-by_or false b e one other = other e
 
 -- ---- fields
 
@@ -64,18 +21,18 @@ front_cut : (xs ps ys qs : List ℕ) → is_front (xs ++ ps) (ys ++ qs) ≡ true
 front_cut [] ps ys qs e = refl
 front_cut (x ∷ xs) ps [] qs e = refl
 front_cut (x ∷ xs) ps (y ∷ ys) qs e =
-    let same = and_left (nat_eq x y) (is_front (xs ++ ps) (ys ++ qs)) e in
+    let same = and_first (nat_eq x y) (is_front (xs ++ ps) (ys ++ qs)) e in
     let back = eq-eqb y x (sym (eqb-true x y same)) in
-    by_or (is_front xs ys) (is_front ys xs) (front_cut xs ps ys qs (and_right (nat_eq x y) (is_front (xs ++ ps) (ys ++ qs)) e))
-    (λ one. or_left (nat_eq x y && is_front xs ys) (nat_eq y x && is_front ys xs) (both_true (nat_eq x y) (is_front xs ys) same one))
-    (λ other. or_right (nat_eq x y && is_front xs ys) (nat_eq y x && is_front ys xs) (both_true (nat_eq y x) (is_front ys xs) back other))
+    either_case (is_front xs ys) (is_front ys xs) (front_cut xs ps ys qs (and_second (nat_eq x y) (is_front (xs ++ ps) (ys ++ qs)) e))
+    (λ one. or_left (nat_eq x y && is_front xs ys) (nat_eq y x && is_front ys xs) (and_from (nat_eq x y) (is_front xs ys) same one))
+    (λ other. or_right (nat_eq x y && is_front xs ys) (nat_eq y x && is_front ys xs) (and_from (nat_eq y x) (is_front ys xs) back other))
 
 front_same : (fs ps qs : List ℕ) → is_front (fs ++ ps) (fs ++ qs) ≡ is_front ps qs
 front_same [] ps qs = refl
 front_same (f ∷ fs) ps qs = ap (λ b. b && is_front (fs ++ ps) (fs ++ qs)) (eq-eqb f f refl) ∙ front_same fs ps qs
 
 or_swapped : (a b : Bool) → (a || b) ≡ true → (b || a) ≡ true
-or_swapped a b e = by_or a b e (λ one. or_right b a one) (λ other. or_left b a other)
+or_swapped a b e = either_case a b e (λ one. or_right b a one) (λ other. or_left b a other)
 
 -- a path and what leads on from it
 abbrev longer : Static → List ℕ → Static
@@ -83,18 +40,18 @@ longer o fields = record { root = o.root; fields = o.fields ++ fields }
 
 overlap_cut : (a b : Static) (ps qs : List ℕ) → overlaps (longer a ps) (longer b qs) ≡ true → overlaps a b ≡ true
 overlap_cut a b ps qs e =
-    let roots = and_left (nat_eq a.root b.root) (is_front (a.fields ++ ps) (b.fields ++ qs) || is_front (b.fields ++ qs) (a.fields ++ ps)) e in
-    let fronts = and_right (nat_eq a.root b.root) (is_front (a.fields ++ ps) (b.fields ++ qs) || is_front (b.fields ++ qs) (a.fields ++ ps)) e in
-    both_true (nat_eq a.root b.root) (is_front a.fields b.fields || is_front b.fields a.fields) roots
-    (by_or (is_front (a.fields ++ ps) (b.fields ++ qs)) (is_front (b.fields ++ qs) (a.fields ++ ps)) fronts
+    let roots = and_first (nat_eq a.root b.root) (is_front (a.fields ++ ps) (b.fields ++ qs) || is_front (b.fields ++ qs) (a.fields ++ ps)) e in
+    let fronts = and_second (nat_eq a.root b.root) (is_front (a.fields ++ ps) (b.fields ++ qs) || is_front (b.fields ++ qs) (a.fields ++ ps)) e in
+    and_from (nat_eq a.root b.root) (is_front a.fields b.fields || is_front b.fields a.fields) roots
+    (either_case (is_front (a.fields ++ ps) (b.fields ++ qs)) (is_front (b.fields ++ qs) (a.fields ++ ps)) fronts
     (λ one. front_cut a.fields ps b.fields qs one)
     (λ other. or_swapped (is_front b.fields a.fields) (is_front a.fields b.fields) (front_cut b.fields qs a.fields ps other)))
 
 overlap_same : (o p q : Static) → p.root ≡ q.root → overlaps (longer o p.fields) (longer o q.fields) ≡ true → overlaps p q ≡ true
 overlap_same o p q roots e =
-    both_true (nat_eq p.root q.root) (is_front p.fields q.fields || is_front q.fields p.fields) (eq-eqb p.root q.root roots)
+    and_from (nat_eq p.root q.root) (is_front p.fields q.fields || is_front q.fields p.fields) (eq-eqb p.root q.root roots)
     (sym (λ i. front_same o.fields p.fields q.fields i || front_same o.fields q.fields p.fields i)
-    ∙ and_right (nat_eq o.root o.root) (is_front (o.fields ++ p.fields) (o.fields ++ q.fields) || is_front (o.fields ++ q.fields) (o.fields ++ p.fields)) e)
+    ∙ and_second (nat_eq o.root o.root) (is_front (o.fields ++ p.fields) (o.fields ++ q.fields) || is_front (o.fields ++ q.fields) (o.fields ++ p.fields)) e)
 
 -- ---- what an output stands for
 
@@ -118,7 +75,7 @@ stands_for origin unit path next e = by_test (is_output_of unit path.root) refl 
         (if b then option_map (under origin.caller path.fields) (slice_get origin.outputs (path.root - unit.inputs)) else None) ≡ Some next →
         Stands origin unit path next
     by_test true is e =
-        by_output (leb-true unit.inputs path.root (and_left (nat_le unit.inputs path.root) (nat_lt path.root (unit.inputs + unit.outputs)) is))
+        by_output (leb-true unit.inputs path.root (and_first (nat_le unit.inputs path.root) (nat_lt path.root (unit.inputs + unit.outputs)) is))
         (slice_get origin.outputs (path.root - unit.inputs)) refl e
     by_test false is e = absurd cc
 
@@ -133,7 +90,7 @@ module _ (structs : List StructDef) (units : List UnitDef) (entry : ℕ) (apart 
   Goal i p q = overlap (home W (at i p)) (home W (at i q)) ≡ true → overlaps p q ≡ true
 
   one_place : (a b : Location) → overlap a b ≡ true → a.instance ≡ b.instance
-  one_place a b e = eqb-true a.instance b.instance (and_left (nat_eq a.instance b.instance) (overlaps a.path b.path) e)
+  one_place a b e = eqb-true a.instance b.instance (and_first (nat_eq a.instance b.instance) (overlaps a.path b.path) e)
 
   -- the home of an output is not of the instance itself
   not_own : (i : ℕ) (p : Static) (next : Location) → led W (at i p) ≡ Some next → (home W (at i p)).instance ≡ i → ⊥
@@ -179,7 +136,7 @@ module _ (structs : List StructDef) (units : List UnitDef) (entry : ℕ) (apart 
   by_led : (i : ℕ) (p q : Static) (a b : Option Location) → led W (at i p) ≡ a → led W (at i q) ≡ b →
       ((j : ℕ) → j < i → (p q : Static) → Goal j p q) → Goal i p q
   by_led i p q None None e f inner over =
-      and_right (nat_eq i i) (overlaps p q) (sym (λ j. overlap (own_is i p e j) (own_is i q f j)) ∙ over)
+      and_second (nat_eq i i) (overlaps p q) (sym (λ j. overlap (own_is i p e j) (own_is i q f j)) ∙ over)
   by_led i p q (Some a) None e f inner over =
       absurd (not_own i p a e (one_place (home W (at i p)) (home W (at i q)) over ∙ ap (λ at. at.instance) (own_is i q f)))
   by_led i p q None (Some b) e f inner over =

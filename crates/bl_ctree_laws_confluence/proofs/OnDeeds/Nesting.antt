@@ -1,35 +1,9 @@
 -- What lies inside a call.
-use Rattle.std.proofs.Common.{
-  ◌≡◌,
-  ◌⊎◌,
-  inl,
-  inr,
-  ℕ,
-  zero,
-  suc,
-  ◌<◌,
-  ◌≤◌,
-  Bool,
-  true,
-  false,
-  List,
-  [],
-  ◌∷◌,
-  length,
-  get_or,
-  Option,
-  Some,
-  None,
-  refl,
-  sym,
-  ap,
-  ◌∙◌,
-  subst,
-  arith,
-  eqb-true,
-}
+use Rattle.std.proofs.Common.{◌≡◌, ◌⊎◌, inl, inr, ℕ, ◌<◌, ◌≤◌, Bool, true, false, List, [], ◌∷◌, get_or, Option, Some, None, refl, sym, ap}
+use Rattle.std.proofs.Common.{◌∙◌, subst, arith, eqb-true}
 use Rattle.std.specs.Prelude.{◌-◌, Contains, nat_eq, option_map, slice_get, if◌then◌else◌}
 use Rattle.std.proofs.lemmas.List.Quantifiers.{position-Some}
+use Rattle.bl_tree.proofs.Basics.{and_first, contains_at, get_within, numbers_differ, one_some}
 use Rattle.bl_tree.specs.declared.place.Place.{Place}
 use Rattle.bl_tree.specs.declared.static_path.Static.{Static}
 use Rattle.bl_tree.specs.declared.tree.StructDef.{StructDef}
@@ -41,14 +15,7 @@ use Rattle.bl_ctree.specs.Instances.{Setting, begins_at, callee_of, setting_of}
 use Rattle.bl_ctree.specs.Store.{Location, home, is_output_of, led, led_by, under}
 use Rattle.bl_ctree_laws_confluence.specs.Deeds.Nesting.{BeginsInstance, Inside, IsOutput, ProgramsNest, deeper, itself}
 use Rattle.bl_ctree_laws_confluence.specs.Deeds.Origins.{CalledBy, HasCaller}
-use Rattle.bl_ctree_laws_confluence.proofs.OnDeeds.Accepted.{contains_at}
-use Rattle.bl_ctree_laws_confluence.proofs.OnDeeds.Activities.{and_left}
 use Rattle.bl_ctree_laws_confluence.proofs.OnDeeds.Origins.{homes_lead_out, instances_have_callers_so, led_from, led_to_caller}
-
-got_or : {A : Type 0} (xs : List A) (k : ℕ) (d : A) → k < length xs → slice_get xs k ≡ Some (get_or xs k d)
-got_or [] k d within = absurd (omega arith)
-got_or (x ∷ xs) zero d within = refl
-got_or (x ∷ xs) (suc k) d within = got_or xs k d (omega arith)
 
 -- the instance that a `run` begins
 record Begun (w : Setting) (i c : ℕ) : Type 0 where
@@ -62,7 +29,7 @@ begun : (w : Setting) (i c : ℕ) (place : Place) → callee_of w i place ≡ So
 begun w i c place e =
     let d : Instance = record { unit = 0; depth = 0; origin = None } in
     let found = position-Some (λ instance. begins_at i place instance.origin) w.instances c d e in
-    by_origin (get_or w.instances c d) (got_or w.instances c d found.0) (get_or w.instances c d).origin refl found.1
+    by_origin (get_or w.instances c d) (get_within w.instances c d found.0) (get_or w.instances c d).origin refl found.1
   where
     by_origin : (instance : Instance) → slice_get w.instances c ≡ Some instance → (o : Option Origin) → instance.origin ≡ o →
         begins_at i place o ≡ true → Begun w i c
@@ -72,18 +39,8 @@ begun w i c place e =
       origin = origin;
       there = there;
       began = is;
-      by = eqb-true origin.caller i (and_left (nat_eq origin.caller i) (same_place origin.place place) e);
+      by = eqb-true origin.caller i (and_first (nat_eq origin.caller i) (same_place origin.place place) e);
     }
-
-pub one_some : {A : Type 0} (a b : A) (o : Option A) → o ≡ Some a → o ≡ Some b → a ≡ b
-one_some a b o e f = let both : Some a ≡ Some b = sym e ∙ f in cc
-
-unequal : (a b : ℕ) → (a ≡ b → ⊥) → nat_eq a b ≡ false
-unequal a b apart = by_test (nat_eq a b) refl
-  where
-    by_test : (t : Bool) → nat_eq a b ≡ t → t ≡ false
-    by_test true e = absurd (apart (eqb-true a b e))
-    by_test false e = refl
 
 -- what an output stands for
 record Output (origin : Origin) (path : Static) (next : Location) : Type 0 where
@@ -155,7 +112,7 @@ module _ (structs : List StructDef) (units : List UnitDef) (entry : ℕ) where
       let less = callee_later i c place runs in
       let after = inside_later c k inner in
       let before = homes_lead_out.no_later structs units entry (record { instance = i; path = path }) in
-      unequal k (home W (record { instance = i; path = path })).instance (λ same. omega arith)
+      numbers_differ k (home W (record { instance = i; path = path })).instance (λ same. omega arith)
 
   -- where the home of a callee's path leads
   led_to : (i c : ℕ) (place : Place) (path : Static) → BeginsInstance structs units entry i place c → (next : Location) →

@@ -1,38 +1,9 @@
 -- Who called an instance, and that homes lead out to callers.
-use Rattle.std.proofs.Common.{
-  ◌≡◌,
-  ◌⊎◌,
-  inl,
-  inr,
-  ⊎_elim,
-  ℕ,
-  zero,
-  suc,
-  ◌+◌,
-  ◌<◌,
-  ◌≤◌,
-  Bool,
-  true,
-  false,
-  List,
-  [],
-  ◌∷◌,
-  ◌++◌,
-  map,
-  length,
-  Option,
-  Some,
-  None,
-  refl,
-  sym,
-  ap,
-  ◌∙◌,
-  subst,
-  append_assoc,
-  arith,
-}
+use Rattle.std.proofs.Common.{◌≡◌, ◌⊎◌, inl, inr, ⊎_elim, ℕ, zero, suc, ◌+◌, ◌<◌, ◌≤◌, Bool, true, false, List, [], ◌∷◌, ◌++◌, map, length, Option, Some, None}
+use Rattle.std.proofs.Common.{refl, sym, ap, ◌∙◌, subst, append_assoc, arith}
 use Rattle.std.specs.Prelude.{◌-◌, Contains, option_and_then, option_map, slice_get, unwrap_or, if◌then◌else◌}
 use Rattle.std.proofs.lemmas.List.{length-append}
+use Rattle.bl_tree.proofs.Basics.{get_in_front, get_mapped, get_of_map}
 use Rattle.bl_tree.specs.declared.static_path.Static.{Static}
 use Rattle.bl_tree.specs.declared.tree.StructDef.{StructDef}
 use Rattle.bl_tree.specs.declared.tree.Unit.{Unit as UnitDef}
@@ -46,37 +17,17 @@ use Rattle.bl_ctree_laws_confluence.proofs.OnDeeds.Activities.{AllOf}
 
 -- ---- elements of lists
 
-get_split : {A : Type 0} (xs ys : List A) (m : ℕ) (x : A) → slice_get (xs ++ ys) m ≡ Some x →
+pub get_split : {A : Type 0} (xs ys : List A) (m : ℕ) (x : A) → slice_get (xs ++ ys) m ≡ Some x →
     (slice_get xs m ≡ Some x) ⊎ ((k : ℕ) × (m ≡ length xs + k) × (slice_get ys k ≡ Some x))
 get_split [] ys m x e = inr (m, omega arith, e)
 get_split (z ∷ xs) ys zero x e = inl e
 get_split (z ∷ xs) ys (suc m) x e =
     ⊎_elim (λ here. inl here) (λ there. let is = there.1 in inr (there.0, omega arith, there.2)) (get_split xs ys m x e)
 
-get_first : {A : Type 0} (xs ys : List A) (m : ℕ) (x : A) → slice_get xs m ≡ Some x → slice_get (xs ++ ys) m ≡ Some x
-get_first [] ys m x e = absurd cc
-get_first (z ∷ xs) ys zero x e = e
-get_first (z ∷ xs) ys (suc m) x e = get_first xs ys m x e
-
-get_second : {A : Type 0} (xs ys : List A) (m k : ℕ) (x : A) → m ≡ length xs + k → slice_get ys k ≡ Some x → slice_get (xs ++ ys) m ≡ Some x
+pub get_second : {A : Type 0} (xs ys : List A) (m k : ℕ) (x : A) → m ≡ length xs + k → slice_get ys k ≡ Some x → slice_get (xs ++ ys) m ≡ Some x
 get_second [] ys m k x is e = let same : k ≡ m = omega arith in subst (λ m. slice_get ys m ≡ Some x) same e
 get_second (z ∷ xs) ys zero k x is e = absurd (omega arith)
 get_second (z ∷ xs) ys (suc m) k x is e = get_second xs ys m k x (omega arith) e
-
-pub map_got : {A B : Type 0} (f : A → B) (xs : List A) (m : ℕ) (y : B) → slice_get (map f xs) m ≡ Some y →
-    (x : A) × (slice_get xs m ≡ Some x) × (f x ≡ y)
-map_got f [] m y e = absurd cc
-map_got f (x ∷ xs) zero y e = let same : f x ≡ y = cc in (x, refl, same)
-map_got f (x ∷ xs) (suc m) y e = map_got f xs m y e
-
-pub got_map : {A B : Type 0} (f : A → B) (xs : List A) (m : ℕ) (x : A) → slice_get xs m ≡ Some x → slice_get (map f xs) m ≡ Some (f x)
-got_map f [] m x e = absurd cc
-got_map f (y ∷ xs) zero x e = let same : y ≡ x = cc in ap (λ y. Some (f y)) same
-got_map f (y ∷ xs) (suc m) x e = got_map f xs m x e
-
-some_long : {A : Type 0} (xs : List A) (m : ℕ) (x : A) → slice_get xs m ≡ Some x → 0 < length xs
-some_long [] m x e = absurd cc
-some_long (y ∷ xs) m x e = omega arith
 
 all_members : {A : Type 0} (P : A → Type 0) (xs : List A) → ((x : A) → Contains xs x → P x) → AllOf P xs
 all_members P [] each = tt
@@ -122,8 +73,8 @@ module _ (units : List UnitDef) (k : ℕ) (alone : ℕ → List Instance) (inner
             subst (λ all. slice_get all (n + o.caller) ≡ Some (called_from n run called.caller)) (sym is)
             (get_second pre (map (called_from n run) (alone run.unit) ++ later) (n + o.caller) o.caller (called_from n run called.caller)
             (omega arith)
-            (get_first (map (called_from n run) (alone run.unit)) later o.caller (called_from n run called.caller)
-            (got_map (called_from n run) (alone run.unit) o.caller called.caller called.there)));
+            (get_in_front (map (called_from n run) (alone run.unit)) later o.caller (called_from n run called.caller)
+            (get_mapped (called_from n run) (alone run.unit) o.caller called.caller called.there)));
         deeper = ap suc called.deeper;
         body = called.body;
         runs = called.runs;
@@ -136,7 +87,7 @@ module _ (units : List UnitDef) (k : ℕ) (alone : ℕ → List Instance) (inner
       whole ≡ pre ++ (map (called_from n run) (alone run.unit) ++ later) → 0 < n → (x : Instance) →
       slice_get (map (called_from n run) (alone run.unit)) m ≡ Some x → HasCaller units k whole (n + m) x x.origin
   inner_called run is_there pre later n m long is some x e =
-      let got = map_got (called_from n run) (alone run.unit) m x e in
+      let got = get_of_map (called_from n run) (alone run.unit) m x e in
       subst (λ x. HasCaller units k whole (n + m) x x.origin) got.2
       (called_in run is_there pre later n m long is some got.0 got.0.origin (inner_stand run.unit m got.0 got.1))
 

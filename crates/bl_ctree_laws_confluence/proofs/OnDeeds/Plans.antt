@@ -1,26 +1,5 @@
 -- A deed as a plan: what it answers, and the values that it puts.
-use Rattle.std.proofs.Common.{
-  ◌≡◌,
-  inl,
-  inr,
-  ℕ,
-  Bool,
-  true,
-  List,
-  [],
-  ◌∷◌,
-  ◌++◌,
-  map,
-  Option,
-  Some,
-  None,
-  refl,
-  sym,
-  ap,
-  ◌∙◌,
-  subst,
-  false,
-}
+use Rattle.std.proofs.Common.{◌≡◌, inl, inr, ℕ, Bool, true, List, [], ◌∷◌, ◌++◌, map, Option, Some, None, refl, sym, ap, ◌∙◌, subst, false}
 use Rattle.std.specs.Prelude.{option_and_then, option_map, unwrap_or, ⊤, nat_eq}
 use Rattle.bl_tree.specs.declared.static_path.Static.{Static}
 use Rattle.bl_tree.specs.declared.tree.Arm.{Arm}
@@ -36,25 +15,8 @@ use Rattle.bl_tree.specs.Effects.{kind_reads, reads, target_static, writes}
 use Rattle.bl_tree.specs.Reduce.{joined}
 use Rattle.bl_tree.specs.Static.{mentions, set_of, static_of}
 use Rattle.bl_effects.proofs.SetLemmas.{In, set_in}
-use Rattle.bl_ctree.specs.Actions.{
-  Acts,
-  Asks,
-  Copies,
-  Effect,
-  Gives,
-  Performed,
-  Silent,
-  acted_kind,
-  done,
-  effect_on,
-  given_to,
-  is_true_value,
-  outcome_there,
-  result_at,
-  value_there,
-  values_there,
-  with_result,
-}
+use Rattle.bl_ctree.specs.Actions.{Acts, Asks, Copies, Effect, Gives, Performed, Silent, acted_kind, done, effect_on, given_to, is_true_value, outcome_there}
+use Rattle.bl_ctree.specs.Actions.{result_at, value_there, values_there, with_result}
 use Rattle.bl_ctree.specs.Instances.{Setting}
 use Rattle.bl_ctree.specs.Positions.{stmt_kind}
 use Rattle.bl_ctree.specs.Store.{Frame, Location, Store, home, homes, put, put_path, overlap, put_written, remember, whole_of, with_frame, with_inputs}
@@ -66,24 +28,8 @@ use Rattle.bl_ctree_laws_confluence.specs.Stores.{SameThere, before_of, homes_of
 use Rattle.bl_ctree_laws_confluence.proofs.OnStores.Changes.{puts_commute, puts_keep_others, frames_keep_others}
 use Rattle.bl_ctree_laws_confluence.proofs.OnStores.Remembering.{remembering_keeps_others}
 use Rattle.bl_ctree_laws_confluence.proofs.OnStores.Views.{outcomes_there_are_local, values_there_are_local}
-use Rattle.bl_ctree_laws_confluence.specs.Deeds.Deeds.{
-  AllUntouched,
-  Clear,
-  ClearOf,
-  DeedsAreIndependent,
-  NoHome,
-  NoneOf,
-  Spares,
-  Untouched,
-  effect_frames,
-  effect_looks,
-  effect_names,
-  effect_remembers,
-  effect_results,
-  effect_writes,
-  kind_frames,
-  kind_remembers,
-}
+use Rattle.bl_ctree_laws_confluence.specs.Deeds.Deeds.{AllUntouched, Clear, ClearOf, DeedsAreIndependent, NoHome, NoneOf, Spares, Untouched, effect_frames}
+use Rattle.bl_ctree_laws_confluence.specs.Deeds.Deeds.{effect_looks, effect_names, effect_remembers, effect_results, effect_writes, kind_frames, kind_remembers}
 
 -- a value that is put at a home
 record Put : Type 0 where

@@ -1,50 +1,30 @@
 -- Where what two bodies touch may have something in common: at homes of paths that overlap, and nowhere inside their calls.
-use Rattle.std.proofs.Common.{
-  ◌≡◌,
-  ℕ,
-  Bool,
-  true,
-  ◌&&◌,
-  ◌||◌,
-  List,
-  [],
-  ◌∷◌,
-  ◌++◌,
-  get_or,
-  Option,
-  Some,
-  None,
-  refl,
-  sym,
-  ap,
-  ◌∙◌,
-  subst,
-  arith,
-  eqb-true,
-  eq-eqb,
-}
+use Rattle.std.proofs.Common.{◌≡◌, ℕ, Bool, true, ◌&&◌, ◌||◌, List, [], ◌∷◌, ◌++◌, get_or, Option, Some, None, refl, sym, ap, ◌∙◌, subst, arith, eqb-true}
+use Rattle.std.proofs.Common.{eq-eqb}
 use Rattle.std.specs.Prelude.{nat_eq}
 use Rattle.std.proofs.lemmas.List.Quantifiers.{position-Some}
+use Rattle.std.proofs.lemmas.Bool.{and_from, or_left, or_right}
+use Rattle.bl_tree.proofs.Basics.{and_first, and_second, not_both}
 use Rattle.bl_tree.specs.declared.place.Place.{Place}
 use Rattle.bl_tree.specs.declared.static_path.Static.{Static}
 use Rattle.bl_tree.specs.declared.tree.StructDef.{StructDef}
 use Rattle.bl_tree.specs.declared.tree.Unit.{Unit as UnitDef}
 use Rattle.bl_tree.specs.Rules.{same_place}
 use Rattle.bl_tree.specs.Static.{is_front, overlaps, whole}
-use Rattle.bl_effects.proofs.EntryLemmas.{same_place_is}
 use Rattle.bl_effects.proofs.SetLemmas.{overlaps_symm}
 use Rattle.bl_graph_nodes.specs.Plain.{Block}
 use Rattle.bl_ctree.specs.declared.instance.Instance.{Instance}
 use Rattle.bl_ctree.specs.declared.instance.Origin.{Origin}
 use Rattle.bl_ctree.specs.Instances.{Setting, begins_at, callee_of, setting_of}
 use Rattle.bl_ctree.specs.Store.{Location, home, led, overlap, whole_of}
-use Rattle.bl_ctree_laws.proofs.Tests.{and_both, and_first, and_second, both_ways, or_le, or_left, or_of, or_right}
+use Rattle.bl_ctree_laws.proofs.Tests.{or_le, or_of}
 use Rattle.bl_ctree_laws_confluence.specs.Deeds.Homes.{OutputsAreApart}
 use Rattle.bl_ctree_laws_confluence.proofs.OnDeeds.Homes.{homes_are_apart_so}
 use Rattle.bl_ctree_laws_confluence.proofs.OnDeeds.Nesting.{programs_nest}
 use Rattle.bl_ctree_laws_confluence.proofs.OnDeeds.Origins.{homes_lead_out}
 use Rattle.bl_ctree_laws_confluence.specs.Apart.Owned.{IsInsideCall, RunsAt, SomeIn}
 use Rattle.bl_ctree_laws_confluence.specs.Apart.Seen.{InCall}
+use Rattle.bl_tree.proofs.FirstLemmas.{same_true}
 
 -- ---- paths that lead on
 
@@ -72,18 +52,18 @@ fronts (x ∷ xs) (y ∷ ys) f g e =
 
     both : nat_eq x y ≡ true → nat_eq y x ≡ true → (is_front xs ys || is_front ys xs) ≡ true → Goal ≡ true
     both same back some = or_le (is_front xs ys) (is_front ys xs) (nat_eq x y && is_front xs ys) (nat_eq y x && is_front ys xs)
-        (λ one. and_both (nat_eq x y) (is_front xs ys) same one) (λ other. and_both (nat_eq y x) (is_front ys xs) back other) some
+        (λ one. and_from (nat_eq x y) (is_front xs ys) same one) (λ other. and_from (nat_eq y x) (is_front ys xs) back other) some
 
 -- what leads on from two paths overlaps only where they do
 overlaps_before : (p q : Static) (f g : List ℕ) → overlaps (longer p f) (longer q g) ≡ true → overlaps p q ≡ true
 overlaps_before p q f g e =
     let some : Bool = is_front (p.fields ++ f) (q.fields ++ g) || is_front (q.fields ++ g) (p.fields ++ f) in
-    and_both (nat_eq p.root q.root) (is_front p.fields q.fields || is_front q.fields p.fields) (and_first (nat_eq p.root q.root) some e)
+    and_from (nat_eq p.root q.root) (is_front p.fields q.fields || is_front q.fields p.fields) (and_first (nat_eq p.root q.root) some e)
     (fronts p.fields q.fields f g (and_second (nat_eq p.root q.root) some e))
 
 pub overlap_swapped : (a b : Location) → overlap a b ≡ true → overlap b a ≡ true
 overlap_swapped a b e =
-    and_both (nat_eq b.instance a.instance) (overlaps b.path a.path)
+    and_from (nat_eq b.instance a.instance) (overlaps b.path a.path)
     (eq-eqb b.instance a.instance (sym (eqb-true a.instance b.instance (and_first (nat_eq a.instance b.instance) (overlaps a.path b.path) e))))
     (overlaps_symm b.path a.path ∙ and_second (nat_eq a.instance b.instance) (overlaps a.path b.path) e)
 
@@ -127,8 +107,8 @@ module _ (structs : List StructDef) (units : List UnitDef) (entry : ℕ) where
       by_origin : (o : Option Origin) → begins_at i place o ≡ true → begins_at i other o ≡ true → place ≡ other
       by_origin None e f = absurd cc
       by_origin (Some origin) e f =
-          sym (same_place_is origin.place place (and_second (nat_eq origin.caller i) (same_place origin.place place) e))
-          ∙ same_place_is origin.place other (and_second (nat_eq origin.caller i) (same_place origin.place other) f)
+          sym (same_true origin.place place (and_second (nat_eq origin.caller i) (same_place origin.place place) e))
+          ∙ same_true origin.place other (and_second (nat_eq origin.caller i) (same_place origin.place other) f)
 
   not_own : {A : Type 0} {i : ℕ} {body : Block} → IsInsideCall W i body i → A
   not_own {i = i} one =
@@ -140,7 +120,7 @@ module _ (structs : List StructDef) (units : List UnitDef) (entry : ℕ) where
   not_home : {A : Type 0} {i k : ℕ} {body : Block} (path : Static) → IsInsideCall W i body k →
       k ≡ (home W (record { instance = i; path = path })).instance → A
   not_home {i = i} {k = k} path one same =
-      both_ways (nat_eq k (home W (record { instance = i; path = path })).instance)
+      not_both (nat_eq k (home W (record { instance = i; path = path })).instance)
       ((programs_nest structs units entry).hidden i one.callee k one.place path one.begins one.inside)
       (eq-eqb k (home W (record { instance = i; path = path })).instance same)
 
@@ -160,7 +140,7 @@ module _ (structs : List StructDef) (units : List UnitDef) (entry : ℕ) where
   pub not_in_call : {i : ℕ} {body : Block} {P Q : Static → Type 0} {at : Location} → InCall W i at.instance → At i body P at → At i body Q at
   not_in_call called (inner one) = inner one
   not_in_call {i = i} {at = at} called (outer path fields is holds) =
-      both_ways (nat_eq at.instance (home W (record { instance = i; path = longer path fields })).instance)
+      not_both (nat_eq at.instance (home W (record { instance = i; path = longer path fields })).instance)
       ((programs_nest structs units entry).hidden i called.callee at.instance called.place (longer path fields) called.runs called.inside)
       (eq-eqb at.instance (home W (record { instance = i; path = longer path fields })).instance (ap (λ at. at.instance) is))
   not_in_call {i = i} {at = at} called (kept k is holds) =

@@ -1,31 +1,10 @@
 -- What a deed of what is left of a body touches: homes of the instance's paths that the body's statements name, and what is inside its calls.
-use Rattle.std.proofs.Common.{
-  ◌≡◌,
-  ◌⊎◌,
-  inl,
-  inr,
-  ℕ,
-  Bool,
-  true,
-  false,
-  ◌&&◌,
-  ◌||◌,
-  List,
-  [],
-  ◌∷◌,
-  ◌++◌,
-  map,
-  refl,
-  sym,
-  ap,
-  ◌∙◌,
-  subst,
-  append-nil,
-  eq-eqb,
-  eqb-true,
-}
+use Rattle.std.proofs.Common.{◌≡◌, ◌⊎◌, inl, inr, ℕ, Bool, true, false, ◌&&◌, ◌||◌, List, [], ◌∷◌, ◌++◌, map, refl, sym, ap, ◌∙◌, subst, append-nil, eq-eqb}
+use Rattle.std.proofs.Common.{eqb-true}
 use Rattle.std.specs.Prelude.{nat_eq, ⊤}
 use Rattle.std.specs.List.{list_any}
+use Rattle.std.proofs.lemmas.Bool.{and_from, or_left, or_right}
+use Rattle.bl_tree.proofs.Basics.{and_first, and_second}
 use Rattle.bl_tree.specs.declared.place.Place.{Place}
 use Rattle.bl_tree.specs.declared.static_path.Static.{Static}
 use Rattle.bl_tree.specs.declared.tree.Arm.{Arm, fold-Arm}
@@ -41,20 +20,7 @@ use Rattle.bl_tree.specs.Effects.{arm_writes, branch_paths, kind_writes, reads, 
 use Rattle.bl_tree.specs.Program.{IsWellTyped}
 use Rattle.bl_tree.specs.Reduce.{joined}
 use Rattle.bl_tree.specs.Static.{is_front, mentions, set_of, static_of, whole}
-use Rattle.bl_graph_nodes.specs.Plain.{
-  Block,
-  Plain,
-  Act,
-  Again,
-  Await,
-  Cobegin,
-  If,
-  Repeat,
-  Run as RunOf,
-  Until,
-  When,
-  While,
-}
+use Rattle.bl_graph_nodes.specs.Plain.{Block, Plain, Act, Again, Await, Cobegin, If, Repeat, Run as RunOf, Until, When, While}
 use Rattle.bl_ctree.specs.Actions.{Effect, Silent, Acts, Asks, Copies, Gives, effect_reads}
 use Rattle.bl_ctree.specs.Instances.{Setting, setting_of}
 use Rattle.bl_ctree.specs.Positions.{stmt_kind}
@@ -63,17 +29,9 @@ use Rattle.bl_ctree_laws.specs.Pending.{Deed}
 use Rattle.bl_ctree_laws.specs.Steps.{Anyway, Moves}
 use Rattle.bl_ctree_laws.specs.Trees.{Tree}
 use Rattle.bl_ctree_laws.proofs.Less.{may_is_could}
-use Rattle.bl_ctree_laws.proofs.Tests.{and_both, and_first, and_second, or_left, or_right}
 use Rattle.bl_ctree_laws_confluence.specs.Stores.{homes_of}
-use Rattle.bl_ctree_laws_confluence.specs.Deeds.Deeds.{
-  effect_frames,
-  effect_looks,
-  effect_names,
-  effect_remembers,
-  effect_results,
-  effect_writes,
-  kind_remembers,
-}
+use Rattle.bl_ctree_laws_confluence.specs.Deeds.Deeds.{effect_frames, effect_looks, effect_names, effect_remembers, effect_results, effect_writes}
+use Rattle.bl_ctree_laws_confluence.specs.Deeds.Deeds.{kind_remembers}
 use Rattle.bl_ctree_laws_confluence.specs.Deeds.Nesting.{Inside, IsOutput}
 use Rattle.bl_ctree_laws_confluence.proofs.OnDeeds.Nesting.{programs_nest}
 use Rattle.bl_ctree_laws_confluence.specs.Apart.Named.{OneOf, effect_declares, effect_roots}
@@ -131,9 +89,9 @@ any_in test (y ∷ ys) x (inr more) is = or_right (test y) (list_any test ys) (a
 
 -- ---- one path
 
-front_itself : (xs : List ℕ) → is_front xs xs ≡ true
+pub front_itself : (xs : List ℕ) → is_front xs xs ≡ true
 front_itself [] = refl
-front_itself (x ∷ xs) = and_both (nat_eq x x) (is_front xs xs) (eq-eqb x x refl) (front_itself xs)
+front_itself (x ∷ xs) = and_from (nat_eq x x) (is_front xs xs) (eq-eqb x x refl) (front_itself xs)
 
 front_both : (xs ys : List ℕ) → is_front xs ys ≡ true → is_front ys xs ≡ true → xs ≡ ys
 front_both [] [] e f = refl
@@ -150,8 +108,8 @@ same_path a b = nat_eq a.root b.root && (is_front a.fields b.fields && is_front 
 
 path_itself : (a : Static) → same_path a a ≡ true
 path_itself a =
-    and_both (nat_eq a.root a.root) (is_front a.fields a.fields && is_front a.fields a.fields) (eq-eqb a.root a.root refl)
-    (and_both (is_front a.fields a.fields) (is_front a.fields a.fields) (front_itself a.fields) (front_itself a.fields))
+    and_from (nat_eq a.root a.root) (is_front a.fields a.fields && is_front a.fields a.fields) (eq-eqb a.root a.root refl)
+    (and_from (is_front a.fields a.fields) (is_front a.fields a.fields) (front_itself a.fields) (front_itself a.fields))
 
 same_path_is : (a b : Static) → same_path a b ≡ true → a ≡ b
 same_path_is a b e =

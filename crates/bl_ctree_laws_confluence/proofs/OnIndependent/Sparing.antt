@@ -1,6 +1,8 @@
 -- Deeds of two bodies that keep apart spare each other.
 use Rattle.std.proofs.Common.{◌≡◌, ◌⊎◌, inl, inr, ℕ, zero, suc, Bool, true, false, List, [], ◌∷◌, Some, refl, sym, ap, subst, eqb-true}
 use Rattle.std.specs.Prelude.{nat_eq, slice_get}
+use Rattle.std.proofs.lemmas.Bool.{false_from_ne_true}
+use Rattle.bl_tree.proofs.Basics.{and_first, not_both, numbers_differ}
 use Rattle.bl_tree.specs.declared.static_path.Static.{Static}
 use Rattle.bl_tree.specs.declared.tree.StructDef.{StructDef}
 use Rattle.bl_tree.specs.declared.tree.Unit.{Unit as UnitDef}
@@ -12,22 +14,8 @@ use Rattle.bl_ctree.specs.Instances.{Setting, setting_of}
 use Rattle.bl_ctree.specs.Store.{Location, overlap}
 use Rattle.bl_ctree_laws.specs.Pending.{Deed, may_write, meets}
 use Rattle.bl_ctree_laws.specs.Trees.{Tree}
-use Rattle.bl_ctree_laws.proofs.Tests.{and_first, both_ways}
-use Rattle.bl_ctree_laws_confluence.specs.Deeds.Deeds.{
-  AllUntouched,
-  Clear,
-  ClearOf,
-  NoHome,
-  NoneOf,
-  Spares,
-  Untouched,
-  effect_frames,
-  effect_looks,
-  effect_names,
-  effect_remembers,
-  effect_results,
-  effect_writes,
-}
+use Rattle.bl_ctree_laws_confluence.specs.Deeds.Deeds.{AllUntouched, Clear, ClearOf, NoHome, NoneOf, Spares, Untouched, effect_frames, effect_looks}
+use Rattle.bl_ctree_laws_confluence.specs.Deeds.Deeds.{effect_names, effect_remembers, effect_results, effect_writes}
 use Rattle.bl_ctree_laws_confluence.specs.Deeds.Homes.{OutputsAreApart}
 use Rattle.bl_ctree_laws_confluence.specs.Apart.Named.{OneOf, effect_declares}
 use Rattle.bl_ctree_laws_confluence.specs.Apart.Owned.{IsInsideCall, SomeIn}
@@ -38,34 +26,15 @@ use Rattle.bl_ctree_laws_confluence.proofs.OnApart.Members.{In}
 use Rattle.bl_ctree_laws_confluence.proofs.OnApart.Seen.{writes_are_seen_so}
 use Rattle.bl_ctree_laws_confluence.specs.Independent.Sides.{KeptApart, Side, SidesSpare}
 use Rattle.bl_ctree_laws_confluence.proofs.OnIndependent.Homes.{At, Met, called_apart, called_clash, meet, not_in_call, overlap_swapped}
-use Rattle.bl_ctree_laws_confluence.proofs.OnIndependent.Sides.{
-  DeclaredIn,
-  NamedIn,
-  any_in,
-  frames_at,
-  looks_at,
-  looks_split,
-  moving,
-  names_at,
-  remembers_at,
-  results_at,
-  stand,
-  writes_at,
-}
+use Rattle.bl_ctree_laws_confluence.proofs.OnIndependent.Sides.{DeclaredIn, NamedIn, any_in, frames_at, looks_at, looks_split, moving, names_at, remembers_at}
+use Rattle.bl_ctree_laws_confluence.proofs.OnIndependent.Sides.{results_at, stand, writes_at}
 
 -- ---- lists of homes and of frames, one by one
-
-not_true : (b : Bool) → (b ≡ true → ⊥) → b ≡ false
-not_true true never = absurd (never refl)
-not_true false never = refl
-
-unequal : (a b : ℕ) → (a ≡ b → ⊥) → nat_eq a b ≡ false
-unequal a b never = not_true (nat_eq a b) (λ same. never (eqb-true a b same))
 
 clear_one : (at : Location) (others : List Location) → ((over : Location) → In over others → overlap at over ≡ true → ⊥) → ClearOf at others
 clear_one at [] never = tt
 clear_one at (over ∷ rest) never =
-    (not_true (overlap at over) (never over (inl refl)), clear_one at rest (λ other there. never other (inr there)))
+    (false_from_ne_true (overlap at over) (never over (inl refl)), clear_one at rest (λ other there. never other (inr there)))
 
 clear_all : (xs others : List Location) → ((at over : Location) → In at xs → In over others → overlap at over ≡ true → ⊥) → Clear xs others
 clear_all [] others never = tt
@@ -75,11 +44,11 @@ clear_all (at ∷ rest) others never =
 no_home : (frame : ℕ) (others : List Location) → ((over : Location) → In over others → frame ≡ over.instance → ⊥) → NoHome frame others
 no_home frame [] never = tt
 no_home frame (over ∷ rest) never =
-    (unequal frame over.instance (never over (inl refl)), no_home frame rest (λ other there. never other (inr there)))
+    (numbers_differ frame over.instance (never over (inl refl)), no_home frame rest (λ other there. never other (inr there)))
 
 none_among : (frame : ℕ) (others : List ℕ) → ((other : ℕ) → In other others → frame ≡ other → ⊥) → NoneOf frame others
 none_among frame [] never = tt
-none_among frame (other ∷ rest) never = (unequal frame other (never other (inl refl)), none_among frame rest (λ next there. never next (inr there)))
+none_among frame (other ∷ rest) never = (numbers_differ frame other (never other (inl refl)), none_among frame rest (λ next there. never next (inr there)))
 
 all_untouched : (w : Setting) (k : ℕ) (e : Effect) (frames : List ℕ) → ((frame : ℕ) → In frame frames → Untouched w k e frame) →
     AllUntouched w k e frames
@@ -110,7 +79,7 @@ module _ (structs : List StructDef) (units : List UnitDef) (entry : ℕ) (keeps 
 
   -- paths that both write don't overlap
   not_written : {A : Type 0} (p q : Static) → SomeIn (StatementWrites p) one → SomeIn (StatementWrites q) other → overlaps p q ≡ true → A
-  not_written p q x y e = both_ways (overlaps p q) (apart.writes p q x y) e
+  not_written p q x y e = not_both (overlaps p q) (apart.writes p q x y) e
 
   seen : (at over : Location) → In at (effect_writes W a.instance a.effect) → In over (effect_reads W b.instance b.effect) → overlap at over ≡ true →
       InCall W i at.instance
@@ -121,7 +90,7 @@ module _ (structs : List StructDef) (units : List UnitDef) (entry : ℕ) (keeps 
     where
       by_seen : (may_write W i c over ≡ true) ⊎ InCall W i at.instance → InCall W i at.instance
       by_seen (inl may) =
-          both_ways (meets W i c b) unmet (any_in (may_write W i c) (effect_reads W b.instance b.effect) over read may)
+          not_both (meets W i c b) unmet (any_in (may_write W i c) (effect_reads W b.instance b.effect) over read may)
       by_seen (inr called) = called
 
   looks_so : (at over : Location) → In at (effect_writes W a.instance a.effect) →

@@ -1,27 +1,7 @@
 -- Values that are put at homes that don't overlap are put in either order, and leave the others as they are.
-use Rattle.std.proofs.Common.{
-  ◌≡◌,
-  ℕ,
-  zero,
-  suc,
-  Bool,
-  true,
-  false,
-  ◌&&◌,
-  ◌||◌,
-  List,
-  [],
-  ◌∷◌,
-  Option,
-  Some,
-  None,
-  refl,
-  sym,
-  ap,
-  ◌∙◌,
-  eq-eqb,
-}
+use Rattle.std.proofs.Common.{◌≡◌, ℕ, zero, suc, Bool, true, false, ◌&&◌, ◌||◌, List, [], ◌∷◌, Option, Some, None, refl, sym, ap, ◌∙◌, eq-eqb}
 use Rattle.std.specs.Prelude.{nat_eq, option_map, option_and_then, slice_get, slice_set, unwrap_or}
+use Rattle.bl_tree.proofs.Basics.{neither_first, neither_second, not_both, same_some}
 use Rattle.bl_tree.specs.declared.value.Value.{Value, out-Value, roll-Value, roll-out-Value}
 use Rattle.bl_tree.specs.declared.value.Value.TheOpen.{Value-F}
 use Rattle.bl_tree.specs.declared.value.Value.TheVariants.{Parts, rolls-Parts}
@@ -29,7 +9,7 @@ use Rattle.bl_tree.specs.Static.{is_front, overlaps}
 use Rattle.bl_eval.specs.Values.{parts_at, parts_in, put_at, value_at, with_value_at}
 use Rattle.bl_ctree.specs.Actions.{result_at}
 use Rattle.bl_ctree.specs.Store.{Frame, Location, Store, overlap, put, value_among, with_frame, with_now}
-use Rattle.bl_eval_laws.proofs.OnLocal.Puts.{parts_of, some_same}
+use Rattle.bl_eval_laws.proofs.OnLocal.Puts.{parts_of}
 use Rattle.bl_ctree_laws_confluence.specs.Stores.{FramesKeepOthers, PutsCommute, PutsKeepOthers, before_of, now_of}
 
 -- ---- one element of a list is changed
@@ -94,13 +74,13 @@ with_put fields new value = unwrap_or (with_value_at fields new value) value
 abbrev on_parts : (List Value → List Value) → Value → Value
 on_parts change value = unwrap_or (option_map (λ all. Parts (change all)) (parts_in value)) value
 
-whole_again : (value : Value) (all : List Value) → parts_in value ≡ Some all → Parts all ≡ value
+pub whole_again : (value : Value) (all : List Value) → parts_in value ≡ Some all → Parts all ≡ value
 whole_again value all e = by_level (out-Value value) refl e
   where
     by_level : (level : Value-F Value) → out-Value value ≡ level → parts_at level ≡ Some all → Parts all ≡ value
     by_level (Value-F.Number n) is e = absurd cc
     by_level (Value-F.Parts these) is e =
-        ap Parts (sym (some_same these all e)) ∙ sym (rolls-Parts these) ∙ ap roll-Value (sym is) ∙ roll-out-Value value
+        ap Parts (sym (same_some these all e)) ∙ sym (rolls-Parts these) ∙ ap roll-Value (sym is) ∙ roll-out-Value value
 
 put_in_part : (k : ℕ) (fields : List ℕ) (new value : Value) → with_put (k ∷ fields) new value ≡ on_parts (changed k (with_put fields new)) value
 put_in_part k fields new value = by_parts (parts_in value) refl
@@ -150,15 +130,6 @@ parts_commute a b value same = by_parts (parts_in value) refl
     by_parts (Some all) is =
         ap (on_parts a) (on_some b all is) ∙ on_made a (b all) ∙ ap Parts (same all) ∙ sym (on_made b (a all))
         ∙ sym (ap (on_parts b) (on_some a all is))
-
--- where both are no, neither is yes
-first_no : (a b : Bool) → (a || b) ≡ false → a ≡ false
-first_no true b e = absurd cc
-first_no false b e = refl
-
-pub second_no : (a b : Bool) → (a || b) ≡ false → b ≡ false
-second_no true b e = absurd cc
-second_no false b e = e
 
 pub rest_no : (a b : Bool) → (a && b) ≡ false → a ≡ true → b ≡ false
 rest_no true b e is = e
@@ -212,8 +183,8 @@ puts_commute a b v u store apart =
     ap (λ now. record frame { now = now }) (changes_commute a.path.root b.path.root (with_put a.path.fields v) (with_put b.path.fields u) frame.now
     (λ root old. let fronts = rest_no (nat_eq a.path.root b.path.root) (is_front a.path.fields b.path.fields || is_front b.path.fields a.path.fields)
     (rest_no (nat_eq a.instance b.instance) (overlaps a.path b.path) apart (eq-eqb a.instance b.instance same)) (eq-eqb a.path.root b.path.root root) in
-    field_puts_commute a.path.fields b.path.fields v u old (first_no (is_front a.path.fields b.path.fields) (is_front b.path.fields a.path.fields) fronts)
-    (second_no (is_front a.path.fields b.path.fields) (is_front b.path.fields a.path.fields) fronts))))
+    field_puts_commute a.path.fields b.path.fields v u old (neither_first (is_front a.path.fields b.path.fields) (is_front b.path.fields a.path.fields) fronts)
+    (neither_second (is_front a.path.fields b.path.fields) (is_front b.path.fields a.path.fields) fronts))))
     ∙ sym (put_is b u (put a v store) ∙ ap (changed b.instance (frame_put b u)) (put_is a v store))
 
 -- ---- what is elsewhere
@@ -259,8 +230,8 @@ now_elsewhere a b v store apart =
     (λ root old. let fronts = rest_no (nat_eq a.path.root b.path.root) (is_front a.path.fields b.path.fields || is_front b.path.fields a.path.fields)
     (rest_no (nat_eq a.instance b.instance) (overlaps a.path b.path) apart (eq-eqb a.instance b.instance (sym same)))
     (eq-eqb a.path.root b.path.root (sym root)) in
-    elsewhere_same a.path.fields b.path.fields v old (first_no (is_front a.path.fields b.path.fields) (is_front b.path.fields a.path.fields) fronts)
-    (second_no (is_front a.path.fields b.path.fields) (is_front b.path.fields a.path.fields) fronts)))
+    elsewhere_same a.path.fields b.path.fields v old (neither_first (is_front a.path.fields b.path.fields) (is_front b.path.fields a.path.fields) fronts)
+    (neither_second (is_front a.path.fields b.path.fields) (is_front b.path.fields a.path.fields) fronts)))
 
 before_kept : (a b : Location) (v : Value) (store : Store) → value_among before_of (put a v store) b ≡ value_among before_of store b
 before_kept a b v store =
@@ -286,22 +257,18 @@ frame_is i change store = by_frame (slice_get store i) refl
     by_frame None e = sym (changed_none i change store e)
     by_frame (Some frame) e = sym (changed_some i change store frame (change frame) e refl)
 
-pub no_way : {A : Type 0} (b : Bool) → b ≡ false → b ≡ true → A
-no_way true e f = absurd cc
-no_way false e f = absurd cc
-
 frame_past_put : (i : ℕ) (change : Frame → Frame) (a : Location) (v : Value) (store : Store) → nat_eq i a.instance ≡ false →
     with_frame i change (put a v store) ≡ put a v (with_frame i change store)
 frame_past_put i change a v store apart =
     frame_is i change (put a v store) ∙ ap (changed i change) (put_is a v store)
-    ∙ changes_commute i a.instance change (frame_put a v) store (λ same frame. no_way (nat_eq i a.instance) apart (eq-eqb i a.instance same))
+    ∙ changes_commute i a.instance change (frame_put a v) store (λ same frame. not_both (nat_eq i a.instance) apart (eq-eqb i a.instance same))
     ∙ sym (put_is a v (with_frame i change store) ∙ ap (changed a.instance (frame_put a v)) (frame_is i change store))
 
 frames_past : (i j : ℕ) (change other : Frame → Frame) (store : Store) → nat_eq i j ≡ false →
     with_frame i change (with_frame j other store) ≡ with_frame j other (with_frame i change store)
 frames_past i j change other store apart =
     frame_is i change (with_frame j other store) ∙ ap (changed i change) (frame_is j other store)
-    ∙ changes_commute i j change other store (λ same frame. no_way (nat_eq i j) apart (eq-eqb i j same))
+    ∙ changes_commute i j change other store (λ same frame. not_both (nat_eq i j) apart (eq-eqb i j same))
     ∙ sym (frame_is j other (with_frame i change store) ∙ ap (changed j other) (frame_is i change store))
 
 values_elsewhere : (values : Frame → List Value) (i : ℕ) (change : Frame → Frame) (b : Location) (store : Store) → nat_eq i b.instance ≡ false →
@@ -309,13 +276,13 @@ values_elsewhere : (values : Frame → List Value) (i : ℕ) (change : Frame →
 values_elsewhere values i change b store apart =
     ap (λ store. value_among values store b) (frame_is i change store)
     ∙ seen_changed (λ frame. option_and_then (value_at b.path.fields) (slice_get (values frame) b.path.root)) i b.instance change store
-    (λ same frame. no_way (nat_eq i b.instance) apart (eq-eqb i b.instance (sym same)))
+    (λ same frame. not_both (nat_eq i b.instance) apart (eq-eqb i b.instance (sym same)))
 
 results_elsewhere : (i j : ℕ) (change : Frame → Frame) (store : Store) → nat_eq i j ≡ false →
     result_at (with_frame i change store) j ≡ result_at store j
 results_elsewhere i j change store apart =
     ap (λ store. result_at store j) (frame_is i change store)
-    ∙ seen_changed (λ frame. frame.result) i j change store (λ same frame. no_way (nat_eq i j) apart (eq-eqb i j (sym same)))
+    ∙ seen_changed (λ frame. frame.result) i j change store (λ same frame. not_both (nat_eq i j) apart (eq-eqb i j (sym same)))
 
 pub frames_keep_others : FramesKeepOthers
 frames_keep_others = record { puts = frame_past_put; frames = frames_past; values = values_elsewhere; results = results_elsewhere }

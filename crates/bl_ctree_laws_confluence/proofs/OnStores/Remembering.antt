@@ -1,13 +1,14 @@
 -- That a declared variable had before what it has now is set in either order with what is done to other variables.
-use Rattle.std.proofs.Common.{◌≡◌, ℕ, zero, suc, Bool, true, false, ◌||◌, List, [], ◌∷◌, Option, Some, None, refl, sym, ap, ◌∙◌, eq-eqb}
+use Rattle.std.proofs.Common.{◌≡◌, ℕ, zero, suc, true, false, ◌||◌, List, [], ◌∷◌, Option, Some, None, refl, sym, ap, ◌∙◌, eq-eqb}
 use Rattle.std.specs.Prelude.{nat_eq, option_map, option_and_then, slice_get, slice_set, unwrap_or}
+use Rattle.bl_tree.proofs.Basics.{not_both, or_true}
 use Rattle.bl_tree.specs.declared.value.Value.{Value}
 use Rattle.bl_tree.specs.Static.{is_front, overlaps}
 use Rattle.bl_eval.specs.Values.{value_at}
 use Rattle.bl_ctree.specs.Actions.{result_at}
 use Rattle.bl_ctree.specs.Store.{Frame, Location, Store, overlap, put, remember, value_among, whole_of, with_frame}
 use Rattle.bl_ctree_laws_confluence.specs.Stores.{RememberingKeepsOthers, before_of, now_of}
-use Rattle.bl_ctree_laws_confluence.proofs.OnStores.Changes.{changed, changes_commute, frame_is, frame_put, no_way, put_is, rest_no, seen_changed, with_put}
+use Rattle.bl_ctree_laws_confluence.proofs.OnStores.Changes.{changed, changes_commute, frame_is, frame_put, put_is, rest_no, seen_changed, with_put}
 
 set_is : (xs : List Value) (k : ℕ) (v : Value) → slice_set xs k v ≡ changed k (λ old. v) xs
 set_is [] k v = refl
@@ -51,14 +52,10 @@ kept_elsewhere q k j (Some value) before apart = seen_changed q k j (λ old. val
 two_roots : (a b : Location) → overlap a b ≡ false → (is_front a.path.fields b.path.fields || is_front b.path.fields a.path.fields) ≡ true →
     a.instance ≡ b.instance → a.path.root ≡ b.path.root → ⊥
 two_roots a b apart fronts same root =
-    no_way (is_front a.path.fields b.path.fields || is_front b.path.fields a.path.fields)
+    not_both (is_front a.path.fields b.path.fields || is_front b.path.fields a.path.fields)
     (rest_no (nat_eq a.path.root b.path.root) (is_front a.path.fields b.path.fields || is_front b.path.fields a.path.fields)
     (rest_no (nat_eq a.instance b.instance) (overlaps a.path b.path) apart (eq-eqb a.instance b.instance same))
     (eq-eqb a.path.root b.path.root root)) fronts
-
-or_true : (a : Bool) → (a || true) ≡ true
-or_true true = refl
-or_true false = refl
 
 remembered_past_put : (i k : ℕ) (a : Location) (v : Value) (store : Store) → overlap a (whole_of i k) ≡ false →
     with_frame i (remember k) (put a v store) ≡ put a v (with_frame i (remember k) store)

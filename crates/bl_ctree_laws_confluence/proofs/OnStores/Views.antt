@@ -20,16 +20,7 @@ use Rattle.bl_eval_laws.specs.Local.{Alike, LeftAlike, SameAt, at_path, named_by
 use Rattle.bl_eval_laws.proofs.OnLocal.Acting.{acts_are_local}
 use Rattle.bl_eval_laws.proofs.OnLocal.Locality.{values_are_local_too, value_within}
 use Rattle.bl_eval_laws.proofs.OnLocal.Puts.{parts_of}
-use Rattle.bl_ctree_laws_confluence.specs.Stores.{
-  OutcomesThereAreLocal,
-  SameThere,
-  ValuesThereAreLocal,
-  ViewsAreLocal,
-  before_of,
-  homes_of,
-  now_of,
-  onward,
-}
+use Rattle.bl_ctree_laws_confluence.specs.Stores.{OutcomesThereAreLocal, SameThere, ValuesThereAreLocal, ViewsAreLocal, before_of, homes_of, now_of, onward}
 use Rattle.bl_ctree_laws_confluence.proofs.OnStores.Homes.{homes_lead_on}
 
 -- ---- variables by their numbers
@@ -41,7 +32,7 @@ get_mapped f (x ∷ xs) zero = refl
 get_mapped f (x ∷ xs) (suc k) = get_mapped f xs k
 
 -- the number at a place of a range
-range_at : (first count k j : ℕ) → slice_get (range_with_len first count) k ≡ Some j → j ≡ first + k
+pub range_at : (first count k j : ℕ) → slice_get (range_with_len first count) k ≡ Some j → j ≡ first + k
 range_at first zero zero j e = absurd cc
 range_at first zero (suc k) j e = absurd cc
 range_at first (suc count) zero j e = let is : first ≡ j = cc in omega arith
@@ -76,7 +67,7 @@ mapped_alike f g count k fields same =
 
 -- ---- values at homes
 
-nothing_there : (f : ℕ) (fields : List ℕ) → value_at (f ∷ fields) (Parts []) ≡ None
+pub nothing_there : (f : ℕ) (fields : List ℕ) → value_at (f ∷ fields) (Parts []) ≡ None
 nothing_there f fields = ap (λ all. option_and_then (value_at fields) (option_and_then (λ all. slice_get all f) all)) (parts_of []) ∙ empty f
   where
     empty : (f : ℕ) → option_and_then (value_at fields) (slice_get [] f) ≡ None

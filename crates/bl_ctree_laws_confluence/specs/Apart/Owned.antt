@@ -2,25 +2,8 @@
 use Rattle.std.specs.Prelude.{◌≡◌, ◌⊎◌, ℕ, Bool, List, Some}
 use Rattle.bl_tree.specs.declared.place.Place.{Place}
 use Rattle.bl_tree.specs.declared.tree.Path.{Path}
-use Rattle.bl_graph_nodes.specs.Plain.{
-  Block,
-  Bodies,
-  Plain,
-  Act,
-  Again,
-  Await,
-  Body as BodyOf,
-  Cobegin,
-  Done,
-  If,
-  Last,
-  Repeat,
-  Run as RunOf,
-  Then,
-  Until,
-  When,
-  While,
-}
+use Rattle.bl_graph_nodes.specs.Plain.{Block, Bodies, Plain, Act, Again, Await, Body as BodyOf, Cobegin, Done, If, Last, Repeat, Run as RunOf, Then, Until}
+use Rattle.bl_graph_nodes.specs.Plain.{When, While}
 use Rattle.bl_graph_nodes.specs.Steps.{StepLabel}
 use Rattle.bl_ctree.specs.Actions.{Effect, Silent, Acts, Asks, Copies, Gives}
 use Rattle.bl_ctree.specs.Instances.{Setting, callee_of}

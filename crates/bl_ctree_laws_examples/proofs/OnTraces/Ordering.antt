@@ -4,6 +4,7 @@ use Rattle.std.proofs.Common.{option_map, refl, sym, ap, ◌∙◌, subst, arith
 use Rattle.std.specs.Prelude.{All, Contains, slice_get, slice_index}
 use Rattle.std.proofs.lemmas.List.Elements.{All-nil, All-cons, All-contains}
 use Rattle.std.proofs.lemmas.Option.{get_or_from_slice_get, slice_get-map}
+use Rattle.bl_tree.proofs.Basics.{from_false}
 use Rattle.bl_tree.specs.declared.graph.Edge.{Edge as GraphEdge}
 use Rattle.bl_tree.specs.declared.graph.Node.{Node as GraphNode}
 use Rattle.bl_tree.specs.declared.static_path.Static.{Static}
@@ -20,26 +21,8 @@ use Rattle.bl_cause.specs.Ranks.{Ranks}
 use Rattle.bl_cause_laws.specs.Orders.{BodiesHaveGraphs}
 use Rattle.bl_ctree_laws_traces.specs.Ready.Ordered.{HasOrder}
 use Rattle.bl_ctree_laws_examples.specs.Trees.Made.{always, at}
-use Rattle.bl_ctree_laws_examples.specs.Trees.TwoWay.{
-  body,
-  branches,
-  declares,
-  i,
-  label_inside,
-  left_loop,
-  left_position,
-  left_turn,
-  o,
-  plain_statements,
-  right_loop,
-  right_position,
-  right_turn,
-  sets_o,
-  sets_x,
-  sets_y,
-  x,
-  y,
-}
+use Rattle.bl_ctree_laws_examples.specs.Trees.TwoWay.{body, branches, declares, i, label_inside, left_loop, left_position, left_turn, o, plain_statements}
+use Rattle.bl_ctree_laws_examples.specs.Trees.TwoWay.{right_loop, right_position, right_turn, sets_o, sets_x, sets_y, x, y}
 
 -- ---- nodes
 
@@ -97,16 +80,13 @@ number _ = 9
 by : (a b n m : Node) → n ≡ a → m ≡ b → number a < number b → number n < number m
 by a b n m from to less = subst (λ k. k < number m) (sym (ap number from)) (subst (λ k. number a < k) (sym (ap number to)) less)
 
-wrong : {A : Type 0} → false ≡ true → A
-wrong is = absurd cc
-
 -- ---- control edges
 
 left_ends : (n : Node) → OutAll left_turn n → n ≡ left_tests
 left_ends n (inl (inl (inl none))) = absurd none
 left_ends n (inl (inl (inr (e, is)))) = is
-left_ends n (inl (inr (e, is))) = wrong e
-left_ends n (inr (e, is)) = wrong e
+left_ends n (inl (inr (e, is))) = from_false e
+left_ends n (inr (e, is)) = from_false e
 
 left_turn_rises : (n m : Node) → EdgeAll left_turn n m → number n < number m
 left_turn_rises n m (inl none) = absurd none
@@ -120,7 +100,7 @@ left_turn_rises n m (inr (inr (from, to))) = by x_acts o_acts n m from to (omega
 left_rises : (n m : Node) → EdgeAll (Then left_loop Done) n m → number n < number m
 left_rises n m (inl (inl inner)) = left_turn_rises n m inner
 left_rises n m (inl (inr (inl (from, inl to)))) = by left_head x_acts n m from to (omega arith)
-left_rises n m (inl (inr (inl (from, inr (e, to))))) = wrong e
+left_rises n m (inl (inr (inl (from, inr (e, to))))) = from_false e
 left_rises n m (inl (inr (inr (out, to)))) = by left_tests left_head n m (left_ends n out) to (omega arith)
 left_rises n m (inr (inl none)) = absurd none
 left_rises n m (inr (inr (none, to))) = absurd none
@@ -128,7 +108,7 @@ left_rises n m (inr (inr (none, to))) = absurd none
 right_ends : (n : Node) → OutAll right_turn n → n ≡ right_tests
 right_ends n (inl (inl none)) = absurd none
 right_ends n (inl (inr (e, is))) = is
-right_ends n (inr (e, is)) = wrong e
+right_ends n (inr (e, is)) = from_false e
 
 right_turn_rises : (n m : Node) → EdgeAll right_turn n m → number n < number m
 right_turn_rises n m (inl none) = absurd none
@@ -140,7 +120,7 @@ right_turn_rises n m (inr (inr (from, to))) = by y_acts right_pauses n m from to
 right_rises : (n m : Node) → EdgeAll (Then right_loop Done) n m → number n < number m
 right_rises n m (inl (inl inner)) = right_turn_rises n m inner
 right_rises n m (inl (inr (inl (from, inl to)))) = by right_head y_acts n m from to (omega arith)
-right_rises n m (inl (inr (inl (from, inr (e, to))))) = wrong e
+right_rises n m (inl (inr (inl (from, inr (e, to))))) = from_false e
 right_rises n m (inl (inr (inr (out, to)))) = by right_tests right_head n m (right_ends n out) to (omega arith)
 right_rises n m (inr (inl none)) = absurd none
 right_rises n m (inr (inr (none, to))) = absurd none
@@ -157,15 +137,15 @@ right_goes_on n (inr (e, none)) = absurd none
 branches_rise : (n m : Node) → EdgeEach branches (label_at (2 ∷ [])) (at 9) false n m → number n < number m
 branches_rise n m (inl inner) = left_rises n m inner
 branches_rise n m (inr (inl (from, inl to))) = by forks left_head n m from to (omega arith)
-branches_rise n m (inr (inl (from, inr (e, to)))) = wrong e
-branches_rise n m (inr (inr (inl (joins, (e, to))))) = wrong e
-branches_rise n m (inr (inr (inr (inl ((part, inl e), to))))) = wrong e
+branches_rise n m (inr (inl (from, inr (e, to)))) = from_false e
+branches_rise n m (inr (inr (inl (joins, (e, to))))) = from_false e
+branches_rise n m (inr (inr (inr (inl ((part, inl e), to))))) = from_false e
 branches_rise n m (inr (inr (inr (inl ((part, inr out), to))))) = left_goes_on n out
 branches_rise n m (inr (inr (inr (inr (inl inner))))) = right_rises n m inner
 branches_rise n m (inr (inr (inr (inr (inr (inl (from, inl to))))))) = by forks right_head n m from to (omega arith)
-branches_rise n m (inr (inr (inr (inr (inr (inl (from, inr (e, to)))))))) = wrong e
-branches_rise n m (inr (inr (inr (inr (inr (inr (inl (joins, (e, to))))))))) = wrong e
-branches_rise n m (inr (inr (inr (inr (inr (inr (inr (inl ((part, inl e), to))))))))) = wrong e
+branches_rise n m (inr (inr (inr (inr (inr (inl (from, inr (e, to)))))))) = from_false e
+branches_rise n m (inr (inr (inr (inr (inr (inr (inl (joins, (e, to))))))))) = from_false e
+branches_rise n m (inr (inr (inr (inr (inr (inr (inr (inl ((part, inl e), to))))))))) = from_false e
 branches_rise n m (inr (inr (inr (inr (inr (inr (inr (inl ((part, inr out), to))))))))) = right_goes_on n out
 branches_rise n m (inr (inr (inr (inr (inr (inr (inr (inr none)))))))) = absurd none
 
@@ -191,7 +171,7 @@ pub record Touched : Type 0 where
 
 -- one writes nothing that the other reads
 untouched : {A : Type 0} (n m : Node) (ws rs : List Static) → node_writes n ≡ ws → node_reads m ≡ rs → meets ws rs ≡ false → Touches n m → A
-untouched n m ws rs written read none is = wrong (sym none ∙ (λ j. meets (sym written j) (sym read j)) ∙ is)
+untouched n m ws rs written read none is = from_false (sym none ∙ (λ j. meets (sym written j) (sym read j)) ∙ is)
 
 -- where the first writes what the second reads the second has the greater number
 abbrev Later : Node → Node → Type 0
@@ -302,9 +282,6 @@ module _ (touched : Touched) where
 -- ---- numbers for nodes are numbers for positions of nodes
 
 module _ (block : Block) (control : Rises number (EdgeAll block)) (by_data : Rises number (DataEdge block)) where
-  numbers : List ℕ
-  numbers = map number (nodes_in block)
-
   number_at : (k : ℕ) (n : Node) → slice_get (nodes_in block) k ≡ Some n → slice_index (map number (nodes_in block)) k ≡ number n
   number_at k n is =
       get_or_from_slice_get (map number (nodes_in block)) k (number n) 0 (slice_get-map number (nodes_in block) k ∙ ap (option_map number) is)

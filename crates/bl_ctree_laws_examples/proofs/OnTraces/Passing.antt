@@ -15,37 +15,9 @@ use Rattle.bl_tree.specs.Instant.{is_instant_block}
 use Rattle.bl_tree.specs.Reduce.{joined}
 use Rattle.bl_tree.specs.Static.{Reach, overlaps, reach_of, static_of, whole}
 use Rattle.bl_effects.specs.declared.marked.Marked.{Marked}
-use Rattle.bl_effects.specs.Rules.{
-  Aliased,
-  BranchLoops,
-  FailsAlias,
-  FailsConflict,
-  FailsInstant,
-  FailsPause,
-  Loops,
-  Parallel,
-  Passes,
-  Split,
-  acting,
-  aliases_in,
-  arm_loops,
-  arm_parallel,
-  block_loops,
-  branch_loops,
-  branch_parallel,
-  instant_loops,
-  kind_loops,
-  kind_parallel,
-  loop_places,
-  loops_in,
-  of_branches,
-  parallel_of,
-  splits_of,
-  still,
-  stmt_loops,
-  stmt_parallel,
-  together,
-}
+use Rattle.bl_effects.specs.Rules.{Aliased, BranchLoops, FailsAlias, FailsConflict, FailsInstant, FailsPause, Loops, Parallel, Passes, Split, acting}
+use Rattle.bl_effects.specs.Rules.{aliases_in, arm_loops, arm_parallel, block_loops, branch_loops, branch_parallel, instant_loops, kind_loops, kind_parallel}
+use Rattle.bl_effects.specs.Rules.{loop_places, loops_in, of_branches, parallel_of, splits_of, still, stmt_loops, stmt_parallel, together}
 use Rattle.bl_ctree_laws_examples.proofs.OnTraces.Placed.{both, never, one, one_alone}
 use Rattle.bl_ctree_laws_examples.specs.Trees.Made.{at, await_true, number, set, stmt, strong, two, value, variable}
 use Rattle.bl_ctree_laws_examples.specs.Trees.TwoWay.{activity, body, both_loops, declares, i as input, left_repeat, o, right_repeat, sets_o, sets_x, sets_y, x}
@@ -55,7 +27,7 @@ pauses : is_instant_block body ≡ false
 pauses = simp (fold-roll-Stmt, fold-roll-StmtKind, fold-roll-Branch) refl
 
 -- the static path of a whole variable
-static_is : (k : ℕ) → static_of (variable k) ≡ whole k
+pub static_is : (k : ℕ) → static_of (variable k) ≡ whole k
 static_is k = ap (λ (r : Reach). r.static) path_reached
   where
     path_reached : reach_of (variable k) ≡ record { static = whole k; indices = [] }

@@ -1,9 +1,9 @@
 -- The statements of the activity stand at places of their own, and none of them is a `run`.
 use Rattle.std.proofs.Common.{◌≡◌, ℕ, nat_eq, Bool, false, List, [], ◌∷◌, refl, sym, ap}
-use Rattle.std.proofs.Common.{subst, ◌∙◌, Some, slice_get, if◌then◌else◌, IsTrue}
+use Rattle.std.proofs.Common.{subst, ◌∙◌, if◌then◌else◌, IsTrue}
 use Rattle.std.specs.Prelude.{All, Contains}
-use Rattle.std.proofs.lemmas.List.Elements.{All-nil, All-cons, All-contains, Contains-get_or}
-use Rattle.std.proofs.lemmas.Option.{get_or_from_slice_get, slice_get_within}
+use Rattle.std.proofs.lemmas.List.Elements.{All-nil, All-cons, All-contains}
+use Rattle.bl_tree.proofs.Basics.{contains_at as is_there}
 use Rattle.bl_tree.specs.declared.place.Place.{Place}
 use Rattle.bl_tree.specs.declared.tree.Arm.{Arm}
 use Rattle.bl_tree.specs.declared.tree.Branch.{Branch, out-Branch, out-roll-Branch}
@@ -12,24 +12,8 @@ use Rattle.bl_tree.specs.declared.tree.StmtKind.{StmtKind, out-StmtKind, out-rol
 use Rattle.bl_tree.specs.declared.tree.StmtKind.TheOpen.{Branch-F, Stmt-F, StmtKind-F}
 use Rattle.bl_tree.specs.declared.tree.Unit.{Unit as UnitDef}
 use Rattle.bl_tree.specs.Reduce.{joined}
-use Rattle.bl_tree.specs.Within.{
-  PlacesDecide,
-  RunsDecide,
-  RunsIn,
-  StandsIn,
-  StandsInUnits,
-  Within,
-  branches_of,
-  children,
-  deeper,
-  effect_of,
-  is_run,
-  is_run_kind,
-  itself,
-  kind_branches,
-  kind_children,
-  place_of,
-}
+use Rattle.bl_tree.specs.Within.{PlacesDecide, RunsDecide, RunsIn, StandsIn, StandsInUnits, Within, branches_of, children, deeper, effect_of, is_run}
+use Rattle.bl_tree.specs.Within.{is_run_kind, itself, kind_branches, kind_children, place_of}
 use Rattle.bl_ctree_laws_examples.specs.Trees.Made.{at, await_true, stmt, strong}
 use Rattle.bl_ctree_laws_examples.specs.Trees.TwoWay.{activity, body, both_loops, declares, left_repeat, right_repeat, sets_o, sets_x, sets_y, x, y}
 
@@ -208,9 +192,6 @@ never {A} {b} is so = contra (subst IsTrue is so)
   where
     contra : IsTrue false → A
     contra it = absurd cc
-
-pub is_there : {X : Type 0} (xs : List X) (k : ℕ) (x : X) → slice_get xs k ≡ Some x → Contains xs x
-is_there xs k x is = subst (Contains xs) (get_or_from_slice_get xs k x x is) (Contains-get_or xs k x (slice_get_within xs k x is))
 
 none_runs : (outer s : Stmt) (j : ℕ) → StandsInUnits (activity ∷ []) outer → RunsIn outer j s → is_run s ≡ false
 none_runs outer s j there runs =

@@ -15,21 +15,8 @@ use Rattle.bl_ctree_laws.specs.Trees.{Tree, beside, no_tree}
 use Rattle.bl_ctree_laws.specs.Shrinks.{Paces}
 use Rattle.bl_graph_nodes.specs.Nodes.{are_instant}
 use Rattle.bl_graph_nodes.specs.Plain.{Done, Then, plain_body}
-use Rattle.bl_ctree_laws_examples.specs.Trees.Reset.{
-  b,
-  at_await,
-  at_guard,
-  begun_anew,
-  both,
-  loop_b,
-  program,
-  raises_b,
-  tests_guard,
-  to_check,
-  to_wake,
-  wakes,
-  woken_up,
-}
+use Rattle.bl_ctree_laws_examples.specs.Trees.Reset.{b, at_await, at_guard, begun_anew, both, loop_b, program, raises_b, tests_guard, to_check, to_wake, wakes}
+use Rattle.bl_ctree_laws_examples.specs.Trees.Reset.{woken_up}
 use Rattle.bl_tree.specs.declared.scalar.Op.TheVariants.{Add}
 use Rattle.bl_ctree_laws_examples.specs.Trees.Made.{number, two, value}
 use Rattle.bl_ctree_laws_examples.proofs.OnTrees.Sets.{always_reads, flag_reads, writes_of}

@@ -6,25 +6,8 @@ use Rattle.bl_tree.specs.declared.tree.Expr.{Expr}
 use Rattle.bl_tree.specs.declared.tree.Stmt.{Stmt, fold-roll-Stmt}
 use Rattle.bl_tree.specs.declared.tree.StmtKind.{fold-roll-StmtKind}
 use Rattle.bl_tree.specs.declared.tree.StmtKind.TheOpen.{StmtKind-F}
-use Rattle.bl_graph_nodes.specs.Plain.{
-  Act,
-  Arm,
-  Await,
-  Branch,
-  Cobegin,
-  Plain,
-  Position,
-  Repeat,
-  arm_plain,
-  block_at,
-  bodies_from,
-  branch_plain,
-  kind_plain,
-  label_at,
-  plain_body,
-  plain_stmt,
-  stmt_plain,
-}
+use Rattle.bl_graph_nodes.specs.Plain.{Act, Arm, Await, Branch, Cobegin, Plain, Position, Repeat, arm_plain, block_at, bodies_from, branch_plain, kind_plain}
+use Rattle.bl_graph_nodes.specs.Plain.{label_at, plain_body, plain_stmt, stmt_plain}
 use Rattle.bl_tree.specs.declared.place.Place.{Place}
 use Rattle.bl_ctree_laws_examples.specs.Trees.Made.{always, at, await_true, number, set, stmt, strong, two, value}
 use Rattle.bl_ctree_laws_examples.specs.Trees.TwoWay as two_way
@@ -33,13 +16,13 @@ use Rattle.bl_ctree_laws_examples.specs.Trees.TwoWay as two_way
 abbrev branch_of : TypedBranch → Branch
 branch_of = fold-Branch (Place → Position → Plain) Arm Branch (Position → Plain) kind_plain arm_plain branch_plain stmt_plain
 
-set_is : (place k : ℕ) (e : Expr) → plain_stmt (set place k e) ≡ λ p. Act (label_at p) (set place k e)
+pub set_is : (place k : ℕ) (e : Expr) → plain_stmt (set place k e) ≡ λ p. Act (label_at p) (set place k e)
 set_is place k e = rw (fold-roll-Stmt, fold-roll-StmtKind) refl
 
 declares_is : (place k : ℕ) → plain_stmt (two_way.declares place k) ≡ λ p. Act (label_at p) (two_way.declares place k)
 declares_is place k = rw (fold-roll-Stmt, fold-roll-StmtKind) refl
 
-pause_is : (place : ℕ) → plain_stmt (await_true place) ≡ λ p. Await (label_at p) (at place) always
+pub pause_is : (place : ℕ) → plain_stmt (await_true place) ≡ λ p. Await (label_at p) (at place) always
 pause_is place = rw (fold-roll-Stmt, fold-roll-StmtKind) refl
 
 loop_is : (place : ℕ) (body : List Stmt) → plain_stmt (stmt place (StmtKind-F.Repeat body))

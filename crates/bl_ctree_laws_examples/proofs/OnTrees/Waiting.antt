@@ -1,31 +1,15 @@
 -- The tick of the two branches that need each other: which step may be taken when.
 use Rattle.std.proofs.Common.{◌≡◌, ◌||◌, Bool, true, false, refl, sym, ap, ◌∙◌}
 use Rattle.std.specs.List.{list_any}
+use Rattle.bl_tree.proofs.Basics.{from_true_false}
 use Rattle.bl_graph_nodes.specs.Steps.{StepLabel}
 use Rattle.bl_ctree.specs.Store.{homes, whole_of}
 use Rattle.bl_ctree_laws.specs.Pending.{Deed, any_meets, any_writes, leads_over, may_write, meets, soon_in}
 use Rattle.bl_ctree_laws.specs.Steps.{Moves, OneMoves, Unmet, acts, first, in_par, in_seq, joins, later, pauses}
 use Rattle.bl_ctree_laws.specs.Trees.{Tree, Trees, beside, no_tree}
 use Rattle.bl_ctree_laws_examples.specs.Trees.TwoWay.{label_inside, left_position, right_position, sets_o, sets_x, sets_y, x}
-use Rattle.bl_ctree_laws_examples.specs.Trees.TwoWayTrees.{
-  acting,
-  before_o,
-  before_x,
-  before_y,
-  both,
-  left_done,
-  left_pause,
-  left_paused,
-  o_is_set,
-  pausing,
-  program,
-  reaches_pause,
-  right_done,
-  right_pause,
-  right_paused,
-  x_is_set,
-  y_is_set,
-}
+use Rattle.bl_ctree_laws_examples.specs.Trees.TwoWayTrees.{acting, before_o, before_x, before_y, both, left_done, left_pause, left_paused, o_is_set, pausing}
+use Rattle.bl_ctree_laws_examples.specs.Trees.TwoWayTrees.{program, reaches_pause, right_done, right_pause, right_paused, x_is_set, y_is_set}
 use Rattle.bl_ctree_laws_examples.proofs.OnTrees.Sets.{o_reads, o_writes, x_reads, x_writes, y_reads, y_writes}
 
 -- ---- who waits
@@ -80,19 +64,16 @@ sets_x_alone (in_seq acts) = refl
 sets_y_alone : {d : Bool} {a : Deed} {n : StepLabel} {c : Tree} → Moves Unmet program 0 before_y d a n c → a ≡ y_is_set
 sets_y_alone (in_seq acts) = refl
 
-never : {A : Type 0} → true ≡ false → A
-never is = absurd cc
-
 one_alone : {d : Bool} {a : Deed} {n : StepLabel} {c : Trees}
     → OneMoves Unmet program 0 (beside false before_x (beside false before_y no_tree)) d a n c → a ≡ x_is_set
 one_alone (first move free) = sets_x_alone move
 one_alone (later (first move free) waits) =
-    never (sym y_waits ∙ ap (meets program 0 before_x) (sym (sets_y_alone move)) ∙ waits)
+    from_true_false (sym y_waits ∙ ap (meets program 0 before_x) (sym (sets_y_alone move)) ∙ waits)
 one_alone (later (later move free) waits) = elim move [ ]
 
 pub x_alone : (d : Bool) (a : Deed) (n : StepLabel) (c : Tree) → Moves Unmet program 0 (both before_x before_y) d a n c → a ≡ x_is_set
 x_alone d a n c (in_par move) = one_alone move
-x_alone d a n c (joins still done) = never (sym still)
+x_alone d a n c (joins still done) = from_true_false (sym still)
 
 -- ---- what may still be written
 

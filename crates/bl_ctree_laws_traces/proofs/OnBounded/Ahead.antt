@@ -11,24 +11,7 @@ use Rattle.bl_graph.proofs.Walking.{walk_more, walk_on}
 use Rattle.bl_ctree.specs.Control.{Check, Body}
 use Rattle.bl_ctree.specs.Instances.{Setting, unit_at}
 use Rattle.bl_ctree_laws.specs.Pending.{may_end, may_join}
-use Rattle.bl_ctree_laws.specs.Trees.{
-  Tree,
-  Trees,
-  Nil,
-  Wait,
-  Test,
-  Idle,
-  Do,
-  Seq,
-  Par,
-  Guard,
-  Run,
-  beside,
-  do_block,
-  has_strong,
-  no_tree,
-  seq,
-}
+use Rattle.bl_ctree_laws.specs.Trees.{Tree, Trees, Nil, Wait, Test, Idle, Do, Seq, Par, Guard, Run, beside, do_block, has_strong, no_tree, seq}
 use Rattle.bl_ctree_laws_traces.specs.Progress.FitsGraph.{AllFitGraph, FitsGraph, check_of, test_of}
 use Rattle.bl_ctree_laws_traces.specs.Progress.Places.{AreSubgraphs, Place, ahead_of, guarded, in_branch}
 use Rattle.bl_ctree_laws_traces.proofs.OnProgress.Acting.{region}

@@ -1,32 +1,6 @@
 -- The passes of a tick have all its steps, so that no list of steps of one tick is longer than what the passed statements come to.
-use Rattle.std.proofs.Common.{
-  ◌≡◌,
-  ℕ,
-  zero,
-  suc,
-  ◌+◌,
-  ◌*◌,
-  ◌<◌,
-  ◌≤◌,
-  Bool,
-  true,
-  false,
-  List,
-  [],
-  ◌∷◌,
-  map,
-  take,
-  length,
-  Option,
-  Some,
-  None,
-  refl,
-  sym,
-  ap,
-  ◌∙◌,
-  subst,
-  arith,
-}
+use Rattle.std.proofs.Common.{◌≡◌, ℕ, zero, suc, ◌+◌, ◌*◌, ◌<◌, ◌≤◌, Bool, true, false, List, [], ◌∷◌, map, take, length, Option, Some, None, refl, sym, ap}
+use Rattle.std.proofs.Common.{◌∙◌, subst, arith}
 use Rattle.std.specs.Prelude.{ℤ, option_and_then, option_map, slice_get, unwrap_or}
 use Rattle.std.proofs.lemmas.List.{length-append, length-map}
 use Rattle.std.proofs.Math.Nat.{mul_assoc}
@@ -72,45 +46,14 @@ use Rattle.bl_ctree_laws_traces.specs.Progress.Reached.{TreeFitsGraphNow}
 use Rattle.bl_ctree_laws_traces.proofs.OnProgress.Acting.{region}
 use Rattle.bl_ctree_laws_traces.specs.Bounded.Bounds.{AcceptedIsBounded}
 use Rattle.bl_ctree_laws_traces.specs.Bounded.Differ.{LabelsDiffer, TicksDiffer}
-use Rattle.bl_ctree_laws_traces.specs.Bounded.TickPasses.{
-  Pass,
-  StepsAreSixEach,
-  TickStepsAreFew,
-  TicksHavePasses,
-  pass_of,
-  statements_at,
-  step_in,
-  unit_of_pass,
-}
+use Rattle.bl_ctree_laws_traces.specs.Bounded.TickPasses.{Pass, StepsAreSixEach, TickStepsAreFew, TicksHavePasses, pass_of, statements_at, step_in}
+use Rattle.bl_ctree_laws_traces.specs.Bounded.TickPasses.{unit_of_pass}
 use Rattle.bl_ctree_laws_traces.proofs.OnBounded.Callees.{CallsAreRuns, callees_are_named, calls_earlier, one_unit_each, typed_at}
 use Rattle.bl_ctree_laws_traces.proofs.OnBounded.Calls.{CalleesAreNamed, calls_in}
 use Rattle.bl_ctree_laws_traces.proofs.OnBounded.Counting.{few_whole}
-use Rattle.bl_ctree_laws_traces.proofs.OnBounded.Listed.{
-  CallsEarlier,
-  PassFound,
-  body_passes,
-  ends_in,
-  listed,
-  node_at,
-  node_listed,
-  own_of,
-  own_steps,
-  pass_found,
-  step_again,
-  step_of,
-  tick_passes,
-}
-use Rattle.bl_ctree_laws_traces.proofs.OnBounded.Lists.{
-  Among,
-  EachOf,
-  among_contains,
-  among_joined,
-  among_map,
-  each_more,
-  joined_long,
-  pigeons,
-  totals_less,
-}
+use Rattle.bl_ctree_laws_traces.proofs.OnBounded.Listed.{CallsEarlier, PassFound, body_passes, ends_in, listed, node_at, node_listed, own_of, own_steps}
+use Rattle.bl_ctree_laws_traces.proofs.OnBounded.Listed.{pass_found, step_again, step_of, tick_passes}
+use Rattle.bl_ctree_laws_traces.proofs.OnBounded.Lists.{Among, EachOf, among_contains, among_joined, among_map, each_more, joined_long, pigeons, totals_less}
 use Rattle.bl_ctree_laws_traces.proofs.OnBounded.Passing.{whole_sum}
 use Rattle.bl_ctree_laws_traces.proofs.OnBounded.Standing.{InnerTree, Stood, runs_in_tree, steps_stood, woken_stood}
 use Rattle.bl_ctree_laws_traces.proofs.OnBounded.Statements.{FewIn, body_few}
@@ -240,24 +183,24 @@ module _ (structs : List StructDef) (units : List UnitDef) (entry : ℕ) (stand 
 
 -- ---- programs
 
-entry_found : (units : List UnitDef) (entry : ℕ) (found : Option UnitDef) → slice_get units entry ≡ found → is_entry found ≡ true →
+pub entry_found : (units : List UnitDef) (entry : ℕ) (found : Option UnitDef) → slice_get units entry ≡ found → is_entry found ≡ true →
     (unit : UnitDef) × (slice_get units entry ≡ Some unit)
 entry_found units entry None there is = absurd cc
 entry_found units entry (Some unit) there is = (unit, there)
 
-root_there : (units : List UnitDef) (longest k : ℕ) (unit : UnitDef) → zero < longest → slice_get units k ≡ Some unit →
+pub root_there : (units : List UnitDef) (longest k : ℕ) (unit : UnitDef) → zero < longest → slice_get units k ≡ Some unit →
     slice_get (expanded units longest k) 0 ≡ Some (record { unit = k; depth = 0; origin = None })
 root_there units zero k unit less is = absurd (omega arith)
 root_there units (suc longest) k unit less is =
     ap (λ found. slice_get (unwrap_or (option_map (λ unit. record { unit = k; depth = 0; origin = None }
     ∷ instances_below (expanded units longest) 1 (runs_of unit)) found) []) 0) is
 
-entry_at : (structs : List StructDef) (units : List UnitDef) (entry : ℕ) (unit : UnitDef) → slice_get units entry ≡ Some unit →
+pub entry_at : (structs : List StructDef) (units : List UnitDef) (entry : ℕ) (unit : UnitDef) → slice_get units entry ≡ Some unit →
     unit_at (setting_of structs units entry) 0 ≡ Some unit
 entry_at structs units entry unit there =
     ap (option_and_then (unit_of (setting_of structs units entry))) (root_there units (entry + 1) entry unit (omega arith) there) ∙ there
 
-entry_is : StatementsArePlain → (w : Setting) (unit : UnitDef) → unit_at w 0 ≡ Some unit → entry_block w ≡ plain_body unit.body
+pub entry_is : StatementsArePlain → (w : Setting) (unit : UnitDef) → unit_at w 0 ≡ Some unit → entry_block w ≡ plain_body unit.body
 entry_is plain w unit is =
     ap (λ found. plain_items (unwrap_or (option_map (λ unit. body_items unit.body) found) [])) is ∙ sym (plain.blocks unit.body [])
 

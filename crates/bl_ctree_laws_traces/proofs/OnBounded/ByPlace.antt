@@ -1,42 +1,17 @@
 -- Sums over `run` statements, place by place.
-use Rattle.std.proofs.Common.{
-  ◌≡◌,
-  ℕ,
-  suc,
-  ◌+◌,
-  ◌*◌,
-  ◌≤◌,
-  Bool,
-  true,
-  false,
-  cond,
-  not,
-  List,
-  [],
-  ◌∷◌,
-  map,
-  length,
-  filter,
-  ◌⊎◌,
-  inl,
-  inr,
-  refl,
-  sym,
-  ap,
-  ◌∙◌,
-  subst,
-  arith,
-}
+use Rattle.std.proofs.Common.{◌≡◌, ℕ, suc, ◌+◌, ◌*◌, ◌≤◌, Bool, true, false, cond, not, List, [], ◌∷◌, map, length, filter, ◌⊎◌, inl, inr, refl, sym, ap, ◌∙◌}
+use Rattle.std.proofs.Common.{subst, arith}
 use Rattle.std.specs.Prelude.{⊤}
 use Rattle.std.proofs.Math.Nat.{mul-le-mul_right, suc-mul, zero-mul}
 use Rattle.bl_tree.specs.declared.place.Place.{Place}
 use Rattle.bl_tree.specs.Reduce.{total}
 use Rattle.bl_tree.specs.Rules.{same_place}
-use Rattle.bl_effects.proofs.EntryLemmas.{same_place_is, same_place_refl}
+use Rattle.bl_effects.proofs.EntryLemmas.{same_place_refl}
 use Rattle.bl_ctree.specs.declared.instance.Run.{Run}
 use Rattle.bl_ctree.specs.Instances.{one_a_place}
 use Rattle.bl_ctree.specs.Measure.{count_at}
 use Rattle.bl_ctree_laws_traces.proofs.OnBounded.Lists.{Among, totals_less}
+use Rattle.bl_tree.proofs.FirstLemmas.{same_true}
 
 -- ---- the runs at one place
 
@@ -156,7 +131,7 @@ pub few_at : (xs : List Run) → PlacesDiffer xs → (place : Place) → count_a
 few_at [] differ place = omega arith
 few_at (x ∷ xs) differ place =
     few_step place x xs (same_place x.place place) refl
-    (λ is. none_at place xs (λ y at there. differ.0 y at (same_place_is x.place place is ∙ sym (same_place_is y.place place there))))
+    (λ is. none_at place xs (λ y at there. differ.0 y at (same_true x.place place is ∙ sym (same_true y.place place there))))
     (few_at xs differ.1 place)
 
 -- ---- the first run of each place
@@ -194,7 +169,7 @@ placed_step : (run x : Run) (rest : List Run) (placed : Placed x (one_a_place re
 placed_step run x rest placed true is = record {
   one = run;
   among = inl refl;
-  there = ap (same_place x.place) (same_place_is run.place placed.one.place is) ∙ placed.there;
+  there = ap (same_place x.place) (same_true run.place placed.one.place is) ∙ placed.there;
 }
 placed_step run x rest placed false is = record {
   one = placed.one;

@@ -1,40 +1,10 @@
 -- The instance that a `run` of a body begins is of the unit that it names, and units run earlier ones.
-use Rattle.std.proofs.Common.{
-  ◌≡◌,
-  ℕ,
-  zero,
-  suc,
-  ◌<◌,
-  Bool,
-  true,
-  false,
-  ◌&&◌,
-  inl,
-  inr,
-  List,
-  [],
-  ◌∷◌,
-  ◌++◌,
-  append_assoc,
-  append-nil,
-  map,
-  take,
-  length,
-  get_or,
-  Option,
-  Some,
-  None,
-  refl,
-  sym,
-  ap,
-  ◌∙◌,
-  subst,
-  arith,
-  eqb-true,
-}
+use Rattle.std.proofs.Common.{◌≡◌, ℕ, zero, suc, ◌<◌, Bool, true, ◌&&◌, inl, inr, List, [], ◌∷◌, ◌++◌, append_assoc, append-nil, map, take, length}
+use Rattle.std.proofs.Common.{get_or, Option, Some, None, refl, sym, ap, ◌∙◌, subst, arith, eqb-true}
 use Rattle.std.specs.List.{list_all}
 use Rattle.std.specs.Prelude.{Contains, nat_eq, option_and_then, slice_get}
 use Rattle.std.proofs.lemmas.List.Quantifiers.{position-Some}
+use Rattle.bl_tree.proofs.Basics.{all_of_each, and_first, and_second, contains_at, get_within, same_some}
 use Rattle.bl_tree.specs.declared.tree.StructDef.{StructDef}
 use Rattle.bl_tree.specs.declared.tree.Unit.{Unit as UnitDef}
 use Rattle.bl_tree.specs.Apart.{is_apart}
@@ -47,7 +17,6 @@ use Rattle.bl_tree.specs.Types.{type_stands}
 use Rattle.bl_tree.specs.Typing.{fits, site_of}
 use Rattle.bl_tree.specs.Within.{StandsIn}
 use Rattle.bl_tree.specs.Words.{are_distinct, is_name}
-use Rattle.bl_effects.proofs.EntryLemmas.{same_place_is}
 use Rattle.bl_graph_nodes.specs.Plain.{plain_body}
 use Rattle.bl_ctree.specs.declared.instance.Instance.{Instance}
 use Rattle.bl_ctree.specs.declared.instance.Origin.{Origin}
@@ -55,25 +24,16 @@ use Rattle.bl_ctree.specs.declared.instance.Run.{Run}
 use Rattle.bl_ctree.specs.Instances.{Setting, begins_at, runs_in, runs_of, setting_of, unit_at, unit_of}
 use Rattle.bl_ctree_laws.specs.Trees.{Call}
 use Rattle.bl_ctree_laws_confluence.specs.Deeds.Origins.{CalledBy, HasCaller, InstancesHaveCallers}
-use Rattle.bl_ctree_laws_confluence.proofs.OnDeeds.Accepted.{contains_at}
-use Rattle.bl_ctree_laws_confluence.proofs.OnDeeds.Activities.{AllOf, and_left, and_right}
+use Rattle.bl_ctree_laws_confluence.proofs.OnDeeds.Activities.{AllOf}
 use Rattle.bl_ctree_laws_confluence.proofs.OnApart.Placed.{RunAs, runs_listed, same_unit}
 use Rattle.bl_ctree_laws_traces.proofs.OnProgress.Earlier.{RunsUnit, body_runs}
 use Rattle.bl_ctree_laws_traces.proofs.OnBounded.ByPlace.{once_among}
 use Rattle.bl_ctree_laws_traces.proofs.OnBounded.Calls.{CalleesAreNamed, calls_in, run_of}
 use Rattle.bl_ctree_laws_traces.proofs.OnBounded.Lists.{Among, among_got, among_map}
 use Rattle.bl_ctree_laws_traces.proofs.OnBounded.Listed.{CallsEarlier}
+use Rattle.bl_tree.proofs.FirstLemmas.{same_true}
 
 -- ---- typed bodies, unit by unit
-
-each_true : {A : Type 0} (test : A → Bool) (xs : List A) → list_all test xs ≡ true → all_of (map test xs) ≡ true
-each_true test [] e = refl
-each_true test (x ∷ xs) e = both (test x) (all_of (map test xs)) (and_left (test x) (list_all test xs) e)
-    (each_true test xs (and_right (test x) (list_all test xs) e))
-  where
-    both : (a b : Bool) → a ≡ true → b ≡ true → (a && b) ≡ true
-    both true b one other = other
-    both false b one other = one
 
 body_typed : (structs : List StructDef) (earlier : List UnitDef) (unit : UnitDef) → unit_stands structs earlier unit ≡ true →
     all_of (map (fits (site_of structs earlier unit)) unit.body) ≡ true
@@ -83,10 +43,10 @@ body_typed structs earlier unit stands =
     let fit : Bool = list_all (fits (site_of structs earlier unit)) unit.body in
     let flat : Bool = is_shallow 200 unit.body in
     let apart : Bool = list_all is_apart unit.body in
-    each_true (fits (site_of structs earlier unit)) unit.body
-    (and_left fit (unit_returns unit && (flat && apart))
-    (and_right types (fit && (unit_returns unit && (flat && apart)))
-    (and_right (roles_stand unit && named) (types && (fit && (unit_returns unit && (flat && apart)))) stands)))
+    all_of_each (fits (site_of structs earlier unit)) unit.body
+    (and_first fit (unit_returns unit && (flat && apart))
+    (and_second types (fit && (unit_returns unit && (flat && apart)))
+    (and_second (roles_stand unit && named) (types && (fit && (unit_returns unit && (flat && apart)))) stands)))
 
 pub typed_at : (structs : List StructDef) (earlier units : List UnitDef) (k : ℕ) (unit : UnitDef) → units_stand_after structs earlier units ≡ true →
     slice_get units k ≡ Some unit → all_of (map (fits (site_of structs (earlier ++ take k units) unit)) unit.body) ≡ true
@@ -95,11 +55,11 @@ typed_at structs earlier (first ∷ units) zero unit stand there =
     let same : first ≡ unit = cc in
     subst (λ earlier. all_of (map (fits (site_of structs earlier unit)) unit.body) ≡ true) (sym (append-nil earlier))
     (subst (λ unit. all_of (map (fits (site_of structs earlier unit)) unit.body) ≡ true) same
-    (body_typed structs earlier first (and_left (unit_stands structs earlier first) (units_stand_after structs (earlier ++ first ∷ []) units) stand)))
+    (body_typed structs earlier first (and_first (unit_stands structs earlier first) (units_stand_after structs (earlier ++ first ∷ []) units) stand)))
 typed_at structs earlier (first ∷ units) (suc k) unit stand there =
     subst (λ earlier. all_of (map (fits (site_of structs earlier unit)) unit.body) ≡ true) (append_assoc earlier (first ∷ []) (take k units))
     (typed_at structs (earlier ++ first ∷ []) units k unit
-    (and_right (unit_stands structs earlier first) (units_stand_after structs (earlier ++ first ∷ []) units) stand) there)
+    (and_second (unit_stands structs earlier first) (units_stand_after structs (earlier ++ first ∷ []) units) stand) there)
 
 -- what is found among the first is before them
 pub taken_before : (units : List UnitDef) (n k : ℕ) (unit : UnitDef) → slice_get (take n units) k ≡ Some unit → k < n
@@ -119,15 +79,7 @@ OneUnitEach unit =
 
 -- ---- instances
 
-got_or : {A : Type 0} (xs : List A) (k : ℕ) (d : A) → k < length xs → slice_get xs k ≡ Some (get_or xs k d)
-got_or [] k d within = absurd (omega arith)
-got_or (x ∷ xs) zero d within = refl
-got_or (x ∷ xs) (suc k) d within = got_or xs k d (omega arith)
-
-some_same : {A : Type 0} (a b : A) → Some a ≡ Some b → a ≡ b
-some_same a b e = cc
-
-all_among : {A : Type 0} (P : A → Type 0) (xs : List A) (x : A) → AllOf P xs → Among x xs → P x
+pub all_among : {A : Type 0} (P : A → Type 0) (xs : List A) (x : A) → AllOf P xs → Among x xs → P x
 all_among P [] x all at = elim at [ ]
 all_among P (y ∷ xs) x all (inl is) = subst P (sym is) all.0
 all_among P (y ∷ xs) x all (inr at) = all_among P xs x all.1 at
@@ -177,7 +129,7 @@ module _ (callers : InstancesHaveCallers) (structs : List StructDef) (units : Li
       CalledBy units W.instances callee instance origin → slice_get units s.unit ≡ unit_at W callee
   by_call i caller s callee instance origin found at there by is called =
       let calling : unit_at W origin.caller ≡ Some called.unit = ap (option_and_then (unit_of W)) called.there ∙ called.body in
-      let same : called.unit ≡ caller = some_same called.unit caller (sym calling ∙ ap (unit_at W) by ∙ found) in
+      let same : called.unit ≡ caller = same_some called.unit caller (sym calling ∙ ap (unit_at W) by ∙ found) in
       let one = unit_found i caller found in
       let runs : List Run = joined (map runs_in caller.body) in
       let run_there : Among called.run runs =
@@ -191,13 +143,13 @@ module _ (callers : InstancesHaveCallers) (structs : List StructDef) (units : Li
   callees_are_named i caller s callee found at begins =
       let d : Instance = record { unit = 0; depth = 0; origin = None } in
       let position = position-Some (λ instance. begins_at i s.place instance.origin) W.instances callee d begins in
-      by_origin (get_or W.instances callee d) (got_or W.instances callee d position.0) (get_or W.instances callee d).origin refl position.1
+      by_origin (get_or W.instances callee d) (get_within W.instances callee d position.0) (get_or W.instances callee d).origin refl position.1
     where
       by_origin : (instance : Instance) → slice_get W.instances callee ≡ Some instance → (o : Option Origin) → instance.origin ≡ o →
           begins_at i s.place o ≡ true → slice_get units s.unit ≡ unit_at W callee
       by_origin instance there None is e = absurd cc
       by_origin instance there (Some origin) is e =
           by_call i caller s callee instance origin found at there
-          (eqb-true origin.caller i (and_left (nat_eq origin.caller i) (same_place origin.place s.place) e))
-          (same_place_is origin.place s.place (and_right (nat_eq origin.caller i) (same_place origin.place s.place) e))
+          (eqb-true origin.caller i (and_first (nat_eq origin.caller i) (same_place origin.place s.place) e))
+          (same_true origin.place s.place (and_second (nat_eq origin.caller i) (same_place origin.place s.place) e))
           (subst (HasCaller units entry W.instances callee instance) is (callers units entry callee instance there))

@@ -3,33 +3,11 @@ use Rattle.std.proofs.Common.{◌≡◌, ℕ, List, [], ◌∷◌, ◌++◌, map
 use Rattle.std.specs.Prelude.{slice_get}
 use Rattle.bl_tree.specs.declared.tree.Unit.{Unit as UnitDef}
 use Rattle.bl_tree.specs.Static.{static_of}
-use Rattle.bl_graph_nodes.specs.Plain.{
-  Act,
-  Again,
-  Await,
-  Block,
-  Bodies,
-  Cobegin,
-  Done,
-  If,
-  Last,
-  Plain,
-  Repeat,
-  Run as RunOf,
-  Then,
-  Until,
-  When,
-  While,
-  Body as BodyOf,
-  plain_body,
-}
+use Rattle.bl_graph_nodes.specs.Plain.{Act, Again, Await, Block, Bodies, Cobegin, Done, If, Last, Plain, Repeat, Run as RunOf, Then, Until, When, While}
+use Rattle.bl_graph_nodes.specs.Plain.{Body as BodyOf, plain_body}
 use Rattle.bl_ctree.specs.declared.instance.Run.{Run as RunAt}
 use Rattle.bl_ctree.specs.Instances.{Setting, callee_of, unit_at}
-use Rattle.bl_ctree_laws.specs.Residual.{
-  BlockSplitsAt,
-  here,
-  there,
-}
+use Rattle.bl_ctree_laws.specs.Residual.{BlockSplitsAt, here, there}
 use Rattle.bl_ctree_laws.specs.Steps.{call, turn}
 use Rattle.bl_ctree_laws.specs.Trees.{Call}
 use Rattle.bl_ctree_laws_traces.proofs.OnBounded.Lists.{Among, among_either, among_left, among_right}

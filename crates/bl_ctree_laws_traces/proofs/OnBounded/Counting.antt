@@ -1,36 +1,10 @@
 -- The passes of a tick are no more than its instances may be passed.
-use Rattle.std.proofs.Common.{
-  ◌≡◌,
-  ℕ,
-  zero,
-  suc,
-  ◌+◌,
-  ◌*◌,
-  ◌≤◌,
-  Bool,
-  true,
-  List,
-  [],
-  ◌∷◌,
-  ◌++◌,
-  map,
-  Option,
-  Some,
-  None,
-  inl,
-  inr,
-  refl,
-  sym,
-  ap,
-  ◌∙◌,
-  subst,
-  arith,
-}
+use Rattle.std.proofs.Common.{◌≡◌, ℕ, zero, suc, ◌+◌, ◌*◌, ◌≤◌, Bool, true, List, [], ◌∷◌, ◌++◌, map, Option, Some, None, inl, inr, refl, sym, ap, ◌∙◌, subst}
+use Rattle.std.proofs.Common.{arith}
 use Rattle.std.specs.Prelude.{option_map, slice_get, unwrap_or, ⊤}
 use Rattle.bl_tree.specs.declared.tree.StructDef.{StructDef}
 use Rattle.bl_tree.specs.declared.tree.Unit.{Unit as UnitDef}
 use Rattle.bl_tree.specs.Reduce.{joined, total}
-use Rattle.bl_effects.proofs.EntryLemmas.{same_place_is}
 use Rattle.bl_graph_nodes.specs.Plain.{Block, plain_body}
 use Rattle.bl_ctree.specs.declared.instance.Run.{Run}
 use Rattle.bl_ctree.specs.Instances.{Setting, expanded, one_a_place, runs_in, runs_of}
@@ -41,19 +15,11 @@ use Rattle.bl_ctree_laws_traces.proofs.OnBounded.ByPlace.{PlacesDiffer, by_disti
 use Rattle.bl_ctree_laws_traces.proofs.OnBounded.Callees.{CallsAreRuns, OneUnitEach}
 use Rattle.bl_ctree_laws_traces.proofs.OnBounded.Calls.{calls_in, run_of}
 use Rattle.bl_ctree_laws_traces.proofs.OnBounded.Listed.{begun_passes, body_passes, node_at, stood_passes, tick_passes}
-use Rattle.bl_ctree_laws_traces.proofs.OnBounded.Lists.{
-  Among,
-  among_either,
-  among_map,
-  among_mapped,
-  total_append,
-  total_both,
-  total_of,
-  totals_less,
-}
+use Rattle.bl_ctree_laws_traces.proofs.OnBounded.Lists.{Among, among_either, among_map, among_mapped, total_append, total_both, total_of, totals_less}
 use Rattle.bl_ctree_laws_traces.proofs.OnBounded.Passing.{fresh_opened, fresh_sum, is_opened, opened, whole_opened, whole_sum}
 use Rattle.bl_ctree_laws_traces.proofs.OnBounded.Standing.{InnerTree, inner_tree, runs_in_tree, runs_in_trees}
 use Rattle.bl_ctree_laws_traces.proofs.OnBounded.Tied.{Elsewhere, Tied, TiedEach}
+use Rattle.bl_tree.proofs.FirstLemmas.{same_true}
 
 -- ---- the `run`s of a tree
 
@@ -176,7 +142,7 @@ module _ (structs : List StructDef) (units : List UnitDef) (are : CallsAreRuns u
       let same : total (map (λ (x : Run). g x.unit) (map run_of (calls_in (plain_body unit.body)))) ≡ total (map (λ (x : Run). g x.unit) runs) =
       ap (λ (runs : List Run). total (map (λ (x : Run). g x.unit) runs)) (are k unit is) in
       let less = by_places g runs (one_a_place runs) (once_placed runs)
-      (λ x r at at' same. one_unit k unit is x r at (once_among runs r at') (same_place_is x.place r.place same)) in
+      (λ x r at at' same. one_unit k unit is x r at (once_among runs r at') (same_true x.place r.place same)) in
       omega (arith, first, same, less)
 
   -- a sum over the `run`s of a tree
@@ -186,7 +152,7 @@ module _ (structs : List StructDef) (units : List UnitDef) (are : CallsAreRuns u
       let runs : List Run = joined (map runs_in unit.body) in
       let first = total_of (λ (x : Run). g x.unit) run_there (runs_in_tree c) in
       let less = by_distinct_places g (map run_there (runs_in_tree c)) (one_a_place runs) (λ x at. once_placed runs x (inside x at))
-      (λ x r at at' same. one_unit k unit is x r (inside x at) (once_among runs r at') (same_place_is x.place r.place same))
+      (λ x r at at' same. one_unit k unit is x r (inside x at) (once_among runs r at') (same_true x.place r.place same))
       (few_at (map run_there (runs_in_tree c)) (places_differ (runs_in_tree c) (calls_differ w (plain_body unit.body) c tied))) in
       omega (arith, first, less)
     where

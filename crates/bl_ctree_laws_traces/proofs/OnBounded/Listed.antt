@@ -1,28 +1,5 @@
 -- The passes of a tick: a list, by the bodies of units and the `run`s of the tree with which the tick begins. Each step is of one of them.
-use Rattle.std.proofs.Common.{
-  ◌≡◌,
-  ℕ,
-  zero,
-  suc,
-  ◌<◌,
-  Bool,
-  true,
-  false,
-  List,
-  [],
-  ◌∷◌,
-  ◌++◌,
-  map,
-  Some,
-  inl,
-  inr,
-  refl,
-  sym,
-  ap,
-  ◌∙◌,
-  subst,
-  arith,
-}
+use Rattle.std.proofs.Common.{◌≡◌, ℕ, zero, suc, ◌<◌, Bool, true, false, List, [], ◌∷◌, ◌++◌, map, Some, inl, inr, refl, sym, ap, ◌∙◌, subst, arith}
 use Rattle.std.specs.Prelude.{option_map, slice_get, unwrap_or}
 use Rattle.bl_tree.specs.declared.tree.Unit.{Unit as UnitDef}
 use Rattle.bl_tree.specs.Reduce.{joined}
@@ -33,39 +10,9 @@ use Rattle.bl_graph.specs.Edges.{In}
 use Rattle.bl_graph.specs.Laws.{StaysWithin}
 use Rattle.bl_ctree.specs.Instances.{Setting}
 use Rattle.bl_ctree_laws.specs.Pending.{Deed}
-use Rattle.bl_ctree_laws.specs.Steps.{
-  Anyway,
-  Moves,
-  OneMoves,
-  acts,
-  takes,
-  passes,
-  pauses,
-  runs,
-  repeats,
-  repeats_until,
-  leaves,
-  turns,
-  enters,
-  skips,
-  forks,
-  guards,
-  goes_on,
-  waits,
-  lets,
-  aborts,
-  resets,
-  guard_ends,
-  copies,
-  run_ends,
-  joins,
-  in_seq,
-  in_par,
-  in_guard,
-  in_run,
-  first,
-  later,
-}
+use Rattle.bl_ctree_laws.specs.Steps.{Anyway, Moves, OneMoves, acts, takes, passes, pauses, runs, repeats, repeats_until, leaves, turns, enters, skips, forks}
+use Rattle.bl_ctree_laws.specs.Steps.{guards, goes_on, waits, lets, aborts, resets, guard_ends, copies, run_ends, joins, in_seq, in_par, in_guard, in_run}
+use Rattle.bl_ctree_laws.specs.Steps.{first, later}
 use Rattle.bl_ctree_laws.specs.Trees.{Call, Tree, Trees}
 use Rattle.bl_ctree_laws_traces.specs.Progress.FitsGraph.{AllFitGraph, FitsGraph}
 use Rattle.bl_ctree_laws_traces.specs.Progress.Places.{Place, ahead_of, guarded, in_branch, whole}
@@ -159,7 +106,7 @@ pass_found units k unit (Inside n called step) is at =
 abbrev pub CallsEarlier : List UnitDef → Type 0
 CallsEarlier units = (k : ℕ) (unit : UnitDef) (s : Call) → slice_get units k ≡ Some unit → Among s (calls_in (plain_body unit.body)) → s.unit < k
 
-some_same : (one other : UnitDef) → Some one ≡ Some other → one ≡ other
+pub some_same : (one other : UnitDef) → Some one ≡ Some other → one ≡ other
 some_same one other e = cc
 
 -- the nodes that act in this tick are nodes of the body

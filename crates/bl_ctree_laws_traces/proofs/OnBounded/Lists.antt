@@ -1,31 +1,9 @@
 -- Members of lists, and sums of what is said of them.
-use Rattle.std.proofs.Common.{
-  ◌≡◌,
-  ℕ,
-  zero,
-  suc,
-  ◌+◌,
-  ◌<◌,
-  ◌≤◌,
-  List,
-  [],
-  ◌∷◌,
-  ◌++◌,
-  map,
-  length,
-  ◌⊎◌,
-  inl,
-  inr,
-  refl,
-  sym,
-  ap,
-  ◌∙◌,
-  subst,
-  arith,
-}
+use Rattle.std.proofs.Common.{◌≡◌, ℕ, zero, suc, ◌+◌, ◌<◌, ◌≤◌, List, [], ◌∷◌, ◌++◌, map, length, ◌⊎◌, inl, inr, refl, sym, ap, ◌∙◌, subst, arith}
 use Rattle.std.specs.Prelude.{Contains, ⊤}
 use Rattle.std.proofs.lemmas.List.{length-append}
 use Rattle.std.proofs.lemmas.List.Elements.{Contains-append_cases, Contains-push_cases}
+use Rattle.bl_tree.proofs.Basics.{contains_none}
 use Rattle.bl_tree.specs.Reduce.{joined, total}
 use Rattle.bl_graph_nodes.specs.Steps.{StepLabel}
 use Rattle.bl_ctree_laws_traces.specs.Bounded.Differ.{LabelsDiffer, Unlisted}
@@ -93,14 +71,11 @@ among_joined f x y [] at inside = elim at [ ]
 among_joined f x y (z ∷ xs) (inl is) inside = among_left y (f z) (joined (map f xs)) (subst (λ z. Among y (f z)) is inside)
 among_joined f x y (z ∷ xs) (inr at) inside = among_right y (f z) (joined (map f xs)) (among_joined f x y xs at inside)
 
-none_in_nothing : {A : Type 0} (x : A) → Contains [] x → ⊥
-none_in_nothing x h = let lt : h.0 < 0 = h.1 in omega arith
-
 pub among_got : {A : Type 0} (x : A) (xs : List A) → Contains xs x → Among x xs
-among_got x [] h = absurd (none_in_nothing x h)
+among_got x [] h = absurd (contains_none x h)
 among_got x (y ∷ xs) h = elim (Contains-append_cases (y ∷ []) xs x h) [
   | inl here ↦ elim (Contains-push_cases [] y x here) [
-    | inl none ↦ absurd (none_in_nothing x none)
+    | inl none ↦ absurd (contains_none x none)
     | inr is ↦ inl (sym is)
   ]
   | inr later ↦ inr (among_got x xs later)

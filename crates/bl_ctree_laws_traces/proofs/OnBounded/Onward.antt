@@ -1,5 +1,7 @@
 -- Where a tree may still end after a step, what acted leads out of it.
 use Rattle.std.proofs.Common.{◌≡◌, ℕ, Bool, true, false, ◌&&◌, ◌||◌, not, ◌⊎◌, inl, inr, refl, sym, ap, ◌∙◌, subst}
+use Rattle.std.proofs.lemmas.Bool.{or_right}
+use Rattle.bl_tree.proofs.Basics.{and_first, and_second}
 use Rattle.bl_tree.specs.declared.place.Place.{Place as Source}
 use Rattle.bl_graph_nodes.specs.Nodes.{Node, are_instant, entry, is_instant}
 use Rattle.bl_graph_nodes.specs.Plain.{Block, Bodies, Label, Plain, Body as BodyOf, Cobegin, Done, Last, Then}
@@ -12,46 +14,17 @@ use Rattle.bl_ctree.specs.Control.{Check}
 use Rattle.bl_ctree.specs.Instances.{Setting}
 use Rattle.bl_ctree_laws.specs.Pending.{Deed, may_end, may_join}
 use Rattle.bl_ctree_laws.specs.Shrinks.{EndsShrink, Paces}
-use Rattle.bl_ctree_laws.specs.Steps.{
-  Anyway,
-  Moves,
-  OneMoves,
-  acts,
-  takes,
-  passes,
-  pauses,
-  runs,
-  repeats,
-  repeats_until,
-  leaves,
-  turns,
-  enters,
-  skips,
-  forks,
-  guards,
-  goes_on,
-  waits,
-  lets,
-  aborts,
-  resets,
-  guard_ends,
-  copies,
-  run_ends,
-  joins,
-  in_seq,
-  in_par,
-  in_guard,
-  in_run,
-  first,
-  later,
-}
+use Rattle.bl_ctree_laws.specs.Steps.{Anyway, Moves, OneMoves, acts, takes, passes, pauses, runs, repeats, repeats_until, leaves, turns, enters, skips, forks}
+use Rattle.bl_ctree_laws.specs.Steps.{guards, goes_on, waits, lets, aborts, resets, guard_ends, copies, run_ends, joins, in_seq, in_par, in_guard, in_run}
+use Rattle.bl_ctree_laws.specs.Steps.{first, later}
 use Rattle.bl_ctree_laws.specs.Trees.{Tree, Trees, Watch, Do, Par, Guard, has_strong, seq}
 use Rattle.bl_ctree_laws.proofs.Less.{seq_ends}
-use Rattle.bl_ctree_laws.proofs.Tests.{and_first, and_second, or_right}
 use Rattle.bl_ctree_laws_traces.specs.Progress.FitsGraph.{AllFitGraph, FitsGraph, check_of, test_of}
 use Rattle.bl_ctree_laws_traces.specs.Progress.Places.{AreSubgraphs, Place, ahead_of, guarded, in_branch}
-use Rattle.bl_ctree_laws_traces.proofs.OnProgress.Acting.{done_may_join, region}
+use Rattle.bl_ctree_laws_traces.proofs.OnProgress.Acting.{region}
 use Rattle.bl_ctree_laws_traces.proofs.OnProgress.Leading.{end_out, in_on, join_out, one_on, rest_edges, run_out, to_end, way_out}
+use Rattle.bl_ctree_laws.proofs.Less.{done_join}
+use Rattle.bl_ctree_laws_traces.proofs.OnProgress.Leading.{to_join}
 
 -- edges lead from the node to one with the property
 pub record Onward (E : Node → Node → Type 0) (F : Node → Type 0) (n : Node) : Type 0 where
@@ -90,12 +63,6 @@ pub one_strong : {T : Bool → Type 0} {w : Setting} {i : ℕ} {branches : Trees
     OneMoves T w i branches d a n branches' → has_strong branches' ≡ has_strong branches
 one_strong (first move free) = refl
 one_strong (later {weak = weak} move free) = ap (λ b. not weak || b) (one_strong move)
-
--- an edge from a branch to the join
-to_join : (weak : Bool) (body : Block) (rest : Bodies) (l : Label) (at : Source) (so stood : Bool) (n : Node) → (stood ≡ false → so ≡ true) →
-    In stood body n → (weak ≡ true) ⊎ OutAll body n → EdgeEach (BodyOf weak body rest) l at so n (join_node stood l at)
-to_join weak body rest l at so true n is inside ends = inr (inr (inr (inl ((inside, ends), refl))))
-to_join weak body rest l at so false n is inside ends = inr (inr (inl ((inside, ends), (is refl, refl))))
 
 -- of a weak branch all nodes have such an edge, of a strong one those that lead out of it
 branch_joins : (weak : Bool) (body : Block) (rest : Bodies) (l : Label) (at : Source) (so stood : Bool) (n : Node) → (stood ≡ false → so ≡ true) →
@@ -189,7 +156,7 @@ module _ {w : Setting} (pass : InstantsPass) (shrink : EndsShrink) (pace : Paces
     onward (joins {s = s} {stood = stood} {branches = branches} still done) g live ends = record {
       end = join_node stood s.label s.place;
       walk = stay (join_node stood s.label s.place);
-      leads = live.1.fits.outs _ (join_out s.label s.place s.bodies stood (live.1.joins (done_may_join branches done)).0);
+      leads = live.1.fits.outs _ (join_out s.label s.place s.bodies stood (live.1.joins (done_join branches done)).0);
     }
     onward (in_seq {rest = Done} move) g live ends = elim live [ ]
     onward {i = i} (in_seq {rest = Then s rest} {n = n} {c' = c'} move) g live ends =

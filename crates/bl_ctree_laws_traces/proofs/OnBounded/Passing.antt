@@ -1,31 +1,9 @@
 -- How often the instances of a unit are passed, by how often those of the units that it runs are.
-use Rattle.std.proofs.Common.{
-  ◌≡◌,
-  ℕ,
-  zero,
-  suc,
-  ◌+◌,
-  ◌*◌,
-  List,
-  [],
-  ◌∷◌,
-  ◌++◌,
-  append_assoc,
-  map,
-  length,
-  Option,
-  Some,
-  None,
-  refl,
-  sym,
-  ap,
-  ◌∙◌,
-  subst,
-  arith,
-}
+use Rattle.std.proofs.Common.{◌≡◌, ℕ, zero, suc, ◌+◌, ◌*◌, List, [], ◌∷◌, ◌++◌, append_assoc, map, length, Option, Some, None, refl, sym, ap, ◌∙◌, subst, arith}
 use Rattle.std.specs.Prelude.{option_and_then, option_map, slice_get, unwrap_or}
 use Rattle.std.proofs.lemmas.List.{length-append}
 use Rattle.std.proofs.Math.Nat.{add-mul, mul-add, mul_assoc}
+use Rattle.bl_tree.proofs.Basics.{get_in_front, get_mapped}
 use Rattle.bl_tree.specs.declared.tree.StructDef.{StructDef}
 use Rattle.bl_tree.specs.declared.tree.Unit.{Unit as UnitDef}
 use Rattle.bl_tree.specs.Reduce.{joined, total}
@@ -35,23 +13,9 @@ use Rattle.bl_ctree.specs.declared.instance.Run.{Run}
 use Rattle.bl_ctree.specs.Instances.{Setting, called_from, expanded, instances_below, origin_under, runs_in, runs_of, unit_of}
 use Rattle.bl_ctree.specs.Measure.{copies, count_at, passes}
 use Rattle.bl_ctree_laws_traces.proofs.OnBounded.Lists.{EachOf, each_append, each_map, each_more, total_append, total_of}
+use Rattle.bl_ctree_laws_confluence.proofs.OnDeeds.Origins.{get_second}
 
 -- ---- lists
-
-get_first : {A : Type 0} (xs ys : List A) (m : ℕ) (x : A) → slice_get xs m ≡ Some x → slice_get (xs ++ ys) m ≡ Some x
-get_first [] ys m x e = absurd cc
-get_first (z ∷ xs) ys zero x e = e
-get_first (z ∷ xs) ys (suc m) x e = get_first xs ys m x e
-
-get_second : {A : Type 0} (xs ys : List A) (m k : ℕ) (x : A) → m ≡ length xs + k → slice_get ys k ≡ Some x → slice_get (xs ++ ys) m ≡ Some x
-get_second [] ys m k x is e = let same : k ≡ m = omega arith in subst (λ m. slice_get ys m ≡ Some x) same e
-get_second (z ∷ xs) ys zero k x is e = absurd (omega arith)
-get_second (z ∷ xs) ys (suc m) k x is e = get_second xs ys m k x (omega arith) e
-
-get_mapped : {A B : Type 0} (f : A → B) (xs : List A) (m : ℕ) (x : A) → slice_get xs m ≡ Some x → slice_get (map f xs) m ≡ Some (f x)
-get_mapped f [] m x e = absurd cc
-get_mapped f (y ∷ xs) zero x e = let same : y ≡ x = cc in ap (λ y. Some (f y)) same
-get_mapped f (y ∷ xs) (suc m) x e = get_mapped f xs m x e
 
 -- ---- sums
 
@@ -203,7 +167,7 @@ module _ (structs : List StructDef) (units : List UnitDef) where
   embedded_so all pre inner later n run long is i x there =
       subst (λ all. slice_get all (n + i) ≡ Some (called_from n run x)) (sym is)
       (get_second pre (map (called_from n run) inner ++ later) (n + i) i (called_from n run x) (omega arith)
-      (get_first (map (called_from n run) inner) later i (called_from n run x) (get_mapped (called_from n run) inner i x there)))
+      (get_in_front (map (called_from n run) inner) later i (called_from n run x) (get_mapped (called_from n run) inner i x there)))
 
   module _ (alone : ℕ → List Instance) (chained : (k : ℕ) → EachOf (InChain (alone k)) (alone k)) (all : List Instance) (root : Instance) (unit : UnitDef)
       (at_root : slice_get all 0 ≡ Some root) (no_origin : root.origin ≡ None) (body : slice_get units root.unit ≡ Some unit) where

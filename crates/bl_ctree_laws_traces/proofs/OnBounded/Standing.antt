@@ -5,60 +5,11 @@ use Rattle.bl_graph_nodes.specs.Plain.{Block, Bodies, Body as BodyOf, Done, Last
 use Rattle.bl_graph_nodes.specs.Steps.{StepLabel}
 use Rattle.bl_ctree.specs.Instances.{Setting}
 use Rattle.bl_ctree_laws.specs.Pending.{Deed}
-use Rattle.bl_ctree_laws.specs.Steps.{
-  Anyway,
-  Moves,
-  OneMoves,
-  acts,
-  takes,
-  passes,
-  pauses,
-  runs,
-  repeats,
-  repeats_until,
-  leaves,
-  turns,
-  enters,
-  skips,
-  forks,
-  guards,
-  goes_on,
-  waits,
-  lets,
-  aborts,
-  resets,
-  guard_ends,
-  copies,
-  run_ends,
-  joins,
-  in_seq,
-  in_par,
-  in_guard,
-  in_run,
-  first,
-  later,
-}
-use Rattle.bl_ctree_laws.specs.Trees.{
-  Call,
-  Tree,
-  Trees,
-  Nil,
-  Wait,
-  Test,
-  Idle,
-  Do,
-  Seq,
-  Par,
-  Guard,
-  Run,
-  all_woken,
-  beside,
-  do_block,
-  no_tree,
-  seq,
-  trees_begun,
-  woken,
-}
+use Rattle.bl_ctree_laws.specs.Steps.{Anyway, Moves, OneMoves, acts, takes, passes, pauses, runs, repeats, repeats_until, leaves, turns, enters, skips, forks}
+use Rattle.bl_ctree_laws.specs.Steps.{guards, goes_on, waits, lets, aborts, resets, guard_ends, copies, run_ends, joins, in_seq, in_par, in_guard, in_run}
+use Rattle.bl_ctree_laws.specs.Steps.{first, later}
+use Rattle.bl_ctree_laws.specs.Trees.{Call, Tree, Trees, Nil, Wait, Test, Idle, Do, Seq, Par, Guard, Run, all_woken, beside, do_block, no_tree, seq}
+use Rattle.bl_ctree_laws.specs.Trees.{trees_begun, woken}
 use Rattle.bl_ctree_laws_traces.proofs.OnBounded.Lists.{Among, among_left, among_right}
 
 -- a `run`, and what is left of the body of its activity

@@ -1,33 +1,9 @@
 -- The plain statements of a typed body have its `run` statements, and with two more steps a call at most five nodes a statement.
-use Rattle.std.proofs.Common.{
-  ◌≡◌,
-  ℕ,
-  suc,
-  ◌+◌,
-  ◌*◌,
-  ◌≤◌,
-  Bool,
-  true,
-  false,
-  ◌&&◌,
-  List,
-  [],
-  ◌∷◌,
-  ◌++◌,
-  append_assoc,
-  append-nil,
-  map,
-  length,
-  get_or,
-  refl,
-  sym,
-  ap,
-  ◌∙◌,
-  subst,
-  arith,
-}
+use Rattle.std.proofs.Common.{◌≡◌, ℕ, suc, ◌+◌, ◌*◌, ◌≤◌, Bool, true, false, ◌&&◌, List, [], ◌∷◌, ◌++◌, append_assoc, append-nil, map, length, get_or, refl}
+use Rattle.std.proofs.Common.{sym, ap, ◌∙◌, subst, arith}
 use Rattle.std.proofs.lemmas.List.{length-append, length-map, map-append}
 use Rattle.std.proofs.lemmas.List.Elements.{All-head, All-tail}
+use Rattle.bl_tree.proofs.Basics.{and_first, and_second}
 use Rattle.bl_tree.specs.declared.place.Place.{Place}
 use Rattle.bl_tree.specs.declared.tree.Arm.{Arm, fold-Arm, fold_out-Arm, out-Arm}
 use Rattle.bl_tree.specs.declared.tree.Branch.{Branch, fold-Branch, fold_out-Branch, out-Branch}
@@ -38,43 +14,15 @@ use Rattle.bl_tree.specs.Reduce.{all_of, joined, total}
 use Rattle.bl_tree.specs.Typing.{TypingContext, arm_fits, branch_fits, fits, is_activity, is_inhabited, is_truth, kind_fits, stmt_fits, type_of}
 use Rattle.bl_tree.proofs.StmtInduction.{Cases, Each, EachArm, EachBranch, induct, stmt}
 use Rattle.bl_graph_nodes.specs.Laws.{plain_arm, plain_branch}
-use Rattle.bl_graph_nodes.specs.Nodes.{
-  CheckAt,
-  DepthEndAt,
-  DepthJoinAt,
-  Node,
-  SurfaceEndAt,
-  SurfaceJoinAt,
-  are_instant,
-  is_instant,
-  nodes_in,
-  nodes_in_each,
-  nodes_of,
-  where_so,
-}
-use Rattle.bl_graph_nodes.specs.Plain.{
-  Block,
-  Bodies,
-  Cobegin,
-  Label,
-  Plain,
-  Position,
-  block_from,
-  bodies_from,
-  else_at,
-  inside,
-  label_at,
-  passed_one,
-  plain_block,
-  plain_body,
-  plain_stmt,
-}
+use Rattle.bl_graph_nodes.specs.Nodes.{CheckAt, DepthEndAt, DepthJoinAt, Node, SurfaceEndAt, SurfaceJoinAt, are_instant, is_instant, nodes_in, nodes_in_each}
+use Rattle.bl_graph_nodes.specs.Nodes.{nodes_of, where_so}
+use Rattle.bl_graph_nodes.specs.Plain.{Block, Bodies, Cobegin, Label, Plain, Position, block_from, bodies_from, else_at, inside, label_at, passed_one}
+use Rattle.bl_graph_nodes.specs.Plain.{plain_block, plain_body, plain_stmt}
 use Rattle.bl_graph_nodes.proofs.Equations.{plain_statements}
 use Rattle.bl_ctree.specs.declared.instance.Run.{Run}
 use Rattle.bl_ctree.specs.Instances.{arm_runs, branch_runs, kind_runs, runs_in, runs_in_arm, runs_in_branch, stmt_layer_runs}
 use Rattle.bl_ctree.specs.Measure.{arm_step_statements, branch_step_statements, kind_step_statements, layer_step_statements, step_statements_in}
 use Rattle.bl_ctree_laws.specs.Trees.{Call}
-use Rattle.bl_ctree_laws_confluence.proofs.OnDeeds.Activities.{and_left, and_right}
 use Rattle.bl_ctree_laws_traces.proofs.OnBounded.Calls.{calls_in, calls_in_each, calls_of, run_of}
 
 -- these calls are these runs, and with these nodes they are at most five a statement
@@ -97,7 +45,7 @@ both_few {calls} {calls'} {nodes} {nodes'} n n' one other =
     let more = other.few in
     record { are = map-append run_of calls calls' ∙ (λ i. one.are i ++ other.are i); few = omega arith }
 
-so_long : (b : Bool) (n : Node) → length (where_so b n) ≤ 1
+pub so_long : (b : Bool) (n : Node) → length (where_so b n) ≤ 1
 so_long true n = omega arith
 so_long false n = omega arith
 
@@ -110,8 +58,8 @@ module _ (site : TypingContext) where
   block_few [] k block each fitted = record { are = refl; few = omega arith }
   block_few (s ∷ rest) k block each fitted =
       both_few (step_statements_in s) (total (map step_statements_in rest))
-      (All-head S s rest each (and_left (fits site s) (all_of (map (fits site) rest)) fitted) (block ++ k ∷ []))
-      (block_few rest (suc k) block (All-tail S s rest each) (and_right (fits site s) (all_of (map (fits site) rest)) fitted))
+      (All-head S s rest each (and_first (fits site s) (all_of (map (fits site) rest)) fitted) (block ++ k ∷ []))
+      (block_few rest (suc k) block (All-tail S s rest each) (and_second (fits site s) (all_of (map (fits site) rest)) fitted))
 
   abbrev statements_in_arm : Arm → ℕ
   statements_in_arm = fold-Arm ℕ ℕ ℕ ℕ kind_step_statements arm_step_statements branch_step_statements layer_step_statements
@@ -132,7 +80,7 @@ module _ (site : TypingContext) where
       (sym (fold_out-Arm (Place → List Run) (List Run) (List Run) (List Run) kind_runs arm_runs branch_runs stmt_layer_runs arm))
       (subst (λ n. FewIn (block_from (map plain_stmt (out-Arm arm).body) k block) (joined (map runs_in (out-Arm arm).body)) n)
       (sym (fold_out-Arm ℕ ℕ ℕ ℕ kind_step_statements arm_step_statements branch_step_statements layer_step_statements arm))
-      (block_few (out-Arm arm).body k block each (and_right (is_truth (type_of site (out-Arm arm).test)) (all_of (map (fits site) (out-Arm arm).body))
+      (block_few (out-Arm arm).body k block each (and_second (is_truth (type_of site (out-Arm arm).test)) (all_of (map (fits site) (out-Arm arm).body))
       (sym (fold_out-Arm Bool Bool Bool Bool (kind_fits site) (arm_fits site) branch_fits stmt_fits arm) ∙ fitted))))
 
   branch_few : (branch : Branch) (k : ℕ) (block : Position) → Each S (out-Branch branch).body → branch_fitted branch ≡ true →
@@ -156,9 +104,9 @@ module _ (site : TypingContext) where
       record { are = one.are; few = omega arith }
   else_few at (arm ∷ rest) other each others fitted last =
       let one = arm_few arm 0 (inside at at.passed) (All-head (λ arm. Each S (out-Arm arm).body) arm rest each)
-      (and_left (arm_fitted arm) (all_of (map arm_fitted rest)) fitted) in
+      (and_first (arm_fitted arm) (all_of (map arm_fitted rest)) fitted) in
       let more = else_few (passed_one at) rest other (All-tail (λ arm. Each S (out-Arm arm).body) arm rest each) others
-      (and_right (arm_fitted arm) (all_of (map arm_fitted rest)) fitted) last in
+      (and_second (arm_fitted arm) (all_of (map arm_fitted rest)) fitted) last in
       let both = both_few (statements_in_arm arm) (length rest + total (map statements_in_arm rest) + total (map step_statements_in other)) one more in
       let calls : List Call = calls_in (plain_block (out-Arm arm).body (inside at at.passed))
       ++ calls_in (else_at (passed_one at) (map plain_arm rest) (plain_block other)) in
@@ -180,9 +128,9 @@ module _ (site : TypingContext) where
   branches_few (branch ∷ rest) k at each fitted =
       both_few (statements_in_branch branch) (total (map statements_in_branch rest))
       (branch_few branch 0 (inside at k) (All-head (λ branch. Each S (out-Branch branch).body) branch rest each)
-      (and_left (branch_fitted branch) (all_of (map branch_fitted rest)) fitted))
+      (and_first (branch_fitted branch) (all_of (map branch_fitted rest)) fitted))
       (branches_few rest (suc k) at (All-tail (λ branch. Each S (out-Branch branch).body) branch rest each)
-      (and_right (branch_fitted branch) (all_of (map branch_fitted rest)) fitted))
+      (and_second (branch_fitted branch) (all_of (map branch_fitted rest)) fitted))
 
   -- ---- kinds
 
@@ -225,12 +173,12 @@ module _ (site : TypingContext) where
       by_parts place (StmtKind-F.If (arm ∷ rest) other) _ (λ at. plain_statements.branching place at arm rest other) (λ fitted at.
       let choices : Bool = all_of (map arm_fitted (arm ∷ rest)) in
       let last : Bool = all_of (map (fits site) other) in
-      let fitting : (choices && last) ≡ true = and_right (is_inhabited (map arm_fitted (arm ∷ rest))) (choices && last) fitted in
-      let choosing : choices ≡ true = and_left choices last fitting in
+      let fitting : (choices && last) ≡ true = and_second (is_inhabited (map arm_fitted (arm ∷ rest))) (choices && last) fitted in
+      let choosing : choices ≡ true = and_first choices last fitting in
       let one = arm_few arm 0 (inside (label_at at) 0) (All-head (λ arm. Each S (out-Arm arm).body) arm rest each)
-      (and_left (arm_fitted arm) (all_of (map arm_fitted rest)) choosing) in
+      (and_first (arm_fitted arm) (all_of (map arm_fitted rest)) choosing) in
       let more = else_few (passed_one (label_at at)) rest other (All-tail (λ arm. Each S (out-Arm arm).body) arm rest each) others
-      (and_right (arm_fitted arm) (all_of (map arm_fitted rest)) choosing) (and_right choices last fitting) in
+      (and_second (arm_fitted arm) (all_of (map arm_fitted rest)) choosing) (and_second choices last fitting) in
       let both = both_few (statements_in_arm arm) (length rest + total (map statements_in_arm rest) + total (map step_statements_in other)) one more in
       let few = both.few in
       let long : length (map statements_in_arm rest) ≡ length rest = length-map rest statements_in_arm in
@@ -255,7 +203,7 @@ module _ (site : TypingContext) where
     cobegin = λ place branches each. by_parts place (StmtKind-F.Cobegin branches) _ (λ at. plain_statements.parallel place at branches) (λ fitted at.
         let some : Bool = is_inhabited (map branch_fitted branches) in
         let within : Bool = all_of (map branch_fitted branches) in
-        let one = branches_few branches 0 (label_at at) each (and_right some within (and_right (is_activity site.kind) (some && within) fitted)) in
+        let one = branches_few branches 0 (label_at at) each (and_second some within (and_second (is_activity site.kind) (some && within) fitted)) in
         let few = one.few in
         let bodies : Bodies = bodies_from (map plain_branch branches) 0 (label_at at) in
         let join = so_long (is_instant (Cobegin (label_at at) place bodies)) (SurfaceJoinAt (label_at at) place) in
@@ -266,7 +214,7 @@ module _ (site : TypingContext) where
         (λ fitted at.
         let tested : Bool = is_truth (type_of site e) in
         let within : Bool = all_of (map (fits site) body) in
-        let one = block_few body 0 (inside (label_at at) 0) each (and_right tested within (and_right (is_activity site.kind) (tested && within) fitted)) in
+        let one = block_few body 0 (inside (label_at at) 0) each (and_second tested within (and_second (is_activity site.kind) (tested && within) fitted)) in
         let few = one.few in
         let block : Block = plain_block body (inside (label_at at) 0) in
         let end = so_long (are_instant block) (SurfaceEndAt (label_at at) place) in
@@ -278,11 +226,11 @@ module _ (site : TypingContext) where
         let few = one.few in
         record { are = one.are; few = omega arith });
     until = λ place body e each. by_parts place (StmtKind-F.Until body e) _ (λ at. plain_statements.until place at body e) (λ fitted at.
-        let one = block_few body 0 (inside (label_at at) 0) each (and_left (all_of (map (fits site) body)) (is_truth (type_of site e)) fitted) in
+        let one = block_few body 0 (inside (label_at at) 0) each (and_first (all_of (map (fits site) body)) (is_truth (type_of site e)) fitted) in
         let few = one.few in
         record { are = one.are; few = omega arith });
     while = λ place e body each. by_parts place (StmtKind-F.While e body) _ (λ at. plain_statements.while place at e body) (λ fitted at.
-        let one = block_few body 0 (inside (label_at at) 0) each (and_right (is_truth (type_of site e)) (all_of (map (fits site) body)) fitted) in
+        let one = block_few body 0 (inside (label_at at) 0) each (and_second (is_truth (type_of site e)) (all_of (map (fits site) body)) fitted) in
         let few = one.few in
         record { are = one.are; few = omega arith });
     returns = λ place e. by_parts place (StmtKind-F.Return e) _ (λ at. plain_statements.returns place at e)

@@ -2,37 +2,8 @@
 use Rattle.std.proofs.Common.{◌≡◌, ℕ, ◌<◌, ◌≤◌, Bool, true, false, [], Some, ◌⊎◌, inl, inr, refl, sym, ap, ◌∙◌, subst, arith}
 use Rattle.bl_tree.specs.declared.place.Place.{Place as Source}
 use Rattle.bl_tree.specs.declared.tree.Expr.{Expr}
-use Rattle.bl_tree.specs.declared.tree.Unit.{Unit as UnitDef}
-use Rattle.bl_graph_nodes.specs.Nodes.{
-  CheckAt,
-  DepthEndAt,
-  ForkAt,
-  HeadAt,
-  Node,
-  StartAt,
-  SurfaceEndAt,
-  TestAt,
-  are_instant,
-  entry,
-  is_instant,
-  label_of,
-}
-use Rattle.bl_graph_nodes.specs.Plain.{
-  Again,
-  Block,
-  Bodies,
-  Cobegin,
-  Label,
-  Plain,
-  Repeat,
-  Body as BodyOf,
-  Done,
-  Last,
-  Then,
-  While,
-  is_empty,
-  plain_body,
-}
+use Rattle.bl_graph_nodes.specs.Nodes.{CheckAt, DepthEndAt, ForkAt, HeadAt, Node, StartAt, SurfaceEndAt, TestAt, are_instant, entry, is_instant, label_of}
+use Rattle.bl_graph_nodes.specs.Plain.{Again, Block, Bodies, Cobegin, Label, Plain, Repeat, Body as BodyOf, Done, Last, Then, While, is_empty, plain_body}
 use Rattle.bl_graph_nodes.specs.Steps.{Here, Inside, StepLabel, head_of, end_node, join_node, run_node}
 use Rattle.bl_graph.specs.DataEdges.{BesideEach}
 use Rattle.bl_graph.specs.Edges.{BodyEnd, EdgeAll, EdgeEach, Guarded, In, InEach, Into, OutAll}
@@ -44,64 +15,23 @@ use Rattle.bl_ctree.specs.Control.{Body}
 use Rattle.bl_ctree.specs.Instances.{Setting, unit_at}
 use Rattle.bl_ctree_laws.specs.Pending.{Deed, may_end, may_join}
 use Rattle.bl_ctree_laws.specs.Shrinks.{EndsShrink, Paces}
-use Rattle.bl_ctree_laws.specs.Steps.{
-  Anyway,
-  Moves,
-  OneMoves,
-  acts,
-  takes,
-  passes,
-  pauses,
-  runs,
-  repeats,
-  repeats_until,
-  leaves,
-  turns,
-  enters,
-  skips,
-  forks,
-  fork,
-  guards,
-  goes_on,
-  waits,
-  watch,
-  lets,
-  aborts,
-  resets,
-  guard_ends,
-  copies,
-  run_ends,
-  joins,
-  in_seq,
-  in_par,
-  in_guard,
-  in_run,
-  first,
-  later,
-  turn,
-}
+use Rattle.bl_ctree_laws.specs.Steps.{Anyway, Moves, OneMoves, acts, takes, passes, pauses, runs, repeats, repeats_until, leaves, turns, enters, skips, forks}
+use Rattle.bl_ctree_laws.specs.Steps.{fork, guards, goes_on, waits, watch, lets, aborts, resets, guard_ends, copies, run_ends, joins, in_seq, in_par, in_guard}
+use Rattle.bl_ctree_laws.specs.Steps.{in_run, first, later, turn}
 use Rattle.bl_ctree_laws.specs.Trees.{Call, Tree, Trees, Watch, Do, Par, Guard, Run, trees_begun, do_block, is_nil}
 use Rattle.bl_ctree_laws.proofs.Less.{do_ends}
 use Rattle.bl_ctree_laws_traces.specs.Progress.FitsGraph.{AllFitGraph, CheckFitsGraph, FitsGraph, check_of, watch_stmt}
 use Rattle.bl_ctree_laws_traces.specs.Progress.Places.{AreSubgraphs, IsSubgraph, Place, ahead_of, guarded, in_branch, later_on, whole}
-use Rattle.bl_ctree_laws_traces.proofs.OnProgress.Acting.{done_may_join, one_region, region}
-use Rattle.bl_ctree_laws_traces.proofs.OnProgress.Beginning.{
-  again_fits,
-  begun_live,
-  else_fits,
-  fits_join,
-  repeat_body,
-  then_fits,
-  turn_begins,
-  until_body,
-  watch_fits,
-  while_body,
-}
+use Rattle.bl_ctree_laws_traces.proofs.OnProgress.Acting.{one_region, region}
+use Rattle.bl_ctree_laws_traces.proofs.OnProgress.Beginning.{again_fits, begun_live, else_fits, fits_join, repeat_body, then_fits, turn_begins, until_body}
+use Rattle.bl_ctree_laws_traces.proofs.OnProgress.Beginning.{watch_fits, while_body}
 use Rattle.bl_ctree_laws_traces.proofs.OnProgress.Keeping.{after_closed, part_closed}
 use Rattle.bl_ctree_laws_traces.proofs.OnProgress.Leading.{body_walk, one_on, rest_edges, to_end, way_out}
 use Rattle.bl_ctree_laws_traces.specs.Bounded.Differ.{AllNumbered}
 use Rattle.bl_ctree_laws_traces.proofs.OnBounded.Ahead.{Ahead, AheadEach, ahead_now, do_ahead, each_now, seq_ahead}
 use Rattle.bl_ctree_laws_traces.proofs.OnBounded.Onward.{Onward, one_onward, one_strong, onward}
+use Rattle.bl_ctree_laws.proofs.Less.{done_join}
+use Rattle.bl_ctree_laws_traces.proofs.OnBounded.Listed.{some_same}
 
 -- ---- a step is one of those that its tree can do
 
@@ -131,7 +61,7 @@ module _ {w : Setting} where
     starts_ahead guard_ends g live = inr (refl, refl)
     starts_ahead copies g live = refl
     starts_ahead run_ends g live = inr refl
-    starts_ahead (joins {branches = branches} still done) g live = inr (done_may_join branches done, refl)
+    starts_ahead (joins {branches = branches} still done) g live = inr (done_join branches done, refl)
     starts_ahead (in_seq {rest = Done} move) g live = elim live [ ]
     starts_ahead (in_seq {rest = Then s rest} move) g live = inl (starts_ahead move (ahead_of (entry s) g) live.0)
     starts_ahead (in_par {s = s} {stood = stood} move) g live = inl (one_ahead move s.bodies stood g live.0)
@@ -212,7 +142,7 @@ surface_after (BodyOf weak body rest) l at so n (inr there) =
     }
 
 -- nodes of two branches
-crossing : (stood weak : Bool) (body : Block) (rest : Bodies) (n m : Node) → In stood body n → InEach stood rest m →
+pub crossing : (stood weak : Bool) (body : Block) (rest : Bodies) (n m : Node) → In stood body n → InEach stood rest m →
     BesideEach (BodyOf weak body rest) n m
 crossing false weak body rest n m one other = inr (inl (inl (one, other)))
 crossing true weak body rest n m one other = inr (inr (inl (inl (one, other))))
@@ -260,13 +190,10 @@ checks_end : (l : Label) (at : Source) (e : Expr) (stood : Bool) (m : StepLabel)
 checks_end l at e stood m is same =
     end_of_body stood l at m (CheckAt l at e) (λ clash. cc) (λ clash. cc) is same
 
-some_same : (one other : UnitDef) → Some one ≡ Some other → one ≡ other
-some_same one other e = cc
-
-inside_same : (n : Node) (u : ℕ) (one other : StepLabel) → Inside n u one ≡ Inside n u other → one ≡ other
+pub inside_same : (n : Node) (u : ℕ) (one other : StepLabel) → Inside n u one ≡ Inside n u other → one ≡ other
 inside_same n u one other e = cc
 
-empty_instant : (body : Block) → is_empty body ≡ true → are_instant body ≡ true
+pub empty_instant : (body : Block) → is_empty body ≡ true → are_instant body ≡ true
 empty_instant Done e = refl
 empty_instant (Then s rest) e = absurd cc
 

@@ -3,67 +3,18 @@ use Rattle.std.proofs.Common.{◌≡◌, ℕ, Bool, List, Some, inl, inr, refl, 
 use Rattle.std.specs.Prelude.{slice_get, ⊤}
 use Rattle.bl_tree.specs.declared.place.Place.{Place}
 use Rattle.bl_tree.specs.declared.tree.Unit.{Unit as UnitDef}
-use Rattle.bl_graph_nodes.specs.Plain.{
-  Act,
-  Again,
-  Await,
-  Block,
-  Bodies,
-  Cobegin,
-  Done,
-  If,
-  Last,
-  Plain,
-  Repeat,
-  Run as RunOf,
-  Then,
-  Until,
-  When,
-  While,
-  Body as BodyOf,
-  plain_body,
-}
+use Rattle.bl_graph_nodes.specs.Plain.{Act, Again, Await, Block, Bodies, Cobegin, Done, If, Last, Plain, Repeat, Run as RunOf, Then, Until, When, While}
+use Rattle.bl_graph_nodes.specs.Plain.{Body as BodyOf, plain_body}
 use Rattle.bl_ctree.specs.Instances.{Setting, unit_at}
-use Rattle.bl_ctree_laws.specs.Residual.{
-  BlockSplitsAt,
-  PlainResidual,
-  PlainResidualEach,
-  PlainResidualOf,
-  ended,
-  here,
-  none_left,
-  nothing,
-  of_again,
-  of_else,
-  of_guard,
-  of_last,
-  of_one,
-  of_par,
-  of_repeat,
-  of_run,
-  of_then,
-  of_until,
-  of_while,
-  one_left,
-  paused,
-  tested,
-  there,
-  to_begin,
-}
+use Rattle.bl_ctree_laws.specs.Residual.{BlockSplitsAt, PlainResidual, PlainResidualEach, PlainResidualOf, ended, here, none_left, nothing, of_again, of_else}
+use Rattle.bl_ctree_laws.specs.Residual.{of_guard, of_last, of_one, of_par, of_repeat, of_run, of_then, of_until, of_while, one_left, paused, tested, there}
+use Rattle.bl_ctree_laws.specs.Residual.{to_begin}
 use Rattle.bl_ctree_laws.specs.Steps.{call, turn}
 use Rattle.bl_ctree_laws.specs.Trees.{Call, Tree, Trees, Nil, Wait, Test, Idle, Do, Seq, Par, Guard, Run, beside, no_tree}
 use Rattle.bl_ctree_laws_confluence.specs.Apart.Forks.{EachFork, EachForkIn, EachForkInEach}
 use Rattle.bl_ctree_laws_confluence.specs.Apart.Owned.{RunsAt, SomeIn, SomeInEach, SomeOf}
 use Rattle.bl_ctree_laws_confluence.specs.Apart.Running.{RunApart}
-use Rattle.bl_ctree_laws_traces.proofs.OnBounded.Calls.{
-  CalleesAreNamed,
-  calls_in,
-  calls_in_each,
-  calls_of,
-  either_same,
-  stands_calls,
-  turn_calls,
-}
+use Rattle.bl_ctree_laws_traces.proofs.OnBounded.Calls.{CalleesAreNamed, calls_in, calls_in_each, calls_of, either_same, stands_calls, turn_calls}
 use Rattle.bl_ctree_laws_traces.proofs.OnBounded.Lists.{Among, among_either, among_left, among_right}
 use Rattle.bl_ctree_laws_traces.proofs.OnBounded.Standing.{InnerTree, runs_in_tree, runs_in_trees}
 

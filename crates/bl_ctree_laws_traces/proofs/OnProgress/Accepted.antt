@@ -1,35 +1,9 @@
 -- In typed programs each `run` begins an instance.
-use Rattle.std.proofs.Common.{
-  ◌≡◌,
-  ℕ,
-  zero,
-  suc,
-  ◌+◌,
-  ◌<◌,
-  Bool,
-  true,
-  false,
-  ◌&&◌,
-  ◌++◌,
-  append_assoc,
-  append-nil,
-  List,
-  [],
-  ◌∷◌,
-  map,
-  take,
-  Option,
-  Some,
-  None,
-  refl,
-  sym,
-  ap,
-  ◌∙◌,
-  subst,
-  arith,
-}
+use Rattle.std.proofs.Common.{◌≡◌, ℕ, zero, suc, ◌+◌, ◌<◌, Bool, true, ◌&&◌, ◌++◌, append_assoc, append-nil, List, [], ◌∷◌, map, take, Option, Some}
+use Rattle.std.proofs.Common.{None, refl, sym, ap, ◌∙◌, subst, arith}
 use Rattle.std.specs.List.{list_all}
 use Rattle.std.specs.Prelude.{is_none, is_some, length, option_and_then, slice_get}
+use Rattle.bl_tree.proofs.Basics.{all_of_each, and_first, and_second}
 use Rattle.bl_tree.specs.declared.place.Place.{Place}
 use Rattle.bl_tree.specs.declared.tree.StructDef.{StructDef}
 use Rattle.bl_tree.specs.declared.tree.Unit.{Unit as UnitDef}
@@ -43,21 +17,12 @@ use Rattle.bl_tree.specs.Typing.{TypingContext, fits, is_activity, site_of}
 use Rattle.bl_tree.specs.Words.{are_distinct, is_name}
 use Rattle.bl_ctree.specs.declared.instance.Instance.{Instance}
 use Rattle.bl_ctree.specs.Instances.{Setting, begins_at, expanded, runs_in, runs_of, setting_of, unit_of}
-use Rattle.bl_ctree_laws_confluence.proofs.OnDeeds.Activities.{AllOf, IsActivity, all_at, and_left, and_right, expanded_so, one_a_place_so}
+use Rattle.bl_ctree_laws_confluence.proofs.OnDeeds.Activities.{AllOf, IsActivity, all_at, expanded_so, one_a_place_so}
 use Rattle.bl_ctree_laws_traces.specs.Progress.Accepted.{ProgramsAreCallable}
 use Rattle.bl_ctree_laws_traces.specs.Progress.Places.{AllCallable, Calls}
 use Rattle.bl_ctree_laws_traces.proofs.OnProgress.Calling.{body_calls}
 use Rattle.bl_ctree_laws_traces.proofs.OnProgress.Earlier.{RunsUnit, body_runs}
 use Rattle.bl_ctree_laws_traces.proofs.OnProgress.Instances.{AllBegin, Found, SomeBegins, all_more, all_places, expanded_begin, first_at}
-
-each_true : {A : Type 0} (test : A → Bool) (xs : List A) → list_all test xs ≡ true → all_of (map test xs) ≡ true
-each_true test [] e = refl
-each_true test (x ∷ xs) e = both (test x) (all_of (map test xs)) (and_left (test x) (list_all test xs) e)
-    (each_true test xs (and_right (test x) (list_all test xs) e))
-  where
-    both : (a b : Bool) → a ≡ true → b ≡ true → (a && b) ≡ true
-    both true b one other = other
-    both false b one other = one
 
 unit_stands_at : (structs : List StructDef) (earlier units : List UnitDef) (k : ℕ) (unit : UnitDef) →
     units_stand_after structs earlier units ≡ true → slice_get units k ≡ Some unit → unit_stands structs (earlier ++ take k units) unit ≡ true
@@ -66,11 +31,11 @@ unit_stands_at structs earlier (first ∷ units) zero unit stand there =
     let same : first ≡ unit = cc in
     subst (λ earlier. unit_stands structs earlier unit ≡ true) (sym (append-nil earlier))
     (subst (λ unit. unit_stands structs earlier unit ≡ true) same
-    (and_left (unit_stands structs earlier first) (units_stand_after structs (earlier ++ first ∷ []) units) stand))
+    (and_first (unit_stands structs earlier first) (units_stand_after structs (earlier ++ first ∷ []) units) stand))
 unit_stands_at structs earlier (first ∷ units) (suc k) unit stand there =
     subst (λ earlier. unit_stands structs earlier unit ≡ true) (append_assoc earlier (first ∷ []) (take k units))
     (unit_stands_at structs (earlier ++ first ∷ []) units k unit
-    (and_right (unit_stands structs earlier first) (units_stand_after structs (earlier ++ first ∷ []) units) stand) there)
+    (and_second (unit_stands structs earlier first) (units_stand_after structs (earlier ++ first ∷ []) units) stand) there)
 
 -- what `unit_stands` says, one by one
 record Standing (structs : List StructDef) (earlier : List UnitDef) (unit : UnitDef) : Type 0 where
@@ -88,15 +53,15 @@ standing structs earlier unit stands =
     let apart : Bool = list_all is_apart unit.body in
     let all : ((roles_stand unit && named) && (types && (fit && (unit_returns unit && (flat && apart))))) ≡ true = stands in
     let rest : (fit && (unit_returns unit && (flat && apart))) ≡ true =
-    and_right types (fit && (unit_returns unit && (flat && apart)))
-    (and_right (roles_stand unit && named) (types && (fit && (unit_returns unit && (flat && apart)))) all) in
-    let last : (unit_returns unit && (flat && apart)) ≡ true = and_right fit (unit_returns unit && (flat && apart)) rest in
+    and_second types (fit && (unit_returns unit && (flat && apart)))
+    (and_second (roles_stand unit && named) (types && (fit && (unit_returns unit && (flat && apart)))) all) in
+    let last : (unit_returns unit && (flat && apart)) ≡ true = and_second fit (unit_returns unit && (flat && apart)) rest in
     record {
-      roles = and_left (roles_stand unit) named
-          (and_left (roles_stand unit && named) (types && (fit && (unit_returns unit && (flat && apart)))) all);
-      typed = each_true (fits (site_of structs earlier unit)) unit.body (and_left fit (unit_returns unit && (flat && apart)) rest);
-      returns = and_left (unit_returns unit) (flat && apart) last;
-      apart = and_right flat apart (and_right (unit_returns unit) (flat && apart) last);
+      roles = and_first (roles_stand unit) named
+          (and_first (roles_stand unit && named) (types && (fit && (unit_returns unit && (flat && apart)))) all);
+      typed = all_of_each (fits (site_of structs earlier unit)) unit.body (and_first fit (unit_returns unit && (flat && apart)) rest);
+      returns = and_first (unit_returns unit) (flat && apart) last;
+      apart = and_second flat apart (and_second (unit_returns unit) (flat && apart) last);
     }
 
 entry_is : (units : List UnitDef) (entry : ℕ) (found : Option UnitDef) → slice_get units entry ≡ found → is_entry found ≡ true →
@@ -106,7 +71,7 @@ entry_is units entry (Some unit) there is = record {
   unit = unit;
   there = there;
   activity =
-      and_left (is_activity unit.kind) (is_none unit.result && list_all (λ var. is_some (scalar_in var.ty)) (parameters_of unit)) is;
+      and_first (is_activity unit.kind) (is_none unit.result && list_all (λ var. is_some (scalar_in var.ty)) (parameters_of unit)) is;
 }
 
 -- what is found among the first is before them

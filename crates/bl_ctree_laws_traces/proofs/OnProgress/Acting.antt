@@ -1,129 +1,24 @@
 -- What could act in a tree that stands at a place: a node that may act there now, and where something is left to do some node.
 use Rattle.std.proofs.Common.{◌≡◌, ℕ, Bool, true, false, not, ◌&&◌, ◌||◌, ◌⊎◌, inl, inr, refl, sym, subst}
 use Rattle.bl_graph_nodes.specs.Nodes.{entry}
-use Rattle.bl_graph_nodes.specs.Plain.{
-  Bodies,
-  Plain,
-  Act,
-  Again,
-  Await,
-  Body as BodyOf,
-  Cobegin,
-  Done,
-  If,
-  Last,
-  Repeat,
-  Run as RunOf,
-  Then,
-  Until,
-  When,
-  While,
-  plain_body,
-}
+use Rattle.bl_graph_nodes.specs.Plain.{Bodies, Plain, Act, Again, Await, Body as BodyOf, Cobegin, Done, If, Last, Repeat, Run as RunOf, Then, Until, When}
+use Rattle.bl_graph_nodes.specs.Plain.{While, plain_body}
 use Rattle.bl_graph_nodes.specs.Steps.{StepLabel, head_of}
 use Rattle.bl_graph.specs.Edges.{InEach}
 use Rattle.bl_ctree.specs.Control.{Check, Body}
 use Rattle.bl_ctree.specs.Instances.{Setting}
-use Rattle.bl_ctree_laws.specs.Pending.{Deed, may_end, may_join}
-use Rattle.bl_ctree_laws.specs.Steps.{
-  Anyway,
-  Moves,
-  OneMoves,
-  acts,
-  takes,
-  passes,
-  pauses,
-  runs,
-  repeats,
-  repeats_until,
-  leaves,
-  turns,
-  enters,
-  skips,
-  forks,
-  guards,
-  goes_on,
-  waits,
-  lets,
-  aborts,
-  resets,
-  guard_ends,
-  copies,
-  run_ends,
-  joins,
-  in_seq,
-  in_par,
-  in_guard,
-  in_run,
-  first,
-  later,
-}
-use Rattle.bl_ctree_laws.specs.Trees.{
-  Call,
-  Fork,
-  Tree,
-  Trees,
-  Watch,
-  Nil,
-  Wait,
-  Test,
-  Idle,
-  Do,
-  Seq,
-  Par,
-  Guard,
-  Run,
-  are_done,
-  are_settled,
-  beside,
-  has_strong,
-  is_nil,
-  is_settled,
-  no_tree,
-  some_ended,
-  strong_ended,
-}
+use Rattle.bl_ctree_laws.specs.Pending.{Deed}
+use Rattle.bl_ctree_laws.specs.Steps.{Anyway, Moves, OneMoves, acts, takes, passes, pauses, runs, repeats, repeats_until, leaves, turns, enters, skips, forks}
+use Rattle.bl_ctree_laws.specs.Steps.{guards, goes_on, waits, lets, aborts, resets, guard_ends, copies, run_ends, joins, in_seq, in_par, in_guard, in_run}
+use Rattle.bl_ctree_laws.specs.Steps.{first, later}
+use Rattle.bl_ctree_laws.specs.Trees.{Call, Fork, Tree, Trees, Watch, Nil, Wait, Test, Idle, Do, Seq, Par, Guard, Run, are_done, are_settled, beside}
+use Rattle.bl_ctree_laws.specs.Trees.{is_nil, is_settled, no_tree}
 use Rattle.bl_ctree_laws_traces.specs.Progress.Laws.{Could, NodesAreInPart, UnsettledCould}
 use Rattle.bl_ctree_laws_traces.specs.Progress.FitsGraph.{AllFitGraph, FitsGraph}
 use Rattle.bl_ctree_laws_traces.specs.Progress.Places.{Callable, Place, ahead_of, guarded, in_branch, whole}
+use Rattle.bl_ctree_laws.proofs.Less.{done_join}
 
 -- ---- so many have ended that the `cobegin` may end
-
-nil_may_end : (c : Tree) → is_nil c ≡ true → may_end c ≡ true
-nil_may_end Nil e = refl
-nil_may_end (Wait s) e = absurd cc
-nil_may_end (Test s) e = refl
-nil_may_end (Idle body) e = absurd cc
-nil_may_end (Do s) e = absurd cc
-nil_may_end (Seq c rest) e = absurd cc
-nil_may_end (Par s stood branches) e = absurd cc
-nil_may_end (Guard s phase stood c) e = absurd cc
-nil_may_end (Run s callee phase stood c) e = absurd cc
-
-strong_may : (branches : Trees) → strong_ended branches ≡ true → may_join true branches ≡ true
-strong_may no_tree e = refl
-strong_may (beside true c rest) e = strong_may rest e
-strong_may (beside false c rest) e = by_end (is_nil c) (may_end c) (strong_ended rest) (may_join true rest) (nil_may_end c) (strong_may rest) e
-  where
-    by_end : (a b x y : Bool) → (a ≡ true → b ≡ true) → (x ≡ true → y ≡ true) → (a && x) ≡ true → (b && y) ≡ true
-    by_end true b x y f g e = cc (f refl, g e)
-    by_end false b x y f g e = absurd cc
-
-some_may : (branches : Trees) → some_ended branches ≡ true → may_join false branches ≡ true
-some_may no_tree e = absurd cc
-some_may (beside weak c rest) e = by_end (is_nil c) (may_end c) (some_ended rest) (may_join false rest) (nil_may_end c) (some_may rest) e
-  where
-    by_end : (a b x y : Bool) → (a ≡ true → b ≡ true) → (x ≡ true → y ≡ true) → (a || x) ≡ true → (b || y) ≡ true
-    by_end true b x y f g e = cc (f refl)
-    by_end false true x y f g e = refl
-    by_end false false x y f g e = g e
-
-pub done_may_join : (branches : Trees) → are_done branches ≡ true → may_join (has_strong branches) branches ≡ true
-done_may_join branches e = by_kind (has_strong branches) refl e
-  where
-    by_kind : (b : Bool) → has_strong branches ≡ b → are_done branches ≡ true → may_join (has_strong branches) branches ≡ true
-    by_kind true is e = rw is (strong_may branches (rw is at e))
-    by_kind false is e = rw is (some_may branches (rw is at e))
 
 -- ---- the node that acts may act
 
@@ -152,7 +47,7 @@ module _ {T : Bool → Type 0} {w : Setting} where
     region guard_ends g live = (live.1.closes refl).1
     region copies g live = live.2.now
     region run_ends g live = live.2.now
-    region (joins {branches = branches} still done) g live = (live.1.joins (done_may_join branches done)).1
+    region (joins {branches = branches} still done) g live = (live.1.joins (done_join branches done)).1
     region (in_seq {rest = Done} move) g live = elim live [ ]
     region (in_seq {rest = Then s rest} move) g live = region move (ahead_of (entry s) g) live.0
     region (in_par {s = s} {stood = stood} move) g live = live.1.holds.now _ (one_region move s.bodies stood g live.0)

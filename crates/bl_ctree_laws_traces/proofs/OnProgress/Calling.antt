@@ -10,41 +10,13 @@ use Rattle.bl_tree.specs.declared.tree.StmtKind.TheOpen.{StmtKind-F}
 use Rattle.bl_tree.specs.Reduce.{joined}
 use Rattle.bl_tree.proofs.StmtInduction.{Cases, Each, EachArm, EachBranch, induct, stmt}
 use Rattle.bl_graph_nodes.specs.Laws.{plain_arm, plain_branch}
-use Rattle.bl_graph_nodes.specs.Plain.{
-  Label,
-  Position,
-  block_from,
-  bodies_from,
-  else_at,
-  inside,
-  label_at,
-  passed_one,
-  plain_block,
-  plain_body,
-  plain_stmt,
-}
+use Rattle.bl_graph_nodes.specs.Plain.{Label, Position, block_from, bodies_from, else_at, inside, label_at, passed_one, plain_block, plain_body, plain_stmt}
 use Rattle.bl_graph_nodes.proofs.Equations.{plain_statements}
 use Rattle.bl_ctree.specs.declared.instance.Run.{Run}
-use Rattle.bl_ctree.specs.Instances.{
-  Setting,
-  arm_runs,
-  branch_runs,
-  kind_runs,
-  runs_in,
-  runs_in_arm,
-  runs_in_branch,
-  stmt_layer_runs,
-}
+use Rattle.bl_ctree.specs.Instances.{Setting, arm_runs, branch_runs, kind_runs, runs_in, runs_in_arm, runs_in_branch, stmt_layer_runs}
 use Rattle.bl_ctree_laws_confluence.proofs.OnDeeds.Activities.{AllOf}
 use Rattle.bl_ctree_laws_traces.specs.Progress.Places.{Callable, CallableAll, CallableEach, Calls}
-
-of_first : {A : Type 0} (P : A → Type 0) (xs ys : List A) → AllOf P (xs ++ ys) → AllOf P xs
-of_first P [] ys all = tt
-of_first P (x ∷ xs) ys all = (all.0, of_first P xs ys all.1)
-
-of_second : {A : Type 0} (P : A → Type 0) (xs ys : List A) → AllOf P (xs ++ ys) → AllOf P ys
-of_second P [] ys all = all
-of_second P (x ∷ xs) ys all = of_second P xs ys all.1
+use Rattle.bl_ctree_laws_confluence.proofs.OnDeeds.Aliases.{of_first, of_second}
 
 module _ (w : Setting) (i : ℕ) where
   abbrev pub C : Run → Type 0

@@ -2,6 +2,7 @@
 use Rattle.std.proofs.Common.{◌≡◌, Bool, true, ◌&&◌, List, [], ◌∷◌, map, get_or, Option, Some, None, refl, sym, ◌∙◌, subst}
 use Rattle.std.specs.Prelude.{All, slice_get}
 use Rattle.std.proofs.lemmas.List.Elements.{All-head, All-tail}
+use Rattle.bl_tree.proofs.Basics.{and_first, and_second}
 use Rattle.bl_tree.specs.declared.place.Place.{Place}
 use Rattle.bl_tree.specs.declared.tree.Arm.{Arm, fold-Arm, fold_out-Arm, out-Arm}
 use Rattle.bl_tree.specs.declared.tree.Branch.{Branch, fold-Branch, fold_out-Branch, out-Branch}
@@ -16,7 +17,7 @@ use Rattle.bl_tree.specs.Typing.{TypingContext, arm_fits, branch_fits, fits, is_
 use Rattle.bl_tree.proofs.StmtInduction.{Cases, Each, EachArm, EachBranch, induct, stmt}
 use Rattle.bl_ctree.specs.declared.instance.Run.{Run}
 use Rattle.bl_ctree.specs.Instances.{arm_runs, branch_runs, kind_runs, runs_in, runs_in_arm, runs_in_branch, stmt_layer_runs}
-use Rattle.bl_ctree_laws_confluence.proofs.OnDeeds.Activities.{AllOf, all_both, and_left, and_right}
+use Rattle.bl_ctree_laws_confluence.proofs.OnDeeds.Activities.{AllOf, all_both}
 
 -- ---- the unit that a `run` names
 
@@ -36,8 +37,8 @@ module _ (site : TypingContext) where
   parts_run fit f [] all fitted = tt
   parts_run fit f (x ∷ xs) all fitted =
       all_both R (f x) (joined (map f xs))
-      (All-head (λ x. fit x ≡ true → AllOf R (f x)) x xs all (and_left (fit x) (all_of (map fit xs)) fitted))
-      (parts_run fit f xs (All-tail (λ x. fit x ≡ true → AllOf R (f x)) x xs all) (and_right (fit x) (all_of (map fit xs)) fitted))
+      (All-head (λ x. fit x ≡ true → AllOf R (f x)) x xs all (and_first (fit x) (all_of (map fit xs)) fitted))
+      (parts_run fit f xs (All-tail (λ x. fit x ≡ true → AllOf R (f x)) x xs all) (and_second (fit x) (all_of (map fit xs)) fitted))
 
   block_runs : (body : List Stmt) → Each S body → all_of (map (fits site) body) ≡ true → AllOf R (joined (map runs_in body))
   block_runs body each fitted = parts_run (fits site) runs_in body each fitted
@@ -51,7 +52,7 @@ module _ (site : TypingContext) where
   arm_runs_so : (arm : Arm) → Each S (out-Arm arm).body → arm_fitted arm ≡ true → AllOf R (runs_in_arm arm)
   arm_runs_so arm each fitted =
       subst (AllOf R) (sym (fold_out-Arm (Place → List Run) (List Run) (List Run) (List Run) kind_runs arm_runs branch_runs stmt_layer_runs arm))
-      (block_runs (out-Arm arm).body each (and_right (is_truth (type_of site (out-Arm arm).test)) (all_of (map (fits site) (out-Arm arm).body))
+      (block_runs (out-Arm arm).body each (and_second (is_truth (type_of site (out-Arm arm).test)) (all_of (map (fits site) (out-Arm arm).body))
       (sym (fold_out-Arm Bool Bool Bool Bool (kind_fits site) (arm_fits site) branch_fits stmt_fits arm) ∙ fitted)))
 
   branch_runs_so : (branch : Branch) → Each S (out-Branch branch).body → branch_fitted branch ≡ true → AllOf R (runs_in_branch branch)
@@ -113,22 +114,22 @@ module _ (site : TypingContext) where
     branching = λ place arms other in_arms in_other. by_parts place (StmtKind-F.If arms other) (λ fitted.
         let choices : Bool = all_of (map arm_fitted arms) in
         let last : Bool = all_of (map (fits site) other) in
-        let fitting : (choices && last) ≡ true = and_right (is_inhabited (map arm_fitted arms)) (choices && last) fitted in
-        all_both R (joined (map runs_in_arm arms)) (joined (map runs_in other)) (arms_run arms in_arms (and_left choices last fitting))
-        (block_runs other in_other (and_right choices last fitting)));
+        let fitting : (choices && last) ≡ true = and_second (is_inhabited (map arm_fitted arms)) (choices && last) fitted in
+        all_both R (joined (map runs_in_arm arms)) (joined (map runs_in other)) (arms_run arms in_arms (and_first choices last fitting))
+        (block_runs other in_other (and_second choices last fitting)));
     cobegin = λ place branches each. by_parts place (StmtKind-F.Cobegin branches) (λ fitted.
         let some : Bool = is_inhabited (map branch_fitted branches) in
         let inside : Bool = all_of (map branch_fitted branches) in
-        branches_run branches each (and_right some inside (and_right (is_activity site.kind) (some && inside) fitted)));
+        branches_run branches each (and_second some inside (and_second (is_activity site.kind) (some && inside) fitted)));
     guarded = λ place guard e body each. by_parts place (StmtKind-F.When guard e body) (λ fitted.
         let tested : Bool = is_truth (type_of site e) in
         let inside : Bool = all_of (map (fits site) body) in
-        block_runs body each (and_right tested inside (and_right (is_activity site.kind) (tested && inside) fitted)));
+        block_runs body each (and_second tested inside (and_second (is_activity site.kind) (tested && inside) fitted)));
     repeat = λ place body each. by_parts place (StmtKind-F.Repeat body) (λ fitted. block_runs body each fitted);
     until = λ place body e each. by_parts place (StmtKind-F.Until body e) (λ fitted.
-        block_runs body each (and_left (all_of (map (fits site) body)) (is_truth (type_of site e)) fitted));
+        block_runs body each (and_first (all_of (map (fits site) body)) (is_truth (type_of site e)) fitted));
     while = λ place e body each. by_parts place (StmtKind-F.While e body) (λ fitted.
-        block_runs body each (and_right (is_truth (type_of site e)) (all_of (map (fits site) body)) fitted));
+        block_runs body each (and_second (is_truth (type_of site e)) (all_of (map (fits site) body)) fitted));
     returns = λ place e. by_parts place (StmtKind-F.Return e) (λ fitted. tt);
   }
 

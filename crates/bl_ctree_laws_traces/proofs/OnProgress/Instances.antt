@@ -1,56 +1,20 @@
 -- Each `run` of an instance's unit begins an instance.
-use Rattle.std.proofs.Common.{
-  ◌≡◌,
-  ◌⊎◌,
-  inl,
-  inr,
-  ℕ,
-  zero,
-  suc,
-  ◌+◌,
-  ◌<◌,
-  Bool,
-  true,
-  false,
-  ◌||◌,
-  ◌&&◌,
-  not,
-  cond,
-  List,
-  [],
-  ◌∷◌,
-  ◌++◌,
-  map,
-  length,
-  Option,
-  Some,
-  None,
-  refl,
-  sym,
-  ap,
-  ◌∙◌,
-  subst,
-  arith,
-  eqb-true,
-  eq-eqb,
-}
+use Rattle.std.proofs.Common.{◌≡◌, ◌⊎◌, inl, inr, ℕ, zero, suc, ◌+◌, ◌<◌, Bool, true, false, ◌||◌, ◌&&◌, not, cond, List, [], ◌∷◌, ◌++◌, map, length, Option}
+use Rattle.std.proofs.Common.{Some, None, refl, sym, ap, ◌∙◌, subst, arith, eqb-true, eq-eqb}
 use Rattle.std.proofs.lemmas.Bool.{lt-ltb}
 use Rattle.std.specs.List.{list_any, position, position_or_len}
 use Rattle.std.specs.Prelude.{filter, nat_eq, option_map, slice_get, unwrap_or}
+use Rattle.bl_tree.proofs.Basics.{get_of_map, or_true, some_within}
 use Rattle.bl_tree.specs.declared.place.Place.{Place}
 use Rattle.bl_tree.specs.declared.tree.Unit.{Unit as UnitDef}
 use Rattle.bl_tree.specs.Rules.{same_place}
-use Rattle.bl_effects.proofs.EntryLemmas.{same_place_is, same_place_refl}
+use Rattle.bl_effects.proofs.EntryLemmas.{same_place_refl}
 use Rattle.bl_ctree.specs.declared.instance.Instance.{Instance}
 use Rattle.bl_ctree.specs.declared.instance.Origin.{Origin}
 use Rattle.bl_ctree.specs.declared.instance.Run.{Run}
 use Rattle.bl_ctree.specs.Instances.{begins_at, called_from, expanded, instances_below, one_a_place, origin_under, runs_of}
 use Rattle.bl_ctree_laws_confluence.proofs.OnDeeds.Activities.{AllOf}
-use Rattle.bl_ctree_laws_confluence.proofs.OnDeeds.Origins.{map_got}
-
-or_true : (a : Bool) → (a || true) ≡ true
-or_true true = refl
-or_true false = refl
+use Rattle.bl_tree.proofs.FirstLemmas.{same_true}
 
 any_first : {A : Type 0} (p : A → Bool) (xs ys : List A) → list_any p xs ≡ true → list_any p (xs ++ ys) ≡ true
 any_first p [] ys e = absurd cc
@@ -81,15 +45,10 @@ first_len p (x ∷ xs) e = by_test (p x) refl e (first_len p xs)
     by_test true is e more = rw is (omega arith)
     by_test false is e more = let rest = more e in rw is (omega arith)
 
-got : {A : Type 0} (xs : List A) (k : ℕ) → k < length xs → (x : A) × (slice_get xs k ≡ Some x)
-got [] k less = absurd (omega arith)
-got (x ∷ xs) zero less = (x, refl)
-got (x ∷ xs) (suc k) less = got xs k (omega arith)
-
 pub first_at : {A : Type 0} (p : A → Bool) (xs : List A) → list_any p xs ≡ true → First p xs
 first_at p xs e =
     let less = first_len p xs e in
-    let one = got xs (position_or_len p xs) less in
+    let one = some_within xs (position_or_len p xs) less in
     record {
       at = position_or_len p xs;
       one = one.0;
@@ -208,13 +167,13 @@ module _ (units : List UnitDef) (earlier : (k : ℕ) (unit : UnitDef) → slice_
           (slice_get (of_it longest n run) m ≡ Some x) ⊎ Split (of_it longest n run) (after_it longest n run rest) m x → AllOf
           (λ other. SomeBegins ((of_it longest n run) ++ (after_it longest n run rest)) (n + m) other.place) (runs_of unit)
       by_split more (inl here) =
-          let got = map_got (called_from n run) (expanded units longest run.unit) m x here in
-          let same : got.0.unit ≡ x.unit = ap (λ x. x.unit) got.2 in
+          let caller = get_of_map (called_from n run) (expanded units longest run.unit) m x here in
+          let same : caller.0.unit ≡ x.unit = ap (λ x. x.unit) caller.2 in
           all_more (λ other. SomeBegins (expanded units longest run.unit) m other.place)
           (λ other. SomeBegins ((of_it longest n run) ++ (after_it longest n run rest)) (n + m) other.place)
           (λ other h. any_first (λ instance. begins_at (n + m) other.place instance.origin) (of_it longest n run) (after_it longest n run rest)
           (begun_inside n m other.place run (expanded units longest run.unit) h)) (runs_of unit)
-          (inner run.unit all.0.2 m got.0 unit got.1 (subst (λ k. slice_get units k ≡ Some unit) (sym same) of))
+          (inner run.unit all.0.2 m caller.0 unit caller.1 (subst (λ k. slice_get units k ≡ Some unit) (sym same) of))
       by_split more (inr split) =
           let is = split.is in
           let index : n + length (of_it longest n run) + split.after ≡ n + m = omega arith in
@@ -261,5 +220,5 @@ all_places P (run ∷ rest) all = (all.0, all_places P rest (unfiltered (one_a_p
             (filter (λ other. not (same_place run.place other.place)) xs)) →
             (AllOf (λ run. P run.place) (filter (λ other. not (same_place run.place other.place)) xs) → AllOf (λ run. P run.place) xs) →
             AllOf (λ run. P run.place) (x ∷ xs)
-        by_test true is kept more = (subst P (same_place_is run.place x.place is) all.0, more kept)
+        by_test true is kept more = (subst P (same_true run.place x.place is) all.0, more kept)
         by_test false is kept more = (kept.0, more kept.1)

@@ -5,25 +5,8 @@ use Rattle.bl_tree.specs.declared.tree.Expr.{Expr}
 use Rattle.bl_tree.specs.declared.tree.Guard.{Guard as GuardKind}
 use Rattle.bl_tree.specs.declared.tree.Guard.TheVariants.{Abort, Reset}
 use Rattle.bl_graph_nodes.specs.Nodes.{DepthEndAt, ForkAt, HeadAt, Node, StartAt, SurfaceEndAt, TestAt, are_instant, entry, is_instant}
-use Rattle.bl_graph_nodes.specs.Plain.{
-  Act,
-  Again,
-  Block,
-  Bodies,
-  Body as BodyOf,
-  Cobegin,
-  Done,
-  Label,
-  Last,
-  Plain,
-  Repeat,
-  Run as RunOf,
-  Then,
-  When,
-  While,
-  is_empty,
-  plain_body,
-}
+use Rattle.bl_graph_nodes.specs.Plain.{Act, Again, Block, Bodies, Body as BodyOf, Cobegin, Done, Label, Last, Plain, Repeat, Run as RunOf, Then, When, While}
+use Rattle.bl_graph_nodes.specs.Plain.{is_empty, plain_body}
 use Rattle.bl_graph_nodes.specs.Steps.{StepLabel, end_node, join_node, run_node}
 use Rattle.bl_graph.specs.Edges.{BodyEnd, EdgeAll, Entry, Guarded, In, Into, OutAll}
 use Rattle.bl_graph.specs.Laws.{InstantsPass, WayThroughAll}
@@ -34,71 +17,19 @@ use Rattle.bl_ctree.specs.Control.{Check, Body}
 use Rattle.bl_ctree.specs.Instances.{Setting}
 use Rattle.bl_ctree_laws.specs.Pending.{Deed, may_end}
 use Rattle.bl_ctree_laws.specs.Shrinks.{EndsShrink, Paces}
-use Rattle.bl_ctree_laws.specs.Steps.{
-  Anyway,
-  Moves,
-  OneMoves,
-  acts,
-  takes,
-  passes,
-  pauses,
-  runs,
-  repeats,
-  repeats_until,
-  leaves,
-  turns,
-  enters,
-  skips,
-  forks,
-  guards,
-  goes_on,
-  waits,
-  lets,
-  aborts,
-  resets,
-  guard_ends,
-  copies,
-  run_ends,
-  joins,
-  in_seq,
-  in_par,
-  in_guard,
-  in_run,
-  first,
-  later,
-  fork,
-  turn,
-  watch,
-}
+use Rattle.bl_ctree_laws.specs.Steps.{Anyway, Moves, OneMoves, acts, takes, passes, pauses, runs, repeats, repeats_until, leaves, turns, enters, skips, forks}
+use Rattle.bl_ctree_laws.specs.Steps.{guards, goes_on, waits, lets, aborts, resets, guard_ends, copies, run_ends, joins, in_seq, in_par, in_guard, in_run}
+use Rattle.bl_ctree_laws.specs.Steps.{first, later, fork, turn, watch}
 use Rattle.bl_ctree_laws.specs.Trees.{Tree, Trees, Watch, Nil, Wait, Test, Idle, Do, Seq, Par, Guard, Run, trees_begun, beside, do_block, is_nil, no_tree, seq}
 use Rattle.bl_ctree_laws_traces.specs.Progress.Laws.{StepsKeepFitsGraph}
 use Rattle.bl_ctree_laws_traces.specs.Progress.FitsGraph.{AllFitGraph, CheckFitsGraph, FitsGraph, check_of, test_of}
 use Rattle.bl_ctree_laws_traces.specs.Progress.Places.{AllCallable, AreSubgraphs, IsSubgraph, Place, ahead_of, guarded, in_branch, later_on, whole}
-use Rattle.bl_ctree_laws_traces.proofs.OnProgress.Acting.{done_may_join, region}
-use Rattle.bl_ctree_laws_traces.proofs.OnProgress.Beginning.{
-  Closed,
-  again_fits,
-  begun_live,
-  body_lives,
-  depth_reached,
-  do_lives,
-  else_fits,
-  fits_join,
-  nil_is_empty,
-  repeat_body,
-  seq_lives,
-  seq_unended,
-  surface_reached,
-  then_fits,
-  turn_begins,
-  turn_unended,
-  until_body,
-  until_fits,
-  walks_stay,
-  watch_fits,
-  while_body,
-}
+use Rattle.bl_ctree_laws_traces.proofs.OnProgress.Acting.{region}
+use Rattle.bl_ctree_laws_traces.proofs.OnProgress.Beginning.{Closed, again_fits, begun_live, body_lives, depth_reached, do_lives, else_fits, fits_join}
+use Rattle.bl_ctree_laws_traces.proofs.OnProgress.Beginning.{nil_is_empty, repeat_body, seq_lives, seq_unended, surface_reached, then_fits, turn_begins}
+use Rattle.bl_ctree_laws_traces.proofs.OnProgress.Beginning.{turn_unended, until_body, until_fits, walks_stay, watch_fits, while_body}
 use Rattle.bl_ctree_laws_traces.proofs.OnProgress.Leading.{body_walk, end_out, in_on, join_out, one_on, run_out, way_out}
+use Rattle.bl_ctree_laws.proofs.Less.{done_join}
 
 -- ---- more nodes may act
 
@@ -435,7 +366,7 @@ module _ {w : Setting} (pass : InstantsPass) (shrink : EndsShrink) (pace : Paces
     kept {i = i} (run_ends {s = s} {stood = stood}) g live closed deep =
         left_by g (run_node stood s.label s.place s.arguments) live.2.now (run_out w i s stood g live.2.fits (live.2.stays refl))
     kept (joins {s = s} {stood = stood} {branches = branches} still done) g live closed deep =
-        let ends = live.1.joins (done_may_join branches done) in
+        let ends = live.1.joins (done_join branches done) in
         left_by g (join_node stood s.label s.place) ends.1 (live.1.fits.outs _ (join_out s.label s.place s.bodies stood ends.0))
     kept (in_seq {rest = Done} move) g live closed deep = elim live [ ]
     kept (in_seq {rest = Then s rest} {c' = c'} move) g live closed deep =

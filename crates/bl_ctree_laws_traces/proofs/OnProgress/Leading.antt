@@ -1,5 +1,6 @@
 -- Where a tree may end what could act in it leads to its end.
 use Rattle.std.proofs.Common.{◌≡◌, ℕ, Bool, true, false, ◌&&◌, ◌||◌, cond, ◌⊎◌, inl, inr, refl, sym, ap, ◌∙◌, subst}
+use Rattle.bl_tree.proofs.Basics.{or_true}
 use Rattle.bl_tree.specs.declared.place.Place.{Place as Source}
 use Rattle.bl_tree.specs.declared.tree.Guard.{Guard as GuardKind}
 use Rattle.bl_tree.specs.declared.tree.Guard.TheVariants.{Abort, Reset}
@@ -15,31 +16,8 @@ use Rattle.bl_ctree.specs.Instances.{Setting}
 use Rattle.bl_ctree.specs.Pending.{is_reset_kind}
 use Rattle.bl_ctree_laws.specs.Pending.{guard_may_end, may_end, may_join}
 use Rattle.bl_ctree_laws.specs.Steps.{goes_on, lets, guard_ends, copies, run_ends, joins, in_seq, in_par, in_guard, in_run, first, later}
-use Rattle.bl_ctree_laws.specs.Trees.{
-  Call,
-  Fork,
-  Tree,
-  Trees,
-  Watch,
-  Nil,
-  Wait,
-  Test,
-  Idle,
-  Do,
-  Seq,
-  Par,
-  Guard,
-  Run,
-  are_done,
-  are_settled,
-  beside,
-  has_strong,
-  is_nil,
-  is_settled,
-  no_tree,
-  some_ended,
-  strong_ended,
-}
+use Rattle.bl_ctree_laws.specs.Trees.{Call, Fork, Tree, Trees, Watch, Nil, Wait, Test, Idle, Do, Seq, Par, Guard, Run, are_done, are_settled, beside}
+use Rattle.bl_ctree_laws.specs.Trees.{has_strong, is_nil, is_settled, no_tree, some_ended, strong_ended}
 use Rattle.bl_ctree_laws_traces.specs.Progress.Laws.{Could, EndsAreReached, StepLeadsTo}
 use Rattle.bl_ctree_laws_traces.specs.Progress.FitsGraph.{MayReachEnd, FitsGraph, AllFitGraph, WatchFitsGraph, CheckFitsGraph, call_stmt, check_of, test_of}
 use Rattle.bl_ctree_laws_traces.specs.Progress.Places.{AreSubgraphs, BothEnds, IsSubgraph, Place, ahead_of, guarded, in_branch, later_on, whole}
@@ -50,10 +28,6 @@ use Rattle.bl_ctree_laws_traces.proofs.OnProgress.Acting.{OneCould, begins, poin
 pub both_are : (a b : Bool) → (a && b) ≡ true → (a ≡ true) × (b ≡ true)
 both_are true b is = (refl, is)
 both_are false b is = cc
-
-or_true : (a : Bool) → (a || true) ≡ true
-or_true true = refl
-or_true false = refl
 
 pub either_is : (a b : Bool) → (a || b) ≡ true → (a ≡ true) ⊎ (b ≡ true)
 either_is true b is = inl refl
@@ -109,7 +83,7 @@ to_end s E true n both so = both.1
 to_end s E false n both so = both.0 (so refl)
 
 -- an edge from a branch to the join
-to_join : (weak : Bool) (body : Block) (rest : Bodies) (l : Label) (at : Source) (so stood : Bool) (n : Node) → (stood ≡ false → so ≡ true) →
+pub to_join : (weak : Bool) (body : Block) (rest : Bodies) (l : Label) (at : Source) (so stood : Bool) (n : Node) → (stood ≡ false → so ≡ true) →
     In stood body n → (weak ≡ true) ⊎ OutAll body n → EdgeEach (BodyOf weak body rest) l at so n (join_node stood l at)
 to_join weak body rest l at so true n is inside ends = inr (inr (inr (inl ((inside, ends), refl))))
 to_join weak body rest l at so false n is inside ends = inr (inr (inl ((inside, ends), (is refl, refl))))
@@ -182,13 +156,13 @@ unsettled_joins w i (beside true c rest) (BodyOf weak' body bodies) l at so stoo
         subst (λ b. OneLeads w i (beside true c rest) (EdgeEach (BodyOf b body bodies) l at so) (λ n. n ≡ join_node stood l at)) lives.1
         (weak_joins w i c rest body bodies l at so stood g lives.0 is (point c i (in_branch stood body g) lives.0 moving))
 
-none_strong : (branches : Trees) → has_strong branches ≡ false → strong_ended branches ≡ true
+pub none_strong : (branches : Trees) → has_strong branches ≡ false → strong_ended branches ≡ true
 none_strong no_tree e = refl
 none_strong (beside true c rest) e = none_strong rest e
 none_strong (beside false c rest) e = absurd cc
 
 -- so many have ended as are needed, then all strong ones have
-done_strong : (branches : Trees) → are_done branches ≡ true → strong_ended branches ≡ true
+pub done_strong : (branches : Trees) → are_done branches ≡ true → strong_ended branches ≡ true
 done_strong branches e = by_kind (has_strong branches) refl e
   where
     by_kind : (b : Bool) → has_strong branches ≡ b → cond b (strong_ended branches) (some_ended branches) ≡ true → strong_ended branches ≡ true

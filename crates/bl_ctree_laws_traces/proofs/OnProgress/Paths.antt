@@ -3,9 +3,12 @@ use Rattle.std.proofs.Common.{◌≡◌, ◌<◌, Bool, true, false, ◌||◌, L
 use Rattle.std.specs.Prelude.{Contains}
 use Rattle.std.specs.List.{list_any}
 use Rattle.std.proofs.lemmas.List.Elements.{Contains-append_cases, Contains-append_left, Contains-append_right, Contains-push, Contains-push_cases}
+use Rattle.bl_tree.proofs.Basics.{or_true}
 use Rattle.bl_tree.specs.declared.static_path.Static.{Static}
 use Rattle.bl_tree.specs.Static.{set_of}
 use Rattle.bl_effects.proofs.SetLemmas.{In, set_in}
+use Rattle.bl_ctree_laws.proofs.Surfaces.{passed}
+use Rattle.bl_graph.proofs.Writing.{none_in_nothing}
 
 -- a member that passes
 pub record Passes (test : Static → Bool) (xs : List Static) : Type 0 where
@@ -20,15 +23,6 @@ passing test (x ∷ xs) e = by_test (test x) refl (λ h. passing test xs h) e
     by_test : (b : Bool) → test x ≡ b → (list_any test xs ≡ true → Passes test xs) → (b || list_any test xs) ≡ true → Passes test (x ∷ xs)
     by_test true is more h = record { one = x; among = inl refl; passes = is }
     by_test false is more h = let p = more h in record { one = p.one; among = inr p.among; passes = p.passes }
-
-or_true : (a : Bool) → (a || true) ≡ true
-or_true true = refl
-or_true false = refl
-
-pub passed : (test : Static → Bool) (xs : List Static) (one : Static) → In one xs → test one ≡ true → list_any test xs ≡ true
-passed test [] one m e = elim m [ ]
-passed test (x ∷ xs) one (inl is) e = ap (λ b. b || list_any test xs) (ap test (sym is) ∙ e)
-passed test (x ∷ xs) one (inr m) e = ap (λ b. test x || b) (passed test xs one m e) ∙ or_true (test x)
 
 -- a set passes where its list does
 pub set_passes : (test : Static → Bool) (xs : List Static) → list_any test xs ≡ true → list_any test (set_of xs) ≡ true
@@ -52,9 +46,6 @@ pub contained : (xs : List Static) (one : Static) → In one xs → Contains xs 
 contained [] one m = elim m [ ]
 contained (x ∷ xs) one (inl is) = subst (λ y. Contains (x ∷ xs) y) (sym is) (Contains-append_left (x ∷ []) xs x (Contains-push [] x))
 contained (x ∷ xs) one (inr m) = Contains-append_right (x ∷ []) xs one (contained xs one m)
-
-none_in_nothing : (path : Static) → Contains [] path → ⊥
-none_in_nothing path h = let lt : h.0 < 0 = h.1 in omega arith
 
 pub member : (xs : List Static) (one : Static) → Contains xs one → In one xs
 member [] one m = absurd (none_in_nothing one m)

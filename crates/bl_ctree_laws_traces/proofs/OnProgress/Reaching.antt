@@ -28,9 +28,7 @@ use Rattle.bl_ctree_laws_traces.proofs.OnProgress.Acting.{unsettled_could}
 use Rattle.bl_ctree_laws_traces.proofs.OnProgress.Beginning.{do_lives}
 use Rattle.bl_ctree_laws_traces.proofs.OnProgress.Keeping.{steps_keep_fits_graph}
 use Rattle.bl_ctree_laws_traces.proofs.OnProgress.Waking.{waking_keeps_fits_graph}
-
-tree_same : (c c' : control.Control) (store store' : Store) → ticks.Rests c store ≡ ticks.Rests c' store' → c ≡ c'
-tree_same c c' store store' e = cc
+use Rattle.bl_ctree_laws.proofs.Running.{tree_same}
 
 -- what waits for the next tick is settled
 paused_settled : (nil settled : Bool) → ticks.resting_outcome nil settled ≡ ticks.Paused → settled ≡ true

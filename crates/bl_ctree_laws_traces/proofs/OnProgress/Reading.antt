@@ -1,28 +1,9 @@
 -- What deeds read, and where they are done.
-use Rattle.std.proofs.Common.{
-  ◌≡◌,
-  ℕ,
-  zero,
-  suc,
-  Bool,
-  true,
-  false,
-  ◌||◌,
-  List,
-  [],
-  ◌∷◌,
-  ◌++◌,
-  map,
-  refl,
-  sym,
-  ap,
-  ◌∙◌,
-  subst,
-  arith,
-}
+use Rattle.std.proofs.Common.{◌≡◌, ℕ, zero, suc, Bool, true, false, ◌||◌, List, [], ◌∷◌, ◌++◌, map, refl, sym, ap, ◌∙◌, subst, arith}
 use Rattle.std.specs.List.{list_any}
 use Rattle.std.specs.Prelude.{Contains}
 use Rattle.std.proofs.lemmas.List.Elements.{Contains-append_left, Contains-append_right}
+use Rattle.bl_tree.proofs.Basics.{any_from}
 use Rattle.bl_tree.specs.declared.place.Place.{Place}
 use Rattle.bl_tree.specs.declared.static_path.Static.{Static}
 use Rattle.bl_tree.specs.declared.tree.Expr.{Expr}
@@ -36,39 +17,9 @@ use Rattle.bl_effects.proofs.SetLemmas.{overlaps_symm, set_members}
 use Rattle.bl_ctree.specs.Instances.{Setting, setting_of}
 use Rattle.bl_ctree.specs.Store.{Location, home, homes}
 use Rattle.bl_ctree_laws.specs.Pending.{Deed, deed_reads, leads_over}
-use Rattle.bl_ctree_laws.specs.Steps.{
-  Anyway,
-  Moves,
-  OneMoves,
-  acts,
-  takes,
-  passes,
-  pauses,
-  runs,
-  repeats,
-  repeats_until,
-  leaves,
-  turns,
-  enters,
-  skips,
-  forks,
-  guards,
-  goes_on,
-  waits,
-  lets,
-  aborts,
-  resets,
-  guard_ends,
-  copies,
-  run_ends,
-  joins,
-  in_seq,
-  in_par,
-  in_guard,
-  in_run,
-  first,
-  later,
-}
+use Rattle.bl_ctree_laws.specs.Steps.{Anyway, Moves, OneMoves, acts, takes, passes, pauses, runs, repeats, repeats_until, leaves, turns, enters, skips, forks}
+use Rattle.bl_ctree_laws.specs.Steps.{guards, goes_on, waits, lets, aborts, resets, guard_ends, copies, run_ends, joins, in_seq, in_par, in_guard, in_run}
+use Rattle.bl_ctree_laws.specs.Steps.{first, later}
 use Rattle.bl_ctree_laws.specs.Trees.{Tree, Trees}
 use Rattle.bl_ctree_laws_confluence.specs.Deeds.Homes.{HomesAreApart}
 use Rattle.bl_ctree_laws_traces.specs.Progress.Reading.{DeedIsInInstance, DeedsReadAtNodes, DeedsStandAtNodes, IsRead, WritersTouch}
@@ -211,16 +162,6 @@ passing test (x ∷ xs) e = by_test (test x) refl e (passing test xs)
         let below = rest.there.1 in
         record { one = rest.one; there = (suc rest.there.0, omega arith, rest.there.2); is = rest.is }
 
-passes_one : {A : Type 0} (test : A → Bool) (xs : List A) (x : A) → Contains xs x → test x ≡ true → list_any test xs ≡ true
-passes_one test [] x there is = none_in x there
-passes_one test (y ∷ xs) x (zero, within, same) is = ap (λ b. b || list_any test xs) (ap test same ∙ is)
-passes_one test (y ∷ xs) x (suc k, within, same) is =
-    ap (λ b. test y || b) (passes_one test xs x (k, omega arith, same) is) ∙ or_true (test y)
-  where
-    or_true : (a : Bool) → (a || true) ≡ true
-    or_true true = refl
-    or_true false = refl
-
 pub writers_touch : HomesAreApart → WritersTouch
 writers_touch apart structs units entry i c d a n c' writer outputs move here over =
     let w : Setting = setting_of structs units entry in
@@ -229,5 +170,5 @@ writers_touch apart structs units entry i c d a n c' writer outputs move here ov
     let is = reads_at move read.one read.there in
     let same : read.one ≡ home w (record { instance = i; path = is.path }) = is.is ∙ ap (λ j. home w (record { instance = j; path = is.path })) here in
     let both = apart structs units entry i is.path written.one outputs (subst (λ at. leads_over w i at written.one ≡ true) same written.is) in
-    passes_one (λ p. list_any (overlaps p) (node_reads (leaf_of n))) (node_writes writer) written.one written.there
-    (passes_one (overlaps written.one) (node_reads (leaf_of n)) is.path is.reads (overlaps_symm written.one is.path ∙ both))
+    any_from (λ p. list_any (overlaps p) (node_reads (leaf_of n))) (node_writes writer) written.one written.there
+    (any_from (overlaps written.one) (node_reads (leaf_of n)) is.path is.reads (overlaps_symm written.one is.path ∙ both))

@@ -1,6 +1,7 @@
 -- What could act may act or waits for a writer.
 use Rattle.std.proofs.Common.{◌≡◌, ℕ, Bool, true, false, ◌||◌, List, [], ◌∷◌, ◌⊎◌, inl, inr, refl, ap, ◌∙◌}
 use Rattle.std.specs.List.{list_any}
+use Rattle.bl_tree.proofs.Basics.{or_true}
 use Rattle.bl_tree.specs.declared.place.Place.{Place as Source}
 use Rattle.bl_graph_nodes.specs.Nodes.{Node, entry, is_instant, node_writes, place_of_node}
 use Rattle.bl_graph_nodes.specs.Plain.{Block, Bodies, Cobegin, Label, Body as BodyOf, Done, Last, Then, plain_body}
@@ -13,40 +14,9 @@ use Rattle.bl_ctree.specs.Instances.{Setting, callee_of}
 use Rattle.bl_ctree.specs.Store.{Location}
 use Rattle.bl_ctree_laws.specs.Pending.{Deed, any_meets, any_writes, deed_reads, leads_over, may_write, meets}
 use Rattle.bl_ctree_laws.specs.Soon.{SoonIsSurface}
-use Rattle.bl_ctree_laws.specs.Steps.{
-  Anyway,
-  Moves,
-  OneMoves,
-  Unmet,
-  acts,
-  takes,
-  passes,
-  pauses,
-  runs,
-  repeats,
-  repeats_until,
-  leaves,
-  turns,
-  enters,
-  skips,
-  forks,
-  guards,
-  goes_on,
-  waits,
-  lets,
-  aborts,
-  resets,
-  guard_ends,
-  copies,
-  run_ends,
-  joins,
-  in_seq,
-  in_par,
-  in_guard,
-  in_run,
-  first,
-  later,
-}
+use Rattle.bl_ctree_laws.specs.Steps.{Anyway, Moves, OneMoves, Unmet, acts, takes, passes, pauses, runs, repeats, repeats_until, leaves, turns, enters, skips}
+use Rattle.bl_ctree_laws.specs.Steps.{forks, guards, goes_on, waits, lets, aborts, resets, guard_ends, copies, run_ends, joins, in_seq, in_par, in_guard}
+use Rattle.bl_ctree_laws.specs.Steps.{in_run, first, later}
 use Rattle.bl_ctree_laws.specs.Trees.{Call, Tree, Trees, beside}
 use Rattle.bl_ctree_laws_traces.specs.Progress.Blocked.{ActsOrWaits, Blocked, WaitsFor, Writer}
 use Rattle.bl_ctree_laws_traces.specs.Progress.FitsGraph.{AllFitGraph, FitsGraph}
@@ -54,9 +24,10 @@ use Rattle.bl_ctree_laws_traces.specs.Progress.Places.{Place, ahead_of, guarded,
 use Rattle.bl_ctree_laws_traces.proofs.OnProgress.Acting.{OneCould, one_region, region, this_could, this_one_could}
 use Rattle.bl_ctree_laws_traces.proofs.OnProgress.Leading.{in_on, rest_edges}
 use Rattle.bl_ctree_laws_traces.proofs.OnProgress.Writing.{one_writer, writer}
+use Rattle.bl_ctree_laws_traces.proofs.OnBounded.Stepping.{crossing}
 
 -- the node of a `run` has its place
-run_place : (stood : Bool) (s : Call) → place_of_node (run_node stood s.label s.place s.arguments) ≡ s.place
+pub run_place : (stood : Bool) (s : Call) → place_of_node (run_node stood s.label s.place s.arguments) ≡ s.place
 run_place true s = refl
 run_place false s = refl
 
@@ -91,10 +62,6 @@ record Found (f : Location → Bool) (xs : List Location) : Type 0 where
   is : f one ≡ true
   also : (g : Location → Bool) → g one ≡ true → list_any g xs ≡ true
 
-or_true : (a : Bool) → (a || true) ≡ true
-or_true true = refl
-or_true false = refl
-
 found : (f : Location → Bool) (xs : List Location) → list_any f xs ≡ true → Found f xs
 found f [] e = absurd cc
 found f (x ∷ xs) e = by_test (f x) refl e (found f xs)
@@ -102,12 +69,6 @@ found f (x ∷ xs) e = by_test (f x) refl e (found f xs)
     by_test : (b : Bool) → f x ≡ b → (b || list_any f xs) ≡ true → (list_any f xs ≡ true → Found f xs) → Found f (x ∷ xs)
     by_test true is e more = record { one = x; is = is; also = λ g h. ap (λ b. b || list_any g xs) h }
     by_test false is e more = let rest = more e in record { one = rest.one; is = rest.is; also = λ g h. ap (λ b. g x || b) (rest.also g h) ∙ or_true (g x) }
-
--- nodes of different branches stand beside each other
-first_beside : (stood weak : Bool) (body : Block) (rest : Bodies) (n m : Node) → In stood body n → InEach stood rest m →
-    BesideEach (BodyOf weak body rest) n m
-first_beside false weak body rest n m h k = inr (inl (inl (h, k)))
-first_beside true weak body rest n m h k = inr (inr (inl (inl (h, k))))
 
 later_beside : (stood weak : Bool) (body : Block) (rest : Bodies) (n m : Node) → InEach stood rest n → In stood body m →
     BesideEach (BodyOf weak body rest) n m
@@ -146,7 +107,7 @@ module _ {w : Setting} (pass : InstantsPass) (reach : WritersAreReached) (surfac
         waits = waits_beside w n one.could.label i a (EdgeEach (BodyOf weak' body rest) l at so) g.links (record {
           writer = one.end;
           walk = walk_more (λ n m h. inl h) one.walk;
-          beside = links _ _ (first_beside stood weak' body rest one.end (head_of n)
+          beside = links _ _ (crossing stood weak' body rest one.end (head_of n)
               (in_on stood body (region one.could.moves (in_branch stood body g) live) one.walk) (one_region move rest stood g lives));
           writes = over.also (λ x. list_any (leads_over w i x) (node_writes one.end)) one.leads;
         });

@@ -1,5 +1,6 @@
 -- Waking keeps a settled tree at its place, in the next tick.
 use Rattle.std.proofs.Common.{◌≡◌, ℕ, Bool, true, false, not, ◌&&◌, ◌||◌, cond, ◌⊎◌, inl, inr, refl, ap, ◌∙◌, subst}
+use Rattle.std.proofs.lemmas.Bool.{not-true}
 use Rattle.bl_graph_nodes.specs.Nodes.{DepthJoinAt, entry, is_instant}
 use Rattle.bl_graph_nodes.specs.Plain.{Bodies, Body as BodyOf, Cobegin, Done, Last, Then, plain_body}
 use Rattle.bl_graph.specs.Edges.{EdgeEach}
@@ -7,31 +8,8 @@ use Rattle.bl_graph.specs.Laws.{InstantsPass}
 use Rattle.bl_graph.proofs.Walking.{walk_more}
 use Rattle.bl_ctree.specs.Control.{Check, Body}
 use Rattle.bl_ctree.specs.Instances.{Setting}
-use Rattle.bl_ctree_laws.specs.Trees.{
-  Fork,
-  Tree,
-  Trees,
-  Nil,
-  Wait,
-  Test,
-  Idle,
-  Do,
-  Seq,
-  Par,
-  Guard,
-  Run,
-  all_woken,
-  are_done,
-  are_settled,
-  beside,
-  has_strong,
-  is_nil,
-  is_settled,
-  no_tree,
-  some_ended,
-  strong_ended,
-  woken,
-}
+use Rattle.bl_ctree_laws.specs.Trees.{Fork, Tree, Trees, Nil, Wait, Test, Idle, Do, Seq, Par, Guard, Run, all_woken, are_done, are_settled, beside, has_strong}
+use Rattle.bl_ctree_laws.specs.Trees.{is_nil, is_settled, no_tree, some_ended, strong_ended, woken}
 use Rattle.bl_ctree_laws_traces.specs.Progress.Laws.{WakingKeepsFitsGraph}
 use Rattle.bl_ctree_laws_traces.specs.Progress.FitsGraph.{AllFitGraph, FitsGraph, ForkFitsGraph}
 use Rattle.bl_ctree_laws_traces.specs.Progress.Places.{Place, ahead_of, guarded, in_branch, later_on, whole}
@@ -41,10 +19,6 @@ use Rattle.bl_ctree_laws_traces.proofs.OnProgress.Keeping.{after_closed, part_cl
 use Rattle.bl_ctree_laws_traces.proofs.OnProgress.Leading.{Ended, OneLeads, both_are, ways_out}
 
 -- ---- waking ends nothing
-
-not_true : (a : Bool) → not a ≡ true → a ≡ false
-not_true true e = absurd cc
-not_true false e = refl
 
 module _ (w : Setting) where
   woken_nil : (c : Tree) (i : ℕ) (g : Place) → FitsGraph w i c g → is_nil (woken c) ≡ is_nil c
@@ -133,7 +107,7 @@ module _ (w : Setting) where
               joins = λ e. (
                 (λ not_stood. absurd (cc (not_stood))),
                 depth_join i s stood _ (all_woken branches) g live.1 closed lives
-                    (woken_done branches i s.bodies stood g live.0 ∙ not_true (are_done branches) both.1)
+                    (woken_done branches i s.bodies stood g live.0 ∙ not-true (are_done branches) both.1)
                     (ways_out pass (all_woken branches) i s.bodies (has_strong (all_woken branches)) s.label s.place
                     (is_instant (Cobegin s.label s.place s.bodies)) true (later_on g) lives (λ not_stood. absurd (cc (not_stood))) e),
               );
@@ -153,7 +127,7 @@ module _ (w : Setting) where
               };
               has_stood = refl;
               checks = live.1.fits.resumes _ refl;
-              unended = woken_nil c i (guarded s g) live.0 ∙ not_true (is_nil c) both.1;
+              unended = woken_nil c i (guarded s g) live.0 ∙ not-true (is_nil c) both.1;
             },
           )
       wakes (Run s callee Check stood c) i g settled live closed = absurd cc
@@ -173,7 +147,7 @@ module _ (w : Setting) where
               is = live.2.is;
               now = live.2.fits.resumes _ refl;
               has_stood = refl;
-              unended = woken_nil c callee (whole stood (plain_body live.0.body)) live.1 ∙ not_true (is_nil c) both.1;
+              unended = woken_nil c callee (whole stood (plain_body live.0.body)) live.1 ∙ not-true (is_nil c) both.1;
             },
           )
 

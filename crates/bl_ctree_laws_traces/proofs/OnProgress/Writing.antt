@@ -1,6 +1,8 @@
 -- Where a tree may write something what could act in it leads to a node that writes it.
 use Rattle.std.proofs.Common.{◌≡◌, ℕ, Bool, true, false, not, ◌&&◌, ◌||◌, ◌++◌, map, ◌⊎◌, inl, inr, refl, sym, ◌∙◌, subst}
 use Rattle.std.specs.List.{list_any}
+use Rattle.std.proofs.lemmas.Bool.{not-true}
+use Rattle.bl_tree.proofs.Basics.{first_of_or}
 use Rattle.bl_tree.specs.declared.place.Place.{Place as Source}
 use Rattle.bl_tree.specs.declared.static_path.Static.{Static}
 use Rattle.bl_tree.specs.declared.tree.Guard.{Guard as GuardKind}
@@ -21,41 +23,14 @@ use Rattle.bl_ctree.specs.Pending.{is_reset_kind}
 use Rattle.bl_ctree_laws.specs.Pending.{Deed, any_writes_path, anew, may_end, may_write_path, soon, soon_in}
 use Rattle.bl_ctree_laws.specs.Soon.{SoonIsSurface}
 use Rattle.bl_ctree_laws.specs.Steps.{Anyway, Moves, copies, first, in_guard, in_par, in_run, in_seq, lets, run_ends}
-use Rattle.bl_ctree_laws.specs.Trees.{
-  Call,
-  Tree,
-  Trees,
-  Watch,
-  Nil,
-  Wait,
-  Test,
-  Idle,
-  Do,
-  Seq,
-  Par,
-  Guard,
-  Run,
-  beside,
-  is_nil,
-  is_settled,
-  no_tree,
-}
+use Rattle.bl_ctree_laws.specs.Trees.{Call, Tree, Trees, Watch, Nil, Wait, Test, Idle, Do, Seq, Par, Guard, Run, beside, is_nil, is_settled, no_tree}
 use Rattle.bl_ctree_laws_traces.specs.Progress.Laws.{Could, StepLeadsTo, NodeWrites, WritersAreAhead}
 use Rattle.bl_ctree_laws_traces.specs.Progress.FitsGraph.{AllFitGraph, CheckFitsGraph, FitsGraph, check_of}
 use Rattle.bl_ctree_laws_traces.specs.Progress.Places.{AreSubgraphs, IsSubgraph, Place, ahead_of, guarded, in_branch, later_on, whole}
 use Rattle.bl_ctree_laws_traces.proofs.OnProgress.Acting.{begins, point, region, this_could, this_one_could}
-use Rattle.bl_ctree_laws_traces.proofs.OnProgress.Leading.{
-  OneLeads,
-  after_walk,
-  both_are,
-  either_is,
-  in_on,
-  later_leads,
-  one_on,
-  rest_edges,
-  way_out,
-}
-use Rattle.bl_ctree_laws_traces.proofs.OnProgress.Paths.{any_left, any_right, contained, member, passed, passing, set_passes}
+use Rattle.bl_ctree_laws_traces.proofs.OnProgress.Leading.{OneLeads, after_walk, both_are, either_is, in_on, later_leads, one_on, rest_edges, way_out}
+use Rattle.bl_ctree_laws_traces.proofs.OnProgress.Paths.{any_left, any_right, contained, member, passing, set_passes}
+use Rattle.bl_ctree_laws.proofs.Surfaces.{passed}
 
 -- ---- what begins
 
@@ -161,14 +136,6 @@ run_node_writes test s false ends has e =
       | inr target ↦ absurd (cc (has (both_are ends (list_any test (target_static s.arguments.target)) target).0))
     ])
 
-not_true : (a : Bool) → not a ≡ true → a ≡ false
-not_true true e = absurd cc
-not_true false e = refl
-
-or_none : (a : Bool) → (a || false) ≡ true → a ≡ true
-or_none true e = refl
-or_none false e = e
-
 -- its node is that of whatever could act in it
 at_run_node : {w : Setting} {i : ℕ} {s : Call} {callee : ℕ} {stood : Bool} {c : Tree} (could : Could w i (Run s callee Body stood c)) →
     head_of could.label ≡ run_node stood s.label s.place s.arguments
@@ -184,7 +151,7 @@ run_writer : (w : Setting) (i : ℕ) (s : Call) (callee : ℕ) (stood : Bool) (c
     × ((list_any test (map static_of s.arguments.outputs) || (may_end c && list_any test (target_static s.arguments.target))) ≡ true) →
     StepLeadsTo w i (Run s callee Body stood c) g.edges (NodeWrites test)
 run_writer w i s callee stood c g test live both =
-    let could = point (Run s callee Body stood c) i g live (not_true (is_settled (Run s callee Body stood c)) both.0) in
+    let could = point (Run s callee Body stood c) i g live (not-true (is_settled (Run s callee Body stood c)) both.0) in
     record {
       could = could;
       end = run_node stood s.label s.place s.arguments;
@@ -244,7 +211,7 @@ module _ {w : Setting} (pass : InstantsPass) (writers : WritersAreReached) (surf
           walk = walk_more live.1.fits.edges one.walk;
           leads = one.leads.0;
         }
-    writer (Guard s Body stood c) i g live e = body_writes g test (writer c i (guarded s g) live.0 (or_none (may_write_path test c) e))
+    writer (Guard s Body stood c) i g live e = body_writes g test (writer c i (guarded s g) live.0 (first_of_or (may_write_path test c) e))
     writer (Guard s Check stood c) i g live e =
         check_writes w i s stood c g test live.1 live.0 (writer c i (later_on (guarded s g)) live.0) (writer_in surfaces writers test s.body) e
     writer (Run s callee Check stood c) i g live e = record {

@@ -10,7 +10,7 @@ lower_before (x ∷ xs) [] low = elim low [ ]
 lower_before (x ∷ xs) (y ∷ ys) (inl lt) = inl lt
 lower_before (x ∷ xs) (y ∷ ys) (inr (is, low)) = inr (is, lower_before xs ys low)
 
-not_itself : {A : Type 0} (x : ℕ) → x < x → A
+pub not_itself : {A : Type 0} (x : ℕ) → x < x → A
 not_itself x lt = absurd (omega arith)
 
 pub never_itself : (xs : List ℕ) → Before xs xs → ⊥

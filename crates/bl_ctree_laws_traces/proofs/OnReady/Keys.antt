@@ -1,30 +1,5 @@
 -- The nodes of a body differ by their labels and sorts: no two of them have one label and one sort.
-use Rattle.std.proofs.Common.{
-  ◌≡◌,
-  ℕ,
-  zero,
-  suc,
-  ◌≤◌,
-  Bool,
-  true,
-  false,
-  ◌⊎◌,
-  inl,
-  inr,
-  List,
-  [],
-  ◌∷◌,
-  ◌++◌,
-  map,
-  Some,
-  None,
-  refl,
-  ap,
-  sym,
-  ◌∙◌,
-  subst,
-  arith,
-}
+use Rattle.std.proofs.Common.{◌≡◌, ℕ, zero, suc, ◌≤◌, Bool, true, false, ◌⊎◌, inl, inr, List, [], ◌∷◌, ◌++◌, map, Some, None, refl, ap, sym, ◌∙◌, subst, arith}
 use Rattle.std.specs.Prelude.{slice_get, ⊤}
 use Rattle.std.proofs.lemmas.List.Elements.{All-head, All-tail}
 use Rattle.bl_tree.specs.declared.place.Place.{Place}
@@ -36,47 +11,10 @@ use Rattle.bl_tree.specs.declared.tree.Stmt.{Stmt, fold-roll-Stmt}
 use Rattle.bl_tree.specs.declared.tree.StmtKind.{fold-roll-StmtKind}
 use Rattle.bl_tree.specs.declared.tree.StmtKind.TheOpen.{StmtKind-F}
 use Rattle.bl_tree.proofs.StmtInduction.{Cases, Each, EachArm, EachBranch, induct, stmt}
-use Rattle.bl_graph_nodes.specs.Nodes.{
-  ActAt,
-  CheckAt,
-  DepthEndAt,
-  DepthJoinAt,
-  EnterAt,
-  ForkAt,
-  HeadAt,
-  Node,
-  PauseAt,
-  ResumeAt,
-  StartAt,
-  SurfaceEndAt,
-  SurfaceJoinAt,
-  TestAt,
-  are_instant,
-  is_instant,
-  label_of,
-  nodes_in,
-  nodes_in_each,
-  nodes_of,
-  where_so,
-}
-use Rattle.bl_graph_nodes.specs.Plain.{
-  Block,
-  Bodies,
-  Cobegin,
-  Label,
-  Plain,
-  Position,
-  block_from,
-  bodies_from,
-  else_at,
-  inside,
-  label_at,
-  never,
-  passed_one,
-  place_of_test,
-  plain_block,
-  plain_stmt,
-}
+use Rattle.bl_graph_nodes.specs.Nodes.{ActAt, CheckAt, DepthEndAt, DepthJoinAt, EnterAt, ForkAt, HeadAt, Node, PauseAt, ResumeAt, StartAt, SurfaceEndAt}
+use Rattle.bl_graph_nodes.specs.Nodes.{SurfaceJoinAt, TestAt, are_instant, is_instant, label_of, nodes_in, nodes_in_each, nodes_of, where_so}
+use Rattle.bl_graph_nodes.specs.Plain.{Block, Bodies, Cobegin, Label, Plain, Position, block_from, bodies_from, else_at, inside, label_at, never, passed_one}
+use Rattle.bl_graph_nodes.specs.Plain.{place_of_test, plain_block, plain_stmt}
 use Rattle.bl_graph_nodes.specs.Laws.{Begins, Below, plain_arm, plain_branch}
 use Rattle.bl_graph_nodes.proofs.Equations.{plain_statements}
 use Rattle.bl_graph_nodes.proofs.Labels.{low, one_on, positions_part, tail_same, through}
@@ -104,7 +42,7 @@ pub record Same (n m : Node) : Type 0 where
   pub label : label_of n ≡ label_of m
   pub sort : sort_of n ≡ sort_of m
 
-itself : (n : Node) → Same n n
+pub itself : (n : Node) → Same n n
 itself n = record { label = refl; sort = refl }
 
 -- ---- lists without repetition
@@ -150,12 +88,12 @@ some_same a b is = cc
 to_first : (x n m : Node) → n ≡ x → Same n m → Same x m
 to_first x n m is same = subst (λ y. Same y m) is same
 
-has_at : (xs : List Node) (i : ℕ) (x n : Node) → slice_get xs i ≡ Some n → Same x n → Has xs x
+pub has_at : (xs : List Node) (i : ℕ) (x n : Node) → slice_get xs i ≡ Some n → Same x n → Has xs x
 has_at [] i x n is same = absurd (none_is_some n is)
 has_at (y ∷ xs) zero x n is same = inl (subst (Same x) (sym (some_same y n is)) same)
 has_at (y ∷ xs) (suc i) x n is same = inr (has_at xs i x n is same)
 
-turned : (n m : Node) → Same n m → Same m n
+pub turned : (n m : Node) → Same n m → Same m n
 turned n m same = record { label = sym same.label; sort = sym same.sort }
 
 -- those that have one label and one sort are one

@@ -1,69 +1,19 @@
 -- In each tree in which something is left to do there is a first step among those that could be taken.
 use Rattle.std.proofs.Common.{◌≡◌, ◌⊎◌, inl, inr, ℕ, Bool, true, false, not, ◌&&◌, ◌∷◌, Some, refl, sym, ap, ◌∙◌, subst}
 use Rattle.std.specs.Prelude.{unwrap_or}
-use Rattle.bl_graph_nodes.specs.Nodes.{Node, entry, place_of_node}
+use Rattle.bl_tree.proofs.Basics.{not_both}
+use Rattle.bl_graph_nodes.specs.Nodes.{Node, entry}
 use Rattle.bl_graph_nodes.specs.Plain.{Block, Bodies, Plain, Body as BodyOf, Done, Last, Then, plain_body}
 use Rattle.bl_graph_nodes.specs.Steps.{Gives, Here, Inside, StepLabel, end_node, join_node, run_node}
 use Rattle.bl_ctree.specs.Control.{Check, Body}
 use Rattle.bl_ctree.specs.Instances.{Setting, callee_of}
 use Rattle.bl_ctree_laws.specs.Pending.{Deed}
-use Rattle.bl_ctree_laws.specs.Steps.{
-  Anyway,
-  Moves,
-  OneMoves,
-  acts,
-  takes,
-  passes,
-  pauses,
-  runs,
-  repeats,
-  repeats_until,
-  leaves,
-  turns,
-  enters,
-  skips,
-  forks,
-  guards,
-  goes_on,
-  waits,
-  lets,
-  aborts,
-  resets,
-  guard_ends,
-  copies,
-  run_ends,
-  joins,
-  in_seq,
-  in_par,
-  in_guard,
-  in_run,
-  first,
-  later,
-}
-use Rattle.bl_ctree_laws.specs.Trees.{
-  Call,
-  Fork,
-  Pause,
-  Tree,
-  Trees,
-  Watch,
-  Nil,
-  Wait,
-  Test,
-  Idle,
-  Do,
-  Seq,
-  Par,
-  Guard,
-  Run,
-  are_done,
-  are_settled,
-  beside,
-  is_settled,
-  no_tree,
-}
+use Rattle.bl_ctree_laws.specs.Steps.{Anyway, Moves, OneMoves, acts, takes, passes, pauses, runs, repeats, repeats_until, leaves, turns, enters, skips, forks}
+use Rattle.bl_ctree_laws.specs.Steps.{guards, goes_on, waits, lets, aborts, resets, guard_ends, copies, run_ends, joins, in_seq, in_par, in_guard, in_run}
+use Rattle.bl_ctree_laws.specs.Steps.{first, later}
+use Rattle.bl_ctree_laws.specs.Trees.{Call, Fork, Pause, Tree, Trees, Watch, Nil, Wait, Test, Idle, Do, Seq, Par, Guard, Run, are_done, are_settled, beside}
+use Rattle.bl_ctree_laws.specs.Trees.{is_settled, no_tree}
 use Rattle.bl_ctree_laws.proofs.Less.{one_unsettled, unsettled}
-use Rattle.bl_ctree_laws.proofs.Tests.{both_ways}
 use Rattle.bl_ctree_laws_traces.specs.Progress.Laws.{Could}
 use Rattle.bl_ctree_laws_traces.specs.Progress.FitsGraph.{AllFitGraph, FitsGraph, check_of, test_of}
 use Rattle.bl_ctree_laws_traces.specs.Progress.Places.{Place, ahead_of, guarded, in_branch, whole}
@@ -71,6 +21,7 @@ use Rattle.bl_ctree_laws_traces.proofs.OnProgress.Acting.{OneCould, begins, ende
 use Rattle.bl_ctree_laws_traces.specs.Ready.Least.{Before, Least, LeastMayAct, UnsettledHasLeast}
 use Rattle.bl_ctree_laws_traces.specs.Ready.Ranks.{LowestMayAct, ranks_in}
 use Rattle.bl_ctree_laws_traces.proofs.OnReady.Before.{First, first_of, is_first, is_second, lower_before, never_itself, rest_before}
+use Rattle.bl_ctree_laws_traces.proofs.OnProgress.Waiting.{run_place}
 
 -- ---- the steps of each tree
 
@@ -120,7 +71,7 @@ module _ {w : Setting} where
       are_settled branches ≡ true → Moves Anyway w i (Par s stood branches) d a n c' →
       n ≡ Here (join_node stood s.label s.place)
   join_label still (joins settled done) = refl
-  join_label {branches = branches} still (in_par move) = both_ways (are_settled branches) (one_unsettled move) still
+  join_label {branches = branches} still (in_par move) = not_both (are_settled branches) (one_unsettled move) still
 
   seq_inner : {i : ℕ} {d : Bool} {a : Deed} {n : StepLabel} {c' : Tree} {c : Tree} {rest : Block} → Moves Anyway w i (Seq c rest) d a n c' →
       (after : Tree) × Moves Anyway w i c d a n after
@@ -129,7 +80,7 @@ module _ {w : Setting} where
   par_inner : {i : ℕ} {d : Bool} {a : Deed} {n : StepLabel} {c' : Tree} {s : Fork} {stood : Bool} {branches : Trees} →
       are_settled branches ≡ false → Moves Anyway w i (Par s stood branches) d a n c' →
       (after : Trees) × OneMoves Anyway w i branches d a n after
-  par_inner {branches = branches} moving (joins settled done) = both_ways (are_settled branches) moving settled
+  par_inner {branches = branches} moving (joins settled done) = not_both (are_settled branches) moving settled
   par_inner moving (in_par {branches' = after} move) = (after, move)
 
   guard_inner : {i : ℕ} {d : Bool} {a : Deed} {n : StepLabel} {c' : Tree} {s : Watch} {stood : Bool} {c : Tree} → is_settled c ≡ false →
@@ -146,10 +97,6 @@ module _ {w : Setting} where
   run_inner moving (in_run {n = step} {c' = after} move) = (step, after, refl, move)
 
 -- ---- the first of them
-
-run_place : (stood : Bool) (s : Call) → place_of_node (run_node stood s.label s.place s.arguments) ≡ s.place
-run_place true s = refl
-run_place false s = refl
 
 module _ (w : Setting) (rank : ℕ → Node → ℕ) where
   -- of branches
@@ -224,7 +171,7 @@ module _ (w : Setting) (rank : ℕ → Node → ℕ) where
       by_move : {d : Bool} {a : Deed} {n : StepLabel} {branches' : Trees} → OneMoves Anyway w i (beside weak c rest) d a n branches' →
           Before (ranks_in w rank i n) (ranks_in w rank i one.could.label) → ⊥
       by_move (first move free) before = one.least _ _ _ _ move before
-      by_move (later move free) before = both_ways (are_settled rest) (one_unsettled move) still
+      by_move (later move free) before = not_both (are_settled rest) (one_unsettled move) still
 
   later_alone : {i : ℕ} {weak : Bool} {c : Tree} {rest : Trees} → is_settled c ≡ true → OneLeast i rest → OneLeast i (beside weak c rest)
   later_alone {i = i} {weak = weak} {c = c} {rest = rest} still one =
@@ -232,7 +179,7 @@ module _ (w : Setting) (rank : ℕ → Node → ℕ) where
     where
       by_move : {d : Bool} {a : Deed} {n : StepLabel} {branches' : Trees} → OneMoves Anyway w i (beside weak c rest) d a n branches' →
           Before (ranks_in w rank i n) (ranks_in w rank i one.could.label) → ⊥
-      by_move (first move free) before = both_ways (is_settled c) (unsettled move) still
+      by_move (first move free) before = not_both (is_settled c) (unsettled move) still
       by_move (later move free) before = one.least _ _ _ _ move before
 
   of_both : {i : ℕ} {weak : Bool} {c : Tree} {rest : Trees} (one : Least w rank i c) (other : OneLeast i rest) →

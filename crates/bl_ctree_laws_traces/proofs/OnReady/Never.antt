@@ -1,26 +1,5 @@
 -- Where numbers rise no tree is stuck.
-use Rattle.std.proofs.Common.{
-  ◌≡◌,
-  inl,
-  inr,
-  ℕ,
-  suc,
-  ◌≤◌,
-  Bool,
-  true,
-  false,
-  List,
-  [],
-  Option,
-  Some,
-  None,
-  length,
-  refl,
-  sym,
-  ◌∙◌,
-  subst,
-  arith,
-}
+use Rattle.std.proofs.Common.{◌≡◌, inl, inr, ℕ, suc, ◌≤◌, Bool, true, false, List, [], Option, Some, None, length, refl, sym, ◌∙◌, subst, arith}
 use Rattle.std.specs.Prelude.{option_map, unwrap_or}
 use Rattle.bl_tree.specs.declared.tree.StructDef.{StructDef}
 use Rattle.bl_tree.specs.declared.tree.Unit.{Unit as UnitDef}
@@ -94,7 +73,7 @@ unsettled_may lowest could structs units entry rank i unit stood c rising output
 abbrev body_of : Option UnitDef → Block
 body_of found = plain_items (unwrap_or (option_map (λ unit. body_items unit.body) found) [])
 
-no_node : (stood : Bool) (n : Node) → In stood Done n → ⊥
+pub no_node : (stood : Bool) (n : Node) → In stood Done n → ⊥
 no_node true n inside = elim inside.begins [ ]
 no_node false n inside = elim inside.begins [ ]
 

@@ -1,30 +1,9 @@
 -- An order of a tick graph numbers the nodes of its body.
-use Rattle.std.proofs.Common.{
-  ◌≡◌,
-  ℕ,
-  zero,
-  suc,
-  ◌<◌,
-  Bool,
-  true,
-  false,
-  ◌&&◌,
-  List,
-  [],
-  ◌∷◌,
-  Option,
-  Some,
-  None,
-  refl,
-  sym,
-  ap,
-  ◌∙◌,
-  subst,
-  arith,
-  eq-eqb,
-  eqb-true,
-}
+use Rattle.std.proofs.Common.{◌≡◌, ℕ, zero, suc, ◌<◌, Bool, true, false, ◌&&◌, List, [], ◌∷◌, Option, Some, None, refl, sym, ap, ◌∙◌, subst, arith, eq-eqb}
+use Rattle.std.proofs.Common.{eqb-true}
 use Rattle.std.specs.Prelude.{Contains, nat_eq, slice_get, slice_index, if◌then◌else◌}
+use Rattle.std.proofs.lemmas.Bool.{and_from}
+use Rattle.bl_tree.proofs.Basics.{and_first, and_second}
 use Rattle.bl_tree.specs.declared.tree.Stmt.{Stmt}
 use Rattle.bl_tree.specs.declared.tree.Unit.{Unit as UnitDef}
 use Rattle.bl_graph_nodes.specs.Nodes.{Node, label_of, nodes_in}
@@ -34,7 +13,6 @@ use Rattle.bl_graph.specs.Edges.{EdgeAll}
 use Rattle.bl_graph.specs.Graph.{EdgeBetween, edge_between}
 use Rattle.bl_graph.specs.Laws.{StaysWithin}
 use Rattle.bl_ctree.specs.Instances.{Setting, setting_of, unit_at}
-use Rattle.bl_ctree_laws.proofs.Tests.{and_both, and_first, and_second}
 use Rattle.bl_ctree_laws_confluence.specs.Deeds.Orderly.{AcceptedIsOrderly}
 use Rattle.bl_ctree_laws_traces.specs.Ready.Never.{AcceptedNeverStuck}
 use Rattle.bl_ctree_laws_traces.specs.Ready.Ordered.{AllOrdered, HasOrder, HasRanks, OrderedNeverStuck, OrdersGiveRanks}
@@ -50,7 +28,7 @@ same_list (x ∷ xs) (y ∷ ys) = nat_eq x y && same_list xs ys
 
 list_itself : (xs : List ℕ) → same_list xs xs ≡ true
 list_itself [] = refl
-list_itself (x ∷ xs) = and_both (nat_eq x x) (same_list xs xs) (eq-eqb x x refl) (list_itself xs)
+list_itself (x ∷ xs) = and_from (nat_eq x x) (same_list xs xs) (eq-eqb x x refl) (list_itself xs)
 
 lists_same : (xs ys : List ℕ) → same_list xs ys ≡ true → xs ≡ ys
 lists_same [] [] e = refl
@@ -64,15 +42,15 @@ abbrev same_node : Node → Node → Bool
 same_node n m = same_list (label_of n).position (label_of m).position && (nat_eq (label_of n).passed (label_of m).passed && nat_eq (sort_of n) (sort_of m))
 
 node_itself : (n : Node) → same_node n n ≡ true
-node_itself n = and_both (same_list (label_of n).position (label_of n).position)
+node_itself n = and_from (same_list (label_of n).position (label_of n).position)
     (nat_eq (label_of n).passed (label_of n).passed && nat_eq (sort_of n) (sort_of n)) (list_itself (label_of n).position)
-    (and_both (nat_eq (label_of n).passed (label_of n).passed) (nat_eq (sort_of n) (sort_of n))
+    (and_from (nat_eq (label_of n).passed (label_of n).passed) (nat_eq (sort_of n) (sort_of n))
     (eq-eqb (label_of n).passed (label_of n).passed refl) (eq-eqb (sort_of n) (sort_of n) refl))
 
 abbrev label_with : Position → ℕ → Label
 label_with at k = record { position = at; passed = k }
 
-labels_same : (l m : Label) → l.position ≡ m.position → l.passed ≡ m.passed → l ≡ m
+pub labels_same : (l m : Label) → l.position ≡ m.position → l.passed ≡ m.passed → l ≡ m
 labels_same l m position passed =
     ap (λ at. label_with at l.passed) position ∙ ap (λ k. label_with m.position k) passed
 
@@ -130,7 +108,7 @@ found (x ∷ xs) n (suc k) e = by_test (same_node x n) refl (found xs n k e)
     }
 
 -- a member stands somewhere
-stands_at : (xs : List Node) (n : Node) → Contains xs n → (k : ℕ) × (slice_get xs k ≡ Some n)
+pub stands_at : (xs : List Node) (n : Node) → Contains xs n → (k : ℕ) × (slice_get xs k ≡ Some n)
 stands_at [] n there = let below = there.1 in absurd (omega arith)
 stands_at (x ∷ xs) n (zero, within, is) = (0, ap Some is)
 stands_at (x ∷ xs) n (suc k, within, is) = let rest = stands_at xs n (k, omega arith, is) in (suc rest.0, rest.1)

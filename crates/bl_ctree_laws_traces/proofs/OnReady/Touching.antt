@@ -1,35 +1,10 @@
 -- What writes over what a deed reads writes what its nodes read.
-use Rattle.std.proofs.Common.{
-  ◌≡◌,
-  ◌⊎◌,
-  inl,
-  inr,
-  ℕ,
-  zero,
-  suc,
-  Bool,
-  true,
-  false,
-  ◌&&◌,
-  ◌||◌,
-  List,
-  [],
-  ◌∷◌,
-  ◌++◌,
-  map,
-  Option,
-  Some,
-  refl,
-  sym,
-  ap,
-  ◌∙◌,
-  subst,
-  arith,
-  eq-eqb,
-  eqb-true,
-}
+use Rattle.std.proofs.Common.{◌≡◌, ◌⊎◌, inl, inr, ℕ, zero, suc, Bool, true, false, ◌&&◌, ◌||◌, List, [], ◌∷◌, ◌++◌, map, Option, Some, refl, sym, ap, ◌∙◌}
+use Rattle.std.proofs.Common.{subst, arith, eq-eqb, eqb-true}
 use Rattle.std.specs.List.{list_any}
 use Rattle.std.specs.Prelude.{Contains, nat_eq}
+use Rattle.std.proofs.lemmas.Bool.{and_from, or_left, or_right}
+use Rattle.bl_tree.proofs.Basics.{and_first, and_second, not_both}
 use Rattle.bl_tree.specs.declared.static_path.Static.{Static}
 use Rattle.bl_tree.specs.declared.tree.Path.{Path}
 use Rattle.bl_tree.specs.declared.tree.StructDef.{StructDef}
@@ -44,47 +19,18 @@ use Rattle.bl_graph.specs.DataEdges.{Touches}
 use Rattle.bl_ctree.specs.Instances.{Setting, callee_of, setting_of}
 use Rattle.bl_ctree.specs.Store.{Location, home, overlap}
 use Rattle.bl_ctree_laws.specs.Pending.{Deed, deed_reads, leads_over}
-use Rattle.bl_ctree_laws.specs.Steps.{
-  Anyway,
-  Moves,
-  OneMoves,
-  acts,
-  takes,
-  passes,
-  pauses,
-  runs,
-  repeats,
-  repeats_until,
-  leaves,
-  turns,
-  enters,
-  skips,
-  forks,
-  guards,
-  goes_on,
-  waits,
-  lets,
-  aborts,
-  resets,
-  guard_ends,
-  copies,
-  run_ends,
-  joins,
-  in_seq,
-  in_par,
-  in_guard,
-  in_run,
-  first,
-  later,
-}
+use Rattle.bl_ctree_laws.specs.Steps.{Anyway, Moves, OneMoves, acts, takes, passes, pauses, runs, repeats, repeats_until, leaves, turns, enters, skips, forks}
+use Rattle.bl_ctree_laws.specs.Steps.{guards, goes_on, waits, lets, aborts, resets, guard_ends, copies, run_ends, joins, in_seq, in_par, in_guard, in_run}
+use Rattle.bl_ctree_laws.specs.Steps.{first, later}
 use Rattle.bl_ctree_laws.specs.Trees.{Call, Tree, Trees}
-use Rattle.bl_ctree_laws.proofs.Tests.{and_both, and_first, and_second, both_ways, or_le, or_left, or_of, or_right}
+use Rattle.bl_ctree_laws.proofs.Tests.{or_le, or_of}
 use Rattle.bl_ctree_laws_confluence.specs.Deeds.Homes.{HomesAreApart, OutputsAreApart}
 use Rattle.bl_ctree_laws_confluence.specs.Deeds.Nesting.{Inside as InCallee, InstancesNest, IsOutput, ProgramsNest}
 use Rattle.bl_ctree_laws_confluence.specs.Apart.Seen.{AllCallsMatchCallees, CallsMatchCallees, DeedsStayInside, HasOutputs}
 use Rattle.bl_ctree_laws_traces.specs.Progress.Reading.{DeedsReadAtNodes, IsRead}
-use Rattle.bl_ctree_laws_traces.proofs.OnProgress.Paths.{any_right, member, passed, passing, set_passes}
+use Rattle.bl_ctree_laws_traces.proofs.OnProgress.Paths.{any_right, member, passing, set_passes}
 use Rattle.bl_ctree_laws_traces.specs.Ready.Touching.{Touched, TouchesAt, WritersTouchOnTheWay}
+use Rattle.bl_ctree_laws.proofs.Surfaces.{passed}
 
 -- ---- paths
 
@@ -108,14 +54,14 @@ cut_front (x ∷ xs) (y ∷ ys) more e =
 
     both : nat_eq x y ≡ true → nat_eq y x ≡ true → (is_front xs ys || is_front ys xs) ≡ true → Goal ≡ true
     both same back fronts = or_le (is_front xs ys) (is_front ys xs) (nat_eq x y && is_front xs ys) (nat_eq y x && is_front ys xs)
-        (λ one. and_both (nat_eq x y) (is_front xs ys) same one) (λ other. and_both (nat_eq y x) (is_front ys xs) back other) fronts
+        (λ one. and_from (nat_eq x y) (is_front xs ys) same one) (λ other. and_from (nat_eq y x) (is_front ys xs) back other) fronts
 
 -- what overlaps what leads on overlaps what is before
 cut_path : (q o : Static) (fields : List ℕ) → overlaps q (longer o fields) ≡ true → overlaps q o ≡ true
 cut_path q o fields e =
     let long : List ℕ = o.fields ++ fields in
     let fronts : Bool = is_front q.fields long || is_front long q.fields in
-    and_both (nat_eq q.root o.root) (is_front q.fields o.fields || is_front o.fields q.fields) (and_first (nat_eq q.root o.root) fronts e)
+    and_from (nat_eq q.root o.root) (is_front q.fields o.fields || is_front o.fields q.fields) (and_first (nat_eq q.root o.root) fronts e)
     (cut_front q.fields o.fields fields (and_second (nat_eq q.root o.root) fronts e))
 
 -- ---- what a `run` reads
@@ -206,10 +152,6 @@ read_in test (x ∷ xs) e = by_test (test x) refl e (read_in test xs)
         let below = rest.there.1 in
         record { one = rest.one; there = (suc rest.there.0, omega arith, rest.there.2); is = rest.is }
 
--- a writer's path that overlaps what the node reads
-touching : (writer n : Node) (q : Static) → Contains (node_writes writer) q → list_any (overlaps q) (node_reads n) ≡ true → Touches writer n
-touching writer n q there is = passed (λ p. list_any (overlaps p) (node_reads n)) (node_writes writer) q (member (node_writes writer) q there) is
-
 module _ (structs : List StructDef) (units : List UnitDef) (entry : ℕ) (nest : InstancesNest structs units entry) (apart : HomesAreApart)
     (outputs : OutputsAreApart (setting_of structs units entry)) (a : Deed) (leaf : Node)
     (reads : (at : Location) → Contains (deed_reads (setting_of structs units entry) a) at →
@@ -249,7 +191,7 @@ module _ (structs : List StructDef) (units : List UnitDef) (entry : ℕ) (nest :
           InCallee W callee (home_of a.instance path).instance ⊎ IsOutput W i callee (record { instance = a.instance; path = path }) →
           Touches writer (run_node stood s.label s.place s.arguments)
       by_home q path met gives (inl inside) =
-          both_ways (nat_eq (home_of a.instance path).instance (home_of i q).instance)
+          not_both (nat_eq (home_of a.instance path).instance (home_of i q).instance)
           (nest.hidden i callee (home_of a.instance path).instance s.place q begins inside)
           (and_first (nat_eq (home_of a.instance path).instance (home_of i q).instance)
           (overlaps (home_of a.instance path).path (home_of i q).path) met)

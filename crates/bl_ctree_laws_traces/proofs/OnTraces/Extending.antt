@@ -1,21 +1,15 @@
 -- Where ticks are bounded every list of steps goes on to a maximal one: the first listed point acts as long as there is one.
 use Rattle.std.proofs.Common.{◌≡◌, ℕ, zero, suc, ◌+◌, ◌<◌, ◌≤◌, true, List, [], ◌∷◌, ◌++◌, length, refl, sym, ap, subst, arith}
-use Rattle.bl_ctree.specs.Actions.{Action, Effect, Silent, Acts, Asks, Copies, Gives}
+use Rattle.bl_ctree.specs.Actions.{Action}
 use Rattle.bl_ctree.specs.Control.{Control, woken}
 use Rattle.bl_ctree.specs.Instances.{Setting, setting_of}
-use Rattle.bl_ctree.specs.Laws.{PointsAct, PointsMove, StepsFollow, StillIsUnlisted, can_answer}
+use Rattle.bl_ctree.specs.Laws.{PointsAct, PointsMove, StepsFollow, StillIsUnlisted}
 use Rattle.bl_ctree.specs.Points.{IsMember, Point, here, points}
 use Rattle.bl_ctree.specs.Steps.{Acting, fails, leads}
 use Rattle.bl_ctree.specs.Store.{Store, woken_store}
 use Rattle.bl_ctree.specs.Ticks.{Rests, Steps, Trapped, none, step, traps}
 use Rattle.bl_ctree_laws_traces.specs.Traces.Maximal.{BoundedExtend, BoundedHaveTicks, ExtendsToMaximal}
-
-can_true : (effect : Effect) → can_answer effect true ≡ true
-can_true Silent = refl
-can_true (Acts s) = refl
-can_true (Asks e) = refl
-can_true (Copies callee inputs) = refl
-can_true (Gives callee target) = refl
+use Rattle.bl_ctree.proofs.Listing.{can_true}
 
 one_longer : (actions : List Action) (a : Action) → length (actions ++ a ∷ []) ≡ suc (length actions)
 one_longer [] a = refl

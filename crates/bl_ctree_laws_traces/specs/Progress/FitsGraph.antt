@@ -8,27 +8,8 @@ use Rattle.bl_graph.specs.Edges.{InEach}
 use Rattle.bl_ctree.specs.Control.{Check, Body}
 use Rattle.bl_ctree.specs.Instances.{Setting, callee_of, unit_at}
 use Rattle.bl_ctree_laws.specs.Pending.{may_end, may_join}
-use Rattle.bl_ctree_laws.specs.Trees.{
-  Call,
-  Fork,
-  Pause,
-  Tree,
-  Trees,
-  Watch,
-  Nil,
-  Wait,
-  Test,
-  Idle,
-  Do,
-  Seq,
-  Par,
-  Guard,
-  Run,
-  beside,
-  has_strong,
-  is_nil,
-  no_tree,
-}
+use Rattle.bl_ctree_laws.specs.Trees.{Call, Fork, Pause, Tree, Trees, Watch, Nil, Wait, Test, Idle, Do, Seq, Par, Guard, Run, beside, has_strong, is_nil}
+use Rattle.bl_ctree_laws.specs.Trees.{no_tree}
 use Rattle.bl_ctree_laws_traces.specs.Progress.Places.{IsSubgraph, AreSubgraphs, Place, ahead_of, in_branch, guarded, later_on, whole}
 
 -- the statements of a `cobegin`, a `when` and a `run` of a tree

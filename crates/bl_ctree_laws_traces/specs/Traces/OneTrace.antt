@@ -4,12 +4,6 @@ use Rattle.bl_tree.specs.declared.row.Trace.{Trace}
 use Rattle.bl_tree.specs.declared.tree.StructDef.{StructDef}
 use Rattle.bl_tree.specs.declared.tree.Unit.{Unit as UnitDef}
 use Rattle.bl_tree.specs.Program.{IsWellTyped}
-use Rattle.bl_parse_tree.specs.declared.item.RawItem.{RawItem}
-use Rattle.bl_parse_tree.specs.WellFormed.{RawIsWellFormed}
-use Rattle.bl_names_scopes.specs.Rules.{Passes as NamesPass}
-use Rattle.bl_names.specs.Named.{named_program}
-use Rattle.bl_types.specs.Programs.{typed_program}
-use Rattle.bl_types.specs.Rules.{Passes as TypesPass}
 use Rattle.bl_effects.specs.Rules.{Passes}
 use Rattle.bl_ctree.specs.Instances.{setting_of}
 use Rattle.bl_ctree.specs.Means.{Means, ShownTrace, shown_trace}
@@ -41,10 +35,3 @@ abbrev pub OrderedHaveOneTrace : Type 0
 OrderedHaveOneTrace =
     (structs : List StructDef) (units : List UnitDef) (entry : ℕ) → IsWellTyped structs units entry → Passes units → ActivitiesAreOrdered units →
     HasOneTrace structs units entry
-
--- the program of a raw tree in which no rule fails has exactly one trace, if its tick graphs have orders
-abbrev pub TypedHaveOneTrace : Type 0
-TypedHaveOneTrace =
-    (items : List RawItem) (bytes : ℕ) → RawIsWellFormed items → NamesPass items → TypesPass (named_program items bytes) →
-    let typed = typed_program (named_program items bytes) in
-    Passes typed.units → ActivitiesAreOrdered typed.units → HasOneTrace typed.structs typed.units typed.entry

@@ -5,6 +5,8 @@ use Rattle.std.proofs.lemmas.List.{length-set}
 use Rattle.std.proofs.lemmas.Option.{slice_get_within}
 use Rattle.std.specs.Prelude.{nat_eq, option_and_then, option_map, slice_get, slice_set}
 use Rattle.std.specs.List.{list_all}
+use Rattle.std.proofs.lemmas.Bool.{and_from}
+use Rattle.bl_tree.proofs.Basics.{and_first, and_second}
 use Rattle.bl_tree.specs.declared.scalar.Scalar.{Scalar as ScalarType}
 use Rattle.bl_tree.specs.declared.tree.Field.{Field}
 use Rattle.bl_tree.specs.declared.tree.StructDef.{StructDef}
@@ -16,25 +18,11 @@ use Rattle.bl_tree.specs.declared.value.Value.TheVariants.{Parts, outs-Parts}
 use Rattle.bl_tree.specs.Program.{structs_stand_from}
 use Rattle.bl_tree.specs.Types.{type_stands}
 use Rattle.bl_tree.specs.Typing.{field_in}
-use Rattle.bl_eval.specs.Values.{
-  are_elements,
-  are_fields,
-  by_test,
-  fits_by,
-  is_number_of,
-  pass,
-  part_of,
-  parts_at,
-  parts_in,
-  struct_test,
-  tests_after,
-  value_at,
-  value_fits,
-  with_value_at,
-}
+use Rattle.bl_eval.specs.Values.{are_elements, are_fields, by_test, fits_by, is_number_of, pass, part_of, parts_at, parts_in, struct_test, tests_after}
+use Rattle.bl_eval.specs.Values.{value_at, value_fits, with_value_at}
 use Rattle.bl_eval.proofs.FitLemmas.{Test, fits_array, fits_before, fits_struct, structs_at, test_is}
 use Rattle.bl_eval.proofs.PartFits.{Fits}
-use Rattle.bl_eval.proofs.PassLemmas.{all_at, all_set, and_left, and_right, both, pass_at, pass_set}
+use Rattle.bl_eval.proofs.PassLemmas.{all_at, all_set, pass_at, pass_set}
 
 -- ---- types
 
@@ -92,7 +80,7 @@ pass_past test [] (v ∷ values) k all past = absurd cc
 pass_past test (x ∷ xs) [] k all past = absurd cc
 pass_past test (x ∷ xs) (v ∷ values) zero all past = absurd cc
 pass_past test (x ∷ xs) (v ∷ values) (suc k) all past =
-    pass_past test xs values k (and_right (test x v) (pass (map test xs) values) all) past
+    pass_past test xs values k (and_second (test x v) (pass (map test xs) values) all) past
 
 -- an element that is there, or none
 abbrev Element : List Value → ℕ → Ty → Type 0
@@ -156,9 +144,9 @@ array_case structs a n element k v is fit = by (out-Value v) refl (sym (level v)
     by : (layer : Value-F Value) → out-Value v ≡ layer → are_elements n test layer ≡ true → PartCase structs a k (element_at k n element) v
     by (Value-F.Number m) e h = absurd cc
     by (Value-F.Parts all) e h =
-        let sized : nat_eq (length all) n ≡ true = and_left (nat_eq (length all) n) (list_all test all) h in
+        let sized : nat_eq (length all) n ≡ true = and_first (nat_eq (length all) n) (list_all test all) h in
         let many : length all ≡ n = eqb-true (length all) n sized in
-        let each : list_all test all ≡ true = and_right (nat_eq (length all) n) (list_all test all) h in
+        let each : list_all test all ≡ true = and_second (nat_eq (length all) n) (list_all test all) h in
         subst (λ n. PartCase structs a k (element_at k n element) v) many (found sized each (element_case all k element))
       where
         found : nat_eq (length all) n ≡ true → list_all test all ≡ true → Element all k element →
@@ -174,7 +162,7 @@ array_case structs a n element k v is fit = by (out-Value v) refl (sym (level v)
             at = at;
             fit = all_at test all k old each at;
             puts = λ new one. level (Parts (slice_set all k new)) ∙ ap (are_elements n test) (outs-Parts (slice_set all k new))
-                ∙ both (nat_eq (length (slice_set all k new)) n) (list_all test (slice_set all k new))
+                ∙ and_from (nat_eq (length (slice_set all k new)) n) (list_all test (slice_set all k new))
                 (ap (λ m. nat_eq m n) (length-set all k new) ∙ sized) (all_set test all k new each one);
           },
         )

@@ -2,6 +2,7 @@
 use Rattle.std.proofs.Common.{◌≡◌, ℕ, Bool, true, false, List, [], ◌∷◌, map, Option, Some, None}
 use Rattle.std.proofs.Common.{refl, sym, ap, ◌∙◌, subst}
 use Rattle.std.specs.Prelude.{option_and_then, slice_get, if◌then◌else◌}
+use Rattle.bl_tree.proofs.Basics.{and_first, and_second}
 use Rattle.bl_tree.specs.declared.tree.Expr.{Expr}
 use Rattle.bl_tree.specs.declared.tree.ExprKind.{ExprKind}
 use Rattle.bl_tree.specs.declared.tree.ExprKind.TheOpen.{Part-F}
@@ -15,24 +16,9 @@ use Rattle.bl_tree.specs.declared.static_path.Static.{Static}
 use Rattle.bl_tree.specs.Reduce.{all_of}
 use Rattle.bl_tree.specs.Static.{Reach, StaticStep, expr_mentions, kind_mentions, leading_fields, part_step, path_reach, static_of, step_of}
 use Rattle.bl_tree.specs.Types.{same_type}
-use Rattle.bl_tree.specs.Typing.{
-  TypingContext,
-  after_parts,
-  expr_ignored,
-  expr_type,
-  field_in,
-  is_plain,
-  kind_ignored,
-  kind_type,
-  part_is_field,
-  part_type as part_typing,
-  path_is_plain,
-  path_type,
-  type_of_path,
-  where_same,
-}
+use Rattle.bl_tree.specs.Typing.{TypingContext, after_parts, expr_ignored, expr_type, field_in, is_plain, kind_ignored, kind_type, part_is_field}
+use Rattle.bl_tree.specs.Typing.{part_type as part_typing, path_is_plain, path_type, type_of_path, where_same}
 use Rattle.bl_eval.proofs.PartFits.{type_of_part}
-use Rattle.bl_eval.proofs.PassLemmas.{and_left, and_right}
 use Rattle.bl_ctree_laws_typing.proofs.OnViews.Along.{along, one_some, part_type}
 
 -- the static path leads from a variable to the type
@@ -66,11 +52,11 @@ module _ (site : TypingContext) where
       by None is e = absurd cc
       by (Some d) is e =
           ap (option_and_then (along site.structs (leading_fields (map step_of rest)))) (field_typed site.structs k (out-Ty ty) d is)
-          ∙ inner d c (and_right (part_plain (roll-Part (Part-F.Field k))) (all_of (map part_plain rest)) plain) e
+          ∙ inner d c (and_second (part_plain (roll-Part (Part-F.Field k))) (all_of (map part_plain rest)) plain) e
   by_part (Part-F.Index e) rest inner ty c plain typed =
       let none : part_plain (roll-Part (Part-F.Index e)) ≡ false = rw fold-roll-Part refl in
       let so : part_plain (roll-Part (Part-F.Index e)) ≡ true =
-      and_left (part_plain (roll-Part (Part-F.Index e))) (all_of (map part_plain rest)) plain in
+      and_first (part_plain (roll-Part (Part-F.Index e))) (all_of (map part_plain rest)) plain in
       let never : false ≡ true = sym none ∙ so in
       absurd cc
 

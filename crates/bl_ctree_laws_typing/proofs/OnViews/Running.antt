@@ -1,9 +1,10 @@
 -- The outputs of `run` statements that fit are of the types of the outputs of what is run.
 use Rattle.std.proofs.Common.{◌≡◌, ℕ, zero, suc, Bool, true, ◌&&◌, List, [], ◌∷◌, ◌++◌, map, length, get_or, take}
-use Rattle.std.proofs.Common.{Contains, Option, Some, None, refl, sym, ap, ◌∙◌, subst, append_assoc, append-nil, arith}
+use Rattle.std.proofs.Common.{Contains, Option, Some, None, refl, sym, ap, ◌∙◌, subst, arith}
 use Rattle.std.specs.Prelude.{All, slice_get}
 use Rattle.std.specs.List.{list_all}
 use Rattle.std.proofs.lemmas.List.Elements.{All-head, All-tail}
+use Rattle.bl_tree.proofs.Basics.{all_of_each, and_first, and_second, index_of}
 use Rattle.bl_tree.specs.declared.place.Place.{Place}
 use Rattle.bl_tree.specs.declared.static_path.Static.{Static}
 use Rattle.bl_tree.specs.declared.tree.Arm.{Arm, fold-Arm, fold_out-Arm, out-Arm}
@@ -24,46 +25,17 @@ use Rattle.bl_tree.specs.Reduce.{all_of, joined}
 use Rattle.bl_tree.specs.Returns.{unit_returns}
 use Rattle.bl_tree.specs.Static.{static_of}
 use Rattle.bl_tree.specs.Types.{same_type, type_stands}
-use Rattle.bl_tree.specs.Typing.{
-  TypingContext,
-  arguments_fit,
-  arm_fits,
-  branch_fits,
-  fits,
-  inputs_of,
-  is_activity,
-  is_assignable,
-  is_inhabited,
-  is_outlet,
-  is_plain,
-  is_truth,
-  kind_fits,
-  outputs_of,
-  run_fits,
-  site_of,
-  stmt_fits,
-  target_fits,
-  type_of,
-  type_of_path,
-  types_match,
-}
+use Rattle.bl_tree.specs.Typing.{TypingContext, arguments_fit, arm_fits, branch_fits, fits, inputs_of, is_activity, is_assignable, is_inhabited, is_outlet}
+use Rattle.bl_tree.specs.Typing.{is_plain, is_truth, kind_fits, outputs_of, run_fits, site_of, stmt_fits, target_fits, type_of, type_of_path, types_match}
 use Rattle.bl_tree.specs.Words.{are_distinct, is_name}
 use Rattle.bl_tree.proofs.StmtInduction.{Cases, Each, EachArm, EachBranch, induct, stmt}
 use Rattle.bl_eval.proofs.FitLemmas.{same_type_is}
-use Rattle.bl_eval.proofs.PassLemmas.{and_left, and_right, both}
 use Rattle.bl_ctree.specs.declared.instance.Run.{Run}
-use Rattle.bl_ctree.specs.Instances.{
-  arm_runs,
-  branch_runs,
-  kind_runs,
-  runs_in,
-  runs_in_arm,
-  runs_in_branch,
-  runs_of,
-  stmt_layer_runs,
-}
+use Rattle.bl_ctree.specs.Instances.{arm_runs, branch_runs, kind_runs, runs_in, runs_in_arm, runs_in_branch, runs_of, stmt_layer_runs}
 use Rattle.bl_ctree_laws_confluence.proofs.OnDeeds.Activities.{AllOf, all_both, one_a_place_so}
 use Rattle.bl_ctree_laws_typing.proofs.OnViews.Paths.{PathTyped, path_typed}
+use Rattle.bl_eval.proofs.UnitFits.{unit_at}
+use Rattle.bl_ctree_laws_confluence.proofs.OnDeeds.Activities.{all_at}
 
 -- the outputs of a `run`, one for one, are of the types of these variables
 abbrev pub OutputsTyped : List StructDef → List Var → List Static → List Var → Type 0
@@ -94,9 +66,9 @@ module _ (site : TypingContext) where
       PathTyped site.structs site.vars (static_of path) var.ty × (types_match rest vars ≡ true)
   path_first path var None rest vars is matched outlet = absurd cc
   path_first path var (Some ty) rest vars is matched outlet =
-      let same : ty ≡ var.ty = same_type_is ty var.ty (and_left (same_type ty var.ty) (types_match rest vars) matched) in (
-        path_typed site path var.ty (and_left (is_plain path) (is_assignable site path) outlet) (is ∙ ap Some same),
-        and_right (same_type ty var.ty) (types_match rest vars) matched,
+      let same : ty ≡ var.ty = same_type_is ty var.ty (and_first (same_type ty var.ty) (types_match rest vars) matched) in (
+        path_typed site path var.ty (and_first (is_plain path) (is_assignable site path) outlet) (is ∙ ap Some same),
+        and_second (same_type ty var.ty) (types_match rest vars) matched,
       )
 
   pub outputs_typed : (paths : List Path) (vars : List Var) → types_match (map (type_of_path site) paths) vars ≡ true →
@@ -109,8 +81,8 @@ module _ (site : TypingContext) where
       no_vars (Some ty) rest h = absurd cc
   outputs_typed (path ∷ paths) (var ∷ vars) matched outlets =
       let first = path_first path var (type_of_path site path) (map (type_of_path site) paths) vars refl matched
-      (and_left (is_outlet site path) (all_of (map (is_outlet site) paths)) outlets) in
-      (first.0, outputs_typed paths vars first.1 (and_right (is_outlet site path) (all_of (map (is_outlet site) paths)) outlets))
+      (and_first (is_outlet site path) (all_of (map (is_outlet site) paths)) outlets) in
+      (first.0, outputs_typed paths vars first.1 (and_second (is_outlet site path) (all_of (map (is_outlet site) paths)) outlets))
 
   abbrev R : Run → Type 0
   R = RunTyped site.structs site.earlier site.vars
@@ -123,8 +95,8 @@ module _ (site : TypingContext) where
   parts_run fit f [] all fitted = tt
   parts_run fit f (x ∷ xs) all fitted =
       all_both R (f x) (joined (map f xs))
-      (All-head (λ x. fit x ≡ true → AllOf R (f x)) x xs all (and_left (fit x) (all_of (map fit xs)) fitted))
-      (parts_run fit f xs (All-tail (λ x. fit x ≡ true → AllOf R (f x)) x xs all) (and_right (fit x) (all_of (map fit xs)) fitted))
+      (All-head (λ x. fit x ≡ true → AllOf R (f x)) x xs all (and_first (fit x) (all_of (map fit xs)) fitted))
+      (parts_run fit f xs (All-tail (λ x. fit x ≡ true → AllOf R (f x)) x xs all) (and_second (fit x) (all_of (map fit xs)) fitted))
 
   block_runs : (body : List Stmt) → Each S body → all_of (map (fits site) body) ≡ true → AllOf R (joined (map runs_in body))
   block_runs body each fitted = parts_run (fits site) runs_in body each fitted
@@ -138,7 +110,7 @@ module _ (site : TypingContext) where
   arm_runs_so : (arm : Arm) → Each S (out-Arm arm).body → arm_fitted arm ≡ true → AllOf R (runs_in_arm arm)
   arm_runs_so arm each fitted =
       subst (AllOf R) (sym (fold_out-Arm (Place → List Run) (List Run) (List Run) (List Run) kind_runs arm_runs branch_runs stmt_layer_runs arm))
-      (block_runs (out-Arm arm).body each (and_right (is_truth (type_of site (out-Arm arm).test)) (all_of (map (fits site) (out-Arm arm).body))
+      (block_runs (out-Arm arm).body each (and_second (is_truth (type_of site (out-Arm arm).test)) (all_of (map (fits site) (out-Arm arm).body))
       (sym (fold_out-Arm Bool Bool Bool Bool (kind_fits site) (arm_fits site) branch_fits stmt_fits arm) ∙ fitted)))
 
   branch_runs_so : (branch : Branch) → Each S (out-Branch branch).body → branch_fitted branch ≡ true → AllOf R (runs_in_branch branch)
@@ -189,14 +161,14 @@ module _ (site : TypingContext) where
       let outs : Bool = types_match (map (type_of_path site) outputs) (outputs_of callee) in
       let outlets : Bool = all_of (map (is_outlet site) outputs) in
       let arguments : (ins && (outs && outlets)) ≡ true =
-      and_right (target_fits site callee.result target) (arguments_fit site inputs outputs callee)
-      (and_right (is_activity site.kind && is_activity callee.kind)
+      and_second (target_fits site callee.result target) (arguments_fit site inputs outputs callee)
+      (and_second (is_activity site.kind && is_activity callee.kind)
       (target_fits site callee.result target && arguments_fit site inputs outputs callee) fitted) in
-      let both : (outs && outlets) ≡ true = and_right ins (outs && outlets) arguments in (
+      let others : (outs && outlets) ≡ true = and_second ins (outs && outlets) arguments in (
         record {
           callee = callee;
           there = there;
-          outputs = outputs_typed outputs (outputs_of callee) (and_left outs outlets both) (and_right outs outlets both);
+          outputs = outputs_typed outputs (outputs_of callee) (and_first outs outlets others) (and_second outs outlets others);
         },
         tt,
       )
@@ -212,22 +184,22 @@ module _ (site : TypingContext) where
     branching = λ place arms other in_arms in_other. by_parts place (StmtKind-F.If arms other) (λ fitted.
         let choices : Bool = all_of (map arm_fitted arms) in
         let last : Bool = all_of (map (fits site) other) in
-        let fitting : (choices && last) ≡ true = and_right (is_inhabited (map arm_fitted arms)) (choices && last) fitted in
-        all_both R (joined (map runs_in_arm arms)) (joined (map runs_in other)) (arms_run arms in_arms (and_left choices last fitting))
-        (block_runs other in_other (and_right choices last fitting)));
+        let fitting : (choices && last) ≡ true = and_second (is_inhabited (map arm_fitted arms)) (choices && last) fitted in
+        all_both R (joined (map runs_in_arm arms)) (joined (map runs_in other)) (arms_run arms in_arms (and_first choices last fitting))
+        (block_runs other in_other (and_second choices last fitting)));
     cobegin = λ place branches each. by_parts place (StmtKind-F.Cobegin branches) (λ fitted.
         let some : Bool = is_inhabited (map branch_fitted branches) in
         let within : Bool = all_of (map branch_fitted branches) in
-        branches_run branches each (and_right some within (and_right (is_activity site.kind) (some && within) fitted)));
+        branches_run branches each (and_second some within (and_second (is_activity site.kind) (some && within) fitted)));
     guarded = λ place guard e body each. by_parts place (StmtKind-F.When guard e body) (λ fitted.
         let tested : Bool = is_truth (type_of site e) in
         let within : Bool = all_of (map (fits site) body) in
-        block_runs body each (and_right tested within (and_right (is_activity site.kind) (tested && within) fitted)));
+        block_runs body each (and_second tested within (and_second (is_activity site.kind) (tested && within) fitted)));
     repeat = λ place body each. by_parts place (StmtKind-F.Repeat body) (λ fitted. block_runs body each fitted);
     until = λ place body e each. by_parts place (StmtKind-F.Until body e) (λ fitted.
-        block_runs body each (and_left (all_of (map (fits site) body)) (is_truth (type_of site e)) fitted));
+        block_runs body each (and_first (all_of (map (fits site) body)) (is_truth (type_of site e)) fitted));
     while = λ place e body each. by_parts place (StmtKind-F.While e body) (λ fitted.
-        block_runs body each (and_right (is_truth (type_of site e)) (all_of (map (fits site) body)) fitted));
+        block_runs body each (and_second (is_truth (type_of site e)) (all_of (map (fits site) body)) fitted));
     returns = λ place e. by_parts place (StmtKind-F.Return e) (λ fitted. tt);
   }
 
@@ -235,25 +207,6 @@ module _ (site : TypingContext) where
   body_runs body fitted = block_runs body (λ k d within. induct S stmt_cases (get_or body k d)) fitted
 
 -- ---- units that stand
-
-each_true : {A : Type 0} (test : A → Bool) (xs : List A) → list_all test xs ≡ true → all_of (map test xs) ≡ true
-each_true test [] e = refl
-each_true test (x ∷ xs) e =
-    both (test x) (all_of (map test xs)) (and_left (test x) (list_all test xs) e) (each_true test xs (and_right (test x) (list_all test xs) e))
-
-pub unit_stands_at : (structs : List StructDef) (earlier units : List UnitDef) (k : ℕ) (unit : UnitDef) →
-    units_stand_after structs earlier units ≡ true → slice_get units k ≡ Some unit →
-    unit_stands structs (earlier ++ take k units) unit ≡ true
-unit_stands_at structs earlier [] k unit stand there = absurd cc
-unit_stands_at structs earlier (first ∷ units) zero unit stand there =
-    let same : first ≡ unit = cc in
-    subst (λ earlier. unit_stands structs earlier unit ≡ true) (sym (append-nil earlier))
-    (subst (λ unit. unit_stands structs earlier unit ≡ true) same
-    (and_left (unit_stands structs earlier first) (units_stand_after structs (earlier ++ first ∷ []) units) stand))
-unit_stands_at structs earlier (first ∷ units) (suc k) unit stand there =
-    subst (λ earlier. unit_stands structs earlier unit ≡ true) (append_assoc earlier (first ∷ []) (take k units))
-    (unit_stands_at structs (earlier ++ first ∷ []) units k unit
-    (and_right (unit_stands structs earlier first) (units_stand_after structs (earlier ++ first ∷ []) units) stand) there)
 
 module _ (structs : List StructDef) (earlier : List UnitDef) (unit : UnitDef) (stands : unit_stands structs earlier unit ≡ true) where
   abbrev named : Bool
@@ -269,25 +222,15 @@ module _ (structs : List StructDef) (earlier : List UnitDef) (unit : UnitDef) (s
   others = unit_returns unit && (is_shallow 200 unit.body && list_all is_apart unit.body)
 
   pub types_stand : types ≡ true
-  types_stand = and_left types (fit && others) (and_right (roles_stand unit && named) (types && (fit && others)) stands)
+  types_stand = and_first types (fit && others) (and_second (roles_stand unit && named) (types && (fit && others)) stands)
 
   pub body_fits : all_of (map (fits (site_of structs earlier unit)) unit.body) ≡ true
   body_fits =
-      each_true (fits (site_of structs earlier unit)) unit.body
-      (and_left fit others (and_right types (fit && others) (and_right (roles_stand unit && named) (types && (fit && others)) stands)))
+      all_of_each (fits (site_of structs earlier unit)) unit.body
+      (and_first fit others (and_second types (fit && others) (and_second (roles_stand unit && named) (types && (fit && others)) stands)))
 
   pub parameters_within : roles_stand unit ≡ true
-  parameters_within = and_left (roles_stand unit) named (and_left (roles_stand unit && named) (types && (fit && others)) stands)
-
-of_member : {A : Type 0} (P : A → Type 0) (xs : List A) (k : ℕ) (x : A) → AllOf P xs → slice_get xs k ≡ Some x → P x
-of_member P [] k x all e = absurd cc
-of_member P (y ∷ xs) zero x all e = let same : y ≡ x = cc in subst P same all.0
-of_member P (y ∷ xs) (suc k) x all e = of_member P xs k x all.1 e
-
-contained : {A : Type 0} (xs : List A) (x : A) → Contains xs x → (k : ℕ) × (slice_get xs k ≡ Some x)
-contained [] x there = let below = there.1 in absurd (omega arith)
-contained (y ∷ xs) x (zero, within, is) = (zero, ap Some is)
-contained (y ∷ xs) x (suc k, within, is) = let rest = contained xs x (k, omega arith, is) in (suc rest.0, rest.1)
+  parameters_within = and_first (roles_stand unit) named (and_first (roles_stand unit && named) (types && (fit && others)) stands)
 
 -- each `run` of a unit that stands
 pub run_typed : (structs : List StructDef) (units : List UnitDef) (k : ℕ) (unit : UnitDef) (run : Run) →
@@ -295,7 +238,7 @@ pub run_typed : (structs : List StructDef) (units : List UnitDef) (k : ℕ) (uni
     RunTyped structs (take k units) unit.vars run
 run_typed structs units k unit run stand there has =
     let site : TypingContext = site_of structs (take k units) unit in
-    let at = contained (runs_of unit) run has in
-    of_member (RunTyped structs (take k units) unit.vars) (runs_of unit) at.0 run
+    let at = index_of (runs_of unit) run has in
+    all_at (RunTyped structs (take k units) unit.vars) (runs_of unit) at.0 run
     (one_a_place_so (RunTyped structs (take k units) unit.vars) (joined (map runs_in unit.body))
-    (body_runs site unit.body (body_fits structs (take k units) unit (unit_stands_at structs [] units k unit stand there)))) at.1
+    (body_runs site unit.body (body_fits structs (take k units) unit (unit_at structs [] units k unit stand there)))) at.1

@@ -1,8 +1,10 @@
 -- Homes have the types of what they are homes of, so what is seen in a typed store is typed.
 use Rattle.std.proofs.Common.{◌≡◌, ℕ, zero, suc, ◌+◌, ◌-◌, ◌<◌, ◌≤◌, Bool, true, false, List, [], ◌∷◌, length}
-use Rattle.std.proofs.Common.{map, take, drop, Option, Some, None, refl, sym, ap, ◌∙◌, subst, arith, leb-true, ltb-true}
+use Rattle.std.proofs.Common.{map, drop, Option, Some, None, refl, sym, ap, ◌∙◌, subst, arith, leb-true, ltb-true}
 use Rattle.std.specs.Prelude.{nat_le, nat_lt, option_and_then, option_map, slice_get, unwrap_or, if◌then◌else◌}
 use Rattle.std.specs.List.{range_with_len}
+use Rattle.std.proofs.lemmas.Bool.{and_from}
+use Rattle.bl_tree.proofs.Basics.{and_first, and_second, get_taken}
 use Rattle.bl_tree.specs.declared.static_path.Static.{Static}
 use Rattle.bl_tree.specs.declared.tree.StructDef.{StructDef}
 use Rattle.bl_tree.specs.declared.tree.Ty.{Ty}
@@ -15,7 +17,7 @@ use Rattle.bl_tree.specs.Typing.{outputs_of}
 use Rattle.bl_eval.specs.Values.{value_at, value_fits, values_fit}
 use Rattle.bl_eval.proofs.FitLemmas.{Test}
 use Rattle.bl_eval.proofs.PartFits.{Fits}
-use Rattle.bl_eval.proofs.PassLemmas.{and_left, and_right, both, pass_at}
+use Rattle.bl_eval.proofs.PassLemmas.{pass_at}
 use Rattle.bl_ctree.specs.declared.instance.Instance.{Instance}
 use Rattle.bl_ctree.specs.declared.instance.Origin.{Origin}
 use Rattle.bl_ctree.specs.Instances.{Setting, setting_of, unit_at, unit_of}
@@ -27,14 +29,9 @@ use Rattle.bl_ctree_laws_typing.specs.Views.{ViewsAreTyped}
 use Rattle.bl_ctree_laws_typing.proofs.OnViews.Along.{along, along_both, along_leads, one_some}
 use Rattle.bl_ctree_laws_typing.proofs.OnViews.Paths.{PathTyped}
 use Rattle.bl_ctree_laws_typing.proofs.OnViews.Running.{run_typed, typed_at}
+use Rattle.bl_ctree_laws_confluence.proofs.OnDeeds.Activities.{taken}
 
 -- ---- lists
-
-get_take : {A : Type 0} (xs : List A) (n k : ℕ) → k < n → slice_get (take n xs) k ≡ slice_get xs k
-get_take xs zero k lt = absurd (omega arith)
-get_take [] (suc n) k lt = refl
-get_take (x ∷ xs) (suc n) zero lt = refl
-get_take (x ∷ xs) (suc n) (suc k) lt = let less : k < n = omega arith in get_take xs n k less
 
 get_drop : {A : Type 0} (xs : List A) (n k j : ℕ) → j ≡ n + k → slice_get (drop n xs) k ≡ slice_get xs j
 get_drop xs zero k j is = let same : k ≡ j = omega arith in ap (slice_get xs) same
@@ -45,23 +42,16 @@ get_drop [] (suc n) (suc k) (suc j) is = refl
 get_drop (x ∷ xs) (suc n) k zero is = absurd (omega arith)
 get_drop (x ∷ xs) (suc n) k (suc j) is = let less : j ≡ n + k = omega arith in get_drop xs n k j less
 
-taken : (units : List UnitDef) (n k : ℕ) (unit : UnitDef) → slice_get (take n units) k ≡ Some unit → slice_get units k ≡ Some unit
-taken [] zero k unit e = absurd cc
-taken [] (suc n) k unit e = absurd cc
-taken (u ∷ units) zero k unit e = absurd cc
-taken (u ∷ units) (suc n) zero unit e = e
-taken (u ∷ units) (suc n) (suc k) unit e = taken units n k unit e
-
 -- an output's place among the outputs
 output_at : (unit : UnitDef) (k : ℕ) (var : Var) → is_output_of unit k ≡ true → slice_get unit.vars k ≡ Some var →
     slice_get (outputs_of unit) (k - unit.inputs) ≡ Some var
 output_at unit k var output there =
-    let from : unit.inputs ≤ k = leb-true unit.inputs k (and_left (nat_le unit.inputs k) (nat_lt k (unit.inputs + unit.outputs)) output) in
+    let from : unit.inputs ≤ k = leb-true unit.inputs k (and_first (nat_le unit.inputs k) (nat_lt k (unit.inputs + unit.outputs)) output) in
     let below : k < unit.inputs + unit.outputs =
-    ltb-true k (unit.inputs + unit.outputs) (and_right (nat_le unit.inputs k) (nat_lt k (unit.inputs + unit.outputs)) output) in
+    ltb-true k (unit.inputs + unit.outputs) (and_second (nat_le unit.inputs k) (nat_lt k (unit.inputs + unit.outputs)) output) in
     let within : k - unit.inputs < unit.outputs = omega arith in
     let sum : k ≡ unit.inputs + (k - unit.inputs) = omega arith in
-    get_take (drop unit.inputs unit.vars) unit.outputs (k - unit.inputs) within
+    get_taken (drop unit.inputs unit.vars) unit.outputs (k - unit.inputs) within
     ∙ get_drop unit.vars unit.inputs (k - unit.inputs) k sum ∙ there
 
 -- ---- locations
@@ -172,7 +162,7 @@ module _ (callers : InstancesHaveCallers) (structs : List StructDef) (units : Li
   each_numbered f first [] each = refl
   each_numbered f first (var ∷ vars) each =
       let here : first + 0 ≡ first = omega arith in
-      both (value_fits structs var.ty (f first)) (values_fit structs vars (map f (range_with_len (first + 1) (length vars))))
+      and_from (value_fits structs var.ty (f first)) (values_fit structs vars (map f (range_with_len (first + 1) (length vars))))
       (subst (λ k. value_fits structs var.ty (f k) ≡ true) here (each 0 var refl))
       (each_numbered f (first + 1) vars (λ k other there.
       let next : first + suc k ≡ (first + 1) + k = omega arith in

@@ -1,22 +1,5 @@
 -- Points of a tree as the code lists them.
-use Rattle.std.specs.Prelude.{
-  ℕ,
-  zero,
-  suc,
-  Bool,
-  false,
-  List,
-  [],
-  ◌∷◌,
-  ◌++◌,
-  map,
-  Option,
-  Some,
-  None,
-  option_and_then,
-  option_map,
-  if◌then◌else◌,
-}
+use Rattle.std.specs.Prelude.{ℕ, zero, suc, Bool, false, List, [], ◌∷◌, ◌++◌, map, Option, Some, None, option_and_then, option_map, if◌then◌else◌}
 use Rattle.bl_tree.specs.Reduce.{joined}
 use Rattle.bl_tree.specs.declared.place.Place.{Place}
 use Rattle.bl_tree.specs.declared.tree.Arm.{Arm}
@@ -27,27 +10,8 @@ use Rattle.bl_tree.specs.declared.static_path.Static.{Static}
 use Rattle.bl_tree.specs.Effects.{reads}
 use Rattle.bl_tree.specs.Static.{mentions}
 use Rattle.bl_ctree.specs.Actions.{Effect, Silent, Acts, Asks, Copies, Gives}
-use Rattle.bl_ctree.specs.Control.{
-  Control,
-  Branches,
-  Nil,
-  Wait,
-  Test,
-  Idle,
-  Do,
-  Turn,
-  Seq,
-  Par,
-  Guard,
-  Run,
-  no_branch,
-  branch,
-  Check,
-  Body,
-  do_all,
-  is_nil,
-  seq,
-}
+use Rattle.bl_ctree.specs.Control.{Control, Branches, Nil, Wait, Test, Idle, Do, Turn, Seq, Par, Guard, Run, no_branch, branch, Check, Body, do_all, is_nil}
+use Rattle.bl_ctree.specs.Control.{seq}
 use Rattle.bl_ctree.specs.Instances.{Setting, callee_of, unit_at}
 use Rattle.bl_ctree.specs.Nodes.{Seen}
 use Rattle.bl_ctree.specs.Points.{Point, or_nothing, begins, checks, copying, giving, joining, passing, sure, tests, turns_on}

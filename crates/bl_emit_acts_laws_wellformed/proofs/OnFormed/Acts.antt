@@ -13,29 +13,9 @@ use Rattle.bl_tree.specs.declared.c.CStmtKind.TheVariants as statement
 use Rattle.bl_tree.specs.declared.c.CType.{CType}
 use Rattle.bl_tree.specs.declared.c.CType.TheVariants.{Struct as OfStruct}
 use Rattle.bl_tree.specs.Reduce.{any_of}
-use Rattle.bl_ctext_semantics.specs.Faults.{
-  Context,
-  Fault,
-  Judged,
-  JudgedArg,
-  JudgedCall,
-  JudgedPlace,
-  Signature,
-  agree,
-  arguments,
-  assigned_type,
-  block_faults,
-  changes_nothing,
-  declared_before,
-  faults_in_stmt,
-  fit_each,
-  judged_call,
-  judged_expr,
-  judged_place,
-  same_type,
-  signature_of,
-  unless,
-}
+use Rattle.bl_ctext_semantics.specs.Faults.{Context, Fault, Judged, JudgedArg, JudgedCall, JudgedPlace, Signature, agree, arguments, assigned_type}
+use Rattle.bl_ctext_semantics.specs.Faults.{block_faults, changes_nothing, declared_before, faults_in_stmt, fit_each, judged_call, judged_expr, judged_place}
+use Rattle.bl_ctext_semantics.specs.Faults.{same_type, signature_of, unless}
 use Rattle.bl_emit_acts.specs.Acts.{c_calling, c_clear, c_set}
 use Rattle.bl_emit_acts.specs.Trees.{c_call, nowhere}
 use Rattle.bl_emit_acts_laws_wellformed.specs.Formed.Formed.{BlockIs, ExprIs, PlaceIs, StmtIs}

@@ -17,44 +17,10 @@ use Rattle.bl_tree.specs.declared.c.CExprKind.TheVariants as expression
 use Rattle.bl_tree.specs.declared.c.CType.{CType}
 use Rattle.bl_tree.specs.declared.c.CType.TheVariants.{Scalar as OfScalar}
 use Rattle.bl_tree.specs.Reduce.{joined}
-use Rattle.bl_ctext_semantics.specs.Faults.{
-  Clause,
-  Context,
-  Fault,
-  Judged,
-  JudgedArg,
-  JudgedCall,
-  JudgedPlace,
-  Signature,
-  agree,
-  arguments,
-  bool_type,
-  changes_nothing,
-  declared_before,
-  fit_args,
-  fit_each,
-  hands_on,
-  if_typed,
-  indexes,
-  indices,
-  is_void,
-  judge_into,
-  judge_root,
-  judge_steps,
-  judged_arg,
-  judged_call,
-  judged_expr,
-  judged_place,
-  judged_step,
-  known_result,
-  operand_type,
-  result_type,
-  same_type,
-  signature_of,
-  takes,
-  unless,
-  void_as_statement,
-}
+use Rattle.bl_ctext_semantics.specs.Faults.{Clause, Context, Fault, Judged, JudgedArg, JudgedCall, JudgedPlace, Signature, agree, arguments, bool_type}
+use Rattle.bl_ctext_semantics.specs.Faults.{changes_nothing, declared_before, fit_args, fit_each, hands_on, if_typed, indexes, indices, is_void, judge_into}
+use Rattle.bl_ctext_semantics.specs.Faults.{judge_root, judge_steps, judged_arg, judged_call, judged_expr, judged_place, judged_step, known_result}
+use Rattle.bl_ctext_semantics.specs.Faults.{operand_type, result_type, same_type, signature_of, takes, unless, void_as_statement}
 use Rattle.bl_emit_acts.specs.Trees.{nowhere, c_call, c_called, c_element, c_index, c_literal, c_not, c_place, c_read, c_step, c_two}
 use Rattle.bl_emit_acts_laws_wellformed.specs.Formed.Formed.{ExprIs, PlaceIs, sound, sound_place}
 

@@ -1,5 +1,6 @@
 -- Operators on what has C types.
 use Rattle.std.proofs.Common.{◌≡◌, ℕ, pos, Bool, true, false, ◌&&◌, [], ◌∷◌, Some, None, refl, ap, subst}
+use Rattle.std.proofs.lemmas.Bool.{and_from}
 use Rattle.bl_tree.specs.declared.text.Text.{Text}
 use Rattle.bl_tree.specs.declared.c.CArg.TheVariants.{Value}
 use Rattle.bl_tree.specs.declared.c.CExpr.{CExpr}
@@ -17,27 +18,14 @@ use Rattle.bl_tree.specs.Scalar.{is_bits, is_int, is_whole}
 use Rattle.bl_tree.specs.Types.{scalar, scalar_in}
 use Rattle.bl_tree.specs.Typing.{TypingContext, var_at}
 use Rattle.bl_eval.proofs.OperatorFits.{scalar_alone}
-use Rattle.bl_eval.proofs.PassLemmas.{both}
 use Rattle.bl_ctext.specs.declared.builtin.Builtin.{Builtin}
 use Rattle.bl_ctext.specs.declared.builtin.Builtin.TheVariants.{Two, One, Cast}
 use Rattle.bl_ctext_semantics.specs.Builtin.{builtin_of, in_c, widest}
 use Rattle.bl_ctext_semantics.specs.Faults.{Context, bool_type, builtin_signature, by_value, fits_param, is_number_type, signature_as, signature_of, takes}
 use Rattle.bl_emit_acts.specs.declared.made.Made.{Made}
 use Rattle.bl_emit_acts.specs.declared.made.Made.TheVariants.{Number, Whole}
-use Rattle.bl_emit_acts.specs.Expressions.{
-  c_both,
-  c_cast,
-  c_compare,
-  c_one,
-  cast_word,
-  function_name,
-  hidden,
-  hides_right,
-  is_decided,
-  mirrored,
-  operator_word,
-  side,
-}
+use Rattle.bl_emit_acts.specs.Expressions.{c_both, c_cast, c_compare, c_one, cast_word, function_name, hidden, hides_right, is_decided, mirrored, operator_word}
+use Rattle.bl_emit_acts.specs.Expressions.{side}
 use Rattle.bl_emit_acts.specs.Trees.{c_called, c_literal, c_not, c_two, nowhere}
 use Rattle.bl_emit_acts.specs.Types.{c_scalar, c_type}
 use Rattle.bl_emit_acts_laws_wellformed.specs.Formed.Declared.{leads_through}
@@ -76,7 +64,7 @@ module _ (context : Context) where
       (record { widens = true; params = by_value (in_c s) ∷ []; result = Some (in_c s) }) (in_c s) (of_value (sound (OfScalar (c_scalar s))) ∷ [])
       (builtin_known (function_name (operator_word op) s) (One op s) named) refl
       (ap (λ j. j ∷ []) (value_arg-is context (OfScalar (c_scalar s)) a nowhere one))
-      (both (fits_param true (OfScalar (in_c s)) (OfScalar (c_scalar s))) true (own_fits s whole) refl) refl)
+      (and_from (fits_param true (OfScalar (in_c s)) (OfScalar (c_scalar s))) true (own_fits s whole) refl) refl)
 
   two_called : (op : Op) (s : ScalarType) (a b : CExpr) → is_whole s ≡ true → Named (operator_word op) (Two op) s → NumberIs s a → NumberIs s b →
       NumberIs s (c_called (function_name (operator_word op) s) (Value a ∷ Value b ∷ []))
@@ -89,7 +77,7 @@ module _ (context : Context) where
       (of_value (sound (OfScalar (c_scalar s))) ∷ of_value (sound (OfScalar (c_scalar s))) ∷ [])
       (builtin_known (function_name (operator_word op) s) (Two op s) named) refl
       (λ i. value_arg-is context (OfScalar (c_scalar s)) a nowhere one i ∷ value_arg-is context (OfScalar (c_scalar s)) b nowhere other i ∷ [])
-      (both fits (fits && true) fit (both fits true fit refl)) refl)
+      (and_from fits (fits && true) fit (and_from fits true fit refl)) refl)
 
   pub cast_is : (from to : ScalarType) (a : CExpr) → is_whole from ≡ true → is_whole to ≡ true → NumberIs from a → NumberIs to (c_cast from to a)
   cast_is from to a whole target one =
@@ -99,7 +87,7 @@ module _ (context : Context) where
       (of_value (sound (OfScalar (c_scalar from))) ∷ [])
       (builtin_known (function_name (cast_word (is_int from)) to) (Cast (is_int from) to) (cast_named (is_int from) to target)) refl
       (ap (λ j. j ∷ []) (value_arg-is context (OfScalar (c_scalar from)) a nowhere one))
-      (both (fits_param true (OfScalar (widest (is_int from))) (OfScalar (c_scalar from))) true (widest_fits from whole) refl) refl)
+      (and_from (fits_param true (OfScalar (widest (is_int from))) (OfScalar (c_scalar from))) true (widest_fits from whole) refl) refl)
 
   -- ---- comparisons
 

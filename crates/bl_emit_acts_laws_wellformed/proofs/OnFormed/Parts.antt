@@ -7,6 +7,7 @@ use Rattle.std.proofs.lemmas.List.Elements.{Contains-append_left, Contains-appen
 use Rattle.std.proofs.lemmas.Option.{same_Some}
 use Rattle.std.proofs.lemmas.Slice.Eq.{bytes_eq-Decides}
 use Rattle.std.specs.Prelude.{Contains, bytes_eq, nat_eq, option_and_then, option_map, slice_get, if◌then◌else◌}
+use Rattle.bl_tree.proofs.Basics.{and_first, and_second}
 use Rattle.bl_tree.specs.declared.text.Text.{Text}
 use Rattle.bl_tree.specs.declared.place.Place.{Place}
 use Rattle.bl_tree.specs.declared.c.CMember.{CMember}
@@ -23,24 +24,12 @@ use Rattle.bl_tree.specs.Reduce.{joined}
 use Rattle.bl_tree.specs.Types.{scalar_at, scalar_in}
 use Rattle.bl_tree.specs.Typing.{field_in}
 use Rattle.bl_tree.specs.Words.{are_distinct, is_among}
-use Rattle.bl_eval.proofs.PassLemmas.{and_left, and_right}
 use Rattle.bl_ctext_semantics.specs.Faults.{Context, indices, judge_into, judge_member, member_of, member_table}
 use Rattle.bl_ctext_semantics.specs.Tables.{found}
 use Rattle.bl_emit_acts.specs.Expressions.{field_at, field_of_struct, name_of_field}
 use Rattle.bl_emit_acts.specs.Structs.{c_array, c_definition, c_field}
-use Rattle.bl_emit_acts.specs.Types.{
-  array_name,
-  c_scalar,
-  c_type,
-  definition_name,
-  elements_name,
-  field_name,
-  name_level,
-  name_of_definition,
-  struct_name,
-  type_level,
-  type_name,
-}
+use Rattle.bl_emit_acts.specs.Types.{array_name, c_scalar, c_type, definition_name, elements_name, field_name, name_level, name_of_definition, struct_name}
+use Rattle.bl_emit_acts.specs.Types.{type_level, type_name}
 use Rattle.bl_emit_structs.specs.Structs.{arrays_of, structs_for_definition}
 use Rattle.bl_emit_structs.proofs.Steps.{array_is}
 use Rattle.bl_emit_acts_laws_wellformed.specs.Formed.Declared.{AreDeclared, plain_member}
@@ -67,14 +56,14 @@ struct_at (first ∷ rest) before zero def stand there =
     let here : before ≡ before + 0 = omega arith in
     subst (λ n. struct_stands n def ≡ true) here
     (subst (λ def. struct_stands before def ≡ true) (same_Some first def there)
-    (and_left (struct_stands before first) (structs_stand_from (before + 1) rest) stand))
+    (and_first (struct_stands before first) (structs_stand_from (before + 1) rest) stand))
 struct_at (first ∷ rest) before (suc s) def stand there =
     let later : (before + 1) + s ≡ before + suc s = omega arith in
     subst (λ n. struct_stands n def ≡ true) later
-    (struct_at rest (before + 1) s def (and_right (struct_stands before first) (structs_stand_from (before + 1) rest) stand) there)
+    (struct_at rest (before + 1) s def (and_second (struct_stands before first) (structs_stand_from (before + 1) rest) stand) there)
 
 distinct_fields : (before : ℕ) (def : StructDef) → struct_stands before def ≡ true → are_distinct (field_names def) ≡ true
-distinct_fields before def stands = and_right _ (are_distinct (field_names def)) (and_left _ _ (and_right _ _ stands))
+distinct_fields before def stands = and_second _ (are_distinct (field_names def)) (and_first _ _ (and_second _ _ stands))
 
 -- ---- members by name
 
@@ -117,11 +106,11 @@ module _ (structs : List StructDef) where
       (ap (λ b. if b then Some (c_field structs f) else found (field_name f.name) (members fields)) ((bytes_eq-Decides f.name f.name).1 refl))
   member_found (f ∷ fields) (suc k) field distinct there =
       ap (λ b. if b then Some (c_field structs f) else found (field_name field.name) (members fields)) (differs (bytes_eq f.name field.name) refl)
-      ∙ member_found fields k field (and_right (not (is_among f.name (names fields))) (are_distinct (names fields)) distinct) there
+      ∙ member_found fields k field (and_second (not (is_among f.name (names fields))) (are_distinct (names fields)) distinct) there
     where
       differs : (b : Bool) → bytes_eq f.name field.name ≡ b → b ≡ false
       differs true is =
-          absurd (not_both (is_among f.name (names fields)) (and_left _ (are_distinct (names fields)) distinct)
+          absurd (not_both (is_among f.name (names fields)) (and_first _ (are_distinct (names fields)) distinct)
           (among_at fields k field f.name there is))
       differs false is = refl
 

@@ -6,6 +6,8 @@ use Rattle.std.proofs.lemmas.List.{map-append}
 use Rattle.std.proofs.lemmas.Option.{same_Some}
 use Rattle.std.specs.Prelude.{is_none, slice_get}
 use Rattle.std.specs.List.{list_all}
+use Rattle.std.proofs.lemmas.Bool.{and_from}
+use Rattle.bl_tree.proofs.Basics.{and_false, and_first, and_second}
 use Rattle.bl_tree.specs.declared.place.Place.{Place}
 use Rattle.bl_tree.specs.declared.c.CArg.{CArg}
 use Rattle.bl_tree.specs.declared.c.CType.TheVariants.{Scalar as OfScalar}
@@ -25,7 +27,6 @@ use Rattle.bl_tree.specs.Typing.{TypingContext, are_same, declaration_fits, inpu
 use Rattle.bl_tree.specs.Typing.{type_of, type_of_path}
 use Rattle.bl_tree.specs.Typing.{arguments_fit, call_fits, is_fixed, is_variable, types_match, var_at}
 use Rattle.bl_eval.proofs.FitLemmas.{same_type_is}
-use Rattle.bl_eval.proofs.PassLemmas.{and_left, and_right, both}
 use Rattle.bl_ctext_semantics.specs.Faults.{Context, JudgedArg, Variable, fit_each, fits_arg, judged_arg}
 use Rattle.bl_emit_acts.specs.declared.made.Made.{Made}
 use Rattle.bl_emit_acts.specs.declared.made.Made.TheVariants.{Number, Whole}
@@ -54,10 +55,6 @@ pub record EarlierStand (site : TypingContext) : Type 0 where
       (λ (var : Var). is_input var.role) (inputs_of callee) ≡ true
   pub outputs : (f : ℕ) (callee : UnitDef) → slice_get site.earlier f ≡ Some callee → list_all
       (λ (var : Var). is_output var.role) (outputs_of callee) ≡ true
-
-pub no_more : (is_read_only : Bool) → (is_read_only && false) ≡ false
-no_more true = refl
-no_more false = refl
 
 each_plain : (is_read_only a b : Bool) → (is_read_only && a) ≡ false → (is_read_only && b) ≡ false → (is_read_only && (a || b)) ≡ false
 each_plain false a b h k = refl
@@ -103,7 +100,7 @@ module _ (site : TypingContext) (copied : ℕ → Bool) (context : Context) (dec
       InActivity site (copied_in_path copied path) → InActivity site (copied_in copied e) → StmtIs context
       (c_set (stands site path).place (code_of (made_of site e)))
   assign_is path e fits path_named named =
-      let same = same_types (type_of_path site path) (type_of site e) (and_right (is_assignable site path)
+      let same = same_types (type_of_path site path) (type_of site e) (and_second (is_assignable site path)
       (are_same (type_of_path site path) (type_of site e)) fits) in
       let at = path_is path same.0 path_named same.1 in
       set-is context (leads_through site (out-Path path).root) (c_type structs same.0) (stands site path).place (code_of (made_of site e)) at.is
@@ -142,7 +139,7 @@ module _ (site : TypingContext) (copied : ℕ → Bool) (context : Context) (dec
   copy_is k var there copied_k =
       set-is context false (c_type structs var.ty) (c_place false (copy_name site.vars k) []) (c_read (place_in site k []))
       (variable_place context (copy_name site.vars k) (c_type structs var.ty) (declared.copies k var copied_k there))
-      (read-is context (leads_through site k) (c_type structs var.ty) (place_in site k []) (own_place k var there)) (no_more context.is_read_only)
+      (read-is context (leads_through site k) (c_type structs var.ty) (place_in site k []) (own_place k var there)) (and_false context.is_read_only)
 
   copies_are : (k : ℕ) (var : Var) → var_at site k ≡ Some var → (b : Bool) → copied k ≡ b → BlockIs context (copy_code site b k)
   copies_are k var there true is = block_one context (c_copied site k) (copy_is k var there is)
@@ -158,7 +155,7 @@ module _ (site : TypingContext) (copied : ℕ → Bool) (context : Context) (dec
   initial_by k var there None fits named = zeroed_is k var there
   initial_by k var there (Some e) fits named =
       let same = same_types (Some var.ty) (type_of site e)
-      (and_right (is_variable var.role || is_fixed var.role) (are_same (Some var.ty) (type_of site e)) fits) in
+      (and_second (is_variable var.role || is_fixed var.role) (are_same (Some var.ty) (type_of site e)) fits) in
       let ty : Ty = same.0 in
       let own : PlaceIs context (leads_through site k) (c_type structs ty) (place_in site k []) =
       subst (λ t. PlaceIs context (leads_through site k) (c_type structs t) (place_in site k [])) (same_Some var.ty ty same.1) (own_place k var there) in
@@ -190,7 +187,7 @@ module _ (site : TypingContext) (copied : ℕ → Bool) (context : Context) (dec
   Plain j = (context.is_read_only && (j.address && j.through)) ≡ false
 
   arg_plain : (ty : Ty) (made : Made) (at : Place) → MadeIs context site ty made → Plain (judged_arg (arg_of made) context at)
-  arg_plain ty (Number s code) at is = subst Plain (sym (value_arg-is context (OfScalar (c_scalar s)) code at is.1)) (no_more context.is_read_only)
+  arg_plain ty (Number s code) at is = subst Plain (sym (value_arg-is context (OfScalar (c_scalar s)) code at is.1)) (and_false context.is_read_only)
   arg_plain ty (Whole place) at is =
       subst Plain (sym (address_arg-is context (leads_through site is.1.root) (c_type structs ty) place at is.1.is)) (allowed_at is.1.root is.1.var is.1.there)
 
@@ -210,13 +207,13 @@ module _ (site : TypingContext) (copied : ℕ → Bool) (context : Context) (dec
       each_plain context.is_read_only (j.address && j.through)
       (any_of (map (λ (a : JudgedArg). a.address && a.through) (inputs_judged site copied context declared stand earlier.inputs inputs nowhere)))
       (arg_plain t (made_of site e) nowhere (made_is e t named is)) (more vars
-      (and_right (same_type t var.ty) (types_match (map (type_of site) inputs) vars) typed))
+      (and_second (same_type t var.ty) (types_match (map (type_of site) inputs) vars) typed))
 
   inputs_plain : (inputs : List Expr) → InActivity site (all_of (map (copied_in copied) inputs)) → InputsPlain inputs
-  inputs_plain [] named vars typed = no_more context.is_read_only
+  inputs_plain [] named vars typed = and_false context.is_read_only
   inputs_plain (e ∷ inputs) named vars typed =
-      first_plain e inputs (λ act. and_left (copied_in copied e) (all_of (map (copied_in copied) inputs)) (named act))
-      (inputs_plain inputs (λ act. and_right (copied_in copied e) (all_of (map (copied_in copied) inputs)) (named act))) (type_of site e) refl vars typed
+      first_plain e inputs (λ act. and_first (copied_in copied e) (all_of (map (copied_in copied) inputs)) (named act))
+      (inputs_plain inputs (λ act. and_second (copied_in copied e) (all_of (map (copied_in copied) inputs)) (named act))) (type_of site e) refl vars typed
 
   output_pointer : (role : Role) (rest : Bool) → is_output role ≡ true → (is_output role || rest) ≡ true
   output_pointer Output rest h = refl
@@ -246,7 +243,7 @@ module _ (site : TypingContext) (copied : ℕ → Bool) (context : Context) (dec
   first_output path outputs named more (Some t) is [] typed roles = absurd (cc)
   first_output path outputs named more None is (var ∷ vars) typed roles = absurd (cc)
   first_output path outputs named more (Some t) is (var ∷ vars) typed roles =
-      let same : t ≡ var.ty = same_type_is t var.ty (and_left (same_type t var.ty) (types_match (map (type_of_path site) outputs) vars) typed) in
+      let same : t ≡ var.ty = same_type_is t var.ty (and_first (same_type t var.ty) (types_match (map (type_of_path site) outputs) vars) typed) in
       let at = path_is path var.ty named (is ∙ ap Some same) in
       let through : Bool = leads_through site (out-Path path).root in
       let j : JudgedArg = judged_arg (output_arg site path) context nowhere in
@@ -254,13 +251,13 @@ module _ (site : TypingContext) (copied : ℕ → Bool) (context : Context) (dec
       address_arg-is context through (c_type structs var.ty) (stands site path).place nowhere at.is in
       let suits = address_suits site copied context declared stand earlier.inputs (is_output var.role || is_none (scalar_in var.ty)) through
       (c_type structs var.ty) (c_type structs var.ty)
-      (output_pointer var.role (is_none (scalar_in var.ty)) (and_left (is_output var.role) (list_all (λ (var : Var). is_output var.role) vars) roles))
+      (output_pointer var.role (is_none (scalar_in var.ty)) (and_first (is_output var.role) (list_all (λ (var : Var). is_output var.role) vars) roles))
       (type_same (c_type structs var.ty)) in
-      let rest = more vars (and_right (same_type t var.ty) (types_match (map (type_of_path site) outputs) vars) typed)
-      (and_right (is_output var.role) (list_all (λ (var : Var). is_output var.role) vars) roles) in
+      let rest = more vars (and_second (same_type t var.ty) (types_match (map (type_of_path site) outputs) vars) typed)
+      (and_second (is_output var.role) (list_all (λ (var : Var). is_output var.role) vars) roles) in
       let handed : (context.is_read_only && (j.address && j.through)) ≡ false = subst Plain (sym judged) (allowed_at (out-Path path).root at.var at.there) in (
         (
-          both (fits_arg false (parameter_for structs var) j) (fit_each false (map (parameter_for structs) vars) (outputs_judged outputs))
+          and_from (fits_arg false (parameter_for structs var) j) (fit_each false (map (parameter_for structs) vars) (outputs_judged outputs))
               (subst (λ j. fits_arg false (parameter_for structs var) j ≡ true) (sym judged) suits.0) rest.0.0,
           (λ i. (judged i).faults ++ rest.0.1 i),
         ),
@@ -268,11 +265,11 @@ module _ (site : TypingContext) (copied : ℕ → Bool) (context : Context) (dec
       )
 
   outputs_suit : (outputs : List Path) → InActivity site (all_of (map (copied_in_path copied) outputs)) → OutputsSuit outputs
-  outputs_suit [] named [] typed roles = ((refl, refl), no_more context.is_read_only)
+  outputs_suit [] named [] typed roles = ((refl, refl), and_false context.is_read_only)
   outputs_suit [] named (var ∷ vars) typed roles = absurd (cc)
   outputs_suit (path ∷ outputs) named vars typed roles =
-      first_output path outputs (λ act. and_left (copied_in_path copied path) (all_of (map (copied_in_path copied) outputs)) (named act))
-      (outputs_suit outputs (λ act. and_right (copied_in_path copied path) (all_of (map (copied_in_path copied) outputs)) (named act)))
+      first_output path outputs (λ act. and_first (copied_in_path copied path) (all_of (map (copied_in_path copied) outputs)) (named act))
+      (outputs_suit outputs (λ act. and_second (copied_in_path copied path) (all_of (map (copied_in_path copied) outputs)) (named act)))
       (type_of_path site path) refl
       vars typed roles
 
@@ -284,8 +281,8 @@ module _ (site : TypingContext) (copied : ℕ → Bool) (context : Context) (dec
   fit_append [] qs (x ∷ xs) ys one other = absurd (cc)
   fit_append (p ∷ ps) qs [] ys one other = absurd (cc)
   fit_append (p ∷ ps) qs (x ∷ xs) ys one other =
-      both (fits_arg false p x) (fit_each false (ps ++ qs) (xs ++ ys)) (and_left (fits_arg false p x) (fit_each false ps xs) one)
-      (fit_append ps qs xs ys (and_right (fits_arg false p x) (fit_each false ps xs) one) other)
+      and_from (fits_arg false p x) (fit_each false (ps ++ qs) (xs ++ ys)) (and_first (fits_arg false p x) (fit_each false ps xs) one)
+      (fit_append ps qs xs ys (and_second (fits_arg false p x) (fit_each false ps xs) one) other)
 
   none_front : {A : Type 0} (xs ys : List A) → xs ++ ys ≡ [] → (xs ≡ []) × (ys ≡ [])
   none_front [] ys is = (refl, is)
@@ -329,11 +326,11 @@ module _ (site : TypingContext) (copied : ℕ → Bool) (context : Context) (dec
       StmtIs context (c_calling (c_call (name_of_callee o) (call_args site inputs outputs)))
   call_by f inputs outputs None there fits named path_named = absurd (cc)
   call_by f inputs outputs (Some callee) there fits named path_named =
-      let shape : arguments_fit site inputs outputs callee ≡ true = and_right (is_procedure callee) (arguments_fit site inputs outputs callee) fits in
+      let shape : arguments_fit site inputs outputs callee ≡ true = and_second (is_procedure callee) (arguments_fit site inputs outputs callee) fits in
       let function : is_function callee.kind ≡ true =
-      and_left (is_function callee.kind) (is_none callee.result) (and_left (is_procedure callee) (arguments_fit site inputs outputs callee) fits) in
-      let matched : types_match (map (type_of site) inputs) (inputs_of callee) ≡ true = and_left _ _ shape in
-      let path_matched : types_match (map (type_of_path site) outputs) (outputs_of callee) ≡ true = and_left _ _ (and_right _ _ shape) in
+      and_first (is_function callee.kind) (is_none callee.result) (and_first (is_procedure callee) (arguments_fit site inputs outputs callee) fits) in
+      let matched : types_match (map (type_of site) inputs) (inputs_of callee) ≡ true = and_first _ _ shape in
+      let path_matched : types_match (map (type_of_path site) outputs) (outputs_of callee) ≡ true = and_first _ _ (and_second _ _ shape) in
       let xs : List JudgedArg = inputs_judged site copied context declared stand earlier.inputs inputs nowhere in
       let ys : List JudgedArg = outputs_judged outputs in
       let one = inputs_suit site copied context declared stand earlier.inputs inputs nowhere

@@ -7,6 +7,8 @@ use Rattle.std.proofs.lemmas.List.Elements.{All-head, All-tail}
 use Rattle.std.proofs.lemmas.Option.{same_Some}
 use Rattle.std.specs.Prelude.{All, is_none, is_some, nat_eq, option_and_then, option_map, slice_get, unwrap_or, if◌then◌else◌, ◌||◌}
 use Rattle.std.specs.List.{list_all}
+use Rattle.std.proofs.lemmas.Bool.{and_from}
+use Rattle.bl_tree.proofs.Basics.{and_first, and_second}
 use Rattle.bl_tree.specs.declared.c.CArg.{CArg}
 use Rattle.bl_tree.specs.declared.c.CExpr.{CExpr}
 use Rattle.bl_tree.specs.declared.c.CPlace.{CPlace}
@@ -40,7 +42,6 @@ use Rattle.bl_tree.proofs.ExprInduction.{Cases, EachIndex, OfIndex, expr, induct
 use Rattle.bl_eval.proofs.FitLemmas.{same_scalar_is, same_type_is}
 use Rattle.bl_eval.proofs.OperatorFits.{some_found, where_holds}
 use Rattle.bl_eval.proofs.PartFits.{type_of_part}
-use Rattle.bl_eval.proofs.PassLemmas.{and_left, and_right, both}
 use Rattle.bl_ctext_semantics.specs.Faults.{Context, Judged, JudgedArg, Variable, fit_each, fits_arg, judge_root, judged_arg, judged_step}
 use Rattle.bl_ctext_semantics.specs.Faults.{same_type as same_c_type}
 use Rattle.bl_ctext_semantics.specs.Faults.{signature_as, signature_of}
@@ -183,13 +184,13 @@ module _ (site : TypingContext) (copied : ℕ → Bool) (context : Context) (dec
         let found = some_found (prev_type site.kind) (var_at site k) ty typed in
         let var : Var = found.0 in
         let is = where_holds (is_activity site.kind && (is_variable var.role && is_some (scalar_in var.ty))) (Some var.ty) ty found.2 in
-        let there : is_some (scalar_in var.ty) ≡ true = and_right (is_variable var.role) (is_some (scalar_in var.ty))
-        (and_right (is_activity site.kind) _ is.0) in
+        let there : is_some (scalar_in var.ty) ≡ true = and_second (is_variable var.role) (is_some (scalar_in var.ty))
+        (and_second (is_activity site.kind) _ is.0) in
         let s : ScalarType = unwrap_or (scalar_in var.ty) OfBool in
         let scalar_is : scalar_in var.ty ≡ Some s = prev_scalar var (scalar_in var.ty) refl there in
         let place : PlaceIs context false (c_type structs var.ty) (c_place false (copy_name site.vars k) []) =
         variable_place context (copy_name site.vars k) (c_type structs var.ty) (declared.copies k var
-        (copied_k (and_left (is_activity site.kind) (is_variable var.role && is_some (scalar_in var.ty)) is.0)) found.1) in
+        (copied_k (and_first (is_activity site.kind) (is_variable var.role && is_some (scalar_in var.ty)) is.0)) found.1) in
         subst (λ at. Made_of ty (Number (scalar_at at) (c_read (c_place false (copy_name site.vars k) [])))) (sym found.1)
         (subst (λ ty. Made_of ty (Number s (c_read (c_place false (copy_name site.vars k) [])))) (same_Some var.ty ty is.1) (
           scalar_is,
@@ -240,18 +241,18 @@ module _ (site : TypingContext) (copied : ℕ → Bool) (context : Context) (dec
         let s : ScalarType = found.0 in
         let right = some_found (two_type op s) (option_and_then scalar_in (type_of site b)) ty found.2 in
         let taken = where_holds (same_scalar s right.0 && takes_two op s) (Some (scalar (type_of_result op s))) ty right.2 in
-        let same : s ≡ right.0 = same_scalar_is s right.0 (and_left (same_scalar s right.0) (takes_two op s) taken.0) in
+        let same : s ≡ right.0 = same_scalar_is s right.0 (and_first (same_scalar s right.0) (takes_two op s) taken.0) in
         let all : InActivity site (copied_in copied a && copied_in copied b) =
         λ act. let named_now = named act in rw (fold-roll-Expr, fold-roll-ExprKind) at named_now in
-        let o = operand a s is (λ act. and_left (copied_in copied a) (copied_in copied b) (all act)) found.1 in
-        let p = operand b s other (λ act. and_right (copied_in copied a) (copied_in copied b) (all act)) (right.1 ∙ ap Some (sym same)) in
+        let o = operand a s is (λ act. and_first (copied_in copied a) (copied_in copied b) (all act)) found.1 in
+        let p = operand b s other (λ act. and_second (copied_in copied a) (copied_in copied b) (all act)) (right.1 ∙ ap Some (sym same)) in
         is_as ty (made_of site (expr place (ExprKind-F.Two op a b)))
         (c_both op (type_made (made_of site a)) (code_of (made_of site a)) (code_of (made_of site b)))
         (rw (fold-roll-Expr, fold-roll-ExprKind) refl)
         (subst (λ s. Made_of ty (c_both op s (code_of (made_of site a)) (code_of (made_of site b)))) (sym o.0)
         (subst (λ ty. Made_of ty (c_both op s (code_of (made_of site a)) (code_of (made_of site b)))) (same_Some (scalar (type_of_result op s)) ty taken.1)
         (both_is context site op s (code_of (made_of site a)) (code_of (made_of site b))
-        (and_right (same_scalar s right.0) (takes_two op s) taken.0) o.1 p.1)))
+        (and_second (same_scalar s right.0) (takes_two op s) taken.0) o.1 p.1)))
 
     cast_typed : (place : Place) (target : ScalarType) (a : Expr) → P a → P (expr place (ExprKind-F.Cast target a))
     cast_typed place target a is named ty typed =
@@ -265,8 +266,8 @@ module _ (site : TypingContext) (copied : ℕ → Bool) (context : Context) (dec
         (subst (λ s. Made_of ty (Number target (c_cast s target (code_of (made_of site a))))) (sym o.0)
         (subst (λ ty. Made_of ty (Number target (c_cast s target (code_of (made_of site a))))) (same_Some (scalar target) ty whole.1)
         (number_is context site target (c_cast s target (code_of (made_of site a)))
-        (cast_is context s target (code_of (made_of site a)) (and_right (is_whole target) (is_whole s) whole.0)
-        (and_left (is_whole target) (is_whole s) whole.0) o.1))))
+        (cast_is context s target (code_of (made_of site a)) (and_second (is_whole target) (is_whole s) whole.0)
+        (and_first (is_whole target) (is_whole s) whole.0) o.1))))
 
     -- ---- calls
 
@@ -309,7 +310,7 @@ module _ (site : TypingContext) (copied : ℕ → Bool) (context : Context) (dec
     pub one_more : (var : Var) (vars : List Var) (j : JudgedArg) (judged : List JudgedArg) → Suits (parameter_for structs var) j → SuitAll vars judged →
         SuitAll (var ∷ vars) (j ∷ judged)
     one_more var vars j judged one rest = (
-      both (fits_arg false (parameter_for structs var) j) (fit_each false (map (parameter_for structs) vars) judged) one.0 rest.0,
+      and_from (fits_arg false (parameter_for structs var) j) (fit_each false (map (parameter_for structs) vars) judged) one.0 rest.0,
       (λ i. one.1 i ++ rest.1 i),
     )
 
@@ -330,19 +331,19 @@ module _ (site : TypingContext) (copied : ℕ → Bool) (context : Context) (dec
     first_input e inputs at one named more (Some t) is [] typed input = absurd (cc)
     first_input e inputs at one named more None is (var ∷ vars) typed input = absurd (cc)
     first_input e inputs at one named more (Some t) is (var ∷ vars) typed input =
-        let same : t ≡ var.ty = same_type_is t var.ty (and_left (same_type t var.ty) (types_match (map (type_of site) inputs) vars) typed) in
+        let same : t ≡ var.ty = same_type_is t var.ty (and_first (same_type t var.ty) (types_match (map (type_of site) inputs) vars) typed) in
         one_more var vars (judged_arg (arg_of (made_of site e)) context at) (inputs_judged inputs at)
-        (arg_suits var (made_of site e) at (and_left (is_input var.role) (list_all (λ (var : Var). is_input var.role) vars) input)
+        (arg_suits var (made_of site e) at (and_first (is_input var.role) (list_all (λ (var : Var). is_input var.role) vars) input)
         (one named var.ty (is ∙ ap Some same)))
-        (more vars (and_right (same_type t var.ty) (types_match (map (type_of site) inputs) vars) typed)
-        (and_right (is_input var.role) (list_all (λ (var : Var). is_input var.role) vars) input))
+        (more vars (and_second (same_type t var.ty) (types_match (map (type_of site) inputs) vars) typed)
+        (and_second (is_input var.role) (list_all (λ (var : Var). is_input var.role) vars) input))
 
     pub inputs_suit : (inputs : List Expr) (at : Place) → All P inputs → InActivity site (all_of (map (copied_in copied) inputs)) → InputsSuit inputs at
     inputs_suit [] at each all [] typed input = (refl, refl)
     inputs_suit [] at each all (var ∷ vars) typed input = absurd (cc)
     inputs_suit (e ∷ inputs) at each all vars typed input =
-        first_input e inputs at (All-head P e inputs each) (λ act. and_left (copied_in copied e) (all_of (map (copied_in copied) inputs)) (all act))
-        (inputs_suit inputs at (All-tail P e inputs each) (λ act. and_right (copied_in copied e) (all_of (map (copied_in copied) inputs)) (all act)))
+        first_input e inputs at (All-head P e inputs each) (λ act. and_first (copied_in copied e) (all_of (map (copied_in copied) inputs)) (all act))
+        (inputs_suit inputs at (All-tail P e inputs each) (λ act. and_second (copied_in copied e) (all_of (map (copied_in copied) inputs)) (all act)))
         (type_of site e) refl
         vars typed input
 
@@ -368,11 +369,11 @@ module _ (site : TypingContext) (copied : ℕ → Bool) (context : Context) (dec
         let callee : UnitDef = found.0 in
         let shape : Bool = nat_eq callee.outputs 0 && types_match (map (type_of site) inputs) (inputs_of callee) in
         let is = where_holds (is_function callee.kind && shape) (option_map scalar callee.result) ty found.2 in
-        let fitting : shape ≡ true = and_right (is_function callee.kind) shape is.0 in
+        let fitting : shape ≡ true = and_second (is_function callee.kind) shape is.0 in
         let none : callee.outputs ≡ 0 = eqb-true callee.outputs 0
-        (and_left (nat_eq callee.outputs 0) (types_match (map (type_of site) inputs) (inputs_of callee)) fitting) in
+        (and_first (nat_eq callee.outputs 0) (types_match (map (type_of site) inputs) (inputs_of callee)) fitting) in
         let matched : types_match (map (type_of site) inputs) (inputs_of callee) ≡ true =
-        and_right (nat_eq callee.outputs 0) (types_match (map (type_of site) inputs) (inputs_of callee)) fitting in
+        and_second (nat_eq callee.outputs 0) (types_match (map (type_of site) inputs) (inputs_of callee)) fitting in
         let result = result_there ty callee.result is.1 in
         let suit = inputs_suit inputs nowhere each all (inputs_of callee) matched (inputs_stand f callee found.1) in
         let args : List CArg = map arg_of (map (made_of site) inputs) in
@@ -382,7 +383,7 @@ module _ (site : TypingContext) (copied : ℕ → Bool) (context : Context) (dec
         (subst (λ ty. Made_of ty (Number result.0 code)) result.2
         (number_is context site result.0 code
         (called-is context (unit_name callee.name) args (signature_for structs callee) (c_scalar result.0) (inputs_judged inputs nowhere)
-        (callee_known f callee found.1 (and_left (is_function callee.kind) shape is.0)) (ap (option_map c_scalar) result.1) refl
+        (callee_known f callee found.1 (and_first (is_function callee.kind) shape is.0)) (ap (option_map c_scalar) result.1) refl
         (subst (λ vars. fit_each false (map (parameter_for structs) vars) (inputs_judged inputs nowhere) ≡ true) (sym (inputs_alone callee none)) suit.0)
         suit.1))))
 
@@ -474,10 +475,10 @@ module _ (site : TypingContext) (copied : ℕ → Bool) (context : Context) (dec
         let found = some_found (after_parts (map (type_of_part site) rest)) (type_of_part site part a) b typed in
         let c : Ty = found.0 in
         let one = part_is part a c (All-head (λ part. OfIndex P (out-Part part)) part rest each)
-        (λ act. and_left (copied_in_part copied part) (all_of (map (copied_in_part copied) rest)) (all act)) found.1 known in
+        (λ act. and_first (copied_in_part copied part) (all_of (map (copied_in_part copied) rest)) (all act)) found.1 known in
         let more : steps_judged context (steps_of (map (step_typing site) rest) (Some c)) at (Some (c_type structs c)) ≡ sound (c_type structs b) =
         steps_are rest (All-tail (λ part. OfIndex P (out-Part part)) part rest each)
-        (λ act. and_right (copied_in_part copied part) (all_of (map (copied_in_part copied) rest)) (all act)) c b found.2 one.2 at in
+        (λ act. and_second (copied_in_part copied part) (all_of (map (copied_in_part copied) rest)) (all act)) c b found.2 one.2 at in
         (λ i. behind (one.1 at i) (steps_of (map (step_typing site) rest) (one.0 i)) at) ∙ more
 
     rooted_at : (path : Path) (root : ℕ) (ty : Ty) (stood : Stood) → (out-Path path).root ≡ root → PathIs context site ty root stood →

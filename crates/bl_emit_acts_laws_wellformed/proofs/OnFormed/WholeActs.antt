@@ -1,6 +1,7 @@
 -- The law of acts of a whole program.
 use Rattle.std.proofs.Common.{◌≡◌, ℕ, Bool, true, List, length, map, take, Option, Some, None, ap, ◌∙◌, subst, sym}
 use Rattle.std.specs.Prelude.{slice_get}
+use Rattle.bl_tree.proofs.Basics.{and_first, and_second}
 use Rattle.bl_tree.specs.declared.place.Place.{Place}
 use Rattle.bl_tree.specs.declared.tree.Arm.{Arm}
 use Rattle.bl_tree.specs.declared.tree.Branch.{Branch}
@@ -16,7 +17,7 @@ use Rattle.bl_tree.specs.Reduce.{all_of}
 use Rattle.bl_tree.specs.Types.{type_stands}
 use Rattle.bl_tree.specs.Typing.{TypingContext, fits, site_of, var_at}
 use Rattle.bl_tree.proofs.StmtInduction.{stmt}
-use Rattle.bl_eval.proofs.PassLemmas.{all_at, and_left, and_right}
+use Rattle.bl_eval.proofs.PassLemmas.{all_at}
 use Rattle.bl_ctext_semantics.specs.Faults.{Context}
 use Rattle.bl_emit_acts.specs.Acts.{c_calling, c_set, call_made, is_copied, layer_code}
 use Rattle.bl_emit_acts.specs.Expressions.{code_of, made_of, stands}
@@ -64,14 +65,14 @@ module _ (structs : List StructDef) (units : List UnitDef) (entry : ℕ) (k : �
       block_one context (c_set (stands my_site path).place (code_of (made_of my_site e)))
       (assign_is my_site (is_copied copies) context declared keeps.structs_stand earlier_stand types_stand plain path e
       (rw (fold-roll-Stmt, fold-roll-StmtKind) at fitted)
-      (λ active. and_left (copied_in_path (is_copied copies) path) (copied_in (is_copied copies) e) (named active))
-      (λ active. and_right (copied_in_path (is_copied copies) path) (copied_in (is_copied copies) e) (named active)))
+      (λ active. and_first (copied_in_path (is_copied copies) path) (copied_in (is_copied copies) e) (named active))
+      (λ active. and_second (copied_in_path (is_copied copies) path) (copied_in (is_copied copies) e) (named active)))
   layer_formed place (StmtKind-F.Call f inputs outputs) act fitted named =
       block_one context (c_calling (call_made my_site f inputs outputs))
       (call_is my_site (is_copied copies) context declared keeps.structs_stand earlier_stand types_stand plain f inputs outputs
       (rw (fold-roll-Stmt, fold-roll-StmtKind) at fitted)
-      (λ active. and_left (all_of (map (copied_in (is_copied copies)) inputs)) (all_of (map (copied_in_path (is_copied copies)) outputs)) (named active))
-      (λ active. and_right (all_of (map (copied_in (is_copied copies)) inputs)) (all_of (map (copied_in_path (is_copied copies)) outputs)) (named active)))
+      (λ active. and_first (all_of (map (copied_in (is_copied copies)) inputs)) (all_of (map (copied_in_path (is_copied copies)) outputs)) (named active))
+      (λ active. and_second (all_of (map (copied_in (is_copied copies)) inputs)) (all_of (map (copied_in_path (is_copied copies)) outputs)) (named active)))
   layer_formed place _ act fitted named = absurd (cc)
 
   statement_formed : (s : Stmt) → is_act (out-StmtKind (out-Stmt s).what) ≡ true → fits my_site s ≡ true →

@@ -6,6 +6,8 @@ use Rattle.std.proofs.lemmas.List.Elements.{All-head, All-tail}
 use Rattle.std.proofs.lemmas.Option.{same_Some, slice_get_within}
 use Rattle.std.specs.Prelude.{All, is_some, nat_eq, nat_le, option_and_then, option_map, slice_get, unwrap_or, if◌then◌else◌}
 use Rattle.std.specs.List.{list_all}
+use Rattle.std.proofs.lemmas.Bool.{and_from}
+use Rattle.bl_tree.proofs.Basics.{and_first, and_second}
 use Rattle.bl_tree.specs.declared.text.Text.{Text}
 use Rattle.bl_tree.specs.declared.c.CArg.{CArg}
 use Rattle.bl_tree.specs.declared.c.CExpr.{CExpr}
@@ -39,7 +41,7 @@ use Rattle.bl_tree.proofs.ExprInduction.{Cases, EachIndex, OfIndex, expr, induct
 use Rattle.bl_eval.proofs.FitLemmas.{same_scalar_is, same_type_is, structs_at}
 use Rattle.bl_eval.proofs.OperatorFits.{scalar_alone, some_found, where_holds}
 use Rattle.bl_eval.proofs.PartFits.{type_of_part}
-use Rattle.bl_eval.proofs.PassLemmas.{all_at, and_left, and_right, both}
+use Rattle.bl_eval.proofs.PassLemmas.{all_at}
 use Rattle.bl_ctext.specs.Spellable.{is_length}
 use Rattle.bl_ctext.specs.inner.Fits.{arg_fits, expr_fits, place_fits, step_fits}
 use Rattle.bl_ctext.specs.inner.Prefixes.{is_source_name}
@@ -137,8 +139,8 @@ module _ (site : TypingContext) (stand : structs_stand_from 0 site.structs ≡ t
       let found = some_found (prev_type site.kind) (var_at site k) ty typed in
       let var : Var = found.0 in
       let is = where_holds (is_activity site.kind && (is_variable var.role && is_some (scalar_in var.ty))) (Some var.ty) ty found.2 in
-      let there : is_some (scalar_in var.ty) ≡ true = and_right (is_variable var.role) (is_some (scalar_in var.ty))
-      (and_right (is_activity site.kind) _ is.0) in
+      let there : is_some (scalar_in var.ty) ≡ true = and_second (is_variable var.role) (is_some (scalar_in var.ty))
+      (and_second (is_activity site.kind) _ is.0) in
       subst (λ at. MadeFits 2 ty (Number (scalar_at at) (c_read (c_place false (copy_name site.vars k) [])))) (sym found.1)
       (subst (λ ty. MadeFits 2 ty (Number (unwrap_or (scalar_in var.ty) OfBool) (c_read (c_place false (copy_name site.vars k) []))))
       (same_Some var.ty ty is.1) (
@@ -191,7 +193,7 @@ module _ (site : TypingContext) (stand : structs_stand_from 0 site.structs ≡ t
       let s : ScalarType = found.0 in
       let right = some_found (two_type op s) (option_and_then scalar_in (type_of site b)) ty found.2 in
       let taken = where_holds (same_scalar s right.0 && takes_two op s) (Some (scalar (type_of_result op s))) ty right.2 in
-      let same : s ≡ right.0 = same_scalar_is s right.0 (and_left (same_scalar s right.0) (takes_two op s) taken.0) in
+      let same : s ≡ right.0 = same_scalar_is s right.0 (and_first (same_scalar s right.0) (takes_two op s) taken.0) in
       let deep : ℕ = max (expr_depth a) (expr_depth b) in
       let d : ℕ = room deep in
       let o = operand a s d (omega arith) is found.1 in
@@ -203,7 +205,7 @@ module _ (site : TypingContext) (stand : structs_stand_from 0 site.structs ≡ t
       (subst (λ ty. MadeFits (room (1 + deep)) ty (c_both op s (code_of (made_of site a)) (code_of (made_of site b))))
       (same_Some (scalar (type_of_result op s)) ty taken.1)
       (both-fits d (room (1 + deep)) (omega arith) (omega arith) op s (code_of (made_of site a)) (code_of (made_of site b))
-      (and_right (same_scalar s right.0) (takes_two op s) taken.0) o.1 p.1)))
+      (and_second (same_scalar s right.0) (takes_two op s) taken.0) o.1 p.1)))
 
   cast_fits : (place : Place) (target : ScalarType) (a : Expr) → P a → P (expr place (ExprKind-F.Cast target a))
   cast_fits place target a is ty typed =
@@ -220,7 +222,7 @@ module _ (site : TypingContext) (stand : structs_stand_from 0 site.structs ≡ t
       (same_Some (scalar target) ty whole.1) (
         scalar_alone target,
         cast-fits d (room (1 + expr_depth a)) (omega arith) (omega arith) from target (code_of (made_of site a))
-            (and_left (is_whole target) (is_whole s) whole.0) o.1,
+            (and_first (is_whole target) (is_whole s) whole.0) o.1,
       ))
 
   -- ---- calls
@@ -246,9 +248,9 @@ module _ (site : TypingContext) (stand : structs_stand_from 0 site.structs ≡ t
   first_arg e inputs one more (Some t) is (var ∷ vars) typed d le =
       let here : room (expr_depth e) ≤ d = omega (arith, le) in
       let later : room (greatest (map expr_depth inputs)) ≤ d = omega (arith, le) in
-      both (arg_fits d (arg_of (made_of site e))) (list_all (arg_fits d) (map arg_of (map (made_of site) inputs)))
+      and_from (arg_fits d (arg_of (made_of site e))) (list_all (arg_fits d) (map arg_of (map (made_of site) inputs)))
       (more_arg (room (expr_depth e)) d t (made_of site e) here (one t is))
-      (more vars (and_right (same_type t var.ty) (types_match (map (type_of site) inputs) vars) typed) d later)
+      (more vars (and_second (same_type t var.ty) (types_match (map (type_of site) inputs) vars) typed) d later)
 
   args_fit : (inputs : List Expr) → All P inputs → ArgsFit inputs
   args_fit [] each vars typed d le = refl
@@ -268,7 +270,7 @@ module _ (site : TypingContext) (stand : structs_stand_from 0 site.structs ≡ t
       let shape : Bool = nat_eq callee.outputs 0 && types_match (map (type_of site) inputs) (inputs_of callee) in
       let is = where_holds (is_function callee.kind && shape) (option_map scalar callee.result) ty found.2 in
       let matched : types_match (map (type_of site) inputs) (inputs_of callee) ≡ true =
-      and_right (nat_eq callee.outputs 0) (types_match (map (type_of site) inputs) (inputs_of callee)) (and_right (is_function callee.kind) shape is.0) in
+      and_second (nat_eq callee.outputs 0) (types_match (map (type_of site) inputs) (inputs_of callee)) (and_second (is_function callee.kind) shape is.0) in
       let result = result_there ty callee.result is.1 in
       let args : List CArg = map arg_of (map (made_of site) inputs) in
       let code : CExpr = c_called (unit_name callee.name) args in
@@ -303,7 +305,7 @@ module _ (site : TypingContext) (stand : structs_stand_from 0 site.structs ≡ t
     field_named : (s : ℕ) (def : StructDef) (field : Field) → slice_get structs s ≡ Some def → slice_get def.fields k ≡ Some field →
         words.is_name field.name ≡ true
     field_named s def field there has =
-        let all : list_all words.is_name (field_names def) ≡ true = and_left _ _ (and_left _ _ (and_right _ _ (struct_at structs 0 s def stand there))) in
+        let all : list_all words.is_name (field_names def) ≡ true = and_first _ _ (and_first _ _ (and_second _ _ (struct_at structs 0 s def stand there))) in
         named_at def.fields k all has
       where
         named_at : (fields : List Field) (k : ℕ) → list_all words.is_name
@@ -312,9 +314,9 @@ module _ (site : TypingContext) (stand : structs_stand_from 0 site.structs ≡ t
         named_at [] k all there = absurd (cc)
         named_at (f ∷ fields) zero all there =
             ap (λ (f : Field). words.is_name f.name) (sym (same_Some f field there))
-            ∙ and_left (words.is_name f.name) (list_all words.is_name (map (λ (f : Field). f.name) fields)) all
+            ∙ and_first (words.is_name f.name) (list_all words.is_name (map (λ (f : Field). f.name) fields)) all
         named_at (f ∷ fields) (suc k) all there =
-            named_at fields k (and_right (words.is_name f.name) (list_all words.is_name (map (λ (f : Field). f.name) fields)) all) there
+            named_at fields k (and_second (words.is_name f.name) (list_all words.is_name (map (λ (f : Field). f.name) fields)) all) there
 
     field_found : (s : ℕ) (def : StructDef) (field : Field) → out-Ty a ≡ Ty-F.Struct s → slice_get structs s ≡ Some def →
         slice_get def.fields k ≡ Some field → field.ty ≡ c → FieldFits
@@ -369,7 +371,7 @@ module _ (site : TypingContext) (stand : structs_stand_from 0 site.structs ≡ t
   element_stands a c n m is stands_a =
       let level : ((nat_le 1 n && nat_le n 65536) && type_stands m c) ≡ true =
       sym (fold_out-Ty Bool (type_stands_level m) a ∙ ap (λ l. type_stands_level m (map-Ty Ty Bool (type_stands m) l)) is) ∙ stands_a in
-      (and_left (nat_le 1 n && nat_le n 65536) (type_stands m c) level, and_right (nat_le 1 n && nat_le n 65536) (type_stands m c) level)
+      (and_first (nat_le 1 n && nat_le n 65536) (type_stands m c) level, and_second (nat_le 1 n && nat_le n 65536) (type_stands m c) level)
 
   part_by : (layer : Part-F ExprKind Part Expr Path) (a c : Ty) (d : ℕ) → room (depth_of_part (roll-Part layer)) ≤ d → OfIndex P layer →
       type_of_part site (roll-Part layer) a ≡ Some c → Stands a → PartFits d (roll-Part layer) a c
@@ -410,7 +412,7 @@ module _ (site : TypingContext) (stand : structs_stand_from 0 site.structs ≡ t
       let here : room (depth_of_part part) ≤ d = omega (arith, le) in
       let later : room (greatest (map depth_of_part rest)) ≤ d = omega (arith, le) in
       let one = part_is part a c d here (All-head (λ part. OfIndex P (out-Part part)) part rest each) found.1 known in
-      both (step_fits d (step_typing site part (Some a)).step)
+      and_from (step_fits d (step_typing site part (Some a)).step)
       (list_all (step_fits d) (steps_of (map (step_typing site) rest) (step_typing site part (Some a)).ty)) one.0
       (subst (λ ty. list_all (step_fits d) (steps_of (map (step_typing site) rest) ty) ≡ true) (sym one.1)
       (steps_fit rest (All-tail (λ part. OfIndex P (out-Part part)) part rest each) c b d later found.2 one.2))
@@ -419,7 +421,7 @@ module _ (site : TypingContext) (stand : structs_stand_from 0 site.structs ≡ t
       place_fits d (place_by_steps activity home site.vars k steps) ≡ true
   home_fits d activity Held k steps low small all =
       place-fits d activity (codes "m") (c_step (variable_name site.vars k) ∷ steps) low memory-name
-      (both (step_fits d (c_step (variable_name site.vars k))) (list_all (step_fits d) steps)
+      (and_from (step_fits d (c_step (variable_name site.vars k))) (list_all (step_fits d) steps)
       (step-fits d (variable_name site.vars k) (variable-name site.vars k vars_named small)) all)
   home_fits d activity Local k steps low small all = place-fits d false (variable_name site.vars k) steps low (variable-name site.vars k vars_named small) all
   home_fits d activity Lent k steps low small all = place-fits d true (variable_name site.vars k) steps low (variable-name site.vars k vars_named small) all

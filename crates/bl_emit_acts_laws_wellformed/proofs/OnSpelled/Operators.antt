@@ -1,6 +1,7 @@
 -- Operators on what fits a depth.
 use Rattle.std.proofs.Common.{◌≡◌, ℕ, ◌+◌, ◌≤◌, pos, Bool, true, false, ◌&&◌, List, [], ◌∷◌, Some, None, refl, arith}
 use Rattle.std.specs.List.{list_all}
+use Rattle.std.proofs.lemmas.Bool.{and_from}
 use Rattle.bl_tree.specs.declared.text.Text.{Text}
 use Rattle.bl_tree.specs.declared.c.CArg.{CArg}
 use Rattle.bl_tree.specs.declared.c.CArg.TheVariants.{Value}
@@ -15,7 +16,6 @@ use Rattle.bl_tree.specs.Numbers.{takes_one, takes_two, type_of_result}
 use Rattle.bl_tree.specs.Scalar.{is_int, is_whole}
 use Rattle.bl_tree.specs.Types.{scalar, scalar_in}
 use Rattle.bl_eval.proofs.OperatorFits.{scalar_alone}
-use Rattle.bl_eval.proofs.PassLemmas.{both}
 use Rattle.bl_ctext.specs.declared.builtin.Builtin.TheVariants.{Two, One, Cast}
 use Rattle.bl_ctext.specs.Names.{is_callee}
 use Rattle.bl_ctext.specs.Spellable.{is_c_operator}
@@ -23,22 +23,8 @@ use Rattle.bl_ctext.specs.inner.Fits.{arg_fits, expr_fits, place_fits}
 use Rattle.bl_ctext.proofs.Fitting.{address-fits, call-fits, called-fits, expr_fits-more, literal-fits, read-fits, two-fits, value-fits}
 use Rattle.bl_emit_acts.specs.declared.made.Made.{Made}
 use Rattle.bl_emit_acts.specs.declared.made.Made.TheVariants.{Number, Whole}
-use Rattle.bl_emit_acts.specs.Expressions.{
-  arg_of,
-  c_both,
-  c_cast,
-  c_compare,
-  c_one,
-  cast_word,
-  code_of,
-  function_name,
-  hidden,
-  hides_right,
-  is_decided,
-  mirrored,
-  operator_word,
-  side,
-}
+use Rattle.bl_emit_acts.specs.Expressions.{arg_of, c_both, c_cast, c_compare, c_one, cast_word, code_of, function_name, hidden, hides_right, is_decided}
+use Rattle.bl_emit_acts.specs.Expressions.{mirrored, operator_word, side}
 use Rattle.bl_emit_acts.specs.Trees.{c_call, c_called, c_literal, nowhere}
 use Rattle.bl_emit_acts_laws_wellformed.proofs.OnFormed.Prelude.{Named, add_named, and_named, cast_named, div_named, mul_named, neg_named, not_named, or_named}
 use Rattle.bl_emit_acts_laws_wellformed.proofs.OnFormed.Prelude.{rem_named, shl_named, shr_named, sub_named, xor_named}
@@ -84,7 +70,7 @@ module _ (d e : ℕ) (low : 2 ≤ d) (room : d + 2 ≤ e) where
   one_called op s a named one = (
     scalar_alone s,
     calling-fits d e (function_name (operator_word op) s) (Value a ∷ []) room_one (builtin-callee (function_name (operator_word op) s) (One op s) named)
-        (both (arg_fits d (Value a)) true (value-fits d a one) refl),
+        (and_from (arg_fits d (Value a)) true (value-fits d a one) refl),
   )
 
   two_called : (op : Op) (s : ScalarType) (a b : CExpr) → Named (operator_word op) (Two op) s → expr_fits d a ≡ true → expr_fits d b ≡ true →
@@ -93,7 +79,7 @@ module _ (d e : ℕ) (low : 2 ≤ d) (room : d + 2 ≤ e) where
     scalar_alone s,
     calling-fits d e (function_name (operator_word op) s) (Value a ∷ Value b ∷ []) room_one
         (builtin-callee (function_name (operator_word op) s) (Two op s) named)
-        (both (arg_fits d (Value a)) (arg_fits d (Value b) && true) (value-fits d a one) (both (arg_fits d (Value b)) true (value-fits d b other) refl)),
+        (and_from (arg_fits d (Value a)) (arg_fits d (Value b) && true) (value-fits d a one) (and_from (arg_fits d (Value b)) true (value-fits d b other) refl)),
   )
 
   cast_next : (f : ℕ) → d + 1 ≤ f → (from to : ScalarType) (a : CExpr) → is_whole to ≡ true
@@ -101,7 +87,7 @@ module _ (d e : ℕ) (low : 2 ≤ d) (room : d + 2 ≤ e) where
   cast_next f le from to a whole one =
       calling-fits d f (function_name (cast_word (is_int from)) to) (Value a ∷ []) le
       (builtin-callee (function_name (cast_word (is_int from)) to) (Cast (is_int from) to) (cast_named (is_int from) to whole))
-      (both (arg_fits d (Value a)) true (value-fits d a one) refl)
+      (and_from (arg_fits d (Value a)) true (value-fits d a one) refl)
 
   pub cast-fits : (from to : ScalarType) (a : CExpr) → is_whole to ≡ true → expr_fits d a ≡ true → expr_fits e (c_cast from to a) ≡ true
   cast-fits = cast_next e room_one

@@ -1,6 +1,7 @@
 -- What the parts of made C texts need to fit a depth.
-use Rattle.std.proofs.Common.{◌≡◌, ℕ, ◌+◌, ◌≤◌, Bool, true, ◌&&◌, nat_le, refl, subst, arith}
+use Rattle.std.proofs.Common.{◌≡◌, ℕ, ◌+◌, ◌≤◌, Bool, true, ◌&&◌, refl, subst, arith}
 use Rattle.std.proofs.lemmas.Bool.Decides.{nat_tests}
+use Rattle.bl_tree.proofs.Basics.{and_first}
 use Rattle.bl_tree.specs.declared.text.Text.{Text}
 use Rattle.bl_tree.specs.declared.c.CStep.{fold-roll-CStep}
 use Rattle.bl_tree.specs.declared.c.CIndex.{fold-roll-CIndex}
@@ -11,25 +12,19 @@ use Rattle.bl_ctext.specs.Names.{is_name}
 use Rattle.bl_ctext.specs.Spellable.{is_length, spells_expr, spells_step}
 use Rattle.bl_ctext.specs.inner.Depths.{expr_depth, step_depth}
 use Rattle.bl_ctext.specs.inner.Fits.{expr_fits, step_fits}
-use Rattle.bl_ctext.proofs.Bytes.{and-fst, and-snd}
 use Rattle.bl_emit_acts.specs.Trees.{c_element, c_index, c_not, nowhere}
-
-fits_by : (spells : Bool) (n d : ℕ) → spells ≡ true → n ≤ d → (spells && nat_le n d) ≡ true
-fits_by spells n d h le = let test : nat_le n d ≡ true = grind (arith, nat_tests) in rw (h, test) refl
-
-bound : (spells : Bool) (n d : ℕ) → (spells && nat_le n d) ≡ true → n ≤ d
-bound spells n d h = let test : nat_le n d ≡ true = and-snd spells (nat_le n d) h in grind (arith, nat_tests)
+use Rattle.bl_ctext.proofs.Fitting.{bound, joined_fits}
 
 not_open : (d e : ℕ) (a : CExpr) → d + 1 ≤ e → expr_fits d a ≡ true →
     expr_fits e (roll-CExpr (record { place = nowhere; what = roll-CExprKind (CExprKind-F.Not a) })) ≡ true
 unfolding expr_fits
 not_open d e a le h =
-    let one : spells_expr a ≡ true = and-fst _ _ h in
+    let one : spells_expr a ≡ true = and_first _ _ h in
     let deep : expr_depth a ≤ d = bound (spells_expr a) (expr_depth a) d h in
     let code : CExpr = roll-CExpr (record { place = nowhere; what = roll-CExprKind (CExprKind-F.Not a) }) in
     let s : spells_expr code ≡ true = rw (fold-roll-CExpr, fold-roll-CExprKind) one in
     let m : expr_depth code ≤ e = rw (fold-roll-CExpr, fold-roll-CExprKind) (omega arith) in
-    fits_by (spells_expr code) (expr_depth code) e s m
+    joined_fits (spells_expr code) (expr_depth code) e s m
 
 -- `!` of what fits
 pub not-fits : (d e : ℕ) (a : CExpr) → d + 1 ≤ e → expr_fits d a ≡ true → expr_fits e (c_not a) ≡ true
@@ -41,8 +36,8 @@ pub element-fits : (d e : ℕ) (name : Text) (signed : Bool) (index : CExpr) (n 
     expr_fits d index ≡ true → step_fits e (c_element name (c_index signed index n)) ≡ true
 unfolding expr_fits step_fits
 element-fits d e name signed index n le named long h =
-    let one : spells_expr index ≡ true = and-fst _ _ h in
+    let one : spells_expr index ≡ true = and_first _ _ h in
     let deep : expr_depth index ≤ d = bound (spells_expr index) (expr_depth index) d h in
     let s : spells_step (c_element name (c_index signed index n)) ≡ true = rw (fold-roll-CStep, fold-roll-CIndex, named, one, long) refl in
     let m : step_depth (c_element name (c_index signed index n)) ≤ e = rw (fold-roll-CStep, fold-roll-CIndex) (omega arith) in
-    fits_by (spells_step (c_element name (c_index signed index n))) (step_depth (c_element name (c_index signed index n))) e s m
+    joined_fits (spells_step (c_element name (c_index signed index n))) (step_depth (c_element name (c_index signed index n))) e s m

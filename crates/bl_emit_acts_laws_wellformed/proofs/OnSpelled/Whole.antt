@@ -4,6 +4,7 @@ use Rattle.std.proofs.lemmas.Option.{same_Some}
 use Rattle.std.proofs.lemmas.List.Folds.{list_all-append}
 use Rattle.std.specs.Prelude.{slice_get}
 use Rattle.std.specs.List.{list_all}
+use Rattle.bl_tree.proofs.Basics.{and_first, and_second}
 use Rattle.bl_tree.specs.declared.tree.StructDef.{StructDef}
 use Rattle.bl_tree.specs.declared.tree.Unit.{Unit as UnitDef}
 use Rattle.bl_tree.specs.declared.tree.Var.{Var}
@@ -12,7 +13,7 @@ use Rattle.bl_tree.specs.Program.{IsWellTyped}
 use Rattle.bl_tree.specs.Types.{type_stands}
 use Rattle.bl_tree.specs.Typing.{TypingContext, site_of}
 use Rattle.bl_tree.specs.Words as words
-use Rattle.bl_eval.proofs.PassLemmas.{all_at, and_left, and_right}
+use Rattle.bl_eval.proofs.PassLemmas.{all_at}
 use Rattle.bl_emit_acts.specs.Expressions.{made_of}
 use Rattle.bl_emit_acts_laws_wellformed.proofs.OnFormed.Units.{taken_there, vars_named, vars_stand}
 use Rattle.bl_emit_acts_laws_wellformed.specs.Spelled.{ExpressionsFit, PlacesFit}
@@ -22,7 +23,7 @@ use Rattle.bl_emit_acts_laws_wellformed.proofs.OnSpelled.Operators.{code-fits}
 module _ (structs : List StructDef) (units : List UnitDef) (entry : ℕ) (keeps : IsWellTyped structs units entry) where
   unit_names : list_all words.is_name (map (λ (unit : UnitDef). unit.name) units) ≡ true
   unit_names =
-      and_right (list_all words.is_name (map (λ (def : StructDef). def.name) structs)) (list_all words.is_name (map (λ (unit : UnitDef). unit.name) units))
+      and_second (list_all words.is_name (map (λ (def : StructDef). def.name) structs)) (list_all words.is_name (map (λ (unit : UnitDef). unit.name) units))
       (sym (list_all-append words.is_name (map (λ (def : StructDef). def.name) structs) (map (λ (unit : UnitDef). unit.name) units)) ∙ keeps.named)
 
   named_at : (units : List UnitDef) (k : ℕ) (unit : UnitDef) → list_all words.is_name (map (λ (unit : UnitDef). unit.name) units) ≡ true →
@@ -30,9 +31,9 @@ module _ (structs : List StructDef) (units : List UnitDef) (entry : ℕ) (keeps 
   named_at [] k unit all there = absurd (cc)
   named_at (first ∷ units) zero unit all there =
       ap (λ (unit : UnitDef). words.is_name unit.name) (sym (same_Some first unit there))
-      ∙ and_left (words.is_name first.name) (list_all words.is_name (map (λ (unit : UnitDef). unit.name) units)) all
+      ∙ and_first (words.is_name first.name) (list_all words.is_name (map (λ (unit : UnitDef). unit.name) units)) all
   named_at (first ∷ units) (suc k) unit all there =
-      named_at units k unit (and_right (words.is_name first.name) (list_all words.is_name (map (λ (unit : UnitDef). unit.name) units)) all) there
+      named_at units k unit (and_second (words.is_name first.name) (list_all words.is_name (map (λ (unit : UnitDef). unit.name) units)) all) there
 
   pub earlier_named : (k f : ℕ) (callee : UnitDef) → slice_get (take k units) f ≡ Some callee → words.is_name callee.name ≡ true
   earlier_named k f callee there = named_at units f callee unit_names (taken_there units k f callee there)

@@ -13,32 +13,32 @@ merge-requires c = c.in_ok-machine.ensures.program
 
 pub invariant_of-result : goal.invariant_of-result
 invariant_of-result c =
-    let tree = c.args.accepted.now.tree in
+    let program = c.args.accepted.now.program in
     let machine = c.in_ok-merged.merged in
     let made = written_in c.in_ok-made.made in
     let it = made_known c.args.accepted.now c.in_ok-machine.machine machine made c.is_accepted.ensures
-    c.requires.text (all_countable c.args.accepted.now.tree.units c.requires.small) c.in_ok-machine.ensures.program
+    c.requires.text (all_countable c.args.accepted.now.program.units c.requires.small) c.in_ok-machine.ensures.program
     c.in_ok-merged.ensures.program c.in_ok-merged.ensures.merged c.is_machine.ensures c.written_is_told.ensures
     c.in_ok-made.ensures in
-    record { spellable = made_spelled tree machine.activities made (subst ProgramsSpelled c.tree-program.ensures c.programs_spelled.ensures) it }
+    record { spellable = made_spelled program machine.activities made (subst ProgramsSpelled c.program-program.ensures c.programs_spelled.ensures) it }
 
 pub returns-clause-shows : goal.returns-clause-shows
 returns-clause-shows c =
-    let tree = c.args.accepted.now.tree in
+    let program = c.args.accepted.now.program in
     let machine = c.in_ok-merged.merged in
     let made = written_in c.in_ok-made.made in
     let it = made_known c.args.accepted.now c.in_ok-machine.machine machine made c.is_accepted.ensures
-    c.requires.text (all_countable c.args.accepted.now.tree.units c.requires.small) c.in_ok-machine.ensures.program
+    c.requires.text (all_countable c.args.accepted.now.program.units c.requires.small) c.in_ok-machine.ensures.program
     c.in_ok-merged.ensures.program c.in_ok-merged.ensures.merged c.is_machine.ensures c.written_is_told.ensures
     c.in_ok-made.ensures in
-    file_shows tree machine.activities made (subst ProgramsShow c.tree-program.ensures c.programs_show.ensures) it.known it.is
+    file_shows program machine.activities made (subst ProgramsShow c.program-program.ensures c.programs_show.ensures) it.known it.is
 
 pub returns-clause-merged : goal.returns-clause-merged
 returns-clause-merged c =
     let machine = c.in_ok-merged.merged in
     let made = written_in c.in_ok-made.made in
     let it = made_known c.args.accepted.now c.in_ok-machine.machine machine made c.is_accepted.ensures
-    c.requires.text (all_countable c.args.accepted.now.tree.units c.requires.small) c.in_ok-machine.ensures.program
+    c.requires.text (all_countable c.args.accepted.now.program.units c.requires.small) c.in_ok-machine.ensures.program
     c.in_ok-merged.ensures.program c.in_ok-merged.ensures.merged c.is_machine.ensures c.written_is_told.ensures
     c.in_ok-made.ensures in
-    made_of_merged c.args.accepted.now.tree machine.activities made it
+    made_of_merged c.args.accepted.now.program machine.activities made it

@@ -7,15 +7,10 @@ use Rattle.bl_tree.specs.declared.c.CPlace.{CPlace}
 use Rattle.bl_tree.specs.declared.c.CStmt.{CStmt}
 use Rattle.bl_tree.specs.declared.scalar.Scalar.{Scalar as ScalarType}
 use Rattle.bl_tree.specs.declared.tree.StructDef.{StructDef}
-use Rattle.bl_tree.specs.declared.tree.Ty.{fold-roll-Ty}
 use Rattle.bl_tree.specs.declared.tree.Unit.{Unit as UnitDef}
 use Rattle.bl_tree.specs.declared.tree.Var.{Var}
-use Rattle.bl_tree.specs.declared.value.Value.TheVariants.{Number, outs-Number}
 use Rattle.bl_tree.specs.Scalar.{in_range}
-use Rattle.bl_tree.specs.Types.{scalar as scalar_type}
 use Rattle.bl_tree.specs.Typing.{TypingContext, is_activity, site_of, var_at}
-use Rattle.bl_eval.specs.Values.{is_number_of, value_fits, zero_of}
-use Rattle.bl_eval.proofs.FitLemmas.{fits_scalar, zero_fits}
 use Rattle.bl_ctext_semantics.specs.Course.{End, Outcome, breaks, following_end, goes_on, returns, traps}
 use Rattle.bl_ctext_semantics.specs.Meaning.{Scope, block_c, further, location_c, named_location, runs_c, value_c}
 use Rattle.bl_ctext_semantics.specs.Memory.{CValue, Location, Memory, Projection, Root, scalar, scalar_number, set_at, value_at, variable}
@@ -35,6 +30,7 @@ use Rattle.bl_emit_functions.specs.Functions.{again_code, c_local_again, first_h
 use Rattle.bl_emit_functions.specs.Reads.{reads_in_block}
 use Rattle.bl_emit_functions_laws_simulation.proofs.OnBodies.Courses.{Alike, alike_trans}
 use Rattle.bl_emit_functions_laws_simulation.proofs.OnCalls.Locals.{declared_local}
+use Rattle.bl_eval.proofs.FitLemmas.{zero_scalar as zero_in_range}
 
 -- ---- memory
 
@@ -49,13 +45,6 @@ module _ (m : Memory) (place : Location) where
   -- a place that is set to what it has
   set_own : (held : CValue) → ((way : List Projection) → held way ≡ value_at m place way) → set_at m place held ≡ m
   set_own held same = ap (set_at m place) (λ i way. same way i) ∙ (λ i root way. number_same root way i)
-
--- zero is a number of each type
-zero_in_range : (s : ScalarType) → in_range s (pos 0) ≡ true
-zero_in_range s =
-    let zero : zero_of [] (scalar_type s) ≡ Number (pos 0) = rw fold-roll-Ty refl in
-    sym (fits_scalar [] s (Number (pos 0)) ∙ ap (is_number_of s) (outs-Number (pos 0)))
-    ∙ (ap (value_fits [] (scalar_type s)) (sym zero) ∙ zero_fits [] (scalar_type s) refl (rw fold-roll-Ty refl))
 
 -- a value that is 0 everywhere is a scalar's
 zero_scalar : (held : CValue) → ((way : List Projection) → held way ≡ pos 0) → (way : List Projection) → scalar (scalar_number held) way ≡ held way

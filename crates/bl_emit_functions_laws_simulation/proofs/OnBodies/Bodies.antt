@@ -4,6 +4,7 @@ use Rattle.std.proofs.Common.{Option, Some, None, refl, sym, ap, ◌∙◌, subs
 use Rattle.std.proofs.lemmas.List.Elements.{All-cons, All-head, All-nil, All-tail}
 use Rattle.std.proofs.lemmas.List.{append-nil}
 use Rattle.std.specs.Prelude.{option_map, unwrap_or}
+use Rattle.bl_tree.proofs.Basics.{and_first, and_second, both_empty}
 use Rattle.bl_tree.specs.declared.c.CExpr.{CExpr}
 use Rattle.bl_tree.specs.declared.c.CStmt.{CStmt}
 use Rattle.bl_tree.specs.declared.scalar.Scalar.{Scalar as ScalarType}
@@ -29,43 +30,20 @@ use Rattle.bl_eval.specs.Functions.{Flow, GuardedBlock, StmtMeaning, condition, 
 use Rattle.bl_eval.specs.Functions.{returned, truth}
 use Rattle.bl_eval.specs.Meaning.{Scope as Sees, meaning_of}
 use Rattle.bl_eval.proofs.MeaningLemmas.{choice_out}
-use Rattle.bl_eval.proofs.PassLemmas.{and_left, and_right}
 use Rattle.bl_ctext_semantics.specs.Course.{End, Outcome, following_end}
 use Rattle.bl_ctext_semantics.specs.Memory.{CValue, Memory, scalar_number, set_at}
 use Rattle.bl_ctext_semantics.specs.Meaning.{Scope, block_c, runs_c}
 use Rattle.bl_emit_acts.specs.Acts.{call_made, c_calling, code_made, declared_code}
 use Rattle.bl_emit_functions.specs.declared.coded.Free.{Free}
-use Rattle.bl_emit_functions.specs.Statements.{
-  ArmCodes,
-  Codes,
-  arm_codes,
-  arms_taken,
-  assigned_code,
-  block_codes,
-  branch_codes,
-  break_code,
-  choice_code,
-  codes_of,
-  codes_of_arm,
-  either_code,
-  else_code,
-  flag_taken,
-  flagged_code,
-  kind_codes,
-  loop_code,
-  stmt_codes,
-  turn_taken,
-}
+use Rattle.bl_emit_functions.specs.Statements.{ArmCodes, Codes, arm_codes, arms_taken, assigned_code, block_codes, branch_codes, break_code, choice_code}
+use Rattle.bl_emit_functions.specs.Statements.{codes_of, codes_of_arm, either_code, else_code, flag_taken, flagged_code, kind_codes, loop_code, stmt_codes}
+use Rattle.bl_emit_functions.specs.Statements.{turn_taken}
 use Rattle.bl_emit_functions.specs.Trees.{c_break, c_if, c_loop, c_return, c_truth, turn_name}
 use Rattle.bl_emit_functions_laws_simulation.proofs.OnBodies.Courses.{Chosen, EndsAt, Leaves, Numbers, Tests, TurnAt, TurnOver, Turns, alone_alike}
 use Rattle.bl_emit_functions_laws_simulation.proofs.OnBodies.Courses.{alone_leaves}
 use Rattle.bl_emit_functions_laws_simulation.proofs.OnBodies.Courses.{append_alike, break-runs, if_comes, if_leaves, loop_leaves, nothing_leaves, return_leaves}
 use Rattle.bl_emit_functions_laws_simulation.proofs.OnBodies.Courses.{return_none_leaves, seq_leaves, since}
 use Rattle.bl_emit_functions_laws_simulation.proofs.OnBodies.Flags.{ArmDoes, ArmsDo, arms_grow, flag_at, flag_in, flagged_leaves, truth-value}
-
-none_in_both : {A : Type 0} (a b : List A) → a ++ b ≡ [] → (a ≡ []) × (b ≡ [])
-none_in_both [] b h = (refl, h)
-none_in_both (x ∷ a) b h = absurd (cc)
 
 module _ (number : Datum → ℤ) (Stand : List Value → Memory → Type 0) (Kept : ℕ → Memory → Memory → Type 0)
     (same : (k : ℕ) (m : Memory) → Kept k m m) (onward : (k : ℕ) (a b c : Memory) → Kept k a b → Kept k b c → Kept k a c)
@@ -267,10 +245,10 @@ module _ (number : Datum → ℤ) (Stand : List Value → Memory → Type 0) (Ke
           Good (in_order (map (does sees) body)) (block_codes (map (codes_of site) body))
       block_good [] each fitted apart = nothing_good
       block_good (s ∷ body) each fitted apart =
-          let none = none_in_both (aliases_in s) (joined (map aliases_in body)) apart in
+          let none = both_empty (aliases_in s) (joined (map aliases_in body)) apart in
           then_good (does sees s) (in_order (map (does sees) body)) (codes_of site s) (map (codes_of site) body)
-          (All-head S s body each (and_left (fits site s) (all_of (map (fits site) body)) fitted) none.0)
-          (block_good body (All-tail S s body each) (and_right (fits site s) (all_of (map (fits site) body)) fitted) none.1)
+          (All-head S s body each (and_first (fits site s) (all_of (map (fits site) body)) fitted) none.0)
+          (block_good body (All-tail S s body each) (and_second (fits site s) (all_of (map (fits site) body)) fitted) none.1)
 
       abbrev arm_fitted : Arm → Bool
       arm_fitted = fold-Arm Bool Bool Bool Bool (kind_fits site) (arm_fits site) branch_fits stmt_fits
@@ -288,8 +266,8 @@ module _ (number : Datum → ℤ) (Stand : List Value → Memory → Type 0) (Ke
           let fits_so = sym (fold_out-Arm Bool Bool Bool Bool (kind_fits site) (arm_fits site) branch_fits stmt_fits arm) ∙ fitted in
           let none = sym (fold_out-Arm (List Aliased) (List Aliased) (List Aliased)
           (List Aliased) kind_aliases arm_aliases branch_aliases stmt_aliases arm) ∙ apart in
-          let test = and_left (is_truth (type_of site (out-Arm arm).test)) (all_of (map (fits site) (out-Arm arm).body)) fits_so in
-          let body = and_right (is_truth (type_of site (out-Arm arm).test)) (all_of (map (fits site) (out-Arm arm).body)) fits_so in
+          let test = and_first (is_truth (type_of site (out-Arm arm).test)) (all_of (map (fits site) (out-Arm arm).body)) fits_so in
+          let body = and_second (is_truth (type_of site (out-Arm arm).test)) (all_of (map (fits site) (out-Arm arm).body)) fits_so in
           let good = block_good (out-Arm arm).body each body none in
           subst (λ (codes : ArmCodes). OneDoes codes (choice_of sees arm)) (sym (arm_out arm))
           (subst (λ (choice : GuardedBlock). OneDoes (record {
@@ -307,9 +285,9 @@ module _ (number : Datum → ℤ) (Stand : List Value → Memory → Type 0) (Ke
           AllDo (map (codes_of_arm site) arms) (map (choice_of sees) arms)
       arms_do [] each fitted apart = tt
       arms_do (arm ∷ arms) each fitted apart =
-          let none = none_in_both (aliased_in_arm arm) (joined (map aliased_in_arm arms)) apart in (
-            arm_does_so arm (All-head OfArm arm arms each) (and_left (arm_fitted arm) (all_of (map arm_fitted arms)) fitted) none.0,
-            arms_do arms (All-tail OfArm arm arms each) (and_right (arm_fitted arm) (all_of (map arm_fitted arms)) fitted) none.1,
+          let none = both_empty (aliased_in_arm arm) (joined (map aliased_in_arm arms)) apart in (
+            arm_does_so arm (All-head OfArm arm arms each) (and_first (arm_fitted arm) (all_of (map arm_fitted arms)) fitted) none.0,
+            arms_do arms (All-tail OfArm arm arms each) (and_second (arm_fitted arm) (all_of (map arm_fitted arms)) fitted) none.1,
           )
 
       only_good : (does : StmtMeaning) (code : List CStmt) → ((n : ℕ) → Does_so n does (block_c code scope))
@@ -333,12 +311,12 @@ module _ (number : Datum → ℤ) (Stand : List Value → Memory → Type 0) (Ke
           (return_none_leaves number Stand Kept same onward fewer scope n))
 
       no_activity : (b : Bool) → (is_activity site.kind && b) ≡ true → ⊥
-      no_activity b h = let no = sym (and_left (is_activity site.kind) b h) ∙ function in cc
+      no_activity b h = let no = sym (and_first (is_activity site.kind) b h) ∙ function in cc
 
       no_run : (target : Option Path) (inputs : List Expr) (outputs : List Path) (callee : Option UnitDef)
           → run_fits site target inputs outputs callee ≡ true → ⊥
       no_run target inputs outputs None h = cc
-      no_run target inputs outputs (Some callee) h = no_activity _ (and_left _ _ h)
+      no_run target inputs outputs (Some callee) h = no_activity _ (and_first _ _ h)
 
       both_are : (d e : StmtMeaning) (a b : Codes) → d ≡ e → a ≡ b → Good e b → Good d a
       both_are d e a b does_is codes_is good = subst (λ d. Good d a) (sym does_is) (subst (λ a. Good e a) (sym codes_is) good)
@@ -393,13 +371,13 @@ module _ (number : Datum → ℤ) (Stand : List Value → Memory → Type 0) (Ke
         await = λ place e fitted apart. absurd (no_activity _ (rw (fold-roll-Stmt, fold-roll-StmtKind) at fitted));
         run = λ place target a inputs outputs fitted apart. absurd (no_run _ _ _ _ (rw (fold-roll-Stmt, fold-roll-StmtKind) at fitted));
         branching = λ place arms other each others fitted apart.
-            let both = and_right (is_inhabited (map arm_fitted arms)) (all_of (map arm_fitted arms) && all_of (map (fits site) other))
+            let both = and_second (is_inhabited (map arm_fitted arms)) (all_of (map arm_fitted arms) && all_of (map (fits site) other))
             (rw (fold-roll-Stmt, fold-roll-StmtKind) at fitted) in
-            let none = none_in_both (joined (map aliased_in_arm arms)) (joined (map aliases_in other)) (rw (fold-roll-Stmt, fold-roll-StmtKind) at apart) in
+            let none = both_empty (joined (map aliased_in_arm arms)) (joined (map aliases_in other)) (rw (fold-roll-Stmt, fold-roll-StmtKind) at apart) in
             both_are _ _ _ _ (if_does place arms other) (if_codes place arms other)
             (choice_good (map (codes_of_arm site) arms) (map (choice_of sees) arms) (in_order (map (does sees) other)) (block_codes (map (codes_of site) other))
-            (arms_do arms each (and_left (all_of (map arm_fitted arms)) (all_of (map (fits site) other)) both) none.0)
-            (block_good other others (and_right (all_of (map arm_fitted arms)) (all_of (map (fits site) other)) both) none.1));
+            (arms_do arms each (and_first (all_of (map arm_fitted arms)) (all_of (map (fits site) other)) both) none.0)
+            (block_good other others (and_second (all_of (map arm_fitted arms)) (all_of (map (fits site) other)) both) none.1));
         cobegin = λ place branches each fitted apart. absurd (no_activity _ (rw (fold-roll-Stmt, fold-roll-StmtKind) at fitted));
         guarded = λ place guard e body each fitted apart. absurd (no_activity _ (rw (fold-roll-Stmt, fold-roll-StmtKind) at fitted));
         repeat = λ place body each fitted apart.
@@ -411,20 +389,20 @@ module _ (number : Datum → ℤ) (Stand : List Value → Memory → Type 0) (Ke
             ((good (turn_taken free)).1 few)));
         until = λ place body e each fitted apart.
             let parts = rw (fold-roll-Stmt, fold-roll-StmtKind) at fitted in
-            let good = block_good body each (and_left (all_of (map (fits site) body)) (is_truth (type_of site e)) parts)
+            let good = block_good body each (and_first (all_of (map (fits site) body)) (is_truth (type_of site e)) parts)
             (rw (fold-roll-Stmt, fold-roll-StmtKind) at apart) in
             both_are _ _ _ _ (until_does place body e) (until_codes place body e)
             (loop_good (condition sees None true) (condition sees (Some e) false) (in_order (map (does sees) body)) (block_codes (map (codes_of site) body))
             (c_truth true) (break_code (code_made site e)) true_asks good
             (λ free few. until_turn free.flags (in_order (map (does sees) body)) (truth sees e) (block_codes (map (codes_of site) body) (turn_taken free)).code
-            (code_made site e) ((good (turn_taken free)).1 few) (tests e (and_right (all_of (map (fits site) body)) (is_truth (type_of site e)) parts))));
+            (code_made site e) ((good (turn_taken free)).1 few) (tests e (and_second (all_of (map (fits site) body)) (is_truth (type_of site e)) parts))));
         while = λ place e body each fitted apart.
             let parts = rw (fold-roll-Stmt, fold-roll-StmtKind) at fitted in
-            let good = block_good body each (and_right (is_truth (type_of site e)) (all_of (map (fits site) body)) parts)
+            let good = block_good body each (and_second (is_truth (type_of site e)) (all_of (map (fits site) body)) parts)
             (rw (fold-roll-Stmt, fold-roll-StmtKind) at apart) in
             both_are _ _ _ _ (while_does place e body) (while_codes place e body)
             (loop_good (condition sees (Some e) true) (condition sees None false) (in_order (map (does sees) body)) (block_codes (map (codes_of site) body))
-            (code_made site e) [] (tests e (and_left (is_truth (type_of site e)) (all_of (map (fits site) body)) parts)) good
+            (code_made site e) [] (tests e (and_first (is_truth (type_of site e)) (all_of (map (fits site) body)) parts)) good
             (λ free few. plain_turn free.flags (in_order (map (does sees) body)) (block_codes (map (codes_of site) body) (turn_taken free)).code
             ((good (turn_taken free)).1 few)));
         returns = λ place e fitted apart. both_are _ _ _ _ (return_does place e) (return_codes place e)

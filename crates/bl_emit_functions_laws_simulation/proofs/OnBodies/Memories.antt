@@ -1,66 +1,30 @@
 -- Memory that stands for the values of a function's variables, and the flags in it.
 use Rattle.std.proofs.Common.{◌≡◌, ℕ, ◌<◌, ◌≤◌, ◌^◌, arith, Bool, true, false, ◌&&◌, List, [], ◌++◌, drop, Some, refl}
-use Rattle.std.proofs.Common.{sym, ap, ap₂, ◌∙◌, None, Option}
-use Rattle.std.proofs.lemmas.Bool.{eqb-true, le-leb, ltb-true}
+use Rattle.std.proofs.Common.{sym, ap, ap₂, ◌∙◌}
+use Rattle.std.proofs.lemmas.Bool.{eqb-true, le-leb}
 use Rattle.std.proofs.lemmas.Fmt.{decimal_injective}
 use Rattle.std.proofs.lemmas.Slice.Eq.{bytes_eq-Decides}
 use Rattle.std.specs.Prelude.{bytes_eq, codes, is_some, ◌==◌, if◌then◌else◌}
-use Rattle.bl_tree.specs.declared.tree.StructDef.{StructDef}
-use Rattle.bl_tree.specs.declared.tree.Ty.{Ty}
+use Rattle.std.proofs.lemmas.Bool.{and_parts}
+use Rattle.bl_tree.proofs.Basics.{true_not_false}
 use Rattle.bl_tree.specs.declared.tree.Var.{Var}
 use Rattle.bl_tree.specs.declared.value.Value.{Value}
 use Rattle.bl_tree.specs.Typing.{TypingContext, is_activity, var_at}
 use Rattle.bl_ctext_semantics.specs.Meaning.{Scope, named_location}
-use Rattle.bl_ctext_semantics.specs.Memory.{
-  CValue,
-  Location,
-  Memory,
-  Projection,
-  Root,
-  input_object,
-  left_after,
-  output_object,
-  same_root,
-  set_at,
-  state_object,
-  value_at,
-  variable,
-  number_or,
-  with_part,
-}
+use Rattle.bl_ctext_semantics.specs.Memory.{CValue, Location, Memory, Root, input_object, left_after, output_object, same_root, set_at}
+use Rattle.bl_ctext_semantics.specs.Memory.{state_object, value_at, variable, with_part}
 use Rattle.bl_emit_acts.specs.Acts.{is_copied}
 use Rattle.bl_emit_acts.specs.declared.home.Home.{Home}
 use Rattle.bl_emit_acts.specs.declared.home.Home.TheVariants.{Held, Local, Lent}
 use Rattle.bl_emit_acts.specs.Types.{variable_name}
-use Rattle.bl_emit_acts_laws_simulation.specs.Acts.{lies_in}
-use Rattle.bl_emit_acts_laws_simulation.specs.Frames.{PointersAreValid, is_older}
-use Rattle.bl_emit_acts_laws_simulation.specs.Encodes.{Encodes, home_at, location_in, start_in, way_to}
+use Rattle.bl_emit_acts_laws_simulation.specs.Frames.{PointersAreValid}
+use Rattle.bl_emit_acts_laws_simulation.specs.Encodes.{home_at, location_in, start_in}
 use Rattle.bl_emit_functions.specs.Trees.{flag_name}
 use Rattle.bl_emit_functions_laws_simulation.specs.Bodies.{Represents, Spared}
 use Rattle.bl_emit_functions_laws_simulation.proofs.OnBodies.Flags.{flag_at, flag_in, variable_itself}
-
-no_such : true ≡ false → ⊥
-no_such h = cc
-
-and_false : (b : Bool) → (b && false) ≡ false
-and_false true = refl
-and_false false = refl
-
-own_differ : (depth : ℕ) (m n : List ℕ) → bytes_eq m n ≡ false → same_root (variable depth m) (variable depth n) ≡ false
-own_differ depth m n h = ap (λ b. (depth == depth) && b) h ∙ and_false (depth == depth)
-
-older_differs : (depth : ℕ) (name : List ℕ) (root : Root) → is_older depth root ≡ true → same_root (variable depth name) root ≡ false
-older_differs depth name state_object h = refl
-older_differs depth name input_object h = refl
-older_differs depth name output_object h = refl
-older_differs depth name (variable d other) h = by (depth == d) refl
-  where
-    by : (same : Bool) → (depth == d) ≡ same → (same && bytes_eq name other) ≡ false
-    by false is = refl
-    by true is =
-        let less : d < depth = ltb-true d depth h in
-        let equal : depth ≡ d = eqb-true depth d is in
-        absurd (omega arith)
+use Rattle.bl_emit_acts_laws_simulation.proofs.Frames.{older_differs, own_differ}
+use Rattle.bl_emit_acts_laws_simulation.proofs.Cells.{set_elsewhere}
+use Rattle.bl_emit_acts_laws_simulation.proofs.Parts.{holds_same}
 
 -- flags of different numbers have different names
 flags_differ : (j k : ℕ) → j < 2 ^ 64 → k < j → bytes_eq (flag_name j) (flag_name k) ≡ false
@@ -73,34 +37,13 @@ flags_differ j k small less = by (bytes_eq (flag_name j) (flag_name k)) refl
         let equal : j ≡ k = decimal_injective j k small (omega (arith, small, less)) (ap (drop 1) text) in
         absurd (omega (arith, equal, less))
 
-and_both : (a b : Bool) → (a && b) ≡ true → (a ≡ true) × (b ≡ true)
-and_both true b h = (refl, h)
-and_both false b h = absurd (cc)
-
 -- a root that tests as a variable is that variable
 variable_is : (d : ℕ) (name : List ℕ) (root : Root) → same_root root (variable d name) ≡ true → root ≡ variable d name
 variable_is d name state_object h = absurd (cc)
 variable_is d name input_object h = absurd (cc)
 variable_is d name output_object h = absurd (cc)
 variable_is d name (variable e other) h =
-    let found = and_both (e == d) (bytes_eq other name) h in ap₂ variable (eqb-true e d found.0) ((bytes_eq-Decides other name).0 found.1)
-
--- numbers outside of a place stay when it is set
-set_elsewhere : (here : Memory) (place : Location) (held : CValue) (root : Root) (way : List Projection) → lies_in place root way ≡ false →
-    set_at here place held root way ≡ here root way
-set_elsewhere here place held root way h = by (same_root place.root root) (left_after place.parts way) refl h
-  where
-    by : (same : Bool) (left : Option (List Projection)) → left_after place.parts way ≡ left → (same && is_some (left_after place.parts way)) ≡ false →
-        (if same then with_part (here root) place.parts held else here root) way ≡ here root way
-    by false left is h = refl
-    by true None is h = ap (λ left. number_or left held (here root way)) is
-    by true (Some rest) is h = absurd (let no = sym (ap is_some is) ∙ h in cc)
-
-holds_same : (structs : List StructDef) (ty : Ty) (value : Value) (held other : CValue) → ((way : List Projection) → held way ≡ other way) →
-    Encodes structs ty value held → Encodes structs ty value other
-holds_same structs ty value held other alike holds = record {
-  each = λ ks n is. sym (alike (way_to structs ks (Some ty))) ∙ holds.each ks n is;
-}
+    let found = and_parts (e == d) (bytes_eq other name) h in ap₂ variable (eqb-true e d found.0) ((bytes_eq-Decides other name).0 found.1)
 
 differ_flip : (d : ℕ) (name : List ℕ) (root : Root) → same_root (variable d name) root ≡ false → same_root root (variable d name) ≡ false
 differ_flip d name root h = by (same_root root (variable d name)) refl
@@ -109,7 +52,7 @@ differ_flip d name root h = by (same_root root (variable d name)) refl
     by false is = refl
     by true is =
         let equal : root ≡ variable d name = variable_is d name root is in
-        absurd (no_such (sym (ap (same_root (variable d name)) equal ∙ variable_itself d name) ∙ h))
+        absurd (true_not_false (sym (ap (same_root (variable d name)) equal ∙ variable_itself d name) ∙ h))
 
 pub no_copy : (i : ℕ) → is_copied [] i ≡ true → ⊥
 no_copy i h = cc
@@ -133,7 +76,7 @@ module _ (site : TypingContext) (function : is_activity site.kind ≡ false) (sc
   home_differs j k var there Local is false none = own_differ scope.depth (flag_name j) (variable_name site.vars k) refl
   home_differs j k var there Lent is false none =
       older_differs scope.depth (flag_name j) (named_location scope true (variable_name site.vars k)).root (pointers.lent_older k var there is)
-  home_differs j k var there home is true none = absurd (no_such none)
+  home_differs j k var there home is true none = absurd (true_not_false none)
 
   flag_differs : (j k : ℕ) (var : Var) → var_at site k ≡ Some var →
       same_root (variable scope.depth (flag_name j)) (location_in scope site k []).root ≡ false

@@ -2,6 +2,8 @@
 use Rattle.std.proofs.Common.{◌≡◌, ℕ, Bool, true, false, ◌&&◌, List, [], ◌∷◌, map, Option, Some, None, refl, sym, ap, ◌∙◌, subst}
 use Rattle.std.proofs.lemmas.List.Elements.{All-head, All-tail}
 use Rattle.std.specs.Prelude.{All, is_some, nat_eq, option_and_then, option_map, slice_get}
+use Rattle.std.proofs.lemmas.Bool.{and_from}
+use Rattle.bl_tree.proofs.Basics.{and_first, and_second}
 use Rattle.bl_tree.specs.declared.place.Place.{Place}
 use Rattle.bl_tree.specs.declared.scalar.Op.{Op}
 use Rattle.bl_tree.specs.declared.scalar.Scalar.{Scalar as ScalarType}
@@ -15,35 +17,13 @@ use Rattle.bl_tree.specs.declared.tree.Unit.{Unit as UnitDef}
 use Rattle.bl_tree.specs.declared.tree.Var.{Var}
 use Rattle.bl_tree.specs.Reduce.{all_of}
 use Rattle.bl_tree.specs.Types.{same_type, scalar, scalar_in}
-use Rattle.bl_tree.specs.Typing.{
-  TypingContext,
-  after_parts,
-  call_type,
-  cast_type,
-  element_in,
-  inputs_of,
-  is_activity,
-  is_function,
-  is_variable,
-  one_type,
-  prev_type,
-  two_type,
-  type_of,
-  type_of_path,
-  types_match,
-  var_at,
-  where_same,
-  where_whole,
-}
+use Rattle.bl_tree.specs.Typing.{TypingContext, after_parts, call_type, cast_type, element_in, inputs_of, is_activity, is_function, is_variable, one_type}
+use Rattle.bl_tree.specs.Typing.{prev_type, two_type, type_of, type_of_path, types_match, var_at, where_same, where_whole}
 use Rattle.bl_tree.proofs.ExprInduction.{Cases, EachIndex, OfIndex, expr, induct, induct_path}
 use Rattle.bl_eval.proofs.OperatorFits.{some_found, where_holds}
 use Rattle.bl_eval.proofs.PartFits.{type_of_part}
-use Rattle.bl_eval.proofs.PassLemmas.{and_left, and_right}
 use Rattle.bl_emit_acts_laws_simulation.specs.Encodes.{copied_in, copied_in_path}
 use Rattle.bl_emit_acts_laws_simulation.specs.inner.Holds.{copied_in_part}
-
-pub both_true : (a b : Bool) → a ≡ true → b ≡ true → (a && b) ≡ true
-both_true a b x y = ap (λ a. a && b) x ∙ y
 
 module _ (site : TypingContext) (function : is_activity site.kind ≡ false) (copied : ℕ → Bool) where
   abbrev P : Expr → Type 0
@@ -55,7 +35,7 @@ module _ (site : TypingContext) (function : is_activity site.kind ≡ false) (co
   no_prev : (ty : Ty) (var : Var) → prev_type site.kind var ≡ Some ty → ⊥
   no_prev ty var h =
       let is = where_holds (is_activity site.kind && (is_variable var.role && is_some (scalar_in var.ty))) (Some var.ty) ty h in
-      let no = sym function ∙ and_left (is_activity site.kind) (is_variable var.role && is_some (scalar_in var.ty)) is.0 in cc
+      let no = sym function ∙ and_first (is_activity site.kind) (is_variable var.role && is_some (scalar_in var.ty)) is.0 in cc
 
   typed_operand : (a : Expr) (s : ScalarType) → P a → option_and_then scalar_in (type_of site a) ≡ Some s → copied_in copied a ≡ true
   typed_operand a s p typed = let found = some_found scalar_in (type_of site a) s typed in p found.0 found.1
@@ -71,7 +51,7 @@ module _ (site : TypingContext) (function : is_activity site.kind ≡ false) (co
       (option_and_then scalar_in (type_of site a)) ty (rw (fold-roll-Expr, fold-roll-ExprKind) at typed) in
       let right = some_found (two_type op found.0) (option_and_then scalar_in (type_of site b)) ty found.2 in
       rw (fold-roll-Expr, fold-roll-ExprKind)
-      (both_true (copied_in copied a) (copied_in copied b) (typed_operand a found.0 p found.1) (typed_operand b right.0 q right.1))
+      (and_from (copied_in copied a) (copied_in copied b) (typed_operand a found.0 p found.1) (typed_operand b right.0 q right.1))
 
   cast_named : (place : Place) (target : ScalarType) (a : Expr) → P a → P (expr place (ExprKind-F.Cast target a))
   cast_named place target a p ty typed =
@@ -83,14 +63,14 @@ module _ (site : TypingContext) (function : is_activity site.kind ≡ false) (co
   first_typed None types [] h = absurd (cc)
   first_typed None types (var ∷ vars) h = absurd (cc)
   first_typed (Some ty) types [] h = absurd (cc)
-  first_typed (Some ty) types (var ∷ vars) h = (ty, refl, (vars, and_right (same_type ty var.ty) (types_match types vars) h))
+  first_typed (Some ty) types (var ∷ vars) h = (ty, refl, (vars, and_second (same_type ty var.ty) (types_match types vars) h))
 
   pub exprs_named : (inputs : List Expr) (vars : List Var) → All P inputs → types_match (map (type_of site) inputs) vars ≡ true →
       all_of (map (copied_in copied) inputs) ≡ true
   exprs_named [] vars each h = refl
   exprs_named (e ∷ inputs) vars each h =
       let found = first_typed (type_of site e) (map (type_of site) inputs) vars h in
-      both_true (copied_in copied e) (all_of (map (copied_in copied) inputs)) (All-head P e inputs each found.0 found.1)
+      and_from (copied_in copied e) (all_of (map (copied_in copied) inputs)) (All-head P e inputs each found.0 found.1)
       (exprs_named inputs found.2.0 (All-tail P e inputs each) found.2.1)
 
   pub paths_named : (paths : List Path) (vars : List Var) → ((path : Path) → Q path) → types_match (map (type_of_path site) paths) vars ≡ true →
@@ -98,7 +78,7 @@ module _ (site : TypingContext) (function : is_activity site.kind ≡ false) (co
   paths_named [] vars each h = refl
   paths_named (path ∷ paths) vars each h =
       let found = first_typed (type_of_path site path) (map (type_of_path site) paths) vars h in
-      both_true (copied_in_path copied path) (all_of (map (copied_in_path copied) paths)) (each path found.0 found.1)
+      and_from (copied_in_path copied path) (all_of (map (copied_in_path copied) paths)) (each path found.0 found.1)
       (paths_named paths found.2.0 each found.2.1)
 
   call_named : (place : Place) (f : ℕ) (inputs : List Expr) → All P inputs → P (expr place (ExprKind-F.Call f inputs))
@@ -107,9 +87,9 @@ module _ (site : TypingContext) (function : is_activity site.kind ≡ false) (co
       let callee : UnitDef = found.0 in
       let shape : Bool = nat_eq callee.outputs 0 && types_match (map (type_of site) inputs) (inputs_of callee) in
       let is = where_holds (is_function callee.kind && shape) (option_map scalar callee.result) ty found.2 in
-      let fitting : shape ≡ true = and_right (is_function callee.kind) shape is.0 in
+      let fitting : shape ≡ true = and_second (is_function callee.kind) shape is.0 in
       rw (fold-roll-Expr, fold-roll-ExprKind)
-      (exprs_named inputs (inputs_of callee) each (and_right (nat_eq callee.outputs 0) (types_match (map (type_of site) inputs) (inputs_of callee)) fitting))
+      (exprs_named inputs (inputs_of callee) each (and_second (nat_eq callee.outputs 0) (types_match (map (type_of site) inputs) (inputs_of callee)) fitting))
 
   index_typed : (index t : Option Ty) (c : Ty) → where_whole index t ≡ Some c → (ty : Ty) × (index ≡ Some ty)
   index_typed None t c h = absurd (cc)
@@ -134,7 +114,7 @@ module _ (site : TypingContext) (function : is_activity site.kind ≡ false) (co
   parts_named [] a b each typed = refl
   parts_named (part ∷ rest) a b each typed =
       let found = some_found (after_parts (map (type_of_part site) rest)) (type_of_part site part a) b typed in
-      both_true (copied_in_part copied part) (all_of (map (copied_in_part copied) rest))
+      and_from (copied_in_part copied part) (all_of (map (copied_in_part copied) rest))
       (part_named part a found.0 (All-head OfPart part rest each) found.1)
       (parts_named rest found.0 b (All-tail OfPart part rest each) found.2)
 

@@ -4,6 +4,8 @@ use Rattle.std.proofs.Common.{ap, ◌∙◌, subst, IfSome}
 use Rattle.std.proofs.lemmas.List.Elements.{All-cons, All-nil}
 use Rattle.std.proofs.lemmas.Option.{same_Some}
 use Rattle.std.specs.Prelude.{All, is_some, option_and_then, option_map, slice_get, if◌then◌else◌}
+use Rattle.std.proofs.lemmas.Bool.{and_from}
+use Rattle.bl_tree.proofs.Basics.{and_first, and_second}
 use Rattle.bl_tree.specs.declared.place.Place.{Place}
 use Rattle.bl_tree.specs.declared.scalar.Scalar.{Scalar as ScalarType}
 use Rattle.bl_tree.specs.declared.tree.Arm.{Arm}
@@ -35,7 +37,7 @@ use Rattle.bl_eval.specs.Values.{value_fits}
 use Rattle.bl_eval.proofs.ActFits.{AllFit, act_fits, same_found}
 use Rattle.bl_eval.proofs.ExprFits.{Sound, expr_fits, spot_fits}
 use Rattle.bl_eval.proofs.OperatorFits.{DatumFits, scalar_alone}
-use Rattle.bl_eval.proofs.PassLemmas.{and_left, and_right, pass_at}
+use Rattle.bl_eval.proofs.PassLemmas.{pass_at}
 use Rattle.bl_eval.proofs.UnitFits.{sound_at}
 use Rattle.bl_ctext_semantics.specs.Course.{Outcome}
 use Rattle.bl_ctext_semantics.specs.Memory.{CValue, Memory, scalar_number}
@@ -56,7 +58,7 @@ use Rattle.bl_emit_functions_laws_simulation.proofs.OnBodies.Bodies.{body_good}
 use Rattle.bl_emit_functions_laws_simulation.proofs.OnBodies.Courses.{EndsAt, truth_c}
 use Rattle.bl_emit_functions_laws_simulation.proofs.OnBodies.Itself.{itself_kept}
 use Rattle.bl_emit_functions_laws_simulation.proofs.OnBodies.Memories.{fewer, flag_kept, kept_set, no_copy, onward, same, stand_set}
-use Rattle.bl_emit_functions_laws_simulation.proofs.OnBodies.NoPrev.{both_true, expr_named, exprs_named, path_named, paths_named}
+use Rattle.bl_emit_functions_laws_simulation.proofs.OnBodies.NoPrev.{expr_named, exprs_named, path_named, paths_named}
 
 -- a condition is of a scalar type
 truth_typed : (typed : Option Ty) → is_truth typed ≡ true → (ty : Ty) × (typed ≡ Some ty) × ((s : ScalarType) × (scalar_in ty ≡ Some s))
@@ -186,7 +188,7 @@ module _ (structs : List StructDef) (units : List UnitDef) (entry : ℕ) (k : �
   declared_named j (Some e) None fitted = absurd (cc)
   declared_named j (Some e) (Some var) fitted =
       let found = same_found (Some var.ty) (type_of site e)
-      (and_right (is_variable var.role || is_fixed var.role) (are_same (Some var.ty) (type_of site e)) fitted) in
+      (and_second (is_variable var.role || is_fixed var.role) (are_same (Some var.ty) (type_of site e)) fitted) in
       expr_named site runs.is_function copied e found.0 found.2
 
   abbrev Named : Expr → Type 0
@@ -196,9 +198,9 @@ module _ (structs : List StructDef) (units : List UnitDef) (entry : ℕ) (k : �
       copied_in_layer {A = StmtKind} {B = Arm} {C = Branch} {D = Stmt} copied (StmtKind-F.Call 0 inputs outputs) ≡ true
   called_named inputs outputs None fitted = absurd (cc)
   called_named inputs outputs (Some callee) fitted =
-      let fitting : arguments_fit site inputs outputs callee ≡ true = and_right (is_procedure callee) (arguments_fit site inputs outputs callee) fitted in
-      both_true _ _ (exprs_named site runs.is_function copied inputs (inputs_of callee) (every inputs) (and_left _ _ fitting))
-      (paths_named site runs.is_function copied outputs (outputs_of callee) (path_named site runs.is_function copied) (and_left _ _ (and_right _ _ fitting)))
+      let fitting : arguments_fit site inputs outputs callee ≡ true = and_second (is_procedure callee) (arguments_fit site inputs outputs callee) fitted in
+      and_from _ _ (exprs_named site runs.is_function copied inputs (inputs_of callee) (every inputs) (and_first _ _ fitting))
+      (paths_named site runs.is_function copied outputs (outputs_of callee) (path_named site runs.is_function copied) (and_first _ _ (and_second _ _ fitting)))
     where
       every : (inputs : List Expr) → All Named inputs
       every [] = All-nil Named
@@ -216,7 +218,7 @@ module _ (structs : List StructDef) (units : List UnitDef) (entry : ℕ) (k : �
         AtOf n here (does sees (stmt place (StmtKind-F.Assign path e)) now) (block_c (assigned_code site path e) scope here)
     assign_at path e fitted =
         by (same_found (type_of_path site path) (type_of site e)
-        (and_right (is_assignable site path) (are_same (type_of_path site path) (type_of site e)) (rw (fold-roll-Stmt, fold-roll-StmtKind) at fitted)))
+        (and_second (is_assignable site path) (are_same (type_of_path site path) (type_of site e)) (rw (fold-roll-Stmt, fold-roll-StmtKind) at fitted)))
         (sets_itself path e) refl
       where
         by : ((ty : Ty) × (type_of_path site path ≡ Some ty) × (type_of site e ≡ Some ty)) → (itself : Bool) → sets_itself path e ≡ itself →
@@ -225,7 +227,7 @@ module _ (structs : List StructDef) (units : List UnitDef) (entry : ℕ) (k : �
         by typed false itself =
             rw (fold-roll-Stmt, fold-roll-StmtKind)
             (act_at place (StmtKind-F.Assign path e) refl fitted
-            (both_true _ _ (path_named site runs.is_function copied path typed.0 typed.1) (expr_named site runs.is_function copied e typed.0 typed.2))
+            (and_from _ _ (path_named site runs.is_function copied path typed.0 typed.1) (expr_named site runs.is_function copied e typed.0 typed.2))
             refl now here n
             stand)
         by typed true itself =

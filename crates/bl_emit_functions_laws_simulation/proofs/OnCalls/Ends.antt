@@ -1,28 +1,8 @@
 -- A function with a result gives one wherever it ends, and one without gives none.
-use Rattle.std.proofs.Common.{
-  ◌≡◌,
-  ℕ,
-  suc,
-  zero,
-  Bool,
-  true,
-  false,
-  ◌&&◌,
-  List,
-  [],
-  ◌∷◌,
-  map,
-  Option,
-  Some,
-  None,
-  refl,
-  sym,
-  ◌∙◌,
-  subst,
-  IfSome,
-}
+use Rattle.std.proofs.Common.{◌≡◌, ℕ, suc, zero, Bool, true, false, ◌&&◌, List, [], ◌∷◌, map, Option, Some, None, refl, sym, ◌∙◌, subst, IfSome}
 use Rattle.std.proofs.lemmas.List.Elements.{All-head, All-tail}
 use Rattle.std.specs.Prelude.{option_and_then, option_map, if◌then◌else◌}
+use Rattle.bl_tree.proofs.Basics.{and_first, and_second}
 use Rattle.bl_tree.specs.declared.scalar.Scalar.{Scalar as ScalarType}
 use Rattle.bl_tree.specs.declared.tree.Arm.{Arm, fold-Arm, fold_out-Arm, out-Arm}
 use Rattle.bl_tree.specs.declared.tree.Expr.{Expr}
@@ -38,7 +18,6 @@ use Rattle.bl_eval.specs.Changes.{choice_of}
 use Rattle.bl_eval.specs.Functions.{Flow, GuardedBlock, StmtMeaning, condition, does, first_true_choice, flow_then, in_order, looped, most_turns, own, returned}
 use Rattle.bl_eval.specs.Meaning.{Scope, meaning_of}
 use Rattle.bl_eval.proofs.MeaningLemmas.{choice_out}
-use Rattle.bl_eval.proofs.PassLemmas.{and_left, and_right}
 use Rattle.bl_emit_functions_laws_simulation.specs.Calls.{ResultGiven}
 
 -- an end: what surely returns does not go on, and a result is given where there is one
@@ -130,11 +109,11 @@ module _ (site : TypingContext) (scope : Scope) where
   block_ends [] each fitted now = refl
   block_ends (s ∷ []) each fitted now =
       after_first site.result (surely_returns s) (does scope s now) (in_order []) (surely_returns s)
-      (All-head S s [] each (and_left (fits site s) true fitted) now) (λ new is. is)
+      (All-head S s [] each (and_first (fits site s) true fitted) now) (λ new is. is)
   block_ends (s ∷ t ∷ body) each fitted now =
       after_first site.result (last_of (map surely_returns (t ∷ body))) (does scope s now) (in_order (map (does scope) (t ∷ body))) (surely_returns s)
-      (All-head S s (t ∷ body) each (and_left (fits site s) (all_of (map (fits site) (t ∷ body))) fitted) now)
-      (λ new is. block_ends (t ∷ body) (All-tail S s (t ∷ body) each) (and_right (fits site s) (all_of (map (fits site) (t ∷ body))) fitted) new)
+      (All-head S s (t ∷ body) each (and_first (fits site s) (all_of (map (fits site) (t ∷ body))) fitted) now)
+      (λ new is. block_ends (t ∷ body) (All-tail S s (t ∷ body) each) (and_second (fits site s) (all_of (map (fits site) (t ∷ body))) fitted) new)
 
   abbrev arm_fitted : Arm → Bool
   arm_fitted = fold-Arm Bool Bool Bool Bool (kind_fits site) (arm_fits site) branch_fits stmt_fits
@@ -150,7 +129,7 @@ module _ (site : TypingContext) (scope : Scope) where
       subst (λ sure. So sure (choice_of scope arm).body) (sym (fold_out-Arm Bool Bool Bool Bool kind_returns arm_returns branch_returns stmt_returns arm))
       (subst (λ (choice : GuardedBlock). So (last_of (map surely_returns (out-Arm arm).body)) choice.body) (sym (choice_out scope arm))
       (block_ends (out-Arm arm).body each
-      (and_right (is_truth (type_of site (out-Arm arm).test)) (all_of (map (fits site) (out-Arm arm).body))
+      (and_second (is_truth (type_of site (out-Arm arm).test)) (all_of (map (fits site) (out-Arm arm).body))
       (sym (fold_out-Arm Bool Bool Bool Bool (kind_fits site) (arm_fits site) branch_fits stmt_fits arm) ∙ fitted))))
 
   arms_end : (arms : List Arm) (other : StmtMeaning) (last : Bool) → EachArm S arms → all_of (map arm_fitted arms) ≡ true → So last other
@@ -161,8 +140,8 @@ module _ (site : TypingContext) (scope : Scope) where
       choice_by site.result ((arm_sure arm && rest) && last) (arm_sure arm) (rest && last) ((choice_of scope arm).test now) (choice_of scope arm).body
       (first_true_choice (map (choice_of scope) arms) other) now
       (λ is. no_left (arm_sure arm && rest) last (no_left (arm_sure arm) rest is)) (no_middle (arm_sure arm) rest last)
-      (arm_ends arm (All-head OfArm arm arms each) (and_left (arm_fitted arm) (all_of (map arm_fitted arms)) fitted))
-      (arms_end arms other last (All-tail OfArm arm arms each) (and_right (arm_fitted arm) (all_of (map arm_fitted arms)) fitted) h)
+      (arm_ends arm (All-head OfArm arm arms each) (and_first (arm_fitted arm) (all_of (map arm_fitted arms)) fitted))
+      (arms_end arms other last (All-tail OfArm arm arms each) (and_second (arm_fitted arm) (all_of (map arm_fitted arms)) fitted) h)
 
   on_ends : (made : Option (List Value)) → IfSome (option_map Flow.On made) (OneEnd false)
   on_ends None = tt
@@ -193,21 +172,21 @@ module _ (site : TypingContext) (scope : Scope) where
     await = λ place e fitted now. rw (fold-roll-Stmt, fold-roll-StmtKind) tt;
     run = λ place target a inputs outputs fitted now. rw (fold-roll-Stmt, fold-roll-StmtKind) tt;
     branching = λ place arms other each others fitted now.
-        let both = and_right (is_inhabited (map arm_fitted arms)) (all_of (map arm_fitted arms) && all_of (map (fits site) other))
+        let both = and_second (is_inhabited (map arm_fitted arms)) (all_of (map arm_fitted arms) && all_of (map (fits site) other))
         (rw (fold-roll-Stmt, fold-roll-StmtKind) at fitted) in
         rw (fold-roll-Stmt, fold-roll-StmtKind, fold-roll-Stmt, fold-roll-StmtKind)
         (arms_end arms (in_order (map (does scope) other)) (last_of (map surely_returns other)) each
-        (and_left (all_of (map arm_fitted arms)) (all_of (map (fits site) other)) both)
-        (block_ends other others (and_right (all_of (map arm_fitted arms)) (all_of (map (fits site) other)) both)) now);
+        (and_first (all_of (map arm_fitted arms)) (all_of (map (fits site) other)) both)
+        (block_ends other others (and_second (all_of (map arm_fitted arms)) (all_of (map (fits site) other)) both)) now);
     cobegin = λ place branches each fitted now. rw (fold-roll-Stmt, fold-roll-StmtKind) tt;
     guarded = λ place guard e body each fitted now. rw (fold-roll-Stmt, fold-roll-StmtKind) tt;
     repeat = λ place body each fitted now. rw (fold-roll-Stmt, fold-roll-StmtKind, fold-roll-Stmt, fold-roll-StmtKind)
         (loop_so None None body each (rw (fold-roll-Stmt, fold-roll-StmtKind) at fitted) now);
     until = λ place body e each fitted now. rw (fold-roll-Stmt, fold-roll-StmtKind, fold-roll-Stmt, fold-roll-StmtKind)
-        (loop_so None (Some e) body each (and_left (all_of (map (fits site) body)) (is_truth (type_of site e))
+        (loop_so None (Some e) body each (and_first (all_of (map (fits site) body)) (is_truth (type_of site e))
         (rw (fold-roll-Stmt, fold-roll-StmtKind) at fitted)) now);
     while = λ place e body each fitted now. rw (fold-roll-Stmt, fold-roll-StmtKind, fold-roll-Stmt, fold-roll-StmtKind)
-        (loop_so (Some e) None body each (and_right (is_truth (type_of site e)) (all_of (map (fits site) body))
+        (loop_so (Some e) None body each (and_second (is_truth (type_of site e)) (all_of (map (fits site) body))
         (rw (fold-roll-Stmt, fold-roll-StmtKind) at fitted)) now);
     returns = λ place e fitted now. rw (fold-roll-Stmt, fold-roll-StmtKind, fold-roll-Stmt, fold-roll-StmtKind)
         (result_ends e site.result now (rw (fold-roll-Stmt, fold-roll-StmtKind) at fitted));

@@ -6,6 +6,8 @@ use Rattle.std.proofs.lemmas.List.{append-nil}
 use Rattle.std.proofs.lemmas.Option.{same_Some}
 use Rattle.std.specs.Prelude.{codes, is_none, is_some, nat_eq, nat_le, nat_lt, option_and_then, slice_get, unwrap_or}
 use Rattle.std.specs.List.{list_all}
+use Rattle.std.proofs.lemmas.Bool.{not-true}
+use Rattle.bl_tree.proofs.Basics.{and_second, get_in_front, get_taken, true_not_false}
 use Rattle.bl_tree.specs.declared.c.CFunc.{CFunc}
 use Rattle.bl_tree.specs.declared.tree.Role.{Role}
 use Rattle.bl_tree.specs.declared.tree.Role.TheVariants.{Input, Output, Variable, Fixed}
@@ -20,7 +22,6 @@ use Rattle.bl_tree.specs.Types.{scalar_in}
 use Rattle.bl_tree.specs.Typing.{TypingContext, inputs_of, is_activity, is_fixed, is_function, is_variable, outputs_of, site_of, var_at}
 use Rattle.bl_eval.specs.Functions.{frame_of}
 use Rattle.bl_eval.specs.Values.{number_at as number_level, number_in, parts_at, value_at as value_within, zero_of}
-use Rattle.bl_eval.proofs.PassLemmas.{and_right, get_front, get_take}
 use Rattle.bl_ctext_semantics.specs.Meaning.{ArgumentValue, Meaning, Scope, by_address, by_value}
 use Rattle.bl_ctext_semantics.specs.Memory.{CValue, Location, Memory, Projection, member, value_at, variable, without_frame}
 use Rattle.bl_ctext_semantics.specs.Memory as memory
@@ -39,24 +40,12 @@ use Rattle.bl_emit_functions_laws_simulation.proofs.OnCalls.Lists.{made_behind, 
 use Rattle.bl_emit_functions_laws_simulation.proofs.OnCalls.Locals.{begun_zero, behind_zero, parameter_role, parameters_many, parameters_within}
 use Rattle.bl_emit_functions_laws_simulation.proofs.OnCalls.Params.{pointer_given, value_given}
 use Rattle.bl_emit_functions_laws_simulation.proofs.OnCalls.Standing.{roles, stands_at}
-use Rattle.bl_emit_functions_laws_simulation.proofs.OnCalls.Zeros.{zero_holds}
-
-no_such : true ≡ false → ⊥
-no_such h = cc
-
-not_false : (b : Bool) → not b ≡ true → b ≡ false
-not_false true h = absurd (cc)
-not_false false h = refl
-
--- the same value in other words
-pub holds_same : (structs : List StructDef) (ty : Ty) (value : Value) (held other : CValue) → ((way : List Projection) → held way ≡ other way) →
-    Encodes structs ty value held → Encodes structs ty value other
-holds_same structs ty value held other same holds = record {
-  each = λ ks n is. sym (same (way_to structs ks (Some ty))) ∙ holds.each ks n is;
-}
+use Rattle.bl_emit_acts_laws_simulation.proofs.Parts.{holds_same}
+use Rattle.bl_emit_acts_laws_simulation.proofs.Zeros.{zero_holds}
+use Rattle.bl_emit_acts_laws_simulation.proofs.Acts.{declared_open_by}
 
 -- a value that is a number is held where that number is
-number_alone : (structs : List StructDef) (ty : Ty) (value : Value) (held : CValue) → number_in value ≡ Some (memory.scalar_number held) →
+pub number_alone : (structs : List StructDef) (ty : Ty) (value : Value) (held : CValue) → number_in value ≡ Some (memory.scalar_number held) →
     Encodes structs ty value held
 number_alone structs ty value held is = record { each = each }
   where
@@ -108,17 +97,11 @@ place_lent alone Output scalar copies parameter pointer isnt = refl
 place_lent alone Variable scalar copies parameter pointer isnt = absurd (cc)
 place_lent alone Fixed scalar copies parameter pointer isnt = absurd (cc)
 
-declared_no_input : (role : Role) → (is_variable role || is_fixed role) ≡ true → is_input role ≡ false
-declared_no_input Input h = absurd (cc)
-declared_no_input Output h = absurd (cc)
-declared_no_input Variable h = refl
-declared_no_input Fixed h = refl
-
-none_not : {A : Type 0} (o : Option A) → is_none o ≡ not (is_some o)
+pub none_not : {A : Type 0} (o : Option A) → is_none o ≡ not (is_some o)
 none_not None = refl
 none_not (Some x) = refl
 
-output_of : (role : Role) → (is_input role || is_output role) ≡ true → is_input role ≡ false → is_output role ≡ true
+pub output_of : (role : Role) → (is_input role || is_output role) ≡ true → is_input role ≡ false → is_output role ≡ true
 output_of Input h isnt = absurd (cc)
 output_of Output h isnt = refl
 output_of Variable h isnt = absurd (cc)
@@ -143,7 +126,7 @@ module _ (structs : List StructDef) (earlier : List UnitDef) (unit : UnitDef) (s
   n = unit.inputs + unit.outputs
 
   no_activity : is_activity unit.kind ≡ false
-  no_activity = not_false (is_activity unit.kind) function
+  no_activity = not-true (is_activity unit.kind) function
 
   within : n ≤ length unit.vars
   within = parameters_within structs earlier unit standing
@@ -159,7 +142,7 @@ module _ (structs : List StructDef) (earlier : List UnitDef) (unit : UnitDef) (s
   home_is j var there = ap (home_of site) there
 
   parameter_at : (j : ℕ) (var : Var) → var_at site j ≡ Some var → j < n → slice_get (parameters_of unit) j ≡ Some var
-  parameter_at j var there less = get_take unit.vars n j less ∙ there
+  parameter_at j var there less = get_taken unit.vars n j less ∙ there
 
   abbrev At : ℕ → Var → Type 0
   At = Where site depth here values passed n
@@ -187,7 +170,7 @@ module _ (structs : List StructDef) (earlier : List UnitDef) (unit : UnitDef) (s
       let inputs : Bool = list_all (λ (var : Var). is_input var.role) (inputs_of unit) in
       let outputs : Bool = list_all (λ (var : Var). is_output var.role) (outputs_of unit) in
       let locals : Bool = list_all (λ (var : Var). is_variable var.role || is_fixed var.role) (locals_of unit) in
-      and_right outputs locals (and_right inputs (outputs && locals) (and_right (nat_le n (length unit.vars)) (inputs && (outputs && locals)) standing))
+      and_second outputs locals (and_second inputs (outputs && locals) (and_second (nat_le n (length unit.vars)) (inputs && (outputs && locals)) standing))
 
   pub where_is : (j : ℕ) (var : Var) → var_at site j ≡ Some var → At j var
   where_is j var there = by (nat_lt j n) refl
@@ -201,7 +184,7 @@ module _ (structs : List StructDef) (earlier : List UnitDef) (unit : UnitDef) (s
           let more : n ≤ j = ltb-false j n is in
           let declared : (is_variable var.role || is_fixed var.role) ≡ true =
           rest_all (λ (var : Var). is_variable var.role || is_fixed var.role) n unit.vars j var all_locals there more in
-          Where.local (is_alone site var.ty) more (declared_no_input var.role declared)
+          Where.local (is_alone site var.ty) more (declared_open_by var.role declared)
           (home_is j var there ∙ declared_home (is_alone site var.ty) var.role (is_some (scalar_in var.ty)) (copies_inputs site) declared)
 
   -- ---- pointers
@@ -236,10 +219,10 @@ module _ (structs : List StructDef) (earlier : List UnitDef) (unit : UnitDef) (s
   pointers = record {
     few = few;
     lent_older = λ j var there is. lent_older j var is (where_is j var there);
-    held_older = λ k var there held activity. absurd (no_such (sym activity ∙ no_activity));
+    held_older = λ k var there held activity. absurd (true_not_false (sym activity ∙ no_activity));
     lent_apart = λ i j a b there other is at writable differ.
         lent_apart i j a b there is at writable differ (where_is i a there) (where_is j b other);
-    held_apart = λ activity. absurd (no_such (sym activity ∙ no_activity));
+    held_apart = λ activity. absurd (true_not_false (sym activity ∙ no_activity));
   }
 
   -- ---- variables
@@ -264,7 +247,7 @@ module _ (structs : List StructDef) (earlier : List UnitDef) (unit : UnitDef) (s
   frame_value : (j : ℕ) (value known : Value) → slice_get values j ≡ Some known → slice_get
       (frame_of structs unit values) j ≡ Some value → known ≡ value
   frame_value j value known is at =
-      same_Some known value (sym (get_front values (map (λ (var : Var). zero_of structs var.ty) (locals_of unit)) j known is) ∙ at)
+      same_Some known value (sym (get_in_front values (map (λ (var : Var). zero_of structs var.ty) (locals_of unit)) j known is) ∙ at)
 
   -- a variable that the body declares is 0, in the struct of variables or by itself
   declared_zero : (j : ℕ) (var : Var) → var_at site j ≡ Some var → n ≤ j → (alone : Bool) (way : List Projection) →
@@ -306,10 +289,10 @@ module _ (structs : List StructDef) (earlier : List UnitDef) (unit : UnitDef) (s
   input_there : (j : ℕ) (var : Var) (value : Value) → slice_get (frame_of structs unit values) j ≡ Some value → is_copied_input site j var ≡ true →
       At j var → (is_older depth (lent_at scope site.vars j).root ≡ true) × Encodes structs var.ty value (value_at begun (lent_at scope site.vars j))
   input_there j var value at is (Where.number held mine p v m less given role) =
-      absurd (let held = held_home (home_at site j) (and_right (is_input var.role) (is_held (home_at site j)) is) in
+      absurd (let held = held_home (home_at site j) (and_second (is_input var.role) (is_held (home_at site j)) is) in
       let isnt = sym given ∙ held in cc)
   input_there j var value at is (Where.local alone more role declared) =
-      absurd (no_such (sym (and_first (is_input var.role) (is_held (home_at site j)) is) ∙ role))
+      absurd (true_not_false (sym (and_first (is_input var.role) (is_held (home_at site j)) is) ∙ role))
   input_there j var value at is (Where.place to mine p v older holds less given lent role) = (
     ap (λ (l : Location). is_older depth l.root) (leads j to less p) ∙ older,
     subst (λ (l : Location). Encodes structs var.ty value (value_at begun l)) (sym (leads j to less p))

@@ -7,6 +7,7 @@ use Rattle.std.proofs.lemmas.List.{length-take}
 use Rattle.std.proofs.lemmas.Option.{same_Some, slice_get_within}
 use Rattle.std.specs.Prelude.{is_none, is_some, nat_eq, slice_get}
 use Rattle.std.specs.List.{list_all}
+use Rattle.bl_tree.proofs.Basics.{and_first, and_second, get_in_front, is_none_of, or_true, true_not_false}
 use Rattle.bl_tree.specs.declared.tree.Role.{Role}
 use Rattle.bl_tree.specs.declared.tree.Role.TheVariants.{Input, Output, Variable, Fixed}
 use Rattle.bl_tree.specs.declared.tree.StructDef.{StructDef}
@@ -16,7 +17,6 @@ use Rattle.bl_tree.specs.declared.value.Value.{Value}
 use Rattle.bl_tree.specs.Program.{is_input, is_output, parameters_of, roles_stand}
 use Rattle.bl_tree.specs.Types.{scalar_in}
 use Rattle.bl_tree.specs.Typing.{inputs_of, outputs_of}
-use Rattle.bl_eval.proofs.PassLemmas.{and_left, and_right, get_front}
 use Rattle.bl_ctext_semantics.specs.Meaning.{ArgumentValue, by_address, by_value}
 use Rattle.bl_ctext_semantics.specs.Memory.{Location, Memory, Root, input_object, output_object, state_object, variable}
 use Rattle.bl_emit_acts_laws_simulation.specs.Acts.{MayPass, OutputsEncoded, all_apart, place_in_arg, places_in_args}
@@ -24,12 +24,9 @@ use Rattle.bl_emit_acts_laws_simulation.specs.Frames.{is_older}
 use Rattle.bl_emit_acts_laws_simulation.specs.Encodes.{are_apart, is_live}
 use Rattle.bl_emit_acts_laws_simulation.specs.Simulation.{ArgumentEncoded, ArgumentsEncoded}
 use Rattle.bl_emit_functions_laws_simulation.specs.Calls.{ArgFor, Handed, HandedOver, HandsOver}
-use Rattle.bl_emit_functions_laws_simulation.proofs.OnCalls.Apart.{apart_flip}
 use Rattle.bl_emit_functions_laws_simulation.proofs.OnCalls.Lists.{all_at}
 use Rattle.bl_emit_functions_laws_simulation.proofs.OnCalls.Standing.{roles, stands_at}
-
-no_such : true ≡ false → ⊥
-no_such h = cc
+use Rattle.bl_emit_acts_laws_simulation.proofs.Cells.{apart_flip}
 
 -- ---- lists
 
@@ -47,18 +44,18 @@ get_behind (x ∷ xs) ys zero j i is at = absurd (omega (arith, is))
 get_behind (x ∷ xs) ys (suc n) j zero is at = absurd (omega (arith, at))
 get_behind (x ∷ xs) ys (suc n) j (suc i) is at = get_behind xs ys n j i (omega (arith, is)) (omega (arith, at))
 
-length_both : {A : Type 0} (xs ys : List A) → length (xs ++ ys) ≡ length xs + length ys
+pub length_both : {A : Type 0} (xs ys : List A) → length (xs ++ ys) ≡ length xs + length ys
 length_both [] ys = omega arith
 length_both (x ∷ xs) ys = let more : length (xs ++ ys) ≡ length xs + length ys = length_both xs ys in omega (arith, more)
 
-all_front : {A : Type 0} (test : A → Bool) (xs ys : List A) → list_all test (xs ++ ys) ≡ true
+pub all_front : {A : Type 0} (test : A → Bool) (xs ys : List A) → list_all test (xs ++ ys) ≡ true
     → (list_all test xs ≡ true) × (list_all test ys ≡ true)
 all_front test [] ys h = (refl, h)
 all_front test (x ∷ xs) ys h =
-    let rest = all_front test xs ys (and_right (test x) (list_all test (xs ++ ys)) h) in
-    (ap (λ b. b && list_all test xs) (and_left (test x) (list_all test (xs ++ ys)) h) ∙ rest.0, rest.1)
+    let rest = all_front test xs ys (and_second (test x) (list_all test (xs ++ ys)) h) in
+    (ap (λ b. b && list_all test xs) (and_first (test x) (list_all test (xs ++ ys)) h) ∙ rest.0, rest.1)
 
-live_older : (depth : ℕ) (root : Root) → is_live depth root ≡ true → is_older (depth + 1) root ≡ true
+pub live_older : (depth : ℕ) (root : Root) → is_live depth root ≡ true → is_older (depth + 1) root ≡ true
 live_older depth state_object h = refl
 live_older depth input_object h = refl
 live_older depth output_object h = refl
@@ -75,14 +72,6 @@ some_there : {A : Type 0} (o : Option A) (x : A) → o ≡ Some x → is_some o 
 some_there None x h = absurd (cc)
 some_there (Some y) x h = refl
 
-none_there : {A : Type 0} (o : Option A) → o ≡ None → is_none o ≡ true
-none_there None h = refl
-none_there (Some y) h = absurd (cc)
-
-or_true : (b : Bool) → (b || true) ≡ true
-or_true true = refl
-or_true false = refl
-
 -- ---- inputs and outputs
 
 module _ (structs : List StructDef) (depth : ℕ) (here : Memory) where
@@ -93,7 +82,7 @@ module _ (structs : List StructDef) (depth : ℕ) (here : Memory) where
       ArgFor structs (depth + 1) here var value arg
   input_for var value (by_value held) role h = (input_alone var.role role, some_there (scalar_in var.ty) h.0 h.1, h.2)
   input_for var value (by_address place) role h = (
-    ap (λ b. is_output var.role || b) (none_there (scalar_in var.ty) h.0) ∙ or_true (is_output var.role),
+    ap (λ b. is_output var.role || b) (is_none_of (scalar_in var.ty) h.0) ∙ or_true (is_output var.role),
     live_older depth place.root h.1,
     h.2,
   )
@@ -106,9 +95,9 @@ module _ (structs : List StructDef) (depth : ℕ) (here : Memory) where
   input_at (v ∷ vars) (value ∷ values) [] j var holds role there = absurd holds
   input_at (v ∷ vars) (value ∷ values) (arg ∷ passed) zero var holds role there =
       subst (At (value ∷ values) (arg ∷ passed) 0) (same_Some v var there)
-      (record { arg = arg; value = value; is_passed = refl; is_value = refl; fits = input_for v value arg (and_left _ _ role) holds.0 })
+      (record { arg = arg; value = value; is_passed = refl; is_value = refl; fits = input_for v value arg (and_first _ _ role) holds.0 })
   input_at (v ∷ vars) (value ∷ values) (arg ∷ passed) (suc j) var holds role there =
-      let found : At values passed j var = input_at vars values passed j var holds.1 (and_right _ _ role) there in
+      let found : At values passed j var = input_at vars values passed j var holds.1 (and_second _ _ role) there in
       record { arg = found.arg; value = found.value; is_passed = found.is_passed; is_value = found.is_value; fits = found.fits }
 
   output_at : (vars : List Var) (given : List Value) (outputs : List Location) (j : ℕ) (var : Var) → OutputsEncoded structs here vars given outputs →
@@ -124,11 +113,11 @@ module _ (structs : List StructDef) (depth : ℕ) (here : Memory) where
         value = value;
         is_passed = refl;
         is_value = refl;
-        fits = (ap (λ b. b || is_none (scalar_in v.ty)) (and_left _ _ role), live_older depth place.root (and_left _ _ live), holds.0);
+        fits = (ap (λ b. b || is_none (scalar_in v.ty)) (and_first _ _ role), live_older depth place.root (and_first _ _ live), holds.0);
       })
   output_at (v ∷ vars) (value ∷ given) (place ∷ outputs) (suc j) var holds role live there =
       let found : At given (map by_address outputs) j var =
-      output_at vars given outputs j var holds.1 (and_right _ _ role) (and_right _ _ live) there in
+      output_at vars given outputs j var holds.1 (and_second _ _ role) (and_second _ _ live) there in
       record { arg = found.arg; value = found.value; is_passed = found.is_passed; is_value = found.is_value; fits = found.fits }
 
   pub inputs_many : (vars : List Var) (values : List Value) (passed : List ArgumentValue) → ArgumentsEncoded structs depth here vars values passed →
@@ -162,11 +151,11 @@ output_place (q ∷ outputs) zero p h = ap place_of (same_Some (by_address q) (b
     place_of (by_address at) = Some at
 output_place (q ∷ outputs) (suc j) p h = output_place outputs j p h
 
-input_place : (test : Location → Bool) (passed : List ArgumentValue) (j : ℕ) (p : Location) → list_all test (places_in_args passed) ≡ true →
+pub input_place : (test : Location → Bool) (passed : List ArgumentValue) (j : ℕ) (p : Location) → list_all test (places_in_args passed) ≡ true →
     slice_get passed j ≡ Some (by_address p) → test p ≡ true
 input_place test [] j p all h = absurd (cc)
 input_place test (a ∷ passed) zero p all h =
-    and_left (test p) true
+    and_first (test p) true
     (subst (λ arg. list_all test (place_in_arg arg) ≡ true) (same_Some a (by_address p) h)
     (all_front test (place_in_arg a) (places_in_args passed) all).0)
 input_place test (a ∷ passed) (suc j) p all h = input_place test passed j p (all_front test (place_in_arg a) (places_in_args passed) all).1 h
@@ -176,11 +165,11 @@ outputs_apart : (outputs : List Location) (j k : ℕ) (p q : Location) → all_a
 outputs_apart [] j k p q all h i differ = absurd (cc)
 outputs_apart (o ∷ outputs) zero zero p q all h i differ = absurd (differ refl)
 outputs_apart (o ∷ outputs) zero (suc k) p q all h i differ =
-    ap (λ o. are_apart o q) (sym (same_Some o p h)) ∙ all_at (are_apart o) outputs k q (and_left _ _ all) i
+    ap (λ o. are_apart o q) (sym (same_Some o p h)) ∙ all_at (are_apart o) outputs k q (and_first _ _ all) i
 outputs_apart (o ∷ outputs) (suc j) zero p q all h i differ =
-    apart_flip q p (ap (λ o. are_apart o p) (sym (same_Some o q i)) ∙ all_at (are_apart o) outputs j p (and_left _ _ all) h)
+    apart_flip q p (ap (λ o. are_apart o p) (sym (same_Some o q i)) ∙ all_at (are_apart o) outputs j p (and_first _ _ all) h)
 outputs_apart (o ∷ outputs) (suc j) (suc k) p q all h i differ =
-    outputs_apart outputs j k p q (and_right _ _ all) h i (λ same. differ (ap suc same))
+    outputs_apart outputs j k p q (and_second _ _ all) h i (λ same. differ (ap suc same))
 
 -- ---- the whole
 
@@ -200,10 +189,10 @@ module _ (structs : List StructDef) (unit : UnitDef) (standing : roles_stand uni
   parameters_are = take-add unit.inputs unit.outputs unit.vars
 
   all_inputs : list_all (λ (var : Var). is_input var.role) (inputs_of unit) ≡ true
-  all_inputs = and_left _ _ (and_right _ _ standing)
+  all_inputs = and_first _ _ (and_second _ _ standing)
 
   all_outputs : list_all (λ (var : Var). is_output var.role) (outputs_of unit) ≡ true
-  all_outputs = and_left _ _ (and_right _ _ (and_right _ _ standing))
+  all_outputs = and_first _ _ (and_second _ _ (and_second _ _ standing))
 
   each : (k : ℕ) (var : Var) → slice_get (parameters_of unit) k ≡ Some var → Found k var
   each k var there =
@@ -214,8 +203,8 @@ module _ (structs : List StructDef) (unit : UnitDef) (standing : roles_stand uni
       record {
         arg = found.arg;
         value = found.value;
-        is_passed = get_front passed (map by_address outputs) k found.arg found.is_passed;
-        is_value = get_front values given k found.value found.is_value;
+        is_passed = get_in_front passed (map by_address outputs) k found.arg found.is_passed;
+        is_value = get_in_front values given k found.value found.is_value;
         fits = found.fits;
       })
       (λ j is second.
@@ -231,7 +220,7 @@ module _ (structs : List StructDef) (unit : UnitDef) (standing : roles_stand uni
 
   as_many : length (values ++ given) ≡ n
   as_many =
-      let within : n ≤ length unit.vars = leb-true n (length unit.vars) (and_left _ _ standing) in
+      let within : n ≤ length unit.vars = leb-true n (length unit.vars) (and_first _ _ standing) in
       let total : length (parameters_of unit) ≡ n = omega (arith, length-take n unit.vars, within) in
       let both : length (parameters_of unit) ≡ length (inputs_of unit) + length (outputs_of unit) =
       ap (λ (vars : List Var). length vars) parameters_are ∙ length_both (inputs_of unit) (outputs_of unit) in
@@ -249,7 +238,7 @@ module _ (structs : List StructDef) (unit : UnitDef) (standing : roles_stand uni
       let less : j < length passed = slice_get_within passed j (by_address p) inside in
       let as_many : length passed ≡ length (inputs_of unit) = many.1 in
       absurd (in_either ⊥ (inputs_of unit) (outputs_of unit) j var (ap (λ vars. slice_get vars j) (sym parameters_are) ∙ there)
-      (λ input. no_such (sym role ∙ input_alone var.role (all_at (λ (var : Var). is_input var.role) (inputs_of unit) j var all_inputs input)))
+      (λ input. true_not_false (sym role ∙ input_alone var.role (all_at (λ (var : Var). is_input var.role) (inputs_of unit) j var all_inputs input)))
       (λ i is output. omega (arith, less, as_many, is))))
       (λ i is at.
       in_either (are_apart p q ≡ true) passed (map by_address outputs) k (by_address q) second
@@ -258,7 +247,7 @@ module _ (structs : List StructDef) (unit : UnitDef) (standing : roles_stand uni
       (all_at (λ output. list_all (are_apart output) (places_in_args passed)) outputs i p may.inputs_apart (output_place outputs i p at)) inside)
       (λ m other to.
       outputs_apart outputs i m p q may.apart (output_place outputs i p at) (output_place outputs m q to)
-      (λ same. no_such (sym (eq-eqb j k (omega (arith, is, other, same))) ∙ differ))))
+      (λ same. true_not_false (sym (eq-eqb j k (omega (arith, is, other, same))) ∙ differ))))
 
   pub handed_over : HandedOver structs unit (depth + 1) here (values ++ given) (passed ++ map by_address outputs)
   handed_over = record { each = each; as_many = as_many; apart = apart }

@@ -1,43 +1,14 @@
 -- What stays outside of the frame of a call.
 use Rattle.std.proofs.Common.{◌≡◌, ℕ, ◌<◌, arith, Bool, true, false, ◌&&◌, List, [], ◌∷◌, refl, ap, ◌∙◌}
 use Rattle.std.proofs.lemmas.Bool.{eqb-true, ltb-true}
-use Rattle.std.specs.Prelude.{bytes_eq, ◌==◌, if◌then◌else◌}
+use Rattle.std.specs.Prelude.{◌==◌, if◌then◌else◌}
 use Rattle.bl_tree.specs.declared.c.CParam.{CParam}
 use Rattle.bl_ctext_semantics.specs.Meaning.{ArgumentValue, by_address, by_value, with_params}
-use Rattle.bl_ctext_semantics.specs.Memory.{
-  Memory,
-  Projection,
-  Root,
-  in_frame,
-  input_object,
-  output_object,
-  same_root,
-  set_at,
-  state_object,
-  variable,
-  with_part,
-  zeros,
-  without_frame,
-}
+use Rattle.bl_ctext_semantics.specs.Memory.{Memory, Projection, Root, in_frame, input_object, output_object, set_at, state_object, variable}
+use Rattle.bl_ctext_semantics.specs.Memory.{with_part, zeros, without_frame}
 use Rattle.bl_emit_acts_laws_simulation.specs.Frames.{is_older}
 use Rattle.bl_emit_functions_laws_simulation.specs.Calls.{CallsKeepFrame, body_done}
-
-pub no_such : true ≡ false → ⊥
-no_such h = cc
-
--- a variable of the frame at a depth is no older root
-pub older_differs : (depth : ℕ) (name : List ℕ) (root : Root) → is_older depth root ≡ true → same_root (variable depth name) root ≡ false
-older_differs depth name state_object h = refl
-older_differs depth name input_object h = refl
-older_differs depth name output_object h = refl
-older_differs depth name (variable d other) h = by (depth == d) refl
-  where
-    by : (same : Bool) → (depth == d) ≡ same → (same && bytes_eq name other) ≡ false
-    by false is = refl
-    by true is =
-        let less : d < depth = ltb-true d depth h in
-        let equal : depth ≡ d = eqb-true depth d is in
-        absurd (omega arith)
+use Rattle.bl_emit_acts_laws_simulation.proofs.Frames.{older_differs}
 
 older_outside : (depth : ℕ) (root : Root) → is_older depth root ≡ true → in_frame depth root ≡ false
 older_outside depth state_object h = refl

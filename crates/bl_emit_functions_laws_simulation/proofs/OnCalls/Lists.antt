@@ -4,21 +4,21 @@ use Rattle.std.proofs.Common.{take, drop, Some, sym, ap, ◌∙◌}
 use Rattle.std.proofs.lemmas.Option.{same_Some, slice_get-map}
 use Rattle.std.specs.Prelude.{option_map, slice_get}
 use Rattle.std.specs.List.{list_all}
-use Rattle.bl_eval.proofs.PassLemmas.{and_left, and_right}
+use Rattle.bl_tree.proofs.Basics.{and_first, and_second}
 
 module _ {A : Type 0} (test : A → Bool) where
   pub all_at : (xs : List A) (j : ℕ) (x : A) → list_all test xs ≡ true → slice_get xs j ≡ Some x → test x ≡ true
   all_at [] j x all there = absurd (cc)
-  all_at (y ∷ xs) zero x all there = ap test (sym (same_Some y x there)) ∙ and_left (test y) (list_all test xs) all
-  all_at (y ∷ xs) (suc j) x all there = all_at xs j x (and_right (test y) (list_all test xs) all) there
+  all_at (y ∷ xs) zero x all there = ap test (sym (same_Some y x there)) ∙ and_first (test y) (list_all test xs) all
+  all_at (y ∷ xs) (suc j) x all there = all_at xs j x (and_second (test y) (list_all test xs) all) there
 
   pub front_all : (n : ℕ) (xs : List A) (j : ℕ) (x : A) → list_all test (take n xs) ≡ true → slice_get xs j ≡ Some x → j < n → test x ≡ true
   front_all zero xs j x all there less = absurd (omega (arith, less))
   front_all (suc n) [] j x all there less = absurd (cc)
   front_all (suc n) (y ∷ xs) zero x all there less =
-      ap test (sym (same_Some y x there)) ∙ and_left (test y) (list_all test (take n xs)) all
+      ap test (sym (same_Some y x there)) ∙ and_first (test y) (list_all test (take n xs)) all
   front_all (suc n) (y ∷ xs) (suc j) x all there less =
-      front_all n xs j x (and_right (test y) (list_all test (take n xs)) all) there (omega (arith, less))
+      front_all n xs j x (and_second (test y) (list_all test (take n xs)) all) there (omega (arith, less))
 
   pub middle_all : (n m : ℕ) (xs : List A) (j : ℕ) (x : A) → list_all test (take m (drop n xs)) ≡ true → slice_get xs j ≡ Some x → n ≤ j →
       j < n + m → test x ≡ true

@@ -5,6 +5,8 @@ use Rattle.std.proofs.lemmas.List.{length-take}
 use Rattle.std.proofs.lemmas.Option.{slice_get_within}
 use Rattle.std.specs.Prelude.{bytes_eq, is_some, nat_lt, if◌then◌else◌}
 use Rattle.std.specs.List.{list_all}
+use Rattle.std.proofs.lemmas.Bool.{or_left, or_right}
+use Rattle.bl_tree.proofs.Basics.{and_first, and_second}
 use Rattle.bl_tree.specs.declared.tree.Role.{Role}
 use Rattle.bl_tree.specs.declared.tree.Role.TheVariants.{Input, Output, Variable, Fixed}
 use Rattle.bl_tree.specs.declared.tree.StructDef.{StructDef}
@@ -13,7 +15,6 @@ use Rattle.bl_tree.specs.declared.tree.Var.{Var}
 use Rattle.bl_tree.specs.Program.{is_input, is_output, parameters_of, roles_stand}
 use Rattle.bl_tree.specs.Types.{scalar_in}
 use Rattle.bl_tree.specs.Typing.{TypingContext, inputs_of, is_fixed, is_variable, outputs_of, site_of, var_at}
-use Rattle.bl_eval.proofs.PassLemmas.{and_left, and_right}
 use Rattle.bl_ctext_semantics.specs.Meaning.{ArgumentValue}
 use Rattle.bl_ctext_semantics.specs.Memory.{Memory, Projection, variable, without_frame, zeros}
 use Rattle.bl_emit_acts.specs.declared.home.Home.TheVariants.{Local}
@@ -56,14 +57,6 @@ local_parameter site var = by (is_alone site var.ty) var.role (is_some (scalar_i
 
 -- ---- parameters
 
-either_left : (a b : Bool) → a ≡ true → (a || b) ≡ true
-either_left true b h = refl
-either_left false b h = absurd (cc)
-
-either_right : (a b : Bool) → b ≡ true → (a || b) ≡ true
-either_right true b h = refl
-either_right false b h = h
-
 not_both : (role : Role) → (is_input role || is_output role) ≡ true → (is_variable role || is_fixed role) ≡ true → ⊥
 not_both Input parameter declared = cc
 not_both Output parameter declared = cc
@@ -78,16 +71,16 @@ module _ (structs : List StructDef) (earlier : List UnitDef) (unit : UnitDef) (s
   n = unit.inputs + unit.outputs
 
   pub parameters_within : unit.inputs + unit.outputs ≤ length unit.vars
-  parameters_within = leb-true n (length unit.vars) (and_left _ _ standing)
+  parameters_within = leb-true n (length unit.vars) (and_first _ _ standing)
 
   pub parameters_many : length (parameters_of unit) ≡ unit.inputs + unit.outputs
   parameters_many = let within : n ≤ length unit.vars = parameters_within in omega (arith, length-take n unit.vars, within)
 
   all_inputs : list_all (λ (var : Var). is_input var.role) (inputs_of unit) ≡ true
-  all_inputs = and_left _ _ (and_right _ _ standing)
+  all_inputs = and_first _ _ (and_second _ _ standing)
 
   all_outputs : list_all (λ (var : Var). is_output var.role) (outputs_of unit) ≡ true
-  all_outputs = and_left _ _ (and_right _ _ (and_right _ _ standing))
+  all_outputs = and_first _ _ (and_second _ _ (and_second _ _ standing))
 
   -- a parameter is an input or an output
   pub parameter_role : (j : ℕ) (var : Var) → var_at site j ≡ Some var → j < unit.inputs + unit.outputs → (is_input var.role || is_output var.role) ≡ true
@@ -95,10 +88,10 @@ module _ (structs : List StructDef) (earlier : List UnitDef) (unit : UnitDef) (s
     where
       by : (first : Bool) → nat_lt j unit.inputs ≡ first → (is_input var.role || is_output var.role) ≡ true
       by true is =
-          either_left (is_input var.role) (is_output var.role)
+          or_left (is_input var.role) (is_output var.role)
           (front_all (λ (var : Var). is_input var.role) unit.inputs unit.vars j var all_inputs there (ltb-true j unit.inputs is))
       by false is =
-          either_right (is_input var.role) (is_output var.role)
+          or_right (is_input var.role) (is_output var.role)
           (middle_all (λ (var : Var). is_output var.role) unit.inputs unit.outputs unit.vars j var all_outputs there
           (ltb-false j unit.inputs is) less)
 
@@ -137,4 +130,4 @@ module _ (structs : List StructDef) (earlier : List UnitDef) (unit : UnitDef) (s
     pub local_zero : (j : ℕ) (var : Var) → var_at site j ≡ Some var → has_local site var ≡ true → (way : List Projection) →
         begun (variable depth (variable_name unit.vars j)) way ≡ pos 0
     local_zero j var there has =
-        behind_zero j var there (declared_behind j var there (and_right (is_alone site var.ty) (is_variable var.role || is_fixed var.role) has))
+        behind_zero j var there (declared_behind j var there (and_second (is_alone site var.ty) (is_variable var.role || is_fixed var.role) has))

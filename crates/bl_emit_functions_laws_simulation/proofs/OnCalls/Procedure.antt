@@ -1,12 +1,13 @@
 -- A call of the C function of a function without a result.
 use Rattle.std.proofs.Common.{◌≡◌, ℕ, zero, suc, ◌+◌, ◌<◌, ◌≤◌, pos, arith, Bool, true, false, not, ◌&&◌, ◌||◌}
 use Rattle.std.proofs.Common.{List, [], ◌∷◌, ◌++◌, length, map, take, drop, Option, Some, None, refl, sym, ap, ◌∙◌, subst}
-use Rattle.std.proofs.lemmas.Bool.{le-leb, leb-true, lt-ltb, ltb-true}
+use Rattle.std.proofs.lemmas.Bool.{leb-true}
 use Rattle.std.proofs.lemmas.List.{append-nil, length-take, take-append-drop}
 use Rattle.std.proofs.lemmas.Option.{same_Some, slice_get-map, slice_get_within}
 use Rattle.std.proofs.Math.Seq.{take-add}
 use Rattle.std.specs.Prelude.{codes, is_some, option_map, slice_get}
 use Rattle.std.specs.List.{list_all, list_any}
+use Rattle.bl_tree.proofs.Basics.{and_false, and_first, and_second, true_not_false}
 use Rattle.bl_tree.specs.declared.c.CFunc.{CFunc}
 use Rattle.bl_tree.specs.declared.c.CStmt.{CStmt}
 use Rattle.bl_tree.specs.declared.scalar.Scalar.{Scalar as ScalarType}
@@ -24,12 +25,12 @@ use Rattle.bl_eval.specs.Functions.{Flow, callee_of, callees_of, does, frame_of,
 use Rattle.bl_eval.specs.Values.{value_fits, values_fit, zero_of}
 use Rattle.bl_eval.proofs.ActFits.{AllFit}
 use Rattle.bl_eval.proofs.FitLemmas.{zero_fits}
-use Rattle.bl_eval.proofs.PassLemmas.{all_drop, and_left, and_right, pass_append, pass_drop, pass_each, pass_take}
+use Rattle.bl_eval.proofs.PassLemmas.{all_drop, pass_append, pass_drop, pass_each, pass_take}
 use Rattle.bl_eval.proofs.UnitFits.{sound_at}
 use Rattle.bl_ctext_semantics.specs.Course.{Outcome, result_at}
 use Rattle.bl_ctext_semantics.specs.Meaning.{ArgumentValue, CallResult, Meaning, Scope, block_c, by_address, function_c, further}
-use Rattle.bl_ctext_semantics.specs.Memory.{Location, Memory, Projection, Root, input_object, left_after, output_object, same_root, state_object}
-use Rattle.bl_ctext_semantics.specs.Memory.{value_at, variable}
+use Rattle.bl_ctext_semantics.specs.Memory.{Location, Memory, Projection, Root, left_after, same_root}
+use Rattle.bl_ctext_semantics.specs.Memory.{value_at}
 use Rattle.bl_ctext_semantics.specs.Tables.{Table}
 use Rattle.bl_emit_acts.specs.declared.home.Home.{Home}
 use Rattle.bl_emit_acts.specs.declared.home.Home.TheVariants.{Held, Local, Lent}
@@ -45,39 +46,21 @@ use Rattle.bl_emit_functions.specs.Trees.{flag_name}
 use Rattle.bl_emit_functions_laws_simulation.specs.Bodies.{FlowSimulates, Represents, Spared, StatementsSimulate, number_back}
 use Rattle.bl_emit_functions_laws_simulation.specs.Calls.{EndsFor, FrameBegun, HandedOver, MayRun, ProceduresSimulate, is_copied_input, memory_begun}
 use Rattle.bl_emit_functions_laws_simulation.specs.Calls.{scope_begun}
-use Rattle.bl_emit_functions_laws_simulation.proofs.OnCalls.Frame.{Where, frame_begun, holds_same, leads, where_is}
+use Rattle.bl_emit_functions_laws_simulation.proofs.OnCalls.Frame.{Where, frame_begun, leads, where_is}
 use Rattle.bl_emit_functions_laws_simulation.proofs.OnCalls.Handing.{get_behind, handed_over, in_either, inputs_many, output_place}
-use Rattle.bl_emit_functions_laws_simulation.proofs.OnCalls.Kept.{keep, older_differs}
+use Rattle.bl_emit_functions_laws_simulation.proofs.OnCalls.Kept.{keep}
 use Rattle.bl_emit_functions_laws_simulation.proofs.OnCalls.Lists.{all_at, front_all}
 use Rattle.bl_emit_functions_laws_simulation.proofs.OnCalls.Locals.{local_zero}
 use Rattle.bl_emit_functions_laws_simulation.proofs.OnCalls.Standing.{body_fits, end_all, roles, stands_at}
 use Rattle.bl_emit_functions_laws_simulation.proofs.OnBodies.Again.{again_alike}
-
-no_such : true ≡ false → ⊥
-no_such h = cc
-
-and_false : (b : Bool) → (b && false) ≡ false
-and_false true = refl
-and_false false = refl
-
--- what is there while a caller runs was there before what it calls began
-pub live_older : (depth : ℕ) (root : Root) → is_live depth root ≡ true → is_older (depth + 1) root ≡ true
-live_older depth state_object h = refl
-live_older depth input_object h = refl
-live_older depth output_object h = refl
-live_older depth (variable d name) h = let less : d ≤ depth = leb-true d depth h in lt-ltb d (depth + 1) (omega (arith, less))
-
--- and the other way round
-pub older_live : (depth : ℕ) (root : Root) → is_older depth root ≡ true → is_live depth root ≡ true
-older_live depth state_object h = refl
-older_live depth input_object h = refl
-older_live depth output_object h = refl
-older_live depth (variable d name) h = let less : d < depth = ltb-true d depth h in le-leb d depth (omega (arith, less))
+use Rattle.bl_emit_acts_laws_simulation.proofs.Frames.{older_differs, older_live}
+use Rattle.bl_emit_acts_laws_simulation.proofs.Parts.{holds_same}
+use Rattle.bl_emit_functions_laws_simulation.proofs.OnCalls.Handing.{live_older}
 
 -- without a result no input is copied
 not_copied : (alone : Bool) (role : Role) (scalar copies : Bool) → copies ≡ false → (is_input role && is_held (home_of_role alone role scalar copies)) ≡ false
 not_copied alone Input true copies h = refl
-not_copied alone Input false true h = absurd (no_such h)
+not_copied alone Input false true h = absurd (true_not_false h)
 not_copied alone Input false false h = refl
 not_copied alone Output scalar copies h = refl
 not_copied alone Variable scalar copies h = refl
@@ -96,10 +79,10 @@ outputs_hold structs m (x ∷ vars) (o ∷ old) values [] here h fit each = absu
 outputs_hold structs m (x ∷ vars) (o ∷ old) [] (p ∷ outputs) here h fit each = absurd (cc)
 outputs_hold structs m (x ∷ vars) (o ∷ old) (v ∷ values) (p ∷ outputs) here h fit each = (
   each 0 x v p refl refl refl,
-  outputs_hold structs m vars old values outputs here h.1 (and_right _ _ fit) (λ j var value place a b c. each (suc j) var value place a b c),
+  outputs_hold structs m vars old values outputs here h.1 (and_second _ _ fit) (λ j var value place a b c. each (suc j) var value place a b c),
 )
 
-taken_index : {A : Type 0} (n : ℕ) (xs : List A) (j : ℕ) (x : A) → slice_get (take n xs) j ≡ Some x → slice_get xs j ≡ Some x
+pub taken_index : {A : Type 0} (n : ℕ) (xs : List A) (j : ℕ) (x : A) → slice_get (take n xs) j ≡ Some x → slice_get xs j ≡ Some x
 taken_index zero xs j x h = absurd (cc)
 taken_index (suc n) [] j x h = absurd (cc)
 taken_index (suc n) (y ∷ xs) zero x h = h
@@ -123,12 +106,12 @@ any_none test [] j x h there = absurd (cc)
 any_none test (y ∷ xs) zero x h there = ap test (sym (same_Some y x there)) ∙ or_first (test y) (list_any test xs) h
   where
     or_first : (a b : Bool) → (a || b) ≡ false → a ≡ false
-    or_first true b h = absurd (no_such h)
+    or_first true b h = absurd (true_not_false h)
     or_first false b h = refl
 any_none test (y ∷ xs) (suc j) x h there = any_none test xs j x (or_second (test y) (list_any test xs) h) there
   where
     or_second : (a b : Bool) → (a || b) ≡ false → b ≡ false
-    or_second true b h = absurd (no_such h)
+    or_second true b h = absurd (true_not_false h)
     or_second false b h = h
 
 module _ (structs : List StructDef) (units : List UnitDef) (entry k : ℕ) (unit : UnitDef) (keeps : IsWellTyped structs units entry)
@@ -216,10 +199,10 @@ module _ (structs : List StructDef) (units : List UnitDef) (entry k : ℕ) (unit
   copies_none j [] h = refl
   copies_none j (var ∷ vars) h =
       ap (λ (first : List CStmt). first ++ copies_from site (j + 1) vars) (one (home_of site (Some var)) refl)
-      ∙ copies_none (j + 1) vars (and_right _ _ h)
+      ∙ copies_none (j + 1) vars (and_second _ _ h)
     where
       one : (home : Home) → home_of site (Some var) ≡ home → input_copied site home j ≡ []
-      one Held is = absurd (no_such (sym (both_true (is_input var.role) (is_held (home_of site (Some var))) (and_left _ _ h) (ap is_held is))
+      one Held is = absurd (true_not_false (sym (both_true (is_input var.role) (is_held (home_of site (Some var))) (and_first _ _ h) (ap is_held is))
           ∙ not_copied (is_alone site var.ty) var.role (is_some (scalar_in var.ty)) (copies_inputs site) no_copies))
         where
           both_true : (a b : Bool) → a ≡ true → b ≡ true → (a && b) ≡ true
@@ -228,10 +211,10 @@ module _ (structs : List StructDef) (units : List UnitDef) (entry k : ℕ) (unit
       one Lent is = refl
 
   all_inputs : list_all (λ (var : Var). is_input var.role) (inputs_of unit) ≡ true
-  all_inputs = and_left _ _ (and_right _ _ (roles structs (take k units) unit (stands_at structs units entry k unit keeps there)))
+  all_inputs = and_first _ _ (and_second _ _ (roles structs (take k units) unit (stands_at structs units entry k unit keeps there)))
 
   all_outputs : list_all (λ (var : Var). is_output var.role) (outputs_of unit) ≡ true
-  all_outputs = and_left _ _ (and_right _ _ (and_right _ _ (roles structs (take k units) unit (stands_at structs units entry k unit keeps there))))
+  all_outputs = and_first _ _ (and_second _ _ (and_second _ _ (roles structs (take k units) unit (stands_at structs units entry k unit keeps there))))
 
   body_is : body_code site unit ≡ (body_coded site unit).code
   body_is =
@@ -252,7 +235,7 @@ module _ (structs : List StructDef) (units : List UnitDef) (entry k : ℕ) (unit
   input_count =
       let within : unit.inputs + unit.outputs ≤ length unit.vars =
       leb-true (unit.inputs + unit.outputs) (length unit.vars)
-      (and_left _ _ (roles structs (take k units) unit (stands_at structs units entry k unit keeps there))) in
+      (and_first _ _ (roles structs (take k units) unit (stands_at structs units entry k unit keeps there))) in
       omega (arith, length-take unit.inputs unit.vars, within)
 
   output_holds : (now : List Value) → Represents site scope now done.memory → (j : ℕ) (var : Var) (value : Value) (place : Location) →
@@ -293,8 +276,8 @@ module _ (structs : List StructDef) (units : List UnitDef) (entry k : ℕ) (unit
       by true home kind is found = absurd (function_kind (is_activity unit.kind) function kind)
         where
           function_kind : (activity : Bool) → not activity ≡ true → activity ≡ true → ⊥
-          function_kind true h i = no_such (sym h)
-          function_kind false h i = no_such (sym i)
+          function_kind true h i = true_not_false (sym h)
+          function_kind false h i = true_not_false (sym i)
       by false Held kind is found =
           ap (λ b. b && is_some (left_after (further (start_in scope false Held site.vars j) (lead_in Held site.vars j ++ [])).parts way))
           (older_differs (depth + 1) (codes "m") root older)
@@ -310,7 +293,7 @@ module _ (structs : List StructDef) (units : List UnitDef) (entry k : ℕ) (unit
           (λ inside.
           let less_in : j < length passed = slice_get_within passed j (by_address at) inside in
           let as_many : length passed ≡ unit.inputs = many ∙ input_count in
-          absurd (no_such (sym (front_all (λ (var : Var). is_input var.role) unit.inputs unit.vars j var all_inputs known_at (omega (arith, less_in, as_many)))
+          absurd (true_not_false (sym (front_all (λ (var : Var). is_input var.role) unit.inputs unit.vars j var all_inputs known_at (omega (arith, less_in, as_many)))
           ∙ writable)))
           (λ i at_is to. any_none (λ place. lies_in place root way) outputs i at outside (output_place outputs i at to)))
 
@@ -331,7 +314,7 @@ module _ (structs : List StructDef) (units : List UnitDef) (entry k : ℕ) (unit
   }
     where
       no_copy : false ≡ true → ⊥
-      no_copy h = no_such (sym h)
+      no_copy h = true_not_false (sym h)
 
   left : (now : List Value) → Represents site scope now done.memory → Spared site scope 0 begun done.memory → result_at done.end ≡ Some (pos 0) →
       (result : Option Datum) →

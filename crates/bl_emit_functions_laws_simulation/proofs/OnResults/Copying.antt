@@ -8,28 +8,16 @@ use Rattle.std.proofs.lemmas.Option.{same_Some, slice_get_within}
 use Rattle.std.proofs.lemmas.Slice.Eq.{bytes_eq-Decides}
 use Rattle.std.specs.Prelude.{bytes_eq, codes, slice_get, ◌==◌, if◌then◌else◌}
 use Rattle.std.specs.List.{list_all}
+use Rattle.std.proofs.lemmas.Bool.{and_from}
+use Rattle.bl_tree.proofs.Basics.{and_first, and_second, true_not_false}
 use Rattle.bl_tree.specs.declared.tree.Var.{Var}
 use Rattle.bl_tree.specs.declared.value.Value.{Value}
 use Rattle.bl_tree.specs.Program.{is_input}
 use Rattle.bl_tree.specs.Typing.{TypingContext, is_activity, var_at}
-use Rattle.bl_eval.proofs.PassLemmas.{and_left, and_right, both}
 use Rattle.bl_ctext_semantics.specs.Course.{Outcome, goes_on}
 use Rattle.bl_ctext_semantics.specs.Meaning.{Scope, block_c, further, location_c, runs_c, value_c}
-use Rattle.bl_ctext_semantics.specs.Memory.{
-  CValue,
-  Location,
-  Memory,
-  Projection,
-  Root,
-  left_after,
-  member,
-  number_or,
-  same_root,
-  set_at,
-  value_at,
-  variable,
-  with_part,
-}
+use Rattle.bl_ctext_semantics.specs.Memory.{CValue, Location, Memory, Projection, Root, left_after, member, number_or, same_root, set_at, value_at, variable}
+use Rattle.bl_ctext_semantics.specs.Memory.{with_part}
 use Rattle.bl_emit_acts.specs.declared.home.Home.{Home}
 use Rattle.bl_emit_acts.specs.declared.home.Home.TheVariants.{Held, Local, Lent}
 use Rattle.bl_emit_acts.specs.Places.{home_of, place_in}
@@ -44,12 +32,9 @@ use Rattle.bl_emit_acts_laws_simulation.proofs.Statements.{Ends, set_after, set_
 use Rattle.bl_emit_acts_laws_simulation.proofs.Values.{read_gives}
 use Rattle.bl_emit_functions.specs.Functions.{c_input_copied, copies_from, input_copied, is_held}
 use Rattle.bl_emit_functions_laws_simulation.specs.Calls.{FrameBegun, is_copied_input}
-use Rattle.bl_emit_functions_laws_simulation.proofs.OnCalls.Frame.{holds_same}
-use Rattle.bl_emit_functions_laws_simulation.proofs.OnCalls.Kept.{older_differs}
-use Rattle.bl_emit_functions_laws_simulation.proofs.OnCalls.Params.{names_differ, own_differ}
-
-no_such : true ≡ false → ⊥
-no_such h = cc
+use Rattle.bl_emit_functions_laws_simulation.proofs.OnCalls.Params.{names_differ}
+use Rattle.bl_emit_acts_laws_simulation.proofs.Frames.{older_differs, own_differ}
+use Rattle.bl_emit_acts_laws_simulation.proofs.Parts.{holds_same}
 
 held_home : (home : Home) → is_held home ≡ true → home ≡ Held
 held_home Held h = refl
@@ -166,7 +151,7 @@ module _ (site : TypingContext) (function : is_activity site.kind ≡ false) (sc
         activity ≡ false → home_at site k ≡ x →
         value_at next_held (further (start_in scope activity x site.vars k) (lead_in x site.vars k ++ [])) way
         ≡ value_at m (further (start_in scope activity x site.vars k) (lead_in x site.vars k ++ [])) way
-    by_home k other known differ way true x none is = absurd (no_such none)
+    by_home k other known differ way true x none is = absurd (true_not_false none)
     by_home k other known differ way false Held none is =
         other_member scope.depth site.vars j m lent k way
         (names_differ site.vars j k (below j var there) (below k other known) (λ same. differ (sym same)))
@@ -195,7 +180,7 @@ module _ (site : TypingContext) (function : is_activity site.kind ≡ false) (sc
 
     module _ (input : is_input var.role ≡ true) (before : Copied j m) where
       copied_here : is_copied_input site j var ≡ true
-      copied_here = both (is_input var.role) (is_held (home_at site j)) input (ap is_held home)
+      copied_here = and_from (is_input var.role) (is_held (home_at site j)) input (ap is_held home)
 
       -- the copy has what the argument has
       copy_holds : (value : Value) → slice_get now j ≡ Some value → Encodes site.structs var.ty value (value_at next (at j))
@@ -210,7 +195,7 @@ module _ (site : TypingContext) (function : is_activity site.kind ≡ false) (sc
       not_here : (k : ℕ) (other : Var) → var_at site k ≡ Some other → is_copied_input site k other ≡ false → k ≡ j → ⊥
       not_here k other known isnt same =
           let equal : other ≡ var = same_Some other var (sym known ∙ (ap (var_at site) same ∙ there)) in
-          no_such (sym copied_here ∙ (ap (λ i. is_copied_input site i var) (sym same) ∙ (ap (is_copied_input site k) (sym equal) ∙ isnt)))
+          true_not_false (sym copied_here ∙ (ap (λ i. is_copied_input site i var) (sym same) ∙ (ap (is_copied_input site k) (sym equal) ∙ isnt)))
 
       one_more : Copied (j + 1) next
       one_more = record {
@@ -234,7 +219,7 @@ module _ (site : TypingContext) (function : is_activity site.kind ≡ false) (sc
               (subst (λ (other : Var). Encodes site.structs other.ty value (value_at next (at j))) (sym equal)
               (copy_holds value (ap (slice_get now) (sym same) ∙ stored)))
           done k other value known stored is less false last =
-              let differ : k ≡ j → ⊥ = λ same. no_such (sym (eq-eqb k j same) ∙ last) in
+              let differ : k ≡ j → ⊥ = λ same. true_not_false (sym (eq-eqb k j same) ∙ last) in
               holds_same site.structs other.ty value (value_at m (at k)) (value_at next (at k)) (λ way. sym (stays k other known differ way))
               (before.done k other value known stored is (omega (arith, less, differ)))
 
@@ -260,9 +245,9 @@ module _ (site : TypingContext) (function : is_activity site.kind ≡ false) (sc
       earlier : (k : ℕ) (other : Var) → is_copied_input site k other ≡ true → k < j + 1 → (last : Bool) → (k == j) ≡ last → k < j
       earlier k other is less true last =
           absurd (isnt (ap (home_at site) (sym (eqb-true k j last))
-          ∙ held_home (home_at site k) (and_right (is_input other.role) (is_held (home_at site k)) is)))
+          ∙ held_home (home_at site k) (and_second (is_input other.role) (is_held (home_at site k)) is)))
       earlier k other is less false last =
-          let differ : k ≡ j → ⊥ = λ same. no_such (sym (eq-eqb k j same) ∙ last) in omega (arith, less, differ)
+          let differ : k ≡ j → ⊥ = λ same. true_not_false (sym (eq-eqb k j same) ∙ last) in omega (arith, less, differ)
 
   -- these variables stand from a position on
   abbrev From : ℕ → List Var → Type 0
@@ -279,7 +264,7 @@ module _ (site : TypingContext) (function : is_activity site.kind ≡ false) (sc
       Came j vars (block_c (copies_from site j vars) scope m)
   copies_come j [] m from inputs before = (refl, subst (λ n. Copied n m) (omega arith) before)
   copies_come j (var ∷ vars) m from inputs before =
-      by (home_at site j) refl (λ m before. copies_come (j + 1) vars m later (and_right _ _ inputs) before)
+      by (home_at site j) refl (λ m before. copies_come (j + 1) vars m later (and_second _ _ inputs) before)
     where
       there : var_at site j ≡ Some var
       there = from 0 j var refl (omega arith)
@@ -299,7 +284,7 @@ module _ (site : TypingContext) (function : is_activity site.kind ≡ false) (sc
       by : (home : Home) → home_at site j ≡ home → Behind (j + 1) vars → Came j (var ∷ vars) (block_c (copies_from site j (var ∷ vars)) scope m)
       by Held is rest =
           let next : Memory = set_at m (at j) (value_at m (further (lent_at scope site.vars j) [])) in
-          let came = rest next (one_more j var there is m (and_left _ _ inputs) before) in
+          let came = rest next (one_more j var there is m (and_first _ _ inputs) before) in
           let after : Memory = (block_c (copies_from site (j + 1) vars) scope next).memory in
           let ends : Ends (block_c (c_input_copied site j ∷ copies_from site (j + 1) vars) scope m) (Some after) =
           then_ends scope m (c_input_copied site j) (copies_from site (j + 1) vars) (Some next) (λ k. Some after) (copy_ends j var there is m)

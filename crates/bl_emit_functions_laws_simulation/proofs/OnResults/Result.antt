@@ -4,6 +4,8 @@ use Rattle.std.proofs.Common.{List, [], ◌++◌, length, map, take, drop, Optio
 use Rattle.std.proofs.lemmas.Bool.{eqb-true, ltb-false, ltb-true}
 use Rattle.std.proofs.lemmas.List.{append-nil, take-append-drop}
 use Rattle.std.specs.Prelude.{codes, is_none, is_some, nat_eq, nat_lt, option_map, slice_get, if◌then◌else◌}
+use Rattle.std.proofs.lemmas.Bool.{not-true}
+use Rattle.bl_tree.proofs.Basics.{and_first, true_not_false}
 use Rattle.bl_tree.specs.declared.c.CFunc.{CFunc}
 use Rattle.bl_tree.specs.declared.c.CStmt.{CStmt}
 use Rattle.bl_tree.specs.declared.scalar.Scalar.{Scalar as ScalarType}
@@ -22,7 +24,7 @@ use Rattle.bl_eval.specs.Meaning.{Scope as Sees}
 use Rattle.bl_eval.specs.Values.{value_fits, values_fit, zero_of}
 use Rattle.bl_eval.proofs.ActFits.{AllFit}
 use Rattle.bl_eval.proofs.FitLemmas.{zero_fits}
-use Rattle.bl_eval.proofs.PassLemmas.{all_drop, and_left, pass_append, pass_each}
+use Rattle.bl_eval.proofs.PassLemmas.{all_drop, pass_append, pass_each}
 use Rattle.bl_eval.proofs.UnitFits.{sound_at}
 use Rattle.bl_ctext_semantics.specs.Course.{End, Outcome, breaks, following_end, goes_on, result_at, returns, traps}
 use Rattle.bl_ctext_semantics.specs.Meaning.{ArgumentValue, CallResult, Meaning, Scope, block_c, function_c, further}
@@ -44,30 +46,15 @@ use Rattle.bl_emit_functions_laws_simulation.specs.Bodies.{FlowSimulates, Spared
 use Rattle.bl_emit_functions_laws_simulation.proofs.OnBodies.Courses.{Alike, append_alike}
 use Rattle.bl_emit_functions_laws_simulation.proofs.OnBodies.Courses.{alike_trans}
 use Rattle.bl_emit_functions_laws_simulation.proofs.OnBodies.Again.{again_alike}
-use Rattle.bl_emit_functions_laws_simulation.specs.Calls.{
-  BodiesEnd,
-  CallKeepsFrame,
-  CallsKeepFrame,
-  EndsFor,
-  FrameBegun,
-  FramesBegin,
-  HandedOver,
-  HandsOver,
-  MayRun,
-  is_copied_input,
-  memory_begun,
-  scope_begun,
-}
-use Rattle.bl_emit_functions_laws_simulation.proofs.OnCalls.Kept.{older_differs}
+use Rattle.bl_emit_functions_laws_simulation.specs.Calls.{BodiesEnd, CallKeepsFrame, CallsKeepFrame, EndsFor, FrameBegun, FramesBegin, HandedOver, HandsOver}
+use Rattle.bl_emit_functions_laws_simulation.specs.Calls.{MayRun, is_copied_input, memory_begun, scope_begun}
 use Rattle.bl_emit_functions_laws_simulation.proofs.OnCalls.Lists.{front_all, rest_all}
 use Rattle.bl_emit_functions_laws_simulation.proofs.OnCalls.Locals.{local_zero}
-use Rattle.bl_emit_functions_laws_simulation.proofs.OnCalls.Procedure.{live_older, older_live}
 use Rattle.bl_emit_functions_laws_simulation.proofs.OnCalls.Standing.{body_fits, returns as returning, roles, stands_at}
 use Rattle.bl_emit_functions_laws_simulation.specs.Results.{CallReturns, InputsBegin, InputsBegun, ResultsSimulate}
-use Rattle.bl_emit_functions_laws_simulation.proofs.OnResults.Inputs.{all_inputs, all_locals, no_activity}
-
-no_such : true ≡ false → ⊥
-no_such h = cc
+use Rattle.bl_emit_functions_laws_simulation.proofs.OnResults.Inputs.{all_inputs, all_locals}
+use Rattle.bl_emit_acts_laws_simulation.proofs.Frames.{older_differs, older_live}
+use Rattle.bl_emit_functions_laws_simulation.proofs.OnCalls.Handing.{live_older}
 
 -- ---- blocks
 
@@ -106,7 +93,7 @@ none_put unit s function result all = by_kind (is_activity unit.kind) function a
   where
     by_result : (o : Option ScalarType) (b c : Bool) → o ≡ Some s → (is_none o || (b && c)) ≡ true → b ≡ true
     by_result None b c is all = absurd (cc)
-    by_result (Some t) b c is all = and_left b c all
+    by_result (Some t) b c is all = and_first b c all
 
     by_kind : (activity : Bool) → not activity ≡ true → (if activity then activity_returns unit else function_returns unit) ≡ true
         → unit.outputs ≡ 0
@@ -115,10 +102,10 @@ none_put unit s function result all = by_kind (is_activity unit.kind) function a
         eqb-true unit.outputs 0 (by_result unit.result (nat_eq unit.outputs 0) (last_of (map surely_returns unit.body)) result all)
 
 local_output : (role : Role) → (is_variable role || is_fixed role) ≡ true → is_output role ≡ true → ⊥
-local_output Input h i = no_such (sym h)
-local_output Output h i = no_such (sym h)
-local_output Variable h i = no_such (sym i)
-local_output Fixed h i = no_such (sym i)
+local_output Input h i = true_not_false (sym h)
+local_output Output h i = true_not_false (sym h)
+local_output Variable h i = true_not_false (sym i)
+local_output Fixed h i = true_not_false (sym i)
 
 held_lent : (home : Home) → is_held home ≡ true → home ≡ Lent → ⊥
 held_lent Held h is = cc
@@ -141,7 +128,7 @@ lent_input structs earlier unit standing none j var there writable lent = by (na
 
     by : (first : Bool) → nat_lt j unit.inputs ≡ first → ⊥
     by true is =
-        no_such (sym (front_all (λ (var : Var). is_input var.role) unit.inputs unit.vars j var (all_inputs structs earlier unit standing) there
+        true_not_false (sym (front_all (λ (var : Var). is_input var.role) unit.inputs unit.vars j var (all_inputs structs earlier unit standing) there
         (ltb-true j unit.inputs is)) ∙ writable)
     by false is =
         let behind : unit.inputs ≤ j = ltb-false j unit.inputs is in
@@ -224,11 +211,11 @@ module _ (structs : List StructDef) (units : List UnitDef) (entry k : ℕ) (unit
   -- what is older lies in no variable that isn't lent
   outside : (root : Root) (way : List Projection) → is_older (depth + 1) root ≡ true → (j : ℕ) → (home_at site j ≡ Lent → ⊥) →
       lies_in (location_in scope site j []) root way ≡ false
-  outside root way older j isnt = by (is_activity unit.kind) (home_at site j) (no_activity (is_activity unit.kind) function) isnt
+  outside root way older j isnt = by (is_activity unit.kind) (home_at site j) (not-true (is_activity unit.kind) function) isnt
     where
       by : (activity : Bool) (home : Home) → activity ≡ false → (home ≡ Lent → ⊥) →
           lies_in (further (start_in scope activity home site.vars j) (lead_in home site.vars j ++ [])) root way ≡ false
-      by true home is isnt = absurd (no_such is)
+      by true home is isnt = absurd (true_not_false is)
       by false Held is isnt =
           ap (λ b. b && is_some (left_after (further (start_in scope false Held site.vars j) (lead_in Held site.vars j ++ [])).parts way))
           (older_differs (depth + 1) (codes "m") root older)
@@ -303,7 +290,7 @@ module _ (structs : List StructDef) (units : List UnitDef) (entry k : ℕ) (unit
       (statements k unit scope unit.body none_taken frame copied keeps
       (record {
         is_there = there;
-        is_function = no_activity (is_activity unit.kind) function;
+        is_function = not-true (is_activity unit.kind) function;
         pointers = begins.pointers;
         functions = may_run.functions;
         procedures = may_run.procedures;

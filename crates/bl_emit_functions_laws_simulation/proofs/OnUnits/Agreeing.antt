@@ -5,6 +5,7 @@ use Rattle.std.proofs.lemmas.Bool.{eq-eqb, eqb-true}
 use Rattle.std.proofs.lemmas.List.{length-take}
 use Rattle.std.proofs.lemmas.Option.{same_Some, slice_get_within}
 use Rattle.std.specs.Prelude.{Contains, is_none, option_map, slice_get, ◌==◌}
+use Rattle.bl_tree.proofs.Basics.{and_first, and_second, contains_at, get_taken}
 use Rattle.bl_tree.specs.declared.scalar.Scalar.{Scalar as ScalarType}
 use Rattle.bl_tree.specs.declared.tree.StructDef.{StructDef}
 use Rattle.bl_tree.specs.declared.tree.Unit.{Unit as UnitDef}
@@ -18,7 +19,7 @@ use Rattle.bl_eval.specs.Functions.{callee_of, callees_of}
 use Rattle.bl_eval.specs.Meaning.{Callee}
 use Rattle.bl_eval.specs.Values.{values_fit}
 use Rattle.bl_eval.proofs.MeaningLemmas.{function_there}
-use Rattle.bl_eval.proofs.PassLemmas.{and_left, and_right, get_take, take_less}
+use Rattle.bl_eval.proofs.PassLemmas.{take_less}
 use Rattle.bl_ctext_semantics.specs.Meaning.{ArgumentValue, CallResult, Meaning, Scope, applied, by_address, function_c}
 use Rattle.bl_ctext_semantics.specs.Memory.{Location, Memory}
 use Rattle.bl_ctext_semantics.specs.Tables.{Table}
@@ -48,14 +49,6 @@ known_at structs units (suc k) f known less all = by (f == k) refl (λ less. kno
 
 -- ---- what is asked of a function
 
-index_there : {A : Type 0} (xs : List A) (k : ℕ) (x : A) → slice_get xs k ≡ Some x → Contains xs x
-index_there [] k x there = absurd (cc)
-index_there (y ∷ xs) zero x there = (0, omega arith, same_Some y x there)
-index_there (y ∷ xs) (suc k) x there =
-    let found = index_there xs k x there in
-    let less : found.0 < length xs = found.1 in
-    (suc found.0, omega (arith, less), found.2)
-
 none_overlap : (units : List UnitDef) (k : ℕ) (unit : UnitDef) → NoneOverlaps units → slice_get units k ≡ Some unit →
     joined (map aliases_in unit.body) ≡ []
 none_overlap units k unit none there = by (joined (map aliases_in unit.body)) refl
@@ -65,7 +58,7 @@ none_overlap units k unit none there = by (joined (map aliases_in unit.body)) re
     by (first ∷ rest) is =
         absurd (none first.at (first.also ∷ []) (record {
           unit = unit;
-          is_there = index_there units k unit there;
+          is_there = contains_at units k unit there;
           aliased = first;
           fails = subst (λ all. Contains all first) (sym is) (0, omega arith, refl);
           at_one = refl;
@@ -74,7 +67,7 @@ none_overlap units k unit none there = by (joined (map aliases_in unit.body)) re
 
 function_of : (unit : UnitDef) → is_procedure unit ≡ true → (is_function unit.kind ≡ true) × (unit.result ≡ None)
 function_of unit h =
-    (and_left (is_function unit.kind) (is_none unit.result) h, no_result unit.result (and_right (is_function unit.kind) (is_none unit.result) h))
+    (and_first (is_function unit.kind) (is_none unit.result) h, no_result unit.result (and_second (is_function unit.kind) (is_none unit.result) h))
   where
     no_result : {A : Type 0} (o : Option A) → is_none o ≡ true → o ≡ None
     no_result None h = refl
@@ -96,7 +89,7 @@ module _ (structs : List StructDef) (units : List UnitDef) (entry : ℕ) (keeps 
         let less : f < length (take k units) = slice_get_within (take k units) f unit at in omega (arith, less, length-take k units)
 
     there_at : (f : ℕ) (unit : UnitDef) → slice_get (take k units) f ≡ Some unit → slice_get units f ≡ Some unit
-    there_at f unit at = sym (get_take units k f (inside f unit at)) ∙ at
+    there_at f unit at = sym (get_taken units k f (inside f unit at)) ∙ at
 
     -- what a function before the position does
     abbrev made : ℕ → UnitDef → Callee

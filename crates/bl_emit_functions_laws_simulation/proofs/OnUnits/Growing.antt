@@ -15,12 +15,12 @@ use Rattle.bl_emit_functions.specs.Functions.{function_code}
 use Rattle.bl_emit_functions_laws_simulation.specs.Units.{KnownUpTo, TablesGrow}
 
 -- what stands under a name stays
-entry_stays : (known : Table Meaning) (name asked : Text) (meaning value : Meaning) → known asked ≡ Some value →
+pub entry_stays : (known : Table Meaning) (name asked : Text) (meaning value : Meaning) → known asked ≡ Some value →
     with_entry known name meaning asked ≡ Some value
 entry_stays known name asked meaning value is = ap (λ o. option_or o (if bytes_eq name asked then Some meaning else None)) is
 
 -- what joins under a free name stands there
-entry_joins : (known : Table Meaning) (name : Text) (meaning : Meaning) → known name ≡ None → with_entry known name meaning name ≡ Some meaning
+pub entry_joins : (known : Table Meaning) (name : Text) (meaning : Meaning) → known name ≡ None → with_entry known name meaning name ≡ Some meaning
 entry_joins known name meaning free =
     ap (λ o. option_or o (if bytes_eq name name then Some meaning else None)) free
     ∙ ap (λ b. option_or None (if b then Some meaning else None)) ((bytes_eq-Decides name name).1 refl)

@@ -6,13 +6,14 @@ use Rattle.std.proofs.lemmas.Option.{same_Some}
 use Rattle.std.specs.List.{list_all}
 use Rattle.std.specs.Option.{option_or}
 use Rattle.std.specs.Prelude.{bytes_eq, slice_get, if◌then◌else◌}
+use Rattle.std.proofs.lemmas.Bool.{and_from}
+use Rattle.bl_tree.proofs.Basics.{and_first, and_second, take_next}
 use Rattle.bl_tree.specs.declared.text.Text.{Text}
 use Rattle.bl_tree.specs.declared.c.CFunc.{CFunc}
 use Rattle.bl_tree.specs.declared.tree.StructDef.{StructDef}
 use Rattle.bl_tree.specs.declared.tree.Unit.{Unit as UnitDef}
 use Rattle.bl_tree.specs.Typing.{is_function}
 use Rattle.bl_tree.specs.Words.{are_distinct, is_among}
-use Rattle.bl_eval.proofs.PassLemmas.{and_left, and_right, both}
 use Rattle.bl_ctext_semantics.specs.Meaning.{Meaning, function_c}
 use Rattle.bl_ctext_semantics.specs.Tables.{Table, no_entries, with_entry}
 use Rattle.bl_emit_acts.specs.Types.{unit_name}
@@ -22,12 +23,7 @@ use Rattle.bl_emit_functions_laws_simulation.proofs.OnUnits.Growing.{activity_pa
 
 -- ---- lists
 
-take_next : {A : Type 0} (xs : List A) (k : ℕ) (x : A) → slice_get xs k ≡ Some x → take (suc k) xs ≡ take k xs ++ x ∷ []
-take_next [] k x there = absurd (cc)
-take_next (y ∷ xs) zero x there = ap (λ y. y ∷ []) (same_Some y x there)
-take_next (y ∷ xs) (suc k) x there = ap (λ rest. y ∷ rest) (take_next xs k x there)
-
-take_past : {A : Type 0} (xs : List A) (k : ℕ) → slice_get xs k ≡ None → take (suc k) xs ≡ take k xs
+pub take_past : {A : Type 0} (xs : List A) (k : ℕ) → slice_get xs k ≡ None → take (suc k) xs ≡ take k xs
 take_past [] zero past = refl
 take_past [] (suc k) past = refl
 take_past (y ∷ xs) zero past = absurd (cc)
@@ -35,9 +31,9 @@ take_past (y ∷ xs) (suc k) past = ap (λ rest. y ∷ rest) (take_past xs k pas
 
 -- ---- names
 
-distinct_behind : (xs ys : List (List ℕ)) → are_distinct (xs ++ ys) ≡ true → are_distinct ys ≡ true
+pub distinct_behind : (xs ys : List (List ℕ)) → are_distinct (xs ++ ys) ≡ true → are_distinct ys ≡ true
 distinct_behind [] ys h = h
-distinct_behind (x ∷ xs) ys h = distinct_behind xs ys (and_right (not (is_among x (xs ++ ys))) (are_distinct (xs ++ ys)) h)
+distinct_behind (x ∷ xs) ys h = distinct_behind xs ys (and_second (not (is_among x (xs ++ ys))) (are_distinct (xs ++ ys)) h)
 
 abbrev names : List UnitDef → List (List ℕ)
 names units = map (λ (unit : UnitDef). unit.name) units
@@ -69,13 +65,13 @@ all_others : (units : List UnitDef) (k : ℕ) (unit : UnitDef) → are_distinct 
 all_others [] k unit distinct there = absurd (cc)
 all_others (first ∷ units) zero unit distinct there = refl
 all_others (first ∷ units) (suc k) unit distinct there =
-    both (is_other (unit_name unit.name) first) (list_all (is_other (unit_name unit.name)) (take k units))
-    (other_name first.name units k unit (and_left (not (is_among first.name (names units))) (are_distinct (names units)) distinct) there)
-    (all_others units k unit (and_right (not (is_among first.name (names units))) (are_distinct (names units)) distinct) there)
+    and_from (is_other (unit_name unit.name) first) (list_all (is_other (unit_name unit.name)) (take k units))
+    (other_name first.name units k unit (and_first (not (is_among first.name (names units))) (are_distinct (names units)) distinct) there)
+    (all_others units k unit (and_second (not (is_among first.name (names units))) (are_distinct (names units)) distinct) there)
 
 -- ---- tables
 
-known_behind : (known : Table Meaning) (first second : List CFunc) → known_after known (first ++ second) ≡ known_after (known_after known first) second
+pub known_behind : (known : Table Meaning) (first second : List CFunc) → known_after known (first ++ second) ≡ known_after (known_after known first) second
 known_behind known [] second = refl
 known_behind known (function ∷ first) second = known_behind (with_entry known function.name (function_c known function)) first second
 
@@ -96,7 +92,7 @@ module _ (structs : List StructDef) where
   stays_free name earlier [] known free others = free
   stays_free name earlier (unit ∷ xs) known free others =
       by (is_function unit.kind)
-      (λ known free. stays_free name (earlier ++ unit ∷ []) xs known free (and_right (is_other name unit) (list_all (is_other name) xs) others))
+      (λ known free. stays_free name (earlier ++ unit ∷ []) xs known free (and_second (is_other name unit) (list_all (is_other name) xs) others))
     where
       differs : (b : Bool) → not b ≡ true → b ≡ false
       differs true h = absurd (cc)
@@ -110,7 +106,7 @@ module _ (structs : List StructDef) where
           rest (with_entry known (unit_name unit.name) meaning)
           (ap (λ o. option_or o (if bytes_eq (unit_name unit.name) name then Some meaning else None)) free
           ∙ ap (λ b. option_or None (if b then Some meaning else None))
-          (differs (bytes_eq (unit_name unit.name) name) (and_left (is_other name unit) (list_all (is_other name) xs) others)))
+          (differs (bytes_eq (unit_name unit.name) name) (and_first (is_other name unit) (list_all (is_other name) xs) others)))
       by false rest = rest known free
 
   module _ (units : List UnitDef) (distinct : are_distinct (names units) ≡ true) where

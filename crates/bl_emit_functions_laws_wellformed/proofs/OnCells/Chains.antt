@@ -6,6 +6,7 @@ use Rattle.std.proofs.lemmas.List.{get_or-take, take-append-drop}
 use Rattle.std.proofs.lemmas.List.Folds.{list_all-append}
 use Rattle.std.specs.List.{list_all}
 use Rattle.std.specs.Prelude.{is_none, slice_get, slice_index, unwrap_or, if◌then◌else◌}
+use Rattle.bl_tree.proofs.Basics.{and_first, and_second}
 use Rattle.bl_tree.specs.declared.c.CLocal.{CLocal}
 use Rattle.bl_tree.specs.declared.scalar.Scalar.{Scalar as ScalarType}
 use Rattle.bl_tree.specs.declared.text.Text.{Text}
@@ -18,7 +19,7 @@ use Rattle.bl_tree.specs.Program.{IsWellTyped, is_output, locals_of, parameters_
 use Rattle.bl_tree.specs.Reduce.{greatest, total}
 use Rattle.bl_tree.specs.Types.{scalar_in, type_stands}
 use Rattle.bl_tree.specs.Typing.{TypingContext, is_activity, site_of}
-use Rattle.bl_eval.proofs.PassLemmas.{all_at, and_left, and_right}
+use Rattle.bl_eval.proofs.PassLemmas.{all_at}
 use Rattle.bl_limits_measures.specs.Calls.{calls_of}
 use Rattle.bl_limits_measures.specs.Runs.{activities_by_place}
 use Rattle.bl_limits_measures.specs.Statements.{cell_statements_of}
@@ -123,9 +124,9 @@ module _ (structs : List StructDef) (units : List UnitDef) (entry : ℕ) (keeps 
         sym (list_all-append is_standing (parameters_of unit) (locals_of unit)) ∙ ap (list_all is_standing) (take-append-drop n unit.vars)
         ∙ vars_stand structs units entry keeps k unit there in
         let some = params-less unit.vars (parameters_of unit)
-        (and_left (list_all is_standing (parameters_of unit)) (list_all is_standing (locals_of unit)) stand) in
+        (and_first (list_all is_standing (parameters_of unit)) (list_all is_standing (locals_of unit)) stand) in
         let others = locals-less (take k units) unit n (locals_of unit)
-        (and_right (list_all is_standing (parameters_of unit)) (list_all is_standing (locals_of unit)) stand) in
+        (and_second (list_all is_standing (parameters_of unit)) (list_all is_standing (locals_of unit)) stand) in
         let behind : total (map local_size (locals_from site 0 unit.vars)) ≡ total (map local_size (locals_from site n (locals_of unit))) =
         ap (λ locals. total (map local_size locals)) (locals_behind structs (take k units) unit (roles_at structs units entry keeps k unit there)) in
         let all = total-split (λ (var : Var). size_by (struct_sizes structs) var.ty) n unit.vars in

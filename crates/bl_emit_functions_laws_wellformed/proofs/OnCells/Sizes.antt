@@ -7,8 +7,8 @@ use Rattle.std.proofs.lemmas.Nat.{mul-le}
 use Rattle.std.proofs.lemmas.Option.{same_Some, slice_get_within}
 use Rattle.std.proofs.lemmas.Slice.Eq.{bytes_eq-Decides}
 use Rattle.std.specs.List.{list_all}
-use Rattle.std.specs.Option.{option_or}
-use Rattle.std.specs.Prelude.{Contains, bytes_eq, get_or, nat_le, nat_lt, slice_get, slice_index, unwrap_or, if◌then◌else◌}
+use Rattle.std.specs.Prelude.{Contains, bytes_eq, get_or, nat_le, nat_lt, slice_get, slice_index, if◌then◌else◌}
+use Rattle.bl_tree.proofs.Basics.{and_first, and_second, less_from}
 use Rattle.bl_tree.specs.declared.text.Text.{Text}
 use Rattle.bl_tree.specs.declared.c.CMember.{CMember}
 use Rattle.bl_tree.specs.declared.c.CStruct.{CStruct}
@@ -26,7 +26,7 @@ use Rattle.bl_tree.specs.Reduce.{total}
 use Rattle.bl_tree.specs.Types.{type_stands}
 use Rattle.bl_tree.specs.Typing.{TypingContext, is_function, site_of}
 use Rattle.bl_eval.proofs.FitLemmas.{structs_at}
-use Rattle.bl_eval.proofs.PassLemmas.{all_at, and_left, and_right}
+use Rattle.bl_eval.proofs.PassLemmas.{all_at}
 use Rattle.bl_limits_measures.specs.Types.{fields_size, level_size, nesting, size, size_by, struct_nestings, struct_sizes}
 use Rattle.bl_limits_measures.specs.Units.{variables_of}
 use Rattle.bl_limits_measures.proofs.TableLemmas.{answer_at}
@@ -39,13 +39,14 @@ use Rattle.bl_emit_acts_laws_wellformed.proofs.OnFormed.Units.{vars_stand}
 use Rattle.bl_emit_structs.specs.Structs.{structs_for}
 use Rattle.bl_emit_structs_laws_wellformed.specs.Names.{TypesApart}
 use Rattle.bl_emit_structs_laws_wellformed.specs.Formed.{NestsAtMost}
-use Rattle.bl_emit_structs_laws_wellformed.proofs.OnFormed.Levels.{below, nesting_at, stands_at, stands_more}
+use Rattle.bl_emit_structs_laws_wellformed.proofs.OnFormed.Levels.{nesting_at, stands_at, stands_more}
 use Rattle.bl_emit_structs_laws_wellformed.proofs.OnFormed.Types.{StructOf, all_are, defined, struct_level}
 use Rattle.bl_emit_functions.specs.Functions.{held_member, members_of, memory_name, memory_struct, struct_of}
 use Rattle.bl_emit_functions_laws_wellformed.proofs.OnCells.Totals.{total-made}
 use Rattle.bl_emit_functions_laws_wellformed.proofs.OnFiles.Growing.{distinct_behind, names, one_place}
 use Rattle.bl_emit_functions_laws_wellformed.proofs.OnFormed.Kept.{is_held_in, members_made}
 use Rattle.bl_emit_functions_laws_wellformed.specs.Cells.{NamesNone, SizesGrow, SizesKnown, SizesStand}
+use Rattle.bl_emit_functions_laws_wellformed.proofs.OnFiles.Growing.{at_most}
 
 -- ---- sizes, level by level
 
@@ -63,7 +64,7 @@ module _ (known : List ℕ) (k : ℕ) where
       size_at (take k known) (roll-Ty (Ty-F.Scalar s)) (Ty-F.Scalar s) (out-roll-Ty (Ty-F.Scalar s))
       ∙ sym (size_at known (roll-Ty (Ty-F.Scalar s)) (Ty-F.Scalar s) (out-roll-Ty (Ty-F.Scalar s)))
   same_by (Ty-F.Struct j) h =
-      let less : j < k = below j k (sym (stands_at k (roll-Ty (Ty-F.Struct j)) (Ty-F.Struct j) (out-roll-Ty (Ty-F.Struct j))) ∙ h) in
+      let less : j < k = less_from j k (sym (stands_at k (roll-Ty (Ty-F.Struct j)) (Ty-F.Struct j) (out-roll-Ty (Ty-F.Struct j))) ∙ h) in
       size_at (take k known) (roll-Ty (Ty-F.Struct j)) (Ty-F.Struct j) (out-roll-Ty (Ty-F.Struct j))
       ∙ get_or-take k known j 0 less
       ∙ sym (size_at known (roll-Ty (Ty-F.Struct j)) (Ty-F.Struct j) (out-roll-Ty (Ty-F.Struct j)))
@@ -72,19 +73,13 @@ module _ (known : List ℕ) (k : ℕ) where
       let level : (long && type_stands k e.0) ≡ true =
       sym (stands_at k (roll-Ty (Ty-F.Array m e.0)) (Ty-F.Array m e.0) (out-roll-Ty (Ty-F.Array m e.0))) ∙ h in
       size_at (take k known) (roll-Ty (Ty-F.Array m e.0)) (Ty-F.Array m e.0) (out-roll-Ty (Ty-F.Array m e.0))
-      ∙ ap (λ n. m * n) (e.1 (and_right long (type_stands k e.0) level))
+      ∙ ap (λ n. m * n) (e.1 (and_second long (type_stands k e.0) level))
       ∙ sym (size_at known (roll-Ty (Ty-F.Array m e.0)) (Ty-F.Array m e.0) (out-roll-Ty (Ty-F.Array m e.0)))
 
   same_before : (ty : Ty) → SameBefore ty
   same_before = ind-Ty SameBefore (λ x y is. subst (λ layer. SameBefore (roll-Ty layer)) is (same_by y))
 
 -- ---- tables
-
-entry_less : (o : Option ℕ) (b : Bool) (n most : ℕ) → unwrap_or o 0 ≤ most → (b ≡ true → n ≤ most)
-    → unwrap_or (option_or o (if b then Some n else None)) 0 ≤ most
-entry_less (Some m) b n most old new = old
-entry_less None true n most old new = new refl
-entry_less None false n most old new = old
 
 -- the byte with which a name begins
 first_byte : Text → ℕ
@@ -105,7 +100,7 @@ array_byte n element = refl
 
 unlike : (a b : Text) (j k : ℕ) → first_byte a ≡ j → first_byte b ≡ k → nat_lt j k ≡ true → a ≡ b → ⊥
 unlike a b j k one other less same =
-    let lt : j < k = below j k less in let equal : j ≡ k = sym one ∙ ap first_byte same ∙ other in omega (arith, lt, equal)
+    let lt : j < k = less_from j k less in let equal : j ≡ k = sym one ∙ ap first_byte same ∙ other in omega (arith, lt, equal)
 
 module _ (structs : List StructDef) (units : List UnitDef) (entry most : ℕ) (keeps : IsWellTyped structs units entry)
     (apart : TypesApart structs units entry)
@@ -121,11 +116,11 @@ module _ (structs : List StructDef) (units : List UnitDef) (entry most : ℕ) (k
       ≤ total (map (λ (f : Field). size_by (take k (struct_sizes structs)) f.ty) fields)
   fields_less known bounded k le [] stand = omega arith
   fields_less known bounded k le (f ∷ fields) stand =
-      let own : type_stands k f.ty ≡ true = and_left (type_stands k f.ty) (list_all (λ (f : Field). type_stands k f.ty) fields) stand in
+      let own : type_stands k f.ty ≡ true = and_first (type_stands k f.ty) (list_all (λ (f : Field). type_stands k f.ty) fields) stand in
       let one : size_of_type known (c_type structs f.ty) ≤ size structs f.ty = bounded f.ty (stands_more k (length structs) le f.ty own) in
       let same : size_by (take k (struct_sizes structs)) f.ty ≡ size structs f.ty = same_before (struct_sizes structs) k f.ty own in
       let rest = fields_less known bounded k le fields
-      (and_right (type_stands k f.ty) (list_all (λ (f : Field). type_stands k f.ty) fields) stand) in
+      (and_second (type_stands k f.ty) (list_all (λ (f : Field). type_stands k f.ty) fields) stand) in
       omega (arith, one, same, rest)
 
   defined_less : (known : Sizes) → Bounded known → (k : ℕ) (o : Option StructDef) → slice_get structs k ≡ o →
@@ -151,7 +146,7 @@ module _ (structs : List StructDef) (units : List UnitDef) (entry most : ℕ) (k
   level_less known bounded ty (Ty-F.Array n e) is stands =
       let level : ((nat_le 1 n && nat_le n 65536) && type_stands (length structs) e) ≡ true =
       sym (stands_at (length structs) ty (Ty-F.Array n e) is) ∙ stands in
-      let inner : size_of_type known (c_type structs e) ≤ size structs e = bounded e (and_right (nat_le 1 n && nat_le n 65536) _ level) in
+      let inner : size_of_type known (c_type structs e) ≤ size structs e = bounded e (and_second (nat_le 1 n && nat_le n 65536) _ level) in
       let times : n * size_of_type known (c_type structs e) ≤ n * size structs e =
       mul-le n (size_of_type known (c_type structs e)) n (size structs e) (omega arith) inner in
       let whole : size structs ty ≡ n * size structs e = size_at (struct_sizes structs) ty (Ty-F.Array n e) is in
@@ -172,11 +167,11 @@ module _ (structs : List StructDef) (units : List UnitDef) (entry most : ℕ) (k
   joins_by known name n bounded ty stands new (Ty-F.Struct k) is =
       let old : entry_or 0 known (type_name structs ty) ≤ size structs ty =
       subst (λ layer. size_of_type known (type_level (type_name structs ty) layer) ≤ size structs ty) is (bounded ty stands) in
-      entry_less (known (type_name structs ty)) (bytes_eq name (type_name structs ty)) n (size structs ty) old new
+      at_most (known (type_name structs ty)) (bytes_eq name (type_name structs ty)) n (size structs ty) old new
   joins_by known name n bounded ty stands new (Ty-F.Array m e) is =
       let old : entry_or 0 known (type_name structs ty) ≤ size structs ty =
       subst (λ layer. size_of_type known (type_level (type_name structs ty) layer) ≤ size structs ty) is (bounded ty stands) in
-      entry_less (known (type_name structs ty)) (bytes_eq name (type_name structs ty)) n (size structs ty) old new
+      at_most (known (type_name structs ty)) (bytes_eq name (type_name structs ty)) n (size structs ty) old new
 
   joins : (known : Sizes) (name : Text) (n : ℕ) → Bounded known →
       ((ty : Ty) → type_stands (length structs) ty ≡ true → bytes_eq name (type_name structs ty) ≡ true → n ≤ size structs ty) →
@@ -191,7 +186,7 @@ module _ (structs : List StructDef) (units : List UnitDef) (entry most : ℕ) (k
       ((k : ℕ) (unit : UnitDef) → slice_get units k ≡ Some unit → is_function unit.kind ≡ true →
       bytes_eq name (memory_name unit.name) ≡ true → n ≤ variables_of structs unit) → Held (with_entry known name n)
   holds known name n held new k unit there function =
-      entry_less (known (memory_name unit.name)) (bytes_eq name (memory_name unit.name)) n (variables_of structs unit) (held k unit there function)
+      at_most (known (memory_name unit.name)) (bytes_eq name (memory_name unit.name)) n (variables_of structs unit) (held k unit there function)
       (new k unit there function)
 
   -- ---- a type's struct

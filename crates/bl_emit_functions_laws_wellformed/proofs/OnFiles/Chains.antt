@@ -104,7 +104,7 @@ module _ (weight : Text → ℕ) (prelude : (word : Text) (s : ScalarType) → w
 
 -- ---- chains
 
-chain_is : (units : List UnitDef) (k : ℕ) (unit : UnitDef) → slice_get units k ≡ Some unit
+pub chain_is : (units : List UnitDef) (k : ℕ) (unit : UnitDef) → slice_get units k ≡ Some unit
     → chain_at units k ≡ chain_by (take k (all_chains units)) unit
 chain_is units k unit there = answer_at chain_by units k unit 0 there
 

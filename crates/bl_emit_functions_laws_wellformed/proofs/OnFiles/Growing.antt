@@ -9,13 +9,13 @@ use Rattle.std.proofs.lemmas.Slice.Eq.{bytes_eq-Decides}
 use Rattle.std.specs.List.{list_all}
 use Rattle.std.specs.Option.{option_or}
 use Rattle.std.specs.Prelude.{bytes_eq, slice_get, unwrap_or, if◌then◌else◌}
+use Rattle.bl_tree.proofs.Basics.{and_first, and_second}
 use Rattle.bl_tree.specs.declared.rule.Rule.TheVariants as rule
 use Rattle.bl_tree.specs.declared.scalar.Scalar.{Scalar as ScalarType}
 use Rattle.bl_tree.specs.declared.text.Text.{Text}
 use Rattle.bl_tree.specs.declared.tree.StructDef.{StructDef}
 use Rattle.bl_tree.specs.declared.tree.Unit.{Unit as UnitDef}
 use Rattle.bl_tree.specs.Words.{are_distinct, is_among, is_name}
-use Rattle.bl_eval.proofs.PassLemmas.{and_left, and_right}
 use Rattle.bl_limits_measures.specs.Units.{chain_at}
 use Rattle.bl_ctext_semantics.specs.Faults.{depth_of_function}
 use Rattle.bl_emit_acts.specs.Expressions.{function_name}
@@ -31,7 +31,7 @@ names units = map (λ (unit : UnitDef). unit.name) units
 
 pub distinct_behind : (xs ys : List (List ℕ)) → are_distinct (xs ++ ys) ≡ true → are_distinct ys ≡ true
 distinct_behind [] ys h = h
-distinct_behind (x ∷ xs) ys h = distinct_behind xs ys (and_right (not (is_among x (xs ++ ys))) (are_distinct (xs ++ ys)) h)
+distinct_behind (x ∷ xs) ys h = distinct_behind xs ys (and_second (not (is_among x (xs ++ ys))) (are_distinct (xs ++ ys)) h)
 
 -- a text that is none of the names
 other_name : (text : List ℕ) (units : List UnitDef) (k : ℕ) (unit : UnitDef) → not (is_among text (names units)) ≡ true →
@@ -57,38 +57,38 @@ pub one_place : (units : List UnitDef) (j k : ℕ) (a b : UnitDef) → are_disti
 one_place [] j k a b distinct here there same = absurd (cc)
 one_place (first ∷ units) zero zero a b distinct here there same = refl
 one_place (first ∷ units) zero (suc k) a b distinct here there same =
-    absurd (other_name first.name units k b (and_left (not (is_among first.name (names units))) (are_distinct (names units)) distinct) there
+    absurd (other_name first.name units k b (and_first (not (is_among first.name (names units))) (are_distinct (names units)) distinct) there
     (ap (λ (unit : UnitDef). unit.name) (same_Some first a here) ∙ same))
 one_place (first ∷ units) (suc j) zero a b distinct here there same =
-    absurd (other_name first.name units j a (and_left (not (is_among first.name (names units))) (are_distinct (names units)) distinct) here
+    absurd (other_name first.name units j a (and_first (not (is_among first.name (names units))) (are_distinct (names units)) distinct) here
     (ap (λ (unit : UnitDef). unit.name) (same_Some first b there) ∙ sym same))
 one_place (first ∷ units) (suc j) (suc k) a b distinct here there same =
-    ap suc (one_place units j k a b (and_right (not (is_among first.name (names units))) (are_distinct (names units)) distinct) here there same)
+    ap suc (one_place units j k a b (and_second (not (is_among first.name (names units))) (are_distinct (names units)) distinct) here there same)
 
-named_at : (units : List UnitDef) (k : ℕ) (unit : UnitDef) → list_all is_name (names units) ≡ true → slice_get units k ≡ Some unit →
+pub named_at : (units : List UnitDef) (k : ℕ) (unit : UnitDef) → list_all is_name (names units) ≡ true → slice_get units k ≡ Some unit →
     is_name unit.name ≡ true
 named_at [] k unit all there = absurd (cc)
 named_at (first ∷ units) zero unit all there =
-    ap (λ (unit : UnitDef). is_name unit.name) (sym (same_Some first unit there)) ∙ and_left (is_name first.name) (list_all is_name (names units)) all
+    ap (λ (unit : UnitDef). is_name unit.name) (sym (same_Some first unit there)) ∙ and_first (is_name first.name) (list_all is_name (names units)) all
 named_at (first ∷ units) (suc k) unit all there =
-    named_at units k unit (and_right (is_name first.name) (list_all is_name (names units)) all) there
+    named_at units k unit (and_second (is_name first.name) (list_all is_name (names units)) all) there
 
 -- ---- tables
 
 -- an entry under another name
-still_none : (o : Option ℕ) (b : Bool) (d : ℕ) → o ≡ None → b ≡ false → option_or o (if b then Some d else None) ≡ None
+pub still_none : (o : Option ℕ) (b : Bool) (d : ℕ) → o ≡ None → b ≡ false → option_or o (if b then Some d else None) ≡ None
 still_none None true d is other = absurd (cc)
 still_none None false d is other = refl
 still_none (Some n) b d is other = absurd (cc)
 
-unnamed_other : (name : Text) → is_name name ≡ true → bytes_eq (unit_name name) (unit_name []) ≡ false
+pub unnamed_other : (name : Text) → is_name name ≡ true → bytes_eq (unit_name name) (unit_name []) ≡ false
 unnamed_other [] named = absurd (cc)
 unnamed_other (c ∷ name) named = refl
 
-prelude_other : (name word : Text) (s : ScalarType) → bytes_eq (unit_name name) (function_name word s) ≡ false
+pub prelude_other : (name word : Text) (s : ScalarType) → bytes_eq (unit_name name) (function_name word s) ≡ false
 prelude_other name word s = refl
 
-at_most : (o : Option ℕ) (b : Bool) (d most : ℕ) → unwrap_or o 0 ≤ most → (b ≡ true → d ≤ most)
+pub at_most : (o : Option ℕ) (b : Bool) (d most : ℕ) → unwrap_or o 0 ≤ most → (b ≡ true → d ≤ most)
     → unwrap_or (option_or o (if b then Some d else None)) 0 ≤ most
 at_most (Some n) b d most old new = old
 at_most None true d most old new = new refl
@@ -114,7 +114,7 @@ grow structs units entry k unit depths keeps there known = record {
     named : is_name unit.name ≡ true
     named =
         named_at units k unit
-        (and_right (list_all is_name struct_names) (list_all is_name (names units)) (sym (list_all-append is_name struct_names (names units)) ∙ keeps.named))
+        (and_second (list_all is_name struct_names) (list_all is_name (names units)) (sym (list_all-append is_name struct_names (names units)) ∙ keeps.named))
         there
 
     same_unit : (f : ℕ) (other : UnitDef) → slice_get units f ≡ Some other → bytes_eq (unit_name unit.name) (unit_name other.name) ≡ true →

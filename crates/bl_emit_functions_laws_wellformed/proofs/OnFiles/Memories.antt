@@ -4,6 +4,8 @@ use Rattle.std.proofs.Common.{map, take, drop}
 use Rattle.std.proofs.Common.{Some, refl, subst, arith}
 use Rattle.std.proofs.lemmas.List.Elements.{Contains-append_cases}
 use Rattle.std.specs.Prelude.{Contains, bytes_eq, slice_get}
+use Rattle.std.proofs.lemmas.Bool.{or_from}
+use Rattle.bl_tree.proofs.Basics.{and_first, and_second, take_next}
 use Rattle.bl_tree.specs.declared.c.CMember.{CMember}
 use Rattle.bl_tree.specs.declared.c.CStruct.{CStruct}
 use Rattle.bl_tree.specs.declared.text.Text.{Text}
@@ -11,31 +13,26 @@ use Rattle.bl_tree.specs.declared.tree.StructDef.{StructDef}
 use Rattle.bl_tree.specs.declared.tree.Unit.{Unit as UnitDef}
 use Rattle.bl_tree.specs.Typing.{is_function}
 use Rattle.bl_tree.specs.Words.{are_distinct, is_among}
-use Rattle.bl_eval.proofs.PassLemmas.{and_left, and_right}
 use Rattle.bl_emit_structs_laws_wellformed.specs.Names.{names_of}
 use Rattle.bl_emit_functions.specs.Functions.{members_of, memory_name, memory_struct, struct_of}
 use Rattle.bl_emit_structs_laws_wellformed.specs.Formed.{IsMemory}
 use Rattle.bl_emit_functions_laws_wellformed.specs.Formed.{MemoriesHold}
 use Rattle.bl_emit_functions_laws_wellformed.specs.Files.List.{AllNumbered, MemoriesStand, memories_after, memory_where}
 use Rattle.bl_emit_functions_laws_wellformed.proofs.OnFiles.Growing.{distinct_behind, names}
-use Rattle.bl_emit_functions_laws_wellformed.proofs.OnFiles.Walk.{drop_next, take_next}
+use Rattle.bl_emit_functions_laws_wellformed.proofs.OnFiles.Walk.{drop_next}
 
 -- ---- names
 
-neither : (a b : Bool) → not (a || b) ≡ true → (a ≡ false) × (not b ≡ true)
+pub neither : (a b : Bool) → not (a || b) ≡ true → (a ≡ false) × (not b ≡ true)
 neither true b h = absurd (cc)
 neither false b h = (refl, h)
-
-no_name : (a b : Bool) → a ≡ false → b ≡ false → (a || b) ≡ false
-no_name true b one other = absurd (cc)
-no_name false b one other = other
 
 module _ (structs : List StructDef) where
   -- what isn't the name of a unit isn't that of its struct either
   among_behind : (name : Text) (members : List CMember) (unit : UnitDef) (later : List CStruct) → bytes_eq name unit.name ≡ false →
       is_among (memory_name name) (names_of later) ≡ false → is_among (memory_name name) (names_of (struct_of unit.name members ++ later)) ≡ false
   among_behind name [] unit later other none = none
-  among_behind name (m ∷ rest) unit later other none = no_name (bytes_eq name unit.name) (is_among (memory_name name) (names_of later)) other none
+  among_behind name (m ∷ rest) unit later other none = or_from (bytes_eq name unit.name) (is_among (memory_name name) (names_of later)) other none
 
   none_among : (name : Text) (earlier xs : List UnitDef) → not (is_among name (names xs)) ≡ true →
       is_among (memory_name name) (names_of (memories_after structs earlier xs)) ≡ false
@@ -63,13 +60,13 @@ module _ (structs : List StructDef) where
   names_differ earlier [] differ = refl
   names_differ earlier (unit ∷ xs) differ =
       by (is_function unit.kind)
-      (names_differ (earlier ++ unit ∷ []) xs (and_right (not (is_among unit.name (names xs))) (are_distinct (names xs)) differ))
+      (names_differ (earlier ++ unit ∷ []) xs (and_second (not (is_among unit.name (names xs))) (are_distinct (names xs)) differ))
     where
       by : (function : Bool) → are_distinct (names_of (memories_after structs (earlier ++ unit ∷ []) xs)) ≡ true →
           are_distinct (names_of (memory_where function structs earlier unit ++ memories_after structs (earlier ++ unit ∷ []) xs)) ≡ true
       by true rest =
           first_differs unit (members_of structs earlier unit) (memories_after structs (earlier ++ unit ∷ []) xs)
-          (none_among unit.name (earlier ++ unit ∷ []) xs (and_left (not (is_among unit.name (names xs))) (are_distinct (names xs)) differ)) rest
+          (none_among unit.name (earlier ++ unit ∷ []) xs (and_first (not (is_among unit.name (names xs))) (are_distinct (names xs)) differ)) rest
       by false rest = rest
 
 -- ---- what the structs are

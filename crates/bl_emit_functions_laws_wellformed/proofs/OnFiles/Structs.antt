@@ -9,9 +9,9 @@ use Rattle.std.proofs.lemmas.Option.{get_or_from_slice_get, slice_get_cases, sli
 use Rattle.std.proofs.lemmas.Slice.Eq.{bytes_eq-Decides}
 use Rattle.std.specs.Option.{option_or}
 use Rattle.std.specs.Prelude.{Contains, bytes_eq, get_or, is_none, slice_get, slice_index, if◌then◌else◌}
+use Rattle.bl_tree.proofs.Basics.{both_empty, none_from, take_next}
 use Rattle.bl_tree.specs.declared.c.CMember.{CMember}
 use Rattle.bl_tree.specs.declared.c.CStruct.{CStruct}
-use Rattle.bl_tree.specs.declared.place.Place.{Place}
 use Rattle.bl_tree.specs.declared.rule.Rule.TheVariants as rule
 use Rattle.bl_tree.specs.declared.text.Text.{Text}
 use Rattle.bl_tree.specs.declared.tree.StructDef.{StructDef}
@@ -22,7 +22,7 @@ use Rattle.bl_limits.specs.Rules.{Passes}
 use Rattle.bl_limits_measures.specs.InOrder.{answers}
 use Rattle.bl_limits_measures.specs.Types.{fields_nesting, nesting, struct_nestings}
 use Rattle.bl_limits_measures.proofs.TableLemmas.{length_answers}
-use Rattle.bl_ctext_semantics.specs.Faults.{Clause, depth_of_struct, distinct_names, faults_in_struct, member_table, struct_faults_after, struct_table, unless}
+use Rattle.bl_ctext_semantics.specs.Faults.{depth_of_struct, distinct_names, faults_in_struct, member_table, struct_faults_after, struct_table, unless}
 use Rattle.bl_ctext_semantics.specs.Tables.{Table, found, no_entries, with_entry}
 use Rattle.bl_emit_structs.specs.Structs.{each_once, structs_for}
 use Rattle.bl_emit_functions.specs.Functions.{memory_struct}
@@ -31,24 +31,13 @@ use Rattle.bl_emit_functions_laws_wellformed.specs.Formed.{MemoriesHold}
 use Rattle.bl_emit_functions_laws_wellformed.specs.Files.List.{FunctionFilesWellFormed, FunctionListsWellFormed, StructsPrecede, memories_after}
 use Rattle.bl_emit_functions_laws_wellformed.specs.Files.List.{memory_where, structs_before}
 use Rattle.bl_emit_functions_laws_wellformed.proofs.OnFiles.Memories.{memories}
-use Rattle.bl_emit_functions_laws_wellformed.proofs.OnFiles.Walk.{drop_next, take_next}
+use Rattle.bl_emit_functions_laws_wellformed.proofs.OnFiles.Walk.{drop_next}
+use Rattle.bl_ctext_semantics.proofs.EndLemmas.{unless-nil}
 
 -- ---- a list of structs in which nothing fails
 
-none_front : {A : Type 0} (xs ys : List A) → xs ++ ys ≡ [] → (xs ≡ []) × (ys ≡ [])
-none_front [] ys is = (refl, is)
-none_front (x ∷ xs) ys is = absurd (cc)
-
-holds : (test : Bool) (clause : Clause) (place : Place) → unless test clause place ≡ [] → test ≡ true
-holds true clause place is = refl
-holds false clause place is = absurd (cc)
-
-nothing_there : {A : Type 0} (o : Option A) → is_none o ≡ true → o ≡ None
-nothing_there None is = refl
-nothing_there (Some x) is = absurd (cc)
-
 -- what stands in no entry, nor in the next
-both_free : {A : Type 0} (o : Option A) (b : Bool) (new : A) → option_or o (if b then Some new else None) ≡ None → (o ≡ None) × (b ≡ false)
+pub both_free : {A : Type 0} (o : Option A) (b : Bool) (new : A) → option_or o (if b then Some new else None) ≡ None → (o ≡ None) × (b ≡ false)
 both_free None true new is = absurd (cc)
 both_free None false new is = (refl, refl)
 both_free (Some x) b new is = absurd (cc)
@@ -60,7 +49,7 @@ first_found : (name : Text) (value : Table CMember) (b : Bool) (o : Option (Tabl
 first_found name value true o is = refl
 first_found name value false o is = absurd (cc)
 
-later_found : (value : Table CMember) (b : Bool) (o : Option (Table CMember)) → b ≡ false → (if b then Some value else o) ≡ o
+pub later_found : (value : Table CMember) (b : Bool) (o : Option (Table CMember)) → b ≡ false → (if b then Some value else o) ≡ o
 later_found value true o is = absurd (cc)
 later_found value false o is = refl
 
@@ -69,13 +58,13 @@ declared : (list : List CStruct) (table : Table (Table CMember)) (depths : Table
     (s : CStruct) → Contains list s → (table s.name ≡ None) × (found s.name (map entry (list ++ more)) ≡ Some (member_table s))
 declared [] table depths none more s (k, within, is) = absurd (omega (arith, within))
 declared (y ∷ list) table depths none more s (zero, within, is) =
-    let faults = none_front (faults_in_struct table depths y) _ none in
-    let front = none_front (unless (is_none (table y.name)) distinct_names y.place) _ faults.0 in
-    let free : table y.name ≡ None = nothing_there (table y.name) (holds (is_none (table y.name)) distinct_names y.place front.0) in
+    let faults = both_empty (faults_in_struct table depths y) _ none in
+    let front = both_empty (unless (is_none (table y.name)) distinct_names y.place) _ faults.0 in
+    let free : table y.name ≡ None = none_from (table y.name) (unless-nil (is_none (table y.name)) distinct_names y.place front.0) in
     subst (λ (s : CStruct). (table s.name ≡ None) × (found s.name (map entry ((y ∷ list) ++ more)) ≡ Some (member_table s))) is
     (free, first_found y.name (member_table y) (bytes_eq y.name y.name) (found y.name (map entry (list ++ more))) ((bytes_eq-Decides y.name y.name).1 refl))
 declared (y ∷ list) table depths none more s (suc k, within, is) =
-    let faults = none_front (faults_in_struct table depths y) _ none in
+    let faults = both_empty (faults_in_struct table depths y) _ none in
     let rest = declared list (with_entry table y.name (member_table y)) (with_entry depths y.name (depth_of_struct depths y)) faults.1 more s
     (k, omega (arith, within), is) in
     let free = both_free (table s.name) (bytes_eq y.name s.name) (member_table y) rest.0 in

@@ -1,5 +1,5 @@
 -- The functions of a program one after another: nothing fails in each.
-use Rattle.std.proofs.Common.{◌≡◌, ℕ, zero, suc, ◌<◌, ◌≤◌, ⊎_elim, Bool, true, false, not, List, []}
+use Rattle.std.proofs.Common.{◌≡◌, ℕ, zero, suc, ◌<◌, ◌≤◌, ⊎_elim, Bool, true, false, List, []}
 use Rattle.std.proofs.Common.{◌∷◌, ◌++◌, map, take, drop, length}
 use Rattle.std.proofs.Common.{Option, Some, None, refl, sym, ap, ◌∙◌, subst, arith}
 use Rattle.std.proofs.lemmas.Bool.{cases_lt}
@@ -8,6 +8,8 @@ use Rattle.std.proofs.lemmas.Option.{same_Some}
 use Rattle.std.proofs.lemmas.Slice.Eq.{bytes_eq-Decides}
 use Rattle.std.specs.Option.{option_or}
 use Rattle.std.specs.Prelude.{bytes_eq, nat_lt, slice_get, if◌then◌else◌}
+use Rattle.std.proofs.lemmas.Bool.{not-true}
+use Rattle.bl_tree.proofs.Basics.{take_next}
 use Rattle.bl_tree.specs.declared.c.CFunc.{CFunc}
 use Rattle.bl_tree.specs.declared.c.CMember.{CMember}
 use Rattle.bl_tree.specs.declared.tree.StructDef.{StructDef}
@@ -30,11 +32,6 @@ use Rattle.bl_emit_functions_laws_wellformed.proofs.OnFiles.Growing.{distinct_be
 
 -- ---- lists
 
-pub take_next : {A : Type 0} (xs : List A) (k : ℕ) (x : A) → slice_get xs k ≡ Some x → take (suc k) xs ≡ take k xs ++ x ∷ []
-take_next [] k x there = absurd (cc)
-take_next (y ∷ xs) zero x there = ap (λ y. y ∷ []) (same_Some y x there)
-take_next (y ∷ xs) (suc k) x there = ap (λ rest. y ∷ rest) (take_next xs k x there)
-
 -- where a list goes on, its next element is there, and behind it the rest
 pub drop_next : {A : Type 0} (xs : List A) (k : ℕ) (x : A) (rest : List A) → drop k xs ≡ x ∷ rest
     → (slice_get xs k ≡ Some x) × (drop (suc k) xs ≡ rest)
@@ -49,19 +46,15 @@ drop_next (y ∷ xs) zero x rest is = (first is, behind is)
     behind is = cc
 drop_next (y ∷ xs) (suc k) x rest is = drop_next xs k x rest is
 
-behind_longer : {A : Type 0} (xs ys : List A) → length ys ≤ length (xs ++ ys)
+pub behind_longer : {A : Type 0} (xs ys : List A) → length ys ≤ length (xs ++ ys)
 behind_longer [] ys = omega arith
 behind_longer (x ∷ xs) ys = let rest : length ys ≤ length (xs ++ ys) = behind_longer xs ys in omega (arith, rest)
 
-longer : {A : Type 0} (xs ys : List A) → 2 ≤ length ys → nat_lt (length (xs ++ ys)) 2 ≡ false
+pub longer : {A : Type 0} (xs ys : List A) → 2 ≤ length ys → nat_lt (length (xs ++ ys)) 2 ≡ false
 longer xs ys two =
     let all : length ys ≤ length (xs ++ ys) = behind_longer xs ys in
     let more : 2 ≤ length (xs ++ ys) = omega (arith, all, two) in
     grind (arith, nat_tests)
-
-no_activity : (b : Bool) → not b ≡ true → b ≡ false
-no_activity true h = absurd (cc)
-no_activity false h = refl
 
 -- ---- tables
 
@@ -149,7 +142,7 @@ module _ (structs : List StructDef) (units : List UnitDef) (entry : ℕ) (keeps 
         faults_in_function table functions depths false (function_code structs (take k units) unit) ≡ []
     nothing depths chains function =
         let few : depth_of_function depths (function_code structs (take k units) unit) ≤ 100 = short structs units entry k unit depths passes there chains in
-        formed k unit table functions depths keeps there (no_activity (is_activity unit.kind) function) (before function)
+        formed k unit table functions depths keeps there (not-true (is_activity unit.kind) function) (before function)
         (numbered k unit there function) (knows.free k unit there (omega arith)) (omega (arith, few))
 
   -- nothing fails in these functions: what fails in the list fails behind them

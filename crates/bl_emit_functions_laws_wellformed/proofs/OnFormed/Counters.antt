@@ -20,31 +20,9 @@ use Rattle.bl_emit_acts.specs.declared.home.Home.{Home}
 use Rattle.bl_emit_acts.specs.declared.home.Home.TheVariants.{Held, Local, Lent}
 use Rattle.bl_emit_acts.specs.Places.{home_of}
 use Rattle.bl_emit_acts.specs.Types.{variable_name}
-use Rattle.bl_emit_functions.specs.Functions.{
-  again_code,
-  body_code,
-  body_coded,
-  code_returns,
-  copies_from,
-  end_code,
-  first_held,
-  flag_local,
-  flag_locals,
-  function_code,
-  has_local,
-  holds_any,
-  input_copied,
-  local_again,
-  local_of,
-  locals_again,
-  locals_from,
-  memory_local,
-  none_taken,
-  params_from,
-  read_code,
-  variable_locals,
-  whole_code,
-}
+use Rattle.bl_emit_functions.specs.Functions.{again_code, body_code, body_coded, code_returns, copies_from, end_code, first_held, flag_local, flag_locals}
+use Rattle.bl_emit_functions.specs.Functions.{function_code, has_local, holds_any, input_copied, local_again, local_of, locals_again, locals_from, memory_local}
+use Rattle.bl_emit_functions.specs.Functions.{none_taken, params_from, read_code, variable_locals, whole_code}
 use Rattle.bl_emit_functions.specs.Trees.{turn_name}
 use Rattle.bl_emit_functions.specs.Reads.{reads_in_block}
 use Rattle.bl_emit_functions_laws_wellformed.specs.Formed.{IsNumbered, TurnsDiffer}

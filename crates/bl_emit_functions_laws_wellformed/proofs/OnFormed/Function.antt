@@ -4,7 +4,7 @@ use Rattle.std.proofs.Common.{map, take, length}
 use Rattle.std.proofs.Common.{Option, Some, None, refl, sym, ap, ◌∙◌, subst, arith, codes}
 use Rattle.std.proofs.lemmas.Option.{slice_get_within}
 use Rattle.std.specs.Prelude.{is_none, is_some, option_map, slice_get, unwrap_or}
-use Rattle.std.specs.List.{list_all}
+use Rattle.bl_tree.proofs.Basics.{and_false, get_taken}
 use Rattle.bl_tree.specs.declared.c.CExpr.{CExpr}
 use Rattle.bl_tree.specs.declared.c.CMember.{CMember}
 use Rattle.bl_tree.specs.declared.c.CStmt.{CStmt}
@@ -14,15 +14,13 @@ use Rattle.bl_tree.specs.declared.scalar.Scalar.{Scalar as ScalarType}
 use Rattle.bl_tree.specs.declared.scalar.Scalar.TheVariants.{Bool as OfBool}
 use Rattle.bl_tree.specs.declared.tree.Role.{Role}
 use Rattle.bl_tree.specs.declared.tree.Role.TheVariants.{Input, Output, Variable as OfVariable, Fixed}
-use Rattle.bl_tree.specs.declared.tree.Stmt.{Stmt}
 use Rattle.bl_tree.specs.declared.tree.StructDef.{StructDef}
 use Rattle.bl_tree.specs.declared.tree.Unit.{Unit as UnitDef}
 use Rattle.bl_tree.specs.declared.tree.Var.{Var}
 use Rattle.bl_tree.specs.Program.{IsWellTyped, is_input, is_output, parameters_of}
-use Rattle.bl_tree.specs.Reduce.{all_of}
 use Rattle.bl_tree.specs.Types.{scalar_in}
 use Rattle.bl_tree.specs.Typing.{TypingContext, fits, inputs_of, is_activity, var_at}
-use Rattle.bl_eval.proofs.PassLemmas.{all_at, and_left, and_right, both, get_take}
+use Rattle.bl_eval.proofs.PassLemmas.{all_at}
 use Rattle.bl_ctext_semantics.specs.Faults.{Context, Signature}
 use Rattle.bl_ctext_semantics.specs.Tables.{Table, found}
 use Rattle.bl_emit_acts.specs.Acts.{c_set, is_copied}
@@ -43,7 +41,7 @@ use Rattle.bl_emit_acts_laws_wellformed.proofs.OnFormed.Acts.{block_append, bloc
 use Rattle.bl_emit_acts_laws_wellformed.proofs.OnFormed.Judged.{literal-is, read-is}
 use Rattle.bl_emit_acts_laws_wellformed.proofs.OnFormed.Operators.{hidden_is}
 use Rattle.bl_emit_acts_laws_wellformed.proofs.OnFormed.Parts.{c_scalar_type}
-use Rattle.bl_emit_acts_laws_wellformed.proofs.OnFormed.SiteActs.{no_more, own_place}
+use Rattle.bl_emit_acts_laws_wellformed.proofs.OnFormed.SiteActs.{own_place}
 use Rattle.bl_emit_acts_laws_wellformed.proofs.OnFormed.Typed.{pointer_place}
 use Rattle.bl_emit_acts_laws_wellformed.proofs.OnFormed.Units.{body_stands, inputs_stand}
 use Rattle.bl_emit_functions_laws_simulation.proofs.OnCalls.Locals.{declared_local}
@@ -54,11 +52,7 @@ use Rattle.bl_emit_functions_laws_wellformed.proofs.OnFormed.Shapes.{return-is}
 use Rattle.bl_emit_functions_laws_wellformed.proofs.OnFormed.Statements.{Good, body_good}
 use Rattle.bl_emit_functions_laws_wellformed.proofs.OnFormed.Variables.{declared_here, earlier_here, flag_there, my_context, my_site, n_flags, param_there}
 use Rattle.bl_emit_functions_laws_wellformed.proofs.OnFormed.Variables.{plain_here, typed_here}
-
-all_listed : (test : Stmt → Bool) (body : List Stmt) → list_all test body ≡ true → all_of (map test body) ≡ true
-all_listed test [] all = refl
-all_listed test (s ∷ body) all =
-    both (test s) (all_of (map test body)) (and_left (test s) (list_all test body) all) (all_listed test body (and_right (test s) (list_all test body) all))
+use Rattle.bl_eval.proofs.UnitFits.{all_listed}
 
 module _ (structs : List StructDef) (units : List UnitDef) (entry k : ℕ) (unit : UnitDef) (keeps : IsWellTyped structs units entry)
     (there : slice_get units k ≡ Some unit)
@@ -101,7 +95,7 @@ module _ (structs : List StructDef) (units : List UnitDef) (entry k : ℕ) (unit
       (set-is context (leads_through site j) (c_type structs var.ty) (place_in site j []) (c_read (c_place true (variable_name unit.vars j) [])) own
       (read-is context true (c_type structs var.ty) (c_place true (variable_name unit.vars j) [])
       (pointer_place context (variable_name unit.vars j) (c_type structs var.ty) param))
-      (ap (λ b. context.is_read_only && b) leads ∙ no_more context.is_read_only))
+      (ap (λ b. context.is_read_only && b) leads ∙ and_false context.is_read_only))
 
   copies_are : (base : ℕ) (vars : List Var) → ((j : ℕ) (var : Var) → slice_get vars j ≡ Some var
       → (slice_get (parameters_of unit) (base + j) ≡ Some var)
@@ -128,8 +122,8 @@ module _ (structs : List StructDef) (units : List UnitDef) (entry k : ℕ) (unit
       let within : j < length (inputs_of unit) = slice_get_within (inputs_of unit) j var found in
       let less : j < unit.inputs = few unit.vars unit.inputs j within in
       let more : j < unit.inputs + unit.outputs = omega (arith, less) in
-      let in_vars : slice_get unit.vars j ≡ Some var = sym (get_take unit.vars unit.inputs j less) ∙ found in (
-        subst (λ n. slice_get (parameters_of unit) n ≡ Some var) none (get_take unit.vars (unit.inputs + unit.outputs) j more ∙ in_vars),
+      let in_vars : slice_get unit.vars j ≡ Some var = sym (get_taken unit.vars unit.inputs j less) ∙ found in (
+        subst (λ n. slice_get (parameters_of unit) n ≡ Some var) none (get_taken unit.vars (unit.inputs + unit.outputs) j more ∙ in_vars),
         subst (λ n. slice_get unit.vars n ≡ Some var) none in_vars,
         all_at (λ (var : Var). is_input var.role) (inputs_of unit) j var (inputs_stand structs units entry keeps k unit there) found,
       )
@@ -186,7 +180,7 @@ module _ (structs : List StructDef) (units : List UnitDef) (entry k : ℕ) (unit
       (plain_here structs units entry k unit keeps there function table functions before numbers) j var in_vars in
       block_one context (c_set (place_in site j []) value)
       (set-is context (leads_through site j) (c_type structs var.ty) (place_in site j []) value own (is own)
-      (ap (λ b. context.is_read_only && b) leads ∙ no_more context.is_read_only))
+      (ap (λ b. context.is_read_only && b) leads ∙ and_false context.is_read_only))
 
   again_is : (j : ℕ) (var : Var) → slice_get unit.vars j ≡ Some var → home_of site (Some var) ≡ Held → BlockIs context (c_set_again site j ∷ [])
   again_is j var in_vars is =

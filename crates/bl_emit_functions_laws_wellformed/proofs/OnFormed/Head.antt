@@ -9,6 +9,8 @@ use Rattle.std.proofs.lemmas.Option.{slice_get_within}
 use Rattle.std.proofs.lemmas.Slice.Eq.{bytes_eq-Decides}
 use Rattle.std.specs.Prelude.{bytes_eq, is_none, is_some, nat_le, option_map, slice_get}
 use Rattle.std.specs.List.{list_all, list_any}
+use Rattle.std.proofs.lemmas.Bool.{and_from, not-true, or_from}
+use Rattle.bl_tree.proofs.Basics.{all_append, and_first, and_second, neither_first, neither_second}
 use Rattle.bl_tree.specs.declared.text.Text.{Text}
 use Rattle.bl_tree.specs.declared.c.CExpr.{CExpr}
 use Rattle.bl_tree.specs.declared.c.CFunc.{CFunc}
@@ -27,7 +29,6 @@ use Rattle.bl_tree.specs.Program.{IsWellTyped, is_output, locals_of, parameters_
 use Rattle.bl_tree.specs.Types.{scalar_in, type_stands}
 use Rattle.bl_tree.specs.Typing.{TypingContext, inputs_of, is_activity, site_of, var_at}
 use Rattle.bl_tree.specs.Words.{are_distinct, is_among}
-use Rattle.bl_eval.proofs.PassLemmas.{and_left, and_right, both}
 use Rattle.bl_ctext_semantics.specs.Faults.{Context, Signature, all_distinct, declared_before, depth_of_function, distinct_names, faults_in_head}
 use Rattle.bl_ctext_semantics.specs.Faults.{is_declared, is_scalar, last_or, last_returns, returns_result, scalar_parameter, short_chain}
 use Rattle.bl_ctext_semantics.specs.Faults.{surely_returns, variable_names}
@@ -48,12 +49,11 @@ use Rattle.bl_emit_acts_laws_wellformed.proofs.OnFormed.Units.{roles_at, taken_t
 use Rattle.bl_emit_structs_laws_wellformed.proofs.OnFormed.Faultless.{all_differ}
 use Rattle.bl_emit_functions_laws_simulation.proofs.OnCalls.Locals.{parameters_many, parameters_within}
 use Rattle.bl_emit_functions_laws_wellformed.specs.Formed.{IsNumbered, StandsBefore}
-use Rattle.bl_emit_functions_laws_wellformed.proofs.OnFormed.Kept.{all_made, every, false_both, kept_differ, locals_made, map_made, names_from}
+use Rattle.bl_emit_functions_laws_wellformed.proofs.OnFormed.Kept.{all_made, every, kept_differ, locals_made, map_made, names_from}
 use Rattle.bl_emit_functions_laws_wellformed.proofs.OnFormed.Kept.{other_name, params_made, variables_differ}
 use Rattle.bl_emit_functions_laws_wellformed.proofs.OnFormed.Locals.{locals_behind}
 use Rattle.bl_emit_functions_laws_wellformed.proofs.OnFormed.Lookups.{numbers_differ}
 use Rattle.bl_emit_functions_laws_wellformed.proofs.OnFormed.Variables.{declared_here, my_context, my_site, typed_here}
-use Rattle.bl_emit_functions_laws_wellformed.proofs.OnSpelled.Types.{all_append}
 
 -- ---- names of parameters and locals differ
 
@@ -67,29 +67,17 @@ swapped a b other = by (bytes_eq b a) refl
     by false is = refl
     by true is = absurd (let no : true ≡ false = sym ((bytes_eq-Decides a b).1 (sym ((bytes_eq-Decides b a).0 is))) ∙ other in cc)
 
--- what is among neither is not among both
-among_neither : (x : Text) (xs ys : List Text) → is_among x xs ≡ false → is_among x ys ≡ false → is_among x (xs ++ ys) ≡ false
+-- what is among neither is not among and_from
+pub among_neither : (x : Text) (xs ys : List Text) → is_among x xs ≡ false → is_among x ys ≡ false → is_among x (xs ++ ys) ≡ false
 among_neither x xs ys one other = list_any-append (bytes_eq x) xs ys ∙ (λ i. one i || other i)
-
-false_first : (a b : Bool) → (a || b) ≡ false → a ≡ false
-false_first false b h = refl
-false_first true b h = absurd (cc)
-
-false_second : (a b : Bool) → (a || b) ≡ false → b ≡ false
-false_second false b h = h
-false_second true b h = absurd (cc)
-
-not_false : (b : Bool) → not b ≡ true → b ≡ false
-not_false false h = refl
-not_false true h = absurd (let no : false ≡ true = h in cc)
 
 distinct_push : (xs : List Text) (x : Text) → are_distinct xs ≡ true → is_among x xs ≡ false → are_distinct (xs ++ x ∷ []) ≡ true
 distinct_push [] x differ new = refl
 distinct_push (y ∷ xs) x differ new =
-    both (not (is_among y (xs ++ x ∷ []))) (are_distinct (xs ++ x ∷ []))
-    (ap not (among_neither y xs (x ∷ []) (not_false (is_among y xs) (and_left (not (is_among y xs)) (are_distinct xs) differ))
-    (false_both (bytes_eq y x) false (swapped x y (false_first (bytes_eq x y) (is_among x xs) new)) refl)))
-    (distinct_push xs x (and_right (not (is_among y xs)) (are_distinct xs) differ) (false_second (bytes_eq x y) (is_among x xs) new))
+    and_from (not (is_among y (xs ++ x ∷ []))) (are_distinct (xs ++ x ∷ []))
+    (ap not (among_neither y xs (x ∷ []) (not-true (is_among y xs) (and_first (not (is_among y xs)) (are_distinct xs) differ))
+    (or_from (bytes_eq y x) false (swapped x y (neither_first (bytes_eq x y) (is_among x xs) new)) refl)))
+    (distinct_push xs x (and_second (not (is_among y xs)) (are_distinct xs) differ) (neither_second (bytes_eq x y) (is_among x xs) new))
 
 names_append : (xs ys : List CLocal) → local_names (xs ++ ys) ≡ local_names xs ++ local_names ys
 names_append xs ys = map-append (λ (l : CLocal). l.name) xs ys
@@ -101,7 +89,7 @@ flags_other x (suc n) other =
     ap (is_among x) (names_append (flag_locals n) (flag_local n ∷ []))
     ∙ among_neither x (local_names (flag_locals n)) (local_names (flag_local n ∷ []))
     (flags_other x n (λ k less. let more : k < suc n = omega (arith, less) in other k more))
-    (false_both (bytes_eq x (flag_name n)) false (let last : n < suc n = omega arith in other n last) refl)
+    (or_from (bytes_eq x (flag_name n)) false (let last : n < suc n = omega arith in other n last) refl)
 
 flags_differ : (n : ℕ) → n ≤ 2 ^ 64 → are_distinct (local_names (flag_locals n)) ≡ true
 flags_differ zero few = refl
@@ -111,16 +99,16 @@ flags_differ (suc n) few =
     (flags_other (flag_name n) n (λ k less. let small : n < 2 ^ 64 = omega (arith, few) in swapped (flag_name k)
     (flag_name n) (numbers_differ 113 k n less small)))
 
--- two lists of names that differ, none of which is in both
+-- two lists of names that differ, none of which is in and_from
 distinct_append : (xs ys : List Text) → are_distinct xs ≡ true → are_distinct ys ≡ true → list_all (λ x. not (is_among x ys)) xs ≡ true →
     are_distinct (xs ++ ys) ≡ true
 distinct_append [] ys one other apart = other
 distinct_append (x ∷ xs) ys one other apart =
-    both (not (is_among x (xs ++ ys))) (are_distinct (xs ++ ys))
-    (ap not (among_neither x xs ys (not_false (is_among x xs) (and_left (not (is_among x xs)) (are_distinct xs) one))
-    (not_false (is_among x ys) (and_left (not (is_among x ys)) (list_all (λ x. not (is_among x ys)) xs) apart))))
-    (distinct_append xs ys (and_right (not (is_among x xs)) (are_distinct xs) one) other
-    (and_right (not (is_among x ys)) (list_all (λ x. not (is_among x ys)) xs) apart))
+    and_from (not (is_among x (xs ++ ys))) (are_distinct (xs ++ ys))
+    (ap not (among_neither x xs ys (not-true (is_among x xs) (and_first (not (is_among x xs)) (are_distinct xs) one))
+    (not-true (is_among x ys) (and_first (not (is_among x ys)) (list_all (λ x. not (is_among x ys)) xs) apart))))
+    (distinct_append xs ys (and_second (not (is_among x xs)) (are_distinct xs) one) other
+    (and_second (not (is_among x ys)) (list_all (λ x. not (is_among x ys)) xs) apart))
 
 module _ (structs : List StructDef) (earlier : List UnitDef) (unit : UnitDef) (roles : roles_stand unit ≡ true) (few : length unit.vars ≤ 2 ^ 64) where
   abbrev here : TypingContext
@@ -170,7 +158,7 @@ module _ (structs : List StructDef) (earlier : List UnitDef) (unit : UnitDef) (r
   locals_differ : (n : ℕ) → n ≤ 2 ^ 64 → (holds : Bool) → are_distinct (local_names (memory_local unit.name holds ++ single_locals n)) ≡ true
   locals_differ n most false = singles_differ n most
   locals_differ n most true =
-      both (not (is_among (codes "m") (local_names (single_locals n)))) (are_distinct (local_names (single_locals n)))
+      and_from (not (is_among (codes "m") (local_names (single_locals n)))) (are_distinct (local_names (single_locals n)))
       (ap not (single_other n (codes "m") (λ k low high. refl) (λ k. refl))) (singles_differ n most)
 
   -- no parameter has a local's name
@@ -226,7 +214,7 @@ module _ (structs : List StructDef) where
 
 -- ---- returns
 
-return-returns : (value : Option CExpr) → surely_returns (c_return value) ≡ true
+pub return-returns : (value : Option CExpr) → surely_returns (c_return value) ≡ true
 return-returns value =
     subst (λ (k : CStmtKind). surely_returns (roll-CStmt (record { place = nowhere; what = k })) ≡ true) (statement.rolls-Return value) (form value)
   where
@@ -355,7 +343,7 @@ module _ (structs : List StructDef) (units : List UnitDef) (entry k : ℕ) (unit
   memory_declared false is = refl
   memory_declared true is =
       let some = members_some 0 unit.vars is in
-      both (is_some (table (memory_name unit.name))) true
+      and_from (is_some (table (memory_name unit.name))) true
       (memory_there (members_from site 0 unit.vars) some.0 some.1.0 some.1.1 before.memory) refl
 
   locals_declared : list_all (λ (l : CLocal). is_declared table l.ty) f.locals ≡ true
@@ -382,7 +370,7 @@ module _ (structs : List StructDef) (units : List UnitDef) (entry k : ℕ) (unit
       let three = kept (list_all (λ (p : CParam). is_declared table p.ty) f.params && list_all (λ (l : CLocal). is_declared table l.ty) f.locals)
       declared_before
       f.place
-      (both (list_all (λ (p : CParam). is_declared table p.ty) f.params) (list_all (λ (l : CLocal). is_declared table l.ty) f.locals) params_declared
+      (and_from (list_all (λ (p : CParam). is_declared table p.ty) f.params) (list_all (λ (l : CLocal). is_declared table l.ty) f.locals) params_declared
       locals_declared) in
       let four = kept (list_all (λ (p : CParam). p.pointer || is_scalar p.ty) f.params) scalar_parameter f.place params_scalar in
       let six = kept (nat_le (depth_of_function depths f) 300) short_chain f.place (at_most (depth_of_function depths f) short) in

@@ -5,12 +5,12 @@ use Rattle.std.proofs.lemmas.List.{map-append}
 use Rattle.std.proofs.lemmas.List.Folds.{list_all-append}
 use Rattle.std.specs.List.{list_all}
 use Rattle.std.specs.Prelude.{bytes_eq, slice_get}
+use Rattle.std.proofs.lemmas.Bool.{and_from, or_from}
 use Rattle.bl_tree.specs.declared.text.Text.{Text}
 use Rattle.bl_tree.specs.declared.tree.StructDef.{StructDef}
 use Rattle.bl_tree.specs.declared.tree.Var.{Var}
 use Rattle.bl_tree.specs.Typing.{TypingContext}
 use Rattle.bl_tree.specs.Words.{are_distinct, is_among}
-use Rattle.bl_eval.proofs.PassLemmas.{both}
 use Rattle.bl_emit_acts.specs.Places.{home_of}
 use Rattle.bl_emit_acts.specs.Types.{variable_name}
 use Rattle.bl_emit_functions.specs.Functions.{has_local, held_member, is_held, local_of, locals_from, member_of, members_from, param_of, params_from}
@@ -79,11 +79,11 @@ pub all_made : {A : Type 0} (test : A → Bool) (kept : Var → Bool) (make : �
 all_made test kept make base [] each = refl
 all_made test kept make base (var ∷ rest) each =
     list_all-append test (one_where (kept var) (make base var)) (made_from kept make (base + 1) rest)
-    ∙ both (list_all test (one_where (kept var) (make base var))) (list_all test (made_from kept make (base + 1) rest)) (by (kept var))
+    ∙ and_from (list_all test (one_where (kept var) (make base var))) (list_all test (made_from kept make (base + 1) rest)) (by (kept var))
     (all_made test kept make (base + 1) rest (λ k j v at found. each k (suc j) v (omega (arith, at)) found))
   where
     by : (b : Bool) → list_all test (one_where b (make base var)) ≡ true
-    by true = both (test (make base var)) true (each base 0 var (omega arith) refl) refl
+    by true = and_from (test (make base var)) true (each base 0 var (omega arith) refl) refl
     by false = refl
 
 -- nothing is made of the first variables where none of them passes
@@ -105,10 +105,6 @@ made_behind kept make (suc n) base (var ∷ rest) none =
 
 -- ---- their names
 
-pub false_both : (a b : Bool) → a ≡ false → b ≡ false → (a || b) ≡ false
-false_both false b one other = other
-false_both true b one other = absurd (cc)
-
 -- names of variables at different positions differ
 pub variables_differ : (vars : List Var) (j k : ℕ) → j < k → k < 2 ^ 64 → bytes_eq (variable_name vars j) (variable_name vars k) ≡ false
 variables_differ vars j k less small =
@@ -128,7 +124,7 @@ module _ (all : List Var) (kept : Var → Bool) where
     where
       by : (b : Bool) → bytes_eq x (variable_name all base) ≡ false → is_among x (names_from (base + 1) vars) ≡ false →
           is_among x (one_where b (variable_name all base) ++ names_from (base + 1) vars) ≡ false
-      by true one rest = false_both (bytes_eq x (variable_name all base)) (is_among x (names_from (base + 1) vars)) one rest
+      by true one rest = or_from (bytes_eq x (variable_name all base)) (is_among x (names_from (base + 1) vars)) one rest
       by false one rest = rest
 
   -- nor is that of an earlier variable
@@ -148,5 +144,5 @@ module _ (all : List Var) (kept : Var → Bool) where
       by : (b : Bool) → is_among (variable_name all base) (names_from (base + 1) vars) ≡ false → are_distinct (names_from (base + 1) vars) ≡ true →
           are_distinct (one_where b (variable_name all base) ++ names_from (base + 1) vars) ≡ true
       by true new rest =
-          both (not (is_among (variable_name all base) (names_from (base + 1) vars))) (are_distinct (names_from (base + 1) vars)) (ap not new) rest
+          and_from (not (is_among (variable_name all base) (names_from (base + 1) vars))) (are_distinct (names_from (base + 1) vars)) (ap not new) rest
       by false new rest = rest

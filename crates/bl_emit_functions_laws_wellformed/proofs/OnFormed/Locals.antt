@@ -1,6 +1,7 @@
 -- The variables of a function that are locals by themselves: scalars, which stand behind the parameters.
 use Rattle.std.proofs.Common.{◌≡◌, ℕ, ◌+◌, ◌<◌, ◌≤◌, Bool, true, false, ◌||◌, List, Option, Some, None, refl, sym, ap, ◌∙◌, arith}
 use Rattle.std.specs.Prelude.{is_some, slice_get}
+use Rattle.bl_tree.proofs.Basics.{and_first, and_second}
 use Rattle.bl_tree.specs.declared.scalar.Scalar.{Scalar as ScalarType}
 use Rattle.bl_tree.specs.declared.tree.StructDef.{StructDef}
 use Rattle.bl_tree.specs.declared.tree.Unit.{Unit as UnitDef}
@@ -8,7 +9,6 @@ use Rattle.bl_tree.specs.declared.tree.Var.{Var}
 use Rattle.bl_tree.specs.Program.{locals_of, roles_stand}
 use Rattle.bl_tree.specs.Types.{scalar_in}
 use Rattle.bl_tree.specs.Typing.{TypingContext, is_fixed, is_function, is_variable, site_of}
-use Rattle.bl_eval.proofs.PassLemmas.{and_left, and_right}
 use Rattle.bl_emit_acts.specs.Places.{is_alone}
 use Rattle.bl_emit_functions.specs.Functions.{has_local, locals_from, variable_local}
 use Rattle.bl_emit_functions_laws_simulation.proofs.OnCalls.Locals.{declared_behind}
@@ -17,7 +17,7 @@ use Rattle.bl_emit_functions_laws_wellformed.proofs.OnFormed.Kept.{locals_made, 
 pub scalar_of_local : (site : TypingContext) (var : Var) → has_local site var ≡ true → (s : ScalarType) × (scalar_in var.ty ≡ Some s)
 scalar_of_local site var local =
     by (scalar_in var.ty)
-    (and_right (is_function site.kind) (is_some (scalar_in var.ty)) (and_left (is_alone site var.ty) (is_variable var.role || is_fixed var.role) local))
+    (and_second (is_function site.kind) (is_some (scalar_in var.ty)) (and_first (is_alone site var.ty) (is_variable var.role || is_fixed var.role) local))
   where
     by : (o : Option ScalarType) → is_some o ≡ true → (s : ScalarType) × (o ≡ Some s)
     by None some = absurd (cc)
@@ -29,7 +29,7 @@ module _ (structs : List StructDef) (earlier : List UnitDef) (unit : UnitDef) (r
 
   pub local_behind : (j : ℕ) (var : Var) → slice_get unit.vars j ≡ Some var → has_local site var ≡ true → unit.inputs + unit.outputs ≤ j
   local_behind j var there local =
-      declared_behind structs earlier unit roles j var there (and_right (is_alone site var.ty) (is_variable var.role || is_fixed var.role) local)
+      declared_behind structs earlier unit roles j var there (and_second (is_alone site var.ty) (is_variable var.role || is_fixed var.role) local)
 
   no_parameter : (j : ℕ) (var : Var) → j < unit.inputs + unit.outputs → slice_get unit.vars j ≡ Some var → has_local site var ≡ false
   no_parameter j var less there = by (has_local site var) refl

@@ -80,7 +80,7 @@ numbers_differ letter j k less small = by (bytes_eq (letter ∷ decimal j) (lett
         let equal : j ≡ k = decimal_injective j k low small (ap (drop 1) text) in
         absurd (omega (arith, equal, less))
 
-itself : (name : Text) → bytes_eq name name ≡ true
+pub itself : (name : Text) → bytes_eq name name ≡ true
 itself name = (bytes_eq-Decides name name).1 refl
 
 -- ---- what is made of variables, under their names

@@ -1,9 +1,10 @@
 -- The struct of a function's variables has variables of the program as its members.
-use Rattle.std.proofs.Common.{◌≡◌, ℕ, zero, suc, ◌+◌, ◌<◌, ◌≤◌, ◌^◌, Bool, true, false, List, [], ◌∷◌}
+use Rattle.std.proofs.Common.{◌≡◌, ℕ, suc, ◌+◌, ◌<◌, ◌≤◌, ◌^◌, Bool, true, false, List, [], ◌∷◌}
 use Rattle.std.proofs.Common.{map, take, length, Some}
 use Rattle.std.proofs.Common.{refl, sym, ap, ◌∙◌, subst, arith, ⊎_elim}
 use Rattle.std.proofs.lemmas.List.Elements.{Contains-append_cases}
-use Rattle.std.specs.Prelude.{Contains, get_or, slice_get}
+use Rattle.std.specs.Prelude.{Contains, slice_get}
+use Rattle.bl_tree.proofs.Basics.{contains_none, contains_one}
 use Rattle.bl_tree.specs.declared.text.Text.{Text}
 use Rattle.bl_tree.specs.declared.c.CMember.{CMember}
 use Rattle.bl_tree.specs.declared.c.CStruct.{CStruct}
@@ -22,16 +23,6 @@ use Rattle.bl_emit_functions_laws_wellformed.proofs.OnFormed.Kept.{is_held_in, k
 abbrev names : List CMember → List Text
 names members = map (λ (m : CMember). m.name) members
 
-alone : {X : Type 0} (x y : X) → Contains (x ∷ []) y → x ≡ y
-alone x y has = by has.0 has.1 has.2
-  where
-    by : (k : ℕ) → k < 1 → get_or (x ∷ []) k y ≡ y → x ≡ y
-    by zero lt is = is
-    by (suc k) lt is = absurd (omega arith)
-
-none_has : {X : Type 0} (x : X) → Contains [] x → ⊥
-none_has x has = let lt = has.1 in omega arith
-
 -- a member is that of a variable of a list
 record OfList (structs : List StructDef) (vars : List Var) (m : CMember) : Type 0 where
   j : ℕ
@@ -47,14 +38,14 @@ module _ (site : TypingContext) where
       ∙ kept_differ site.vars (is_held_in site) 0 vars (omega (arith, few))
 
   members_are : (base : ℕ) (vars : List Var) (m : CMember) → Contains (members_from site base vars) m → OfList site.structs vars m
-  members_are base [] m has = absurd (none_has m has)
+  members_are base [] m has = absurd (contains_none m has)
   members_are base (v ∷ vars) m has =
       ⊎_elim (own (is_held (home_of site (Some v)))) (λ later. further (members_are (base + 1) vars m later))
       (Contains-append_cases (member_of (is_held (home_of site (Some v))) site.structs site.vars base v) (members_from site (base + 1) vars) m has)
     where
       own : (b : Bool) → Contains (member_of b site.structs site.vars base v) m → OfList site.structs (v ∷ vars) m
-      own true here = record { j = 0; var = v; there = refl; is = ap (λ (m : CMember). m.ty) (sym (alone (held_member site.structs site.vars base v) m here)) }
-      own false here = absurd (none_has m here)
+      own true here = record { j = 0; var = v; there = refl; is = ap (λ (m : CMember). m.ty) (sym (contains_one (held_member site.structs site.vars base v) m here)) }
+      own false here = absurd (contains_none m here)
 
       further : OfList site.structs vars m → OfList site.structs (v ∷ vars) m
       further found = record { j = suc found.j; var = found.var; there = found.there; is = found.is }
@@ -66,9 +57,9 @@ module _ (structs : List StructDef) (units : List UnitDef) (k : ℕ) (unit : Uni
 
   memory_by : (members : List CMember) → are_distinct (names members) ≡ true → ((m : CMember) → Contains members m → OfVariable structs units m) →
       (s : CStruct) → Contains (struct_of unit.name members) s → IsMemory structs units s
-  memory_by [] differ each s has = absurd (none_has s has)
+  memory_by [] differ each s has = absurd (contains_none s has)
   memory_by (m ∷ rest) differ each s has =
-      subst (IsMemory structs units) (alone _ s has) (record { rest = unit.name; named = refl; distinct = differ; members = each })
+      subst (IsMemory structs units) (contains_one _ s has) (record { rest = unit.name; named = refl; distinct = differ; members = each })
 
   pub memory_is : (s : CStruct) → Contains (memory_struct structs (take k units) unit) s → IsMemory structs units s
   memory_is =

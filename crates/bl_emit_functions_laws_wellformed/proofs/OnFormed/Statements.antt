@@ -5,6 +5,7 @@ use Rattle.std.proofs.Common.{ap, ◌∙◌, subst, arith}
 use Rattle.std.proofs.lemmas.List.Elements.{All-head, All-tail}
 use Rattle.std.proofs.lemmas.Option.{same_Some}
 use Rattle.std.specs.Prelude.{is_some, option_and_then, option_map, if◌then◌else◌}
+use Rattle.bl_tree.proofs.Basics.{and_false, and_first, and_second}
 use Rattle.bl_tree.specs.declared.c.CExpr.{CExpr}
 use Rattle.bl_tree.specs.declared.c.CStmt.{CStmt}
 use Rattle.bl_tree.specs.declared.c.CType.TheVariants.{Scalar as OfScalar}
@@ -30,44 +31,22 @@ use Rattle.bl_tree.specs.Typing.{TypingContext, are_same, arm_fits, branch_fits,
 use Rattle.bl_tree.specs.Typing.{stmt_fits, type_of, var_at}
 use Rattle.bl_tree.proofs.StmtInduction.{Cases, Each, EachArm, induct, stmt}
 use Rattle.bl_eval.proofs.OperatorFits.{scalar_alone}
-use Rattle.bl_eval.proofs.PassLemmas.{and_left, and_right}
 use Rattle.bl_ctext_semantics.specs.Faults.{Context, bool_type, faults_in_stmt}
 use Rattle.bl_emit_acts.specs.Acts.{c_calling, c_set, call_made, code_made, declared_code, is_copied}
 use Rattle.bl_emit_acts.specs.Expressions.{stands}
 use Rattle.bl_emit_acts.specs.Trees.{c_read, c_two}
 use Rattle.bl_emit_acts.specs.Types.{c_scalar, c_type}
 use Rattle.bl_emit_functions.specs.declared.coded.Free.{Free}
-use Rattle.bl_emit_functions.specs.Statements.{
-  ArmCodes,
-  Codes,
-  arm_codes,
-  arm_taken,
-  arms_taken,
-  assigned_code,
-  block_codes,
-  branch_codes,
-  break_code,
-  choice_code,
-  codes_of,
-  codes_of_arm,
-  either_code,
-  else_code,
-  flag_taken,
-  flagged_code,
-  kind_codes,
-  loop_code,
-  sets_itself,
-  stmt_codes,
-  turn_taken,
-  untaken_code,
-}
+use Rattle.bl_emit_functions.specs.Statements.{ArmCodes, Codes, arm_codes, arm_taken, arms_taken, assigned_code, block_codes, branch_codes, break_code}
+use Rattle.bl_emit_functions.specs.Statements.{choice_code, codes_of, codes_of_arm, either_code, else_code, flag_taken, flagged_code, kind_codes, loop_code}
+use Rattle.bl_emit_functions.specs.Statements.{sets_itself, stmt_codes, turn_taken, untaken_code}
 use Rattle.bl_emit_functions.specs.Trees.{c_break, c_if, c_return, c_truth, flag_name, flag_place, turn_name}
 use Rattle.bl_emit_acts_laws_wellformed.specs.Formed.Declared.{ChangesNone, Declared, InActivity, variable_of}
 use Rattle.bl_emit_acts_laws_wellformed.specs.Formed.Formed.{BlockIs, ExprIs, PlaceIs, StmtIs}
 use Rattle.bl_emit_acts_laws_wellformed.proofs.OnFormed.Acts.{block_append, block_cons, block_nil, block_one, set-is}
 use Rattle.bl_emit_acts_laws_wellformed.proofs.OnFormed.Judged.{literal-is, read-is, two-is}
 use Rattle.bl_emit_acts_laws_wellformed.proofs.OnFormed.Parts.{c_scalar_type}
-use Rattle.bl_emit_acts_laws_wellformed.proofs.OnFormed.SiteActs.{EarlierStand, assign_is, call_is, code_typed, declare_is, no_more, same_types}
+use Rattle.bl_emit_acts_laws_wellformed.proofs.OnFormed.SiteActs.{EarlierStand, assign_is, call_is, code_typed, declare_is, same_types}
 use Rattle.bl_emit_acts_laws_wellformed.proofs.OnFormed.Typed.{variable_place}
 use Rattle.bl_emit_functions_laws_wellformed.proofs.OnFormed.Shapes.{BlockIn, OtherIn, break-in, if-in, if-is, loop-is, return-is, return_none-is}
 
@@ -81,10 +60,6 @@ module _ (context : Context) (most : ℕ) (flags : (k : ℕ) → k < most → co
   pub record GoodArm (arm : ArmCodes) : Type 0 where
     pub test : ExprIs context bool_type arm.test
     pub body : Good arm.body
-
-  abbrev AllGood : List Codes → Type 0
-  AllGood [] = Unit {0}
-  AllGood (codes ∷ rest) = Good codes × AllGood rest
 
   abbrev AllArms : List ArmCodes → Type 0
   AllArms [] = Unit {0}
@@ -115,7 +90,7 @@ module _ (context : Context) (most : ℕ) (flags : (k : ℕ) → k < most → co
   truth-is false = literal-is context OfBool (pos 0)
 
   flag_set : (k : ℕ) (b : Bool) → k < most → StmtIs context (c_set (flag_place k) (c_truth b))
-  flag_set k b less = set-is context false bool_type (flag_place k) (c_truth b) (flag-is k less) (truth-is b) (no_more context.is_read_only)
+  flag_set k b less = set-is context false bool_type (flag_place k) (c_truth b) (flag-is k less) (truth-is b) (and_false context.is_read_only)
 
   flag_read : (k : ℕ) → k < most → ExprIs context bool_type (c_read (flag_place k))
   flag_read k less = read-is context false bool_type (flag_place k) (flag-is k less)
@@ -267,8 +242,8 @@ module _ (context : Context) (most : ℕ) (flags : (k : ℕ) → k < most → co
     all_good : (body : List Stmt) → Each S body → all_of (map (fits site) body) ≡ true → Good (block_codes (map (codes_of site) body))
     all_good [] each fitted = nothing_good
     all_good (s ∷ body) each fitted =
-        then_good (codes_of site s) (map (codes_of site) body) (All-head S s body each (and_left (fits site s) (all_of (map (fits site) body)) fitted))
-        (all_good body (All-tail S s body each) (and_right (fits site s) (all_of (map (fits site) body)) fitted))
+        then_good (codes_of site s) (map (codes_of site) body) (All-head S s body each (and_first (fits site s) (all_of (map (fits site) body)) fitted))
+        (all_good body (All-tail S s body each) (and_second (fits site s) (all_of (map (fits site) body)) fitted))
 
     abbrev arm_fitted : Arm → Bool
     arm_fitted = fold-Arm Bool Bool Bool Bool (kind_fits site) (arm_fits site) branch_fits stmt_fits
@@ -281,8 +256,8 @@ module _ (context : Context) (most : ℕ) (flags : (k : ℕ) → k < most → co
     arm_good arm each fitted =
         let fits_so = sym (fold_out-Arm Bool Bool Bool Bool (kind_fits site) (arm_fits site) branch_fits stmt_fits arm) ∙ fitted in
         subst GoodArm (sym (arm_out arm)) (record {
-          test = test-is (out-Arm arm).test (and_left (is_truth (type_of site (out-Arm arm).test)) (all_of (map (fits site) (out-Arm arm).body)) fits_so);
-          body = all_good (out-Arm arm).body each (and_right (is_truth (type_of site (out-Arm arm).test))
+          test = test-is (out-Arm arm).test (and_first (is_truth (type_of site (out-Arm arm).test)) (all_of (map (fits site) (out-Arm arm).body)) fits_so);
+          body = all_good (out-Arm arm).body each (and_second (is_truth (type_of site (out-Arm arm).test))
               (all_of (map (fits site) (out-Arm arm).body)) fits_so);
         })
 
@@ -292,8 +267,8 @@ module _ (context : Context) (most : ℕ) (flags : (k : ℕ) → k < most → co
     arms_good : (arms : List Arm) → EachArm S arms → all_of (map arm_fitted arms) ≡ true → AllArms (map (codes_of_arm site) arms)
     arms_good [] each fitted = tt
     arms_good (arm ∷ arms) each fitted = (
-      arm_good arm (All-head OfArm arm arms each) (and_left (arm_fitted arm) (all_of (map arm_fitted arms)) fitted),
-      arms_good arms (All-tail OfArm arm arms each) (and_right (arm_fitted arm) (all_of (map arm_fitted arms)) fitted),
+      arm_good arm (All-head OfArm arm arms each) (and_first (arm_fitted arm) (all_of (map arm_fitted arms)) fitted),
+      arms_good arms (All-tail OfArm arm arms each) (and_second (arm_fitted arm) (all_of (map arm_fitted arms)) fitted),
     )
 
     return_good : (e : Option Expr) (r : Option ScalarType) → site.result ≡ r → return_fits site e r ≡ true →
@@ -316,12 +291,12 @@ module _ (context : Context) (most : ℕ) (flags : (k : ℕ) → k < most → co
         by false = block_one context (c_set (stands site path).place (code_made site e)) is
 
     never_activity : (b : Bool) → (is_activity site.kind && b) ≡ true → ⊥
-    never_activity b h = let no = sym (and_left (is_activity site.kind) b h) ∙ function in cc
+    never_activity b h = let no = sym (and_first (is_activity site.kind) b h) ∙ function in cc
 
     never_run : (target : Option Path) (inputs : List Expr) (outputs : List Path) (callee : Option UnitDef)
         → run_fits site target inputs outputs callee ≡ true → ⊥
     never_run target inputs outputs None h = cc
-    never_run target inputs outputs (Some callee) h = never_activity _ (and_left _ _ h)
+    never_run target inputs outputs (Some callee) h = never_activity _ (and_first _ _ h)
 
     as_codes : (a b : Codes) → a ≡ b → Good b → Good a
     as_codes a b is good = subst Good (sym is) good
@@ -380,12 +355,12 @@ module _ (context : Context) (most : ℕ) (flags : (k : ℕ) → k < most → co
       await = λ place e fitted. absurd (never_activity _ (rw (fold-roll-Stmt, fold-roll-StmtKind) at fitted));
       run = λ place target a inputs outputs fitted. absurd (never_run _ _ _ _ (rw (fold-roll-Stmt, fold-roll-StmtKind) at fitted));
       branching = λ place arms other each others fitted.
-          let both = and_right (is_inhabited (map arm_fitted arms)) (all_of (map arm_fitted arms) && all_of (map (fits site) other))
+          let both = and_second (is_inhabited (map arm_fitted arms)) (all_of (map arm_fitted arms) && all_of (map (fits site) other))
           (rw (fold-roll-Stmt, fold-roll-StmtKind) at fitted) in
           as_codes _ _ (if_codes place arms other)
           (choice_good (map (codes_of_arm site) arms) (block_codes (map (codes_of site) other))
-          (arms_good arms each (and_left (all_of (map arm_fitted arms)) (all_of (map (fits site) other)) both))
-          (all_good other others (and_right (all_of (map arm_fitted arms)) (all_of (map (fits site) other)) both)));
+          (arms_good arms each (and_first (all_of (map arm_fitted arms)) (all_of (map (fits site) other)) both))
+          (all_good other others (and_second (all_of (map arm_fitted arms)) (all_of (map (fits site) other)) both)));
       cobegin = λ place branches each fitted. absurd (never_activity _ (rw (fold-roll-Stmt, fold-roll-StmtKind) at fitted));
       guarded = λ place guard e body each fitted. absurd (never_activity _ (rw (fold-roll-Stmt, fold-roll-StmtKind) at fitted));
       repeat = λ place body each fitted.
@@ -396,14 +371,14 @@ module _ (context : Context) (most : ℕ) (flags : (k : ℕ) → k < most → co
           let parts = rw (fold-roll-Stmt, fold-roll-StmtKind) at fitted in
           as_codes _ _ (until_codes place body e)
           (loop_good (c_truth true) (break_code (code_made site e)) (block_codes (map (codes_of site) body)) (truth-is true)
-          (break-is (code_made site e) (test-is e (and_right (all_of (map (fits site) body)) (is_truth (type_of site e)) parts)))
-          (all_good body each (and_left (all_of (map (fits site) body)) (is_truth (type_of site e)) parts)));
+          (break-is (code_made site e) (test-is e (and_second (all_of (map (fits site) body)) (is_truth (type_of site e)) parts)))
+          (all_good body each (and_first (all_of (map (fits site) body)) (is_truth (type_of site e)) parts)));
       while = λ place e body each fitted.
           let parts = rw (fold-roll-Stmt, fold-roll-StmtKind) at fitted in
           as_codes _ _ (while_codes place e body)
           (loop_good (code_made site e) [] (block_codes (map (codes_of site) body))
-          (test-is e (and_left (is_truth (type_of site e)) (all_of (map (fits site) body)) parts)) refl
-          (all_good body each (and_right (is_truth (type_of site e)) (all_of (map (fits site) body)) parts)));
+          (test-is e (and_first (is_truth (type_of site e)) (all_of (map (fits site) body)) parts)) refl
+          (all_good body each (and_second (is_truth (type_of site e)) (all_of (map (fits site) body)) parts)));
       returns = λ place e fitted. as_codes _ _ (return_codes place e) (return_good e site.result refl (rw (fold-roll-Stmt, fold-roll-StmtKind) at fitted));
     }
 

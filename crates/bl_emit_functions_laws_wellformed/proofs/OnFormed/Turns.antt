@@ -38,29 +38,9 @@ use Rattle.bl_emit_acts.specs.Places.{place_in}
 use Rattle.bl_emit_acts.specs.Trees.{nowhere}
 use Rattle.bl_emit_functions.specs.declared.coded.Coded.{Coded}
 use Rattle.bl_emit_functions.specs.declared.coded.Free.{Free}
-use Rattle.bl_emit_functions.specs.Statements.{
-  ArmCodes,
-  Codes,
-  arm_codes,
-  arms_taken,
-  assigned_code,
-  block_codes,
-  branch_codes,
-  break_code,
-  choice_code,
-  codes_of,
-  codes_of_arm,
-  either_code,
-  else_code,
-  flag_taken,
-  flagged_code,
-  kind_codes,
-  loop_code,
-  sets_itself,
-  stmt_codes,
-  turn_taken,
-  untaken_code,
-}
+use Rattle.bl_emit_functions.specs.Statements.{ArmCodes, Codes, arm_codes, arms_taken, assigned_code, block_codes, branch_codes, break_code, choice_code}
+use Rattle.bl_emit_functions.specs.Statements.{codes_of, codes_of_arm, either_code, else_code, flag_taken, flagged_code, kind_codes, loop_code, sets_itself}
+use Rattle.bl_emit_functions.specs.Statements.{stmt_codes, turn_taken, untaken_code}
 use Rattle.bl_emit_functions.specs.Trees.{c_break, c_if, c_loop, c_return, c_truth, turn_name}
 use Rattle.bl_emit_acts_laws_wellformed.proofs.OnFormed.Judged.{kept}
 
@@ -78,11 +58,11 @@ pub set-turns : (place : CPlace) (value : CExpr) → turns_in (c_set place value
 set-turns place value =
     by_form (statement.Set place value) (CStmtKind-F.Set place value) [] (statement.rolls-Set place value) (rw (fold-roll-CStmt, fold-roll-CStmtKind) refl)
 
-clear-turns : (place : CPlace) (name : Text) → turns_in (c_clear place name) ≡ []
+pub clear-turns : (place : CPlace) (name : Text) → turns_in (c_clear place name) ≡ []
 clear-turns place name =
     by_form (statement.Clear place name) (CStmtKind-F.Clear place name) [] (statement.rolls-Clear place name) (rw (fold-roll-CStmt, fold-roll-CStmtKind) refl)
 
-call-turns : (call : CCall) → turns_in (c_calling call) ≡ []
+pub call-turns : (call : CCall) → turns_in (c_calling call) ≡ []
 call-turns call = by_form (statement.Call call) (CStmtKind-F.Call call) [] (statement.rolls-Call call) (rw (fold-roll-CStmt, fold-roll-CStmtKind) refl)
 
 pub return-turns : (value : Option CExpr) → turns_in (c_return value) ≡ []

@@ -7,6 +7,8 @@ use Rattle.std.proofs.lemmas.List.Elements.{Contains-append_left, Contains-appen
 use Rattle.std.proofs.lemmas.Option.{slice_get_within}
 use Rattle.std.specs.Prelude.{bytes_eq, is_none, is_some, nat_eq, nat_le, option_and_then, option_map, slice_get, if◌then◌else◌}
 use Rattle.std.specs.List.{list_all}
+use Rattle.std.proofs.lemmas.Bool.{and_from}
+use Rattle.bl_tree.proofs.Basics.{and_first, and_second, get_taken}
 use Rattle.bl_tree.specs.declared.text.Text.{Text}
 use Rattle.bl_tree.specs.declared.c.CMember.{CMember}
 use Rattle.bl_tree.specs.declared.c.CType.TheVariants.{Struct as OfStruct}
@@ -23,7 +25,7 @@ use Rattle.bl_tree.specs.Types.{scalar_in, type_stands}
 use Rattle.bl_tree.specs.Apart.{is_apart}
 use Rattle.bl_tree.specs.Depths.{is_shallow}
 use Rattle.bl_tree.specs.Typing.{TypingContext, fits, inputs_of, is_activity, is_fixed, is_function, is_variable, outputs_of, site_of, var_at}
-use Rattle.bl_eval.proofs.PassLemmas.{all_at, and_left, and_right, both, get_take}
+use Rattle.bl_eval.proofs.PassLemmas.{all_at}
 use Rattle.bl_ctext_semantics.specs.Faults.{Context, Signature, bool_type, context_in}
 use Rattle.bl_ctext_semantics.specs.Faults as faults
 use Rattle.bl_ctext_semantics.specs.Tables.{Table, found}
@@ -50,7 +52,7 @@ use Rattle.bl_emit_functions_laws_wellformed.proofs.OnFormed.Locals.{local_behin
 use Rattle.bl_emit_functions_laws_wellformed.proofs.OnFormed.Lookups.{all_entries, any_held, flag_found, found_behind, found_front, found_member, found_param}
 use Rattle.bl_emit_functions_laws_wellformed.proofs.OnFormed.Lookups.{local_entries, member_entries, memory_found, no_param, param_entries, variable_found}
 
-last_of_four : (a b c d : Bool) → (a && (b && (c && d))) ≡ true → d ≡ true
+pub last_of_four : (a b c d : Bool) → (a && (b && (c && d))) ≡ true → d ≡ true
 last_of_four true true true d h = h
 last_of_four true true false d h = absurd (cc)
 last_of_four true false c d h = absurd (cc)
@@ -62,7 +64,7 @@ last_of_four false b c d h = absurd (cc)
 parameter_at : (unit : UnitDef) → roles_stand unit ≡ true → (k : ℕ) (var : Var) → slice_get unit.vars k ≡ Some var →
     (is_variable var.role || is_fixed var.role) ≡ false → slice_get (parameters_of unit) k ≡ Some var
 parameter_at unit roles k var there parameter =
-    ⊎_elim (λ less. get_take unit.vars (unit.inputs + unit.outputs) k less ∙ there)
+    ⊎_elim (λ less. get_taken unit.vars (unit.inputs + unit.outputs) k less ∙ there)
     (λ more. absurd (never more)) (cases_lt k (unit.inputs + unit.outputs))
   where
     dropped : {A : Type 0} (n : ℕ) (xs : List A) (k : ℕ) → n ≤ k → slice_get (drop n xs) (k - n) ≡ slice_get xs k
@@ -240,18 +242,18 @@ module _ (structs : List StructDef) (units : List UnitDef) (entry k : ℕ) (unit
   returned : function_returns unit ≡ true
   returned =
       let whole : unit_returns unit ≡ true =
-      and_left (unit_returns unit) (is_shallow 200 unit.body && list_all is_apart unit.body)
-      (and_right (list_all (fits my_site) unit.body) (unit_returns unit && (is_shallow 200 unit.body && list_all is_apart unit.body))
-      (and_right (list_all (λ (var : Var). type_stands (length structs) var.ty) unit.vars)
+      and_first (unit_returns unit) (is_shallow 200 unit.body && list_all is_apart unit.body)
+      (and_second (list_all (fits my_site) unit.body) (unit_returns unit && (is_shallow 200 unit.body && list_all is_apart unit.body))
+      (and_second (list_all (λ (var : Var). type_stands (length structs) var.ty) unit.vars)
       (list_all (fits my_site) unit.body && (unit_returns unit && (is_shallow 200 unit.body && list_all is_apart unit.body)))
-      (and_right _ _ (unit_at structs units entry keeps k unit there)))) in
+      (and_second _ _ (unit_at structs units entry keeps k unit there)))) in
       ap (λ (b : Bool). if b then activity_returns unit else function_returns unit) (sym function) ∙ whole
 
   no_output : (r : Option ScalarType) → unit.result ≡ r → is_some r ≡ true → unit.outputs ≡ 0
   no_output None is some = absurd (cc)
   no_output (Some s) is some =
       eqb-true unit.outputs 0
-      (and_left (nat_eq unit.outputs 0) (last_of (map surely_returns unit.body))
+      (and_first (nat_eq unit.outputs 0) (last_of (map surely_returns unit.body))
       (ap (λ (r : Option ScalarType). is_none r || (nat_eq unit.outputs 0 && last_of (map surely_returns unit.body))) (sym is) ∙ returned))
 
   keeps_result : (r : Option ScalarType) (other : Bool) → (is_some (option_map c_scalar r) && other) ≡ true → is_some r ≡ true
@@ -281,7 +283,7 @@ module _ (structs : List StructDef) (units : List UnitDef) (entry k : ℕ) (unit
       let parameter : (is_variable var.role || is_fixed var.role) ≡ false = ap (λ role. is_variable role || is_fixed role) is in
       let inside : slice_get (inputs_of unit) j ≡ Some var =
       ap (λ n. slice_get (take n unit.vars) j) (sym few) ∙ parameter_at unit roles j var in_vars parameter in
-      let inputs : list_all (λ (var : Var). is_input var.role) (inputs_of unit) ≡ true = and_left _ _ (and_right _ _ roles) in
+      let inputs : list_all (λ (var : Var). is_input var.role) (inputs_of unit) ≡ true = and_first _ _ (and_second _ _ roles) in
       let own : is_input var.role ≡ true = all_at (λ (var : Var). is_input var.role) (inputs_of unit) j var inputs inside in
       absurd (let no : true ≡ false = sym own ∙ ap is_input is in cc)
 
@@ -289,7 +291,7 @@ module _ (structs : List StructDef) (units : List UnitDef) (entry k : ℕ) (unit
   pub plain_here : my_context.is_read_only ≡ true → (j : ℕ) (var : Var) → var_at my_site j ≡ Some var → leads_through my_site j ≡ false
   plain_here keeps_now j var in_vars =
       let some : is_some unit.result ≡ true = keeps_result unit.result _ keeps_now in
-      let copies : copies_inputs my_site ≡ true = both (is_function unit.kind) (is_some unit.result) (ap not function) some in
+      let copies : copies_inputs my_site ≡ true = and_from (is_function unit.kind) (is_some unit.result) (ap not function) some in
       (λ i. home_leads (function i) (home_of my_site (in_vars i)))
       ∙ plain_by (is_alone my_site var.ty) var.role (scalar_in var.ty) (copies_inputs my_site) copies
       (not_output j var in_vars (no_output unit.result refl some) var.role refl)
@@ -298,9 +300,9 @@ module _ (structs : List StructDef) (units : List UnitDef) (entry k : ℕ) (unit
 
   pub earlier_here : EarlierStand my_site
   earlier_here = record {
-    inputs = λ f callee earlier. and_left _ _ (and_right _ _ (roles_at structs units entry keeps f callee (taken_there units k f callee earlier)));
+    inputs = λ f callee earlier. and_first _ _ (and_second _ _ (roles_at structs units entry keeps f callee (taken_there units k f callee earlier)));
     outputs = λ f callee earlier.
-        and_left _ _ (and_right _ _ (and_right _ _ (roles_at structs units entry keeps f callee (taken_there units k f callee earlier))));
+        and_first _ _ (and_second _ _ (and_second _ _ (roles_at structs units entry keeps f callee (taken_there units k f callee earlier))));
   }
 
   pub typed_here : (j : ℕ) (var : Var) → var_at my_site j ≡ Some var → type_stands (length structs) var.ty ≡ true

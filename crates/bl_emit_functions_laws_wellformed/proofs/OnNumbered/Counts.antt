@@ -15,23 +15,8 @@ use Rattle.bl_tree.proofs.StmtInduction.{Cases, Each, EachArm, induct, stmt}
 use Rattle.bl_limits_measures.specs.Statements.{cell_statements_in, cell_statements_in_arm, cell_statements_in_block, cell_statements_in_branch}
 use Rattle.bl_limits_measures.proofs.StatementLemmas.{arm_out}
 use Rattle.bl_emit_functions.specs.declared.coded.Free.{Free}
-use Rattle.bl_emit_functions.specs.Statements.{
-  ArmCodes,
-  Codes,
-  arm_codes,
-  arms_taken,
-  block_codes,
-  branch_codes,
-  choice_code,
-  codes_of,
-  codes_of_arm,
-  flag_taken,
-  flagged_code,
-  kind_codes,
-  loop_code,
-  stmt_codes,
-  turn_taken,
-}
+use Rattle.bl_emit_functions.specs.Statements.{ArmCodes, Codes, arm_codes, arms_taken, block_codes, branch_codes, choice_code, codes_of, codes_of_arm}
+use Rattle.bl_emit_functions.specs.Statements.{flag_taken, flagged_code, kind_codes, loop_code, stmt_codes, turn_taken}
 
 -- how many numbers are taken
 abbrev pub sum : Free → ℕ

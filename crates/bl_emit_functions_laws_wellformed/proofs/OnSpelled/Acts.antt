@@ -5,6 +5,8 @@ use Rattle.std.proofs.Common.{length, Option, Some, None, refl, sym, subst, arit
 use Rattle.std.proofs.lemmas.Option.{slice_get_within}
 use Rattle.std.specs.Prelude.{slice_get}
 use Rattle.std.specs.List.{list_all}
+use Rattle.std.proofs.lemmas.Bool.{and_from}
+use Rattle.bl_tree.proofs.Basics.{all_append, and_first, and_second}
 use Rattle.bl_tree.specs.declared.c.CStmt.{CStmt}
 use Rattle.bl_tree.specs.declared.scalar.Scalar.{Scalar as ScalarType}
 use Rattle.bl_tree.specs.declared.scalar.Scalar.TheVariants.{Bool as OfBool, Int, Nat, Bits}
@@ -22,7 +24,6 @@ use Rattle.bl_tree.specs.Typing.{TypingContext, are_same, arguments_fit, call_fi
 use Rattle.bl_tree.specs.Typing.{is_procedure, is_variable, outputs_of, type_of, type_of_path, types_match, var_at}
 use Rattle.bl_tree.specs.Program.{names_of}
 use Rattle.bl_tree.specs.Words as words
-use Rattle.bl_eval.proofs.PassLemmas.{and_left, and_right, both}
 use Rattle.bl_ctext.specs.Spellable.{is_literal}
 use Rattle.bl_ctext.specs.inner.Fits.{arg_fits, expr_fits, place_fits, step_fits, stmt_fits, stmts_fit}
 use Rattle.bl_ctext.proofs.Fitting.{address-fits, call-fits, call_stmt-fits, expr_fits-more, literal-fits}
@@ -40,7 +41,7 @@ use Rattle.bl_emit_acts.specs.Trees.{c_call, c_literal, c_place, c_read, c_step,
 use Rattle.bl_emit_acts.specs.Types.{c_scalar, copy_name, type_name, unit_name, variable_name}
 use Rattle.bl_emit_acts_laws_wellformed.proofs.OnSpelled.Names.{callee-name, copy-name, memory-name, variable-name}
 use Rattle.bl_emit_functions_laws_wellformed.proofs.OnSpelled.Shapes.{clear-fits, read-place}
-use Rattle.bl_emit_functions_laws_wellformed.proofs.OnSpelled.Types.{all_append, source_name, whole-named}
+use Rattle.bl_emit_functions_laws_wellformed.proofs.OnSpelled.Types.{source_name, whole-named}
 
 -- how many brackets may be open at once in what is made of an expression of this depth
 abbrev pub room : ℕ → ℕ
@@ -74,12 +75,12 @@ home_fits : (vars : List Var) → list_all words.is_name (names_of vars) ≡ tru
     place_fits d (place_by_steps activity home vars k []) ≡ true
 home_fits vars vars_named d activity Held k low small =
     place-fits d activity (codes "m") (c_step (variable_name vars k) ∷ []) low memory-name
-    (both (step_fits d (c_step (variable_name vars k))) true (step-fits d (variable_name vars k) (variable-name vars k vars_named small)) refl)
+    (and_from (step_fits d (c_step (variable_name vars k))) true (step-fits d (variable_name vars k) (variable-name vars k vars_named small)) refl)
 home_fits vars vars_named d activity Local k low small = place-fits d false (variable_name vars k) [] low (variable-name vars k vars_named small) refl
 home_fits vars vars_named d activity Lent k low small = place-fits d true (variable_name vars k) [] low (variable-name vars k vars_named small) refl
 
 pub one-fits : (d : ℕ) (s : CStmt) → stmt_fits d s ≡ true → stmts_fit d (s ∷ []) ≡ true
-one-fits d s h = both (stmt_fits d s) true h refl
+one-fits d s h = and_from (stmt_fits d s) true h refl
 
 module _ (site : TypingContext) (few : length site.vars ≤ 2 ^ 64)
     (names : list_all words.is_name (map (λ (def : StructDef). def.name) site.structs) ≡ true)
@@ -115,7 +116,7 @@ module _ (site : TypingContext) (few : length site.vars ≤ 2 ^ 64)
       (is_assignable site path && are_same (type_of_path site path) (type_of site e)) ≡ true →
       room (max (path_depth path) (expr_depth e)) ≤ d → stmt_fits d (c_set (stands site path).place (code_made site e)) ≡ true
   assigned-fits d path e fitted le =
-      let same = and_right (is_assignable site path) (are_same (type_of_path site path) (type_of site e)) fitted in
+      let same = and_second (is_assignable site path) (are_same (type_of_path site path) (type_of site e)) fitted in
       let found = there (type_of_path site path) (type_of site e) same in
       let left : room (path_depth path) ≤ d = omega (arith, le) in
       let right : room (expr_depth e) ≤ d = omega (arith, le) in
@@ -146,7 +147,7 @@ module _ (site : TypingContext) (few : length site.vars ≤ 2 ^ 64)
       (one-fits d (c_zeroed site.structs (place_in site k []) var.ty (scalar_in var.ty)) (zeroed_by d k var low is (scalar_in var.ty) refl))
   initial_by d k (Some e) (Some var) is fitted le =
       let one : 1 ≤ d = omega (arith, le) in
-      let same : are_same (Some var.ty) (type_of site e) ≡ true = and_right (is_variable var.role || is_fixed var.role) _ fitted in
+      let same : are_same (Some var.ty) (type_of site e) ≡ true = and_second (is_variable var.role || is_fixed var.role) _ fitted in
       one-fits d (c_set (place_in site k []) (code_made site e))
       (set-fits d nowhere (place_in site k []) (code_made site e) (own-fits d k one (below k var is)) (code-fits d e (Some var.ty) same le))
 
@@ -186,7 +187,7 @@ module _ (site : TypingContext) (few : length site.vars ≤ 2 ^ 64)
   more_types None types [] typed = absurd (cc)
   more_types None types (var ∷ vars) typed = absurd (cc)
   more_types (Some t) types [] typed = absurd (cc)
-  more_types (Some t) types (var ∷ vars) typed = (vars, and_right (same_type t var.ty) (types_match types vars) typed)
+  more_types (Some t) types (var ∷ vars) typed = (vars, and_second (same_type t var.ty) (types_match types vars) typed)
 
   inputs-fit : (d : ℕ) (inputs : List Expr) (vars : List Var) → types_match (map (type_of site) inputs) vars ≡ true →
       room (greatest (map expr_depth inputs)) ≤ d → list_all (arg_fits d) (map arg_of (map (made_of site) inputs)) ≡ true
@@ -195,7 +196,7 @@ module _ (site : TypingContext) (few : length site.vars ≤ 2 ^ 64)
       let here : room (expr_depth e) ≤ d = omega (arith, le) in
       let later : room (greatest (map expr_depth inputs)) ≤ d = omega (arith, le) in
       let more = more_types (type_of site e) (map (type_of site) inputs) vars typed in
-      both (arg_fits d (arg_of (made_of site e))) (list_all (arg_fits d) (map arg_of (map (made_of site) inputs)))
+      and_from (arg_fits d (arg_of (made_of site e))) (list_all (arg_fits d) (map arg_of (map (made_of site) inputs)))
       (first_input d e (type_of site e) (map (type_of site) inputs) vars refl typed here) (inputs-fit d inputs more.0 more.1 later)
 
   first_output : (d : ℕ) (path : Path) (t : Option Ty) (types : List (Option Ty)) (vars : List Var) → type_of_path site path ≡ t →
@@ -213,7 +214,7 @@ module _ (site : TypingContext) (few : length site.vars ≤ 2 ^ 64)
       let here : room (path_depth path) ≤ d = omega (arith, le) in
       let later : room (greatest (map path_depth outputs)) ≤ d = omega (arith, le) in
       let more = more_types (type_of_path site path) (map (type_of_path site) outputs) vars typed in
-      both (arg_fits d (output_arg site path)) (list_all (arg_fits d) (map (output_arg site) outputs))
+      and_from (arg_fits d (output_arg site path)) (list_all (arg_fits d) (map (output_arg site) outputs))
       (first_output d path (type_of_path site path) (map (type_of_path site) outputs) vars refl typed here)
       (outputs-fit d outputs more.0 more.1 later)
 
@@ -224,10 +225,10 @@ module _ (site : TypingContext) (few : length site.vars ≤ 2 ^ 64)
   arguments-fit d inputs outputs callee fitted le =
       let left : room (greatest (map expr_depth inputs)) ≤ d = omega (arith, le) in
       let right : room (greatest (map path_depth outputs)) ≤ d = omega (arith, le) in
-      let rest = and_right (types_match (map (type_of site) inputs) (inputs_of callee)) _ fitted in
+      let rest = and_second (types_match (map (type_of site) inputs) (inputs_of callee)) _ fitted in
       all_append (arg_fits d) (map arg_of (map (made_of site) inputs)) (map (output_arg site) outputs)
-      (inputs-fit d inputs (inputs_of callee) (and_left (types_match (map (type_of site) inputs) (inputs_of callee)) _ fitted) left)
-      (outputs-fit d outputs (outputs_of callee) (and_left (types_match (map (type_of_path site) outputs) (outputs_of callee)) _ rest) right)
+      (inputs-fit d inputs (inputs_of callee) (and_first (types_match (map (type_of site) inputs) (inputs_of callee)) _ fitted) left)
+      (outputs-fit d outputs (outputs_of callee) (and_first (types_match (map (type_of_path site) outputs) (outputs_of callee)) _ rest) right)
 
   called_by : (d f : ℕ) (inputs : List Expr) (outputs : List Path) (o : Option UnitDef) → slice_get site.earlier f ≡ o →
       call_fits site inputs outputs o ≡ true → room (arguments_depth inputs outputs) + 1 ≤ d →
@@ -238,7 +239,7 @@ module _ (site : TypingContext) (few : length site.vars ≤ 2 ^ 64)
       call_stmt-fits d nowhere (c_call (unit_name callee.name) (call_args site inputs outputs))
       (call-fits a d (unit_name callee.name) (call_args site inputs outputs) le
       (callee-name callee.name (source_name callee.name (named f callee is)))
-      (arguments-fit a inputs outputs callee (and_right (is_procedure callee) _ fitted) (omega arith)))
+      (arguments-fit a inputs outputs callee (and_second (is_procedure callee) _ fitted) (omega arith)))
 
   pub called-fits : (d f : ℕ) (inputs : List Expr) (outputs : List Path) → call_fits site inputs outputs (slice_get site.earlier f) ≡ true →
       room (arguments_depth inputs outputs) + 1 ≤ d → stmt_fits d (c_calling (call_made site f inputs outputs)) ≡ true

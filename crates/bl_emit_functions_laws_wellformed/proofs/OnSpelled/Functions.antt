@@ -8,6 +8,8 @@ use Rattle.std.proofs.lemmas.Option.{same_Some}
 use Rattle.std.proofs.lemmas.Option.{slice_get_within}
 use Rattle.std.specs.Prelude.{nat_le, option_map, slice_get}
 use Rattle.std.specs.List.{list_all}
+use Rattle.std.proofs.lemmas.Bool.{and_from}
+use Rattle.bl_tree.proofs.Basics.{all_append, and_first, and_second}
 use Rattle.bl_tree.specs.declared.text.Text.{Text}
 use Rattle.bl_tree.specs.declared.c.CExpr.{CExpr}
 use Rattle.bl_tree.specs.declared.c.CLocal.{CLocal}
@@ -16,7 +18,6 @@ use Rattle.bl_tree.specs.declared.c.CStmt.{CStmt}
 use Rattle.bl_tree.specs.declared.c.CType.{CType}
 use Rattle.bl_tree.specs.declared.c.CType.TheVariants.{Struct as OfStruct}
 use Rattle.bl_tree.specs.declared.scalar.Scalar.{Scalar as ScalarType}
-use Rattle.bl_tree.specs.declared.tree.Stmt.{Stmt}
 use Rattle.bl_tree.specs.declared.tree.StructDef.{StructDef}
 use Rattle.bl_tree.specs.declared.tree.Unit.{Unit as UnitDef}
 use Rattle.bl_tree.specs.declared.tree.Var.{Var}
@@ -24,12 +25,11 @@ use Rattle.bl_tree.specs.Depths.{block, depth_of, is_shallow, of_all}
 use Rattle.bl_tree.specs.Apart.{is_apart}
 use Rattle.bl_tree.specs.Program.{IsWellTyped, names_of, parameters_of, roles_stand}
 use Rattle.bl_tree.specs.Returns.{unit_returns}
-use Rattle.bl_tree.specs.Reduce.{all_of}
 use Rattle.bl_tree.specs.Types.{type_stands}
 use Rattle.bl_tree.specs.Typing.{TypingContext, fits, inputs_of, site_of, var_at}
 use Rattle.bl_tree.specs.Words as words
 use Rattle.bl_tree.specs.Words.{are_distinct}
-use Rattle.bl_eval.proofs.PassLemmas.{all_at, and_left, and_right, both}
+use Rattle.bl_eval.proofs.PassLemmas.{all_at}
 use Rattle.bl_ctext.specs.Names.{is_name}
 use Rattle.bl_ctext.specs.Spellable.{spells_local, spells_member, spells_param, spells_returned, spells_struct, spells_type}
 use Rattle.bl_ctext.specs.inner.Fits.{func_fits, place_fits, stmt_fits, stmts_fit}
@@ -56,15 +56,10 @@ use Rattle.bl_emit_functions_laws_wellformed.specs.Formed.{IsNumbered}
 use Rattle.bl_emit_functions_laws_wellformed.proofs.OnSpelled.Acts.{one-fits, own-fits, zero-fits}
 use Rattle.bl_emit_functions_laws_wellformed.proofs.OnSpelled.Numbers.{flag-name}
 use Rattle.bl_emit_functions_laws_wellformed.proofs.OnSpelled.Statements.{Good, body_good, space}
-use Rattle.bl_emit_functions_laws_wellformed.proofs.OnSpelled.Types.{all_append, scalar_spelled, source_name, struct_names, type-spelled}
+use Rattle.bl_emit_functions_laws_wellformed.proofs.OnSpelled.Types.{scalar_spelled, source_name, struct_names, type-spelled}
 use Rattle.bl_emit_functions_laws_wellformed.proofs.OnFormed.Held.{held_there}
 use Rattle.bl_emit_functions_laws_wellformed.proofs.OnFormed.Kept.{all_made, every, is_held_in, locals_made, members_made, params_made}
-
-all_listed : (test : Stmt → Bool) (body : List Stmt) → list_all test body ≡ true → all_of (map test body) ≡ true
-all_listed test [] all = refl
-all_listed test (s ∷ body) all =
-    both (test s) (all_of (map test body)) (and_left (test s) (list_all test body) all)
-    (all_listed test body (and_right (test s) (list_all test body) all))
+use Rattle.bl_eval.proofs.UnitFits.{all_listed}
 
 taken_few : {A : Type 0} (n : ℕ) (xs : List A) → length (take n xs) ≤ length xs
 taken_few zero xs = omega arith
@@ -79,9 +74,9 @@ named_at : (units : List UnitDef) (k : ℕ) (unit : UnitDef) → list_all words.
 named_at [] k unit all there = absurd (cc)
 named_at (first ∷ units) zero unit all there =
     ap (λ (unit : UnitDef). words.is_name unit.name) (sym (same_Some first unit there))
-    ∙ and_left (words.is_name first.name) (list_all words.is_name (map (λ (unit : UnitDef). unit.name) units)) all
+    ∙ and_first (words.is_name first.name) (list_all words.is_name (map (λ (unit : UnitDef). unit.name) units)) all
 named_at (first ∷ units) (suc k) unit all there =
-    named_at units k unit (and_right (words.is_name first.name) (list_all words.is_name (map (λ (unit : UnitDef). unit.name) units)) all) there
+    named_at units k unit (and_second (words.is_name first.name) (list_all words.is_name (map (λ (unit : UnitDef). unit.name) units)) all) there
 
 module _ (structs : List StructDef) (units : List UnitDef) (entry k : ℕ) (unit : UnitDef) (keeps : IsWellTyped structs units entry)
     (there : slice_get units k ≡ Some unit) (few : length unit.vars ≤ 2 ^ 64) where
@@ -93,7 +88,7 @@ module _ (structs : List StructDef) (units : List UnitDef) (entry k : ℕ) (unit
 
   unit_names : list_all words.is_name (map (λ (unit : UnitDef). unit.name) units) ≡ true
   unit_names =
-      and_right (list_all words.is_name (map (λ (def : StructDef). def.name) structs))
+      and_second (list_all words.is_name (map (λ (def : StructDef). def.name) structs))
       (list_all words.is_name (map (λ (unit : UnitDef). unit.name) units))
       (sym (list_all-append words.is_name (map (λ (def : StructDef). def.name) structs) (map (λ (unit : UnitDef). unit.name) units))
       ∙ keeps.named)
@@ -128,13 +123,13 @@ module _ (structs : List StructDef) (units : List UnitDef) (entry k : ℕ) (unit
       ap (list_all spells_member) (members_made site 0 unit.vars)
       ∙ all_made spells_member (is_held_in site) (held_member structs unit.vars) 0 unit.vars
       (λ i j var at found.
-      both (spells_type (c_type structs var.ty)) (is_name (variable_name unit.vars i) && true) (spelled var (typed j var found))
-      (both (is_name (variable_name unit.vars i)) true (own_named i j var at found) refl))
+      and_from (spells_type (c_type structs var.ty)) (is_name (variable_name unit.vars i) && true) (spelled var (typed j var found))
+      (and_from (is_name (variable_name unit.vars i)) true (own_named i j var at found) refl))
 
   struct_by : (members : List CMember) → list_all spells_member members ≡ true → list_all spells_struct (struct_of unit.name members) ≡ true
   struct_by [] h = refl
   struct_by (m ∷ members) h =
-      both (spells_struct (record { place = nowhere; name = memory_name unit.name; members = m ∷ members })) true
+      and_from (spells_struct (record { place = nowhere; name = memory_name unit.name; members = m ∷ members })) true
       (struct-spells nowhere (memory_name unit.name) (m ∷ members)
       (name-struct (memory_name unit.name) (memory-named unit.name own_name)) refl h) refl
 
@@ -149,14 +144,14 @@ module _ (structs : List StructDef) (units : List UnitDef) (entry k : ℕ) (unit
       ∙ all_made spells_param every (param_of structs unit.vars) 0 (parameters_of unit)
       (λ i j var at found.
       let in_vars : slice_get unit.vars j ≡ Some var = taken_there unit.vars (unit.inputs + unit.outputs) j var found in
-      both (spells_type (c_type structs var.ty)) (is_name (variable_name unit.vars i)) (spelled var (typed j var in_vars)) (own_named i j var at in_vars))
+      and_from (spells_type (c_type structs var.ty)) (is_name (variable_name unit.vars i)) (spelled var (typed j var in_vars)) (own_named i j var at in_vars))
 
   variables_by : list_all spells_local (locals_from site 0 unit.vars) ≡ true
   variables_by =
       ap (list_all spells_local) (locals_made site 0 unit.vars)
       ∙ all_made spells_local (has_local site) (variable_local structs unit.vars) 0 unit.vars
       (λ i j var at found.
-      both (spells_type (c_type structs var.ty)) (is_name (variable_name unit.vars i)) (spelled var (typed j var found)) (own_named i j var at found))
+      and_from (spells_type (c_type structs var.ty)) (is_name (variable_name unit.vars i)) (spelled var (typed j var found)) (own_named i j var at found))
 
   flags_by : (n : ℕ) → n ≤ 2 ^ 64 → list_all spells_local (flag_locals n) ≡ true
   flags_by zero room = refl
@@ -164,14 +159,14 @@ module _ (structs : List StructDef) (units : List UnitDef) (entry k : ℕ) (unit
       let fewer : n ≤ 2 ^ 64 = omega (arith, room) in
       let small : n < 2 ^ 64 = omega (arith, room) in
       all_append spells_local (flag_locals n) (flag_local n ∷ []) (flags_by n fewer)
-      (both (spells_local (flag_local n)) true (flag-name n small) refl)
+      (and_from (spells_local (flag_local n)) true (flag-name n small) refl)
 
   memory_by : (holds : Bool) → list_all spells_local (memory_local unit.name holds) ≡ true
   memory_by false = refl
   memory_by true =
       let of_struct : CType = OfStruct (memory_name unit.name) in
-      both (spells_local (record { ty = of_struct; name = codes "m" })) true
-      (both (spells_type of_struct) (is_name (codes "m")) (name-struct (memory_name unit.name) (memory-named unit.name own_name)) memory-name) refl
+      and_from (spells_local (record { ty = of_struct; name = codes "m" })) true
+      (and_from (spells_type of_struct) (is_name (codes "m")) (name-struct (memory_name unit.name) (memory-named unit.name own_name)) memory-name) refl
 
   locals_by : (n : ℕ) → n ≤ 2 ^ 64 → list_all spells_local (variable_locals site unit ++ flag_locals n) ≡ true
   locals_by n room =
@@ -254,15 +249,15 @@ module _ (structs : List StructDef) (units : List UnitDef) (entry k : ℕ) (unit
         let heads : Bool = roles_stand unit && (list_all words.is_name (names_of unit.vars) && are_distinct (names_of (parameters_of unit))) in
         let all : (heads && (types && (fitted && (unit_returns unit && (deep && apart))))) ≡ true =
         unit_at structs units entry keeps k unit there in
-        and_left deep apart (and_right (unit_returns unit) (deep && apart) (and_right fitted (unit_returns unit && (deep && apart))
-        (and_right types (fitted && (unit_returns unit && (deep && apart)))
-        (and_right heads (types && (fitted && (unit_returns unit && (deep && apart)))) all))))
+        and_first deep apart (and_second (unit_returns unit) (deep && apart) (and_second fitted (unit_returns unit && (deep && apart))
+        (and_second types (fitted && (unit_returns unit && (deep && apart)))
+        (and_second heads (types && (fitted && (unit_returns unit && (deep && apart)))) all))))
 
     space_there : space (of_all (map depth_of unit.body)) ≤ 1999
     space_there =
-        let a : nat_le (block 0 (map depth_of unit.body)).blocks 200 ≡ true = and_left _ _ shallow in
+        let a : nat_le (block 0 (map depth_of unit.body)).blocks 200 ≡ true = and_first _ _ shallow in
         let b : nat_le (of_all (map depth_of unit.body)).exprs 200 ≡ true =
-        and_right (nat_le (block 0 (map depth_of unit.body)).blocks 200) _ shallow in
+        and_second (nat_le (block 0 (map depth_of unit.body)).blocks 200) _ shallow in
         let c : 1 + (of_all (map depth_of unit.body)).blocks ≤ 200 = grind (arith, nat_tests, a) in
         let e : (of_all (map depth_of unit.body)).exprs ≤ 200 = grind (arith, nat_tests, b) in
         omega (arith, c, e)

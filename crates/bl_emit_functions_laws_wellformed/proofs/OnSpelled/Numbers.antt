@@ -2,22 +2,20 @@
 use Rattle.std.proofs.Common.{◌≡◌, ℕ, ◌<◌, ◌^◌, true, List, [], ◌∷◌, map, length, refl, arith}
 use Rattle.std.proofs.lemmas.Bool.Decides.{nat_tests}
 use Rattle.std.proofs.lemmas.Fmt.{decimal_is_IsNumeral}
-use Rattle.std.specs.Char.{digit_value, is_ascii_digit}
+use Rattle.std.specs.Char.{is_ascii_digit}
 use Rattle.std.specs.Fmt.{decimal}
 use Rattle.std.specs.Str.Parse.{AllDigits}
+use Rattle.std.proofs.lemmas.Bool.{and_from}
 use Rattle.bl_tree.specs.Reduce.{all_of}
-use Rattle.bl_eval.proofs.PassLemmas.{both}
 use Rattle.bl_ctext.specs.Names.{is_name, is_turn_name}
 use Rattle.bl_ctext.specs.Token.{is_word}
 use Rattle.bl_emit_acts_laws_wellformed.proofs.OnSpelled.Names.{digits_word, numbered-name}
 use Rattle.bl_emit_functions.specs.Trees.{flag_name, turn_name}
-
-digit_is : (c : ℕ) → digit_value c < 10 → is_ascii_digit c ≡ true
-digit_is c h = grind (arith, nat_tests)
+use Rattle.bl_emit_acts_laws_wellformed.proofs.OnSpelled.Names.{digit_is}
 
 all_digits : (ds : List ℕ) → AllDigits 10 ds → all_of (map is_ascii_digit ds) ≡ true
 all_digits [] all = refl
-all_digits (c ∷ ds) all = both (is_ascii_digit c) (all_of (map is_ascii_digit ds)) (digit_is c all.0) (all_digits ds all.1)
+all_digits (c ∷ ds) all = and_from (is_ascii_digit c) (all_of (map is_ascii_digit ds)) (digit_is c all.0) (all_digits ds all.1)
 
 digits_are_word : (ds : List ℕ) → 0 < length ds → AllDigits 10 ds → is_word ds ≡ true
 digits_are_word [] some all = absurd (omega arith)
@@ -30,5 +28,5 @@ pub turn-named : (k : ℕ) → k < 2 ^ 64 → is_turn_name (turn_name k) ≡ tru
 unfolding is_turn_name
 turn-named k small =
     let numeral = decimal_is_IsNumeral k small in
-    both (is_word (decimal k)) (all_of (map is_ascii_digit (decimal k))) (digits_are_word (decimal k) numeral.0.0 numeral.0.1)
+    and_from (is_word (decimal k)) (all_of (map is_ascii_digit (decimal k))) (digits_are_word (decimal k) numeral.0.0 numeral.0.1)
     (all_digits (decimal k) numeral.0.1)

@@ -1,7 +1,8 @@
 -- What further kinds of statements need to fit a depth.
-use Rattle.std.proofs.Common.{◌≡◌, ℕ, ◌+◌, ◌≤◌, Bool, true, ◌&&◌, nat_le, List}
+use Rattle.std.proofs.Common.{◌≡◌, ℕ, ◌+◌, ◌≤◌, true, ◌&&◌, nat_le, List}
 use Rattle.std.proofs.Common.{[], ◌∷◌, map, Some, None, refl, sym, subst, arith}
 use Rattle.std.proofs.lemmas.Bool.Decides.{nat_tests}
+use Rattle.bl_tree.proofs.Basics.{and_first, and_second}
 use Rattle.bl_tree.specs.declared.text.Text.{Text}
 use Rattle.bl_tree.specs.declared.c.CExpr.{CExpr, fold-roll-CExpr, roll-CExpr}
 use Rattle.bl_tree.specs.declared.c.CExprKind.{CExprKind, CExprKind-F, fold-roll-CExprKind, roll-CExprKind}
@@ -15,30 +16,24 @@ use Rattle.bl_ctext.specs.Names.{is_struct_name, is_turn_name}
 use Rattle.bl_ctext.specs.Spellable.{spells_expr, spells_place, spells_stmt}
 use Rattle.bl_ctext.specs.inner.Depths.{expr_depth, place_depth, stmt_depth}
 use Rattle.bl_ctext.specs.inner.Fits.{expr_fits, place_fits, stmt_fits, stmts_fit}
-use Rattle.bl_ctext.proofs.Bytes.{and-fst, and-snd}
 use Rattle.bl_emit_acts.specs.Acts.{c_clear}
 use Rattle.bl_emit_acts.specs.Trees.{c_read, nowhere}
 use Rattle.bl_emit_functions.specs.Trees.{c_break, c_if, c_loop, c_return}
-
-fits_by : (spells : Bool) (n d : ℕ) → spells ≡ true → n ≤ d → (spells && nat_le n d) ≡ true
-fits_by spells n d h le = let test : nat_le n d ≡ true = grind (arith, nat_tests) in rw (h, test) refl
-
-bound : (spells : Bool) (n d : ℕ) → (spells && nat_le n d) ≡ true → n ≤ d
-bound spells n d h = let test : nat_le n d ≡ true = and-snd spells (nat_le n d) h in grind (arith, nat_tests)
+use Rattle.bl_ctext.proofs.Fitting.{bound, joined_fits}
 
 block-spells : (d : ℕ) (body : List CStmt) → stmts_fit d body ≡ true → all_of (map spells_stmt body) ≡ true
 unfolding stmt_fits
 block-spells d [] h = refl
 block-spells d (s ∷ body) h =
-    let here : stmt_fits d s ≡ true = and-fst (stmt_fits d s) (stmts_fit d body) h in
-    rw (and-fst (spells_stmt s) (nat_le (stmt_depth s) d) here) (block-spells d body (and-snd (stmt_fits d s) (stmts_fit d body) h))
+    let here : stmt_fits d s ≡ true = and_first (stmt_fits d s) (stmts_fit d body) h in
+    rw (and_first (spells_stmt s) (nat_le (stmt_depth s) d) here) (block-spells d body (and_second (stmt_fits d s) (stmts_fit d body) h))
 
 block-depth : (d : ℕ) (body : List CStmt) → stmts_fit d body ≡ true → greatest (map stmt_depth body) ≤ d
 unfolding stmt_fits
 block-depth d [] h = omega arith
 block-depth d (s ∷ body) h =
-    let here : stmt_depth s ≤ d = bound (spells_stmt s) (stmt_depth s) d (and-fst (stmt_fits d s) (stmts_fit d body) h) in
-    let rest : greatest (map stmt_depth body) ≤ d = block-depth d body (and-snd (stmt_fits d s) (stmts_fit d body) h) in
+    let here : stmt_depth s ≤ d = bound (spells_stmt s) (stmt_depth s) d (and_first (stmt_fits d s) (stmts_fit d body) h) in
+    let rest : greatest (map stmt_depth body) ≤ d = block-depth d body (and_second (stmt_fits d s) (stmts_fit d body) h) in
     omega (arith, here, rest)
 
 abbrev layered : CStmtKind-F CStmtKind CStmt → CStmt
@@ -51,11 +46,11 @@ clear_open : (d : ℕ) (at : CPlace) (name : Text) → 1 ≤ d → is_struct_nam
     stmt_fits d (layered (CStmtKind-F.Clear at name)) ≡ true
 unfolding stmt_fits place_fits
 clear_open d at name low named h =
-    let one : spells_place at ≡ true = and-fst _ _ h in
+    let one : spells_place at ≡ true = and_first _ _ h in
     let deep : place_depth at ≤ d = bound (spells_place at) (place_depth at) d h in
     let s : spells_stmt (layered (CStmtKind-F.Clear at name)) ≡ true = rw (fold-roll-CStmt, fold-roll-CStmtKind, one, named) refl in
     let m : stmt_depth (layered (CStmtKind-F.Clear at name)) ≤ d = rw (fold-roll-CStmt, fold-roll-CStmtKind) (omega (arith, deep, low)) in
-    fits_by _ (stmt_depth (layered (CStmtKind-F.Clear at name))) d s m
+    joined_fits _ (stmt_depth (layered (CStmtKind-F.Clear at name))) d s m
 
 -- a struct that is cleared
 pub clear-fits : (d : ℕ) (at : CPlace) (name : Text) → 1 ≤ d → is_struct_name name ≡ true → place_fits d at ≡ true →
@@ -68,7 +63,7 @@ unfolding stmt_fits
 break_open d =
     let s : spells_stmt (layered CStmtKind-F.Break) ≡ true = rw (fold-roll-CStmt, fold-roll-CStmtKind) refl in
     let m : stmt_depth (layered CStmtKind-F.Break) ≤ d = rw (fold-roll-CStmt, fold-roll-CStmtKind) (omega arith) in
-    fits_by _ (stmt_depth (layered CStmtKind-F.Break)) d s m
+    joined_fits _ (stmt_depth (layered CStmtKind-F.Break)) d s m
 
 -- `break`
 pub break-fits : (d : ℕ) → stmt_fits d c_break ≡ true
@@ -79,7 +74,7 @@ unfolding stmt_fits
 end_open d =
     let s : spells_stmt (layered (CStmtKind-F.Return None)) ≡ true = rw (fold-roll-CStmt, fold-roll-CStmtKind) refl in
     let m : stmt_depth (layered (CStmtKind-F.Return None)) ≤ d = rw (fold-roll-CStmt, fold-roll-CStmtKind) (omega arith) in
-    fits_by _ (stmt_depth (layered (CStmtKind-F.Return None))) d s m
+    joined_fits _ (stmt_depth (layered (CStmtKind-F.Return None))) d s m
 
 -- `return` without a value
 pub end-fits : (d : ℕ) → stmt_fits d (c_return None) ≡ true
@@ -89,7 +84,7 @@ else_open : (d e : ℕ) (test : CExpr) (body other : List CStmt) → d + 1 ≤ e
     stmts_fit d other ≡ true → stmt_fits e (layered (CStmtKind-F.If test body (Some other))) ≡ true
 unfolding stmt_fits expr_fits
 else_open d e test body other le h i j =
-    let one : spells_expr test ≡ true = and-fst _ _ h in
+    let one : spells_expr test ≡ true = and_first _ _ h in
     let left : expr_depth test ≤ d = bound (spells_expr test) (expr_depth test) d h in
     let all : all_of (map spells_stmt body) ≡ true = block-spells d body i in
     let few : greatest (map stmt_depth body) ≤ d = block-depth d body i in
@@ -99,7 +94,7 @@ else_open d e test body other le h i j =
     rw (fold-roll-CStmt, fold-roll-CStmtKind, one, all, all_others) refl in
     let m : stmt_depth (layered (CStmtKind-F.If test body (Some other))) ≤ e =
     rw (fold-roll-CStmt, fold-roll-CStmtKind) (omega (arith, left, few, few_others, le)) in
-    fits_by _ (stmt_depth (layered (CStmtKind-F.If test body (Some other)))) e s m
+    joined_fits _ (stmt_depth (layered (CStmtKind-F.If test body (Some other)))) e s m
 
 -- an `if` with an `else`
 pub else-fits : (d e : ℕ) (test : CExpr) (body other : List CStmt) → d + 1 ≤ e → expr_fits d test ≡ true → stmts_fit d body ≡ true →
@@ -111,14 +106,14 @@ loop_open : (d e : ℕ) (turn : Text) (test : CExpr) (body : List CStmt) → d +
     expr_fits d test ≡ true → stmts_fit d body ≡ true → stmt_fits e (layered (CStmtKind-F.Loop turn test body)) ≡ true
 unfolding stmt_fits expr_fits
 loop_open d e turn test body le low named h i =
-    let one : spells_expr test ≡ true = and-fst _ _ h in
+    let one : spells_expr test ≡ true = and_first _ _ h in
     let left : expr_depth test ≤ d = bound (spells_expr test) (expr_depth test) d h in
     let all : all_of (map spells_stmt body) ≡ true = block-spells d body i in
     let few : greatest (map stmt_depth body) ≤ d = block-depth d body i in
     let s : spells_stmt (layered (CStmtKind-F.Loop turn test body)) ≡ true = rw (fold-roll-CStmt, fold-roll-CStmtKind, named, one, all) refl in
     let m : stmt_depth (layered (CStmtKind-F.Loop turn test body)) ≤ e =
     rw (fold-roll-CStmt, fold-roll-CStmtKind) (omega (arith, left, few, le, low)) in
-    fits_by _ (stmt_depth (layered (CStmtKind-F.Loop turn test body))) e s m
+    joined_fits _ (stmt_depth (layered (CStmtKind-F.Loop turn test body))) e s m
 
 -- a loop
 pub loop-fits : (d e : ℕ) (turn : Text) (test : CExpr) (body : List CStmt) → d + 2 ≤ e → 1 ≤ d → is_turn_name turn ≡ true →
@@ -132,11 +127,11 @@ reading at = roll-CExpr (record { place = nowhere; what = roll-CExprKind (CExprK
 read_open : (d : ℕ) (place : CPlace) → expr_fits d (reading place) ≡ true → place_fits d place ≡ true
 unfolding expr_fits place_fits
 read_open d place h =
-    let spelled : spells_expr (reading place) ≡ true = and-fst (spells_expr (reading place)) _ h in
+    let spelled : spells_expr (reading place) ≡ true = and_first (spells_expr (reading place)) _ h in
     let within : expr_depth (reading place) ≤ d = bound (spells_expr (reading place)) (expr_depth (reading place)) d h in
     let one : spells_place place ≡ true = rw (fold-roll-CExpr, fold-roll-CExprKind) at spelled in
     let deep : place_depth place ≤ d = rw (fold-roll-CExpr, fold-roll-CExprKind) at within in
-    fits_by (spells_place place) (place_depth place) d one deep
+    joined_fits (spells_place place) (place_depth place) d one deep
 
 -- a place fits where what stands there does
 pub read-place : (d : ℕ) (place : CPlace) → expr_fits d (c_read place) ≡ true → place_fits d place ≡ true

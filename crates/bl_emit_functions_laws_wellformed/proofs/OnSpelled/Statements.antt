@@ -5,6 +5,8 @@ use Rattle.std.proofs.Common.{length, Option, Some, None, refl, sym, ◌∙◌, 
 use Rattle.std.proofs.lemmas.List.Elements.{All-head, All-tail}
 use Rattle.std.specs.Prelude.{option_map, slice_get, if◌then◌else◌}
 use Rattle.std.specs.List.{list_all}
+use Rattle.std.proofs.lemmas.Bool.{and_from}
+use Rattle.bl_tree.proofs.Basics.{all_append, and_first, and_second}
 use Rattle.bl_tree.specs.declared.c.CExpr.{CExpr}
 use Rattle.bl_tree.specs.declared.c.CStmt.{CStmt}
 use Rattle.bl_tree.specs.declared.place.Place.{Place}
@@ -33,42 +35,19 @@ use Rattle.bl_tree.specs.Typing.{stmt_fits as stmt_fitted, type_of, type_of_path
 use Rattle.bl_tree.specs.Program.{names_of}
 use Rattle.bl_tree.specs.Words as words
 use Rattle.bl_tree.proofs.StmtInduction.{Cases, Each, EachArm, induct, stmt}
-use Rattle.bl_eval.proofs.PassLemmas.{and_left, and_right, both}
 use Rattle.bl_ctext.specs.inner.Fits.{expr_fits, place_fits, stmt_fits, stmts_fit}
 use Rattle.bl_ctext.proofs.Fitting.{expr_fits-more, if-fits, literal-fits, place-fits, read-fits, return-fits, set-fits, stmts_fit-more, two-fits}
 use Rattle.bl_emit_acts.specs.Acts.{c_calling, c_set, call_made, code_made, declared_code}
 use Rattle.bl_emit_acts.specs.Expressions.{stands}
 use Rattle.bl_emit_acts.specs.Trees.{c_read, c_two, nowhere}
 use Rattle.bl_emit_functions.specs.declared.coded.Free.{Free}
-use Rattle.bl_emit_functions.specs.Statements.{
-  ArmCodes,
-  Codes,
-  arm_codes,
-  arm_taken,
-  arms_taken,
-  assigned_code,
-  block_codes,
-  branch_codes,
-  break_code,
-  choice_code,
-  codes_of,
-  codes_of_arm,
-  either_code,
-  else_code,
-  flag_taken,
-  flagged_code,
-  kind_codes,
-  loop_code,
-  sets_itself,
-  stmt_codes,
-  turn_taken,
-  untaken_code,
-}
+use Rattle.bl_emit_functions.specs.Statements.{ArmCodes, Codes, arm_codes, arm_taken, arms_taken, assigned_code, block_codes, branch_codes, break_code}
+use Rattle.bl_emit_functions.specs.Statements.{choice_code, codes_of, codes_of_arm, either_code, else_code, flag_taken, flagged_code, kind_codes, loop_code}
+use Rattle.bl_emit_functions.specs.Statements.{sets_itself, stmt_codes, turn_taken, untaken_code}
 use Rattle.bl_emit_functions.specs.Trees.{c_break, c_if, c_return, c_truth, flag_name, flag_place, turn_name}
 use Rattle.bl_emit_functions_laws_wellformed.proofs.OnSpelled.Acts.{assigned-fits, called-fits, code-fits, declared-fits, one-fits, room}
 use Rattle.bl_emit_functions_laws_wellformed.proofs.OnSpelled.Numbers.{flag-name, turn-named}
 use Rattle.bl_emit_functions_laws_wellformed.proofs.OnSpelled.Shapes.{break-fits, else-fits, end-fits, loop-fits}
-use Rattle.bl_emit_functions_laws_wellformed.proofs.OnSpelled.Types.{all_append}
 
 -- how many brackets may be open at once in the C of statements of this depth
 abbrev pub space : Depth → ℕ
@@ -103,7 +82,7 @@ then_good d codes rest one more = record {
 flag-fits : (d k : ℕ) → 1 ≤ d → k < 2 ^ 64 → place_fits d (flag_place k) ≡ true
 flag-fits d k low small = place-fits d false (flag_name k) [] low (flag-name k small) refl
 
-truth-fits : (d : ℕ) (b : Bool) → 2 ≤ d → expr_fits d (c_truth b) ≡ true
+pub truth-fits : (d : ℕ) (b : Bool) → 2 ≤ d → expr_fits d (c_truth b) ≡ true
 truth-fits d true low = literal-fits d nowhere OfBool (pos 1) low refl
 truth-fits d false low = literal-fits d nowhere OfBool (pos 0) low refl
 
@@ -177,7 +156,7 @@ module _ (d e : ℕ) (low : 3 ≤ d) (next : d + 1 ≤ e) where
       one-fits e (c_if (c_two And (c_read (flag_place flag)) arm.test) (c_set (flag_place flag) (c_truth false) ∷ (arm.body free).code) None)
       (if-fits d e nowhere (c_two And (c_read (flag_place flag)) arm.test) (c_set (flag_place flag) (c_truth false) ∷ (arm.body free).code) next
       (two-fits good.t d nowhere And (c_read (flag_place flag)) arm.test good.spare refl (flag_read good.t flag good.some small) good.test)
-      (both (stmt_fits d (c_set (flag_place flag) (c_truth false))) (stmts_fit d (arm.body free).code) (flag_set d flag false two small)
+      (and_from (stmt_fits d (c_set (flag_place flag) (c_truth false))) (stmts_fit d (arm.body free).code) (flag_set d flag false two small)
       (good.body.fits free few short)))
 
   arms_are : (flag : ℕ) → flag < 2 ^ 64 → (arms : List ArmCodes) → AllArms arms → (free : Free) →
@@ -217,7 +196,7 @@ module _ (d e : ℕ) (low : 3 ≤ d) (next : d + 1 ≤ e) where
         let c : inner.free.turns ≤ (other inner.free).free.turns = good.turns inner.free in
         let small : free.flags < 2 ^ 64 = omega (arith, a, b, few) in
         let two : 2 ≤ e = omega (arith, low, next) in
-        both (stmt_fits e (c_set (flag_place free.flags) (c_truth true)))
+        and_from (stmt_fits e (c_set (flag_place free.flags) (c_truth true)))
         (stmts_fit e (inner.code ++ untaken_code free.flags (other inner.free).code))
         (flag_set e free.flags true two small)
         (all_append (stmt_fits e) inner.code (untaken_code free.flags (other inner.free).code)
@@ -301,8 +280,8 @@ module _ (site : TypingContext) (few : length site.vars ≤ 2 ^ 64)
       let here : space (depth_of s) ≤ d = omega (arith, le) in
       let later : space (of_all (map depth_of body)) ≤ d = omega (arith, le) in
       then_good d (codes_of site s) (map (codes_of site) body)
-      (All-head S s body each (and_left (fits site s) (all_of (map (fits site) body)) fitted) d here)
-      (all_good body (All-tail S s body each) (and_right (fits site s) (all_of (map (fits site) body)) fitted) d later)
+      (All-head S s body each (and_first (fits site s) (all_of (map (fits site) body)) fitted) d here)
+      (all_good body (All-tail S s body each) (and_second (fits site s) (all_of (map (fits site) body)) fitted) d later)
 
   abbrev arm_fitted : Arm → Bool
   arm_fitted = fold-Arm Bool Bool Bool Bool (kind_fits site) (arm_fits site) branch_fits stmt_fitted
@@ -331,8 +310,8 @@ module _ (site : TypingContext) (few : length site.vars ≤ 2 ^ 64)
           t = room (expr_depth test);
           some = omega arith;
           spare = spare;
-          test = test-fits test (and_left (is_truth (type_of site test)) (all_of (map (fits site) body)) fits_so);
-          body = all_good body each (and_right (is_truth (type_of site test)) (all_of (map (fits site) body)) fits_so) i inner;
+          test = test-fits test (and_first (is_truth (type_of site test)) (all_of (map (fits site) body)) fits_so);
+          body = all_good body each (and_second (is_truth (type_of site test)) (all_of (map (fits site) body)) fits_so) i inner;
         })
 
     arms_good : (arms : List Arm) → EachArm S arms → all_of (map arm_fitted arms) ≡ true →
@@ -342,8 +321,8 @@ module _ (site : TypingContext) (few : length site.vars ≤ 2 ^ 64)
     arms_good (arm ∷ arms) each fitted le =
         let here : space (depth_of_arm arm) ≤ i + 2 = omega (arith, le) in
         let later : space (of_all (map depth_of_arm arms)) ≤ i + 2 = omega (arith, le) in (
-          arm_good arm (All-head OfArm arm arms each) (and_left (arm_fitted arm) (all_of (map arm_fitted arms)) fitted) here,
-          arms_good arms (All-tail OfArm arm arms each) (and_right (arm_fitted arm) (all_of (map arm_fitted arms)) fitted) later,
+          arm_good arm (All-head OfArm arm arms each) (and_first (arm_fitted arm) (all_of (map arm_fitted arms)) fitted) here,
+          arms_good arms (All-tail OfArm arm arms each) (and_second (arm_fitted arm) (all_of (map arm_fitted arms)) fitted) later,
         )
 
   return_good : (d : ℕ) (e : Option Expr) (r : Option ScalarType) → return_fits site e r ≡ true → room (optional_depth e) ≤ d →
@@ -447,7 +426,7 @@ module _ (site : TypingContext) (few : length site.vars ≤ 2 ^ 64)
     branching_case : (arms : List Arm) (other : List Stmt) → EachArm S arms → Each S other → S (stmt place (StmtKind-F.If arms other))
     branching_case arms other each others fitted d le =
         let deep = rw (fold-roll-Stmt, fold-roll-StmtKind) at le in
-        let parts = and_right (is_inhabited (map arm_fitted arms)) (all_of (map arm_fitted arms) && all_of (map (fits site) other))
+        let parts = and_second (is_inhabited (map arm_fitted arms)) (all_of (map arm_fitted arms) && all_of (map (fits site) other))
         (rw (fold-roll-Stmt, fold-roll-StmtKind) at fitted) in
         let two : 2 ≤ d = omega (arith, deep) in
         let split = less_two d two in
@@ -459,8 +438,8 @@ module _ (site : TypingContext) (few : length site.vars ≤ 2 ^ 64)
         let in_other : space (of_all (map depth_of other)) ≤ i = omega (arith, deep, is) in
         as_codes d _ _ (if_codes arms other)
         (choice_good i d low next (map (codes_of_arm site) arms) (block_codes (map (codes_of site) other)) (omega (arith, is))
-        (arms_good i d low next arms each (and_left (all_of (map arm_fitted arms)) (all_of (map (fits site) other)) parts) in_arms)
-        (all_good other others (and_right (all_of (map arm_fitted arms)) (all_of (map (fits site) other)) parts) i in_other))
+        (arms_good i d low next arms each (and_first (all_of (map arm_fitted arms)) (all_of (map (fits site) other)) parts) in_arms)
+        (all_good other others (and_second (all_of (map arm_fitted arms)) (all_of (map (fits site) other)) parts) i in_other))
 
     repeat_case : (body : List Stmt) → Each S body → S (stmt place (StmtKind-F.Repeat body))
     repeat_case body each fitted d le =
@@ -495,8 +474,8 @@ module _ (site : TypingContext) (few : length site.vars ≤ 2 ^ 64)
         as_codes d _ _ (until_codes body e)
         (loop_good i d low next (c_truth true) (break_code (code_made site e)) (block_codes (map (codes_of site) body)) wide (truth-fits i true some)
         (break-is i d low next (room (expr_depth e)) (code_made site e) spare
-        (test-fits e (and_right (all_of (map (fits site) body)) (is_truth (type_of site e)) parts)))
-        (all_good body each (and_left (all_of (map (fits site) body)) (is_truth (type_of site e)) parts) i inner))
+        (test-fits e (and_second (all_of (map (fits site) body)) (is_truth (type_of site e)) parts)))
+        (all_good body each (and_first (all_of (map (fits site) body)) (is_truth (type_of site e)) parts) i inner))
 
     while_case : (e : Expr) (body : List Stmt) → Each S body → S (stmt place (StmtKind-F.While e body))
     while_case e body each fitted d le =
@@ -514,8 +493,8 @@ module _ (site : TypingContext) (few : length site.vars ≤ 2 ^ 64)
         as_codes d _ _ (while_codes e body)
         (loop_good i d low next (code_made site e) [] (block_codes (map (codes_of site) body)) wide
         (expr_fits-more (room (expr_depth e)) i (code_made site e) within
-        (test-fits e (and_left (is_truth (type_of site e)) (all_of (map (fits site) body)) parts))) refl
-        (all_good body each (and_right (is_truth (type_of site e)) (all_of (map (fits site) body)) parts) i inner))
+        (test-fits e (and_first (is_truth (type_of site e)) (all_of (map (fits site) body)) parts))) refl
+        (all_good body each (and_second (is_truth (type_of site e)) (all_of (map (fits site) body)) parts) i inner))
 
     returns_case : (e : Option Expr) → S (stmt place (StmtKind-F.Return e))
     returns_case e fitted d le =

@@ -1,15 +1,17 @@
 -- A machine has no more counters for a body than the body takes.
-use Rattle.std.proofs.Common.{◌≡◌, ℕ, zero, suc, ◌+◌, ◌<◌, ◌≤◌, max, List, []}
-use Rattle.std.proofs.Common.{◌∷◌, ◌++◌, map, length, refl, ap, ◌∙◌, subst, sym, arith}
-use Rattle.std.proofs.lemmas.List.{length_push}
+use Rattle.std.proofs.Common.{◌≡◌, ℕ, suc, ◌+◌, ◌<◌, ◌≤◌, max, List, []}
+use Rattle.std.proofs.Common.{◌∷◌, ◌++◌, length, ap, ◌∙◌, subst, sym, arith}
 use Rattle.bl_tree.specs.Reduce.{greatest}
 use Rattle.bl_machine.specs.declared.slots.Slot.{Slot}
 use Rattle.bl_machine.specs.Blocks.{up_to}
 use Rattle.bl_machine.specs.Layout.{counters_in, counters_in_each, counters_of, width_in, width_in_each, width_of}
-use Rattle.bl_machine.specs.Slots.{counters_at, numbered_after, numbered_slots, times}
+use Rattle.bl_machine.specs.Slots.{counters_at, numbered_slots, times}
 use Rattle.bl_graph_nodes.specs.Plain.{Act, Again, Await, Block, Bodies, Body as BodyOf, Cobegin, Done, If, Last, Plain}
 use Rattle.bl_graph_nodes.specs.Plain.{Repeat, Run as RunOf, Then, Until, When, While}
 use Rattle.bl_machine_pass.specs.Numbered.{sizes_for, sizes_of}
+use Rattle.bl_emit_spec_laws.proofs.OnOwn.Counting.{many_up_to}
+use Rattle.bl_machine.proofs.SlotLemmas.{counters_after}
+use Rattle.bl_emit_spec_laws_wellformed.proofs.OnMachines.Counters.{left_le, map_length, right_le}
 
 -- ---- all are below a number
 
@@ -24,12 +26,6 @@ more_below n m (c ∷ counters) le below = ((let lt = below.0 in omega (arith, l
 both_below : (n : ℕ) (xs ys : List ℕ) → Below n xs → Below n ys → Below n (xs ++ ys)
 both_below n [] ys one two = two
 both_below n (x ∷ xs) ys one two = (one.0, both_below n xs ys one.1 two)
-
-left_le : (low a b : ℕ) → low + a ≤ low + max a b
-left_le low a b = omega arith
-
-right_le : (low a b : ℕ) → low + b ≤ low + max a b
-right_le low a b = omega arith
 
 mutual
   counters_below : (s : Plain) (low : ℕ) → Below (low + width_of s) (counters_of s low)
@@ -81,10 +77,6 @@ mutual
 
 -- ---- how many counters there are
 
-of_numbered : (before counters : List ℕ) → counters_at (numbered_after before counters) ≡ counters
-of_numbered before [] = refl
-of_numbered before (c ∷ counters) = ap (λ rest. c ∷ rest) (of_numbered (before ++ c ∷ []) counters)
-
 greatest_below : (n : ℕ) (counters : List ℕ) → 0 < n → Below n counters → greatest counters < n
 greatest_below n [] some below = some
 greatest_below n (c ∷ counters) some below = by c (greatest counters) below.0 (greatest_below n counters some below.1)
@@ -92,26 +84,18 @@ greatest_below n (c ∷ counters) some below = by c (greatest counters) below.0 
     by : (a b : ℕ) → a < n → b < n → max a b < n
     by a b one two = omega (arith, one, two)
 
-up_length : (n : ℕ) → length (up_to n) ≡ n
-up_length zero = refl
-up_length (suc n) = length_push (up_to n) n ∙ (let rest = up_length n in omega (arith, rest))
-
-map_length : (f : ℕ → ℕ) (xs : List ℕ) → length (map f xs) ≡ length xs
-map_length f [] = refl
-map_length f (x ∷ xs) = ap suc (map_length f xs)
-
 sizes_below : (n : ℕ) (counters : List ℕ) → Below n counters → length (sizes_for counters) ≤ n
 sizes_below n [] below = omega arith
 sizes_below n (c ∷ counters) below =
     let many : length (sizes_for (c ∷ counters)) ≡ suc (greatest (c ∷ counters)) =
-    map_length (λ j. times j (c ∷ counters)) (up_to (suc (greatest (c ∷ counters)))) ∙ up_length (suc (greatest (c ∷ counters))) in
+    map_length (λ j. times j (c ∷ counters)) (up_to (suc (greatest (c ∷ counters)))) ∙ many_up_to (suc (greatest (c ∷ counters))) in
     let first : c < n = below.0 in
     let some : 0 < n = omega (arith, first) in
     let low : greatest (c ∷ counters) < n = greatest_below n (c ∷ counters) some below in omega (arith, many, low)
 
 pub sizes_few : (body : Block) (slots : List Slot) → slots ≡ numbered_slots (counters_in body 0) → length (sizes_of slots) ≤ width_in body
 sizes_few body slots is =
-    let counters : counters_at slots ≡ counters_in body 0 = ap counters_at is ∙ of_numbered [] (counters_in body 0) in
+    let counters : counters_at slots ≡ counters_in body 0 = ap counters_at is ∙ counters_after [] (counters_in body 0) in
     let few : length (sizes_for (counters_in body 0)) ≤ width_in body =
     sizes_below (width_in body) (counters_in body 0)
     (more_below (0 + width_in body) (width_in body) (counters_in body 0) (nothing_plus (width_in body)) (block_below body 0)) in

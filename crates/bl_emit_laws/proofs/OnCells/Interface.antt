@@ -1,29 +1,11 @@
 -- The two functions of the interface: what they call, and how many cells they need; and the structs of the interface.
-use Rattle.std.proofs.Common.{
-  ◌≡◌,
-  ℕ,
-  zero,
-  suc,
-  ◌+◌,
-  ◌≤◌,
-  arith,
-  pos,
-  Bool,
-  true,
-  false,
-  List,
-  [],
-  ◌∷◌,
-  ◌++◌,
-  map,
-  take,
-  drop,
-  length,
-}
-use Rattle.std.proofs.Common.{Some, None, refl, sym, ap, ◌∙◌, codes}
+use Rattle.std.proofs.Common.{◌≡◌, ℕ, zero, suc, ◌+◌, ◌≤◌, arith, pos, Bool, true, false, List, [], ◌∷◌, ◌++◌, map, take, drop, length}
+use Rattle.std.proofs.Common.{Some, None, refl, ap, ◌∙◌, codes}
 use Rattle.std.proofs.lemmas.List.{map-append}
 use Rattle.std.specs.List.{list_all}
 use Rattle.std.specs.Prelude.{if◌then◌else◌}
+use Rattle.std.proofs.lemmas.Bool.{and_from}
+use Rattle.bl_tree.proofs.Basics.{and_first, and_second}
 use Rattle.bl_tree.specs.declared.c.CLocal.{CLocal}
 use Rattle.bl_tree.specs.declared.c.CArg.{CArg}
 use Rattle.bl_tree.specs.declared.c.CArg.TheVariants.{Address}
@@ -39,7 +21,6 @@ use Rattle.bl_tree.specs.declared.tree.Var.{Var}
 use Rattle.bl_tree.specs.Reduce.{joined, total}
 use Rattle.bl_tree.specs.Types.{type_stands}
 use Rattle.bl_tree.specs.Typing.{inputs_of, outputs_of}
-use Rattle.bl_eval.proofs.PassLemmas.{and_left, and_right, both}
 use Rattle.bl_limits_measures.specs.Types.{size}
 use Rattle.bl_ctext_semantics.specs.Calls.{calls_in_arg, calls_in_block, calls_in_place, calls_in_stmt, most}
 use Rattle.bl_ctext_semantics.specs.Loops.{turns_in, turns_in_block}
@@ -51,34 +32,27 @@ use Rattle.bl_emit_acts.specs.Types.{unit_name}
 use Rattle.bl_emit_functions.specs.Functions.{memory_name}
 use Rattle.bl_emit_functions.specs.Trees.{c_if}
 use Rattle.bl_emit_functions_laws_wellformed.specs.Cells.{SizesKnown}
-use Rattle.bl_emit_functions_laws_wellformed.proofs.OnFiles.Shapes.{
-  address-calls,
-  call-calls,
-  calling-calls,
-  clear-calls,
-  if-calls,
-  literal-calls,
-  place-calls,
-  read-calls,
-  return-calls,
-  step-calls,
-  value-calls,
-}
+use Rattle.bl_emit_functions_laws_wellformed.proofs.OnFiles.Shapes.{address-calls, call-calls, calling-calls, clear-calls, if-calls, literal-calls, place-calls}
+use Rattle.bl_emit_functions_laws_wellformed.proofs.OnFiles.Shapes.{read-calls, return-calls, step-calls, value-calls}
 use Rattle.bl_emit_functions_laws_wellformed.proofs.OnFormed.Turns.{one-turns, return-turns}
 use Rattle.bl_emit_spec.specs.Names.{frame_name}
 use Rattle.bl_emit_spec.specs.Blocks.{unit_may_end, stmt_where, arg_where}
 use Rattle.bl_emit_spec.specs.Programs.{c_returned, init_function, input_arg, output_arg, port_member, port_struct, state_struct, tick_args, tick_function}
 use Rattle.bl_emit_spec.specs.Programs.{tick_locals}
 use Rattle.bl_emit_spec_laws_wellformed_bodies.specs.Cells.{ports_of}
-use Rattle.bl_emit_spec_laws_wellformed_bodies.proofs.OnSigned.Turns.{call-turns, clear-turns, if-turns}
+use Rattle.bl_emit_spec_laws_wellformed_bodies.proofs.OnSigned.Turns.{if-turns}
+use Rattle.bl_emit_spec_laws_wellformed.proofs.OnTexts.Files.{dropped_all, taken_all}
+use Rattle.bl_tree.proofs.ReduceLemmas.{total-append}
+use Rattle.bl_emit_functions_laws_wellformed.proofs.OnFormed.Turns.{call-turns, clear-turns}
+use Rattle.bl_emit_spec_laws_wellformed_bodies.proofs.OnStructs.Interface.{split_take}
 
 -- ---- what is called
 
 -- a place behind a pointer, or a variable, calls nothing
-step_calls_none : (through : Bool) (root name : Text) → calls_in_place (c_place through root (c_step name ∷ [])) ≡ []
+pub step_calls_none : (through : Bool) (root name : Text) → calls_in_place (c_place through root (c_step name ∷ [])) ≡ []
 step_calls_none through root name = place-calls through root (c_step name ∷ []) ∙ (λ i. step-calls name i ++ [])
 
-root_calls_none : (through : Bool) (root : Text) → calls_in_place (c_place through root []) ≡ []
+pub root_calls_none : (through : Bool) (root : Text) → calls_in_place (c_place through root []) ≡ []
 root_calls_none through root = place-calls through root []
 
 -- arguments call nothing
@@ -136,7 +110,7 @@ tick_silent unit remembers =
     (silent-append (map output_arg (outputs_of unit)) _ (outputs_silent (outputs_of unit))
     (end_silent (unit_may_end unit)))))
 
-returned_silent : (n : ℕ) → calls_in_stmt (c_returned n) ≡ []
+pub returned_silent : (n : ℕ) → calls_in_stmt (c_returned n) ≡ []
 returned_silent n = return-calls (Some (c_literal (Nat W32) (pos n))) ∙ literal-calls (Nat W32) (pos n)
 
 module _ (unit : UnitDef) (remembers : Bool) where
@@ -230,30 +204,6 @@ take_nothing : {A : Type 0} (n : ℕ) → take n (none_in A) ≡ none_in A
 take_nothing zero = refl
 take_nothing (suc n) = refl
 
-split_take : {A : Type 0} (a b : ℕ) (xs : List A) → take (a + b) xs ≡ take a xs ++ take b (drop a xs)
-split_take zero b [] = take_nothing (zero + b) ∙ sym (take_nothing b)
-split_take zero b (x ∷ xs) = let same : zero + b ≡ b = omega arith in ap (λ n. take n (x ∷ xs)) same
-split_take (suc a) b [] = take_nothing (suc a + b) ∙ sym (take_nothing b)
-split_take (suc a) b (x ∷ xs) =
-    let same : suc a + b ≡ suc (a + b) = omega arith in
-    ap (λ n. take n (x ∷ xs)) same ∙ ap (λ rest. x ∷ rest) (split_take a b xs)
-
-taken_all : {A : Type 0} (test : A → Bool) (n : ℕ) (xs : List A) → list_all test xs ≡ true → list_all test (take n xs) ≡ true
-taken_all test zero xs all = refl
-taken_all test (suc n) [] all = refl
-taken_all test (suc n) (x ∷ xs) all =
-    both (test x) (list_all test (take n xs)) (and_left (test x) (list_all test xs) all)
-    (taken_all test n xs (and_right (test x) (list_all test xs) all))
-
-dropped_all : {A : Type 0} (test : A → Bool) (n : ℕ) (xs : List A) → list_all test xs ≡ true → list_all test (drop n xs) ≡ true
-dropped_all test zero xs all = all
-dropped_all test (suc n) [] all = refl
-dropped_all test (suc n) (x ∷ xs) all = dropped_all test n xs (and_right (test x) (list_all test xs) all)
-
-total_append : (xs ys : List ℕ) → total (xs ++ ys) ≡ total xs + total ys
-total_append [] ys = omega arith
-total_append (x ∷ xs) ys = let rest = total_append xs ys in omega (arith, rest)
-
 module _ (structs : List StructDef) (units : List UnitDef) (known : Sizes) (sizes : SizesKnown structs units known) where
   abbrev Stand : List Var → Type 0
   Stand vars = list_all (λ (var : Var). type_stands (length structs) var.ty) vars ≡ true
@@ -266,15 +216,15 @@ module _ (structs : List StructDef) (units : List UnitDef) (known : Sizes) (size
   members_cells prefix [] stand = omega arith
   members_cells prefix (var ∷ vars) stand =
       let one = sizes.types var.ty
-      (and_left (type_stands (length structs) var.ty) (list_all (λ (var : Var). type_stands (length structs) var.ty) vars) stand) in
+      (and_first (type_stands (length structs) var.ty) (list_all (λ (var : Var). type_stands (length structs) var.ty) vars) stand) in
       let rest = members_cells prefix vars
-      (and_right (type_stands (length structs) var.ty) (list_all (λ (var : Var). type_stands (length structs) var.ty) vars) stand) in
+      (and_second (type_stands (length structs) var.ty) (list_all (λ (var : Var). type_stands (length structs) var.ty) vars) stand) in
       omega (arith, one, rest)
 
   port_cells : (name prefix : Text) (vars : List Var) → Stand vars → size_of_struct known (port_struct structs name prefix vars) ≤ size_all vars + 1
   port_cells name prefix vars stand = let rest = members_cells prefix vars stand in omega (arith, rest)
 
-  -- both
+  -- and_from
   pub ports_cells : (unit : UnitDef) → Stand unit.vars →
       size_of_struct known (port_struct structs (codes "bl_in") (codes "i_") (inputs_of unit))
       + size_of_struct known (port_struct structs (codes "bl_out") (codes "o_") (outputs_of unit)) ≤ ports_of structs unit + 2
@@ -286,5 +236,5 @@ module _ (structs : List StructDef) (units : List UnitDef) (known : Sizes) (size
       let parts : ports_of structs unit ≡ size_all (inputs_of unit) + size_all (outputs_of unit) =
       ap size_all (split_take unit.inputs unit.outputs unit.vars)
       ∙ ap total (map-append (λ (var : Var). size structs var.ty) (inputs_of unit) (outputs_of unit))
-      ∙ total_append (map (λ (var : Var). size structs var.ty) (inputs_of unit)) (map (λ (var : Var). size structs var.ty) (outputs_of unit)) in
+      ∙ total-append (map (λ (var : Var). size structs var.ty) (inputs_of unit)) (map (λ (var : Var). size structs var.ty) (outputs_of unit)) in
       omega (arith, ins, outs, parts)

@@ -1,5 +1,5 @@
 -- Names of structs that are neither those of types nor those of variables of functions.
-use Rattle.std.proofs.Common.{◌≡◌, ℕ, Bool, true, false, not, List, ◌++◌, drop, Some, refl, sym, ap, ◌∙◌, codes}
+use Rattle.std.proofs.Common.{◌≡◌, ℕ, Bool, true, false, List, ◌++◌, drop, Some, refl, sym, ap, ◌∙◌, codes}
 use Rattle.std.proofs.lemmas.Option.{same_Some}
 use Rattle.std.proofs.lemmas.Slice.Eq.{bytes_eq-Decides}
 use Rattle.std.specs.Prelude.{bytes_eq, slice_get}
@@ -19,6 +19,7 @@ use Rattle.bl_emit_functions.specs.Functions.{memory_name}
 use Rattle.bl_emit_functions_laws_wellformed.proofs.OnFiles.Growing.{names, one_place}
 use Rattle.bl_emit_functions_laws_wellformed.specs.Cells.{NamesNone}
 use Rattle.bl_emit_spec.specs.Names.{frame_name}
+use Rattle.bl_emit_spec_laws.proofs.OnCleared.Finding.{clash}
 
 -- ---- texts
 
@@ -82,10 +83,6 @@ module _ (structs : List StructDef) where
 
 -- ---- none at all
 
-not_both : (active : Bool) → active ≡ true → not active ≡ true → ⊥
-not_both true one other = absurd (cc)
-not_both false one other = absurd (cc)
-
 pub frame_none : (structs : List StructDef) (units : List UnitDef) (name : Text) → NamesNone structs units (frame_name name)
 frame_none structs units name = record { types = no_frame structs name; memories = λ k unit there function. refl }
 
@@ -102,5 +99,5 @@ memory_none structs units k unit differ there active = record {
       (λ same. let text : unit.name ≡ other.name = ap (drop 2) same in
       let place : k ≡ j = one_place units k j unit other differ there found text in
       let is : unit ≡ other = same_Some unit other (sym there ∙ ap (slice_get units) place ∙ found) in
-      not_both (is_activity other.kind) (ap (λ (u : UnitDef). is_activity u.kind) (sym is) ∙ active) function);
+      clash (is_activity other.kind) (ap (λ (u : UnitDef). is_activity u.kind) (sym is) ∙ active) function);
 }

@@ -1,31 +1,7 @@
 -- A number that no unit has less of than what it calls and runs: what is needed has no more than the entry.
-use Rattle.std.proofs.Common.{
-  ◌≡◌,
-  ◌⊎◌,
-  inl,
-  inr,
-  ℕ,
-  zero,
-  suc,
-  ◌+◌,
-  ◌≤◌,
-  arith,
-  Bool,
-  true,
-  false,
-  ◌||◌,
-  nat_eq,
-  List,
-  [],
-  ◌∷◌,
-  ◌++◌,
-  map,
-  length,
-}
+use Rattle.std.proofs.Common.{◌≡◌, ◌⊎◌, inl, inr, ℕ, zero, suc, ◌+◌, ◌≤◌, arith, Bool, true, false, ◌||◌, nat_eq, List, [], ◌∷◌, ◌++◌, map, length}
 use Rattle.std.proofs.Common.{Option, Some, None, refl, sym, ap, ◌∙◌, subst}
 use Rattle.std.proofs.lemmas.Bool.{eqb-true}
-use Rattle.std.proofs.lemmas.List.{length_push, map-append}
-use Rattle.std.proofs.lemmas.Option.{same_Some}
 use Rattle.std.specs.Prelude.{slice_get, unwrap_or, if◌then◌else◌}
 use Rattle.std.specs.List.{list_any}
 use Rattle.bl_tree.specs.declared.tree.Unit.{Unit as UnitDef}
@@ -45,30 +21,11 @@ use Rattle.bl_limits_measures.specs.Units.{cells_at, cells_with, variables_of}
 use Rattle.bl_limits_measures_laws.specs.Laws.{UnitsUseEarlierOnes}
 use Rattle.bl_emit_spec_laws_wellformed.proofs.OnNeeded.Places.{placed_any}
 use Rattle.bl_emit_spec_laws_wellformed.proofs.OnNeeded.Runs.{runs_nothing}
-use Rattle.bl_emit_laws.proofs.OnCells.Numbers.{among_greatest}
 use Rattle.std.proofs.lemmas.List.Folds.{list_any-append}
+use Rattle.bl_emit_spec_laws_wellformed.proofs.OnClosed.Closed.{set_back}
+use Rattle.bl_emit_spec_laws_wellformed.proofs.OnNeeded.Whole.{among_greatest, among_total, calling_less, running_less, tested_at}
 
 -- ---- what a unit calls and runs has no more cells
-
-among_total : (f : ℕ → ℕ) (ks : List ℕ) (j : ℕ) → list_any (nat_eq j) ks ≡ true → f j ≤ total (map f ks)
-among_total f [] j h = absurd (cc)
-among_total f (k ∷ ks) j h = by (nat_eq j k) refl h (among_total f ks j)
-  where
-    by : (b : Bool) → nat_eq j k ≡ b → (b || list_any (nat_eq j) ks) ≡ true →
-        (list_any (nat_eq j) ks ≡ true → f j ≤ total (map f ks)) → f j ≤ f k + total (map f ks)
-    by true is h rest = let same : f j ≡ f k = ap f (eqb-true j k is) in omega (arith, same)
-    by false is h rest = let later : f j ≤ total (map f ks) = rest h in omega (arith, later)
-
--- a function calls what stands in the count of its cells; an activity also runs it
-running_less : (kind : UnitKind) (variables statements running calling n : ℕ) → kind ≡ Activity → n ≤ running →
-    n ≤ cells_with kind variables statements running calling
-running_less Activity variables statements running calling n is le = omega (arith, le)
-running_less Function variables statements running calling n is le = absurd (cc)
-
-calling_less : (kind : UnitKind) (variables statements running calling n : ℕ) → n ≤ calling →
-    n ≤ cells_with kind variables statements running calling
-calling_less Function variables statements running calling n le = omega (arith, le)
-calling_less Activity variables statements running calling n le = omega (arith, le)
 
 -- the count of a unit's cells, by those of the units that it runs and calls
 abbrev counted : List StructDef → List UnitDef → UnitDef → ℕ
@@ -109,51 +66,6 @@ less_calls structs units entry k j unit keeps earlier add there needed =
 
 -- ---- what is needed
 
--- an element of a list with one more is one of the list, or the last
-seam : {A : Type 0} (xs : List A) (y : A) (j : ℕ) (v : A) → slice_get (xs ++ y ∷ []) j ≡ Some v → (slice_get xs j ≡ Some v)
-    ⊎ ((j ≡ length xs) × (y ≡ v))
-seam [] y zero v h = inr (refl, same_Some y v h)
-seam [] y (suc j) v h = absurd (cc)
-seam (x ∷ xs) y zero v h = inl h
-seam (x ∷ xs) y (suc j) v h = by (seam xs y j v h)
-  where
-    by : (slice_get xs j ≡ Some v) ⊎ ((j ≡ length xs) × (y ≡ v)) →
-        (slice_get xs j ≡ Some v) ⊎ ((suc j ≡ suc (length xs)) × (y ≡ v))
-    by (inl h) = inl h
-    by (inr h) = inr (ap suc h.0, h.1)
-
-length_tests : (test : ℕ → Bool) (n : ℕ) → length (map test (up_to n)) ≡ n
-length_tests test zero = refl
-length_tests test (suc n) =
-    ap length (map-append test (up_to n) (n ∷ [])) ∙ length_push (map test (up_to n)) (test n)
-    ∙ (let rest = length_tests test n in omega (arith, rest))
-
-tested_at : (test : ℕ → Bool) (n j : ℕ) → slice_get (map test (up_to n)) j ≡ Some true → test j ≡ true
-tested_at test zero j h = absurd (cc)
-tested_at test (suc n) j h =
-    by (seam (map test (up_to n)) (test n) j true (ap (λ tests. slice_get tests j) (sym (map-append test (up_to n) (n ∷ []))) ∙ h))
-    (tested_at test n j)
-  where
-    by : (slice_get (map test (up_to n)) j ≡ Some true) ⊎ ((j ≡ length (map test (up_to n))) × (test n ≡ true)) →
-        (slice_get (map test (up_to n)) j ≡ Some true → test j ≡ true) → test j ≡ true
-    by (inl h) rest = rest h
-    by (inr h) rest = ap test (h.0 ∙ length_tests test n) ∙ h.1
-
--- a test that is set was set before, or stands at one of the positions
-set_at : (positions : List ℕ) (base : ℕ) (needed : List Bool) (j : ℕ) → slice_get (set_from positions base needed) j ≡ Some true →
-    (slice_get needed j ≡ Some true) ⊎ (list_any (nat_eq (base + j)) positions ≡ true)
-set_at positions base [] j h = absurd (cc)
-set_at positions base (true ∷ rest) zero h = inl refl
-set_at positions base (false ∷ rest) zero h =
-    let same : base ≡ base + 0 = omega arith in
-    inr (subst (λ k. list_any (nat_eq k) positions ≡ true) same (same_Some (list_any (nat_eq base) positions) true h))
-set_at positions base (test ∷ rest) (suc j) h = by (set_at positions (suc base) rest j h)
-  where
-    by : (slice_get rest j ≡ Some true) ⊎ (list_any (nat_eq (suc base + j)) positions ≡ true) →
-        (slice_get rest j ≡ Some true) ⊎ (list_any (nat_eq (base + suc j)) positions ≡ true)
-    by (inl h) = inl h
-    by (inr h) = let same : suc base + j ≡ base + suc j = omega arith in inr (subst (λ k. list_any (nat_eq k) positions ≡ true) same h)
-
 module _ (units : List UnitDef) (cells : ℕ → ℕ) (most : ℕ)
     (down : (k j : ℕ) (unit : UnitDef) → slice_get units k ≡ Some unit → list_any (nat_eq j) (needs_of unit) ≡ true →
     cells j ≤ cells k) where
@@ -162,12 +74,12 @@ module _ (units : List UnitDef) (cells : ℕ → ℕ) (most : ℕ)
 
   set_small : (k : ℕ) (needed : List Bool) → Small needed → cells k ≤ most → (o : Option UnitDef) → slice_get units k ≡ o →
       Small (set_from (needs_at o) 0 needed)
-  set_small k needed small own None is j h = by (set_at [] 0 needed j h)
+  set_small k needed small own None is j h = by (set_back [] 0 needed j h)
     where
       by : (slice_get needed j ≡ Some true) ⊎ (list_any (nat_eq (0 + j)) [] ≡ true) → cells j ≤ most
       by (inl h) = small j h
       by (inr h) = absurd (cc)
-  set_small k needed small own (Some unit) is j h = by (set_at (needs_of unit) 0 needed j h)
+  set_small k needed small own (Some unit) is j h = by (set_back (needs_of unit) 0 needed j h)
     where
       by : (slice_get needed j ≡ Some true) ⊎ (list_any (nat_eq (0 + j)) (needs_of unit) ≡ true) → cells j ≤ most
       by (inl h) = small j h
@@ -195,19 +107,3 @@ none_more units entry cells down k needed =
     omega (arith, same)) k needed
 
 -- ---- how many tests there are
-
-set_length : (positions : List ℕ) (base : ℕ) (needed : List Bool) → length (set_from positions base needed) ≡ length needed
-set_length positions base [] = refl
-set_length positions base (test ∷ rest) = ap suc (set_length positions (suc base) rest)
-
-below_length : (k : ℕ) (units : List UnitDef) (needed : List Bool) → length (needed_below k units needed) ≡ length needed
-below_length zero units needed = refl
-below_length (suc k) units needed = below_length k units _ ∙ by (unwrap_or (slice_get needed k) false)
-  where
-    by : (b : Bool) → length (if b then set_from (needs_at (slice_get units k)) 0 needed else needed) ≡ length needed
-    by true = set_length (needs_at (slice_get units k)) 0 needed
-    by false = refl
-
-pub needed_length : (units : List UnitDef) (entry : ℕ) → length (needed_units units entry) ≡ length units
-needed_length units entry =
-    below_length (length units) units (map (λ k. nat_eq k entry) (up_to (length units))) ∙ length_tests (λ k. nat_eq k entry) (length units)

@@ -1,28 +1,6 @@
 -- Lists of numbers with one more.
-use Rattle.std.proofs.Common.{
-  ◌≡◌,
-  ℕ,
-  zero,
-  suc,
-  ◌<◌,
-  ◌≤◌,
-  max,
-  arith,
-  Bool,
-  true,
-  false,
-  ◌||◌,
-  nat_eq,
-  List,
-  [],
-  ◌∷◌,
-  ◌++◌,
-  map,
-  length,
-}
+use Rattle.std.proofs.Common.{◌≡◌, ℕ, zero, suc, ◌<◌, ◌≤◌, arith, ◌||◌, List, [], ◌∷◌, ◌++◌, length}
 use Rattle.std.proofs.Common.{refl, ap}
-use Rattle.std.proofs.lemmas.Bool.{eqb-true}
-use Rattle.std.specs.List.{list_any}
 use Rattle.std.specs.Prelude.{slice_index}
 use Rattle.bl_tree.specs.Reduce.{greatest}
 
@@ -46,15 +24,6 @@ index_under [] y zero most old new = new refl
 index_under [] y (suc j) most old new = omega arith
 index_under (x ∷ xs) y zero most old new = old
 index_under (x ∷ xs) y (suc j) most old new = index_under xs y j most old (λ is. new (ap suc is))
-
-pub among_greatest : (f : ℕ → ℕ) (ks : List ℕ) (j : ℕ) → list_any (nat_eq j) ks ≡ true → f j ≤ greatest (map f ks)
-among_greatest f [] j h = absurd (cc)
-among_greatest f (k ∷ ks) j h = by (nat_eq j k) refl h (among_greatest f ks j)
-  where
-    by : (b : Bool) → nat_eq j k ≡ b → (b || list_any (nat_eq j) ks) ≡ true →
-        (list_any (nat_eq j) ks ≡ true → f j ≤ greatest (map f ks)) → f j ≤ max (f k) (greatest (map f ks))
-    by true is h rest = let same : f j ≡ f k = ap f (eqb-true j k is) in omega (arith, same)
-    by false is h rest = let later : f j ≤ greatest (map f ks) = rest h in omega (arith, later)
 
 -- both under one number
 pub greatest_both : (a : ℕ) (ns : List ℕ) (m : ℕ) → a ≤ m → greatest ns ≤ m → greatest (a ∷ ns) ≤ m

@@ -1,32 +1,13 @@
 -- A number for each unit: enough for the chain of calls that its C function heads, no less than those of what it calls and runs, and no more than
 -- rule Cells counts.
-use Rattle.std.proofs.Common.{
-  ◌≡◌,
-  ⊎_elim,
-  ℕ,
-  suc,
-  ◌+◌,
-  ◌<◌,
-  ◌≤◌,
-  arith,
-  Bool,
-  true,
-  false,
-  nat_eq,
-  List,
-  [],
-  ◌∷◌,
-  ◌++◌,
-  Contains,
-  map,
-  take,
-}
+use Rattle.std.proofs.Common.{◌≡◌, ⊎_elim, ℕ, suc, ◌+◌, ◌<◌, ◌≤◌, arith, Bool, true, false, nat_eq, List, [], ◌∷◌, ◌++◌, Contains, map, take}
 use Rattle.std.proofs.Common.{length, Option, Some, None, refl, sym, ap, ◌∙◌, subst}
 use Rattle.std.proofs.lemmas.List.{length-append}
 use Rattle.std.proofs.lemmas.Option.{same_Some}
 use Rattle.std.proofs.lemmas.Slice.Eq.{bytes_eq-Decides}
 use Rattle.std.specs.List.{list_any}
 use Rattle.std.specs.Prelude.{bytes_eq, is_some, slice_get, slice_index, unwrap_or}
+use Rattle.bl_tree.proofs.Basics.{below_or_last}
 use Rattle.bl_tree.specs.declared.tree.StructDef.{StructDef}
 use Rattle.bl_tree.specs.declared.tree.Unit.{Unit as UnitDef}
 use Rattle.bl_tree.specs.Program.{IsWellTyped}
@@ -52,9 +33,10 @@ use Rattle.bl_emit_spec.specs.Programs.{activity_of, needed_units, needs_of}
 use Rattle.bl_emit_spec_laws_wellformed.specs.Chains.{ActivitiesCallFew}
 use Rattle.bl_emit_spec_laws_wellformed.specs.Numbers.{EachStandsOnce}
 use Rattle.bl_emit_spec_laws_wellformed_bodies.specs.Cells.{ActivityCells, Sized, cells_reached, ports_of}
-use Rattle.bl_emit_spec_laws_wellformed_bodies.proofs.OnStructs.Lists.{below_or_last, get_taken}
-use Rattle.bl_emit_laws.proofs.OnCells.Numbers.{among_greatest, index_front, index_last, index_more, index_under}
-use Rattle.bl_emit_laws.proofs.OnCells.Tables.{entry_less}
+use Rattle.bl_emit_spec_laws_wellformed_bodies.proofs.OnStructs.Lists.{get_taken}
+use Rattle.bl_emit_laws.proofs.OnCells.Numbers.{index_front, index_last, index_more, index_under}
+use Rattle.bl_emit_functions_laws_wellformed.proofs.OnFiles.Growing.{at_most}
+use Rattle.bl_emit_spec_laws_wellformed.proofs.OnNeeded.Whole.{among_greatest}
 
 -- ---- sums
 
@@ -145,7 +127,7 @@ module _ (structs : List StructDef) (units : List UnitDef) (entry : ℕ) (keeps 
     joined_bound list chains k unit r n there st le f other found =
         let old : entry_or 0 chains (unit_name other.name) ≤ slice_index list f = st.bound f other found in
         let more : slice_index list f ≤ slice_index (list ++ r ∷ []) f = index_more list r f in
-        entry_less (chains (unit_name other.name)) (bytes_eq (unit_name unit.name) (unit_name other.name)) n (slice_index (list ++ r ∷ []) f)
+        at_most (chains (unit_name other.name)) (bytes_eq (unit_name unit.name) (unit_name other.name)) n (slice_index (list ++ r ∷ []) f)
         (omega (arith, old, more))
         (λ same. let text : unit.name ≡ other.name = (bytes_eq-Decides unit.name other.name).0 same in
         let place : k ≡ f = one_place units k f unit other differ there found text in

@@ -2,6 +2,7 @@
 use Rattle.std.proofs.Common.{◌≡◌, ⊎_elim, ℕ, suc, arith, Bool, true, false, List, [], ◌∷◌, ◌++◌, Contains, drop, take, length}
 use Rattle.std.proofs.Common.{Some, refl, sym, ap, ◌∙◌, subst, append_assoc}
 use Rattle.std.specs.Prelude.{slice_get, if◌then◌else◌}
+use Rattle.bl_tree.proofs.Basics.{contains_none, first_or_further, get_seam, take_front}
 use Rattle.bl_tree.specs.declared.c.CMember.{CMember}
 use Rattle.bl_tree.specs.declared.c.CStruct.{CStruct}
 use Rattle.bl_tree.specs.declared.text.Text.{Text}
@@ -18,7 +19,6 @@ use Rattle.bl_emit_functions_laws_wellformed.specs.Cells.{NamesNone, SizesGrow, 
 use Rattle.bl_emit_functions_laws_wellformed.proofs.OnFiles.Growing.{names}
 use Rattle.bl_emit_spec.specs.Activities.{Activity, frame_struct, remembered, remembered_struct}
 use Rattle.bl_emit_spec.specs.Programs.{ProgramParts, activity_of, parts_from, parts_of_function, parts_of_next, where_needed}
-use Rattle.bl_emit_spec_laws_wellformed_bodies.proofs.OnStructs.Lists.{first_or, get_behind, none_has, take_front}
 use Rattle.bl_emit_laws.proofs.OnCells.Names.{frame_none, memory_none}
 use Rattle.bl_emit_laws.proofs.OnCells.Tables.{sizes_append}
 
@@ -27,9 +27,9 @@ further x xs y (k, within, is) = (suc k, omega arith, is)
 
 -- the struct of what a unit remembers has this name
 pub struct_named : (name : Text) (members : List CMember) (s : CStruct) → Contains (struct_of name members) s → s.name ≡ memory_name name
-struct_named name [] s has = absurd (none_has s has)
+struct_named name [] s has = absurd (contains_none s has)
 struct_named name (m ∷ rest) s has =
-    ⊎_elim (λ is. ap (λ (s : CStruct). s.name) (sym is)) (λ none. absurd (none_has s none)) (first_or _ [] s has)
+    ⊎_elim (λ is. ap (λ (s : CStruct). s.name) (sym is)) (λ none. absurd (contains_none s none)) (first_or_further _ [] s has)
 
 module _ (structs : List StructDef) (units : List UnitDef) (grow : SizesGrow structs units) (differ : are_distinct (names units) ≡ true) where
   abbrev Known : Sizes → Type 0
@@ -73,7 +73,7 @@ module _ (structs : List StructDef) (units : List UnitDef) (grow : SizesGrow str
       (λ s has. ⊎_elim
       (λ first. subst (λ (s : CStruct). NamesNone structs units s.name) first (frame_none structs units unit.name))
       (λ later. subst (NamesNone structs units) (sym (struct_named unit.name (remembered a) s later)) (memory_none structs units k unit differ there is))
-      (first_or (frame_struct a) (remembered_struct a) s has))
+      (first_or_further (frame_struct a) (remembered_struct a) s has))
 
   pub walk : (earlier : List UnitDef) (remember : List Bool) (rest : List UnitDef) (needed : List Bool) (machine : List InMachine) (known : Sizes) →
       earlier ++ rest ≡ units → Known known → Known (sizes_after known (parts_from structs earlier remember rest needed machine).structs)
@@ -81,7 +81,7 @@ module _ (structs : List StructDef) (units : List UnitDef) (grow : SizesGrow str
   walk earlier remember (unit ∷ rest) [] machine known whole so = so
   walk earlier remember (unit ∷ rest) (test ∷ needed) machine known whole so =
       let there : slice_get units (length earlier) ≡ Some unit =
-      ap (λ units. slice_get units (length earlier)) (sym whole) ∙ get_behind earlier unit rest in
+      ap (λ units. slice_get units (length earlier)) (sym whole) ∙ get_seam earlier unit rest in
       let before : take (length earlier) units ≡ earlier = ap (take (length earlier)) (sym whole) ∙ take_front earlier (unit ∷ rest) in
       let active : Bool = is_activity unit.kind in
       let own : List CStruct = (where_needed test (here active earlier remember unit machine)).structs in

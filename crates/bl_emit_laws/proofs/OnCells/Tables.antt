@@ -1,10 +1,11 @@
 -- How many scalars the structs of a file have, one after another.
-use Rattle.std.proofs.Common.{◌≡◌, ℕ, suc, ◌≤◌, arith, Bool, true, false, List, [], ◌∷◌, ◌++◌, Contains, map}
+use Rattle.std.proofs.Common.{◌≡◌, ℕ, ◌≤◌, arith, Bool, true, false, List, [], ◌∷◌, ◌++◌, Contains, map}
 use Rattle.std.proofs.Common.{Option, Some, None, refl}
 use Rattle.std.proofs.lemmas.Nat.{mul-le}
 use Rattle.std.proofs.lemmas.Slice.Eq.{bytes_eq-Decides}
 use Rattle.std.specs.Option.{option_or}
 use Rattle.std.specs.Prelude.{bytes_eq, unwrap_or, if◌then◌else◌}
+use Rattle.bl_tree.proofs.Basics.{contains_further}
 use Rattle.bl_tree.specs.declared.c.CMember.{CMember}
 use Rattle.bl_tree.specs.declared.c.CStruct.{CStruct}
 use Rattle.bl_tree.specs.declared.c.CType.{CType}
@@ -13,14 +14,9 @@ use Rattle.bl_tree.specs.declared.text.Text.{Text}
 use Rattle.bl_tree.specs.Reduce.{total}
 use Rattle.bl_ctext_semantics.specs.Sizes.{Sizes, size_of_length, size_of_member, size_of_struct, size_of_type, sizes_after}
 use Rattle.bl_ctext_semantics.specs.Tables.{entry_or, with_entry}
+use Rattle.bl_emit_functions_laws_wellformed.proofs.OnFiles.Growing.{at_most}
 
 -- ---- one more entry
-
-pub entry_less : (o : Option ℕ) (b : Bool) (n most : ℕ) → unwrap_or o 0 ≤ most → (b ≡ true → n ≤ most)
-    → unwrap_or (option_or o (if b then Some n else None)) 0 ≤ most
-entry_less (Some m) b n most old new = old
-entry_less None true n most old new = new refl
-entry_less None false n most old new = old
 
 entry_more : (o : Option ℕ) (b : Bool) (n : ℕ) → unwrap_or o 0 ≤ unwrap_or (option_or o (if b then Some n else None)) 0
 entry_more (Some m) b n = omega arith
@@ -63,9 +59,6 @@ members_more one other more (m ∷ members) =
 
 -- ---- what stands under a name
 
-behind : {X : Type 0} (x : X) (xs : List X) (y : X) → Contains xs y → Contains (x ∷ xs) y
-behind x xs y (k, within, is) = (suc k, omega arith, is)
-
 pub sizes_append : (xs ys : List CStruct) (known : Sizes) → sizes_after known (xs ++ ys) ≡ sizes_after (sizes_after known xs) ys
 sizes_append [] ys known = refl
 sizes_append (s ∷ xs) ys known = sizes_append xs ys (with_entry known s.name (size_of_struct known s))
@@ -78,7 +71,7 @@ sizes_none (s ∷ rest) known name none others =
     sizes_none rest (with_entry known s.name (size_of_struct known s)) name
     (entry_none (known name) (bytes_eq s.name name) (size_of_struct known s) none
     (λ same. others s (0, omega arith, refl) ((bytes_eq-Decides s.name name).0 same)))
-    (λ t at. others t (behind s rest t at))
+    (λ t at. others t (contains_further s rest t at))
 
 -- no more than each struct of the name has in the end
 pub sizes_under : (list : List CStruct) (known : Sizes) (name : Text) (n : ℕ) → entry_or 0 known name ≤ n →
@@ -92,7 +85,7 @@ sizes_under (s ∷ rest) known name n old each =
     let later = sizes_more rest known' name in omega (arith, one, later)) in
     let grown : size_of_struct known s ≤ size_of_struct (sizes_after known' rest) s = members_more known (sizes_after known' rest) more s.members in
     sizes_under rest known' name n
-    (entry_less (known name) (bytes_eq s.name name) (size_of_struct known s) n old
+    (at_most (known name) (bytes_eq s.name name) (size_of_struct known s) n old
     (λ same. let own : size_of_struct (sizes_after known' rest) s ≤ n =
     each s (0, omega arith, refl) ((bytes_eq-Decides s.name name).0 same) in omega (arith, grown, own)))
-    (λ t at. each t (behind s rest t at))
+    (λ t at. each t (contains_further s rest t at))

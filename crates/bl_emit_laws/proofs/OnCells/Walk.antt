@@ -7,6 +7,8 @@ use Rattle.std.proofs.lemmas.List.Elements.{Contains-append_cases}
 use Rattle.std.proofs.lemmas.Slice.Eq.{bytes_eq-Decides}
 use Rattle.std.specs.List.{list_any}
 use Rattle.std.specs.Prelude.{bytes_eq, slice_get, slice_index, unwrap_or, if◌then◌else◌}
+use Rattle.std.proofs.lemmas.Bool.{or_left, or_right}
+use Rattle.bl_tree.proofs.Basics.{and_first, contains_none, first_or_further, get_seam, take_front}
 use Rattle.bl_tree.specs.declared.c.CFunc.{CFunc}
 use Rattle.bl_tree.specs.declared.c.CMember.{CMember}
 use Rattle.bl_tree.specs.declared.c.CStruct.{CStruct}
@@ -17,7 +19,6 @@ use Rattle.bl_tree.specs.Program.{IsWellTyped}
 use Rattle.bl_tree.specs.Reduce.{greatest, total}
 use Rattle.bl_tree.specs.Typing.{is_activity}
 use Rattle.bl_tree.specs.Words.{are_distinct, is_among}
-use Rattle.bl_eval.proofs.PassLemmas.{and_left}
 use Rattle.bl_cause.specs.Activities.{EachTwo, activities}
 use Rattle.bl_limits_measures.specs.Runs.{activities_by_place}
 use Rattle.bl_limits_measures.specs.Units.{cells_at}
@@ -38,7 +39,6 @@ use Rattle.bl_emit_spec.specs.Programs.{ProgramParts, activity_of, needed_units,
 use Rattle.bl_emit_spec.specs.Programs.{where_needed}
 use Rattle.bl_emit_spec_laws_wellformed.specs.Chains.{ActivitiesCallFew}
 use Rattle.bl_emit_spec_laws_wellformed_bodies.specs.Cells.{ActivityCells}
-use Rattle.bl_emit_spec_laws_wellformed_bodies.proofs.OnStructs.Lists.{first_or, get_behind, none_has, take_front}
 use Rattle.bl_emit_spec_laws_wellformed_bodies.proofs.OnStructs.Names.{Other, none_among}
 use Rattle.bl_emit_laws.proofs.OnCells.Numbers.{greatest_both, index_last, index_more}
 use Rattle.bl_emit_laws.proofs.OnCells.Reaching.{Reached, activity_step, chain_less, function_less, function_step, none_step, reached}
@@ -61,29 +61,21 @@ frame_byte name = refl
 pub memory_byte : (name : Text) → first_byte (memory_name name) ≡ 109
 memory_byte name = refl
 
-either : (a b : Bool) → a ≡ true → (a || b) ≡ true
-either true b h = refl
-either false b h = absurd (cc)
-
-or_else : (a b : Bool) → b ≡ true → (a || b) ≡ true
-or_else true b h = refl
-or_else false b h = h
-
 among_of : (list : List CStruct) (s : CStruct) (name : Text) → Contains list s → s.name ≡ name → is_among name (names_of list) ≡ true
-among_of [] s name has same = absurd (none_has s has)
+among_of [] s name has same = absurd (contains_none s has)
 among_of (t ∷ list) s name has same =
     ⊎_elim
-    (λ is. either (bytes_eq name t.name) (is_among name (names_of list))
+    (λ is. or_left (bytes_eq name t.name) (is_among name (names_of list))
     ((bytes_eq-Decides name t.name).1 (sym same ∙ ap (λ (s : CStruct). s.name) (sym is))))
-    (λ more. or_else (bytes_eq name t.name) (is_among name (names_of list)) (among_of list s name more same)) (first_or t list s has)
+    (λ more. or_right (bytes_eq name t.name) (is_among name (names_of list)) (among_of list s name more same)) (first_or_further t list s has)
 
 none_of : (list : List CStruct) (s : CStruct) (name : Text) → is_among name (names_of list) ≡ false → Contains list s → s.name ≡ name → ⊥
 none_of list s name none has same = let no : false ≡ true = sym none ∙ among_of list s name has same in absurd (cc)
 
 struct_members : (name : Text) (members : List CMember) (s : CStruct) → Contains (struct_of name members) s → s.members ≡ members
-struct_members name [] s has = absurd (none_has s has)
+struct_members name [] s has = absurd (contains_none s has)
 struct_members name (m ∷ rest) s has =
-    ⊎_elim (λ is. ap (λ (s : CStruct). s.members) (sym is)) (λ none. absurd (none_has s none)) (first_or _ [] s has)
+    ⊎_elim (λ is. ap (λ (s : CStruct). s.members) (sym is)) (λ none. absurd (contains_none s none)) (first_or_further _ [] s has)
 
 -- ---- tables of chains
 
@@ -184,7 +176,7 @@ module _ (structs : List StructDef) (units : List UnitDef) (entry : ℕ) (keeps 
         (λ own. ⊎_elim (λ first. ap (λ (s : CStruct). s.members) (sym first))
         (λ held. absurd (unlike (memory_name a.unit.name) (frame_name a.unit.name) 109 102 (memory_byte a.unit.name) (frame_byte a.unit.name)
         (λ e. absurd (omega (arith, e))) (sym (struct_named a.unit.name (remembered a) s held) ∙ same)))
-        (first_or (frame_struct a) (remembered_struct a) s own))
+        (first_or_further (frame_struct a) (remembered_struct a) s own))
         (λ later. absurd (none_of rest s (frame_name a.unit.name) other.frame later same))
         (Contains-append_cases (frame_struct a ∷ remembered_struct a) rest s front))
         (λ end. absurd (unlike s.name (frame_name a.unit.name) 98 102 (last_named s end) (frame_byte a.unit.name) (λ e. absurd (omega (arith, e))) same))
@@ -201,7 +193,7 @@ module _ (structs : List StructDef) (units : List UnitDef) (entry : ℕ) (keeps 
         (λ own. ⊎_elim
         (λ first. absurd (unlike (frame_name a.unit.name) (memory_name a.unit.name) 102 109 (frame_byte a.unit.name) (memory_byte a.unit.name)
         (λ e. absurd (omega (arith, e))) (ap (λ (s : CStruct). s.name) first ∙ same)))
-        (λ held. struct_members a.unit.name (remembered a) s held) (first_or (frame_struct a) (remembered_struct a) s own))
+        (λ held. struct_members a.unit.name (remembered a) s held) (first_or_further (frame_struct a) (remembered_struct a) s own))
         (λ later. absurd (none_of rest s (memory_name a.unit.name) other.memory later same))
         (Contains-append_cases (frame_struct a ∷ remembered_struct a) rest s front))
         (λ end. absurd (unlike s.name (memory_name a.unit.name) 98 109 (last_named s end) (memory_byte a.unit.name) (λ e. absurd (omega (arith, e))) same))
@@ -272,7 +264,7 @@ module _ (structs : List StructDef) (units : List UnitDef) (entry : ℕ) (keeps 
           (behind remember' machine (list ++ r ∷ []) _ (sizes_after T (frame_struct a ∷ remembered_struct a)) own.1 next
           (still_fresh T k unit (frame_struct a ∷ remembered_struct a) there
           (λ s has. ⊎_elim (λ first. inl (ap (λ (s : CStruct). s.name) (sym first))) (λ held. inr (struct_named unit.name (remembered a) s held))
-          (first_or (frame_struct a) (remembered_struct a) s has)) fresh)
+          (first_or_further (frame_struct a) (remembered_struct a) s has)) fresh)
           (regrouped T (frame_struct a ∷ remembered_struct a) later.structs is))
       step_by true false (one ∷ machine) act need own st fresh behind is =
           skip_walked list chains (cells_at structs units k) _
@@ -322,11 +314,11 @@ module _ (structs : List StructDef) (units : List UnitDef) (entry : ℕ) (keeps 
         absurd (let no : 0 ≡ suc (length rest) = told.1 in omega (arith, no))
     walk earlier remember (unit ∷ rest) (test ∷ needed) machine list chains T whole told own st fresh is =
         let k : ℕ = length earlier in
-        let there : slice_get units k ≡ Some unit = ap (λ units. slice_get units (length earlier)) (sym whole) ∙ get_behind earlier unit rest in
+        let there : slice_get units k ≡ Some unit = ap (λ units. slice_get units (length earlier)) (sym whole) ∙ get_seam earlier unit rest in
         let front : take k units ≡ earlier = ap (take (length earlier)) (sym whole) ∙ take_front earlier (unit ∷ rest) in
         let none : k + 0 ≡ k = omega arith in
         let alone : not (is_among unit.name (names rest)) ≡ true =
-        and_left (not (is_among unit.name (names rest))) (are_distinct (names rest))
+        and_first (not (is_among unit.name (names rest))) (are_distinct (names rest))
         (distinct_behind (names earlier) (names (unit ∷ rest)) (ap are_distinct (sym (map-append (λ (u : UnitDef). u.name) earlier (unit ∷ rest)))
         ∙ ap (λ units. are_distinct (names units)) whole ∙ differ)) in
         step k earlier unit rest needed list chains T remember there front alone test machine

@@ -1,32 +1,12 @@
 -- The cells of the whole file.
-use Rattle.std.proofs.Common.{
-  ◌≡◌,
-  ◌⊎◌,
-  inl,
-  inr,
-  ⊎_elim,
-  ℕ,
-  suc,
-  ◌+◌,
-  ◌<◌,
-  ◌≤◌,
-  arith,
-  Bool,
-  true,
-  false,
-  ◌&&◌,
-  ◌||◌,
-  nat_eq,
-  List,
-  [],
-  ◌∷◌,
-}
+use Rattle.std.proofs.Common.{◌≡◌, ◌⊎◌, inl, inr, ⊎_elim, ℕ, suc, ◌+◌, ◌<◌, ◌≤◌, arith, Bool, true, false, ◌&&◌, ◌||◌, nat_eq, List, [], ◌∷◌}
 use Rattle.std.proofs.Common.{◌++◌, Contains, map, take, length, Option, Some, None, refl, sym, ap, ◌∙◌, subst, codes}
 use Rattle.std.proofs.lemmas.Bool.{eqb-true}
 use Rattle.std.proofs.lemmas.List.Elements.{All-contains, Contains-append_cases}
 use Rattle.std.proofs.lemmas.Option.{same_Some}
 use Rattle.std.specs.List.{list_all, list_any}
 use Rattle.std.specs.Prelude.{bytes_eq, is_none, is_some, slice_get, slice_index, unwrap_or, if◌then◌else◌}
+use Rattle.bl_tree.proofs.Basics.{and_first, and_second, contains_none, first_or_further, within_at}
 use Rattle.bl_tree.specs.declared.c.CFunc.{CFunc}
 use Rattle.bl_tree.specs.declared.c.CStruct.{CStruct}
 use Rattle.bl_tree.specs.declared.program.Program.{Program}
@@ -39,7 +19,6 @@ use Rattle.bl_tree.specs.Reduce.{greatest}
 use Rattle.bl_tree.specs.Types.{scalar_in}
 use Rattle.bl_tree.specs.Typing.{inputs_of, is_activity, outputs_of}
 use Rattle.bl_tree.specs.Words.{are_distinct}
-use Rattle.bl_eval.proofs.PassLemmas.{and_left, and_right}
 use Rattle.bl_limits.specs.Rules.{Passes as KeepsLimits}
 use Rattle.bl_graph_nodes.specs.Nodes.{nodes_in}
 use Rattle.bl_graph_nodes.specs.Plain.{Block, plain_body}
@@ -76,35 +55,23 @@ use Rattle.bl_emit_spec_laws_wellformed.specs.Machines.{IsModest, MachinesSpell}
 use Rattle.bl_emit_spec_laws_wellformed.specs.Needed.{NeededSmall}
 use Rattle.bl_emit_spec_laws_wellformed_bodies.specs.Structs.Laws.{PartsAreSound, PartsStand, program_parts}
 use Rattle.bl_emit_spec_laws_wellformed_bodies.specs.Structs.Parts.{IsPart}
-use Rattle.bl_emit_spec_laws_wellformed_bodies.proofs.OnStructs.Lists.{below_length, first_or, from_map, none_has}
+use Rattle.bl_emit_spec_laws_wellformed_bodies.proofs.OnStructs.Lists.{from_map}
 use Rattle.bl_emit_spec_laws_wellformed_bodies.proofs.OnStructs.Runs.{runs_fit}
 use Rattle.bl_emit_spec_laws_wellformed_bodies.proofs.OnStructs.Whole.{nests}
 use Rattle.bl_emit_laws.specs.Cells.{FilesCount, FilesSmall, file_of}
 use Rattle.bl_emit_laws.proofs.OnCells.Counters.{sizes_few}
 use Rattle.bl_emit_laws.proofs.OnCells.Interface.{init_cells, ports_cells, state_cells, tick_cells}
 use Rattle.bl_emit_laws.proofs.OnCells.Names.{alike, file_none, no_file, no_frame, no_memory}
-use Rattle.bl_emit_laws.proofs.OnCells.Needing.{less_calls, needed_length, none_more}
+use Rattle.bl_emit_laws.proofs.OnCells.Needing.{less_calls, none_more}
 use Rattle.bl_emit_laws.proofs.OnCells.Numbers.{greatest_append}
 use Rattle.bl_emit_laws.proofs.OnCells.Sizing as sizing
-use Rattle.bl_emit_laws.proofs.OnCells.Tables.{entry_less, sizes_append, sizes_none, sizes_under}
+use Rattle.bl_emit_laws.proofs.OnCells.Tables.{sizes_append, sizes_none, sizes_under}
 use Rattle.bl_emit_laws.proofs.OnCells.Walk.{Walked, after, chains_append, first_byte, frame_byte, memory_byte, unlike, walk}
+use Rattle.bl_emit_functions_laws_wellformed.proofs.OnFiles.Growing.{at_most}
+use Rattle.bl_emit_structs_laws_wellformed.proofs.OnFormed.Whole.{once_has}
+use Rattle.bl_emit_spec_laws.proofs.OnTables.Kept.{needed_many}
 
 -- ---- lists
-
--- what is taken of each once is taken of all
-once_has : (taken : List Text) (xs : List CStruct) (s : CStruct) → Contains (each_once taken xs) s → Contains xs s
-once_has taken [] s there = there
-once_has taken (x ∷ xs) s there =
-    by (list_any (bytes_eq x.name) taken) (once_has taken xs s) (once_has (taken ++ x.name ∷ []) xs s) there
-  where
-    one_further : Contains xs s → Contains (x ∷ xs) s
-    one_further at = (suc at.0, (let lt = at.1 in omega arith), at.2)
-
-    by : (b : Bool) → (Contains (each_once taken xs) s → Contains xs s) → (Contains (each_once (taken ++ x.name ∷ []) xs) s → Contains xs s) →
-        Contains (if b then each_once taken xs else x ∷ each_once (taken ++ x.name ∷ []) xs) s → Contains (x ∷ xs) s
-    by true old new at = one_further (old at)
-    by false old new at =
-        ⊎_elim (λ is. (0, omega arith, is)) (λ behind. one_further (new behind)) (first_or x (each_once (taken ++ x.name ∷ []) xs) s at)
 
 any_at : (xs : List ℕ) (j : ℕ) → list_any (nat_eq j) xs ≡ true → Contains xs j
 any_at [] j h = absurd (cc)
@@ -135,9 +102,9 @@ entry_parts None entry unit is = absurd (cc)
 entry_parts (Some first) entry unit is =
     let scalars : Bool = list_all (λ (var : Var). is_some (scalar_in var.ty)) (parameters_of first) in
     let same : first ≡ unit = same_Some first unit is in
-    let active : is_activity first.kind ≡ true = and_left (is_activity first.kind) (is_none first.result && scalars) entry in
-    let none : is_none first.result ≡ true = and_left (is_none first.result) scalars
-    (and_right (is_activity first.kind) (is_none first.result && scalars) entry) in
+    let active : is_activity first.kind ≡ true = and_first (is_activity first.kind) (is_none first.result && scalars) entry in
+    let none : is_none first.result ≡ true = and_first (is_none first.result) scalars
+    (and_second (is_activity first.kind) (is_none first.result && scalars) entry) in
     (ap (λ (u : UnitDef). is_activity u.kind) (sym same) ∙ active, ap (λ (u : UnitDef). is_some u.result) (sym same) ∙ nothing first.result none)
   where
     nothing : {A : Type 0} (o : Option A) → is_none o ≡ true → is_some o ≡ false
@@ -218,8 +185,8 @@ module _ (program : Program)
   last_cases s at =
       ⊎_elim (λ is. inl (sym is))
       (λ more. ⊎_elim (λ is. inr (inl (sym is)))
-      (λ more. ⊎_elim (λ is. inr (inr (sym is))) (λ none. absurd (none_has s none)) (first_or out_ports [] s more))
-      (first_or in_ports (out_ports ∷ []) s more)) (first_or state (in_ports ∷ out_ports ∷ []) s at)
+      (λ more. ⊎_elim (λ is. inr (inr (sym is))) (λ none. absurd (contains_none s none)) (first_or_further out_ports [] s more))
+      (first_or_further in_ports (out_ports ∷ []) s more)) (first_or_further state (in_ports ∷ out_ports ∷ []) s at)
 
   last_named : (s : CStruct) → Contains last s → first_byte s.name ≡ 98
   last_named s at =
@@ -338,7 +305,7 @@ module _ (program : Program)
   walked =
       walk structs units entry keeps differ K sizes cells follow grow few uses_before cells_down last last_named few_counters callees [] [] units
       (needed_units units entry) machine [] no_entries T refl
-      ((λ i. ap (slice_get (needed_units units entry)) (none_behind i (length {A = UnitDef} []) refl)), needed_length units entry) agrees
+      ((λ i. ap (slice_get (needed_units units entry)) (none_behind i (length {A = UnitDef} []) refl)), needed_many units entry) agrees
       (record {
         long = refl;
         known = record { prelude = λ word s. refl; unnamed = refl; of_units = λ f u at. omega arith };
@@ -354,7 +321,7 @@ module _ (program : Program)
 
   needed_less : (k : ℕ) → slice_get (needed_units units entry) k ≡ Some true → reach k ≤ reach entry
   needed_less =
-      none_more units entry reach (λ k j u at among. walked.knows.over k j u (below_length units k u at) at among)
+      none_more units entry reach (λ k j u at among. walked.knows.over k j u (within_at units k u at) at among)
 
   -- ---- the chains
 
@@ -369,7 +336,7 @@ module _ (program : Program)
       let front : greatest (chains_after K no_entries parts.funcs) ≤ reach entry = walked.under (reach entry) needed_less in
       let first : chain_cells K chains init ≤ 1 = init_cells unit remembers K chains in
       let own : entry_or 0 chains_then (unit_name unit.name) ≤ reach entry =
-      entry_less (chains (unit_name unit.name)) (bytes_eq (codes "bl_init") (unit_name unit.name)) (chain_cells K chains init) (reach entry)
+      at_most (chains (unit_name unit.name)) (bytes_eq (codes "bl_init") (unit_name unit.name)) (chain_cells K chains init) (reach entry)
       (walked.knows.bound entry unit there) (λ no. absurd (cc)) in
       let second : chain_cells K chains_then tick ≤ entry_or 0 chains_then (unit_name unit.name) + 4 = tick_cells unit remembers K chains_then in
       subst (λ all. greatest all ≤ reach entry + 4) (sym (chains_append K parts.funcs (init ∷ tick ∷ []) no_entries))
@@ -379,7 +346,7 @@ module _ (program : Program)
   pub all_cells : cells_needed (file_from file (parts.funcs ++ (init ∷ tick ∷ []))) ≤ cells_at structs units entry
   all_cells =
       let is = entry_parts (slice_get units entry) keeps.entry_stands unit there in
-      let fits = walked.knows.fits entry unit (below_length units entry unit there) there (closed.entry_is keeps) is.0 in
+      let fits = walked.knows.fits entry unit (within_at units entry unit there) there (closed.entry_is keeps) is.0 in
       let kept : size_of_struct K state ≤ entry_or 0 K (frame_name unit.name) + entry_or 0 K (memory_name unit.name) = state_cells unit remembers K in
       let state_less : entry_or 0 K (codes "bl_state") ≤ entry_or 0 K (frame_name unit.name) + entry_or 0 K (memory_name unit.name) =
       (let one = state_entry in omega (arith, one, kept)) in

@@ -13,24 +13,8 @@ use Rattle.bl_tree.specs.declared.tree.Path.{Path}
 use Rattle.bl_tree.specs.declared.tree.Stmt.{Stmt, out-Stmt}
 use Rattle.bl_tree.specs.declared.tree.StmtKind.{StmtKind, out-StmtKind}
 use Rattle.bl_tree.specs.declared.tree.StmtKind.TheOpen.{StmtKind-F}
-use Rattle.bl_graph_nodes.specs.Nodes.{
-  ActAt,
-  Arguments,
-  CheckAt,
-  DepthEndAt,
-  DepthJoinAt,
-  EnterAt,
-  ForkAt,
-  HeadAt,
-  Node,
-  PauseAt,
-  ResumeAt,
-  StartAt,
-  SurfaceEndAt,
-  SurfaceJoinAt,
-  TestAt,
-  entry,
-}
+use Rattle.bl_graph_nodes.specs.Nodes.{ActAt, Arguments, CheckAt, DepthEndAt, DepthJoinAt, EnterAt, ForkAt, HeadAt, Node, PauseAt, ResumeAt, StartAt}
+use Rattle.bl_graph_nodes.specs.Nodes.{SurfaceEndAt, SurfaceJoinAt, TestAt, entry}
 use Rattle.bl_graph_nodes.specs.Plain.{Block, Done, Then}
 use Rattle.bl_emit_acts.specs.Acts.{c_calling, c_clear, c_copied, c_set, call_args, code_made, layer_code, name_of_callee}
 use Rattle.bl_emit_acts.specs.Expressions.{stands}
@@ -38,99 +22,22 @@ use Rattle.bl_emit_acts.specs.Trees.{c_call, c_read, c_two}
 use Rattle.bl_emit_functions.specs.Statements.{else_code}
 use Rattle.bl_emit_functions.specs.Trees.{c_if, c_truth}
 use Rattle.bl_machine_pass.specs.Transitions.{Transition}
-use Rattle.bl_emit_spec.specs.Activities.{
-  Activity,
-  activity_function,
-  activity_view,
-  blocks_in_order,
-  body_of,
-  callees_in,
-  copied_in,
-  counters_read,
-  entry_code,
-  entry_place,
-  picked,
-  rested_code,
-  rules_at,
-  turns_in_source,
-}
-use Rattle.bl_emit_spec.specs.Blocks.{
-  ActivityView,
-  NodeCode,
-  acted,
-  all_merged,
-  arg_where,
-  begun_code,
-  changes_code,
-  choice_code,
-  control_code,
-  control_unless,
-  counter_value,
-  entered_by,
-  fused_code,
-  has_result,
-  layer_acted,
-  leaving_flag,
-  may_end_in,
-  merged_code,
-  name_in,
-  next_turn,
-  node_word,
-  own_code,
-  resumed_code,
-  run_args,
-  run_code,
-  spelled_truth,
-  stmt_where,
-  target_code,
-  test_code,
-  turns_of,
-  word_at,
-}
-use Rattle.bl_emit_spec.specs.Names.{
-  NumberedWord,
-  callee_frame,
-  callee_memory,
-  callee_name,
-  counter_name,
-  counter_place,
-  ended_name,
-  ended_place,
-  flag_name,
-  flag_place,
-  frame_name,
-  given_name,
-  given_place,
-  rested_name,
-  rested_place,
-  result_place,
-  with_word,
-}
+use Rattle.bl_emit_spec.specs.Activities.{Activity, activity_function, activity_view, blocks_in_order, body_of, callees_in, copied_in, counters_read}
+use Rattle.bl_emit_spec.specs.Activities.{entry_code, entry_place, picked, rested_code, rules_at, turns_in_source}
+use Rattle.bl_emit_spec.specs.Blocks.{ActivityView, NodeCode, acted, all_merged, arg_where, begun_code, changes_code, choice_code, control_code, control_unless}
+use Rattle.bl_emit_spec.specs.Blocks.{counter_value, entered_by, fused_code, has_result, layer_acted, leaving_flag, may_end_in, merged_code, name_in, next_turn}
+use Rattle.bl_emit_spec.specs.Blocks.{node_word, own_code, resumed_code, run_args, run_code, spelled_truth, stmt_where, target_code, test_code, turns_of}
+use Rattle.bl_emit_spec.specs.Blocks.{word_at}
+use Rattle.bl_emit_spec.specs.Names.{NumberedWord, callee_frame, callee_memory, callee_name, counter_name, counter_place, ended_name, ended_place, flag_name}
+use Rattle.bl_emit_spec.specs.Names.{flag_place, frame_name, given_name, given_place, rested_name, rested_place, result_place, with_word}
 use Rattle.bl_emit_laws.specs.Counters.Own.{names_counter}
 use Rattle.bl_emit_laws.specs.Counters.Places.{CPath, places_in_arg, places_named}
 use Rattle.bl_emit_laws.proofs.OnCounters.Expressions.{ArgsFine, ExprFine, PlaceFine, address-fine, expr_fine, first-arg, path_fine, root-fine, two-fine}
 use Rattle.bl_emit_laws.proofs.OnCounters.Fine.{Fine, both-fine}
 use Rattle.bl_emit_laws.proofs.OnCounters.Functions.{under-fine}
 use Rattle.bl_emit_laws.proofs.OnCounters.Guards.{changes_fine, counter_read, guard_fine, local_fine, local_read, own_counter, value_fine}
-use Rattle.bl_emit_laws.proofs.OnCounters.Statements.{
-  CodeFine,
-  StmtFine,
-  assigned_fine,
-  call_args_fine,
-  call_fine,
-  calling-fine,
-  clear-fine,
-  copy-fine,
-  declared_fine,
-  else-fine,
-  first_stmt,
-  if-fine,
-  one_stmt,
-  set-fine,
-  then_code,
-  where_code,
-  truth-fine,
-}
+use Rattle.bl_emit_laws.proofs.OnCounters.Statements.{CodeFine, StmtFine, assigned_fine, call_args_fine, call_fine, calling-fine, clear-fine, copy-fine}
+use Rattle.bl_emit_laws.proofs.OnCounters.Statements.{declared_fine, else-fine, first_stmt, if-fine, one_stmt, set-fine, then_code, where_code, truth-fine}
 
 module _ (P : CPath → Type 0) (plain : (place : CPath) → names_counter place ≡ false → P place) (own : (k : ℕ) → P (own_counter (counter_name k)))
     (view : ActivityView) where

@@ -1,11 +1,13 @@
 -- The `if`s of an activity's function ask for its flags, each for its own, and for that of the block before where this leaves it a call.
-use Rattle.std.proofs.Common.{◌≡◌, ℕ, zero, suc, ◌<◌, Bool, true, false, List, [], ◌∷◌, ◌++◌, Contains, map, length}
+use Rattle.std.proofs.Common.{◌≡◌, ℕ, ◌<◌, Bool, true, false, List, [], ◌∷◌, ◌++◌, Contains, map, length}
 use Rattle.std.proofs.Common.{Option, Some, None, refl, sym, ap, subst, ◌∙◌, arith}
 use Rattle.std.proofs.lemmas.List.{map-append}
 use Rattle.std.proofs.lemmas.List.Elements.{Contains-append_left, Contains-append_right, filter-append}
 use Rattle.std.proofs.lemmas.List.Folds.{list_all-append}
 use Rattle.std.specs.List.{list_all}
-use Rattle.std.specs.Prelude.{filter, is_some, slice_get, if◌then◌else◌}
+use Rattle.std.specs.Prelude.{filter, is_some, if◌then◌else◌}
+use Rattle.std.proofs.lemmas.Bool.{and_from}
+use Rattle.bl_tree.proofs.Basics.{and_first, and_second, contains_first, contains_further, some_within}
 use Rattle.bl_tree.specs.declared.text.Text.{Text}
 use Rattle.bl_tree.specs.declared.c.CExpr.{CExpr}
 use Rattle.bl_tree.specs.declared.c.CStmt.{CStmt, out-roll-CStmt}
@@ -13,7 +15,6 @@ use Rattle.bl_tree.specs.declared.c.CStmtKind.{CStmtKind-F, out-CStmtKind, out-r
 use Rattle.bl_tree.specs.declared.c.CStmtKind.TheVariants as statement
 use Rattle.bl_tree.specs.declared.scalar.Op.TheVariants.{Or}
 use Rattle.bl_tree.specs.Reduce.{joined}
-use Rattle.bl_eval.proofs.PassLemmas.{and_left, and_right, both}
 use Rattle.bl_graph_nodes.specs.Nodes.{ActAt, CheckAt, DepthEndAt, DepthJoinAt, EnterAt, ForkAt, HeadAt, Node, PauseAt, ResumeAt, StartAt, SurfaceEndAt}
 use Rattle.bl_graph_nodes.specs.Nodes.{SurfaceJoinAt, TestAt}
 use Rattle.bl_machine_pass.specs.Transitions.{Condition, Ended, Flagged, Rested, RestedIn, Transition}
@@ -24,7 +25,7 @@ use Rattle.bl_emit_spec.specs.Blocks.{ActivityView, NodeCode, Begins, all_merged
 use Rattle.bl_emit_spec.specs.Blocks.{merged_code}
 use Rattle.bl_emit_spec.specs.Blocks.{next_turn, node_turn, node_word, run_part, same_run, turns_of}
 use Rattle.bl_emit_spec.specs.Names.{flag_name, flag_place, with_word}
-use Rattle.bl_emit_spec_laws.proofs.OnPlaced.Lists.{picked_first, some_is, there_at}
+use Rattle.bl_emit_spec_laws.proofs.OnPlaced.Lists.{picked_first}
 use Rattle.bl_emit_spec_laws_wellformed.proofs.OnNumbers.Firsts.{picked-all}
 use Rattle.bl_emit_laws.specs.Counters.Flags.{decides, flags_asked, flags_in_turn, flags_read, goes_on_with, inside, is_flag_name, kind_block, kind_flags}
 use Rattle.bl_emit_laws.specs.Counters.Flags.{leaves_call, own_many}
@@ -32,7 +33,7 @@ use Rattle.bl_emit_laws.specs.Counters.Places.{CPath, places_in}
 use Rattle.bl_emit_laws.proofs.OnCounters.Decided.{fused_decides, turn_decides}
 use Rattle.bl_emit_laws.proofs.OnCounters.Shapes.{two-names}
 use Rattle.bl_emit_laws.proofs.OnCounters.Flags.{asked_by, flag_read, guard_reads}
-use Rattle.bl_emit_laws.proofs.OnKept.Lists.{further, here}
+use Rattle.bl_emit_spec_laws.proofs.OnPlaced.Placing.{turn_at}
 
 -- ---- `if`s
 
@@ -49,14 +50,6 @@ inside_so test block =
     ∙ ap kind_block (out-roll-CStmtKind (CStmtKind-F.If test block None)))
 
 -- ---- turns and rules
-
-turn_at : (view : ActivityView) (callees : List ℕ) (rules : List Transition) (k u : ℕ) (rule : Transition) → slice_get callees k ≡ Some u →
-    slice_get rules k ≡ Some rule → slice_get (turns_of view callees rules) k ≡ Some (node_turn view u rule)
-turn_at view [] rules k u rule one two = absurd (cc)
-turn_at view (c ∷ callees) [] k u rule one two = absurd (cc)
-turn_at view (c ∷ callees) (r ∷ rules) zero u rule one two =
-    ap (λ a. Some (node_turn view a r)) (some_is c u one) ∙ ap (λ r. Some (node_turn view u r)) (some_is r rule two)
-turn_at view (c ∷ callees) (r ∷ rules) (suc k) u rule one two = turn_at view callees rules k u rule one two
 
 -- the flags that a block of nodes with these rules has of its own
 abbrev pub own_by : ActivityView → List Transition → List Text
@@ -210,8 +203,8 @@ module _ (view : ActivityView) (callees : List ℕ) (rules : List Transition) (e
       P (picked turns (k ∷ more)) (picked rules (k ∷ more))
   by_first P k more less first =
       let many = each in
-      let rule = there_at rules k less in
-      let called = there_at callees k (omega (arith, less, many)) in
+      let rule = some_within rules k less in
+      let called = some_within callees k (omega (arith, less, many)) in
       let turn : NodeCode = node_turn view called.0 rule.0 in
       subst (λ (some : List NodeCode). P some (picked rules (k ∷ more)))
       (sym (picked_first turns k more turn (turn_at view callees rules k called.0 rule.0 called.1 rule.1)))
@@ -223,19 +216,19 @@ module _ (view : ActivityView) (callees : List ℕ) (rules : List Transition) (e
   are_turns : (block : List ℕ) → ((k : ℕ) → Contains block k → k < length rules) → AreTurns view (picked turns block) (picked rules block)
   are_turns [] within = tt
   are_turns (k ∷ more) within =
-      let rest = are_turns more (λ j at. within j (further k more j at)) in
-      by_first (AreTurns view) k more (within k (here k more)) (λ u rule. (turn_is u rule, rest))
+      let rest = are_turns more (λ j at. within j (contains_further k more j at)) in
+      by_first (AreTurns view) k more (within k (contains_first k more)) (λ u rule. (turn_is u rule, rest))
 
   are_blocks : (blocks : List (List ℕ)) → ((block : List ℕ) → Contains blocks block → 0 < length block) →
       ((k : ℕ) → Contains (joined blocks) k → k < length rules) → AreBlocks view (map (picked turns) blocks) (map (picked rules) blocks)
   are_blocks [] filled within = tt
-  are_blocks ([] ∷ rest) filled within = absurd (let none : 0 < 0 = filled [] (here [] rest) in omega (arith, none))
+  are_blocks ([] ∷ rest) filled within = absurd (let none : 0 < 0 = filled [] (contains_first [] rest) in omega (arith, none))
   are_blocks ((k ∷ more) ∷ rest) filled within =
-      let others = are_turns more (λ j at. within j (Contains-append_left (k ∷ more) (joined rest) j (further k more j at))) in
-      let later = are_blocks rest (λ block at. filled block (further (k ∷ more) rest block at))
+      let others = are_turns more (λ j at. within j (Contains-append_left (k ∷ more) (joined rest) j (contains_further k more j at))) in
+      let later = are_blocks rest (λ block at. filled block (contains_further (k ∷ more) rest block at))
       (λ j at. within j (Contains-append_right (k ∷ more) (joined rest) j at)) in
       by_first (λ some these. AreBlocks view (some ∷ map (picked turns) rest) (these ∷ map (picked rules) rest)) k more
-      (within k (here k (more ++ joined rest))) (λ u rule. ((turn_is u rule, others), later))
+      (within k (contains_first k (more ++ joined rest))) (λ u rule. ((turn_is u rule, others), later))
 
   -- the `if`s of blocks ask for the flags of first nodes, each for its own, and for that of the block before where that leaves it a call
   pub blocks_ask : (blocks : List (List ℕ)) → ((block : List ℕ) → Contains blocks block → 0 < length block) →
@@ -255,7 +248,7 @@ module _ (view : ActivityView) (callees : List ℕ) (rules : List Transition) (e
   own_are [] within = refl
   own_are ([] ∷ rest) within = own_are rest within
   own_are ((k ∷ block) ∷ rest) within =
-      let rule = there_at rules k (within k (here k (block ++ joined rest))) in
+      let rule = some_within rules k (within k (contains_first k (block ++ joined rest))) in
       (λ i. own_by view (picked_first rules k block rule.0 rule.1 i)
       ++ own_are rest (λ j there. within j (Contains-append_right (k ∷ block) (joined rest) j there)) i)
       ∙ sym (ap (λ (some : List Transition). joined (map (asked_by view) some)) (picked_first rules k (first_positions rest) rule.0 rule.1))
@@ -277,9 +270,9 @@ merged_decide word all flag (block ∷ rest) own =
         ap (λ (code : List CStmt). list_all decides (code ++ joined (map inside later)))
         (inside_so (entered_by word flag first.test) (fused_code leaves first others))
         ∙ (list_all-append decides (fused_code leaves first others) (joined (map inside later))
-        ∙ both (list_all decides (fused_code leaves first others)) (list_all decides (joined (map inside later)))
-        (fused_decides leaves first others (and_left (turn_decides first) (list_all turn_decides others) own)
-        (and_right (turn_decides first) (list_all turn_decides others) own)) more)
+        ∙ and_from (list_all decides (fused_code leaves first others)) (list_all decides (joined (map inside later)))
+        (fused_decides leaves first others (and_first (turn_decides first) (list_all turn_decides others) own)
+        (and_second (turn_decides first) (list_all turn_decides others) own)) more)
 
 pub blocks_decide : (word : ℕ → Text) (all : List NodeCode) (blocks : List (List ℕ)) → list_all turn_decides all ≡ true →
     list_all decides (joined (map inside (blocks_code word all blocks))) ≡ true

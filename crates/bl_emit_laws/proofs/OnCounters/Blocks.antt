@@ -1,8 +1,9 @@
 -- The function of each activity of a written file has one `if` for each block that the machine has for it, and the flags that these ask for.
-use Rattle.std.proofs.Common.{◌≡◌, ⊎_elim, ℕ, suc, ◌<◌, true, List, [], ◌∷◌, Contains, length, map, Some, refl, sym, ap, subst, ◌∙◌, arith}
+use Rattle.std.proofs.Common.{◌≡◌, ⊎_elim, ℕ, ◌<◌, true, List, [], ◌∷◌, Contains, length, map, Some, sym, ap, subst, ◌∙◌, arith}
 use Rattle.std.proofs.lemmas.Slice.Eq.{bytes_eq-Decides}
 use Rattle.std.specs.List.{list_all}
 use Rattle.std.specs.Prelude.{IsPermutation, bytes_eq, filter, option_and_then, slice_get}
+use Rattle.bl_tree.proofs.Basics.{contains_none, first_or_further, index_of, map_length, same_some}
 use Rattle.bl_tree.specs.declared.c.CFunc.{CFunc}
 use Rattle.bl_tree.specs.declared.c.CStmt.{CStmt}
 use Rattle.bl_tree.specs.declared.program.Program.{Program}
@@ -35,11 +36,10 @@ use Rattle.bl_emit_spec.specs.Activities.{first_positions, is_flagged, picked, r
 use Rattle.bl_emit_spec.specs.Blocks.{ActivityView, NodeCode, turns_of}
 use Rattle.bl_emit_spec_laws.specs.Calls.Built.{Activities, AreBuilt, MadeOf}
 use Rattle.bl_emit_spec_laws_wellformed.specs.Closed.{InstancesNeeded}
-use Rattle.bl_emit_spec_laws.proofs.OnPlaced.Lists.{mapped_many, number_below, some_is, stands_at}
+use Rattle.bl_emit_spec_laws.proofs.OnPlaced.Lists.{number_below}
 use Rattle.bl_emit_spec_laws.proofs.OnRemember.Entering.{callees_in_many}
 use Rattle.bl_emit_spec_laws.specs.Tables.Laws.{ActivitiesBuilt}
 use Rattle.bl_emit_laws.specs.Kept.{FileEnds, FilesEnd, activities_in, written_file}
-use Rattle.bl_emit_laws.proofs.OnKept.Lists.{first_or, none_has}
 use Rattle.bl_emit_spec_laws_wellformed.proofs.OnNumbers.Whole.{many-rules}
 use Rattle.bl_emit_laws.specs.Counters.Flags.{HasFlagForEach, decides, flags_asked, flags_in_turn, inside, own_many, rules_by, rules_first, rules_in_blocks}
 use Rattle.bl_emit_laws.specs.Counters.Ifs.{FunctionHasIfs, ifs_in}
@@ -51,14 +51,9 @@ use Rattle.bl_emit_laws.proofs.OnCounters.Flags.{asked_many, locals_are}
 use Rattle.bl_emit_laws.proofs.OnCounters.Ifs.{blocks_many, body_has, ifs_are}
 use Rattle.bl_emit_laws.proofs.OnCounters.Once.{function_alone}
 use Rattle.bl_emit_laws.proofs.OnCounters.Whole.{function_there}
+use Rattle.bl_emit_spec_laws.proofs.OnPlaced.Placing.{turns_many}
 
 -- ---- turns
-
-turns_many : (view : ActivityView) (callees : List ℕ) (rs : List Transition) → length callees ≡ length rs → length (turns_of view callees rs) ≡ length rs
-turns_many view [] [] is = refl
-turns_many view [] (r ∷ rs) is = absurd (omega (arith, is))
-turns_many view (c ∷ callees) [] is = refl
-turns_many view (c ∷ callees) (r ∷ rs) is = ap suc (turns_many view callees rs (let less : length callees ≡ length rs = omega (arith, is) in less))
 
 -- an activity has one turn for each node of its body
 module _ (placed : StaysPlaced) (listed : RulesAreListed) (a : Activity) (unit : UnitDef) (one : InMachine) (unit_is : a.unit ≡ unit)
@@ -71,7 +66,7 @@ module _ (placed : StaysPlaced) (listed : RulesAreListed) (a : Activity) (unit :
     rs = rules a.slots body
 
     many_rules : length rs ≡ length (nodes_in body)
-    many_rules = sym (mapped_many (λ (rule : Transition). rule.node) rs) ∙ ap (λ (xs : List Node). length xs) (placed.nodes a.slots body)
+    many_rules = sym (map_length (λ (rule : Transition). rule.node) rs) ∙ ap (λ (xs : List Node). length xs) (placed.nodes a.slots body)
 
     many_callees : length (callees_in body) ≡ length rs
     many_callees = listed.each unit.body one.slots ∙ ap (λ slots. length (rules slots body)) (sym slots_are)
@@ -89,7 +84,7 @@ module _ (placed : StaysPlaced) (listed : RulesAreListed) (a : Activity) (unit :
       where
         within : (k : ℕ) → Contains (joined one.blocks) k → k < length (turns_in_source a)
         within k at =
-            let stands = stands_at (joined one.blocks) k at in
+            let stands = index_of (joined one.blocks) k at in
             subst (λ n. k < n) (sym many_turns) (number_below (length (nodes_in body)) (joined one.blocks) ordered.all k stands.0 stands.1)
 
     -- the rules of nodes are those by the machine
@@ -124,7 +119,7 @@ module _ (placed : StaysPlaced) (listed : RulesAreListed) (a : Activity) (unit :
 
         within : (k : ℕ) → Contains (joined a.blocks) k → k < length (rules_at a)
         within k at =
-            let stands = stands_at (joined a.blocks) k at in
+            let stands = index_of (joined a.blocks) k at in
             subst (λ n. k < n) (sym (many-rules a)) (number_below (length (nodes_in (body_of a))) (joined a.blocks) once k stands.0 stands.1)
 
         filled : (block : List ℕ) → Contains a.blocks block → 0 < length block
@@ -138,8 +133,8 @@ the_only : (name : Text) (file : Parts) (function one : CFunc) → Contains file
 the_only name file function one at is alone =
     let kept : Contains (functions_named name file) function =
     filter_keeps (λ (f : CFunc). bytes_eq f.name name) file.funcs function at ((bytes_eq-Decides function.name name).1 is) in
-    ⊎_elim (λ same. same) (λ none. absurd (none_has function none))
-    (first_or one [] function (subst (λ (list : List CFunc). Contains list function) alone kept))
+    ⊎_elim (λ same. same) (λ none. absurd (contains_none function none))
+    (first_or_further one [] function (subst (λ (list : List CFunc). Contains list function) alone kept))
 
 module _ (program : Program) (machine : List InMachine) (unit : UnitDef) (ends : FileEnds program machine unit)
     (built : AreBuilt program.structs program.units machine (activities_in program machine)) (placed : StaysPlaced) (listed : RulesAreListed)
@@ -171,7 +166,7 @@ module _ (program : Program) (machine : List InMachine) (unit : UnitDef) (ends :
     part =
         let among = filtered_at (λ (it : UnitDef). is_activity it.kind) program.units k activity there active in
         let alone = each_at IsActivityOf (activities_among program.units) machine (graph_position program.units k) activity agrees among in
-        subst (IsActivityOf activity) (some_is alone.0 made.one (sym alone.1 ∙ made.is)) alone.2
+        subst (IsActivityOf activity) (same_some alone.0 made.one (sym alone.1 ∙ made.is)) alone.2
 
     same : (activities k).unit ≡ activity
     same = built.unit k activity there

@@ -4,6 +4,8 @@ use Rattle.std.proofs.Common.{subst}
 use Rattle.std.proofs.lemmas.List.Folds.{list_all-append}
 use Rattle.std.specs.List.{list_all}
 use Rattle.std.specs.Prelude.{filter, is_some, nat_eq, option_map, slice_get}
+use Rattle.std.proofs.lemmas.Bool.{and_from}
+use Rattle.bl_tree.proofs.Basics.{and_first, and_second}
 use Rattle.bl_tree.specs.declared.text.Text.{Text}
 use Rattle.bl_tree.specs.declared.c.CCall.{CCall}
 use Rattle.bl_tree.specs.declared.c.CExpr.{CExpr, out-roll-CExpr}
@@ -24,7 +26,6 @@ use Rattle.bl_tree.specs.declared.tree.StmtKind.TheOpen.{StmtKind-F}
 use Rattle.bl_tree.specs.declared.tree.Ty.{Ty}
 use Rattle.bl_tree.specs.Types.{scalar_in}
 use Rattle.bl_tree.specs.Typing.{TypingContext, var_at}
-use Rattle.bl_eval.proofs.PassLemmas.{and_left, and_right, both}
 use Rattle.bl_graph_nodes.specs.Nodes.{ActAt, Arguments, CheckAt, DepthEndAt, DepthJoinAt, EnterAt, ForkAt, HeadAt, Node, PauseAt}
 use Rattle.bl_graph_nodes.specs.Nodes.{ResumeAt, StartAt, SurfaceEndAt, SurfaceJoinAt, TestAt}
 use Rattle.bl_machine_pass.specs.Transitions.{Change, Transition}
@@ -138,8 +139,8 @@ if_decides test block other one all more =
     by_form (statement.If test block other) (roll-CStmtKind (CStmtKind-F.If test block other))
     (is_decided_here test && (list_all (λ answer. answer) (map decides block) && optional_answers (option_map (map decides) other)))
     (statement.rolls-If test block other) (form other)
-    ∙ both (is_decided_here test) (list_all (λ answer. answer) (map decides block) && optional_answers (option_map (map decides) other)) one
-    (both (list_all (λ answer. answer) (map decides block)) (optional_answers (option_map (map decides) other)) (all_answers block all) more)
+    ∙ and_from (is_decided_here test) (list_all (λ answer. answer) (map decides block) && optional_answers (option_map (map decides) other)) one
+    (and_from (list_all (λ answer. answer) (map decides block)) (optional_answers (option_map (map decides) other)) (all_answers block all) more)
   where
     form : (other : Option (List CStmt)) → decides (c_stmt (roll-CStmtKind (CStmtKind-F.If test block other)))
         ≡ (is_decided_here test && (list_all (λ answer. answer) (map decides block) && optional_answers (option_map (map decides) other)))
@@ -147,10 +148,10 @@ if_decides test block other one all more =
     form (Some rest) = rw (fold-roll-CStmt, fold-roll-CStmtKind) refl
 
 pub then_decide : (first second : List CStmt) → Decide first → Decide second → Decide (first ++ second)
-then_decide first second one other = list_all-append decides first second ∙ both (list_all decides first) (list_all decides second) one other
+then_decide first second one other = list_all-append decides first second ∙ and_from (list_all decides first) (list_all decides second) one other
 
 first_decides : (s : CStmt) (rest : List CStmt) → decides s ≡ true → Decide rest → Decide (s ∷ rest)
-first_decides s rest one other = both (decides s) (list_all decides rest) one other
+first_decides s rest one other = and_from (decides s) (list_all decides rest) one other
 
 one_decides : (s : CStmt) → decides s ≡ true → Decide (s ∷ [])
 one_decides s one = first_decides s [] one refl
@@ -327,22 +328,22 @@ pub turns_decide : (view : ActivityView) (callees : List ℕ) (rules : List Tran
 turns_decide view [] rules = refl
 turns_decide view (a ∷ callees) [] = refl
 turns_decide view (a ∷ callees) (rule ∷ rules) =
-    both (turn_decides (node_turn view a rule)) (list_all turn_decides (turns_of view callees rules))
-    (both (list_all decides (own_code view a rule rule.node)) (list_all decides (control_code view a rule rule.node)) (own_decides view a rule rule.node)
+    and_from (turn_decides (node_turn view a rule)) (list_all turn_decides (turns_of view callees rules))
+    (and_from (list_all decides (own_code view a rule rule.node)) (list_all decides (control_code view a rule rule.node)) (own_decides view a rule rule.node)
     (control_decides view a rule rule.node))
     (turns_decide view callees rules)
 
 unless_decides : (leaves : Bool) (turn : NodeCode) → turn_decides turn ≡ true → Decide (control_unless leaves turn)
 unless_decides true turn own = refl
-unless_decides false turn own = and_right (list_all decides turn.own) (list_all decides turn.control) own
+unless_decides false turn own = and_second (list_all decides turn.own) (list_all decides turn.control) own
 
 -- what the turns of a block do decides
 pub fused_decides : (leaves : Bool) (turn : NodeCode) (turns : List NodeCode) → turn_decides turn ≡ true → list_all turn_decides turns ≡ true →
     Decide (fused_code leaves turn turns)
 fused_decides leaves last [] own all =
-    then_decide last.own (control_unless leaves last) (and_left (list_all decides last.own) (list_all decides last.control) own)
+    then_decide last.own (control_unless leaves last) (and_first (list_all decides last.own) (list_all decides last.control) own)
     (unless_decides leaves last own)
 fused_decides leaves turn (next ∷ rest) own all =
-    then_decide turn.own (fused_code leaves next rest) (and_left (list_all decides turn.own) (list_all decides turn.control) own)
-    (fused_decides leaves next rest (and_left (turn_decides next) (list_all turn_decides rest) all)
-    (and_right (turn_decides next) (list_all turn_decides rest) all))
+    then_decide turn.own (fused_code leaves next rest) (and_first (list_all decides turn.own) (list_all decides turn.control) own)
+    (fused_decides leaves next rest (and_first (turn_decides next) (list_all turn_decides rest) all)
+    (and_second (turn_decides next) (list_all turn_decides rest) all))

@@ -6,7 +6,9 @@ use Rattle.std.proofs.lemmas.List.{append-nil, map-append}
 use Rattle.std.proofs.lemmas.List.Elements.{filter-append}
 use Rattle.std.specs.Char.{is_ascii_digit}
 use Rattle.std.specs.Fmt.{digit_glyph, digits, digits_onto}
-use Rattle.std.specs.Prelude.{◌==◌, filter, nat_eq, nat_lt, option_and_then, slice_get, if◌then◌else◌}
+use Rattle.std.specs.Prelude.{◌==◌, filter, nat_eq, option_and_then, slice_get, if◌then◌else◌}
+use Rattle.std.proofs.lemmas.Bool.{and_from}
+use Rattle.bl_tree.proofs.Basics.{last_digit, less_test}
 use Rattle.bl_tree.specs.declared.text.Text.{Text}
 use Rattle.bl_tree.specs.declared.c.CExpr.{CExpr}
 use Rattle.bl_tree.specs.declared.c.CLocal.{CLocal}
@@ -16,7 +18,6 @@ use Rattle.bl_tree.specs.declared.scalar.Scalar.{Scalar as ScalarType}
 use Rattle.bl_tree.specs.declared.scalar.Scalar.TheVariants.{Bool as OfBool}
 use Rattle.bl_tree.specs.declared.tree.Unit.{Unit as UnitDef}
 use Rattle.bl_tree.specs.Reduce.{joined}
-use Rattle.bl_eval.proofs.PassLemmas.{both}
 use Rattle.bl_graph_nodes.specs.Nodes.{Node}
 use Rattle.bl_machine.specs.declared.slots.Slot.{Slot}
 use Rattle.bl_machine_pass.specs.Transitions.{Age, Change, Condition, Needed, Transition}
@@ -42,19 +43,13 @@ use Rattle.bl_emit_laws.proofs.OnCounters.Shapes.{place-names, read-names}
 
 -- ---- names of flags
 
-digit_so : (d : ℕ) → d < 10 → is_ascii_digit (48 + d) ≡ true
+pub digit_so : (d : ℕ) → d < 10 → is_ascii_digit (48 + d) ≡ true
 digit_so d small = grind (arith, nat_tests)
-
-below_ten : (n : ℕ) → n % 10 < 10
-below_ten n = omega arith
-
-less_so : (d n : ℕ) → d < n → nat_lt d n ≡ true
-less_so d n less = grind (arith, nat_tests)
 
 glyph_so : (n : ℕ) → is_ascii_digit (digit_glyph false (n % 10)) ≡ true
 glyph_so n =
-    ap (λ (b : Bool). is_ascii_digit (if b then 48 + n % 10 else 87 + n % 10)) (less_so (n % 10) 10 (below_ten n))
-    ∙ digit_so (n % 10) (below_ten n)
+    ap (λ (b : Bool). is_ascii_digit (if b then 48 + n % 10 else 87 + n % 10)) (less_test (n % 10) 10 (last_digit n))
+    ∙ digit_so (n % 10) (last_digit n)
 
 -- digits before a text
 put_digit : (n : ℕ) (behind : Text) → is_digits_and_word behind ≡ true → is_digits_and_word (digit_glyph false (n % 10) ∷ behind) ≡ true
@@ -62,7 +57,7 @@ put_digit n behind is = either (digit_glyph false (n % 10) == 95) (is_ascii_digi
   where
     either : (b p q : Bool) → p ≡ true → q ≡ true → (b || (p && q)) ≡ true
     either true p q one two = refl
-    either false p q one two = both p q one two
+    either false p q one two = and_from p q one two
 
 more_digits : (k n : ℕ) (digits word : Text) → is_numbered_word (digits ++ 95 ∷ word) ≡ true → is_digits_and_word (digits ++ 95 ∷ word) ≡ true →
     is_numbered_word (digits_onto k 10 false n digits ++ 95 ∷ word) ≡ true
@@ -73,7 +68,7 @@ more_digits (suc k) n digits word run is = by (n / 10 == 0) (more_digits k (n / 
     next = digit_glyph false (n % 10) ∷ digits
 
     so : is_numbered_word (digit_glyph false (n % 10) ∷ (digits ++ 95 ∷ word)) ≡ true
-    so = both (is_ascii_digit (digit_glyph false (n % 10))) (is_digits_and_word (digits ++ 95 ∷ word)) (glyph_so n) is
+    so = and_from (is_ascii_digit (digit_glyph false (n % 10))) (is_digits_and_word (digits ++ 95 ∷ word)) (glyph_so n) is
 
     by : (b : Bool) → is_numbered_word (digits_onto k 10 false (n / 10) next ++ 95 ∷ word) ≡ true →
         is_numbered_word ((if b then next else digits_onto k 10 false (n / 10) next) ++ 95 ∷ word) ≡ true
@@ -87,7 +82,7 @@ some_digits k n word = by (n / 10 == 0)
     next = digit_glyph false (n % 10) ∷ []
 
     so : is_numbered_word (next ++ 95 ∷ word) ≡ true
-    so = both (is_ascii_digit (digit_glyph false (n % 10))) true (glyph_so n) refl
+    so = and_from (is_ascii_digit (digit_glyph false (n % 10))) true (glyph_so n) refl
 
     by : (b : Bool) → is_numbered_word ((if b then next else digits_onto k 10 false (n / 10) next) ++ 95 ∷ word) ≡ true
     by true = so

@@ -15,35 +15,9 @@ use Rattle.bl_emit_functions.specs.Trees.{c_if, c_truth}
 use Rattle.bl_machine_pass.specs.Transitions.{Age, Change, Condition, Needed}
 use Rattle.bl_machine_pass.specs.Transitions.{ClearsBoth, ClearsCounter, Ended, EndsWhen, Finishes, Flagged, IsAny, IsNew, IsOld, Rested, RestedIn}
 use Rattle.bl_machine_pass.specs.Transitions.{SetsCounter, SetsFlag, SetsMark}
-use Rattle.bl_emit_spec.specs.Blocks.{
-  ActivityView,
-  aged_test,
-  all_tests,
-  at_slot,
-  change_code,
-  changes_code,
-  counter_type,
-  counter_value,
-  ends_test,
-  flagged_now,
-  forgotten,
-  freed,
-  guard_of,
-  in_pairs,
-  in_tree,
-  is_greatest,
-  last_value,
-  node_word,
-  rested_at,
-  rested_by,
-  rested_between,
-  rested_from,
-  rested_in,
-  rested_since,
-  rested_to,
-  rested_within,
-  some_test,
-}
+use Rattle.bl_emit_spec.specs.Blocks.{ActivityView, aged_test, all_tests, at_slot, change_code, changes_code, counter_type, counter_value, ends_test}
+use Rattle.bl_emit_spec.specs.Blocks.{flagged_now, forgotten, freed, guard_of, in_pairs, in_tree, is_greatest, last_value, node_word, rested_at, rested_by}
+use Rattle.bl_emit_spec.specs.Blocks.{rested_between, rested_from, rested_in, rested_since, rested_to, rested_within, some_test}
 use Rattle.bl_emit_spec.specs.Names.{counter_name, counter_place, flag_name, flag_place, mark_name, mark_place, over_place, rested_name, rested_place}
 use Rattle.bl_emit_laws.specs.Counters.Own.{names_counter}
 use Rattle.bl_emit_laws.specs.Counters.Places.{CPath, StepParts, places_in_place}

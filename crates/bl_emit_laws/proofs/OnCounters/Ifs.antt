@@ -5,6 +5,7 @@ use Rattle.std.proofs.lemmas.List.{append_assoc}
 use Rattle.std.proofs.lemmas.List.Elements.{Contains-append_right, filter-append}
 use Rattle.std.specs.List.{list_all}
 use Rattle.std.specs.Prelude.{is_some, option_to_list}
+use Rattle.bl_tree.proofs.Basics.{contains_first, contains_further, some_within}
 use Rattle.bl_tree.specs.declared.text.Text.{Text}
 use Rattle.bl_tree.specs.declared.c.CExpr.{CExpr}
 use Rattle.bl_tree.specs.declared.c.CPlace.{CPlace}
@@ -27,8 +28,6 @@ use Rattle.bl_emit_spec.specs.Activities.{activity_view, rested_code, turns_in_s
 use Rattle.bl_emit_spec.specs.Blocks.{ActivityView, NodeCode, all_merged, counter_value, entered_by, fused_code, leaving_flag, merged_code, next_turn}
 use Rattle.bl_emit_spec.specs.Blocks.{node_word}
 use Rattle.bl_emit_spec.specs.Names.{counter_place, flag_place, rested_place}
-use Rattle.bl_emit_spec_laws.proofs.OnPlaced.Lists.{there_at}
-use Rattle.bl_emit_laws.proofs.OnKept.Lists.{further, here}
 use Rattle.bl_emit_laws.specs.Counters.Ifs.{HasIfForEach, ifs_in, is_if, is_setting}
 
 -- ---- forms
@@ -131,13 +130,13 @@ merged_many : (word : ℕ → Text) (turns : List NodeCode) (flag : Option ℕ) 
     ((block : List ℕ) → Contains blocks block → 0 < length block) →
     ((k : ℕ) → Contains (joined blocks) k → k < length turns) → length (all_merged word flag (map (picked turns) blocks)) ≡ length blocks
 merged_many word turns flag [] filled within = refl
-merged_many word turns flag ([] ∷ rest) filled within = absurd (let none : 0 < 0 = filled [] (here [] rest) in omega (arith, none))
+merged_many word turns flag ([] ∷ rest) filled within = absurd (let none : 0 < 0 = filled [] (contains_first [] rest) in omega (arith, none))
 merged_many word turns flag ((k ∷ more) ∷ rest) filled within =
-    let found = there_at turns k (within k (here k (more ++ joined rest))) in
+    let found = some_within turns k (within k (contains_first k (more ++ joined rest))) in
     ap (λ (o : Option NodeCode). length (all_merged word flag ((option_to_list o ++ picked turns more) ∷ map (picked turns) rest))) found.1
     ∙ ap suc
     (merged_many word turns (leaving_flag (found.0 ∷ picked turns more) (next_turn (map (picked turns) rest))) rest
-    (λ block at. filled block (further (k ∷ more) rest block at))
+    (λ block at. filled block (contains_further (k ∷ more) rest block at))
     (λ j at. within j (Contains-append_right (k ∷ more) (joined rest) j at)))
 
 pub blocks_many : (word : ℕ → Text) (turns : List NodeCode) (blocks : List (List ℕ)) → ((block : List ℕ) → Contains blocks block → 0 < length block) →

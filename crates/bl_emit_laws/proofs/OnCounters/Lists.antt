@@ -1,30 +1,10 @@
 -- What the lists of functions of a file have.
-use Rattle.std.proofs.Common.{
-  ◌≡◌,
-  ⊎_elim,
-  ℕ,
-  zero,
-  suc,
-  ◌+◌,
-  Bool,
-  true,
-  false,
-  List,
-  [],
-  ◌∷◌,
-  Contains,
-  Some,
-  refl,
-  ap,
-  subst,
-  ◌∙◌,
-  arith,
-}
+use Rattle.std.proofs.Common.{◌≡◌, ⊎_elim, ℕ, zero, suc, ◌+◌, Bool, true, false, List, [], ◌∷◌, Contains, Some, refl, ap, subst, ◌∙◌, arith}
 use Rattle.std.proofs.lemmas.Option.{same_Some}
 use Rattle.std.specs.Prelude.{slice_get}
+use Rattle.bl_tree.proofs.Basics.{contains_first, contains_further, contains_none, first_or_further}
 use Rattle.bl_tree.specs.declared.tree.Unit.{Unit as UnitDef}
 use Rattle.bl_emit_spec_laws.specs.Tables.Tables.{each_from, kept_where}
-use Rattle.bl_emit_laws.proofs.OnKept.Lists.{first_or, further, here, none_has}
 
 -- ---- what is kept
 
@@ -40,18 +20,18 @@ kept_at [] (y ∷ xs) k x test there = absurd (none k test)
     none : (k : ℕ) → slice_get [] k ≡ Some true → ⊥
     none zero there = cc
     none (suc k) there = cc
-kept_at (true ∷ tests) (y ∷ xs) zero x test there = subst (Contains (y ∷ kept_where tests xs)) (same_Some y x there) (here y (kept_where tests xs))
+kept_at (true ∷ tests) (y ∷ xs) zero x test there = subst (Contains (y ∷ kept_where tests xs)) (same_Some y x there) (contains_first y (kept_where tests xs))
 kept_at (false ∷ tests) (y ∷ xs) zero x test there = absurd (let both : false ≡ true = same_Some false true test in cc)
-kept_at (true ∷ tests) (y ∷ xs) (suc k) x test there = further y (kept_where tests xs) x (kept_at tests xs k x test there)
+kept_at (true ∷ tests) (y ∷ xs) (suc k) x test there = contains_further y (kept_where tests xs) x (kept_at tests xs k x test there)
 kept_at (false ∷ tests) (y ∷ xs) (suc k) x test there = kept_at tests xs k x test there
 
 pub kept_has : {X : Type 0} (tests : List Bool) (xs : List X) (x : X) → Contains (kept_where tests xs) x → Contains xs x
-kept_has [] xs x at = absurd (none_has x at)
-kept_has (test ∷ tests) [] x at = absurd (none_has x at)
+kept_has [] xs x at = absurd (contains_none x at)
+kept_has (test ∷ tests) [] x at = absurd (contains_none x at)
 kept_has (true ∷ tests) (y ∷ xs) x at =
-    ⊎_elim (λ is. subst (λ x. Contains (y ∷ xs) x) is (here y xs)) (λ later. further y xs x (kept_has tests xs x later))
-    (first_or y (kept_where tests xs) x at)
-kept_has (false ∷ tests) (y ∷ xs) x at = further y xs x (kept_has tests xs x at)
+    ⊎_elim (λ is. subst (λ x. Contains (y ∷ xs) x) is (contains_first y xs)) (λ later. contains_further y xs x (kept_has tests xs x later))
+    (first_or_further y (kept_where tests xs) x at)
+kept_has (false ∷ tests) (y ∷ xs) x at = contains_further y xs x (kept_has tests xs x at)
 
 -- ---- something of each unit
 
@@ -74,9 +54,9 @@ pub record OfUnit {X : Type 0} (of : ℕ → UnitDef → X) (n : ℕ) (units : L
 
 pub each_has : {X : Type 0} (of : ℕ → UnitDef → X) (n : ℕ) (units : List UnitDef) (x : X) → Contains (each_from of n units) x →
     OfUnit of n units x
-each_has of n [] x at = absurd (none_has x at)
+each_has of n [] x at = absurd (contains_none x at)
 each_has of n (unit ∷ rest) x at =
-    ⊎_elim (λ is. first is) (λ later. behind (each_has of (suc n) rest x later)) (first_or (of n unit) (each_from of (suc n) rest) x at)
+    ⊎_elim (λ is. first is) (λ later. behind (each_has of (suc n) rest x later)) (first_or_further (of n unit) (each_from of (suc n) rest) x at)
   where
     first : of n unit ≡ x → OfUnit of n (unit ∷ rest) x
     first is =
@@ -91,10 +71,3 @@ each_has of n (unit ∷ rest) x at =
           is_there = found.is_there;
           is = ap (λ n. of n found.unit) same ∙ found.is;
         }
-
--- what stands at a position is contained
-pub at_position : {X : Type 0} (xs : List X) (k : ℕ) (x : X) → slice_get xs k ≡ Some x → Contains xs x
-at_position [] zero x there = absurd (cc)
-at_position [] (suc k) x there = absurd (cc)
-at_position (y ∷ xs) zero x there = subst (Contains (y ∷ xs)) (same_Some y x there) (here y xs)
-at_position (y ∷ xs) (suc k) x there = further y xs x (at_position xs k x there)

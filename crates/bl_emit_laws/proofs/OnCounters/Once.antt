@@ -4,33 +4,18 @@ use Rattle.std.proofs.Common.{refl, sym, ap, subst, ◌∙◌, arith}
 use Rattle.std.proofs.lemmas.Slice.Eq.{bytes_eq-Decides}
 use Rattle.std.specs.Option.{option_or}
 use Rattle.std.specs.Prelude.{bytes_eq, filter, is_none, is_some, nat_lt, if◌then◌else◌}
+use Rattle.bl_tree.proofs.Basics.{first_empty, second_empty}
 use Rattle.bl_tree.specs.declared.c.CFunc.{CFunc}
 use Rattle.bl_tree.specs.declared.c.CMember.{CMember}
 use Rattle.bl_tree.specs.declared.c.CStruct.{CStruct}
-use Rattle.bl_tree.specs.declared.place.Place.{Place}
 use Rattle.bl_tree.specs.declared.text.Text.{Text}
-use Rattle.bl_ctext_semantics.specs.Faults.{
-  Clause,
-  Signature,
-  WellFormed,
-  depth_of_function,
-  depth_of_struct,
-  distinct_names,
-  faults_in,
-  faults_in_function,
-  faults_in_head,
-  faults_in_struct,
-  function_faults_after,
-  member_table,
-  signature_in,
-  struct_faults_after,
-  struct_table,
-  unless,
-}
+use Rattle.bl_ctext_semantics.specs.Faults.{Signature, WellFormed, depth_of_function, depth_of_struct, distinct_names, faults_in, faults_in_function}
+use Rattle.bl_ctext_semantics.specs.Faults.{faults_in_head, faults_in_struct, function_faults_after, member_table, signature_in, struct_faults_after}
+use Rattle.bl_ctext_semantics.specs.Faults.{struct_table, unless}
 use Rattle.bl_ctext_semantics.specs.Parts.{Parts}
 use Rattle.bl_ctext_semantics.specs.Tables.{Table, no_entries, with_entry}
-use Rattle.bl_ctext_semantics.proofs.EndLemmas.{nil-left, nil-right}
 use Rattle.bl_emit_laws.specs.Counters.Own.{functions_named, structs_named}
+use Rattle.bl_ctext_semantics.proofs.EndLemmas.{unless-nil}
 
 -- ---- names that differ
 
@@ -92,10 +77,6 @@ module _ {X : Type 0} (name_of : X → Text) (name : Text) where
 
 -- ---- what a table has
 
-unless_so : (holds : Bool) (clause : Clause) (place : Place) → unless holds clause place ≡ [] → holds ≡ true
-unless_so true clause place none = refl
-unless_so false clause place none = absurd (cc)
-
 -- what was seen is in a table
 abbrev InTable : {A : Type 0} → (Text → Bool) → Table A → Type 0
 InTable seen table = (name : Text) → seen name ≡ true → is_some (table name) ≡ true
@@ -139,14 +120,14 @@ functions_differ : (structs : Table (Table CMember)) (functions : Table Signatur
 functions_differ structs functions depths seen [] in_it none = tt
 functions_differ structs functions depths seen (f ∷ list) in_it none =
     let last : Bool = nat_lt (length list) 2 in
-    let here = nil-left (faults_in_function structs functions depths last f) _ none in
-    let head = nil-left (faults_in_head structs functions depths last f) _ here in
-    let fresh : is_none (functions f.name) ≡ true = unless_so (is_none (functions f.name)) distinct_names f.place
-    (nil-left (unless (is_none (functions f.name)) distinct_names f.place) _ head) in (
+    let here = first_empty (faults_in_function structs functions depths last f) _ none in
+    let head = first_empty (faults_in_head structs functions depths last f) _ here in
+    let fresh : is_none (functions f.name) ≡ true = unless-nil (is_none (functions f.name)) distinct_names f.place
+    (first_empty (unless (is_none (functions f.name)) distinct_names f.place) _ head) in (
       unseen seen functions f.name in_it fresh,
       functions_differ structs (with_entry functions f.name (signature_in f)) (with_entry depths f.name (depth_of_function depths f))
           (λ asked. seen asked || bytes_eq f.name asked) list (in_more seen functions f.name (signature_in f) in_it)
-          (nil-right (faults_in_function structs functions depths last f) _ none),
+          (second_empty (faults_in_function structs functions depths last f) _ none),
     )
 
 -- ---- structs
@@ -158,13 +139,13 @@ structs_differ : (structs : Table (Table CMember)) (depths : Table ℕ) (seen : 
     struct_faults_after structs depths list ≡ [] → Differ seen (map name_of_struct list)
 structs_differ structs depths seen [] in_it none = tt
 structs_differ structs depths seen (s ∷ list) in_it none =
-    let here = nil-left (faults_in_struct structs depths s) _ none in
-    let fresh : is_none (structs s.name) ≡ true = unless_so (is_none (structs s.name)) distinct_names s.place
-    (nil-left (unless (is_none (structs s.name)) distinct_names s.place) _ here) in (
+    let here = first_empty (faults_in_struct structs depths s) _ none in
+    let fresh : is_none (structs s.name) ≡ true = unless-nil (is_none (structs s.name)) distinct_names s.place
+    (first_empty (unless (is_none (structs s.name)) distinct_names s.place) _ here) in (
       unseen seen structs s.name in_it fresh,
       structs_differ (with_entry structs s.name (member_table s)) (with_entry depths s.name (depth_of_struct depths s))
           (λ asked. seen asked || bytes_eq s.name asked) list (in_more seen structs s.name (member_table s) in_it)
-          (nil-right (faults_in_struct structs depths s) _ none),
+          (second_empty (faults_in_struct structs depths s) _ none),
     )
 
 -- ---- files
@@ -181,11 +162,11 @@ module _ (file : Parts) (formed : WellFormed file) where
 
   structs_faultless : struct_faults_after no_entries no_entries file.structs ≡ []
   unfolding faults_in
-  structs_faultless = nil-left (struct_faults_after no_entries no_entries file.structs) _ formed.none
+  structs_faultless = first_empty (struct_faults_after no_entries no_entries file.structs) _ formed.none
 
   functions_faultless : function_faults_after table no_entries no_entries file.funcs ≡ []
   unfolding faults_in
-  functions_faultless = nil-left _ _ (nil-right (struct_faults_after no_entries no_entries file.structs) _ formed.none)
+  functions_faultless = first_empty _ _ (second_empty (struct_faults_after no_entries no_entries file.structs) _ formed.none)
 
   -- a function that is there is the only one of its name
   pub function_alone : (name : Text) (function : CFunc) → Contains file.funcs function → function.name ≡ name →

@@ -4,6 +4,7 @@ use Rattle.std.proofs.Common.{Option, Some, None, refl, sym, ap, subst, ◌∙�
 use Rattle.std.proofs.lemmas.List.Elements.{Contains-append_cases, Contains-append_left}
 use Rattle.std.specs.List.{list_any}
 use Rattle.std.specs.Prelude.{option_and_then, option_map, slice_get, unwrap_or, if◌then◌else◌}
+use Rattle.bl_tree.proofs.Basics.{contains_at, contains_first, contains_further, contains_none, first_or_further, true_and_false}
 use Rattle.bl_tree.specs.declared.c.CFunc.{CFunc}
 use Rattle.bl_tree.specs.declared.c.CMember.{CMember}
 use Rattle.bl_tree.specs.declared.c.CType.{CType}
@@ -32,26 +33,15 @@ use Rattle.bl_emit_spec_laws_files.specs.States.States.{FramesDeclared}
 use Rattle.bl_emit_spec_laws.specs.Tables.Laws.{ActivitiesBuilt}
 use Rattle.bl_emit_spec_laws.specs.Tables.Tables.{functions_of_all, unit_function}
 use Rattle.bl_emit_laws.specs.Kept.{FileEnds, FilesEnd, FramesAreDeclared, activities_in, functions_before, written_file}
-use Rattle.bl_emit_laws.proofs.OnKept.Lists.{first_or, further, here, none_has}
 use Rattle.bl_emit_laws.specs.Counters.Laws.{FilesOwn}
-use Rattle.bl_emit_laws.specs.Counters.Own.{
-  CountersAreOwn,
-  CountersStandInOne,
-  EachHasOneFunctionAndFrame,
-  MemberOf,
-  NamesItsOwn,
-  is_counter_name,
-  members_at,
-  members_through,
-  names_counter,
-  type_of_member,
-}
+use Rattle.bl_emit_laws.specs.Counters.Own.{CountersAreOwn, CountersStandInOne, EachHasOneFunctionAndFrame, MemberOf, NamesItsOwn, is_counter_name, members_at}
+use Rattle.bl_emit_laws.specs.Counters.Own.{members_through, names_counter, type_of_member}
 use Rattle.bl_emit_laws.specs.Counters.Places.{CPath, places_named}
 use Rattle.bl_emit_laws.proofs.OnCounters.Activities.{activity-fine}
 use Rattle.bl_emit_laws.proofs.OnCounters.Fine.{each-fine}
 use Rattle.bl_emit_laws.proofs.OnCounters.Functions.{function-fine, init-fine, tick-fine}
 use Rattle.bl_emit_laws.proofs.OnCounters.Guards.{own_counter}
-use Rattle.bl_emit_laws.proofs.OnCounters.Lists.{at_position, each_at, each_has, kept_at, kept_has}
+use Rattle.bl_emit_laws.proofs.OnCounters.Lists.{each_at, each_has, kept_at, kept_has}
 use Rattle.bl_emit_laws.proofs.OnCounters.Once.{function_alone, struct_alone}
 
 -- ---- what functions name
@@ -64,13 +54,9 @@ None_of place = names_counter place ≡ false
 abbrev Own_of : CPath → Type 0
 Own_of place = names_counter place ≡ true → (counter : Text) × (place ≡ own_counter counter)
 
-true_false : (b : Bool) → b ≡ true → b ≡ false → ⊥
-true_false true is other = let both : true ≡ false = other in cc
-true_false false is other = let both : false ≡ true = is in cc
-
 no_counter : (units : List UnitDef) (function : CFunc) (place : CPath) → names_counter place ≡ false → names_counter place ≡ true →
     NamesItsOwn units function place
-no_counter units function place none is = absurd (true_false (names_counter place) is none)
+no_counter units function place none is = absurd (true_and_false (names_counter place) is none)
 
 -- what is so of each place of a function that names a counter
 abbrev NamesOwn : List UnitDef → CFunc → Type 0
@@ -91,7 +77,7 @@ own_tick units unit remembers place at is =
     (each-fine None_of (places_named (tick_function unit remembers)) place (tick-fine None_of (λ place none. none) unit remembers) at) is
 
 own_plain : (place : CPath) → names_counter place ≡ false → Own_of place
-own_plain place none is = absurd (true_false (names_counter place) is none)
+own_plain place none is = absurd (true_and_false (names_counter place) is none)
 
 own_counters : (k : ℕ) → Own_of (own_counter (counter_name k))
 own_counters k is = (counter_name k, refl)
@@ -112,10 +98,10 @@ own_activity units a there active place at is =
 -- ---- by types
 
 any_here : (members : List Text) (member : Text) → Contains members member → is_counter_name member ≡ true → list_any is_counter_name members ≡ true
-any_here [] member at is = absurd (none_has member at)
+any_here [] member at is = absurd (contains_none member at)
 any_here (m ∷ members) member at is =
     ⊎_elim (λ same. one (is_counter_name m) (list_any is_counter_name members) (ap is_counter_name same ∙ is))
-    (λ later. other (is_counter_name m) (list_any is_counter_name members) (any_here members member later is)) (first_or m members member at)
+    (λ later. other (is_counter_name m) (list_any is_counter_name members) (any_here members member later is)) (first_or_further m members member at)
   where
     one : (a b : Bool) → a ≡ true → (a || b) ≡ true
     one true b is = refl
@@ -132,14 +118,14 @@ member_of struct member = record { struct = struct; member = member }
 -- what types lead through is a member of the place
 through_some : (structs : Table (Table CMember)) (ty : Option CType) (members : List Text) (one : MemberOf) →
     Contains (members_through structs ty members) one → Contains members one.member
-through_some structs ty [] one at = absurd (none_has one at)
-through_some structs None (m ∷ rest) one at = absurd (none_has one at)
-through_some structs (Some (OfScalar s)) (m ∷ rest) one at = absurd (none_has one at)
+through_some structs ty [] one at = absurd (contains_none one at)
+through_some structs None (m ∷ rest) one at = absurd (contains_none one at)
+through_some structs (Some (OfScalar s)) (m ∷ rest) one at = absurd (contains_none one at)
 through_some structs (Some (OfStruct struct)) (m ∷ rest) one at =
     let later : List MemberOf = members_through structs (type_of_member structs struct m) rest in
-    ⊎_elim (λ same. subst (λ (one : MemberOf). Contains (m ∷ rest) one.member) same (here m rest))
-    (λ behind. further m rest one.member (through_some structs (type_of_member structs struct m) rest one behind))
-    (first_or (member_of struct m) later one at)
+    ⊎_elim (λ same. subst (λ (one : MemberOf). Contains (m ∷ rest) one.member) same (contains_first m rest))
+    (λ behind. contains_further m rest one.member (through_some structs (type_of_member structs struct m) rest one behind))
+    (first_or_further (member_of struct m) later one at)
 
 -- structs of where activities rest that have one name are of activities of one name
 same_name : (a b : Text) → frame_name a ≡ frame_name b → unit_name a ≡ unit_name b
@@ -156,8 +142,8 @@ stands_alone units file own function place name counter has at is through =
     subst (λ (o : Option Variable). Contains (members_through (struct_table file.structs)
     (option_map (λ (variable : Variable). variable.ty) o) (found.counter ∷ [])) (member_of (frame_name name) counter)) found.pointer through_own in
     let same : member_of (frame_name found.activity.name) found.counter ≡ member_of (frame_name name) counter =
-    ⊎_elim (λ is. is) (λ none. absurd (none_has (member_of (frame_name name) counter) none))
-    (first_or (member_of (frame_name found.activity.name) found.counter) [] (member_of (frame_name name) counter) through_frame) in
+    ⊎_elim (λ is. is) (λ none. absurd (contains_none (member_of (frame_name name) counter) none))
+    (first_or_further (member_of (frame_name found.activity.name) found.counter) [] (member_of (frame_name name) counter) through_frame) in
     found.named ∙ same_name found.activity.name name (ap (λ (one : MemberOf). one.struct) same)
 
 -- ---- the functions of the file
@@ -220,7 +206,7 @@ module _ (program : Program) (machine : List InMachine) (unit : UnitDef) (ends :
         NamesOwn units (if active then activity_function (activities k) else function_code structs (take k units) one)
     own_unit k one true there is =
         let same : (activities k).unit ≡ one = built.unit k one there in
-        own_activity units (activities k) (subst (Contains units) (sym same) (at_position units k one there))
+        own_activity units (activities k) (subst (Contains units) (sym same) (contains_at units k one there))
         (ap (λ (one : UnitDef). is_activity one.kind) same ∙ is)
     own_unit k one false there is = own_function structs units (take k units) one
 
@@ -236,8 +222,8 @@ module _ (program : Program) (machine : List InMachine) (unit : UnitDef) (ends :
     own_last function at =
         ⊎_elim (λ is. subst (NamesOwn units) is (own_init units))
         (λ later. ⊎_elim (λ is. subst (NamesOwn units) is (own_tick units unit (remembers_any (activities program.entry))))
-        (λ none. absurd (none_has function none)) (first_or (tick_function unit (remembers_any (activities program.entry))) [] function later))
-        (first_or init_function (tick_function unit (remembers_any (activities program.entry)) ∷ []) function at)
+        (λ none. absurd (contains_none function none)) (first_or_further (tick_function unit (remembers_any (activities program.entry))) [] function later))
+        (first_or_further init_function (tick_function unit (remembers_any (activities program.entry)) ∷ []) function at)
 
     pub counters_own : CountersAreOwn units file
     counters_own function place has =

@@ -5,16 +5,14 @@ use Rattle.std.proofs.lemmas.Bool.Decides.{nat_tests}
 use Rattle.std.proofs.lemmas.List.{map-append}
 use Rattle.std.specs.Prelude.{is_none, is_some, nat_le, option_and_then, if◌then◌else◌}
 use Rattle.std.specs.List.{list_all}
+use Rattle.bl_tree.proofs.Basics.{is_none_of}
 use Rattle.bl_tree.specs.declared.c.CLocal.{CLocal}
-use Rattle.bl_tree.specs.declared.text.Text.{Text}
 use Rattle.bl_tree.specs.declared.c.CArg.{CArg}
 use Rattle.bl_tree.specs.declared.c.CArg.TheVariants.{Address}
-use Rattle.bl_tree.specs.declared.c.CExpr.{CExpr}
 use Rattle.bl_tree.specs.declared.c.CFunc.{CFunc}
 use Rattle.bl_tree.specs.declared.c.CMember.{CMember}
 use Rattle.bl_tree.specs.declared.c.CPlace.{CPlace}
-use Rattle.bl_tree.specs.declared.c.CStmt.{CStmt, fold-roll-CStmt, roll-CStmt}
-use Rattle.bl_tree.specs.declared.c.CStmtKind.{CStmtKind, CStmtKind-F, fold-roll-CStmtKind, roll-CStmtKind}
+use Rattle.bl_tree.specs.declared.c.CStmt.{CStmt}
 use Rattle.bl_tree.specs.declared.c.CStmtKind.TheVariants as statement
 use Rattle.bl_tree.specs.declared.c.CType.TheVariants.{Struct as OfStruct}
 use Rattle.bl_tree.specs.declared.scalar.Scalar.TheVariants.{Nat}
@@ -27,7 +25,7 @@ use Rattle.bl_tree.specs.Reduce.{joined}
 use Rattle.bl_tree.specs.Types.{scalar_in}
 use Rattle.bl_tree.specs.Typing.{inputs_of, outputs_of}
 use Rattle.bl_tree.specs.Words.{are_distinct}
-use Rattle.bl_ctext_semantics.specs.Calls.{calls_in_arg, calls_in_block, calls_in_place, calls_in_stmt, most}
+use Rattle.bl_ctext_semantics.specs.Calls.{calls_in_arg, calls_in_block, calls_in_stmt, most}
 use Rattle.bl_ctext_semantics.specs.Faults.{Context, Signature, Variable, bool_type, context_in, declared_before, depth_of_function, distinct_names}
 use Rattle.bl_ctext_semantics.specs.Faults.{faults_in_function, last_returns, member_of, member_table, names_table}
 use Rattle.bl_ctext_semantics.specs.Faults.{repeated, returns_result, short_chain, signature_as}
@@ -38,25 +36,28 @@ use Rattle.bl_emit_acts.specs.Acts.{c_calling, c_clear}
 use Rattle.bl_emit_acts.specs.Trees.{c_call, c_literal, c_place, c_read, c_step, nowhere}
 use Rattle.bl_emit_acts.specs.Types.{unit_name}
 use Rattle.bl_emit_functions.specs.Functions.{memory_name}
-use Rattle.bl_emit_functions.specs.Trees.{c_if, c_return}
+use Rattle.bl_emit_functions.specs.Trees.{c_if}
 use Rattle.bl_emit_acts_laws_wellformed.specs.Formed.Declared.{IsDeclared, parameter_for, plain_member, variable_of}
 use Rattle.bl_emit_acts_laws_wellformed.specs.Formed.Formed.{BlockIs, PlaceIs, StmtIs}
 use Rattle.bl_emit_acts_laws_wellformed.proofs.OnFormed.Acts.{block_cons, block_one, calling-is, clear-is}
 use Rattle.bl_emit_acts_laws_wellformed.proofs.OnFormed.Judged.{kept, literal-is, read-is}
 use Rattle.bl_emit_acts_laws_wellformed.proofs.OnFormed.Prelude.{unit_named}
 use Rattle.bl_emit_acts_laws_wellformed.proofs.OnFormed.Typed.{pointer_place, variable_place}
-use Rattle.bl_emit_functions_laws_wellformed.proofs.OnFiles.Shapes.{address-calls, call-calls, calling-calls, clear-calls, if-calls, literal-calls, place-calls}
-use Rattle.bl_emit_functions_laws_wellformed.proofs.OnFiles.Shapes.{read-calls, return-calls, step-calls, value-calls}
+use Rattle.bl_emit_functions_laws_wellformed.proofs.OnFiles.Shapes.{address-calls, call-calls, calling-calls, clear-calls, if-calls}
+use Rattle.bl_emit_functions_laws_wellformed.proofs.OnFiles.Shapes.{read-calls, value-calls}
 use Rattle.bl_emit_functions_laws_wellformed.proofs.OnFormed.Shapes.{if-is, return-is}
 use Rattle.bl_emit_functions_laws_wellformed.proofs.OnFormed.Turns.{one-turns, return-turns}
 use Rattle.bl_emit_spec.specs.Names.{frame_name}
 use Rattle.bl_emit_spec.specs.Blocks.{unit_may_end, stmt_where, arg_where}
 use Rattle.bl_emit_spec.specs.Programs.{c_returned, init_function, input_arg, output_arg, port_struct, state_struct, tick_args, tick_function, tick_locals}
-use Rattle.bl_emit_spec_laws_wellformed_bodies.proofs.OnSigned.Turns.{call-turns, clear-turns, if-turns}
+use Rattle.bl_emit_spec_laws_wellformed_bodies.proofs.OnSigned.Turns.{if-turns}
 use Rattle.bl_emit_spec_laws_wellformed_bodies.proofs.OnBodies.Calls.{Suit, suit-address, suit-append}
 use Rattle.bl_emit_spec_laws_wellformed_bodies.proofs.OnBodies.Variables.{member_place}
 use Rattle.bl_emit_spec_laws_wellformed_bodies.specs.Bodies.{memory_given, over_given, result_given, signature_of_activity}
 use Rattle.bl_emit_laws.proofs.OnFormed.Ports.{inputs-suit, outputs-suit, port-place}
+use Rattle.bl_emit_laws.proofs.OnCells.Interface.{returned_silent, root_calls_none, step_calls_none}
+use Rattle.bl_emit_functions_laws_wellformed.proofs.OnFormed.Head.{return-returns}
+use Rattle.bl_emit_functions_laws_wellformed.proofs.OnFormed.Turns.{call-turns, clear-turns}
 
 -- what the functions of the interface need, of an entry
 pub record Entry (structs : List StructDef) (unit : UnitDef) (remembers : Bool) (table : Table (Table CMember)) (functions : Table Signature)
@@ -76,25 +77,7 @@ pub record Entry (structs : List StructDef) (unit : UnitDef) (remembers : Bool) 
 at_most : (n : ℕ) → n ≤ 300 → nat_le n 300 ≡ true
 at_most n le = grind (arith, nat_tests)
 
-absent : {A : Type 0} (o : Option A) → o ≡ None → is_none o ≡ true
-absent None is = refl
-absent (Some x) is = absurd (cc)
-
-return-returns : (value : Option CExpr) → surely_returns (c_return value) ≡ true
-return-returns value =
-    subst (λ (k : CStmtKind). surely_returns (roll-CStmt (record { place = nowhere; what = k })) ≡ true) (statement.rolls-Return value) (form value)
-  where
-    form : (value : Option CExpr) → surely_returns (roll-CStmt (record { place = nowhere; what = roll-CStmtKind (CStmtKind-F.Return value) })) ≡ true
-    form value = rw (fold-roll-CStmt, fold-roll-CStmtKind) refl
-
 -- ---- what is called
-
--- a place behind a pointer, or a variable, calls nothing
-step_calls_none : (through : Bool) (root name : Text) → calls_in_place (c_place through root (c_step name ∷ [])) ≡ []
-step_calls_none through root name = place-calls through root (c_step name ∷ []) ∙ (λ i. step-calls name i ++ [])
-
-root_calls_none : (through : Bool) (root : Text) → calls_in_place (c_place through root []) ≡ []
-root_calls_none through root = place-calls through root []
 
 -- arguments call nothing
 abbrev Silent : List CArg → Type 0
@@ -151,9 +134,6 @@ tick_silent unit remembers =
     (silent-append (map output_arg (outputs_of unit)) _ (outputs_silent (outputs_of unit))
     (end_silent (unit_may_end unit)))))
 
-returned_silent : (n : ℕ) → calls_in_stmt (c_returned n) ≡ []
-returned_silent n = return-calls (Some (c_literal (Nat W32) (pos n))) ∙ literal-calls (Nat W32) (pos n)
-
 module _ (structs : List StructDef) (unit : UnitDef) (remembers : Bool) (table : Table (Table CMember)) (functions : Table Signature)
     (depths : Table ℕ) (e : Entry structs unit remembers table functions depths) where
   -- ---- bl_init
@@ -189,7 +169,7 @@ module _ (structs : List StructDef) (unit : UnitDef) (remembers : Bool) (table :
 
   pub init-fine : functions (codes "bl_init") ≡ None → faults_in_function table functions depths true init ≡ []
   init-fine new =
-      let one = kept (is_none (functions (codes "bl_init"))) distinct_names nowhere (absent (functions (codes "bl_init")) new) in
+      let one = kept (is_none (functions (codes "bl_init"))) distinct_names nowhere (is_none_of (functions (codes "bl_init")) new) in
       let three = kept ((is_some (table (codes "bl_state")) && true) && true) declared_before nowhere (declared (table (codes "bl_state")) (ap
       is_some e.state)) in
       let six = kept (nat_le (depth_of_function depths init) 300) short_chain nowhere (at_most (depth_of_function depths init) init_depth) in
@@ -356,7 +336,7 @@ module _ (structs : List StructDef) (unit : UnitDef) (remembers : Bool) (table :
 
   pub tick-fine : functions (codes "bl_tick") ≡ None → faults_in_function table functions depths true tick ≡ []
   tick-fine new =
-      let one = kept (is_none (functions (codes "bl_tick"))) distinct_names nowhere (absent (functions (codes "bl_tick")) new) in
+      let one = kept (is_none (functions (codes "bl_tick"))) distinct_names nowhere (is_none_of (functions (codes "bl_tick")) new) in
       let two = kept (all_distinct no_entries (variable_names tick)) distinct_names nowhere (names_differ (unit_may_end unit)) in
       let three = kept ((is_some (table (codes "bl_state")) && (is_some (table (codes "bl_in")) && (is_some (table (codes "bl_out")) && true)))
       && list_all (λ (l : CLocal). is_declared table l.ty) tick.locals) declared_before nowhere

@@ -5,6 +5,8 @@ use Rattle.std.proofs.lemmas.List.{map-append}
 use Rattle.std.proofs.lemmas.List.Folds.{list_all-append}
 use Rattle.std.specs.Prelude.{Contains, bytes_eq, is_none, is_some, option_and_then}
 use Rattle.std.specs.List.{list_all}
+use Rattle.std.proofs.lemmas.Bool.{and_from}
+use Rattle.bl_tree.proofs.Basics.{and_first, and_second, contains_first, contains_further, contains_mapped}
 use Rattle.bl_tree.specs.declared.text.Text.{Text}
 use Rattle.bl_tree.specs.declared.c.CArg.TheVariants.{Value}
 use Rattle.bl_tree.specs.declared.c.CExpr.{CExpr}
@@ -23,7 +25,6 @@ use Rattle.bl_tree.specs.Program.{is_input, is_output, names_of, parameters_of}
 use Rattle.bl_tree.specs.Types.{scalar_in}
 use Rattle.bl_tree.specs.Typing.{inputs_of, outputs_of}
 use Rattle.bl_tree.specs.Words.{are_distinct, is_among}
-use Rattle.bl_eval.proofs.PassLemmas.{and_left, and_right, both}
 use Rattle.bl_ctext_semantics.specs.Faults.{Context, fits_arg, judged_arg, member_table}
 use Rattle.bl_ctext_semantics.specs.Tables.{Table, found}
 use Rattle.bl_emit_acts.specs.Trees.{c_place, c_read, c_step, nowhere}
@@ -33,35 +34,18 @@ use Rattle.bl_emit_acts_laws_wellformed.specs.Formed.Formed.{ExprIs, PlaceIs, so
 use Rattle.bl_emit_acts_laws_wellformed.proofs.OnFormed.Judged.{of_value, read-is, value_arg-is}
 use Rattle.bl_emit_acts_laws_wellformed.proofs.OnFormed.Prelude.{type_same}
 use Rattle.bl_emit_spec.specs.Programs.{input_arg, output_arg, port_member, port_struct}
-use Rattle.bl_emit_spec_laws.proofs.OnOwn.Members.{contains_mapped, further, here as first_here}
 use Rattle.bl_emit_spec_laws_wellformed_bodies.proofs.OnBodies.Calls.{Suit, suit-address, suit-append}
 use Rattle.bl_emit_spec_laws_wellformed_bodies.proofs.OnBodies.Lists.{found-one, names_of_entries}
 use Rattle.bl_emit_spec_laws_wellformed_bodies.proofs.OnBodies.Variables.{member_place}
+use Rattle.bl_emit_structs_laws_wellformed.proofs.OnNames.Named.{distinct_front}
+use Rattle.bl_emit_spec_laws_wellformed_bodies.proofs.OnLists.Entries.{none_left}
+use Rattle.bl_emit_spec_laws_wellformed_bodies.proofs.OnStructs.Interface.{distinct_back}
 
 -- ---- lists
-
-none_left : (a b c : Bool) → (b ≡ false → c ≡ false) → (a || b) ≡ false → (a || c) ≡ false
-none_left false b c more none = more none
-none_left true b c more none = absurd (cc)
-
-not_false : (b : Bool) → not b ≡ true → b ≡ false
-not_false false h = refl
-not_false true h = absurd (let no : false ≡ true = h in cc)
 
 front_none : (x : Text) (xs ys : List Text) → is_among x (xs ++ ys) ≡ false → is_among x xs ≡ false
 front_none x [] ys none = refl
 front_none x (y ∷ xs) ys none = none_left (bytes_eq x y) (is_among x (xs ++ ys)) (is_among x xs) (front_none x xs ys) none
-
-pub front_differs : (xs ys : List Text) → are_distinct (xs ++ ys) ≡ true → are_distinct xs ≡ true
-front_differs [] ys differ = refl
-front_differs (x ∷ xs) ys differ =
-    both (not (is_among x xs)) (are_distinct xs)
-    (ap not (front_none x xs ys (not_false (is_among x (xs ++ ys)) (and_left (not (is_among x (xs ++ ys))) (are_distinct (xs ++ ys)) differ))))
-    (front_differs xs ys (and_right (not (is_among x (xs ++ ys))) (are_distinct (xs ++ ys)) differ))
-
-pub back_differs : (xs ys : List Text) → are_distinct (xs ++ ys) ≡ true → are_distinct ys ≡ true
-back_differs [] ys differ = differ
-back_differs (x ∷ xs) ys differ = back_differs xs ys (and_right (not (is_among x (xs ++ ys))) (are_distinct (xs ++ ys)) differ)
 
 -- ---- a struct of ports
 
@@ -82,9 +66,9 @@ module _ (structs : List StructDef) (prefix : Text) (padded : (x : Text) → byt
   ports_differ : (vars : List Var) → are_distinct (names_of vars) ≡ true → are_distinct (port_names vars) ≡ true
   ports_differ [] differ = refl
   ports_differ (var ∷ vars) differ =
-      both (not (is_among (prefix ++ var.name) (port_names vars))) (are_distinct (port_names vars))
-      (ap not (among_same var.name vars) ∙ and_left (not (is_among var.name (names_of vars))) (are_distinct (names_of vars)) differ)
-      (ports_differ vars (and_right (not (is_among var.name (names_of vars))) (are_distinct (names_of vars)) differ))
+      and_from (not (is_among (prefix ++ var.name) (port_names vars))) (are_distinct (port_names vars))
+      (ap not (among_same var.name vars) ∙ and_first (not (is_among var.name (names_of vars))) (are_distinct (names_of vars)) differ)
+      (ports_differ vars (and_second (not (is_among var.name (names_of vars))) (are_distinct (names_of vars)) differ))
 
   abbrev pad : CMember
   pad = record { ty = OfScalar (Nat W8); name = codes "pad"; length = None }
@@ -101,9 +85,9 @@ module _ (structs : List StructDef) (prefix : Text) (padded : (x : Text) → byt
   port_found vars var differ has =
       found-one (map entry_of (pad ∷ map (port_member structs prefix) vars)) (entry_of (port_member structs prefix var))
       (ap (λ names. are_distinct (codes "pad" ∷ names)) (entries_named vars)
-      ∙ both (not (is_among (codes "pad") (port_names vars))) (are_distinct (port_names vars)) (ap not (no_pad vars)) (ports_differ vars differ))
+      ∙ and_from (not (is_among (codes "pad") (port_names vars))) (are_distinct (port_names vars)) (ap not (no_pad vars)) (ports_differ vars differ))
       (contains_mapped entry_of (pad ∷ map (port_member structs prefix) vars) (port_member structs prefix var)
-      (further pad (map (port_member structs prefix) vars) (port_member structs prefix var)
+      (contains_further pad (map (port_member structs prefix) vars) (port_member structs prefix var)
       (contains_mapped (port_member structs prefix) vars var has)))
 
   module _ (context : Context) (root name : Text) (vars : List Var) (differ : are_distinct (names_of vars) ≡ true)
@@ -122,7 +106,7 @@ module _ (context : Context) where
   suit-value : (ty : CType) (e : CExpr) → ExprIs context ty e → Suit context (variable_of false ty ∷ []) (Value e ∷ [])
   suit-value ty e is =
       let judged : judged_arg (Value e) context nowhere ≡ of_value (sound ty) = value_arg-is context ty e nowhere is in (
-        both (fits_arg false (variable_of false ty) (judged_arg (Value e) context nowhere)) true
+        and_from (fits_arg false (variable_of false ty) (judged_arg (Value e) context nowhere)) true
             (subst (λ j. fits_arg false (variable_of false ty) j ≡ true) (sym judged) (type_same ty)) refl,
         (λ i. (judged i).faults ++ []),
       )
@@ -149,16 +133,16 @@ module _ (context : Context) where
     inputs-suit [] roles scalars places = (refl, refl)
     inputs-suit (var ∷ vars) roles scalars places =
         let value : (is_output var.role || is_none (scalar_in var.ty)) ≡ false =
-        input_by_value var.role (scalar_in var.ty) (and_left (is_input var.role) (list_all (λ (var : Var). is_input var.role) vars) roles)
-        (and_left (is_some (scalar_in var.ty)) (list_all (λ (var : Var). is_some (scalar_in var.ty)) vars) scalars) in
+        input_by_value var.role (scalar_in var.ty) (and_first (is_input var.role) (list_all (λ (var : Var). is_input var.role) vars) roles)
+        (and_first (is_some (scalar_in var.ty)) (list_all (λ (var : Var). is_some (scalar_in var.ty)) vars) scalars) in
         suit-append context (parameter_for structs var ∷ []) (map (parameter_for structs) vars) (input_arg var ∷ []) (map input_arg vars)
         (subst (λ b. Suit context (variable_of b (c_type structs var.ty) ∷ []) (input_arg var ∷ [])) (sym value)
         (suit-value (c_type structs var.ty) (c_read (c_place true (codes "i") (c_step (codes "i_" ++ var.name) ∷ [])))
         (read-is context true (c_type structs var.ty) (c_place true (codes "i") (c_step (codes "i_" ++ var.name) ∷ []))
-        (places var (first_here var vars)))))
-        (inputs-suit vars (and_right (is_input var.role) (list_all (λ (var : Var). is_input var.role) vars) roles)
-        (and_right (is_some (scalar_in var.ty)) (list_all (λ (var : Var). is_some (scalar_in var.ty)) vars) scalars)
-        (λ other there. places other (further var vars other there)))
+        (places var (contains_first var vars)))))
+        (inputs-suit vars (and_second (is_input var.role) (list_all (λ (var : Var). is_input var.role) vars) roles)
+        (and_second (is_some (scalar_in var.ty)) (list_all (λ (var : Var). is_some (scalar_in var.ty)) vars) scalars)
+        (λ other there. places other (contains_further var vars other there)))
 
     pub outputs-suit : (vars : List Var) → list_all (λ (var : Var). is_output var.role) vars ≡ true →
         ((var : Var) → Contains vars var → PlaceIs context true (c_type structs var.ty)
@@ -168,13 +152,13 @@ module _ (context : Context) where
     outputs-suit (var ∷ vars) roles places =
         let pointer : (is_output var.role || is_none (scalar_in var.ty)) ≡ true =
         output_by_pointer var.role (is_none (scalar_in var.ty))
-        (and_left (is_output var.role) (list_all (λ (var : Var). is_output var.role) vars) roles) in
+        (and_first (is_output var.role) (list_all (λ (var : Var). is_output var.role) vars) roles) in
         suit-append context (parameter_for structs var ∷ []) (map (parameter_for structs) vars) (output_arg var ∷ []) (map output_arg vars)
         (subst (λ b. Suit context (variable_of b (c_type structs var.ty) ∷ []) (output_arg var ∷ [])) (sym pointer)
         (suit-address context true (c_type structs var.ty) (c_place true (codes "o") (c_step (codes "o_" ++ var.name) ∷ []))
-        (places var (first_here var vars))))
-        (outputs-suit vars (and_right (is_output var.role) (list_all (λ (var : Var). is_output var.role) vars) roles)
-        (λ other there. places other (further var vars other there)))
+        (places var (contains_first var vars))))
+        (outputs-suit vars (and_second (is_output var.role) (list_all (λ (var : Var). is_output var.role) vars) roles)
+        (λ other there. places other (contains_further var vars other there)))
 
 -- ---- what the entry has
 
@@ -186,12 +170,12 @@ module _ (unit : UnitDef) where
   names_split = ap names_of parts_are ∙ map-append (λ (var : Var). var.name) (inputs_of unit) (outputs_of unit)
 
   pub inputs_differ : are_distinct (names_of (parameters_of unit)) ≡ true → are_distinct (names_of (inputs_of unit)) ≡ true
-  inputs_differ differ = front_differs (names_of (inputs_of unit)) (names_of (outputs_of unit)) (ap are_distinct (sym names_split) ∙ differ)
+  inputs_differ differ = distinct_front (names_of (inputs_of unit)) (names_of (outputs_of unit)) (ap are_distinct (sym names_split) ∙ differ)
 
   pub outputs_differ : are_distinct (names_of (parameters_of unit)) ≡ true → are_distinct (names_of (outputs_of unit)) ≡ true
-  outputs_differ differ = back_differs (names_of (inputs_of unit)) (names_of (outputs_of unit)) (ap are_distinct (sym names_split) ∙ differ)
+  outputs_differ differ = distinct_back (names_of (inputs_of unit)) (names_of (outputs_of unit)) (ap are_distinct (sym names_split) ∙ differ)
 
   pub inputs_all : (test : Var → Bool) → list_all test (parameters_of unit) ≡ true → list_all test (inputs_of unit) ≡ true
   inputs_all test all =
-      and_left (list_all test (inputs_of unit)) (list_all test (outputs_of unit))
+      and_first (list_all test (inputs_of unit)) (list_all test (outputs_of unit))
       (sym (list_all-append test (inputs_of unit) (outputs_of unit)) ∙ ap (list_all test) (sym parts_are) ∙ all)

@@ -6,6 +6,7 @@ use Rattle.std.proofs.lemmas.Option.{slice_get_within}
 use Rattle.std.specs.Option.{option_or}
 use Rattle.std.specs.Prelude.{is_none, is_some, slice_get, unwrap_or}
 use Rattle.std.specs.List.{list_all}
+use Rattle.bl_tree.proofs.Basics.{and_first, and_second, and_second as and_right, contains_first, contains_further, none_from}
 use Rattle.bl_tree.specs.declared.c.CFunc.{CFunc}
 use Rattle.bl_tree.specs.declared.c.CMember.{CMember}
 use Rattle.bl_tree.specs.declared.c.CStruct.{CStruct}
@@ -18,22 +19,10 @@ use Rattle.bl_tree.specs.Program.{IsWellTyped, is_entry, names_of, parameters_of
 use Rattle.bl_tree.specs.Types.{scalar_in}
 use Rattle.bl_tree.specs.Typing.{inputs_of, is_activity, outputs_of}
 use Rattle.bl_tree.specs.Words.{are_distinct, is_name}
-use Rattle.bl_eval.proofs.PassLemmas.{and_left, and_right}
 use Rattle.bl_limits.specs.Rules.{Passes}
 use Rattle.bl_limits_measures.specs.Units.{chain_at}
-use Rattle.bl_ctext_semantics.specs.Faults.{
-  Signature,
-  WellFormed,
-  depth_of_function,
-  faults_in,
-  function_faults_after,
-  interface_faults,
-  last_place,
-  last_two,
-  faults_of_two,
-  signature_in,
-  unless,
-}
+use Rattle.bl_ctext_semantics.specs.Faults.{Signature, WellFormed, depth_of_function, faults_in, function_faults_after, interface_faults, last_place, last_two}
+use Rattle.bl_ctext_semantics.specs.Faults.{faults_of_two, signature_in, unless}
 use Rattle.bl_ctext_semantics.specs.Faults as faults
 use Rattle.bl_ctext_semantics.specs.Parts.{parts_from as file_from}
 use Rattle.bl_ctext_semantics.specs.Tables.{Table, no_entries, with_entry}
@@ -44,10 +33,10 @@ use Rattle.bl_emit_acts_laws_wellformed.proofs.OnFormed.Units.{inputs_stand, out
 use Rattle.bl_emit_spec.specs.Programs.{ProgramParts, file_at, init_function, needed_units, port_struct, state_struct, tick_function, written}
 use Rattle.bl_emit_spec_laws_wellformed.specs.Closed.{NeededClosed}
 use Rattle.bl_emit_spec_laws_wellformed_bodies.specs.Lists.{FunctionsEnd, PartsWellFormed, signature_by}
-use Rattle.bl_emit_spec_laws.proofs.OnOwn.Members.{further, here}
 use Rattle.bl_emit_laws.proofs.OnFormed.Interface.{Entry, init-fine, tick-fine}
 use Rattle.bl_emit_laws.proofs.OnFormed.Ports.{inputs_all, inputs_differ, outputs_differ}
 use Rattle.bl_emit_laws.specs.Formed.{FilesWellFormed, StructsSound, parts_for_entry, table_of}
+use Rattle.bl_ctext_semantics.proofs.MapLemmas.{nothing_after}
 
 -- ---- the last two functions
 
@@ -65,10 +54,6 @@ two_last funcs f g =
     let same : length (funcs ++ f ∷ g ∷ []) - 2 ≡ length funcs = omega (arith, long) in
     ap (λ n. drop n (funcs ++ f ∷ g ∷ [])) same ∙ drop_front funcs (f ∷ g ∷ [])
 
-none_more : {A : Type 0} (o : Option A) → option_or o None ≡ o
-none_more None = refl
-none_more (Some x) = refl
-
 none_still : {A : Type 0} (o : Option A) → o ≡ None → option_or o None ≡ None
 none_still None is = refl
 none_still (Some x) is = absurd (cc)
@@ -77,14 +62,6 @@ all_three : (a b c : Bool) → a ≡ true → b ≡ true → c ≡ true → (a &
 all_three true true c one two three = three
 all_three true false c one two three = absurd (cc)
 all_three false b c one two three = absurd (cc)
-
-last_of_two : (a b : Bool) → (a && b) ≡ true → b ≡ true
-last_of_two true b h = h
-last_of_two false b h = absurd (cc)
-
-no_result : {A : Type 0} (o : Option A) → is_none o ≡ true → o ≡ None
-no_result None is = refl
-no_result (Some x) is = absurd (cc)
 
 module _ (program : Program) (machine : List InMachine) (unit : UnitDef) (keeps : IsWellTyped program.structs program.units program.entry)
     (passes : Passes program.structs program.units program.entry) (there : slice_get program.units program.entry ≡ Some unit)
@@ -112,7 +89,7 @@ module _ (program : Program) (machine : List InMachine) (unit : UnitDef) (keeps 
   is_it = ap is_entry (sym there) ∙ keeps.entry_stands
 
   active : is_activity unit.kind ≡ true
-  active = and_left (is_activity unit.kind) _ is_it
+  active = and_first (is_activity unit.kind) _ is_it
 
   need : slice_get (needed_units program.units program.entry) program.entry ≡ Some true
   need = closed.entry_is keeps
@@ -122,8 +99,8 @@ module _ (program : Program) (machine : List InMachine) (unit : UnitDef) (keeps 
 
   names_differ : are_distinct (names_of (parameters_of unit)) ≡ true
   names_differ =
-      last_of_two (list_all is_name (names_of unit.vars)) (are_distinct (names_of (parameters_of unit)))
-      (and_right _ _ (and_left _ _ (unit_at program.structs program.units program.entry keeps program.entry unit there)))
+      and_second (list_all is_name (names_of unit.vars)) (are_distinct (names_of (parameters_of unit)))
+      (and_right _ _ (and_first _ _ (unit_at program.structs program.units program.entry keeps program.entry unit there)))
 
   chain_low : chain_at program.units program.entry ≤ 100
   chain_low =
@@ -144,15 +121,15 @@ module _ (program : Program) (machine : List InMachine) (unit : UnitDef) (keeps 
 
   before : Entry program.structs unit remembers table end.functions end.depths
   before = record {
-    result = no_result unit.result (and_left (is_none unit.result) _ (and_right (is_activity unit.kind) _ is_it));
+    result = none_from unit.result (and_first (is_none unit.result) _ (and_right (is_activity unit.kind) _ is_it));
     scalars = inputs_all unit (λ (var : Var). is_some (scalar_in var.ty)) (and_right (is_none unit.result) _ (and_right (is_activity unit.kind) _ is_it));
     inputs = inputs_stand program.structs program.units program.entry keeps program.entry unit there;
     outputs = outputs_stand program.structs program.units program.entry keeps program.entry unit there;
     inputs_differ = inputs_differ unit names_differ;
     outputs_differ = outputs_differ unit names_differ;
-    state = sound.interface state (here state (ins ∷ outs ∷ []));
-    ins = sound.interface ins (further state (ins ∷ outs ∷ []) ins (here ins (outs ∷ [])));
-    outs = sound.interface outs (further state (ins ∷ outs ∷ []) outs (further ins (outs ∷ []) outs (here outs [])));
+    state = sound.interface state (contains_first state (ins ∷ outs ∷ []));
+    ins = sound.interface ins (contains_further state (ins ∷ outs ∷ []) ins (contains_first ins (outs ∷ [])));
+    outs = sound.interface outs (contains_further state (ins ∷ outs ∷ []) outs (contains_further ins (outs ∷ []) outs (contains_first outs [])));
     known = end.known.known program.entry unit there within need
         ∙ ap (λ b. Some (signature_by b program.structs unit remembers)) active;
     depth = let low = end.chains.of_units program.entry unit there in let few = chain_low in omega (arith, low, few);
@@ -177,7 +154,7 @@ module _ (program : Program) (machine : List InMachine) (unit : UnitDef) (keeps 
     ins = before.ins;
     outs = before.outs;
     known = ap (λ o. option_or o None) before.known;
-    depth = subst (λ o. unwrap_or o 0 ≤ 100) (sym (none_more (end.depths (unit_name unit.name)))) before.depth;
+    depth = subst (λ o. unwrap_or o 0 ≤ 100) (sym (nothing_after (end.depths (unit_name unit.name)))) before.depth;
   }
 
   functions_fine : function_faults_after table end.functions end.depths (init ∷ tick ∷ []) ≡ []

@@ -5,6 +5,7 @@ use Rattle.std.proofs.lemmas.List.Elements.{Contains-append_cases, Contains-appe
 use Rattle.std.proofs.lemmas.Option.{same_Some, slice_get_within}
 use Rattle.std.specs.Prelude.{Contains, is_some, slice_get, unwrap_or}
 use Rattle.std.specs.List.{list_any}
+use Rattle.bl_tree.proofs.Basics.{contains_further, contains_mapped, index_of}
 use Rattle.bl_tree.specs.declared.place.Place.{Place}
 use Rattle.bl_tree.specs.declared.tree.Arm.{Arm}
 use Rattle.bl_tree.specs.declared.tree.Branch.{Branch}
@@ -16,50 +17,10 @@ use Rattle.bl_tree.specs.declared.tree.Unit.{Unit as UnitDef}
 use Rattle.bl_tree.specs.declared.tree.Var.{Var}
 use Rattle.bl_tree.specs.Program.{IsWellTyped}
 use Rattle.bl_tree.specs.Types.{scalar_in}
-use Rattle.bl_graph_nodes.specs.Nodes.{
-  ActAt,
-  Arguments,
-  CheckAt,
-  DepthEndAt,
-  DepthJoinAt,
-  EnterAt,
-  ForkAt,
-  HeadAt,
-  Node,
-  PauseAt,
-  ResumeAt,
-  StartAt,
-  SurfaceEndAt,
-  SurfaceJoinAt,
-  TestAt,
-  are_instant,
-  is_instant,
-  nodes_in,
-  nodes_in_each,
-  nodes_of,
-  where_so,
-}
-use Rattle.bl_graph_nodes.specs.Plain.{
-  Act,
-  Again,
-  Await,
-  Block,
-  Bodies,
-  Body as BodyOf,
-  Cobegin,
-  Done,
-  If,
-  Label,
-  Last,
-  Plain,
-  Repeat,
-  Run as RunOf,
-  Then,
-  Until,
-  When,
-  While,
-  plain_body,
-}
+use Rattle.bl_graph_nodes.specs.Nodes.{ActAt, Arguments, CheckAt, DepthEndAt, DepthJoinAt, EnterAt, ForkAt, HeadAt, Node, PauseAt, ResumeAt, StartAt}
+use Rattle.bl_graph_nodes.specs.Nodes.{SurfaceEndAt, SurfaceJoinAt, TestAt, are_instant, is_instant, nodes_in, nodes_in_each, nodes_of, where_so}
+use Rattle.bl_graph_nodes.specs.Plain.{Act, Again, Await, Block, Bodies, Body as BodyOf, Cobegin, Done, If, Label, Last, Plain, Repeat, Run as RunOf, Then}
+use Rattle.bl_graph_nodes.specs.Plain.{Until, When, While, plain_body}
 use Rattle.bl_machine.specs.Blocks.{up_to}
 use Rattle.bl_machine.specs.Uses.{Slots}
 use Rattle.bl_machine_pass.specs.Transitions.{Transition, rules}
@@ -70,8 +31,9 @@ use Rattle.bl_emit_spec.specs.Activities.{Activity, copies_of, rules_at}
 use Rattle.bl_emit_spec_laws_nodes.specs.Calling.{RunsStand}
 use Rattle.bl_emit_spec_laws_nodes.specs.Copied.{NodesCopied, RunsCopied}
 use Rattle.bl_emit_spec_laws_nodes.specs.Points.Nodes.{act_copied, copied_there}
-use Rattle.bl_emit_spec_laws.proofs.OnOwn.Members.{contains_mapped, further, stands_at}
 use Rattle.bl_emit_spec_laws_wellformed_bodies.specs.Bodies.{CopiesSuffice, act_named, named_there}
+use Rattle.bl_emit_spec_laws.proofs.OnOwn.Counting.{get_up_to}
+use Rattle.bl_emit_spec_laws_nodes.proofs.OnCopied.Copied.{get_mapped}
 
 -- ---- where a `run` goes on one begins
 
@@ -86,7 +48,7 @@ module _ (l : Label) (at : Place) (arguments : Arguments) where
   behind : (n : Node) (nodes : List Node) → (n ≡ ResumeAt l at arguments → ⊥) → (Ends nodes → Starts nodes) → Ends (n ∷ nodes) →
       Starts (n ∷ nodes)
   behind n nodes other rest (zero, below, is) = absurd (other is)
-  behind n nodes other rest (suc j, below, is) = further n nodes (EnterAt l at arguments) (rest (j, omega (arith, below), is))
+  behind n nodes other rest (suc j, below, is) = contains_further n nodes (EnterAt l at arguments) (rest (j, omega (arith, below), is))
 
   both : (ms ns : List Node) → (Ends ms → Starts ms) → (Ends ns → Starts ns) → Ends (ms ++ ns) → Starts (ms ++ ns)
   both ms ns one other has =
@@ -175,45 +137,17 @@ same_named copied (StmtKind-F.While e body) is = refl
 
 -- ---- lists
 
-get_front : (xs ys : List ℕ) (k x : ℕ) → slice_get xs k ≡ Some x → slice_get (xs ++ ys) k ≡ Some x
-get_front [] ys k x is = absurd (cc)
-get_front (y ∷ xs) ys zero x is = is
-get_front (y ∷ xs) ys (suc k) x is = get_front xs ys k x is
-
-push_length : {A : Type 0} (xs : List A) (y : A) → length (xs ++ y ∷ []) ≡ suc (length xs)
-push_length [] y = refl
-push_length (x ∷ xs) y = ap suc (push_length xs y)
-
-up_length : (n : ℕ) → length (up_to n) ≡ n
-up_length zero = refl
-up_length (suc n) = push_length (up_to n) n ∙ ap suc (up_length n)
-
 get_last : (xs : List ℕ) (y k : ℕ) → length xs ≡ k → slice_get (xs ++ y ∷ []) k ≡ Some y
 get_last [] y zero is = refl
 get_last [] y (suc k) is = absurd (omega (arith, is))
 get_last (x ∷ xs) y zero is = absurd (omega (arith, is))
 get_last (x ∷ xs) y (suc k) is = get_last xs y k (omega (arith, is))
 
-up_at : (n k : ℕ) → k < n → slice_get (up_to n) k ≡ Some k
-up_at zero k less = absurd (omega (arith, less))
-up_at (suc n) k less = by (up_at n k) (nat_eq k n) refl
-  where
-    by : (k < n → slice_get (up_to n) k ≡ Some k) → (b : Bool) → nat_eq k n ≡ b → slice_get (up_to n ++ n ∷ []) k ≡ Some k
-    by before true is =
-        let same : k ≡ n = grind (arith, is) in
-        subst (λ m. slice_get (up_to n ++ n ∷ []) k ≡ Some m) (sym same) (get_last (up_to n) n k (up_length n ∙ sym same))
-    by before false is = let low : k < n = grind (arith, is, less) in get_front (up_to n) (n ∷ []) k k (before low)
-
-mapped_at : (f : ℕ → Bool) (xs : List ℕ) (k x : ℕ) → slice_get xs k ≡ Some x → slice_get (map f xs) k ≡ Some (f x)
-mapped_at f [] k x is = absurd (cc)
-mapped_at f (y ∷ xs) zero x is = ap (λ z. Some (f z)) (same_Some y x is)
-mapped_at f (y ∷ xs) (suc k) x is = mapped_at f xs k x is
-
 -- what is copied is named under a `prev`
 copied_named : (unit : UnitDef) (x : ℕ) → x < length unit.vars → is_copied (copies_of unit) x ≡ true → list_any (nat_eq x) (prevs_of unit) ≡ true
 copied_named unit x less on =
     sym (ap (λ o. unwrap_or o false)
-    (mapped_at (λ k. list_any (nat_eq k) (prevs_of unit)) (up_to (length unit.vars)) x x (up_at (length unit.vars) x less))) ∙ on
+    (get_mapped (λ k. list_any (nat_eq k) (prevs_of unit)) (up_to (length unit.vars)) x x (get_up_to (length unit.vars) x less))) ∙ on
 
 scalar_there : (o : Option Var) (var : Var) → o ≡ Some var → is_scalar_var o ≡ true → is_some (scalar_in var.ty) ≡ true
 scalar_there None var is scalar = absurd (cc)
@@ -232,7 +166,7 @@ module _ (structs : List StructDef) (units : List UnitDef) (entry k : ℕ) (a : 
 
   node_copied : (n : Node) → Contains (nodes_in (plain_body a.unit.body)) n → copied_there mine n ≡ true
   node_copied n has =
-      let at = stands_at (nodes_in (plain_body a.unit.body)) n has in
+      let at = index_of (nodes_in (plain_body a.unit.body)) n has in
       copied_so structs units entry k at.0 a.unit n keeps there at.1
 
   stand : RunsStand units

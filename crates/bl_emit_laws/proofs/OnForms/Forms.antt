@@ -4,10 +4,9 @@ use Rattle.std.proofs.Common.{map, take, drop, length, Some, cond, refl, sym, ap
 use Rattle.std.proofs.lemmas.List.{length-append}
 use Rattle.std.specs.List.{list_all}
 use Rattle.std.specs.Prelude.{Contains, slice_get, if◌then◌else◌}
+use Rattle.bl_tree.proofs.Basics.{contains_at, get_seam, take_front}
 use Rattle.bl_tree.specs.declared.tree.StructDef.{StructDef}
 use Rattle.bl_tree.specs.declared.tree.Unit.{Unit as UnitDef}
-use Rattle.bl_tree.specs.declared.tree.UnitKind.{UnitKind}
-use Rattle.bl_tree.specs.declared.tree.UnitKind.TheVariants.{Function, Activity as ActivityKind}
 use Rattle.bl_tree.specs.Program.{IsWellTyped}
 use Rattle.bl_tree.specs.Reduce.{greatest, total}
 use Rattle.bl_tree.specs.Typing.{is_activity}
@@ -18,7 +17,7 @@ use Rattle.bl_limits_measures.specs.Calls.{calls_of}
 use Rattle.bl_limits_measures.specs.Laws.{CellsAdd}
 use Rattle.bl_limits_measures.specs.Runs.{activities_by_place}
 use Rattle.bl_limits_measures.specs.Statements.{cell_statements_of}
-use Rattle.bl_limits_measures.specs.Units.{cells_at, cells_with, variables_of}
+use Rattle.bl_limits_measures.specs.Units.{cells_at, variables_of}
 use Rattle.bl_limits_measures_laws.specs.Laws.{UnitsUseEarlierOnes}
 use Rattle.bl_graph.specs.Edges.{Entry}
 use Rattle.bl_graph_nodes.specs.Nodes.{Node, entry as entry_of, nodes_in}
@@ -42,27 +41,12 @@ use Rattle.bl_emit_spec_laws_wellformed.specs.Counts.{NodesCounted}
 use Rattle.bl_emit_spec_laws_wellformed_bodies.specs.Lists.{ActivityConditions, AllConditions, UnitConditions}
 use Rattle.bl_emit_spec_laws_wellformed.specs.Machines.{IsModest, MachinesDiffer, MachinesSpell}
 use Rattle.bl_emit_spec_laws_wellformed.specs.Needed.{NeededNumbered, NeededSmall}
-use Rattle.bl_emit_spec_laws.proofs.OnOwn.Members.{contains_at}
 use Rattle.bl_emit_spec_laws.proofs.OnOwn.Owning.{asks_on, changes_on, copied_below, entry_rule, flag_on}
 use Rattle.bl_emit_spec_laws.proofs.OnPlaced.Placing.{Laws as PlacingLaws, entry_first, first_among, flags_first, last_among}
 use Rattle.bl_emit_laws.proofs.OnForms.Copying.{copies-suffice}
 use Rattle.bl_emit_laws.specs.Forms.{UnitsMeetConditions}
-
-get_behind : {A : Type 0} (xs : List A) (y : A) (ys : List A) → slice_get (xs ++ y ∷ ys) (length xs) ≡ Some y
-get_behind [] y ys = refl
-get_behind (x ∷ xs) y ys = get_behind xs y ys
-
-take_front : {A : Type 0} (xs ys : List A) → take (length xs) (xs ++ ys) ≡ xs
-take_front [] ys = refl
-take_front (x ∷ xs) ys = ap (λ rest. x ∷ rest) (take_front xs ys)
-
--- a unit has no fewer cells than statements
-enough : (kind : UnitKind) (variables statements running calling : ℕ) → statements ≤ cells_with kind variables statements running calling
-enough Function variables statements running calling = omega arith
-enough ActivityKind variables statements running calling = omega arith
-
-places_small : (places statements cells : ℕ) → places ≤ statements → statements ≤ cells → cells ≤ 1_000_000 → places < 2 ^ 32
-places_small places statements cells few more small = omega (arith, few, more, small)
+use Rattle.bl_emit_spec_laws_wellformed.proofs.OnMachines.Whole.{enough}
+use Rattle.bl_emit_spec_laws_simulation.proofs.OnCompiled.Owning.{places_small}
 
 -- what the laws below promise
 pub record Promised (structs : List StructDef) (units : List UnitDef) (entry : ℕ) : Type 0 where
@@ -101,7 +85,7 @@ module _ (structs : List StructDef) (units : List UnitDef) (entry : ℕ) (laws :
     k = length earlier
 
     there : slice_get units k ≡ Some unit
-    there = ap (λ units. slice_get units (length earlier)) (sym whole) ∙ get_behind earlier unit rest
+    there = ap (λ units. slice_get units (length earlier)) (sym whole) ∙ get_seam earlier unit rest
 
     before : take k units ≡ earlier
     before = ap (take (length earlier)) (sym whole) ∙ take_front earlier (unit ∷ rest)
@@ -204,7 +188,7 @@ module _ (structs : List StructDef) (units : List UnitDef) (entry : ℕ) (laws :
       all_forms (earlier ++ unit ∷ []) remember rest needed machine (append_assoc earlier (unit ∷ []) rest ∙ whole)
       (subst (λ n. Told n needed) (sym (length_one earlier unit)) told) own)
 
-behind_none : (needed : List Bool) (n j : ℕ) → n ≡ 0 → slice_get needed j ≡ Some true → slice_get needed (n + j) ≡ Some true
+pub behind_none : (needed : List Bool) (n j : ℕ) → n ≡ 0 → slice_get needed j ≡ Some true → slice_get needed (n + j) ≡ Some true
 behind_none needed n j none is = subst (λ m. slice_get needed m ≡ Some true) (omega (arith, none)) is
 
 pub form : (structs : List StructDef) (units : List UnitDef) (entry : ℕ) → Promised structs units entry → UnitsMeetConditions structs units entry

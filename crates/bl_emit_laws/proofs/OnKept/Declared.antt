@@ -3,6 +3,7 @@ use Rattle.std.proofs.Common.{◌≡◌, ℕ, ◌+◌, true, false, List, [], �
 use Rattle.std.proofs.Common.{Option, Some, None, refl, sym, ap, subst, ◌∙◌, arith, codes}
 use Rattle.std.proofs.lemmas.List.Elements.{Contains-append_left, Contains-append_right}
 use Rattle.std.specs.Prelude.{nat_lt, option_and_then, option_map, slice_get, unwrap_or}
+use Rattle.bl_tree.proofs.Basics.{and_first, contains_first, contains_further}
 use Rattle.bl_tree.specs.declared.c.CMember.{CMember}
 use Rattle.bl_tree.specs.declared.c.CStruct.{CStruct}
 use Rattle.bl_tree.specs.declared.program.Program.{Program}
@@ -12,7 +13,6 @@ use Rattle.bl_tree.specs.declared.tree.Unit.{Unit as UnitDef}
 use Rattle.bl_tree.specs.Program.{IsWellTyped, is_entry}
 use Rattle.bl_tree.specs.Typing.{inputs_of, is_activity, outputs_of}
 use Rattle.bl_effects.specs.Rules.{Passes}
-use Rattle.bl_eval.proofs.PassLemmas.{and_left}
 use Rattle.bl_ctree.specs.declared.instance.Instance.{Instance}
 use Rattle.bl_ctree.specs.Instances.{Setting, setting_of, unit_at, unit_of}
 use Rattle.bl_ctree_laws_confluence.specs.Deeds.Orderly.{AcceptedIsOrderly}
@@ -25,27 +25,26 @@ use Rattle.bl_emit_structs_laws_wellformed.specs.Names.{TypesApart}
 use Rattle.bl_machine.specs.declared.machine.Activity.{Activity as InMachine}
 use Rattle.bl_machine.specs.Machines.{AreActivitiesOf}
 use Rattle.bl_emit_spec_laws.specs.Calls.Built.{Activities, unit_number}
-use Rattle.bl_emit_spec_laws_simulation.proofs.OnRuns.Running.{unit_there}
 use Rattle.bl_emit_spec_laws_wellformed.specs.Closed.{InstancesNeeded}
 use Rattle.bl_emit_spec_laws_files.specs.States.States.{FramesDeclared, memory_of_activity}
 use Rattle.bl_emit_spec_laws.specs.Tables.Laws.{ActivitiesBuilt, WrittenAs, WrittenIsKept}
 use Rattle.bl_emit_spec_laws.specs.Tables.Tables.{activities_of}
 use Rattle.bl_emit_laws.specs.Kept.{FramesAreDeclared, written_file}
-use Rattle.bl_emit_laws.proofs.OnKept.Lists.{further, here}
 use Rattle.bl_emit_laws.proofs.OnKept.Types.{stands_once, type_declared}
 use Rattle.bl_emit_laws.proofs.OnKept.Walk.{own, walk}
+use Rattle.bl_emit_spec_laws.proofs.OnActivities.Nested.{unit_there}
 
 -- the entry of a typed program is an activity
 pub entry_active : (structs : List StructDef) (units : List UnitDef) (entry : ℕ) (unit : UnitDef) → IsWellTyped structs units entry →
     slice_get units entry ≡ Some unit → is_activity unit.kind ≡ true
 entry_active structs units entry unit keeps there =
-    let entry_so : is_entry (Some unit) ≡ true = ap is_entry (sym there) ∙ keeps.entry_stands in and_left (is_activity unit.kind) _ entry_so
+    let entry_so : is_entry (Some unit) ≡ true = ap is_entry (sym there) ∙ keeps.entry_stands in and_first (is_activity unit.kind) _ entry_so
 
 -- the struct of what is remembered is there where anything is
 struct_there : (name : Text) (members : List CMember) → nat_lt 0 (length members) ≡ true →
     Contains (struct_of name members) (record { place = nowhere; name = memory_name name; members = members })
 struct_there name [] any = absurd (let none : false ≡ true = any in cc)
-struct_there name (m ∷ rest) any = here (record { place = nowhere; name = memory_name name; members = m ∷ rest }) []
+struct_there name (m ∷ rest) any = contains_first (record { place = nowhere; name = memory_name name; members = m ∷ rest }) []
 
 -- ---- the structs of the file
 
@@ -128,16 +127,16 @@ module _ (program : Program) (machine : List InMachine) (unit : UnitDef) (there 
         declared : TypesApart program.structs program.units program.entry →
             FramesDeclared program.structs program.units program.entry activities unit (written_file program machine)
         declared apart = record {
-          state = of_last state_at (here state_at (inputs_at ∷ outputs_at ∷ []));
+          state = of_last state_at (contains_first state_at (inputs_at ∷ outputs_at ∷ []));
           outputs = of_last outputs_at
-              (further state_at (inputs_at ∷ outputs_at ∷ []) outputs_at
-              (further inputs_at (outputs_at ∷ []) outputs_at (here outputs_at [])));
+              (contains_further state_at (inputs_at ∷ outputs_at ∷ []) outputs_at
+              (contains_further inputs_at (outputs_at ∷ []) outputs_at (contains_first outputs_at [])));
           frames = λ i other is.
               instance_own i other is (frame_struct (activities (unit_number w i)))
-              (here (frame_struct (activities (unit_number w i))) (remembered_struct (activities (unit_number w i))));
+              (contains_first (frame_struct (activities (unit_number w i))) (remembered_struct (activities (unit_number w i))));
           memories = λ i other is any.
               instance_own i other is (memory_of_activity (activities (unit_number w i)))
-              (further (frame_struct (activities (unit_number w i))) (remembered_struct (activities (unit_number w i)))
+              (contains_further (frame_struct (activities (unit_number w i))) (remembered_struct (activities (unit_number w i)))
               (memory_of_activity (activities (unit_number w i)))
               (struct_there (activities (unit_number w i)).unit.name (remembered (activities (unit_number w i))) any));
           types = type_declared program.structs program.units (written program machine).structs

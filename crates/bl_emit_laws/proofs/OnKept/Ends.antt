@@ -1,8 +1,9 @@
 -- The written file ends with its interface.
 use Rattle.std.proofs.Common.{◌≡◌, ◌⊎◌, inl, inr, ⊎_elim, ℕ, suc, Bool, true, false, List, [], ◌∷◌, ◌++◌, Contains, drop, take}
-use Rattle.std.proofs.Common.{refl, sym, ap, ap₂, subst, ◌∙◌, append_assoc, codes}
+use Rattle.std.proofs.Common.{refl, sym, ap, ap₂, ◌∙◌, append_assoc, codes}
 use Rattle.std.proofs.lemmas.List.Elements.{Contains-append_cases}
 use Rattle.std.specs.Prelude.{bytes_eq, if◌then◌else◌}
+use Rattle.bl_tree.proofs.Basics.{contains_none, first_or_further}
 use Rattle.bl_tree.specs.declared.c.CFunc.{CFunc}
 use Rattle.bl_tree.specs.declared.c.CMember.{CMember}
 use Rattle.bl_tree.specs.declared.c.CStruct.{CStruct}
@@ -17,25 +18,16 @@ use Rattle.bl_emit_acts.specs.Types.{unit_name}
 use Rattle.bl_emit_functions.specs.Functions.{function_code, members_of, memory_name, struct_of}
 use Rattle.bl_emit_spec.specs.Activities.{Activity, activity_function, frame_struct, remembered, remembered_struct, remembers_any}
 use Rattle.bl_emit_spec.specs.Names.{frame_name}
-use Rattle.bl_emit_spec.specs.Programs.{
-  ProgramParts,
-  activity_of,
-  interface_structs,
-  needed_units,
-  parts_from,
-  parts_of_function,
-  parts_of_next,
-  where_needed,
-  written,
-}
+use Rattle.bl_emit_spec.specs.Programs.{ProgramParts, activity_of, interface_structs, needed_units, parts_from, parts_of_function, parts_of_next, where_needed}
+use Rattle.bl_emit_spec.specs.Programs.{written}
 use Rattle.bl_emit_structs.specs.Structs.{structs_of}
 use Rattle.bl_emit_spec_laws.specs.Calls.Built.{Activities}
 use Rattle.bl_emit_spec_laws.specs.Tables.Laws.{WrittenAs, WrittenIsKept}
-use Rattle.bl_emit_spec_laws.specs.Tables.Tables.{activities_of, each_from, functions_of_all, kept_where, unit_function}
+use Rattle.bl_emit_spec_laws.specs.Tables.Tables.{activities_of, each_from, functions_of_all, unit_function}
 use Rattle.bl_emit_laws.specs.Kept.{FilesEnd, structs_before}
 use Rattle.bl_emit_laws.proofs.OnKept.Declared.{entry_active, structs_are}
-use Rattle.bl_emit_laws.proofs.OnKept.Lists.{first_or, further, here, none_has}
 use Rattle.bl_emit_laws.proofs.OnKept.Types.{other_name}
+use Rattle.bl_emit_laws.proofs.OnCounters.Lists.{kept_has}
 
 -- ---- names of structs
 
@@ -44,9 +36,9 @@ abbrev OfUnit : CStruct → Type 0
 OfUnit s = (name : Text) × ((s.name ≡ memory_name name) ⊎ (s.name ≡ frame_name name))
 
 of_memory : (name : Text) (members : List CMember) (s : CStruct) → Contains (struct_of name members) s → OfUnit s
-of_memory name [] s at = absurd (none_has s at)
+of_memory name [] s at = absurd (contains_none s at)
 of_memory name (m ∷ rest) s at =
-    ⊎_elim (λ is. (name, inl (ap (λ (s : CStruct). s.name) (sym is)))) (λ none. absurd (none_has s none)) (first_or _ [] s at)
+    ⊎_elim (λ is. (name, inl (ap (λ (s : CStruct). s.name) (sym is)))) (λ none. absurd (contains_none s none)) (first_or_further _ [] s at)
 
 module _ (structs : List StructDef) where
   abbrev own : Bool → List UnitDef → List Bool → UnitDef → List InMachine → ProgramParts
@@ -55,18 +47,18 @@ module _ (structs : List StructDef) where
 
   own_named : (test active : Bool) (earlier : List UnitDef) (remember : List Bool) (unit : UnitDef) (machine : List InMachine) (s : CStruct) →
       Contains (where_needed test (own active earlier remember unit machine)).structs s → OfUnit s
-  own_named false active earlier remember unit machine s at = absurd (none_has s at)
+  own_named false active earlier remember unit machine s at = absurd (contains_none s at)
   own_named true false earlier remember unit machine s at = of_memory unit.name (members_of structs earlier unit) s at
-  own_named true true earlier remember unit [] s at = absurd (none_has s at)
+  own_named true true earlier remember unit [] s at = absurd (contains_none s at)
   own_named true true earlier remember unit (one ∷ machine) s at =
       let a : Activity = activity_of structs earlier remember unit one in
       ⊎_elim (λ is. (unit.name, inr (ap (λ (s : CStruct). s.name) (sym is)))) (λ rest. of_memory unit.name (remembered a) s rest)
-      (first_or (frame_struct a) (remembered_struct a) s at)
+      (first_or_further (frame_struct a) (remembered_struct a) s at)
 
   parts_named : (earlier : List UnitDef) (remember : List Bool) (units : List UnitDef) (needed : List Bool) (machine : List InMachine) (s : CStruct) →
       Contains (parts_from structs earlier remember units needed machine).structs s → OfUnit s
-  parts_named earlier remember [] needed machine s at = absurd (none_has s at)
-  parts_named earlier remember (unit ∷ units) [] machine s at = absurd (none_has s at)
+  parts_named earlier remember [] needed machine s at = absurd (contains_none s at)
+  parts_named earlier remember (unit ∷ units) [] machine s at = absurd (contains_none s at)
   parts_named earlier remember (unit ∷ units) (test ∷ needed) machine s at =
       let active : Bool = is_activity unit.kind in
       let first : ProgramParts = own active earlier remember unit machine in
@@ -82,19 +74,11 @@ unit_other s rest (name, inr is) = ap (λ name. bytes_eq name (codes "bl_" ++ re
 
 -- ---- names of functions
 
-kept_has : {X : Type 0} (tests : List Bool) (xs : List X) (x : X) → Contains (kept_where tests xs) x → Contains xs x
-kept_has [] xs x at = absurd (none_has x at)
-kept_has (test ∷ tests) [] x at = absurd (none_has x at)
-kept_has (true ∷ tests) (y ∷ xs) x at =
-    ⊎_elim (λ is. subst (λ x. Contains (y ∷ xs) x) is (here y xs)) (λ later. further y xs x (kept_has tests xs x later))
-    (first_or y (kept_where tests xs) x at)
-kept_has (false ∷ tests) (y ∷ xs) x at = further y xs x (kept_has tests xs x at)
-
 each_has : {X : Type 0} (of : ℕ → UnitDef → X) (k : ℕ) (units : List UnitDef) (x : X) → Contains (each_from of k units) x →
     (n : ℕ) × (unit : UnitDef) × (of n unit ≡ x)
-each_has of k [] x at = absurd (none_has x at)
+each_has of k [] x at = absurd (contains_none x at)
 each_has of k (unit ∷ rest) x at =
-    ⊎_elim (λ is. (k, unit, is)) (λ later. each_has of (suc k) rest x later) (first_or (of k unit) (each_from of (suc k) rest) x at)
+    ⊎_elim (λ is. (k, unit, is)) (λ later. each_has of (suc k) rest x later) (first_or_further (of k unit) (each_from of (suc k) rest) x at)
 
 either_named : (b : Bool) (f g : CFunc) (x y : Text) → f.name ≡ unit_name x → g.name ≡ unit_name y →
     (name : Text) × ((if b then f else g).name ≡ unit_name name)

@@ -8,6 +8,7 @@ use Rattle.std.proofs.lemmas.Option.{same_Some}
 use Rattle.std.proofs.lemmas.Slice.Eq.{bytes_eq-Decides}
 use Rattle.std.specs.List.{list_any}
 use Rattle.std.specs.Prelude.{bytes_eq, option_and_then, option_map, slice_get, if◌then◌else◌}
+use Rattle.bl_tree.proofs.Basics.{contains_at, contains_first, contains_further, first_or_further}
 use Rattle.bl_tree.specs.declared.c.CStruct.{CStruct}
 use Rattle.bl_tree.specs.declared.text.Text.{Text}
 use Rattle.bl_tree.specs.declared.tree.Field.{Field}
@@ -23,7 +24,6 @@ use Rattle.bl_emit_acts.specs.Structs.{c_array, c_definition}
 use Rattle.bl_emit_acts.specs.Types.{type_name}
 use Rattle.bl_emit_acts_laws_simulation.specs.Encodes.{part_level, part_type, type_after}
 use Rattle.bl_emit_acts_laws_wellformed.proofs.OnFormed.Parts.{name_at}
-use Rattle.bl_emit_spec_laws.proofs.OnPlaced.Lists.{contains_at}
 use Rattle.bl_emit_spec_laws_files.specs.States.States.{TypeDeclared}
 use Rattle.bl_emit_structs.specs.Structs.{arrays_of, each_once, structs_for, structs_for_definition, structs_for_unit}
 use Rattle.bl_emit_structs.proofs.Steps.{array_is}
@@ -31,7 +31,9 @@ use Rattle.bl_emit_structs_laws_wellformed.specs.Names.{TypesApart}
 use Rattle.bl_emit_structs_laws_wellformed.specs.Formed.{NestsAtMost}
 use Rattle.bl_emit_structs_laws_wellformed.proofs.OnFormed.Levels.{nesting_at}
 use Rattle.bl_emit_structs_laws_wellformed.proofs.OnFormed.Types.{StructOf, all_are, struct_level}
-use Rattle.bl_emit_laws.proofs.OnKept.Lists.{each_few, first_or, further, here, index_few, into_joined, sum}
+use Rattle.bl_emit_laws.proofs.OnKept.Lists.{each_few, index_few, sum}
+use Rattle.bl_emit_structs_laws_wellformed.proofs.OnFormed.Whole.{once_has}
+use Rattle.bl_emit_spec_laws_wellformed_bodies.proofs.OnBodies.Lists.{joined-has}
 
 -- ---- each once
 
@@ -53,10 +55,10 @@ pub once_there : (taken : List Text) (xs : List CStruct) → Alike xs → (s : C
 once_there taken [] alike s at new = at
 once_there taken (x ∷ xs) alike s at new =
     by (has x.name taken) refl (λ behind. once_there taken xs rest s behind new)
-    (λ behind fresh. once_there (taken ++ x.name ∷ []) xs rest s behind fresh) (first_or x xs s at)
+    (λ behind fresh. once_there (taken ++ x.name ∷ []) xs rest s behind fresh) (first_or_further x xs s at)
   where
     rest : Alike xs
-    rest a b one two = alike a b (further x xs a one) (further x xs b two)
+    rest a b one two = alike a b (contains_further x xs a one) (contains_further x xs b two)
 
     by : (b : Bool) → has x.name taken ≡ b → (Contains xs s → Contains (each_once taken xs) s) →
         (Contains xs s → has s.name (taken ++ x.name ∷ []) ≡ false → Contains (each_once (taken ++ x.name ∷ []) xs) s) →
@@ -66,29 +68,17 @@ once_there taken (x ∷ xs) alike s at new =
         absurd (let both : true ≡ false = sym is ∙ (ap (λ (s : CStruct). has s.name taken) own ∙ new) in cc)
     by true is old new_one (inr behind) = old behind
     by false is old new_one (inl own) =
-        subst (λ s. Contains (x ∷ each_once (taken ++ x.name ∷ []) xs) s) own (here x (each_once (taken ++ x.name ∷ []) xs))
+        subst (λ s. Contains (x ∷ each_once (taken ++ x.name ∷ []) xs) s) own (contains_first x (each_once (taken ++ x.name ∷ []) xs))
     by false is old new_one (inr behind) = named (bytes_eq s.name x.name) refl
       where
         named : (b : Bool) → bytes_eq s.name x.name ≡ b → Contains (x ∷ each_once (taken ++ x.name ∷ []) xs) s
         named true same =
-            let own : x ≡ s = alike x s (here x xs) (further x xs s behind) (sym ((bytes_eq-Decides s.name x.name).0 same)) in
-            subst (λ s. Contains (x ∷ each_once (taken ++ x.name ∷ []) xs) s) own (here x (each_once (taken ++ x.name ∷ []) xs))
+            let own : x ≡ s = alike x s (contains_first x xs) (contains_further x xs s behind) (sym ((bytes_eq-Decides s.name x.name).0 same)) in
+            subst (λ s. Contains (x ∷ each_once (taken ++ x.name ∷ []) xs) s) own (contains_first x (each_once (taken ++ x.name ∷ []) xs))
         named false other =
-            further x (each_once (taken ++ x.name ∷ []) xs) s
+            contains_further x (each_once (taken ++ x.name ∷ []) xs) s
             (new_one behind
             (list_any-append (bytes_eq s.name) taken (x.name ∷ []) ∙ neither (has s.name taken) (bytes_eq s.name x.name) new other))
-
--- and none else stands there
-pub once_has : (taken : List Text) (xs : List CStruct) (s : CStruct) → Contains (each_once taken xs) s → Contains xs s
-once_has taken [] s there = there
-once_has taken (x ∷ xs) s there = by (has x.name taken) (once_has taken xs s) (once_has (taken ++ x.name ∷ []) xs s) there
-  where
-    by : (b : Bool) → (Contains (each_once taken xs) s → Contains xs s) → (Contains (each_once (taken ++ x.name ∷ []) xs) s → Contains xs s) →
-        Contains (if b then each_once taken xs else x ∷ each_once (taken ++ x.name ∷ []) xs) s → Contains (x ∷ xs) s
-    by true old new at = further x xs s (old at)
-    by false old new at =
-        ⊎_elim (λ is. subst (λ s. Contains (x ∷ xs) s) is (here x xs)) (λ behind. further x xs s (new behind))
-        (first_or x (each_once (taken ++ x.name ∷ []) xs) s at)
 
 -- ---- nesting
 
@@ -147,7 +137,7 @@ module _ (structs : List StructDef) (units : List UnitDef) where
       Contains all s
   of_definition k def there s at =
       Contains-append_left (joined (map (structs_for_definition structs) structs)) (joined (map (structs_for_unit structs) units)) s
-      (into_joined (structs_for_definition structs) structs def s (contains_at structs k def there) at)
+      (joined-has (structs_for_definition structs) structs def s (contains_at structs k def there) at)
 
   -- the structs of a type's arrays are there
   abbrev Inside : Ty → Type 0
@@ -156,14 +146,14 @@ module _ (structs : List StructDef) (units : List UnitDef) where
   variable_inside : (unit : UnitDef) (var : Var) → Contains units unit → Contains unit.vars var → Inside var.ty
   variable_inside unit var there of s at =
       Contains-append_right (joined (map (structs_for_definition structs) structs)) (joined (map (structs_for_unit structs) units)) s
-      (into_joined (structs_for_unit structs) units unit s there (into_joined (λ (var : Var). arrays_of structs var.ty) unit.vars var s of at))
+      (joined-has (structs_for_unit structs) units unit s there (joined-has (λ (var : Var). arrays_of structs var.ty) unit.vars var s of at))
 
   field_inside : (k : ℕ) (def : StructDef) (j : ℕ) (field : Field) → slice_get structs k ≡ Some def → slice_get def.fields j ≡ Some field →
       Inside field.ty
   field_inside k def j field there of s at =
       of_definition k def there s
       (Contains-append_left (joined (map (λ (field : Field). arrays_of structs field.ty) def.fields)) (c_definition structs def ∷ []) s
-      (into_joined (λ (field : Field). arrays_of structs field.ty) def.fields field s (contains_at def.fields j field of) at))
+      (joined-has (λ (field : Field). arrays_of structs field.ty) def.fields field s (contains_at def.fields j field of) at))
 
   part_inside : (ty : Ty) (layer : Ty-F Ty) → out-Ty ty ≡ layer → (k : ℕ) (part : Ty) → Inside ty → part_level structs k layer ≡ Some part →
       Inside part
@@ -206,13 +196,13 @@ module _ (structs : List StructDef) (units : List UnitDef) where
     layer_declared ty (Ty-F.Struct k) is inside = λ def at. declared (c_definition structs def)
         (of_definition k def at (c_definition structs def)
         (Contains-append_right (joined (map (λ (field : Field). arrays_of structs field.ty) def.fields)) (c_definition structs def ∷ [])
-        (c_definition structs def) (here (c_definition structs def) [])))
+        (c_definition structs def) (contains_first (c_definition structs def) [])))
     layer_declared ty (Ty-F.Array n element) is inside =
         declared (c_array structs n element)
         (inside (c_array structs n element)
         (subst (λ l. Contains l (c_array structs n element)) (sym (array_is structs ty n element is))
         (Contains-append_right (arrays_of structs element) (c_array structs n element ∷ []) (c_array structs n element)
-        (here (c_array structs n element) []))))
+        (contains_first (c_array structs n element) []))))
 
     pub type_declared : (unit : UnitDef) (var : Var) (ks : List ℕ) (ty : Ty) → Contains units unit → Contains unit.vars var →
         type_after structs ks (Some var.ty) ≡ Some ty → TypeDeclared structs there (out-Ty ty)

@@ -5,6 +5,7 @@ use Rattle.std.proofs.lemmas.List.{append-nil}
 use Rattle.std.proofs.lemmas.List.Elements.{Contains-append_left, Contains-append_right, filter-append}
 use Rattle.std.proofs.lemmas.Option.{same_Some}
 use Rattle.std.specs.Prelude.{filter, slice_get, unwrap_or, if◌then◌else◌}
+use Rattle.bl_tree.proofs.Basics.{drop_at, push_length, take_next}
 use Rattle.bl_tree.specs.declared.c.CStruct.{CStruct}
 use Rattle.bl_tree.specs.declared.tree.StructDef.{StructDef}
 use Rattle.bl_tree.specs.declared.tree.Unit.{Unit as UnitDef}
@@ -12,19 +13,11 @@ use Rattle.bl_tree.specs.Typing.{is_activity}
 use Rattle.bl_cause.specs.Activities.{graph_position}
 use Rattle.bl_machine.specs.declared.machine.Activity.{Activity as InMachine}
 use Rattle.bl_emit_spec.specs.Activities.{frame_struct, remembered_struct, remembers_any}
-use Rattle.bl_emit_spec.specs.Programs.{
-  ProgramParts,
-  activity_of,
-  parts_from,
-  parts_of_activity,
-  parts_of_function,
-  parts_of_next,
-  parts_then,
-  where_needed,
-}
+use Rattle.bl_emit_spec.specs.Programs.{ProgramParts, activity_of, parts_from, parts_of_activity, parts_of_function, parts_of_next, parts_then, where_needed}
 use Rattle.bl_emit_spec_laws.specs.Calls.Built.{Activities, AreBuilt, MadeOf}
 use Rattle.bl_emit_spec_laws.specs.Tables.Tables.{activities_of, no_part, no_unit, remembered_before}
-use Rattle.bl_emit_laws.proofs.OnKept.Lists.{drop_at, drop_next, drop_one, length_last, take_next}
+use Rattle.bl_emit_spec_laws.proofs.OnTables.Lists.{drop_next}
+use Rattle.bl_emit_spec_laws.proofs.OnTables.Kept.{drop_one}
 
 -- a needed unit's structs stand before those of others
 first_has : (test : Bool) (here rest : ProgramParts) (own : List CStruct) (s : CStruct) → test ≡ true → here.structs ≡ own → Contains own s →
@@ -89,7 +82,7 @@ module _ (structs : List StructDef) (units : List UnitDef) (machine : List InMac
           many_with b = length (filter tested (take k units) ++ cond b (unit ∷ []) [])
 
           finished : (active : Bool) → many_with active ≡ (if active then suc (graph_position units k) else graph_position units k)
-          finished true = length_last (filter tested (take k units)) unit
+          finished true = push_length (filter tested (take k units)) unit
           finished false = ap length (append-nil (filter tested (take k units)))
 
           counted : graph_position units (suc k) ≡ (if active then suc (graph_position units k) else graph_position units k)

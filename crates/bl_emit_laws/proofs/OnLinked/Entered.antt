@@ -1,15 +1,15 @@
 -- What the functions of the interface do where the file is entered.
-use Rattle.std.proofs.Common.{◌≡◌, ℕ, suc, pos, Bool, true, false, not, ◌&&◌, List, [], ◌∷◌, ◌++◌, map, take}
+use Rattle.std.proofs.Common.{◌≡◌, ℕ, suc, Bool, true, false, not, ◌&&◌, List, [], ◌∷◌, ◌++◌, map, take}
 use Rattle.std.proofs.Common.{Option, Some, None, refl, sym, ap, ◌∙◌, subst, codes}
 use Rattle.std.proofs.lemmas.List.Elements.{All-cons, All-nil}
 use Rattle.std.proofs.lemmas.Option.{same_Some}
 use Rattle.std.specs.List.{list_all}
 use Rattle.std.specs.Prelude.{All, bytes_eq, is_none, is_some, slice_get, if◌then◌else◌}
+use Rattle.std.proofs.lemmas.Bool.{and_from}
+use Rattle.bl_tree.proofs.Basics.{and_first, and_second}
 use Rattle.bl_tree.specs.declared.c.CArg.{CArg}
 use Rattle.bl_tree.specs.declared.c.CArg.TheVariants.{Address, Value}
 use Rattle.bl_tree.specs.declared.c.CFunc.{CFunc}
-use Rattle.bl_tree.specs.declared.scalar.Scalar.TheVariants.{Nat}
-use Rattle.bl_tree.specs.declared.scalar.Width.TheVariants.{W32}
 use Rattle.bl_tree.specs.declared.text.Text.{Text}
 use Rattle.bl_tree.specs.declared.tree.StructDef.{StructDef}
 use Rattle.bl_tree.specs.declared.tree.Unit.{Unit as UnitDef}
@@ -18,7 +18,6 @@ use Rattle.bl_tree.specs.Program.{is_entry, parameters_of}
 use Rattle.bl_tree.specs.Reduce.{joined}
 use Rattle.bl_tree.specs.Types.{scalar_in}
 use Rattle.bl_tree.specs.Typing.{inputs_of, is_activity, outputs_of}
-use Rattle.bl_eval.proofs.PassLemmas.{and_left, and_right, both}
 use Rattle.bl_ctext_semantics.specs.Calls.{calls_in, calls_in_arg, calls_in_block, calls_in_place, calls_in_stmt}
 use Rattle.bl_ctext_semantics.specs.Meaning.{ArgumentValue, Meaning, applied, function_c, meanings_after}
 use Rattle.bl_ctext_semantics.specs.Memory.{Memory}
@@ -27,12 +26,12 @@ use Rattle.bl_ctext_semantics.specs.Tables.{Table, found, no_entries, with_entry
 use Rattle.bl_ctext_semantics.specs.Trace.{call_from_outside}
 use Rattle.bl_ctext_semantics_laws_calls.specs.Known.{AreAlike, CallsDecide}
 use Rattle.bl_emit_acts.specs.Acts.{c_calling}
-use Rattle.bl_emit_acts.specs.Trees.{c_call, c_literal, c_place, c_read, c_step}
+use Rattle.bl_emit_acts.specs.Trees.{c_call, c_place, c_read, c_step}
 use Rattle.bl_emit_acts.specs.Types.{unit_name}
 use Rattle.bl_emit_functions.specs.Functions.{function_code}
 use Rattle.bl_emit_functions.specs.Trees.{c_if}
-use Rattle.bl_emit_functions_laws_wellformed.proofs.OnFiles.Shapes.{address-calls, call-calls, calling-calls, if-calls, literal-calls, place-calls, read-calls}
-use Rattle.bl_emit_functions_laws_wellformed.proofs.OnFiles.Shapes.{return-calls, step-calls, value-calls}
+use Rattle.bl_emit_functions_laws_wellformed.proofs.OnFiles.Shapes.{address-calls, call-calls, calling-calls, if-calls, place-calls, read-calls}
+use Rattle.bl_emit_functions_laws_wellformed.proofs.OnFiles.Shapes.{step-calls, value-calls}
 use Rattle.bl_emit_functions_laws_simulation.specs.Units.{known_after}
 use Rattle.bl_emit_spec.specs.Activities.{activity_function, remembers_any}
 use Rattle.bl_emit_spec.specs.Blocks.{unit_may_end, stmt_where, arg_where}
@@ -42,6 +41,7 @@ use Rattle.bl_emit_laws.specs.Linked.{FilesEnter, table_of_needed}
 use Rattle.bl_emit_laws.proofs.OnLinked.Spared.{other_entry}
 use Rattle.bl_emit_spec_laws.specs.Tables.Laws.{WrittenAs, WrittenIsKept}
 use Rattle.bl_emit_spec_laws.specs.Tables.Tables.{activities_of, each_from, functions_of_all, kept_where, unit_function}
+use Rattle.bl_emit_laws.proofs.OnCells.Interface.{returned_silent}
 
 -- ---- what a tick calls
 
@@ -86,9 +86,6 @@ args_quiet unit remembers =
     (quiet_map output_arg (outputs_of unit) _ (λ var. address_quiet (codes "o") (codes "o_" ++ var.name))
     (end_quiet (unit_may_end unit)))))
 
-returned_quiet : (n : ℕ) → calls_in_stmt (c_returned n) ≡ []
-returned_quiet n = return-calls (Some (c_literal (Nat W32) (pos n))) ∙ literal-calls (Nat W32) (pos n)
-
 -- it calls the function of the entry alone
 tick_calls : (unit : UnitDef) (remembers : Bool) → calls_in_block (tick_function unit remembers).body ≡ unit_name unit.name ∷ []
 tick_calls unit remembers = λ i. called i ++ answered (unit_may_end unit) i
@@ -104,12 +101,12 @@ tick_calls unit remembers = λ i. called i ++ answered (unit_may_end unit) i
     tested : calls_in_stmt (c_if (c_read (c_place false (codes "e") [])) (c_returned 1 ∷ []) None) ≡ []
     tested =
         if-calls (c_read (c_place false (codes "e") [])) (c_returned 1 ∷ []) None
-        ∙ (λ i. (over i ++ (returned_quiet 1 i ++ [])) ++ [])
+        ∙ (λ i. (over i ++ (returned_silent 1 i ++ [])) ++ [])
 
     answered : (ends : Bool) →
         calls_in_block (stmt_where ends (c_if (c_read (c_place false (codes "e") [])) (c_returned 1 ∷ []) None) ++ c_returned 0 ∷ []) ≡ []
-    answered true = λ i. tested i ++ (returned_quiet 0 i ++ [])
-    answered false = λ i. returned_quiet 0 i ++ []
+    answered true = λ i. tested i ++ (returned_silent 0 i ++ [])
+    answered false = λ i. returned_silent 0 i ++ []
 
 -- ---- what is found in a file
 
@@ -122,9 +119,9 @@ found_behind : (known : Table Meaning) (first rest : List CFunc) (name : Text) �
 found_behind known [] rest name other = refl
 found_behind known (f ∷ first) rest name other =
     ap (λ b. if b then Some (function_c known f) else found name (meanings_after (with_entry known f.name (function_c known f)) (first ++ rest)))
-    (differs (bytes_eq f.name name) (and_left (not (bytes_eq f.name name)) (others name first) other))
+    (differs (bytes_eq f.name name) (and_first (not (bytes_eq f.name name)) (others name first) other))
     ∙ found_behind (with_entry known f.name (function_c known f)) first rest name
-    (and_right (not (bytes_eq f.name name)) (others name first) other)
+    (and_second (not (bytes_eq f.name name)) (others name first) other)
   where
     differs : (b : Bool) → not b ≡ true → b ≡ false
     differs true h = absurd (cc)
@@ -139,7 +136,7 @@ module _ (structs : List StructDef) (units : List UnitDef) (activities : Activit
   others_kept name differs [] k xs = refl
   others_kept name differs (test ∷ tests) k [] = refl
   others_kept name differs (true ∷ tests) k (unit ∷ xs) =
-      both (not (bytes_eq (code k unit).name name)) (others name (kept_where tests (each_from code (suc k) xs))) (differs k unit)
+      and_from (not (bytes_eq (code k unit).name name)) (others name (kept_where tests (each_from code (suc k) xs))) (differs k unit)
       (others_kept name differs tests (suc k) xs)
   others_kept name differs (false ∷ tests) k (unit ∷ xs) = others_kept name differs tests (suc k) xs
 
@@ -215,7 +212,7 @@ active_entry : (o : Option UnitDef) (unit : UnitDef) → o ≡ Some unit → is_
 active_entry None unit is stands = absurd (cc)
 active_entry (Some other) unit is stands =
     ap (λ (it : UnitDef). is_activity it.kind) (sym (same_Some other unit is))
-    ∙ and_left (is_activity other.kind) (is_none other.result && list_all (λ (var : Var). is_some (scalar_in var.ty)) (parameters_of other)) stands
+    ∙ and_first (is_activity other.kind) (is_none other.result && list_all (λ (var : Var). is_some (scalar_in var.ty)) (parameters_of other)) stands
 
 pub all_enter : CallsDecide → WrittenIsKept → FilesEnter
 all_enter decide written program machine unit file is = record {

@@ -4,6 +4,7 @@ use Rattle.std.proofs.Common.{Option, Some, None, refl, sym, ap, ◌∙◌, subs
 use Rattle.std.proofs.lemmas.List.Folds.{list_all-append}
 use Rattle.std.specs.List.{list_all}
 use Rattle.std.specs.Prelude.{All, slice_get, unwrap_or, if◌then◌else◌}
+use Rattle.bl_tree.proofs.Basics.{and_second}
 use Rattle.bl_tree.specs.declared.c.CFunc.{CFunc}
 use Rattle.bl_tree.specs.declared.scalar.Scalar.{Scalar as ScalarType}
 use Rattle.bl_tree.specs.declared.text.Text.{Text}
@@ -12,7 +13,6 @@ use Rattle.bl_tree.specs.declared.tree.Unit.{Unit as UnitDef}
 use Rattle.bl_tree.specs.Program.{IsWellTyped}
 use Rattle.bl_tree.specs.Typing.{is_activity, site_of}
 use Rattle.bl_tree.specs.Words.{are_distinct, is_name}
-use Rattle.bl_eval.proofs.PassLemmas.{and_right}
 use Rattle.bl_machine.specs.declared.machine.Activity.{Activity as InMachine}
 use Rattle.bl_limits_measures.specs.Calls.{calls_of}
 use Rattle.bl_limits_measures.specs.Runs.{activities_run}
@@ -33,9 +33,10 @@ use Rattle.bl_emit_spec_laws_wellformed.specs.Chains.{ActivitiesCallFew, NoneAbo
 use Rattle.bl_emit_spec_laws_wellformed.specs.Closed.{NeededClosed}
 use Rattle.bl_emit_laws.specs.Linked.{NeededAreKnown, table_of_needed}
 use Rattle.bl_emit_laws.proofs.OnLinked.Spared.{Sparing, spared}
-use Rattle.bl_emit_laws.proofs.OnLinked.Units.{all_none, counted, drop_next, drop_none, names, needed_other, none_tested, on, prelude_other}
+use Rattle.bl_emit_laws.proofs.OnLinked.Units.{all_none, counted, drop_none, names, needed_other, none_tested, on, prelude_other}
 use Rattle.bl_emit_laws.proofs.OnLinked.Units.{unnamed_other, unneeded, unneeded_is}
 use Rattle.bl_emit_spec_laws.specs.Tables.Tables.{each_from, functions_of_all, table_of_all, unit_function}
+use Rattle.bl_emit_spec_laws.proofs.OnTables.Lists.{drop_next}
 
 module _ (structs : List StructDef) (units : List UnitDef) (entry : ℕ) (decide : CallsDecide) (few : ActivitiesCallFew)
     (closed : NeededClosed structs units entry) (machine : List InMachine) (activities : Activities) (keeps : IsWellTyped structs units entry)
@@ -58,7 +59,7 @@ module _ (structs : List StructDef) (units : List UnitDef) (entry : ℕ) (decide
 
   named : list_all is_name (names units) ≡ true
   named =
-      and_right (list_all is_name (map (λ (def : StructDef). def.name) structs)) (list_all is_name (names units))
+      and_second (list_all is_name (map (λ (def : StructDef). def.name) structs)) (list_all is_name (names units))
       (sym (list_all-append is_name (map (λ (def : StructDef). def.name) structs) (names units)) ∙ keeps.named)
 
   prelude : (word : Text) (s : ScalarType) → weight (function_name word s) ≡ 0

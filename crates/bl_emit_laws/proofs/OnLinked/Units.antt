@@ -6,12 +6,12 @@ use Rattle.std.proofs.lemmas.Option.{same_Some}
 use Rattle.std.proofs.lemmas.Slice.Eq.{bytes_eq-Decides}
 use Rattle.std.specs.List.{list_all, list_any}
 use Rattle.std.specs.Prelude.{All, bytes_eq, slice_get, unwrap_or, if◌then◌else◌}
+use Rattle.bl_tree.proofs.Basics.{and_first, and_second}
 use Rattle.bl_tree.specs.declared.scalar.Scalar.{Scalar as ScalarType}
 use Rattle.bl_tree.specs.declared.text.Text.{Text}
 use Rattle.bl_tree.specs.declared.tree.Unit.{Unit as UnitDef}
 use Rattle.bl_tree.specs.Reduce.{greatest}
 use Rattle.bl_tree.specs.Words.{are_distinct, is_among, is_name}
-use Rattle.bl_eval.proofs.PassLemmas.{and_left, and_right}
 use Rattle.bl_emit_acts.specs.Expressions.{function_name}
 use Rattle.bl_emit_acts.specs.Types.{unit_name}
 
@@ -67,9 +67,9 @@ named_at : (units : List UnitDef) (k : ℕ) (unit : UnitDef) → list_all is_nam
 named_at [] zero unit all there = absurd (cc)
 named_at [] (suc k) unit all there = absurd (cc)
 named_at (first ∷ units) zero unit all there =
-    ap (λ (unit : UnitDef). is_name unit.name) (sym (same_Some first unit there)) ∙ and_left (is_name first.name) (list_all is_name (names units)) all
+    ap (λ (unit : UnitDef). is_name unit.name) (sym (same_Some first unit there)) ∙ and_first (is_name first.name) (list_all is_name (names units)) all
 named_at (first ∷ units) (suc k) unit all there =
-    named_at units k unit (and_right (is_name first.name) (list_all is_name (names units)) all) there
+    named_at units k unit (and_second (is_name first.name) (list_all is_name (names units)) all) there
 
 pub unnamed_other : (tests : List Bool) (units : List UnitDef) → list_all is_name (names units) ≡ true → unneeded tests units (unit_name []) ≡ false
 unnamed_other tests units all =
@@ -107,16 +107,16 @@ needed_other (false ∷ tests) (first ∷ units) zero unit distinct there is = a
 needed_other (true ∷ tests) (first ∷ units) zero unit distinct there is =
     subst (λ (unit : UnitDef). unneeded tests units (unit_name unit.name) ≡ false) (same_Some first unit there)
     (none_other first.name tests units
-    (among_named first.name units (and_left (not (is_among first.name (names units))) (are_distinct (names units)) distinct)))
+    (among_named first.name units (and_first (not (is_among first.name (names units))) (are_distinct (names units)) distinct)))
 needed_other (true ∷ tests) (first ∷ units) (suc k) unit distinct there is =
-    needed_other tests units k unit (and_right (not (is_among first.name (names units))) (are_distinct (names units)) distinct) there is
+    needed_other tests units k unit (and_second (not (is_among first.name (names units))) (are_distinct (names units)) distinct) there is
 needed_other (false ∷ tests) (first ∷ units) (suc k) unit distinct there is =
     ap (λ b. b || unneeded tests units (unit_name unit.name)) (by (bytes_eq first.name unit.name) refl)
-    ∙ needed_other tests units k unit (and_right (not (is_among first.name (names units))) (are_distinct (names units)) distinct) there is
+    ∙ needed_other tests units k unit (and_second (not (is_among first.name (names units))) (are_distinct (names units)) distinct) there is
   where
     by : (b : Bool) → bytes_eq first.name unit.name ≡ b → b ≡ false
     by true eq =
-        absurd (among_named first.name units (and_left (not (is_among first.name (names units))) (are_distinct (names units)) distinct) k unit there
+        absurd (among_named first.name units (and_first (not (is_among first.name (names units))) (are_distinct (names units)) distinct) k unit there
         (sym ((bytes_eq-Decides first.name unit.name).0 eq)))
     by false eq = refl
 
@@ -177,19 +177,6 @@ all_none number (x ∷ xs) none =
     later false b is = is
 
 -- ---- lists
-
-pub drop_next : {A : Type 0} (xs : List A) (k : ℕ) (x : A) (rest : List A) → drop k xs ≡ x ∷ rest
-    → (slice_get xs k ≡ Some x) × (drop (suc k) xs ≡ rest)
-drop_next [] zero x rest is = absurd (cc)
-drop_next [] (suc k) x rest is = absurd (cc)
-drop_next (y ∷ xs) zero x rest is = (first is, behind is)
-  where
-    first : y ∷ xs ≡ x ∷ rest → Some y ≡ Some x
-    first is = cc
-
-    behind : y ∷ xs ≡ x ∷ rest → xs ≡ rest
-    behind is = cc
-drop_next (y ∷ xs) (suc k) x rest is = drop_next xs k x rest is
 
 pub drop_none : {A : Type 0} (xs : List A) (k : ℕ) → drop k xs ≡ [] → (slice_get xs k ≡ None) × (drop (suc k) xs ≡ [])
 drop_none [] zero is = (refl, refl)

@@ -1,26 +1,5 @@
 -- How many members of a frame are counters.
-use Rattle.std.proofs.Common.{
-  ◌≡◌,
-  ℕ,
-  zero,
-  suc,
-  ◌+◌,
-  ◌%◌,
-  ◌<◌,
-  ◌≤◌,
-  ◌^◌,
-  max,
-  Bool,
-  true,
-  false,
-  ◌&&◌,
-  cond,
-  List,
-  [],
-  ◌∷◌,
-  ◌++◌,
-  Contains,
-}
+use Rattle.std.proofs.Common.{◌≡◌, ℕ, zero, suc, ◌+◌, ◌%◌, ◌<◌, ◌≤◌, ◌^◌, max, Bool, true, false, ◌&&◌, cond, List, [], ◌∷◌, ◌++◌, Contains}
 use Rattle.std.proofs.Common.{map, length, refl, ap, ◌∙◌, arith}
 use Rattle.std.proofs.lemmas.Bool.Decides.{nat_tests}
 use Rattle.std.proofs.lemmas.Fmt.{decimal_by_steps}
@@ -30,21 +9,23 @@ use Rattle.std.specs.Char.{is_ascii_digit}
 use Rattle.std.specs.Fmt.{decimal}
 use Rattle.std.specs.List.{list_all}
 use Rattle.std.specs.Prelude.{All, filter}
+use Rattle.bl_tree.proofs.Basics.{last_digit, map_push}
 use Rattle.bl_tree.specs.declared.c.CMember.{CMember}
 use Rattle.bl_tree.specs.Reduce.{greatest}
 use Rattle.bl_machine.specs.declared.slots.Slot.{Slot}
 use Rattle.bl_machine.specs.Blocks.{up_to}
-use Rattle.bl_machine.specs.Slots.{counters_at, numbered_after, numbered_slots, times}
+use Rattle.bl_machine.specs.Slots.{counters_at, numbered_slots, times}
 use Rattle.bl_machine_pass.specs.Numbered.{sizes_for, sizes_of}
 use Rattle.bl_emit_spec.specs.Activities.{Activity, counter_member, frame_member, frame_struct, runs_in_body, word_of_run}
 use Rattle.bl_emit_spec.specs.Names.{NumberedWord, callee_name, counter_name}
 use Rattle.bl_emit_laws.specs.Counters.Own.{is_digit_run, is_counter_name}
 use Rattle.bl_emit_laws.specs.Width.{is_counter}
+use Rattle.bl_emit_spec_laws.proofs.OnOwn.Counting.{many_up_to}
+use Rattle.bl_machine.proofs.SlotLemmas.{counters_after}
+use Rattle.bl_emit_spec_laws_wellformed.proofs.OnMachines.Counters.{map_length}
+use Rattle.bl_emit_laws.proofs.OnCounters.Flags.{digit_so}
 
 -- ---- names
-
-digit_so : (n : ℕ) → n < 10 → is_ascii_digit (48 + n) ≡ true
-digit_so n small = grind (arith, nat_tests)
 
 all_push : (xs : List ℕ) (b : ℕ) → list_all is_ascii_digit xs ≡ true → is_ascii_digit b ≡ true → list_all is_ascii_digit (xs ++ b ∷ []) ≡ true
 all_push [] b all one = rw one refl
@@ -62,9 +43,6 @@ digits_push (x ∷ xs) b all one = all_push (x ∷ xs) b all one
 one_digit : (b : ℕ) → is_ascii_digit b ≡ true → is_digit_run (b ∷ []) ≡ true
 one_digit b one = rw one refl
 
-last_digit : (m : ℕ) → m % 10 < 10
-last_digit m = omega arith
-
 decimal_digits : (n : ℕ) → n < 2 ^ 64 → is_digit_run (decimal n) ≡ true
 decimal_digits n small =
     decimal_by_steps (λ (m : ℕ) (digits : List ℕ). is_digit_run digits ≡ true)
@@ -79,10 +57,6 @@ callee_named : (k : NumberedWord) → is_counter_name (callee_name k) ≡ false
 callee_named k = refl
 
 -- ---- members
-
-map_push : {X Y : Type 0} (f : X → Y) (xs : List X) (x : X) → map f (xs ++ x ∷ []) ≡ map f xs ++ f x ∷ []
-map_push f [] x = refl
-map_push f (y ∷ xs) x = ap (λ rest. f y ∷ rest) (map_push f xs x)
 
 -- numbers each of which passes are as many as they are
 all_pass : {Y : Type 0} (p : Y → Bool) (f : ℕ → Y) (n : ℕ) → ((k : ℕ) → k < n → p (f k) ≡ true) → length (filter p (map f (up_to n))) ≡ n
@@ -116,14 +90,6 @@ frame_counts a small =
 
 -- ---- counters
 
-up_length : (n : ℕ) → length (up_to n) ≡ n
-up_length zero = refl
-up_length (suc n) = length_push (up_to n) n ∙ (let rest = up_length n in omega (arith, rest))
-
-map_length : (f : ℕ → ℕ) (xs : List ℕ) → length (map f xs) ≡ length xs
-map_length f [] = refl
-map_length f (x ∷ xs) = ap suc (map_length f xs)
-
 none_has : (x : ℕ) → Contains [] x → ⊥
 none_has x has = let less = has.1 in omega arith
 
@@ -156,18 +122,14 @@ sizes_exact (c ∷ counters) zero below each =
     let first : c < 0 = All-head (λ counter. counter < 0) c counters below in absurd (omega (arith, first))
 sizes_exact (c ∷ counters) (suc n) below each =
     let many : length (sizes_for (c ∷ counters)) ≡ suc (greatest (c ∷ counters)) =
-    map_length (λ j. times j (c ∷ counters)) (up_to (suc (greatest (c ∷ counters)))) ∙ up_length (suc (greatest (c ∷ counters))) in
+    map_length (λ j. times j (c ∷ counters)) (up_to (suc (greatest (c ∷ counters)))) ∙ many_up_to (suc (greatest (c ∷ counters))) in
     many ∙ same (greatest (c ∷ counters)) n (greatest_below (suc n) (c ∷ counters) (omega arith) below)
     (at_most (c ∷ counters) n (each n (omega arith)))
   where
     same : (m n : ℕ) → m < suc n → n ≤ m → suc m ≡ suc n
     same m n one two = omega (arith, one, two)
 
-of_numbered : (before counters : List ℕ) → counters_at (numbered_after before counters) ≡ counters
-of_numbered before [] = refl
-of_numbered before (c ∷ counters) = ap (λ rest. c ∷ rest) (of_numbered (before ++ c ∷ []) counters)
-
 pub sizes_wide : (slots : List Slot) (counters : List ℕ) (n : ℕ) → slots ≡ numbered_slots counters → All (λ counter. counter < n) counters →
     ((counter : ℕ) → counter < n → Contains counters counter) → length (sizes_of slots) ≡ n
 sizes_wide slots counters n is below each =
-    ap (λ all. length (sizes_for all)) (ap counters_at is ∙ of_numbered [] counters) ∙ sizes_exact counters n below each
+    ap (λ all. length (sizes_for all)) (ap counters_at is ∙ counters_after [] counters) ∙ sizes_exact counters n below each

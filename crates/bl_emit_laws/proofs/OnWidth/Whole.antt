@@ -1,11 +1,11 @@
 -- The frame of each activity has as many counters as its width.
-use Rattle.std.proofs.Common.{◌≡◌, ℕ, ◌<◌, ◌^◌, true, List, Option, Some, None, length, refl, sym, ap, subst, ◌∙◌}
+use Rattle.std.proofs.Common.{◌≡◌, ℕ, ◌<◌, ◌^◌, true, List, Some, length, sym, ap, subst, ◌∙◌}
 use Rattle.std.proofs.lemmas.Bool.{lt-ltb}
 use Rattle.std.specs.Prelude.{slice_get}
+use Rattle.bl_tree.proofs.Basics.{same_some}
 use Rattle.bl_tree.specs.declared.program.Program.{Program}
 use Rattle.bl_tree.specs.declared.tree.Stmt.{Stmt}
 use Rattle.bl_tree.specs.declared.tree.Unit.{Unit as UnitDef}
-use Rattle.bl_tree.specs.Program.{is_entry}
 use Rattle.bl_tree.specs.Typing.{is_activity}
 use Rattle.bl_effects.specs.Surface.{width}
 use Rattle.bl_graph_nodes.specs.Plain.{plain_body}
@@ -19,17 +19,13 @@ use Rattle.bl_machine.specs.Machines.{IsActivityOf}
 use Rattle.bl_machine_laws.specs.Numbers.Width.{TakesItsWidth}
 use Rattle.bl_emit_spec.specs.Activities.{frame_struct}
 use Rattle.bl_emit_spec.specs.Names.{frame_name}
-use Rattle.bl_emit_spec_laws_simulation.proofs.OnRuns.Running.{unit_there}
 use Rattle.bl_emit_spec_laws.specs.Calls.Built.{Activities, MadeOf, unit_number}
 use Rattle.bl_emit_spec_laws.specs.Calls.Laws.{CompilationContext}
-use Rattle.bl_emit_spec_laws.proofs.OnOwn.Members.{some_is}
 use Rattle.bl_emit_laws.specs.Kept.{FramesAreDeclared, activities_in, written_file}
 use Rattle.bl_emit_laws.specs.Width.{FrameHasWidth, FramesHaveWidth}
 use Rattle.bl_emit_laws.proofs.OnWidth.Counting.{frame_counts, sizes_wide}
-
-entry_there : (o : Option UnitDef) → is_entry o ≡ true → (unit : UnitDef) × (o ≡ Some unit)
-entry_there None is = absurd (cc)
-entry_there (Some unit) is = (unit, refl)
+use Rattle.bl_emit_spec_laws_wellformed.proofs.OnClosed.Closed.{entry_there}
+use Rattle.bl_emit_spec_laws.proofs.OnActivities.Nested.{unit_there}
 
 module _ (program : Program) (orderly : AcceptedIsOrderly) (wide : (body : List Stmt) → TakesItsWidth body) (declares : FramesAreDeclared program)
     (machine : List InMachine) (i : ℕ) (unit : UnitDef)
@@ -58,7 +54,7 @@ module _ (program : Program) (orderly : AcceptedIsOrderly) (wide : (body : List 
     own =
         let among = filtered_at (λ (it : UnitDef). is_activity it.kind) program.units k unit there active in
         let found = each_at IsActivityOf (activities_among program.units) machine (graph_position program.units k) unit compiled.agrees among in
-        subst (IsActivityOf unit) (some_is found.0 made.one (sym found.1 ∙ made.is)) found.2
+        subst (IsActivityOf unit) (same_some found.0 made.one (sym found.1 ∙ made.is)) found.2
 
     many : length (activities k).sizes ≡ width unit.body
     many =

@@ -7,14 +7,14 @@ use Rattle.bl_ctext_semantics.specs.Memory.{Memory}
 
 -- ---- outcomes
 
-following_on : (n : ℕ) (end : End) (memory : Memory) (rest : Memory → Outcome Memory) → end ≡ goes_on →
+pub following_on : (n : ℕ) (end : End) (memory : Memory) (rest : Memory → Outcome Memory) → end ≡ goes_on →
     (following_end n memory end rest).end ≡ (rest memory).end
 following_on n goes_on memory rest is = refl
 following_on n breaks memory rest is = absurd (cc)
 following_on n (returns result) memory rest is = absurd (cc)
 following_on n traps memory rest is = absurd (cc)
 
-following_memory : (n : ℕ) (end : End) (memory : Memory) (rest : Memory → Outcome Memory) → end ≡ goes_on →
+pub following_memory : (n : ℕ) (end : End) (memory : Memory) (rest : Memory → Outcome Memory) → end ≡ goes_on →
     (following_end n memory end rest).memory ≡ (rest memory).memory
 following_memory n goes_on memory rest is = refl
 following_memory n breaks memory rest is = absurd (cc)

@@ -3,6 +3,7 @@ use Rattle.std.proofs.Common.{◌≡◌, ℕ, zero, suc, ◌<◌, Bool, true, fa
 use Rattle.std.proofs.lemmas.Bool.{eq-eqb, eqb-true}
 use Rattle.std.proofs.lemmas.Option.{same_Some}
 use Rattle.std.specs.Prelude.{◌==◌, slice_get}
+use Rattle.bl_tree.proofs.Basics.{true_not_false}
 use Rattle.bl_tree.specs.declared.tree.StructDef.{StructDef}
 use Rattle.bl_tree.specs.declared.tree.Unit.{Unit as UnitDef}
 use Rattle.bl_tree.specs.Typing.{is_activity}
@@ -19,9 +20,6 @@ use Rattle.bl_emit_spec_laws.specs.Calls.Calls.{ActivitySimulates}
 use Rattle.bl_emit_spec_laws.specs.Calls.Laws.{ActivityKnown, AllKnownUpTo, CompilationContext, FunctionsBegin, PassesSimulate}
 use Rattle.bl_emit_spec_laws.specs.Activities.{AllActivitiesSimulate, CalleesRemember, CallsSimulate, PointersAreGiven, ViewsFit}
 use Rattle.bl_emit_spec_laws.proofs.OnActivities.Nested.{unit_there}
-
-no_such : true ≡ false → ⊥
-no_such h = cc
 
 -- ---- tables
 
@@ -89,7 +87,7 @@ module _ (orderly : AcceptedIsOrderly) (calls : CallsSimulate) (structs : List S
       by_kind earlier unit there false kind =
           no_instance u known depth (λ i other is_number is_there.
           (let same = same_Some other unit (sym (at_position i u other is_number is_there) ∙ there) in
-          no_such (sym (active i other is_there) ∙ ap (λ (x : UnitDef). is_activity x.kind) same ∙ kind)))
+          true_not_false (sym (active i other is_there) ∙ ap (λ (x : UnitDef). is_activity x.kind) same ∙ kind)))
       by_kind earlier unit there true kind =
           let one = activity_known structs units activities k u known within all unit there kind in
           let below = one.0 in

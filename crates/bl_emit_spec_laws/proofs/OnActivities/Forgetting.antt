@@ -24,9 +24,6 @@ use Rattle.bl_emit_spec_laws.specs.Calls.Memories as memories
 use Rattle.bl_emit_spec_laws.specs.Calls.Memories.{Nests}
 use Rattle.bl_emit_spec_laws.specs.Activities.{CalleesRemember}
 
-no_such : true ≡ false → ⊥
-no_such h = cc
-
 one_more : (b : Bool) (structs : List StructDef) (all : List Var) (k : ℕ) (var : Var) → b ≡ true → 0 < length (member_of b structs all k var)
 one_more true structs all k var is = omega arith
 one_more false structs all k var is = absurd (cc)

@@ -1,9 +1,9 @@
 -- What memory holds of an instance where its function has run, and of all that it calls.
-use Rattle.std.proofs.Common.{◌≡◌, ℕ, pos, ◌<◌, ◌≤◌, Bool, true, false, List, []}
-use Rattle.std.proofs.Common.{◌∷◌, ◌++◌, length, nat_lt, nat_eq, Option, Some, None}
+use Rattle.std.proofs.Common.{◌≡◌, ℕ, pos, ◌<◌, ◌≤◌, Bool, true, List, []}
+use Rattle.std.proofs.Common.{◌∷◌, ◌++◌, length, Option, Some, None}
 use Rattle.std.proofs.Common.{refl, sym, ap, ◌∙◌, subst, arith}
-use Rattle.std.proofs.lemmas.Bool.{eq-eqb, eqb-true, lt-ltb}
 use Rattle.std.specs.Prelude.{Contains, if◌then◌else◌, option_and_then, option_map, slice_get, unwrap_or}
+use Rattle.bl_tree.proofs.Basics.{less_test, numbers_differ}
 use Rattle.bl_tree.specs.declared.tree.StructDef.{StructDef}
 use Rattle.bl_tree.specs.declared.tree.Unit.{Unit as UnitDef}
 use Rattle.bl_tree.specs.declared.tree.Var.{Var}
@@ -35,16 +35,11 @@ use Rattle.bl_emit_spec_laws.specs.Calls.Memories.{MemoryEncodes, Nests, inner}
 use Rattle.bl_emit_spec_laws.specs.Calls.Invariant.{FunctionContext, PassRepresents}
 use Rattle.bl_emit_spec_laws.specs.Activities.{CalleesRemember}
 use Rattle.bl_emit_spec_laws.proofs.OnActivities.Forgetting.{holder_remembers, inner_remembers}
-
-no_such : true ≡ false → ⊥
-no_such h = cc
-
-less_true : (k n : ℕ) → k < n → nat_lt k n ≡ true
-less_true k n less = lt-ltb k n less
+use Rattle.bl_machine_pass_laws_execution.proofs.OnFrames.{at_itself}
 
 -- ---- units of instances
 
-unit_by : (w : Setting) (o : Option Instance) (unit : UnitDef) → option_and_then (unit_of w) o ≡ Some unit →
+pub unit_by : (w : Setting) (o : Option Instance) (unit : UnitDef) → option_and_then (unit_of w) o ≡ Some unit →
     slice_get w.units (unwrap_or (option_map (λ (instance : Instance). instance.unit) o) 0) ≡ Some unit
 unit_by w None unit is = absurd (cc)
 unit_by w (Some instance) unit is = is
@@ -55,19 +50,9 @@ unit_there w i unit is = unit_by w (slice_get w.instances i) unit is
 
 -- ---- frames
 
-unequal : (k n : ℕ) → (k ≡ n → ⊥) → nat_eq k n ≡ false
-unequal k n apart = by (nat_eq k n) refl
-  where
-    by : (b : Bool) → nat_eq k n ≡ b → b ≡ false
-    by true is = absurd (apart (eqb-true k n is))
-    by false is = refl
-
 -- another frame of an instance leaves those of others
 pub with_other : (k i : ℕ) (counters : ℕ → ℕ) (frames : Frames) (j : ℕ) → (k ≡ i → ⊥) → with_at i counters frames k j ≡ frames k j
-with_other k i counters frames j apart = ap (λ (b : Bool). (if b then counters else frames k) j) (unequal k i apart)
-
-pub with_own : (i : ℕ) (counters : ℕ → ℕ) (frames : Frames) (j : ℕ) → with_at i counters frames i j ≡ counters j
-with_own i counters frames j = ap (λ (b : Bool). (if b then counters else frames i) j) (eq-eqb i i refl)
+with_other k i counters frames j apart = ap (λ (b : Bool). (if b then counters else frames k) j) (numbers_differ k i apart)
 
 -- ---- nested places
 
@@ -148,8 +133,8 @@ module _ (structs : List StructDef) (units : List UnitDef) (entry : ℕ) (machin
         scalar_number (value_at after (further f' (member (counter_name c) ∷ []))) ≡ pos (with_at i r.counters frames k c)
     counters_held memories.here c less =
         kept (frame_at scope).root (((frame_at scope).parts ++ member (counter_name c) ∷ []) ++ []) function.places.frame.frame_older
-        ∙ stands.registers.each (Counter c) (less_true c (length a.sizes) less)
-        ∙ sym (ap pos (with_own i r.counters frames c))
+        ∙ stands.registers.each (Counter c) (less_test c (length a.sizes) less)
+        ∙ sym (ap pos (at_itself i r.counters frames c))
     counters_held {k} {f'} {m} {m'} (memories.inside {j = j} {unit = other} {l = l} {at = at} {arguments = arguments} is within calls rest) c less =
         let n = run_by W activities i at in
         let found = over_other rest (inner (remembered_at scope) n) in

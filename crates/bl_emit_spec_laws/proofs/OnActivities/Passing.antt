@@ -6,6 +6,7 @@ use Rattle.std.proofs.lemmas.Bool.{leb-true, lt-ltb}
 use Rattle.std.proofs.lemmas.List.FromFn.{length-map-range_with_len}
 use Rattle.std.specs.List.{list_any}
 use Rattle.std.specs.Prelude.{Option, is_some, option_map, slice_get, unwrap_or}
+use Rattle.bl_tree.proofs.Basics.{neither_first, neither_second}
 use Rattle.bl_tree.specs.declared.c.CStmt.{CStmt}
 use Rattle.bl_tree.specs.declared.tree.StructDef.{StructDef}
 use Rattle.bl_tree.specs.declared.tree.Unit.{Unit as UnitDef}
@@ -29,19 +30,8 @@ use Rattle.bl_emit_acts_laws_simulation.specs.Frames.{is_older, lent_at}
 use Rattle.bl_emit_acts_laws_simulation.specs.Encodes.{Encodes, home_at, is_live, lead_in, location_in, start_in}
 use Rattle.bl_emit_functions_laws_simulation.specs.Calls.{CallsKeepFrame}
 use Rattle.bl_emit_functions_laws_simulation.specs.Units.{AllAgree}
-use Rattle.bl_emit_spec.specs.Activities.{
-  Activity,
-  activity_code,
-  activity_function,
-  activity_view,
-  blocks_in_order,
-  body_of,
-  copied_in,
-  counters_read,
-  entry_code,
-  remembers_any,
-  rested_code,
-}
+use Rattle.bl_emit_spec.specs.Activities.{Activity, activity_code, activity_function, activity_view, blocks_in_order, body_of, copied_in, counters_read}
+use Rattle.bl_emit_spec.specs.Activities.{entry_code, remembers_any, rested_code}
 use Rattle.bl_emit_acts.specs.Acts.{c_copied}
 use Rattle.bl_emit_spec.specs.Blocks.{unit_may_end}
 use Rattle.bl_emit_spec_laws.specs.Registers.Registers.{Over, over_at}
@@ -50,37 +40,19 @@ use Rattle.bl_machine_pass.specs.Registers.{Registers}
 use Rattle.bl_machine_pass_laws_execution.specs.Executes.{Executes, PassTraps}
 use Rattle.bl_machine_pass_laws_execution.specs.Frames.{Frames}
 use Rattle.bl_emit_spec_laws.specs.Calls.Built.{Activities, activity_at, cleared, rank_by, site_at, slots_by, unit_number}
-use Rattle.bl_emit_spec_laws.specs.Calls.Calls.{
-  ActivitySimulates,
-  CallAddresses,
-  CallBegins,
-  CallLeaves,
-  MayGive,
-  PassStarts,
-  output_values,
-  passed_to,
-  where_true,
-  written_by,
-}
-use Rattle.bl_emit_spec_laws.specs.Calls.Laws.{
-  CompilationContext,
-  FunctionsBegin,
-  Midway,
-  PartSimulates,
-  PassOutside,
-  PassesSimulate,
-  memory_in,
-  scope_in,
-  start_code,
-}
+use Rattle.bl_emit_spec_laws.specs.Calls.Calls.{ActivitySimulates, CallAddresses, CallBegins, CallLeaves, MayGive, PassStarts, output_values, passed_to}
+use Rattle.bl_emit_spec_laws.specs.Calls.Calls.{where_true, written_by}
+use Rattle.bl_emit_spec_laws.specs.Calls.Laws.{CompilationContext, FunctionsBegin, Midway, PartSimulates, PassOutside, PassesSimulate, memory_in, scope_in}
+use Rattle.bl_emit_spec_laws.specs.Calls.Laws.{start_code}
 use Rattle.bl_emit_spec_laws.specs.Calls.Invariant.{FunctionContext, result_at_c}
 use Rattle.bl_emit_spec_laws.specs.Activities.{CalleesRemember, CallsSimulate, PointersAreGiven, PointersLead, ViewsFit}
 use Rattle.bl_emit_spec_laws.proofs.OnActivities.Appending.{append_end, append_memory}
 use Rattle.bl_emit_spec_laws.proofs.OnActivities.Calling.{output_place, outputs_from, same_length}
-use Rattle.bl_emit_spec_laws.proofs.OnActivities.Lists.{any_at, any_left, any_right, get_drop, get_take, or_left, or_right}
+use Rattle.bl_emit_spec_laws.proofs.OnActivities.Lists.{any_at, any_left, any_right, get_drop}
 use Rattle.bl_emit_spec_laws.proofs.OnActivities.Nested.{left_held, unit_there}
 use Rattle.bl_emit_spec_laws.proofs.OnActivities.Roles.{lent_output, output_at, output_lent, unit_roles}
 use Rattle.bl_emit_spec_laws.proofs.OnWithin.Passing.{starts_within}
+use Rattle.bl_emit_functions_laws_simulation.proofs.OnCalls.Procedure.{taken_index}
 
 first_where : {X : Type 0} (test : Bool) (x : X) → test ≡ true → slice_get (where_true test x) 0 ≡ Some x
 first_where true x is = refl
@@ -216,7 +188,7 @@ module _ (structs : List StructDef) (units : List UnitDef) (entry : ℕ) (machin
           let own = output_at site unit k var roles same_vars there in
           let lent = output_lent site x var own.0 own.1 in
           let is_now = get_drop unit.inputs (view_at W left i).now k value
-          (get_take unit.outputs (drop unit.inputs (view_at W left i).now) k value is_value) in
+          (taken_index unit.outputs (drop unit.inputs (view_at W left i).now) k value is_value) in
           let held = part.stands.variables.each x var value own.0 is_now in
           let at_lent : Encodes structs var.ty value (value_at rest.memory (lent_at scope site.vars x)) =
           subst (λ (s : List StructDef). Encodes s var.ty value (value_at rest.memory (lent_at scope site.vars x))) same_structs
@@ -253,13 +225,13 @@ module _ (structs : List StructDef) (units : List UnitDef) (entry : ℕ) (machin
           let memories = where_true (remembers_any a) given.memory in
           let results = where_true (is_some unit.result) given.result in
           let overs = where_true (unit_may_end unit) given.over in
-          let behind = or_right (lies given.frame) (list_any lies (memories ++ (given.outputs ++ (results ++ overs)))) none in
+          let behind = neither_second (lies given.frame) (list_any lies (memories ++ (given.outputs ++ (results ++ overs)))) none in
           let later = any_right lies memories (given.outputs ++ (results ++ overs)) behind in
           let last = any_right lies given.outputs (results ++ overs) later in
           let end = any_right lies results overs last in
           let roles = unit_roles structs units entry (unit_number W i) unit compiled.well_typed (unit_there W i unit is_there) in
           record {
-            frame = ap lies lead.frame ∙ or_left (lies given.frame) (list_any lies (memories ++ (given.outputs ++ (results ++ overs)))) none;
+            frame = ap lies lead.frame ∙ neither_first (lies given.frame) (list_any lies (memories ++ (given.outputs ++ (results ++ overs)))) none;
             over = λ ends. ap lies (lead.over ends) ∙ any_at lies overs 0 given.over end (first_where (unit_may_end unit) given.over ends);
             memory = λ has. ap lies (lead.memory has)
                 ∙ any_at lies memories 0 given.memory (any_left lies memories (given.outputs ++ (results ++ overs)) behind)

@@ -1,10 +1,11 @@
 -- Roles of the variables of a typed unit, and where its outputs stand among them.
 use Rattle.std.proofs.Common.{◌≡◌, ◌⊎◌, inl, inr, ⊎_elim, ℕ, zero, suc, ◌+◌, ◌<◌, ◌≤◌, Bool, true, false, ◌&&◌, ◌||◌}
 use Rattle.std.proofs.Common.{List, [], ◌∷◌, ◌++◌, length, take, drop, Some}
-use Rattle.std.proofs.Common.{refl, sym, ap, ◌∙◌, subst, arith}
+use Rattle.std.proofs.Common.{sym, ap, ◌∙◌, subst, arith}
 use Rattle.std.proofs.lemmas.Option.{same_Some}
 use Rattle.std.specs.List.{list_all}
 use Rattle.std.specs.Prelude.{is_some, nat_le, slice_get}
+use Rattle.bl_tree.proofs.Basics.{all_at, and_first, and_second, less_or_not, true_not_false}
 use Rattle.bl_tree.specs.declared.tree.StructDef.{StructDef}
 use Rattle.bl_tree.specs.declared.tree.Unit.{Unit as UnitDef}
 use Rattle.bl_tree.specs.declared.tree.Var.{Var}
@@ -19,15 +20,8 @@ use Rattle.bl_emit_acts.specs.Places.{copies_inputs, home_of, is_alone}
 use Rattle.bl_emit_acts.specs.declared.home.Home.TheVariants.{Lent}
 use Rattle.bl_emit_acts_laws_simulation.proofs.Homes.{declared_home, declared_unlent, output_home}
 use Rattle.bl_emit_acts_laws_simulation.specs.Encodes.{home_at}
-use Rattle.bl_emit_spec_laws.proofs.OnActivities.Lists.{get_drop, get_take}
-
-and_left : (a b : Bool) → (a && b) ≡ true → a ≡ true
-and_left true b _ = refl
-and_left false b all = all
-
-and_right : (a b : Bool) → (a && b) ≡ true → b ≡ true
-and_right true b all = all
-and_right false b all = absurd (cc)
+use Rattle.bl_emit_spec_laws.proofs.OnActivities.Lists.{get_drop}
+use Rattle.bl_emit_functions_laws_simulation.proofs.OnCalls.Procedure.{taken_index}
 
 -- ---- roles stand
 
@@ -37,11 +31,11 @@ stands_at structs earlier [] k unit stand there = absurd (cc)
 stands_at structs earlier (first ∷ units) zero unit stand there = (
   earlier,
   subst (λ (u : UnitDef). unit_stands structs earlier u ≡ true) (same_Some first unit there)
-      (and_left (unit_stands structs earlier first) (units_stand_after structs (earlier ++ first ∷ []) units) stand),
+      (and_first (unit_stands structs earlier first) (units_stand_after structs (earlier ++ first ∷ []) units) stand),
 )
 stands_at structs earlier (first ∷ units) (suc k) unit stand there =
     stands_at structs (earlier ++ first ∷ []) units k unit
-    (and_right (unit_stands structs earlier first) (units_stand_after structs (earlier ++ first ∷ []) units) stand) there
+    (and_second (unit_stands structs earlier first) (units_stand_after structs (earlier ++ first ∷ []) units) stand) there
 
 -- what `roles_stand` says, one by one
 pub record Roles (unit : UnitDef) : Type 0 where
@@ -57,13 +51,13 @@ roles_of unit all =
     let own : Bool = list_all (λ var. is_variable var.role || is_fixed var.role) (locals_of unit) in
     let few : Bool = nat_le (unit.inputs + unit.outputs) (length unit.vars) in
     let whole : (few && (ins && (outs && own))) ≡ true = all in
-    let rest = and_right few (ins && (outs && own)) whole in
-    let last = and_right ins (outs && own) rest in
+    let rest = and_second few (ins && (outs && own)) whole in
+    let last = and_second ins (outs && own) rest in
     record {
-      fits = and_left few (ins && (outs && own)) whole;
-      inputs = and_left ins (outs && own) rest;
-      outputs = and_left outs own last;
-      locals = and_right outs own last;
+      fits = and_first few (ins && (outs && own)) whole;
+      inputs = and_first ins (outs && own) rest;
+      outputs = and_first outs own last;
+      locals = and_second outs own last;
     }
 
 pub unit_roles : (structs : List StructDef) (units : List UnitDef) (entry k : ℕ) (unit : UnitDef) → IsWellTyped structs units entry →
@@ -76,14 +70,9 @@ unit_roles structs units entry k unit keeps there =
     let fit : Bool = list_all (fits (site_of structs before unit)) unit.body in
     let rest : Bool = types && (fit && (unit_returns unit && (is_shallow 200 unit.body && list_all is_apart unit.body))) in
     let all : ((roles_stand unit && named) && rest) ≡ true = found.1 in
-    roles_of unit (and_left (roles_stand unit) named (and_left (roles_stand unit && named) rest all))
+    roles_of unit (and_first (roles_stand unit) named (and_first (roles_stand unit && named) rest all))
 
 -- ---- by position
-
-all_at : {A : Type 0} (p : A → Bool) (xs : List A) (k : ℕ) (x : A) → list_all p xs ≡ true → slice_get xs k ≡ Some x → p x ≡ true
-all_at p [] k x all there = absurd (cc)
-all_at p (y ∷ xs) zero x all there = ap p (sym (same_Some y x there)) ∙ and_left (p y) (list_all p xs) all
-all_at p (y ∷ xs) (suc k) x all there = all_at p xs k x (and_right (p y) (list_all p xs) all) there
 
 put_take : {A : Type 0} (n : ℕ) (xs : List A) (k : ℕ) (x : A) → slice_get xs k ≡ Some x → k < n → slice_get (take n xs) k ≡ Some x
 put_take zero xs k x there less = absurd (omega (arith, less))
@@ -105,14 +94,6 @@ pub output_lent : (site : TypingContext) (x : ℕ) (var : Var) → var_at site x
 output_lent site x var there output =
     ap (home_of site) there ∙ output_home (is_alone site var.ty) var.role (is_some (scalar_in var.ty)) (copies_inputs site) output
 
-no_such : true ≡ false → ⊥
-no_such h = cc
-
-within : (k n : ℕ) → (k < n) ⊎ (n ≤ k)
-within k zero = inr (omega arith)
-within zero (suc n) = inl (omega arith)
-within (suc k) (suc n) = ⊎_elim (λ less. inl (omega (arith, less))) (λ more. inr (omega (arith, more))) (within k n)
-
 further_by : (m x : ℕ) → m ≤ x → (k : ℕ) × (x ≡ m + k)
 further_by zero x least = let same : x ≡ 0 + x = omega arith in (x, same)
 further_by (suc m) zero least = absurd (omega (arith, least))
@@ -130,7 +111,7 @@ pub record OutputAt (unit : UnitDef) (x : ℕ) (var : Var) : Type 0 where
 -- what is lent and no input is an output
 pub lent_output : (site : TypingContext) (unit : UnitDef) (x : ℕ) (var : Var) → Roles unit → site.vars ≡ unit.vars → var_at site x ≡ Some var →
     home_at site x ≡ Lent → is_input var.role ≡ false → OutputAt unit x var
-lent_output site unit x var roles same there lent input = by (within x unit.inputs) (within x (unit.inputs + unit.outputs))
+lent_output site unit x var roles same there lent input = by (less_or_not x unit.inputs) (less_or_not x (unit.inputs + unit.outputs))
   where
     is_there : slice_get unit.vars x ≡ Some var
     is_there = ap (λ (vars : List Var). slice_get vars x) (sym same) ∙ there
@@ -138,7 +119,7 @@ lent_output site unit x var roles same there lent input = by (within x unit.inpu
     by : (x < unit.inputs) ⊎ (unit.inputs ≤ x) → (x < unit.inputs + unit.outputs) ⊎ (unit.inputs + unit.outputs ≤ x) → OutputAt unit x var
     by (inl less) more =
         let one = all_at (λ (v : Var). is_input v.role) (inputs_of unit) x var roles.inputs (put_take unit.inputs unit.vars x var is_there less) in
-        absurd (no_such (sym one ∙ input))
+        absurd (true_not_false (sym one ∙ input))
     by (inr least) (inl less) =
         let behind = further_by unit.inputs x least in
         let k = behind.0 in
@@ -166,6 +147,6 @@ pub output_at : (site : TypingContext) (unit : UnitDef) (k : ℕ) (var : Var) �
     (var_at site (unit.inputs + k) ≡ Some var) × (is_output var.role ≡ true)
 output_at site unit k var roles same there = (
   ap (λ (vars : List Var). slice_get vars (unit.inputs + k)) same
-      ∙ get_drop unit.inputs unit.vars k var (get_take unit.outputs (drop unit.inputs unit.vars) k var there),
+      ∙ get_drop unit.inputs unit.vars k var (taken_index unit.outputs (drop unit.inputs unit.vars) k var there),
   all_at (λ (v : Var). is_output v.role) (outputs_of unit) k var roles.outputs there,
 )

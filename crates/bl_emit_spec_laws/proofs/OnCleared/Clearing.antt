@@ -4,6 +4,7 @@ use Rattle.std.proofs.Common.{Option, Some, None, get_or, refl, sym, ap, ◌∙�
 use Rattle.std.proofs.lemmas.List.Quantifiers.{position-Some}
 use Rattle.std.specs.List.{list_any}
 use Rattle.std.specs.Prelude.{if◌then◌else◌, nat_eq, option_and_then, option_map, slice_get, unwrap_or}
+use Rattle.std.proofs.lemmas.Bool.{or_right}
 use Rattle.bl_tree.specs.declared.tree.StructDef.{StructDef}
 use Rattle.bl_tree.specs.declared.tree.Unit.{Unit as UnitDef}
 use Rattle.bl_tree.specs.Rules.{same_place}
@@ -17,16 +18,16 @@ use Rattle.bl_ctree_laws_traces.proofs.OnProgress.Instances.{first_at}
 use Rattle.bl_machine_pass_laws_execution.specs.Frames.{Frames}
 use Rattle.bl_emit_spec_laws.specs.Calls.Built.{cleared, is_under, origin_at}
 use Rattle.bl_emit_spec_laws.specs.Cleared.{ClearingIsInside}
-use Rattle.bl_emit_spec_laws.proofs.OnCleared.Finding.{expanded_told, or_second}
+use Rattle.bl_emit_spec_laws.proofs.OnCleared.Finding.{expanded_told}
 
 any_at : (p : Instance → Bool) (xs : List Instance) (k : ℕ) (x : Instance) → slice_get xs k ≡ Some x → p x ≡ true →
     list_any p xs ≡ true
 any_at p [] k x there e = absurd cc
 any_at p (y ∷ xs) zero x there e =
     let same : y ≡ x = cc in ap (λ b. b || list_any p xs) (ap p same ∙ e)
-any_at p (y ∷ xs) (suc k) x there e = or_second (p y) (list_any p xs) (any_at p xs k x there e)
+any_at p (y ∷ xs) (suc k) x there e = or_right (p y) (list_any p xs) (any_at p xs k x there e)
 
-got_or : (xs : List Instance) (k : ℕ) (d : Instance) → k < length xs → slice_get xs k ≡ Some (get_or xs k d)
+pub got_or : (xs : List Instance) (k : ℕ) (d : Instance) → k < length xs → slice_get xs k ≡ Some (get_or xs k d)
 got_or [] k d within = absurd (omega arith)
 got_or (x ∷ xs) zero d within = refl
 got_or (x ∷ xs) (suc k) d within = got_or xs k d (omega arith)

@@ -1,81 +1,25 @@
--- No two instances of a program have both one caller and one place.
-use Rattle.std.proofs.Common.{
-  ◌≡◌,
-  ◌⊎◌,
-  inl,
-  inr,
-  ℕ,
-  zero,
-  suc,
-  ◌+◌,
-  ◌<◌,
-  ◌≤◌,
-  Bool,
-  true,
-  false,
-  ◌||◌,
-  ◌&&◌,
-  not,
-  cond,
-  List,
-  [],
-  ◌∷◌,
-  ◌++◌,
-  map,
-  length,
-  Option,
-  Some,
-  None,
-  refl,
-  sym,
-  ap,
-  ◌∙◌,
-  subst,
-  arith,
-  eqb-true,
-  eq-eqb,
-}
+-- No two instances of a program have and_parts one caller and one place.
+use Rattle.std.proofs.Common.{◌≡◌, ◌⊎◌, inl, inr, ℕ, zero, suc, ◌+◌, ◌<◌, ◌≤◌, Bool, true, false, ◌||◌, ◌&&◌, not, cond, List, [], ◌∷◌, ◌++◌, map, length}
+use Rattle.std.proofs.Common.{Option, Some, None, refl, sym, ap, ◌∙◌, subst, arith, eqb-true, eq-eqb}
 use Rattle.std.proofs.lemmas.List.{length-append, length-map}
 use Rattle.std.specs.List.{list_any}
 use Rattle.std.specs.Prelude.{filter, nat_eq, option_map, slice_get, unwrap_or, ⊤}
+use Rattle.std.proofs.lemmas.Bool.{and_parts, or_left, or_right}
+use Rattle.bl_tree.proofs.Basics.{either_of, get_of_map}
 use Rattle.bl_tree.specs.declared.place.Place.{Place}
 use Rattle.bl_tree.specs.declared.tree.Unit.{Unit as UnitDef}
 use Rattle.bl_tree.specs.Reduce.{joined}
 use Rattle.bl_tree.specs.Rules.{same_place}
-use Rattle.bl_effects.proofs.EntryLemmas.{same_place_is}
 use Rattle.bl_ctree.specs.declared.instance.Instance.{Instance}
 use Rattle.bl_ctree.specs.declared.instance.Origin.{Origin}
 use Rattle.bl_ctree.specs.declared.instance.Run.{Run}
 use Rattle.bl_ctree.specs.Instances.{begins_at, called_from, expanded, instances_below, one_a_place, origin_under, runs_in, runs_of}
-use Rattle.bl_ctree_laws_confluence.proofs.OnDeeds.Origins.{map_got}
+use Rattle.bl_tree.proofs.FirstLemmas.{same_true}
+use Rattle.bl_ctree_laws_confluence.proofs.OnDeeds.Origins.{get_split}
 
 -- ---- tests
 
-both : (a b : Bool) → (a && b) ≡ true → (a ≡ true) × (b ≡ true)
-both true b e = (refl, e)
-both false b e = absurd cc
-
-either : (a b : Bool) → (a || b) ≡ true → (a ≡ true) ⊎ (b ≡ true)
-either true b e = inl refl
-either false b e = inr e
-
-or_first : (a b : Bool) → a ≡ true → (a || b) ≡ true
-or_first a b e = ap (λ x. x || b) e
-
-pub or_second : (a b : Bool) → b ≡ true → (a || b) ≡ true
-or_second true b e = refl
-or_second false b e = e
-
 -- ---- elements of lists
-
-get_split : {A : Type 0} (xs ys : List A) (m : ℕ) (x : A) → slice_get (xs ++ ys) m ≡ Some x →
-    (slice_get xs m ≡ Some x) ⊎ ((k : ℕ) × (m ≡ length xs + k) × (slice_get ys k ≡ Some x))
-get_split [] ys m x e = inr (m, omega arith, e)
-get_split (z ∷ xs) ys zero x e = inl e
-get_split (z ∷ xs) ys (suc m) x e = elim (get_split xs ys m x e) [
-  | inl here ↦ inl here
-  | inr later ↦ let is = later.1 in inr (later.0, omega arith, later.2)
-]
 
 -- ---- places of `run` statements
 
@@ -95,11 +39,11 @@ module _ (p : Run → Bool) where
     where
       by_test : (b : Bool) → AnyAt (cond b (run ∷ filter p rest) (filter p rest)) place → (AnyAt (filter p rest) place → AnyAt rest place) →
           AnyAt (run ∷ rest) place
-      by_test true e more = elim (either (same_place run.place place) (list_any (λ (run : Run). same_place run.place place) (filter p rest)) e) [
-        | inl here ↦ or_first (same_place run.place place) (list_any (λ (run : Run). same_place run.place place) rest) here
-        | inr later ↦ or_second (same_place run.place place) (list_any (λ (run : Run). same_place run.place place) rest) (more later)
+      by_test true e more = elim (either_of (same_place run.place place) (list_any (λ (run : Run). same_place run.place place) (filter p rest)) e) [
+        | inl here ↦ or_left (same_place run.place place) (list_any (λ (run : Run). same_place run.place place) rest) here
+        | inr later ↦ or_right (same_place run.place place) (list_any (λ (run : Run). same_place run.place place) rest) (more later)
       ]
-      by_test false e more = or_second (same_place run.place place) (list_any (λ (run : Run). same_place run.place place) rest) (more e)
+      by_test false e more = or_right (same_place run.place place) (list_any (λ (run : Run). same_place run.place place) rest) (more e)
 
   filtered_differ : (runs : List Run) → Differ runs → Differ (filter p runs)
   filtered_differ [] differ = tt
@@ -109,7 +53,7 @@ module _ (p : Run → Bool) where
       by_test true more = (λ place here later. differ.0 place here (filtered_at rest place later), more)
       by_test false more = more
 
-clash : (b : Bool) → b ≡ true → not b ≡ true → ⊥
+pub clash : (b : Bool) → b ≡ true → not b ≡ true → ⊥
 clash true e f = absurd cc
 clash false e f = absurd cc
 
@@ -127,8 +71,8 @@ none_left run (x ∷ rest) place here e = by_test (not (same_place run.place x.p
         AnyAt (cond b (x ∷ filter (is_elsewhere run) rest) (filter (is_elsewhere run) rest)) place →
         (AnyAt (filter (is_elsewhere run) rest) place → ⊥) → ⊥
     by_test true is e more =
-        elim (either (same_place x.place place) (list_any (λ (other : Run). same_place other.place place) (filter (is_elsewhere run) rest)) e) [
-          | inl at ↦ clash (same_place run.place x.place) (ap (same_place run.place) (same_place_is x.place place at) ∙ here) is
+        elim (either_of (same_place x.place place) (list_any (λ (other : Run). same_place other.place place) (filter (is_elsewhere run) rest)) e) [
+          | inl at ↦ clash (same_place run.place x.place) (ap (same_place run.place) (same_true x.place place at) ∙ here) is
           | inr later ↦ more later
         ]
     by_test false is e more = more e
@@ -142,7 +86,7 @@ one_a_place_differ (run ∷ rest) = (
 
 -- ---- instances
 
--- the first alone has no caller, callers are of the list, and no two have both one caller and one place
+-- the first alone has no caller, callers are of the list, and no two have and_parts one caller and one place
 pub record Told (xs : List Instance) : Type 0 where
   pub first : (a : ℕ) (x : Instance) → slice_get xs a ≡ Some x → x.origin ≡ None → a ≡ 0
   pub within : (a : ℕ) (x : Instance) (j : ℕ) (place : Place) → slice_get xs a ≡ Some x → begins_at j place x.origin ≡ true →
@@ -166,17 +110,17 @@ module _ (alone : ℕ → List Instance) (told : (u : ℕ) → Told (alone u)) w
   from_chunk : (n : ℕ) (run : Run) (a : ℕ) (y : Instance) (j : ℕ) (place : Place) → slice_get (chunk n run) a ≡ Some y →
       begins_at j place y.origin ≡ true → From (alone run.unit) run n a j place
   from_chunk n run a y j place there e =
-      let got = map_got (called_from n run) (alone run.unit) a y there in
+      let got = get_of_map (called_from n run) (alone run.unit) a y there in
       by_origin got.0 got.1 got.0.origin refl
       (subst (λ (z : Instance). begins_at j place z.origin ≡ true) (sym got.2) e)
     where
       by_origin : (x : Instance) → slice_get (alone run.unit) a ≡ Some x → (o : Option Origin) → x.origin ≡ o →
           begins_at j place (origin_under n run o) ≡ true → From (alone run.unit) run n a j place
       by_origin x at None is e =
-          let parts = both (nat_eq 0 j) (same_place run.place place) e in
+          let parts = and_parts (nat_eq 0 j) (same_place run.place place) e in
           by_root ((told run.unit).first a x at is) (sym (eqb-true 0 j parts.0)) parts.1
       by_origin x at (Some o) is e =
-          let parts = both (nat_eq (n + o.caller) j) (same_place o.place place) e in
+          let parts = and_parts (nat_eq (n + o.caller) j) (same_place o.place place) e in
           let begun : begins_at o.caller place x.origin ≡ true =
           ap (begins_at o.caller place) is ∙ (ap (λ b. b && same_place o.place place) (eq-eqb o.caller o.caller refl) ∙ parts.1) in
           by_inner o.caller x (sym (eqb-true (n + o.caller) j parts.0)) ((told run.unit).within a x o.caller place at begun) at begun
@@ -200,14 +144,14 @@ module _ (alone : ℕ → List Instance) (told : (u : ℕ) → Told (alone u)) w
 
       by_from : From (alone run.unit) run n m j place → Where n (run ∷ rest) j place
       by_from (by_root first nil at) =
-          inl (nil, or_first (same_place run.place place) (list_any (λ (run : Run). same_place run.place place) rest) at)
+          inl (nil, or_left (same_place run.place place) (list_any (λ (run : Run). same_place run.place place) rest) at)
       by_from (by_inner c x is less at begun) =
           let long = chunk_long n run in
           let all = total in
           let before : j < n + length (chunk n run ++ after n run rest) = omega arith in inr (omega arith, before)
 
       by_later : Where (n + length (chunk n run)) rest j place → Where n (run ∷ rest) j place
-      by_later (inl own) = inl (own.0, or_second (same_place run.place place) (list_any (λ (run : Run). same_place run.place place) rest) own.1)
+      by_later (inl own) = inl (own.0, or_right (same_place run.place place) (list_any (λ (run : Run). same_place run.place place) rest) own.1)
       by_later (inr below) =
           let least = below.0 in
           let less : j < n + length (chunk n run) + length (after n run rest) = below.1 in
@@ -290,7 +234,7 @@ module _ (alone : ℕ → List Instance) (told : (u : ℕ) → Told (alone u)) w
 
       by_split : ((k : ℕ) → slice_get (after n run rest) k ≡ Some y → ⊥) → Piece n run rest m y → ⊥
       by_split more (inl here) =
-          let got = map_got (called_from n run) (alone run.unit) m y here in
+          let got = get_of_map (called_from n run) (alone run.unit) m y here in
           by_origin got.0.origin (ap (λ (z : Instance). z.origin) got.2 ∙ e)
       by_split more (inr later) = more later.0 later.2
 

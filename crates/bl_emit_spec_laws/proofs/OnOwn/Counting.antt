@@ -1,17 +1,17 @@
 -- The numbers that a list has for the places of a body: their values count up, and each is one of its counter's.
-use Rattle.std.proofs.Common.{◌≡◌, ◌⊎◌, inl, inr, ⊎_elim, ℕ, zero, suc, ◌+◌, ◌<◌, ◌≤◌, max, Bool, true}
+use Rattle.std.proofs.Common.{◌≡◌, ◌⊎◌, ⊎_elim, ℕ, zero, suc, ◌+◌, ◌<◌, ◌≤◌, max, Bool, true}
 use Rattle.std.proofs.Common.{false, List, [], ◌∷◌, ◌++◌, Some, cond}
 use Rattle.std.proofs.Common.{nat_eq, refl, sym, ap, subst, ◌∙◌, arith, length, map, unwrap_or, eq-eqb, eqb-true}
 use Rattle.std.specs.Prelude.{slice_get}
 use Rattle.std.proofs.lemmas.List.{length-append}
 use Rattle.std.proofs.lemmas.List.Sums.{sum_by-cons, sum_by_push}
+use Rattle.bl_tree.proofs.Basics.{below_or_last, map_length, none_is_some, same_some}
 use Rattle.bl_tree.specs.Reduce.{greatest}
 use Rattle.bl_machine.specs.declared.slots.Slot.{Slot}
 use Rattle.bl_machine.specs.Blocks.{up_to}
 use Rattle.bl_machine.specs.Slots.{counters_at, numbered_after, numbered_slots, times}
 use Rattle.bl_machine_pass.specs.Numbered.{sizes_for, sizes_of}
 use Rattle.bl_emit_spec_laws.specs.Own.{PlaceCounts}
-use Rattle.bl_emit_spec_laws.proofs.OnOwn.Members.{none_is, some_is}
 
 -- ---- how often a counter stands among the first of some
 
@@ -46,8 +46,8 @@ none_other k j differ = by_test (nat_eq j k) refl
 -- one more
 pub front_more : (counter : ℕ) (xs : List ℕ) (i x : ℕ) → slice_get xs i ≡ Some x →
     in_front counter (suc i) xs ≡ in_front counter i xs + one_if counter x
-front_more counter [] i x is = none_is x is
-front_more counter (y ∷ xs) zero x is = let same : one_if counter y ≡ one_if counter x = ap (one_if counter) (some_is y x is) in omega arith
+front_more counter [] i x is = none_is_some x is
+front_more counter (y ∷ xs) zero x is = let same : one_if counter y ≡ one_if counter x = ap (one_if counter) (same_some y x is) in omega arith
 front_more counter (y ∷ xs) (suc i) x is = let rest = front_more counter xs i x is in omega arith
 
 front_within : (counter : ℕ) (xs : List ℕ) (i : ℕ) → in_front counter i xs ≤ in_front counter (length xs) xs
@@ -68,9 +68,9 @@ times_last counter other before = sum_by_push (one_if counter) before other
 
 value_after : (before counters : List ℕ) (i : ℕ) (x : Slot) → slice_get (numbered_after before counters) i ≡ Some x →
     x.value ≡ suc (times x.counter before + in_front x.counter i counters)
-value_after before [] i x is = none_is x is
+value_after before [] i x is = none_is_some x is
 value_after before (counter ∷ rest) zero x is =
-    let same : record { counter = counter; value = suc (times counter before) } ≡ x = some_is _ x is in
+    let same : record { counter = counter; value = suc (times counter before) } ≡ x = same_some _ x is in
     let value : suc (times counter before) ≡ x.value = ap (λ (y : Slot). y.value) same in
     let many : times counter before ≡ times x.counter before = ap (λ (y : Slot). times y.counter before) same in omega arith
 value_after before (counter ∷ rest) (suc i) x is =
@@ -84,37 +84,26 @@ value_at counters i x is =
     let after = value_after [] counters i x is in let none : times x.counter [] ≡ 0 = refl in omega arith
 
 pub counter_at : (list : List Slot) (i : ℕ) (x : Slot) → slice_get list i ≡ Some x → slice_get (counters_at list) i ≡ Some x.counter
-counter_at [] i x is = none_is x is
-counter_at (y ∷ list) zero x is = ap (λ (z : Slot). Some z.counter) (some_is y x is)
+counter_at [] i x is = none_is_some x is
+counter_at (y ∷ list) zero x is = ap (λ (z : Slot). Some z.counter) (same_some y x is)
 counter_at (y ∷ list) (suc i) x is = counter_at list i x is
 
 -- ---- sizes
 
-many_up_to : (n : ℕ) → length (up_to n) ≡ n
+pub many_up_to : (n : ℕ) → length (up_to n) ≡ n
 many_up_to zero = refl
 many_up_to (suc n) = let all = length-append (up_to n) (n ∷ []) in let rest = many_up_to n in omega arith
 
-many_mapped : {X Y : Type 0} (f : X → Y) (xs : List X) → length (map f xs) ≡ length xs
-many_mapped f [] = refl
-many_mapped f (x ∷ xs) = ap suc (many_mapped f xs)
-
-get_left : (xs ys : List ℕ) (k x : ℕ) → slice_get xs k ≡ Some x → slice_get (xs ++ ys) k ≡ Some x
-get_left [] ys k x is = none_is x is
+pub get_left : (xs ys : List ℕ) (k x : ℕ) → slice_get xs k ≡ Some x → slice_get (xs ++ ys) k ≡ Some x
+get_left [] ys k x is = none_is_some x is
 get_left (y ∷ xs) ys zero x is = is
 get_left (y ∷ xs) ys (suc k) x is = get_left xs ys k x is
 
-get_last : (xs : List ℕ) (x k : ℕ) → k ≡ length xs → slice_get (xs ++ x ∷ []) k ≡ Some x
+pub get_last : (xs : List ℕ) (x k : ℕ) → k ≡ length xs → slice_get (xs ++ x ∷ []) k ≡ Some x
 get_last [] x zero is = refl
 get_last [] x (suc k) is = absurd (omega (arith, is))
 get_last (y ∷ xs) x zero is = absurd (omega (arith, is))
 get_last (y ∷ xs) x (suc k) is = get_last xs x k (omega (arith, is))
-
-below_or_last : (k n : ℕ) → k < suc n → (k < n) ⊎ (k ≡ n)
-below_or_last zero zero below = inr refl
-below_or_last zero (suc n) below = inl (omega arith)
-below_or_last (suc k) zero below = absurd (omega (arith, below))
-below_or_last (suc k) (suc n) below = ⊎_elim (λ less. inl (omega (arith, less))) (λ is. inr (ap suc is))
-    (below_or_last k n (omega (arith, below)))
 
 pub get_up_to : (n k : ℕ) → k < n → slice_get (up_to n) k ≡ Some k
 get_up_to zero k below = absurd (omega (arith, below))
@@ -124,8 +113,8 @@ get_up_to (suc n) k below =
     (below_or_last k n below)
 
 get_mapped : (f : ℕ → ℕ) (xs : List ℕ) (k x : ℕ) → slice_get xs k ≡ Some x → slice_get (map f xs) k ≡ Some (f x)
-get_mapped f [] k x is = none_is x is
-get_mapped f (y ∷ xs) zero x is = ap (λ z. Some (f z)) (some_is y x is)
+get_mapped f [] k x is = none_is_some x is
+get_mapped f (y ∷ xs) zero x is = ap (λ z. Some (f z)) (same_some y x is)
 get_mapped f (y ∷ xs) (suc k) x is = get_mapped f xs k x is
 
 max_first : (a b : ℕ) → a ≤ max a b
@@ -135,17 +124,17 @@ max_second : (a b c : ℕ) → c ≤ b → c ≤ max a b
 max_second a b c less = omega (arith, less)
 
 at_most_greatest : (xs : List ℕ) (i x : ℕ) → slice_get xs i ≡ Some x → x ≤ greatest xs
-at_most_greatest [] i x is = none_is x is
-at_most_greatest (y ∷ xs) zero x is = subst (λ z. z ≤ max y (greatest xs)) (some_is y x is) (max_first y (greatest xs))
+at_most_greatest [] i x is = none_is_some x is
+at_most_greatest (y ∷ xs) zero x is = subst (λ z. z ≤ max y (greatest xs)) (same_some y x is) (max_first y (greatest xs))
 at_most_greatest (y ∷ xs) (suc i) x is = max_second y (greatest xs) x (at_most_greatest xs i x is)
 
 -- how many values the counter of one of these has
 size_at : (counters : List ℕ) (i c : ℕ) → slice_get counters i ≡ Some c →
     (c < length (sizes_for counters)) × (unwrap_or (slice_get (sizes_for counters) c) 0 ≡ times c counters)
-size_at [] i c is = none_is c is
+size_at [] i c is = none_is_some c is
 size_at (k ∷ rest) i c is =
     let most = at_most_greatest (k ∷ rest) i c is in
-    let many = many_mapped (λ j. times j (k ∷ rest)) (up_to (suc (greatest (k ∷ rest)))) in
+    let many = map_length (λ j. times j (k ∷ rest)) (up_to (suc (greatest (k ∷ rest)))) in
     let all = many_up_to (suc (greatest (k ∷ rest))) in
     let there : slice_get (sizes_for (k ∷ rest)) c ≡ Some (times c (k ∷ rest)) =
     get_mapped (λ j. times j (k ∷ rest)) (up_to (suc (greatest (k ∷ rest)))) c c
@@ -188,5 +177,5 @@ pub size_few : (list : List Slot) (i : ℕ) (x : Slot) → slice_get list i ≡ 
 size_few list i x is =
     let size = size_at (counters_at list) i x.counter (counter_at list i x is) in
     let few = times_few x.counter (counters_at list) in
-    let many = many_mapped (λ (y : Slot). y.counter) list in
+    let many = map_length (λ (y : Slot). y.counter) list in
     subst (λ n. n ≤ length list) (sym size.1) (let less : times x.counter (counters_at list) ≤ length list = omega arith in less)

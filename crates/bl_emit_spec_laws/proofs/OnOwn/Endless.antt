@@ -2,6 +2,8 @@
 use Rattle.std.proofs.Common.{◌≡◌, inl, inr, ◌⊎◌, ℕ, zero, suc, arith, Bool, true, false, not, List, [], ◌∷◌, ◌++◌}
 use Rattle.std.proofs.Common.{Contains, map, refl, sym, ap, ◌∙◌, subst}
 use Rattle.std.specs.List.{list_all, list_any}
+use Rattle.std.proofs.lemmas.Bool.{not-false, not-true}
+use Rattle.bl_tree.proofs.Basics.{and_first, and_second, any_from}
 use Rattle.bl_tree.specs.declared.place.Place.{Place}
 use Rattle.bl_tree.specs.declared.tree.Arm.{Arm}
 use Rattle.bl_tree.specs.declared.tree.Branch.{Branch}
@@ -16,8 +18,8 @@ use Rattle.bl_machine.specs.Uses.{Slots}
 use Rattle.bl_machine_pass.specs.Transitions.{Change, Finishes, SetsFlag, Transition, enter, rules, rules_in, rules_of}
 use Rattle.bl_emit_spec.specs.Blocks.{is_endless, layer_endless, unit_may_end}
 use Rattle.bl_emit_spec_laws.specs.Registers.Laws.{ends_body}
-use Rattle.bl_emit_spec_laws.proofs.OnOwn.Members.{any_true, both_first, both_second}
 use Rattle.bl_emit_spec_laws.proofs.OnOwn.Quiet.{Quiet, is_quiet, quiet_both, quiet_of}
+use Rattle.bl_emit_spec_laws.proofs.OnOwn.Quiet.{no_rules}
 
 -- ---- statements, by their layers
 
@@ -65,14 +67,11 @@ last_quiet slots s at next h =
     by (StmtKind-F.While e body) h = absurd (cc)
     by (StmtKind-F.Return e) h = absurd (cc)
 
-none_quiet : Quiet []
-none_quiet = record { all = refl }
-
 body_quiet : (slots : Slots) (body : List Stmt) (k : ℕ) (block : Position) → last_of (map is_endless body) ≡ true →
     Quiet (rules_in slots (block_from (map plain_stmt body) k block) Finishes)
 body_quiet slots [] k block h = absurd (cc)
 body_quiet slots (s ∷ []) k block h =
-    quiet_both (rules_of slots (plain_stmt s (block ++ k ∷ [])) Finishes) [] (last_quiet slots s (block ++ k ∷ []) Finishes h) none_quiet
+    quiet_both (rules_of slots (plain_stmt s (block ++ k ∷ [])) Finishes) [] (last_quiet slots s (block ++ k ∷ []) Finishes h) no_rules
 body_quiet slots (s ∷ t ∷ rest) k block h =
     let more = block_from (map plain_stmt (t ∷ rest)) (suc k) block in
     quiet_both (rules_of slots (plain_stmt s (block ++ k ∷ [])) (enter more Finishes)) (rules_in slots more Finishes)
@@ -80,37 +79,29 @@ body_quiet slots (s ∷ t ∷ rest) k block h =
 
 -- ---- rules that don't end the body
 
-not_true : (b : Bool) → not b ≡ true → b ≡ false
-not_true true h = absurd (cc)
-not_true false h = refl
-
-not_false : (b : Bool) → not b ≡ false → b ≡ true
-not_false true h = refl
-not_false false h = absurd (cc)
-
 -- changes of which none ends the body, on either side
 pub quiet_sides : (rule : Transition) → is_quiet rule ≡ true →
     (list_any ends_body rule.on_true ≡ false) × (list_any ends_body rule.on_false ≡ false)
 quiet_sides rule quiet =
     let on_true = list_any ends_body rule.on_true in
     let on_false = list_any ends_body rule.on_false in
-    (not_true on_true (both_first (not on_true) (not on_false) quiet), not_true on_false (both_second (not on_true) (not on_false) quiet))
+    (not-true on_true (and_first (not on_true) (not on_false) quiet), not-true on_false (and_second (not on_true) (not on_false) quiet))
 
 quiet_at : (all : List Transition) (rule : Transition) → list_all is_quiet all ≡ true → Contains all rule → is_quiet rule ≡ true
 quiet_at [] rule h there = let below = there.1 in absurd (omega arith)
 quiet_at (first ∷ all) rule h (zero, within, is) =
-    subst (λ (x : Transition). is_quiet x ≡ true) is (both_first (is_quiet first) (list_all is_quiet all) h)
-quiet_at (first ∷ all) rule h (suc k, within, is) = quiet_at all rule (both_second (is_quiet first) (list_all is_quiet all) h) (k, omega arith, is)
+    subst (λ (x : Transition). is_quiet x ≡ true) is (and_first (is_quiet first) (list_all is_quiet all) h)
+quiet_at (first ∷ all) rule h (suc k, within, is) = quiet_at all rule (and_second (is_quiet first) (list_all is_quiet all) h) (k, omega arith, is)
 
 -- no rule of a unit that never ends ends its body
 pub unit_quiet : (slots : Slots) (unit : UnitDef) (rule : Transition) → unit_may_end unit ≡ false → Contains (rules slots (plain_body unit.body)) rule →
     is_quiet rule ≡ true
 unit_quiet slots unit rule never there =
     quiet_at (rules slots (plain_body unit.body)) rule
-    (body_quiet slots unit.body 0 [] (not_false (last_of (map is_endless unit.body)) never)).all there
+    (body_quiet slots unit.body 0 [] (not-false (last_of (map is_endless unit.body)) never)).all there
 
 none_ends : (changes : List Change) (change : Change) → list_any ends_body changes ≡ false → Contains changes change → ends_body change ≡ true → ⊥
-none_ends changes change none among ends = let some = any_true ends_body changes change among ends in cc
+none_ends changes change none among ends = let some = any_from ends_body changes change among ends in cc
 
 -- a change that ends the body is one of a unit that may end
 pub ends_of_unit : (slots : Slots) (unit : UnitDef) (rule : Transition) (change : Change) → Contains (rules slots (plain_body unit.body)) rule →

@@ -4,15 +4,15 @@ use Rattle.std.proofs.Common.{length, nat_eq, refl, sym, ap, subst}
 use Rattle.std.proofs.Common.{◌∙◌, arith, eq-eqb, eqb-true}
 use Rattle.std.proofs.lemmas.Bool.{ltb-true}
 use Rattle.std.proofs.lemmas.List.Sorted.{Contains-permutation}
-use Rattle.std.proofs.lemmas.Slice.Eq.{bytes_eq-Decides}
 use Rattle.std.specs.List.{list_any}
-use Rattle.std.specs.Prelude.{IsPermutation, bytes_eq}
-use Rattle.bl_graph_nodes.specs.Nodes.{Node, label_of, nodes_in}
-use Rattle.bl_graph_nodes.specs.Plain.{Label, plain_body}
+use Rattle.std.specs.Prelude.{IsPermutation}
+use Rattle.bl_tree.proofs.Basics.{and_second, contains_at, contains_mapped}
+use Rattle.bl_graph_nodes.specs.Nodes.{Node, nodes_in}
+use Rattle.bl_graph_nodes.specs.Plain.{plain_body}
 use Rattle.bl_machine.specs.declared.slots.Slot.{Slot}
 use Rattle.bl_machine.specs.Blocks.{up_to}
 use Rattle.bl_machine.specs.Slots.{Counters}
-use Rattle.bl_machine_pass.specs.Numbered.{position_where, same_label, same_node, sizes_of, slots_of, sort}
+use Rattle.bl_machine_pass.specs.Numbered.{position_where, same_node, sizes_of, slots_of}
 use Rattle.bl_machine_pass.specs.Transitions.{Change, Transition}
 use Rattle.bl_machine_pass.specs.Transitions.{ClearsBoth, ClearsCounter, EndsWhen, Finishes, SetsCounter, SetsFlag, SetsMark}
 use Rattle.bl_machine_pass_laws.specs.Turns.Laws.{StaysPlaced}
@@ -23,17 +23,9 @@ use Rattle.bl_emit_spec_laws.specs.Calls.Built.{asks_flag, registered, sets_mark
 use Rattle.bl_emit_spec_laws.proofs.OnPlaced.Lists.{picked_from}
 use Rattle.bl_emit_spec_laws.proofs.OnOwn.Counting.{get_up_to}
 use Rattle.bl_emit_spec_laws.proofs.OnOwn.Fitting.{ChangeFits}
-use Rattle.bl_emit_spec_laws.proofs.OnOwn.Members.{any_found, both_second, both_true, contains_at, contains_mapped, every_at, where_within}
+use Rattle.bl_emit_spec_laws.proofs.OnOwn.Members.{any_found, every_at, where_within}
 use Rattle.bl_emit_spec_laws.proofs.OnOwn.Owning.{Listed, copied_below, rule_fits}
-
-label_itself : (l : Label) → same_label l l ≡ true
-label_itself l =
-    both_true (bytes_eq l.position l.position) (nat_eq l.passed l.passed) ((bytes_eq-Decides l.position l.position).1 refl)
-    (eq-eqb l.passed l.passed refl)
-
-node_itself : (n : Node) → same_node n n ≡ true
-node_itself n =
-    both_true (same_label (label_of n) (label_of n)) (nat_eq (sort n) (sort n)) (label_itself (label_of n)) (eq-eqb (sort n) (sort n) refl)
+use Rattle.bl_machine_transitions_laws.proofs.Standing.{node_itself}
 
 module _ (a : Activity) (list : List Slot) (spots : SpotsDiffer) (slots_are : a.slots ≡ slots_of (plain_body a.unit.body) list)
     (sizes_are : a.sizes ≡ sizes_of list) (counters : Counters (plain_body a.unit.body) list) (placed : StaysPlaced)
@@ -66,7 +58,7 @@ module _ (a : Activity) (list : List Slot) (spots : SpotsDiffer) (slots_are : a.
         let found = any_found (asks_flag number k) (first_rules a) on in
         let from = picked_from (rules_at a) (first_positions a.blocks) found.one found.there in
         let same : k ≡ number found.one.node =
-        eqb-true k (number found.one.node) (both_second (is_flagged found.one.condition) (nat_eq k (number found.one.node)) found.on) in
+        eqb-true k (number found.one.node) (and_second (is_flagged found.one.condition) (nat_eq k (number found.one.node)) found.on) in
         subst (λ n. n < length a.order) (sym same) (rule_below found.one (contains_at (rules_at a) from.0 found.one from.2))
 
     change_below : (k : ℕ) (change : Change) →

@@ -3,6 +3,7 @@ use Rattle.std.proofs.Common.{◌≡◌, ℕ, suc, Bool, true, false, List, [], 
 use Rattle.std.proofs.Common.{if◌then◌else◌}
 use Rattle.std.specs.List.{list_any}
 use Rattle.std.specs.Prelude.{⊤}
+use Rattle.bl_tree.proofs.Basics.{contains_first}
 use Rattle.bl_tree.specs.declared.place.Place.{Place}
 use Rattle.bl_tree.specs.declared.tree.Expr.{Expr}
 use Rattle.bl_tree.specs.declared.tree.Guard.{Guard}
@@ -10,26 +11,8 @@ use Rattle.bl_tree.specs.declared.tree.Guard.TheVariants.{Abort, Reset}
 use Rattle.bl_graph_nodes.specs.Nodes.{ActAt, CheckAt, DepthEndAt, DepthJoinAt, EnterAt, ForkAt, HeadAt, Node}
 use Rattle.bl_graph_nodes.specs.Nodes.{PauseAt, StartAt, SurfaceEndAt, SurfaceJoinAt}
 use Rattle.bl_graph_nodes.specs.Nodes.{TestAt, are_instant, arguments_of, entry, is_instant, some_strong}
-use Rattle.bl_graph_nodes.specs.Plain.{
-  Act,
-  Again,
-  Await,
-  Block,
-  Bodies,
-  Body as BodyOf,
-  Cobegin,
-  Done,
-  If,
-  Label,
-  Last,
-  Plain,
-  Repeat,
-  Run as RunOf,
-  Then,
-  Until,
-  When,
-  While,
-}
+use Rattle.bl_graph_nodes.specs.Plain.{Act, Again, Await, Block, Bodies, Body as BodyOf, Cobegin, Done, If, Label, Last, Plain, Repeat, Run as RunOf, Then}
+use Rattle.bl_graph_nodes.specs.Plain.{Until, When, While}
 use Rattle.bl_machine.specs.declared.slots.Slot.{Slot}
 use Rattle.bl_machine.specs.Uses.{Slots}
 use Rattle.bl_machine_pass.specs.SlotLayout.{Spot, slot_at, spots_in, spots_in_each, spots_of}
@@ -39,7 +22,7 @@ use Rattle.bl_machine_pass.specs.Transitions.{age_of, body_ends, counters_in, co
 use Rattle.bl_machine_pass.specs.Transitions.{marked, needed, once, once_but, rests_in, rests_in_first, rests_of, rule_where, rules_in, rules_in_each, rules_of}
 use Rattle.bl_machine_pass.specs.Transitions.{strong_endings}
 use Rattle.bl_emit_spec_laws.specs.Registers.Laws.{are_in_a_row}
-use Rattle.bl_emit_spec_laws.proofs.OnOwn.Members.{Every, every_both, every_left, every_map, every_right, here}
+use Rattle.bl_emit_spec_laws.proofs.OnOwn.Members.{Every, every_both, every_left, every_map, every_right}
 
 -- ---- rows
 
@@ -309,7 +292,7 @@ module _ (slots : Slots) (all : List Transition) (S : Slot → Type 0) where
         record {
           rule = flagged (ForkAt l at) (SetsMark (ForkAt l at) ∷ entered);
           there = there.0;
-          marks = here (SetsMark (ForkAt l at)) entered;
+          marks = contains_first (SetsMark (ForkAt l at)) entered;
           is = refl;
         } in (
           flagged_fits (ForkAt l at) (SetsMark (ForkAt l at) ∷ entered) (mark, begin),
@@ -339,7 +322,7 @@ module _ (slots : Slots) (all : List Transition) (S : Slot → Type 0) where
     start_mark there = record {
       rule = flagged (StartAt l at) (SetsMark (StartAt l at) ∷ entered ∷ []);
       there = there.0;
-      marks = here (SetsMark (StartAt l at)) (entered ∷ []);
+      marks = contains_first (SetsMark (StartAt l at)) (entered ∷ []);
       is = refl;
     }
 

@@ -4,26 +4,10 @@ use Rattle.std.proofs.Common.{◌++◌, Some, nat_eq, refl, sym, ap, subst}
 use Rattle.std.proofs.Common.{◌∙◌, arith, length, unwrap_or, eq-eqb, eqb-true}
 use Rattle.std.specs.Prelude.{slice_get, slice_index}
 use Rattle.std.proofs.lemmas.List.{length-append}
-use Rattle.bl_graph_nodes.specs.Plain.{
-  Act,
-  Again,
-  Await,
-  Block,
-  Bodies,
-  Body as BodyOf,
-  Cobegin,
-  Done,
-  If,
-  Label,
-  Last,
-  Plain,
-  Repeat,
-  Run as RunOf,
-  Then,
-  Until,
-  When,
-  While,
-}
+use Rattle.std.proofs.lemmas.Bool.{and_from}
+use Rattle.bl_tree.proofs.Basics.{and_first, and_second}
+use Rattle.bl_graph_nodes.specs.Plain.{Act, Again, Await, Block, Bodies, Body as BodyOf, Cobegin, Done, If, Label, Last, Plain, Repeat, Run as RunOf, Then}
+use Rattle.bl_graph_nodes.specs.Plain.{Until, When, While}
 use Rattle.bl_machine.specs.declared.slots.Slot.{Slot}
 use Rattle.bl_machine.specs.Counters.{AllRestAt, EachRests, RestsAt}
 use Rattle.bl_machine.specs.Layout.{places_in, places_in_each, resting_places}
@@ -36,7 +20,6 @@ use Rattle.bl_machine_transitions_laws.proofs.Agreeing.{Agrees, in_first, in_sec
 use Rattle.bl_emit_spec_laws.specs.Registers.Laws.{are_in_a_row, follow_on}
 use Rattle.bl_emit_spec_laws.proofs.OnOwn.Counting.{counter_at, front_more, in_front, none_other, one_if, one_itself, value_at}
 use Rattle.bl_emit_spec_laws.proofs.OnOwn.Fitting.{RowsEach, RowsIn, RowsOf}
-use Rattle.bl_emit_spec_laws.proofs.OnOwn.Members.{both_first, both_second, both_true}
 
 -- ---- how many places
 
@@ -72,21 +55,21 @@ follow_both : (low v w : ℕ) (xs ys : List Slot) → w ≡ v + length xs → fo
     follow_on low v (xs ++ ys) ≡ true
 follow_both low v w [] ys is one two = subst (λ n. follow_on low n ys ≡ true) (let same : w ≡ v = omega (arith, is) in same) two
 follow_both low v w (x ∷ xs) ys is one two =
-    let inner = both_second (nat_eq x.counter low) (nat_eq x.value v && follow_on low (suc v) xs) one in
-    both_true (nat_eq x.counter low) (nat_eq x.value v && follow_on low (suc v) (xs ++ ys))
-    (both_first (nat_eq x.counter low) (nat_eq x.value v && follow_on low (suc v) xs) one)
-    (both_true (nat_eq x.value v) (follow_on low (suc v) (xs ++ ys)) (both_first (nat_eq x.value v) (follow_on low (suc v) xs) inner)
+    let inner = and_second (nat_eq x.counter low) (nat_eq x.value v && follow_on low (suc v) xs) one in
+    and_from (nat_eq x.counter low) (nat_eq x.value v && follow_on low (suc v) (xs ++ ys))
+    (and_first (nat_eq x.counter low) (nat_eq x.value v && follow_on low (suc v) xs) one)
+    (and_from (nat_eq x.value v) (follow_on low (suc v) (xs ++ ys)) (and_first (nat_eq x.value v) (follow_on low (suc v) xs) inner)
     (follow_both low (suc v) w xs ys (let same : w ≡ suc v + length xs = omega (arith, is) in same)
-    (both_second (nat_eq x.value v) (follow_on low (suc v) xs) inner) two))
+    (and_second (nat_eq x.value v) (follow_on low (suc v) xs) inner) two))
 
 row_of_follow : (low v : ℕ) (xs : List Slot) → follow_on low v xs ≡ true → are_in_a_row xs ≡ true
 row_of_follow low v [] on = refl
 row_of_follow low v (x ∷ xs) on =
-    let inner = both_second (nat_eq x.counter low) (nat_eq x.value v && follow_on low (suc v) xs) on in
-    let counter : x.counter ≡ low = eqb-true x.counter low (both_first (nat_eq x.counter low) (nat_eq x.value v && follow_on low (suc v) xs) on) in
-    let value : x.value ≡ v = eqb-true x.value v (both_first (nat_eq x.value v) (follow_on low (suc v) xs) inner) in
+    let inner = and_second (nat_eq x.counter low) (nat_eq x.value v && follow_on low (suc v) xs) on in
+    let counter : x.counter ≡ low = eqb-true x.counter low (and_first (nat_eq x.counter low) (nat_eq x.value v && follow_on low (suc v) xs) on) in
+    let value : x.value ≡ v = eqb-true x.value v (and_first (nat_eq x.value v) (follow_on low (suc v) xs) inner) in
     subst (λ c. follow_on c (suc x.value) xs ≡ true) (sym counter)
-    (subst (λ n. follow_on low (suc n) xs ≡ true) (sym value) (both_second (nat_eq x.value v) (follow_on low (suc v) xs) inner))
+    (subst (λ n. follow_on low (suc n) xs ≡ true) (sym value) (and_second (nat_eq x.value v) (follow_on low (suc v) xs) inner))
 
 pub there_at : (list : List Slot) (i : ℕ) → i < length list → slice_get list i ≡ Some (unwrap_or (slice_get list i) no_slot)
 there_at [] i below = absurd (omega (arith, below))
@@ -139,8 +122,8 @@ module _ (list : List Slot) (counted : list ≡ numbered_slots (counters_at list
       let one = one_itself low in
       let next : suc i ≡ i + 1 = omega arith in
       record {
-        follow = both_true (nat_eq x.counter low) (nat_eq x.value (suc (count low i)) && true) (eq-eqb x.counter low of_slot)
-            (both_true (nat_eq x.value (suc (count low i))) true (eq-eqb x.value (suc (count low i)) of_value) refl);
+        follow = and_from (nat_eq x.counter low) (nat_eq x.value (suc (count low i)) && true) (eq-eqb x.counter low of_slot)
+            (and_from (nat_eq x.value (suc (count low i))) true (eq-eqb x.value (suc (count low i)) of_value) refl);
         many = ap (count low) (sym next) ∙ (let sum : count low (suc i) ≡ count low i + 1 = omega arith in sum);
       }
 

@@ -6,6 +6,8 @@ use Rattle.std.proofs.lemmas.Bool.{le-leb, leb-true}
 use Rattle.std.proofs.lemmas.Option.{slice_get_within}
 use Rattle.std.specs.List.{list_all, list_any}
 use Rattle.std.specs.Prelude.{nat_le, slice_get}
+use Rattle.std.proofs.lemmas.Bool.{and_from}
+use Rattle.bl_tree.proofs.Basics.{any_from, contains_at, index_of}
 use Rattle.bl_tree.specs.declared.scalar.Scalar.{Scalar}
 use Rattle.bl_tree.specs.declared.scalar.Scalar.TheVariants.{Nat}
 use Rattle.bl_tree.specs.declared.scalar.Width.TheVariants.{W8, W16, W32}
@@ -33,8 +35,7 @@ use Rattle.bl_emit_spec_laws.proofs.OnOwn.Counting.{list_counts, size_few}
 use Rattle.bl_emit_spec_laws.proofs.OnOwn.Endless.{ends_of_unit}
 use Rattle.bl_emit_spec_laws.proofs.OnOwn.Fitting.{AgeFits, ChangeFits, ConditionFits, HasFlag, HasMark, IsCounter, RowsIn, RuleFits, entry_flag, rules_in_fit}
 use Rattle.bl_emit_spec_laws.proofs.OnOwn.InRow.{rows_in, spots_in_many, there_at}
-use Rattle.bl_emit_spec_laws.proofs.OnOwn.Members.{Every, all_true, any_found, any_true, both_true, contains_at, every_at, every_from, every_left}
-use Rattle.bl_emit_spec_laws.proofs.OnOwn.Members.{stands_at}
+use Rattle.bl_emit_spec_laws.proofs.OnOwn.Members.{Every, all_true, any_found, every_at, every_from, every_left}
 use Rattle.bl_emit_spec_laws.proofs.OnWithin.Changing.{ChangeWithin}
 
 -- ---- numbers of types
@@ -46,13 +47,13 @@ small true v n less t u first second = first (less refl)
 small false v n less t u first second = second
 
 in_w8 : (v : ℕ) → v ≤ 255 → in_range (Nat W8) (pos v) ≡ true
-in_w8 v less = both_true (nat_le 0 v) (nat_le v 255) (le-leb 0 v (omega arith)) (le-leb v 255 less)
+in_w8 v less = and_from (nat_le 0 v) (nat_le v 255) (le-leb 0 v (omega arith)) (le-leb v 255 less)
 
 in_w16 : (v : ℕ) → v ≤ 65_535 → in_range (Nat W16) (pos v) ≡ true
-in_w16 v less = both_true (nat_le 0 v) (nat_le v 65_535) (le-leb 0 v (omega arith)) (le-leb v 65_535 less)
+in_w16 v less = and_from (nat_le 0 v) (nat_le v 65_535) (le-leb 0 v (omega arith)) (le-leb v 65_535 less)
 
 in_w32 : (v : ℕ) → v < 2 ^ 32 → in_range (Nat W32) (pos v) ≡ true
-in_w32 v less = both_true (nat_le 0 v) (nat_le v 4_294_967_295) (le-leb 0 v (omega arith)) (le-leb v 4_294_967_295 (omega (arith, less)))
+in_w32 v less = and_from (nat_le 0 v) (nat_le v 4_294_967_295) (le-leb 0 v (omega arith)) (le-leb v 4_294_967_295 (omega (arith, less)))
 
 -- a value of a counter is a number of its type
 in_type : (size v : ℕ) → v ≤ size → v < 2 ^ 32 → in_range (type_for size) (pos v) ≡ true
@@ -89,7 +90,7 @@ module _ (a : Activity) (list : List Slot) (spots : SpotsDiffer) (slots_are : a.
 
     spot_listed : (p : Spot) → Contains (spots_in body) p → Listed (slot_at a.slots p)
     spot_listed p there =
-        let at = stands_at (spots_in body) p there in
+        let at = index_of (spots_in body) p there in
         contains_at list at.0 (slot_at a.slots p)
         (there_at list at.0 (spot_within at.0 p at.1) ∙ ap Some (sym (by_slots p at.0 at.1)))
 
@@ -97,7 +98,7 @@ module _ (a : Activity) (list : List Slot) (spots : SpotsDiffer) (slots_are : a.
 
     listed_counts : (slot : Slot) → Listed slot → PlaceCounts a.sizes slot
     listed_counts slot there =
-        let at = stands_at list slot there in
+        let at = index_of list slot there in
         subst (λ sizes. PlaceCounts sizes slot) (sym sizes_are) (list_counts list counters.values at.0 slot at.1)
 
     pub place_counts : (p : Spot) → Contains (spots_in body) p → PlaceCounts a.sizes (slot_at a.slots p)
@@ -105,7 +106,7 @@ module _ (a : Activity) (list : List Slot) (spots : SpotsDiffer) (slots_are : a.
 
     listed_fits : places_in body < 2 ^ 32 → (slot : Slot) → Listed slot → fits_counter a.sizes slot ≡ true
     listed_fits few slot there =
-        let at = stands_at list slot there in
+        let at = index_of list slot there in
         let counts = listed_counts slot there in
         let most : unwrap_or (slice_get a.sizes slot.counter) 0 ≤ length list =
         subst (λ (sizes : Sizes). unwrap_or (slice_get sizes slot.counter) 0 ≤ length list) (sym sizes_are) (size_few list at.0 slot at.1) in
@@ -140,14 +141,14 @@ module _ (a : Activity) (list : List Slot) (spots : SpotsDiffer) (slots_are : a.
 
     pub flag_on : (n : Node) → (flag : HasFlag a.slots all Listed n) → Contains (first_rules a) flag.rule → (registered a).flags (number n) ≡ true
     flag_on n flag first =
-        any_true (asks_flag number (number n)) (first_rules a) flag.rule first
-        (both_true (is_flagged flag.rule.condition) (nat_eq (number n) (number flag.rule.node)) (ap is_flagged flag.condition)
+        any_from (asks_flag number (number n)) (first_rules a) flag.rule first
+        (and_from (is_flagged flag.rule.condition) (nat_eq (number n) (number flag.rule.node)) (ap is_flagged flag.condition)
         (eq-eqb (number n) (number flag.rule.node) (ap number (sym flag.is))))
 
     mark_on : (n : Node) → HasMark a.slots all Listed n → (registered a).marks (number n) ≡ true
     mark_on n mark =
-        any_true (λ (rule : Transition). list_any (sets_mark number (number n)) rule.on_true) all mark.rule mark.there
-        (any_true (sets_mark number (number n)) mark.rule.on_true (SetsMark n) mark.marks (eq-eqb (number n) (number n) refl))
+        any_from (λ (rule : Transition). list_any (sets_mark number (number n)) rule.on_true) all mark.rule mark.there
+        (any_from (sets_mark number (number n)) mark.rule.on_true (SetsMark n) mark.marks (eq-eqb (number n) (number n) refl))
 
     slot_on : (slot : Slot) → Listed slot → (registered a).counters slot.counter ≡ true
     slot_on slot there = lt-ltb slot.counter (length a.sizes) (listed_counts slot there).counter
@@ -171,9 +172,9 @@ module _ (a : Activity) (list : List Slot) (spots : SpotsDiffer) (slots_are : a.
     change_on (ClearsBoth k) fits first ends = counter_on k fits
     change_on (SetsMark n) fits first ends = mark_on n fits
     change_on (EndsWhen start surface depth) fits first ends =
-        both_true ((registered a).marks (number start)) ((registered a).flags (number surface) && (registered a).flags (number depth))
+        and_from ((registered a).marks (number start)) ((registered a).flags (number surface) && (registered a).flags (number depth))
         (mark_on start fits.0)
-        (both_true ((registered a).flags (number surface)) ((registered a).flags (number depth))
+        (and_from ((registered a).flags (number surface)) ((registered a).flags (number depth))
         (flag_on surface fits.1 (first fits.1.rule (inl fits.1.is) fits.1.there))
         (flag_on depth fits.2 (first fits.2.rule (inr fits.2.is) fits.2.there)))
     change_on Finishes fits first ends = ends refl
@@ -224,7 +225,7 @@ module _ (a : Activity) (list : List Slot) (spots : SpotsDiffer) (slots_are : a.
 
     -- a counter of which the rule asks what it held is copied
     copied_on : (rule : Transition) (k : ℕ) → Contains all rule → reads_counter k rule.condition ≡ true → (registered a).copied k ≡ true
-    copied_on rule k there reads = any_true (λ (other : Transition). reads_counter k other.condition) all rule there reads
+    copied_on rule k there reads = any_from (λ (other : Transition). reads_counter k other.condition) all rule there reads
 
     asked_on : places_in body < 2 ^ 32 → (rule : Transition) (condition : Condition) → Contains all rule → Contains (first_rules a) rule →
         rule.condition ≡ condition → ConditionFits a.slots all Listed condition → asks_its_own (activity_view a) (registered a) rule.node condition ≡ true
@@ -232,17 +233,17 @@ module _ (a : Activity) (list : List Slot) (spots : SpotsDiffer) (slots_are : a.
     asked_on few rule (Rested slot) there first is fits =
         copied_on rule slot.counter there (ap (reads_counter slot.counter) is ∙ eq-eqb slot.counter slot.counter refl)
     asked_on few rule (RestedIn some) there first is fits =
-        both_true (list_all (λ (slot : Slot). (registered a).copied slot.counter) some)
+        and_from (list_all (λ (slot : Slot). (registered a).copied slot.counter) some)
         (list_all (fits_counter a.sizes) some && are_in_a_row some)
         (all_true (Contains some) (λ (slot : Slot). (registered a).copied slot.counter) some
         (λ slot inside. copied_on rule slot.counter there
         (ap (reads_counter slot.counter) is
-        ∙ any_true (λ (other : Slot). nat_eq slot.counter other.counter) some slot inside (eq-eqb slot.counter slot.counter refl)))
+        ∙ any_from (λ (other : Slot). nat_eq slot.counter other.counter) some slot inside (eq-eqb slot.counter slot.counter refl)))
         (every_from (Contains some) some (λ slot inside. inside)))
-        (both_true (list_all (fits_counter a.sizes) some) (are_in_a_row some)
+        (and_from (list_all (fits_counter a.sizes) some) (are_in_a_row some)
         (all_true Listed (fits_counter a.sizes) some (listed_fits few) fits.0) fits.1)
     asked_on few rule (Ended age needed) there first is fits =
-        both_true (has_age number (registered a) age) (list_all (λ (slot : Slot). (registered a).counters slot.counter) needed.slots)
+        and_from (has_age number (registered a) age) (list_all (λ (slot : Slot). (registered a).counters slot.counter) needed.slots)
         (age_on age fits.0) (all_true Listed (λ (slot : Slot). (registered a).counters slot.counter) needed.slots slot_on fits.1)
 
     pub asks_on : places_in body < 2 ^ 32 → (rule : Transition) → Contains all rule → Contains (first_rules a) rule →

@@ -2,6 +2,7 @@
 use Rattle.std.proofs.Common.{◌≡◌, ℕ, ◌<◌, ◌≤◌, ◌^◌, true, List, Contains, length, refl, sym, ap, subst, ◌∙◌}
 use Rattle.std.specs.List.{list_all}
 use Rattle.std.specs.Prelude.{IsPermutation}
+use Rattle.bl_tree.proofs.Basics.{same_some}
 use Rattle.bl_tree.specs.declared.tree.StructDef.{StructDef}
 use Rattle.bl_tree.specs.declared.tree.Unit.{Unit as UnitDef}
 use Rattle.bl_tree.specs.Reduce.{joined}
@@ -27,7 +28,7 @@ use Rattle.bl_emit_spec_laws.specs.Registers.Registers.{FewRegisters}
 use Rattle.bl_emit_spec_laws.specs.Calls.Built.{Activities, last_rules, registered}
 use Rattle.bl_emit_spec_laws.specs.Own.{BuiltAt, PlaceCounts}
 use Rattle.bl_emit_spec_laws.proofs.OnOwn.Few.{node_few, registers_few}
-use Rattle.bl_emit_spec_laws.proofs.OnOwn.Members.{Every, some_is}
+use Rattle.bl_emit_spec_laws.proofs.OnOwn.Members.{Every}
 use Rattle.bl_emit_spec_laws.proofs.OnOwn.Owning.{asks_on, changes_on, changes_stay, copied_below, entry_rule, flag_on, place_counts}
 use Rattle.bl_emit_spec_laws.proofs.OnPlaced.Placing.{Laws, entry_first, first_among, flags_first, last_among}
 use Rattle.bl_emit_spec_laws.proofs.OnWithin.Changing.{ChangeWithin}
@@ -58,7 +59,7 @@ module _ (spots : SpotsDiffer) (structs : List StructDef) (units : List UnitDef)
         let own = each_at IsActivityOf (activities_of units) machine (graph_position units k) unit at.agrees
         (filtered_at (λ it. is_activity it.kind) units k unit at.is_there at.activity) in
         let parts = at.built.made k unit at.is_there at.activity in
-        let same : own.0 ≡ parts.one = some_is own.0 parts.one (sym own.1 ∙ parts.is) in
+        let same : own.0 ≡ parts.one = same_some own.0 parts.one (sym own.1 ∙ parts.is) in
         record {
           one = parts.one;
           slots = parts.slots ∙ ap (λ (u : UnitDef). slots_of (plain_body u.body) parts.one.slots) (sym unit_is);

@@ -1,31 +1,15 @@
 -- Rules of statements behind which something else follows don't end the body.
 use Rattle.std.proofs.Common.{◌≡◌, ℕ, suc, Bool, true, false, not, ◌&&◌, ◌||◌, List, [], ◌∷◌, ◌++◌, map, refl}
 use Rattle.std.specs.List.{list_all, list_any}
+use Rattle.std.proofs.lemmas.Bool.{and_from, or_from}
+use Rattle.bl_tree.proofs.Basics.{not_of_false}
 use Rattle.bl_tree.specs.declared.place.Place.{Place}
 use Rattle.bl_tree.specs.declared.tree.Guard.{Guard}
 use Rattle.bl_tree.specs.declared.tree.Guard.TheVariants.{Abort, Reset}
 use Rattle.bl_graph_nodes.specs.Nodes.{ActAt, CheckAt, DepthEndAt, DepthJoinAt, EnterAt, ForkAt, HeadAt, Node, PauseAt, ResumeAt}
 use Rattle.bl_graph_nodes.specs.Nodes.{StartAt, SurfaceEndAt, SurfaceJoinAt, TestAt, are_instant, arguments_of, is_instant}
-use Rattle.bl_graph_nodes.specs.Plain.{
-  Act,
-  Again,
-  Await,
-  Block,
-  Bodies,
-  Body as BodyOf,
-  Cobegin,
-  Done,
-  If,
-  Label,
-  Last,
-  Plain,
-  Repeat,
-  Run as RunOf,
-  Then,
-  Until,
-  When,
-  While,
-}
+use Rattle.bl_graph_nodes.specs.Plain.{Act, Again, Await, Block, Bodies, Body as BodyOf, Cobegin, Done, If, Label, Last, Plain, Repeat, Run as RunOf, Then}
+use Rattle.bl_graph_nodes.specs.Plain.{Until, When, While}
 use Rattle.bl_machine.specs.declared.slots.Slot.{Slot}
 use Rattle.bl_machine.specs.Uses.{Slots}
 use Rattle.bl_machine_pass.specs.Transitions.{Age, Change, Transition}
@@ -41,27 +25,15 @@ is_quiet rule = not (list_any ends_body rule.on_true) && not (list_any ends_body
 pub record Quiet (rules : List Transition) : Type 0 where
   pub all : list_all is_quiet rules ≡ true
 
-both : (a b : Bool) → a ≡ true → b ≡ true → (a && b) ≡ true
-both true b h i = i
-both false b h i = h
-
-none_of_both : (a b : Bool) → a ≡ false → b ≡ false → (a || b) ≡ false
-none_of_both false b h i = i
-none_of_both true b h i = absurd (cc)
-
-not_so : (b : Bool) → b ≡ false → not b ≡ true
-not_so false h = refl
-not_so true h = absurd (cc)
-
 -- changes of which none ends the body
 pub record Going (changes : List Change) : Type 0 where
   pub none : list_any ends_body changes ≡ false
 
 pub quiet_cons : (rule : Transition) (rest : List Transition) → Going rule.on_true → Going rule.on_false → Quiet rest → Quiet (rule ∷ rest)
 quiet_cons rule rest on_true on_false more = record {
-  all = both (is_quiet rule) (list_all is_quiet rest)
-      (both (not (list_any ends_body rule.on_true)) (not (list_any ends_body rule.on_false)) (not_so (list_any ends_body rule.on_true) on_true.none)
-      (not_so (list_any ends_body rule.on_false) on_false.none)) more.all;
+  all = and_from (is_quiet rule) (list_all is_quiet rest)
+      (and_from (not (list_any ends_body rule.on_true)) (not (list_any ends_body rule.on_false)) (not_of_false (list_any ends_body rule.on_true) on_true.none)
+      (not_of_false (list_any ends_body rule.on_false) on_false.none)) more.all;
 }
 
 both_lists : (first rest : List Transition) → list_all is_quiet first ≡ true → list_all is_quiet rest ≡ true → list_all is_quiet (first ++ rest) ≡ true
@@ -77,7 +49,7 @@ both_lists (rule ∷ first) rest h i = split (is_quiet rule) h (both_lists first
 pub quiet_both : (first rest : List Transition) → Quiet first → Quiet rest → Quiet (first ++ rest)
 quiet_both first rest h i = record { all = both_lists first rest h.all i.all }
 
-no_rules : Quiet []
+pub no_rules : Quiet []
 no_rules = record { all = refl }
 
 no_changes : Going []
@@ -86,10 +58,10 @@ no_changes = record { none = refl }
 -- ---- changes
 
 one_quiet : (next : Change) → ends_body next ≡ false → Going (next ∷ [])
-one_quiet next h = record { none = none_of_both (ends_body next) false h refl }
+one_quiet next h = record { none = or_from (ends_body next) false h refl }
 
 first_quiet : (first : Change) (rest : List Change) → ends_body first ≡ false → Going rest → Going (first ∷ rest)
-first_quiet first rest h i = record { none = none_of_both (ends_body first) (list_any ends_body rest) h i.none }
+first_quiet first rest h i = record { none = or_from (ends_body first) (list_any ends_body rest) h i.none }
 
 frees_quiet : (ks : List ℕ) (next : Change) → ends_body next ≡ false → Going (map ClearsCounter ks ++ next ∷ [])
 frees_quiet [] next h = one_quiet next h

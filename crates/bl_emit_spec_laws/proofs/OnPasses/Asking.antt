@@ -2,52 +2,17 @@
 use Rattle.std.proofs.Common.{◌≡◌, ℕ, zero, suc, ◌<◌, Bool, true, false, ◌&&◌, List, [], ◌∷◌, ◌++◌, Contains}
 use Rattle.std.proofs.Common.{refl, sym, ap, subst, ◌∙◌, arith}
 use Rattle.std.specs.List.{list_all}
+use Rattle.bl_tree.proofs.Basics.{and_first, and_second}
 use Rattle.bl_tree.specs.declared.place.Place.{Place}
-use Rattle.bl_graph_nodes.specs.Nodes.{
-  ActAt,
-  Arguments,
-  CheckAt,
-  DepthEndAt,
-  DepthJoinAt,
-  EnterAt,
-  ForkAt,
-  HeadAt,
-  Node,
-  PauseAt,
-  ResumeAt,
-  StartAt,
-  SurfaceEndAt,
-  SurfaceJoinAt,
-  TestAt,
-  are_instant,
-  is_instant,
-}
-use Rattle.bl_graph_nodes.specs.Plain.{
-  Act,
-  Again,
-  Await,
-  Block,
-  Bodies,
-  Body as BodyOf,
-  Cobegin,
-  Done,
-  If,
-  Label,
-  Last,
-  Plain,
-  Repeat,
-  Run as RunIn,
-  Then,
-  Until,
-  When,
-  While,
-}
+use Rattle.bl_graph_nodes.specs.Nodes.{ActAt, Arguments, CheckAt, DepthEndAt, DepthJoinAt, EnterAt, ForkAt, HeadAt, Node, PauseAt, ResumeAt, StartAt}
+use Rattle.bl_graph_nodes.specs.Nodes.{SurfaceEndAt, SurfaceJoinAt, TestAt, are_instant, is_instant}
+use Rattle.bl_graph_nodes.specs.Plain.{Act, Again, Await, Block, Bodies, Body as BodyOf, Cobegin, Done, If, Label, Last, Plain, Repeat, Run as RunIn, Then}
+use Rattle.bl_graph_nodes.specs.Plain.{Until, When, While}
 use Rattle.bl_machine.specs.Uses.{Slots}
 use Rattle.bl_machine_pass.specs.Registers.{Registers, after_rule, all_changed, due_by, is_at, is_due, with_counter}
 use Rattle.bl_machine_pass.specs.Transitions.{Change, Condition, Finishes, SetsCounter, SetsFlag, Transition, body_ends, enter, flagged, rule_where}
 use Rattle.bl_machine_pass.specs.Transitions.{ClearsBoth, ClearsCounter, Ended, EndsWhen, Flagged, IsNew, Rested, RestedIn, SetsMark, age_of, joins, rules}
 use Rattle.bl_machine_pass.specs.Transitions.{rules_in, rules_in_each, rules_of}
-use Rattle.bl_emit_spec_laws.proofs.OnOwn.Members.{both_first, both_second}
 
 -- whether there are no changes
 abbrev pub are_none : List Change → Bool
@@ -171,21 +136,21 @@ module _ (slots : Slots) (body : Block) (rule : Transition) (there : Contains (r
 
   -- where it goes on nothing changes unless the answer is true
   pub resumes_quiet : rule.node ≡ ResumeAt l at arguments → rule.on_false ≡ []
-  resumes_quiet is = none_is rule.on_false (both_second (asks_rest rule.condition) (are_none rule.on_false) (told_of (ResumeAt l at arguments) is))
+  resumes_quiet is = none_is rule.on_false (and_second (asks_rest rule.condition) (are_none rule.on_false) (told_of (ResumeAt l at arguments) is))
 
   -- whether it goes on depends on what counters held alone
   pub resumes_rested : (number : Node → ℕ) (r s : Registers) → rule.node ≡ ResumeAt l at arguments → r.rested ≡ s.rested →
       is_due number rule r ≡ is_due number rule s
   resumes_rested number r s is same =
       rest_same number rule.node rule.condition r s
-      (both_first (asks_rest rule.condition) (are_none rule.on_false) (told_of (ResumeAt l at arguments) is)) same
+      (and_first (asks_rest rule.condition) (are_none rule.on_false) (told_of (ResumeAt l at arguments) is)) same
 
   -- where it begins that doesn't change
   pub begins_quiet : (number : Node → ℕ) (answer : Bool) (r : Registers) → rule.node ≡ EnterAt l at arguments →
       (after_rule number rule answer r).rested ≡ r.rested
   begins_quiet number true r is =
       set_none number rule.on_true r
-      (both_first (list_all sets_counter rule.on_true) (are_none rule.on_false) (told_of (EnterAt l at arguments) is))
+      (and_first (list_all sets_counter rule.on_true) (are_none rule.on_false) (told_of (EnterAt l at arguments) is))
   begins_quiet number false r is =
       ap (λ changes. (all_changed number changes r).rested)
-      (none_is rule.on_false (both_second (list_all sets_counter rule.on_true) (are_none rule.on_false) (told_of (EnterAt l at arguments) is)))
+      (none_is rule.on_false (and_second (list_all sets_counter rule.on_true) (are_none rule.on_false) (told_of (EnterAt l at arguments) is)))

@@ -1,45 +1,19 @@
 -- Blocks of C statements, one before others.
 use Rattle.std.proofs.Common.{◌≡◌, ℕ, zero, suc, ◌+◌, ◌<◌, ◌≤◌, Bool, true, false, List, [], ◌∷◌, ◌++◌, length, map, drop, None, Some}
 use Rattle.std.proofs.Common.{refl, sym, ap, subst, ◌∙◌, arith}
-use Rattle.std.proofs.lemmas.Option.{same_Some}
 use Rattle.std.specs.Prelude.{slice_get}
+use Rattle.bl_tree.proofs.Basics.{drop_none}
 use Rattle.bl_tree.specs.declared.c.CStmt.{CStmt}
 use Rattle.bl_ctext_semantics.specs.Course.{End, Outcome, breaks, following_end, goes_on, returns, traps}
 use Rattle.bl_ctext_semantics.specs.Meaning.{Scope, block_c, runs_c}
 use Rattle.bl_ctext_semantics.specs.Memory.{Memory}
 use Rattle.bl_emit_spec.specs.Blocks.{NodeCode}
 use Rattle.bl_emit_spec_laws.specs.Passes.{behind_firsts}
+use Rattle.bl_emit_spec_laws.proofs.OnActivities.Appending.{following_memory, following_on}
 
 -- ---- lists
 
--- nothing is behind the end
-pub drop_all : {A : Type 0} (xs : List A) (k : ℕ) → length xs ≤ k → drop k xs ≡ []
-drop_all [] zero within = refl
-drop_all [] (suc k) within = refl
-drop_all (x ∷ xs) zero within = absurd (omega (arith, within))
-drop_all (x ∷ xs) (suc k) within = drop_all xs k (omega (arith, within))
-
--- what is behind a position begins with the element there
-pub drop_at : {A : Type 0} (xs : List A) (k : ℕ) (x : A) → slice_get xs k ≡ Some x → drop k xs ≡ x ∷ drop (suc k) xs
-drop_at [] k x there = absurd (cc)
-drop_at {A} (y ∷ xs) zero x there = ap (λ (z : A). z ∷ xs) (same_Some y x there)
-drop_at (y ∷ xs) (suc k) x there = drop_at xs k x there
-
 -- ---- outcomes
-
-following_on : (n : ℕ) (end : End) (memory : Memory) (rest : Memory → Outcome Memory) → end ≡ goes_on →
-    (following_end n memory end rest).end ≡ (rest memory).end
-following_on n goes_on memory rest is = refl
-following_on n breaks memory rest is = absurd (cc)
-following_on n (returns result) memory rest is = absurd (cc)
-following_on n traps memory rest is = absurd (cc)
-
-following_memory : (n : ℕ) (end : End) (memory : Memory) (rest : Memory → Outcome Memory) → end ≡ goes_on →
-    (following_end n memory end rest).memory ≡ (rest memory).memory
-following_memory n goes_on memory rest is = refl
-following_memory n breaks memory rest is = absurd (cc)
-following_memory n (returns result) memory rest is = absurd (cc)
-following_memory n traps memory rest is = absurd (cc)
 
 following_traps : (n : ℕ) (end : End) (memory : Memory) (rest : Memory → Outcome Memory) → end ≡ traps →
     (following_end n memory end rest).end ≡ traps
@@ -93,10 +67,6 @@ module _ (s : CStmt) (rest : List CStmt) (scope : Scope) (here : Memory) where
   more_traps traps_here = following_traps o.count o.end o.memory (λ m. block_c rest scope m) (sym alone_end ∙ traps_here)
 
 -- ---- what is behind a position
-
-pub drop_none : {A : Type 0} (xs : List A) → drop 0 xs ≡ xs
-drop_none [] = refl
-drop_none (x ∷ xs) = refl
 
 -- where it begins with an element, that stands at the position
 pub get_first : {A : Type 0} (xs : List A) (k : ℕ) (y : A) (ys : List A) → drop k xs ≡ y ∷ ys → slice_get xs k ≡ Some y

@@ -3,27 +3,14 @@ use Rattle.std.proofs.Common.{◌≡◌, ◌⊎◌, inl, inr, ℕ, suc, Bool, tr
 use Rattle.std.proofs.Common.{Some, None, refl, sym, ap, subst}
 use Rattle.std.proofs.Common.{◌∙◌, arith, ⊎_elim}
 use Rattle.std.proofs.lemmas.Option.{same_Some}
+use Rattle.bl_tree.proofs.Basics.{drop_none, true_not_false}
 use Rattle.bl_tree.specs.declared.c.CStmt.{CStmt}
 use Rattle.bl_tree.specs.declared.tree.StructDef.{StructDef}
 use Rattle.bl_tree.specs.declared.tree.Unit.{Unit as UnitDef}
 use Rattle.bl_tree.specs.declared.value.Value.{Value}
 use Rattle.bl_tree.specs.Reduce.{joined}
-use Rattle.bl_graph_nodes.specs.Nodes.{
-  ActAt,
-  CheckAt,
-  DepthEndAt,
-  DepthJoinAt,
-  EnterAt,
-  ForkAt,
-  HeadAt,
-  Node,
-  PauseAt,
-  ResumeAt,
-  StartAt,
-  SurfaceEndAt,
-  SurfaceJoinAt,
-  TestAt,
-}
+use Rattle.bl_graph_nodes.specs.Nodes.{ActAt, CheckAt, DepthEndAt, DepthJoinAt, EnterAt, ForkAt, HeadAt, Node, PauseAt, ResumeAt, StartAt, SurfaceEndAt}
+use Rattle.bl_graph_nodes.specs.Nodes.{SurfaceJoinAt, TestAt}
 use Rattle.bl_graph_nodes.specs.Plain.{plain_body}
 use Rattle.bl_ctext_semantics.specs.Course.{traps}
 use Rattle.bl_ctext_semantics.specs.Meaning.{Scope, block_c}
@@ -44,7 +31,7 @@ use Rattle.bl_emit_spec_laws.specs.Calls.Laws.{block_done, shown_rule}
 use Rattle.bl_emit_spec_laws.specs.Calls.Invariant.{PassRepresents}
 use Rattle.bl_emit_spec_laws.specs.Passes.{BlocksPass, BlocksPlaced, TurnsFit, behind_firsts, turns_in_blocks}
 use Rattle.bl_emit_spec_laws.specs.Within.{PassesStayWithin}
-use Rattle.bl_emit_spec_laws.proofs.OnPasses.Blocks.{Alike, drop_none}
+use Rattle.bl_emit_spec_laws.proofs.OnPasses.Blocks.{Alike}
 use Rattle.bl_emit_spec_laws.proofs.OnPasses.Standing.{Point, Reached, Unflagged, all, later, no_text, none_left, now, text_at, text_of, unflagged_first}
 use Rattle.bl_emit_spec_laws.proofs.OnPasses.Standing.{unflagged_next}
 use Rattle.bl_emit_spec_laws.proofs.OnPasses.Stepping.{skipped, stopped, turned}
@@ -64,9 +51,6 @@ point_or_run (DepthEndAt l at) = inl tt
 point_or_run (ForkAt l at) = inl tt
 point_or_run (SurfaceJoinAt l at) = inl tt
 point_or_run (DepthJoinAt l at) = inl tt
-
-no_such : true ≡ false → ⊥
-no_such h = cc
 
 module _ (structs : List StructDef) (units : List UnitDef) (entry : ℕ) (machine : List InMachine) (activities : Activities)
     (placed : BlocksPlaced structs units entry machine activities) (fit : TurnsFit structs units entry machine activities)
@@ -179,7 +163,7 @@ module _ (structs : List StructDef) (units : List UnitDef) (entry : ℕ) (machin
 
   -- a node that isn't due has no turn
   turn_not_due : (i : ℕ) (rule : Transition) (r : Registers) → is_due (R i) rule r ≡ true → is_due (R i) rule r ≡ false → ⊥
-  turn_not_due i rule r due none = no_such (sym due ∙ none)
+  turn_not_due i rule r due none = true_not_false (sym due ∙ none)
 
   pub pass : {i k : ℕ} {frames : Frames} {store : Store} {copies : List Value} {r : Registers} {frames' : Frames} {left : Store} {r' : Registers} →
       Executes W R S C i k frames store copies r frames' left r' → (unit : UnitDef) (scope : Scope) (here : Memory) →

@@ -1,9 +1,10 @@
 -- Where a pass over the blocks of a function stands: the turns that are left, the flags of their nodes, and a call that a block leaves.
-use Rattle.std.proofs.Common.{◌≡◌, ◌⊎◌, inl, inr, ℕ, zero, suc, ◌+◌, ◌<◌, ◌≤◌, Bool, true, false, List, []}
+use Rattle.std.proofs.Common.{◌≡◌, ◌⊎◌, inl, inr, ℕ, suc, ◌+◌, ◌<◌, ◌≤◌, Bool, true, false, List, []}
 use Rattle.std.proofs.Common.{◌∷◌, ◌++◌, Contains, length, map, drop, Option, Some, None, refl, sym, ap, subst}
 use Rattle.std.proofs.Common.{◌∙◌, arith, ⊎_elim, if◌then◌else◌}
 use Rattle.std.proofs.lemmas.Option.{same_Some}
 use Rattle.std.specs.Prelude.{slice_get}
+use Rattle.bl_tree.proofs.Basics.{drop_past, less_or_not}
 use Rattle.bl_tree.specs.declared.c.CStmt.{CStmt}
 use Rattle.bl_tree.specs.declared.tree.StructDef.{StructDef}
 use Rattle.bl_tree.specs.declared.tree.Unit.{Unit as UnitDef}
@@ -25,18 +26,9 @@ use Rattle.bl_emit_spec_laws.specs.Calls.Built.{Activities, activity_at, last_ru
 use Rattle.bl_emit_spec_laws.specs.Calls.Calls.{PassStarts}
 use Rattle.bl_emit_spec_laws.specs.Calls.Laws.{CalledAt, CompilationContext}
 use Rattle.bl_emit_spec_laws.specs.Passes.{BlockAt, BlocksPlaced, GoesStraight, IsBehind, behind_firsts, turns_in_blocks}
-use Rattle.bl_emit_spec_laws.proofs.OnPasses.Blocks.{drop_all, get_drop, get_first, none_before}
+use Rattle.bl_emit_spec_laws.proofs.OnPasses.Blocks.{get_drop, get_first, none_before}
 use Rattle.bl_emit_spec_laws.proofs.OnPasses.Turns.{Follows, Head, asked_flag, first_own, flags_kept, head_of, leads, left_flag, left_to, nothing, text}
 use Rattle.bl_emit_spec_laws.proofs.OnPasses.Turns.{text_alone}
-
--- whether a number is within
-within_or_not : (k n : ℕ) → (k < n) ⊎ (n ≤ k)
-within_or_not k zero = inr (omega arith)
-within_or_not zero (suc n) = inl (omega arith)
-within_or_not (suc k) (suc n) = ⊎_elim (λ less. inl (omega (arith, less))) (λ more. inr (omega (arith, more))) (within_or_not k n)
-
-no_such : true ≡ false → ⊥
-no_such h = cc
 
 module _ (structs : List StructDef) (units : List UnitDef) (entry : ℕ) (activities : Activities) where
   abbrev W : Setting
@@ -198,11 +190,11 @@ module _ (structs : List StructDef) (units : List UnitDef) (entry : ℕ) (activi
 
     -- a number with a turn is within
     within : (k : ℕ) (t : NodeCode) (ts : List NodeCode) → drop k (all i) ≡ t ∷ ts → k < length (all i)
-    within k t ts is = by (within_or_not k (length (all i)))
+    within k t ts is = by (less_or_not k (length (all i)))
       where
         by : (k < length (all i)) ⊎ (length (all i) ≤ k) → k < length (all i)
         by (inl less) = less
-        by (inr past) = let none : t ∷ ts ≡ [] = sym is ∙ drop_all (all i) k past in absurd (cc)
+        by (inr past) = let none : t ∷ ts ≡ [] = sym is ∙ drop_past (all i) k past in absurd (cc)
 
     -- the turn at a number is that of the rule
     pub own_turn : (k : ℕ) (rule : Transition) → R i rule.node ≡ k → (block : BlockAt (A i) unit (R i rule.node) rule) → (t : NodeCode)

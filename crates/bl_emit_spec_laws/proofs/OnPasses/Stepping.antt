@@ -3,27 +3,15 @@ use Rattle.std.proofs.Common.{◌≡◌, ◌⊎◌, ℕ, suc, Bool, true, false,
 use Rattle.std.proofs.Common.{◌∷◌, ◌++◌, Contains, length, map, drop, Option, Some, None, refl, sym, ap, subst}
 use Rattle.std.proofs.Common.{◌∙◌, append_assoc, append-nil, arith, eq-eqb, if◌then◌else◌}
 use Rattle.std.specs.Prelude.{is_some}
+use Rattle.std.proofs.lemmas.Bool.{or_left, or_right}
+use Rattle.bl_tree.proofs.Basics.{drop_at, true_not_false}
 use Rattle.bl_tree.specs.declared.c.CStmt.{CStmt}
 use Rattle.bl_tree.specs.declared.tree.StructDef.{StructDef}
 use Rattle.bl_tree.specs.declared.tree.Unit.{Unit as UnitDef}
 use Rattle.bl_tree.specs.declared.value.Value.{Value}
 use Rattle.bl_tree.specs.Reduce.{joined}
-use Rattle.bl_graph_nodes.specs.Nodes.{
-  ActAt,
-  CheckAt,
-  DepthEndAt,
-  DepthJoinAt,
-  EnterAt,
-  ForkAt,
-  HeadAt,
-  Node,
-  PauseAt,
-  ResumeAt,
-  StartAt,
-  SurfaceEndAt,
-  SurfaceJoinAt,
-  TestAt,
-}
+use Rattle.bl_graph_nodes.specs.Nodes.{ActAt, CheckAt, DepthEndAt, DepthJoinAt, EnterAt, ForkAt, HeadAt, Node, PauseAt, ResumeAt, StartAt, SurfaceEndAt}
+use Rattle.bl_graph_nodes.specs.Nodes.{SurfaceJoinAt, TestAt}
 use Rattle.bl_graph_nodes.specs.Plain.{plain_body}
 use Rattle.bl_ctext_semantics.specs.Course.{Outcome, goes_on, traps}
 use Rattle.bl_ctext_semantics.specs.Meaning.{Scope, block_c}
@@ -50,9 +38,8 @@ use Rattle.bl_emit_spec_laws.specs.Calls.Laws.{CallIsLeft, GuardsChoose, HasShow
 use Rattle.bl_emit_spec_laws.specs.Calls.Laws.{guarded_by_rule, own_done, shown_rule}
 use Rattle.bl_emit_spec_laws.specs.Calls.Invariant.{PassRepresents}
 use Rattle.bl_emit_spec_laws.specs.Passes.{BlockAt, BlocksPlaced, GoesStraight, IsBehind, behind_firsts, turns_in_blocks}
-use Rattle.bl_emit_spec_laws.proofs.OnOwn.Members.{or_first, or_second}
 use Rattle.bl_emit_spec_laws.proofs.OnPasses.Asking.{begins_quiet, resumes_rested}
-use Rattle.bl_emit_spec_laws.proofs.OnPasses.Blocks.{Alike, drop_at, drop_next, drop_past, first_done, get_behind, get_first}
+use Rattle.bl_emit_spec_laws.proofs.OnPasses.Blocks.{Alike, drop_next, drop_past, first_done, get_behind, get_first}
 use Rattle.bl_emit_spec_laws.proofs.OnPasses.Blocks.{more_traps, opened, then_more, then_traps}
 use Rattle.bl_emit_spec_laws.proofs.OnPasses.Same.{leaves_none, one_run, same_parts, stays}
 use Rattle.bl_emit_spec_laws.proofs.OnPasses.Standing.{Asleep, Awake, Due, Leaves, NoneDue, Place, Point, Reached, Unflagged, all, first_left, goes_to}
@@ -61,12 +48,7 @@ use Rattle.bl_emit_spec_laws.proofs.OnPasses.Standing.{text_of, turn_there}
 use Rattle.bl_emit_spec_laws.proofs.OnPasses.Straight.{answers_true, is_last, own_alone}
 use Rattle.bl_emit_spec_laws.proofs.OnPasses.Turns.{Follows, Head, flags_stay, free_flag, fused, fused_is, head_of, leads, left_follows, left_to, nothing}
 use Rattle.bl_emit_spec_laws.proofs.OnPasses.Turns.{part_of, text, text_alone}
-
-no_such : true ≡ false → ⊥
-no_such h = cc
-
-nothing_left : (g : ℕ) → None ≡ Some g → ⊥
-nothing_left g is = cc
+use Rattle.bl_emit_spec_laws.proofs.OnPasses.Turns.{nothing_left}
 
 module _ (structs : List StructDef) (units : List UnitDef) (entry : ℕ) (activities : Activities) where
   abbrev W : Setting
@@ -357,7 +339,7 @@ module _ (structs : List StructDef) (units : List UnitDef) (entry : ℕ) (machin
             subst (λ (code : List CStmt). Alike (block_c (guarded_by_rule view first rule (fused_code leaving turn ts) ∷ []) scope here)
             (block_c code scope here)) (fused_is leaving turn ts)
             (choose.enters i unit scope frames store copies r first rule (fused_code leaving turn ts) here mid has stands its
-            (or_second (is_left r first) (is_due (rank i) rule r) due))
+            (or_right (is_left r first) (is_due (rank i) rule r) due))
 
         behind_first_one : (done leaving ts).end ≡ goes_on →
             Alike (block_c (merged_code view.word first leaving (turn ∷ ts) ++ behind) scope here)
@@ -656,7 +638,7 @@ module _ (structs : List StructDef) (units : List UnitDef) (entry : ℕ) (machin
             left.stands other.there
             (first_at (suc k) other.rule other.there other.numbered (marks_of follows.others ++ behind_firsts follows.more) marks_next)
             (subst (λ (before : Option ℕ). has_left (registered own) before ≡ true) some f.its)
-            (or_first (after.flags g) (is_due (rank i) other.rule after)
+            (or_left (after.flags g) (is_due (rank i) other.rule after)
             (flags_stay (rank i) g (if answer then rule.on_true else rule.on_false) r (f.told g some)))
 
         -- the `run` isn't gone on with otherwise
@@ -725,7 +707,7 @@ module _ (structs : List StructDef) (units : List UnitDef) (entry : ℕ) (machin
       found = split p
 
       several : (t : NodeCode) (ts : List NodeCode) → found.ts ≡ t ∷ ts → is_last found.ts ≡ true → found.before ≡ None
-      several t ts is last = absurd (no_such (sym last ∙ ap is_last is))
+      several t ts is last = absurd (true_not_false (sym last ∙ ap is_last is))
 
       pub turned : (answer : Bool) (frames' : Frames) (left : Store) → BeginsAlone rank slots i unit rule r → CopiesMatch w i rule.node store copies →
           Performs w rank slots clear i rule.node frames store answer frames' left →

@@ -1,8 +1,9 @@
 -- The text of turns, block by block, and the flags that rules set.
-use Rattle.std.proofs.Common.{◌≡◌, ◌∙◌, ◌⊎◌, inl, inr, ℕ, zero, suc, Bool, true, false, ◌&&◌, List, [], ◌∷◌, ◌++◌, map, Option, Some, None}
+use Rattle.std.proofs.Common.{◌≡◌, ◌∙◌, ◌⊎◌, inl, inr, ℕ, Bool, true, false, ◌&&◌, List, [], ◌∷◌, ◌++◌, map, Option, Some, None}
 use Rattle.std.proofs.Common.{Contains, append-nil, refl, sym, ap, arith, nat_eq, eqb-true, eq-eqb, if◌then◌else◌}
 use Rattle.std.proofs.lemmas.Option.{same_Some}
 use Rattle.std.specs.Prelude.{is_some}
+use Rattle.bl_tree.proofs.Basics.{any_from, contains_first, contains_further}
 use Rattle.bl_tree.specs.declared.c.CStmt.{CStmt}
 use Rattle.bl_tree.specs.declared.text.Text.{Text}
 use Rattle.bl_tree.specs.Reduce.{joined}
@@ -20,7 +21,6 @@ use Rattle.bl_emit_spec.specs.Blocks.{ActivityView, NodeCode, all_merged, contro
 use Rattle.bl_emit_spec.specs.Blocks.{merged_code, next_turn, same_run}
 use Rattle.bl_emit_spec_laws.specs.Calls.Built.{asks_flag, registered}
 use Rattle.bl_emit_spec_laws.specs.Passes.{behind_firsts}
-use Rattle.bl_emit_spec_laws.proofs.OnOwn.Members.{any_true}
 
 -- ---- the text
 
@@ -81,7 +81,7 @@ pub record Follows (last : NodeCode) (rest : List (List NodeCode)) : Type 0 wher
   pub is : rest ≡ (next ∷ others) ∷ more
   pub same : same_run last.run next.run ≡ true
 
-nothing_left : (g : ℕ) → None ≡ Some g → ⊥
+pub nothing_left : (g : ℕ) → None ≡ Some g → ⊥
 nothing_left g is = cc
 
 -- the flag is that of the block's first node
@@ -117,16 +117,10 @@ pub first_own : (a : Activity) (rule : Transition) → Contains (first_rules a) 
     (registered a).flags ((activity_view a).number rule.node) ≡ true
 first_own a rule there waits =
     let number = (activity_view a).number in
-    any_true (asks_flag number (number rule.node)) (first_rules a) rule there
+    any_from (asks_flag number (number rule.node)) (first_rules a) rule there
     (ap (λ condition. is_flagged condition && nat_eq (number rule.node) (number rule.node)) waits ∙ eq-eqb (number rule.node) (number rule.node) refl)
 
 -- ---- flags
-
-pub first_in : {X : Type 0} (x : X) (xs : List X) → Contains (x ∷ xs) x
-first_in x xs = (zero, omega arith, refl)
-
-pub later_in : {X : Type 0} (y : X) (xs : List X) (x : X) → Contains xs x → Contains (y ∷ xs) x
-later_in y xs x h = let below = h.1 in (suc h.0, omega arith, h.2)
 
 module _ (number : Node → ℕ) (p : ℕ) where
   -- another flag is set
@@ -165,8 +159,8 @@ module _ (number : Node → ℕ) (p : ℕ) where
       (all_changed number changes r).flags p ≡ false
   flags_kept [] r none unset = unset
   flags_kept (change ∷ rest) r none unset =
-      flags_kept rest (changed number change r) (λ other m there. none other m (later_in change rest other there))
-      (flag_kept change r (λ m. none change m (first_in change rest)) unset)
+      flags_kept rest (changed number change r) (λ other m there. none other m (contains_further change rest other there))
+      (flag_kept change r (λ m. none change m (contains_first change rest)) unset)
 
   -- a flag that is set stays so
   set_still : (change : Change) (r : Registers) → r.flags p ≡ true → (changed number change r).flags p ≡ true

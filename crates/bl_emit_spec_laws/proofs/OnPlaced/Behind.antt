@@ -2,24 +2,14 @@
 use Rattle.std.proofs.Common.{◌≡◌, ◌⊎◌, inl, inr, ℕ, zero, suc, ◌+◌, Bool, true, false, List, [], ◌∷◌, ◌++◌, Contains, Some}
 use Rattle.std.proofs.Common.{refl, sym, ap, subst, ◌∙◌, arith, length, map, append_assoc}
 use Rattle.std.specs.Prelude.{option_to_list, slice_get}
+use Rattle.bl_tree.proofs.Basics.{contains_first, contains_further, get_behind, get_in_front, none_is_some, same_some}
 use Rattle.bl_tree.specs.Reduce.{joined}
 use Rattle.bl_emit_spec.specs.Activities.{first_positions, picked}
 use Rattle.bl_emit_spec_laws.specs.Calls.Built.{last_of, last_positions}
 use Rattle.bl_emit_spec_laws.specs.Passes.{behind_first, behind_firsts}
-use Rattle.bl_emit_spec_laws.proofs.OnPlaced.Lists.{Within, further, here, none_is, picked_many, some_is}
+use Rattle.bl_emit_spec_laws.proofs.OnPlaced.Lists.{Within, picked_many}
 
 -- ---- lists one after another
-
-pub get_left : {X : Type 0} (xs ys : List X) (k : ℕ) (x : X) → slice_get xs k ≡ Some x → slice_get (xs ++ ys) k ≡ Some x
-get_left [] ys k x is = none_is x is
-get_left (y ∷ xs) ys zero x is = is
-get_left (y ∷ xs) ys (suc k) x is = get_left xs ys k x is
-
-pub get_right : {X : Type 0} (xs ys : List X) (k : ℕ) → slice_get (xs ++ ys) (length xs + k) ≡ slice_get ys k
-get_right [] ys k = let none : 0 + k ≡ k = omega arith in ap (λ (n : ℕ). slice_get ys n) none
-get_right (x ∷ xs) ys k =
-    let next : suc (length xs) + k ≡ suc (length xs + k) = omega arith in
-    ap (λ (n : ℕ). slice_get (x ∷ (xs ++ ys)) n) next ∙ get_right xs ys k
 
 -- ---- picked elements
 
@@ -57,8 +47,8 @@ pub marks_picked : {X : Type 0} (all : List X) (blocks : List (List ℕ)) → Wi
 marks_picked all [] within = refl
 marks_picked all (block ∷ rest) within =
     let one = same_first (picked all block) block
-    (picked_many all block (λ k p at. within k p (get_left block (joined rest) k p at))) in
-    let more = marks_picked all rest (λ k p at. within (length block + k) p (get_right block (joined rest) k ∙ at)) in
+    (picked_many all block (λ k p at. within k p (get_in_front block (joined rest) k p at))) in
+    let more = marks_picked all rest (λ k p at. within (length block + k) p (get_behind block (joined rest) k ∙ at)) in
     ap (λ (marks : List Bool). marks ++ behind_firsts (map (picked all) rest)) one ∙ ap (λ (marks : List Bool). behind_first block ++ marks) more
 
 -- ---- neighbours
@@ -102,7 +92,7 @@ first_or_rest x (y ∷ ys) marks (suc q) set = by (first_or_rest y ys marks q se
         let next : suc q ≡ suc (length ys) + rest.r = omega (arith, at) in inr (record { r = rest.r; is = next; set = rest.set })
 
 pub neighbours : (blocks : List (List ℕ)) (p : ℕ) → slice_get (behind_firsts blocks) p ≡ Some true → Neighbours blocks p
-neighbours [] p set = none_is true set
+neighbours [] p set = none_is_some true set
 neighbours ([] ∷ rest) p set =
     let n = neighbours rest p set in
     record {
@@ -113,7 +103,7 @@ neighbours ([] ∷ rest) p set =
       first = n.first;
       second = n.second;
       block = n.block;
-      there = further [] rest n.block n.there;
+      there = contains_further [] rest n.block n.there;
       k = n.k;
       one = n.one;
       two = n.two;
@@ -129,10 +119,10 @@ neighbours ((x ∷ xs) ∷ rest) (suc p) set =
       next = refl;
       i = f.i;
       j = f.j;
-      first = get_left (x ∷ xs) (joined rest) p f.i f.one;
-      second = get_left xs (joined rest) p f.j f.two;
+      first = get_in_front (x ∷ xs) (joined rest) p f.i f.one;
+      second = get_in_front xs (joined rest) p f.j f.two;
       block = x ∷ xs;
-      there = here (x ∷ xs) rest;
+      there = contains_first (x ∷ xs) rest;
       k = p;
       one = f.one;
       two = f.two;
@@ -142,16 +132,16 @@ neighbours ((x ∷ xs) ∷ rest) (suc p) set =
         let at = later.is in
         let next = n.next in
         let second : slice_get (xs ++ joined rest) p ≡ Some n.j =
-        ap (λ (k : ℕ). slice_get (xs ++ joined rest) k) later.is ∙ get_right xs (joined rest) later.r ∙ n.second in
+        ap (λ (k : ℕ). slice_get (xs ++ joined rest) k) later.is ∙ get_behind xs (joined rest) later.r ∙ n.second in
         record {
           q = suc (length xs + n.q);
           next = (let same : suc p ≡ suc (suc (length xs + n.q)) = omega (arith, at, next) in same);
           i = n.i;
           j = n.j;
-          first = get_right xs (joined rest) n.q ∙ n.first;
+          first = get_behind xs (joined rest) n.q ∙ n.first;
           second = second;
           block = n.block;
-          there = further (x ∷ xs) rest n.block n.there;
+          there = contains_further (x ∷ xs) rest n.block n.there;
           k = n.k;
           one = n.one;
           two = n.two;
@@ -175,12 +165,12 @@ past_others (y ∷ ys) js marks (suc k) p at unset = past_others ys js marks k p
 -- it is the first one of a block
 pub first_there : (blocks : List (List ℕ)) (k p : ℕ) → slice_get (joined blocks) k ≡ Some p →
     (slice_get (behind_firsts blocks) k ≡ Some true → ⊥) → Contains (first_positions blocks) p
-first_there [] k p at unset = none_is p at
+first_there [] k p at unset = none_is_some p at
 first_there ([] ∷ rest) k p at unset = first_there rest k p at unset
-first_there ((x ∷ xs) ∷ rest) zero p at unset = subst (λ (q : ℕ). Contains (x ∷ first_positions rest) q) (some_is x p at) (here x (first_positions rest))
+first_there ((x ∷ xs) ∷ rest) zero p at unset = subst (λ (q : ℕ). Contains (x ∷ first_positions rest) q) (same_some x p at) (contains_first x (first_positions rest))
 first_there ((x ∷ xs) ∷ rest) (suc k) p at unset =
     let later = past_others xs (joined rest) (behind_firsts rest) k p at unset in
-    further x (first_positions rest) p (first_there rest later.r p later.at later.unset)
+    contains_further x (first_positions rest) p (first_there rest later.r p later.at later.unset)
 
 -- behind the positions of a block
 past_all : (xs : List ℕ) (marks : List Bool) (k : ℕ) → slice_get (map (λ (y : ℕ). true) xs ++ marks) (length xs + k) ≡ slice_get marks k
@@ -189,7 +179,7 @@ past_all (y ∷ ys) marks k =
     let next : suc (length ys) + k ≡ suc (length ys + k) = omega arith in
     ap (λ (n : ℕ). slice_get (map (λ (y : ℕ). true) (y ∷ ys) ++ marks) n) next ∙ past_all ys marks k
 
--- where a position stands among all, and whether the position at another place stands behind a further one of its block
+-- where a position stands among all, and whether the position at another place stands behind a contains_further one of its block
 pub record Unmarked (blocks : List (List ℕ)) (p : ℕ) (other : ℕ → ℕ) : Type 0 where
   pub k : ℕ
   pub at : slice_get (joined blocks) k ≡ Some p
@@ -207,13 +197,13 @@ first_unmarked ((x ∷ xs) ∷ rest) p (suc k, below, is) =
     let found = first_unmarked rest p (k, omega (arith, below), is) in
     record {
       k = suc (length xs + found.k);
-      at = get_right xs (joined rest) found.k ∙ found.at;
+      at = get_behind xs (joined rest) found.k ∙ found.at;
       unset = λ set. found.unset (sym (past_all xs (behind_firsts rest) found.k) ∙ set);
     }
 
 -- nothing is marked before the first one
 none_before : (blocks : List (List ℕ)) → slice_get (behind_firsts blocks) 0 ≡ Some true → ⊥
-none_before [] set = none_is true set
+none_before [] set = none_is_some true set
 none_before ([] ∷ rest) set = none_before rest set
 none_before ((x ∷ xs) ∷ rest) set = some_false set
 
@@ -239,7 +229,7 @@ last_unmarked ((x ∷ xs) ∷ rest) p (suc k, below, is) =
     let next : length xs + suc found.k ≡ suc (length xs + found.k) = omega arith in
     record {
       k = suc (length xs + found.k);
-      at = get_right xs (joined rest) found.k ∙ found.at;
+      at = get_behind xs (joined rest) found.k ∙ found.at;
       unset = λ set. found.unset
           (sym (past_all xs (behind_firsts rest) (suc found.k))
           ∙ (ap (λ (n : ℕ). slice_get (map (λ (y : ℕ). true) xs ++ behind_firsts rest) n) next ∙ set));
@@ -249,19 +239,19 @@ last_unmarked ((x ∷ xs) ∷ rest) p (suc k, below, is) =
 last_or_later : (x : ℕ) (xs js : List ℕ) (marks : List Bool) (k p : ℕ) → slice_get (x ∷ (xs ++ js)) k ≡ Some p →
     (slice_get (map (λ (y : ℕ). true) xs ++ marks) k ≡ Some true → ⊥) →
     (last_of x xs ≡ p) ⊎ ((r : ℕ) × (slice_get js r ≡ Some p) × (slice_get marks (suc r) ≡ Some true → ⊥))
-last_or_later x [] js marks zero p at unset = inl (some_is x p at)
+last_or_later x [] js marks zero p at unset = inl (same_some x p at)
 last_or_later x [] js marks (suc k) p at unset = inr (k, at, unset)
 last_or_later x (y ∷ ys) js marks zero p at unset = absurd (unset refl)
 last_or_later x (y ∷ ys) js marks (suc k) p at unset = last_or_later y ys js marks k p at unset
 
 pub last_there : (blocks : List (List ℕ)) (k p : ℕ) → slice_get (joined blocks) k ≡ Some p →
     (slice_get (behind_firsts blocks) (suc k) ≡ Some true → ⊥) → Contains (last_positions blocks) p
-last_there [] k p at unset = none_is p at
+last_there [] k p at unset = none_is_some p at
 last_there ([] ∷ rest) k p at unset = last_there rest k p at unset
 last_there ((x ∷ xs) ∷ rest) k p at unset = by (λ r. last_there rest r p) (last_or_later x xs (joined rest) (behind_firsts rest) k p at unset)
   where
     by : ((r : ℕ) → slice_get (joined rest) r ≡ Some p → (slice_get (behind_firsts rest) (suc r) ≡ Some true → ⊥) → Contains (last_positions rest) p) →
         (last_of x xs ≡ p) ⊎ ((r : ℕ) × (slice_get (joined rest) r ≡ Some p) × (slice_get (behind_firsts rest) (suc r) ≡ Some true → ⊥)) →
         Contains (last_of x xs ∷ last_positions rest) p
-    by more (inl is) = subst (λ (q : ℕ). Contains (last_of x xs ∷ last_positions rest) q) is (here (last_of x xs) (last_positions rest))
-    by more (inr later) = further (last_of x xs) (last_positions rest) p (more later.0 later.1 later.2)
+    by more (inl is) = subst (λ (q : ℕ). Contains (last_of x xs ∷ last_positions rest) q) is (contains_first (last_of x xs) (last_positions rest))
+    by more (inr later) = contains_further (last_of x xs) (last_positions rest) p (more later.0 later.1 later.2)

@@ -1,6 +1,7 @@
 -- Where one control edge alone leads from an act or a head, joins aside, the rule of that node sets the flag of the node at its end.
 use Rattle.std.proofs.Common.{◌≡◌, ◌⊎◌, inl, inr, ℕ, suc, Bool, true, false, List, [], ◌∷◌, ◌++◌, Contains, zero, refl, sym, ap, subst, ◌∙◌, arith}
 use Rattle.std.specs.Prelude.{Some, if◌then◌else◌, slice_get}
+use Rattle.bl_tree.proofs.Basics.{from_false}
 use Rattle.bl_tree.specs.declared.place.Place.{Place}
 use Rattle.bl_tree.specs.declared.tree.Expr.{Expr}
 use Rattle.bl_graph_nodes.specs.Nodes.{CheckAt, DepthEndAt, DepthJoinAt, ForkAt, HeadAt, Node, StartAt, SurfaceEndAt, SurfaceJoinAt, TestAt, are_instant, is_instant}
@@ -51,21 +52,18 @@ abbrev pub AllGoing : List Node → (Node → Node → Type 0) → (Node → Typ
 AllGoing N E O next [] = Unit {0}
 AllGoing N E O next (rule ∷ rest) = Going N E O next rule × AllGoing N E O next rest
 
-pub false_true : {A : Type 0} → false ≡ true → A
-false_true h = absurd (cc)
-
 -- a node of another sort
 not_straight : {A : Type 0} (n m : Node) → goes_straight n ≡ true → n ≡ m → goes_straight m ≡ false → A
-not_straight n m straight is other = false_true (sym other ∙ ap goes_straight (sym is) ∙ straight)
+not_straight n m straight is other = from_false (sym other ∙ ap goes_straight (sym is) ∙ straight)
 
 not_joined : {A : Type 0} (n m : Node) → is_join n ≡ false → n ≡ m → is_join m ≡ true → A
-not_joined n m other is join = false_true (sym other ∙ ap is_join is ∙ join)
+not_joined n m other is join = from_false (sym other ∙ ap is_join is ∙ join)
 
 -- a rule whose node is none of these
 bent : (N : List Node) (E : Node → Node → Type 0) (O : Node → Type 0) (next : Change) (rule : Transition) → Has N rule.node →
     goes_straight rule.node ≡ false → Going N E O next rule
 bent N E O next rule has other =
-    record { here = has; edge = λ straight m edge join. false_true (sym other ∙ straight); out = λ straight out. false_true (sym other ∙ straight) }
+    record { here = has; edge = λ straight m edge join. from_false (sym other ∙ straight); out = λ straight out. from_false (sym other ∙ straight) }
 
 both_going : (N : List Node) (E : Node → Node → Type 0) (O : Node → Type 0) (next : Change) (xs ys : List Transition) → AllGoing N E O next xs →
     AllGoing N E O next ys → AllGoing N E O next (xs ++ ys)
@@ -118,7 +116,7 @@ entered (Then s rest) next m first = ap SetsFlag (sym first)
 into_flag : (body : Block) (last m : Node) → Into body (λ k. k ≡ last) m → enter body (SetsFlag last) ≡ SetsFlag m
 into_flag body last m (inl first) = entered body (SetsFlag last) m first
 into_flag Done last m (inr none) = ap SetsFlag (sym none.1)
-into_flag (Then s rest) last m (inr none) = false_true none.0
+into_flag (Then s rest) last m (inr none) = from_false none.0
 
 -- an act or a head at the end of the body of a `when` leads to its one end, or to both
 ended : (E' : Node → Node → Type 0) (l : Label) (at : Place) (body : Block) (n m : Node) → OutAll body n →
@@ -132,7 +130,7 @@ ended E' l at body n m out up = by (are_instant body) refl
         (λ same. (let both : DepthEndAt l at ≡ SurfaceEndAt l at = same ∙ surface.1 in absurd (cc)))
     by true is (inr depth) = forked (SurfaceEndAt l at) (up (SurfaceEndAt l at) (inl (is, refl))) refl
         (λ same. (let both : SurfaceEndAt l at ≡ DepthEndAt l at = same ∙ depth in absurd (cc)))
-    by false is (inl surface) = false_true (sym is ∙ surface.0)
+    by false is (inl surface) = from_false (sym is ∙ surface.0)
     by false is (inr depth) = follows out (ap SetsFlag (sym depth))
 
 -- no end of a `when` goes straight
@@ -152,7 +150,7 @@ where_right test x n rest has = has_right (where_so test x) rest n has
 
 where_here : (test : Bool) (x : Node) (rest : List Node) → test ≡ true → Has (where_so test x ++ rest) x
 where_here true x rest is = inl refl
-where_here false x rest is = false_true is
+where_here false x rest is = from_false is
 
 differ_where : (test : Bool) (x : Node) (rest : List Node) → Differ (where_so test x ++ rest) → Differ rest
 differ_where test x rest all = differ_right (where_so test x) rest all
@@ -376,7 +374,7 @@ module _ (slots : Slots) where
           where
             by : (b : Block) → is_empty b ≡ true → enter b next ≡ next
             by Done none = refl
-            by (Then s more) none = false_true none
+            by (Then s more) none = from_false none
 
         later_edges : (n m : Node) → goes_straight n ≡ true → Has (nodes_in rest) n → is_join m ≡ false → EdgeAll (Then s rest) n m →
             From (EdgeAll rest) (OutAll rest) next (EdgeAll (Then s rest)) n m

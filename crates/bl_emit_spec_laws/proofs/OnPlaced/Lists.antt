@@ -1,78 +1,30 @@
 -- Lists by the positions of their elements, and orders of the numbers below one.
-use Rattle.std.proofs.Common.{◌≡◌, ◌⊎◌, inl, inr, ⊎_elim, ℕ, zero, suc, ◌+◌, ◌<◌, ◌≤◌, Bool, true, false}
+use Rattle.std.proofs.Common.{◌≡◌, ◌⊎◌, ⊎_elim, ℕ, zero, suc, ◌+◌, ◌<◌, ◌≤◌, Bool, true, false}
 use Rattle.std.proofs.Common.{List, [], ◌∷◌, ◌++◌, Contains, Option, Some, None}
-use Rattle.std.proofs.Common.{cond, nat_eq, refl, sym, ap, subst, ◌∙◌, arith, length, map, eq-eqb, eqb-true, if◌then◌else◌}
+use Rattle.std.proofs.Common.{cond, nat_eq, refl, sym, ap, subst, ◌∙◌, arith, length, eq-eqb, eqb-true, if◌then◌else◌}
 use Rattle.std.specs.Prelude.{IsPermutation, option_to_list, slice_get}
-use Rattle.std.proofs.lemmas.List.{length-append}
 use Rattle.std.proofs.lemmas.List.Sorted.{Contains-permutation, sum_by-IsPermutation}
 use Rattle.std.proofs.lemmas.List.Sums.{sum_by-cons, sum_by_push}
+use Rattle.bl_tree.proofs.Basics.{contains_at, contains_first, contains_further, index_of, less_or_not, none_is_some, same_some, some_within}
 use Rattle.bl_machine.specs.Blocks.{up_to}
 use Rattle.bl_machine.specs.Slots.{times}
 use Rattle.bl_machine_pass.specs.Numbered.{position_where}
 use Rattle.bl_emit_spec.specs.Activities.{picked}
+use Rattle.bl_emit_spec_laws.proofs.OnOwn.Counting.{get_up_to}
+use Rattle.bl_machine_pass_laws.proofs.OnSlots.Finding.{found_first}
+use Rattle.bl_machine_transitions_laws.proofs.Standing.{past}
 
 -- ---- positions
 
-pub some_is : {X : Type 0} (a b : X) → Some a ≡ Some b → a ≡ b
-some_is a b is = cc
-
-pub none_is : {X A : Type 0} (x : X) → None ≡ Some x → A
-none_is x is = absurd (cc)
-
-pub here : {X : Type 0} (x : X) (xs : List X) → Contains (x ∷ xs) x
-here x xs = (zero, omega arith, refl)
-
-pub further : {X : Type 0} (y : X) (xs : List X) (x : X) → Contains xs x → Contains (y ∷ xs) x
-further y xs x h = let below = h.1 in (suc h.0, omega arith, h.2)
-
-pub contains_at : {X : Type 0} (xs : List X) (k : ℕ) (x : X) → slice_get xs k ≡ Some x → Contains xs x
-contains_at [] k x e = none_is x e
-contains_at (y ∷ xs) zero x e = subst (λ z. Contains (z ∷ xs) x) (sym (some_is y x e)) (here x xs)
-contains_at (y ∷ xs) (suc k) x e = further y xs x (contains_at xs k x e)
-
--- a member stands somewhere
-pub stands_at : {X : Type 0} (xs : List X) (x : X) → Contains xs x → (k : ℕ) × (slice_get xs k ≡ Some x)
-stands_at [] x there = let below = there.1 in absurd (omega arith)
-stands_at (y ∷ xs) x (zero, within, is) = (0, ap Some is)
-stands_at (y ∷ xs) x (suc k, within, is) = let rest = stands_at xs x (k, omega arith, is) in (suc rest.0, rest.1)
-
--- something stands at each position
-pub there_at : {X : Type 0} (xs : List X) (k : ℕ) → k < length xs → (x : X) × (slice_get xs k ≡ Some x)
-there_at [] k below = absurd (omega (arith, below))
-there_at (x ∷ xs) zero below = (x, refl)
-there_at (x ∷ xs) (suc k) below = there_at xs k (omega (arith, below))
-
-pub within_at : {X : Type 0} (xs : List X) (k : ℕ) (x : X) → slice_get xs k ≡ Some x → k < length xs
-within_at [] k x is = none_is x is
-within_at (y ∷ xs) zero x is = omega arith
-within_at (y ∷ xs) (suc k) x is = let rest = within_at xs k x is in omega arith
-
-pub mapped_at : {X Y : Type 0} (f : X → Y) (xs : List X) (k : ℕ) (x : X) → slice_get xs k ≡ Some x → slice_get (map f xs) k ≡ Some (f x)
-mapped_at f [] k x is = none_is x is
-mapped_at f (y ∷ xs) zero x is = ap (λ z. Some (f z)) (some_is y x is)
-mapped_at f (y ∷ xs) (suc k) x is = mapped_at f xs k x is
-
-pub mapped_many : {X Y : Type 0} (f : X → Y) (xs : List X) → length (map f xs) ≡ length xs
-mapped_many f [] = refl
-mapped_many f (x ∷ xs) = ap suc (mapped_many f xs)
-
 -- ---- the first that passes
-
-first_where : (b : Bool) (k : ℕ) → b ≡ true → (if b then 0 else suc k) ≡ 0
-first_where true k e = refl
-first_where false k e = absurd cc
-
-past_where : (b : Bool) (k : ℕ) → (b ≡ true → ⊥) → (if b then 0 else suc k) ≡ suc k
-past_where true k none = absurd (none refl)
-past_where false k none = refl
 
 -- where one alone passes it is found
 pub found_at : (p : ℕ) (xs : List ℕ) (k : ℕ) → slice_get xs k ≡ Some p → ((j : ℕ) → slice_get xs j ≡ Some p → j ≡ k) →
     position_where (nat_eq p) xs ≡ k
-found_at p [] k is alone = none_is p is
-found_at p (x ∷ xs) zero is alone = first_where (nat_eq p x) (position_where (nat_eq p) xs) (eq-eqb p x (sym (some_is x p is)))
+found_at p [] k is alone = none_is_some p is
+found_at p (x ∷ xs) zero is alone = found_first (nat_eq p x) (position_where (nat_eq p) xs) (eq-eqb p x (sym (same_some x p is)))
 found_at p (x ∷ xs) (suc k) is alone =
-    past_where (nat_eq p x) (position_where (nat_eq p) xs)
+    past (nat_eq p x) (position_where (nat_eq p) xs)
     (λ e. (let zero_is : 0 ≡ suc k = alone 0 (ap Some (sym (eqb-true p x e))) in omega (arith, zero_is)))
     ∙ ap suc (found_at p xs k is (λ j there. (let next : suc j ≡ suc k = alone (suc j) there in omega (arith, next))))
 
@@ -92,10 +44,10 @@ one_itself : (p : ℕ) → as_one (nat_eq p p) ≡ 1
 one_itself p = ap as_one (eq-eqb p p refl)
 
 front_more : (p : ℕ) (xs : List ℕ) (i : ℕ) → slice_get xs i ≡ Some p → in_front p (suc i) xs ≡ suc (in_front p i xs)
-front_more p [] i is = none_is p is
+front_more p [] i is = none_is_some p is
 front_more p (y ∷ xs) zero is =
     let one = one_itself p in
-    let same : as_one (nat_eq y p) ≡ as_one (nat_eq p p) = ap (λ n. as_one (nat_eq n p)) (some_is y p is) in omega arith
+    let same : as_one (nat_eq y p) ≡ as_one (nat_eq p p) = ap (λ n. as_one (nat_eq n p)) (same_some y p is) in omega arith
 front_more p (y ∷ xs) (suc i) is = let rest = front_more p xs i is in omega arith
 
 front_rises : (p : ℕ) (xs : List ℕ) (i j : ℕ) → i ≤ j → in_front p i xs ≤ in_front p j xs
@@ -115,11 +67,6 @@ times_front p (x ∷ xs) =
     let sum : times p (x ∷ xs) ≡ as_one (nat_eq x p) + times p xs = sum_by-cons (λ other. as_one (nat_eq other p)) x xs in
     let rest = times_front p xs in omega arith
 
-less_or_more : (i j : ℕ) → (i < j) ⊎ (j ≤ i)
-less_or_more i zero = inr (omega arith)
-less_or_more zero (suc j) = inl (omega arith)
-less_or_more (suc i) (suc j) = ⊎_elim (λ less. inl (omega (arith, less))) (λ more. inr (omega (arith, more))) (less_or_more i j)
-
 -- a number that stands at two positions stands there twice
 twice : (p : ℕ) (xs : List ℕ) (i j : ℕ) → i < j → slice_get xs i ≡ Some p → slice_get xs j ≡ Some p → times p xs ≤ 1 → ⊥
 twice p xs i j less one two most =
@@ -134,8 +81,8 @@ one_place p xs i j one two most =
     ⊎_elim (λ less. absurd (twice p xs i j less one two most))
     (λ more.
     ⊎_elim (λ less. absurd (twice p xs j i less two one most)) (λ back. (let same : i ≡ j = omega (arith, more, back) in same))
-    (less_or_more j i))
-    (less_or_more i j)
+    (less_or_not j i))
+    (less_or_not i j)
 
 -- a bound on the numbers of an order
 times_last : (p n : ℕ) (xs : List ℕ) → times p (xs ++ n ∷ []) ≡ times p xs + as_one (nat_eq n p)
@@ -170,38 +117,14 @@ few_above p n more =
 
 few_times : (p n : ℕ) → times p (up_to n) ≤ 1
 few_times p zero = let none : times p [] ≡ 0 = refl in omega arith
-few_times p (suc n) = ⊎_elim (λ less. few_below p n less (few_times p n)) (λ more. few_above p n more) (less_or_more p n)
-
-get_left : (xs ys : List ℕ) (k x : ℕ) → slice_get xs k ≡ Some x → slice_get (xs ++ ys) k ≡ Some x
-get_left [] ys k x is = none_is x is
-get_left (y ∷ xs) ys zero x is = is
-get_left (y ∷ xs) ys (suc k) x is = get_left xs ys k x is
-
-get_last : (xs : List ℕ) (x k : ℕ) → k ≡ length xs → slice_get (xs ++ x ∷ []) k ≡ Some x
-get_last [] x zero is = refl
-get_last [] x (suc k) is = absurd (omega (arith, is))
-get_last (y ∷ xs) x zero is = absurd (omega (arith, is))
-get_last (y ∷ xs) x (suc k) is = get_last xs x k (omega (arith, is))
-
-many_up_to : (n : ℕ) → length (up_to n) ≡ n
-many_up_to zero = refl
-many_up_to (suc n) = let all = length-append (up_to n) (n ∷ []) in let rest = many_up_to n in omega arith
-
-get_up_to : (n k : ℕ) → k < n → slice_get (up_to n) k ≡ Some k
-get_up_to zero k below = absurd (omega (arith, below))
-get_up_to (suc n) k below =
-    ⊎_elim (λ less. get_left (up_to n) (n ∷ []) k k (get_up_to n k less))
-    (λ more.
-    (let is : k ≡ n = omega (arith, below, more) in
-    subst (λ m. slice_get (up_to n ++ n ∷ []) k ≡ Some m) (sym is) (get_last (up_to n) n k (is ∙ sym (many_up_to n)))))
-    (less_or_more k n)
+few_times p (suc n) = ⊎_elim (λ less. few_below p n less (few_times p n)) (λ more. few_above p n more) (less_or_not p n)
 
 -- an order of the numbers below n
 module _ (n : ℕ) (order : List ℕ) (is : IsPermutation (up_to n) order) where
   -- each stands somewhere
   pub number_there : (p : ℕ) → p < n → (k : ℕ) × (slice_get order k ≡ Some p)
   number_there p below =
-      stands_at order p (Contains-permutation (up_to n) order p is (contains_at (up_to n) p p (get_up_to n p below)))
+      index_of order p (Contains-permutation (up_to n) order p is (contains_at (up_to n) p p (get_up_to n p below)))
 
   -- and once
   pub number_once : (p i j : ℕ) → slice_get order i ≡ Some p → slice_get order j ≡ Some p → i ≡ j
@@ -213,7 +136,7 @@ module _ (n : ℕ) (order : List ℕ) (is : IsPermutation (up_to n) order) where
   -- no other does
   pub number_below : (p k : ℕ) → slice_get order k ≡ Some p → p < n
   number_below p k at =
-      ⊎_elim (λ less. less) (λ more. absurd (by_times more)) (less_or_more p n)
+      ⊎_elim (λ less. less) (λ more. absurd (by_times more)) (less_or_not p n)
     where
       by_times : n ≤ p → ⊥
       by_times more =
@@ -234,19 +157,19 @@ module _ {X : Type 0} (all : List X) where
 
   pub picked_at : (order : List ℕ) → Within order → (k p : ℕ) (x : X) → slice_get order k ≡ Some p → slice_get all p ≡ Some x →
       slice_get (picked all order) k ≡ Some x
-  picked_at [] within k p x at is = none_is p at
+  picked_at [] within k p x at is = none_is_some p at
   picked_at (q ∷ order) within zero p x at is =
-      let there : slice_get all q ≡ Some x = ap (slice_get all) (some_is q p at) ∙ is in
+      let there : slice_get all q ≡ Some x = ap (slice_get all) (same_some q p at) ∙ is in
       ap (λ (found : List X). slice_get found 0) (picked_first q order x there)
   picked_at (q ∷ order) within (suc k) p x at is =
-      let first = there_at all q (within 0 q refl) in
+      let first = some_within all q (within 0 q refl) in
       ap (λ (found : List X). slice_get found (suc k)) (picked_first q order first.0 first.1)
       ∙ picked_at order (λ j r there. within (suc j) r there) k p x at is
 
   pub picked_many : (order : List ℕ) → Within order → length (picked all order) ≡ length order
   picked_many [] within = refl
   picked_many (q ∷ order) within =
-      let first = there_at all q (within 0 q refl) in
+      let first = some_within all q (within 0 q refl) in
       ap (λ (found : List X). length found) (picked_first q order first.0 first.1)
       ∙ ap suc (picked_many order (λ j r there. within (suc j) r there))
 
@@ -254,23 +177,23 @@ module _ {X : Type 0} (all : List X) where
   pub picked_has : (order : List ℕ) (p : ℕ) (x : X) → Contains order p → slice_get all p ≡ Some x → Contains (picked all order) x
   picked_has [] p x (k, below, is) at = absurd (omega (arith, below))
   picked_has (q ∷ order) p x (zero, below, is) at =
-      subst (λ (found : List X). Contains found x) (sym (picked_first q order x (ap (slice_get all) is ∙ at))) (here x (picked all order))
+      subst (λ (found : List X). Contains found x) (sym (picked_first q order x (ap (slice_get all) is ∙ at))) (contains_first x (picked all order))
   picked_has (q ∷ order) p x (suc k, below, is) at =
       by (slice_get all q) (picked_has order p x (k, omega (arith, below), is) at)
     where
       by : (found : Option X) → Contains (picked all order) x → Contains (option_to_list found ++ picked all order) x
       by None there = there
-      by (Some y) there = further y (picked all order) x there
+      by (Some y) there = contains_further y (picked all order) x there
 
   -- and what is picked stands at one of them
   pub picked_from : (order : List ℕ) (x : X) → Contains (picked all order) x → (p : ℕ) × Contains order p × (slice_get all p ≡ Some x)
   picked_from [] x (k, below, is) = absurd (omega (arith, below))
   picked_from (q ∷ order) x there =
-      by (λ rest. (let found = picked_from order x rest in (found.0, further q order found.0 found.1, found.2))) (slice_get all q) refl there
+      by (λ rest. (let found = picked_from order x rest in (found.0, contains_further q order found.0 found.1, found.2))) (slice_get all q) refl there
     where
       by : (Contains (picked all order) x → (p : ℕ) × Contains (q ∷ order) p × (slice_get all p ≡ Some x)) → (found : Option X) →
           slice_get all q ≡ found → Contains (option_to_list found ++ picked all order) x →
           (p : ℕ) × Contains (q ∷ order) p × (slice_get all p ≡ Some x)
       by later None is rest = later rest
-      by later (Some y) is (zero, below, same) = (q, here q order, is ∙ ap Some same)
+      by later (Some y) is (zero, below, same) = (q, contains_first q order, is ∙ ap Some same)
       by later (Some y) is (suc k, below, same) = later (k, omega (arith, below), same)

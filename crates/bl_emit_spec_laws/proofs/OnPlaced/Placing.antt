@@ -4,6 +4,7 @@ use Rattle.std.proofs.Common.{nat_eq, refl, sym, ap, subst, ◌∙◌, arith, eq
 use Rattle.std.proofs.Common.{length, map, unwrap_or}
 use Rattle.std.specs.List.{list_any}
 use Rattle.std.specs.Prelude.{IsPermutation, option_and_then, option_map, slice_get}
+use Rattle.bl_tree.proofs.Basics.{and_second, contains_at, from_false, get_mapped, index_of, map_length, same_some, some_within, within_at}
 use Rattle.bl_tree.specs.declared.tree.StructDef.{StructDef}
 use Rattle.bl_tree.specs.declared.tree.Unit.{Unit as UnitDef}
 use Rattle.bl_tree.specs.Reduce.{joined}
@@ -36,24 +37,24 @@ use Rattle.bl_emit_spec.specs.Blocks.{ActivityView, NodeCode, node_turn, turns_o
 use Rattle.bl_emit_spec_laws.specs.Calls.Built.{Activities, activity_at, asks_flag, last_rules, last_positions, rank_by, registered, slots_by, unit_number}
 use Rattle.bl_emit_spec_laws.specs.Calls.Laws.{CompilationContext}
 use Rattle.bl_emit_spec_laws.specs.Passes.{BlockAt, BlocksPlaced, GoesStraight, IsBehind, RuleAt, behind_firsts, turns_in_blocks}
-use Rattle.bl_emit_spec_laws.proofs.OnOwn.Members.{any_found, both_second}
+use Rattle.bl_emit_spec_laws.proofs.OnOwn.Members.{any_found}
 use Rattle.bl_emit_spec_laws.proofs.OnPlaced.Behind.{first_there, first_unmarked, last_there, last_unmarked, marks_picked, neighbours, picked_joined}
-use Rattle.bl_emit_spec_laws.proofs.OnPlaced.Going.{Differ, Leads, all_differ, block_going, false_true, going_at, sole, split}
-use Rattle.bl_emit_spec_laws.proofs.OnPlaced.Lists.{Within, contains_at, found_at, mapped_at, mapped_many, number_below, number_once, number_there}
-use Rattle.bl_emit_spec_laws.proofs.OnPlaced.Lists.{picked_at, picked_from, picked_has, picked_many, some_is, stands_at, there_at, within_at}
+use Rattle.bl_emit_spec_laws.proofs.OnPlaced.Going.{Differ, Leads, all_differ, block_going, going_at, sole, split}
+use Rattle.bl_emit_spec_laws.proofs.OnPlaced.Lists.{Within, found_at, number_below, number_once, number_there}
+use Rattle.bl_emit_spec_laws.proofs.OnPlaced.Lists.{picked_at, picked_from, picked_has, picked_many}
 
 -- ---- blocks
 
-turn_at : (view : ActivityView) (callees : List ℕ) (rs : List Transition) (k u : ℕ) (rule : Transition) → slice_get callees k ≡ Some u → slice_get rs k
+pub turn_at : (view : ActivityView) (callees : List ℕ) (rs : List Transition) (k u : ℕ) (rule : Transition) → slice_get callees k ≡ Some u → slice_get rs k
     ≡ Some rule →
     slice_get (turns_of view callees rs) k ≡ Some (node_turn view u rule)
 turn_at view [] rs k u rule one two = absurd (cc)
 turn_at view (c ∷ callees) [] k u rule one two = absurd (cc)
 turn_at view (c ∷ callees) (r ∷ rs) zero u rule one two =
-    ap (λ a. Some (node_turn view a r)) (some_is c u one) ∙ ap (λ a. Some (node_turn view u a)) (some_is r rule two)
+    ap (λ a. Some (node_turn view a r)) (same_some c u one) ∙ ap (λ a. Some (node_turn view u a)) (same_some r rule two)
 turn_at view (c ∷ callees) (r ∷ rs) (suc k) u rule one two = turn_at view callees rs k u rule one two
 
-turns_many : (view : ActivityView) (callees : List ℕ) (rs : List Transition) → length callees ≡ length rs → length (turns_of view callees rs)
+pub turns_many : (view : ActivityView) (callees : List ℕ) (rs : List Transition) → length callees ≡ length rs → length (turns_of view callees rs)
     ≡ length rs
 turns_many view [] [] is = refl
 turns_many view [] (r ∷ rs) is = absurd (omega (arith, is))
@@ -61,12 +62,12 @@ turns_many view (c ∷ callees) [] is = refl
 turns_many view (c ∷ callees) (r ∷ rs) is = ap suc
     (turns_many view callees rs (let less : length callees ≡ length rs = omega (arith, is) in less))
 
-agrees_at : {X Y : Type 0} (f : X → Y) (at : ℕ → Y) (xs : List X) (first k : ℕ) (x : X) → Agrees f at first xs → slice_get xs k
+pub agrees_at : {X Y : Type 0} (f : X → Y) (at : ℕ → Y) (xs : List X) (first k : ℕ) (x : X) → Agrees f at first xs → slice_get xs k
     ≡ Some x →
     f x ≡ at (first + k)
 agrees_at f at [] first k x agrees is = absurd (cc)
 agrees_at f at (y ∷ xs) first zero x agrees is =
-    let same : first ≡ first + 0 = omega arith in ap f (sym (some_is y x is)) ∙ agrees.0 ∙ ap at same
+    let same : first ≡ first + 0 = omega arith in ap f (sym (same_some y x is)) ∙ agrees.0 ∙ ap at same
 agrees_at f at (y ∷ xs) first (suc k) x agrees is =
     let same : suc first + k ≡ first + suc k = omega arith in agrees_at f at xs (suc first) k x agrees.1 is ∙ ap at same
 
@@ -102,7 +103,7 @@ module _ (laws : Laws) (a : Activity) (unit : UnitDef) (one : InMachine) (unit_i
     nodes_are = laws.placed.nodes a.slots body
 
     many_rules : length rs ≡ length nodes
-    many_rules = sym (mapped_many (λ (rule : Transition). rule.node) rs) ∙ ap (λ (xs : List Node). length xs) nodes_are
+    many_rules = sym (map_length (λ (rule : Transition). rule.node) rs) ∙ ap (λ (xs : List Node). length xs) nodes_are
 
     many_callees : length (callees_in body) ≡ length rs
     many_callees = laws.listed.each unit.body one.slots ∙ ap (λ slots. length (rules slots body)) (sym slots_are)
@@ -129,7 +130,7 @@ module _ (laws : Laws) (a : Activity) (unit : UnitDef) (one : InMachine) (unit_i
 
     -- the node of the rule at a position stands at that position
     node_at : (p : ℕ) (rule : Transition) → slice_get rs p ≡ Some rule → slice_get nodes p ≡ Some rule.node
-    node_at p rule is = ap (λ (xs : List Node). slice_get xs p) (sym nodes_are) ∙ mapped_at (λ (r : Transition). r.node) rs p rule is
+    node_at p rule is = ap (λ (xs : List Node). slice_get xs p) (sym nodes_are) ∙ get_mapped (λ (r : Transition). r.node) rs p rule is
 
     -- the number of a node is where its position stands in the order
     number_of_node : (p k : ℕ) (n : Node) → slice_get nodes p ≡ Some n → slice_get a.order k ≡ Some p → (activity_view a).number n ≡ k
@@ -145,10 +146,10 @@ module _ (laws : Laws) (a : Activity) (unit : UnitDef) (one : InMachine) (unit_i
 
     pub of_rule : (rule : Transition) → Contains rs rule → BlockAt a unit ((activity_view a).number rule.node) rule
     of_rule rule there =
-        let at = stands_at rs rule there in
+        let at = index_of rs rule there in
         let below = within_at rs at.0 rule at.1 in
         let many = many_callees in
-        let called = there_at (callees_in body) at.0 (omega (arith, below, many)) in
+        let called = some_within (callees_in body) at.0 (omega (arith, below, many)) in
         let all = many_rules in
         let k = number_there (length nodes) a.order permutes at.0 (omega (arith, below, all)) in
         let number = number_is at.0 k.0 rule at.1 k.1 in
@@ -172,10 +173,10 @@ module _ (laws : Laws) (a : Activity) (unit : UnitDef) (one : InMachine) (unit_i
     of_number number below =
         let many = picked_many turns a.order within in
         let all_many : length (picked turns a.order) ≡ length (joined (turns_in_blocks a)) = ap (λ (xs : List NodeCode). length xs) all_turns in
-        let at = there_at a.order number (omega (arith, below, many, all_many)) in
+        let at = some_within a.order number (omega (arith, below, many, all_many)) in
         let inside = number_below (length nodes) a.order permutes at.0 number at.1 in
         let all = many_rules in
-        let rule = there_at rs at.0 (omega (arith, inside, all)) in
+        let rule = some_within rs at.0 (omega (arith, inside, all)) in
         record { rule = rule.0; there = contains_at rs at.0 rule.0 rule.1; numbered = number_is at.0 number rule.0 rule.1 at.1 }
 
     -- ---- nodes behind others
@@ -206,25 +207,25 @@ module _ (laws : Laws) (a : Activity) (unit : UnitDef) (one : InMachine) (unit_i
           second_numbered = number_of_node n.j p straight.second straight.is_second at;
           follow = straight.edge;
           only = λ m there is.
-              (let place = stands_at nodes m there in
+              (let place = index_of nodes m there in
               let k = number_there (length nodes) a.order permutes place.0 (within_at nodes place.0 m place.1) in
               let number = number_of_node place.0 k.0 m place.1 k.1 in
               let same : k.0 ≡ p = sym number ∙ is in
-              let position : place.0 ≡ n.j = some_is place.0 n.j (sym k.1 ∙ ap (λ (q : ℕ). slice_get a.order q) same ∙ at) in
-              some_is m straight.second (sym place.1 ∙ ap (λ (q : ℕ). slice_get nodes q) position ∙ straight.is_second));
+              let position : place.0 ≡ n.j = same_some place.0 n.j (sym k.1 ∙ ap (λ (q : ℕ). slice_get a.order q) same ∙ at) in
+              same_some m straight.second (sym place.1 ∙ ap (λ (q : ℕ). slice_get nodes q) position ∙ straight.is_second));
           only_first = λ m there is.
-              (let place = stands_at nodes m there in
+              (let place = index_of nodes m there in
               let k = number_there (length nodes) a.order permutes place.0 (within_at nodes place.0 m place.1) in
               let number = number_of_node place.0 k.0 m place.1 k.1 in
               let next = n.next in
               let same : k.0 ≡ n.q = omega (arith, number, is, next) in
-              let position : place.0 ≡ n.i = some_is place.0 n.i (sym k.1 ∙ ap (λ (q : ℕ). slice_get a.order q) same ∙ before) in
-              some_is m straight.first (sym place.1 ∙ ap (λ (q : ℕ). slice_get nodes q) position ∙ straight.is_first));
+              let position : place.0 ≡ n.i = same_some place.0 n.i (sym k.1 ∙ ap (λ (q : ℕ). slice_get a.order q) same ∙ before) in
+              same_some m straight.first (sym place.1 ∙ ap (λ (q : ℕ). slice_get nodes q) position ∙ straight.is_first));
         }
 
     rule_node : (rule : Transition) → Contains rs rule → Contains nodes rule.node
     rule_node rule there =
-        let at = stands_at rs rule there in contains_at nodes at.0 rule.node (node_at at.0 rule at.1)
+        let at = index_of rs rule there in contains_at nodes at.0 rule.node (node_at at.0 rule at.1)
 
     pub waits : (rule : Transition) → Contains rs rule → IsBehind a ((activity_view a).number rule.node) → rule.condition ≡ Flagged
     waits rule there behind =
@@ -276,7 +277,7 @@ module _ (laws : Laws) (a : Activity) (unit : UnitDef) (one : InMachine) (unit_i
 
     stood : (rule : Transition) → Contains rs rule → Stood rule
     stood rule there =
-        let at = stands_at rs rule there in
+        let at = index_of rs rule there in
         let below = within_at rs at.0 rule at.1 in
         let all = many_rules in
         let k = number_there (length nodes) a.order permutes at.0 (omega (arith, below, all)) in
@@ -370,7 +371,7 @@ module _ (laws : Laws) (a : Activity) (unit : UnitDef) (one : InMachine) (unit_i
             let found = any_found (asks_flag (activity_view a).number number) (first_rules a) is in
             let same : number ≡ (activity_view a).number found.one.node =
             eqb-true number ((activity_view a).number found.one.node)
-            (both_second (is_flagged found.one.condition) (nat_eq number ((activity_view a).number found.one.node)) found.on) in
+            (and_second (is_flagged found.one.condition) (nat_eq number ((activity_view a).number found.one.node)) found.on) in
             absurd (first_alone found.one found.there (subst (λ (n : ℕ). IsBehind a n) same behind))
 
     -- ---- nodes with others behind them
@@ -380,7 +381,7 @@ module _ (laws : Laws) (a : Activity) (unit : UnitDef) (one : InMachine) (unit_i
         let k = number_there (length nodes) a.order permutes i (within_at nodes i n one) in
         let l = number_there (length nodes) a.order permutes j (within_at nodes j n two) in
         let same : k.0 ≡ l.0 = sym (number_of_node i k.0 n one k.1) ∙ number_of_node j l.0 n two l.1 in
-        some_is i j (sym k.1 ∙ ap (λ (q : ℕ). slice_get a.order q) same ∙ l.1)
+        same_some i j (sym k.1 ∙ ap (λ (q : ℕ). slice_get a.order q) same ∙ l.1)
 
     differ : Differ nodes
     differ = all_differ nodes once
@@ -400,7 +401,7 @@ module _ (laws : Laws) (a : Activity) (unit : UnitDef) (one : InMachine) (unit_i
         by m follow (split k edge join other) = none (follow.nowhere_else k edge)
           where
             none : (is_join k ≡ true) ⊎ (k ≡ m) → rule.on_true ≡ SetsFlag m ∷ []
-            none (inl joins) = false_true (sym join ∙ joins)
+            none (inl joins) = from_false (sym join ∙ joins)
             none (inr same) = absurd (other same)
 
 -- ---- the activities of a program
@@ -443,7 +444,7 @@ module _ (laws : Laws) (orderly : AcceptedIsOrderly) (structs : List StructDef)
           let own = each_at IsActivityOf (activities_of units) machine (graph_position units k) unit compiled.agrees
           (filtered_at (λ it. is_activity it.kind) units k unit there activity) in
           let parts = compiled.built.made k unit there activity in
-          let same : own.0 ≡ parts.one = some_is own.0 parts.one (sym own.1 ∙ parts.is) in
+          let same : own.0 ≡ parts.one = same_some own.0 parts.one (sym own.1 ∙ parts.is) in
           record {
             one = parts.one;
             unit_is = compiled.built.unit k unit there;

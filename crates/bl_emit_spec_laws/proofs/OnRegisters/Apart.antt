@@ -1,16 +1,18 @@
 -- The places of registers keep apart from one another, from variables and from copies.
 use Rattle.std.proofs.Common.{◌≡◌, ℕ, ◌<◌, ◌^◌, arith, Bool, true, false, not, ◌&&◌, ◌||◌, List, [], ◌∷◌, ◌++◌}
 use Rattle.std.proofs.Common.{drop, Some, refl, sym, ap, ◌∙◌}
-use Rattle.std.proofs.lemmas.Bool.{eq-eqb, eqb-true, le-leb, ltb-true}
+use Rattle.std.proofs.lemmas.Bool.{eq-eqb}
 use Rattle.std.proofs.lemmas.Fmt.{decimal_injective}
 use Rattle.std.proofs.lemmas.Slice.Eq.{bytes_eq-Decides}
 use Rattle.std.specs.Prelude.{bytes_eq, codes, nat_eq, ◌==◌}
 use Rattle.std.specs.Fmt.{decimal}
+use Rattle.std.proofs.lemmas.Bool.{or_right}
+use Rattle.bl_tree.proofs.Basics.{at_most_self_test, true_not_false}
 use Rattle.bl_tree.specs.declared.text.Text.{Text}
 use Rattle.bl_tree.specs.declared.tree.Var.{Var}
 use Rattle.bl_tree.specs.Typing.{TypingContext, is_activity, var_at}
 use Rattle.bl_ctext_semantics.specs.Meaning.{Scope, further, named_location}
-use Rattle.bl_ctext_semantics.specs.Memory.{Location, Projection, Root, input_object, member, output_object, same_root, state_object, variable}
+use Rattle.bl_ctext_semantics.specs.Memory.{Location, Projection, member, same_root, variable}
 use Rattle.bl_emit_acts.specs.declared.home.Home.{Home}
 use Rattle.bl_emit_acts.specs.declared.home.Home.TheVariants.{Held, Local, Lent}
 use Rattle.bl_emit_acts.specs.Types.{copy_name, variable_name}
@@ -23,12 +25,11 @@ use Rattle.bl_emit_spec_laws.specs.Registers.Registers.{ApartFromPointers, FewRe
 use Rattle.bl_emit_spec_laws.specs.Registers.Registers.{RegistersBeside}
 use Rattle.bl_emit_spec_laws.specs.Registers.Registers.{Before, Counter, Flag, Mark, Over, Register, frame_at, has_register, over_at, register_at}
 use Rattle.bl_emit_spec_laws.specs.Registers.Registers.{same_register}
-use Rattle.bl_emit_spec_laws.proofs.OnRegisters.Cells.{apart_flip, behind_front, further_both, number_itself, or_last}
+use Rattle.bl_emit_spec_laws.proofs.OnRegisters.Cells.{behind_front}
+use Rattle.bl_emit_acts_laws_simulation.proofs.Frames.{further_apart, older_differs, older_live, own_differ, roots_differ}
+use Rattle.bl_emit_acts_laws_simulation.proofs.Cells.{apart_flip}
 
 -- ---- names and roots
-
-no_such : true ≡ false → ⊥
-no_such h = cc
 
 -- names of one letter with different numbers differ
 names_differ : (letter : ℕ) (j k : ℕ) → j < 2 ^ 64 → k < 2 ^ 64 → nat_eq j k ≡ false
@@ -39,52 +40,13 @@ names_differ letter j k less most differ = by (bytes_eq (letter ∷ decimal j) (
     by false is = refl
     by true is =
         let text : letter ∷ decimal j ≡ letter ∷ decimal k = (bytes_eq-Decides (letter ∷ decimal j) (letter ∷ decimal k)).0 is in
-        absurd (no_such (sym (eq-eqb j k (decimal_injective j k less most (ap (drop 1) text))) ∙ differ))
+        absurd (true_not_false (sym (eq-eqb j k (decimal_injective j k less most (ap (drop 1) text))) ∙ differ))
 
 -- so do names with words
 worded_differ : (letter : ℕ) (words : ℕ → Text) (j k : ℕ) → j < 2 ^ 64 → k < 2 ^ 64 → nat_eq j k ≡ false →
     bytes_eq (letter ∷ numbered_word (with_word words j)) (letter ∷ numbered_word (with_word words k)) ≡ false
 worded_differ letter words j k less most differ =
-    words_differ letter j k (words j) (words k) less most (λ same. no_such (sym (eq-eqb j k same) ∙ differ))
-
-and_false : (b : Bool) → (b && false) ≡ false
-and_false true = refl
-and_false false = refl
-
-roots_differ : (p q : Location) → same_root p.root q.root ≡ false → are_apart p q ≡ true
-roots_differ p q h = ap (λ same. not same || ways_part p.parts q.parts) h
-
-own_differ : (depth : ℕ) (m n : List ℕ) → bytes_eq m n ≡ false → same_root (variable depth m) (variable depth n) ≡ false
-own_differ depth m n h = ap (λ b. (depth == depth) && b) h ∙ and_false (depth == depth)
-
-older_differs : (depth : ℕ) (name : List ℕ) (root : Root) → is_older depth root ≡ true → same_root (variable depth name) root ≡ false
-older_differs depth name state_object h = refl
-older_differs depth name input_object h = refl
-older_differs depth name output_object h = refl
-older_differs depth name (variable d other) h = by (depth == d) refl
-  where
-    by : (same : Bool) → (depth == d) ≡ same → (same && bytes_eq name other) ≡ false
-    by false is = refl
-    by true is =
-        let less : d < depth = ltb-true d depth h in
-        let equal : depth ≡ d = eqb-true depth d is in
-        absurd (omega arith)
-
-older_live : (depth : ℕ) (root : Root) → is_older depth root ≡ true → is_live depth root ≡ true
-older_live depth state_object h = refl
-older_live depth input_object h = refl
-older_live depth output_object h = refl
-older_live depth (variable d name) h = let less : d < depth = ltb-true d depth h in le-leb d depth (omega arith)
-
-further_split : (same a b : Bool) → (a ≡ true → b ≡ true) → (not same || a) ≡ true → (not same || b) ≡ true
-further_split true a b next h = next h
-further_split false a b next h = refl
-
--- what lies further on keeps apart too
-further_apart : (p q : Location) (xs ys : List Projection) → are_apart p q ≡ true → are_apart (further p xs) (further q ys) ≡ true
-further_apart p q xs ys h =
-    further_split (same_root p.root q.root) (ways_part p.parts q.parts) (ways_part (p.parts ++ xs) (q.parts ++ ys))
-    (further_both p.parts q.parts xs ys) h
+    words_differ letter j k (words j) (words k) less most (λ same. true_not_false (sym (eq-eqb j k same) ∙ differ))
 
 -- ---- where registers stand
 
@@ -115,7 +77,7 @@ module _ (scope : Scope) (has : Registered) (frame : FramePointersAreValid has.o
     counters_differ : (j k : ℕ) → has.counters j ≡ true → has.counters k ≡ true → nat_eq j k ≡ false → Differ (Counter j) (Counter k)
     counters_differ j k its other differ =
         let start = frame_at scope in
-        or_last (not (same_root start.root start.root))
+        or_right (not (same_root start.root start.root))
         (ways_part (start.parts ++ member (counter_name j) ∷ []) (start.parts ++ member (counter_name k) ∷ []))
         (behind_front start.parts (member (counter_name j) ∷ []) (member (counter_name k) ∷ [])
         ∙ ap (λ b. not b || false) (names_differ 99 j k (few.counters j its) (few.counters k other) differ))
@@ -164,13 +126,13 @@ module _ (scope : Scope) (has : Registered) (frame : FramePointersAreValid has.o
     registers_differ Over (Before k) its other differ = over_local (rested_name k) its
     registers_differ Over (Flag k) its other differ = over_local (flag k) its
     registers_differ Over (Mark k) its other differ = over_local (mark k) its
-    registers_differ Over Over its other differ = absurd (no_such differ)
+    registers_differ Over Over its other differ = absurd (true_not_false differ)
 
     registers_live : (x : Register) → has_register has x ≡ true → is_live scope.depth (register_at has scope x).root ≡ true
     registers_live (Counter k) its = older_live scope.depth (frame_at scope).root frame.frame_older
-    registers_live (Before k) its = number_itself scope.depth
-    registers_live (Flag k) its = number_itself scope.depth
-    registers_live (Mark k) its = number_itself scope.depth
+    registers_live (Before k) its = at_most_self_test scope.depth
+    registers_live (Flag k) its = at_most_self_test scope.depth
+    registers_live (Mark k) its = at_most_self_test scope.depth
     registers_live Over its = older_live scope.depth (over_at scope).root (frame.over_older its)
 
   -- ---- beside variables

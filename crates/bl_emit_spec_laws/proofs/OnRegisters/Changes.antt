@@ -3,6 +3,7 @@ use Rattle.std.proofs.Common.{◌≡◌, ℕ, pos, Bool, true, false, ◌&&◌, 
 use Rattle.std.proofs.lemmas.Bool.{eq-eqb, eqb-true}
 use Rattle.std.specs.Prelude.{nat_eq, option_map, if◌then◌else◌}
 use Rattle.std.specs.List.{list_all}
+use Rattle.std.proofs.lemmas.Bool.{and_parts}
 use Rattle.bl_tree.specs.Numbers.{is_one, number_of}
 use Rattle.bl_tree.specs.declared.c.CExpr.{CExpr}
 use Rattle.bl_tree.specs.declared.c.CStmt.{CStmt}
@@ -13,7 +14,6 @@ use Rattle.bl_ctext_semantics.specs.Meaning.{Counted, Scope, block_c, runs_c, va
 use Rattle.bl_emit_acts.specs.Acts.{c_set}
 use Rattle.bl_emit_acts.specs.Trees.{c_read}
 use Rattle.bl_emit_functions.specs.Trees.{c_if, c_truth}
-use Rattle.bl_emit_spec_laws.proofs.OnRegisters.Cells.{and_both}
 use Rattle.bl_emit_spec_laws.proofs.OnRegisters.Evaluated.{literal-value}
 use Rattle.bl_emit_spec_laws.proofs.OnRegisters.Statements.{Chosen, alone_alike, if_comes, truth_c}
 use Rattle.bl_machine_pass.specs.Registers.{Registers, all_changed, changed, finished, with_at, with_counter, with_flag, with_mark, with_none}
@@ -32,7 +32,7 @@ use Rattle.bl_emit_spec_laws.proofs.OnRegisters.Setting.{set_comes, then_goes}
 with_own : {X : Type 0} (k : ℕ) (x : X) (f : ℕ → X) → with_at k x f k ≡ x
 with_own k x f = ap (λ b. if b then x else f k) (eq-eqb k k refl)
 
-with_other : {X : Type 0} (k : ℕ) (x : X) (f : ℕ → X) (j : ℕ) → nat_eq j k ≡ false → with_at k x f j ≡ f j
+pub with_other : {X : Type 0} (k : ℕ) (x : X) (f : ℕ → X) (j : ℕ) → nat_eq j k ≡ false → with_at k x f j ≡ f j
 with_other k x f j h = ap (λ b. if b then x else f j) h
 
 module _ (has : Registered) where
@@ -215,8 +215,8 @@ module _ (view : ActivityView) (has : Registered) (scope : Scope) (agree : Copie
       (forgets_come r m hold k its (has.copied k) refl)
   one_comes (SetsMark n) r m hold its = mark_comes r m hold n its
   one_comes (EndsWhen start surface depth) r m hold its =
-      let found = and_both (has.marks (view.number start)) (has.flags (view.number surface) && has.flags (view.number depth)) its in
-      let flags = and_both (has.flags (view.number surface)) (has.flags (view.number depth)) found.1 in
+      let found = and_parts (has.marks (view.number start)) (has.flags (view.number surface) && has.flags (view.number depth)) its in
+      let flags = and_parts (has.flags (view.number surface)) (has.flags (view.number depth)) found.1 in
       ends_come r m hold start surface depth found.0 flags.0 flags.1
   one_comes Finishes r m hold its = over_comes r m hold its
 
@@ -224,7 +224,7 @@ module _ (view : ActivityView) (has : Registered) (scope : Scope) (agree : Copie
       list_all (changes_its_own view.number has) changes ≡ true → Leaves (all_changed view.number changes r) m (changes_code view changes)
   compiled_simulate [] r m hold its = (refl, record { registers = hold; kept = λ root way outside. refl })
   compiled_simulate (change ∷ rest) r m hold its =
-      let found = and_both (changes_its_own view.number has change) (list_all (changes_its_own view.number has) rest) its in
+      let found = and_parts (changes_its_own view.number has change) (list_all (changes_its_own view.number has) rest) its in
       both_leave (change_code view change) (changes_code view rest) m (changed view.number change r)
       (all_changed view.number (change ∷ rest) r) (one_comes change r m hold found.0)
       (λ k held. compiled_simulate rest (changed view.number change r) k held found.1)

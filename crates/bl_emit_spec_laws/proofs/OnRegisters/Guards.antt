@@ -8,6 +8,8 @@ use Rattle.std.specs.Cmp.{int_eq_equiv}
 use Rattle.std.specs.Ordering.{int_eq}
 use Rattle.std.specs.List.{list_all, list_any}
 use Rattle.std.specs.Prelude.{length, nat_eq, nat_le, option_and_then, option_map, if◌then◌else◌}
+use Rattle.std.proofs.lemmas.Bool.{and_parts}
+use Rattle.bl_tree.proofs.Basics.{and_regroup, and_true, or_false, or_regroup, true_not_false}
 use Rattle.bl_tree.specs.Numbers.{checked_of, checked_one_of, is_one, number_of}
 use Rattle.bl_tree.specs.declared.c.CExpr.{CExpr}
 use Rattle.bl_tree.specs.declared.scalar.Op.{Op}
@@ -27,7 +29,6 @@ use Rattle.bl_emit_spec.specs.Blocks.{node_word, rested_from, rested_since}
 use Rattle.bl_emit_spec.specs.Names.{counter_place, flag_place, mark_place, rested_name, rested_place, with_word}
 use Rattle.bl_emit_spec_laws.specs.Registers.Laws.{RestsWithin, WordsAgree, has_age}
 use Rattle.bl_emit_spec_laws.specs.Registers.Registers.{Before, Counter, Flag, Mark, Registered, RegistersEncoded, register_at}
-use Rattle.bl_emit_spec_laws.proofs.OnRegisters.Cells.{and_both}
 use Rattle.bl_emit_spec_laws.proofs.OnRegisters.Evaluated.{literal-value}
 use Rattle.bl_emit_spec_laws.proofs.OnRegisters.Numbers.{and-number, compare-number, gives, not-number, or-number}
 use Rattle.bl_emit_spec_laws.proofs.OnRegisters.Setting.{counter_answer, flag_answer, local_answer, mark_answer, read_answer}
@@ -55,22 +56,6 @@ pairs_shorter op [] = omega arith
 pairs_shorter op (a ∷ []) = omega arith
 pairs_shorter op (a ∷ b ∷ rest) = let more : length (in_pairs op rest) ≤ length rest = pairs_shorter op rest in omega arith
 
-and_assoc : (a b c : Bool) → (a && (b && c)) ≡ ((a && b) && c)
-and_assoc true b c = refl
-and_assoc false b c = refl
-
-or_assoc : (a b c : Bool) → (a || (b || c)) ≡ ((a || b) || c)
-or_assoc true b c = refl
-or_assoc false b c = refl
-
-and_true : (a : Bool) → (a && true) ≡ a
-and_true true = refl
-and_true false = refl
-
-pub or_false : (a : Bool) → (a || false) ≡ a
-or_false true = refl
-or_false false = refl
-
 all_reduced : (test : Slot → Bool) (slots : List Slot) → reduced (λ a b. a && b) true (map test slots) ≡ list_all test slots
 all_reduced test [] = refl
 all_reduced test (slot ∷ rest) = ap (λ b. test slot && b) (all_reduced test rest)
@@ -81,9 +66,6 @@ any_reduced test (slot ∷ rest) = ap (λ b. test slot || b) (any_reduced test r
 
 -- ---- the test of two numbers
 
-no_such : true ≡ false → ⊥
-no_such h = cc
-
 pos-inj : (k l : ℕ) → pos k ≡ pos l → k ≡ l
 pos-inj k l h = cc
 
@@ -93,9 +75,9 @@ same_test k l = by (int_eq (pos k) (pos l)) (nat_eq k l) refl refl
     by : (a b : Bool) → int_eq (pos k) (pos l) ≡ a → nat_eq k l ≡ b → a ≡ b
     by true true h i = refl
     by false false h i = refl
-    by true false h i = absurd (no_such (sym (eq-eqb k l (pos-inj k l ((Decides-int_eq (pos k) (pos l)).0 h))) ∙ i))
+    by true false h i = absurd (true_not_false (sym (eq-eqb k l (pos-inj k l ((Decides-int_eq (pos k) (pos l)).0 h))) ∙ i))
     by false true h i =
-        absurd (no_such (sym (int_eq_equiv.refl (pos k)) ∙ (ap (λ n. int_eq (pos k) (pos n)) (eqb-true k l i) ∙ h)))
+        absurd (true_not_false (sym (int_eq_equiv.refl (pos k)) ∙ (ap (λ n. int_eq (pos k) (pos n)) (eqb-true k l i) ∙ h)))
 
 no_zero : (w : ℕ) (same : Bool) → nat_eq (suc w) 0 ≡ same → nat_eq (suc w) 0 ≡ false
 no_zero w false is = is
@@ -115,7 +97,7 @@ greatest_value_is w v most last within = by (nat_eq w v) refl
   where
     less : nat_eq w v ≡ false → (more : Bool) → nat_le v w ≡ more → more ≡ false
     less is false more = refl
-    less is true more = let above : v ≤ w = leb-true v w more in absurd (no_such (sym (eq-eqb w v (omega (arith, above, last, within))) ∙ is))
+    less is true more = let above : v ≤ w = leb-true v w more in absurd (true_not_false (sym (eq-eqb w v (omega (arith, above, last, within))) ∙ is))
 
     by : (same : Bool) → nat_eq w v ≡ same → nat_le v w ≡ same
     by true is = let equal : w ≡ v = eqb-true w v is in le-leb v w (omega (arith, equal))
@@ -281,17 +263,17 @@ module _ (scope : Scope) (here : Memory) where
         AllShow (map (at_slot view) slots) (map (is_at r.counters) slots)
     slots_show [] its = tt
     slots_show (slot ∷ rest) its =
-        let found = and_both (has.counters slot.counter) (list_all (λ slot. has.counters slot.counter) rest) its in
+        let found = and_parts (has.counters slot.counter) (list_all (λ slot. has.counters slot.counter) rest) its in
         (slot_shows slot found.0, slots_show rest found.1)
 
     ends_by : (slots : List Slot) → list_all (λ slot. has.counters slot.counter) slots ≡ true → (all : Bool) →
         Shows (ends_test view (record { all = all; slots = slots })) (are_ended r.counters (record { all = all; slots = slots }))
     ends_by slots its true =
-        tree_shows And (λ a b. a && b) true and_assoc and_true and_shows (c_truth true) (truth_shows true) (length (map (at_slot view) slots))
+        tree_shows And (λ a b. a && b) true and_regroup and_true and_shows (c_truth true) (truth_shows true) (length (map (at_slot view) slots))
         (map (at_slot view) slots) (map (is_at r.counters) slots) (omega arith) (slots_show slots its)
         ∙ ap (λ b. Some (number_of b)) (all_reduced (is_at r.counters) slots)
     ends_by slots its false =
-        tree_shows Or (λ a b. a || b) false or_assoc or_false or_shows (c_truth false) (truth_shows false) (length (map (at_slot view) slots))
+        tree_shows Or (λ a b. a || b) false or_regroup or_false or_shows (c_truth false) (truth_shows false) (length (map (at_slot view) slots))
         (map (at_slot view) slots) (map (is_at r.counters) slots) (omega arith) (slots_show slots its)
         ∙ ap (λ b. Some (number_of b)) (any_reduced (is_at r.counters) slots)
 

@@ -16,9 +16,11 @@ use Rattle.bl_machine_pass.specs.Registers.{Registers}
 use Rattle.bl_emit_spec.specs.Names.{counter_name, counter_place, flag_name, flag_place, mark_name, mark_place, over_place, with_word}
 use Rattle.bl_emit_spec_laws.specs.Registers.Registers.{Before, Counter, Flag, Mark, Over, Register, Registered, RegistersApart, RegistersEncoded}
 use Rattle.bl_emit_spec_laws.specs.Registers.Registers.{RegistersEncodedAfter, frame_at, has_register, held_in, over_at, register_at, same_register}
-use Rattle.bl_emit_spec_laws.proofs.OnRegisters.Cells.{apart_flip, apart_same, left_behind, same_object, set_elsewhere}
+use Rattle.bl_emit_spec_laws.proofs.OnRegisters.Cells.{apart_same, same_object}
 use Rattle.bl_emit_spec_laws.proofs.OnRegisters.Evaluated.{place-location, read-value, step-way}
 use Rattle.bl_emit_spec_laws.proofs.OnRegisters.Statements.{Ends, alone_alike, set_after, set_ends}
+use Rattle.bl_emit_acts_laws_simulation.proofs.Cells.{apart_flip, set_elsewhere}
+use Rattle.bl_emit_acts_laws_simulation.proofs.Written.{left_behind}
 
 register_is : (x y : Register) → same_register x y ≡ true → x ≡ y
 register_is (Counter j) (Counter k) h = ap Counter (eqb-true j k h)

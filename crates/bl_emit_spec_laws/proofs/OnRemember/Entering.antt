@@ -6,26 +6,8 @@ use Rattle.std.specs.Prelude.{slice_get}
 use Rattle.bl_tree.specs.declared.place.Place.{Place}
 use Rattle.bl_graph_nodes.specs.Nodes.{Arguments, EnterAt, Node, are_instant, is_instant, nodes_in, nodes_in_each, nodes_of, where_so}
 use Rattle.bl_graph_nodes.specs.Nodes.{CheckAt, DepthEndAt, DepthJoinAt, SurfaceEndAt, SurfaceJoinAt, arguments_of}
-use Rattle.bl_graph_nodes.specs.Plain.{
-  Act,
-  Again,
-  Await,
-  Block,
-  Bodies,
-  Body as BodyOf,
-  Cobegin,
-  Done,
-  If,
-  Label,
-  Last,
-  Plain,
-  Repeat,
-  Run as RunOf,
-  Then,
-  Until,
-  When,
-  While,
-}
+use Rattle.bl_graph_nodes.specs.Plain.{Act, Again, Await, Block, Bodies, Body as BodyOf, Cobegin, Done, If, Label, Last, Plain, Repeat, Run as RunOf, Then}
+use Rattle.bl_graph_nodes.specs.Plain.{Until, When, While}
 use Rattle.bl_ctree_laws.specs.Trees.{Call}
 use Rattle.bl_ctree_laws_traces.proofs.OnBounded.Calls.{calls_in, calls_in_each, calls_of}
 use Rattle.bl_ctree_laws_traces.proofs.OnBounded.Lists.{Among, among_either}
@@ -60,11 +42,11 @@ entered_right u (n ∷ ns) ms (c ∷ cs) ds many at =
 
 -- ---- as many as nodes
 
-append_many : (xs ys : List ℕ) (ns ms : List Node) → length xs ≡ length ns → length ys ≡ length ms → length (xs ++ ys)
+pub append_many : (xs ys : List ℕ) (ns ms : List Node) → length xs ≡ length ns → length ys ≡ length ms → length (xs ++ ys)
     ≡ length (ns ++ ms)
 append_many xs ys ns ms one two = let a = length-append xs ys in let b = length-append ns ms in omega (arith, one, two)
 
-where_many : (b : Bool) (n : Node) → length (zero_where b) ≡ length (where_so b n)
+pub where_many : (b : Bool) (n : Node) → length (zero_where b) ≡ length (where_so b n)
 where_many true n = refl
 where_many false n = refl
 

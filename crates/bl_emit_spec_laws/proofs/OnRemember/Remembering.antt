@@ -1,11 +1,12 @@
 -- An activity remembers what those that it runs do.
-use Rattle.std.proofs.Common.{◌≡◌, inl, inr, ℕ, zero, suc, ◌<◌, Bool, true, false, ◌&&◌, List}
+use Rattle.std.proofs.Common.{◌≡◌, inl, inr, ℕ, suc, ◌<◌, Bool, true, false, ◌&&◌, List}
 use Rattle.std.proofs.Common.{[], ◌∷◌, ◌++◌, Contains, Option, Some, None}
 use Rattle.std.proofs.Common.{length, map, take, get_or, nat_eq, unwrap_or, refl, sym, ap}
 use Rattle.std.proofs.Common.{subst, ◌∙◌, arith, eqb-true, lt-ltb, if◌then◌else◌}
 use Rattle.std.proofs.lemmas.List.{length-append}
 use Rattle.std.proofs.lemmas.List.Quantifiers.{position-Some}
 use Rattle.std.specs.Prelude.{option_and_then, option_map, slice_get}
+use Rattle.bl_tree.proofs.Basics.{and_first, get_within, same_some}
 use Rattle.bl_tree.specs.declared.c.CMember.{CMember}
 use Rattle.bl_tree.specs.declared.place.Place.{Place}
 use Rattle.bl_tree.specs.declared.tree.StructDef.{StructDef}
@@ -18,11 +19,11 @@ use Rattle.bl_graph_nodes.specs.Plain.{Block, plain_body}
 use Rattle.bl_ctree.specs.declared.instance.Instance.{Instance}
 use Rattle.bl_ctree.specs.declared.instance.Origin.{Origin}
 use Rattle.bl_ctree.specs.declared.instance.Run.{Run}
-use Rattle.bl_ctree.specs.Instances.{Setting, begins_at, callee_of, one_a_place, runs_in, runs_of, setting_of, unit_at, unit_of}
+use Rattle.bl_ctree.specs.Instances.{Setting, begins_at, callee_of, runs_in, runs_of, setting_of, unit_at, unit_of}
 use Rattle.bl_ctree_laws.specs.Trees.{Call}
 use Rattle.bl_ctree_laws_confluence.specs.Deeds.Orderly.{AcceptedIsOrderly}
 use Rattle.bl_ctree_laws_confluence.specs.Deeds.Origins.{CalledBy, HasCaller, InstancesHaveCallers}
-use Rattle.bl_ctree_laws_confluence.proofs.OnDeeds.Activities.{AllOf, and_left, one_a_place_so}
+use Rattle.bl_ctree_laws_confluence.proofs.OnDeeds.Activities.{AllOf}
 use Rattle.bl_ctree_laws_traces.proofs.OnProgress.Earlier.{RunsUnit, body_runs}
 use Rattle.bl_ctree_laws_traces.proofs.OnBounded.Callees.{taken_before, typed_at}
 use Rattle.bl_ctree_laws_traces.proofs.OnBounded.Calls.{calls_in, run_of}
@@ -40,28 +41,13 @@ use Rattle.bl_emit_spec_laws.specs.Calls.Built.{Activities, activity_at, unit_nu
 use Rattle.bl_emit_spec_laws.specs.Calls.Laws.{CompilationContext}
 use Rattle.bl_emit_spec_laws.proofs.OnRemember.Entering.{Entered, EnteredAt, HasRun, calls_entered, entered_at, has_run}
 use Rattle.bl_emit_spec_laws.proofs.OnRunPlaces.Sharing.{run_kept}
-
-some_is : {A : Type 0} (a b : A) → Some a ≡ Some b → a ≡ b
-some_is a b e = cc
-
-got_or : {A : Type 0} (xs : List A) (k : ℕ) (d : A) → k < length xs → slice_get xs k ≡ Some (get_or xs k d)
-got_or [] k d within = absurd (omega (arith, within))
-got_or (x ∷ xs) zero d within = refl
-got_or (x ∷ xs) (suc k) d within = got_or xs k d (omega (arith, within))
-
-all_among : {A : Type 0} (P : A → Type 0) (xs : List A) (x : A) → AllOf P xs → Among x xs → P x
-all_among P [] x all at = absurd at
-all_among P (y ∷ xs) x all (inl is) = subst P (sym is) all.0
-all_among P (y ∷ xs) x all (inr at) = all_among P xs x all.1 at
+use Rattle.bl_ctree_laws_confluence.proofs.OnDeeds.Activities.{taken}
+use Rattle.bl_ctree_laws_traces.proofs.OnBounded.Callees.{all_among}
+use Rattle.bl_ctree_laws_traces.proofs.OnBounded.ByPlace.{once_among}
 
 all_own : {A : Type 0} (all some : List A) → ((x : A) → Among x some → Among x all) → AllOf (λ x. Among x all) some
 all_own all [] inside = tt
 all_own all (y ∷ some) inside = (inside y (inl refl), all_own all some (λ x at. inside x (inr at)))
-
--- what counts is there
-once_there : (runs : List Run) (run : Run) → Among run (one_a_place runs) → Among run runs
-once_there runs run at =
-    all_among (λ x. Among x runs) (one_a_place runs) run (one_a_place_so (λ x. Among x runs) runs (all_own runs runs (λ x there. there))) at
 
 -- an image is that of an element
 record Image (runs : List Call) (run : Run) : Type 0 where
@@ -74,13 +60,6 @@ image_of [] run at = absurd at
 image_of (c ∷ calls) run (inl is) = record { call = c; there = inl refl; is = is }
 image_of (c ∷ calls) run (inr at) =
     let rest = image_of calls run at in record { call = rest.call; there = inr rest.there; is = rest.is }
-
-taken : (units : List UnitDef) (n k : ℕ) (unit : UnitDef) → slice_get (take n units) k ≡ Some unit → slice_get units k ≡ Some unit
-taken [] zero k unit e = e
-taken [] (suc n) k unit e = e
-taken (u ∷ units) zero k unit e = absurd (cc)
-taken (u ∷ units) (suc n) zero unit e = e
-taken (u ∷ units) (suc n) (suc k) unit e = taken units n k unit e
 
 -- ---- members
 
@@ -183,11 +162,11 @@ module _ (orderly : AcceptedIsOrderly) (callers : InstancesHaveCallers) (placed 
       by_origin at instance found (Some origin) of e =
           let called : CalledBy units w.instances j instance origin =
           subst (HasCaller units entry w.instances j instance) of (callers units entry j instance found) in
-          let by : origin.caller ≡ i = eqb-true origin.caller i (and_left (nat_eq origin.caller i) (same_place origin.place at) e) in
+          let by : origin.caller ≡ i = eqb-true origin.caller i (and_first (nat_eq origin.caller i) (same_place origin.place at) e) in
           let calling : unit_at w origin.caller ≡ Some called.unit = ap (option_and_then (unit_of w)) called.there ∙ called.body in
-          let same : called.unit ≡ unit = some_is called.unit unit (sym calling ∙ ap (unit_at w) by ∙ is) in
+          let same : called.unit ≡ unit = same_some called.unit unit (sym calling ∙ ap (unit_at w) by ∙ is) in
           let among : Among called.run (joined (map runs_in unit.body)) =
-          once_there (joined (map runs_in unit.body)) called.run
+          once_among (joined (map runs_in unit.body)) called.run
           (among_got called.run (runs_of unit) (subst (λ (u : UnitDef). Contains (runs_of u) called.run) same called.runs)) in
           by_run instance called.run found among called.names
 
@@ -195,4 +174,4 @@ module _ (orderly : AcceptedIsOrderly) (callers : InstancesHaveCallers) (placed 
       caller_remembers at begins =
           let d : Instance = record { unit = 0; depth = 0; origin = None } in
           let position = position-Some (λ (instance : Instance). begins_at i at instance.origin) w.instances j d begins in
-          by_origin at (get_or w.instances j d) (got_or w.instances j d position.0) (get_or w.instances j d).origin refl position.1
+          by_origin at (get_or w.instances j d) (get_within w.instances j d position.0) (get_or w.instances j d).origin refl position.1

@@ -4,51 +4,15 @@ use Rattle.std.proofs.Common.{refl, sym, ap, ap₂, subst, ◌∙◌, arith, app
 use Rattle.std.proofs.lemmas.List.{length-append}
 use Rattle.std.proofs.lemmas.Option.{same_Some}
 use Rattle.std.specs.Prelude.{slice_get}
-use Rattle.bl_graph_nodes.specs.Nodes.{
-  ActAt,
-  CheckAt,
-  DepthEndAt,
-  DepthJoinAt,
-  EnterAt,
-  ForkAt,
-  HeadAt,
-  Node,
-  PauseAt,
-  ResumeAt,
-  StartAt,
-  SurfaceEndAt,
-  SurfaceJoinAt,
-  TestAt,
-  are_instant,
-  is_instant,
-  nodes_in,
-  nodes_in_each,
-  nodes_of,
-  where_so,
-}
-use Rattle.bl_graph_nodes.specs.Plain.{
-  Act,
-  Again,
-  Await,
-  Block,
-  Bodies,
-  Body as BodyOf,
-  Cobegin,
-  Done,
-  If,
-  Last,
-  Plain,
-  Repeat,
-  Run as RunIn,
-  Then,
-  Until,
-  When,
-  While,
-}
+use Rattle.bl_graph_nodes.specs.Nodes.{ActAt, CheckAt, DepthEndAt, DepthJoinAt, EnterAt, ForkAt, HeadAt, Node, PauseAt, ResumeAt, StartAt, SurfaceEndAt}
+use Rattle.bl_graph_nodes.specs.Nodes.{SurfaceJoinAt, TestAt, are_instant, is_instant, nodes_in, nodes_in_each, nodes_of, where_so}
+use Rattle.bl_graph_nodes.specs.Plain.{Act, Again, Await, Block, Bodies, Body as BodyOf, Cobegin, Done, If, Last, Plain, Repeat, Run as RunIn, Then, Until}
+use Rattle.bl_graph_nodes.specs.Plain.{When, While}
 use Rattle.bl_ctree_laws.specs.Trees.{Call}
 use Rattle.bl_ctree_laws_traces.proofs.OnBounded.Calls.{calls_in, calls_in_each, calls_of}
 use Rattle.bl_ctree_laws_traces.proofs.OnBounded.Lists.{Among, among_either, among_left, among_right}
 use Rattle.bl_machine_transitions.specs.Callees.{callees_in, callees_in_each, callees_of, zero_where}
+use Rattle.bl_emit_spec_laws.proofs.OnRemember.Entering.{append_many, where_many}
 
 -- ---- nodes of `run`s
 
@@ -98,14 +62,6 @@ behind_where late true n ns us none = ap (λ calls. calls ++ picked_calls late n
 behind_where late false n ns us none = refl
 
 -- ---- as many as nodes
-
-append_many : (xs ys : List ℕ) (ns ms : List Node) → length xs ≡ length ns → length ys ≡ length ms → length (xs ++ ys)
-    ≡ length (ns ++ ms)
-append_many xs ys ns ms one two = let a = length-append xs ys in let b = length-append ns ms in omega (arith, one, two)
-
-where_many : (b : Bool) (n : Node) → length (zero_where b) ≡ length (where_so b n)
-where_many true n = refl
-where_many false n = refl
 
 mutual
   callees_many : (s : Plain) → length (callees_of s) ≡ length (nodes_of s)

@@ -1,24 +1,10 @@
 -- The `run`s of one place call one unit, and have one number in C: that of the first node at which one begins.
 use Rattle.std.proofs.Common.{◌≡◌, inl, inr, ℕ, zero, suc, Bool, true, false, List, [], ◌∷◌, ◌++◌, Contains, Some}
-use Rattle.std.proofs.Common.{
-  cond,
-  filter,
-  length,
-  map,
-  not,
-  take,
-  refl,
-  sym,
-  ap,
-  ap₂,
-  subst,
-  ◌∙◌,
-  arith,
-  if◌then◌else◌,
-}
+use Rattle.std.proofs.Common.{cond, filter, length, map, not, take, refl, sym, ap, ap₂, subst, ◌∙◌, arith, if◌then◌else◌}
 use Rattle.std.proofs.lemmas.List.{map-append}
 use Rattle.std.proofs.lemmas.Option.{same_Some}
 use Rattle.std.specs.Prelude.{slice_get}
+use Rattle.bl_tree.proofs.Basics.{contains_at, contains_first, contains_further, get_mapped, get_of_map, index_of, true_not_false}
 use Rattle.bl_tree.specs.declared.place.Place.{Place}
 use Rattle.bl_tree.specs.declared.tree.StructDef.{StructDef}
 use Rattle.bl_tree.specs.declared.tree.Unit.{Unit as UnitDef}
@@ -27,31 +13,14 @@ use Rattle.bl_tree.specs.Reduce.{joined}
 use Rattle.bl_tree.specs.Rules.{same_place}
 use Rattle.bl_tree.specs.Typing.{site_of}
 use Rattle.bl_tree.specs.Within.{StandsIn}
-use Rattle.bl_effects.proofs.EntryLemmas.{same_place_is, same_place_refl}
-use Rattle.bl_graph_nodes.specs.Nodes.{
-  ActAt,
-  Arguments,
-  CheckAt,
-  DepthEndAt,
-  DepthJoinAt,
-  EnterAt,
-  ForkAt,
-  HeadAt,
-  Node,
-  PauseAt,
-  ResumeAt,
-  StartAt,
-  SurfaceEndAt,
-  SurfaceJoinAt,
-  TestAt,
-  nodes_in,
-}
+use Rattle.bl_effects.proofs.EntryLemmas.{same_place_refl}
+use Rattle.bl_graph_nodes.specs.Nodes.{ActAt, Arguments, CheckAt, DepthEndAt, DepthJoinAt, EnterAt, ForkAt, HeadAt, Node, PauseAt, ResumeAt, StartAt}
+use Rattle.bl_graph_nodes.specs.Nodes.{SurfaceEndAt, SurfaceJoinAt, TestAt, nodes_in}
 use Rattle.bl_graph_nodes.specs.Plain.{Block, Label, plain_body}
 use Rattle.bl_ctree.specs.declared.instance.Run.{Run}
 use Rattle.bl_ctree.specs.Instances.{runs_in}
 use Rattle.bl_ctree_laws.specs.Trees.{Call}
 use Rattle.bl_ctree_laws_confluence.proofs.OnApart.Placed.{RunAs, runs_listed, same_unit}
-use Rattle.bl_ctree_laws_confluence.proofs.OnDeeds.Activities.{AllOf}
 use Rattle.bl_ctree_laws_traces.proofs.OnBounded.Callees.{typed_at}
 use Rattle.bl_ctree_laws_traces.proofs.OnBounded.Calls.{calls_in, run_of}
 use Rattle.bl_ctree_laws_traces.proofs.OnBounded.Lists.{Among}
@@ -61,27 +30,17 @@ use Rattle.bl_machine_pass.specs.Transitions.{Transition, rules}
 use Rattle.bl_machine_transitions.specs.Callees.{callees_in}
 use Rattle.bl_emit_spec.specs.Activities.{Activity, RunAt, activity_view, body_of, enters_at, one_a_place, rules_at, run_at, run_number_in, runs_at}
 use Rattle.bl_emit_spec.specs.Activities.{runs_in_body}
-use Rattle.bl_emit_spec_laws.proofs.OnPlaced.Lists.{contains_at, further, here, mapped_at, stands_at}
 use Rattle.bl_emit_spec_laws.proofs.OnRemember.Entering.{callees_in_many}
 use Rattle.bl_emit_spec_laws.proofs.OnRunPlaces.Entered.{call_there, calls_in_are, entered_at, pick, picked_calls}
+use Rattle.bl_ctree_laws_traces.proofs.OnBounded.Callees.{all_among}
+use Rattle.bl_tree.proofs.FirstLemmas.{same_true}
 
 -- ---- lists
-
-all_among : {A : Type 0} (P : A → Type 0) (xs : List A) (x : A) → AllOf P xs → Among x xs → P x
-all_among P [] x all at = absurd at
-all_among P (y ∷ xs) x all (inl is) = subst P (sym is) all.0
-all_among P (y ∷ xs) x all (inr at) = all_among P xs x all.1 at
 
 image_among : {A B : Type 0} (f : A → B) (xs : List A) (x : A) → Among x xs → Among (f x) (map f xs)
 image_among f [] x at = absurd at
 image_among f (y ∷ xs) x (inl is) = inl (ap f is)
 image_among f (y ∷ xs) x (inr at) = inr (image_among f xs x at)
-
-of_map : {A B : Type 0} (f : A → B) (xs : List A) (k : ℕ) (b : B) → slice_get (map f xs) k ≡ Some b →
-    (x : A) × (slice_get xs k ≡ Some x) × (f x ≡ b)
-of_map f [] k b is = absurd (cc)
-of_map f (x ∷ xs) zero b is = (x, refl, same_Some (f x) b is)
-of_map f (x ∷ xs) (suc k) b is = of_map f xs k b is
 
 -- lists as long as each other have elements at the same positions
 beside_at : {A B : Type 0} (xs : List A) (ys : List B) → length ys ≡ length xs → (k : ℕ) (x : A) → slice_get xs k ≡ Some x →
@@ -93,9 +52,6 @@ beside_at (z ∷ xs) (y ∷ ys) same (suc k) x is = beside_at xs ys (let less : 
 
 -- ---- the first node
 
-no_such : true ≡ false → ⊥
-no_such h = cc
-
 -- the node at which a `run` at the place begins
 record EntersAt (at : Place) (n : Node) : Type 0 where
   label : Label
@@ -104,7 +60,7 @@ record EntersAt (at : Place) (n : Node) : Type 0 where
 
 enters_so : (at : Place) (n : Node) → enters_at at n ≡ true → EntersAt at n
 enters_so at (EnterAt l place arguments) h =
-    record { label = l; arguments = arguments; is = ap (λ at. EnterAt l at arguments) (same_place_is place at h) }
+    record { label = l; arguments = arguments; is = ap (λ at. EnterAt l at arguments) (same_true place at h) }
 enters_so at (ActAt l s) h = absurd (cc)
 enters_so at (TestAt l place e) h = absurd (cc)
 enters_so at (PauseAt l place) h = absurd (cc)
@@ -139,11 +95,11 @@ kept_by : (test : RunAt → Bool) (runs : List RunAt) (run : RunAt) → Contains
 kept_by test [] run (k, below, is) on = absurd (omega (arith, below))
 kept_by test (first ∷ runs) run (zero, below, is) on =
     subst (λ (b : Bool). Contains (cond b (first ∷ filter test runs) (filter test runs)) run) (sym (ap test is ∙ on))
-    (subst (λ (r : RunAt). Contains (r ∷ filter test runs) run) (sym is) (here run (filter test runs)))
+    (subst (λ (r : RunAt). Contains (r ∷ filter test runs) run) (sym is) (contains_first run (filter test runs)))
 kept_by test (first ∷ runs) run (suc k, below, is) on = by (test first) (kept_by test runs run (k, omega (arith, below), is) on)
   where
     by : (b : Bool) → Contains (filter test runs) run → Contains (cond b (first ∷ filter test runs) (filter test runs)) run
-    by true at = further first (filter test runs) run at
+    by true at = contains_further first (filter test runs) run at
     by false at = at
 
 -- what is kept by a test stood in the list
@@ -154,22 +110,22 @@ filtered_in test (first ∷ runs) run has = by (test first) has (filtered_in tes
     by : (b : Bool) → Contains (cond b (first ∷ filter test runs) (filter test runs)) run → (Contains (filter test runs) run → Contains runs run) →
         Contains (first ∷ runs) run
     by true (zero, below, is) rest = (zero, omega arith, is)
-    by true (suc k, below, is) rest = further first runs run (rest (k, omega (arith, below), is))
-    by false there rest = further first runs run (rest there)
+    by true (suc k, below, is) rest = contains_further first runs run (rest (k, omega (arith, below), is))
+    by false there rest = contains_further first runs run (rest there)
 
 -- the first `run` of a place is one of all
 pub once_in : (runs : List RunAt) (run : RunAt) → Contains (one_a_place runs) run → Contains runs run
 once_in [] run has = has
 once_in (first ∷ runs) run (zero, below, is) = (zero, omega arith, is)
 once_in (first ∷ runs) run (suc k, below, is) =
-    further first runs run (once_in runs run (filtered_in (elsewhere first.place) (one_a_place runs) run (k, omega (arith, below), is)))
+    contains_further first runs run (once_in runs run (filtered_in (elsewhere first.place) (one_a_place runs) run (k, omega (arith, below), is)))
 
 -- the first `run` of a place, behind nodes of other places
 kept_behind : (number : Node → ℕ) (u : ℕ) (at : Place) (n : Node) (runs : List RunAt) (run : RunAt) → enters_at at n ≡ false → run.place ≡ at →
     Contains (one_a_place runs) run → Contains (one_a_place (run_at number u n ++ runs)) run
 kept_behind number u at (EnterAt l place arguments) runs run other is has =
     let own : RunAt = record { place = place; number = number (EnterAt l place arguments); unit = u } in
-    further own (filter (elsewhere place) (one_a_place runs)) run
+    contains_further own (filter (elsewhere place) (one_a_place runs)) run
     (kept_by (elsewhere place) (one_a_place runs) run has (ap (λ q. not (same_place place q)) is ∙ ap not other))
 kept_behind number u at (ActAt l s) runs run other is has = has
 kept_behind number u at (TestAt l place e) runs run other is has = has
@@ -222,10 +178,10 @@ run_there number (c ∷ callees) (r ∷ rules) at p u rule l arguments one is no
           kept = subst (λ (n : ℕ). Contains (one_a_place (run_at number c r.node ++ runs_at number callees rules))
               (record { place = at; number = n; unit = c })) (sym number_is)
               (subst (λ (n : Node). Contains (one_a_place (run_at number c n ++ runs_at number callees rules)) run) (sym own.is)
-              (here run (filter (elsewhere at) (one_a_place (runs_at number callees rules)))));
+              (contains_first run (filter (elsewhere at) (one_a_place (runs_at number callees rules)))));
         }
     by false so zero one is later =
-        absurd (no_such (sym (same_place_refl at) ∙ (ap (enters_at at) (sym (ap (λ (r : Transition). r.node) (same_Some r rule is) ∙ node)) ∙ so)))
+        absurd (true_not_false (sym (same_place_refl at) ∙ (ap (enters_at at) (sym (ap (λ (r : Transition). r.node) (same_Some r rule is) ∙ node)) ∙ so)))
     by false so (suc p) one is later =
         let found = later p one is in
         let same : run_number_in number rules at ≡ run_number_in number (r ∷ rules) at =
@@ -339,7 +295,7 @@ module _ (nodes : (slots : Slots) (body : Block) → map (λ (rule : Transition)
   rule_of : (p u : ℕ) (l : Label) (at : Place) (arguments : Arguments) → slice_get (nodes_in (body_of a)) p ≡ Some (EnterAt l at arguments) →
       slice_get (callees_in (body_of a)) p ≡ Some u → FirstRun (activity_view a).number (callees_in (body_of a)) (rules_at a) at
   rule_of p u l at arguments node callee =
-      let rule = of_map (λ (rule : Transition). rule.node) (rules_at a) p (EnterAt l at arguments)
+      let rule = get_of_map (λ (rule : Transition). rule.node) (rules_at a) p (EnterAt l at arguments)
       (ap (λ (ns : List Node). slice_get ns p) nodes_are ∙ node) in
       run_there (activity_view a).number (callees_in (body_of a)) (rules_at a) at p u rule.0 l arguments callee rule.1 rule.2
 
@@ -349,13 +305,13 @@ module _ (nodes : (slots : Slots) (body : Block) → map (λ (rule : Transition)
     label = first.label;
     arguments = first.arguments;
     is_there = ap (λ (ns : List Node). slice_get ns first.position) (sym nodes_are)
-        ∙ (mapped_at (λ (rule : Transition). rule.node) (rules_at a) first.position first.rule first.is_there ∙ ap Some first.node);
+        ∙ (get_mapped (λ (rule : Transition). rule.node) (rules_at a) first.position first.rule first.is_there ∙ ap Some first.node);
     number_is = first.number_is;
   }
 
   pub first_node : (l : Label) (at : Place) (arguments : Arguments) → Contains (nodes_in (body_of a)) (EnterAt l at arguments) → FirstNode at
   first_node l at arguments within =
-      let found = stands_at (nodes_in (body_of a)) (EnterAt l at arguments) within in
+      let found = index_of (nodes_in (body_of a)) (EnterAt l at arguments) within in
       let called = beside_at (nodes_in (body_of a)) (callees_in (body_of a)) (callees_in_many (body_of a)) found.0 (EnterAt l at arguments) found.1 in
       node_of at (rule_of found.0 called.0 l at arguments found.1 called.1).first
 

@@ -3,6 +3,7 @@ use Rattle.std.proofs.Common.{◌≡◌, ⊎_elim, ℕ, zero, suc, ◌<◌, ◌�
 use Rattle.std.proofs.Common.{Some, refl, ap, ◌∙◌, subst, arith}
 use Rattle.std.proofs.lemmas.Bool.{cases_lt}
 use Rattle.std.specs.Prelude.{slice_get, unwrap_or}
+use Rattle.bl_tree.proofs.Basics.{get_front, get_last, push_length}
 use Rattle.bl_tree.specs.declared.tree.StructDef.{StructDef}
 use Rattle.bl_tree.specs.declared.tree.Unit.{Unit as UnitDef}
 use Rattle.bl_tree.specs.Reduce.{joined}
@@ -17,7 +18,6 @@ use Rattle.bl_emit_spec.specs.Activities.{remembers_any}
 use Rattle.bl_emit_spec_laws.specs.Calls.Built.{AreBuilt, MadeOf}
 use Rattle.bl_emit_spec_laws.specs.Tables.Laws.{ActivitiesBuilt}
 use Rattle.bl_emit_spec_laws.specs.Tables.Tables.{activities_of, no_part, no_unit, remembered_before, remembers_with}
-use Rattle.bl_emit_spec_laws.proofs.OnTables.Lists.{got_last, got_left, length_last}
 
 module _ (structs : List StructDef) (units : List UnitDef) (machine : List InMachine) where
   abbrev told : ℕ → List Bool
@@ -28,7 +28,7 @@ module _ (structs : List StructDef) (units : List UnitDef) (machine : List InMac
 
   pub told_many : (k : ℕ) → length (told k) ≡ k
   told_many zero = refl
-  told_many (suc k) = length_last (told k) (flag k) ∙ ap suc (told_many k)
+  told_many (suc k) = push_length (told k) (flag k) ∙ ap suc (told_many k)
 
   pub told_at : (k j : ℕ) → j < k → slice_get (told k) j ≡ Some (flag j)
   told_at zero j less = absurd (omega (arith, less))
@@ -38,13 +38,13 @@ module _ (structs : List StructDef) (units : List UnitDef) (machine : List InMac
       many = told_many k
 
       before : (j < k → slice_get (told k) j ≡ Some (flag j)) → j < k → slice_get (told (suc k)) j ≡ Some (flag j)
-      before found earlier = got_left (told k) (flag k ∷ []) j (omega (arith, earlier, many)) ∙ found earlier
+      before found earlier = get_front (told k) (flag k ∷ []) j (omega (arith, earlier, many)) ∙ found earlier
 
       last : k ≤ j → slice_get (told (suc k)) j ≡ Some (flag j)
       last not_before =
           let is : length (told k) ≡ j = omega (arith, less, not_before, many) in
           let same : k ≡ j = omega (arith, less, not_before) in
-          subst (λ n. slice_get (told (suc k)) n ≡ Some (flag k)) is (got_last (told k) (flag k)) ∙ ap (λ n. Some (flag n)) same
+          subst (λ n. slice_get (told (suc k)) n ≡ Some (flag k)) is (get_last (told k) (flag k)) ∙ ap (λ n. Some (flag n)) same
 
   -- the part that the machine has for an activity
   pub part_at : AreActivitiesOf units machine → (k : ℕ) (unit : UnitDef) → slice_get units k ≡ Some unit → is_activity unit.kind ≡ true →

@@ -4,6 +4,7 @@ use Rattle.std.proofs.Common.{Some, refl, sym, ap, ◌∙◌, arith, cond}
 use Rattle.std.proofs.lemmas.List.{append-nil, map-append}
 use Rattle.std.proofs.lemmas.List.Elements.{filter-append}
 use Rattle.std.specs.Prelude.{filter, slice_get, unwrap_or, if◌then◌else◌}
+use Rattle.bl_tree.proofs.Basics.{drop_at, push_length, take_next}
 use Rattle.bl_tree.specs.declared.c.CFunc.{CFunc}
 use Rattle.bl_tree.specs.declared.tree.StructDef.{StructDef}
 use Rattle.bl_tree.specs.declared.tree.Unit.{Unit as UnitDef}
@@ -20,7 +21,7 @@ use Rattle.bl_emit_spec_laws.specs.Calls.Built.{Activities}
 use Rattle.bl_emit_spec_laws.specs.Tables.Laws.{WrittenIsKept}
 use Rattle.bl_emit_spec_laws.specs.Tables.Tables.{activities_of, each_from, functions_of_all, kept_where, no_part, no_unit, remembered_before, unit_function}
 use Rattle.bl_emit_spec_laws.proofs.OnTables.Built.{part_at}
-use Rattle.bl_emit_spec_laws.proofs.OnTables.Lists.{drop_at, drop_next, each_got, length_last, take_next}
+use Rattle.bl_emit_spec_laws.proofs.OnTables.Lists.{drop_next, each_got}
 
 -- ---- as many tests as units
 
@@ -28,7 +29,7 @@ set_many : (positions : List ℕ) (k : ℕ) (tests : List Bool) → length (set_
 set_many positions k [] = refl
 set_many positions k (test ∷ tests) = ap suc (set_many positions (suc k) tests)
 
-below_many : (k : ℕ) (units : List UnitDef) (needed : List Bool) → length (needed_below k units needed) ≡ length needed
+pub below_many : (k : ℕ) (units : List UnitDef) (needed : List Bool) → length (needed_below k units needed) ≡ length needed
 below_many zero units needed = refl
 below_many (suc k) units needed = below_many k units _ ∙ by (unwrap_or (slice_get needed k) false)
   where
@@ -39,14 +40,14 @@ below_many (suc k) units needed = below_many k units _ ∙ by (unwrap_or (slice_
 up_many : (test : ℕ → Bool) (n : ℕ) → length (map test (up_to n)) ≡ n
 up_many test zero = refl
 up_many test (suc n) =
-    ap length (map-append test (up_to n) (n ∷ [])) ∙ (length_last (map test (up_to n)) (test n) ∙ ap suc (up_many test n))
+    ap length (map-append test (up_to n) (n ∷ [])) ∙ (push_length (map test (up_to n)) (test n) ∙ ap suc (up_many test n))
 
-needed_many : (units : List UnitDef) (entry : ℕ) → length (needed_units units entry) ≡ length units
+pub needed_many : (units : List UnitDef) (entry : ℕ) → length (needed_units units entry) ≡ length units
 needed_many units entry = below_many (length units) units _ ∙ up_many (λ k. nat_eq k entry) (length units)
 
 -- ---- lists
 
-drop_one : {A : Type 0} (xs : List A) (k : ℕ) → drop (suc k) xs ≡ drop 1 (drop k xs)
+pub drop_one : {A : Type 0} (xs : List A) (k : ℕ) → drop (suc k) xs ≡ drop 1 (drop k xs)
 drop_one [] zero = refl
 drop_one [] (suc k) = refl
 drop_one (x ∷ xs) zero = refl
@@ -121,7 +122,7 @@ module _ (structs : List StructDef) (units : List UnitDef) (machine : List InMac
         many_with b = length (filter tested (take k units) ++ cond b (unit ∷ []) [])
 
         finished : (active : Bool) → many_with active ≡ (if active then suc (graph_position units k) else graph_position units k)
-        finished true = length_last (filter tested (take k units)) unit
+        finished true = push_length (filter tested (take k units)) unit
         finished false = ap length (append-nil (filter tested (take k units)))
 
         counted : graph_position units (suc k) ≡ (if active then suc (graph_position units k) else graph_position units k)

@@ -2,17 +2,17 @@
 use Rattle.std.proofs.Common.{◌≡◌, ℕ, zero, suc, ◌+◌, Bool, true, false, not, ◌||◌, List, [], ◌∷◌, ◌++◌, drop, map, take}
 use Rattle.std.proofs.Common.{Option, Some, None, refl, sym, ap, ◌∙◌, subst, arith}
 use Rattle.std.proofs.lemmas.Option.{same_Some}
-use Rattle.std.proofs.lemmas.Slice.Eq.{bytes_eq-Decides}
 use Rattle.std.specs.List.{list_all}
 use Rattle.std.specs.Option.{option_or}
 use Rattle.std.specs.Prelude.{bytes_eq, slice_get, if◌then◌else◌}
+use Rattle.std.proofs.lemmas.Bool.{and_from}
+use Rattle.bl_tree.proofs.Basics.{and_first, and_second, take_next}
 use Rattle.bl_tree.specs.declared.text.Text.{Text}
 use Rattle.bl_tree.specs.declared.c.CFunc.{CFunc}
 use Rattle.bl_tree.specs.declared.tree.StructDef.{StructDef}
 use Rattle.bl_tree.specs.declared.tree.Unit.{Unit as UnitDef}
 use Rattle.bl_tree.specs.Typing.{is_activity, is_function}
 use Rattle.bl_tree.specs.Words.{are_distinct, is_among}
-use Rattle.bl_eval.proofs.PassLemmas.{and_left, and_right, both}
 use Rattle.bl_machine.specs.declared.machine.Activity.{Activity as InMachine}
 use Rattle.bl_ctext_semantics.specs.Meaning.{Meaning, function_c}
 use Rattle.bl_ctext_semantics.specs.Tables.{Table, no_entries, with_entry}
@@ -24,13 +24,11 @@ use Rattle.bl_emit_spec_laws.specs.Calls.Built.{Activities, AreBuilt}
 use Rattle.bl_emit_spec_laws.specs.Calls.Laws.{AllKnownUpTo}
 use Rattle.bl_emit_spec_laws.specs.Tables.Laws.{TablesKnowAll}
 use Rattle.bl_emit_spec_laws.specs.Tables.Tables.{each_from, functions_of_all, table_of_all, table_up_to, unit_function}
-use Rattle.bl_emit_spec_laws.proofs.OnTables.Lists.{drop_next, each_got, each_past, map_take, split_at, take_next, take_past}
+use Rattle.bl_emit_spec_laws.proofs.OnTables.Lists.{drop_next, each_got, each_past, map_take, split_at}
+use Rattle.bl_emit_functions_laws_simulation.proofs.OnUnits.Made.{distinct_behind, known_behind, take_past}
+use Rattle.bl_emit_functions_laws_simulation.proofs.OnUnits.Growing.{entry_joins, entry_stays}
 
 -- ---- names
-
-distinct_behind : (xs ys : List (List ℕ)) → are_distinct (xs ++ ys) ≡ true → are_distinct ys ≡ true
-distinct_behind [] ys h = h
-distinct_behind (x ∷ xs) ys h = distinct_behind xs ys (and_right (not (is_among x (xs ++ ys))) (are_distinct (xs ++ ys)) h)
 
 abbrev names : List UnitDef → List (List ℕ)
 names units = map (λ (unit : UnitDef). unit.name) units
@@ -68,22 +66,11 @@ all_others [] zero unit distinct there = absurd (cc)
 all_others [] (suc k) unit distinct there = absurd (cc)
 all_others (first ∷ units) zero unit distinct there = refl
 all_others (first ∷ units) (suc k) unit distinct there =
-    both (is_other (unit_name unit.name) (unit_name first.name)) (list_all (is_other (unit_name unit.name)) (take k (names_c units)))
-    (other_name first.name units k unit (and_left (not (is_among first.name (names units))) (are_distinct (names units)) distinct) there)
-    (all_others units k unit (and_right (not (is_among first.name (names units))) (are_distinct (names units)) distinct) there)
+    and_from (is_other (unit_name unit.name) (unit_name first.name)) (list_all (is_other (unit_name unit.name)) (take k (names_c units)))
+    (other_name first.name units k unit (and_first (not (is_among first.name (names units))) (are_distinct (names units)) distinct) there)
+    (all_others units k unit (and_second (not (is_among first.name (names units))) (are_distinct (names units)) distinct) there)
 
 -- ---- tables
-
--- what stands under a name stays
-entry_stays : (known : Table Meaning) (name asked : Text) (meaning value : Meaning) → known asked ≡ Some value →
-    with_entry known name meaning asked ≡ Some value
-entry_stays known name asked meaning value is = ap (λ o. option_or o (if bytes_eq name asked then Some meaning else None)) is
-
--- what joins under a free name stands there
-entry_joins : (known : Table Meaning) (name : Text) (meaning : Meaning) → known name ≡ None → with_entry known name meaning name ≡ Some meaning
-entry_joins known name meaning free =
-    ap (λ o. option_or o (if bytes_eq name name then Some meaning else None)) free
-    ∙ ap (λ b. option_or None (if b then Some meaning else None)) ((bytes_eq-Decides name name).1 refl)
 
 -- a name that no function has stays free
 stays_free : (name : Text) (functions : List CFunc) (known : Table Meaning) → known name ≡ None →
@@ -94,16 +81,12 @@ stays_free name (f ∷ functions) known free others =
     (ap (λ o. option_or o (if bytes_eq f.name name then Some (function_c known f) else None)) free
     ∙ ap (λ b. option_or None (if b then Some (function_c known f) else None))
     (differs (bytes_eq f.name name)
-    (and_left (is_other name f.name) (list_all (is_other name) (map (λ (f : CFunc). f.name) functions)) others)))
-    (and_right (is_other name f.name) (list_all (is_other name) (map (λ (f : CFunc). f.name) functions)) others)
+    (and_first (is_other name f.name) (list_all (is_other name) (map (λ (f : CFunc). f.name) functions)) others)))
+    (and_second (is_other name f.name) (list_all (is_other name) (map (λ (f : CFunc). f.name) functions)) others)
   where
     differs : (b : Bool) → not b ≡ true → b ≡ false
     differs true h = absurd (cc)
     differs false h = refl
-
-known_behind : (known : Table Meaning) (first second : List CFunc) → known_after known (first ++ second) ≡ known_after (known_after known first) second
-known_behind known [] second = refl
-known_behind known (function ∷ first) second = known_behind (with_entry known function.name (function_c known function)) first second
 
 module _ (structs : List StructDef) (units : List UnitDef) (machine : List InMachine) (activities : Activities)
     (built : AreBuilt structs units machine activities) where

@@ -1,22 +1,10 @@
 -- Lists by positions.
-use Rattle.std.proofs.Common.{◌≡◌, ℕ, zero, suc, ◌+◌, ◌<◌, List, [], ◌∷◌, ◌++◌, drop, map, take, length}
+use Rattle.std.proofs.Common.{◌≡◌, ℕ, zero, suc, ◌+◌, ◌<◌, List, [], ◌∷◌, ◌++◌, drop, map, take}
 use Rattle.std.proofs.Common.{Some, None, refl, ap, ◌∙◌, arith}
 use Rattle.std.proofs.lemmas.Option.{same_Some}
 use Rattle.std.specs.Prelude.{slice_get}
 use Rattle.bl_tree.specs.declared.tree.Unit.{Unit as UnitDef}
 use Rattle.bl_emit_spec_laws.specs.Tables.Tables.{each_from}
-
-pub take_next : {A : Type 0} (xs : List A) (k : ℕ) (x : A) → slice_get xs k ≡ Some x → take (suc k) xs ≡ take k xs ++ x ∷ []
-take_next [] zero x there = absurd (cc)
-take_next [] (suc k) x there = absurd (cc)
-take_next (y ∷ xs) zero x there = ap (λ y. y ∷ []) (same_Some y x there)
-take_next (y ∷ xs) (suc k) x there = ap (λ rest. y ∷ rest) (take_next xs k x there)
-
-pub take_past : {A : Type 0} (xs : List A) (k : ℕ) → slice_get xs k ≡ None → take (suc k) xs ≡ take k xs
-take_past [] zero past = refl
-take_past [] (suc k) past = refl
-take_past (y ∷ xs) zero past = absurd (cc)
-take_past (y ∷ xs) (suc k) past = ap (λ rest. y ∷ rest) (take_past xs k past)
 
 -- where a list goes on, its next element is there, and behind it the rest
 pub drop_next : {A : Type 0} (xs : List A) (k : ℕ) (x : A) (rest : List A) → drop k xs ≡ x ∷ rest
@@ -32,31 +20,11 @@ drop_next (y ∷ xs) zero x rest is = (first is, behind is)
     behind is = cc
 drop_next (y ∷ xs) (suc k) x rest is = drop_next xs k x rest is
 
--- an element with what stands behind it
-pub drop_at : {A : Type 0} (xs : List A) (k : ℕ) (x : A) → slice_get xs k ≡ Some x → drop k xs ≡ x ∷ drop (suc k) xs
-drop_at [] zero x there = absurd (cc)
-drop_at [] (suc k) x there = absurd (cc)
-drop_at (y ∷ xs) zero x there = ap (λ y. y ∷ xs) (same_Some y x there)
-drop_at (y ∷ xs) (suc k) x there = drop_at xs k x there
-
 pub split_at : {A : Type 0} (xs : List A) (k : ℕ) → take k xs ++ drop k xs ≡ xs
 split_at [] zero = refl
 split_at [] (suc k) = refl
 split_at (x ∷ xs) zero = refl
 split_at (x ∷ xs) (suc k) = ap (λ rest. x ∷ rest) (split_at xs k)
-
-pub got_left : {A : Type 0} (xs ys : List A) (k : ℕ) → k < length xs → slice_get (xs ++ ys) k ≡ slice_get xs k
-got_left [] ys k less = absurd (omega (arith, less))
-got_left (x ∷ xs) ys zero less = refl
-got_left (x ∷ xs) ys (suc k) less = got_left xs ys k (omega (arith, less))
-
-pub got_last : {A : Type 0} (xs : List A) (x : A) → slice_get (xs ++ x ∷ []) (length xs) ≡ Some x
-got_last [] x = refl
-got_last (y ∷ xs) x = got_last xs x
-
-pub length_last : {A : Type 0} (xs : List A) (x : A) → length (xs ++ x ∷ []) ≡ suc (length xs)
-length_last [] x = refl
-length_last (y ∷ xs) x = ap suc (length_last xs x)
 
 pub map_take : {A B : Type 0} (f : A → B) (xs : List A) (k : ℕ) → map f (take k xs) ≡ take k (map f xs)
 map_take f [] zero = refl

@@ -29,20 +29,8 @@ use Rattle.bl_emit_acts_laws_simulation.specs.Frames.{is_older, lent_at, remembe
 use Rattle.bl_emit_acts_laws_simulation.specs.Encodes.{home_at}
 use Rattle.bl_emit_functions_laws_simulation.specs.Calls.{memory_begun, scope_begun}
 use Rattle.bl_emit_functions_laws_simulation.specs.Units.{AllAgree, AllNamesSuffice, KnownAt, NoneOverlaps}
-use Rattle.bl_emit_spec.specs.Activities.{
-  Activity,
-  activity_function,
-  activity_view,
-  blocks_in_order,
-  body_of,
-  callees_in,
-  copied_in,
-  counters_read,
-  entry_code,
-  first_rules,
-  remembers_any,
-  rested_code,
-}
+use Rattle.bl_emit_spec.specs.Activities.{Activity, activity_function, activity_view, blocks_in_order, body_of, callees_in, copied_in, counters_read}
+use Rattle.bl_emit_spec.specs.Activities.{entry_code, first_rules, remembers_any, rested_code}
 use Rattle.bl_emit_functions.specs.Trees.{c_if}
 use Rattle.bl_emit_spec.specs.Blocks.{ActivityView, entered_by, guard_of, node_code, own_code, unit_may_end}
 use Rattle.bl_emit_spec_laws.specs.Registers.Laws.{RegistersWithin, has_left, is_left}

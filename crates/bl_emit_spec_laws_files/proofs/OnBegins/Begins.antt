@@ -7,6 +7,7 @@ use Rattle.std.proofs.lemmas.List.{append-nil}
 use Rattle.std.proofs.lemmas.Option.{slice_get_within}
 use Rattle.std.specs.Prelude.{Contains, bytes_eq, is_some, nat_eq, slice_get}
 use Rattle.std.specs.List.{list_any}
+use Rattle.bl_tree.proofs.Basics.{true_not_false}
 use Rattle.bl_tree.specs.declared.place.Place.{Place}
 use Rattle.bl_tree.specs.declared.tree.StructDef.{StructDef}
 use Rattle.bl_tree.specs.declared.tree.Unit.{Unit as UnitDef}
@@ -55,9 +56,8 @@ use Rattle.bl_emit_spec_laws.proofs.OnWithin.Changing.{none_within}
 use Rattle.bl_emit_spec_laws_nodes.proofs.OnPoints.Changes.{registers_keep}
 use Rattle.bl_emit_spec_laws_files.specs.Begins.{CountersSuffice, FunctionsBeginWhere}
 use Rattle.bl_emit_spec_laws_files.proofs.OnBegins.Callees.{callee_kept}
-use Rattle.bl_emit_spec_laws_files.proofs.OnBegins.Cells.{apart_flip, left_apart}
 use Rattle.bl_emit_spec_laws_files.proofs.OnBegins.Members.{all_said, below_there, picked_there, there_below, there_picked}
-use Rattle.bl_emit_spec_laws_files.proofs.OnBegins.Places.{as_many, older_differs}
+use Rattle.bl_emit_spec_laws_files.proofs.OnBegins.Places.{as_many}
 use Rattle.bl_emit_spec_laws_files.proofs.OnBegins.Pointers.{local_zero}
 use Rattle.bl_emit_spec_laws_files.proofs.OnBegins.Setting.{GoesTo, then_goes}
 use Rattle.bl_emit_spec_laws_files.proofs.OnBegins.Standing.{active, few, functions_stand_all, gives, handed, kind_is, many, places_are, pointers_go}
@@ -65,9 +65,9 @@ use Rattle.bl_emit_spec_laws_files.proofs.OnBegins.Standing.{standing, stands_th
 use Rattle.bl_emit_spec_laws_files.proofs.OnBegins.Start.{Stands, comes_rested, copies_within, entry_begun, entry_goes, entry_resumed, other_parts}
 use Rattle.bl_emit_spec_laws_files.proofs.OnBegins.Start.{rested_goes, same_parts, with_entry, with_rested}
 use Rattle.bl_emit_spec_laws_files.proofs.OnBegins.Variables.{variables_begin_all}
-
-no_such : true ≡ false → ⊥
-no_such h = cc
+use Rattle.bl_emit_acts_laws_simulation.proofs.Frames.{older_differs}
+use Rattle.bl_emit_acts_laws_simulation.proofs.Cells.{apart_flip}
+use Rattle.bl_emit_acts_laws_simulation.proofs.Written.{left_apart}
 
 any_false : (test : ℕ → Bool) (ks : List ℕ) → ((k : ℕ) → test k ≡ false) → list_any test ks ≡ false
 any_false test [] h = refl
@@ -383,7 +383,7 @@ module _ (structs : List StructDef) (units : List UnitDef) (entry_at : ℕ) (ord
         variables = left.variables;
         copied = after_copied;
         callees = after_callees;
-        result = λ value over has_result is. absurd (no_such (sym over ∙ not_over));
+        result = λ value over has_result is. absurd (true_not_false (sym over ∙ not_over));
       }
 
     abbrev Left : Memory → Type 0

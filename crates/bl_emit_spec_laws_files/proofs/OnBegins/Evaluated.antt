@@ -1,11 +1,7 @@
 -- What the parts of made C texts come to.
-use Rattle.std.proofs.Common.{◌≡◌, ℤ, Bool, List, [], ◌∷◌, map, Some, refl, ap, ◌∙◌, subst}
-use Rattle.std.specs.Prelude.{option_map}
+use Rattle.std.proofs.Common.{◌≡◌, ℤ, Bool, List, [], ◌∷◌, map, Some, refl, ◌∙◌, subst}
 use Rattle.bl_tree.specs.declared.text.Text.{Text}
-use Rattle.bl_tree.specs.declared.scalar.Op.{Op}
-use Rattle.bl_tree.specs.declared.scalar.Op.TheVariants.{Not}
 use Rattle.bl_tree.specs.declared.scalar.Scalar.{Scalar}
-use Rattle.bl_tree.specs.declared.scalar.Scalar.TheVariants.{Bool as OfBool}
 use Rattle.bl_tree.specs.declared.c.CArg.{CArg, CArg-F, fold-CArg, fold-roll-CArg, roll-CArg}
 use Rattle.bl_tree.specs.declared.c.CArg.TheVariants as argument
 use Rattle.bl_tree.specs.declared.c.CCall.{CCall, fold-roll-CCall}
@@ -15,13 +11,12 @@ use Rattle.bl_tree.specs.declared.c.CIndex.{CIndex}
 use Rattle.bl_tree.specs.declared.c.CExpr.{CExpr, fold-roll-CExpr, roll-CExpr}
 use Rattle.bl_tree.specs.declared.c.CExprKind.{CExprKind, CExprKind-F, fold-roll-CExprKind, roll-CExprKind}
 use Rattle.bl_tree.specs.declared.c.CExprKind.TheVariants as expression
-use Rattle.bl_tree.specs.Numbers.{checked_one_of}
-use Rattle.bl_ctext_semantics.specs.Memory.{Projection, member, Location, CValue, Memory, scalar, scalar_number, value_at}
+use Rattle.bl_ctext_semantics.specs.Memory.{Projection, member, Location, CValue, Memory, scalar, value_at}
 use Rattle.bl_ctext_semantics.specs.Meaning.{Counted, Evaluates, given, next, ArgumentValue, by_value, CallResult}
-use Rattle.bl_ctext_semantics.specs.Meaning.{Scope, value_c, location_c, each_of, further, named_location, two_values}
-use Rattle.bl_ctext_semantics.specs.Meaning.{call_c, called_after, result_of, way_of, arg_step, kind_step, call_step, expr_step, index_step, place_step}
+use Rattle.bl_ctext_semantics.specs.Meaning.{Scope, value_c, location_c, each_of, further, named_location}
+use Rattle.bl_ctext_semantics.specs.Meaning.{call_c, called_after, way_of, arg_step, kind_step, call_step, expr_step, index_step, place_step}
 use Rattle.bl_ctext_semantics.specs.Meaning.{step_step}
-use Rattle.bl_emit_acts.specs.Trees.{nowhere, c_call, c_called, c_literal, c_not, c_place, c_read, c_step, c_two}
+use Rattle.bl_emit_acts.specs.Trees.{nowhere, c_call, c_literal, c_place, c_read, c_step}
 
 abbrev kind : CExprKind-F CArg CExprKind CCall CExpr CIndex CPlace CStep → CExpr
 kind layer = roll-CExpr (record { place = nowhere; what = roll-CExprKind layer })
@@ -56,28 +51,6 @@ module _ (scope : Scope) (memory : Memory) where
       subst (λ (k : CExprKind). value_c (roll-CExpr (record { place = nowhere; what = k })) scope memory ≡ reads place)
       (expression.rolls-Read place) (read-open place)
 
-  abbrev negates : CExpr → Counted CValue
-  negates operand = next (value_c operand scope memory) (λ a. given (option_map scalar (checked_one_of Not OfBool (scalar_number a))))
-
-  not-open : (operand : CExpr) → value_c (kind (CExprKind-F.Not operand)) scope memory ≡ negates operand
-  not-open operand = rw (fold-roll-CExpr, fold-roll-CExprKind) refl
-
-  pub not-value : (operand : CExpr) → value_c (c_not operand) scope memory ≡ negates operand
-  not-value operand =
-      subst (λ (k : CExprKind). value_c (roll-CExpr (record { place = nowhere; what = k })) scope memory ≡ negates operand)
-      (expression.rolls-Not operand) (not-open operand)
-
-  two-open : (op : Op) (left right : CExpr) → value_c (kind (CExprKind-F.Two op left right)) scope memory
-      ≡ two_values op (value_c left) (value_c right) scope memory
-  two-open op left right = rw (fold-roll-CExpr, fold-roll-CExprKind) refl
-
-  pub two-value : (op : Op) (left right : CExpr) → value_c (c_two op left right) scope memory
-      ≡ two_values op (value_c left) (value_c right) scope memory
-  two-value op left right =
-      subst (λ (k : CExprKind). value_c (roll-CExpr (record { place = nowhere; what = k })) scope memory
-      ≡ two_values op (value_c left) (value_c right) scope memory)
-      (expression.rolls-Two op left right) (two-open op left right)
-
   -- ---- calls
 
   abbrev calls : Text → Counted (List ArgumentValue) → CallResult
@@ -85,16 +58,6 @@ module _ (scope : Scope) (memory : Memory) where
 
   pub call-does : (name : Text) (args : List CArg) → call_c (c_call name args) scope memory ≡ calls name (each_of (map passes args) scope memory)
   call-does name args = rw fold-roll-CCall refl
-
-  called-open : (call : CCall) → value_c (kind (CExprKind-F.Call call)) scope memory ≡ result_of (call_c call scope memory)
-  called-open call = rw (fold-roll-CExpr, fold-roll-CExprKind) refl
-
-  pub called-value : (name : Text) (args : List CArg) → value_c (c_called name args) scope memory
-      ≡ result_of (calls name (each_of (map passes args) scope memory))
-  called-value name args =
-      subst (λ (k : CExprKind). value_c (roll-CExpr (record { place = nowhere; what = k })) scope memory
-      ≡ result_of (call_c (c_call name args) scope memory))
-      (expression.rolls-Call (c_call name args)) (called-open (c_call name args)) ∙ ap result_of (call-does name args)
 
   value_arg-open : (e : CExpr) →
       passes (roll-CArg (CArg-F.Value e)) scope memory ≡ next (value_c e scope memory) (λ v. given (Some (by_value v)))

@@ -4,6 +4,7 @@ use Rattle.std.proofs.Common.{Option, Some, None, refl, sym, ap, ◌∙◌}
 use Rattle.std.proofs.lemmas.Bool.{ltb-false, ltb-true}
 use Rattle.std.specs.Prelude.{is_none, is_some, nat_eq, nat_le, nat_lt, slice_get}
 use Rattle.std.specs.List.{list_all}
+use Rattle.bl_tree.proofs.Basics.{and_second, get_taken}
 use Rattle.bl_tree.specs.declared.tree.Role.{Role}
 use Rattle.bl_tree.specs.declared.tree.Role.TheVariants.{Input, Output, Variable, Fixed}
 use Rattle.bl_tree.specs.declared.tree.StructDef.{StructDef}
@@ -14,7 +15,6 @@ use Rattle.bl_tree.specs.Program.{is_input, is_output, locals_of, parameters_of,
 use Rattle.bl_tree.specs.Types.{scalar_in}
 use Rattle.bl_tree.specs.Typing.{TypingContext, inputs_of, is_activity, is_fixed, is_variable, outputs_of, site_of, var_at}
 use Rattle.bl_eval.specs.Values.{number_in}
-use Rattle.bl_eval.proofs.PassLemmas.{and_right, get_take}
 use Rattle.bl_ctext_semantics.specs.Meaning.{ArgumentValue, by_address, by_value}
 use Rattle.bl_ctext_semantics.specs.Memory.{CValue, Location, Memory, value_at}
 use Rattle.bl_ctext_semantics.specs.Memory as memory
@@ -88,7 +88,7 @@ module _ (structs : List StructDef) (earlier : List UnitDef) (unit : UnitDef) (s
   home_is j var there = ap (home_of site) there ∙ activity_home site var active
 
   parameter_at : (j : ℕ) (var : Var) → var_at site j ≡ Some var → j < n → slice_get (parameters_of unit) j ≡ Some var
-  parameter_at j var there less = get_take unit.vars n j less ∙ there
+  parameter_at j var there less = get_taken unit.vars n j less ∙ there
 
   abbrev At : ℕ → Var → Type 0
   At = Where site depth here values passed n
@@ -110,8 +110,8 @@ module _ (structs : List StructDef) (earlier : List UnitDef) (unit : UnitDef) (s
       let inputs : Bool = list_all (λ (var : Var). is_input var.role) (inputs_of unit) in
       let outputs : Bool = list_all (λ (var : Var). is_output var.role) (outputs_of unit) in
       let locals : Bool = list_all (λ (var : Var). is_variable var.role || is_fixed var.role) (locals_of unit) in
-      and_right outputs locals (and_right inputs (outputs && locals)
-      (and_right (nat_le n (length unit.vars)) (inputs && (outputs && locals)) standing))
+      and_second outputs locals (and_second inputs (outputs && locals)
+      (and_second (nat_le n (length unit.vars)) (inputs && (outputs && locals)) standing))
 
   pub where_is : (j : ℕ) (var : Var) → var_at site j ≡ Some var → Where (site_of structs earlier unit) depth here values passed
       (unit.inputs + unit.outputs) j var

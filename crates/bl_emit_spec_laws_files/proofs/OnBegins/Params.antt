@@ -1,36 +1,21 @@
 -- Where the parameters of a C function stand once it is called.
 use Rattle.std.proofs.Common.{◌≡◌, ℕ, zero, suc, ◌+◌, ◌<◌, ◌≤◌, ◌^◌, arith, Bool, true, false}
 use Rattle.std.proofs.Common.{◌&&◌, List, [], ◌∷◌, ◌++◌, length, Option, Some, None, refl, ap, ◌∙◌, subst}
-use Rattle.std.proofs.lemmas.Bool.{eq-eqb}
 use Rattle.std.proofs.lemmas.Option.{same_Some}
-use Rattle.std.proofs.lemmas.Slice.Eq.{bytes_eq-Decides}
 use Rattle.std.specs.Prelude.{bytes_eq, slice_get, ◌==◌, if◌then◌else◌}
 use Rattle.bl_tree.specs.declared.c.CParam.{CParam}
 use Rattle.bl_tree.specs.declared.text.Text.{Text}
 use Rattle.bl_tree.specs.declared.tree.StructDef.{StructDef}
 use Rattle.bl_tree.specs.declared.tree.Var.{Var}
 use Rattle.bl_ctext_semantics.specs.Meaning.{ArgumentValue, by_address, by_value, pointers_of, with_params}
-use Rattle.bl_ctext_semantics.specs.Memory.{CValue, Location, Memory, Projection, same_root, set_at, variable, with_part}
+use Rattle.bl_ctext_semantics.specs.Memory.{CValue, Location, Memory, Projection, set_at, variable, with_part}
 use Rattle.bl_ctext_semantics.specs.Tables.{found}
 use Rattle.bl_emit_acts.specs.Types.{variable_name}
 use Rattle.bl_emit_functions.specs.Functions.{params_from}
 use Rattle.bl_emit_acts_laws_simulation.proofs.NumberedNames.{names_differ}
-
-no_such : true ≡ false → ⊥
-no_such h = cc
-
-and_false : (b : Bool) → (b && false) ≡ false
-and_false true = refl
-and_false false = refl
-
-pub own_differ : (depth : ℕ) (m n : List ℕ) → bytes_eq m n ≡ false → same_root (variable depth m) (variable depth n) ≡ false
-own_differ depth m n h = ap (λ b. (depth == depth) && b) h ∙ and_false (depth == depth)
-
-name_itself : (name : List ℕ) → bytes_eq name name ≡ true
-name_itself name = (bytes_eq-Decides name name).1 refl
-
-variable_itself : (d : ℕ) (name : List ℕ) → same_root (variable d name) (variable d name) ≡ true
-variable_itself d name = ap (λ b. b && bytes_eq name name) (eq-eqb d d refl) ∙ name_itself name
+use Rattle.bl_emit_acts_laws_simulation.proofs.Frames.{own_differ}
+use Rattle.bl_emit_functions_laws_simulation.proofs.OnBodies.Flags.{variable_itself}
+use Rattle.bl_emit_functions_laws_simulation.proofs.OnCalls.Params.{name_itself}
 
 module _ (structs : List StructDef) (all : List Var) (depth : ℕ) where
   -- a variable of the frame whose name no parameter has keeps what it has

@@ -1,22 +1,21 @@
 -- The pointers of a called activity stand.
-use Rattle.std.proofs.Common.{◌≡◌, ℕ, ◌+◌, ◌<◌, ◌≤◌, ◌^◌, arith, Bool, true, false, not, ◌&&◌, ◌||◌, List, []}
+use Rattle.std.proofs.Common.{◌≡◌, ℕ, ◌+◌, ◌<◌, ◌≤◌, ◌^◌, arith, Bool, true, false, ◌&&◌, ◌||◌, List, []}
 use Rattle.std.proofs.Common.{◌∷◌, ◌++◌, length, map}
 use Rattle.std.proofs.Common.{Some, refl, sym, ap, ap₂, ◌∙◌}
-use Rattle.std.proofs.lemmas.Bool.{eqb-true, ltb-true}
-use Rattle.std.specs.Prelude.{◌==◌, bytes_eq, codes, is_some, slice_get}
+use Rattle.std.specs.Prelude.{◌==◌, codes, is_some, slice_get}
 use Rattle.std.specs.List.{list_all}
+use Rattle.bl_tree.proofs.Basics.{and_first, and_second}
 use Rattle.bl_tree.specs.declared.tree.Var.{Var}
 use Rattle.bl_tree.specs.declared.value.Value.{Value}
 use Rattle.bl_tree.specs.Program.{parameters_of, roles_stand}
 use Rattle.bl_tree.specs.Typing.{TypingContext, is_activity, var_at}
-use Rattle.bl_eval.proofs.PassLemmas.{and_left, and_right}
 use Rattle.bl_ctext_semantics.specs.Meaning.{ArgumentValue, Meaning, Scope, by_address}
-use Rattle.bl_ctext_semantics.specs.Memory.{Location, Memory, Root, input_object, output_object, same_root, state_object, variable}
+use Rattle.bl_ctext_semantics.specs.Memory.{Location, Memory, variable}
 use Rattle.bl_ctext_semantics.specs.Tables.{Table}
 use Rattle.bl_emit_acts.specs.declared.home.Home.TheVariants.{Lent}
 use Rattle.bl_emit_acts_laws_simulation.specs.Acts.{all_apart, places_in_args}
 use Rattle.bl_emit_acts_laws_simulation.specs.Frames.{PointersAreValid, is_older, lent_at, remembered_at}
-use Rattle.bl_emit_acts_laws_simulation.specs.Encodes.{are_apart, home_at, is_live, ways_part}
+use Rattle.bl_emit_acts_laws_simulation.specs.Encodes.{are_apart, home_at, is_live}
 use Rattle.bl_emit_functions_laws_simulation.specs.Calls.{HandedOver}
 use Rattle.bl_emit_functions_laws_simulation.proofs.OnCalls.Locals.{parameters_many, parameters_within}
 use Rattle.bl_emit_spec.specs.Activities.{Activity, activity_view, remembers_any}
@@ -25,26 +24,12 @@ use Rattle.bl_emit_spec_laws.specs.Registers.Registers.{FramePointersAreValid, f
 use Rattle.bl_emit_spec_laws.specs.Calls.Calls.{CallAddresses, MayGive, where_true, written_by}
 use Rattle.bl_emit_spec_laws.specs.Calls.Invariant.{PlacesAreSeparate, result_at_c}
 use Rattle.bl_emit_spec_laws.proofs.OnActivities.Forgetting.{holder_remembers}
-use Rattle.bl_emit_spec_laws_files.proofs.OnBegins.Cells.{apart_flip}
-use Rattle.bl_emit_spec_laws_files.proofs.OnBegins.Given.{AllApart, all_front, apart_parts, apart_split, live_older, one_flip, one_where, place_where}
+use Rattle.bl_emit_spec_laws_files.proofs.OnBegins.Given.{AllApart, apart_parts, apart_split, one_flip, one_where, place_where}
 use Rattle.bl_emit_spec_laws_files.proofs.OnBegins.Homes.{LentTo, lent_to, places_apart, where_is}
 use Rattle.bl_emit_spec_laws_files.proofs.OnBegins.Pointers.{Begun, frame_given, lent_given, memory_given, no_memory, over_given, result_given}
-
-pub older_differs : (depth : ℕ) (name : List ℕ) (root : Root) → is_older depth root ≡ true → same_root (variable depth name) root ≡ false
-older_differs depth name state_object h = refl
-older_differs depth name input_object h = refl
-older_differs depth name output_object h = refl
-older_differs depth name (variable d other) h = by (depth == d) refl
-  where
-    by : (same : Bool) → (depth == d) ≡ same → (same && bytes_eq name other) ≡ false
-    by false is = refl
-    by true is =
-        let less : d < depth = ltb-true d depth h in
-        let equal : depth ≡ d = eqb-true depth d is in
-        absurd (omega arith)
-
-roots_apart : (p q : Location) → same_root p.root q.root ≡ false → are_apart p q ≡ true
-roots_apart p q h = ap (λ same. not same || ways_part p.parts q.parts) h
+use Rattle.bl_emit_acts_laws_simulation.proofs.Frames.{older_differs, roots_differ}
+use Rattle.bl_emit_acts_laws_simulation.proofs.Cells.{apart_flip}
+use Rattle.bl_emit_functions_laws_simulation.proofs.OnCalls.Handing.{all_front, live_older}
 
 -- what keeps apart from one thing that may be left out
 to_one : (xs : List Location) (b : Bool) (y : Location) → b ≡ true → AllApart xs (where_true b y) → AllApart xs (y ∷ [])
@@ -92,7 +77,7 @@ module _ (a : Activity) (standing : roles_stand a.unit ≡ true) (active : is_ac
   Later = Memories ++ (given.outputs ++ Ends)
 
   frame_all : list_all (are_apart given.frame) Later ≡ true
-  frame_all = and_left (list_all (are_apart given.frame) Later) (all_apart Later) may.apart
+  frame_all = and_first (list_all (are_apart given.frame) Later) (all_apart Later) may.apart
 
   frame_memory : list_all (are_apart given.frame) Memories ≡ true
   frame_memory = (all_front (are_apart given.frame) Memories (given.outputs ++ Ends) frame_all).0
@@ -113,7 +98,7 @@ module _ (a : Activity) (standing : roles_stand a.unit ≡ true) (active : is_ac
       one_where (are_apart given.frame) (unit_may_end a.unit) given.over ends (all_front (are_apart given.frame) Results Overs frame_ends).1
 
   later_parts : AllApart Memories (given.outputs ++ Ends) × (all_apart Memories ≡ true) × (all_apart (given.outputs ++ Ends) ≡ true)
-  later_parts = apart_split Memories (given.outputs ++ Ends) (and_right (list_all (are_apart given.frame) Later) (all_apart Later) may.apart)
+  later_parts = apart_split Memories (given.outputs ++ Ends) (and_second (list_all (are_apart given.frame) Later) (all_apart Later) may.apart)
 
   memory_parts : AllApart Memories given.outputs × AllApart Memories Ends
   memory_parts = apart_parts Memories given.outputs Ends later_parts.0
@@ -133,7 +118,7 @@ module _ (a : Activity) (standing : roles_stand a.unit ≡ true) (active : is_ac
   -- a test of all that may be written
   module _ (test : Location → Bool) (all : list_all test (written_by a.unit (remembers_any a) given) ≡ true) where
     later : list_all test Later ≡ true
-    later = and_right (test given.frame) (list_all test Later) all
+    later = and_second (test given.frame) (list_all test Later) all
 
     behind : list_all test (given.outputs ++ Ends) ≡ true
     behind = (all_front test Memories (given.outputs ++ Ends) later).1
@@ -142,7 +127,7 @@ module _ (a : Activity) (standing : roles_stand a.unit ≡ true) (active : is_ac
     ends = (all_front test given.outputs Ends behind).1
 
     for_frame : test given.frame ≡ true
-    for_frame = and_left (test given.frame) (list_all test Later) all
+    for_frame = and_first (test given.frame) (list_all test Later) all
 
     for_memory : remembers ≡ true → test given.memory ≡ true
     for_memory is = one_where test remembers given.memory is (all_front test Memories (given.outputs ++ Ends) later).0
@@ -246,7 +231,7 @@ module _ (a : Activity) (standing : roles_stand a.unit ≡ true) (active : is_ac
           (memory_outputs is) k var there home
       by false is =
           ap (λ (p : Location). are_apart p (lent_at scope site.vars k)) (no_memory a known (depth + 1) given as_many is)
-          ∙ roots_apart (record { root = variable (depth + 1) (codes "m"); parts = [] }) (lent_at scope site.vars k)
+          ∙ roots_differ (record { root = variable (depth + 1) (codes "m"); parts = [] }) (lent_at scope site.vars k)
           (older_differs (depth + 1) (codes "m") (lent_at scope site.vars k).root (lent_older k var (lent k var there home)))
 
   pub pointers_stand : PointersAreValid (activity_view a).site (Begun a known (depth + 1) given as_many)

@@ -1,25 +1,19 @@
 -- What it is to set a register in memory, and what statements leave there one after another.
-use Rattle.std.proofs.Common.{◌≡◌, ℕ, ℤ, Bool, true, false, List, [], ◌∷◌, ◌++◌, Option, Some, None, refl, sym, ap, ◌∙◌}
-use Rattle.std.proofs.Common.{subst}
+use Rattle.std.proofs.Common.{◌≡◌, ℕ, ℤ, true, false, List, [], ◌∷◌, ◌++◌, Option, Some, None, refl, ap, ◌∙◌}
 use Rattle.std.proofs.lemmas.Bool.{eqb-true}
-use Rattle.std.proofs.lemmas.List.{append-nil}
 use Rattle.std.proofs.lemmas.Option.{same_Some}
 use Rattle.bl_tree.specs.declared.text.Text.{Text}
-use Rattle.bl_tree.specs.declared.c.CExpr.{CExpr}
 use Rattle.bl_tree.specs.declared.c.CPlace.{CPlace}
 use Rattle.bl_tree.specs.declared.c.CStmt.{CStmt}
 use Rattle.bl_ctext_semantics.specs.Course.{End, Outcome, breaks, following_end, goes_on, returns, traps}
-use Rattle.bl_ctext_semantics.specs.Memory.{CValue, Location, Memory, Projection, left_after, member, number_or, scalar, scalar_number, set_at, value_at}
+use Rattle.bl_ctext_semantics.specs.Memory.{CValue, Location, Memory, Projection, member, value_at}
 use Rattle.bl_ctext_semantics.specs.Meaning.{Counted, Scope, block_c, each_of, further, given, location_c, named_location, next, runs_c, value_c, way_of}
-use Rattle.bl_emit_acts.specs.Acts.{c_set}
 use Rattle.bl_emit_acts.specs.Trees.{c_place, c_read, c_step}
 use Rattle.bl_machine_pass.specs.Registers.{Registers}
-use Rattle.bl_emit_spec.specs.Names.{counter_name, counter_place, over_place}
-use Rattle.bl_emit_spec_laws.specs.Registers.Registers.{Before, Counter, Flag, Mark, Over, Register, Registered, RegistersApart, RegistersEncoded}
-use Rattle.bl_emit_spec_laws.specs.Registers.Registers.{RegistersEncodedAfter, frame_at, has_register, held_in, over_at, register_at, same_register}
-use Rattle.bl_emit_spec_laws_files.proofs.OnBegins.Cells.{apart_flip, apart_same, left_behind, same_object, set_elsewhere}
+use Rattle.bl_emit_spec.specs.Names.{counter_name, counter_place}
+use Rattle.bl_emit_spec_laws.specs.Registers.Registers.{Before, Counter, Flag, Mark, Over, Register, Registered}
+use Rattle.bl_emit_spec_laws.specs.Registers.Registers.{frame_at, has_register, held_in, same_register}
 use Rattle.bl_emit_spec_laws_files.proofs.OnBegins.Evaluated.{place-location, read-value, step-way}
-use Rattle.bl_emit_spec_laws_files.proofs.OnBegins.Statements.{Ends, alone_alike, set_after, set_ends}
 
 pub register_is : (x y : Register) → same_register x y ≡ true → x ≡ y
 register_is (Counter j) (Counter k) h = ap Counter (eqb-true j k h)
@@ -53,9 +47,6 @@ register_is Over (Mark k) h = absurd (cc)
 module _ (scope : Scope) (m : Memory) where
   pub local_answer : (name : Text) → (location_c (c_place false name []) scope m).answer ≡ Some (named_location scope false name)
   local_answer name = ap (λ (c : Counted Location). c.answer) (place-location scope m false name [])
-
-  pub over_answer : (location_c over_place scope m).answer ≡ Some (further (over_at scope) [])
-  over_answer = ap (λ (c : Counted Location). c.answer) (place-location scope m true _ [])
 
   abbrev stepped : Location → Counted (List Projection) → Option Location
   stepped start first =
@@ -104,46 +95,3 @@ module _ (scope : Scope) where
 abbrev pub SetIn : Registered → Registers → Registers → Register → ℤ → Type 0
 SetIn has r after x n =
     (held_in after x ≡ n) × ((y : Register) → has_register has y ≡ true → same_register y x ≡ false → held_in after y ≡ held_in r y)
-
-module _ (has : Registered) (scope : Scope) (apart : RegistersApart has scope) where
-  -- memory once a register is set
-  abbrev pub set_to : Memory → Register → ℤ → Memory
-  set_to m x n = set_at m (register_at has scope x) (scalar n)
-
-  own_number : (m : Memory) (x : Register) (n : ℤ) → scalar_number (value_at (set_to m x n) (register_at has scope x)) ≡ n
-  own_number m x n =
-      let place = register_at has scope x in
-      same_object m place (scalar n) (place.parts ++ [])
-      ∙ ap (λ left. number_or left (scalar n) (m place.root (place.parts ++ [])))
-      (ap (λ front. left_after front (place.parts ++ [])) (sym (append-nil place.parts)) ∙ left_behind place.parts [] [])
-
-  pub set_leaves : (m : Memory) (r after : Registers) (x : Register) (n : ℤ) → has_register has x ≡ true → RegistersEncoded has scope r m →
-      SetIn has r after x n → RegistersEncodedAfter has scope after m (set_to m x n)
-  set_leaves m r after x n there hold set = record {
-    registers = record { each = λ y its. by y its (same_register y x) refl };
-    kept = λ root way outside. set_elsewhere m (register_at has scope x) (scalar n) root way (outside.each x there);
-  }
-    where
-      by : (y : Register) → has_register has y ≡ true → (same : Bool) → same_register y x ≡ same →
-          scalar_number (value_at (set_to m x n) (register_at has scope y)) ≡ held_in after y
-      by y its true is =
-          subst (λ (y : Register). scalar_number (value_at (set_to m x n) (register_at has scope y)) ≡ held_in after y) (sym (register_is y x is))
-          (own_number m x n ∙ sym set.0)
-      by y its false is =
-          apart_same m (register_at has scope x) (scalar n) (register_at has scope y)
-          (apart_flip (register_at has scope y) (register_at has scope x) (apart.each y x its there is)) []
-          ∙ (hold.each y its ∙ sym (set.1 y its is))
-
-  -- the C that sets a register
-  pub set_comes : (m : Memory) (r after : Registers) (x : Register) (n : ℤ) (place : CPlace) (value : CExpr) →
-      (location_c place scope m).answer ≡ Some (register_at has scope x) → (value_c value scope m).answer ≡ Some
-      (scalar n) → has_register has x ≡ true →
-      RegistersEncoded has scope r m → SetIn has r after x n → GoesTo (RegistersEncodedAfter has scope after m) (block_c (c_set place value ∷ []) scope m)
-  set_comes m r after x n place value at is there hold set =
-      let o = runs_c (c_set place value) scope m in
-      let alone = alone_alike scope (c_set place value) m in
-      let ends : Ends o (Some (set_to m x n)) =
-      subst (λ (at : Option Location). Ends o (set_after scope m at (Some (scalar n)))) at
-      (subst (λ (is : Option CValue). Ends o (set_after scope m (location_c place scope m).answer is)) is
-      (set_ends scope m place value)) in
-      (alone.0 ∙ ends.0, subst (RegistersEncodedAfter has scope after m) (sym (alone.1 ∙ ends.1)) (set_leaves m r after x n there hold set))

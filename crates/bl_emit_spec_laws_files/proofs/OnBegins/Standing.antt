@@ -1,23 +1,22 @@
 -- The function of an activity stands as it begins.
 use Rattle.std.proofs.Common.{◌≡◌, ℕ, ◌+◌, ◌<◌, ◌≤◌, ◌^◌, arith, Bool, true, List, ◌++◌, length, map}
-use Rattle.std.proofs.Common.{Option, Some, None, refl, sym, ap, ◌∙◌, subst}
+use Rattle.std.proofs.Common.{Some, refl, sym, ap, ◌∙◌, subst}
 use Rattle.std.proofs.Math.Seq.{take-add}
 use Rattle.std.proofs.lemmas.Bool.{leb-true}
 use Rattle.std.proofs.lemmas.List.{length-take}
 use Rattle.std.proofs.lemmas.Option.{slice_get_within}
-use Rattle.std.specs.Prelude.{is_some, option_and_then, option_map, slice_get, unwrap_or}
+use Rattle.std.specs.Prelude.{is_some, slice_get}
 use Rattle.std.specs.List.{list_all}
+use Rattle.bl_tree.proofs.Basics.{and_first, and_second, map_length}
 use Rattle.bl_tree.specs.declared.tree.StructDef.{StructDef}
 use Rattle.bl_tree.specs.declared.tree.Unit.{Unit as UnitDef}
 use Rattle.bl_tree.specs.declared.value.Value.{Value}
 use Rattle.bl_tree.specs.Program.{parameters_of, roles_stand}
 use Rattle.bl_tree.specs.Typing.{inputs_of, is_activity, outputs_of}
-use Rattle.bl_eval.proofs.PassLemmas.{and_left, and_right}
 use Rattle.bl_ctext_semantics.specs.Meaning.{Meaning, by_address}
 use Rattle.bl_ctext_semantics.specs.Memory.{Location, Memory}
 use Rattle.bl_ctext_semantics.specs.Tables.{Table}
-use Rattle.bl_ctree.specs.declared.instance.Instance.{Instance}
-use Rattle.bl_ctree.specs.Instances.{Setting, setting_of, unit_at, unit_of}
+use Rattle.bl_ctree.specs.Instances.{Setting, setting_of, unit_at}
 use Rattle.bl_ctree.specs.Store.{Store}
 use Rattle.bl_ctree_laws_confluence.specs.Deeds.Orderly.{AcceptedIsOrderly, OrderlyUnit}
 use Rattle.bl_emit_acts_laws_simulation.specs.Acts.{MayPass, all_apart, places_in_args}
@@ -33,19 +32,12 @@ use Rattle.bl_emit_spec_laws.specs.Calls.Laws.{CompilationContext, scope_in}
 use Rattle.bl_emit_spec_laws.specs.Calls.Invariant.{PlacesAreSeparate}
 use Rattle.bl_emit_spec_laws.specs.Activities.{PointersLead}
 use Rattle.bl_emit_spec_laws_files.specs.Begins.{FunctionsBeginInContext, PointersFollow}
-use Rattle.bl_emit_spec_laws_files.proofs.OnBegins.Given.{all_front, apart_split, get_behind, inputs_many, length_both, length_mapped}
+use Rattle.bl_emit_spec_laws_files.proofs.OnBegins.Given.{apart_split, inputs_many}
 use Rattle.bl_emit_spec_laws_files.proofs.OnBegins.Given.{outputs_many, place_output}
 use Rattle.bl_emit_spec_laws_files.proofs.OnBegins.Places.{as_many, lead_to, places_stand}
 use Rattle.bl_emit_spec_laws_files.proofs.OnBegins.Pointers.{frame_given, memory_given, over_given, result_given}
-
--- the unit of an instance stands at its position
-pub unit_there : (w : Setting) (i : ℕ) (unit : UnitDef) → unit_at w i ≡ Some unit → slice_get w.units (unit_number w i) ≡ Some unit
-unit_there w i unit h = by (slice_get w.instances i) h
-  where
-    by : (o : Option Instance) → option_and_then (unit_of w) o ≡ Some unit →
-        slice_get w.units (unwrap_or (option_map (λ (instance : Instance). instance.unit) o) 0) ≡ Some unit
-    by None h = absurd (cc)
-    by (Some instance) h = h
+use Rattle.bl_emit_spec_laws.proofs.OnActivities.Nested.{unit_there}
+use Rattle.bl_emit_functions_laws_simulation.proofs.OnCalls.Handing.{all_front, get_behind, length_both}
 
 -- what is said of all that may be written is said of the outputs
 of_outputs : (test : Location → Bool) (unit : UnitDef) (remembers : Bool) (given : CallAddresses) →
@@ -55,7 +47,7 @@ of_outputs test unit remembers given all =
     let ends = where_true (is_some unit.result) given.result ++ where_true (unit_may_end unit) given.over in
     let rest = where_true remembers given.memory ++ (given.outputs ++ ends) in
     (all_front test given.outputs ends
-    (all_front test (where_true remembers given.memory) (given.outputs ++ ends) (and_right (test given.frame) (list_all test rest) all)).1).0
+    (all_front test (where_true remembers given.memory) (given.outputs ++ ends) (and_second (test given.frame) (list_all test rest) all)).1).0
 
 -- so the inputs and outputs may be handed over
 may_pass : (unit : UnitDef) (remembers : Bool) (depth : ℕ) (given : CallAddresses) → MayGive unit remembers depth given →
@@ -67,7 +59,7 @@ may_pass unit remembers depth given may =
       apart =
           (apart_split given.outputs ends
           (apart_split (where_true remembers given.memory) (given.outputs ++ ends)
-          (and_right (list_all (are_apart given.frame) rest) (all_apart rest) may.apart)).2).1;
+          (and_second (list_all (are_apart given.frame) rest) (all_apart rest) may.apart)).2).1;
       inputs_apart =
           of_outputs (λ (place : Location). list_all (are_apart place) (places_in_args given.inputs)) unit remembers given may.inputs_apart;
       live = of_outputs (λ (place : Location). is_live depth place.root) unit remembers given may.live;
@@ -128,14 +120,14 @@ module _ (structs : List StructDef) (units : List UnitDef) (entry : ℕ) (orderl
   counted : length (given.inputs ++ map by_address given.outputs) ≡ unit.inputs + unit.outputs
   counted =
       let within : unit.inputs + unit.outputs ≤ length unit.vars = leb-true (unit.inputs + unit.outputs) (length unit.vars)
-      (and_left _ _ ordered.roles) in
+      (and_first _ _ ordered.roles) in
       let total : length (parameters_of unit) ≡ unit.inputs + unit.outputs =
       omega (arith, length-take (unit.inputs + unit.outputs) unit.vars, within) in
       let parts : length (parameters_of unit) ≡ length (inputs_of unit) + length (outputs_of unit) =
       ap length (take-add unit.inputs unit.outputs unit.vars) ∙ length_both (inputs_of unit) (outputs_of unit) in
       let both : length (given.inputs ++ map by_address given.outputs) ≡ length given.inputs + length (map by_address given.outputs) =
       length_both given.inputs (map by_address given.outputs) in
-      let mapped : length (map by_address given.outputs) ≡ length given.outputs = length_mapped by_address given.outputs in
+      let mapped : length (map by_address given.outputs) ≡ length given.outputs = map_length by_address given.outputs in
       let ins : length given.inputs ≡ length (inputs_of unit) =
       inputs_many structs depth here (inputs_of unit) (input_values w store i unit) given.inputs begins.inputs in
       let outs : length given.outputs ≡ length (outputs_of unit) =
@@ -155,7 +147,7 @@ module _ (structs : List StructDef) (units : List UnitDef) (entry : ℕ) (orderl
   input_count : length given.inputs ≡ a.unit.inputs
   input_count =
       let within : unit.inputs + unit.outputs ≤ length unit.vars = leb-true (unit.inputs + unit.outputs) (length unit.vars)
-      (and_left _ _ ordered.roles) in
+      (and_first _ _ ordered.roles) in
       let ins : length given.inputs ≡ length (inputs_of unit) =
       inputs_many structs depth here (inputs_of unit) (input_values w store i unit) given.inputs begins.inputs in
       let all : length (inputs_of unit) ≡ unit.inputs = omega (arith, length-take unit.inputs unit.vars, within) in
@@ -169,7 +161,7 @@ module _ (structs : List StructDef) (units : List UnitDef) (entry : ℕ) (orderl
       let less : j < length given.outputs = slice_get_within given.outputs j place is in
       let both : length (given.inputs ++ map by_address given.outputs) ≡ length given.inputs + length (map by_address given.outputs) =
       length_both given.inputs (map by_address given.outputs) in
-      let mapped : length (map by_address given.outputs) ≡ length given.outputs = length_mapped by_address given.outputs in
+      let mapped : length (map by_address given.outputs) ≡ length given.outputs = map_length by_address given.outputs in
       omega (arith, less, both, mapped, many, input_count)
 
   own_pointers : PointersLead w activities i a.unit (scope_in w activities i a.unit known depth given) given

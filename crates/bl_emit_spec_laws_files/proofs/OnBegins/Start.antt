@@ -2,29 +2,26 @@
 use Rattle.std.proofs.Common.{◌≡◌, ℕ, ℤ, pos, Bool, true, false}
 use Rattle.std.proofs.Common.{◌&&◌, ◌||◌}
 use Rattle.std.proofs.Common.{List, [], ◌∷◌, ◌++◌, map, Option, Some, None, refl, sym, ap, ◌∙◌, subst}
-use Rattle.std.proofs.lemmas.Bool.{eq-eqb, eqb-true}
+use Rattle.std.proofs.lemmas.Bool.{eqb-true}
 use Rattle.std.proofs.lemmas.List.{append-nil}
-use Rattle.std.proofs.lemmas.Option.{same_Some}
 use Rattle.std.specs.Prelude.{nat_eq, option_map, if◌then◌else◌}
 use Rattle.std.specs.List.{list_all, list_any}
+use Rattle.bl_tree.proofs.Basics.{and_first, and_second, and_true}
 use Rattle.bl_tree.specs.declared.c.CExpr.{CExpr}
 use Rattle.bl_tree.specs.declared.c.CPlace.{CPlace}
 use Rattle.bl_tree.specs.declared.scalar.Op.TheVariants.{Eq}
-use Rattle.bl_tree.specs.declared.tree.StructDef.{StructDef}
-use Rattle.bl_tree.specs.declared.tree.Ty.{Ty}
 use Rattle.bl_tree.specs.declared.value.Value.{Value}
 use Rattle.bl_tree.specs.Numbers.{number_of}
 use Rattle.bl_tree.specs.Typing.{TypingContext}
 use Rattle.bl_graph_nodes.specs.Nodes.{Node, entry}
 use Rattle.bl_graph_nodes.specs.Plain.{Block, Done, Plain, Then}
-use Rattle.bl_eval.proofs.PassLemmas.{and_left, and_right}
 use Rattle.bl_ctext_semantics.specs.Meaning.{Scope, block_c, location_c, named_location, runs_c, value_c}
 use Rattle.bl_ctext_semantics.specs.Memory.{CValue, Location, Memory, Projection, Root, left_after, number_or, scalar_number, set_at, value_at}
 use Rattle.bl_ctext_semantics.specs.Memory.{with_part}
 use Rattle.bl_emit_acts.specs.Acts.{c_set}
 use Rattle.bl_emit_acts.specs.Trees.{c_read, c_two}
 use Rattle.bl_emit_acts_laws_simulation.specs.Frames.{is_older}
-use Rattle.bl_emit_acts_laws_simulation.specs.Encodes.{Encodes, VariablesEncoded, location_in, way_to}
+use Rattle.bl_emit_acts_laws_simulation.specs.Encodes.{VariablesEncoded, location_in}
 use Rattle.bl_emit_spec.specs.Activities.{entry_code, entry_place, rested_code}
 use Rattle.bl_emit_spec.specs.Blocks.{ActivityView, Sizes, counter_value, node_word}
 use Rattle.bl_emit_spec.specs.Names.{counter_place, flag_name, flag_place, rested_name, rested_place, with_word}
@@ -37,13 +34,16 @@ use Rattle.bl_machine_pass_laws.specs.Turns.Laws.{entry_flag}
 use Rattle.bl_emit_spec_laws.proofs.OnRegisters.Guards.{eq_shows, literal_gives, rested_gives}
 use Rattle.bl_emit_spec_laws.proofs.OnRegisters.Setting.{flag_answer}
 use Rattle.bl_emit_spec_laws.proofs.OnWithin.Changing.{with_within}
-use Rattle.bl_emit_spec_laws_files.proofs.OnBegins.Cells.{apart_flip, apart_same, left_behind, same_object}
-use Rattle.bl_emit_spec_laws_files.proofs.OnBegins.Places.{older_differs}
+use Rattle.bl_emit_spec_laws_files.proofs.OnBegins.Cells.{apart_same, same_object}
 use Rattle.bl_emit_spec_laws_files.proofs.OnBegins.Setting.{GoesTo, SetIn, counter_answer, local_answer, read_answer, register_is, then_goes}
 use Rattle.bl_emit_spec_laws_files.proofs.OnBegins.Statements.{Ends, alone_alike, set_after, set_ends}
-
-no_such : true ≡ false → ⊥
-no_such h = cc
+use Rattle.bl_emit_acts_laws_simulation.proofs.Frames.{older_differs}
+use Rattle.bl_emit_acts_laws_simulation.proofs.Cells.{apart_flip}
+use Rattle.bl_emit_acts_laws_simulation.proofs.Parts.{holds_same}
+use Rattle.bl_emit_acts_laws_simulation.proofs.Written.{left_behind}
+use Rattle.bl_machine_pass_laws_turns.proofs.OnWaiting.Changes.{here_is}
+use Rattle.bl_emit_spec_laws.proofs.OnRegisters.Changes.{with_other}
+use Rattle.bl_emit_spec_laws_nodes.proofs.OnPoints.ReturnBlocks.{held_by}
 
 -- the registers once these copies of counters were made
 abbrev pub with_rested : List ℕ → Registers → Registers
@@ -66,26 +66,6 @@ with_entry view (Then s rest) r = record {
   marks = r.marks;
   over = r.over;
 }
-
-holds_same : (structs : List StructDef) (ty : Ty) (value : Value) (held other : CValue) → ((way : List Projection) → held way ≡ other way) →
-    Encodes structs ty value held → Encodes structs ty value other
-holds_same structs ty value held other same holds = record {
-  each = λ ks n is. sym (same (way_to structs ks (Some ty))) ∙ holds.each ks n is;
-}
-
-number_is : (o : Option CValue) (n : ℤ) → option_map scalar_number o ≡ Some n → (v : CValue) × (o ≡ Some v) × (scalar_number v ≡ n)
-number_is None n h = absurd (cc)
-number_is (Some v) n h = (v, refl, same_Some (scalar_number v) n h)
-
-at_other : {X : Type 0} (k : ℕ) (x : X) (f : ℕ → X) (j : ℕ) → nat_eq j k ≡ false → with_at k x f j ≡ f j
-at_other k x f j h = ap (λ b. if b then x else f j) h
-
-at_own : {X : Type 0} (k : ℕ) (x : X) (f : ℕ → X) → with_at k x f k ≡ x
-at_own k x f = ap (λ b. if b then x else f k) (eq-eqb k k refl)
-
-and_true : (b : Bool) → (b && true) ≡ b
-and_true true = refl
-and_true false = refl
 
 -- memory in the middle of the start: it holds registers and variables, and what was there before the function began is as it was
 pub record Stands (has : Registered) (site : TypingContext) (scope : Scope) (now : List Value) (begun : Memory) (r : Registers) (m : Memory) : Type 0 where
@@ -151,12 +131,12 @@ module _ (has : Registered) (site : TypingContext) (scope : Scope) (apart : Regi
 
   rested_sets : (k : ℕ) (r : Registers) (n : ℤ) → n ≡ pos (r.counters k) →
       SetIn has r (with_rested (k ∷ []) r) (Before k) n
-  rested_sets k r n is = (ap pos (at_own k (r.counters k) r.rested) ∙ sym is, others)
+  rested_sets k r n is = (ap pos (here_is k (r.counters k) r.rested) ∙ sym is, others)
     where
       others : (y : Register) → has_register has y ≡ true → same_register y (Before k) ≡ false →
           held_in (with_rested (k ∷ []) r) y ≡ held_in r y
       others (Counter j) its differ = refl
-      others (Before j) its differ = ap pos (at_other k (r.counters k) r.rested j differ)
+      others (Before j) its differ = ap pos (with_other k (r.counters k) r.rested j differ)
       others (Flag j) its differ = refl
       others (Mark j) its differ = refl
       others Over its differ = refl
@@ -166,14 +146,14 @@ module _ (has : Registered) (site : TypingContext) (scope : Scope) (apart : Regi
       GoesTo (Mid (with_rested ks r)) (block_c (map rested_code ks) scope m)
   rested_goes [] r m counters copied stands = (refl, stands)
   rested_goes (k ∷ ks) r m counters copied stands =
-      let counted : has.counters k ≡ true = and_left (has.counters k) (list_all has.counters ks) counters in
+      let counted : has.counters k ≡ true = and_first (has.counters k) (list_all has.counters ks) counters in
       then_goes scope (rested_code k ∷ []) (map rested_code ks) m (Mid (with_rested (k ∷ []) r)) (Mid (with_rested (k ∷ ks) r))
       (set_goes m r (with_rested (k ∷ []) r) (Before k) (rested_name k) (value_at m (register_at has scope (Counter k))) (rested_place k)
-      (c_read (counter_place k)) (and_left (has.copied k) (list_all has.copied ks) copied) refl (local_answer scope m (rested_name k))
+      (c_read (counter_place k)) (and_first (has.copied k) (list_all has.copied ks) copied) refl (local_answer scope m (rested_name k))
       (read_answer scope m (counter_place k) (register_at has scope (Counter k)) (counter_answer scope m k))
       (rested_sets k r (scalar_number (value_at m (register_at has scope (Counter k)))) (stands.hold.each (Counter k) counted)) stands)
-      (λ m' next. rested_goes ks (with_rested (k ∷ []) r) m' (and_right (has.counters k) (list_all has.counters ks) counters)
-      (and_right (has.copied k) (list_all has.copied ks) copied) next)
+      (λ m' next. rested_goes ks (with_rested (k ∷ []) r) m' (and_second (has.counters k) (list_all has.counters ks) counters)
+      (and_second (has.copied k) (list_all has.copied ks) copied) next)
 
   -- ---- the flag of the entry
 
@@ -185,7 +165,7 @@ module _ (has : Registered) (site : TypingContext) (scope : Scope) (apart : Regi
     over = r.over;
   } → (x : ℤ) → x ≡ number_of b → SetIn has r after (Flag n) x
   entry_sets n r after b is x held =
-      subst (λ (after : Registers). SetIn has r after (Flag n) x) (sym is) (ap number_of (at_own n b r.flags) ∙ sym held, others)
+      subst (λ (after : Registers). SetIn has r after (Flag n) x) (sym is) (ap number_of (here_is n b r.flags) ∙ sym held, others)
     where
       others : (y : Register) → has_register has y ≡ true → same_register y (Flag n) ≡ false → held_in (record {
         counters = r.counters;
@@ -196,7 +176,7 @@ module _ (has : Registered) (site : TypingContext) (scope : Scope) (apart : Regi
       }) y ≡ held_in r y
       others (Counter j) its differ = refl
       others (Before j) its differ = refl
-      others (Flag j) its differ = ap number_of (at_other n b r.flags j differ)
+      others (Flag j) its differ = ap number_of (with_other n b r.flags j differ)
       others (Mark j) its differ = refl
       others Over its differ = refl
 
@@ -231,7 +211,7 @@ module _ (has : Registered) (site : TypingContext) (scope : Scope) (apart : Regi
     entry_goes Done r m flagged held within stands = (refl, stands)
     entry_goes (Then s rest) r m flagged held within stands =
         let test : CExpr = c_two Eq (c_read (entry_place (view.is_read 0))) (counter_value view.sizes 0 0) in
-        let found = number_is (value_c test scope m).answer (number_of (nat_eq (r.counters 0) 0))
+        let found = held_by (value_c test scope m).answer (number_of (nat_eq (r.counters 0) 0))
         (first_shows (entry s) r m held within stands.hold) in
         set_goes m r (with_entry view (Then s rest) r) (Flag (view.number (entry s))) (flag_name (with_word has.words (view.number (entry s)))) found.0
         (flag_place (node_word view (entry s))) test (flagged s rest refl) refl

@@ -1,5 +1,5 @@
 -- What assignments and choices leave in memory.
-use Rattle.std.proofs.Common.{◌≡◌, ℕ, ◌+◌, Bool, true, false, List, [], ◌∷◌, map, Option, Some, None, refl, sym, subst}
+use Rattle.std.proofs.Common.{◌≡◌, ℕ, ◌+◌, List, [], ◌∷◌, map, Option, Some, None, refl, sym, subst}
 use Rattle.std.specs.Prelude.{option_and_then, option_map, unwrap_or, if◌then◌else◌}
 use Rattle.bl_tree.specs.declared.c.CExpr.{CExpr}
 use Rattle.bl_tree.specs.declared.c.CPlace.{CPlace}
@@ -7,7 +7,7 @@ use Rattle.bl_tree.specs.declared.c.CStmt.{CStmt, fold-roll-CStmt, roll-CStmt}
 use Rattle.bl_tree.specs.declared.c.CStmtKind.{CStmtKind, CStmtKind-F, fold-roll-CStmtKind, roll-CStmtKind}
 use Rattle.bl_tree.specs.declared.c.CStmtKind.TheVariants as statement
 use Rattle.bl_tree.specs.Numbers.{is_one}
-use Rattle.bl_ctext_semantics.specs.Course.{End, Outcome, breaks, ended_by, following_end, goes_on, going, returns, traps}
+use Rattle.bl_ctext_semantics.specs.Course.{End, Outcome, breaks, following_end, goes_on, going, returns, traps}
 use Rattle.bl_ctext_semantics.specs.Memory.{CValue, Location, Memory, scalar_number, set_at}
 use Rattle.bl_ctext_semantics.specs.Meaning.{Counted, Scope, block_c, block_of, executed, given, location_c, next, runs_c, value_c}
 use Rattle.bl_emit_acts.specs.Acts.{c_set}
@@ -86,36 +86,3 @@ module _ (scope : Scope) (here : Memory) where
   if-runs test block other =
       subst (λ (k : CStmtKind). runs_c (roll-CStmt (record { place = nowhere; what = k })) scope here ≡ chooses test block other)
       (statement.rolls-If test block other) (if-open test block other)
-
--- whether a condition is true in C; none where it traps
-abbrev pub truth_c : Scope → CExpr → Memory → Option Bool
-truth_c scope test m = option_map (λ v. is_one (scalar_number v)) (value_c test scope m).answer
-
--- an `if` comes to what its chosen block comes to
-abbrev pub Chosen : Scope → Memory → (End → Memory → Type 0) → List CStmt → Option (List CStmt) → Option Bool → Type 0
-Chosen scope here Q block other None = Q traps here
-Chosen scope here Q block other (Some true) = Q (block_c block scope here).end (block_c block scope here).memory
-Chosen scope here Q block other (Some false) = Q (block_c (unwrap_or other []) scope here).end (block_c (unwrap_or other []) scope here).memory
-
-module _ (scope : Scope) (here : Memory) (Q : End → Memory → Type 0) where
-  abbrev Of : Outcome Memory → Type 0
-  Of o = Q o.end o.memory
-
-  by_choice : (block : List CStmt) (other : Option (List CStmt)) (b : Bool) → Chosen scope here Q block other (Some b) →
-      Of ((if b then block_of (map runs_c block) else block_of (unwrap_or (option_map (map runs_c) other) [])) scope here)
-  by_choice block other true h = h
-  by_choice block None false h = h
-  by_choice block (Some stmts) false h = h
-
-  by_answer : (block : List CStmt) (other : Option (List CStmt)) (n : ℕ) (a : Option CValue) →
-      Chosen scope here Q block other (option_map (λ v. is_one (scalar_number v)) a) →
-      Of (ended_by here n a (λ v. (if is_one (scalar_number v) then block_of (map runs_c block) else block_of
-      (unwrap_or (option_map (map runs_c) other) [])) scope here))
-  by_answer block other n None h = h
-  by_answer block other n (Some v) h = by_choice block other (is_one (scalar_number v)) h
-
-  pub if_comes : (test : CExpr) (block : List CStmt) (other : Option (List CStmt)) → Chosen scope here Q block other (truth_c scope test here) →
-      Of (runs_c (c_if test block other) scope here)
-  if_comes test block other h =
-      let c = value_c test scope here in
-      subst (λ (o : Outcome Memory). Q o.end o.memory) (sym (if-runs scope here test block other)) (by_answer block other (1 + c.count) c.answer h)

@@ -1,21 +1,20 @@
 -- The variables of a called activity have their values as its function begins.
-use Rattle.std.proofs.Common.{◌≡◌, ℕ, ◌+◌, ◌<◌, ◌≤◌, ◌^◌, ℤ, arith, Bool, true, List, [], ◌∷◌}
+use Rattle.std.proofs.Common.{◌≡◌, ℕ, ◌+◌, ◌<◌, ◌≤◌, ◌^◌, arith, Bool, true, List, [], ◌∷◌}
 use Rattle.std.proofs.Common.{◌++◌, length, map, take, drop}
 use Rattle.std.proofs.Common.{Some, sym, ap, ◌∙◌, subst}
 use Rattle.std.proofs.Math.Seq.{take-add}
 use Rattle.std.proofs.lemmas.List.{append-nil}
 use Rattle.std.proofs.lemmas.Option.{same_Some}
-use Rattle.std.specs.Prelude.{option_and_then, slice_get}
+use Rattle.std.specs.Prelude.{slice_get}
+use Rattle.bl_tree.proofs.Basics.{get_taken}
 use Rattle.bl_tree.specs.declared.tree.StructDef.{StructDef}
 use Rattle.bl_tree.specs.declared.tree.Ty.{Ty}
 use Rattle.bl_tree.specs.declared.tree.Unit.{Unit as UnitDef}
 use Rattle.bl_tree.specs.declared.tree.Var.{Var}
-use Rattle.bl_tree.specs.declared.value.Value.{Value, out-Value}
-use Rattle.bl_tree.specs.declared.value.Value.TheOpen.{Value-F}
+use Rattle.bl_tree.specs.declared.value.Value.{Value}
 use Rattle.bl_tree.specs.Program.{parameters_of, roles_stand}
 use Rattle.bl_tree.specs.Typing.{TypingContext, is_activity, var_at}
-use Rattle.bl_eval.specs.Values.{number_at as number_level, number_in, parts_at, value_at as value_within}
-use Rattle.bl_eval.proofs.PassLemmas.{get_take}
+use Rattle.bl_eval.specs.Values.{number_in}
 use Rattle.bl_ctext_semantics.specs.Meaning.{ArgumentValue, Meaning, Scope, by_address, by_value, further}
 use Rattle.bl_ctext_semantics.specs.Memory.{CValue, Location, Memory, member, value_at, variable, without_frame}
 use Rattle.bl_ctext_semantics.specs.Memory as memory
@@ -27,7 +26,7 @@ use Rattle.bl_emit_acts.specs.declared.home.Home.{Home}
 use Rattle.bl_emit_acts.specs.declared.home.Home.TheVariants.{Held, Local, Lent}
 use Rattle.bl_emit_acts.specs.Types.{variable_name}
 use Rattle.bl_emit_acts_laws_simulation.specs.Frames.{is_older}
-use Rattle.bl_emit_acts_laws_simulation.specs.Encodes.{Encodes, VariablesEncoded, home_at, lead_in, location_in, number_within, start_in, way_to}
+use Rattle.bl_emit_acts_laws_simulation.specs.Encodes.{Encodes, VariablesEncoded, home_at, lead_in, location_in, start_in, way_to}
 use Rattle.bl_emit_functions_laws_simulation.specs.Calls.{CallsKeepFrame, HandedOver, HandsOver, memory_begun}
 use Rattle.bl_emit_functions_laws_simulation.proofs.OnCalls.Locals.{parameters_many, parameters_within}
 use Rattle.bl_emit_spec.specs.Activities.{Activity, activity_function, activity_view, remembers_any}
@@ -43,6 +42,7 @@ use Rattle.bl_emit_spec_laws_files.proofs.OnBegins.Params.{value_given}
 use Rattle.bl_emit_spec_laws_files.proofs.OnBegins.Places.{as_many, lead_to, memory_older}
 use Rattle.bl_emit_spec_laws_files.proofs.OnBegins.Pointers.{Begun, begun_is, memory_given}
 use Rattle.bl_emit_spec_laws_files.proofs.OnBegins.Standing.{active, few, gives, handed, many, standing, structs_are, unit_is}
+use Rattle.bl_emit_functions_laws_simulation.proofs.OnCalls.Frame.{number_alone}
 
 -- the same value in other words
 holds_same : (structs : List StructDef) (ty : Ty) (value : Value) (held other : CValue) → ((way : List memory.Projection) → held way ≡ other way) →
@@ -50,20 +50,6 @@ holds_same : (structs : List StructDef) (ty : Ty) (value : Value) (held other : 
 holds_same structs ty value held other same holds = record {
   each = λ ks n is. sym (same (way_to structs ks (Some ty))) ∙ holds.each ks n is;
 }
-
--- a value that is a number is held where that number is
-number_alone : (structs : List StructDef) (ty : Ty) (value : Value) (held : CValue) → number_in value ≡ Some (memory.scalar_number held) →
-    Encodes structs ty value held
-number_alone structs ty value held is = record { each = each }
-  where
-    no_part : (layer : Value-F Value) (k : ℕ) (ks : List ℕ) (n m : ℤ) → number_level layer ≡ Some n →
-        option_and_then number_in (option_and_then (value_within ks) (option_and_then (λ all. slice_get all k) (parts_at layer))) ≡ Some m → ⊥
-    no_part (Value-F.Number x) k ks n m is h = cc
-    no_part (Value-F.Parts all) k ks n m is h = cc
-
-    each : (ks : List ℕ) (n : ℤ) → number_within ks value ≡ Some n → held (way_to structs ks (Some ty)) ≡ n
-    each [] n h = same_Some (held []) n (sym is ∙ h)
-    each (k ∷ ks) n h = absurd (no_part (out-Value value) k ks (memory.scalar_number held) n is h)
 
 module _ (a : Activity) (standing : roles_stand a.unit ≡ true) (active : is_activity a.unit.kind ≡ true) (few : length a.unit.vars ≤ 2 ^ 64)
     (known : Table Meaning) (depth : ℕ) (given : CallAddresses) (values : List Value) (here : Memory)
@@ -155,7 +141,7 @@ module _ (a : Activity) (standing : roles_stand a.unit ≡ true) (active : is_ac
 front_values : (unit : UnitDef) (now : List Value) (j : ℕ) → j < unit.inputs + unit.outputs →
     slice_get (take unit.inputs now ++ take unit.outputs (drop unit.inputs now)) j ≡ slice_get now j
 front_values unit now j less =
-    ap (λ (all : List Value). slice_get all j) (sym (take-add unit.inputs unit.outputs now)) ∙ get_take now (unit.inputs + unit.outputs) j less
+    ap (λ (all : List Value). slice_get all j) (sym (take-add unit.inputs unit.outputs now)) ∙ get_taken now (unit.inputs + unit.outputs) j less
 
 pub variables_begin_all : (structs : List StructDef) (units : List UnitDef) (entry : ℕ) → AcceptedIsOrderly → HandsOver structs units entry →
     CallsKeepFrame →

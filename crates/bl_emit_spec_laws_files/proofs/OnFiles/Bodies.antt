@@ -21,34 +21,9 @@ use Rattle.bl_tree.specs.Numbers.{is_one, number_of}
 use Rattle.bl_tree.specs.Typing.{inputs_of, outputs_of}
 use Rattle.bl_ctext_semantics.specs.Builtin.{builtin_of}
 use Rattle.bl_ctext_semantics.specs.Course.{Outcome, ending, following, result_at, returns}
-use Rattle.bl_ctext_semantics.specs.Meaning.{
-  CallResult,
-  Counted,
-  Meaning,
-  ArgumentValue,
-  Scope,
-  applied,
-  block_c,
-  by_address,
-  by_value,
-  call_c,
-  call_end,
-  call_outcome,
-  called_as,
-  called_after,
-  each_of,
-  executed,
-  function_c,
-  further,
-  given,
-  later_call,
-  location_c,
-  next,
-  runs_c,
-  named_location,
-  value_c,
-  way_of,
-}
+use Rattle.bl_ctext_semantics.specs.Meaning.{CallResult, Counted, Meaning, ArgumentValue, Scope, applied, block_c, by_address, by_value, call_c, call_end}
+use Rattle.bl_ctext_semantics.specs.Meaning.{call_outcome, called_as, called_after, each_of, executed, function_c, further, given, later_call, location_c, next}
+use Rattle.bl_ctext_semantics.specs.Meaning.{runs_c, named_location, value_c, way_of}
 use Rattle.bl_ctext_semantics.specs.Memory.{CValue, Location, Memory, Projection, input_object, member, output_object, scalar_number, state_object, value_at, variable}
 use Rattle.bl_ctext_semantics.specs.Memory.{without_frame}
 use Rattle.bl_ctext_semantics.specs.Tables.{Table, table_of}

@@ -1,9 +1,10 @@
 -- The columns of a file are the inputs and outputs of its entry.
-use Rattle.std.proofs.Common.{◌≡◌, Bool, true, List, [], ◌∷◌, ◌++◌, map, drop, Option, Some, None, refl, sym, ap}
+use Rattle.std.proofs.Common.{◌≡◌, Bool, true, List, [], ◌∷◌, ◌++◌, map, drop, Option, Some, refl, sym, ap}
 use Rattle.std.proofs.Common.{ap₂, ◌∙◌}
 use Rattle.std.proofs.lemmas.Option.{same_Some}
 use Rattle.std.specs.List.{list_all}
 use Rattle.std.specs.Prelude.{filter_map, is_some, unwrap_or}
+use Rattle.bl_tree.proofs.Basics.{and_first, and_second}
 use Rattle.bl_tree.specs.declared.c.CMember.{CMember}
 use Rattle.bl_tree.specs.declared.c.CType.TheVariants.{Scalar as OfScalar}
 use Rattle.bl_tree.specs.declared.row.Column.{Column}
@@ -16,10 +17,10 @@ use Rattle.bl_tree.specs.declared.tree.Ty.TheOpen.{Ty-F}
 use Rattle.bl_tree.specs.declared.tree.Var.{Var}
 use Rattle.bl_tree.specs.Ports.{column_type, columns_of}
 use Rattle.bl_tree.specs.Types.{scalar_at, scalar_in}
-use Rattle.bl_eval.proofs.PassLemmas.{and_left, and_right}
 use Rattle.bl_ctext_semantics.specs.Cells.{column_of, column_typed}
 use Rattle.bl_emit_acts.specs.Types.{c_scalar, type_level, type_name}
 use Rattle.bl_emit_spec.specs.Programs.{port_member}
+use Rattle.bl_machine_pass_laws_typing.proofs.OnStarts.{some_scalar}
 
 same_types : (s : ScalarType) → c_scalar s ≡ column_type s
 same_types OfBool = refl
@@ -28,14 +29,10 @@ same_types (Nat w) = refl
 same_types (Bits w) = refl
 
 -- the type in C of a scalar
-scalar_level : (name : Text) (layer : Ty-F Ty) (s : ScalarType) → scalar_at layer ≡ Some s → type_level name layer ≡ OfScalar (c_scalar s)
+pub scalar_level : (name : Text) (layer : Ty-F Ty) (s : ScalarType) → scalar_at layer ≡ Some s → type_level name layer ≡ OfScalar (c_scalar s)
 scalar_level name (Ty-F.Scalar t) s is = ap (λ (t : ScalarType). OfScalar (c_scalar t)) (same_Some t s is)
 scalar_level name (Ty-F.Struct k) s is = absurd (cc)
 scalar_level name (Ty-F.Array n inner) s is = absurd (cc)
-
-pub some_scalar : (o : Option ScalarType) → is_some o ≡ true → (s : ScalarType) × (o ≡ Some s)
-some_scalar None h = absurd (cc)
-some_scalar (Some s) h = (s, refl)
 
 abbrev pub is_scalar : Var → Bool
 is_scalar var = is_some (scalar_in var.ty)
@@ -58,6 +55,6 @@ module _ (structs : List StructDef) (prefix : Text) (behind : (name : Text) → 
   columns (var ∷ vars) scalars =
       filtered column_of (port_member structs prefix var) (map (port_member structs prefix) vars)
       (record { name = var.name; ty = column_type (unwrap_or (scalar_in var.ty) OfBool) })
-      (one_column var (and_left (is_scalar var) (list_all is_scalar vars) scalars))
+      (one_column var (and_first (is_scalar var) (list_all is_scalar vars) scalars))
       ∙ ap (λ rest. record { name = var.name; ty = column_type (unwrap_or (scalar_in var.ty) OfBool) } ∷ rest)
-      (columns vars (and_right (is_scalar var) (list_all is_scalar vars) scalars))
+      (columns vars (and_second (is_scalar var) (list_all is_scalar vars) scalars))

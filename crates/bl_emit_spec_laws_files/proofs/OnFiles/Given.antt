@@ -3,12 +3,13 @@ use Rattle.std.proofs.Common.{◌≡◌, Bool, true, false, not, ◌&&◌, ◌||
 use Rattle.std.proofs.Common.{refl, sym, ap, subst}
 use Rattle.std.specs.List.{list_all, list_any}
 use Rattle.std.specs.Prelude.{bytes_eq, is_some}
+use Rattle.std.proofs.lemmas.Bool.{and_from}
+use Rattle.bl_tree.proofs.Basics.{neither_first, neither_second}
 use Rattle.bl_tree.specs.declared.tree.Unit.{Unit as UnitDef}
 use Rattle.bl_tree.specs.declared.tree.Var.{Var}
 use Rattle.bl_tree.specs.Program.{names_of}
 use Rattle.bl_tree.specs.Typing.{inputs_of, outputs_of}
 use Rattle.bl_tree.specs.Words.{are_distinct}
-use Rattle.bl_eval.proofs.PassLemmas.{both}
 use Rattle.bl_ctext_semantics.specs.Memory.{Location, Memory}
 use Rattle.bl_emit_acts_laws_simulation.specs.Acts.{all_apart, places_in_args}
 use Rattle.bl_emit_acts_laws_simulation.specs.Encodes.{are_apart, is_live}
@@ -16,7 +17,8 @@ use Rattle.bl_emit_spec.specs.Blocks.{unit_may_end}
 use Rattle.bl_emit_spec_laws.specs.Calls.Calls.{MayGive, where_true, written_by}
 use Rattle.bl_emit_spec_laws_files.specs.States.States.{frame_place, memory_place, output_place}
 use Rattle.bl_emit_spec_laws_files.proofs.OnFiles.Bodies.{input_passed, over_place, tick_gives}
-use Rattle.bl_emit_spec_laws_files.proofs.OnFiles.Inputs.{Differs, first_differs, or_left, or_right, rest_distinct}
+use Rattle.bl_emit_spec_laws_files.proofs.OnFiles.Inputs.{Differs, first_differs, rest_distinct}
+use Rattle.bl_ctext_semantics_laws.proofs.Lists.{all-true}
 
 -- the places of outputs, and that of the end, where the test is true
 abbrev outputs_then : Bool → List Var → List Location
@@ -26,10 +28,10 @@ outputs_then ends vars = map output_place vars ++ where_true ends over_place
 state_apart : (ends : Bool) (place : Location) → ((var : Var) → are_apart place (output_place var) ≡ true) → are_apart place over_place ≡ true →
     (vars : List Var) →
     list_all (are_apart place) (outputs_then ends vars) ≡ true
-state_apart true place outs over [] = both (are_apart place over_place) true over refl
+state_apart true place outs over [] = and_from (are_apart place over_place) true over refl
 state_apart false place outs over [] = refl
 state_apart ends place outs over (var ∷ vars) =
-    both (are_apart place (output_place var)) (list_all (are_apart place) (outputs_then ends vars)) (outs var) (state_apart ends place outs over vars)
+    and_from (are_apart place (output_place var)) (list_all (are_apart place) (outputs_then ends vars)) (outs var) (state_apart ends place outs over vars)
 
 differing : (b : Bool) → b ≡ false → (not b || false) ≡ true
 differing false is = refl
@@ -40,15 +42,15 @@ output_apart : (ends : Bool) (var : Var) (vars : List Var) → Differs var.name 
 output_apart true var [] differs = refl
 output_apart false var [] differs = refl
 output_apart ends var (other ∷ vars) differs =
-    both (are_apart (output_place var) (output_place other)) (list_all (are_apart (output_place var)) (outputs_then ends vars))
-    (differing (bytes_eq var.name other.name) (or_left (bytes_eq var.name other.name) (list_any (bytes_eq var.name) (names_of vars)) differs))
-    (output_apart ends var vars (or_right (bytes_eq var.name other.name) (list_any (bytes_eq var.name) (names_of vars)) differs))
+    and_from (are_apart (output_place var) (output_place other)) (list_all (are_apart (output_place var)) (outputs_then ends vars))
+    (differing (bytes_eq var.name other.name) (neither_first (bytes_eq var.name other.name) (list_any (bytes_eq var.name) (names_of vars)) differs))
+    (output_apart ends var vars (neither_second (bytes_eq var.name other.name) (list_any (bytes_eq var.name) (names_of vars)) differs))
 
 outputs_apart : (ends : Bool) (vars : List Var) → are_distinct (names_of vars) ≡ true → all_apart (outputs_then ends vars) ≡ true
 outputs_apart true [] distinct = refl
 outputs_apart false [] distinct = refl
 outputs_apart ends (var ∷ vars) distinct =
-    both (list_all (are_apart (output_place var)) (outputs_then ends vars)) (all_apart (outputs_then ends vars))
+    and_from (list_all (are_apart (output_place var)) (outputs_then ends vars)) (all_apart (outputs_then ends vars))
     (output_apart ends var vars (first_differs var vars distinct)) (outputs_apart ends vars (rest_distinct var vars distinct))
 
 -- all that may be written
@@ -57,13 +59,13 @@ places remembers ends vars = frame_place ∷ (where_true remembers memory_place 
 
 places_apart : (remembers ends : Bool) (vars : List Var) → are_distinct (names_of vars) ≡ true → all_apart (places remembers ends vars) ≡ true
 places_apart true ends vars distinct =
-    both (list_all (are_apart frame_place) (outputs_then ends vars))
+    and_from (list_all (are_apart frame_place) (outputs_then ends vars))
     (list_all (are_apart memory_place) (outputs_then ends vars) && all_apart (outputs_then ends vars))
     (state_apart ends frame_place (λ var. refl) refl vars)
-    (both (list_all (are_apart memory_place) (outputs_then ends vars)) (all_apart (outputs_then ends vars))
+    (and_from (list_all (are_apart memory_place) (outputs_then ends vars)) (all_apart (outputs_then ends vars))
     (state_apart ends memory_place (λ var. refl) refl vars) (outputs_apart ends vars distinct))
 places_apart false ends vars distinct =
-    both (list_all (are_apart frame_place) (outputs_then ends vars)) (all_apart (outputs_then ends vars))
+    and_from (list_all (are_apart frame_place) (outputs_then ends vars)) (all_apart (outputs_then ends vars))
     (state_apart ends frame_place (λ var. refl) refl vars) (outputs_apart ends vars distinct)
 
 outputs_live : (ends : Bool) (vars : List Var) → list_all (λ (place : Location). is_live 0 place.root) (outputs_then ends vars) ≡ true
@@ -79,10 +81,6 @@ no_places : (here : Memory) (vars : List Var) → places_in_args (map (input_pas
 no_places here [] = refl
 no_places here (var ∷ vars) = no_places here vars
 
-all_so : {A : Type 0} (test : A → Bool) → ((x : A) → test x ≡ true) → (xs : List A) → list_all test xs ≡ true
-all_so test each [] = refl
-all_so test each (x ∷ xs) = both (test x) (list_all test xs) (each x) (all_so test each xs)
-
 module _ (unit : UnitDef) (remembers : Bool) (here : Memory) (resultless : unit.result ≡ None)
     (distinct : are_distinct (names_of (outputs_of unit)) ≡ true) where
   written_is : places remembers (unit_may_end unit) (outputs_of unit) ≡ written_by unit remembers (tick_gives unit here)
@@ -96,7 +94,7 @@ module _ (unit : UnitDef) (remembers : Bool) (here : Memory) (resultless : unit.
     inputs_apart =
         subst (λ (given : List Location). list_all (λ place. list_all (are_apart place) given) (written_by unit remembers (tick_gives unit here))
         ≡ true) (sym (no_places here (inputs_of unit)))
-        (all_so (λ (place : Location). list_all (are_apart place) []) (λ place. refl) (written_by unit remembers (tick_gives unit here)));
+        (all-true (λ (place : Location). list_all (are_apart place) []) (λ place. refl) (written_by unit remembers (tick_gives unit here)));
     live =
         subst (λ (ps : List Location). list_all (λ (place : Location). is_live 0 place.root) ps ≡ true) written_is
         (places_live remembers (unit_may_end unit) (outputs_of unit));

@@ -5,6 +5,8 @@ use Rattle.std.proofs.Common.{refl, sym, ap, ◌∙◌, arith}
 use Rattle.std.proofs.lemmas.Cmp.{nat_list_eq_equiv}
 use Rattle.std.specs.List.{list_all, list_any}
 use Rattle.std.specs.Prelude.{bytes_eq, codes, is_some, if◌then◌else◌}
+use Rattle.std.proofs.lemmas.Bool.{not-true}
+use Rattle.bl_tree.proofs.Basics.{and_first, and_second, neither_first, neither_second}
 use Rattle.bl_tree.specs.declared.scalar.Scalar.{Scalar as ScalarType}
 use Rattle.bl_tree.specs.declared.tree.StructDef.{StructDef}
 use Rattle.bl_tree.specs.declared.tree.Var.{Var}
@@ -13,7 +15,6 @@ use Rattle.bl_tree.specs.Program.{names_of}
 use Rattle.bl_tree.specs.Types.{scalar_in}
 use Rattle.bl_tree.specs.Words.{are_distinct, is_among}
 use Rattle.bl_eval.specs.Values.{number_at, number_in}
-use Rattle.bl_eval.proofs.PassLemmas.{and_left, and_right}
 use Rattle.bl_ctext_semantics.specs.Cells.{with_inputs}
 use Rattle.bl_ctext_semantics.specs.Memory.{Memory, input_object, member, output_object, scalar, set_at, state_object}
 use Rattle.bl_ctext_semantics.specs.Memory as memory
@@ -22,28 +23,16 @@ use Rattle.bl_emit_spec.specs.Programs.{port_member}
 use Rattle.bl_emit_spec_laws_files.proofs.OnFiles.Bodies.{input_passed, input_place}
 use Rattle.bl_emit_spec_laws_files.proofs.OnFiles.Kept.{Same}
 
-pub or_left : (a b : Bool) → (a || b) ≡ false → a ≡ false
-or_left false b h = refl
-or_left true b h = absurd (cc)
-
-pub or_right : (a b : Bool) → (a || b) ≡ false → b ≡ false
-or_right false b h = h
-or_right true b h = absurd (cc)
-
-pub not_false : (a : Bool) → not a ≡ true → a ≡ false
-not_false false h = refl
-not_false true h = absurd (cc)
-
 -- the name differs from those of the variables
 abbrev pub Differs : List ℕ → List Var → Type 0
 Differs name vars = list_any (bytes_eq name) (names_of vars) ≡ false
 
 pub first_differs : (var : Var) (vars : List Var) → are_distinct (names_of (var ∷ vars)) ≡ true → Differs var.name vars
 first_differs var vars distinct =
-    not_false (is_among var.name (names_of vars)) (and_left (not (is_among var.name (names_of vars))) (are_distinct (names_of vars)) distinct)
+    not-true (is_among var.name (names_of vars)) (and_first (not (is_among var.name (names_of vars))) (are_distinct (names_of vars)) distinct)
 
 pub rest_distinct : (var : Var) (vars : List Var) → are_distinct (names_of (var ∷ vars)) ≡ true → are_distinct (names_of vars) ≡ true
-rest_distinct var vars distinct = and_right (not (is_among var.name (names_of vars))) (are_distinct (names_of vars)) distinct
+rest_distinct var vars distinct = and_second (not (is_among var.name (names_of vars))) (are_distinct (names_of vars)) distinct
 
 module _ (structs : List StructDef) where
   -- memory once the inputs are set
@@ -81,10 +70,10 @@ module _ (structs : List StructDef) where
   others_kept [] (n ∷ row) here name differs = refl
   others_kept (var ∷ vars) [] here name differs = refl
   others_kept (var ∷ vars) (n ∷ row) here name differs =
-      others_kept vars row (set_at here (input_place var) (scalar n)) name (or_right (bytes_eq name var.name) (list_any (bytes_eq name) (names_of
+      others_kept vars row (set_at here (input_place var) (scalar n)) name (neither_second (bytes_eq name var.name) (list_any (bytes_eq name) (names_of
       vars)) differs)
       ∙ set_other here var n name
-      (nat_list_eq_equiv.symm var.name name ∙ or_left (bytes_eq name var.name) (list_any (bytes_eq name) (names_of vars)) differs)
+      (nat_list_eq_equiv.symm var.name name ∙ neither_first (bytes_eq name var.name) (list_any (bytes_eq name) (names_of vars)) differs)
 
   -- each input has its number of the row
   abbrev pub AreSet : List Var → List ℤ → Memory → Type 0
@@ -117,8 +106,8 @@ module _ (structs : List StructDef) where
   args_hold depth [] (n ∷ row) here scalars set = absurd set
   args_hold depth (var ∷ vars) [] here scalars set = absurd set
   args_hold depth (var ∷ vars) (n ∷ row) here scalars set =
-      let found = some_scalar (scalar_in var.ty) (and_left (is_some (scalar_in var.ty)) (list_all (λ (var : Var). is_some (scalar_in var.ty)) vars)
+      let found = some_scalar (scalar_in var.ty) (and_first (is_some (scalar_in var.ty)) (list_all (λ (var : Var). is_some (scalar_in var.ty)) vars)
       scalars) in (
         (found.0, found.1, number_of_value n ∙ ap Some (sym set.0)),
-        args_hold depth vars row here (and_right (is_some (scalar_in var.ty)) (list_all (λ (var : Var). is_some (scalar_in var.ty)) vars) scalars) set.1,
+        args_hold depth vars row here (and_second (is_some (scalar_in var.ty)) (list_all (λ (var : Var). is_some (scalar_in var.ty)) vars) scalars) set.1,
       )

@@ -4,6 +4,8 @@ use Rattle.std.proofs.Common.{◌++◌, map, length, take, drop}
 use Rattle.std.proofs.Common.{Some, refl, sym, ap, ap₂, ◌∙◌, arith}
 use Rattle.std.specs.List.{list_any, range_with_len}
 use Rattle.std.specs.Prelude.{bytes_eq, slice_get}
+use Rattle.std.proofs.lemmas.Bool.{and_from}
+use Rattle.bl_tree.proofs.Basics.{and_second, neither_first, neither_second}
 use Rattle.bl_tree.specs.declared.tree.StructDef.{StructDef}
 use Rattle.bl_tree.specs.declared.tree.Var.{Var}
 use Rattle.bl_tree.specs.declared.value.Value.{Value}
@@ -11,13 +13,7 @@ use Rattle.bl_tree.specs.Ports.{columns_of, in_ranges, types_of}
 use Rattle.bl_tree.specs.Program.{names_of}
 use Rattle.bl_tree.specs.Words.{are_distinct, is_among}
 use Rattle.bl_eval.specs.Values.{value_fits, values_fit}
-use Rattle.bl_eval.proofs.PassLemmas.{and_right, both}
-use Rattle.bl_emit_spec_laws_files.proofs.OnFiles.Inputs.{Differs, first_differs, or_left, or_right, rest_distinct}
-
-pub there_below : {A : Type 0} (xs : List A) (k : ℕ) (x : A) → slice_get xs k ≡ Some x → k < length xs
-there_below [] k x there = absurd (cc)
-there_below (y ∷ xs) zero x there = omega arith
-there_below (y ∷ xs) (suc k) x there = let more = there_below xs k x there in omega (arith, more)
+use Rattle.bl_emit_spec_laws_files.proofs.OnFiles.Inputs.{Differs, first_differs, rest_distinct}
 
 pub take_exact : {A : Type 0} (n : ℕ) (xs ys : List A) → length xs ≡ n → take n (xs ++ ys) ≡ xs
 take_exact zero [] ys long = refl
@@ -41,10 +37,6 @@ mapped_drop f zero xs = refl
 mapped_drop f (suc n) [] = refl
 mapped_drop f (suc n) (x ∷ xs) = mapped_drop f n xs
 
-pub mapped_length : {A B : Type 0} (f : A → B) (xs : List A) → length (map f xs) ≡ length xs
-mapped_length f [] = refl
-mapped_length f (x ∷ xs) = ap suc (mapped_length f xs)
-
 pub taken_length : {A : Type 0} (n : ℕ) (xs : List A) → n ≤ length xs → length (take n xs) ≡ n
 taken_length zero xs less = refl
 taken_length (suc n) [] less = absurd (omega (arith, less))
@@ -67,14 +59,14 @@ fit_many structs [] [] fit = refl
 fit_many structs [] (value ∷ values) fit = absurd (cc)
 fit_many structs (var ∷ vars) [] fit = absurd (cc)
 fit_many structs (var ∷ vars) (value ∷ values) fit =
-    ap suc (fit_many structs vars values (and_right (value_fits structs var.ty value) (values_fit structs vars values) fit))
+    ap suc (fit_many structs vars values (and_second (value_fits structs var.ty value) (values_fit structs vars values) fit))
 
 pub row_many : (vars : List Var) (row : List Rattle.std.specs.Prelude.ℤ) → in_ranges (types_of (columns_of vars)) row ≡ true →
     length row ≡ length vars
 row_many [] [] fit = refl
 row_many [] (n ∷ row) fit = absurd (cc)
 row_many (var ∷ vars) [] fit = absurd (cc)
-row_many (var ∷ vars) (n ∷ row) fit = ap suc (row_many vars row (and_right _ (in_ranges (types_of (columns_of vars)) row) fit))
+row_many (var ∷ vars) (n ∷ row) fit = ap suc (row_many vars row (and_second _ (in_ranges (types_of (columns_of vars)) row) fit))
 
 -- ---- names
 
@@ -82,8 +74,8 @@ any_take : (name : List ℕ) (n : ℕ) (vars : List Var) → Differs name vars �
 any_take name zero vars differs = refl
 any_take name (suc n) [] differs = refl
 any_take name (suc n) (var ∷ vars) differs =
-    ap₂ (λ a b. a || b) (or_left (bytes_eq name var.name) (list_any (bytes_eq name) (names_of vars)) differs)
-    (any_take name n vars (or_right (bytes_eq name var.name) (list_any (bytes_eq name) (names_of vars)) differs))
+    ap₂ (λ a b. a || b) (neither_first (bytes_eq name var.name) (list_any (bytes_eq name) (names_of vars)) differs)
+    (any_take name n vars (neither_second (bytes_eq name var.name) (list_any (bytes_eq name) (names_of vars)) differs))
 
 not_so : (b : Bool) → b ≡ false → Rattle.std.proofs.Common.not b ≡ true
 not_so false is = refl
@@ -93,7 +85,7 @@ pub distinct_take : (n : ℕ) (vars : List Var) → are_distinct (names_of vars)
 distinct_take zero vars distinct = refl
 distinct_take (suc n) [] distinct = refl
 distinct_take (suc n) (var ∷ vars) distinct =
-    both (Rattle.std.proofs.Common.not (is_among var.name (names_of (take n vars)))) (are_distinct (names_of (take n vars)))
+    and_from (Rattle.std.proofs.Common.not (is_among var.name (names_of (take n vars)))) (are_distinct (names_of (take n vars)))
     (not_so (is_among var.name (names_of (take n vars))) (any_take var.name n vars (first_differs var vars distinct)))
     (distinct_take n vars (rest_distinct var vars distinct))
 

@@ -1,8 +1,8 @@
 -- A file that ends with the interface stands.
-use Rattle.std.proofs.Common.{◌≡◌, ℕ, suc, Bool, false, List, [], ◌∷◌, ◌++◌, map, Option, Some, None}
+use Rattle.std.proofs.Common.{◌≡◌, ℕ, Bool, false, List, [], ◌∷◌, ◌++◌, map, Option, Some, None}
 use Rattle.std.proofs.Common.{refl, sym, ap, ◌∙◌, subst, arith}
-use Rattle.std.specs.Option.{option_or}
 use Rattle.std.specs.Prelude.{bytes_eq, codes, Contains, unwrap_or, if◌then◌else◌}
+use Rattle.bl_tree.proofs.Basics.{contains_first, contains_further}
 use Rattle.bl_tree.specs.declared.c.CFunc.{CFunc}
 use Rattle.bl_tree.specs.declared.c.CMember.{CMember}
 use Rattle.bl_tree.specs.declared.c.CStruct.{CStruct}
@@ -19,14 +19,9 @@ use Rattle.bl_emit_spec.specs.Programs.{init_function, interface_structs, tick_f
 use Rattle.bl_emit_spec_laws.specs.Calls.Built.{Activities, activity_at}
 use Rattle.bl_emit_spec_laws.specs.Calls.Calls.{ActivitySimulates, CallLeaves, passed_to}
 use Rattle.bl_emit_spec_laws_files.specs.Files.{FileStands, FilesStand, NoneOfInterface, file_with, known_at_tick}
+use Rattle.bl_ctext_semantics.proofs.MapLemmas.{nothing_after}
 
 -- ---- members of lists
-
-here : {X : Type 0} (x : X) (xs : List X) → Contains (x ∷ xs) x
-here x xs = (0, omega arith, refl)
-
-further : {X : Type 0} (y : X) (xs : List X) (x : X) → Contains xs x → Contains (y ∷ xs) x
-further y xs x at = let less = at.1 in (suc at.0, omega (arith, less), at.2)
 
 -- ---- what stands under a name
 
@@ -37,8 +32,8 @@ struct_behind : (asked : Text) (before rest : List CStruct) → ((s : CStruct) �
     found asked (map members_by_name (before ++ rest)) ≡ found asked (map members_by_name rest)
 struct_behind asked [] rest none = refl
 struct_behind asked (s ∷ before) rest none =
-    ap (λ (b : Bool). if b then Some s.members else found asked (map members_by_name (before ++ rest))) (none s (here s before))
-    ∙ struct_behind asked before rest (λ t at. none t (further s before t at))
+    ap (λ (b : Bool). if b then Some s.members else found asked (map members_by_name (before ++ rest))) (none s (contains_first s before))
+    ∙ struct_behind asked before rest (λ t at. none t (contains_further s before t at))
 
 function_behind : (asked : Text) (known : Table Meaning) (functions rest : List CFunc) →
     ((f : CFunc) → Contains functions f → bytes_eq f.name asked ≡ false) →
@@ -46,8 +41,8 @@ function_behind : (asked : Text) (known : Table Meaning) (functions rest : List 
 function_behind asked known [] rest none = refl
 function_behind asked known (f ∷ functions) rest none =
     ap (λ (b : Bool). if b then Some (function_c known f)
-    else found asked (meanings_after (with_entry known f.name (function_c known f)) (functions ++ rest))) (none f (here f functions))
-    ∙ function_behind asked (with_entry known f.name (function_c known f)) functions rest (λ g at. none g (further f functions g at))
+    else found asked (meanings_after (with_entry known f.name (function_c known f)) (functions ++ rest))) (none f (contains_first f functions))
+    ∙ function_behind asked (with_entry known f.name (function_c known f)) functions rest (λ g at. none g (contains_further f functions g at))
 
 -- ---- the file
 
@@ -75,13 +70,9 @@ module _ (structs : List StructDef) (unit : UnitDef) (remembers : Bool) (before 
 
 -- ---- what is known at the tick
 
-or_none : {A : Type 0} (o : Option A) → option_or o None ≡ o
-or_none None = refl
-or_none (Some x) = refl
-
 known_same : (unit : UnitDef) (functions : List CFunc) (name : Text) → known_at_tick unit functions (unit_name name)
     ≡ known_after no_entries functions (unit_name name)
-known_same unit functions name = or_none (known_after no_entries functions (unit_name name))
+known_same unit functions name = nothing_after (known_after no_entries functions (unit_name name))
 
 comes_there : (w : Setting) (activities : Activities) (u : ℕ) (entry : UnitDef) (functions : List CFunc) →
     ActivitySimulates w activities u (known_after no_entries functions) 0 → ActivitySimulates w activities u (known_at_tick entry functions) 0

@@ -6,6 +6,8 @@ use Rattle.std.proofs.lemmas.Bool.{leb-true}
 use Rattle.std.proofs.lemmas.Option.{same_Some}
 use Rattle.std.specs.List.{list_all}
 use Rattle.std.specs.Prelude.{codes, filter_map, is_none, is_some, nat_le, option_and_then, option_map, slice_get, unwrap_or}
+use Rattle.std.proofs.lemmas.Bool.{and_from}
+use Rattle.bl_tree.proofs.Basics.{and_first, and_second, map_length}
 use Rattle.bl_tree.specs.declared.c.CMember.{CMember}
 use Rattle.bl_tree.specs.declared.row.Last.TheVariants.{Ended as HasEnded, Trap as HasTrapped}
 use Rattle.bl_tree.specs.declared.row.Trace.{Trace}
@@ -24,7 +26,7 @@ use Rattle.bl_tree.specs.Typing.{inputs_of, is_activity, outputs_of}
 use Rattle.bl_tree.specs.Words.{are_distinct}
 use Rattle.bl_eval.specs.Values.{is_number_of, number_at, tests_after, value_fits, values_fit, zero_of}
 use Rattle.bl_eval.proofs.FitLemmas.{fits_scalar, scalar_is}
-use Rattle.bl_eval.proofs.PassLemmas.{and_left, and_right, both, pass_drop, pass_take}
+use Rattle.bl_eval.proofs.PassLemmas.{pass_drop, pass_take}
 use Rattle.bl_ctext_semantics.specs.Cells as cells
 use Rattle.bl_ctext_semantics.specs.Cells.{cells_of, column_of, numbers_of, outputs_in, ports_of, with_inputs}
 use Rattle.bl_ctext_semantics.specs.Meaning.{CallResult, Meaning, applied, further}
@@ -70,28 +72,17 @@ use Rattle.bl_emit_spec_laws_files.specs.States.Cells.{regained}
 use Rattle.bl_emit_spec_laws_files.specs.States.States.{StateKept, frame_place, memory_place, output_place}
 use Rattle.bl_emit_spec_laws_files.specs.Files.{FileShows, FileStands, FilesShow}
 use Rattle.bl_emit_spec_laws_files.proofs.OnFiles.Bodies.{entry_called, input_passed, tick_gives, tick_replies, tick_traps, ticked}
-use Rattle.bl_emit_spec_laws_files.proofs.OnFiles.Columns.{columns, is_scalar, some_scalar}
+use Rattle.bl_emit_spec_laws_files.proofs.OnFiles.Columns.{columns, is_scalar}
 use Rattle.bl_emit_spec_laws_files.proofs.OnFiles.Given.{may_give}
 use Rattle.bl_emit_spec_laws_files.proofs.OnFiles.Inputs.{AreSet, are_set, args_hold, inputs_set, output_same, state_same}
 use Rattle.bl_emit_spec_laws_files.proofs.OnFiles.Kept.{Same, memory_moved, outputs_moved}
-use Rattle.bl_emit_spec_laws_files.proofs.OnFiles.Lists.{
-  distinct_drop,
-  distinct_take,
-  drop_exact,
-  drop_take,
-  fit_many,
-  mapped_drop,
-  mapped_length,
-  mapped_take,
-  row_many,
-  take_exact,
-  take_less,
-  taken_length,
-}
+use Rattle.bl_emit_spec_laws_files.proofs.OnFiles.Lists.{distinct_drop, distinct_take, drop_exact, drop_take, fit_many, mapped_drop, mapped_take}
+use Rattle.bl_emit_spec_laws_files.proofs.OnFiles.Lists.{row_many, take_exact, take_less, taken_length}
 use Rattle.bl_emit_spec_laws_files.proofs.OnFiles.Starting.{AllZero, begun, begun_result, begun_zero}
 use Rattle.bl_emit_spec_laws_files.proofs.OnFiles.Views.{entry_is, entry_number, entry_sees, first_frame_now, first_held, woken_first, woken_held, roles_at}
 use Rattle.bl_emit_spec_laws_files.proofs.OnFiles.Views.{distinct_at}
-use Rattle.bl_emit_spec_laws_files.proofs.OnFiles.Zeros.{zero_holds}
+use Rattle.bl_emit_acts_laws_simulation.proofs.Zeros.{zero_holds}
+use Rattle.bl_machine_pass_laws_typing.proofs.OnStarts.{some_scalar}
 
 -- ---- outputs
 
@@ -120,10 +111,10 @@ module _ (structs : List StructDef) where
   outputs_are (var ∷ vars) [] here scalars fit holds = absurd holds
   outputs_are (var ∷ vars) (value ∷ values) here scalars fit holds =
       ap₂ (λ n ns. n ∷ ns)
-      (held_number var value (output_place var) here (and_left (is_scalar var) (list_all is_scalar vars) scalars)
-      (and_left (value_fits structs var.ty value) (values_fit structs vars values) fit) holds.0)
-      (outputs_are vars values here (and_right (is_scalar var) (list_all is_scalar vars) scalars)
-      (and_right (value_fits structs var.ty value) (values_fit structs vars values) fit) holds.1)
+      (held_number var value (output_place var) here (and_first (is_scalar var) (list_all is_scalar vars) scalars)
+      (and_first (value_fits structs var.ty value) (values_fit structs vars values) fit) holds.0)
+      (outputs_are vars values here (and_second (is_scalar var) (list_all is_scalar vars) scalars)
+      (and_second (value_fits structs var.ty value) (values_fit structs vars values) fit) holds.1)
 
   -- zeros at the places of outputs
   pub zeros_hold : (vars : List Var) (here : Memory) → AllZero here →
@@ -169,25 +160,25 @@ module _ (out : HomesLeadOut) (orderly : AcceptedIsOrderly) (keep : PassesKeepTy
 
   resultless : unit.result ≡ None
   resultless =
-      none_so unit.result (and_left (is_none unit.result) (list_all is_scalar (parameters_of unit))
-      (and_right (is_activity unit.kind) (is_none unit.result && list_all is_scalar (parameters_of unit)) entry_so))
+      none_so unit.result (and_first (is_none unit.result) (list_all is_scalar (parameters_of unit))
+      (and_second (is_activity unit.kind) (is_none unit.result && list_all is_scalar (parameters_of unit)) entry_so))
 
   scalars : list_all is_scalar (parameters_of unit) ≡ true
   scalars =
-      and_right (is_none unit.result) (list_all is_scalar (parameters_of unit))
-      (and_right (is_activity unit.kind) (is_none unit.result && list_all is_scalar (parameters_of unit)) entry_so)
+      and_second (is_none unit.result) (list_all is_scalar (parameters_of unit))
+      (and_second (is_activity unit.kind) (is_none unit.result && list_all is_scalar (parameters_of unit)) entry_so)
 
   all_take : (n : ℕ) (vars : List Var) → list_all is_scalar vars ≡ true → list_all is_scalar (take n vars) ≡ true
   all_take zero vars all = refl
   all_take (suc n) [] all = refl
   all_take (suc n) (var ∷ vars) all =
-      both (is_scalar var) (list_all is_scalar (take n vars)) (and_left (is_scalar var) (list_all is_scalar vars) all)
-      (all_take n vars (and_right (is_scalar var) (list_all is_scalar vars) all))
+      and_from (is_scalar var) (list_all is_scalar (take n vars)) (and_first (is_scalar var) (list_all is_scalar vars) all)
+      (all_take n vars (and_second (is_scalar var) (list_all is_scalar vars) all))
 
   all_drop : (n : ℕ) (vars : List Var) → list_all is_scalar vars ≡ true → list_all is_scalar (drop n vars) ≡ true
   all_drop zero vars all = all
   all_drop (suc n) [] all = refl
-  all_drop (suc n) (var ∷ vars) all = all_drop n vars (and_right (is_scalar var) (list_all is_scalar vars) all)
+  all_drop (suc n) (var ∷ vars) all = all_drop n vars (and_second (is_scalar var) (list_all is_scalar vars) all)
 
   inputs_scalar : list_all is_scalar (inputs_of unit) ≡ true
   inputs_scalar =
@@ -215,7 +206,7 @@ module _ (out : HomesLeadOut) (orderly : AcceptedIsOrderly) (keep : PassesKeepTy
   enough : unit.inputs ≤ length unit.vars
   enough =
       let all = leb-true (unit.inputs + unit.outputs) (length unit.vars)
-      (and_left (nat_le (unit.inputs + unit.outputs) (length unit.vars)) _ (roles_at out orderly structs units entry machine activities compiled entry unit
+      (and_first (nat_le (unit.inputs + unit.outputs) (length unit.vars)) _ (roles_at out orderly structs units entry machine activities compiled entry unit
       there)) in
       omega (arith, all)
 
@@ -288,7 +279,7 @@ module _ (out : HomesLeadOut) (orderly : AcceptedIsOrderly) (keep : PassesKeepTy
       long = row_many (inputs_of unit) row fit
 
       long_row : length (map Number row) ≡ unit.inputs
-      long_row = mapped_length Number row ∙ long ∙ taken_length unit.inputs unit.vars enough
+      long_row = map_length Number row ∙ long ∙ taken_length unit.inputs unit.vars enough
 
       woken_fits : StoreFits W (woken_store row s)
       woken_fits = (starts_fit structs units entry compiled.well_typed).woken unit row s there fit between.fits
@@ -444,20 +435,20 @@ module _ (out : HomesLeadOut) (orderly : AcceptedIsOrderly) (keep : PassesKeepTy
   run_shown (row ∷ rows) frames s trace here fit between (run.traps {r = r} starts cut) =
       traps_so (tick_c file (numbers_of (cells_of file) here) row)
       (c_trace_from file rows (tick_c file (numbers_of (cells_of file) here) row).cells)
-      (tick_cut row frames s here between (and_left (row_fits (input_columns unit) row) _ fit) r starts cut)
+      (tick_cut row frames s here between (and_first (row_fits (input_columns unit) row) _ fit) r starts cut)
   run_shown (row ∷ rows) frames s trace here fit between (run.ends {r = r} {inner = inner} {left = left} {r' = r'} starts pass over) =
-      let one = tick_done row frames s here between (and_left (row_fits (input_columns unit) row) _ fit) r inner left r' starts pass in
+      let one = tick_done row frames s here between (and_first (row_fits (input_columns unit) row) _ fit) r inner left r' starts pass in
       ends_so (tick_c file (numbers_of (cells_of file) here) row)
       (c_trace_from file rows (tick_c file (numbers_of (cells_of file) here) row).cells) (outputs_row W left)
       (one.reply ∙ ap (λ (b : Bool). reply_of (Some (number_of b))) over) one.outputs
   run_shown (row ∷ rows) frames s trace here fit between
       (run.lasts {r = r} {inner = inner} {left = left} {r' = r'} {rest = rest} starts pass over some more) =
-      let one = tick_done row frames s here between (and_left (row_fits (input_columns unit) row) _ fit) r inner left r' starts pass in
+      let one = tick_done row frames s here between (and_first (row_fits (input_columns unit) row) _ fit) r inner left r' starts pass in
       lasts_so (tick_c file (numbers_of (cells_of file) here) row)
       (c_trace_from file rows (tick_c file (numbers_of (cells_of file) here) row).cells) rest (outputs_row W left)
       (one.reply ∙ ap (λ (b : Bool). reply_of (Some (number_of b))) over) one.outputs
       (ap (c_trace_from file rows) one.numbers
-      ∙ run_shown rows (with_at 0 r'.counters inner) left rest one.after (and_right (row_fits (input_columns unit) row) _ fit) (one.next some) more)
+      ∙ run_shown rows (with_at 0 r'.counters inner) left rest one.after (and_second (row_fits (input_columns unit) row) _ fit) (one.next some) more)
 
   -- ---- the start
 

@@ -6,6 +6,7 @@ use Rattle.std.proofs.lemmas.Bool.{le-ltb, ltb-false, ltb-true}
 use Rattle.std.proofs.lemmas.Option.{same_Some}
 use Rattle.std.specs.List.{list_all, range_with_len}
 use Rattle.std.specs.Prelude.{is_some, nat_le, nat_lt, option_and_then, option_map, slice_get, unwrap_or, if◌then◌else◌}
+use Rattle.bl_tree.proofs.Basics.{and_first, and_second, within_at}
 use Rattle.bl_tree.specs.declared.tree.Role.{Role}
 use Rattle.bl_tree.specs.declared.tree.Role.TheVariants.{Fixed, Input, Output, Variable}
 use Rattle.bl_tree.specs.declared.tree.StructDef.{StructDef}
@@ -19,35 +20,14 @@ use Rattle.bl_tree.specs.Types.{scalar_in}
 use Rattle.bl_tree.specs.Typing.{is_activity, var_at}
 use Rattle.bl_tree.specs.Words.{are_distinct, is_name}
 use Rattle.bl_eval.specs.Values.{value_at, zero_of}
-use Rattle.bl_eval.proofs.PassLemmas.{and_left, and_right}
 use Rattle.bl_ctree.specs.declared.instance.Instance.{Instance}
 use Rattle.bl_ctree.specs.declared.instance.Origin.{Origin}
 use Rattle.bl_ctree.specs.Instances.{Setting, expanded, instances_below, runs_of, setting_of, unit_at, unit_of}
 use Rattle.bl_ctree.specs.Store as store
-use Rattle.bl_ctree.specs.Store.{
-  Frame,
-  Store,
-  aged,
-  first_frame,
-  first_store,
-  frame_at_first,
-  home,
-  home_within,
-  is_output_of,
-  led,
-  led_by,
-  under,
-  value_among,
-  variable_among,
-  variables_of,
-  vars_at,
-  view_at,
-  whole_of,
-  woken_store,
-}
+use Rattle.bl_ctree.specs.Store.{Frame, Store, aged, first_frame, first_store, frame_at_first, home, home_within, is_output_of, led, led_by, under, value_among}
+use Rattle.bl_ctree.specs.Store.{variable_among, variables_of, vars_at, view_at, whole_of, woken_store}
 use Rattle.bl_ctree_laws_confluence.specs.Deeds.Orderly.{AcceptedIsOrderly}
 use Rattle.bl_ctree_laws_confluence.specs.Deeds.Origins.{HomesLeadOut}
-use Rattle.bl_ctree_laws_typing.proofs.OnViews.Running.{unit_stands_at}
 use Rattle.bl_emit_acts.specs.declared.home.Home.TheVariants.{Held}
 use Rattle.bl_emit_acts.specs.Places.{home_of, home_of_role}
 use Rattle.bl_emit_acts_laws_simulation.proofs.Homes.{activity_home, input_unheld, output_unheld}
@@ -58,7 +38,9 @@ use Rattle.bl_machine_pass_laws_execution.proofs.OnFresh.Lists.{behind_front, ge
 use Rattle.bl_emit_functions_laws_simulation.proofs.OnCalls.Locals.{parameter_role}
 use Rattle.bl_emit_spec_laws.specs.Calls.Built.{Activities, activity_at, site_at, unit_number}
 use Rattle.bl_emit_spec_laws.specs.Calls.Laws.{CompilationContext}
-use Rattle.bl_emit_spec_laws_files.proofs.OnFiles.Lists.{seen_from, there_below}
+use Rattle.bl_emit_spec_laws_files.proofs.OnFiles.Lists.{seen_from}
+use Rattle.bl_eval.proofs.UnitFits.{unit_at as unit_stands_at}
+use Rattle.bl_emit_spec_laws.proofs.OnActivities.Nested.{unit_by}
 
 -- ---- roles
 
@@ -132,11 +114,6 @@ woken_same row s (suc j) x past = ap (option_and_then (of_frame x)) (woken_later
 
 -- ---- a program
 
-unit_by : (w : Setting) (o : Option Instance) (unit : UnitDef) → option_and_then (unit_of w) o ≡ Some unit →
-    slice_get w.units (unwrap_or (option_map (λ (instance : Instance). instance.unit) o) 0) ≡ Some unit
-unit_by w None unit is = absurd (cc)
-unit_by w (Some instance) unit is = is
-
 module _ (out : HomesLeadOut) (orderly : AcceptedIsOrderly) (structs : List StructDef) (units : List UnitDef) (entry : ℕ)
     (machine : List InMachine) (activities : Activities) (compiled : CompilationContext structs units entry machine activities) where
   abbrev pub W : Setting
@@ -151,14 +128,14 @@ module _ (out : HomesLeadOut) (orderly : AcceptedIsOrderly) (structs : List Stru
 
   pub roles_at : (k : ℕ) (unit : UnitDef) → slice_get units k ≡ Some unit → roles_stand unit ≡ true
   roles_at k unit there =
-      and_left (roles_stand unit) (list_all is_name (names_of unit.vars) && are_distinct (names_of (parameters_of unit)))
-      (and_left _ _ (unit_stands_at structs [] units k unit compiled.well_typed.units_stand there))
+      and_first (roles_stand unit) (list_all is_name (names_of unit.vars) && are_distinct (names_of (parameters_of unit)))
+      (and_first _ _ (unit_stands_at structs [] units k unit compiled.well_typed.units_stand there))
 
   pub distinct_at : (k : ℕ) (unit : UnitDef) → slice_get units k ≡ Some unit → are_distinct (names_of (parameters_of unit)) ≡ true
   distinct_at k unit there =
-      and_right (list_all is_name (names_of unit.vars)) (are_distinct (names_of (parameters_of unit)))
-      (and_right (roles_stand unit) (list_all is_name (names_of unit.vars) && are_distinct (names_of (parameters_of unit)))
-      (and_left _ _ (unit_stands_at structs [] units k unit compiled.well_typed.units_stand there)))
+      and_second (list_all is_name (names_of unit.vars)) (are_distinct (names_of (parameters_of unit)))
+      (and_second (roles_stand unit) (list_all is_name (names_of unit.vars) && are_distinct (names_of (parameters_of unit)))
+      (and_first _ _ (unit_stands_at structs [] units k unit compiled.well_typed.units_stand there)))
 
   -- a variable that an instance remembers is behind the parameters
   module _ (i x : ℕ) (var : Var) (unit : UnitDef) (is : unit_at W i ≡ Some unit) (is_var : var_at (site_at W activities i) x ≡ Some var)
@@ -191,7 +168,7 @@ module _ (out : HomesLeadOut) (orderly : AcceptedIsOrderly) (structs : List Stru
     held_seen s =
         get_mapped (variable_among now_of W s i) (variables_of W i) x
         ∙ ap (option_map (variable_among now_of W s i)) (ap (λ vars. slice_get (range_with_len 0 (length vars)) x) vars_are
-        ∙ range_at 0 (length unit.vars) x (there_below unit.vars x var var_there) ∙ ap Some from_zero)
+        ∙ range_at 0 (length unit.vars) x (within_at unit.vars x var var_there) ∙ ap Some from_zero)
         ∙ ap (λ at. Some (unwrap_or (value_among now_of s at) (Parts []))) own_home
       where
         from_zero : 0 + x ≡ x

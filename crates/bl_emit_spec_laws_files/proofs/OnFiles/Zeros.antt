@@ -9,9 +9,8 @@ use Rattle.bl_tree.specs.declared.tree.Ty.TheOpen.{Ty-F}
 use Rattle.bl_tree.specs.declared.tree.Ty.TheFolds.{map-Ty}
 use Rattle.bl_tree.specs.declared.value.Value.{Value}
 use Rattle.bl_tree.specs.declared.value.Value.TheVariants.{Number, Parts, outs-Number, outs-Parts}
-use Rattle.bl_eval.specs.Values.{number_at as number_level, number_in, parts_at, struct_zero, value_at, zero_by, zero_of, zeros_after}
-use Rattle.bl_ctext_semantics.specs.Memory.{CValue, Projection}
-use Rattle.bl_emit_acts_laws_simulation.specs.Encodes.{Encodes, number_within, way_to}
+use Rattle.bl_eval.specs.Values.{number_at as number_level, number_in, parts_at, struct_zero, value_at, zero_by, zeros_after}
+use Rattle.bl_emit_acts_laws_simulation.specs.Encodes.{number_within}
 
 -- each number in a value is 0
 abbrev pub AllZero : Value → Type 0
@@ -87,12 +86,3 @@ all_zeros : (structs : List StructDef) (zeros : List Value) → EachZero zeros �
 all_zeros [] zeros each = each
 all_zeros (def ∷ rest) zeros each =
     all_zeros rest (zeros ++ struct_zero zeros def ∷ []) (push_zero zeros (struct_zero zeros def) each (struct_is_zero zeros each def))
-
--- what is 0 everywhere holds the zero of a type
-pub zero_holds : (structs : List StructDef) (ty : Ty) (held : CValue) → ((way : List Projection) → held way ≡ pos 0)
-    → Encodes structs ty (zero_of structs ty) held
-zero_holds structs ty held all = record {
-  each = λ ks n is.
-      all (way_to structs ks (Some ty))
-      ∙ sym (by_zero (zeros_after [] structs) (all_zeros structs [] (λ k value there. absurd (cc))) ty ks n is);
-}

@@ -5,10 +5,10 @@ use Rattle.std.proofs.Common.{Option, Some, None, refl, sym, ap, ◌∙◌, subs
 use Rattle.std.proofs.lemmas.Option.{same_Some}
 use Rattle.std.specs.List.{list_all}
 use Rattle.std.specs.Prelude.{codes, Contains, is_none, is_some, slice_get}
+use Rattle.bl_tree.proofs.Basics.{and_first, and_second, contains_at, contains_first, contains_further, contains_mapped}
 use Rattle.bl_tree.specs.declared.c.CType.{CType}
 use Rattle.bl_tree.specs.declared.c.CType.TheVariants.{Scalar as OfScalar, Struct as OfStruct}
 use Rattle.bl_tree.specs.declared.scalar.Scalar.{Scalar as ScalarType}
-use Rattle.bl_tree.specs.declared.text.Text.{Text}
 use Rattle.bl_tree.specs.declared.tree.StructDef.{StructDef}
 use Rattle.bl_tree.specs.declared.tree.Ty.{Ty, out-Ty}
 use Rattle.bl_tree.specs.declared.tree.Ty.TheOpen.{Ty-F}
@@ -19,7 +19,7 @@ use Rattle.bl_tree.specs.Program.{is_entry, parameters_of}
 use Rattle.bl_tree.specs.Types.{scalar_at, scalar_in}
 use Rattle.bl_tree.specs.Typing.{TypingContext, is_activity, outputs_of, var_at}
 use Rattle.bl_eval.specs.Values.{value_fits}
-use Rattle.bl_eval.proofs.PassLemmas.{and_left, and_right, both, pass_at}
+use Rattle.bl_eval.proofs.PassLemmas.{pass_at}
 use Rattle.bl_ctext_semantics.specs.Faults.{WellFormed, struct_table}
 use Rattle.bl_ctext_semantics.specs.Meaning.{further as further_place}
 use Rattle.bl_ctext_semantics.specs.Memory.{Location, Memory, Projection, Root, member, output_object, scalar_number, state_object, value_at}
@@ -33,7 +33,7 @@ use Rattle.bl_ctree_laws_typing.specs.Fits.{StoreFits}
 use Rattle.bl_ctree_laws_typing.specs.Views.{ViewsAreTyped}
 use Rattle.bl_emit_acts.specs.declared.home.Home.TheVariants.{Held}
 use Rattle.bl_emit_acts.specs.Places.{home_of}
-use Rattle.bl_emit_acts.specs.Types.{c_scalar, c_type, type_level, type_name, variable_name}
+use Rattle.bl_emit_acts.specs.Types.{c_scalar, c_type, type_name, variable_name}
 use Rattle.bl_emit_acts_laws_simulation.specs.Acts.{OutputsEncoded}
 use Rattle.bl_emit_acts_laws_simulation.specs.Encodes.{Encodes, home_at, lead_level, part_level, way_to}
 use Rattle.bl_emit_functions.specs.Functions.{held_member, is_held, member_of, members_from, members_of}
@@ -51,47 +51,22 @@ use Rattle.bl_emit_spec_laws.specs.Calls.Built.{Activities, activity_at, site_at
 use Rattle.bl_emit_spec_laws.specs.Calls.Laws.{CompilationContext}
 use Rattle.bl_emit_spec_laws.specs.Calls.Memories.{MemoryEncodes, Nests}
 use Rattle.bl_emit_spec_laws_files.specs.States.Cells.{AllCellsKept, CellsKept, object_types, regained}
-use Rattle.bl_emit_spec_laws_files.specs.States.States.{
-  FramesDeclared,
-  RunsFound,
-  StateKept,
-  StatesAreKept,
-  frame_place,
-  memory_of_activity,
-  memory_place,
-  output_place,
-}
+use Rattle.bl_emit_spec_laws_files.specs.States.States.{FramesDeclared, RunsFound, StateKept, StatesAreKept, frame_place, memory_of_activity, memory_place}
+use Rattle.bl_emit_spec_laws_files.specs.States.States.{output_place}
 use Rattle.bl_emit_spec_laws_files.proofs.OnStates.Declared.{member_step}
-use Rattle.bl_emit_spec_laws_files.proofs.OnStates.Nested.{
-  StandsAt,
-  along,
-  below,
-  entry_stands,
-  further,
-  here,
-  in_left,
-  in_mapped,
-  in_right,
-  nested,
-  own_unit,
-  some_long,
-  unit_there,
-}
-use Rattle.bl_emit_spec_laws_files.proofs.OnStates.Types.{contains_at, leads}
+use Rattle.bl_emit_spec_laws_files.proofs.OnStates.Nested.{StandsAt, along, entry_stands, nested, own_unit}
+use Rattle.bl_emit_spec_laws_files.proofs.OnStates.Nested.{some_long, unit_there}
+use Rattle.bl_emit_spec_laws_files.proofs.OnStates.Types.{leads}
+use Rattle.bl_machine_pass_laws_typing.proofs.OnStarts.{some_scalar}
+use Rattle.bl_machine_laws.proofs.OnTraces.Positions.{up_to_has}
+use Rattle.bl_cause.proofs.PairLemmas.{contains_left}
+use Rattle.bl_emit_spec_laws_files.proofs.OnFiles.Columns.{scalar_level}
+use Rattle.bl_machine_pass_laws_turns.proofs.OnWaiting.Lists.{contains_right}
 
 -- ---- scalars
 
 abbrev is_scalar : Var → Bool
 is_scalar var = is_some (scalar_in var.ty)
-
-some_scalar : (o : Option ScalarType) → is_some o ≡ true → (s : ScalarType) × (o ≡ Some s)
-some_scalar None h = absurd (cc)
-some_scalar (Some s) h = (s, refl)
-
-scalar_level : (name : Text) (layer : Ty-F Ty) (s : ScalarType) → scalar_at layer ≡ Some s → type_level name layer ≡ OfScalar (c_scalar s)
-scalar_level name (Ty-F.Scalar t) s is = ap (λ (t : ScalarType). OfScalar (c_scalar t)) (same_Some t s is)
-scalar_level name (Ty-F.Struct k) s is = absurd (cc)
-scalar_level name (Ty-F.Array n inner) s is = absurd (cc)
 
 -- a scalar has no parts
 scalar_way : (structs : List StructDef) (ty : Ty) (s : ScalarType) → scalar_in ty ≡ Some s → (ks : List ℕ) → way_to structs ks (Some ty) ≡ []
@@ -106,13 +81,6 @@ scalar_way structs ty s is (k ∷ ks) = by (out-Ty ty) is
     by (Ty-F.Scalar t) h = none ks
     by (Ty-F.Struct j) h = absurd (cc)
     by (Ty-F.Array n inner) h = absurd (cc)
-
-all_take : (n : ℕ) (vars : List Var) → list_all is_scalar vars ≡ true → list_all is_scalar (take n vars) ≡ true
-all_take zero vars all = refl
-all_take (suc n) [] all = refl
-all_take (suc n) (var ∷ vars) all =
-    both (is_scalar var) (list_all is_scalar (take n vars)) (and_left (is_scalar var) (list_all is_scalar vars) all)
-    (all_take n vars (and_right (is_scalar var) (list_all is_scalar vars) all))
 
 -- of the first so many the ones behind some
 middle_all : (n m : ℕ) (vars : List Var) → list_all is_scalar (take (n + m) vars) ≡ true → list_all is_scalar (take m (drop n vars)) ≡ true
@@ -130,7 +98,7 @@ middle_all (suc n) m [] all = none m
     none (suc m) = refl
 middle_all (suc n) m (var ∷ vars) all =
     let sum : suc n + m ≡ suc (n + m) = omega arith in
-    middle_all n m vars (and_right (is_scalar var) (list_all is_scalar (take (n + m) vars))
+    middle_all n m vars (and_second (is_scalar var) (list_all is_scalar (take (n + m) vars))
     (subst (λ (k : ℕ). list_all is_scalar (take k (var ∷ vars)) ≡ true) sum all))
 
 -- ---- variables that are held
@@ -142,16 +110,16 @@ held_within site k [] x var there held = absurd (cc)
 held_within site k (first ∷ rest) zero var there held =
     let same = same_Some first var there in
     let from : k + 0 ≡ k = omega arith in
-    in_left (member_of (is_held (home_of site (Some first))) site.structs site.vars k first) (members_from site (k + 1) rest)
+    contains_left (member_of (is_held (home_of site (Some first))) site.structs site.vars k first) (members_from site (k + 1) rest)
     (held_member site.structs site.vars (k + 0) var)
     (subst (λ (v : Var). Contains (member_of (is_held (home_of site (Some v))) site.structs site.vars k v)
     (held_member site.structs site.vars (k + 0) var)) (sym same)
     (subst (λ (b : Bool). Contains (member_of b site.structs site.vars k var) (held_member site.structs site.vars (k + 0) var)) (sym held)
     (subst (λ (n : ℕ). Contains (held_member site.structs site.vars k var ∷ []) (held_member site.structs site.vars n var)) (sym from)
-    (here (held_member site.structs site.vars k var) []))))
+    (contains_first (held_member site.structs site.vars k var) []))))
 held_within site k (first ∷ rest) (suc x) var there held =
     let sum : (k + 1) + x ≡ k + suc x = omega arith in
-    in_right (member_of (is_held (home_of site (Some first))) site.structs site.vars k first) (members_from site (k + 1) rest)
+    contains_right (member_of (is_held (home_of site (Some first))) site.structs site.vars k first) (members_from site (k + 1) rest)
     (held_member site.structs site.vars (k + suc x) var)
     (subst (λ (n : ℕ). Contains (members_from site (k + 1) rest) (held_member site.structs site.vars n var)) sum
     (held_within site (k + 1) rest x var there held))
@@ -216,8 +184,8 @@ module _ (orderly : AcceptedIsOrderly) (placed : StaysPlaced) (views : ViewsAreT
   counter_kept memory k c f' m' stands less =
       let counters = map (counter_member (A k).sizes) (up_to (length (A k).sizes)) in
       let step = member_step file formed (frame_struct (A k)) (counter_member (A k).sizes c) (declared.frames k stands.other stands.is_there)
-      (in_left counters (map (frame_member (A k)) (runs_in_body (A k))) (counter_member (A k).sizes c)
-      (in_mapped (counter_member (A k).sizes) (up_to (length (A k).sizes)) c (below (length (A k).sizes) c less))) in
+      (contains_left counters (map (frame_member (A k)) (runs_in_body (A k))) (counter_member (A k).sizes c)
+      (contains_mapped (counter_member (A k).sizes) (up_to (length (A k).sizes)) c (up_to_has (length (A k).sizes) c less))) in
       let leading = goes_along f'.parts (member (counter_name c) ∷ []) (whole (OfStruct (frame_struct (A k)).name))
       (whole (OfScalar (counter_type (A k).sizes c))) stands.frame step in
       let way = f'.parts ++ member (counter_name c) ∷ [] in
@@ -249,7 +217,7 @@ module _ (orderly : AcceptedIsOrderly) (placed : StaysPlaced) (views : ViewsAreT
     is_member =
         let site = site_at W activities k in
         let from_zero : 0 + x ≡ x = omega arith in
-        in_left (members_of (A k).structs (A k).earlier (A k).unit) (joined (map (memory_member (A k)) (runs_in_body (A k))))
+        contains_left (members_of (A k).structs (A k).earlier (A k).unit) (joined (map (memory_member (A k)) (runs_in_body (A k))))
         (held_member (A k).structs (A k).unit.vars x var)
         (subst (λ (n : ℕ). Contains (members_from site 0 site.vars) (held_member (A k).structs (A k).unit.vars n var)) from_zero
         (held_within site 0 site.vars x var is_var (ap is_held (sym (ap (home_of site) is_var) ∙ held))))
@@ -308,8 +276,8 @@ module _ (orderly : AcceptedIsOrderly) (placed : StaysPlaced) (views : ViewsAreT
   outputs_scalar : list_all is_scalar (outputs_of unit) ≡ true
   outputs_scalar =
       middle_all unit.inputs unit.outputs unit.vars
-      (and_right (is_none unit.result) (list_all is_scalar (parameters_of unit))
-      (and_right (is_activity unit.kind) (is_none unit.result && list_all is_scalar (parameters_of unit)) entry_so))
+      (and_second (is_none unit.result) (list_all is_scalar (parameters_of unit))
+      (and_second (is_activity unit.kind) (is_none unit.result && list_all is_scalar (parameters_of unit)) entry_so))
 
   output_kept : (memory : Memory) (var : Var) → Contains (outputs_of unit) var → is_scalar var ≡ true → (ks : List ℕ) →
       regained file memory output_object (member (codes "o_" ++ var.name) ∷ way_to structs ks (Some var.ty))
@@ -317,8 +285,8 @@ module _ (orderly : AcceptedIsOrderly) (placed : StaysPlaced) (views : ViewsAreT
   output_kept memory var within scalar ks =
       let found = some_scalar (scalar_in var.ty) scalar in
       let step = member_step file formed (port_struct structs (codes "bl_out") (codes "o_") (outputs_of unit)) (port_member structs (codes "o_") var)
-      declared.outputs (further _ (map (port_member structs (codes "o_")) (outputs_of unit)) (port_member structs (codes "o_") var)
-      (in_mapped (port_member structs (codes "o_")) (outputs_of unit) var within)) in
+      declared.outputs (contains_further _ (map (port_member structs (codes "o_")) (outputs_of unit)) (port_member structs (codes "o_") var)
+      (contains_mapped (port_member structs (codes "o_")) (outputs_of unit) var within)) in
       let typed = step ∙ ap (λ (t : CType). Some (whole t)) (scalar_level (type_name structs var.ty) (out-Ty var.ty) found.0 found.1) in
       let none = scalar_way structs var.ty found.0 found.1 ks in
       ap (λ (way : List Projection). regained file memory output_object (member (codes "o_" ++ var.name) ∷ way)) none
@@ -334,10 +302,10 @@ module _ (orderly : AcceptedIsOrderly) (placed : StaysPlaced) (views : ViewsAreT
   outputs_kept memory (var ∷ vars) (value ∷ values) within scalars holds = (
     record {
       each = λ ks n number.
-          output_kept memory var (within var (here var vars)) (and_left (is_scalar var) (list_all is_scalar vars) scalars) ks
+          output_kept memory var (within var (contains_first var vars)) (and_first (is_scalar var) (list_all is_scalar vars) scalars) ks
           ∙ holds.0.each ks n number;
     },
-    outputs_kept memory vars values (λ v at. within v (further var vars v at)) (and_right (is_scalar var) (list_all is_scalar vars) scalars) holds.1,
+    outputs_kept memory vars values (λ v at. within v (contains_further var vars v at)) (and_second (is_scalar var) (list_all is_scalar vars) scalars) holds.1,
   )
 
   pub state_is_kept : StateKept W activities unit file

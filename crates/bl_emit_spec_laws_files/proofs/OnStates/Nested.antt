@@ -4,39 +4,25 @@ use Rattle.std.proofs.Common.{length, nat_lt}
 use Rattle.std.proofs.Common.{Option, Some, None, refl, sym, ap, ap₂, ◌∙◌, subst, arith}
 use Rattle.std.proofs.lemmas.Bool.{lt-ltb}
 use Rattle.std.proofs.lemmas.Option.{same_Some}
-use Rattle.std.specs.Prelude.{codes, Contains, option_and_then, option_map, slice_get, unwrap_or, if◌then◌else◌}
-use Rattle.bl_tree.specs.declared.c.CMember.{CMember}
+use Rattle.std.specs.Prelude.{codes, Contains, slice_get, unwrap_or, if◌then◌else◌}
+use Rattle.bl_tree.proofs.Basics.{contains_first as here, contains_further, contains_mapped, get_taken, index_of}
 use Rattle.bl_tree.specs.declared.c.CType.TheVariants.{Struct as OfStruct}
 use Rattle.bl_tree.specs.declared.place.Place.{Place}
 use Rattle.bl_tree.specs.declared.text.Text.{Text}
 use Rattle.bl_tree.specs.declared.tree.StructDef.{StructDef}
 use Rattle.bl_tree.specs.declared.tree.Unit.{Unit as UnitDef}
 use Rattle.bl_tree.specs.Reduce.{joined}
-use Rattle.bl_eval.proofs.PassLemmas.{get_take}
 use Rattle.bl_graph_nodes.specs.Nodes.{Arguments, EnterAt, nodes_in}
 use Rattle.bl_graph_nodes.specs.Plain.{Label, plain_body}
 use Rattle.bl_ctext_semantics.specs.Faults.{WellFormed, struct_table}
 use Rattle.bl_ctext_semantics.specs.Memory.{Location, Projection, member, state_object}
 use Rattle.bl_ctext_semantics.specs.Parts.{Parts}
 use Rattle.bl_ctext_semantics_laws.specs.Fitting.{ValueSpot, step_in, walk, whole}
-use Rattle.bl_ctree.specs.declared.instance.Instance.{Instance}
-use Rattle.bl_ctree.specs.Instances.{Setting, callee_of, setting_of, unit_at, unit_of}
+use Rattle.bl_ctree.specs.Instances.{Setting, callee_of, setting_of, unit_at}
 use Rattle.bl_ctree_laws_confluence.specs.Deeds.Orderly.{AcceptedIsOrderly}
 use Rattle.bl_emit_functions.specs.Functions.{members_of, memory_name}
-use Rattle.bl_emit_spec.specs.Activities.{
-  Activity,
-  RunAt,
-  activity_view,
-  counter_member,
-  frame_member,
-  frame_struct,
-  memory_member,
-  remembered,
-  remembers_any,
-  runs_in_body,
-  struct_member,
-  word_of_run,
-}
+use Rattle.bl_emit_spec.specs.Activities.{Activity, RunAt, activity_view, counter_member, frame_member, frame_struct, memory_member, remembered, remembers_any}
+use Rattle.bl_emit_spec.specs.Activities.{runs_in_body, struct_member, word_of_run}
 use Rattle.bl_emit_spec.specs.Blocks.{name_in}
 use Rattle.bl_emit_spec.specs.Names.{NumberedWord, callee_name, frame_name}
 use Rattle.bl_emit_spec.specs.Programs.{state_struct}
@@ -49,72 +35,28 @@ use Rattle.bl_emit_spec_laws.specs.Calls.Memories as memories
 use Rattle.bl_emit_spec_laws.specs.Calls.Memories.{Nests, inner}
 use Rattle.bl_emit_spec_laws.proofs.OnRunPlaces.Sharing.{run_kept}
 use Rattle.bl_emit_spec_laws_files.specs.States.States.{FramesDeclared, RunFound, RunsFound, frame_place, memory_of_activity, memory_place}
-use Rattle.bl_emit_spec_laws_files.proofs.OnStates.Declared.{member_step, stands_somewhere}
+use Rattle.bl_emit_spec_laws_files.proofs.OnStates.Declared.{member_step}
 use Rattle.bl_emit_spec_laws.proofs.OnRunPlaces.Words.{run_word}
+use Rattle.bl_emit_spec_laws.proofs.OnActivities.Nested.{unit_by}
+use Rattle.bl_cause.proofs.PairLemmas.{contains_left}
+use Rattle.bl_machine_pass_laws_turns.proofs.OnWaiting.Lists.{contains_right}
 
 -- ---- members of lists
-
-pub here : {X : Type 0} (x : X) (xs : List X) → Contains (x ∷ xs) x
-here x xs = (0, omega arith, refl)
-
-pub further : {X : Type 0} (y : X) (xs : List X) (x : X) → Contains xs x → Contains (y ∷ xs) x
-further y xs x at = let less = at.1 in (suc at.0, omega (arith, less), at.2)
-
-pub in_right : {X : Type 0} (xs ys : List X) (x : X) → Contains ys x → Contains (xs ++ ys) x
-in_right [] ys x at = at
-in_right (y ∷ xs) ys x at = further y (xs ++ ys) x (in_right xs ys x at)
-
-got_in : {X : Type 0} (xs : List X) (k : ℕ) (x : X) → slice_get xs k ≡ Some x → Contains xs x
-got_in [] k x e = absurd (cc)
-got_in (y ∷ xs) zero x e = subst (λ (z : _). Contains (z ∷ xs) x) (sym (same_Some y x e)) (here x xs)
-got_in (y ∷ xs) (suc k) x e = further y xs x (got_in xs k x e)
-
-got_left : {X : Type 0} (xs ys : List X) (k : ℕ) (x : X) → slice_get xs k ≡ Some x → slice_get (xs ++ ys) k ≡ Some x
-got_left [] ys k x e = absurd (cc)
-got_left (y ∷ xs) ys zero x e = e
-got_left (y ∷ xs) ys (suc k) x e = got_left xs ys k x e
-
-pub in_left : {X : Type 0} (xs ys : List X) (x : X) → Contains xs x → Contains (xs ++ ys) x
-in_left xs ys x at = let found = stands_somewhere xs x at in got_in (xs ++ ys) found.0 x (got_left xs ys found.0 x found.1)
-
-got_mapped : {A B : Type 0} (f : A → B) (xs : List A) (k : ℕ) (x : A) → slice_get xs k ≡ Some x → slice_get (map f xs) k ≡ Some (f x)
-got_mapped f [] k x e = absurd (cc)
-got_mapped f (y ∷ xs) zero x e = ap (λ y. Some (f y)) (same_Some y x e)
-got_mapped f (y ∷ xs) (suc k) x e = got_mapped f xs k x e
-
-pub in_mapped : {A B : Type 0} (f : A → B) (xs : List A) (x : A) → Contains xs x → Contains (map f xs) (f x)
-in_mapped f xs x at = let found = stands_somewhere xs x at in got_in (map f xs) found.0 (f x) (got_mapped f xs found.0 x found.1)
 
 in_joined_at : {A B : Type 0} (f : A → List B) (xs : List A) (k : ℕ) (x : A) (y : B) → slice_get xs k ≡ Some x → Contains (f x) y →
     Contains (joined (map f xs)) y
 in_joined_at f [] k x y e at = absurd (cc)
 in_joined_at f (z ∷ xs) zero x y e at =
-    in_left (f z) (joined (map f xs)) y (subst (λ (z : _). Contains (f z) y) (sym (same_Some z x e)) at)
-in_joined_at f (z ∷ xs) (suc k) x y e at = in_right (f z) (joined (map f xs)) y (in_joined_at f xs k x y e at)
+    contains_left (f z) (joined (map f xs)) y (subst (λ (z : _). Contains (f z) y) (sym (same_Some z x e)) at)
+in_joined_at f (z ∷ xs) (suc k) x y e at = contains_right (f z) (joined (map f xs)) y (in_joined_at f xs k x y e at)
 
 pub in_joined : {A B : Type 0} (f : A → List B) (xs : List A) (x : A) (y : B) → Contains xs x → Contains (f x) y → Contains (joined (map f xs)) y
-in_joined f xs x y at of = let found = stands_somewhere xs x at in in_joined_at f xs found.0 x y found.1 of
-
-pub below : (n k : ℕ) → k < n → Contains (up_to n) k
-below zero k less = absurd (omega (arith, less))
-below (suc n) k less = by (Rattle.std.specs.Prelude.nat_lt k n) refl (λ fewer. below n k fewer)
-  where
-    by : (b : Bool) → nat_lt k n ≡ b → (k < n → Contains (up_to n) k) → Contains (up_to n ++ n ∷ []) k
-    by true e fewer = in_left (up_to n) (n ∷ []) k (fewer (Rattle.std.proofs.lemmas.Bool.ltb-true k n e))
-    by false e fewer =
-        let more = Rattle.std.proofs.lemmas.Bool.ltb-false k n e in
-        let same : n ≡ k = omega (arith, less, more) in
-        in_right (up_to n) (n ∷ []) k (subst (λ m. Contains (m ∷ []) k) (sym same) (here k []))
+in_joined f xs x y at of = let found = index_of xs x at in in_joined_at f xs found.0 x y found.1 of
 
 pub some_long : {X : Type 0} (xs : List X) (x : X) → Contains xs x → nat_lt 0 (length xs) ≡ true
 some_long xs x at = let less = at.1 in lt-ltb 0 (length xs) (omega (arith, less))
 
 -- ---- places
-
-unit_by : (w : Setting) (o : Option Instance) (unit : UnitDef) → option_and_then (unit_of w) o ≡ Some unit →
-    slice_get w.units (unwrap_or (option_map (λ (instance : Instance). instance.unit) o) 0) ≡ Some unit
-unit_by w None unit is = absurd (cc)
-unit_by w (Some instance) unit is = is
 
 module _ (orderly : AcceptedIsOrderly) (placed : StaysPlaced) (structs : List StructDef) (units : List UnitDef) (entry : ℕ)
     (machine : List InMachine) (activities : Activities) (unit : UnitDef) (file : Parts) (compiled : CompilationContext structs units entry machine activities)
@@ -183,7 +125,7 @@ module _ (orderly : AcceptedIsOrderly) (placed : StaysPlaced) (structs : List St
     earlier_is : slice_get (A i).earlier (unit_number W j) ≡ Some found.other
     earlier_is =
         ap (λ (us : List UnitDef). slice_get us (unit_number W j)) (compiled.built.earlier (unit_number W i) u (unit_there i u is))
-        ∙ get_take units (unit_number W i) (unit_number W j) found.earlier ∙ unit_there j found.other found.is_there
+        ∙ get_taken units (unit_number W i) (unit_number W j) found.earlier ∙ unit_there j found.other found.is_there
 
     named : name_in (slice_get (A i).earlier (unit_number W j)) ≡ (A j).unit.name
     named = ap name_in earlier_is ∙ ap (λ (x : UnitDef). x.name) (sym (own_unit j found.other found.is_there))
@@ -193,9 +135,9 @@ module _ (orderly : AcceptedIsOrderly) (placed : StaysPlaced) (structs : List St
     frame_step =
         member_step file formed (frame_struct (A i))
         (frame_member (A i) run) (declared.frames i u is)
-        (in_right (map (counter_member (A i).sizes) (up_to (length (A i).sizes))) (map (frame_member (A i)) (runs_in_body (A i)))
+        (contains_right (map (counter_member (A i).sizes) (up_to (length (A i).sizes))) (map (frame_member (A i)) (runs_in_body (A i)))
         (frame_member (A i) run)
-        (in_mapped (frame_member (A i)) (runs_in_body (A i))
+        (contains_mapped (frame_member (A i)) (runs_in_body (A i))
         run run_within))
         ∙ ap (λ (name : Text). Some (whole (OfStruct (frame_name name)))) named
 
@@ -207,14 +149,10 @@ module _ (orderly : AcceptedIsOrderly) (placed : StaysPlaced) (structs : List St
           (unit_there j found.other found.is_there) found.earlier)
           ∙ ap₂ (λ a b. a && b) active remembers
 
-      the_member : CMember
-      the_member = struct_member (callee_name word) (memory_name (name_in (slice_get (A i).earlier (unit_number
-          W j))))
-
       member_within : Contains (remembered (A i)) (struct_member (callee_name word)
           (memory_name (name_in (slice_get (A i).earlier (unit_number W j)))))
       member_within =
-          in_right (members_of (A i).structs (A i).earlier (A i).unit) (joined (map (memory_member (A i)) (runs_in_body (A i))))
+          contains_right (members_of (A i).structs (A i).earlier (A i).unit) (joined (map (memory_member (A i)) (runs_in_body (A i))))
           (struct_member (callee_name word) (memory_name (name_in (slice_get (A i).earlier (unit_number W j)))))
           (in_joined (memory_member (A i)) (runs_in_body (A i)) run
           (struct_member (callee_name word) (memory_name (name_in (slice_get (A i).earlier (unit_number W j)))))
@@ -272,7 +210,7 @@ module _ (orderly : AcceptedIsOrderly) (placed : StaysPlaced) (structs : List St
         member_step file formed (state_struct unit.name true) (struct_member (codes "m") (memory_name unit.name))
         (subst (λ (b : Bool). Contains file.structs (state_struct unit.name b)) (ap (λ (k : ℕ). remembers_any (activities k)) (sym number) ∙ remembers)
         declared.state)
-        (further (struct_member (codes "f") (frame_name unit.name)) (struct_member (codes "m") (memory_name unit.name) ∷ [])
+        (contains_further (struct_member (codes "f") (frame_name unit.name)) (struct_member (codes "m") (memory_name unit.name) ∷ [])
         (struct_member (codes "m") (memory_name unit.name)) (here (struct_member (codes "m") (memory_name unit.name)) []))
         ∙ ap (λ (x : UnitDef). Some (whole (OfStruct (memory_name x.name)))) (sym (own_unit 0 unit is));
   }

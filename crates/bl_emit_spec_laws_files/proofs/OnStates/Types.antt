@@ -6,6 +6,7 @@ use Rattle.std.proofs.lemmas.Bool.{eqb-true, lt-ltb}
 use Rattle.std.proofs.lemmas.Option.{same_Some}
 use Rattle.std.specs.List.{list_all}
 use Rattle.std.specs.Prelude.{Contains, nat_eq, nat_lt, option_and_then, option_map, slice_get, if◌then◌else◌}
+use Rattle.bl_tree.proofs.Basics.{and_first, and_second, contains_at, get_mapped, get_past, within_at}
 use Rattle.bl_tree.specs.declared.c.CType.{CType}
 use Rattle.bl_tree.specs.declared.c.CType.TheVariants.{Scalar as OfScalar, Struct as OfStruct}
 use Rattle.bl_tree.specs.declared.scalar.Scalar.{Scalar as ScalarType}
@@ -18,23 +19,10 @@ use Rattle.bl_tree.specs.declared.value.Value.{Value, out-Value}
 use Rattle.bl_tree.specs.declared.value.Value.TheOpen.{Value-F}
 use Rattle.bl_tree.specs.Program.{structs_stand_from}
 use Rattle.bl_tree.specs.Types.{scalar_at, type_stands}
-use Rattle.bl_eval.specs.Values.{
-  are_elements,
-  are_fields,
-  by_test,
-  fits_by,
-  is_number_of,
-  number_at as number_level,
-  number_in,
-  part_of,
-  parts_at,
-  parts_in,
-  tests_after,
-  value_at,
-  value_fits,
-}
+use Rattle.bl_eval.specs.Values.{are_elements, are_fields, by_test, fits_by, is_number_of, number_at as number_level, number_in, part_of, parts_at}
+use Rattle.bl_eval.specs.Values.{tests_after, value_at, value_fits}
 use Rattle.bl_eval.proofs.FitLemmas.{fits_array, fits_before, fits_scalar, fits_struct, scalar_is, structs_at, test_is}
-use Rattle.bl_eval.proofs.PassLemmas.{all_at, and_left, and_right, pass_at}
+use Rattle.bl_eval.proofs.PassLemmas.{all_at, pass_at}
 use Rattle.bl_ctext_semantics.specs.Faults.{WellFormed, struct_table}
 use Rattle.bl_ctext_semantics.specs.Memory.{Projection, element, member}
 use Rattle.bl_ctext_semantics.specs.Parts.{Parts}
@@ -44,21 +32,7 @@ use Rattle.bl_emit_acts.specs.Types.{c_scalar, c_type, elements_name, field_name
 use Rattle.bl_emit_acts_laws_simulation.specs.Encodes.{number_within, part_level, part_type, type_after, way_to}
 use Rattle.bl_emit_spec_laws_files.specs.States.States.{TypeDeclared}
 use Rattle.bl_emit_spec_laws_files.proofs.OnStates.Declared.{member_step}
-
-pub contains_at : {X : Type 0} (xs : List X) (k : ℕ) (x : X) → slice_get xs k ≡ Some x → Contains xs x
-contains_at [] k x e = absurd (cc)
-contains_at (y ∷ xs) zero x e = (0, omega arith, same_Some y x e)
-contains_at (y ∷ xs) (suc k) x e = let more = contains_at xs k x e in let less = more.1 in (suc more.0, omega (arith, less), more.2)
-
-got_mapped : {A B : Type 0} (f : A → B) (xs : List A) (k : ℕ) (x : A) → slice_get xs k ≡ Some x → slice_get (map f xs) k ≡ Some (f x)
-got_mapped f [] k x e = absurd (cc)
-got_mapped f (y ∷ xs) zero x e = ap (λ y. Some (f y)) (same_Some y x e)
-got_mapped f (y ∷ xs) (suc k) x e = got_mapped f xs k x e
-
-got_below : {A : Type 0} (xs : List A) (k : ℕ) (x : A) → slice_get xs k ≡ Some x → k < length xs
-got_below [] k x e = absurd (cc)
-got_below (y ∷ xs) zero x e = omega arith
-got_below (y ∷ xs) (suc k) x e = let more = got_below xs k x e in omega (arith, more)
+use Rattle.bl_eval.proofs.MeaningLemmas.{past_get}
 
 -- a value with parts has no number, and one without has no parts
 no_parts : (value : Value) (s : ScalarType) → is_number_of s (out-Value value) ≡ true → (k : ℕ) → part_of k value ≡ None
@@ -74,16 +48,6 @@ tests_length (def ∷ rest) tests =
     let more = tests_length rest (tests ++ Rattle.bl_eval.specs.Values.struct_test tests def ∷ []) in
     let long = Rattle.std.proofs.Common.length-append tests (Rattle.bl_eval.specs.Values.struct_test tests def ∷ []) in
     omega (arith, more, long)
-
-none_past : {A : Type 0} (xs : List A) (k : ℕ) → slice_get xs k ≡ None → length xs ≤ k
-none_past [] k e = omega arith
-none_past (x ∷ xs) zero e = absurd (cc)
-none_past (x ∷ xs) (suc k) e = let more = none_past xs k e in omega (arith, more)
-
-past_none : {A : Type 0} (xs : List A) (k : ℕ) → length xs ≤ k → slice_get xs k ≡ None
-past_none [] k past = refl
-past_none (x ∷ xs) zero past = absurd (omega (arith, past))
-past_none (x ∷ xs) (suc k) past = past_none xs k (omega (arith, past))
 
 module _ (structs : List StructDef) (stand : structs_stand_from 0 structs ≡ true) (file : Parts) (formed : WellFormed file) where
   abbrev pub Walks : Option ValueSpot → List Projection → ValueSpot → Type 0
@@ -119,8 +83,8 @@ module _ (structs : List StructDef) (stand : structs_stand_from 0 structs ≡ tr
       value_fits structs ty value ≡ true → ⊥
   no_struct ty value s is there fit =
       let many = tests_length structs [] in
-      let past = none_past structs s there in
-      let none = past_none tests s (omega (arith, many, past)) in
+      let past = past_get structs s there in
+      let none = get_past tests s (omega (arith, many, past)) in
       let bad = sym (fits_struct tests ty s value is ∙ ap (λ test. by_test test value) none) ∙ fit in
       cc
 
@@ -179,7 +143,7 @@ module _ (structs : List StructDef) (stand : structs_stand_from 0 structs ≡ tr
 
       same : fits_by before field.ty ≡ value_fits structs field.ty
       same =
-          let less = got_below structs s def there in
+          let less = within_at structs s def there in
           fits_before structs s field.ty (omega (arith, less))
           (all_at (λ (field : Field). type_stands s field.ty) def.fields k field (structs_at structs 0 s s def stand there (omega arith)) has)
 
@@ -205,7 +169,7 @@ module _ (structs : List StructDef) (stand : structs_stand_from 0 structs ≡ tr
       as_many (field ∷ fields) [] j x test h e = absurd (cc)
       as_many (field ∷ fields) (y ∷ all) zero x test h e = (field, refl)
       as_many (field ∷ fields) (y ∷ all) (suc j) x test h e =
-          as_many fields all j x test (and_right (test field y) (Rattle.bl_eval.specs.Values.pass (map test fields) all) h) e
+          as_many fields all j x test (and_second (test field y) (Rattle.bl_eval.specs.Values.pass (map test fields) all) h) e
 
       by : (level : Value-F Value) → are_fields (map (λ (field : Field). fits_by (tests_after [] (take s structs)) field.ty) def.fields) level ≡ true →
           option_and_then (λ all. slice_get all k) (parts_at level) ≡ Some part → (field : Field) × (slice_get def.fields k ≡ Some field)
@@ -222,9 +186,9 @@ module _ (structs : List StructDef) (stand : structs_stand_from 0 structs ≡ tr
           (k < m) × (test part ≡ true)
       by (Value-F.Number j) h e = absurd (cc)
       by (Value-F.Parts all) h e =
-          let less = got_below all k part e in
-          let many = eqb-true (length all) m (and_left (nat_eq (length all) m) (list_all test all) h) in
-          (omega (arith, less, many), all_at test all k part (and_right (nat_eq (length all) m) (list_all test all) h) e)
+          let less = within_at all k part e in
+          let many = eqb-true (length all) m (and_first (nat_eq (length all) m) (list_all test all) h) in
+          (omega (arith, less, many), all_at test all k part (and_second (nat_eq (length all) m) (list_all test all) h) e)
 
   -- a way that goes on
   goes_on : (spot next : ValueSpot) (first rest : List Projection) → Walks (Some spot) first next → LeadsToScalar (Some next) rest →
@@ -276,7 +240,7 @@ module _ (structs : List StructDef) (stand : structs_stand_from 0 structs ≡ tr
           let declared : Contains file.structs (c_definition structs def) =
           subst (TypeDeclared structs file.structs) is (all [] ty refl) def there in
           let step = member_step file formed (c_definition structs def) (c_field structs field) declared
-          (contains_at (c_definition structs def).members k (c_field structs field) (got_mapped (c_field structs) def.fields k field has.1)) in
+          (contains_at (c_definition structs def).members k (c_field structs field) (get_mapped (c_field structs) def.fields k field has.1)) in
           let rest = lead field.ty found.part n (inner_declared ty k field.ty part_is all)
           (field_fits ty value s def k field found.part is there has.1 found.is fit) found.number in
           subst (λ (way : List Projection). LeadsToScalar (Some (whole (c_type structs ty))) way)

@@ -1,24 +1,18 @@
 -- The laws of a whole program.
-use Rattle.std.proofs.Common.{◌≡◌, ◌⊎◌, inl, inr, ⊎_elim, ℕ, zero, suc, ◌<◌, arith, Bool, true, false, ◌&&◌, ◌||◌}
-use Rattle.std.proofs.Common.{List, [], ◌∷◌, ◌++◌, Contains, map, take, length, Some, refl, sym, ap, ◌∙◌, subst, append_assoc}
+use Rattle.std.proofs.Common.{◌≡◌, ◌⊎◌, ⊎_elim, ℕ, zero, suc, ◌<◌, arith, Bool, true, false, ◌&&◌, ◌||◌}
+use Rattle.std.proofs.Common.{List, [], ◌∷◌, ◌++◌, Contains, map, take, length, Some, refl, ap, ◌∙◌, subst}
 use Rattle.std.proofs.lemmas.Bool.{eq-eqb}
-use Rattle.std.proofs.lemmas.List.{append-nil, length-append}
 use Rattle.std.proofs.lemmas.Option.{same_Some}
 use Rattle.std.specs.List.{list_all, list_any}
 use Rattle.std.specs.Prelude.{is_some, nat_eq, slice_get, slice_index_or, unwrap_or}
+use Rattle.std.proofs.lemmas.Bool.{and_from, or_left, or_right}
+use Rattle.bl_tree.proofs.Basics.{and_first, and_second}
 use Rattle.bl_tree.specs.declared.place.Place.{Place}
-use Rattle.bl_tree.specs.declared.tree.Stmt.{Stmt}
 use Rattle.bl_tree.specs.declared.tree.StructDef.{StructDef}
 use Rattle.bl_tree.specs.declared.tree.Unit.{Unit as UnitDef}
-use Rattle.bl_tree.specs.Apart.{is_apart}
-use Rattle.bl_tree.specs.Depths.{is_shallow}
-use Rattle.bl_tree.specs.Program.{IsWellTyped, names_of, parameters_of, roles_stand, unit_stands, units_stand_after}
+use Rattle.bl_tree.specs.Program.{IsWellTyped}
 use Rattle.bl_tree.specs.Reduce.{all_of}
-use Rattle.bl_tree.specs.Returns.{unit_returns}
-use Rattle.bl_tree.specs.Types.{type_stands}
-use Rattle.bl_tree.specs.Typing.{TypingContext, fits, site_of}
-use Rattle.bl_tree.specs.Words.{are_distinct, is_name}
-use Rattle.bl_eval.proofs.PassLemmas.{and_left, and_right, both}
+use Rattle.bl_tree.specs.Typing.{TypingContext, site_of}
 use Rattle.bl_machine.specs.Blocks.{up_to}
 use Rattle.bl_graph_nodes.specs.Nodes.{Arguments, EnterAt, Node, nodes_in}
 use Rattle.bl_graph_nodes.specs.Plain.{Label, plain_body}
@@ -30,36 +24,11 @@ use Rattle.bl_emit_spec_laws_nodes.specs.Points.Nodes.{copied_there}
 use Rattle.bl_emit_spec_laws_nodes.specs.Copied.{NodesCopied, RunsCopied}
 use Rattle.bl_emit_spec_laws_nodes.proofs.OnCopied.Expressions.{Related}
 use Rattle.bl_emit_spec_laws_nodes.proofs.OnCopied.Statements.{body_copied, is_fine, run_copied, run_there}
+use Rattle.bl_eval.proofs.UnitFits.{unit_at}
+use Rattle.bl_emit_spec_laws.proofs.OnOwn.Counting.{get_up_to}
+use Rattle.bl_machine_laws.proofs.OnRests.Whole.{body_fits}
 
 -- ---- units
-
-unit_after : (structs : List StructDef) (earlier units : List UnitDef) (k : ℕ) (unit : UnitDef) →
-    units_stand_after structs earlier units ≡ true → slice_get units k ≡ Some unit → unit_stands structs (earlier ++ take k units) unit ≡ true
-unit_after structs earlier [] k unit stand there = absurd (cc)
-unit_after structs earlier (first ∷ units) zero unit stand there =
-    subst (λ earlier. unit_stands structs earlier unit ≡ true) (sym (append-nil earlier))
-    (subst (λ unit. unit_stands structs earlier unit ≡ true) (same_Some first unit there)
-    (and_left (unit_stands structs earlier first) (units_stand_after structs (earlier ++ first ∷ []) units) stand))
-unit_after structs earlier (first ∷ units) (suc k) unit stand there =
-    subst (λ earlier. unit_stands structs earlier unit ≡ true) (append_assoc earlier (first ∷ []) (take k units))
-    (unit_after structs (earlier ++ first ∷ []) units k unit
-    (and_right (unit_stands structs earlier first) (units_stand_after structs (earlier ++ first ∷ []) units) stand) there)
-
-all_listed : (test : Stmt → Bool) (body : List Stmt) → list_all test body ≡ true → all_of (map test body) ≡ true
-all_listed test [] all = refl
-all_listed test (s ∷ body) all =
-    both (test s) (all_of (map test body)) (and_left (test s) (list_all test body) all)
-    (all_listed test body (and_right (test s) (list_all test body) all))
-
-body_fits : (structs : List StructDef) (earlier : List UnitDef) (unit : UnitDef) → unit_stands structs earlier unit ≡ true →
-    all_of (map (fits (site_of structs earlier unit)) unit.body) ≡ true
-body_fits structs earlier unit stands =
-    let last : Bool = unit_returns unit && (is_shallow 200 unit.body && list_all is_apart unit.body) in
-    let fitted : Bool = list_all (fits (site_of structs earlier unit)) unit.body in
-    let typed : Bool = list_all (λ var. type_stands (length structs) var.ty) unit.vars in
-    let named : Bool = roles_stand unit && (list_all is_name (names_of unit.vars) && are_distinct (names_of (parameters_of unit))) in
-    all_listed (fits (site_of structs earlier unit)) unit.body
-    (and_left fitted last (and_right typed (fitted && last) (and_right named (typed && (fitted && last)) stands)))
 
 -- ---- copies
 
@@ -67,53 +36,16 @@ body_fits structs earlier unit stands =
 abbrev among : List ℕ → ℕ → Bool
 among ks k = list_any (nat_eq k) ks
 
-first_holds : (a b : Bool) → a ≡ true → (a || b) ≡ true
-first_holds true b h = refl
-first_holds false b h = absurd (cc)
-
-second_holds : (a b : Bool) → b ≡ true → (a || b) ≡ true
-second_holds true b h = refl
-second_holds false b h = h
-
 more_among : (ks before : List ℕ) → ((k : ℕ) → among ks k ≡ true → among before k ≡ true) → list_all (among before) ks ≡ true
 more_among [] before all = refl
 more_among (k ∷ ks) before all =
-    both (among before k) (list_all (among before) ks) (all k (first_holds (nat_eq k k) (among ks k) (eq-eqb k k refl)))
-    (more_among ks before (λ j is. all j (second_holds (nat_eq j k) (among ks j) is)))
+    and_from (among before k) (list_all (among before) ks) (all k (or_left (nat_eq k k) (among ks k) (eq-eqb k k refl)))
+    (more_among ks before (λ j is. all j (or_right (nat_eq j k) (among ks j) is)))
 
 all_among : (ks : List ℕ) → list_all (among ks) ks ≡ true
 all_among ks = more_among ks ks (λ k is. is)
 
-many_up_to : (n : ℕ) → length (up_to n) ≡ n
-many_up_to zero = refl
-many_up_to (suc n) = let all = length-append (up_to n) (n ∷ []) in let rest = many_up_to n in omega arith
-
-get_left : (xs ys : List ℕ) (k x : ℕ) → slice_get xs k ≡ Some x → slice_get (xs ++ ys) k ≡ Some x
-get_left [] ys k x is = absurd (cc)
-get_left (y ∷ xs) ys zero x is = is
-get_left (y ∷ xs) ys (suc k) x is = get_left xs ys k x is
-
-get_last : (xs : List ℕ) (x k : ℕ) → k ≡ length xs → slice_get (xs ++ x ∷ []) k ≡ Some x
-get_last [] x zero is = refl
-get_last [] x (suc k) is = absurd (omega (arith, is))
-get_last (y ∷ xs) x zero is = absurd (omega (arith, is))
-get_last (y ∷ xs) x (suc k) is = get_last xs x k (omega (arith, is))
-
-below_or_last : (k n : ℕ) → k < suc n → (k < n) ⊎ (k ≡ n)
-below_or_last zero zero below = inr refl
-below_or_last zero (suc n) below = inl (omega arith)
-below_or_last (suc k) zero below = absurd (omega (arith, below))
-below_or_last (suc k) (suc n) below = ⊎_elim (λ less. inl (omega (arith, less))) (λ is. inr (ap suc is))
-    (below_or_last k n (omega (arith, below)))
-
-get_up_to : (n k : ℕ) → k < n → slice_get (up_to n) k ≡ Some k
-get_up_to zero k below = absurd (omega (arith, below))
-get_up_to (suc n) k below =
-    ⊎_elim (λ less. get_left (up_to n) (n ∷ []) k k (get_up_to n k less))
-    (λ is. subst (λ m. slice_get (up_to n ++ n ∷ []) k ≡ Some m) (sym is) (get_last (up_to n) n k (is ∙ sym (many_up_to n))))
-    (below_or_last k n below)
-
-get_mapped : (f : ℕ → Bool) (xs : List ℕ) (k x : ℕ) → slice_get xs k ≡ Some x → slice_get (map f xs) k ≡ Some (f x)
+pub get_mapped : (f : ℕ → Bool) (xs : List ℕ) (k x : ℕ) → slice_get xs k ≡ Some x → slice_get (map f xs) k ≡ Some (f x)
 get_mapped f [] k x is = absurd (cc)
 get_mapped f (y ∷ xs) zero x is = ap (λ z. Some (f z)) (same_Some y x is)
 get_mapped f (y ∷ xs) (suc k) x is = get_mapped f xs k x is
@@ -136,9 +68,9 @@ all_at : (test : Node → Bool) (nodes : List Node) (position : ℕ) (n : Node) 
     test n ≡ true
 all_at test [] position n all there = absurd (cc)
 all_at test (first ∷ nodes) zero n all there =
-    subst (λ n. test n ≡ true) (same_Some first n there) (and_left (test first) (list_all test nodes) all)
+    subst (λ n. test n ≡ true) (same_Some first n there) (and_first (test first) (list_all test nodes) all)
 all_at test (first ∷ nodes) (suc position) n all there =
-    all_at test nodes position n (and_right (test first) (list_all test nodes) all) there
+    all_at test nodes position n (and_second (test first) (list_all test nodes) all) there
 
 get_there : {A : Type 0} (xs : List A) (k : ℕ) (x : A) → k < length xs → slice_index_or xs k x ≡ x → slice_get xs k ≡ Some x
 get_there [] k x below is = absurd (omega (arith, below))
@@ -150,12 +82,12 @@ all_fine : (structs : List StructDef) (units : List UnitDef) (entry k : ℕ) (un
 all_fine structs units entry k unit keeps there =
     let site : TypingContext = site_of structs (take k units) unit in
     body_copied site (among (prevs_of unit)) (is_copied (copies_of unit)) (named_copied site unit refl) unit.body
-    (body_fits structs (take k units) unit (unit_after structs [] units k unit keeps.units_stand there)) (all_among (prevs_of unit))
+    (body_fits structs (take k units) unit (unit_at structs [] units k unit keeps.units_stand there)) (all_among (prevs_of unit))
 
 pub nodes_copied : NodesCopied
 nodes_copied structs units entry k position unit n keeps there node =
     let copied = is_copied (copies_of unit) in
-    and_left (copied_there copied n) (run_there copied n)
+    and_first (copied_there copied n) (run_there copied n)
     (all_at (is_fine copied) (nodes_in (plain_body unit.body)) position n (all_fine structs units entry k unit keeps there) node)
 
 -- ---- runs
@@ -165,7 +97,7 @@ runs_there : (structs : List StructDef) (units : List UnitDef) (entry k : ℕ) (
     run_copied (is_copied (copies_of unit)) arguments ≡ true
 runs_there structs units entry k unit l at arguments keeps there node =
     let copied = is_copied (copies_of unit) in
-    and_right (copied_there copied (EnterAt l at arguments)) (run_there copied (EnterAt l at arguments))
+    and_second (copied_there copied (EnterAt l at arguments)) (run_there copied (EnterAt l at arguments))
     (all_at (is_fine copied) (nodes_in (plain_body unit.body)) node.0 (EnterAt l at arguments)
     (all_fine structs units entry k unit keeps there)
     (get_there (nodes_in (plain_body unit.body)) node.0 (EnterAt l at arguments) node.1 node.2))
@@ -174,10 +106,10 @@ pub runs_copied : RunsCopied
 runs_copied structs units entry keeps = record {
   inputs = λ k unit l at arguments there node.
       let copied = is_copied (copies_of unit) in
-      and_left (all_of (map (copied_in copied) arguments.inputs)) (all_of (map (copied_in_path copied) arguments.outputs))
+      and_first (all_of (map (copied_in copied) arguments.inputs)) (all_of (map (copied_in_path copied) arguments.outputs))
       (runs_there structs units entry k unit l at arguments keeps there node);
   outputs = λ k unit l at arguments there node.
       let copied = is_copied (copies_of unit) in
-      and_right (all_of (map (copied_in copied) arguments.inputs)) (all_of (map (copied_in_path copied) arguments.outputs))
+      and_second (all_of (map (copied_in copied) arguments.inputs)) (all_of (map (copied_in_path copied) arguments.outputs))
       (runs_there structs units entry k unit l at arguments keeps there node);
 }

@@ -5,6 +5,8 @@ use Rattle.std.specs.Prelude.{All, if◌then◌else◌, is_some, nat_eq, option_
 use Rattle.std.specs.List.{list_all}
 use Rattle.std.proofs.lemmas.List.Elements.{All-head, All-tail}
 use Rattle.std.proofs.lemmas.List.Folds.{list_all-append}
+use Rattle.std.proofs.lemmas.Bool.{and_from}
+use Rattle.bl_tree.proofs.Basics.{and_first, and_second}
 use Rattle.bl_tree.specs.declared.place.Place.{Place}
 use Rattle.bl_tree.specs.declared.scalar.Scalar.{Scalar as ScalarType}
 use Rattle.bl_tree.specs.declared.tree.Expr.{Expr, fold-roll-Expr}
@@ -19,31 +21,10 @@ use Rattle.bl_tree.specs.declared.tree.Var.{Var}
 use Rattle.bl_tree.specs.Reduce.{all_of, joined}
 use Rattle.bl_tree.specs.Scalar.{is_whole}
 use Rattle.bl_tree.specs.Types.{scalar_in}
-use Rattle.bl_tree.specs.Typing.{
-  TypingContext,
-  after_parts,
-  call_type,
-  cast_type,
-  element_in,
-  expr_type,
-  inputs_of,
-  is_function,
-  kind_type,
-  one_type,
-  part_type,
-  path_type,
-  prev_type,
-  two_type,
-  type_of,
-  type_of_path,
-  types_match,
-  var_at,
-  where_same,
-  where_whole,
-}
+use Rattle.bl_tree.specs.Typing.{TypingContext, after_parts, call_type, cast_type, element_in, expr_type, inputs_of, is_function, kind_type, one_type}
+use Rattle.bl_tree.specs.Typing.{part_type, path_type, prev_type, two_type, type_of, type_of_path, types_match, var_at, where_same, where_whole}
 use Rattle.bl_tree.proofs.ExprInduction.{Cases, EachIndex, OfIndex, expr, induct, induct_path}
 use Rattle.bl_eval.proofs.OperatorFits.{some_found, where_holds}
-use Rattle.bl_eval.proofs.PassLemmas.{and_left, and_right, both}
 use Rattle.bl_machine_prevs.specs.Prevs.{expr_layer_prevs, kind_prevs, part_prevs, path_layer_prevs, prevs_in_expr, prevs_in_part, prevs_in_path}
 use Rattle.bl_emit_acts_laws_simulation.specs.Encodes.{copied_in, copied_in_path, expr_copied, kind_copied, part_copied, path_copied}
 
@@ -64,13 +45,13 @@ record First (t : Option Ty) (ts : List (Option Ty)) (vars : List Var) : Type 0 
 types_first : (t : Option Ty) (ts : List (Option Ty)) (vars : List Var) → types_match (t ∷ ts) vars ≡ true → First t ts vars
 types_first None ts vars is = absurd (cc)
 types_first (Some ty) ts [] is = absurd (cc)
-types_first (Some ty) ts (var ∷ vars) is = record { ty = ty; is = refl; rest = vars; match = and_right _ (types_match ts vars) is }
+types_first (Some ty) ts (var ∷ vars) is = record { ty = ty; is = refl; rest = vars; match = and_second _ (types_match ts vars) is }
 
 pub all_left : (known : ℕ → Bool) (xs ys : List ℕ) → list_all known (xs ++ ys) ≡ true → list_all known xs ≡ true
-all_left known xs ys all = and_left (list_all known xs) (list_all known ys) (sym (list_all-append known xs ys) ∙ all)
+all_left known xs ys all = and_first (list_all known xs) (list_all known ys) (sym (list_all-append known xs ys) ∙ all)
 
 pub all_right : (known : ℕ → Bool) (xs ys : List ℕ) → list_all known (xs ++ ys) ≡ true → list_all known ys ≡ true
-all_right known xs ys all = and_right (list_all known xs) (list_all known ys) (sym (list_all-append known xs ys) ∙ all)
+all_right known xs ys all = and_second (list_all known xs) (list_all known ys) (sym (list_all-append known xs ys) ∙ all)
 
 module _ (site : TypingContext) (known copied : ℕ → Bool) (related : Related site known copied) where
   abbrev OfExpr : Expr → Type 0
@@ -118,7 +99,7 @@ module _ (site : TypingContext) (known copied : ℕ → Bool) (related : Related
   exprs_by [] each vars typed all = refl
   exprs_by (e ∷ es) each vars typed all =
       let first = types_first (type_of site e) (map (type_of site) es) vars typed in
-      both (copied_in copied e) (all_of (map (copied_in copied) es))
+      and_from (copied_in copied e) (all_of (map (copied_in copied) es))
       (All-head OfExpr e es each first.ty first.is (all_left known (prevs_in_expr e) (joined (map prevs_in_expr es)) all))
       (exprs_by es (All-tail OfExpr e es each) first.rest first.match (all_right known (prevs_in_expr e) (joined (map prevs_in_expr es)) all))
 
@@ -147,7 +128,7 @@ module _ (site : TypingContext) (known copied : ℕ → Bool) (related : Related
   parts_by [] each ty to typed all = refl
   parts_by (part ∷ parts) each ty to typed all =
       let found = some_found (after_parts (map part_ty parts)) (part_ty part ty) to typed in
-      both (copied_in_part part) (all_of (map copied_in_part parts))
+      and_from (copied_in_part part) (all_of (map copied_in_part parts))
       (part_by part (out-Part part) refl (All-head (λ part. OfIndex OfExpr (out-Part part)) part parts each) ty found.0 found.1
       (all_left known (prevs_in_part part) (joined (map prevs_in_part parts)) all))
       (parts_by parts (All-tail (λ part. OfIndex OfExpr (out-Part part)) part parts each) found.0 to found.2
@@ -182,7 +163,7 @@ module _ (site : TypingContext) (known copied : ℕ → Bool) (related : Related
       let unit : UnitDef = found.0 in
       let match = types_match (map (type_of site) inputs) (inputs_of unit) in
       let holds = where_holds (is_function unit.kind && (nat_eq unit.outputs 0 && match)) (option_map _ unit.result) ty found.2 in
-      exprs_by inputs each (inputs_of unit) (and_right (nat_eq unit.outputs 0) match (and_right (is_function unit.kind)
+      exprs_by inputs each (inputs_of unit) (and_second (nat_eq unit.outputs 0) match (and_second (is_function unit.kind)
       (nat_eq unit.outputs 0 && match)
       holds.0)) all
 
@@ -191,7 +172,7 @@ module _ (site : TypingContext) (known copied : ℕ → Bool) (related : Related
     literal = λ place n s. by_kind place (ExprKind-F.Literal n s) (λ ty typed all. refl);
     read = λ place path is. by_kind place (ExprKind-F.Read path) is;
     prev = λ place k. by_kind place (ExprKind-F.Prev k)
-        (λ ty typed all. related k (prev_typed site.kind (var_at site k) ty typed) (and_left (known k) true all));
+        (λ ty typed all. related k (prev_typed site.kind (var_at site k) ty typed) (and_first (known k) true all));
     one = λ place op a is. by_kind place (ExprKind-F.One op a)
         (λ ty typed all. let found = scalar_of (type_of site a) (one_type op) ty typed in is found.0 found.1 all);
     two = λ place op a b is_a is_b. by_kind place (ExprKind-F.Two op a b)
@@ -201,7 +182,7 @@ module _ (site : TypingContext) (known copied : ℕ → Bool) (related : Related
         (type_of site a)) ty
         typed in
         let second = scalar_of (type_of site b) (two_type op inner.0) ty inner.2 in
-        both (copied_in copied a) (copied_in copied b) (is_a first.0 first.1 (all_left known (prevs_in_expr a) (prevs_in_expr b) all))
+        and_from (copied_in copied a) (copied_in copied b) (is_a first.0 first.1 (all_left known (prevs_in_expr a) (prevs_in_expr b) all))
         (is_b second.0 second.1 (all_right known (prevs_in_expr a) (prevs_in_expr b) all)));
     cast = λ place target a is. by_kind place (ExprKind-F.Cast target a)
         (λ ty typed all. let found = scalar_of (type_of site a) (cast_type target) ty typed in is found.0 found.1 all);
@@ -226,6 +207,6 @@ module _ (site : TypingContext) (known copied : ℕ → Bool) (related : Related
   paths_copied_so [] vars typed all = refl
   paths_copied_so (path ∷ paths) vars typed all =
       let first = types_first (type_of_path site path) (map (type_of_path site) paths) vars typed in
-      both (copied_in_path copied path) (all_of (map (copied_in_path copied) paths))
+      and_from (copied_in_path copied path) (all_of (map (copied_in_path copied) paths))
       (path_copied_so path first.ty first.is (all_left known (prevs_in_path path) (joined (map prevs_in_path paths)) all))
       (paths_copied_so paths first.rest first.match (all_right known (prevs_in_path path) (joined (map prevs_in_path paths)) all))

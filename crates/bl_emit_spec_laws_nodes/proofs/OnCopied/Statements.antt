@@ -4,6 +4,8 @@ use Rattle.std.proofs.Common.{sym, ap, ◌∙◌, subst}
 use Rattle.std.proofs.lemmas.List.Elements.{All-head, All-tail}
 use Rattle.std.specs.List.{list_all}
 use Rattle.std.specs.Prelude.{slice_get}
+use Rattle.std.proofs.lemmas.Bool.{and_from}
+use Rattle.bl_tree.proofs.Basics.{and_first, and_second}
 use Rattle.bl_tree.specs.declared.place.Place.{Place}
 use Rattle.bl_tree.specs.declared.scalar.Scalar.{Scalar as ScalarType}
 use Rattle.bl_tree.specs.declared.tree.Arm.{Arm, fold-Arm, fold_out-Arm, out-Arm}
@@ -23,7 +25,6 @@ use Rattle.bl_tree.specs.Typing.{TypingContext, are_same, arguments_fit, arm_fit
 use Rattle.bl_tree.specs.Typing.{is_assignable, is_fixed, is_inhabited, is_outlet, is_procedure, is_truth, is_variable, kind_fits, outputs_of}
 use Rattle.bl_tree.specs.Typing.{return_fits, run_fits, stmt_fits, target_fits, type_of, type_of_path, types_match, var_at}
 use Rattle.bl_tree.proofs.StmtInduction.{Cases, Each, EachArm, EachBranch, induct, stmt}
-use Rattle.bl_eval.proofs.PassLemmas.{and_left, and_right, both}
 use Rattle.bl_graph_nodes.specs.Nodes.{ActAt, Arguments, CheckAt, DepthEndAt, DepthJoinAt, EnterAt, ForkAt, HeadAt, Node, PauseAt, ResumeAt}
 use Rattle.bl_graph_nodes.specs.Nodes.{StartAt, SurfaceEndAt, SurfaceJoinAt, TestAt, are_instant, arguments_of, is_instant}
 use Rattle.bl_graph_nodes.specs.Nodes.{nodes_in, nodes_in_each, nodes_of, where_so}
@@ -31,30 +32,11 @@ use Rattle.bl_graph_nodes.specs.Plain.{Act, Arm as PlainArm, Await, Block, Bodie
 use Rattle.bl_graph_nodes.specs.Plain.{Label, Plain, Position, Repeat, Run, Then, Until, When}
 use Rattle.bl_graph_nodes.specs.Plain.{While, arm_plain, block_at, block_from, bodies_from, branch_plain, else_at, if_with}
 use Rattle.bl_graph_nodes.specs.Plain.{inside, kind_plain, label_at, passed_one, place_of_test, plain_body, plain_stmt, stmt_plain}
-use Rattle.bl_machine_prevs.specs.Prevs.{
-  arm_prevs,
-  branch_prevs,
-  optional_prevs,
-  prevs_in,
-  prevs_in_arm,
-  prevs_in_branch,
-  prevs_in_expr,
-  prevs_in_path,
-  stmt_kind_prevs,
-  stmt_layer_prevs,
-  target_prevs,
-}
+use Rattle.bl_machine_prevs.specs.Prevs.{arm_prevs, branch_prevs, optional_prevs, prevs_in, prevs_in_arm, prevs_in_branch, prevs_in_expr, prevs_in_path}
+use Rattle.bl_machine_prevs.specs.Prevs.{stmt_kind_prevs, stmt_layer_prevs, target_prevs}
 use Rattle.bl_emit_acts_laws_simulation.specs.Encodes.{copied_in, copied_in_path}
 use Rattle.bl_emit_spec_laws_nodes.specs.Points.Nodes.{act_copied, copied_there}
-use Rattle.bl_emit_spec_laws_nodes.proofs.OnCopied.Expressions.{
-  Related,
-  all_left,
-  all_right,
-  expr_copied_so,
-  exprs_copied_so,
-  path_copied_so,
-  paths_copied_so,
-}
+use Rattle.bl_emit_spec_laws_nodes.proofs.OnCopied.Expressions.{Related, all_left, all_right, expr_copied_so, exprs_copied_so, path_copied_so, paths_copied_so}
 
 -- ---- expressions that must have a type
 
@@ -90,7 +72,7 @@ is_fine copied n = copied_there copied n && run_there copied n
 record Fine (copied : ℕ → Bool) (nodes : List Node) : Type 0 where
   all : list_all (is_fine copied) nodes ≡ true
 
-truth_fine : (b : Bool) → b ≡ true → (b && true) ≡ true
+pub truth_fine : (b : Bool) → b ≡ true → (b && true) ≡ true
 truth_fine true h = refl
 truth_fine false h = h
 
@@ -111,14 +93,14 @@ module _ (site : TypingContext) (known copied : ℕ → Bool) (related : Related
   nothing = record { all = refl }
 
   one_more : (n : Node) (nodes : List Node) → is_fine copied n ≡ true → Fine copied nodes → Fine copied (n ∷ nodes)
-  one_more n nodes own rest = record { all = both (is_fine copied n) (list_all (is_fine copied) nodes) own rest.all }
+  one_more n nodes own rest = record { all = and_from (is_fine copied n) (list_all (is_fine copied) nodes) own rest.all }
 
   appended : (ms ns : List Node) → list_all (is_fine copied) ms ≡ true → list_all (is_fine copied) ns ≡ true →
       list_all (is_fine copied) (ms ++ ns) ≡ true
   appended [] ns one other = other
   appended (m ∷ ms) ns one other =
-      both (is_fine copied m) (list_all (is_fine copied) (ms ++ ns)) (and_left (is_fine copied m) (list_all (is_fine copied) ms) one)
-      (appended ms ns (and_right (is_fine copied m) (list_all (is_fine copied) ms) one) other)
+      and_from (is_fine copied m) (list_all (is_fine copied) (ms ++ ns)) (and_first (is_fine copied m) (list_all (is_fine copied) ms) one)
+      (appended ms ns (and_second (is_fine copied m) (list_all (is_fine copied) ms) one) other)
 
   append_fine : (ms ns : List Node) → Fine copied ms → Fine copied ns → Fine copied (ms ++ ns)
   append_fine ms ns one other = record { all = appended ms ns one.all other.all }
@@ -143,9 +125,9 @@ module _ (site : TypingContext) (known copied : ℕ → Bool) (related : Related
   blocks_fine [] each fitted all k at = nothing
   blocks_fine (s ∷ body) each fitted all k at =
       append_fine (nodes_of (plain_stmt s (at ++ k ∷ []))) (nodes_in (block_from (map plain_stmt body) (suc k) at))
-      (All-head S s body each (and_left (fits site s) (all_of (map (fits site) body)) fitted)
+      (All-head S s body each (and_first (fits site s) (all_of (map (fits site) body)) fitted)
       (all_left known (prevs_in s) (joined (map prevs_in body)) all) (at ++ k ∷ []))
-      (blocks_fine body (All-tail S s body each) (and_right (fits site s) (all_of (map (fits site) body)) fitted)
+      (blocks_fine body (All-tail S s body each) (and_second (fits site s) (all_of (map (fits site) body)) fitted)
       (all_right known (prevs_in s) (joined (map prevs_in body)) all) (suc k) at)
 
   -- ---- arms
@@ -171,11 +153,11 @@ module _ (site : TypingContext) (known copied : ℕ → Bool) (related : Related
       subst FineArm
       (sym (fold_out-Arm (Place → Position → Plain) PlainArm PlainBranch (Position → Plain) kind_plain arm_plain branch_plain stmt_plain arm))
       (record {
-        test = truth_copied e (and_left (is_truth (type_of site e)) (all_of (map (fits site) body)) fits_so)
+        test = truth_copied e (and_first (is_truth (type_of site e)) (all_of (map (fits site) body)) fits_so)
             (all_left known (prevs_in_expr e) (joined (map prevs_in body)) known_so);
         body = λ at.
             blocks_fine body each
-            (and_right (is_truth (type_of site e)) (all_of (map (fits site) body)) fits_so)
+            (and_second (is_truth (type_of site e)) (all_of (map (fits site) body)) fits_so)
             (all_right known (prevs_in_expr e) (joined (map prevs_in body)) known_so) 0 at;
       })
 
@@ -187,9 +169,9 @@ module _ (site : TypingContext) (known copied : ℕ → Bool) (related : Related
       FineArms (map plain_arm arms)
   arms_fine [] each fitted all = tt
   arms_fine (arm ∷ arms) each fitted all = (
-    arm_fine arm (All-head OfArm arm arms each) (and_left (arm_fitted arm) (all_of (map arm_fitted arms)) fitted)
+    arm_fine arm (All-head OfArm arm arms each) (and_first (arm_fitted arm) (all_of (map arm_fitted arms)) fitted)
         (all_left known (prevs_in_arm arm) (joined (map prevs_in_arm arms)) all),
-    arms_fine arms (All-tail OfArm arm arms each) (and_right (arm_fitted arm) (all_of (map arm_fitted arms)) fitted)
+    arms_fine arms (All-tail OfArm arm arms each) (and_second (arm_fitted arm) (all_of (map arm_fitted arms)) fitted)
         (all_right known (prevs_in_arm arm) (joined (map prevs_in_arm arms)) all),
   )
 
@@ -247,10 +229,10 @@ module _ (site : TypingContext) (known copied : ℕ → Bool) (related : Related
   branches_fine [] each fitted all = tt
   branches_fine (branch ∷ branches) each fitted all = (
     branch_fine branch (All-head OfBranch branch branches each)
-        (and_left (branch_fitted branch) (all_of (map branch_fitted branches)) fitted)
+        (and_first (branch_fitted branch) (all_of (map branch_fitted branches)) fitted)
         (all_left known (prevs_in_branch branch) (joined (map prevs_in_branch branches)) all),
     branches_fine branches (All-tail OfBranch branch branches each)
-        (and_right (branch_fitted branch) (all_of (map branch_fitted branches)) fitted)
+        (and_second (branch_fitted branch) (all_of (map branch_fitted branches)) fitted)
         (all_right known (prevs_in_branch branch) (joined (map prevs_in_branch branches)) all),
   )
 
@@ -285,7 +267,7 @@ module _ (site : TypingContext) (known copied : ℕ → Bool) (related : Related
   declared_copied k (Some e) None fitted all = absurd (cc)
   declared_copied k (Some e) (Some var) fitted all =
       let typed = second_typed (Some var.ty) (type_of site e)
-      (and_right (is_variable var.role || is_fixed var.role) (are_same (Some var.ty) (type_of site e)) fitted) in
+      (and_second (is_variable var.role || is_fixed var.role) (are_same (Some var.ty) (type_of site e)) fitted) in
       expr_copied_so site known copied related e typed.0 typed.1 all
 
   returned_copied : (value : Option Expr) (result : Option ScalarType) → return_fits site value result ≡ true →
@@ -298,10 +280,10 @@ module _ (site : TypingContext) (known copied : ℕ → Bool) (related : Related
   assigned_copied : (path : Path) (e : Expr) → (is_assignable site path && are_same (type_of_path site path) (type_of site e)) ≡ true →
       Known (prevs_in_path path ++ prevs_in_expr e) → (copied_in_path copied path && copied_in copied e) ≡ true
   assigned_copied path e fitted all =
-      let same = and_right (is_assignable site path) (are_same (type_of_path site path) (type_of site e)) fitted in
+      let same = and_second (is_assignable site path) (are_same (type_of_path site path) (type_of site e)) fitted in
       let one = first_typed (type_of_path site path) (type_of site e) same in
       let two = second_typed (type_of_path site path) (type_of site e) same in
-      both (copied_in_path copied path) (copied_in copied e)
+      and_from (copied_in_path copied path) (copied_in copied e)
       (path_copied_so site known copied related path one.0 one.1 (all_left known (prevs_in_path path) (prevs_in_expr e) all))
       (expr_copied_so site known copied related e two.0 two.1 (all_right known (prevs_in_path path) (prevs_in_expr e) all))
 
@@ -314,26 +296,26 @@ module _ (site : TypingContext) (known copied : ℕ → Bool) (related : Related
       let ins = types_match (map (type_of site) inputs) (inputs_of unit) in
       let outs = types_match (map (type_of_path site) outputs) (outputs_of unit) in
       let lets = all_of (map (is_outlet site) outputs) in
-      both (all_of (map (copied_in copied) inputs)) (all_of (map (copied_in_path copied) outputs))
-      (exprs_copied_so site known copied related inputs (inputs_of unit) (and_left ins (outs && lets) fitted)
+      and_from (all_of (map (copied_in copied) inputs)) (all_of (map (copied_in_path copied) outputs))
+      (exprs_copied_so site known copied related inputs (inputs_of unit) (and_first ins (outs && lets) fitted)
       (all_left known (joined (map prevs_in_expr inputs)) (joined (map prevs_in_path outputs)) all))
-      (paths_copied_so site known copied related outputs (outputs_of unit) (and_left outs lets (and_right ins (outs && lets) fitted))
+      (paths_copied_so site known copied related outputs (outputs_of unit) (and_first outs lets (and_second ins (outs && lets) fitted))
       (all_right known (joined (map prevs_in_expr inputs)) (joined (map prevs_in_path outputs)) all))
 
   called_copied : (inputs : List Expr) (outputs : List Path) (callee : Option UnitDef) → call_fits site inputs outputs callee ≡ true →
       Known (joined (map prevs_in_expr inputs) ++ joined (map prevs_in_path outputs)) → arguments_copied inputs outputs ≡ true
   called_copied inputs outputs None fitted all = absurd (cc)
   called_copied inputs outputs (Some unit) fitted all =
-      arguments_so inputs outputs unit (and_right (is_procedure unit) (arguments_fit site inputs outputs unit) fitted) all
+      arguments_so inputs outputs unit (and_second (is_procedure unit) (arguments_fit site inputs outputs unit) fitted) all
 
   ran_copied : (target : Option Path) (inputs : List Expr) (outputs : List Path) (callee : Option UnitDef) →
       run_fits site target inputs outputs callee ≡ true →
       Known (joined (map prevs_in_expr inputs) ++ joined (map prevs_in_path outputs)) → arguments_copied inputs outputs ≡ true
   ran_copied target inputs outputs None fitted all = absurd (cc)
   ran_copied target inputs outputs (Some unit) fitted all =
-      let rest = and_right (is_activity site.kind && is_activity unit.kind)
+      let rest = and_second (is_activity site.kind && is_activity unit.kind)
       (target_fits site unit.result target && arguments_fit site inputs outputs unit) fitted in
-      arguments_so inputs outputs unit (and_right (target_fits site unit.result target) (arguments_fit site inputs outputs unit) rest) all
+      arguments_so inputs outputs unit (and_second (target_fits site unit.result target) (arguments_fit site inputs outputs unit) rest) all
 
   -- ---- all statements
 
@@ -424,7 +406,7 @@ module _ (site : TypingContext) (known copied : ℕ → Bool) (related : Related
 
     await_case : (e : Expr) → S (stmt place (StmtKind-F.Await e))
     await_case e fitted all at =
-        let truth = and_right (is_activity site.kind) (is_truth (type_of site e)) (rw (fold-roll-Stmt, fold-roll-StmtKind) at fitted) in
+        let truth = and_second (is_activity site.kind) (is_truth (type_of site e)) (rw (fold-roll-Stmt, fold-roll-StmtKind) at fitted) in
         let known_so : Known (prevs_in_expr e) = rw (fold-roll-Stmt, fold-roll-StmtKind) at all in
         as_fine _ _ (await_plain e at)
         (one_more (PauseAt (label_at at) place) (TestAt (label_at at) place e ∷ []) refl
@@ -446,22 +428,22 @@ module _ (site : TypingContext) (known copied : ℕ → Bool) (related : Related
     branching_case : (arms : List Arm) (other : List Stmt) → EachArm S arms → Each S other → S (stmt place (StmtKind-F.If arms other))
     branching_case arms other each others fitted all at =
         let parts = rw (fold-roll-Stmt, fold-roll-StmtKind) at fitted in
-        let some = and_left (is_inhabited (map arm_fitted arms)) (all_of (map arm_fitted arms) && all_of (map (fits site) other)) parts in
-        let more = and_right (is_inhabited (map arm_fitted arms)) (all_of (map arm_fitted arms) && all_of (map (fits site) other)) parts in
+        let some = and_first (is_inhabited (map arm_fitted arms)) (all_of (map arm_fitted arms) && all_of (map (fits site) other)) parts in
+        let more = and_second (is_inhabited (map arm_fitted arms)) (all_of (map arm_fitted arms) && all_of (map (fits site) other)) parts in
         let known_so : Known (joined (map prevs_in_arm arms) ++ joined (map prevs_in other)) =
         rw (fold-roll-Stmt, fold-roll-StmtKind) at all in
         as_fine _ _ (if_plain arms other at)
         (with_fine (label_at at) place (map plain_arm arms) (block_at (map plain_stmt other)) (some_there arm_fitted plain_arm arms some)
-        (arms_fine arms each (and_left (all_of (map arm_fitted arms)) (all_of (map (fits site) other)) more)
+        (arms_fine arms each (and_first (all_of (map arm_fitted arms)) (all_of (map (fits site) other)) more)
         (all_left known (joined (map prevs_in_arm arms)) (joined (map prevs_in other)) known_so))
-        (λ at. blocks_fine other others (and_right (all_of (map arm_fitted arms)) (all_of (map (fits site) other)) more)
+        (λ at. blocks_fine other others (and_second (all_of (map arm_fitted arms)) (all_of (map (fits site) other)) more)
         (all_right known (joined (map prevs_in_arm arms)) (joined (map prevs_in other)) known_so) 0 at))
 
     cobegin_case : (branches : List Branch) → EachBranch S branches → S (stmt place (StmtKind-F.Cobegin branches))
     cobegin_case branches each fitted all at =
         let parts = rw (fold-roll-Stmt, fold-roll-StmtKind) at fitted in
-        let fits_so = and_right (is_inhabited (map branch_fitted branches)) (all_of (map branch_fitted branches))
-        (and_right (is_activity site.kind) (is_inhabited (map branch_fitted branches) && all_of (map branch_fitted branches)) parts) in
+        let fits_so = and_second (is_inhabited (map branch_fitted branches)) (all_of (map branch_fitted branches))
+        (and_second (is_activity site.kind) (is_inhabited (map branch_fitted branches) && all_of (map branch_fitted branches)) parts) in
         let known_so : Known (joined (map prevs_in_branch branches)) = rw (fold-roll-Stmt, fold-roll-StmtKind) at all in
         let l : Label = label_at at in
         let bodies : Bodies = bodies_from (map plain_branch branches) 0 l in
@@ -475,7 +457,7 @@ module _ (site : TypingContext) (known copied : ℕ → Bool) (related : Related
 
     guarded_case : (guard : Guard) (e : Expr) (body : List Stmt) → Each S body → S (stmt place (StmtKind-F.When guard e body))
     guarded_case guard e body each fitted all at =
-        let parts = and_right (is_activity site.kind) (is_truth (type_of site e) && all_of (map (fits site) body))
+        let parts = and_second (is_activity site.kind) (is_truth (type_of site e) && all_of (map (fits site) body))
         (rw (fold-roll-Stmt, fold-roll-StmtKind) at fitted) in
         let known_so : Known (prevs_in_expr e ++ joined (map prevs_in body)) = rw (fold-roll-Stmt, fold-roll-StmtKind) at all in
         let l : Label = label_at at in
@@ -486,10 +468,10 @@ module _ (site : TypingContext) (known copied : ℕ → Bool) (related : Related
         (append_fine (where_so (are_instant inner) (SurfaceEndAt l place)) (CheckAt l place e ∷ DepthEndAt l place ∷ nodes_in inner)
         (where_fine (are_instant inner) (SurfaceEndAt l place) refl)
         (one_more (CheckAt l place e) (DepthEndAt l place ∷ nodes_in inner)
-        (truth_copied e (and_left (is_truth (type_of site e)) (all_of (map (fits site) body)) parts)
+        (truth_copied e (and_first (is_truth (type_of site e)) (all_of (map (fits site) body)) parts)
         (all_left known (prevs_in_expr e) (joined (map prevs_in body)) known_so))
         (one_more (DepthEndAt l place) (nodes_in inner) refl
-        (blocks_fine body each (and_right (is_truth (type_of site e)) (all_of (map (fits site) body)) parts)
+        (blocks_fine body each (and_second (is_truth (type_of site e)) (all_of (map (fits site) body)) parts)
         (all_right known (prevs_in_expr e) (joined (map prevs_in body)) known_so) 0 (inside l 0))))))
 
     repeat_case : (body : List Stmt) → Each S body → S (stmt place (StmtKind-F.Repeat body))
@@ -510,9 +492,9 @@ module _ (site : TypingContext) (known copied : ℕ → Bool) (related : Related
         as_fine _ _ (until_plain body e at)
         (one_more (HeadAt l place) (TestAt l place e ∷ nodes_in inner) refl
         (one_more (TestAt l place e) (nodes_in inner)
-        (truth_copied e (and_right (all_of (map (fits site) body)) (is_truth (type_of site e)) parts)
+        (truth_copied e (and_second (all_of (map (fits site) body)) (is_truth (type_of site e)) parts)
         (all_right known (joined (map prevs_in body)) (prevs_in_expr e) known_so))
-        (blocks_fine body each (and_left (all_of (map (fits site) body)) (is_truth (type_of site e)) parts)
+        (blocks_fine body each (and_first (all_of (map (fits site) body)) (is_truth (type_of site e)) parts)
         (all_left known (joined (map prevs_in body)) (prevs_in_expr e) known_so) 0 (inside l 0))))
 
     while_case : (e : Expr) (body : List Stmt) → Each S body → S (stmt place (StmtKind-F.While e body))
@@ -523,9 +505,9 @@ module _ (site : TypingContext) (known copied : ℕ → Bool) (related : Related
         let inner : Block = block_at (map plain_stmt body) (inside l 0) in
         as_fine _ _ (while_plain e body at)
         (one_more (TestAt l place e) (nodes_in inner)
-        (truth_copied e (and_left (is_truth (type_of site e)) (all_of (map (fits site) body)) parts)
+        (truth_copied e (and_first (is_truth (type_of site e)) (all_of (map (fits site) body)) parts)
         (all_left known (prevs_in_expr e) (joined (map prevs_in body)) known_so))
-        (blocks_fine body each (and_right (is_truth (type_of site e)) (all_of (map (fits site) body)) parts)
+        (blocks_fine body each (and_second (is_truth (type_of site e)) (all_of (map (fits site) body)) parts)
         (all_right known (prevs_in_expr e) (joined (map prevs_in body)) known_so) 0 (inside l 0)))
 
   cases : Cases S

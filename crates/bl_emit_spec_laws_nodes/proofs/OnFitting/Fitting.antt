@@ -3,6 +3,8 @@ use Rattle.std.proofs.Common.{◌≡◌, ℕ, suc, Bool, true, false, not, ◌&&
 use Rattle.std.proofs.Common.{sym, ap, ◌∙◌, subst}
 use Rattle.std.proofs.lemmas.List.Elements.{All-head, All-tail}
 use Rattle.std.specs.List.{list_all}
+use Rattle.std.proofs.lemmas.Bool.{and_from}
+use Rattle.bl_tree.proofs.Basics.{and_first, and_second, both_empty}
 use Rattle.bl_tree.specs.declared.place.Place.{Place}
 use Rattle.bl_tree.specs.declared.tree.Arm.{Arm, fold-Arm, fold_out-Arm, out-Arm}
 use Rattle.bl_tree.specs.declared.tree.Branch.{Branch, fold-Branch, fold_out-Branch, out-Branch}
@@ -17,7 +19,6 @@ use Rattle.bl_tree.specs.Returns.{is_return_kind}
 use Rattle.bl_tree.specs.Typing.{TypingContext, arm_fits, branch_fits, fits, is_activity, is_inhabited, is_truth, kind_fits, stmt_fits, type_of}
 use Rattle.bl_tree.proofs.StmtInduction.{Cases, Each, EachArm, EachBranch, induct, stmt}
 use Rattle.bl_effects.specs.Rules.{Aliased, aliases_in, aliases_of, arm_aliases, branch_aliases, kind_aliases, stmt_aliases}
-use Rattle.bl_eval.proofs.PassLemmas.{and_left, and_right, both}
 use Rattle.bl_graph_nodes.specs.Nodes.{ActAt, CheckAt, DepthEndAt, DepthJoinAt, EnterAt, ForkAt, HeadAt, Node, PauseAt, ResumeAt}
 use Rattle.bl_graph_nodes.specs.Nodes.{StartAt, SurfaceEndAt, SurfaceJoinAt, TestAt, are_instant, arguments_of, is_instant}
 use Rattle.bl_graph_nodes.specs.Nodes.{nodes_in, nodes_in_each, nodes_of, where_so}
@@ -28,6 +29,7 @@ use Rattle.bl_graph_nodes.specs.Plain.{inside, kind_plain, label_at, passed_one,
 use Rattle.bl_emit_acts_laws_simulation.specs.Acts.{is_act}
 use Rattle.bl_emit_acts_laws_simulation.specs.Laws.{overlaps_in}
 use Rattle.bl_emit_spec_laws_nodes.specs.Points.Nodes.{fits_there}
+use Rattle.bl_emit_spec_laws_nodes.proofs.OnCopied.Statements.{truth_fine}
 
 -- whether nothing overlaps in the arguments of what is done at the node
 abbrev pub apart_there : Node → Bool
@@ -52,14 +54,14 @@ nothing : (site : TypingContext) → Fine site []
 nothing site = record { all = refl }
 
 one_more : (site : TypingContext) (n : Node) (nodes : List Node) → is_fine site n ≡ true → Fine site nodes → Fine site (n ∷ nodes)
-one_more site n nodes own rest = record { all = both (is_fine site n) (list_all (is_fine site) nodes) own rest.all }
+one_more site n nodes own rest = record { all = and_from (is_fine site n) (list_all (is_fine site) nodes) own rest.all }
 
 appended : (site : TypingContext) (ms ns : List Node) → list_all (is_fine site) ms ≡ true → list_all (is_fine site) ns ≡ true →
     list_all (is_fine site) (ms ++ ns) ≡ true
 appended site [] ns one other = other
 appended site (m ∷ ms) ns one other =
-    both (is_fine site m) (list_all (is_fine site) (ms ++ ns)) (and_left (is_fine site m) (list_all (is_fine site) ms) one)
-    (appended site ms ns (and_right (is_fine site m) (list_all (is_fine site) ms) one) other)
+    and_from (is_fine site m) (list_all (is_fine site) (ms ++ ns)) (and_first (is_fine site m) (list_all (is_fine site) ms) one)
+    (appended site ms ns (and_second (is_fine site m) (list_all (is_fine site) ms) one) other)
 
 append_fine : (site : TypingContext) (ms ns : List Node) → Fine site ms → Fine site ns → Fine site (ms ++ ns)
 append_fine site ms ns one other = record { all = appended site ms ns one.all other.all }
@@ -67,14 +69,6 @@ append_fine site ms ns one other = record { all = appended site ms ns one.all ot
 where_fine : (site : TypingContext) (test : Bool) (n : Node) → is_fine site n ≡ true → Fine site (where_so test n)
 where_fine site true n own = one_more site n [] own (nothing site)
 where_fine site false n own = nothing site
-
-truth_fine : (b : Bool) → b ≡ true → (b && true) ≡ true
-truth_fine true h = refl
-truth_fine false h = h
-
-none_in_both : {A : Type 0} (a b : List A) → a ++ b ≡ [] → (a ≡ []) × (b ≡ [])
-none_in_both [] b h = (refl, h)
-none_in_both (x ∷ a) b h = absurd (cc)
 
 abbrev plain_arm : Arm → PlainArm
 plain_arm = fold-Arm (Place → Position → Plain) PlainArm PlainBranch (Position → Plain) kind_plain arm_plain branch_plain stmt_plain
@@ -96,10 +90,10 @@ module _ (site : TypingContext) where
       (at : Position) → FineBlock site (block_from (map plain_stmt body) k at)
   blocks_fine [] each fitted apart k at = nothing site
   blocks_fine (s ∷ body) each fitted apart k at =
-      let none = none_in_both (aliases_in s) (joined (map aliases_in body)) apart in
+      let none = both_empty (aliases_in s) (joined (map aliases_in body)) apart in
       append_fine site (nodes_of (plain_stmt s (at ++ k ∷ []))) (nodes_in (block_from (map plain_stmt body) (suc k) at))
-      (All-head S s body each (and_left (fits site s) (all_of (map (fits site) body)) fitted) none.0 (at ++ k ∷ []))
-      (blocks_fine body (All-tail S s body each) (and_right (fits site s) (all_of (map (fits site) body)) fitted) none.1 (suc k) at)
+      (All-head S s body each (and_first (fits site s) (all_of (map (fits site) body)) fitted) none.0 (at ++ k ∷ []))
+      (blocks_fine body (All-tail S s body each) (and_second (fits site s) (all_of (map (fits site) body)) fitted) none.1 (suc k) at)
 
   -- ---- arms
 
@@ -122,10 +116,10 @@ module _ (site : TypingContext) where
       subst FineArm
       (sym (fold_out-Arm (Place → Position → Plain) PlainArm PlainBranch (Position → Plain) kind_plain arm_plain branch_plain stmt_plain arm))
       (record {
-        test = and_left (is_truth (type_of site (out-Arm arm).test)) (all_of (map (fits site) (out-Arm arm).body)) fits_so;
+        test = and_first (is_truth (type_of site (out-Arm arm).test)) (all_of (map (fits site) (out-Arm arm).body)) fits_so;
         body = λ at.
             blocks_fine (out-Arm arm).body each
-            (and_right (is_truth (type_of site (out-Arm arm).test)) (all_of (map (fits site) (out-Arm arm).body)) fits_so) none 0 at;
+            (and_second (is_truth (type_of site (out-Arm arm).test)) (all_of (map (fits site) (out-Arm arm).body)) fits_so) none 0 at;
       })
 
   abbrev FineArms : List PlainArm → Type 0
@@ -136,9 +130,9 @@ module _ (site : TypingContext) where
       FineArms (map plain_arm arms)
   arms_fine [] each fitted apart = tt
   arms_fine (arm ∷ arms) each fitted apart =
-      let none = none_in_both (aliased_arm arm) (joined (map aliased_arm arms)) apart in (
-        arm_fine arm (All-head OfArm arm arms each) (and_left (arm_fitted arm) (all_of (map arm_fitted arms)) fitted) none.0,
-        arms_fine arms (All-tail OfArm arm arms each) (and_right (arm_fitted arm) (all_of (map arm_fitted arms)) fitted) none.1,
+      let none = both_empty (aliased_arm arm) (joined (map aliased_arm arms)) apart in (
+        arm_fine arm (All-head OfArm arm arms each) (and_first (arm_fitted arm) (all_of (map arm_fitted arms)) fitted) none.0,
+        arms_fine arms (All-tail OfArm arm arms each) (and_second (arm_fitted arm) (all_of (map arm_fitted arms)) fitted) none.1,
       )
 
   if_fine : (l : Label) (at : Place) (e : Expr) (body other : Block) → is_truth (type_of site e) ≡ true → FineBlock site body →
@@ -195,11 +189,11 @@ module _ (site : TypingContext) where
       joined (map aliased_branch branches) ≡ [] → FineBranches (map plain_branch branches)
   branches_fine [] each fitted apart = tt
   branches_fine (branch ∷ branches) each fitted apart =
-      let none = none_in_both (aliased_branch branch) (joined (map aliased_branch branches)) apart in (
+      let none = both_empty (aliased_branch branch) (joined (map aliased_branch branches)) apart in (
         branch_fine branch (All-head OfBranch branch branches each)
-            (and_left (branch_fitted branch) (all_of (map branch_fitted branches)) fitted) none.0,
+            (and_first (branch_fitted branch) (all_of (map branch_fitted branches)) fitted) none.0,
         branches_fine branches (All-tail OfBranch branch branches each)
-            (and_right (branch_fitted branch) (all_of (map branch_fitted branches)) fitted) none.1,
+            (and_second (branch_fitted branch) (all_of (map branch_fitted branches)) fitted) none.1,
       )
 
   bodies_fine : (branches : List PlainBranch) (k : ℕ) (l : Label) → FineBranches branches →
@@ -221,9 +215,9 @@ module _ (site : TypingContext) where
       let s = stmt place layer in
       let kind = kind_made place layer in
       one_more site (ActAt l s) []
-      (both (fits site s && (is_act (out-StmtKind (out-Stmt s).what) || is_return_kind (out-StmtKind (out-Stmt s).what)))
+      (and_from (fits site s && (is_act (out-StmtKind (out-Stmt s).what) || is_return_kind (out-StmtKind (out-Stmt s).what)))
       (not (is_inhabited (overlaps_in (out-StmtKind (out-Stmt s).what))))
-      (both (fits site s) (is_act (out-StmtKind (out-Stmt s).what) || is_return_kind (out-StmtKind (out-Stmt s).what)) fitted
+      (and_from (fits site s) (is_act (out-StmtKind (out-Stmt s).what) || is_return_kind (out-StmtKind (out-Stmt s).what)) fitted
       (ap (λ layer. is_act layer || is_return_kind layer) kind ∙ act)) (ap (λ layer. not (is_inhabited (overlaps_in layer))) kind ∙ apart))
       (nothing site)
 
@@ -284,7 +278,7 @@ module _ (site : TypingContext) where
 
     await_case : (e : Expr) → S (stmt place (StmtKind-F.Await e))
     await_case e fitted apart at =
-        let truth = and_right (is_activity site.kind) (is_truth (type_of site e)) (rw (fold-roll-Stmt, fold-roll-StmtKind) at fitted) in
+        let truth = and_second (is_activity site.kind) (is_truth (type_of site e)) (rw (fold-roll-Stmt, fold-roll-StmtKind) at fitted) in
         as_fine _ _ (await_plain e at)
         (one_more site (PauseAt (label_at at) place) (TestAt (label_at at) place e ∷ []) refl
         (one_more site (TestAt (label_at at) place e) [] (truth_fine (is_truth (type_of site e)) truth) (nothing site)))
@@ -299,20 +293,20 @@ module _ (site : TypingContext) where
     branching_case : (arms : List Arm) (other : List Stmt) → EachArm S arms → Each S other → S (stmt place (StmtKind-F.If arms other))
     branching_case arms other each others fitted apart at =
         let parts = rw (fold-roll-Stmt, fold-roll-StmtKind) at fitted in
-        let some = and_left (is_inhabited (map arm_fitted arms)) (all_of (map arm_fitted arms) && all_of (map (fits site) other)) parts in
-        let more = and_right (is_inhabited (map arm_fitted arms)) (all_of (map arm_fitted arms) && all_of (map (fits site) other)) parts in
-        let none = none_in_both (joined (map aliased_arm arms)) (joined (map aliases_in other))
+        let some = and_first (is_inhabited (map arm_fitted arms)) (all_of (map arm_fitted arms) && all_of (map (fits site) other)) parts in
+        let more = and_second (is_inhabited (map arm_fitted arms)) (all_of (map arm_fitted arms) && all_of (map (fits site) other)) parts in
+        let none = both_empty (joined (map aliased_arm arms)) (joined (map aliases_in other))
         (rw (fold-roll-Stmt, fold-roll-StmtKind) at apart) in
         as_fine _ _ (if_plain arms other at)
         (with_fine (label_at at) place (map plain_arm arms) (block_at (map plain_stmt other)) (some_there arm_fitted plain_arm arms some)
-        (arms_fine arms each (and_left (all_of (map arm_fitted arms)) (all_of (map (fits site) other)) more) none.0)
-        (λ at. blocks_fine other others (and_right (all_of (map arm_fitted arms)) (all_of (map (fits site) other)) more) none.1 0 at))
+        (arms_fine arms each (and_first (all_of (map arm_fitted arms)) (all_of (map (fits site) other)) more) none.0)
+        (λ at. blocks_fine other others (and_second (all_of (map arm_fitted arms)) (all_of (map (fits site) other)) more) none.1 0 at))
 
     cobegin_case : (branches : List Branch) → EachBranch S branches → S (stmt place (StmtKind-F.Cobegin branches))
     cobegin_case branches each fitted apart at =
         let parts = rw (fold-roll-Stmt, fold-roll-StmtKind) at fitted in
-        let all = and_right (is_inhabited (map branch_fitted branches)) (all_of (map branch_fitted branches))
-        (and_right (is_activity site.kind) (is_inhabited (map branch_fitted branches) && all_of (map branch_fitted branches)) parts) in
+        let all = and_second (is_inhabited (map branch_fitted branches)) (all_of (map branch_fitted branches))
+        (and_second (is_activity site.kind) (is_inhabited (map branch_fitted branches) && all_of (map branch_fitted branches)) parts) in
         let none : joined (map aliased_branch branches) ≡ [] = rw (fold-roll-Stmt, fold-roll-StmtKind) at apart in
         let l : Label = label_at at in
         let bodies : Bodies = bodies_from (map plain_branch branches) 0 l in
@@ -326,7 +320,7 @@ module _ (site : TypingContext) where
 
     guarded_case : (guard : Guard) (e : Expr) (body : List Stmt) → Each S body → S (stmt place (StmtKind-F.When guard e body))
     guarded_case guard e body each fitted apart at =
-        let parts = and_right (is_activity site.kind) (is_truth (type_of site e) && all_of (map (fits site) body))
+        let parts = and_second (is_activity site.kind) (is_truth (type_of site e) && all_of (map (fits site) body))
         (rw (fold-roll-Stmt, fold-roll-StmtKind) at fitted) in
         let none : joined (map aliases_in body) ≡ [] = rw (fold-roll-Stmt, fold-roll-StmtKind) at apart in
         let l : Label = label_at at in
@@ -337,9 +331,9 @@ module _ (site : TypingContext) where
         (append_fine site (where_so (are_instant inner) (SurfaceEndAt l place)) (CheckAt l place e ∷ DepthEndAt l place ∷ nodes_in inner)
         (where_fine site (are_instant inner) (SurfaceEndAt l place) refl)
         (one_more site (CheckAt l place e) (DepthEndAt l place ∷ nodes_in inner)
-        (truth_fine (is_truth (type_of site e)) (and_left (is_truth (type_of site e)) (all_of (map (fits site) body)) parts))
+        (truth_fine (is_truth (type_of site e)) (and_first (is_truth (type_of site e)) (all_of (map (fits site) body)) parts))
         (one_more site (DepthEndAt l place) (nodes_in inner) refl
-        (blocks_fine body each (and_right (is_truth (type_of site e)) (all_of (map (fits site) body)) parts) none 0 (inside l 0))))))
+        (blocks_fine body each (and_second (is_truth (type_of site e)) (all_of (map (fits site) body)) parts) none 0 (inside l 0))))))
 
     repeat_case : (body : List Stmt) → Each S body → S (stmt place (StmtKind-F.Repeat body))
     repeat_case body each fitted apart at =
@@ -359,8 +353,8 @@ module _ (site : TypingContext) where
         as_fine _ _ (until_plain body e at)
         (one_more site (HeadAt l place) (TestAt l place e ∷ nodes_in inner) refl
         (one_more site (TestAt l place e) (nodes_in inner)
-        (truth_fine (is_truth (type_of site e)) (and_right (all_of (map (fits site) body)) (is_truth (type_of site e)) parts))
-        (blocks_fine body each (and_left (all_of (map (fits site) body)) (is_truth (type_of site e)) parts) none 0 (inside l 0))))
+        (truth_fine (is_truth (type_of site e)) (and_second (all_of (map (fits site) body)) (is_truth (type_of site e)) parts))
+        (blocks_fine body each (and_first (all_of (map (fits site) body)) (is_truth (type_of site e)) parts) none 0 (inside l 0))))
 
     while_case : (e : Expr) (body : List Stmt) → Each S body → S (stmt place (StmtKind-F.While e body))
     while_case e body each fitted apart at =
@@ -370,8 +364,8 @@ module _ (site : TypingContext) where
         let inner : Block = block_at (map plain_stmt body) (inside l 0) in
         as_fine _ _ (while_plain e body at)
         (one_more site (TestAt l place e) (nodes_in inner)
-        (truth_fine (is_truth (type_of site e)) (and_left (is_truth (type_of site e)) (all_of (map (fits site) body)) parts))
-        (blocks_fine body each (and_right (is_truth (type_of site e)) (all_of (map (fits site) body)) parts) none 0 (inside l 0)))
+        (truth_fine (is_truth (type_of site e)) (and_first (is_truth (type_of site e)) (all_of (map (fits site) body)) parts))
+        (blocks_fine body each (and_second (is_truth (type_of site e)) (all_of (map (fits site) body)) parts) none 0 (inside l 0)))
 
     call_case : (f : ℕ) (inputs : List Expr) (outputs : List Path) → S (stmt place (StmtKind-F.Call f inputs outputs))
     call_case f inputs outputs fitted apart at =

@@ -1,74 +1,34 @@
 -- The laws of a whole program.
-use Rattle.std.proofs.Common.{◌≡◌, ℕ, zero, suc, ◌<◌, arith, Bool, true, not, ◌&&◌, List}
-use Rattle.std.proofs.Common.{[], ◌∷◌, ◌++◌, Contains, map, take, length}
-use Rattle.std.proofs.Common.{Some, refl, sym, subst, append_assoc}
-use Rattle.std.proofs.lemmas.List.{append-nil}
+use Rattle.std.proofs.Common.{◌≡◌, ℕ, zero, suc, ◌<◌, arith, true, not, ◌&&◌, List}
+use Rattle.std.proofs.Common.{[], ◌∷◌, ◌++◌, Contains, map, take}
+use Rattle.std.proofs.Common.{Some, refl, sym, subst}
 use Rattle.std.proofs.lemmas.Option.{same_Some}
 use Rattle.std.specs.List.{list_all}
 use Rattle.std.specs.Prelude.{slice_get}
-use Rattle.bl_tree.specs.declared.tree.Stmt.{Stmt, out-Stmt}
+use Rattle.bl_tree.proofs.Basics.{and_first, and_second, contains_at}
+use Rattle.bl_tree.specs.declared.tree.Stmt.{out-Stmt}
 use Rattle.bl_tree.specs.declared.tree.StmtKind.{out-StmtKind}
 use Rattle.bl_tree.specs.declared.tree.StructDef.{StructDef}
 use Rattle.bl_tree.specs.declared.tree.Unit.{Unit as UnitDef}
-use Rattle.bl_tree.specs.Apart.{is_apart}
-use Rattle.bl_tree.specs.Depths.{is_shallow}
-use Rattle.bl_tree.specs.Program.{IsWellTyped, names_of, parameters_of, roles_stand, unit_stands, units_stand_after}
-use Rattle.bl_tree.specs.Reduce.{all_of, joined}
-use Rattle.bl_tree.specs.Returns.{unit_returns}
-use Rattle.bl_tree.specs.Types.{type_stands}
-use Rattle.bl_tree.specs.Typing.{TypingContext, fits, is_inhabited, site_of}
-use Rattle.bl_tree.specs.Words.{are_distinct, is_name}
+use Rattle.bl_tree.specs.Program.{IsWellTyped}
+use Rattle.bl_tree.specs.Reduce.{joined}
+use Rattle.bl_tree.specs.Typing.{TypingContext, is_inhabited, site_of}
 use Rattle.bl_tree.specs.declared.rule.Rule.TheVariants as rule
 use Rattle.bl_effects.specs.Rules.{Aliased, Passes, aliases_in}
-use Rattle.bl_eval.proofs.PassLemmas.{and_left, and_right, both}
 use Rattle.bl_graph_nodes.specs.Nodes.{ActAt, Node, nodes_in}
 use Rattle.bl_graph_nodes.specs.Plain.{plain_body}
 use Rattle.bl_emit_acts_laws_simulation.specs.Laws.{overlaps_in}
 use Rattle.bl_emit_spec_laws_nodes.specs.Points.Nodes.{fits_there}
 use Rattle.bl_emit_spec_laws_nodes.specs.Fitting.{CallsApart, NodesFit}
 use Rattle.bl_emit_spec_laws_nodes.proofs.OnFitting.Fitting.{apart_there, body_fine, is_fine}
+use Rattle.bl_eval.proofs.UnitFits.{unit_at}
+use Rattle.bl_machine_laws.proofs.OnRests.Whole.{body_fits}
 
 -- ---- units
 
-unit_after : (structs : List StructDef) (earlier units : List UnitDef) (k : ℕ) (unit : UnitDef) →
-    units_stand_after structs earlier units ≡ true → slice_get units k ≡ Some unit → unit_stands structs (earlier ++ take k units) unit ≡ true
-unit_after structs earlier [] k unit stand there = absurd (cc)
-unit_after structs earlier (first ∷ units) zero unit stand there =
-    subst (λ earlier. unit_stands structs earlier unit ≡ true) (sym (append-nil earlier))
-    (subst (λ unit. unit_stands structs earlier unit ≡ true) (same_Some first unit there)
-    (and_left (unit_stands structs earlier first) (units_stand_after structs (earlier ++ first ∷ []) units) stand))
-unit_after structs earlier (first ∷ units) (suc k) unit stand there =
-    subst (λ earlier. unit_stands structs earlier unit ≡ true) (append_assoc earlier (first ∷ []) (take k units))
-    (unit_after structs (earlier ++ first ∷ []) units k unit
-    (and_right (unit_stands structs earlier first) (units_stand_after structs (earlier ++ first ∷ []) units) stand) there)
-
-all_listed : (test : Stmt → Bool) (body : List Stmt) → list_all test body ≡ true → all_of (map test body) ≡ true
-all_listed test [] all = refl
-all_listed test (s ∷ body) all =
-    both (test s) (all_of (map test body)) (and_left (test s) (list_all test body) all)
-    (all_listed test body (and_right (test s) (list_all test body) all))
-
-body_fits : (structs : List StructDef) (earlier : List UnitDef) (unit : UnitDef) → unit_stands structs earlier unit ≡ true →
-    all_of (map (fits (site_of structs earlier unit)) unit.body) ≡ true
-body_fits structs earlier unit stands =
-    let last : Bool = unit_returns unit && (is_shallow 200 unit.body && list_all is_apart unit.body) in
-    let fitted : Bool = list_all (fits (site_of structs earlier unit)) unit.body in
-    let typed : Bool = list_all (λ var. type_stands (length structs) var.ty) unit.vars in
-    let named : Bool = roles_stand unit && (list_all is_name (names_of unit.vars) && are_distinct (names_of (parameters_of unit))) in
-    all_listed (fits (site_of structs earlier unit)) unit.body
-    (and_left fitted last (and_right typed (fitted && last) (and_right named (typed && (fitted && last)) stands)))
-
 -- ---- rule Alias
 
-index_there : {A : Type 0} (xs : List A) (k : ℕ) (x : A) → slice_get xs k ≡ Some x → Contains xs x
-index_there [] k x there = absurd (cc)
-index_there (y ∷ xs) zero x there = (0, omega arith, same_Some y x there)
-index_there (y ∷ xs) (suc k) x there =
-    let found = index_there xs k x there in
-    let less : found.0 < length xs = found.1 in
-    (suc found.0, omega (arith, less), found.2)
-
-none_overlap : (units : List UnitDef) (k : ℕ) (unit : UnitDef) → Passes units → slice_get units k ≡ Some unit →
+pub none_overlap : (units : List UnitDef) (k : ℕ) (unit : UnitDef) → Passes units → slice_get units k ≡ Some unit →
     joined (map aliases_in unit.body) ≡ []
 none_overlap units k unit passes there = by (joined (map aliases_in unit.body)) refl
   where
@@ -78,7 +38,7 @@ none_overlap units k unit passes there = by (joined (map aliases_in unit.body)) 
         absurd (passes rule.Alias one.at (one.also ∷ [])
         (record {
           unit = unit;
-          is_there = index_there units k unit there;
+          is_there = contains_at units k unit there;
           aliased = one;
           fails = subst (λ (all : List Aliased). Contains all one) (sym is) (0, omega arith, refl);
           at_one = refl;
@@ -91,9 +51,9 @@ all_at : (site : TypingContext) (nodes : List Node) (position : ℕ) (n : Node) 
     is_fine site n ≡ true
 all_at site [] position n all there = absurd (cc)
 all_at site (first ∷ nodes) zero n all there =
-    subst (λ n. is_fine site n ≡ true) (same_Some first n there) (and_left (is_fine site first) (list_all (is_fine site) nodes) all)
+    subst (λ n. is_fine site n ≡ true) (same_Some first n there) (and_first (is_fine site first) (list_all (is_fine site) nodes) all)
 all_at site (first ∷ nodes) (suc position) n all there =
-    all_at site nodes position n (and_right (is_fine site first) (list_all (is_fine site) nodes) all) there
+    all_at site nodes position n (and_second (is_fine site first) (list_all (is_fine site) nodes) all) there
 
 node_fine : (structs : List StructDef) (units : List UnitDef) (entry k position : ℕ) (unit : UnitDef) (n : Node) → IsWellTyped structs units entry →
     Passes units → slice_get units k ≡ Some unit → slice_get (nodes_in (plain_body unit.body)) position ≡ Some n →
@@ -101,13 +61,13 @@ node_fine : (structs : List StructDef) (units : List UnitDef) (entry k position 
 node_fine structs units entry k position unit n keeps passes there node =
     let site = site_of structs (take k units) unit in
     all_at site (nodes_in (plain_body unit.body)) position n
-    (body_fine site unit.body (body_fits structs (take k units) unit (unit_after structs [] units k unit keeps.units_stand there))
+    (body_fine site unit.body (body_fits structs (take k units) unit (unit_at structs [] units k unit keeps.units_stand there))
     (none_overlap units k unit passes there)) node
 
 pub nodes_fit : (structs : List StructDef) (units : List UnitDef) (entry : ℕ) → NodesFit structs units entry
 nodes_fit structs units entry k position unit n keeps passes there node =
     let site = site_of structs (take k units) unit in
-    and_left (fits_there site n) (apart_there n) (node_fine structs units entry k position unit n keeps passes there node)
+    and_first (fits_there site n) (apart_there n) (node_fine structs units entry k position unit n keeps passes there node)
 
 nothing_there : {A : Type 0} (xs : List A) → not (is_inhabited xs) ≡ true → xs ≡ []
 nothing_there [] h = refl
@@ -117,5 +77,5 @@ pub nodes_apart : (structs : List StructDef) (units : List UnitDef) (entry : ℕ
 nodes_apart structs units entry keeps passes k position unit l s there node =
     let site = site_of structs (take k units) unit in
     nothing_there (overlaps_in (out-StmtKind (out-Stmt s).what))
-    (and_right (fits_there site (ActAt l s)) (apart_there (ActAt l s))
+    (and_second (fits_there site (ActAt l s)) (apart_there (ActAt l s))
     (node_fine structs units entry k position unit (ActAt l s) keeps passes there node))

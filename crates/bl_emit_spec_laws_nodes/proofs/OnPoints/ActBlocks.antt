@@ -2,6 +2,8 @@
 use Rattle.std.proofs.Common.{◌≡◌, ℕ, Bool, true, false, List, ◌++◌, Some, None, sym, ap, ◌∙◌, subst}
 use Rattle.std.specs.Prelude.{nat_eq, slice_get, take}
 use Rattle.std.specs.List.{list_any}
+use Rattle.std.proofs.lemmas.Bool.{false_from_ne_true}
+use Rattle.bl_tree.proofs.Basics.{true_not_false}
 use Rattle.bl_tree.specs.declared.tree.Stmt.{out-Stmt}
 use Rattle.bl_tree.specs.declared.tree.StmtKind.{out-StmtKind}
 use Rattle.bl_tree.specs.declared.tree.StructDef.{StructDef}
@@ -40,7 +42,8 @@ use Rattle.bl_emit_spec_laws_nodes.proofs.OnPoints.ActNodes.{act_stands, act_sto
 use Rattle.bl_emit_spec_laws_nodes.proofs.OnPoints.ActNodes.{append_goes, append_traps, no_return, recopied_is}
 use Rattle.bl_emit_spec_laws_nodes.proofs.OnPoints.Besides.{site_is}
 use Rattle.bl_emit_spec_laws_nodes.proofs.OnPoints.Shown.{ends_true}
-use Rattle.bl_emit_spec_laws_nodes.proofs.OnPoints.Silent.{comes_as, either, no_such, not_so, over_after}
+use Rattle.bl_emit_spec_laws_nodes.proofs.OnPoints.Silent.{comes_as, over_after}
+use Rattle.bl_emit_acts_laws_simulation.proofs.Begun.{or_other}
 
 -- what is left where something was done that answers true
 pub as_left : (w : Setting) (activities : Activities) (i : ℕ) (unit : UnitDef) (scope : Scope) (r : Registers) (rule : Transition) (here : Memory)
@@ -97,9 +100,9 @@ act_nodes_simulate stand apart keep structs units entry come machine activities 
       let no_ret : is_return_node rule.node ≡ false = ap is_return_node n_is ∙ no_return layer is in
       let told : ResultTold unit i scope left (all_changed number rule.on_true r) mid =
       λ value over one at. stood.result value
-      (either r.over (list_any ends_body rule.on_true) (over_after number rule.on_true r over)
-      (not_so (list_any ends_body rule.on_true)
-      (λ ending. no_such (sym (ends_true activities units ends i unit w rule there there_unit midway.function.active one ending) ∙ no_ret)))) one at in
+      (or_other r.over (list_any ends_body rule.on_true) (over_after number rule.on_true r over)
+      (false_from_ne_true (list_any ends_body rule.on_true)
+      (λ ending. true_not_false (sym (ends_true activities units ends i unit w rule there there_unit midway.function.active one ending) ∙ no_ret)))) one at in
       let changed =
       stand structs units entry machine activities i unit scope frames left after_copies r mid rule.on_true midway.compiled midway.function
       midway.is_there

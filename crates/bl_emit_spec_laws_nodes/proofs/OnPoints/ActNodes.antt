@@ -4,6 +4,7 @@ use Rattle.std.proofs.Common.{take, Option, Some, None, refl, sym, ap}
 use Rattle.std.proofs.Common.{◌∙◌, subst}
 use Rattle.std.proofs.lemmas.Option.{same_Some}
 use Rattle.std.specs.Prelude.{option_and_then, option_map, slice_get, unwrap_or}
+use Rattle.bl_tree.proofs.Basics.{and_first}
 use Rattle.bl_tree.specs.declared.c.CStmt.{CStmt}
 use Rattle.bl_tree.specs.declared.place.Place.{Place}
 use Rattle.bl_tree.specs.declared.tree.Arm.{Arm}
@@ -18,24 +19,8 @@ use Rattle.bl_tree.specs.declared.value.Value.{Value}
 use Rattle.bl_tree.specs.Program.{IsWellTyped}
 use Rattle.bl_tree.specs.Returns.{is_return_kind}
 use Rattle.bl_tree.specs.Typing.{TypingContext, fits, site_of, var_at}
-use Rattle.bl_graph_nodes.specs.Nodes.{
-  ActAt,
-  Arguments,
-  CheckAt,
-  DepthEndAt,
-  DepthJoinAt,
-  EnterAt,
-  ForkAt,
-  HeadAt,
-  Node,
-  PauseAt,
-  ResumeAt,
-  StartAt,
-  SurfaceEndAt,
-  SurfaceJoinAt,
-  TestAt,
-  nodes_in,
-}
+use Rattle.bl_graph_nodes.specs.Nodes.{ActAt, Arguments, CheckAt, DepthEndAt, DepthJoinAt, EnterAt, ForkAt, HeadAt, Node, PauseAt, ResumeAt, StartAt}
+use Rattle.bl_graph_nodes.specs.Nodes.{SurfaceEndAt, SurfaceJoinAt, TestAt, nodes_in}
 use Rattle.bl_graph_nodes.specs.Plain.{Label, plain_body}
 use Rattle.bl_machine_prevs.specs.Prevs.{prevs_in}
 use Rattle.bl_eval.specs.Meaning.{View as Sight}
@@ -256,10 +241,6 @@ module _ (w : Setting) (activities : Activities) (i : ℕ) (frames : Frames) (st
   act_stops n act (executes.copies_stop called did) = absurd act
   act_stops n act (executes.begun_stops called there copied cut) = absurd act
   act_stops n act (executes.resumed_stops called rested copied cut) = absurd act
-
-pub and_first : (a b : Bool) → (a && b) ≡ true → a ≡ true
-and_first true b h = refl
-and_first false b h = absurd (cc)
 
 -- ---- one act
 

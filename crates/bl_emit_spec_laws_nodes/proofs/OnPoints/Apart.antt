@@ -1,13 +1,13 @@
 -- What registers have nothing in common with, and so what stays when they change.
-use Rattle.std.proofs.Common.{◌≡◌, ℕ, ◌<◌, arith, Bool, true, false, not, ◌&&◌, ◌||◌, List, [], ◌∷◌, ◌++◌, None}
+use Rattle.std.proofs.Common.{◌≡◌, ℕ, ◌<◌, arith, Bool, true, false, not, ◌&&◌, ◌||◌, List, [], ◌∷◌, ◌++◌}
 use Rattle.std.proofs.Common.{refl, sym, ap, ◌∙◌, append_assoc}
-use Rattle.std.proofs.lemmas.Bool.{eqb-true, ltb-true}
 use Rattle.std.proofs.lemmas.List.{append-nil}
-use Rattle.std.specs.Prelude.{bytes_eq, is_some, ◌==◌, if◌then◌else◌}
+use Rattle.std.specs.Prelude.{is_some, ◌==◌, if◌then◌else◌}
+use Rattle.std.proofs.lemmas.Bool.{or_right}
 use Rattle.bl_tree.specs.Typing.{TypingContext}
 use Rattle.bl_ctext_semantics.specs.Meaning.{Scope, further}
-use Rattle.bl_ctext_semantics.specs.Memory.{Location, Memory, Projection, Root, input_object, left_after, member, output_object, same_part}
-use Rattle.bl_ctext_semantics.specs.Memory.{same_root, state_object, value_at, variable}
+use Rattle.bl_ctext_semantics.specs.Memory.{Location, Memory, Projection, Root, left_after, member}
+use Rattle.bl_ctext_semantics.specs.Memory.{same_root, value_at, variable}
 use Rattle.bl_ctree.specs.Instances.{Setting}
 use Rattle.bl_emit_acts_laws_simulation.specs.Acts.{lies_in}
 use Rattle.bl_emit_acts_laws_simulation.specs.Frames.{is_older}
@@ -20,61 +20,28 @@ use Rattle.bl_emit_spec_laws.specs.Calls.Built.{Activities, run_by}
 use Rattle.bl_emit_spec_laws.specs.Calls.Memories as memories
 use Rattle.bl_emit_spec_laws.specs.Calls.Memories.{Nests, inner}
 use Rattle.bl_emit_spec_laws.specs.Calls.Invariant.{PlaceIsSeparate}
-use Rattle.bl_emit_spec_laws_nodes.proofs.OnPoints.Cells.{apart_flip, behind_front, left_apart, or_last, ways_flip, ways_further}
+use Rattle.bl_emit_acts_laws_simulation.proofs.Frames.{older_differs}
+use Rattle.bl_emit_acts_laws_simulation.proofs.Cells.{after_further, apart_flip, or_split, ways_flip, ways_further}
+use Rattle.bl_emit_acts_laws_simulation.proofs.Calls.{apart_lies}
+use Rattle.bl_emit_spec_laws.proofs.OnRegisters.Cells.{behind_front}
 
 -- ---- roots
 
-pub older_differs : (depth : ℕ) (name : List ℕ) (root : Root) → is_older depth root ≡ true → same_root (variable depth name) root ≡ false
-older_differs depth name state_object h = refl
-older_differs depth name input_object h = refl
-older_differs depth name output_object h = refl
-older_differs depth name (variable d other) h = by (depth == d) refl
-  where
-    by : (same : Bool) → (depth == d) ≡ same → (same && bytes_eq name other) ≡ false
-    by false is = refl
-    by true is =
-        let less : d < depth = ltb-true d depth h in
-        let equal : depth ≡ d = eqb-true depth d is in
-        absurd (omega arith)
-
 -- ---- places further on
-
-split : (same a b : Bool) → (a ≡ true → b ≡ true) → (not same || a) ≡ true → (not same || b) ≡ true
-split true a b next h = next h
-split false a b next h = refl
 
 -- what lies further on keeps apart too
 pub first_further : (p q : Location) (xs : List Projection) → are_apart p q ≡ true → are_apart (further p xs) q ≡ true
 first_further p q xs h =
-    split (same_root p.root q.root) (ways_part p.parts q.parts) (ways_part (p.parts ++ xs) q.parts) (ways_further p.parts q.parts xs) h
+    or_split (same_root p.root q.root) (ways_part p.parts q.parts) (ways_part (p.parts ++ xs) q.parts) (ways_further p.parts q.parts xs) h
 
 pub last_further : (p q : Location) (xs : List Projection) → are_apart p q ≡ true → are_apart p (further q xs) ≡ true
 last_further p q xs h =
-    split (same_root p.root q.root) (ways_part p.parts q.parts) (ways_part p.parts (q.parts ++ xs))
+    or_split (same_root p.root q.root) (ways_part p.parts q.parts) (ways_part p.parts (q.parts ++ xs))
     (λ part. ways_flip p.parts (q.parts ++ xs) ∙ ways_further q.parts p.parts xs (ways_flip q.parts p.parts ∙ part)) h
 
 -- further on, and on
 pub further_twice : (p : Location) (xs ys : List Projection) → further (further p xs) ys ≡ further p (xs ++ ys)
 further_twice p xs ys = ap (λ (parts : List Projection). record { root = p.root; parts = parts }) (append_assoc p.parts xs ys)
-
--- no number of a place lies in one that has nothing in common with it
-pub lies_apart : (p q : Location) (way : List Projection) → are_apart p q ≡ true → lies_in p q.root (q.parts ++ way) ≡ false
-lies_apart p q way h = by (same_root p.root q.root) h
-  where
-    by : (same : Bool) → (not same || ways_part p.parts q.parts) ≡ true → (same && is_some (left_after p.parts (q.parts ++ way))) ≡ false
-    by false part = refl
-    by true part =
-        ap is_some (ap (λ front. left_after front (q.parts ++ way)) (sym (append-nil p.parts)) ∙ left_apart p.parts q.parts [] way part)
-
-left_more : (ps more way : List Projection) → is_some (left_after ps way) ≡ false → is_some (left_after (ps ++ more) way) ≡ false
-left_more [] more way h = absurd (cc)
-left_more (p ∷ ps) more [] h = refl
-left_more (p ∷ ps) more (q ∷ qs) h = by (same_part p q) (left_more ps more qs) h
-  where
-    by : (same : Bool) → (is_some (left_after ps qs) ≡ false → is_some (left_after (ps ++ more) qs) ≡ false) →
-        is_some (if same then left_after ps qs else None) ≡ false → is_some (if same then left_after (ps ++ more) qs else None) ≡ false
-    by true again h = again h
-    by false again h = refl
 
 -- what doesn't lie in a place lies nowhere further on
 pub lies_further : (p : Location) (more : List Projection) (root : Root) (way : List Projection) → lies_in p root way ≡ false →
@@ -83,7 +50,7 @@ lies_further p more root way h = by (same_root p.root root) h
   where
     by : (same : Bool) → (same && is_some (left_after p.parts way)) ≡ false → (same && is_some (left_after (p.parts ++ more) way)) ≡ false
     by false h = refl
-    by true h = left_more p.parts more way h
+    by true h = after_further p.parts more way h
 
 -- ---- registers
 
@@ -114,7 +81,7 @@ module _ (scope : Scope) (has : Registered) where
       are_apart (register_at has scope x) (further (frame_at scope) (member (callee_name n) ∷ more)) ≡ true
   register_inner may_end same frame n more (Counter k) its =
       let start = frame_at scope in
-      or_last (not (same_root start.root start.root))
+      or_right (not (same_root start.root start.root))
       (ways_part (start.parts ++ member (counter_name k) ∷ []) (start.parts ++ (member (callee_name n) ∷ more)))
       (behind_front start.parts (member (counter_name k) ∷ []) (member (callee_name n) ∷ more))
   register_inner may_end same frame n more (Before k) its =
@@ -146,7 +113,7 @@ module _ (scope : Scope) (has : Registered) where
       ((x : Register) → has_register has x ≡ true → are_apart (register_at has scope x) place ≡ true) → (way : List Projection) →
       value_at after place way ≡ value_at here place way
   place_kept r here after place left apart way =
-      left.kept place.root (place.parts ++ way) (record { each = λ x its. lies_apart (register_at has scope x) place way (apart x its) })
+      left.kept place.root (place.parts ++ way) (record { each = λ x its. apart_lies (register_at has scope x) place way (apart x its) })
 
 -- ---- places of what is called
 

@@ -1,11 +1,11 @@
 -- In the body of an activity with a result nothing but the last statement, a `return`, ends it.
 use Rattle.std.proofs.Common.{◌≡◌, arith, ℕ, zero, suc, Bool, true, false, not, ◌&&◌, ◌||◌, List}
 use Rattle.std.proofs.Common.{[], ◌∷◌, ◌++◌, Contains, map, take, Some}
-use Rattle.std.proofs.Common.{Option, None, refl, sym, ap, ◌∙◌, subst, append_assoc}
-use Rattle.std.proofs.lemmas.List.{append-nil}
-use Rattle.std.proofs.lemmas.Option.{same_Some}
+use Rattle.std.proofs.Common.{Option, None, refl, sym, ap, ◌∙◌, subst}
 use Rattle.std.specs.Prelude.{is_none, is_some, length, slice_get, if◌then◌else◌}
 use Rattle.std.specs.List.{list_all, list_any}
+use Rattle.std.proofs.lemmas.Bool.{or_left, or_right}
+use Rattle.bl_tree.proofs.Basics.{and_first, and_second}
 use Rattle.bl_tree.specs.declared.place.Place.{Place}
 use Rattle.bl_tree.specs.declared.scalar.Scalar.{Scalar as ScalarType}
 use Rattle.bl_tree.specs.declared.tree.Arm.{Arm}
@@ -18,7 +18,7 @@ use Rattle.bl_tree.specs.declared.tree.StructDef.{StructDef}
 use Rattle.bl_tree.specs.declared.tree.Unit.{Unit as UnitDef}
 use Rattle.bl_tree.specs.Apart.{is_apart}
 use Rattle.bl_tree.specs.Depths.{is_shallow}
-use Rattle.bl_tree.specs.Program.{names_of, parameters_of, roles_stand, unit_stands, units_stand_after}
+use Rattle.bl_tree.specs.Program.{names_of, parameters_of, roles_stand, unit_stands}
 use Rattle.bl_tree.specs.Returns.{activity_returns, function_returns, is_return, is_return_kind, last_of, returns_last_alone, unit_returns}
 use Rattle.bl_tree.specs.Types.{type_stands}
 use Rattle.bl_tree.specs.Typing.{fits, is_activity, site_of}
@@ -31,14 +31,7 @@ use Rattle.bl_emit_spec_laws_nodes.specs.Points.Laws.{is_return_node}
 use Rattle.bl_emit_spec_laws_nodes.specs.Points.Points.{BodiesEnd}
 use Rattle.bl_emit_spec_laws.proofs.OnOwn.Endless.{made, made_is}
 use Rattle.bl_emit_spec_laws.proofs.OnOwn.Quiet.{is_quiet, quiet_of}
-
-and_left : (a b : Bool) → (a && b) ≡ true → a ≡ true
-and_left true b h = refl
-and_left false b h = absurd (cc)
-
-and_right : (a b : Bool) → (a && b) ≡ true → b ≡ true
-and_right true b h = h
-and_right false b h = absurd (cc)
+use Rattle.bl_eval.proofs.UnitFits.{unit_at}
 
 -- ---- rules
 
@@ -70,8 +63,8 @@ fine_both (rule ∷ first) rest h i = by (is_fine rule) h (fine_both first rest)
 
 fine_at : (all : List Transition) (rule : Transition) → Fine all → Contains all rule → is_fine rule ≡ true
 fine_at [] rule h there = let below = there.1 in absurd (omega arith)
-fine_at (first ∷ all) rule h (zero, within, is) = subst (λ (x : Transition). is_fine x ≡ true) is (and_left (is_fine first) (list_all is_fine all) h)
-fine_at (first ∷ all) rule h (suc k, within, is) = fine_at all rule (and_right (is_fine first) (list_all is_fine all) h) (k, omega arith, is)
+fine_at (first ∷ all) rule h (zero, within, is) = subst (λ (x : Transition). is_fine x ≡ true) is (and_first (is_fine first) (list_all is_fine all) h)
+fine_at (first ∷ all) rule h (suc k, within, is) = fine_at all rule (and_second (is_fine first) (list_all is_fine all) h) (k, omega arith, is)
 
 -- ---- the last statement
 
@@ -124,18 +117,6 @@ body_fine slots (s ∷ t ∷ rest) k block h =
 
 -- ---- units
 
-unit_after : (structs : List StructDef) (earlier units : List UnitDef) (k : ℕ) (unit : UnitDef) →
-    units_stand_after structs earlier units ≡ true → slice_get units k ≡ Some unit → unit_stands structs (earlier ++ take k units) unit ≡ true
-unit_after structs earlier [] k unit stand there = absurd (cc)
-unit_after structs earlier (first ∷ units) zero unit stand there =
-    subst (λ earlier. unit_stands structs earlier unit ≡ true) (sym (append-nil earlier))
-    (subst (λ unit. unit_stands structs earlier unit ≡ true) (same_Some first unit there)
-    (and_left (unit_stands structs earlier first) (units_stand_after structs (earlier ++ first ∷ []) units) stand))
-unit_after structs earlier (first ∷ units) (suc k) unit stand there =
-    subst (λ earlier. unit_stands structs earlier unit ≡ true) (append_assoc earlier (first ∷ []) (take k units))
-    (unit_after structs (earlier ++ first ∷ []) units k unit
-    (and_right (unit_stands structs earlier first) (units_stand_after structs (earlier ++ first ∷ []) units) stand) there)
-
 unit_returned : (structs : List StructDef) (earlier : List UnitDef) (unit : UnitDef) → unit_stands structs earlier unit ≡ true →
     unit_returns unit ≡ true
 unit_returned structs earlier unit stands =
@@ -143,8 +124,8 @@ unit_returned structs earlier unit stands =
     let fitted : Bool = list_all (fits (site_of structs earlier unit)) unit.body in
     let typed : Bool = list_all (λ var. type_stands (length structs) var.ty) unit.vars in
     let named : Bool = roles_stand unit && (list_all is_name (names_of unit.vars) && are_distinct (names_of (parameters_of unit))) in
-    and_left (unit_returns unit) (is_shallow 200 unit.body && list_all is_apart unit.body)
-    (and_right fitted last (and_right typed (fitted && last) (and_right named (typed && (fitted && last)) stands)))
+    and_first (unit_returns unit) (is_shallow 200 unit.body && list_all is_apart unit.body)
+    (and_second fitted last (and_second typed (fitted && last) (and_second named (typed && (fitted && last)) stands)))
 
 last_returns : (unit : UnitDef) → is_activity unit.kind ≡ true → is_some unit.result ≡ true → unit_returns unit ≡ true →
     last_of (map is_return unit.body) ≡ true
@@ -158,7 +139,7 @@ last_returns unit active one all = by_kind (is_activity unit.kind) active all
         last_of (map is_return unit.body) ≡ true
     by_kind true is all =
         by_result unit.result (last_of (map is_return unit.body)) one
-        (and_right (returns_last_alone unit.body) (is_none unit.result || last_of (map is_return unit.body)) all)
+        (and_second (returns_last_alone unit.body) (is_none unit.result || last_of (map is_return unit.body)) all)
     by_kind false is all = absurd (cc)
 
 ended : (rule : Transition) → is_fine rule ≡ true → (list_any ends_body rule.on_true || list_any ends_body rule.on_false) ≡ true →
@@ -171,22 +152,14 @@ ended rule fine ends = by (is_return_node rule.node) (list_any ends_body rule.on
     by false false true fine ends = fine
     by false false false fine ends = ends
 
-or_first : (a b : Bool) → a ≡ true → (a || b) ≡ true
-or_first true b h = refl
-or_first false b h = absurd (cc)
-
-or_last : (a b : Bool) → b ≡ true → (a || b) ≡ true
-or_last true b h = refl
-or_last false b h = h
-
 pub bodies_end : (structs : List StructDef) (units : List UnitDef) (entry : ℕ) → BodiesEnd structs units entry
 bodies_end structs units entry activities keeps = record {
   on_true = λ k unit rule there active one has ends.
       ended rule (fine k unit rule there active one has)
-      (or_first (list_any ends_body rule.on_true) (list_any ends_body rule.on_false) ends);
+      (or_left (list_any ends_body rule.on_true) (list_any ends_body rule.on_false) ends);
   on_false = λ k unit rule there active one has ends.
       ended rule (fine k unit rule there active one has)
-      (or_last (list_any ends_body rule.on_true) (list_any ends_body rule.on_false) ends);
+      (or_right (list_any ends_body rule.on_true) (list_any ends_body rule.on_false) ends);
 }
   where
     fine : (k : ℕ) (unit : UnitDef) (rule : Transition) → slice_get units k ≡ Some unit → is_activity unit.kind ≡ true →
@@ -195,4 +168,4 @@ bodies_end structs units entry activities keeps = record {
     fine k unit rule there active one has =
         fine_at (rules (activities k).slots (plain_body unit.body)) rule
         (body_fine (activities k).slots unit.body 0 []
-        (last_returns unit active one (unit_returned structs (take k units) unit (unit_after structs [] units k unit keeps.units_stand there)))) has
+        (last_returns unit active one (unit_returned structs (take k units) unit (unit_at structs [] units k unit keeps.units_stand there)))) has

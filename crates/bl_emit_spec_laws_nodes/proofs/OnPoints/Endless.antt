@@ -2,6 +2,8 @@
 use Rattle.std.proofs.Common.{◌≡◌, ℕ, Bool, true, false, ◌||◌, List, Some, refl, sym, ◌∙◌, subst}
 use Rattle.std.proofs.lemmas.Option.{same_Some}
 use Rattle.std.specs.List.{list_any}
+use Rattle.std.proofs.lemmas.Bool.{or_from}
+use Rattle.bl_tree.proofs.Basics.{true_and_false}
 use Rattle.bl_tree.specs.declared.tree.Unit.{Unit as UnitDef}
 use Rattle.bl_tree.specs.declared.value.Value.{Value}
 use Rattle.bl_graph_nodes.specs.Nodes.{Node}
@@ -21,19 +23,12 @@ use Rattle.bl_emit_spec_laws_nodes.proofs.OnPoints.Silent.{over_after}
 
 -- ---- changes
 
-either_none : (a b : Bool) → a ≡ false → b ≡ false → (a || b) ≡ false
-either_none false b h i = i
-either_none true b h i = absurd (cc)
-
-apart : (b : Bool) → b ≡ true → b ≡ false → ⊥
-apart b h i = cc
-
 stays_open : (number : Node → ℕ) (changes : List Change) (r : Registers) → list_any ends_body changes ≡ false → r.over ≡ false →
     (all_changed number changes r).over ≡ false
 stays_open number changes r quiet going = by (all_changed number changes r).over (over_after number changes r)
   where
     by : (over : Bool) → (over ≡ true → (r.over || list_any ends_body changes) ≡ true) → over ≡ false
-    by true h = absurd (apart (r.over || list_any ends_body changes) (h refl) (either_none r.over (list_any ends_body changes) going quiet))
+    by true h = absurd (true_and_false (r.over || list_any ends_body changes) (h refl) (or_from r.over (list_any ends_body changes) going quiet))
     by false h = refl
 
 rule_open : (number : Node → ℕ) (rule : Transition) (answer : Bool) (r : Registers) → is_quiet rule ≡ true → r.over ≡ false →

@@ -1,15 +1,15 @@
 -- Numbers of memory that an act of an instance may not write.
 use Rattle.std.proofs.Common.{◌≡◌, ℕ, ◌<◌, arith, Bool, true, false, not, ◌&&◌, ◌||◌, List, []}
 use Rattle.std.proofs.Common.{◌∷◌, ◌++◌, Some, refl, sym, ap, ◌∙◌}
-use Rattle.std.proofs.lemmas.Bool.{le-leb, ltb-true}
 use Rattle.std.specs.Prelude.{is_some}
+use Rattle.std.proofs.lemmas.Bool.{or_right}
 use Rattle.bl_tree.specs.declared.text.Text.{Text}
 use Rattle.bl_tree.specs.declared.tree.Unit.{Unit as UnitDef}
 use Rattle.bl_tree.specs.declared.tree.Var.{Var}
 use Rattle.bl_tree.specs.Program.{is_input}
 use Rattle.bl_tree.specs.Typing.{TypingContext, is_activity, var_at}
 use Rattle.bl_ctext_semantics.specs.Meaning.{Scope, further}
-use Rattle.bl_ctext_semantics.specs.Memory.{Location, Projection, Root, input_object, left_after, member, output_object, same_root, state_object, variable}
+use Rattle.bl_ctext_semantics.specs.Memory.{Location, Projection, Root, left_after, member, same_root, variable}
 use Rattle.bl_emit_acts.specs.declared.home.Home.{Home}
 use Rattle.bl_emit_acts.specs.declared.home.Home.TheVariants.{Held, Local, Lent}
 use Rattle.bl_emit_acts.specs.Types.{copy_name, variable_name}
@@ -20,17 +20,11 @@ use Rattle.bl_emit_spec.specs.Names.{NumberedWord, callee_name}
 use Rattle.bl_emit_spec_laws.specs.Registers.Registers.{Register, RegistersApart, RegistersBeside, Registered, frame_at, has_register, register_at}
 use Rattle.bl_emit_spec_laws.specs.Calls.Laws.{PassOutside}
 use Rattle.bl_emit_spec_laws.specs.Calls.Invariant.{PlacesAreSeparate, result_at_c}
-use Rattle.bl_emit_spec_laws_nodes.proofs.OnPoints.Apart.{first_further, last_further, lies_apart, lies_further, older_differs}
-use Rattle.bl_emit_spec_laws_nodes.proofs.OnPoints.Cells.{apart_flip, behind_front, or_last}
-
-older_live : (depth : ℕ) (root : Root) → is_older depth root ≡ true → is_live depth root ≡ true
-older_live depth state_object h = refl
-older_live depth input_object h = refl
-older_live depth output_object h = refl
-older_live depth (variable d name) h = let less : d < depth = ltb-true d depth h in le-leb d depth (omega arith)
-
-roots_differ : (p q : Location) → same_root p.root q.root ≡ false → are_apart p q ≡ true
-roots_differ p q h = ap (λ same. not same || ways_part p.parts q.parts) h
+use Rattle.bl_emit_spec_laws_nodes.proofs.OnPoints.Apart.{first_further, last_further, lies_further}
+use Rattle.bl_emit_acts_laws_simulation.proofs.Frames.{older_differs, older_live, roots_differ}
+use Rattle.bl_emit_acts_laws_simulation.proofs.Cells.{apart_flip}
+use Rattle.bl_emit_acts_laws_simulation.proofs.Calls.{apart_lies}
+use Rattle.bl_emit_spec_laws.proofs.OnRegisters.Cells.{behind_front}
 
 module _ (site : TypingContext) (unit : UnitDef) (remembers : Bool) (scope : Scope) (places : PlacesAreSeparate site unit remembers scope)
     (active : is_activity site.kind ≡ true)
@@ -68,8 +62,8 @@ module _ (site : TypingContext) (unit : UnitDef) (remembers : Bool) (scope : Sco
       ((k : ℕ) → are_apart (copy_location scope site.vars k) place ≡ true) → (way : List Projection) → Foreign site copied scope place.root (place.parts ++ way)
   foreign_place place live variables copies way = record {
     live = live;
-    variables = λ k var there writable. lies_apart (location_in scope site k []) place way (variables k var there);
-    copies = λ k its. lies_apart (copy_location scope site.vars k) place way (copies k);
+    variables = λ k var there writable. apart_lies (location_in scope site k []) place way (variables k var there);
+    copies = λ k its. apart_lies (copy_location scope site.vars k) place way (copies k);
   }
 
   foreign_older : (place : Location) → is_older scope.depth place.root ≡ true →
@@ -109,7 +103,7 @@ module _ (site : TypingContext) (unit : UnitDef) (remembers : Bool) (scope : Sco
       foreign_older (further start (member (callee_name n) ∷ more)) (places.memory its).older
       (λ k var there is. first_further start (lent_at scope site.vars k) (member (callee_name n) ∷ more) ((places.memory its).lent k var there is))
       (λ k var there is.
-      or_last (not (same_root start.root start.root))
+      or_right (not (same_root start.root start.root))
       (ways_part (start.parts ++ member (variable_name site.vars k) ∷ []) (start.parts ++ (member (callee_name n) ∷ more)))
       (behind_front start.parts (member (variable_name site.vars k) ∷ []) (member (callee_name n) ∷ more)))
 

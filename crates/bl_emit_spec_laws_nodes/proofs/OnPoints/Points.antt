@@ -1,5 +1,6 @@
 -- The blocks of all points, each by what its node is.
 use Rattle.std.proofs.Common.{◌≡◌, ℕ, Bool, true, false, ◌&&◌, ◌||◌, List, take, refl}
+use Rattle.bl_tree.proofs.Basics.{and_second}
 use Rattle.bl_tree.specs.declared.tree.Stmt.{out-Stmt}
 use Rattle.bl_tree.specs.declared.tree.StmtKind.{out-StmtKind}
 use Rattle.bl_tree.specs.declared.tree.StructDef.{StructDef}
@@ -35,14 +36,10 @@ pub data Kind (n : Node) : Type 0 where
   acts_there : IsActNode n → Kind n
   returns_there : is_return_node n ≡ true → Kind n
 
-and_last : (a b : Bool) → (a && b) ≡ true → b ≡ true
-and_last true b h = h
-and_last false b h = absurd (cc)
-
 kind_of : (site : TypingContext) (n : Node) → IsPoint n → fits_there site n ≡ true → Kind n
 kind_of site (ActAt l s) point fitted =
     let layer = out-StmtKind (out-Stmt s).what in
-    by (is_act layer) refl (and_last (fits site s) (is_act layer || is_return_kind layer) fitted)
+    by (is_act layer) refl (and_second (fits site s) (is_act layer || is_return_kind layer) fitted)
   where
     by : (act : Bool) → is_act (out-StmtKind (out-Stmt s).what) ≡ act → (act || is_return_kind (out-StmtKind (out-Stmt s).what)) ≡ true →
         Kind (ActAt l s)

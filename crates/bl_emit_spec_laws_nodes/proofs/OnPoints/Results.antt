@@ -7,13 +7,9 @@ use Rattle.bl_eval.specs.Values.{value_at}
 use Rattle.bl_ctree.specs.Actions.{result_at, with_result}
 use Rattle.bl_ctree.specs.Instances.{Setting}
 use Rattle.bl_ctree.specs.Store.{Frame, Location, Store, home, value_among, variables_of, view_at, whole_of, with_frame}
+use Rattle.bl_machine_pass_laws_typing.proofs.OnSeen.Values.{set_got}
 
 -- ---- one element of a list is set
-
-set_own : {A : Type 0} (xs : List A) (k : ℕ) (old new : A) → slice_get xs k ≡ Some old → slice_get (slice_set xs k new) k ≡ Some new
-set_own [] k old new h = absurd (cc)
-set_own (x ∷ xs) zero old new h = refl
-set_own (x ∷ xs) (suc k) old new h = set_own xs k old new h
 
 set_alike : {A B : Type 0} (f : A → Option B) (xs : List A) (k j : ℕ) (old new : A) → slice_get xs k ≡ Some old → f new ≡ f old →
     option_and_then f (slice_get (slice_set xs k new) j) ≡ option_and_then f (slice_get xs j)
@@ -57,4 +53,4 @@ pub result_own : (i : ℕ) (value : Value) (store : Store) (frame : Frame) → s
 result_own i value store frame is =
     ap (λ o. option_and_then (λ (frame : Frame). frame.result)
     (slice_get (unwrap_or (option_map (λ frame. slice_set store i (with_result value frame)) o) store) i)) is
-    ∙ ap (option_and_then (λ (frame : Frame). frame.result)) (set_own store i frame (with_result value frame) is)
+    ∙ ap (option_and_then (λ (frame : Frame). frame.result)) (set_got store i frame (with_result value frame) is)

@@ -4,6 +4,7 @@ use Rattle.std.proofs.Common.{None, refl, sym, ap, ◌∙◌, subst, IfSome}
 use Rattle.std.proofs.lemmas.Option.{same_Some}
 use Rattle.std.specs.Prelude.{is_some, nat_eq, option_map, pos, slice_get, unwrap_or}
 use Rattle.std.specs.List.{list_any}
+use Rattle.bl_tree.proofs.Basics.{and_first}
 use Rattle.bl_tree.specs.declared.c.CStmt.{CStmt}
 use Rattle.bl_tree.specs.declared.place.Place.{Place}
 use Rattle.bl_tree.specs.declared.scalar.Scalar.{Scalar as ScalarType}
@@ -22,23 +23,8 @@ use Rattle.bl_tree.specs.Program.{IsWellTyped}
 use Rattle.bl_tree.specs.Returns.{is_return_kind}
 use Rattle.bl_tree.specs.Types.{scalar, scalar_in}
 use Rattle.bl_tree.specs.Typing.{TypingContext, are_same, fits, is_activity, return_fits, site_of, type_of}
-use Rattle.bl_graph_nodes.specs.Nodes.{
-  ActAt,
-  CheckAt,
-  DepthEndAt,
-  DepthJoinAt,
-  EnterAt,
-  ForkAt,
-  HeadAt,
-  Node,
-  PauseAt,
-  ResumeAt,
-  StartAt,
-  SurfaceEndAt,
-  SurfaceJoinAt,
-  TestAt,
-  nodes_in,
-}
+use Rattle.bl_graph_nodes.specs.Nodes.{ActAt, CheckAt, DepthEndAt, DepthJoinAt, EnterAt, ForkAt, HeadAt, Node, PauseAt, ResumeAt, StartAt, SurfaceEndAt}
+use Rattle.bl_graph_nodes.specs.Nodes.{SurfaceJoinAt, TestAt, nodes_in}
 use Rattle.bl_graph_nodes.specs.Plain.{Label, plain_body}
 use Rattle.bl_machine_prevs.specs.Prevs.{optional_prevs, prevs_in, prevs_in_expr}
 use Rattle.bl_eval.specs.declared.datum.Datum.{Datum}
@@ -79,7 +65,7 @@ use Rattle.bl_emit_spec_laws_nodes.specs.Points.Acts.{ReturnNodesSimulate}
 use Rattle.bl_emit_spec_laws_nodes.specs.Points.Laws.{ChangesSimulateInPass, Remembering, ResultTold, RulesOwn, is_return_node}
 use Rattle.bl_emit_spec_laws_nodes.specs.Points.Nodes.{NodesStand, PrevsAgree, ViewsFit, act_copied}
 use Rattle.bl_emit_spec_laws_nodes.proofs.OnPoints.ActBlocks.{as_left}
-use Rattle.bl_emit_spec_laws_nodes.proofs.OnPoints.ActNodes.{and_first, append_goes, append_traps}
+use Rattle.bl_emit_spec_laws_nodes.proofs.OnPoints.ActNodes.{append_goes, append_traps}
 use Rattle.bl_emit_spec_laws_nodes.proofs.OnPoints.Besides.{beside, site_is, value_there_is}
 use Rattle.bl_emit_spec_laws_nodes.proofs.OnPoints.Choices.{alone_alike}
 use Rattle.bl_emit_spec_laws_nodes.proofs.OnPoints.Returned.{return_keeps, return_stands, told}
@@ -175,7 +161,7 @@ number_by structs ty s (Some v) (Some (OfScalar t n)) is fit same =
     same ∙ ap (λ level. Some (unwrap_or (number_at level) (pos 0))) (sym (outs-Number n))
 number_by structs ty s (Some v) (Some (OfWhole value)) is fit same = absurd (let none = fit.0 in cc)
 
-held_by : (a : Option CValue) (n : ℤ) → option_map scalar_number a ≡ Some n → (v : CValue) × (a ≡ Some v) × (scalar_number v ≡ n)
+pub held_by : (a : Option CValue) (n : ℤ) → option_map scalar_number a ≡ Some n → (v : CValue) × (a ≡ Some v) × (scalar_number v ≡ n)
 held_by None n h = absurd (cc)
 held_by (Some v) n h = (v, refl, same_Some (scalar_number v) n h)
 

@@ -32,11 +32,14 @@ use Rattle.bl_emit_spec_laws.specs.Calls.Memories as memories
 use Rattle.bl_emit_spec_laws.specs.Calls.Memories.{MemoryEncodes, inner}
 use Rattle.bl_emit_spec_laws.specs.Calls.Invariant.{PassRepresents, PlacesAreSeparate, result_at_c}
 use Rattle.bl_emit_spec_laws_nodes.specs.Points.Laws.{Remembering}
-use Rattle.bl_emit_spec_laws_nodes.proofs.OnPoints.Apart.{Beyond, inner_is, last_further, lies_apart, lies_further, nests_beyond, register_stands}
-use Rattle.bl_emit_spec_laws_nodes.proofs.OnPoints.Cells.{apart_flip, left_behind, same_object, set_elsewhere}
+use Rattle.bl_emit_spec_laws_nodes.proofs.OnPoints.Apart.{Beyond, inner_is, last_further, lies_further, nests_beyond, register_stands}
+use Rattle.bl_emit_spec_laws_nodes.proofs.OnPoints.Cells.{same_object}
 use Rattle.bl_emit_spec_laws_nodes.proofs.OnPoints.Changes.{holds_same}
 use Rattle.bl_emit_spec_laws_nodes.proofs.OnPoints.Foreign.{local_older, result_variable}
 use Rattle.bl_emit_spec_laws_nodes.proofs.OnPoints.Results.{result_own, view_same}
+use Rattle.bl_emit_acts_laws_simulation.proofs.Cells.{apart_flip, set_elsewhere}
+use Rattle.bl_emit_acts_laws_simulation.proofs.Written.{left_behind}
+use Rattle.bl_emit_acts_laws_simulation.proofs.Calls.{apart_lies}
 
 module _ (w : Setting) (activities : Activities) (i : ℕ) (unit : UnitDef) (scope : Scope) (frames : Frames) (store : Store) (copies : List Value)
     (r : Registers) (here : Memory) (is_there : unit_at w i ≡ Some unit) (one : is_some unit.result ≡ true)
@@ -73,7 +76,7 @@ module _ (w : Setting) (activities : Activities) (i : ℕ) (unit : UnitDef) (sco
       value_at after place way ≡ value_at here place way
   kept_at place apart way =
       set_elsewhere here at_c held place.root (place.parts ++ way)
-      (lies_further (result_at_c scope) [] place.root (place.parts ++ way) (lies_apart (result_at_c scope) place way apart))
+      (lies_further (result_at_c scope) [] place.root (place.parts ++ way) (apart_lies (result_at_c scope) place way apart))
 
   variables : VariablesEncoded site (view_at w left i).now scope after
   variables = record {

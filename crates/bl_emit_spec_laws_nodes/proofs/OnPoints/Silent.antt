@@ -3,24 +3,12 @@ use Rattle.std.proofs.Common.{◌≡◌, ℕ, Bool, true, false, ◌||◌, List,
 use Rattle.std.proofs.lemmas.Option.{same_Some}
 use Rattle.std.specs.Prelude.{is_some}
 use Rattle.std.specs.List.{list_any}
+use Rattle.std.proofs.lemmas.Bool.{false_from_ne_true}
+use Rattle.bl_tree.proofs.Basics.{true_not_false}
 use Rattle.bl_tree.specs.declared.tree.Unit.{Unit as UnitDef}
 use Rattle.bl_tree.specs.declared.value.Value.{Value}
-use Rattle.bl_graph_nodes.specs.Nodes.{
-  ActAt,
-  CheckAt,
-  DepthEndAt,
-  DepthJoinAt,
-  EnterAt,
-  ForkAt,
-  HeadAt,
-  Node,
-  PauseAt,
-  ResumeAt,
-  StartAt,
-  SurfaceEndAt,
-  SurfaceJoinAt,
-  TestAt,
-}
+use Rattle.bl_graph_nodes.specs.Nodes.{ActAt, CheckAt, DepthEndAt, DepthJoinAt, EnterAt, ForkAt, HeadAt, Node, PauseAt, ResumeAt, StartAt, SurfaceEndAt}
+use Rattle.bl_graph_nodes.specs.Nodes.{SurfaceJoinAt, TestAt}
 use Rattle.bl_ctext_semantics.specs.Course.{Outcome}
 use Rattle.bl_ctext_semantics.specs.Meaning.{Scope, block_c}
 use Rattle.bl_ctext_semantics.specs.Memory.{Memory}
@@ -43,9 +31,7 @@ use Rattle.bl_emit_spec_laws_nodes.proofs.OnPoints.Shown.{ends_true}
 use Rattle.bl_emit_spec_laws.specs.Registers.Laws.{ends_body}
 use Rattle.bl_emit_spec_laws_nodes.specs.Points.Laws.{ChangesSimulateInPass, IsSilent, ResultTold, SilentNodesSimulate}
 use Rattle.bl_emit_spec_laws_nodes.specs.Points.Laws.{is_return_node}
-
-pub no_such : true ≡ false → ⊥
-no_such h = cc
+use Rattle.bl_emit_acts_laws_simulation.proofs.Begun.{or_other}
 
 -- ---- when changes end the body
 
@@ -209,14 +195,6 @@ as_left w activities i unit scope r rule here o frames frames' store left copies
     (subst (λ c. PartSimulates w activities i unit scope frames store c (after_rule (rank_by w activities i) rule true r) here o) (sym same_copies)
     comes)))
 
-pub either : (a b : Bool) → (a || b) ≡ true → b ≡ false → a ≡ true
-either true b h none = refl
-either false b h none = absurd (no_such (sym h ∙ none))
-
-pub not_so : (b : Bool) → (b ≡ true → ⊥) → b ≡ false
-not_so true never = absurd (never refl)
-not_so false never = refl
-
 pub silent_comes : ChangesSimulateInPass → SilentNodesSimulate
 silent_comes stand structs units entry machine activities own ends remembering = record {
   acts = λ i unit scope frames store copies r rule u answer frames' left here midway there silent called sees performs.
@@ -227,12 +205,12 @@ silent_comes stand structs units entry machine activities own ends remembering =
       let did = silent_performs w activities i copies frames store rule.node answer frames' left silent performs in
       let quiet = did.1 in
       let never : list_any ends_body rule.on_true ≡ true → is_some unit.result ≡ true → ⊥ =
-      λ ending one. no_such (sym (ends_true activities units ends i unit w rule there midway.function.is_there midway.function.active one ending)
+      λ ending one. true_not_false (sym (ends_true activities units ends i unit w rule there midway.function.is_there midway.function.active one ending)
       ∙ silent_no_return rule.node silent) in
       let told : ResultTold unit i scope store (all_changed number rule.on_true r) here =
       λ value over one is. midway.stands.result value
-      (either r.over (list_any ends_body rule.on_true) (over_after number rule.on_true r over)
-      (not_so (list_any ends_body rule.on_true) (λ ending. never ending one))) one is in
+      (or_other r.over (list_any ends_body rule.on_true) (over_after number rule.on_true r over)
+      (false_from_ne_true (list_any ends_body rule.on_true) (λ ending. never ending one))) one is in
       let after_r = all_changed number rule.on_true r in
       let o = block_c (changes_code (activity_view a) rule.on_true) scope here in
       let comes : PartSimulates w activities i unit scope frames store copies after_r here o =

@@ -3,6 +3,8 @@ use Rattle.std.proofs.Common.{◌≡◌, ℕ, Bool, true, false, List, take, Opt
 use Rattle.std.proofs.lemmas.Option.{same_Some}
 use Rattle.std.specs.Prelude.{is_some, nat_eq, pos, option_and_then, option_map, unwrap_or, if◌then◌else◌}
 use Rattle.std.specs.List.{list_all, list_any}
+use Rattle.std.proofs.lemmas.Bool.{false_from_ne_true}
+use Rattle.bl_tree.proofs.Basics.{true_not_false}
 use Rattle.bl_tree.specs.declared.c.CStmt.{CStmt}
 use Rattle.bl_tree.specs.declared.scalar.Scalar.{Scalar as ScalarType}
 use Rattle.bl_tree.specs.declared.tree.Expr.{Expr}
@@ -63,7 +65,8 @@ use Rattle.bl_emit_spec_laws_nodes.specs.Points.Nodes.{IsTest, NodesStand, Prevs
 use Rattle.bl_emit_spec_laws_nodes.proofs.OnPoints.Besides.{beside, site_is, value_there_is}
 use Rattle.bl_emit_spec_laws_nodes.proofs.OnPoints.Choices.{Chosen, choice_alone, else_same, truth_c}
 use Rattle.bl_emit_spec_laws_nodes.proofs.OnPoints.Shown.{ends_false, ends_true}
-use Rattle.bl_emit_spec_laws_nodes.proofs.OnPoints.Silent.{comes_as, either, no_such, not_so, over_after}
+use Rattle.bl_emit_spec_laws_nodes.proofs.OnPoints.Silent.{comes_as, over_after}
+use Rattle.bl_emit_acts_laws_simulation.proofs.Begun.{or_other}
 
 -- ---- nodes
 
@@ -263,8 +266,8 @@ module _ (stand : ChangesSimulateInPass) (frames_apart : FramesApart) (structs :
         told : ResultTold unit i scope store (all_changed (rank_by w activities i) changes r) here
         told value over one at =
             midway.stands.result value
-            (either r.over (list_any ends_body changes) (over_after (rank_by w activities i) changes r over)
-            (not_so (list_any ends_body changes) (λ ending. no_such (sym (returns ending one) ∙ is.no_return)))) one at
+            (or_other r.over (list_any ends_body changes) (over_after (rank_by w activities i) changes r over)
+            (false_from_ne_true (list_any ends_body changes) (λ ending. true_not_false (sym (returns ending one) ∙ is.no_return)))) one at
 
     abbrev Left : Bool → Outcome Memory → Type 0
     Left b o = PartSimulates w activities i unit scope frames store copies (after_rule (rank_by w activities i) rule b r) here o

@@ -20,32 +20,9 @@ use Rattle.bl_machine_prevs.specs.Prevs.{expr_layer_prevs, kind_prevs, part_prev
 use Rattle.bl_eval.specs.declared.datum.Datum.{Datum}
 use Rattle.bl_eval.specs.declared.datum.Operand.{Operand}
 use Rattle.bl_eval.specs.Changes.{part_of_path}
-use Rattle.bl_eval.specs.Meaning.{
-  Meaning,
-  PathMeaning,
-  PathPosition,
-  Scope,
-  View,
-  call_datum,
-  cast_datum,
-  datum_of,
-  expr_means,
-  kind_means,
-  meaning_of,
-  one_datum,
-  operand_in,
-  part_means,
-  path_meaning_of,
-  path_means,
-  plain,
-  position_in,
-  positions_of,
-  read_at,
-  reading,
-  scalar_of,
-  two_datum,
-  values_of,
-}
+use Rattle.bl_eval.specs.Meaning.{Meaning, PathMeaning, PathPosition, Scope, View, call_datum, cast_datum, datum_of, expr_means, kind_means, meaning_of}
+use Rattle.bl_eval.specs.Meaning.{one_datum, operand_in, part_means, path_meaning_of, path_means, plain, position_in, positions_of, read_at, reading, scalar_of}
+use Rattle.bl_eval.specs.Meaning.{two_datum, values_of}
 use Rattle.bl_emit_spec_laws_nodes.specs.Points.Nodes.{AgreeAt}
 
 -- ---- lists

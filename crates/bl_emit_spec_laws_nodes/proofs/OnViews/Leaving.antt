@@ -1,10 +1,10 @@
 -- What an act leaves of what isn't its instance's.
-use Rattle.std.proofs.Common.{◌≡◌, ◌+◌, ◌-◌, arith, length, ℕ, zero, suc, Bool, true, false, ◌&&◌, List, [], ◌∷◌, map}
+use Rattle.std.proofs.Common.{◌≡◌, ◌+◌, ◌-◌, arith, length, ℕ, zero, suc, true, false, ◌&&◌, List, [], ◌∷◌, map}
 use Rattle.std.proofs.Common.{Option, Some, None, refl, sym, ap, ◌∙◌, subst}
-use Rattle.std.proofs.lemmas.Bool.{eq-eqb, eqb-true}
 use Rattle.std.proofs.lemmas.Option.{same_Some, slice_get-map}
 use Rattle.std.specs.List.{range_with_len}
-use Rattle.std.specs.Prelude.{nat_eq, option_and_then, option_map, slice_get, unwrap_or, if◌then◌else◌}
+use Rattle.std.specs.Prelude.{option_and_then, option_map, slice_get, unwrap_or, if◌then◌else◌}
+use Rattle.bl_tree.proofs.Basics.{number_test_swap}
 use Rattle.bl_tree.specs.declared.place.Place.{Place}
 use Rattle.bl_tree.specs.declared.static_path.Static.{Static}
 use Rattle.bl_tree.specs.declared.tree.Arm.{Arm}
@@ -44,26 +44,9 @@ use Rattle.bl_emit_spec_laws.specs.Calls.Memories as memories
 use Rattle.bl_emit_spec_laws.specs.Calls.Memories.{Nests, inner}
 use Rattle.bl_emit_spec_laws_nodes.specs.Views.{ActsLeave}
 use Rattle.bl_emit_spec_laws_nodes.proofs.OnViews.Outputs.{held_inside}
+use Rattle.bl_ctree_laws_confluence.proofs.OnStores.Views.{range_at}
 
 -- ---- numbers
-
-pub number_flip : (j k : ℕ) → nat_eq j k ≡ nat_eq k j
-number_flip j k = by (nat_eq j k) (nat_eq k j) refl refl
-  where
-    no_such : true ≡ false → ⊥
-    no_such h = cc
-
-    by : (a b : Bool) → nat_eq j k ≡ a → nat_eq k j ≡ b → a ≡ b
-    by true true h i = refl
-    by false false h i = refl
-    by true false h i = absurd (no_such (sym (eq-eqb k j (sym (eqb-true j k h))) ∙ i))
-    by false true h i = absurd (no_such (sym (eq-eqb j k (sym (eqb-true k j i))) ∙ h))
-
-pub range_at : (first count k j : ℕ) → slice_get (range_with_len first count) k ≡ Some j → j ≡ first + k
-range_at first zero zero j e = absurd cc
-range_at first zero (suc k) j e = absurd cc
-range_at first (suc count) zero j e = let is : first ≡ j = cc in omega arith
-range_at first (suc count) (suc k) j e = let is : j ≡ (first + 1) + k = range_at (first + 1) count k j e in omega arith
 
 -- functions that are alike at a position
 pub same_mapped : {X : Type 0} (f g : ℕ → X) (count x : ℕ) → f x ≡ g x →
@@ -161,7 +144,7 @@ module _ (puts : PutsKeepOthers) (remembers : RememberingKeepsOthers) (w : Setti
 -- ---- what is inside
 
 -- an instance that an instance calls is inside it, and so is all inside that
-inside_more : (w : Setting) (i j k : ℕ) (at : Place) → callee_of w i at ≡ Some j → Inside w j k → Inside w i k
+pub inside_more : (w : Setting) (i j k : ℕ) (at : Place) → callee_of w i at ≡ Some j → Inside w j k → Inside w i k
 inside_more w i j k at called nesting.itself = nesting.deeper i at nesting.itself called
 inside_more w i j k at called (nesting.deeper p place deep more) = nesting.deeper p place (inside_more w i j p at called deep) more
 
@@ -235,7 +218,7 @@ module _ (structs : List StructDef) (units : List UnitDef) (entry : ℕ) (machin
         clear : (path : Static) → overlap (home w (record { instance = i; path = path })) (whole_of k x) ≡ false
         clear path =
             ap (λ b. b && overlaps (home w (record { instance = i; path = path })).path (whole x))
-            (number_flip (home w (record { instance = i; path = path })).instance k ∙ nest.hidden i j k at path called inside)
+            (number_test_swap (home w (record { instance = i; path = path })).instance k ∙ nest.hidden i j k at path called inside)
 
 pub acts_leave_so : ProgramsNest → RememberingKeepsOthers → PutsKeepOthers → ActsLeave
 acts_leave_so nests remembers puts structs units entry machine activities compiled own =

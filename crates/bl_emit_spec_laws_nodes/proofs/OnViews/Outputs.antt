@@ -1,48 +1,30 @@
 -- A variable that an activity remembers is no output.
 use Rattle.std.proofs.Common.{◌≡◌, ◌<◌, ◌≤◌, ◌+◌, ◌-◌, arith, ℕ, zero, suc, Bool, true, false, ◌&&◌}
 use Rattle.std.proofs.Common.{◌||◌, List, [], ◌∷◌, ◌++◌, take, drop}
-use Rattle.std.proofs.Common.{length, Some, None, refl, sym, ap, ◌∙◌, subst, append_assoc}
+use Rattle.std.proofs.Common.{length, Some, None, refl, sym, ap, ◌∙◌, subst}
 use Rattle.std.proofs.lemmas.Bool.{leb-true, ltb-true}
-use Rattle.std.proofs.lemmas.List.{append-nil}
 use Rattle.std.proofs.lemmas.Option.{same_Some}
 use Rattle.std.specs.Prelude.{is_some, nat_le, nat_lt, slice_get}
 use Rattle.std.specs.List.{list_all}
+use Rattle.std.proofs.lemmas.Bool.{false_from_ne_true}
+use Rattle.bl_tree.proofs.Basics.{and_first, and_second}
 use Rattle.bl_tree.specs.declared.tree.StructDef.{StructDef}
 use Rattle.bl_tree.specs.declared.tree.Unit.{Unit as UnitDef}
 use Rattle.bl_tree.specs.declared.tree.Var.{Var}
-use Rattle.bl_tree.specs.Program.{IsWellTyped, is_input, is_output, locals_of, roles_stand, unit_stands, units_stand_after}
+use Rattle.bl_tree.specs.Program.{IsWellTyped, is_input, is_output, locals_of, roles_stand, unit_stands}
 use Rattle.bl_tree.specs.Types.{scalar_in}
 use Rattle.bl_tree.specs.Typing.{TypingContext, inputs_of, is_fixed, is_variable, outputs_of}
 use Rattle.bl_ctree.specs.Store.{is_output_of}
 use Rattle.bl_emit_acts.specs.declared.home.Home.TheVariants.{Held}
 use Rattle.bl_emit_acts.specs.Places.{copies_inputs, home_of, is_alone}
 use Rattle.bl_emit_acts_laws_simulation.proofs.Homes.{output_unheld}
-
-and_left : (a b : Bool) → (a && b) ≡ true → a ≡ true
-and_left true b h = refl
-and_left false b h = absurd (cc)
-
-and_right : (a b : Bool) → (a && b) ≡ true → b ≡ true
-and_right true b h = h
-and_right false b h = absurd (cc)
+use Rattle.bl_eval.proofs.UnitFits.{unit_at}
 
 -- ---- units
 
-unit_after : (structs : List StructDef) (earlier units : List UnitDef) (k : ℕ) (unit : UnitDef) →
-    units_stand_after structs earlier units ≡ true → slice_get units k ≡ Some unit → unit_stands structs (earlier ++ take k units) unit ≡ true
-unit_after structs earlier [] k unit stand there = absurd (cc)
-unit_after structs earlier (first ∷ units) zero unit stand there =
-    subst (λ earlier. unit_stands structs earlier unit ≡ true) (sym (append-nil earlier))
-    (subst (λ unit. unit_stands structs earlier unit ≡ true) (same_Some first unit there)
-    (and_left (unit_stands structs earlier first) (units_stand_after structs (earlier ++ first ∷ []) units) stand))
-unit_after structs earlier (first ∷ units) (suc k) unit stand there =
-    subst (λ earlier. unit_stands structs earlier unit ≡ true) (append_assoc earlier (first ∷ []) (take k units))
-    (unit_after structs (earlier ++ first ∷ []) units k unit
-    (and_right (unit_stands structs earlier first) (units_stand_after structs (earlier ++ first ∷ []) units) stand) there)
-
 unit_roles : (structs : List StructDef) (earlier : List UnitDef) (unit : UnitDef) → unit_stands structs earlier unit ≡ true →
     roles_stand unit ≡ true
-unit_roles structs earlier unit stands = and_left _ _ (and_left _ _ stands)
+unit_roles structs earlier unit stands = and_first _ _ (and_first _ _ stands)
 
 outputs_are : (unit : UnitDef) → roles_stand unit ≡ true → list_all (λ (var : Var). is_output var.role) (outputs_of unit) ≡ true
 outputs_are unit roles =
@@ -50,8 +32,8 @@ outputs_are unit roles =
     let outputs : Bool = list_all (λ (var : Var). is_output var.role) (outputs_of unit) in
     let locals : Bool = list_all (λ (var : Var). is_variable var.role || is_fixed var.role) (locals_of unit) in
     let all : (nat_le (unit.inputs + unit.outputs) (length unit.vars) && (inputs && (outputs && locals))) ≡ true = roles in
-    and_left outputs locals
-    (and_right inputs (outputs && locals) (and_right (nat_le (unit.inputs + unit.outputs) (length unit.vars)) (inputs && (outputs && locals)) all))
+    and_first outputs locals
+    (and_second inputs (outputs && locals) (and_second (nat_le (unit.inputs + unit.outputs) (length unit.vars)) (inputs && (outputs && locals)) all))
 
 -- ---- positions
 
@@ -60,9 +42,9 @@ all_at : (vars : List Var) (j : ℕ) (var : Var) → list_all (λ (var : Var). i
 all_at [] j var all there = absurd (cc)
 all_at (first ∷ vars) zero var all there =
     subst (λ (var : Var). is_output var.role ≡ true) (same_Some first var there)
-    (and_left (is_output first.role) (list_all (λ (var : Var). is_output var.role) vars) all)
+    (and_first (is_output first.role) (list_all (λ (var : Var). is_output var.role) vars) all)
 all_at (first ∷ vars) (suc j) var all there =
-    all_at vars j var (and_right (is_output first.role) (list_all (λ (var : Var). is_output var.role) vars) all) there
+    all_at vars j var (and_second (is_output first.role) (list_all (λ (var : Var). is_output var.role) vars) all) there
 
 get_taken : (vars : List Var) (n j : ℕ) → j < n → slice_get (take n vars) j ≡ slice_get vars j
 get_taken vars zero j less = absurd (omega arith)
@@ -89,9 +71,9 @@ output_role : (unit : UnitDef) (x : ℕ) (var : Var) → roles_stand unit ≡ tr
     is_output var.role ≡ true
 output_role unit x var roles among there =
     let least : unit.inputs ≤ x =
-    leb-true unit.inputs x (and_left (nat_le unit.inputs x) (nat_lt x (unit.inputs + unit.outputs)) among) in
+    leb-true unit.inputs x (and_first (nat_le unit.inputs x) (nat_lt x (unit.inputs + unit.outputs)) among) in
     let most : x < unit.inputs + unit.outputs =
-    ltb-true x (unit.inputs + unit.outputs) (and_right (nat_le unit.inputs x) (nat_lt x (unit.inputs + unit.outputs)) among) in
+    ltb-true x (unit.inputs + unit.outputs) (and_second (nat_le unit.inputs x) (nat_lt x (unit.inputs + unit.outputs)) among) in
     by (x - unit.inputs) (omega (arith, least)) (omega (arith, least, most))
   where
     by : (j : ℕ) → unit.inputs + j ≡ x → j < unit.outputs → is_output var.role ≡ true
@@ -100,15 +82,11 @@ output_role unit x var roles among there =
         (get_taken (drop unit.inputs unit.vars) unit.outputs j less
         ∙ (get_behind unit.vars unit.inputs j x (sym is) ∙ there))
 
-not_so : (b : Bool) → (b ≡ true → ⊥) → b ≡ false
-not_so true never = absurd (never refl)
-not_so false never = refl
-
 -- so one that is remembered is none
 pub held_inside : (structs : List StructDef) (units : List UnitDef) (entry k x : ℕ) (unit : UnitDef) (site : TypingContext) (var : Var) →
     IsWellTyped structs units entry → slice_get units k ≡ Some unit → slice_get unit.vars x ≡ Some var →
     home_of site (Some var) ≡ Held → is_output_of unit x ≡ false
 held_inside structs units entry k x unit site var keeps there known held =
-    let roles = unit_roles structs (take k units) unit (unit_after structs [] units k unit keeps.units_stand there) in
-    not_so (is_output_of unit x) (λ among.
+    let roles = unit_roles structs (take k units) unit (unit_at structs [] units k unit keeps.units_stand there) in
+    false_from_ne_true (is_output_of unit x) (λ among.
     output_unheld (is_alone site var.ty) var.role (is_some (scalar_in var.ty)) (copies_inputs site) (output_role unit x var roles among known) held)

@@ -9,18 +9,7 @@ use Rattle.bl_tree.specs.declared.tree.Var.{Var}
 use Rattle.bl_tree.specs.declared.value.Value.{Value}
 use Rattle.bl_tree.specs.Returns.{is_return_kind}
 use Rattle.bl_tree.specs.Typing.{is_activity, var_at}
-use Rattle.bl_graph_nodes.specs.Nodes.{
-  ActAt,
-  DepthEndAt,
-  DepthJoinAt,
-  ForkAt,
-  HeadAt,
-  Node,
-  PauseAt,
-  StartAt,
-  SurfaceEndAt,
-  SurfaceJoinAt,
-}
+use Rattle.bl_graph_nodes.specs.Nodes.{ActAt, DepthEndAt, DepthJoinAt, ForkAt, HeadAt, Node, PauseAt, StartAt, SurfaceEndAt, SurfaceJoinAt}
 use Rattle.bl_graph_nodes.specs.Plain.{plain_body}
 use Rattle.bl_ctext_semantics.specs.Meaning.{Scope, block_c}
 use Rattle.bl_ctext_semantics.specs.Memory.{Location, Memory, scalar_number, value_at}

@@ -1,8 +1,8 @@
 -- What the laws of passes ask of a program holds of one that passes the rules.
-use Rattle.std.proofs.Common.{◌≡◌, ℕ, zero, suc, ◌+◌, ◌*◌, ◌≤◌, ◌^◌, true, List, length, Some, refl, sym, ap, subst, ◌∙◌, arith}
-use Rattle.std.proofs.lemmas.List.{length_push}
+use Rattle.std.proofs.Common.{◌≡◌, ℕ, ◌+◌, ◌*◌, ◌≤◌, ◌^◌, true, List, length, Some, sym, ap, subst, ◌∙◌, arith}
 use Rattle.std.proofs.lemmas.List.Sorted.{length_permutation}
 use Rattle.std.specs.Prelude.{slice_get}
+use Rattle.bl_tree.proofs.Basics.{index_of, same_some}
 use Rattle.bl_tree.specs.declared.tree.StructDef.{StructDef}
 use Rattle.bl_tree.specs.declared.tree.Unit.{Unit as UnitDef}
 use Rattle.bl_tree.specs.Program.{IsWellTyped}
@@ -26,13 +26,9 @@ use Rattle.bl_emit_spec_laws.specs.Calls.Built.{Activities, AreBuilt, registered
 use Rattle.bl_emit_spec_laws.specs.Calls.Laws.{CompilationContext}
 use Rattle.bl_emit_spec_laws_wellformed.specs.Counts.{NodesCounted}
 use Rattle.bl_emit_spec_laws_wellformed.proofs.OnMachines.Counters.{sizes_few}
-use Rattle.bl_emit_spec_laws.proofs.OnOwn.Members.{some_is, stands_at}
 use Rattle.bl_emit_spec_laws.specs.Own.{NodesAreFew, RegistersAreFew}
 use Rattle.bl_emit_spec_laws_simulation.specs.Compiled.{AreCountable, ProgramsCompile}
-
-up_length : (n : ℕ) → length (up_to n) ≡ n
-up_length zero = refl
-up_length (suc n) = length_push (up_to n) n ∙ (let rest = up_length n in omega (arith, rest))
+use Rattle.bl_emit_spec_laws.proofs.OnOwn.Counting.{many_up_to}
 
 flags_few : (flags turns statements : ℕ) → flags + turns ≤ statements → statements ≤ 2 ^ 62 → flags ≤ 2 ^ 64
 flags_few flags turns statements few small = omega (arith, few, small)
@@ -53,18 +49,18 @@ module _ (structs : List StructDef) (units : List UnitDef) (entry : ℕ) (counte
         let made = built.made k unit there active in
         let among = filtered_at (λ (it : UnitDef). is_activity it.kind) units k unit there active in
         let own = each_at IsActivityOf (activities_among units) machine (graph_position units k) unit agrees among in
-        let of_unit = subst (IsActivityOf unit) (some_is own.0 made.one (sym own.1 ∙ made.is)) own.2 in
+        let of_unit = subst (IsActivityOf unit) (same_some own.0 made.one (sym own.1 ∙ made.is)) own.2 in
         nodes_few (length (activities k).order) (length (nodes_in (plain_body unit.body))) (cell_statements_of unit)
         (ap length made.order
         ∙ length_permutation (up_to (length (nodes_in (plain_body unit.body)))) (joined made.one.blocks) of_unit.order.all
-        ∙ up_length (length (nodes_in (plain_body unit.body)))) (nodes k unit keeps there).nodes (countable k unit there).statements
+        ∙ many_up_to (length (nodes_in (plain_body unit.body)))) (nodes k unit keeps there).nodes (countable k unit there).statements
 
     sized : (k : ℕ) (unit : UnitDef) → slice_get units k ≡ Some unit → is_activity unit.kind ≡ true → length (activities k).sizes ≤ 2 ^ 64
     sized k unit there active =
         let made = built.made k unit there active in
         let among = filtered_at (λ (it : UnitDef). is_activity it.kind) units k unit there active in
         let own = each_at IsActivityOf (activities_among units) machine (graph_position units k) unit agrees among in
-        let of_unit = subst (IsActivityOf unit) (some_is own.0 made.one (sym own.1 ∙ made.is)) own.2 in
+        let of_unit = subst (IsActivityOf unit) (same_some own.0 made.one (sym own.1 ∙ made.is)) own.2 in
         subst (λ (sizes : List ℕ). length sizes ≤ 2 ^ 64) (sym made.sizes)
         (counters_few (length (sizes_of made.one.slots)) (places_in (plain_body unit.body)) (cell_statements_of unit)
         (sizes_few (plain_body unit.body) made.one.slots of_unit.slots) (nodes k unit keeps there).places (countable k unit there).statements)
@@ -85,7 +81,7 @@ module _ (structs : List StructDef) (units : List UnitDef) (entry : ℕ) (counte
         vars = (countable k unit there).variables;
         flags = flags_few _ _ (cell_statements_of unit) (counted k unit keeps there).numbers (countable k unit there).statements;
       };
-      vars = λ unit among. let at = stands_at units unit among in (countable at.0 unit at.1).variables;
+      vars = λ unit among. let at = index_of units unit among in (countable at.0 unit at.1).variables;
       nodes = λ k unit n there active among. numbers structs units machine activities k unit n
           (record { agrees = agrees; built = built; is_there = there; activity = active }) (ordered k unit there active) among;
       registers = registers;

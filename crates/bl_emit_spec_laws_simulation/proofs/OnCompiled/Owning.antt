@@ -4,15 +4,13 @@ use Rattle.std.specs.List.{list_all}
 use Rattle.std.specs.Prelude.{option_and_then, option_map, slice_get, unwrap_or, if◌then◌else◌}
 use Rattle.bl_tree.specs.declared.tree.StructDef.{StructDef}
 use Rattle.bl_tree.specs.declared.tree.Unit.{Unit as UnitDef}
-use Rattle.bl_tree.specs.declared.tree.UnitKind.{UnitKind}
-use Rattle.bl_tree.specs.declared.tree.UnitKind.TheVariants.{Activity, Function}
 use Rattle.bl_tree.specs.Reduce.{greatest, total}
 use Rattle.bl_limits.specs.Rules.{Passes as KeepsLimits}
 use Rattle.bl_limits_measures.specs.Calls.{calls_of}
 use Rattle.bl_limits_measures.specs.Laws.{CellsAdd}
 use Rattle.bl_limits_measures.specs.Runs.{activities_by_place}
 use Rattle.bl_limits_measures.specs.Statements.{cell_statements_of}
-use Rattle.bl_limits_measures.specs.Units.{cells_at, cells_with, variables_of}
+use Rattle.bl_limits_measures.specs.Units.{cells_at, variables_of}
 use Rattle.bl_limits_measures_laws.specs.Laws.{UnitsUseEarlierOnes}
 use Rattle.bl_graph_nodes.specs.Plain.{plain_body}
 use Rattle.bl_machine.specs.declared.machine.Activity.{Activity as InMachine}
@@ -31,14 +29,10 @@ use Rattle.bl_emit_spec_laws_wellformed.specs.Counts.{NodesCounted}
 use Rattle.bl_emit_spec_laws_wellformed.specs.Needed.{NeededSmall}
 use Rattle.bl_emit_spec_laws.specs.Own.{AskedAreOwn, BuiltAt, ChangesAreOwn}
 use Rattle.bl_emit_spec_laws_simulation.specs.Compiled.{RulesAreOwn}
+use Rattle.bl_emit_spec_laws_wellformed.proofs.OnMachines.Whole.{enough}
 
-places_small : (places statements cells : ℕ) → places ≤ statements → statements ≤ cells → cells ≤ 1_000_000 → places < 2 ^ 32
+pub places_small : (places statements cells : ℕ) → places ≤ statements → statements ≤ cells → cells ≤ 1_000_000 → places < 2 ^ 32
 places_small places statements cells few more small = omega (arith, few, more, small)
-
--- a unit has no fewer cells than statements
-enough : (kind : UnitKind) (variables statements running calling : ℕ) → statements ≤ cells_with kind variables statements running calling
-enough Function variables statements running calling = omega arith
-enough Activity variables statements running calling = omega arith
 
 -- the unit of an instance, and what is needed of it
 record IsOf (units : List UnitDef) (entry : ℕ) (k : ℕ) (unit : UnitDef) : Type 0 where

@@ -1,70 +1,30 @@
 -- The arguments of a `run` of an instance fit the activity that it calls, and none overlap.
-use Rattle.std.proofs.Common.{◌≡◌, ℕ, zero, suc, ◌<◌, arith, Bool, true, ◌&&◌, List, []}
-use Rattle.std.proofs.Common.{◌∷◌, Contains, map, take, Some, refl, sym, ◌∙◌, subst, length}
+use Rattle.std.proofs.Common.{◌≡◌, ℕ, ◌<◌, arith, Bool, true, ◌&&◌, List, []}
+use Rattle.std.proofs.Common.{◌∷◌, Contains, map, take, Some, sym, ◌∙◌, subst}
 use Rattle.std.proofs.lemmas.Option.{same_Some}
-use Rattle.std.specs.Prelude.{option_and_then, option_map, slice_get, unwrap_or, Option, None}
+use Rattle.std.specs.Prelude.{slice_get}
+use Rattle.bl_tree.proofs.Basics.{and_first, and_second, both_empty, index_of}
 use Rattle.bl_tree.specs.declared.place.Place.{Place}
 use Rattle.bl_tree.specs.declared.rule.Rule.TheVariants as rule
 use Rattle.bl_tree.specs.declared.tree.StructDef.{StructDef}
 use Rattle.bl_tree.specs.declared.tree.Unit.{Unit as UnitDef}
 use Rattle.bl_tree.specs.Program.{IsWellTyped}
-use Rattle.bl_tree.specs.Reduce.{all_of, joined}
+use Rattle.bl_tree.specs.Reduce.{all_of}
 use Rattle.bl_tree.specs.Typing.{TypingContext, arguments_fit, inputs_of, is_outlet, outputs_of, site_of, type_of, type_of_path, types_match}
-use Rattle.bl_effects.specs.Rules.{Aliased, Passes, aliases_in, marked_inputs, marked_path, outputs_aliased, target_aliased}
-use Rattle.bl_eval.proofs.PassLemmas.{and_left, and_right}
+use Rattle.bl_effects.specs.Rules.{Passes, marked_inputs, marked_path, outputs_aliased, target_aliased}
 use Rattle.bl_graph_nodes.specs.Nodes.{Arguments, EnterAt, nodes_in}
 use Rattle.bl_graph_nodes.specs.Plain.{Label, plain_body}
-use Rattle.bl_ctree.specs.declared.instance.Instance.{Instance}
-use Rattle.bl_ctree.specs.Instances.{Setting, callee_of, setting_of, unit_at, unit_of}
+use Rattle.bl_ctree.specs.Instances.{Setting, callee_of, setting_of, unit_at}
 use Rattle.bl_ctree_laws_confluence.specs.Deeds.Origins.{InstancesHaveCallers}
 use Rattle.bl_ctree_laws_confluence.proofs.OnDeeds.Activities.{all_at}
-use Rattle.bl_ctree_laws_typing.proofs.OnViews.Running.{body_fits, unit_stands_at}
+use Rattle.bl_ctree_laws_typing.proofs.OnViews.Running.{body_fits}
 use Rattle.bl_machine_pass_laws_execution.proofs.OnFresh.Naming.{BeginsNamed, body_named}
 use Rattle.bl_emit_spec_laws.specs.Calls.Built.{unit_number}
-use Rattle.bl_emit_spec_laws_simulation.proofs.OnGives.Lists.{found_at}
-use Rattle.bl_emit_spec_laws_simulation.proofs.OnGives.Running.{NodeFits, RunFits, body_nodes, none_in_both}
-
--- the unit of an instance stands at the position of its unit
-pub unit_there : (w : Setting) (j : ℕ) (other : UnitDef) → unit_at w j ≡ Some other → slice_get w.units (unit_number w j) ≡ Some other
-unit_there w j other there = by (slice_get w.instances j) there
-  where
-    by : (o : Option Instance) → option_and_then (unit_of w) o ≡ Some other →
-        slice_get w.units (unwrap_or (option_map (λ (instance : Instance). instance.unit) o) 0) ≡ Some other
-    by None there = absurd (cc)
-    by (Some instance) there = there
-
-taken : (units : List UnitDef) (n k : ℕ) (unit : UnitDef) → slice_get (take n units) k ≡ Some unit → slice_get units k ≡ Some unit
-taken [] zero k unit e = absurd cc
-taken [] (suc n) k unit e = absurd cc
-taken (u ∷ units) zero k unit e = absurd cc
-taken (u ∷ units) (suc n) zero unit e = e
-taken (u ∷ units) (suc n) (suc k) unit e = taken units n k unit e
-
-index_there : {A : Type 0} (xs : List A) (k : ℕ) (x : A) → slice_get xs k ≡ Some x → Contains xs x
-index_there [] k x there = absurd (cc)
-index_there (y ∷ xs) zero x there = (0, omega arith, same_Some y x there)
-index_there (y ∷ xs) (suc k) x there =
-    let found = index_there xs k x there in
-    let less : found.0 < length xs = found.1 in
-    (suc found.0, omega (arith, less), found.2)
-
--- by the rule Alias nothing overlaps in a unit
-none_overlap : (units : List UnitDef) (k : ℕ) (unit : UnitDef) → Passes units → slice_get units k ≡ Some unit →
-    joined (map aliases_in unit.body) ≡ []
-none_overlap units k unit passes there = by (joined (map aliases_in unit.body)) refl
-  where
-    by : (all : List Aliased) → joined (map aliases_in unit.body) ≡ all → all ≡ []
-    by [] is = refl
-    by (one ∷ rest) is =
-        absurd (passes rule.Alias one.at (one.also ∷ [])
-        (record {
-          unit = unit;
-          is_there = index_there units k unit there;
-          aliased = one;
-          fails = subst (λ (all : List Aliased). Contains all one) (sym is) (0, omega arith, refl);
-          at_one = refl;
-          at_other = refl;
-        }))
+use Rattle.bl_emit_spec_laws_simulation.proofs.OnGives.Running.{NodeFits, RunFits, body_nodes}
+use Rattle.bl_eval.proofs.UnitFits.{unit_at as unit_stands_at}
+use Rattle.bl_ctree_laws_confluence.proofs.OnDeeds.Activities.{taken}
+use Rattle.bl_emit_spec_laws.proofs.OnActivities.Nested.{unit_there}
+use Rattle.bl_emit_spec_laws_nodes.proofs.OnFitting.Whole.{none_overlap}
 
 -- the arguments of a `run` of an instance of the unit at the position k, which calls one of the unit `other`
 pub record RunArgues (structs : List StructDef) (units : List UnitDef) (k : ℕ) (unit : UnitDef) (arguments : Arguments) (other : UnitDef) : Type 0 where
@@ -88,7 +48,7 @@ run_argues structs units entry callers keeps passes i unit is l at arguments j o
     let nodes =
     body_nodes site (BeginsNamed structs units entry keeps i) unit.body (body_fits structs (take k units) unit stands)
     (body_named structs units entry keeps callers i unit is, none_overlap units k unit passes there) in
-    let found = found_at (nodes_in (plain_body unit.body)) (EnterAt l at arguments) node in
+    let found = index_of (nodes_in (plain_body unit.body)) (EnterAt l at arguments) node in
     let run : RunFits site (BeginsNamed structs units entry keeps i) at arguments =
     all_at (NodeFits site (BeginsNamed structs units entry keeps i)) (nodes_in (plain_body unit.body)) found.0 (EnterAt l at arguments) nodes
     found.1 in
@@ -100,9 +60,9 @@ run_argues structs units entry callers keeps passes i unit is l at arguments j o
     let outs : Bool = types_match (map (type_of_path site) arguments.outputs) (outputs_of other) in
     let outlets : Bool = all_of (map (is_outlet site) arguments.outputs) in
     record {
-      inputs = and_left ins (outs && outlets) fitting;
-      outputs = and_left outs outlets (and_right ins (outs && outlets) fitting);
-      outlets = and_right outs outlets (and_right ins (outs && outlets) fitting);
-      alone = (none_in_both (target_aliased (map marked_path arguments.outputs) arguments.target)
+      inputs = and_first ins (outs && outlets) fitting;
+      outputs = and_first outs outlets (and_second ins (outs && outlets) fitting);
+      outlets = and_second outs outlets (and_second ins (outs && outlets) fitting);
+      alone = (both_empty (target_aliased (map marked_path arguments.outputs) arguments.target)
           (outputs_aliased (marked_inputs arguments.inputs) [] (map marked_path arguments.outputs)) run.alone).1;
     }

@@ -1,15 +1,15 @@
 -- The places that a `run` hands over keep apart, and are there.
 use Rattle.std.proofs.Common.{◌≡◌, ℕ, ◌<◌, arith, Bool, true, false, not, ◌&&◌}
 use Rattle.std.proofs.Common.{◌||◌, List, [], ◌∷◌, ◌++◌, Some, refl, sym, ap, ◌∙◌}
-use Rattle.std.proofs.lemmas.Bool.{le-leb, ltb-true}
 use Rattle.std.specs.List.{list_all}
-use Rattle.std.specs.Prelude.{bytes_eq, is_some, nat_le, ◌==◌}
+use Rattle.std.specs.Prelude.{bytes_eq, is_some, ◌==◌}
+use Rattle.std.proofs.lemmas.Bool.{and_from, or_right}
+use Rattle.bl_tree.proofs.Basics.{and_false, and_first, and_second, at_most_self_test}
 use Rattle.bl_tree.specs.declared.tree.Unit.{Unit as UnitDef}
 use Rattle.bl_tree.specs.declared.tree.Var.{Var}
 use Rattle.bl_tree.specs.Typing.{TypingContext, is_activity, var_at}
-use Rattle.bl_eval.proofs.PassLemmas.{and_left, and_right, both}
 use Rattle.bl_ctext_semantics.specs.Meaning.{ArgumentValue, Scope, further, named_location}
-use Rattle.bl_ctext_semantics.specs.Memory.{Location, Projection, Root, input_object, member, output_object, same_root, state_object, variable}
+use Rattle.bl_ctext_semantics.specs.Memory.{Location, Projection, member, same_root, variable}
 use Rattle.bl_emit_acts.specs.declared.home.Home.{Home}
 use Rattle.bl_emit_acts.specs.declared.home.Home.TheVariants.{Held, Local, Lent}
 use Rattle.bl_emit_acts.specs.Types.{variable_name}
@@ -24,18 +24,20 @@ use Rattle.bl_emit_spec_laws.specs.Calls.Calls.{MayGive, where_true}
 use Rattle.bl_emit_spec_laws.specs.Calls.Memories.{inner}
 use Rattle.bl_emit_spec_laws.specs.Calls.Invariant.{PlacesAreSeparate}
 use Rattle.bl_emit_spec_laws_nodes.specs.Calling.{given_by}
-use Rattle.bl_emit_spec_laws_nodes.proofs.OnPoints.Apart.{first_further, last_further, older_differs}
-use Rattle.bl_emit_spec_laws_nodes.proofs.OnPoints.Cells.{apart_flip, behind_front, or_last}
+use Rattle.bl_emit_spec_laws_nodes.proofs.OnPoints.Apart.{first_further, last_further}
+use Rattle.bl_emit_acts_laws_simulation.proofs.Frames.{older_differs, older_live, roots_differ}
+use Rattle.bl_emit_acts_laws_simulation.proofs.Cells.{apart_flip}
+use Rattle.bl_emit_spec_laws.proofs.OnRegisters.Cells.{behind_front}
 
 -- ---- lists of places
 
 append_all : (f : Location → Bool) (xs ys : List Location) → list_all f xs ≡ true → list_all f ys ≡ true → list_all f (xs ++ ys) ≡ true
 append_all f [] ys one other = other
 append_all f (x ∷ xs) ys one other =
-    both (f x) (list_all f (xs ++ ys)) (and_left (f x) (list_all f xs) one) (append_all f xs ys (and_right (f x) (list_all f xs) one) other)
+    and_from (f x) (list_all f (xs ++ ys)) (and_first (f x) (list_all f xs) one) (append_all f xs ys (and_second (f x) (list_all f xs) one) other)
 
 single_all : (f : Location → Bool) (x : Location) → f x ≡ true → list_all f (x ∷ []) ≡ true
-single_all f x one = both (f x) true one refl
+single_all f x one = and_from (f x) true one refl
 
 where_all : (f : Location → Bool) (test : Bool) (x : Location) → (test ≡ true → f x ≡ true) → list_all f (where_true test x) ≡ true
 where_all f true x one = single_all f x (one refl)
@@ -52,21 +54,21 @@ Parted xs ys = list_all (λ x. list_all (are_apart x) ys) xs ≡ true
 append_apart : (xs ys : List Location) → all_apart xs ≡ true → all_apart ys ≡ true → Parted xs ys → all_apart (xs ++ ys) ≡ true
 append_apart [] ys one other parted = other
 append_apart (x ∷ xs) ys one other parted =
-    both (list_all (are_apart x) (xs ++ ys)) (all_apart (xs ++ ys))
-    (append_all (are_apart x) xs ys (and_left (list_all (are_apart x) xs) (all_apart xs) one)
-    (and_left (list_all (are_apart x) ys) (list_all (λ x. list_all (are_apart x) ys) xs) parted))
-    (append_apart xs ys (and_right (list_all (are_apart x) xs) (all_apart xs) one) other
-    (and_right (list_all (are_apart x) ys) (list_all (λ x. list_all (are_apart x) ys) xs) parted))
+    and_from (list_all (are_apart x) (xs ++ ys)) (all_apart (xs ++ ys))
+    (append_all (are_apart x) xs ys (and_first (list_all (are_apart x) xs) (all_apart xs) one)
+    (and_first (list_all (are_apart x) ys) (list_all (λ x. list_all (are_apart x) ys) xs) parted))
+    (append_apart xs ys (and_second (list_all (are_apart x) xs) (all_apart xs) one) other
+    (and_second (list_all (are_apart x) ys) (list_all (λ x. list_all (are_apart x) ys) xs) parted))
 
 first_apart : (x : Location) (ys : List Location) → list_all (are_apart x) ys ≡ true → all_apart ys ≡ true → all_apart (x ∷ ys) ≡ true
-first_apart x ys one other = both (list_all (are_apart x) ys) (all_apart ys) one other
+first_apart x ys one other = and_from (list_all (are_apart x) ys) (all_apart ys) one other
 
 -- what is apart from a place, one by one
 flip_all : (x : Location) (ys : List Location) → list_all (are_apart x) ys ≡ true → list_all (λ y. are_apart y x) ys ≡ true
 flip_all x [] all = refl
 flip_all x (y ∷ ys) all =
-    both (are_apart y x) (list_all (λ y. are_apart y x) ys) (apart_flip x y (and_left (are_apart x y) (list_all (are_apart x) ys) all))
-    (flip_all x ys (and_right (are_apart x y) (list_all (are_apart x) ys) all))
+    and_from (are_apart y x) (list_all (λ y. are_apart y x) ys) (apart_flip x y (and_first (are_apart x y) (list_all (are_apart x) ys) all))
+    (flip_all x ys (and_second (are_apart x y) (list_all (are_apart x) ys) all))
 
 parted_nothing : (xs : List Location) → Parted xs []
 parted_nothing [] = refl
@@ -76,11 +78,11 @@ parted_more : (xs : List Location) (y : Location) (ys : List Location) → list_
     Parted xs (y ∷ ys)
 parted_more [] y ys one other = refl
 parted_more (x ∷ xs) y ys one other =
-    both (list_all (are_apart x) (y ∷ ys)) (list_all (λ x. list_all (are_apart x) (y ∷ ys)) xs)
-    (both (are_apart x y) (list_all (are_apart x) ys) (and_left (are_apart x y) (list_all (λ x. are_apart x y) xs) one)
-    (and_left (list_all (are_apart x) ys) (list_all (λ x. list_all (are_apart x) ys) xs) other))
-    (parted_more xs y ys (and_right (are_apart x y) (list_all (λ x. are_apart x y) xs) one)
-    (and_right (list_all (are_apart x) ys) (list_all (λ x. list_all (are_apart x) ys) xs) other))
+    and_from (list_all (are_apart x) (y ∷ ys)) (list_all (λ x. list_all (are_apart x) (y ∷ ys)) xs)
+    (and_from (are_apart x y) (list_all (are_apart x) ys) (and_first (are_apart x y) (list_all (λ x. are_apart x y) xs) one)
+    (and_first (list_all (are_apart x) ys) (list_all (λ x. list_all (are_apart x) ys) xs) other))
+    (parted_more xs y ys (and_second (are_apart x y) (list_all (λ x. are_apart x y) xs) one)
+    (and_second (list_all (are_apart x) ys) (list_all (λ x. list_all (are_apart x) ys) xs) other))
 
 parted_where : (xs : List Location) (test : Bool) (y : Location) (ys : List Location) → (test ≡ true → list_all (λ x. are_apart x y) xs ≡ true) →
     Parted xs ys → Parted xs (where_true test y ++ ys)
@@ -93,38 +95,22 @@ parted_last xs true y one = parted_more xs y [] (one refl) (parted_nothing xs)
 parted_last xs false y one = parted_nothing xs
 
 where_parted : (test : Bool) (x : Location) (ys : List Location) → (test ≡ true → list_all (are_apart x) ys ≡ true) → Parted (where_true test x) ys
-where_parted true x ys one = both (list_all (are_apart x) ys) true (one refl) refl
+where_parted true x ys one = and_from (list_all (are_apart x) ys) true (one refl) refl
 where_parted false x ys one = refl
 
 -- ---- two places
-
-no_part : (b : Bool) → (b && false) ≡ false
-no_part true = refl
-no_part false = refl
-
-roots_apart : (p q : Location) → same_root p.root q.root ≡ false → are_apart p q ≡ true
-roots_apart p q differ = ap (λ same. not same || ways_part p.parts q.parts) differ
 
 -- variables of a function with different names
 locals_apart : (depth : ℕ) (p q : Location) (a b : List ℕ) → p.root ≡ variable depth a → q.root ≡ variable depth b → bytes_eq a b ≡ false →
     are_apart p q ≡ true
 locals_apart depth p q a b first second differ =
-    roots_apart p q
+    roots_differ p q
     (ap (λ root. same_root root q.root) first
-    ∙ (ap (same_root (variable depth a)) second ∙ (ap (λ same. (depth == depth) && same) differ ∙ no_part (depth == depth))))
+    ∙ (ap (same_root (variable depth a)) second ∙ (ap (λ same. (depth == depth) && same) differ ∙ and_false (depth == depth))))
 
 local_older : (depth : ℕ) (p q : Location) (name : List ℕ) → p.root ≡ variable depth name → is_older depth q.root ≡ true →
     are_apart p q ≡ true
-local_older depth p q name is older = roots_apart p q (ap (λ root. same_root root q.root) is ∙ older_differs depth name q.root older)
-
-pub older_live : (depth : ℕ) (root : Root) → is_older depth root ≡ true → is_live depth root ≡ true
-older_live depth state_object h = refl
-older_live depth input_object h = refl
-older_live depth output_object h = refl
-older_live depth (variable d name) h = let less : d < depth = ltb-true d depth h in le-leb d depth (omega arith)
-
-own_live : (depth : ℕ) → nat_le depth depth ≡ true
-own_live depth = le-leb depth depth (omega arith)
+local_older depth p q name is older = roots_differ p q (ap (λ root. same_root root q.root) is ∙ older_differs depth name q.root older)
 
 module _ (site : TypingContext) (unit : UnitDef) (remembers : Bool) (scope : Scope) (places : PlacesAreSeparate site unit remembers scope)
     (active : is_activity site.kind ≡ true) (n : NumberedWord) where
@@ -187,7 +173,7 @@ module _ (site : TypingContext) (unit : UnitDef) (remembers : Bool) (scope : Sco
       let start = remembered_at scope in
       apart_by memory
       (λ k var there is.
-      or_last (not (same_root start.root start.root))
+      or_right (not (same_root start.root start.root))
       (ways_part (start.parts ++ member (callee_name n) ∷ []) (start.parts ++ member (variable_name site.vars k) ∷ []))
       (behind_front start.parts (member (callee_name n) ∷ []) (member (variable_name site.vars k) ∷ [])))
       (λ k. older_apart memory (variable_name site.vars k) [] (places.memory its).older)
@@ -255,18 +241,18 @@ module _ (site : TypingContext) (unit : UnitDef) (remembers : Bool) (scope : Sco
       record {
         apart = first_apart frame (where_true has memory ++ rest) frame_rest
             (append_apart (where_true has memory) rest (where_apart has memory) rest_apart (where_parted has memory rest memory_rest));
-        inputs_apart = both (apart_input frame) (list_all apart_input (where_true has memory ++ rest)) (from_inputs frame frame_variables)
+        inputs_apart = and_from (apart_input frame) (list_all apart_input (where_true has memory ++ rest)) (from_inputs frame frame_variables)
             (append_all apart_input (where_true has memory) rest
             (where_all apart_input has memory (λ one. from_inputs memory (memory_variables (its one))))
             (append_all apart_input outputs last may.inputs_apart
             (append_all apart_input (where_true (is_some other.result) result) ends
             (where_all apart_input (is_some other.result) result (λ one. from_inputs result result_variables))
             (where_all apart_input (unit_may_end other) over (λ may. from_inputs over over_variables)))));
-        live = both (live frame) (list_all live (where_true has memory ++ rest)) (older_live scope.depth frame.root frame_older)
+        live = and_from (live frame) (list_all live (where_true has memory ++ rest)) (older_live scope.depth frame.root frame_older)
             (append_all live (where_true has memory) rest
             (where_all live has memory (λ one. older_live scope.depth memory.root (places.memory (its one)).older))
             (append_all live outputs last may.live
             (append_all live (where_true (is_some other.result) result) ends
-            (where_all live (is_some other.result) result (λ one. own_live scope.depth))
-            (where_all live (unit_may_end other) over (λ may. own_live scope.depth)))));
+            (where_all live (is_some other.result) result (λ one. at_most_self_test scope.depth))
+            (where_all live (unit_may_end other) over (λ may. at_most_self_test scope.depth)))));
       }

@@ -4,6 +4,8 @@ use Rattle.std.proofs.Common.{◌||◌, [], length, take, Option, Some, None, re
 use Rattle.std.proofs.lemmas.Bool.{leb-false, leb-true}
 use Rattle.std.specs.List.{list_all}
 use Rattle.std.specs.Prelude.{List, is_some, nat_le, nat_lt, option_and_then, option_map, slice_get, if◌then◌else◌, ◌-◌}
+use Rattle.std.proofs.lemmas.Bool.{false_from_ne_true}
+use Rattle.bl_tree.proofs.Basics.{and_first, and_second, get_taken}
 use Rattle.bl_tree.specs.declared.tree.StructDef.{StructDef}
 use Rattle.bl_tree.specs.declared.tree.Unit.{Unit as UnitDef}
 use Rattle.bl_tree.specs.declared.tree.Var.{Var}
@@ -11,21 +13,21 @@ use Rattle.bl_tree.specs.Program.{IsWellTyped, is_input, is_output, locals_of, r
 use Rattle.bl_tree.specs.Static.{whole}
 use Rattle.bl_tree.specs.Types.{scalar_in}
 use Rattle.bl_tree.specs.Typing.{TypingContext, inputs_of, is_activity, is_fixed, is_variable, outputs_of}
-use Rattle.bl_eval.proofs.PassLemmas.{all_at, and_left, and_right}
+use Rattle.bl_eval.proofs.PassLemmas.{all_at}
 use Rattle.bl_ctree.specs.declared.instance.Instance.{Instance}
 use Rattle.bl_ctree.specs.declared.instance.Origin.{Origin}
 use Rattle.bl_ctree.specs.Instances.{Setting, unit_of}
 use Rattle.bl_ctree.specs.Store.{is_output_of, led, led_by, under, whole_of}
-use Rattle.bl_ctree_laws_typing.proofs.OnViews.Running.{parameters_within, unit_stands_at}
+use Rattle.bl_ctree_laws_typing.proofs.OnViews.Running.{parameters_within}
 use Rattle.bl_emit_acts.specs.declared.home.Home.TheVariants.{Held}
 use Rattle.bl_emit_acts.specs.Places.{home_of}
 use Rattle.bl_emit_acts_laws_simulation.proofs.Homes.{activity_home, input_unheld}
-use Rattle.bl_emit_spec_laws_simulation.proofs.OnGives.Lists.{get_taken}
+use Rattle.bl_eval.proofs.UnitFits.{unit_at}
 
 pub roles_at : (structs : List StructDef) (units : List UnitDef) (entry k : ℕ) (unit : UnitDef) → IsWellTyped structs units entry →
     slice_get units k ≡ Some unit → roles_stand unit ≡ true
 roles_at structs units entry k unit keeps there =
-    parameters_within structs (take k units) unit (unit_stands_at structs [] units k unit keeps.units_stand there)
+    parameters_within structs (take k units) unit (unit_at structs [] units k unit keeps.units_stand there)
 
 module _ (unit : UnitDef) (roles : roles_stand unit ≡ true) where
   abbrev all_inputs : Bool
@@ -40,19 +42,15 @@ module _ (unit : UnitDef) (roles : roles_stand unit ≡ true) where
   pub parameters_few : unit.inputs + unit.outputs ≤ length unit.vars
   parameters_few =
       leb-true (unit.inputs + unit.outputs) (length unit.vars)
-      (and_left (nat_le (unit.inputs + unit.outputs) (length unit.vars)) (all_inputs && (all_outputs && all_locals)) roles)
+      (and_first (nat_le (unit.inputs + unit.outputs) (length unit.vars)) (all_inputs && (all_outputs && all_locals)) roles)
 
   others_so : (all_inputs && (all_outputs && all_locals)) ≡ true
-  others_so = and_right (nat_le (unit.inputs + unit.outputs) (length unit.vars)) (all_inputs && (all_outputs && all_locals)) roles
+  others_so = and_second (nat_le (unit.inputs + unit.outputs) (length unit.vars)) (all_inputs && (all_outputs && all_locals)) roles
 
   input_role : (x : ℕ) (var : Var) → x < unit.inputs → slice_get unit.vars x ≡ Some var → is_input var.role ≡ true
   input_role x var less there =
-      all_at (λ (var : Var). is_input var.role) (inputs_of unit) x var (and_left all_inputs (all_outputs && all_locals) others_so)
+      all_at (λ (var : Var). is_input var.role) (inputs_of unit) x var (and_first all_inputs (all_outputs && all_locals) others_so)
       (get_taken unit.vars unit.inputs x less ∙ there)
-
-not_so : (b : Bool) → (b ≡ true → ⊥) → b ≡ false
-not_so true never = absurd (never refl)
-not_so false never = refl
 
 -- what an activity keeps stands behind its inputs
 pub held_behind : (unit : UnitDef) (x : ℕ) (site : TypingContext) (var : Var) → is_activity site.kind ≡ true → roles_stand unit ≡ true →
@@ -68,12 +66,12 @@ held_behind unit x site var active roles there held = by (nat_le unit.inputs x) 
 
 -- an input is no output
 pub input_no_output : (unit : UnitDef) (x : ℕ) → x < unit.inputs → is_output_of unit x ≡ false
-input_no_output unit x less = not_so (is_output_of unit x) by
+input_no_output unit x less = false_from_ne_true (is_output_of unit x) by
   where
     by : is_output_of unit x ≡ true → ⊥
     by among =
         let least : unit.inputs ≤ x =
-        leb-true unit.inputs x (and_left (nat_le unit.inputs x) (nat_lt x (unit.inputs + unit.outputs)) among) in
+        leb-true unit.inputs x (and_first (nat_le unit.inputs x) (nat_lt x (unit.inputs + unit.outputs)) among) in
         absurd (omega (arith, less, least))
 
 -- what is no output of its unit leads to no caller

@@ -1,10 +1,10 @@
 -- What instances see once the inputs of a `run` went to the frame of what it calls.
-use Rattle.std.proofs.Common.{◌≡◌, ℕ, zero, suc, ◌+◌, ◌<◌, ◌≤◌, arith, Bool, true}
-use Rattle.std.proofs.Common.{false, List, [], ◌∷◌, ◌++◌, map, take, drop, length}
+use Rattle.std.proofs.Common.{◌≡◌, ℕ, ◌+◌, ◌<◌, ◌≤◌, arith, Bool, true}
+use Rattle.std.proofs.Common.{false, List, [], ◌∷◌, ◌++◌, take, drop, length}
 use Rattle.std.proofs.Common.{Option, Some, None, refl, sym, ap, ◌∙◌, subst, eqb-true}
-use Rattle.std.proofs.lemmas.Option.{same_Some, slice_get-get_or, slice_get-map}
-use Rattle.std.specs.List.{range_with_len}
+use Rattle.std.proofs.lemmas.Option.{same_Some, slice_get-get_or}
 use Rattle.std.specs.Prelude.{nat_eq, option_and_then, option_map, slice_get, slice_set, unwrap_or}
+use Rattle.bl_tree.proofs.Basics.{get_front}
 use Rattle.bl_tree.specs.declared.place.Place.{Place}
 use Rattle.bl_tree.specs.declared.static_path.Static.{Static}
 use Rattle.bl_tree.specs.declared.tree.Expr.{Expr}
@@ -17,7 +17,6 @@ use Rattle.bl_eval.specs.Meaning.{read_at}
 use Rattle.bl_eval.specs.Values.{value_at}
 use Rattle.bl_eval.proofs.OperatorFits.{some_found}
 use Rattle.bl_eval_laws.proofs.OnLocal.Locality.{value_within}
-use Rattle.bl_eval_laws.proofs.OnLocal.Puts.{parts_of}
 use Rattle.bl_ctree.specs.declared.instance.Instance.{Instance}
 use Rattle.bl_ctree.specs.Actions.{Copies, Performed, done, values_there}
 use Rattle.bl_ctree.specs.Instances.{Setting, callee_of, setting_of, unit_at, unit_of}
@@ -30,18 +29,16 @@ use Rattle.bl_ctree_laws_confluence.specs.Deeds.Origins.{HomesLeadOut}
 use Rattle.bl_ctree_laws_typing.specs.Fits.{HasFrame}
 use Rattle.bl_ctree_laws_confluence.specs.Stores.{FramesKeepOthers, HomesLeadOn, now_of, onward}
 use Rattle.bl_machine_laws.specs.Passes.Follows.{DeedYields}
-use Rattle.bl_machine_pass_laws_execution.proofs.OnKept.Copying.{found}
-use Rattle.bl_emit_spec_laws_simulation.proofs.OnGives.Lists.{get_after, get_front, itself_only, mapped_at, same_mapped, set_here, taken_is}
+use Rattle.bl_emit_spec_laws_simulation.proofs.OnGives.Lists.{itself_only, mapped_at, taken_is}
 use Rattle.bl_emit_spec_laws_simulation.proofs.OnGives.Roles.{input_no_output, led_nowhere}
+use Rattle.bl_machine_pass_laws_execution.proofs.OnFresh.Doing.{found}
+use Rattle.bl_machine_pass_laws_typing.proofs.OnSeen.Seeing.{mapped_got}
+use Rattle.bl_ctree_laws_confluence.proofs.OnStores.Views.{nothing_there}
+use Rattle.bl_emit_acts_laws_simulation.proofs.Written.{set_same}
+use Rattle.bl_emit_spec_laws_nodes.proofs.OnViews.Leaving.{same_mapped}
+use Rattle.bl_machine_pass_laws_execution.proofs.OnFresh.Lists.{behind_front}
 
 -- ---- values at homes
-
-nothing_there : (f : ℕ) (fields : List ℕ) → value_at (f ∷ fields) (Parts []) ≡ None
-nothing_there f fields = ap (λ all. option_and_then (value_at fields) (option_and_then (λ all. slice_get all f) all)) (parts_of []) ∙ empty f
-  where
-    empty : (f : ℕ) → option_and_then (value_at fields) (slice_get [] f) ≡ None
-    empty zero = refl
-    empty (suc f) = refl
 
 -- what is onward from a home is in what is at the home
 among_onward : (store : Store) (at : Location) (fields : List ℕ) →
@@ -66,22 +63,6 @@ seen_through : (fields : List ℕ) (o : Option Value) (v : Value) → value_at f
 seen_through fields (Some a) v h = ap (λ o. unwrap_or o (Parts [])) h
 seen_through [] None v h = same_Some (Parts []) v h
 seen_through (f ∷ fields) None v h = absurd (let no : None ≡ Some v = sym (nothing_there f fields) ∙ h in cc)
-
-mapped_is : (f : ℕ → Value) (count k : ℕ) (v : Value) → slice_get (map f (range_with_len 0 count)) k ≡ Some v → f k ≡ v
-mapped_is f count k v there =
-    same_Some (f k) v (sym (same_here f count k v there) ∙ there)
-  where
-    same_here : (f : ℕ → Value) (count k : ℕ) (v : Value) → slice_get (map f (range_with_len 0 count)) k ≡ Some v →
-        slice_get (map f (range_with_len 0 count)) k ≡ Some (f k)
-    same_here f count k v there =
-        let one = same_mapped f (λ x. f k) count k refl in
-        one ∙ by (slice_get (range_with_len 0 count) k) (slice_get-map (λ x. f k) (range_with_len 0 count) k) (sym one ∙ there)
-      where
-        by : (o : Option ℕ) → slice_get (map (λ x. f k) (range_with_len 0 count)) k ≡ option_map (λ x. f k) o →
-            slice_get (map (λ x. f k) (range_with_len 0 count)) k ≡ Some v →
-            slice_get (map (λ x. f k) (range_with_len 0 count)) k ≡ Some (f k)
-        by None is there = absurd (let no : None ≡ Some v = sym is ∙ there in cc)
-        by (Some x) is there = is
 
 -- ---- the inputs that were copied
 
@@ -111,7 +92,7 @@ module _ (keep : FramesKeepOthers) (homes : HomesLeadOut) (along : HomesLeadOn) 
   left_at : slice_get left j ≡ Some (with_inputs values has.frame)
   left_at =
       ap (λ o. slice_get (unwrap_or (option_map (λ frame. slice_set store j (with_inputs values frame)) o) store) j) has.is
-      ∙ set_here store j (with_inputs values has.frame) has.frame has.is
+      ∙ set_same store j (with_inputs values has.frame) has.frame has.is
 
   vars_are : vars_at w j ≡ other.vars
   vars_are = ap (λ o. unwrap_or (option_map (λ (unit : UnitDef). unit.vars) o) []) there
@@ -157,7 +138,7 @@ module _ (keep : FramesKeepOthers) (homes : HomesLeadOut) (along : HomesLeadOn) 
       let at_home : Location = home w (record { instance = i; path = s }) in
       let whole : Option Value = value_among now_of store (home w (whole_of i s.root)) in
       let found_root = some_found (value_at s.fields) (slice_get (view_at w store i).now s.root) v read in
-      let root_is = mapped_is (variable_among now_of w store i) (length (vars_at w i)) s.root found_root.0 found_root.1 in
+      let root_is = mapped_got (variable_among now_of w store i) (length (vars_at w i)) s.root found_root.0 found_root.1 in
       let through : value_at s.fields (unwrap_or whole (Parts [])) ≡ Some v = ap (value_at s.fields) root_is ∙ found_root.2 in
       let value_is : value_among now_of left (home w (whole_of j (other.inputs + n))) ≡ option_and_then (value_at s.fields) whole =
       ap (value_among now_of left) same
@@ -179,7 +160,7 @@ module _ (keep : FramesKeepOthers) (homes : HomesLeadOut) (along : HomesLeadOn) 
       same_frame least =
           let past : length values ≤ x = omega (arith, least, long) in
           ap (λ o. option_and_then (λ frame. option_and_then (value_at []) (slice_get (now_of frame) x)) o) left_at
-          ∙ (ap (option_and_then (value_at [])) (get_after values has.frame.now x past)
+          ∙ (ap (option_and_then (value_at [])) (behind_front values has.frame.now x past)
           ∙ sym (ap (λ o. option_and_then (λ frame. option_and_then (value_at []) (slice_get (now_of frame) x)) o) has.is))
 
       by : (b : Bool) → nat_eq j k ≡ b → value_among now_of left (whole_of k x) ≡ value_among now_of store (whole_of k x)

@@ -4,6 +4,7 @@ use Rattle.std.proofs.Common.{take, Option, Some, None, refl, sym, ap, ap₂, �
 use Rattle.std.proofs.lemmas.List.Folds.{list_any-append}
 use Rattle.std.specs.List.{list_any}
 use Rattle.std.specs.Prelude.{nat_eq, option_and_then, option_map}
+use Rattle.std.proofs.lemmas.Bool.{or_right}
 use Rattle.bl_tree.specs.declared.tree.Expr.{Expr}
 use Rattle.bl_tree.specs.declared.tree.Unit.{Unit as UnitDef}
 use Rattle.bl_tree.specs.declared.value.Value.{Value}
@@ -19,7 +20,6 @@ use Rattle.bl_ctree.specs.Store.{Store, view_at}
 use Rattle.bl_emit_spec_laws.specs.Calls.Built.{unit_number}
 use Rattle.bl_emit_spec_laws_nodes.specs.Points.Nodes.{AgreeAt, PrevsAgree}
 use Rattle.bl_emit_spec_laws_nodes.proofs.OnPoints.Besides.{value_there_is}
-use Rattle.bl_emit_spec_laws_nodes.proofs.OnPoints.Cells.{or_last}
 
 module _ (agree : PrevsAgree) (w : Setting) (i : ℕ) (unit : UnitDef) (store : Store) (there : unit_at w i ≡ Some unit) (copies : List Value) where
   abbrev site : TypingContext
@@ -43,7 +43,7 @@ module _ (agree : PrevsAgree) (w : Setting) (i : ℕ) (unit : UnitDef) (store : 
       ∙ ap (λ b. b || list_any (nat_eq x) (prevs_in_inputs rest)) named) in
       let more : AgreeAt (prevs_in_inputs rest) copies (view_at w store i).before =
       λ x named. same x (list_any-append (nat_eq x) (prevs_in_expr e) (prevs_in_inputs rest)
-      ∙ or_last (list_any (nat_eq x) (prevs_in_expr e)) (list_any (nat_eq x) (prevs_in_inputs rest)) named) in
+      ∙ or_right (list_any (nat_eq x) (prevs_in_expr e)) (list_any (nat_eq x) (prevs_in_inputs rest)) named) in
       ap₂ (λ value values. option_and_then (λ (value : Value). option_map (λ values. value ∷ values) values) value) (value_same e first)
       (values_same rest more)
       ∙ by (meaning_of (scope_of site) e sight) (values_of (map (meaning_of (scope_of site)) rest) sight)

@@ -4,6 +4,7 @@ use Rattle.std.proofs.Common.{◌&&◌, ◌++◌, List, [], Contains, map, take,
 use Rattle.std.proofs.Common.{Option, Some, None, refl, sym, ap, ◌∙◌, subst}
 use Rattle.std.proofs.lemmas.Option.{slice_get-get_or}
 use Rattle.std.specs.Prelude.{option_map, slice_get, unwrap_or}
+use Rattle.bl_tree.proofs.Basics.{get_taken}
 use Rattle.bl_tree.specs.declared.place.Place.{Place}
 use Rattle.bl_tree.specs.declared.tree.Path.{Path}
 use Rattle.bl_tree.specs.declared.tree.StructDef.{StructDef}
@@ -61,15 +62,16 @@ use Rattle.bl_emit_spec_laws_nodes.specs.Points.Nodes.{PrevsAgree, ViewsFit}
 use Rattle.bl_emit_spec_laws_nodes.proofs.OnPoints.Besides.{apart, beside, site_is}
 use Rattle.bl_emit_spec_laws_nodes.proofs.OnViews.Leaving.{held_led}
 use Rattle.bl_emit_spec_laws.specs.Remember.{CallersRemember}
-use Rattle.bl_emit_spec_laws_simulation.proofs.OnGives.Arguing.{RunArgues, run_argues, unit_there}
+use Rattle.bl_emit_spec_laws_simulation.proofs.OnGives.Arguing.{RunArgues, run_argues}
 use Rattle.bl_emit_spec_laws_simulation.proofs.OnGives.Keeping.{may_give}
 use Rattle.bl_emit_spec_laws_simulation.proofs.OnGives.Leading.{inputs_long, lead_at, outputs_long, place_at}
-use Rattle.bl_emit_spec_laws_simulation.proofs.OnGives.Lists.{get_behind, get_taken, mapped_from, taken_is}
+use Rattle.bl_emit_spec_laws_simulation.proofs.OnGives.Lists.{get_behind, mapped_from, taken_is}
 use Rattle.bl_emit_spec_laws_simulation.proofs.OnGives.Roles.{held_behind, parameters_few, roles_at}
 use Rattle.bl_emit_spec_laws_simulation.proofs.OnGives.Stored.{Copied, copied, inputs_are, kept_seen, output_seen}
 use Rattle.bl_emit_spec_laws_simulation.proofs.OnGives.Values.{values_same}
 use Rattle.bl_emit_spec_laws_simulation.proofs.OnGives.Writing.{written_given, written_traps}
 use Rattle.bl_emit_spec.specs.Names.{NumberedWord}
+use Rattle.bl_emit_spec_laws.proofs.OnActivities.Nested.{unit_there}
 
 -- the laws on which all stands
 pub record Laws (structs : List StructDef) (units : List UnitDef) (entry : ℕ) : Type 0 where

@@ -2,8 +2,9 @@
 use Rattle.std.proofs.Common.{◌≡◌, ◌⊎◌, inl, inr, ℕ, zero, suc, ◌<◌, ◌≤◌, arith, Bool, true}
 use Rattle.std.proofs.Common.{false, ◌&&◌, ◌||◌, List, [], ◌∷◌, ◌++◌, map}
 use Rattle.std.proofs.Common.{Some, refl, sym, ap, ap₂, ◌∙◌, subst}
-use Rattle.std.proofs.lemmas.Bool.{eq-eqb, eqb-true}
 use Rattle.std.specs.Prelude.{nat_eq, option_and_then, slice_get}
+use Rattle.std.proofs.lemmas.Bool.{and_parts}
+use Rattle.bl_tree.proofs.Basics.{index_of, number_itself as itself, number_test_swap, numbers_differ, true_not_false}
 use Rattle.bl_tree.specs.declared.place.Place.{Place}
 use Rattle.bl_tree.specs.declared.static_path.Static.{Static}
 use Rattle.bl_tree.specs.declared.tree.Expr.{Expr}
@@ -25,48 +26,29 @@ use Rattle.bl_ctree_laws_confluence.specs.Stores.{now_of}
 use Rattle.bl_machine_laws.specs.Passes.Follows.{DeedYields}
 use Rattle.bl_machine_pass_laws_execution.specs.Kept.Kept.{StoreKept}
 use Rattle.bl_machine_pass_laws_execution.specs.Kept.Laws.{InputsGoIn}
-use Rattle.bl_emit_spec_laws.proofs.OnPlaced.Lists.{stands_at}
-use Rattle.bl_emit_spec_laws_nodes.proofs.OnViews.Leaving.{number_flip}
-
-no_such : true ≡ false → ⊥
-no_such h = cc
-
-itself : (k : ℕ) → nat_eq k k ≡ true
-itself k = eq-eqb k k refl
-
-unequal : (j k : ℕ) → (j ≡ k → ⊥) → nat_eq j k ≡ false
-unequal j k differ = by (nat_eq j k) refl
-  where
-    by : (b : Bool) → nat_eq j k ≡ b → b ≡ false
-    by true is = absurd (differ (eqb-true j k is))
-    by false is = refl
 
 -- ---- fronts
-
-both_true : (a b : Bool) → (a && b) ≡ true → (a ≡ true) × (b ≡ true)
-both_true true b h = (refl, h)
-both_true false b h = absurd cc
 
 front_cut : (xs ys zs : List ℕ) → is_front xs (ys ++ zs) ≡ true → (is_front xs ys || is_front ys xs) ≡ true
 front_cut [] ys zs h = refl
 front_cut (x ∷ xs) [] zs h = refl
 front_cut (x ∷ xs) (y ∷ ys) zs h =
-    let two = both_true (nat_eq x y) (is_front xs (ys ++ zs)) h in
-    let back : nat_eq y x ≡ true = number_flip y x ∙ two.0 in
+    let two = and_parts (nat_eq x y) (is_front xs (ys ++ zs)) h in
+    let back : nat_eq y x ≡ true = number_test_swap y x ∙ two.0 in
     ap₂ (λ a b. (a && is_front xs ys) || (b && is_front ys xs)) two.0 back ∙ front_cut xs ys zs two.1
 
 front_less : (xs ys zs : List ℕ) → is_front (ys ++ zs) xs ≡ true → is_front ys xs ≡ true
 front_less xs [] zs h = refl
 front_less [] (y ∷ ys) zs h = absurd cc
 front_less (x ∷ xs) (y ∷ ys) zs h =
-    let two = both_true (nat_eq y x) (is_front (ys ++ zs) xs) h in
+    let two = and_parts (nat_eq y x) (is_front (ys ++ zs) xs) h in
     ap₂ (λ a b. a && b) two.0 (front_less xs ys zs two.1)
 
 -- what overlaps a longer path overlaps its front
 overlaps_less : (path : Static) (root : ℕ) (ys zs : List ℕ) → overlaps path (record { root = root; fields = ys ++ zs }) ≡ true →
     overlaps path (record { root = root; fields = ys }) ≡ true
 overlaps_less path root ys zs h =
-    let two = both_true (nat_eq path.root root) (is_front path.fields (ys ++ zs) || is_front (ys ++ zs) path.fields) h in
+    let two = and_parts (nat_eq path.root root) (is_front path.fields (ys ++ zs) || is_front (ys ++ zs) path.fields) h in
     ap₂ (λ a b. a && b) two.0 (by (is_front path.fields (ys ++ zs)) (is_front (ys ++ zs) path.fields) refl refl two.1)
   where
     or_last : (a b : Bool) → b ≡ true → (a || b) ≡ true
@@ -108,7 +90,7 @@ module _ (structs : List StructDef) (units : List UnitDef) (entry : ℕ) (nest :
   not_inside : (path : Static) → Inside W j (home W (own path)).instance → ⊥
   not_inside path inside =
       let k = (home W (own path)).instance in
-      no_such (sym (itself k) ∙ nest.hidden i j k at path called inside)
+      true_not_false (sym (itself k) ∙ nest.hidden i j k at path called inside)
 
   given_same : (b : Location) → (b.instance ≡ j → ⊥) → value_among now_of given b ≡ value_among now_of store b
   given_same b differ =
@@ -127,7 +109,7 @@ module _ (structs : List StructDef) (units : List UnitDef) (entry : ℕ) (nest :
       by (inl inside) = inner inside
       by (inr out) =
           let paths = begun out.instance out.origin out.there out.began in
-          let place = stands_at out.origin.outputs out.output out.is_output in
+          let place = index_of out.origin.outputs out.output out.is_output in
           let one = map_got outputs place.0 out.output (ap (λ ps. slice_get ps place.0) (sym paths) ∙ place.1) in
           ap (overlap b) out.leads
           ∙ (ap (λ (p : Static). overlap b (home W (own (record { root = p.root; fields = p.fields ++ out.fields })))) (sym one.2)
@@ -142,7 +124,7 @@ module _ (structs : List StructDef) (units : List UnitDef) (entry : ℕ) (nest :
         by false is = refl
         by true is =
             let over = homes structs units entry i path (longer one fields) parted is in
-            absurd (no_such (sym (overlaps_less path (static_of one).root (static_of one).fields fields over) ∙ clear k one there))
+            absurd (true_not_false (sym (overlaps_less path (static_of one).root (static_of one).fields fields over) ∙ clear k one there))
 
     -- a path of the caller that overlaps no output has what it had
     pub caller_now : value_among now_of left (home W (own path)) ≡ value_among now_of store (home W (own path))
@@ -153,7 +135,7 @@ module _ (structs : List StructDef) (units : List UnitDef) (entry : ℕ) (nest :
         by_output b x
         (λ inside.
         ap (λ same. same && overlaps b.path (home W (whole_of j x)).path)
-        (number_flip b.instance (home W (whole_of j x)).instance
+        (number_test_swap b.instance (home W (whole_of j x)).instance
         ∙ nest.hidden i j (home W (whole_of j x)).instance at path called inside)) outer_clear)
         ∙ given_same b (λ same. not_inside path (subst (Inside W j) (sym same) nesting.itself))
 
@@ -175,7 +157,7 @@ module _ (structs : List StructDef) (units : List UnitDef) (entry : ℕ) (nest :
         by_output (whole_of k x) y
         (λ within.
         ap (λ same. same && overlaps (whole x) (home W (whole_of j y)).path)
-        (unequal k (home W (whole_of j y)).instance (λ same. not_within (subst (Inside W j) (sym same) within))))
+        (numbers_differ k (home W (whole_of j y)).instance (λ same. not_within (subst (Inside W j) (sym same) within))))
         (λ one n fields there.
         ap (λ same. same && overlaps (whole x) (home W (own (longer one fields))).path) (nest.hidden i c k place (longer one fields) calls inside)))
         ∙ given_same (whole_of k x) not_itself

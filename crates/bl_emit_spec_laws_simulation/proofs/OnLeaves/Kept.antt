@@ -2,10 +2,11 @@
 use Rattle.std.proofs.Common.{◌≡◌, ℕ, suc, Bool, true, false, not, ◌&&◌, ◌||◌, List, []}
 use Rattle.std.proofs.Common.{◌∷◌, ◌++◌, Some, refl, sym, ap, ◌∙◌, subst}
 use Rattle.std.proofs.Common.{arith}
-use Rattle.std.proofs.lemmas.Bool.{le-leb}
 use Rattle.std.proofs.lemmas.List.Folds.{list_any-append}
 use Rattle.std.specs.List.{list_any}
-use Rattle.std.specs.Prelude.{bytes_eq, is_some, nat_le, slice_get, ◌==◌}
+use Rattle.std.specs.Prelude.{bytes_eq, is_some, slice_get, ◌==◌}
+use Rattle.std.proofs.lemmas.Bool.{or_from, or_right}
+use Rattle.bl_tree.proofs.Basics.{at_most_self_test}
 use Rattle.bl_tree.specs.declared.text.Text.{Text}
 use Rattle.bl_tree.specs.declared.tree.Unit.{Unit as UnitDef}
 use Rattle.bl_tree.specs.declared.tree.Var.{Var}
@@ -29,35 +30,21 @@ use Rattle.bl_emit_spec_laws.specs.Calls.Calls.{where_true, written_by}
 use Rattle.bl_emit_spec_laws.specs.Calls.Laws.{PassKeepsFrame}
 use Rattle.bl_emit_spec_laws.specs.Calls.Memories.{inner}
 use Rattle.bl_emit_spec_laws.specs.Calls.Invariant.{PlacesAreSeparate, result_at_c}
-use Rattle.bl_emit_spec_laws_nodes.proofs.OnPoints.Apart.{Beyond, first_further, inner_is, last_further, lies_apart, lies_further, older_differs}
+use Rattle.bl_emit_spec_laws_nodes.proofs.OnPoints.Apart.{Beyond, first_further, inner_is, last_further, lies_further}
 use Rattle.bl_emit_spec_laws_nodes.proofs.OnPoints.Apart.{register_inner, register_stands}
-use Rattle.bl_emit_spec_laws_nodes.proofs.OnPoints.Cells.{apart_flip, behind_front, or_last}
 use Rattle.bl_emit_spec_laws_nodes.proofs.OnPoints.Foreign.{foreign_counter, foreign_memory, foreign_outside, foreign_register, foreign_result}
 use Rattle.bl_emit_spec_laws_nodes.proofs.OnPoints.Foreign.{variable_apart}
-
-neither : (a b : Bool) → a ≡ false → b ≡ false → (a || b) ≡ false
-neither false b one other = other
-neither true b one other = absurd cc
+use Rattle.bl_emit_acts_laws_simulation.proofs.Frames.{older_differs, own_differ, roots_differ}
+use Rattle.bl_emit_acts_laws_simulation.proofs.Cells.{apart_flip}
+use Rattle.bl_emit_acts_laws_simulation.proofs.Calls.{apart_lies}
+use Rattle.bl_emit_spec_laws.proofs.OnRegisters.Cells.{behind_front}
 
 none_of_both : {X : Type 0} (p : X → Bool) (xs ys : List X) → list_any p xs ≡ false → list_any p ys ≡ false → list_any p (xs ++ ys) ≡ false
-none_of_both p xs ys one other = list_any-append p xs ys ∙ neither (list_any p xs) (list_any p ys) one other
+none_of_both p xs ys one other = list_any-append p xs ys ∙ or_from (list_any p xs) (list_any p ys) one other
 
 none_where : {X : Type 0} (p : X → Bool) (test : Bool) (x : X) → (test ≡ true → p x ≡ false) → list_any p (where_true test x) ≡ false
-none_where p true x h = neither (p x) false (h refl) refl
+none_where p true x h = or_from (p x) false (h refl) refl
 none_where p false x h = refl
-
-and_false : (b : Bool) → (b && false) ≡ false
-and_false true = refl
-and_false false = refl
-
-roots_differ : (p q : Location) → same_root p.root q.root ≡ false → are_apart p q ≡ true
-roots_differ p q h = ap (λ same. not same || ways_part p.parts q.parts) h
-
-own_differ : (depth : ℕ) (m n : List ℕ) → bytes_eq m n ≡ false → same_root (variable depth m) (variable depth n) ≡ false
-own_differ depth m n h = ap (λ b. (depth == depth) && b) h ∙ and_false (depth == depth)
-
-depth_itself : (depth : ℕ) → nat_le depth depth ≡ true
-depth_itself depth = le-leb depth depth (omega arith)
 
 -- a place in a variable that may be written
 pub record PlaceIn (site : TypingContext) (scope : Scope) (place : Location) : Type 0 where
@@ -106,7 +93,7 @@ module _ (site : TypingContext) (unit : UnitDef) (remembers : Bool) (scope : Sco
       let lies : Location → Bool = λ place. lies_in place root way in
       let last : List Location = where_true (is_some other.result) given ++ where_true (unit_may_end other) ended in
       kept.each root way clear.live
-      (neither (lies f) (list_any lies (where_true takes m ++ (outputs ++ last))) clear.no_frame
+      (or_from (lies f) (list_any lies (where_true takes m ++ (outputs ++ last))) clear.no_frame
       (none_of_both lies (where_true takes m) (outputs ++ last) (none_where lies takes m clear.no_memory)
       (none_of_both lies outputs last clear.no_output
       (none_of_both lies (where_true (is_some other.result) given) (where_true (unit_may_end other) ended)
@@ -123,7 +110,7 @@ module _ (site : TypingContext) (unit : UnitDef) (remembers : Bool) (scope : Sco
       each [] all = refl
       each (place ∷ rest) all =
           let one = all 0 place refl in
-          neither (lies_in place root way) (list_any (λ place. lies_in place root way) rest)
+          or_from (lies_in place root way) (list_any (λ place. lies_in place root way) rest)
           (ap (λ place. lies_in place root way) one.is
           ∙ lies_inside scope site one.root one.way root way (variables one.root one.var one.is_there one.writable))
           (each rest (λ o place at. all (suc o) place at))
@@ -137,11 +124,11 @@ module _ (site : TypingContext) (unit : UnitDef) (remembers : Bool) (scope : Sco
   place_same p foreign frame memory one two way =
       number_same p.root (p.parts ++ way) (record {
         live = (foreign way).live;
-        no_frame = lies_apart f p way frame;
-        no_memory = λ it. lies_apart m p way (memory it);
+        no_frame = apart_lies f p way frame;
+        no_memory = λ it. apart_lies m p way (memory it);
         no_output = no_outputs p.root (p.parts ++ way) (foreign way).variables;
-        no_given = lies_apart given p way one;
-        no_ended = lies_apart ended p way two;
+        no_given = apart_lies given p way one;
+        no_ended = apart_lies ended p way two;
       })
 
   local_older : (name : Text) (p : Location) → is_older scope.depth p.root ≡ true → are_apart (named_location scope false name) p ≡ true
@@ -201,8 +188,8 @@ module _ (site : TypingContext) (unit : UnitDef) (remembers : Bool) (scope : Sco
       let p = copy_location scope site.vars k in
       place_same p
       (λ way. record {
-        live = depth_itself scope.depth;
-        variables = λ j var there writable. lies_apart (location_in scope site j []) p way (apart j var there);
+        live = at_most_self_test scope.depth;
+        variables = λ j var there writable. apart_lies (location_in scope site j []) p way (apart j var there);
         copies = λ j its. absurd cc;
       })
       (older_local f (copy_name site.vars k) places.frame.frame_older) (λ it. older_local m (copy_name site.vars k) (memory_older it))
@@ -226,7 +213,7 @@ module _ (site : TypingContext) (unit : UnitDef) (remembers : Bool) (scope : Sco
     members_part : (base : Location) (more : List Projection) →
         are_apart (inner base n) (further base (member (callee_name k) ∷ more)) ≡ true
     members_part base more =
-        or_last (not (same_root base.root base.root))
+        or_right (not (same_root base.root base.root))
         (ways_part (base.parts ++ member (callee_name n) ∷ []) (base.parts ++ (member (callee_name k) ∷ more)))
         (behind_front base.parts (member (callee_name n) ∷ []) (member (callee_name k) ∷ more) ∙ ap (λ same. not same || false) differ)
 
@@ -308,7 +295,7 @@ module _ (site : TypingContext) (unit : UnitDef) (remembers : Bool) (scope : Sco
       let p = location_in scope site k [] in
       number_same p.root (p.parts ++ way) (record {
         live = live;
-        no_frame = lies_apart f p way
+        no_frame = apart_lies f p way
             (apart_flip p f
             (variable_apart site unit remembers scope places active held_here none f places.frame.frame_older
             (λ k var there is.
@@ -317,16 +304,16 @@ module _ (site : TypingContext) (unit : UnitDef) (remembers : Bool) (scope : Sco
             first_further (remembered_at scope) f (member (variable_name site.vars k) ∷ [])
             (last_further (remembered_at scope) (frame_at scope) (member (callee_name n) ∷ [])
             (places.memory (held_here k var there is)).frame)) k var there));
-        no_memory = λ it. lies_apart m p way
+        no_memory = λ it. apart_lies m p way
             (apart_flip p m
             (variable_apart site unit remembers scope places active held_here none m (memory_older it)
             (λ k var there is.
             first_further (remembered_at scope) (lent_at scope site.vars k) (member (callee_name n) ∷ []) ((places.memory (so it)).lent k var there is))
             (λ k var there is.
-            or_last (not (same_root m.root m.root))
+            or_right (not (same_root m.root m.root))
             (ways_part ((remembered_at scope).parts ++ member (variable_name site.vars k) ∷ []) ((remembered_at scope).parts ++ member (callee_name n) ∷ []))
             (behind_front (remembered_at scope).parts (member (variable_name site.vars k) ∷ []) (member (callee_name n) ∷ []))) k var there));
         no_output = clear;
-        no_given = lies_apart given p way (local_variable (given_name n) (λ k. refl) k var there);
-        no_ended = lies_apart ended p way (local_variable ended_name (λ k. refl) k var there);
+        no_given = apart_lies given p way (local_variable (given_name n) (λ k. refl) k var there);
+        no_ended = apart_lies ended p way (local_variable ended_name (λ k. refl) k var there);
       })

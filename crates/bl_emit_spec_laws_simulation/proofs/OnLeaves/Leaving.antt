@@ -5,6 +5,7 @@ use Rattle.std.proofs.Common.{Some, nat_eq, refl, sym, ap, ◌∙◌, subst}
 use Rattle.std.proofs.lemmas.Bool.{eq-eqb, eqb-true}
 use Rattle.std.proofs.lemmas.Option.{same_Some}
 use Rattle.std.specs.Prelude.{IsPermutation, bytes_eq, option_and_then, slice_get, unwrap_or, if◌then◌else◌}
+use Rattle.bl_tree.proofs.Basics.{contains_at, numbers_differ}
 use Rattle.bl_tree.specs.declared.place.Place.{Place}
 use Rattle.bl_tree.specs.declared.static_path.Static.{Static}
 use Rattle.bl_tree.specs.declared.tree.Path.{Path}
@@ -69,7 +70,6 @@ use Rattle.bl_emit_spec_laws.specs.Calls.Memories as memories
 use Rattle.bl_emit_spec_laws.specs.Calls.Memories.{MemoryEncodes, Nests, inner}
 use Rattle.bl_emit_spec_laws.specs.Calls.Invariant.{PassRepresents, PlacesAreSeparate}
 use Rattle.bl_emit_spec_laws.specs.Cleared.{ClearingIsInside}
-use Rattle.bl_emit_spec_laws.proofs.OnPlaced.Lists.{contains_at}
 use Rattle.bl_emit_spec_laws_nodes.specs.Points.Laws.{Remembering}
 use Rattle.bl_emit_spec_laws_nodes.proofs.OnPoints.Apart.{nests_beyond}
 use Rattle.bl_emit_spec_laws_nodes.proofs.OnPoints.Changes.{holds_same, registers_keep}
@@ -113,13 +113,6 @@ pub record Laws : Type 0 where
 abbrev run_place : Node → Place → Place
 run_place (EnterAt l at arguments) d = at
 run_place _ d = d
-
-unequal : (k n : ℕ) → (k ≡ n → ⊥) → nat_eq k n ≡ false
-unequal k n apart = by (nat_eq k n) refl
-  where
-    by : (b : Bool) → nat_eq k n ≡ b → b ≡ false
-    by true is = absurd (apart (eqb-true k n is))
-    by false is = refl
 
 module _ (laws : Laws) (structs : List StructDef) (units : List UnitDef) (entry : ℕ) (machine : List InMachine) (activities : Activities)
     (i : ℕ) (unit : UnitDef) (scope : Scope) (frames : Frames) (store : Store) (copies : List Value) (r : Registers) (here : Memory) (l : Label)
@@ -445,7 +438,7 @@ module _ (laws : Laws) (structs : List StructDef) (units : List UnitDef) (entry 
           parted laws.inputs i j at run.callee other arguments.inputs
           arguments.outputs
           begun_here store given left copied kept_store c at' calls apart x within_c in
-          ap (λ (b : Bool). (if b then r'.counters else frames' x) y) (unequal x j other_than)
+          ap (λ (b : Bool). (if b then r'.counters else frames' x) y) (numbers_differ x j other_than)
           ∙ (laws.passes structs units entry (rank_by W activities) (slots_by W activities) (cleared W)).counters j 0 frames given
           (view_at W given j).now begun frames' left r' (laws.clearing.inside structs units entry) executes x outside y
 

@@ -1,8 +1,9 @@
 -- No two nodes of a body have one number, and `run`s with different numbers have different names.
-use Rattle.std.proofs.Common.{◌≡◌, ℕ, zero, suc, ◌+◌, ◌<◌, ◌^◌, false}
+use Rattle.std.proofs.Common.{◌≡◌, ℕ, ◌+◌, ◌<◌, ◌^◌, false}
 use Rattle.std.proofs.Common.{List, [], ◌∷◌, Contains}
-use Rattle.std.proofs.Common.{Some, nat_eq, length, map, refl, sym, ap, ◌∙◌, arith}
+use Rattle.std.proofs.Common.{Some, nat_eq, length, sym, ap, ◌∙◌, arith}
 use Rattle.std.specs.Prelude.{IsPermutation, bytes_eq, slice_get}
+use Rattle.bl_tree.proofs.Basics.{contains_at, get_of_map, index_of, same_some, within_at}
 use Rattle.bl_tree.specs.declared.tree.Stmt.{Stmt}
 use Rattle.bl_graph_nodes.specs.Nodes.{Node, nodes_in}
 use Rattle.bl_graph_nodes.specs.Plain.{Block, plain_body}
@@ -15,20 +16,12 @@ use Rattle.bl_machine_pass_laws.specs.Turns.Laws.{StaysPlaced}
 use Rattle.bl_machine_pass_laws.specs.Keys.{NodesHaveKeys}
 use Rattle.bl_machine_transitions.specs.Callees.{node_number}
 use Rattle.bl_machine_transitions.specs.Listed.{layout_of}
-use Rattle.bl_machine_transitions_laws.proofs.Agreeing.{Agrees}
 use Rattle.bl_machine_transitions_laws.proofs.Standing.{nodes_stand}
-use Rattle.bl_emit_spec_laws.proofs.OnPlaced.Lists.{contains_at, found_at, number_once, number_there, some_is, stands_at, within_at}
+use Rattle.bl_emit_spec_laws.proofs.OnPlaced.Lists.{found_at, number_once, number_there}
 use Rattle.bl_emit_acts_laws_simulation.proofs.NumberedNames.{words_differ}
+use Rattle.bl_emit_spec_laws.proofs.OnPlaced.Placing.{agrees_at}
 
 -- ---- numbers
-
-agrees_at : {X Y : Type 0} (f : X → Y) (at : ℕ → Y) (xs : List X) (first k : ℕ) (x : X) → Agrees f at first xs → slice_get xs k ≡ Some x →
-    f x ≡ at (first + k)
-agrees_at f at [] first k x agrees is = absurd (cc)
-agrees_at f at (y ∷ xs) first zero x agrees is =
-    let same : first ≡ first + 0 = omega arith in ap f (sym (some_is y x is)) ∙ agrees.0 ∙ ap at same
-agrees_at f at (y ∷ xs) first (suc k) x agrees is =
-    let same : suc first + k ≡ first + suc k = omega arith in agrees_at f at xs (suc first) k x agrees.1 is ∙ ap at same
 
 module _ (keys : NodesHaveKeys) (body : List Stmt) (order : List ℕ)
     (permutes : IsPermutation (up_to (length (nodes_in (plain_body body)))) order) where
@@ -52,21 +45,15 @@ module _ (keys : NodesHaveKeys) (body : List Stmt) (order : List ℕ)
   pub one_number : (x y : Node) → Contains nodes x → Contains nodes y →
       node_number order (plain_body body) x ≡ node_number order (plain_body body) y → x ≡ y
   one_number x y first second same =
-      let a = stands_at nodes x first in
-      let b = stands_at nodes y second in
+      let a = index_of nodes x first in
+      let b = index_of nodes y second in
       let m = number_at a.0 x a.1 in
       let l = number_at b.0 y b.1 in
       let numbers : m.0 ≡ l.0 = sym m.2 ∙ (same ∙ l.2) in
-      let positions : a.0 ≡ b.0 = some_is a.0 b.0 (sym m.1 ∙ (ap (slice_get order) numbers ∙ l.1)) in
-      some_is x y (sym a.1 ∙ (ap (slice_get nodes) positions ∙ b.1))
+      let positions : a.0 ≡ b.0 = same_some a.0 b.0 (sym m.1 ∙ (ap (slice_get order) numbers ∙ l.1)) in
+      same_some x y (sym a.1 ∙ (ap (slice_get nodes) positions ∙ b.1))
 
 -- ---- rules of nodes
-
-map_got : {X Y : Type 0} (f : X → Y) (xs : List X) (k : ℕ) (y : Y) → slice_get (map f xs) k ≡ Some y →
-    (x : X) × (slice_get xs k ≡ Some x) × (f x ≡ y)
-map_got f [] k y is = absurd (cc)
-map_got f (x ∷ xs) zero y is = (x, refl, some_is (f x) y is)
-map_got f (x ∷ xs) (suc k) y is = map_got f xs k y is
 
 -- a rule of a node
 pub record RuleOf (slots : Slots) (body : Block) (n : Node) : Type 0 where
@@ -78,8 +65,8 @@ pub record RuleOf (slots : Slots) (body : Block) (n : Node) : Type 0 where
 
 pub rule_of : StaysPlaced → (slots : Slots) (body : Block) (n : Node) → Contains (nodes_in body) n → RuleOf slots body n
 rule_of placed slots body n there =
-    let at = stands_at (nodes_in body) n there in
-    let found = map_got (λ (rule : Transition). rule.node) (rules slots body) at.0 n (ap (λ ns. slice_get ns at.0) (placed.nodes slots body) ∙ at.1) in
+    let at = index_of (nodes_in body) n there in
+    let found = get_of_map (λ (rule : Transition). rule.node) (rules slots body) at.0 n (ap (λ ns. slice_get ns at.0) (placed.nodes slots body) ∙ at.1) in
     record {
       rule = found.0;
       position = at.0;

@@ -1,10 +1,8 @@
 -- What an instance sees of a store, number by number.
-use Rattle.std.proofs.Common.{◌≡◌, ℕ, zero, suc, ◌+◌, ◌<◌, arith, ℤ, List, [], ◌∷◌, ◌++◌, map, length, Option, Some, None}
+use Rattle.std.proofs.Common.{◌≡◌, ℕ, zero, suc, ◌+◌, ◌<◌, arith, ℤ, List, [], ◌∷◌, ◌++◌, length, Option, Some, None}
 use Rattle.std.proofs.Common.{refl, sym, ap, ◌∙◌}
 use Rattle.std.proofs.lemmas.List.{append-nil, append_assoc}
-use Rattle.std.proofs.lemmas.Option.{same_Some, slice_get-map}
-use Rattle.std.specs.List.{range_with_len}
-use Rattle.std.specs.Prelude.{option_and_then, option_map, slice_get, unwrap_or}
+use Rattle.std.specs.Prelude.{option_and_then, slice_get, unwrap_or}
 use Rattle.bl_tree.specs.declared.static_path.Static.{Static}
 use Rattle.bl_tree.specs.declared.value.Value.{Value}
 use Rattle.bl_tree.specs.declared.value.Value.TheOpen.{Value-F}
@@ -15,8 +13,8 @@ use Rattle.bl_ctree.specs.Instances.{Setting}
 use Rattle.bl_ctree.specs.Store.{Frame, Location, Store, home, value_among, variable_among, vars_at, view_at, whole_of}
 use Rattle.bl_ctree_laws_confluence.specs.Stores.{HomesLeadOn, now_of, onward}
 use Rattle.bl_emit_acts_laws_simulation.specs.Encodes.{number_within}
-use Rattle.bl_emit_spec_laws_simulation.proofs.OnLeaves.Ways.{value_further}
-use Rattle.bl_emit_spec_laws_nodes.proofs.OnViews.Leaving.{range_at}
+use Rattle.bl_eval_laws.proofs.OnLocal.Locality.{value_within}
+use Rattle.bl_machine_pass_laws_typing.proofs.OnSeen.Seeing.{mapped_got}
 
 -- the path that goes by positions from a variable of an instance
 abbrev pub path_at : ℕ → ℕ → List ℕ → Location
@@ -46,7 +44,7 @@ number_or_none ks (Some value) = refl
 -- ---- onward
 
 behind_value : (qs rest : List ℕ) (u : Value) → number_within (qs ++ rest) u ≡ option_and_then (number_within rest) (value_at qs u)
-behind_value qs rest u = ap (option_and_then number_in) (value_further qs rest u) ∙ by (value_at qs u)
+behind_value qs rest u = ap (option_and_then number_in) (value_within qs rest u) ∙ by (value_at qs u)
   where
     by : (o : Option Value) → option_and_then number_in (option_and_then (value_at rest) o) ≡ option_and_then (number_within rest) o
     by None = refl
@@ -67,7 +65,7 @@ onward_number store at qs rest = by_frame (slice_get store at.instance)
         ≡ option_and_then (number_within rest) (option_and_then (value_at (at.path.fields ++ qs)) o)
     by_value None = refl
     by_value (Some v) =
-        by_part v (value_at at.path.fields v) refl ∙ sym (ap (option_and_then (number_within rest)) (value_further at.path.fields qs v))
+        by_part v (value_at at.path.fields v) refl ∙ sym (ap (option_and_then (number_within rest)) (value_within at.path.fields qs v))
 
     by_frame : (o : Option Frame) →
         option_and_then (number_within (qs ++ rest))
@@ -79,28 +77,6 @@ onward_number store at qs rest = by_frame (slice_get store at.instance)
 
 -- ---- what is seen
 
-seen_by : (f : ℕ → Value) (count k : ℕ) (value : Value) → slice_get (map f (range_with_len 0 count)) k ≡ Some value → f k ≡ value
-seen_by f count k value is = by (slice_get (range_with_len 0 count) k) refl (sym (slice_get-map f (range_with_len 0 count) k) ∙ is)
-  where
-    by : (o : Option ℕ) → slice_get (range_with_len 0 count) k ≡ o → option_map f o ≡ Some value → f k ≡ value
-    by None at is = absurd cc
-    by (Some y) at is =
-        let same : k ≡ y = (let sum : y ≡ 0 + k = range_at 0 count k y at in omega arith) in ap f same ∙ same_Some (f y) value is
-
-range_there : (first count k : ℕ) → k < count → slice_get (range_with_len first count) k ≡ Some (first + k)
-range_there first zero k less = absurd (omega arith)
-range_there first (suc count) zero less = let same : first ≡ first + 0 = omega arith in ap Some same
-range_there first (suc count) (suc k) less =
-    let same : (first + 1) + k ≡ first + suc k = omega arith in range_there (first + 1) count k (omega (arith, less)) ∙ ap Some same
-
-pub seen_there : (w : Setting) (store : Store) (i k : ℕ) → k < length (vars_at w i) →
-    slice_get (view_at w store i).now k ≡ Some (variable_among now_of w store i k)
-seen_there w store i k less =
-    let f = variable_among now_of w store i in
-    let none : 0 + k ≡ k = omega arith in
-    slice_get-map f (range_with_len 0 (length (vars_at w i))) k
-    ∙ ap (option_map f) (range_there 0 (length (vars_at w i)) k less ∙ ap Some none)
-
 module _ (leads : HomesLeadOn) (w : Setting) where
   -- the number at positions of a variable's value stands at the home of the path that goes there
   pub seen_number : (store : Store) (i k : ℕ) (value : Value) (ks : List ℕ) → slice_get (view_at w store i).now k ≡ Some value →
@@ -108,7 +84,7 @@ module _ (leads : HomesLeadOn) (w : Setting) where
   seen_number store i k value ks is =
       let at = home w (whole_of i k) in
       let path : Static = record { root = k; fields = ks } in
-      ap (number_within ks) (sym (seen_by (variable_among now_of w store i) (length (vars_at w i)) k value is))
+      ap (number_within ks) (sym (mapped_got (variable_among now_of w store i) (length (vars_at w i)) k value is))
       ∙ (number_or_none ks (value_among now_of store at)
       ∙ (ap (λ ks. option_and_then (number_within ks) (value_among now_of store at)) (sym (append-nil ks))
       ∙ (onward_number store at ks []

@@ -1,11 +1,12 @@
 -- The types of a `run`'s outputs, and that they may be written.
-use Rattle.std.proofs.Common.{◌≡◌, ℕ, zero, suc, ◌<◌, arith, Bool, true, false, List, [], ◌∷◌, map, take, length, get_or, Contains}
+use Rattle.std.proofs.Common.{◌≡◌, ℕ, zero, suc, ◌<◌, arith, Bool, true, false, List, [], ◌∷◌, map, take, get_or, Contains}
 use Rattle.std.proofs.Common.{Option, Some, None, refl, sym, ap, ◌∙◌, subst, eqb-true}
 use Rattle.std.proofs.lemmas.List.Quantifiers.{position-Some}
 use Rattle.std.specs.Prelude.{is_some, nat_eq, option_and_then, slice_get, if◌then◌else◌}
+use Rattle.bl_tree.proofs.Basics.{and_first, and_second}
 use Rattle.bl_tree.specs.declared.place.Place.{Place}
 use Rattle.bl_tree.specs.declared.static_path.Static.{Static}
-use Rattle.bl_tree.specs.declared.tree.Path.{Path, fold_out-Path, out-Path}
+use Rattle.bl_tree.specs.declared.tree.Path.{Path, out-Path}
 use Rattle.bl_tree.specs.declared.tree.Role.{Role}
 use Rattle.bl_tree.specs.declared.tree.Role.TheVariants.{Fixed, Input, Output, Variable}
 use Rattle.bl_tree.specs.declared.tree.StructDef.{StructDef}
@@ -15,11 +16,9 @@ use Rattle.bl_tree.specs.declared.tree.Var.{Var}
 use Rattle.bl_tree.specs.Program.{IsWellTyped, is_input}
 use Rattle.bl_tree.specs.Reduce.{all_of}
 use Rattle.bl_tree.specs.Rules.{same_place}
-use Rattle.bl_tree.specs.Static.{Reach, StaticStep, expr_mentions, kind_mentions, part_step, path_reach, static_of}
+use Rattle.bl_tree.specs.Static.{static_of}
 use Rattle.bl_tree.specs.Typing.{TypingContext, is_assignable, is_outlet, is_plain, may_change, outputs_of, site_of, type_of_path, types_match, var_at}
 use Rattle.bl_tree.specs.Types.{same_type}
-use Rattle.bl_effects.proofs.EntryLemmas.{same_place_is}
-use Rattle.bl_eval.proofs.PassLemmas.{and_left, and_right}
 use Rattle.bl_graph_nodes.specs.Nodes.{Arguments, EnterAt, Node, nodes_in}
 use Rattle.bl_graph_nodes.specs.Plain.{Label, plain_body}
 use Rattle.bl_ctree.specs.declared.instance.Instance.{Instance}
@@ -29,25 +28,18 @@ use Rattle.bl_ctree_laws_confluence.specs.Apart.Outputs.{RunsWith}
 use Rattle.bl_ctree_laws_confluence.specs.Apart.Owned.{SomeIn}
 use Rattle.bl_ctree_laws_confluence.specs.Deeds.Origins.{InstancesHaveCallers}
 use Rattle.bl_ctree_laws_typing.proofs.OnViews.Along.{along, one_some}
-use Rattle.bl_ctree_laws_typing.proofs.OnViews.Running.{OutputsTyped, body_fits, outputs_typed, typed_at, unit_stands_at}
+use Rattle.bl_ctree_laws_typing.proofs.OnViews.Running.{OutputsTyped, body_fits, outputs_typed, typed_at}
 use Rattle.bl_machine.specs.Uses.{Slots}
 use Rattle.bl_machine_pass_laws.specs.Turns.Laws.{StaysPlaced}
 use Rattle.bl_machine_pass_laws_execution.proofs.OnFresh.Naming.{BeginsNamed, body_named}
 use Rattle.bl_machine_pass_laws_execution.specs.Kept.Outputs.{IsRunNode, OutputsLeadIn, RulesRun}
 use Rattle.bl_emit_spec_laws_simulation.proofs.OnLeaves.Fitted.{RunFits, run_fitted}
 use Rattle.bl_emit_spec_laws_simulation.proofs.OnLeaves.Numbers.{rule_of}
-
-taken : (units : List UnitDef) (n k : ℕ) (unit : UnitDef) → slice_get (take n units) k ≡ Some unit → slice_get units k ≡ Some unit
-taken [] zero k unit e = e
-taken [] (suc n) k unit e = e
-taken (u ∷ units) zero k unit e = absurd (cc)
-taken (u ∷ units) (suc n) zero unit e = e
-taken (u ∷ units) (suc n) (suc k) unit e = taken units n k unit e
-
-got_or : (xs : List Instance) (k : ℕ) (d : Instance) → k < length xs → slice_get xs k ≡ Some (get_or xs k d)
-got_or [] k d within = absurd (omega arith)
-got_or (x ∷ xs) zero d within = refl
-got_or (x ∷ xs) (suc k) d within = got_or xs k d (omega arith)
+use Rattle.bl_eval.proofs.UnitFits.{unit_at as unit_stands_at}
+use Rattle.bl_ctree_laws_confluence.proofs.OnDeeds.Activities.{taken}
+use Rattle.bl_tree.proofs.FirstLemmas.{same_true}
+use Rattle.bl_ctree_laws_confluence.proofs.OnApart.Told.{static_at}
+use Rattle.bl_emit_spec_laws.proofs.OnCleared.Clearing.{got_or}
 
 -- ---- where an instance was begun
 
@@ -82,8 +74,8 @@ origin_of w i j at called = let found = found_at w i j at called in by found (fo
       there = found.there;
       origin = origin;
       began = is;
-      caller = eqb-true origin.caller i (and_left (nat_eq origin.caller i) (same_place origin.place at) begins);
-      place = same_place_is origin.place at (and_right (nat_eq origin.caller i) (same_place origin.place at) begins);
+      caller = eqb-true origin.caller i (and_first (nat_eq origin.caller i) (same_place origin.place at) begins);
+      place = same_true origin.place at (and_second (nat_eq origin.caller i) (same_place origin.place at) begins);
     }
 
 -- one instance is found at one place
@@ -115,19 +107,14 @@ assignable_by (Some one) var is h =
     by true is h = open_by one.role is
     by false is h = absurd (cc)
 
-static_root : (path : Path) → (static_of path).root ≡ (out-Path path).root
-static_root path =
-    ap (λ (reach : Reach). reach.static.root)
-    (fold_out-Path (List Static) StaticStep (List Static) Reach kind_mentions part_step expr_mentions path_reach path)
-
 one_outlet : (site : TypingContext) (paths : List Path) (k : ℕ) (path : Path) → all_of (map (is_outlet site) paths) ≡ true →
     slice_get paths k ≡ Some path → is_outlet site path ≡ true
 one_outlet site [] k path all there = absurd (cc)
 one_outlet site (p ∷ paths) zero path all there =
     let same : p ≡ path = cc in
-    ap (is_outlet site) (sym same) ∙ and_left (is_outlet site p) (all_of (map (is_outlet site) paths)) all
+    ap (is_outlet site) (sym same) ∙ and_first (is_outlet site p) (all_of (map (is_outlet site) paths)) all
 one_outlet site (p ∷ paths) (suc k) path all there =
-    one_outlet site paths k path (and_right (is_outlet site p) (all_of (map (is_outlet site) paths)) all) there
+    one_outlet site paths k path (and_second (is_outlet site p) (all_of (map (is_outlet site) paths)) all) there
 
 -- ---- outputs
 
@@ -194,12 +181,12 @@ module _ (callers : InstancesHaveCallers) (run : RulesRun) (placed : StaysPlaced
       let typed = typed_at structs unit.vars (map static_of arguments.outputs) (outputs_of other) o (static_of path) var typed_outputs
       (get_mapped arguments.outputs o path there) of in
       let outlet = one_outlet site arguments.outputs o path fitted.outlets there in
-      let root : (static_of path).root ≡ (out-Path path).root = static_root path in
+      let root : (static_of path).root ≡ (out-Path path).root = static_at path in
       record {
         var = typed.var;
         is_there = typed.root;
         writable = assignable_by (var_at site (out-Path path).root) typed.var (ap (var_at site) (sym root) ∙ typed.root)
-            (and_right (is_plain path) (is_assignable site path) outlet);
+            (and_second (is_plain path) (is_assignable site path) outlet);
         leads = typed.leads;
       }
 
@@ -226,7 +213,7 @@ module _ (callers : InstancesHaveCallers) (run : RulesRun) (placed : StaysPlaced
       rest : (typed : Option Ty) → types_match (typed ∷ map (type_of_path site) paths) (v ∷ vars) ≡ true →
           types_match (map (type_of_path site) paths) vars ≡ true
       rest None all = absurd (cc)
-      rest (Some ty) all = and_right (same_type ty v.ty) (types_match (map (type_of_path site) paths) vars) all
+      rest (Some ty) all = and_second (same_type ty v.ty) (types_match (map (type_of_path site) paths) vars) all
 
   -- and one of the `run` for each of the callee
   pub path_there : (o : ℕ) (var : Var) → slice_get (outputs_of other) o ≡ Some var → (path : Path) × (slice_get arguments.outputs o ≡ Some path)

@@ -7,6 +7,8 @@ use Rattle.std.proofs.lemmas.List.{append-nil, append_assoc}
 use Rattle.std.proofs.lemmas.Option.{same_Some}
 use Rattle.std.specs.List.{list_any}
 use Rattle.std.specs.Prelude.{is_some, nat_eq, slice_get}
+use Rattle.std.proofs.lemmas.Bool.{and_parts, or_from}
+use Rattle.bl_tree.proofs.Basics.{and_false, true_not_false}
 use Rattle.bl_tree.specs.declared.tree.Path.{Path}
 use Rattle.bl_tree.specs.declared.tree.Ty.{Ty}
 use Rattle.bl_tree.specs.declared.tree.Var.{Var}
@@ -23,25 +25,10 @@ use Rattle.bl_ctree_laws_typing.proofs.OnViews.Along.{along, along_there}
 use Rattle.bl_emit_acts_laws_simulation.specs.Acts.{lies_in}
 use Rattle.bl_emit_acts_laws_simulation.specs.Encodes.{Encodes, VariablesApart, location_in, number_within, type_after, way_to}
 use Rattle.bl_emit_acts_laws_simulation.proofs.Cells.{lies_inside, location_along}
-use Rattle.bl_emit_spec_laws_nodes.proofs.OnPoints.Apart.{lies_apart}
-use Rattle.bl_emit_spec_laws_nodes.proofs.OnPoints.Cells.{left_apart, left_behind}
 use Rattle.bl_emit_spec_laws_simulation.proofs.OnLeaves.Types.{OutputOf}
 use Rattle.bl_emit_spec_laws_simulation.proofs.OnLeaves.Ways.{after_along, front_split, fronts_part, number_ends, way_further}
-
-no_such : true ≡ false → ⊥
-no_such h = cc
-
-both : (a b : Bool) → (a && b) ≡ true → (a ≡ true) × (b ≡ true)
-both true b h = (refl, h)
-both false b h = absurd cc
-
-neither : (a b : Bool) → a ≡ false → b ≡ false → (a || b) ≡ false
-neither false b one other = other
-neither true b one other = absurd cc
-
-false_right : (b : Bool) → (b && false) ≡ false
-false_right true = refl
-false_right false = refl
+use Rattle.bl_emit_acts_laws_simulation.proofs.Written.{left_apart, left_behind}
+use Rattle.bl_emit_acts_laws_simulation.proofs.Calls.{apart_lies}
 
 -- what a call left at an output's place, beside a value of the caller's variable with number k
 pub record OutputLeft (site : TypingContext) (scope : Scope) (after : Memory) (k : ℕ) (value : Value) (places : List Location) (o : ℕ) (path : Path) :
@@ -122,7 +109,7 @@ module _ (site : TypingContext) (stand : structs_stand_from 0 site.structs ≡ t
 
   inside : (ks : List ℕ) (n : ℤ) → number_within ks value ≡ Some n → Inside k ks paths → value_at after base (to ks) ≡ n
   inside ks n number (o, path, at, is) =
-      let two = both (nat_eq (static_of path).root k) (is_front (static_of path).fields ks) is in
+      let two = and_parts (nat_eq (static_of path).root k) (is_front (static_of path).fields ks) is in
       let root : (static_of path).root ≡ k = eqb-true (static_of path).root k two.0 in
       let split = front_split (static_of path).fields ks two.1 in
       by (out o path at) root split.0 split.1
@@ -154,7 +141,7 @@ module _ (site : TypingContext) (stand : structs_stand_from 0 site.structs ≡ t
         by first true is =
             let one = out o path at in
             let root : (static_of path).root ≡ k = eqb-true (static_of path).root k same_root in
-            absurd (no_such (sym (number_ends site.structs stand ks (static_of path).fields var.ty one.ty value n fit
+            absurd (true_not_false (sym (number_ends site.structs stand ks (static_of path).fields var.ty one.ty value n fit
             (ap (λ (v : Var). along site.structs (static_of path).fields v.ty)
             (sym (same_var path one.ty one.out root)) ∙ one.out.leads) number is) ∙ first))
 
@@ -170,7 +157,7 @@ module _ (site : TypingContext) (stand : structs_stand_from 0 site.structs ≡ t
         by false is = refl
         by true is =
             let two = not_front o path at (flip path is) in
-            neither (is_front ks (static_of path).fields) (is_front (static_of path).fields ks) two.1 two.0
+            or_from (is_front ks (static_of path).fields) (is_front (static_of path).fields ks) two.1 two.0
 
     -- the number lies in no output's place
     apart_place : (o : ℕ) (path : Path) (at : slice_get paths o ≡ Some path) → lies_in (out o path at).place base.root (base.parts ++ to ks) ≡ false
@@ -182,7 +169,7 @@ module _ (site : TypingContext) (stand : structs_stand_from 0 site.structs ≡ t
             ap (λ (p : Location). lies_in p base.root (base.parts ++ to ks)) one.is
             ∙ lies_inside scope site (static_of path).root (way_to site.structs (static_of path).fields (Some one.out.var.ty)) base.root
             (base.parts ++ to ks)
-            (lies_apart (location_in scope site (static_of path).root []) base (to ks)
+            (apart_lies (location_in scope site (static_of path).root []) base (to ks)
             (apart.each (static_of path).root k one.out.var var one.out.is_there there one.out.writable is))
         by true is =
             let one = out o path at in
@@ -197,7 +184,7 @@ module _ (site : TypingContext) (stand : structs_stand_from 0 site.structs ≡ t
             ap₂ left_after (sym (append-nil (to fields))) (sym (append-nil (to ks))) ∙ left_apart (to fields) (to ks) [] [] parted in
             ap (λ (p : Location). lies_in p base.root (base.parts ++ to ks)) (place_parts o path one root)
             ∙ (ap (λ left. same_root base.root base.root && is_some left) (left_behind base.parts (to fields) (to ks) ∙ nothing)
-            ∙ false_right (same_root base.root base.root))
+            ∙ and_false (same_root base.root base.root))
 
     no_place : list_any (λ place. lies_in place base.root (base.parts ++ to ks)) places ≡ false
     no_place = each places (λ o place at. one_place o place at)
@@ -214,7 +201,7 @@ module _ (site : TypingContext) (stand : structs_stand_from 0 site.structs ≡ t
             list_any (λ place. lies_in place base.root (base.parts ++ to ks)) rest ≡ false
         each [] all = refl
         each (place ∷ rest) all =
-            neither (lies_in place base.root (base.parts ++ to ks)) (list_any (λ place. lies_in place base.root (base.parts ++ to ks)) rest)
+            or_from (lies_in place base.root (base.parts ++ to ks)) (list_any (λ place. lies_in place base.root (base.parts ++ to ks)) rest)
             (all zero place refl) (each rest (λ o place at. all (suc o) place at))
 
     outside : value_at after base (to ks) ≡ n

@@ -1,40 +1,35 @@
 -- Ways into C values beside paths of names: where paths part, so do their ways, and no path goes on behind a number.
 use Rattle.std.proofs.Common.{◌≡◌, ℕ, zero, suc, ℤ, Bool, true, false, not, ◌+◌, ◌&&◌, ◌||◌}
-use Rattle.std.proofs.Common.{List, [], ◌∷◌, ◌++◌, map, Option, Some, None}
-use Rattle.std.proofs.Common.{refl, sym, ap, ap₂, ◌∙◌, subst}
+use Rattle.std.proofs.Common.{List, [], ◌∷◌, ◌++◌, Option, Some, None}
+use Rattle.std.proofs.Common.{refl, sym, ap, ap₂, ◌∙◌}
 use Rattle.std.proofs.lemmas.Bool.{eq-eqb, eqb-true}
-use Rattle.std.proofs.lemmas.Cmp.{nat_list_eq_equiv}
 use Rattle.std.proofs.lemmas.List.{append-nil, append_assoc}
 use Rattle.std.proofs.lemmas.Option.{same_Some}
-use Rattle.std.specs.List.{list_any}
 use Rattle.std.specs.Prelude.{bytes_eq, nat_eq, option_and_then, option_map, slice_get, ◌==◌}
+use Rattle.bl_tree.proofs.Basics.{and_first, and_second, get_mapped, number_itself, true_not_false}
 use Rattle.bl_tree.specs.declared.tree.Field.{Field}
 use Rattle.bl_tree.specs.declared.tree.StructDef.{StructDef}
 use Rattle.bl_tree.specs.declared.tree.Ty.{Ty, out-Ty}
 use Rattle.bl_tree.specs.declared.tree.Ty.TheOpen.{Ty-F}
 use Rattle.bl_tree.specs.declared.value.Value.{Value, out-Value}
 use Rattle.bl_tree.specs.declared.value.Value.TheOpen.{Value-F}
-use Rattle.bl_tree.specs.Program.{field_names, struct_stands, structs_stand_from}
+use Rattle.bl_tree.specs.Program.{field_names, structs_stand_from}
 use Rattle.bl_tree.specs.Static.{is_front}
-use Rattle.bl_tree.specs.Words.{are_distinct}
 use Rattle.bl_eval.specs.Values.{number_in, part_of, parts_at, value_at}
 use Rattle.bl_eval.specs.Values as values
 use Rattle.bl_eval.proofs.OperatorFits.{some_found}
 use Rattle.bl_eval.proofs.PartFits.{Fits}
-use Rattle.bl_eval.proofs.PassLemmas.{and_left, and_right}
 use Rattle.bl_ctext_semantics.specs.Memory.{element, member}
 use Rattle.bl_ctree_laws_typing.proofs.OnViews.Along.{along, along_leads, element_at}
 use Rattle.bl_ctree_laws_typing.proofs.OnViews.Along as typed
 use Rattle.bl_emit_acts.specs.Expressions.{field_of_struct, name_of_field}
 use Rattle.bl_emit_acts.specs.Types.{elements_name, field_name}
 use Rattle.bl_emit_acts_laws_simulation.specs.Encodes.{lead_level, lead_to, number_within, part_level, part_type, type_after, way_to, ways_part}
-use Rattle.bl_emit_spec_laws_nodes.proofs.OnPoints.Cells.{behind_front, further_both}
-
-no_such : true ≡ false → ⊥
-no_such h = cc
-
-itself : (k : ℕ) → nat_eq k k ≡ true
-itself k = eq-eqb k k refl
+use Rattle.bl_machine_pass_laws_execution.proofs.OnFresh.Doing.{found as map_found}
+use Rattle.bl_eval_laws.proofs.OnLocal.Locality.{value_within}
+use Rattle.bl_ctree_laws_confluence.proofs.OnIndependent.Sides.{front_itself}
+use Rattle.bl_emit_acts_laws_simulation.proofs.Forks.{differ_at, distinct_from}
+use Rattle.bl_emit_spec_laws.proofs.OnRegisters.Cells.{behind_front, further_both}
 
 -- ---- types behind positions
 
@@ -77,15 +72,6 @@ module _ (structs : List StructDef) where
 
 -- ---- values behind positions
 
-pub value_further : (ks js : List ℕ) (value : Value) → value_at (ks ++ js) value ≡ option_and_then (value_at js) (value_at ks value)
-value_further [] js value = refl
-value_further (k ∷ ks) js value = by (λ part. value_further ks js part) (part_of k value)
-  where
-    by : ((part : Value) → value_at (ks ++ js) part ≡ option_and_then (value_at js) (value_at ks part)) → (o : Option Value) →
-        option_and_then (value_at (ks ++ js)) o ≡ option_and_then (value_at js) (option_and_then (value_at ks) o)
-    by again None = refl
-    by again (Some part) = again part
-
 -- a number has no parts
 number_alone : (k : ℕ) (value : Value) (n : ℤ) (layer : Value-F Value) → out-Value value ≡ layer → number_in value ≡ Some n →
     part_of k value ≡ None
@@ -99,12 +85,8 @@ pub front_split : (ks js : List ℕ) → is_front ks js ≡ true → (rest : Lis
 front_split [] js h = (js, refl)
 front_split (k ∷ ks) [] h = absurd cc
 front_split (k ∷ ks) (j ∷ js) h =
-    let more = front_split ks js (and_right (nat_eq k j) (is_front ks js) h) in
-    (more.0, ap₂ (λ j js. j ∷ js) (sym (eqb-true k j (and_left (nat_eq k j) (is_front ks js) h))) more.1)
-
-front_itself : (ks : List ℕ) → is_front ks ks ≡ true
-front_itself [] = refl
-front_itself (k ∷ ks) = ap (λ b. b && is_front ks ks) (itself k) ∙ front_itself ks
+    let more = front_split ks js (and_second (nat_eq k j) (is_front ks js) h) in
+    (more.0, ap₂ (λ j js. j ∷ js) (sym (eqb-true k j (and_first (nat_eq k j) (is_front ks js) h))) more.1)
 
 -- where a number stands at a front of a path that leads to a type, it stands at the end
 pub number_ends : (structs : List StructDef) → structs_stand_from 0 structs ≡ true → (ks js : List ℕ) (a c : Ty) (value : Value) (n : ℤ) →
@@ -120,74 +102,12 @@ number_ends structs stand ks js a c value n fit leads number front =
         let there = along_leads structs stand js a c value fit leads in
         let none : value_at js value ≡ None =
         ap (λ js. value_at js value) whole
-        ∙ (value_further ks (k ∷ rest) value
+        ∙ (value_within ks (k ∷ rest) value
         ∙ (ap (option_and_then (value_at (k ∷ rest))) at
         ∙ ap (option_and_then (value_at rest)) (number_alone k u n (out-Value u) refl is))) in
         absurd (let no : None ≡ Some there.old = sym none ∙ there.at in cc)
 
 -- ---- names of fields differ
-
-or_left : (a b : Bool) → (a || b) ≡ false → a ≡ false
-or_left false b h = refl
-or_left true b h = absurd (cc)
-
-or_right : (a b : Bool) → (a || b) ≡ false → b ≡ false
-or_right false b h = h
-or_right true b h = absurd (cc)
-
-not_true : (a : Bool) → not a ≡ true → a ≡ false
-not_true false h = refl
-not_true true h = absurd (cc)
-
-among_at : (text : List ℕ) (names : List (List ℕ)) (k : ℕ) (name : List ℕ) → list_any (bytes_eq text) names ≡ false →
-    slice_get names k ≡ Some name → bytes_eq text name ≡ false
-among_at text [] k name h there = absurd (cc)
-among_at text (first ∷ names) zero name h there =
-    ap (bytes_eq text) (sym (same_Some first name there)) ∙ or_left (bytes_eq text first) (list_any (bytes_eq text) names) h
-among_at text (first ∷ names) (suc k) name h there =
-    among_at text names k name (or_right (bytes_eq text first) (list_any (bytes_eq text) names) h) there
-
-other_way : (a b : List ℕ) → bytes_eq a b ≡ false → bytes_eq b a ≡ false
-other_way a b h = nat_list_eq_equiv.symm b a ∙ h
-
-unequal_before : (j k : ℕ) → nat_eq (suc j) (suc k) ≡ false → nat_eq j k ≡ false
-unequal_before j k h = by (nat_eq j k) refl
-  where
-    by : (same : Bool) → nat_eq j k ≡ same → same ≡ false
-    by true is = absurd (no_such (sym (eq-eqb (suc j) (suc k) (ap suc (eqb-true j k is))) ∙ h))
-    by false is = refl
-
--- names at different positions differ
-differ_at : (names : List (List ℕ)) (j k : ℕ) (a b : List ℕ) → are_distinct names ≡ true → slice_get names j ≡ Some a →
-    slice_get names k ≡ Some b → nat_eq j k ≡ false → bytes_eq b a ≡ false
-differ_at [] j k a b h i l other = absurd (cc)
-differ_at (first ∷ names) zero zero a b h i l other = absurd (cc)
-differ_at (first ∷ names) zero (suc k) a b h i l other =
-    let front : list_any (bytes_eq first) names ≡ false = not_true (list_any (bytes_eq first) names) (and_left _ _ h) in
-    other_way a b (ap (λ a. bytes_eq a b) (sym (same_Some first a i)) ∙ among_at first names k b front l)
-differ_at (first ∷ names) (suc j) zero a b h i l other =
-    let front : list_any (bytes_eq first) names ≡ false = not_true (list_any (bytes_eq first) names) (and_left _ _ h) in
-    ap (λ b. bytes_eq b a) (sym (same_Some first b l)) ∙ among_at first names j a front i
-differ_at (first ∷ names) (suc j) (suc k) a b h i l other = differ_at names j k a b (and_right _ _ h) i l (unequal_before j k other)
-
-distinct_from : (structs : List StructDef) (before s : ℕ) (def : StructDef) → structs_stand_from before structs ≡ true →
-    slice_get structs s ≡ Some def → are_distinct (field_names def) ≡ true
-distinct_from [] before s def h there = absurd (cc)
-distinct_from (first ∷ rest) before zero def h there =
-    subst (λ def. are_distinct (field_names def) ≡ true) (same_Some first def there)
-    (and_right _ _ (and_left _ _ (and_right _ _ (and_left (struct_stands before first) (structs_stand_from (before + 1) rest) h))))
-distinct_from (first ∷ rest) before (suc s) def h there =
-    distinct_from rest (before + 1) s def (and_right (struct_stands before first) (structs_stand_from (before + 1) rest) h) there
-
-map_found : {A B : Type 0} (f : A → B) (o : Option A) (y : B) → option_map f o ≡ Some y → (x : A) × (o ≡ Some x) × (f x ≡ y)
-map_found f None y is = absurd (cc)
-map_found f (Some x) y is = (x, refl, same_Some (f x) y is)
-
-get_map : {A B : Type 0} (f : A → B) (xs : List A) (k : ℕ) (x : A) → slice_get xs k ≡ Some x →
-    slice_get (map f xs) k ≡ Some (f x)
-get_map f [] k x is = absurd (cc)
-get_map f (y ∷ xs) zero x is = ap Some (ap f (same_Some y x is))
-get_map f (y ∷ xs) (suc k) x is = get_map f xs k x is
 
 -- ---- ways that part
 
@@ -197,7 +117,7 @@ module _ (structs : List StructDef) (stand : structs_stand_from 0 structs ≡ tr
   elements_part j k other = by (k == j) refl
     where
       by : (same : Bool) → (k == j) ≡ same → (not same || false) ≡ true
-      by true h = absurd (no_such (sym (eq-eqb j k (sym (eqb-true k j h))) ∙ other))
+      by true h = absurd (true_not_false (sym (eq-eqb j k (sym (eqb-true k j h))) ∙ other))
       by false h = refl
 
   fields_part : (s : ℕ) (def : StructDef) (a b : Field) (j k : ℕ) → slice_get structs s ≡ Some def → slice_get def.fields j ≡ Some a →
@@ -206,7 +126,7 @@ module _ (structs : List StructDef) (stand : structs_stand_from 0 structs ≡ tr
   fields_part s def a b j k there first second other =
       let names : bytes_eq b.name a.name ≡ false =
       differ_at (field_names def) j k a.name b.name (distinct_from structs 0 s def stand there)
-      (get_map (λ (field : Field). field.name) def.fields j a first) (get_map (λ (field : Field). field.name) def.fields k b second) other in
+      (get_mapped (λ (field : Field). field.name) def.fields j a first) (get_mapped (λ (field : Field). field.name) def.fields k b second) other in
       let at : (k : ℕ) → field_of_struct structs k (Ty-F.Struct s) ≡ slice_get def.fields k =
       λ k. ap (option_and_then (λ (def : StructDef). slice_get def.fields k)) there in
       ap (λ o. ways_part (member (field_name (name_of_field o)) ∷ []) (lead_level structs j (Ty-F.Struct s))) (at k ∙ second)
@@ -251,7 +171,7 @@ module _ (structs : List StructDef) (stand : structs_stand_from 0 structs ≡ tr
       let other = type_there structs (part_type structs j a) js c two in
       heads_part k j ks js a inner.0 other.0 inner.1 other.1
       (λ is.
-      let left : is_front ks js ≡ false = sym (ap (λ b. b && is_front ks js) (ap (nat_eq k) is ∙ itself k)) ∙ h in
-      let right : is_front js ks ≡ false = sym (ap (λ b. b && is_front js ks) (ap (λ j. nat_eq j k) is ∙ itself k)) ∙ i in
+      let left : is_front ks js ≡ false = sym (ap (λ b. b && is_front ks js) (ap (nat_eq k) is ∙ number_itself k)) ∙ h in
+      let right : is_front js ks ≡ false = sym (ap (λ b. b && is_front js ks) (ap (λ j. nat_eq j k) is ∙ number_itself k)) ∙ i in
       fronts_part ks js inner.0 b c (sym (ap (type_after structs ks) inner.1) ∙ one)
       (sym (ap (type_after structs js) (ap (λ j. part_type structs j a) is ∙ inner.1)) ∙ two) left right)

@@ -2,6 +2,7 @@
 use Rattle.std.proofs.Common.{◌≡◌, inr, ℕ, Bool, true, false, List, [], ◌∷◌, ◌++◌, Option, Some, None, append-nil, refl, sym, ap, ◌∙◌, subst}
 use Rattle.std.proofs.lemmas.Option.{same_Some}
 use Rattle.std.specs.Prelude.{slice_get, take, if◌then◌else◌}
+use Rattle.bl_tree.proofs.Basics.{get_taken, true_not_false}
 use Rattle.bl_tree.specs.declared.c.CStmt.{CStmt}
 use Rattle.bl_tree.specs.declared.place.Place.{Place}
 use Rattle.bl_tree.specs.declared.tree.Path.{Path}
@@ -36,17 +37,8 @@ use Rattle.bl_machine_laws.specs.Passes.Follows.{DeedYields}
 use Rattle.bl_machine_pass.specs.Registers.{Registers, after_rule, all_changed, with_at}
 use Rattle.bl_machine_pass.specs.Transitions.{Change, Transition}
 use Rattle.bl_machine_pass_laws_execution.specs.Executes as executes
-use Rattle.bl_machine_pass_laws_execution.specs.Executes.{
-  CopiesMatch,
-  Executes,
-  IsPoint,
-  NodeTraps,
-  PassTraps,
-  Performs,
-  begun_registers,
-  recopied,
-  resumed_registers,
-}
+use Rattle.bl_machine_pass_laws_execution.specs.Executes.{CopiesMatch, Executes, IsPoint, NodeTraps, PassTraps, Performs, begun_registers, recopied}
+use Rattle.bl_machine_pass_laws_execution.specs.Executes.{resumed_registers}
 use Rattle.bl_machine_pass_laws.specs.Turns.Laws.{StaysPlaced}
 use Rattle.bl_machine_pass_laws_typing.specs.Fits.{PassesKeepTypes}
 use Rattle.bl_machine_pass_laws_execution.specs.Frames.{Frames}
@@ -66,18 +58,18 @@ use Rattle.bl_emit_spec_laws_nodes.specs.Points.Points.{BodiesEnd, PointsStand}
 use Rattle.bl_emit_spec_laws_nodes.proofs.OnPoints.ActNodes.{append_goes}
 use Rattle.bl_emit_spec_laws_nodes.proofs.OnPoints.Choices.{Alike, Chosen, if_alone}
 use Rattle.bl_emit_spec_laws_nodes.proofs.OnPoints.Endless.{pass_open}
-use Rattle.bl_emit_spec_laws_nodes.proofs.OnPoints.Silent.{comes_as, no_such}
-use Rattle.bl_emit_spec_laws_simulation.proofs.OnGives.Lists.{get_taken}
+use Rattle.bl_emit_spec_laws_nodes.proofs.OnPoints.Silent.{comes_as}
 use Rattle.bl_emit_spec_laws.proofs.OnPasses.Asking.{resumes_quiet}
 use Rattle.bl_emit_spec_laws_simulation.proofs.OnRuns.Begun.{first_comes, first_inputs, first_stops, own_comes}
 use Rattle.bl_emit_spec_laws_simulation.proofs.OnRuns.Called.{after, call_goes_on, ended, forgotten, inputs_fit, inputs_stop, kept_after, pass_stops}
 use Rattle.bl_emit_spec_laws_simulation.proofs.OnRuns.Called.{unasked}
 use Rattle.bl_emit_spec_laws_simulation.proofs.OnRuns.Changing.{changes_behind, keeping}
 use Rattle.bl_emit_spec_laws.proofs.OnRunPlaces.Entered.{node_by}
-use Rattle.bl_emit_spec_laws_simulation.proofs.OnRuns.Running.{CallsUnit, node_calls, unit_there}
+use Rattle.bl_emit_spec_laws_simulation.proofs.OnRuns.Running.{CallsUnit, node_calls}
 use Rattle.bl_emit_spec_laws_simulation.proofs.OnRuns.Statements.{ended_truth, step_goes}
 use Rattle.bl_emit_spec_laws_simulation.proofs.OnRuns.Targets.{target_comes, target_typed}
 use Rattle.bl_emit_spec_laws.proofs.OnRunPlaces.Words.{run_word}
+use Rattle.bl_emit_spec_laws.proofs.OnActivities.Nested.{unit_there}
 
 -- no changes are none where they are shown
 none_shown : (last : Bool) (changes : List Change) → changes ≡ [] → (if last then changes else []) ≡ []
@@ -291,7 +283,7 @@ module _ (orderly : AcceptedIsOrderly) (callers : InstancesHaveCallers) (nests :
                     by : (b : Bool) → b ≡ unit_may_end other → b ≡ true
                     by true same = refl
                     by false same =
-                        absurd (no_such
+                        absurd (true_not_false
                         (sym over
                         ∙ pass_open w (rank_by w activities) (slots_by w activities) (cleared w) other (sym same) run.is_there executed refl))
 

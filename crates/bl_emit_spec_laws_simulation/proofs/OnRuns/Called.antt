@@ -1,6 +1,7 @@
 -- The code of the call that a `run` makes, and what stands behind it: the end of the last call is forgotten, and the call does what a pass does.
 use Rattle.std.proofs.Common.{◌≡◌, ℕ, Bool, true, false, List, [], ◌∷◌, ◌++◌, None, Some, refl, sym, ap, subst, ◌∙◌, append_assoc}
 use Rattle.std.specs.Prelude.{slice_get}
+use Rattle.bl_tree.proofs.Basics.{get_taken}
 use Rattle.bl_tree.specs.declared.c.CStmt.{CStmt}
 use Rattle.bl_tree.specs.declared.place.Place.{Place}
 use Rattle.bl_tree.specs.declared.tree.StructDef.{StructDef}
@@ -42,11 +43,10 @@ use Rattle.bl_emit_spec_laws.specs.Cleared.{ClearingIsInside}
 use Rattle.bl_emit_spec_laws_nodes.specs.Calling.{NotEnded, RunLeaves, RunOf, RunsEstablish, RunsLeave}
 use Rattle.bl_emit_spec_laws_nodes.specs.Points.Laws.{Remembering}
 use Rattle.bl_emit_spec_laws_nodes.proofs.OnPoints.Choices.{Alike, Chosen, if_alone}
-use Rattle.bl_emit_spec_laws_simulation.proofs.OnGives.Lists.{get_taken}
 use Rattle.bl_emit_spec_laws_simulation.proofs.OnRuns.Calls.{after_call, call_comes, call_left, given_fits, inputs_trap, pass_traps, written}
 use Rattle.bl_emit_spec_laws_simulation.proofs.OnRuns.Clearing.{ended_keeps, ended_midway, not_ended}
-use Rattle.bl_emit_spec_laws_simulation.proofs.OnRuns.Running.{unit_there}
 use Rattle.bl_emit_spec_laws_simulation.proofs.OnRuns.Statements.{ended_truth, forget_goes, forgotten_by, step_goes, step_traps}
+use Rattle.bl_emit_spec_laws.proofs.OnActivities.Nested.{unit_there}
 
 module _ (orderly : AcceptedIsOrderly) (callers : InstancesHaveCallers) (nests : ProgramsNest) (clearing : ClearingIsInside) (keys : NodesHaveKeys)
     (placed : StaysPlaced) (structs : List StructDef) (units : List UnitDef) (entry : ℕ) (machine : List InMachine) (activities : Activities)

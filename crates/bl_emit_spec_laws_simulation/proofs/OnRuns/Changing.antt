@@ -1,6 +1,8 @@
 -- The changes behind what a node of a `run` has done.
 use Rattle.std.proofs.Common.{◌≡◌, ℕ, Bool, true, false, List, sym, subst, ◌∙◌}
 use Rattle.std.specs.List.{list_any}
+use Rattle.std.proofs.lemmas.Bool.{false_from_ne_true}
+use Rattle.bl_tree.proofs.Basics.{true_not_false}
 use Rattle.bl_tree.specs.declared.tree.StructDef.{StructDef}
 use Rattle.bl_tree.specs.declared.tree.Unit.{Unit as UnitDef}
 use Rattle.bl_tree.specs.declared.value.Value.{Value}
@@ -23,7 +25,8 @@ use Rattle.bl_emit_spec_laws.specs.Within.{AllStayWithin}
 use Rattle.bl_emit_spec_laws_nodes.specs.Points.Laws.{ChangesSimulateInPass, ResultTold, is_return_node}
 use Rattle.bl_emit_spec_laws_nodes.specs.Points.Points.{BodiesEnd, PointsStand}
 use Rattle.bl_emit_spec_laws_nodes.proofs.OnPoints.Shown.{ends_true}
-use Rattle.bl_emit_spec_laws_nodes.proofs.OnPoints.Silent.{either, no_such, not_so, over_after}
+use Rattle.bl_emit_spec_laws_nodes.proofs.OnPoints.Silent.{over_after}
+use Rattle.bl_emit_acts_laws_simulation.proofs.Begun.{or_other}
 
 module _ (stand : ChangesSimulateInPass) (stay : AllStayWithin) (structs : List StructDef) (units : List UnitDef) (entry : ℕ)
     (end : BodiesEnd structs units entry) (machine : List InMachine) (activities : Activities) (i : ℕ) (unit : UnitDef) (scope : Scope) (frames : Frames)
@@ -54,9 +57,9 @@ module _ (stand : ChangesSimulateInPass) (stay : AllStayWithin) (structs : List 
     changes_behind frames' left after no_return kept stands =
         let told : ResultTold unit i scope left (all_changed number rule.on_true r) after =
         λ value over one is. stands.result value
-        (either r.over (list_any ends_body rule.on_true) (over_after number rule.on_true r over)
-        (not_so (list_any ends_body rule.on_true)
-        (λ ending. no_such
+        (or_other r.over (list_any ends_body rule.on_true) (over_after number rule.on_true r over)
+        (false_from_ne_true (list_any ends_body rule.on_true)
+        (λ ending. true_not_false
         (sym (ends_true activities units (end activities midway.compiled.well_typed) i unit w rule there midway.function.is_there midway.function.active one
         ending) ∙ no_return))))
         one is in

@@ -6,6 +6,8 @@ use Rattle.std.proofs.Common.{append_assoc}
 use Rattle.std.proofs.lemmas.List.{append-nil}
 use Rattle.std.proofs.lemmas.Option.{same_Some}
 use Rattle.std.specs.Prelude.{bytes_eq, is_some, pos, slice_get}
+use Rattle.std.proofs.lemmas.Bool.{or_right}
+use Rattle.bl_tree.proofs.Basics.{true_not_false}
 use Rattle.bl_tree.specs.declared.place.Place.{Place}
 use Rattle.bl_tree.specs.declared.tree.StructDef.{StructDef}
 use Rattle.bl_tree.specs.declared.tree.Unit.{Unit as UnitDef}
@@ -13,12 +15,8 @@ use Rattle.bl_tree.specs.declared.tree.Var.{Var}
 use Rattle.bl_tree.specs.declared.value.Value.{Value}
 use Rattle.bl_tree.specs.Rules.{same_place}
 use Rattle.bl_tree.specs.Typing.{TypingContext, is_activity, var_at}
-use Rattle.bl_effects.proofs.EntryLemmas.{same_place_is, same_place_refl}
-use Rattle.bl_graph_nodes.specs.Nodes.{
-  Arguments,
-  EnterAt,
-  nodes_in,
-}
+use Rattle.bl_effects.proofs.EntryLemmas.{same_place_refl}
+use Rattle.bl_graph_nodes.specs.Nodes.{Arguments, EnterAt, nodes_in}
 use Rattle.bl_graph_nodes.specs.Plain.{Label, plain_body}
 use Rattle.bl_ctext_semantics.specs.Meaning.{Scope, further, named_location}
 use Rattle.bl_ctext_semantics.specs.Memory.{CValue, Location, Memory, Projection, left_after, member, scalar_number}
@@ -41,15 +39,7 @@ use Rattle.bl_machine_pass.specs.Registers.{Registers}
 use Rattle.bl_machine_pass_laws.specs.Turns.Laws.{StaysPlaced}
 use Rattle.bl_machine_pass_laws_execution.specs.Frames.{Frames}
 use Rattle.bl_machine_pass_laws.specs.Keys.{NodesHaveKeys}
-use Rattle.bl_emit_spec_laws.specs.Calls.Built.{
-  Activities,
-  activity_at,
-  cleared,
-  registered,
-  run_by,
-  site_at,
-  unit_number,
-}
+use Rattle.bl_emit_spec_laws.specs.Calls.Built.{Activities, activity_at, cleared, registered, run_by, site_at, unit_number}
 use Rattle.bl_emit_spec_laws.specs.Calls.Laws.{Midway, PassKeepsFrame}
 use Rattle.bl_emit_spec_laws.specs.Calls.Memories as memories
 use Rattle.bl_emit_spec_laws.specs.Calls.Memories.{MemoryEncodes, Nests, inner}
@@ -59,16 +49,19 @@ use Rattle.bl_emit_spec_laws.specs.Cleared.{ClearingIsInside}
 use Rattle.bl_emit_spec_laws.proofs.OnWithin.Passing.{clear_within}
 use Rattle.bl_emit_spec_laws_nodes.specs.Points.Laws.{Remembering}
 use Rattle.bl_emit_spec_laws_nodes.proofs.OnPoints.Apart.{Beyond, first_further, further_twice, inner_is}
-use Rattle.bl_emit_spec_laws_nodes.proofs.OnPoints.Apart.{last_further, lies_further, nests_beyond, older_differs}
-use Rattle.bl_emit_spec_laws_nodes.proofs.OnPoints.Cells.{apart_flip, behind_front, left_behind, or_last, same_object, set_elsewhere}
+use Rattle.bl_emit_spec_laws_nodes.proofs.OnPoints.Apart.{last_further, lies_further, nests_beyond}
+use Rattle.bl_emit_spec_laws_nodes.proofs.OnPoints.Cells.{same_object}
 use Rattle.bl_emit_spec_laws_nodes.proofs.OnPoints.Changes.{holds_same}
-use Rattle.bl_emit_spec_laws_simulation.proofs.OnRuns.Inner.{cleared_other, cleared_own, nests_inside, one_place}
+use Rattle.bl_emit_spec_laws_simulation.proofs.OnRuns.Inner.{cleared_other, cleared_own, nests_inside}
 use Rattle.bl_emit_spec_laws_simulation.proofs.OnRuns.Numbering.{callees_differ}
 use Rattle.bl_emit_spec_laws_simulation.proofs.OnRuns.Statements.{forgotten_by}
 use Rattle.bl_emit_spec_laws_simulation.proofs.OnRuns.Placing.{OtherName, frame_beside, kept_at, local_beside, local_older, stands_beside}
-
-no_such : true ≡ false → ⊥
-no_such h = cc
+use Rattle.bl_emit_acts_laws_simulation.proofs.Frames.{older_differs}
+use Rattle.bl_emit_acts_laws_simulation.proofs.Cells.{apart_flip, set_elsewhere}
+use Rattle.bl_tree.proofs.FirstLemmas.{same_true}
+use Rattle.bl_emit_acts_laws_simulation.proofs.Written.{left_behind}
+use Rattle.bl_emit_spec_laws.proofs.OnRegisters.Cells.{behind_front}
+use Rattle.bl_emit_spec_laws_simulation.proofs.OnLeaves.Types.{one_place}
 
 -- all of a cleared place is 0
 own_zero : (here : Memory) (place : Location) (more way : List Projection) → value_at (set_at here place zeros) (further place more) way ≡ pos 0
@@ -200,7 +193,7 @@ module _ (orderly : AcceptedIsOrderly) (callers : InstancesHaveCallers) (clearin
 
     pub not_ended : (called : UnitDef) (may : Bool) → may ≡ unit_may_end called → NotEnded called scope (forgotten_by may scope here)
     not_ended called true same ends = same_object here over_local (scalar (pos 0)) []
-    not_ended called false same ends = absurd (no_such (sym (same ∙ ends)))
+    not_ended called false same ends = absurd (true_not_false (sym (same ∙ ends)))
 
     -- ---- the counters of a callee are cleared
 
@@ -266,7 +259,7 @@ module _ (orderly : AcceptedIsOrderly) (callers : InstancesHaveCallers) (clearin
                 beyond_kept place zeros l' at' arguments' j' there' called' start f' (nests_beyond W activities j' k f2 m2 f' m' nests).0
                 (member (counter_name c) ∷ [])
                 (λ parts.
-                or_last (not (same_root start.root start.root))
+                or_right (not (same_root start.root start.root))
                 (ways_part (start.parts ++ member (callee_name own) ∷ []) (start.parts ++ member (callee_name n2) ∷ parts))
                 (behind_front start.parts (member (callee_name own) ∷ []) (member (callee_name n2) ∷ parts)
                 ∙ ap (λ same. not same || ways_part [] parts) names)) []
@@ -280,9 +273,9 @@ module _ (orderly : AcceptedIsOrderly) (callers : InstancesHaveCallers) (clearin
               where
                 by : (b : Bool) → same_place at at' ≡ b →
                     scalar_number (value_at after (further f' (member (counter_name c) ∷ []))) ≡ pos (cleared W j frames k c)
-                by true is = own_counter (same_place_is at at' is) k f' m' nests c
+                by true is = own_counter (same_true at at' is) k f' m' nests c
                 by false is =
-                    other_counter (λ same. no_such (sym (same_place_refl at) ∙ (ap (same_place at) same ∙ is))) k f' m' nests c below
+                    other_counter (λ same. true_not_false (sym (same_place_refl at) ∙ (ap (same_place at) same ∙ is))) k f' m' nests c below
 
             callee_cleared : MemoryEncodes W activities j' f2 m2 (cleared W j frames) store after
             callee_cleared = record {

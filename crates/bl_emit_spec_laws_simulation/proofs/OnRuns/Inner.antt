@@ -1,14 +1,15 @@
 -- What lies inside an instance: its counters hold 0 once it was cleared, and those of all others are as they were.
 use Rattle.std.proofs.Common.{◌≡◌, ℕ, zero, suc, ◌<◌, Bool, true, false}
-use Rattle.std.proofs.Common.{◌||◌, List, [], ◌∷◌, length, Option, Some, None}
+use Rattle.std.proofs.Common.{◌||◌, List, [], ◌∷◌, Option, Some, None}
 use Rattle.std.proofs.Common.{get_or, nat_eq, unwrap_or, refl, sym, ap, subst, ◌∙◌, arith, eqb-true, eq-eqb, if◌then◌else◌}
 use Rattle.std.proofs.lemmas.List.Quantifiers.{position-Some}
 use Rattle.std.specs.Prelude.{option_and_then, option_map, slice_get}
+use Rattle.std.proofs.lemmas.Bool.{or_right}
+use Rattle.bl_tree.proofs.Basics.{and_first, get_within}
 use Rattle.bl_tree.specs.declared.place.Place.{Place}
 use Rattle.bl_tree.specs.declared.tree.StructDef.{StructDef}
 use Rattle.bl_tree.specs.declared.tree.Unit.{Unit as UnitDef}
 use Rattle.bl_tree.specs.Rules.{same_place}
-use Rattle.bl_effects.proofs.EntryLemmas.{same_place_is}
 use Rattle.bl_ctext_semantics.specs.Memory.{Location}
 use Rattle.bl_ctree.specs.declared.instance.Instance.{Instance}
 use Rattle.bl_ctree.specs.declared.instance.Origin.{Origin}
@@ -17,48 +18,20 @@ use Rattle.bl_ctree.specs.Store.{depth_at}
 use Rattle.bl_ctree_laws_confluence.specs.Deeds.Nesting.{Inside}
 use Rattle.bl_ctree_laws_confluence.specs.Deeds.Nesting as nesting
 use Rattle.bl_ctree_laws_confluence.specs.Deeds.Origins.{CalledBy, HasCaller, InstancesHaveCallers}
-use Rattle.bl_ctree_laws_confluence.proofs.OnDeeds.Activities.{and_left, and_right}
 use Rattle.bl_machine_pass_laws_execution.specs.Frames.{Frames}
 use Rattle.bl_emit_spec_laws.specs.Calls.Built.{Activities, cleared, is_under, origin_at, run_by}
 use Rattle.bl_emit_spec_laws.specs.Calls.Memories as memories
 use Rattle.bl_emit_spec_laws.specs.Calls.Memories.{Nests, inner}
 use Rattle.bl_emit_spec_laws.specs.Cleared.{ClearingIsInside}
+use Rattle.bl_emit_spec_laws_nodes.proofs.OnViews.Leaving.{inside_more}
 
 -- ---- places of instances
-
--- an instance that an instance calls is inside it, and so is all inside that
-inside_more : (w : Setting) (i j k : ℕ) (at : Place) → callee_of w i at ≡ Some j → Inside w j k → Inside w i k
-inside_more w i j k at called nesting.itself = nesting.deeper i at nesting.itself called
-inside_more w i j k at called (nesting.deeper p place deep more) = nesting.deeper p place (inside_more w i j p at called deep) more
 
 pub nests_inside : (w : Setting) (activities : Activities) (i k : ℕ) (f m f' m' : Location) → Nests w activities i f m k f' m' → Inside w i k
 nests_inside w activities i k f m f' m' memories.here = nesting.itself
 nests_inside w activities i k f m f' m' (memories.inside {j = j} {l = l} {at = at} {arguments = arguments} there node called deeper) =
     let n = run_by w activities i at in
     inside_more w i j k at called (nests_inside w activities j k (inner f n) (inner m n) f' m' deeper)
-
-got_or : {A : Type 0} (xs : List A) (k : ℕ) (d : A) → k < length xs → slice_get xs k ≡ Some (get_or xs k d)
-got_or [] k d within = absurd (omega (arith, within))
-got_or (x ∷ xs) zero d within = refl
-got_or (x ∷ xs) (suc k) d within = got_or xs k d (omega (arith, within))
-
--- one place of an instance begins another one
-pub one_place : (w : Setting) (i callee : ℕ) (place other : Place) → callee_of w i place ≡ Some callee → callee_of w i other ≡ Some callee →
-    place ≡ other
-one_place w i callee place other one two =
-    let d : Instance = record { unit = 0; depth = 0; origin = None } in
-    by_origin (get_or w.instances callee d).origin ((position-Some (λ (instance : Instance). begins_at i place instance.origin) w.instances callee d one).1)
-    ((position-Some (λ (instance : Instance). begins_at i other instance.origin) w.instances callee d two).1)
-  where
-    by_origin : (o : Option Origin) → begins_at i place o ≡ true → begins_at i other o ≡ true → place ≡ other
-    by_origin None e f = absurd (cc)
-    by_origin (Some origin) e f =
-        sym (same_place_is origin.place place (and_right (nat_eq origin.caller i) (same_place origin.place place) e))
-        ∙ same_place_is origin.place other (and_right (nat_eq origin.caller i) (same_place origin.place other) f)
-
-or_second : (a b : Bool) → b ≡ true → (a || b) ≡ true
-or_second true b h = refl
-or_second false b h = h
 
 module _ (callers : InstancesHaveCallers) (clearing : ClearingIsInside) (structs : List StructDef) (units : List UnitDef) (entry : ℕ) where
   abbrev W : Setting
@@ -75,7 +48,7 @@ module _ (callers : InstancesHaveCallers) (clearing : ClearingIsInside) (structs
   begun p k place begins =
       let d : Instance = record { unit = 0; depth = 0; origin = None } in
       let position = position-Some (λ (instance : Instance). begins_at p place instance.origin) W.instances k d begins in
-      by_origin (get_or W.instances k d) (got_or W.instances k d position.0) (get_or W.instances k d).origin refl position.1
+      by_origin (get_or W.instances k d) (get_within W.instances k d position.0) (get_or W.instances k d).origin refl position.1
     where
       by_origin : (instance : Instance) → slice_get W.instances k ≡ Some instance → (o : Option Origin) → instance.origin ≡ o →
           begins_at p place o ≡ true → Begun p k
@@ -83,7 +56,7 @@ module _ (callers : InstancesHaveCallers) (clearing : ClearingIsInside) (structs
       by_origin instance there (Some origin) of e =
           let called : CalledBy units W.instances k instance origin =
           subst (HasCaller units entry W.instances k instance) of (callers units entry k instance there) in
-          let by : origin.caller ≡ p = eqb-true origin.caller p (and_left (nat_eq origin.caller p) (same_place origin.place place) e) in
+          let by : origin.caller ≡ p = eqb-true origin.caller p (and_first (nat_eq origin.caller p) (same_place origin.place place) e) in
           let own : depth_at W k ≡ instance.depth = ap (λ o. unwrap_or (option_map (λ (instance : Instance). instance.depth) o) 0) there in
           let outer : depth_at W origin.caller ≡ called.caller.depth =
           ap (λ o. unwrap_or (option_map (λ (instance : Instance). instance.depth) o) 0) called.there in
@@ -106,7 +79,7 @@ module _ (callers : InstancesHaveCallers) (clearing : ClearingIsInside) (structs
       let b = begun p k place begins in
       let again : is_under W (depth_at W p) j p ≡ true = under_told j p deep in
       ap (λ depth. is_under W depth j k) b.depth
-      ∙ or_second (nat_eq k j) (unwrap_or (option_map (λ (origin : Origin). is_under W (depth_at W p) j origin.caller) (origin_at W k)) false)
+      ∙ or_right (nat_eq k j) (unwrap_or (option_map (λ (origin : Origin). is_under W (depth_at W p) j origin.caller) (origin_at W k)) false)
       (ap (λ o. unwrap_or (option_map (λ (origin : Origin). is_under W (depth_at W p) j origin.caller) o) false) b.is
       ∙ (ap (is_under W (depth_at W p) j) b.caller ∙ again))
 

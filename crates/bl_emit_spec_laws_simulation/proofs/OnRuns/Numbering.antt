@@ -1,8 +1,9 @@
 -- `run`s of different places of a body have different numbers, and names.
-use Rattle.std.proofs.Common.{◌≡◌, ℕ, zero, suc, ◌+◌, ◌<◌, ◌^◌, true, false, List, [], ◌∷◌, Contains, Some}
+use Rattle.std.proofs.Common.{◌≡◌, ℕ, ◌+◌, ◌<◌, ◌^◌, true, false, List, [], ◌∷◌, Contains, Some}
 use Rattle.std.proofs.Common.{length, nat_eq, sym, ap, subst, ◌∙◌, arith}
 use Rattle.std.proofs.lemmas.Option.{same_Some}
 use Rattle.std.specs.Prelude.{IsPermutation, bytes_eq, slice_get}
+use Rattle.bl_tree.proofs.Basics.{contains_at, index_of, within_at}
 use Rattle.bl_tree.specs.declared.place.Place.{Place}
 use Rattle.bl_tree.specs.declared.tree.StructDef.{StructDef}
 use Rattle.bl_tree.specs.declared.tree.Unit.{Unit as UnitDef}
@@ -21,31 +22,18 @@ use Rattle.bl_machine_pass_laws.specs.Turns.Laws.{StaysPlaced}
 use Rattle.bl_machine_pass_laws.specs.Keys.{NodesHaveKeys}
 use Rattle.bl_machine_transitions.specs.Callees.{node_number}
 use Rattle.bl_machine_transitions.specs.Listed.{layout_of}
-use Rattle.bl_machine_transitions_laws.proofs.Agreeing.{Agrees}
 use Rattle.bl_machine_transitions_laws.proofs.Standing.{nodes_stand}
 use Rattle.bl_emit_spec.specs.Activities.{Activity, activity_view}
 use Rattle.bl_emit_spec.specs.Names.{callee_name}
 use Rattle.bl_emit_spec_laws.specs.Calls.Built.{Activities, activity_at, rank_by, run_by, unit_number}
 use Rattle.bl_emit_spec_laws.specs.Calls.Laws.{CompilationContext}
-use Rattle.bl_emit_spec_laws.proofs.OnPlaced.Lists.{contains_at, found_at, number_once, number_there, stands_at, within_at}
+use Rattle.bl_emit_spec_laws.proofs.OnPlaced.Lists.{found_at, number_once, number_there}
 use Rattle.bl_emit_spec_laws.proofs.OnRunPlaces.Sharing.{FirstNode, first_node}
-use Rattle.bl_emit_spec_laws_simulation.proofs.OnRuns.Running.{unit_there}
 use Rattle.bl_emit_spec_laws_simulation.proofs.OnLeaves.Numbers.{callees_differ as callees_apart}
-
--- ---- names
-
-no_such : true ≡ false → ⊥
-no_such h = cc
+use Rattle.bl_emit_spec_laws.proofs.OnActivities.Nested.{unit_there}
+use Rattle.bl_emit_spec_laws.proofs.OnPlaced.Placing.{agrees_at}
 
 -- ---- numbers
-
-agrees_at : {X Y : Type 0} (f : X → Y) (at : ℕ → Y) (xs : List X) (first k : ℕ) (x : X) → Agrees f at first xs → slice_get xs k
-    ≡ Some x → f x ≡ at (first + k)
-agrees_at f at [] first k x agrees is = absurd (cc)
-agrees_at f at (y ∷ xs) first zero x agrees is =
-    let same : first ≡ first + 0 = omega arith in ap f (sym (same_Some y x is)) ∙ agrees.0 ∙ ap at same
-agrees_at f at (y ∷ xs) first (suc k) x agrees is =
-    let same : suc first + k ≡ first + suc k = omega arith in agrees_at f at xs (suc first) k x agrees.1 is ∙ ap at same
 
 -- the numbers of the nodes of a body by an order of them
 module _ (keys : NodesHaveKeys) (a : Activity) (unit : UnitDef) (one : InMachine) (unit_is : a.unit ≡ unit) (order_is : a.order ≡ joined one.blocks)
@@ -68,8 +56,8 @@ module _ (keys : NodesHaveKeys) (a : Activity) (unit : UnitDef) (one : InMachine
 
     pub numbers_tell : (n m : Node) → Contains nodes n → Contains nodes m → (activity_view a).number n ≡ (activity_view a).number m → n ≡ m
     numbers_tell n m first second same =
-        let p = stands_at nodes n first in
-        let q = stands_at nodes m second in
+        let p = index_of nodes n first in
+        let q = index_of nodes m second in
         let k = number_there (length nodes) a.order permutes p.0 (within_at nodes p.0 n p.1) in
         let j = number_there (length nodes) a.order permutes q.0 (within_at nodes q.0 m q.1) in
         let one : k.0 ≡ j.0 = sym (number_is p.0 k.0 n p.1 k.1) ∙ (same ∙ number_is q.0 j.0 m q.1 j.1) in

@@ -2,6 +2,7 @@
 use Rattle.std.proofs.Common.{◌≡◌, ℕ, Bool, true, false, not, ◌&&◌, ◌||◌, List, [], ◌∷◌}
 use Rattle.std.proofs.Common.{◌++◌, Contains, Some, refl, sym, ap, ◌∙◌}
 use Rattle.std.specs.Prelude.{bytes_eq, is_some, ◌==◌}
+use Rattle.bl_tree.proofs.Basics.{and_false}
 use Rattle.bl_tree.specs.declared.place.Place.{Place}
 use Rattle.bl_tree.specs.declared.text.Text.{Text}
 use Rattle.bl_tree.specs.declared.tree.Unit.{Unit as UnitDef}
@@ -28,9 +29,11 @@ use Rattle.bl_machine_pass_laws_execution.specs.Frames.{Frames}
 use Rattle.bl_emit_spec_laws.specs.Calls.Built.{Activities, activity_at, registered, run_by, site_at}
 use Rattle.bl_emit_spec_laws.specs.Calls.Memories.{MemoryEncodes, inner}
 use Rattle.bl_emit_spec_laws.specs.Calls.Invariant.{PassRepresents, PlacesAreSeparate, result_at_c}
-use Rattle.bl_emit_spec_laws_nodes.proofs.OnPoints.Apart.{first_further, last_further, lies_apart, older_differs, register_inner}
-use Rattle.bl_emit_spec_laws_nodes.proofs.OnPoints.Cells.{apart_flip, set_elsewhere}
+use Rattle.bl_emit_spec_laws_nodes.proofs.OnPoints.Apart.{first_further, last_further, register_inner}
 use Rattle.bl_emit_spec_laws_nodes.proofs.OnPoints.Changes.{holds_same}
+use Rattle.bl_emit_acts_laws_simulation.proofs.Frames.{older_differs}
+use Rattle.bl_emit_acts_laws_simulation.proofs.Cells.{apart_flip, set_elsewhere}
+use Rattle.bl_emit_acts_laws_simulation.proofs.Calls.{apart_lies}
 
 -- a place has nothing in common with registers, variables, copies and the result
 pub record Beside (has : Registered) (site : TypingContext) (unit : UnitDef) (scope : Scope) (place : Location) : Type 0 where
@@ -43,7 +46,7 @@ module _ (here : Memory) (place : Location) (held : CValue) where
   -- what has nothing in common with the place that is set
   pub kept_at : (other : Location) → are_apart place other ≡ true → (way : List Projection) →
       value_at (set_at here place held) other way ≡ value_at here other way
-  kept_at other apart way = set_elsewhere here place held other.root (other.parts ++ way) (lies_apart place other way apart)
+  kept_at other apart way = set_elsewhere here place held other.root (other.parts ++ way) (apart_lies place other way apart)
 
 -- where that is set memory stands for the same, but for what is kept of what is called
 pub stands_beside : (w : Setting) (activities : Activities) (i : ℕ) (unit : UnitDef) (scope : Scope) (frames after_frames : Frames) (store : Store)
@@ -80,10 +83,6 @@ stands_beside w activities i unit scope frames after_frames store copies r here 
 
 -- ---- locals
 
-none_of : (b : Bool) → (b && false) ≡ false
-none_of true = refl
-none_of false = refl
-
 module _ (scope : Scope) where
   -- a local has nothing in common with what was there before the function began
   pub local_older : (name : Text) (place : Location) → is_older scope.depth place.root ≡ true → are_apart (named_location scope false name) place ≡ true
@@ -93,7 +92,7 @@ module _ (scope : Scope) where
   pub local_local : (name other : Text) → bytes_eq name other ≡ false → are_apart (named_location scope false name) (named_location scope false other) ≡ true
   local_local name other differ =
       ap (λ same. not ((scope.depth == scope.depth) && same) || ways_part [] []) differ
-      ∙ ap (λ same. not same || ways_part [] []) (none_of (scope.depth == scope.depth))
+      ∙ ap (λ same. not same || ways_part [] []) (and_false (scope.depth == scope.depth))
 
 module _ (site : TypingContext) (unit : UnitDef) (remembers : Bool) (scope : Scope) (places : PlacesAreSeparate site unit remembers scope)
     (active : is_activity site.kind ≡ true) (has : Registered) (may_end : has.over ≡ unit_may_end unit)

@@ -1,5 +1,5 @@
 -- A path by fields alone: it leads wherever its static path does, and asks for no copy.
-use Rattle.std.proofs.Common.{◌≡◌, ℕ, Bool, true, false, List, [], ◌∷◌, map, Some, None, refl, sym, ap, ◌∙◌, subst}
+use Rattle.std.proofs.Common.{◌≡◌, ℕ, Bool, true, false, List, [], ◌∷◌, map, Some, refl, sym, ap, ◌∙◌, subst}
 use Rattle.std.specs.Prelude.{option_and_then, option_map}
 use Rattle.bl_tree.specs.declared.static_path.Static.{Static}
 use Rattle.bl_tree.specs.declared.tree.Expr.{Expr}
@@ -7,18 +7,15 @@ use Rattle.bl_tree.specs.declared.tree.ExprKind.{ExprKind}
 use Rattle.bl_tree.specs.declared.tree.ExprKind.TheOpen.{Part-F}
 use Rattle.bl_tree.specs.declared.tree.Part.{Part, fold-Part, fold-roll-Part, out-Part, roll-Part, roll-out-Part}
 use Rattle.bl_tree.specs.declared.tree.Path.{Path, fold_out-Path, out-Path}
-use Rattle.bl_tree.specs.declared.tree.Role.{Role}
-use Rattle.bl_tree.specs.declared.tree.Role.TheVariants.{Fixed, Input, Output, Variable}
-use Rattle.bl_tree.specs.declared.tree.Var.{Var}
-use Rattle.bl_tree.specs.Program.{is_input}
 use Rattle.bl_tree.specs.Reduce.{all_of}
 use Rattle.bl_tree.specs.Static.{Reach, StaticStep, before_index, expr_mentions, kind_mentions, leading_fields, part_step, path_reach, static_of, step_of}
-use Rattle.bl_tree.specs.Typing.{TypingContext, expr_ignored, is_assignable, is_plain, kind_ignored, may_change, part_is_field, path_is_plain, var_at}
-use Rattle.std.specs.Prelude.{is_some, if◌then◌else◌}
+use Rattle.bl_tree.specs.Typing.{expr_ignored, is_plain, kind_ignored, part_is_field, path_is_plain}
+use Rattle.std.specs.Prelude.{if◌then◌else◌}
+use Rattle.std.proofs.lemmas.Bool.{and_from}
+use Rattle.bl_tree.proofs.Basics.{and_first, and_second}
 use Rattle.bl_eval.specs.Changes.{part_of_path}
 use Rattle.bl_eval.specs.Meaning.{PathMeaning, Scope as Sees, View, path_meaning_of, positions_of}
 use Rattle.bl_eval.proofs.MeaningLemmas.{spot_out}
-use Rattle.bl_eval.proofs.PassLemmas.{and_left, and_right, both}
 use Rattle.bl_emit_acts_laws_simulation.specs.Encodes.{copied_in_path, expr_copied, kind_copied, part_copied, path_copied}
 
 module _ (sees : Sees) (view : View) (copied : ℕ → Bool) where
@@ -54,13 +51,13 @@ module _ (sees : Sees) (view : View) (copied : ℕ → Bool) where
   fields_of : (parts : List Part) → all_of (map is_field parts) ≡ true → Fields parts
   fields_of [] all = record { positions = refl; copies = refl }
   fields_of (part ∷ rest) all =
-      let one = field_one part (and_left (is_field part) (all_of (map is_field rest)) all) in
-      let more = fields_of rest (and_right (is_field part) (all_of (map is_field rest)) all) in
+      let one = field_one part (and_first (is_field part) (all_of (map is_field rest)) all) in
+      let more = fields_of rest (and_second (is_field part) (all_of (map is_field rest)) all) in
       record {
         positions = ap (option_and_then (λ k. option_map (λ ks. k ∷ ks) (positions_of (map (part_of_path sees) rest) view))) one.position
             ∙ (ap (option_map (λ ks. one.k ∷ ks)) more.positions
             ∙ ap Some (sym (ap (λ field. before_index field (leading_fields (map step_of rest))) one.field)));
-        copies = both (has_copies part) (all_of (map has_copies rest)) one.copies more.copies;
+        copies = and_from (has_copies part) (all_of (map has_copies rest)) one.copies more.copies;
       }
 
   -- the static path of a path in its parts
@@ -90,16 +87,3 @@ module _ (sees : Sees) (view : View) (copied : ℕ → Bool) where
 
   pub static_root : (path : Path) → (static_of path).root ≡ (out-Path path).root
   static_root path = ap (λ (static : Static). static.root) (static_out path)
-
--- what may be written is no input
-pub assignable_open : (site : TypingContext) (path : Path) (var : Var) → is_assignable site path ≡ true → var_at site (out-Path path).root ≡ Some var →
-    is_input var.role ≡ false
-assignable_open site path var h there =
-    by var.role
-    (sym (ap (λ o. is_some (option_and_then (λ (var : Var). if may_change var.role then Some var else None) o)) there) ∙ h)
-  where
-    by : (role : Role) → is_some (if may_change role then Some var else None) ≡ true → is_input role ≡ false
-    by Input h = absurd (cc)
-    by Output h = refl
-    by Variable h = refl
-    by Fixed h = absurd (cc)

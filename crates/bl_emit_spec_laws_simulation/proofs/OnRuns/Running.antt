@@ -1,32 +1,26 @@
 -- The instance that a `run` at a node begins or goes on with is of the activity that the node calls.
-use Rattle.std.proofs.Common.{◌≡◌, inl, inr, ℕ, zero, suc, ◌<◌, Bool, true, false, List, [], ◌∷◌, Contains}
-use Rattle.std.proofs.Common.{Option, Some, None, length, map, take, get_or, nat_eq, unwrap_or}
+use Rattle.std.proofs.Common.{◌≡◌, inl, inr, ℕ, ◌<◌, Bool, true, false, List, [], ◌∷◌, Contains}
+use Rattle.std.proofs.Common.{Option, Some, None, map, take, get_or, nat_eq, unwrap_or}
 use Rattle.std.proofs.Common.{refl, sym, ap, subst, ◌∙◌, arith, eqb-true}
 use Rattle.std.proofs.lemmas.List.Quantifiers.{position-Some}
 use Rattle.std.proofs.lemmas.Option.{same_Some}
 use Rattle.std.specs.Prelude.{option_and_then, option_map, slice_get}
+use Rattle.bl_tree.proofs.Basics.{and_first, and_second, contains_at, get_within}
 use Rattle.bl_tree.specs.declared.tree.StructDef.{StructDef}
 use Rattle.bl_tree.specs.declared.tree.Unit.{Unit as UnitDef}
 use Rattle.bl_tree.specs.Reduce.{joined}
 use Rattle.bl_tree.specs.Rules.{same_place}
 use Rattle.bl_tree.specs.Typing.{site_of}
-use Rattle.bl_effects.proofs.EntryLemmas.{same_place_is}
-use Rattle.bl_graph_nodes.specs.Nodes.{EnterAt, Node, nodes_in}
+use Rattle.bl_graph_nodes.specs.Nodes.{EnterAt, nodes_in}
 use Rattle.bl_graph_nodes.specs.Plain.{Block, plain_body}
 use Rattle.bl_ctree.specs.declared.instance.Instance.{Instance}
 use Rattle.bl_ctree.specs.declared.instance.Origin.{Origin}
 use Rattle.bl_ctree.specs.declared.instance.Run.{Run}
-use Rattle.bl_ctree.specs.Instances.{Setting, begins_at, callee_of, one_a_place, runs_in, runs_of, setting_of, unit_at, unit_of}
+use Rattle.bl_ctree.specs.Instances.{Setting, begins_at, callee_of, runs_in, runs_of, setting_of, unit_at, unit_of}
 use Rattle.bl_ctree_laws.specs.Trees.{Call}
 use Rattle.bl_ctree_laws_confluence.specs.Deeds.Orderly.{AcceptedIsOrderly}
 use Rattle.bl_ctree_laws_confluence.specs.Deeds.Origins.{CalledBy, HasCaller, InstancesHaveCallers}
-use Rattle.bl_ctree_laws_confluence.proofs.OnDeeds.Activities.{AllOf, and_left, and_right, one_a_place_so}
 use Rattle.bl_ctree_laws_traces.proofs.OnProgress.Earlier.{RunsUnit, body_runs}
-use Rattle.bl_ctree_laws_traces.proofs.OnReady.Keys.{
-  Differ,
-  Has,
-  Same,
-}
 use Rattle.bl_ctree_laws_traces.proofs.OnBounded.Callees.{taken_before, typed_at}
 use Rattle.bl_ctree_laws_traces.proofs.OnBounded.Calls.{calls_in, run_of}
 use Rattle.bl_ctree_laws_traces.proofs.OnBounded.Lists.{Among, among_got}
@@ -36,29 +30,15 @@ use Rattle.bl_machine_transitions.specs.Callees.{callees_in}
 use Rattle.bl_emit_spec_laws.specs.Calls.Built.{Activities, unit_number}
 use Rattle.bl_emit_spec_laws.specs.Calls.Laws.{CompilationContext}
 use Rattle.bl_emit_spec_laws_nodes.specs.Calling.{RunOf}
-use Rattle.bl_emit_spec_laws.proofs.OnPlaced.Lists.{contains_at}
 use Rattle.bl_emit_spec_laws.proofs.OnRunPlaces.Sharing.{calls_share}
 use Rattle.bl_emit_spec_laws.proofs.OnRunPlaces.Entered.{call_there, calls_in_are, entered_at, node_by}
+use Rattle.bl_ctree_laws_confluence.proofs.OnDeeds.Activities.{taken}
+use Rattle.bl_ctree_laws_traces.proofs.OnBounded.Callees.{all_among}
+use Rattle.bl_ctree_laws_traces.proofs.OnBounded.ByPlace.{once_among}
+use Rattle.bl_tree.proofs.FirstLemmas.{same_true}
+use Rattle.bl_emit_spec_laws.proofs.OnActivities.Nested.{unit_there}
 
 -- ---- lists
-
-got_or : {A : Type 0} (xs : List A) (k : ℕ) (d : A) → k < length xs → slice_get xs k ≡ Some (get_or xs k d)
-got_or [] k d within = absurd (omega (arith, within))
-got_or (x ∷ xs) zero d within = refl
-got_or (x ∷ xs) (suc k) d within = got_or xs k d (omega (arith, within))
-
-all_among : {A : Type 0} (P : A → Type 0) (xs : List A) (x : A) → AllOf P xs → Among x xs → P x
-all_among P [] x all at = absurd at
-all_among P (y ∷ xs) x all (inl is) = subst P (sym is) all.0
-all_among P (y ∷ xs) x all (inr at) = all_among P xs x all.1 at
-
-all_own : {A : Type 0} (all some : List A) → ((x : A) → Among x some → Among x all) → AllOf (λ x. Among x all) some
-all_own all [] inside = tt
-all_own all (y ∷ some) inside = (inside y (inl refl), all_own all some (λ x at. inside x (inr at)))
-
-once_there : (runs : List Run) (run : Run) → Among run (one_a_place runs) → Among run runs
-once_there runs run at =
-    all_among (λ x. Among x runs) (one_a_place runs) run (one_a_place_so (λ x. Among x runs) runs (all_own runs runs (λ x there. there))) at
 
 -- an image is that of an element
 record Image (runs : List Call) (run : Run) : Type 0 where
@@ -72,41 +52,7 @@ image_of (c ∷ calls) run (inl is) = record { call = c; there = inl refl; is = 
 image_of (c ∷ calls) run (inr at) =
     let rest = image_of calls run at in record { call = rest.call; there = inr rest.there; is = rest.is }
 
-taken : (units : List UnitDef) (n k : ℕ) (unit : UnitDef) → slice_get (take n units) k ≡ Some unit → slice_get units k ≡ Some unit
-taken [] zero k unit e = e
-taken [] (suc n) k unit e = e
-taken (u ∷ units) zero k unit e = absurd (cc)
-taken (u ∷ units) (suc n) zero unit e = e
-taken (u ∷ units) (suc n) (suc k) unit e = taken units n k unit e
-
--- no node stands twice
-same_itself : (n : Node) → Same n n
-same_itself n = record { label = refl; sort = refl }
-
-has_at : (xs : List Node) (k : ℕ) (x n : Node) → slice_get xs k ≡ Some n → Same x n → Has xs x
-has_at [] k x n e same = absurd (cc)
-has_at (y ∷ xs) zero x n e same = inl (subst (Same x) (sym (same_Some y n e)) same)
-has_at (y ∷ xs) (suc k) x n e same = inr (has_at xs k x n e same)
-
-pub one_place : (xs : List Node) → Differ xs → (i j : ℕ) (n : Node) → slice_get xs i ≡ Some n → slice_get xs j ≡ Some n → i ≡ j
-one_place [] apart i j n one two = absurd (cc)
-one_place (x ∷ xs) apart zero zero n one two = refl
-one_place (x ∷ xs) apart zero (suc j) n one two =
-    absurd (apart.0 (has_at xs j x n two (subst (Same x) (same_Some x n one) (same_itself x))))
-one_place (x ∷ xs) apart (suc i) zero n one two =
-    absurd (apart.0 (has_at xs i x n one (subst (Same x) (same_Some x n two) (same_itself x))))
-one_place (x ∷ xs) apart (suc i) (suc j) n one two = ap suc (one_place xs apart.1 i j n one two)
-
 -- ---- units of instances
-
-unit_by : (w : Setting) (found : Option Instance) (unit : UnitDef) → option_and_then (unit_of w) found ≡ Some unit →
-    slice_get w.units (unwrap_or (option_map (λ (one : Instance). one.unit) found) 0) ≡ Some unit
-unit_by w None unit e = absurd (cc)
-unit_by w (Some instance) unit e = e
-
--- the unit of an instance stands at its position
-pub unit_there : (w : Setting) (i : ℕ) (unit : UnitDef) → unit_at w i ≡ Some unit → slice_get w.units (unit_number w i) ≡ Some unit
-unit_there w i unit is = unit_by w (slice_get w.instances i) unit is
 
 number_is : (w : Setting) (i : ℕ) (instance : Instance) → slice_get w.instances i ≡ Some instance → unit_number w i ≡ instance.unit
 number_is w i instance there = ap (λ found. unwrap_or (option_map (λ (one : Instance). one.unit) found) 0) there
@@ -176,13 +122,13 @@ module _ (orderly : AcceptedIsOrderly) (callers : InstancesHaveCallers) (structs
       by_origin instance found (Some origin) of e =
           let called : CalledBy units w.instances j instance origin =
           subst (HasCaller units entry w.instances j instance) of (callers units entry j instance found) in
-          let by : origin.caller ≡ i = eqb-true origin.caller i (and_left (nat_eq origin.caller i) (same_place origin.place s.place) e) in
+          let by : origin.caller ≡ i = eqb-true origin.caller i (and_first (nat_eq origin.caller i) (same_place origin.place s.place) e) in
           let place : origin.place ≡ s.place =
-          same_place_is origin.place s.place (and_right (nat_eq origin.caller i) (same_place origin.place s.place) e) in
+          same_true origin.place s.place (and_second (nat_eq origin.caller i) (same_place origin.place s.place) e) in
           let calling : unit_at w origin.caller ≡ Some called.unit = ap (option_and_then (unit_of w)) called.there ∙ called.body in
           let same : called.unit ≡ unit = same_Some called.unit unit (sym calling ∙ ap (unit_at w) by ∙ is) in
           let among : Among called.run (joined (map runs_in unit.body)) =
-          once_there (joined (map runs_in unit.body)) called.run
+          once_among (joined (map runs_in unit.body)) called.run
           (among_got called.run (runs_of unit) (subst (λ (u : UnitDef). Contains (runs_of u) called.run) same called.runs)) in
           by_run instance called.run found among called.names (sym place ∙ called.place)
 
@@ -190,7 +136,7 @@ module _ (orderly : AcceptedIsOrderly) (callers : InstancesHaveCallers) (structs
       calls_unit =
           let d : Instance = record { unit = 0; depth = 0; origin = None } in
           let position = position-Some (λ (instance : Instance). begins_at i s.place instance.origin) w.instances j d begins in
-          by_origin (get_or w.instances j d) (got_or w.instances j d position.0) (get_or w.instances j d).origin refl position.1
+          by_origin (get_or w.instances j d) (get_within w.instances j d position.0) (get_or w.instances j d).origin refl position.1
 
     -- so it is of each node of a `run`, be it the first or the second
     pub node_calls : (late : Bool) (s : Call) (p j : ℕ) → slice_get (nodes_in body) p ≡ Some (node_by late s) →

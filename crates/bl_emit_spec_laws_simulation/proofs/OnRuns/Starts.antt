@@ -5,12 +5,12 @@ use Rattle.std.proofs.Math.IntN.{ℤ_set}
 use Rattle.std.proofs.Math.Logic.{∥∥₁_elim}
 use Rattle.std.proofs.lemmas.Option.{same_Some}
 use Rattle.std.specs.Prelude.{slice_get}
+use Rattle.bl_tree.proofs.Basics.{contains_at}
 use Rattle.bl_tree.specs.declared.c.CStmt.{CStmt}
 use Rattle.bl_tree.specs.declared.place.Place.{Place}
 use Rattle.bl_tree.specs.declared.tree.StructDef.{StructDef}
 use Rattle.bl_tree.specs.declared.tree.Unit.{Unit as UnitDef}
 use Rattle.bl_tree.specs.declared.value.Value.{Value}
-use Rattle.bl_effects.proofs.EntryLemmas.{same_place_is}
 use Rattle.bl_graph_nodes.specs.Nodes.{Arguments, EnterAt, Node, ResumeAt, nodes_in, place_of_node}
 use Rattle.bl_graph_nodes.specs.Plain.{Block, Label, plain_body}
 use Rattle.bl_ctext_semantics.specs.Course.{End, Outcome, breaks, goes_on, returns, traps}
@@ -45,7 +45,6 @@ use Rattle.bl_emit_spec_laws.specs.Calls.Laws.{CallIsLeft, CalledAt, HasShownRul
 use Rattle.bl_emit_spec_laws.specs.Cleared.{ClearingIsInside}
 use Rattle.bl_emit_spec_laws.specs.Within.{AllStayWithin}
 use Rattle.bl_emit_spec_laws.proofs.OnPasses.Same.{OneRun, one_run}
-use Rattle.bl_emit_spec_laws.proofs.OnPlaced.Lists.{contains_at}
 use Rattle.bl_emit_spec_laws.proofs.OnRunPlaces.Entered.{call_there, calls_in_are, node_by}
 use Rattle.bl_emit_spec_laws.proofs.OnRunPlaces.Words.{run_word}
 use Rattle.bl_emit_spec_laws_nodes.specs.Calling.{RunOf, RunsEstablish, RunsLeave, RunsSimulate}
@@ -56,6 +55,7 @@ use Rattle.bl_emit_spec_laws_simulation.proofs.OnRuns.Begun.{first_inputs, first
 use Rattle.bl_emit_spec_laws_simulation.proofs.OnRuns.Blocks.{blocks_simulate}
 use Rattle.bl_emit_spec_laws_simulation.proofs.OnRuns.Running.{CallsUnit, node_calls}
 use Rattle.bl_emit_spec_laws_simulation.proofs.OnRuns.Stated.{same_arguments}
+use Rattle.bl_tree.proofs.FirstLemmas.{same_true}
 
 -- ---- outcomes that are the same for the same arguments
 
@@ -161,7 +161,7 @@ module _ (orderly : AcceptedIsOrderly) (callers : InstancesHaveCallers) (nests :
           called.unit begins
 
       place_is : both.place ≡ at
-      place_is = sym (ap place_of_node (sym is ∙ both.begins) ∙ same_place_is both.at both.place both.same)
+      place_is = sym (ap place_of_node (sym is ∙ both.begins) ∙ same_true both.at both.place both.same)
 
       abbrev next : Call
       next = record { label = both.second; place = at; unit = v; arguments = both.given }

@@ -1,8 +1,9 @@
 -- The target of a `run` gets the result.
-use Rattle.std.proofs.Common.{◌≡◌, ◌⊎◌, inl, inr, ℕ, ℤ, zero, suc, Bool, true, false, List, [], ◌∷◌}
+use Rattle.std.proofs.Common.{◌≡◌, ◌⊎◌, inl, inr, ℕ, ℤ, Bool, true, false, List, [], ◌∷◌}
 use Rattle.std.proofs.Common.{take, Option, Some, None, refl, sym, ap, ◌∙◌, subst}
 use Rattle.std.proofs.lemmas.Option.{same_Some}
 use Rattle.std.specs.Prelude.{is_some, option_and_then, pos, slice_get, unwrap_or}
+use Rattle.bl_tree.proofs.Basics.{and_first, and_second, index_of}
 use Rattle.bl_tree.specs.declared.place.Place.{Place}
 use Rattle.bl_tree.specs.declared.scalar.Scalar.{Scalar as ScalarType}
 use Rattle.bl_tree.specs.declared.tree.Path.{Path}
@@ -23,7 +24,7 @@ use Rattle.bl_eval.specs.Values as values
 use Rattle.bl_eval.specs.Values.{value_fits}
 use Rattle.bl_eval.proofs.ActFits.{same_found}
 use Rattle.bl_eval.proofs.PartFits.{Fits}
-use Rattle.bl_eval.proofs.PassLemmas.{and_left, and_right, pass_at}
+use Rattle.bl_eval.proofs.PassLemmas.{pass_at}
 use Rattle.bl_ctext_semantics.specs.Meaning.{Scope, location_c, named_location, runs_c}
 use Rattle.bl_ctext_semantics.specs.Memory.{CValue, Location, Memory, scalar_number, set_at, value_at}
 use Rattle.bl_ctree.specs.Actions.{Gives, result_at}
@@ -32,7 +33,6 @@ use Rattle.bl_ctree.specs.Store.{Frame, Store, number_or_zero, view_at}
 use Rattle.bl_ctree_laws.specs.Pending.{deed}
 use Rattle.bl_ctree_laws_traces.proofs.OnBounded.Callees.{typed_at}
 use Rattle.bl_ctree_laws_confluence.specs.Deeds.Origins.{InstancesHaveCallers}
-use Rattle.bl_ctree_laws_confluence.proofs.OnDeeds.Activities.{AllOf}
 use Rattle.bl_ctree_laws_typing.specs.Fits.{result_fits}
 use Rattle.bl_ctree_laws_typing.proofs.OnViews.Along.{along, along_case, along_leads, Leads as LeadsOn}
 use Rattle.bl_ctree_laws_typing.proofs.OnViews.Paths.{path_typed}
@@ -55,29 +55,18 @@ use Rattle.bl_emit_spec_laws.specs.Calls.Built.{Activities, activity_at, site_at
 use Rattle.bl_emit_spec_laws.specs.Calls.Laws.{Midway, PassKeepsFrame}
 use Rattle.bl_emit_spec_laws.specs.Calls.Invariant.{PassRepresents}
 use Rattle.bl_emit_spec_laws_nodes.specs.Calling.{RunOf, TargetGiven, TargetsSeen}
-use Rattle.bl_emit_spec_laws.proofs.OnPlaced.Lists.{stands_at}
 use Rattle.bl_emit_spec_laws_nodes.specs.Points.Laws.{Remembering}
 use Rattle.bl_emit_spec_laws_nodes.specs.Points.Nodes.{ViewsFit}
 use Rattle.bl_emit_spec_laws_nodes.proofs.OnPoints.Besides.{apart, beside, site_is}
 use Rattle.bl_emit_spec_laws_nodes.proofs.OnPoints.Sets.{Ends, set_after, set_ends}
-use Rattle.bl_emit_spec_laws_simulation.proofs.OnRuns.Plain.{assignable_open, plain_path, static_root}
-use Rattle.bl_emit_spec_laws_simulation.proofs.OnRuns.Running.{unit_there}
+use Rattle.bl_emit_spec_laws_simulation.proofs.OnRuns.Plain.{plain_path, static_root}
 use Rattle.bl_emit_spec_laws_simulation.proofs.OnRuns.Statements.{given_value}
 use Rattle.bl_emit_spec_laws_simulation.proofs.OnRuns.Written.{written_keeps, written_stands}
+use Rattle.bl_ctree_laws_confluence.proofs.OnDeeds.Activities.{all_at, taken}
+use Rattle.bl_emit_spec_laws.proofs.OnActivities.Nested.{unit_there}
+use Rattle.bl_emit_acts_laws_simulation.proofs.Acts.{assignable_open}
 
 -- ---- what typing tells of a `run`
-
-taken : (units : List UnitDef) (n k : ℕ) (unit : UnitDef) → slice_get (take n units) k ≡ Some unit → slice_get units k ≡ Some unit
-taken [] zero k unit e = e
-taken [] (suc n) k unit e = e
-taken (u ∷ units) zero k unit e = absurd (cc)
-taken (u ∷ units) (suc n) zero unit e = e
-taken (u ∷ units) (suc n) (suc k) unit e = taken units n k unit e
-
-all_at : {A : Type 0} (P : A → Type 0) (xs : List A) (k : ℕ) (x : A) → AllOf P xs → slice_get xs k ≡ Some x → P x
-all_at P [] k x all is = absurd (cc)
-all_at P (y ∷ xs) zero x all is = subst P (same_Some y x is) all.0
-all_at P (y ∷ xs) (suc k) x all is = all_at P xs k x all.1 is
 
 module _ (callers : InstancesHaveCallers) (structs : List StructDef) (units : List UnitDef) (entry : ℕ) (keeps : IsWellTyped structs units entry)
     (activities : Activities) (i : ℕ) (unit : UnitDef) (is : unit_at (setting_of structs units entry) i ≡ Some unit)
@@ -93,7 +82,7 @@ module _ (callers : InstancesHaveCallers) (structs : List StructDef) (units : Li
         RunOf W activities i unit l at arguments j other → target_fits own_site other.result arguments.target ≡ true
     target_typed l at arguments j other run =
         let k = unit_number W i in
-        let position = stands_at (nodes_in (plain_body unit.body)) (EnterAt l at arguments) run.node in
+        let position = index_of (nodes_in (plain_body unit.body)) (EnterAt l at arguments) run.node in
         let fit : RunFits own_site (BeginsNamed structs units entry keeps i) at arguments =
         all_at (NodeFits own_site (BeginsNamed structs units entry keeps i)) (nodes_in (plain_body unit.body)) position.0 (EnterAt l at arguments)
         (body_nodes own_site (BeginsNamed structs units entry keeps i) unit.body
@@ -199,7 +188,7 @@ module _ (frames_apart : FramesApart) (keep : RegistersKeepApart) (structs : Lis
         (s : ScalarType) (has : other.result ≡ Some s) (outlet : is_outlet site path ≡ true) (typed : type_of_path site path ≡ Some (scalar s))
       where
         plain : is_plain path ≡ true
-        plain = and_left (is_plain path) (is_assignable site path) outlet
+        plain = and_first (is_plain path) (is_assignable site path) outlet
 
         abbrev root : ℕ
         root = (static_of path).root
@@ -247,7 +236,7 @@ module _ (frames_apart : FramesApart) (keep : RegistersKeepApart) (structs : Lis
             let same_ks : r'.ks ≡ fields = same_Some r'.ks fields (sym r'.are ∙ spot.positions) in
             let known : var_at site root ≡ Some r'.var = ap (var_at site) (sym spot.root) ∙ r'.is_there in
             let open_var : is_input r'.var.role ≡ false =
-            assignable_open site path r'.var (and_right (is_plain path) (is_assignable site path) outlet)
+            assignable_open site path r'.var (and_second (is_plain path) (is_assignable site path) outlet)
             (ap (var_at site) (sym (static_root sees sight copied path)) ∙ known) in
             let way = way_to structs fields (Some r'.var.ty) in
             let is_at : place ≡ location_in scope site root way =
@@ -303,6 +292,6 @@ module _ (frames_apart : FramesApart) (keep : RegistersKeepApart) (structs : Lis
         by None has fit = absurd (cc)
         by (Some s) has fit =
             let ty = same_found (Some (scalar s)) (type_of_path site path)
-            (and_right (is_outlet site path) (are_same (Some (scalar s)) (type_of_path site path)) fit) in
-            target_so path left target done s has (and_left (is_outlet site path) (are_same (Some (scalar s)) (type_of_path site path)) fit)
+            (and_second (is_outlet site path) (are_same (Some (scalar s)) (type_of_path site path)) fit) in
+            target_so path left target done s has (and_first (is_outlet site path) (are_same (Some (scalar s)) (type_of_path site path)) fit)
             (ty.2 ∙ sym ty.1)

@@ -39,10 +39,10 @@ use Rattle.bl_emit_spec_laws_nodes.specs.Points.Laws.{Remembering}
 use Rattle.bl_emit_spec_laws_nodes.specs.Points.Nodes.{ViewsFit}
 use Rattle.bl_emit_spec_laws_nodes.proofs.OnPoints.Apart.{Beyond, first_further, further_twice, inner_is, lies_further, nests_beyond}
 use Rattle.bl_emit_spec_laws_nodes.proofs.OnPoints.Besides.{apart, site_is}
-use Rattle.bl_emit_spec_laws_nodes.proofs.OnPoints.Cells.{set_elsewhere}
 use Rattle.bl_emit_spec_laws_nodes.proofs.OnPoints.Changes.{holds_same, registers_keep}
 use Rattle.bl_emit_spec_laws_nodes.proofs.OnPoints.Foreign.{foreign_counter, foreign_memory, foreign_outside, foreign_register, foreign_result}
 use Rattle.bl_emit_spec_laws_simulation.proofs.OnRuns.Placing.{kept_at}
+use Rattle.bl_emit_acts_laws_simulation.proofs.Cells.{set_elsewhere}
 
 -- a part of a variable lies further on than the variable
 pub location_more : (scope : Scope) (site : TypingContext) (k : ℕ) (way : List Projection) →

@@ -1,23 +1,5 @@
 -- The C of an activity calls the prelude's functions, and what is called at its nodes.
-use Rattle.std.proofs.Common.{
-  ◌≡◌,
-  ℕ,
-  zero,
-  suc,
-  ◌≤◌,
-  pos,
-  Bool,
-  true,
-  false,
-  List,
-  [],
-  ◌∷◌,
-  ◌++◌,
-  map,
-  Option,
-  Some,
-  None,
-}
+use Rattle.std.proofs.Common.{◌≡◌, ℕ, zero, suc, ◌≤◌, pos, Bool, true, false, List, [], ◌∷◌, ◌++◌, map, Option, Some, None}
 use Rattle.std.proofs.Common.{length, refl, sym, ap, subst, ◌∙◌, codes}
 use Rattle.std.proofs.lemmas.List.Elements.{All-cons, All-nil}
 use Rattle.std.specs.Prelude.{All, is_some, nat_eq, option_to_list, slice_get, if◌then◌else◌}
@@ -42,38 +24,10 @@ use Rattle.bl_tree.specs.declared.tree.Ty.{Ty}
 use Rattle.bl_tree.specs.Reduce.{joined}
 use Rattle.bl_tree.specs.Types.{scalar_in}
 use Rattle.bl_tree.specs.Typing.{var_at}
-use Rattle.bl_limits_measures.specs.Calls.{
-  argument_calls,
-  arm_calls,
-  branch_calls,
-  calls_in as named_in,
-  calls_in_arm,
-  calls_in_branch,
-  calls_in_expr,
-  calls_in_path,
-  optional_calls,
-  stmt_kind_calls,
-  stmt_layer_calls,
-  target_calls,
-}
-use Rattle.bl_graph_nodes.specs.Nodes.{
-  ActAt,
-  Arguments,
-  CheckAt,
-  DepthEndAt,
-  DepthJoinAt,
-  EnterAt,
-  ForkAt,
-  HeadAt,
-  Node,
-  PauseAt,
-  ResumeAt,
-  StartAt,
-  SurfaceEndAt,
-  SurfaceJoinAt,
-  TestAt,
-  entry,
-}
+use Rattle.bl_limits_measures.specs.Calls.{argument_calls, arm_calls, branch_calls, calls_in as named_in, calls_in_arm, calls_in_branch, calls_in_expr}
+use Rattle.bl_limits_measures.specs.Calls.{calls_in_path, optional_calls, stmt_kind_calls, stmt_layer_calls, target_calls}
+use Rattle.bl_graph_nodes.specs.Nodes.{ActAt, Arguments, CheckAt, DepthEndAt, DepthJoinAt, EnterAt, ForkAt, HeadAt, Node, PauseAt, ResumeAt, StartAt}
+use Rattle.bl_graph_nodes.specs.Nodes.{SurfaceEndAt, SurfaceJoinAt, TestAt, entry}
 use Rattle.bl_graph_nodes.specs.Plain.{Block, Done, Then}
 use Rattle.bl_machine.specs.declared.slots.Slot.{Slot}
 use Rattle.bl_ctext_semantics.specs.Calls.{calls_in, calls_in_arg, calls_in_block, calls_in_place, calls_in_step, calls_in_stmt}
@@ -95,101 +49,17 @@ use Rattle.bl_machine_pass.specs.Transitions.{Age, Change, Condition, Needed, Tr
 use Rattle.bl_machine_pass.specs.Transitions.{ClearsBoth, ClearsCounter, Ended, EndsWhen, Finishes, Flagged, IsAny, IsNew, IsOld, Rested, RestedIn}
 use Rattle.bl_machine_pass.specs.Transitions.{SetsCounter, SetsFlag, SetsMark}
 use Rattle.bl_machine_transitions.specs.Callees.{callees_in}
-use Rattle.bl_emit_spec.specs.Activities.{
-  Activity,
-  activity_code,
-  activity_view,
-  blocks_code,
-  blocks_in_order,
-  body_of,
-  copied_in,
-  counters_read,
-  entry_code,
-  entry_place,
-  picked,
-  rested_code,
-  rules_at,
-  turns_in_source,
-}
-use Rattle.bl_emit_spec.specs.Blocks.{
-  ActivityView,
-  NodeCode,
-  acted,
-  aged_test,
-  all_merged,
-  all_tests,
-  arg_where,
-  at_slot,
-  begun_code,
-  change_code,
-  changes_code,
-  choice_code,
-  control_code,
-  control_unless,
-  counter_type,
-  counter_value,
-  ends_test,
-  entered_by,
-  flagged_now,
-  forgotten,
-  freed,
-  fused_code,
-  guard_of,
-  has_result,
-  in_pairs,
-  in_tree,
-  is_greatest,
-  last_value,
-  layer_acted,
-  leaving_flag,
-  may_end_in,
-  merged_code,
-  name_in,
-  next_turn,
-  node_word,
-  node_turn,
-  own_code,
-  rested_at,
-  rested_between,
-  rested_by,
-  rested_from,
-  rested_in,
-  rested_since,
-  rested_to,
-  rested_within,
-  resumed_code,
-  run_args,
-  run_code,
-  some_test,
-  spelled_truth,
-  stmt_where,
-  target_code,
-  test_code,
-  turns_of,
-  word_at,
-}
-use Rattle.bl_emit_spec.specs.Names.{
-  callee_frame,
-  callee_memory,
-  callee_name,
-  counter_name,
-  counter_place,
-  ended_name,
-  ended_place,
-  flag_name,
-  flag_place,
-  frame_name,
-  given_name,
-  given_place,
-  mark_name,
-  mark_place,
-  over_place,
-  rested_name,
-  rested_place,
-  result_place,
-  NumberedWord,
-  with_word,
-}
+use Rattle.bl_emit_spec.specs.Activities.{Activity, activity_code, activity_view, blocks_code, blocks_in_order, body_of, copied_in, counters_read, entry_code}
+use Rattle.bl_emit_spec.specs.Activities.{entry_place, picked, rested_code, rules_at, turns_in_source}
+use Rattle.bl_emit_spec.specs.Blocks.{ActivityView, NodeCode, acted, aged_test, all_merged, all_tests, arg_where, at_slot, begun_code, change_code}
+use Rattle.bl_emit_spec.specs.Blocks.{changes_code, choice_code, control_code, control_unless, counter_type, counter_value, ends_test, entered_by, flagged_now}
+use Rattle.bl_emit_spec.specs.Blocks.{forgotten, freed, fused_code, guard_of, has_result, in_pairs, in_tree, is_greatest, last_value, layer_acted, leaving_flag}
+use Rattle.bl_emit_spec.specs.Blocks.{may_end_in, merged_code, name_in, next_turn, node_word, node_turn, own_code, rested_at, rested_between, rested_by}
+use Rattle.bl_emit_spec.specs.Blocks.{rested_from, rested_in, rested_since, rested_to, rested_within, resumed_code, run_args, run_code, some_test}
+use Rattle.bl_emit_spec.specs.Blocks.{spelled_truth, stmt_where, target_code, test_code, turns_of, word_at}
+use Rattle.bl_emit_spec.specs.Names.{callee_frame, callee_memory, callee_name, counter_name, counter_place, ended_name, ended_place, flag_name, flag_place}
+use Rattle.bl_emit_spec.specs.Names.{frame_name, given_name, given_place, mark_name, mark_place, over_place, rested_name, rested_place, result_place}
+use Rattle.bl_emit_spec.specs.Names.{NumberedWord, with_word}
 use Rattle.bl_emit_spec_laws_wellformed.proofs.OnChains.Nodes.{AllUnder, node_calls}
 
 -- the calls of a statement's kind

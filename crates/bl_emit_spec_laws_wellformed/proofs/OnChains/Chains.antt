@@ -9,8 +9,7 @@ use Rattle.bl_tree.specs.declared.tree.Unit.{Unit as UnitDef}
 use Rattle.bl_tree.specs.Reduce.{greatest}
 use Rattle.bl_limits_measures.specs.Calls.{calls_of}
 use Rattle.bl_limits_measures.specs.Runs.{activities_run}
-use Rattle.bl_limits_measures.specs.Units.{all_chains, chain_at, chain_by, greatest_at}
-use Rattle.bl_limits_measures.proofs.TableLemmas.{answer_at}
+use Rattle.bl_limits_measures.specs.Units.{all_chains, chain_at, greatest_at}
 use Rattle.bl_graph_nodes.specs.Nodes.{nodes_in}
 use Rattle.bl_graph_nodes.specs.Plain.{Block, plain_body}
 use Rattle.bl_machine.specs.Uses.{Slots}
@@ -30,6 +29,7 @@ use Rattle.bl_emit_spec.specs.Programs.{needs_of}
 use Rattle.bl_emit_spec_laws_wellformed.proofs.OnChains.Called.{activity_few}
 use Rattle.bl_emit_spec_laws_wellformed.proofs.OnChains.Nodes.{AllUnder, body_under}
 use Rattle.bl_emit_spec_laws_wellformed.specs.Chains.{ActivitiesCallFew, ActivityChainsFollow, IsOfUnit}
+use Rattle.bl_emit_functions_laws_wellformed.proofs.OnFiles.Chains.{chain_is}
 
 -- what is called in the C function of an activity is called or run by its unit
 pub call_few : ((slots : Slots) (body : Block) → map (λ (rule : Transition). rule.node) (rules slots body) ≡ nodes_in body) → ActivitiesCallFew
@@ -39,10 +39,6 @@ call_few nodes a weight by n prelude callees few =
     (body_under by n a.unit (front-under by n (calls_of a.unit) (activities_run a.unit) few) (back-under by n (calls_of a.unit) (activities_run a.unit) few)))
 
 -- ---- chains
-
-chain_is : (units : List UnitDef) (k : ℕ) (unit : UnitDef) → slice_get units k ≡ Some unit
-    → chain_at units k ≡ chain_by (take k (all_chains units)) unit
-chain_is units k unit there = answer_at chain_by units k unit 0 there
 
 both_greatest : (by : ℕ → ℕ) (n : ℕ) (xs ys : List ℕ) → greatest (map by xs) ≤ n → greatest (map by ys) ≤ n →
     greatest (map by (xs ++ ys)) ≤ n

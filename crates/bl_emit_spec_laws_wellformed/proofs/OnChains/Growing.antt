@@ -1,21 +1,17 @@
 -- What a table knows of chains once the C function of an activity joins it, and how long they are.
-use Rattle.std.proofs.Common.{◌≡◌, ℕ, zero, suc, ◌<◌, ◌≤◌, inr, ⊎_elim, Bool, true, false, List, []}
+use Rattle.std.proofs.Common.{◌≡◌, ℕ, ◌<◌, ◌≤◌, inr, ⊎_elim, true, List, []}
 use Rattle.std.proofs.Common.{◌∷◌, map}
-use Rattle.std.proofs.Common.{Option, Some, None, refl, sym, ap, ◌∙◌, subst, arith}
+use Rattle.std.proofs.Common.{Some, refl, sym, ◌∙◌, subst, arith}
 use Rattle.std.proofs.lemmas.Bool.{cases_lt}
 use Rattle.std.proofs.lemmas.List.Folds.{list_all-append}
-use Rattle.std.proofs.lemmas.Option.{same_Some}
 use Rattle.std.proofs.lemmas.Slice.Eq.{bytes_eq-Decides}
 use Rattle.std.specs.List.{list_all}
-use Rattle.std.specs.Option.{option_or}
-use Rattle.std.specs.Prelude.{bytes_eq, slice_get, unwrap_or, if◌then◌else◌}
+use Rattle.std.specs.Prelude.{bytes_eq, slice_get, if◌then◌else◌}
+use Rattle.bl_tree.proofs.Basics.{and_second}
 use Rattle.bl_tree.specs.declared.rule.Rule.TheVariants as rule
-use Rattle.bl_tree.specs.declared.scalar.Scalar.{Scalar as ScalarType}
-use Rattle.bl_tree.specs.declared.text.Text.{Text}
 use Rattle.bl_tree.specs.declared.tree.StructDef.{StructDef}
 use Rattle.bl_tree.specs.declared.tree.Unit.{Unit as UnitDef}
 use Rattle.bl_tree.specs.Words.{is_name}
-use Rattle.bl_eval.proofs.PassLemmas.{and_left, and_right}
 use Rattle.bl_limits_measures.specs.Units.{chain_at}
 use Rattle.bl_ctext_semantics.specs.Faults.{depth_of_function}
 use Rattle.bl_emit_acts.specs.Expressions.{function_name}
@@ -23,37 +19,11 @@ use Rattle.bl_emit_acts.specs.Types.{unit_name}
 use Rattle.bl_emit_functions_laws_wellformed.proofs.OnFiles.Growing.{distinct_behind, names, one_place}
 use Rattle.bl_emit_spec.specs.Activities.{activity_function}
 use Rattle.bl_emit_spec_laws_wellformed.specs.Chains.{ActivityChainsFollow, ActivityChainsGrow, ActivityChainsShort}
+use Rattle.bl_emit_functions_laws_wellformed.proofs.OnFiles.Growing.{at_most, named_at, prelude_other, still_none, unnamed_other}
 
 -- ---- names
 
-named_at : (units : List UnitDef) (k : ℕ) (unit : UnitDef) → list_all is_name (names units) ≡ true → slice_get units k ≡ Some unit →
-    is_name unit.name ≡ true
-named_at [] k unit all there = absurd (cc)
-named_at (first ∷ units) zero unit all there =
-    ap (λ (unit : UnitDef). is_name unit.name) (sym (same_Some first unit there)) ∙ and_left (is_name first.name) (list_all is_name (names units)) all
-named_at (first ∷ units) (suc k) unit all there =
-    named_at units k unit (and_right (is_name first.name) (list_all is_name (names units)) all) there
-
 -- ---- tables
-
--- an entry under another name
-still_none : (o : Option ℕ) (b : Bool) (d : ℕ) → o ≡ None → b ≡ false → option_or o (if b then Some d else None) ≡ None
-still_none None true d is other = absurd (cc)
-still_none None false d is other = refl
-still_none (Some n) b d is other = absurd (cc)
-
-unnamed_other : (name : Text) → is_name name ≡ true → bytes_eq (unit_name name) (unit_name []) ≡ false
-unnamed_other [] named = absurd (cc)
-unnamed_other (c ∷ name) named = refl
-
-prelude_other : (name word : Text) (s : ScalarType) → bytes_eq (unit_name name) (function_name word s) ≡ false
-prelude_other name word s = refl
-
-at_most : (o : Option ℕ) (b : Bool) (d most : ℕ) → unwrap_or o 0 ≤ most → (b ≡ true → d ≤ most)
-    → unwrap_or (option_or o (if b then Some d else None)) 0 ≤ most
-at_most (Some n) b d most old new = old
-at_most None true d most old new = new refl
-at_most None false d most old new = old
 
 pub grow : ActivityChainsFollow → ActivityChainsGrow
 grow follow structs units entry k unit a depths keeps of known = record {
@@ -75,7 +45,7 @@ grow follow structs units entry k unit a depths keeps of known = record {
     named : is_name unit.name ≡ true
     named =
         named_at units k unit
-        (and_right (list_all is_name struct_names) (list_all is_name (names units)) (sym (list_all-append is_name struct_names (names units)) ∙ keeps.named))
+        (and_second (list_all is_name struct_names) (list_all is_name (names units)) (sym (list_all-append is_name struct_names (names units)) ∙ keeps.named))
         of.there
 
     same_unit : (f : ℕ) (other : UnitDef) → slice_get units f ≡ Some other → bytes_eq (unit_name unit.name) (unit_name other.name) ≡ true →

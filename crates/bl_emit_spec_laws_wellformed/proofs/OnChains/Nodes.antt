@@ -14,30 +14,12 @@ use Rattle.bl_tree.specs.declared.tree.StmtKind.TheOpen.{StmtKind-F}
 use Rattle.bl_tree.specs.declared.tree.Unit.{Unit as UnitDef}
 use Rattle.bl_tree.specs.Reduce.{joined}
 use Rattle.bl_tree.proofs.StmtInduction.{Cases, Each, EachArm, EachBranch, induct, stmt}
-use Rattle.bl_limits_measures.specs.Calls.{
-  arm_calls,
-  argument_calls,
-  branch_calls,
-  calls_in as named_in,
-  calls_in_arm,
-  calls_in_branch,
-  calls_in_expr,
-  calls_of,
-  stmt_kind_calls,
-  stmt_layer_calls,
-  target_calls,
-}
+use Rattle.bl_limits_measures.specs.Calls.{arm_calls, argument_calls, branch_calls, calls_in as named_in, calls_in_arm, calls_in_branch, calls_in_expr}
+use Rattle.bl_limits_measures.specs.Calls.{calls_of, stmt_kind_calls, stmt_layer_calls, target_calls}
 use Rattle.bl_limits_measures.specs.Runs.{activities_run}
-use Rattle.bl_limits_measures.proofs.RunLemmas.{
-  activities_are,
-  activities_in as runs_in,
-  activities_in_arm as runs_in_arm,
-  activities_in_branch as runs_in_branch,
-  arm_activities as arm_runs,
-  branch_activities as branch_runs,
-  kind_activities as kind_runs,
-  stmt_activities as stmt_layer_runs,
-}
+use Rattle.bl_limits_measures.proofs.RunLemmas.{activities_are, activities_in as runs_in, activities_in_arm as runs_in_arm}
+use Rattle.bl_limits_measures.proofs.RunLemmas.{activities_in_branch as runs_in_branch, arm_activities as arm_runs, branch_activities as branch_runs}
+use Rattle.bl_limits_measures.proofs.RunLemmas.{kind_activities as kind_runs, stmt_activities as stmt_layer_runs}
 use Rattle.bl_graph_nodes.specs.Nodes.{ActAt, CheckAt, DepthEndAt, DepthJoinAt, EnterAt, Node, ResumeAt, SurfaceEndAt, SurfaceJoinAt, TestAt}
 use Rattle.bl_graph_nodes.specs.Nodes.{are_instant, is_instant, nodes_in, nodes_in_each, nodes_of, where_so}
 use Rattle.bl_graph_nodes.specs.Plain.{Act, Arm as PlainArm, Await, Block, Bodies, Branch as PlainBranch, Cobegin, Done, If}

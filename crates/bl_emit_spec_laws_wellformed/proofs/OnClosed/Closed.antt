@@ -1,23 +1,5 @@
 -- What a needed unit calls or runs is needed.
-use Rattle.std.proofs.Common.{
-  ◌≡◌,
-  ◌⊎◌,
-  ℕ,
-  zero,
-  suc,
-  ◌+◌,
-  ◌<◌,
-  ◌≤◌,
-  Bool,
-  true,
-  false,
-  ◌||◌,
-  nat_eq,
-  List,
-  [],
-  ◌∷◌,
-  ◌++◌,
-}
+use Rattle.std.proofs.Common.{◌≡◌, ◌⊎◌, ℕ, zero, suc, ◌+◌, ◌<◌, ◌≤◌, Bool, true, false, ◌||◌, nat_eq, List, [], ◌∷◌, ◌++◌}
 use Rattle.std.proofs.Common.{map, length, Option, Some, None, inl, inr, refl, sym, ap, subst, ◌∙◌, arith}
 use Rattle.std.proofs.lemmas.Bool.{cases_lt, eqb-true}
 use Rattle.std.proofs.lemmas.List.{length_push, length-map}
@@ -26,38 +8,24 @@ use Rattle.std.proofs.lemmas.List.Folds.{list_any-append}
 use Rattle.std.proofs.lemmas.Option.{same_Some}
 use Rattle.std.specs.Prelude.{All, slice_get, unwrap_or, if◌then◌else◌}
 use Rattle.std.specs.List.{list_any}
+use Rattle.std.proofs.lemmas.Bool.{or_left, or_right}
+use Rattle.bl_tree.proofs.Basics.{either_case, get_in_front, get_last, get_mapped, number_itself, within_at}
 use Rattle.bl_tree.specs.declared.tree.StructDef.{StructDef}
 use Rattle.bl_tree.specs.declared.tree.Unit.{Unit as UnitDef}
-use Rattle.bl_tree.specs.Program.{
-  is_entry,
-}
+use Rattle.bl_tree.specs.Program.{is_entry}
 use Rattle.bl_machine.specs.Blocks.{up_to}
 use Rattle.bl_limits_measures.specs.Calls.{calls_of}
 use Rattle.bl_limits_measures.specs.Runs.{activities_run}
 use Rattle.bl_limits_measures.specs.Uses.{UsesEarlier}
 use Rattle.bl_limits_measures_laws.specs.Laws.{UnitsUseEarlierOnes}
-use Rattle.bl_emit_spec.specs.Programs.{
-  needed_below,
-  needs_at,
-  needs_of,
-  set_from,
-}
-use Rattle.bl_emit_spec_laws_wellformed.proofs.OnClosed.Running.{same_number}
+use Rattle.bl_emit_spec.specs.Programs.{needed_below, needs_at, needs_of, set_from}
 use Rattle.bl_emit_spec_laws_wellformed.specs.Closed.{NeededClosed}
 
 -- ---- tests that are set
 
-set_length : (positions : List ℕ) (base : ℕ) (needed : List Bool) → length (set_from positions base needed) ≡ length needed
+pub set_length : (positions : List ℕ) (base : ℕ) (needed : List Bool) → length (set_from positions base needed) ≡ length needed
 set_length positions base [] = refl
 set_length positions base (test ∷ rest) = ap suc (set_length positions (suc base) rest)
-
-or_left : (a b : Bool) → a ≡ true → (a || b) ≡ true
-or_left true b h = refl
-or_left false b h = absurd (cc)
-
-or_right : (a b : Bool) → b ≡ true → (a || b) ≡ true
-or_right true b h = refl
-or_right false b h = h
 
 set_keeps : (positions : List ℕ) (base : ℕ) (needed : List Bool) (j : ℕ) → slice_get needed j ≡ Some true →
     slice_get (set_from positions base needed) j ≡ Some true
@@ -77,7 +45,7 @@ set_true positions base (test ∷ rest) (suc j) less among =
     set_true positions (suc base) rest j (omega (arith, less)) (subst (λ k. list_any (nat_eq k) positions ≡ true) same among)
 
 -- a test that is set was set before, or stands at one of the positions
-set_back : (positions : List ℕ) (base : ℕ) (needed : List Bool) (j : ℕ) → slice_get (set_from positions base needed) j ≡ Some true →
+pub set_back : (positions : List ℕ) (base : ℕ) (needed : List Bool) (j : ℕ) → slice_get (set_from positions base needed) j ≡ Some true →
     (slice_get needed j ≡ Some true) ⊎ (list_any (nat_eq (base + j)) positions ≡ true)
 set_back positions base [] j h = absurd (cc)
 set_back positions base (true ∷ rest) zero h = inl refl
@@ -90,11 +58,6 @@ set_back positions base (test ∷ rest) (suc j) h = by (set_back positions (suc 
         (slice_get rest j ≡ Some true) ⊎ (list_any (nat_eq (base + suc j)) positions ≡ true)
     by (inl h) = inl h
     by (inr h) = let same : suc base + j ≡ base + suc j = omega arith in inr (subst (λ k. list_any (nat_eq k) positions ≡ true) same h)
-
-within : {A : Type 0} (xs : List A) (k : ℕ) (x : A) → slice_get xs k ≡ Some x → k < length xs
-within [] k x h = absurd (cc)
-within (y ∷ xs) zero x h = omega arith
-within (y ∷ xs) (suc k) x h = let rest = within xs k x h in omega (arith, rest)
 
 -- ---- from the last unit down to the first
 
@@ -169,7 +132,7 @@ module _ (units : List UnitDef)
             (λ same.
             let is : slice_get units k ≡ Some unit = ap (slice_get units) same ∙ there in
             let less = uses m j unit there among in
-            let inside = within units m unit there in
+            let inside = within_at units m unit there in
             subst (λ o. slice_get (set_from (needs_at o) 0 needed) j ≡ Some true) (sym is)
             (set_true (needs_of unit) 0 needed j (omega (arith, less, inside, long))
             (let start : j ≡ 0 + j = omega arith in subst (λ n. list_any (nat_eq n) (needs_of unit) ≡ true) start among)))
@@ -208,30 +171,16 @@ up_length : (n : ℕ) → length (up_to n) ≡ n
 up_length zero = refl
 up_length (suc n) = length_push (up_to n) n ∙ (let rest = up_length n in omega (arith, rest))
 
-in_front : {A : Type 0} (xs ys : List A) (k : ℕ) (x : A) → slice_get xs k ≡ Some x → slice_get (xs ++ ys) k ≡ Some x
-in_front [] ys k x h = absurd (cc)
-in_front (y ∷ xs) ys zero x h = h
-in_front (y ∷ xs) ys (suc k) x h = in_front xs ys k x h
-
-at_end : {A : Type 0} (xs : List A) (y : A) → slice_get (xs ++ y ∷ []) (length xs) ≡ Some y
-at_end [] y = refl
-at_end (x ∷ xs) y = at_end xs y
-
 got_up : (n k : ℕ) → k < n → slice_get (up_to n) k ≡ Some k
 got_up zero k less = absurd (omega (arith, less))
 got_up (suc n) k less = by (cases_lt k n) (got_up n k)
   where
     by : (k < n) ⊎ (n ≤ k) → (k < n → slice_get (up_to n) k ≡ Some k) → slice_get (up_to n ++ n ∷ []) k ≡ Some k
-    by (inl low) before = in_front (up_to n) (n ∷ []) k k (before low)
+    by (inl low) before = get_in_front (up_to n) (n ∷ []) k k (before low)
     by (inr high) before =
         let same : n ≡ k = omega (arith, less, high) in
         subst (λ (x : ℕ). slice_get (up_to n ++ n ∷ []) x ≡ Some x) same
-        (ap (slice_get (up_to n ++ n ∷ [])) (sym (up_length n)) ∙ at_end (up_to n) n)
-
-mapped : {A B : Type 0} (f : A → B) (xs : List A) (k : ℕ) (x : A) → slice_get xs k ≡ Some x → slice_get (map f xs) k ≡ Some (f x)
-mapped f [] k x h = absurd (cc)
-mapped f (y ∷ xs) zero x h = ap (λ z. Some (f z)) (same_Some y x h)
-mapped f (y ∷ xs) (suc k) x h = mapped f xs k x h
+        (ap (slice_get (up_to n ++ n ∷ [])) (sym (up_length n)) ∙ get_last (up_to n) n)
 
 among_all : (P : ℕ → Type 0) (xs : List ℕ) (j : ℕ) → All P xs → list_any (nat_eq j) xs ≡ true → P j
 among_all P [] j all h = absurd (cc)
@@ -241,19 +190,15 @@ among_all P (x ∷ xs) j all h = by (nat_eq j x) refl h (among_all P xs j (All-t
     by true is h rest = subst P (sym (eqb-true j x is)) (All-head P x xs all)
     by false is h rest = rest h
 
-either_of : {A : Type 0} (a b : Bool) → (a || b) ≡ true → (a ≡ true → A) → (b ≡ true → A) → A
-either_of true b h left right = left refl
-either_of false b h left right = right h
-
 uses_less : (units : List UnitDef) → UsesEarlier units → (k j : ℕ) (unit : UnitDef) → slice_get units k ≡ Some unit →
     list_any (nat_eq j) (needs_of unit) ≡ true → j < k
 uses_less units earlier k j unit there among =
-    either_of (list_any (nat_eq j) (calls_of unit)) (list_any (nat_eq j) (activities_run unit))
+    either_case (list_any (nat_eq j) (calls_of unit)) (list_any (nat_eq j) (activities_run unit))
     (sym (list_any-append (nat_eq j) (calls_of unit) (activities_run unit)) ∙ among)
     (λ h. among_all (λ x. x < k) (calls_of unit) j (earlier k unit there).calls h)
     (λ h. among_all (λ x. x < k) (activities_run unit) j (earlier k unit there).runs h)
 
-entry_there : (o : Option UnitDef) → is_entry o ≡ true → (unit : UnitDef) × (o ≡ Some unit)
+pub entry_there : (o : Option UnitDef) → is_entry o ≡ true → (unit : UnitDef) × (o ≡ Some unit)
 entry_there None h = absurd (cc)
 entry_there (Some unit) h = (unit, refl)
 
@@ -262,12 +207,12 @@ needed_closed structs units entry earlier = record {
   entry_is = λ keeps.
       let found = entry_there (slice_get units entry) keeps.entry_stands in
       below_keeps units (uses_less units (earlier structs units keeps.units_stand)) (length units) first entry
-      (mapped (λ k. nat_eq k entry) (up_to (length units)) entry entry (got_up (length units) entry (within units entry found.0 found.1))
-      ∙ ap Some (same_number entry));
+      (get_mapped (λ k. nat_eq k entry) (up_to (length units)) entry entry (got_up (length units) entry (within_at units entry found.0 found.1))
+      ∙ ap Some (number_itself entry));
   closed = λ k j unit keeps there needed among.
       below_closed units (uses_less units (earlier structs units keeps.units_stand)) (length units) first
       (length-map (up_to (length units)) (λ k. nat_eq k entry) ∙ up_length (length units))
-      (λ m j unit le there h among. let less = within units m unit there in absurd (omega (arith, le, less)))
+      (λ m j unit le there h among. let less = within_at units m unit there in absurd (omega (arith, le, less)))
       k j unit (omega arith) there needed among;
 }
   where

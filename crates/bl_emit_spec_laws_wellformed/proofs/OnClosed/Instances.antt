@@ -1,27 +1,9 @@
 -- The units of instances are needed.
-use Rattle.std.proofs.Common.{
-  ◌≡◌,
-  ℕ,
-  zero,
-  suc,
-  ◌<◌,
-  Bool,
-  true,
-  false,
-  ◌||◌,
-  nat_eq,
-  List,
-  Option,
-  Some,
-  None,
-  refl,
-  ap,
-  ◌∙◌,
-  arith,
-}
+use Rattle.std.proofs.Common.{◌≡◌, ℕ, zero, suc, ◌<◌, true, ◌||◌, nat_eq, List, Option, Some, None, ap, ◌∙◌, arith}
 use Rattle.std.proofs.lemmas.List.Folds.{list_any-append}
 use Rattle.std.specs.Prelude.{slice_get}
 use Rattle.std.specs.List.{list_any}
+use Rattle.std.proofs.lemmas.Bool.{or_right}
 use Rattle.bl_tree.specs.declared.tree.StructDef.{StructDef}
 use Rattle.bl_tree.specs.declared.tree.Unit.{Unit as UnitDef}
 use Rattle.bl_tree.specs.Program.{IsWellTyped}
@@ -34,10 +16,6 @@ use Rattle.bl_ctree_laws_confluence.specs.Deeds.Origins.{HasCaller, InstancesHav
 use Rattle.bl_emit_spec.specs.Programs.{needed_units, needs_of}
 use Rattle.bl_emit_spec_laws_wellformed.proofs.OnClosed.Running.{run_named}
 use Rattle.bl_emit_spec_laws_wellformed.specs.Closed.{InstancesNeeded, NeededClosed}
-
-or_right : (a b : Bool) → b ≡ true → (a || b) ≡ true
-or_right true b h = refl
-or_right false b h = h
 
 module _ (structs : List StructDef) (units : List UnitDef) (entry : ℕ) (needed : NeededClosed structs units entry) (callers : InstancesHaveCallers)
     (keeps : IsWellTyped structs units entry)

@@ -1,43 +1,19 @@
 -- The units that an activity runs, by its `run` statements.
-use Rattle.std.proofs.Common.{◌≡◌, ◌⊎◌, ℕ, zero, suc, Bool, true, false, cond, ◌||◌, nat_eq, List, [], ◌∷◌}
-use Rattle.std.proofs.Common.{
-  eq-eqb,
-  map,
-  Contains,
-  inl,
-  inr,
-  refl,
-  sym,
-  ap,
-  ◌∙◌,
-  arith,
-}
-use Rattle.std.specs.Prelude.{
-  filter,
-  not,
-}
+use Rattle.std.proofs.Common.{◌≡◌, ◌⊎◌, zero, Bool, true, false, cond, ◌||◌, nat_eq, List, [], ◌∷◌}
+use Rattle.std.proofs.Common.{map, Contains, inl, inr, sym, ap, ◌∙◌, arith}
+use Rattle.std.specs.Prelude.{filter, not}
 use Rattle.std.specs.List.{list_any}
+use Rattle.std.proofs.lemmas.Bool.{or_right}
+use Rattle.bl_tree.proofs.Basics.{contains_further, first_or_further, number_itself}
 use Rattle.bl_tree.specs.declared.tree.Unit.{Unit as UnitDef}
 use Rattle.bl_tree.specs.Reduce.{joined}
 use Rattle.bl_tree.specs.Rules.{same_place}
 use Rattle.bl_ctree.specs.declared.instance.Run.{Run}
-use Rattle.bl_ctree.specs.Instances.{
-  one_a_place,
-  runs_in,
-  runs_of,
-}
+use Rattle.bl_ctree.specs.Instances.{one_a_place, runs_in, runs_of}
 use Rattle.bl_limits_measures.specs.Runs.{activities_run}
 use Rattle.bl_limits_measures_laws.proofs.InstanceLemmas.{all_named, units_of}
 
 -- ---- one of them
-
--- an element of a list is its first, or one of the others
-first_or : {A : Type 0} (y : A) (xs : List A) (x : A) → Contains (y ∷ xs) x → (y ≡ x) ⊎ Contains xs x
-first_or y xs x (zero, within, is) = inl is
-first_or y xs x (suc k, within, is) = inr (k, omega arith, is)
-
-later : {A : Type 0} (y : A) (xs : List A) (x : A) → Contains xs x → Contains (y ∷ xs) x
-later y xs x (k, within, is) = (suc k, omega arith, is)
 
 filtered : {A : Type 0} (f : A → Bool) (xs : List A) (x : A) → Contains (filter f xs) x → Contains xs x
 filtered f [] x there = there
@@ -45,32 +21,25 @@ filtered f (y ∷ xs) x there = by (f y) there (filtered f xs x)
   where
     each : (y ≡ x) ⊎ Contains (filter f xs) x → (Contains (filter f xs) x → Contains xs x) → Contains (y ∷ xs) x
     each (inl is) rest = (zero, omega arith, is)
-    each (inr there) rest = later y xs x (rest there)
+    each (inr there) rest = contains_further y xs x (rest there)
 
     by : (b : Bool) → Contains (cond b (y ∷ filter f xs) (filter f xs)) x → (Contains (filter f xs) x → Contains xs x) → Contains (y ∷ xs) x
-    by true there rest = each (first_or y (filter f xs) x there) rest
-    by false there rest = later y xs x (rest there)
-
-pub same_number : (n : ℕ) → nat_eq n n ≡ true
-same_number n = eq-eqb n n refl
-
-either_holds : (a b : Bool) → b ≡ true → (a || b) ≡ true
-either_holds true b h = refl
-either_holds false b h = h
+    by true there rest = each (first_or_further y (filter f xs) x there) rest
+    by false there rest = contains_further y xs x (rest there)
 
 -- the unit of a `run` that counts is among those of all `run`s
 named : (runs : List Run) (run : Run) → Contains (one_a_place runs) run → list_any (nat_eq run.unit) (units_of runs) ≡ true
 named [] run (k, within, is) = absurd (omega arith)
 named (first ∷ runs) run there =
-    by (first_or first (filter (λ (other : Run). not (same_place first.place other.place)) (one_a_place runs)) run there) (named runs run)
+    by (first_or_further first (filter (λ (other : Run). not (same_place first.place other.place)) (one_a_place runs)) run there) (named runs run)
   where
     by : (first ≡ run) ⊎ Contains (filter (λ (other : Run). not (same_place first.place other.place)) (one_a_place runs)) run →
         (Contains (one_a_place runs) run → list_any (nat_eq run.unit) (units_of runs) ≡ true) →
         (nat_eq run.unit first.unit || list_any (nat_eq run.unit) (units_of runs)) ≡ true
     by (inl is) others =
-        ap (λ b. b || list_any (nat_eq run.unit) (units_of runs)) (ap (λ (r : Run). nat_eq run.unit r.unit) is ∙ same_number run.unit)
+        ap (λ b. b || list_any (nat_eq run.unit) (units_of runs)) (ap (λ (r : Run). nat_eq run.unit r.unit) is ∙ number_itself run.unit)
     by (inr rest) others =
-        either_holds (nat_eq run.unit first.unit) (list_any (nat_eq run.unit) (units_of runs))
+        or_right (nat_eq run.unit first.unit) (list_any (nat_eq run.unit) (units_of runs))
         (others (filtered (λ (other : Run). not (same_place first.place other.place)) (one_a_place runs) run rest))
 
 -- the unit that a `run` of an activity calls is one that the activity runs

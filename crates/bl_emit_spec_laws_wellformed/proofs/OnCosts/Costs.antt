@@ -5,6 +5,7 @@ use Rattle.std.proofs.Common.{Option, refl, sym, ◌∙◌, subst, append_assoc,
 use Rattle.std.proofs.lemmas.List.{append-nil}
 use Rattle.std.proofs.lemmas.List.Elements.{All-head, All-tail}
 use Rattle.std.specs.Prelude.{if◌then◌else◌}
+use Rattle.bl_tree.proofs.Basics.{and_first, and_second}
 use Rattle.bl_tree.specs.declared.place.Place.{Place}
 use Rattle.bl_tree.specs.declared.tree.Arm.{Arm, fold-Arm, fold_out-Arm, out-Arm}
 use Rattle.bl_tree.specs.declared.tree.Branch.{Branch, fold-Branch, fold_out-Branch, out-Branch}
@@ -18,16 +19,9 @@ use Rattle.bl_tree.specs.declared.tree.StmtKind.TheOpen.{StmtKind-F}
 use Rattle.bl_tree.specs.Reduce.{all_of, joined, total}
 use Rattle.bl_tree.specs.Typing.{TypingContext, arm_fits, branch_fits, fits, is_activity, is_inhabited, is_truth, kind_fits, stmt_fits, type_of}
 use Rattle.bl_tree.proofs.StmtInduction.{Cases, Each, EachArm, EachBranch, induct, stmt}
-use Rattle.bl_eval.proofs.PassLemmas.{and_left, and_right}
-use Rattle.bl_limits_measures.proofs.RunLemmas.{
-  activities_in as runs_in,
-  activities_in_arm as runs_in_arm,
-  activities_in_branch as runs_in_branch,
-  arm_activities as arm_runs,
-  branch_activities as branch_runs,
-  kind_activities as kind_runs,
-  stmt_activities as stmt_layer_runs,
-}
+use Rattle.bl_limits_measures.proofs.RunLemmas.{activities_in as runs_in, activities_in_arm as runs_in_arm, activities_in_branch as runs_in_branch}
+use Rattle.bl_limits_measures.proofs.RunLemmas.{arm_activities as arm_runs, branch_activities as branch_runs, kind_activities as kind_runs}
+use Rattle.bl_limits_measures.proofs.RunLemmas.{stmt_activities as stmt_layer_runs}
 use Rattle.bl_limits_measures.specs.Statements.{arm_cell_statements, branch_cell_statements, cell_statements_in, cell_statements_in_arm, kind_cell_statements}
 use Rattle.bl_limits_measures.specs.Statements.{cell_statements_in_block, cell_statements_in_branch, layer_cell_statements}
 use Rattle.bl_graph_nodes.specs.Nodes.{CheckAt, DepthEndAt, DepthJoinAt, ForkAt, HeadAt, Node, StartAt, SurfaceEndAt, SurfaceJoinAt, TestAt}
@@ -38,35 +32,9 @@ use Rattle.bl_graph_nodes.specs.Plain.{While, arm_plain, block_at, block_from, b
 use Rattle.bl_graph_nodes.specs.Plain.{inside, kind_plain, label_at, passed_one, place_of_test, plain_body, plain_stmt, stmt_plain}
 use Rattle.bl_machine.specs.Layout.{width_in, width_in_each, width_of}
 use Rattle.bl_machine.specs.Uses.{Slots}
-use Rattle.bl_machine_pass.specs.Transitions.{
-  Change,
-  ClearsBoth,
-  ClearsCounter,
-  EndsWhen,
-  Finishes,
-  IsNew,
-  RestedIn,
-  SetsCounter,
-  SetsFlag,
-  SetsMark,
-  Transition,
-  age_of,
-  body_ends,
-  counters_in,
-  counters_in_each,
-  enter,
-  enter_each,
-  fires,
-  flagged,
-  joins,
-  marked,
-  once,
-  rests_in,
-  rule_where,
-  rules_in,
-  rules_in_each,
-  rules_of,
-}
+use Rattle.bl_machine_pass.specs.Transitions.{Change, ClearsBoth, ClearsCounter, EndsWhen, Finishes, IsNew, RestedIn, SetsCounter, SetsFlag, SetsMark}
+use Rattle.bl_machine_pass.specs.Transitions.{Transition, age_of, body_ends, counters_in, counters_in_each, enter, enter_each, fires, flagged, joins, marked}
+use Rattle.bl_machine_pass.specs.Transitions.{once, rests_in, rule_where, rules_in, rules_in_each, rules_of}
 use Rattle.bl_emit_spec_laws_wellformed.specs.Costs.{extras, marks_in, rule_extras}
 
 -- ---- sums
@@ -173,8 +141,8 @@ module _ (site : TypingContext) (slots : Slots) where
       let rest = block_from (map plain_stmt body) (suc k) at in
       append_cheap (cell_statements_in s) (cell_statements_in_block body) (width_of (plain_stmt s (at ++ k ∷ []))) (width_in rest)
       (rules_of slots (plain_stmt s (at ++ k ∷ [])) (enter rest next)) (rules_in slots rest next) (runs_in s) (joined (map runs_in body))
-      (All-head S s body each (and_left (fits site s) (all_of (map (fits site) body)) fitted) (at ++ k ∷ []) (enter rest next) (entered rest next ok))
-      (blocks_cheap body (All-tail S s body each) (and_right (fits site s) (all_of (map (fits site) body)) fitted) (suc k) at next ok)
+      (All-head S s body each (and_first (fits site s) (all_of (map (fits site) body)) fitted) (at ++ k ∷ []) (enter rest next) (entered rest next ok))
+      (blocks_cheap body (All-tail S s body each) (and_second (fits site s) (all_of (map (fits site) body)) fitted) (suc k) at next ok)
 
   -- ---- arms
 
@@ -197,7 +165,7 @@ module _ (site : TypingContext) (slots : Slots) where
       (subst (CheapArm (cell_statements_in_block (out-Arm arm).body) (joined (map runs_in (out-Arm arm).body)))
       (sym (fold_out-Arm (Place → Position → Plain) PlainArm PlainBranch (Position → Plain) kind_plain arm_plain branch_plain stmt_plain arm))
       (λ at. blocks_cheap (out-Arm arm).body each
-      (and_right (is_truth (type_of site (out-Arm arm).test)) (all_of (map (fits site) (out-Arm arm).body)) fits_so) 0 at)))
+      (and_second (is_truth (type_of site (out-Arm arm).test)) (all_of (map (fits site) (out-Arm arm).body)) fits_so) 0 at)))
 
   abbrev CheapArms : List ℕ → List (List ℕ) → List PlainArm → Type 0
   CheapArms [] [] [] = Unit {0}
@@ -208,8 +176,8 @@ module _ (site : TypingContext) (slots : Slots) where
       CheapArms (map cell_statements_in_arm arms) (map runs_in_arm arms) (map plain_arm arms)
   arms_cheap [] each fitted = tt
   arms_cheap (arm ∷ arms) each fitted = (
-    arm_cheap arm (All-head OfArm arm arms each) (and_left (arm_fitted arm) (all_of (map arm_fitted arms)) fitted),
-    arms_cheap arms (All-tail OfArm arm arms each) (and_right (arm_fitted arm) (all_of (map arm_fitted arms)) fitted),
+    arm_cheap arm (All-head OfArm arm arms each) (and_first (arm_fitted arm) (all_of (map arm_fitted arms)) fitted),
+    arms_cheap arms (All-tail OfArm arm arms each) (and_second (arm_fitted arm) (all_of (map arm_fitted arms)) fitted),
   )
 
   if_cheap : (n m : ℕ) (us bs : List ℕ) (l : Label) (at : Place) (e : Expr) (body other : Block) → CheapBlock n us body → CheapBlock m bs other →
@@ -311,9 +279,9 @@ module _ (site : TypingContext) (slots : Slots) where
   branches_cheap [] each fitted = tt
   branches_cheap (branch ∷ branches) each fitted = (
     branch_cheap branch (All-head OfBranch branch branches each)
-        (and_left (branch_fitted branch) (all_of (map branch_fitted branches)) fitted),
+        (and_first (branch_fitted branch) (all_of (map branch_fitted branches)) fitted),
     branches_cheap branches (All-tail OfBranch branch branches each)
-        (and_right (branch_fitted branch) (all_of (map branch_fitted branches)) fitted),
+        (and_second (branch_fitted branch) (all_of (map branch_fitted branches)) fitted),
   )
 
   beside : (n m v w c d r s : ℕ) → Cheap n v c r → Cheap m w d s → Cheap (n + m) (v + w) (c + d) (r + s)
@@ -473,13 +441,13 @@ module _ (site : TypingContext) (slots : Slots) where
     branching_case : (arms : List Arm) (other : List Stmt) → EachArm S arms → Each S other → S (stmt place (StmtKind-F.If arms other))
     branching_case arms other each others fitted at =
         let parts = rw (fold-roll-Stmt, fold-roll-StmtKind) at fitted in
-        let some = and_left (is_inhabited (map arm_fitted arms)) (all_of (map arm_fitted arms) && all_of (map (fits site) other)) parts in
-        let more = and_right (is_inhabited (map arm_fitted arms)) (all_of (map arm_fitted arms) && all_of (map (fits site) other)) parts in
+        let some = and_first (is_inhabited (map arm_fitted arms)) (all_of (map arm_fitted arms) && all_of (map (fits site) other)) parts in
+        let more = and_second (is_inhabited (map arm_fitted arms)) (all_of (map arm_fitted arms) && all_of (map (fits site) other)) parts in
         as_cheap _ _ _ _ _ _ (if_count arms other) (if_runs arms other) (if_plain arms other at)
         (with_cheap (label_at at) place (map cell_statements_in_arm arms) (map runs_in_arm arms) (cell_statements_in_block other) (joined (map runs_in other))
         (map plain_arm arms) (block_at (map plain_stmt other)) (some_there arm_fitted plain_arm arms some)
-        (arms_cheap arms each (and_left (all_of (map arm_fitted arms)) (all_of (map (fits site) other)) more))
-        (λ at. blocks_cheap other others (and_right (all_of (map arm_fitted arms)) (all_of (map (fits site) other)) more) 0 at))
+        (arms_cheap arms each (and_first (all_of (map arm_fitted arms)) (all_of (map (fits site) other)) more))
+        (λ at. blocks_cheap other others (and_second (all_of (map arm_fitted arms)) (all_of (map (fits site) other)) more) 0 at))
 
     fork_cheap : (n w c d r marks : ℕ) → marks ≤ 1 → d ≡ c → Cheap n w c r → Cheap (1 + n) w ((1 + marks) + d) r
     fork_cheap n w c d r marks few same one = let low = one.low in record { low = omega (arith, few, same, low) }
@@ -487,8 +455,8 @@ module _ (site : TypingContext) (slots : Slots) where
     cobegin_case : (branches : List Branch) → EachBranch S branches → S (stmt place (StmtKind-F.Cobegin branches))
     cobegin_case branches each fitted at =
         let parts = rw (fold-roll-Stmt, fold-roll-StmtKind) at fitted in
-        let all = and_right (is_inhabited (map branch_fitted branches)) (all_of (map branch_fitted branches))
-        (and_right (is_activity site.kind) (is_inhabited (map branch_fitted branches) && all_of (map branch_fitted branches)) parts) in
+        let all = and_second (is_inhabited (map branch_fitted branches)) (all_of (map branch_fitted branches))
+        (and_second (is_activity site.kind) (is_inhabited (map branch_fitted branches) && all_of (map branch_fitted branches)) parts) in
         let l : Label = label_at at in
         let bodies : Bodies = bodies_from (map plain_branch branches) 0 l in
         let instant : Bool = is_instant (Cobegin l place bodies) in
@@ -512,7 +480,7 @@ module _ (site : TypingContext) (slots : Slots) where
 
     guarded_case : (guard : Guard) (e : Expr) (body : List Stmt) → Each S body → S (stmt place (StmtKind-F.When guard e body))
     guarded_case guard e body each fitted at =
-        let parts = and_right (is_activity site.kind) (is_truth (type_of site e) && all_of (map (fits site) body))
+        let parts = and_second (is_activity site.kind) (is_truth (type_of site e) && all_of (map (fits site) body))
         (rw (fold-roll-Stmt, fold-roll-StmtKind) at fitted) in
         let l : Label = label_at at in
         let inner : Block = block_at (map plain_stmt body) (inside l 0) in
@@ -537,7 +505,7 @@ module _ (site : TypingContext) (slots : Slots) where
         (marks_in (marked instant (StartAt l place) (enter inner ends ∷ [])))
         (marked_once instant (StartAt l place) (enter inner ends ∷ []) (entered inner ends (body_plain l place inner)))
         (omega (arith, front, split, fired, ok))
-        (blocks_cheap body each (and_right (is_truth (type_of site e)) (all_of (map (fits site) body)) parts) 0 (inside l 0) ends
+        (blocks_cheap body each (and_second (is_truth (type_of site e)) (all_of (map (fits site) body)) parts) 0 (inside l 0) ends
         (body_plain l place inner)))
 
     repeat_case : (body : List Stmt) → Each S body → S (stmt place (StmtKind-F.Repeat body))
@@ -563,7 +531,7 @@ module _ (site : TypingContext) (slots : Slots) where
         let first : marks_in (enter inner test ∷ []) ≡ 0 = entered inner test refl in
         grown (cell_statements_in_block body) (width_in inner) (extras (rules_in slots inner test))
         (extras (rules_of slots (Until l place inner e) next)) (length (joined (map runs_in body))) (omega (arith, first, ok))
-        (blocks_cheap body each (and_left (all_of (map (fits site) body)) (is_truth (type_of site e)) parts) 0 (inside l 0) test refl))
+        (blocks_cheap body each (and_first (all_of (map (fits site) body)) (is_truth (type_of site e)) parts) 0 (inside l 0) test refl))
 
     while_case : (e : Expr) (body : List Stmt) → Each S body → S (stmt place (StmtKind-F.While e body))
     while_case e body each fitted at =
@@ -576,7 +544,7 @@ module _ (site : TypingContext) (slots : Slots) where
         let first : marks_in (enter inner test ∷ []) ≡ 0 = entered inner test refl in
         grown (cell_statements_in_block body) (width_in inner) (extras (rules_in slots inner test))
         (extras (rules_of slots (While l place e inner) next)) (length (joined (map runs_in body))) (omega (arith, first))
-        (blocks_cheap body each (and_right (is_truth (type_of site e)) (all_of (map (fits site) body)) parts) 0 (inside l 0) test refl))
+        (blocks_cheap body each (and_second (is_truth (type_of site e)) (all_of (map (fits site) body)) parts) 0 (inside l 0) test refl))
 
   cases : Cases S
   cases = record {

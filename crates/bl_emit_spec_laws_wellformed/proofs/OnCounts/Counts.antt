@@ -1,8 +1,9 @@
 -- How many nodes and resting places a body has.
 use Rattle.std.proofs.Common.{◌≡◌, ℕ, suc, ◌+◌, ◌-◌, ◌*◌, ◌≤◌, Bool, true}
-use Rattle.std.proofs.Common.{false, ◌&&◌, List, [], ◌∷◌, ◌++◌, map, length}
+use Rattle.std.proofs.Common.{◌&&◌, List, [], ◌∷◌, ◌++◌, map, length}
 use Rattle.std.proofs.Common.{Option, refl, sym, ◌∙◌, subst, arith, length-append}
 use Rattle.std.proofs.lemmas.List.Elements.{All-head, All-tail}
+use Rattle.bl_tree.proofs.Basics.{and_first, and_second}
 use Rattle.bl_tree.specs.declared.place.Place.{Place}
 use Rattle.bl_tree.specs.declared.tree.Arm.{Arm, fold-Arm, fold_out-Arm, out-Arm}
 use Rattle.bl_tree.specs.declared.tree.Branch.{Branch, fold-Branch, fold_out-Branch, out-Branch}
@@ -15,7 +16,6 @@ use Rattle.bl_tree.specs.declared.tree.StmtKind.TheOpen.{StmtKind-F}
 use Rattle.bl_tree.specs.Reduce.{all_of, total}
 use Rattle.bl_tree.specs.Typing.{TypingContext, arm_fits, branch_fits, fits, is_activity, is_inhabited, is_truth, kind_fits, stmt_fits, type_of}
 use Rattle.bl_tree.proofs.StmtInduction.{Cases, Each, EachArm, EachBranch, induct, stmt}
-use Rattle.bl_eval.proofs.PassLemmas.{and_left, and_right}
 use Rattle.bl_limits_measures.specs.Statements.{arm_cell_statements, branch_cell_statements, cell_statements_in, cell_statements_in_arm, kind_cell_statements}
 use Rattle.bl_limits_measures.specs.Statements.{cell_statements_in_block, cell_statements_in_branch, layer_cell_statements}
 use Rattle.bl_graph_nodes.specs.Nodes.{CheckAt, DepthEndAt, DepthJoinAt, Node, SurfaceEndAt, SurfaceJoinAt}
@@ -25,6 +25,7 @@ use Rattle.bl_graph_nodes.specs.Plain.{Label, Plain, Position, Repeat, Run, Then
 use Rattle.bl_graph_nodes.specs.Plain.{While, arm_plain, block_at, block_from, bodies_from, branch_plain, else_at, if_with}
 use Rattle.bl_graph_nodes.specs.Plain.{inside, kind_plain, label_at, passed_one, place_of_test, plain_body, plain_stmt, stmt_plain}
 use Rattle.bl_machine.specs.Layout.{places_in, places_in_each, resting_places}
+use Rattle.bl_ctree_laws_traces.proofs.OnBounded.Statements.{so_long}
 
 -- for this many statements there are so few nodes and resting places
 pub record Few (n nodes places : ℕ) : Type 0 where
@@ -56,17 +57,13 @@ append_few : (n m p q : ℕ) (xs ys : List Node) → Few n (length xs) p → Few
 append_few n m p q xs ys one two =
     subst (λ k. Few (n + m) k (p + q)) (sym (length-append xs ys)) (both_few n m (length xs) (length ys) p q one two)
 
-where_length : (b : Bool) (n : Node) → length (where_so b n) ≤ 1
-where_length true n = omega arith
-where_length false n = omega arith
-
 -- nodes of a statement's own around those of its blocks
 wide_few : (n m nodes places : ℕ) (b : Bool) (last : Node) → m ≤ 2 + nodes → Few n nodes places →
     Few (1 + n) (suc (length (where_so b last) + m)) places
 wide_few n m nodes places b last few rest =
     let low = rest.low in
     let rests = rest.rests in
-    let one = where_length b last in record { low = omega (arith, few, low, one); rests = omega (arith, rests) }
+    let one = so_long b last in record { low = omega (arith, few, low, one); rests = omega (arith, rests) }
 
 as_many : (n m : ℕ) (s p : Plain) → n ≡ m → s ≡ p → Small m p → Small n s
 as_many n m s p same is few = subst (λ k. Small k s) (sym same) (subst (Small m) (sym is) few)
@@ -88,8 +85,8 @@ module _ (site : TypingContext) where
       append_few (cell_statements_in s) (cell_statements_in_block body) (resting_places (plain_stmt s (at ++ k ∷ [])))
       (places_in (block_from (map plain_stmt body) (suc k) at)) (nodes_of (plain_stmt s (at ++ k ∷ [])))
       (nodes_in (block_from (map plain_stmt body) (suc k) at))
-      (All-head S s body each (and_left (fits site s) (all_of (map (fits site) body)) fitted) (at ++ k ∷ []))
-      (blocks_few body (All-tail S s body each) (and_right (fits site s) (all_of (map (fits site) body)) fitted) (suc k) at)
+      (All-head S s body each (and_first (fits site s) (all_of (map (fits site) body)) fitted) (at ++ k ∷ []))
+      (blocks_few body (All-tail S s body each) (and_second (fits site s) (all_of (map (fits site) body)) fitted) (suc k) at)
 
   -- ---- arms
 
@@ -110,7 +107,7 @@ module _ (site : TypingContext) where
       (subst (FewArm (cell_statements_in_block (out-Arm arm).body))
       (sym (fold_out-Arm (Place → Position → Plain) PlainArm PlainBranch (Position → Plain) kind_plain arm_plain branch_plain stmt_plain arm))
       (λ at. blocks_few (out-Arm arm).body each
-      (and_right (is_truth (type_of site (out-Arm arm).test)) (all_of (map (fits site) (out-Arm arm).body)) fits_so) 0 at))
+      (and_second (is_truth (type_of site (out-Arm arm).test)) (all_of (map (fits site) (out-Arm arm).body)) fits_so) 0 at))
 
   abbrev FewArms : List ℕ → List PlainArm → Type 0
   FewArms [] [] = Unit {0}
@@ -122,8 +119,8 @@ module _ (site : TypingContext) where
       FewArms (map cell_statements_in_arm arms) (map plain_arm arms)
   arms_few [] each fitted = tt
   arms_few (arm ∷ arms) each fitted = (
-    arm_few arm (All-head OfArm arm arms each) (and_left (arm_fitted arm) (all_of (map arm_fitted arms)) fitted),
-    arms_few arms (All-tail OfArm arm arms each) (and_right (arm_fitted arm) (all_of (map arm_fitted arms)) fitted),
+    arm_few arm (All-head OfArm arm arms each) (and_first (arm_fitted arm) (all_of (map arm_fitted arms)) fitted),
+    arms_few arms (All-tail OfArm arm arms each) (and_second (arm_fitted arm) (all_of (map arm_fitted arms)) fitted),
   )
 
   if_few : (n m : ℕ) (l : Label) (at : Place) (e : Expr) (body other : Block) → SmallIn n body → SmallIn m other →
@@ -205,9 +202,9 @@ module _ (site : TypingContext) where
       FewBranches (map cell_statements_in_branch branches) (map plain_branch branches)
   branches_few [] each fitted = tt
   branches_few (branch ∷ branches) each fitted = (
-    branch_few branch (All-head OfBranch branch branches each) (and_left (branch_fitted branch) (all_of (map branch_fitted branches)) fitted),
+    branch_few branch (All-head OfBranch branch branches each) (and_first (branch_fitted branch) (all_of (map branch_fitted branches)) fitted),
     branches_few branches (All-tail OfBranch branch branches each)
-        (and_right (branch_fitted branch) (all_of (map branch_fitted branches)) fitted),
+        (and_second (branch_fitted branch) (all_of (map branch_fitted branches)) fitted),
   )
 
   bodies_few : (ns : List ℕ) (branches : List PlainBranch) (k : ℕ) (l : Label) → FewBranches ns branches →
@@ -336,19 +333,19 @@ module _ (site : TypingContext) where
     branching_case : (arms : List Arm) (other : List Stmt) → EachArm S arms → Each S other → S (stmt place (StmtKind-F.If arms other))
     branching_case arms other each others fitted at =
         let parts = rw (fold-roll-Stmt, fold-roll-StmtKind) at fitted in
-        let some = and_left (is_inhabited (map arm_fitted arms)) (all_of (map arm_fitted arms) && all_of (map (fits site) other)) parts in
-        let more = and_right (is_inhabited (map arm_fitted arms)) (all_of (map arm_fitted arms) && all_of (map (fits site) other)) parts in
+        let some = and_first (is_inhabited (map arm_fitted arms)) (all_of (map arm_fitted arms) && all_of (map (fits site) other)) parts in
+        let more = and_second (is_inhabited (map arm_fitted arms)) (all_of (map arm_fitted arms) && all_of (map (fits site) other)) parts in
         as_many _ _ _ _ (if_count arms other) (if_plain arms other at)
         (with_few (label_at at) place (map cell_statements_in_arm arms) (cell_statements_in_block other) (map plain_arm arms) (block_at (map plain_stmt other))
         (some_there arm_fitted plain_arm arms some)
-        (arms_few arms each (and_left (all_of (map arm_fitted arms)) (all_of (map (fits site) other)) more))
-        (λ at. blocks_few other others (and_right (all_of (map arm_fitted arms)) (all_of (map (fits site) other)) more) 0 at))
+        (arms_few arms each (and_first (all_of (map arm_fitted arms)) (all_of (map (fits site) other)) more))
+        (λ at. blocks_few other others (and_second (all_of (map arm_fitted arms)) (all_of (map (fits site) other)) more) 0 at))
 
     cobegin_case : (branches : List Branch) → EachBranch S branches → S (stmt place (StmtKind-F.Cobegin branches))
     cobegin_case branches each fitted at =
         let parts = rw (fold-roll-Stmt, fold-roll-StmtKind) at fitted in
-        let all = and_right (is_inhabited (map branch_fitted branches)) (all_of (map branch_fitted branches))
-        (and_right (is_activity site.kind) (is_inhabited (map branch_fitted branches) && all_of (map branch_fitted branches)) parts) in
+        let all = and_second (is_inhabited (map branch_fitted branches)) (all_of (map branch_fitted branches))
+        (and_second (is_activity site.kind) (is_inhabited (map branch_fitted branches) && all_of (map branch_fitted branches)) parts) in
         let l : Label = label_at at in
         let bodies : Bodies = bodies_from (map plain_branch branches) 0 l in
         as_many _ _ _ _ (cobegin_count branches) (cobegin_plain branches at)
@@ -360,7 +357,7 @@ module _ (site : TypingContext) where
 
     guarded_case : (guard : Guard) (e : Expr) (body : List Stmt) → Each S body → S (stmt place (StmtKind-F.When guard e body))
     guarded_case guard e body each fitted at =
-        let parts = and_right (is_activity site.kind) (is_truth (type_of site e) && all_of (map (fits site) body))
+        let parts = and_second (is_activity site.kind) (is_truth (type_of site e) && all_of (map (fits site) body))
         (rw (fold-roll-Stmt, fold-roll-StmtKind) at fitted) in
         let l : Label = label_at at in
         let inner : Block = block_at (map plain_stmt body) (inside l 0) in
@@ -369,7 +366,7 @@ module _ (site : TypingContext) where
         (sym (length-append (where_so (are_instant inner) (SurfaceEndAt l place)) (CheckAt l place e ∷ DepthEndAt l place ∷ nodes_in inner)))
         (wide_few (cell_statements_in_block body) (suc (suc (length (nodes_in inner)))) (length (nodes_in inner)) (places_in inner) (are_instant inner)
         (SurfaceEndAt l place) (omega arith)
-        (blocks_few body each (and_right (is_truth (type_of site e)) (all_of (map (fits site) body)) parts) 0 (inside l 0))))
+        (blocks_few body each (and_second (is_truth (type_of site e)) (all_of (map (fits site) body)) parts) 0 (inside l 0))))
 
     repeat_case : (body : List Stmt) → Each S body → S (stmt place (StmtKind-F.Repeat body))
     repeat_case body each fitted at =
@@ -384,7 +381,7 @@ module _ (site : TypingContext) where
         let inner : Block = block_at (map plain_stmt body) (inside (label_at at) 0) in
         as_many _ _ _ _ (until_count body e) (until_plain body e at)
         (test_few (cell_statements_in_block body) (length (nodes_in inner)) (places_in inner)
-        (blocks_few body each (and_left (all_of (map (fits site) body)) (is_truth (type_of site e)) parts) 0 (inside (label_at at) 0)))
+        (blocks_few body each (and_first (all_of (map (fits site) body)) (is_truth (type_of site e)) parts) 0 (inside (label_at at) 0)))
 
     while_case : (e : Expr) (body : List Stmt) → Each S body → S (stmt place (StmtKind-F.While e body))
     while_case e body each fitted at =
@@ -392,7 +389,7 @@ module _ (site : TypingContext) where
         let inner : Block = block_at (map plain_stmt body) (inside (label_at at) 0) in
         as_many _ _ _ _ (while_count e body) (while_plain e body at)
         (loop_few (cell_statements_in_block body) (length (nodes_in inner)) (places_in inner)
-        (blocks_few body each (and_right (is_truth (type_of site e)) (all_of (map (fits site) body)) parts) 0 (inside (label_at at) 0)))
+        (blocks_few body each (and_second (is_truth (type_of site e)) (all_of (map (fits site) body)) parts) 0 (inside (label_at at) 0)))
 
   cases : Cases S
   cases = record {

@@ -1,21 +1,12 @@
 -- The law of a whole program.
-use Rattle.std.proofs.Common.{◌≡◌, ℕ, Bool, true, List, [], ◌∷◌, map, take, refl}
-use Rattle.std.specs.List.{list_all}
-use Rattle.bl_tree.specs.declared.tree.Stmt.{Stmt}
+use Rattle.std.proofs.Common.{◌≡◌, ℕ, List, [], ◌∷◌, take}
 use Rattle.bl_tree.specs.declared.tree.StructDef.{StructDef}
 use Rattle.bl_tree.specs.declared.tree.Unit.{Unit as UnitDef}
-use Rattle.bl_tree.specs.Reduce.{all_of}
 use Rattle.bl_tree.specs.Typing.{fits, site_of}
-use Rattle.bl_eval.proofs.PassLemmas.{and_left, and_right, both}
 use Rattle.bl_emit_acts_laws_wellformed.proofs.OnFormed.Units.{body_stands}
 use Rattle.bl_emit_spec_laws_wellformed.specs.Counts.{NodesCounted}
 use Rattle.bl_emit_spec_laws_wellformed.proofs.OnCounts.Counts.{body-few}
-
-all_listed : (test : Stmt → Bool) (body : List Stmt) → list_all test body ≡ true → all_of (map test body) ≡ true
-all_listed test [] all = refl
-all_listed test (s ∷ body) all =
-    both (test s) (all_of (map test body)) (and_left (test s) (list_all test body) all)
-    (all_listed test body (and_right (test s) (list_all test body) all))
+use Rattle.bl_eval.proofs.UnitFits.{all_listed}
 
 pub counted : (structs : List StructDef) (units : List UnitDef) (entry : ℕ) → NodesCounted structs units entry
 counted structs units entry k unit keeps there =

@@ -7,10 +7,11 @@ use Rattle.bl_machine.specs.declared.slots.Slot.{Slot}
 use Rattle.bl_machine.specs.Blocks.{up_to}
 use Rattle.bl_machine.specs.Layout.{counters_in, counters_in_each, counters_of, places_in, places_in_each}
 use Rattle.bl_machine.specs.Layout.{resting_places, width_in, width_in_each, width_of}
-use Rattle.bl_machine.specs.Slots.{counters_at, numbered_after, numbered_slots, times}
+use Rattle.bl_machine.specs.Slots.{counters_at, numbered_slots, times}
 use Rattle.bl_graph_nodes.specs.Plain.{Act, Again, Await, Block, Bodies, Body as BodyOf, Cobegin, Done, If, Last, Plain}
 use Rattle.bl_graph_nodes.specs.Plain.{Repeat, Run as RunOf, Then, Until, When, While}
 use Rattle.bl_machine_pass.specs.Numbered.{sizes_for, sizes_of}
+use Rattle.bl_machine.proofs.SlotLemmas.{counters_after}
 
 -- ---- all are below a number
 
@@ -26,10 +27,10 @@ both_below : (n : ℕ) (xs ys : List ℕ) → Below n xs → Below n ys → Belo
 both_below n [] ys one two = two
 both_below n (x ∷ xs) ys one two = (one.0, both_below n xs ys one.1 two)
 
-left_le : (low a b : ℕ) → low + a ≤ low + max a b
+pub left_le : (low a b : ℕ) → low + a ≤ low + max a b
 left_le low a b = omega arith
 
-right_le : (low a b : ℕ) → low + b ≤ low + max a b
+pub right_le : (low a b : ℕ) → low + b ≤ low + max a b
 right_le low a b = omega arith
 
 mutual
@@ -113,10 +114,6 @@ mutual
 
 -- ---- how many counters there are
 
-of_numbered : (before counters : List ℕ) → counters_at (numbered_after before counters) ≡ counters
-of_numbered before [] = refl
-of_numbered before (c ∷ counters) = ap (λ rest. c ∷ rest) (of_numbered (before ++ c ∷ []) counters)
-
 greatest_below : (n : ℕ) (counters : List ℕ) → 0 < n → Below n counters → greatest counters < n
 greatest_below n [] some below = some
 greatest_below n (c ∷ counters) some below = by c (greatest counters) below.0 (greatest_below n counters some below.1)
@@ -128,7 +125,7 @@ up_length : (n : ℕ) → length (up_to n) ≡ n
 up_length zero = refl
 up_length (suc n) = length_push (up_to n) n ∙ (let rest = up_length n in omega (arith, rest))
 
-map_length : (f : ℕ → ℕ) (xs : List ℕ) → length (map f xs) ≡ length xs
+pub map_length : (f : ℕ → ℕ) (xs : List ℕ) → length (map f xs) ≡ length xs
 map_length f [] = refl
 map_length f (x ∷ xs) = ap suc (map_length f xs)
 
@@ -143,7 +140,7 @@ sizes_below n (c ∷ counters) below =
 
 pub sizes_few : (body : Block) (slots : List Slot) → slots ≡ numbered_slots (counters_in body 0) → length (sizes_of slots) ≤ places_in body
 sizes_few body slots is =
-    let counters : counters_at slots ≡ counters_in body 0 = ap counters_at is ∙ of_numbered [] (counters_in body 0) in
+    let counters : counters_at slots ≡ counters_in body 0 = ap counters_at is ∙ counters_after [] (counters_in body 0) in
     let few : length (sizes_for (counters_in body 0)) ≤ width_in body =
     sizes_below (width_in body) (counters_in body 0)
     (more_below (0 + width_in body) (width_in body) (counters_in body 0) (nothing_plus (width_in body)) (block_below body 0)) in

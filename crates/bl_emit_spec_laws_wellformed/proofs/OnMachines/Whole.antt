@@ -46,7 +46,7 @@ cells_small : (cells : ℕ) → cells ≤ 1_000_000 → cells ≤ 2 ^ 64
 cells_small cells small = omega (arith, small)
 
 -- a unit has no fewer cells than statements
-enough : (kind : UnitKind) (variables statements running calling : ℕ) → statements ≤ cells_with kind variables statements running calling
+pub enough : (kind : UnitKind) (variables statements running calling : ℕ) → statements ≤ cells_with kind variables statements running calling
 enough Function variables statements running calling = omega arith
 enough Activity variables statements running calling = omega arith
 

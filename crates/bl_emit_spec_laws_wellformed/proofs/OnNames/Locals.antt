@@ -5,6 +5,7 @@ use Rattle.std.proofs.Common.{length, Option, Some, None, refl, sym, ap, ◌∙�
 use Rattle.std.proofs.lemmas.List.{append-nil, append_assoc, map-append}
 use Rattle.std.specs.Fmt.{decimal}
 use Rattle.std.specs.Prelude.{bytes_eq, is_some, nat_eq, option_and_then, slice_get, if◌then◌else◌}
+use Rattle.std.proofs.lemmas.Bool.{or_from}
 use Rattle.bl_tree.specs.declared.text.Text.{Text}
 use Rattle.bl_tree.specs.declared.c.CLocal.{CLocal}
 use Rattle.bl_tree.specs.declared.c.CMember.{CMember}
@@ -25,52 +26,22 @@ use Rattle.bl_emit_acts.specs.Acts.{is_copied}
 use Rattle.bl_emit_acts.specs.Places.{home_of}
 use Rattle.bl_emit_acts.specs.Types.{numbered_name}
 use Rattle.bl_emit_functions.specs.Functions.{is_held, member_of, members_from, members_of, memory_name, params_from}
-use Rattle.bl_emit_spec.specs.Activities.{
-  Activity,
-  RunAt,
-  activity_locals,
-  activity_params,
-  activity_view,
-  copied_in,
-  copies_of,
-  copy_local,
-  counter_member,
-  counters_read,
-  ended_local,
-  some_ends,
-  first_rules,
-  flag_local,
-  frame_member,
-  frame_struct,
-  given_local,
-  is_flagged,
-  mark_local,
-  mark_locals,
-  memory_member,
-  memory_params,
-  over_params,
-  remembered,
-  remembers_any,
-  rested_local,
-  result_params,
-  rules_at,
-  run_locals,
-  runs_in_body,
-  scalar_local,
-  struct_member,
-  word_of_run,
-}
+use Rattle.bl_emit_spec.specs.Activities.{Activity, RunAt, activity_locals, activity_params, activity_view, copied_in, copies_of, copy_local, counter_member}
+use Rattle.bl_emit_spec.specs.Activities.{counters_read, ended_local, some_ends, first_rules, flag_local, frame_member, frame_struct, given_local, is_flagged}
+use Rattle.bl_emit_spec.specs.Activities.{mark_local, mark_locals, memory_member, memory_params, over_params, remembered, remembers_any, rested_local}
+use Rattle.bl_emit_spec.specs.Activities.{result_params, rules_at, run_locals, runs_in_body, scalar_local, struct_member, word_of_run}
 use Rattle.bl_emit_spec.specs.Blocks.{ActivityView, Sizes, name_in, node_word, unit_may_end}
 use Rattle.bl_emit_spec.specs.Names.{NumberedWord, callee_name, ended_name, flag_name, numbered_word, with_word}
 use Rattle.bl_emit_spec_laws_wellformed.specs.Names.{FrameDiffers, LocalsDiffer, MemoryDiffers, NumbersDiffer}
 use Rattle.bl_emit_spec_laws_wellformed.specs.Names.{are_numbers, flag_number, mark_number, mark_numbers}
 use Rattle.bl_emit_spec_laws_wellformed.proofs.OnNames.Names.{word_family, word_family-begins, word_family-distinct, word_letter-new}
-use Rattle.bl_emit_spec_laws_wellformed.proofs.OnNames.Names.{among-both, begins-append}
+use Rattle.bl_emit_spec_laws_wellformed.proofs.OnNames.Names.{begins-append}
 use Rattle.bl_emit_spec_laws_wellformed.proofs.OnNames.Names.{family, family-begins, family-distinct, named_family, named_family-begins}
 use Rattle.bl_emit_spec_laws_wellformed.proofs.OnNames.Names.{named_family-distinct, named_letter-new}
 use Rattle.bl_emit_spec_laws_wellformed.proofs.OnNames.Names.{worded_family, worded_family-begins, worded_family-distinct, worded_letter-new}
-use Rattle.bl_emit_spec_laws_wellformed.proofs.OnNames.Names.{letter-new, neither, not-among, one-distinct, some_begins}
+use Rattle.bl_emit_spec_laws_wellformed.proofs.OnNames.Names.{letter-new, not-among, one-distinct, some_begins}
 use Rattle.bl_emit_spec_laws_wellformed.proofs.OnNames.Numbers.{chosen, chosen-numbers, filtered-numbers, first-numbers, position-numbers, positions}
+use Rattle.bl_emit_functions_laws_wellformed.proofs.OnFormed.Head.{among_neither}
 
 abbrev local_names : List CLocal → List Text
 local_names locals = map (λ (l : CLocal). l.name) locals
@@ -86,9 +57,6 @@ locals_append xs ys = map-append (λ (l : CLocal). l.name) xs ys
 
 members_append : (xs ys : List CMember) → member_names (xs ++ ys) ≡ member_names xs ++ member_names ys
 members_append xs ys = map-append (λ (m : CMember). m.name) xs ys
-
-family_append : (b : ℕ) (xs ys : List ℕ) → family b (xs ++ ys) ≡ family b xs ++ family b ys
-family_append b xs ys = map-append (λ k. b ∷ decimal k) xs ys
 
 worded_family_append : (words : ℕ → Text) (b : ℕ) (xs ys : List ℕ) →
     worded_family words b (xs ++ ys) ≡ worded_family words b xs ++ worded_family words b ys
@@ -212,7 +180,7 @@ module _ (a : Activity) where
   -- one of other letters
   ended_begins : (b : ℕ) (ends : Bool) → nat_eq b 101 ≡ false → some_begins b (ended_names ends) ≡ false
   ended_begins b false other = refl
-  ended_begins b true other = neither (nat_eq b 101) false other refl
+  ended_begins b true other = or_from (nat_eq b 101) false other refl
 
   runs_begin : (b : ℕ) (runs : List RunAt) → nat_eq b 101 ≡ false → nat_eq b 114 ≡ false → some_begins b (names_of_runs runs) ≡ false
   runs_begin b runs one other =
@@ -230,7 +198,7 @@ module _ (a : Activity) where
 
   runs_letter : (b : ℕ) (runs : List RunAt) → are_numbers (run_numbers runs) ≡ true → is_among (b ∷ []) (names_of_runs runs) ≡ false
   runs_letter b runs all =
-      among-both (b ∷ []) (ended_names (some_ends a.earlier runs)) (word_family word 114 (with_result runs)) (ended_letter b (some_ends a.earlier runs))
+      among_neither (b ∷ []) (ended_names (some_ends a.earlier runs)) (word_family word 114 (with_result runs)) (ended_letter b (some_ends a.earlier runs))
       (word_letter-new word b 114 (with_result runs) (those_numbers (λ run. is_some (result_at run)) runs all))
 
   -- all differ
@@ -305,10 +273,10 @@ module _ (a : Activity) where
     -- a letter alone is no name of a local
     letter_none : (b : ℕ) → is_among (b ∷ []) all_locals ≡ false
     letter_none b =
-        among-both (b ∷ []) (family 119 (counters_read a)) from_flags (letter-new b 119 (counters_read a) read_numbers)
-        (among-both (b ∷ []) (worded_family view.word 103 flags) from_marks (worded_letter-new view.word b 103 flags differ.flags)
-        (among-both (b ∷ []) (worded_family view.word 117 marks) from_copies (worded_letter-new view.word b 117 marks differ.marks)
-        (among-both (b ∷ []) (named_family a.unit.vars 112 (copied_in a)) (names_of_runs runs) (named_letter-new a.unit.vars b 112 (copied_in a) copies_numbers)
+        among_neither (b ∷ []) (family 119 (counters_read a)) from_flags (letter-new b 119 (counters_read a) read_numbers)
+        (among_neither (b ∷ []) (worded_family view.word 103 flags) from_marks (worded_letter-new view.word b 103 flags differ.flags)
+        (among_neither (b ∷ []) (worded_family view.word 117 marks) from_copies (worded_letter-new view.word b 117 marks differ.marks)
+        (among_neither (b ∷ []) (named_family a.unit.vars 112 (copied_in a)) (names_of_runs runs) (named_letter-new a.unit.vars b 112 (copied_in a) copies_numbers)
         (runs_letter b runs differ.runs))))
 
     locals_distinct : are_distinct all_locals ≡ true
@@ -375,7 +343,7 @@ module _ (a : Activity) where
     end_distinct false = locals_distinct
 
     end_letter : (ends : Bool) → is_among (codes "r") (end_names ends ++ all_locals) ≡ false
-    end_letter true = neither (bytes_eq (codes "r") (codes "e")) (is_among (codes "r") all_locals) refl (letter_none 114)
+    end_letter true = or_from (bytes_eq (codes "r") (codes "e")) (is_among (codes "r") all_locals) refl (letter_none 114)
     end_letter false = letter_none 114
 
     last_distinct : (o : Option ScalarType) (ends : Bool) → are_distinct (last_names o ends ++ all_locals) ≡ true
@@ -383,14 +351,14 @@ module _ (a : Activity) where
     last_distinct (Some s) ends = one-distinct (codes "r") (end_names ends ++ all_locals) (end_letter ends) (end_distinct ends)
 
     end_begins : (b : ℕ) (ends : Bool) → nat_eq b 101 ≡ false → some_begins b all_locals ≡ false → some_begins b (end_names ends ++ all_locals) ≡ false
-    end_begins b true e none = neither (nat_eq b 101) (some_begins b all_locals) e none
+    end_begins b true e none = or_from (nat_eq b 101) (some_begins b all_locals) e none
     end_begins b false e none = none
 
     last_begins : (b : ℕ) (o : Option ScalarType) (ends : Bool) → nat_eq b 101 ≡ false → nat_eq b 114 ≡ false → some_begins b all_locals ≡ false →
         some_begins b (last_names o ends ++ all_locals) ≡ false
     last_begins b None ends e r none = end_begins b ends e none
     last_begins b (Some s) ends e r none =
-        neither (nat_eq b 114) (some_begins b (end_names ends ++ all_locals)) r (end_begins b ends e none)
+        or_from (nat_eq b 114) (some_begins b (end_names ends ++ all_locals)) r (end_begins b ends e none)
 
     abbrev from_variables : List Text
     from_variables = named_family a.unit.vars 118 params ++ after_variables
@@ -415,7 +383,7 @@ module _ (a : Activity) where
     frame_new : (remembers : Bool) → is_among (codes "f") (first_names remembers from_variables) ≡ false
     frame_new false = not-among 102 (codes "f") from_variables refl (begin_none 102 refl refl refl (none_begins 102 refl refl refl refl refl refl))
     frame_new true =
-        neither (bytes_eq (codes "f") (codes "m")) (is_among (codes "f") from_variables) refl
+        or_from (bytes_eq (codes "f") (codes "m")) (is_among (codes "f") from_variables) refl
         (not-among 102 (codes "f") from_variables refl (begin_none 102 refl refl refl (none_begins 102 refl refl refl refl refl refl)))
 
     params_append : (xs ys : List CParam) → param_names (xs ++ ys) ≡ param_names xs ++ param_names ys

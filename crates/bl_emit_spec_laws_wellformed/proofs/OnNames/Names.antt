@@ -9,6 +9,8 @@ use Rattle.std.proofs.lemmas.Slice.Eq.{bytes_eq-Decides}
 use Rattle.std.specs.Fmt.{decimal}
 use Rattle.std.specs.List.{list_any}
 use Rattle.std.specs.Prelude.{bytes_eq, nat_eq, nat_lt, slice_get}
+use Rattle.std.proofs.lemmas.Bool.{and_from, not-true, or_from}
+use Rattle.bl_tree.proofs.Basics.{and_first, and_second}
 use Rattle.bl_tree.specs.declared.text.Text.{Text}
 use Rattle.bl_tree.specs.declared.tree.Var.{Var}
 use Rattle.bl_tree.specs.Words.{are_distinct, is_among}
@@ -16,26 +18,7 @@ use Rattle.bl_emit_acts.specs.Types.{numbered_name, source_name}
 use Rattle.bl_emit_acts_laws_simulation.proofs.NumberedNames.{names_differ, words_differ}
 use Rattle.bl_emit_spec.specs.Names.{NumberedWord, numbered_word, with_word}
 use Rattle.bl_emit_spec_laws_wellformed.specs.Names.{are_numbers}
-
-pub and-left : (a b : Bool) → (a && b) ≡ true → a ≡ true
-and-left true b _ = refl
-and-left false b all = all
-
-pub and-right : (a b : Bool) → (a && b) ≡ true → b ≡ true
-and-right true b all = all
-and-right false b all = absurd (cc)
-
-pub both : (a b : Bool) → a ≡ true → b ≡ true → (a && b) ≡ true
-both true b _ other = other
-both false b one _ = one
-
-pub neither : (a b : Bool) → a ≡ false → b ≡ false → (a || b) ≡ false
-neither false b one other = other
-neither true b one other = absurd (cc)
-
-pub not-false : (b : Bool) → not b ≡ true → b ≡ false
-not-false false h = refl
-not-false true h = absurd (let no : false ≡ true = h in cc)
+use Rattle.bl_emit_functions_laws_wellformed.proofs.OnFormed.Head.{among_neither}
 
 -- ---- letters
 
@@ -52,7 +35,7 @@ some_begins b names = list_any (begins b) names
 pub not-among : (b : ℕ) (x : Text) (names : List Text) → begins b x ≡ true → some_begins b names ≡ false → is_among x names ≡ false
 not-among b x [] own none = refl
 not-among b x (y ∷ names) own none =
-    neither (bytes_eq x y) (is_among x names) (by (bytes_eq x y) refl) (not-among b x names own (later (begins b y) (some_begins b names) none))
+    or_from (bytes_eq x y) (is_among x names) (by (bytes_eq x y) refl) (not-among b x names own (later (begins b y) (some_begins b names) none))
   where
     later : (p q : Bool) → (p || q) ≡ false → q ≡ false
     later false q h = h
@@ -69,18 +52,12 @@ not-among b x (y ∷ names) own none =
         cc)
 
 pub begins-append : (b : ℕ) (xs ys : List Text) → some_begins b xs ≡ false → some_begins b ys ≡ false → some_begins b (xs ++ ys) ≡ false
-begins-append b xs ys one other = list_any-append (begins b) xs ys ∙ neither (some_begins b xs) (some_begins b ys) one other
+begins-append b xs ys one other = list_any-append (begins b) xs ys ∙ or_from (some_begins b xs) (some_begins b ys) one other
 
 -- ---- families
 
-low : (k : ℕ) → nat_lt k (2 ^ 64) ≡ true → k < 2 ^ 64
+pub low : (k : ℕ) → nat_lt k (2 ^ 64) ≡ true → k < 2 ^ 64
 low k h = grind (arith, nat_tests)
-
-among-append : (x : Text) (xs ys : List Text) → is_among x xs ≡ false → is_among x ys ≡ false → is_among x (xs ++ ys) ≡ false
-among-append x xs ys one other = list_any-append (bytes_eq x) xs ys ∙ neither (is_among x xs) (is_among x ys) one other
-
-pub among-both : (x : Text) (xs ys : List Text) → is_among x xs ≡ false → is_among x ys ≡ false → is_among x (xs ++ ys) ≡ false
-among-both = among-append
 
 -- a letter alone is no longer name
 letter_other : (b c : ℕ) (ds : List ℕ) → 0 < length ds → bytes_eq (b ∷ []) (c ∷ ds) ≡ false
@@ -100,16 +77,16 @@ module _ {X : Type 0} (text : X → Text) (number : X → ℕ)
 
   lettered-begins : (b c : ℕ) (ks : List X) → nat_eq b c ≡ false → some_begins b (lettered c ks) ≡ false
   lettered-begins b c [] other = refl
-  lettered-begins b c (k ∷ ks) other = neither (nat_eq b c) (some_begins b (lettered c ks)) other (lettered-begins b c ks other)
+  lettered-begins b c (k ∷ ks) other = or_from (nat_eq b c) (some_begins b (lettered c ks)) other (lettered-begins b c ks other)
 
   lettered-new : (b : ℕ) (j : X) (ks : List X) → number j < 2 ^ 64 → are_numbers (map number ks) ≡ true → list_any (nat_eq (number j)) (map number ks) ≡ false →
       is_among (b ∷ text j) (lettered b ks) ≡ false
   lettered-new b j [] less all new = refl
   lettered-new b j (k ∷ ks) less all new =
-      let small : number k < 2 ^ 64 = low (number k) (and-left (nat_lt (number k) (2 ^ 64)) _ all) in
+      let small : number k < 2 ^ 64 = low (number k) (and_first (nat_lt (number k) (2 ^ 64)) _ all) in
       let rest : are_numbers (map number ks) ≡ true =
-      and-right (not (list_any (nat_eq (number k)) (map number ks))) (are_numbers (map number ks)) (and-right (nat_lt (number k) (2 ^ 64)) _ all) in
-      neither (bytes_eq (b ∷ text j) (b ∷ text k)) (is_among (b ∷ text j) (lettered b ks))
+      and_second (not (list_any (nat_eq (number k)) (map number ks))) (are_numbers (map number ks)) (and_second (nat_lt (number k) (2 ^ 64)) _ all) in
+      or_from (bytes_eq (b ∷ text j) (b ∷ text k)) (is_among (b ∷ text j) (lettered b ks))
       (apart b j k less small (first (nat_eq (number j) (number k)) (list_any (nat_eq (number j)) (map number ks)) new))
       (lettered-new b j ks less rest (later (nat_eq (number j) (number k)) (list_any (nat_eq (number j)) (map number ks)) new))
     where
@@ -125,15 +102,15 @@ module _ {X : Type 0} (text : X → Text) (number : X → ℕ)
       are_distinct others ≡ true → are_distinct (lettered b ks ++ others) ≡ true
   lettered-distinct b [] others all none differ = differ
   lettered-distinct b (k ∷ ks) others all none differ =
-      let small : number k < 2 ^ 64 = low (number k) (and-left (nat_lt (number k) (2 ^ 64)) _ all) in
-      let more = and-right (nat_lt (number k) (2 ^ 64)) _ all in
+      let small : number k < 2 ^ 64 = low (number k) (and_first (nat_lt (number k) (2 ^ 64)) _ all) in
+      let more = and_second (nat_lt (number k) (2 ^ 64)) _ all in
       let new : list_any (nat_eq (number k)) (map number ks) ≡ false =
-      not-false (list_any (nat_eq (number k)) (map number ks))
-      (and-left (not (list_any (nat_eq (number k)) (map number ks))) (are_numbers (map number ks)) more) in
+      not-true (list_any (nat_eq (number k)) (map number ks))
+      (and_first (not (list_any (nat_eq (number k)) (map number ks))) (are_numbers (map number ks)) more) in
       let rest : are_numbers (map number ks) ≡ true =
-      and-right (not (list_any (nat_eq (number k)) (map number ks))) (are_numbers (map number ks)) more in
-      both (not (is_among (b ∷ text k) (lettered b ks ++ others))) (are_distinct (lettered b ks ++ others))
-      (ap not (among-append (b ∷ text k) (lettered b ks) others (lettered-new b k ks small rest new)
+      and_second (not (list_any (nat_eq (number k)) (map number ks))) (are_numbers (map number ks)) more in
+      and_from (not (is_among (b ∷ text k) (lettered b ks ++ others))) (are_distinct (lettered b ks ++ others))
+      (ap not (among_neither (b ∷ text k) (lettered b ks) others (lettered-new b k ks small rest new)
       (not-among b (b ∷ text k) others (own b) none)))
       (lettered-distinct b ks others rest none differ)
     where
@@ -143,10 +120,10 @@ module _ {X : Type 0} (text : X → Text) (number : X → ℕ)
   lettered-longer : (b c : ℕ) (ks : List X) → are_numbers (map number ks) ≡ true → is_among (b ∷ []) (lettered c ks) ≡ false
   lettered-longer b c [] all = refl
   lettered-longer b c (k ∷ ks) all =
-      let small : number k < 2 ^ 64 = low (number k) (and-left (nat_lt (number k) (2 ^ 64)) _ all) in
+      let small : number k < 2 ^ 64 = low (number k) (and_first (nat_lt (number k) (2 ^ 64)) _ all) in
       let rest : are_numbers (map number ks) ≡ true =
-      and-right (not (list_any (nat_eq (number k)) (map number ks))) (are_numbers (map number ks)) (and-right (nat_lt (number k) (2 ^ 64)) _ all) in
-      neither (bytes_eq (b ∷ []) (c ∷ text k)) (is_among (b ∷ []) (lettered c ks)) (letter_other b c (text k) (some k small))
+      and_second (not (list_any (nat_eq (number k)) (map number ks))) (are_numbers (map number ks)) (and_second (nat_lt (number k) (2 ^ 64)) _ all) in
+      or_from (bytes_eq (b ∷ []) (c ∷ text k)) (is_among (b ∷ []) (lettered c ks)) (letter_other b c (text k) (some k small))
       (lettered-longer b c ks rest)
 
 -- ---- a letter and a number
@@ -272,4 +249,4 @@ worded_letter-new words b c ks all = word_letter-new (with_word words) b c ks (a
 -- a name before others
 pub one-distinct : (x : Text) (others : List Text) → is_among x others ≡ false → are_distinct others ≡ true →
     are_distinct (x ∷ others) ≡ true
-one-distinct x others new differ = both (not (is_among x others)) (are_distinct others) (ap not new) differ
+one-distinct x others new differ = and_from (not (is_among x others)) (are_distinct others) (ap not new) differ

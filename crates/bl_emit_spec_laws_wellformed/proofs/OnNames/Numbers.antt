@@ -8,50 +8,37 @@ use Rattle.std.proofs.lemmas.List.Elements.{filter-append}
 use Rattle.std.proofs.lemmas.List.Folds.{list_all-append, list_any-append}
 use Rattle.std.specs.List.{list_all, list_any}
 use Rattle.std.specs.Prelude.{filter, nat_eq, nat_lt, if◌then◌else◌}
+use Rattle.std.proofs.lemmas.Bool.{and_from, not-true, or_from}
+use Rattle.bl_tree.proofs.Basics.{and_first, and_second, less_from, less_test}
 use Rattle.bl_machine.specs.Blocks.{up_to}
 use Rattle.bl_emit_spec_laws_wellformed.specs.Names.{are_numbers}
-use Rattle.bl_emit_spec_laws_wellformed.proofs.OnNames.Names.{and-left, and-right, both, neither, not-false}
 
 abbrev under : ℕ → List ℕ → Bool
 under n ks = list_all (λ k. nat_lt k n) ks
-
-lt_test : (k n : ℕ) → k < n → nat_lt k n ≡ true
-lt_test k n h = grind (arith, nat_tests)
-
-lt_of : (k n : ℕ) → nat_lt k n ≡ true → k < n
-lt_of k n h = grind (arith, nat_tests)
 
 less_other : (k n : ℕ) → k < n → nat_eq k n ≡ false
 less_other k n h = grind (arith, nat_tests)
 
 -- ---- one more number
 
-none_under : (n : ℕ) (ks : List ℕ) → under n ks ≡ true → (k : ℕ) → n ≤ k → list_any (nat_eq k) ks ≡ false
-none_under n [] all k le = refl
-none_under n (j ∷ ks) all k le =
-    let less : j < n = lt_of j n (and-left (nat_lt j n) (under n ks) all) in
-    let lt : j < k = grind (arith, nat_tests, less, le) in
-    let other : nat_eq k j ≡ false = grind (arith, nat_tests, lt) in
-    neither (nat_eq k j) (list_any (nat_eq k) ks) other (none_under n ks (and-right (nat_lt j n) (under n ks) all) k le)
-
 numbers_push : (n : ℕ) (ks : List ℕ) → n < 2 ^ 64 → are_numbers ks ≡ true → under n ks ≡ true → are_numbers (ks ++ n ∷ []) ≡ true
-numbers_push n [] small all few = both (nat_lt n (2 ^ 64)) true (lt_test n (2 ^ 64) small) refl
+numbers_push n [] small all few = and_from (nat_lt n (2 ^ 64)) true (less_test n (2 ^ 64) small) refl
 numbers_push n (k ∷ ks) small all few =
-    let less : k < n = lt_of k n (and-left (nat_lt k n) (under n ks) few) in
-    let more = and-right (nat_lt k (2 ^ 64)) _ all in
-    let new : list_any (nat_eq k) ks ≡ false = not-false (list_any (nat_eq k) ks) (and-left (not (list_any (nat_eq k) ks)) (are_numbers ks) more) in
-    both (nat_lt k (2 ^ 64)) (not (list_any (nat_eq k) (ks ++ n ∷ [])) && are_numbers (ks ++ n ∷ [])) (and-left (nat_lt k (2 ^ 64)) _ all)
-    (both (not (list_any (nat_eq k) (ks ++ n ∷ []))) (are_numbers (ks ++ n ∷ []))
-    (ap not (list_any-append (nat_eq k) ks (n ∷ []) ∙ neither (list_any (nat_eq k) ks) (nat_eq k n || false) new
-    (neither (nat_eq k n) false (less_other k n less) refl)))
-    (numbers_push n ks small (and-right (not (list_any (nat_eq k) ks)) (are_numbers ks) more) (and-right (nat_lt k n) (under n ks) few)))
+    let less : k < n = less_from k n (and_first (nat_lt k n) (under n ks) few) in
+    let more = and_second (nat_lt k (2 ^ 64)) _ all in
+    let new : list_any (nat_eq k) ks ≡ false = not-true (list_any (nat_eq k) ks) (and_first (not (list_any (nat_eq k) ks)) (are_numbers ks) more) in
+    and_from (nat_lt k (2 ^ 64)) (not (list_any (nat_eq k) (ks ++ n ∷ [])) && are_numbers (ks ++ n ∷ [])) (and_first (nat_lt k (2 ^ 64)) _ all)
+    (and_from (not (list_any (nat_eq k) (ks ++ n ∷ []))) (are_numbers (ks ++ n ∷ []))
+    (ap not (list_any-append (nat_eq k) ks (n ∷ []) ∙ or_from (list_any (nat_eq k) ks) (nat_eq k n || false) new
+    (or_from (nat_eq k n) false (less_other k n less) refl)))
+    (numbers_push n ks small (and_second (not (list_any (nat_eq k) ks)) (are_numbers ks) more) (and_second (nat_lt k n) (under n ks) few)))
 
 under_more : (n m : ℕ) (ks : List ℕ) → n ≤ m → under n ks ≡ true → under m ks ≡ true
 under_more n m [] le all = refl
 under_more n m (k ∷ ks) le all =
-    let less : k < n = lt_of k n (and-left (nat_lt k n) (under n ks) all) in
+    let less : k < n = less_from k n (and_first (nat_lt k n) (under n ks) all) in
     let lt : k < m = grind (arith, nat_tests, less, le) in
-    both (nat_lt k m) (under m ks) (lt_test k m lt) (under_more n m ks le (and-right (nat_lt k n) (under n ks) all))
+    and_from (nat_lt k m) (under m ks) (less_test k m lt) (under_more n m ks le (and_second (nat_lt k n) (under n ks) all))
 
 -- ---- some of the first numbers
 
@@ -73,8 +60,8 @@ filtered test (suc n) le =
     by true small more one = record {
       numbers = numbers_push n (filter test (up_to n)) small one.numbers one.few;
       few = list_all-append (λ k. nat_lt k (suc n)) (filter test (up_to n)) (n ∷ [])
-          ∙ both (under (suc n) (filter test (up_to n))) (nat_lt n (suc n) && true) (under_more n (suc n) (filter test (up_to n)) more one.few)
-          (both (nat_lt n (suc n)) true (let lt : n < suc n = grind (arith, nat_tests) in lt_test n (suc n) lt) refl);
+          ∙ and_from (under (suc n) (filter test (up_to n))) (nat_lt n (suc n) && true) (under_more n (suc n) (filter test (up_to n)) more one.few)
+          (and_from (nat_lt n (suc n)) true (let lt : n < suc n = grind (arith, nat_tests) in less_test n (suc n) lt) refl);
     }
     by false small more one =
         subst (Some_of (suc n)) (sym (append-nil (filter test (up_to n))))
@@ -105,7 +92,7 @@ earlier-none test j k (x ∷ xs) less =
   where
     by : (b : Bool) → list_any (nat_eq j) (positions test (k + 1) xs) ≡ false →
         list_any (nat_eq j) ((if b then k ∷ [] else []) ++ positions test (k + 1) xs) ≡ false
-    by true rest = neither (nat_eq j k) (list_any (nat_eq j) (positions test (k + 1) xs)) (less_other j k less) rest
+    by true rest = or_from (nat_eq j k) (list_any (nat_eq j) (positions test (k + 1) xs)) (less_other j k less) rest
     by false rest = rest
 
 pub position-numbers : {X : Type 0} (test : X → Bool) (k : ℕ) (xs : List X) → k + length xs ≤ 2 ^ 64 →
@@ -121,9 +108,9 @@ position-numbers test k (x ∷ xs) room =
         are_numbers (positions test (k + 1) xs) ≡ true →
         are_numbers ((if b then k ∷ [] else []) ++ positions test (k + 1) xs) ≡ true
     by true small new rest =
-        both (nat_lt k (2 ^ 64)) (not (list_any (nat_eq k) (positions test (k + 1) xs)) && are_numbers (positions test (k + 1) xs))
-        (lt_test k (2 ^ 64) small)
-        (both (not (list_any (nat_eq k) (positions test (k + 1) xs))) (are_numbers (positions test (k + 1) xs)) (ap not new) rest)
+        and_from (nat_lt k (2 ^ 64)) (not (list_any (nat_eq k) (positions test (k + 1) xs)) && are_numbers (positions test (k + 1) xs))
+        (less_test k (2 ^ 64) small)
+        (and_from (not (list_any (nat_eq k) (positions test (k + 1) xs))) (are_numbers (positions test (k + 1) xs)) (ap not new) rest)
     by false small new rest = rest
 
 -- ---- some of the numbers of things
@@ -150,7 +137,7 @@ chosen-none test number k (x ∷ xs) none =
     by : (b : Bool) → list_any (nat_eq k) (chosen test number xs) ≡ false →
         list_any (nat_eq k) ((if b then number x ∷ [] else []) ++ chosen test number xs) ≡ false
     by true rest =
-        neither (nat_eq k (number x)) (list_any (nat_eq k) (chosen test number xs))
+        or_from (nat_eq k (number x)) (list_any (nat_eq k) (chosen test number xs))
         (first (nat_eq k (number x)) (list_any (nat_eq k) (map number xs)) none)
         rest
     by false rest = rest
@@ -159,16 +146,16 @@ pub chosen-numbers : {X : Type 0} (test : X → Bool) (number : X → ℕ) (xs :
     are_numbers (chosen test number xs) ≡ true
 chosen-numbers test number [] all = refl
 chosen-numbers test number (x ∷ xs) all =
-    let more = and-right (nat_lt (number x) (2 ^ 64)) _ all in
+    let more = and_second (nat_lt (number x) (2 ^ 64)) _ all in
     let new : list_any (nat_eq (number x)) (map number xs) ≡ false =
-    not-false (list_any (nat_eq (number x)) (map number xs))
-    (and-left (not (list_any (nat_eq (number x)) (map number xs))) (are_numbers (map number xs)) more) in
-    by (test x) (and-left (nat_lt (number x) (2 ^ 64)) _ all) (chosen-none test number (number x) xs new)
-    (chosen-numbers test number xs (and-right (not (list_any (nat_eq (number x)) (map number xs))) (are_numbers (map number xs)) more))
+    not-true (list_any (nat_eq (number x)) (map number xs))
+    (and_first (not (list_any (nat_eq (number x)) (map number xs))) (are_numbers (map number xs)) more) in
+    by (test x) (and_first (nat_lt (number x) (2 ^ 64)) _ all) (chosen-none test number (number x) xs new)
+    (chosen-numbers test number xs (and_second (not (list_any (nat_eq (number x)) (map number xs))) (are_numbers (map number xs)) more))
   where
     by : (b : Bool) → nat_lt (number x) (2 ^ 64) ≡ true → list_any (nat_eq (number x)) (chosen test number xs) ≡ false →
         are_numbers (chosen test number xs) ≡ true → are_numbers ((if b then number x ∷ [] else []) ++ chosen test number xs) ≡ true
     by true small new rest =
-        both (nat_lt (number x) (2 ^ 64)) (not (list_any (nat_eq (number x)) (chosen test number xs)) && are_numbers (chosen test number xs)) small
-        (both (not (list_any (nat_eq (number x)) (chosen test number xs))) (are_numbers (chosen test number xs)) (ap not new) rest)
+        and_from (nat_lt (number x) (2 ^ 64)) (not (list_any (nat_eq (number x)) (chosen test number xs)) && are_numbers (chosen test number xs)) small
+        (and_from (not (list_any (nat_eq (number x)) (chosen test number xs))) (are_numbers (chosen test number xs)) (ap not new) rest)
     by false small new rest = rest

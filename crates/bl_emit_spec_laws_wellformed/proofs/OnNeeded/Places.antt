@@ -1,7 +1,8 @@
 -- What an activity runs, it runs by the first `run` of some place.
-use Rattle.std.proofs.Common.{◌≡◌, inl, inr, ℕ, Bool, true, false, not, cond, ◌||◌, nat_eq, List, [], ◌∷◌, filter, map, Some, refl, sym, ap, subst, ◌∙◌}
+use Rattle.std.proofs.Common.{◌≡◌, inl, inr, ℕ, Bool, true, false, not, cond, ◌||◌, nat_eq, List, [], ◌∷◌, filter, map, Some, refl, sym, ap, ◌∙◌}
 use Rattle.std.specs.Prelude.{slice_get}
 use Rattle.std.specs.List.{list_any}
+use Rattle.bl_tree.proofs.Basics.{contains_at}
 use Rattle.bl_tree.specs.declared.place.Place.{Place}
 use Rattle.bl_tree.specs.declared.tree.StructDef.{StructDef}
 use Rattle.bl_tree.specs.declared.tree.Unit.{Unit as UnitDef}
@@ -9,28 +10,20 @@ use Rattle.bl_tree.specs.Program.{IsWellTyped}
 use Rattle.bl_tree.specs.Reduce.{joined}
 use Rattle.bl_tree.specs.Rules.{same_place}
 use Rattle.bl_tree.specs.Within.{StandsIn}
-use Rattle.bl_effects.proofs.EntryLemmas.{same_place_is}
 use Rattle.bl_ctree.specs.declared.instance.Run.{Run}
 use Rattle.bl_ctree.specs.Instances.{one_a_place, runs_in}
 use Rattle.bl_ctree_laws_confluence.proofs.OnApart.Placed.{RunAs, runs_listed, same_unit}
-use Rattle.bl_ctree_laws_confluence.proofs.OnDeeds.Accepted.{contains_at}
-use Rattle.bl_ctree_laws_confluence.proofs.OnDeeds.Activities.{AllOf, one_a_place_so}
+use Rattle.bl_ctree_laws_confluence.proofs.OnDeeds.Activities.{AllOf}
 use Rattle.bl_ctree_laws_traces.proofs.OnBounded.Lists.{Among}
 use Rattle.bl_limits_measures.specs.Runs.{activities_by_place, activities_run}
 use Rattle.bl_limits_measures_laws.proofs.InstanceLemmas.{all_named, named, units_of}
+use Rattle.bl_ctree_laws_traces.proofs.OnBounded.Callees.{all_among}
+use Rattle.bl_ctree_laws_traces.proofs.OnBounded.ByPlace.{once_among}
+use Rattle.bl_tree.proofs.FirstLemmas.{same_true}
 
-all_among : {A : Type 0} (P : A → Type 0) (xs : List A) (x : A) → AllOf P xs → Among x xs → P x
-all_among P [] x all at = absurd at
-all_among P (y ∷ xs) x all (inl is) = subst P (sym is) all.0
-all_among P (y ∷ xs) x all (inr at) = all_among P xs x all.1 at
-
-all_own : {A : Type 0} (all some : List A) → ((x : A) → Among x some → Among x all) → AllOf (λ x. Among x all) some
+pub all_own : {A : Type 0} (all some : List A) → ((x : A) → Among x some → Among x all) → AllOf (λ x. Among x all) some
 all_own all [] inside = tt
 all_own all (y ∷ some) inside = (inside y (inl refl), all_own all some (λ x at. inside x (inr at)))
-
-once_there : (runs : List Run) (run : Run) → Among run (one_a_place runs) → Among run runs
-once_there runs run at =
-    all_among (λ x. Among x runs) (one_a_place runs) run (one_a_place_so (λ x. Among x runs) runs (all_own runs runs (λ x there. there))) at
 
 -- `run`s of one place run one unit
 abbrev Share : List Run → Type 0
@@ -53,7 +46,7 @@ module _ (j : ℕ) where
           list_any (nat_eq j) (units_of (cond (not b) (x ∷ others run.place xs) (others run.place xs))) ≡ true
       by true true is at rest h =
           absurd (let no : true ≡ false =
-          sym at ∙ (ap (nat_eq j) (sym (share x (inl refl) (same_place_is run.place x.place is))) ∙ other) in cc)
+          sym at ∙ (ap (nat_eq j) (sym (share x (inl refl) (same_true run.place x.place is))) ∙ other) in cc)
       by true false is at rest h = rest h
       by false true is at rest h = ap (λ d. d || list_any (nat_eq j) (units_of (others run.place xs))) at
       by false false is at rest h = ap (λ d. d || list_any (nat_eq j) (units_of (others run.place xs))) at ∙ rest h
@@ -70,7 +63,7 @@ module _ (j : ℕ) where
       by true is more h = ap (λ d. d || list_any (nat_eq j) (units_of (others run.place (one_a_place rest)))) is
       by false is more h =
           ap (λ d. d || list_any (nat_eq j) (units_of (others run.place (one_a_place rest)))) is
-          ∙ kept_any run (one_a_place rest) (λ x at place. share run x (inl refl) (inr (once_there rest x at)) place) is (more h)
+          ∙ kept_any run (one_a_place rest) (λ x at place. share run x (inl refl) (inr (once_among rest x at)) place) is (more h)
 
 -- what a unit of a typed program runs is among what the first `run`s of its places run
 pub placed_any : (structs : List StructDef) (units : List UnitDef) (entry : ℕ) → IsWellTyped structs units entry → (k j : ℕ) (unit : UnitDef) →

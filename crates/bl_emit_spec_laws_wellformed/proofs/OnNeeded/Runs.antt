@@ -3,7 +3,7 @@ use Rattle.std.proofs.Common.{◌≡◌, ℕ, Bool, true, false, ◌&&◌, List,
 use Rattle.std.proofs.Common.{map, take, Option, Some, None, refl, sym, ap, ◌∙◌}
 use Rattle.std.proofs.lemmas.List.Elements.{All-head, All-tail}
 use Rattle.std.specs.Prelude.{slice_get}
-use Rattle.std.specs.List.{list_all}
+use Rattle.bl_tree.proofs.Basics.{and_first, and_second}
 use Rattle.bl_tree.specs.declared.place.Place.{Place}
 use Rattle.bl_tree.specs.declared.tree.Arm.{Arm, fold-Arm, fold_out-Arm, out-Arm}
 use Rattle.bl_tree.specs.declared.tree.Expr.{Expr}
@@ -18,36 +18,29 @@ use Rattle.bl_tree.specs.Reduce.{all_of, joined}
 use Rattle.bl_tree.specs.Typing.{TypingContext, arm_fits, branch_fits, fits, is_activity, is_inhabited}
 use Rattle.bl_tree.specs.Typing.{is_truth, kind_fits, run_fits, site_of, stmt_fits, type_of}
 use Rattle.bl_tree.proofs.StmtInduction.{Cases, Each, EachArm, induct, stmt}
-use Rattle.bl_eval.proofs.PassLemmas.{and_left, and_right, both}
 use Rattle.bl_limits_measures.specs.Runs.{activities_run}
-use Rattle.bl_limits_measures.proofs.RunLemmas.{
-  activities_are,
-  activities_in as runs_in,
-  activities_in_arm as runs_in_arm,
-  arm_activities as arm_runs,
-  branch_activities as branch_runs,
-  kind_activities as kind_runs,
-  stmt_activities as stmt_layer_runs,
-}
+use Rattle.bl_limits_measures.proofs.RunLemmas.{activities_are, activities_in as runs_in, activities_in_arm as runs_in_arm, arm_activities as arm_runs}
+use Rattle.bl_limits_measures.proofs.RunLemmas.{branch_activities as branch_runs, kind_activities as kind_runs, stmt_activities as stmt_layer_runs}
 use Rattle.bl_emit_acts_laws_wellformed.proofs.OnFormed.Units.{body_stands}
+use Rattle.bl_eval.proofs.UnitFits.{all_listed}
 
 module _ (site : TypingContext) (function : is_activity site.kind ≡ false) where
   abbrev S : Stmt → Type 0
   S s = fits site s ≡ true → runs_in s ≡ []
 
   never : (b : Bool) → (is_activity site.kind && b) ≡ true → ⊥
-  never b h = let no = sym (and_left (is_activity site.kind) b h) ∙ function in cc
+  never b h = let no = sym (and_first (is_activity site.kind) b h) ∙ function in cc
 
   never_run : (target : Option Path) (inputs : List Expr) (outputs : List Path) (callee : Option UnitDef)
       → run_fits site target inputs outputs callee ≡ true → ⊥
   never_run target inputs outputs None h = cc
-  never_run target inputs outputs (Some callee) h = never _ (and_left _ _ h)
+  never_run target inputs outputs (Some callee) h = never _ (and_first _ _ h)
 
   block_none : (body : List Stmt) → Each S body → all_of (map (fits site) body) ≡ true → joined (map runs_in body) ≡ []
   block_none [] each fitted = refl
   block_none (s ∷ body) each fitted =
-      ap (λ runs. runs ++ joined (map runs_in body)) (All-head S s body each (and_left (fits site s) (all_of (map (fits site) body)) fitted))
-      ∙ block_none body (All-tail S s body each) (and_right (fits site s) (all_of (map (fits site) body)) fitted)
+      ap (λ runs. runs ++ joined (map runs_in body)) (All-head S s body each (and_first (fits site s) (all_of (map (fits site) body)) fitted))
+      ∙ block_none body (All-tail S s body each) (and_second (fits site s) (all_of (map (fits site) body)) fitted)
 
   abbrev arm_fitted : Arm → Bool
   arm_fitted = fold-Arm Bool Bool Bool Bool (kind_fits site) (arm_fits site) branch_fits stmt_fits
@@ -60,24 +53,24 @@ module _ (site : TypingContext) (function : is_activity site.kind ≡ false) whe
       let fits_so = sym (fold_out-Arm Bool Bool Bool Bool (kind_fits site) (arm_fits site) branch_fits stmt_fits arm) ∙ fitted in
       fold_out-Arm (List ℕ) (List ℕ) (List ℕ) (List ℕ) kind_runs arm_runs branch_runs stmt_layer_runs arm
       ∙ block_none (out-Arm arm).body each
-      (and_right (is_truth (type_of site (out-Arm arm).test)) (all_of (map (fits site) (out-Arm arm).body)) fits_so)
+      (and_second (is_truth (type_of site (out-Arm arm).test)) (all_of (map (fits site) (out-Arm arm).body)) fits_so)
 
   arms_none : (arms : List Arm) → EachArm S arms → all_of (map arm_fitted arms) ≡ true → joined (map runs_in_arm arms) ≡ []
   arms_none [] each fitted = refl
   arms_none (arm ∷ arms) each fitted =
       ap (λ runs. runs ++ joined (map runs_in_arm arms))
-      (arm_none arm (All-head OfArm arm arms each) (and_left (arm_fitted arm) (all_of (map arm_fitted arms)) fitted))
-      ∙ arms_none arms (All-tail OfArm arm arms each) (and_right (arm_fitted arm) (all_of (map arm_fitted arms)) fitted)
+      (arm_none arm (All-head OfArm arm arms each) (and_first (arm_fitted arm) (all_of (map arm_fitted arms)) fitted))
+      ∙ arms_none arms (All-tail OfArm arm arms each) (and_second (arm_fitted arm) (all_of (map arm_fitted arms)) fitted)
 
   branching_none : (place : Place) (arms : List Arm) (other : List Stmt) → EachArm S arms → Each S other →
       S (stmt place (StmtKind-F.If arms other))
   branching_none place arms other each others fitted =
-      let parts = and_right (is_inhabited (map arm_fitted arms)) (all_of (map arm_fitted arms) && all_of (map (fits site) other))
+      let parts = and_second (is_inhabited (map arm_fitted arms)) (all_of (map arm_fitted arms) && all_of (map (fits site) other))
       (rw (fold-roll-Stmt, fold-roll-StmtKind) at fitted) in
       rw (fold-roll-Stmt, fold-roll-StmtKind)
       (ap (λ runs. runs ++ joined (map runs_in other))
-      (arms_none arms each (and_left (all_of (map arm_fitted arms)) (all_of (map (fits site) other)) parts))
-      ∙ block_none other others (and_right (all_of (map arm_fitted arms)) (all_of (map (fits site) other)) parts))
+      (arms_none arms each (and_first (all_of (map arm_fitted arms)) (all_of (map (fits site) other)) parts))
+      ∙ block_none other others (and_second (all_of (map arm_fitted arms)) (all_of (map (fits site) other)) parts))
 
   cases : Cases S
   cases = record {
@@ -93,21 +86,15 @@ module _ (site : TypingContext) (function : is_activity site.kind ≡ false) whe
         rw (fold-roll-Stmt, fold-roll-StmtKind) (block_none body each (rw (fold-roll-Stmt, fold-roll-StmtKind) at fitted));
     until = λ place body e each fitted.
         let parts = rw (fold-roll-Stmt, fold-roll-StmtKind) at fitted in
-        rw (fold-roll-Stmt, fold-roll-StmtKind) (block_none body each (and_left (all_of (map (fits site) body)) (is_truth (type_of site e)) parts));
+        rw (fold-roll-Stmt, fold-roll-StmtKind) (block_none body each (and_first (all_of (map (fits site) body)) (is_truth (type_of site e)) parts));
     while = λ place e body each fitted.
         let parts = rw (fold-roll-Stmt, fold-roll-StmtKind) at fitted in
-        rw (fold-roll-Stmt, fold-roll-StmtKind) (block_none body each (and_right (is_truth (type_of site e)) (all_of (map (fits site) body)) parts));
+        rw (fold-roll-Stmt, fold-roll-StmtKind) (block_none body each (and_second (is_truth (type_of site e)) (all_of (map (fits site) body)) parts));
     returns = λ place e fitted. rw (fold-roll-Stmt, fold-roll-StmtKind) refl;
   }
 
   body_none : (body : List Stmt) → all_of (map (fits site) body) ≡ true → joined (map runs_in body) ≡ []
   body_none body = block_none body (λ k d within. induct S cases _)
-
-all_listed : (test : Stmt → Bool) (body : List Stmt) → list_all test body ≡ true → all_of (map test body) ≡ true
-all_listed test [] all = refl
-all_listed test (s ∷ body) all =
-    both (test s) (all_of (map test body)) (and_left (test s) (list_all test body) all)
-    (all_listed test body (and_right (test s) (list_all test body) all))
 
 -- a function of a typed program runs nothing
 pub runs_nothing : (structs : List StructDef) (units : List UnitDef) (entry : ℕ) → IsWellTyped structs units entry → (k : ℕ) (unit : UnitDef) →

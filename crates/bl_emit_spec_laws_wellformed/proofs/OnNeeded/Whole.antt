@@ -28,6 +28,7 @@ use Rattle.bl_emit_spec.specs.Programs.{needed_below, needs_at, needs_of, set_fr
 use Rattle.bl_emit_spec_laws_wellformed.proofs.OnNeeded.Places.{placed_any}
 use Rattle.bl_emit_spec_laws_wellformed.proofs.OnNeeded.Runs.{runs_nothing}
 use Rattle.bl_emit_spec_laws_wellformed.specs.Needed.{NeededCells, NeededNumbered, NeededSmall}
+use Rattle.bl_emit_spec_laws_wellformed.proofs.OnClosed.Closed.{entry_there, set_back}
 
 -- ---- sums and greatest ones
 
@@ -40,7 +41,7 @@ among_total f (k ∷ ks) j h = by (nat_eq j k) refl h (among_total f ks j)
     by true is h rest = let same : f j ≡ f k = ap f (eqb-true j k is) in omega (arith, same)
     by false is h rest = let later : f j ≤ total (map f ks) = rest h in omega (arith, later)
 
-among_greatest : (f : ℕ → ℕ) (ks : List ℕ) (j : ℕ) → list_any (nat_eq j) ks ≡ true → f j ≤ greatest (map f ks)
+pub among_greatest : (f : ℕ → ℕ) (ks : List ℕ) (j : ℕ) → list_any (nat_eq j) ks ≡ true → f j ≤ greatest (map f ks)
 among_greatest f [] j h = absurd (cc)
 among_greatest f (k ∷ ks) j h = by (nat_eq j k) refl h (among_greatest f ks j)
   where
@@ -50,12 +51,12 @@ among_greatest f (k ∷ ks) j h = by (nat_eq j k) refl h (among_greatest f ks j)
     by false is h rest = let later : f j ≤ greatest (map f ks) = rest h in omega (arith, later)
 
 -- a function calls what stands in the count of its cells; an activity also runs it
-running_less : (kind : UnitKind) (variables statements running calling n : ℕ) → kind ≡ Activity → n ≤ running →
+pub running_less : (kind : UnitKind) (variables statements running calling n : ℕ) → kind ≡ Activity → n ≤ running →
     n ≤ cells_with kind variables statements running calling
 running_less Activity variables statements running calling n is le = omega (arith, le)
 running_less Function variables statements running calling n is le = absurd (cc)
 
-calling_less : (kind : UnitKind) (variables statements running calling n : ℕ) → n ≤ calling →
+pub calling_less : (kind : UnitKind) (variables statements running calling n : ℕ) → n ≤ calling →
     n ≤ cells_with kind variables statements running calling
 calling_less Function variables statements running calling n le = omega (arith, le)
 calling_less Activity variables statements running calling n le = omega (arith, le)
@@ -100,7 +101,7 @@ less_calls structs units entry k j unit keeps earlier add there needed =
 -- ---- what is needed
 
 -- an element of a list with one more is one of the list, or the last
-seam : {A : Type 0} (xs : List A) (y : A) (j : ℕ) (v : A) → slice_get (xs ++ y ∷ []) j ≡ Some v → (slice_get xs j ≡ Some v)
+pub seam : {A : Type 0} (xs : List A) (y : A) (j : ℕ) (v : A) → slice_get (xs ++ y ∷ []) j ≡ Some v → (slice_get xs j ≡ Some v)
     ⊎ ((j ≡ length xs) × (y ≡ v))
 seam [] y zero v h = inr (refl, same_Some y v h)
 seam [] y (suc j) v h = absurd (cc)
@@ -112,13 +113,13 @@ seam (x ∷ xs) y (suc j) v h = by (seam xs y j v h)
     by (inl h) = inl h
     by (inr h) = inr (ap suc h.0, h.1)
 
-length_tests : (test : ℕ → Bool) (n : ℕ) → length (map test (up_to n)) ≡ n
+pub length_tests : (test : ℕ → Bool) (n : ℕ) → length (map test (up_to n)) ≡ n
 length_tests test zero = refl
 length_tests test (suc n) =
     ap length (map-append test (up_to n) (n ∷ [])) ∙ length_push (map test (up_to n)) (test n)
     ∙ (let rest = length_tests test n in omega (arith, rest))
 
-tested_at : (test : ℕ → Bool) (n j : ℕ) → slice_get (map test (up_to n)) j ≡ Some true → test j ≡ true
+pub tested_at : (test : ℕ → Bool) (n j : ℕ) → slice_get (map test (up_to n)) j ≡ Some true → test j ≡ true
 tested_at test zero j h = absurd (cc)
 tested_at test (suc n) j h =
     by (seam (map test (up_to n)) (test n) j true (ap (λ tests. slice_get tests j) (sym (map-append test (up_to n) (n ∷ []))) ∙ h))
@@ -129,21 +130,6 @@ tested_at test (suc n) j h =
     by (inl h) rest = rest h
     by (inr h) rest = ap test (h.0 ∙ length_tests test n) ∙ h.1
 
--- a test that is set was set before, or stands at one of the positions
-set_at : (positions : List ℕ) (base : ℕ) (needed : List Bool) (j : ℕ) → slice_get (set_from positions base needed) j ≡ Some true →
-    (slice_get needed j ≡ Some true) ⊎ (list_any (nat_eq (base + j)) positions ≡ true)
-set_at positions base [] j h = absurd (cc)
-set_at positions base (true ∷ rest) zero h = inl refl
-set_at positions base (false ∷ rest) zero h =
-    let same : base ≡ base + 0 = omega arith in
-    inr (subst (λ k. list_any (nat_eq k) positions ≡ true) same (same_Some (list_any (nat_eq base) positions) true h))
-set_at positions base (test ∷ rest) (suc j) h = by (set_at positions (suc base) rest j h)
-  where
-    by : (slice_get rest j ≡ Some true) ⊎ (list_any (nat_eq (suc base + j)) positions ≡ true) →
-        (slice_get rest j ≡ Some true) ⊎ (list_any (nat_eq (base + suc j)) positions ≡ true)
-    by (inl h) = inl h
-    by (inr h) = let same : suc base + j ≡ base + suc j = omega arith in inr (subst (λ k. list_any (nat_eq k) positions ≡ true) same h)
-
 module _ (units : List UnitDef) (cells : ℕ → ℕ) (most : ℕ)
     (down : (k j : ℕ) (unit : UnitDef) → slice_get units k ≡ Some unit → list_any (nat_eq j) (needs_of unit) ≡ true →
     cells j ≤ cells k) where
@@ -152,12 +138,12 @@ module _ (units : List UnitDef) (cells : ℕ → ℕ) (most : ℕ)
 
   set_small : (k : ℕ) (needed : List Bool) → Small needed → cells k ≤ most → (o : Option UnitDef) → slice_get units k ≡ o →
       Small (set_from (needs_at o) 0 needed)
-  set_small k needed small own None is j h = by (set_at [] 0 needed j h)
+  set_small k needed small own None is j h = by (set_back [] 0 needed j h)
     where
       by : (slice_get needed j ≡ Some true) ⊎ (list_any (nat_eq (0 + j)) [] ≡ true) → cells j ≤ most
       by (inl h) = small j h
       by (inr h) = absurd (cc)
-  set_small k needed small own (Some unit) is j h = by (set_at (needs_of unit) 0 needed j h)
+  set_small k needed small own (Some unit) is j h = by (set_back (needs_of unit) 0 needed j h)
     where
       by : (slice_get needed j ≡ Some true) ⊎ (list_any (nat_eq (0 + j)) (needs_of unit) ≡ true) → cells j ≤ most
       by (inl h) = small j h
@@ -184,10 +170,6 @@ no_more structs units entry earlier add k keeps needed =
     (map (λ k. nat_eq k entry) (up_to (length units)))
     (λ j h. let same : cells_at structs units j ≡ cells_at structs units entry =
     ap (cells_at structs units) (eqb-true j entry (tested_at (λ k. nat_eq k entry) (length units) j h)) in omega (arith, same)) k needed
-
-entry_there : (o : Option UnitDef) → is_entry o ≡ true → (unit : UnitDef) × (o ≡ Some unit)
-entry_there None h = absurd (cc)
-entry_there (Some unit) h = (unit, refl)
 
 -- and at most a million where the rule doesn't fail
 pub small : (structs : List StructDef) (units : List UnitDef) (entry : ℕ) → NeededCells structs units entry → NeededSmall structs units entry

@@ -5,6 +5,8 @@ use Rattle.std.proofs.Common.{Option, refl, sym, ap, ◌∙◌, subst, arith}
 use Rattle.std.proofs.lemmas.Bool.Decides.{nat_tests}
 use Rattle.std.proofs.lemmas.List.Elements.{All-head, All-tail}
 use Rattle.std.specs.Prelude.{nat_le, slice_get}
+use Rattle.std.proofs.lemmas.Bool.{and_from}
+use Rattle.bl_tree.proofs.Basics.{and_first, and_second, at_most_test}
 use Rattle.bl_tree.specs.declared.place.Place.{Place}
 use Rattle.bl_tree.specs.declared.tree.Arm.{Arm, fold-Arm, fold_out-Arm, out-Arm}
 use Rattle.bl_tree.specs.declared.tree.Branch.{Branch, fold-Branch, fold_out-Branch, out-Branch}
@@ -19,7 +21,6 @@ use Rattle.bl_tree.specs.Depths.{stmt_kind_depth, stmt_layer_depth, target_depth
 use Rattle.bl_tree.specs.Reduce.{all_of}
 use Rattle.bl_tree.specs.Typing.{TypingContext, arm_fits, branch_fits, fits, is_activity, is_inhabited, is_truth, kind_fits, run_fits, stmt_fits, type_of}
 use Rattle.bl_tree.proofs.StmtInduction.{Cases, Each, EachArm, EachBranch, induct, stmt}
-use Rattle.bl_eval.proofs.PassLemmas.{and_left, and_right, both}
 use Rattle.bl_graph_nodes.specs.Nodes.{ActAt, CheckAt, DepthEndAt, DepthJoinAt, EnterAt, ForkAt, HeadAt, Node, PauseAt, ResumeAt}
 use Rattle.bl_graph_nodes.specs.Nodes.{StartAt, SurfaceEndAt, SurfaceJoinAt, TestAt, are_instant, arguments_of, is_instant}
 use Rattle.bl_graph_nodes.specs.Nodes.{nodes_in, nodes_in_each, nodes_of, where_so}
@@ -30,9 +31,6 @@ use Rattle.bl_graph_nodes.specs.Plain.{inside, kind_plain, label_at, passed_one,
 use Rattle.bl_machine_transitions.specs.Callees.{callees_in, callees_in_each, callees_of, zero_where}
 use Rattle.bl_emit_spec_laws_wellformed.specs.Spelled.{node_fits, run_stands}
 use Rattle.bl_emit_spec_laws_wellformed.specs.Nodes.{nodes_fit}
-
-le_test : (n m : ℕ) → n ≤ m → nat_le n m ≡ true
-le_test n m h = grind (arith, nat_tests)
 
 -- numbers and nodes one for one
 record Alike (site : TypingContext) (callees : List ℕ) (nodes : List Node) : Type 0 where
@@ -53,7 +51,7 @@ one_more : (site : TypingContext) (a : ℕ) (n : Node) (callees : List ℕ) (nod
     Alike site (a ∷ callees) (n ∷ nodes)
 one_more site a n callees nodes own rest = record {
   same = ap suc rest.same;
-  fit = both (node_fits site a n) (nodes_fit site callees nodes) own rest.fit;
+  fit = and_from (node_fits site a n) (nodes_fit site callees nodes) own rest.fit;
 }
 
 append_fit : (site : TypingContext) (xs ys : List ℕ) (ms ns : List Node) → Alike site xs ms → Alike site ys ns → Alike site (xs ++ ys) (ms ++ ns)
@@ -63,9 +61,9 @@ append_fit site (x ∷ xs) ys [] ns one other = absurd (let no = one.same in ome
 append_fit site (x ∷ xs) ys (m ∷ ms) ns one other =
     let rest : Alike site xs ms = record {
       same = let is = one.same in omega (arith, is);
-      fit = and_right (node_fits site x m) (nodes_fit site xs ms) one.fit;
+      fit = and_second (node_fits site x m) (nodes_fit site xs ms) one.fit;
     } in
-    one_more site x m (xs ++ ys) (ms ++ ns) (and_left (node_fits site x m) (nodes_fit site xs ms) one.fit) (append_fit site xs ys ms ns rest other)
+    one_more site x m (xs ++ ys) (ms ++ ns) (and_first (node_fits site x m) (nodes_fit site xs ms) one.fit) (append_fit site xs ys ms ns rest other)
 
 where_fit : (site : TypingContext) (test : Bool) (n : Node) → node_fits site 0 n ≡ true → Alike site (zero_where test) (where_so test n)
 where_fit site true n own = one_more site 0 n [] [] own (nothing site)
@@ -97,12 +95,12 @@ module _ (site : TypingContext) where
       append_fit site (callees_of (plain_stmt s (at ++ k ∷ []))) (callees_in (block_from (map plain_stmt body) (suc k) at))
       (nodes_of (plain_stmt s (at ++ k ∷ [])))
       (nodes_in (block_from (map plain_stmt body) (suc k) at))
-      (All-head S s body each (and_left (fits site s) (all_of (map (fits site) body)) fitted) here (at ++ k ∷ []))
-      (blocks_fine body (All-tail S s body each) (and_right (fits site s) (all_of (map (fits site) body)) fitted) later (suc k) at)
+      (All-head S s body each (and_first (fits site s) (all_of (map (fits site) body)) fitted) here (at ++ k ∷ []))
+      (blocks_fine body (All-tail S s body each) (and_second (fits site s) (all_of (map (fits site) body)) fitted) later (suc k) at)
 
   test_fine : (e : Expr) → is_truth (type_of site e) ≡ true → expr_depth e ≤ 200 →
       (is_truth (type_of site e) && nat_le (expr_depth e) 200) ≡ true
-  test_fine e truth deep = both (is_truth (type_of site e)) (nat_le (expr_depth e) 200) truth (le_test (expr_depth e) 200 deep)
+  test_fine e truth deep = and_from (is_truth (type_of site e)) (nat_le (expr_depth e) 200) truth (at_most_test (expr_depth e) 200 deep)
 
   -- ---- arms
 
@@ -127,12 +125,12 @@ module _ (site : TypingContext) where
       subst FineArm
       (sym (fold_out-Arm (Place → Position → Plain) PlainArm PlainBranch (Position → Plain) kind_plain arm_plain branch_plain stmt_plain arm))
       (record {
-        test = test_fine (out-Arm arm).test (and_left (is_truth (type_of site (out-Arm arm).test))
+        test = test_fine (out-Arm arm).test (and_first (is_truth (type_of site (out-Arm arm).test))
             (all_of (map (fits site) (out-Arm arm).body)) fits_so)
             one;
         body = λ at.
             blocks_fine (out-Arm arm).body each
-            (and_right (is_truth (type_of site (out-Arm arm).test)) (all_of (map (fits site) (out-Arm arm).body)) fits_so) other 0 at;
+            (and_second (is_truth (type_of site (out-Arm arm).test)) (all_of (map (fits site) (out-Arm arm).body)) fits_so) other 0 at;
       })
 
   abbrev FineArms : List PlainArm → Type 0
@@ -145,8 +143,8 @@ module _ (site : TypingContext) where
   arms_fine (arm ∷ arms) each fitted deep =
       let here : (deep_arm arm).exprs ≤ 200 = omega (arith, deep) in
       let later : (of_all (map deep_arm arms)).exprs ≤ 200 = omega (arith, deep) in (
-        arm_fine arm (All-head OfArm arm arms each) (and_left (arm_fitted arm) (all_of (map arm_fitted arms)) fitted) here,
-        arms_fine arms (All-tail OfArm arm arms each) (and_right (arm_fitted arm) (all_of (map arm_fitted arms)) fitted) later,
+        arm_fine arm (All-head OfArm arm arms each) (and_first (arm_fitted arm) (all_of (map arm_fitted arms)) fitted) here,
+        arms_fine arms (All-tail OfArm arm arms each) (and_second (arm_fitted arm) (all_of (map arm_fitted arms)) fitted) later,
       )
 
   if_fine : (l : Label) (at : Place) (e : Expr) (body other : Block) → (is_truth (type_of site e) && nat_le (expr_depth e) 200) ≡ true →
@@ -210,9 +208,9 @@ module _ (site : TypingContext) where
       let here : (deep_branch branch).exprs ≤ 200 = omega (arith, deep) in
       let later : (of_all (map deep_branch branches)).exprs ≤ 200 = omega (arith, deep) in (
         branch_fine branch (All-head OfBranch branch branches each)
-            (and_left (branch_fitted branch) (all_of (map branch_fitted branches)) fitted) here,
+            (and_first (branch_fitted branch) (all_of (map branch_fitted branches)) fitted) here,
         branches_fine branches (All-tail OfBranch branch branches each)
-            (and_right (branch_fitted branch) (all_of (map branch_fitted branches)) fitted) later,
+            (and_second (branch_fitted branch) (all_of (map branch_fitted branches)) fitted) later,
       )
 
   bodies_fine : (branches : List PlainBranch) (k : ℕ) (l : Label) → FineBranches branches →
@@ -227,7 +225,7 @@ module _ (site : TypingContext) where
   act_fine : (l : Label) (s : Stmt) → fits site s ≡ true → (depth_of s).exprs ≤ 200 → Fine site (Act l s)
   act_fine l s fitted deep =
       one_more site 0 (ActAt l s) [] []
-      (both (fits site s) (nat_le (depth_of s).exprs 200) fitted (le_test (depth_of s).exprs 200 deep)) (nothing site)
+      (and_from (fits site s) (nat_le (depth_of s).exprs 200) fitted (at_most_test (depth_of s).exprs 200 deep)) (nothing site)
 
   as_fine : (s p : Plain) → s ≡ p → Fine site p → Fine site s
   as_fine s p is fine = subst (Fine site) (sym is) fine
@@ -286,7 +284,7 @@ module _ (site : TypingContext) where
 
     await_case : (e : Expr) → S (stmt place (StmtKind-F.Await e))
     await_case e fitted deep at =
-        let truth = and_right (is_activity site.kind) (is_truth (type_of site e)) (rw (fold-roll-Stmt, fold-roll-StmtKind) at fitted) in
+        let truth = and_second (is_activity site.kind) (is_truth (type_of site e)) (rw (fold-roll-Stmt, fold-roll-StmtKind) at fitted) in
         let within : expr_depth e ≤ 200 = rw (fold-roll-Stmt, fold-roll-StmtKind) at deep in
         as_fine _ _ (await_plain e at)
         (one_more site 0 (PauseAt (label_at at) place) (0 ∷ []) (TestAt (label_at at) place e ∷ []) refl
@@ -297,9 +295,9 @@ module _ (site : TypingContext) where
         let own : run_fits site target inputs outputs (slice_get site.earlier a) ≡ true = rw (fold-roll-Stmt, fold-roll-StmtKind) at fitted in
         let within : max (target_depth target) (arguments_depth inputs outputs) ≤ 200 = rw (fold-roll-Stmt, fold-roll-StmtKind) at deep in
         let stand : run_stands site a (arguments_of target inputs outputs) ≡ true =
-        both (run_fits site target inputs outputs (slice_get site.earlier a))
+        and_from (run_fits site target inputs outputs (slice_get site.earlier a))
         (nat_le (max (target_depth target) (arguments_depth inputs outputs)) 200) own
-        (le_test (max (target_depth target) (arguments_depth inputs outputs)) 200 within) in
+        (at_most_test (max (target_depth target) (arguments_depth inputs outputs)) 200 within) in
         as_fine _ _ (run_plain target a inputs outputs at)
         (one_more site a (EnterAt (label_at at) place (arguments_of target inputs outputs)) (a ∷ [])
         (ResumeAt (label_at at) place (arguments_of target inputs outputs) ∷ []) stand
@@ -308,21 +306,21 @@ module _ (site : TypingContext) where
     branching_case : (arms : List Arm) (other : List Stmt) → EachArm S arms → Each S other → S (stmt place (StmtKind-F.If arms other))
     branching_case arms other each others fitted deep at =
         let parts = rw (fold-roll-Stmt, fold-roll-StmtKind) at fitted in
-        let some = and_left (is_inhabited (map arm_fitted arms)) (all_of (map arm_fitted arms) && all_of (map (fits site) other)) parts in
-        let more = and_right (is_inhabited (map arm_fitted arms)) (all_of (map arm_fitted arms) && all_of (map (fits site) other)) parts in
+        let some = and_first (is_inhabited (map arm_fitted arms)) (all_of (map arm_fitted arms) && all_of (map (fits site) other)) parts in
+        let more = and_second (is_inhabited (map arm_fitted arms)) (all_of (map arm_fitted arms) && all_of (map (fits site) other)) parts in
         let within = rw (fold-roll-Stmt, fold-roll-StmtKind) at deep in
         let in_arms : (of_all (map deep_arm arms)).exprs ≤ 200 = omega (arith, within) in
         let in_other : (of_all (map depth_of other)).exprs ≤ 200 = omega (arith, within) in
         as_fine _ _ (if_plain arms other at)
         (with_fine (label_at at) place (map plain_arm arms) (block_at (map plain_stmt other)) (some_there arm_fitted plain_arm arms some)
-        (arms_fine arms each (and_left (all_of (map arm_fitted arms)) (all_of (map (fits site) other)) more) in_arms)
-        (λ at. blocks_fine other others (and_right (all_of (map arm_fitted arms)) (all_of (map (fits site) other)) more) in_other 0 at))
+        (arms_fine arms each (and_first (all_of (map arm_fitted arms)) (all_of (map (fits site) other)) more) in_arms)
+        (λ at. blocks_fine other others (and_second (all_of (map arm_fitted arms)) (all_of (map (fits site) other)) more) in_other 0 at))
 
     cobegin_case : (branches : List Branch) → EachBranch S branches → S (stmt place (StmtKind-F.Cobegin branches))
     cobegin_case branches each fitted deep at =
         let parts = rw (fold-roll-Stmt, fold-roll-StmtKind) at fitted in
-        let all = and_right (is_inhabited (map branch_fitted branches)) (all_of (map branch_fitted branches))
-        (and_right (is_activity site.kind) (is_inhabited (map branch_fitted branches) && all_of (map branch_fitted branches)) parts) in
+        let all = and_second (is_inhabited (map branch_fitted branches)) (all_of (map branch_fitted branches))
+        (and_second (is_activity site.kind) (is_inhabited (map branch_fitted branches) && all_of (map branch_fitted branches)) parts) in
         let within : (of_all (map deep_branch branches)).exprs ≤ 200 = rw (fold-roll-Stmt, fold-roll-StmtKind) at deep in
         let l : Label = label_at at in
         let bodies : Bodies = bodies_from (map plain_branch branches) 0 l in
@@ -337,7 +335,7 @@ module _ (site : TypingContext) where
 
     guarded_case : (guard : Guard) (e : Expr) (body : List Stmt) → Each S body → S (stmt place (StmtKind-F.When guard e body))
     guarded_case guard e body each fitted deep at =
-        let parts = and_right (is_activity site.kind) (is_truth (type_of site e) && all_of (map (fits site) body))
+        let parts = and_second (is_activity site.kind) (is_truth (type_of site e) && all_of (map (fits site) body))
         (rw (fold-roll-Stmt, fold-roll-StmtKind) at fitted) in
         let within : max (expr_depth e) (of_all (map depth_of body)).exprs ≤ 200 = rw (fold-roll-Stmt, fold-roll-StmtKind) at deep in
         let one : expr_depth e ≤ 200 = omega (arith, within) in
@@ -350,9 +348,9 @@ module _ (site : TypingContext) where
         (append_fit site (zero_where (are_instant inner)) (0 ∷ 0 ∷ callees_in inner) (where_so (are_instant inner) (SurfaceEndAt l place))
         (CheckAt l place e ∷ DepthEndAt l place ∷ nodes_in inner) (where_fit site (are_instant inner) (SurfaceEndAt l place) refl)
         (one_more site 0 (CheckAt l place e) (0 ∷ callees_in inner) (DepthEndAt l place ∷ nodes_in inner)
-        (test_fine e (and_left (is_truth (type_of site e)) (all_of (map (fits site) body)) parts) one)
+        (test_fine e (and_first (is_truth (type_of site e)) (all_of (map (fits site) body)) parts) one)
         (one_more site 0 (DepthEndAt l place) (callees_in inner) (nodes_in inner) refl
-        (blocks_fine body each (and_right (is_truth (type_of site e)) (all_of (map (fits site) body)) parts) other 0 (inside l 0))))))
+        (blocks_fine body each (and_second (is_truth (type_of site e)) (all_of (map (fits site) body)) parts) other 0 (inside l 0))))))
 
     repeat_case : (body : List Stmt) → Each S body → S (stmt place (StmtKind-F.Repeat body))
     repeat_case body each fitted deep at =
@@ -375,8 +373,8 @@ module _ (site : TypingContext) where
         as_fine _ _ (until_plain body e at)
         (one_more site 0 (HeadAt l place) (0 ∷ callees_in inner) (TestAt l place e ∷ nodes_in inner) refl
         (one_more site 0 (TestAt l place e) (callees_in inner) (nodes_in inner)
-        (test_fine e (and_right (all_of (map (fits site) body)) (is_truth (type_of site e)) parts) one)
-        (blocks_fine body each (and_left (all_of (map (fits site) body)) (is_truth (type_of site e)) parts) other 0 (inside l 0))))
+        (test_fine e (and_second (all_of (map (fits site) body)) (is_truth (type_of site e)) parts) one)
+        (blocks_fine body each (and_first (all_of (map (fits site) body)) (is_truth (type_of site e)) parts) other 0 (inside l 0))))
 
     while_case : (e : Expr) (body : List Stmt) → Each S body → S (stmt place (StmtKind-F.While e body))
     while_case e body each fitted deep at =
@@ -388,8 +386,8 @@ module _ (site : TypingContext) where
         let inner : Block = block_at (map plain_stmt body) (inside l 0) in
         as_fine _ _ (while_plain e body at)
         (one_more site 0 (TestAt l place e) (callees_in inner) (nodes_in inner)
-        (test_fine e (and_left (is_truth (type_of site e)) (all_of (map (fits site) body)) parts) one)
-        (blocks_fine body each (and_right (is_truth (type_of site e)) (all_of (map (fits site) body)) parts) other 0 (inside l 0)))
+        (test_fine e (and_first (is_truth (type_of site e)) (all_of (map (fits site) body)) parts) one)
+        (blocks_fine body each (and_second (is_truth (type_of site e)) (all_of (map (fits site) body)) parts) other 0 (inside l 0)))
 
   cases : Cases S
   cases = record {

@@ -2,6 +2,8 @@
 use Rattle.std.proofs.Common.{◌≡◌, ℕ, suc, Bool, true, false, ◌&&◌, List, [], ◌∷◌, ◌++◌, map, refl, ap, ◌∙◌}
 use Rattle.std.proofs.lemmas.List.{map-append}
 use Rattle.std.specs.List.{list_all}
+use Rattle.std.proofs.lemmas.Bool.{and_from}
+use Rattle.bl_tree.proofs.Basics.{and_first, and_second}
 use Rattle.bl_tree.specs.declared.place.Place.{Place}
 use Rattle.bl_tree.specs.declared.tree.Expr.{Expr}
 use Rattle.bl_tree.specs.declared.tree.Guard.{Guard}
@@ -12,7 +14,6 @@ use Rattle.bl_graph_nodes.specs.Plain.{Act, Again, Await, Block, Bodies, Body, C
 use Rattle.bl_machine.specs.Uses.{Slots}
 use Rattle.bl_machine_pass.specs.Transitions.{Change, ClearsBoth, IsNew, RestedIn, SetsCounter, SetsFlag, Transition, age_of, body_ends, counters_in}
 use Rattle.bl_machine_pass.specs.Transitions.{enter, fires, flagged, joins, once, rests_in, rule_where, rules_in, rules_in_each, rules_of}
-use Rattle.bl_eval.proofs.PassLemmas.{and_left, and_right, both}
 use Rattle.bl_emit_spec.specs.Blocks.{Sizes}
 use Rattle.bl_emit_spec_laws_wellformed.specs.Spelled.{all_fit, node_fits, rule_fits}
 use Rattle.bl_emit_spec_laws_wellformed.specs.Nodes.{nodes_fit}
@@ -88,14 +89,14 @@ mutual
       nodes_append (rules_in slots body (SetsCounter (slots.ending l k))) (rules_in_each slots l (suc k) rest)
       ∙ (λ i. of_block slots body (SetsCounter (slots.ending l k)) i ++ of_bodies slots l (suc k) rest i)
 
--- both kinds of what is asked of rules
+-- and_from kinds of what is asked of rules
 pub both-fit : (sizes : Sizes) (site : TypingContext) (callees : List ℕ) (rules : List Transition) → list_all (rule_fits sizes) rules ≡ true →
     nodes_fit site callees (nodes_by rules) ≡ true → all_fit sizes site callees rules ≡ true
 both-fit sizes site [] rules one other = refl
 both-fit sizes site (a ∷ callees) [] one other = refl
 both-fit sizes site (a ∷ callees) (rule ∷ rules) one other =
-    both (rule_fits sizes rule && node_fits site a rule.node) (all_fit sizes site callees rules)
-    (both (rule_fits sizes rule) (node_fits site a rule.node) (and_left (rule_fits sizes rule) (list_all (rule_fits sizes) rules) one)
-    (and_left (node_fits site a rule.node) (nodes_fit site callees (nodes_by rules)) other))
-    (both-fit sizes site callees rules (and_right (rule_fits sizes rule) (list_all (rule_fits sizes) rules) one)
-    (and_right (node_fits site a rule.node) (nodes_fit site callees (nodes_by rules)) other))
+    and_from (rule_fits sizes rule && node_fits site a rule.node) (all_fit sizes site callees rules)
+    (and_from (rule_fits sizes rule) (node_fits site a rule.node) (and_first (rule_fits sizes rule) (list_all (rule_fits sizes) rules) one)
+    (and_first (node_fits site a rule.node) (nodes_fit site callees (nodes_by rules)) other))
+    (both-fit sizes site callees rules (and_second (rule_fits sizes rule) (list_all (rule_fits sizes) rules) one)
+    (and_second (node_fits site a rule.node) (nodes_fit site callees (nodes_by rules)) other))

@@ -1,22 +1,20 @@
 -- The laws of a whole program.
-use Rattle.std.proofs.Common.{◌≡◌, ℕ, ◌≤◌, Bool, true, ◌&&◌, List, [], ◌∷◌, map, take, length, refl, sym, subst, arith}
+use Rattle.std.proofs.Common.{◌≡◌, ℕ, ◌≤◌, Bool, true, ◌&&◌, List, [], ◌∷◌, map, take, length, sym, subst, arith}
 use Rattle.std.proofs.lemmas.Bool.Decides.{nat_tests}
 use Rattle.std.specs.List.{list_all}
 use Rattle.std.specs.Prelude.{nat_le}
-use Rattle.bl_tree.specs.declared.tree.Stmt.{Stmt}
+use Rattle.bl_tree.proofs.Basics.{and_first, and_second}
 use Rattle.bl_tree.specs.declared.tree.StructDef.{StructDef}
 use Rattle.bl_tree.specs.declared.tree.Unit.{Unit as UnitDef}
 use Rattle.bl_tree.specs.declared.tree.Var.{Var}
 use Rattle.bl_tree.specs.Apart.{is_apart}
 use Rattle.bl_tree.specs.Depths.{block, depth_of, is_shallow, of_all}
 use Rattle.bl_tree.specs.Program.{names_of, parameters_of, roles_stand}
-use Rattle.bl_tree.specs.Reduce.{all_of}
 use Rattle.bl_tree.specs.Returns.{unit_returns}
 use Rattle.bl_tree.specs.Types.{type_stands}
 use Rattle.bl_tree.specs.Typing.{TypingContext, fits, site_of}
 use Rattle.bl_tree.specs.Words as words
 use Rattle.bl_tree.specs.Words.{are_distinct}
-use Rattle.bl_eval.proofs.PassLemmas.{and_left, and_right, both}
 use Rattle.bl_graph_nodes.specs.Nodes.{nodes_in}
 use Rattle.bl_machine_pass.specs.Transitions.{Finishes}
 use Rattle.bl_emit_acts_laws_wellformed.proofs.OnFormed.Units.{body_stands, unit_at}
@@ -24,12 +22,7 @@ use Rattle.bl_emit_spec.specs.Activities.{activity_view, body_of, callees_in, ru
 use Rattle.bl_emit_spec_laws_wellformed.specs.Nodes.{NodesStand, RulesFit, nodes_fit}
 use Rattle.bl_emit_spec_laws_wellformed.proofs.OnNodes.Nodes.{body-fine}
 use Rattle.bl_emit_spec_laws_wellformed.proofs.OnNodes.Rules.{both-fit, of_block}
-
-all_listed : (test : Stmt → Bool) (body : List Stmt) → list_all test body ≡ true → all_of (map test body) ≡ true
-all_listed test [] all = refl
-all_listed test (s ∷ body) all =
-    both (test s) (all_of (map test body)) (and_left (test s) (list_all test body) all)
-    (all_listed test body (and_right (test s) (list_all test body) all))
+use Rattle.bl_eval.proofs.UnitFits.{all_listed}
 
 pub stand : (structs : List StructDef) (units : List UnitDef) (entry : ℕ) → NodesStand structs units entry
 stand structs units entry k unit keeps there =
@@ -41,11 +34,11 @@ stand structs units entry k unit keeps there =
     let heads : Bool = roles_stand unit && (list_all words.is_name (names_of unit.vars) && are_distinct (names_of (parameters_of unit))) in
     let all : (heads && (types && (fitted && (unit_returns unit && (deep && apart))))) ≡ true = unit_at structs units entry keeps k unit there in
     let shallow : deep ≡ true =
-    and_left deep apart (and_right (unit_returns unit) (deep && apart) (and_right fitted (unit_returns unit && (deep && apart))
-    (and_right types (fitted && (unit_returns unit && (deep && apart)))
-    (and_right heads (types && (fitted && (unit_returns unit && (deep && apart)))) all)))) in
+    and_first deep apart (and_second (unit_returns unit) (deep && apart) (and_second fitted (unit_returns unit && (deep && apart))
+    (and_second types (fitted && (unit_returns unit && (deep && apart)))
+    (and_second heads (types && (fitted && (unit_returns unit && (deep && apart)))) all)))) in
     let b : nat_le (of_all (map depth_of unit.body)).exprs 200 ≡ true =
-    and_right (nat_le (block 0 (map depth_of unit.body)).blocks 200) _ shallow in
+    and_second (nat_le (block 0 (map depth_of unit.body)).blocks 200) _ shallow in
     let few : (of_all (map depth_of unit.body)).exprs ≤ 200 = grind (arith, nat_tests, b) in
     body-fine site unit.body (all_listed (fits site) unit.body (body_stands structs units entry keeps k unit there)) few
 

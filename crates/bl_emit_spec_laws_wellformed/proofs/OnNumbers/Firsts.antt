@@ -7,8 +7,9 @@ use Rattle.std.proofs.lemmas.List.Sorted.{sum_by-IsPermutation}
 use Rattle.std.proofs.lemmas.List.Sums.{sum_by-append, sum_by-cons, sum_by_push}
 use Rattle.std.specs.List.{list_all}
 use Rattle.std.specs.Prelude.{IsPermutation, option_to_list, slice_get, sum_by}
+use Rattle.std.proofs.lemmas.Bool.{and_from}
+use Rattle.bl_tree.proofs.Basics.{and_first, and_second}
 use Rattle.bl_tree.specs.Reduce.{joined}
-use Rattle.bl_eval.proofs.PassLemmas.{and_left, and_right, both}
 use Rattle.bl_machine.specs.Blocks.{up_to}
 use Rattle.bl_emit_spec.specs.Activities.{first_positions, picked}
 
@@ -58,11 +59,11 @@ module _ {X : Type 0} (w : X → ℕ) (xs : List X) where
 
 one_picked : {X : Type 0} (p : X → Bool) (xs : List X) (k : ℕ) → list_all p xs ≡ true → list_all p (option_to_list (slice_get xs k)) ≡ true
 one_picked p [] k all = refl
-one_picked p (x ∷ xs) zero all = both (p x) true (and_left (p x) (list_all p xs) all) refl
-one_picked p (x ∷ xs) (suc k) all = one_picked p xs k (and_right (p x) (list_all p xs) all)
+one_picked p (x ∷ xs) zero all = and_from (p x) true (and_first (p x) (list_all p xs) all) refl
+one_picked p (x ∷ xs) (suc k) all = one_picked p xs k (and_second (p x) (list_all p xs) all)
 
 pub picked-all : {X : Type 0} (p : X → Bool) (xs : List X) (ks : List ℕ) → list_all p xs ≡ true → list_all p (picked xs ks) ≡ true
 picked-all p xs [] all = refl
 picked-all p xs (k ∷ ks) all =
     list_all-append p (option_to_list (slice_get xs k)) (picked xs ks)
-    ∙ both (list_all p (option_to_list (slice_get xs k))) (list_all p (picked xs ks)) (one_picked p xs k all) (picked-all p xs ks all)
+    ∙ and_from (list_all p (option_to_list (slice_get xs k))) (list_all p (picked xs ks)) (one_picked p xs k all) (picked-all p xs ks all)

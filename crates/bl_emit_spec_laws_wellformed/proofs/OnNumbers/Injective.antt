@@ -1,6 +1,6 @@
 -- No two nodes of a body have one number.
 use Rattle.std.proofs.Common.{◌≡◌, ℕ, zero, suc, ◌+◌, ◌<◌, ◌≤◌, ◌^◌, Bool, true, false, not, ◌&&◌, ◌||◌}
-use Rattle.std.proofs.Common.{List, [], ◌∷◌, map, length, Some, refl, sym, ap, ◌∙◌, subst, arith, inl, inr}
+use Rattle.std.proofs.Common.{List, [], ◌∷◌, map, length, Some, refl, sym, ap, ◌∙◌, arith}
 use Rattle.std.proofs.lemmas.Bool.{eqb-true}
 use Rattle.std.proofs.lemmas.Bool.Decides.{nat_tests}
 use Rattle.std.proofs.lemmas.List.{length_push}
@@ -10,38 +10,19 @@ use Rattle.std.proofs.lemmas.Option.{same_Some, slice_get_within}
 use Rattle.std.proofs.lemmas.Slice.Eq.{bytes_eq-Decides}
 use Rattle.std.specs.List.{list_any}
 use Rattle.std.specs.Prelude.{Contains, IsPermutation, bytes_eq, get_or, nat_eq, nat_lt, slice_get, if◌then◌else◌}
+use Rattle.std.proofs.lemmas.Bool.{and_from, or_from}
+use Rattle.bl_tree.proofs.Basics.{and_first, and_second, less_test, number_itself, or_true}
 use Rattle.bl_machine.specs.Blocks.{up_to}
 use Rattle.bl_graph_nodes.specs.Nodes.{ActAt, CheckAt, DepthEndAt, DepthJoinAt, EnterAt, ForkAt, HeadAt, Node, PauseAt, ResumeAt}
 use Rattle.bl_graph_nodes.specs.Nodes.{StartAt, SurfaceEndAt, SurfaceJoinAt, TestAt, label_of, nodes_in}
 use Rattle.bl_graph_nodes.specs.Plain.{Label, Position, plain_body}
 use Rattle.bl_machine_pass.specs.Numbered.{position_where, same_label, same_node, sort}
-use Rattle.bl_ctree_laws_traces.proofs.OnReady.Keys.{Differ, Has, Same, bodies_differ_so, sort_of}
+use Rattle.bl_ctree_laws_traces.proofs.OnReady.Keys.{Differ, Same, bodies_differ_so, sort_of}
 use Rattle.bl_emit_spec_laws_wellformed.specs.Names.{are_numbers}
 use Rattle.bl_emit_spec_laws_wellformed.specs.Numbers.{NodesNumbered}
+use Rattle.bl_ctree_laws_traces.proofs.OnReady.Keys.{has_at, turned}
 
 -- ---- tests
-
-and-left : (a b : Bool) → (a && b) ≡ true → a ≡ true
-and-left true b _ = refl
-and-left false b all = all
-
-and-right : (a b : Bool) → (a && b) ≡ true → b ≡ true
-and-right true b all = all
-and-right false b all = absurd (cc)
-
-both : (a b : Bool) → a ≡ true → b ≡ true → (a && b) ≡ true
-both true b _ other = other
-both false b one _ = one
-
-neither : (a b : Bool) → a ≡ false → b ≡ false → (a || b) ≡ false
-neither false b one other = other
-neither true b one other = absurd (cc)
-
-eq_itself : (n : ℕ) → nat_eq n n ≡ true
-eq_itself n = grind (arith, nat_tests)
-
-lt_test : (k n : ℕ) → k < n → nat_lt k n ≡ true
-lt_test k n h = grind (arith, nat_tests)
 
 -- ---- where something is found
 
@@ -72,10 +53,6 @@ contains_of k (x ∷ xs) h = by (nat_eq k x) refl h (contains_of k xs)
     by true is h rest = (0, omega arith, sym (eqb-true k x is))
     by false is h rest = let later = rest h in (suc later.0, (let lt = later.1 in omega (arith, lt)), later.2)
 
-right_true : (a : Bool) → (a || true) ≡ true
-right_true true = refl
-right_true false = refl
-
 listed_of : (k : ℕ) (xs : List ℕ) → Contains xs k → list_any (nat_eq k) xs ≡ true
 listed_of k [] has = absurd (let lt = has.1 in omega (arith, lt))
 listed_of k (x ∷ xs) has = by has.0 has.1 has.2 (listed_of k xs)
@@ -90,7 +67,7 @@ listed_of k (x ∷ xs) has = by has.0 has.1 has.2 (listed_of k xs)
 
     by : (i : ℕ) → i < length (x ∷ xs) → get_or (x ∷ xs) i k ≡ k → (Contains xs k → list_any (nat_eq k) xs ≡ true) →
         list_any (nat_eq k) (x ∷ xs) ≡ true
-    by zero lt is rest = first (nat_eq k x) (ap (nat_eq k) is ∙ eq_itself k)
+    by zero lt is rest = first (nat_eq k x) (ap (nat_eq k) is ∙ number_itself k)
     by (suc i) lt is rest = later (nat_eq k x) (rest (i, omega (arith, lt), is))
 
 in_first : (n k : ℕ) → k < n → list_any (nat_eq k) (up_to n) ≡ true
@@ -99,7 +76,7 @@ in_first (suc n) k less = list_any-append (nat_eq k) (up_to n) (n ∷ []) ∙ by
   where
     by : (b : Bool) → nat_eq k n ≡ b → (k < n → list_any (nat_eq k) (up_to n) ≡ true) →
         (list_any (nat_eq k) (up_to n) || (b || false)) ≡ true
-    by true is rest = right_true (list_any (nat_eq k) (up_to n))
+    by true is rest = or_true (list_any (nat_eq k) (up_to n))
     by false is rest = let lt : k < n = grind (arith, nat_tests, less, is) in ap (λ t. t || false) (rest lt)
 
 -- ---- nodes
@@ -121,34 +98,26 @@ same_sort (DepthJoinAt l at) = refl
 
 node_itself : (n : Node) → same_node n n ≡ true
 node_itself n =
-    both (same_label (label_of n) (label_of n)) (nat_eq (sort n) (sort n))
-    (both (bytes_eq (label_of n).position (label_of n).position) (nat_eq (label_of n).passed (label_of n).passed)
-    ((bytes_eq-Decides (label_of n).position (label_of n).position).1 refl) (eq_itself (label_of n).passed)) (eq_itself (sort n))
+    and_from (same_label (label_of n) (label_of n)) (nat_eq (sort n) (sort n))
+    (and_from (bytes_eq (label_of n).position (label_of n).position) (nat_eq (label_of n).passed (label_of n).passed)
+    ((bytes_eq-Decides (label_of n).position (label_of n).position).1 refl) (number_itself (label_of n).passed)) (number_itself (sort n))
 
 abbrev label_with : Position → ℕ → Label
 label_with position passed = record { position = position; passed = passed }
 
 same_of : (n m : Node) → same_node n m ≡ true → Same n m
 same_of n m h =
-    let labels = and-left (same_label (label_of n) (label_of m)) (nat_eq (sort n) (sort m)) h in
+    let labels = and_first (same_label (label_of n) (label_of m)) (nat_eq (sort n) (sort m)) h in
     let position : (label_of n).position ≡ (label_of m).position =
     (bytes_eq-Decides (label_of n).position (label_of m).position).0
-    (and-left (bytes_eq (label_of n).position (label_of m).position) (nat_eq (label_of n).passed (label_of m).passed) labels) in
+    (and_first (bytes_eq (label_of n).position (label_of m).position) (nat_eq (label_of n).passed (label_of m).passed) labels) in
     let passed : (label_of n).passed ≡ (label_of m).passed =
     eqb-true (label_of n).passed (label_of m).passed
-    (and-right (bytes_eq (label_of n).position (label_of m).position) (nat_eq (label_of n).passed (label_of m).passed) labels) in record {
+    (and_second (bytes_eq (label_of n).position (label_of m).position) (nat_eq (label_of n).passed (label_of m).passed) labels) in record {
       label = (λ i. label_with (position i) (passed i));
       sort = same_sort n
-          ∙ eqb-true (sort n) (sort m) (and-right (same_label (label_of n) (label_of m)) (nat_eq (sort n) (sort m)) h) ∙ sym (same_sort m);
+          ∙ eqb-true (sort n) (sort m) (and_second (same_label (label_of n) (label_of m)) (nat_eq (sort n) (sort m)) h) ∙ sym (same_sort m);
     }
-
-turned : (n m : Node) → Same n m → Same m n
-turned n m same = record { label = sym same.label; sort = sym same.sort }
-
-has_at : (xs : List Node) (i : ℕ) (x n : Node) → slice_get xs i ≡ Some n → Same x n → Has xs x
-has_at [] i x n is same = absurd (cc)
-has_at (y ∷ xs) zero x n is same = inl (subst (Same x) (sym (same_Some y n is)) same)
-has_at (y ∷ xs) (suc i) x n is same = inr (has_at xs i x n is same)
 
 index_at : (xs : List Node) (i : ℕ) (n : Node) → Differ xs → slice_get xs i ≡ Some n → position_where (same_node n) xs ≡ i
 index_at [] i n differ there = absurd (cc)
@@ -198,7 +167,7 @@ module _ (nodes : List Node) (order : List ℕ) (differ : Differ nodes) (small :
       by true is =
           let same : i ≡ j =
           same_Some i j (sym (there i less) ∙ ap (slice_get order) (eqb-true (place i) (place j) is) ∙ there j least) in
-          absurd (let no : true ≡ false = sym (eq_itself i) ∙ ap (nat_eq i) same ∙ other in cc)
+          absurd (let no : true ≡ false = sym (number_itself i) ∙ ap (nat_eq i) same ∙ other in cc)
 
   number_at : (i : ℕ) (n : Node) → slice_get nodes i ≡ Some n → number n ≡ place i
   number_at i n is = ap place (index_at nodes i n differ is)
@@ -214,7 +183,7 @@ module _ (nodes : List Node) (order : List ℕ) (differ : Differ nodes) (small :
       let before : p < length nodes = omega (arith, less, within) in
       let other : nat_eq p i ≡ false = grind (arith, nat_tests, less) in
       let next : p < i + 1 = omega (arith, less) in
-      neither (nat_eq (place p) (number x)) (list_any (nat_eq (place p)) (map number xs))
+      or_from (nat_eq (place p) (number x)) (list_any (nat_eq (place p)) (map number xs))
       (ap (nat_eq (place p)) (number_at i x own) ∙ apart p i before within other)
       (none_later p (i + 1) xs next (λ j. behind (suc j) ∙ ap (slice_get nodes) (let same : i + suc j ≡ (i + 1) + j = omega arith in same)))
 
@@ -225,9 +194,9 @@ module _ (nodes : List Node) (order : List ℕ) (differ : Differ nodes) (small :
       let own : slice_get nodes i ≡ Some x = ap (slice_get nodes) (sym none) ∙ sym (behind 0) in
       let later = λ (j : ℕ). behind (suc j) ∙ ap (slice_get nodes) (let same : i + suc j ≡ (i + 1) + j = omega arith in same) in
       let next : i < i + 1 = omega arith in
-      both (nat_lt (number x) (2 ^ 64)) (not (list_any (nat_eq (number x)) (map number xs)) && are_numbers (map number xs))
-      (lt_test (number x) (2 ^ 64) (place_small (position_where (same_node x) nodes)))
-      (both (not (list_any (nat_eq (number x)) (map number xs))) (are_numbers (map number xs))
+      and_from (nat_lt (number x) (2 ^ 64)) (not (list_any (nat_eq (number x)) (map number xs)) && are_numbers (map number xs))
+      (less_test (number x) (2 ^ 64) (place_small (position_where (same_node x) nodes)))
+      (and_from (not (list_any (nat_eq (number x)) (map number xs))) (are_numbers (map number xs))
       (ap (λ k. not (list_any (nat_eq k) (map number xs))) (number_at i x own) ∙ ap not (none_later i (i + 1) xs next later))
       (numbers_from (i + 1) xs later))
 

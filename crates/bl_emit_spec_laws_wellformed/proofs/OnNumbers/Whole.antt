@@ -7,6 +7,8 @@ use Rattle.std.proofs.lemmas.List.Folds.{list_all-append}
 use Rattle.std.proofs.lemmas.List.Sums.{sum_by-append, sum_by-cons}
 use Rattle.std.specs.List.{list_all, list_any}
 use Rattle.std.specs.Prelude.{IsPermutation, nat_eq, nat_lt, sum_by, if◌then◌else◌}
+use Rattle.std.proofs.lemmas.Bool.{and_from, not-true, or_from}
+use Rattle.bl_tree.proofs.Basics.{and_first, and_second, neither_first, neither_second}
 use Rattle.bl_tree.specs.Reduce.{joined}
 use Rattle.bl_machine.specs.Blocks.{up_to}
 use Rattle.bl_graph_nodes.specs.Nodes.{ActAt, CheckAt, DepthEndAt, DepthJoinAt, EnterAt, ForkAt, HeadAt, Node, PauseAt, ResumeAt}
@@ -20,34 +22,6 @@ use Rattle.bl_emit_spec_laws_wellformed.proofs.OnNodes.Rules.{of_block as nodes_
 use Rattle.bl_emit_spec_laws_wellformed.specs.Numbers.{EachStandsOnce, NumbersFollow}
 use Rattle.bl_emit_spec_laws_wellformed.proofs.OnNumbers.Firsts.{picked-all, picked-less}
 use Rattle.bl_emit_spec_laws_wellformed.proofs.OnNumbers.Marks.{AllOwn, None_set, Own_set, Owns, of_block}
-
-and-left : (a b : Bool) → (a && b) ≡ true → a ≡ true
-and-left true b _ = refl
-and-left false b all = all
-
-and-right : (a b : Bool) → (a && b) ≡ true → b ≡ true
-and-right true b all = all
-and-right false b all = absurd (cc)
-
-both : (a b : Bool) → a ≡ true → b ≡ true → (a && b) ≡ true
-both true b _ other = other
-both false b one _ = one
-
-neither : (a b : Bool) → a ≡ false → b ≡ false → (a || b) ≡ false
-neither false b one other = other
-neither true b one other = absurd (cc)
-
-first_none : (p q : Bool) → (p || q) ≡ false → p ≡ false
-first_none false q h = refl
-first_none true q h = absurd (cc)
-
-later_none : (p q : Bool) → (p || q) ≡ false → q ≡ false
-later_none false q h = h
-later_none true q h = absurd (cc)
-
-not-false : (b : Bool) → not b ≡ true → b ≡ false
-not-false false h = refl
-not-false true h = absurd (let no : false ≡ true = h in cc)
 
 -- numbers that something has: none, or its own
 data Few (n : ℕ) (ns : List ℕ) : Type 0 where
@@ -65,20 +39,20 @@ nothing_of = record { none = λ k h. refl; numbers = λ all. refl }
 more_of : (n : ℕ) (ns all some : List ℕ) → Few n ns → Some_of all some → Some_of (n ∷ all) (ns ++ some)
 more_of n ns all some (Nothing_of is) rest =
     subst (λ ns. Some_of (n ∷ all) (ns ++ some)) (sym is) (record {
-      none = λ k h. rest.none k (later_none (nat_eq k n) (list_any (nat_eq k) all) h);
-      numbers = λ h. rest.numbers (and-right (not (list_any (nat_eq n) all)) (are_numbers all) (and-right (nat_lt n (2 ^ 64)) _ h));
+      none = λ k h. rest.none k (neither_second (nat_eq k n) (list_any (nat_eq k) all) h);
+      numbers = λ h. rest.numbers (and_second (not (list_any (nat_eq n) all)) (are_numbers all) (and_second (nat_lt n (2 ^ 64)) _ h));
     })
 more_of n ns all some (Just_own is) rest =
     subst (λ ns. Some_of (n ∷ all) (ns ++ some)) (sym is) (record {
       none = λ k h.
-          neither (nat_eq k n) (list_any (nat_eq k) some) (first_none (nat_eq k n) (list_any (nat_eq k) all) h)
-          (rest.none k (later_none (nat_eq k n) (list_any (nat_eq k) all) h));
+          or_from (nat_eq k n) (list_any (nat_eq k) some) (neither_first (nat_eq k n) (list_any (nat_eq k) all) h)
+          (rest.none k (neither_second (nat_eq k n) (list_any (nat_eq k) all) h));
       numbers = λ h.
-          let more = and-right (nat_lt n (2 ^ 64)) _ h in
-          both (nat_lt n (2 ^ 64)) (not (list_any (nat_eq n) some) && are_numbers some) (and-left (nat_lt n (2 ^ 64)) _ h)
-          (both (not (list_any (nat_eq n) some)) (are_numbers some)
-          (ap not (rest.none n (not-false (list_any (nat_eq n) all) (and-left (not (list_any (nat_eq n) all)) (are_numbers all) more))))
-          (rest.numbers (and-right (not (list_any (nat_eq n) all)) (are_numbers all) more)));
+          let more = and_second (nat_lt n (2 ^ 64)) _ h in
+          and_from (nat_lt n (2 ^ 64)) (not (list_any (nat_eq n) some) && are_numbers some) (and_first (nat_lt n (2 ^ 64)) _ h)
+          (and_from (not (list_any (nat_eq n) some)) (are_numbers some)
+          (ap not (rest.none n (not-true (list_any (nat_eq n) all) (and_first (not (list_any (nat_eq n) all)) (are_numbers all) more))))
+          (rest.numbers (and_second (not (list_any (nat_eq n) all)) (are_numbers all) more)));
     })
 
 fewer_of : (n : ℕ) (all some : List ℕ) → Some_of all some → Some_of (n ∷ all) some
@@ -104,8 +78,8 @@ none_times : (k : ℕ) (ns : List ℕ) → list_any (nat_eq k) ns ≡ false → 
 none_times k [] none = refl
 none_times k (n ∷ ns) none =
     let sum = sum_by-cons (λ n. as_one (nat_eq k n)) n ns in
-    let first : as_one (nat_eq k n) ≡ 0 = ap as_one (first_none (nat_eq k n) (list_any (nat_eq k) ns) none) in
-    let later = none_times k ns (later_none (nat_eq k n) (list_any (nat_eq k) ns) none) in
+    let first : as_one (nat_eq k n) ≡ 0 = ap as_one (neither_first (nat_eq k n) (list_any (nat_eq k) ns) none) in
+    let later = none_times k ns (neither_second (nat_eq k n) (list_any (nat_eq k) ns) none) in
     omega (arith, sum, first, later)
 
 some_times : (k : ℕ) (ns : List ℕ) → list_any (nat_eq k) ns ≡ true → 1 ≤ times k ns
@@ -124,10 +98,10 @@ some_times k (n ∷ ns) some = by (nat_eq k n) refl some (some_times k ns)
 numbers_once : (ns : List ℕ) → are_numbers ns ≡ true → (k : ℕ) → times k ns ≤ 1
 numbers_once [] all k = omega arith
 numbers_once (n ∷ ns) all k =
-    by (nat_eq k n) refl (numbers_once ns (and-right (not (list_any (nat_eq n) ns)) (are_numbers ns) more) k)
+    by (nat_eq k n) refl (numbers_once ns (and_second (not (list_any (nat_eq n) ns)) (are_numbers ns) more) k)
   where
     more : (not (list_any (nat_eq n) ns) && are_numbers ns) ≡ true
-    more = and-right (nat_lt n (2 ^ 64)) (not (list_any (nat_eq n) ns) && are_numbers ns) all
+    more = and_second (nat_lt n (2 ^ 64)) (not (list_any (nat_eq n) ns) && are_numbers ns) all
 
     sum : times k (n ∷ ns) ≡ as_one (nat_eq k n) + times k ns
     sum = sum_by-cons (λ n. as_one (nat_eq k n)) n ns
@@ -138,7 +112,7 @@ numbers_once (n ∷ ns) all k =
     by : (b : Bool) → nat_eq k n ≡ b → times k ns ≤ 1 → times k (n ∷ ns) ≤ 1
     by true is rest =
         let none : times n ns ≡ 0 =
-        none_times n ns (not-false (list_any (nat_eq n) ns) (and-left (not (list_any (nat_eq n) ns)) (are_numbers ns) more)) in
+        none_times n ns (not-true (list_any (nat_eq n) ns) (and_first (not (list_any (nat_eq n) ns)) (are_numbers ns) more)) in
         let other : times k ns ≡ 0 = ap (λ j. times j ns) (same_number is) ∙ none in
         let one : as_one (nat_eq k n) ≡ 1 = ap as_one is in
         let whole = sum in omega (arith, one, other, whole)
@@ -152,17 +126,17 @@ small n = nat_lt n (2 ^ 64)
 numbers_small : (ns : List ℕ) → are_numbers ns ≡ true → list_all small ns ≡ true
 numbers_small [] all = refl
 numbers_small (n ∷ ns) all =
-    let more = and-right (nat_lt n (2 ^ 64)) (not (list_any (nat_eq n) ns) && are_numbers ns) all in
-    both (small n) (list_all small ns) (and-left (nat_lt n (2 ^ 64)) _ all)
-    (numbers_small ns (and-right (not (list_any (nat_eq n) ns)) (are_numbers ns) more))
+    let more = and_second (nat_lt n (2 ^ 64)) (not (list_any (nat_eq n) ns) && are_numbers ns) all in
+    and_from (small n) (list_all small ns) (and_first (nat_lt n (2 ^ 64)) _ all)
+    (numbers_small ns (and_second (not (list_any (nat_eq n) ns)) (are_numbers ns) more))
 
 -- small numbers that stand once each differ
 once_numbers : (ns : List ℕ) → list_all small ns ≡ true → ((k : ℕ) → times k ns ≤ 1) → are_numbers ns ≡ true
 once_numbers [] all once = refl
 once_numbers (n ∷ ns) all once =
-    both (small n) (not (list_any (nat_eq n) ns) && are_numbers ns) (and-left (small n) (list_all small ns) all)
-    (both (not (list_any (nat_eq n) ns)) (are_numbers ns) (by (list_any (nat_eq n) ns) refl)
-    (once_numbers ns (and-right (small n) (list_all small ns) all) less))
+    and_from (small n) (not (list_any (nat_eq n) ns) && are_numbers ns) (and_first (small n) (list_all small ns) all)
+    (and_from (not (list_any (nat_eq n) ns)) (are_numbers ns) (by (list_any (nat_eq n) ns) refl)
+    (once_numbers ns (and_second (small n) (list_all small ns) all) less))
   where
     sum : (k : ℕ) → times k (n ∷ ns) ≡ as_one (nat_eq k n) + times k ns
     sum k = sum_by-cons (λ n. as_one (nat_eq k n)) n ns
@@ -216,19 +190,19 @@ module _ (number : Node → ℕ) where
   rules_small : (rules : List Transition) → list_all small (numbers_of rules) ≡ true → list_all rule_small rules ≡ true
   rules_small [] all = refl
   rules_small (rule ∷ rules) all =
-      both (rule_small rule) (list_all rule_small rules) (and-left (rule_small rule) (list_all small (numbers_of rules)) all)
-      (rules_small rules (and-right (rule_small rule) (list_all small (numbers_of rules)) all))
+      and_from (rule_small rule) (list_all rule_small rules) (and_first (rule_small rule) (list_all small (numbers_of rules)) all)
+      (rules_small rules (and_second (rule_small rule) (list_all small (numbers_of rules)) all))
 
   flags_small : (rules : List Transition) → list_all rule_small rules ≡ true → list_all small (flags_of rules) ≡ true
   flags_small [] all = refl
   flags_small (rule ∷ rules) all =
       list_all-append small (flag_number number rule) (flags_of rules)
-      ∙ both (list_all small (flag_number number rule)) (list_all small (flags_of rules))
-      (by (is_flagged rule.condition) (and-left (rule_small rule) (list_all rule_small rules) all))
-      (flags_small rules (and-right (rule_small rule) (list_all rule_small rules) all))
+      ∙ and_from (list_all small (flag_number number rule)) (list_all small (flags_of rules))
+      (by (is_flagged rule.condition) (and_first (rule_small rule) (list_all rule_small rules) all))
+      (flags_small rules (and_second (rule_small rule) (list_all rule_small rules) all))
     where
       by : (b : Bool) → rule_small rule ≡ true → list_all small (if b then number rule.node ∷ [] else []) ≡ true
-      by true own = both (rule_small rule) true own refl
+      by true own = and_from (rule_small rule) true own refl
       by false own = refl
 
   -- the flags of nodes that stand first in blocks differ

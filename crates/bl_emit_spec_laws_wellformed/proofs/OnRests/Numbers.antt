@@ -8,26 +8,20 @@ use Rattle.std.proofs.lemmas.List.{length_push}
 use Rattle.std.proofs.lemmas.List.Sums.{count_by-le-length, sum_by-cons, sum_by_push}
 use Rattle.std.proofs.lemmas.Option.{slice_get-map, slice_get_within}
 use Rattle.std.specs.Prelude.{if◌then◌else◌, int_le, nat_eq, nat_le, nat_lt, option_map, slice_get, unwrap_or}
+use Rattle.std.proofs.lemmas.Bool.{and_from}
+use Rattle.bl_tree.proofs.Basics.{at_most_test, get_in_front, less_test, number_itself}
 use Rattle.bl_tree.specs.declared.scalar.Scalar.TheVariants.{Nat}
 use Rattle.bl_tree.specs.declared.scalar.Width.TheVariants.{W8, W16, W32}
 use Rattle.bl_tree.specs.Reduce.{greatest}
 use Rattle.bl_tree.specs.Scalar.{in_range}
-use Rattle.bl_eval.proofs.PassLemmas.{both, get_front, get_seam}
+use Rattle.bl_eval.proofs.PassLemmas.{get_seam}
 use Rattle.bl_machine.specs.declared.slots.Slot.{Slot}
 use Rattle.bl_machine.specs.Blocks.{up_to}
 use Rattle.bl_machine.specs.Slots.{counters_at, numbered_after, numbered_slots, times}
 use Rattle.bl_machine_pass.specs.Numbered.{sizes_for, sizes_of}
 use Rattle.bl_emit_spec.specs.Blocks.{counter_type, type_for}
 use Rattle.bl_emit_spec_laws_wellformed.specs.Spelled.{slot_fits}
-
-le_test : (n m : ℕ) → n ≤ m → nat_le n m ≡ true
-le_test n m h = grind (arith, nat_tests)
-
-lt_test : (n m : ℕ) → n < m → nat_lt n m ≡ true
-lt_test n m h = grind (arith, nat_tests)
-
-eq_itself : (n : ℕ) → nat_eq n n ≡ true
-eq_itself n = grind (arith, nat_tests)
+use Rattle.bl_machine_pass_laws.proofs.OnSlots.Numbering.{first_is}
 
 -- ---- values count up
 
@@ -36,7 +30,7 @@ abbrev hit : ℕ → ℕ → ℕ
 hit counter other = cond (nat_eq other counter) 1 0
 
 hit_itself : (k : ℕ) → hit k k ≡ 1
-hit_itself k = ap (λ b. cond b 1 0) (eq_itself k)
+hit_itself k = ap (λ b. cond b 1 0) (number_itself k)
 
 times_first : (counter other : ℕ) (rest : List ℕ) →
     times counter (other ∷ rest) ≡ hit counter other + times counter rest
@@ -45,9 +39,6 @@ times_first counter other rest = sum_by-cons (hit counter) other rest
 times_last : (counter other : ℕ) (before : List ℕ) →
     times counter (before ++ other ∷ []) ≡ times counter before + hit counter other
 times_last counter other before = sum_by_push (hit counter) before other
-
-first_is : (x y : Slot) → Some x ≡ Some y → x ≡ y
-first_is x y is = cc
 
 -- no value is greater than the number of those that have its counter
 values_low : (before counters : List ℕ) (i : ℕ) (x : Slot) → slice_get (numbered_after before counters) i ≡ Some x →
@@ -75,7 +66,7 @@ up_at zero k less = absurd (omega (arith, less))
 up_at (suc n) k less = by (nat_lt k n) refl (up_at n k)
   where
     by : (b : Bool) → nat_lt k n ≡ b → (k < n → slice_get (up_to n) k ≡ Some k) → slice_get (up_to n ++ n ∷ []) k ≡ Some k
-    by true is rest = let lt : k < n = grind (arith, nat_tests, is) in get_front (up_to n) (n ∷ []) k k (rest lt)
+    by true is rest = let lt : k < n = grind (arith, nat_tests, is) in get_in_front (up_to n) (n ∷ []) k k (rest lt)
     by false is rest =
         let same : k ≡ n = grind (arith, nat_tests, less, is) in
         let many = up_length n in
@@ -101,18 +92,18 @@ typed : (n v : ℕ) → v ≤ n → n < 2 ^ 32 → in_range (type_for n) (pos v)
 typed n v below small = by (nat_le n 255) (nat_le n 65535) refl refl
   where
     least : int_le (pos 0) (pos v) ≡ true
-    least = le_test 0 v (omega arith)
+    least = at_most_test 0 v (omega arith)
 
     by : (a b : Bool) → nat_le n 255 ≡ a → nat_le n 65535 ≡ b →
         in_range (if a then Nat W8 else if b then Nat W16 else Nat W32) (pos v) ≡ true
     by true b one two =
         let n_low : n ≤ 255 = grind (arith, nat_tests, one) in
-        both (int_le (pos 0) (pos v)) (int_le (pos v) (pos 255)) least (le_test v 255 (omega (arith, below, n_low)))
+        and_from (int_le (pos 0) (pos v)) (int_le (pos v) (pos 255)) least (at_most_test v 255 (omega (arith, below, n_low)))
     by false true one two =
         let n_low : n ≤ 65535 = grind (arith, nat_tests, two) in
-        both (int_le (pos 0) (pos v)) (int_le (pos v) (pos 65535)) least (le_test v 65535 (omega (arith, below, n_low)))
+        and_from (int_le (pos 0) (pos v)) (int_le (pos v) (pos 65535)) least (at_most_test v 65535 (omega (arith, below, n_low)))
     by false false one two =
-        both (int_le (pos 0) (pos v)) (int_le (pos v) (pos 4294967295)) least (le_test v 4294967295 (omega (arith, below, small)))
+        and_from (int_le (pos 0) (pos v)) (int_le (pos v) (pos 4294967295)) least (at_most_test v 4294967295 (omega (arith, below, small)))
 
 -- each number in the list fits
 pub number_fits : (list : List Slot) → list ≡ numbered_slots (counters_at list) → length list < 2 ^ 32 → length (sizes_of list) ≤ 2 ^ 64 →
@@ -129,8 +120,8 @@ number_fits list values small few i x is =
     let inside : x.counter < length (sizes_of list) = slice_get_within (sizes_of list) x.counter (times x.counter counters) size in
     let kind : type_for (times x.counter counters) ≡ counter_type (sizes_of list) x.counter =
     sym (ap (λ (size : Option ℕ). type_for (unwrap_or size 0)) size) in
-    both (nat_lt x.counter (2 ^ 64)) (in_range (counter_type (sizes_of list) x.counter) (pos x.value))
-    (lt_test x.counter (2 ^ 64) (omega (arith, inside, few)))
+    and_from (nat_lt x.counter (2 ^ 64)) (in_range (counter_type (sizes_of list) x.counter) (pos x.value))
+    (less_test x.counter (2 ^ 64) (omega (arith, inside, few)))
     (subst (λ s. in_range s (pos x.value) ≡ true) kind
     (typed (times x.counter counters) x.value (omega (arith, low)) (omega (arith, many, same, small))))
   where

@@ -6,11 +6,12 @@ use Rattle.std.proofs.lemmas.Bool.Decides.{nat_tests}
 use Rattle.std.proofs.lemmas.List.Folds.{list_all-append}
 use Rattle.std.specs.List.{list_all, list_any}
 use Rattle.std.specs.Prelude.{if◌then◌else◌, nat_eq, nat_le, nat_lt}
+use Rattle.std.proofs.lemmas.Bool.{and_from}
+use Rattle.bl_tree.proofs.Basics.{all_append, and_first, and_second, at_most_test, number_test}
 use Rattle.bl_tree.specs.declared.place.Place.{Place}
 use Rattle.bl_tree.specs.declared.tree.Expr.{Expr}
 use Rattle.bl_tree.specs.declared.tree.Guard.{Guard}
 use Rattle.bl_tree.specs.declared.tree.Guard.TheVariants.{Abort, Reset}
-use Rattle.bl_eval.proofs.PassLemmas.{and_left, and_right, both}
 use Rattle.bl_graph_nodes.specs.Nodes.{CheckAt, DepthEndAt, DepthJoinAt, EnterAt, ForkAt, HeadAt, Node, PauseAt, ResumeAt, StartAt}
 use Rattle.bl_graph_nodes.specs.Nodes.{SurfaceEndAt, SurfaceJoinAt, TestAt, are_instant, arguments_of, is_instant, some_strong, ActAt}
 use Rattle.bl_graph_nodes.specs.Plain.{Act, Again, Await, Block, Bodies, Body as BodyOf, Cobegin, Done, If, Label, Last, Plain}
@@ -26,33 +27,23 @@ use Rattle.bl_machine_pass.specs.Transitions.{Flagged, Rested, RestedIn, rules_i
 use Rattle.bl_emit_spec.specs.Blocks.{Sizes}
 use Rattle.bl_emit_spec_laws_wellformed.specs.Spelled.{change_fits, condition_fits, rule_fits, slot_fits, slots_fit}
 
-le_test : (n m : ℕ) → n ≤ m → nat_le n m ≡ true
-le_test n m h = grind (arith, nat_tests)
-
-eq_test : (n m : ℕ) → n ≡ m → nat_eq n m ≡ true
-eq_test n m h = grind (arith, nat_tests)
-
 -- ---- tests of lists
 
 all_left : {X : Type 0} (test : X → Bool) (xs ys : List X) → list_all test (xs ++ ys) ≡ true → list_all test xs ≡ true
-all_left test xs ys h = and_left (list_all test xs) (list_all test ys) (sym (list_all-append test xs ys) ∙ h)
+all_left test xs ys h = and_first (list_all test xs) (list_all test ys) (sym (list_all-append test xs ys) ∙ h)
 
 all_right : {X : Type 0} (test : X → Bool) (xs ys : List X) → list_all test (xs ++ ys) ≡ true → list_all test ys ≡ true
-all_right test xs ys h = and_right (list_all test xs) (list_all test ys) (sym (list_all-append test xs ys) ∙ h)
-
-all_both : {X : Type 0} (test : X → Bool) (xs ys : List X) → list_all test xs ≡ true → list_all test ys ≡ true →
-    list_all test (xs ++ ys) ≡ true
-all_both test xs ys one other = list_all-append test xs ys ∙ both (list_all test xs) (list_all test ys) one other
+all_right test xs ys h = and_second (list_all test xs) (list_all test ys) (sym (list_all-append test xs ys) ∙ h)
 
 all_first : {X : Type 0} (test : X → Bool) (x : X) (xs : List X) → list_all test (x ∷ xs) ≡ true → test x ≡ true
-all_first test x xs h = and_left (test x) (list_all test xs) h
+all_first test x xs h = and_first (test x) (list_all test xs) h
 
 all_later : {X : Type 0} (test : X → Bool) (x : X) (xs : List X) → list_all test (x ∷ xs) ≡ true → list_all test xs ≡ true
-all_later test x xs h = and_right (test x) (list_all test xs) h
+all_later test x xs h = and_second (test x) (list_all test xs) h
 
 all_with : {X : Type 0} (test : X → Bool) (x : X) (xs : List X) → test x ≡ true → list_all test xs ≡ true →
     list_all test (x ∷ xs) ≡ true
-all_with test x xs one other = both (test x) (list_all test xs) one other
+all_with test x xs one other = and_from (test x) (list_all test xs) one other
 
 -- ---- resting places that fit
 
@@ -109,22 +100,19 @@ module _ (slots : Slots) (sizes : Sizes) where
   abbrev ok : Spot → Bool
   ok p = slot_fits sizes (slot_at slots p)
 
-  abbrev fitting : Change → Bool
-  fitting = change_fits sizes
-
   counter_low : (slot : Slot) → slot_fits sizes slot ≡ true → low slot.counter ≡ true
-  counter_low slot h = and_left (low slot.counter) _ h
+  counter_low slot h = and_first (low slot.counter) _ h
 
   frees_fit : (counters : List ℕ) → list_all low counters ≡ true → list_all (change_fits sizes) (map ClearsCounter counters) ≡ true
   frees_fit [] h = refl
   frees_fit (k ∷ counters) h =
-      both (low k) (list_all (change_fits sizes) (map ClearsCounter counters)) (all_first low k counters h)
+      and_from (low k) (list_all (change_fits sizes) (map ClearsCounter counters)) (all_first low k counters h)
       (frees_fit counters (all_later low k counters h))
 
   forgets_fit : (counters : List ℕ) → list_all low counters ≡ true → list_all (change_fits sizes) (map ClearsBoth counters) ≡ true
   forgets_fit [] h = refl
   forgets_fit (k ∷ counters) h =
-      both (low k) (list_all (change_fits sizes) (map ClearsBoth counters)) (all_first low k counters h)
+      and_from (low k) (list_all (change_fits sizes) (map ClearsBoth counters)) (all_first low k counters h)
       (forgets_fit counters (all_later low k counters h))
 
   -- ---- where a part rests
@@ -135,7 +123,7 @@ module _ (slots : Slots) (sizes : Sizes) where
     rests_fit (Await l at e) h = h
     rests_fit (RunOf l at target a inputs outputs) h = h
     rests_fit (If l at e body other) h =
-        all_both (slot_fits sizes) (rests_in slots body) (rests_in slots other)
+        all_append (slot_fits sizes) (rests_in slots body) (rests_in slots other)
         (rests_in_fit body (all_left ok (spots_in body) (spots_in other) h))
         (rests_in_fit other (all_right ok (spots_in body) (spots_in other) h))
     rests_fit (Cobegin l at bodies) h = rests_first_fit l bodies h
@@ -148,7 +136,7 @@ module _ (slots : Slots) (sizes : Sizes) where
     rests_in_fit : (body : Block) → list_all ok (spots_in body) ≡ true → list_all (slot_fits sizes) (rests_in slots body) ≡ true
     rests_in_fit Done h = refl
     rests_in_fit (Then s rest) h =
-        all_both (slot_fits sizes) (rests_of slots s) (rests_in slots rest)
+        all_append (slot_fits sizes) (rests_of slots s) (rests_in slots rest)
         (rests_fit s (all_left ok (spots_of s) (spots_in rest) h))
         (rests_in_fit rest (all_right ok (spots_of s) (spots_in rest) h))
 
@@ -156,7 +144,7 @@ module _ (slots : Slots) (sizes : Sizes) where
         list_all (slot_fits sizes) (rests_in_first slots l bodies) ≡ true
     rests_first_fit l Last h = refl
     rests_first_fit l (BodyOf weak body rest) h =
-        both (ok (EndOf l 0)) (list_all (slot_fits sizes) (rests_in slots body))
+        and_from (ok (EndOf l 0)) (list_all (slot_fits sizes) (rests_in slots body))
         (all_first ok (EndOf l 0) (spots_in body ++ spots_in_each l 1 rest) h)
         (rests_in_fit body
         (all_left ok (spots_in body) (spots_in_each l 1 rest) (all_later ok (EndOf l 0) (spots_in body ++ spots_in_each l 1 rest) h)))
@@ -168,14 +156,14 @@ module _ (slots : Slots) (sizes : Sizes) where
   mutual
     rests_one : (k : ℕ) (s : Plain) → StatementRestsAt slots k s → list_all (is_of k) (rests_of slots s) ≡ true
     rests_one k (Act l s) laid = refl
-    rests_one k (Await l at e) laid = both (is_of k (slots.rest l)) true (eq_test (slots.rest l).counter k laid) refl
+    rests_one k (Await l at e) laid = and_from (is_of k (slots.rest l)) true (number_test (slots.rest l).counter k laid) refl
     rests_one k (RunOf l at target a inputs outputs) laid =
-        both (is_of k (slots.rest l)) true (eq_test (slots.rest l).counter k laid) refl
+        and_from (is_of k (slots.rest l)) true (number_test (slots.rest l).counter k laid) refl
     rests_one k (If l at e body other) laid =
-        all_both (is_of k) (rests_in slots body) (rests_in slots other) (rests_in_one k body laid.0) (rests_in_one k other laid.1)
+        all_append (is_of k) (rests_in slots body) (rests_in slots other) (rests_in_one k body laid.0) (rests_in_one k other laid.1)
     rests_one k (Cobegin l at Last) laid = refl
     rests_one k (Cobegin l at (BodyOf weak body rest)) laid =
-        both (is_of k (slots.ending l 0)) (list_all (is_of k) (rests_in slots body)) (eq_test (slots.ending l 0).counter k laid.0)
+        and_from (is_of k (slots.ending l 0)) (list_all (is_of k) (rests_in slots body)) (number_test (slots.ending l 0).counter k laid.0)
         (rests_in_one k body (subst (λ c. BlockRestsAt slots c body) laid.0 laid.1.0))
     rests_one k (When l at guard e body) laid = rests_in_one k body laid
     rests_one k (Repeat l at body) laid = rests_in_one k body laid
@@ -186,12 +174,12 @@ module _ (slots : Slots) (sizes : Sizes) where
     rests_in_one : (k : ℕ) (body : Block) → BlockRestsAt slots k body → list_all (is_of k) (rests_in slots body) ≡ true
     rests_in_one k Done laid = refl
     rests_in_one k (Then s rest) laid =
-        all_both (is_of k) (rests_of slots s) (rests_in slots rest) (rests_one k s laid.0) (rests_in_one k rest laid.1)
+        all_append (is_of k) (rests_of slots s) (rests_in slots rest) (rests_one k s laid.0) (rests_in_one k rest laid.1)
 
   one_fits : (k : ℕ) (xs : List Slot) → list_all (slot_fits sizes) xs ≡ true → list_all (is_of k) xs ≡ true → slots_fit sizes xs ≡ true
   one_fits k [] fit one = refl
   one_fits k (x ∷ rest) fit one =
-      both (list_all (slot_fits sizes) (x ∷ rest)) (list_all (λ (other : Slot). nat_eq other.counter x.counter) rest) fit
+      and_from (list_all (slot_fits sizes) (x ∷ rest)) (list_all (λ (other : Slot). nat_eq other.counter x.counter) rest) fit
       (subst (λ c. list_all (λ (other : Slot). nat_eq other.counter c) rest ≡ true)
       (sym (eqb-true x.counter k (all_first (is_of k) x rest one))) (all_later (is_of k) x rest one))
 
@@ -201,11 +189,11 @@ module _ (slots : Slots) (sizes : Sizes) where
     counters_low : (s : Plain) → list_all ok (spots_of s) ≡ true → list_all low (counters_of slots s) ≡ true
     counters_low (Act l s) h = refl
     counters_low (Await l at e) h =
-        both (low (slots.rest l).counter) true (counter_low (slots.rest l) (and_left (slot_fits sizes (slots.rest l)) true h)) refl
+        and_from (low (slots.rest l).counter) true (counter_low (slots.rest l) (and_first (slot_fits sizes (slots.rest l)) true h)) refl
     counters_low (RunOf l at target a inputs outputs) h =
-        both (low (slots.rest l).counter) true (counter_low (slots.rest l) (and_left (slot_fits sizes (slots.rest l)) true h)) refl
+        and_from (low (slots.rest l).counter) true (counter_low (slots.rest l) (and_first (slot_fits sizes (slots.rest l)) true h)) refl
     counters_low (If l at e body other) h =
-        all_both low (counters_in slots body) (counters_in slots other)
+        all_append low (counters_in slots body) (counters_in slots other)
         (counters_in_low body (all_left ok (spots_in body) (spots_in other) h))
         (counters_in_low other (all_right ok (spots_in body) (spots_in other) h))
     counters_low (Cobegin l at bodies) h = counters_each_low l 0 bodies h
@@ -218,7 +206,7 @@ module _ (slots : Slots) (sizes : Sizes) where
     counters_in_low : (body : Block) → list_all ok (spots_in body) ≡ true → list_all low (counters_in slots body) ≡ true
     counters_in_low Done h = refl
     counters_in_low (Then s rest) h =
-        all_both low (counters_of slots s) (counters_in slots rest)
+        all_append low (counters_of slots s) (counters_in slots rest)
         (counters_low s (all_left ok (spots_of s) (spots_in rest) h))
         (counters_in_low rest (all_right ok (spots_of s) (spots_in rest) h))
 
@@ -227,9 +215,9 @@ module _ (slots : Slots) (sizes : Sizes) where
     counters_each_low l k Last h = refl
     counters_each_low l k (BodyOf weak body rest) h =
         let later = all_later ok (EndOf l k) (spots_in body ++ spots_in_each l (suc k) rest) h in
-        both (low (slots.ending l k).counter) (list_all low (counters_in slots body ++ counters_in_each slots l (suc k) rest))
+        and_from (low (slots.ending l k).counter) (list_all low (counters_in slots body ++ counters_in_each slots l (suc k) rest))
         (counter_low (slots.ending l k) (all_first ok (EndOf l k) (spots_in body ++ spots_in_each l (suc k) rest) h))
-        (all_both low (counters_in slots body) (counters_in_each slots l (suc k) rest)
+        (all_append low (counters_in slots body) (counters_in_each slots l (suc k) rest)
         (counters_in_low body (all_left ok (spots_in body) (spots_in_each l (suc k) rest) later))
         (counters_each_low l (suc k) rest (all_right ok (spots_in body) (spots_in_each l (suc k) rest) later)))
 
@@ -257,7 +245,7 @@ module _ (slots : Slots) (sizes : Sizes) where
       let later = all_later ok (EndOf l k) (spots_in body ++ spots_in_each l (suc k) rest) h in
       let more = endings_fit l (suc k) rest (all_right ok (spots_in body) (spots_in_each l (suc k) rest) later) in
       record {
-        fit = both (ok (EndOf l k)) (list_all (slot_fits sizes) (endings slots l (suc k) rest))
+        fit = and_from (ok (EndOf l k)) (list_all (slot_fits sizes) (endings slots l (suc k) rest))
             (all_first ok (EndOf l k) (spots_in body ++ spots_in_each l (suc k) rest) h) more.fit;
         few = more_ends (EndOf l k) (spots_in body) (spots_in_each l (suc k) rest) (suc (length (endings slots l (suc k) rest)))
             (with_branch (length (endings slots l (suc k) rest)) (length (spots_in body)) (length (spots_in_each l (suc k) rest)) more.few);
@@ -280,7 +268,7 @@ module _ (slots : Slots) (sizes : Sizes) where
             more.few);
       }
       by false more = record {
-        fit = both (ok (EndOf l k)) (list_all (slot_fits sizes) (strong_endings slots l (suc k) rest))
+        fit = and_from (ok (EndOf l k)) (list_all (slot_fits sizes) (strong_endings slots l (suc k) rest))
             (all_first ok (EndOf l k) (spots_in body ++ spots_in_each l (suc k) rest) h) more.fit;
         few = more_ends (EndOf l k) (spots_in body) (spots_in_each l (suc k) rest) (suc (length (strong_endings slots l (suc k) rest)))
             (with_branch (length (strong_endings slots l (suc k) rest)) (length (spots_in body)) (length (spots_in_each l (suc k) rest))
@@ -290,8 +278,8 @@ module _ (slots : Slots) (sizes : Sizes) where
   ended_fits : (age : Age) (all : Bool) (ends : List Slot) (spots : List Spot) → EndsFit ends spots → length spots ≤ 2 ^ 64 →
       condition_fits sizes (Ended age (record { all = all; slots = ends })) ≡ true
   ended_fits age all ends spots fit few =
-      both (list_all (slot_fits sizes) ends) (nat_le (length ends) (2 ^ 64)) fit.fit
-      (le_test (length ends) (2 ^ 64) (at_most (length ends) (length spots) (2 ^ 64) fit.few few))
+      and_from (list_all (slot_fits sizes) ends) (nat_le (length ends) (2 ^ 64)) fit.fit
+      (at_most_test (length ends) (2 ^ 64) (at_most (length ends) (length spots) (2 ^ 64) fit.few few))
     where
       at_most : (n m k : ℕ) → n ≤ m → m ≤ k → n ≤ k
       at_most n m k one other = omega (arith, one, other)
@@ -347,14 +335,14 @@ module _ (slots : Slots) (sizes : Sizes) where
   made : (rule : Transition) → condition_fits sizes rule.condition ≡ true → list_all (change_fits sizes) rule.on_true ≡ true →
       list_all (change_fits sizes) rule.on_false ≡ true → rule_fits sizes rule ≡ true
   made rule condition on_true on_false =
-      both (condition_fits sizes rule.condition) (list_all (change_fits sizes) rule.on_true && list_all (change_fits sizes) rule.on_false) condition
-      (both (list_all (change_fits sizes) rule.on_true) (list_all (change_fits sizes) rule.on_false) on_true on_false)
+      and_from (condition_fits sizes rule.condition) (list_all (change_fits sizes) rule.on_true && list_all (change_fits sizes) rule.on_false) condition
+      (and_from (list_all (change_fits sizes) rule.on_true) (list_all (change_fits sizes) rule.on_false) on_true on_false)
 
   one : (change : Change) → change_fits sizes change ≡ true → list_all (change_fits sizes) (change ∷ []) ≡ true
-  one change h = both (change_fits sizes change) true h refl
+  one change h = and_from (change_fits sizes change) true h refl
 
   where_fits : (b : Bool) (rule : Transition) → rule_fits sizes rule ≡ true → list_all (rule_fits sizes) (rule_where b rule) ≡ true
-  where_fits true rule h = both (rule_fits sizes rule) true h refl
+  where_fits true rule h = and_from (rule_fits sizes rule) true h refl
   where_fits false rule h = refl
 
   flagged_fits : (n : Node) (on_true : List Change) → list_all (change_fits sizes) on_true ≡ true → rule_fits sizes (flagged n on_true) ≡ true
@@ -364,7 +352,7 @@ module _ (slots : Slots) (sizes : Sizes) where
       change_fits sizes next ≡ true → rule_fits sizes (joins slots l bodies age n next) ≡ true
   joins_fit l bodies age n next good h =
       made (joins slots l bodies age n next) (needed_fits age l bodies good)
-      (all_both (change_fits sizes) (map ClearsCounter (once (counters_in_each slots l 0 bodies))) (next ∷ [])
+      (all_append (change_fits sizes) (map ClearsCounter (once (counters_in_each slots l 0 bodies))) (next ∷ [])
       (frees_fit (once (counters_in_each slots l 0 bodies))
       (once_low [] (counters_in_each slots l 0 bodies) (counters_each_low l 0 bodies good.fit))) (one next h)) refl
 
@@ -389,7 +377,7 @@ module _ (slots : Slots) (sizes : Sizes) where
   check_fits k l at guard e body next fit laid h =
       made (check_rule l at guard e body next)
       (one_fits k (rests_in slots body) (rests_in_fit body fit) (rests_in_one k body laid))
-      (all_both (change_fits sizes) (map ClearsBoth (once (counters_in slots body))) (fires guard l at body next ∷ [])
+      (all_append (change_fits sizes) (map ClearsBoth (once (counters_in slots body))) (fires guard l at body next ∷ [])
       (forgets_fit (once (counters_in slots body)) (once_low [] (counters_in slots body) (counters_in_low body fit)))
       (one (fires guard l at body next) (fires_fits guard l at body next h))) refl
 
@@ -428,23 +416,23 @@ module _ (slots : Slots) (sizes : Sizes) where
     stmt_fits k (Act l s) next good laid h = all_with (rule_fits sizes) (flagged (ActAt l s) (next ∷ [])) []
         (flagged_fits (ActAt l s) (next ∷ []) (one next h)) refl
     stmt_fits k (Await l at e) next good laid h =
-        let fit : slot_fits sizes (slots.rest l) ≡ true = and_left (slot_fits sizes (slots.rest l)) true good.fit in
+        let fit : slot_fits sizes (slots.rest l) ≡ true = and_first (slot_fits sizes (slots.rest l)) true good.fit in
         all_with (rule_fits sizes) (flagged (PauseAt l at) (SetsCounter (slots.rest l) ∷ [])) (rested_rule l (TestAt l at e) next ∷ [])
         (flagged_fits (PauseAt l at) (SetsCounter (slots.rest l) ∷ []) (one (SetsCounter (slots.rest l)) fit))
-        (both (rule_fits sizes (rested_rule l (TestAt l at e) next)) true (rested_fits l (TestAt l at e) next fit h) refl)
+        (and_from (rule_fits sizes (rested_rule l (TestAt l at e) next)) true (rested_fits l (TestAt l at e) next fit h) refl)
     stmt_fits k (RunOf l at target a inputs outputs) next good laid h =
-        let fit : slot_fits sizes (slots.rest l) ≡ true = and_left (slot_fits sizes (slots.rest l)) true good.fit in
+        let fit : slot_fits sizes (slots.rest l) ≡ true = and_first (slot_fits sizes (slots.rest l)) true good.fit in
         all_with (rule_fits sizes) (flagged (EnterAt l at (arguments_of target inputs outputs)) (SetsCounter (slots.rest l) ∷ []))
         (rested_rule l (ResumeAt l at (arguments_of target inputs outputs)) next ∷ [])
         (flagged_fits (EnterAt l at (arguments_of target inputs outputs)) (SetsCounter (slots.rest l) ∷ []) (one (SetsCounter (slots.rest l)) fit))
-        (both (rule_fits sizes (rested_rule l (ResumeAt l at (arguments_of target inputs outputs)) next)) true
+        (and_from (rule_fits sizes (rested_rule l (ResumeAt l at (arguments_of target inputs outputs)) next)) true
         (rested_fits l (ResumeAt l at (arguments_of target inputs outputs)) next fit h) refl)
     stmt_fits k (If l at e body other) next good laid h =
         all_with (rule_fits sizes)
         (record { node = TestAt l at e; condition = Flagged; on_true = enter body next ∷ []; on_false = enter other next ∷ [] })
         (rules_in slots body next ++ rules_in slots other next)
         (tested_fits (TestAt l at e) (enter body next) (enter other next) (enter_fits body next h) (enter_fits other next h))
-        (all_both (rule_fits sizes) (rules_in slots body next) (rules_in slots other next)
+        (all_append (rule_fits sizes) (rules_in slots body next) (rules_in slots other next)
         (block_fits k body next (good_left ok (spots_in body) (spots_in other) good) laid.0 h)
         (block_fits k other next (good_right ok (spots_in body) (spots_in other) good) laid.1 h))
     stmt_fits k (Cobegin l at bodies) next good laid h =
@@ -454,7 +442,7 @@ module _ (slots : Slots) (sizes : Sizes) where
         ++ depth_join l at bodies next ∷ rules_in_each slots l 0 bodies)
         (flagged_fits (ForkAt l at) (marked (is_instant (Cobegin l at bodies)) (ForkAt l at) (enter_each slots l 0 bodies))
         (marked_fits (is_instant (Cobegin l at bodies)) (ForkAt l at) (enter_each slots l 0 bodies) (enter_each_fits l 0 bodies good.fit)))
-        (all_both (rule_fits sizes) (rule_where (is_instant (Cobegin l at bodies)) (surface_join l at bodies next))
+        (all_append (rule_fits sizes) (rule_where (is_instant (Cobegin l at bodies)) (surface_join l at bodies next))
         (depth_join l at bodies next ∷ rules_in_each slots l 0 bodies)
         (where_fits (is_instant (Cobegin l at bodies)) (surface_join l at bodies next)
         (joins_fit l bodies (IsNew (ForkAt l at)) (SurfaceJoinAt l at) next good h))
@@ -469,7 +457,7 @@ module _ (slots : Slots) (sizes : Sizes) where
         (flagged_fits (StartAt l at) (marked (are_instant body) (StartAt l at) (enter body (body_ends l at body) ∷ []))
         (marked_fits (are_instant body) (StartAt l at) (enter body (body_ends l at body) ∷ [])
         (one (enter body (body_ends l at body)) (enter_fits body (body_ends l at body) (ends_fit l at body)))))
-        (all_both (rule_fits sizes) (rule_where (are_instant body) (flagged (SurfaceEndAt l at) (next ∷ [])))
+        (all_append (rule_fits sizes) (rule_where (are_instant body) (flagged (SurfaceEndAt l at) (next ∷ [])))
         (check_rule l at guard e body next ∷ flagged (DepthEndAt l at) (next ∷ []) ∷ rules_in slots body (body_ends l at body))
         (where_fits (are_instant body) (flagged (SurfaceEndAt l at) (next ∷ [])) (flagged_fits (SurfaceEndAt l at) (next ∷ []) (one next h)))
         (all_with (rule_fits sizes) (check_rule l at guard e body next)
@@ -496,7 +484,7 @@ module _ (slots : Slots) (sizes : Sizes) where
         change_fits sizes next ≡ true → list_all (rule_fits sizes) (rules_in slots body next) ≡ true
     block_fits k Done next good laid h = refl
     block_fits k (Then s rest) next good laid h =
-        all_both (rule_fits sizes) (rules_of slots s (enter rest next)) (rules_in slots rest next)
+        all_append (rule_fits sizes) (rules_of slots s (enter rest next)) (rules_in slots rest next)
         (stmt_fits k s (enter rest next) (good_left ok (spots_of s) (spots_in rest) good) laid.0 (enter_fits rest next h))
         (block_fits k rest next (good_right ok (spots_of s) (spots_in rest) good) laid.1 h)
 
@@ -505,7 +493,7 @@ module _ (slots : Slots) (sizes : Sizes) where
     bodies_fit l k Last good laid = refl
     bodies_fit l k (BodyOf weak body rest) good laid =
         let later = good_later ok (EndOf l k) (spots_in body ++ spots_in_each l (suc k) rest) good in
-        all_both (rule_fits sizes) (rules_in slots body (SetsCounter (slots.ending l k))) (rules_in_each slots l (suc k) rest)
+        all_append (rule_fits sizes) (rules_in slots body (SetsCounter (slots.ending l k))) (rules_in_each slots l (suc k) rest)
         (block_fits (slots.ending l k).counter body (SetsCounter (slots.ending l k))
         (good_left ok (spots_in body) (spots_in_each l (suc k) rest) later) laid.0
         (all_first ok (EndOf l k) (spots_in body ++ spots_in_each l (suc k) rest) good.fit))

@@ -4,25 +4,14 @@ use Rattle.std.proofs.Common.{length, Some, refl, sym, ap, ◌∙◌, subst, ari
 use Rattle.std.proofs.lemmas.Bool.Decides.{nat_tests}
 use Rattle.std.proofs.lemmas.List.Folds.{list_any-append}
 use Rattle.std.proofs.lemmas.Option.{slice_get-get_or}
-use Rattle.std.proofs.lemmas.Slice.Eq.{bytes_eq-Decides}
 use Rattle.std.specs.List.{list_all, list_any}
-use Rattle.std.specs.Prelude.{bytes_eq, get_or, if◌then◌else◌, nat_eq, slice_get, unwrap_or}
-use Rattle.bl_eval.proofs.PassLemmas.{both}
+use Rattle.std.specs.Prelude.{get_or, if◌then◌else◌, slice_get, unwrap_or}
+use Rattle.std.proofs.lemmas.Bool.{and_from, or_left, or_right}
 use Rattle.bl_machine.specs.declared.slots.Slot.{Slot}
-use Rattle.bl_graph_nodes.specs.Plain.{Block, Label}
+use Rattle.bl_graph_nodes.specs.Plain.{Block}
 use Rattle.bl_machine_pass.specs.SlotLayout.{EndOf, RestOf, Spot, slot_at, spots_in}
-use Rattle.bl_machine_pass.specs.Numbered.{no_slot, position_where, same_label, same_spot, slot_for, slots_of}
-
-eq_itself : (n : ℕ) → nat_eq n n ≡ true
-eq_itself n = grind (arith, nat_tests)
-
-label_itself : (l : Label) → same_label l l ≡ true
-label_itself l =
-    both (bytes_eq l.position l.position) (nat_eq l.passed l.passed) ((bytes_eq-Decides l.position l.position).1 refl) (eq_itself l.passed)
-
-spot_itself : (p : Spot) → same_spot p p ≡ true
-spot_itself (RestOf l) = label_itself l
-spot_itself (EndOf l k) = both (same_label l l) (nat_eq k k) (label_itself l) (eq_itself k)
+use Rattle.bl_machine_pass.specs.Numbered.{no_slot, position_where, same_spot, slot_for, slots_of}
+use Rattle.bl_machine_pass_laws.proofs.OnSlots.Finding.{spot_itself}
 
 -- ---- a place is found
 
@@ -35,19 +24,11 @@ found_below test (p ∷ spots) h = by (test p) h (found_below test spots)
     by true h rest = omega arith
     by false h rest = let low = rest h in omega (arith, low)
 
-right_true : (a b : Bool) → b ≡ true → (a || b) ≡ true
-right_true true b h = refl
-right_true false b h = h
-
-left_true : (a b : Bool) → a ≡ true → (a || b) ≡ true
-left_true true b h = refl
-left_true false b h = absurd (cc)
-
 there : (before rest : List Spot) (p : Spot) → list_any (same_spot p) (before ++ p ∷ rest) ≡ true
 there before rest p =
     list_any-append (same_spot p) before (p ∷ rest)
-    ∙ right_true (list_any (same_spot p) before) (list_any (same_spot p) (p ∷ rest))
-    (left_true (same_spot p p) (list_any (same_spot p) rest) (spot_itself p))
+    ∙ or_right (list_any (same_spot p) before) (list_any (same_spot p) (p ∷ rest))
+    (or_left (same_spot p p) (list_any (same_spot p) rest) (spot_itself p))
 
 -- ---- so what is true of each number in the list is so of each place's
 
@@ -72,7 +53,7 @@ module _ (body : Block) (list : List Slot) (many : length list ≡ length (spots
         list_all (λ p. test (slot_at (slots_of body list) p)) spots ≡ true
     parts_fit before [] is = refl
     parts_fit before (p ∷ spots) is =
-        both (test (slot_at (slots_of body list) p)) (list_all (λ p. test (slot_at (slots_of body list) p)) spots)
+        and_from (test (slot_at (slots_of body list) p)) (list_all (λ p. test (slot_at (slots_of body list) p)) spots)
         (one_fits p (subst (λ (all : List Spot). list_any (same_spot p) all ≡ true) is (there before spots p)))
         (parts_fit (before ++ p ∷ []) spots (append_assoc before (p ∷ []) spots ∙ is))
 

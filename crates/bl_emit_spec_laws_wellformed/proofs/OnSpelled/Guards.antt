@@ -6,16 +6,17 @@ use Rattle.std.proofs.lemmas.Bool.Decides.{nat_tests}
 use Rattle.std.specs.Char.{is_ascii_digit}
 use Rattle.std.specs.List.{list_all}
 use Rattle.std.specs.Prelude.{nat_eq, nat_le, nat_lt, slice_get, unwrap_or, if◌then◌else◌}
+use Rattle.std.proofs.lemmas.Bool.{and_from}
+use Rattle.bl_tree.proofs.Basics.{all_append, and_first, and_second}
 use Rattle.bl_tree.specs.declared.c.CExpr.{CExpr}
 use Rattle.bl_tree.specs.declared.c.CStmt.{CStmt}
 use Rattle.bl_tree.specs.declared.scalar.Op.{Op}
 use Rattle.bl_tree.specs.declared.scalar.Op.TheVariants.{And, Eq, Ge, Le, Ne, Or}
 use Rattle.bl_tree.specs.declared.scalar.Scalar.{Scalar as ScalarType}
-use Rattle.bl_tree.specs.declared.scalar.Scalar.TheVariants.{Bool as OfBool, Nat}
+use Rattle.bl_tree.specs.declared.scalar.Scalar.TheVariants.{Nat}
 use Rattle.bl_tree.specs.declared.scalar.Width.TheVariants.{W8, W16, W32}
 use Rattle.bl_tree.specs.Reduce.{all_of}
 use Rattle.bl_tree.specs.Scalar.{in_range}
-use Rattle.bl_eval.proofs.PassLemmas.{and_left, and_right, both}
 use Rattle.bl_ctext.specs.Names.{is_among, is_name}
 use Rattle.bl_ctext.specs.Token.{is_word_byte}
 use Rattle.bl_ctext.specs.Spellable.{is_c_operator, is_c_scalar, is_literal}
@@ -36,43 +37,15 @@ use Rattle.bl_emit_acts_laws_wellformed.proofs.OnSpelled.Shapes.{not-fits}
 use Rattle.bl_emit_functions.specs.Trees.{c_if, c_truth}
 use Rattle.bl_emit_functions_laws_wellformed.proofs.OnSpelled.Acts.{one-fits}
 use Rattle.bl_emit_functions_laws_wellformed.proofs.OnSpelled.Shapes.{else-fits}
-use Rattle.bl_emit_functions_laws_wellformed.proofs.OnSpelled.Types.{all_append}
-use Rattle.bl_emit_spec.specs.Blocks.{
-  ActivityView,
-  Sizes,
-  aged_test,
-  all_tests,
-  at_slot,
-  change_code,
-  changes_code,
-  counter_type,
-  counter_value,
-  ends_test,
-  flagged_now,
-  forgotten,
-  freed,
-  guard_of,
-  in_pairs,
-  in_tree,
-  is_greatest,
-  last_value,
-  node_word,
-  rested_at,
-  rested_between,
-  rested_by,
-  rested_from,
-  rested_in,
-  rested_since,
-  rested_to,
-  rested_within,
-  some_test,
-  stmt_where,
-  type_for,
-}
+use Rattle.bl_emit_spec.specs.Blocks.{ActivityView, Sizes, aged_test, all_tests, at_slot, change_code, changes_code, counter_type, counter_value, ends_test}
+use Rattle.bl_emit_spec.specs.Blocks.{flagged_now, forgotten, freed, guard_of, in_pairs, in_tree, is_greatest, last_value, node_word, rested_at, rested_between}
+use Rattle.bl_emit_spec.specs.Blocks.{rested_by, rested_from, rested_in, rested_since, rested_to, rested_within, some_test, stmt_where, type_for}
 use Rattle.bl_emit_spec.specs.Names.{NumberedWord, numbered_word, counter_name, counter_place, ended_name}
 use Rattle.bl_emit_spec.specs.Names.{ended_place, flag_name, flag_place, given_name, given_place}
 use Rattle.bl_emit_spec.specs.Names.{mark_name, mark_place, over_place, rested_name, rested_place, result_place}
 use Rattle.bl_emit_spec_laws_wellformed.specs.Spelled.{change_fits, condition_fits, slot_fits, slots_fit}
+use Rattle.bl_emit_spec_laws_wellformed.proofs.OnNames.Names.{low}
+use Rattle.bl_emit_functions_laws_wellformed.proofs.OnSpelled.Statements.{truth-fits}
 
 -- ---- names
 
@@ -91,9 +64,6 @@ ended-word = refl
 pub result-letter : is_name (codes "r") ≡ true
 unfolding is_name is_among
 result-letter = refl
-
-low : (k : ℕ) → nat_lt k (2 ^ 64) ≡ true → k < 2 ^ 64
-low k h = grind (arith, nat_tests)
 
 -- a statement that is left out fits too
 pub where-fits : (d : ℕ) (test : Bool) (s : CStmt) → stmt_fits d s ≡ true → stmts_fit d (stmt_where test s) ≡ true
@@ -114,7 +84,7 @@ spelled-name b k h i its = worded-name b k.number k.word h i its.word its.small
 pub counter-fits : (d k : ℕ) → 1 ≤ d → k < 2 ^ 64 → place_fits d (counter_place k) ≡ true
 counter-fits d k some small =
     place-fits d true (codes "f") (c_step (counter_name k) ∷ []) some frame-letter
-    (both (step_fits d (c_step (counter_name k))) true (step-fits d (counter_name k) (numbered-name 99 k refl refl small)) refl)
+    (and_from (step_fits d (c_step (counter_name k))) true (step-fits d (counter_name k) (numbered-name 99 k refl refl small)) refl)
 
 pub rested-fits : (d k : ℕ) → 1 ≤ d → k < 2 ^ 64 → place_fits d (rested_place k) ≡ true
 rested-fits d k some small = place-fits d false (rested_name k) [] some (numbered-name 119 k refl refl small) refl
@@ -139,12 +109,8 @@ result-fits d some = place-fits d true (codes "r") [] some result-letter refl
 
 -- ---- values
 
-pub truth-fits : (d : ℕ) (b : Bool) → 2 ≤ d → expr_fits d (c_truth b) ≡ true
-truth-fits d true some = literal-fits d nowhere OfBool (pos 1) some refl
-truth-fits d false some = literal-fits d nowhere OfBool (pos 0) some refl
-
 -- what holds of the three types that a counter may have
-by_type : (P : ScalarType → Type 0) → P (Nat W8) → P (Nat W16) → P (Nat W32) → (n : ℕ) → P (type_for n)
+pub by_type : (P : ScalarType → Type 0) → P (Nat W8) → P (Nat W16) → P (Nat W32) → (n : ℕ) → P (type_for n)
 by_type P one two three n = by (nat_le n 255) (nat_le n 65535)
   where
     by : (a b : Bool) → P (if a then Nat W8 else if b then Nat W16 else Nat W32)
@@ -174,10 +140,10 @@ nothing-fits d sizes k some = literal-fits d nowhere (counter_type sizes k) (pos
 -- ---- comparisons of counters
 
 slot_low : (sizes : Sizes) (slot : Slot) → slot_fits sizes slot ≡ true → slot.counter < 2 ^ 64
-slot_low sizes slot h = low slot.counter (and_left (nat_lt slot.counter (2 ^ 64)) _ h)
+slot_low sizes slot h = low slot.counter (and_first (nat_lt slot.counter (2 ^ 64)) _ h)
 
 slot_value : (sizes : Sizes) (slot : Slot) → slot_fits sizes slot ≡ true → in_range (counter_type sizes slot.counter) (pos slot.value) ≡ true
-slot_value sizes slot h = and_right (nat_lt slot.counter (2 ^ 64)) _ h
+slot_value sizes slot h = and_second (nat_lt slot.counter (2 ^ 64)) _ h
 
 slot-at : (view : ActivityView) (slot : Slot) → slot_fits view.sizes slot ≡ true → expr_fits 3 (at_slot view slot) ≡ true
 slot-at view slot h =
@@ -242,13 +208,13 @@ pairs_fit : (d : ℕ) (op : Op) (tests : List CExpr) → is_c_operator op ≡ tr
     tests_fit (d + 1) (in_pairs op tests) ≡ true
 pairs_fit d op [] sign all = refl
 pairs_fit d op (a ∷ []) sign all =
-    both (expr_fits (d + 1) a) true (expr_fits-more d (d + 1) a (omega arith) (and_left (expr_fits d a) true all)) refl
+    and_from (expr_fits (d + 1) a) true (expr_fits-more d (d + 1) a (omega arith) (and_first (expr_fits d a) true all)) refl
 pairs_fit d op (a ∷ b ∷ rest) sign all =
-    let more = and_right (expr_fits d a) (expr_fits d b && tests_fit d rest) all in
-    both (expr_fits (d + 1) (c_two op a b)) (tests_fit (d + 1) (in_pairs op rest))
-    (two-fits d (d + 1) nowhere op a b (omega arith) sign (and_left (expr_fits d a) (expr_fits d b && tests_fit d rest) all)
-    (and_left (expr_fits d b) (tests_fit d rest) more))
-    (pairs_fit d op rest sign (and_right (expr_fits d b) (tests_fit d rest) more))
+    let more = and_second (expr_fits d a) (expr_fits d b && tests_fit d rest) all in
+    and_from (expr_fits (d + 1) (c_two op a b)) (tests_fit (d + 1) (in_pairs op rest))
+    (two-fits d (d + 1) nowhere op a b (omega arith) sign (and_first (expr_fits d a) (expr_fits d b && tests_fit d rest) all)
+    (and_first (expr_fits d b) (tests_fit d rest) more))
+    (pairs_fit d op rest sign (and_second (expr_fits d b) (tests_fit d rest) more))
 
 pairs_length : (op : Op) (tests : List CExpr) → 2 * length (in_pairs op tests) ≤ length tests + 1
 pairs_length op [] = omega arith
@@ -263,9 +229,9 @@ doubled (suc n) = doubled n + doubled n
 tree_fits : (n fuel d : ℕ) (none : CExpr) (op : Op) (tests : List CExpr) → is_c_operator op ≡ true → length tests ≤ doubled n →
     tests_fit d tests ≡ true → expr_fits (d + n) none ≡ true → expr_fits (d + n) (in_tree none op fuel tests) ≡ true
 tree_fits n fuel d none op [] sign few all empty = empty
-tree_fits n fuel d none op (a ∷ []) sign few all empty = expr_fits-more d (d + n) a (omega arith) (and_left (expr_fits d a) true all)
+tree_fits n fuel d none op (a ∷ []) sign few all empty = expr_fits-more d (d + n) a (omega arith) (and_first (expr_fits d a) true all)
 tree_fits n zero d none op (a ∷ b ∷ rest) sign few all empty =
-    expr_fits-more d (d + n) a (omega arith) (and_left (expr_fits d a) (expr_fits d b && tests_fit d rest) all)
+    expr_fits-more d (d + n) a (omega arith) (and_first (expr_fits d a) (expr_fits d b && tests_fit d rest) all)
 tree_fits zero (suc fuel) d none op (a ∷ b ∷ rest) sign few all empty = absurd (omega (arith, few))
 tree_fits (suc n) (suc fuel) d none op (a ∷ b ∷ rest) sign few all empty =
     let half : 2 * length (in_pairs op (a ∷ b ∷ rest)) ≤ length (a ∷ b ∷ rest) + 1 = pairs_length op (a ∷ b ∷ rest) in
@@ -278,9 +244,9 @@ tree_fits (suc n) (suc fuel) d none op (a ∷ b ∷ rest) sign few all empty =
 ends_fit : (view : ActivityView) (slots : List Slot) → list_all (slot_fits view.sizes) slots ≡ true → tests_fit 3 (map (at_slot view) slots) ≡ true
 ends_fit view [] all = refl
 ends_fit view (slot ∷ slots) all =
-    both (expr_fits 3 (at_slot view slot)) (tests_fit 3 (map (at_slot view) slots))
-    (slot-at view slot (and_left (slot_fits view.sizes slot) (list_all (slot_fits view.sizes) slots) all))
-    (ends_fit view slots (and_right (slot_fits view.sizes slot) (list_all (slot_fits view.sizes) slots) all))
+    and_from (expr_fits 3 (at_slot view slot)) (tests_fit 3 (map (at_slot view) slots))
+    (slot-at view slot (and_first (slot_fits view.sizes slot) (list_all (slot_fits view.sizes) slots) all))
+    (ends_fit view slots (and_second (slot_fits view.sizes slot) (list_all (slot_fits view.sizes) slots) all))
 
 tests_length : (view : ActivityView) (slots : List Slot) → length (map (at_slot view) slots) ≡ length slots
 tests_length view [] = refl
@@ -312,26 +278,26 @@ last_fits : (sizes : Sizes) (k v : ℕ) (slots : List Slot) → in_range (counte
 last_fits sizes k v [] own all same = own
 last_fits sizes k v (slot ∷ rest) own all same =
     let is : slot.counter ≡ k = eqb-true slot.counter k
-    (and_left (nat_eq slot.counter k) (list_all (λ (other : Slot). nat_eq other.counter k) rest) same) in
+    (and_first (nat_eq slot.counter k) (list_all (λ (other : Slot). nat_eq other.counter k) rest) same) in
     last_fits sizes k slot.value rest
     (subst (λ k. in_range (counter_type sizes k) (pos slot.value) ≡ true) is
-    (slot_value sizes slot (and_left (slot_fits sizes slot) (list_all (slot_fits sizes) rest) all)))
-    (and_right (slot_fits sizes slot) (list_all (slot_fits sizes) rest) all)
-    (and_right (nat_eq slot.counter k) (list_all (λ (other : Slot). nat_eq other.counter k) rest) same)
+    (slot_value sizes slot (and_first (slot_fits sizes slot) (list_all (slot_fits sizes) rest) all)))
+    (and_second (slot_fits sizes slot) (list_all (slot_fits sizes) rest) all)
+    (and_second (nat_eq slot.counter k) (list_all (λ (other : Slot). nat_eq other.counter k) rest) same)
 
 in-fits : (view : ActivityView) (slots : List Slot) → slots_fit view.sizes slots ≡ true → expr_fits 5 (rested_in view slots) ≡ true
 in-fits view [] h = truth-fits 5 false (omega arith)
 in-fits view (slot ∷ []) h =
-    let all = and_left (list_all (slot_fits view.sizes) (slot ∷ [])) true h in
-    expr_fits-more 3 5 (rested_at view slot) (omega arith) (slot-rested view slot (and_left (slot_fits view.sizes slot) true all))
+    let all = and_first (list_all (slot_fits view.sizes) (slot ∷ [])) true h in
+    expr_fits-more 3 5 (rested_at view slot) (omega arith) (slot-rested view slot (and_first (slot_fits view.sizes slot) true all))
 in-fits view (slot ∷ more ∷ rest) h =
     let all : list_all (slot_fits view.sizes) (slot ∷ more ∷ rest) ≡ true =
-    and_left (list_all (slot_fits view.sizes) (slot ∷ more ∷ rest)) _ h in
+    and_first (list_all (slot_fits view.sizes) (slot ∷ more ∷ rest)) _ h in
     let same : list_all (λ (other : Slot). nat_eq other.counter slot.counter) (more ∷ rest) ≡ true =
-    and_right (list_all (slot_fits view.sizes) (slot ∷ more ∷ rest)) _ h in
-    let first : slot_fits view.sizes slot ≡ true = and_left (slot_fits view.sizes slot) (list_all (slot_fits view.sizes) (more ∷ rest)) all in
+    and_second (list_all (slot_fits view.sizes) (slot ∷ more ∷ rest)) _ h in
+    let first : slot_fits view.sizes slot ≡ true = and_first (slot_fits view.sizes slot) (list_all (slot_fits view.sizes) (more ∷ rest)) all in
     let others : list_all (slot_fits view.sizes) (more ∷ rest) ≡ true =
-    and_right (slot_fits view.sizes slot) (list_all (slot_fits view.sizes) (more ∷ rest)) all in
+    and_second (slot_fits view.sizes slot) (list_all (slot_fits view.sizes) (more ∷ rest)) all in
     within-fits view slot.counter slot.value (last_value more.value rest) (slot_low view.sizes slot first) (slot_value view.sizes slot first)
     (last_fits view.sizes slot.counter slot.value (more ∷ rest) (slot_value view.sizes slot first) others same)
 
@@ -353,8 +319,8 @@ module _ (view : ActivityView) (spells : (n : Node) → Spells (node_word view n
   guard-fits n (RestedIn slots) h = expr_fits-more 5 68 (rested_in view slots) (omega arith) (in-fits view slots h)
   guard-fits n (Ended age needed) h =
       aged-fits age (ends_test view needed)
-      (ends-test-fits view needed (and_left (list_all (slot_fits view.sizes) needed.slots) _ h)
-      (and_right (list_all (slot_fits view.sizes) needed.slots) _ h))
+      (ends-test-fits view needed (and_first (list_all (slot_fits view.sizes) needed.slots) _ h)
+      (and_second (list_all (slot_fits view.sizes) needed.slots) _ h))
 
   -- ---- changes
 
@@ -371,7 +337,7 @@ module _ (view : ActivityView) (spells : (n : Node) → Spells (node_word view n
   forgotten-fits : (d k : ℕ) (read : Bool) → 2 ≤ d → k < 2 ^ 64 → stmts_fit d (forgotten view k read) ≡ true
   forgotten-fits d k true some small =
       let one : 1 ≤ d = omega (arith, some) in
-      both (stmt_fits d (freed view k)) (stmt_fits d (c_set (rested_place k) (counter_value view.sizes k 0)) && true) (freed-fits d k some small)
+      and_from (stmt_fits d (freed view k)) (stmt_fits d (c_set (rested_place k) (counter_value view.sizes k 0)) && true) (freed-fits d k some small)
       (one-fits d (c_set (rested_place k) (counter_value view.sizes k 0))
       (set-fits d nowhere (rested_place k) (counter_value view.sizes k 0) (rested-fits d k one small) (nothing-fits d view.sizes k some)))
   forgotten-fits d k false some small = one-fits d (freed view k) (freed-fits d k some small)
@@ -405,5 +371,5 @@ module _ (view : ActivityView) (spells : (n : Node) → Spells (node_word view n
   changes-fit [] all = refl
   changes-fit (change ∷ changes) all =
       all_append (stmt_fits 3) (change_code view change) (changes_code view changes)
-      (change-is change (and_left (change_fits view.sizes change) (list_all (change_fits view.sizes) changes) all))
-      (changes-fit changes (and_right (change_fits view.sizes change) (list_all (change_fits view.sizes) changes) all))
+      (change-is change (and_first (change_fits view.sizes change) (list_all (change_fits view.sizes) changes) all))
+      (changes-fit changes (and_second (change_fits view.sizes change) (list_all (change_fits view.sizes) changes) all))

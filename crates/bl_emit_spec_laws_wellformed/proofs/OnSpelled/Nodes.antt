@@ -4,6 +4,8 @@ use Rattle.std.proofs.Common.{List, [], ◌∷◌, ◌++◌, map, length, Option
 use Rattle.std.proofs.lemmas.Bool.Decides.{nat_tests}
 use Rattle.std.specs.List.{list_all}
 use Rattle.std.specs.Prelude.{is_some, nat_le, slice_get, if◌then◌else◌}
+use Rattle.std.proofs.lemmas.Bool.{and_from}
+use Rattle.bl_tree.proofs.Basics.{all_append, and_first, and_second}
 use Rattle.bl_tree.specs.declared.text.Text.{Text}
 use Rattle.bl_tree.specs.declared.c.CArg.{CArg}
 use Rattle.bl_tree.specs.declared.c.CArg.TheVariants.{Address}
@@ -31,7 +33,6 @@ use Rattle.bl_tree.specs.Typing.{arm_fits, branch_fits, kind_fits, return_fits, 
 use Rattle.bl_tree.specs.Typing.{type_of, type_of_path, var_at}
 use Rattle.bl_tree.specs.Program.{names_of}
 use Rattle.bl_tree.specs.Words as words
-use Rattle.bl_eval.proofs.PassLemmas.{and_left, and_right, both}
 use Rattle.bl_ctext.specs.Names.{is_callee, is_name}
 use Rattle.bl_ctext.specs.inner.Fits.{arg_fits, expr_fits, place_fits, step_fits, stmt_fits, stmts_fit}
 use Rattle.bl_ctext.proofs.Fitting.{address-fits, call-fits, call_stmt-fits, expr_fits-more, if-fits, place-fits}
@@ -48,7 +49,7 @@ use Rattle.bl_emit_functions.specs.Statements.{else_code}
 use Rattle.bl_emit_functions.specs.Trees.{c_if, c_truth}
 use Rattle.bl_emit_functions_laws_wellformed.proofs.OnSpelled.Acts.{arguments-fit, one-fits, room}
 use Rattle.bl_emit_functions_laws_wellformed.proofs.OnSpelled.Shapes.{clear-fits, else-fits}
-use Rattle.bl_emit_functions_laws_wellformed.proofs.OnSpelled.Types.{all_append, source_name}
+use Rattle.bl_emit_functions_laws_wellformed.proofs.OnSpelled.Types.{source_name}
 use Rattle.bl_emit_spec.specs.Blocks.{ActivityView, NodeCode, all_merged, arg_where, begun_code, changes_code, choice_code, control_code}
 use Rattle.bl_emit_spec.specs.Blocks.{control_unless, entered_by, flag_asked, fused_code, guard_of, has_result, last_turn, layer_acted, leaving_flag}
 use Rattle.bl_emit_spec.specs.Blocks.{may_end_in, merged_code, name_in, next_turn, node_turn, node_word, own_code, resumed_code, run_args, run_code}
@@ -57,7 +58,8 @@ use Rattle.bl_emit_spec.specs.Names.{NumberedWord, callee_frame, callee_memory, 
 use Rattle.bl_emit_spec.specs.Names.{with_word}
 use Rattle.bl_emit_spec_laws_wellformed.specs.Spelled.{all_fit, change_fits, condition_fits, node_fits, rule_fits, run_stands}
 use Rattle.bl_emit_spec_laws_wellformed.proofs.OnSpelled.Guards.{Spells, changes-fit, ended-fits, flag-fits, frame-letter}
-use Rattle.bl_emit_spec_laws_wellformed.proofs.OnSpelled.Guards.{given-fits, guard-fits, result-fits, spelled-name, truth-fits, where-fits}
+use Rattle.bl_emit_spec_laws_wellformed.proofs.OnSpelled.Guards.{given-fits, guard-fits, result-fits, spelled-name, where-fits}
+use Rattle.bl_emit_functions_laws_wellformed.proofs.OnSpelled.Statements.{truth-fits}
 
 -- a flag whose number has its word fits inside the test of a block
 abbrev pub flag_fits : (ℕ → Text) → Option ℕ → Bool
@@ -80,12 +82,12 @@ callee-named k small = spelled-name 120 k refl refl small
 callee-frame-fits : (d : ℕ) (k : NumberedWord) → 1 ≤ d → Spells k → place_fits d (callee_frame k) ≡ true
 callee-frame-fits d k some small =
     place-fits d true (codes "f") (c_step (callee_name k) ∷ []) some frame-letter
-    (both (step_fits d (c_step (callee_name k))) true (step-fits d (callee_name k) (callee-named k small)) refl)
+    (and_from (step_fits d (c_step (callee_name k))) true (step-fits d (callee_name k) (callee-named k small)) refl)
 
 callee-memory-fits : (d : ℕ) (k : NumberedWord) → 1 ≤ d → Spells k → place_fits d (callee_memory k) ≡ true
 callee-memory-fits d k some small =
     place-fits d true (codes "m") (c_step (callee_name k) ∷ []) some memory-name
-    (both (step_fits d (c_step (callee_name k))) true (step-fits d (callee_name k) (callee-named k small)) refl)
+    (and_from (step_fits d (c_step (callee_name k))) true (step-fits d (callee_name k) (callee-named k small)) refl)
 
 -- the activity that a `run` calls
 pub run-callee : (site : TypingContext) (target : Option Path) (inputs : List Expr) (outputs : List Path) (o : Option UnitDef) →
@@ -128,9 +130,9 @@ returned-fits : (site : TypingContext) →
     (fits site s && nat_le (depth_of s).exprs 200) ≡ true → expr_fits 402 (code_made site e) ≡ true
 returned-fits site exprs s e is h =
     let own : return_fits site (Some e) site.result ≡ true =
-    sym (fits_at site s (StmtKind-F.Return (Some e)) is) ∙ and_left (fits site s) (nat_le (depth_of s).exprs 200) h in
+    sym (fits_at site s (StmtKind-F.Return (Some e)) is) ∙ and_first (fits site s) (nat_le (depth_of s).exprs 200) h in
     let same : (depth_of s).exprs ≡ expr_depth e = ap (λ (d : Depth). d.exprs) (deep_at s (StmtKind-F.Return (Some e)) is) in
-    let deep : (depth_of s).exprs ≤ 200 = shallow (depth_of s).exprs (and_right (fits site s) (nat_le (depth_of s).exprs 200) h) in
+    let deep : (depth_of s).exprs ≤ 200 = shallow (depth_of s).exprs (and_second (fits site s) (nat_le (depth_of s).exprs 200) h) in
     let found = by site.result own in
     expr_fits-more (room (expr_depth e)) 402 (code_made site e) (omega (arith, deep, same)) (exprs e found.0 found.1)
   where
@@ -168,20 +170,20 @@ module _ (view : ActivityView) (few : length view.site.vars ≤ 2 ^ 64)
 
   test-fits : (e : Expr) → (is_truth (type_of view.site e) && nat_le (expr_depth e) 200) ≡ true → expr_fits 402 (code_made view.site e) ≡ true
   test-fits e h =
-      let found = truth_there (type_of view.site e) (and_left (is_truth (type_of view.site e)) (nat_le (expr_depth e) 200) h) in
-      let deep : expr_depth e ≤ 200 = shallow (expr_depth e) (and_right (is_truth (type_of view.site e)) (nat_le (expr_depth e) 200) h) in
+      let found = truth_there (type_of view.site e) (and_first (is_truth (type_of view.site e)) (nat_le (expr_depth e) 200) h) in
+      let deep : expr_depth e ≤ 200 = shallow (expr_depth e) (and_second (is_truth (type_of view.site e)) (nat_le (expr_depth e) 200) h) in
       expr_fits-more (room (expr_depth e)) 402 (code_made view.site e) (omega (arith, deep)) (exprs e found.0 found.1)
 
   act_is : (s : Stmt) → (fits view.site s && nat_le (depth_of s).exprs 200) ≡ true → stmts_fit 403 (act_code view.site view.copies s) ≡ true
   act_is s h =
-      let deep : (depth_of s).exprs ≤ 200 = shallow (depth_of s).exprs (and_right (fits view.site s) (nat_le (depth_of s).exprs 200) h) in
+      let deep : (depth_of s).exprs ≤ 200 = shallow (depth_of s).exprs (and_second (fits view.site s) (nat_le (depth_of s).exprs 200) h) in
       stmts_fit-more (2 * (depth_of s).exprs + 3) 403 (act_code view.site view.copies s) (omega (arith, deep))
-      (acts s (and_left (fits view.site s) (nat_le (depth_of s).exprs 200) h))
+      (acts s (and_first (fits view.site s) (nat_le (depth_of s).exprs 200) h))
 
   -- ---- runs
 
   address : (d : ℕ) (test : Bool) (arg : CArg) → arg_fits d arg ≡ true → list_all (arg_fits d) (arg_where test arg) ≡ true
-  address d true arg h = both (arg_fits d arg) true h refl
+  address d true arg h = and_from (arg_fits d arg) true h refl
   address d false arg h = refl
 
   callee_named : (o : Option UnitDef) (a : ℕ) → slice_get view.site.earlier a ≡ o → is_some o ≡ true →
@@ -202,11 +204,11 @@ module _ (view : ActivityView) (few : length view.site.vars ≤ 2 ^ 64)
       × (target_fits view.site callee.result target ≡ true)
   run_arguments target inputs outputs None h = absurd (cc)
   run_arguments target inputs outputs (Some callee) h =
-      let parts = and_right (is_activity view.site.kind && is_activity callee.kind) (target_fits view.site callee.result target
+      let parts = and_second (is_activity view.site.kind && is_activity callee.kind) (target_fits view.site callee.result target
       && arguments_fit view.site inputs outputs callee) h in (
         callee,
-        and_right (target_fits view.site callee.result target) (arguments_fit view.site inputs outputs callee) parts,
-        and_left (target_fits view.site callee.result target) (arguments_fit view.site inputs outputs callee) parts,
+        and_second (target_fits view.site callee.result target) (arguments_fit view.site inputs outputs callee) parts,
+        and_first (target_fits view.site callee.result target) (arguments_fit view.site inputs outputs callee) parts,
       )
 
   module _ (a : ℕ) (arguments : Arguments) (stand : run_stands view.site a arguments ≡ true) where
@@ -217,10 +219,10 @@ module _ (view : ActivityView) (few : length view.site.vars ≤ 2 ^ 64)
     deepest = max (target_depth arguments.target) (arguments_depth arguments.inputs arguments.outputs)
 
     is_fitted : fitted ≡ true
-    is_fitted = and_left fitted (nat_le deepest 200) stand
+    is_fitted = and_first fitted (nat_le deepest 200) stand
 
     deep : deepest ≤ 200
-    deep = shallow deepest (and_right fitted (nat_le deepest 200) stand)
+    deep = shallow deepest (and_second fitted (nat_le deepest 200) stand)
 
     known : is_some (slice_get view.site.earlier a) ≡ true
     known =
@@ -241,7 +243,7 @@ module _ (view : ActivityView) (few : length view.site.vars ≤ 2 ^ 64)
         (call_stmt-fits 403 nowhere (c_call (name_of_callee (slice_get view.site.earlier a)) (run_args view k a arguments))
         (call-fits 402 403 (name_of_callee (slice_get view.site.earlier a)) (run_args view k a arguments) (omega arith)
         (callee_named (slice_get view.site.earlier a) a refl known)
-        (both (arg_fits 402 (Address (callee_frame k))) _ (address-fits 402 (callee_frame k) (callee-frame-fits 402 k (omega arith) small))
+        (and_from (arg_fits 402 (Address (callee_frame k))) _ (address-fits 402 (callee_frame k) (callee-frame-fits 402 k (omega arith) small))
         (all_append (arg_fits 402) (arg_where (view.remembers a) (Address (callee_memory k)))
         (call_args view.site arguments.inputs arguments.outputs
         ++ (arg_where (has_result (slice_get view.site.earlier a)) (Address (given_place k)) ++ arg_where ends (Address ended_place)))
@@ -260,7 +262,7 @@ module _ (view : ActivityView) (few : length view.site.vars ≤ 2 ^ 64)
     target-by k small result None h le = refl
     target-by k small None (Some path) h le = absurd (cc)
     target-by k small (Some s) (Some path) h le =
-        let found = there (Some (scalar s)) (type_of_path view.site path) (and_right (is_outlet view.site path) _ h) in
+        let found = there (Some (scalar s)) (type_of_path view.site path) (and_second (is_outlet view.site path) _ h) in
         one-fits 403 (c_set (stands view.site path).place (c_read (given_place k)))
         (set-fits 403 nowhere (stands view.site path).place (c_read (given_place k))
         (place_fits-more (room (path_depth path)) 403 (stands view.site path).place (omega (arith, le)) (paths path found.0 found.1))
@@ -300,14 +302,14 @@ module _ (view : ActivityView) (few : length view.site.vars ≤ 2 ^ 64)
   on_true-fits : (rule : Transition) → rule_fits view.sizes rule ≡ true → stmts_fit 3 (changes_code view rule.on_true) ≡ true
   on_true-fits rule h =
       changes-fit view node_spells rule.on_true
-      (and_left (list_all (change_fits view.sizes) rule.on_true) (list_all (change_fits view.sizes) rule.on_false)
-      (and_right (condition_fits view.sizes rule.condition) _ h))
+      (and_first (list_all (change_fits view.sizes) rule.on_true) (list_all (change_fits view.sizes) rule.on_false)
+      (and_second (condition_fits view.sizes rule.condition) _ h))
 
   on_false-fits : (rule : Transition) → rule_fits view.sizes rule ≡ true → stmts_fit 3 (changes_code view rule.on_false) ≡ true
   on_false-fits rule h =
       changes-fit view node_spells rule.on_false
-      (and_right (list_all (change_fits view.sizes) rule.on_true) (list_all (change_fits view.sizes) rule.on_false)
-      (and_right (condition_fits view.sizes rule.condition) _ h))
+      (and_second (list_all (change_fits view.sizes) rule.on_true) (list_all (change_fits view.sizes) rule.on_false)
+      (and_second (condition_fits view.sizes rule.condition) _ h))
 
   tested-by : (test : CExpr) (on_true other : List CStmt) → expr_fits 402 test ≡ true → stmts_fit 402 on_true ≡ true →
       stmts_fit 402 other ≡ true →
@@ -339,7 +341,7 @@ module _ (view : ActivityView) (few : length view.site.vars ≤ 2 ^ 64)
       run_stands view.site a arguments ≡ true → stmts_fit 404 (begun_code view k a rule) ≡ true
   begun-fits k a arguments rule small h stand =
       let name : Text = name_in (slice_get view.site.earlier a) in
-      both (stmt_fits 404 (c_clear (callee_frame k) (frame_name name))) (stmts_fit 404 (changes_code view rule.on_true))
+      and_from (stmt_fits 404 (c_clear (callee_frame k) (frame_name name))) (stmts_fit 404 (changes_code view rule.on_true))
       (clear-fits 404 (callee_frame k) (frame_name name) (omega arith)
       (name-struct (frame_name name) (frame-named name (name_known (slice_get view.site.earlier a) a refl (known a arguments stand))))
       (callee-frame-fits 404 k (omega arith) small)) (only rule h)
@@ -410,13 +412,13 @@ module _ (view : ActivityView) (few : length view.site.vars ≤ 2 ^ 64)
   turn-is : (a : ℕ) (rule : Transition) → rule_fits view.sizes rule ≡ true → node_fits view.site a rule.node ≡ true →
       turn_fits view.word (node_turn view a rule) ≡ true
   turn-is a rule h fit =
-      both (expr_fits 403 (guard_of view rule.node rule.condition) && flag_fits view.word (flag_asked view rule.node rule.condition))
+      and_from (expr_fits 403 (guard_of view rule.node rule.condition) && flag_fits view.word (flag_asked view rule.node rule.condition))
       (stmts_fit 404 (own_code view a rule rule.node) && stmts_fit 404 (control_code view a rule rule.node))
-      (both (expr_fits 403 (guard_of view rule.node rule.condition)) (flag_fits view.word (flag_asked view rule.node rule.condition))
+      (and_from (expr_fits 403 (guard_of view rule.node rule.condition)) (flag_fits view.word (flag_asked view rule.node rule.condition))
       (expr_fits-more 68 403 (guard_of view rule.node rule.condition) (omega arith)
-      (guard-fits view node_spells rule.node rule.condition (and_left (condition_fits view.sizes rule.condition) _ h)))
+      (guard-fits view node_spells rule.node rule.condition (and_first (condition_fits view.sizes rule.condition) _ h)))
       (asked-is rule.node rule.condition))
-      (both (stmts_fit 404 (own_code view a rule rule.node)) (stmts_fit 404 (control_code view a rule rule.node))
+      (and_from (stmts_fit 404 (own_code view a rule rule.node)) (stmts_fit 404 (control_code view a rule rule.node))
       (own-is a rule rule.node h fit) (control-is a rule rule.node h fit))
 
   -- the turns of all nodes fit
@@ -425,12 +427,12 @@ module _ (view : ActivityView) (few : length view.site.vars ≤ 2 ^ 64)
   turns-fit [] rules all = refl
   turns-fit (a ∷ callees) [] all = refl
   turns-fit (a ∷ callees) (rule ∷ rules) all =
-      let own = and_left (rule_fits view.sizes rule && node_fits view.site a rule.node) (all_fit view.sizes view.site callees rules) all in
-      both (turn_fits view.word (node_turn view a rule)) (list_all (turn_fits view.word) (turns_of view callees rules))
-      (turn-is a rule (and_left (rule_fits view.sizes rule) (node_fits view.site a rule.node) own)
-      (and_right (rule_fits view.sizes rule) (node_fits view.site a rule.node) own))
+      let own = and_first (rule_fits view.sizes rule && node_fits view.site a rule.node) (all_fit view.sizes view.site callees rules) all in
+      and_from (turn_fits view.word (node_turn view a rule)) (list_all (turn_fits view.word) (turns_of view callees rules))
+      (turn-is a rule (and_first (rule_fits view.sizes rule) (node_fits view.site a rule.node) own)
+      (and_second (rule_fits view.sizes rule) (node_fits view.site a rule.node) own))
       (turns-fit callees rules
-      (and_right (rule_fits view.sizes rule && node_fits view.site a rule.node) (all_fit view.sizes view.site callees rules) all))
+      (and_second (rule_fits view.sizes rule && node_fits view.site a rule.node) (all_fit view.sizes view.site callees rules) all))
 
 -- ---- blocks
 
@@ -444,18 +446,18 @@ module _ (word : ℕ → Text) where
     does = stmts_fit 404 turn.own && stmts_fit 404 turn.control
 
     test-of : expr_fits 403 turn.test ≡ true
-    test-of = and_left (expr_fits 403 turn.test) (flag_fits word turn.flag) (and_left asks does fit)
+    test-of = and_first (expr_fits 403 turn.test) (flag_fits word turn.flag) (and_first asks does fit)
 
     flag-of : flag_fits word turn.flag ≡ true
-    flag-of = and_right (expr_fits 403 turn.test) (flag_fits word turn.flag) (and_left asks does fit)
+    flag-of = and_second (expr_fits 403 turn.test) (flag_fits word turn.flag) (and_first asks does fit)
 
     own-of : stmts_fit 404 turn.own ≡ true
-    own-of = and_left (stmts_fit 404 turn.own) (stmts_fit 404 turn.control) (and_right asks does fit)
+    own-of = and_first (stmts_fit 404 turn.own) (stmts_fit 404 turn.control) (and_second asks does fit)
 
     -- with its call, or without it
     control-of : (leaves : Bool) → stmts_fit 404 (control_unless leaves turn) ≡ true
     control-of true = refl
-    control-of false = and_right (stmts_fit 404 turn.own) (stmts_fit 404 turn.control) (and_right asks does fit)
+    control-of false = and_second (stmts_fit 404 turn.own) (stmts_fit 404 turn.control) (and_second asks does fit)
 
   -- what the turns of a block do fits as deep as what each of them does
   fused-fits : (leaves : Bool) (turn : NodeCode) (turns : List NodeCode) → turn_fits word turn ≡ true → list_all (turn_fits word) turns ≡ true →
@@ -464,8 +466,8 @@ module _ (word : ℕ → Text) where
       all_append (stmt_fits 404) last.own (control_unless leaves last) (own-of last own) (control-of last own leaves)
   fused-fits leaves turn (next ∷ rest) own all =
       all_append (stmt_fits 404) turn.own (fused_code leaves next rest) (own-of turn own)
-      (fused-fits leaves next rest (and_left (turn_fits word next) (list_all (turn_fits word) rest) all)
-      (and_right (turn_fits word next) (list_all (turn_fits word) rest) all))
+      (fused-fits leaves next rest (and_first (turn_fits word next) (list_all (turn_fits word) rest) all)
+      (and_second (turn_fits word next) (list_all (turn_fits word) rest) all))
 
   entered-fits : (before : Option ℕ) (test : CExpr) → flag_fits word before ≡ true → expr_fits 403 test ≡ true →
       expr_fits 404 (entered_by word before test) ≡ true
@@ -477,11 +479,11 @@ module _ (word : ℕ → Text) where
       stmts_fit 405 (merged_code word before leaves turns) ≡ true
   merged-fits before leaves [] flag all = refl
   merged-fits before leaves (first ∷ rest) flag all =
-      let own = and_left (turn_fits word first) (list_all (turn_fits word) rest) all in
+      let own = and_first (turn_fits word first) (list_all (turn_fits word) rest) all in
       one-fits 405 (c_if (entered_by word before first.test) (fused_code leaves first rest) None)
       (if-fits 404 405 nowhere (entered_by word before first.test) (fused_code leaves first rest) (omega arith)
       (entered-fits before first.test flag (test-of first own))
-      (fused-fits leaves first rest own (and_right (turn_fits word first) (list_all (turn_fits word) rest) all)))
+      (fused-fits leaves first rest own (and_second (turn_fits word first) (list_all (turn_fits word) rest) all)))
 
   left-fits : (block : List NodeCode) (next : Option NodeCode) → list_all (turn_fits word) block ≡ true → flag_fits word (leaving_flag block next) ≡ true
   left-fits [] next all = refl
@@ -489,7 +491,7 @@ module _ (word : ℕ → Text) where
   left-fits (first ∷ rest) (Some next) all = by (same_run (last_turn first rest).run next.run)
     where
       by : (same : Bool) → flag_fits word (if same then first.flag else None) ≡ true
-      by true = flag-of first (and_left (turn_fits word first) (list_all (turn_fits word) rest) all)
+      by true = flag-of first (and_first (turn_fits word first) (list_all (turn_fits word) rest) all)
       by false = refl
 
   -- blocks whose turns fit do so
@@ -498,7 +500,7 @@ module _ (word : ℕ → Text) where
   all_merged-fit before [] flag all = refl
   all_merged-fit before (block ∷ rest) flag all =
       let left : Option ℕ = leaving_flag block (next_turn rest) in
-      let own = and_left (list_all (turn_fits word) block) (list_all (list_all (turn_fits word)) rest) all in
+      let own = and_first (list_all (turn_fits word) block) (list_all (list_all (turn_fits word)) rest) all in
       all_append (stmt_fits 405) (merged_code word before (is_some left) block) (all_merged word left rest) (merged-fits before (is_some left) block flag own)
       (all_merged-fit left rest (left-fits block (next_turn rest) own)
-      (and_right (list_all (turn_fits word) block) (list_all (list_all (turn_fits word)) rest) all))
+      (and_second (list_all (turn_fits word) block) (list_all (list_all (turn_fits word)) rest) all))

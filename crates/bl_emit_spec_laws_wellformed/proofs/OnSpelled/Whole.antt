@@ -5,7 +5,9 @@ use Rattle.std.proofs.lemmas.Bool.Decides.{nat_tests}
 use Rattle.std.proofs.lemmas.List.Folds.{list_all-append}
 use Rattle.std.proofs.lemmas.Option.{same_Some}
 use Rattle.std.specs.List.{list_all}
-use Rattle.std.specs.Prelude.{filter, nat_lt, option_and_then, slice_get, option_to_list, if◌then◌else◌}
+use Rattle.std.specs.Prelude.{filter, nat_lt, option_and_then, slice_get, if◌then◌else◌}
+use Rattle.std.proofs.lemmas.Bool.{and_from}
+use Rattle.bl_tree.proofs.Basics.{all_append, and_first, and_second, less_test}
 use Rattle.bl_tree.specs.declared.text.Text.{Text}
 use Rattle.bl_tree.specs.declared.c.CLocal.{CLocal}
 use Rattle.bl_tree.specs.declared.c.CMember.{CMember}
@@ -28,7 +30,6 @@ use Rattle.bl_tree.specs.Reduce.{joined}
 use Rattle.bl_tree.specs.Types.{type_stands}
 use Rattle.bl_tree.specs.Typing.{TypingContext, fits, site_of, type_of, type_of_path}
 use Rattle.bl_tree.specs.Words as words
-use Rattle.bl_eval.proofs.PassLemmas.{all_at, and_left, and_right, both}
 use Rattle.bl_ctext.specs.Names.{is_name}
 use Rattle.bl_ctext.specs.Spellable.{has_any, is_c_scalar, spells_local, spells_member, spells_param, spells_struct, spells_type}
 use Rattle.bl_ctext.specs.inner.Fits.{expr_fits, func_fits, place_fits, stmt_fits, stmts_fit}
@@ -52,61 +53,16 @@ use Rattle.bl_emit_functions.specs.Functions.{members_of, memory_name, params_fr
 use Rattle.bl_emit_functions_laws_wellformed.specs.Spelled.{ActsFit, MembersSpelled}
 use Rattle.bl_emit_functions_laws_wellformed.proofs.OnSpelled.Acts.{one-fits, own-fits, room}
 use Rattle.bl_emit_functions_laws_wellformed.proofs.OnSpelled.Functions.{memory-named}
-use Rattle.bl_emit_functions_laws_wellformed.proofs.OnSpelled.Types.{all_append, scalar_spelled, source_name, struct_names}
+use Rattle.bl_emit_functions_laws_wellformed.proofs.OnSpelled.Types.{scalar_spelled, source_name, struct_names}
 use Rattle.bl_emit_functions_laws_wellformed.proofs.OnSpelled.Functions.{earlier_named, params-spelled, typed}
 use Rattle.bl_tree.specs.Rules.{same_place}
 use Rattle.bl_tree.specs.declared.place.Place.{Place}
-use Rattle.bl_emit_spec.specs.Activities.{
-  Activity,
-  RunAt,
-  activity_code,
-  activity_function,
-  activity_locals,
-  activity_params,
-  activity_view,
-  blocks_code,
-  blocks_in_order,
-  body_of,
-  callees_in,
-  copied_in,
-  copy_local,
-  counter_member,
-  counters_read,
-  enters_at,
-  entry_code,
-  entry_place,
-  first_rules,
-  flag_local,
-  frame_member,
-  frame_struct,
-  given_local,
-  is_flagged,
-  mark_local,
-  mark_locals,
-  memory_member,
-  memory_params,
-  one_a_place,
-  over_params,
-  picked,
-  remembered,
-  remembered_struct,
-  remembers_any,
-  rested_code,
-  rested_local,
-  result_params,
-  rules_at,
-  run_at,
-  run_locals,
-  run_number_in,
-  runs_at,
-  runs_in_body,
-  scalar_local,
-  struct_member,
-  turns_in_source,
-  word_of_run,
-  ended_local,
-  some_ends,
-}
+use Rattle.bl_emit_spec.specs.Activities.{Activity, RunAt, activity_code, activity_function, activity_locals, activity_params, activity_view, blocks_code}
+use Rattle.bl_emit_spec.specs.Activities.{blocks_in_order, body_of, callees_in, copied_in, copy_local, counter_member, counters_read, enters_at, entry_code}
+use Rattle.bl_emit_spec.specs.Activities.{entry_place, first_rules, flag_local, frame_member, frame_struct, given_local, is_flagged, mark_local, mark_locals}
+use Rattle.bl_emit_spec.specs.Activities.{memory_member, memory_params, one_a_place, over_params, picked, remembered, remembered_struct, remembers_any}
+use Rattle.bl_emit_spec.specs.Activities.{rested_code, rested_local, result_params, rules_at, run_at, run_locals, run_number_in, runs_at, runs_in_body}
+use Rattle.bl_emit_spec.specs.Activities.{scalar_local, struct_member, turns_in_source, word_of_run, ended_local, some_ends}
 use Rattle.bl_emit_spec.specs.Blocks.{ActivityView, NodeCode, counter_value, name_in, node_word, unit_may_end}
 use Rattle.bl_emit_spec.specs.Names.{NumberedWord, callee_name, counter_name, counter_place, ended_name, flag_name, flag_place, frame_name, given_name}
 use Rattle.bl_emit_spec.specs.Names.{mark_name, rested_name, rested_place}
@@ -116,37 +72,33 @@ use Rattle.bl_emit_spec_laws_wellformed.proofs.OnSpelled.Guards.{flag-fits, fram
 use Rattle.bl_emit_spec_laws_wellformed.proofs.OnSpelled.Guards.{type-spelled}
 use Rattle.bl_emit_spec_laws_wellformed.proofs.OnSpelled.Nodes.{all_merged-fit, callee-named, frame-named, run-callee, turn_fits, turns-fit}
 use Rattle.bl_emit_spec_laws_wellformed.proofs.OnSpelled.Words.{number-word}
+use Rattle.bl_emit_spec_laws_wellformed.proofs.OnNames.Names.{low}
+use Rattle.bl_emit_spec_laws_wellformed.proofs.OnNumbers.Firsts.{picked-all}
 
 -- ---- lists
-
-lt_test : (k n : ℕ) → k < n → nat_lt k n ≡ true
-lt_test k n h = grind (arith, nat_tests)
-
-low : (k : ℕ) → nat_lt k (2 ^ 64) ≡ true → k < 2 ^ 64
-low k h = grind (arith, nat_tests)
 
 all_below : (p : ℕ → Bool) (n : ℕ) → ((k : ℕ) → k < n → p k ≡ true) → list_all p (up_to n) ≡ true
 all_below p zero each = refl
 all_below p (suc n) each =
     let last : n < suc n = omega arith in
     all_append p (up_to n) (n ∷ []) (all_below p n (λ k less. let more : k < suc n = omega (arith, less) in each k more))
-    (both (p n) true (each n last) refl)
+    (and_from (p n) true (each n last) refl)
 
 all_filtered : (p test : ℕ → Bool) (ks : List ℕ) → list_all p ks ≡ true → list_all p (filter test ks) ≡ true
 all_filtered p test [] all = refl
 all_filtered p test (k ∷ ks) all =
-    by (test k) (and_left (p k) (list_all p ks) all) (all_filtered p test ks (and_right (p k) (list_all p ks) all))
+    by (test k) (and_first (p k) (list_all p ks) all) (all_filtered p test ks (and_second (p k) (list_all p ks) all))
   where
     by : (b : Bool) → p k ≡ true → list_all p (filter test ks) ≡ true →
         list_all p (if b then k ∷ filter test ks else filter test ks) ≡ true
-    by true one rest = both (p k) (list_all p (filter test ks)) one rest
+    by true one rest = and_from (p k) (list_all p (filter test ks)) one rest
     by false one rest = rest
 
 all_mapped : {A B : Type 0} (p : B → Bool) (f : A → B) (xs : List A) → list_all (λ x. p (f x)) xs ≡ true → list_all p (map f xs) ≡ true
 all_mapped p f [] all = refl
 all_mapped p f (x ∷ xs) all =
-    both (p (f x)) (list_all p (map f xs)) (and_left (p (f x)) (list_all (λ x. p (f x)) xs) all)
-    (all_mapped p f xs (and_right (p (f x)) (list_all (λ x. p (f x)) xs) all))
+    and_from (p (f x)) (list_all p (map f xs)) (and_first (p (f x)) (list_all (λ x. p (f x)) xs) all)
+    (all_mapped p f xs (and_second (p (f x)) (list_all (λ x. p (f x)) xs) all))
 
 joined_each : {A B : Type 0} (p : B → Bool) (f : A → List B) → ((x : A) → list_all p (f x) ≡ true) → (xs : List A) →
     list_all p (joined (map f xs)) ≡ true
@@ -158,17 +110,8 @@ joined_where : {A B : Type 0} (p : B → Bool) (f : A → List B) (ok : A → Bo
     list_all ok xs ≡ true → list_all p (joined (map f xs)) ≡ true
 joined_where p f ok each [] all = refl
 joined_where p f ok each (x ∷ xs) all =
-    all_append p (f x) (joined (map f xs)) (each x (and_left (ok x) (list_all ok xs) all))
-    (joined_where p f ok each xs (and_right (ok x) (list_all ok xs) all))
-
-all_picked : {A : Type 0} (p : A → Bool) (all : List A) (ks : List ℕ) → list_all p all ≡ true → list_all p (picked all ks) ≡ true
-all_picked p all [] h = refl
-all_picked {A = A} p all (k ∷ ks) h =
-    all_append p (option_to_list (slice_get all k)) (picked all ks) (by (slice_get all k) refl) (all_picked p all ks h)
-  where
-    by : (o : Option A) → slice_get all k ≡ o → list_all p (option_to_list o) ≡ true
-    by None is = refl
-    by (Some x) is = both (p x) true (all_at p all k x h is) refl
+    all_append p (f x) (joined (map f xs)) (each x (and_first (ok x) (list_all ok xs) all))
+    (joined_where p f ok each xs (and_second (ok x) (list_all ok xs) all))
 
 blocks-fit : (word : ℕ → Text) (turns : List NodeCode) (blocks : List (List ℕ)) → list_all (turn_fits word) turns ≡ true →
     stmts_fit 405 (blocks_code word turns blocks) ≡ true
@@ -177,8 +120,8 @@ blocks-fit word turns blocks all = all_merged-fit word None (map (picked turns) 
     each : (blocks : List (List ℕ)) → list_all (list_all (turn_fits word)) (map (picked turns) blocks) ≡ true
     each [] = refl
     each (block ∷ blocks) =
-        both (list_all (turn_fits word) (picked turns block)) (list_all (list_all (turn_fits word)) (map (picked turns) blocks))
-        (all_picked (turn_fits word) turns block all) (each blocks)
+        and_from (list_all (turn_fits word) (picked turns block)) (list_all (list_all (turn_fits word)) (map (picked turns) blocks))
+        (picked-all (turn_fits word) turns block all) (each blocks)
 
 -- ---- an activity
 
@@ -194,7 +137,7 @@ module _ (units : List UnitDef) (entry k : ℕ) (a : Activity) (keeps : IsWellTy
 
   unit_names : list_all words.is_name (map (λ (unit : UnitDef). unit.name) units) ≡ true
   unit_names =
-      and_right (list_all words.is_name (map (λ (def : StructDef). def.name) a.structs))
+      and_second (list_all words.is_name (map (λ (def : StructDef). def.name) a.structs))
       (list_all words.is_name (map (λ (unit : UnitDef). unit.name) units))
       (sym (list_all-append words.is_name (map (λ (def : StructDef). def.name) a.structs) (map (λ (unit : UnitDef). unit.name) units))
       ∙ keeps.named)
@@ -207,9 +150,9 @@ module _ (units : List UnitDef) (entry k : ℕ) (a : Activity) (keeps : IsWellTy
       by [] k all there = absurd (cc)
       by (first ∷ units) zero all there =
           ap (λ (unit : UnitDef). words.is_name unit.name) (sym (same_Some first a.unit there))
-          ∙ and_left (words.is_name first.name) (list_all words.is_name (map (λ (unit : UnitDef). unit.name) units)) all
+          ∙ and_first (words.is_name first.name) (list_all words.is_name (map (λ (unit : UnitDef). unit.name) units)) all
       by (first ∷ units) (suc k) all there =
-          by units k (and_right (words.is_name first.name) (list_all words.is_name (map (λ (unit : UnitDef). unit.name) units)) all) there
+          by units k (and_second (words.is_name first.name) (list_all words.is_name (map (λ (unit : UnitDef). unit.name) units)) all) there
 
   named : (f : ℕ) (callee : UnitDef) → slice_get a.earlier f ≡ Some callee → words.is_name callee.name ≡ true
   named =
@@ -229,10 +172,10 @@ module _ (units : List UnitDef) (entry k : ℕ) (a : Activity) (keeps : IsWellTy
   one_run : (f : ℕ) (n : Node) → node_fits site f n ≡ true → list_all run_ok (run_at number f n) ≡ true
   unfolding run_ok
   one_run f (EnterAt l at arguments) h =
-      let found = run-callee site arguments.target arguments.inputs arguments.outputs (slice_get a.earlier f) (and_left _ _ h) in
-      both (nat_lt (number (EnterAt l at arguments)) (2 ^ 64) && words.is_name (name_in (slice_get a.earlier f))) true
-      (both (nat_lt (number (EnterAt l at arguments)) (2 ^ 64)) (words.is_name (name_in (slice_get a.earlier f)))
-      (lt_test (number (EnterAt l at arguments)) (2 ^ 64) (numbers (EnterAt l at arguments)))
+      let found = run-callee site arguments.target arguments.inputs arguments.outputs (slice_get a.earlier f) (and_first _ _ h) in
+      and_from (nat_lt (number (EnterAt l at arguments)) (2 ^ 64) && words.is_name (name_in (slice_get a.earlier f))) true
+      (and_from (nat_lt (number (EnterAt l at arguments)) (2 ^ 64)) (words.is_name (name_in (slice_get a.earlier f)))
+      (less_test (number (EnterAt l at arguments)) (2 ^ 64) (numbers (EnterAt l at arguments)))
       (name_of (slice_get a.earlier f) f found.0 refl found.1)) refl
   one_run f (ActAt l s) h = refl
   one_run f (TestAt l at e) h = refl
@@ -252,26 +195,26 @@ module _ (units : List UnitDef) (entry k : ℕ) (a : Activity) (keeps : IsWellTy
   runs_by [] rules all = refl
   runs_by (f ∷ callees) [] all = refl
   runs_by (f ∷ callees) (rule ∷ rules) all =
-      let own = and_left (rule_fits a.sizes rule && node_fits site f rule.node) (all_fit a.sizes site callees rules) all in
+      let own = and_first (rule_fits a.sizes rule && node_fits site f rule.node) (all_fit a.sizes site callees rules) all in
       all_append run_ok (run_at number f rule.node) (runs_at number callees rules)
-      (one_run f rule.node (and_right (rule_fits a.sizes rule) (node_fits site f rule.node) own))
-      (runs_by callees rules (and_right (rule_fits a.sizes rule && node_fits site f rule.node) (all_fit a.sizes site callees rules) all))
+      (one_run f rule.node (and_second (rule_fits a.sizes rule) (node_fits site f rule.node) own))
+      (runs_by callees rules (and_second (rule_fits a.sizes rule && node_fits site f rule.node) (all_fit a.sizes site callees rules) all))
 
   kept_ok : (test : RunAt → Bool) (runs : List RunAt) → list_all run_ok runs ≡ true → list_all run_ok (filter test runs) ≡ true
   kept_ok test [] all = refl
-  kept_ok test (run ∷ runs) all = by (test run) (kept_ok test runs (and_right (run_ok run) (list_all run_ok runs) all))
+  kept_ok test (run ∷ runs) all = by (test run) (kept_ok test runs (and_second (run_ok run) (list_all run_ok runs) all))
     where
       by : (b : Bool) → list_all run_ok (filter test runs) ≡ true → list_all run_ok (cond b (run ∷ filter test runs) (filter test runs)) ≡ true
-      by true rest = both (run_ok run) (list_all run_ok (filter test runs)) (and_left (run_ok run) (list_all run_ok runs) all) rest
+      by true rest = and_from (run_ok run) (list_all run_ok (filter test runs)) (and_first (run_ok run) (list_all run_ok runs) all) rest
       by false rest = rest
 
   once_ok : (runs : List RunAt) → list_all run_ok runs ≡ true → list_all run_ok (one_a_place runs) ≡ true
   once_ok [] all = refl
   once_ok (run ∷ runs) all =
-      both (run_ok run) (list_all run_ok (filter (λ (other : RunAt). not (same_place run.place other.place)) (one_a_place runs)))
-      (and_left (run_ok run) (list_all run_ok runs) all)
+      and_from (run_ok run) (list_all run_ok (filter (λ (other : RunAt). not (same_place run.place other.place)) (one_a_place runs)))
+      (and_first (run_ok run) (list_all run_ok runs) all)
       (kept_ok (λ (other : RunAt). not (same_place run.place other.place)) (one_a_place runs)
-      (once_ok runs (and_right (run_ok run) (list_all run_ok runs) all)))
+      (once_ok runs (and_second (run_ok run) (list_all run_ok runs) all)))
 
   runs_ok : list_all run_ok (runs_in_body a) ≡ true
   runs_ok = once_ok (runs_at number (callees_in (body_of a)) (rules_at a)) (runs_by (callees_in (body_of a)) (rules_at a) fitted)
@@ -290,11 +233,11 @@ module _ (units : List UnitDef) (entry k : ℕ) (a : Activity) (keeps : IsWellTy
 
   run_low : (run : RunAt) → run_ok run ≡ true → run.number < 2 ^ 64
   unfolding run_ok
-  run_low run h = low run.number (and_left (nat_lt run.number (2 ^ 64)) (words.is_name (name_in (slice_get a.earlier run.unit))) h)
+  run_low run h = low run.number (and_first (nat_lt run.number (2 ^ 64)) (words.is_name (name_in (slice_get a.earlier run.unit))) h)
 
   run_named : (run : RunAt) → run_ok run ≡ true → words.is_name (name_in (slice_get a.earlier run.unit)) ≡ true
   unfolding run_ok
-  run_named run h = and_right (nat_lt run.number (2 ^ 64)) (words.is_name (name_in (slice_get a.earlier run.unit))) h
+  run_named run h = and_second (nat_lt run.number (2 ^ 64)) (words.is_name (name_in (slice_get a.earlier run.unit))) h
 
   -- the number and word in the C names of a `run`
   abbrev word : RunAt → NumberedWord
@@ -318,13 +261,13 @@ module _ (units : List UnitDef) (entry k : ℕ) (a : Activity) (keeps : IsWellTy
 
   member_is : (name of : Text) → is_name name ≡ true → is_name of ≡ true → spells_member (struct_member name of) ≡ true
   member_is name of one other =
-      both (spells_type (OfStruct of)) (is_name name && true) (struct_type of other) (both (is_name name) true one refl)
+      and_from (spells_type (OfStruct of)) (is_name name && true) (struct_type of other) (and_from (is_name name) true one refl)
 
   counter_is : (j : ℕ) → j < length a.sizes → spells_member (counter_member a.sizes j) ≡ true
   counter_is j less =
       let small : j < 2 ^ 64 = omega (arith, less, short) in
-      both (is_c_scalar _) (is_name (counter_name j) && true) (type-spelled a.sizes j)
-      (both (is_name (counter_name j)) true (numbered-name 99 j refl refl small) refl)
+      and_from (is_c_scalar _) (is_name (counter_name j) && true) (type-spelled a.sizes j)
+      (and_from (is_name (counter_name j)) true (numbered-name 99 j refl refl small) refl)
 
   frame_members : list_all spells_member (frame_struct a).members ≡ true
   frame_members =
@@ -336,11 +279,11 @@ module _ (units : List UnitDef) (entry k : ℕ) (a : Activity) (keeps : IsWellTy
       by : (runs : List RunAt) → list_all run_ok runs ≡ true → list_all spells_member (map (frame_member a) runs) ≡ true
       by [] all = refl
       by (run ∷ runs) all =
-          let own = and_left (run_ok run) (list_all run_ok runs) all in
-          both (spells_member (frame_member a run)) (list_all spells_member (map (frame_member a) runs))
+          let own = and_first (run_ok run) (list_all run_ok runs) all in
+          and_from (spells_member (frame_member a run)) (list_all spells_member (map (frame_member a) runs))
           (member_is (callee_name (word run)) (frame_name (name_in (slice_get a.earlier run.unit))) (callee-named (word run) (run_spells run own))
           (frame-named (name_in (slice_get a.earlier run.unit)) (run_named run own)))
-          (by runs (and_right (run_ok run) (list_all run_ok runs) all))
+          (by runs (and_second (run_ok run) (list_all run_ok runs) all))
 
   pub frame-spelled : has_any (frame_struct a).members ≡ true → spells_struct (frame_struct a) ≡ true
   frame-spelled some =
@@ -353,7 +296,7 @@ module _ (units : List UnitDef) (entry k : ℕ) (a : Activity) (keeps : IsWellTy
       by : (b : Bool) → list_all spells_member
           (if b then struct_member (callee_name (word run)) (memory_name (name_in (slice_get a.earlier run.unit))) ∷ [] else []) ≡ true
       by true =
-          both (spells_member (struct_member (callee_name (word run)) (memory_name (name_in (slice_get a.earlier run.unit))))) true
+          and_from (spells_member (struct_member (callee_name (word run)) (memory_name (name_in (slice_get a.earlier run.unit))))) true
           (member_is (callee_name (word run)) (memory_name (name_in (slice_get a.earlier run.unit))) (callee-named (word run) (run_spells run ok))
           (memory-named (name_in (slice_get a.earlier run.unit)) (run_named run ok))) refl
       by false = refl
@@ -361,7 +304,7 @@ module _ (units : List UnitDef) (entry k : ℕ) (a : Activity) (keeps : IsWellTy
   struct_by : (members : List CMember) → list_all spells_member members ≡ true → list_all spells_struct (struct_of a.unit.name members) ≡ true
   struct_by [] h = refl
   struct_by (m ∷ members) h =
-      both (spells_struct (record { place = nowhere; name = memory_name a.unit.name; members = m ∷ members })) true
+      and_from (spells_struct (record { place = nowhere; name = memory_name a.unit.name; members = m ∷ members })) true
       (struct-spells nowhere (memory_name a.unit.name) (m ∷ members)
       (name-struct (memory_name a.unit.name) (memory-named a.unit.name own_name)) refl h) refl
 
@@ -376,11 +319,11 @@ module _ (units : List UnitDef) (entry k : ℕ) (a : Activity) (keeps : IsWellTy
 
   param_is : (name of : Text) → is_name name ≡ true → is_name of ≡ true →
       spells_param (record { ty = OfStruct of; pointer = true; name = name }) ≡ true
-  param_is name of one other = both (spells_type (OfStruct of)) (is_name name) (struct_type of other) one
+  param_is name of one other = and_from (spells_type (OfStruct of)) (is_name name) (struct_type of other) one
 
   params_are : list_all spells_param (activity_params a) ≡ true
   params_are =
-      both (spells_param (record { ty = OfStruct (frame_name a.unit.name); pointer = true; name = codes "f" })) _
+      and_from (spells_param (record { ty = OfStruct (frame_name a.unit.name); pointer = true; name = codes "f" })) _
       (param_is (codes "f") (frame_name a.unit.name) frame-letter (frame-named a.unit.name own_name))
       (all_append spells_param (memory_params a (remembers_any a))
       (params_from a.structs a.unit.vars 0 (parameters_of a.unit) ++ (result_params a.unit.result ++ over_params (unit_may_end a.unit)))
@@ -390,35 +333,35 @@ module _ (units : List UnitDef) (entry k : ℕ) (a : Activity) (keeps : IsWellTy
       (all_append spells_param (result_params a.unit.result) (over_params (unit_may_end a.unit)) (result a.unit.result) (over (unit_may_end a.unit)))))
     where
       over : (ends : Bool) → list_all spells_param (over_params ends) ≡ true
-      over true = both (is_name (codes "e")) true end-letter refl
+      over true = and_from (is_name (codes "e")) true end-letter refl
       over false = refl
 
       remembers : (b : Bool) → list_all spells_param (memory_params a b) ≡ true
       remembers true =
-          both (spells_param (record { ty = OfStruct (memory_name a.unit.name); pointer = true; name = codes "m" })) true
+          and_from (spells_param (record { ty = OfStruct (memory_name a.unit.name); pointer = true; name = codes "m" })) true
           (param_is (codes "m") (memory_name a.unit.name) memory-name (memory-named a.unit.name own_name)) refl
       remembers false = refl
 
       result : (o : Option ScalarType) → list_all spells_param (result_params o) ≡ true
       result None = refl
-      result (Some s) = both (is_c_scalar (c_scalar s) && is_name (codes "r")) true (both (is_c_scalar (c_scalar s)) (is_name (codes "r"))
+      result (Some s) = and_from (is_c_scalar (c_scalar s) && is_name (codes "r")) true (and_from (is_c_scalar (c_scalar s)) (is_name (codes "r"))
           (scalar_spelled s) result-letter) refl
 
   local_is : (s : ScalarType) (name : Text) → is_c_scalar s ≡ true → is_name name ≡ true → spells_local (scalar_local s name) ≡ true
-  local_is s name one other = both (is_c_scalar s) (is_name name) one other
+  local_is s name one other = and_from (is_c_scalar s) (is_name name) one other
 
   flag_is : (rule : Transition) → list_all spells_local (flag_local view rule) ≡ true
   flag_is rule = by (is_flagged rule.condition)
     where
       by : (b : Bool) → list_all spells_local (if b then scalar_local OfBool (flag_name (node_word view rule.node)) ∷ [] else []) ≡ true
       by true =
-          both (spells_local (scalar_local OfBool (flag_name (node_word view rule.node)))) true
+          and_from (spells_local (scalar_local OfBool (flag_name (node_word view rule.node)))) true
           (local_is OfBool (flag_name (node_word view rule.node)) refl (spelled-name 103 (node_word view rule.node) refl refl (spells rule.node))) refl
       by false = refl
 
   mark_is : (change : Change) → list_all spells_local (mark_local view change) ≡ true
   mark_is (SetsMark n) =
-      both (spells_local (scalar_local OfBool (mark_name (node_word view n)))) true
+      and_from (spells_local (scalar_local OfBool (mark_name (node_word view n)))) true
       (local_is OfBool (mark_name (node_word view n)) refl (spelled-name 117 (node_word view n) refl refl (spells n))) refl
   mark_is (SetsFlag n) = refl
   mark_is (SetsCounter slot) = refl
@@ -433,12 +376,12 @@ module _ (units : List UnitDef) (entry k : ℕ) (a : Activity) (keeps : IsWellTy
       by : (o : Option ScalarType) → list_all spells_local (given_local (word run) o) ≡ true
       by None = refl
       by (Some s) =
-          both (spells_local (scalar_local (c_scalar s) (given_name (word run)))) true
+          and_from (spells_local (scalar_local (c_scalar s) (given_name (word run)))) true
           (local_is (c_scalar s) (given_name (word run)) (scalar_spelled s) (spelled-name 114 (word run) refl refl (run_spells run ok))) refl
 
   ended_is : (ends : Bool) → list_all spells_local (ended_local ends) ≡ true
   ended_is false = refl
-  ended_is true = both (spells_local (scalar_local OfBool ended_name)) true (local_is OfBool ended_name refl ended-word) refl
+  ended_is true = and_from (spells_local (scalar_local OfBool ended_name)) true (local_is OfBool ended_name refl ended-word) refl
 
   locals_are : list_all spells_local (activity_locals a) ≡ true
   locals_are =

@@ -7,6 +7,8 @@ use Rattle.std.proofs.lemmas.List.Folds.{list_all-append}
 use Rattle.std.proofs.lemmas.Option.{same_Some}
 use Rattle.std.specs.List.{list_all}
 use Rattle.std.specs.Prelude.{slice_get, unwrap_or, if◌then◌else◌}
+use Rattle.std.proofs.lemmas.Bool.{and_from}
+use Rattle.bl_tree.proofs.Basics.{all_append, and_first, and_second, get_seam, take_front}
 use Rattle.bl_tree.specs.declared.c.CFunc.{CFunc}
 use Rattle.bl_tree.specs.declared.c.CStruct.{CStruct}
 use Rattle.bl_tree.specs.declared.program.Program.{Program}
@@ -17,7 +19,6 @@ use Rattle.bl_tree.specs.Program.{IsWellTyped, is_entry, names_of}
 use Rattle.bl_tree.specs.Types.{type_stands}
 use Rattle.bl_tree.specs.Typing.{is_activity}
 use Rattle.bl_tree.specs.Words as words
-use Rattle.bl_eval.proofs.PassLemmas.{and_left, and_right, both}
 use Rattle.bl_ctext.specs.Spellable.{has_any, is_spellable, spells_struct, spells_type}
 use Rattle.bl_ctext.specs.inner.Fits.{func_fits}
 use Rattle.bl_ctext.proofs.Fitting.{file-spells}
@@ -27,7 +28,6 @@ use Rattle.bl_emit_acts_laws_wellformed.proofs.OnFormed.Units.{unit_at}
 use Rattle.bl_emit_functions.specs.Functions.{function_code, memory_struct}
 use Rattle.bl_emit_functions_laws_wellformed.specs.Formed.{IsNumbered}
 use Rattle.bl_emit_functions_laws_wellformed.specs.Spelled.{FunctionsFit, MemoriesSpelled, StructsSpelled, TypesSpelled}
-use Rattle.bl_emit_functions_laws_wellformed.proofs.OnSpelled.Types.{all_append}
 use Rattle.bl_emit_structs.specs.Structs.{structs_of}
 use Rattle.bl_emit_spec.specs.Activities.{activity_function, frame_struct, remembered_struct}
 use Rattle.bl_emit_spec.specs.Programs.{ProgramParts, activity_of, file_at, init_function, interface_structs, needed_units}
@@ -38,29 +38,21 @@ use Rattle.bl_emit_spec_laws_wellformed.proofs.OnTexts.Interface.{init-fits, int
 
 -- ---- lists
 
-get_behind : {A : Type 0} (xs : List A) (y : A) (ys : List A) → slice_get (xs ++ y ∷ ys) (length xs) ≡ Some y
-get_behind [] y ys = refl
-get_behind (x ∷ xs) y ys = get_behind xs y ys
-
-take_front : {A : Type 0} (xs ys : List A) → take (length xs) (xs ++ ys) ≡ xs
-take_front [] ys = refl
-take_front (x ∷ xs) ys = ap (λ rest. x ∷ rest) (take_front xs ys)
-
 any_behind : {A : Type 0} (xs ys : List A) → has_any ys ≡ true → has_any (xs ++ ys) ≡ true
 any_behind [] ys h = h
 any_behind (x ∷ xs) ys h = refl
 
-taken_all : {A : Type 0} (test : A → Bool) (n : ℕ) (xs : List A) → list_all test xs ≡ true → list_all test (take n xs) ≡ true
+pub taken_all : {A : Type 0} (test : A → Bool) (n : ℕ) (xs : List A) → list_all test xs ≡ true → list_all test (take n xs) ≡ true
 taken_all test zero xs all = refl
 taken_all test (suc n) [] all = refl
 taken_all test (suc n) (x ∷ xs) all =
-    both (test x) (list_all test (take n xs)) (and_left (test x) (list_all test xs) all)
-    (taken_all test n xs (and_right (test x) (list_all test xs) all))
+    and_from (test x) (list_all test (take n xs)) (and_first (test x) (list_all test xs) all)
+    (taken_all test n xs (and_second (test x) (list_all test xs) all))
 
-dropped_all : {A : Type 0} (test : A → Bool) (n : ℕ) (xs : List A) → list_all test xs ≡ true → list_all test (drop n xs) ≡ true
+pub dropped_all : {A : Type 0} (test : A → Bool) (n : ℕ) (xs : List A) → list_all test xs ≡ true → list_all test (drop n xs) ≡ true
 dropped_all test zero xs all = all
 dropped_all test (suc n) [] all = refl
-dropped_all test (suc n) (x ∷ xs) all = dropped_all test n xs (and_right (test x) (list_all test xs) all)
+dropped_all test (suc n) (x ∷ xs) all = dropped_all test n xs (and_second (test x) (list_all test xs) all)
 
 -- ---- parts
 
@@ -77,7 +69,7 @@ module _ (structs : List StructDef) (units : List UnitDef) (entry : ℕ) (keeps 
     (frames : FramesSpelled structs units entry) (remembered : RememberedSpelled structs units entry) where
   module _ (earlier : List UnitDef) (unit : UnitDef) (rest : List UnitDef) (whole : earlier ++ unit ∷ rest ≡ units) where
     there : slice_get units (length earlier) ≡ Some unit
-    there = ap (λ units. slice_get units (length earlier)) (sym whole) ∙ get_behind earlier unit rest
+    there = ap (λ units. slice_get units (length earlier)) (sym whole) ∙ get_seam earlier unit rest
 
     before : take (length earlier) units ≡ earlier
     before = ap (take (length earlier)) (sym whole) ∙ take_front earlier (unit ∷ rest)
@@ -89,7 +81,7 @@ module _ (structs : List StructDef) (units : List UnitDef) (entry : ℕ) (keeps 
         record {
           structs = subst (λ earlier. list_all spells_struct (memory_struct structs earlier unit) ≡ true) before
               (memories (length earlier) unit keeps there numbers.variables);
-          funcs = both (func_fits 2000 (function_code structs earlier unit)) true
+          funcs = and_from (func_fits 2000 (function_code structs earlier unit)) true
               (subst (λ earlier. func_fits 2000 (function_code structs earlier unit) ≡ true) before
               (functions (length earlier) unit keeps there numbers)) refl;
         }
@@ -99,9 +91,9 @@ module _ (structs : List StructDef) (units : List UnitDef) (entry : ℕ) (keeps 
     next_spelled remember [] writes = record { structs = refl; funcs = refl }
     next_spelled remember (one ∷ machine) writes =
         let a = activity_of structs earlier remember unit one in record {
-          structs = both (spells_struct (frame_struct a)) (list_all spells_struct (remembered_struct a))
+          structs = and_from (spells_struct (frame_struct a)) (list_all spells_struct (remembered_struct a))
               (frames (length earlier) a keeps writes.can writes.rests) (remembered (length earlier) a keeps writes.can);
-          funcs = both (func_fits 2000 (activity_function a)) true (activities (length earlier) a keeps writes.can) refl;
+          funcs = and_from (func_fits 2000 (activity_function a)) true (activities (length earlier) a keeps writes.can) refl;
         }
 
     unit_spelled : (activity : Bool) (remember : List Bool) (machine : List InMachine) →
@@ -145,22 +137,22 @@ both_all : (structs : List StructDef) (vars : List Var) → list_all (λ (var : 
     list_all (λ (var : Var). type_stands (length structs) var.ty && words.is_name var.name) vars ≡ true
 both_all structs [] types names = refl
 both_all structs (var ∷ vars) types names =
-    both (type_stands (length structs) var.ty && words.is_name var.name) _
-    (both (type_stands (length structs) var.ty) (words.is_name var.name)
-    (and_left (type_stands (length structs) var.ty) (list_all (λ (var : Var). type_stands (length structs) var.ty) vars) types)
-    (and_left (words.is_name var.name) (list_all words.is_name (names_of vars)) names))
+    and_from (type_stands (length structs) var.ty && words.is_name var.name) _
+    (and_from (type_stands (length structs) var.ty) (words.is_name var.name)
+    (and_first (type_stands (length structs) var.ty) (list_all (λ (var : Var). type_stands (length structs) var.ty) vars) types)
+    (and_first (words.is_name var.name) (list_all words.is_name (names_of vars)) names))
     (both_all structs vars
-    (and_right (type_stands (length structs) var.ty) (list_all (λ (var : Var). type_stands (length structs) var.ty) vars) types)
-    (and_right (words.is_name var.name) (list_all words.is_name (names_of vars)) names))
+    (and_second (type_stands (length structs) var.ty) (list_all (λ (var : Var). type_stands (length structs) var.ty) vars) types)
+    (and_second (words.is_name var.name) (list_all words.is_name (names_of vars)) names))
 
 named_at : (units : List UnitDef) (k : ℕ) (unit : UnitDef) → list_all words.is_name (map (λ (unit : UnitDef). unit.name) units) ≡ true →
     slice_get units k ≡ Some unit → words.is_name unit.name ≡ true
 named_at [] k unit all there = absurd (cc)
 named_at (first ∷ units) zero unit all there =
     ap (λ (unit : UnitDef). words.is_name unit.name) (sym (same_Some first unit there))
-    ∙ and_left (words.is_name first.name) (list_all words.is_name (map (λ (unit : UnitDef). unit.name) units)) all
+    ∙ and_first (words.is_name first.name) (list_all words.is_name (map (λ (unit : UnitDef). unit.name) units)) all
 named_at (first ∷ units) (suc k) unit all there =
-    named_at units k unit (and_right (words.is_name first.name) (list_all words.is_name (map (λ (unit : UnitDef). unit.name) units)) all) there
+    named_at units k unit (and_second (words.is_name first.name) (list_all words.is_name (map (λ (unit : UnitDef). unit.name) units)) all) there
 
 module _ (program : Program) (keeps : IsWellTyped program.structs program.units program.entry)
     (functions : FunctionsFit program.structs program.units program.entry) (memories : MemoriesSpelled program.structs program.units program.entry)
@@ -169,7 +161,7 @@ module _ (program : Program) (keeps : IsWellTyped program.structs program.units 
     (remembered : RememberedSpelled program.structs program.units program.entry) where
   unit_names : list_all words.is_name (map (λ (unit : UnitDef). unit.name) program.units) ≡ true
   unit_names =
-      and_right (list_all words.is_name (map (λ (def : StructDef). def.name) program.structs))
+      and_second (list_all words.is_name (map (λ (def : StructDef). def.name) program.structs))
       (list_all words.is_name (map (λ (unit : UnitDef). unit.name) program.units))
       (sym (list_all-append words.is_name (map (λ (def : StructDef). def.name) program.structs) (map (λ (unit : UnitDef). unit.name) program.units))
       ∙ keeps.named)
@@ -182,8 +174,8 @@ module _ (program : Program) (keeps : IsWellTyped program.structs program.units 
       let remembers : Bool = unwrap_or (slice_get parts.remember program.entry) false in
       let stand = unit_at program.structs program.units program.entry keeps program.entry unit is in
       let types_stand : list_all (λ (var : Var). type_stands (length program.structs) var.ty) unit.vars ≡ true =
-      and_left _ _ (and_right _ _ stand) in
-      let names : list_all words.is_name (names_of unit.vars) ≡ true = and_left _ _ (and_right _ _ (and_left _ _ stand)) in
+      and_first _ _ (and_second _ _ stand) in
+      let names : list_all words.is_name (names_of unit.vars) ≡ true = and_first _ _ (and_second _ _ (and_first _ _ stand)) in
       let all = both_all program.structs unit.vars types_stand names in
       let test : Var → Bool = λ var. type_stands (length program.structs) var.ty && words.is_name var.name in
       let ins = taken_all test unit.inputs unit.vars all in
@@ -198,9 +190,9 @@ module _ (program : Program) (keeps : IsWellTyped program.structs program.units 
       (all_append spells_struct (structs_of program) (parts.structs ++ interface) (structs_spelled keeps)
       (all_append spells_struct parts.structs interface spelled.structs (interface-spelled program.structs typed unit remembers named ins outs)))
       (all_append (func_fits 2000) parts.funcs last spelled.funcs
-      (both (func_fits 2000 init_function) (func_fits 2000 (tick_function unit remembers) && true)
+      (and_from (func_fits 2000 init_function) (func_fits 2000 (tick_function unit remembers) && true)
       (init-fits program.structs typed unit remembers named ins outs)
-      (both (func_fits 2000 (tick_function unit remembers)) true (tick-fits program.structs typed unit remembers named ins outs) refl)))
+      (and_from (func_fits 2000 (tick_function unit remembers)) true (tick-fits program.structs typed unit remembers named ins outs) refl)))
 
 pub files : (program : Program) → FunctionsFit program.structs program.units program.entry →
     MemoriesSpelled program.structs program.units program.entry →

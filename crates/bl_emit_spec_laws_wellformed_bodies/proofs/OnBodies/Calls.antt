@@ -4,6 +4,8 @@ use Rattle.std.proofs.Common.{refl, sym, ap, ◌∙◌, subst, take-add}
 use Rattle.std.proofs.lemmas.List.{map-append}
 use Rattle.std.specs.Prelude.{Contains, is_none, is_some, slice_get}
 use Rattle.std.specs.List.{list_all}
+use Rattle.std.proofs.lemmas.Bool.{and_from}
+use Rattle.bl_tree.proofs.Basics.{and_first, and_second, both_empty}
 use Rattle.bl_tree.specs.declared.c.CStmt.{CStmt}
 use Rattle.bl_tree.specs.declared.place.Place.{Place}
 use Rattle.bl_tree.specs.declared.c.CArg.{CArg}
@@ -26,11 +28,10 @@ use Rattle.bl_tree.specs.declared.tree.Var.{Var}
 use Rattle.bl_tree.specs.Program.{is_output, parameters_of}
 use Rattle.bl_tree.specs.Reduce.{all_of}
 use Rattle.bl_tree.specs.Types.{same_type, scalar, scalar_in}
-use Rattle.bl_tree.specs.Typing.{TypingContext, are_same, arguments_fit, expr_ignored, inputs_of, is_activity, is_assignable, is_outlet, is_plain, kind_ignored}
+use Rattle.bl_tree.specs.Typing.{TypingContext, arguments_fit, expr_ignored, inputs_of, is_activity, is_assignable, is_outlet, is_plain, kind_ignored}
 use Rattle.bl_tree.specs.Typing.{outputs_of, part_is_field, path_is_plain, run_fits, target_fits, type_of, type_of_path, types_match}
 use Rattle.bl_eval.proofs.FitLemmas.{same_type_is}
 use Rattle.bl_eval.proofs.OperatorFits.{scalar_alone}
-use Rattle.bl_eval.proofs.PassLemmas.{and_left, and_right, both}
 use Rattle.bl_ctext_semantics.specs.Faults.{Context, JudgedArg, Signature, Variable, bool_type, fit_each, fits_arg, judged_arg, signature_as, signature_of}
 use Rattle.bl_ctext_semantics.specs.Tables.{Table}
 use Rattle.bl_emit_acts.specs.Acts.{c_calling, c_set, call_args, name_of_callee, output_arg}
@@ -55,6 +56,7 @@ use Rattle.bl_emit_spec_laws_wellformed_bodies.specs.Bodies.{memory_given, resul
 use Rattle.bl_emit_spec_laws_wellformed_bodies.proofs.OnBodies.Guards.{put-is}
 use Rattle.bl_emit_spec_laws_wellformed_bodies.proofs.OnBodies.Variables.{Here, context, copied, declared_here, earlier_here, ended-is, frame_at-is, given-is}
 use Rattle.bl_emit_spec_laws_wellformed_bodies.proofs.OnBodies.Variables.{memory_at-is, site}
+use Rattle.bl_eval.proofs.ActFits.{same_found}
 
 -- ---- paths without an index name nothing under a `prev`
 
@@ -75,8 +77,8 @@ module _ (copied : ℕ → Bool) where
   all_named : (parts : List Part) → all_of (map part_plain parts) ≡ true → all_of (map part_named parts) ≡ true
   all_named [] plain = refl
   all_named (part ∷ parts) plain =
-      both (part_named part) (all_of (map part_named parts)) (some_named part (and_left (part_plain part) (all_of (map part_plain parts)) plain))
-      (all_named parts (and_right (part_plain part) (all_of (map part_plain parts)) plain))
+      and_from (part_named part) (all_of (map part_named parts)) (some_named part (and_first (part_plain part) (all_of (map part_plain parts)) plain))
+      (all_named parts (and_second (part_plain part) (all_of (map part_plain parts)) plain))
 
   layer_named : (layer : Path-F ExprKind Part Expr Path) → is_plain (roll-Path layer) ≡ true → copied_in_path copied (roll-Path layer) ≡ true
   layer_named layer plain = rw fold-roll-Path (all_named layer.parts (rw fold-roll-Path at plain))
@@ -84,17 +86,7 @@ module _ (copied : ℕ → Bool) where
   pub outlet_named : (path : Path) → is_plain path ≡ true → copied_in_path copied path ≡ true
   outlet_named path = subst (λ path. is_plain path ≡ true → copied_in_path copied path ≡ true) (roll-out-Path path) (layer_named (out-Path path))
 
-pub same_types : (a b : Option Ty) → are_same a b ≡ true → (ty : Ty) × (a ≡ Some ty) × (b ≡ Some ty)
-same_types None None h = absurd (cc)
-same_types None (Some b) h = absurd (cc)
-same_types (Some a) None h = absurd (cc)
-same_types (Some a) (Some b) h = (a, refl, ap Some (sym (same_type_is a b h)))
-
 -- ---- arguments that suit parameters
-
-none_front : {A : Type 0} (xs ys : List A) → xs ++ ys ≡ [] → (xs ≡ []) × (ys ≡ [])
-none_front [] ys is = (refl, is)
-none_front (x ∷ xs) ys is = absurd (cc)
 
 module _ (here : Context) where
   -- each argument suits its parameter, and nothing fails in them
@@ -107,10 +99,10 @@ module _ (here : Context) where
   suit-append (p ∷ ps) qs [] ys one other = absurd (let no : false ≡ true = one.0 in cc)
   suit-append (p ∷ ps) qs (x ∷ xs) ys one other =
       let j : JudgedArg = judged_arg x here nowhere in
-      let parts = none_front j.faults (faults_of_args (judged_args here xs nowhere)) one.1 in
-      let rest = suit-append ps qs xs ys (and_right (fits_arg false p j) (fit_each false ps (judged_args here xs nowhere)) one.0, parts.1) other in (
-        both (fits_arg false p j) (fit_each false (ps ++ qs) (judged_args here (xs ++ ys) nowhere))
-            (and_left (fits_arg false p j) (fit_each false ps (judged_args here xs nowhere)) one.0) rest.0,
+      let parts = both_empty j.faults (faults_of_args (judged_args here xs nowhere)) one.1 in
+      let rest = suit-append ps qs xs ys (and_second (fits_arg false p j) (fit_each false ps (judged_args here xs nowhere)) one.0, parts.1) other in (
+        and_from (fits_arg false p j) (fit_each false (ps ++ qs) (judged_args here (xs ++ ys) nowhere))
+            (and_first (fits_arg false p j) (fit_each false ps (judged_args here xs nowhere)) one.0) rest.0,
         (λ i. parts.0 i ++ rest.1 i),
       )
 
@@ -118,7 +110,7 @@ module _ (here : Context) where
       place ∷ [])
   suit-address through ty place at =
       let judged : judged_arg (Address place) here nowhere ≡ of_address (sound_place through ty) = address_arg-is here through ty place nowhere at in (
-        both (fits_arg false (variable_of true ty) (judged_arg (Address place) here nowhere)) true
+        and_from (fits_arg false (variable_of true ty) (judged_arg (Address place) here nowhere)) true
             (subst (λ j. fits_arg false (variable_of true ty) j ≡ true) (sym judged) (type_same ty)) refl,
         (λ i. (judged i).faults ++ []),
       )
@@ -153,7 +145,7 @@ module _ (units : List UnitDef) (entry k : ℕ) (a : Activity) (table : Table (T
       type_of_path my_site path ≡ Some var.ty → Suit here (params_for vars) (map (output_arg my_site) outputs) →
       Suit here (params_for (var ∷ vars)) (map (output_arg my_site) (path ∷ outputs))
   one_output path outputs var vars outlet output typed rest =
-      let at = path_is path var.ty (and_left (is_plain path) (is_assignable my_site path) outlet) typed in
+      let at = path_is path var.ty (and_first (is_plain path) (is_assignable my_site path) outlet) typed in
       let pointer : (is_output var.role || is_none (scalar_in var.ty)) ≡ true = output_pointer var.role (is_none (scalar_in var.ty)) output in
       suit-append here (parameter_for a.structs var ∷ []) (params_for vars) (output_arg my_site path ∷ []) (map (output_arg my_site) outputs)
       (subst (λ b. Suit here (variable_of b (c_type a.structs var.ty) ∷ []) (output_arg my_site path ∷ [])) (sym pointer)
@@ -171,12 +163,12 @@ module _ (units : List UnitDef) (entry k : ℕ) (a : Activity) (table : Table (T
   first-output path outputs more (Some t) is [] typed outlets roles = absurd (cc)
   first-output path outputs more None is (var ∷ vars) typed outlets roles = absurd (cc)
   first-output path outputs more (Some t) is (var ∷ vars) typed outlets roles =
-      let same : t ≡ var.ty = same_type_is t var.ty (and_left (same_type t var.ty) (types_match (map (type_of_path my_site) outputs) vars) typed) in
-      one_output path outputs var vars (and_left (is_outlet my_site path) (all_of (map (is_outlet my_site) outputs)) outlets)
-      (and_left (is_output var.role) (list_all (λ (var : Var). is_output var.role) vars) roles) (is ∙ ap Some same)
-      (more vars (and_right (same_type t var.ty) (types_match (map (type_of_path my_site) outputs) vars) typed)
-      (and_right (is_outlet my_site path) (all_of (map (is_outlet my_site) outputs)) outlets)
-      (and_right (is_output var.role) (list_all (λ (var : Var). is_output var.role) vars) roles))
+      let same : t ≡ var.ty = same_type_is t var.ty (and_first (same_type t var.ty) (types_match (map (type_of_path my_site) outputs) vars) typed) in
+      one_output path outputs var vars (and_first (is_outlet my_site path) (all_of (map (is_outlet my_site) outputs)) outlets)
+      (and_first (is_output var.role) (list_all (λ (var : Var). is_output var.role) vars) roles) (is ∙ ap Some same)
+      (more vars (and_second (same_type t var.ty) (types_match (map (type_of_path my_site) outputs) vars) typed)
+      (and_second (is_outlet my_site path) (all_of (map (is_outlet my_site) outputs)) outlets)
+      (and_second (is_output var.role) (list_all (λ (var : Var). is_output var.role) vars) roles))
 
   outputs-suit : (outputs : List Path) → OutputsSuit outputs
   outputs-suit [] [] typed outlets roles = (refl, refl)
@@ -194,16 +186,16 @@ module _ (units : List UnitDef) (entry k : ℕ) (a : Activity) (table : Table (T
       arguments_fit my_site inputs outputs callee ≡ true → all_of (map (copied_in mine) inputs) ≡ true →
       Suit here (params_for (parameters_of callee)) (call_args my_site inputs outputs)
   arguments-suit f callee inputs outputs there shape named =
-      let matched : types_match (map (type_of my_site) inputs) (inputs_of callee) ≡ true = and_left _ _ shape in
-      let others = and_right (types_match (map (type_of my_site) inputs) (inputs_of callee)) _ shape in
+      let matched : types_match (map (type_of my_site) inputs) (inputs_of callee) ≡ true = and_first _ _ shape in
+      let others = and_second (types_match (map (type_of my_site) inputs) (inputs_of callee)) _ shape in
       let stand = earlier_here units entry k a table known h in
       let one : Suit here (params_for (inputs_of callee)) (map arg_of (map (made_of my_site) inputs)) =
       inputs_suit my_site mine here (declared_here units entry k a table known h) h.well_typed.structs_stand stand.inputs inputs nowhere
       (λ j d within. made_typed my_site mine here (declared_here units entry k a table known h) h.well_typed.structs_stand stand.inputs _)
       (λ active. named) (inputs_of callee) matched (stand.inputs f callee there) in
       let other : Suit here (params_for (outputs_of callee)) (map (output_arg my_site) outputs) =
-      outputs-suit outputs (outputs_of callee) (and_left _ _ others)
-      (and_right (types_match (map (type_of_path my_site) outputs) (outputs_of callee)) _ others) (stand.outputs f callee there) in
+      outputs-suit outputs (outputs_of callee) (and_first _ _ others)
+      (and_second (types_match (map (type_of_path my_site) outputs) (outputs_of callee)) _ others) (stand.outputs f callee there) in
       subst (λ params. Suit here params (call_args my_site inputs outputs))
       (sym (ap (map (parameter_for a.structs)) (take-add callee.inputs callee.outputs callee.vars)
       ∙ map-append (parameter_for a.structs) (inputs_of callee) (outputs_of callee)))
@@ -248,9 +240,9 @@ module _ (units : List UnitDef) (entry k : ℕ) (a : Activity) (table : Table (T
     call-by None there fits named = absurd (cc)
     call-by (Some callee) there fits named =
         let active : is_activity callee.kind ≡ true =
-        and_right (is_activity my_site.kind) (is_activity callee.kind) (and_left (is_activity my_site.kind && is_activity callee.kind) _ fits) in
+        and_second (is_activity my_site.kind) (is_activity callee.kind) (and_first (is_activity my_site.kind && is_activity callee.kind) _ fits) in
         let shape : arguments_fit my_site arguments.inputs arguments.outputs callee ≡ true =
-        and_right (target_fits my_site callee.result arguments.target) _ (and_right (is_activity my_site.kind && is_activity callee.kind) _ fits) in
+        and_second (target_fits my_site callee.result arguments.target) _ (and_second (is_activity my_site.kind && is_activity callee.kind) _ fits) in
         let remembers : Bool = (activity_view a).remembers u in
         let ends : Bool = unit_may_end callee in
         let behind : List Variable = result_given callee.result ++ over_given ends in
@@ -289,16 +281,16 @@ module _ (units : List UnitDef) (entry k : ℕ) (a : Activity) (table : Table (T
     target-by o None there fits = block_nil here
     target-by None (Some path) there fits = absurd (cc)
     target-by (Some callee) (Some path) there fits =
-        by callee.result refl (and_left (target_fits my_site callee.result (Some path)) _ (and_right (is_activity my_site.kind && is_activity
+        by callee.result refl (and_first (target_fits my_site callee.result (Some path)) _ (and_second (is_activity my_site.kind && is_activity
         callee.kind) _ fits))
       where
         by : (r : Option ScalarType) → callee.result ≡ r → target_fits my_site r (Some path) ≡ true → BlockIs here (target_code (activity_view a)
             n (Some path))
         by None is fits = absurd (cc)
         by (Some s) is fits =
-            let same = same_types (Some (scalar s)) (type_of_path my_site path) (and_right (is_outlet my_site path) _ fits) in
+            let same = same_found (Some (scalar s)) (type_of_path my_site path) (and_second (is_outlet my_site path) _ fits) in
             let typed : type_of_path my_site path ≡ Some (scalar s) = same.2 ∙ sym same.1 in
-            let at = path_is path (scalar s) (and_left (is_plain path) (is_assignable my_site path) (and_left (is_outlet my_site path) _ fits)) typed in
+            let at = path_is path (scalar s) (and_first (is_plain path) (is_assignable my_site path) (and_first (is_outlet my_site path) _ fits)) typed in
             let ty : c_type a.structs (scalar s) ≡ OfScalar (c_scalar s) = c_scalar_type a.structs (scalar s) s (scalar_alone s) in
             block_one here (c_set (stands my_site path).place (c_read (given_place n)))
             (put-is units entry k a table known h (leads_through my_site (out-Path path).root) (OfScalar (c_scalar s)) (stands my_site path).place

@@ -1,7 +1,8 @@
 -- Nothing fails in what a block asks, nor in what changes there.
 use Rattle.std.proofs.Common.{◌≡◌, ℕ, zero, suc, pos, Bool, true, false, ◌&&◌, List, [], ◌∷◌, map, Some, refl, sym, subst}
-use Rattle.std.specs.Prelude.{nat_eq, nat_le, slice_get, unwrap_or, ⊤, if◌then◌else◌}
+use Rattle.std.specs.Prelude.{nat_eq, slice_get, unwrap_or, ⊤, if◌then◌else◌}
 use Rattle.std.specs.List.{list_all}
+use Rattle.bl_tree.proofs.Basics.{and_first, and_second}
 use Rattle.bl_tree.specs.declared.c.CExpr.{CExpr}
 use Rattle.bl_tree.specs.declared.c.CMember.{CMember}
 use Rattle.bl_tree.specs.declared.c.CPlace.{CPlace}
@@ -9,11 +10,8 @@ use Rattle.bl_tree.specs.declared.c.CType.{CType}
 use Rattle.bl_tree.specs.declared.c.CType.TheVariants.{Scalar as OfScalar}
 use Rattle.bl_tree.specs.declared.scalar.Op.{Op}
 use Rattle.bl_tree.specs.declared.scalar.Op.TheVariants.{And, Eq, Ge, Le, Ne, Or}
-use Rattle.bl_tree.specs.declared.scalar.Scalar.{Scalar as ScalarType}
-use Rattle.bl_tree.specs.declared.scalar.Scalar.TheVariants.{Bool as OfBool, Nat}
-use Rattle.bl_tree.specs.declared.scalar.Width.TheVariants.{W8, W16, W32}
+use Rattle.bl_tree.specs.declared.scalar.Scalar.TheVariants.{Bool as OfBool}
 use Rattle.bl_tree.specs.declared.tree.Unit.{Unit as UnitDef}
-use Rattle.bl_eval.proofs.PassLemmas.{and_left, and_right}
 use Rattle.bl_ctext_semantics.specs.Faults.{Context, Signature, bool_type, takes}
 use Rattle.bl_ctext_semantics.specs.Tables.{Table}
 use Rattle.bl_graph_nodes.specs.Nodes.{Node}
@@ -34,20 +32,12 @@ use Rattle.bl_emit_functions_laws_wellformed.proofs.OnFormed.Shapes.{if-is}
 use Rattle.bl_emit_spec.specs.Activities.{Activity, activity_view, entry_place}
 use Rattle.bl_emit_spec.specs.Blocks.{ActivityView, all_tests, at_slot, change_code, changes_code, counter_type, counter_value, ends_test, flagged_now}
 use Rattle.bl_emit_spec.specs.Blocks.{forgotten, freed, guard_of, in_pairs, in_tree, is_greatest, last_value, node_word, rested_at, rested_by, rested_from}
-use Rattle.bl_emit_spec.specs.Blocks.{rested_in, rested_since, rested_to, rested_within, some_test, type_for}
+use Rattle.bl_emit_spec.specs.Blocks.{rested_in, rested_since, rested_to, rested_within, some_test}
 use Rattle.bl_emit_spec.specs.Names.{counter_place, flag_place, mark_place, over_place, rested_place, with_word}
 use Rattle.bl_emit_spec_laws.specs.Registers.Laws.{asks_its_own, changes_its_own}
 use Rattle.bl_emit_spec_laws.specs.Calls.Built.{registered}
 use Rattle.bl_emit_spec_laws_wellformed_bodies.proofs.OnBodies.Variables.{Here, context, counter-is, flag-is, mark-is, over-is, rested-is}
-
--- what holds of the three types that a counter may have
-by_type : (P : ScalarType → Type 0) → P (Nat W8) → P (Nat W16) → P (Nat W32) → (n : ℕ) → P (type_for n)
-by_type P one two three n = by (nat_le n 255) (nat_le n 65535)
-  where
-    by : (a b : Bool) → P (if a then Nat W8 else if b then Nat W16 else Nat W32)
-    by true b = one
-    by false true = two
-    by false false = three
+use Rattle.bl_emit_spec_laws_wellformed.proofs.OnSpelled.Guards.{by_type}
 
 module _ (here : Context) where
   truth-is : (b : Bool) → ExprIs here bool_type (c_truth b)
@@ -165,10 +155,10 @@ module _ (units : List UnitDef) (entry k : ℕ) (a : Activity) (table : Table (T
 
   in-is : (slots : List Slot) → list_all (λ (slot : Slot). view.is_read slot.counter) slots ≡ true → ExprIs here bool_type (rested_in view slots)
   in-is [] all = truth-is here false
-  in-is (slot ∷ []) all = slot-rested slot (and_left (view.is_read slot.counter) true all)
+  in-is (slot ∷ []) all = slot-rested slot (and_first (view.is_read slot.counter) true all)
   in-is (slot ∷ more ∷ rest) all =
       let on : view.is_read slot.counter ≡ true =
-      and_left (view.is_read slot.counter) (list_all (λ (slot : Slot). view.is_read slot.counter) (more ∷ rest)) all in
+      and_first (view.is_read slot.counter) (list_all (λ (slot : Slot). view.is_read slot.counter) (more ∷ rest)) all in
       between-is slot.counter slot.value (last_value more.value rest) on
 
   ends-are : (slots : List Slot) → list_all (λ (slot : Slot). (registered a).counters slot.counter) slots ≡ true →
@@ -176,7 +166,7 @@ module _ (units : List UnitDef) (entry k : ℕ) (a : Activity) (table : Table (T
   ends-are [] all = tt
   ends-are (slot ∷ slots) all =
       let test : Slot → Bool = λ (slot : Slot). (registered a).counters slot.counter in
-      (slot-at slot (and_left (test slot) (list_all test slots) all), ends-are slots (and_right (test slot) (list_all test slots) all))
+      (slot-at slot (and_first (test slot) (list_all test slots) all), ends-are slots (and_second (test slot) (list_all test slots) all))
 
   ends-is : (needed : Needed) → list_all (λ (slot : Slot). (registered a).counters slot.counter) needed.slots ≡ true →
       ExprIs here bool_type (ends_test view needed)
@@ -196,15 +186,15 @@ module _ (units : List UnitDef) (entry k : ℕ) (a : Activity) (table : Table (T
   guard-is n Flagged on =
       read-is here false bool_type (flag_place (node_word view n)) (flag-is units entry k a table known h (view.number n) on)
   guard-is n (Rested slot) on = slot-rested slot on
-  guard-is n (RestedIn slots) on = in-is slots (and_left (list_all (λ (slot : Slot). view.is_read slot.counter) slots) _ on)
+  guard-is n (RestedIn slots) on = in-is slots (and_first (list_all (λ (slot : Slot). view.is_read slot.counter) slots) _ on)
   guard-is n (Ended (IsNew m) needed) on =
       two-is here And bool_type (c_read (mark_place (node_word view m))) (ends_test view needed) refl refl
-      (read-mark (view.number m) (and_left ((registered a).marks (view.number m)) _ on))
-      (ends-is needed (and_right ((registered a).marks (view.number m)) _ on))
+      (read-mark (view.number m) (and_first ((registered a).marks (view.number m)) _ on))
+      (ends-is needed (and_second ((registered a).marks (view.number m)) _ on))
   guard-is n (Ended (IsOld m) needed) on =
       two-is here And bool_type (c_not (c_read (mark_place (node_word view m)))) (ends_test view needed) refl refl
-      (not-is here (c_read (mark_place (node_word view m))) (read-mark (view.number m) (and_left ((registered a).marks (view.number m)) _ on)))
-      (ends-is needed (and_right ((registered a).marks (view.number m)) _ on))
+      (not-is here (c_read (mark_place (node_word view m))) (read-mark (view.number m) (and_first ((registered a).marks (view.number m)) _ on)))
+      (ends-is needed (and_second ((registered a).marks (view.number m)) _ on))
   guard-is n (Ended IsAny needed) on = ends-is needed on
 
   -- ---- changes
@@ -239,11 +229,11 @@ module _ (units : List UnitDef) (entry k : ℕ) (a : Activity) (table : Table (T
       let first : Bool = (registered a).flags (view.number surface) in
       let second : Bool = (registered a).flags (view.number depth) in
       let other : BlockIs here (flagged_now view depth ∷ []) =
-      block_one here (flagged_now view depth) (flagged-is depth (and_right first second (and_right marks (first && second) on))) in
+      block_one here (flagged_now view depth) (flagged-is depth (and_second first second (and_second marks (first && second) on))) in
       block_one here (c_if (c_read (mark_place (node_word view start))) (flagged_now view surface ∷ []) (Some (flagged_now view depth ∷ [])))
       (if-is here (c_read (mark_place (node_word view start))) (flagged_now view surface ∷ []) (Some (flagged_now view depth ∷ []))
-      (read-mark (view.number start) (and_left marks (first && second) on))
-      (block_one here (flagged_now view surface) (flagged-is surface (and_left first second (and_right marks (first && second) on))))
+      (read-mark (view.number start) (and_first marks (first && second) on))
+      (block_one here (flagged_now view surface) (flagged-is surface (and_first first second (and_second marks (first && second) on))))
       (λ looped. other looped))
   change-is Finishes on =
       block_one here (c_set over_place (c_truth true))
@@ -256,5 +246,5 @@ module _ (units : List UnitDef) (entry k : ℕ) (a : Activity) (table : Table (T
   changes-are (change ∷ changes) all =
       let test : Change → Bool = changes_its_own view.number (registered a) in
       block_append here (change_code view change) (changes_code view changes)
-      (change-is change (and_left (test change) (list_all test changes) all))
-      (changes-are changes (and_right (test change) (list_all test changes) all))
+      (change-is change (and_first (test change) (list_all test changes) all))
+      (changes-are changes (and_second (test change) (list_all test changes) all))

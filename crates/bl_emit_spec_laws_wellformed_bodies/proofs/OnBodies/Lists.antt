@@ -1,19 +1,18 @@
 -- What stands in lists, and what is found by names that differ.
-use Rattle.std.proofs.Common.{◌≡◌, ℕ, zero, suc, ◌<◌, ◌≤◌, Bool, true, false, not, List, [], ◌∷◌, ◌++◌, map, Some, refl, sym, ap}
+use Rattle.std.proofs.Common.{◌≡◌, ℕ, zero, suc, ◌<◌, ◌≤◌, Bool, true, false, not, List, [], ◌∷◌, ◌++◌, map, Some, refl, sym}
 use Rattle.std.proofs.Common.{◌∙◌, subst, arith, ⊎_elim}
 use Rattle.std.proofs.lemmas.Bool.{cases_lt}
 use Rattle.std.proofs.lemmas.List.Elements.{Contains-append_left, Contains-append_right, Contains-push}
-use Rattle.std.proofs.lemmas.Slice.Eq.{bytes_eq-Decides}
-use Rattle.std.specs.Prelude.{Contains, bytes_eq, filter, if◌then◌else◌}
-use Rattle.std.specs.List.{list_all}
+use Rattle.std.specs.Prelude.{Contains, bytes_eq, if◌then◌else◌}
+use Rattle.std.proofs.lemmas.Bool.{or_left, or_right}
+use Rattle.bl_tree.proofs.Basics.{and_first, and_second}
 use Rattle.bl_tree.specs.declared.text.Text.{Text}
 use Rattle.bl_tree.specs.Reduce.{joined}
 use Rattle.bl_tree.specs.Words.{are_distinct, is_among}
-use Rattle.bl_eval.proofs.PassLemmas.{and_left, and_right}
 use Rattle.bl_ctext_semantics.specs.Tables.{found}
 use Rattle.bl_machine.specs.Blocks.{up_to}
 use Rattle.bl_emit_functions_laws_wellformed.proofs.OnFormed.Lookups.{found_here, found_next}
-use Rattle.bl_emit_spec_laws.proofs.OnOwn.Members.{further, here, or_first, or_second}
+use Rattle.bl_emit_functions_laws_wellformed.proofs.OnFormed.Lookups.{itself}
 
 -- ---- what stands in a list
 
@@ -25,19 +24,6 @@ up-has (suc n) k less =
     (λ (high : n ≤ k). let same : n ≡ k = omega (arith, high, less) in subst (λ m. Contains (up_to n ++ n ∷ []) m) same (Contains-push (up_to n) n))
     (cases_lt k n)
 
-pub filter-has : {A : Type 0} (test : A → Bool) (xs : List A) (x : A) → Contains xs x → test x ≡ true → Contains (filter test xs) x
-filter-has test [] x (k, below, is) on = absurd (omega (arith, below))
-filter-has {A = A} test (y ∷ xs) x (zero, below, is) on = subst (λ z. Contains (filter test (y ∷ xs)) z) is (by (test y) (ap test is ∙ on))
-  where
-    by : (b : Bool) → b ≡ true → Contains (if b then y ∷ filter test xs else filter test xs) y
-    by true on = here y (filter test xs)
-    by false on = absurd (cc)
-filter-has {A = A} test (y ∷ xs) x (suc k, below, is) on = by (test y) (filter-has test xs x (k, omega (arith, below), is) on)
-  where
-    by : (b : Bool) → Contains (filter test xs) x → Contains (if b then y ∷ filter test xs else filter test xs) x
-    by true rest = further y (filter test xs) x rest
-    by false rest = rest
-
 pub joined-has : {A B : Type 0} (make : A → List B) (xs : List A) (x : A) (y : B) → Contains xs x → Contains (make x) y →
     Contains (joined (map make xs)) y
 joined-has make [] x y (k, below, is) has = absurd (omega (arith, below))
@@ -46,27 +32,18 @@ joined-has make (z ∷ xs) x y (zero, below, is) has =
 joined-has make (z ∷ xs) x y (suc k, below, is) has =
     Contains-append_right (make z) (joined (map make xs)) y (joined-has make xs x y (k, omega (arith, below), is) has)
 
--- what holds of all holds of one
-pub all-has : {A : Type 0} (test : A → Bool) (xs : List A) (x : A) → list_all test xs ≡ true → Contains xs x → test x ≡ true
-all-has test [] x all (k, below, is) = absurd (omega (arith, below))
-all-has test (y ∷ xs) x all (zero, below, is) = subst (λ z. test z ≡ true) is (and_left (test y) (list_all test xs) all)
-all-has test (y ∷ xs) x all (suc k, below, is) = all-has test xs x (and_right (test y) (list_all test xs) all) (k, omega (arith, below), is)
-
 -- ---- what is found
 
 abbrev pub names_of_entries : {A : Type 0} → List (Text × A) → List Text
 names_of_entries entries = map (λ entry. entry.0) entries
 
-itself : (name : Text) → bytes_eq name name ≡ true
-itself name = (bytes_eq-Decides name name).1 refl
-
 among : {A : Type 0} (x : Text) (entries : List (Text × A)) (e : Text × A) → Contains entries e → bytes_eq x e.0 ≡ true →
     is_among x (names_of_entries entries) ≡ true
 among x [] e (k, below, is) same = absurd (omega (arith, below))
 among {A = A} x (f ∷ rest) e (zero, below, is) same =
-    or_first (bytes_eq x f.0) (is_among x (names_of_entries rest)) (subst (λ (e : Text × A). bytes_eq x e.0 ≡ true) (sym is) same)
+    or_left (bytes_eq x f.0) (is_among x (names_of_entries rest)) (subst (λ (e : Text × A). bytes_eq x e.0 ≡ true) (sym is) same)
 among x (f ∷ rest) e (suc k, below, is) same =
-    or_second (bytes_eq x f.0) (is_among x (names_of_entries rest)) (among x rest e (k, omega (arith, below), is) same)
+    or_right (bytes_eq x f.0) (is_among x (names_of_entries rest)) (among x rest e (k, omega (arith, below), is) same)
 
 -- where no two entries have one name each is found
 pub found-one : {A : Type 0} (entries : List (Text × A)) (e : Text × A) → are_distinct (names_of_entries entries) ≡ true → Contains entries e →
@@ -76,7 +53,7 @@ found-one {A = A} (f ∷ rest) e differ (zero, below, is) =
     subst (λ (e : Text × A). found e.0 (f ∷ rest) ≡ Some e.1) is (found_here f.0 f rest (itself f.0))
 found-one {A = A} (f ∷ rest) e differ (suc k, below, is) =
     found_next e.0 f rest (other (bytes_eq f.0 e.0) refl)
-    ∙ found-one rest e (and_right (not (is_among f.0 (names_of_entries rest))) (are_distinct (names_of_entries rest)) differ)
+    ∙ found-one rest e (and_second (not (is_among f.0 (names_of_entries rest))) (are_distinct (names_of_entries rest)) differ)
     (k, omega (arith, below), is)
   where
     neither : (b : Bool) → not b ≡ true → b ≡ true → ⊥
@@ -87,5 +64,5 @@ found-one {A = A} (f ∷ rest) e differ (suc k, below, is) =
     other false same = refl
     other true same =
         absurd (neither (is_among f.0 (names_of_entries rest))
-        (and_left (not (is_among f.0 (names_of_entries rest))) (are_distinct (names_of_entries rest)) differ)
+        (and_first (not (is_among f.0 (names_of_entries rest))) (are_distinct (names_of_entries rest)) differ)
         (among f.0 rest e (k, omega (arith, below), is) same))

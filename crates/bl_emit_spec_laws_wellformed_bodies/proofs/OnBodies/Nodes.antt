@@ -5,6 +5,8 @@ use Rattle.std.proofs.lemmas.List.Elements.{Contains-append_left, Contains-appen
 use Rattle.std.proofs.lemmas.Option.{same_Some}
 use Rattle.std.specs.List.{list_all}
 use Rattle.std.specs.Prelude.{Contains, is_some, nat_lt, option_and_then, option_to_list, slice_get, ⊤, if◌then◌else◌}
+use Rattle.std.proofs.lemmas.Bool.{and_from}
+use Rattle.bl_tree.proofs.Basics.{and_first, and_second, any_from, contains_at, contains_first, contains_further, some_within}
 use Rattle.bl_tree.specs.declared.text.Text.{Text}
 use Rattle.bl_tree.specs.declared.place.Place.{Place}
 use Rattle.bl_tree.specs.declared.c.CExpr.{CExpr}
@@ -27,7 +29,6 @@ use Rattle.bl_tree.specs.Scalar.{is_bool}
 use Rattle.bl_tree.specs.Types.{scalar, scalar_in}
 use Rattle.bl_tree.specs.Typing.{TypingContext, arm_fits, branch_fits, fits, is_truth, kind_fits, return_fits, run_fits, stmt_fits, type_of}
 use Rattle.bl_eval.proofs.OperatorFits.{scalar_alone}
-use Rattle.bl_eval.proofs.PassLemmas.{and_left, and_right}
 use Rattle.bl_ctext_semantics.specs.Faults.{Context, Signature, bool_type}
 use Rattle.bl_ctext_semantics.specs.Tables.{Table}
 use Rattle.bl_graph_nodes.specs.Nodes.{ActAt, Arguments, CheckAt, DepthEndAt, DepthJoinAt, EnterAt, ForkAt, HeadAt, Node, PauseAt}
@@ -57,16 +58,16 @@ use Rattle.bl_emit_spec.specs.Blocks.{target_code, test_code, turns_of}
 use Rattle.bl_emit_spec.specs.Names.{NumberedWord, callee_frame, ended_place, flag_place, frame_name, result_place, with_word}
 use Rattle.bl_emit_spec_laws.specs.Registers.Laws.{asks_its_own, changes_its_own}
 use Rattle.bl_emit_spec_laws.specs.Calls.Built.{last_of, last_rules, last_positions, registered}
-use Rattle.bl_emit_spec_laws.proofs.OnOwn.Members.{any_true, both_true, contains_at, further, here as first_here}
-use Rattle.bl_emit_spec_laws.proofs.OnPlaced.Lists.{picked_first, there_at}
+use Rattle.bl_emit_spec_laws.proofs.OnPlaced.Lists.{picked_first}
 use Rattle.bl_emit_spec_laws_wellformed.specs.Spelled.{all_fit, node_fits, rule_fits, run_stands}
 use Rattle.bl_emit_spec_laws_wellformed_bodies.specs.Bodies.{act_named, named_there}
-use Rattle.bl_emit_spec_laws_wellformed_bodies.proofs.OnBodies.Calls.{call-is, same_types, target-is, where-is}
+use Rattle.bl_emit_spec_laws_wellformed_bodies.proofs.OnBodies.Calls.{call-is, target-is, where-is}
 use Rattle.bl_emit_spec_laws_wellformed_bodies.proofs.OnBodies.Guards.{changes-are, guard-is, put-is}
 use Rattle.bl_emit_spec_laws_wellformed_bodies.proofs.OnBodies.Running.{HasRun, Pairs, RuleRuns}
 use Rattle.bl_emit_spec_laws_wellformed_bodies.proofs.OnBodies.Starts.{NodeSets, SetsAsked, start-sets}
 use Rattle.bl_emit_spec_laws_wellformed_bodies.proofs.OnBodies.Variables.{Here, context, copied, declared_here, earlier_here, ended-is, frame_at-is, plain_here}
 use Rattle.bl_emit_spec_laws_wellformed_bodies.proofs.OnBodies.Variables.{result-is, typed_here}
+use Rattle.bl_eval.proofs.ActFits.{same_found}
 
 -- ---- statements by their kinds
 
@@ -102,18 +103,9 @@ picked-has : {A : Type 0} (xs : List A) (ks : List ℕ) (k : ℕ) (x : A) → Co
 picked-has xs [] k x (i, below, is) at = absurd (omega (arith, below))
 picked-has xs (j ∷ ks) k x (zero, below, is) at =
     let found : slice_get xs j ≡ Some x = ap (slice_get xs) is ∙ at in
-    subst (λ more. Contains more x) (sym (picked_first xs j ks x found)) (first_here x (picked xs ks))
+    subst (λ more. Contains more x) (sym (picked_first xs j ks x found)) (contains_first x (picked xs ks))
 picked-has xs (j ∷ ks) k x (suc i, below, is) at =
     Contains-append_right (option_to_list (slice_get xs j)) (picked xs ks) x (picked-has xs ks k x (i, omega (arith, below), is) at)
-
--- there are as many turns as rules
-pub turns_many : (view : ActivityView) (callees : List ℕ) (rules : List Transition) → length callees ≡ length rules →
-    length (turns_of view callees rules) ≡ length rules
-turns_many view [] [] same = refl
-turns_many view [] (rule ∷ rules) same = absurd (omega (arith, same))
-turns_many view (u ∷ callees) [] same = refl
-turns_many view (u ∷ callees) (rule ∷ rules) same =
-    ap suc (turns_many view callees rules (let less : length callees ≡ length rules = omega (arith, same) in less))
 
 module _ (here : Context) (word : ℕ → Text) where
   if-alone : (test : CExpr) (code : List CStmt) → ExprIs here bool_type test → BlockIs here code → StmtIs here (c_if test code None)
@@ -168,26 +160,26 @@ module _ (here : Context) (word : ℕ → Text) where
     fused-is own leaves k [] turn at inside last =
         block_append here turn.own (control_unless leaves turn) (own k turn at) (unless-is leaves turn (last turn at))
     fused-is own leaves k (j ∷ block) turn at inside last =
-        let next = there_at turns j (inside j (first_here j block)) in
+        let next = some_within turns j (inside j (contains_first j block)) in
         subst (λ (more : List NodeCode). BlockIs here (fused_code leaves turn more)) (sym (picked_first turns j block next.0 next.1))
         (block_append here turn.own (fused_code leaves next.0 (picked turns block)) (own k turn at)
-        (fused-is own leaves j block next.0 next.1 (λ i there. inside i (further j block i there)) last))
+        (fused-is own leaves j block next.0 next.1 (λ i there. inside i (contains_further j block i there)) last))
 
     merged-is : ((k : ℕ) → OwnIs k) → (before : Option ℕ) (leaves : Bool) (k : ℕ) (block : List ℕ) → AllWithin (k ∷ block) → FlagIs before →
         AskedIs k → ControlIs (last_of k block) → BlockIs here (merged_code word before leaves (picked turns (k ∷ block)))
     merged-is own before leaves k block inside flag asked last =
-        let first = there_at turns k (inside k (first_here k block)) in
+        let first = some_within turns k (inside k (contains_first k block)) in
         let test : CExpr = entered_by word before first.0.test in
         let code : List CStmt = fused_code leaves first.0 (picked turns block) in
         subst (λ (some : List NodeCode). BlockIs here (merged_code word before leaves some)) (sym (picked_first turns k block first.0 first.1))
         (block_one here (c_if test code None)
         (if-alone test code (entered-is before first.0.test flag (asked first.0 first.1).0)
-        (fused-is own leaves k block first.0 first.1 (λ i there. inside i (further k block i there)) last)))
+        (fused-is own leaves k block first.0 first.1 (λ i there. inside i (contains_further k block i there)) last)))
 
     left_at-is : (k : ℕ) (block : List ℕ) (next : Option NodeCode) → AllWithin (k ∷ block) → AskedIs k →
         FlagIs (leaving_flag (picked turns (k ∷ block)) next)
     left_at-is k block next inside asked =
-        let first = there_at turns k (inside k (first_here k block)) in
+        let first = some_within turns k (inside k (contains_first k block)) in
         subst (λ (some : List NodeCode). FlagIs (leaving_flag some next)) (sym (picked_first turns k block first.0 first.1))
         (left-is first.0 (picked turns block) next (asked first.0 first.1).1)
 
@@ -199,13 +191,13 @@ module _ (here : Context) (word : ℕ → Text) where
     all_merged-is own before ((k ∷ block) ∷ rest) flag inside asked last =
         let left : Option ℕ = leaving_flag (picked turns (k ∷ block)) (next_turn (blocks_at rest)) in
         let own_inside : AllWithin (k ∷ block) = λ i there. inside i (Contains-append_left (k ∷ block) (joined rest) i there) in
-        let own_asked : AskedIs k = asked k (first_here k (first_positions rest)) in
+        let own_asked : AskedIs k = asked k (contains_first k (first_positions rest)) in
         block_append here (merged_code word before (is_some left) (picked turns (k ∷ block))) (all_merged word left (blocks_at rest))
         (merged-is own before (is_some left) k block own_inside flag own_asked
-        (last (last_of k block) (first_here (last_of k block) (last_positions rest))))
+        (last (last_of k block) (contains_first (last_of k block) (last_positions rest))))
         (all_merged-is own left rest (left_at-is k block (next_turn (blocks_at rest)) own_inside own_asked)
         (λ i there. inside i (Contains-append_right (k ∷ block) (joined rest) i there))
-        (λ i there. asked i (further k (first_positions rest) i there)) (λ i there. last i (further (last_of k block) (last_positions rest) i there)))
+        (λ i there. asked i (contains_further k (first_positions rest) i there)) (λ i there. last i (contains_further (last_of k block) (last_positions rest) i there)))
 
     -- nothing fails in blocks of such turns
     pub blocks-are : ((k : ℕ) → OwnIs k) → (blocks : List (List ℕ)) → AllWithin (joined blocks) →
@@ -251,7 +243,7 @@ module _ (units : List UnitDef) (entry k : ℕ) (a : Activity) (table : Table (T
           BlockIs here (c_set result_place (code_made view.site e) ∷ [])
       by None is fitted = absurd (cc)
       by (Some s) is fitted =
-          let same = same_types (Some (scalar s)) (type_of view.site e) fitted in
+          let same = same_found (Some (scalar s)) (type_of view.site e) fitted in
           let typed : type_of view.site e ≡ Some (scalar s) = same.2 ∙ sym same.1 in
           block_one here (c_set result_place (code_made view.site e))
           (put-is units entry k a table known h true (OfScalar (c_scalar s)) result_place (code_made view.site e)
@@ -314,7 +306,7 @@ module _ (units : List UnitDef) (entry k : ℕ) (a : Activity) (table : Table (T
         let run : RunAt = record { place = at; number = number; unit = u } in
         let n : NumberedWord = word_of_run a.earlier run in
         let fitted : run_fits view.site arguments.target arguments.inputs arguments.outputs (slice_get a.earlier u) ≡ true =
-        and_left (run_fits view.site arguments.target arguments.inputs arguments.outputs (slice_get a.earlier u)) _ stand in
+        and_first (run_fits view.site arguments.target arguments.inputs arguments.outputs (slice_get a.earlier u)) _ stand in
         let code : List CStmt = target_code view n arguments.target ++ changes_code view rule.on_true in
         let ends : Bool = may_end_in (slice_get a.earlier u) in
         block_append here (run_code view n u arguments) (stmt_where ends (c_if (c_read ended_place) code None))
@@ -329,12 +321,12 @@ module _ (units : List UnitDef) (entry k : ℕ) (a : Activity) (table : Table (T
         BlockIs here (control_code view u rule n)
     control-is u (ActAt l s) fit named runs = on_true-is
     control-is u (TestAt l at e) fit named runs =
-        tested-is (code_made view.site e) (test-is e (and_left (is_truth (type_of view.site e)) _ fit) named)
+        tested-is (code_made view.site e) (test-is e (and_first (is_truth (type_of view.site e)) _ fit) named)
     control-is u (CheckAt l at e) fit named runs =
-        tested-is (code_made view.site e) (test-is e (and_left (is_truth (type_of view.site e)) _ fit) named)
+        tested-is (code_made view.site e) (test-is e (and_first (is_truth (type_of view.site e)) _ fit) named)
     control-is u (EnterAt l at arguments) fit named runs =
         call-is units entry k a table known h at (view.run at) u runs arguments
-        (and_left (run_fits view.site arguments.target arguments.inputs arguments.outputs (slice_get a.earlier u)) _ fit) named
+        (and_first (run_fits view.site arguments.target arguments.inputs arguments.outputs (slice_get a.earlier u)) _ fit) named
     control-is u (ResumeAt l at arguments) fit named runs = resumed-is at (view.run at) u arguments runs fit named
     control-is u (PauseAt l at) fit named runs = on_true-is
     control-is u (HeadAt l at) fit named runs = on_true-is
@@ -349,10 +341,10 @@ module _ (units : List UnitDef) (entry k : ℕ) (a : Activity) (table : Table (T
   starts-own : (rule : Transition) → SetsAsked (rules_at a) rule.on_true → list_all (changes_its_own view.number (registered a)) rule.on_true ≡ true
   starts-own rule sets =
       let reads : view.is_read sets.slot.counter ≡ true =
-      any_true (λ (other : Transition). reads_counter sets.slot.counter other.condition) (rules_at a) sets.rule sets.there
+      any_from (λ (other : Transition). reads_counter sets.slot.counter other.condition) (rules_at a) sets.rule sets.there
       (ap (reads_counter sets.slot.counter) sets.asks ∙ eq-eqb sets.slot.counter sets.slot.counter refl) in
       ap (list_all (changes_its_own view.number (registered a))) sets.sets
-      ∙ both_true (nat_lt sets.slot.counter (length a.sizes)) true (lt-ltb sets.slot.counter (length a.sizes) (h.owns.read sets.slot.counter reads)) refl
+      ∙ and_from (nat_lt sets.slot.counter (length a.sizes)) true (lt-ltb sets.slot.counter (length a.sizes) (h.owns.read sets.slot.counter reads)) refl
 
   begun-is : (at : Place) (number u : ℕ) (rule : Transition) → Contains (runs_in_body a) (record { place = at; number = number; unit = u }) →
       SetsAsked (rules_at a) rule.on_true → BlockIs here (begun_code view (run_word a.earlier number u) u rule)
@@ -366,7 +358,7 @@ module _ (units : List UnitDef) (entry k : ℕ) (a : Activity) (table : Table (T
 
   own-is : (u : ℕ) (rule : Transition) (n : Node) → node_fits view.site u n ≡ true → named_there mine n ≡ true →
       HasRun view.run (runs_in_body a) u n → NodeSets (rules_at a) n rule.on_true → BlockIs here (own_code view u rule n)
-  own-is u rule (ActAt l s) fit named runs sets = acted-by s (out-StmtKind (out-Stmt s).what) refl (and_left (fits view.site s) _ fit) named
+  own-is u rule (ActAt l s) fit named runs sets = acted-by s (out-StmtKind (out-Stmt s).what) refl (and_first (fits view.site s) _ fit) named
   own-is u rule (TestAt l at e) fit named runs sets = block_nil here
   own-is u rule (CheckAt l at e) fit named runs sets = block_nil here
   own-is u rule (EnterAt l at arguments) fit named runs sets = begun-is at (view.run at) u rule runs sets
@@ -396,17 +388,17 @@ module _ (units : List UnitDef) (entry k : ℕ) (a : Activity) (table : Table (T
   rule_of [] rules p turn all runs is = absurd (cc)
   rule_of (u ∷ callees) [] p turn all runs is = absurd (cc)
   rule_of (u ∷ callees) (rule ∷ rules) zero turn all runs is =
-      let own = and_left (rule_fits a.sizes rule && node_fits view.site u rule.node) (all_fit a.sizes view.site callees rules) all in
+      let own = and_first (rule_fits a.sizes rule && node_fits view.site u rule.node) (all_fit a.sizes view.site callees rules) all in
       record {
         rule = rule;
         unit = u;
         at = refl;
         is = same_Some (node_turn view u rule) turn is;
-        fit = and_right (rule_fits a.sizes rule) (node_fits view.site u rule.node) own;
+        fit = and_second (rule_fits a.sizes rule) (node_fits view.site u rule.node) own;
         runs = runs.0;
       }
   rule_of (u ∷ callees) (rule ∷ rules) (suc p) turn all runs is =
-      let rest = and_right (rule_fits a.sizes rule && node_fits view.site u rule.node) (all_fit a.sizes view.site callees rules) all in
+      let rest = and_second (rule_fits a.sizes rule && node_fits view.site u rule.node) (all_fit a.sizes view.site callees rules) all in
       let found = rule_of callees rules p turn rest runs.1 is in
       record { rule = found.rule; unit = found.unit; at = found.at; is = found.is; fit = found.fit; runs = found.runs }
 

@@ -1,32 +1,18 @@
 -- Both nodes of a `run` belong to one of the `run`s of the activity.
 use Rattle.std.proofs.Common.{◌≡◌, ℕ, suc, List, [], ◌∷◌, map, Some, refl, sym, ap, ◌∙◌}
 use Rattle.std.specs.Prelude.{Contains, slice_get, ⊤}
+use Rattle.bl_tree.proofs.Basics.{get_mapped}
 use Rattle.bl_tree.specs.declared.place.Place.{Place}
 use Rattle.bl_tree.specs.declared.tree.StructDef.{StructDef}
 use Rattle.bl_tree.specs.declared.tree.Unit.{Unit as UnitDef}
 use Rattle.bl_tree.specs.Program.{IsWellTyped}
 use Rattle.bl_graph_nodes.specs.Nodes.{ActAt, CheckAt, DepthEndAt, DepthJoinAt, EnterAt, ForkAt, HeadAt, Node, PauseAt, ResumeAt, StartAt}
 use Rattle.bl_graph_nodes.specs.Nodes.{SurfaceEndAt, SurfaceJoinAt, TestAt, entry, nodes_in}
-use Rattle.bl_graph_nodes.specs.Plain.{
-  Act,
-  Again,
-  Await,
-  Block,
-  Cobegin,
-  If,
-  Plain,
-  Repeat,
-  Run as RunOf,
-  Until,
-  When,
-  While,
-}
+use Rattle.bl_graph_nodes.specs.Plain.{Block, Plain}
 use Rattle.bl_machine.specs.Uses.{Slots}
-use Rattle.bl_machine_pass.specs.Transitions.{Change, Flagged, Transition, rules, rules_of}
+use Rattle.bl_machine_pass.specs.Transitions.{Flagged, Transition, rules}
 use Rattle.bl_machine_transitions.specs.Callees.{callees_in}
 use Rattle.bl_emit_spec.specs.Activities.{Activity, RunAt, activity_view, body_of, rules_at, runs_in_body}
-use Rattle.bl_emit_spec_laws.proofs.OnOwn.Members.{further, here}
-use Rattle.bl_emit_spec_laws.proofs.OnPlaced.Lists.{mapped_at}
 use Rattle.bl_emit_spec_laws.proofs.OnRunPlaces.Sharing.{resumed_kept, run_kept}
 
 -- what holds of each pair of a list of callees and one of rules
@@ -78,7 +64,7 @@ module _ (nodes : (slots : Slots) (body : Block) → map (λ (rule : Transition)
       pairs-at (RuleRuns (activity_view a).run (runs_in_body a)) (callees_in (body_of a)) (rules_at a)
       (λ p u rule callee is.
       has-run p u rule.node
-      (ap (λ (ns : List Node). slice_get ns p) (sym (nodes a.slots (body_of a))) ∙ mapped_at (λ (rule : Transition). rule.node) (rules_at a) p rule is)
+      (ap (λ (ns : List Node). slice_get ns p) (sym (nodes a.slots (body_of a))) ∙ get_mapped (λ (rule : Transition). rule.node) (rules_at a) p rule is)
       callee)
 
 -- ---- the entry
@@ -89,24 +75,3 @@ pub record Begins (slots : Slots) (s : Plain) (rules : List Transition) : Type 0
   pub there : Contains rules rule
   pub node : rule.node ≡ entry s
   pub condition : rule.condition ≡ Flagged
-
-begins-first : (slots : Slots) (s : Plain) (rule : Transition) (rest : List Transition) → rule.node ≡ entry s → rule.condition ≡ Flagged → Begins slots s
-    (rule ∷ rest)
-begins-first slots s rule rest node asked = record { rule = rule; there = here rule rest; node = node; condition = asked }
-
-begins-second : (slots : Slots) (s : Plain) (first rule : Transition) (rest : List Transition) → rule.node ≡ entry s → rule.condition ≡ Flagged →
-    Begins slots s (first ∷ rule ∷ rest)
-begins-second slots s first rule rest node asked =
-    record { rule = rule; there = further first (rule ∷ rest) rule (here rule rest); node = node; condition = asked }
-
-pub entry-flagged : (slots : Slots) (s : Plain) (next : Change) → Begins slots s (rules_of slots s next)
-entry-flagged slots (Act l s) next = begins-first slots (Act l s) _ _ refl refl
-entry-flagged slots (Await l at e) next = begins-first slots (Await l at e) _ _ refl refl
-entry-flagged slots (RunOf l at target a inputs outputs) next = begins-first slots (RunOf l at target a inputs outputs) _ _ refl refl
-entry-flagged slots (If l at e body other) next = begins-first slots (If l at e body other) _ _ refl refl
-entry-flagged slots (Cobegin l at bodies) next = begins-first slots (Cobegin l at bodies) _ _ refl refl
-entry-flagged slots (When l at guard e body) next = begins-first slots (When l at guard e body) _ _ refl refl
-entry-flagged slots (Repeat l at body) next = begins-first slots (Repeat l at body) _ _ refl refl
-entry-flagged slots (Until l at body e) next = begins-first slots (Until l at body e) _ _ refl refl
-entry-flagged slots (While l at e body) next = begins-first slots (While l at e body) _ _ refl refl
-entry-flagged slots (Again l at body e) next = begins-second slots (Again l at body e) _ _ _ refl refl

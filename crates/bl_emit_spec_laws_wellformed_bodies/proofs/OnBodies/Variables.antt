@@ -8,6 +8,7 @@ use Rattle.std.proofs.lemmas.List.Elements.{Contains-append_left, Contains-appen
 use Rattle.std.proofs.lemmas.Option.{same_Some, slice_get_within}
 use Rattle.std.specs.Prelude.{Contains, is_none, is_some, nat_eq, nat_le, nat_lt, option_and_then, slice_get, unwrap_or, if◌then◌else◌}
 use Rattle.std.specs.List.{list_all, list_any}
+use Rattle.bl_tree.proofs.Basics.{and_first, and_second, any_from, contains_first, contains_further, contains_mapped, get_taken}
 use Rattle.bl_tree.specs.declared.text.Text.{Text}
 use Rattle.bl_tree.specs.declared.c.CLocal.{CLocal}
 use Rattle.bl_tree.specs.declared.c.CMember.{CMember}
@@ -26,7 +27,7 @@ use Rattle.bl_tree.specs.Reduce.{joined}
 use Rattle.bl_tree.specs.Types.{scalar_in, type_stands}
 use Rattle.bl_tree.specs.Typing.{TypingContext, inputs_of, is_activity, is_fixed, is_variable, outputs_of, var_at}
 use Rattle.bl_tree.specs.Words.{are_distinct}
-use Rattle.bl_eval.proofs.PassLemmas.{all_at, and_left, and_right, get_take}
+use Rattle.bl_eval.proofs.PassLemmas.{all_at}
 use Rattle.bl_ctext_semantics.specs.Faults.{Context, Judged, Signature, bool_type, context_in, judge_root, local_variable, member_of, param_variable}
 use Rattle.bl_ctext_semantics.specs.Faults.{parameters_and_locals}
 use Rattle.bl_ctext_semantics.specs.Tables.{Table, found}
@@ -64,11 +65,13 @@ use Rattle.bl_emit_spec.specs.Names.{counter_place, ended_name, ended_place, fla
 use Rattle.bl_emit_spec.specs.Names.{frame_name, given_name, given_place, mark_name, mark_place, over_place, rested_name, rested_place, result_place, with_word}
 use Rattle.bl_emit_spec_laws.specs.Calls.Built.{asks_flag, registered, sets_mark}
 use Rattle.bl_emit_spec_laws_wellformed.specs.Names.{FrameDiffers, LocalsDiffer, MemoryDiffers, NumbersDiffer}
-use Rattle.bl_emit_spec_laws.proofs.OnOwn.Members.{any_found, any_true, contains_mapped, here, further}
+use Rattle.bl_emit_spec_laws.proofs.OnOwn.Members.{any_found}
 use Rattle.bl_emit_spec_laws_wellformed.specs.Spelled.{all_fit}
 use Rattle.bl_emit_spec.specs.Activities.{body_of, callees_in}
 use Rattle.bl_emit_spec_laws_wellformed_bodies.specs.Bodies.{ActivityStands, CopiesSuffice, OwnsRules}
-use Rattle.bl_emit_spec_laws_wellformed_bodies.proofs.OnBodies.Lists.{filter-has, found-one, joined-has, names_of_entries, up-has}
+use Rattle.bl_emit_spec_laws_wellformed_bodies.proofs.OnBodies.Lists.{found-one, joined-has, names_of_entries, up-has}
+use Rattle.bl_cause.proofs.ListLemmas.{filter_keeps}
+use Rattle.bl_emit_functions_laws_wellformed.proofs.OnFormed.Variables.{last_of_four}
 
 -- what is known where the C function of an activity stands
 pub record Here (units : List UnitDef) (entry k : ℕ) (a : Activity) (table : Table (Table CMember)) (known : Table Signature) : Type 0 where
@@ -86,17 +89,11 @@ pub record Here (units : List UnitDef) (entry k : ℕ) (a : Activity) (table : T
   pub owns : OwnsRules a
   pub copies : CopiesSuffice a
 
-last_of_four : (a b c d : Bool) → (a && (b && (c && d))) ≡ true → d ≡ true
-last_of_four true true true d h = h
-last_of_four true true false d h = absurd (cc)
-last_of_four true false c d h = absurd (cc)
-last_of_four false b c d h = absurd (cc)
-
 -- a variable that isn't declared by the body is a parameter
 parameter_at : (unit : UnitDef) → roles_stand unit ≡ true → (k : ℕ) (var : Var) → slice_get unit.vars k ≡ Some var →
     (is_variable var.role || is_fixed var.role) ≡ false → slice_get (parameters_of unit) k ≡ Some var
 parameter_at unit roles k var there parameter =
-    ⊎_elim (λ less. get_take unit.vars (unit.inputs + unit.outputs) k less ∙ there)
+    ⊎_elim (λ less. get_taken unit.vars (unit.inputs + unit.outputs) k less ∙ there)
     (λ more. absurd (never more)) (cases_lt k (unit.inputs + unit.outputs))
   where
     dropped : {A : Type 0} (n : ℕ) (xs : List A) (k : ℕ) → n ≤ k → slice_get (drop n xs) (k - n) ≡ slice_get xs k
@@ -127,11 +124,11 @@ param-has structs all base (v ∷ vars) zero var there =
     let same : v ≡ var = same_Some v var there in
     subst (λ n. Contains (param_of structs all base v ∷ params_from structs all (base + 1) vars) (param_of structs all n var)) none
     (subst (λ w. Contains (param_of structs all base v ∷ params_from structs all (base + 1) vars) (param_of structs all base w)) same
-    (here (param_of structs all base v) (params_from structs all (base + 1) vars)))
+    (contains_first (param_of structs all base v) (params_from structs all (base + 1) vars)))
 param-has structs all base (v ∷ vars) (suc j) var there =
     let next : (base + 1) + j ≡ base + suc j = omega arith in
     subst (λ n. Contains (param_of structs all base v ∷ params_from structs all (base + 1) vars) (param_of structs all n var)) next
-    (further (param_of structs all base v) (params_from structs all (base + 1) vars) (param_of structs all ((base + 1) + j) var)
+    (contains_further (param_of structs all base v) (params_from structs all (base + 1) vars) (param_of structs all ((base + 1) + j) var)
     (param-has structs all (base + 1) vars j var there))
 
 -- the members of variables that a unit holds
@@ -148,7 +145,7 @@ held-has site base (v ∷ vars) zero var there held =
   where
     by : (b : Bool) → b ≡ true → Contains (functions.member_of b site.structs site.vars base v ++ members_from site (base + 1) vars) (held_member
         site.structs site.vars base v)
-    by true is = here (held_member site.structs site.vars base v) (members_from site (base + 1) vars)
+    by true is = contains_first (held_member site.structs site.vars base v) (members_from site (base + 1) vars)
     by false is = absurd (cc)
 held-has site base (v ∷ vars) (suc j) var there held =
     let next : (base + 1) + j ≡ base + suc j = omega arith in
@@ -216,7 +213,7 @@ module _ (units : List UnitDef) (entry k : ℕ) (a : Activity) (table : Table (T
   params_behind = params_from a.structs a.unit.vars 0 (parameters_of a.unit) ++ (result_params a.unit.result ++ over_params (unit_may_end a.unit))
 
   behind_frame : (p : CParam) → Contains (memory_params a (remembers_any a) ++ params_behind) p → Contains (activity_params a) p
-  behind_frame p has = further (pointer_param (codes "f") (frame_name a.unit.name)) (memory_params a (remembers_any a) ++ params_behind) p has
+  behind_frame p has = contains_further (pointer_param (codes "f") (frame_name a.unit.name)) (memory_params a (remembers_any a) ++ params_behind) p has
 
   behind_memory : (p : CParam) → Contains params_behind p → Contains (activity_params a) p
   behind_memory p has = behind_frame p (Contains-append_right (memory_params a (remembers_any a)) params_behind p has)
@@ -240,7 +237,7 @@ module _ (units : List UnitDef) (entry k : ℕ) (a : Activity) (table : Table (T
   frame_variable : context.variables (codes "f") ≡ Some (variable_of true (OfStruct (frame_name a.unit.name)))
   frame_variable =
       param-there (pointer_param (codes "f") (frame_name a.unit.name))
-      (here (pointer_param (codes "f") (frame_name a.unit.name)) (memory_params a (remembers_any a) ++ params_behind))
+      (contains_first (pointer_param (codes "f") (frame_name a.unit.name)) (memory_params a (remembers_any a) ++ params_behind))
 
   frame_place : (name : Text) (ty : CType) → Contains (frame_struct a).members (plain_member name ty) →
       PlaceIs context true ty (c_place true (codes "f") (c_step name ∷ []))
@@ -266,7 +263,7 @@ module _ (units : List UnitDef) (entry k : ℕ) (a : Activity) (table : Table (T
       (by (remembers_any a) (any_remembered (remembered a) m has))))
     where
       by : (b : Bool) → b ≡ true → Contains (memory_params a b) (pointer_param (codes "m") (memory_name a.unit.name))
-      by true is = here (pointer_param (codes "m") (memory_name a.unit.name)) []
+      by true is = contains_first (pointer_param (codes "m") (memory_name a.unit.name)) []
       by false is = absurd (cc)
 
   memory_member_of : (m : CMember) → Contains (remembered a) m → member_of context (OfStruct (memory_name a.unit.name)) m.name ≡ Some m
@@ -277,7 +274,7 @@ module _ (units : List UnitDef) (entry k : ℕ) (a : Activity) (table : Table (T
       by [] declared differ (j, below, is) = absurd (omega (arith, below))
       by (x ∷ members) declared differ has =
           ap (option_and_then (λ (members : Table CMember). members m.name))
-          (declared (record { place = nowhere; name = memory_name a.unit.name; members = x ∷ members }) (here _ []))
+          (declared (record { place = nowhere; name = memory_name a.unit.name; members = x ∷ members }) (contains_first _ []))
           ∙ member_found (x ∷ members) m differ has
 
   -- ---- registers
@@ -315,7 +312,7 @@ module _ (units : List UnitDef) (entry k : ℕ) (a : Activity) (table : Table (T
       local-place (counter_type a.sizes c) (rested_name c)
       (Contains-append_left of_rested (of_flags ++ (of_marks ++ (of_copies ++ of_runs))) (rested_local a.sizes c)
       (contains_mapped (rested_local a.sizes) (counters_read a) c
-      (filter-has (activity_view a).is_read (up_to (length a.sizes)) c (up-has (length a.sizes) c (h.owns.read c on)) on)))
+      (filter_keeps (activity_view a).is_read (up_to (length a.sizes)) c (up-has (length a.sizes) c (h.owns.read c on)) on)))
 
   both_ends : (x y : Bool) → (x && y) ≡ true → (x ≡ true) × (y ≡ true)
   both_ends true true is = (refl, refl)
@@ -342,12 +339,12 @@ module _ (units : List UnitDef) (entry k : ℕ) (a : Activity) (table : Table (T
       (by one.one (is_flagged one.one.condition) tests.0)))))
     where
       by : (rule : Transition) (b : Bool) → b ≡ true → Contains (if b then flag (number rule.node) ∷ [] else []) (flag (number rule.node))
-      by rule true is = here (flag (number rule.node)) []
+      by rule true is = contains_first (flag (number rule.node)) []
       by rule false is = absurd (cc)
 
   marks_there : (n : ℕ) (change : Change) → sets_mark number n change ≡ true → Contains (mark_local view change) (mark n)
   marks_there n (SetsMark m) on =
-      subst (λ j. Contains (mark (number m) ∷ []) (mark j)) (sym (eqb-true n (number m) on)) (here (mark (number m)) [])
+      subst (λ j. Contains (mark (number m) ∷ []) (mark j)) (sym (eqb-true n (number m) on)) (contains_first (mark (number m)) [])
   marks_there n (SetsFlag m) on = absurd (cc)
   marks_there n (SetsCounter slot) on = absurd (cc)
   marks_there n (ClearsCounter j) on = absurd (cc)
@@ -374,7 +371,7 @@ module _ (units : List UnitDef) (entry k : ℕ) (a : Activity) (table : Table (T
       (behind_memory p
       (Contains-append_right (params_from a.structs a.unit.vars 0 (parameters_of a.unit)) (result_params a.unit.result ++ over_params (unit_may_end a.unit)) p
       (Contains-append_right (result_params a.unit.result) (over_params (unit_may_end a.unit)) p
-      (subst (λ b. Contains (over_params b) p) (sym ends) (here p []))))))
+      (subst (λ b. Contains (over_params b) p) (sym ends) (contains_first p []))))))
 
   pub result-is : (s : ScalarType) → a.unit.result ≡ Some s → PlaceIs context true (OfScalar (c_scalar s)) result_place
   result-is s is =
@@ -384,7 +381,7 @@ module _ (units : List UnitDef) (entry k : ℕ) (a : Activity) (table : Table (T
       (behind_memory p
       (Contains-append_right (params_from a.structs a.unit.vars 0 (parameters_of a.unit)) (result_params a.unit.result ++ over_params (unit_may_end a.unit)) p
       (Contains-append_left (result_params a.unit.result) (over_params (unit_may_end a.unit)) p
-      (subst (λ o. Contains (result_params o) p) (sym is) (here p []))))))
+      (subst (λ o. Contains (result_params o) p) (sym is) (contains_first p []))))))
 
   -- ---- `run`s
 
@@ -403,11 +400,11 @@ module _ (units : List UnitDef) (entry k : ℕ) (a : Activity) (table : Table (T
   ended-is run has ends =
       let l : CLocal = scalar_local OfBool ended_name in
       let some : some_ends a.earlier (runs_in_body a) ≡ true =
-      any_true (λ (run : RunAt). may_end_in (slice_get a.earlier run.unit)) (runs_in_body a) run has ends in
+      any_from (λ (run : RunAt). may_end_in (slice_get a.earlier run.unit)) (runs_in_body a) run has ends in
       local-place OfBool ended_name
       (run_local l
       (Contains-append_left (ended_local (some_ends a.earlier (runs_in_body a))) of_results l
-      (subst (λ b. Contains (ended_local b) l) (sym some) (here l []))))
+      (subst (λ b. Contains (ended_local b) l) (sym some) (contains_first l []))))
 
   pub given-is : (run : RunAt) (callee : UnitDef) (s : ScalarType) → Contains (runs_in_body a) run → slice_get a.earlier run.unit ≡ Some callee →
       callee.result ≡ Some s → PlaceIs context false (OfScalar (c_scalar s)) (given_place (word run))
@@ -417,7 +414,7 @@ module _ (units : List UnitDef) (entry k : ℕ) (a : Activity) (table : Table (T
       (Contains-append_right (ended_local (some_ends a.earlier (runs_in_body a))) of_results l
       (joined-has (run_locals a) (runs_in_body a) run l has
       (subst (λ o. Contains (given_local (word_of_run a.earlier run) o) l)
-      (sym (ap (option_and_then (λ (unit : UnitDef). unit.result)) there ∙ result)) (here _ [])))))
+      (sym (ap (option_and_then (λ (unit : UnitDef). unit.result)) there ∙ result)) (contains_first _ [])))))
     where
       l : CLocal
       l = scalar_local (c_scalar s) (given_name (word_of_run a.earlier run))
@@ -442,7 +439,7 @@ module _ (units : List UnitDef) (entry k : ℕ) (a : Activity) (table : Table (T
       by : (b : Bool) → b ≡ true → Contains
           (if b then struct_member (callee_name (word run)) (memory_name (name_in (slice_get a.earlier run.unit))) ∷ [] else [])
           (struct_member (callee_name (word run)) (memory_name (name_in (slice_get a.earlier run.unit))))
-      by true is = here _ []
+      by true is = contains_first _ []
       by false is = absurd (cc)
 
   -- ---- variables
@@ -525,7 +522,7 @@ module _ (units : List UnitDef) (entry k : ℕ) (a : Activity) (table : Table (T
       (Contains-append_right of_marks (of_copies ++ of_runs) (copy_local a j)
       (Contains-append_left of_copies of_runs (copy_local a j)
       (contains_mapped (copy_local a) (copied_in a) j
-      (filter-has copied (up_to (length a.unit.vars)) j (up-has (length a.unit.vars) j within) on))))))
+      (filter_keeps copied (up_to (length a.unit.vars)) j (up-has (length a.unit.vars) j within) on))))))
       ∙ ap (λ t. Some (variable_of false (OfScalar (c_scalar t)))) scalar
       ∙ ap (λ t. Some (variable_of false t)) (sym (c_scalar_type a.structs var.ty s.0 s.1))
 
@@ -558,9 +555,9 @@ module _ (units : List UnitDef) (entry k : ℕ) (a : Activity) (table : Table (T
 
   pub earlier_here : EarlierStand site
   earlier_here = record {
-    inputs = λ f callee earlier. and_left _ _ (and_right _ _ (roles_at a.structs units entry h.well_typed f callee (earlier_is f callee earlier)));
+    inputs = λ f callee earlier. and_first _ _ (and_second _ _ (roles_at a.structs units entry h.well_typed f callee (earlier_is f callee earlier)));
     outputs = λ f callee earlier.
-        and_left _ _ (and_right _ _ (and_right _ _ (roles_at a.structs units entry h.well_typed f callee (earlier_is f callee earlier))));
+        and_first _ _ (and_second _ _ (and_second _ _ (roles_at a.structs units entry h.well_typed f callee (earlier_is f callee earlier))));
   }
 
   pub typed_here : (j : ℕ) (var : Var) → var_at site j ≡ Some var → type_stands (length a.structs) var.ty ≡ true

@@ -1,9 +1,10 @@
 -- Nothing fails in the statements of the C function of an activity.
-use Rattle.std.proofs.Common.{◌≡◌, ℕ, zero, suc, ◌<◌, Bool, true, false, List, [], ◌∷◌, ◌++◌, map, length, Some, refl, sym}
+use Rattle.std.proofs.Common.{◌≡◌, ℕ, zero, suc, ◌<◌, Bool, true, false, List, [], ◌∷◌, ◌++◌, map, length, refl, sym}
 use Rattle.std.proofs.Common.{subst, arith, ⊎_elim, ◌∙◌}
 use Rattle.std.proofs.lemmas.Bool.Decides.{nat_tests}
 use Rattle.std.proofs.lemmas.List.Elements.{Contains-push_cases}
-use Rattle.std.specs.Prelude.{Contains, filter, nat_lt, slice_get, if◌then◌else◌}
+use Rattle.std.specs.Prelude.{Contains, filter, nat_lt, if◌then◌else◌}
+use Rattle.bl_tree.proofs.Basics.{contains_first, contains_further, index_of, some_within}
 use Rattle.bl_tree.specs.declared.c.CMember.{CMember}
 use Rattle.bl_tree.specs.declared.c.CExpr.{CExpr}
 use Rattle.bl_tree.specs.declared.c.CStmt.{CStmt}
@@ -35,39 +36,24 @@ use Rattle.bl_emit_acts_laws_wellformed.proofs.OnFormed.Acts.{block_append, bloc
 use Rattle.bl_emit_acts_laws_wellformed.proofs.OnFormed.Judged.{read-is}
 use Rattle.bl_emit_acts_laws_wellformed.proofs.OnFormed.SiteActs.{own_place}
 use Rattle.bl_emit_acts_laws_wellformed.proofs.OnFormed.Typed.{variable_place}
-use Rattle.bl_emit_spec.specs.Activities.{
-  Activity,
-  activity_code,
-  activity_view,
-  blocks_in_order,
-  body_of,
-  callees_in,
-  copied_in,
-  copies_of,
-  counters_read,
-  entry_code,
-  entry_place,
-  rested_code,
-  rules_at,
-  runs_in_body,
-  turns_in_source,
-}
+use Rattle.bl_emit_spec.specs.Activities.{Activity, activity_code, activity_view, blocks_in_order, body_of, callees_in, copied_in, copies_of, counters_read}
+use Rattle.bl_emit_spec.specs.Activities.{entry_code, entry_place, rested_code, rules_at, runs_in_body, turns_in_source}
 use Rattle.bl_emit_spec.specs.Blocks.{ActivityView, counter_type, counter_value, node_word}
 use Rattle.bl_emit_spec.specs.Names.{counter_place, flag_place, rested_place}
 use Rattle.bl_emit_spec_laws.specs.Calls.Built.{registered}
 use Rattle.bl_emit_spec_laws_wellformed.specs.Names.{FrameDiffers, LocalsDiffer, MemoryDiffers}
-use Rattle.bl_emit_spec_laws.proofs.OnOwn.Members.{further, here as first_here, stands_at}
 use Rattle.bl_emit_spec_laws.proofs.OnPlaced.Lists.{number_below}
 use Rattle.bl_emit_spec_laws.proofs.OnRemember.Entering.{callees_in_many}
 use Rattle.bl_emit_spec_laws_wellformed_bodies.specs.Bodies.{ActivityBodiesWellFormed}
 use Rattle.bl_emit_spec_laws_wellformed_bodies.proofs.OnBodies.Guards.{begins-is, put-is}
-use Rattle.bl_emit_spec_laws_wellformed_bodies.proofs.OnBodies.Nodes.{asked-are, blocks-are, controls-are, owns-are, turns_many}
+use Rattle.bl_emit_spec_laws_wellformed_bodies.proofs.OnBodies.Nodes.{asked-are, blocks-are, controls-are, owns-are}
 use Rattle.bl_emit_spec_laws_wellformed.proofs.OnNodes.Rules.{of_block}
 use Rattle.bl_emit_spec_laws_wellformed.proofs.OnNumbers.Whole.{many-rules}
 use Rattle.bl_emit_spec_laws_wellformed_bodies.proofs.OnBodies.Running.{Pairs, RuleRuns, body-runs}
 use Rattle.bl_emit_spec_laws_wellformed_bodies.proofs.OnBodies.Variables.{Here, context, copied, counter-is, declared_here, earlier_here, flag-is}
 use Rattle.bl_emit_spec_laws_wellformed_bodies.proofs.OnBodies.Variables.{plain_here, rested-is}
 use Rattle.bl_emit_spec_laws_wellformed_bodies.proofs.OnBodies.Variables.{typed_here}
+use Rattle.bl_emit_spec_laws.proofs.OnPlaced.Placing.{turns_many}
 
 -- what stands among the numbers below another is below it
 below : (n j : ℕ) → Contains (up_to n) j → j < n
@@ -76,21 +62,16 @@ below (suc n) j has =
     ⊎_elim (λ inside. let less : j < n = below n j inside in omega (arith, less)) (λ (same : n ≡ j). omega (arith, same))
     (Contains-push_cases (up_to n) n j has)
 
-value_there : {A : Type 0} (xs : List A) (j : ℕ) → j < length xs → (x : A) × (slice_get xs j ≡ Some x)
-value_there [] j less = absurd (omega (arith, less))
-value_there (x ∷ xs) zero less = (x, refl)
-value_there (x ∷ xs) (suc j) less = value_there xs j (omega (arith, less))
-
 filtered : (here : Context) (test : ℕ → Bool) (make : ℕ → CStmt) (xs : List ℕ) → ((j : ℕ) → Contains xs j → test j ≡ true →
     StmtIs here (make j)) →
     BlockIs here (map make (filter test xs))
 filtered here test make [] each = block_nil here
 filtered here test make (x ∷ xs) each =
-    by (test x) refl (filtered here test make xs (λ j there on. each j (further x xs j there) on))
+    by (test x) refl (filtered here test make xs (λ j there on. each j (contains_further x xs j there) on))
   where
     by : (b : Bool) → test x ≡ b → BlockIs here (map make (filter test xs)) → BlockIs here (map make (if b then x ∷ filter test xs else
         filter test xs))
-    by true on rest = block_cons here (make x) (map make (filter test xs)) (each x (first_here x xs) on) rest
+    by true on rest = block_cons here (make x) (map make (filter test xs)) (each x (contains_first x xs) on) rest
     by false on rest = rest
 
 module _ (units : List UnitDef) (entry k : ℕ) (a : Activity) (table : Table (Table CMember)) (known : Table Signature)
@@ -119,7 +100,7 @@ module _ (units : List UnitDef) (entry k : ℕ) (a : Activity) (table : Table (T
 
   copied-code-is : (j : ℕ) → j < length a.unit.vars → mine j ≡ true → StmtIs here (c_copied view.site j)
   copied-code-is j less on =
-      let found = value_there a.unit.vars j less in
+      let found = some_within a.unit.vars j less in
       let var : Var = found.0 in
       let declared = declared_here units entry k a table known h in
       put-is units entry k a table known h false (c_type a.structs var.ty) (c_place false (copy_name view.site.vars j) []) (c_read (place_in view.site j []))
@@ -148,7 +129,7 @@ module _ (units : List UnitDef) (entry k : ℕ) (a : Activity) (table : Table (T
   -- each position in a block is that of a turn
   inside : (p : ℕ) → Contains (joined a.blocks) p → p < length (turns_in_source a)
   inside p has =
-      let at = stands_at (joined a.blocks) p has in
+      let at = index_of (joined a.blocks) p has in
       subst (λ n. p < n) (sym many_turns) (number_below (length (nodes_in (body_of a))) (joined a.blocks) h.owns.once p at.0 at.1)
 
   -- nothing fails in the statements

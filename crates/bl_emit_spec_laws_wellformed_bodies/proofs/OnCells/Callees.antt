@@ -1,5 +1,5 @@
 -- What the callees of an activity take.
-use Rattle.std.proofs.Common.{◌≡◌, ℕ, zero, suc, ◌+◌, ◌*◌, ◌<◌, ◌≤◌, max, Bool, true, false, List, [], ◌∷◌, ◌++◌, map}
+use Rattle.std.proofs.Common.{◌≡◌, ℕ, zero, suc, ◌+◌, ◌*◌, ◌<◌, ◌≤◌, Bool, true, false, List, [], ◌∷◌, ◌++◌, map}
 use Rattle.std.proofs.Common.{length, take}
 use Rattle.std.proofs.Common.{Some, refl, ap, ◌∙◌, arith, length-append}
 use Rattle.std.proofs.lemmas.List.{map-append}
@@ -13,18 +13,12 @@ use Rattle.bl_emit_functions.specs.Functions.{memory_name}
 use Rattle.bl_emit_spec.specs.Activities.{word_of_run, Activity, RunAt, activity_view, frame_member, memory_member, struct_member}
 use Rattle.bl_emit_spec.specs.Blocks.{name_in}
 use Rattle.bl_emit_spec.specs.Names.{callee_name, frame_name}
-use Rattle.bl_emit_spec_laws_wellformed_bodies.proofs.OnCells.Locals.{total-append}
+use Rattle.bl_tree.proofs.ReduceLemmas.{total-append}
 
 -- ---- lists
 
 pub all_such : {A : Type 0} (P : A → Type 0) (xs : List A) → ((x : A) → Contains xs x → P x) → All P xs
 all_such P xs each k d less = each _ (Contains-get_or xs k d less)
-
-pub taken_got : {A : Type 0} (xs : List A) (k u : ℕ) → u < k → slice_get (take k xs) u ≡ slice_get xs u
-taken_got xs zero u less = absurd (omega (arith, less))
-taken_got [] (suc k) u less = refl
-taken_got (x ∷ xs) (suc k) zero less = refl
-taken_got (x ∷ xs) (suc k) (suc u) less = taken_got xs k u (omega (arith, less))
 
 pub got_before : {A : Type 0} (xs : List A) (k u : ℕ) (x : A) → slice_get xs k ≡ Some x → u < k → (y : A) × (slice_get xs u ≡ Some y)
 got_before [] k u x there less = absurd (cc)
@@ -46,20 +40,12 @@ module _ (frames memories reach most : ℕ → ℕ) where
       let rest = sums-less us (All-tail Fits u us all) in
       omega (arith, one, rest)
 
-pub greatest-total : (ns : List ℕ) → greatest ns ≤ total ns
-greatest-total [] = omega arith
-greatest-total (n ∷ ns) = let rest = greatest-total ns in omega (arith, rest)
-
 pub greatest-less : (one other : ℕ → ℕ) (us : List ℕ) → All (λ u. one u ≤ other u) us → greatest (map one us) ≤ greatest (map other us)
 greatest-less one other [] all = omega arith
 greatest-less one other (u ∷ us) all =
     let first = All-head (λ u. one u ≤ other u) u us all in
     let rest = greatest-less one other us (All-tail (λ u. one u ≤ other u) u us all) in
     omega (arith, first, rest)
-
-pub greatest-append : (xs ys : List ℕ) → greatest (xs ++ ys) ≡ max (greatest xs) (greatest ys)
-greatest-append [] ys = omega arith
-greatest-append (x ∷ xs) ys = let rest = greatest-append xs ys in omega (arith, rest)
 
 -- ---- members for callees
 

@@ -5,6 +5,8 @@ use Rattle.std.proofs.lemmas.List.{map-append}
 use Rattle.std.proofs.lemmas.List.Folds.{list_all-append}
 use Rattle.std.specs.List.{list_all}
 use Rattle.std.specs.Prelude.{is_none, is_some, slice_get, if◌then◌else◌}
+use Rattle.std.proofs.lemmas.Bool.{and_from}
+use Rattle.bl_tree.proofs.Basics.{and_first, and_second}
 use Rattle.bl_tree.specs.declared.c.CMember.{CMember}
 use Rattle.bl_tree.specs.declared.scalar.Scalar.{Scalar as ScalarType}
 use Rattle.bl_tree.specs.declared.tree.StructDef.{StructDef}
@@ -14,7 +16,6 @@ use Rattle.bl_tree.specs.Program.{IsWellTyped, is_input, is_output, parameters_o
 use Rattle.bl_tree.specs.Reduce.{total}
 use Rattle.bl_tree.specs.Types.{scalar_in, type_stands}
 use Rattle.bl_tree.specs.Typing.{TypingContext, inputs_of, is_activity, outputs_of, site_of}
-use Rattle.bl_eval.proofs.PassLemmas.{and_left, and_right, both}
 use Rattle.bl_limits_measures.specs.Types.{size}
 use Rattle.bl_ctext_semantics.specs.Sizes.{Sizes, size_of_member, size_of_param, size_of_type}
 use Rattle.bl_emit_acts.specs.declared.home.Home.{Home}
@@ -26,7 +27,7 @@ use Rattle.bl_emit_functions.specs.Functions.{is_held, member_of, members_from, 
 use Rattle.bl_emit_functions_laws_wellformed.specs.Cells.{SizesKnown}
 use Rattle.bl_emit_functions_laws_wellformed.specs.Numbered.{TypesHaveScalars}
 use Rattle.bl_emit_acts_laws_wellformed.proofs.OnFormed.Units.{inputs_stand, outputs_stand}
-use Rattle.bl_emit_spec_laws_wellformed_bodies.proofs.OnCells.Locals.{total-append}
+use Rattle.bl_tree.proofs.ReduceLemmas.{total-append}
 
 abbrev stands_so : List StructDef → Var → Bool
 stands_so structs var = type_stands (length structs) var.ty
@@ -54,9 +55,9 @@ module _ (structs : List StructDef) (units : List UnitDef) (entry : ℕ) (keeps 
       member_cells (members_from site k vars) ≤ total (map held vars)
   members-less k [] stand = omega arith
   members-less k (var ∷ rest) stand =
-      let own = and_left (stands_so structs var) (list_all (stands_so structs) rest) stand in
+      let own = and_first (stands_so structs var) (list_all (stands_so structs) rest) stand in
       let one = by (holds var) own in
-      let later = members-less (k + 1) rest (and_right (stands_so structs var) (list_all (stands_so structs) rest) stand) in
+      let later = members-less (k + 1) rest (and_second (stands_so structs var) (list_all (stands_so structs) rest) stand) in
       let split = ap total (map-append (size_of_member known) (member_of (holds var) structs unit.vars k var) (members_from site (k + 1) rest))
       ∙ total-append (map (size_of_member known) (member_of (holds var) structs unit.vars k var))
       (map (size_of_member known) (members_from site (k + 1) rest)) in
@@ -70,9 +71,9 @@ module _ (structs : List StructDef) (units : List UnitDef) (entry : ℕ) (keeps 
       length (members_from site k vars) ≤ total (map held vars)
   members-few k [] stand = omega arith
   members-few k (var ∷ rest) stand =
-      let own = and_left (stands_so structs var) (list_all (stands_so structs) rest) stand in
+      let own = and_first (stands_so structs var) (list_all (stands_so structs) rest) stand in
       let one = by (holds var) own in
-      let later = members-few (k + 1) rest (and_right (stands_so structs var) (list_all (stands_so structs) rest) stand) in
+      let later = members-few (k + 1) rest (and_second (stands_so structs var) (list_all (stands_so structs) rest) stand) in
       let split = length-append (member_of (holds var) structs unit.vars k var) (members_from site (k + 1) rest) in
       omega (arith, one, later, split)
     where
@@ -97,8 +98,8 @@ module _ (structs : List StructDef) (units : List UnitDef) (entry : ℕ) (keeps 
   apart zero vars none = let less = held-less vars in omega (arith, less)
   apart (suc n) [] none = omega arith
   apart (suc n) (var ∷ vars) none =
-      let own = by (holds var) (and_left (unheld var) (list_all unheld (take n vars)) none) in
-      let rest = apart n vars (and_right (unheld var) (list_all unheld (take n vars)) none) in
+      let own = by (holds var) (and_first (unheld var) (list_all unheld (take n vars)) none) in
+      let rest = apart n vars (and_second (unheld var) (list_all unheld (take n vars)) none) in
       omega (arith, own, rest)
     where
       by : (b : Bool) → (if b then false else true) ≡ true → (if b then size structs var.ty else 0) ≡ 0
@@ -117,18 +118,18 @@ module _ (structs : List StructDef) (units : List UnitDef) (entry : ℕ) (keeps 
     inputs-unheld : (vars : List Var) → list_all (λ (var : Var). is_input var.role) vars ≡ true → list_all unheld vars ≡ true
     inputs-unheld [] all = refl
     inputs-unheld (var ∷ vars) all =
-        both (unheld var) (list_all unheld vars)
+        and_from (unheld var) (list_all unheld vars)
         (as-unheld var (input_unheld false var.role (is_some (scalar_in var.ty))
-        (and_left (is_input var.role) (list_all (λ (var : Var). is_input var.role) vars) all)))
-        (inputs-unheld vars (and_right (is_input var.role) (list_all (λ (var : Var). is_input var.role) vars) all))
+        (and_first (is_input var.role) (list_all (λ (var : Var). is_input var.role) vars) all)))
+        (inputs-unheld vars (and_second (is_input var.role) (list_all (λ (var : Var). is_input var.role) vars) all))
 
     outputs-unheld : (vars : List Var) → list_all (λ (var : Var). is_output var.role) vars ≡ true → list_all unheld vars ≡ true
     outputs-unheld [] all = refl
     outputs-unheld (var ∷ vars) all =
-        both (unheld var) (list_all unheld vars)
+        and_from (unheld var) (list_all unheld vars)
         (as-unheld var (output_unheld false var.role (is_some (scalar_in var.ty)) false
-        (and_left (is_output var.role) (list_all (λ (var : Var). is_output var.role) vars) all)))
-        (outputs-unheld vars (and_right (is_output var.role) (list_all (λ (var : Var). is_output var.role) vars) all))
+        (and_first (is_output var.role) (list_all (λ (var : Var). is_output var.role) vars) all)))
+        (outputs-unheld vars (and_second (is_output var.role) (list_all (λ (var : Var). is_output var.role) vars) all))
 
     pub held-apart : (k : ℕ) → slice_get units k ≡ Some unit →
         total (map held unit.vars) + total (map (size_so structs) (parameters_of unit)) ≤ total (map (size_so structs) unit.vars)
@@ -136,7 +137,7 @@ module _ (structs : List StructDef) (units : List UnitDef) (entry : ℕ) (keeps 
         apart (unit.inputs + unit.outputs) unit.vars
         (ap (list_all unheld) (take-add unit.inputs unit.outputs unit.vars)
         ∙ list_all-append unheld (inputs_of unit) (outputs_of unit)
-        ∙ both (list_all unheld (inputs_of unit)) (list_all unheld (outputs_of unit))
+        ∙ and_from (list_all unheld (inputs_of unit)) (list_all unheld (outputs_of unit))
         (inputs-unheld (inputs_of unit) (inputs_stand structs units entry keeps k unit there))
         (outputs-unheld (outputs_of unit) (outputs_stand structs units entry keeps k unit there)))
 
@@ -154,13 +155,6 @@ module _ (structs : List StructDef) (units : List UnitDef) (entry : ℕ) (keeps 
   params-less k [] stand = omega arith
   params-less k (var ∷ rest) stand =
       let one : size_of_param known (param_of structs unit.vars k var) ≤ size structs var.ty =
-      param-by var (scalar_in var.ty) (is_output var.role) (and_left (stands_so structs var) (list_all (stands_so structs) rest) stand) refl in
-      let later = params-less (k + 1) rest (and_right (stands_so structs var) (list_all (stands_so structs) rest) stand) in
+      param-by var (scalar_in var.ty) (is_output var.role) (and_first (stands_so structs var) (list_all (stands_so structs) rest) stand) refl in
+      let later = params-less (k + 1) rest (and_second (stands_so structs var) (list_all (stands_so structs) rest) stand) in
       omega (arith, one, later)
-
-pub taken-all : {A : Type 0} (test : A → Bool) (n : ℕ) (xs : List A) → list_all test xs ≡ true → list_all test (take n xs) ≡ true
-taken-all test zero xs all = refl
-taken-all test (suc n) [] all = refl
-taken-all test (suc n) (x ∷ xs) all =
-    both (test x) (list_all test (take n xs)) (and_left (test x) (list_all test xs) all)
-    (taken-all test n xs (and_right (test x) (list_all test xs) all))

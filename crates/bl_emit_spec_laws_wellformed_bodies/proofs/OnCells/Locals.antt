@@ -1,7 +1,7 @@
 -- The cells of the parameters and locals of the C function of an activity.
-use Rattle.std.proofs.Common.{◌≡◌, ℕ, zero, suc, ◌+◌, ◌*◌, ◌≤◌, Bool, true, false, List, [], ◌∷◌, ◌++◌, map, length}
+use Rattle.std.proofs.Common.{◌≡◌, ℕ, suc, ◌+◌, ◌*◌, ◌≤◌, Bool, true, false, List, [], ◌∷◌, ◌++◌, map, length}
 use Rattle.std.proofs.Common.{Option, Some, None, refl, sym, ap, ◌∙◌, arith}
-use Rattle.std.proofs.lemmas.List.{length_push, map-append}
+use Rattle.std.proofs.lemmas.List.{map-append}
 use Rattle.std.proofs.lemmas.List.Sums.{sum_by-cons}
 use Rattle.std.specs.Prelude.{filter, is_some, option_and_then, slice_get, sum_by, if◌then◌else◌}
 use Rattle.bl_tree.specs.declared.c.CLocal.{CLocal}
@@ -15,51 +15,19 @@ use Rattle.bl_machine_pass.specs.Transitions.{Change, ClearsBoth, ClearsCounter,
 use Rattle.bl_ctext_semantics.specs.Sizes.{Sizes, size_of_member, size_of_param, size_of_type}
 use Rattle.bl_emit_functions.specs.Functions.{params_from}
 use Rattle.bl_emit_spec.specs.Blocks.{unit_may_end}
-use Rattle.bl_emit_spec.specs.Activities.{
-  Activity,
-  RunAt,
-  activity_locals,
-  activity_params,
-  activity_view,
-  copied_in,
-  copies_of,
-  copy_local,
-  counter_member,
-  counters_read,
-  first_rules,
-  flag_local,
-  given_local,
-  is_flagged,
-  mark_local,
-  mark_locals,
-  memory_params,
-  over_params,
-  remembers_any,
-  rested_local,
-  result_params,
-  rules_at,
-  run_locals,
-  runs_in_body,
-  word_of_run,
-  ended_local,
-  some_ends,
-}
+use Rattle.bl_emit_spec.specs.Activities.{Activity, RunAt, activity_locals, activity_params, activity_view, copied_in, copies_of, copy_local, counter_member}
+use Rattle.bl_emit_spec.specs.Activities.{counters_read, first_rules, flag_local, given_local, is_flagged, mark_local, mark_locals, memory_params, over_params}
+use Rattle.bl_emit_spec.specs.Activities.{remembers_any, rested_local, result_params, rules_at, run_locals, runs_in_body, word_of_run, ended_local, some_ends}
 use Rattle.bl_emit_acts.specs.Acts.{is_copied}
 use Rattle.bl_emit_spec_laws_wellformed.proofs.OnNumbers.Whole.{first-less}
 use Rattle.bl_emit_spec_laws_wellformed.specs.Costs.{extras, marks_in}
 use Rattle.bl_emit_spec_laws_wellformed.specs.Numbers.{EachStandsOnce}
 use Rattle.bl_emit_spec.specs.Blocks.{ActivityView}
 use Rattle.bl_emit_spec.specs.Names.{NumberedWord}
+use Rattle.bl_emit_spec_laws.proofs.OnOwn.Counting.{many_up_to}
+use Rattle.bl_tree.proofs.ReduceLemmas.{total-append}
 
 -- ---- sums
-
-pub total-append : (xs ys : List ℕ) → total (xs ++ ys) ≡ total xs + total ys
-total-append [] ys = omega arith
-total-append (x ∷ xs) ys = let rest = total-append xs ys in omega (arith, rest)
-
-pub up-length : (n : ℕ) → length (up_to n) ≡ n
-up-length zero = refl
-up-length (suc n) = length_push (up_to n) n ∙ (let rest = up-length n in omega (arith, rest))
 
 -- 1 where it is so
 abbrev pub one_where : Bool → ℕ
@@ -165,12 +133,12 @@ module _ (known : Sizes) where
       let third = cells-append marks (copies ++ runs) in
       let fourth = cells-append copies runs in
       let held = some-few (rested_local a.sizes) (λ k. refl) (activity_view a).is_read (up_to (length a.sizes)) in
-      let counters = up-length (length a.sizes) in
+      let counters = many_up_to (length a.sizes) in
       let flagged = flags-many view (first_rules a) in
       let fewer = first-less flags_in a once in
       let extra = extras-many view (rules_at a) in
       let copied = some-few (copy_local a) (λ k. refl) (is_copied (copies_of a.unit)) (up_to (length a.unit.vars)) in
-      let vars = up-length (length a.unit.vars) in
+      let vars = many_up_to (length a.unit.vars) in
       let run = runs-few a (runs_in_body a) in
       omega (arith, first, second, third, fourth, held, counters, flagged, fewer, extra, copied, vars, run)
 

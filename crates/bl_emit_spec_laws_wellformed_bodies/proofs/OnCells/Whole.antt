@@ -5,6 +5,7 @@ use Rattle.std.proofs.lemmas.List.{length-map, map-append}
 use Rattle.std.proofs.lemmas.List.Elements.{All-contains}
 use Rattle.std.specs.Prelude.{Contains, is_some, nat_lt, slice_get}
 use Rattle.std.specs.List.{list_all}
+use Rattle.bl_tree.proofs.Basics.{any_from, contains_first, contains_further, get_taken, number_itself}
 use Rattle.bl_tree.specs.declared.tree.StructDef.{StructDef}
 use Rattle.bl_tree.specs.declared.tree.Unit.{Unit as UnitDef}
 use Rattle.bl_tree.specs.declared.tree.UnitKind.{UnitKind}
@@ -16,8 +17,6 @@ use Rattle.bl_tree.specs.Types.{type_stands}
 use Rattle.bl_tree.specs.Typing.{is_activity}
 use Rattle.bl_limits_measures.specs.Calls.{calls_of}
 use Rattle.bl_limits_measures.specs.Laws.{CellsAdd}
-use Rattle.bl_emit_spec_laws.proofs.OnOwn.Members.{any_true, further, here}
-use Rattle.bl_emit_spec_laws_wellformed.proofs.OnClosed.Running.{same_number}
 use Rattle.bl_emit_spec_laws_wellformed.proofs.OnNeeded.Places.{placed_any}
 use Rattle.bl_emit_spec_laws_wellformed.proofs.OnNeeded.Whole.{among_total}
 use Rattle.bl_limits_measures.specs.Runs.{activities_by_place, activities_run}
@@ -42,18 +41,13 @@ use Rattle.bl_emit_spec.specs.Names.{frame_name}
 use Rattle.bl_emit_spec_laws_wellformed.specs.Costs.{BodiesCost, extras}
 use Rattle.bl_emit_spec_laws_wellformed_bodies.specs.Signed.{NoneLoops}
 use Rattle.bl_emit_spec_laws_wellformed_bodies.specs.Cells.{ActivityCells, BodiesRun, Sized, cells_of_activity, ports_of}
-use Rattle.bl_emit_spec_laws_wellformed_bodies.proofs.OnCells.Callees.{
-  Fits,
-  all_such,
-  frame_at,
-  frames-are,
-  got_before,
-  greatest-append,
-  greatest-less,
-}
-use Rattle.bl_emit_spec_laws_wellformed_bodies.proofs.OnCells.Callees.{memories-few, memories-less, memory_at, sums-less, taken_got}
-use Rattle.bl_emit_spec_laws_wellformed_bodies.proofs.OnCells.Held.{held, held-apart, members-few, members-less, params-less, taken-all}
-use Rattle.bl_emit_spec_laws_wellformed_bodies.proofs.OnCells.Locals.{cells, counters-are, locals-few, one_where, params-few, passed, total-append, up-length}
+use Rattle.bl_emit_spec_laws_wellformed_bodies.proofs.OnCells.Callees.{Fits, all_such, frame_at, frames-are, got_before, greatest-less}
+use Rattle.bl_emit_spec_laws_wellformed_bodies.proofs.OnCells.Callees.{memories-few, memories-less, memory_at, sums-less}
+use Rattle.bl_emit_spec_laws_wellformed_bodies.proofs.OnCells.Held.{held, held-apart, members-few, members-less, params-less}
+use Rattle.bl_emit_spec_laws_wellformed_bodies.proofs.OnCells.Locals.{cells, counters-are, locals-few, one_where, params-few, passed}
+use Rattle.bl_emit_spec_laws.proofs.OnOwn.Counting.{many_up_to}
+use Rattle.bl_emit_spec_laws_wellformed.proofs.OnTexts.Files.{taken_all}
+use Rattle.bl_tree.proofs.ReduceLemmas.{greatest-append, total-append}
 
 -- ---- numbers
 
@@ -133,8 +127,8 @@ active_cells OfActivity is variables statements running calling = refl
 greatest-under : (f : ℕ → ℕ) (n : ℕ) (xs : List ℕ) → ((u : ℕ) → Contains xs u → f u ≤ n) → greatest (map f xs) ≤ n
 greatest-under f n [] each = omega arith
 greatest-under f n (x ∷ xs) each =
-    let own = each x (here x xs) in
-    let rest = greatest-under f n xs (λ u has. each u (further x xs u has)) in
+    let own = each x (contains_first x xs) in
+    let rest = greatest-under f n xs (λ u has. each u (contains_further x xs u has)) in
     omega (arith, own, rest)
 
 -- ---- an activity
@@ -172,7 +166,7 @@ module _ (units : List UnitDef) (entry : ℕ) (a : Activity) (keeps : IsWellType
       let less : u < k = All-contains (λ j. j < k) rs u (placed_all (λ j. j < k) a.unit (uses k a.unit there).runs) among in
       let found = got_before units k u a.unit there less in
       let is : slice_get a.earlier u ≡ Some found.0 =
-      ap (λ (earlier : List UnitDef). slice_get earlier u) sized.of_unit.before ∙ taken_got units k u less ∙ found.1 in
+      ap (λ (earlier : List UnitDef). slice_get earlier u) sized.of_unit.before ∙ get_taken units k u less ∙ found.1 in
       subst (λ o. entry_or 0 known (frame_name (name_in o)) + entry_or 0 known (memory_name (name_in o)) + reach u + 4 ≤ most u) (sym is)
       (sized.runs u found.0 among found.1)
 
@@ -182,7 +176,7 @@ module _ (units : List UnitDef) (entry : ℕ) (a : Activity) (keeps : IsWellType
       ∙ total-append (map (size_of_member known) (map (counter_member a.sizes) (up_to (length a.sizes))))
       (map (size_of_member known) (map (frame_member a) (runs_in_body a))) in
       let counters = counters-are known a.sizes (up_to (length a.sizes)) in
-      let long = up-length (length a.sizes) in
+      let long = many_up_to (length a.sizes) in
       let frames = frames-are known a (runs_in_body a) ∙ ap (λ us. total (map (frame_at known a) us)) same in
       omega (arith, split, counters, long, frames)
 
@@ -227,7 +221,7 @@ module _ (units : List UnitDef) (entry : ℕ) (a : Activity) (keeps : IsWellType
       let called = greatest-less reach most cs (all_such (λ u. reach u ≤ most u) cs sized.calls) in
       let run = greatest-under reach (total (map reach rs)) every
       (λ u has. among_total reach rs u
-      (placed_any a.structs units entry keeps k u a.unit there (any_true (nat_eq u) every u has (same_number u)))) in
+      (placed_any a.structs units entry keeps k u a.unit there (any_from (nat_eq u) every u has (number_itself u)))) in
       omega (arith, split, called, run)
 
   counts : Counts (total (map (size_of_member known) (frame_struct a).members)) (total (map (size_of_member known) (remembered a)))
@@ -248,7 +242,7 @@ module _ (units : List UnitDef) (entry : ℕ) (a : Activity) (keeps : IsWellType
     scalars = (counted k a.unit keeps there).variables;
     apart = held-apart a.structs units entry keeps have known sized.sizes a.earlier a.unit sized.active k there;
     given = params-less a.structs units entry keeps have known sized.sizes a.earlier a.unit 0 (parameters_of a.unit)
-        (taken-all (λ (var : Var). type_stands (length a.structs) var.ty) (a.unit.inputs + a.unit.outputs) a.unit.vars stand);
+        (taken_all (λ (var : Var). type_stands (length a.structs) var.ty) (a.unit.inputs + a.unit.outputs) a.unit.vars stand);
     one = one_less (remembers_any a);
     some = some_so;
     is = adds a.structs units k a.unit uses there

@@ -5,6 +5,8 @@ use Rattle.std.proofs.lemmas.List.Elements.{All-cons, All-nil}
 use Rattle.std.proofs.lemmas.Slice.Eq.{bytes_eq-Decides}
 use Rattle.std.specs.Prelude.{All, Contains, bytes_eq, is_none, slice_get, if◌then◌else◌}
 use Rattle.std.specs.List.{list_any}
+use Rattle.std.proofs.lemmas.Bool.{and_from, and_parts, or_left, or_right}
+use Rattle.bl_tree.proofs.Basics.{and_first, and_second, any_from, contains_first, contains_further, contains_mapped, either_case, is_none_of, none_from}
 use Rattle.bl_tree.specs.declared.c.CFunc.{CFunc}
 use Rattle.bl_tree.specs.declared.c.CMember.{CMember}
 use Rattle.bl_tree.specs.declared.scalar.Scalar.{Scalar as ScalarType}
@@ -15,7 +17,6 @@ use Rattle.bl_tree.specs.declared.tree.StructDef.{StructDef}
 use Rattle.bl_tree.specs.declared.tree.Unit.{Unit as UnitDef}
 use Rattle.bl_tree.specs.Typing.{TypingContext, is_activity, run_fits}
 use Rattle.bl_tree.specs.Words.{are_distinct}
-use Rattle.bl_eval.proofs.PassLemmas.{and_left, and_right}
 use Rattle.bl_graph_nodes.specs.Nodes.{ActAt, CheckAt, DepthEndAt, DepthJoinAt, EnterAt, ForkAt, HeadAt, Node, PauseAt}
 use Rattle.bl_graph_nodes.specs.Nodes.{ResumeAt, StartAt, SurfaceEndAt, SurfaceJoinAt, TestAt}
 use Rattle.bl_machine_pass.specs.Transitions.{Transition, rules}
@@ -35,7 +36,7 @@ use Rattle.bl_emit_spec.specs.Activities.{RunAt, run_at, runs_at}
 use Rattle.bl_emit_spec.specs.Blocks.{Sizes}
 use Rattle.bl_emit_spec.specs.Programs.{needs_of}
 use Rattle.bl_emit_spec_laws_wellformed.proofs.OnChains.Nodes.{AllUnder, node_calls}
-use Rattle.bl_emit_spec_laws.proofs.OnOwn.Members.{any_found, any_true, contains_mapped, further, here, or_case, or_first, or_second}
+use Rattle.bl_emit_spec_laws.proofs.OnOwn.Members.{any_found}
 use Rattle.bl_emit_spec_laws_wellformed.specs.Spelled.{all_fit, node_fits, rule_fits}
 use Rattle.bl_emit_spec_laws_wellformed_bodies.specs.Lists.{NeededKnown}
 use Rattle.bl_emit_spec_laws_wellformed_bodies.proofs.OnLists.Entries.{full, full-known, full-prelude}
@@ -69,37 +70,20 @@ none_of false is = absurd (cc)
 -- what is made of something in a list
 mapped_from : {A B : Type 0} (f : A → B) (xs : List A) (y : B) → Contains (map f xs) y → (x : A) × (Contains xs x × (f x ≡ y))
 mapped_from f [] y (k, below, is) = absurd (omega (arith, below))
-mapped_from f (x ∷ xs) y (zero, below, is) = (x, (here x xs, is))
+mapped_from f (x ∷ xs) y (zero, below, is) = (x, (contains_first x xs, is))
 mapped_from f (x ∷ xs) y (suc k, below, is) =
-    let rest = mapped_from f xs y (k, omega (arith, below), is) in (rest.0, (further x xs rest.0 rest.1.0, rest.1.1))
+    let rest = mapped_from f xs y (k, omega (arith, below), is) in (rest.0, (contains_further x xs rest.0 rest.1.0, rest.1.1))
 
 under_each : {A : Type 0} (f : A → ℕ) (xs : List A) → ((x : A) → Contains xs x → f x ≤ 0) → Under f 0 xs
 under_each f [] each = omega arith
 under_each f (x ∷ xs) each =
-    let first : f x ≤ 0 = each x (here x xs) in
-    let rest : Under f 0 xs = under_each f xs (λ y there. each y (further x xs y there)) in omega (arith, first, rest)
+    let first : f x ≤ 0 = each x (contains_first x xs) in
+    let rest : Under f 0 xs = under_each f xs (λ y there. each y (contains_further x xs y there)) in omega (arith, first, rest)
 
 each_under : {A : Type 0} (f : A → ℕ) (P : A → Type 0) (xs : List A) → ((x : A) → f x ≤ 0 → P x) → Under f 0 xs → All P xs
 each_under f P [] tells all = All-nil P
 each_under f P (x ∷ xs) tells all =
     All-cons P x xs (tells x (head-under f 0 x xs all)) (each_under f P xs tells (tail-under f 0 x xs all))
-
-absent : {A : Type 0} (o : Option A) → is_none o ≡ true → o ≡ None
-absent None is = refl
-absent (Some x) is = absurd (cc)
-
-none_there : {A : Type 0} (o : Option A) → o ≡ None → is_none o ≡ true
-none_there None is = refl
-none_there (Some x) is = absurd (cc)
-
-both_parts : (a b : Bool) → (a && b) ≡ true → (a ≡ true) × (b ≡ true)
-both_parts true true is = (refl, refl)
-both_parts true false is = absurd (cc)
-both_parts false b is = absurd (cc)
-
-both_so : (a b : Bool) → a ≡ true → b ≡ true → (a && b) ≡ true
-both_so true b one other = other
-both_so false b one other = absurd (cc)
 
 -- the unit there is needed and stands before
 pub record IsBefore (units : List UnitDef) (needed : List Bool) (k f : ℕ) : Type 0 where
@@ -129,11 +113,11 @@ module _ (structs : List StructDef) (units : List UnitDef) (needed remember : Li
   prelude-light word s =
       let rest : Text = word ++ (codes "_" ++ type_word s) in
       none_of (is_fine (function_name word s))
-      (or_second (list_any (bytes_eq (function_name word s)) needs_names)
+      (or_right (list_any (bytes_eq (function_name word s)) needs_names)
       (is_none (functions (function_name word s)) && is_none (all_known (function_name word s)))
-      (both_so (is_none (functions (function_name word s))) (is_none (all_known (function_name word s)))
-      (none_there (functions (function_name word s)) (knows.prelude rest))
-      (none_there (all_known (function_name word s)) (full-prelude structs remember units differ k rest))))
+      (and_from (is_none (functions (function_name word s))) (is_none (all_known (function_name word s)))
+      (is_none_of (functions (function_name word s)) (knows.prelude rest))
+      (is_none_of (all_known (function_name word s)) (full-prelude structs remember units differ k rest))))
 
   -- what is asked of positions
   abbrev pub by : ℕ → ℕ
@@ -147,8 +131,8 @@ module _ (structs : List StructDef) (units : List UnitDef) (needed remember : Li
           let name : Text = name_of_callee (slice_get (take k units) f) in
           let fine : by f ≡ 0 =
           none_of (is_fine name)
-          (or_first (list_any (bytes_eq name) needs_names) (is_none (functions name) && is_none (all_known name))
-          (any_true (bytes_eq name) needs_names name (contains_mapped (λ f. name_of_callee (slice_get (take k units) f)) (needs_of unit) f has)
+          (or_left (list_any (bytes_eq name) needs_names) (is_none (functions name) && is_none (all_known name))
+          (any_from (bytes_eq name) needs_names name (contains_mapped (λ f. name_of_callee (slice_get (take k units) f)) (needs_of unit) f has)
           ((bytes_eq-Decides name name).1 refl))) in
           omega (arith, fine)
 
@@ -161,9 +145,9 @@ module _ (structs : List StructDef) (units : List UnitDef) (needed remember : Li
 
   name_alike : (name : Text) → weight name ≤ 0 → KnowAlike functions all_known name
   name_alike name less =
-      or_case (list_any (bytes_eq name) needs_names) (is_none (functions name) && is_none (all_known name)) (none_is (is_fine name) less) listed
-      (λ none. let parts = both_parts (is_none (functions name)) (is_none (all_known name)) none in
-      absent (functions name) parts.0 ∙ sym (absent (all_known name) parts.1))
+      either_case (list_any (bytes_eq name) needs_names) (is_none (functions name) && is_none (all_known name)) (none_is (is_fine name) less) listed
+      (λ none. let parts = and_parts (is_none (functions name)) (is_none (all_known name)) none in
+      none_from (functions name) parts.0 ∙ sym (none_from (all_known name) parts.1))
     where
       listed : list_any (bytes_eq name) needs_names ≡ true → KnowAlike functions all_known name
       listed some =
@@ -186,7 +170,7 @@ module _ (unit : UnitDef) where
   pub needs-counted : Under is_need 0 (needs_of unit)
   needs-counted =
       under_each is_need (needs_of unit) (λ f has. let one : is_need f ≡ 0 =
-      none_of (list_any (nat_eq f) (needs_of unit)) (any_true (nat_eq f) (needs_of unit) f has (eq-eqb f f refl)) in omega (arith, one))
+      none_of (list_any (nat_eq f) (needs_of unit)) (any_from (nat_eq f) (needs_of unit) f has (eq-eqb f f refl)) in omega (arith, one))
 
   pub run_needed : (number : Node → ℕ) (callees : List ℕ) (rules : List Transition) → AllUnder is_need 0 callees (map (λ (rule : Transition). rule.node) rules) →
       (run : RunAt) → Contains (runs_at number callees rules) run → Contains (needs_of unit) run.unit
@@ -229,24 +213,24 @@ module _ (sizes : Sizes) (site : TypingContext) where
       run_fits site target inputs outputs o ≡ true → IsCalled f
   called_by target inputs outputs f None is fits = absurd (cc)
   called_by target inputs outputs f (Some callee) is fits =
-      (callee, (is, and_right (is_activity site.kind) (is_activity callee.kind) (and_left (is_activity site.kind && is_activity callee.kind) _ fits)))
+      (callee, (is, and_second (is_activity site.kind) (is_activity callee.kind) (and_first (is_activity site.kind && is_activity callee.kind) _ fits)))
 
   pub run_called : (number : Node → ℕ) (callees : List ℕ) (rules : List Transition) → all_fit sizes site callees rules ≡ true →
       (run : RunAt) → Contains (runs_at number callees rules) run → IsCalled run.unit
   run_called number [] rules all run (j, below, is) = absurd (omega (arith, below))
   run_called number (c ∷ callees) [] all run (j, below, is) = absurd (omega (arith, below))
   run_called number (c ∷ callees) (rule ∷ rules) all run has =
-      let own = and_left (rule_fits sizes rule && node_fits site c rule.node) (all_fit sizes site callees rules) all in
-      by rule.node (and_right (rule_fits sizes rule) (node_fits site c rule.node) own) has
+      let own = and_first (rule_fits sizes rule && node_fits site c rule.node) (all_fit sizes site callees rules) all in
+      by rule.node (and_second (rule_fits sizes rule) (node_fits site c rule.node) own) has
       (λ run has. run_called number callees rules
-      (and_right (rule_fits sizes rule && node_fits site c rule.node) (all_fit sizes site callees rules) all) run has)
+      (and_second (rule_fits sizes rule && node_fits site c rule.node) (all_fit sizes site callees rules) all) run has)
     where
       by : (n : Node) → node_fits site c n ≡ true → Contains (run_at number c n ++ runs_at number callees rules) run →
           ((run : RunAt) → Contains (runs_at number callees rules) run → IsCalled run.unit) → IsCalled run.unit
       by (EnterAt l at arguments) fits (zero, below, is) later =
           subst (λ (run : RunAt). IsCalled run.unit) is
           (called_by arguments.target arguments.inputs arguments.outputs c (slice_get site.earlier c) refl
-          (and_left (run_fits site arguments.target arguments.inputs arguments.outputs (slice_get site.earlier c)) _ fits))
+          (and_first (run_fits site arguments.target arguments.inputs arguments.outputs (slice_get site.earlier c)) _ fits))
       by (EnterAt l at arguments) fits (suc j, below, is) later = later run (j, omega (arith, below), is)
       by (ActAt l s) fits has later = later run has
       by (TestAt l at e) fits has later = later run has

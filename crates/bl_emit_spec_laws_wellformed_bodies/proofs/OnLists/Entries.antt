@@ -4,19 +4,19 @@ use Rattle.std.proofs.Common.{Some, None, refl, ap, ◌∙◌, subst, arith, cod
 use Rattle.std.proofs.lemmas.Option.{same_Some}
 use Rattle.std.proofs.lemmas.Slice.Eq.{bytes_eq-Decides}
 use Rattle.std.specs.Prelude.{Contains, bytes_eq, slice_get, unwrap_or}
+use Rattle.std.proofs.lemmas.Bool.{and_from, not-true}
+use Rattle.bl_tree.proofs.Basics.{and_first, and_second, contains_first, contains_further}
 use Rattle.bl_tree.specs.declared.text.Text.{Text}
 use Rattle.bl_tree.specs.declared.tree.StructDef.{StructDef}
 use Rattle.bl_tree.specs.declared.tree.Unit.{Unit as UnitDef}
 use Rattle.bl_tree.specs.Typing.{is_activity}
 use Rattle.bl_tree.specs.Words.{are_distinct, is_among}
-use Rattle.bl_eval.proofs.PassLemmas.{and_left, and_right, both}
 use Rattle.bl_ctext_semantics.specs.Faults.{Signature}
 use Rattle.bl_ctext_semantics.specs.Tables.{Table, found, table_of}
 use Rattle.bl_emit_acts.specs.Types.{unit_name}
 use Rattle.bl_emit_functions_laws_wellformed.proofs.OnFiles.Chains.{taken}
 use Rattle.bl_emit_functions_laws_wellformed.proofs.OnFiles.Growing.{names, one_place}
 use Rattle.bl_emit_functions_laws_wellformed.proofs.OnFormed.Lookups.{found_next}
-use Rattle.bl_emit_spec_laws.proofs.OnOwn.Members.{further, here}
 use Rattle.bl_emit_spec_laws_wellformed_bodies.proofs.OnBodies.Lists.{found-one, names_of_entries}
 use Rattle.bl_emit_spec_laws_wellformed_bodies.specs.Lists.{signature_by}
 
@@ -32,11 +32,11 @@ among_units name (unit ∷ units) = ap (λ b. bytes_eq name unit.name || b) (amo
 units_differ : (units : List UnitDef) → are_distinct (names units) ≡ true → are_distinct (unit_names units) ≡ true
 units_differ [] differ = refl
 units_differ (unit ∷ units) differ =
-    both (not (is_among (unit_name unit.name) (unit_names units))) (are_distinct (unit_names units))
-    (ap not (among_units unit.name units) ∙ and_left (not (is_among unit.name (names units))) (are_distinct (names units)) differ)
-    (units_differ units (and_right (not (is_among unit.name (names units))) (are_distinct (names units)) differ))
+    and_from (not (is_among (unit_name unit.name) (unit_names units))) (are_distinct (unit_names units))
+    (ap not (among_units unit.name units) ∙ and_first (not (is_among unit.name (names units))) (are_distinct (names units)) differ)
+    (units_differ units (and_second (not (is_among unit.name (names units))) (are_distinct (names units)) differ))
 
-none_left : (a b c : Bool) → (b ≡ false → c ≡ false) → (a || b) ≡ false → (a || c) ≡ false
+pub none_left : (a b c : Bool) → (b ≡ false → c ≡ false) → (a || b) ≡ false → (a || c) ≡ false
 none_left false b c more none = more none
 none_left true b c more none = absurd (cc)
 
@@ -46,18 +46,14 @@ not_among_front name (suc k) [] none = refl
 not_among_front name (suc k) (unit ∷ units) none =
     none_left (bytes_eq name unit.name) (is_among name (names units)) (is_among name (names (take k units))) (not_among_front name k units) none
 
-not_false : (b : Bool) → not b ≡ true → b ≡ false
-not_false false h = refl
-not_false true h = absurd (let no : false ≡ true = h in cc)
-
 front_differs : (k : ℕ) (units : List UnitDef) → are_distinct (names units) ≡ true → are_distinct (names (take k units)) ≡ true
 front_differs zero units differ = refl
 front_differs (suc k) [] differ = refl
 front_differs (suc k) (unit ∷ units) differ =
-    both (not (is_among unit.name (names (take k units)))) (are_distinct (names (take k units)))
+    and_from (not (is_among unit.name (names (take k units)))) (are_distinct (names (take k units)))
     (ap not (not_among_front unit.name k units
-    (not_false (is_among unit.name (names units)) (and_left (not (is_among unit.name (names units))) (are_distinct (names units)) differ))))
-    (front_differs k units (and_right (not (is_among unit.name (names units))) (are_distinct (names units)) differ))
+    (not-true (is_among unit.name (names units)) (and_first (not (is_among unit.name (names units))) (are_distinct (names units)) differ))))
+    (front_differs k units (and_second (not (is_among unit.name (names units))) (are_distinct (names units)) differ))
 
 -- ---- the table
 
@@ -82,11 +78,11 @@ module _ (structs : List StructDef) (remember : List Bool) where
       let none : base ≡ base + 0 = omega arith in
       subst (λ n. Contains (entries base (first ∷ units)) (unit_name unit.name, signed_at n unit)) none
       (subst (λ (u : UnitDef). Contains (entries base (first ∷ units)) (unit_name u.name, signed_at base u)) (same_Some first unit there)
-      (here (unit_name first.name, signed_at base first) (entries (suc base) units)))
+      (contains_first (unit_name first.name, signed_at base first) (entries (suc base) units)))
   entry_has base (suc f) (first ∷ units) unit there =
       let next : suc base + f ≡ base + suc f = omega arith in
       subst (λ n. Contains (entries base (first ∷ units)) (unit_name unit.name, signed_at n unit)) next
-      (further (unit_name first.name, signed_at base first) (entries (suc base) units) (unit_name unit.name, signed_at (suc base + f) unit)
+      (contains_further (unit_name first.name, signed_at base first) (entries (suc base) units) (unit_name unit.name, signed_at (suc base + f) unit)
       (entry_has (suc base) f units unit there))
 
   -- a name that no unit has

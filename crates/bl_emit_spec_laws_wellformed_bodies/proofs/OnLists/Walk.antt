@@ -1,5 +1,5 @@
 -- The units of a program one after another: nothing fails in the functions of those that are needed.
-use Rattle.std.proofs.Common.{◌≡◌, ℕ, zero, suc, ◌<◌, ◌≤◌, ⊎_elim, Bool, true, false, not, List, [], ◌∷◌, ◌++◌}
+use Rattle.std.proofs.Common.{◌≡◌, ℕ, zero, suc, ◌<◌, ◌≤◌, ⊎_elim, Bool, true, false, List, [], ◌∷◌, ◌++◌}
 use Rattle.std.proofs.Common.{map, take, drop, length, Option, Some, None, refl, sym, ap, ◌∙◌, subst, arith, codes, append_assoc}
 use Rattle.std.proofs.lemmas.Bool.{cases_lt}
 use Rattle.std.proofs.lemmas.Bool.Decides.{nat_tests}
@@ -8,7 +8,9 @@ use Rattle.std.proofs.lemmas.List.Elements.{All-contains, Contains-append_cases,
 use Rattle.std.proofs.lemmas.Option.{same_Some, slice_get_within}
 use Rattle.std.proofs.lemmas.Slice.Eq.{bytes_eq-Decides}
 use Rattle.std.specs.Option.{option_or}
-use Rattle.std.specs.Prelude.{Contains, bytes_eq, is_some, nat_eq, nat_lt, slice_get, unwrap_or, if◌then◌else◌}
+use Rattle.std.specs.Prelude.{Contains, bytes_eq, is_some, nat_eq, slice_get, unwrap_or, if◌then◌else◌}
+use Rattle.std.proofs.lemmas.Bool.{not-true}
+use Rattle.bl_tree.proofs.Basics.{any_from, contains_first, contains_further, get_front, push_length, some_within, take_next}
 use Rattle.bl_tree.specs.declared.c.CFunc.{CFunc}
 use Rattle.bl_tree.specs.declared.c.CMember.{CMember}
 use Rattle.bl_tree.specs.declared.text.Text.{Text}
@@ -23,7 +25,6 @@ use Rattle.bl_limits_measures.specs.Runs.{activities_run}
 use Rattle.bl_limits_measures_laws.specs.Laws.{UnitsUseEarlierOnes}
 use Rattle.bl_graph_nodes.specs.Nodes.{nodes_in}
 use Rattle.bl_graph_nodes.specs.Plain.{Block, plain_body}
-use Rattle.bl_machine.specs.Blocks.{up_to}
 use Rattle.bl_machine.specs.Uses.{Slots}
 use Rattle.bl_machine.specs.declared.machine.Activity.{Activity as InMachine}
 use Rattle.bl_machine_pass.specs.Transitions.{Transition, rules}
@@ -41,30 +42,17 @@ use Rattle.bl_emit_functions_laws_wellformed.specs.Files.Laws.{ChainsGrow, Chain
 use Rattle.bl_emit_functions_laws_wellformed.proofs.OnFiles.Chains.{code_few, taken}
 use Rattle.bl_emit_functions_laws_wellformed.proofs.OnFiles.Growing.{distinct_behind, names, one_place}
 use Rattle.bl_emit_functions_laws_wellformed.proofs.OnFiles.Under.{Under, back-under, front-under}
-use Rattle.bl_emit_functions_laws_wellformed.proofs.OnFiles.Walk.{drop_next, take_next}
+use Rattle.bl_emit_functions_laws_wellformed.proofs.OnFiles.Walk.{drop_next}
 use Rattle.bl_emit_spec_laws.proofs.OnRunPlaces.Sharing.{once_in}
 use Rattle.bl_emit_spec.specs.Activities.{Activity, RunAt, activity_function, activity_view, frame_struct, remembered_struct, remembers_any, rules_at, runs_at, runs_in_body}
 use Rattle.bl_emit_spec.specs.Blocks.{name_in}
 use Rattle.bl_emit_spec.specs.Names.{frame_name}
-use Rattle.bl_emit_spec.specs.Programs.{
-  ProgramParts,
-  activity_of,
-  needed_below,
-  needed_units,
-  needs_at,
-  needs_of,
-  parts_from,
-  parts_of_activity,
-  parts_of_function,
-  parts_of_next,
-  set_from,
-  where_needed,
-}
+use Rattle.bl_emit_spec.specs.Programs.{ProgramParts, activity_of, needed_units, needs_of, parts_from, parts_of_activity}
+use Rattle.bl_emit_spec.specs.Programs.{parts_of_function, parts_of_next, where_needed}
 use Rattle.bl_emit_spec_laws_wellformed_bodies.specs.Bodies.{ActivityStands}
 use Rattle.bl_emit_spec_laws_wellformed.proofs.OnChains.Nodes.{AllUnder, body_under}
 use Rattle.bl_emit_spec_laws_wellformed.specs.Chains.{ActivitiesCallFew, ActivityChainsGrow, ActivityChainsShort, IsOfUnit}
 use Rattle.bl_emit_spec_laws_wellformed.specs.Closed.{NeededClosed}
-use Rattle.bl_emit_spec_laws.proofs.OnOwn.Members.{any_true, further, here}
 use Rattle.bl_emit_spec_laws_wellformed_bodies.specs.Signed.{ActivitiesSigned, ActivitiesWellFormed}
 use Rattle.bl_emit_spec_laws_wellformed_bodies.proofs.OnLists.Agreeing.{IsBefore, all_known, by, is_need, light-alike, needs-counted, needs-light, prelude-light}
 use Rattle.bl_emit_spec_laws_wellformed_bodies.proofs.OnLists.Agreeing.{run_called}
@@ -72,23 +60,16 @@ use Rattle.bl_emit_spec_laws_wellformed_bodies.proofs.OnLists.Agreeing.{run_need
 use Rattle.bl_emit_spec_laws_wellformed_bodies.proofs.OnLists.Entries.{full-known, full-new}
 use Rattle.bl_emit_spec_laws_wellformed_bodies.specs.Lists.{ActivityConditions, AllConditions, FunctionsEnd, NeededKnown, PartsWellFormed, UnitConditions}
 use Rattle.bl_emit_spec_laws_wellformed_bodies.specs.Lists.{signature_by}
+use Rattle.bl_emit_spec_laws.proofs.OnTables.Kept.{needed_many}
+use Rattle.bl_emit_functions_laws_wellformed.proofs.OnFiles.Walk.{longer}
 
 -- ---- lists
-
-get_front : {A : Type 0} (xs ys : List A) (k : ℕ) → k < length xs → slice_get (xs ++ ys) k ≡ slice_get xs k
-get_front [] ys k less = absurd (omega (arith, less))
-get_front (x ∷ xs) ys zero less = refl
-get_front (x ∷ xs) ys (suc k) less = get_front xs ys k (omega (arith, less))
 
 get_last : {A : Type 0} (xs : List A) (y : A) (k : ℕ) → length xs ≡ k → slice_get (xs ++ y ∷ []) k ≡ Some y
 get_last [] y zero is = refl
 get_last [] y (suc k) is = absurd (omega (arith, is))
 get_last (x ∷ xs) y zero is = absurd (omega (arith, is))
 get_last (x ∷ xs) y (suc k) is = get_last xs y k (omega (arith, is))
-
-push_length : {A : Type 0} (xs : List A) (y : A) → length (xs ++ y ∷ []) ≡ suc (length xs)
-push_length [] y = refl
-push_length (x ∷ xs) y = ap suc (push_length xs y)
 
 taken_length : {A : Type 0} (k : ℕ) (xs : List A) → k ≤ length xs → length (take k xs) ≡ k
 taken_length zero xs le = refl
@@ -101,59 +82,13 @@ taken_at (y ∷ xs) zero f x there less = absurd (omega (arith, less))
 taken_at (y ∷ xs) (suc k) zero x there less = there
 taken_at (y ∷ xs) (suc k) (suc f) x there less = taken_at xs k f x there (omega (arith, less))
 
-value_there : {A : Type 0} (xs : List A) (j : ℕ) → j < length xs → (x : A) × (slice_get xs j ≡ Some x)
-value_there [] j less = absurd (omega (arith, less))
-value_there (x ∷ xs) zero less = (x, refl)
-value_there (x ∷ xs) (suc j) less = value_there xs j (omega (arith, less))
-
 dropped_none : {A : Type 0} (k : ℕ) (xs : List A) → drop k xs ≡ [] → length xs ≤ k
 dropped_none zero [] is = omega arith
 dropped_none zero (x ∷ xs) is = absurd (cc)
 dropped_none (suc k) [] is = omega arith
 dropped_none (suc k) (x ∷ xs) is = let rest = dropped_none k xs is in omega (arith, rest)
 
-behind_longer : {A : Type 0} (xs ys : List A) → length ys ≤ length (xs ++ ys)
-behind_longer [] ys = omega arith
-behind_longer (x ∷ xs) ys = let rest : length ys ≤ length (xs ++ ys) = behind_longer xs ys in omega (arith, rest)
-
-longer : {A : Type 0} (xs ys : List A) → 2 ≤ length ys → nat_lt (length (xs ++ ys)) 2 ≡ false
-longer xs ys two =
-    let all : length ys ≤ length (xs ++ ys) = behind_longer xs ys in
-    let more : 2 ≤ length (xs ++ ys) = omega (arith, all, two) in
-    grind (arith, nat_tests)
-
-no_activity : (b : Bool) → not b ≡ true → b ≡ false
-no_activity true h = absurd (cc)
-no_activity false h = refl
-
 -- ---- how many tests there are
-
-set_length : (positions : List ℕ) (k : ℕ) (tests : List Bool) → length (set_from positions k tests) ≡ length tests
-set_length positions k [] = refl
-set_length positions k (test ∷ tests) = ap suc (set_length positions (suc k) tests)
-
-below_length : (k : ℕ) (units : List UnitDef) (needed : List Bool) → length (needed_below k units needed) ≡ length needed
-below_length zero units needed = refl
-below_length (suc k) units needed =
-    below_length k units (if unwrap_or (slice_get needed k) false then set_from (needs_at (slice_get units k)) 0 needed else needed)
-    ∙ chosen (unwrap_or (slice_get needed k) false)
-  where
-    chosen : (b : Bool) → length (if b then set_from (needs_at (slice_get units k)) 0 needed else needed) ≡ length needed
-    chosen true = set_length (needs_at (slice_get units k)) 0 needed
-    chosen false = refl
-
-up_length : (n : ℕ) → length (up_to n) ≡ n
-up_length zero = refl
-up_length (suc n) = push_length (up_to n) n ∙ ap suc (up_length n)
-
-mapped_length : {A B : Type 0} (f : A → B) (xs : List A) → length (map f xs) ≡ length xs
-mapped_length f [] = refl
-mapped_length f (x ∷ xs) = ap suc (mapped_length f xs)
-
-needed_length : (units : List UnitDef) (entry : ℕ) → length (needed_units units entry) ≡ length units
-needed_length units entry =
-    below_length (length units) units (map (λ k. nat_eq k entry) (up_to (length units)))
-    ∙ mapped_length (λ k. nat_eq k entry) (up_to (length units)) ∙ up_length (length units)
 
 -- ---- tables
 
@@ -289,11 +224,11 @@ module _ (structs : List StructDef) (units : List UnitDef) (entry : ℕ) (given 
       stands-before f has =
           let less : f < k = earlier_than f has in
           let within : k < length units = slice_get_within units k unit there in
-          let found = value_there units f (let low : f < length units = omega (arith, less, within) in low) in
+          let found = some_within units f (let low : f < length units = omega (arith, less, within) in low) in
           record {
             unit = found.0;
             there = taken_at units k f found.0 found.1 less;
-            needed_so = given.closed.closed k f unit keeps there need (any_true (nat_eq f) (needs_of unit) f has (equal f));
+            needed_so = given.closed.closed k f unit keeps there need (any_from (nat_eq f) (needs_of unit) f has (equal f));
           }
         where
           equal : (n : ℕ) → nat_eq n n ≡ true
@@ -342,7 +277,7 @@ module _ (structs : List StructDef) (units : List UnitDef) (entry : ℕ) (given 
               everything (unit_name callee.name) ≡ Some (signature_for structs callee)
           functions_known f callee found is =
               full-known structs remember units differ k f callee found
-              ∙ ap (λ b. Some (signature_by b structs callee (unwrap_or (slice_get remember f) false))) (no_activity (is_activity callee.kind) is)
+              ∙ ap (λ b. Some (signature_by b structs callee (unwrap_or (slice_get remember f) false))) (not-true (is_activity callee.kind) is)
 
       -- ---- an activity
 
@@ -376,12 +311,12 @@ module _ (structs : List StructDef) (units : List UnitDef) (entry : ℕ) (given 
             ActivityStands units a table everything
         stands frames declared callees = record {
           declared = types;
-          frame = declared (frame_struct a) (here (frame_struct a) (remembered_struct a));
-          memory = λ s has. declared s (further (frame_struct a) (remembered_struct a) s has);
+          frame = declared (frame_struct a) (contains_first (frame_struct a) (remembered_struct a));
+          memory = λ s has. declared s (contains_further (frame_struct a) (remembered_struct a) s has);
           frames = λ run has. (let c = callees run has in frames_stand frames run has c.0 c.1.0 c.1.1);
           known = λ f callee found is.
               full-known structs remember units differ k f callee found
-              ∙ ap (λ b. Some (signature_by b structs callee (unwrap_or (slice_get remember f) false))) (no_activity (is_activity callee.kind) is);
+              ∙ ap (λ b. Some (signature_by b structs callee (unwrap_or (slice_get remember f) false))) (not-true (is_activity callee.kind) is);
           called = λ f callee found is.
               full-known structs remember units differ k f callee found
               ∙ ap (λ b. Some (signature_by b structs callee (unwrap_or (slice_get remember f) false))) is;
@@ -526,7 +461,7 @@ module _ (structs : List StructDef) (units : List UnitDef) (entry : ℕ) (given 
           (known-next k unit there remember functions knows r))
           (given.rises structs units entry k unit a depths keeps (record { there = there; is = refl; before = refl }) chains) forms.1
           (λ s has. declared s (Contains-append_right (parts_of_activity a).structs later.structs s has))
-          (frames_next k unit there frames (λ need active. ap is_some (mine (frame_struct a) (here (frame_struct a) (remembered_struct a)))))))
+          (frames_next k unit there frames (λ need active. ap is_some (mine (frame_struct a) (contains_first (frame_struct a) (remembered_struct a)))))))
       activity_step false need active (one ∷ machine) remember functions depths knows chains forms declared frames =
           let a : Activity = activity_of structs (take k units) remember unit one in
           let r : Bool = remembers_any a in
@@ -560,7 +495,7 @@ module _ (structs : List StructDef) (units : List UnitDef) (entry : ℕ) (given 
       let found = drop_next units k unit xs is in
       let less : k < length units = slice_get_within units k unit found.0 in
       let few : length needed ≤ k = dropped_none k needed tests_are in
-      let many : length needed ≡ length units = needed_length units entry in
+      let many : length needed ≡ length units = needed_many units entry in
       absurd (omega (arith, less, few, many))
   walk (unit ∷ xs) k (test ∷ tests) le is tests_are =
       let found = drop_next units k unit xs is in

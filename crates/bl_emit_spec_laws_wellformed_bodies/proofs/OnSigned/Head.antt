@@ -5,9 +5,10 @@ use Rattle.std.proofs.Common.{refl, sym, ap, ◌∙◌, subst, arith, codes}
 use Rattle.std.proofs.lemmas.Bool.Decides.{nat_tests}
 use Rattle.std.proofs.lemmas.List.{map-append}
 use Rattle.std.proofs.lemmas.List.Elements.{Contains-append_left, Contains-append_right}
-use Rattle.std.proofs.lemmas.List.Folds.{list_all-append}
 use Rattle.std.specs.Prelude.{is_none, is_some, nat_le, nat_lt, option_and_then, slice_get, if◌then◌else◌}
 use Rattle.std.specs.List.{list_all}
+use Rattle.std.proofs.lemmas.Bool.{and_from}
+use Rattle.bl_tree.proofs.Basics.{all_append, contains_first}
 use Rattle.bl_tree.specs.declared.text.Text.{Text}
 use Rattle.bl_tree.specs.declared.c.CFunc.{CFunc}
 use Rattle.bl_tree.specs.declared.c.CLocal.{CLocal}
@@ -21,21 +22,9 @@ use Rattle.bl_tree.specs.declared.tree.Var.{Var}
 use Rattle.bl_tree.specs.Program.{IsWellTyped, is_output, parameters_of}
 use Rattle.bl_tree.specs.Reduce.{joined}
 use Rattle.bl_tree.specs.Types.{scalar_in, type_stands}
-use Rattle.bl_eval.proofs.PassLemmas.{all_at, both}
-use Rattle.bl_ctext_semantics.specs.Faults.{
-  Signature,
-  Variable,
-  all_distinct,
-  declared_before,
-  depth_of_function,
-  distinct_names,
-  faults_in_head,
-  is_declared,
-  is_scalar,
-  scalar_parameter,
-  short_chain,
-  variable_names,
-}
+use Rattle.bl_eval.proofs.PassLemmas.{all_at}
+use Rattle.bl_ctext_semantics.specs.Faults.{Signature, Variable, all_distinct, declared_before, depth_of_function, distinct_names, faults_in_head, is_declared}
+use Rattle.bl_ctext_semantics.specs.Faults.{is_scalar, scalar_parameter, short_chain, variable_names}
 use Rattle.bl_ctext_semantics.specs.Faults as faults
 use Rattle.bl_ctext_semantics.specs.Tables.{Table, no_entries}
 use Rattle.bl_emit_acts.specs.Types.{c_type}
@@ -50,41 +39,13 @@ use Rattle.bl_emit_structs_laws_wellformed.proofs.OnFormed.Faultless.{all_differ
 use Rattle.bl_machine_pass.specs.Transitions.{Change, Transition}
 use Rattle.bl_machine_pass.specs.Transitions.{ClearsBoth, ClearsCounter, EndsWhen, Finishes, SetsCounter, SetsFlag, SetsMark}
 use Rattle.bl_emit_spec.specs.Blocks.{unit_may_end}
-use Rattle.bl_emit_spec.specs.Activities.{
-  Activity,
-  RunAt,
-  activity_function,
-  activity_locals,
-  activity_params,
-  activity_view,
-  copied_in,
-  copy_local,
-  counters_read,
-  first_rules,
-  flag_local,
-  given_local,
-  is_flagged,
-  mark_local,
-  mark_locals,
-  memory_params,
-  over_params,
-  pointer_param,
-  remembered,
-  remembers_any,
-  rested_local,
-  result_params,
-  rules_at,
-  run_locals,
-  runs_in_body,
-  scalar_local,
-  word_of_run,
-  ended_local,
-  some_ends,
-}
+use Rattle.bl_emit_spec.specs.Activities.{Activity, RunAt, activity_function, activity_locals, activity_params, activity_view, copied_in, copy_local}
+use Rattle.bl_emit_spec.specs.Activities.{counters_read, first_rules, flag_local, given_local, is_flagged, mark_local, mark_locals, memory_params, over_params}
+use Rattle.bl_emit_spec.specs.Activities.{pointer_param, remembered, remembers_any, rested_local, result_params, rules_at, run_locals, runs_in_body}
+use Rattle.bl_emit_spec.specs.Activities.{scalar_local, word_of_run, ended_local, some_ends}
 use Rattle.bl_emit_spec.specs.Blocks.{ActivityView, node_word}
 use Rattle.bl_emit_spec.specs.Names.{NumberedWord, flag_name, frame_name}
 use Rattle.bl_emit_spec_laws_wellformed.specs.Names.{LocalsDiffer, NumbersDiffer}
-use Rattle.bl_emit_spec_laws.proofs.OnOwn.Members.{here}
 use Rattle.bl_emit_spec_laws_wellformed_bodies.specs.Bodies.{ActivityBodiesWellFormed, ActivityStands, memory_given, over_given, result_given}
 use Rattle.bl_emit_spec_laws_wellformed_bodies.specs.Signed.{ActivitiesSigned, ActivitiesWellFormed, NoneLoops}
 
@@ -132,12 +93,9 @@ signed a =
 
 -- ---- what holds of each
 
-all_append : {A : Type 0} (p : A → Bool) (xs ys : List A) → list_all p xs ≡ true → list_all p ys ≡ true → list_all p (xs ++ ys) ≡ true
-all_append p xs ys one other = list_all-append p xs ys ∙ both (list_all p xs) (list_all p ys) one other
-
 all_mapped : {A B : Type 0} (p : B → Bool) (f : A → B) (xs : List A) → ((x : A) → p (f x) ≡ true) → list_all p (map f xs) ≡ true
 all_mapped p f [] each = refl
-all_mapped p f (x ∷ xs) each = both (p (f x)) (list_all p (map f xs)) (each x) (all_mapped p f xs each)
+all_mapped p f (x ∷ xs) each = and_from (p (f x)) (list_all p (map f xs)) (each x) (all_mapped p f xs each)
 
 all_joined : {A B : Type 0} (p : B → Bool) (f : A → List B) (xs : List A) → ((x : A) → list_all p (f x) ≡ true) →
     list_all p (joined (map f xs)) ≡ true
@@ -149,7 +107,7 @@ params_all : (structs : List StructDef) (all : List Var) (test : CParam → Bool
     base vars) ≡ true
 params_all structs all test base [] each = refl
 params_all structs all test base (v ∷ vars) each =
-    both (test (param_of structs all base v)) (list_all test (params_from structs all (base + 1) vars)) (each base 0 v refl)
+    and_from (test (param_of structs all base v)) (list_all test (params_from structs all (base + 1) vars)) (each base 0 v refl)
     (params_all structs all test (base + 1) vars (λ k j var found. each k (suc j) var found))
 
 scalar_or_pointer : (structs : List StructDef) (var : Var) (s : Option ScalarType) → scalar_in var.ty ≡ s →
@@ -244,10 +202,10 @@ module _ (units : List UnitDef) (entry k : ℕ) (a : Activity) (keeps : IsWellTy
   any_there : (members : List CMember) → nat_lt 0 (length members) ≡ true → AreDeclared table (struct_of a.unit.name members) →
       is_some (table (memory_name a.unit.name)) ≡ true
   any_there [] any declared = absurd (cc)
-  any_there (m ∷ members) any declared = ap is_some (declared _ (here _ []))
+  any_there (m ∷ members) any declared = ap is_some (declared _ (contains_first _ []))
 
   memory_declared : (b : Bool) → remembers_any a ≡ b → list_all (λ (p : CParam). is_declared table p.ty) (memory_params a b) ≡ true
-  memory_declared true is = both (is_some (table (memory_name a.unit.name))) true (any_there (remembered a) is stands.memory) refl
+  memory_declared true is = and_from (is_some (table (memory_name a.unit.name))) true (any_there (remembered a) is stands.memory) refl
   memory_declared false is = refl
 
   result_declared : (r : Option ScalarType) (ends : Bool) → list_all (λ (p : CParam). is_declared table p.ty) (result_params r ++ over_params ends) ≡ true
@@ -261,7 +219,7 @@ module _ (units : List UnitDef) (entry k : ℕ) (a : Activity) (keeps : IsWellTy
       let test : CParam → Bool = λ (p : CParam). is_declared table p.ty in
       let params : List CParam = params_from a.structs a.unit.vars 0 (parameters_of a.unit) in
       let behind : List CParam = result_params a.unit.result ++ over_params (unit_may_end a.unit) in
-      both (is_some (table (frame_name a.unit.name))) (list_all test (memory_params a (remembers_any a) ++ (params ++ behind)))
+      and_from (is_some (table (frame_name a.unit.name))) (list_all test (memory_params a (remembers_any a) ++ (params ++ behind)))
       (ap is_some stands.frame)
       (all_append test (memory_params a (remembers_any a)) (params ++ behind) (memory_declared (remembers_any a) refl)
       (all_append test params behind
@@ -305,7 +263,7 @@ module _ (units : List UnitDef) (entry k : ℕ) (a : Activity) (keeps : IsWellTy
       let two = kept (all_distinct no_entries (variable_names f)) distinct_names f.place (all_differ (variable_names f) (locals a differ)) in
       let three = kept (list_all (λ (p : CParam). is_declared table p.ty) f.params && list_all (λ (l : CLocal). is_declared table l.ty) f.locals)
       declared_before f.place
-      (both (list_all (λ (p : CParam). is_declared table p.ty) f.params) (list_all (λ (l : CLocal). is_declared table l.ty) f.locals) params_declared
+      (and_from (list_all (λ (p : CParam). is_declared table p.ty) f.params) (list_all (λ (l : CLocal). is_declared table l.ty) f.locals) params_declared
       (locals-fine table a)) in
       let four = kept (list_all (λ (p : CParam). p.pointer || is_scalar p.ty) f.params) scalar_parameter f.place params_scalar in
       let six = kept (nat_le (depth_of_function depths f) 300) short_chain f.place (at_most (depth_of_function depths f) short) in

@@ -33,28 +33,15 @@ use Rattle.bl_graph_nodes.specs.Nodes.{ResumeAt, StartAt, SurfaceEndAt, SurfaceJ
 use Rattle.bl_graph_nodes.specs.Plain.{Block, Done, Then}
 use Rattle.bl_machine_pass.specs.Transitions.{Change, Transition}
 use Rattle.bl_machine_pass.specs.Transitions.{ClearsBoth, ClearsCounter, EndsWhen, Finishes, SetsCounter, SetsFlag, SetsMark}
-use Rattle.bl_emit_spec.specs.Activities.{
-  Activity,
-  activity_code,
-  activity_view,
-  blocks_code,
-  blocks_in_order,
-  body_of,
-  callees_in,
-  copied_in,
-  counters_read,
-  entry_code,
-  picked,
-  rested_code,
-  rules_at,
-  turns_in_source,
-}
+use Rattle.bl_emit_spec.specs.Activities.{Activity, activity_code, activity_view, blocks_code, blocks_in_order, body_of, callees_in, copied_in, counters_read}
+use Rattle.bl_emit_spec.specs.Activities.{entry_code, picked, rested_code, rules_at, turns_in_source}
 use Rattle.bl_emit_spec.specs.Blocks.{word_at, ActivityView, NodeCode, change_code, changes_code, control_code, flagged_now, forgotten, fused_code}
 use Rattle.bl_emit_spec.specs.Blocks.{all_merged, choice_code, control_unless, entered_by, layer_acted, leaving_flag, may_end_in, merged_code, next_turn}
 use Rattle.bl_emit_spec.specs.Blocks.{own_code, run_code}
 use Rattle.bl_emit_spec.specs.Blocks.{spelled_truth, stmt_where, target_code, test_code, turns_of}
 use Rattle.bl_emit_spec_laws_wellformed_bodies.specs.Signed.{NoneLoops}
 use Rattle.bl_emit_spec.specs.Names.{NumberedWord, ended_place}
+use Rattle.bl_emit_functions_laws_wellformed.proofs.OnFormed.Turns.{call-turns, clear-turns}
 
 abbrev what : CStmtKind-F CStmtKind CStmt → CStmt
 what layer = roll-CStmt (record { place = nowhere; what = roll-CStmtKind layer })
@@ -70,13 +57,6 @@ record Still (s : CStmt) : Type 0 where
 by_form : (k : CStmtKind) (layer : CStmtKind-F CStmtKind CStmt) (turns : LoopCounters) → roll-CStmtKind layer ≡ k → turns_in (what layer) ≡ turns →
     turns_in (roll-CStmt (record { place = nowhere; what = k })) ≡ turns
 by_form k layer turns is shape = subst (λ (k : CStmtKind). turns_in (roll-CStmt (record { place = nowhere; what = k })) ≡ turns) is shape
-
-pub clear-turns : (place : CPlace) (name : Text) → turns_in (c_clear place name) ≡ []
-clear-turns place name =
-    by_form (statement.Clear place name) (CStmtKind-F.Clear place name) [] (statement.rolls-Clear place name) (rw (fold-roll-CStmt, fold-roll-CStmtKind) refl)
-
-pub call-turns : (call : CCall) → turns_in (c_calling call) ≡ []
-call-turns call = by_form (statement.Call call) (CStmtKind-F.Call call) [] (statement.rolls-Call call) (rw (fold-roll-CStmt, fold-roll-CStmtKind) refl)
 
 abbrev pub turns_of_other : Option (List CStmt) → LoopCounters
 turns_of_other other = turns_or_none (option_map (map turns_in) other)

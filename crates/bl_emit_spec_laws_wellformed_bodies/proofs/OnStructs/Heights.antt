@@ -5,6 +5,7 @@ use Rattle.std.proofs.Common.{refl, sym, ap, ◌∙◌, subst, codes}
 use Rattle.std.proofs.lemmas.Option.{same_Some, slice_get_cases}
 use Rattle.std.proofs.lemmas.Slice.Eq.{bytes_eq-Decides}
 use Rattle.std.specs.Prelude.{bytes_eq, slice_get, slice_index, if◌then◌else◌}
+use Rattle.bl_tree.proofs.Basics.{and_first, and_second, less_from}
 use Rattle.bl_tree.specs.declared.c.CMember.{CMember}
 use Rattle.bl_tree.specs.declared.c.CStruct.{CStruct}
 use Rattle.bl_tree.specs.declared.text.Text.{Text}
@@ -16,7 +17,7 @@ use Rattle.bl_tree.specs.declared.tree.Var.{Var}
 use Rattle.bl_tree.specs.Program.{IsWellTyped}
 use Rattle.bl_tree.specs.Types.{type_stands}
 use Rattle.bl_tree.specs.Words.{are_distinct, is_among}
-use Rattle.bl_eval.proofs.PassLemmas.{all_at, and_left, and_right}
+use Rattle.bl_eval.proofs.PassLemmas.{all_at}
 use Rattle.bl_limits_measures.specs.Types.{nesting, struct_nestings}
 use Rattle.bl_limits_measures.specs.Units.{all_chains, chain_at, chain_by}
 use Rattle.bl_limits_measures.proofs.TableLemmas.{answer_at}
@@ -26,7 +27,7 @@ use Rattle.bl_emit_structs_laws_wellformed.specs.Names.{TypesApart}
 use Rattle.bl_emit_acts_laws_wellformed.proofs.OnFormed.Parts.{name_at}
 use Rattle.bl_emit_acts_laws_wellformed.proofs.OnFormed.Units.{vars_stand}
 use Rattle.bl_emit_structs_laws_wellformed.specs.Formed.{NestsAtMost, OfVariable}
-use Rattle.bl_emit_structs_laws_wellformed.proofs.OnFormed.Levels.{below, nesting_at, stands_at, struct_some}
+use Rattle.bl_emit_structs_laws_wellformed.proofs.OnFormed.Levels.{nesting_at, stands_at, struct_some}
 use Rattle.bl_emit_structs_laws_wellformed.proofs.OnFormed.Types.{StructOf}
 use Rattle.bl_emit_functions.specs.Functions.{memory_name}
 use Rattle.bl_emit_spec.specs.Names.{frame_name}
@@ -98,19 +99,19 @@ one_name [] k j a b distinct one two same = absurd (cc)
 one_name (first ∷ units) zero zero a b distinct one two same = refl
 one_name (first ∷ units) zero (suc j) a b distinct one two same =
     absurd (never (ap not (sym (unit_among units j b first.name two (sym same ∙ ap (λ (u : UnitDef). u.name) (sym (same_Some first a one)))))
-    ∙ and_left (not (is_among first.name (map (λ (u : UnitDef). u.name) units))) (are_distinct (map (λ (u : UnitDef). u.name) units)) distinct))
+    ∙ and_first (not (is_among first.name (map (λ (u : UnitDef). u.name) units))) (are_distinct (map (λ (u : UnitDef). u.name) units)) distinct))
   where
     never : false ≡ true → ⊥
     never h = absurd (cc)
 one_name (first ∷ units) (suc k) zero a b distinct one two same =
     absurd (never (ap not (sym (unit_among units k a first.name one (same ∙ ap (λ (u : UnitDef). u.name) (sym (same_Some first b two)))))
-    ∙ and_left (not (is_among first.name (map (λ (u : UnitDef). u.name) units))) (are_distinct (map (λ (u : UnitDef). u.name) units)) distinct))
+    ∙ and_first (not (is_among first.name (map (λ (u : UnitDef). u.name) units))) (are_distinct (map (λ (u : UnitDef). u.name) units)) distinct))
   where
     never : false ≡ true → ⊥
     never h = absurd (cc)
 one_name (first ∷ units) (suc k) (suc j) a b distinct one two same =
     ap suc (one_name units k j a b
-    (and_right (not (is_among first.name (map (λ (u : UnitDef). u.name) units))) (are_distinct (map (λ (u : UnitDef). u.name) units)) distinct)
+    (and_second (not (is_among first.name (map (λ (u : UnitDef). u.name) units))) (are_distinct (map (λ (u : UnitDef). u.name) units)) distinct)
     one two same)
 
 -- ---- heights
@@ -205,7 +206,7 @@ module _ (structs : List StructDef) (units : List UnitDef) (entry : ℕ) (keeps 
         nesting structs ty + 1 ≤ n → Lower H n (type_level (type_name structs ty) layer)
     type_lower_by ty (Ty-F.Scalar s) is stands n low = tt
     type_lower_by ty (Ty-F.Struct k) is stands n low =
-        let inside : k < length structs = below k (length structs) (sym (stands_at (length structs) ty (Ty-F.Struct k) is) ∙ stands) in
+        let inside : k < length structs = less_from k (length structs) (sym (stands_at (length structs) ty (Ty-F.Struct k) is) ∙ stands) in
         let deep : nesting structs ty ≡ slice_index (struct_nestings structs) k = nesting_at (struct_nestings structs) ty (Ty-F.Struct k) is in
         let some : 1 ≤ slice_index (struct_nestings structs) k = struct_there k inside in
         let one : 1 ≤ nesting structs ty = omega (arith, deep, some) in

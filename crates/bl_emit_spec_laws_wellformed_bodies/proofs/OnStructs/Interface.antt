@@ -3,9 +3,11 @@ use Rattle.std.proofs.Common.{◌≡◌, ⊎_elim, ℕ, zero, suc, ◌+◌, arit
 use Rattle.std.proofs.Common.{List, [], ◌∷◌, ◌++◌, Contains, map, take, drop, length, Option, Some, None, refl, sym, ap, ◌∙◌, subst, codes}
 use Rattle.std.proofs.lemmas.Bool.Decides.{nat_tests}
 use Rattle.std.proofs.lemmas.List.{map-append}
-use Rattle.std.proofs.lemmas.List.Folds.{list_all-append, list_any-append}
+use Rattle.std.proofs.lemmas.List.Folds.{list_all-append}
 use Rattle.std.specs.List.{list_all}
 use Rattle.std.specs.Prelude.{bytes_eq, is_some, nat_lt, if◌then◌else◌}
+use Rattle.std.proofs.lemmas.Bool.{and_from}
+use Rattle.bl_tree.proofs.Basics.{and_first, and_second, contains_none, first_or_further}
 use Rattle.bl_tree.specs.declared.c.CMember.{CMember}
 use Rattle.bl_tree.specs.declared.c.CType.{CType}
 use Rattle.bl_tree.specs.declared.c.CType.TheVariants.{Scalar as OfScalar, Struct as OfStruct}
@@ -19,7 +21,6 @@ use Rattle.bl_tree.specs.Program.{names_of, parameters_of}
 use Rattle.bl_tree.specs.Types.{scalar_in}
 use Rattle.bl_tree.specs.Typing.{inputs_of, outputs_of}
 use Rattle.bl_tree.specs.Words.{are_distinct, is_among, is_name}
-use Rattle.bl_eval.proofs.PassLemmas.{and_left, and_right, both}
 use Rattle.bl_ctext_semantics.specs.Faults.{interface_fits, is_port, is_scalar}
 use Rattle.bl_emit_acts.specs.Types.{c_scalar, c_type}
 use Rattle.bl_emit_acts_laws_wellformed.proofs.OnFormed.Parts.{c_scalar_type}
@@ -28,7 +29,9 @@ use Rattle.bl_emit_functions.specs.Functions.{memory_name}
 use Rattle.bl_emit_spec.specs.Activities.{struct_member}
 use Rattle.bl_emit_spec.specs.Names.{frame_name}
 use Rattle.bl_emit_spec.specs.Programs.{port_member, port_struct, state_struct}
-use Rattle.bl_emit_spec_laws_wellformed_bodies.proofs.OnStructs.Lists.{first_or, from_map, none_has}
+use Rattle.bl_emit_spec_laws_wellformed_bodies.proofs.OnStructs.Lists.{from_map}
+use Rattle.bl_emit_spec_laws_wellformed.proofs.OnTexts.Files.{dropped_all, taken_all}
+use Rattle.bl_emit_structs_laws_wellformed.proofs.OnNames.Named.{distinct_front}
 
 -- ---- parameters
 
@@ -49,7 +52,7 @@ take_nothing : {A : Type 0} (n : ℕ) → take n (none_of A) ≡ none_of A
 take_nothing zero = refl
 take_nothing (suc n) = refl
 
-split_take : {A : Type 0} (a b : ℕ) (xs : List A) → take (a + b) xs ≡ take a xs ++ take b (drop a xs)
+pub split_take : {A : Type 0} (a b : ℕ) (xs : List A) → take (a + b) xs ≡ take a xs ++ take b (drop a xs)
 split_take zero b [] = take_nothing (zero + b) ∙ sym (take_nothing b)
 split_take zero b (x ∷ xs) = let same : zero + b ≡ b = omega arith in ap (λ n. take n (x ∷ xs)) same
 split_take (suc a) b [] = take_nothing (suc a + b) ∙ sym (take_nothing b)
@@ -61,43 +64,21 @@ either_false : (a b : Bool) → not (a || b) ≡ true → not a ≡ true
 either_false true b h = h
 either_false false b h = refl
 
-distinct_front : (xs ys : List Text) → are_distinct (xs ++ ys) ≡ true → are_distinct xs ≡ true
-distinct_front [] ys h = refl
-distinct_front (x ∷ xs) ys h =
-    both (not (is_among x xs)) (are_distinct xs)
-    (front xs (and_left (not (is_among x (xs ++ ys))) (are_distinct (xs ++ ys)) h))
-    (distinct_front xs ys (and_right (not (is_among x (xs ++ ys))) (are_distinct (xs ++ ys)) h))
-  where
-    front : (xs : List Text) → not (is_among x (xs ++ ys)) ≡ true → not (is_among x xs) ≡ true
-    front xs h = either_false (is_among x xs) (is_among x ys) (ap not (sym (list_any-append (bytes_eq x) xs ys)) ∙ h)
-
-distinct_back : (xs ys : List Text) → are_distinct (xs ++ ys) ≡ true → are_distinct ys ≡ true
+pub distinct_back : (xs ys : List Text) → are_distinct (xs ++ ys) ≡ true → are_distinct ys ≡ true
 distinct_back [] ys h = h
-distinct_back (x ∷ xs) ys h = distinct_back xs ys (and_right (not (is_among x (xs ++ ys))) (are_distinct (xs ++ ys)) h)
-
-taken_all : {A : Type 0} (test : A → Bool) (n : ℕ) (xs : List A) → list_all test xs ≡ true → list_all test (take n xs) ≡ true
-taken_all test zero xs all = refl
-taken_all test (suc n) [] all = refl
-taken_all test (suc n) (x ∷ xs) all =
-    both (test x) (list_all test (take n xs)) (and_left (test x) (list_all test xs) all)
-    (taken_all test n xs (and_right (test x) (list_all test xs) all))
-
-dropped_all : {A : Type 0} (test : A → Bool) (n : ℕ) (xs : List A) → list_all test xs ≡ true → list_all test (drop n xs) ≡ true
-dropped_all test zero xs all = all
-dropped_all test (suc n) [] all = refl
-dropped_all test (suc n) (x ∷ xs) all = dropped_all test n xs (and_right (test x) (list_all test xs) all)
+distinct_back (x ∷ xs) ys h = distinct_back xs ys (and_second (not (is_among x (xs ++ ys))) (are_distinct (xs ++ ys)) h)
 
 named_all : (vars : List Var) → list_all is_name (names_of vars) ≡ true → list_all (λ (var : Var). is_name var.name) vars ≡ true
 named_all [] all = refl
 named_all (var ∷ vars) all =
-    both (is_name var.name) (list_all (λ (var : Var). is_name var.name) vars) (and_left (is_name var.name) (list_all is_name (names_of vars)) all)
-    (named_all vars (and_right (is_name var.name) (list_all is_name (names_of vars)) all))
+    and_from (is_name var.name) (list_all (λ (var : Var). is_name var.name) vars) (and_first (is_name var.name) (list_all is_name (names_of vars)) all)
+    (named_all vars (and_second (is_name var.name) (list_all is_name (names_of vars)) all))
 
 all_named : (vars : List Var) → list_all (λ (var : Var). is_name var.name) vars ≡ true → list_all is_name (names_of vars) ≡ true
 all_named [] all = refl
 all_named (var ∷ vars) all =
-    both (is_name var.name) (list_all is_name (names_of vars)) (and_left (is_name var.name) (list_all (λ (var : Var). is_name var.name) vars) all)
-    (all_named vars (and_right (is_name var.name) (list_all (λ (var : Var). is_name var.name) vars) all))
+    and_from (is_name var.name) (list_all is_name (names_of vars)) (and_first (is_name var.name) (list_all (λ (var : Var). is_name var.name) vars) all)
+    (all_named vars (and_second (is_name var.name) (list_all (λ (var : Var). is_name var.name) vars) all))
 
 module _ (unit : UnitDef) (scalars : list_all is_scalar_var (parameters_of unit) ≡ true) (named : list_all is_name (names_of unit.vars) ≡ true)
     (distinct : are_distinct (names_of (parameters_of unit)) ≡ true) where
@@ -114,14 +95,14 @@ module _ (unit : UnitDef) (scalars : list_all is_scalar_var (parameters_of unit)
 
   pub inputs_ports : Ports (inputs_of unit)
   inputs_ports = record {
-    scalars = and_left (list_all is_scalar_var (inputs_of unit)) (list_all is_scalar_var (outputs_of unit)) scalars_both;
+    scalars = and_first (list_all is_scalar_var (inputs_of unit)) (list_all is_scalar_var (outputs_of unit)) scalars_both;
     names = all_named (inputs_of unit) (taken_all (λ (var : Var). is_name var.name) unit.inputs unit.vars (named_all unit.vars named));
     differ = distinct_front (names_of (inputs_of unit)) (names_of (outputs_of unit)) distinct_both;
   }
 
   pub outputs_ports : Ports (outputs_of unit)
   outputs_ports = record {
-    scalars = and_right (list_all is_scalar_var (inputs_of unit)) (list_all is_scalar_var (outputs_of unit)) scalars_both;
+    scalars = and_second (list_all is_scalar_var (inputs_of unit)) (list_all is_scalar_var (outputs_of unit)) scalars_both;
     names = all_named (outputs_of unit)
         (taken_all (λ (var : Var). is_name var.name) unit.outputs (drop unit.inputs unit.vars)
         (dropped_all (λ (var : Var). is_name var.name) unit.inputs unit.vars (named_all unit.vars named)));
@@ -146,15 +127,15 @@ module _ (structs : List StructDef) where
       is_port (codes "i_") (record { ty = ty; name = codes "i_" ++ name; length = None }) ≡ true
   input_port [] ty named scalar = absurd (cc)
   input_port (b ∷ rest) ty named scalar =
-      both (nat_lt (length (codes "i_")) (length (codes "i_" ++ b ∷ rest))) (is_scalar ty && true) (input_long b rest)
-      (both (is_scalar ty) true scalar refl)
+      and_from (nat_lt (length (codes "i_")) (length (codes "i_" ++ b ∷ rest))) (is_scalar ty && true) (input_long b rest)
+      (and_from (is_scalar ty) true scalar refl)
 
   output_port : (name : Text) (ty : CType) → is_name name ≡ true → is_scalar ty ≡ true →
       is_port (codes "o_") (record { ty = ty; name = codes "o_" ++ name; length = None }) ≡ true
   output_port [] ty named scalar = absurd (cc)
   output_port (b ∷ rest) ty named scalar =
-      both (nat_lt (length (codes "o_")) (length (codes "o_" ++ b ∷ rest))) (is_scalar ty && true) (output_long b rest)
-      (both (is_scalar ty) true scalar refl)
+      and_from (nat_lt (length (codes "o_")) (length (codes "o_" ++ b ∷ rest))) (is_scalar ty && true) (output_long b rest)
+      (and_from (is_scalar ty) true scalar refl)
 
   scalar_there : (var : Var) → is_scalar_var var ≡ true → is_scalar (c_type structs var.ty) ≡ true
   scalar_there var is = let found = type_scalar var.ty (scalar_in var.ty) refl is in ap is_scalar found.1
@@ -163,21 +144,21 @@ module _ (structs : List StructDef) where
       list_all (is_port (codes "i_")) (map (port_member structs (codes "i_")) vars) ≡ true
   input_ports [] scalars named = refl
   input_ports (var ∷ vars) scalars named =
-      both (is_port (codes "i_") (port_member structs (codes "i_") var)) (list_all (is_port (codes "i_")) (map (port_member structs (codes "i_")) vars))
-      (input_port var.name (c_type structs var.ty) (and_left (is_name var.name) (list_all is_name (names_of vars)) named)
-      (scalar_there var (and_left (is_scalar_var var) (list_all is_scalar_var vars) scalars)))
-      (input_ports vars (and_right (is_scalar_var var) (list_all is_scalar_var vars) scalars)
-      (and_right (is_name var.name) (list_all is_name (names_of vars)) named))
+      and_from (is_port (codes "i_") (port_member structs (codes "i_") var)) (list_all (is_port (codes "i_")) (map (port_member structs (codes "i_")) vars))
+      (input_port var.name (c_type structs var.ty) (and_first (is_name var.name) (list_all is_name (names_of vars)) named)
+      (scalar_there var (and_first (is_scalar_var var) (list_all is_scalar_var vars) scalars)))
+      (input_ports vars (and_second (is_scalar_var var) (list_all is_scalar_var vars) scalars)
+      (and_second (is_name var.name) (list_all is_name (names_of vars)) named))
 
   output_ports : (vars : List Var) → list_all is_scalar_var vars ≡ true → list_all is_name (names_of vars) ≡ true →
       list_all (is_port (codes "o_")) (map (port_member structs (codes "o_")) vars) ≡ true
   output_ports [] scalars named = refl
   output_ports (var ∷ vars) scalars named =
-      both (is_port (codes "o_") (port_member structs (codes "o_") var)) (list_all (is_port (codes "o_")) (map (port_member structs (codes "o_")) vars))
-      (output_port var.name (c_type structs var.ty) (and_left (is_name var.name) (list_all is_name (names_of vars)) named)
-      (scalar_there var (and_left (is_scalar_var var) (list_all is_scalar_var vars) scalars)))
-      (output_ports vars (and_right (is_scalar_var var) (list_all is_scalar_var vars) scalars)
-      (and_right (is_name var.name) (list_all is_name (names_of vars)) named))
+      and_from (is_port (codes "o_") (port_member structs (codes "o_") var)) (list_all (is_port (codes "o_")) (map (port_member structs (codes "o_")) vars))
+      (output_port var.name (c_type structs var.ty) (and_first (is_name var.name) (list_all is_name (names_of vars)) named)
+      (scalar_there var (and_first (is_scalar_var var) (list_all is_scalar_var vars) scalars)))
+      (output_ports vars (and_second (is_scalar_var var) (list_all is_scalar_var vars) scalars)
+      (and_second (is_name var.name) (list_all is_name (names_of vars)) named))
 
   -- ---- names of members
 
@@ -193,9 +174,9 @@ module _ (structs : List StructDef) where
     ports_differ : (vars : List Var) → are_distinct (names_of vars) ≡ true → are_distinct (port_names vars) ≡ true
     ports_differ [] differ = refl
     ports_differ (var ∷ vars) differ =
-        both (not (is_among (prefix ++ var.name) (port_names vars))) (are_distinct (port_names vars))
-        (ap not (among_same var.name vars) ∙ and_left (not (is_among var.name (names_of vars))) (are_distinct (names_of vars)) differ)
-        (ports_differ vars (and_right (not (is_among var.name (names_of vars))) (are_distinct (names_of vars)) differ))
+        and_from (not (is_among (prefix ++ var.name) (port_names vars))) (are_distinct (port_names vars))
+        (ap not (among_same var.name vars) ∙ and_first (not (is_among var.name (names_of vars))) (are_distinct (names_of vars)) differ)
+        (ports_differ vars (and_second (not (is_among var.name (names_of vars))) (are_distinct (names_of vars)) differ))
 
     no_pad : (vars : List Var) → is_among (codes "pad") (port_names vars) ≡ false
     no_pad [] = refl
@@ -204,7 +185,7 @@ module _ (structs : List StructDef) where
     pub members_differ : (name : Text) (vars : List Var) → are_distinct (names_of vars) ≡ true →
         are_distinct (member_names (port_struct structs name prefix vars)) ≡ true
     members_differ name vars differ =
-        both (not (is_among (codes "pad") (port_names vars))) (are_distinct (port_names vars)) (ap not (no_pad vars)) (ports_differ vars differ)
+        and_from (not (is_among (codes "pad") (port_names vars))) (are_distinct (port_names vars)) (ap not (no_pad vars)) (ports_differ vars differ)
 
   pub inputs_differ : (vars : List Var) → Ports vars → are_distinct (member_names (port_struct structs (codes "bl_in") (codes "i_") vars)) ≡ true
   inputs_differ vars ports = members_differ (codes "i_") (λ a b. refl) (λ a. refl) (codes "bl_in") vars ports.differ
@@ -221,10 +202,10 @@ module _ (structs : List StructDef) where
   -- ---- types of members
 
   one_of : {A : Type 0} (test : A → Bool) (xs : List A) (x : A) → list_all test xs ≡ true → Contains xs x → test x ≡ true
-  one_of test [] x all has = absurd (none_has x has)
+  one_of test [] x all has = absurd (contains_none x has)
   one_of test (y ∷ xs) x all has =
-      ⊎_elim (λ is. subst (λ x. test x ≡ true) is (and_left (test y) (list_all test xs) all))
-      (λ later. one_of test xs x (and_right (test y) (list_all test xs) all) later) (first_or y xs x has)
+      ⊎_elim (λ is. subst (λ x. test x ≡ true) is (and_first (test y) (list_all test xs) all))
+      (λ later. one_of test xs x (and_second (test y) (list_all test xs) all) later) (first_or_further y xs x has)
 
   -- the members of a struct of ports are scalars
   pub port_scalar : (name prefix : Text) (vars : List Var) → Ports vars → (m : CMember) → Contains (port_struct structs name prefix vars).members m →
@@ -234,7 +215,7 @@ module _ (structs : List StructDef) where
       (λ behind.
       let found = from_map (port_member structs prefix) vars m behind in
       let ty = type_scalar found.0.ty (scalar_in found.0.ty) refl (one_of is_scalar_var vars found.0 ports.scalars found.1) in
-      (c_scalar ty.0, ap (λ (m : CMember). m.ty) (sym found.2) ∙ ty.1)) (first_or _ (map (port_member structs prefix) vars) m has)
+      (c_scalar ty.0, ap (λ (m : CMember). m.ty) (sym found.2) ∙ ty.1)) (first_or_further _ (map (port_member structs prefix) vars) m has)
 
 -- the members of the state are the structs of the entry
 pub record OfState (name : Text) (remembers : Bool) (m : CMember) : Type 0 where
@@ -245,15 +226,15 @@ pub record OfState (name : Text) (remembers : Bool) (m : CMember) : Type 0 where
 pub state_members : (name : Text) (remembers : Bool) (m : CMember) → Contains (state_struct name remembers).members m → OfState name remembers m
 state_members name false m has =
     ⊎_elim (λ is. record { frame = true; is = ap (λ (m : CMember). m.ty) (sym is); tells = λ never. absurd (differs never) })
-    (λ none. absurd (none_has m none)) (first_or (struct_member (codes "f") (frame_name name)) [] m has)
+    (λ none. absurd (contains_none m none)) (first_or_further (struct_member (codes "f") (frame_name name)) [] m has)
   where
     differs : true ≡ false → ⊥
     differs h = absurd (cc)
 state_members name true m has =
     ⊎_elim (λ is. record { frame = true; is = ap (λ (m : CMember). m.ty) (sym is); tells = λ never. refl })
     (λ rest. ⊎_elim (λ is. record { frame = false; is = ap (λ (m : CMember). m.ty) (sym is); tells = λ so. refl })
-    (λ none. absurd (none_has m none)) (first_or (struct_member (codes "m") (memory_name name)) [] m rest))
-    (first_or (struct_member (codes "f") (frame_name name)) (struct_member (codes "m") (memory_name name) ∷ []) m has)
+    (λ none. absurd (contains_none m none)) (first_or_further (struct_member (codes "m") (memory_name name)) [] m rest))
+    (first_or_further (struct_member (codes "f") (frame_name name)) (struct_member (codes "m") (memory_name name) ∷ []) m has)
 
 pub state_differs : (name : Text) (remembers : Bool) → are_distinct (member_names (state_struct name remembers)) ≡ true
 state_differs name false = refl

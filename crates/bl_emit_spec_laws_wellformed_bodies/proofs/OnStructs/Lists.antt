@@ -1,71 +1,40 @@
 -- Lists: where their elements come from, and which names are known.
-use Rattle.std.proofs.Common.{◌≡◌, ◌⊎◌, inl, inr, ⊎_elim, ℕ, zero, suc, ◌<◌, arith, Bool, true, false}
-use Rattle.std.proofs.Common.{◌||◌, List, [], ◌∷◌, ◌++◌, Contains, map, take, length, Some, refl, sym, ap, ◌∙◌, subst}
-use Rattle.std.proofs.lemmas.List.{append-nil, append_assoc}
+use Rattle.std.proofs.Common.{◌≡◌, ◌⊎◌, ⊎_elim, ℕ, zero, suc, ◌<◌, arith, Bool, true, false}
+use Rattle.std.proofs.Common.{◌||◌, List, [], ◌∷◌, ◌++◌, Contains, map, take, length, Some, refl, ◌∙◌}
 use Rattle.std.proofs.lemmas.List.Elements.{Contains-append_cases}
 use Rattle.std.proofs.lemmas.List.Folds.{list_any-append}
 use Rattle.std.specs.List.{list_all, list_any}
 use Rattle.std.specs.Prelude.{bytes_eq, slice_get}
+use Rattle.std.proofs.lemmas.Bool.{and_from}
+use Rattle.bl_tree.proofs.Basics.{contains_further, contains_none, first_or_further}
 use Rattle.bl_tree.specs.declared.c.CMember.{CMember}
-use Rattle.bl_tree.specs.declared.c.CStruct.{CStruct}
 use Rattle.bl_tree.specs.declared.c.CType.{CType}
 use Rattle.bl_tree.specs.declared.c.CType.TheVariants.{Scalar as OfScalar, Struct as OfStruct}
 use Rattle.bl_tree.specs.declared.text.Text.{Text}
 use Rattle.bl_tree.specs.Reduce.{joined}
-use Rattle.bl_eval.proofs.PassLemmas.{and_left, and_right, both}
-use Rattle.bl_emit_structs_laws_wellformed.specs.Names.{are_known, is_known, names_of}
+use Rattle.bl_emit_structs_laws_wellformed.specs.Names.{is_known}
 
 -- ---- elements
 
-pub none_has : {X : Type 0} (x : X) → Contains [] x → ⊥
-none_has x has = let lt = has.1 in omega arith
-
-pub first_or : {X : Type 0} (y : X) (xs : List X) (x : X) → Contains (y ∷ xs) x → (y ≡ x) ⊎ Contains xs x
-first_or y xs x (zero, within, is) = inl is
-first_or y xs x (suc k, within, is) = inr (k, omega arith, is)
-
-pub later : {X : Type 0} (y : X) (xs : List X) (x : X) → Contains xs x → Contains (y ∷ xs) x
-later y xs x (k, within, is) = (suc k, omega arith, is)
-
 pub from_map : {X Y : Type 0} (f : X → Y) (xs : List X) (y : Y) → Contains (map f xs) y → (x : X) × Contains xs x × (f x ≡ y)
-from_map f [] y has = absurd (none_has y has)
+from_map f [] y has = absurd (contains_none y has)
 from_map f (x ∷ xs) y has =
     ⊎_elim (λ is. (x, (0, omega arith, refl), is))
-    (λ behind. let found = from_map f xs y behind in (found.0, later x xs found.0 found.1, found.2)) (first_or (f x) (map f xs) y has)
+    (λ behind. let found = from_map f xs y behind in (found.0, contains_further x xs found.0 found.1, found.2)) (first_or_further (f x) (map f xs) y has)
 
 pub from_joined : {X Y : Type 0} (f : X → List Y) (xs : List X) (y : Y) → Contains (joined (map f xs)) y → (x : X) × Contains xs x × Contains (f x) y
-from_joined f [] y has = absurd (none_has y has)
+from_joined f [] y has = absurd (contains_none y has)
 from_joined f (x ∷ xs) y has =
     ⊎_elim (λ own. (x, (0, omega arith, refl), own))
-    (λ behind. let found = from_joined f xs y behind in (found.0, later x xs found.0 found.1, found.2))
+    (λ behind. let found = from_joined f xs y behind in (found.0, contains_further x xs found.0 found.1, found.2))
     (Contains-append_cases (f x) (joined (map f xs)) y has)
 
 -- ---- positions
-
-pub get_behind : {X : Type 0} (xs : List X) (y : X) (ys : List X) → slice_get (xs ++ y ∷ ys) (length xs) ≡ Some y
-get_behind [] y ys = refl
-get_behind (x ∷ xs) y ys = get_behind xs y ys
-
-pub take_front : {X : Type 0} (xs ys : List X) → take (length xs) (xs ++ ys) ≡ xs
-take_front [] ys = refl
-take_front (x ∷ xs) ys = ap (λ rest. x ∷ rest) (take_front xs ys)
 
 pub get_front : {X : Type 0} (xs : List X) (y : X) (j : ℕ) → j < length xs → slice_get (xs ++ y ∷ []) j ≡ slice_get xs j
 get_front [] y j less = absurd (omega (arith, less))
 get_front (x ∷ xs) y zero less = refl
 get_front (x ∷ xs) y (suc j) less = get_front xs y j (omega (arith, less))
-
-pub below_or_last : (k n : ℕ) → k < suc n → (k < n) ⊎ (k ≡ n)
-below_or_last zero zero below = inr refl
-below_or_last zero (suc n) below = inl (omega arith)
-below_or_last (suc k) zero below = absurd (omega (arith, below))
-below_or_last (suc k) (suc n) below = ⊎_elim (λ less. inl (omega (arith, less))) (λ is. inr (ap suc is))
-    (below_or_last k n (omega (arith, below)))
-
-pub below_length : {X : Type 0} (xs : List X) (k : ℕ) (x : X) → slice_get xs k ≡ Some x → k < length xs
-below_length [] k x there = absurd (cc)
-below_length (y ∷ xs) zero x there = omega arith
-below_length (y ∷ xs) (suc k) x there = let less : k < length xs = below_length xs k x there in omega (arith, less)
 
 pub get_taken : {X : Type 0} (n : ℕ) (xs : List X) (k : ℕ) (x : X) → slice_get (take n xs) k ≡ Some x → (slice_get xs k ≡ Some x) × (k < n)
 get_taken zero xs k x there = absurd (cc)
@@ -98,15 +67,5 @@ pub list_known : (names : List Text) (members : List CMember) → ((m : CMember)
     list_all (λ (m : CMember). is_known names m.ty) members ≡ true
 list_known names [] each = refl
 list_known names (m ∷ members) each =
-    both (is_known names m.ty) (list_all (λ (m : CMember). is_known names m.ty) members) (each m (0, omega arith, refl))
+    and_from (is_known names m.ty) (list_all (λ (m : CMember). is_known names m.ty) members) (each m (0, omega arith, refl))
     (list_known names members (λ x has. each x (suc has.0, (let lt = has.1 in omega arith), has.2)))
-
-pub known_both : (names : List Text) (first second : List CStruct) → are_known names first ≡ true →
-    are_known (names ++ names_of first) second ≡ true → are_known names (first ++ second) ≡ true
-known_both names [] second h k = subst (λ l. are_known l second ≡ true) (append-nil names) k
-known_both names (s ∷ first) second h k =
-    both (list_all (λ (m : CMember). is_known names m.ty) s.members) (are_known (names ++ s.name ∷ []) (first ++ second))
-    (and_left (list_all (λ (m : CMember). is_known names m.ty) s.members) (are_known (names ++ s.name ∷ []) first) h)
-    (known_both (names ++ s.name ∷ []) first second
-    (and_right (list_all (λ (m : CMember). is_known names m.ty) s.members) (are_known (names ++ s.name ∷ []) first) h)
-    (subst (λ l. are_known l second ≡ true) (sym (append_assoc names (s.name ∷ []) (names_of first))) k))

@@ -3,6 +3,8 @@ use Rattle.std.proofs.Common.{◌≡◌, Bool, true, false, not, ◌&&◌, ◌||
 use Rattle.std.proofs.Common.{refl, sym, ap, subst}
 use Rattle.std.proofs.lemmas.List.{map-append}
 use Rattle.std.specs.Prelude.{bytes_eq, if◌then◌else◌}
+use Rattle.std.proofs.lemmas.Bool.{and_from, or_from}
+use Rattle.bl_tree.proofs.Basics.{and_first, and_second}
 use Rattle.bl_tree.specs.declared.c.CMember.{CMember}
 use Rattle.bl_tree.specs.declared.c.CStruct.{CStruct}
 use Rattle.bl_tree.specs.declared.text.Text.{Text}
@@ -10,13 +12,13 @@ use Rattle.bl_tree.specs.declared.tree.StructDef.{StructDef}
 use Rattle.bl_tree.specs.declared.tree.Unit.{Unit as UnitDef}
 use Rattle.bl_tree.specs.Typing.{is_activity}
 use Rattle.bl_tree.specs.Words.{are_distinct, is_among}
-use Rattle.bl_eval.proofs.PassLemmas.{and_left, and_right, both}
 use Rattle.bl_machine.specs.declared.machine.Activity.{Activity as InMachine}
 use Rattle.bl_emit_structs_laws_wellformed.specs.Names.{names_of}
 use Rattle.bl_emit_functions.specs.Functions.{members_of, memory_name, struct_of}
 use Rattle.bl_emit_spec.specs.Activities.{Activity, frame_struct, remembered}
 use Rattle.bl_emit_spec.specs.Names.{frame_name}
 use Rattle.bl_emit_spec.specs.Programs.{ProgramParts, activity_of, parts_from, parts_of_function, parts_of_next, where_needed}
+use Rattle.bl_emit_functions_laws_wellformed.proofs.OnFiles.Memories.{neither}
 
 -- the names of the structs of a unit: some of those for where it rests and for what it remembers
 pub record OwnNames (name : Text) (own : List Text) : Type 0 where
@@ -34,14 +36,6 @@ framed a (m ∷ rest) = record { memory = true; frame = true; is = refl }
 
 -- ---- other names
 
-no_name : (a b : Bool) → a ≡ false → b ≡ false → (a || b) ≡ false
-no_name true b one other = absurd (cc)
-no_name false b one other = other
-
-neither : (a b : Bool) → not (a || b) ≡ true → (a ≡ false) × (not b ≡ true)
-neither true b h = absurd (cc)
-neither false b h = (refl, h)
-
 -- a name is none of these, for neither purpose
 pub record Other (name : Text) (names : List Text) : Type 0 where
   pub memory : is_among (memory_name name) names ≡ false
@@ -51,29 +45,29 @@ other_by : (name own : Text) (frame memory : Bool) (later : List Text) → bytes
     Other name (((if frame then frame_name own ∷ [] else []) ++ (if memory then memory_name own ∷ [] else [])) ++ later)
 other_by name own false false later apart other = other
 other_by name own false true later apart other = record {
-  memory = no_name (bytes_eq name own) (is_among (memory_name name) later) apart other.memory;
+  memory = or_from (bytes_eq name own) (is_among (memory_name name) later) apart other.memory;
   frame = other.frame;
 }
 other_by name own true false later apart other = record {
   memory = other.memory;
-  frame = no_name (bytes_eq name own) (is_among (frame_name name) later) apart other.frame;
+  frame = or_from (bytes_eq name own) (is_among (frame_name name) later) apart other.frame;
 }
 other_by name own true true later apart other = record {
-  memory = no_name (bytes_eq name own) (is_among (memory_name name) later) apart other.memory;
-  frame = no_name (bytes_eq name own) (is_among (frame_name name) later) apart other.frame;
+  memory = or_from (bytes_eq name own) (is_among (memory_name name) later) apart other.memory;
+  frame = or_from (bytes_eq name own) (is_among (frame_name name) later) apart other.frame;
 }
 
 differ_by : (own : Text) (frame memory : Bool) (later : List Text) → Other own later → are_distinct later ≡ true →
     are_distinct (((if frame then frame_name own ∷ [] else []) ++ (if memory then memory_name own ∷ [] else [])) ++ later) ≡ true
 differ_by own false false later other differ = differ
 differ_by own false true later other differ =
-    both (not (is_among (memory_name own) later)) (are_distinct later) (ap not other.memory) differ
+    and_from (not (is_among (memory_name own) later)) (are_distinct later) (ap not other.memory) differ
 differ_by own true false later other differ =
-    both (not (is_among (frame_name own) later)) (are_distinct later) (ap not other.frame) differ
+    and_from (not (is_among (frame_name own) later)) (are_distinct later) (ap not other.frame) differ
 differ_by own true true later other differ =
-    both (not (is_among (frame_name own) (memory_name own ∷ later))) (not (is_among (memory_name own) later) && are_distinct later)
+    and_from (not (is_among (frame_name own) (memory_name own ∷ later))) (not (is_among (memory_name own) later) && are_distinct later)
     (ap not other.frame)
-    (both (not (is_among (memory_name own) later)) (are_distinct later) (ap not other.memory) differ)
+    (and_from (not (is_among (memory_name own) later)) (are_distinct later) (ap not other.memory) differ)
 
 -- ---- parts
 
@@ -121,11 +115,11 @@ module _ (structs : List StructDef) where
       let behind : ProgramParts = parts_from structs (earlier ++ unit ∷ []) (remember ++ (here active earlier remember unit machine).remember) units needed
       (if active then drop 1 machine else machine) in
       let later = parts_differ (earlier ++ unit ∷ []) (remember ++ (here active earlier remember unit machine).remember) units needed
-      (if active then drop 1 machine else machine) (and_right (not (is_among unit.name (unit_names units))) (are_distinct (unit_names units)) differ) in
+      (if active then drop 1 machine else machine) (and_second (not (is_among unit.name (unit_names units))) (are_distinct (unit_names units)) differ) in
       subst (λ names. are_distinct names ≡ true)
       (sym (map-append (λ (s : CStruct). s.name) (where_needed test (here active earlier remember unit machine)).structs behind.structs))
       (subst (λ names. are_distinct (names ++ names_of behind.structs) ≡ true) (sym own.is)
       (differ_by unit.name own.frame own.memory (names_of behind.structs)
       (none_among unit.name (earlier ++ unit ∷ []) (remember ++ (here active earlier remember unit machine).remember) units needed
-      (if active then drop 1 machine else machine) (and_left (not (is_among unit.name (unit_names units))) (are_distinct (unit_names units)) differ))
+      (if active then drop 1 machine else machine) (and_first (not (is_among unit.name (unit_names units))) (are_distinct (unit_names units)) differ))
       later))

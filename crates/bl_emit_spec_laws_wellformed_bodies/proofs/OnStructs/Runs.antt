@@ -1,12 +1,14 @@
 -- The activities that an activity runs: they stand before it, are needed with it, and head shorter chains.
 use Rattle.std.proofs.Common.{◌≡◌, ⊎_elim, ℕ, ◌+◌, ◌<◌, ◌≤◌, max, arith, Bool, true, false, ◌&&◌, ◌||◌, nat_eq}
 use Rattle.std.proofs.Common.{List, [], ◌∷◌, Contains, map, take, Option, Some, None, refl, sym, ap, ◌∙◌, subst}
-use Rattle.std.proofs.lemmas.Bool.{eq-eqb, eqb-true}
+use Rattle.std.proofs.lemmas.Bool.{eq-eqb}
 use Rattle.std.proofs.lemmas.List.{get_or-take}
 use Rattle.std.proofs.lemmas.List.Elements.{Contains-append_cases}
 use Rattle.std.proofs.lemmas.List.Folds.{list_any-append}
 use Rattle.std.specs.List.{list_any}
 use Rattle.std.specs.Prelude.{nat_le, slice_get, slice_index, if◌then◌else◌}
+use Rattle.std.proofs.lemmas.Bool.{or_left, or_right}
+use Rattle.bl_tree.proofs.Basics.{and_first, and_second, contains_none, first_or_further}
 use Rattle.bl_tree.specs.declared.place.Place.{Place}
 use Rattle.bl_tree.specs.declared.tree.Expr.{Expr}
 use Rattle.bl_tree.specs.declared.tree.Path.{Path}
@@ -14,9 +16,7 @@ use Rattle.bl_tree.specs.declared.tree.StructDef.{StructDef}
 use Rattle.bl_tree.specs.declared.tree.Unit.{Unit as UnitDef}
 use Rattle.bl_tree.specs.Depths.{arguments_depth, target_depth}
 use Rattle.bl_tree.specs.Program.{IsWellTyped}
-use Rattle.bl_tree.specs.Reduce.{greatest}
 use Rattle.bl_tree.specs.Typing.{TypingContext, arguments_fit, is_activity, run_fits, target_fits}
-use Rattle.bl_eval.proofs.PassLemmas.{and_left, and_right}
 use Rattle.bl_limits_measures.specs.Calls.{calls_of}
 use Rattle.bl_limits_measures.specs.Runs.{activities_run}
 use Rattle.bl_limits_measures.specs.Units.{all_chains, chain_at, chain_by, greatest_at}
@@ -35,8 +35,9 @@ use Rattle.bl_emit_spec.specs.Programs.{needs_of}
 use Rattle.bl_emit_spec_laws_wellformed.proofs.OnChains.Nodes.{AllUnder, body_under, node_calls}
 use Rattle.bl_emit_spec_laws_wellformed.specs.Closed.{NeededClosed}
 use Rattle.bl_emit_spec_laws_wellformed.specs.Spelled.{CanSpell, all_fit, node_fits, rule_fits}
-use Rattle.bl_emit_spec_laws_wellformed_bodies.proofs.OnStructs.Lists.{first_or, get_taken, none_has}
+use Rattle.bl_emit_spec_laws_wellformed_bodies.proofs.OnStructs.Lists.{get_taken}
 use Rattle.bl_emit_spec_laws_wellformed_bodies.proofs.OnStructs.Walk.{RunFits}
+use Rattle.bl_emit_spec_laws_wellformed.proofs.OnNeeded.Whole.{among_greatest}
 
 -- 0 for what the unit needs, and 1 for all else
 abbrev by : UnitDef → ℕ → ℕ
@@ -49,32 +50,24 @@ named_back unit j le = of (list_any (nat_eq j) (needs_of unit)) refl le
     of true is le = refl
     of false is le = absurd (omega (arith, le))
 
-first_holds : (a b : Bool) → a ≡ true → (a || b) ≡ true
-first_holds true b h = refl
-first_holds false b h = absurd (cc)
-
-second_holds : (a b : Bool) → b ≡ true → (a || b) ≡ true
-second_holds true b h = refl
-second_holds false b h = h
-
 few_of : (unit : UnitDef) (xs : List ℕ) → ((j : ℕ) → list_any (nat_eq j) xs ≡ true → list_any (nat_eq j) (needs_of unit) ≡ true) →
     Under (by unit) 0 xs
 few_of unit [] all = none-under (by unit) 0
 few_of unit (x ∷ xs) all =
-    let own : by unit x ≡ 0 = ap (λ (b : Bool). if b then 0 else 1) (all x (first_holds (nat_eq x x) (list_any (nat_eq x) xs) (eq-eqb x x refl))) in
-    cons-under (by unit) 0 x xs (omega (arith, own)) (few_of unit xs (λ j is. all j (second_holds (nat_eq j x) (list_any (nat_eq j) xs) is)))
+    let own : by unit x ≡ 0 = ap (λ (b : Bool). if b then 0 else 1) (all x (or_left (nat_eq x x) (list_any (nat_eq x) xs) (eq-eqb x x refl))) in
+    cons-under (by unit) 0 x xs (omega (arith, own)) (few_of unit xs (λ j is. all j (or_right (nat_eq j x) (list_any (nat_eq j) xs) is)))
 
 few_calls : (unit : UnitDef) → Under (by unit) 0 (calls_of unit)
 few_calls unit =
     few_of unit (calls_of unit)
     (λ j is. list_any-append (nat_eq j) (calls_of unit) (activities_run unit)
-    ∙ first_holds (list_any (nat_eq j) (calls_of unit)) (list_any (nat_eq j) (activities_run unit)) is)
+    ∙ or_left (list_any (nat_eq j) (calls_of unit)) (list_any (nat_eq j) (activities_run unit)) is)
 
 few_runs : (unit : UnitDef) → Under (by unit) 0 (activities_run unit)
 few_runs unit =
     few_of unit (activities_run unit)
     (λ j is. list_any-append (nat_eq j) (calls_of unit) (activities_run unit)
-    ∙ second_holds (list_any (nat_eq j) (calls_of unit)) (list_any (nat_eq j) (activities_run unit)) is)
+    ∙ or_right (list_any (nat_eq j) (calls_of unit)) (list_any (nat_eq j) (activities_run unit)) is)
 
 -- ---- what a `run` calls
 
@@ -92,8 +85,8 @@ module _ (unit : UnitDef) (site : TypingContext) (number : Node → ℕ) (sizes 
   callee_of at c n target inputs outputs (Some callee) is fits low = record {
     callee = callee;
     own = is;
-    active = and_right (is_activity site.kind) (is_activity callee.kind)
-        (and_left (is_activity site.kind && is_activity callee.kind)
+    active = and_second (is_activity site.kind) (is_activity callee.kind)
+        (and_first (is_activity site.kind && is_activity callee.kind)
         (target_fits site callee.result target && arguments_fit site inputs outputs callee) fits);
     named = named_back unit c low;
   }
@@ -104,45 +97,36 @@ module _ (unit : UnitDef) (site : TypingContext) (number : Node → ℕ) (sizes 
       ⊎_elim
       (λ is. subst (Called unit site) is
       (callee_of at c (number (EnterAt l at arguments)) arguments.target arguments.inputs arguments.outputs (slice_get site.earlier c) refl
-      (and_left (run_fits site arguments.target arguments.inputs arguments.outputs (slice_get site.earlier c))
+      (and_first (run_fits site arguments.target arguments.inputs arguments.outputs (slice_get site.earlier c))
       (nat_le (max (target_depth arguments.target) (arguments_depth arguments.inputs arguments.outputs)) 200) fits)
       (head-under (by unit) 0 c _ low)))
-      (λ none. absurd (none_has r none)) (first_or _ [] r has)
-  at_node c (ActAt l s) fits low r has = absurd (none_has r has)
-  at_node c (TestAt l at e) fits low r has = absurd (none_has r has)
-  at_node c (PauseAt l at) fits low r has = absurd (none_has r has)
-  at_node c (ResumeAt l at arguments) fits low r has = absurd (none_has r has)
-  at_node c (HeadAt l at) fits low r has = absurd (none_has r has)
-  at_node c (StartAt l at) fits low r has = absurd (none_has r has)
-  at_node c (CheckAt l at e) fits low r has = absurd (none_has r has)
-  at_node c (SurfaceEndAt l at) fits low r has = absurd (none_has r has)
-  at_node c (DepthEndAt l at) fits low r has = absurd (none_has r has)
-  at_node c (ForkAt l at) fits low r has = absurd (none_has r has)
-  at_node c (SurfaceJoinAt l at) fits low r has = absurd (none_has r has)
-  at_node c (DepthJoinAt l at) fits low r has = absurd (none_has r has)
+      (λ none. absurd (contains_none r none)) (first_or_further _ [] r has)
+  at_node c (ActAt l s) fits low r has = absurd (contains_none r has)
+  at_node c (TestAt l at e) fits low r has = absurd (contains_none r has)
+  at_node c (PauseAt l at) fits low r has = absurd (contains_none r has)
+  at_node c (ResumeAt l at arguments) fits low r has = absurd (contains_none r has)
+  at_node c (HeadAt l at) fits low r has = absurd (contains_none r has)
+  at_node c (StartAt l at) fits low r has = absurd (contains_none r has)
+  at_node c (CheckAt l at e) fits low r has = absurd (contains_none r has)
+  at_node c (SurfaceEndAt l at) fits low r has = absurd (contains_none r has)
+  at_node c (DepthEndAt l at) fits low r has = absurd (contains_none r has)
+  at_node c (ForkAt l at) fits low r has = absurd (contains_none r has)
+  at_node c (SurfaceJoinAt l at) fits low r has = absurd (contains_none r has)
+  at_node c (DepthJoinAt l at) fits low r has = absurd (contains_none r has)
 
   each_called : (cs : List ℕ) (listed : List Transition) → AllUnder (by unit) 0 cs (map (λ (rule : Transition). rule.node) listed) →
       all_fit sizes site cs listed ≡ true → (r : RunAt) → Contains (runs_at number cs listed) r → Called unit site r
-  each_called [] listed low fits r has = absurd (none_has r has)
-  each_called (c ∷ cs) [] low fits r has = absurd (none_has r has)
+  each_called [] listed low fits r has = absurd (contains_none r has)
+  each_called (c ∷ cs) [] low fits r has = absurd (contains_none r has)
   each_called (c ∷ cs) (rule ∷ listed) low fits r has =
       let here = rule_fits sizes rule && node_fits site c rule.node in
       ⊎_elim
       (λ own. at_node c rule.node
-      (and_right (rule_fits sizes rule) (node_fits site c rule.node) (and_left here (all_fit sizes site cs listed) fits)) low.0 r own)
-      (λ behind. each_called cs listed low.1 (and_right here (all_fit sizes site cs listed) fits) r behind)
+      (and_second (rule_fits sizes rule) (node_fits site c rule.node) (and_first here (all_fit sizes site cs listed) fits)) low.0 r own)
+      (λ behind. each_called cs listed low.1 (and_second here (all_fit sizes site cs listed) fits) r behind)
       (Contains-append_cases (run_at number c rule.node) (runs_at number cs listed) r has)
 
 -- ---- chains
-
-among_greatest : (f : ℕ → ℕ) (ks : List ℕ) (j : ℕ) → list_any (nat_eq j) ks ≡ true → f j ≤ greatest (map f ks)
-among_greatest f [] j h = absurd (cc)
-among_greatest f (k ∷ ks) j h = of (nat_eq j k) refl h (among_greatest f ks j)
-  where
-    of : (b : Bool) → nat_eq j k ≡ b → (b || list_any (nat_eq j) ks) ≡ true →
-        (list_any (nat_eq j) ks ≡ true → f j ≤ greatest (map f ks)) → f j ≤ max (f k) (greatest (map f ks))
-    of true is h rest = let same : f j ≡ f k = ap f (eqb-true j k is) in omega (arith, same)
-    of false is h rest = let later : f j ≤ greatest (map f ks) = rest h in omega (arith, later)
 
 chain_less : (units : List UnitDef) (k j : ℕ) (unit : UnitDef) → slice_get units k ≡ Some unit → j < k →
     list_any (nat_eq j) (needs_of unit) ≡ true → chain_at units j + 1 ≤ chain_at units k

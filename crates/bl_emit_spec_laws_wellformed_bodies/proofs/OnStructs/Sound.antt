@@ -7,6 +7,8 @@ use Rattle.std.proofs.lemmas.Slice.Eq.{bytes_eq-Decides}
 use Rattle.std.specs.Prelude.{◌-◌, Contains, bytes_eq, is_none, is_some, nat_le, unwrap_or, if◌then◌else◌}
 use Rattle.std.specs.List.{list_all, list_any}
 use Rattle.std.specs.Option.{option_or}
+use Rattle.std.proofs.lemmas.Bool.{and_from}
+use Rattle.bl_tree.proofs.Basics.{and_first, and_second}
 use Rattle.bl_tree.specs.declared.text.Text.{Text}
 use Rattle.bl_tree.specs.declared.c.CMember.{CMember}
 use Rattle.bl_tree.specs.declared.c.CStruct.{CStruct}
@@ -14,21 +16,8 @@ use Rattle.bl_tree.specs.declared.c.CType.{CType}
 use Rattle.bl_tree.specs.declared.c.CType.TheVariants.{Scalar as OfScalar, Struct as OfStruct}
 use Rattle.bl_tree.specs.Reduce.{greatest}
 use Rattle.bl_tree.specs.Words.{are_distinct}
-use Rattle.bl_eval.proofs.PassLemmas.{and_left, and_right, both}
-use Rattle.bl_ctext_semantics.specs.Faults.{
-  all_distinct,
-  declared_before,
-  depth_of_struct,
-  depth_of_type,
-  distinct_names,
-  faults_in_struct,
-  interface_fits,
-  interface_members,
-  is_declared,
-  member_table,
-  short_chain,
-  struct_faults_after,
-}
+use Rattle.bl_ctext_semantics.specs.Faults.{all_distinct, declared_before, depth_of_struct, depth_of_type, distinct_names, faults_in_struct, interface_fits}
+use Rattle.bl_ctext_semantics.specs.Faults.{interface_members, is_declared, member_table, short_chain, struct_faults_after}
 use Rattle.bl_ctext_semantics.specs.Tables.{Table, entry_or, no_entries, with_entry}
 use Rattle.bl_emit_structs_laws_wellformed.specs.Names.{are_known, is_known, member_names}
 use Rattle.bl_emit_acts_laws_wellformed.proofs.OnFormed.Judged.{kept}
@@ -95,9 +84,9 @@ module _ (Height : Text → ℕ → Type 0) where
       list_all (λ (m : CMember). is_known names m.ty) members ≡ true → list_all (λ (m : CMember). is_declared table m.ty) members ≡ true
   known_declared names table are [] h = refl
   known_declared names table are (m ∷ members) h =
-      both (is_declared table m.ty) (list_all (λ (m : CMember). is_declared table m.ty) members)
-      (by m.ty (and_left (is_known names m.ty) (list_all (λ (m : CMember). is_known names m.ty) members) h))
-      (known_declared names table are members (and_right (is_known names m.ty) (list_all (λ (m : CMember). is_known names m.ty) members) h))
+      and_from (is_declared table m.ty) (list_all (λ (m : CMember). is_declared table m.ty) members)
+      (by m.ty (and_first (is_known names m.ty) (list_all (λ (m : CMember). is_known names m.ty) members) h))
+      (known_declared names table are members (and_second (is_known names m.ty) (list_all (λ (m : CMember). is_known names m.ty) members) h))
     where
       by : (ty : CType) → is_known names ty ≡ true → is_declared table ty ≡ true
       by (OfScalar s) h = refl
@@ -134,13 +123,13 @@ module _ (Height : Text → ℕ → Type 0) where
   structs_sound [] names table depths are deep new known differ fine = refl
   structs_sound (s ∷ rest) names table depths are deep new known differ fine =
       let own : Fine s = fine s (0, omega arith, refl) in
-      let first = struct_sound s names table depths are deep (and_left (not (has s.name names)) (are_new (names ++ s.name ∷ []) rest) new)
-      (and_left (list_all (λ (m : CMember). is_known names m.ty) s.members) (are_known (names ++ s.name ∷ []) rest) known)
-      (and_left (are_distinct (member_names s)) (list_all (λ (s : CStruct). are_distinct (member_names s)) rest) differ) own in
+      let first = struct_sound s names table depths are deep (and_first (not (has s.name names)) (are_new (names ++ s.name ∷ []) rest) new)
+      (and_first (list_all (λ (m : CMember). is_known names m.ty) s.members) (are_known (names ++ s.name ∷ []) rest) known)
+      (and_first (are_distinct (member_names s)) (list_all (λ (s : CStruct). are_distinct (member_names s)) rest) differ) own in
       let later = structs_sound rest (names ++ s.name ∷ []) (with_entry table s.name (member_table s)) (with_entry depths s.name (depth_of_struct depths s))
       (has_more table names s.name (member_table s) are) (deep_more depths s deep own)
-      (and_right (not (has s.name names)) (are_new (names ++ s.name ∷ []) rest) new)
-      (and_right (list_all (λ (m : CMember). is_known names m.ty) s.members) (are_known (names ++ s.name ∷ []) rest) known)
-      (and_right (are_distinct (member_names s)) (list_all (λ (s : CStruct). are_distinct (member_names s)) rest) differ)
+      (and_second (not (has s.name names)) (are_new (names ++ s.name ∷ []) rest) new)
+      (and_second (list_all (λ (m : CMember). is_known names m.ty) s.members) (are_known (names ++ s.name ∷ []) rest) known)
+      (and_second (are_distinct (member_names s)) (list_all (λ (s : CStruct). are_distinct (member_names s)) rest) differ)
       (λ x there. fine x (suc there.0, (let lt = there.1 in omega arith), there.2)) in
       (λ i. first i ++ later i)

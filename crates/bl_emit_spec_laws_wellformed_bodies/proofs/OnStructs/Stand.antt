@@ -3,6 +3,7 @@ use Rattle.std.proofs.Common.{◌≡◌, ℕ, ◌+◌, arith, Bool, true, ◌&&�
 use Rattle.std.proofs.Common.{map, take, length, Option, Some, None, refl, sym, ap, ◌∙◌, subst}
 use Rattle.std.specs.List.{list_all}
 use Rattle.std.specs.Prelude.{is_none, is_some, slice_get}
+use Rattle.bl_tree.proofs.Basics.{and_first}
 use Rattle.bl_tree.specs.declared.c.CMember.{CMember}
 use Rattle.bl_tree.specs.declared.tree.StructDef.{StructDef}
 use Rattle.bl_tree.specs.declared.tree.Unit.{Unit as UnitDef}
@@ -10,7 +11,7 @@ use Rattle.bl_tree.specs.declared.tree.Var.{Var}
 use Rattle.bl_tree.specs.Program.{IsWellTyped, is_entry, parameters_of}
 use Rattle.bl_tree.specs.Types.{scalar_in}
 use Rattle.bl_tree.specs.Typing.{is_activity}
-use Rattle.bl_eval.proofs.PassLemmas.{all_at, and_left}
+use Rattle.bl_eval.proofs.PassLemmas.{all_at}
 use Rattle.bl_machine.specs.declared.machine.Activity.{Activity as InMachine}
 use Rattle.bl_machine.specs.Machines.{IsActivityOf}
 use Rattle.bl_machine.specs.Uses.{Slots}
@@ -45,7 +46,7 @@ entry_active : (o : Option UnitDef) → is_entry o ≡ true → (unit : UnitDef)
 entry_active None entry unit is = absurd (cc)
 entry_active (Some first) entry unit is =
     let active : is_activity first.kind ≡ true =
-    and_left (is_activity first.kind)
+    and_first (is_activity first.kind)
     (is_none first.result && list_all (λ (var : Var). is_some (scalar_in var.ty)) (parameters_of first)) entry in
     ap (λ (u : UnitDef). is_activity u.kind) (same first unit is) ∙ active
   where

@@ -8,6 +8,8 @@ use Rattle.std.proofs.lemmas.Option.{same_Some}
 use Rattle.std.proofs.lemmas.Slice.Eq.{bytes_eq-Decides}
 use Rattle.std.specs.List.{list_all, list_any}
 use Rattle.std.specs.Prelude.{bytes_eq, slice_get, unwrap_or, if◌then◌else◌}
+use Rattle.std.proofs.lemmas.Bool.{and_from}
+use Rattle.bl_tree.proofs.Basics.{below_or_last, contains_none, first_or_further, get_seam, take_front, within_at}
 use Rattle.bl_tree.specs.declared.c.CMember.{CMember}
 use Rattle.bl_tree.specs.declared.c.CStruct.{CStruct}
 use Rattle.bl_tree.specs.declared.c.CType.{CType}
@@ -17,7 +19,6 @@ use Rattle.bl_tree.specs.declared.tree.StructDef.{StructDef}
 use Rattle.bl_tree.specs.declared.tree.Unit.{Unit as UnitDef}
 use Rattle.bl_tree.specs.Typing.{is_activity}
 use Rattle.bl_tree.specs.Words.{are_distinct}
-use Rattle.bl_eval.proofs.PassLemmas.{both}
 use Rattle.bl_cause.specs.Activities.{EachTwo, activities}
 use Rattle.bl_machine.specs.declared.machine.Activity.{Activity as InMachine}
 use Rattle.bl_machine.specs.Blocks.{up_to}
@@ -28,41 +29,16 @@ use Rattle.bl_emit_structs_laws_wellformed.specs.Names.{are_known, is_known, nam
 use Rattle.bl_emit_structs_laws_wellformed.specs.Formed.{OfVariable}
 use Rattle.bl_emit_functions.specs.Functions.{members_of, memory_name, memory_struct, struct_of}
 use Rattle.bl_emit_functions_laws_wellformed.specs.Formed.{MemoriesHold}
-use Rattle.bl_emit_spec.specs.Activities.{
-  Activity,
-  RunAt,
-  activity_view,
-  counter_member,
-  frame_member,
-  frame_struct,
-  memory_member,
-  remembered,
-  remembered_struct,
-  remembers_any,
-  runs_in_body,
-  word_of_run,
-}
+use Rattle.bl_emit_spec.specs.Activities.{Activity, RunAt, activity_view, counter_member, frame_member, frame_struct, memory_member, remembered}
+use Rattle.bl_emit_spec.specs.Activities.{remembered_struct, remembers_any, runs_in_body, word_of_run}
 use Rattle.bl_emit_spec.specs.Blocks.{name_in}
 use Rattle.bl_emit_spec.specs.Names.{callee_name, frame_name}
 use Rattle.bl_emit_spec.specs.Programs.{ProgramParts, activity_of, needed_units, parts_from, parts_of_function, parts_of_next, parts_then, where_needed}
 use Rattle.bl_emit_spec_laws_wellformed.specs.Names.{FrameDiffers, MemoryDiffers, NumbersDiffer}
 use Rattle.bl_emit_spec_laws_wellformed_bodies.specs.Structs.Parts.{IsPart, OfNumber, OfPart}
-use Rattle.bl_emit_spec_laws_wellformed_bodies.proofs.OnStructs.Lists.{
-  any_first,
-  any_second,
-  below_length,
-  below_or_last,
-  first_or,
-  from_joined,
-  from_map,
-  get_behind,
-  get_front,
-  known_both,
-  known_more,
-  list_known,
-  none_has,
-  take_front,
-}
+use Rattle.bl_emit_spec_laws_wellformed_bodies.proofs.OnStructs.Lists.{any_first, any_second, from_joined, from_map}
+use Rattle.bl_emit_spec_laws_wellformed_bodies.proofs.OnStructs.Lists.{get_front, known_more, list_known}
+use Rattle.bl_emit_structs_laws_wellformed.proofs.OnNames.Known.{known_append}
 
 -- the activity that a `run` of the unit at the position calls: it stands before, is needed with the unit, and heads a shorter chain
 pub record RunFits (units : List UnitDef) (entry k : ℕ) (earlier : List UnitDef) (r : RunAt) : Type 0 where
@@ -107,7 +83,7 @@ module _ (structs : List StructDef) (units : List UnitDef) (entry : ℕ) (types 
       pub next : Known (names ++ names_of own) (suc k) (remember ++ told)
 
     last_told : (xs : List Bool) (y : Bool) (k : ℕ) → length xs ≡ k → slice_get (xs ++ y ∷ []) k ≡ Some y
-    last_told xs y k is = subst (λ k. slice_get (xs ++ y ∷ []) k ≡ Some y) is (get_behind xs y [])
+    last_told xs y k is = subst (λ k. slice_get (xs ++ y ∷ []) k ≡ Some y) is (get_seam xs y [])
 
     -- one more unit
     grow : (names more : List Text) (k : ℕ) (remember : List Bool) (told : Bool) (unit : UnitDef) → slice_get units k ≡ Some unit →
@@ -143,7 +119,7 @@ module _ (structs : List StructDef) (units : List UnitDef) (entry : ℕ) (types 
     own_variables k unit there small m has = by (members_of structs (take k units) unit) refl has
       where
         by : (members : List CMember) → members_of structs (take k units) unit ≡ members → Contains members m → OfVariable structs units m
-        by [] is has = absurd (none_has m has)
+        by [] is has = absurd (contains_none m has)
         by (first ∷ rest) is has =
             let s : CStruct = record { place = nowhere; name = memory_name unit.name; members = first ∷ rest } in
             (hold k unit there small s (subst (λ members. Contains (struct_of unit.name members) s) (sym is) (0, omega arith, refl))).members m has
@@ -152,18 +128,18 @@ module _ (structs : List StructDef) (units : List UnitDef) (entry : ℕ) (types 
         are_distinct (map (λ (m : CMember). m.name) members) ≡ true →
         ((m : CMember) → Contains members m → OfPart structs units memory_name k m) → (s : CStruct) → Contains (struct_of unit.name members) s →
         IsPart structs units memory_name s
-    memory_part k unit [] there differ parts s has = absurd (none_has s has)
+    memory_part k unit [] there differ parts s has = absurd (contains_none s has)
     memory_part k unit (first ∷ rest) there differ parts s has =
         ⊎_elim
         (λ is. subst (IsPart structs units memory_name) is
         (record { position = k; unit = unit; is_there = there; named = refl; distinct = differ; members = parts }))
-        (λ none. absurd (none_has s none)) (first_or _ [] s has)
+        (λ none. absurd (contains_none s none)) (first_or_further _ [] s has)
 
     memory_known : (names : List Text) (unit : UnitDef) (members : List CMember) →
         ((m : CMember) → Contains members m → is_known names m.ty ≡ true) → are_known names (struct_of unit.name members) ≡ true
     memory_known names unit [] each = refl
     memory_known names unit (first ∷ rest) each =
-        both (list_all (λ (m : CMember). is_known names m.ty) (first ∷ rest)) true (list_known names (first ∷ rest) each) refl
+        and_from (list_all (λ (m : CMember). is_known names m.ty) (first ∷ rest)) true (list_known names (first ∷ rest) each) refl
 
     memory_named : (unit : UnitDef) (members : List CMember) → nat_lt 0 (length members) ≡ true →
         list_any (bytes_eq (memory_name unit.name)) (names_of (struct_of unit.name members)) ≡ true
@@ -194,10 +170,10 @@ module _ (structs : List StructDef) (units : List UnitDef) (entry : ℕ) (types 
           where
             by : (members : List CMember) → members_of structs (take k units) unit ≡ members → Contains (struct_of unit.name members) s →
                 IsPart structs units memory_name s
-            by [] is has = absurd (none_has s has)
+            by [] is has = absurd (contains_none s has)
             by (first ∷ rest) is has =
                 let memory = hold k unit there small s (subst (λ members. Contains (struct_of unit.name members) s) (sym is) has) in
-                let same = ⊎_elim (λ is. is) (λ none. absurd (none_has s none)) (first_or _ [] s has) in
+                let same = ⊎_elim (λ is. is) (λ none. absurd (contains_none s none)) (first_or_further _ [] s has) in
                 record {
                   position = k;
                   unit = unit;
@@ -285,9 +261,9 @@ module _ (structs : List StructDef) (units : List UnitDef) (entry : ℕ) (types 
             run = r;
             among = among;
             tells = told_so (slice_get remember r.unit) tells;
-            is = ⊎_elim (λ is. ap (λ (m : CMember). m.ty) (sym is)) (λ none. absurd (none_has m none)) (first_or _ [] m has);
+            is = ⊎_elim (λ is. ap (λ (m : CMember). m.ty) (sym is)) (λ none. absurd (contains_none m none)) (first_or_further _ [] m has);
           }
-          by r among false tells has = absurd (none_has m has)
+          by r among false tells has = absurd (contains_none m has)
 
       callee_memory : (m : CMember) (c : Callee m) → m.ty ≡ OfStruct (memory_name (own.runs c.run c.among).callee.name)
       callee_memory m c = c.is ∙ ap (λ o. OfStruct (memory_name (name_in o))) (own.runs c.run c.among).own
@@ -312,7 +288,7 @@ module _ (structs : List StructDef) (units : List UnitDef) (entry : ℕ) (types 
       activity_own names active known =
           let frame : Text = frame_name unit.name in
           record {
-            known = both (list_all (λ (m : CMember). is_known names m.ty) (frame_struct a).members)
+            known = and_from (list_all (λ (m : CMember). is_known names m.ty) (frame_struct a).members)
                 (are_known (names ++ frame ∷ []) (remembered_struct a)) (list_known names (frame_struct a).members (frame_known names known))
                 (memory_known (names ++ frame ∷ []) unit (remembered a)
                 (λ m has. known_more names (frame ∷ []) m.ty (memory_knows names known m has)));
@@ -328,7 +304,7 @@ module _ (structs : List StructDef) (units : List UnitDef) (entry : ℕ) (types 
                   members = frame_part;
                 })))
                 (λ rest. inl (memory_part k unit (remembered a) there (memories_differ a own.numbers) memory_of s rest))
-                (first_or (frame_struct a) (remembered_struct a) s has);
+                (first_or_further (frame_struct a) (remembered_struct a) s has);
             next = grow names (frame ∷ names_of (remembered_struct a)) k remember (remembers_any a) unit there known
                 (λ need is. any_second (bytes_eq frame) names (frame ∷ names_of (remembered_struct a))
                 (any_first (bytes_eq frame) (frame ∷ []) (names_of (remembered_struct a))
@@ -353,7 +329,7 @@ module _ (structs : List StructDef) (units : List UnitDef) (entry : ℕ) (types 
         Walked names remember (record { structs = []; funcs = []; remember = [] })
     ended names k remember known all = record {
       known = refl;
-      each = λ s has. absurd (none_has s has);
+      each = λ s has. absurd (contains_none s has);
       frames = λ j unit there needed active.
           subst (λ names. is_known names (OfStruct (frame_name unit.name)) ≡ true) (sym (append-nil names))
           (known.frames j unit (all j unit there needed) there needed active);
@@ -370,7 +346,7 @@ module _ (structs : List StructDef) (units : List UnitDef) (entry : ℕ) (types 
     then_walked : (names : List Text) (k : ℕ) (remember : List Bool) (own rest : ProgramParts) → Own names k remember own.structs own.remember →
         Walked (names ++ names_of own.structs) (remember ++ own.remember) rest → Walked names remember (parts_then own rest)
     then_walked names k remember own rest first later = record {
-      known = known_both names own.structs rest.structs first.known later.known;
+      known = known_append names own.structs rest.structs first.known later.known;
       each = λ s has. ⊎_elim (λ at. first.each s at) (λ at. later.each s at) (Contains-append_cases own.structs rest.structs s has);
       frames = λ j unit there needed active.
           subst (λ names. is_known names (OfStruct (frame_name unit.name)) ≡ true) (sym (joined_so names own.structs rest.structs))
@@ -386,7 +362,7 @@ module _ (structs : List StructDef) (units : List UnitDef) (entry : ℕ) (types 
         slice_get (needed_units units entry) k ≡ Some false → Known names k remember → Own names k remember [] (told ∷ [])
     none_own names k remember unit told there not_needed known = record {
       known = refl;
-      each = λ s has. absurd (none_has s has);
+      each = λ s has. absurd (contains_none s has);
       next = grow names [] k remember told unit there known (λ need active. absurd (never need)) (λ need tells. absurd (never need));
     }
       where
@@ -457,7 +433,7 @@ module _ (structs : List StructDef) (units : List UnitDef) (entry : ℕ) (types 
     walk earlier remember [] needed machine names whole told own known =
         ended names (length earlier) remember known
         (λ j unit there need.
-        subst (λ units. j < length units) (sym whole ∙ append-nil earlier) (below_length units j unit there))
+        subst (λ units. j < length units) (sym whole ∙ append-nil earlier) (within_at units j unit there))
     walk earlier remember (unit ∷ rest) [] machine names whole told own known =
         ended names (length earlier) remember known
         (λ j unit there need.
@@ -466,7 +442,7 @@ module _ (structs : List StructDef) (units : List UnitDef) (entry : ℕ) (types 
         (split (length earlier) j))
     walk earlier remember (unit ∷ rest) (test ∷ needed) machine names whole told own known =
         let k : ℕ = length earlier in
-        let there : slice_get units k ≡ Some unit = ap (λ units. slice_get units (length earlier)) (sym whole) ∙ get_behind earlier unit rest in
+        let there : slice_get units k ≡ Some unit = ap (λ units. slice_get units (length earlier)) (sym whole) ∙ get_seam earlier unit rest in
         let before : take k units ≡ earlier = ap (take (length earlier)) (sym whole) ∙ take_front earlier (unit ∷ rest) in
         let none : k + 0 ≡ k = omega arith in
         step k earlier unit rest needed names remember there before test machine

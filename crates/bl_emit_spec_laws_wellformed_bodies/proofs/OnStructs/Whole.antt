@@ -9,12 +9,12 @@ use Rattle.std.proofs.lemmas.List.Folds.{list_all-append, list_any-append}
 use Rattle.std.proofs.lemmas.Option.{get_or_from_slice_get, slice_get_cases, slice_get_within}
 use Rattle.std.proofs.lemmas.Slice.Eq.{bytes_eq-Decides}
 use Rattle.std.specs.List.{list_all, list_any}
-use Rattle.std.specs.Option.{option_or}
 use Rattle.std.specs.Prelude.{bytes_eq, get_or, is_none, slice_get, slice_index, unwrap_or, if◌then◌else◌}
+use Rattle.std.proofs.lemmas.Bool.{and_from}
+use Rattle.bl_tree.proofs.Basics.{and_first, and_second, both_empty, contains_none, first_or_further, none_from}
 use Rattle.bl_tree.specs.declared.c.CMember.{CMember}
 use Rattle.bl_tree.specs.declared.c.CStruct.{CStruct}
 use Rattle.bl_tree.specs.declared.c.CType.TheVariants.{Struct as OfStruct}
-use Rattle.bl_tree.specs.declared.place.Place.{Place}
 use Rattle.bl_tree.specs.declared.program.Program.{Program}
 use Rattle.bl_tree.specs.declared.rule.Rule.TheVariants as rule
 use Rattle.bl_tree.specs.declared.text.Text.{Text}
@@ -25,13 +25,12 @@ use Rattle.bl_tree.specs.Program.{IsWellTyped, is_entry, parameters_of}
 use Rattle.bl_tree.specs.Program as tree
 use Rattle.bl_tree.specs.Typing.{inputs_of, outputs_of}
 use Rattle.bl_tree.specs.Words.{are_distinct, is_among, is_name}
-use Rattle.bl_eval.proofs.PassLemmas.{and_left, and_right, both}
 use Rattle.bl_limits.specs.Rules.{Passes}
 use Rattle.bl_limits_measures.specs.InOrder.{answers}
 use Rattle.bl_limits_measures.specs.Types.{fields_nesting, nesting, struct_nestings}
 use Rattle.bl_limits_measures.specs.Units.{chain_at}
 use Rattle.bl_limits_measures.proofs.TableLemmas.{length_answers}
-use Rattle.bl_ctext_semantics.specs.Faults.{Clause, depth_of_struct, distinct_names, faults_in_struct, interface_fits, member_table, struct_faults_after, unless}
+use Rattle.bl_ctext_semantics.specs.Faults.{depth_of_struct, distinct_names, faults_in_struct, interface_fits, member_table, struct_faults_after, unless}
 use Rattle.bl_ctext_semantics.specs.Tables.{Table, found, no_entries, with_entry}
 use Rattle.bl_emit_structs.specs.Structs.{each_once, structs_for}
 use Rattle.bl_emit_structs_laws_wellformed.specs.Names.{MembersDiffer, NamesDiffer, TypesApart, UsesEarlier, are_known, is_known, member_names, names_of}
@@ -45,22 +44,16 @@ use Rattle.bl_emit_spec.specs.Names.{frame_name}
 use Rattle.bl_emit_spec.specs.Programs.{ProgramParts, file_at, interface_structs, port_struct, state_struct}
 use Rattle.bl_emit_spec_laws_wellformed_bodies.specs.Structs.Laws.{FileStructs, FilesDeclare, PartsAreSound, PartsStand, program_parts}
 use Rattle.bl_emit_spec_laws_wellformed_bodies.specs.Structs.Parts.{IsPart}
-use Rattle.bl_emit_spec_laws_wellformed_bodies.proofs.OnStructs.Heights.{
-  Height,
-  as_file,
-  class,
-  class_file,
-  class_frame,
-  class_memory,
-  fine_frame,
-  fine_memory,
-  fine_type,
-  type_class,
-}
+use Rattle.bl_emit_spec_laws_wellformed_bodies.proofs.OnStructs.Heights.{Height, as_file, class, class_file, class_frame, class_memory, fine_frame, fine_memory}
+use Rattle.bl_emit_spec_laws_wellformed_bodies.proofs.OnStructs.Heights.{fine_type, type_class}
 use Rattle.bl_emit_spec_laws_wellformed_bodies.proofs.OnStructs.Interface.{Ports, inputs_differ, inputs_fit, inputs_ports, outputs_differ, outputs_fit}
 use Rattle.bl_emit_spec_laws_wellformed_bodies.proofs.OnStructs.Interface.{outputs_ports, port_scalar, state_differs, state_members}
-use Rattle.bl_emit_spec_laws_wellformed_bodies.proofs.OnStructs.Lists.{first_or, known_both, list_known, none_has}
+use Rattle.bl_emit_spec_laws_wellformed_bodies.proofs.OnStructs.Lists.{list_known}
 use Rattle.bl_emit_spec_laws_wellformed_bodies.proofs.OnStructs.Sound.{Fine, Lower, deep_nothing, structs_sound}
+use Rattle.bl_ctext_semantics.proofs.EndLemmas.{unless-nil}
+use Rattle.bl_emit_structs_laws_wellformed.proofs.OnFormed.Whole.{once_has}
+use Rattle.bl_emit_functions_laws_wellformed.proofs.OnFiles.Structs.{both_free, later_found}
+use Rattle.bl_emit_structs_laws_wellformed.proofs.OnNames.Known.{known_append}
 
 abbrev has : Text → List Text → Bool
 has name names = list_any (bytes_eq name) names
@@ -70,21 +63,8 @@ has name names = list_any (bytes_eq name) names
 all_of_each : {A : Type 0} (test : A → Bool) (xs : List A) → ((x : A) → Contains xs x → test x ≡ true) → list_all test xs ≡ true
 all_of_each test [] each = refl
 all_of_each test (x ∷ xs) each =
-    both (test x) (list_all test xs) (each x (0, omega arith, refl))
+    and_from (test x) (list_all test xs) (each x (0, omega arith, refl))
     (all_of_each test xs (λ y at. each y (suc at.0, (let lt = at.1 in omega arith), at.2)))
-
-once_has : (taken : List Text) (xs : List CStruct) (s : CStruct) → Contains (each_once taken xs) s → Contains xs s
-once_has taken [] s there = there
-once_has taken (x ∷ xs) s there = by (has x.name taken) (once_has taken xs s) (once_has (taken ++ x.name ∷ []) xs s) there
-  where
-    one_further : Contains xs s → Contains (x ∷ xs) s
-    one_further at = (suc at.0, (let lt = at.1 in omega arith), at.2)
-
-    by : (b : Bool) → (Contains (each_once taken xs) s → Contains xs s) → (Contains (each_once (taken ++ x.name ∷ []) xs) s → Contains xs s) →
-        Contains (if b then each_once taken xs else x ∷ each_once (taken ++ x.name ∷ []) xs) s → Contains (x ∷ xs) s
-    by true old new at = one_further (old at)
-    by false old new at =
-        ⊎_elim (λ is. (0, omega arith, is)) (λ behind. one_further (new behind)) (first_or x (each_once (taken ++ x.name ∷ []) xs) s at)
 
 -- ---- names that differ
 
@@ -101,11 +81,11 @@ differ_both : (xs ys : List CStruct) → are_distinct (names_of xs) ≡ true →
     ((x y : CStruct) → Contains xs x → Contains ys y → x.name ≡ y.name → ⊥) → are_distinct (names_of (xs ++ ys)) ≡ true
 differ_both [] ys one two apart = two
 differ_both (x ∷ xs) ys one two apart =
-    both (not (is_among x.name (names_of (xs ++ ys)))) (are_distinct (names_of (xs ++ ys)))
+    and_from (not (is_among x.name (names_of (xs ++ ys)))) (are_distinct (names_of (xs ++ ys)))
     (ap not (ap (is_among x.name) (map-append (λ (s : CStruct). s.name) xs ys) ∙ list_any-append (bytes_eq x.name) (names_of xs) (names_of ys)
     ∙ ap (λ b. is_among x.name (names_of xs) || b) (not_among x.name ys (λ y at is. apart x y (0, omega arith, refl) at is)))
-    ∙ none (is_among x.name (names_of xs)) (and_left (not (is_among x.name (names_of xs))) (are_distinct (names_of xs)) one))
-    (differ_both xs ys (and_right (not (is_among x.name (names_of xs))) (are_distinct (names_of xs)) one) two
+    ∙ none (is_among x.name (names_of xs)) (and_first (not (is_among x.name (names_of xs))) (are_distinct (names_of xs)) one))
+    (differ_both xs ys (and_second (not (is_among x.name (names_of xs))) (are_distinct (names_of xs)) one) two
     (λ z y at there. apart z y (suc at.0, (let lt = at.1 in omega arith), at.2) there))
   where
     none : (b : Bool) → not b ≡ true → not (b || false) ≡ true
@@ -117,9 +97,9 @@ others_new : (seen : List Text) (xs : List CStruct) → are_distinct (names_of x
     ((name : Text) → has name (names_of xs) ≡ true → has name seen ≡ false) → are_new seen xs ≡ true
 others_new seen [] differ new = refl
 others_new seen (s ∷ rest) differ new =
-    both (not (has s.name seen)) (are_new (seen ++ s.name ∷ []) rest)
+    and_from (not (has s.name seen)) (are_new (seen ++ s.name ∷ []) rest)
     (ap not (new s.name (first_of (bytes_eq s.name s.name) (has s.name (names_of rest)) ((bytes_eq-Decides s.name s.name).1 refl))))
-    (others_new (seen ++ s.name ∷ []) rest (and_right (not (is_among s.name (names_of rest))) (are_distinct (names_of rest)) differ) later)
+    (others_new (seen ++ s.name ∷ []) rest (and_second (not (is_among s.name (names_of rest))) (are_distinct (names_of rest)) differ) later)
   where
     first_of : (a b : Bool) → a ≡ true → (a || b) ≡ true
     first_of true b h = refl
@@ -140,7 +120,7 @@ others_new seen (s ∷ rest) differ new =
         let same : x ≡ s.name = (bytes_eq-Decides x s.name).0 is in
         let among : is_among s.name (names_of rest) ≡ true = subst (λ n. has n (names_of rest) ≡ true) same there in
         let none : not (is_among s.name (names_of rest)) ≡ true =
-        and_left (not (is_among s.name (names_of rest))) (are_distinct (names_of rest)) differ in
+        and_first (not (is_among s.name (names_of rest))) (are_distinct (names_of rest)) differ in
         absurd (let no : not true ≡ true = ap not (sym among) ∙ none in cc)
 
     later : (x : Text) → has x (names_of rest) ≡ true → has x (seen ++ s.name ∷ []) ≡ false
@@ -151,23 +131,6 @@ others_new seen (s ∷ rest) differ new =
 
 -- ---- a list of structs in which nothing fails
 
-none_front : {A : Type 0} (xs ys : List A) → xs ++ ys ≡ [] → (xs ≡ []) × (ys ≡ [])
-none_front [] ys is = (refl, is)
-none_front (x ∷ xs) ys is = absurd (cc)
-
-holds : (test : Bool) (clause : Clause) (place : Place) → unless test clause place ≡ [] → test ≡ true
-holds true clause place is = refl
-holds false clause place is = absurd (cc)
-
-nothing_there : {A : Type 0} (o : Option A) → is_none o ≡ true → o ≡ None
-nothing_there None is = refl
-nothing_there (Some x) is = absurd (cc)
-
-both_free : {A : Type 0} (o : Option A) (b : Bool) (new : A) → option_or o (if b then Some new else None) ≡ None → (o ≡ None) × (b ≡ false)
-both_free None true new is = absurd (cc)
-both_free None false new is = (refl, refl)
-both_free (Some x) b new is = absurd (cc)
-
 abbrev entry_of : CStruct → Text × Table CMember
 entry_of s = (s.name, member_table s)
 
@@ -175,22 +138,18 @@ first_found : (value : Table CMember) (b : Bool) (o : Option (Table CMember)) �
 first_found value true o is = refl
 first_found value false o is = absurd (cc)
 
-later_found : (value : Table CMember) (b : Bool) (o : Option (Table CMember)) → b ≡ false → (if b then Some value else o) ≡ o
-later_found value true o is = absurd (cc)
-later_found value false o is = refl
-
 -- each struct of the list is declared under its name
 declared : (list : List CStruct) (table : Table (Table CMember)) (depths : Table ℕ) → struct_faults_after table depths list ≡ [] →
     (s : CStruct) → Contains list s → (table s.name ≡ None) × (found s.name (map entry_of list) ≡ Some (member_table s))
 declared [] table depths none s (k, within, is) = absurd (omega (arith, within))
 declared (y ∷ list) table depths none s (zero, within, is) =
-    let faults = none_front (faults_in_struct table depths y) _ none in
-    let front = none_front (unless (is_none (table y.name)) distinct_names y.place) _ faults.0 in
-    let free : table y.name ≡ None = nothing_there (table y.name) (holds (is_none (table y.name)) distinct_names y.place front.0) in
+    let faults = both_empty (faults_in_struct table depths y) _ none in
+    let front = both_empty (unless (is_none (table y.name)) distinct_names y.place) _ faults.0 in
+    let free : table y.name ≡ None = none_from (table y.name) (unless-nil (is_none (table y.name)) distinct_names y.place front.0) in
     subst (λ (s : CStruct). (table s.name ≡ None) × (found s.name (map entry_of (y ∷ list)) ≡ Some (member_table s))) is
     (free, first_found (member_table y) (bytes_eq y.name y.name) (found y.name (map entry_of list)) ((bytes_eq-Decides y.name y.name).1 refl))
 declared (y ∷ list) table depths none s (suc k, within, is) =
-    let faults = none_front (faults_in_struct table depths y) _ none in
+    let faults = both_empty (faults_in_struct table depths y) _ none in
     let rest = declared list (with_entry table y.name (member_table y)) (with_entry depths y.name (depth_of_struct depths y)) faults.1 s
     (k, omega (arith, within), is) in
     let free = both_free (table s.name) (bytes_eq y.name s.name) (member_table y) rest.0 in
@@ -302,8 +261,8 @@ module _ (structs : List StructDef) (units : List UnitDef) (entry : ℕ) (keeps 
     last_cases s at =
         ⊎_elim (λ is. inl (sym is))
         (λ more. ⊎_elim (λ is. inr (inl (sym is)))
-        (λ more. ⊎_elim (λ is. inr (inr (sym is))) (λ none. absurd (none_has s none)) (first_or out_ports [] s more))
-        (first_or in_ports (out_ports ∷ []) s more)) (first_or state (in_ports ∷ out_ports ∷ []) s at)
+        (λ more. ⊎_elim (λ is. inr (inr (sym is))) (λ none. absurd (contains_none s none)) (first_or_further out_ports [] s more))
+        (first_or_further in_ports (out_ports ∷ []) s more)) (first_or_further state (in_ports ∷ out_ports ∷ []) s at)
 
     last_named : (s : CStruct) → Contains last s → class s.name ≡ 98
     last_named s at =
@@ -361,17 +320,17 @@ module _ (structs : List StructDef) (units : List UnitDef) (entry : ℕ) (keeps 
 
     last_known : are_known front last ≡ true
     last_known =
-        both (list_all (λ (m : CMember). is_known front m.ty) state.members) (are_known (front ++ state.name ∷ []) (in_ports ∷ out_ports ∷ []))
+        and_from (list_all (λ (m : CMember). is_known front m.ty) state.members) (are_known (front ++ state.name ∷ []) (in_ports ∷ out_ports ∷ []))
         state_known
-        (both (list_all (λ (m : CMember). is_known (front ++ state.name ∷ []) m.ty) in_ports.members)
+        (and_from (list_all (λ (m : CMember). is_known (front ++ state.name ∷ []) m.ty) in_ports.members)
         (are_known ((front ++ state.name ∷ []) ++ in_ports.name ∷ []) (out_ports ∷ []))
         (ports_known (front ++ state.name ∷ []) (codes "bl_in") (codes "i_") (inputs_of unit) ins)
-        (both (list_all (λ (m : CMember). is_known ((front ++ state.name ∷ []) ++ in_ports.name ∷ []) m.ty) out_ports.members) true
+        (and_from (list_all (λ (m : CMember). is_known ((front ++ state.name ∷ []) ++ in_ports.name ∷ []) m.ty) out_ports.members) true
         (ports_known ((front ++ state.name ∷ []) ++ in_ports.name ∷ []) (codes "bl_out") (codes "o_") (outputs_of unit) outs) refl))
 
     all_known : UsesEarlier structs units entry → are_known [] (types ++ (parts.structs ++ last)) ≡ true
     all_known earlier =
-        known_both [] types (parts.structs ++ last) (earlier keeps) (known_both (names_of types) parts.structs last stand.known last_known)
+        known_append [] types (parts.structs ++ last) (earlier keeps) (known_append (names_of types) parts.structs last stand.known last_known)
 
     -- ---- names of members
 
@@ -393,9 +352,9 @@ module _ (structs : List StructDef) (units : List UnitDef) (entry : ℕ) (keeps 
     all_members : MembersDiffer structs units entry → list_all differs (types ++ (parts.structs ++ last)) ≡ true
     all_members members =
         list_all-append differs types (parts.structs ++ last)
-        ∙ both (list_all differs types) (list_all differs (parts.structs ++ last)) (members keeps)
+        ∙ and_from (list_all differs types) (list_all differs (parts.structs ++ last)) (members keeps)
         (list_all-append differs parts.structs last
-        ∙ both (list_all differs parts.structs) (list_all differs last) (all_of_each differs parts.structs part_members)
+        ∙ and_from (list_all differs parts.structs) (list_all differs last) (all_of_each differs parts.structs part_members)
         (all_of_each differs last last_members))
 
     -- ---- depth
@@ -488,10 +447,10 @@ files_declare program names members earlier apart at sound machine unit keeps li
     let units : List UnitDef = program.units in
     let parts : ProgramParts = program_parts structs units program.entry machine in
     let stands = unit_at structs units program.entry keeps program.entry unit there in
-    let named : list_all is_name (tree.names_of unit.vars) ≡ true = and_left _ _ (and_right _ _ (and_left _ _ stands)) in
-    let distinct : are_distinct (tree.names_of (parameters_of unit)) ≡ true = and_right _ _ (and_right _ _ (and_left _ _ stands)) in
+    let named : list_all is_name (tree.names_of unit.vars) ≡ true = and_first _ _ (and_second _ _ (and_first _ _ stands)) in
+    let distinct : are_distinct (tree.names_of (parameters_of unit)) ≡ true = and_second _ _ (and_second _ _ (and_first _ _ stands)) in
     let entry_so : is_entry (Some unit) ≡ true = ap is_entry (sym there) ∙ keeps.entry_stands in
-    let scalars = and_right _ _ (and_right _ _ entry_so) in
+    let scalars = and_second _ _ (and_second _ _ entry_so) in
     let all = file_structs structs units program.entry keeps apart (nests structs units program.entry limits) (short structs units program.entry limits) parts
     (sound machine keeps limits agrees) unit there (inputs_ports unit scalars named distinct) (outputs_ports unit scalars named distinct)
     names members earlier at in

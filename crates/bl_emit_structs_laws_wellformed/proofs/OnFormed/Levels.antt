@@ -4,7 +4,9 @@ use Rattle.std.proofs.Common.{refl, sym, ap, ◌∙◌, subst, arith}
 use Rattle.std.proofs.lemmas.Bool.Decides.{nat_tests}
 use Rattle.std.proofs.lemmas.List.{get_or-take}
 use Rattle.std.proofs.lemmas.Option.{same_Some}
-use Rattle.std.specs.Prelude.{Contains, nat_le, nat_lt, slice_get, slice_index}
+use Rattle.std.specs.Prelude.{Contains, nat_le, slice_get, slice_index}
+use Rattle.std.proofs.lemmas.Bool.{and_from}
+use Rattle.bl_tree.proofs.Basics.{and_first, and_second, less_from, less_test}
 use Rattle.bl_tree.specs.declared.tree.Field.{Field}
 use Rattle.bl_tree.specs.declared.tree.StructDef.{StructDef}
 use Rattle.bl_tree.specs.declared.tree.Ty.{Ty, fold_out-Ty, ind-Ty, map-Ty, out-Ty, out-roll-Ty, roll-Ty}
@@ -13,7 +15,6 @@ use Rattle.bl_tree.specs.Reduce.{greatest}
 use Rattle.bl_tree.specs.Types.{type_stands, type_stands_level}
 use Rattle.bl_limits_measures.specs.Types.{fields_nesting, level_nesting, nesting, nesting_by, struct_nestings}
 use Rattle.bl_limits_measures.proofs.TableLemmas.{answer_at}
-use Rattle.bl_eval.proofs.PassLemmas.{and_left, and_right, both}
 
 pub stands_at : (k : ℕ) (ty : Ty) (layer : Ty-F Ty) → out-Ty ty ≡ layer → type_stands k ty
     ≡ type_stands_level k (map-Ty Ty Bool (type_stands k) layer)
@@ -22,12 +23,6 @@ stands_at k ty layer is = fold_out-Ty Bool (type_stands_level k) ty ∙ ap (λ l
 pub nesting_at : (known : List ℕ) (ty : Ty) (layer : Ty-F Ty) → out-Ty ty ≡ layer →
     nesting_by known ty ≡ level_nesting known (map-Ty Ty ℕ (nesting_by known) layer)
 nesting_at known ty layer is = fold_out-Ty ℕ (level_nesting known) ty ∙ ap (λ l. level_nesting known (map-Ty Ty ℕ (nesting_by known) l)) is
-
-pub below : (j k : ℕ) → nat_lt j k ≡ true → j < k
-below j k h = grind (arith, nat_tests)
-
-pub less_than : (j k : ℕ) → j < k → nat_lt j k ≡ true
-less_than j k h = grind (arith, nat_tests)
 
 -- ---- a type that stands among the first structs
 
@@ -38,15 +33,15 @@ module _ (k n : ℕ) (le : k ≤ n) where
   more_by : (layer : Ty-F ((ty : Ty) × StandsMore ty)) → StandsMore (roll-Ty (map-Ty ((ty : Ty) × StandsMore ty) Ty (λ e. e.0) layer))
   more_by (Ty-F.Scalar s) h = stands_at n (roll-Ty (Ty-F.Scalar s)) (Ty-F.Scalar s) (out-roll-Ty (Ty-F.Scalar s))
   more_by (Ty-F.Struct j) h =
-      let less : j < k = below j k (sym (stands_at k (roll-Ty (Ty-F.Struct j)) (Ty-F.Struct j) (out-roll-Ty (Ty-F.Struct j))) ∙ h) in
+      let less : j < k = less_from j k (sym (stands_at k (roll-Ty (Ty-F.Struct j)) (Ty-F.Struct j) (out-roll-Ty (Ty-F.Struct j))) ∙ h) in
       let lt : j < n = omega (arith, less, le) in
-      stands_at n (roll-Ty (Ty-F.Struct j)) (Ty-F.Struct j) (out-roll-Ty (Ty-F.Struct j)) ∙ less_than j n lt
+      stands_at n (roll-Ty (Ty-F.Struct j)) (Ty-F.Struct j) (out-roll-Ty (Ty-F.Struct j)) ∙ less_test j n lt
   more_by (Ty-F.Array m e) h =
       let long : Bool = nat_le 1 m && nat_le m 65536 in
       let level : (long && type_stands k e.0) ≡ true =
       sym (stands_at k (roll-Ty (Ty-F.Array m e.0)) (Ty-F.Array m e.0) (out-roll-Ty (Ty-F.Array m e.0))) ∙ h in
       stands_at n (roll-Ty (Ty-F.Array m e.0)) (Ty-F.Array m e.0) (out-roll-Ty (Ty-F.Array m e.0))
-      ∙ both long (type_stands n e.0) (and_left long (type_stands k e.0) level) (e.1 (and_right long (type_stands k e.0) level))
+      ∙ and_from long (type_stands n e.0) (and_first long (type_stands k e.0) level) (e.1 (and_second long (type_stands k e.0) level))
 
   pub stands_more : (ty : Ty) → StandsMore ty
   stands_more = ind-Ty StandsMore (λ x y is. subst (λ layer. StandsMore (roll-Ty layer)) is (more_by y))
@@ -61,7 +56,7 @@ module _ (known : List ℕ) (k : ℕ) where
       nesting_at (take k known) (roll-Ty (Ty-F.Scalar s)) (Ty-F.Scalar s) (out-roll-Ty (Ty-F.Scalar s))
       ∙ sym (nesting_at known (roll-Ty (Ty-F.Scalar s)) (Ty-F.Scalar s) (out-roll-Ty (Ty-F.Scalar s)))
   same_by (Ty-F.Struct j) h =
-      let less : j < k = below j k (sym (stands_at k (roll-Ty (Ty-F.Struct j)) (Ty-F.Struct j) (out-roll-Ty (Ty-F.Struct j))) ∙ h) in
+      let less : j < k = less_from j k (sym (stands_at k (roll-Ty (Ty-F.Struct j)) (Ty-F.Struct j) (out-roll-Ty (Ty-F.Struct j))) ∙ h) in
       nesting_at (take k known) (roll-Ty (Ty-F.Struct j)) (Ty-F.Struct j) (out-roll-Ty (Ty-F.Struct j))
       ∙ get_or-take k known j 0 less
       ∙ sym (nesting_at known (roll-Ty (Ty-F.Struct j)) (Ty-F.Struct j) (out-roll-Ty (Ty-F.Struct j)))
@@ -70,7 +65,7 @@ module _ (known : List ℕ) (k : ℕ) where
       let level : (long && type_stands k e.0) ≡ true =
       sym (stands_at k (roll-Ty (Ty-F.Array m e.0)) (Ty-F.Array m e.0) (out-roll-Ty (Ty-F.Array m e.0))) ∙ h in
       nesting_at (take k known) (roll-Ty (Ty-F.Array m e.0)) (Ty-F.Array m e.0) (out-roll-Ty (Ty-F.Array m e.0))
-      ∙ ap (λ n. 1 + n) (e.1 (and_right long (type_stands k e.0) level))
+      ∙ ap (λ n. 1 + n) (e.1 (and_second long (type_stands k e.0) level))
       ∙ sym (nesting_at known (roll-Ty (Ty-F.Array m e.0)) (Ty-F.Array m e.0) (out-roll-Ty (Ty-F.Array m e.0)))
 
   pub same_before : (ty : Ty) → SameBefore ty

@@ -5,6 +5,7 @@ use Rattle.std.proofs.Common.{refl, sym, ap, ◌∙◌, subst, arith, ⊎_elim}
 use Rattle.std.proofs.lemmas.List.Elements.{Contains-append_cases, Contains-push_cases}
 use Rattle.std.proofs.lemmas.Option.{slice_get_within}
 use Rattle.std.specs.Prelude.{Contains, get_or, nat_le, slice_get, slice_index}
+use Rattle.bl_tree.proofs.Basics.{and_second, contains_one, less_test}
 use Rattle.bl_tree.specs.declared.c.CMember.{CMember}
 use Rattle.bl_tree.specs.declared.c.CStruct.{CStruct}
 use Rattle.bl_tree.specs.declared.tree.Field.{Field}
@@ -17,7 +18,7 @@ use Rattle.bl_tree.specs.Program.{IsWellTyped, structs_stand_from}
 use Rattle.bl_tree.specs.Reduce.{joined}
 use Rattle.bl_tree.specs.Types.{type_stands}
 use Rattle.bl_eval.proofs.FitLemmas.{structs_at}
-use Rattle.bl_eval.proofs.PassLemmas.{all_at, and_right}
+use Rattle.bl_eval.proofs.PassLemmas.{all_at}
 use Rattle.bl_limits_measures.specs.Types.{nesting, struct_nestings}
 use Rattle.bl_emit_acts.specs.Structs.{c_array, c_definition, c_elements, c_field}
 use Rattle.bl_emit_acts.specs.Trees.{nowhere}
@@ -27,7 +28,7 @@ use Rattle.bl_emit_structs.proofs.Steps.{array_is}
 use Rattle.bl_emit_acts_laws_wellformed.proofs.OnFormed.Parts.{name_at}
 use Rattle.bl_emit_acts_laws_wellformed.proofs.OnFormed.Units.{vars_stand}
 use Rattle.bl_emit_structs_laws_wellformed.specs.Formed.{NestsAtMost}
-use Rattle.bl_emit_structs_laws_wellformed.proofs.OnFormed.Levels.{field_nesting, less_than, nesting_at, stands_at, stands_more, struct_some}
+use Rattle.bl_emit_structs_laws_wellformed.proofs.OnFormed.Levels.{field_nesting, nesting_at, stands_at, stands_more, struct_some}
 use Rattle.bl_tree.specs.declared.tree.Ty.{fold_out-Ty, fold-Ty}
 
 -- ---- what stands in joined lists
@@ -76,13 +77,6 @@ pub record StructOf (structs : List StructDef) (most : ℕ) (s : CStruct) : Type
   pub some : 1 ≤ nesting structs ty
   pub parts : (m : CMember) → Contains s.members m → PartOf structs ty m
 
-alone : {X : Type 0} (x y : X) → Contains (x ∷ []) y → x ≡ y
-alone x y has = by has.0 has.1 has.2
-  where
-    by : (k : ℕ) → k < 1 → get_or (x ∷ []) k y ≡ y → x ≡ y
-    by zero lt is = is
-    by (suc k) lt is = absurd (omega arith)
-
 -- a member is that of a field
 record OfField (structs : List StructDef) (fields : List Field) (m : CMember) : Type 0 where
   j : ℕ
@@ -111,7 +105,7 @@ module _ (structs : List StructDef) (most : ℕ) where
   array_struct ty n element is stands few =
       let deep : nesting structs ty ≡ 1 + nesting structs element = nesting_at (struct_nestings structs) ty (Ty-F.Array n element) is in
       let inner : type_stands n_structs element ≡ true =
-      and_right (nat_le 1 n && nat_le n 65536) (type_stands n_structs element) (sym (stands_at n_structs ty (Ty-F.Array n element) is) ∙ stands) in
+      and_second (nat_le 1 n && nat_le n 65536) (type_stands n_structs element) (sym (stands_at n_structs ty (Ty-F.Array n element) is) ∙ stands) in
       record {
         ty = ty;
         made = ap (struct_level structs) (sym is);
@@ -121,7 +115,7 @@ module _ (structs : List StructDef) (most : ℕ) where
         some = omega (arith, deep);
         parts = λ m has. record {
           part = element;
-          is = ap (λ (m : CMember). m.ty) (sym (alone (c_elements structs n element) m has));
+          is = ap (λ (m : CMember). m.ty) (sym (contains_one (c_elements structs n element) m has));
           stands = inner;
           deep = omega (arith, deep);
         };
@@ -155,7 +149,7 @@ module _ (structs : List StructDef) (most : ℕ) where
       let is : out-Ty ty ≡ Ty-F.Array n e.0 = out-roll-Ty (Ty-F.Array n e.0) in
       let deep : nesting structs ty ≡ 1 + nesting structs e.0 = nesting_at (struct_nestings structs) ty (Ty-F.Array n e.0) is in
       let inner : type_stands n_structs e.0 ≡ true =
-      and_right (nat_le 1 n && nat_le n 65536) (type_stands n_structs e.0) (sym (stands_at n_structs ty (Ty-F.Array n e.0) is) ∙ stands) in
+      and_second (nat_le 1 n && nat_le n 65536) (type_stands n_structs e.0) (sym (stands_at n_structs ty (Ty-F.Array n e.0) is) ∙ stands) in
       let less : nesting structs e.0 ≤ most = omega (arith, deep, few) in
       ⊎_elim (λ before. e.1 inner less s before)
       (λ own. subst (StructOf structs most) own (array_struct ty n e.0 is stands few))
@@ -185,7 +179,7 @@ module _ (structs : List StructDef) (most : ℕ) where
           ty = ty;
           made = ap (defined structs) (sym there) ∙ ap (struct_level structs) (sym is);
           named = ap (λ o. struct_name (name_of_definition o)) (sym there) ∙ sym (name_at structs ty (Ty-F.Struct k) is);
-          stands = stands_at n_structs ty (Ty-F.Struct k) is ∙ less_than k n_structs less;
+          stands = stands_at n_structs ty (Ty-F.Struct k) is ∙ less_test k n_structs less;
           few = omega (arith, deep, few k);
           some = omega (arith, deep, struct_some structs k def there);
           parts = λ m has.

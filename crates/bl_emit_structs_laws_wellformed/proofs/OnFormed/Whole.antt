@@ -8,6 +8,8 @@ use Rattle.std.proofs.lemmas.List.Folds.{list_all-append, list_any-append}
 use Rattle.std.proofs.lemmas.Slice.Eq.{bytes_eq-Decides}
 use Rattle.std.specs.Prelude.{Contains, bytes_eq, get_or, nat_eq, if◌then◌else◌}
 use Rattle.std.specs.List.{list_all, list_any}
+use Rattle.std.proofs.lemmas.Bool.{and_from}
+use Rattle.bl_tree.proofs.Basics.{and_first, and_second}
 use Rattle.bl_tree.specs.declared.text.Text.{Text}
 use Rattle.bl_tree.specs.declared.c.CMember.{CMember}
 use Rattle.bl_tree.specs.declared.c.CStruct.{CStruct}
@@ -24,7 +26,7 @@ use Rattle.bl_tree.specs.declared.tree.Var.{Var}
 use Rattle.bl_tree.specs.Program.{IsWellTyped}
 use Rattle.bl_tree.specs.Types.{type_stands}
 use Rattle.bl_tree.specs.Words.{are_distinct, is_among}
-use Rattle.bl_eval.proofs.PassLemmas.{all_at, and_left, and_right, both}
+use Rattle.bl_eval.proofs.PassLemmas.{all_at}
 use Rattle.bl_limits_measures.specs.Types.{nesting, struct_nestings}
 use Rattle.bl_ctext_semantics.specs.Faults.{interface_fits, member_table, struct_faults_after, struct_table}
 use Rattle.bl_ctext_semantics.specs.Tables.{Table, found, no_entries}
@@ -113,9 +115,9 @@ new_append : (names : List Text) (first second : List CStruct) → are_new names
     are_new names (first ++ second) ≡ true
 new_append names [] second h k = subst (λ l. are_new l second ≡ true) (append-nil names) k
 new_append names (s ∷ first) second h k =
-    both (not (has s.name names)) (are_new (names ++ s.name ∷ []) (first ++ second))
-    (and_left (not (has s.name names)) (are_new (names ++ s.name ∷ []) first) h)
-    (new_append (names ++ s.name ∷ []) first second (and_right (not (has s.name names)) (are_new (names ++ s.name ∷ []) first) h)
+    and_from (not (has s.name names)) (are_new (names ++ s.name ∷ []) (first ++ second))
+    (and_first (not (has s.name names)) (are_new (names ++ s.name ∷ []) first) h)
+    (new_append (names ++ s.name ∷ []) first second (and_second (not (has s.name names)) (are_new (names ++ s.name ∷ []) first) h)
     (subst (λ l. are_new l second ≡ true) (sym (append_assoc names (s.name ∷ []) (names_of first))) k))
 
 once_new : (taken : List Text) (xs : List CStruct) → are_new taken (each_once taken xs) ≡ true
@@ -126,7 +128,7 @@ once_new taken (s ∷ rest) = by (has s.name taken) refl (once_new taken rest) (
         → are_new (taken ++ s.name ∷ []) (each_once (taken ++ s.name ∷ []) rest) ≡ true
         → are_new taken (if b then each_once taken rest else s ∷ each_once (taken ++ s.name ∷ []) rest) ≡ true
     by true is old new = old
-    by false is old new = both (not (has s.name taken)) (are_new (taken ++ s.name ∷ []) (each_once (taken ++ s.name ∷ []) rest)) (ap not is) new
+    by false is old new = and_from (not (has s.name taken)) (are_new (taken ++ s.name ∷ []) (each_once (taken ++ s.name ∷ []) rest)) (ap not is) new
 
 first_of : (a b : Bool) → a ≡ true → (a || b) ≡ true
 first_of true b h = refl
@@ -142,9 +144,9 @@ others_new : (seen : List Text) (xs : List CStruct) → are_distinct (names_of x
     are_new seen xs ≡ true
 others_new seen [] differ new = refl
 others_new seen (s ∷ rest) differ new =
-    both (not (has s.name seen)) (are_new (seen ++ s.name ∷ []) rest)
+    and_from (not (has s.name seen)) (are_new (seen ++ s.name ∷ []) rest)
     (ap not (new s.name (first_of (bytes_eq s.name s.name) (has s.name (names_of rest)) ((bytes_eq-Decides s.name s.name).1 refl))))
-    (others_new (seen ++ s.name ∷ []) rest (and_right (not (is_among s.name (names_of rest))) (are_distinct (names_of rest)) differ) later)
+    (others_new (seen ++ s.name ∷ []) rest (and_second (not (is_among s.name (names_of rest))) (are_distinct (names_of rest)) differ) later)
   where
     neither : (a b : Bool) → a ≡ false → b ≡ false → (a || (b || false)) ≡ false
     neither false false h k = refl
@@ -157,7 +159,7 @@ others_new seen (s ∷ rest) differ new =
         let same : x ≡ s.name = (bytes_eq-Decides x s.name).0 is in
         let among : is_among s.name (names_of rest) ≡ true = subst (λ n. has n (names_of rest) ≡ true) same there in
         let none : not (is_among s.name (names_of rest)) ≡ true =
-        and_left (not (is_among s.name (names_of rest))) (are_distinct (names_of rest)) differ in
+        and_first (not (is_among s.name (names_of rest))) (are_distinct (names_of rest)) differ in
         absurd (let no : not true ≡ true = ap not (sym among) ∙ none in cc)
 
     later : (x : Text) → has x (names_of rest) ≡ true → has x (seen ++ s.name ∷ []) ≡ false
@@ -168,7 +170,7 @@ others_new seen (s ∷ rest) differ new =
 
 -- ---- what is kept of each name
 
-once_has : (taken : List Text) (xs : List CStruct) (s : CStruct) → Contains (each_once taken xs) s → Contains xs s
+pub once_has : (taken : List Text) (xs : List CStruct) (s : CStruct) → Contains (each_once taken xs) s → Contains xs s
 once_has taken [] s there = there
 once_has taken (x ∷ xs) s there = by (has x.name taken) (once_has taken xs s) (once_has (taken ++ x.name ∷ []) xs s) there
   where
@@ -260,10 +262,10 @@ known_both : (names : List Text) (first second : List CStruct) → are_known nam
     are_known names (first ++ second) ≡ true
 known_both names [] second h k = subst (λ l. are_known l second ≡ true) (append-nil names) k
 known_both names (s ∷ first) second h k =
-    both (list_all (λ (m : CMember). is_known names m.ty) s.members) (are_known (names ++ s.name ∷ []) (first ++ second))
-    (and_left (list_all (λ (m : CMember). is_known names m.ty) s.members) (are_known (names ++ s.name ∷ []) first) h)
+    and_from (list_all (λ (m : CMember). is_known names m.ty) s.members) (are_known (names ++ s.name ∷ []) (first ++ second))
+    (and_first (list_all (λ (m : CMember). is_known names m.ty) s.members) (are_known (names ++ s.name ∷ []) first) h)
     (known_both (names ++ s.name ∷ []) first second
-    (and_right (list_all (λ (m : CMember). is_known names m.ty) s.members) (are_known (names ++ s.name ∷ []) first) h)
+    (and_second (list_all (λ (m : CMember). is_known names m.ty) s.members) (are_known (names ++ s.name ∷ []) first) h)
     (subst (λ l. are_known l second ≡ true) (sym (append_assoc names (s.name ∷ []) (names_of first))) k))
 
 module _ (structs : List StructDef) (units : List UnitDef) (entry : ℕ) (keeps : IsWellTyped structs units entry) (apart : TypesApart structs units entry) where
@@ -357,7 +359,7 @@ module _ (structs : List StructDef) (units : List UnitDef) (entry : ℕ) (keeps 
       list_all (λ (m : CMember). is_known names m.ty) members ≡ true
   list_known names [] each = refl
   list_known names (m ∷ members) each =
-      both (is_known names m.ty) (list_all (λ (m : CMember). is_known names m.ty) members) (each m (0, omega arith, refl))
+      and_from (is_known names m.ty) (list_all (λ (m : CMember). is_known names m.ty) members) (each m (0, omega arith, refl))
       (list_known names members (λ x has. each x (suc has.0, (let lt = has.1 in omega arith), has.2)))
 
   memories_known : TypesDeclared structs units entry → (names : List Text) →
@@ -365,7 +367,7 @@ module _ (structs : List StructDef) (units : List UnitDef) (entry : ℕ) (keeps 
       (memories : List CStruct) → ((s : CStruct) → Contains memories s → IsMemory structs units s) → are_known names memories ≡ true
   memories_known declared names more [] each = refl
   memories_known declared names more (s ∷ rest) each =
-      both (list_all (λ (m : CMember). is_known names m.ty) s.members) (are_known (names ++ s.name ∷ []) rest)
+      and_from (list_all (λ (m : CMember). is_known names m.ty) s.members) (are_known (names ++ s.name ∷ []) rest)
       (list_known names s.members (λ m has. more m.ty (member_known m ((each s (0, omega arith, refl)).members m has))))
       (memories_known declared (names ++ s.name ∷ []) (λ ty known. known_push names s.name ty (more ty known)) rest
       (λ x has. each x (suc has.0, (let lt = has.1 in omega arith), has.2)))
@@ -381,7 +383,7 @@ module _ (structs : List StructDef) (units : List UnitDef) (entry : ℕ) (keeps 
       list_all (λ (s : CStruct). are_distinct (member_names s)) memories ≡ true
   memories_differ [] each = refl
   memories_differ (s ∷ rest) each =
-      both (are_distinct (member_names s)) (list_all (λ (s : CStruct). are_distinct (member_names s)) rest) (each s (0, omega arith, refl)).distinct
+      and_from (are_distinct (member_names s)) (list_all (λ (s : CStruct). are_distinct (member_names s)) rest) (each s (0, omega arith, refl)).distinct
       (memories_differ rest (λ x has. each x (suc has.0, (let lt = has.1 in omega arith), has.2)))
 
   pub formed : MembersDiffer structs units entry → UsesEarlier structs units entry → TypesDeclared structs units entry → (memories : List CStruct) →
@@ -392,7 +394,7 @@ module _ (structs : List StructDef) (units : List UnitDef) (entry : ℕ) (keeps 
       (others_new (names_of of_program) memories are.differ (differ_type nests memories are)))
       (known_both [] of_program memories (earlier keeps) (memories_known declared (names_of of_program) (λ ty known. known) memories are.each))
       (list_all-append (λ (s : CStruct). are_distinct (member_names s)) of_program memories
-      ∙ both (list_all (λ (s : CStruct). are_distinct (member_names s)) of_program) (list_all (λ (s : CStruct). are_distinct (member_names s)) memories)
+      ∙ and_from (list_all (λ (s : CStruct). are_distinct (member_names s)) of_program) (list_all (λ (s : CStruct). are_distinct (member_names s)) memories)
       (differ keeps) (memories_differ memories are.each))
       (all_fine nests memories are)
 

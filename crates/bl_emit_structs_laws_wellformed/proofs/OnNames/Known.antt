@@ -5,32 +5,14 @@ use Rattle.std.proofs.lemmas.List.Folds.{list_any-append}
 use Rattle.std.proofs.lemmas.Slice.Eq.{bytes_eq-Decides}
 use Rattle.std.specs.Prelude.{bytes_eq}
 use Rattle.std.specs.List.{list_all, list_any}
+use Rattle.std.proofs.lemmas.Bool.{and_from, or_left, or_right}
+use Rattle.bl_tree.proofs.Basics.{all_weaker, and_first, and_second, first_of_or}
 use Rattle.bl_tree.specs.declared.text.Text.{Text}
 use Rattle.bl_tree.specs.declared.c.CMember.{CMember}
 use Rattle.bl_tree.specs.declared.c.CStruct.{CStruct}
 use Rattle.bl_tree.specs.declared.c.CType.{CType}
 use Rattle.bl_tree.specs.declared.c.CType.TheVariants.{Scalar as OfScalar, Struct as OfStruct}
 use Rattle.bl_emit_structs_laws_wellformed.specs.Names.{are_known, is_known, names_of}
-
-pub and_left : (a b : Bool) → (a && b) ≡ true → a ≡ true
-and_left true b _ = refl
-and_left false b all = all
-
-pub and_right : (a b : Bool) → (a && b) ≡ true → b ≡ true
-and_right true b all = all
-and_right false b all = absurd (cc)
-
-pub both : (a b : Bool) → a ≡ true → b ≡ true → (a && b) ≡ true
-both true b _ other = other
-both false b one _ = one
-
-pub or_left : (a b : Bool) → a ≡ true → (a || b) ≡ true
-or_left true b h = refl
-or_left false b h = absurd (cc)
-
-pub or_right : (a b : Bool) → b ≡ true → (a || b) ≡ true
-or_right true b h = refl
-or_right false b h = h
 
 -- whether a name is among these
 abbrev pub has : Text → List Text → Bool
@@ -56,11 +38,7 @@ either_of : (a b : Bool) (P : Type 0) → (a || b) ≡ true → (a ≡ true → 
 either_of true b P h one other = one refl
 either_of false b P h one other = other h
 
-only_one : (b : Bool) → (b || false) ≡ true → b ≡ true
-only_one true h = refl
-only_one false h = h
-
--- with one more name on both sides
+-- with one more name on and_from sides
 pub within_push : (xs ys : List Text) (new : Text) → Within xs ys → Within (xs ++ new ∷ []) (ys ++ new ∷ [])
 within_push xs ys new within name h =
     either_of (has name xs) (has name (new ∷ [])) (has name (ys ++ new ∷ []) ≡ true) (sym (list_any-append (bytes_eq name) xs (new ∷ [])) ∙ h)
@@ -70,22 +48,16 @@ within_push xs ys new within name h =
 pub within_again : (xs : List Text) (old : Text) → has old xs ≡ true → Within (xs ++ old ∷ []) xs
 within_again xs old there name h =
     either_of (has name xs) (has name (old ∷ [])) (has name xs ≡ true) (sym (list_any-append (bytes_eq name) xs (old ∷ [])) ∙ h) (λ here. here)
-    (λ here. let same : name ≡ old = (bytes_eq-Decides name old).0 (only_one (bytes_eq name old) here) in subst (λ n. has n xs ≡ true) (sym same) there)
+    (λ here. let same : name ≡ old = (bytes_eq-Decides name old).0 (first_of_or (bytes_eq name old) here) in subst (λ n. has n xs ≡ true) (sym same) there)
 
 pub known_more : (xs ys : List Text) (ty : CType) → Within xs ys → is_known xs ty ≡ true → is_known ys ty ≡ true
 known_more xs ys (OfScalar s) within h = refl
 known_more xs ys (OfStruct name) within h = within name h
 
-pub all_more : {A : Type 0} (p q : A → Bool) → ((x : A) → p x ≡ true → q x ≡ true) → (xs : List A) → list_all p xs ≡ true →
-    list_all q xs ≡ true
-all_more p q more [] h = refl
-all_more p q more (x ∷ xs) h =
-    both (q x) (list_all q xs) (more x (and_left (p x) (list_all p xs) h)) (all_more p q more xs (and_right (p x) (list_all p xs) h))
-
 members_more : (xs ys : List Text) (members : List CMember) → Within xs ys → list_all (λ (m : CMember). is_known xs m.ty) members ≡ true
     → list_all (λ (m : CMember). is_known ys m.ty) members ≡ true
 members_more xs ys members within h =
-    all_more (λ (m : CMember). is_known xs m.ty) (λ (m : CMember). is_known ys m.ty) (λ m. known_more xs ys m.ty within) members h
+    all_weaker (λ (m : CMember). is_known xs m.ty) (λ (m : CMember). is_known ys m.ty) (λ m. known_more xs ys m.ty within) members h
 
 abbrev members_known : List Text → CStruct → Bool
 members_known names s = list_all (λ (m : CMember). is_known names m.ty) s.members
@@ -93,16 +65,16 @@ members_known names s = list_all (λ (m : CMember). is_known names m.ty) s.membe
 pub structs_more : (xs ys : List Text) (structs : List CStruct) → Within xs ys → are_known xs structs ≡ true → are_known ys structs ≡ true
 structs_more xs ys [] within h = refl
 structs_more xs ys (s ∷ rest) within h =
-    both (members_known ys s) (are_known (ys ++ s.name ∷ []) rest)
-    (members_more xs ys s.members within (and_left (members_known xs s) (are_known (xs ++ s.name ∷ []) rest) h))
+    and_from (members_known ys s) (are_known (ys ++ s.name ∷ []) rest)
+    (members_more xs ys s.members within (and_first (members_known xs s) (are_known (xs ++ s.name ∷ []) rest) h))
     (structs_more (xs ++ s.name ∷ []) (ys ++ s.name ∷ []) rest (within_push xs ys s.name within)
-    (and_right (members_known xs s) (are_known (xs ++ s.name ∷ []) rest) h))
+    (and_second (members_known xs s) (are_known (xs ++ s.name ∷ []) rest) h))
 
 -- one list of structs after another
 pub known_append : (names : List Text) (first second : List CStruct) → are_known names first ≡ true → are_known (names ++ names_of first) second ≡ true
     → are_known names (first ++ second) ≡ true
 known_append names [] second h k = structs_more (names ++ []) names second (λ name there. subst (λ l. has name l ≡ true) (append-nil names) there) k
 known_append names (s ∷ first) second h k =
-    both (members_known names s) (are_known (names ++ s.name ∷ []) (first ++ second)) (and_left (members_known names s) _ h)
-    (known_append (names ++ s.name ∷ []) first second (and_right (members_known names s) (are_known (names ++ s.name ∷ []) first) h)
+    and_from (members_known names s) (are_known (names ++ s.name ∷ []) (first ++ second)) (and_first (members_known names s) _ h)
+    (known_append (names ++ s.name ∷ []) first second (and_second (members_known names s) (are_known (names ++ s.name ∷ []) first) h)
     (subst (λ l. are_known l second ≡ true) (sym (append_assoc names (s.name ∷ []) (names_of first))) k))

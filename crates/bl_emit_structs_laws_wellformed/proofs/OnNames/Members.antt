@@ -1,28 +1,10 @@
 -- Members of one struct have different names.
-use Rattle.std.proofs.Common.{
-  ◌≡◌,
-  ℕ,
-  ◌+◌,
-  Bool,
-  true,
-  false,
-  not,
-  ◌&&◌,
-  ◌||◌,
-  if◌then◌else◌,
-  List,
-  [],
-  ◌∷◌,
-  ◌++◌,
-  map,
-  refl,
-  ap,
-  subst,
-  ◌∙◌,
-}
+use Rattle.std.proofs.Common.{◌≡◌, ℕ, ◌+◌, Bool, true, false, not, ◌&&◌, ◌||◌, if◌then◌else◌, List, [], ◌∷◌, ◌++◌, map, refl, ap, subst, ◌∙◌}
 use Rattle.std.proofs.lemmas.List.Folds.{list_all-append}
 use Rattle.std.specs.Prelude.{bytes_eq}
 use Rattle.std.specs.List.{list_all}
+use Rattle.std.proofs.lemmas.Bool.{and_from}
+use Rattle.bl_tree.proofs.Basics.{and_first, and_second}
 use Rattle.bl_tree.specs.declared.text.Text.{Text}
 use Rattle.bl_tree.specs.declared.c.CStruct.{CStruct}
 use Rattle.bl_tree.specs.declared.tree.Field.{Field}
@@ -39,7 +21,7 @@ use Rattle.bl_emit_acts.specs.Types.{field_name}
 use Rattle.bl_emit_structs.specs.Structs.{arrays_of, each_once, structs_for, structs_for_definition, structs_for_unit}
 use Rattle.bl_emit_structs.proofs.Steps.{array_is}
 use Rattle.bl_emit_structs_laws_wellformed.specs.Names.{member_names}
-use Rattle.bl_emit_structs_laws_wellformed.proofs.OnNames.Known.{and_left, and_right, both, has}
+use Rattle.bl_emit_structs_laws_wellformed.proofs.OnNames.Known.{has}
 use Rattle.bl_emit_structs_laws_wellformed.proofs.OnNames.Needed.{arrays_at_layer}
 
 abbrev differ_in : CStruct → Bool
@@ -51,9 +33,9 @@ all_differ structs = list_all differ_in structs
 once_differ : (taken : List Text) (structs : List CStruct) → all_differ structs ≡ true → all_differ (each_once taken structs) ≡ true
 once_differ taken [] h = refl
 once_differ taken (s ∷ rest) h =
-    by (has s.name taken) (once_differ taken rest (and_right (differ_in s) (all_differ rest) h))
-    (both (differ_in s) (all_differ (each_once (taken ++ s.name ∷ []) rest)) (and_left (differ_in s) (all_differ rest) h)
-    (once_differ (taken ++ s.name ∷ []) rest (and_right (differ_in s) (all_differ rest) h)))
+    by (has s.name taken) (once_differ taken rest (and_second (differ_in s) (all_differ rest) h))
+    (and_from (differ_in s) (all_differ (each_once (taken ++ s.name ∷ []) rest)) (and_first (differ_in s) (all_differ rest) h)
+    (once_differ (taken ++ s.name ∷ []) rest (and_second (differ_in s) (all_differ rest) h)))
   where
     by : (b : Bool) → all_differ (each_once taken rest) ≡ true → all_differ (s ∷ each_once (taken ++ s.name ∷ []) rest) ≡ true
         → all_differ (if b then each_once taken rest else s ∷ each_once (taken ++ s.name ∷ []) rest) ≡ true
@@ -61,7 +43,7 @@ once_differ taken (s ∷ rest) h =
     by false old new = new
 
 appended : (first second : List CStruct) → all_differ first ≡ true → all_differ second ≡ true → all_differ (first ++ second) ≡ true
-appended first second one other = list_all-append differ_in first second ∙ both (all_differ first) (all_differ second) one other
+appended first second one other = list_all-append differ_in first second ∙ and_from (all_differ first) (all_differ second) one other
 
 joined_differ : {X : Type 0} (needs : X → List CStruct) → ((x : X) → all_differ (needs x) ≡ true) → (xs : List X)
     → all_differ (joined (map needs xs)) ≡ true
@@ -95,18 +77,18 @@ module _ (structs : List StructDef) where
 
   definition_differs : (k : ℕ) (def : StructDef) → struct_stands k def ≡ true → all_differ (structs_for_definition structs def) ≡ true
   definition_differs k def stands =
-      let distinct : are_distinct (field_names def) ≡ true = and_right _ (are_distinct (field_names def)) (and_left _ _ (and_right _ _ stands)) in
+      let distinct : are_distinct (field_names def) ≡ true = and_second _ (are_distinct (field_names def)) (and_first _ _ (and_second _ _ stands)) in
       appended (joined (map (λ (field : Field). arrays_of structs field.ty) def.fields)) (c_definition structs def ∷ [])
       (joined_differ (λ (field : Field). arrays_of structs field.ty) (λ field. arrays_differ field.ty) def.fields)
-      (both (differ_in (c_definition structs def)) true (fields_differ def.fields ∙ distinct) refl)
+      (and_from (differ_in (c_definition structs def)) true (fields_differ def.fields ∙ distinct) refl)
 
   definitions_differ : (k : ℕ) (rest : List StructDef) → structs_stand_from k rest ≡ true
       → all_differ (joined (map (structs_for_definition structs) rest)) ≡ true
   definitions_differ k [] h = refl
   definitions_differ k (def ∷ rest) h =
       appended (structs_for_definition structs def) (joined (map (structs_for_definition structs) rest))
-      (definition_differs k def (and_left (struct_stands k def) (structs_stand_from (k + 1) rest) h))
-      (definitions_differ (k + 1) rest (and_right (struct_stands k def) (structs_stand_from (k + 1) rest) h))
+      (definition_differs k def (and_first (struct_stands k def) (structs_stand_from (k + 1) rest) h))
+      (definitions_differ (k + 1) rest (and_second (struct_stands k def) (structs_stand_from (k + 1) rest) h))
 
   pub members_apart : (units : List UnitDef) (entry : ℕ) → IsWellTyped structs units entry → all_differ (each_once [] (structs_for structs units)) ≡ true
   members_apart units entry keeps =

@@ -1,34 +1,6 @@
 -- Types that have one name in C are one.
-use Rattle.std.proofs.Common.{
-  ◌^◌,
-  arith,
-  ◌≡◌,
-  ℕ,
-  suc,
-  zero,
-  ◌<◌,
-  Bool,
-  true,
-  false,
-  not,
-  ◌&&◌,
-  if◌then◌else◌,
-  List,
-  [],
-  ◌∷◌,
-  ◌++◌,
-  map,
-  drop,
-  length,
-  Option,
-  Some,
-  None,
-  refl,
-  sym,
-  ap,
-  subst,
-  ◌∙◌,
-}
+use Rattle.std.proofs.Common.{◌^◌, arith, ◌≡◌, ℕ, suc, zero, ◌<◌, Bool, true, false, not, ◌&&◌, if◌then◌else◌, List, [], ◌∷◌, ◌++◌, map, drop, length, Option}
+use Rattle.std.proofs.Common.{Some, None, refl, sym, ap, subst, ◌∙◌}
 use Rattle.std.proofs.lemmas.Bool.Decides.{nat_tests}
 use Rattle.std.proofs.lemmas.Fmt.{decimal_injective, decimal_is_IsNumeral}
 use Rattle.std.proofs.lemmas.Option.{same_Some}
@@ -38,6 +10,8 @@ use Rattle.std.specs.Prelude.{bytes_eq, nat_eq, nat_le, nat_lt}
 use Rattle.std.specs.List.{list_all}
 use Rattle.std.specs.Char.{digit_value}
 use Rattle.std.specs.Str.Parse.{AllDigits}
+use Rattle.std.proofs.lemmas.Bool.{and_from, or_left, or_right}
+use Rattle.bl_tree.proofs.Basics.{and_first, and_second}
 use Rattle.bl_tree.specs.declared.text.Text.{Text}
 use Rattle.bl_tree.specs.declared.scalar.Scalar.{Scalar as ScalarType}
 use Rattle.bl_tree.specs.declared.scalar.Scalar.TheVariants.{Bool as OfBool, Int, Nat, Bits}
@@ -50,7 +24,7 @@ use Rattle.bl_tree.specs.Program.{IsWellTyped}
 use Rattle.bl_tree.specs.Types.{type_stands}
 use Rattle.bl_tree.specs.Words.{are_distinct}
 use Rattle.bl_emit_acts.specs.Types.{array_name, definition_name, struct_name, type_name, type_word}
-use Rattle.bl_emit_structs_laws_wellformed.proofs.OnNames.Known.{and_left, and_right, both, has, has_front, or_left, or_right}
+use Rattle.bl_emit_structs_laws_wellformed.proofs.OnNames.Known.{has, has_front}
 use Rattle.bl_emit_structs_laws_wellformed.proofs.OnNames.Needed.{below, name_at, stands_at}
 
 -- ---- the letter with which a name begins
@@ -121,13 +95,13 @@ not_both : (b : Bool) → not b ≡ true → b ≡ true → ⊥
 not_both true h k = let x : false ≡ true = h in cc
 not_both false h k = let x : false ≡ true = k in cc
 
-distinct_front : (xs ys : List Text) → are_distinct (xs ++ ys) ≡ true → are_distinct xs ≡ true
+pub distinct_front : (xs ys : List Text) → are_distinct (xs ++ ys) ≡ true → are_distinct xs ≡ true
 distinct_front [] ys h = refl
 distinct_front (x ∷ xs) ys h =
-    both (not (has x xs)) (are_distinct xs) (by (has x xs) refl) (distinct_front xs ys (and_right (not (has x (xs ++ ys))) (are_distinct (xs ++ ys)) h))
+    and_from (not (has x xs)) (are_distinct xs) (by (has x xs) refl) (distinct_front xs ys (and_second (not (has x (xs ++ ys))) (are_distinct (xs ++ ys)) h))
   where
     by : (b : Bool) → has x xs ≡ b → not b ≡ true
-    by true is = absurd (not_both (has x (xs ++ ys)) (and_left (not (has x (xs ++ ys))) (are_distinct (xs ++ ys)) h) (has_front x xs ys is))
+    by true is = absurd (not_both (has x (xs ++ ys)) (and_first (not (has x (xs ++ ys))) (are_distinct (xs ++ ys)) h) (has_front x xs ys is))
     by false is = refl
 
 abbrev definition_names : List StructDef → List Text
@@ -146,16 +120,16 @@ same_position [] j k distinct less least same = absurd (omega arith)
 same_position (def ∷ rest) zero zero distinct less least same = refl
 same_position (def ∷ rest) zero (suc k) distinct less least same =
     let lt : k < length rest = omega arith in
-    absurd (not_both (has def.name (definition_names rest)) (and_left _ (are_distinct (definition_names rest)) distinct)
+    absurd (not_both (has def.name (definition_names rest)) (and_first _ (are_distinct (definition_names rest)) distinct)
     (subst (λ n. has n (definition_names rest) ≡ true) (sym same) (name_there rest k lt)))
 same_position (def ∷ rest) (suc j) zero distinct less least same =
     let lt : j < length rest = omega arith in
-    absurd (not_both (has def.name (definition_names rest)) (and_left _ (are_distinct (definition_names rest)) distinct)
+    absurd (not_both (has def.name (definition_names rest)) (and_first _ (are_distinct (definition_names rest)) distinct)
     (subst (λ n. has n (definition_names rest) ≡ true) same (name_there rest j lt)))
 same_position (def ∷ rest) (suc j) (suc k) distinct less least same =
     let lt : j < length rest = omega arith in
     let le : k < length rest = omega arith in
-    ap suc (same_position rest j k (and_right (not (has def.name (definition_names rest))) _ distinct) lt le same)
+    ap suc (same_position rest j k (and_second (not (has def.name (definition_names rest))) _ distinct) lt le same)
 
 -- ---- arrays
 
@@ -176,25 +150,25 @@ digit_other c h = grind (arith, nat_tests)
 
 all_other : (ds : List ℕ) → AllDigits 10 ds → list_all is_other ds ≡ true
 all_other [] h = refl
-all_other (c ∷ rest) h = both (is_other c) (list_all is_other rest) (digit_other c h.0) (all_other rest h.1)
+all_other (c ∷ rest) h = and_from (is_other c) (list_all is_other rest) (digit_other c h.0) (all_other rest h.1)
 
 front_is : (ds more : List ℕ) → list_all is_other ds ≡ true → front (ds ++ 95 ∷ more) ≡ ds
 front_is [] more h = refl
 front_is (c ∷ ds) more h =
-    ap (λ b. if b then c ∷ front (ds ++ 95 ∷ more) else []) (and_left (is_other c) (list_all is_other ds) h)
-    ∙ ap (λ rest. c ∷ rest) (front_is ds more (and_right (is_other c) (list_all is_other ds) h))
+    ap (λ b. if b then c ∷ front (ds ++ 95 ∷ more) else []) (and_first (is_other c) (list_all is_other ds) h)
+    ∙ ap (λ rest. c ∷ rest) (front_is ds more (and_second (is_other c) (list_all is_other ds) h))
 
 back_is : (ds more : List ℕ) → list_all is_other ds ≡ true → back (ds ++ 95 ∷ more) ≡ more
 back_is [] more h = refl
 back_is (c ∷ ds) more h =
-    ap (λ b. if b then back (ds ++ 95 ∷ more) else ds ++ 95 ∷ more) (and_left (is_other c) (list_all is_other ds) h)
-    ∙ back_is ds more (and_right (is_other c) (list_all is_other ds) h)
+    ap (λ b. if b then back (ds ++ 95 ∷ more) else ds ++ 95 ∷ more) (and_first (is_other c) (list_all is_other ds) h)
+    ∙ back_is ds more (and_second (is_other c) (list_all is_other ds) h)
 
 decimal_other : (n : ℕ) → n < 2 ^ 64 → list_all is_other (decimal n) ≡ true
 decimal_other n h = let k = decimal_is_IsNumeral n h in all_other (decimal n) k.0.1
 
 small : (n : ℕ) → (nat_le 1 n && nat_le n 65536) ≡ true → n < 2 ^ 64
-small n h = let le : nat_le n 65536 ≡ true = and_right (nat_le 1 n) (nat_le n 65536) h in grind (arith, nat_tests)
+small n h = let le : nat_le n 65536 ≡ true = and_second (nat_le 1 n) (nat_le n 65536) h in grind (arith, nat_tests)
 
 same_length : (n m : ℕ) (a b : Text) → n < 2 ^ 64 → m < 2 ^ 64 → array_name n a ≡ array_name m b → n ≡ m
 same_length n m a b less least same =
@@ -275,11 +249,11 @@ module _ (structs : List StructDef) (distinct : are_distinct (definition_names s
       by (Ty-F.Array m f) is =
           let other : ((nat_le 1 m && nat_le m 65536) && stands f) ≡ true = sym (stands_at structs (length structs) b (Ty-F.Array m f) is) ∙ second in
           let names : array_name n (name e.0) ≡ array_name m (name f) = sym own ∙ same ∙ name_at structs b (Ty-F.Array m f) is in
-          let low : n < 2 ^ 64 = small n (and_left (nat_le 1 n && nat_le n 65536) (stands e.0) fits) in
-          let high : m < 2 ^ 64 = small m (and_left (nat_le 1 m && nat_le m 65536) (stands f) other) in
+          let low : n < 2 ^ 64 = small n (and_first (nat_le 1 n && nat_le n 65536) (stands e.0) fits) in
+          let high : m < 2 ^ 64 = small m (and_first (nat_le 1 m && nat_le m 65536) (stands f) other) in
           let equal : n ≡ m = same_length n m (name e.0) (name f) low high names in
           let elements : e.0 ≡ f =
-          e.1 f (and_right (nat_le 1 n && nat_le n 65536) (stands e.0) fits) (and_right (nat_le 1 m && nat_le m 65536) (stands f) other)
+          e.1 f (and_second (nat_le 1 n && nat_le n 65536) (stands e.0) fits) (and_second (nat_le 1 m && nat_le m 65536) (stands f) other)
           (same_element n m (name e.0) (name f) low high names) in
           (λ i. roll-Ty (Ty-F.Array (equal i) (elements i))) ∙ back_to b (Ty-F.Array m f) is
 

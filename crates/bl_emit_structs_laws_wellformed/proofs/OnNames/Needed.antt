@@ -7,6 +7,8 @@ use Rattle.std.proofs.lemmas.List.{append_assoc, map-append}
 use Rattle.std.proofs.lemmas.List.Folds.{list_all-map}
 use Rattle.std.specs.Prelude.{nat_lt, slice_get, ◌⊎◌}
 use Rattle.std.specs.List.{list_all}
+use Rattle.std.proofs.lemmas.Bool.{and_from}
+use Rattle.bl_tree.proofs.Basics.{all_weaker, and_first, and_second}
 use Rattle.bl_tree.specs.declared.text.Text.{Text}
 use Rattle.bl_tree.specs.declared.c.CMember.{CMember}
 use Rattle.bl_tree.specs.declared.c.CStruct.{CStruct}
@@ -25,7 +27,7 @@ use Rattle.bl_emit_acts.specs.Types.{c_type, definition_name, name_level, name_o
 use Rattle.bl_emit_structs.specs.Structs.{arrays_level, arrays_of, each_once, structs_for, structs_for_definition, structs_for_unit}
 use Rattle.bl_emit_structs.proofs.Steps.{array_is}
 use Rattle.bl_emit_structs_laws_wellformed.specs.Names.{are_known, is_known, names_of}
-use Rattle.bl_emit_structs_laws_wellformed.proofs.OnNames.Known.{Within, all_more, and_left, and_right, both, has, has_front, has_last, known_append, known_more}
+use Rattle.bl_emit_structs_laws_wellformed.proofs.OnNames.Known.{Within, has, has_front, has_last, known_append, known_more}
 use Rattle.bl_emit_structs_laws_wellformed.proofs.OnNames.Once.{once_has, once_known}
 
 abbrev name_of : CStruct → Text
@@ -51,12 +53,12 @@ module _ {X : Type 0} (needs : X → List CStruct) (ok : X → Bool) (fine : Lis
   each (x ∷ xs) names known h =
       let rest : List CStruct = joined (map needs xs) in
       let after : List Text = names ++ names_of (needs x) in
-      let own : (are_known names (needs x) ≡ true) × (fine after x ≡ true) = step x names known (and_left (ok x) (list_all ok xs) h) in
+      let own : (are_known names (needs x) ≡ true) × (fine after x ≡ true) = step x names known (and_first (ok x) (list_all ok xs) h) in
       let later : (are_known after rest ≡ true) × (list_all (fine (after ++ names_of rest)) xs ≡ true) =
-      each xs after (K_more names after (λ name there. has_front name names (names_of (needs x)) there) known) (and_right (ok x) (list_all ok xs) h) in
+      each xs after (K_more names after (λ name there. has_front name names (names_of (needs x)) there) known) (and_second (ok x) (list_all ok xs) h) in
       let ends : after ++ names_of rest ≡ names ++ names_of (needs x ++ rest) = seam names (needs x) rest in (
         known_append names (needs x) rest own.0 later.0,
-        both (fine (names ++ names_of (needs x ++ rest)) x) (list_all (fine (names ++ names_of (needs x ++ rest))) xs)
+        and_from (fine (names ++ names_of (needs x ++ rest)) x) (list_all (fine (names ++ names_of (needs x ++ rest))) xs)
             (subst (λ l. fine l x ≡ true) ends
             (fine_more after (after ++ names_of rest) (λ name there. has_front name after (names_of rest) there) x own.1))
             (subst (λ l. list_all (fine l) xs ≡ true) ends later.1),
@@ -123,10 +125,10 @@ module _ (structs : List StructDef) where
         let whole : arrays_of structs ty ≡ before ++ own ∷ [] = array_is structs ty n e.0 is in
         let c : c_type structs ty ≡ OfStruct own.name = c_type_at ty (Ty-F.Array n e.0) is ∙ ap OfStruct (name_at ty (Ty-F.Array n e.0) is) in
         let element : (are_known names before ≡ true) × (is_known (names ++ names_of before) (c_type structs e.0) ≡ true) =
-        e.1 (and_right _ (type_stands k e.0) (sym (stands_at k ty (Ty-F.Array n e.0) is) ∙ h)) in
+        e.1 (and_second _ (type_stands k e.0) (sym (stands_at k ty (Ty-F.Array n e.0) is) ∙ h)) in
         let known_element : Bool = is_known (names ++ names_of before) (c_type structs e.0) in (
           ap (are_known names) whole
-              ∙ known_append names before (own ∷ []) element.0 (both (known_element && true) true (both known_element true element.1 refl) refl),
+              ∙ known_append names before (own ∷ []) element.0 (and_from (known_element && true) true (and_from known_element true element.1 refl) refl),
           (λ i. is_known (names ++ names_of (whole i)) (c i)) ∙ has_own names before own,
         )
 
@@ -152,7 +154,7 @@ module _ (structs : List StructDef) where
       each needs (λ field. type_stands k field.ty) (λ names field. known_in names field.ty) (Known k)
       (λ xs ys within field. known_more xs ys (c_type structs field.ty) within) (known_within k) (field_declares k) def.fields names known h in
       known_append names before (c_definition structs def ∷ []) fields.0
-      (both (list_all (λ (m : CMember). is_known (names ++ names_of before) m.ty) (map (c_field structs) def.fields)) true
+      (and_from (list_all (λ (m : CMember). is_known (names ++ names_of before) m.ty) (map (c_field structs) def.fields)) true
       (list_all-map (λ (m : CMember). is_known (names ++ names_of before) m.ty) (c_field structs) def.fields ∙ fields.1) refl)
 
   -- once a struct is declared, it is known too
@@ -182,13 +184,13 @@ module _ (structs : List StructDef) where
   definitions_known (def ∷ rest) k names same known h =
       let own : List CStruct = structs_for_definition structs def in
       let others : List CStruct = joined (map (structs_for_definition structs) rest) in
-      let stands : struct_stands k def ≡ true = and_left (struct_stands k def) (structs_stand_from (k + 1) rest) h in
-      let fields : list_all (λ (field : Field). type_stands k field.ty) def.fields ≡ true = and_right _ _ (and_right _ _ stands) in
+      let stands : struct_stands k def ≡ true = and_first (struct_stands k def) (structs_stand_from (k + 1) rest) h in
+      let fields : list_all (λ (field : Field). type_stands k field.ty) def.fields ≡ true = and_second _ _ (and_second _ _ stands) in
       let first : are_known names own ≡ true = definition_known k def names known fields in
       let later : (are_known (names ++ names_of own) others ≡ true) × Known ((k + 1) + length rest) ((names ++ names_of own) ++ names_of others) =
       definitions_known rest (k + 1) (names ++ names_of own)
       (λ j. same (suc j) ∙ ap (slice_get structs) (let e : k + suc j ≡ (k + 1) + j = omega arith in e))
-      (known_next k def names (sym (same 0)) known) (and_right (struct_stands k def) (structs_stand_from (k + 1) rest) h) in (
+      (known_next k def names (sym (same 0)) known) (and_second (struct_stands k def) (structs_stand_from (k + 1) rest) h) in (
         known_append names own others first later.0,
         λ j less.
             let lt : j < (k + 1) + length rest = omega arith in
@@ -205,9 +207,9 @@ module _ (structs : List StructDef) where
   units_stand [] earlier h = refl
   units_stand (unit ∷ units) earlier h =
       let own : unit_stands structs earlier unit ≡ true =
-      and_left (unit_stands structs earlier unit) (units_stand_after structs (earlier ++ unit ∷ []) units) h in
-      both (vars_stand unit) (list_all vars_stand units) (and_left (vars_stand unit) _ (and_right _ _ own))
-      (units_stand units (earlier ++ unit ∷ []) (and_right (unit_stands structs earlier unit) _ h))
+      and_first (unit_stands structs earlier unit) (units_stand_after structs (earlier ++ unit ∷ []) units) h in
+      and_from (vars_stand unit) (list_all vars_stand units) (and_first (vars_stand unit) _ (and_second _ _ own))
+      (units_stand units (earlier ++ unit ∷ []) (and_second (unit_stands structs earlier unit) _ h))
 
   unit_known : (unit : UnitDef) (names : List Text) → Known (length structs) names → vars_stand unit ≡ true →
       (are_known names (structs_for_unit structs unit) ≡ true) × (vars_known (names ++ names_of (structs_for_unit structs unit)) unit ≡ true)
@@ -219,7 +221,7 @@ module _ (structs : List StructDef) where
 
   vars_more : (xs ys : List Text) → Within xs ys → (unit : UnitDef) → vars_known xs unit ≡ true → vars_known ys unit ≡ true
   vars_more xs ys within unit h =
-      all_more (λ (var : Var). known_in xs var.ty) (λ (var : Var). known_in ys var.ty) (λ var. known_more xs ys (c_type structs var.ty) within) unit.vars h
+      all_weaker (λ (var : Var). known_in xs var.ty) (λ (var : Var). known_in ys var.ty) (λ var. known_more xs ys (c_type structs var.ty) within) unit.vars h
 
   -- ---- a whole program
 
@@ -249,7 +251,7 @@ module _ (structs : List StructDef) where
 
     pub all_declared : list_all (vars_known (names_of (each_once [] (structs_for structs units)))) units ≡ true
     all_declared =
-        all_more (vars_known (names_of of_definitions ++ names_of of_units)) (vars_known (names_of (each_once [] (structs_for structs units))))
+        all_weaker (vars_known (names_of of_definitions ++ names_of of_units)) (vars_known (names_of (each_once [] (structs_for structs units))))
         (vars_more (names_of of_definitions ++ names_of of_units) (names_of (each_once [] (structs_for structs units)))
         (λ name there. once_has name [] (structs_for structs units) (subst (λ l. has name l ≡ true) (seam [] of_definitions of_units) there)))
         units from_units.1

@@ -4,13 +4,15 @@ use Rattle.std.proofs.lemmas.List.Folds.{list_any-append}
 use Rattle.std.proofs.lemmas.Slice.Eq.{bytes_eq-Decides}
 use Rattle.std.specs.Prelude.{bytes_eq}
 use Rattle.std.specs.List.{list_all}
+use Rattle.std.proofs.lemmas.Bool.{and_from}
+use Rattle.bl_tree.proofs.Basics.{and_first, and_second}
 use Rattle.bl_tree.specs.declared.text.Text.{Text}
 use Rattle.bl_tree.specs.declared.c.CMember.{CMember}
 use Rattle.bl_tree.specs.declared.c.CStruct.{CStruct}
 use Rattle.bl_tree.specs.Words.{are_distinct}
 use Rattle.bl_emit_structs.specs.Structs.{each_once}
 use Rattle.bl_emit_structs_laws_wellformed.specs.Names.{are_known, is_known, names_of}
-use Rattle.bl_emit_structs_laws_wellformed.proofs.OnNames.Known.{and_left, and_right, both, has, has_front, has_last, structs_more, within_again}
+use Rattle.bl_emit_structs_laws_wellformed.proofs.OnNames.Known.{has, has_front, has_last, structs_more, within_again}
 
 abbrev members_known : List Text → CStruct → Bool
 members_known names s = list_all (λ (m : CMember). is_known names m.ty) s.members
@@ -19,10 +21,10 @@ members_known names s = list_all (λ (m : CMember). is_known names m.ty) s.membe
 pub once_known : (taken : List Text) (structs : List CStruct) → are_known taken structs ≡ true → are_known taken (each_once taken structs) ≡ true
 once_known taken [] h = refl
 once_known taken (s ∷ rest) h =
-    let own : members_known taken s ≡ true = and_left (members_known taken s) (are_known (taken ++ s.name ∷ []) rest) h in
-    let later : are_known (taken ++ s.name ∷ []) rest ≡ true = and_right (members_known taken s) (are_known (taken ++ s.name ∷ []) rest) h in
+    let own : members_known taken s ≡ true = and_first (members_known taken s) (are_known (taken ++ s.name ∷ []) rest) h in
+    let later : are_known (taken ++ s.name ∷ []) rest ≡ true = and_second (members_known taken s) (are_known (taken ++ s.name ∷ []) rest) h in
     by (has s.name taken) (λ there. once_known taken rest (structs_more (taken ++ s.name ∷ []) taken rest (within_again taken s.name there) later))
-    (both (members_known taken s) (are_known (taken ++ s.name ∷ []) (each_once (taken ++ s.name ∷ []) rest)) own
+    (and_from (members_known taken s) (are_known (taken ++ s.name ∷ []) (each_once (taken ++ s.name ∷ []) rest)) own
     (once_known (taken ++ s.name ∷ []) rest later)) refl
   where
     by : (b : Bool) → (has s.name taken ≡ true → are_known taken (each_once taken rest) ≡ true)
@@ -102,4 +104,4 @@ once_distinct taken (s ∷ rest) =
     by : (b : Bool) → are_distinct (names_of (each_once taken rest)) ≡ true → are_distinct (names_of (each_once (taken ++ s.name ∷ []) rest)) ≡ true
         → are_distinct (names_of (if b then each_once taken rest else s ∷ each_once (taken ++ s.name ∷ []) rest)) ≡ true
     by true old new = old
-    by false old new = both (not (has s.name (names_of (each_once (taken ++ s.name ∷ []) rest)))) _ (ap not alone) new
+    by false old new = and_from (not (has s.name (names_of (each_once (taken ++ s.name ∷ []) rest)))) _ (ap not alone) new

@@ -10,18 +10,8 @@ use Rattle.bl_tree.specs.declared.tree.Stmt.{Stmt, fold_out-Stmt, out-Stmt}
 use Rattle.bl_tree.specs.declared.tree.StmtKind.{StmtKind, fold-StmtKind, fold_out-StmtKind, map-StmtKind, out-StmtKind}
 use Rattle.bl_tree.specs.declared.tree.StmtKind.TheOpen.{StmtKind-F}
 use Rattle.bl_tree.specs.declared.value.Value.{Value}
-use Rattle.bl_tree.specs.Apart.{
-  Naming,
-  argument_roots,
-  arm_naming,
-  branch_naming,
-  naming_of,
-  optional_roots,
-  roots_in,
-  roots_in_path,
-  stmt_kind_naming,
-  stmt_layer_naming,
-}
+use Rattle.bl_tree.specs.Apart.{Naming, argument_roots, arm_naming, branch_naming, naming_of, optional_roots, roots_in, roots_in_path, stmt_kind_naming}
+use Rattle.bl_tree.specs.Apart.{stmt_layer_naming}
 use Rattle.bl_tree.specs.Effects.{arm_reads, arm_writes, branch_paths, kind_reads, kind_writes, optional_mentions, reads, stmt_set, writes}
 use Rattle.bl_tree.specs.Reduce.{joined}
 use Rattle.bl_tree.specs.Static.{index_mentions, mentions, path_mentions, set_of, static_of, whole}

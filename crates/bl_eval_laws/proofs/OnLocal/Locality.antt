@@ -14,52 +14,16 @@ use Rattle.bl_tree.specs.declared.tree.Ty.{Ty}
 use Rattle.bl_tree.specs.declared.value.Value.{Value}
 use Rattle.bl_tree.specs.Apart.{Roots, expr_layer_roots, kind_roots, part_roots, path_layer_roots, roots_in, roots_in_path}
 use Rattle.bl_tree.specs.Reduce.{joined}
-use Rattle.bl_tree.specs.Static.{
-  Reach,
-  StaticStep,
-  expr_mentions,
-  index_mentions,
-  kind_mentions,
-  leading_fields,
-  mentions,
-  part_step,
-  path_mentions,
-  path_reach,
-  reach_of,
-  static_of,
-  step_of,
-}
+use Rattle.bl_tree.specs.Static.{Reach, StaticStep, expr_mentions, index_mentions, kind_mentions, leading_fields, mentions, part_step, path_mentions}
+use Rattle.bl_tree.specs.Static.{path_reach, reach_of, static_of, step_of}
 use Rattle.bl_tree.specs.Types.{scalar_in}
 use Rattle.bl_tree.proofs.ExprInduction.{Cases, EachIndex, OfIndex, expr, induct, induct_path}
 use Rattle.bl_eval.specs.declared.datum.Datum.{Datum}
 use Rattle.bl_eval.specs.declared.datum.Operand.{Operand}
 use Rattle.bl_eval.specs.Changes.{part_of_path}
-use Rattle.bl_eval.specs.Meaning.{
-  Meaning,
-  PathMeaning,
-  PathPosition,
-  Scope,
-  View,
-  call_datum,
-  cast_datum,
-  datum_of,
-  expr_means,
-  kind_means,
-  meaning_of,
-  one_datum,
-  operand_in,
-  part_means,
-  path_meaning_of,
-  path_means,
-  plain,
-  position_in,
-  positions_of,
-  read_at,
-  reading,
-  scalar_of,
-  two_datum,
-  values_of,
-}
+use Rattle.bl_eval.specs.Meaning.{Meaning, PathMeaning, PathPosition, Scope, View, call_datum, cast_datum, datum_of, expr_means, kind_means, meaning_of}
+use Rattle.bl_eval.specs.Meaning.{one_datum, operand_in, part_means, path_meaning_of, path_means, plain, position_in, positions_of, read_at, reading, scalar_of}
+use Rattle.bl_eval.specs.Meaning.{two_datum, values_of}
 use Rattle.bl_eval.specs.Values.{part_of, value_at}
 use Rattle.bl_eval_laws.specs.Local.{Alike, PathsAreLocal, SameAt, ValuesAreLocal, at_path, seen}
 

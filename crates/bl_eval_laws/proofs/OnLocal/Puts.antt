@@ -1,14 +1,12 @@
 -- A value that is put where two lists of variables are alike leaves them alike.
 use Rattle.std.proofs.Common.{◌≡◌, ℕ, zero, suc, List, [], ◌∷◌, ◌++◌, Option, Some, None, refl, sym, ap, ◌∙◌, subst}
 use Rattle.std.specs.Prelude.{option_map, option_and_then, slice_get, slice_set, ⊤}
+use Rattle.bl_tree.proofs.Basics.{same_some}
 use Rattle.bl_tree.specs.declared.static_path.Static.{Static}
 use Rattle.bl_tree.specs.declared.value.Value.{Value}
 use Rattle.bl_tree.specs.declared.value.Value.TheVariants.{Parts, outs-Parts}
 use Rattle.bl_eval.specs.Values.{parts_at, parts_in, put_at, value_at, with_value_at}
 use Rattle.bl_eval_laws.specs.Local.{Alike, LeftAlike, at_path}
-
-pub some_same : {A : Type 0} (x y : A) → Some x ≡ Some y → x ≡ y
-some_same x y e = cc
 
 -- ---- at one value
 
@@ -70,14 +68,14 @@ opened k fields v mid e = by_parts (parts_in v) refl e
     by_parts None is e = absurd cc
     by_parts (Some all) is e = by_part all is (slice_get all k) refl e
 
-with_opened : (k : ℕ) (ks : List ℕ) (new v : Value) (all : List Value) (old : Value) → parts_in v ≡ Some all → slice_get all k ≡ Some old →
+pub with_opened : (k : ℕ) (ks : List ℕ) (new v : Value) (all : List Value) (old : Value) → parts_in v ≡ Some all → slice_get all k ≡ Some old →
     with_value_at (k ∷ ks) new v ≡ option_map (λ part. Parts (slice_set all k part)) (with_value_at ks new old)
 with_opened k ks new v all old is at =
     ap (λ all. option_and_then (λ all. option_and_then (λ old. option_map (λ part. Parts (slice_set all k part)) (with_value_at ks new old))
     (slice_get all k)) all) is
     ∙ ap (λ old. option_and_then (λ old. option_map (λ part. Parts (slice_set all k part)) (with_value_at ks new old)) old) at
 
-value_in_parts : (j : ℕ) (qs : List ℕ) (v : Value) (all : List Value) → parts_in v ≡ Some all →
+pub value_in_parts : (j : ℕ) (qs : List ℕ) (v : Value) (all : List Value) → parts_in v ≡ Some all →
     value_at (j ∷ qs) v ≡ option_and_then (value_at qs) (slice_get all j)
 value_in_parts j qs v all is = ap (λ all. option_and_then (value_at qs) (option_and_then (λ all. slice_get all j) all)) is
 
@@ -111,10 +109,10 @@ made_alike qs fields k j xs ys x y (Some a) (Some b) at at' h one other =
 
 put_same : (fields rest qs : List ℕ) (new v w : Value) → value_at fields v ≡ value_at fields w → value_at qs v ≡ value_at qs w →
     AfterSame qs (with_value_at (fields ++ rest) new v) (with_value_at (fields ++ rest) new w)
-put_same [] rest qs new v w e h = after_equal qs (with_value_at rest new v) (with_value_at rest new w) (ap (with_value_at rest new) (some_same v w e))
+put_same [] rest qs new v w e h = after_equal qs (with_value_at rest new v) (with_value_at rest new w) (ap (with_value_at rest new) (same_some v w e))
 put_same (k ∷ fields) rest [] new v w e h =
     after_equal [] (with_value_at (k ∷ (fields ++ rest)) new v) (with_value_at (k ∷ (fields ++ rest)) new w)
-    (ap (with_value_at (k ∷ (fields ++ rest)) new) (some_same v w h))
+    (ap (with_value_at (k ∷ (fields ++ rest)) new) (same_some v w h))
 put_same (k ∷ fields) rest (j ∷ qs) new v w e h =
     by_mid (λ qs old old' same there. put_same fields rest qs new old old' same there) (value_at (k ∷ fields) v) refl
   where
@@ -147,7 +145,7 @@ put_same (k ∷ fields) rest (j ∷ qs) new v w e h =
 at_path_is : (now : List Value) (path : Static) → value_at (path.root ∷ path.fields) (Parts now) ≡ at_path now path
 at_path_is now path = value_in_parts path.root path.fields (Parts now) now (parts_of now)
 
-put_is : (root : ℕ) (ks : List ℕ) (new : Value) (now : List Value) →
+pub put_is : (root : ℕ) (ks : List ℕ) (new : Value) (now : List Value) →
     with_value_at (root ∷ ks) new (Parts now) ≡ option_map Parts (put_at root ks new now)
 put_is root ks new now =
     ap (λ all. option_and_then (λ all. option_and_then (λ old. option_map (λ part. Parts (slice_set all root part)) (with_value_at ks new old))

@@ -1,24 +1,5 @@
 -- The data edges between branches of one `cobegin`, by the numbers of nodes.
-use Rattle.std.specs.Prelude.{
-  ◌≡◌,
-  ◌≢◌,
-  ℕ,
-  ◌<◌,
-  ◌≤◌,
-  Bool,
-  true,
-  ◌&&◌,
-  ◌||◌,
-  List,
-  [],
-  ◌∷◌,
-  ◌++◌,
-  All,
-  Contains,
-  Some,
-  slice_get,
-  ◌↔◌,
-}
+use Rattle.std.specs.Prelude.{◌≡◌, ◌≢◌, ℕ, ◌<◌, ◌≤◌, Bool, true, ◌&&◌, ◌||◌, List, [], ◌∷◌, ◌++◌, All, Contains, Some, slice_get, ◌↔◌}
 use Rattle.bl_tree.specs.declared.graph.Edge.{Edge}
 use Rattle.bl_tree.specs.Static.{meets}
 use Rattle.bl_graph.specs.declared.flow.Flow.{Flow}

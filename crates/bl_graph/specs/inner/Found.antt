@@ -1,25 +1,5 @@
 -- Data edges as they are found, branch after branch.
-use Rattle.std.specs.Prelude.{
-  ◌≡◌,
-  ℕ,
-  ◌+◌,
-  ◌-◌,
-  ◌≤◌,
-  Bool,
-  true,
-  List,
-  [],
-  ◌∷◌,
-  ◌++◌,
-  Contains,
-  flat_map,
-  if◌then◌else◌,
-  Option,
-  None,
-  Some,
-  slice_get,
-  ◌↔◌,
-}
+use Rattle.std.specs.Prelude.{◌≡◌, ℕ, ◌+◌, ◌-◌, ◌≤◌, Bool, true, List, [], ◌∷◌, ◌++◌, Contains, flat_map, if◌then◌else◌, Option, None, Some, slice_get, ◌↔◌}
 use Rattle.bl_tree.specs.declared.graph.Edge.{Edge}
 use Rattle.bl_tree.specs.declared.static_path.Static.{Static}
 use Rattle.bl_graph.specs.declared.flow.Flow.{Flow}

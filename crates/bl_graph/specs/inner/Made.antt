@@ -10,36 +10,9 @@ use Rattle.bl_tree.specs.declared.tree.Stmt.{Stmt, roll-Stmt}
 use Rattle.bl_tree.specs.declared.tree.StmtKind.{StmtKind}
 use Rattle.bl_tree.specs.Static.{mentions, set_of}
 use Rattle.bl_graph_nodes.specs.Laws.{plain_arm, plain_branch}
-use Rattle.bl_graph_nodes.specs.Nodes.{
-  DepthJoinAt,
-  ForkAt,
-  Node,
-  SurfaceJoinAt,
-  entry,
-  node_reads,
-  node_writes,
-  nodes_in,
-  nodes_in_each,
-  nodes_of,
-}
-use Rattle.bl_graph_nodes.specs.Plain.{
-  Block,
-  Bodies,
-  Body,
-  Done,
-  If,
-  Label,
-  Last,
-  Plain,
-  Position,
-  Then,
-  bodies_from,
-  else_at,
-  inside,
-  is_empty,
-  plain_block,
-  plain_stmt,
-}
+use Rattle.bl_graph_nodes.specs.Nodes.{DepthJoinAt, ForkAt, Node, SurfaceJoinAt, entry, node_reads, node_writes, nodes_in, nodes_in_each, nodes_of}
+use Rattle.bl_graph_nodes.specs.Plain.{Block, Bodies, Body, Done, If, Label, Last, Plain, Position, Then, bodies_from, else_at, inside, is_empty, plain_block}
+use Rattle.bl_graph_nodes.specs.Plain.{plain_stmt}
 use Rattle.bl_graph.specs.declared.flow.Flow.{Flow}
 use Rattle.bl_graph.specs.declared.flow.Span.{Span}
 use Rattle.bl_graph.specs.declared.part.Branches.{Branches}
@@ -47,19 +20,7 @@ use Rattle.bl_graph.specs.declared.part.Links.{Links}
 use Rattle.bl_graph.specs.declared.part.Out.{Out}
 use Rattle.bl_graph.specs.declared.part.Part.{Part as Made}
 use Rattle.bl_graph.specs.Graph.{graph_node}
-use Rattle.bl_graph.specs.Listed.{
-  Pair,
-  across,
-  edges_in,
-  edges_in_each,
-  edges_of,
-  flows_in,
-  flows_of,
-  resumes_in,
-  resumes_in_each,
-  resumes_of,
-  turn_of,
-}
+use Rattle.bl_graph.specs.Listed.{Pair, across, edges_in, edges_in_each, edges_of, flows_in, flows_of, resumes_in, resumes_in_each, resumes_of, turn_of}
 use Rattle.bl_graph.specs.Marks.{Marked, part_in, part_of, parts_of}
 use Rattle.bl_graph.specs.inner.Flows.{FlowsAdded}
 use Rattle.bl_graph.specs.inner.Parts.{shifted, side_by_side}

@@ -14,19 +14,7 @@ use Rattle.bl_graph.specs.declared.part.Links.{Links}
 use Rattle.bl_graph.specs.declared.part.Out.{Out}
 use Rattle.bl_graph.specs.declared.part.Part.{Part}
 use Rattle.bl_graph.specs.Graph.{edge_between}
-use Rattle.bl_graph.specs.Marks.{
-  Mark,
-  again_by,
-  begun_by,
-  either,
-  entered,
-  inner,
-  join_mark,
-  last_end,
-  leaving,
-  resumed,
-  unreached,
-}
+use Rattle.bl_graph.specs.Marks.{Mark, again_by, begun_by, either, entered, inner, join_mark, last_end, leaving, resumed, unreached}
 
 -- ---- marks
 

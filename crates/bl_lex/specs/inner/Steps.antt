@@ -1,5 +1,6 @@
 -- What the steps of the walk over a text find.
 use Rattle.std.specs.Prelude.{◌≡◌, ◌≢◌, ℕ, ◌^◌, ◌≤◌, min, List, slice_get, slice_range, Some, All, length}
+use Rattle.bl_tree.specs.Keywords.{position}
 use Rattle.bl_tree.specs.declared.token.TokenKind.TheVariants.{Sign}
 use Rattle.bl_lex.specs.declared.piece.Piece.{Piece}
 use Rattle.bl_lex.specs.declared.piece.Form.TheVariants.{Token}
@@ -14,7 +15,7 @@ use Rattle.bl_lex.specs.Tokens.{IsLongest}
 
 -- the word is reserved, and means this
 abbrev pub IsMeaningOf : List ℕ → Meaning → Type 0
-IsMeaningOf word (Keyword k) = slice_get keywords k ≡ Some word
+IsMeaningOf word (Keyword k) = slice_get keywords (position k) ≡ Some word
 IsMeaningOf word Outside = (k : ℕ) × (slice_get words_outside k ≡ Some word)
 
 -- the word is neither a keyword nor outside the profile

@@ -7,24 +7,7 @@ use Rattle.bl_ctree.specs.Control.{Body, Check}
 use Rattle.bl_ctree.specs.Instances.{Setting}
 use Rattle.bl_ctree_laws.specs.Pending.{Deed}
 use Rattle.bl_ctree_laws.specs.Steps.{turn}
-use Rattle.bl_ctree_laws.specs.Trees.{
-  Tree,
-  Trees,
-  Nil,
-  Wait,
-  Test,
-  Idle,
-  Do,
-  Seq,
-  Par,
-  Guard,
-  Run,
-  trees_begun,
-  beside,
-  do_block,
-  no_tree,
-  seq,
-}
+use Rattle.bl_ctree_laws.specs.Trees.{Tree, Trees, Nil, Wait, Test, Idle, Do, Seq, Par, Guard, Run, trees_begun, beside, do_block, no_tree, seq}
 use Rattle.bl_machine_laws.specs.Numbers.Turns as turns
 use Rattle.bl_machine_laws.specs.Numbers.Turns.{AnsweredDeed, InstancePoint, OneTurns, Turns}
 use Rattle.bl_machine_laws.specs.Numbers.Waiting.{Sleeps, SomeSleeps, SomeWaits, Waits, first_in}
@@ -51,17 +34,17 @@ mutual
 
 -- ---- nothing sleeps in what begins
 
-block_awake : (body : Block) (y : Node) → Sleeps (do_block body) y → ⊥
+pub block_awake : (body : Block) (y : Node) → Sleeps (do_block body) y → ⊥
 block_awake Done y h = h
 block_awake (Then s Done) y h = h
 block_awake (Then s (Then t rest)) y h = h
 
-begun_awake : (bodies : Bodies) (y : Node) → SomeSleeps (trees_begun bodies) y → ⊥
+pub begun_awake : (bodies : Bodies) (y : Node) → SomeSleeps (trees_begun bodies) y → ⊥
 begun_awake Last y h = h
 begun_awake (BodyOf weak body rest) y (inl h) = block_awake body y h
 begun_awake (BodyOf weak body rest) y (inr h) = begun_awake rest y h
 
-seq_sleeps : (c : Tree) (s : Plain) (rest : Block) (y : Node) → Sleeps (seq c (Then s rest)) y → Sleeps c y
+pub seq_sleeps : (c : Tree) (s : Plain) (rest : Block) (y : Node) → Sleeps (seq c (Then s rest)) y → Sleeps c y
 seq_sleeps Nil s rest y h = block_awake (Then s rest) y h
 seq_sleeps (Wait p) s rest y h = h
 seq_sleeps (Test p) s rest y h = h

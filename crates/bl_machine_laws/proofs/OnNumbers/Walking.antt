@@ -1,22 +1,5 @@
 -- Turns are steps one after another, and what has a turn waits for it.
-use Rattle.std.proofs.Common.{
-  ◌≡◌,
-  ℕ,
-  Bool,
-  false,
-  List,
-  [],
-  ◌∷◌,
-  ◌++◌,
-  Option,
-  Some,
-  None,
-  inl,
-  inr,
-  refl,
-  sym,
-  subst,
-}
+use Rattle.std.proofs.Common.{◌≡◌, ℕ, Bool, false, List, [], ◌∷◌, ◌++◌, Option, Some, None, inl, inr, refl, sym, subst}
 use Rattle.bl_graph_nodes.specs.Nodes.{Node}
 use Rattle.bl_graph_nodes.specs.Plain.{Block, Done, Plain, Then}
 use Rattle.bl_graph_nodes.specs.Steps as labels
@@ -26,29 +9,12 @@ use Rattle.bl_ctree.specs.Instances.{Setting}
 use Rattle.bl_ctree_laws.specs.Pending.{Deed}
 use Rattle.bl_ctree_laws.specs.Steps as moves
 use Rattle.bl_ctree_laws.specs.Steps.{Anyway, Moves, OneMoves}
-use Rattle.bl_ctree_laws.specs.Trees.{
-  Call,
-  Fork,
-  Tree,
-  Trees,
-  Watch,
-  Nil,
-  Wait,
-  Test,
-  Idle,
-  Do,
-  Seq,
-  Par,
-  Guard,
-  Run,
-  beside,
-  followed,
-  seq,
-}
+use Rattle.bl_ctree_laws.specs.Trees.{Call, Fork, Tree, Trees, Watch, Nil, Wait, Test, Idle, Do, Seq, Par, Guard, Run, beside, followed, seq}
 use Rattle.bl_machine_laws.specs.Numbers.Steps.{Walks, on, stay}
 use Rattle.bl_machine_laws.specs.Numbers.Turns as turns
 use Rattle.bl_machine_laws.specs.Numbers.Turns.{AnsweredDeed, InstancePoint, OneTurns, Passes, Turns}
 use Rattle.bl_machine_laws.specs.Numbers.Waiting.{SomeWaits, Waits, first_in}
+use Rattle.bl_ctree_laws.proofs.Diamond.{seq_done}
 
 -- ---- steps that follow one another
 
@@ -74,18 +40,6 @@ seq_open (Seq c after) rest unended = refl
 seq_open (Par s stood branches) rest unended = refl
 seq_open (Guard s phase stood c) rest unended = refl
 seq_open (Run s callee phase stood c) rest unended = refl
-
--- nothing follows
-seq_done : (c : Tree) → seq c Done ≡ c
-seq_done Nil = refl
-seq_done (Wait s) = refl
-seq_done (Test s) = refl
-seq_done (Idle body) = refl
-seq_done (Do s) = refl
-seq_done (Seq c after) = refl
-seq_done (Par s stood branches) = refl
-seq_done (Guard s phase stood c) = refl
-seq_done (Run s callee phase stood c) = refl
 
 nil_stays : {T : Bool → Type 0} {w : Setting} {i : ℕ} {d : Bool} {a : Deed} {n : StepLabel} {c' : Tree} → Moves T w i Nil d a n c' → ⊥
 nil_stays m = elim m [ ]

@@ -1,38 +1,8 @@
 -- A body that is laid out from counter 0 on takes its width of counters.
-use Rattle.std.proofs.Common.{
-  ◌≡◌,
-  ℕ,
-  suc,
-  ◌+◌,
-  ◌<◌,
-  ◌≤◌,
-  max,
-  List,
-  [],
-  ◌∷◌,
-  ◌++◌,
-  ◌⊎◌,
-  ⊎_elim,
-  map,
-  refl,
-  ap,
-  sym,
-  subst,
-  ◌∙◌,
-  arith,
-}
+use Rattle.std.proofs.Common.{◌≡◌, ℕ, suc, ◌+◌, ◌<◌, ◌≤◌, max, List, [], ◌∷◌, ◌++◌, ◌⊎◌, ⊎_elim, map, refl, ap, sym, subst, ◌∙◌, arith}
 use Rattle.std.specs.Prelude.{All, Contains}
 use Rattle.std.proofs.lemmas.Bool.{cases_lt}
-use Rattle.std.proofs.lemmas.List.Elements.{
-  All-append,
-  All-cons,
-  All-head,
-  All-nil,
-  All-tail,
-  All-weaker,
-  Contains-append_left,
-  Contains-append_right,
-}
+use Rattle.std.proofs.lemmas.List.Elements.{All-append, All-cons, All-head, All-nil, All-tail, All-weaker, Contains-append_left, Contains-append_right}
 use Rattle.bl_tree.specs.declared.place.Place.{Place}
 use Rattle.bl_tree.specs.declared.tree.Arm.{Arm, out-Arm, fold-Arm, fold_out-Arm}
 use Rattle.bl_tree.specs.declared.tree.Branch.{Branch, out-Branch, fold-Branch, fold_out-Branch}
@@ -43,52 +13,19 @@ use Rattle.bl_tree.specs.Reduce.{greatest, total}
 use Rattle.bl_tree.proofs.StmtInduction.{Cases, Each, EachArm, EachBranch, induct, stmt}
 use Rattle.bl_effects.specs.Surface.{arm_width, branch_width, kind_width, stmt_layer_width, stmt_width, width}
 use Rattle.bl_graph_nodes.specs.Laws.{PlainStatements, plain_arm, plain_branch}
-use Rattle.bl_graph_nodes.specs.Plain.{
-  Act,
-  Again,
-  Await,
-  Block,
-  Bodies,
-  Body,
-  Cobegin,
-  Done,
-  If,
-  Label,
-  Last,
-  Plain,
-  Position,
-  Repeat,
-  Run,
-  Then,
-  Until,
-  When,
-  While,
-  block_from,
-  bodies_from,
-  else_at,
-  inside,
-  label_at,
-  passed_one,
-  plain_block,
-  plain_body,
-  plain_stmt,
-}
+use Rattle.bl_graph_nodes.specs.Plain.{Act, Again, Await, Block, Bodies, Body, Cobegin, Done, If, Label, Last, Plain, Position, Repeat, Run, Then, Until, When}
+use Rattle.bl_graph_nodes.specs.Plain.{While, block_from, bodies_from, else_at, inside, label_at, passed_one, plain_block, plain_body, plain_stmt}
 use Rattle.bl_machine.specs.Layout.{counters_in, counters_in_each, counters_of, width_in, width_in_each, width_of}
 use Rattle.bl_machine_laws.specs.Numbers.Width.{TakesItsWidth}
+use Rattle.bl_machine.proofs.Laying.{max_apart, max_none}
 
 -- ---- the width of a body is that of its plain statements
 
 abbrev Same : Stmt → Type 0
 Same s = (at : Position) → width_of (plain_stmt s at) ≡ stmt_width s
 
-max_none : (n : ℕ) → max n 0 ≡ n
-max_none n = omega arith
-
 none_max : (n : ℕ) → n ≡ max 0 n
 none_max n = omega arith
-
-max_apart : (a b c : ℕ) → max (max a b) c ≡ max a (max b c)
-max_apart a b c = omega arith
 
 max_self : (n : ℕ) → max n n ≡ max 0 n
 max_self n = omega arith

@@ -2,7 +2,8 @@
 use Rattle.std.proofs.Common.{◌≡◌, ◌⊎◌, inl, inr, ℕ, ◌≤◌, Bool, true, false, not, ◌&&◌, List, [], ◌∷◌}
 use Rattle.std.proofs.Common.{◌++◌, Some, refl, ap, ◌∙◌, subst, arith}
 use Rattle.std.specs.Prelude.{unwrap_or}
-use Rattle.bl_graph_nodes.specs.Nodes.{Node, place_of_node}
+use Rattle.bl_tree.proofs.Basics.{true_false_any}
+use Rattle.bl_graph_nodes.specs.Nodes.{Node}
 use Rattle.bl_graph_nodes.specs.Steps.{Gives, Here, Inside, StepLabel, run_node}
 use Rattle.bl_ctree.specs.Control.{Body}
 use Rattle.bl_ctree.specs.Instances.{Setting, callee_of}
@@ -14,10 +15,10 @@ use Rattle.bl_ctree_laws.specs.Steps.{Anyway, Moves}
 use Rattle.bl_ctree_laws.specs.Trees.{Call, Tree, Nil, Run, is_nil, is_settled}
 use Rattle.bl_ctree_laws_traces.specs.Ready.Ranks.{Lower, ranks_in}
 use Rattle.bl_machine_laws.specs.Numbers.Turns.{AnsweredDeed}
-use Rattle.bl_machine_laws.proofs.OnWaiting.Quiet.{differ}
 use Rattle.bl_machine_laws.specs.Passes.Low.{LowSteps, LowTrap, Lowest, on, stay}
 use Rattle.bl_machine_laws.proofs.OnPasses.Holes.{Has, Hole, fill, hole_moves, lift_moves, this_has}
-use Rattle.bl_machine_laws.proofs.OnPasses.Numbers.{not_less}
+use Rattle.bl_ctree_laws_traces.proofs.OnProgress.Waiting.{run_place}
+use Rattle.bl_ctree_laws_traces.proofs.OnReady.Before.{not_itself}
 
 -- ---- lists of lowest steps
 
@@ -45,10 +46,6 @@ trap_after {done = done} steps trap = record {
 
 -- ---- numbers
 
-run_place : (stood : Bool) (s : Call) → place_of_node (run_node stood s.label s.place s.arguments) ≡ s.place
-run_place true s = refl
-run_place false s = refl
-
 -- what is inside a call has the numbers of the callee after that of the call
 inside_ranks : (w : Setting) (rank : ℕ → Node → ℕ) (i : ℕ) (s : Call) (stood : Bool) (callee : ℕ) (step : StepLabel) →
     callee_of w i s.place ≡ Some callee →
@@ -63,12 +60,12 @@ nothing_lower ys low = elim low [ ]
 
 -- where the first numbers are the same the rest decides
 rest_lower : (x : ℕ) (xs ys : List ℕ) → Lower (x ∷ xs) (x ∷ ys) → Lower xs ys
-rest_lower x xs ys (inl lt) = not_less x lt
+rest_lower x xs ys (inl lt) = not_itself x lt
 rest_lower x xs ys (inr low) = low.1
 
 -- one number that is no less than the first isn't lower
 pub one_not_lower : {A : Type 0} (x y : ℕ) (ys : List ℕ) → y ≤ x → Lower (x ∷ []) (y ∷ ys) → A
-one_not_lower x y ys most (inl lt) = not_less x (omega arith)
+one_not_lower x y ys most (inl lt) = not_itself x (omega arith)
 one_not_lower x y ys most (inr low) = nothing_lower ys low.1
 
 -- ---- what acts in a call
@@ -80,7 +77,7 @@ module _ {w : Setting} {i : ℕ} where
   run_inner : {d : Bool} {a : Deed} {n : StepLabel} {c' : Tree} {s : Call} {callee : ℕ} {stood : Bool} {c : Tree} →
       is_settled c ≡ false → Moves Anyway w i (Run s callee Body stood c) d a n c' →
       (step : StepLabel) × (n ≡ Inside (run_node stood s.label s.place s.arguments) s.unit step) × Has w callee c step
-  run_inner moving moves.run_ends = differ true refl moving
+  run_inner moving moves.run_ends = true_false_any true refl moving
   run_inner moving (moves.in_run {n = step} move) = (step, refl, this_has move)
 
   end_inner : {d : Bool} {a : Deed} {n : StepLabel} {c' : Tree} {s : Call} {callee : ℕ} {stood : Bool} →

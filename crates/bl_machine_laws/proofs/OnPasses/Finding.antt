@@ -1,84 +1,34 @@
 -- What waits first can act: where it stands in its tree.
 use Rattle.std.proofs.Common.{◌≡◌, inl, inr, ℕ, ◌<◌, ◌≤◌, Bool, true, false, not, ◌&&◌, ◌||◌, List, Option}
 use Rattle.std.proofs.Common.{Some, None, refl, sym, ap, ◌∙◌, subst, arith}
+use Rattle.bl_tree.proofs.Basics.{and_first, and_second, true_false_any}
 use Rattle.bl_tree.specs.declared.place.Place.{Place as Source}
 use Rattle.bl_tree.specs.declared.tree.Expr.{Expr}
 use Rattle.bl_tree.specs.declared.tree.Path.{Path}
 use Rattle.bl_tree.specs.declared.tree.Unit.{Unit as UnitDef}
 use Rattle.bl_graph_nodes.specs.Nodes.{Node, entry, is_instant}
-use Rattle.bl_graph_nodes.specs.Plain.{
-  Act,
-  Again,
-  Await,
-  Bodies,
-  Block,
-  Body as BodyOf,
-  Cobegin,
-  Done,
-  If,
-  Label,
-  Last,
-  Plain,
-  Repeat,
-  Run as RunOf,
-  Then,
-  Until,
-  When,
-  While,
-  plain_body,
-}
+use Rattle.bl_graph_nodes.specs.Plain.{Act, Again, Await, Bodies, Block, Body as BodyOf, Cobegin, Done, If, Label, Last, Plain, Repeat, Run as RunOf, Then}
+use Rattle.bl_graph_nodes.specs.Plain.{Until, When, While, plain_body}
 use Rattle.bl_graph_nodes.specs.Steps.{end_node, join_node, run_node}
 use Rattle.bl_graph.specs.Edges.{EdgeEach, In}
 use Rattle.bl_graph.specs.Walks.{Rises}
 use Rattle.bl_ctree.specs.Control.{Body, Check}
 use Rattle.bl_ctree.specs.Instances.{Setting, callee_of, unit_at}
-use Rattle.bl_ctree_laws.specs.Trees.{
-  Call,
-  Fork,
-  Tree,
-  Trees,
-  Watch,
-  Nil,
-  Wait,
-  Test,
-  Idle,
-  Do,
-  Seq,
-  Par,
-  Guard,
-  Run,
-  are_done,
-  are_settled,
-  beside,
-  is_nil,
-  is_settled,
-  no_tree,
-  seq,
-  strong_ended,
-}
+use Rattle.bl_ctree_laws.specs.Trees.{Call, Fork, Tree, Trees, Watch, Nil, Wait, Test, Idle, Do, Seq, Par, Guard, Run, are_done, are_settled, beside, is_nil}
+use Rattle.bl_ctree_laws.specs.Trees.{is_settled, no_tree, seq, strong_ended}
 use Rattle.bl_ctree_laws_traces.specs.Progress.FitsGraph.{AllFitGraph, FitsGraph, fork_stmt}
 use Rattle.bl_ctree_laws_traces.specs.Progress.Places.{Place, ahead_of, guarded, in_branch, later_on, whole}
 use Rattle.bl_machine_laws.specs.Numbers.Waiting.{SomeWaits, Waits, check_of}
-use Rattle.bl_machine_laws.proofs.OnWaiting.Fresh.{done_strong, is_weak}
-use Rattle.bl_machine_laws.proofs.OnWaiting.Quiet.{after_closed, and_first, and_second, differ, done_ends, in_part, part_closed, something_waits}
+use Rattle.bl_machine_laws.proofs.OnWaiting.Fresh.{is_weak}
+use Rattle.bl_machine_laws.proofs.OnWaiting.Quiet.{after_closed, in_part, part_closed, something_waits}
 use Rattle.bl_machine_laws.specs.Passes.Steady.{AllSteady, Steady}
-use Rattle.bl_machine_laws.proofs.OnPasses.Holes.{
-  Hole,
-  Holes,
-  fill,
-  fill_one,
-  in_block,
-  in_fork,
-  in_watch,
-  next,
-  seq_is,
-  this,
-  top,
-  unsettled_open,
-}
-use Rattle.bl_machine_laws.proofs.OnPasses.Numbers.{after_rises, not_less}
+use Rattle.bl_machine_laws.proofs.OnPasses.Holes.{Hole, Holes, fill, fill_one, in_block, in_fork, in_watch, next, seq_is, this, top, unsettled_open}
+use Rattle.bl_machine_laws.proofs.OnPasses.Numbers.{after_rises}
 use Rattle.bl_machine_laws.proofs.OnPasses.Points.{Simple, begins, checks, closes, joins, tests}
 use Rattle.bl_machine_laws.proofs.OnPasses.Steadying.{steady_passed}
+use Rattle.bl_ctree_laws.proofs.Less.{done_join, done_unsettled}
+use Rattle.bl_ctree_laws_traces.proofs.OnProgress.Leading.{done_strong}
+use Rattle.bl_ctree_laws_traces.proofs.OnReady.Before.{not_itself}
 
 -- ---- trees that act at a node
 
@@ -92,16 +42,12 @@ pub data Ready (w : Setting) (i : ℕ) : Tree → Node → Type 0 where
       FitsGraph w callee c (whole stood (plain_body unit.body)) → Steady c →
       Ready w i (Run s callee Check stood c) (run_node stood s.label s.place s.arguments)
 
-settled_free : (a b : Bool) → b ≡ true → (a && not b) ≡ false
-settled_free true b e = ap not e
-settled_free false b e = refl
-
 pub ready_left : {w : Setting} {i : ℕ} {t : Tree} {n : Node} → Ready w i t n → is_settled t ≡ false
 ready_left (simple (begins e)) = refl
 ready_left (simple tests) = refl
 ready_left (simple checks) = refl
 ready_left (simple closes) = refl
-ready_left (simple (joins {branches = branches} settled done)) = settled_free (are_settled branches) (are_done branches) done
+ready_left (simple (joins {branches = branches} settled done)) = done_unsettled (are_settled branches) (are_done branches) done
 ready_left (calls called is) = refl
 ready_left (copies called is live steady) = refl
 
@@ -139,14 +85,14 @@ module _ {w : Setting} {i : ℕ} where
   found_end : (s : Watch) (stood : Bool) (c : Tree) (n : Node) → is_nil c ≡ true → Waits c (Some (end_node stood s.label s.place)) n →
       Found w i (Guard s Body stood c) n
   found_end s stood Nil n e h = here _ h (simple closes)
-  found_end s stood (Wait p) n e h = differ false e refl
-  found_end s stood (Test p) n e h = differ false e refl
-  found_end s stood (Idle body) n e h = differ false e refl
-  found_end s stood (Do p) n e h = differ false e refl
-  found_end s stood (Seq c rest) n e h = differ false e refl
-  found_end s stood (Par p before branches) n e h = differ false e refl
-  found_end s stood (Guard p phase before c) n e h = differ false e refl
-  found_end s stood (Run p callee phase before c) n e h = differ false e refl
+  found_end s stood (Wait p) n e h = true_false_any false e refl
+  found_end s stood (Test p) n e h = true_false_any false e refl
+  found_end s stood (Idle body) n e h = true_false_any false e refl
+  found_end s stood (Do p) n e h = true_false_any false e refl
+  found_end s stood (Seq c rest) n e h = true_false_any false e refl
+  found_end s stood (Par p before branches) n e h = true_false_any false e refl
+  found_end s stood (Guard p phase before c) n e h = true_false_any false e refl
+  found_end s stood (Run p callee phase before c) n e h = true_false_any false e refl
 
   -- where its body has ended or not
   found_watch : (s : Watch) (stood : Bool) (c : Tree) (n : Node) → Waits c (Some (end_node stood s.label s.place)) n →
@@ -208,7 +154,7 @@ late_first w i g stood instant weak c branches weak' body rest l at instantly li
 late : (w : Setting) (i : ℕ) (g : Place) (stood instant : Bool) (branches : Trees) (bodies : Bodies) (l : Label) (at : Source) →
     (stood ≡ false → instant ≡ true) → AllFitGraph w i branches bodies stood g → AllSteady branches → strong_ended branches ≡ true →
     are_settled branches ≡ false → Late branches (EdgeEach bodies l at instant) (join_node stood l at)
-late w i g stood instant no_tree bodies l at instantly live steady ended left = differ true refl left
+late w i g stood instant no_tree bodies l at instantly live steady ended left = true_false_any true refl left
 late w i g stood instant (beside weak c branches) Last l at instantly live steady ended left = absurd live
 late w i g stood instant (beside weak c branches) (BodyOf weak' body rest) l at instantly live steady ended left =
     late_first w i g stood instant weak c branches weak' body rest l at instantly live steady.0
@@ -230,7 +176,7 @@ module _ {w : Setting} (number : Node → ℕ) where
     where
       before : are_settled branches ≡ false → ⊥
       before left =
-          let some = late w i g stood (is_instant (fork_stmt s)) branches s.bodies s.label s.place (live.1.joins (done_ends branches done)).0 live.0 steady
+          let some = late w i g stood (is_instant (fork_stmt s)) branches s.bodies s.label s.place (live.1.joins (done_join branches done)).0 live.0 steady
           (done_strong branches done) left in
           let less : number some.node < number (join_node stood s.label s.place) =
           up some.node (join_node stood s.label s.place) (live.1.fits.edges some.node (join_node stood s.label s.place) some.edge) in
@@ -245,7 +191,7 @@ module _ {w : Setting} (number : Node → ℕ) where
   mutual
     pub find : {i : ℕ} (g : Place) (c : Tree) (follows : Option Node) (n : Node) → FitsGraph w i c g → Steady c → Rises number g.edges →
         is_nil c ≡ false → Waits c follows n → IsFirst number c follows n → Found w i c n
-    find g Nil follows n live steady up unended h first = differ true refl unended
+    find g Nil follows n live steady up unended h first = true_false_any true refl unended
     find g (Wait s) follows n live steady up unended h first = absurd h
     find g (Test s) follows n live steady up unended h first = here (Test s) h (simple tests)
     find g (Idle body) follows n live steady up unended h first = absurd h
@@ -270,10 +216,10 @@ module _ {w : Setting} (number : Node → ℕ) where
     find g (Guard s Check stood c) follows n live steady up unended (inl h) first = here (Guard s Check stood c) h (simple checks)
     find {i} g (Guard s Check stood c) follows n live steady up unended (inr h) first =
         let after = in_part w i (later_on (guarded s g)) c (Some (end_node stood s.label s.place)) n live.0 after_closed
-        (λ nil. differ (is_nil c) nil live.1.unended) h in
+        (λ nil. true_false_any (is_nil c) nil live.1.unended) h in
         let less : number (check_of s) < number n = after_rises number up after in
         let most : number n ≤ number (check_of s) = first (check_of s) (inl refl) in
-        not_less (number n) (omega arith)
+        not_itself (number n) (omega arith)
     find g (Run s callee Body stood c) follows n live steady up unended h first = absurd h
     find g (Run s callee Check stood c) follows n live steady up unended h first =
         here (Run s callee Check stood c) h (copies live.2.called live.2.is live.1 steady)

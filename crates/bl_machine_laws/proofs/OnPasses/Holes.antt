@@ -1,23 +1,6 @@
 -- A tree with a place for another in it, which may act there.
-use Rattle.std.proofs.Common.{
-  ◌≡◌,
-  ◌⊎◌,
-  inl,
-  inr,
-  ⊎_elim,
-  ℕ,
-  Bool,
-  true,
-  false,
-  not,
-  ◌&&◌,
-  List,
-  refl,
-  sym,
-  ap,
-  ◌∙◌,
-  subst,
-}
+use Rattle.std.proofs.Common.{◌≡◌, ◌⊎◌, inl, inr, ⊎_elim, ℕ, Bool, true, false, not, ◌&&◌, List, refl, sym, ap, ◌∙◌, subst}
+use Rattle.bl_tree.proofs.Basics.{second_false, true_false_any}
 use Rattle.bl_graph_nodes.specs.Nodes.{Node}
 use Rattle.bl_graph_nodes.specs.Plain.{Block, Plain, Then}
 use Rattle.bl_graph_nodes.specs.Steps.{StepLabel}
@@ -27,33 +10,13 @@ use Rattle.bl_ctree.specs.Store.{Store}
 use Rattle.bl_ctree_laws.specs.Pending.{Deed}
 use Rattle.bl_ctree_laws.specs.Steps as moves
 use Rattle.bl_ctree_laws.specs.Steps.{Anyway, Moves, OneMoves}
-use Rattle.bl_ctree_laws.specs.Trees.{
-  Fork,
-  Tree,
-  Trees,
-  Watch,
-  Nil,
-  Wait,
-  Test,
-  Idle,
-  Do,
-  Seq,
-  Par,
-  Guard,
-  Run,
-  are_done,
-  are_settled,
-  beside,
-  is_nil,
-  is_settled,
-  seq,
-}
+use Rattle.bl_ctree_laws.specs.Trees.{Fork, Tree, Trees, Watch, Nil, Wait, Test, Idle, Do, Seq, Par, Guard, Run, are_done, are_settled, beside, is_nil}
+use Rattle.bl_ctree_laws.specs.Trees.{is_settled, seq}
 use Rattle.bl_machine_laws.specs.Numbers.Turns as turns
 use Rattle.bl_machine_laws.specs.Numbers.Turns.{AnsweredDeed, OneTurns, Turns}
 use Rattle.bl_machine_laws.specs.Passes.Follows as follows
 use Rattle.bl_machine_laws.specs.Passes.Follows.{OneTurnSteps, OneTurnTraps, TurnSteps, TurnTraps}
-use Rattle.bl_machine_laws.proofs.OnWaiting.Fresh.{seq_open}
-use Rattle.bl_machine_laws.proofs.OnWaiting.Quiet.{differ}
+use Rattle.bl_ctree_laws_traces.proofs.OnProgress.Beginning.{seq_unended}
 
 mutual
   -- what stands around a tree that may act
@@ -82,7 +45,7 @@ abbrev mutual
 -- ---- what has not ended, and what is not settled
 
 pub seq_is : (c : Tree) (s : Plain) (rest : Block) → is_nil c ≡ false → seq c (Then s rest) ≡ Seq c (Then s rest)
-seq_is Nil s rest e = differ true refl e
+seq_is Nil s rest e = true_false_any true refl e
 seq_is (Wait p) s rest e = refl
 seq_is (Test p) s rest e = refl
 seq_is (Idle body) s rest e = refl
@@ -93,7 +56,7 @@ seq_is (Guard p phase stood c) s rest e = refl
 seq_is (Run p callee phase stood c) s rest e = refl
 
 pub unsettled_open : (c : Tree) → is_settled c ≡ false → is_nil c ≡ false
-unsettled_open Nil e = differ true refl e
+unsettled_open Nil e = true_false_any true refl e
 unsettled_open (Wait p) e = refl
 unsettled_open (Test p) e = refl
 unsettled_open (Idle body) e = refl
@@ -103,13 +66,9 @@ unsettled_open (Par p stood branches) e = refl
 unsettled_open (Guard p phase stood c) e = refl
 unsettled_open (Run p callee phase stood c) e = refl
 
-and_false : (a b : Bool) → b ≡ false → (a && b) ≡ false
-and_false true b e = e
-and_false false b e = refl
-
 pub fill_open : (h : Hole) (t : Tree) → is_nil t ≡ false → is_nil (fill h t) ≡ false
 fill_open top t e = e
-fill_open (in_block h s rest) t e = seq_open (fill h t) s rest
+fill_open (in_block h s rest) t e = seq_unended (fill h t) s rest
 fill_open (in_fork s stood hs) t e = refl
 fill_open (in_watch s stood h) t e = refl
 
@@ -123,7 +82,7 @@ mutual
 
   fill_one_left : (hs : Holes) (t : Tree) → is_settled t ≡ false → are_settled (fill_one hs t) ≡ false
   fill_one_left (this weak h others) t e = ap (λ b. b && are_settled others) (fill_left h t e)
-  fill_one_left (next weak c hs) t e = and_false (is_settled c) (are_settled (fill_one hs t)) (fill_one_left hs t e)
+  fill_one_left (next weak c hs) t e = second_false (is_settled c) (are_settled (fill_one hs t)) (fill_one_left hs t e)
 
 -- ---- what acts in the place acts in the whole tree
 
@@ -216,12 +175,12 @@ module _ {w : Setting} {i : ℕ} where
 
   par_inner : {d : Bool} {a : Deed} {n : StepLabel} {c' : Tree} {s : Fork} {stood : Bool} {branches : Trees} →
       are_settled branches ≡ false → Moves Anyway w i (Par s stood branches) d a n c' → HasOne w i branches n
-  par_inner {branches = branches} moving (moves.joins settled done) = differ (are_settled branches) settled moving
+  par_inner {branches = branches} moving (moves.joins settled done) = true_false_any (are_settled branches) settled moving
   par_inner moving (moves.in_par move) = one_has move
 
   guard_inner : {d : Bool} {a : Deed} {n : StepLabel} {c' : Tree} {s : Watch} {stood : Bool} {c : Tree} → is_settled c ≡ false →
       Moves Anyway w i (Guard s Body stood c) d a n c' → Has w i c n
-  guard_inner moving moves.guard_ends = differ true refl moving
+  guard_inner moving moves.guard_ends = true_false_any true refl moving
   guard_inner moving (moves.in_guard move) = this_has move
 
   -- of the first branch or of another

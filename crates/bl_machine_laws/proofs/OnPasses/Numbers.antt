@@ -2,29 +2,13 @@
 use Rattle.std.proofs.Common.{◌≡◌, ◌⊎◌, inl, inr, ⊎_elim, ℕ, zero, suc, ◌+◌, ◌<◌, ◌≤◌, Bool, true, false, List}
 use Rattle.std.proofs.Common.{[], ◌∷◌, Option, Some, None, refl, ap, arith}
 use Rattle.std.specs.Prelude.{Contains}
+use Rattle.bl_tree.proofs.Basics.{true_false_any}
 use Rattle.bl_graph_nodes.specs.Nodes.{Node, entry}
 use Rattle.bl_graph_nodes.specs.Steps.{end_node, join_node, run_node}
 use Rattle.bl_graph.specs.Walks.{After, Rises, Walk, on, stay}
 use Rattle.bl_ctree.specs.Control.{Body, Check}
-use Rattle.bl_ctree_laws.specs.Trees.{
-  Fork,
-  Tree,
-  Trees,
-  Nil,
-  Wait,
-  Test,
-  Idle,
-  Do,
-  Seq,
-  Par,
-  Guard,
-  Run,
-  are_done,
-  beside,
-  no_tree,
-}
+use Rattle.bl_ctree_laws.specs.Trees.{Fork, Tree, Trees, Nil, Wait, Test, Idle, Do, Seq, Par, Guard, Run, are_done, beside, no_tree}
 use Rattle.bl_machine_laws.specs.Numbers.Waiting.{SomeWaits, Waits, check_of, first_in, test_of}
-use Rattle.bl_machine_laws.proofs.OnWaiting.Quiet.{differ}
 
 -- ---- numbers
 
@@ -43,18 +27,6 @@ numbers (suc x) (suc y) = by_rest (numbers x y)
     by_rest (less lt) = less (omega arith)
     by_rest (equal is) = equal (ap suc is)
     by_rest (more lt) = more (omega arith)
-
-pub not_less : {A : Type 0} (x : ℕ) → x < x → A
-not_less x lt = absurd (omega arith)
-
--- no greater, and another
-pub lesser : (x y : ℕ) → x ≤ y → (x ≡ y → ⊥) → x < y
-lesser x y most other = by_case (numbers x y)
-  where
-    by_case : Numbers x y → x < y
-    by_case (less lt) = lt
-    by_case (equal is) = absurd (other is)
-    by_case (more lt) = absurd (omega arith)
 
 -- numbers don't fall along a walk
 pub at_most : {E : Node → Node → Type 0} {n m : Node} (number : Node → ℕ) → Rises number E → Walk E n m → number n ≤ number m
@@ -119,7 +91,7 @@ joined number s stood branches = by_end (are_done branches) refl
     by_end : (b : Bool) → are_done branches ≡ b → Least number (λ y. (are_done branches ≡ true) × (y ≡ join_node stood s.label s.place))
     by_end true e = least (join_node stood s.label s.place) (e, refl)
         (λ y h. let same : number y ≡ number (join_node stood s.label s.place) = ap number h.1 in omega arith)
-    by_end false e = nothing (λ n h. differ (are_done branches) h.0 e)
+    by_end false e = nothing (λ n h. true_false_any (are_done branches) h.0 e)
 
 mutual
   -- the least of what waits in a tree

@@ -1,45 +1,21 @@
 -- Numbers that rise and tell nodes apart: an order of the tick graph, and among nodes of one number their places in the body.
-use Rattle.std.proofs.Common.{
-  ◌≡◌,
-  ℕ,
-  zero,
-  suc,
-  ◌+◌,
-  ◌<◌,
-  ◌≤◌,
-  Bool,
-  true,
-  false,
-  ◌&&◌,
-  List,
-  [],
-  ◌∷◌,
-  Option,
-  Some,
-  None,
-  length,
-  refl,
-  sym,
-  ap,
-  ◌∙◌,
-  subst,
-  arith,
-  eq-eqb,
-  eqb-true,
-}
+use Rattle.std.proofs.Common.{◌≡◌, ℕ, zero, suc, ◌+◌, ◌<◌, ◌≤◌, Bool, true, false, ◌&&◌, List, [], ◌∷◌, Option, Some, None, length, refl, sym, ap, ◌∙◌, subst}
+use Rattle.std.proofs.Common.{arith, eq-eqb, eqb-true}
 use Rattle.std.specs.Prelude.{Contains, nat_eq, slice_get, if◌then◌else◌}
 use Rattle.std.proofs.lemmas.Option.{slice_get_within}
+use Rattle.std.proofs.lemmas.Bool.{and_from}
+use Rattle.bl_tree.proofs.Basics.{and_first, and_second}
 use Rattle.bl_tree.specs.declared.tree.Stmt.{Stmt}
 use Rattle.bl_tree.specs.declared.tree.Unit.{Unit as UnitDef}
 use Rattle.bl_graph_nodes.specs.Nodes.{Node, label_of, nodes_in}
 use Rattle.bl_graph_nodes.specs.Plain.{Block, Label, Position, plain_block, plain_body}
 use Rattle.bl_graph.specs.Laws.{StaysWithin}
 use Rattle.bl_ctree.specs.Instances.{Setting, unit_at}
-use Rattle.bl_ctree_laws.proofs.Tests.{and_both, and_first, and_second}
 use Rattle.bl_ctree_laws_traces.specs.Ready.Ordered.{HasRanks, OrdersGiveRanks}
 use Rattle.bl_ctree_laws_traces.proofs.OnReady.Keys.{Same, bodies_differ_so, one_of_each, sort_of}
 use Rattle.bl_machine_laws.specs.Passes.Orders.{GraphsGiveOrders, HasOrders}
 use Rattle.bl_machine_laws.proofs.OnPasses.Numbers.{Numbers, equal, less, more, numbers}
+use Rattle.bl_ctree_laws_traces.proofs.OnReady.Numbering.{labels_same, stands_at}
 
 -- ---- tests of nodes
 
@@ -51,7 +27,7 @@ same_list (x ∷ xs) (y ∷ ys) = nat_eq x y && same_list xs ys
 
 list_itself : (xs : List ℕ) → same_list xs xs ≡ true
 list_itself [] = refl
-list_itself (x ∷ xs) = and_both (nat_eq x x) (same_list xs xs) (eq-eqb x x refl) (list_itself xs)
+list_itself (x ∷ xs) = and_from (nat_eq x x) (same_list xs xs) (eq-eqb x x refl) (list_itself xs)
 
 lists_same : (xs ys : List ℕ) → same_list xs ys ≡ true → xs ≡ ys
 lists_same [] [] e = refl
@@ -65,17 +41,13 @@ abbrev same_node : Node → Node → Bool
 same_node n m = same_list (label_of n).position (label_of m).position && (nat_eq (label_of n).passed (label_of m).passed && nat_eq (sort_of n) (sort_of m))
 
 node_itself : (n : Node) → same_node n n ≡ true
-node_itself n = and_both (same_list (label_of n).position (label_of n).position)
+node_itself n = and_from (same_list (label_of n).position (label_of n).position)
     (nat_eq (label_of n).passed (label_of n).passed && nat_eq (sort_of n) (sort_of n)) (list_itself (label_of n).position)
-    (and_both (nat_eq (label_of n).passed (label_of n).passed) (nat_eq (sort_of n) (sort_of n))
+    (and_from (nat_eq (label_of n).passed (label_of n).passed) (nat_eq (sort_of n) (sort_of n))
     (eq-eqb (label_of n).passed (label_of n).passed refl) (eq-eqb (sort_of n) (sort_of n) refl))
 
 abbrev label_with : Position → ℕ → Label
 label_with at k = record { position = at; passed = k }
-
-labels_same : (l m : Label) → l.position ≡ m.position → l.passed ≡ m.passed → l ≡ m
-labels_same l m position passed =
-    ap (λ at. label_with at l.passed) position ∙ ap (λ k. label_with m.position k) passed
 
 nodes_same : (n m : Node) → same_node n m ≡ true → Same n m
 nodes_same n m e =
@@ -129,12 +101,6 @@ found (x ∷ xs) n (suc k) e = by_test (same_node x n) refl (found xs n k e)
       there = ap (λ b. slice_get (x ∷ xs) (if b then 0 else suc (place_in xs n))) test ∙ rest.there;
       same = rest.same;
     }
-
--- a member stands somewhere
-stands_at : (xs : List Node) (n : Node) → Contains xs n → (k : ℕ) × (slice_get xs k ≡ Some n)
-stands_at [] n there = let below = there.1 in absurd (omega arith)
-stands_at (x ∷ xs) n (zero, within, is) = (0, ap Some is)
-stands_at (x ∷ xs) n (suc k, within, is) = let rest = stands_at xs n (k, omega arith, is) in (suc rest.0, rest.1)
 
 -- and in a body at the first place
 in_place : (body : List Stmt) (at : Position) (n : Node) → Contains (nodes_in (plain_block body at)) n →

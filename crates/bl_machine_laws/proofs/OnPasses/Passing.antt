@@ -1,36 +1,9 @@
 -- A pass over each instance.
-use Rattle.std.proofs.Common.{
-  ◌≡◌,
-  ◌⊎◌,
-  inl,
-  inr,
-  ⊎_elim,
-  ℕ,
-  zero,
-  suc,
-  ◌+◌,
-  ◌<◌,
-  ◌≤◌,
-  Bool,
-  true,
-  false,
-  List,
-  [],
-  ◌∷◌,
-  ◌++◌,
-  Option,
-  Some,
-  None,
-  length,
-  refl,
-  sym,
-  ap,
-  ◌∙◌,
-  subst,
-  arith,
-}
+use Rattle.std.proofs.Common.{◌≡◌, ◌⊎◌, inl, inr, ⊎_elim, ℕ, zero, suc, ◌+◌, ◌<◌, ◌≤◌, Bool, true, false, List, [], ◌∷◌, ◌++◌, Option, Some, None, length, refl}
+use Rattle.std.proofs.Common.{sym, ap, ◌∙◌, subst, arith}
 use Rattle.std.specs.Prelude.{Contains, option_and_then, slice_get}
 use Rattle.std.proofs.lemmas.Option.{slice_get_within}
+use Rattle.bl_tree.proofs.Basics.{true_false_any}
 use Rattle.bl_tree.specs.declared.place.Place.{Place as Source}
 use Rattle.bl_tree.specs.declared.tree.StructDef.{StructDef}
 use Rattle.bl_tree.specs.declared.tree.Unit.{Unit as UnitDef}
@@ -62,10 +35,10 @@ use Rattle.bl_machine_laws.specs.Numbers.Turns.{AnsweredDeed, Passes, Turns, did
 use Rattle.bl_machine_laws.specs.Numbers.Waiting.{Waits}
 use Rattle.bl_machine_laws.proofs.OnNumbers.Walking.{point_moves}
 use Rattle.bl_machine_laws.specs.Waiting.Laws.{TurnsLeadOn, WaitsInPart}
-use Rattle.bl_machine_laws.proofs.OnWaiting.Fresh.{ends_walk, nil_is}
-use Rattle.bl_machine_laws.proofs.OnWaiting.Quiet.{differ, something_waits}
+use Rattle.bl_machine_laws.proofs.OnWaiting.Fresh.{ends_walk}
+use Rattle.bl_machine_laws.proofs.OnWaiting.Quiet.{something_waits}
 use Rattle.bl_machine_laws.specs.Passes.Follows as follows
-use Rattle.bl_machine_laws.specs.Passes.Follows.{Fails, First, Follows, TurnSteps, TurnTraps}
+use Rattle.bl_machine_laws.specs.Passes.Follows.{First, Follows, TurnSteps, TurnTraps}
 use Rattle.bl_machine_laws.specs.Passes.Low.{LowSteps, LowTrap, Lowest, on, stay}
 use Rattle.bl_machine_laws.specs.Passes.Orders.{Orders}
 use Rattle.bl_machine_laws.specs.Passes.Pass.{InstancesHavePasses, PassOrTrap, WaitsFrom, comes_to_end, is_cut}
@@ -73,9 +46,11 @@ use Rattle.bl_machine_laws.specs.Passes.Steady.{Steady}
 use Rattle.bl_machine_laws.proofs.OnPasses.Calling.{Beyond, call_steps, call_trap, ends_lowest, low_append, one_not_lower, trap_after}
 use Rattle.bl_machine_laws.proofs.OnPasses.Finding.{Found, Ready, calls, copies, find, ready_left, simple}
 use Rattle.bl_machine_laws.proofs.OnPasses.Holes.{Has, Hole, fill, lift_breaks, lift_moves, lift_takes, lift_turn, unsettled_open}
-use Rattle.bl_machine_laws.proofs.OnPasses.Numbers.{Least, after_rises, bound_of, least, least_waits, lesser, nothing}
+use Rattle.bl_machine_laws.proofs.OnPasses.Numbers.{Least, after_rises, bound_of, least, least_waits, nothing}
 use Rattle.bl_machine_laws.proofs.OnPasses.Points.{PointFails, PointMade, answered, plain_answer, point_over}
 use Rattle.bl_machine_laws.proofs.OnPasses.Steadying.{block_steady, candidate, steady_passed, turn_steady}
+use Rattle.bl_ctree_laws_traces.proofs.OnProgress.Leading.{is_the_nil}
+use Rattle.bl_graph.proofs.Meeting.{lt_of}
 
 -- a turn, and where it leads, each of its steps the lowest
 pub record TurnMade (w : Setting) (rank : ℕ → Node → ℕ) (i : ℕ) (c : Tree) (store : Store) (n : Node) : Type 0 where
@@ -174,11 +149,11 @@ module _ (moving : MovingIsUnsettled) (shrinks : EndsShrink) (lists : TurnsAreWa
   lasts callee unit done c is passes = by_end (is_nil c) refl
     where
       ended : is_nil c ≡ true → may_end c ≡ true
-      ended e = ap may_end (nil_is c e)
+      ended e = ap may_end (is_the_nil c e)
 
       by_end : (b : Bool) → is_nil c ≡ b → is_nil c ≡ false
       by_end true e =
-          differ (may_end (do_block (plain_body unit.body)))
+          true_false_any (may_end (do_block (plain_body unit.body)))
           (ends_walk rank paces shrinks lists waiting (lists.passes w rank callee 0 (do_block (plain_body unit.body)) done c passes) (ended e))
           (do_ends (plain_body unit.body) ∙ paces callee unit is)
       by_end false e = e
@@ -267,14 +242,14 @@ module _ (moving : MovingIsUnsettled) (shrinks : EndsShrink) (lists : TurnsAreWa
         done = did copy true ++ (done ++ did give true);
         tree = fill h Nil;
         left = given_to w i s.arguments.target (result_at left' callee) left';
-        turn = lift_turn h t Nil refl (turns.returns (subst (λ (x : Tree). Passes w rank callee 0 c done x) (nil_is tree e) passes));
+        turn = lift_turn h t Nil refl (turns.returns (subst (λ (x : Tree). Passes w rank callee 0 c done x) (is_the_nil tree e) passes));
         steps = low_append (copied moving w rank i h t begun n callee copy refl move lowest store left performs)
             (low_append (call_steps moving w rank i h t refl s callee stood called (beyond moving w rank i (fill h t) n steady first)
-            (subst (λ (x : Tree). LowSteps w rank callee c left done x left') (nil_is tree e) steps))
+            (subst (λ (x : Tree). LowSteps w rank callee c left done x left') (is_the_nil tree e) steps))
             (on (lift_moves h (Run s callee Body stood Nil) Nil refl moves.run_ends)
             (ends_lowest moving w rank i h t refl s callee stood called (beyond moving w rank i (fill h t) n steady first)) refl stay));
         takes = lift_takes h t Nil refl
-            (follows.returns performs (subst (λ (x : Tree). Follows w rank callee 0 c left x left') (nil_is tree e) follow) refl);
+            (follows.returns performs (subst (λ (x : Tree). Follows w rank callee 0 c left x left') (is_the_nil tree e) follow) refl);
       })
 
       by_pass : (left : Store) → done_by w copy store ≡ Some (record { answer = true; store = left }) → PassOrTrap w rank callee 0 c left →
@@ -295,7 +270,7 @@ module _ (moving : MovingIsUnsettled) (shrinks : EndsShrink) (lists : TurnsAreWa
 
 -- ---- all turns of an instance
 
-within_body : (within : (body : Block) → StaysWithin body) (body : Block) (stood : Bool) (n : Node) → In stood body n → Contains (nodes_in body) n
+pub within_body : (within : (body : Block) → StaysWithin body) (body : Block) (stood : Bool) (n : Node) → In stood body n → Contains (nodes_in body) n
 within_body within body true n there = (within body).depth n there
 within_body within body false n there = (within body).surface n there
 
@@ -324,7 +299,7 @@ module _ (moving : MovingIsUnsettled) (shrinks : EndsShrink) (lists : TurnsAreWa
       ⊎_elim
       (λ old.
       let other : rank i n < rank i y =
-      lesser (rank i n) (rank i y) (first y old.0)
+      lt_of (rank i n) (rank i y) (first y old.0)
       (λ same. old.1 (sym (orders.apart i unit n y is (stands c n live (waiting w rank i c done n c' None turn)) (stands c y live old.0) same))) in
       omega arith)
       (λ after. let more : rank i n < rank i y = after_rises (rank i) (orders.rising.control i unit is) after in omega arith)
@@ -389,7 +364,7 @@ module _ (moving : MovingIsUnsettled) (shrinks : EndsShrink) (lists : TurnsAreWa
 
 -- ---- all instances: a callee has a greater number than its caller
 
-there : (w : Setting) (i : ℕ) (unit : UnitDef) → unit_at w i ≡ Some unit → i < length w.instances
+pub there : (w : Setting) (i : ℕ) (unit : UnitDef) → unit_at w i ≡ Some unit → i < length w.instances
 there w i unit is = by_found (slice_get w.instances i) refl
   where
     by_found : (x : Option Instance) → slice_get w.instances i ≡ x → i < length w.instances

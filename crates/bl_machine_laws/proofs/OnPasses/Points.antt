@@ -1,22 +1,11 @@
 -- What a tree does at a node, by the answer that a store gives.
 use Rattle.std.proofs.Common.{◌≡◌, ◌⊎◌, inl, inr, ℕ, Bool, true, false, Option, Some, None, refl, sym, ap, ◌∙◌}
 use Rattle.std.specs.Prelude.{option_map}
+use Rattle.bl_tree.proofs.Basics.{same_some}
 use Rattle.bl_tree.specs.declared.tree.Guard.{Guard as GuardKind}
 use Rattle.bl_tree.specs.declared.tree.Guard.TheVariants.{Abort, Reset}
 use Rattle.bl_graph_nodes.specs.Nodes.{Node, entry}
-use Rattle.bl_graph_nodes.specs.Plain.{
-  Act,
-  Again,
-  Await,
-  Cobegin,
-  If,
-  Plain,
-  Repeat,
-  Run as RunOf,
-  Until,
-  When,
-  While,
-}
+use Rattle.bl_graph_nodes.specs.Plain.{Act, Again, Await, Cobegin, If, Plain, Repeat, Run as RunOf, Until, When, While}
 use Rattle.bl_graph_nodes.specs.Steps.{end_node, join_node}
 use Rattle.bl_ctree.specs.Actions.{Acts, Asks, Copies, Effect, Gives, Performed, Silent, done, effect_on}
 use Rattle.bl_ctree.specs.Control.{Body, Check}
@@ -24,20 +13,7 @@ use Rattle.bl_ctree.specs.Instances.{Setting}
 use Rattle.bl_ctree.specs.Store.{Store}
 use Rattle.bl_ctree_laws.specs.Ends.{done_by}
 use Rattle.bl_ctree_laws.specs.Pending.{Deed}
-use Rattle.bl_ctree_laws.specs.Trees.{
-  Fork,
-  Pause,
-  Tree,
-  Trees,
-  Watch,
-  Nil,
-  Test,
-  Do,
-  Par,
-  Guard,
-  are_done,
-  are_settled,
-}
+use Rattle.bl_ctree_laws.specs.Trees.{Fork, Pause, Tree, Trees, Watch, Nil, Test, Do, Par, Guard, are_done, are_settled}
 use Rattle.bl_machine_laws.specs.Numbers.Turns as turns
 use Rattle.bl_machine_laws.specs.Numbers.Turns.{InstancePoint}
 use Rattle.bl_machine_laws.specs.Numbers.Waiting.{check_of, test_of}
@@ -52,11 +28,8 @@ is_plain (Asks e) = false
 is_plain (Copies callee inputs) = true
 is_plain (Gives callee target) = true
 
-some_is : {A : Type 0} (x y : A) → Some x ≡ Some y → x ≡ y
-some_is x y e = cc
-
 done_true : (store : Store) (p : Performed) → Some (done store) ≡ Some p → p.answer ≡ true
-done_true store p e = ap (λ x. x.answer) (sym (some_is (done store) p e))
+done_true store p e = ap (λ x. x.answer) (sym (same_some (done store) p e))
 
 mapped_true : {A : Type 0} (make : A → Store) (x : Option A) (p : Performed) → option_map (λ v. done (make v)) x ≡ Some p → p.answer ≡ true
 mapped_true make None p e = absurd cc

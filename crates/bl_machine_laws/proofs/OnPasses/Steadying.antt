@@ -1,5 +1,6 @@
 -- Steady trees: what can act in them waits, and turns keep them steady.
 use Rattle.std.proofs.Common.{◌≡◌, ℕ, Bool, true, List, Option, Some, None, inl, inr, refl}
+use Rattle.bl_tree.proofs.Basics.{true_false_any}
 use Rattle.bl_graph_nodes.specs.Nodes.{Node}
 use Rattle.bl_graph_nodes.specs.Plain.{Block, Bodies, Plain, Body as BodyOf, Done, Last, Then}
 use Rattle.bl_graph_nodes.specs.Steps.{Here, StepLabel, end_node}
@@ -15,7 +16,6 @@ use Rattle.bl_machine_laws.specs.Numbers.Turns as turns
 use Rattle.bl_machine_laws.specs.Numbers.Turns.{AnsweredDeed, InstancePoint, OneTurns, Passes, Turns}
 use Rattle.bl_machine_laws.specs.Numbers.Waiting.{SomeWaits, Waits, check_of, first_in}
 use Rattle.bl_machine_laws.specs.Waiting.Laws.{AllPassed, RunsArePassed}
-use Rattle.bl_machine_laws.proofs.OnWaiting.Quiet.{differ}
 use Rattle.bl_machine_laws.specs.Passes.Steady.{AllSteady, Steady}
 
 -- ---- steady trees
@@ -153,7 +153,7 @@ module _ {w : Setting} (moving : MovingIsUnsettled) where
     candidate next (moves.resets {s = s} is) steady = record { node = check_of s; is = refl; waits = inl refl }
     candidate next moves.guard_ends steady = record { node = _; is = refl; waits = refl }
     candidate next moves.copies steady = record { node = _; is = refl; waits = refl }
-    candidate next moves.run_ends steady = differ true refl steady.1
+    candidate next moves.run_ends steady = true_false_any true refl steady.1
     candidate next (moves.joins settled done) steady = record { node = _; is = refl; waits = inr (done, refl) }
     candidate next (moves.in_seq {rest = rest} move) steady =
         let one = candidate (first_in rest next) move steady in record { node = one.node; is = one.is; waits = one.waits }
@@ -162,7 +162,7 @@ module _ {w : Setting} (moving : MovingIsUnsettled) where
     candidate next (moves.in_guard {s = s} {stood = stood} move) steady =
         let one = candidate (Some (end_node stood s.label s.place)) move steady in record { node = one.node; is = one.is; waits = one.waits }
     candidate next (moves.in_run {callee = callee} {c = c} {d = d} {a = a} {n = n} {c' = c'} move) steady =
-        differ (is_settled c) steady.0 (moving w callee c d a n c' move)
+        true_false_any (is_settled c) steady.0 (moving w callee c d a n c' move)
 
     one_candidate : {i : ℕ} {branches : Trees} {d : Bool} {a : Deed} {m : StepLabel} {branches' : Trees} → OneMoves Anyway w i branches d a m branches' →
         AllSteady branches → OneCandidate branches m

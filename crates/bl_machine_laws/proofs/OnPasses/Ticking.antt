@@ -2,6 +2,7 @@
 use Rattle.std.proofs.Common.{◌≡◌, ◌⊎◌, inl, inr, ⊎_elim, ℕ, Bool, true, false, List, [], ◌∷◌, ◌++◌, Option}
 use Rattle.std.proofs.Common.{Some, None, refl, sym, ap, ◌∙◌, subst, arith}
 use Rattle.std.specs.Prelude.{ℤ, map, option_map, unwrap_or}
+use Rattle.bl_tree.proofs.Basics.{map_push, true_false_any}
 use Rattle.bl_tree.specs.declared.tree.StructDef.{StructDef}
 use Rattle.bl_tree.specs.declared.tree.Unit.{Unit as UnitDef}
 use Rattle.bl_tree.specs.Program.{IsWellTyped}
@@ -9,7 +10,6 @@ use Rattle.bl_effects.specs.Rules.{Passes}
 use Rattle.bl_graph_nodes.specs.Nodes.{Node}
 use Rattle.bl_graph_nodes.specs.Plain.{Block, Done, plain_body}
 use Rattle.bl_graph_nodes.specs.Steps.{StepLabel, head_of}
-use Rattle.bl_graph.specs.Edges.{In}
 use Rattle.bl_ctree.specs.Actions.{Action}
 use Rattle.bl_ctree.specs.Control as control
 use Rattle.bl_ctree.specs.Control.{Control}
@@ -39,23 +39,19 @@ use Rattle.bl_ctree_laws_traces.specs.Progress.Places.{whole}
 use Rattle.bl_ctree_laws_traces.specs.Ready.Never.{ReachedLowestMayAct}
 use Rattle.bl_machine_laws.specs.Numbers.Turns as turns
 use Rattle.bl_machine_laws.specs.Numbers.Turns.{AnsweredDeed}
-use Rattle.bl_machine_laws.proofs.OnWaiting.Quiet.{differ}
 use Rattle.bl_machine_laws.specs.Passes.Follows as follows
 use Rattle.bl_machine_laws.specs.Passes.Low.{LowSteps, LowTrap, Lowest, on, stay}
 use Rattle.bl_machine_laws.specs.Passes.Orders.{Orders}
 use Rattle.bl_machine_laws.specs.Passes.Pass.{InstancesHavePasses, PassOrTrap, WholePass, comes_to_end, is_cut}
 use Rattle.bl_machine_laws.specs.Passes.Ticks.{TickPasses, TickTraps, TicksArePasses}
 use Rattle.bl_machine_laws.proofs.OnPasses.Steadying.{pass_settles, woken_steady}
+use Rattle.bl_ctree_laws_traces.proofs.OnReady.Never.{no_node}
 
 -- ---- the entry's unit
 
 -- the body of the entry's unit, where there is one
 abbrev body_of : Option UnitDef → Block
 body_of found = plain_items (unwrap_or (option_map (λ unit. body_items unit.body) found) [])
-
-no_node : (stood : Bool) (n : Node) → In stood Done n → ⊥
-no_node true n inside = elim inside.begins [ ]
-no_node false n inside = elim inside.begins [ ]
 
 record Standing (w : Setting) (c : Tree) : Type 0 where
   unit : UnitDef
@@ -74,10 +70,6 @@ in_unit part plain w stood c (Some unit) is lives one = record {
   stood = stood;
   lives = subst (λ body. FitsGraph w 0 c (whole stood body)) (sym (plain.blocks unit.body [])) lives;
 }
-
-map_last : {A B : Type 0} (f : A → B) (xs : List A) (y : A) → map f (xs ++ y ∷ []) ≡ map f xs ++ f y ∷ []
-map_last f [] y = refl
-map_last f (x ∷ xs) y = ap (λ zs. f x ∷ zs) (map_last f xs y)
 
 -- ---- steps of the program's tree
 
@@ -166,7 +158,7 @@ module _ (lowest : ReachedLowestMayAct) (complete : PlainStepsAreSteps) (inside 
               }));
           over = tt;
         };
-        deeds = map_last deed_of front.actions one.action ∙ ap (λ xs. xs ++ deed_of one.action ∷ []) front.deeds
+        deeds = map_push deed_of front.actions one.action ∙ ap (λ xs. xs ++ deed_of one.action ∷ []) front.deeds
             ∙ ap (λ x. map (λ one. one.deed) trap.done ++ x ∷ []) one.does;
       }
 
@@ -175,7 +167,7 @@ module _ (lowest : ReachedLowestMayAct) (complete : PlainStepsAreSteps) (inside 
     still : (c : Control) → Residual W true 0 (entry_items W) c → is_settled (plain_tree c) ≡ true → located.IsStill W c
     still c is_left settled d a c' move =
         let plain = sound W true 0 (entry_items W) c d a c' is_left move in
-        differ (is_settled (plain_tree c)) settled
+        true_false_any (is_settled (plain_tree c)) settled
         (moving W 0 (plain_tree c) d (deed_of a) plain.label (plain_tree c')
         (could W 0 (plain_tree c) d (deed_of a) plain.label (plain_tree c') plain.moves))
 

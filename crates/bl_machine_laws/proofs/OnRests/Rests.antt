@@ -3,6 +3,7 @@ use Rattle.std.proofs.Common.{◌≡◌, ℕ, suc, ◌+◌, ◌<◌, arith, Bool
 use Rattle.std.proofs.Common.{Option, refl, sym, ap, ◌∙◌, subst}
 use Rattle.std.proofs.lemmas.List.Elements.{All-head, All-tail}
 use Rattle.std.specs.Prelude.{if◌then◌else◌}
+use Rattle.bl_tree.proofs.Basics.{and_first, and_second, both_empty}
 use Rattle.bl_tree.specs.declared.place.Place.{Place}
 use Rattle.bl_tree.specs.declared.tree.Arm.{Arm, fold-Arm, fold_out-Arm, out-Arm}
 use Rattle.bl_tree.specs.declared.tree.Branch.{Branch, fold-Branch}
@@ -16,18 +17,7 @@ use Rattle.bl_tree.specs.Instant.{BranchInstant, arm_instant, branch_ends, insta
 use Rattle.bl_tree.specs.Reduce.{all_of, any_of}
 use Rattle.bl_tree.specs.Typing.{TypingContext, arm_fits, branch_fits, fits, is_activity, is_inhabited, is_truth, kind_fits, stmt_fits, type_of}
 use Rattle.bl_tree.proofs.StmtInduction.{Cases, Each, EachArm, EachBranch, induct, stmt}
-use Rattle.bl_effects.specs.Rules.{
-  BranchLoops,
-  Loops,
-  arm_loops,
-  block_ends,
-  block_loops,
-  branch_loops,
-  kind_loops,
-  loop_places,
-  loops_in,
-  stmt_loops,
-}
+use Rattle.bl_effects.specs.Rules.{BranchLoops, Loops, arm_loops, block_ends, block_loops, branch_loops, kind_loops, loop_places, loops_in, stmt_loops}
 use Rattle.bl_graph_nodes.specs.Plain.{Arm as PlainArm, Await, Block, Branch as PlainBranch, Cobegin, Label, Plain, Position, Repeat, Run}
 use Rattle.bl_graph_nodes.specs.Plain.{Until, When, arm_plain, block_at, block_from, bodies_from, branch_plain, else_at, if_with, inside, kind_plain}
 use Rattle.bl_graph_nodes.specs.Plain.{label_at, passed_one, plain_body, plain_stmt, stmt_plain}
@@ -38,18 +28,6 @@ use Rattle.bl_machine.specs.Layout.{places_in, places_in_each, resting_places}
 both_false : (a b : Bool) → (a || b) ≡ false → (a ≡ false) × (b ≡ false)
 both_false false b h = (refl, h)
 both_false true b h = absurd (cc)
-
-pub and_left : (a b : Bool) → (a && b) ≡ true → a ≡ true
-and_left true b h = refl
-and_left false b h = absurd (cc)
-
-pub and_right : (a b : Bool) → (a && b) ≡ true → b ≡ true
-and_right true b h = h
-and_right false b h = absurd (cc)
-
-none_in_both : {A : Type 0} (a b : List A) → a ++ b ≡ [] → (a ≡ []) × (b ≡ [])
-none_in_both [] b h = (refl, h)
-none_in_both (x ∷ a) b h = absurd (cc)
 
 none_where : {A : Type 0} (test : Bool) (x : A) → (if test then x ∷ [] else []) ≡ [] → test ≡ false
 none_where true x h = absurd (cc)
@@ -70,14 +48,8 @@ plain_branch = fold-Branch (Place → Position → Plain) PlainArm PlainBranch (
 abbrev loops_of_arm : Arm → Loops
 loops_of_arm = fold-Arm (Place → Loops) Loops BranchLoops Loops kind_loops arm_loops branch_loops stmt_loops
 
-abbrev loops_of_branch : Branch → BranchLoops
-loops_of_branch = fold-Branch (Place → Loops) Loops BranchLoops Loops kind_loops arm_loops branch_loops stmt_loops
-
 abbrev instant_of_arm : Arm → Bool
 instant_of_arm = fold-Arm Bool Bool BranchInstant Bool kind_instant arm_instant branch_ends stmt_instant
-
-abbrev ends_of_branch : Branch → BranchInstant
-ends_of_branch = fold-Branch Bool Bool BranchInstant Bool kind_instant arm_instant branch_ends stmt_instant
 
 module _ (agree : (s : Stmt) → (loops_in s).instant ≡ instant s) (site : TypingContext) where
   abbrev S : Stmt → Type 0
@@ -101,13 +73,13 @@ module _ (agree : (s : Stmt) → (loops_in s).instant ≡ instant s) (site : Typ
       Rests (block_from (map plain_stmt body) k at)
   blocks_rest [] each fitted paced ends k at = absurd (cc)
   blocks_rest (s ∷ body) each fitted paced ends k at =
-      let none = none_in_both (loops_in s).places (block_loops (map loops_in body)) paced in
+      let none = both_empty (loops_in s).places (block_loops (map loops_in body)) paced in
       let first : ℕ = resting_places (plain_stmt s (at ++ k ∷ [])) in
       let others : ℕ = places_in (block_from (map plain_stmt body) (suc k) at) in
       by (instant s) refl ends first others
-      (λ here. All-head S s body each (and_left (fits site s) (all_of (map (fits site) body)) fitted) none.0 here (at ++ k ∷ []))
+      (λ here. All-head S s body each (and_first (fits site s) (all_of (map (fits site) body)) fitted) none.0 here (at ++ k ∷ []))
       (λ here.
-      blocks_rest body (All-tail S s body each) (and_right (fits site s) (all_of (map (fits site) body)) fitted) none.1 here (suc k) at)
+      blocks_rest body (All-tail S s body each) (and_second (fits site s) (all_of (map (fits site) body)) fitted) none.1 here (suc k) at)
     where
       by : (b : Bool) → instant s ≡ b → (b && all_of (map instant body)) ≡ false → (first others : ℕ) → (instant s ≡ false → 0 < first) →
           (all_of (map instant body) ≡ false → 0 < others) → 0 < first + others
@@ -138,17 +110,17 @@ module _ (agree : (s : Stmt) → (loops_in s).instant ≡ instant s) (site : Typ
       sym (fold_out-Arm Bool Bool BranchInstant Bool kind_instant arm_instant branch_ends stmt_instant arm) ∙ ends in
       subst (λ (arm : PlainArm). Rests (arm.body at))
       (sym (fold_out-Arm (Place → Position → Plain) PlainArm PlainBranch (Position → Plain) kind_plain arm_plain branch_plain stmt_plain arm))
-      (blocks_rest body each (and_right (is_truth (type_of site (out-Arm arm).test)) (all_of (map (fits site) body)) fits_so) paced_so ends_so 0 at)
+      (blocks_rest body each (and_second (is_truth (type_of site (out-Arm arm).test)) (all_of (map (fits site) body)) fits_so) paced_so ends_so 0 at)
 
   with_rests : (l : Label) (place : Place) (arms : List Arm) (other : Position → Block) → EachArm S arms →
       is_inhabited (map arm_fitted arms) ≡ true → all_of (map arm_fitted arms) ≡ true → block_loops (map loops_of_arm arms) ≡ [] →
       any_of (map instant_of_arm arms) ≡ false → 0 < resting_places (if_with l place (map plain_arm arms) other)
   with_rests l place [] other each some fitted paced ends = absurd (cc)
   with_rests l place (arm ∷ arms) other each some fitted paced ends =
-      let none = none_in_both (loops_of_arm arm).places (block_loops (map loops_of_arm arms)) paced in
+      let none = both_empty (loops_of_arm arm).places (block_loops (map loops_of_arm arms)) paced in
       let no = both_false (instant_of_arm arm) (any_of (map instant_of_arm arms)) ends in
       more_first (places_in ((plain_arm arm).body (inside l 0))) (places_in (else_at (passed_one l) (map plain_arm arms) other))
-      (arm_rests arm (All-head OfArm arm arms each) (and_left (arm_fitted arm) (all_of (map arm_fitted arms)) fitted) none.0 no.0 (inside l 0))
+      (arm_rests arm (All-head OfArm arm arms each) (and_first (arm_fitted arm) (all_of (map arm_fitted arms)) fitted) none.0 no.0 (inside l 0))
 
   branches_rest : (l : Label) (branches : List Branch) → is_inhabited (map branch_fitted branches) ≡ true →
       0 < places_in_each (bodies_from (map plain_branch branches) 0 l)
@@ -212,16 +184,16 @@ module _ (agree : (s : Stmt) → (loops_in s).instant ≡ instant s) (site : Typ
     branching_case arms other each others fitted paced ends at =
         let parts : (is_inhabited (map arm_fitted arms) && (all_of (map arm_fitted arms) && all_of (map (fits site) other))) ≡ true =
         rw (fold-roll-Stmt, fold-roll-StmtKind) at fitted in
-        let some = and_left (is_inhabited (map arm_fitted arms)) (all_of (map arm_fitted arms) && all_of (map (fits site) other)) parts in
-        let more = and_right (is_inhabited (map arm_fitted arms)) (all_of (map arm_fitted arms) && all_of (map (fits site) other)) parts in
+        let some = and_first (is_inhabited (map arm_fitted arms)) (all_of (map arm_fitted arms) && all_of (map (fits site) other)) parts in
+        let more = and_second (is_inhabited (map arm_fitted arms)) (all_of (map arm_fitted arms) && all_of (map (fits site) other)) parts in
         let loops : block_loops (map loops_of_arm arms) ++ block_loops (map loops_in other) ≡ [] =
         rw (fold-roll-Stmt, fold-roll-StmtKind) at paced in
         let no : (any_of (map instant_of_arm arms) || all_of (map instant other)) ≡ false =
         rw (fold-roll-Stmt, fold-roll-StmtKind) at ends in
         as_rests _ _ (if_plain arms other at)
         (with_rests (label_at at) place arms (block_at (map plain_stmt other)) each some
-        (and_left (all_of (map arm_fitted arms)) (all_of (map (fits site) other)) more)
-        (none_in_both (block_loops (map loops_of_arm arms)) (block_loops (map loops_in other)) loops).0
+        (and_first (all_of (map arm_fitted arms)) (all_of (map (fits site) other)) more)
+        (both_empty (block_loops (map loops_of_arm arms)) (block_loops (map loops_in other)) loops).0
         (both_false (any_of (map instant_of_arm arms)) (all_of (map instant other)) no).0)
 
     cobegin_case : (branches : List Branch) → EachBranch S branches → S (stmt place (StmtKind-F.Cobegin branches))
@@ -230,8 +202,8 @@ module _ (agree : (s : Stmt) → (loops_in s).instant ≡ instant s) (site : Typ
         rw (fold-roll-Stmt, fold-roll-StmtKind) at fitted in
         as_rests _ _ (cobegin_plain branches at)
         (branches_rest (label_at at) branches
-        (and_left (is_inhabited (map branch_fitted branches)) (all_of (map branch_fitted branches))
-        (and_right (is_activity site.kind) (is_inhabited (map branch_fitted branches) && all_of (map branch_fitted branches)) parts)))
+        (and_first (is_inhabited (map branch_fitted branches)) (all_of (map branch_fitted branches))
+        (and_second (is_activity site.kind) (is_inhabited (map branch_fitted branches) && all_of (map branch_fitted branches)) parts)))
 
     guarded_case : (guard : Guard) (e : Expr) (body : List Stmt) → Each S body → S (stmt place (StmtKind-F.When guard e body))
     guarded_case guard e body each fitted paced ends at =
@@ -240,12 +212,12 @@ module _ (agree : (s : Stmt) → (loops_in s).instant ≡ instant s) (site : Typ
         let loops : Paced body = rw (fold-roll-Stmt, fold-roll-StmtKind) at paced in
         let no : all_of (map instant body) ≡ false = rw (fold-roll-Stmt, fold-roll-StmtKind) at ends in
         as_rests _ _ (when_plain guard e body at)
-        (blocks_rest body each (and_right (is_truth (type_of site e)) (all_of (map (fits site) body))
-        (and_right (is_activity site.kind) (is_truth (type_of site e) && all_of (map (fits site) body)) parts)) loops no 0 (inside (label_at at) 0))
+        (blocks_rest body each (and_second (is_truth (type_of site e)) (all_of (map (fits site) body))
+        (and_second (is_activity site.kind) (is_truth (type_of site e) && all_of (map (fits site) body)) parts)) loops no 0 (inside (label_at at) 0))
 
     loop_paced : (body : List Stmt) → loop_places place (map loops_in body) ≡ [] → Paced body × (all_of (map instant body) ≡ false)
     loop_paced body loops =
-        let none = none_in_both (block_loops (map loops_in body)) (if block_ends (map loops_in body) then place ∷ [] else []) loops in
+        let none = both_empty (block_loops (map loops_in body)) (if block_ends (map loops_in body) then place ∷ [] else []) loops in
         (none.0, sym (block_agrees body) ∙ none_where (block_ends (map loops_in body)) place none.1)
 
     repeat_case : (body : List Stmt) → Each S body → S (stmt place (StmtKind-F.Repeat body))
@@ -261,7 +233,7 @@ module _ (agree : (s : Stmt) → (loops_in s).instant ≡ instant s) (site : Typ
         let loops : loop_places place (map loops_in body) ≡ [] = rw (fold-roll-Stmt, fold-roll-StmtKind) at paced in
         let own = loop_paced body loops in
         as_rests _ _ (until_plain body e at)
-        (blocks_rest body each (and_left (all_of (map (fits site) body)) (is_truth (type_of site e)) parts) own.0 own.1 0 (inside (label_at at) 0))
+        (blocks_rest body each (and_first (all_of (map (fits site) body)) (is_truth (type_of site e)) parts) own.0 own.1 0 (inside (label_at at) 0))
 
     declare_instant : (k : ℕ) (initial : Option Expr) → instant (stmt place (StmtKind-F.Declare k initial)) ≡ true
     declare_instant k initial = rw (fold-roll-Stmt, fold-roll-StmtKind) refl

@@ -1,9 +1,11 @@
 -- The activities of a program.
 use Rattle.std.proofs.Common.{◌≡◌, ℕ, zero, suc, ◌<◌, arith, Bool, true, false, ◌&&◌, List, [], ◌∷◌, ◌++◌, Contains, map, length}
-use Rattle.std.proofs.Common.{refl, sym, ap, ◌∙◌, subst}
+use Rattle.std.proofs.Common.{refl, sym, ◌∙◌, subst}
 use Rattle.std.proofs.lemmas.List.{length-append}
 use Rattle.std.specs.List.{list_all}
 use Rattle.std.specs.Prelude.{slice_index_or}
+use Rattle.std.proofs.lemmas.Bool.{and_from}
+use Rattle.bl_tree.proofs.Basics.{and_first, and_second, map_length}
 use Rattle.bl_tree.specs.declared.place.Place.{Place}
 use Rattle.bl_tree.specs.declared.rule.Rule.TheVariants as rule
 use Rattle.bl_tree.specs.declared.tree.Stmt.{Stmt}
@@ -24,7 +26,7 @@ use Rattle.bl_machine.specs.Blocks.{up_to}
 use Rattle.bl_machine.specs.Slots.{counters_at, times}
 use Rattle.bl_machine_pass.specs.Numbered.{sizes_of}
 use Rattle.bl_machine_laws.specs.Rests.{ActivitiesCount, ActivitiesRest}
-use Rattle.bl_machine_laws.proofs.OnRests.Rests.{and_left, and_right, body_rests}
+use Rattle.bl_machine_laws.proofs.OnRests.Rests.{body_rests}
 
 -- ---- units
 
@@ -40,23 +42,19 @@ unit_at structs before (first ∷ units) zero unit stand below there =
     record {
       before = before;
       stands = subst (λ unit. unit_stands structs before unit ≡ true) there
-          (and_left (unit_stands structs before first) (units_stand_after structs (before ++ first ∷ []) units) stand);
+          (and_first (unit_stands structs before first) (units_stand_after structs (before ++ first ∷ []) units) stand);
     }
 unit_at structs before (first ∷ units) (suc k) unit stand below there =
     unit_at structs (before ++ first ∷ []) units k unit
-    (and_right (unit_stands structs before first) (units_stand_after structs (before ++ first ∷ []) units) stand) (omega (arith, below)) there
-
-both : (a b : Bool) → a ≡ true → b ≡ true → (a && b) ≡ true
-both true b one two = two
-both false b one two = absurd (cc)
+    (and_second (unit_stands structs before first) (units_stand_after structs (before ++ first ∷ []) units) stand) (omega (arith, below)) there
 
 all_listed : (test : Stmt → Bool) (body : List Stmt) → list_all test body ≡ true → all_of (map test body) ≡ true
 all_listed test [] all = refl
 all_listed test (s ∷ body) all =
-    both (test s) (all_of (map test body)) (and_left (test s) (list_all test body) all)
-    (all_listed test body (and_right (test s) (list_all test body) all))
+    and_from (test s) (all_of (map test body)) (and_first (test s) (list_all test body) all)
+    (all_listed test body (and_second (test s) (list_all test body) all))
 
-body_fits : (structs : List StructDef) (earlier : List UnitDef) (unit : UnitDef) → unit_stands structs earlier unit ≡ true →
+pub body_fits : (structs : List StructDef) (earlier : List UnitDef) (unit : UnitDef) → unit_stands structs earlier unit ≡ true →
     all_of (map (fits (site_of structs earlier unit)) unit.body) ≡ true
 body_fits structs earlier unit stands =
     let last : Bool = unit_returns unit && (is_shallow 200 unit.body && list_all is_apart unit.body) in
@@ -64,7 +62,7 @@ body_fits structs earlier unit stands =
     let typed : Bool = list_all (λ var. type_stands (length structs) var.ty) unit.vars in
     let named : Bool = roles_stand unit && (list_all is_name (names_of unit.vars) && are_distinct (names_of (parameters_of unit))) in
     all_listed (fits (site_of structs earlier unit)) unit.body
-    (and_left fitted last (and_right typed (fitted && last) (and_right named (typed && (fitted && last)) stands)))
+    (and_first fitted last (and_second typed (fitted && last) (and_second named (typed && (fitted && last)) stands)))
 
 -- ---- the rules Pause and Instant
 
@@ -104,10 +102,6 @@ activities_rest agree structs units entry unit keeps passes there active =
     body_rests agree site unit.body (body_fits structs own.before unit own.stands) (no_instant units unit passes there active)
     (no_pause units unit passes there active)
 
-many_mapped : {X Y : Type 0} (f : X → Y) (xs : List X) → length (map f xs) ≡ length xs
-many_mapped f [] = refl
-many_mapped f (x ∷ xs) = ap suc (many_mapped f xs)
-
 many_up_to : (n : ℕ) → length (up_to n) ≡ n
 many_up_to zero = refl
 many_up_to (suc n) = let all = length-append (up_to n) (n ∷ []) in let rest = many_up_to n in omega arith
@@ -117,7 +111,7 @@ some_size [] some = absurd (omega (arith, some))
 some_size (slot ∷ slots) some =
     let counters : List ℕ = slot.counter ∷ counters_at slots in
     let all : length (sizes_of (slot ∷ slots)) ≡ suc (greatest counters) =
-    many_mapped (λ j. times j counters) (up_to (suc (greatest counters))) ∙ many_up_to (suc (greatest counters)) in
+    map_length (λ j. times j counters) (up_to (suc (greatest counters))) ∙ many_up_to (suc (greatest counters)) in
     subst (λ n. 0 < n) (sym all) (omega arith)
 
 pub activities_count : ActivitiesRest → ActivitiesCount

@@ -1,36 +1,10 @@
 -- Positions in the blocks of a machine: they rise along edges, tell nodes apart, and can be found.
-use Rattle.std.proofs.Common.{
-  ◌≡◌,
-  ℕ,
-  zero,
-  suc,
-  ◌<◌,
-  Bool,
-  true,
-  false,
-  List,
-  [],
-  ◌∷◌,
-  ◌++◌,
-  Option,
-  Some,
-  None,
-  inl,
-  inr,
-  length,
-  map,
-  refl,
-  sym,
-  ap,
-  ◌∙◌,
-  subst,
-  arith,
-  eq-eqb,
-  eqb-true,
-}
+use Rattle.std.proofs.Common.{◌≡◌, ℕ, zero, suc, ◌<◌, Bool, true, false, List, [], ◌∷◌, ◌++◌, Option, Some, None, inl, inr, length, map, refl, sym, ap, ◌∙◌}
+use Rattle.std.proofs.Common.{subst, arith, eq-eqb, eqb-true}
 use Rattle.std.specs.Prelude.{Contains, nat_eq, option_and_then, slice_get, if◌then◌else◌}
 use Rattle.std.proofs.lemmas.List.Sorted.{Contains-permutation}
 use Rattle.std.proofs.lemmas.Option.{slice_get_within}
+use Rattle.bl_tree.proofs.Basics.{contains_at, index_of, none_is_some, same_some, true_false_any}
 use Rattle.bl_tree.specs.declared.tree.Unit.{Unit as UnitDef}
 use Rattle.bl_tree.specs.Reduce.{joined}
 use Rattle.bl_tree.specs.Typing.{is_activity}
@@ -38,38 +12,20 @@ use Rattle.bl_graph_nodes.specs.Nodes.{Node, nodes_in}
 use Rattle.bl_graph_nodes.specs.Plain.{Block, plain_body}
 use Rattle.bl_graph.specs.Laws.{StaysWithin}
 use Rattle.bl_cause.specs.Activities.{activities, graph_position}
-use Rattle.bl_cause.proofs.ListLemmas.{contains_head, contains_tail}
 use Rattle.bl_cause.proofs.PairLemmas.{contains_last, contains_left, each_at, filtered_at}
 use Rattle.bl_ctree.specs.declared.instance.Instance.{Instance}
 use Rattle.bl_ctree.specs.Instances.{Setting, setting_of, unit_at, unit_of}
 use Rattle.bl_ctree_laws_confluence.specs.Deeds.Orderly.{AcceptedIsOrderly}
-use Rattle.bl_ctree_laws_traces.proofs.OnReady.Keys.{Differ, Has, Same, bodies_differ_so}
+use Rattle.bl_ctree_laws_traces.proofs.OnReady.Keys.{Differ, Same, bodies_differ_so}
 use Rattle.bl_machine.specs.declared.machine.Activity.{Activity}
 use Rattle.bl_machine.specs.Blocks.{EdgeLeads, Ordered, up_to}
 use Rattle.bl_machine.specs.Machines.{AreActivitiesOf, IsActivityOf}
-use Rattle.bl_machine_laws.proofs.OnWaiting.Quiet.{differ}
 use Rattle.bl_machine_laws.specs.Passes.Orders.{GraphsGiveOrders, HasOrders, Orders}
 use Rattle.bl_machine_laws.proofs.OnPasses.Numbers.{Numbers, equal, less, more, numbers}
 use Rattle.bl_machine_laws.specs.Traces.Positions.{GoBy, HasPositions, MachinesGiveOrders}
+use Rattle.bl_ctree_laws_traces.proofs.OnReady.Keys.{has_at, itself as one_itself}
 
 -- ---- positions in lists
-
-none_is : {X A : Type 0} (x : X) → None ≡ Some x → A
-none_is x e = absurd (cc)
-
-some_is : {X : Type 0} (x y : X) → Some x ≡ Some y → x ≡ y
-some_is x y e = cc
-
--- a member stands somewhere
-pub stands_at : {X : Type 0} (xs : List X) (x : X) → Contains xs x → (k : ℕ) × (slice_get xs k ≡ Some x)
-stands_at [] x there = let below = there.1 in absurd (omega arith)
-stands_at (y ∷ xs) x (zero, within, is) = (0, ap Some is)
-stands_at (y ∷ xs) x (suc k, within, is) = let rest = stands_at xs x (k, omega arith, is) in (suc rest.0, rest.1)
-
-contains_at : {X : Type 0} (xs : List X) (k : ℕ) (x : X) → slice_get xs k ≡ Some x → Contains xs x
-contains_at [] k x e = none_is x e
-contains_at (y ∷ xs) zero x e = subst (λ z. Contains (z ∷ xs) x) (sym (some_is y x e)) (contains_head x xs)
-contains_at (y ∷ xs) (suc k) x e = contains_tail y xs x (contains_at xs k x e)
 
 -- the first place at which the number stands
 abbrev place : List ℕ → ℕ → ℕ
@@ -77,12 +33,12 @@ place [] x = 0
 place (y ∷ ys) x = if nat_eq y x then 0 else suc (place ys x)
 
 place_there : (ys : List ℕ) (x k : ℕ) → slice_get ys k ≡ Some x → slice_get ys (place ys x) ≡ Some x
-place_there [] x k e = none_is x e
+place_there [] x k e = none_is_some x e
 place_there (y ∷ ys) x zero e = by_test (nat_eq y x) refl
   where
     by_test : (b : Bool) → nat_eq y x ≡ b → slice_get (y ∷ ys) (place (y ∷ ys) x) ≡ Some x
     by_test true test = ap (λ b. slice_get (y ∷ ys) (if b then 0 else suc (place ys x))) test ∙ e
-    by_test false test = differ (nat_eq y x) (eq-eqb y x (some_is y x e)) test
+    by_test false test = true_false_any (nat_eq y x) (eq-eqb y x (same_some y x e)) test
 place_there (y ∷ ys) x (suc k) e = by_test (nat_eq y x) refl (place_there ys x k e)
   where
     by_test : (b : Bool) → nat_eq y x ≡ b → slice_get ys (place ys x) ≡ Some x → slice_get (y ∷ ys) (place (y ∷ ys) x) ≡ Some x
@@ -90,8 +46,8 @@ place_there (y ∷ ys) x (suc k) e = by_test (nat_eq y x) refl (place_there ys x
     by_test false test rest = ap (λ b. slice_get (y ∷ ys) (if b then 0 else suc (place ys x))) test ∙ rest
 
 mapped : (f : Node → ℕ) (xs : List Node) (k : ℕ) (n : Node) → slice_get xs k ≡ Some n → slice_get (map f xs) k ≡ Some (f n)
-mapped f [] k n e = none_is n e
-mapped f (x ∷ xs) zero n e = ap Some (ap f (some_is x n e))
+mapped f [] k n e = none_is_some n e
+mapped f (x ∷ xs) zero n e = ap Some (ap f (same_some x n e))
 mapped f (x ∷ xs) (suc k) n e = mapped f xs k n e
 
 record Came (f : Node → ℕ) (xs : List Node) (k v : ℕ) : Type 0 where
@@ -100,27 +56,19 @@ record Came (f : Node → ℕ) (xs : List Node) (k v : ℕ) : Type 0 where
   value : f node ≡ v
 
 came : (f : Node → ℕ) (xs : List Node) (k v : ℕ) → slice_get (map f xs) k ≡ Some v → Came f xs k v
-came f [] k v e = none_is v e
-came f (x ∷ xs) zero v e = record { node = x; there = refl; value = some_is (f x) v e }
+came f [] k v e = none_is_some v e
+came f (x ∷ xs) zero v e = record { node = x; there = refl; value = same_some (f x) v e }
 came f (x ∷ xs) (suc k) v e = let rest = came f xs k v e in record { node = rest.node; there = rest.there; value = rest.value }
-
-has_at : (xs : List Node) (k : ℕ) (x n : Node) → slice_get xs k ≡ Some n → Same x n → Has xs x
-has_at [] k x n e same = none_is n e
-has_at (y ∷ xs) zero x n e same = inl (subst (Same x) (sym (some_is y n e)) same)
-has_at (y ∷ xs) (suc k) x n e same = inr (has_at xs k x n e same)
-
-one_itself : (x : Node) → Same x x
-one_itself x = record { label = refl; sort = refl }
 
 itself : (x n : Node) → x ≡ n → Same x n
 itself x n is = subst (Same x) is (one_itself x)
 
 -- no node stands twice
 pub one_place : (xs : List Node) → Differ xs → (i j : ℕ) (n : Node) → slice_get xs i ≡ Some n → slice_get xs j ≡ Some n → i ≡ j
-one_place [] apart i j n one two = none_is n one
+one_place [] apart i j n one two = none_is_some n one
 one_place (x ∷ xs) apart zero zero n one two = refl
-one_place (x ∷ xs) apart zero (suc j) n one two = absurd (apart.0 (has_at xs j x n two (itself x n (some_is x n one))))
-one_place (x ∷ xs) apart (suc i) zero n one two = absurd (apart.0 (has_at xs i x n one (itself x n (some_is x n two))))
+one_place (x ∷ xs) apart zero (suc j) n one two = absurd (apart.0 (has_at xs j x n two (itself x n (same_some x n one))))
+one_place (x ∷ xs) apart (suc i) zero n one two = absurd (apart.0 (has_at xs i x n one (itself x n (same_some x n two))))
 one_place (x ∷ xs) apart (suc i) (suc j) n one two = ap suc (one_place xs apart.1 i j n one two)
 
 -- a node is found by numbers that tell nodes apart
@@ -132,7 +80,7 @@ number_is f xs differs apart k n e =
     apart there.node n (contains_at xs (place (map f xs) (f n)) there.node there.there) (contains_at xs k n e) there.value in
     one_place xs differs (place (map f xs) (f n)) k n (there.there ∙ ap Some same) e
 
-up_to_has : (count k : ℕ) → k < count → Contains (up_to count) k
+pub up_to_has : (count k : ℕ) → k < count → Contains (up_to count) k
 up_to_has zero k lt = absurd (omega arith)
 up_to_has (suc count) k lt = by_case (numbers k count) (λ below. up_to_has count k below)
   where
@@ -145,7 +93,7 @@ up_to_has (suc count) k lt = by_case (numbers k count) (λ below. up_to_has coun
 position_there : (body : Block) (blocks : List (List ℕ)) → Ordered body blocks → (k : ℕ) (n : Node) → slice_get (nodes_in body) k ≡ Some n →
     (p : ℕ) × (slice_get (joined blocks) p ≡ Some k)
 position_there body blocks ordered k n e =
-    stands_at (joined blocks) k
+    index_of (joined blocks) k
     (Contains-permutation (up_to (length (nodes_in body))) (joined blocks) k ordered.all
     (up_to_has (length (nodes_in body)) k (slice_get_within (nodes_in body) k n e)))
 
@@ -158,7 +106,7 @@ record InstanceThere (w : Setting) (i : ℕ) (unit : UnitDef) : Type 0 where
 
 instance_there : (w : Setting) (i : ℕ) (unit : UnitDef) (found : Option Instance) → slice_get w.instances i ≡ found →
     option_and_then (unit_of w) found ≡ Some unit → InstanceThere w i unit
-instance_there w i unit None is of = none_is unit of
+instance_there w i unit None is of = none_is_some unit of
 instance_there w i unit (Some instance) is of = record { instance = instance; is = is; is_unit = of }
 
 record ActivityThere (units : List UnitDef) (machine : List Activity) (at : ℕ) (unit : UnitDef) : Type 0 where
@@ -195,8 +143,8 @@ module _ (within : (body : Block) → StaysWithin body) (w : Setting) (machine :
       Contains (nodes_in (plain_body unit.body)) m → EdgeLeads (plain_body unit.body) n m → rank i n < rank i m
   rises i unit is n m one other leads =
       let s = stands i unit is in
-      let first = stands_at (nodes_in (plain_body unit.body)) n one in
-      let second = stands_at (nodes_in (plain_body unit.body)) m other in
+      let first = index_of (nodes_in (plain_body unit.body)) n one in
+      let second = index_of (nodes_in (plain_body unit.body)) m other in
       s.activity.order.rises (rank i n) (rank i m) first.0 second.0 (at_rank i unit s n first.0 first.1) (at_rank i unit s m second.0 second.1)
       (record { first = n; second = m; is_first = first.1; is_second = second.1; edge = leads })
 
@@ -204,12 +152,12 @@ module _ (within : (body : Block) → StaysWithin body) (w : Setting) (machine :
       Contains (nodes_in (plain_body unit.body)) m → rank i n ≡ rank i m → n ≡ m
   tells_apart i unit n m is one other same =
       let s = stands i unit is in
-      let first = stands_at (nodes_in (plain_body unit.body)) n one in
-      let second = stands_at (nodes_in (plain_body unit.body)) m other in
+      let first = index_of (nodes_in (plain_body unit.body)) n one in
+      let second = index_of (nodes_in (plain_body unit.body)) m other in
       let numbers_same : first.0 ≡ second.0 =
-      some_is first.0 second.0 (sym (at_rank i unit s n first.0 first.1)
+      same_some first.0 second.0 (sym (at_rank i unit s n first.0 first.1)
       ∙ ap (λ p. slice_get (joined s.activity.activity.blocks) p) same ∙ at_rank i unit s m second.0 second.1) in
-      some_is n m (sym first.1 ∙ ap (λ k. slice_get (nodes_in (plain_body unit.body)) k) numbers_same ∙ second.1)
+      same_some n m (sym first.1 ∙ ap (λ k. slice_get (nodes_in (plain_body unit.body)) k) numbers_same ∙ second.1)
 
   pub orders_of : Orders w rank
   orders_of = record {
@@ -258,7 +206,7 @@ module _ (w : Setting) (machine : List Activity) (are : AreActivitiesOf w.units 
       (λ n m one other same. has.orders.apart i unit n m of_unit one other same) k n e in
       let own = activity_there w.units machine are instance.unit unit is_unit (active i unit of_unit) in
       let ordered : Ordered (plain_body unit.body) activity.blocks =
-      subst (λ (a : Activity). Ordered (plain_body unit.body) a.blocks) (some_is own.activity activity (sym own.is ∙ is_active)) own.order in
+      subst (λ (a : Activity). Ordered (plain_body unit.body) a.blocks) (same_some own.activity activity (sym own.is ∙ is_active)) own.order in
       let there = position_there (plain_body unit.body) activity.blocks ordered k n e in
       ap (λ xs. slice_get (joined activity.blocks) (place xs (number i n))) order
       ∙ ap (λ x. slice_get (joined activity.blocks) (place (joined activity.blocks) x)) numbered

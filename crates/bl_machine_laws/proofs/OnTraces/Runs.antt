@@ -1,6 +1,7 @@
 -- Runs of passes are runs that the meaning allows, and there is one over all rows.
 use Rattle.std.proofs.Common.{◌≡◌, ◌⊎◌, inl, inr, ℕ, Bool, true, false, List, [], ◌∷◌, ◌++◌, Some, refl, sym, ap, ◌∙◌, subst}
 use Rattle.std.specs.Prelude.{ℤ}
+use Rattle.bl_tree.proofs.Basics.{true_false_any}
 use Rattle.bl_tree.specs.declared.row.Last.{Last}
 use Rattle.bl_tree.specs.declared.row.Last.TheVariants.{Open, Ended as HasEnded, Trap as HasTrapped}
 use Rattle.bl_tree.specs.declared.row.Trace.{Trace}
@@ -30,7 +31,6 @@ use Rattle.bl_ctree_laws_confluence.specs.Deeds.Orderly.{AcceptedIsOrderly}
 use Rattle.bl_ctree_laws_confluence.specs.Independent.Accepted.{AcceptedTracesAreOne}
 use Rattle.bl_ctree_laws_traces.specs.Ready.Never.{ReachedLowestMayAct}
 use Rattle.bl_ctree_laws_traces.specs.Ready.Ordered.{UnitsAreOrdered}
-use Rattle.bl_machine_laws.proofs.OnWaiting.Quiet.{differ}
 use Rattle.bl_machine_laws.specs.Passes.Low.{LowTrap}
 use Rattle.bl_machine_laws.specs.Passes.Orders.{Orders}
 use Rattle.bl_machine_laws.specs.Passes.Pass.{WholePass}
@@ -68,7 +68,7 @@ module _ (lowest : ReachedLowestMayAct) (complete : PlainStepsAreSteps) (sound :
   still : (c : Control) → Residual W true 0 (entry_items W) c → is_settled (plain_tree c) ≡ true → located.IsStill W c
   still c is_left settled d a c' move =
       let plain = sound W true 0 (entry_items W) c d a c' is_left move in
-      differ (is_settled (plain_tree c)) settled
+      true_false_any (is_settled (plain_tree c)) settled
       (moving W 0 (plain_tree c) d (deed_of a) plain.label (plain_tree c')
       (could W 0 (plain_tree c) d (deed_of a) plain.label (plain_tree c') plain.moves))
 
@@ -205,9 +205,9 @@ runs_are_meant lowest complete sound could moving answers inside between armed f
 pub machines_have_one_trace : UnitsAreOrdered → MachinesGiveOrders → RunsAreMeant → MachinesHaveOneTrace
 machines_have_one_trace ordered give run = record {
   positions = λ accepted machine keeps is are.
-      give.positions accepted.tree.structs accepted.tree.units accepted.tree.entry machine keeps is.tree_passes
-      (ordered accepted.tree.units is.no_walks) are;
+      give.positions accepted.program.structs accepted.program.units accepted.program.entry machine keeps is.passes
+      (ordered accepted.program.units is.no_walks) are;
   traces = λ accepted machine rank keeps is are go_by rows.
-      run.one accepted.tree.structs accepted.tree.units accepted.tree.entry rank keeps is.tree_passes
-      (give.orders accepted.tree.structs accepted.tree.units accepted.tree.entry machine rank keeps is.tree_passes are go_by) rows;
+      run.one accepted.program.structs accepted.program.units accepted.program.entry rank keeps is.passes
+      (give.orders accepted.program.structs accepted.program.units accepted.program.entry machine rank keeps is.passes are go_by) rows;
 }

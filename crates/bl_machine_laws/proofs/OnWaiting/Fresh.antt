@@ -1,55 +1,11 @@
 -- What waits after a turn waited before it at another node, or edges lead to it from the node that had the turn.
-use Rattle.std.proofs.Common.{
-  ◌≡◌,
-  ◌⊎◌,
-  inl,
-  inr,
-  ⊎_elim,
-  ℕ,
-  Bool,
-  true,
-  false,
-  not,
-  ◌&&◌,
-  ◌||◌,
-  if◌then◌else◌,
-  Option,
-  Some,
-  None,
-  List,
-  refl,
-  sym,
-  ap,
-  subst,
-  ◌∙◌,
-}
+use Rattle.std.proofs.Common.{◌≡◌, ◌⊎◌, inl, inr, ⊎_elim, ℕ, Bool, true, false, not, ◌&&◌, ◌||◌, if◌then◌else◌, Option, Some, None, List, refl, sym, ap, subst}
+use Rattle.std.proofs.Common.{◌∙◌}
+use Rattle.bl_tree.proofs.Basics.{and_first, and_second, true_false_any}
 use Rattle.bl_tree.specs.declared.place.Place.{Place as Source}
-use Rattle.bl_graph_nodes.specs.Nodes.{
-  DepthEndAt,
-  DepthJoinAt,
-  ForkAt,
-  Node,
-  SurfaceJoinAt,
-  are_instant,
-  entry,
-  is_instant,
-  label_of,
-  some_instant,
-  some_strong,
-  strong_instant,
-}
-use Rattle.bl_graph_nodes.specs.Plain.{
-  Block,
-  Bodies,
-  Body as BodyOf,
-  Cobegin,
-  Done,
-  Label,
-  Last,
-  Plain,
-  Then,
-  is_empty,
-}
+use Rattle.bl_graph_nodes.specs.Nodes.{DepthEndAt, DepthJoinAt, ForkAt, Node, SurfaceJoinAt, are_instant, entry, is_instant, label_of, some_instant}
+use Rattle.bl_graph_nodes.specs.Nodes.{some_strong, strong_instant}
+use Rattle.bl_graph_nodes.specs.Plain.{Block, Bodies, Body as BodyOf, Cobegin, Done, Label, Last, Plain, Then, is_empty}
 use Rattle.bl_graph_nodes.specs.Steps.{end_node, join_node, run_node}
 use Rattle.bl_graph.specs.DataEdges.{BesideEach}
 use Rattle.bl_graph.specs.Edges.{EdgeEach, Guarded, In, InEach, Into, OutAll}
@@ -58,31 +14,8 @@ use Rattle.bl_ctree.specs.Instances.{Setting}
 use Rattle.bl_ctree_laws.specs.Pending.{Deed, may_end}
 use Rattle.bl_ctree_laws.specs.Shrinks.{EndsShrink, Paces}
 use Rattle.bl_ctree_laws.specs.Steps.{turn}
-use Rattle.bl_ctree_laws.specs.Trees.{
-  Fork,
-  Tree,
-  Trees,
-  Watch,
-  Nil,
-  Wait,
-  Test,
-  Idle,
-  Do,
-  Seq,
-  Par,
-  Guard,
-  Run,
-  are_done,
-  trees_begun,
-  beside,
-  do_block,
-  has_strong,
-  is_nil,
-  no_tree,
-  seq,
-  some_ended,
-  strong_ended,
-}
+use Rattle.bl_ctree_laws.specs.Trees.{Fork, Tree, Trees, Watch, Nil, Wait, Test, Idle, Do, Seq, Par, Guard, Run, are_done, trees_begun, beside, do_block}
+use Rattle.bl_ctree_laws.specs.Trees.{has_strong, is_nil, seq, some_ended, strong_ended}
 use Rattle.bl_ctree_laws_traces.specs.Progress.FitsGraph.{AllFitGraph, FitsGraph, fork_stmt}
 use Rattle.bl_ctree_laws_traces.specs.Progress.Places.{Place, ahead_of, guarded, in_branch, later_on}
 use Rattle.bl_machine_laws.specs.Numbers.Steps.{TurnsAreWalks, TurnsWait, Walks}
@@ -90,7 +23,11 @@ use Rattle.bl_machine_laws.specs.Numbers.Steps as walks
 use Rattle.bl_machine_laws.specs.Numbers.Turns as turns
 use Rattle.bl_machine_laws.specs.Numbers.Turns.{AnsweredDeed, InstancePoint, OneTurns, Turns}
 use Rattle.bl_machine_laws.specs.Numbers.Waiting.{Is, SomeWaits, Waits, check_of, first_in}
-use Rattle.bl_machine_laws.proofs.OnWaiting.Quiet.{after_closed, along, and_first, and_second, differ, done_ends, each_in_part, in_part, part_closed}
+use Rattle.bl_machine_laws.proofs.OnWaiting.Quiet.{after_closed, along, each_in_part, in_part, part_closed}
+use Rattle.bl_ctree_laws.proofs.Less.{begun_strong, done_join, nil_ends}
+use Rattle.bl_ctree_laws_traces.proofs.OnProgress.Leading.{done_strong, is_the_nil}
+use Rattle.bl_ctree_laws_traces.proofs.OnBounded.Stepping.{crossing}
+use Rattle.bl_ctree_laws_traces.proofs.OnProgress.Beginning.{seq_unended, turn_unended}
 
 -- ---- walks
 
@@ -108,34 +45,18 @@ after_map {n = n} into after = record { by = after.by; edge = into n after.by af
 
 -- ---- trees that begin
 
-block_nil : (body : Block) → is_nil (do_block body) ≡ is_empty body
+pub block_nil : (body : Block) → is_nil (do_block body) ≡ is_empty body
 block_nil Done = refl
 block_nil (Then s Done) = refl
 block_nil (Then s (Then t rest)) = refl
 
-turn_open : (body : Block) (next : Plain) → is_nil (do_block (turn body next)) ≡ false
-turn_open Done next = refl
-turn_open (Then s Done) next = refl
-turn_open (Then s (Then t rest)) next = refl
-
-pub seq_open : (c : Tree) (s : Plain) (rest : Block) → is_nil (seq c (Then s rest)) ≡ false
-seq_open Nil s rest = block_nil (Then s rest)
-seq_open (Wait p) s rest = refl
-seq_open (Test p) s rest = refl
-seq_open (Idle body) s rest = refl
-seq_open (Do p) s rest = refl
-seq_open (Seq c after) s rest = refl
-seq_open (Par p stood branches) s rest = refl
-seq_open (Guard p phase stood c) s rest = refl
-seq_open (Run p callee phase stood c) s rest = refl
-
 -- what waits in a block that begins is its first node
-block_waits : (body : Block) (next : Option Node) (y : Node) → Waits (do_block body) next y → Is (first_in body next) y
+pub block_waits : (body : Block) (next : Option Node) (y : Node) → Waits (do_block body) next y → Is (first_in body next) y
 block_waits Done next y h = h
 block_waits (Then s Done) next y h = h
 block_waits (Then s (Then t rest)) next y h = h
 
-seq_waits : (c : Tree) (s : Plain) (rest : Block) (next : Option Node) (y : Node) → Waits (seq c (Then s rest)) next y → Waits c (Some (entry s)) y
+pub seq_waits : (c : Tree) (s : Plain) (rest : Block) (next : Option Node) (y : Node) → Waits (seq c (Then s rest)) next y → Waits c (Some (entry s)) y
 seq_waits Nil s rest next y h = block_waits (Then s rest) next y h
 seq_waits (Wait p) s rest next y h = h
 seq_waits (Test p) s rest next y h = h
@@ -148,14 +69,14 @@ seq_waits (Run p callee phase stood c) s rest next y h = h
 
 nil_waits : (c : Tree) (next : Option Node) (y : Node) → is_nil c ≡ true → Waits c next y → Is next y
 nil_waits Nil next y e h = h
-nil_waits (Wait s) next y e h = differ false e refl
-nil_waits (Test s) next y e h = differ false e refl
-nil_waits (Idle body) next y e h = differ false e refl
-nil_waits (Do s) next y e h = differ false e refl
-nil_waits (Seq c rest) next y e h = differ false e refl
-nil_waits (Par s stood branches) next y e h = differ false e refl
-nil_waits (Guard s phase stood c) next y e h = differ false e refl
-nil_waits (Run s callee phase stood c) next y e h = differ false e refl
+nil_waits (Wait s) next y e h = true_false_any false e refl
+nil_waits (Test s) next y e h = true_false_any false e refl
+nil_waits (Idle body) next y e h = true_false_any false e refl
+nil_waits (Do s) next y e h = true_false_any false e refl
+nil_waits (Seq c rest) next y e h = true_false_any false e refl
+nil_waits (Par s stood branches) next y e h = true_false_any false e refl
+nil_waits (Guard s phase stood c) next y e h = true_false_any false e refl
+nil_waits (Run s callee phase stood c) next y e h = true_false_any false e refl
 
 -- where a block begins or, where nothing stands in it, what follows
 first_into : (body : Block) (next : Option Node) (y : Node) → Is (first_in body next) y → Into body (λ k. Is next k) y
@@ -198,18 +119,18 @@ point_leads : {w : Setting} {i : ℕ} {c : Tree} {d : Bool} {a : Deed} {n : Node
 point_leads g live turns.acts nil = at_once _ (live.0.outs _ refl)
 point_leads g live (turns.takes {body = body}) nil = at_once _ (live.0.outs _ (inr (inr (inl (sym (block_nil body) ∙ nil), refl))))
 point_leads g live (turns.passes {other = other}) nil = at_once _ (live.0.outs _ (inr (inr (inr (sym (block_nil other) ∙ nil), refl))))
-point_leads g live turns.pauses nil = differ false nil refl
-point_leads g live (turns.repeats {l = l} {at = at} {body = body}) nil = differ _ nil (turn_open body _)
-point_leads g live (turns.repeats_until {body = body}) nil = differ _ nil (turn_open body _)
+point_leads g live turns.pauses nil = true_false_any false nil refl
+point_leads g live (turns.repeats {l = l} {at = at} {body = body}) nil = true_false_any _ nil (turn_unended body _)
+point_leads g live (turns.repeats_until {body = body}) nil = true_false_any _ nil (turn_unended body _)
 point_leads g live turns.leaves nil = at_once _ (live.0.outs _ refl)
-point_leads g live turns.turns nil = differ false nil refl
-point_leads g live (turns.enters {body = body}) nil = differ _ nil (turn_open body _)
+point_leads g live turns.turns nil = true_false_any false nil refl
+point_leads g live (turns.enters {body = body}) nil = true_false_any _ nil (turn_unended body _)
 point_leads g live turns.skips nil = at_once _ (live.0.outs _ refl)
-point_leads g live turns.forks nil = differ false nil refl
-point_leads g live turns.guards nil = differ false nil refl
+point_leads g live turns.forks nil = true_false_any false nil refl
+point_leads g live turns.guards nil = true_false_any false nil refl
 point_leads g live turns.goes_on nil = at_once _ live.0
-point_leads g live turns.waits nil = differ false nil refl
-point_leads g live turns.lets nil = differ false nil refl
+point_leads g live turns.waits nil = true_false_any false nil refl
+point_leads g live turns.lets nil = true_false_any false nil refl
 point_leads g live (turns.aborts {s = s} is) nil = record {
   end = DepthEndAt s.label s.place;
   walk = on (check_of s) (DepthEndAt s.label s.place) (DepthEndAt s.label s.place)
@@ -218,22 +139,22 @@ point_leads g live (turns.aborts {s = s} is) nil = record {
       (stay (DepthEndAt s.label s.place));
   out = live.1.fits.outs (DepthEndAt s.label s.place) (inr refl);
 }
-point_leads g live (turns.resets is) nil = differ false nil refl
+point_leads g live (turns.resets is) nil = true_false_any false nil refl
 point_leads g live (turns.guard_ends {s = s} {stood = stood}) nil =
     at_once _ (end_out s stood g (live.1.closes refl).0 live.1.fits.outs)
 point_leads {w} {i} g live (turns.joins {s = s} {stood = stood} {branches = branches} settled done) nil =
-    at_once _ (join_out w i s stood g (live.1.joins (done_ends branches done)).0 live.1.fits.outs)
+    at_once _ (join_out w i s stood g (live.1.joins (done_join branches done)).0 live.1.fits.outs)
 
 pub turn_leads : {w : Setting} {rank : ℕ → Node → ℕ} {i : ℕ} {c : Tree} {done : List AnsweredDeed} {n : Node} {c' : Tree} (g : Place) → FitsGraph w i c g →
     Turns w rank i c done n c' → is_nil c' ≡ true → LeadsOut g.edges g.out n
 turn_leads g live (turns.point p) nil = point_leads g live p nil
-turn_leads g live (turns.runs called is passes lasts) nil = differ false nil refl
-turn_leads g live (turns.resumes passes lasts) nil = differ false nil refl
+turn_leads g live (turns.runs called is passes lasts) nil = true_false_any false nil refl
+turn_leads g live (turns.resumes passes lasts) nil = true_false_any false nil refl
 turn_leads g live (turns.returns {s = s} {stood = stood} passes) nil =
     at_once _ (subst (λ b. g.out (run_node b s.label s.place s.arguments)) (sym live.2.has_stood) (live.2.fits.outs _ refl))
-turn_leads g live (turns.in_seq {s = s} {rest = rest} {c' = c'} t) nil = differ _ nil (seq_open c' s rest)
-turn_leads g live (turns.in_par t) nil = differ false nil refl
-turn_leads g live (turns.in_guard t) nil = differ false nil refl
+turn_leads g live (turns.in_seq {s = s} {rest = rest} {c' = c'} t) nil = true_false_any _ nil (seq_unended c' s rest)
+turn_leads g live (turns.in_par t) nil = true_false_any false nil refl
+turn_leads g live (turns.in_guard t) nil = true_false_any false nil refl
 
 -- ---- what a point leaves waits at the end of an edge
 
@@ -242,22 +163,18 @@ data HasEmpty : Bodies → Type 0 where
   here : {weak : Bool} {rest : Bodies} → HasEmpty (BodyOf weak Done rest)
   there : {weak : Bool} {body : Block} {rest : Bodies} → HasEmpty rest → HasEmpty (BodyOf weak body rest)
 
-begun_strong : (bodies : Bodies) → has_strong (trees_begun bodies) ≡ some_strong bodies
-begun_strong Last = refl
-begun_strong (BodyOf weak body rest) = ap (λ b. not weak || b) (begun_strong rest)
-
 -- all strong branches are empty: so all may end at once, and one is empty where one is strong
 strong_begun : (bodies : Bodies) → strong_ended (trees_begun bodies) ≡ true → strong_instant bodies ≡ true
 strong_begun Last e = refl
 strong_begun (BodyOf true body rest) e = strong_begun rest e
 strong_begun (BodyOf false Done rest) e = strong_begun rest e
-strong_begun (BodyOf false (Then s after) rest) e = differ _ e (ap (λ b. b && strong_ended (trees_begun rest)) (block_nil (Then s after)))
+strong_begun (BodyOf false (Then s after) rest) e = true_false_any _ e (ap (λ b. b && strong_ended (trees_begun rest)) (block_nil (Then s after)))
 
 strong_empty : (bodies : Bodies) → strong_ended (trees_begun bodies) ≡ true → some_strong bodies ≡ true → HasEmpty bodies
-strong_empty Last e f = differ false f refl
+strong_empty Last e f = true_false_any false f refl
 strong_empty (BodyOf true body rest) e f = there (strong_empty rest e f)
 strong_empty (BodyOf false Done rest) e f = here
-strong_empty (BodyOf false (Then s after) rest) e f = differ _ e (ap (λ b. b && strong_ended (trees_begun rest)) (block_nil (Then s after)))
+strong_empty (BodyOf false (Then s after) rest) e f = true_false_any _ e (ap (λ b. b && strong_ended (trees_begun rest)) (block_nil (Then s after)))
 
 some_begun : (bodies : Bodies) → some_ended (trees_begun bodies) ≡ true → some_instant bodies ≡ true
 some_begun Last e = e
@@ -271,7 +188,7 @@ some_begun (BodyOf weak (Then s after) rest) e =
     or_last false b f = f
 
 some_empty : (bodies : Bodies) → some_ended (trees_begun bodies) ≡ true → HasEmpty bodies
-some_empty Last e = differ false e refl
+some_empty Last e = true_false_any false e refl
 some_empty (BodyOf weak Done rest) e = here
 some_empty (BodyOf weak (Then s after) rest) e = there (some_empty rest (ap (λ b. b || some_ended (trees_begun rest)) (sym (block_nil (Then s after))) ∙ e))
 
@@ -313,27 +230,27 @@ at_edge {y = y} edge = record { by = y; edge = edge; rest = stay y }
 -- what waits in what a point leaves comes after it
 point_fresh : {w : Setting} {i : ℕ} {c : Tree} {d : Bool} {a : Deed} {n : Node} {c' : Tree} (g : Place) (next : Option Node) (y : Node) →
     FitsGraph w i c g → InstancePoint w i c d a n c' → is_nil c' ≡ false → Waits c' next y → After g.edges n y
-point_fresh g next y live turns.acts lasts h = differ true refl lasts
+point_fresh g next y live turns.acts lasts h = true_false_any true refl lasts
 point_fresh g next y live (turns.takes {body = body}) lasts h =
     ⊎_elim
     (λ begins. at_edge (live.0.edges _ y (inr (inr (refl, inl begins)))))
-    (λ empty. differ (is_empty body) empty.0 (sym (block_nil body) ∙ lasts))
+    (λ empty. true_false_any (is_empty body) empty.0 (sym (block_nil body) ∙ lasts))
     (first_into body next y (block_waits body next y h))
 point_fresh g next y live (turns.passes {other = other}) lasts h =
     ⊎_elim
     (λ begins. at_edge (live.0.edges _ y (inr (inr (refl, inr begins)))))
-    (λ empty. differ (is_empty other) empty.0 (sym (block_nil other) ∙ lasts))
+    (λ empty. true_false_any (is_empty other) empty.0 (sym (block_nil other) ∙ lasts))
     (first_into other next y (block_waits other next y h))
 point_fresh g next y live turns.pauses lasts h = absurd h
 point_fresh g next y live (turns.repeats {body = body}) lasts h =
     at_edge (live.0.edges _ y (inr (inl (refl, turn_waits_into body _ next y h))))
 point_fresh g next y live (turns.repeats_until {body = body}) lasts h =
     at_edge (live.0.edges _ y (inr (inl (inl (refl, turn_waits_into body _ next y h)))))
-point_fresh g next y live turns.leaves lasts h = differ true refl lasts
+point_fresh g next y live turns.leaves lasts h = true_false_any true refl lasts
 point_fresh g next y live turns.turns lasts h = at_edge (live.0.edges _ y (inr (inr (refl, h))))
 point_fresh g next y live (turns.enters {body = body}) lasts h =
     at_edge (live.0.edges _ y (inr (inl (refl, turn_waits_into body _ next y h))))
-point_fresh g next y live turns.skips lasts h = differ true refl lasts
+point_fresh g next y live turns.skips lasts h = true_false_any true refl lasts
 point_fresh g next y live (turns.forks {l = l} {at = at} {bodies = bodies}) lasts (inl h) =
     at_edge (live.0.edges _ y (fork_leads bodies l at (is_instant (Cobegin l at bodies)) y h))
 point_fresh g next y live (turns.forks {l = l} {at = at} {bodies = bodies}) lasts (inr h) =
@@ -347,12 +264,12 @@ point_fresh g next y live (turns.guards {l = l} {at = at} {body = body}) lasts h
         Into body (λ k. ((are_instant body ≡ true) × (k ≡ end_node false l at)) ⊎ (k ≡ end_node true l at)) y
     ends Done is = inr (refl, inl (refl, is))
     ends (Then s rest) is = inl is
-point_fresh g next y live turns.goes_on lasts h = differ true refl lasts
+point_fresh g next y live turns.goes_on lasts h = true_false_any true refl lasts
 point_fresh g next y live turns.waits lasts h = absurd h
 point_fresh {w} {i} g next y live (turns.lets {s = s} {stood = stood} {c = c}) lasts h =
     in_part w i (later_on (guarded s g)) c (Some (end_node stood s.label s.place)) y live.0 after_closed
-    (λ nil. differ (is_nil c) nil live.1.unended) h
-point_fresh g next y live (turns.aborts is) lasts h = differ true refl lasts
+    (λ nil. true_false_any (is_nil c) nil live.1.unended) h
+point_fresh g next y live (turns.aborts is) lasts h = true_false_any true refl lasts
 point_fresh g next y live (turns.resets {s = s} {stood = stood} is) lasts h =
     at_edge (live.1.fits.edges (check_of s) y (inr (inr (inr (inl (
       refl,
@@ -364,24 +281,13 @@ point_fresh g next y live (turns.resets {s = s} {stood = stood} is) lasts h =
         Into body (λ k. ((are_instant body ≡ true) × (k ≡ end_node false s.label s.place)) ⊎ (k ≡ end_node true s.label s.place)) y
     anew Done is = inr (refl, inr is)
     anew (Then t rest) is = inl is
-point_fresh g next y live turns.guard_ends lasts h = differ true refl lasts
-point_fresh g next y live (turns.joins settled done) lasts h = differ true refl lasts
+point_fresh g next y live turns.guard_ends lasts h = true_false_any true refl lasts
+point_fresh g next y live (turns.joins settled done) lasts h = true_false_any true refl lasts
 
 -- ---- turns
 
-pub nil_is : (c : Tree) → is_nil c ≡ true → c ≡ Nil
-nil_is Nil e = refl
-nil_is (Wait s) e = differ false e refl
-nil_is (Test s) e = differ false e refl
-nil_is (Idle body) e = differ false e refl
-nil_is (Do s) e = differ false e refl
-nil_is (Seq c rest) e = differ false e refl
-nil_is (Par s stood branches) e = differ false e refl
-nil_is (Guard s phase stood c) e = differ false e refl
-nil_is (Run s callee phase stood c) e = differ false e refl
-
 -- what has a turn has not ended
-unended : {w : Setting} {rank : ℕ → Node → ℕ} {i : ℕ} {c : Tree} {done : List AnsweredDeed} {n : Node} {c' : Tree} →
+pub unended : {w : Setting} {rank : ℕ → Node → ℕ} {i : ℕ} {c : Tree} {done : List AnsweredDeed} {n : Node} {c' : Tree} →
     Turns w rank i c done n c' → is_nil c ≡ false
 unended {w} {rank} {i} {c} {done} {n} {c'} t = by_test (is_nil c) refl
   where
@@ -392,7 +298,7 @@ unended {w} {rank} {i} {c} {done} {n} {c'} t = by_test (is_nil c) refl
     nil_rests (turns.point p) = nil_point p
 
     by_test : (b : Bool) → is_nil c ≡ b → is_nil c ≡ false
-    by_test true e = absurd (nil_rests (subst (λ (tree : Tree). Turns w rank i tree done n c') (nil_is c e) t))
+    by_test true e = absurd (nil_rests (subst (λ (tree : Tree). Turns w rank i tree done n c') (is_the_nil c e) t))
     by_test false e = e
 
 -- what leads to both ends of a `when` leads to the one that it has now
@@ -405,34 +311,13 @@ end_edge s false E instant both = both.0 (instant refl)
 abbrev pub FollowsBy : Tree → Option Node → Place → Type 0
 FollowsBy c next g = may_end c ≡ true → (m : Node) → g.out m → (y : Node) → Is next y → g.edges m y
 
-nil_may : (c : Tree) → is_nil c ≡ true → may_end c ≡ true
-nil_may c e = ap may_end (nil_is c e)
-
--- so many branches have ended that the `cobegin` ends: then all strong ones have
-strong_free : (branches : Trees) → has_strong branches ≡ false → strong_ended branches ≡ true
-strong_free no_tree e = refl
-strong_free (beside true c rest) e = strong_free rest e
-strong_free (beside false c rest) e = differ true refl e
-
-pub done_strong : (branches : Trees) → are_done branches ≡ true → strong_ended branches ≡ true
-done_strong branches e = by_kind (has_strong branches) refl
-  where
-    by_kind : (b : Bool) → has_strong branches ≡ b → strong_ended branches ≡ true
-    by_kind true is = ap (λ b. if b then strong_ended branches else some_ended branches) (sym is) ∙ e
-    by_kind false is = strong_free branches is
-
 pub is_weak : (weak : Bool) (c : Tree) → (weak || is_nil c) ≡ true → is_nil c ≡ false → weak ≡ true
 is_weak true c e unended = refl
-is_weak false c e unended = differ (is_nil c) e unended
+is_weak false c e unended = true_false_any (is_nil c) e unended
 
 -- ---- nodes of two branches
 
-pub crossing : (stood weak : Bool) (body : Block) (rest : Bodies) (n m : Node) → In stood body n → InEach stood rest m →
-    BesideEach (BodyOf weak body rest) n m
-crossing false weak body rest n m one other = inr (inl (inl (one, other)))
-crossing true weak body rest n m one other = inr (inr (inl (inl (one, other))))
-
--- the positions of nodes that stand in different branches differ
+-- the positions of nodes that stand in different branches true_false_any
 abbrev pub Parted : (Node → Node → Type 0) → Type 0
 Parted links = (n m : Node) → links n m → (label_of n).position ≡ (label_of m).position → ⊥
 
@@ -511,7 +396,7 @@ module _ {w : Setting} (rank : ℕ → Node → ℕ) (paces : Paces w) (shrinks 
         by_end : (b : Bool) → is_nil c' ≡ b → (Waits c next y × (y ≡ n → ⊥)) ⊎ After g.edges n y
         by_end true e =
             let leads = turn_leads {rank = rank} g live (turns.point p) e in
-            inr (walk_edge leads.walk (follows (ends_before (turns.point p) (nil_may c' e)) leads.end leads.out y (nil_waits c' next y e h)))
+            inr (walk_edge leads.walk (follows (ends_before (turns.point p) (nil_ends c' e)) leads.end leads.out y (nil_waits c' next y e h)))
         by_end false e = inr (point_fresh g next y live p e h)
     fresh g next y live parted follows (turns.runs called is passes lasts) h = absurd h
     fresh g next y live parted follows (turns.resumes passes lasts) h = absurd h
@@ -528,7 +413,7 @@ module _ {w : Setting} (rank : ℕ → Node → ℕ) (paces : Paces w) (shrinks 
     fresh {n = n} g next y live parted follows (turns.in_par {s = s} {stood = stood} {branches = branches} {branches' = branches'} t) (inr h) =
         inr (subst (After g.edges n) (sym h.1) (after_map (λ a b edge. live.1.fits.edges a b edge)
         (joins_after g stood (is_instant (fork_stmt s)) s.bodies s.label s.place
-        (live.1.joins (ends_before (turns.in_par {s = s} {stood = stood} t) (done_ends branches' h.0))).0 live.0 t (done_strong branches' h.0))))
+        (live.1.joins (ends_before (turns.in_par {s = s} {stood = stood} t) (done_join branches' h.0))).0 live.0 t (done_strong branches' h.0))))
     fresh g next y live parted follows (turns.in_guard {s = s} {stood = stood} t) h =
         fresh (guarded s g) (Some (end_node stood s.label s.place)) y live.0 parted (λ may m out k is. subst (g.edges m) (sym is)
         (end_edge s stood (g.edges m) (λ e. (live.1.closes may).0 e) out)) t h

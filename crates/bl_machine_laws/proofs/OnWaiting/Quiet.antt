@@ -1,25 +1,7 @@
 -- What waits in live trees.
-use Rattle.std.proofs.Common.{
-  ◌≡◌,
-  inl,
-  inr,
-  ℕ,
-  Bool,
-  true,
-  false,
-  not,
-  ◌&&◌,
-  ◌||◌,
-  if◌then◌else◌,
-  Option,
-  Some,
-  None,
-  refl,
-  sym,
-  ap,
-  subst,
-  ◌∙◌,
-}
+use Rattle.std.proofs.Common.{◌≡◌, inl, inr, ℕ, Bool, true, false, not, ◌&&◌, ◌||◌, if◌then◌else◌, Option, Some, None, refl, sym, ap, subst, ◌∙◌}
+use Rattle.std.proofs.lemmas.Bool.{not-false, not-true}
+use Rattle.bl_tree.proofs.Basics.{and_first, and_second, true_false_any}
 use Rattle.bl_graph_nodes.specs.Nodes.{Node, entry}
 use Rattle.bl_graph_nodes.specs.Plain.{Block, Bodies, Body as BodyOf, Done, Last, Then}
 use Rattle.bl_graph_nodes.specs.Steps.{end_node, join_node, run_node}
@@ -28,56 +10,16 @@ use Rattle.bl_graph.specs.Walks.{After, Walk, on, stay}
 use Rattle.bl_ctree.specs.Control.{Body, Check}
 use Rattle.bl_ctree.specs.Instances.{Setting}
 use Rattle.bl_ctree_laws.specs.Pending.{may_end, may_join}
-use Rattle.bl_ctree_laws.specs.Trees.{
-  Fork,
-  Tree,
-  Trees,
-  Watch,
-  Nil,
-  Wait,
-  Test,
-  Idle,
-  Do,
-  Seq,
-  Par,
-  Guard,
-  Run,
-  are_done,
-  are_settled,
-  beside,
-  has_strong,
-  is_nil,
-  is_settled,
-  no_tree,
-  some_ended,
-  strong_ended,
-}
+use Rattle.bl_ctree_laws.specs.Trees.{Fork, Tree, Trees, Watch, Nil, Wait, Test, Idle, Do, Seq, Par, Guard, Run, are_done, are_settled, beside}
+use Rattle.bl_ctree_laws.specs.Trees.{is_nil, is_settled, no_tree, some_ended}
 use Rattle.bl_ctree_laws_traces.specs.Progress.FitsGraph.{AllFitGraph, FitsGraph}
 use Rattle.bl_ctree_laws_traces.specs.Progress.Places.{Place, ahead_of, guarded, in_branch, later_on, whole}
 use Rattle.bl_machine_laws.specs.Numbers.Waiting.{Is, SomeWaits, Waits, check_of, first_in, test_of}
 use Rattle.bl_machine_laws.specs.Waiting.Laws.{AllPassed, RunsArePassed, SomethingWaits}
+use Rattle.bl_ctree_laws.proofs.Less.{done_join, nil_ends}
+use Rattle.bl_ctree_laws_traces.proofs.OnProgress.Leading.{one_on}
 
 -- ---- tests
-
-pub and_first : (a b : Bool) → (a && b) ≡ true → a ≡ true
-and_first true b e = refl
-and_first false b e = absurd cc
-
-pub and_second : (a b : Bool) → (a && b) ≡ true → b ≡ true
-and_second true b e = e
-and_second false b e = absurd cc
-
-pub not_true : (a : Bool) → not a ≡ true → a ≡ false
-not_true true e = absurd cc
-not_true false e = refl
-
-not_false : (a : Bool) → not a ≡ false → a ≡ true
-not_false true e = refl
-not_false false e = absurd cc
-
-pub differ : {A : Type 0} (a : Bool) → a ≡ true → a ≡ false → A
-differ true e f = absurd cc
-differ false e f = absurd cc
 
 -- ---- between ticks nothing waits
 
@@ -96,24 +38,24 @@ either_quiet (Run s callee phase stood c) n quiet h = quiet refl h
 mutual
   quiet : (w : Setting) (i : ℕ) (g : Place) (c : Tree) (next : Option Node) (n : Node) → FitsGraph w i c g → is_settled c ≡ true → is_nil c ≡ false →
       Waits c next n → ⊥
-  quiet w i g Nil next n live settled unended h = differ true refl unended
+  quiet w i g Nil next n live settled unended h = true_false_any true refl unended
   quiet w i g (Wait s) next n live settled unended h = h
-  quiet w i g (Test s) next n live settled unended h = differ false settled refl
+  quiet w i g (Test s) next n live settled unended h = true_false_any false settled refl
   quiet w i g (Idle body) next n live settled unended h = h
-  quiet w i g (Do s) next n live settled unended h = differ false settled refl
+  quiet w i g (Do s) next n live settled unended h = true_false_any false settled refl
   quiet w i g (Seq c Done) next n live settled unended h = live
   quiet w i g (Seq c (Then s rest)) next n live settled unended h =
       quiet w i (ahead_of (entry s) g) c (first_in (Then s rest) next) n live.0 settled live.1.unended h
   quiet w i g (Par s stood branches) next n live settled unended (inl h) =
       quiet_each w i g stood branches s.bodies n live.0 (and_first (are_settled branches) (not (are_done branches)) settled) h
   quiet w i g (Par s stood branches) next n live settled unended (inr h) =
-      differ (are_done branches) h.0 (not_true (are_done branches) (and_second (are_settled branches) (not (are_done branches)) settled))
+      true_false_any (are_done branches) h.0 (not-true (are_done branches) (and_second (are_settled branches) (not (are_done branches)) settled))
   quiet w i g (Guard s Body stood c) next n live settled unended h =
       quiet w i (guarded s g) c (Some (end_node stood s.label s.place)) n live.0 (and_first (is_settled c) (not (is_nil c)) settled)
-      (not_true (is_nil c) (and_second (is_settled c) (not (is_nil c)) settled)) h
-  quiet w i g (Guard s Check stood c) next n live settled unended h = differ false settled refl
+      (not-true (is_nil c) (and_second (is_settled c) (not (is_nil c)) settled)) h
+  quiet w i g (Guard s Check stood c) next n live settled unended h = true_false_any false settled refl
   quiet w i g (Run s callee Body stood c) next n live settled unended h = h
-  quiet w i g (Run s callee Check stood c) next n live settled unended h = differ false settled refl
+  quiet w i g (Run s callee Check stood c) next n live settled unended h = true_false_any false settled refl
 
   quiet_each : (w : Setting) (i : ℕ) (g : Place) (stood : Bool) (branches : Trees) (bodies : Bodies) (n : Node) → AllFitGraph w i branches bodies stood g →
       are_settled branches ≡ true → SomeWaits branches n → ⊥
@@ -143,14 +85,14 @@ record Some_in (branches : Trees) : Type 0 where
 -- what has ended waits at what follows it
 ended_waits : (c : Tree) (n : Node) → is_nil c ≡ true → Waits c (Some n) n
 ended_waits Nil n e = refl
-ended_waits (Wait s) n e = differ false e refl
-ended_waits (Test s) n e = differ false e refl
-ended_waits (Idle body) n e = differ false e refl
-ended_waits (Do s) n e = differ false e refl
-ended_waits (Seq c rest) n e = differ false e refl
-ended_waits (Par s stood branches) n e = differ false e refl
-ended_waits (Guard s phase stood c) n e = differ false e refl
-ended_waits (Run s callee phase stood c) n e = differ false e refl
+ended_waits (Wait s) n e = true_false_any false e refl
+ended_waits (Test s) n e = true_false_any false e refl
+ended_waits (Idle body) n e = true_false_any false e refl
+ended_waits (Do s) n e = true_false_any false e refl
+ended_waits (Seq c rest) n e = true_false_any false e refl
+ended_waits (Par s stood branches) n e = true_false_any false e refl
+ended_waits (Guard s phase stood c) n e = true_false_any false e refl
+ended_waits (Run s callee phase stood c) n e = true_false_any false e refl
 
 -- a `cobegin` whose branches are settled is done, so its join waits
 par_stirs : (s : Fork) (stood : Bool) (branches : Trees) (next : Option Node) → (are_settled branches && not (are_done branches)) ≡ false →
@@ -160,7 +102,7 @@ par_stirs s stood branches next left inner = by_branches (are_settled branches) 
     by_branches : (b : Bool) → are_settled branches ≡ b → Some_at (Par s stood branches) next
     by_branches true e = record {
       node = join_node stood s.label s.place;
-      waits = inr (not_false (are_done branches) (ap (λ b. b && not (are_done branches)) (sym e) ∙ left), refl);
+      waits = inr (not-false (are_done branches) (ap (λ b. b && not (are_done branches)) (sym e) ∙ left), refl);
     }
     by_branches false e = record { node = (inner e).node; waits = inl (inner e).waits }
 
@@ -172,7 +114,7 @@ guard_stirs s stood c next left inner = by_end (is_settled c) refl
     by_end : (b : Bool) → is_settled c ≡ b → Some_at (Guard s Body stood c) next
     by_end true e = record {
       node = end_node stood s.label s.place;
-      waits = ended_waits c (end_node stood s.label s.place) (not_false (is_nil c) (ap (λ b. b && not (is_nil c)) (sym e) ∙ left));
+      waits = ended_waits c (end_node stood s.label s.place) (not-false (is_nil c) (ap (λ b. b && not (is_nil c)) (sym e) ∙ left));
     }
     by_end false e = record { node = (inner e).node; waits = (inner e).waits }
 
@@ -193,10 +135,10 @@ settled_so false b e f = absurd cc
 
 mutual
   stirs : (w : Setting) (i : ℕ) (g : Place) (c : Tree) (next : Option Node) → FitsGraph w i c g → RunsArePassed c → is_settled c ≡ false → Some_at c next
-  stirs w i g Nil next live passed left = differ true refl left
-  stirs w i g (Wait s) next live passed left = differ true refl left
+  stirs w i g Nil next live passed left = true_false_any true refl left
+  stirs w i g (Wait s) next live passed left = true_false_any true refl left
   stirs w i g (Test s) next live passed left = record { node = test_of s; waits = refl }
-  stirs w i g (Idle body) next live passed left = differ true refl left
+  stirs w i g (Idle body) next live passed left = true_false_any true refl left
   stirs w i g (Do s) next live passed left = record { node = entry s; waits = refl }
   stirs w i g (Seq c Done) next live passed left = absurd live
   stirs w i g (Seq c (Then s rest)) next live passed left =
@@ -208,12 +150,12 @@ mutual
       guard_stirs s stood c next left (λ e. stirs w i (guarded s g) c (Some (end_node stood s.label s.place)) live.0 passed e)
   stirs w i g (Guard s Check stood c) next live passed left = record { node = check_of s; waits = inl refl }
   stirs w i g (Run s callee Body stood c) next live passed left =
-      differ (is_settled c && not (is_nil c)) (settled_so (is_settled c) (is_nil c) passed.0 passed.1) left
+      true_false_any (is_settled c && not (is_nil c)) (settled_so (is_settled c) (is_nil c) passed.0 passed.1) left
   stirs w i g (Run s callee Check stood c) next live passed left = record { node = run_node stood s.label s.place s.arguments; waits = refl }
 
   stirs_each : (w : Setting) (i : ℕ) (g : Place) (stood : Bool) (branches : Trees) (bodies : Bodies) → AllFitGraph w i branches bodies stood g →
       AllPassed branches → are_settled branches ≡ false → Some_in branches
-  stirs_each w i g stood no_tree bodies live passed left = differ true refl left
+  stirs_each w i g stood no_tree bodies live passed left = true_false_any true refl left
   stirs_each w i g stood (beside weak c branches) Last live passed left = absurd live
   stirs_each w i g stood (beside weak c branches) (BodyOf weak' body rest) live passed left =
       first_stirs weak c branches left (λ e. stirs w i (in_branch stood body g) c None live.0 passed.0 e)
@@ -233,35 +175,12 @@ pub along : {E : Node → Node → Type 0} {F : Node → Type 0} {n m : Node} �
 along closed f (stay n) = f
 along closed f (on n by m edge walk) = along closed (closed n by f edge) walk
 
-reached_on : {E : Node → Node → Type 0} {n by m : Node} → Walk E n by → E by m → Walk E n m
-reached_on (stay n) edge = on n _ _ edge (stay _)
-reached_on (on n via by first walk) edge = on n via _ first (reached_on walk edge)
-
 pub part_closed : (stood : Bool) (body : Block) → Closed (EdgeAll body) (In stood body)
-part_closed true body n m there edge = record { from = there.from; begins = there.begins; walk = reached_on there.walk edge }
-part_closed false body n m there edge = record { from = there.from; begins = there.begins; walk = reached_on there.walk edge }
+part_closed true body n m there edge = record { from = there.from; begins = there.begins; walk = one_on there.walk edge }
+part_closed false body n m there edge = record { from = there.from; begins = there.begins; walk = one_on there.walk edge }
 
 pub after_closed : {E : Node → Node → Type 0} {n : Node} → Closed E (After E n)
-after_closed m k there edge = record { by = there.by; edge = there.edge; rest = reached_on there.rest edge }
-
--- what has ended may end
-nil_ends : (c : Tree) → is_nil c ≡ true → may_end c ≡ true
-nil_ends Nil e = refl
-nil_ends (Wait s) e = differ false e refl
-nil_ends (Test s) e = differ false e refl
-nil_ends (Idle body) e = differ false e refl
-nil_ends (Do s) e = differ false e refl
-nil_ends (Seq c rest) e = differ false e refl
-nil_ends (Par s stood branches) e = differ false e refl
-nil_ends (Guard s phase stood c) e = differ false e refl
-nil_ends (Run s callee phase stood c) e = differ false e refl
-
-strong_end : (branches : Trees) → strong_ended branches ≡ true → may_join true branches ≡ true
-strong_end no_tree e = refl
-strong_end (beside true c rest) e = strong_end rest e
-strong_end (beside false c rest) e =
-    ap (λ b. b && may_join true rest) (nil_ends c (and_first (is_nil c) (strong_ended rest) e))
-    ∙ strong_end rest (and_second (is_nil c) (strong_ended rest) e)
+after_closed m k there edge = record { by = there.by; edge = there.edge; rest = one_on there.rest edge }
 
 some_end_first : (c : Tree) (rest : Trees) → (is_nil c || some_ended rest) ≡ true → (some_ended rest ≡ true → may_join false rest ≡ true) →
     (may_end c || may_join false rest) ≡ true
@@ -274,19 +193,6 @@ some_end_first c rest e others = by_first (is_nil c) refl
     by_first : (b : Bool) → is_nil c ≡ b → (may_end c || may_join false rest) ≡ true
     by_first true is = ap (λ b. b || may_join false rest) (nil_ends c is)
     by_first false is = or_last (may_end c) (may_join false rest) (others (ap (λ b. b || some_ended rest) (sym is) ∙ e))
-
-some_end : (branches : Trees) → some_ended branches ≡ true → may_join false branches ≡ true
-some_end no_tree e = e
-some_end (beside weak c rest) e = some_end_first c rest e (λ f. some_end rest f)
-
-pub done_ends : (branches : Trees) → are_done branches ≡ true → may_join (has_strong branches) branches ≡ true
-done_ends branches e = by_strong (has_strong branches) refl
-  where
-    by_strong : (b : Bool) → has_strong branches ≡ b → may_join (has_strong branches) branches ≡ true
-    by_strong true is =
-        ap (λ b. may_join b branches) is ∙ strong_end branches (ap (λ b. if b then strong_ended branches else some_ended branches) (sym is) ∙ e)
-    by_strong false is =
-        ap (λ b. may_join b branches) is ∙ some_end branches (ap (λ b. if b then strong_ended branches else some_ended branches) (sym is) ∙ e)
 
 -- where the tree has ended, what follows it may act
 abbrev pub NextNow : Tree → Option Node → (Node → Type 0) → Type 0
@@ -302,18 +208,18 @@ mutual
   in_part w i g (Do s) next n live closed follows h = subst g.now (sym h) live.1
   in_part w i g (Seq c Done) next n live closed follows h = absurd live
   in_part w i g (Seq c (Then s rest)) next n live closed follows h =
-      in_part w i (ahead_of (entry s) g) c (first_in (Then s rest) next) n live.0 closed (λ nil. differ (is_nil c) nil live.1.unended) h
+      in_part w i (ahead_of (entry s) g) c (first_in (Then s rest) next) n live.0 closed (λ nil. true_false_any (is_nil c) nil live.1.unended) h
   in_part w i g (Par s stood branches) next n live closed follows (inl h) =
       live.1.holds.now n (each_in_part w i g stood branches s.bodies n live.0 h)
   in_part w i g (Par s stood branches) next n live closed follows (inr h) =
-      subst g.now (sym h.1) (live.1.joins (done_ends branches h.0)).1
+      subst g.now (sym h.1) (live.1.joins (done_join branches h.0)).1
   in_part w i g (Guard s Body stood c) next n live closed follows h =
       in_part w i (guarded s g) c (Some (end_node stood s.label s.place)) n live.0 closed
       (λ nil m is. subst g.now (sym is) (live.1.closes (nil_ends c nil)).1) h
   in_part w i g (Guard s Check stood c) next n live closed follows (inl h) = subst g.now (sym h) live.1.checks
   in_part w i g (Guard s Check stood c) next n live closed follows (inr h) =
       let after = in_part w i (later_on (guarded s g)) c (Some (end_node stood s.label s.place)) n live.0 after_closed
-      (λ nil. differ (is_nil c) nil live.1.unended) h in along closed (closed (check_of s) after.by live.1.checks after.edge) after.rest
+      (λ nil. true_false_any (is_nil c) nil live.1.unended) h in along closed (closed (check_of s) after.by live.1.checks after.edge) after.rest
   in_part w i g (Run s callee Body stood c) next n live closed follows h = absurd h
   in_part w i g (Run s callee Check stood c) next n live closed follows h = subst g.now (sym h) live.2.now
 

@@ -1,41 +1,20 @@
 -- What waits in a woken tree, and its numbers.
 use Rattle.std.proofs.Common.{◌≡◌, ℕ, suc, Bool, true, false, not, ◌&&◌, ◌||◌, if◌then◌else◌, Option, Some}
 use Rattle.std.proofs.Common.{None, inl, inr, refl, sym, ap, ◌∙◌}
+use Rattle.std.proofs.lemmas.Bool.{not-true}
+use Rattle.bl_tree.proofs.Basics.{and_first, and_second, true_false_any}
 use Rattle.bl_graph_nodes.specs.Nodes.{Node, entry}
 use Rattle.bl_graph_nodes.specs.Plain.{Bodies, Body as BodyOf, Done, Label, Last, Then}
 use Rattle.bl_graph_nodes.specs.Steps.{end_node}
 use Rattle.bl_ctree.specs.Control.{Body, Check}
 use Rattle.bl_ctree.specs.Instances.{Setting}
-use Rattle.bl_ctree_laws.specs.Trees.{
-  Tree,
-  Trees,
-  Nil,
-  Wait,
-  Test,
-  Idle,
-  Do,
-  Seq,
-  Par,
-  Guard,
-  Run,
-  all_woken,
-  are_done,
-  are_settled,
-  beside,
-  has_strong,
-  is_nil,
-  is_settled,
-  no_tree,
-  some_ended,
-  strong_ended,
-  woken,
-}
+use Rattle.bl_ctree_laws.specs.Trees.{Tree, Trees, Nil, Wait, Test, Idle, Do, Seq, Par, Guard, Run, all_woken, are_done, are_settled, beside, has_strong}
+use Rattle.bl_ctree_laws.specs.Trees.{is_nil, is_settled, no_tree, some_ended, strong_ended, woken}
 use Rattle.bl_ctree_laws_traces.specs.Progress.FitsGraph.{AllFitGraph, FitsGraph}
 use Rattle.bl_ctree_laws_traces.specs.Progress.Places.{Place, ahead_of, guarded, in_branch, later_on}
 use Rattle.bl_machine.specs.Uses.{Slots, uses_in_branch}
 use Rattle.bl_machine_laws.specs.Numbers.Numbers.{Next, Over, Rests, into, numbers_in, numbers_of}
 use Rattle.bl_machine_laws.specs.Numbers.Waiting.{Sleeps, SomeSleeps, SomeWaits, Waits, first_in}
-use Rattle.bl_machine_laws.proofs.OnWaiting.Quiet.{and_first, and_second, differ, not_true}
 
 -- ---- ends are the same in a woken tree
 
@@ -98,24 +77,24 @@ either_rested (Run s callee phase stood c) n rested h = rested refl h
 mutual
   rested : (w : Setting) (i : ℕ) (g : Place) (c : Tree) (next : Option Node) (n : Node) → FitsGraph w i c g → is_settled c ≡ true → is_nil c ≡ false →
       Waits (woken c) next n → Sleeps (woken c) n
-  rested w i g Nil next n live settled unended h = differ true refl unended
+  rested w i g Nil next n live settled unended h = true_false_any true refl unended
   rested w i g (Wait s) next n live settled unended h = h
   rested w i g (Test s) next n live settled unended h = h
   rested w i g (Idle body) next n live settled unended h = absurd live
-  rested w i g (Do s) next n live settled unended h = differ false settled refl
+  rested w i g (Do s) next n live settled unended h = true_false_any false settled refl
   rested w i g (Seq c Done) next n live settled unended h = absurd live
   rested w i g (Seq c (Then s rest)) next n live settled unended h =
       rested w i (ahead_of (entry s) g) c (first_in (Then s rest) next) n live.0 settled live.1.unended h
   rested w i g (Par s stood branches) next n live settled unended (inl h) =
       each_rested w i g stood branches s.bodies n live.0 (and_first (are_settled branches) (not (are_done branches)) settled) h
   rested w i g (Par s stood branches) next n live settled unended (inr h) =
-      differ (are_done branches) (sym (woken_done w i g stood branches s.bodies live.0) ∙ h.0)
-      (not_true (are_done branches) (and_second (are_settled branches) (not (are_done branches)) settled))
+      true_false_any (are_done branches) (sym (woken_done w i g stood branches s.bodies live.0) ∙ h.0)
+      (not-true (are_done branches) (and_second (are_settled branches) (not (are_done branches)) settled))
   rested w i g (Guard s Body stood c) next n live settled unended (inl h) = inl h
   rested w i g (Guard s Body stood c) next n live settled unended (inr h) =
       inr (rested w i (guarded s g) c (Some (end_node true s.label s.place)) n live.0 (and_first (is_settled c) (not (is_nil c)) settled)
-      (not_true (is_nil c) (and_second (is_settled c) (not (is_nil c)) settled)) h)
-  rested w i g (Guard s Check stood c) next n live settled unended h = differ false settled refl
+      (not-true (is_nil c) (and_second (is_settled c) (not (is_nil c)) settled)) h)
+  rested w i g (Guard s Check stood c) next n live settled unended h = true_false_any false settled refl
   rested w i g (Run s callee phase stood c) next n live settled unended h = h
 
   each_rested : (w : Setting) (i : ℕ) (g : Place) (stood : Bool) (branches : Trees) (bodies : Bodies) (n : Node) → AllFitGraph w i branches bodies stood g →

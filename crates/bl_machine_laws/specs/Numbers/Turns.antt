@@ -8,54 +8,15 @@ use Rattle.bl_tree.specs.declared.tree.Path.{Path}
 use Rattle.bl_tree.specs.declared.tree.Stmt.{Stmt, out-Stmt}
 use Rattle.bl_tree.specs.declared.tree.Unit.{Unit as UnitDef}
 use Rattle.bl_graph_nodes.specs.Nodes.{CheckAt, Node, TestAt, entry}
-use Rattle.bl_graph_nodes.specs.Plain.{
-  Act,
-  Again,
-  Await,
-  Block,
-  Bodies,
-  Cobegin,
-  If,
-  Label,
-  Plain,
-  Repeat,
-  Run as RunOf,
-  Then,
-  Until,
-  When,
-  While,
-  plain_body,
-}
+use Rattle.bl_graph_nodes.specs.Plain.{Act, Again, Await, Block, Bodies, Cobegin, If, Label, Plain, Repeat, Run as RunOf, Then, Until, When, While, plain_body}
 use Rattle.bl_graph_nodes.specs.Steps.{end_node, join_node, run_node}
 use Rattle.bl_ctree.specs.Actions.{Acts, Asks, Copies, Gives, Silent}
 use Rattle.bl_ctree.specs.Control.{Body, Check}
 use Rattle.bl_ctree.specs.Instances.{Setting, callee_of, unit_at}
 use Rattle.bl_ctree_laws.specs.Pending.{Deed, deed}
 use Rattle.bl_ctree_laws.specs.Steps.{call, fork, pause, turn, watch}
-use Rattle.bl_ctree_laws.specs.Trees.{
-  Call,
-  Fork,
-  Pause,
-  Tree,
-  Trees,
-  Watch,
-  Nil,
-  Wait,
-  Test,
-  Do,
-  Seq,
-  Par,
-  Guard,
-  Run,
-  are_done,
-  are_settled,
-  trees_begun,
-  beside,
-  do_block,
-  is_nil,
-  is_settled,
-  seq,
-}
+use Rattle.bl_ctree_laws.specs.Trees.{Call, Fork, Pause, Tree, Trees, Watch, Nil, Wait, Test, Do, Seq, Par, Guard, Run, are_done, are_settled, trees_begun}
+use Rattle.bl_ctree_laws.specs.Trees.{beside, do_block, is_nil, is_settled, seq}
 
 -- a deed and its answer
 pub record AnsweredDeed : Type 0 where

@@ -4,24 +4,7 @@ use Rattle.bl_graph_nodes.specs.Nodes.{CheckAt, Node, TestAt, entry}
 use Rattle.bl_graph_nodes.specs.Plain.{Block, Done, Then}
 use Rattle.bl_graph_nodes.specs.Steps.{end_node, join_node, run_node}
 use Rattle.bl_ctree.specs.Control.{Body, Check}
-use Rattle.bl_ctree_laws.specs.Trees.{
-  Pause,
-  Tree,
-  Trees,
-  Watch,
-  Nil,
-  Wait,
-  Test,
-  Idle,
-  Do,
-  Seq,
-  Par,
-  Guard,
-  Run,
-  are_done,
-  beside,
-  no_tree,
-}
+use Rattle.bl_ctree_laws.specs.Trees.{Pause, Tree, Trees, Watch, Nil, Wait, Test, Idle, Do, Seq, Par, Guard, Run, are_done, beside, no_tree}
 
 -- the node at which an `await` goes on in a later tick
 abbrev pub test_of : Pause → Node

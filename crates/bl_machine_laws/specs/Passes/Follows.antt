@@ -16,24 +16,7 @@ use Rattle.bl_ctree.specs.Store.{Store}
 use Rattle.bl_ctree_laws.specs.Ends.{done_by}
 use Rattle.bl_ctree_laws.specs.Pending.{Deed, deed}
 use Rattle.bl_ctree_laws.specs.Steps.{call}
-use Rattle.bl_ctree_laws.specs.Trees.{
-  Call,
-  Fork,
-  Tree,
-  Trees,
-  Watch,
-  Nil,
-  Do,
-  Seq,
-  Par,
-  Guard,
-  Run,
-  beside,
-  do_block,
-  is_nil,
-  is_settled,
-  seq,
-}
+use Rattle.bl_ctree_laws.specs.Trees.{Call, Fork, Tree, Trees, Watch, Nil, Do, Seq, Par, Guard, Run, beside, do_block, is_nil, is_settled, seq}
 use Rattle.bl_machine_laws.specs.Numbers.Turns.{InstancePoint}
 use Rattle.bl_machine_laws.specs.Numbers.Waiting.{Waits}
 

@@ -1,23 +1,7 @@
 -- Trees in which no pass over a called instance is under way.
 use Rattle.std.specs.Prelude.{◌≡◌, true, false, ⊤}
 use Rattle.bl_ctree.specs.Control.{Body, Check}
-use Rattle.bl_ctree_laws.specs.Trees.{
-  Tree,
-  Trees,
-  Nil,
-  Wait,
-  Test,
-  Idle,
-  Do,
-  Seq,
-  Par,
-  Guard,
-  Run,
-  beside,
-  is_nil,
-  is_settled,
-  no_tree,
-}
+use Rattle.bl_ctree_laws.specs.Trees.{Tree, Trees, Nil, Wait, Test, Idle, Do, Seq, Par, Guard, Run, beside, is_nil, is_settled, no_tree}
 
 abbrev mutual
   -- each `run` in the tree that has its inputs has been passed: nothing is left to do in its callee, which hasn't ended. Inside of `run`s without their inputs

@@ -72,11 +72,11 @@ pub record RunsAreMeant : Type 0 where
 -- the machine, and such numbers exist
 pub record MachinesHaveOneTrace : Type 0 where
   pub positions : (accepted : AcceptedProgram) (machine : List Activity) →
-      let program = accepted.tree in
+      let program = accepted.program in
       IsWellTyped program.structs program.units program.entry → IsAccepted accepted → AreActivitiesOf program.units machine →
       HasPositions (setting_of program.structs program.units program.entry) machine
   pub traces : (accepted : AcceptedProgram) (machine : List Activity) (rank : ℕ → Node → ℕ) →
-      let program = accepted.tree in
+      let program = accepted.program in
       IsWellTyped program.structs program.units program.entry → IsAccepted accepted → AreActivitiesOf program.units machine →
       GoBy (setting_of program.structs program.units program.entry) machine rank →
       (rows : List (List ℤ)) → OneRun program.structs program.units program.entry rank rows

@@ -8,23 +8,7 @@ use Rattle.bl_graph.specs.Walks.{After}
 use Rattle.bl_ctree.specs.Control.{Body, Check}
 use Rattle.bl_ctree.specs.Instances.{Setting}
 use Rattle.bl_ctree_laws.specs.Shrinks.{Paces}
-use Rattle.bl_ctree_laws.specs.Trees.{
-  Tree,
-  Trees,
-  Nil,
-  Wait,
-  Test,
-  Idle,
-  Do,
-  Seq,
-  Par,
-  Guard,
-  Run,
-  beside,
-  is_nil,
-  is_settled,
-  no_tree,
-}
+use Rattle.bl_ctree_laws.specs.Trees.{Tree, Trees, Nil, Wait, Test, Idle, Do, Seq, Par, Guard, Run, beside, is_nil, is_settled, no_tree}
 use Rattle.bl_ctree_laws_traces.specs.Progress.FitsGraph.{FitsGraph}
 use Rattle.bl_ctree_laws_traces.specs.Progress.Places.{whole}
 use Rattle.bl_machine_laws.specs.Numbers.Turns.{AnsweredDeed, Turns}

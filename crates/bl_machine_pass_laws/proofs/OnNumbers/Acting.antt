@@ -1,47 +1,14 @@
 -- The rule of the node that has a turn leads from the numbers of the tree to those of what it becomes.
 use Rattle.std.proofs.Common.{◌≡◌, inl, ℕ, suc, Bool, true, false, List, [], ◌∷◌, ◌++◌, Contains, map, if◌then◌else◌, refl, sym, ap, subst}
+use Rattle.bl_tree.proofs.Basics.{number_itself}
 use Rattle.bl_tree.specs.declared.place.Place.{Place as Source}
 use Rattle.bl_tree.specs.declared.tree.Expr.{Expr}
 use Rattle.bl_tree.specs.declared.tree.Guard.{Guard as GuardKind}
 use Rattle.bl_tree.specs.declared.tree.Guard.TheVariants.{Abort, Reset}
-use Rattle.bl_graph_nodes.specs.Nodes.{
-  ActAt,
-  DepthEndAt,
-  EnterAt,
-  ForkAt,
-  HeadAt,
-  Node,
-  PauseAt,
-  ResumeAt,
-  StartAt,
-  SurfaceEndAt,
-  SurfaceJoinAt,
-  TestAt,
-  are_instant,
-  arguments_of,
-  entry,
-  is_instant,
-}
-use Rattle.bl_graph_nodes.specs.Plain.{
-  Act,
-  Again,
-  Await,
-  Block,
-  Bodies,
-  Body as BodyOf,
-  Cobegin,
-  Done,
-  If,
-  Label,
-  Last,
-  Plain,
-  Repeat,
-  Run as RunOf,
-  Then,
-  Until,
-  When,
-  While,
-}
+use Rattle.bl_graph_nodes.specs.Nodes.{ActAt, DepthEndAt, EnterAt, ForkAt, HeadAt, Node, PauseAt, ResumeAt, StartAt, SurfaceEndAt, SurfaceJoinAt, TestAt}
+use Rattle.bl_graph_nodes.specs.Nodes.{are_instant, arguments_of, entry, is_instant}
+use Rattle.bl_graph_nodes.specs.Plain.{Act, Again, Await, Block, Bodies, Body as BodyOf, Cobegin, Done, If, Label, Last, Plain, Repeat, Run as RunOf, Then}
+use Rattle.bl_graph_nodes.specs.Plain.{Until, When, While}
 use Rattle.bl_graph_nodes.specs.Steps.{end_node, join_node, run_node}
 use Rattle.bl_ctree.specs.Control.{Body, Check}
 use Rattle.bl_ctree.specs.Instances.{Setting}
@@ -54,64 +21,20 @@ use Rattle.bl_machine.specs.Uses.{Slots, uses_in, uses_in_branch, uses_in_each}
 use Rattle.bl_machine_laws.specs.Numbers.Numbers.{At, Next, Over, Rests}
 use Rattle.bl_machine_laws.specs.Numbers.Turns as turns
 use Rattle.bl_machine_laws.specs.Numbers.Turns.{AnsweredDeed, InstancePoint, OneTurns, Turns}
-use Rattle.bl_machine_laws.proofs.OnWaiting.Quiet.{done_ends}
 use Rattle.bl_machine_pass.specs.SlotLayout.{BranchesRestAt}
-use Rattle.bl_machine_pass.specs.Transitions.{
-  Change,
-  ClearsBoth,
-  ClearsCounter,
-  Flagged,
-  IsNew,
-  Rested,
-  SetsCounter,
-  SetsFlag,
-  Transition,
-  body_ends,
-  counters_in,
-  counters_in_each,
-  enter,
-  enter_each,
-  fires,
-  flagged,
-  joins,
-  marked,
-  once,
-  rules_of,
-}
+use Rattle.bl_machine_pass.specs.Transitions.{Change, ClearsBoth, ClearsCounter, Flagged, IsNew, Rested, SetsCounter, SetsFlag, Transition, body_ends}
+use Rattle.bl_machine_pass.specs.Transitions.{counters_in, counters_in_each, enter, enter_each, fires, flagged, joins, marked, once, rules_of}
 use Rattle.bl_machine_pass_laws.specs.Turns.Laws.{answer_of, one_answer_of}
 use Rattle.bl_machine_pass_laws.specs.Turns.Sits.{LieEach, Lies, RulesAreAmong, SitEach, Sits, UseEach, UsesOnly}
-use Rattle.bl_machine_pass_laws.proofs.OnNumbers.Bools.{same}
 use Rattle.bl_machine_pass_laws.proofs.OnNumbers.Changing.{Goes, body_ends_go, flags_go, holds_go}
-use Rattle.bl_machine_pass_laws.proofs.OnNumbers.Leading.{
-  Leads,
-  LeadsEach,
-  block_leads,
-  clears_body,
-  clears_each,
-  clears_nothing,
-  first_leads,
-  fork_leads,
-  guard_leads,
-  later_leads,
-  marked_lead,
-  own_counter,
-  par_leads,
-  rests_lead,
-  seq_leads,
-  stays_lead,
-  turn_leads,
-}
+use Rattle.bl_machine_pass_laws.proofs.OnNumbers.Leading.{Leads, LeadsEach, block_leads, clears_body, clears_each, clears_nothing, first_leads, fork_leads}
+use Rattle.bl_machine_pass_laws.proofs.OnNumbers.Leading.{guard_leads, later_leads, marked_lead, own_counter, par_leads, rests_lead, seq_leads, stays_lead}
+use Rattle.bl_machine_pass_laws.proofs.OnNumbers.Leading.{turn_leads}
 use Rattle.bl_machine_pass_laws.proofs.OnNumbers.Members.{Each, each_of}
 use Rattle.bl_machine_pass_laws.proofs.OnNumbers.Numbered.{none_may, rest_lingers, unused_lingers}
-use Rattle.bl_machine_pass_laws.proofs.OnNumbers.Parts.{
-  check,
-  check_there,
-  depth_end_there,
-  depth_join,
-  depth_join_there,
-  surface_end_there,
-  surface_join_there,
-}
+use Rattle.bl_machine_pass_laws.proofs.OnNumbers.Parts.{check, check_there, depth_end_there, depth_join, depth_join_there, surface_end_there}
+use Rattle.bl_machine_pass_laws.proofs.OnNumbers.Parts.{surface_join_there}
+use Rattle.bl_ctree_laws.proofs.Less.{done_join}
 
 -- what a rule changes where its node has acted with this answer
 abbrev pub changes_of : Transition → Bool → List Change
@@ -125,7 +48,7 @@ pub record Acts (slots : Slots) (all : List Transition) (low : ℕ) (number : No
   pub of_node : rule.node ≡ n
   pub leads : Leads slots all low number used c next last c' (changes_of rule answer)
 
--- the same of branches
+-- the number_itself of branches
 pub record ActsEach (slots : Slots) (all : List Transition) (number : Node → ℕ) (l : Label) (k : ℕ) (bodies : Bodies) (branches : Trees) (n : Node)
     (answer : Bool) (branches' : Trees) : Type 0 where
   pub rule : Transition
@@ -249,7 +172,7 @@ module _ (slots : Slots) (all : List Transition) (number : Node → ℕ) where
       there = (rules_there (Await l at e) change sits).0;
       of_node = refl;
       leads = rests_lead slots all low number used (Do (Await l at e)) next last (Wait (pause l at e)) (slots.rest l)
-          (within (slots.rest l).counter (same (slots.rest l).counter)) lies (λ j v h. h) (λ j v h. h) refl;
+          (within (slots.rest l).counter (number_itself (slots.rest l).counter)) lies (λ j v h. h) (λ j v h. h) refl;
     }
     point_acts g (turns.repeats {l = l} {at = at} {body = body}) live sits lies within =
         turns_acts (Repeat l at body) (flagged (HeadAt l at) (enter body (SetsFlag (HeadAt l at)) ∷ [])) true body (Repeat l at body)
@@ -338,7 +261,7 @@ module _ (slots : Slots) (all : List Transition) (number : Node → ℕ) where
     point_acts g (turns.guard_ends {s = s} {stood = stood}) live sits lies within =
         end_acts s stood (live.1.closes refl).0 sits.0
     point_acts g (turns.joins {s = s} {stood = stood} {branches = branches} settled done) live sits lies within =
-        join_acts s stood branches (live.1.joins (done_ends branches done)).0 sits.0 within.0
+        join_acts s stood branches (live.1.joins (done_join branches done)).0 sits.0 within.0
 
   -- a `run` that ends: it has stood
   returns_acts : (low : ℕ) (used : ℕ → Bool) (change : Change) (next : Next) (last : Bool) → Goes all low number used change next last → (s : Call)
@@ -380,7 +303,7 @@ module _ (slots : Slots) (all : List Transition) (number : Node → ℕ) where
           of_node = refl;
           leads = rests_lead slots all low number used (Do (RunOf l at target a inputs outputs)) next last
               (Run (call l at target a inputs outputs) callee Body false c)
-              (slots.rest l) (within (slots.rest l).counter (same (slots.rest l).counter)) lies (λ j v h. h) (λ j v h. h) refl;
+              (slots.rest l) (within (slots.rest l).counter (number_itself (slots.rest l).counter)) lies (λ j v h. h) (λ j v h. h) refl;
         }
     turn_acts used low change next last goes g (turns.resumes {s = s} {callee = callee} {stood = stood} {c = c} {c' = c'} passes unended)
         live sits lies within = resumes_acts low used change next last s callee stood c c' live.2.has_stood sits

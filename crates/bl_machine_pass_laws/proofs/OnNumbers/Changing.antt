@@ -3,51 +3,20 @@ use Rattle.std.proofs.Common.{◌≡◌, inl, inr, ℕ, suc, Bool, true, false, 
 use Rattle.std.proofs.Common.{if◌then◌else◌, nat_eq, refl, sym, ap, subst, ◌∙◌}
 use Rattle.std.specs.List.{list_any}
 use Rattle.std.proofs.lemmas.List.Folds.{list_any-append}
+use Rattle.bl_tree.proofs.Basics.{number_test, or_false, or_regroup, same_number}
 use Rattle.bl_tree.specs.declared.place.Place.{Place}
 use Rattle.bl_graph_nodes.specs.Nodes.{DepthEndAt, Node, StartAt, SurfaceEndAt, are_instant, entry}
-use Rattle.bl_graph_nodes.specs.Plain.{
-  Act,
-  Again,
-  Await,
-  Block,
-  Bodies,
-  Body as BodyOf,
-  Cobegin,
-  Done,
-  If,
-  Label,
-  Last,
-  Plain,
-  Repeat,
-  Run as RunOf,
-  Then,
-  Until,
-  When,
-  While,
-}
+use Rattle.bl_graph_nodes.specs.Plain.{Act, Again, Await, Block, Bodies, Body as BodyOf, Cobegin, Done, If, Label, Last, Plain, Repeat, Run as RunOf, Then}
+use Rattle.bl_graph_nodes.specs.Plain.{Until, When, While}
 use Rattle.bl_machine.specs.declared.slots.Slot.{Slot}
 use Rattle.bl_machine.specs.Uses.{Slots, is_of, uses, uses_in, uses_in_each}
 use Rattle.bl_machine_laws.specs.Numbers.Numbers.{At, Next, Over, Rests, into, value_at_counter}
 use Rattle.bl_machine_pass.specs.Registers.{Registers, all_changed, changed, with_at, with_flag}
-use Rattle.bl_machine_pass.specs.Transitions.{
-  Change,
-  ClearsBoth,
-  ClearsCounter,
-  EndsWhen,
-  Finishes,
-  SetsCounter,
-  SetsFlag,
-  Transition,
-  body_ends,
-  counters_in,
-  counters_in_each,
-  counters_of,
-  enter,
-  once,
-  once_but,
-}
+use Rattle.bl_machine_pass.specs.Transitions.{Change, ClearsBoth, ClearsCounter, EndsWhen, Finishes, SetsCounter, SetsFlag, Transition, body_ends, counters_in}
+use Rattle.bl_machine_pass.specs.Transitions.{counters_in_each, counters_of, enter, once, once_but}
 use Rattle.bl_machine_pass_laws.specs.Turns.Holds.{Lingers, NextMayHold}
-use Rattle.bl_machine_pass_laws.proofs.OnNumbers.Bools.{either, equal_is, if_false, if_same, if_true, is_same, unless}
+use Rattle.bl_machine_pass_laws.proofs.OnNumbers.Bools.{either, if_false, if_same, if_true}
+use Rattle.bl_ctree_laws.proofs.Tests.{not_less}
 
 -- ---- what follows a part
 
@@ -71,7 +40,7 @@ last_false (Then s rest) = refl
 pub set_keeps : (used : ℕ → Bool) (k v : ℕ) (counters : ℕ → ℕ) (j : ℕ) → used k ≡ true → used j ≡ false →
     with_at k v counters j ≡ counters j
 set_keeps used k v counters j there off =
-    if_false (nat_eq j k) v (counters j) (unless (nat_eq j k) (used j) (λ e. ap used (is_same j k e) ∙ there) off)
+    if_false (nat_eq j k) v (counters j) (not_less (nat_eq j k) (used j) (λ e. ap used (same_number j k e) ∙ there) off)
 
 module _ (all : List Transition) (low : ℕ) (number : Node → ℕ) (used : ℕ → Bool) where
   pub flags_go : (n : Node) (next : Next) → ((j v : ℕ) → Lingers all low j v → NextMayHold all low next j v) →
@@ -86,7 +55,7 @@ module _ (all : List Transition) (low : ℕ) (number : Node → ℕ) (used : ℕ
   holds_at : (slot : Slot) → slot.counter ≡ low → (j v : ℕ) → Lingers all low j v → (if nat_eq j slot.counter then slot.value else v) ≡ value_at_counter slot j
   holds_at slot lies j v (inl e) = ap (λ x. if nat_eq j slot.counter then slot.value else x) e
   holds_at slot lies j v (inr left) =
-      let at : nat_eq j slot.counter ≡ true = equal_is j slot.counter (left.0 ∙ sym lies) in
+      let at : nat_eq j slot.counter ≡ true = number_test j slot.counter (left.0 ∙ sym lies) in
       if_true (nat_eq j slot.counter) slot.value v at ∙ sym (if_true (nat_eq j slot.counter) slot.value 0 at)
 
   pub holds_go : (slot : Slot) → used slot.counter ≡ true → slot.counter ≡ low → Goes all low number used (SetsCounter slot) (Rests slot) false
@@ -103,7 +72,7 @@ module _ (all : List Transition) (low : ℕ) (number : Node → ℕ) (used : ℕ
     ends = λ r e. refl;
   }
 
-  -- one flag or another
+  -- or_false flag or another
   flag_counters : (b : Bool) (k m : ℕ) (r : Registers) (j : ℕ) → (if b then with_flag k r else with_flag m r).counters j ≡ r.counters j
   flag_counters true k m r j = refl
   flag_counters false k m r j = refl
@@ -143,7 +112,7 @@ or_if : (a b : Bool) (x : ℕ) → (if b then 0 else (if a then 0 else x)) ≡ (
 or_if true b x = if_same b 0
 or_if false b x = refl
 
--- whether a number is one of the list
+-- whether a number is or_false of the list
 abbrev pub is_in : ℕ → List ℕ → Bool
 is_in j ks = list_any (nat_eq j) ks
 
@@ -166,12 +135,12 @@ module _ (number : Node → ℕ) where
 
 -- ---- each number once
 
--- one that wasn't seen stays
+-- or_false that wasn't seen stays
 once_step : (j k : ℕ) (seen rest : List ℕ) → is_in j seen ≡ false → (b : Bool) → is_in k seen ≡ b →
     ((more : List ℕ) → is_in j more ≡ false → is_in j (once_but more rest) ≡ is_in j rest) →
     is_in j (if b then once_but seen rest else k ∷ once_but (k ∷ seen) rest) ≡ (nat_eq j k || is_in j rest)
 once_step j k seen rest off true is again =
-    again seen off ∙ sym (ap (λ b. b || is_in j rest) (unless (nat_eq j k) (is_in j seen) (λ e. ap (λ m. is_in m seen) (is_same j k e) ∙ is) off))
+    again seen off ∙ sym (ap (λ b. b || is_in j rest) (not_less (nat_eq j k) (is_in j seen) (λ e. ap (λ m. is_in m seen) (same_number j k e) ∙ is) off))
 once_step j k seen rest off false is again =
     either (nat_eq j k)
     (λ e. ap (λ b. b || is_in j (once_but (k ∷ seen) rest)) e ∙ sym (ap (λ b. b || is_in j rest) e))
@@ -186,20 +155,12 @@ once_in j ks = once_but_in j ks [] refl
 
 -- ---- the counters of a part are those that it uses
 
-one : (b : Bool) → (b || false) ≡ b
-one true = refl
-one false = refl
-
-or_assoc : (a b c : Bool) → (a || (b || c)) ≡ ((a || b) || c)
-or_assoc true b c = refl
-or_assoc false b c = refl
-
 module _ (slots : Slots) (j : ℕ) where
   mutual
     counters_used : (s : Plain) → is_in j (counters_of slots s) ≡ uses slots s j
     counters_used (Act l s) = refl
-    counters_used (Await l at e) = one (nat_eq j (slots.rest l).counter)
-    counters_used (RunOf l at target a inputs outputs) = one (nat_eq j (slots.rest l).counter)
+    counters_used (Await l at e) = or_false (nat_eq j (slots.rest l).counter)
+    counters_used (RunOf l at target a inputs outputs) = or_false (nat_eq j (slots.rest l).counter)
     counters_used (If l at e body other) =
         list_any-append (nat_eq j) (counters_in slots body) (counters_in slots other)
         ∙ ap (λ b. b || is_in j (counters_in slots other)) (counters_used_in body) ∙ ap (λ b. uses_in slots body j || b) (counters_used_in other)
@@ -223,7 +184,7 @@ module _ (slots : Slots) (j : ℕ) where
         (list_any-append (nat_eq j) (counters_in slots body) (counters_in_each slots l (suc k) rest)
         ∙ ap (λ b. b || is_in j (counters_in_each slots l (suc k) rest)) (counters_used_in body)
         ∙ ap (λ b. uses_in slots body j || b) (counters_used_in_each l (suc k) rest))
-        ∙ or_assoc (is_of (slots.ending l k) j) (uses_in slots body j) (uses_in_each slots l (suc k) rest j)
+        ∙ or_regroup (is_of (slots.ending l k) j) (uses_in slots body j) (uses_in_each slots l (suc k) rest j)
 
 -- ---- what a join and a check clear
 

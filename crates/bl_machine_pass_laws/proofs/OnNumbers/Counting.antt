@@ -3,85 +3,27 @@ use Rattle.std.proofs.Common.{◌≡◌, ℕ, suc, Bool, true, false, not, List,
 use Rattle.std.proofs.Common.{zero, map, refl, sym, ap, subst, ◌∙◌, arith}
 use Rattle.std.specs.Prelude.{⊤}
 use Rattle.std.proofs.lemmas.List.Elements.{Contains-append_left, Contains-append_right}
+use Rattle.std.proofs.lemmas.Bool.{not-true, or_left}
+use Rattle.bl_tree.proofs.Basics.{and_first, and_second, contains_first, contains_further, number_test, true_false_any}
 use Rattle.bl_tree.specs.declared.place.Place.{Place as Source}
-use Rattle.bl_graph_nodes.specs.Nodes.{
-  ActAt,
-  CheckAt,
-  DepthEndAt,
-  DepthJoinAt,
-  EnterAt,
-  ForkAt,
-  HeadAt,
-  Node,
-  PauseAt,
-  ResumeAt,
-  StartAt,
-  SurfaceEndAt,
-  SurfaceJoinAt,
-  TestAt,
-  are_instant,
-  arguments_of,
-  entry,
-  is_instant,
-  nodes_in,
-  nodes_in_each,
-  nodes_of,
-  where_so,
-}
-use Rattle.bl_graph_nodes.specs.Plain.{
-  Act,
-  Again,
-  Await,
-  Block,
-  Bodies,
-  Body as BodyOf,
-  Cobegin,
-  Done,
-  If,
-  Label,
-  Last,
-  Plain,
-  Repeat,
-  Run as RunOf,
-  Then,
-  Until,
-  When,
-  While,
-  plain_body,
-}
+use Rattle.bl_graph_nodes.specs.Nodes.{ActAt, CheckAt, DepthEndAt, DepthJoinAt, EnterAt, ForkAt, HeadAt, Node, PauseAt, ResumeAt, StartAt, SurfaceEndAt}
+use Rattle.bl_graph_nodes.specs.Nodes.{SurfaceJoinAt, TestAt, are_instant, arguments_of, entry, is_instant, nodes_in, nodes_in_each, nodes_of, where_so}
+use Rattle.bl_graph_nodes.specs.Plain.{Act, Again, Await, Block, Bodies, Body as BodyOf, Cobegin, Done, If, Label, Last, Plain, Repeat, Run as RunOf, Then}
+use Rattle.bl_graph_nodes.specs.Plain.{Until, When, While, plain_body}
 use Rattle.bl_ctree.specs.Control.{Body, Check}
 use Rattle.bl_ctree.specs.Instances.{Setting}
-use Rattle.bl_ctree_laws.specs.Trees.{
-  Tree,
-  Trees,
-  Nil,
-  Wait,
-  Test,
-  Idle,
-  Do,
-  Seq,
-  Par,
-  Guard,
-  Run,
-  are_done,
-  are_settled,
-  beside,
-  is_nil,
-  is_settled,
-  no_tree,
-}
+use Rattle.bl_ctree_laws.specs.Trees.{Tree, Trees, Nil, Wait, Test, Idle, Do, Seq, Par, Guard, Run, are_done, are_settled, beside, is_nil, is_settled, no_tree}
 use Rattle.bl_ctree_laws_traces.specs.Progress.FitsGraph.{AllFitGraph, FitsGraph, call_stmt, fork_stmt}
 use Rattle.bl_ctree_laws_traces.specs.Progress.Places.{Place, ahead_of, guarded, in_branch, whole}
 use Rattle.bl_machine.specs.declared.slots.Slot.{Slot}
 use Rattle.bl_machine.specs.Uses.{Slots, is_of, uses_in, uses_in_branch}
 use Rattle.bl_machine_laws.specs.Numbers.Numbers.{At, Next, Over, Rests, at_next, numbers_in, numbers_of, value_at_counter}
-use Rattle.bl_machine_laws.proofs.OnWaiting.Quiet.{and_first, and_second, not_true}
 use Rattle.bl_machine_pass.specs.SlotLayout.{BeginsAt, BlockRestsAt, BranchesRestAt, EndOf, RestOf, SlotsAreDistinct, Spot, StatementRestsAt, slot_at, spots_in, spots_in_each, spots_of}
 use Rattle.bl_machine_pass.specs.Transitions.{Change, Finishes, SetsCounter, SetsFlag, Transition, body_ends, enter_each, flagged, marked, rules, rules_of}
 use Rattle.bl_machine_pass_laws.specs.Turns.Laws.{FirstCounterTells}
 use Rattle.bl_machine_pass_laws.specs.Turns.Sits.{LieEach, Lies, SitEach, Sits}
-use Rattle.bl_machine_pass_laws.proofs.OnNumbers.Bools.{differ, either, equal_is, if_true, or_first}
-use Rattle.bl_machine_pass_laws.proofs.OnNumbers.Members.{each_of, further, here}
+use Rattle.bl_machine_pass_laws.proofs.OnNumbers.Bools.{either, if_true}
+use Rattle.bl_machine_pass_laws.proofs.OnNumbers.Members.{each_of}
 
 -- ---- no number of a node is 0
 
@@ -126,7 +68,7 @@ module _ (slots : Slots) where
   fork_counted : (low : ℕ) (l : Label) (bodies : Bodies) → BeginsAt slots l low bodies → NoneZero slots (spots_in_each l 0 bodies) →
       (slots.ending l 0).value ≡ 0 → ⊥
   fork_counted low l Last begins none = absurd begins
-  fork_counted low l (BodyOf weak body rest) begins none = none (EndOf l 0) (here (EndOf l 0) (spots_in body ++ spots_in_each l 1 rest))
+  fork_counted low l (BodyOf weak body rest) begins none = none (EndOf l 0) (contains_first (EndOf l 0) (spots_in body ++ spots_in_each l 1 rest))
 
   left_none : (xs ys : List Spot) → NoneZero slots (xs ++ ys) → NoneZero slots xs
   left_none xs ys none p there = none p (Contains-append_left xs ys p there)
@@ -137,8 +79,8 @@ module _ (slots : Slots) where
   mutual
     counted_of : (low : ℕ) (s : Plain) → StatementRestsAt slots low s → NoneZero slots (spots_of s) → AllCounted slots (nodes_of s)
     counted_of low (Act l s) laid none = (tt, tt)
-    counted_of low (Await l at e) laid none = (none (RestOf l) (here (RestOf l) []), (tt, tt))
-    counted_of low (RunOf l at target a inputs outputs) laid none = (none (RestOf l) (here (RestOf l) []), (tt, tt))
+    counted_of low (Await l at e) laid none = (none (RestOf l) (contains_first (RestOf l) []), (tt, tt))
+    counted_of low (RunOf l at target a inputs outputs) laid none = (none (RestOf l) (contains_first (RestOf l) []), (tt, tt))
     counted_of low (If l at e body other) laid none = (
       tt,
       both_counted (nodes_in body) (nodes_in other)
@@ -177,7 +119,7 @@ module _ (slots : Slots) where
         (right_none (spots_in body) (spots_in_each l (suc k) rest) (inner (spots_in body ++ spots_in_each l (suc k) rest) none)))
       where
         inner : (spots : List Spot) → NoneZero slots (EndOf l k ∷ spots) → NoneZero slots spots
-        inner spots some p there = some p (further (EndOf l k) spots p there)
+        inner spots some p there = some p (contains_further (EndOf l k) spots p there)
 
   -- the node of each rule is
   counted_rule : (all : List Transition) → AllCounted slots (map (λ (rule : Transition). rule.node) all) → (rule : Transition) → Contains all rule →
@@ -195,30 +137,30 @@ module _ (slots : Slots) where
 
 nil_numbers : (slots : Slots) (c : Tree) (next : Next) (j : ℕ) → is_nil c ≡ true → numbers_of slots c next j ≡ at_next next j
 nil_numbers slots Nil next j e = refl
-nil_numbers slots (Wait s) next j e = differ false e refl
-nil_numbers slots (Test s) next j e = differ false e refl
-nil_numbers slots (Idle body) next j e = differ false e refl
-nil_numbers slots (Do s) next j e = differ false e refl
-nil_numbers slots (Seq c rest) next j e = differ false e refl
-nil_numbers slots (Par s stood branches) next j e = differ false e refl
-nil_numbers slots (Guard s phase stood c) next j e = differ false e refl
-nil_numbers slots (Run s callee phase stood c) next j e = differ false e refl
+nil_numbers slots (Wait s) next j e = true_false_any false e refl
+nil_numbers slots (Test s) next j e = true_false_any false e refl
+nil_numbers slots (Idle body) next j e = true_false_any false e refl
+nil_numbers slots (Do s) next j e = true_false_any false e refl
+nil_numbers slots (Seq c rest) next j e = true_false_any false e refl
+nil_numbers slots (Par s stood branches) next j e = true_false_any false e refl
+nil_numbers slots (Guard s phase stood c) next j e = true_false_any false e refl
+nil_numbers slots (Run s callee phase stood c) next j e = true_false_any false e refl
 
 -- a number is shown at its counter
 shown_there : (slot : Slot) (low : ℕ) → slot.counter ≡ low → value_at_counter slot low ≡ slot.value
-shown_there slot low e = if_true (is_of slot low) slot.value 0 (equal_is low slot.counter (sym e))
+shown_there slot low e = if_true (is_of slot low) slot.value 0 (number_test low slot.counter (sym e))
 
 module _ (w : Setting) (i : ℕ) (slots : Slots) (all : List Transition) (counted : (rule : Transition) → Contains all rule → Counted slots rule.node) where
   mutual
     pub rests : (g : Place) (low : ℕ) (change : Change) (c : Tree) (next : Next) → FitsGraph w i c g → Sits slots all c change → Lies slots low c →
         is_settled c ≡ true → is_nil c ≡ false → numbers_of slots c next low ≡ 0 → ⊥
-    rests g low change Nil next live sits lies settled unended none = differ true refl unended
+    rests g low change Nil next live sits lies settled unended none = true_false_any true refl unended
     rests g low change (Wait s) next live sits lies settled unended none =
         counted (flagged (PauseAt s.label s.place) (SetsCounter (slots.rest s.label) ∷ []))
         (each_of all (rules_of slots (Await s.label s.place s.test) change) sits).0 (sym (shown_there (slots.rest s.label) low lies) ∙ none)
-    rests g low change (Test s) next live sits lies settled unended none = differ false settled refl
+    rests g low change (Test s) next live sits lies settled unended none = true_false_any false settled refl
     rests g low change (Idle body) next live sits lies settled unended none = live
-    rests g low change (Do s) next live sits lies settled unended none = differ false settled refl
+    rests g low change (Do s) next live sits lies settled unended none = true_false_any false settled refl
     rests g low change (Seq c Done) next live sits lies settled unended none = live
     rests g low change (Seq c (Then s rest)) next live sits lies settled unended none =
         rests (ahead_of (entry s) g) low (SetsFlag (entry s)) c (At (entry s)) live.0 sits.0 lies.0 settled live.1.unended none
@@ -229,8 +171,8 @@ module _ (w : Setting) (i : ℕ) (slots : Slots) (all : List Transition) (counte
         (each_of all (rules_of slots (fork_stmt s) change) sits.0).0) none
     rests g low change (Guard s Body stood c) next live sits lies settled unended none =
         rests (guarded s g) low (body_ends s.label s.place s.body) c Over live.0 sits.1 lies.1 (and_first (is_settled c) (not (is_nil c)) settled)
-        (not_true (is_nil c) (and_second (is_settled c) (not (is_nil c)) settled)) none
-    rests g low change (Guard s Check stood c) next live sits lies settled unended none = differ false settled refl
+        (not-true (is_nil c) (and_second (is_settled c) (not (is_nil c)) settled)) none
+    rests g low change (Guard s Check stood c) next live sits lies settled unended none = true_false_any false settled refl
     rests g low change (Run s callee phase stood c) next live sits lies settled unended none =
         counted (flagged (EnterAt s.label s.place (arguments_of s.arguments.target s.arguments.inputs s.arguments.outputs))
         (SetsCounter (slots.rest s.label) ∷ []))
@@ -253,7 +195,7 @@ module _ (w : Setting) (i : ℕ) (slots : Slots) (all : List Transition) (counte
         held =
             sym (if_true (uses_in_branch slots l 0 body low) (numbers_of slots c (Rests (slots.ending l 0)) low)
             (numbers_in slots l 1 rest branches low)
-            (or_first (is_of (slots.ending l 0) low) (uses_in slots body low) (equal_is low (slots.ending l 0).counter (sym begins)))) ∙ none
+            (or_left (is_of (slots.ending l 0) low) (uses_in slots body low) (number_test low (slots.ending l 0).counter (sym begins)))) ∙ none
 
 -- between ticks the first counter holds a number
 pub first_counter_tells : ((slots : Slots) (body : Block) → map (λ (rule : Transition). rule.node) (rules slots body) ≡ nodes_in body) → FirstCounterTells

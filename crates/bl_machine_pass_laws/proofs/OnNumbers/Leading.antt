@@ -1,5 +1,7 @@
 -- What the changes of one rule do to what counters may hold.
 use Rattle.std.proofs.Common.{◌≡◌, inl, inr, ℕ, suc, Bool, true, false, List, [], ◌∷◌, ◌++◌, map, if◌then◌else◌, refl, sym, ap, subst, ◌∙◌}
+use Rattle.std.proofs.lemmas.Bool.{or_left}
+use Rattle.bl_tree.proofs.Basics.{neither_first, neither_second, number_itself, true_false_any}
 use Rattle.bl_graph_nodes.specs.Nodes.{Node, entry}
 use Rattle.bl_graph_nodes.specs.Plain.{Block, Bodies, Body as BodyOf, Done, Label, Last, Plain, Then}
 use Rattle.bl_ctree.specs.Control.{Phase}
@@ -10,36 +12,15 @@ use Rattle.bl_machine.specs.Uses.{Slots, is_of, uses_in, uses_in_branch, uses_in
 use Rattle.bl_machine_laws.specs.Numbers.Numbers.{At, Next, Over, Rests, into, value_at_counter}
 use Rattle.bl_machine_pass.specs.SlotLayout.{BeginsAt, BranchesRestAt}
 use Rattle.bl_machine_pass.specs.Registers.{Registers, all_changed, changed}
-use Rattle.bl_machine_pass.specs.Transitions.{
-  Change,
-  ClearsBoth,
-  ClearsCounter,
-  SetsCounter,
-  SetsFlag,
-  SetsMark,
-  Transition,
-  counters_in,
-  counters_in_each,
-  enter,
-  enter_each,
-  marked,
-  once,
-}
+use Rattle.bl_machine_pass.specs.Transitions.{Change, ClearsBoth, ClearsCounter, SetsCounter, SetsFlag, SetsMark, Transition, counters_in, counters_in_each}
+use Rattle.bl_machine_pass.specs.Transitions.{enter, enter_each, marked, once}
 use Rattle.bl_machine_pass_laws.specs.Turns.Holds.{BranchesMayHold, Lingers, MayHold}
-use Rattle.bl_machine_pass_laws.proofs.OnNumbers.Bools.{differ, either, if_false, if_same, if_true, neither_first, neither_second, or_first, same, unless}
-use Rattle.bl_machine_pass_laws.proofs.OnNumbers.Changing.{
-  Goes,
-  changed_append,
-  enter_go,
-  forgets_in,
-  forgets_over,
-  frees_each,
-  frees_over,
-  holds_go,
-  last_false,
-  last_in,
-}
-use Rattle.bl_machine_pass_laws.proofs.OnNumbers.Numbered.{block_may, block_nil, seq_may, seq_open}
+use Rattle.bl_machine_pass_laws.proofs.OnNumbers.Bools.{either, if_false, if_same, if_true}
+use Rattle.bl_machine_pass_laws.proofs.OnNumbers.Changing.{Goes, changed_append, enter_go, forgets_in, forgets_over, frees_each, frees_over, holds_go}
+use Rattle.bl_machine_pass_laws.proofs.OnNumbers.Changing.{last_false, last_in}
+use Rattle.bl_machine_pass_laws.proofs.OnNumbers.Numbered.{block_may, block_nil, seq_may}
+use Rattle.bl_ctree_laws_traces.proofs.OnProgress.Beginning.{seq_unended}
+use Rattle.bl_ctree_laws.proofs.Tests.{not_less}
 
 -- Leads slots all low number used c next last c' changes: the changes lead from what counters may hold for the tree c to that for c', where `next`
 -- follows; they leave all counters that aren't used; and they end the body where the tree has ended, if that is its end
@@ -50,7 +31,7 @@ pub record Leads (slots : Slots) (all : List Transition) (low : ℕ) (number : N
   pub keeps_unused : (r : Registers) (j : ℕ) → used j ≡ false → (all_changed number changes r).counters j ≡ r.counters j
   pub ends : (r : Registers) → r.over ≡ false → (all_changed number changes r).over ≡ (if is_nil c' then last else false)
 
--- the same of branches, which never end the body
+-- the number_itself of branches, which never end the body
 pub record LeadsEach (slots : Slots) (all : List Transition) (number : Node → ℕ) (l : Label) (k : ℕ) (bodies : Bodies) (branches branches' : Trees)
     (changes : List Change) : Type 0 where
   pub numbers : (r : Registers) (j : ℕ) → BranchesMayHold slots all l k bodies branches j (r.counters j) →
@@ -81,7 +62,7 @@ module _ (slots : Slots) (all : List Transition) (low : ℕ) (number : Node → 
         (λ on. inl (if_true (uses_in_each slots l 0 bodies j) 0 (r.counters j) on))
         (λ off. subst (Lingers all low j) (sym (if_false (uses_in_each slots l 0 bodies j) 0 (r.counters j) off)) (none j (r.counters j) off e)));
     keeps_unused = λ r j off. frees_each number slots l bodies r j
-        ∙ if_false (uses_in_each slots l 0 bodies j) 0 (r.counters j) (unless (uses_in_each slots l 0 bodies j) (used j) (within j) off);
+        ∙ if_false (uses_in_each slots l 0 bodies j) 0 (r.counters j) (not_less (uses_in_each slots l 0 bodies j) (used j) (within j) off);
     goes_on = λ r. frees_over number (once (counters_in_each slots l 0 bodies)) r;
   }
 
@@ -93,7 +74,7 @@ module _ (slots : Slots) (all : List Transition) (low : ℕ) (number : Node → 
         (λ on. inl (if_true (uses_in slots body j) 0 (r.counters j) on))
         (λ off. subst (Lingers all low j) (sym (if_false (uses_in slots body j) 0 (r.counters j) off)) (none j (r.counters j) off e)));
     keeps_unused = λ r j off. forgets_in number slots body r j
-        ∙ if_false (uses_in slots body j) 0 (r.counters j) (unless (uses_in slots body j) (used j) (within j) off);
+        ∙ if_false (uses_in slots body j) 0 (r.counters j) (not_less (uses_in slots body j) (used j) (within j) off);
     goes_on = λ r. forgets_over number (once (counters_in slots body)) r;
   }
 
@@ -146,8 +127,8 @@ module _ (slots : Slots) (all : List Transition) (low : ℕ) (number : Node → 
   pub stays_lead : (used : ℕ → Bool) (c : Tree) (next : Next) (last : Bool) (c' : Tree) →
       ((j v : ℕ) → MayHold slots all low c next j v → MayHold slots all low c' next j v) → is_nil c' ≡ false →
       Leads slots all low number used c next last c' []
-  stays_lead used c next last c' same unended = record {
-    numbers = λ r j e. same j (r.counters j) e;
+  stays_lead used c next last c' number_itself unended = record {
+    numbers = λ r j e. number_itself j (r.counters j) e;
     keeps_unused = λ r j off. refl;
     ends = λ r e. e ∙ sym (if_false (is_nil c') last false unended);
   }
@@ -170,7 +151,7 @@ module _ (slots : Slots) (all : List Transition) (low : ℕ) (number : Node → 
   seq_leads used c s rest next last c' changes leads = record {
     numbers = λ r j e. seq_may slots all low c' s rest next j ((all_changed number changes r).counters j) (leads.numbers r j e);
     keeps_unused = leads.keeps_unused;
-    ends = λ r e. leads.ends r e ∙ if_same (is_nil c') false ∙ sym (if_false (is_nil (seq c' (Then s rest))) last false (seq_open c' s rest));
+    ends = λ r e. leads.ends r e ∙ if_same (is_nil c') false ∙ sym (if_false (is_nil (seq c' (Then s rest))) last false (seq_unended c' s rest));
   }
 
   pub guard_leads : (used : ℕ → Bool) (whole : Tree) (c : Tree) (next : Next) (last : Bool) (s : Watch) (phase : Phase) (stood : Bool) (c' : Tree)
@@ -180,7 +161,7 @@ module _ (slots : Slots) (all : List Transition) (low : ℕ) (number : Node → 
       Leads slots all low number used whole next last (Guard s phase stood c') changes
   guard_leads used whole c next last s phase stood c' changes within is leads = record {
     numbers = λ r j e. leads.numbers r j (is j (r.counters j) e);
-    keeps_unused = λ r j off. leads.keeps_unused r j (unless (uses_in slots s.body j) (used j) (within j) off);
+    keeps_unused = λ r j off. leads.keeps_unused r j (not_less (uses_in slots s.body j) (used j) (within j) off);
     ends = λ r e. leads.ends r e ∙ if_same (is_nil c') false;
   }
 
@@ -190,7 +171,7 @@ module _ (slots : Slots) (all : List Transition) (number : Node → ℕ) (l : La
   -- a branch uses the counter at which it rests
   pub own_counter : (k : ℕ) (body : Block) → uses_in_branch slots l k body (slots.ending l k).counter ≡ true
   own_counter k body =
-      or_first (is_of (slots.ending l k) (slots.ending l k).counter) (uses_in slots body (slots.ending l k).counter) (same (slots.ending l k).counter)
+      or_left (is_of (slots.ending l k) (slots.ending l k).counter) (uses_in slots body (slots.ending l k).counter) (number_itself (slots.ending l k).counter)
 
   -- the branches begin
   enters_in : (k : ℕ) (body : Block) →
@@ -212,7 +193,7 @@ module _ (slots : Slots) (all : List Transition) (number : Node → ℕ) (l : La
   none_elsewhere : (k : ℕ) (body : Block) (j v : ℕ) → Lingers all (slots.ending l k).counter j v → uses_in_branch slots l k body j ≡ false → v ≡ 0
   none_elsewhere k body j v (inl none) off = none
   none_elsewhere k body j v (inr left) off =
-      differ (uses_in_branch slots l k body j) (ap (uses_in_branch slots l k body) left.0 ∙ own_counter k body) off
+      true_false_any (uses_in_branch slots l k body j) (ap (uses_in_branch slots l k body) left.0 ∙ own_counter k body) off
 
   -- the first of some branches may find the number of a place that was left at its counter, and nothing at others
   abbrev FirstLingers : ℕ → Bodies → ℕ → ℕ → Type 0
@@ -283,7 +264,7 @@ module _ (slots : Slots) (all : List Transition) (low : ℕ) (number : Node → 
   fork_leads used c next last s stood within begins laid none = record {
     numbers = λ r j e. all_begin s.label s.bodies begins laid r j (none j (r.counters j) e);
     keeps_unused = λ r j off.
-        begun_keeps slots all number s.label 0 s.bodies r j (unless (uses_in_each slots s.label 0 s.bodies j) (used j) (within j) off);
+        begun_keeps slots all number s.label 0 s.bodies r j (not_less (uses_in_each slots s.label 0 s.bodies j) (used j) (within j) off);
     ends = λ r e. begun_over slots all number s.label 0 s.bodies r e;
   }
 
@@ -293,6 +274,6 @@ module _ (slots : Slots) (all : List Transition) (low : ℕ) (number : Node → 
       Leads slots all low number used (Par s stood branches) next last (Par s stood branches') changes
   par_leads used next last s stood branches branches' changes within leads = record {
     numbers = leads.numbers;
-    keeps_unused = λ r j off. leads.keeps_unused r j (unless (uses_in_each slots s.label 0 s.bodies j) (used j) (within j) off);
+    keeps_unused = λ r j off. leads.keeps_unused r j (not_less (uses_in_each slots s.label 0 s.bodies j) (used j) (within j) off);
     ends = leads.goes_on;
   }

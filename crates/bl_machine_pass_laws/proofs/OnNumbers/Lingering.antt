@@ -1,39 +1,22 @@
 -- What counters may hold, beside the numbers of the tree.
 use Rattle.std.proofs.Common.{◌≡◌, ◌⊎◌, inl, inr, ⊎_elim, ℕ, suc, Bool, true, false, not, List, refl, sym, ap, subst, ◌∙◌}
+use Rattle.std.proofs.lemmas.Bool.{not-true}
+use Rattle.bl_tree.proofs.Basics.{and_first, and_second, true_false_any}
 use Rattle.bl_graph_nodes.specs.Nodes.{entry}
 use Rattle.bl_graph_nodes.specs.Plain.{Block, Bodies, Body as BodyOf, Done, Label, Last, Then}
 use Rattle.bl_ctree.specs.Control.{Body, Check}
 use Rattle.bl_ctree.specs.Instances.{Setting}
-use Rattle.bl_ctree_laws.specs.Trees.{
-  Tree,
-  Trees,
-  Nil,
-  Wait,
-  Test,
-  Idle,
-  Do,
-  Seq,
-  Par,
-  Guard,
-  Run,
-  are_done,
-  are_settled,
-  beside,
-  is_nil,
-  is_settled,
-  no_tree,
-}
+use Rattle.bl_ctree_laws.specs.Trees.{Tree, Trees, Nil, Wait, Test, Idle, Do, Seq, Par, Guard, Run, are_done, are_settled, beside, is_nil, is_settled, no_tree}
 use Rattle.bl_ctree_laws_confluence.proofs.OnApart.Members.{contains_in}
 use Rattle.bl_ctree_laws_traces.specs.Progress.FitsGraph.{AllFitGraph, FitsGraph}
 use Rattle.bl_ctree_laws_traces.specs.Progress.Places.{Place, ahead_of, guarded, in_branch, whole}
 use Rattle.bl_machine.specs.declared.slots.Slot.{Slot}
 use Rattle.bl_machine.specs.Uses.{Slots, uses_in_branch}
 use Rattle.bl_machine_laws.specs.Numbers.Numbers.{At, Next, Over, Rests, into, numbers_in, numbers_of}
-use Rattle.bl_machine_laws.proofs.OnWaiting.Quiet.{and_first, and_second, not_true}
 use Rattle.bl_machine_pass.specs.SlotLayout.{RestOf, spots_in}
 use Rattle.bl_machine_pass.specs.Transitions.{Finishes, Transition, rules}
 use Rattle.bl_machine_pass_laws.specs.Turns.Holds.{BranchesMayHold, CountersLinger, IsRest, Lingers, MayHold, RestsThere}
-use Rattle.bl_machine_pass_laws.proofs.OnNumbers.Bools.{differ, either, if_false, if_true}
+use Rattle.bl_machine_pass_laws.proofs.OnNumbers.Bools.{either, if_false, if_true}
 use Rattle.bl_machine_pass_laws.proofs.OnRooted.Resuming.{all_rest_from}
 use Rattle.bl_machine_pass_laws.proofs.OnRooted.Rooting.{has_contains}
 
@@ -111,24 +94,24 @@ module _ (slots : Slots) (all : List Transition) where
   ended : (low : ℕ) (slot : Slot) (c : Tree) (j v : ℕ) → is_nil c ≡ true → MayHold slots all low c (Rests slot) j v →
       v ≡ numbers_of slots c (Rests slot) j
   ended low slot Nil j v nil h = h
-  ended low slot (Wait s) j v nil h = differ false nil refl
-  ended low slot (Test s) j v nil h = differ false nil refl
-  ended low slot (Idle body) j v nil h = differ false nil refl
-  ended low slot (Do s) j v nil h = differ false nil refl
-  ended low slot (Seq c rest) j v nil h = differ false nil refl
-  ended low slot (Par s stood branches) j v nil h = differ false nil refl
-  ended low slot (Guard s phase stood c) j v nil h = differ false nil refl
-  ended low slot (Run s callee phase stood c) j v nil h = differ false nil refl
+  ended low slot (Wait s) j v nil h = true_false_any false nil refl
+  ended low slot (Test s) j v nil h = true_false_any false nil refl
+  ended low slot (Idle body) j v nil h = true_false_any false nil refl
+  ended low slot (Do s) j v nil h = true_false_any false nil refl
+  ended low slot (Seq c rest) j v nil h = true_false_any false nil refl
+  ended low slot (Par s stood branches) j v nil h = true_false_any false nil refl
+  ended low slot (Guard s phase stood c) j v nil h = true_false_any false nil refl
+  ended low slot (Run s callee phase stood c) j v nil h = true_false_any false nil refl
 
   module _ (w : Setting) (i : ℕ) where
     mutual
       pub settled : (g : Place) (low : ℕ) (c : Tree) (next : Next) (j v : ℕ) → FitsGraph w i c g → is_settled c ≡ true → is_nil c ≡ false →
           MayHold slots all low c next j v → v ≡ numbers_of slots c next j
-      settled g low Nil next j v live rests unended h = differ true refl unended
+      settled g low Nil next j v live rests unended h = true_false_any true refl unended
       settled g low (Wait s) next j v live rests unended h = h
-      settled g low (Test s) next j v live rests unended h = differ false rests refl
+      settled g low (Test s) next j v live rests unended h = true_false_any false rests refl
       settled g low (Idle body) next j v live rests unended h = absurd live
-      settled g low (Do s) next j v live rests unended h = differ false rests refl
+      settled g low (Do s) next j v live rests unended h = true_false_any false rests refl
       settled g low (Seq c Done) next j v live rests unended h = absurd live
       settled g low (Seq c (Then s rest)) next j v live rests unended h =
           settled (ahead_of (entry s) g) low c (At (entry s)) j v live.0 rests live.1.unended h
@@ -136,8 +119,8 @@ module _ (slots : Slots) (all : List Transition) where
           all_settled g stood s.label 0 s.bodies branches j v live.0 (and_first (are_settled branches) (not (are_done branches)) rests) h
       settled g low (Guard s Body stood c) next j v live rests unended h =
           settled (guarded s g) low c Over j v live.0 (and_first (is_settled c) (not (is_nil c)) rests)
-          (not_true (is_nil c) (and_second (is_settled c) (not (is_nil c)) rests)) h
-      settled g low (Guard s Check stood c) next j v live rests unended h = differ false rests refl
+          (not-true (is_nil c) (and_second (is_settled c) (not (is_nil c)) rests)) h
+      settled g low (Guard s Check stood c) next j v live rests unended h = true_false_any false rests refl
       settled g low (Run s callee phase stood c) next j v live rests unended h = h
 
       all_settled : (g : Place) (stood : Bool) (l : Label) (k : ℕ) (bodies : Bodies) (branches : Trees) (j v : ℕ) →

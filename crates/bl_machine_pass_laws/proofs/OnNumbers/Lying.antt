@@ -1,36 +1,19 @@
 -- The counters at which a tree rests stay those of its body.
 use Rattle.std.proofs.Common.{◌≡◌, ℕ, suc, Bool, true, false, List}
+use Rattle.std.proofs.lemmas.Bool.{or_left, or_right}
+use Rattle.bl_tree.proofs.Basics.{either_case, number_itself}
 use Rattle.bl_graph_nodes.specs.Nodes.{Node}
 use Rattle.bl_graph_nodes.specs.Plain.{Again, Block, Bodies, Body as BodyOf, Done, Label, Last, Plain, Repeat, Then, While}
 use Rattle.bl_ctree.specs.Instances.{Setting}
 use Rattle.bl_ctree_laws.specs.Pending.{Deed}
 use Rattle.bl_ctree_laws.specs.Steps.{turn}
-use Rattle.bl_ctree_laws.specs.Trees.{
-  Tree,
-  Trees,
-  Nil,
-  Wait,
-  Test,
-  Idle,
-  Do,
-  Seq,
-  Par,
-  Guard,
-  Run,
-  all_woken,
-  trees_begun,
-  beside,
-  do_block,
-  no_tree,
-  seq,
-  woken,
-}
+use Rattle.bl_ctree_laws.specs.Trees.{Tree, Trees, Nil, Wait, Test, Idle, Do, Seq, Par, Guard, Run, all_woken, trees_begun, beside, do_block, no_tree, seq}
+use Rattle.bl_ctree_laws.specs.Trees.{woken}
 use Rattle.bl_machine.specs.Uses.{Slots, is_of, uses, uses_in, uses_in_branch}
 use Rattle.bl_machine_laws.specs.Numbers.Turns as turns
 use Rattle.bl_machine_laws.specs.Numbers.Turns.{AnsweredDeed, InstancePoint, OneTurns, Turns}
 use Rattle.bl_machine_pass.specs.SlotLayout.{BlockRestsAt, BranchesRestAt, StatementRestsAt}
 use Rattle.bl_machine_pass_laws.specs.Turns.Sits.{LieEach, Lies, UseEach, UsesOnly}
-use Rattle.bl_machine_pass_laws.proofs.OnNumbers.Bools.{or_case, or_first, or_second, same}
 
 -- ---- where a tree rests
 
@@ -126,23 +109,23 @@ Within slots body used = (j : ℕ) → uses_in slots body j ≡ true → used j 
 module _ (slots : Slots) where
   pub block_uses : (used : ℕ → Bool) (body : Block) → Within slots body used → UsesOnly slots used (do_block body)
   block_uses used Done within = tt
-  block_uses used (Then s Done) within = λ j h. within j (or_first (uses slots s j) false h)
+  block_uses used (Then s Done) within = λ j h. within j (or_left (uses slots s j) false h)
   block_uses used (Then s (Then t rest)) within = (
-    λ j h. within j (or_first (uses slots s j) (uses_in slots (Then t rest) j) h),
-    λ j h. within j (or_second (uses slots s j) (uses_in slots (Then t rest) j) h),
+    λ j h. within j (or_left (uses slots s j) (uses_in slots (Then t rest) j) h),
+    λ j h. within j (or_right (uses slots s j) (uses_in slots (Then t rest) j) h),
   )
 
   turn_uses : (used : ℕ → Bool) (body : Block) (x : Plain) → Within slots body used → ((j : ℕ) → uses slots x j ≡ true → used j ≡ true) →
       Within slots (turn body x) used
-  turn_uses used Done x within more j h = or_case (uses slots x j) false h (λ e. more j e) (λ e. absurd cc)
+  turn_uses used Done x within more j h = either_case (uses slots x j) false h (λ e. more j e) (λ e. absurd cc)
   turn_uses used (Then s rest) x within more j h =
-      or_case (uses slots s j) (uses_in slots (turn rest x) j) h (λ e. within j (or_first (uses slots s j) (uses_in slots rest j) e))
-      (λ e. turn_uses used rest x (λ k f. within k (or_second (uses slots s k) (uses_in slots rest k) f)) more j e)
+      either_case (uses slots s j) (uses_in slots (turn rest x) j) h (λ e. within j (or_left (uses slots s j) (uses_in slots rest j) e))
+      (λ e. turn_uses used rest x (λ k f. within k (or_right (uses slots s k) (uses_in slots rest k) f)) more j e)
 
   begun_use : (l : Label) (k : ℕ) (bodies : Bodies) → UseEach slots l k bodies (trees_begun bodies)
   begun_use l k Last = tt
   begun_use l k (BodyOf weak body rest) = (
-    block_uses (uses_in_branch slots l k body) body (λ j h. or_second (is_of (slots.ending l k) j) (uses_in slots body j) h),
+    block_uses (uses_in_branch slots l k body) body (λ j h. or_right (is_of (slots.ending l k) j) (uses_in slots body j) h),
     begun_use l (suc k) rest,
   )
 
@@ -162,10 +145,10 @@ module _ (slots : Slots) where
       UsesOnly slots used c → UsesOnly slots used c'
   uses_point used turns.acts within = tt
   uses_point used (turns.takes {body = body} {other = other}) within =
-      block_uses used body (λ j h. within j (or_first (uses_in slots body j) (uses_in slots other j) h))
+      block_uses used body (λ j h. within j (or_left (uses_in slots body j) (uses_in slots other j) h))
   uses_point used (turns.passes {body = body} {other = other}) within =
-      block_uses used other (λ j h. within j (or_second (uses_in slots body j) (uses_in slots other j) h))
-  uses_point used (turns.pauses {l = l}) within = within (slots.rest l).counter (same (slots.rest l).counter)
+      block_uses used other (λ j h. within j (or_right (uses_in slots body j) (uses_in slots other j) h))
+  uses_point used (turns.pauses {l = l}) within = within (slots.rest l).counter (number_itself (slots.rest l).counter)
   uses_point used (turns.repeats {l = l} {at = at} {body = body}) within =
       block_uses used (turn body (Repeat l at body)) (turn_uses used body (Repeat l at body) within within)
   uses_point used (turns.repeats_until {l = l} {at = at} {body = body} {e = e}) within =
@@ -189,7 +172,7 @@ module _ (slots : Slots) where
     pub uses_turn : {w : Setting} {rank : ℕ → Node → ℕ} {i : ℕ} {c : Tree} {done : List AnsweredDeed} {n : Node} {c' : Tree} (used : ℕ → Bool) →
         Turns w rank i c done n c' → UsesOnly slots used c → UsesOnly slots used c'
     uses_turn used (turns.point p) within = uses_point used p within
-    uses_turn used (turns.runs {l = l} called is passes unended) within = within (slots.rest l).counter (same (slots.rest l).counter)
+    uses_turn used (turns.runs {l = l} called is passes unended) within = within (slots.rest l).counter (number_itself (slots.rest l).counter)
     uses_turn used (turns.resumes passes unended) within = within
     uses_turn used (turns.returns passes) within = tt
     uses_turn used (turns.in_seq {s = s} {rest = rest} {c' = c'} t) within = seq_uses used c' s rest (uses_turn used t within.0) within.1

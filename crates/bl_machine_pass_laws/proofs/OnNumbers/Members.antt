@@ -1,14 +1,9 @@
 -- Members of lists of rules, part by part.
-use Rattle.std.proofs.Common.{zero, suc, List, [], ◌∷◌, ◌++◌, Contains, refl, subst, arith}
+use Rattle.std.proofs.Common.{zero, suc, List, [], ◌∷◌, ◌++◌, Contains, subst, arith}
 use Rattle.std.specs.Prelude.{⊤}
+use Rattle.bl_tree.proofs.Basics.{contains_first, contains_further}
 use Rattle.bl_machine_pass.specs.Transitions.{Transition}
 use Rattle.bl_machine_pass_laws.specs.Turns.Sits.{RulesAreAmong}
-
-pub here : {A : Type 0} (x : A) (xs : List A) → Contains (x ∷ xs) x
-here x xs = (zero, omega arith, refl)
-
-pub further : {A : Type 0} (y : A) (xs : List A) (x : A) → Contains xs x → Contains (y ∷ xs) x
-further y xs x h = let below = h.1 in (suc h.0, omega arith, h.2)
 
 -- each of the second list is a member of the first, one by one
 abbrev pub Each : List Transition → List Transition → Type 0
@@ -17,7 +12,7 @@ Each all (rule ∷ rest) = Contains all rule × Each all rest
 
 pub each_of : (all some : List Transition) → RulesAreAmong all some → Each all some
 each_of all [] among = tt
-each_of all (rule ∷ rest) among = (among rule (here rule rest), each_of all rest (λ r h. among r (further rule rest r h)))
+each_of all (rule ∷ rest) among = (among rule (contains_first rule rest), each_of all rest (λ r h. among r (contains_further rule rest r h)))
 
 pub among_of : (all some : List Transition) → Each all some → RulesAreAmong all some
 among_of all [] each r (k, below, is) = absurd (omega arith)

@@ -1,5 +1,6 @@
 -- What counters may hold of trees that begin and that go on, and where a tree doesn't use a counter.
 use Rattle.std.proofs.Common.{◌≡◌, inl, inr, ℕ, suc, Bool, true, false, if◌then◌else◌, nat_eq, refl, sym, ap, ◌∙◌, Contains, List}
+use Rattle.bl_tree.proofs.Basics.{neither_first, neither_second, same_number}
 use Rattle.bl_graph_nodes.specs.Nodes.{entry}
 use Rattle.bl_graph_nodes.specs.Plain.{Block, Bodies, Body as BodyOf, Done, Label, Last, Plain, Then}
 use Rattle.bl_ctree_laws.specs.Trees.{Tree, Trees, Nil, Wait, Test, Idle, Do, Seq, Par, Guard, Run, beside, do_block, is_nil, no_tree, seq}
@@ -9,8 +10,9 @@ use Rattle.bl_machine_laws.specs.Numbers.Numbers.{At, Next, Over, into, value_at
 use Rattle.bl_machine_pass.specs.Transitions.{Rested, Transition}
 use Rattle.bl_machine_pass_laws.specs.Turns.Holds.{BranchesMayHold, Lingers, MayHold, NextMayHold}
 use Rattle.bl_machine_pass_laws.specs.Turns.Sits.{UsesOnly}
-use Rattle.bl_machine_pass_laws.proofs.OnNumbers.Bools.{if_false, if_true, is_same, neither_first, neither_second, unless}
+use Rattle.bl_machine_pass_laws.proofs.OnNumbers.Bools.{if_false, if_true}
 use Rattle.bl_machine_pass_laws.proofs.OnNumbers.Changing.{last_in}
+use Rattle.bl_ctree_laws.proofs.Tests.{not_less}
 
 -- ---- what has ended
 
@@ -18,18 +20,6 @@ pub block_nil : (body : Block) (last : Bool) → last_in body last ≡ (if is_ni
 block_nil Done last = refl
 block_nil (Then s Done) last = refl
 block_nil (Then s (Then t rest)) last = refl
-
-pub seq_open : (c : Tree) (s : Plain) (rest : Block) → is_nil (seq c (Then s rest)) ≡ false
-seq_open Nil s Done = refl
-seq_open Nil s (Then t rest) = refl
-seq_open (Wait p) s rest = refl
-seq_open (Test p) s rest = refl
-seq_open (Idle body) s rest = refl
-seq_open (Do p) s rest = refl
-seq_open (Seq c after) s rest = refl
-seq_open (Par p stood branches) s rest = refl
-seq_open (Guard p phase stood c) s rest = refl
-seq_open (Run p callee phase stood c) s rest = refl
 
 -- ---- what begins, and what goes on
 
@@ -41,7 +31,7 @@ module _ (slots : Slots) (all : List Transition) where
     where
       by_test : (b : Bool) → nat_eq j slot.counter ≡ b → Lingers all low j v
       by_test true test =
-          let at : j ≡ slot.counter = is_same j slot.counter test in
+          let at : j ≡ slot.counter = same_number j slot.counter test in
           inr (
             at ∙ lies,
             record {
@@ -77,7 +67,7 @@ module _ (slots : Slots) (all : List Transition) where
 
   shown_none : (used : ℕ → Bool) (slot : Slot) (j : ℕ) → used slot.counter ≡ true → used j ≡ false → value_at_counter slot j ≡ 0
   shown_none used slot j there off =
-      if_false (nat_eq j slot.counter) slot.value 0 (unless (nat_eq j slot.counter) (used j) (λ e. ap used (is_same j slot.counter e) ∙ there) off)
+      if_false (nat_eq j slot.counter) slot.value 0 (not_less (nat_eq j slot.counter) (used j) (λ e. ap used (same_number j slot.counter e) ∙ there) off)
 
   into_lingers : (low : ℕ) (rest : Block) (next : Next) (j v : ℕ) → (NextMayHold all low next j v → Lingers all low j v) →
       NextMayHold all low (into rest next) j v → Lingers all low j v
@@ -105,7 +95,7 @@ module _ (slots : Slots) (all : List Transition) where
   unused_lingers used low (Seq c rest) next j v within off opens h =
       unused_lingers used low c (into rest next) j v within.0 off (into_lingers low rest next j v opens) h
   unused_lingers used low (Par s stood branches) next j v within off opens h =
-      inl (none_may s.label 0 s.bodies branches j v (unless (uses_in_each slots s.label 0 s.bodies j) (used j) (within.0 j) off) h)
+      inl (none_may s.label 0 s.bodies branches j v (not_less (uses_in_each slots s.label 0 s.bodies j) (used j) (within.0 j) off) h)
   unused_lingers used low (Guard s phase stood c) next j v within off opens h =
-      unused_lingers (uses_in slots s.body) low c Over j v within.1 (unless (uses_in slots s.body j) (used j) (within.0 j) off) (λ x. x) h
+      unused_lingers (uses_in slots s.body) low c Over j v within.1 (not_less (uses_in slots s.body j) (used j) (within.0 j) off) (λ x. x) h
   unused_lingers used low (Run s callee phase stood c) next j v within off opens h = inl (h ∙ shown_none used (slots.rest s.label) j within off)

@@ -6,25 +6,8 @@ use Rattle.bl_tree.specs.declared.tree.Guard.{Guard as GuardKind}
 use Rattle.bl_graph_nodes.specs.Nodes.{CheckAt, DepthEndAt, DepthJoinAt, ForkAt, SurfaceEndAt, SurfaceJoinAt, are_instant, is_instant}
 use Rattle.bl_graph_nodes.specs.Plain.{Block, Bodies, Cobegin, Label, When}
 use Rattle.bl_machine.specs.Uses.{Slots}
-use Rattle.bl_machine_pass.specs.Transitions.{
-  Change,
-  ClearsBoth,
-  IsNew,
-  RestedIn,
-  Transition,
-  age_of,
-  body_ends,
-  counters_in,
-  fires,
-  flagged,
-  joins,
-  once,
-  rests_in,
-  rule_where,
-  rules_in,
-  rules_in_each,
-  rules_of,
-}
+use Rattle.bl_machine_pass.specs.Transitions.{Change, ClearsBoth, IsNew, RestedIn, Transition, age_of, body_ends, counters_in, fires, flagged, joins, once}
+use Rattle.bl_machine_pass.specs.Transitions.{rests_in, rule_where, rules_in, rules_in_each, rules_of}
 use Rattle.bl_machine_pass_laws.specs.Turns.Sits.{RulesAreAmong}
 use Rattle.bl_machine_pass_laws.proofs.OnNumbers.Members.{Each, each_of, each_left, each_right}
 

@@ -1,7 +1,7 @@
 -- Counters follow the turns of a pass: the rule of the node is the one that acts.
 use Rattle.std.proofs.Common.{◌≡◌, ℕ, Bool, true, false, List, [], Some, Contains, map, option_map, slice_get}
 use Rattle.std.proofs.Common.{unwrap_or, refl, sym, ap, subst, ◌∙◌}
-use Rattle.std.proofs.lemmas.Option.{slice_get-get_or, slice_get-map}
+use Rattle.std.proofs.lemmas.Option.{slice_get-map}
 use Rattle.bl_tree.specs.declared.tree.Unit.{Unit as UnitDef}
 use Rattle.bl_graph_nodes.specs.Laws.{EachOnce, NodesDiffer}
 use Rattle.bl_graph_nodes.specs.Nodes.{Node, nodes_in}
@@ -13,7 +13,7 @@ use Rattle.bl_ctree_laws_traces.specs.Progress.Places.{whole}
 use Rattle.bl_machine.specs.Uses.{Slots, uses_in}
 use Rattle.bl_machine_laws.specs.Numbers.Numbers.{Over}
 use Rattle.bl_machine_laws.specs.Numbers.Turns as turns
-use Rattle.bl_machine_laws.specs.Numbers.Turns.{AnsweredDeed, InstancePoint, Turns}
+use Rattle.bl_machine_laws.specs.Numbers.Turns.{InstancePoint}
 use Rattle.bl_machine_pass.specs.Registers.{all_changed}
 use Rattle.bl_machine_pass.specs.Transitions.{Finishes, Transition, rules}
 use Rattle.bl_machine_pass_laws.specs.Turns.Holds.{MayHold}
@@ -21,12 +21,10 @@ use Rattle.bl_machine_pass_laws.specs.Turns.Laws.{TurnsChangeNumbers, answer_of}
 use Rattle.bl_machine_pass_laws.proofs.OnNumbers.Acting.{Acts, changes_of, turn_acts}
 use Rattle.bl_machine_pass_laws.proofs.OnNumbers.Bools.{if_itself}
 use Rattle.bl_machine_pass_laws.proofs.OnNumbers.Changing.{finishes_go}
+use Rattle.bl_machine_laws.proofs.OnWaiting.Fresh.{unended}
+use Rattle.bl_machine_pass_laws.proofs.OnSlots.Finding.{member_at}
 
 -- ---- rules of one node are one
-
--- where a member stands
-member_at : {A : Type 0} (xs : List A) (x : A) (h : Contains xs x) → slice_get xs h.0 ≡ Some x
-member_at xs x h = slice_get-get_or xs h.0 x h.1 ∙ ap Some h.2
 
 rules_once : (all : List Transition) (nodes : List Node) → map (λ (rule : Transition). rule.node) all ≡ nodes → EachOnce nodes → (x y : Transition) →
     Contains all x →
@@ -63,16 +61,6 @@ point_open (turns.resets is) = refl
 point_open turns.guard_ends = refl
 point_open (turns.joins settled done) = refl
 
-turn_open : {w : Setting} {rank : ℕ → Node → ℕ} {i : ℕ} {c : Tree} {done : List AnsweredDeed} {n : Node} {c' : Tree} →
-    Turns w rank i c done n c' → is_nil c ≡ false
-turn_open (turns.point p) = point_open p
-turn_open (turns.runs called is passes unended) = refl
-turn_open (turns.resumes passes unended) = refl
-turn_open (turns.returns passes) = refl
-turn_open (turns.in_seq t) = refl
-turn_open (turns.in_par t) = refl
-turn_open (turns.in_guard t) = refl
-
 -- ---- the law
 
 pub turns_change_numbers : ((slots : Slots) (unit : UnitDef) →
@@ -82,7 +70,7 @@ turns_change_numbers nodes differ w rank i slots unit stood c done n c' rule r t
       ((all_changed (rank i) (changes_of x (answer_of turn)) r).counters j)) is
       (acts.leads.numbers r j (counters j)),
   subst (λ (x : Transition). (all_changed (rank i) (changes_of x (answer_of turn)) r).over ≡ is_nil c') is
-      (acts.leads.ends r (over ∙ turn_open turn) ∙ if_itself (is_nil c')),
+      (acts.leads.ends r (over ∙ unended turn) ∙ if_itself (is_nil c')),
 )
   where
     acts : Acts slots (rules slots (plain_body unit.body)) 0 (rank i) (uses_in slots (plain_body unit.body)) c Over true n (answer_of turn) c'

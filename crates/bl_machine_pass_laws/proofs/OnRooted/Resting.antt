@@ -1,50 +1,13 @@
 -- Where a tree rests: the places whose numbers its counters hold.
-use Rattle.std.proofs.Common.{
-  ◌≡◌,
-  ◌⊎◌,
-  inl,
-  inr,
-  ℕ,
-  suc,
-  Bool,
-  true,
-  false,
-  ◌&&◌,
-  ◌||◌,
-  not,
-  nat_eq,
-  List,
-  [],
-  ◌∷◌,
-  ◌++◌,
-  refl,
-  ap,
-  sym,
-  ◌∙◌,
-  subst,
-  if◌then◌else◌,
-}
-use Rattle.std.proofs.lemmas.Bool.{eq-eqb, eqb-true}
+use Rattle.std.proofs.Common.{◌≡◌, ◌⊎◌, inl, inr, ℕ, suc, Bool, true, false, ◌&&◌, ◌||◌, nat_eq, List, [], ◌∷◌, ◌++◌, refl, ap, sym, ◌∙◌, subst}
+use Rattle.std.proofs.Common.{if◌then◌else◌}
+use Rattle.std.proofs.lemmas.Bool.{eqb-true}
+use Rattle.bl_tree.proofs.Basics.{number_itself}
 use Rattle.bl_graph_nodes.specs.Nodes.{entry}
 use Rattle.bl_graph_nodes.specs.Plain.{Block, Bodies, Body as BodyOf, Done, Label, Last, Then}
 use Rattle.bl_ctree.specs.Control.{Body, Check}
 use Rattle.bl_ctree.specs.Instances.{Setting}
-use Rattle.bl_ctree_laws.specs.Trees.{
-  Tree,
-  Trees,
-  Nil,
-  Wait,
-  Test,
-  Idle,
-  Do,
-  Seq,
-  Par,
-  Guard,
-  Run,
-  beside,
-  is_nil,
-  no_tree,
-}
+use Rattle.bl_ctree_laws.specs.Trees.{Tree, Trees, Nil, Wait, Test, Idle, Do, Seq, Par, Guard, Run, beside, is_nil, no_tree}
 use Rattle.bl_ctree_laws_traces.specs.Progress.FitsGraph.{AllFitGraph, FitsGraph}
 use Rattle.bl_ctree_laws_traces.specs.Progress.Places.{Place, ahead_of, guarded, in_branch, later_on}
 use Rattle.bl_machine.specs.declared.slots.Slot.{Slot}
@@ -56,6 +19,7 @@ use Rattle.bl_machine_pass_laws.specs.Turns.Sits.{Lies, LieEach, SitEach, Sits, 
 use Rattle.bl_machine_pass_laws.specs.Spots.{Has}
 use Rattle.bl_machine_pass_laws.proofs.OnSpots.{has_cases}
 use Rattle.bl_machine_pass_laws.proofs.OnRooted.Covers.{has_left, has_right}
+use Rattle.bl_ctree_laws_traces.proofs.OnProgress.Leading.{is_the_nil}
 
 -- ---- places
 
@@ -89,20 +53,6 @@ only_one p q (inr other) = absurd other
 
 -- ---- numbers
 
-pub eq_itself : (j : ℕ) → nat_eq j j ≡ true
-eq_itself j = eq-eqb j j refl
-
-pub nil_of : (c : Tree) → is_nil c ≡ true → c ≡ Nil
-nil_of Nil e = refl
-nil_of (Wait s) e = absurd cc
-nil_of (Test s) e = absurd cc
-nil_of (Idle body) e = absurd cc
-nil_of (Do s) e = absurd cc
-nil_of (Seq c rest) e = absurd cc
-nil_of (Par s stood branches) e = absurd cc
-nil_of (Guard s phase stood c) e = absurd cc
-nil_of (Run s callee phase stood c) e = absurd cc
-
 module _ (slots : Slots) where
   -- the number is that of one of these places
   pub record Shows (spots : List Spot) (j v : ℕ) : Type 0 where
@@ -133,7 +83,7 @@ module _ (slots : Slots) where
   -- what stands under a construct shows no number once it has ended
   under : (c : Tree) (j : ℕ) → (numbers_of slots c Over j ≡ 0 → ⊥) → (b : Bool) → is_nil c ≡ b →
       (is_nil c ≡ false → Shows (resting c) j (numbers_of slots c Over j)) → Shows (resting c) j (numbers_of slots c Over j)
-  under c j left true e inner = absurd (left (ap (λ x. numbers_of slots x Over j) (nil_of c e)))
+  under c j left true e inner = absurd (left (ap (λ x. numbers_of slots x Over j) (is_the_nil c e)))
   under c j left false e inner = inner e
 
   -- a branch shows its end once it has ended
@@ -142,7 +92,7 @@ module _ (slots : Slots) where
       Shows (ended_at (is_nil c) l k ++ (resting c ++ resting_each l (suc k) branches)) j (numbers_of slots c (Rests (slots.ending l k)) j)
   branch_shows l k c branches j left true e inner =
       let is : numbers_of slots c (Rests (slots.ending l k)) j ≡ value_at_counter (slots.ending l k) j =
-      ap (λ x. numbers_of slots x (Rests (slots.ending l k)) j) (nil_of c e) in
+      ap (λ x. numbers_of slots x (Rests (slots.ending l k)) j) (is_the_nil c e) in
       of_value (ended_at (is_nil c) l k ++ (resting c ++ resting_each l (suc k) branches)) j _ _ (sym is)
       (subst (λ x. Shows (ended_at x l k ++ (resting c ++ resting_each l (suc k) branches)) j (value_at_counter (slots.ending l k) j)) (sym e)
       (shows_left (EndOf l k ∷ []) (resting c ++ resting_each l (suc k) branches) j _
@@ -213,7 +163,7 @@ module _ (slots : Slots) where
   or_right false b e = e
 
   counter_of : (slot : Slot) → is_of slot slot.counter ≡ true
-  counter_of slot = eq_itself slot.counter
+  counter_of slot = number_itself slot.counter
 
   number_at : (slot : Slot) → value_at_counter slot slot.counter ≡ slot.value
   number_at slot = ap (λ b. if b then slot.value else 0) (counter_of slot)
@@ -264,7 +214,7 @@ module _ (slots : Slots) where
   ended_number : (b : Bool) (l : Label) (k : ℕ) (c : Tree) → is_nil c ≡ b → (p : Spot) → Has (ended_at b l k) p →
       numbers_of slots c (Rests (slots.ending l k)) (slot_at slots p).counter ≡ (slot_at slots p).value
   ended_number true l k c e p h =
-      ap (λ x. numbers_of slots x (Rests (slots.ending l k)) (slot_at slots p).counter) (nil_of c e)
+      ap (λ x. numbers_of slots x (Rests (slots.ending l k)) (slot_at slots p).counter) (is_the_nil c e)
       ∙ own_number (slots.ending l k) p (EndOf l k) (only_one p (EndOf l k) h) refl
   ended_number false l k c e p h = absurd h
 

@@ -1,61 +1,18 @@
 -- As a pass begins over a tree that rested, what is due is what sleeps.
-use Rattle.std.proofs.Common.{
-  ◌≡◌,
-  ◌⊎◌,
-  inl,
-  inr,
-  ℕ,
-  zero,
-  suc,
-  ◌||◌,
-  Bool,
-  true,
-  false,
-  List,
-  [],
-  ◌∷◌,
-  ◌++◌,
-  map,
-  length,
-  Some,
-  None,
-  nat_eq,
-  refl,
-  ap,
-  sym,
-  ◌∙◌,
-  subst,
-  arith,
-}
+use Rattle.std.proofs.Common.{◌≡◌, ◌⊎◌, inl, inr, ℕ, zero, suc, ◌||◌, Bool, true, false, List, [], ◌∷◌, ◌++◌, map, Some, None, refl, ap, sym}
+use Rattle.std.proofs.Common.{◌∙◌, subst, arith}
 use Rattle.std.proofs.lemmas.Bool.{eq-eqb, eqb-true}
 use Rattle.std.specs.List.{list_any}
 use Rattle.std.specs.Prelude.{Contains, slice_get}
+use Rattle.std.proofs.lemmas.Bool.{or_right}
+use Rattle.bl_tree.proofs.Basics.{same_some}
 use Rattle.bl_tree.specs.declared.tree.Unit.{Unit as UnitDef}
 use Rattle.bl_graph_nodes.specs.Laws.{EachOnce, NodesDiffer}
 use Rattle.bl_graph_nodes.specs.Nodes.{CheckAt, DepthEndAt, DepthJoinAt, EnterAt, ForkAt, HeadAt, Node, PauseAt, ResumeAt, StartAt, SurfaceEndAt}
 use Rattle.bl_graph_nodes.specs.Nodes.{SurfaceJoinAt, TestAt, arguments_of}
 use Rattle.bl_graph_nodes.specs.Nodes.{are_instant, is_instant, nodes_in, nodes_in_each, nodes_of, where_so}
-use Rattle.bl_graph_nodes.specs.Plain.{
-  Act,
-  Again,
-  Await,
-  Block,
-  Bodies,
-  Body as BodyOf,
-  Cobegin,
-  Done,
-  If,
-  Label,
-  Last,
-  Plain,
-  Repeat,
-  Run as RunOf,
-  Then,
-  Until,
-  When,
-  While,
-  plain_body,
-}
+use Rattle.bl_graph_nodes.specs.Plain.{Act, Again, Await, Block, Bodies, Body as BodyOf, Cobegin, Done, If, Label, Last, Plain, Repeat, Run as RunOf, Then}
+use Rattle.bl_graph_nodes.specs.Plain.{Until, When, While, plain_body}
 use Rattle.bl_ctree.specs.Instances.{Setting}
 use Rattle.bl_ctree_laws.specs.Trees.{Tree, is_nil, is_settled, woken}
 use Rattle.bl_ctree_laws_traces.specs.Progress.FitsGraph.{FitsGraph}
@@ -83,9 +40,6 @@ use Rattle.bl_machine_pass_laws.proofs.OnRooted.Rooting.{has_contains}
 use Rattle.bl_machine_pass_laws.proofs.OnRooted.Sleeping.{Slept, checked, resting_inside, sleeper, slept}
 
 -- ---- one rule for each node, and for each number that is asked
-
-some_is : {X : Type 0} (x y : X) → Some x ≡ Some y → x ≡ y
-some_is x y is = cc
 
 -- the number at which a rule asks whether the instance rested
 rested_is : (a b : Slot) → Rested a ≡ Rested b → a ≡ b
@@ -306,10 +260,6 @@ module _ (slots : Slots) where
 
 -- ---- lists
 
-or_true : (a b : Bool) → b ≡ true → (a || b) ≡ true
-or_true true b e = refl
-or_true false b e = e
-
 contains_has : (xs : List Spot) (p : Spot) → Contains xs p → Has xs p
 contains_has [] p (k, below, is) = absurd (omega arith)
 contains_has (x ∷ xs) p (zero, below, is) = inl (sym is)
@@ -373,7 +323,7 @@ at_index (r ∷ all) rule (inr h) = let one = at_index all rule h in record { in
 
 node_at : (all : List Transition) (k : ℕ) (rule : Transition) → slice_get all k ≡ Some rule → slice_get (map (λ rule. rule.node) all) k ≡ Some rule.node
 node_at [] k rule is = absurd cc
-node_at (r ∷ all) zero rule is = ap (λ x. Some x.node) (some_is r rule is)
+node_at (r ∷ all) zero rule is = ap (λ x. Some x.node) (same_some r rule is)
 node_at (r ∷ all) (suc k) rule is = node_at all k rule is
 
 -- rules of one node are one
@@ -383,14 +333,14 @@ one_rule all once one two a b same =
     let first = at_index all one a in let second = at_index all two b in
     let k : first.index ≡ second.index =
     once first.index second.index two.node (node_at all first.index one first.is ∙ ap Some same) (node_at all second.index two second.is) in
-    some_is one two (sym first.is ∙ ap (slice_get all) k ∙ second.is)
+    same_some one two (sym first.is ∙ ap (slice_get all) k ∙ second.is)
 
 -- ---- what is due
 
 abbrev slot_of : ℕ → ℕ → Slot
 slot_of counter value = record { counter = counter; value = value }
 
-slot_is : (a b : Slot) → a.counter ≡ b.counter → a.value ≡ b.value → a ≡ b
+pub slot_is : (a b : Slot) → a.counter ≡ b.counter → a.value ≡ b.value → a ≡ b
 slot_is a b counter value =
     ap (λ (x : ℕ). slot_of x a.value) counter ∙ ap (λ (y : ℕ). slot_of b.counter y) value
 
@@ -415,7 +365,7 @@ holds_some : (counters : ℕ → ℕ) (slots : List Slot) (slot : Slot) → In s
     list_any (is_at counters) slots ≡ true
 holds_some counters [] slot h e = absurd h
 holds_some counters (x ∷ rest) slot (inl is) e = ap (λ b. b || list_any (is_at counters) rest) (ap (is_at counters) (sym is) ∙ e)
-holds_some counters (x ∷ rest) slot (inr h) e = or_true (is_at counters x) (list_any (is_at counters) rest) (holds_some counters rest slot h e)
+holds_some counters (x ∷ rest) slot (inr h) e = or_right (is_at counters x) (list_any (is_at counters) rest) (holds_some counters rest slot h e)
 
 module _ (rested : WokenRested) (waits : SleepersWait) (differ : SpotsDiffer) (once : NodesDiffer) (w : Setting) (number : Node → ℕ) (i : ℕ)
     (slots : Slots) (unit : UnitDef) (stood : Bool) (c : Tree) (counters : ℕ → ℕ) (flags : ℕ → Bool)

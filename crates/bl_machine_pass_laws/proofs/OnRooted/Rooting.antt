@@ -1,53 +1,12 @@
 -- Trees stay under the `when`s in which what is left of them is written.
-use Rattle.std.proofs.Common.{
-  ℕ,
-  suc,
-  Bool,
-  inl,
-  inr,
-  List,
-  [],
-  ◌∷◌,
-  sym,
-  arith,
-}
+use Rattle.std.proofs.Common.{ℕ, suc, Bool, inl, inr, List, [], ◌∷◌, sym, arith}
 use Rattle.std.specs.Prelude.{Contains}
 use Rattle.bl_graph_nodes.specs.Nodes.{Node}
-use Rattle.bl_graph_nodes.specs.Plain.{
-  Block,
-  Bodies,
-  Body as BodyOf,
-  Done,
-  Label,
-  Last,
-  Plain,
-  Repeat,
-  Then,
-  plain_body,
-}
+use Rattle.bl_graph_nodes.specs.Plain.{Block, Bodies, Body as BodyOf, Done, Label, Last, Plain, Repeat, Then, plain_body}
 use Rattle.bl_ctree.specs.Instances.{Setting}
 use Rattle.bl_ctree_laws.specs.Steps.{turn}
-use Rattle.bl_ctree_laws.specs.Trees.{
-  Tree,
-  Trees,
-  Nil,
-  Wait,
-  Test,
-  Idle,
-  Do,
-  Seq,
-  Par,
-  Guard,
-  Run,
-  all_woken,
-  before,
-  trees_begun,
-  beside,
-  do_block,
-  no_tree,
-  seq,
-  woken,
-}
+use Rattle.bl_ctree_laws.specs.Trees.{Tree, Trees, Nil, Wait, Test, Idle, Do, Seq, Par, Guard, Run, all_woken, before, trees_begun, beside, do_block, no_tree}
+use Rattle.bl_ctree_laws.specs.Trees.{seq, woken}
 use Rattle.bl_ctree_laws_confluence.proofs.OnApart.Members.{contains_in}
 use Rattle.bl_machine.specs.Uses.{Slots}
 use Rattle.bl_machine_laws.specs.Numbers.Turns as turns

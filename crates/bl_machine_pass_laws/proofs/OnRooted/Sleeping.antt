@@ -1,58 +1,13 @@
 -- What goes on where a tree has rested: the rules of its places, and the conditions around them.
-use Rattle.std.proofs.Common.{
-  ◌≡◌,
-  ◌⊎◌,
-  inl,
-  inr,
-  ℕ,
-  zero,
-  suc,
-  Bool,
-  true,
-  false,
-  ◌&&◌,
-  not,
-  List,
-  [],
-  ◌∷◌,
-  ◌++◌,
-  map,
-  refl,
-  ap,
-  sym,
-  ◌∙◌,
-  subst,
-}
+use Rattle.std.proofs.Common.{◌≡◌, ◌⊎◌, inl, inr, ℕ, zero, suc, Bool, true, false, ◌&&◌, not, List, [], ◌∷◌, ◌++◌, map, refl, ap, sym, ◌∙◌, subst}
 use Rattle.std.specs.Prelude.{Contains}
+use Rattle.bl_tree.proofs.Basics.{and_first, and_second}
 use Rattle.bl_graph_nodes.specs.Nodes.{CheckAt, DepthEndAt, Node, ResumeAt, SurfaceEndAt, TestAt, are_instant, entry}
 use Rattle.bl_graph_nodes.specs.Plain.{Await, Bodies, Body as BodyOf, Done, Label, Last, Then}
-use Rattle.bl_ctree.specs.Control.{Body, Check, Phase}
+use Rattle.bl_ctree.specs.Control.{Body, Check}
 use Rattle.bl_ctree.specs.Instances.{Setting}
-use Rattle.bl_ctree_laws.specs.Trees.{
-  Call,
-  Pause,
-  Watch,
-  Tree,
-  Trees,
-  Nil,
-  Wait,
-  Test,
-  Idle,
-  Do,
-  Seq,
-  Par,
-  Guard,
-  Run,
-  are_done,
-  are_settled,
-  beside,
-  in_body,
-  is_nil,
-  is_settled,
-  no_tree,
-  woken,
-  all_woken,
-}
+use Rattle.bl_ctree_laws.specs.Trees.{Call, Pause, Watch, Tree, Trees, Nil, Wait, Test, Idle, Do, Seq, Par, Guard, Run, are_done, are_settled, beside}
+use Rattle.bl_ctree_laws.specs.Trees.{is_nil, is_settled, no_tree, woken, all_woken}
 use Rattle.bl_ctree_laws_traces.specs.Progress.FitsGraph.{AllFitGraph, FitsGraph, call_stmt, watch_stmt}
 use Rattle.bl_ctree_laws_traces.specs.Progress.Places.{Place, ahead_of, guarded}
 use Rattle.bl_ctree_laws_traces.specs.Progress.Places.{in_branch as live_branch}
@@ -68,27 +23,9 @@ use Rattle.bl_machine_pass_laws.specs.Spots.{Has}
 use Rattle.bl_machine_pass_laws.proofs.OnSpots.{has_cases}
 use Rattle.bl_machine_pass_laws.proofs.OnRooted.Covers.{has_left, has_right}
 use Rattle.bl_machine_pass_laws.proofs.OnRooted.Resting.{ended_at, only_one, resting, resting_each}
+use Rattle.bl_machine_pass_laws.proofs.OnSame.Inside.{phase_open, phase_settled}
 
 -- ---- settled parts
-
-pub and_one : (a b : Bool) → (a && b) ≡ true → a ≡ true
-and_one true b e = refl
-and_one false b e = absurd cc
-
-pub and_two : (a b : Bool) → (a && b) ≡ true → b ≡ true
-and_two true b e = e
-and_two false b e = absurd cc
-
-not_true : (b : Bool) → not b ≡ true → b ≡ false
-not_true true e = absurd cc
-not_true false e = refl
-
-phase_settled : (phase : Phase) (c : Tree) → (in_body phase && (is_settled c && not (is_nil c))) ≡ true → is_settled c ≡ true
-phase_settled phase c e = and_one (is_settled c) (not (is_nil c)) (and_two (in_body phase) (is_settled c && not (is_nil c)) e)
-
-phase_open : (phase : Phase) (c : Tree) → (in_body phase && (is_settled c && not (is_nil c))) ≡ true → is_nil c ≡ false
-phase_open phase c e =
-    not_true (is_nil c) (and_two (is_settled c) (not (is_nil c)) (and_two (in_body phase) (is_settled c && not (is_nil c)) e))
 
 -- a rule behind one that may be there
 past_where : (test : Bool) (r : Transition) (rules : List Transition) (rule : Transition) → In rule rules → In rule (rule_where test r ++ rules)
@@ -175,7 +112,7 @@ module _ (slots : Slots) (all : List Transition) where
         let one = sleeper c (enter rest next) l sits.0 h settled in
         record { rule = one.rule; there = one.there; condition = one.condition; sleeps = one.sleeps }
     sleeper (Par s stood branches) next l sits h settled =
-        let one = some_sleeper s.label 0 s.bodies branches l sits.1 h (and_one (are_settled branches) (not (are_done branches)) settled) in
+        let one = some_sleeper s.label 0 s.bodies branches l sits.1 h (and_first (are_settled branches) (not (are_done branches)) settled) in
         record { rule = one.rule; there = one.there; condition = one.condition; sleeps = one.sleeps }
     sleeper (Guard s phase stood c) next l sits h settled =
         let one = sleeper c (body_ends s.label s.place s.body) l sits.1 h (phase_settled phase c settled) in
@@ -197,10 +134,10 @@ module _ (slots : Slots) (all : List Transition) where
           | inl end ↦ absurd (no_end (is_nil c) m k l end)
           | inr more ↦ elim (has_cases (resting c) (resting_each m (suc k) branches) (RestOf l) more) [
             | inl here ↦
-                let one = sleeper c (SetsCounter (slots.ending m k)) l sits.1 here (and_one (is_settled c) (are_settled branches) settled) in
+                let one = sleeper c (SetsCounter (slots.ending m k)) l sits.1 here (and_first (is_settled c) (are_settled branches) settled) in
                 record { rule = one.rule; there = one.there; condition = one.condition; sleeps = inl one.sleeps }
             | inr later ↦
-                let one = some_sleeper m (suc k) rest branches l sits.2 later (and_two (is_settled c) (are_settled branches) settled) in
+                let one = some_sleeper m (suc k) rest branches l sits.2 later (and_second (is_settled c) (are_settled branches) settled) in
                 record { rule = one.rule; there = one.there; condition = one.condition; sleeps = inr one.sleeps }
           ]
         ]
@@ -322,7 +259,7 @@ module _ (slots : Slots) (all : List Transition) where
           homed c (ahead_of (entry s) g) (enter (Then s rest) next) low around live.0 sits.0 lies.0 rooted.0 settled live.1.unended
       homed (Par s stood branches) g next low around live sits lies rooted settled unended =
           first_homed s.label s.bodies branches stood g low around live.0 sits.1 lies.0.0 lies.1 rooted.0 rooted.1
-          (and_one (are_settled branches) (not (are_done branches)) settled) (and_two (are_settled branches) (not (are_done branches)) settled)
+          (and_first (are_settled branches) (not (are_done branches)) settled) (and_second (are_settled branches) (not (are_done branches)) settled)
       homed (Guard s Body stood c) g next low around live sits lies rooted settled unended =
           let one = homed c (guarded s g) (body_ends s.label s.place s.body) low (in_when slots s.label s.place s.test s.body around) live.0 sits.1
           lies.1 rooted.1
@@ -344,7 +281,7 @@ module _ (slots : Slots) (all : List Transition) where
       first_homed l (BodyOf weak body rest) (beside weak' c branches) stood g low around lives sits begins lies held rooted settled undone =
           first_home l c branches around (is_nil c) refl held.0.home
           (λ e. homed c (live_branch stood body g) (SetsCounter (slots.ending l 0)) (slots.ending l 0).counter around lives.0 sits.1 lies.0 rooted.0
-          (and_one (is_settled c) (are_settled branches) settled) e)
+          (and_first (is_settled c) (are_settled branches) settled) e)
 
     -- ---- what sleeps once the tree is woken
 
@@ -369,7 +306,7 @@ module _ (slots : Slots) (all : List Transition) where
           record { rule = one.rule; there = one.there; of_node = one.of_node; spot = one.spot; rests = one.rests; asks = one.asks }
       slept (Par s stood branches) g next low around n live sits lies rooted settled h =
           let one = some_slept s.label 0 s.bodies branches stood g around n live.0 sits.1 lies.1 rooted.1
-          (and_one (are_settled branches) (not (are_done branches)) settled) h in
+          (and_first (are_settled branches) (not (are_done branches)) settled) h in
           record { rule = one.rule; there = one.there; of_node = one.of_node; spot = one.spot; rests = one.rests; asks = one.asks }
       slept (Guard s Body stood c) g next low around n live sits lies rooted settled (inl is) =
           let one = homed c (guarded s g) (body_ends s.label s.place s.body) low (in_when slots s.label s.place s.test s.body around) live.0 sits.1
@@ -407,7 +344,7 @@ module _ (slots : Slots) (all : List Transition) where
       some_slept l k (BodyOf weak body rest) (beside weak' c branches) stood g around n lives sits lies rooted settled (inl h) =
           let one = slept c (live_branch stood body g) (SetsCounter (slots.ending l k)) (slots.ending l k).counter (in_branch k around) n lives.0 sits.1
           lies.0 rooted.0
-          (and_one (is_settled c) (are_settled branches) settled) h in
+          (and_first (is_settled c) (are_settled branches) settled) h in
           record {
             rule = one.rule;
             there = one.there;
@@ -419,7 +356,7 @@ module _ (slots : Slots) (all : List Transition) where
           }
       some_slept l k (BodyOf weak body rest) (beside weak' c branches) stood g around n lives sits lies rooted settled (inr h) =
           let one = some_slept l (suc k) rest branches stood g around n lives.2 sits.2 lies.1 rooted.1
-          (and_two (is_settled c) (are_settled branches) settled) h in
+          (and_second (is_settled c) (are_settled branches) settled) h in
           record {
             rule = one.rule;
             there = one.there;

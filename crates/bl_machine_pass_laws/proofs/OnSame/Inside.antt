@@ -1,69 +1,30 @@
 -- Where a tree rests is a place of its body, and there is such a place.
 use Rattle.std.proofs.Common.{◌≡◌, ◌⊎◌, inl, inr, ℕ, suc, Bool, true, false, ◌&&◌, not, List, ◌++◌, refl, ap, sym, ◌∙◌, subst}
-use Rattle.bl_graph_nodes.specs.Plain.{
-  Act,
-  Again,
-  Await,
-  Block,
-  Bodies,
-  Body as BodyOf,
-  Cobegin,
-  Done,
-  If,
-  Label,
-  Last,
-  Plain,
-  Repeat,
-  Run as RunOf,
-  Then,
-  Until,
-  When,
-  While,
-}
+use Rattle.std.proofs.lemmas.Bool.{not-true}
+use Rattle.bl_tree.proofs.Basics.{and_first, and_second}
+use Rattle.bl_graph_nodes.specs.Plain.{Act, Again, Await, Block, Bodies, Body as BodyOf, Cobegin, Done, If, Label, Last, Plain, Repeat, Run as RunOf, Then}
+use Rattle.bl_graph_nodes.specs.Plain.{Until, When, While}
 use Rattle.bl_ctree.specs.Control.{Phase}
 use Rattle.bl_ctree.specs.Instances.{Setting}
 use Rattle.bl_ctree_laws.specs.Steps.{call, fork, pause, watch}
-use Rattle.bl_ctree_laws.specs.Trees.{
-  Tree,
-  Trees,
-  Nil,
-  Wait,
-  Test,
-  Do,
-  Par,
-  Guard,
-  Run,
-  are_done,
-  are_settled,
-  before,
-  beside,
-  followed,
-  in_body,
-  is_nil,
-  is_settled,
-  no_tree,
-}
+use Rattle.bl_ctree_laws.specs.Trees.{Tree, Trees, Nil, Wait, Test, Do, Par, Guard, Run, are_done, are_settled, before, beside, followed, in_body, is_nil}
+use Rattle.bl_ctree_laws.specs.Trees.{is_settled, no_tree}
 use Rattle.bl_machine.specs.Uses.{Slots}
 use Rattle.bl_machine_pass.specs.SlotLayout.{BeginsAt, BlockRestsAt, BranchesRestAt, EndOf, RestOf, Spot, StatementRestsAt, spots_in, spots_in_each, spots_of}
 use Rattle.bl_machine_pass_laws.specs.Spots.{Has}
 use Rattle.bl_machine_pass_laws.proofs.OnSpots.{has_cases}
 use Rattle.bl_machine_pass_laws.proofs.OnRooted.Covers.{has_left, has_right}
 use Rattle.bl_machine_pass_laws.proofs.OnRooted.Resting.{ended_at, only_one, resting, resting_each}
-use Rattle.bl_machine_pass_laws.proofs.OnRooted.Sleeping.{and_one, and_two}
 use Rattle.bl_machine_pass_laws.specs.Same.Residual.{BegunResidual, InstanceResidualEach, InstanceResidualIn, InstanceResidualOf}
 
 -- ---- settled parts
 
-not_true : (b : Bool) → not b ≡ true → b ≡ false
-not_true true e = absurd cc
-not_true false e = refl
-
 pub phase_settled : (phase : Phase) (c : Tree) → (in_body phase && (is_settled c && not (is_nil c))) ≡ true → is_settled c ≡ true
-phase_settled phase c e = and_one (is_settled c) (not (is_nil c)) (and_two (in_body phase) (is_settled c && not (is_nil c)) e)
+phase_settled phase c e = and_first (is_settled c) (not (is_nil c)) (and_second (in_body phase) (is_settled c && not (is_nil c)) e)
 
 pub phase_open : (phase : Phase) (c : Tree) → (in_body phase && (is_settled c && not (is_nil c))) ≡ true → is_nil c ≡ false
 phase_open phase c e =
-    not_true (is_nil c) (and_two (is_settled c) (not (is_nil c)) (and_two (in_body phase) (is_settled c && not (is_nil c)) e))
+    not-true (is_nil c) (and_second (is_settled c) (not (is_nil c)) (and_second (in_body phase) (is_settled c && not (is_nil c)) e))
 
 -- ---- trees and what follows them
 
@@ -207,7 +168,7 @@ module _ (w : Setting) (i : ℕ) where
       some_within low (Cobegin l at bodies) c laid left settled =
           some_as c (Par (fork l at bodies) left.0 left.1) left.2
           (some_first l low bodies left.1 laid.0 laid.1 left.3
-          (and_one (are_settled left.1) (not (are_done left.1)) (settled_as c (Par (fork l at bodies) left.0 left.1) left.2 settled)))
+          (and_first (are_settled left.1) (not (are_done left.1)) (settled_as c (Par (fork l at bodies) left.0 left.1) left.2 settled)))
       some_within low (When l at guard e body) c laid left settled =
           let rests = settled_as c (Guard (watch l at guard e body) left.0 left.1 left.2) left.3 settled in
           some_as c (Guard (watch l at guard e body) left.0 left.1 left.2) left.3
@@ -237,7 +198,7 @@ module _ (w : Setting) (i : ℕ) where
       some_first l low (BodyOf weak body rest) no_tree begins laid left settled = absurd left
       some_first l low (BodyOf weak body rest) (beside weak' c branches) begins laid left settled =
           first_some l c branches (first_rests body c
-          (λ x. some_in (slots.ending l 0).counter body Done c laid.0 x (and_one (is_settled c) (are_settled branches) settled)) left.1)
+          (λ x. some_in (slots.ending l 0).counter body Done c laid.0 x (and_first (is_settled c) (are_settled branches) settled)) left.1)
 
     pub some_of : (low : ℕ) (s : Plain) (c : Tree) → StatementRestsAt slots low s → InstanceResidualOf w i s c → is_settled c ≡ true → Found (resting c)
     some_of low s c laid left settled = some_one s c (λ x. some_within low s c laid x settled) left settled

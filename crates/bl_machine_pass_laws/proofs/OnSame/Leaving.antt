@@ -1,21 +1,5 @@
 -- A body that begins is left of itself, and waking, turns and passes leave it left of the body.
-use Rattle.std.proofs.Common.{
-  ◌≡◌,
-  ◌⊎◌,
-  inl,
-  inr,
-  ℕ,
-  Bool,
-  true,
-  false,
-  List,
-  Some,
-  refl,
-  ap,
-  sym,
-  ◌∙◌,
-  subst,
-}
+use Rattle.std.proofs.Common.{◌≡◌, ◌⊎◌, inl, inr, ℕ, Bool, true, false, List, Some, refl, ap, sym, ◌∙◌, subst}
 use Rattle.bl_graph_nodes.specs.Nodes.{Node}
 use Rattle.bl_graph_nodes.specs.Plain.{Act, Again, Await, Block, Bodies, Body as BodyOf, Cobegin, Done}
 use Rattle.bl_graph_nodes.specs.Plain.{If, Last, Plain, Repeat, Run as RunOf, Then, Until, When, While}
@@ -23,33 +7,14 @@ use Rattle.bl_ctree.specs.Control.{Body, Check}
 use Rattle.bl_ctree.specs.Instances.{Setting, callee_of}
 use Rattle.bl_ctree_laws.specs.Pending.{Deed}
 use Rattle.bl_ctree_laws.specs.Steps.{call, fork, pause, turn, watch}
-use Rattle.bl_ctree_laws.specs.Trees.{
-  Tree,
-  Trees,
-  Nil,
-  Wait,
-  Test,
-  Idle,
-  Do,
-  Seq,
-  Par,
-  Guard,
-  Run,
-  all_woken,
-  before,
-  trees_begun,
-  beside,
-  do_block,
-  followed,
-  is_nil,
-  no_tree,
-  seq,
-  woken,
-}
+use Rattle.bl_ctree_laws.specs.Trees.{Tree, Trees, Nil, Wait, Test, Idle, Do, Seq, Par, Guard, Run, all_woken, before, trees_begun, beside, do_block, followed}
+use Rattle.bl_ctree_laws.specs.Trees.{is_nil, no_tree, seq, woken}
 use Rattle.bl_machine_laws.specs.Numbers.Turns as turns
 use Rattle.bl_machine_laws.specs.Numbers.Turns.{AnsweredDeed, InstancePoint, OneTurns, Passes, Turns}
 use Rattle.bl_machine_pass_laws.specs.Same.Laws.{StaysResidual}
 use Rattle.bl_machine_pass_laws.specs.Same.Residual.{BegunResidual, InstanceResidual, InstanceResidualEach, InstanceResidualIn, InstanceResidualOf}
+use Rattle.bl_ctree_laws.proofs.Waking.{seq_busy}
+use Rattle.bl_ctree_laws.proofs.Diamond.{seq_done}
 
 -- ---- what a turn leaves of a tree
 
@@ -120,28 +85,6 @@ turned (turns.in_guard {c' = c'} t) = inr (inr (inr (c', t, refl)))
 before_done : (body : Block) → before body Done ≡ body
 before_done Done = refl
 before_done (Then s rest) = ap (Then s) (before_done rest)
-
-seq_done : (c : Tree) → seq c Done ≡ c
-seq_done Nil = refl
-seq_done (Wait s) = refl
-seq_done (Test s) = refl
-seq_done (Idle body) = refl
-seq_done (Do s) = refl
-seq_done (Seq c rest) = refl
-seq_done (Par s stood branches) = refl
-seq_done (Guard s phase stood c) = refl
-seq_done (Run s callee phase stood c) = refl
-
-seq_open : (c : Tree) (block : Block) → is_nil c ≡ false → seq c block ≡ followed c block
-seq_open Nil block e = absurd cc
-seq_open (Wait s) block e = refl
-seq_open (Test s) block e = refl
-seq_open (Idle body) block e = refl
-seq_open (Do s) block e = refl
-seq_open (Seq c rest) block e = refl
-seq_open (Par s stood branches) block e = refl
-seq_open (Guard s phase stood c) block e = refl
-seq_open (Run s callee phase stood c) block e = refl
 
 followed_open : (c : Tree) (block : Block) → is_nil c ≡ false → is_nil (followed c block) ≡ false
 followed_open c Done e = e
@@ -358,7 +301,7 @@ module _ (w : Setting) (i : ℕ) where
               | inl over ↦ inl over
               | inr left ↦ inr (inr left)
             ]
-            | inr left ↦ inr (inl (one.0, left, one.2 ∙ seq_open one.0 block (open_of s one.0 left)))
+            | inr left ↦ inr (inl (one.0, left, one.2 ∙ seq_busy one.0 block (open_of s one.0 left)))
           ]
       turn_in (Then s rest) after c c' (inr h) t = elim (turn_in rest after c c' h t) [
         | inl over ↦ inl over

@@ -1,31 +1,13 @@
 -- Trees of one body that rest at the same places go on as one.
 use Rattle.std.proofs.Common.{◌≡◌, ◌⊎◌, inl, inr, ℕ, suc, Bool, true, false, not, List, [], ◌∷◌, ◌++◌}
-use Rattle.std.proofs.Common.{Option, Some, refl, ap, sym, ◌∙◌, subst}
+use Rattle.std.proofs.Common.{Option, refl, ap, sym, ◌∙◌, subst}
+use Rattle.bl_tree.proofs.Basics.{and_first, and_second, same_some}
 use Rattle.bl_tree.specs.declared.place.Place.{Place}
 use Rattle.bl_tree.specs.declared.tree.Expr.{Expr}
 use Rattle.bl_tree.specs.declared.tree.Path.{Path}
 use Rattle.bl_tree.specs.declared.tree.Unit.{Unit as UnitDef}
-use Rattle.bl_graph_nodes.specs.Plain.{
-  Act,
-  Again,
-  Await,
-  Block,
-  Bodies,
-  Body as BodyOf,
-  Cobegin,
-  Done,
-  If,
-  Label,
-  Last,
-  Plain,
-  Repeat,
-  Run as RunOf,
-  Then,
-  Until,
-  When,
-  While,
-  plain_body,
-}
+use Rattle.bl_graph_nodes.specs.Plain.{Act, Again, Await, Block, Bodies, Body as BodyOf, Cobegin, Done, If, Label, Last, Plain, Repeat, Run as RunOf, Then}
+use Rattle.bl_graph_nodes.specs.Plain.{Until, When, While, plain_body}
 use Rattle.bl_ctree.specs.Control.{Check}
 use Rattle.bl_ctree.specs.Instances.{Setting}
 use Rattle.bl_ctree_laws.specs.Steps.{call, fork, pause, watch}
@@ -42,12 +24,12 @@ use Rattle.bl_machine_pass_laws.proofs.OnSpots.{has_cases}
 use Rattle.bl_machine_pass_laws.proofs.OnRooted.Covers.{differ_apart, differ_left, differ_right, has_left, has_right}
 use Rattle.bl_machine_pass_laws.proofs.OnRooted.Resting.{ended_at, resting, resting_each, rests_at, shown_by}
 use Rattle.bl_machine_pass_laws.proofs.OnRooted.Rooting.{has_contains}
-use Rattle.bl_machine_pass_laws.proofs.OnRooted.Sleeping.{and_one, and_two}
 use Rattle.bl_machine_pass_laws.specs.Same.Laws.{Agree, CallAlike, CountersTell, NumbersTell, RestsBetweenTicks, agree}
 use Rattle.bl_machine_pass_laws.specs.Same.Residual.{BegunResidual, InstanceResidualEach, InstanceResidualIn, InstanceResidualOf, OneCalls}
 use Rattle.bl_machine_pass_laws.proofs.OnSame.Inside.{end_is, inside_body, inside_each, inside_in, inside_of, phase_open}
 use Rattle.bl_machine_pass_laws.proofs.OnSame.Inside.{phase_settled, resting_followed, settled_followed, some_in, some_of, unsettled}
 use Rattle.bl_machine_pass_laws.proofs.OnSame.Leaving.{open_in, woken_followed}
+use Rattle.bl_machine_pass_laws.proofs.OnRooted.Resuming.{slot_is}
 
 -- ---- two trees that rest
 
@@ -76,14 +58,8 @@ record Twins (l : Label) (k : ℕ) (branches branches' : Trees) : Type 0 where
   rests : (p : Spot) → Has (resting_each l k branches) p → Has (resting_each l k branches') p
   calls : (m : Label) (d d' : Tree) → OneCalls branches m d → OneCalls branches' m d' → woken d ≡ woken d'
 
-some_is : {X : Type 0} (x y : X) → Some x ≡ Some y → x ≡ y
-some_is x y is = cc
-
 abbrev slot_of : ℕ → ℕ → Slot
 slot_of counter value = record { counter = counter; value = value }
-
-slot_is : (a b : Slot) → a.counter ≡ b.counter → a.value ≡ b.value → a ≡ b
-slot_is a b one two = ap (λ (x : ℕ). slot_of x a.value) one ∙ ap (λ (y : ℕ). slot_of b.counter y) two
 
 -- ---- branches
 
@@ -156,7 +132,7 @@ module _ (w : Setting) (i : ℕ) (slots : Slots) where
       let x' : Tree = Run (call l at target a inputs outputs) left'.0 left'.1 left'.2 left'.3 in
       let parts = twin_as c x c' x' left.5 left'.5 twin in
       woken_as c x c' x' left.5 left'.5
-      (ap (λ y. Run (call l at target a inputs outputs) y Check true (woken left.3)) (some_is left.0 left'.0 (sym left.4 ∙ left'.4))
+      (ap (λ y. Run (call l at target a inputs outputs) y Check true (woken left.3)) (same_some left.0 left'.0 (sym left.4 ∙ left'.4))
       ∙ ap (λ y. Run (call l at target a inputs outputs) left'.0 Check true y) (parts.calls l left.3 left'.3 (refl, refl) (refl, refl)))
 
   -- a statement that is to begin doesn't rest
@@ -231,8 +207,8 @@ module _ (w : Setting) (i : ℕ) (slots : Slots) where
         let parts = twin_as c x c' x' left.2 left'.2 twin in
         woken_as c x c' x' left.2 left'.2
         (ap (λ y. Par (fork l at bodies) true y) (same_each l 0 bodies left.1 left'.1 differ laid.1 left.3 left'.3 (record {
-          settled = and_one (are_settled left.1) (not (are_done left.1)) parts.settled;
-          settled' = and_one (are_settled left'.1) (not (are_done left'.1)) parts.settled';
+          settled = and_first (are_settled left.1) (not (are_done left.1)) parts.settled;
+          settled' = and_first (are_settled left'.1) (not (are_done left'.1)) parts.settled';
           rests = parts.rests;
           calls = parts.calls;
         })))
@@ -301,14 +277,14 @@ module _ (w : Setting) (i : ℕ) (slots : Slots) where
     same_each l k (BodyOf weak body rest) (beside weak1 c branches) no_tree differ laid left left' twins = absurd left'
     same_each l k (BodyOf weak body rest) (beside weak1 c branches) (beside weak2 c' branches') differ laid left left' twins =
         let here = same_branch l k body rest c c' branches branches' differ laid.0 left.1 left'.1 left.2 left'.2
-        (and_one (is_settled c) (are_settled branches) twins.settled) (and_one (is_settled c') (are_settled branches') twins.settled') twins.rests
+        (and_first (is_settled c) (are_settled branches) twins.settled) (and_first (is_settled c') (are_settled branches') twins.settled') twins.rests
         (λ m d d' one two. twins.calls m d d' (inl one) (inl two))
         (λ x x' both.
         same_in (slots.ending l k).counter body Done c c' (differ_left (spots_in body) (spots_in_each l (suc k) rest) differ.1) laid.0 x x' both) in
         let later = same_each l (suc k) rest branches branches' (differ_right (spots_in body) (spots_in_each l (suc k) rest) differ.1) laid.2 left.2 left'.2
         (record {
-          settled = and_two (is_settled c) (are_settled branches) twins.settled;
-          settled' = and_two (is_settled c') (are_settled branches') twins.settled';
+          settled = and_second (is_settled c) (are_settled branches) twins.settled;
+          settled' = and_second (is_settled c') (are_settled branches') twins.settled';
           rests = λ p h. in_later w i l k body rest c' branches' p differ left'.1 (inside_each w i l (suc k) rest branches p left.2 h)
               (twins.rests p (in_more l k c branches p h));
           calls = λ m d d' one two. twins.calls m d d' (inr one) (inr two);

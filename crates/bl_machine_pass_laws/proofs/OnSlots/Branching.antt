@@ -1,9 +1,10 @@
 -- In typed bodies each `cobegin` has a branch.
-use Rattle.std.proofs.Common.{◌≡◌, ℕ, zero, suc, Bool, true, false, ◌&&◌, List, [], ◌∷◌, ◌++◌}
+use Rattle.std.proofs.Common.{◌≡◌, ℕ, zero, suc, Bool, true, ◌&&◌, List, [], ◌∷◌, ◌++◌}
 use Rattle.std.proofs.Common.{map, length, Some, refl, sym, subst, ◌∙◌}
 use Rattle.std.specs.List.{list_all}
 use Rattle.std.specs.Prelude.{slice_get}
 use Rattle.std.proofs.lemmas.List.Elements.{All-head, All-tail}
+use Rattle.bl_tree.proofs.Basics.{all_of_each, and_first, and_second}
 use Rattle.bl_tree.specs.declared.place.Place.{Place}
 use Rattle.bl_tree.specs.declared.tree.Arm.{Arm, out-Arm}
 use Rattle.bl_tree.specs.declared.tree.Branch.{Branch, out-Branch}
@@ -25,30 +26,9 @@ use Rattle.bl_graph_nodes.specs.Laws.{plain_arm, plain_branch}
 use Rattle.bl_graph_nodes.specs.Plain.{If, Label, Plain, Position, block_from, bodies_from, else_at, inside, label_at, never, passed_one, plain_stmt}
 use Rattle.bl_graph_nodes.specs.Plain.{plain_block, plain_body}
 use Rattle.bl_graph_nodes.proofs.Equations.{plain_statements}
-use Rattle.bl_ctree_laws_confluence.proofs.OnApart.Told.{
-  ArmsFit,
-  BranchesFit,
-  Fit,
-  branch_fitted,
-  arm_fitted,
-  fit_arm,
-  fit_arms,
-  fit_at,
-  fit_branch,
-  fit_branches,
-  fit_first,
-  fit_parts,
-  fit_rest,
-}
+use Rattle.bl_ctree_laws_confluence.proofs.OnApart.Told.{ArmsFit, BranchesFit, Fit, branch_fitted, arm_fitted, fit_arm, fit_arms, fit_at, fit_branch}
+use Rattle.bl_ctree_laws_confluence.proofs.OnApart.Told.{fit_branches, fit_first, fit_parts, fit_rest}
 use Rattle.bl_machine_pass_laws.specs.Slots.Branches.{BranchesInEach, BranchesOf, EachBranches, HasBranch}
-
-and_first : (a b : Bool) → (a && b) ≡ true → a ≡ true
-and_first true b e = refl
-and_first false b e = absurd cc
-
-and_second : (a b : Bool) → (a && b) ≡ true → b ≡ true
-and_second true b e = e
-and_second false b e = absurd cc
 
 module _ (site : TypingContext) where
   -- where the statement fits
@@ -162,16 +142,6 @@ module _ (site : TypingContext) where
 
 -- ---- typed bodies, unit by unit
 
-both_true : (a b : Bool) → a ≡ true → b ≡ true → (a && b) ≡ true
-both_true true b one other = other
-both_true false b one other = one
-
-each_true : {A : Type 0} (test : A → Bool) (xs : List A) → list_all test xs ≡ true → all_of (map test xs) ≡ true
-each_true test [] e = refl
-each_true test (x ∷ xs) e =
-    both_true (test x) (all_of (map test xs)) (and_first (test x) (list_all test xs) e)
-    (each_true test xs (and_second (test x) (list_all test xs) e))
-
 body_typed : (structs : List StructDef) (earlier : List UnitDef) (unit : UnitDef) → unit_stands structs earlier unit ≡ true →
     Fit (site_of structs earlier unit) unit.body
 body_typed structs earlier unit stands =
@@ -180,7 +150,7 @@ body_typed structs earlier unit stands =
     let fit : Bool = list_all (fits (site_of structs earlier unit)) unit.body in
     let flat : Bool = is_shallow 200 unit.body in
     let apart : Bool = list_all is_apart unit.body in
-    each_true (fits (site_of structs earlier unit)) unit.body
+    all_of_each (fits (site_of structs earlier unit)) unit.body
     (and_first fit (unit_returns unit && (flat && apart))
     (and_second types (fit && (unit_returns unit && (flat && apart)))
     (and_second (roles_stand unit && named) (types && (fit && (unit_returns unit && (flat && apart)))) stands)))

@@ -4,6 +4,8 @@ use Rattle.std.proofs.Common.{nat_eq, unwrap_or, refl, sym, ap, subst, ◌∙◌
 use Rattle.std.specs.Prelude.{bytes_eq, slice_get}
 use Rattle.std.proofs.lemmas.Option.{slice_get-get_or}
 use Rattle.std.proofs.lemmas.Slice.Eq.{bytes_eq-Decides}
+use Rattle.std.proofs.lemmas.Bool.{and_from, false_from_ne_true}
+use Rattle.bl_tree.proofs.Basics.{and_first, and_second, same_some}
 use Rattle.bl_graph_nodes.specs.Plain.{Label}
 use Rattle.bl_machine.specs.declared.slots.Slot.{Slot}
 use Rattle.bl_machine_pass.specs.SlotLayout.{EndOf, RestOf, Spot}
@@ -12,52 +14,37 @@ use Rattle.bl_machine_pass_laws.specs.Spots.{Has, SpotsAreDistinct}
 
 -- ---- tests
 
-both_first : (a b : Bool) → (a && b) ≡ true → a ≡ true
-both_first true b e = refl
-both_first false b e = absurd cc
-
-both_second : (a b : Bool) → (a && b) ≡ true → b ≡ true
-both_second true b e = e
-both_second false b e = absurd cc
-
-both_true : (a b : Bool) → a ≡ true → b ≡ true → (a && b) ≡ true
-both_true true b e f = f
-both_true false b e f = absurd cc
-
-label_is : (l m : Label) → same_label l m ≡ true → l ≡ m
+pub label_is : (l m : Label) → same_label l m ≡ true → l ≡ m
 label_is l m e =
     let position : l.position ≡ m.position =
-    (bytes_eq-Decides l.position m.position).0 (both_first (bytes_eq l.position m.position) (nat_eq l.passed m.passed) e) in
+    (bytes_eq-Decides l.position m.position).0 (and_first (bytes_eq l.position m.position) (nat_eq l.passed m.passed) e) in
     let passed : l.passed ≡ m.passed =
-    eqb-true l.passed m.passed (both_second (bytes_eq l.position m.position) (nat_eq l.passed m.passed) e) in
+    eqb-true l.passed m.passed (and_second (bytes_eq l.position m.position) (nat_eq l.passed m.passed) e) in
     ap (λ p. record { position = p; passed = l.passed }) position ∙ ap (λ n. record { position = m.position; passed = n }) passed
 
-label_itself : (l : Label) → same_label l l ≡ true
+pub label_itself : (l : Label) → same_label l l ≡ true
 label_itself l =
-    both_true (bytes_eq l.position l.position) (nat_eq l.passed l.passed) ((bytes_eq-Decides l.position l.position).1 refl)
+    and_from (bytes_eq l.position l.position) (nat_eq l.passed l.passed) ((bytes_eq-Decides l.position l.position).1 refl)
     (eq-eqb l.passed l.passed refl)
 
-spot_is : (p q : Spot) → same_spot p q ≡ true → p ≡ q
+pub spot_is : (p q : Spot) → same_spot p q ≡ true → p ≡ q
 spot_is (RestOf l) (RestOf m) e = ap RestOf (label_is l m e)
 spot_is (EndOf l j) (EndOf m k) e =
-    let label : l ≡ m = label_is l m (both_first (same_label l m) (nat_eq j k) e) in
-    let number : j ≡ k = eqb-true j k (both_second (same_label l m) (nat_eq j k) e) in
+    let label : l ≡ m = label_is l m (and_first (same_label l m) (nat_eq j k) e) in
+    let number : j ≡ k = eqb-true j k (and_second (same_label l m) (nat_eq j k) e) in
     ap (λ n. EndOf n j) label ∙ ap (λ n. EndOf m n) number
 spot_is (RestOf l) (EndOf m k) e = absurd cc
 spot_is (EndOf l j) (RestOf m) e = absurd cc
 
-spot_itself : (p : Spot) → same_spot p p ≡ true
+pub spot_itself : (p : Spot) → same_spot p p ≡ true
 spot_itself (RestOf l) = label_itself l
-spot_itself (EndOf l k) = both_true (same_label l l) (nat_eq k k) (label_itself l) (eq-eqb k k refl)
+spot_itself (EndOf l k) = and_from (same_label l l) (nat_eq k k) (label_itself l) (eq-eqb k k refl)
 
 -- ---- positions
 
-some_same : {A : Type 0} (a b : A) → Some a ≡ Some b → a ≡ b
-some_same a b is = cc
-
-has_at : (xs : List Spot) (i : ℕ) (p : Spot) → slice_get xs i ≡ Some p → Has xs p
+pub has_at : (xs : List Spot) (i : ℕ) (p : Spot) → slice_get xs i ≡ Some p → Has xs p
 has_at [] i p is = absurd cc
-has_at (x ∷ xs) zero p is = inl (sym (some_same x p is))
+has_at (x ∷ xs) zero p is = inl (sym (same_some x p is))
 has_at (x ∷ xs) (suc i) p is = inr (has_at xs i p is)
 
 -- past one that isn't it
@@ -65,22 +52,18 @@ found_past : (b : Bool) (k : ℕ) → b ≡ false → (if b then 0 else suc k) �
 found_past true k e = absurd cc
 found_past false k e = refl
 
-found_first : (b : Bool) (k : ℕ) → b ≡ true → (if b then 0 else suc k) ≡ 0
+pub found_first : (b : Bool) (k : ℕ) → b ≡ true → (if b then 0 else suc k) ≡ 0
 found_first true k e = refl
 found_first false k e = absurd cc
-
-pub isnt : (b : Bool) → (b ≡ true → ⊥) → b ≡ false
-isnt true none = absurd (none refl)
-isnt false none = refl
 
 -- a place is found where it stands
 found_at : (xs : List Spot) (i : ℕ) (p : Spot) → SpotsAreDistinct xs → slice_get xs i ≡ Some p → position_where (same_spot p) xs ≡ i
 found_at [] i p differ is = absurd cc
 found_at (x ∷ xs) zero p differ is =
-    found_first (same_spot p x) (position_where (same_spot p) xs) (subst (λ q. same_spot p q ≡ true) (sym (some_same x p is)) (spot_itself p))
+    found_first (same_spot p x) (position_where (same_spot p) xs) (subst (λ q. same_spot p q ≡ true) (sym (same_some x p is)) (spot_itself p))
 found_at (x ∷ xs) (suc i) p differ is =
     found_past (same_spot p x) (position_where (same_spot p) xs)
-    (isnt (same_spot p x) (λ e. differ.0 (subst (Has xs) (spot_is p x e) (has_at xs i p is))))
+    (false_from_ne_true (same_spot p x) (λ e. differ.0 (subst (Has xs) (spot_is p x e) (has_at xs i p is))))
     ∙ ap suc (found_at xs i p differ.1 is)
 
 -- its number is the one that the list has there

@@ -25,7 +25,7 @@ times_itself counter before =
 
 -- ---- values
 
-first_is : (x y : Slot) → Some x ≡ Some y → x ≡ y
+pub first_is : (x y : Slot) → Some x ≡ Some y → x ≡ y
 first_is x y is = cc
 
 -- the value of each is greater than the number of those before that have its counter

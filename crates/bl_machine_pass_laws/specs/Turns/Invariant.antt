@@ -2,22 +2,7 @@
 use Rattle.std.specs.Prelude.{◌≡◌, ◌≤◌, ℕ, Bool, true, not, Contains, None, ⊤}
 use Rattle.bl_graph_nodes.specs.Nodes.{ForkAt, Node, StartAt, are_instant, is_instant}
 use Rattle.bl_graph_nodes.specs.Plain.{Block}
-use Rattle.bl_ctree_laws.specs.Trees.{
-  Tree,
-  Trees,
-  Nil,
-  Wait,
-  Test,
-  Idle,
-  Do,
-  Seq,
-  Par,
-  Guard,
-  Run,
-  beside,
-  is_nil,
-  no_tree,
-}
+use Rattle.bl_ctree_laws.specs.Trees.{Tree, Trees, Nil, Wait, Test, Idle, Do, Seq, Par, Guard, Run, beside, is_nil, no_tree}
 use Rattle.bl_ctree_laws_traces.specs.Progress.FitsGraph.{fork_stmt}
 use Rattle.bl_machine.specs.Uses.{Slots}
 use Rattle.bl_machine_laws.specs.Numbers.Waiting.{Waits}

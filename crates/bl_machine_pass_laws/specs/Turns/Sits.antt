@@ -1,21 +1,7 @@
 -- Trees that are left of the statements of a body, with the rules of these and the counters at which they rest.
 use Rattle.std.specs.Prelude.{◌≡◌, ℕ, suc, Bool, true, List, Contains, ⊤}
 use Rattle.bl_graph_nodes.specs.Plain.{Await, Bodies, Body as BodyOf, Label, Last}
-use Rattle.bl_ctree_laws.specs.Trees.{
-  Tree,
-  Trees,
-  Nil,
-  Wait,
-  Test,
-  Idle,
-  Do,
-  Seq,
-  Par,
-  Guard,
-  Run,
-  beside,
-  no_tree,
-}
+use Rattle.bl_ctree_laws.specs.Trees.{Tree, Trees, Nil, Wait, Test, Idle, Do, Seq, Par, Guard, Run, beside, no_tree}
 use Rattle.bl_ctree_laws_traces.specs.Progress.FitsGraph.{call_stmt, fork_stmt, watch_stmt}
 use Rattle.bl_machine.specs.Uses.{Slots, uses, uses_in, uses_in_branch}
 use Rattle.bl_machine_pass.specs.SlotLayout.{BlockRestsAt, StatementRestsAt}

@@ -1,73 +1,27 @@
 -- What a turn leaves of what a tree asks for.
 use Rattle.std.proofs.Common.{◌≡◌, inl, inr, ℕ, Bool, true, false, ◌&&◌, List, [], ◌++◌, refl}
+use Rattle.std.proofs.lemmas.Bool.{and_from}
+use Rattle.bl_tree.proofs.Basics.{and_first, and_second}
 use Rattle.bl_tree.specs.declared.place.Place.{Place}
 use Rattle.bl_tree.specs.declared.tree.Unit.{Unit as UnitDef}
 use Rattle.bl_graph_nodes.specs.Nodes.{Node}
-use Rattle.bl_graph_nodes.specs.Plain.{
-  Act,
-  Again,
-  Await,
-  Block,
-  Bodies,
-  Body as BodyOf,
-  Cobegin,
-  Done,
-  If,
-  Label,
-  Last,
-  Plain,
-  Repeat,
-  Run as RunOf,
-  Then,
-  Until,
-  When,
-  While,
-}
+use Rattle.bl_graph_nodes.specs.Plain.{Act, Again, Await, Block, Bodies, Body as BodyOf, Cobegin, Done, If, Label, Last, Plain, Repeat, Run as RunOf, Then}
+use Rattle.bl_graph_nodes.specs.Plain.{Until, When, While}
 use Rattle.bl_graph_nodes.specs.Steps.{end_node, join_node}
 use Rattle.bl_machine_prevs.specs.Declared.{are_known, declared_by, prevs_at, prevs_in_inputs, prevs_stand, prevs_stand_in, prevs_stand_in_each}
 use Rattle.bl_machine_prevs.specs.Prevs.{prevs_in, prevs_in_expr}
 use Rattle.bl_ctree.specs.Instances.{Setting}
 use Rattle.bl_ctree_laws.specs.Pending.{Deed}
 use Rattle.bl_ctree_laws.specs.Steps.{turn}
-use Rattle.bl_ctree_laws.specs.Trees.{
-  Tree,
-  Trees,
-  Nil,
-  Wait,
-  Test,
-  Idle,
-  Do,
-  Seq,
-  Par,
-  Guard,
-  Run,
-  all_woken,
-  before,
-  trees_begun,
-  beside,
-  do_block,
-  no_tree,
-  seq,
-  woken,
-}
+use Rattle.bl_ctree_laws.specs.Trees.{Tree, Trees, Nil, Wait, Test, Idle, Do, Seq, Par, Guard, Run, all_woken, before, trees_begun, beside, do_block, no_tree}
+use Rattle.bl_ctree_laws.specs.Trees.{seq, woken}
 use Rattle.bl_machine_laws.specs.Numbers.Turns as turns
 use Rattle.bl_machine_laws.specs.Numbers.Turns.{InstancePoint}
-use Rattle.bl_machine_pass_laws_execution.specs.Fresh.Asks.{
-  Asks,
-  BlockAsks,
-  Bounded,
-  BoundedAll,
-  BoundedEach,
-  DueIn,
-  EachAsks,
-  IsAmongVariables,
-  OneDueIn,
-  declared_at,
-  next_declared,
-}
+use Rattle.bl_machine_pass_laws_execution.specs.Fresh.Asks.{Asks, BlockAsks, Bounded, BoundedAll, BoundedEach, DueIn, EachAsks, IsAmongVariables, OneDueIn}
+use Rattle.bl_machine_pass_laws_execution.specs.Fresh.Asks.{declared_at, next_declared}
 use Rattle.bl_machine_pass_laws_execution.specs.Fresh.Fresh.{locals}
 use Rattle.bl_machine_pass_laws_execution.specs.Fresh.Laws.{PointAsks, TreesAsk}
-use Rattle.bl_machine_pass_laws_execution.proofs.OnFresh.Lists.{among_joined, among_left, among_right, both_so, first_so, known_more, known_so, none_among, second_so}
+use Rattle.bl_machine_pass_laws_execution.proofs.OnFresh.Lists.{among_joined, among_left, among_right, known_more, known_so, none_among}
 
 -- ---- more is known
 
@@ -85,47 +39,47 @@ mutual
   stand_more known wider less (RunOf l at target a inputs outputs) h = known_more known wider (prevs_in_inputs inputs) less h
   stand_more known wider less (If l at e body other) h =
       let test : Bool = are_known known (prevs_in_expr e) in
-      let inner = second_so test (prevs_stand_in known body && prevs_stand_in known other) h in
-      both_so (are_known wider (prevs_in_expr e)) (prevs_stand_in wider body && prevs_stand_in wider other)
-      (known_more known wider (prevs_in_expr e) less (first_so test (prevs_stand_in known body && prevs_stand_in known other) h))
-      (both_so (prevs_stand_in wider body) (prevs_stand_in wider other)
-      (stand_more_in known wider less body (first_so (prevs_stand_in known body) (prevs_stand_in known other) inner))
-      (stand_more_in known wider less other (second_so (prevs_stand_in known body) (prevs_stand_in known other) inner)))
+      let inner = and_second test (prevs_stand_in known body && prevs_stand_in known other) h in
+      and_from (are_known wider (prevs_in_expr e)) (prevs_stand_in wider body && prevs_stand_in wider other)
+      (known_more known wider (prevs_in_expr e) less (and_first test (prevs_stand_in known body && prevs_stand_in known other) h))
+      (and_from (prevs_stand_in wider body) (prevs_stand_in wider other)
+      (stand_more_in known wider less body (and_first (prevs_stand_in known body) (prevs_stand_in known other) inner))
+      (stand_more_in known wider less other (and_second (prevs_stand_in known body) (prevs_stand_in known other) inner)))
   stand_more known wider less (Cobegin l at bodies) h = stand_more_each known wider less bodies h
   stand_more known wider less (When l at guard e body) h =
-      both_so (are_known wider (prevs_in_expr e)) (prevs_stand_in wider body)
-      (known_more known wider (prevs_in_expr e) less (first_so (are_known known (prevs_in_expr e)) (prevs_stand_in known body) h))
-      (stand_more_in known wider less body (second_so (are_known known (prevs_in_expr e)) (prevs_stand_in known body) h))
+      and_from (are_known wider (prevs_in_expr e)) (prevs_stand_in wider body)
+      (known_more known wider (prevs_in_expr e) less (and_first (are_known known (prevs_in_expr e)) (prevs_stand_in known body) h))
+      (stand_more_in known wider less body (and_second (are_known known (prevs_in_expr e)) (prevs_stand_in known body) h))
   stand_more known wider less (Repeat l at body) h = stand_more_in known wider less body h
   stand_more known wider less (Until l at body e) h =
-      both_so (are_known wider (prevs_in_expr e)) (prevs_stand_in wider body)
-      (known_more known wider (prevs_in_expr e) less (first_so (are_known known (prevs_in_expr e)) (prevs_stand_in known body) h))
-      (stand_more_in known wider less body (second_so (are_known known (prevs_in_expr e)) (prevs_stand_in known body) h))
+      and_from (are_known wider (prevs_in_expr e)) (prevs_stand_in wider body)
+      (known_more known wider (prevs_in_expr e) less (and_first (are_known known (prevs_in_expr e)) (prevs_stand_in known body) h))
+      (stand_more_in known wider less body (and_second (are_known known (prevs_in_expr e)) (prevs_stand_in known body) h))
   stand_more known wider less (While l at e body) h =
-      both_so (are_known wider (prevs_in_expr e)) (prevs_stand_in wider body)
-      (known_more known wider (prevs_in_expr e) less (first_so (are_known known (prevs_in_expr e)) (prevs_stand_in known body) h))
-      (stand_more_in known wider less body (second_so (are_known known (prevs_in_expr e)) (prevs_stand_in known body) h))
+      and_from (are_known wider (prevs_in_expr e)) (prevs_stand_in wider body)
+      (known_more known wider (prevs_in_expr e) less (and_first (are_known known (prevs_in_expr e)) (prevs_stand_in known body) h))
+      (stand_more_in known wider less body (and_second (are_known known (prevs_in_expr e)) (prevs_stand_in known body) h))
   stand_more known wider less (Again l at body e) h =
-      both_so (are_known wider (prevs_in_expr e)) (prevs_stand_in wider body)
-      (known_more known wider (prevs_in_expr e) less (first_so (are_known known (prevs_in_expr e)) (prevs_stand_in known body) h))
-      (stand_more_in known wider less body (second_so (are_known known (prevs_in_expr e)) (prevs_stand_in known body) h))
+      and_from (are_known wider (prevs_in_expr e)) (prevs_stand_in wider body)
+      (known_more known wider (prevs_in_expr e) less (and_first (are_known known (prevs_in_expr e)) (prevs_stand_in known body) h))
+      (stand_more_in known wider less body (and_second (are_known known (prevs_in_expr e)) (prevs_stand_in known body) h))
 
   stand_more_in : (known wider : List ℕ) → Less known wider → (body : Block) → prevs_stand_in known body ≡ true →
       prevs_stand_in wider body ≡ true
   stand_more_in known wider less Done h = refl
   stand_more_in known wider less (Then s rest) h =
-      both_so (prevs_stand wider s) (prevs_stand_in (declared_by s ++ wider) rest)
-      (stand_more known wider less s (first_so (prevs_stand known s) (prevs_stand_in (declared_by s ++ known) rest) h))
+      and_from (prevs_stand wider s) (prevs_stand_in (declared_by s ++ wider) rest)
+      (stand_more known wider less s (and_first (prevs_stand known s) (prevs_stand_in (declared_by s ++ known) rest) h))
       (stand_more_in (declared_by s ++ known) (declared_by s ++ wider) (less_behind (declared_by s) known wider less) rest
-      (second_so (prevs_stand known s) (prevs_stand_in (declared_by s ++ known) rest) h))
+      (and_second (prevs_stand known s) (prevs_stand_in (declared_by s ++ known) rest) h))
 
   stand_more_each : (known wider : List ℕ) → Less known wider → (bodies : Bodies) → prevs_stand_in_each known bodies ≡ true →
       prevs_stand_in_each wider bodies ≡ true
   stand_more_each known wider less Last h = refl
   stand_more_each known wider less (BodyOf weak body rest) h =
-      both_so (prevs_stand_in wider body) (prevs_stand_in_each wider rest)
-      (stand_more_in known wider less body (first_so (prevs_stand_in known body) (prevs_stand_in_each known rest) h))
-      (stand_more_each known wider less rest (second_so (prevs_stand_in known body) (prevs_stand_in_each known rest) h))
+      and_from (prevs_stand_in wider body) (prevs_stand_in_each wider rest)
+      (stand_more_in known wider less body (and_first (prevs_stand_in known body) (prevs_stand_in_each known rest) h))
+      (stand_more_each known wider less rest (and_second (prevs_stand_in known body) (prevs_stand_in_each known rest) h))
 
 block_more : (w : Setting) (i : ℕ) (unit : UnitDef) (known wider : List ℕ) → Less known wider → (body : Block) →
     BlockAsks w i unit known body →
@@ -163,10 +117,10 @@ mutual
 block_begins : (w : Setting) (i : ℕ) (unit : UnitDef) (known : List ℕ) (body : Block) → BlockAsks w i unit known body →
     Asks w i unit known (do_block body)
 block_begins w i unit known Done h = tt
-block_begins w i unit known (Then s Done) h = (first_so (prevs_stand known s) (prevs_stand_in (declared_by s ++ known) Done) h.0, h.1.0)
+block_begins w i unit known (Then s Done) h = (and_first (prevs_stand known s) (prevs_stand_in (declared_by s ++ known) Done) h.0, h.1.0)
 block_begins w i unit known (Then s (Then next rest)) h = (
-  (first_so (prevs_stand known s) (prevs_stand_in (declared_by s ++ known) (Then next rest)) h.0, h.1.0),
-  (second_so (prevs_stand known s) (prevs_stand_in (declared_by s ++ known) (Then next rest)) h.0, h.1.1),
+  (and_first (prevs_stand known s) (prevs_stand_in (declared_by s ++ known) (Then next rest)) h.0, h.1.0),
+  (and_second (prevs_stand known s) (prevs_stand_in (declared_by s ++ known) (Then next rest)) h.0, h.1.1),
 )
 
 none_due : (w : Setting) (body : Block) (j : ℕ) → DueIn w (do_block body) j → ⊥
@@ -178,8 +132,8 @@ branches_begin : (w : Setting) (i : ℕ) (unit : UnitDef) (known : List ℕ) (bo
     BoundedEach w i unit bodies → EachAsks w i unit known (trees_begun bodies)
 branches_begin w i unit known Last h bounded = tt
 branches_begin w i unit known (BodyOf weak body rest) h bounded = (
-  block_begins w i unit known body (first_so (prevs_stand_in known body) (prevs_stand_in_each known rest) h, bounded.0),
-  branches_begin w i unit known rest (second_so (prevs_stand_in known body) (prevs_stand_in_each known rest) h) bounded.1,
+  block_begins w i unit known body (and_first (prevs_stand_in known body) (prevs_stand_in_each known rest) h, bounded.0),
+  branches_begin w i unit known rest (and_second (prevs_stand_in known body) (prevs_stand_in_each known rest) h) bounded.1,
 )
 
 no_branch_due : (w : Setting) (bodies : Bodies) (j : ℕ) → OneDueIn w (trees_begun bodies) j → ⊥
@@ -193,9 +147,9 @@ stand_before : (known : List ℕ) (body after : Block) → prevs_stand_in known 
     prevs_stand_in known (before body after) ≡ true
 stand_before known Done after one other = other
 stand_before known (Then s rest) after one other =
-    both_so (prevs_stand known s) (prevs_stand_in (declared_by s ++ known) (before rest after))
-    (first_so (prevs_stand known s) (prevs_stand_in (declared_by s ++ known) rest) one)
-    (stand_before (declared_by s ++ known) rest after (second_so (prevs_stand known s) (prevs_stand_in (declared_by s ++ known) rest) one)
+    and_from (prevs_stand known s) (prevs_stand_in (declared_by s ++ known) (before rest after))
+    (and_first (prevs_stand known s) (prevs_stand_in (declared_by s ++ known) rest) one)
+    (stand_before (declared_by s ++ known) rest after (and_second (prevs_stand known s) (prevs_stand_in (declared_by s ++ known) rest) one)
     (stand_more_in known (declared_by s ++ known) (λ x h. among_right x (declared_by s) known h) after other))
 
 bounded_before : (w : Setting) (i : ℕ) (unit : UnitDef) (body after : Block) → BoundedAll w i unit body → BoundedAll w i unit after →
@@ -208,7 +162,7 @@ loop_begins : (w : Setting) (i : ℕ) (unit : UnitDef) (known : List ℕ) (body 
 loop_begins w i unit known body next h stands bounded =
     block_begins w i unit known (turn body next) (
       stand_before known body (Then next Done) h.0
-          (both_so (prevs_stand known next) (prevs_stand_in (declared_by next ++ known) Done) stands refl),
+          (and_from (prevs_stand known next) (prevs_stand_in (declared_by next ++ known) Done) stands refl),
       bounded_before w i unit body (Then next Done) h.1 (bounded, tt),
     )
 
@@ -236,20 +190,20 @@ module _ (w : Setting) (i : ℕ) (unit : UnitDef) (known : List ℕ) where
       record { asked = known_so known (prevs_in s) h.0; bound = h.1; next = λ x at. at; asks = tt; due = λ j due. absurd due }
   point_asks (turns.takes {e = e} {body = body} {other = other}) h =
       let test : Bool = are_known known (prevs_in_expr e) in
-      let inner = second_so test (prevs_stand_in known body && prevs_stand_in known other) h.0 in record {
-        asked = known_so known (prevs_in_expr e) (first_so test (prevs_stand_in known body && prevs_stand_in known other) h.0);
+      let inner = and_second test (prevs_stand_in known body && prevs_stand_in known other) h.0 in record {
+        asked = known_so known (prevs_in_expr e) (and_first test (prevs_stand_in known body && prevs_stand_in known other) h.0);
         bound = nothing (locals unit);
         next = nothing [];
-        asks = block_begins w i unit known body (first_so (prevs_stand_in known body) (prevs_stand_in known other) inner, h.1.0);
+        asks = block_begins w i unit known body (and_first (prevs_stand_in known body) (prevs_stand_in known other) inner, h.1.0);
         due = λ j due. absurd (none_due w body j due);
       }
   point_asks (turns.passes {e = e} {body = body} {other = other}) h =
       let test : Bool = are_known known (prevs_in_expr e) in
-      let inner = second_so test (prevs_stand_in known body && prevs_stand_in known other) h.0 in record {
-        asked = known_so known (prevs_in_expr e) (first_so test (prevs_stand_in known body && prevs_stand_in known other) h.0);
+      let inner = and_second test (prevs_stand_in known body && prevs_stand_in known other) h.0 in record {
+        asked = known_so known (prevs_in_expr e) (and_first test (prevs_stand_in known body && prevs_stand_in known other) h.0);
         bound = nothing (locals unit);
         next = nothing [];
-        asks = block_begins w i unit known other (second_so (prevs_stand_in known body) (prevs_stand_in known other) inner, h.1.1);
+        asks = block_begins w i unit known other (and_second (prevs_stand_in known body) (prevs_stand_in known other) inner, h.1.1);
         due = λ j due. absurd (none_due w other j due);
       }
   point_asks turns.pauses h =
@@ -266,33 +220,33 @@ module _ (w : Setting) (i : ℕ) (unit : UnitDef) (known : List ℕ) where
     bound = nothing (locals unit);
     next = nothing [];
     asks = loop_begins w i unit known body (Again l at body e)
-        (second_so (are_known known (prevs_in_expr e)) (prevs_stand_in known body) h.0, h.1) h.0 h.1;
+        (and_second (are_known known (prevs_in_expr e)) (prevs_stand_in known body) h.0, h.1) h.0 h.1;
     due = λ j due. absurd (none_due w (turn body (Again l at body e)) j due);
   }
   point_asks (turns.leaves {body = body} {e = e}) h = record {
-    asked = known_so known (prevs_in_expr e) (first_so (are_known known (prevs_in_expr e)) (prevs_stand_in known body) h.0);
+    asked = known_so known (prevs_in_expr e) (and_first (are_known known (prevs_in_expr e)) (prevs_stand_in known body) h.0);
     bound = nothing (locals unit);
     next = nothing [];
     asks = tt;
     due = λ j due. absurd due;
   }
   point_asks (turns.turns {body = body} {e = e}) h = record {
-    asked = known_so known (prevs_in_expr e) (first_so (are_known known (prevs_in_expr e)) (prevs_stand_in known body) h.0);
+    asked = known_so known (prevs_in_expr e) (and_first (are_known known (prevs_in_expr e)) (prevs_stand_in known body) h.0);
     bound = nothing (locals unit);
     next = nothing [];
     asks = h;
     due = λ j due. absurd due;
   }
   point_asks (turns.enters {l = l} {at = at} {e = e} {body = body}) h = record {
-    asked = known_so known (prevs_in_expr e) (first_so (are_known known (prevs_in_expr e)) (prevs_stand_in known body) h.0);
+    asked = known_so known (prevs_in_expr e) (and_first (are_known known (prevs_in_expr e)) (prevs_stand_in known body) h.0);
     bound = nothing (locals unit);
     next = nothing [];
     asks = loop_begins w i unit known body (While l at e body)
-        (second_so (are_known known (prevs_in_expr e)) (prevs_stand_in known body) h.0, h.1) h.0 h.1;
+        (and_second (are_known known (prevs_in_expr e)) (prevs_stand_in known body) h.0, h.1) h.0 h.1;
     due = λ j due. absurd (none_due w (turn body (While l at e body)) j due);
   }
   point_asks (turns.skips {e = e} {body = body}) h = record {
-    asked = known_so known (prevs_in_expr e) (first_so (are_known known (prevs_in_expr e)) (prevs_stand_in known body) h.0);
+    asked = known_so known (prevs_in_expr e) (and_first (are_known known (prevs_in_expr e)) (prevs_stand_in known body) h.0);
     bound = nothing (locals unit);
     next = nothing [];
     asks = tt;
@@ -306,12 +260,12 @@ module _ (w : Setting) (i : ℕ) (unit : UnitDef) (known : List ℕ) where
     due = λ j due. absurd (no_branch_due w bodies j due);
   }
   point_asks (turns.guards {e = e} {body = body}) h =
-      let inner = second_so (are_known known (prevs_in_expr e)) (prevs_stand_in known body) h.0 in record {
+      let inner = and_second (are_known known (prevs_in_expr e)) (prevs_stand_in known body) h.0 in record {
         asked = nothing known;
         bound = nothing (locals unit);
         next = nothing [];
         asks = (
-          first_so (are_known known (prevs_in_expr e)) (prevs_stand_in known body) h.0,
+          and_first (are_known known (prevs_in_expr e)) (prevs_stand_in known body) h.0,
           ((inner, h.1), block_begins w i unit known body (inner, h.1)),
         );
         due = λ j due. absurd (none_due w body j due);

@@ -1,47 +1,12 @@
 -- In typed bodies declarations are of variables behind the parameters, and `run`s give no more inputs than there are parameters.
-use Rattle.std.proofs.Common.{
-  ◌≡◌,
-  ◌⊎◌,
-  inl,
-  inr,
-  ℕ,
-  zero,
-  suc,
-  ◌+◌,
-  ◌-◌,
-  ◌<◌,
-  ◌≤◌,
-  Bool,
-  true,
-  false,
-  ◌&&◌,
-  ◌||◌,
-  ◌++◌,
-  append_assoc,
-  append-nil,
-  List,
-  [],
-  ◌∷◌,
-  map,
-  take,
-  drop,
-  length,
-  get_or,
-  Option,
-  Some,
-  None,
-  refl,
-  sym,
-  ap,
-  ◌∙◌,
-  subst,
-  arith,
-}
+use Rattle.std.proofs.Common.{◌≡◌, ◌⊎◌, inl, inr, ℕ, zero, suc, ◌+◌, ◌-◌, ◌<◌, ◌≤◌, Bool, true, false, ◌&&◌, ◌||◌, ◌++◌, List, []}
+use Rattle.std.proofs.Common.{◌∷◌, map, take, drop, length, get_or, Option, Some, None, refl, sym, ap, ◌∙◌, subst, arith}
 use Rattle.std.proofs.lemmas.Bool.{leb-true, ltb-false, ltb-true}
 use Rattle.std.proofs.lemmas.List.Elements.{All-head, All-tail}
 use Rattle.std.proofs.lemmas.Option.{slice_get_within}
 use Rattle.std.specs.List.{list_all}
 use Rattle.std.specs.Prelude.{nat_le, nat_lt, option_and_then, slice_get}
+use Rattle.bl_tree.proofs.Basics.{and_first, and_second, contains_at, map_length, one_some}
 use Rattle.bl_tree.specs.declared.place.Place.{Place}
 use Rattle.bl_tree.specs.declared.tree.Arm.{Arm, fold-Arm, fold_out-Arm, out-Arm}
 use Rattle.bl_tree.specs.declared.tree.Branch.{Branch, fold-Branch, fold_out-Branch, out-Branch}
@@ -59,102 +24,45 @@ use Rattle.bl_tree.specs.declared.tree.Unit.{Unit as UnitDef}
 use Rattle.bl_tree.specs.declared.tree.Var.{Var}
 use Rattle.bl_tree.specs.Apart.{is_apart}
 use Rattle.bl_tree.specs.Depths.{is_shallow}
-use Rattle.bl_tree.specs.Program.{is_input, is_output, locals_of, names_of, parameters_of, roles_stand, unit_stands, units_stand_after}
+use Rattle.bl_tree.specs.Program.{is_input, is_output, locals_of, names_of, parameters_of, roles_stand, unit_stands}
 use Rattle.bl_tree.specs.Reduce.{all_of, joined}
 use Rattle.bl_tree.specs.Returns.{unit_returns}
 use Rattle.bl_tree.specs.Static.{static_of}
 use Rattle.bl_tree.specs.Types.{same_type, type_stands}
-use Rattle.bl_tree.specs.Typing.{
-  TypingContext,
-  are_same,
-  arguments_fit,
-  arm_fits,
-  branch_fits,
-  declaration_fits,
-  fits,
-  inputs_of,
-  is_activity,
-  is_fixed,
-  is_inhabited,
-  is_outlet,
-  is_truth,
-  is_variable,
-  kind_fits,
-  outputs_of,
-  run_fits,
-  site_of,
-  stmt_fits,
-  target_fits,
-  type_of,
-  type_of_path,
-  types_match,
-  var_at,
-}
+use Rattle.bl_tree.specs.Typing.{TypingContext, are_same, arguments_fit, arm_fits, branch_fits, declaration_fits, fits, inputs_of, is_activity, is_fixed}
+use Rattle.bl_tree.specs.Typing.{is_inhabited, is_outlet, is_truth, is_variable, kind_fits, outputs_of, run_fits, site_of, stmt_fits, target_fits, type_of}
+use Rattle.bl_tree.specs.Typing.{type_of_path, types_match, var_at}
 use Rattle.bl_tree.specs.Words.{are_distinct, is_name}
 use Rattle.bl_tree.proofs.StmtInduction.{Cases, Each, EachArm, EachBranch, induct, stmt}
 use Rattle.bl_graph_nodes.specs.Laws.{plain_arm, plain_branch}
-use Rattle.bl_graph_nodes.specs.Plain.{
-  Label,
-  Position,
-  block_from,
-  bodies_from,
-  else_at,
-  inside,
-  label_at,
-  passed_one,
-  plain_block,
-  plain_body,
-  plain_stmt,
-}
+use Rattle.bl_graph_nodes.specs.Plain.{Label, Position, block_from, bodies_from, else_at, inside, label_at, passed_one, plain_block, plain_body, plain_stmt}
 use Rattle.bl_graph_nodes.proofs.Equations.{plain_statements}
 use Rattle.bl_machine_prevs.specs.Declared.{declared_in, declared_kind}
 use Rattle.bl_ctree.specs.declared.instance.Instance.{Instance}
 use Rattle.bl_ctree.specs.declared.instance.Run.{Run}
-use Rattle.bl_ctree.specs.Instances.{
-  Setting,
-  arm_runs,
-  branch_runs,
-  callee_of,
-  kind_runs,
-  runs_in,
-  runs_in_arm,
-  runs_in_branch,
-  setting_of,
-  stmt_layer_runs,
-  unit_at,
-  unit_of,
-}
+use Rattle.bl_ctree.specs.Instances.{Setting, arm_runs, branch_runs, callee_of, kind_runs, runs_in, runs_in_arm, runs_in_branch, setting_of, stmt_layer_runs}
+use Rattle.bl_ctree.specs.Instances.{unit_at, unit_of}
 use Rattle.bl_ctree_laws_confluence.specs.Deeds.Origins.{InstancesHaveCallers}
-use Rattle.bl_ctree_laws_confluence.proofs.OnDeeds.Accepted.{contains_at}
 use Rattle.bl_ctree_laws_confluence.proofs.OnDeeds.Activities.{AllOf}
-use Rattle.bl_ctree_laws_confluence.proofs.OnDeeds.Nesting.{one_some}
 use Rattle.bl_machine_pass_laws_execution.specs.Fresh.Asks.{Bounded, BoundedAll, BoundedEach, InputsFit, IsAmongVariables}
 use Rattle.bl_machine_pass_laws_execution.specs.Fresh.Fresh.{arity, locals}
 use Rattle.bl_machine_pass_laws_execution.specs.Fresh.Laws.{BodiesAsk}
-use Rattle.bl_machine_pass_laws_execution.proofs.OnFresh.Lists.{among_by, both_so, first_so, in_range, none_among, second_so}
+use Rattle.bl_machine_pass_laws_execution.proofs.OnFresh.Lists.{among_by, in_range, none_among}
 use Rattle.bl_machine_pass_laws_execution.proofs.OnFresh.Naming.{BeginsNamed, body_named}
-
-of_first : {A : Type 0} (P : A → Type 0) (xs ys : List A) → AllOf P (xs ++ ys) → AllOf P xs
-of_first P [] ys all = tt
-of_first P (x ∷ xs) ys all = (all.0, of_first P xs ys all.1)
-
-of_second : {A : Type 0} (P : A → Type 0) (xs ys : List A) → AllOf P (xs ++ ys) → AllOf P ys
-of_second P [] ys all = all
-of_second P (x ∷ xs) ys all = of_second P xs ys all.1
+use Rattle.bl_eval.proofs.UnitFits.{unit_at as unit_stands_at}
+use Rattle.bl_ctree_laws_confluence.proofs.OnDeeds.Activities.{taken}
+use Rattle.bl_ctree_laws_confluence.proofs.OnDeeds.Aliases.{of_first, of_second}
+use Rattle.bl_machine_laws.proofs.OnRests.Whole.{body_fits}
 
 -- ---- inputs
 
 matched_length : (types : List (Option Ty)) (vars : List Var) → types_match types vars ≡ true → length types ≡ length vars
 matched_length [] [] e = refl
 matched_length [] (var ∷ vars) e = absurd cc
-matched_length (Some ty ∷ types) (var ∷ vars) e = ap suc (matched_length types vars (second_so (same_type ty var.ty) (types_match types vars) e))
+matched_length (Some ty ∷ types) (var ∷ vars) e = ap suc (matched_length types vars (and_second (same_type ty var.ty) (types_match types vars) e))
 matched_length (Some ty ∷ types) [] e = absurd cc
 matched_length (None ∷ types) [] e = absurd cc
 matched_length (None ∷ types) (var ∷ vars) e = absurd cc
-
-mapped_length : {A B : Type 0} (f : A → B) (xs : List A) → length (map f xs) ≡ length xs
-mapped_length f [] = refl
-mapped_length f (x ∷ xs) = ap suc (mapped_length f xs)
 
 taken_length : {A : Type 0} (n : ℕ) (xs : List A) → length (take n xs) ≤ n
 taken_length zero xs = omega arith
@@ -166,13 +74,13 @@ inputs_within : (site : TypingContext) (target : Option Path) (inputs : List Exp
 inputs_within site target inputs outputs None callee e fit = absurd cc
 inputs_within site target inputs outputs (Some other) callee e fit =
     let same : other ≡ callee = cc in
-    let all = second_so (target_fits site other.result target) (arguments_fit site inputs outputs other)
-    (second_so (is_activity site.kind && is_activity other.kind)
+    let all = and_second (target_fits site other.result target) (arguments_fit site inputs outputs other)
+    (and_second (is_activity site.kind && is_activity other.kind)
     (target_fits site other.result target && arguments_fit site inputs outputs other) fit) in
-    let matched = first_so (types_match (map (type_of site) inputs) (inputs_of other))
+    let matched = and_first (types_match (map (type_of site) inputs) (inputs_of other))
     (types_match (map (type_of_path site) outputs) (outputs_of other) && all_of (map (is_outlet site) outputs)) all in
     let long : length inputs ≡ length (inputs_of other) =
-    sym (mapped_length (type_of site) inputs) ∙ matched_length (map (type_of site) inputs) (inputs_of other) matched in
+    sym (map_length (type_of site) inputs) ∙ matched_length (map (type_of site) inputs) (inputs_of other) matched in
     let less : length (inputs_of other) ≤ other.inputs = taken_length other.inputs other.vars in
     subst (λ u. length inputs ≤ arity u) same (omega (arith, long, less))
 
@@ -197,9 +105,9 @@ role_there : (test : Role → Bool) (vars : List Var) (k : ℕ) (var : Var) → 
 role_there test [] k var all e = absurd cc
 role_there test (v ∷ vars) zero var all e =
     let same : v ≡ var = cc in
-    subst (λ (x : Var). test x.role ≡ true) same (first_so (test v.role) (list_all (λ (var : Var). test var.role) vars) all)
+    subst (λ (x : Var). test x.role ≡ true) same (and_first (test v.role) (list_all (λ (var : Var). test var.role) vars) all)
 role_there test (v ∷ vars) (suc k) var all e =
-    role_there test vars k var (second_so (test v.role) (list_all (λ (var : Var). test var.role) vars) all) e
+    role_there test vars k var (and_second (test v.role) (list_all (λ (var : Var). test var.role) vars) all) e
 
 no_input : (role : Role) → (is_variable role || is_fixed role) ≡ true → is_input role ≡ true → ⊥
 no_input Input e f = absurd cc
@@ -223,7 +131,7 @@ declared_role site None (Some var) e = (var, refl, or_yes (is_variable var.role)
     or_yes true b e = refl
     or_yes false b e = absurd cc
 declared_role site (Some x) (Some var) e =
-    (var, refl, first_so (is_variable var.role || is_fixed var.role) (are_same (Some var.ty) (type_of site x)) e)
+    (var, refl, and_first (is_variable var.role || is_fixed var.role) (are_same (Some var.ty) (type_of site x)) e)
 
 -- what the roles say
 pub record Roles (unit : UnitDef) : Type 0 where
@@ -237,10 +145,10 @@ roles_so unit e =
     let ins : Bool = list_all (λ (var : Var). is_input var.role) (inputs_of unit) in
     let outs : Bool = list_all (λ (var : Var). is_output var.role) (outputs_of unit) in
     let rest : Bool = list_all (λ (var : Var). is_variable var.role || is_fixed var.role) (locals_of unit) in
-    let more : (ins && (outs && rest)) ≡ true = second_so many (ins && (outs && rest)) e in record {
-      enough = leb-true (unit.inputs + unit.outputs) (length unit.vars) (first_so many (ins && (outs && rest)) e);
-      ins = first_so ins (outs && rest) more;
-      outs = first_so outs rest (second_so ins (outs && rest) more);
+    let more : (ins && (outs && rest)) ≡ true = and_second many (ins && (outs && rest)) e in record {
+      enough = leb-true (unit.inputs + unit.outputs) (length unit.vars) (and_first many (ins && (outs && rest)) e);
+      ins = and_first ins (outs && rest) more;
+      outs = and_first outs rest (and_second ins (outs && rest) more);
     }
 
 declared_behind : (unit : UnitDef) (k : ℕ) (var : Var) → Roles unit → slice_get unit.vars k ≡ Some var →
@@ -286,9 +194,9 @@ module _ (w : Setting) (i : ℕ) (unit : UnitDef) (site : TypingContext) (units 
       AllOf C (joined (map runs_in body)) → BoundedAll w i unit (block_from (map plain_stmt body) k block)
   block_bounded [] k block each fitted all = tt
   block_bounded (s ∷ rest) k block each fitted all = (
-    All-head S s rest each (first_so (fits site s) (all_of (map (fits site) rest)) fitted)
+    All-head S s rest each (and_first (fits site s) (all_of (map (fits site) rest)) fitted)
         (of_first C (runs_in s) (joined (map runs_in rest)) all) (block ++ k ∷ []),
-    block_bounded rest (suc k) block (All-tail S s rest each) (second_so (fits site s) (all_of (map (fits site) rest)) fitted)
+    block_bounded rest (suc k) block (All-tail S s rest each) (and_second (fits site s) (all_of (map (fits site) rest)) fitted)
         (of_second C (runs_in s) (joined (map runs_in rest)) all),
   )
 
@@ -309,7 +217,7 @@ module _ (w : Setting) (i : ℕ) (unit : UnitDef) (site : TypingContext) (units 
 
   arm_inner : (arm : Arm) → arm_fitted arm ≡ true → all_of (map (fits site) (out-Arm arm).body) ≡ true
   arm_inner arm fitted =
-      second_so (is_truth (type_of site (out-Arm arm).test)) (all_of (map (fits site) (out-Arm arm).body))
+      and_second (is_truth (type_of site (out-Arm arm).test)) (all_of (map (fits site) (out-Arm arm).body))
       (sym (fold_out-Arm Bool Bool Bool Bool (kind_fits site) (arm_fits site) branch_fits stmt_fits arm) ∙ fitted)
 
   branch_inner : (branch : Branch) → branch_fitted branch ≡ true → all_of (map (fits site) (out-Branch branch).body) ≡ true
@@ -322,10 +230,10 @@ module _ (w : Setting) (i : ℕ) (unit : UnitDef) (site : TypingContext) (units 
   arms_bounded at (arm ∷ arms) other each others fitted last all rest = (
     (
       block_bounded (out-Arm arm).body 0 (inside at at.passed) (All-head (λ arm. Each S (out-Arm arm).body) arm arms each)
-          (arm_inner arm (first_so (arm_fitted arm) (all_of (map arm_fitted arms)) fitted))
+          (arm_inner arm (and_first (arm_fitted arm) (all_of (map arm_fitted arms)) fitted))
           (arm_has arm (of_first C (runs_in_arm arm) (joined (map runs_in_arm arms)) all)),
       arms_bounded (passed_one at) arms other (All-tail (λ arm. Each S (out-Arm arm).body) arm arms each) others
-          (second_so (arm_fitted arm) (all_of (map arm_fitted arms)) fitted) last
+          (and_second (arm_fitted arm) (all_of (map arm_fitted arms)) fitted) last
           (of_second C (runs_in_arm arm) (joined (map runs_in_arm arms)) all) rest,
     ),
     tt,
@@ -336,10 +244,10 @@ module _ (w : Setting) (i : ℕ) (unit : UnitDef) (site : TypingContext) (units 
   branches_bounded [] k at each fitted all = tt
   branches_bounded (branch ∷ rest) k at each fitted all = (
     block_bounded (out-Branch branch).body 0 (inside at k) (All-head (λ branch. Each S (out-Branch branch).body) branch rest each)
-        (branch_inner branch (first_so (branch_fitted branch) (all_of (map branch_fitted rest)) fitted))
+        (branch_inner branch (and_first (branch_fitted branch) (all_of (map branch_fitted rest)) fitted))
         (branch_has branch (of_first C (runs_in_branch branch) (joined (map runs_in_branch rest)) all)),
     branches_bounded rest (suc k) at (All-tail (λ branch. Each S (out-Branch branch).body) branch rest each)
-        (second_so (branch_fitted branch) (all_of (map branch_fitted rest)) fitted)
+        (and_second (branch_fitted branch) (all_of (map branch_fitted rest)) fitted)
         (of_second C (runs_in_branch branch) (joined (map runs_in_branch rest)) all),
   )
 
@@ -409,16 +317,16 @@ module _ (w : Setting) (i : ℕ) (unit : UnitDef) (site : TypingContext) (units 
   branching_bounded place (arm ∷ rest) other each others = by_parts place (StmtKind-F.If (arm ∷ rest) other) (λ fitted all at.
       let choices : Bool = all_of (map arm_fitted (arm ∷ rest)) in
       let last : Bool = all_of (map (fits site) other) in
-      let fitting : (choices && last) ≡ true = second_so (is_inhabited (map arm_fitted (arm ∷ rest))) (choices && last) fitted in
+      let fitting : (choices && last) ≡ true = and_second (is_inhabited (map arm_fitted (arm ∷ rest))) (choices && last) fitted in
       let arms = of_first C (joined (map runs_in_arm (arm ∷ rest))) (joined (map runs_in other)) all in
       let lasts = of_second C (joined (map runs_in_arm (arm ∷ rest))) (joined (map runs_in other)) all in
-      let chosen = first_so choices last fitting in
+      let chosen = and_first choices last fitting in
       subst (Bounded w i unit) (sym (plain_statements.branching place at arm rest other)) (
         block_bounded (out-Arm arm).body 0 (inside (label_at at) 0) (All-head (λ arm. Each S (out-Arm arm).body) arm rest each)
-            (arm_inner arm (first_so (arm_fitted arm) (all_of (map arm_fitted rest)) chosen))
+            (arm_inner arm (and_first (arm_fitted arm) (all_of (map arm_fitted rest)) chosen))
             (arm_has arm (of_first C (runs_in_arm arm) (joined (map runs_in_arm rest)) arms)),
         arms_bounded (passed_one (label_at at)) rest other (All-tail (λ arm. Each S (out-Arm arm).body) arm rest each) others
-            (second_so (arm_fitted arm) (all_of (map arm_fitted rest)) chosen) (second_so choices last fitting)
+            (and_second (arm_fitted arm) (all_of (map arm_fitted rest)) chosen) (and_second choices last fitting)
             (of_second C (runs_in_arm arm) (joined (map runs_in_arm rest)) arms) lasts,
       ))
 
@@ -440,22 +348,22 @@ module _ (w : Setting) (i : ℕ) (unit : UnitDef) (site : TypingContext) (units 
         let some : Bool = is_inhabited (map branch_fitted branches) in
         let within : Bool = all_of (map branch_fitted branches) in
         subst (Bounded w i unit) (sym (plain_statements.parallel place at branches))
-        (branches_bounded branches 0 (label_at at) each (second_so some within (second_so (is_activity site.kind) (some && within) fitted)) all));
+        (branches_bounded branches 0 (label_at at) each (and_second some within (and_second (is_activity site.kind) (some && within) fitted)) all));
     guarded = λ place guard e body each. by_parts place (StmtKind-F.When guard e body) (λ fitted all at.
         let tested : Bool = is_truth (type_of site e) in
         let within : Bool = all_of (map (fits site) body) in
         subst (Bounded w i unit) (sym (plain_statements.guarded place at guard e body))
         (block_bounded body 0 (inside (label_at at) 0) each
-        (second_so tested within (second_so (is_activity site.kind) (tested && within) fitted)) all));
+        (and_second tested within (and_second (is_activity site.kind) (tested && within) fitted)) all));
     repeat = λ place body each. by_parts place (StmtKind-F.Repeat body) (λ fitted all at.
         subst (Bounded w i unit) (sym (plain_statements.endless place at body))
         (block_bounded body 0 (inside (label_at at) 0) each fitted all));
     until = λ place body e each. by_parts place (StmtKind-F.Until body e) (λ fitted all at.
         subst (Bounded w i unit) (sym (plain_statements.until place at body e))
-        (block_bounded body 0 (inside (label_at at) 0) each (first_so (all_of (map (fits site) body)) (is_truth (type_of site e)) fitted) all));
+        (block_bounded body 0 (inside (label_at at) 0) each (and_first (all_of (map (fits site) body)) (is_truth (type_of site e)) fitted) all));
     while = λ place e body each. by_parts place (StmtKind-F.While e body) (λ fitted all at.
         subst (Bounded w i unit) (sym (plain_statements.while place at e body))
-        (block_bounded body 0 (inside (label_at at) 0) each (second_so (is_truth (type_of site e)) (all_of (map (fits site) body)) fitted) all));
+        (block_bounded body 0 (inside (label_at at) 0) each (and_second (is_truth (type_of site e)) (all_of (map (fits site) body)) fitted) all));
     returns = λ place e fitted all at. subst (Bounded w i unit) (sym (plain_statements.returns place at e))
         (none_declared place (StmtKind-F.Return e) refl);
   }
@@ -466,49 +374,13 @@ module _ (w : Setting) (i : ℕ) (unit : UnitDef) (site : TypingContext) (units 
 
 -- ---- units that stand
 
-each_true : {A : Type 0} (test : A → Bool) (xs : List A) → list_all test xs ≡ true → all_of (map test xs) ≡ true
-each_true test [] e = refl
-each_true test (x ∷ xs) e =
-    both_so (test x) (all_of (map test xs)) (first_so (test x) (list_all test xs) e) (each_true test xs (second_so (test x) (list_all test xs) e))
-
-unit_stands_at : (structs : List StructDef) (earlier units : List UnitDef) (k : ℕ) (unit : UnitDef) →
-    units_stand_after structs earlier units ≡ true → slice_get units k ≡ Some unit → unit_stands structs (earlier ++ take k units) unit
-    ≡ true
-unit_stands_at structs earlier [] k unit stand there = absurd cc
-unit_stands_at structs earlier (first ∷ units) zero unit stand there =
-    let same : first ≡ unit = cc in
-    subst (λ earlier. unit_stands structs earlier unit ≡ true) (sym (append-nil earlier))
-    (subst (λ unit. unit_stands structs earlier unit ≡ true) same
-    (first_so (unit_stands structs earlier first) (units_stand_after structs (earlier ++ first ∷ []) units) stand))
-unit_stands_at structs earlier (first ∷ units) (suc k) unit stand there =
-    subst (λ earlier. unit_stands structs earlier unit ≡ true) (append_assoc earlier (first ∷ []) (take k units))
-    (unit_stands_at structs (earlier ++ first ∷ []) units k unit
-    (second_so (unit_stands structs earlier first) (units_stand_after structs (earlier ++ first ∷ []) units) stand) there)
-
 unit_roles : (structs : List StructDef) (earlier : List UnitDef) (unit : UnitDef) → unit_stands structs earlier unit ≡ true → Roles unit
 unit_roles structs earlier unit stands =
     let named : Bool = list_all is_name (names_of unit.vars) && are_distinct (names_of (parameters_of unit)) in
     let types : Bool = list_all (λ (var : Var). type_stands (length structs) var.ty) unit.vars in
     let fit : Bool = list_all (fits (site_of structs earlier unit)) unit.body in
     let others : Bool = unit_returns unit && (is_shallow 200 unit.body && list_all is_apart unit.body) in
-    roles_so unit (first_so (roles_stand unit) named (first_so (roles_stand unit && named) (types && (fit && others)) stands))
-
-unit_fits : (structs : List StructDef) (earlier : List UnitDef) (unit : UnitDef) → unit_stands structs earlier unit ≡ true →
-    all_of (map (fits (site_of structs earlier unit)) unit.body) ≡ true
-unit_fits structs earlier unit stands =
-    let named : Bool = list_all is_name (names_of unit.vars) && are_distinct (names_of (parameters_of unit)) in
-    let types : Bool = list_all (λ (var : Var). type_stands (length structs) var.ty) unit.vars in
-    let fit : Bool = list_all (fits (site_of structs earlier unit)) unit.body in
-    let others : Bool = unit_returns unit && (is_shallow 200 unit.body && list_all is_apart unit.body) in
-    each_true (fits (site_of structs earlier unit)) unit.body
-    (first_so fit others (second_so types (fit && others) (second_so (roles_stand unit && named) (types && (fit && others)) stands)))
-
-taken : (units : List UnitDef) (n k : ℕ) (unit : UnitDef) → slice_get (take n units) k ≡ Some unit → slice_get units k ≡ Some unit
-taken [] zero k unit e = absurd cc
-taken [] (suc n) k unit e = absurd cc
-taken (u ∷ units) zero k unit e = absurd cc
-taken (u ∷ units) (suc n) zero unit e = e
-taken (u ∷ units) (suc n) (suc k) unit e = taken units n k unit e
+    roles_so unit (and_first (roles_stand unit) named (and_first (roles_stand unit && named) (types && (fit && others)) stands))
 
 -- the unit of an instance is one of the program's
 unit_found : (w : Setting) (i : ℕ) (unit : UnitDef) → unit_at w i ≡ Some unit → (k : ℕ) × (slice_get w.units k ≡ Some unit)
@@ -529,6 +401,6 @@ bodies_ask callers structs units entry i unit keeps from is =
             taken units at.0 a callee there,
             unit_roles structs (take a units) callee (unit_stands_at structs [] units a callee keeps.units_stand (taken units at.0 a callee there)),
           ))
-          (BeginsNamed structs units entry keeps i) (λ run holds. holds) unit.body (unit_fits structs (take at.0 units) unit stands)
+          (BeginsNamed structs units entry keeps i) (λ run holds. holds) unit.body (body_fits structs (take at.0 units) unit stands)
           (body_named structs units entry keeps callers i unit is),
     )

@@ -2,6 +2,7 @@
 use Rattle.std.proofs.Common.{◌≡◌, ℕ, zero, suc, Bool, true, false, ◌++◌, List, [], ◌∷◌, length, drop, Option, Some, None}
 use Rattle.std.proofs.Common.{refl, sym, ap, ◌∙◌, subst, arith, eqb-true, eq-eqb}
 use Rattle.std.specs.Prelude.{nat_eq, option_and_then, option_map, slice_get, slice_set, unwrap_or}
+use Rattle.bl_tree.proofs.Basics.{same_some}
 use Rattle.bl_tree.specs.declared.place.Place.{Place}
 use Rattle.bl_tree.specs.declared.static_path.Static.{Static}
 use Rattle.bl_tree.specs.declared.tree.Arm.{Arm}
@@ -17,39 +18,11 @@ use Rattle.bl_tree.specs.Effects.{writes}
 use Rattle.bl_tree.specs.Static.{static_of}
 use Rattle.bl_eval.specs.Values.{value_at}
 use Rattle.bl_machine_prevs.specs.Declared.{declared_kind}
-use Rattle.bl_ctree.specs.Actions.{
-  Acts,
-  Asks,
-  Copies,
-  Effect,
-  Gives,
-  Performed,
-  Silent,
-  acted_kind,
-  done,
-  given_to,
-  is_true_value,
-  outcome_there,
-  result_at,
-  value_there,
-  values_there,
-  with_result,
-}
+use Rattle.bl_ctree.specs.Actions.{Acts, Asks, Copies, Effect, Gives, Performed, Silent, acted_kind, done, given_to, is_true_value, outcome_there, result_at}
+use Rattle.bl_ctree.specs.Actions.{value_there, values_there, with_result}
 use Rattle.bl_ctree.specs.Instances.{Setting, unit_at}
 use Rattle.bl_ctree.specs.Positions.{stmt_kind}
-use Rattle.bl_ctree.specs.Store.{
-  Frame,
-  Store,
-  home,
-  put,
-  put_path,
-  put_written,
-  remember,
-  value_among,
-  whole_of,
-  with_frame,
-  with_inputs,
-}
+use Rattle.bl_ctree.specs.Store.{Frame, Store, home, put, put_path, put_written, remember, value_among, whole_of, with_frame, with_inputs}
 use Rattle.bl_ctree_laws.specs.Pending.{deed}
 use Rattle.bl_ctree_laws_confluence.specs.Stores.{before_of}
 use Rattle.bl_ctree_laws_confluence.proofs.OnStores.Changes.{changed, frame_is, frame_put, put_is, seen_changed}
@@ -61,17 +34,14 @@ use Rattle.bl_machine_pass_laws_execution.proofs.OnFresh.Lists.{among_first, fro
 
 -- ---- what is found
 
-pub some_same : {A : Type 0} (a b : A) → Some a ≡ Some b → a ≡ b
-some_same a b e = cc
-
 pub found : {A B : Type 0} (f : A → B) (o : Option A) (y : B) → option_map f o ≡ Some y → (x : A) × (o ≡ Some x) × (f x ≡ y)
 found f None y e = absurd cc
-found f (Some x) y e = (x, refl, some_same (f x) y e)
+found f (Some x) y e = (x, refl, same_some (f x) y e)
 
 pub values_length : (w : Setting) (store : Store) (i : ℕ) (inputs : List Expr) (values : List Value) → values_there w store i inputs
     ≡ Some values →
     length values ≡ length inputs
-values_length w store i [] values e = ap length (sym (some_same [] values e))
+values_length w store i [] values e = ap length (sym (same_some [] values e))
 values_length w store i (x ∷ rest) values e = by_first (values_length w store i rest) (value_there w store i x) e
   where
     by_first : ((values : List Value) → values_there w store i rest ≡ Some values → length values ≡ length rest) → (o : Option Value) →
@@ -114,7 +84,7 @@ module _ (w : Setting) (i : ℕ) (effect : Effect) (P : Store → Type 0) (close
 
   by_kind : (s : Stmt) (kind : Kind) (store left : Store) → ((k : ℕ) → IsAmongVariables (declared_kind kind) k → IsAmongVariables (effect_declared effect) k) →
       P store → acted_kind w i s kind store ≡ Some left → P left
-  by_kind s (StmtKind-F.Return None) store left declares h e = subst P (some_same store left e) h
+  by_kind s (StmtKind-F.Return None) store left declares h e = subst P (same_some store left e) h
   by_kind s (StmtKind-F.Return (Some x)) store left declares h e =
       let v = found (λ value. with_frame i (with_result value) store) (value_there w store i x) left e in
       subst P v.2 (closed.results v.0 store h)
@@ -146,7 +116,7 @@ performed_by d left = record { answer = d; store = left }
 pub keeps : (w : Setting) (i : ℕ) (effect : Effect) (P : Store → Type 0) → Closed w i effect P →
     (at : Place) (store : Store) (d : Bool) (left : Store) →
     DeedYields w (deed i at effect) store d left → P store → P left
-keeps w i Silent P closed at store d left e h = subst P (ap (λ p. p.store) (some_same (done store) (performed_by d left) e)) h
+keeps w i Silent P closed at store d left e h = subst P (ap (λ p. p.store) (same_some (done store) (performed_by d left) e)) h
 keeps w i (Acts s) P closed at store d left e h =
     let p = found done (acted_kind w i s (stmt_kind s) store) (performed_by d left) e in
     subst P (ap (λ p. p.store) p.2) (by_kind w i (Acts s) P closed s (stmt_kind s) store p.0 (λ k among. among) h p.1)
@@ -159,7 +129,7 @@ keeps w i (Copies callee inputs) P closed at store d left e h =
     (closed.copies callee inputs p.0 store refl (values_length w store i inputs p.0 p.1) h)
 keeps w i (Gives callee target) P closed at store d left e h =
     subst P
-    (ap (λ p. p.store) (some_same (done (given_to w i target (result_at store callee) store)) (performed_by d left) e))
+    (ap (λ p. p.store) (same_some (done (given_to w i target (result_at store callee) store)) (performed_by d left) e))
     (given w i (Gives callee target) P closed target (result_at store callee) store h)
 
 -- ---- frames

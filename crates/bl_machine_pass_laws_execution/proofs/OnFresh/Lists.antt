@@ -1,37 +1,15 @@
 -- Lists of variables and of values.
 use Rattle.std.proofs.Common.{◌≡◌, ◌⊎◌, inl, inr, ℕ, zero, suc, ◌+◌, ◌<◌, ◌≤◌, Bool, true, false, ◌&&◌}
 use Rattle.std.proofs.Common.{◌||◌, ◌++◌, List, [], ◌∷◌, length, map}
-use Rattle.std.proofs.Common.{drop, Some, None, refl, sym, ap, ◌∙◌, subst, arith, eqb-true, eq-eqb}
+use Rattle.std.proofs.Common.{drop, Some, refl, sym, ap, ◌∙◌, subst, arith, eqb-true, eq-eqb}
 use Rattle.std.specs.Prelude.{nat_eq, option_map, slice_get, slice_set}
 use Rattle.std.specs.List.{list_all, list_any, range_with_len}
+use Rattle.std.proofs.lemmas.Bool.{and_from, or_left, or_right}
+use Rattle.bl_tree.proofs.Basics.{and_first, and_second, either_of, get_past}
 use Rattle.bl_machine_prevs.specs.Declared.{are_known}
 use Rattle.bl_machine_pass_laws_execution.specs.Fresh.Asks.{IsAmongVariables}
 
 -- ---- tests
-
-pub first_so : (a b : Bool) → (a && b) ≡ true → a ≡ true
-first_so true b e = refl
-first_so false b e = absurd cc
-
-pub second_so : (a b : Bool) → (a && b) ≡ true → b ≡ true
-second_so true b e = e
-second_so false b e = absurd cc
-
-pub both_so : (a b : Bool) → a ≡ true → b ≡ true → (a && b) ≡ true
-both_so true b one other = other
-both_so false b one other = absurd cc
-
-one_so : (a b : Bool) → (a || b) ≡ true → (a ≡ true) ⊎ (b ≡ true)
-one_so true b e = inl refl
-one_so false b e = inr e
-
-or_first : (a b : Bool) → a ≡ true → (a || b) ≡ true
-or_first true b e = refl
-or_first false b e = absurd cc
-
-or_second : (a b : Bool) → b ≡ true → (a || b) ≡ true
-or_second true b e = refl
-or_second false b e = e
 
 -- ---- among
 
@@ -39,17 +17,17 @@ pub none_among : (x : ℕ) → IsAmongVariables [] x → ⊥
 none_among x at = absurd cc
 
 pub among_by : (k x : ℕ) (xs : List ℕ) → IsAmongVariables (k ∷ xs) x → (x ≡ k) ⊎ IsAmongVariables xs x
-among_by k x xs at = by_part (one_so (nat_eq x k) (list_any (nat_eq x) xs) at)
+among_by k x xs at = by_part (either_of (nat_eq x k) (list_any (nat_eq x) xs) at)
   where
     by_part : (nat_eq x k ≡ true) ⊎ IsAmongVariables xs x → (x ≡ k) ⊎ IsAmongVariables xs x
     by_part (inl e) = inl (eqb-true x k e)
     by_part (inr more) = inr more
 
 pub among_first : (k : ℕ) (xs : List ℕ) → IsAmongVariables (k ∷ xs) k
-among_first k xs = or_first (nat_eq k k) (list_any (nat_eq k) xs) (eq-eqb k k refl)
+among_first k xs = or_left (nat_eq k k) (list_any (nat_eq k) xs) (eq-eqb k k refl)
 
 pub among_more : (k x : ℕ) (xs : List ℕ) → IsAmongVariables xs x → IsAmongVariables (k ∷ xs) x
-among_more k x xs at = or_second (nat_eq x k) (list_any (nat_eq x) xs) at
+among_more k x xs at = or_right (nat_eq x k) (list_any (nat_eq x) xs) at
 
 pub among_left : (x : ℕ) (xs ys : List ℕ) → IsAmongVariables xs x → IsAmongVariables (xs ++ ys) x
 among_left x [] ys at = absurd (none_among x at)
@@ -95,20 +73,20 @@ is_among x xs = by_test (list_any (nat_eq x) xs) refl
 pub known_so : (known ks : List ℕ) → are_known known ks ≡ true → (x : ℕ) → IsAmongVariables ks x → IsAmongVariables known x
 known_so known [] all x at = absurd (none_among x at)
 known_so known (k ∷ ks) all x at =
-    by_part (known_so known ks (second_so (list_any (nat_eq k) known) (list_all (λ k. list_any (nat_eq k) known) ks) all) x) (among_by k x ks at)
+    by_part (known_so known ks (and_second (list_any (nat_eq k) known) (list_all (λ k. list_any (nat_eq k) known) ks) all) x) (among_by k x ks at)
   where
     by_part : (IsAmongVariables ks x → IsAmongVariables known x) → (x ≡ k) ⊎ IsAmongVariables ks x → IsAmongVariables known x
     by_part again (inl is) =
-        subst (λ y. IsAmongVariables known y) (sym is) (first_so (list_any (nat_eq k) known) (list_all (λ k. list_any (nat_eq k) known) ks) all)
+        subst (λ y. IsAmongVariables known y) (sym is) (and_first (list_any (nat_eq k) known) (list_all (λ k. list_any (nat_eq k) known) ks) all)
     by_part again (inr more) = again more
 
 pub known_more : (known wider ks : List ℕ) → ((x : ℕ) → IsAmongVariables known x → IsAmongVariables wider x) → are_known known ks ≡ true →
     are_known wider ks ≡ true
 known_more known wider [] less all = refl
 known_more known wider (k ∷ ks) less all =
-    both_so (list_any (nat_eq k) wider) (list_all (λ k. list_any (nat_eq k) wider) ks)
-    (less k (first_so (list_any (nat_eq k) known) (list_all (λ k. list_any (nat_eq k) known) ks) all))
-    (known_more known wider ks less (second_so (list_any (nat_eq k) known) (list_all (λ k. list_any (nat_eq k) known) ks) all))
+    and_from (list_any (nat_eq k) wider) (list_all (λ k. list_any (nat_eq k) wider) ks)
+    (less k (and_first (list_any (nat_eq k) known) (list_all (λ k. list_any (nat_eq k) known) ks) all))
+    (known_more known wider ks less (and_second (list_any (nat_eq k) known) (list_all (λ k. list_any (nat_eq k) known) ks) all))
 
 -- ---- ranges
 
@@ -133,7 +111,7 @@ in_range a (suc n) x least below = by_test (in_range (a + 1) n x) (nat_eq x a) r
   where
     by_test : (a + 1 ≤ x → x < (a + 1) + n → IsAmongVariables (range_with_len (a + 1) n) x) → (b : Bool) → nat_eq x a ≡ b →
         IsAmongVariables (range_with_len a (suc n)) x
-    by_test again true e = or_first (nat_eq x a) (list_any (nat_eq x) (range_with_len (a + 1) n)) e
+    by_test again true e = or_left (nat_eq x a) (list_any (nat_eq x) (range_with_len (a + 1) n)) e
     by_test again false e =
         among_more a x (range_with_len (a + 1) n)
         (again (later_by x a (λ is. absurd (cc (e, eq-eqb x a is))) least) (omega (arith, below)))
@@ -168,17 +146,12 @@ set_length [] k v = refl
 set_length (x ∷ xs) zero v = refl
 set_length (x ∷ xs) (suc k) v = ap suc (set_length xs k v)
 
-pub got_none : {A : Type 0} (xs : List A) (k : ℕ) → length xs ≤ k → slice_get xs k ≡ None
-got_none [] k past = refl
-got_none (x ∷ xs) zero past = absurd (omega (arith, past))
-got_none (x ∷ xs) (suc k) past = got_none xs k (omega (arith, past))
-
 -- values before a list that lose so many of its first ones
 pub behind_front : {A : Type 0} (front xs : List A) (x : ℕ) → length front ≤ x →
     slice_get (front ++ drop (length front) xs) x ≡ slice_get xs x
 behind_front [] xs x past = refl
 behind_front (y ∷ front) [] zero past = absurd (omega (arith, past))
-behind_front (y ∷ front) [] (suc x) past = got_none (front ++ []) x (long front x (omega (arith, past)))
+behind_front (y ∷ front) [] (suc x) past = get_past (front ++ []) x (long front x (omega (arith, past)))
   where
     long : {A : Type 0} (front : List A) (x : ℕ) → length front ≤ x → length (front ++ []) ≤ x
     long [] x past = omega arith

@@ -1,75 +1,26 @@
 -- The instance that a `run` of a body begins is of the unit that it names.
-use Rattle.std.proofs.Common.{
-  ◌≡◌,
-  ℕ,
-  zero,
-  suc,
-  ◌<◌,
-  Bool,
-  true,
-  List,
-  [],
-  ◌∷◌,
-  ◌++◌,
-  map,
-  length,
-  get_or,
-  Option,
-  Some,
-  None,
-  refl,
-  sym,
-  ap,
-  ◌∙◌,
-  subst,
-  arith,
-  eqb-true,
-}
+use Rattle.std.proofs.Common.{◌≡◌, ℕ, ◌<◌, Bool, true, List, [], ◌∷◌, ◌++◌, map, get_or, Option, Some, None, refl, sym, ap, ◌∙◌, subst}
+use Rattle.std.proofs.Common.{arith, eqb-true}
 use Rattle.std.proofs.lemmas.List.Quantifiers.{position-Some}
-use Rattle.std.specs.Prelude.{
-  Contains,
-  nat_eq,
-  option_and_then,
-  slice_get,
-}
+use Rattle.std.specs.Prelude.{Contains, nat_eq, option_and_then, slice_get}
+use Rattle.bl_tree.proofs.Basics.{and_first, and_second, contains_at, get_within, one_some}
 use Rattle.bl_tree.specs.declared.place.Place.{Place}
 use Rattle.bl_tree.specs.declared.tree.StructDef.{StructDef}
 use Rattle.bl_tree.specs.declared.tree.Unit.{Unit as UnitDef}
 use Rattle.bl_tree.specs.Program.{IsWellTyped}
 use Rattle.bl_tree.specs.Reduce.{joined}
 use Rattle.bl_tree.specs.Rules.{same_place}
-use Rattle.bl_tree.specs.Within.{
-  StandsIn,
-  place_of,
-}
-use Rattle.bl_effects.proofs.EntryLemmas.{same_place_is}
+use Rattle.bl_tree.specs.Within.{StandsIn, place_of}
 use Rattle.bl_ctree.specs.declared.instance.Instance.{Instance}
 use Rattle.bl_ctree.specs.declared.instance.Origin.{Origin}
 use Rattle.bl_ctree.specs.declared.instance.Run.{Run}
-use Rattle.bl_ctree.specs.Instances.{
-  Setting,
-  begins_at,
-  callee_of,
-  runs_in,
-  setting_of,
-  unit_at,
-  unit_of,
-}
-use Rattle.bl_ctree_laws.proofs.Tests.{and_first, and_second}
+use Rattle.bl_ctree.specs.Instances.{Setting, begins_at, callee_of, runs_in, setting_of, unit_at, unit_of}
 use Rattle.bl_ctree_laws_confluence.specs.Deeds.Origins.{CalledBy, HasCaller, InstancesHaveCallers}
-use Rattle.bl_ctree_laws_confluence.proofs.OnDeeds.Accepted.{contains_at}
-use Rattle.bl_ctree_laws_confluence.proofs.OnDeeds.Activities.{
-  AllOf,
-}
-use Rattle.bl_ctree_laws_confluence.proofs.OnDeeds.Nesting.{one_some}
+use Rattle.bl_ctree_laws_confluence.proofs.OnDeeds.Activities.{AllOf}
 use Rattle.bl_ctree_laws_confluence.proofs.OnApart.Placed.{RunAs, runs_listed, same_unit, unit_listed}
+use Rattle.bl_tree.proofs.FirstLemmas.{same_true}
 
 -- ---- the unit of what a `run` begins
-
-got_or : {A : Type 0} (xs : List A) (k : ℕ) (d : A) → k < length xs → slice_get xs k ≡ Some (get_or xs k d)
-got_or [] k d within = absurd (omega arith)
-got_or (x ∷ xs) zero d within = refl
-got_or (x ∷ xs) (suc k) d within = got_or xs k d (omega arith)
 
 module _ (structs : List StructDef) (units : List UnitDef) (entry : ℕ) (keeps : IsWellTyped structs units entry) where
   abbrev pub W : Setting
@@ -85,12 +36,12 @@ module _ (structs : List StructDef) (units : List UnitDef) (entry : ℕ) (keeps 
       let p : Instance → Bool = λ instance. begins_at i place instance.origin in
       let found = position-Some p W.instances callee instance begun in
       let same : get_or W.instances callee instance ≡ instance =
-      one_some (get_or W.instances callee instance) instance (slice_get W.instances callee) (got_or W.instances callee instance found.0) there in
+      one_some (get_or W.instances callee instance) instance (slice_get W.instances callee) (get_within W.instances callee instance found.0) there in
       let is : begins_at i place (Some origin) ≡ true =
       subst (λ o. begins_at i place o ≡ true) began (subst (λ instance. begins_at i place instance.origin ≡ true) same found.1) in
       record {
         caller = eqb-true origin.caller i (and_first (nat_eq origin.caller i) (same_place origin.place place) is);
-        at = same_place_is origin.place place (and_second (nat_eq origin.caller i) (same_place origin.place place) is);
+        at = same_true origin.place place (and_second (nat_eq origin.caller i) (same_place origin.place place) is);
       }
 
   -- the instance that a `run` begins is of the unit that it names
@@ -127,7 +78,7 @@ module _ (structs : List StructDef) (units : List UnitDef) (entry : ℕ) (keeps 
         let p : Instance → Bool = λ instance. begins_at i run.place instance.origin in
         let found = position-Some p W.instances callee instance begun in
         let same : get_or W.instances callee instance ≡ instance =
-        one_some (get_or W.instances callee instance) instance (slice_get W.instances callee) (got_or W.instances callee instance found.0) there in
+        one_some (get_or W.instances callee instance) instance (slice_get W.instances callee) (get_within W.instances callee instance found.0) there in
         let so : begins_at i run.place None ≡ true =
         subst (λ o. begins_at i run.place o ≡ true) began (subst (λ instance. begins_at i run.place instance.origin ≡ true) same found.1) in
         absurd cc

@@ -5,6 +5,7 @@ use Rattle.std.proofs.Common.{map, Option, Some, None, refl, sym, ap, ◌∙◌,
 use Rattle.std.proofs.lemmas.Bool.{le-ltb}
 use Rattle.std.specs.Prelude.{nat_le, nat_lt, option_and_then, option_map, slice_get, slice_set, unwrap_or, if◌then◌else◌}
 use Rattle.std.specs.List.{range_with_len}
+use Rattle.bl_tree.proofs.Basics.{map_length, none_within}
 use Rattle.bl_tree.specs.declared.place.Place.{Place}
 use Rattle.bl_tree.specs.declared.tree.Stmt.{Stmt}
 use Rattle.bl_tree.specs.declared.tree.StmtKind.TheOpen.{StmtKind-F}
@@ -20,30 +21,8 @@ use Rattle.bl_ctree.specs.declared.instance.Origin.{Origin}
 use Rattle.bl_ctree.specs.Actions.{Acts, Asks, Copies, Effect, Gives, Silent, acted_kind, done, outcome_there, values_there}
 use Rattle.bl_ctree.specs.Instances.{Setting, unit_at, unit_of}
 use Rattle.bl_ctree.specs.Positions.{stmt_kind}
-use Rattle.bl_ctree.specs.Store.{
-  Frame,
-  Store,
-  aged,
-  first_frame,
-  first_store,
-  frame_at_first,
-  home,
-  is_output_of,
-  led,
-  led_by,
-  put_written,
-  remember,
-  under,
-  value_among,
-  variable_among,
-  variables_of,
-  vars_at,
-  view_at,
-  whole_of,
-  with_frame,
-  with_inputs,
-  woken_store,
-}
+use Rattle.bl_ctree.specs.Store.{Frame, Store, aged, first_frame, first_store, frame_at_first, home, is_output_of, led, led_by, put_written, remember, under}
+use Rattle.bl_ctree.specs.Store.{value_among, variable_among, variables_of, vars_at, view_at, whole_of, with_frame, with_inputs, woken_store}
 use Rattle.bl_ctree_laws.specs.Pending.{deed}
 use Rattle.bl_ctree_laws_confluence.specs.Deeds.Origins.{HomesLeadOut}
 use Rattle.bl_ctree_laws_confluence.specs.Stores.{before_of, now_of}
@@ -155,18 +134,13 @@ own_is_seen out = record {
 
 -- ---- declarations
 
-got_within : {A : Type 0} (xs : List A) (k : ℕ) → k < length xs → slice_get xs k ≡ None → ⊥
-got_within [] k below e = omega (arith, below)
-got_within (x ∷ xs) zero below e = cc
-got_within (x ∷ xs) (suc k) below e = got_within xs k (omega (arith, below)) e
-
 remembered_same : (x : ℕ) (frame : Frame) → x < length frame.now → x < length frame.before →
     slice_get (remember x frame).before x ≡ slice_get frame.now x
 remembered_same x frame one two = by_value (slice_get frame.now x) refl
   where
     by_value : (o : Option Value) → slice_get frame.now x ≡ o →
         slice_get (unwrap_or (option_map (slice_set frame.before x) o) frame.before) x ≡ o
-    by_value None e = absurd (got_within frame.now x one e)
+    by_value None e = absurd (none_within frame.now x one e)
     by_value (Some v) e = get_set frame.before x v two
 
 was_remembered : (w : Setting) (i x : ℕ) (unit : UnitDef) (s : Store) → unit_at w i ≡ Some unit → Framed w s → x < length unit.vars →
@@ -266,10 +240,6 @@ deeds_are_seen out = record {
 
 -- ---- stores between ticks
 
-mapped_length : {A B : Type 0} (f : A → B) (xs : List A) → length (map f xs) ≡ length xs
-mapped_length f [] = refl
-mapped_length f (x ∷ xs) = ap suc (mapped_length f xs)
-
 record BothLong (frame : Frame) (unit : UnitDef) : Type 0 where
   now : length frame.now ≡ length unit.vars
   before : length frame.before ≡ length unit.vars
@@ -281,7 +251,7 @@ first_long w j frame unit at is =
     let of : unit_of w instance.0 ≡ Some unit = sym (ap (option_and_then (unit_of w)) instance.1) ∙ is in
     let made : first_frame w.structs unit ≡ frame =
     sym (ap (λ u. unwrap_or (option_map (first_frame w.structs) u) (record { now = []; before = []; result = None })) of) ∙ instance.2 in
-    subst (λ f. BothLong f unit) made (record { now = mapped_length _ unit.vars; before = mapped_length _ unit.vars })
+    subst (λ f. BothLong f unit) made (record { now = map_length _ unit.vars; before = map_length _ unit.vars })
 
 aged_long : (w : Setting) (store : Store) (j : ℕ) (frame : Frame) (unit : UnitDef) → Framed w store → slice_get (map aged store) j
     ≡ Some frame →
@@ -307,7 +277,7 @@ woken_fresh : (w : Setting) (row : List ℤ) (store : Store) →
     ((unit : UnitDef) → unit_at w 0 ≡ Some unit → length row ≤ arity unit) → (j : ℕ) →
     Fresh w (woken_store row store) j
 woken_fresh w row store fit zero =
-    inputs_fresh w 0 (length row) (map Number row) (map aged store) (mapped_length Number row) fit (aged_fresh w store 0)
+    inputs_fresh w 0 (length row) (map Number row) (map aged store) (map_length Number row) fit (aged_fresh w store 0)
 woken_fresh w row store fit (suc j) =
     fresh_elsewhere w 0 (suc j) (with_inputs (map Number row)) (map aged store) (λ same. omega (arith, same)) (aged_fresh w store (suc j))
 
@@ -316,7 +286,7 @@ woken_framed : (w : Setting) (row : List ℤ) (store : Store) → ((unit : UnitD
 woken_framed w row store fit framed =
     subst (Framed w) (sym (frame_is 0 (with_inputs (map Number row)) (map aged store)))
     (step_framed w 0 (with_inputs (map Number row)) (map aged store) (record {
-      now = λ frame unit is old. copied_length (length row) unit (map Number row) frame.now (fit unit is) (mapped_length Number row) old;
+      now = λ frame unit is old. copied_length (length row) unit (map Number row) frame.now (fit unit is) (map_length Number row) old;
       before = λ frame unit is old. old;
     })
     (record {

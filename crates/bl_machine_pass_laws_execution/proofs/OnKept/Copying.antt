@@ -1,6 +1,7 @@
 -- Inputs are copied to one frame.
 use Rattle.std.proofs.Common.{◌≡◌, ℕ, zero, suc, Bool, List, [], ◌∷◌, Option, Some, None, refl, sym, ap, ◌∙◌, subst}
 use Rattle.std.specs.Prelude.{option_and_then, option_map, slice_get, slice_set, unwrap_or}
+use Rattle.bl_tree.proofs.Basics.{same_some}
 use Rattle.bl_tree.specs.declared.place.Place.{Place}
 use Rattle.bl_tree.specs.declared.tree.Expr.{Expr}
 use Rattle.bl_tree.specs.declared.value.Value.{Value}
@@ -11,27 +12,14 @@ use Rattle.bl_ctree_laws.specs.Pending.{deed}
 use Rattle.bl_ctree_laws_confluence.specs.Stores.{before_of}
 use Rattle.bl_machine_laws.specs.Passes.Follows.{DeedYields}
 use Rattle.bl_machine_pass_laws_execution.specs.Kept.Laws.{InputsGoIn}
-
-some_same : {A : Type 0} (a b : A) → Some a ≡ Some b → a ≡ b
-some_same a b e = cc
-
--- what an option that is mapped to something had
-pub found : {A B : Type 0} (f : A → B) (o : Option A) (y : B) → option_map f o ≡ Some y → (x : A) × (o ≡ Some x) × (f x ≡ y)
-found f None y e = absurd cc
-found f (Some x) y e = (x, refl, some_same (f x) y e)
-
-got_other : {A : Type 0} (xs : List A) (k j : ℕ) (v : A) → (j ≡ k → ⊥) → slice_get (slice_set xs k v) j ≡ slice_get xs j
-got_other [] k j v other = refl
-got_other (x ∷ xs) zero zero v other = absurd (other refl)
-got_other (x ∷ xs) zero (suc j) v other = refl
-got_other (x ∷ xs) (suc k) zero v other = refl
-got_other (x ∷ xs) (suc k) (suc j) v other = got_other xs k j v (λ is. other (ap suc is))
+use Rattle.bl_machine_pass_laws_execution.proofs.OnFresh.Doing.{found}
+use Rattle.bl_machine_pass_laws_execution.proofs.OnFresh.Lists.{get_other}
 
 -- a test of one element sees no change of what it doesn't look at
 seen_same : {A B : Type 0} (q : A → B) (xs : List A) (k j : ℕ) (old new : A) → slice_get xs k ≡ Some old → q new ≡ q old →
     option_map q (slice_get (slice_set xs k new) j) ≡ option_map q (slice_get xs j)
 seen_same q [] k j old new there same = refl
-seen_same q (x ∷ xs) zero zero old new there same = ap Some (same ∙ ap q (sym (some_same x old there)))
+seen_same q (x ∷ xs) zero zero old new there same = ap Some (same ∙ ap q (sym (same_some x old there)))
 seen_same q (x ∷ xs) zero (suc j) old new there same = refl
 seen_same q (x ∷ xs) (suc k) zero old new there same = refl
 seen_same q (x ∷ xs) (suc k) (suc j) old new there same = seen_same q xs k j old new there same
@@ -43,7 +31,7 @@ frame_other k x change store other = by_frame (slice_get store k)
     by_frame : (o : Option Frame) →
         slice_get (unwrap_or (option_map (λ frame. slice_set store k (change frame)) o) store) x ≡ slice_get store x
     by_frame None = refl
-    by_frame (Some frame) = got_other store k x (change frame) other
+    by_frame (Some frame) = get_other store k x (change frame) other
 
 frame_seen : {B : Type 0} (q : Frame → B) (k x : ℕ) (change : Frame → Frame) (store : Store) →
     ((frame : Frame) → q (change frame) ≡ q frame) →

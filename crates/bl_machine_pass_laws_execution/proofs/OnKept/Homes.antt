@@ -4,6 +4,8 @@ use Rattle.std.proofs.Common.{◌&&◌, ◌||◌, ◌++◌, List, [], ◌∷◌}
 use Rattle.std.proofs.Common.{Option, Some, None, refl, sym, ap, ◌∙◌, subst, eqb-true, eq-eqb}
 use Rattle.std.proofs.lemmas.Bool.{leb-true, ltb-true}
 use Rattle.std.specs.Prelude.{nat_eq, nat_le, nat_lt, option_and_then, option_map, slice_get, if◌then◌else◌}
+use Rattle.std.proofs.lemmas.Bool.{and_from}
+use Rattle.bl_tree.proofs.Basics.{and_first, and_second, number_test_swap, numbers_differ}
 use Rattle.bl_tree.specs.declared.static_path.Static.{Static}
 use Rattle.bl_tree.specs.declared.tree.StructDef.{StructDef}
 use Rattle.bl_tree.specs.declared.tree.Unit.{Unit as UnitDef}
@@ -19,36 +21,8 @@ use Rattle.bl_machine_pass_laws_execution.specs.Kept.Kept.{NoOutput}
 
 -- ---- tests
 
-first_so : (a b : Bool) → (a && b) ≡ true → a ≡ true
-first_so true b e = refl
-first_so false b e = absurd cc
-
-second_so : (a b : Bool) → (a && b) ≡ true → b ≡ true
-second_so true b e = e
-second_so false b e = absurd cc
-
-both_so : (a b : Bool) → a ≡ true → b ≡ true → (a && b) ≡ true
-both_so true b one other = other
-both_so false b one other = absurd cc
-
-pub unequal : (a b : ℕ) → (a ≡ b → ⊥) → nat_eq a b ≡ false
-unequal a b apart = by_test (nat_eq a b) refl
-  where
-    by_test : (t : Bool) → nat_eq a b ≡ t → t ≡ false
-    by_test true e = absurd (apart (eqb-true a b e))
-    by_test false e = refl
-
 equal_back : (a b : ℕ) → nat_eq a b ≡ true → nat_eq b a ≡ true
 equal_back a b e = eq-eqb b a (sym (eqb-true a b e))
-
-turned_round : (a b : ℕ) → nat_eq a b ≡ nat_eq b a
-turned_round a b = by_tests (nat_eq a b) (nat_eq b a) refl refl
-  where
-    by_tests : (s t : Bool) → nat_eq a b ≡ s → nat_eq b a ≡ t → s ≡ t
-    by_tests true true e f = refl
-    by_tests false false e f = refl
-    by_tests true false e f = sym (equal_back a b e) ∙ f
-    by_tests false true e f = sym e ∙ equal_back b a f
 
 -- ---- homes that overlap
 
@@ -66,7 +40,7 @@ cut_front [] ys more e = refl
 cut_front (x ∷ xs) [] more e = refl
 cut_front (x ∷ xs) (y ∷ ys) more e =
     either_front (nat_eq y x) (nat_eq x y) (is_front (ys ++ more) xs) (is_front xs (ys ++ more)) (is_front xs ys) (is_front ys xs)
-    (turned_round y x) (cut_front xs ys more) e
+    (number_test_swap y x) (cut_front xs ys more) e
 
 -- what overlaps no location overlaps none that leads on from it
 apart_onward : (at from : Location) (fields : List ℕ) → overlap at from ≡ false → overlap (onward from fields) at ≡ false
@@ -81,14 +55,14 @@ apart_onward at from fields apart = by_test (overlap (onward from fields) at) re
     overlapped : overlap (onward from fields) at ≡ true → overlap at from ≡ true
     overlapped e =
         let paths : (nat_eq from.path.root at.path.root && fronts) ≡ true =
-        second_so (nat_eq from.instance at.instance) (nat_eq from.path.root at.path.root && fronts) e in
-        both_so (nat_eq at.instance from.instance)
+        and_second (nat_eq from.instance at.instance) (nat_eq from.path.root at.path.root && fronts) e in
+        and_from (nat_eq at.instance from.instance)
         (nat_eq at.path.root from.path.root && (is_front at.path.fields from.path.fields || is_front from.path.fields at.path.fields))
         (equal_back from.instance at.instance
-        (first_so (nat_eq from.instance at.instance) (nat_eq from.path.root at.path.root && fronts) e))
-        (both_so (nat_eq at.path.root from.path.root) (is_front at.path.fields from.path.fields || is_front from.path.fields at.path.fields)
-        (equal_back from.path.root at.path.root (first_so (nat_eq from.path.root at.path.root) fronts paths))
-        (cut_front at.path.fields from.path.fields fields (second_so (nat_eq from.path.root at.path.root) fronts paths)))
+        (and_first (nat_eq from.instance at.instance) (nat_eq from.path.root at.path.root && fronts) e))
+        (and_from (nat_eq at.path.root from.path.root) (is_front at.path.fields from.path.fields || is_front from.path.fields at.path.fields)
+        (equal_back from.path.root at.path.root (and_first (nat_eq from.path.root at.path.root) fronts paths))
+        (cut_front at.path.fields from.path.fields fields (and_second (nat_eq from.path.root at.path.root) fronts paths)))
 
     by_test : (t : Bool) → overlap (onward from fields) at ≡ t → t ≡ false
     by_test true e = sym (overlapped e) ∙ apart
@@ -155,9 +129,9 @@ module _ (structs : List StructDef) (units : List UnitDef) (entry : ℕ) (out : 
           inr (record {
             number = path.root;
             least = leb-true unit.inputs path.root
-                (first_so (nat_le unit.inputs path.root) (nat_lt path.root (unit.inputs + unit.outputs)) test);
+                (and_first (nat_le unit.inputs path.root) (nat_lt path.root (unit.inputs + unit.outputs)) test);
             below = ltb-true path.root (unit.inputs + unit.outputs)
-                (second_so (nat_le unit.inputs path.root) (nat_lt path.root (unit.inputs + unit.outputs)) test);
+                (and_second (nat_le unit.inputs path.root) (nat_lt path.root (unit.inputs + unit.outputs)) test);
             fields = path.fields;
             leads = lead_on W j path;
           })
@@ -193,7 +167,7 @@ module _ (structs : List StructDef) (units : List UnitDef) (entry : ℕ) (out : 
       by_part : There j unit k path → overlap (home_of k path) at ≡ false
       by_part (inl within) =
           and_false (nat_eq (home_of k path).instance at.instance) (overlaps (home_of k path).path at.path)
-          (unequal (home_of k path).instance at.instance (λ same. outside (subst (Inside W j) same within)))
+          (numbers_differ (home_of k path).instance at.instance (λ same. outside (subst (Inside W j) same within)))
       by_part (inr from) =
           subst (λ h. overlap h at ≡ false) (sym from.leads)
           (apart_onward at (home W (whole_of j from.number)) from.fields (none from.number from.least from.below))

@@ -1,6 +1,7 @@
 -- What passes by rules leave alone.
 use Rattle.std.proofs.Common.{◌≡◌, ℕ, Bool, true, false, List, [], ◌∷◌, Option, Some, None, refl, sym, ap, ◌∙◌, subst}
 use Rattle.std.specs.Prelude.{nat_eq, option_and_then, option_map, slice_get, unwrap_or, if◌then◌else◌, ⊤}
+use Rattle.bl_tree.proofs.Basics.{numbers_differ, same_some}
 use Rattle.bl_tree.specs.declared.place.Place.{Place}
 use Rattle.bl_tree.specs.declared.static_path.Static.{Static}
 use Rattle.bl_tree.specs.declared.tree.Arm.{Arm}
@@ -15,22 +16,8 @@ use Rattle.bl_tree.specs.declared.value.Value.{Value}
 use Rattle.bl_tree.specs.Effects.{writes}
 use Rattle.bl_tree.specs.Static.{static_of}
 use Rattle.bl_eval.specs.Values.{value_at}
-use Rattle.bl_graph_nodes.specs.Nodes.{
-  ActAt,
-  CheckAt,
-  DepthEndAt,
-  DepthJoinAt,
-  EnterAt,
-  ForkAt,
-  HeadAt,
-  Node,
-  PauseAt,
-  ResumeAt,
-  StartAt,
-  SurfaceEndAt,
-  SurfaceJoinAt,
-  TestAt,
-}
+use Rattle.bl_graph_nodes.specs.Nodes.{ActAt, CheckAt, DepthEndAt, DepthJoinAt, EnterAt, ForkAt, HeadAt, Node, PauseAt, ResumeAt, StartAt, SurfaceEndAt}
+use Rattle.bl_graph_nodes.specs.Nodes.{SurfaceJoinAt, TestAt}
 use Rattle.bl_ctree.specs.Actions.{Acts, Asks, Copies, Effect, Gives, Performed, Silent, acted_kind, done, given_to}
 use Rattle.bl_ctree.specs.Actions.{is_true_value, outcome_there, result_at, value_there, values_there, with_result}
 use Rattle.bl_ctree.specs.Instances.{Setting, callee_of, setting_of, unit_at}
@@ -49,11 +36,8 @@ use Rattle.bl_machine_pass_laws_execution.specs.Frames.{ChangeOnly, Frames}
 use Rattle.bl_machine_pass_laws_execution.specs.Fresh.Laws.{DeedsAreSeen}
 use Rattle.bl_machine_pass_laws_execution.specs.Kept.Kept.{NoOutput, StoreKept}
 use Rattle.bl_machine_pass_laws_execution.specs.Kept.Laws.{PassesKeep, PassesKeepIn}
-use Rattle.bl_machine_pass_laws_execution.proofs.OnKept.Copying.{found}
-use Rattle.bl_machine_pass_laws_execution.proofs.OnKept.Homes.{apart_from, through, unequal}
-
-some_same : {A : Type 0} (a b : A) → Some a ≡ Some b → a ≡ b
-some_same a b e = cc
+use Rattle.bl_machine_pass_laws_execution.proofs.OnKept.Homes.{apart_from, through}
+use Rattle.bl_machine_pass_laws_execution.proofs.OnFresh.Doing.{found}
 
 -- ---- what holds through each deed of some instances
 
@@ -95,7 +79,7 @@ module _ (w : Setting) (In : ℕ → Type 0) (P : Store → Type 0) (closed : Cl
       subst P values.2 (written values.0 (writes s) store h)
 
   by_kind : (s : Stmt) (kind : Kind) (store left : Store) → P store → acted_kind w i s kind store ≡ Some left → P left
-  by_kind s (StmtKind-F.Return None) store left h e = subst P (some_same store left e) h
+  by_kind s (StmtKind-F.Return None) store left h e = subst P (same_some store left e) h
   by_kind s (StmtKind-F.Return (Some x)) store left h e =
       let v = found (λ value. with_frame i (with_result value) store) (value_there w store i x) left e in
       subst P v.2 (closed.frames i (with_result v.0) store here h)
@@ -124,7 +108,7 @@ performed_by d left = record { answer = d; store = left }
 
 through_deeds : (w : Setting) (In : ℕ → Type 0) (P : Store → Type 0) → Closed w In P → Through w In P
 through_deeds w In P closed i at Silent store d left here copies e h =
-    subst P (ap (λ p. p.store) (some_same (done store) (performed_by d left) e)) h
+    subst P (ap (λ p. p.store) (same_some (done store) (performed_by d left) e)) h
 through_deeds w In P closed i at (Acts s) store d left here copies e h =
     let p = found done (acted_kind w i s (stmt_kind s) store) (performed_by d left) e in
     subst P (ap (λ p. p.store) p.2) (by_kind w In P closed i here s (stmt_kind s) store p.0 h p.1)
@@ -136,7 +120,7 @@ through_deeds w In P closed i at (Copies callee inputs) store d left here copies
     subst P (ap (λ p. p.store) p.2) (closed.frames callee (with_inputs p.0) store copies h)
 through_deeds w In P closed i at (Gives callee target) store d left here copies e h =
     subst P
-    (ap (λ p. p.store) (some_same (done (given_to w i target (result_at store callee) store)) (performed_by d left) e))
+    (ap (λ p. p.store) (same_some (done (given_to w i target (result_at store callee) store)) (performed_by d left) e))
     (given w In P closed i here target (result_at store callee) store h)
 
 -- ---- passes
@@ -191,7 +175,7 @@ module _ (w : Setting) (rank : ℕ → Node → ℕ) (slots : ℕ → Slots) (cl
     elsewhere : (callee : ℕ) (counters : ℕ → ℕ) (frames : Frames) (k : ℕ) → In callee → (In k → ⊥) → (j : ℕ) →
         with_at callee counters frames k j ≡ frames k j
     elsewhere callee counters frames k inner outside j =
-        ap (λ b. (if b then counters else frames k) j) (unequal k callee (λ same. outside (subst In (sym same) inner)))
+        ap (λ b. (if b then counters else frames k) j) (numbers_differ k callee (λ same. outside (subst In (sym same) inner)))
 
     mutual
       pass_counts : {i k : ℕ} {frames : Frames} {store : Store} {copies : List Value} {r : Registers} {frames' : Frames} {left : Store}
@@ -227,7 +211,7 @@ module _ (out : HomesLeadOut) (nest : ProgramsNest) (lead_on : HomesLeadOn) (put
   W = setting_of structs units entry
 
   not_inside : (j i x : ℕ) → Inside W j i → (Inside W j x → ⊥) → nat_eq i x ≡ false
-  not_inside j i x inner outside = unequal i x (λ same. outside (subst (Inside W j) same inner))
+  not_inside j i x inner outside = numbers_differ i x (λ same. outside (subst (Inside W j) same inner))
 
   below : (j i c : ℕ) (at : Place) → Inside W j i → callee_of W i at ≡ Some c → Inside W j c
   below j i c at inner called = deeper i at inner called

@@ -2,28 +2,9 @@
 use Rattle.std.proofs.Common.{◌≡◌, ◌⊎◌, inl, inr, Bool, true, false, Option, Some, None, refl, ◌∙◌, sym, subst}
 use Rattle.std.specs.Prelude.{⊤}
 use Rattle.bl_tree.specs.declared.place.Place.{Place}
-use Rattle.bl_effects.proofs.EntryLemmas.{same_place_is}
 use Rattle.bl_graph_nodes.specs.Nodes.{Arguments, EnterAt, Node, ResumeAt, entry}
-use Rattle.bl_graph_nodes.specs.Plain.{
-  Act,
-  Again,
-  Await,
-  Block,
-  Bodies,
-  Body as BodyOf,
-  Cobegin,
-  Done,
-  If,
-  Label,
-  Last,
-  Plain,
-  Repeat,
-  Run as RunOf,
-  Then,
-  Until,
-  When,
-  While,
-}
+use Rattle.bl_graph_nodes.specs.Plain.{Act, Again, Await, Block, Bodies, Body as BodyOf, Cobegin, Done, If, Label, Last, Plain, Repeat, Run as RunOf, Then}
+use Rattle.bl_graph_nodes.specs.Plain.{Until, When, While}
 use Rattle.bl_graph_nodes.specs.Steps.{end_node, join_node, run_node}
 use Rattle.bl_ctree.specs.Control.{Body, Check}
 use Rattle.bl_ctree_laws.specs.Trees.{Tree, Trees, Nil, Wait, Test, Idle, Do, Seq, Par, Guard, Run, beside, no_tree}
@@ -32,6 +13,7 @@ use Rattle.bl_ctree_laws_confluence.specs.Apart.Running.{RunApart}
 use Rattle.bl_machine_laws.specs.Numbers.Waiting.{Is, SomeWaits, Waits, first_in}
 use Rattle.bl_machine_pass_laws_execution.specs.Executes.{IsSameRun}
 use Rattle.bl_machine_pass_laws_execution.specs.Passes.Standing.{EachRunsApart, OneRunsIn, RunsApart, RunsIn}
+use Rattle.bl_tree.proofs.FirstLemmas.{same_true}
 
 -- the node is one of a `run` at the place
 abbrev IsOfRun : Place → Node → Type 0
@@ -161,6 +143,6 @@ IsEntry _ = ⊥
 -- a node that begins a `run` and one that goes on with it don't wait at the same time
 pub never_both : (c : Tree) (n m : Node) → RunsApart c → IsSameRun n m → Waits c None n → Waits c None m → ⊥
 never_both c (EnterAt l at arguments) (ResumeAt k other others) apart same one two =
-    subst IsEntry (one_node at c None (EnterAt l at arguments) (ResumeAt k other others) refl (sym (same_place_is at other same)) apart one two) tt
+    subst IsEntry (one_node at c None (EnterAt l at arguments) (ResumeAt k other others) refl (sym (same_true at other same)) apart one two) tt
 never_both c (EnterAt l at arguments) _ apart same one two = absurd same
 never_both c _ m apart same one two = absurd same

@@ -1,34 +1,13 @@
 -- What turns lead to, node by node in the order of their numbers.
-use Rattle.std.proofs.Common.{
-  ◌≡◌,
-  ℕ,
-  zero,
-  suc,
-  ◌+◌,
-  ◌<◌,
-  ◌≤◌,
-  Bool,
-  true,
-  false,
-  List,
-  [],
-  ◌∷◌,
-  ◌∙◌,
-  None,
-  refl,
-  sym,
-  subst,
-  map,
-  arith,
-}
+use Rattle.std.proofs.Common.{◌≡◌, ℕ, zero, suc, ◌+◌, ◌<◌, ◌≤◌, Bool, true, false, List, [], ◌∷◌, ◌∙◌, None, refl, sym, subst, map, arith}
 use Rattle.std.specs.Prelude.{Contains}
+use Rattle.std.proofs.lemmas.Bool.{false_from_ne_true}
+use Rattle.bl_tree.proofs.Basics.{contains_first, contains_further}
 use Rattle.bl_tree.specs.declared.tree.Unit.{Unit as UnitDef}
 use Rattle.bl_tree.specs.declared.value.Value.{Value}
 use Rattle.bl_graph_nodes.specs.Nodes.{Node, nodes_in}
 use Rattle.bl_graph_nodes.specs.Plain.{Block, plain_body}
-use Rattle.bl_graph.specs.Edges.{In}
 use Rattle.bl_graph.specs.Laws.{StaysWithin}
-use Rattle.bl_cause.proofs.ListLemmas.{contains_head, contains_tail}
 use Rattle.bl_ctree.specs.Instances.{Setting}
 use Rattle.bl_ctree.specs.Store.{Store}
 use Rattle.bl_ctree_laws.specs.Trees.{Tree}
@@ -53,6 +32,7 @@ use Rattle.bl_machine_pass_laws_execution.specs.Executes.{BeginsAlone, CopiesMat
 use Rattle.bl_machine_pass_laws_execution.specs.Passes.Laws.{Executed, PassesExecute, TurnsPerform}
 use Rattle.bl_machine_pass_laws_execution.specs.Passes.Standing.{Standing}
 use Rattle.bl_machine_pass_laws_execution.proofs.OnPasses.Beginning.{never_both}
+use Rattle.bl_machine_laws.proofs.OnPasses.Passing.{within_body}
 
 -- ---- rules of nodes
 
@@ -64,10 +44,10 @@ record OfNode (all : List Transition) (n : Node) : Type 0 where
 -- a node has a rule where the rules have all nodes
 rule_of : (all : List Transition) (n : Node) → Contains (map (λ (rule : Transition). rule.node) all) n → OfNode all n
 rule_of [] n there = let below = there.1 in absurd (omega arith)
-rule_of (rule ∷ all) n (zero, within, is) = record { rule = rule; there = contains_head rule all; of_node = is }
+rule_of (rule ∷ all) n (zero, within, is) = record { rule = rule; there = contains_first rule all; of_node = is }
 rule_of (rule ∷ all) n (suc k, within, is) =
     let rest = rule_of all n (k, omega arith, is) in
-    record { rule = rest.rule; there = contains_tail rule all rest.rule rest.there; of_node = rest.of_node }
+    record { rule = rest.rule; there = contains_further rule all rest.rule rest.there; of_node = rest.of_node }
 
 -- a number beyond those of all rules
 abbrev top : (Node → ℕ) → List Transition → ℕ
@@ -79,15 +59,6 @@ below_top number [] rule there = let below = there.1 in absurd (omega arith)
 below_top number (first ∷ all) rule (zero, within, is) =
     subst (λ (x : Transition). number x.node < suc (number first.node) + top number all) is (omega arith)
 below_top number (first ∷ all) rule (suc k, within, is) = let rest = below_top number all rule (k, omega arith, is) in omega (arith, rest)
-
-within_body : (within : (body : Block) → StaysWithin body) (body : Block) (stood : Bool) (n : Node) → In stood body n →
-    Contains (nodes_in body) n
-within_body within body true n there = (within body).depth n there
-within_body within body false n there = (within body).surface n there
-
-not_due : (b : Bool) → (b ≡ true → ⊥) → b ≡ false
-not_due true never = absurd (never refl)
-not_due false never = refl
 
 -- ---- one instance
 
@@ -138,7 +109,7 @@ module _ (within : (body : Block) → StaysWithin body) (waiting : TurnsWait) (q
       FitsBody (slots i) B c →
       PassInvariant (slots i) (rank i) B k c r → First rank i c n → NoneDue k (rank i n) r
   none_before frames k c n r standing stands keeps first rule there least below =
-      not_due (is_due (rank i) rule r)
+      false_from_ne_true (is_due (rank i) rule r)
       (λ is. (let le = first rule.node ((due w rank i (slots i) unit stood k c rule r given standing.lives stands there keeps least).0 is) in
       absurd (omega (arith, le, below))))
 
@@ -169,7 +140,7 @@ module _ (within : (body : Block) → StaysWithin body) (waiting : TurnsWait) (q
   alone_at : (frames : Frames) (k : ℕ) (c : Tree) (n : Node) (r : Registers) → Standing w slots i unit stood frames c → FitsBody (slots i) B c →
       Waits c None n → (turn : Turn k c n r) → BeginsAlone rank slots i unit turn.rule r
   alone_at frames k c n r standing stands waits turn = λ other has same later.
-      not_due (is_due (rank i) other r)
+      false_from_ne_true (is_due (rank i) other r)
       (λ is. never_both c turn.rule.node other.node standing.apart same (subst (λ x. Waits c None x) (sym turn.of_node) waits)
       ((due w rank i (slots i) unit stood (rank i n) c other r given standing.lives stands has turn.pass_invariant
       (let at : rank i turn.rule.node ≡ rank i n = subst (λ x. rank i turn.rule.node ≡ rank i x) turn.of_node refl in omega (arith, at, later))).0 is))
@@ -185,7 +156,7 @@ module _ (within : (body : Block) → StaysWithin body) (waiting : TurnsWait) (q
     inner = frames;
     registers = r;
     executes = skip_to (top (rank i) (rules (slots i) B)) k (top (rank i) (rules (slots i) B) + k) refl frames store copies r frames store r
-        (λ rule there least below. not_due (is_due (rank i) rule r)
+        (λ rule there least below. false_from_ne_true (is_due (rank i) rule r)
         (λ is. quiet w i stood B c rule.node standing.lives settled
         ((due w rank i (slots i) unit stood k c rule r given standing.lives stands there keeps least).0 is)))
         (executes.ends given.is (λ rule there. (let lt = below_top (rank i) (rules (slots i) B) rule there in omega (arith, lt))));

@@ -1,30 +1,17 @@
 -- What copies hold after a turn.
-use Rattle.std.proofs.Common.{◌≡◌, ◌⊎◌, inl, inr, ℕ, zero, suc, ◌<◌, List, [], ◌∷◌, length, Option}
+use Rattle.std.proofs.Common.{◌≡◌, ◌⊎◌, inl, inr, ℕ, ◌<◌, List, [], ◌∷◌, length, Option}
 use Rattle.std.proofs.Common.{Some, None, refl, sym, ap, subst, arith}
 use Rattle.std.specs.Prelude.{option_map, slice_get, slice_set, unwrap_or}
 use Rattle.std.proofs.lemmas.List.FromFn.{length-map-range_with_len}
+use Rattle.bl_tree.proofs.Basics.{none_within}
 use Rattle.bl_tree.specs.declared.tree.Arm.{Arm}
 use Rattle.bl_tree.specs.declared.tree.Branch.{Branch}
 use Rattle.bl_tree.specs.declared.tree.Stmt.{Stmt, out-Stmt}
 use Rattle.bl_tree.specs.declared.tree.StmtKind.{StmtKind, out-StmtKind}
 use Rattle.bl_tree.specs.declared.tree.StmtKind.TheOpen.{StmtKind-F}
 use Rattle.bl_tree.specs.declared.value.Value.{Value}
-use Rattle.bl_graph_nodes.specs.Nodes.{
-  ActAt,
-  CheckAt,
-  DepthEndAt,
-  DepthJoinAt,
-  EnterAt,
-  ForkAt,
-  HeadAt,
-  Node,
-  PauseAt,
-  ResumeAt,
-  StartAt,
-  SurfaceEndAt,
-  SurfaceJoinAt,
-  TestAt,
-}
+use Rattle.bl_graph_nodes.specs.Nodes.{ActAt, CheckAt, DepthEndAt, DepthJoinAt, EnterAt, ForkAt, HeadAt, Node, PauseAt, ResumeAt, StartAt, SurfaceEndAt}
+use Rattle.bl_graph_nodes.specs.Nodes.{SurfaceJoinAt, TestAt}
 use Rattle.bl_machine_prevs.specs.Declared.{declared_kind}
 use Rattle.bl_ctree.specs.Instances.{Setting}
 use Rattle.bl_ctree.specs.Store.{Frame, Store, variable_among, vars_at, view_at}
@@ -38,17 +25,12 @@ Kind = StmtKind-F StmtKind Arm Branch Stmt
 pub view_length : (w : Setting) (store : Store) (i : ℕ) → length (view_at w store i).now ≡ length (vars_at w i)
 view_length w store i = length-map-range_with_len (variable_among (λ (frame : Frame). frame.now) w store i) 0 (length (vars_at w i))
 
-got_within : {A : Type 0} (xs : List A) (k : ℕ) → k < length xs → slice_get xs k ≡ None → ⊥
-got_within [] k below e = omega (arith, below)
-got_within (x ∷ xs) zero below e = cc
-got_within (x ∷ xs) (suc k) below e = got_within xs k (omega (arith, below)) e
-
 set_there : (x : ℕ) (now copies : List Value) → x < length now → x < length copies →
     slice_get (unwrap_or (option_map (slice_set copies x) (slice_get now x)) copies) x ≡ slice_get now x
 set_there x now copies one two = by_value (slice_get now x) refl
   where
     by_value : (o : Option Value) → slice_get now x ≡ o → slice_get (unwrap_or (option_map (slice_set copies x) o) copies) x ≡ o
-    by_value None e = absurd (got_within now x one e)
+    by_value None e = absurd (none_within now x one e)
     by_value (Some v) e = get_set copies x v two
 
 kind_at : (kind : Kind) (x : ℕ) (now copies : List Value) → IsAmongVariables (declared_kind kind) x → x < length now → x < length copies →

@@ -2,6 +2,7 @@
 use Rattle.std.proofs.Common.{◌≡◌, inl, inr, ℕ, zero, suc, ◌+◌, ◌<◌, ◌≤◌, Bool, true, false, List, [], length}
 use Rattle.std.proofs.Common.{Some, None, refl, sym, ap, ◌∙◌, subst, arith}
 use Rattle.std.specs.Prelude.{slice_get, ◌++◌}
+use Rattle.bl_tree.proofs.Basics.{one_some}
 use Rattle.bl_tree.specs.declared.place.Place.{Place as Source}
 use Rattle.bl_tree.specs.declared.tree.Expr.{Expr}
 use Rattle.bl_tree.specs.declared.tree.StructDef.{StructDef}
@@ -44,17 +45,7 @@ use Rattle.bl_machine_pass_laws_execution.specs.Frames.{AllCallsMatchTree, AllFr
 use Rattle.bl_machine_pass_laws_execution.specs.Executes as executes
 use Rattle.bl_machine_pass_laws_execution.specs.Executes.{ClearsInside, NodeTraps, Performs, begun_registers, deed_at, resumed_registers}
 use Rattle.bl_machine_pass_laws_execution.specs.Passes.Laws.{Executed, PassesExecute, PointsAreOfNodes, TurnsPerform}
-use Rattle.bl_machine_pass_laws_execution.specs.Passes.Standing.{
-  AllCallsRest,
-  CallsRest,
-  EachRunsApart,
-  OneRunsIn,
-  Rested,
-  RunsApart,
-  RunsIn,
-  Standing,
-  Woken,
-}
+use Rattle.bl_machine_pass_laws_execution.specs.Passes.Standing.{AllCallsRest, CallsRest, EachRunsApart, OneRunsIn, Rested, RunsApart, RunsIn, Standing, Woken}
 use Rattle.bl_machine_pass_laws_execution.specs.Fresh.Asks.{Asks, DueIn, EachAsks, InputsFit, IsAmongVariables, OneDueIn, declared_at, next_declared}
 use Rattle.bl_machine_pass_laws_execution.specs.Fresh.Fresh.{Framed, Fresh, locals}
 use Rattle.bl_machine_pass_laws_execution.specs.Fresh.Laws.{BodiesAsk, DeedsAreSeen, OwnIsSeen, TreesAsk}
@@ -63,44 +54,13 @@ use Rattle.bl_machine_pass_laws_execution.proofs.OnFresh.Lists.{among_right, kno
 use Rattle.bl_machine_pass_laws_execution.specs.Performs.{AllInContext, AllTurnsPerform}
 use Rattle.bl_machine_pass_laws_execution.proofs.OnPerforms.Copying.{view_length}
 use Rattle.bl_machine_pass_laws_execution.proofs.OnPerforms.Keeping.{Kept, block_apart, block_holds, block_rests, ended, point_kept, seq_kept}
-use Rattle.bl_machine_pass_laws_execution.proofs.OnPerforms.Storing.{
-  Passing,
-  SeenTurn,
-  chained,
-  copies_keep,
-  copies_passing,
-  deed_passing,
-  fresh_same,
-  next_senses,
-  node_leaves,
-  pass_passing,
-  sees_so,
-}
-use Rattle.bl_machine_pass_laws_execution.proofs.OnPerforms.Touching.{
-  Touched,
-  body_open,
-  branch_runs,
-  by_sum,
-  calls_touch,
-  due_touches,
-  each_touch,
-  first_runs,
-  guard_runs,
-  in_call,
-  inside_callee,
-  later_runs,
-  one_due_touches,
-  one_place,
-  one_some,
-  par_runs,
-  run_asked,
-  run_declares,
-  there,
-  touch,
-  widen,
-  with_other,
-}
+use Rattle.bl_machine_pass_laws_execution.proofs.OnPerforms.Storing.{Passing, SeenTurn, chained, copies_keep, copies_passing, deed_passing, fresh_same}
+use Rattle.bl_machine_pass_laws_execution.proofs.OnPerforms.Storing.{next_senses, node_leaves, pass_passing, sees_so}
+use Rattle.bl_machine_pass_laws_execution.proofs.OnPerforms.Touching.{Touched, body_open, branch_runs, by_sum, calls_touch, due_touches, each_touch, first_runs}
+use Rattle.bl_machine_pass_laws_execution.proofs.OnPerforms.Touching.{guard_runs, in_call, inside_callee, later_runs, one_due_touches, one_place}
+use Rattle.bl_machine_pass_laws_execution.proofs.OnPerforms.Touching.{par_runs, run_asked, run_declares, touch, widen, with_other}
 use Rattle.bl_machine_pass_laws_execution.proofs.OnPerforms.Turning.{passed, waits_there, walk_live}
+use Rattle.bl_machine_laws.proofs.OnPasses.Passing.{there}
 
 module _ (runs_apart : AcceptedRunsApart) (nests : ProgramsNest) (begin_live : BodiesFitGraph) (all_callable : ProgramsAreCallable)
     (keep_live : StepsKeepFitsGraph) (walks : TurnsAreWalks) (waiting : TurnsWait) (keep_numbers : WakingKeepsNumbers) (execute : PassesExecute)

@@ -9,22 +9,8 @@ use Rattle.bl_tree.specs.declared.tree.Stmt.{out-Stmt}
 use Rattle.bl_tree.specs.declared.tree.StructDef.{StructDef}
 use Rattle.bl_tree.specs.declared.tree.Unit.{Unit as UnitDef}
 use Rattle.bl_tree.specs.declared.value.Value.{Value}
-use Rattle.bl_graph_nodes.specs.Nodes.{
-  ActAt,
-  CheckAt,
-  DepthEndAt,
-  DepthJoinAt,
-  EnterAt,
-  ForkAt,
-  HeadAt,
-  Node,
-  PauseAt,
-  ResumeAt,
-  StartAt,
-  SurfaceEndAt,
-  SurfaceJoinAt,
-  TestAt,
-}
+use Rattle.bl_graph_nodes.specs.Nodes.{ActAt, CheckAt, DepthEndAt, DepthJoinAt, EnterAt, ForkAt, HeadAt, Node, PauseAt, ResumeAt, StartAt, SurfaceEndAt}
+use Rattle.bl_graph_nodes.specs.Nodes.{SurfaceJoinAt, TestAt}
 use Rattle.bl_machine_prevs.specs.Declared.{prevs_at}
 use Rattle.bl_ctree.specs.Actions.{Acts, Asks as AsksFor, Copies, Effect, Silent}
 use Rattle.bl_ctree.specs.Instances.{Setting, callee_of, setting_of, unit_at}
@@ -41,7 +27,8 @@ use Rattle.bl_machine_pass_laws_execution.specs.Fresh.Laws.{CopiesTo, DeedsAreSe
 use Rattle.bl_machine_pass_laws_execution.specs.Fresh.Senses.{InstanceChanges, Senses}
 use Rattle.bl_machine_pass_laws_execution.proofs.OnFresh.Lists.{among_joined, among_parts, is_among, none_among, range_so}
 use Rattle.bl_machine_pass_laws_execution.proofs.OnPerforms.Copying.{Recopied, recopies}
-use Rattle.bl_machine_pass_laws_execution.proofs.OnPerforms.Touching.{Touched, in_call, inside_callee, through}
+use Rattle.bl_machine_pass_laws_execution.proofs.OnPerforms.Touching.{Touched, in_call, inside_callee}
+use Rattle.bl_machine_pass_laws_execution.proofs.OnKept.Homes.{through}
 
 -- what an instance leaves, where it touches calls that stand here, and declares these variables
 pub record Passing (w : Setting) (i : ℕ) (unit : UnitDef) (Here : Source → Type 0) (ds : List ℕ) (store left : Store) : Type 0 where

@@ -1,14 +1,13 @@
 -- What a turn touches: what is inside the calls of its tree.
-use Rattle.std.proofs.Common.{◌≡◌, ◌⊎◌, inl, inr, ℕ, ◌<◌, Bool, true, false, List, [], length, Option, Some}
-use Rattle.std.proofs.Common.{None, refl, sym, ap, ◌∙◌, subst, eqb-true, get_or}
-use Rattle.std.specs.Prelude.{nat_eq, option_and_then, slice_get, if◌then◌else◌}
+use Rattle.std.proofs.Common.{◌≡◌, ◌⊎◌, inl, inr, ℕ, ◌<◌, Bool, true, false, List, [], Option, Some}
+use Rattle.std.proofs.Common.{None, refl, sym, ap, ◌∙◌, subst, get_or}
+use Rattle.std.specs.Prelude.{nat_eq, if◌then◌else◌}
 use Rattle.std.proofs.lemmas.List.Quantifiers.{position-Some}
-use Rattle.std.proofs.lemmas.Option.{slice_get_within}
+use Rattle.bl_tree.proofs.Basics.{and_second, numbers_differ}
 use Rattle.bl_tree.specs.declared.place.Place.{Place as Source}
 use Rattle.bl_tree.specs.declared.tree.StructDef.{StructDef}
 use Rattle.bl_tree.specs.declared.tree.Unit.{Unit as UnitDef}
 use Rattle.bl_tree.specs.Rules.{same_place}
-use Rattle.bl_effects.proofs.EntryLemmas.{same_place_is}
 use Rattle.bl_graph_nodes.specs.Nodes.{Arguments, are_instant, entry}
 use Rattle.bl_graph_nodes.specs.Plain.{Block, Bodies, Body as BodyOf, Done, Label, Last, Then, plain_body}
 use Rattle.bl_graph_nodes.specs.Steps.{run_node}
@@ -16,25 +15,8 @@ use Rattle.bl_machine_prevs.specs.Declared.{are_known, prevs_at, prevs_in_inputs
 use Rattle.bl_ctree.specs.declared.instance.Instance.{Instance}
 use Rattle.bl_ctree.specs.declared.instance.Origin.{Origin}
 use Rattle.bl_ctree.specs.Control.{Body, Check}
-use Rattle.bl_ctree.specs.Instances.{Setting, begins_at, callee_of, setting_of, unit_at, unit_of}
-use Rattle.bl_ctree_laws.specs.Trees.{
-  Tree,
-  Trees,
-  Nil,
-  Wait,
-  Test,
-  Idle,
-  Do,
-  Seq,
-  Par,
-  Guard,
-  Run,
-  beside,
-  do_block,
-  is_nil,
-  no_tree,
-}
-use Rattle.bl_ctree_laws.proofs.Tests.{and_second}
+use Rattle.bl_ctree.specs.Instances.{Setting, begins_at, callee_of, setting_of}
+use Rattle.bl_ctree_laws.specs.Trees.{Tree, Trees, Nil, Wait, Test, Idle, Do, Seq, Par, Guard, Run, beside, do_block, is_nil, no_tree}
 use Rattle.bl_ctree_laws_confluence.specs.Deeds.Nesting.{Inside, deeper, itself}
 use Rattle.bl_ctree_laws_confluence.specs.Apart.Owned.{RunsAt, SomeIn, SomeInEach}
 use Rattle.bl_ctree_laws_confluence.specs.Apart.Seen.{InCall}
@@ -45,22 +27,14 @@ use Rattle.bl_machine_pass_laws_execution.specs.Frames.{CalledIn, ChangeOnly, Fr
 use Rattle.bl_machine_pass_laws_execution.specs.Passes.Standing.{EachRunsApart, OneRunsIn, RunsIn}
 use Rattle.bl_machine_pass_laws_execution.specs.Fresh.Asks.{DueIn, IsAmongVariables, OneDueIn, declared_at}
 use Rattle.bl_machine_pass_laws_execution.proofs.OnFresh.Lists.{known_so}
+use Rattle.bl_tree.proofs.FirstLemmas.{same_true}
+use Rattle.bl_machine_pass_laws_execution.proofs.OnKept.Homes.{through}
 
 -- ---- numbers and places
 
-pub unequal : (a b : ℕ) → (a ≡ b → ⊥) → nat_eq a b ≡ false
-unequal a b apart = by_test (nat_eq a b) refl
-  where
-    by_test : (t : Bool) → nat_eq a b ≡ t → t ≡ false
-    by_test true e = absurd (apart (eqb-true a b e))
-    by_test false e = refl
-
 pub with_other : (k callee : ℕ) (counters : ℕ → ℕ) (frames : Frames) → (k ≡ callee → ⊥) → (j : ℕ) →
     with_at callee counters frames k j ≡ frames k j
-with_other k callee counters frames apart j = ap (λ b. (if b then counters else frames k) j) (unequal k callee apart)
-
-pub one_some : {A : Type 0} (a b : A) (o : Option A) → o ≡ Some a → o ≡ Some b → a ≡ b
-one_some a b o e f = let both : Some a ≡ Some b = sym e ∙ f in cc
+with_other k callee counters frames apart j = ap (λ b. (if b then counters else frames k) j) (numbers_differ k callee apart)
 
 pub one_place : (w : Setting) (i callee : ℕ) (place other : Source) → callee_of w i place ≡ Some callee → callee_of w i other
     ≡ Some callee →
@@ -73,26 +47,15 @@ one_place w i callee place other one two =
     by_origin : (o : Option Origin) → begins_at i place o ≡ true → begins_at i other o ≡ true → place ≡ other
     by_origin None e f = absurd cc
     by_origin (Some origin) e f =
-        sym (same_place_is origin.place place (and_second (nat_eq origin.caller i) (same_place origin.place place) e))
-        ∙ same_place_is origin.place other (and_second (nat_eq origin.caller i) (same_place origin.place other) f)
+        sym (same_true origin.place place (and_second (nat_eq origin.caller i) (same_place origin.place place) e))
+        ∙ same_true origin.place other (and_second (nat_eq origin.caller i) (same_place origin.place other) f)
 
 pub body_open : (body : Block) → are_instant body ≡ false → is_nil (do_block body) ≡ false
 body_open Done e = absurd cc
 body_open (Then s Done) e = refl
 body_open (Then s (Then next rest)) e = refl
 
-pub there : (w : Setting) (i : ℕ) (unit : UnitDef) → unit_at w i ≡ Some unit → i < length w.instances
-there w i unit is = by_found (slice_get w.instances i) refl
-  where
-    by_found : (x : Option Instance) → slice_get w.instances i ≡ x → i < length w.instances
-    by_found None e = absurd (cc (ap (option_and_then (unit_of w)) e, is))
-    by_found (Some instance) e = slice_get_within w.instances i instance e
-
 -- ---- what is touched
-
-pub through : (w : Setting) (a b k : ℕ) → Inside w a b → Inside w b k → Inside w a k
-through w a b k one itself = one
-through w a b k one (deeper j place more runs) = deeper j place (through w a b j one more) runs
 
 pub inside_callee : (w : Setting) (callee k : ℕ) → InCall w callee k → Inside w callee k
 inside_callee w callee k call = through w callee call.callee k (deeper callee call.place itself call.runs) call.inside

@@ -3,44 +3,13 @@ use Rattle.std.specs.Prelude.{◌≡◌, ◌≤◌, ◌⊎◌, ℕ, true, List, 
 use Rattle.std.specs.List.{list_any}
 use Rattle.bl_tree.specs.declared.tree.Unit.{Unit as UnitDef}
 use Rattle.bl_graph_nodes.specs.Nodes.{ActAt, Node}
-use Rattle.bl_graph_nodes.specs.Plain.{
-  Act,
-  Again,
-  Await,
-  Block,
-  Bodies,
-  Body as BodyOf,
-  Cobegin,
-  Done,
-  If,
-  Last,
-  Plain,
-  Repeat,
-  Run as RunOf,
-  Then,
-  Until,
-  When,
-  While,
-}
+use Rattle.bl_graph_nodes.specs.Plain.{Act, Again, Await, Block, Bodies, Body as BodyOf, Cobegin, Done, If, Last, Plain, Repeat, Run as RunOf, Then, Until}
+use Rattle.bl_graph_nodes.specs.Plain.{When, While}
 use Rattle.bl_machine_prevs.specs.Declared.{are_known, declared_by, declared_in, prevs_in_inputs, prevs_stand, prevs_stand_in}
 use Rattle.bl_machine_prevs.specs.Prevs.{prevs_in_expr}
 use Rattle.bl_ctree.specs.Control.{Body, Check}
 use Rattle.bl_ctree.specs.Instances.{Setting, callee_of, unit_at}
-use Rattle.bl_ctree_laws.specs.Trees.{
-  Tree,
-  Trees,
-  Nil,
-  Wait,
-  Test,
-  Idle,
-  Do,
-  Seq,
-  Par,
-  Guard,
-  Run,
-  beside,
-  no_tree,
-}
+use Rattle.bl_ctree_laws.specs.Trees.{Tree, Trees, Nil, Wait, Test, Idle, Do, Seq, Par, Guard, Run, beside, no_tree}
 use Rattle.bl_ctree_laws_confluence.specs.Deeds.Nesting.{Inside}
 use Rattle.bl_machine_pass_laws_execution.specs.Fresh.Fresh.{arity, locals}
 

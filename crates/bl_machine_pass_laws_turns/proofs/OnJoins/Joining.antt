@@ -1,161 +1,44 @@
 -- A join is due exactly where its `cobegin` waits there.
-use Rattle.std.proofs.Common.{
-  ◌≡◌,
-  ◌⊎◌,
-  inl,
-  inr,
-  ⊎_elim,
-  ℕ,
-  suc,
-  Bool,
-  true,
-  false,
-  not,
-  ◌&&◌,
-  ◌||◌,
-  if◌then◌else◌,
-  nat_eq,
-  List,
-  [],
-  ◌∷◌,
-  None,
-  refl,
-  sym,
-  ap,
-  ap₂,
-  subst,
-  ◌∙◌,
-  arith,
-  eq-eqb,
-  eqb-true,
-}
+use Rattle.std.proofs.Common.{◌≡◌, ◌⊎◌, inl, inr, ⊎_elim, ℕ, suc, Bool, true, false, not, ◌&&◌, ◌||◌, if◌then◌else◌, nat_eq, List, [], ◌∷◌, None, refl, sym, ap}
+use Rattle.std.proofs.Common.{ap₂, subst, ◌∙◌, arith, eq-eqb, eqb-true}
 use Rattle.std.specs.List.{list_all, list_any}
 use Rattle.std.specs.Prelude.{Contains, ⊤}
+use Rattle.std.proofs.lemmas.Bool.{and_from, false_from_ne_true, or_left, or_right}
+use Rattle.bl_tree.proofs.Basics.{and_first, and_second, true_false_any as differ}
 use Rattle.bl_tree.specs.declared.place.Place.{Place}
 use Rattle.bl_tree.specs.declared.tree.Unit.{Unit as UnitDef}
-use Rattle.bl_graph_nodes.specs.Nodes.{
-  DepthEndAt,
-  DepthJoinAt,
-  ForkAt,
-  HeadAt,
-  Node,
-  SurfaceEndAt,
-  SurfaceJoinAt,
-  TestAt,
-  are_instant,
-  is_instant,
-  label_of,
-  nodes_in,
-  nodes_in_each,
-  place_of_node,
-  some_strong,
-}
-use Rattle.bl_graph_nodes.specs.Plain.{
-  Act,
-  Again,
-  Await,
-  Block,
-  Bodies,
-  Body as BodyOf,
-  Cobegin,
-  Done,
-  If,
-  Label,
-  Last,
-  Plain,
-  Repeat,
-  Run as RunOf,
-  Then,
-  Until,
-  When,
-  While,
-  plain_body,
-}
+use Rattle.bl_graph_nodes.specs.Nodes.{DepthEndAt, DepthJoinAt, ForkAt, HeadAt, Node, SurfaceEndAt, SurfaceJoinAt, TestAt, are_instant, is_instant, label_of}
+use Rattle.bl_graph_nodes.specs.Nodes.{nodes_in, nodes_in_each, place_of_node, some_strong}
+use Rattle.bl_graph_nodes.specs.Plain.{Act, Again, Await, Block, Bodies, Body as BodyOf, Cobegin, Done, If, Label, Last, Plain, Repeat, Run as RunOf, Then}
+use Rattle.bl_graph_nodes.specs.Plain.{Until, When, While, plain_body}
 use Rattle.bl_graph_nodes.specs.Steps.{join_node}
 use Rattle.bl_ctree.specs.Instances.{Setting}
-use Rattle.bl_ctree_laws.specs.Trees.{
-  Fork,
-  Tree,
-  Trees,
-  are_done,
-  beside,
-  has_strong,
-  is_nil,
-  no_tree,
-  some_ended,
-  strong_ended,
-}
+use Rattle.bl_ctree_laws.specs.Trees.{Fork, Tree, Trees, are_done, beside, has_strong, is_nil, no_tree, some_ended, strong_ended}
 use Rattle.bl_ctree_laws_traces.specs.Progress.FitsGraph.{fork_stmt}
 use Rattle.bl_ctree_laws_traces.specs.Progress.Places.{whole}
 use Rattle.bl_machine.specs.Uses.{Slots, is_of, uses_in, uses_in_branch, uses_in_each}
 use Rattle.bl_machine_laws.specs.Numbers.Numbers.{Over, numbers_in, numbers_of}
 use Rattle.bl_machine_laws.specs.Numbers.Waiting.{Waits}
-use Rattle.bl_machine_laws.proofs.OnWaiting.Quiet.{and_first, and_second, differ}
 use Rattle.bl_machine_pass.specs.SlotLayout.{BranchesRestAt, EndOf, RestOf, SlotsAreDistinct, Spot, slot_at, spots_in, spots_in_each, spots_of}
 use Rattle.bl_machine_pass.specs.Numbered.{sort}
 use Rattle.bl_machine_pass.specs.Registers.{Registers, are_ended, is_aged, is_at, is_due}
-use Rattle.bl_machine_pass.specs.Transitions.{
-  Age,
-  Change,
-  Condition,
-  Ended,
-  Finishes,
-  Flagged,
-  IsAny,
-  IsNew,
-  IsOld,
-  Needed,
-  Rested,
-  RestedIn,
-  SetsCounter,
-  SetsFlag,
-  Transition,
-  age_of,
-  body_ends,
-  endings,
-  enter,
-  flagged,
-  joins,
-  needed,
-  rule_where,
-  rules,
-  rules_in,
-  rules_in_each,
-  rules_of,
-  strong_endings,
-}
+use Rattle.bl_machine_pass.specs.Transitions.{Age, Change, Condition, Ended, Finishes, Flagged, IsAny, IsNew, IsOld, Needed, Rested, RestedIn, SetsCounter}
+use Rattle.bl_machine_pass.specs.Transitions.{SetsFlag, Transition, age_of, body_ends, endings, enter, flagged, joins, needed, rule_where, rules, rules_in}
+use Rattle.bl_machine_pass.specs.Transitions.{rules_in_each, rules_of, strong_endings}
 use Rattle.bl_machine_pass_laws.specs.Turns.Holds.{CountersLinger, CountersMayBe, RestsThere}
 use Rattle.bl_machine_pass_laws.specs.Turns.Invariant.{Exactly, IsFlagged, IsJoin, IsResume, Marked}
 use Rattle.bl_machine_pass_laws.specs.Turns.Laws.{StaysPlaced, Turning}
 use Rattle.bl_machine_pass_laws.specs.Turns.Sits.{SitEach}
-use Rattle.bl_machine_pass_laws.proofs.OnSlots.Finding.{isnt}
 use Rattle.bl_machine_pass_laws_turns.specs.Joins.Laws.{JoinsWait, RulesWait}
 use Rattle.bl_machine_pass_laws_turns.specs.Joins.Stems.{Member, Same, StemEach, Stemmed, Stems}
 use Rattle.bl_machine_pass_laws_turns.proofs.OnJoins.Lists.{bodies_differ, contained, either, left, member, right, sole_rule}
-use Rattle.bl_machine_pass_laws_turns.proofs.OnJoins.Resting.{RestsAt, end_tells, rests, rests_there, slot_is}
+use Rattle.bl_machine_pass_laws_turns.proofs.OnJoins.Resting.{RestsAt, end_tells, rests, rests_there}
 use Rattle.bl_machine_pass_laws_turns.proofs.OnJoins.Ruling.{check_rule, fork_rest, watch_rest}
-use Rattle.bl_machine_pass_laws_turns.proofs.OnJoins.Standing.{
-  IsJoinNode,
-  MarkOf,
-  MayEnd,
-  Stands,
-  StandsAs,
-  first_number,
-  joins_at,
-  laid_fork,
-  later_number,
-  live_fork,
-  mark_fork,
-  numbers_fork,
-  or_first,
-  or_last,
-  own_fork,
-  sit_fork,
-  stands_so,
-  stands_within,
-  waits_fork,
-}
+use Rattle.bl_machine_pass_laws_turns.proofs.OnJoins.Standing.{IsJoinNode, MarkOf, MayEnd, Stands, StandsAs, first_number, joins_at, laid_fork, later_number}
+use Rattle.bl_machine_pass_laws_turns.proofs.OnJoins.Standing.{live_fork, mark_fork, numbers_fork, own_fork, sit_fork, stands_so}
+use Rattle.bl_machine_pass_laws_turns.proofs.OnJoins.Standing.{stands_within, waits_fork}
 use Rattle.bl_machine_pass_laws_turns.proofs.OnJoins.Stemming.{fork_differ, fork_join}
+use Rattle.bl_machine_pass_laws.proofs.OnRooted.Resuming.{slot_is}
 
 -- ---- rules that ask for ends
 
@@ -402,7 +285,7 @@ ended_so slots ruled counters l bodies branches sits tell =
 
 is_own : (slots : Slots) (l : Label) (k : ℕ) (body : Block) → uses_in_branch slots l k body (slots.ending l k).counter ≡ true
 is_own slots l k body =
-    or_first (is_of (slots.ending l k) (slots.ending l k).counter) (uses_in slots body (slots.ending l k).counter)
+    or_left (is_of (slots.ending l k) (slots.ending l k).counter) (uses_in slots body (slots.ending l k).counter)
     (eq-eqb (slots.ending l k).counter (slots.ending l k).counter refl)
 
 -- the ends of a `cobegin` at a place, where no other with its label stands in its branches
@@ -426,7 +309,7 @@ module _ (slots : Slots) (R : Spot → Type 0) (l : Label) (at : Place) (counter
   tells k (BodyOf weak body rest) (beside weak' c branches) apart spots own laid held = (
     end_tells slots R (Member (nodes_in body)) c (slots.ending l k) counters own.0 (counted (EndOf l k) (spots (EndOf l k) (inl refl)))
         (held (slots.ending l k).counter
-        (or_first (uses_in_branch slots l k body (slots.ending l k).counter) (uses_in_each slots l (suc k) rest (slots.ending l k).counter)
+        (or_left (uses_in_branch slots l k body (slots.ending l k).counter) (uses_in_each slots l (suc k) rest (slots.ending l k).counter)
         (is_own slots l k body))
         ∙ first_number slots l k weak weak' body rest c branches (slots.ending l k).counter (is_own slots l k body))
         (λ p there e. nested body c (λ n one. apart n (left (nodes_in body) (nodes_in_each rest) n one))
@@ -434,7 +317,7 @@ module _ (slots : Slots) (R : Spot → Type 0) (l : Label) (at : Place) (counter
         (spots (EndOf l k) (inl refl)) e) there)) own.0),
     tells (suc k) rest branches (λ n one. apart n (right (nodes_in body) (nodes_in_each rest) n one))
         (λ p one. spots p (inr (right (spots_in body) (spots_in_each l (suc k) rest) p one))) own.1 laid.2
-        (λ j uses_it. held j (or_last (uses_in_branch slots l k body j) (uses_in_each slots l (suc k) rest j) uses_it)
+        (λ j uses_it. held j (or_right (uses_in_branch slots l k body j) (uses_in_each slots l (suc k) rest j) uses_it)
         ∙ later_number slots l k weak weak' body rest c branches j laid.1 uses_it),
   )
 
@@ -496,10 +379,6 @@ join_label true l at = refl
 join_label false l at = refl
 
 -- ---- the law
-
-both : (a b : Bool) → a ≡ true → b ≡ true → (a && b) ≡ true
-both true b e f = f
-both false b e f = differ false e refl
 
 -- the body of a unit, its places and nodes
 abbrev body_of : UnitDef → Block
@@ -591,7 +470,7 @@ module _ (w : Setting) (rank : ℕ → Node → ℕ) (i : ℕ) (slots : Slots) (
             old_stood (rank i) r.marks (ForkAt s.label s.place) (is_instant (fork_stmt s)) stood mark (may done) aged in
             (done, node_same ∙ ap (λ b. join_node b s.label s.place) (sym has_stood)),
         λ there.
-            both (is_aged (rank i) r.marks (age_of (is_instant (Cobegin join.label join.place join.bodies)) (ForkAt join.label join.place)))
+            and_from (is_aged (rank i) r.marks (age_of (is_instant (Cobegin join.label join.place join.bodies)) (ForkAt join.label join.place)))
             (are_ended r.counters (needed slots join.label join.bodies))
             (ap (λ (x : Transition). is_aged (rank i) r.marks (age_asked x.condition)) one
             ∙ stood_old (rank i) r.marks (ForkAt s.label s.place) (is_instant (fork_stmt s)) stood mark
@@ -618,7 +497,7 @@ module _ (w : Setting) (rank : ℕ → Node → ℕ) (i : ℕ) (slots : Slots) (
             due in
             (done, early_same ∙ ap (λ b. join_node b s.label s.place) (sym (sym (not_not stood) ∙ ap not begun))),
         λ there.
-            both (r.marks (rank i (ForkAt join.label join.place))) (are_ended r.counters (needed slots join.label join.bodies))
+            and_from (r.marks (rank i (ForkAt join.label join.place))) (are_ended r.counters (needed slots join.label join.bodies))
             (marked_same ∙ ap not (early_stood stood join.label s.label join.place s.place there.1)) (ended_same ∙ there.0),
       )
         where
@@ -725,9 +604,9 @@ module _ (linger : CountersLinger) (slots : Slots) (unit : UnitDef) (c : Tree) (
   end_alike : (l : Label) (k : ℕ) → Spots unit (EndOf l k) → is_at r.counters (slots.ending l k) ≡ is_at exactly.counters (slots.ending l k)
   end_alike l k spot =
       ⊎_elim (λ is. ap (λ x. nat_eq x (slots.ending l k).value) is)
-      (λ left. isnt (is_at r.counters (slots.ending l k))
+      (λ left. false_from_ne_true (is_at r.counters (slots.ending l k))
       (λ held. no_end left.1 (eqb-true (r.counters (slots.ending l k).counter) (slots.ending l k).value held))
-      ∙ sym (isnt (is_at exactly.counters (slots.ending l k))
+      ∙ sym (false_from_ne_true (is_at exactly.counters (slots.ending l k))
       (λ held. laid.counted (EndOf l k) spot (sym (eqb-true (exactly.counters (slots.ending l k).counter) (slots.ending l k).value held) ∙ left.0))))
       (linger.left slots (body_of unit) r.counters c may (slots.ending l k).counter)
     where

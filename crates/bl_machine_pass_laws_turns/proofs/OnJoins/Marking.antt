@@ -3,68 +3,16 @@ use Rattle.std.proofs.Common.{◌≡◌, inl, ℕ, suc, Bool, true, false, List,
 use Rattle.std.specs.Prelude.{Contains, ⊤}
 use Rattle.bl_tree.specs.declared.place.Place.{Place}
 use Rattle.bl_tree.specs.declared.tree.Unit.{Unit as UnitDef}
-use Rattle.bl_graph_nodes.specs.Nodes.{
-  ActAt,
-  CheckAt,
-  DepthEndAt,
-  DepthJoinAt,
-  EnterAt,
-  ForkAt,
-  HeadAt,
-  Node,
-  PauseAt,
-  ResumeAt,
-  StartAt,
-  SurfaceEndAt,
-  SurfaceJoinAt,
-  TestAt,
-  Arguments,
-  are_instant,
-  is_instant,
-  nodes_in,
-  nodes_in_each,
-}
-use Rattle.bl_graph_nodes.specs.Plain.{
-  Again,
-  Block,
-  Bodies,
-  Body as BodyOf,
-  Cobegin,
-  Done,
-  Label,
-  Last,
-  Plain,
-  Repeat,
-  Then,
-  When,
-  While,
-  plain_body,
-}
+use Rattle.bl_graph_nodes.specs.Nodes.{ActAt, CheckAt, DepthEndAt, DepthJoinAt, EnterAt, ForkAt, HeadAt, Node, PauseAt, ResumeAt, StartAt, SurfaceEndAt}
+use Rattle.bl_graph_nodes.specs.Nodes.{SurfaceJoinAt, TestAt, Arguments, are_instant, is_instant, nodes_in, nodes_in_each}
+use Rattle.bl_graph_nodes.specs.Plain.{Again, Block, Bodies, Body as BodyOf, Cobegin, Done, Label, Last, Plain, Repeat, Then, When, While, plain_body}
 use Rattle.bl_graph_nodes.specs.Steps.{end_node, join_node, run_node}
 use Rattle.bl_ctree.specs.Control.{Body}
 use Rattle.bl_ctree.specs.Instances.{Setting}
 use Rattle.bl_ctree_laws.specs.Pending.{Deed}
 use Rattle.bl_ctree_laws.specs.Steps.{turn}
-use Rattle.bl_ctree_laws.specs.Trees.{
-  Tree,
-  Trees,
-  Nil,
-  Wait,
-  Test,
-  Idle,
-  Do,
-  Seq,
-  Par,
-  Guard,
-  Run,
-  all_woken,
-  trees_begun,
-  beside,
-  do_block,
-  no_tree,
-  seq,
-  woken,
-}
+use Rattle.bl_ctree_laws.specs.Trees.{Tree, Trees, Nil, Wait, Test, Idle, Do, Seq, Par, Guard, Run, all_woken, trees_begun, beside, do_block, no_tree, seq}
+use Rattle.bl_ctree_laws.specs.Trees.{woken}
 use Rattle.bl_machine.specs.Uses.{Slots}
 use Rattle.bl_machine_laws.specs.Numbers.Turns as turns
 use Rattle.bl_machine_laws.specs.Numbers.Turns.{AnsweredDeed, InstancePoint, OneTurns, Turns}
@@ -76,23 +24,13 @@ use Rattle.bl_machine_pass_laws.specs.Turns.Laws.{StaysPlaced, Turning, answer_o
 use Rattle.bl_machine_pass_laws.specs.Turns.Sits.{SitEach, Sits}
 use Rattle.bl_machine_pass_laws_turns.specs.Joins.Laws.{MarksBegin, TurnsKeepMarks}
 use Rattle.bl_machine_pass_laws_turns.specs.Joins.Stems.{Member, NodesAreDistinct, StemEach, Stems}
-use Rattle.bl_machine_pass_laws_turns.proofs.OnJoins.Lists.{
-  bodies_differ,
-  contained,
-  differ_apart,
-  differ_second,
-  itself,
-  left,
-  right,
-  rule_there,
-  sole_rule,
-}
+use Rattle.bl_machine_pass_laws_turns.proofs.OnJoins.Lists.{bodies_differ, contained, differ_apart, differ_second, itself, left, right, rule_there, sole_rule}
 use Rattle.bl_machine_pass_laws_turns.proofs.OnJoins.Ruling.{begins_marked, rule_keeps, tame_rule}
 use Rattle.bl_machine_pass_laws_turns.proofs.OnJoins.Stemming.{fork_alone, fork_differ, fork_inner, watch_alone, watch_inner}
 
 -- ---- trees in which nothing stands yet
 
-marked_block : (number : Node → ℕ) (marks : ℕ → Bool) (body : Block) → Marked number marks (do_block body)
+pub marked_block : (number : Node → ℕ) (marks : ℕ → Bool) (body : Block) → Marked number marks (do_block body)
 marked_block number marks Done = tt
 marked_block number marks (Then s Done) = tt
 marked_block number marks (Then s (Then t rest)) = tt

@@ -1,61 +1,23 @@
 -- Where a counter holds a number something of the tree rests there.
-use Rattle.std.proofs.Common.{
-  ◌≡◌,
-  ◌⊎◌,
-  inl,
-  inr,
-  ⊎_elim,
-  ℕ,
-  suc,
-  Bool,
-  true,
-  false,
-  if◌then◌else◌,
-  nat_eq,
-  refl,
-  sym,
-  ap,
-  ap₂,
-  subst,
-  ◌∙◌,
-  eq-eqb,
-  eqb-true,
-}
+use Rattle.std.proofs.Common.{◌≡◌, ◌⊎◌, inl, inr, ⊎_elim, ℕ, suc, Bool, true, false, if◌then◌else◌, nat_eq, refl, sym, ap, subst, ◌∙◌, eq-eqb, eqb-true}
+use Rattle.bl_tree.proofs.Basics.{true_false_any}
 use Rattle.bl_graph_nodes.specs.Nodes.{Node, entry, nodes_in}
 use Rattle.bl_graph_nodes.specs.Plain.{Block, Bodies, Body as BodyOf, Done, Label, Last, Then}
-use Rattle.bl_ctree_laws.specs.Trees.{
-  Tree,
-  Trees,
-  Nil,
-  Wait,
-  Test,
-  Idle,
-  Do,
-  Seq,
-  Par,
-  Guard,
-  Run,
-  beside,
-  is_nil,
-  no_tree,
-}
+use Rattle.bl_ctree_laws.specs.Trees.{Tree, Trees, Nil, Wait, Test, Idle, Do, Seq, Par, Guard, Run, beside, is_nil, no_tree}
 use Rattle.bl_machine.specs.declared.slots.Slot.{Slot}
 use Rattle.bl_machine.specs.Uses.{Slots, uses_in_branch}
 use Rattle.bl_machine_laws.specs.Numbers.Numbers.{At, Next, Over, Rests, at_next, numbers_in, numbers_of, value_at_counter}
-use Rattle.bl_machine_laws.proofs.OnWaiting.Fresh.{nil_is}
-use Rattle.bl_machine_laws.proofs.OnWaiting.Quiet.{differ}
 use Rattle.bl_machine_pass.specs.SlotLayout.{EndOf, RestOf, Spot, slot_at, spots_in, spots_in_each}
 use Rattle.bl_machine_pass.specs.Registers.{is_at}
 use Rattle.bl_machine_pass_laws_turns.specs.Joins.Stems.{Member, StemEach, Stems}
 use Rattle.bl_machine_pass_laws_turns.proofs.OnJoins.Lists.{right}
+use Rattle.bl_ctree_laws_traces.proofs.OnProgress.Leading.{is_the_nil}
+use Rattle.bl_machine_pass_laws.proofs.OnRooted.Resuming.{slot_is}
 
 -- ---- numbers
 
 abbrev slot_of : ℕ → ℕ → Slot
 slot_of counter value = record { counter = counter; value = value }
-
-pub slot_is : (a b : Slot) → a.counter ≡ b.counter → a.value ≡ b.value → a ≡ b
-slot_is a b e f = ap₂ slot_of e f
 
 -- where something is shown at a counter it is the number
 shown_is : (slot : Slot) (j v : ℕ) → (v ≡ 0 → ⊥) → value_at_counter slot j ≡ v → (slot.counter ≡ j) × (slot.value ≡ v)
@@ -192,7 +154,7 @@ pub end_tells : (slots : Slots) (R : Spot → Type 0) (P : Node → Type 0) (c :
 end_tells slots R P c end counters own counted held alone = by_end (is_nil c) refl
   where
     not_there : ((is_nil c ≡ true) × (value_at_counter end end.counter ≡ end.value)) ⊎ SpotIn slots c end.counter end.value → is_nil c ≡ false → ⊥
-    not_there (inl ended) e = differ (is_nil c) ended.0 e
+    not_there (inl ended) e = true_false_any (is_nil c) ended.0 e
     not_there (inr it) e = alone it.spot it.rests (slot_is (slot_at slots it.spot) end it.counter it.value)
 
     unended : (b : Bool) → is_at counters end ≡ b → is_nil c ≡ false → is_at counters end ≡ false
@@ -203,6 +165,6 @@ end_tells slots R P c end counters own counted held alone = by_end (is_nil c) re
 
     by_end : (b : Bool) → is_nil c ≡ b → is_at counters end ≡ is_nil c
     by_end true e =
-        eq-eqb (counters end.counter) end.value (held ∙ ap (λ (tree : Tree). numbers_of slots tree (Rests end) end.counter) (nil_is c e) ∙ shown_there end)
+        eq-eqb (counters end.counter) end.value (held ∙ ap (λ (tree : Tree). numbers_of slots tree (Rests end) end.counter) (is_the_nil c e) ∙ shown_there end)
         ∙ sym e
     by_end false e = unended (is_at counters end) refl e ∙ sym e

@@ -1,103 +1,20 @@
 -- What the rules of a body mark.
-use Rattle.std.proofs.Common.{
-  ◌≡◌,
-  inl,
-  inr,
-  ℕ,
-  suc,
-  Bool,
-  true,
-  false,
-  List,
-  [],
-  ◌∷◌,
-  ◌++◌,
-  map,
-  if◌then◌else◌,
-  nat_eq,
-  refl,
-  sym,
-  ap,
-  subst,
-  ◌∙◌,
-  eq-eqb,
-  eqb-true,
-}
+use Rattle.std.proofs.Common.{◌≡◌, inl, inr, ℕ, suc, Bool, true, false, List, [], ◌∷◌, ◌++◌, map, if◌then◌else◌, nat_eq, refl, sym, ap, subst, ◌∙◌, eq-eqb}
 use Rattle.std.specs.Prelude.{Contains, ⊤}
+use Rattle.bl_tree.proofs.Basics.{numbers_differ}
 use Rattle.bl_tree.specs.declared.place.Place.{Place}
 use Rattle.bl_tree.specs.declared.tree.Expr.{Expr}
 use Rattle.bl_tree.specs.declared.tree.Guard.{Guard}
 use Rattle.bl_tree.specs.declared.tree.Guard.TheVariants.{Abort, Reset}
-use Rattle.bl_graph_nodes.specs.Nodes.{
-  ActAt,
-  CheckAt,
-  DepthEndAt,
-  DepthJoinAt,
-  ForkAt,
-  HeadAt,
-  Node,
-  ResumeAt,
-  StartAt,
-  SurfaceEndAt,
-  SurfaceJoinAt,
-  TestAt,
-  are_instant,
-  arguments_of,
-  is_instant,
-}
-use Rattle.bl_graph_nodes.specs.Plain.{
-  Act,
-  Again,
-  Await,
-  Block,
-  Bodies,
-  Body as BodyOf,
-  Cobegin,
-  Done,
-  If,
-  Label,
-  Last,
-  Plain,
-  Repeat,
-  Run as RunOf,
-  Then,
-  Until,
-  When,
-  While,
-}
+use Rattle.bl_graph_nodes.specs.Nodes.{ActAt, CheckAt, DepthEndAt, DepthJoinAt, ForkAt, HeadAt, Node, ResumeAt, StartAt, SurfaceEndAt, SurfaceJoinAt, TestAt}
+use Rattle.bl_graph_nodes.specs.Nodes.{are_instant, arguments_of, is_instant}
+use Rattle.bl_graph_nodes.specs.Plain.{Act, Again, Await, Block, Bodies, Body as BodyOf, Cobegin, Done, If, Label, Last, Plain, Repeat, Run as RunOf, Then}
+use Rattle.bl_graph_nodes.specs.Plain.{Until, When, While}
 use Rattle.bl_machine.specs.Uses.{Slots}
 use Rattle.bl_machine_pass.specs.Registers.{Registers, after_rule, all_changed, changed, with_flag}
-use Rattle.bl_machine_pass.specs.Transitions.{
-  Age,
-  Change,
-  ClearsBoth,
-  ClearsCounter,
-  EndsWhen,
-  Finishes,
-  IsNew,
-  RestedIn,
-  SetsCounter,
-  SetsFlag,
-  SetsMark,
-  Transition,
-  age_of,
-  body_ends,
-  counters_in,
-  counters_in_each,
-  enter,
-  enter_each,
-  fires,
-  flagged,
-  joins,
-  marked,
-  once,
-  rests_in,
-  rule_where,
-  rules,
-  rules_in,
-  rules_in_each,
-  rules_of,
-}
+use Rattle.bl_machine_pass.specs.Transitions.{Age, Change, ClearsBoth, ClearsCounter, EndsWhen, Finishes, IsNew, RestedIn, SetsCounter, SetsFlag, SetsMark}
+use Rattle.bl_machine_pass.specs.Transitions.{Transition, age_of, body_ends, counters_in, counters_in_each, enter, enter_each, fires, flagged, joins, marked}
+use Rattle.bl_machine_pass.specs.Transitions.{once, rests_in, rule_where, rules, rules_in, rules_in_each, rules_of}
 use Rattle.bl_machine_pass_laws_turns.specs.Joins.Stems.{Member}
 use Rattle.bl_machine_pass_laws_turns.proofs.OnJoins.Lists.{member}
 
@@ -298,13 +215,6 @@ tame_rule slots body rule there = tame_one (rules slots body) rule (tame_in slot
 
 -- ---- marks
 
-unequal : (j k : ℕ) → (j ≡ k → ⊥) → nat_eq j k ≡ false
-unequal j k apart = by_test (nat_eq j k) refl
-  where
-    by_test : (b : Bool) → nat_eq j k ≡ b → nat_eq j k ≡ false
-    by_test true e = absurd (apart (eqb-true j k e))
-    by_test false e = e
-
 either_flag : (b : Bool) (j k m : ℕ) (r : Registers) → (if b then with_flag j r else with_flag k r).marks m ≡ r.marks m
 either_flag true j k m r = refl
 either_flag false j k m r = refl
@@ -316,7 +226,7 @@ change_keeps number n (SetsCounter slot) r k at apart = refl
 change_keeps number n (ClearsCounter j) r k at apart = refl
 change_keeps number n (ClearsBoth j) r k at apart = refl
 change_keeps number n (SetsMark m) r k at apart =
-    ap (λ (b : Bool). if b then true else r.marks k) (unequal k (number m) (λ e. apart (e ∙ ap number at)))
+    ap (λ (b : Bool). if b then true else r.marks k) (numbers_differ k (number m) (λ e. apart (e ∙ ap number at)))
 change_keeps number n (EndsWhen start surface depth) r k at apart =
     either_flag (r.marks (number start)) (number surface) (number depth) k r
 change_keeps number n Finishes r k at apart = refl

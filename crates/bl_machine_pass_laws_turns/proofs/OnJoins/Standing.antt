@@ -1,99 +1,23 @@
 -- A `cobegin` that stands in a tree, and what is known of it there.
-use Rattle.std.proofs.Common.{
-  ◌≡◌,
-  ◌⊎◌,
-  inl,
-  inr,
-  ⊎_elim,
-  ℕ,
-  suc,
-  Bool,
-  true,
-  false,
-  not,
-  ◌||◌,
-  if◌then◌else◌,
-  List,
-  Option,
-  Some,
-  None,
-  refl,
-  sym,
-  ap,
-  subst,
-  ◌∙◌,
-}
+use Rattle.std.proofs.Common.{◌≡◌, ◌⊎◌, inl, inr, ⊎_elim, ℕ, suc, Bool, true, false, not, ◌||◌, if◌then◌else◌, List, Option, Some, None, refl, sym, ap, subst}
+use Rattle.std.proofs.Common.{◌∙◌}
 use Rattle.std.specs.Prelude.{Contains, ⊤}
+use Rattle.std.proofs.lemmas.Bool.{or_left, or_right}
+use Rattle.bl_tree.proofs.Basics.{true_false_any as differ}
 use Rattle.bl_tree.specs.declared.place.Place.{Place as Source}
-use Rattle.bl_graph_nodes.specs.Nodes.{
-  ActAt,
-  CheckAt,
-  DepthEndAt,
-  DepthJoinAt,
-  EnterAt,
-  ForkAt,
-  HeadAt,
-  Node,
-  PauseAt,
-  ResumeAt,
-  StartAt,
-  SurfaceEndAt,
-  SurfaceJoinAt,
-  TestAt,
-  Arguments,
-  entry,
-  is_instant,
-  nodes_in,
-  nodes_in_each,
-  nodes_of,
-}
-use Rattle.bl_graph_nodes.specs.Plain.{
-  Act,
-  Again,
-  Await,
-  Block,
-  Bodies,
-  Body as BodyOf,
-  Cobegin,
-  Done,
-  If,
-  Label,
-  Last,
-  Plain,
-  Repeat,
-  Run as RunOf,
-  Then,
-  Until,
-  When,
-  While,
-}
+use Rattle.bl_graph_nodes.specs.Nodes.{ActAt, CheckAt, DepthEndAt, DepthJoinAt, EnterAt, ForkAt, HeadAt, Node, PauseAt, ResumeAt, StartAt, SurfaceEndAt}
+use Rattle.bl_graph_nodes.specs.Nodes.{SurfaceJoinAt, TestAt, Arguments, entry, is_instant, nodes_in, nodes_in_each, nodes_of}
+use Rattle.bl_graph_nodes.specs.Plain.{Act, Again, Await, Block, Bodies, Body as BodyOf, Cobegin, Done, If, Label, Last, Plain, Repeat, Run as RunOf, Then}
+use Rattle.bl_graph_nodes.specs.Plain.{Until, When, While}
 use Rattle.bl_graph_nodes.specs.Steps.{end_node, join_node, run_node}
 use Rattle.bl_ctree.specs.Control.{Body, Check, Phase}
 use Rattle.bl_ctree.specs.Instances.{Setting}
-use Rattle.bl_ctree_laws.specs.Trees.{
-  Fork,
-  Tree,
-  Trees,
-  Watch,
-  Nil,
-  Wait,
-  Test,
-  Idle,
-  Do,
-  Seq,
-  Par,
-  Guard,
-  Run,
-  are_done,
-  beside,
-  no_tree,
-}
+use Rattle.bl_ctree_laws.specs.Trees.{Fork, Tree, Trees, Watch, Nil, Wait, Test, Idle, Do, Seq, Par, Guard, Run, are_done, beside, no_tree}
 use Rattle.bl_ctree_laws_traces.specs.Progress.FitsGraph.{AllFitGraph, FitsGraph, fork_stmt}
 use Rattle.bl_ctree_laws_traces.specs.Progress.Places.{Place, ahead_of, guarded, in_branch, later_on}
 use Rattle.bl_machine.specs.Uses.{Slots, uses, uses_in, uses_in_branch, uses_in_each}
 use Rattle.bl_machine_laws.specs.Numbers.Numbers.{At, Next, Over, Rests, numbers_in, numbers_of}
 use Rattle.bl_machine_laws.specs.Numbers.Waiting.{Is, SomeWaits, Waits, first_in}
-use Rattle.bl_machine_laws.proofs.OnWaiting.Quiet.{differ, done_ends}
 use Rattle.bl_machine_pass.specs.SlotLayout.{BranchesRestAt, EndOf, RestOf, Spot, spots_of}
 use Rattle.bl_machine_pass.specs.Transitions.{Change, SetsCounter, Transition, body_ends, enter, rules_of}
 use Rattle.bl_machine_pass_laws.specs.Turns.Invariant.{MarkEach, Marked}
@@ -102,6 +26,7 @@ use Rattle.bl_machine_pass_laws_turns.specs.Joins.Stems.{Member, NodesAreDistinc
 use Rattle.bl_machine_pass_laws_turns.proofs.OnJoins.Lists.{left, right}
 use Rattle.bl_machine_pass_laws_turns.proofs.OnJoins.Resting.{RestsAt, RestsEach}
 use Rattle.bl_machine_pass_laws_turns.proofs.OnJoins.Stemming.{fork_inner, watch_inner}
+use Rattle.bl_ctree_laws.proofs.Less.{done_join}
 
 mutual
   -- Stands s stood branches c: the `cobegin` with these branches stands in the tree
@@ -281,7 +206,7 @@ MayEnd s stood branches = are_done branches ≡ true → stood ≡ false → is_
 mutual
   pub live_fork : {s : Fork} {stood : Bool} {branches : Trees} {c : Tree} (w : Setting) (i : ℕ) (g : Place) → Stands s stood branches c →
       FitsGraph w i c g → MayEnd s stood branches
-  live_fork {branches = branches} w i g found live = λ done. (live.1.joins (done_ends branches done)).0
+  live_fork {branches = branches} w i g found live = λ done. (live.1.joins (done_join branches done)).0
   live_fork w i g (in_seq {rest = Done} there) live = absurd live
   live_fork w i g (in_seq {rest = Then t rest} there) live = live_fork w i (ahead_of (entry t) g) there live.0
   live_fork w i g (in_par {outer = outer} {old = old} there) live = live_in w i g old outer.bodies there live.0
@@ -296,13 +221,6 @@ mutual
   live_in w i g old (BodyOf weak body rest) (later there) live = live_in w i g old rest there live.2
 
 -- ---- its numbers
-
-pub or_first : (a b : Bool) → a ≡ true → (a || b) ≡ true
-or_first a b e = ap (λ x. x || b) e
-
-pub or_last : (a b : Bool) → b ≡ true → (a || b) ≡ true
-or_last true b e = refl
-or_last false b e = e
 
 mutual
   -- what it uses is used where it stands
@@ -322,10 +240,10 @@ mutual
   used_in slots R l k Last j (first there) own only e = absurd own
   used_in slots R l k Last j (later there) own only e = absurd own
   used_in slots R l k (BodyOf weak body rest) j (first there) own only e =
-      or_first (uses_in_branch slots l k body j) (uses_in_each slots l (suc k) rest j)
+      or_left (uses_in_branch slots l k body j) (uses_in_each slots l (suc k) rest j)
       (used_fork slots R (Member (nodes_in body)) (uses_in_branch slots l k body) j there own.0 only.0 e)
   used_in slots R l k (BodyOf weak body rest) j (later there) own only e =
-      or_last (uses_in_branch slots l k body j) (uses_in_each slots l (suc k) rest j) (used_in slots R l (suc k) rest j there own.1 only.1 e)
+      or_right (uses_in_branch slots l k body j) (uses_in_each slots l (suc k) rest j) (used_in slots R l (suc k) rest j there own.1 only.1 e)
 
 -- a counter of a later branch isn't one of an earlier branch
 not_earlier : (slots : Slots) (l : Label) (k : ℕ) (body : Block) (rest : Bodies) (j : ℕ) →

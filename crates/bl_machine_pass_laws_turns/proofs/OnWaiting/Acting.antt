@@ -1,53 +1,15 @@
 -- What a turn does to what waits: the rule of its node, what it makes wait, what goes on waiting, and which counters it forgets.
-use Rattle.std.proofs.Common.{
-  ◌≡◌,
-  ◌⊎◌,
-  inl,
-  inr,
-  ⊎_elim,
-  ℕ,
-  suc,
-  Bool,
-  true,
-  false,
-  not,
-  if◌then◌else◌,
-  List,
-  [],
-  ◌∷◌,
-  ◌++◌,
-  map,
-  Option,
-  Some,
-  None,
-  refl,
-  sym,
-  ap,
-  subst,
-  ◌∙◌,
-}
+use Rattle.std.proofs.Common.{◌≡◌, ◌⊎◌, inl, inr, ⊎_elim, ℕ, suc, Bool, true, false, not, if◌then◌else◌, List, [], ◌∷◌, ◌++◌, map, Option, Some, None, refl}
+use Rattle.std.proofs.Common.{sym, ap, subst, ◌∙◌}
 use Rattle.std.specs.Prelude.{Contains}
+use Rattle.std.proofs.lemmas.Bool.{or_left, or_right}
+use Rattle.bl_tree.proofs.Basics.{contains_first, contains_further, contains_none, first_or_further, true_false_any}
 use Rattle.bl_tree.specs.declared.place.Place.{Place as Source}
 use Rattle.bl_tree.specs.declared.tree.Expr.{Expr}
-use Rattle.bl_graph_nodes.specs.Nodes.{
-  ActAt,
-  DepthEndAt,
-  EnterAt,
-  ForkAt,
-  HeadAt,
-  Node,
-  PauseAt,
-  StartAt,
-  SurfaceEndAt,
-  TestAt,
-  are_instant,
-  arguments_of,
-  entry,
-  is_instant,
-}
+use Rattle.bl_graph_nodes.specs.Nodes.{ActAt, DepthEndAt, EnterAt, ForkAt, HeadAt, Node, PauseAt, StartAt, SurfaceEndAt, TestAt, are_instant, arguments_of}
+use Rattle.bl_graph_nodes.specs.Nodes.{entry, is_instant}
 use Rattle.bl_graph_nodes.specs.Plain.{Again, Block, Bodies, Body as BodyOf, Cobegin, Done, Label, Last, Repeat, Then, While, is_empty}
 use Rattle.bl_graph_nodes.specs.Steps.{end_node, run_node}
-use Rattle.bl_cause.proofs.ListLemmas.{contains_cons, contains_head, contains_none, contains_tail}
 use Rattle.bl_ctree.specs.Control.{Body, Check}
 use Rattle.bl_ctree.specs.Instances.{Setting}
 use Rattle.bl_ctree_laws.specs.Pending.{Deed, may_end}
@@ -62,81 +24,28 @@ use Rattle.bl_machine_laws.specs.Numbers.Steps.{TurnsAreWalks, TurnsWait}
 use Rattle.bl_machine_laws.specs.Numbers.Turns as turns
 use Rattle.bl_machine_laws.specs.Numbers.Turns.{AnsweredDeed, InstancePoint, OneTurns, Turns}
 use Rattle.bl_machine_laws.specs.Numbers.Waiting.{Is, Sleeps, SomeSleeps, SomeWaits, Waits, check_of, first_in}
-use Rattle.bl_machine_laws.proofs.OnWaiting.Fresh.{ends_walk, nil_is}
-use Rattle.bl_machine_laws.proofs.OnWaiting.Quiet.{differ, done_ends}
+use Rattle.bl_machine_laws.proofs.OnWaiting.Fresh.{ends_walk}
 use Rattle.bl_machine_pass.specs.SlotLayout.{BranchesRestAt}
 use Rattle.bl_machine_pass.specs.Registers.{with_at}
-use Rattle.bl_machine_pass.specs.Transitions.{
-  Change,
-  ClearsBoth,
-  EndsWhen,
-  Flagged,
-  SetsCounter,
-  SetsFlag,
-  Transition,
-  body_ends,
-  counters_in,
-  counters_in_each,
-  enter,
-  enter_each,
-  fires,
-  flagged,
-  marked,
-  once,
-  rules_in,
-  rules_of,
-}
+use Rattle.bl_machine_pass.specs.Transitions.{Change, ClearsBoth, EndsWhen, Flagged, SetsCounter, SetsFlag, Transition, body_ends, counters_in}
+use Rattle.bl_machine_pass.specs.Transitions.{counters_in_each, enter, enter_each, fires, flagged, marked, once, rules_in, rules_of}
 use Rattle.bl_machine_pass_laws.specs.Turns.Dozes.{AllDoze, Dozes}
 use Rattle.bl_machine_pass_laws.specs.Turns.Invariant.{IsResume, MarkEach, Marked}
 use Rattle.bl_machine_pass_laws.specs.Turns.Laws.{answer_of, one_answer_of}
 use Rattle.bl_machine_pass_laws.specs.Turns.Sits.{Lies, LieEach, SitEach, Sits, UseEach, UsesOnly}
-use Rattle.bl_machine_pass_laws_turns.proofs.OnWaiting.Changes.{
-  AllForget,
-  Forgetless,
-  IsNext,
-  Sets,
-  SetsAs,
-  all_freed_forgetless,
-  flagged_by,
-  here_is,
-  one_forgetless,
-  sets_all_forgotten,
-  sets_all_freed,
-  sets_none,
-  sets_one,
-  taken,
-}
-use Rattle.bl_machine_pass_laws_turns.proofs.OnWaiting.Lists.{from_once, into_once, or_first, or_second}
+use Rattle.bl_machine_pass_laws_turns.proofs.OnWaiting.Changes.{AllForget, Forgetless, IsNext, Sets, SetsAs, all_freed_forgetless, flagged_by, here_is}
+use Rattle.bl_machine_pass_laws_turns.proofs.OnWaiting.Changes.{one_forgetless, sets_all_forgotten, sets_all_freed, sets_none, sets_one, taken}
+use Rattle.bl_machine_pass_laws_turns.proofs.OnWaiting.Lists.{from_once, into_once}
 use Rattle.bl_machine_pass_laws_turns.proofs.OnWaiting.Rules.{AsksFor, IsJoinNode, RuleAt, counters_used_in, used_counters_in}
-use Rattle.bl_machine_pass_laws_turns.proofs.OnWaiting.Sleeping.{
-  asleep,
-  asleep_each,
-  check_rule,
-  check_there,
-  end_rule,
-  end_there,
-  join_is_join,
-  join_rule,
-  join_there,
-  resume_rule,
-  resume_there,
-  test_rule,
-  test_there,
-}
-use Rattle.bl_machine_pass_laws_turns.proofs.OnWaiting.Trees.{
-  begun_awake,
-  block_awake,
-  block_nil,
-  block_waits,
-  branches_quiet,
-  empty_instant,
-  seq_sleeps,
-  seq_waits,
-  turn_first,
-  unended_waits,
-  waits_block,
-  waits_seq,
-}
+use Rattle.bl_machine_pass_laws_turns.proofs.OnWaiting.Sleeping.{asleep, asleep_each, check_rule, check_there, end_rule, end_there, join_is_join, join_rule}
+use Rattle.bl_machine_pass_laws_turns.proofs.OnWaiting.Sleeping.{join_there, resume_rule, resume_there, test_rule, test_there}
+use Rattle.bl_machine_pass_laws_turns.proofs.OnWaiting.Trees.{branches_quiet}
+use Rattle.bl_machine_pass_laws_turns.proofs.OnWaiting.Trees.{turn_first, unended_waits, waits_block, waits_seq}
+use Rattle.bl_ctree_laws_traces.proofs.OnProgress.Leading.{is_the_nil}
+use Rattle.bl_ctree_laws.proofs.Less.{done_join}
+use Rattle.bl_ctree_laws_traces.proofs.OnBounded.Stepping.{empty_instant}
+use Rattle.bl_machine_laws.proofs.OnNumbers.Sleeping.{begun_awake, block_awake, seq_sleeps}
+use Rattle.bl_machine_laws.proofs.OnWaiting.Fresh.{block_nil, block_waits, seq_waits}
 
 -- ---- what a turn does
 
@@ -270,7 +179,7 @@ ends_agree number marks l at body stood instant marked = by_instant (are_instant
 
     depth : (b : Bool) → (b ≡ false → are_instant body ≡ true) → are_instant body ≡ false → Some (DepthEndAt l at) ≡ Some (end_node b l at)
     depth true so e = refl
-    depth false so e = differ (are_instant body) (so refl) e
+    depth false so e = true_false_any (are_instant body) (so refl) e
 
     by_instant : (b : Bool) → are_instant body ≡ b →
         flagged_by number marks (if b then EndsWhen (StartAt l at) (SurfaceEndAt l at) (DepthEndAt l at) else SetsFlag (DepthEndAt l at))
@@ -301,7 +210,7 @@ start_sets number marks l at body = by_instant (are_instant body) refl
     by_instant false e =
         sets_one number marks (enter body (SetsFlag (DepthEndAt l at))) (first_in body (Some (SurfaceEndAt l at)))
         (enter_agrees number marks body (SetsFlag (DepthEndAt l at)) (Some (SurfaceEndAt l at))
-        (λ empty. differ (are_instant body) (empty_instant body empty) e))
+        (λ empty. true_false_any (are_instant body) (empty_instant body empty) e))
 
 marked_forgetless : (b : Bool) (n : Node) (changes : List Change) → Forgetless changes → Forgetless (marked b n changes)
 marked_forgetless true n changes none j (inl is) = is
@@ -347,12 +256,12 @@ fork_forgetless slots l k (BodyOf weak (Then s after) rest) j (inr is) = fork_fo
 forgotten_there : (ks : List ℕ) (changes : List Change) (j : ℕ) → Contains ks j → AllForget (map ClearsBoth ks ++ changes) j
 forgotten_there [] changes j h = absurd (contains_none j h)
 forgotten_there (k ∷ ks) changes j h =
-    ⊎_elim (λ (is : k ≡ j). inl (sym is)) (λ (later : Contains ks j). inr (forgotten_there ks changes j later)) (contains_cons k ks j h)
+    ⊎_elim (λ (is : k ≡ j). inl (sym is)) (λ (later : Contains ks j). inr (forgotten_there ks changes j later)) (first_or_further k ks j h)
 
 forgotten_from : (ks : List ℕ) (changes : List Change) (j : ℕ) → Forgetless changes → AllForget (map ClearsBoth ks ++ changes) j → Contains ks j
 forgotten_from [] changes j none h = absurd (none j h)
-forgotten_from (k ∷ ks) changes j none (inl is) = subst (λ z. Contains (z ∷ ks) j) is (contains_head j ks)
-forgotten_from (k ∷ ks) changes j none (inr h) = contains_tail k ks j (forgotten_from ks changes j none h)
+forgotten_from (k ∷ ks) changes j none (inl is) = subst (λ z. Contains (z ∷ ks) j) is (contains_first j ks)
+forgotten_from (k ∷ ks) changes j none (inr h) = contains_further k ks j (forgotten_from ks changes j none h)
 
 -- ---- points
 
@@ -425,7 +334,7 @@ forks_acted : (slots : Slots) (all : List Transition) (number : Node → ℕ) (m
     (Sleeps (Par (fork l at bodies) false (trees_begun bodies)))
 forks_acted slots all number marks used next nx l at bodies sits = record {
   rule = flagged (ForkAt l at) (marked (is_instant (Cobegin l at bodies)) (ForkAt l at) (enter_each slots l 0 bodies));
-  there = sits _ (contains_head _ _);
+  there = sits _ (contains_first _ _);
   of_node = refl;
   comes = λ y h.
       ⊎_elim (λ branch. is_set (sets_marked number marks slots l bodies (is_instant (Cobegin l at bodies)) (ForkAt l at) y branch))
@@ -444,9 +353,9 @@ until_rule l at e next = record { node = TestAt l at e; condition = Flagged; on_
 until_there : (slots : Slots) (l : Label) (at : Source) (body : Block) (e : Expr) (next : Change) →
     Contains (rules_of slots (Again l at body e) next) (until_rule l at e next)
 until_there slots l at body e next =
-    contains_tail (flagged (HeadAt l at) (enter body (SetsFlag (TestAt l at e)) ∷ []))
+    contains_further (flagged (HeadAt l at) (enter body (SetsFlag (TestAt l at e)) ∷ []))
     (until_rule l at e next ∷ rules_in slots body (SetsFlag (TestAt l at e))) (until_rule l at e next)
-    (contains_head (until_rule l at e next) (rules_in slots body (SetsFlag (TestAt l at e))))
+    (contains_first (until_rule l at e next) (rules_in slots body (SetsFlag (TestAt l at e))))
 
 module _ {w : Setting} (slots : Slots) (all : List Transition) (number : Node → ℕ) (marks : ℕ → Bool) where
   point_acted : {i : ℕ} {c : Tree} {d : Bool} {a : Deed} {n : Node} {c' : Tree} (g : Place) (next : Change) (nx : Option Node) (used : ℕ → Bool) →
@@ -454,27 +363,27 @@ module _ {w : Setting} (slots : Slots) (all : List Transition) (number : Node �
       (is_nil c' ≡ true → flagged_by number marks next ≡ nx) → InstancePoint w i c d a n c' →
       Acted all number marks used n d (Waits c nx) (Waits c' nx) (Sleeps c')
   point_acted g next nx used live sits uses ages dozes is_next agree (turns.acts {l = l} {s = s}) =
-      simple (flagged (ActAt l s) (next ∷ [])) (sits (flagged (ActAt l s) (next ∷ [])) (contains_head (flagged (ActAt l s) (next ∷ [])) [])) refl nx
+      simple (flagged (ActAt l s) (next ∷ [])) (sits (flagged (ActAt l s) (next ∷ [])) (contains_first (flagged (ActAt l s) (next ∷ [])) [])) refl nx
       (sets_one number marks next nx (agree refl))
       (one_forgetless next is_next) (λ y h. h) (λ y h. h) (λ y h. h) (λ y h. h)
   point_acted g next nx used live sits uses ages dozes is_next agree (turns.takes {l = l} {at = at} {e = e} {body = body} {other = other}) =
       simple (record { node = TestAt l at e; condition = Flagged; on_true = enter body next ∷ []; on_false = enter other next ∷ [] })
-      (sits _ (contains_head _ _)) refl (first_in body nx)
+      (sits _ (contains_first _ _)) refl (first_in body nx)
       (sets_one number marks (enter body next) (first_in body nx) (enter_agrees number marks body next nx (λ empty. agree (block_nil body ∙ empty))))
       (one_forgetless (enter body next) (enter_next body next is_next)) (λ y h. h) (λ y h. block_waits body nx y h) (λ y h. waits_block body nx y h)
       (λ y h. block_awake body y h)
   point_acted g next nx used live sits uses ages dozes is_next agree (turns.passes {l = l} {at = at} {e = e} {body = body} {other = other}) =
       simple (record { node = TestAt l at e; condition = Flagged; on_true = enter body next ∷ []; on_false = enter other next ∷ [] })
-      (sits _ (contains_head _ _)) refl (first_in other nx)
+      (sits _ (contains_first _ _)) refl (first_in other nx)
       (sets_one number marks (enter other next) (first_in other nx) (enter_agrees number marks other next nx (λ empty. agree (block_nil other ∙ empty))))
       (one_forgetless (enter other next) (enter_next other next is_next)) (λ y h. h) (λ y h. block_waits other nx y h) (λ y h. waits_block other nx y h)
       (λ y h. block_awake other y h)
   point_acted g next nx used live sits uses ages dozes is_next agree (turns.pauses {l = l} {at = at} {e = e}) =
-      simple (flagged (PauseAt l at) (SetsCounter (slots.rest l) ∷ [])) (sits _ (contains_head _ (test_rule slots (pause l at e) next ∷ []))) refl None
+      simple (flagged (PauseAt l at) (SetsCounter (slots.rest l) ∷ [])) (sits _ (contains_first _ (test_rule slots (pause l at e) next ∷ []))) refl None
       (sets_one number marks (SetsCounter (slots.rest l)) None refl) (one_forgetless (SetsCounter (slots.rest l)) tt)
       (λ y h. h) (λ y h. h) (λ y h. h) (λ y h. h)
   point_acted g next nx used live sits uses ages dozes is_next agree (turns.repeats {l = l} {at = at} {body = body}) =
-      simple (flagged (HeadAt l at) (enter body (SetsFlag (HeadAt l at)) ∷ [])) (sits _ (contains_head _ _)) refl
+      simple (flagged (HeadAt l at) (enter body (SetsFlag (HeadAt l at)) ∷ [])) (sits _ (contains_first _ _)) refl
       (first_in (turn body (Repeat l at body)) nx)
       (sets_one number marks (enter body (SetsFlag (HeadAt l at))) (first_in (turn body (Repeat l at body)) nx)
       (enter_agrees number marks body (SetsFlag (HeadAt l at)) (Some (HeadAt l at)) (λ empty. refl) ∙ turn_first body (Repeat l at body) nx))
@@ -483,7 +392,7 @@ module _ {w : Setting} (slots : Slots) (all : List Transition) (number : Node �
       (λ y h. block_awake (turn body (Repeat l at body)) y h)
   point_acted g next nx used live sits uses ages dozes is_next agree (turns.repeats_until {l = l} {at = at} {body = body} {e = e}) =
       simple (flagged (HeadAt l at) (enter body (SetsFlag (TestAt l at e)) ∷ []))
-      (sits _ (contains_head _ (until_rule l at e next ∷ rules_in slots body (SetsFlag (TestAt l at e))))) refl
+      (sits _ (contains_first _ (until_rule l at e next ∷ rules_in slots body (SetsFlag (TestAt l at e))))) refl
       (first_in (turn body (Again l at body e)) nx)
       (sets_one number marks (enter body (SetsFlag (TestAt l at e))) (first_in (turn body (Again l at body e)) nx)
       (enter_agrees number marks body (SetsFlag (TestAt l at e)) (Some (TestAt l at e)) (λ empty. refl) ∙ turn_first body (Again l at body e) nx))
@@ -500,7 +409,7 @@ module _ {w : Setting} (slots : Slots) (all : List Transition) (number : Node �
       (one_forgetless (SetsFlag (HeadAt l at)) tt) (λ y h. h) (λ y h. h) (λ y h. h) (λ y h. h)
   point_acted g next nx used live sits uses ages dozes is_next agree (turns.enters {l = l} {at = at} {e = e} {body = body}) =
       simple (record { node = TestAt l at e; condition = Flagged; on_true = enter body (SetsFlag (TestAt l at e)) ∷ []; on_false = next ∷ [] })
-      (sits _ (contains_head _ _)) refl (first_in (turn body (While l at e body)) nx)
+      (sits _ (contains_first _ _)) refl (first_in (turn body (While l at e body)) nx)
       (sets_one number marks (enter body (SetsFlag (TestAt l at e))) (first_in (turn body (While l at e body)) nx)
       (enter_agrees number marks body (SetsFlag (TestAt l at e)) (Some (TestAt l at e)) (λ empty. refl) ∙ turn_first body (While l at e body) nx))
       (one_forgetless (enter body (SetsFlag (TestAt l at e))) (enter_next body (SetsFlag (TestAt l at e)) tt)) (λ y h. h)
@@ -508,12 +417,12 @@ module _ {w : Setting} (slots : Slots) (all : List Transition) (number : Node �
       (λ y h. block_awake (turn body (While l at e body)) y h)
   point_acted g next nx used live sits uses ages dozes is_next agree (turns.skips {l = l} {at = at} {e = e} {body = body}) =
       simple (record { node = TestAt l at e; condition = Flagged; on_true = enter body (SetsFlag (TestAt l at e)) ∷ []; on_false = next ∷ [] })
-      (sits _ (contains_head _ _)) refl nx (sets_one number marks next nx (agree refl)) (one_forgetless next is_next)
+      (sits _ (contains_first _ _)) refl nx (sets_one number marks next nx (agree refl)) (one_forgetless next is_next)
       (λ y h. h) (λ y h. h) (λ y h. h) (λ y h. h)
   point_acted g next nx used live sits uses ages dozes is_next agree (turns.forks {l = l} {at = at} {bodies = bodies}) =
       forks_acted slots all number marks used next nx l at bodies sits
   point_acted g next nx used live sits uses ages dozes is_next agree (turns.guards {l = l} {at = at} {guard = guard} {e = e} {body = body}) =
-      simple (flagged (StartAt l at) (marked (are_instant body) (StartAt l at) (enter body (body_ends l at body) ∷ []))) (sits _ (contains_head _ _)) refl
+      simple (flagged (StartAt l at) (marked (are_instant body) (StartAt l at) (enter body (body_ends l at body) ∷ []))) (sits _ (contains_first _ _)) refl
       (first_in body (Some (SurfaceEndAt l at))) (start_sets number marks l at body)
       (marked_forgetless (are_instant body) (StartAt l at) (enter body (body_ends l at body) ∷ [])
       (one_forgetless (enter body (body_ends l at body)) (enter_next body (body_ends l at body) (ends_next l at body)))) (λ y h. h)
@@ -544,7 +453,7 @@ module _ {w : Setting} (slots : Slots) (all : List Transition) (number : Node �
       simple (end_rule stood s next) (sits.0 (end_rule stood s next) (end_there slots stood s next (live.1.closes refl).0)) refl nx
       (sets_one number marks next nx (agree refl)) (one_forgetless next is_next) (λ y h. h) (λ y h. h) (λ y h. h) (λ y h. h)
   point_acted {i} g next nx used live sits uses ages dozes is_next agree (turns.joins {s = s} {stood = stood} {branches = branches} settled done) =
-      simple (join_rule slots stood s next) (sits.0 (join_rule slots stood s next) (join_there slots stood s next (live.1.joins (done_ends branches done)).0))
+      simple (join_rule slots stood s next) (sits.0 (join_rule slots stood s next) (join_there slots stood s next (live.1.joins (done_join branches done)).0))
       refl nx
       (sets_all_freed number marks (once (counters_in_each slots s.label 0 s.bodies)) (next ∷ []) nx (sets_one number marks next nx (agree refl)))
       (all_freed_forgetless (once (counters_in_each slots s.label 0 s.bodies)) (next ∷ []) (one_forgetless next is_next))
@@ -556,7 +465,7 @@ module _ {w : Setting} (slots : Slots) (all : List Transition) (number : Node �
 module _ {w : Setting} (slots : Slots) (all : List Transition) (number : Node → ℕ) (marks : ℕ → Bool) (rank : ℕ → Node → ℕ) (paces : Paces w)
     (shrinks : EndsShrink) (lists : TurnsAreWalks) (waiting : TurnsWait) where
   ends_before : {i : ℕ} {c : Tree} {done : List AnsweredDeed} {n : Node} {c' : Tree} → Turns w rank i c done n c' → is_nil c' ≡ true → may_end c ≡ true
-  ends_before {i} {c} {done} {n} {c'} t e = ends_walk rank paces shrinks lists waiting (lists.turns w rank i c done n c' t) (ap may_end (nil_is c' e))
+  ends_before {i} {c} {done} {n} {c'} t e = ends_walk rank paces shrinks lists waiting (lists.turns w rank i c done n c' t) (ap may_end (is_the_nil c' e))
 
   mutual
     pub turn_acted : {i : ℕ} {c : Tree} {done : List AnsweredDeed} {n : Node} {c' : Tree} (g : Place) (next : Change) (nx : Option Node) (used : ℕ → Bool)
@@ -569,7 +478,7 @@ module _ {w : Setting} (slots : Slots) (all : List Transition) (number : Node �
     turn_acted g next nx used low live sits uses lies ages dozes is_next agree
         (turns.runs {l = l} {at = at} {target = target} {a = a} {inputs = inputs} {outputs = outputs} called is passes lasts) =
         simple (flagged (EnterAt l at (arguments_of target inputs outputs)) (SetsCounter (slots.rest l) ∷ []))
-        (sits _ (contains_head _ (resume_rule slots (call l at target a inputs outputs) next ∷ []))) refl None
+        (sits _ (contains_first _ (resume_rule slots (call l at target a inputs outputs) next ∷ []))) refl None
         (sets_one number marks (SetsCounter (slots.rest l)) None refl) (one_forgetless (SetsCounter (slots.rest l)) tt)
         (λ y h. h) (λ y h. h) (λ y h. h) (λ y h. h)
     turn_acted g next nx used low live sits uses lies ages dozes is_next agree (turns.resumes {s = s} {stood = stood} passes lasts) =
@@ -611,7 +520,7 @@ module _ {w : Setting} (slots : Slots) (all : List Transition) (number : Node �
         uses.0 lies.0 ages.0 dozes.0 tt (λ e. refl) t)
         (λ y h. inl h) (λ y h. inl h) (λ y h. ⊎_elim (λ branch. is_set branch) (λ other. waited (inr other)) h)
         (λ y h. ⊎_elim (λ branch. dropped branch) (λ other. waits_on (inr other)) h)
-        (λ j h. or_first (uses_in_branch slots l k body j) (uses_in_each slots l (suc k) rest j) h)
+        (λ j h. or_left (uses_in_branch slots l k body j) (uses_in_each slots l (suc k) rest j) h)
         (λ y h. ⊎_elim (λ branch. inl branch) (λ other. inr (beside_first other)) h)
       where
         beside_first : {y : Node} → SomeSleeps others y →
@@ -622,13 +531,13 @@ module _ {w : Setting} (slots : Slots) (all : List Transition) (number : Node �
               rule = one.rule;
               there = one.there;
               of_node = one.of_node;
-              is = λ slot asks used. differ (uses_in_each slots l (suc k) rest slot.counter) (one.is.1 slot asks) (laid.1 slot.counter used);
+              is = λ slot asks used. true_false_any (uses_in_each slots l (suc k) rest slot.counter) (one.is.1 slot asks) (laid.1 slot.counter used);
             }
     one_acted {i} g stood l k (BodyOf weak' body rest) live sits uses laid lies ages dozes (turns.later {weak = weak} {c = c} {others = others} t) =
         lift (one_acted g stood l (suc k) rest live.2 sits.2 uses.1 laid.2 lies.1 ages.1 dozes.1 t)
         (λ y h. inr h) (λ y h. inr h) (λ y h. ⊎_elim (λ other. waited (inl other)) (λ branch. is_set branch) h)
         (λ y h. ⊎_elim (λ other. waits_on (inl other)) (λ branch. dropped branch) h)
-        (λ j h. or_second (uses_in_branch slots l k body j) (uses_in_each slots l (suc k) rest j) h)
+        (λ j h. or_right (uses_in_branch slots l k body j) (uses_in_each slots l (suc k) rest j) h)
         (λ y h. ⊎_elim (λ other. inr (beside_later other)) (λ branch. inl branch) h)
       where
         beside_later : {y : Node} → Sleeps c y →
@@ -640,5 +549,5 @@ module _ {w : Setting} (slots : Slots) (all : List Transition) (number : Node �
               rule = one.rule;
               there = one.there;
               of_node = one.of_node;
-              is = λ slot asks used. differ (uses_in_each slots l (suc k) rest slot.counter) used (laid.1 slot.counter (one.is.1 slot asks));
+              is = λ slot asks used. true_false_any (uses_in_each slots l (suc k) rest slot.counter) used (laid.1 slot.counter (one.is.1 slot asks));
             }

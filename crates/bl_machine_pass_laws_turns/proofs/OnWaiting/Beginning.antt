@@ -1,5 +1,5 @@
 -- A pass over a body that begins: its entry alone waits, by its flag.
-use Rattle.std.proofs.Common.{◌≡◌, ◌⊎◌, inl, inr, ℕ, Bool, true, false, Some, None, refl, sym, ap, subst, ◌∙◌, zero-le, eqb-true, eq-eqb}
+use Rattle.std.proofs.Common.{◌≡◌, ◌⊎◌, inl, inr, ℕ, true, false, Some, None, refl, sym, ap, subst, ◌∙◌, zero-le, eqb-true, eq-eqb}
 use Rattle.std.specs.Prelude.{Contains}
 use Rattle.bl_tree.specs.declared.tree.Unit.{Unit as UnitDef}
 use Rattle.bl_graph_nodes.specs.Laws.{EachOnce}
@@ -17,23 +17,21 @@ use Rattle.bl_machine_pass.specs.SlotLayout.{SlotsAreDistinct}
 use Rattle.bl_machine_pass.specs.Registers.{Registers, is_at, is_due, started}
 use Rattle.bl_machine_pass.specs.Transitions.{Condition, Finishes, Transition, rules}
 use Rattle.bl_machine_pass_laws.specs.Turns.Holds.{CountersLinger}
-use Rattle.bl_machine_pass_laws.specs.Turns.Invariant.{Exactly, IsFlagged, IsResume, Marked}
+use Rattle.bl_machine_pass_laws.specs.Turns.Invariant.{Exactly, IsFlagged, IsResume}
 use Rattle.bl_machine_pass_laws.specs.Turns.Laws.{StaysPlaced, entry_flag}
 use Rattle.bl_machine_pass_laws_turns.specs.Waiting.{BodiesBegin}
 use Rattle.bl_machine_pass_laws_turns.proofs.OnWaiting.Keeping.{asks_counted, one_rule, rule_known, rule_node}
 use Rattle.bl_machine_pass_laws_turns.proofs.OnWaiting.Rules.{AsksFor, RuleAt, due_at, flag_is_due, no_end, not_both}
 use Rattle.bl_machine_pass_laws_turns.proofs.OnWaiting.Sleeping.{Other, waits_other}
-use Rattle.bl_machine_pass_laws_turns.proofs.OnWaiting.Trees.{block_awake, block_waits, waits_block}
+use Rattle.bl_machine_pass_laws_turns.proofs.OnWaiting.Trees.{waits_block}
+use Rattle.bl_machine_laws.proofs.OnNumbers.Sleeping.{block_awake}
+use Rattle.bl_machine_laws.proofs.OnWaiting.Fresh.{block_waits}
+use Rattle.bl_machine_pass_laws_turns.proofs.OnJoins.Marking.{marked_block}
 
 block_numbers : (slots : Slots) (body : Block) (j : ℕ) → numbers_of slots (do_block body) Over j ≡ 0
 block_numbers slots Done j = refl
 block_numbers slots (Then s Done) j = refl
 block_numbers slots (Then s (Then t rest)) j = refl
-
-block_marked : (number : Node → ℕ) (marks : ℕ → Bool) (body : Block) → Marked number marks (do_block body)
-block_marked number marks Done = tt
-block_marked number marks (Then s Done) = tt
-block_marked number marks (Then s (Then t rest)) = tt
 
 -- the entry's flag alone is set, and the entry alone waits
 entry_waits : (number : Node → ℕ) (body : Block) → StaysWithin body →
@@ -93,6 +91,6 @@ module _ (linger : CountersLinger) (within : (body : Block) → StaysWithin body
     ahead = λ n h. zero-le;
     flags = λ rule there flag most. flags_begin placing w rank i slots unit counters orders is laid none rule there flag;
     resumes = λ rule there resume most. resumes_begin placing w rank i slots unit counters orders is laid none rule there resume;
-    marks = block_marked (rank i) (λ k. false) (plain_body unit.body);
+    marks = marked_block (rank i) (λ k. false) (plain_body unit.body);
     over = sym unended;
   }

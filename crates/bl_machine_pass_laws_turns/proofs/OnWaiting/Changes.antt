@@ -1,32 +1,6 @@
 -- What the changes of a rule flag, and which counters they forget.
-use Rattle.std.proofs.Common.{
-  ◌≡◌,
-  ◌⊎◌,
-  inl,
-  inr,
-  ⊎_elim,
-  ℕ,
-  Bool,
-  true,
-  false,
-  if◌then◌else◌,
-  List,
-  [],
-  ◌∷◌,
-  ◌++◌,
-  map,
-  nat_eq,
-  Option,
-  Some,
-  None,
-  refl,
-  sym,
-  ap,
-  subst,
-  ◌∙◌,
-  eqb-true,
-  eq-eqb,
-}
+use Rattle.std.proofs.Common.{◌≡◌, ◌⊎◌, inl, inr, ⊎_elim, ℕ, Bool, true, false, if◌then◌else◌, List, [], ◌∷◌, ◌++◌, map, nat_eq, Option, Some, None, refl, sym}
+use Rattle.std.proofs.Common.{ap, subst, ◌∙◌, eqb-true, eq-eqb}
 use Rattle.std.specs.Prelude.{⊤}
 use Rattle.bl_graph_nodes.specs.Nodes.{Node}
 use Rattle.bl_machine_laws.specs.Numbers.Waiting.{Is}

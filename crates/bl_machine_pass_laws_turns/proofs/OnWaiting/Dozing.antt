@@ -1,40 +1,18 @@
 -- Under a condition that is still to be tested nothing waits but what rested: so it is where a tick begins, and after each turn.
 use Rattle.std.proofs.Common.{◌≡◌, ℕ, Bool, true, not, List}
+use Rattle.bl_tree.proofs.Basics.{and_first, and_second}
 use Rattle.bl_graph_nodes.specs.Nodes.{Node, entry}
 use Rattle.bl_graph_nodes.specs.Plain.{Block, Bodies, Body as BodyOf, Done, Last, Plain, Then}
 use Rattle.bl_ctree.specs.Control.{Body, Check}
 use Rattle.bl_ctree.specs.Instances.{Setting}
 use Rattle.bl_ctree_laws.specs.Pending.{Deed}
 use Rattle.bl_ctree_laws.specs.Steps.{turn}
-use Rattle.bl_ctree_laws.specs.Trees.{
-  Tree,
-  Trees,
-  Nil,
-  Wait,
-  Test,
-  Idle,
-  Do,
-  Seq,
-  Par,
-  Guard,
-  Run,
-  are_done,
-  are_settled,
-  trees_begun,
-  beside,
-  do_block,
-  is_nil,
-  is_settled,
-  no_tree,
-  seq,
-  woken,
-  all_woken,
-}
+use Rattle.bl_ctree_laws.specs.Trees.{Tree, Trees, Nil, Wait, Test, Idle, Do, Seq, Par, Guard, Run, are_done, are_settled, trees_begun, beside, do_block}
+use Rattle.bl_ctree_laws.specs.Trees.{is_nil, is_settled, no_tree, seq, woken, all_woken}
 use Rattle.bl_ctree_laws_traces.specs.Progress.FitsGraph.{AllFitGraph, FitsGraph}
 use Rattle.bl_ctree_laws_traces.specs.Progress.Places.{Place, ahead_of, guarded, in_branch, whole}
 use Rattle.bl_machine_laws.specs.Numbers.Turns as turns
 use Rattle.bl_machine_laws.specs.Numbers.Turns.{AnsweredDeed, InstancePoint, OneTurns, Turns}
-use Rattle.bl_machine_laws.proofs.OnWaiting.Quiet.{and_first, and_second}
 use Rattle.bl_machine_laws.proofs.OnWaiting.Waking.{branch_rested}
 use Rattle.bl_machine_pass_laws.specs.Turns.Dozes.{AllDoze, Dozes, StaysDozing}
 use Rattle.bl_machine_pass_laws_turns.proofs.OnWaiting.Trees.{seq_by}

@@ -1,30 +1,8 @@
 -- After a turn the registers tell what waits.
-use Rattle.std.proofs.Common.{
-  ◌≡◌,
-  ◌⊎◌,
-  inl,
-  inr,
-  ⊎_elim,
-  ℕ,
-  suc,
-  ◌<◌,
-  ◌≤◌,
-  Bool,
-  true,
-  false,
-  nat_eq,
-  List,
-  map,
-  None,
-  refl,
-  sym,
-  ap,
-  subst,
-  ◌∙◌,
-  arith,
-  eqb-true,
-}
+use Rattle.std.proofs.Common.{◌≡◌, ◌⊎◌, inl, inr, ⊎_elim, ℕ, suc, ◌<◌, ◌≤◌, Bool, true, false, nat_eq, List, map, None, refl, sym, ap, subst, ◌∙◌, arith}
+use Rattle.std.proofs.Common.{eqb-true}
 use Rattle.std.specs.Prelude.{Contains}
+use Rattle.bl_tree.proofs.Basics.{contains_mapped}
 use Rattle.bl_tree.specs.declared.tree.Unit.{Unit as UnitDef}
 use Rattle.bl_graph_nodes.specs.Laws.{EachOnce}
 use Rattle.bl_graph_nodes.specs.Nodes.{Node, nodes_in}
@@ -45,31 +23,20 @@ use Rattle.bl_machine_laws.specs.Numbers.Turns.{AnsweredDeed, Turns}
 use Rattle.bl_machine_laws.specs.Numbers.Waiting.{Sleeps, Waits}
 use Rattle.bl_machine_laws.specs.Waiting.Laws.{TurnsLeadOn, WaitsInPart}
 use Rattle.bl_machine_laws.proofs.OnWaiting.Quiet.{along, part_closed}
-use Rattle.bl_machine_laws.proofs.OnPasses.Numbers.{after_rises, lesser}
+use Rattle.bl_machine_laws.proofs.OnPasses.Numbers.{after_rises}
 use Rattle.bl_machine_pass.specs.SlotLayout.{SlotsAreDistinct, spots_in}
 use Rattle.bl_machine_pass.specs.Registers.{Registers, after_rule, all_changed, is_at, is_due}
 use Rattle.bl_machine_pass.specs.Transitions.{Change, Condition, Finishes, Transition, rules}
 use Rattle.bl_machine_pass_laws.specs.Turns.Invariant.{Exactly, IsFlagged, IsResume, PassInvariant}
 use Rattle.bl_machine_pass_laws.specs.Turns.Laws.{StaysPlaced, Turning, answer_of}
 use Rattle.bl_machine_pass_laws_turns.specs.Waiting.{TurnsKeepFlags, TurnsKeepResumes, TurnsLeaveMore}
-use Rattle.bl_machine_pass_laws_turns.proofs.OnWaiting.Acting.{
-  Acted,
-  Comes,
-  Dropped,
-  Stays,
-  at_join,
-  dropped,
-  has_acted,
-  is_set,
-  turn_acted,
-  waited,
-  waits_on,
-  was_join,
-}
+use Rattle.bl_machine_pass_laws_turns.proofs.OnWaiting.Acting.{Acted, Comes, Dropped, Stays, at_join, dropped, has_acted, is_set, turn_acted, waited, waits_on}
+use Rattle.bl_machine_pass_laws_turns.proofs.OnWaiting.Acting.{was_join}
 use Rattle.bl_machine_pass_laws_turns.proofs.OnWaiting.Changes.{FlagFrom, Sets, all_either, all_forget, all_has, all_kept, all_set, all_spared, is_of, taken, was_set}
-use Rattle.bl_machine_pass_laws_turns.proofs.OnWaiting.Lists.{contains_map, each_of, one_of_node}
+use Rattle.bl_machine_pass_laws_turns.proofs.OnWaiting.Lists.{each_of, one_of_node}
 use Rattle.bl_machine_pass_laws_turns.proofs.OnWaiting.Rules.{AsksFor, Known, RuleAt, at_due, due_at, flag_is_due, known_in, no_end, no_join, not_both}
 use Rattle.bl_machine_pass_laws_turns.proofs.OnWaiting.Sleeping.{Other, join_ends, waits_other}
+use Rattle.bl_graph.proofs.Meeting.{lt_of}
 
 -- ---- the rules of a body
 
@@ -83,7 +50,7 @@ one_rule nodes slots body once a b one other same =
 pub rule_node : (nodes : (slots : Slots) (body : Block) → map (λ rule. rule.node) (rules slots body) ≡ nodes_in body) (slots : Slots) (body : Block)
     (a : Transition) → Contains (rules slots body) a → Contains (nodes_in body) a.node
 rule_node nodes slots body a one =
-    subst (λ list. Contains list a.node) (nodes slots body) (contains_map (λ rule. rule.node) (rules slots body) a one)
+    subst (λ list. Contains list a.node) (nodes slots body) (contains_mapped (λ rule. rule.node) (rules slots body) a one)
 
 -- what is known of it
 pub rule_known : (slots : Slots) (body : Block) (a : Transition) → Contains (rules slots body) a → Known slots (spots_in body) a
@@ -109,7 +76,7 @@ module _ (part : WaitsInPart) (within : (body : Block) → StaysWithin body) (le
       ⊎_elim
       (λ (old : Waits c None y × (y ≡ n → ⊥)).
       let other : rank i n < rank i y =
-      lesser (rank i n) (rank i y) (keeps.ahead y old.0)
+      lt_of (rank i n) (rank i y) (keeps.ahead y old.0)
       (λ same. old.1 (sym (turning.orders.apart i unit n y turning.is
       (waits_within w i stood (plain_body unit.body) c n turning.live (waiting w rank i c done n c' None turn))
       (waits_within w i stood (plain_body unit.body) c y turning.live old.0) same))) in

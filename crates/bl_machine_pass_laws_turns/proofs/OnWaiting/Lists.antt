@@ -1,110 +1,42 @@
 -- Members of lists, and lists in which none stands twice.
-use Rattle.std.proofs.Common.{
-  ◌≡◌,
-  ◌⊎◌,
-  inl,
-  inr,
-  ⊎_elim,
-  ℕ,
-  zero,
-  suc,
-  Bool,
-  true,
-  false,
-  ◌||◌,
-  List,
-  [],
-  ◌∷◌,
-  ◌++◌,
-  map,
-  nat_eq,
-  Some,
-  refl,
-  sym,
-  ap,
-  subst,
-  ◌∙◌,
-  eqb-true,
-}
+use Rattle.std.proofs.Common.{◌≡◌, ◌⊎◌, inl, inr, ⊎_elim, ℕ, Bool, true, false, ◌||◌, List, [], ◌∷◌, ◌++◌, map, nat_eq, Some, refl, sym, ap, subst}
+use Rattle.std.proofs.Common.{◌∙◌, eqb-true}
 use Rattle.std.specs.List.{list_any}
 use Rattle.std.specs.Prelude.{⊤, Contains, slice_get, if◌then◌else◌}
-use Rattle.bl_cause.proofs.ListLemmas.{contains_cons, contains_head, contains_none, contains_tail}
+use Rattle.bl_tree.proofs.Basics.{contains_first, contains_further, contains_none, either_of, first_or_further, get_mapped, index_of}
 use Rattle.bl_machine_pass.specs.Transitions.{once, once_but}
 
 -- ---- tests
-
-pub or_first : (a b : Bool) → a ≡ true → (a || b) ≡ true
-or_first true b e = refl
-or_first false b e = absurd cc
-
-pub or_second : (a b : Bool) → b ≡ true → (a || b) ≡ true
-or_second true b e = refl
-or_second false b e = e
-
-pub or_either : (a b : Bool) → (a || b) ≡ true → (a ≡ true) ⊎ (b ≡ true)
-or_either true b e = inl refl
-or_either false b e = inr e
 
 -- ---- members
 
 pub contains_right : {X : Type 0} (xs ys : List X) (x : X) → Contains ys x → Contains (xs ++ ys) x
 contains_right [] ys x h = h
-contains_right (y ∷ xs) ys x h = contains_tail y (xs ++ ys) x (contains_right xs ys x h)
+contains_right (y ∷ xs) ys x h = contains_further y (xs ++ ys) x (contains_right xs ys x h)
 
 pub contains_split : {X : Type 0} (xs ys : List X) (x : X) → Contains (xs ++ ys) x → Contains xs x ⊎ Contains ys x
 contains_split [] ys x h = inr h
 contains_split (y ∷ xs) ys x h =
-    ⊎_elim (λ (is : y ≡ x). inl (subst (λ z. Contains (z ∷ xs) x) (sym is) (contains_head x xs)))
+    ⊎_elim (λ (is : y ≡ x). inl (subst (λ z. Contains (z ∷ xs) x) (sym is) (contains_first x xs)))
     (λ (later : Contains (xs ++ ys) x).
-    ⊎_elim (λ (one : Contains xs x). inl (contains_tail y xs x one)) (λ (two : Contains ys x). inr two) (contains_split xs ys x later))
-    (contains_cons y (xs ++ ys) x h)
-
--- a member stands somewhere
-stands_at : {X : Type 0} (xs : List X) (x : X) → Contains xs x → (k : ℕ) × (slice_get xs k ≡ Some x)
-stands_at [] x there = absurd (contains_none x there)
-stands_at (y ∷ xs) x there =
-    ⊎_elim (λ (is : y ≡ x). (0, ap Some is)) (λ (later : Contains xs x). let rest = stands_at xs x later in (suc rest.0, rest.1))
-    (contains_cons y xs x there)
-
-mapped_at : {X Y : Type 0} (f : X → Y) (xs : List X) (k : ℕ) (x : X) → slice_get xs k ≡ Some x → slice_get (map f xs) k ≡ Some (f x)
-mapped_at f [] k x e = absurd cc
-mapped_at f (y ∷ xs) zero x e = let is : y ≡ x = cc in ap (λ z. Some (f z)) is
-mapped_at f (y ∷ xs) (suc k) x e = mapped_at f xs k x e
-
-pub contains_map : {X Y : Type 0} (f : X → Y) (xs : List X) (x : X) → Contains xs x → Contains (map f xs) (f x)
-contains_map f [] x there = absurd (contains_none x there)
-contains_map f (y ∷ xs) x there =
-    ⊎_elim (λ (is : y ≡ x). subst (λ z. Contains (f z ∷ map f xs) (f x)) (sym is) (contains_head (f x) (map f xs)))
-    (λ (later : Contains xs x). contains_tail (f y) (map f xs) (f x) (contains_map f xs x later)) (contains_cons y xs x there)
+    ⊎_elim (λ (one : Contains xs x). inl (contains_further y xs x one)) (λ (two : Contains ys x). inr two) (contains_split xs ys x later))
+    (first_or_further y (xs ++ ys) x h)
 
 -- where no node stands twice, what has one node is one
 pub one_of_node : {X Y : Type 0} (f : X → Y) (xs : List X) →
     ((i j : ℕ) (y : Y) → slice_get (map f xs) i ≡ Some y → slice_get (map f xs) j ≡ Some y → i ≡ j) →
     (a b : X) → Contains xs a → Contains xs b → f a ≡ f b → a ≡ b
 one_of_node f xs once a b one other same =
-    let first = stands_at xs a one in
-    let second = stands_at xs b other in
+    let first = index_of xs a one in
+    let second = index_of xs b other in
     let at : first.0 ≡ second.0 =
-    once first.0 second.0 (f a) (mapped_at f xs first.0 a first.1) (mapped_at f xs second.0 b second.1 ∙ ap Some (sym same)) in
+    once first.0 second.0 (f a) (get_mapped f xs first.0 a first.1) (get_mapped f xs second.0 b second.1 ∙ ap Some (sym same)) in
     some_is a b (sym first.1 ∙ ap (slice_get xs) at ∙ second.1)
   where
     some_is : {Z : Type 0} (x y : Z) → Some x ≡ Some y → x ≡ y
     some_is x y e = cc
 
 -- ---- whether some member passes
-
-pub any_found : {X : Type 0} (test : X → Bool) (xs : List X) → list_any test xs ≡ true → (x : X) × Contains xs x × (test x ≡ true)
-any_found test [] e = absurd cc
-any_found test (x ∷ xs) e =
-    ⊎_elim (λ is. (x, contains_head x xs, is))
-    (λ (later : list_any test xs ≡ true). let found = any_found test xs later in (found.0, contains_tail x xs found.0 found.1, found.2))
-    (or_either (test x) (list_any test xs) e)
-
-pub any_so : {X : Type 0} (test : X → Bool) (xs : List X) (x : X) → Contains xs x → test x ≡ true → list_any test xs ≡ true
-any_so test [] x there e = absurd (contains_none x there)
-any_so test (y ∷ xs) x there e =
-    ⊎_elim (λ (is : y ≡ x). or_first (test y) (list_any test xs) (ap test is ∙ e))
-    (λ (later : Contains xs x). or_second (test y) (list_any test xs) (any_so test xs x later e)) (contains_cons y xs x there)
 
 -- ---- each number once
 
@@ -114,11 +46,11 @@ once_from seen (k ∷ ks) j h = by_seen (list_any (nat_eq k) seen) (λ there. on
   where
     by_seen : (b : Bool) → (Contains (once_but seen ks) j → Contains ks j) → (Contains (once_but (k ∷ seen) ks) j → Contains ks j) →
         Contains (if b then once_but seen ks else k ∷ once_but (k ∷ seen) ks) j → Contains (k ∷ ks) j
-    by_seen true old new there = contains_tail k ks j (old there)
+    by_seen true old new there = contains_further k ks j (old there)
     by_seen false old new there =
-        ⊎_elim (λ (is : k ≡ j). subst (λ z. Contains (z ∷ ks) j) (sym is) (contains_head j ks))
-        (λ (later : Contains (once_but (k ∷ seen) ks) j). contains_tail k ks j (new later))
-        (contains_cons k (once_but (k ∷ seen) ks) j there)
+        ⊎_elim (λ (is : k ≡ j). subst (λ z. Contains (z ∷ ks) j) (sym is) (contains_first j ks))
+        (λ (later : Contains (once_but (k ∷ seen) ks) j). contains_further k ks j (new later))
+        (first_or_further k (once_but (k ∷ seen) ks) j there)
 
 pub from_once : (ks : List ℕ) (j : ℕ) → Contains (once ks) j → Contains ks j
 from_once ks j h = once_from [] ks j h
@@ -130,12 +62,12 @@ once_into seen (k ∷ ks) j h =
     ⊎_elim
     (λ (is : k ≡ j).
     subst (λ z. (list_any (nat_eq j) seen ≡ true) ⊎ Contains (once_but seen (z ∷ ks)) j) (sym is) (by_head (list_any (nat_eq j) seen) refl))
-    (λ (later : Contains ks j). by_seen (list_any (nat_eq k) seen) (once_into seen ks j later) (once_into (k ∷ seen) ks j later)) (contains_cons k ks j h)
+    (λ (later : Contains ks j). by_seen (list_any (nat_eq k) seen) (once_into seen ks j later) (once_into (k ∷ seen) ks j later)) (first_or_further k ks j h)
   where
     by_head : (b : Bool) → list_any (nat_eq j) seen ≡ b →
         (list_any (nat_eq j) seen ≡ true) ⊎ Contains (if b then once_but seen ks else j ∷ once_but (j ∷ seen) ks) j
     by_head true e = inl e
-    by_head false e = inr (contains_head j (once_but (j ∷ seen) ks))
+    by_head false e = inr (contains_first j (once_but (j ∷ seen) ks))
 
     -- it was seen, or is the first one
     by_first : ((nat_eq j k || list_any (nat_eq j) seen) ≡ true) ⊎ Contains (once_but (k ∷ seen) ks) j →
@@ -143,9 +75,9 @@ once_into seen (k ∷ ks) j h =
     by_first (inl e) =
         ⊎_elim
         (λ (same : nat_eq j k ≡ true).
-        inr (subst (λ z. Contains (z ∷ once_but (k ∷ seen) ks) j) (eqb-true j k same) (contains_head j (once_but (k ∷ seen) ks))))
-        (λ (was : list_any (nat_eq j) seen ≡ true). inl was) (or_either (nat_eq j k) (list_any (nat_eq j) seen) e)
-    by_first (inr there) = inr (contains_tail k (once_but (k ∷ seen) ks) j there)
+        inr (subst (λ z. Contains (z ∷ once_but (k ∷ seen) ks) j) (eqb-true j k same) (contains_first j (once_but (k ∷ seen) ks))))
+        (λ (was : list_any (nat_eq j) seen ≡ true). inl was) (either_of (nat_eq j k) (list_any (nat_eq j) seen) e)
+    by_first (inr there) = inr (contains_further k (once_but (k ∷ seen) ks) j there)
 
     by_seen : (b : Bool) → (list_any (nat_eq j) seen ≡ true) ⊎ Contains (once_but seen ks) j →
         ((nat_eq j k || list_any (nat_eq j) seen) ≡ true) ⊎ Contains (once_but (k ∷ seen) ks) j →
@@ -169,4 +101,4 @@ each_append P (x ∷ xs) ys one two = (one.0, each_append P xs ys one.1 two)
 pub each_of : {X : Type 0} (P : X → Type 0) (xs : List X) (x : X) → Each P xs → Contains xs x → P x
 each_of P [] x each there = absurd (contains_none x there)
 each_of P (y ∷ xs) x each there =
-    ⊎_elim (λ (is : y ≡ x). subst P is each.0) (λ (later : Contains xs x). each_of P xs x each.1 later) (contains_cons y xs x there)
+    ⊎_elim (λ (is : y ≡ x). subst P is each.0) (λ (later : Contains xs x). each_of P xs x each.1 later) (first_or_further y xs x there)

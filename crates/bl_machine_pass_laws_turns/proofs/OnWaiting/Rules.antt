@@ -2,57 +2,22 @@
 use Rattle.std.proofs.Common.{◌≡◌, ◌⊎◌, ⊎_elim, ℕ, suc, Bool, true, false, ◌||◌, List, [], ◌∷◌}
 use Rattle.std.proofs.Common.{◌++◌, refl, sym, ap, subst, eqb-true, eq-eqb}
 use Rattle.std.specs.Prelude.{⊤, Contains}
+use Rattle.std.proofs.lemmas.Bool.{or_left, or_right}
+use Rattle.bl_tree.proofs.Basics.{any_from, contains_first, contains_further, contains_none, either_of, first_or_further}
 use Rattle.bl_graph_nodes.specs.Nodes.{DepthEndAt, DepthJoinAt, Node, SurfaceEndAt, SurfaceJoinAt, are_instant, entry, is_instant}
-use Rattle.bl_graph_nodes.specs.Plain.{
-  Act,
-  Again,
-  Await,
-  Block,
-  Bodies,
-  Body as BodyOf,
-  Cobegin,
-  Done,
-  If,
-  Label,
-  Last,
-  Plain,
-  Repeat,
-  Run as RunOf,
-  Then,
-  Until,
-  When,
-  While,
-}
-use Rattle.bl_cause.proofs.ListLemmas.{contains_cons, contains_head, contains_none, contains_tail}
+use Rattle.bl_graph_nodes.specs.Plain.{Act, Again, Await, Block, Bodies, Body as BodyOf, Cobegin, Done, If, Label, Last, Plain, Repeat, Run as RunOf, Then}
+use Rattle.bl_graph_nodes.specs.Plain.{Until, When, While}
 use Rattle.bl_cause.proofs.PairLemmas.{contains_left}
 use Rattle.bl_machine.specs.declared.slots.Slot.{Slot}
 use Rattle.bl_machine.specs.Uses.{Slots, is_of, uses, uses_in, uses_in_each}
 use Rattle.bl_machine_pass.specs.SlotLayout.{EndOf, RestOf, Spot, slot_at, spots_in, spots_in_each, spots_of}
 use Rattle.bl_machine_pass.specs.Registers.{Registers, due_by, is_at}
-use Rattle.bl_machine_pass.specs.Transitions.{
-  Change,
-  Condition,
-  Ended,
-  Flagged,
-  Rested,
-  RestedIn,
-  SetsCounter,
-  Transition,
-  body_ends,
-  counters_in,
-  counters_in_each,
-  counters_of,
-  enter,
-  rests_in,
-  rests_in_first,
-  rests_of,
-  rule_where,
-  rules_in,
-  rules_in_each,
-  rules_of,
-}
+use Rattle.bl_machine_pass.specs.Transitions.{Change, Condition, Ended, Flagged, Rested, RestedIn, SetsCounter, Transition, body_ends, counters_in}
+use Rattle.bl_machine_pass.specs.Transitions.{counters_in_each, counters_of, enter, rests_in, rests_in_first, rests_of, rule_where, rules_in, rules_in_each}
+use Rattle.bl_machine_pass.specs.Transitions.{rules_of}
 use Rattle.bl_machine_pass_laws.specs.Turns.Invariant.{IsFlagged, IsResume}
-use Rattle.bl_machine_pass_laws_turns.proofs.OnWaiting.Lists.{Each, any_found, any_so, contains_right, contains_split, each_append, or_either, or_first, or_second}
+use Rattle.bl_machine_pass_laws_turns.proofs.OnWaiting.Lists.{Each, contains_right, contains_split, each_append}
+use Rattle.bl_graph.proofs.Sweeping.{any_from as any_found}
 
 -- ---- what a rule asks
 
@@ -70,9 +35,6 @@ pub record RuleAt (all : List Transition) (y : Node) (P : Condition → Type 0) 
   pub of_node : rule.node ≡ y
   pub is : P rule.condition
 
-pub rule_map : {P Q : Condition → Type 0} (all : List Transition) (y : Node) → ((condition : Condition) → P condition → Q condition) → RuleAt all y P → RuleAt all y Q
-rule_map all y into one = record { rule = one.rule; there = one.there; of_node = one.of_node; is = into one.rule.condition one.is }
-
 -- a resume node is due exactly where the instance rested at one of its numbers
 pub due_at : (number : Node → ℕ) (r : Registers) (n : Node) (condition : Condition) → IsResume condition → due_by number r n condition ≡ true →
     (slot : Slot) × AsksFor condition slot × (is_at r.rested slot ≡ true)
@@ -85,7 +47,7 @@ pub at_due : (number : Node → ℕ) (r : Registers) (n : Node) (condition : Con
     due_by number r n condition ≡ true
 at_due number r n Flagged slot asks at = absurd asks
 at_due number r n (Rested other) slot asks at = subst (λ one. is_at r.rested one ≡ true) asks at
-at_due number r n (RestedIn slots) slot asks at = any_so (is_at r.rested) slots slot asks at
+at_due number r n (RestedIn slots) slot asks at = any_from (is_at r.rested) slots slot asks at
 at_due number r n (Ended age needed) slot asks at = absurd asks
 
 -- where a rule asks for its flag that is what is due
@@ -98,11 +60,11 @@ flag_is_due number r n (Ended age needed) is = absurd is
 -- ---- nodes that begin
 
 first_at : (rule : Transition) (rest : List Transition) (y : Node) → rule.node ≡ y → IsFlagged rule.condition → RuleAt (rule ∷ rest) y IsFlagged
-first_at rule rest y of_node is = record { rule = rule; there = contains_head rule rest; of_node = of_node; is = is }
+first_at rule rest y of_node is = record { rule = rule; there = contains_first rule rest; of_node = of_node; is = is }
 
 second_at : (first rule : Transition) (rest : List Transition) (y : Node) → rule.node ≡ y → IsFlagged rule.condition → RuleAt (first ∷ rule ∷ rest) y IsFlagged
 second_at first rule rest y of_node is =
-    record { rule = rule; there = contains_tail first (rule ∷ rest) rule (contains_head rule rest); of_node = of_node; is = is }
+    record { rule = rule; there = contains_further first (rule ∷ rest) rule (contains_first rule rest); of_node = of_node; is = is }
 
 -- the entry of a statement waits by its flag
 pub entry_rule : (slots : Slots) (s : Plain) (next : Change) → RuleAt (rules_of slots s next) (entry s) IsFlagged
@@ -141,11 +103,11 @@ one_rest slots l slot h =
     ⊎_elim
     (λ (is : slots.rest l ≡ slot). record {
       spot = RestOf l;
-      there = contains_head (RestOf l) [];
+      there = contains_first (RestOf l) [];
       is = is;
       counted = slot_used (slots.rest l) slot is;
     })
-    (λ (none : Contains [] slot). absurd (contains_none slot none)) (contains_cons (slots.rest l) [] slot h)
+    (λ (none : Contains [] slot). absurd (contains_none slot none)) (first_or_further (slots.rest l) [] slot h)
 
 mutual
   pub rests_there : (slots : Slots) (s : Plain) (slot : Slot) → Contains (rests_of slots s) slot → Resting slots (spots_of s) (uses slots s) slot
@@ -156,11 +118,11 @@ mutual
       ⊎_elim
       (λ (one : Contains (rests_in slots body) slot).
       resting_in slots (spots_in body) (spots_in body ++ spots_in other) (uses_in slots body) (λ j. uses_in slots body j || uses_in slots other j) slot
-      (λ p there. contains_left (spots_in body) (spots_in other) p there) (λ j used. or_first (uses_in slots body j) (uses_in slots other j) used)
+      (λ p there. contains_left (spots_in body) (spots_in other) p there) (λ j used. or_left (uses_in slots body j) (uses_in slots other j) used)
       (rests_there_in slots body slot one))
       (λ (one : Contains (rests_in slots other) slot).
       resting_in slots (spots_in other) (spots_in body ++ spots_in other) (uses_in slots other) (λ j. uses_in slots body j || uses_in slots other j) slot
-      (λ p there. contains_right (spots_in body) (spots_in other) p there) (λ j used. or_second (uses_in slots body j) (uses_in slots other j) used)
+      (λ p there. contains_right (spots_in body) (spots_in other) p there) (λ j used. or_right (uses_in slots body j) (uses_in slots other j) used)
       (rests_there_in slots other slot one)) (contains_split (rests_in slots body) (rests_in slots other) slot h)
   rests_there slots (Cobegin l at bodies) slot h = rests_there_first slots l bodies slot h
   rests_there slots (When l at guard e body) slot h = rests_there_in slots body slot h
@@ -176,11 +138,11 @@ mutual
       ⊎_elim
       (λ (one : Contains (rests_of slots s) slot).
       resting_in slots (spots_of s) (spots_of s ++ spots_in rest) (uses slots s) (λ j. uses slots s j || uses_in slots rest j) slot
-      (λ p there. contains_left (spots_of s) (spots_in rest) p there) (λ j used. or_first (uses slots s j) (uses_in slots rest j) used)
+      (λ p there. contains_left (spots_of s) (spots_in rest) p there) (λ j used. or_left (uses slots s j) (uses_in slots rest j) used)
       (rests_there slots s slot one))
       (λ (one : Contains (rests_in slots rest) slot).
       resting_in slots (spots_in rest) (spots_of s ++ spots_in rest) (uses_in slots rest) (λ j. uses slots s j || uses_in slots rest j) slot
-      (λ p there. contains_right (spots_of s) (spots_in rest) p there) (λ j used. or_second (uses slots s j) (uses_in slots rest j) used)
+      (λ p there. contains_right (spots_of s) (spots_in rest) p there) (λ j used. or_right (uses slots s j) (uses_in slots rest j) used)
       (rests_there_in slots rest slot one)) (contains_split (rests_of slots s) (rests_in slots rest) slot h)
 
   rests_there_first : (slots : Slots) (l : Label) (bodies : Bodies) (slot : Slot) → Contains (rests_in_first slots l bodies) slot →
@@ -190,28 +152,28 @@ mutual
       ⊎_elim
       (λ (is : slots.ending l 0 ≡ slot). record {
         spot = EndOf l 0;
-        there = contains_head (EndOf l 0) (spots_in body ++ spots_in_each l 1 rest);
+        there = contains_first (EndOf l 0) (spots_in body ++ spots_in_each l 1 rest);
         is = is;
-        counted = or_first (is_of (slots.ending l 0) slot.counter || uses_in slots body slot.counter) (uses_in_each slots l 1 rest slot.counter)
-            (or_first (is_of (slots.ending l 0) slot.counter) (uses_in slots body slot.counter) (slot_used (slots.ending l 0) slot is));
+        counted = or_left (is_of (slots.ending l 0) slot.counter || uses_in slots body slot.counter) (uses_in_each slots l 1 rest slot.counter)
+            (or_left (is_of (slots.ending l 0) slot.counter) (uses_in slots body slot.counter) (slot_used (slots.ending l 0) slot is));
       })
       (λ (one : Contains (rests_in slots body) slot).
       resting_in slots (spots_in body) (EndOf l 0 ∷ (spots_in body ++ spots_in_each l 1 rest)) (uses_in slots body)
       (uses_in_each slots l 0 (BodyOf weak body rest)) slot
-      (λ p there. contains_tail (EndOf l 0) (spots_in body ++ spots_in_each l 1 rest) p (contains_left (spots_in body) (spots_in_each l 1 rest) p there))
-      (λ j used. or_first (is_of (slots.ending l 0) j || uses_in slots body j) (uses_in_each slots l 1 rest j)
-      (or_second (is_of (slots.ending l 0) j) (uses_in slots body j) used))
-      (rests_there_in slots body slot one)) (contains_cons (slots.ending l 0) (rests_in slots body) slot h)
+      (λ p there. contains_further (EndOf l 0) (spots_in body ++ spots_in_each l 1 rest) p (contains_left (spots_in body) (spots_in_each l 1 rest) p there))
+      (λ j used. or_left (is_of (slots.ending l 0) j || uses_in slots body j) (uses_in_each slots l 1 rest j)
+      (or_right (is_of (slots.ending l 0) j) (uses_in slots body j) used))
+      (rests_there_in slots body slot one)) (first_or_further (slots.ending l 0) (rests_in slots body) slot h)
 
 -- ---- the counters of a part
 
 used_one : (slot : Slot) (j : ℕ) → is_of slot j ≡ true → Contains (slot.counter ∷ []) j
-used_one slot j e = subst (λ k. Contains (k ∷ []) j) (eqb-true j slot.counter e) (contains_head j [])
+used_one slot j e = subst (λ k. Contains (k ∷ []) j) (eqb-true j slot.counter e) (contains_first j [])
 
 one_used : (slot : Slot) (j : ℕ) → Contains (slot.counter ∷ []) j → is_of slot j ≡ true
 one_used slot j h =
     ⊎_elim (λ (is : slot.counter ≡ j). eq-eqb j slot.counter (sym is)) (λ (none : Contains [] j). absurd (contains_none j none))
-    (contains_cons slot.counter [] j h)
+    (first_or_further slot.counter [] j h)
 
 mutual
   counters_used : (slots : Slots) (s : Plain) (j : ℕ) → uses slots s j ≡ true → Contains (counters_of slots s) j
@@ -222,7 +184,7 @@ mutual
       ⊎_elim (λ (one : uses_in slots body j ≡ true). contains_left (counters_in slots body) (counters_in slots other) j
       (counters_used_in slots body j one))
       (λ (one : uses_in slots other j ≡ true). contains_right (counters_in slots body) (counters_in slots other) j (counters_used_in slots other j one))
-      (or_either (uses_in slots body j) (uses_in slots other j) e)
+      (either_of (uses_in slots body j) (uses_in slots other j) e)
   counters_used slots (Cobegin l at bodies) j e = counters_used_each slots l 0 bodies j e
   counters_used slots (When l at guard e' body) j e = counters_used_in slots body j e
   counters_used slots (Repeat l at body) j e = counters_used_in slots body j e
@@ -235,7 +197,7 @@ mutual
   counters_used_in slots (Then s rest) j e =
       ⊎_elim (λ (one : uses slots s j ≡ true). contains_left (counters_of slots s) (counters_in slots rest) j (counters_used slots s j one))
       (λ (one : uses_in slots rest j ≡ true). contains_right (counters_of slots s) (counters_in slots rest) j (counters_used_in slots rest j one))
-      (or_either (uses slots s j) (uses_in slots rest j) e)
+      (either_of (uses slots s j) (uses_in slots rest j) e)
 
   counters_used_each : (slots : Slots) (l : Label) (k : ℕ) (bodies : Bodies) (j : ℕ) → uses_in_each slots l k bodies j ≡ true →
       Contains (counters_in_each slots l k bodies) j
@@ -246,15 +208,15 @@ mutual
       ⊎_elim
       (λ (is : is_of (slots.ending l k) j ≡ true).
       subst (λ z. Contains (z ∷ (counters_in slots body ++ counters_in_each slots l (suc k) rest)) j) (eqb-true j (slots.ending l k).counter is)
-      (contains_head j (counters_in slots body ++ counters_in_each slots l (suc k) rest)))
+      (contains_first j (counters_in slots body ++ counters_in_each slots l (suc k) rest)))
       (λ (is : uses_in slots body j ≡ true).
-      contains_tail (slots.ending l k).counter (counters_in slots body ++ counters_in_each slots l (suc k) rest) j
+      contains_further (slots.ending l k).counter (counters_in slots body ++ counters_in_each slots l (suc k) rest) j
       (contains_left (counters_in slots body) (counters_in_each slots l (suc k) rest) j (counters_used_in slots body j is)))
-      (or_either (is_of (slots.ending l k) j) (uses_in slots body j) one))
+      (either_of (is_of (slots.ending l k) j) (uses_in slots body j) one))
       (λ (one : uses_in_each slots l (suc k) rest j ≡ true).
-      contains_tail (slots.ending l k).counter (counters_in slots body ++ counters_in_each slots l (suc k) rest) j
+      contains_further (slots.ending l k).counter (counters_in slots body ++ counters_in_each slots l (suc k) rest) j
       (contains_right (counters_in slots body) (counters_in_each slots l (suc k) rest) j (counters_used_each slots l (suc k) rest j one)))
-      (or_either (is_of (slots.ending l k) j || uses_in slots body j) (uses_in_each slots l (suc k) rest j) e)
+      (either_of (is_of (slots.ending l k) j || uses_in slots body j) (uses_in_each slots l (suc k) rest j) e)
 
 mutual
   used_counters : (slots : Slots) (s : Plain) (j : ℕ) → Contains (counters_of slots s) j → uses slots s j ≡ true
@@ -262,8 +224,8 @@ mutual
   used_counters slots (Await l at e) j h = one_used (slots.rest l) j h
   used_counters slots (RunOf l at target a inputs outputs) j h = one_used (slots.rest l) j h
   used_counters slots (If l at e body other) j h =
-      ⊎_elim (λ (one : Contains (counters_in slots body) j). or_first (uses_in slots body j) (uses_in slots other j) (used_counters_in slots body j one))
-      (λ (one : Contains (counters_in slots other) j). or_second (uses_in slots body j) (uses_in slots other j) (used_counters_in slots other j one))
+      ⊎_elim (λ (one : Contains (counters_in slots body) j). or_left (uses_in slots body j) (uses_in slots other j) (used_counters_in slots body j one))
+      (λ (one : Contains (counters_in slots other) j). or_right (uses_in slots body j) (uses_in slots other j) (used_counters_in slots other j one))
       (contains_split (counters_in slots body) (counters_in slots other) j h)
   used_counters slots (Cobegin l at bodies) j h = used_counters_each slots l 0 bodies j h
   used_counters slots (When l at guard e body) j h = used_counters_in slots body j h
@@ -275,8 +237,8 @@ mutual
   pub used_counters_in : (slots : Slots) (body : Block) (j : ℕ) → Contains (counters_in slots body) j → uses_in slots body j ≡ true
   used_counters_in slots Done j h = absurd (contains_none j h)
   used_counters_in slots (Then s rest) j h =
-      ⊎_elim (λ (one : Contains (counters_of slots s) j). or_first (uses slots s j) (uses_in slots rest j) (used_counters slots s j one))
-      (λ (one : Contains (counters_in slots rest) j). or_second (uses slots s j) (uses_in slots rest j) (used_counters_in slots rest j one))
+      ⊎_elim (λ (one : Contains (counters_of slots s) j). or_left (uses slots s j) (uses_in slots rest j) (used_counters slots s j one))
+      (λ (one : Contains (counters_in slots rest) j). or_right (uses slots s j) (uses_in slots rest j) (used_counters_in slots rest j one))
       (contains_split (counters_of slots s) (counters_in slots rest) j h)
 
   used_counters_each : (slots : Slots) (l : Label) (k : ℕ) (bodies : Bodies) (j : ℕ) → Contains (counters_in_each slots l k bodies) j →
@@ -285,18 +247,18 @@ mutual
   used_counters_each slots l k (BodyOf weak body rest) j h =
       ⊎_elim
       (λ (is : (slots.ending l k).counter ≡ j).
-      or_first (is_of (slots.ending l k) j || uses_in slots body j) (uses_in_each slots l (suc k) rest j)
-      (or_first (is_of (slots.ending l k) j) (uses_in slots body j) (eq-eqb j (slots.ending l k).counter (sym is))))
+      or_left (is_of (slots.ending l k) j || uses_in slots body j) (uses_in_each slots l (suc k) rest j)
+      (or_left (is_of (slots.ending l k) j) (uses_in slots body j) (eq-eqb j (slots.ending l k).counter (sym is))))
       (λ (later : Contains (counters_in slots body ++ counters_in_each slots l (suc k) rest) j).
       ⊎_elim
       (λ (one : Contains (counters_in slots body) j).
-      or_first (is_of (slots.ending l k) j || uses_in slots body j) (uses_in_each slots l (suc k) rest j)
-      (or_second (is_of (slots.ending l k) j) (uses_in slots body j) (used_counters_in slots body j one)))
+      or_left (is_of (slots.ending l k) j || uses_in slots body j) (uses_in_each slots l (suc k) rest j)
+      (or_right (is_of (slots.ending l k) j) (uses_in slots body j) (used_counters_in slots body j one)))
       (λ (one : Contains (counters_in_each slots l (suc k) rest) j).
-      or_second (is_of (slots.ending l k) j || uses_in slots body j) (uses_in_each slots l (suc k) rest j)
+      or_right (is_of (slots.ending l k) j || uses_in slots body j) (uses_in_each slots l (suc k) rest j)
       (used_counters_each slots l (suc k) rest j one))
       (contains_split (counters_in slots body) (counters_in_each slots l (suc k) rest) j later))
-      (contains_cons (slots.ending l k).counter (counters_in slots body ++ counters_in_each slots l (suc k) rest) j h)
+      (first_or_further (slots.ending l k).counter (counters_in slots body ++ counters_in_each slots l (suc k) rest) j h)
 
 -- ---- what each rule asks
 
@@ -337,9 +299,9 @@ mutual
       Each (Known slots spots) (rules_of slots s next)
   known_of slots spots (Act l s) next into = ((λ join. join, λ slot none. absurd none), tt)
   known_of slots spots (Await l at e) next into =
-      ((λ join. join, λ slot none. absurd none), ((λ end. end, λ slot is. (RestOf l, into (RestOf l) (contains_head (RestOf l) []), sym is)), tt))
+      ((λ join. join, λ slot none. absurd none), ((λ end. end, λ slot is. (RestOf l, into (RestOf l) (contains_first (RestOf l) []), sym is)), tt))
   known_of slots spots (RunOf l at target a inputs outputs) next into =
-      ((λ join. join, λ slot none. absurd none), ((λ end. end, λ slot is. (RestOf l, into (RestOf l) (contains_head (RestOf l) []), sym is)), tt))
+      ((λ join. join, λ slot none. absurd none), ((λ end. end, λ slot is. (RestOf l, into (RestOf l) (contains_first (RestOf l) []), sym is)), tt))
   known_of slots spots (If l at e body other) next into = (
     (λ join. join, λ slot none. absurd none),
     each_append (Known slots spots) (rules_in slots body next) (rules_in slots other next)
@@ -380,9 +342,9 @@ mutual
   known_each slots spots l k Last into = tt
   known_each slots spots l k (BodyOf weak body rest) into =
       each_append (Known slots spots) (rules_in slots body (SetsCounter (slots.ending l k))) (rules_in_each slots l (suc k) rest)
-      (known_in slots spots body (SetsCounter (slots.ending l k)) (λ p there. into p (contains_tail (EndOf l k) (spots_in body ++ spots_in_each l (suc k) rest) p
+      (known_in slots spots body (SetsCounter (slots.ending l k)) (λ p there. into p (contains_further (EndOf l k) (spots_in body ++ spots_in_each l (suc k) rest) p
       (contains_left (spots_in body) (spots_in_each l (suc k) rest) p there))))
-      (known_each slots spots l (suc k) rest (λ p there. into p (contains_tail (EndOf l k) (spots_in body ++ spots_in_each l (suc k) rest) p
+      (known_each slots spots l (suc k) rest (λ p there. into p (contains_further (EndOf l k) (spots_in body ++ spots_in_each l (suc k) rest) p
       (contains_right (spots_in body) (spots_in_each l (suc k) rest) p there))))
 
 -- ---- what a rule can't ask

@@ -1,52 +1,13 @@
 -- Which rules the nodes have at which a tree waits or sleeps.
-use Rattle.std.proofs.Common.{
-  ◌≡◌,
-  ◌⊎◌,
-  inl,
-  inr,
-  ⊎_elim,
-  ℕ,
-  suc,
-  Bool,
-  true,
-  false,
-  List,
-  [],
-  ◌∷◌,
-  ◌++◌,
-  map,
-  Option,
-  Some,
-  None,
-  refl,
-  sym,
-  subst,
-  ◌∙◌,
-}
+use Rattle.std.proofs.Common.{◌≡◌, ◌⊎◌, inl, inr, ⊎_elim, ℕ, suc, Bool, true, false, List, [], ◌∷◌, ◌++◌, map, Option, Some, None, refl, sym, subst, ◌∙◌}
 use Rattle.std.specs.Prelude.{Contains}
+use Rattle.std.proofs.lemmas.Bool.{or_left, or_right}
+use Rattle.bl_tree.proofs.Basics.{contains_first, contains_further}
 use Rattle.bl_tree.specs.declared.place.Place.{Place as Source}
-use Rattle.bl_graph_nodes.specs.Nodes.{
-  ActAt,
-  CheckAt,
-  DepthEndAt,
-  DepthJoinAt,
-  EnterAt,
-  ForkAt,
-  HeadAt,
-  Node,
-  PauseAt,
-  ResumeAt,
-  StartAt,
-  SurfaceEndAt,
-  SurfaceJoinAt,
-  TestAt,
-  are_instant,
-  entry,
-  is_instant,
-}
+use Rattle.bl_graph_nodes.specs.Nodes.{ActAt, CheckAt, DepthEndAt, DepthJoinAt, EnterAt, ForkAt, HeadAt, Node, PauseAt, ResumeAt, StartAt, SurfaceEndAt}
+use Rattle.bl_graph_nodes.specs.Nodes.{SurfaceJoinAt, TestAt, are_instant, entry, is_instant}
 use Rattle.bl_graph_nodes.specs.Plain.{Await, Block, Bodies, Body as BodyOf, Done, Label, Last, Plain, Then}
 use Rattle.bl_graph_nodes.specs.Steps.{end_node, join_node, run_node}
-use Rattle.bl_cause.proofs.ListLemmas.{contains_head, contains_tail}
 use Rattle.bl_cause.proofs.PairLemmas.{contains_left}
 use Rattle.bl_ctree.specs.Control.{Body, Check}
 use Rattle.bl_ctree.specs.Instances.{Setting}
@@ -56,35 +17,12 @@ use Rattle.bl_ctree_laws_traces.specs.Progress.Places.{Place, ahead_of, guarded,
 use Rattle.bl_machine.specs.declared.slots.Slot.{Slot}
 use Rattle.bl_machine.specs.Uses.{Slots, uses, uses_in, uses_in_branch, uses_in_each}
 use Rattle.bl_machine_laws.specs.Numbers.Waiting.{Is, Sleeps, SomeSleeps, SomeWaits, Waits, first_in}
-use Rattle.bl_machine_pass.specs.Transitions.{
-  Change,
-  SetsFlag,
-  ClearsBoth,
-  SetsCounter,
-  IsNew,
-  Age,
-  Rested,
-  RestedIn,
-  Transition,
-  age_of,
-  body_ends,
-  counters_in,
-  enter,
-  fires,
-  flagged,
-  enter_each,
-  joins,
-  marked,
-  once,
-  rests_in,
-  rule_where,
-  rules_in,
-  rules_in_each,
-  rules_of,
-}
+use Rattle.bl_machine_pass.specs.Transitions.{Change, SetsFlag, ClearsBoth, SetsCounter, IsNew, Age, Rested, RestedIn, Transition, age_of, body_ends}
+use Rattle.bl_machine_pass.specs.Transitions.{counters_in, enter, fires, flagged, enter_each, joins, marked, once, rests_in, rule_where, rules_in}
+use Rattle.bl_machine_pass.specs.Transitions.{rules_in_each, rules_of}
 use Rattle.bl_machine_pass_laws.specs.Turns.Invariant.{IsFlagged, IsResume}
 use Rattle.bl_machine_pass_laws.specs.Turns.Sits.{RulesAreAmong, SitEach, Sits, UseEach, UsesOnly}
-use Rattle.bl_machine_pass_laws_turns.proofs.OnWaiting.Lists.{contains_right, or_first, or_second}
+use Rattle.bl_machine_pass_laws_turns.proofs.OnWaiting.Lists.{contains_right}
 use Rattle.bl_machine_pass_laws_turns.proofs.OnWaiting.Rules.{AsksFor, IsEndNode, IsJoinNode, RuleAt, entry_rule, rests_there_in}
 
 -- ---- the rules of constructs
@@ -130,16 +68,16 @@ join_rule slots stood s next = joins slots s.label s.bodies (age_when stood s) (
 -- they are among those of the statement
 pub test_there : (slots : Slots) (s : Pause) (next : Change) → Contains (rules_of slots (Await s.label s.place s.test) next) (test_rule slots s next)
 test_there slots s next =
-    contains_tail (flagged (PauseAt s.label s.place) (SetsCounter (slots.rest s.label) ∷ [])) (test_rule slots s next ∷ []) (test_rule slots s next)
-    (contains_head (test_rule slots s next) [])
+    contains_further (flagged (PauseAt s.label s.place) (SetsCounter (slots.rest s.label) ∷ [])) (test_rule slots s next ∷ []) (test_rule slots s next)
+    (contains_first (test_rule slots s next) [])
 
 pub resume_there : (slots : Slots) (s : Call) (next : Change) → Contains (rules_of slots (call_stmt s) next) (resume_rule slots s next)
 resume_there slots s next =
-    contains_tail (flagged (EnterAt s.label s.place s.arguments) (SetsCounter (slots.rest s.label) ∷ [])) (resume_rule slots s next ∷ [])
-    (resume_rule slots s next) (contains_head (resume_rule slots s next) [])
+    contains_further (flagged (EnterAt s.label s.place s.arguments) (SetsCounter (slots.rest s.label) ∷ [])) (resume_rule slots s next ∷ [])
+    (resume_rule slots s next) (contains_first (resume_rule slots s next) [])
 
 where_there : (b : Bool) (rule : Transition) → b ≡ true → Contains (rule_where b rule) rule
-where_there true rule e = contains_head rule []
+where_there true rule e = contains_first rule []
 where_there false rule e = absurd cc
 
 -- where a `when` begins, and the rules behind that of its condition
@@ -156,19 +94,19 @@ after_start slots s next =
 
 pub check_there : (slots : Slots) (s : Watch) (next : Change) → Contains (rules_of slots (watch_stmt s) next) (check_rule slots s next)
 check_there slots s next =
-    contains_tail (start_rule slots s) (after_start slots s next) (check_rule slots s next)
+    contains_further (start_rule slots s) (after_start slots s next) (check_rule slots s next)
     (contains_right (rule_where (are_instant s.body) (end_rule false s next)) (check_rule slots s next ∷ end_rule true s next ∷ under slots s)
-    (check_rule slots s next) (contains_head (check_rule slots s next) (end_rule true s next ∷ under slots s)))
+    (check_rule slots s next) (contains_first (check_rule slots s next) (end_rule true s next ∷ under slots s)))
 
 pub end_there : (slots : Slots) (stood : Bool) (s : Watch) (next : Change) → (stood ≡ false → are_instant s.body ≡ true) →
     Contains (rules_of slots (watch_stmt s) next) (end_rule stood s next)
 end_there slots true s next instant =
-    contains_tail (start_rule slots s) (after_start slots s next) (end_rule true s next)
+    contains_further (start_rule slots s) (after_start slots s next) (end_rule true s next)
     (contains_right (rule_where (are_instant s.body) (end_rule false s next)) (check_rule slots s next ∷ end_rule true s next ∷ under slots s)
-    (end_rule true s next) (contains_tail (check_rule slots s next) (end_rule true s next ∷ under slots s) (end_rule true s next)
-    (contains_head (end_rule true s next) (under slots s))))
+    (end_rule true s next) (contains_further (check_rule slots s next) (end_rule true s next ∷ under slots s) (end_rule true s next)
+    (contains_first (end_rule true s next) (under slots s))))
 end_there slots false s next instant =
-    contains_tail (start_rule slots s) (after_start slots s next) (end_rule false s next)
+    contains_further (start_rule slots s) (after_start slots s next) (end_rule false s next)
     (contains_left (rule_where (are_instant s.body) (end_rule false s next)) (check_rule slots s next ∷ end_rule true s next ∷ under slots s)
     (end_rule false s next) (where_there (are_instant s.body) (end_rule false s next) (instant refl)))
 
@@ -186,11 +124,11 @@ after_fork slots s next =
 pub join_there : (slots : Slots) (stood : Bool) (s : Fork) (next : Change) → (stood ≡ false → is_instant (fork_stmt s) ≡ true) →
     Contains (rules_of slots (fork_stmt s) next) (join_rule slots stood s next)
 join_there slots true s next instant =
-    contains_tail (fork_rule slots s) (after_fork slots s next) (join_rule slots true s next)
+    contains_further (fork_rule slots s) (after_fork slots s next) (join_rule slots true s next)
     (contains_right (rule_where (is_instant (fork_stmt s)) (join_rule slots false s next)) (join_rule slots true s next ∷ beside_join slots s)
-    (join_rule slots true s next) (contains_head (join_rule slots true s next) (beside_join slots s)))
+    (join_rule slots true s next) (contains_first (join_rule slots true s next) (beside_join slots s)))
 join_there slots false s next instant =
-    contains_tail (fork_rule slots s) (after_fork slots s next) (join_rule slots false s next)
+    contains_further (fork_rule slots s) (after_fork slots s next) (join_rule slots false s next)
     (contains_left (rule_where (is_instant (fork_stmt s)) (join_rule slots false s next)) (join_rule slots true s next ∷ beside_join slots s)
     (join_rule slots false s next) (where_there (is_instant (fork_stmt s)) (join_rule slots false s next) (instant refl)))
 
@@ -256,11 +194,11 @@ module _ (w : Setting) (i : ℕ) (slots : Slots) (all : List Transition) where
     asleep_each g stood l k Last (beside weak c branches) y live sits uses h = absurd live
     asleep_each g stood l k (BodyOf weak' body rest) (beside weak c branches) y live sits uses (inl h) =
         asleep_within all (uses_in_branch slots l k body) (uses_in_each slots l k (BodyOf weak' body rest)) y
-        (λ j used. or_first (uses_in_branch slots l k body j) (uses_in_each slots l (suc k) rest j) used)
+        (λ j used. or_left (uses_in_branch slots l k body j) (uses_in_each slots l (suc k) rest j) used)
         (asleep (uses_in_branch slots l k body) (in_branch stood body g) (SetsCounter (slots.ending l k)) c y live.0 sits.1 uses.0 h)
     asleep_each g stood l k (BodyOf weak' body rest) (beside weak c branches) y live sits uses (inr h) =
         asleep_within all (uses_in_each slots l (suc k) rest) (uses_in_each slots l k (BodyOf weak' body rest)) y
-        (λ j used. or_second (uses_in_branch slots l k body j) (uses_in_each slots l (suc k) rest j) used)
+        (λ j used. or_right (uses_in_branch slots l k body j) (uses_in_each slots l (suc k) rest j) used)
         (asleep_each g stood l (suc k) rest branches y live.2 sits.2 uses.1 h)
 
 -- ---- what waits, and does not sleep

@@ -1,66 +1,24 @@
 -- What waits and sleeps in trees that begin.
 use Rattle.std.proofs.Common.{◌≡◌, inl, inr, ℕ, Bool, true, false, Option, Some, refl}
-use Rattle.bl_graph_nodes.specs.Nodes.{Node, are_instant, entry}
-use Rattle.bl_graph_nodes.specs.Plain.{Block, Bodies, Body as BodyOf, Done, Last, Plain, Then, is_empty}
+use Rattle.bl_tree.proofs.Basics.{and_first, and_second, true_false_any}
+use Rattle.bl_graph_nodes.specs.Nodes.{Node, entry}
+use Rattle.bl_graph_nodes.specs.Plain.{Block, Bodies, Body as BodyOf, Done, Last, Plain, Then}
 use Rattle.bl_ctree.specs.Control.{Body, Check}
 use Rattle.bl_ctree.specs.Instances.{Setting}
 use Rattle.bl_ctree_laws.specs.Steps.{turn}
-use Rattle.bl_ctree_laws.specs.Trees.{
-  Tree,
-  Trees,
-  Nil,
-  Wait,
-  Test,
-  Idle,
-  Do,
-  Seq,
-  Par,
-  Guard,
-  Run,
-  are_settled,
-  trees_begun,
-  beside,
-  do_block,
-  is_nil,
-  is_settled,
-  no_tree,
-  seq,
-}
+use Rattle.bl_ctree_laws.specs.Trees.{Tree, Trees, Nil, Wait, Test, Idle, Do, Seq, Par, Guard, Run, are_settled, beside, do_block, is_nil}
+use Rattle.bl_ctree_laws.specs.Trees.{is_settled, no_tree, seq}
 use Rattle.bl_ctree_laws_traces.specs.Progress.FitsGraph.{AllFitGraph, FitsGraph}
 use Rattle.bl_ctree_laws_traces.specs.Progress.Places.{Place, in_branch}
-use Rattle.bl_machine_laws.specs.Numbers.Waiting.{Is, Sleeps, SomeSleeps, SomeWaits, Waits, first_in}
-use Rattle.bl_machine_laws.proofs.OnWaiting.Quiet.{and_first, and_second, differ, quiet_branch}
+use Rattle.bl_machine_laws.specs.Numbers.Waiting.{Is, SomeWaits, Waits, first_in}
+use Rattle.bl_machine_laws.proofs.OnWaiting.Quiet.{quiet_branch}
 
 -- ---- blocks
-
-pub block_nil : (body : Block) → is_nil (do_block body) ≡ is_empty body
-block_nil Done = refl
-block_nil (Then s Done) = refl
-block_nil (Then s (Then t rest)) = refl
-
-pub block_waits : (body : Block) (nx : Option Node) (y : Node) → Waits (do_block body) nx y → Is (first_in body nx) y
-block_waits Done nx y h = h
-block_waits (Then s Done) nx y h = h
-block_waits (Then s (Then t rest)) nx y h = h
 
 pub waits_block : (body : Block) (nx : Option Node) (y : Node) → Is (first_in body nx) y → Waits (do_block body) nx y
 waits_block Done nx y h = h
 waits_block (Then s Done) nx y h = h
 waits_block (Then s (Then t rest)) nx y h = h
-
-pub block_awake : (body : Block) (y : Node) → Sleeps (do_block body) y → ⊥
-block_awake Done y h = h
-block_awake (Then s Done) y h = h
-block_awake (Then s (Then t rest)) y h = h
-
-pub begun_awake : (bodies : Bodies) (y : Node) → SomeSleeps (trees_begun bodies) y → ⊥
-begun_awake Last y h = h
-begun_awake (BodyOf weak body rest) y (inl h) = block_awake body y h
-begun_awake (BodyOf weak body rest) y (inr h) = begun_awake rest y h
-
-pub empty_instant : (body : Block) → is_empty body ≡ true → are_instant body ≡ true
-empty_instant Done e = refl
-empty_instant (Then s rest) e = absurd cc
 
 -- the first node of a turn of a loop
 pub turn_first : (body : Block) (next : Plain) (nx : Option Node) → first_in body (Some (entry next)) ≡ first_in (turn body next) nx
@@ -83,16 +41,9 @@ seq_by P s rest begins stands (Par p stood branches) = stands (Par p stood branc
 seq_by P s rest begins stands (Guard p phase stood c) = stands (Guard p phase stood c)
 seq_by P s rest begins stands (Run p callee phase stood c) = stands (Run p callee phase stood c)
 
-pub seq_waits : (c : Tree) (s : Plain) (rest : Block) (nx : Option Node) (y : Node) → Waits (seq c (Then s rest)) nx y → Waits c (Some (entry s)) y
-seq_waits c s rest nx y h =
-    seq_by (λ t d. Waits d nx y → Waits t (Some (entry s)) y) s rest (λ k. block_waits (Then s rest) nx y k) (λ t k. k) c h
-
 pub waits_seq : (c : Tree) (s : Plain) (rest : Block) (nx : Option Node) (y : Node) → Waits c (Some (entry s)) y → Waits (seq c (Then s rest)) nx y
 waits_seq c s rest nx y h =
     seq_by (λ t d. Waits t (Some (entry s)) y → Waits d nx y) s rest (λ k. waits_block (Then s rest) nx y k) (λ t k. k) c h
-
-pub seq_sleeps : (c : Tree) (s : Plain) (rest : Block) (y : Node) → Sleeps (seq c (Then s rest)) y → Sleeps c y
-seq_sleeps c s rest y h = seq_by (λ t d. Sleeps d y → Sleeps t y) s rest (λ k. absurd (block_awake (Then s rest) y k)) (λ t k. k) c h
 
 -- ---- what has not ended
 
@@ -100,7 +51,7 @@ seq_sleeps c s rest y h = seq_by (λ t d. Sleeps d y → Sleeps t y) s rest (λ 
 pub unended_waits : (w : Setting) (i : ℕ) (g : Place) (c : Tree) (nx other : Option Node) (y : Node) → FitsGraph w i c g → is_nil c ≡ false →
     Waits c nx y →
     Waits c other y
-unended_waits w i g Nil nx other y live unended h = differ true refl unended
+unended_waits w i g Nil nx other y live unended h = true_false_any true refl unended
 unended_waits w i g (Wait s) nx other y live unended h = h
 unended_waits w i g (Test s) nx other y live unended h = h
 unended_waits w i g (Idle body) nx other y live unended h = h

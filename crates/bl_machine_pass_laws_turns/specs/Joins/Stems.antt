@@ -2,21 +2,7 @@
 use Rattle.std.specs.Prelude.{◌≡◌, ◌⊎◌, List, [], ◌∷◌, Contains, ⊤}
 use Rattle.bl_graph_nodes.specs.Nodes.{Node, label_of, nodes_in, nodes_of}
 use Rattle.bl_graph_nodes.specs.Plain.{Block, Bodies, Body as BodyOf, Done, Last, Plain, Then}
-use Rattle.bl_ctree_laws.specs.Trees.{
-  Tree,
-  Trees,
-  Nil,
-  Wait,
-  Test,
-  Idle,
-  Do,
-  Seq,
-  Par,
-  Guard,
-  Run,
-  beside,
-  no_tree,
-}
+use Rattle.bl_ctree_laws.specs.Trees.{Tree, Trees, Nil, Wait, Test, Idle, Do, Seq, Par, Guard, Run, beside, no_tree}
 use Rattle.bl_ctree_laws_traces.specs.Progress.FitsGraph.{fork_stmt, watch_stmt}
 use Rattle.bl_machine_pass.specs.SlotLayout.{RestOf, Spot, spots_in, spots_of}
 use Rattle.bl_machine_pass.specs.Numbered.{sort}

@@ -2,6 +2,8 @@
 use Rattle.std.proofs.Common.{◌≡◌, ◌⊎◌, inl, inr, ℕ, zero, suc, true, List, [], ◌∷◌, ◌++◌, length, take, drop, Option}
 use Rattle.std.proofs.Common.{Some, None, refl, sym, ap, ◌∙◌, subst}
 use Rattle.std.specs.Prelude.{option_and_then, option_map, slice_get, slice_set, unwrap_or}
+use Rattle.std.proofs.lemmas.Bool.{and_from}
+use Rattle.bl_tree.proofs.Basics.{and_first, and_second}
 use Rattle.bl_tree.specs.declared.scalar.Scalar.{Scalar as ScalarType}
 use Rattle.bl_tree.specs.declared.static_path.Static.{Static}
 use Rattle.bl_tree.specs.declared.tree.StructDef.{StructDef}
@@ -15,7 +17,7 @@ use Rattle.bl_tree.specs.Typing.{inputs_of}
 use Rattle.bl_eval.specs.Values.{put_at, value_at, value_fits, values_fit, with_value_at}
 use Rattle.bl_eval.proofs.FitLemmas.{Test}
 use Rattle.bl_eval.proofs.PartFits.{Fits}
-use Rattle.bl_eval.proofs.PassLemmas.{and_left, and_right, both, pass_at, pass_set}
+use Rattle.bl_eval.proofs.PassLemmas.{pass_at, pass_set}
 use Rattle.bl_ctree.specs.Actions.{with_result}
 use Rattle.bl_ctree.specs.Instances.{Setting, setting_of, unit_at}
 use Rattle.bl_ctree.specs.Store.{Frame, Location, Store, home, put, put_path, put_written, remember, with_frame, with_inputs, with_now}
@@ -69,10 +71,10 @@ front_set structs (suc n) [] (v ∷ values) now one other = absurd cc
 front_set structs (suc n) (var ∷ vars) [] now one other = absurd cc
 front_set structs (suc n) (var ∷ vars) (v ∷ values) [] one other = absurd cc
 front_set structs (suc n) (var ∷ vars) (v ∷ values) (x ∷ now) one other =
-    both (value_fits structs var.ty v) (values_fit structs vars (values ++ drop (length values) now))
-    (and_left (value_fits structs var.ty v) (values_fit structs (take n vars) values) one)
-    (front_set structs n vars values now (and_right (value_fits structs var.ty v) (values_fit structs (take n vars) values) one)
-    (and_right (value_fits structs var.ty x) (values_fit structs vars now) other))
+    and_from (value_fits structs var.ty v) (values_fit structs vars (values ++ drop (length values) now))
+    (and_first (value_fits structs var.ty v) (values_fit structs (take n vars) values) one)
+    (front_set structs n vars values now (and_second (value_fits structs var.ty v) (values_fit structs (take n vars) values) one)
+    (and_second (value_fits structs var.ty x) (values_fit structs vars now) other))
 
 -- ---- frames
 

@@ -1,6 +1,8 @@
 -- What deeds of nodes that fit leave of typed stores.
 use Rattle.std.proofs.Common.{◌≡◌, ℕ, Bool, true, List, [], ◌∷◌, map, take, Option, Some, None, refl, sym, ap, ◌∙◌, subst, IfSome}
 use Rattle.std.specs.Prelude.{is_some, option_and_then, option_map, slice_get}
+use Rattle.std.proofs.lemmas.Bool.{and_from}
+use Rattle.bl_tree.proofs.Basics.{and_first, and_second}
 use Rattle.bl_tree.specs.declared.place.Place.{Place}
 use Rattle.bl_tree.specs.declared.scalar.Scalar.{Scalar as ScalarType}
 use Rattle.bl_tree.specs.declared.tree.Arm.{Arm}
@@ -19,38 +21,11 @@ use Rattle.bl_tree.specs.Effects.{writes}
 use Rattle.bl_tree.specs.Program.{IsWellTyped}
 use Rattle.bl_tree.specs.Static.{static_of}
 use Rattle.bl_tree.specs.Types.{same_type, scalar}
-use Rattle.bl_tree.specs.Typing.{
-  TypingContext,
-  are_same,
-  fits,
-  inputs_of,
-  is_assignable,
-  is_outlet,
-  is_plain,
-  return_fits,
-  site_of,
-  target_fits,
-  type_of,
-  type_of_path,
-  types_match,
-}
+use Rattle.bl_tree.specs.Typing.{TypingContext, are_same, fits, inputs_of, is_assignable, is_outlet, is_plain, return_fits, site_of, target_fits, type_of}
+use Rattle.bl_tree.specs.Typing.{type_of_path, types_match}
 use Rattle.bl_tree.proofs.StmtInduction.{stmt}
-use Rattle.bl_graph_nodes.specs.Nodes.{
-  ActAt,
-  CheckAt,
-  DepthEndAt,
-  DepthJoinAt,
-  EnterAt,
-  ForkAt,
-  HeadAt,
-  Node,
-  PauseAt,
-  ResumeAt,
-  StartAt,
-  SurfaceEndAt,
-  SurfaceJoinAt,
-  TestAt,
-}
+use Rattle.bl_graph_nodes.specs.Nodes.{ActAt, CheckAt, DepthEndAt, DepthJoinAt, EnterAt, ForkAt, HeadAt, Node, PauseAt, ResumeAt, StartAt, SurfaceEndAt}
+use Rattle.bl_graph_nodes.specs.Nodes.{SurfaceJoinAt, TestAt}
 use Rattle.bl_graph_nodes.specs.Plain.{Label}
 use Rattle.bl_graph_nodes.proofs.Equations.{made_of_parts}
 use Rattle.bl_eval.specs.Meaning.{View}
@@ -60,24 +35,8 @@ use Rattle.bl_eval.proofs.ActFits.{same_found}
 use Rattle.bl_eval.proofs.FitLemmas.{same_type_is}
 use Rattle.bl_eval.proofs.LawLemmas.{act_typed, value_typed}
 use Rattle.bl_eval.proofs.PartFits.{Fits}
-use Rattle.bl_eval.proofs.PassLemmas.{and_left, and_right, both}
-use Rattle.bl_ctree.specs.Actions.{
-  Acts,
-  Asks,
-  Copies,
-  Gives,
-  Performed,
-  acted_kind,
-  done,
-  effect_on,
-  given_to,
-  is_true_value,
-  outcome_there,
-  result_at,
-  value_there,
-  values_there,
-  with_result,
-}
+use Rattle.bl_ctree.specs.Actions.{Acts, Asks, Copies, Gives, Performed, acted_kind, done, effect_on, given_to, is_true_value, outcome_there, result_at}
+use Rattle.bl_ctree.specs.Actions.{value_there, values_there, with_result}
 use Rattle.bl_ctree.specs.declared.instance.Instance.{Instance}
 use Rattle.bl_ctree.specs.Instances.{Setting, setting_of, unit_at, unit_of}
 use Rattle.bl_ctree.specs.Positions.{stmt_kind}
@@ -93,7 +52,7 @@ use Rattle.bl_machine_laws.specs.Passes.Follows.{DeedYields}
 use Rattle.bl_machine_pass_laws_execution.specs.Executes.{IsPoint, deed_at}
 use Rattle.bl_machine_pass_laws_typing.proofs.OnFits.Changing.{changed_fits, inputs_fit, put_fits, remember_fits, returned_fits, written_fits}
 
-one_if : {A : Type 0} (P : A → Type 0) (o : Option A) (x : A) → o ≡ Some x → IfSome o P → P x
+pub one_if : {A : Type 0} (P : A → Type 0) (o : Option A) (x : A) → o ≡ Some x → IfSome o P → P x
 one_if P o x is h = subst (λ o. IfSome o P) is h
 
 -- an instance of the unit, by its position in the program
@@ -157,8 +116,8 @@ module _ (callers : InstancesHaveCallers) (views : ViewsAreTyped) (structs : Lis
   inputs_first e rest var vars value None typed_as matched gives = absurd cc
   inputs_first e rest var vars value (Some ty) typed_as matched gives = (
     there_typed e var.ty value
-        (typed_as ∙ ap Some (same_type_is ty var.ty (and_left (same_type ty var.ty) (types_match (map (type_of site) rest) vars) matched))) gives,
-    and_right (same_type ty var.ty) (types_match (map (type_of site) rest) vars) matched,
+        (typed_as ∙ ap Some (same_type_is ty var.ty (and_first (same_type ty var.ty) (types_match (map (type_of site) rest) vars) matched))) gives,
+    and_second (same_type ty var.ty) (types_match (map (type_of site) rest) vars) matched,
   )
 
   pub inputs_typed : (inputs : List Expr) (vars : List Var) (values : List Value) → types_match (map (type_of site) inputs) vars ≡ true →
@@ -182,7 +141,7 @@ module _ (callers : InstancesHaveCallers) (views : ViewsAreTyped) (structs : Lis
           let first = inputs_first e rest var vars value (type_of site e) refl matched one in
           let so : value ∷ others ≡ values = cc in
           subst (λ values. values_fit structs (var ∷ vars) values ≡ true) so
-          (both (value_fits structs var.ty value) (values_fit structs vars others) first.0 (inner others first.1 is))
+          (and_from (value_fits structs var.ty value) (values_fit structs vars others) first.0 (inner others first.1 is))
 
       by : (o : Option Value) → value_there W store i e ≡ o →
           option_and_then (λ value. option_map (λ values. value ∷ values) (values_there W store i rest)) o ≡ Some values →
@@ -353,10 +312,10 @@ module _ (callers : InstancesHaveCallers) (views : ViewsAreTyped) (structs : Lis
       by_result path value given (Some s) result_is fitted =
           let has = typed.each callee other of in
           let found = same_found (Some (scalar s)) (type_of_path site path)
-          (and_right (is_outlet site path) (are_same (Some (scalar s)) (type_of_path site path)) fitted) in
+          (and_second (is_outlet site path) (are_same (Some (scalar s)) (type_of_path site path)) fitted) in
           let plain : is_plain path ≡ true =
-          and_left (is_plain path) (is_assignable site path)
-          (and_left (is_outlet site path) (are_same (Some (scalar s)) (type_of_path site path)) fitted) in
+          and_first (is_plain path) (is_assignable site path)
+          (and_first (is_outlet site path) (are_same (Some (scalar s)) (type_of_path site path)) fitted) in
           let path_is = path_typed site path (scalar s) plain (found.2 ∙ sym found.1) in
           let held : has.frame.result ≡ Some value = sym (ap (option_and_then (λ (frame : Frame). frame.result)) has.is) ∙ given in
           let one : result_fits structs (Some s) (Some value) ≡ true =

@@ -3,6 +3,7 @@ use Rattle.std.proofs.Common.{◌≡◌, ℕ, suc, Bool, true, false, ◌&&◌, 
 use Rattle.std.proofs.Common.{refl, sym, ◌∙◌, subst}
 use Rattle.std.specs.Prelude.{slice_get, ⊤}
 use Rattle.std.proofs.lemmas.List.Elements.{All-head, All-tail}
+use Rattle.bl_tree.proofs.Basics.{and_first, and_second}
 use Rattle.bl_tree.specs.declared.place.Place.{Place}
 use Rattle.bl_tree.specs.declared.tree.Arm.{Arm, fold-Arm, fold_out-Arm, out-Arm}
 use Rattle.bl_tree.specs.declared.tree.Branch.{Branch, fold-Branch, fold_out-Branch, out-Branch}
@@ -18,44 +19,15 @@ use Rattle.bl_tree.specs.Typing.{TypingContext, arm_fits, branch_fits, fits, inp
 use Rattle.bl_tree.specs.Typing.{outputs_of, run_fits, stmt_fits, target_fits, type_of, type_of_path, types_match}
 use Rattle.bl_tree.proofs.StmtInduction.{Cases, Each, EachArm, EachBranch, induct, stmt}
 use Rattle.bl_graph_nodes.specs.Laws.{plain_arm, plain_branch}
-use Rattle.bl_graph_nodes.specs.Nodes.{
-  ActAt,
-  Arguments,
-  CheckAt,
-  DepthEndAt,
-  DepthJoinAt,
-  EnterAt,
-  Node,
-  ResumeAt,
-  SurfaceEndAt,
-  SurfaceJoinAt,
-  are_instant,
-  arguments_of,
-  is_instant,
-  nodes_in,
-  nodes_in_each,
-  nodes_of,
-  where_so,
-}
-use Rattle.bl_graph_nodes.specs.Plain.{
-  Plain,
-  Position,
-  block_from,
-  bodies_from,
-  else_at,
-  inside,
-  label_at,
-  passed_one,
-  plain_block,
-  plain_body,
-  plain_stmt,
-}
+use Rattle.bl_graph_nodes.specs.Nodes.{ActAt, Arguments, CheckAt, DepthEndAt, DepthJoinAt, EnterAt, Node, ResumeAt, SurfaceEndAt, SurfaceJoinAt, are_instant}
+use Rattle.bl_graph_nodes.specs.Nodes.{arguments_of, is_instant, nodes_in, nodes_in_each, nodes_of, where_so}
+use Rattle.bl_graph_nodes.specs.Plain.{Plain, Position, block_from, bodies_from, else_at, inside, label_at, passed_one, plain_block, plain_body, plain_stmt}
 use Rattle.bl_graph_nodes.specs.Plain.{Cobegin, Label}
 use Rattle.bl_graph_nodes.proofs.Equations.{plain_statements}
-use Rattle.bl_eval.proofs.PassLemmas.{and_left, and_right}
 use Rattle.bl_ctree.specs.declared.instance.Run.{Run}
 use Rattle.bl_ctree.specs.Instances.{arm_runs, branch_runs, kind_runs, runs_in, runs_in_arm, runs_in_branch, stmt_layer_runs}
 use Rattle.bl_ctree_laws_confluence.proofs.OnDeeds.Activities.{AllOf, all_both}
+use Rattle.bl_ctree_laws_confluence.proofs.OnDeeds.Aliases.{of_first, of_second}
 
 -- a `run` of this kind at the place, of which C holds
 pub record RunFits (site : TypingContext) (C : Run → Type 0) (at : Place) (arguments : Arguments) : Type 0 where
@@ -73,15 +45,7 @@ NodeFits site C (EnterAt l at arguments) = RunFits site C at arguments
 NodeFits site C (ResumeAt l at arguments) = RunFits site C at arguments
 NodeFits site C _ = ⊤
 
-of_first : {A : Type 0} (P : A → Type 0) (xs ys : List A) → AllOf P (xs ++ ys) → AllOf P xs
-of_first P [] ys all = tt
-of_first P (x ∷ xs) ys all = (all.0, of_first P xs ys all.1)
-
-of_second : {A : Type 0} (P : A → Type 0) (xs ys : List A) → AllOf P (xs ++ ys) → AllOf P ys
-of_second P [] ys all = all
-of_second P (x ∷ xs) ys all = of_second P xs ys all.1
-
-all_where : (P : Node → Type 0) (b : Bool) (n : Node) → P n → AllOf P (where_so b n)
+pub all_where : (P : Node → Type 0) (b : Bool) (n : Node) → P n → AllOf P (where_so b n)
 all_where P true n one = (one, tt)
 all_where P false n one = tt
 
@@ -97,9 +61,9 @@ module _ (site : TypingContext) (C : Run → Type 0) where
   block_so [] k block each fitted all = tt
   block_so (s ∷ rest) k block each fitted all =
       all_both N (nodes_of (plain_stmt s (block ++ k ∷ []))) (nodes_in (block_from (map plain_stmt rest) (suc k) block))
-      (All-head S s rest each (and_left (fits site s) (all_of (map (fits site) rest)) fitted)
+      (All-head S s rest each (and_first (fits site s) (all_of (map (fits site) rest)) fitted)
       (of_first C (runs_in s) (joined (map runs_in rest)) all) (block ++ k ∷ []))
-      (block_so rest (suc k) block (All-tail S s rest each) (and_right (fits site s) (all_of (map (fits site) rest)) fitted)
+      (block_so rest (suc k) block (All-tail S s rest each) (and_second (fits site s) (all_of (map (fits site) rest)) fitted)
       (of_second C (runs_in s) (joined (map runs_in rest)) all))
 
   abbrev arm_fitted : Arm → Bool
@@ -119,7 +83,7 @@ module _ (site : TypingContext) (C : Run → Type 0) where
 
   arm_inner : (arm : Arm) → arm_fitted arm ≡ true → all_of (map (fits site) (out-Arm arm).body) ≡ true
   arm_inner arm fitted =
-      and_right (is_truth (type_of site (out-Arm arm).test)) (all_of (map (fits site) (out-Arm arm).body))
+      and_second (is_truth (type_of site (out-Arm arm).test)) (all_of (map (fits site) (out-Arm arm).body))
       (sym (fold_out-Arm Bool Bool Bool Bool (kind_fits site) (arm_fits site) branch_fits stmt_fits arm) ∙ fitted)
 
   branch_inner : (branch : Branch) → branch_fitted branch ≡ true → all_of (map (fits site) (out-Branch branch).body) ≡ true
@@ -140,10 +104,10 @@ module _ (site : TypingContext) (C : Run → Type 0) where
         (all_both N (nodes_in (plain_block (out-Arm arm).body (inside at at.passed)))
         (nodes_in (else_at (passed_one at) (map plain_arm arms) (plain_block other)))
         (inner_so (out-Arm arm).body at at.passed (All-head (λ arm. Each S (out-Arm arm).body) arm arms each)
-        (arm_inner arm (and_left (arm_fitted arm) (all_of (map arm_fitted arms)) fitted))
+        (arm_inner arm (and_first (arm_fitted arm) (all_of (map arm_fitted arms)) fitted))
         (arm_has arm (of_first C (runs_in_arm arm) (joined (map runs_in_arm arms)) all)))
         (arms_so (passed_one at) arms other (All-tail (λ arm. Each S (out-Arm arm).body) arm arms each) others
-        (and_right (arm_fitted arm) (all_of (map arm_fitted arms)) fitted) last
+        (and_second (arm_fitted arm) (all_of (map arm_fitted arms)) fitted) last
         (of_second C (runs_in_arm arm) (joined (map runs_in_arm arms)) all) rest)) tt,
   )
 
@@ -153,10 +117,10 @@ module _ (site : TypingContext) (C : Run → Type 0) where
   branches_so (branch ∷ rest) k at each fitted all =
       all_both N (nodes_in (plain_block (out-Branch branch).body (inside at k))) (nodes_in_each (bodies_from (map plain_branch rest) (suc k) at))
       (inner_so (out-Branch branch).body at k (All-head (λ branch. Each S (out-Branch branch).body) branch rest each)
-      (branch_inner branch (and_left (branch_fitted branch) (all_of (map branch_fitted rest)) fitted))
+      (branch_inner branch (and_first (branch_fitted branch) (all_of (map branch_fitted rest)) fitted))
       (branch_has branch (of_first C (runs_in_branch branch) (joined (map runs_in_branch rest)) all)))
       (branches_so rest (suc k) at (All-tail (λ branch. Each S (out-Branch branch).body) branch rest each)
-      (and_right (branch_fitted branch) (all_of (map branch_fitted rest)) fitted)
+      (and_second (branch_fitted branch) (all_of (map branch_fitted rest)) fitted)
       (of_second C (runs_in_branch branch) (joined (map runs_in_branch rest)) all))
 
   abbrev fit_parts : StmtKind-F StmtKind Arm Branch Stmt → StmtKind-F Bool Bool Bool Bool
@@ -191,13 +155,13 @@ module _ (site : TypingContext) (C : Run → Type 0) where
       let others : Bool = types_match (map (type_of_path site) outputs) (outputs_of callee) && all_of (map (is_outlet site) outputs) in
       let given : Bool = target_fits site callee.result target in
       let two : (given && (ins && others)) ≡ true =
-      and_right (is_activity site.kind && is_activity callee.kind) (given && (ins && others)) fitted in record {
+      and_second (is_activity site.kind && is_activity callee.kind) (given && (ins && others)) fitted in record {
         named = a;
         holds = holds;
         callee = callee;
         there = there;
-        target = and_left given (ins && others) two;
-        inputs = and_left ins others (and_right given (ins && others) two);
+        target = and_first given (ins && others) two;
+        inputs = and_first ins others (and_second given (ins && others) two);
       }
 
   branching_so : (place : Place) (arms : List Arm) (other : List Stmt) → EachArm S arms → Each S other →
@@ -209,19 +173,19 @@ module _ (site : TypingContext) (C : Run → Type 0) where
   branching_so place (arm ∷ rest) other each others = by_parts place (StmtKind-F.If (arm ∷ rest) other) (λ fitted all at.
       let choices : Bool = all_of (map arm_fitted (arm ∷ rest)) in
       let last : Bool = all_of (map (fits site) other) in
-      let fitting : (choices && last) ≡ true = and_right (is_inhabited (map arm_fitted (arm ∷ rest))) (choices && last) fitted in
+      let fitting : (choices && last) ≡ true = and_second (is_inhabited (map arm_fitted (arm ∷ rest))) (choices && last) fitted in
       let arms = of_first C (joined (map runs_in_arm (arm ∷ rest))) (joined (map runs_in other)) all in
       let lasts = of_second C (joined (map runs_in_arm (arm ∷ rest))) (joined (map runs_in other)) all in
-      let chosen = and_left choices last fitting in
+      let chosen = and_first choices last fitting in
       subst AllNodes (sym (plain_statements.branching place at arm rest other)) (
         tt,
         all_both N (nodes_in (plain_block (out-Arm arm).body (inside (label_at at) 0)))
             (nodes_in (else_at (passed_one (label_at at)) (map plain_arm rest) (plain_block other)))
             (inner_so (out-Arm arm).body (label_at at) 0 (All-head (λ arm. Each S (out-Arm arm).body) arm rest each)
-            (arm_inner arm (and_left (arm_fitted arm) (all_of (map arm_fitted rest)) chosen))
+            (arm_inner arm (and_first (arm_fitted arm) (all_of (map arm_fitted rest)) chosen))
             (arm_has arm (of_first C (runs_in_arm arm) (joined (map runs_in_arm rest)) arms)))
             (arms_so (passed_one (label_at at)) rest other (All-tail (λ arm. Each S (out-Arm arm).body) arm rest each) others
-            (and_right (arm_fitted arm) (all_of (map arm_fitted rest)) chosen) (and_right choices last fitting)
+            (and_second (arm_fitted arm) (all_of (map arm_fitted rest)) chosen) (and_second choices last fitting)
             (of_second C (runs_in_arm arm) (joined (map runs_in_arm rest)) arms) lasts),
       ))
 
@@ -246,7 +210,7 @@ module _ (site : TypingContext) (C : Run → Type 0) where
               (DepthJoinAt (label_at at) place ∷ nodes_in_each (bodies_from (map plain_branch branches) 0 (label_at at)))
               (all_where N (is_instant (Cobegin (label_at at) place (bodies_from (map plain_branch branches) 0 (label_at at))))
               (SurfaceJoinAt (label_at at) place) tt)
-              (tt, branches_so branches 0 (label_at at) each (and_right some within (and_right (is_activity site.kind) (some && within) fitted)) all),
+              (tt, branches_so branches 0 (label_at at) each (and_second some within (and_second (is_activity site.kind) (some && within) fitted)) all),
         ));
     guarded = λ place guard e body each. by_parts place (StmtKind-F.When guard e body) (λ fitted all at.
         let tested : Bool = is_truth (type_of site e) in
@@ -259,7 +223,7 @@ module _ (site : TypingContext) (C : Run → Type 0) where
                 tt,
                 (
                   tt,
-                  inner_so body (label_at at) 0 each (and_right tested within (and_right (is_activity site.kind) (tested && within) fitted)) all,
+                  inner_so body (label_at at) 0 each (and_second tested within (and_second (is_activity site.kind) (tested && within) fitted)) all,
                 ),
               ),
         ));
@@ -268,11 +232,11 @@ module _ (site : TypingContext) (C : Run → Type 0) where
     until = λ place body e each. by_parts place (StmtKind-F.Until body e) (λ fitted all at.
         subst AllNodes (sym (plain_statements.until place at body e)) (
           tt,
-          (tt, inner_so body (label_at at) 0 each (and_left (all_of (map (fits site) body)) (is_truth (type_of site e)) fitted) all),
+          (tt, inner_so body (label_at at) 0 each (and_first (all_of (map (fits site) body)) (is_truth (type_of site e)) fitted) all),
         ));
     while = λ place e body each. by_parts place (StmtKind-F.While e body) (λ fitted all at.
         subst AllNodes (sym (plain_statements.while place at e body))
-        (tt, inner_so body (label_at at) 0 each (and_right (is_truth (type_of site e)) (all_of (map (fits site) body)) fitted) all));
+        (tt, inner_so body (label_at at) 0 each (and_second (is_truth (type_of site e)) (all_of (map (fits site) body)) fitted) all));
     returns = λ place e fitted all at. subst AllNodes (sym (plain_statements.returns place at e)) (fitted, tt);
   }
 

@@ -24,7 +24,7 @@ use Rattle.bl_ctree_laws_confluence.specs.Deeds.Origins.{InstancesHaveCallers}
 use Rattle.bl_ctree_laws_confluence.proofs.OnDeeds.Activities.{AllOf}
 use Rattle.bl_ctree_laws_typing.specs.Views.{ViewsAreTyped}
 use Rattle.bl_ctree_laws_typing.proofs.OnViews.Along.{one_some}
-use Rattle.bl_ctree_laws_typing.proofs.OnViews.Running.{body_fits, unit_stands_at}
+use Rattle.bl_ctree_laws_typing.proofs.OnViews.Running.{body_fits}
 use Rattle.bl_machine.specs.Uses.{Slots}
 use Rattle.bl_machine_laws.specs.Passes.Follows.{DeedYields}
 use Rattle.bl_machine_pass.specs.Registers.{Registers}
@@ -38,6 +38,8 @@ use Rattle.bl_machine_pass_laws_typing.specs.Fits.{PassesKeepTypes, TurnsKeepTyp
 use Rattle.bl_machine_pass_laws_typing.proofs.OnFits.Changing.{one_set}
 use Rattle.bl_machine_pass_laws_typing.proofs.OnFits.Doing.{copy_fits, give_fits, point_fits, stands_at}
 use Rattle.bl_machine_pass_laws_typing.proofs.OnFits.NodesFit.{NodeFits, RunFits, body_nodes}
+use Rattle.bl_eval.proofs.UnitFits.{unit_at as unit_stands_at}
+use Rattle.bl_ctree_laws_confluence.proofs.OnDeeds.Activities.{taken}
 
 -- ---- rules of nodes that fit
 
@@ -45,13 +47,6 @@ rule_fits : (P : Node → Type 0) (all : List Transition) (rule : Transition) �
 rule_fits P [] rule fit there = let below = there.1 in absurd (omega arith)
 rule_fits P (first ∷ all) rule fit (zero, within, is) = subst (λ (x : Transition). P x.node) is fit.0
 rule_fits P (first ∷ all) rule fit (suc k, within, is) = rule_fits P all rule fit.1 (k, omega arith, is)
-
-taken : (units : List UnitDef) (n k : ℕ) (unit : UnitDef) → slice_get (take n units) k ≡ Some unit → slice_get units k ≡ Some unit
-taken [] zero k unit e = absurd cc
-taken [] (suc n) k unit e = absurd cc
-taken (u ∷ units) zero k unit e = absurd cc
-taken (u ∷ units) (suc n) zero unit e = e
-taken (u ∷ units) (suc n) (suc k) unit e = taken units n k unit e
 
 module _ (callers : InstancesHaveCallers) (views : ViewsAreTyped) (placed : StaysPlaced) (structs : List StructDef) (units : List UnitDef)
     (entry : ℕ) (keeps : IsWellTyped structs units entry) where

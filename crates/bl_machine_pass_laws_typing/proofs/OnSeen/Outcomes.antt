@@ -20,7 +20,8 @@ use Rattle.bl_eval.specs.Values.{put_at, value_at}
 use Rattle.bl_eval_laws.proofs.OnLocal.Acting.{Kind, kind_of, writes_out, written_parts}
 use Rattle.bl_eval_laws.proofs.OnLocal.Locality.{Front, local_path}
 use Rattle.bl_eval_laws.proofs.OnLocal.Puts.{parts_of}
-use Rattle.bl_machine_pass_laws_typing.proofs.OnSeen.Values.{Apart, Differ, Past, apart_more, elsewhere, front_there, put_inside, put_is, value_in_parts, way}
+use Rattle.bl_machine_pass_laws_typing.proofs.OnSeen.Values.{Apart, Differ, Past, apart_more, elsewhere, front_there, put_inside, way}
+use Rattle.bl_eval_laws.proofs.OnLocal.Puts.{put_is, value_in_parts}
 
 -- something lies at each of the paths
 abbrev pub Had : List Static → Value → Type 0

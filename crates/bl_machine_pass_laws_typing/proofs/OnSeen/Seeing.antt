@@ -4,6 +4,7 @@ use Rattle.std.proofs.Common.{Option, Some, None, refl, sym, ap, ◌∙◌, subs
 use Rattle.std.proofs.lemmas.Option.{slice_get-map}
 use Rattle.std.specs.List.{range_with_len}
 use Rattle.std.specs.Prelude.{nat_eq, option_and_then, option_map, slice_get, slice_set, unwrap_or}
+use Rattle.bl_tree.proofs.Basics.{and_first, and_second, one_some}
 use Rattle.bl_tree.specs.declared.scalar.Scalar.{Scalar as ScalarType}
 use Rattle.bl_tree.specs.declared.static_path.Static.{Static}
 use Rattle.bl_tree.specs.declared.tree.Arm.{Arm}
@@ -31,31 +32,14 @@ use Rattle.bl_eval.specs.Values.{put_at, value_at, value_fits, values_fit, with_
 use Rattle.bl_eval.proofs.ActFits.{same_found}
 use Rattle.bl_eval.proofs.LawLemmas.{act_typed}
 use Rattle.bl_eval.proofs.PartFits.{Fits}
-use Rattle.bl_eval.proofs.PassLemmas.{and_left, and_right, pass_at}
+use Rattle.bl_eval.proofs.PassLemmas.{pass_at}
 use Rattle.bl_eval_laws.proofs.OnLocal.Acting.{kind_of}
 use Rattle.bl_ctree.specs.declared.instance.Instance.{Instance}
 use Rattle.bl_ctree.specs.Actions.{acted_kind, outcome_there}
 use Rattle.bl_ctree.specs.Instances.{Setting, setting_of, unit_at, unit_of}
 use Rattle.bl_ctree.specs.Positions.{stmt_kind}
-use Rattle.bl_ctree.specs.Store.{
-  Frame,
-  Location,
-  Store,
-  home,
-  overlap,
-  put,
-  put_path,
-  put_written,
-  remember,
-  value_among,
-  variable_among,
-  variables_of,
-  vars_at,
-  view_at,
-  whole_of,
-  with_frame,
-  with_now,
-}
+use Rattle.bl_ctree.specs.Store.{Frame, Location, Store, home, overlap, put, put_path, put_written, remember, value_among, variable_among, variables_of}
+use Rattle.bl_ctree.specs.Store.{vars_at, view_at, whole_of, with_frame, with_now}
 use Rattle.bl_ctree_laws_typing.specs.Fits.{StoreFits}
 use Rattle.bl_ctree_laws_confluence.specs.Deeds.Homes.{HomesAreApart}
 use Rattle.bl_ctree_laws_confluence.specs.Deeds.Orderly.{AcceptedIsOrderly}
@@ -68,18 +52,15 @@ use Rattle.bl_ctree_laws_confluence.specs.Stores.{HomesLeadOn, PutsKeepOthers, R
 use Rattle.bl_machine_pass_laws_typing.proofs.OnFits.Changing.{written_fits}
 use Rattle.bl_machine_pass_laws_typing.specs.Seen.{ActsAreSeen, PutsAreSeen, TargetsAreSeen}
 use Rattle.bl_machine_pass_laws_typing.proofs.OnSeen.Outcomes.{Had, Left, act_left}
-use Rattle.bl_machine_pass_laws_typing.proofs.OnSeen.Values.{Differ, at_path_is, differ_step, put_is, put_may, put_opened, put_there, same_parts, set_got, way}
+use Rattle.bl_machine_pass_laws_typing.proofs.OnSeen.Values.{Differ, at_path_is, differ_step, put_may, put_opened, put_there, same_parts, set_got, way}
+use Rattle.bl_ctree_laws_confluence.proofs.OnStores.Views.{range_at}
+use Rattle.bl_eval_laws.proofs.OnLocal.Puts.{put_is}
+use Rattle.bl_machine_pass_laws_typing.proofs.OnFits.Doing.{one_if}
 
 -- ---- variables by their numbers
 
-range_at : (first count k j : ℕ) → slice_get (range_with_len first count) k ≡ Some j → j ≡ first + k
-range_at first zero zero j e = absurd cc
-range_at first zero (suc k) j e = absurd cc
-range_at first (suc count) zero j e = let is : first ≡ j = cc in omega arith
-range_at first (suc count) (suc k) j e = let is : j ≡ (first + 1) + k = range_at (first + 1) count k j e in omega arith
-
 -- what is in a list by numbers
-mapped_got : (f : ℕ → Value) (count k : ℕ) (old : Value) → slice_get (map f (range_with_len 0 count)) k ≡ Some old → f k ≡ old
+pub mapped_got : (f : ℕ → Value) (count k : ℕ) (old : Value) → slice_get (map f (range_with_len 0 count)) k ≡ Some old → f k ≡ old
 mapped_got f count k old e = by (slice_get (range_with_len 0 count) k) refl (sym (slice_get-map f (range_with_len 0 count) k) ∙ e)
   where
     by : (o : Option ℕ) → slice_get (range_with_len 0 count) k ≡ o → option_map f o ≡ Some old → f k ≡ old
@@ -146,13 +127,6 @@ put_onward store at fields v old new there inner = by_frame (slice_get store at.
         value_among now_of (put (onward at fields) v store) at ≡ Some new
     by_frame None is e = absurd cc
     by_frame (Some frame) is e = by_value frame is (slice_get frame.now at.path.root) refl e
-
-not_both : {A : Type 0} (b : Bool) → b ≡ false → b ≡ true → A
-not_both true e f = absurd cc
-not_both false e f = absurd cc
-
-one_some : {A : Type 0} (x y : A) (o : Option A) → o ≡ Some x → o ≡ Some y → x ≡ y
-one_some x y o e f = let is : Some x ≡ Some y = sym e ∙ f in cc
 
 -- ---- what is seen
 
@@ -235,7 +209,7 @@ module _ (views : ViewsAreTyped) (structs : List StructDef) (units : List UnitDe
         by true e =
             let over : overlaps path (whole k) ≡ true = apart structs units entry i path (whole k) (orderly structs units entry keeps passes).outputs e in
             absurd (never (sym (eqb-true path.root k
-            (and_left (nat_eq path.root k) (is_front path.fields (whole k).fields || is_front (whole k).fields path.fields) over))))
+            (and_first (nat_eq path.root k) (is_front path.fields (whole k).fields || is_front (whole k).fields path.fields) over))))
 
     module _ (path : Static) (value : Value) (store : Store) (seen : List Value) (fit : StoreFits W store)
         (may : put_at path.root path.fields value (now store) ≡ Some seen) where
@@ -271,9 +245,6 @@ puts_are_seen views callers orderly apart lead_on puts structs units entry i uni
     put_at_home views structs units entry keeps i unit is callers orderly apart lead_on puts passes path value store seen fit may
 
 -- ---- acts
-
-one_if : {A : Type 0} (P : A → Type 0) (o : Option A) (x : A) → o ≡ Some x → IfSome o P → P x
-one_if P o x is h = subst (λ o. IfSome o P) is h
 
 module _ (put_seen : PutsAreSeen) (views : ViewsAreTyped) (callers : InstancesHaveCallers) (remembers : RememberingKeepsOthers)
     (structs : List StructDef) (units : List UnitDef)
@@ -395,11 +366,11 @@ target_typed : (site : TypingContext) (result : Option ScalarType) (path : Path)
     (s : ScalarType) × (is_plain path ≡ true) × (type_of_path site path ≡ Some (scalar s))
 target_typed site None path fitted = absurd cc
 target_typed site (Some s) path fitted =
-    let outlet = and_left (is_outlet site path) (are_same (Some (scalar s)) (type_of_path site path)) fitted in
+    let outlet = and_first (is_outlet site path) (are_same (Some (scalar s)) (type_of_path site path)) fitted in
     let found = same_found (Some (scalar s)) (type_of_path site path)
-    (and_right (is_outlet site path) (are_same (Some (scalar s)) (type_of_path site path)) fitted) in (
+    (and_second (is_outlet site path) (are_same (Some (scalar s)) (type_of_path site path)) fitted) in (
       s,
-      and_left (is_plain path) (is_assignable site path) outlet,
+      and_first (is_plain path) (is_assignable site path) outlet,
       found.2 ∙ sym found.1,
     )
 

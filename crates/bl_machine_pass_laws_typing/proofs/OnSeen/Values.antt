@@ -2,14 +2,17 @@
 use Rattle.std.proofs.Common.{◌≡◌, ◌⊎◌, inl, inr, ℕ, zero, suc, Bool, true, false, List, [], ◌∷◌, ◌++◌, Option, Some, None}
 use Rattle.std.proofs.Common.{refl, sym, ap, ◌∙◌, subst, arith, eqb-true, eq-eqb}
 use Rattle.std.specs.Prelude.{nat_eq, option_and_then, option_map, slice_get, slice_set, ⊤}
+use Rattle.bl_tree.proofs.Basics.{not_both, same_some, same_suc}
 use Rattle.bl_tree.specs.declared.static_path.Static.{Static}
-use Rattle.bl_tree.specs.declared.value.Value.{Value, out-Value, roll-Value, roll-out-Value}
-use Rattle.bl_tree.specs.declared.value.Value.TheOpen.{Value-F}
-use Rattle.bl_tree.specs.declared.value.Value.TheVariants.{Parts, rolls-Parts}
-use Rattle.bl_eval.specs.Values.{parts_at, parts_in, put_at, value_at, with_value_at}
+use Rattle.bl_tree.specs.declared.value.Value.{Value}
+use Rattle.bl_tree.specs.declared.value.Value.TheVariants.{Parts}
+use Rattle.bl_eval.specs.Values.{parts_in, put_at, value_at, with_value_at}
 use Rattle.bl_eval_laws.specs.Local.{at_path}
 use Rattle.bl_eval_laws.proofs.OnLocal.Locality.{value_within}
-use Rattle.bl_eval_laws.proofs.OnLocal.Puts.{parts_of, some_same}
+use Rattle.bl_eval_laws.proofs.OnLocal.Puts.{parts_of}
+use Rattle.bl_ctree_laws_confluence.proofs.OnApart.Running.{not_first}
+use Rattle.bl_ctree_laws_confluence.proofs.OnStores.Changes.{whole_again}
+use Rattle.bl_eval_laws.proofs.OnLocal.Puts.{value_in_parts, with_opened}
 
 -- ---- lists
 
@@ -18,12 +21,6 @@ no_some x e = absurd cc
 
 never_zero : (j : ℕ) → suc j ≡ zero → ⊥
 never_zero j e = absurd (omega (arith, e))
-
-zero_never : (j : ℕ) → zero ≡ suc j → ⊥
-zero_never j e = absurd (omega (arith, e))
-
-one_less : (j k : ℕ) → suc j ≡ suc k → j ≡ k
-one_less j k e = omega (arith, e)
 
 pub set_got : {A : Type 0} (xs : List A) (k : ℕ) (old new : A) → slice_get xs k ≡ Some old → slice_get (slice_set xs k new) k ≡ Some new
 set_got [] zero old new e = absurd cc
@@ -36,7 +33,7 @@ set_seen : {A B : Type 0} (q : A → Option B) (xs : List A) (k j : ℕ) (old ne
     option_and_then q (slice_get (slice_set xs k new) j) ≡ option_and_then q (slice_get xs j)
 set_seen q [] zero j old new e same = absurd cc
 set_seen q [] (suc k) j old new e same = absurd cc
-set_seen q (x ∷ xs) zero zero old new e same = same refl ∙ ap q (some_same old x (sym e))
+set_seen q (x ∷ xs) zero zero old new e same = same refl ∙ ap q (same_some old x (sym e))
 set_seen q (x ∷ xs) zero (suc j) old new e same = refl
 set_seen q (x ∷ xs) (suc k) zero old new e same = refl
 set_seen q (x ∷ xs) (suc k) (suc j) old new e same = set_seen q xs k j old new e (λ is. same (ap suc is))
@@ -46,7 +43,7 @@ same_lists [] [] each = refl
 same_lists [] (y ∷ ys) each = no_some y (each zero)
 same_lists (x ∷ xs) [] each = no_some x (sym (each zero))
 same_lists (x ∷ xs) (y ∷ ys) each =
-    ap (λ z. z ∷ xs) (some_same x y (each zero)) ∙ ap (λ zs. y ∷ zs) (same_lists xs ys (λ j. each (suc j)))
+    ap (λ z. z ∷ xs) (same_some x y (each zero)) ∙ ap (λ zs. y ∷ zs) (same_lists xs ys (λ j. each (suc j)))
 
 -- lists that are alike but for one element are the same once that is set
 set_same : (xs ys : List Value) (k : ℕ) (old y : Value) → slice_get xs k ≡ Some old → slice_get ys k ≡ Some y →
@@ -56,10 +53,10 @@ set_same [] ys (suc k) old y e f each = absurd cc
 set_same (x ∷ xs) [] zero old y e f each = absurd cc
 set_same (x ∷ xs) [] (suc k) old y e f each = absurd cc
 set_same (x ∷ xs) (z ∷ ys) zero old y e f each =
-    ap (λ w. w ∷ xs) (some_same y z (sym f)) ∙ ap (λ zs. z ∷ zs) (same_lists xs ys (λ j. each (suc j) (never_zero j)))
+    ap (λ w. w ∷ xs) (same_some y z (sym f)) ∙ ap (λ zs. z ∷ zs) (same_lists xs ys (λ j. each (suc j) (never_zero j)))
 set_same (x ∷ xs) (z ∷ ys) (suc k) old y e f each =
-    ap (λ w. w ∷ slice_set xs k y) (some_same x z (each zero (zero_never k)))
-    ∙ ap (λ zs. z ∷ zs) (set_same xs ys k old y e f (λ j never. each (suc j) (λ is. never (one_less j k is))))
+    ap (λ w. w ∷ slice_set xs k y) (same_some x z (each zero (not_first k)))
+    ∙ ap (λ zs. z ∷ zs) (set_same xs ys k old y e f (λ j never. each (suc j) (λ is. never (same_suc j k is))))
 
 -- ---- one level
 
@@ -107,7 +104,7 @@ placed k ks v x z e = by_parts (parts_in x) refl e
       is = is;
       at = at;
       inner = inner;
-      made = some_same z (Parts (slice_set all k new)) (sym e);
+      made = same_some z (Parts (slice_set all k new)) (sym e);
     }
 
     by_old : (all : List Value) → parts_in x ≡ Some all → (old : Option Value) → slice_get all k ≡ old →
@@ -122,29 +119,10 @@ placed k ks v x z e = by_parts (parts_in x) refl e
     by_parts None is e = absurd cc
     by_parts (Some all) is e = by_old all is (slice_get all k) refl e
 
-with_opened : (k : ℕ) (ks : List ℕ) (v x : Value) (all : List Value) (old : Value) → parts_in x ≡ Some all → slice_get all k ≡ Some old →
-    with_value_at (k ∷ ks) v x ≡ option_map (λ part. Parts (slice_set all k part)) (with_value_at ks v old)
-with_opened k ks v x all old is at =
-    ap (λ all. option_and_then (λ all. option_and_then (λ old. option_map (λ part. Parts (slice_set all k part)) (with_value_at ks v old))
-    (slice_get all k)) all) is
-    ∙ ap (λ old. option_and_then (λ old. option_map (λ part. Parts (slice_set all k part)) (with_value_at ks v old)) old) at
-
-pub value_in_parts : (j : ℕ) (qs : List ℕ) (x : Value) (all : List Value) → parts_in x ≡ Some all →
-    value_at (j ∷ qs) x ≡ option_and_then (value_at qs) (slice_get all j)
-value_in_parts j qs x all is = ap (λ all. option_and_then (value_at qs) (option_and_then (λ all. slice_get all j) all)) is
-
 in_set_parts : (j : ℕ) (qs : List ℕ) (z : Value) (all : List Value) (k : ℕ) (new : Value) → z ≡ Parts (slice_set all k new) →
     value_at (j ∷ qs) z ≡ option_and_then (value_at qs) (slice_get (slice_set all k new) j)
 in_set_parts j qs z all k new made =
     ap (value_at (j ∷ qs)) made ∙ value_in_parts j qs (Parts (slice_set all k new)) (slice_set all k new) (parts_of (slice_set all k new))
-
-whole_again : (value : Value) (all : List Value) → parts_in value ≡ Some all → Parts all ≡ value
-whole_again value all e = by_level (out-Value value) refl e
-  where
-    by_level : (level : Value-F Value) → out-Value value ≡ level → parts_at level ≡ Some all → Parts all ≡ value
-    by_level (Value-F.Number n) is e = absurd cc
-    by_level (Value-F.Parts these) is e =
-        ap Parts (sym (some_same these all e)) ∙ sym (rolls-Parts these) ∙ ap roll-Value (sym is) ∙ roll-out-Value value
 
 -- ---- all levels
 
@@ -166,7 +144,7 @@ pub record PutThere (qs rs : List ℕ) (v x made : Value) : Type 0 where
 
 pub put_there : (qs rs : List ℕ) (v x old made : Value) → value_at qs x ≡ Some old → with_value_at rs v old ≡ Some made →
     PutThere qs rs v x made
-put_there [] rs v x old made at put = record { z = made; is = ap (with_value_at rs v) (some_same x old at) ∙ put; there = refl }
+put_there [] rs v x old made at put = record { z = made; is = ap (with_value_at rs v) (same_some x old at) ∙ put; there = refl }
 put_there (k ∷ qs) rs v x old made at put =
     let o = opened k qs x old at in
     let inner = put_there qs rs v o.old old made o.inner put in
@@ -241,10 +219,6 @@ data Compared (ps qs : List ℕ) : Type 0 where
   is_longer : (rest : List ℕ) → qs ≡ ps ++ rest → Compared ps qs
   is_shorter : (rest : List ℕ) → ps ≡ qs ++ rest → Compared ps qs
 
-not_both : {A : Type 0} (b : Bool) → b ≡ false → b ≡ true → A
-not_both true e f = absurd cc
-not_both false e f = absurd cc
-
 compared : (ps qs : List ℕ) → Compared ps qs
 compared [] qs = is_longer qs refl
 compared (p ∷ ps) [] = is_shorter (p ∷ ps) refl
@@ -278,7 +252,7 @@ itself (Some v) = refl
 -- values that are alike apart from the positions are the same once what the one has there is put into the other
 same_below : (rs : List ℕ) (v x y z : Value) → value_at rs y ≡ Some v → with_value_at rs v x ≡ Some z →
     ((ss : List ℕ) → Apart rs ss → value_at ss x ≡ value_at ss y) → z ≡ y
-same_below [] v x y z at put same = some_same z v (sym put) ∙ sym (some_same y v at)
+same_below [] v x y z at put same = same_some z v (sym put) ∙ sym (same_some y v at)
 same_below (k ∷ rs) v x y z at put same =
     let o = placed k rs v x z put in
     let a = opened k rs y v at in
@@ -358,25 +332,8 @@ differ_step path rest v x y z at put differ qs past =
 pub at_path_is : (now : List Value) (path : Static) → value_at (way path) (Parts now) ≡ at_path now path
 at_path_is now path = value_in_parts path.root path.fields (Parts now) now (parts_of now)
 
-pub put_is : (root : ℕ) (ks : List ℕ) (new : Value) (now : List Value) →
-    with_value_at (root ∷ ks) new (Parts now) ≡ option_map Parts (put_at root ks new now)
-put_is root ks new now =
-    ap (λ all. option_and_then (λ all. option_and_then (λ old. option_map (λ part. Parts (slice_set all root part)) (with_value_at ks new old))
-    (slice_get all root)) all) (parts_of now)
-    ∙ by_old (slice_get now root)
-  where
-    by_made : (made : Option Value) →
-        option_map (λ part. Parts (slice_set now root part)) made ≡ option_map Parts (option_map (λ part. slice_set now root part) made)
-    by_made None = refl
-    by_made (Some part) = refl
-
-    by_old : (old : Option Value) → option_and_then (λ old. option_map (λ part. Parts (slice_set now root part)) (with_value_at ks new old)) old
-        ≡ option_map Parts (option_and_then (λ old. option_map (λ value. slice_set now root value) (with_value_at ks new old)) old)
-    by_old None = refl
-    by_old (Some old) = by_made (with_value_at ks new old)
-
 pub same_parts : (xs ys : List Value) → Parts xs ≡ Parts ys → xs ≡ ys
-same_parts xs ys e = some_same xs ys (sym (parts_of xs) ∙ ap parts_in e ∙ parts_of ys)
+same_parts xs ys e = same_some xs ys (sym (parts_of xs) ∙ ap parts_in e ∙ parts_of ys)
 
 -- variables in which something was put
 pub record PutAt (root : ℕ) (ks : List ℕ) (v : Value) (now left : List Value) : Type 0 where
@@ -393,7 +350,7 @@ put_opened root ks v now left e = by_old (slice_get now root) refl e
         option_map (λ value. slice_set now root value) new ≡ Some left → PutAt root ks v now left
     by_new old at None inner e = absurd cc
     by_new old at (Some new) inner e =
-        record { old = old; new = new; at = at; inner = inner; made = some_same left (slice_set now root new) (sym e) }
+        record { old = old; new = new; at = at; inner = inner; made = same_some left (slice_set now root new) (sym e) }
 
     by_old : (old : Option Value) → slice_get now root ≡ old →
         option_and_then (λ old. option_map (λ value. slice_set now root value) (with_value_at ks v old)) old ≡ Some left → PutAt root ks v now left

@@ -4,6 +4,8 @@ use Rattle.std.proofs.Common.{◌∙◌}
 use Rattle.std.specs.Prelude.{All, if◌then◌else◌, is_some, nat_eq, option_and_then, option_map, slice_get}
 use Rattle.std.proofs.lemmas.List.Elements.{All-head, All-tail}
 use Rattle.std.proofs.lemmas.List.Folds.{list_all-append}
+use Rattle.std.proofs.lemmas.Bool.{and_from}
+use Rattle.bl_tree.proofs.Basics.{and_first, and_second}
 use Rattle.bl_tree.specs.declared.place.Place.{Place}
 use Rattle.bl_tree.specs.declared.scalar.Scalar.{Scalar as ScalarType}
 use Rattle.bl_tree.specs.declared.tree.Expr.{Expr, fold-roll-Expr}
@@ -19,33 +21,11 @@ use Rattle.bl_tree.specs.Apart.{Roots, expr_layer_roots, kind_roots, part_roots,
 use Rattle.bl_tree.specs.Reduce.{joined}
 use Rattle.bl_tree.specs.Scalar.{is_whole}
 use Rattle.bl_tree.specs.Types.{scalar_in}
-use Rattle.bl_tree.specs.Typing.{
-  TypingContext,
-  after_parts,
-  call_type,
-  cast_type,
-  element_in,
-  expr_type,
-  inputs_of,
-  is_activity,
-  is_function,
-  is_variable,
-  kind_type,
-  one_type,
-  part_type,
-  path_type,
-  prev_type,
-  two_type,
-  type_of,
-  type_of_path,
-  types_match,
-  var_at,
-  where_same,
-  where_whole,
-}
+use Rattle.bl_tree.specs.Typing.{TypingContext, after_parts, call_type, cast_type, element_in, expr_type, inputs_of, is_activity, is_function, is_variable}
+use Rattle.bl_tree.specs.Typing.{kind_type, one_type, part_type, path_type, prev_type, two_type, type_of, type_of_path, types_match, var_at, where_same}
+use Rattle.bl_tree.specs.Typing.{where_whole}
 use Rattle.bl_tree.proofs.ExprInduction.{Cases, EachIndex, OfIndex, expr, induct, induct_path}
 use Rattle.bl_eval.proofs.OperatorFits.{some_found, where_holds}
-use Rattle.bl_eval.proofs.PassLemmas.{and_left, and_right, both}
 use Rattle.bl_machine_prevs_laws.specs.Names.Scoped.{are_known, is_known}
 use Rattle.bl_machine_prevs.specs.Prevs.{expr_layer_prevs, kind_prevs, part_prevs, path_layer_prevs, prevs_in_expr, prevs_in_part, prevs_in_path}
 
@@ -62,8 +42,8 @@ prev_typed : (kind : UnitKind) (var : Option Var) (ty : Ty) → option_and_then 
 prev_typed kind None ty is = absurd (cc)
 prev_typed kind (Some var) ty is =
     let holds = where_holds (is_activity kind && (is_variable var.role && is_some (scalar_in var.ty))) (Some var.ty) ty is in
-    and_left (is_variable var.role) (is_some (scalar_in var.ty))
-    (and_right (is_activity kind) (is_variable var.role && is_some (scalar_in var.ty)) holds.0)
+    and_first (is_variable var.role) (is_some (scalar_in var.ty))
+    (and_second (is_activity kind) (is_variable var.role && is_some (scalar_in var.ty)) holds.0)
 
 record First (t : Option Ty) (ts : List (Option Ty)) (vars : List Var) : Type 0 where
   pub ty : Ty
@@ -74,7 +54,7 @@ record First (t : Option Ty) (ts : List (Option Ty)) (vars : List Var) : Type 0 
 types_first : (t : Option Ty) (ts : List (Option Ty)) (vars : List Var) → types_match (t ∷ ts) vars ≡ true → First t ts vars
 types_first None ts vars is = absurd (cc)
 types_first (Some ty) ts [] is = absurd (cc)
-types_first (Some ty) ts (var ∷ vars) is = record { ty = ty; is = refl; rest = vars; match = and_right _ (types_match ts vars) is }
+types_first (Some ty) ts (var ∷ vars) is = record { ty = ty; is = refl; rest = vars; match = and_second _ (types_match ts vars) is }
 
 module _ (site : TypingContext) (known mine : Roots) (related : Related site known mine) where
   abbrev OfExpr : Expr → Type 0
@@ -119,13 +99,13 @@ module _ (site : TypingContext) (known mine : Roots) (related : Related site kno
       ap (are_known mine) prevs_are ∙ gives ty (sym type_is ∙ typed) (ap (are_known known) (sym roots_are) ∙ all)
 
   all_left : (xs ys : Roots) → are_known known (xs ++ ys) ≡ true → are_known known xs ≡ true
-  all_left xs ys all = and_left (are_known known xs) (are_known known ys) (sym (list_all-append (is_known known) xs ys) ∙ all)
+  all_left xs ys all = and_first (are_known known xs) (are_known known ys) (sym (list_all-append (is_known known) xs ys) ∙ all)
 
   all_right : (xs ys : Roots) → are_known known (xs ++ ys) ≡ true → are_known known ys ≡ true
-  all_right xs ys all = and_right (are_known known xs) (are_known known ys) (sym (list_all-append (is_known known) xs ys) ∙ all)
+  all_right xs ys all = and_second (are_known known xs) (are_known known ys) (sym (list_all-append (is_known known) xs ys) ∙ all)
 
   all_both : (xs ys : Roots) → are_known mine xs ≡ true → are_known mine ys ≡ true → are_known mine (xs ++ ys) ≡ true
-  all_both xs ys one two = list_all-append (is_known mine) xs ys ∙ both (are_known mine xs) (are_known mine ys) one two
+  all_both xs ys one two = list_all-append (is_known mine) xs ys ∙ and_from (are_known mine xs) (are_known mine ys) one two
 
   exprs_by : (es : List Expr) → All OfExpr es → (vars : List Var) → types_match (map (type_of site) es) vars ≡ true →
       are_known known (joined (map roots_in es)) ≡ true →
@@ -182,7 +162,7 @@ module _ (site : TypingContext) (known mine : Roots) (related : Related site kno
       (sym type_is ∙ typed) in
       let begin = some_found (λ (var : Var). after_parts (map part_ty parts) var.ty) (var_at site root) end.0 end.1 in
       ap (are_known mine) prevs_are
-      ∙ parts_by parts each begin.0.ty end.0 begin.2 (and_right (is_known known root) (are_known known (joined (map roots_of_part parts)))
+      ∙ parts_by parts each begin.0.ty end.0 begin.2 (and_second (is_known known root) (are_known known (joined (map roots_of_part parts)))
       (ap (are_known known) (sym roots_are) ∙ all))
 
   scalar_of : (a : Option Ty) {B : Type 0} (f : ScalarType → Option B) (y : B) → option_and_then f (option_and_then scalar_in a) ≡ Some y →
@@ -200,7 +180,7 @@ module _ (site : TypingContext) (known mine : Roots) (related : Related site kno
       let unit : UnitDef = found.0 in
       let match = types_match (map (type_of site) inputs) (inputs_of unit) in
       let holds = where_holds (is_function unit.kind && (nat_eq unit.outputs 0 && match)) (option_map _ unit.result) ty found.2 in
-      exprs_by inputs each (inputs_of unit) (and_right (nat_eq unit.outputs 0) match (and_right (is_function unit.kind)
+      exprs_by inputs each (inputs_of unit) (and_second (nat_eq unit.outputs 0) match (and_second (is_function unit.kind)
       (nat_eq unit.outputs 0 && match)
       holds.0)) all
 
@@ -209,7 +189,7 @@ module _ (site : TypingContext) (known mine : Roots) (related : Related site kno
     literal = λ place n s. by_kind place (ExprKind-F.Literal n s) (λ ty typed all. refl);
     read = λ place path is. by_kind place (ExprKind-F.Read path) is;
     prev = λ place k. by_kind place (ExprKind-F.Prev k)
-        (λ ty typed all. both (is_known mine k) true (related k (prev_typed site.kind (var_at site k) ty typed) (and_left
+        (λ ty typed all. and_from (is_known mine k) true (related k (prev_typed site.kind (var_at site k) ty typed) (and_first
         (is_known known k) true all)) refl);
     one = λ place op a is. by_kind place (ExprKind-F.One op a)
         (λ ty typed all. let found = scalar_of (type_of site a) (one_type op) ty typed in is found.0 found.1 all);

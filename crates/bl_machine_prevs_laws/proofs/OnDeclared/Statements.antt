@@ -5,6 +5,8 @@ use Rattle.std.proofs.Common.{refl, sym, ap, subst, ◌∙◌}
 use Rattle.std.proofs.lemmas.List.Elements.{All-head, All-tail}
 use Rattle.std.proofs.lemmas.List.Folds.{list_all-append}
 use Rattle.std.specs.Prelude.{nat_eq, slice_get}
+use Rattle.std.proofs.lemmas.Bool.{and_from}
+use Rattle.bl_tree.proofs.Basics.{and_first, and_second}
 use Rattle.bl_tree.specs.declared.place.Place.{Place}
 use Rattle.bl_tree.specs.declared.scalar.Scalar.{Scalar as ScalarType}
 use Rattle.bl_tree.specs.declared.tree.Arm.{Arm, fold-Arm, fold_out-Arm, out-Arm}
@@ -27,60 +29,40 @@ use Rattle.bl_tree.specs.Typing.{TypingContext, are_same, arguments_fit, arm_fit
 use Rattle.bl_tree.specs.Typing.{is_assignable, is_fixed, is_inhabited, is_outlet, is_procedure, is_truth, is_variable, kind_fits, outputs_of}
 use Rattle.bl_tree.specs.Typing.{return_fits, run_fits, stmt_fits, target_fits, type_of, type_of_path, types_match, var_at}
 use Rattle.bl_tree.proofs.StmtInduction.{Cases, Each, EachArm, EachBranch, induct, stmt}
-use Rattle.bl_eval.proofs.PassLemmas.{and_left, and_right, both}
 use Rattle.bl_graph_nodes.specs.Laws.{PlainStatements, plain_arm, plain_branch}
-use Rattle.bl_graph_nodes.specs.Nodes.{
-  DepthJoinAt,
-}
-use Rattle.bl_graph_nodes.specs.Nodes.{
-  is_instant,
-  nodes_in,
-  nodes_in_each,
-}
+use Rattle.bl_graph_nodes.specs.Nodes.{DepthJoinAt}
+use Rattle.bl_graph_nodes.specs.Nodes.{is_instant, nodes_in, nodes_in_each}
 use Rattle.bl_graph_nodes.specs.Plain.{Act, Await, Block, Bodies, Cobegin, If, Label, Plain, Position, Repeat, Run as RunOf, Until, When, While, block_from}
 use Rattle.bl_graph_nodes.specs.Plain.{bodies_from, else_at, inside, label_at, passed_one, plain_block, plain_stmt}
 use Rattle.bl_machine_prevs_laws.specs.Names.Scoped.{Scoped, are_known, block_and_condition, every, is_known, stand_in_turn}
 use Rattle.bl_machine_prevs.specs.Declared.{declared_by, declared_in, declared_kind, prevs_in_inputs, prevs_stand, prevs_stand_in, prevs_stand_in_each}
-use Rattle.bl_machine_prevs.specs.Prevs.{
-  arm_prevs,
-  branch_prevs,
-  optional_prevs,
-  prevs_in,
-  prevs_in_arm,
-  prevs_in_branch,
-  prevs_in_expr,
-  prevs_in_path,
-  stmt_kind_prevs,
-  stmt_layer_prevs,
-}
+use Rattle.bl_machine_prevs.specs.Prevs.{arm_prevs, branch_prevs, optional_prevs, prevs_in, prevs_in_arm, prevs_in_branch, prevs_in_expr, prevs_in_path}
+use Rattle.bl_machine_prevs.specs.Prevs.{stmt_kind_prevs, stmt_layer_prevs}
 use Rattle.bl_machine_prevs_laws.specs.Types.Declared.{arm_scoped, branch_scoped, scoped_of, stmt_kind_scoped, stmt_layer_scoped}
 use Rattle.bl_machine_prevs_laws.specs.Types.inner.Declared.{scoped_of_arm, scoped_of_branch}
 use Rattle.bl_machine_prevs_laws.proofs.OnDeclared.Expressions.{Related, expr_stands, exprs_stand, path_stands, paths_stand}
+use Rattle.bl_names_laws.proofs.Apart.{or_weaker}
 
 -- ---- expressions that must have a type
 
-truth_typed : (t : Option Ty) → is_truth t ≡ true → (ty : Ty) × (t ≡ Some ty)
+pub truth_typed : (t : Option Ty) → is_truth t ≡ true → (ty : Ty) × (t ≡ Some ty)
 truth_typed (Some ty) is = (ty, refl)
 truth_typed None is = absurd (cc)
 
-second_typed : (a b : Option Ty) → are_same a b ≡ true → (ty : Ty) × (b ≡ Some ty)
+pub second_typed : (a b : Option Ty) → are_same a b ≡ true → (ty : Ty) × (b ≡ Some ty)
 second_typed (Some a) (Some b) is = (b, refl)
 second_typed (Some a) None is = absurd (cc)
 second_typed None b is = absurd (cc)
 
-first_typed : (a b : Option Ty) → are_same a b ≡ true → (ty : Ty) × (a ≡ Some ty)
+pub first_typed : (a b : Option Ty) → are_same a b ≡ true → (ty : Ty) × (a ≡ Some ty)
 first_typed (Some a) b is = (a, refl)
 first_typed None b is = absurd (cc)
-
-or_still : (same rest other : Bool) → (rest ≡ true → other ≡ true) → (same || rest) ≡ true → (same || other) ≡ true
-or_still true rest other still is = refl
-or_still false rest other still is = still is
 
 -- what one knows with these the other knows with them
 related_more : (site : TypingContext) (ks known mine : Roots) → Related site known mine → Related site (ks ++ known) (ks ++ mine)
 related_more site [] known mine related = related
 related_more site (d ∷ ks) known mine related = λ k var is.
-    or_still (nat_eq k d) (is_known (ks ++ known) k) (is_known (ks ++ mine) k) (related_more site ks known mine related k var) is
+    or_weaker (nat_eq k d) (is_known (ks ++ known) k) (is_known (ks ++ mine) k) (related_more site ks known mine related k var) is
 
 -- what holds of a plain statement, of what the statement declares and names
 record Turned (site : TypingContext) (p : Plain) (of : Scoped) : Type 0 where
@@ -169,7 +151,7 @@ module _ (plains : PlainStatements) (site : TypingContext) where
   initial_stands None var fit known mine related all = refl
   initial_stands (Some e) None fit known mine related all = absurd (cc)
   initial_stands (Some e) (Some var) fit known mine related all =
-      let typed = second_typed (Some var.ty) (type_of site e) (and_right (is_variable var.role || is_fixed var.role) (are_same (Some var.ty)
+      let typed = second_typed (Some var.ty) (type_of site e) (and_second (is_variable var.role || is_fixed var.role) (are_same (Some var.ty)
       (type_of site e))
       fit) in
       expr_stands site known mine related e typed.0 typed.1 all
@@ -183,19 +165,19 @@ module _ (plains : PlainStatements) (site : TypingContext) where
       expr_stands site known mine related e typed.0 typed.1 all
 
   all_left : (known xs ys : Roots) → are_known known (xs ++ ys) ≡ true → are_known known xs ≡ true
-  all_left known xs ys all = and_left (are_known known xs) (are_known known ys) (sym (list_all-append (is_known known) xs ys) ∙ all)
+  all_left known xs ys all = and_first (are_known known xs) (are_known known ys) (sym (list_all-append (is_known known) xs ys) ∙ all)
 
   all_right : (known xs ys : Roots) → are_known known (xs ++ ys) ≡ true → are_known known ys ≡ true
-  all_right known xs ys all = and_right (are_known known xs) (are_known known ys) (sym (list_all-append (is_known known) xs ys) ∙ all)
+  all_right known xs ys all = and_second (are_known known xs) (are_known known ys) (sym (list_all-append (is_known known) xs ys) ∙ all)
 
   all_both : (known xs ys : Roots) → are_known known xs ≡ true → are_known known ys ≡ true → are_known known (xs ++ ys) ≡ true
-  all_both known xs ys one two = list_all-append (is_known known) xs ys ∙ both (are_known known xs) (are_known known ys) one two
+  all_both known xs ys one two = list_all-append (is_known known) xs ys ∙ and_from (are_known known xs) (are_known known ys) one two
 
   assign_stands : (path : Path) (e : Expr) → (is_assignable site path && are_same (type_of_path site path) (type_of site e)) ≡ true →
       (known mine : Roots) → Related site known mine → are_known known (roots_in_path path ++ roots_in e) ≡ true →
       are_known mine (prevs_in_path path ++ prevs_in_expr e) ≡ true
   assign_stands path e fit known mine related all =
-      let same = and_right (is_assignable site path) (are_same (type_of_path site path) (type_of site e)) fit in
+      let same = and_second (is_assignable site path) (are_same (type_of_path site path) (type_of site e)) fit in
       let one = first_typed (type_of_path site path) (type_of site e) same in
       let two = second_typed (type_of_path site path) (type_of site e) same in
       all_both mine (prevs_in_path path) (prevs_in_expr e)
@@ -209,9 +191,9 @@ module _ (plains : PlainStatements) (site : TypingContext) where
       let ins = types_match (map (type_of site) inputs) (inputs_of unit) in
       let outs = types_match (map (type_of_path site) outputs) (outputs_of unit) in
       let lets = all_of (map (is_outlet site) outputs) in (
-        exprs_stand site known mine related inputs (inputs_of unit) (and_left ins (outs && lets) fit)
+        exprs_stand site known mine related inputs (inputs_of unit) (and_first ins (outs && lets) fit)
             (all_left known (joined (map roots_in inputs)) (joined (map roots_in_path outputs)) all),
-        paths_stand site known mine related outputs (outputs_of unit) (and_left outs lets (and_right ins (outs && lets) fit))
+        paths_stand site known mine related outputs (outputs_of unit) (and_first outs lets (and_second ins (outs && lets) fit))
             (all_right known (joined (map roots_in inputs)) (joined (map roots_in_path outputs)) all),
       )
 
@@ -220,7 +202,7 @@ module _ (plains : PlainStatements) (site : TypingContext) where
       are_known mine (joined (map prevs_in_expr inputs) ++ joined (map prevs_in_path outputs)) ≡ true
   call_stands inputs outputs None fit known mine related all = absurd (cc)
   call_stands inputs outputs (Some unit) fit known mine related all =
-      let stand = arguments_stand inputs outputs unit (and_right (is_procedure unit) (arguments_fit site inputs outputs unit) fit) known mine related
+      let stand = arguments_stand inputs outputs unit (and_second (is_procedure unit) (arguments_fit site inputs outputs unit) fit) known mine related
       all in
       all_both mine (joined (map prevs_in_expr inputs)) (joined (map prevs_in_path outputs)) stand.0 stand.1
 
@@ -229,10 +211,10 @@ module _ (plains : PlainStatements) (site : TypingContext) where
       are_known known (apart.argument_roots inputs outputs) ≡ true → are_known mine (prevs_in_inputs inputs) ≡ true
   run_stands target inputs outputs None fit known mine related all = absurd (cc)
   run_stands target inputs outputs (Some unit) fit known mine related all =
-      let rest = and_right (is_activity site.kind && is_activity unit.kind) (target_fits site unit.result target && arguments_fit site inputs outputs
+      let rest = and_second (is_activity site.kind && is_activity unit.kind) (target_fits site unit.result target && arguments_fit site inputs outputs
       unit)
       fit in
-      (arguments_stand inputs outputs unit (and_right (target_fits site unit.result target) (arguments_fit site inputs outputs unit) rest) known mine
+      (arguments_stand inputs outputs unit (and_second (target_fits site unit.result target) (arguments_fit site inputs outputs unit) rest) known mine
       related
       all).0
 
@@ -244,14 +226,14 @@ module _ (plains : PlainStatements) (site : TypingContext) where
   block_turned (s ∷ rest) each fit k p =
       let here : Plain = plain_stmt s (p ++ k ∷ []) in
       let behind : Block = block_from (map plain_stmt rest) (suc k) p in
-      let first = All-head P s rest each (and_left (fits site s) (all_of (map (fits site) rest)) fit) (p ++ k ∷ []) in
-      let more = block_turned rest (All-tail P s rest each) (and_right (fits site s) (all_of (map (fits site) rest)) fit) (suc k) p in
+      let first = All-head P s rest each (and_first (fits site s) (all_of (map (fits site) rest)) fit) (p ++ k ∷ []) in
+      let more = block_turned rest (All-tail P s rest each) (and_second (fits site s) (all_of (map (fits site) rest)) fit) (suc k) p in
       record {
         stands = λ known mine related stands.
             let of : Scoped = scoped_of s in
-            let next = and_right (of.stands known) (stand_in_turn (map scoped_of rest) (of.declared ++ known)) stands in
-            both (prevs_stand mine here) (prevs_stand_in (declared_by here ++ mine) behind)
-            (first.stands known mine related (and_left (of.stands known) (stand_in_turn (map scoped_of rest) (of.declared ++ known)) stands))
+            let next = and_second (of.stands known) (stand_in_turn (map scoped_of rest) (of.declared ++ known)) stands in
+            and_from (prevs_stand mine here) (prevs_stand_in (declared_by here ++ mine) behind)
+            (first.stands known mine related (and_first (of.stands known) (stand_in_turn (map scoped_of rest) (of.declared ++ known)) stands))
             (subst (λ ks. prevs_stand_in (ks ++ mine) behind ≡ true) (sym first.declared)
             (more.stands (of.declared ++ known) (of.declared ++ mine) (related_more site of.declared known mine related) next));
       }
@@ -285,17 +267,17 @@ module _ (plains : PlainStatements) (site : TypingContext) where
       let scoped_is : scoped_of_arm arm ≡ block_and_condition (roots_in e) (map scoped_of body) =
       fold_out-Arm Scoped Scoped Scoped Scoped stmt_kind_scoped arm_scoped branch_scoped stmt_layer_scoped arm in
       let fit : (is_truth (type_of site e) && all_of (map (fits site) body)) ≡ true = sym good_is ∙ good in
-      let block = block_turned body each (and_right (is_truth (type_of site e)) (all_of (map (fits site) body)) fit) 0 p in
+      let block = block_turned body each (and_second (is_truth (type_of site e)) (all_of (map (fits site) body)) fit) 0 p in
       let behind : Block = else_at l (map plain_arm arms) (plain_block other) in
       record {
         stands = λ known mine related here arms_stand other_stands.
             let mine_stands : (are_known known (roots_in e) && stand_in_turn (map scoped_of body) known) ≡ true =
             ap (λ (scoped : Scoped). scoped.stands known) (sym scoped_is) ∙ here in
-            both (are_known mine (prevs_in_expr e)) (prevs_stand_in mine (plain_block body p) && prevs_stand_in mine behind)
-            (truth_stands e (and_left (is_truth (type_of site e)) (all_of (map (fits site) body)) fit) known mine related
-            (and_left (are_known known (roots_in e)) (stand_in_turn (map scoped_of body) known) mine_stands))
-            (both (prevs_stand_in mine (plain_block body p)) (prevs_stand_in mine behind)
-            (block.stands known mine related (and_right (are_known known (roots_in e)) (stand_in_turn (map scoped_of body) known) mine_stands))
+            and_from (are_known mine (prevs_in_expr e)) (prevs_stand_in mine (plain_block body p) && prevs_stand_in mine behind)
+            (truth_stands e (and_first (is_truth (type_of site e)) (all_of (map (fits site) body)) fit) known mine related
+            (and_first (are_known known (roots_in e)) (stand_in_turn (map scoped_of body) known) mine_stands))
+            (and_from (prevs_stand_in mine (plain_block body p)) (prevs_stand_in mine behind)
+            (block.stands known mine related (and_second (are_known known (roots_in e)) (stand_in_turn (map scoped_of body) known) mine_stands))
             (rest.stands known mine related arms_stand other_stands));
       }
 
@@ -311,16 +293,16 @@ module _ (plains : PlainStatements) (site : TypingContext) where
       let body : Block = plain_block (out-Arm arm).body p in
       let behind : Block = else_at (passed_one l) (map plain_arm arms) (plain_block other) in
       let more = else_turned arms other (All-tail (λ arm. Each P (out-Arm arm).body) arm arms each) rest
-      (and_right (good_arm arm) (all_of (map good_arm arms)) fit)
+      (and_second (good_arm arm) (all_of (map good_arm arms)) fit)
       fit_other (passed_one l) in
       let one = arm_turned arm arms other (All-head (λ arm. Each P (out-Arm arm).body) arm arms each)
-      (and_left (good_arm arm) (all_of (map good_arm arms)) fit) p (passed_one l) more in
+      (and_first (good_arm arm) (all_of (map good_arm arms)) fit) p (passed_one l) more in
       let nodes = nodes_in body ++ nodes_in behind in
       record {
         stands = λ known mine related arms_stand other_stands.
-            both (are_known mine (prevs_in_expr e) && (prevs_stand_in mine body && prevs_stand_in mine behind)) true
-            (one.stands known mine related (and_left ((scoped_of_arm arm).stands known) (every (map scoped_of_arm arms) known) arms_stand)
-            (and_right ((scoped_of_arm arm).stands known) (every (map scoped_of_arm arms) known) arms_stand) other_stands) refl;
+            and_from (are_known mine (prevs_in_expr e) && (prevs_stand_in mine body && prevs_stand_in mine behind)) true
+            (one.stands known mine related (and_first ((scoped_of_arm arm).stands known) (every (map scoped_of_arm arms) known) arms_stand)
+            (and_second ((scoped_of_arm arm).stands known) (every (map scoped_of_arm arms) known) arms_stand) other_stands) refl;
       }
 
   if_turned : (place : Place) (arms : List Arm) (other : List Stmt) → EachArm P arms → Each P other → P (stmt place (StmtKind-F.If arms other))
@@ -338,23 +320,23 @@ module _ (plains : PlainStatements) (site : TypingContext) where
       (λ fit p.
       let good = all_of (map good_arm arms) in
       let others = all_of (map (fits site) other) in
-      let arms_fit = and_left (good_arm arm && good) others fit in
+      let arms_fit = and_first (good_arm arm && good) others fit in
       let l : Label = passed_one (label_at p) in
       let body : Block = plain_block (out-Arm arm).body (inside (label_at p) 0) in
       let behind : Block = else_at l (map plain_arm arms) (plain_block other) in
-      let more = else_turned arms other (All-tail (λ arm. Each P (out-Arm arm).body) arm arms each) rest (and_right (good_arm arm) good arms_fit)
-      (and_right (good_arm arm && good) others fit) l in
-      let one = arm_turned arm arms other (All-head (λ arm. Each P (out-Arm arm).body) arm arms each) (and_left (good_arm arm) good arms_fit)
+      let more = else_turned arms other (All-tail (λ arm. Each P (out-Arm arm).body) arm arms each) rest (and_second (good_arm arm) good arms_fit)
+      (and_second (good_arm arm && good) others fit) l in
+      let one = arm_turned arm arms other (All-head (λ arm. Each P (out-Arm arm).body) arm arms each) (and_first (good_arm arm) good arms_fit)
       (inside (label_at p) 0) l more in
       let nodes = nodes_in body ++ nodes_in behind in
       record {
         declared = refl;
         stands = λ known mine related stands.
             let all = (scoped_of_arm arm).stands known in
-            let arms_stand = and_left (all && every (map scoped_of_arm arms) known) (stand_in_turn (map scoped_of other) known) stands in
-            one.stands known mine related (and_left all (every (map scoped_of_arm arms) known) arms_stand)
-            (and_right all (every (map scoped_of_arm arms) known) arms_stand)
-            (and_right (all && every (map scoped_of_arm arms) known) (stand_in_turn (map scoped_of other) known) stands);
+            let arms_stand = and_first (all && every (map scoped_of_arm arms) known) (stand_in_turn (map scoped_of other) known) stands in
+            one.stands known mine related (and_first all (every (map scoped_of_arm arms) known) arms_stand)
+            (and_second all (every (map scoped_of_arm arms) known) arms_stand)
+            (and_second (all && every (map scoped_of_arm arms) known) (stand_in_turn (map scoped_of other) known) stands);
       })
 
   -- ---- branches
@@ -371,17 +353,17 @@ module _ (plains : PlainStatements) (site : TypingContext) where
       ap (λ (scoped : Scoped). scoped.stands)
       (fold_out-Branch Scoped Scoped Scoped Scoped stmt_kind_scoped arm_scoped branch_scoped stmt_layer_scoped branch) in
       let first = block_turned body (All-head (λ branch. Each P (out-Branch branch).body) branch branches each)
-      (sym good_is ∙ and_left (good_branch branch) (all_of (map good_branch branches)) fit) 0 p in
+      (sym good_is ∙ and_first (good_branch branch) (all_of (map good_branch branches)) fit) 0 p in
       let more = branches_turned branches (All-tail (λ branch. Each P (out-Branch branch).body) branch branches each)
-      (and_right (good_branch branch) (all_of (map good_branch branches)) fit) (suc k) l in
+      (and_second (good_branch branch) (all_of (map good_branch branches)) fit) (suc k) l in
       let rest : Bodies = bodies_from (map plain_branch branches) (suc k) l in
       record {
         stands = λ known mine related stands.
             let here = (scoped_of_branch branch).stands known in
             let others = every (map scoped_of_branch branches) known in
-            both (prevs_stand_in mine (plain_block body p)) (prevs_stand_in_each mine rest)
-            (first.stands known mine related (ap (λ (stands : Roots → Bool). stands known) (sym scoped_is) ∙ and_left here others stands))
-            (more.stands known mine related (and_right here others stands));
+            and_from (prevs_stand_in mine (plain_block body p)) (prevs_stand_in_each mine rest)
+            (first.stands known mine related (ap (λ (stands : Roots → Bool). stands known) (sym scoped_is) ∙ and_first here others stands))
+            (more.stands known mine related (and_second here others stands));
       }
 
   cobegin_turned : (place : Place) (branches : List Branch) → EachBranch P branches → P (stmt place (StmtKind-F.Cobegin branches))
@@ -393,7 +375,7 @@ module _ (plains : PlainStatements) (site : TypingContext) where
       let good = all_of (map good_branch branches) in
       let bodies : Bodies = bodies_from (map plain_branch branches) 0 l in
       let all = branches_turned branches each
-      (and_right (is_inhabited (map good_branch branches)) good (and_right (is_activity site.kind) (is_inhabited (map good_branch branches) && good)
+      (and_second (is_inhabited (map good_branch branches)) good (and_second (is_activity site.kind) (is_inhabited (map good_branch branches) && good)
       fit)) 0 l in
       let test = is_instant (Cobegin l place bodies) in
       let nodes = DepthJoinAt l place ∷ nodes_in_each bodies in
@@ -413,9 +395,9 @@ module _ (plains : PlainStatements) (site : TypingContext) where
       (known mine : Roots) → Related site known mine → (are_known known (roots_in e) && stand_in_turn of known) ≡ true →
       (are_known mine (prevs_in_expr e) && prevs_stand_in mine b) ≡ true
   tested_stands e b of truth block known mine related stands =
-      both (are_known mine (prevs_in_expr e)) (prevs_stand_in mine b)
-      (truth_stands e truth known mine related (and_left (are_known known (roots_in e)) (stand_in_turn of known) stands))
-      (block.stands known mine related (and_right (are_known known (roots_in e)) (stand_in_turn of known) stands))
+      and_from (are_known mine (prevs_in_expr e)) (prevs_stand_in mine b)
+      (truth_stands e truth known mine related (and_first (are_known known (roots_in e)) (stand_in_turn of known) stands))
+      (block.stands known mine related (and_second (are_known known (roots_in e)) (stand_in_turn of known) stands))
 
   guarded_turned : (place : Place) (guard : Guard) (e : Expr) (body : List Stmt) → Each P body → P (stmt place (StmtKind-F.When guard e body))
   guarded_turned place guard e body each =
@@ -425,11 +407,11 @@ module _ (plains : PlainStatements) (site : TypingContext) where
       let l : Label = label_at p in
       let b : Block = plain_block body (inside l 0) in
       let truth = is_truth (type_of site e) in
-      let rest = and_right (is_activity site.kind) (truth && all_of (map (fits site) body)) fit in
-      let block = block_here body each (and_right truth (all_of (map (fits site) body)) rest) (inside l 0) in
+      let rest = and_second (is_activity site.kind) (truth && all_of (map (fits site) body)) fit in
+      let block = block_here body each (and_second truth (all_of (map (fits site) body)) rest) (inside l 0) in
       record {
         declared = refl;
-        stands = tested_stands e b (map scoped_of body) (and_left truth (all_of (map (fits site) body)) rest) block;
+        stands = tested_stands e b (map scoped_of body) (and_first truth (all_of (map (fits site) body)) rest) block;
       })
 
   repeat_turned : (place : Place) (body : List Stmt) → Each P body → P (stmt place (StmtKind-F.Repeat body))
@@ -452,10 +434,10 @@ module _ (plains : PlainStatements) (site : TypingContext) where
       (λ fit p.
       let l : Label = label_at p in
       let b : Block = plain_block body (inside l 0) in
-      let block = block_here body each (and_left (all_of (map (fits site) body)) (is_truth (type_of site e)) fit) (inside l 0) in
+      let block = block_here body each (and_first (all_of (map (fits site) body)) (is_truth (type_of site e)) fit) (inside l 0) in
       record {
         declared = refl;
-        stands = tested_stands e b (map scoped_of body) (and_right (all_of (map (fits site) body)) (is_truth (type_of site e)) fit) block;
+        stands = tested_stands e b (map scoped_of body) (and_second (all_of (map (fits site) body)) (is_truth (type_of site e)) fit) block;
       })
 
   while_turned : (place : Place) (e : Expr) (body : List Stmt) → Each P body → P (stmt place (StmtKind-F.While e body))
@@ -465,10 +447,10 @@ module _ (plains : PlainStatements) (site : TypingContext) where
       (λ fit p.
       let l : Label = label_at p in
       let b : Block = plain_block body (inside l 0) in
-      let block = block_here body each (and_right (is_truth (type_of site e)) (all_of (map (fits site) body)) fit) (inside l 0) in
+      let block = block_here body each (and_second (is_truth (type_of site e)) (all_of (map (fits site) body)) fit) (inside l 0) in
       record {
         declared = refl;
-        stands = tested_stands e b (map scoped_of body) (and_left (is_truth (type_of site e)) (all_of (map (fits site) body)) fit) block;
+        stands = tested_stands e b (map scoped_of body) (and_first (is_truth (type_of site e)) (all_of (map (fits site) body)) fit) block;
       })
 
   -- ---- pauses and `run`s
@@ -480,7 +462,7 @@ module _ (plains : PlainStatements) (site : TypingContext) where
       let l : Label = label_at p in
       record {
         declared = refl;
-        stands = truth_stands e (and_right (is_activity site.kind) (is_truth (type_of site e)) fit);
+        stands = truth_stands e (and_second (is_activity site.kind) (is_truth (type_of site e)) fit);
       })
 
   run_turned : (place : Place) (target : Option Path) (a : ℕ) (inputs : List Expr) (outputs : List Path) →

@@ -3,6 +3,8 @@ use Rattle.std.proofs.Common.{◌≡◌, ℕ, Bool, true, List, [], ◌∷◌, m
 use Rattle.std.specs.Prelude.{All, Option, Some, None, option_map}
 use Rattle.std.specs.List.{list_all}
 use Rattle.std.proofs.lemmas.List.Elements.{All-head, All-tail}
+use Rattle.std.proofs.lemmas.Bool.{and_from}
+use Rattle.bl_tree.proofs.Basics.{all_append}
 use Rattle.bl_tree.specs.declared.place.Place.{Place}
 use Rattle.bl_tree.specs.Apart.{Roots}
 use Rattle.bl_tree.specs.Reduce.{joined}
@@ -15,27 +17,14 @@ use Rattle.bl_parse_tree.specs.declared.expr.RawPart.{RawPart, fold_out-RawPart,
 use Rattle.bl_parse_tree.specs.declared.expr.RawTarget.{RawTarget, fold-roll-RawTarget, roll-RawTarget}
 use Rattle.bl_parse_tree.specs.declared.name.Name.{Name}
 use Rattle.bl_parse_tree.specs.declared.stmt.RawPath.{RawPath}
-use Rattle.bl_names_scopes.specs.declared.kind.Kind.{Kind}
 use Rattle.bl_names_scopes.specs.declared.kind.Kind.TheVariants as kinds
 use Rattle.bl_names_scopes.specs.declared.kind.Wanted.{Wanted}
 use Rattle.bl_names_scopes.specs.declared.kind.Wanted.TheVariants as wants
 use Rattle.bl_names_scopes.specs.declared.scopes.Counts.{Counts}
-use Rattle.bl_names_scopes.specs.Kinds.{suits}
-use Rattle.bl_names_scopes.specs.Marks.{
-  Marks,
-  argument_marks,
-  expr_layer_marks,
-  expr_marks,
-  kind_marks,
-  marks_of_part,
-  optional,
-  part_marks,
-  path_marks,
-  target_layer_marks,
-  target_marks,
-}
+use Rattle.bl_names_scopes.specs.Marks.{Marks, argument_marks, expr_layer_marks, expr_marks, kind_marks, marks_of_part, optional, part_marks, path_marks}
+use Rattle.bl_names_scopes.specs.Marks.{target_layer_marks, target_marks}
 use Rattle.bl_names_scopes.specs.Scopes.{Scopes}
-use Rattle.bl_names.specs.Naming.{named_expr, named_path, named_root, named_step, named_target, position, position_of, root_at, root_of}
+use Rattle.bl_names.specs.Naming.{named_expr, named_path, named_root, named_step, named_target, position, position_of, root_of}
 use Rattle.bl_names.proofs.FitLemmas.{Fits, IsFit, fits_behind, fits_first}
 use Rattle.bl_names.proofs.PlacedExpr.{IsRead, value_read}
 use Rattle.bl_names.proofs.RawExprInduction.{Cases, EachIndex, OfIndex, expr, induct, induct_target}
@@ -44,7 +33,8 @@ use Rattle.bl_names_laws.specs.Apart.{argument_roots, kind_roots, optional_roots
 use Rattle.bl_names_laws.specs.Apart.{taker_roots, target_layer_roots}
 use Rattle.bl_names_laws.specs.inner.Apart.{roots_in_step}
 use Rattle.bl_machine_prevs_laws.proofs.OnNames.ExprMade.{NamedLayer, RawLayer, expr_made, field_made, index_made, named_parts, target_made}
-use Rattle.bl_machine_prevs_laws.proofs.OnNames.Only.{DeclarationOnly, Only, all_append, both, bound_only}
+use Rattle.bl_machine_prevs_laws.proofs.OnNames.Only.{DeclarationOnly, Only, bound_only}
+use Rattle.bl_names_laws.proofs.ExprRoots.{is_variable, root_only, still_part}
 
 -- ---- what a raw expression does to names, by its parts
 
@@ -58,30 +48,7 @@ mark_parts = map-RawExprKind RawExprKind RawPart RawExpr RawTarget Marks Marks M
 marks_at : (place : Place) (layer : RawLayer) → expr_marks (expr place layer) ≡ kind_marks (mark_parts layer)
 marks_at place layer = rw (fold-roll-RawExpr, fold-roll-RawExprKind) refl
 
-still_part : (part : RawPart) (layer : RawPart-F RawExprKind RawPart RawExpr RawTarget) → out-RawPart part ≡ layer → Still (marks_of_part part)
-still_part part (RawPart-F.Field name) is =
-    rw (fold_out-RawPart Marks Marks Marks (Wanted → Marks) kind_marks part_marks expr_layer_marks target_layer_marks part, is) (λ scopes. refl)
-still_part part (RawPart-F.Index e) is =
-    rw (fold_out-RawPart Marks Marks Marks (Wanted → Marks) kind_marks part_marks expr_layer_marks target_layer_marks part, is) (still_expr e)
-
 -- ---- what a use is bound to
-
-is_variable : (kind : Kind) → suits wants.Variable kind ≡ true → kind ≡ kinds.Variable
-is_variable kinds.Struct suited = absurd (cc)
-is_variable kinds.Constant suited = absurd (cc)
-is_variable kinds.Variable suited = refl
-is_variable kinds.Function suited = absurd (cc)
-is_variable kinds.Activity suited = absurd (cc)
-is_variable kinds.Field suited = absurd (cc)
-
-root_only : (test : ℕ → Bool) (kind : Kind) (k : ℕ) → suits wants.Value kind ≡ true → (kind ≡ kinds.Variable → test k ≡ true)
-    → list_all test (roots_of (root_at kind k)) ≡ true
-root_only test kinds.Struct k suited only = absurd (cc)
-root_only test kinds.Constant k suited only = refl
-root_only test kinds.Variable k suited only = both (test k) true (only refl) refl
-root_only test kinds.Function k suited only = absurd (cc)
-root_only test kinds.Activity k suited only = absurd (cc)
-root_only test kinds.Field k suited only = absurd (cc)
 
 -- the names that are used are bound as in these scopes
 module _ (test : ℕ → Bool) (scopes : Scopes) (counts : Counts) (only : Only test scopes) where
@@ -161,7 +128,7 @@ module _ (test : ℕ → Bool) (scopes : Scopes) (counts : Counts) (only : Only 
     prev = λ place name. kind_only place (RawExprKind-F.Prev name) (NamedExprKind-F.Prev (position scopes name))
         (expr_made Roots kind_roots part_roots target_layer_roots scopes place (RawExprKind-F.Prev name) (NamedExprKind-F.Prev (position scopes name))
         (what.outs-Prev (position scopes name)))
-        (λ fits. both (test (position scopes name)) true (variable_only name fits.0) refl);
+        (λ fits. and_from (test (position scopes name)) true (variable_only name fits.0) refl);
     one = λ place op a is. kind_only place (RawExprKind-F.One op a) (NamedExprKind-F.One op (named_expr scopes a))
         (expr_made Roots kind_roots part_roots target_layer_roots scopes place (RawExprKind-F.One op a) (NamedExprKind-F.One op (named_expr scopes a))
         (what.outs-One op (named_expr scopes a))) is;
@@ -197,14 +164,14 @@ module _ (test : ℕ → Bool) (scopes : Scopes) (counts : Counts) (only : Only 
   pub taker_only : (target : Option RawPath) → Fits there (optional path_marks target) →
       list_all test (taker_roots (option_map (named_path scopes) target))
       ≡ true
-  taker_only (Some path) fits = both (test (position scopes path.root)) true (variable_only path.root fits.0) refl
+  taker_only (Some path) fits = and_from (test (position scopes path.root)) true (variable_only path.root fits.0) refl
   taker_only None fits = refl
 
   paths_only : (paths : List RawPath) → Fits there (joined (map path_marks paths))
       → list_all test (joined (map roots_in_path (map (named_path scopes) paths))) ≡ true
   paths_only [] fits = refl
   paths_only (path ∷ paths) fits =
-      both (test (position scopes path.root)) (list_all test (joined (map roots_in_path (map (named_path scopes) paths))))
+      and_from (test (position scopes path.root)) (list_all test (joined (map roots_in_path (map (named_path scopes) paths))))
       (variable_only path.root fits.0)
       (paths_only paths fits.1)
 

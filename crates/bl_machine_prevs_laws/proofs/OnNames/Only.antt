@@ -2,31 +2,13 @@
 use Rattle.std.proofs.Common.{◌≡◌, ℕ, Bool, true, false, ◌&&◌, ◌||◌, cond, List, [], ◌∷◌, ◌++◌, refl, ap, subst, ◌∙◌}
 use Rattle.std.proofs.Common.{Option, Some, None}
 use Rattle.std.specs.Prelude.{bytes_eq, ⊤}
-use Rattle.std.specs.List.{list_all}
 use Rattle.std.specs.Option.{option_or}
-use Rattle.std.proofs.lemmas.List.Folds.{list_all-append}
 use Rattle.bl_parse_tree.specs.declared.name.Name.{Name}
 use Rattle.bl_names_scopes.specs.declared.kind.Kind.{Kind}
 use Rattle.bl_names_scopes.specs.declared.kind.Kind.TheVariants as kind
 use Rattle.bl_names_scopes.specs.declared.scopes.Declaration.{Declaration}
 use Rattle.bl_names_scopes.specs.Marks.{declares}
 use Rattle.bl_names_scopes.specs.Scopes.{Declared, Scopes, bound, bound_around, count_of, declaration_of, declared, enter, found}
-
-pub both : (a b : Bool) → a ≡ true → b ≡ true → (a && b) ≡ true
-both a b one two = λ i. one i && two i
-
-pub or_first : (a b : Bool) → a ≡ true → (a || b) ≡ true
-or_first true b is = refl
-or_first false b is = cc
-
-pub or_second : (a b : Bool) → b ≡ true → (a || b) ≡ true
-or_second true b is = refl
-or_second false b is = is
-
--- two lists one after another
-pub all_append : {A : Type 0} (test : A → Bool) (xs ys : List A) → list_all test xs ≡ true → list_all test ys ≡ true →
-    list_all test (xs ++ ys) ≡ true
-all_append test xs ys one two = list_all-append test xs ys ∙ both (list_all test xs) (list_all test ys) one two
 
 abbrev pub DeclarationOnly : (ℕ → Bool) → Declaration → Type 0
 DeclarationOnly test declaration = declaration.kind ≡ kind.Variable → test declaration.position ≡ true

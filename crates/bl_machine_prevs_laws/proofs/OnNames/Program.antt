@@ -1,35 +1,37 @@
 -- What the units of a program name is declared, where every use fits.
-use Rattle.std.proofs.Common.{◌≡◌, ℕ, suc, ◌+◌, Bool, true, false, List, [], ◌∷◌, ◌++◌, map, length, refl, sym}
+use Rattle.std.proofs.Common.{◌≡◌, ℕ, suc, ◌+◌, Bool, true, false, List, [], ◌∷◌, ◌++◌, length, refl, sym}
 use Rattle.std.proofs.Common.{ap, subst, ◌∙◌, arith}
 use Rattle.std.specs.Prelude.{Some, nat_eq}
 use Rattle.std.specs.List.{list_all}
 use Rattle.std.proofs.lemmas.Bool.{eq-eqb}
+use Rattle.std.proofs.lemmas.Bool.{and_from, or_left, or_right}
+use Rattle.bl_tree.proofs.Basics.{all_append, plus_none}
 use Rattle.bl_tree.specs.declared.tree.Role.{Role}
 use Rattle.bl_tree.specs.declared.tree.Role.TheVariants as role
 use Rattle.bl_tree.specs.declared.tree.UnitKind.{UnitKind}
 use Rattle.bl_tree.specs.declared.tree.UnitKind.TheVariants as unit
-use Rattle.bl_tree.specs.Reduce.{joined}
 use Rattle.bl_parse_tree.specs.declared.item.RawItem.{RawItem}
 use Rattle.bl_parse_tree.specs.declared.item.RawItem.TheVariants as item
 use Rattle.bl_parse_tree.specs.declared.item.RawParam.{RawParam}
 use Rattle.bl_parse_tree.specs.declared.item.RawUnit.{RawUnit}
 use Rattle.bl_parse_tree.specs.declared.name.Name.{Name}
 use Rattle.bl_names_scopes.specs.declared.kind.Kind.TheVariants as kind
-use Rattle.bl_names_scopes.specs.declared.scopes.Counts.{Counts}
 use Rattle.bl_names_scopes.specs.Marks.{closes, declares, expr_marks, in_scope, inside_unit, item_marks, kind_of_unit, marks_of, optional, param_marks}
-use Rattle.bl_names_scopes.specs.Marks.{stmt_marks, type_marks, unit_marks}
+use Rattle.bl_names_scopes.specs.Marks.{type_marks, unit_marks}
 use Rattle.bl_names_scopes.specs.Rules.{Passes}
 use Rattle.bl_names_scopes.specs.Scopes.{Scopes, after, counted, enter, file_scope, scopes_outside}
 use Rattle.bl_names.specs.Named.{along, block_piece, inside_piece, named_program, named_unit, opened, params_piece, role_piece, units_of}
-use Rattle.bl_names.proofs.FitLemmas.{Fits, fits_behind, fits_first, fits_second, program_fits}
+use Rattle.bl_names.proofs.FitLemmas.{Fits, fits_first, fits_second, program_fits}
 use Rattle.bl_names.proofs.ItemLemmas.{struct_scopes, unit_scopes}
 use Rattle.bl_names.proofs.PastLemmas.{enter-behind}
-use Rattle.bl_names.proofs.PieceLemmas.{block_marks, role_marks}
-use Rattle.bl_names.proofs.StillLemmas.{after-append, still_optional, still_type, still_value}
+use Rattle.bl_names.proofs.StillLemmas.{after-append, still_type, still_value}
 use Rattle.bl_machine_prevs_laws.specs.Names.Declared.{body_declared}
 use Rattle.bl_machine_prevs_laws.specs.Names.Scoped.{first_ones, is_known}
-use Rattle.bl_machine_prevs_laws.proofs.OnNames.Only.{Only, all_append, both, declare_only, only_weaker, or_first, or_second}
+use Rattle.bl_machine_prevs_laws.proofs.OnNames.Only.{Only, declare_only, only_weaker}
 use Rattle.bl_machine_prevs_laws.proofs.OnNames.Statements.{body_turns}
+use Rattle.bl_names.proofs.PlacedItem.{counted_on, two_more}
+use Rattle.bl_names_laws.proofs.ApartProgram.{body_fits}
+use Rattle.bl_names_laws.proofs.Along.{unit_counted}
 
 -- ---- parameters
 
@@ -46,23 +48,17 @@ record Params (scopes new : Scopes) (count : ℕ) : Type 0 where
   pub outer : new.outer ≡ scopes.outer
   pub more : new.counts.variables ≡ scopes.counts.variables + count
 
-none_more : (n : ℕ) → n ≡ n + 0
-none_more n = omega arith
-
-one_then : (a b c n : ℕ) → b ≡ a + 1 → c ≡ b + n → c ≡ a + suc n
-one_then a b c n one more = omega arith
-
 low_next : (scopes : Scopes) (name : Name) → Low scopes → Low (enter scopes (declares name kind.Variable))
 low_next scopes name low =
     let n = scopes.counts.variables in
     subst (λ m. Only (is_known (first_ones m)) (enter scopes (declares name kind.Variable))) (next_is n)
-    (declare_only (is_known (first_ones (suc n))) scopes name kind.Variable (λ is. or_first (nat_eq n n) (is_known (first_ones n) n)
+    (declare_only (is_known (first_ones (suc n))) scopes name kind.Variable (λ is. or_left (nat_eq n n) (is_known (first_ones n) n)
     (eq-eqb n n refl))
-    (only_weaker (is_known (first_ones n)) (is_known (first_ones (suc n))) (λ k. or_second (nat_eq k n) (is_known (first_ones n) k)) scopes low))
+    (only_weaker (is_known (first_ones n)) (is_known (first_ones (suc n))) (λ k. or_right (nat_eq k n) (is_known (first_ones n) k)) scopes low))
 
 params_low : (role : Role) (params : List RawParam) (scopes : Scopes) → Low scopes →
     Params scopes (after scopes (role_piece role params).marks) (length params)
-params_low role [] scopes low = record { low = low; outer = refl; more = none_more scopes.counts.variables }
+params_low role [] scopes low = record { low = low; outer = refl; more = plus_none scopes.counts.variables }
 params_low role (param ∷ params) scopes low =
     let rest = (role_piece role params).marks in
     let middle = after scopes (param_marks param) in
@@ -73,33 +69,14 @@ params_low role (param ∷ params) scopes low =
     (record {
       low = later.low;
       outer = later.outer ∙ ap (λ (s : Scopes). s.outer) (sym entered);
-      more = one_then scopes.counts.variables middle.counts.variables (after middle rest).counts.variables (length params)
+      more = counted_on scopes.counts.variables middle.counts.variables (after middle rest).counts.variables (length params)
           (ap (λ (s : Scopes). s.counts.variables) (sym entered)) later.more;
     })
-
--- what fits in a unit fits behind its parameters in its body
-body_fits : (scopes : Scopes) (def : RawUnit) → Fits scopes (inside_unit def) → Fits (after scopes (params_piece def).marks)
-    (block_piece def.body).marks
-body_fits scopes def fits =
-    let ins = joined (map param_marks def.inputs) in
-    let outs = joined (map param_marks def.outputs) in
-    let result = optional type_marks def.result in
-    let body = joined (map stmt_marks def.body) in
-    let behind = after (after scopes ins) outs in
-    subst (Fits (after scopes (params_piece def).marks)) (sym (block_marks def.body))
-    (subst (λ s. Fits s body)
-    (sym (after-append scopes ins outs) ∙ (λ i. after scopes (sym (role_marks role.Input def.inputs) i ++ sym
-    (role_marks role.Output def.outputs) i)))
-    (fits_behind behind result body (still_optional type_marks def.result still_type)
-    (fits_second (after scopes ins) outs (result ++ body) (fits_second scopes ins (outs ++ (result ++ body)) fits))))
 
 -- ---- units
 
 abbrev never : ℕ → Bool
 never k = false
-
-sum_of : (a b c m n : ℕ) → a ≡ 0 → b ≡ a + m → c ≡ b + n → c ≡ m + n
-sum_of a b c m n none one two = omega arith
 
 -- in a unit behind its parameters
 record Head (scopes : Scopes) (def : RawUnit) : Type 0 where
@@ -124,7 +101,7 @@ head_of scopes def nothing none =
       low = subst Low whole second.low;
       outer = ap (λ (s : Scopes). s.outer) (sym whole) ∙ second.outer ∙ first.outer;
       count = ap (λ (s : Scopes). s.counts.variables) (sym whole)
-          ∙ sum_of scopes.counts.variables middle.counts.variables (after middle outs).counts.variables (length def.inputs)
+          ∙ two_more scopes.counts.variables middle.counts.variables (after middle outs).counts.variables (length def.inputs)
           (length def.outputs) none
           first.more second.more;
     }
@@ -153,10 +130,6 @@ inside_of scopes def nothing none fits =
     }
 
 -- ---- items
-
-unit_none : (kind : UnitKind) (counts : Counts) → (counted counts (kind_of_unit kind)).variables ≡ 0
-unit_none unit.Function counts = refl
-unit_none unit.Activity counts = refl
 
 unit_only : (kind : UnitKind) (name : Name) (scopes : Scopes) → Only never scopes → Only never (enter scopes (declares name (kind_of_unit kind)))
 unit_only unit.Function name scopes nothing = declare_only never scopes name kind.Function (λ is. absurd (cc)) nothing
@@ -189,7 +162,7 @@ behind_item (item.Unit def) scopes nothing none fits =
     subst Behind (unit_scopes scopes inner def refl)
     (record {
       nothing = unit_only def.kind def.name (enter inner closes) (subst (Only never) (sym closed) nothing);
-      none = unit_none def.kind (enter inner closes).counts;
+      none = unit_counted def.kind (enter inner closes).counts;
     })
 
 known_next : (scopes : Scopes) (one : RawItem) (items : List RawItem) → Known scopes (one ∷ items) → Known (after scopes (item_marks one)) items
@@ -202,7 +175,7 @@ item_declared : (scopes : Scopes) (one : RawItem) → Only never scopes → scop
 item_declared scopes (item.Struct def) nothing none fits = refl
 item_declared scopes (item.Constant constant) nothing none fits = refl
 item_declared scopes (item.Unit def) nothing none fits =
-    both (body_declared (named_unit scopes def)) true (inside_of scopes def nothing none fits).declared refl
+    and_from (body_declared (named_unit scopes def)) true (inside_of scopes def nothing none fits).declared refl
 
 units_declared : (scopes : Scopes) (items : List RawItem) → Known scopes items → list_all body_declared (along units_of scopes items) ≡ true
 units_declared scopes [] known = refl

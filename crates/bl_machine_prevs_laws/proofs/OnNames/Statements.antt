@@ -4,6 +4,8 @@ use Rattle.std.proofs.Common.{◌≡◌, ℕ, Bool, true, List, [], ◌∷◌, �
 use Rattle.std.specs.Prelude.{All, Option, Some, nat_eq, option_map}
 use Rattle.std.proofs.lemmas.Bool.{eq-eqb}
 use Rattle.std.proofs.lemmas.List.Elements.{All-head, All-tail}
+use Rattle.std.proofs.lemmas.Bool.{and_from, or_left, or_right}
+use Rattle.bl_tree.proofs.Basics.{all_append}
 use Rattle.bl_tree.specs.declared.place.Place.{Place}
 use Rattle.bl_tree.specs.Apart.{Roots}
 use Rattle.bl_names_tree.specs.declared.expr.NamedExpr.{NamedExpr}
@@ -25,20 +27,8 @@ use Rattle.bl_parse_tree.specs.declared.stmt.RawStmtKind.TheOpen.{RawStmtKind-F}
 use Rattle.bl_parse_tree.specs.declared.types.RawType.{RawType}
 use Rattle.bl_names_scopes.specs.declared.kind.Kind.TheVariants as kind
 use Rattle.bl_names_scopes.specs.declared.kind.Wanted.TheVariants as wanted
-use Rattle.bl_names_scopes.specs.Marks.{
-  Marks,
-  argument_marks,
-  closes,
-  constant_marks,
-  declares,
-  expr_marks,
-  in_scope,
-  optional,
-  path_marks,
-  target_marks,
-  type_marks,
-  uses,
-}
+use Rattle.bl_names_scopes.specs.Marks.{Marks, argument_marks, closes, constant_marks, declares, expr_marks, in_scope, optional, path_marks, target_marks}
+use Rattle.bl_names_scopes.specs.Marks.{type_marks, uses}
 use Rattle.bl_names_scopes.specs.Scopes.{Scopes, after, scopes_outside}
 use Rattle.bl_names.specs.Named.{Piece, kind_piece, made_of_all, marks_of_all, opened, piece_of_arm, piece_of_branch, stmt_piece}
 use Rattle.bl_names.specs.Naming.{named_expr, named_path, named_target, position}
@@ -47,36 +37,15 @@ use Rattle.bl_names.proofs.PastLemmas.{enter-behind}
 use Rattle.bl_names.proofs.PieceLemmas.{arm_is, branch_is, parts, stmt_is}
 use Rattle.bl_names.proofs.PlacedExpr.{variable_read}
 use Rattle.bl_names.proofs.RawStmtInduction.{Cases, induct, stmt}
-use Rattle.bl_names.proofs.StillLemmas.{
-  Still,
-  after-append,
-  still_append,
-  still_arguments,
-  still_expr,
-  still_optional,
-  still_target,
-  still_type,
-  still_use,
-  still_value,
-}
+use Rattle.bl_names.proofs.StillLemmas.{Still, after-append, still_append, still_arguments, still_expr, still_optional, still_target, still_type, still_use}
+use Rattle.bl_names.proofs.StillLemmas.{still_value}
 use Rattle.bl_names_laws.specs.Apart.{optional_roots, roots_in}
 use Rattle.bl_machine_prevs_laws.specs.Names.Declared.{arm_scoped, branch_scoped, scoped_of, stmt_kind_scoped, stmt_layer_scoped}
 use Rattle.bl_machine_prevs_laws.specs.Names.inner.Declared.{scoped_of_arm, scoped_of_branch}
-use Rattle.bl_machine_prevs_laws.specs.Names.Scoped.{
-  Scoped,
-  are_known,
-  block_and_condition,
-  declaring,
-  every,
-  is_known,
-  naming,
-  scoped_arms,
-  scoped_block,
-  scoped_branches as branches_of,
-  stand_in_turn,
-}
+use Rattle.bl_machine_prevs_laws.specs.Names.Scoped.{Scoped, are_known, block_and_condition, declaring, every, is_known, naming, scoped_arms, scoped_block}
+use Rattle.bl_machine_prevs_laws.specs.Names.Scoped.{scoped_branches as branches_of, stand_in_turn}
 use Rattle.bl_machine_prevs_laws.proofs.OnNames.ExprRoots.{arguments_only, expr_only, optional_only, taker_only, target_only}
-use Rattle.bl_machine_prevs_laws.proofs.OnNames.Only.{Only, OuterOnly, ScopeOnly, all_append, both, declare_only, only_weaker, or_first, or_second}
+use Rattle.bl_machine_prevs_laws.proofs.OnNames.Only.{Only, OuterOnly, ScopeOnly, declare_only, only_weaker}
 
 abbrev RawLayer : Type 0
 RawLayer = RawStmtKind-F RawStmtKind RawArm RawBranch RawStmt
@@ -163,7 +132,7 @@ turns (s ∷ body) each known scopes only fits =
     let second = turns body (All-tail StmtGood s body each) (one.declared ++ known) middle first.only (fits_second scopes marks rest fits) in
     record {
       outer = ap (λ (s : Scopes). s.outer) (after-append scopes marks rest) ∙ second.outer ∙ first.outer;
-      stands = both (one.stands known) (stand_in_turn (body_of body middle) (one.declared ++ known)) first.stands second.stands;
+      stands = and_from (one.stands known) (stand_in_turn (body_of body middle) (one.declared ++ known)) first.stands second.stands;
     }
 
 -- a block
@@ -198,7 +167,7 @@ own_tested e body each known scopes only fits =
     (record {
       inner = ap (λ (s : Scopes). s.inner) all ∙ inside.inner;
       outer = ap (λ (s : Scopes). s.outer) all ∙ inside.outer;
-      stands = both (are_known known roots) (stand_in_turn (body_of body (opened scopes)) known)
+      stands = and_from (are_known known roots) (stand_in_turn (body_of body (opened scopes)) known)
           (expr_only (is_known known) scopes scopes.counts only e (fits_first scopes (expr_marks e) marks fits)) inside.stands;
     })
 
@@ -224,7 +193,7 @@ own_until e body each known scopes only fits =
     record {
       inner = ap (λ (s : Scopes). s.inner) all ∙ inside.inner;
       outer = ap (λ (s : Scopes). s.outer) all ∙ inside.outer;
-      stands = both (are_known known roots) (stand_in_turn (body_of body (opened scopes)) known)
+      stands = and_from (are_known known roots) (stand_in_turn (body_of body (opened scopes)) known)
           (expr_only (is_known known) scopes behind.counts only e fits_e) inside.stands;
     }
 
@@ -244,7 +213,7 @@ own_each of piece (x ∷ xs) each known scopes only fits =
     record {
       inner = ap (λ (s : Scopes). s.inner) (after-append scopes marks rest) ∙ second.inner ∙ first.inner;
       outer = ap (λ (s : Scopes). s.outer) (after-append scopes marks rest) ∙ second.outer ∙ first.outer;
-      stands = both ((of ((piece x).made scopes)).stands known) (every (map of (made_of_all (map piece xs) middle)) known) first.stands second.stands;
+      stands = and_from ((of ((piece x).made scopes)).stands known) (every (map of (made_of_all (map piece xs) middle)) known) first.stands second.stands;
     }
 
 own_choice : (arms : List RawArm) (other : List RawStmt) → All ArmGood arms → All StmtGood other → (known : Roots) (scopes : Scopes) →
@@ -262,7 +231,7 @@ own_choice arms other in_arms in_other known scopes only fits =
     record {
       inner = ap (λ (s : Scopes). s.inner) (after-append scopes marks rest) ∙ second.inner ∙ first.inner;
       outer = ap (λ (s : Scopes). s.outer) (after-append scopes marks rest) ∙ second.outer ∙ first.outer;
-      stands = both (every (map scoped_of_arm (made_of_all (map piece_of_arm arms) scopes)) known) (stand_in_turn (body_of other (opened middle)) known)
+      stands = and_from (every (map scoped_of_arm (made_of_all (map piece_of_arm arms) scopes)) known) (stand_in_turn (body_of other (opened middle)) known)
           first.stands second.stands;
     }
 
@@ -321,8 +290,8 @@ declared_turn name ty value known scopes only fits =
     subst (λ new. Turn known scopes new (declaring n roots)) (enter-behind scopes marks name kind.Variable (still_value ty value))
     (record {
       outer = refl;
-      only = declare_only (is_known (n ∷ known)) scopes name kind.Variable (λ is. or_first (nat_eq n n) (is_known known n) (eq-eqb n n refl))
-          (only_weaker (is_known known) (is_known (n ∷ known)) (λ k. or_second (nat_eq k n) (is_known known k)) scopes only);
+      only = declare_only (is_known (n ∷ known)) scopes name kind.Variable (λ is. or_left (nat_eq n n) (is_known known n) (eq-eqb n n refl))
+          (only_weaker (is_known known) (is_known (n ∷ known)) (λ k. or_right (nat_eq k n) (is_known known k)) scopes only);
       stands = optional_only (is_known known) scopes scopes.counts only value fits_value;
     })
 

@@ -5,6 +5,8 @@ use Rattle.std.specs.Prelude.{All, if◌then◌else◌, is_some, nat_eq, option_
 use Rattle.std.specs.List.{list_all}
 use Rattle.std.proofs.lemmas.List.Elements.{All-head, All-tail}
 use Rattle.std.proofs.lemmas.List.Folds.{list_all-append}
+use Rattle.std.proofs.lemmas.Bool.{and_from}
+use Rattle.bl_tree.proofs.Basics.{and_second}
 use Rattle.bl_tree.specs.declared.place.Place.{Place}
 use Rattle.bl_tree.specs.declared.scalar.Scalar.{Scalar as ScalarType}
 use Rattle.bl_tree.specs.declared.tree.Expr.{Expr, fold-roll-Expr}
@@ -19,33 +21,11 @@ use Rattle.bl_tree.specs.declared.tree.Var.{Var}
 use Rattle.bl_tree.specs.Reduce.{joined}
 use Rattle.bl_tree.specs.Scalar.{is_whole}
 use Rattle.bl_tree.specs.Types.{scalar_in}
-use Rattle.bl_tree.specs.Typing.{
-  TypingContext,
-  after_parts,
-  call_type,
-  cast_type,
-  element_in,
-  expr_type,
-  inputs_of,
-  is_activity,
-  is_function,
-  is_variable,
-  kind_type,
-  one_type,
-  part_type,
-  path_type,
-  prev_type,
-  two_type,
-  type_of,
-  type_of_path,
-  types_match,
-  var_at,
-  where_same,
-  where_whole,
-}
+use Rattle.bl_tree.specs.Typing.{TypingContext, after_parts, call_type, cast_type, element_in, expr_type, inputs_of, is_activity, is_function, is_variable}
+use Rattle.bl_tree.specs.Typing.{kind_type, one_type, part_type, path_type, prev_type, two_type, type_of, type_of_path, types_match, var_at, where_same}
+use Rattle.bl_tree.specs.Typing.{where_whole}
 use Rattle.bl_tree.proofs.ExprInduction.{Cases, EachIndex, OfIndex, expr, induct, induct_path}
 use Rattle.bl_eval.proofs.OperatorFits.{some_found, where_holds}
-use Rattle.bl_eval.proofs.PassLemmas.{and_right, both}
 use Rattle.bl_machine_prevs.specs.Prevs.{expr_layer_prevs, kind_prevs, part_prevs, path_layer_prevs, prevs_in_expr, prevs_in_part, prevs_in_path}
 use Rattle.bl_machine_prevs_laws.specs.Scalar.{is_scalar_var}
 
@@ -57,8 +37,8 @@ prev_typed : (kind : UnitKind) (var : Option Var) (ty : Ty) → option_and_then 
 prev_typed kind None ty is = absurd (cc)
 prev_typed kind (Some var) ty is =
     let holds = where_holds (is_activity kind && (is_variable var.role && is_some (scalar_in var.ty))) (Some var.ty) ty is in
-    and_right (is_variable var.role) (is_some (scalar_in var.ty))
-    (and_right (is_activity kind) (is_variable var.role && is_some (scalar_in var.ty)) holds.0)
+    and_second (is_variable var.role) (is_some (scalar_in var.ty))
+    (and_second (is_activity kind) (is_variable var.role && is_some (scalar_in var.ty)) holds.0)
 
 record First (t : Option Ty) (ts : List (Option Ty)) (vars : List Var) : Type 0 where
   pub ty : Ty
@@ -69,10 +49,10 @@ record First (t : Option Ty) (ts : List (Option Ty)) (vars : List Var) : Type 0 
 types_first : (t : Option Ty) (ts : List (Option Ty)) (vars : List Var) → types_match (t ∷ ts) vars ≡ true → First t ts vars
 types_first None ts vars is = absurd (cc)
 types_first (Some ty) ts [] is = absurd (cc)
-types_first (Some ty) ts (var ∷ vars) is = record { ty = ty; is = refl; rest = vars; match = and_right _ (types_match ts vars) is }
+types_first (Some ty) ts (var ∷ vars) is = record { ty = ty; is = refl; rest = vars; match = and_second _ (types_match ts vars) is }
 
 pub all_both : (test : ℕ → Bool) (xs ys : List ℕ) → list_all test xs ≡ true → list_all test ys ≡ true → list_all test (xs ++ ys) ≡ true
-all_both test xs ys one two = list_all-append test xs ys ∙ both (list_all test xs) (list_all test ys) one two
+all_both test xs ys one two = list_all-append test xs ys ∙ and_from (list_all test xs) (list_all test ys) one two
 
 module _ (site : TypingContext) where
   abbrev Good : List ℕ → Type 0
@@ -171,7 +151,7 @@ module _ (site : TypingContext) where
       let unit : UnitDef = found.0 in
       let match = types_match (map (type_of site) inputs) (inputs_of unit) in
       let holds = where_holds (is_function unit.kind && (nat_eq unit.outputs 0 && match)) (option_map _ unit.result) ty found.2 in
-      exprs_by inputs each (inputs_of unit) (and_right (nat_eq unit.outputs 0) match (and_right (is_function unit.kind)
+      exprs_by inputs each (inputs_of unit) (and_second (nat_eq unit.outputs 0) match (and_second (is_function unit.kind)
       (nat_eq unit.outputs 0 && match)
       holds.0))
 
@@ -180,7 +160,7 @@ module _ (site : TypingContext) where
     literal = λ place n s. by_kind place (ExprKind-F.Literal n s) (λ ty typed. refl);
     read = λ place path is. by_kind place (ExprKind-F.Read path) is;
     prev = λ place k. by_kind place (ExprKind-F.Prev k)
-        (λ ty typed. both (is_scalar site k) true (prev_typed site.kind (var_at site k) ty typed) refl);
+        (λ ty typed. and_from (is_scalar site k) true (prev_typed site.kind (var_at site k) ty typed) refl);
     one = λ place op a is. by_kind place (ExprKind-F.One op a)
         (λ ty typed. let found = scalar_of (type_of site a) (one_type op) ty typed in is found.0 found.1);
     two = λ place op a b is_a is_b. by_kind place (ExprKind-F.Two op a b)

@@ -22,16 +22,7 @@ use Rattle.bl_types.specs.declared.environment.Environment.{Environment}
 use Rattle.bl_types.specs.declared.form.Found.{Found}
 use Rattle.bl_types.specs.declared.form.Found.TheVariants as found
 use Rattle.bl_types.specs.Expressions.{in_context, judged, params_of}
-use Rattle.bl_types.specs.Statements.{
-  Arguments,
-  arguments,
-  assign_made,
-  if_complete,
-  outputs_wanted,
-  returned,
-  run_made,
-  stmt_made,
-}
+use Rattle.bl_types.specs.Statements.{Arguments, arguments, assign_made, if_complete, outputs_wanted, returned, run_made, stmt_made}
 use Rattle.bl_machine_prevs_laws.specs.Names.Scoped.{Scoped, are_known, is_known, naming}
 use Rattle.bl_types_laws.proofs.Exprs.{context_in, inputs_in}
 use Rattle.bl_types_laws.proofs.NamedSizes.{inputs_size, named_size}

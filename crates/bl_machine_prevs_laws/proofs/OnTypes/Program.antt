@@ -1,15 +1,16 @@
 -- What is made of the units of a program in which no rule fails names what is declared before.
-use Rattle.std.proofs.Common.{◌≡◌, ℕ, suc, zero, ◌+◌, true, List, [], ◌∷◌, ◌++◌, length, map, take, Option, Some, None, refl}
-use Rattle.std.proofs.Common.{ap, sym, subst, ◌∙◌, arith}
-use Rattle.std.specs.Prelude.{Bool, IsTrue, false, if◌then◌else◌, option_and_then, slice_get}
+use Rattle.std.proofs.Common.{◌≡◌, ℕ, ◌+◌, true, List, [], ◌∷◌, ◌++◌, length, map, take, Option, Some, None, refl}
+use Rattle.std.proofs.Common.{ap, sym, ◌∙◌, arith}
+use Rattle.std.specs.Prelude.{IsTrue, false, if◌then◌else◌, option_and_then, slice_get}
 use Rattle.std.specs.List.{list_all}
 use Rattle.std.proofs.lemmas.List.{append-nil, append_assoc, length-append, map-append}
 use Rattle.std.proofs.lemmas.List.Folds.{list_all-append}
 use Rattle.std.proofs.lemmas.Option.{same_Some}
+use Rattle.std.proofs.lemmas.Bool.{and_from}
+use Rattle.bl_tree.proofs.Basics.{all_at, and_second, first_empty, push_length, second_empty, take_next}
 use Rattle.bl_tree.specs.declared.tree.Unit.{Unit as UnitDef}
 use Rattle.bl_tree.specs.declared.tree.UnitKind.{UnitKind}
 use Rattle.bl_eval.proofs.OperatorFits.{some_found, where_holds}
-use Rattle.bl_eval.proofs.PassLemmas.{and_left, and_right, both}
 use Rattle.bl_names_tree.specs.declared.item.Item.{Item}
 use Rattle.bl_names_tree.specs.declared.item.Item.TheVariants as kind
 use Rattle.bl_names_tree.specs.declared.item.NamedConstant.{NamedConstant}
@@ -31,7 +32,6 @@ use Rattle.bl_types.specs.Rules.{Passes as TypesPass}
 use Rattle.bl_types.specs.Units.{after_unit, entries}
 use Rattle.bl_types_laws.specs.Standing.{BetweenUnits, UnitPassed, unit_named}
 use Rattle.bl_types_laws.specs.Within.{calls_functions, known_in}
-use Rattle.bl_types_laws.proofs.Forms.{nil_left, nil_right}
 use Rattle.bl_types_laws.proofs.Items.{constant_between, struct_between}
 use Rattle.bl_types_laws.proofs.ItemTurns.{at_start, no_failure}
 use Rattle.bl_types_laws.proofs.Premises.{ConstantsSuit, UnitsSuit}
@@ -41,24 +41,6 @@ use Rattle.bl_machine_prevs_laws.specs.Types.Declared.{unit_declared}
 use Rattle.bl_machine_prevs_laws.proofs.OnTypes.Units.{unit_kept}
 
 -- ---- lists
-
--- one more of the first elements
-take_next : {A : Type 0} (xs : List A) (n : ℕ) (x : A) → slice_get xs n ≡ Some x → take (suc n) xs ≡ take n xs ++ x ∷ []
-take_next [] n x is = absurd (cc)
-take_next (y ∷ xs) zero x is = ap (λ y. y ∷ []) (same_Some y x is)
-take_next (y ∷ xs) (suc n) x is = ap (λ rest. y ∷ rest) (take_next xs n x is)
-
-one_of : {A : Type 0} (test : A → Bool) (xs : List A) (n : ℕ) (x : A) → list_all test xs ≡ true → slice_get xs n ≡ Some x →
-    test x ≡ true
-one_of test [] n x all is = absurd (cc)
-one_of test (y ∷ xs) zero x all is = subst (λ y. test y ≡ true) (same_Some y x is) (and_left (test y) (list_all test xs) all)
-one_of test (y ∷ xs) (suc n) x all is = one_of test xs n x (and_right (test y) (list_all test xs) all) is
-
-next_length : {A : Type 0} (xs : List A) (x : A) → length (xs ++ x ∷ []) ≡ suc (length xs)
-next_length xs x = length-append xs (x ∷ []) ∙ next_is (length xs)
-  where
-    next_is : (n : ℕ) → n + 1 ≡ suc n
-    next_is n = omega arith
 
 -- ---- what is known between items, and what is made
 
@@ -92,7 +74,7 @@ made_then a b c one two = record {
   more = one.more ++ two.more;
   units = two.units ∙ ap (λ units. units ++ two.more) one.units ∙ append_assoc a.units one.more two.more;
   declared = list_all-append unit_declared one.more two.more
-      ∙ both (list_all unit_declared one.more) (list_all unit_declared two.more) one.declared two.declared;
+      ∙ and_from (list_all unit_declared one.more) (list_all unit_declared two.more) one.declared two.declared;
 }
 
 module _ (named : Named) (units_suit : UnitsSuit named) (constants_suit : ConstantsSuit named)
@@ -120,7 +102,7 @@ module _ (named : Named) (units_suit : UnitsSuit named) (constants_suit : Consta
   constant_turn env between kinds None there counts is none = absurd (cc)
   constant_turn env between kinds (Some def) there counts is none =
       let holds = where_holds (constant_placed (known_in env) def) (Some (one_constant (known_in env))) counts is in
-      let placed = and_right (holds_if (type_placed (known_in env)) def.ty) (expr_placed (known_in env) def.value) holds.0 in
+      let placed = and_second (holds_if (type_placed (known_in env)) def.ty) (expr_placed (known_in env) def.value) holds.0 in
       let calls : calls_functions env.units def.value ≡ true = constants_suit (length env.constants) def there env.units
       (known_in env) refl kinds placed in
       record {
@@ -152,12 +134,12 @@ module _ (named : Named) (units_suit : UnitsSuit named) (constants_suit : Consta
         kinds = ap (map kind_made) units ∙ map-append kind_made env.units (made ∷ []) ∙ ap (λ front. front ++ def.kind ∷ []) kinds
             ∙ sym (map-append kind_named (take (length env.units) named.units) (def ∷ []))
             ∙ ap (map kind_named) (sym (take_next named.units (length env.units) def there))
-            ∙ ap (λ n. map kind_named (take n named.units)) (sym (next_length env.units made) ∙ ap length (sym units));
+            ∙ ap (λ n. map kind_named (take n named.units)) (sym (push_length env.units made) ∙ ap length (sym units));
         made = record {
           more = made ∷ [];
           units = units;
-          declared = both (unit_declared made) true
-              (unit_kept named.constants def env between suits counts is none (one_of body_declared named.units
+          declared = and_from (unit_declared made) true
+              (unit_kept named.constants def env between suits counts is none (all_at body_declared named.units
               (length env.units) def declared there)) refl;
         };
       }
@@ -177,10 +159,10 @@ module _ (named : Named) (units_suit : UnitsSuit named) (constants_suit : Consta
       let first : Declaring = after_item named one env in
       let rest : Declaring = after_items named items first.env in
       let found = some_found (in_turn (map (item_step named) items)) (item_step named one (known_in env)) counts is in
-      let turn = one_turn one env between kinds found.0 found.1 (nil_left first.failures rest.failures none) in
+      let turn = one_turn one env between kinds found.0 found.1 (first_empty first.failures rest.failures none) in
       made_then env first.env rest.env turn.made
       (turns items first.env turn.between turn.kinds counts (ap (in_turn (map (item_step named) items)) turn.counts_are ∙ found.2)
-      (nil_right first.failures rest.failures none))
+      (second_empty first.failures rest.failures none))
 
 program_declared : (items : List RawItem) (bytes : ℕ) → UnitsSuit (named_program items bytes) → ConstantsSuit (named_program items bytes) →
     list_all body_declared (named_program items bytes).units ≡ true → NamedIsWellFormed (named_program items bytes) → NamesPass items →
@@ -188,7 +170,7 @@ program_declared : (items : List RawItem) (bytes : ℕ) → UnitsSuit (named_pro
 program_declared items bytes units constants declared keeps names types =
     let named = named_program items bytes in
     let made : Made fresh (after_program named).env = turns named units constants declared named.order fresh (at_start items bytes names).between refl
-    (all_earlier named) keeps.placed (nil_left (after_program named).failures (entries false (text_end named) named.units)
+    (all_earlier named) keeps.placed (first_empty (after_program named).failures (entries false (text_end named) named.units)
     (no_failure named types)) in
     ap (list_all unit_declared) made.units ∙ made.declared
 

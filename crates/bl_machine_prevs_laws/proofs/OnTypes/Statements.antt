@@ -4,8 +4,10 @@ use Rattle.std.proofs.Common.{sym, ap}
 use Rattle.std.proofs.Common.{subst, ◌∙◌}
 use Rattle.std.specs.Prelude.{All, if◌then◌else◌, length, nat_eq, option_map, slice_get, ⊤}
 use Rattle.std.specs.List.{cons_option, list_all}
-use Rattle.std.proofs.lemmas.List.Elements.{All-cons, All-head, All-nil, All-tail}
+use Rattle.std.proofs.lemmas.List.Elements.{All-head, All-tail}
 use Rattle.std.proofs.lemmas.Option.{same_Some}
+use Rattle.std.proofs.lemmas.Bool.{and_from}
+use Rattle.bl_tree.proofs.Basics.{all_of_each, and_first, and_second, first_empty, second_empty}
 use Rattle.bl_tree.specs.declared.place.Place.{Place}
 use Rattle.bl_tree.specs.declared.rule.Failure.{Failure}
 use Rattle.bl_tree.specs.declared.scalar.Scalar.TheVariants.{Bool as OfBool}
@@ -23,7 +25,6 @@ use Rattle.bl_tree.specs.Reduce.{all_of}
 use Rattle.bl_tree.specs.Types.{scalar}
 use Rattle.bl_tree.specs.Typing.{TypingContext, fits, is_fixed, is_inhabited, is_variable}
 use Rattle.bl_eval.proofs.OperatorFits.{some_found, where_holds}
-use Rattle.bl_eval.proofs.PassLemmas.{and_left, and_right, both}
 use Rattle.bl_names_tree.specs.declared.expr.NamedExpr.{NamedExpr}
 use Rattle.bl_names_tree.specs.declared.item.NamedConstant.{NamedConstant}
 use Rattle.bl_names_tree.specs.declared.item.NamedVar.{NamedVar}
@@ -41,16 +42,15 @@ use Rattle.bl_types.specs.Expressions.{in_context, judged, targeted}
 use Rattle.bl_types.specs.Statements.{Block, StatementJudgement, Walked, arguments, arm_of, arm_walked, branch_walked, condition, declare, in_order, misplaced}
 use Rattle.bl_types.specs.Statements.{run_target, type_found, walked_arm, walked_block, walked_branch, walked_stmt}
 use Rattle.bl_machine_prevs_laws.specs.Names.Scoped as scopes
-use Rattle.bl_machine_prevs_laws.specs.Names.Scoped.{Scoped, are_known, block_and_condition, declaring, every, is_known, naming, scoped_arms, scoped_block}
+use Rattle.bl_machine_prevs_laws.specs.Names.Scoped.{Scoped, are_known, block_and_condition, declaring, every, is_known, scoped_arms, scoped_block}
 use Rattle.bl_machine_prevs_laws.specs.Names.Scoped.{scoped_branches as branches_of}
 use Rattle.bl_machine_prevs_laws.specs.Names.Declared as before
 use Rattle.bl_machine_prevs_laws.specs.Names.inner.Declared as earlier
 use Rattle.bl_types_laws.specs.Standing.{Around, Grown, Known, PartPassed, declared_by, stmt_named}
 use Rattle.bl_types_laws.specs.Within.{calls_functions, known_in}
 use Rattle.bl_types_laws.specs.inner.Named.{named_arm, named_branch}
-use Rattle.bl_types_laws.proofs.Blocks.{all_mapped, named_by, named_is, statement_fits}
+use Rattle.bl_types_laws.proofs.Blocks.{named_by, named_is, statement_fits}
 use Rattle.bl_types_laws.proofs.Exprs.{context_in, targeted_in}
-use Rattle.bl_types_laws.proofs.Forms.{nil_left, nil_right}
 use Rattle.bl_types_laws.proofs.Initials.{initial_fits}
 use Rattle.bl_types_laws.proofs.NamedSizes.{named_size, target_size}
 use Rattle.bl_types_laws.proofs.NamedStmtInduction.{Cases, induct, stmt}
@@ -61,21 +61,9 @@ use Rattle.bl_types_laws.proofs.StmtLayers.{Layer, step_by, step_is, walked_by, 
 use Rattle.bl_types_laws.proofs.Walks.{grown_around, grown_further, grown_self, own_calls, site_in, within_in}
 use Rattle.bl_machine_prevs_laws.specs.Types.Declared.{scoped_of}
 use Rattle.bl_machine_prevs_laws.specs.Types.inner.Declared.{scoped_of_arm, scoped_of_branch}
-use Rattle.bl_machine_prevs_laws.proofs.OnTypes.Leaves.{
-  KindKept,
-  Same,
-  StmtKept,
-  arguments_among,
-  assign_kept,
-  await_kept,
-  call_kept,
-  in_place,
-  kind_kept,
-  return_kept,
-  run_kept,
-  scoped_in,
-  tested_kept,
-}
+use Rattle.bl_machine_prevs_laws.proofs.OnTypes.Leaves.{KindKept, Same, StmtKept, arguments_among, assign_kept, await_kept, call_kept, in_place, kind_kept}
+use Rattle.bl_machine_prevs_laws.proofs.OnTypes.Leaves.{return_kept, run_kept, scoped_in, tested_kept}
+use Rattle.bl_types_laws.proofs.Blocks.{each_walk}
 
 -- ---- what is known behind a part
 
@@ -103,7 +91,7 @@ record Gone {A : Type 0} (of : Scoped) (to : A → Scoped) (env : Environment) (
 part_first : {A : Type 0} (known : Roots) (to : A → Scoped) (made : Option A) (rest : List A) → PartKept known to made →
     every (map to rest) known ≡ true →
     every (map to (cons_option made rest)) known ≡ true
-part_first known to (Some a) rest one more = both ((to a).stands known) (every (map to rest) known) one more
+part_first known to (Some a) rest one more = and_from ((to a).stands known) (every (map to rest) known) one more
 part_first known to None rest one more = more
 
 record AllGone {A : Type 0} (of : List Scoped) (to : A → Scoped) (env : Environment) (counts : DeclaredBefore) (after : Block A) : Type 0 where
@@ -127,19 +115,19 @@ module _ {X A : Type 0} (site : TypingContext) (walk : X → Environment → Wal
   all_gone (x ∷ xs) each env around known counts is none =
       let further : Block A = in_order (map walk xs) (walk x env).env in
       let found = some_found (in_turn (map step xs)) (step x (known_in env)) counts is in
-      let one = All-head Goes x xs each env around known found.0 found.1 (nil_left (walk x env).failures further.failures none) in
+      let one = All-head Goes x xs each env around known found.0 found.1 (first_empty (walk x env).failures further.failures none) in
       let more = all_gone xs (All-tail Goes x xs each) (walk x env).env (grown_around env (walk x env).env site one.threads.grown around)
       one.threads.known counts
-      (ap (in_turn (map step xs)) one.threads.counts_are ∙ found.2) (nil_right (walk x env).failures further.failures none) in
+      (ap (in_turn (map step xs)) one.threads.counts_are ∙ found.2) (second_empty (walk x env).failures further.failures none) in
       record {
         threads = record {
           grown = grown_further env (walk x env).env further.env one.threads.grown more.threads.grown;
           known = more.threads.known;
           counts_are = more.threads.counts_are;
         };
-        kept = λ known all. part_first known to (walk x env).made further.made (one.kept known (and_left ((of x).stands known)
+        kept = λ known all. part_first known to (walk x env).made further.made (one.kept known (and_first ((of x).stands known)
             (every (map of xs) known) all))
-            (more.kept known (and_right ((of x).stands known) (every (map of xs) known) all));
+            (more.kept known (and_second ((of x).stands known) (every (map of xs) known) all));
       }
 
 -- ---- statements one after another
@@ -148,17 +136,9 @@ stmt_first : (known : Roots) (of : Scoped) (made : Option Stmt) (rest : List Stm
     scopes.stand_in_turn (map scoped_of rest) (of.declared ++ known) ≡ true →
     scopes.stand_in_turn (map scoped_of (cons_option made rest)) known ≡ true
 stmt_first known of (Some s) rest one more =
-    both ((scoped_of s).stands known) (scopes.stand_in_turn (map scoped_of rest) ((scoped_of s).declared ++ known)) one.stands
+    and_from ((scoped_of s).stands known) (scopes.stand_in_turn (map scoped_of rest) ((scoped_of s).declared ++ known)) one.stands
     (subst (λ declared. scopes.stand_in_turn (map scoped_of rest) (declared ++ known) ≡ true) (sym one.declared) more)
 stmt_first known of None rest one more = subst (λ declared. scopes.stand_in_turn (map scoped_of rest) (declared ++ known) ≡ true) one more
-
--- of each that is named well
-each_named : {X : Type 0} (test : X → Bool) (W : X → Type 0) (xs : List X) → All (λ x. test x ≡ true → W x) xs →
-    all_of (map test xs) ≡ true → All W xs
-each_named test W [] each all = All-nil W
-each_named test W (x ∷ xs) each all =
-    All-cons W x xs (All-head (λ x. test x ≡ true → W x) x xs each (and_left (test x) (all_of (map test xs)) all))
-    (each_named test W xs (All-tail (λ x. test x ≡ true → W x) x xs each) (and_right (test x) (all_of (map test xs)) all))
 
 module _ (constants : List NamedConstant) (vars : List NamedVar) (site : TypingContext) where
   abbrev StmtGoes : NamedStmt → Type 0
@@ -207,14 +187,14 @@ module _ (constants : List NamedConstant) (vars : List NamedVar) (site : TypingC
   body_gone (s ∷ rest) each named env around known counts is none =
       let one : Walked Stmt = walked_stmt constants vars s env in
       let further : Block Stmt = walked_body rest one.env in
-      let named_s = and_left (stmt_named constants vars site.earlier s) (body_named rest) named in
+      let named_s = and_first (stmt_named constants vars site.earlier s) (body_named rest) named in
       let found = some_found (steps rest) (stmt_step vars constants s (known_in env)) counts is in
-      let first = nil_left one.failures further.failures none in
+      let first = first_empty one.failures further.failures none in
       let threads = threads_of false site (fits site) env found.0 one (statement_fits constants vars site s named_s env around known found.0 found.1
       first) in
-      let more = body_gone rest (All-tail P s rest each) (and_right (stmt_named constants vars site.earlier s) (body_named rest) named) one.env
+      let more = body_gone rest (All-tail P s rest each) (and_second (stmt_named constants vars site.earlier s) (body_named rest) named) one.env
       (grown_around env one.env site threads.grown around) threads.known counts (ap (steps rest) threads.counts_are ∙ found.2)
-      (nil_right one.failures further.failures none) in
+      (second_empty one.failures further.failures none) in
       record {
         threads = record {
           grown = grown_further env one.env further.env threads.grown more.threads.grown;
@@ -225,9 +205,9 @@ module _ (constants : List NamedConstant) (vars : List NamedVar) (site : TypingC
             let of : Scoped = before.scoped_of s in
             stmt_first vars_known of one.made further.made
             (All-head P s rest each named_s env around known found.0 found.1 first vars_known
-            (and_left (of.stands vars_known) (scopes.stand_in_turn (map before.scoped_of rest) (of.declared ++ vars_known)) all))
+            (and_first (of.stands vars_known) (scopes.stand_in_turn (map before.scoped_of rest) (of.declared ++ vars_known)) all))
             (more.kept (of.declared ++ vars_known)
-            (and_right (of.stands vars_known) (scopes.stand_in_turn (map before.scoped_of rest) (of.declared ++ vars_known)) all));
+            (and_second (of.stands vars_known) (scopes.stand_in_turn (map before.scoped_of rest) (of.declared ++ vars_known)) all));
       }
 
   -- ---- by the kind of a statement
@@ -291,9 +271,9 @@ module _ (constants : List NamedConstant) (vars : List NamedVar) (site : TypingC
   declare_kept place k (Some var) (Some e) named env around known counts step none vars_known all =
       let holds = where_holds (nat_eq k (length env.vars) && (var_placed (known_in env) var && expr_placed (known_in env) e))
       (Some (with_variable (known_in env))) counts step in
-      let placed = and_right (var_placed (known_in env) var) (expr_placed (known_in env) e)
-      (and_right (nat_eq k (length env.vars)) (var_placed (known_in env) var && expr_placed (known_in env) e) holds.0) in
-      let calls = and_right (is_variable var.role || is_fixed var.role) (calls_functions site.earlier e) named in
+      let placed = and_second (var_placed (known_in env) var) (expr_placed (known_in env) e)
+      (and_second (nat_eq k (length env.vars)) (var_placed (known_in env) var && expr_placed (known_in env) e) holds.0) in
+      let calls = and_second (is_variable var.role || is_fixed var.role) (calls_functions site.earlier e) named in
       let fit = initial_fits env (site_in env) (within_in env site around known) var.ty e placed (own_calls env site around e calls) none in
       let value : Option Expr = (initial env var.ty e).valued.value in
       declared_value place k vars_known (written.roots_in e) value fit.it fit.is_made
@@ -311,8 +291,8 @@ module _ (constants : List NamedConstant) (vars : List NamedVar) (site : TypingC
       (failed ++ ((condition env e).failures ++ (walked_body body env).failures)) ≡ [] → BodyGone body env counts
   tested_goes e body each named env around known counts step failed none =
       let holds = where_holds (expr_placed (known_in env) e) (steps body (known_in env)) counts step in
-      body_gone body each named env around known counts holds.1 (nil_right (condition env e).failures (walked_body body env).failures
-      (nil_right failed ((condition env e).failures ++ (walked_body body env).failures) none))
+      body_gone body each named env around known counts holds.1 (second_empty (condition env e).failures (walked_body body env).failures
+      (second_empty failed ((condition env e).failures ++ (walked_body body env).failures) none))
 
   beside_kept : (place : Place) (known : Roots) (make : Expr → StmtKind) (layer : Expr → StmtKind-F StmtKind Arm Branch Stmt)
       (body : List Stmt) →
@@ -327,7 +307,7 @@ module _ (constants : List NamedConstant) (vars : List NamedVar) (site : TypingC
       (subst (Same known (block_and_condition (written.roots_in e) parts)) (sym (scoped it))
       (record {
         declared = refl;
-        stands = both (are_known known (names.roots_in it)) (scopes.stand_in_turn (map scoped_of body) known)
+        stands = and_from (are_known known (names.roots_in it)) (scopes.stand_in_turn (map scoped_of body) known)
             (among (is_known known) all) stands;
       })))
 
@@ -338,35 +318,35 @@ module _ (constants : List NamedConstant) (vars : List NamedVar) (site : TypingC
       P (stmt place (NamedStmtKind-F.When guard e body))
   guarded_kept place guard e body each = by_kind place (NamedStmtKind-F.When guard e body)
       (λ named env around known counts step none vars_known all.
-      let gone = tested_goes e body each (and_right (calls_functions site.earlier e) (body_named body) named) env around known counts step
+      let gone = tested_goes e body each (and_second (calls_functions site.earlier e) (body_named body) named) env around known counts step
       (misplaced env.kind place) none in
       let made = (walked_body body env).made in
       beside_kept place vars_known (λ test. what.When guard test made) (λ test. StmtKind-F.When guard test made) made
       (λ test. what.outs-When guard test made) (λ test. refl) e (parts_of body) (condition env e).made (condition_in env e)
-      (and_left (are_known vars_known (written.roots_in e)) (scopes.stand_in_turn (parts_of body) vars_known) all)
-      (gone.kept vars_known (and_right (are_known vars_known (written.roots_in e)) (scopes.stand_in_turn (parts_of body) vars_known) all)))
+      (and_first (are_known vars_known (written.roots_in e)) (scopes.stand_in_turn (parts_of body) vars_known) all)
+      (gone.kept vars_known (and_second (are_known vars_known (written.roots_in e)) (scopes.stand_in_turn (parts_of body) vars_known) all)))
 
   while_kept : (place : Place) (e : NamedExpr) (body : List NamedStmt) → All P body → P (stmt place (NamedStmtKind-F.While e body))
   while_kept place e body each = by_kind place (NamedStmtKind-F.While e body)
       (λ named env around known counts step none vars_known all.
-      let gone = tested_goes e body each (and_right (calls_functions site.earlier e) (body_named body) named) env around known counts step [] none in
+      let gone = tested_goes e body each (and_second (calls_functions site.earlier e) (body_named body) named) env around known counts step [] none in
       let made = (walked_body body env).made in
       beside_kept place vars_known (λ test. what.While test made) (λ test. StmtKind-F.While test made) made
       (λ test. what.outs-While test made) (λ test. refl) e (parts_of body) (condition env e).made (condition_in env e)
-      (and_left (are_known vars_known (written.roots_in e)) (scopes.stand_in_turn (parts_of body) vars_known) all)
-      (gone.kept vars_known (and_right (are_known vars_known (written.roots_in e)) (scopes.stand_in_turn (parts_of body) vars_known) all)))
+      (and_first (are_known vars_known (written.roots_in e)) (scopes.stand_in_turn (parts_of body) vars_known) all)
+      (gone.kept vars_known (and_second (are_known vars_known (written.roots_in e)) (scopes.stand_in_turn (parts_of body) vars_known) all)))
 
   until_kept : (place : Place) (body : List NamedStmt) (e : NamedExpr) → All P body → P (stmt place (NamedStmtKind-F.Until body e))
   until_kept place body e each = by_kind place (NamedStmtKind-F.Until body e)
       (λ named env around known counts step none vars_known all.
       let block : Block Stmt = walked_body body env in
       let holds = where_holds (expr_placed (known_in env) e) (steps body (known_in env)) counts step in
-      let gone = body_gone body each (and_left (body_named body) (calls_functions site.earlier e) named) env around known counts holds.1
-      (nil_left block.failures (condition block.env e).failures none) in
+      let gone = body_gone body each (and_first (body_named body) (calls_functions site.earlier e) named) env around known counts holds.1
+      (first_empty block.failures (condition block.env e).failures none) in
       beside_kept place vars_known (λ test. what.Until block.made test) (λ test. StmtKind-F.Until block.made test) block.made
       (λ test. what.outs-Until block.made test) (λ test. refl) e (parts_of body) (condition block.env e).made (condition_in block.env e)
-      (and_left (are_known vars_known (written.roots_in e)) (scopes.stand_in_turn (parts_of body) vars_known) all)
-      (gone.kept vars_known (and_right (are_known vars_known (written.roots_in e)) (scopes.stand_in_turn (parts_of body) vars_known) all)))
+      (and_first (are_known vars_known (written.roots_in e)) (scopes.stand_in_turn (parts_of body) vars_known) all)
+      (gone.kept vars_known (and_second (are_known vars_known (written.roots_in e)) (scopes.stand_in_turn (parts_of body) vars_known) all)))
 
   repeat_kept : (place : Place) (body : List NamedStmt) → All P body → P (stmt place (NamedStmtKind-F.Repeat body))
   repeat_kept place body each = by_kind place (NamedStmtKind-F.Repeat body)
@@ -381,24 +361,24 @@ module _ (constants : List NamedConstant) (vars : List NamedVar) (site : TypingC
   if_kept place arms other each rest = by_kind place (NamedStmtKind-F.If arms other)
       (λ named env around known counts step none vars_known all.
       let arms_named = all_of (map (named_arm constants vars site.earlier) arms) in
-      let parts = and_right (is_inhabited (map (named_arm constants vars site.earlier) arms)) (arms_named && body_named other) named in
+      let parts = and_second (is_inhabited (map (named_arm constants vars site.earlier) arms)) (arms_named && body_named other) named in
       let tests : Block Arm = in_order (map (arm_walked constants vars) arms) env in
       let last : Block Stmt = walked_body other tests.env in
       let found = some_found (steps other) (in_turn (map (step_of_arm vars constants) arms) (known_in env)) counts step in
       let first = all_gone site (arm_walked constants vars) (step_of_arm vars constants) earlier.scoped_of_arm scoped_of_arm arms
-      (each_named (named_arm constants vars site.earlier) ArmGoes arms each (and_left arms_named (body_named other) parts))
-      env around known found.0 found.1 (nil_left tests.failures last.failures none) in
-      let second = body_gone other rest (and_right arms_named (body_named other) parts) tests.env
+      (each_walk (named_arm constants vars site.earlier) ArmGoes arms each (and_first arms_named (body_named other) parts))
+      env around known found.0 found.1 (first_empty tests.failures last.failures none) in
+      let second = body_gone other rest (and_second arms_named (body_named other) parts) tests.env
       (grown_around env tests.env site first.threads.grown around) first.threads.known counts (ap (steps other) first.threads.counts_are ∙ found.2)
-      (nil_right tests.failures last.failures none) in
+      (second_empty tests.failures last.failures none) in
       let arms_all = every (map earlier.scoped_of_arm arms) vars_known in
       let other_all = scopes.stand_in_turn (parts_of other) vars_known in
       kind_kept place (what.If tests.made last.made) (StmtKind-F.If tests.made last.made) vars_known
       (scoped_arms (map earlier.scoped_of_arm arms) (parts_of other)) (what.outs-If tests.made last.made)
       (record {
         declared = refl;
-        stands = both (every (map scoped_of_arm tests.made) vars_known) (scopes.stand_in_turn (map scoped_of last.made) vars_known)
-            (first.kept vars_known (and_left arms_all other_all all)) (second.kept vars_known (and_right arms_all other_all all));
+        stands = and_from (every (map scoped_of_arm tests.made) vars_known) (scopes.stand_in_turn (map scoped_of last.made) vars_known)
+            (first.kept vars_known (and_first arms_all other_all all)) (second.kept vars_known (and_second arms_all other_all all));
       }))
 
   cobegin_kept : (place : Place) (branches : List NamedBranch) → All R branches → P (stmt place (NamedStmtKind-F.Cobegin branches))
@@ -406,10 +386,10 @@ module _ (constants : List NamedConstant) (vars : List NamedVar) (site : TypingC
       (λ named env around known counts step none vars_known all.
       let block : Block Branch = in_order (map (branch_walked constants vars) branches) env in
       let gone = all_gone site (branch_walked constants vars) (step_of_branch vars constants) earlier.scoped_of_branch scoped_of_branch branches
-      (each_named (named_branch constants vars site.earlier) BranchGoes branches each
-      (and_right (is_inhabited (map (named_branch constants vars site.earlier) branches))
+      (each_walk (named_branch constants vars site.earlier) BranchGoes branches each
+      (and_second (is_inhabited (map (named_branch constants vars site.earlier) branches))
       (all_of (map (named_branch constants vars site.earlier) branches))
-      named)) env around known counts step (nil_right (misplaced env.kind place) block.failures none) in
+      named)) env around known counts step (second_empty (misplaced env.kind place) block.failures none) in
       kind_kept place (what.Cobegin block.made) (StmtKind-F.Cobegin block.made) vars_known (branches_of (map earlier.scoped_of_branch branches))
       (what.outs-Cobegin block.made) (record { declared = refl; stands = gone.kept vars_known all }))
 
@@ -421,7 +401,7 @@ module _ (constants : List NamedConstant) (vars : List NamedVar) (site : TypingC
   arm_made known e body (Some test) most all stands =
       let is : scoped_of_arm (arm_of test body) ≡ block_and_condition (names.roots_in test) (map scoped_of body) = rw fold-roll-Arm refl in
       ap (λ (scoped : Scoped). scoped.stands known) is
-      ∙ both (are_known known (names.roots_in test)) (scopes.stand_in_turn (map scoped_of body) known) (most.roots (is_known known) all) stands
+      ∙ and_from (are_known known (names.roots_in test)) (scopes.stand_in_turn (map scoped_of body) known) (most.roots (is_known known) all) stands
   arm_made known e body None most all stands = tt
 
   arm_case : (test : NamedExpr) (body : List NamedStmt) → All P body → Q (roll-NamedArm (record { test = test; body = body }))
@@ -433,7 +413,7 @@ module _ (constants : List NamedConstant) (vars : List NamedVar) (site : TypingC
       rw fold-roll-NamedArm refl in
       let step_as : step_of_arm vars constants arm ≡ tested test (map (stmt_step vars constants) body) = rw fold-roll-NamedArm refl in
       let scoped_as : earlier.scoped_of_arm arm ≡ block_and_condition (written.roots_in test) (parts_of body) = rw fold-roll-NamedArm refl in
-      let gone = tested_goes test body each (and_right (calls_functions site.earlier test) (body_named body) (sym named_as
+      let gone = tested_goes test body each (and_second (calls_functions site.earlier test) (body_named body) (sym named_as
       ∙ named)) env around known counts
       (ap (λ (step : PlacedStep). step (known_in env)) (sym step_as) ∙ step) []
       (ap (λ (walk : StatementJudgement Arm). (walk env).failures) (sym walked_as) ∙ none) in
@@ -441,8 +421,8 @@ module _ (constants : List NamedConstant) (vars : List NamedVar) (site : TypingC
       let here : Gone (block_and_condition (written.roots_in test) (parts_of body)) scoped_of_arm env counts made = record {
         threads = gone.threads;
         kept = λ vars_known all. arm_made vars_known test (walked_body body env).made (condition env test).made (condition_in env test)
-            (and_left (are_known vars_known (written.roots_in test)) (scopes.stand_in_turn (parts_of body) vars_known) all)
-            (gone.kept vars_known (and_right (are_known vars_known (written.roots_in test)) (scopes.stand_in_turn (parts_of body) vars_known) all));
+            (and_first (are_known vars_known (written.roots_in test)) (scopes.stand_in_turn (parts_of body) vars_known) all)
+            (gone.kept vars_known (and_second (are_known vars_known (written.roots_in test)) (scopes.stand_in_turn (parts_of body) vars_known) all));
       } in
       subst (λ of. Gone of scoped_of_arm env counts (arm_walked constants vars arm env)) (sym scoped_as)
       (subst (λ (walk : StatementJudgement Arm). Gone (block_and_condition (written.roots_in test) (parts_of body)) scoped_of_arm env counts (walk env)) (sym walked_as) here)
@@ -508,6 +488,6 @@ module _ (constants : List NamedConstant) (vars : List NamedVar) (site : TypingC
       (walked_block constants vars body env).failures ≡ [] → (known : Roots) → scopes.stand_in_turn (map before.scoped_of body) known ≡ true →
       scopes.stand_in_turn (map scoped_of (walked_block constants vars body env).made) known ≡ true
   block_kept body named env around known counts step none =
-      (body_gone body (λ k d within. induct P Q R cases _) (all_mapped (stmt_named constants vars site.earlier) body named) env around known counts
+      (body_gone body (λ k d within. induct P Q R cases _) (all_of_each (stmt_named constants vars site.earlier) body named) env around known counts
       step
       none).kept

@@ -16,18 +16,8 @@ use Rattle.bl_machine_transitions.specs.declared.transition.Needed.{Needed}
 use Rattle.bl_machine_transitions.specs.declared.size.Fork.{Fork}
 use Rattle.bl_machine_transitions.specs.declared.size.Size.{Size}
 use Rattle.bl_machine_transitions.specs.declared.table.Table.{Table}
-use Rattle.bl_machine_transitions.specs.Listed.{
-  Layout,
-  when_body_end,
-  flagged_rule,
-  fork_nodes,
-  forgotten,
-  freed,
-  guard_nodes,
-  mark_change,
-  tested_rule,
-  resting_rule,
-}
+use Rattle.bl_machine_transitions.specs.Listed.{Layout, when_body_end, flagged_rule, fork_nodes, forgotten, freed, guard_nodes, mark_change, tested_rule}
+use Rattle.bl_machine_transitions.specs.Listed.{resting_rule}
 use Rattle.bl_machine_transitions.specs.declared.transition.Silent.TheVariants as silent
 use Rattle.bl_machine_transitions.specs.Told.{Nothing, NumberedTransition, Task}
 

@@ -19,22 +19,8 @@ use Rattle.bl_machine_transitions.specs.declared.size.Size.{Size}
 use Rattle.bl_machine_transitions.specs.Listed.{Layout, flagged_rule, fork_nodes, guard_nodes, mark_change, tested_rule, when_body_end}
 use Rattle.bl_machine_transitions.specs.declared.transition.Silent.TheVariants as silent
 use Rattle.bl_machine_transitions.specs.Told.{Acts, Enters, Nothing, NumberedTransition, Resumes, Task, Tests}
-use Rattle.bl_machine_transitions.specs.inner.Joined.{
-  all_joined,
-  enter_unless_empty,
-  fork_instant,
-  fork_of,
-  fork_size,
-  guarded_size,
-  join_fork,
-  no_fork,
-  or_size,
-  paused,
-  sized,
-  then_size,
-  turned,
-  watched,
-}
+use Rattle.bl_machine_transitions.specs.inner.Joined.{all_joined, enter_unless_empty, fork_instant, fork_of, fork_size, guarded_size, join_fork, no_fork}
+use Rattle.bl_machine_transitions.specs.inner.Joined.{or_size, paused, sized, then_size, turned, watched}
 
 -- what is computed of a block or statement. `rests` takes the position of its first place; `rules` takes those of its first node and place, and the change that
 -- follows

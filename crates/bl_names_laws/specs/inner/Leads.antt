@@ -5,17 +5,8 @@ use Rattle.bl_names_tree.specs.declared.item.NamedVar.{NamedVar}
 use Rattle.bl_names_tree.specs.declared.named.Named.{Named}
 use Rattle.bl_names_tree.specs.declared.stmt.NamedArm.{NamedArm, fold-NamedArm}
 use Rattle.bl_names_tree.specs.declared.stmt.NamedBranch.{NamedBranch, fold-NamedBranch}
-use Rattle.bl_names_laws.specs.Referents.{
-  Referents,
-  arm_layer_leads,
-  branch_layer_leads,
-  expr_layer_leads,
-  kind_leads,
-  part_leads,
-  stmt_kind_leads,
-  stmt_layer_leads,
-  target_layer_leads,
-}
+use Rattle.bl_names_laws.specs.Referents.{Referents, arm_layer_leads, branch_layer_leads, expr_layer_leads, kind_leads, part_leads, stmt_kind_leads}
+use Rattle.bl_names_laws.specs.Referents.{stmt_layer_leads, target_layer_leads}
 
 -- what a part of a target leads to, in a unit that has these variables
 abbrev pub step_leads : Named → List NamedVar → NamedPart → Referents

@@ -1,24 +1,5 @@
 -- What is expected where a reader stands, and what it has read.
-use Rattle.std.specs.Prelude.{
-  ◌≡◌,
-  ℕ,
-  zero,
-  suc,
-  ◌≤◌,
-  Bool,
-  true,
-  false,
-  List,
-  [],
-  ◌∷◌,
-  ◌++◌,
-  length,
-  drop,
-  slice_range,
-  Option,
-  Some,
-  None,
-}
+use Rattle.std.specs.Prelude.{◌≡◌, ℕ, zero, suc, ◌≤◌, Bool, true, false, List, [], ◌∷◌, ◌++◌, length, drop, slice_range, Option, Some, None}
 use Rattle.bl_tree.specs.Words.{is_name}
 use Rattle.bl_tree.specs.declared.token.Token.{Token}
 use Rattle.bl_tree.specs.declared.token.TokenKind.{TokenKind}
@@ -27,22 +8,8 @@ use Rattle.bl_lex.specs.declared.sign.TheConstants.{DOT, OPEN_BRACKET}
 use Rattle.bl_parse_syntax.specs.declared.grammar.Class.{Class}
 use Rattle.bl_parse_syntax.specs.declared.grammar.Class.TheVariants.{Mark}
 use Rattle.bl_parse_syntax.specs.declared.grammar.Part.{Part}
-use Rattle.bl_parse_syntax.specs.declared.grammar.Part.TheVariants.{
-  Accesses,
-  AssignTail,
-  PathRest,
-  RunTarget,
-  Expr,
-  And,
-  Comparison,
-  BitOr,
-  BitXor,
-  BitAnd,
-  Shift,
-  Sum,
-  Product,
-  Cast,
-}
+use Rattle.bl_parse_syntax.specs.declared.grammar.Part.TheVariants.{Accesses, AssignTail, PathRest, RunTarget, Expr, And, Comparison, BitOr, BitXor, BitAnd}
+use Rattle.bl_parse_syntax.specs.declared.grammar.Part.TheVariants.{Shift, Sum, Product, Cast}
 use Rattle.bl_parse_syntax.specs.Grammar.{Piece, the, views, class_of}
 use Rattle.bl_parse_syntax.specs.Tables.{has}
 use Rattle.bl_parse_syntax.specs.Expects.{Expects}

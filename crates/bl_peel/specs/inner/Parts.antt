@@ -19,21 +19,8 @@ use Rattle.bl_peel.specs.declared.turns.FrontArms.{FrontArms}
 use Rattle.bl_peel.specs.declared.turns.FrontBlock.{FrontBlock}
 use Rattle.bl_peel.specs.declared.turns.FrontBranches.{FrontBranches}
 use Rattle.bl_peel.specs.Count.{arm_statement_count, branch_statement_count, kind_statement_count, statement_count, stmt_count, stmt_layer_count}
-use Rattle.bl_peel.specs.Peeled.{
-  ArmPeeling,
-  BranchPeeling,
-  Peeling,
-  arm_peeling,
-  branch_peeling,
-  deep_of,
-  front_ends,
-  front_of,
-  kind_deep,
-  kind_peeling,
-  peeled,
-  peeling,
-  stmt_peeling,
-}
+use Rattle.bl_peel.specs.Peeled.{ArmPeeling, BranchPeeling, Peeling, arm_peeling, branch_peeling, deep_of, front_ends, front_of, kind_deep, kind_peeling}
+use Rattle.bl_peel.specs.Peeled.{peeled, peeling, stmt_peeling}
 
 -- ---- the parts of a statement
 

@@ -11,16 +11,7 @@ use Rattle.bl_rows.specs.Lines.{unfinished, whole_lines}
 use Rattle.bl_rows.specs.Reading.{Reading, empty_reading, fault_in, led_by_rows, rows_after, rows_in, rows_of}
 use Rattle.bl_rows.specs.declared.fault.RowFault.{RowFault}
 use Rattle.bl_rows_stream.specs.Reports.{HasRun, after_rows, report_of}
-use Rattle.bl_rows_stream.specs.Streams.{
-  AppendsFront,
-  HasRead,
-  Reported,
-  course_from,
-  finish_of,
-  last_over,
-  last_so_far,
-  report_over,
-}
+use Rattle.bl_rows_stream.specs.Streams.{AppendsFront, HasRead, Reported, course_from, finish_of, last_over, last_so_far, report_over}
 use Rattle.bl_rows_stream.specs.declared.finish.Finish.{Finish}
 use Rattle.bl_rows_stream.specs.declared.finish.Finish.TheVariants as finish
 use Rattle.bl_rows_stream.specs.declared.finish.Progress.{Progress}

@@ -1,4 +1,4 @@
--- What passes the rules of a tree has exactly one trace: that of the program of the trees of its units.
+-- What passes the rules of a tree has exactly one trace: that of its peeled program.
 use Rattle.std.proofs.Common.{◌≡◌, ◌∙◌, ℕ, ℤ, List, sym, subst}
 use Rattle.std.specs.Prelude.{◌↔◌}
 use Rattle.bl_tree.specs.declared.tree.StructDef.{StructDef}
@@ -14,7 +14,7 @@ use Rattle.bl_ctree_laws_peeled_bounds.specs.Bounds.{PeeledIsBounded}
 use Rattle.bl_ctree_laws_traces.specs.Traces.Maximal.{BoundedHaveMeanings}
 use Rattle.bl_ctree_laws_traces.specs.Traces.OneTrace.{HasOneTrace, OneTrace, OrderedAreNumbered, OrderedHaveOneTrace}
 use Rattle.bl_rules_laws.specs.Traces.OneTrace.{SourceHasOneTrace, TreesHaveOneTrace}
-use Rattle.bl_rules_laws.specs.Traces.Trees.{AcceptedKeepOnTrees, KeepsOnTrees, TreesMeanTheSame}
+use Rattle.bl_rules_laws.specs.Traces.Peeled.{AcceptedKeepPeeled, KeepsPeeled, PeeledMeanTheSame}
 
 -- the laws that the proof stands on
 pub record TraceLaws : Type 0 where
@@ -26,55 +26,55 @@ pub record TraceLaws : Type 0 where
   pub means : PeeledMeans
   pub stuck : PeeledIsNeverStuck
 
-module _ (given : TraceLaws) (structs : List StructDef) (units : List UnitDef) (entry : ℕ) (trees : List UnitDef)
-    (keeps : KeepsOnTrees structs units entry trees) where
+module _ (given : TraceLaws) (structs : List StructDef) (units : List UnitDef) (entry : ℕ) (peeled : List UnitDef)
+    (keeps : KeepsPeeled structs units entry peeled) where
   fitted : Fitted (setting_of structs units entry)
   fitted = (given.orderly structs units entry keeps.well_typed keeps.passes).fitted
 
-  trees_fitted : Fitted (setting_of structs trees entry)
-  trees_fitted = (given.orderly structs trees entry keeps.trees_typed keeps.trees_pass).fitted
+  peeled_fitted : Fitted (setting_of structs peeled entry)
+  peeled_fitted = (given.orderly structs peeled entry keeps.peeled_typed keeps.peeled_pass).fitted
 
-  trees_one : HasOneTrace structs trees entry
-  trees_one = given.ordered structs trees entry keeps.trees_typed keeps.trees_pass keeps.ordered
+  peeled_one : HasOneTrace structs peeled entry
+  peeled_one = given.ordered structs peeled entry keeps.peeled_typed keeps.peeled_pass keeps.ordered
 
-  source_bounded : Bounded (steps structs trees entry) structs units entry
+  source_bounded : Bounded (steps structs peeled entry) structs units entry
   source_bounded =
-      given.bounded structs units trees entry keeps.peels fitted keeps.trees_typed keeps.trees_pass
-      (given.numbered structs trees entry keeps.trees_typed keeps.trees_pass keeps.ordered)
+      given.bounded structs units peeled entry keeps.peels fitted keeps.peeled_typed keeps.peeled_pass
+      (given.numbered structs peeled entry keeps.peeled_typed keeps.peeled_pass keeps.ordered)
 
   source_stuck : NeverStuck structs units entry
-  source_stuck = given.stuck structs units trees entry keeps.peels fitted trees_fitted trees_one.never_stuck
+  source_stuck = given.stuck structs units peeled entry keeps.peels fitted peeled_fitted peeled_one.never_stuck
 
   module _ (rows : List (List ℤ)) where
-    to_trees : (shows : ShownTrace) → Means structs units entry rows shows → Means structs trees entry rows shows
-    to_trees shows means = given.means structs units trees entry rows shows keeps.peels fitted trees_fitted means
+    to_peeled : (shows : ShownTrace) → Means structs units entry rows shows → Means structs peeled entry rows shows
+    to_peeled shows means = given.means structs units peeled entry rows shows keeps.peels fitted peeled_fitted means
 
-    -- a source has a trace, which is that of its trees
-    source_means : Means structs units entry rows (shown_trace (trees_one.each rows).trace)
+    -- a source has a trace, which is that of its peeled program
+    source_means : Means structs units entry rows (shown_trace (peeled_one.each rows).trace)
     source_means =
-        let has = given.meanings (steps structs trees entry) structs units entry source_bounded rows in
-        subst (Means structs units entry rows) ((trees_one.each rows).only has.shows (to_trees has.shows has.means)) has.means
+        let has = given.meanings (steps structs peeled entry) structs units entry source_bounded rows in
+        subst (Means structs units entry rows) ((peeled_one.each rows).only has.shows (to_peeled has.shows has.means)) has.means
 
     source_one : OneTrace structs units entry rows
     source_one = record {
-      trace = (trees_one.each rows).trace;
+      trace = (peeled_one.each rows).trace;
       means = source_means;
-      only = λ shows means. (trees_one.each rows).only shows (to_trees shows means);
+      only = λ shows means. (peeled_one.each rows).only shows (to_peeled shows means);
     }
 
-    pub both_mean : (shows : ShownTrace) → Means structs units entry rows shows ↔ Means structs trees entry rows shows
+    pub both_mean : (shows : ShownTrace) → Means structs units entry rows shows ↔ Means structs peeled entry rows shows
     both_mean shows = (
-      to_trees shows,
-      λ means. subst (Means structs units entry rows) (sym ((trees_one.each rows).only shows means)) source_means,
+      to_peeled shows,
+      λ means. subst (Means structs units entry rows) (sym ((peeled_one.each rows).only shows means)) source_means,
     )
 
-  pub source_has_one : SourceHasOneTrace structs units entry trees
+  pub source_has_one : SourceHasOneTrace structs units entry peeled
   source_has_one = record { each = source_one; bounded = source_bounded; never_stuck = source_stuck }
 
-pub trees_mean : AcceptedKeepOnTrees → TraceLaws → TreesMeanTheSame
-trees_mean keep given program trees of are rows shows =
-    both_mean given program.structs program.units program.entry trees (keep program trees of are) rows shows
+pub peeled_mean : AcceptedKeepPeeled → TraceLaws → PeeledMeanTheSame
+peeled_mean keep given program peeled of are rows shows =
+    both_mean given program.structs program.units program.entry peeled (keep program peeled of are) rows shows
 
-pub trees_have_one_trace : AcceptedKeepOnTrees → TraceLaws → TreesHaveOneTrace
-trees_have_one_trace keep given program trees of are =
-    source_has_one given program.structs program.units program.entry trees (keep program trees of are)
+pub trees_have_one_trace : AcceptedKeepPeeled → TraceLaws → TreesHaveOneTrace
+trees_have_one_trace keep given program peeled of are =
+    source_has_one given program.structs program.units program.entry peeled (keep program peeled of are)

@@ -12,10 +12,10 @@ use Rattle.bl_tree.specs.declared.tree.StructDef.{StructDef}
 use Rattle.bl_tree.specs.declared.tree.Unit.{Unit as UnitDef}
 
 -- the C file is well formed and has the one trace of a program. Each activity with an instance has one function in it, which alone names its counters. There
--- are as many counters as the activity's width. The function's body has as many `if`s as a machine of the trees' program with merged blocks has blocks
+-- are as many counters as the activity's width. The function's body has as many `if`s as a machine of the peeled program with merged blocks has blocks
 pub record IsFileOfProgram (structs : List StructDef) (units : List UnitDef) (entry : ℕ) (file : CFile) : Type 0 where
   pub well_formed : WellFormed (parts_of file)
   pub one_trace : OneTrace structs units entry (behaviour_of (parts_of file))
-  pub functions : FunctionsOwn structs one_trace.trees entry (parts_of file)
-  pub frames : EachFrameHasWidth structs one_trace.trees entry (parts_of file)
-  pub blocks : HasMergedBlocks structs one_trace.trees entry (parts_of file)
+  pub functions : FunctionsOwn structs one_trace.peeled entry (parts_of file)
+  pub frames : EachFrameHasWidth structs one_trace.peeled entry (parts_of file)
+  pub blocks : HasMergedBlocks structs one_trace.peeled entry (parts_of file)

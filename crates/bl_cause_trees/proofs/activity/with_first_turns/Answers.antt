@@ -4,19 +4,19 @@ use Rattle.bl_graph.specs.Graph.{IsTickGraph}
 use Rattle.bl_graph_nodes.specs.Plain.{plain_body}
 use Rattle.bl_cause.specs.Activities.{IsGraphOf}
 use Rattle.bl_cause_trees.specs.declared.activity.Judged.{Judged}
-use Rattle.bl_cause_trees.specs.inner.Judging.{IsCauseInBody, IsTreeBy, with_body}
+use Rattle.bl_cause_trees.specs.inner.Judging.{IsCauseInBody, IsPeeledBy, with_body}
 use Rattle.bl_cause_trees.specs.Rules.{Fails}
-use Rattle.bl_cause_trees.proofs.Judged.{cause_by_tree, first_by_tree, has_walk, large_is_tree, turned_is_tree}
+use Rattle.bl_cause_trees.proofs.Judged.{cause_by_peeled, first_by_peeled, has_walk, large_is_peeled, turned_is_peeled}
 use Rattle.bl_cause_trees.proofs.Results.{if_err, if_ok, if_ok_both}
 use Rattle.bl_cause_trees.proofs.activity.with_first_turns.Goals as goal
 
-pub returns-in-Ok-clause-tree : goal.returns-in-Ok-clause-tree
-returns-in-Ok-clause-tree c =
+pub returns-in-Ok-clause-peeled : goal.returns-in-Ok-clause-peeled
+returns-in-Ok-clause-peeled c =
     let unit = c.args.unit.now in
-    if_ok c.by_body.result (λ (made : Judged). made.peeled ≡ Some c.in-Ok.body) (λ (made : Judged). IsTreeBy unit made.peeled)
+    if_ok c.by_body.result (λ (made : Judged). made.peeled ≡ Some c.in-Ok.body) (λ (made : Judged). IsPeeledBy unit made.peeled)
     (λ made is.
-    subst (IsTreeBy unit) (sym is)
-    (turned_is_tree unit c.in-Ok.body c.deref.result.now c.deref.ensures c.in-Ok.ensures.made c.requires.activity
+    subst (IsPeeledBy unit) (sym is)
+    (turned_is_peeled unit c.in-Ok.body c.deref.result.now c.deref.ensures c.in-Ok.ensures.made c.requires.activity
     (has_walk unit c.args.rule c.args.place c.args.also c.requires.own) c.in-Ok.ensures.fits)) c.by_body.ensures.body
 
 pub returns-in-Ok-clause-graph : goal.returns-in-Ok-clause-graph
@@ -31,13 +31,13 @@ pub returns-in-Ok-clause-cause : goal.returns-in-Ok-clause-cause
 returns-in-Ok-clause-cause c =
     let unit = c.args.unit.now in
     if_err c.by_body.result (IsCauseInBody c.in-Ok.body) (IsCause (Fails (unit ∷ [])))
-    (cause_by_tree unit (with_body unit (Some c.in-Ok.body)) c.requires.activity
-    (turned_is_tree unit c.in-Ok.body c.deref.result.now c.deref.ensures c.in-Ok.ensures.made c.requires.activity
+    (cause_by_peeled unit (with_body unit (Some c.in-Ok.body)) c.requires.activity
+    (turned_is_peeled unit c.in-Ok.body c.deref.result.now c.deref.ensures c.in-Ok.ensures.made c.requires.activity
     (has_walk unit c.args.rule c.args.place c.args.also c.requires.own) c.in-Ok.ensures.fits)) c.by_body.ensures.cause
 
 pub returns-in-Err-TooLarge-clause-cause : goal.returns-in-Err-TooLarge-clause-cause
 returns-in-Err-TooLarge-clause-cause c =
     let unit = c.args.unit.now in
     let more = rw c.in-Err-TooLarge.field-0-is at c.in-Err-TooLarge.ensures.fault in
-    first_by_tree unit unit c.requires.activity (large_is_tree unit c.deref.result.now c.deref.ensures more) c.args.rule c.args.place c.args.also
+    first_by_peeled unit unit c.requires.activity (large_is_peeled unit c.deref.result.now c.deref.ensures more) c.args.rule c.args.place c.args.also
     c.requires.own

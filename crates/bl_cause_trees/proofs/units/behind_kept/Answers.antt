@@ -33,7 +33,7 @@ returns-in-Ok-clause-kept c = λ units are.
     if_ok c.keep_activity.result (λ (next : Kept). next ≡ after_activity c.args.kept judged) (AreKept more)
     (λ next is.
     subst (AreKept more) (sym is)
-    (activity_kept units c.args.kept are c.args.unit.now judged (ap is_activity c.in-Activity.is) c.in-Ok.ensures.tree c.in-Ok.ensures.graph
+    (activity_kept units c.args.kept are c.args.unit.now judged (ap is_activity c.in-Activity.is) c.in-Ok.ensures.peeled c.in-Ok.ensures.graph
     c.in-Ok.ensures.order)) c.keep_activity.ensures.kept
 
 pub returns-in-Ok-clause-cause : goal.returns-in-Ok-clause-cause

@@ -18,7 +18,7 @@ pub returns-in-Ok : goal.returns-in-Ok
 returns-in-Ok c = λ units cause.
     let judged = c.in-Ok.field-0 in
     cause_of_earlier units c.args.unit.now
-    (activity_passes c.args.unit.now judged.peeled judged.ordered.graph judged.ordered.order (ap is_activity c.in-Activity.is) c.in-Ok.ensures.tree
+    (activity_passes c.args.unit.now judged.peeled judged.ordered.graph judged.ordered.order (ap is_activity c.in-Activity.is) c.in-Ok.ensures.peeled
     c.in-Ok.ensures.graph c.in-Ok.ensures.order) (refusal.Rule c.in-Rule.rule c.in-Rule.place c.in-Rule.also)
     (subst (IsCause (Fails units)) c.in-Rule.is cause)
 

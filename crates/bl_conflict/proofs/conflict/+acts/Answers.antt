@@ -1,6 +1,7 @@
 use Rattle.std.proofs.Common.{◌≡◌, ◌++◌, IfOk, ap, sym, ◌∙◌, subst, drop, map}
+use Rattle.bl_tree.proofs.Basics.{drop_next}
 use Rattle.bl_conflict.proofs.ConflictLemmas.{arm_out, behind_is, branch_out, branch_step, front_is, grown_is, if_is, rest_is, still_within}
-use Rattle.bl_conflict.proofs.FirstLemmas.{next_of, more-next, clash-next}
+use Rattle.bl_conflict.proofs.FirstLemmas.{more-next, clash-next}
 use Rattle.bl_tree.specs.Rules.{first_of}
 use Rattle.bl_conflict.specs.inner.Failures.{all_clashes, parallel_of_arm, parallel_of_branch}
 use Rattle.bl_conflict.proofs.RootLemmas.{known_both}
@@ -11,7 +12,7 @@ use Rattle.bl_conflict.proofs.conflict.+acts.Goals as goal
 pub block-loop-s-preserved : goal.block-loop-s-preserved
 block-loop-s-preserved t c =
     let s = c.s-item.result in
-    let step = ap (map parallel_of) (next_of c.args.body.now c.loop-s.s-index s c.loop-s-test.true c.s-item.is) in (
+    let step = ap (map parallel_of) (drop_next c.args.body.now c.loop-s.s-index s c.loop-s-test.true c.s-item.is) in (
       rw c.in_ok-best.ensures.writes (more-next (λ p. p.writes) _ _ (parallel_of s) c.loop-s.writes _ step c.loop-s.invariant.0),
       rw c.in_ok-best.ensures.best (clash-next c.args.vars.now _ _ (parallel_of s) c.loop-s.best _ step c.loop-s.invariant.1),
     )
@@ -19,7 +20,7 @@ block-loop-s-preserved t c =
 pub arms-loop-arm-preserved : goal.arms-loop-arm-preserved
 arms-loop-arm-preserved t c =
     let arm = c.arm-item.result in
-    let step = ap (map parallel_of_arm) (next_of c.args.all.now c.loop-arm.arm-index arm c.loop-arm-test.true c.arm-item.is) in
+    let step = ap (map parallel_of_arm) (drop_next c.args.all.now c.loop-arm.arm-index arm c.loop-arm-test.true c.arm-item.is) in
     let body = ap (λ body. together (map parallel_of body)) c.deref.ensures ∙ sym (arm_out arm) in
     let writes = c.in_ok-best.ensures.writes ∙ ap (λ p. c.loop-arm.writes ++ p.writes) body in
     let best = c.in_ok-best.ensures.best ∙ ap (λ p. first_of c.loop-arm.best (all_clashes c.args.vars.now p.splits)) body in (
@@ -42,7 +43,7 @@ pub branches-loop-branch-preserved : goal.branches-loop-branch-preserved
 branches-loop-branch-preserved t c =
     let branch = c.branch-item.result in
     let x = parallel_of_branch branch in
-    let step = ap (map parallel_of_branch) (next_of c.args.all.now c.loop-branch.branch-index branch c.loop-branch-test.true c.branch-item.is) in
+    let step = ap (map parallel_of_branch) (drop_next c.args.all.now c.loop-branch.branch-index branch c.loop-branch-test.true c.branch-item.is) in
     let body = ap (λ body. together (map parallel_of body)) c.deref.ensures ∙ sym (branch_out branch) in
     let writes : c.block.new.writes ≡ c.loop-branch.writes ++ x.writes = c.in_ok-best.ensures.writes ∙ ap (λ p. c.loop-branch.writes ++ p.writes) body in
     let best : c.in_ok-best.best ≡ first_of c.loop-branch.best (all_clashes c.args.vars.now x.splits) =

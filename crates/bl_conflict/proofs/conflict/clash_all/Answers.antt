@@ -1,4 +1,5 @@
-use Rattle.bl_conflict.proofs.FirstLemmas.{first-next, next_of}
+use Rattle.bl_tree.proofs.Basics.{drop_next}
+use Rattle.bl_conflict.proofs.FirstLemmas.{first-next}
 use Rattle.bl_conflict.specs.inner.Failures.{clashes_with}
 use Rattle.bl_conflict.proofs.conflict.clash_all.Goals as goal
 
@@ -6,4 +7,4 @@ pub loop-second-preserved : goal.loop-second-preserved
 loop-second-preserved c =
     rw c.clash_with-best.ensures
     (first-next (clashes_with c.args.vars.now c.args.earlier.now) _ _ c.second-item.result c.loop-second.best _
-    (next_of c.args.writes.now c.loop-second.second-index c.second-item.result c.loop-second-test.true c.second-item.is) c.loop-second.invariant)
+    (drop_next c.args.writes.now c.loop-second.second-index c.second-item.result c.loop-second-test.true c.second-item.is) c.loop-second.invariant)

@@ -1,6 +1,7 @@
 use Rattle.std.proofs.Common.{◌≡◌, ◌||◌, ap, sym, ◌∙◌, map, not}
+use Rattle.bl_tree.proofs.Basics.{drop_next}
 use Rattle.bl_tree.specs.declared.tree.Branch.{out-Branch}
-use Rattle.bl_conflict.proofs.FirstLemmas.{best-next, next_of, all-next, any-next}
+use Rattle.bl_conflict.proofs.FirstLemmas.{best-next, all-next, any-next}
 use Rattle.bl_conflict.proofs.LoopLemmas.{arm_out, branch_out, if_is, repeat_is, until_is, while_is}
 use Rattle.bl_conflict.specs.inner.Failures.{least_by, loops_of_arm, loops_of_branch, of_loop}
 use Rattle.bl_effects.specs.Rules.{block_ends, block_loops, loops_in}
@@ -8,7 +9,7 @@ use Rattle.bl_conflict.proofs.instant.+loops.Goals as goal
 
 pub block-loop-s-preserved : goal.block-loop-s-preserved
 block-loop-s-preserved t c =
-    let step = ap (map loops_in) (next_of c.args.body.now c.loop-s.s-index c.s-item.result c.loop-s-test.true c.s-item.is) in (
+    let step = ap (map loops_in) (drop_next c.args.body.now c.loop-s.s-index c.s-item.result c.loop-s-test.true c.s-item.is) in (
       rw c.statement-looked.ensures.instant (all-next (λ s. s.instant) _ _ (loops_in c.s-item.result) c.loop-s.all _ step c.loop-s.invariant.0),
       rw c.statement-looked.ensures.best (best-next of_loop (λ s. s.places) _ _ (loops_in c.s-item.result) c.loop-s.best _ step c.loop-s.invariant.1),
     )
@@ -16,7 +17,7 @@ block-loop-s-preserved t c =
 pub arms-loop-arm-preserved : goal.arms-loop-arm-preserved
 arms-loop-arm-preserved t c =
     let arm = c.arm-item.result in
-    let step = ap (map loops_of_arm) (next_of c.args.all.now c.loop-arm.arm-index arm c.loop-arm-test.true c.arm-item.is) in
+    let step = ap (map loops_of_arm) (drop_next c.args.all.now c.loop-arm.arm-index arm c.loop-arm-test.true c.arm-item.is) in
     let body = ap (map loops_in) c.deref.ensures in
     let instant : c.block-looked.result.instant ≡ (loops_of_arm arm).instant =
     c.block-looked.ensures.instant ∙ ap block_ends body ∙ sym (ap (λ l. l.instant) (arm_out arm)) in
@@ -29,7 +30,7 @@ arms-loop-arm-preserved t c =
 pub branches-loop-branch-preserved : goal.branches-loop-branch-preserved
 branches-loop-branch-preserved t c =
     let branch = c.branch-item.result in
-    let step = ap (map loops_of_branch) (next_of c.args.all.now c.loop-branch.branch-index branch c.loop-branch-test.true c.branch-item.is) in
+    let step = ap (map loops_of_branch) (drop_next c.args.all.now c.loop-branch.branch-index branch c.loop-branch-test.true c.branch-item.is) in
     let ends = ap (map (λ b. b.ends)) step in
     let body = ap (map loops_in) c.deref.ensures in
     let weak : (out-Branch branch).weak ≡ (loops_of_branch branch).ends.weak = sym (ap (λ l. l.ends.weak) (branch_out branch)) in

@@ -1,8 +1,9 @@
-use Rattle.bl_conflict.proofs.FirstLemmas.{first-next, next_of}
+use Rattle.bl_tree.proofs.Basics.{drop_next}
+use Rattle.bl_conflict.proofs.FirstLemmas.{first-next}
 use Rattle.bl_conflict.specs.inner.Failures.{pause_of}
 use Rattle.bl_conflict.proofs.pause.first.Goals as goal
 
 pub loop-unit-preserved : goal.loop-unit-preserved
 loop-unit-preserved c =
     rw c.judge-best.ensures (first-next pause_of _ _ c.unit-item.result c.loop-unit.best _
-    (next_of c.args.units.now c.loop-unit.unit-index c.unit-item.result c.loop-unit-test.true c.unit-item.is) c.loop-unit.invariant)
+    (drop_next c.args.units.now c.loop-unit.unit-index c.unit-item.result c.loop-unit-test.true c.unit-item.is) c.loop-unit.invariant)

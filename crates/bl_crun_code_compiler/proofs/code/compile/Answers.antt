@@ -1,8 +1,8 @@
 use Rattle.std.proofs.Common.{◌≡◌, ◌+◌, ◌++◌, ℕ, List, None, ap, codes, drop, length, option_map, rules, ◌∙◌}
+use Rattle.bl_tree.proofs.Basics.{drop_next}
 use Rattle.bl_ctext_semantics.specs.inner.Maps.{text_at}
 use Rattle.bl_ctext_semantics.specs.Sizes.{sizes}
 use Rattle.bl_ctext_semantics.specs.Tables.{with_entry}
-use Rattle.bl_ctext_semantics.proofs.ArgLemmas.{next_of}
 use Rattle.bl_crun_code.specs.Code.{FunctionEntry, code_of_function, entries_from, function_entry, functions_code}
 use Rattle.bl_crun_code.specs.Laws.{code_of_file, entry_in_file}
 use Rattle.bl_crun_code_layout.specs.declared.here.Entry.{Entry as CodeEntry}
@@ -38,7 +38,7 @@ loop-of-preserved c =
     let entry : entry_for value ≡ function_entry known (length code) f =
     ap (λ n. let e : FunctionEntry = record { entry = n; frame = c.in_ok-frame.frame } in e) (c.in_ok-at.ensures ∙ long)
     ∙ ap (λ n. let e : FunctionEntry = record { entry = length c.loop-of.code.items; frame = n } in e) (c.in_ok-frame.ensures ∙ c.frame_size.ensures) in
-    let next = next_of c.args.funcs.now c.loop-of.of-index f c.loop-of-test.true c.of-item.is in
+    let next = drop_next c.args.funcs.now c.loop-of.of-index f c.loop-of-test.true c.of-item.is in
     let part-is = c.deref.ensures.value ∙ c.finish.ensures ∙ c.in_ok-front.ensures
     ∙ ap (λ n. code_of_function known laid n (entries_in c.loop-of.known) f) (c.in_ok-at.ensures ∙ long) in
     let added = made-with entry_for (text_at c.loop-of.known) (text_at c.add.new.map) f.name value

@@ -1,11 +1,11 @@
 use Rattle.std.proofs.Common.{◌≡◌, ◌∷◌, [], ◌<◌, get_or, slice_set, length, map, ap, sym, ◌∙◌, arith}
+use Rattle.bl_tree.proofs.Basics.{map_length}
 use Rattle.bl_ctree_store.specs.Seen.{location_of}
 use Rattle.bl_ctree_enabled.specs.Listing.{trues}
 use Rattle.bl_ctree_enabled.specs.Spots.{spot_of}
 use Rattle.bl_ctree_enabled.specs.inner.Asked.{asked_flags}
 use Rattle.bl_ctree_enabled.proofs.AskLemmas.{no_flags, no_points}
 use Rattle.bl_ctree_enabled.proofs.ListLemmas.{list_here, list_map, set_read}
-use Rattle.bl_ctree_enabled.proofs.ListingLemmas.{map_many}
 use Rattle.bl_ctree_enabled.proofs.ReplaceLemmas.{counts_set}
 use Rattle.bl_ctree_enabled.proofs.asking.ask_branch.Goals as goal
 use Rattle.bl_ctree_enabled.proofs.asking.ask_branch.Goals.{else-j-points-via-then-j-points+else-j-len, else-j-points-via-else-j-points}
@@ -46,5 +46,5 @@ returns-else-j-points-clause-free c =
       | else-j-points-via-then-j-points+else-j-len w ↦
           no_flags hs c.args.j changed ms c.args.free.now (omega (arith, w.if-j-len.false, w.len.ensures))
       | else-j-points-via-else-j-points w ↦
-          no_points hs c.args.j changed ms c.args.free.now (omega (arith, w.if-j-points.false, map_many (map spot_of) c.args.points.now))
+          no_points hs c.args.j changed ms c.args.free.now (omega (arith, w.if-j-points.false, map_length (map spot_of) c.args.points.now))
     ]

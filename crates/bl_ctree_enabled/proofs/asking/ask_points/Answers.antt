@@ -1,19 +1,15 @@
 use Rattle.std.proofs.Common.{◌≡◌, ◌∷◌, [], ◌++◌, ◌+◌, ◌<◌, length, map, take, drop, suc, ap, sym, ◌∙◌, arith}
+use Rattle.bl_tree.proofs.Basics.{map_length, same_some}
 use Rattle.bl_ctree_store.specs.Seen.{location_of}
 use Rattle.bl_ctree_enabled.specs.declared.point.Point.{Point}
 use Rattle.bl_ctree_enabled.specs.Listing.{touches}
 use Rattle.bl_ctree_enabled.specs.Spots.{spot_of}
 use Rattle.bl_ctree_enabled.specs.inner.Asked.{asked_flags}
 use Rattle.bl_ctree_enabled.proofs.AskLemmas.{flag_asked, flag_left, flag_past, flags_length}
-use Rattle.bl_ctree_enabled.proofs.ListLemmas.{get_here, map_here, mixed_end, mixed_many, some_same}
-use Rattle.bl_ctree_enabled.proofs.ListingLemmas.{map_many}
+use Rattle.bl_ctree_enabled.proofs.ListLemmas.{get_here, map_here, mixed_end, mixed_many}
 use Rattle.bl_ctree_enabled.proofs.asking.ask_points.Goals as goal
-use Rattle.bl_ctree_enabled.proofs.asking.ask_points.Goals.{
-  then-m-points+then-touches,
-  else-m-points,
-  else-m-points-via-then-m-points+else-touches,
-  else-m-points-via-else-m-points,
-}
+use Rattle.bl_ctree_enabled.proofs.asking.ask_points.Goals.{then-m-points+then-touches, else-m-points, else-m-points-via-then-m-points+else-touches}
+use Rattle.bl_ctree_enabled.proofs.asking.ask_points.Goals.{else-m-points-via-else-m-points}
 
 pub set-requires : goal.set-requires
 set-requires c =
@@ -43,7 +39,7 @@ loop-m-preserved c =
           let q = w.index-points-m-then-touches.result in
           let in_points : m < length xs = omega (arith, w.if-m-points.true) in
           let same : p ≡ q =
-          some_same p q (sym (get_here xs m p in_points w.index-points-m.is) ∙ get_here xs m q in_points w.index-points-m-then-touches.is) in
+          same_some p q (sym (get_here xs m p in_points w.index-points-m.is) ∙ get_here xs m q in_points w.index-points-m-then-touches.is) in
           let read = ap (λ (q : Point). q.reads) (sym w.index-points-m.is ∙ same) in
           let meets = sym (w.touches.ensures ∙ ap (λ r. touches changed (map location_of r)) (w.deref.ensures ∙ read)) ∙ w.if-touches.true in
           flag_asked hs j changed spots was m (spot_of q) c.loop-m.free c.if-m-points.free w.is_free.result within
@@ -59,7 +55,7 @@ loop-m-preserved c =
             (map_here spot_of xs m p in_points v.index-points-m.is) off c.loop-m.invariant
         | else-m-points-via-else-m-points v ↦
             w.free-is
-            ∙ flag_past hs j changed spots was m c.loop-m.free within (omega (arith, v.if-m-points.false, map_many spot_of xs)) c.loop-m.invariant
+            ∙ flag_past hs j changed spots was m c.loop-m.free within (omega (arith, v.if-m-points.false, map_length spot_of xs)) c.loop-m.invariant
       ]
     ]
     ∙ ap (λ n. take n now ++ drop n was) next

@@ -1,11 +1,11 @@
 use Rattle.std.proofs.Common.{map, ap, sym, ◌∙◌, subst}
 use Rattle.std.specs.Map.Iter.{deref}
 use Rattle.std.proofs.lemmas.Map.Iter.{rest_all, rest_more}
+use Rattle.bl_tree.proofs.Basics.{map_length}
 use Rattle.bl_ctree_store.specs.Seen.{location_of}
 use Rattle.bl_ctree_enabled.specs.Spots.{spot_of}
 use Rattle.bl_ctree_enabled.specs.inner.Tables.{near}
 use Rattle.bl_ctree_enabled.proofs.AskLemmas.{Reached, reached_end, reached_more, reached_start}
-use Rattle.bl_ctree_enabled.proofs.ListingLemmas.{map_many}
 use Rattle.bl_ctree_enabled.proofs.asking.ask_readers.Goals as goal
 
 pub loop-key-init : goal.loop-key-init
@@ -15,7 +15,7 @@ loop-key-init c =
     let ms = map (map spot_of) c.args.points.now in
     let was = c.args.free.now in
     let keys = c.into_iter-key-iterator.ensures.into_iter_gives ∙ c.near-key-items.ensures
-    ∙ ap (near c.args.readers.now changed) (sym (map_many (map spot_of) c.args.points.now)) in (
+    ∙ ap (near c.args.readers.now changed) (sym (map_length (map spot_of) c.args.points.now)) in (
       subst (Reached hs changed ms was was) (sym keys) (reached_start hs changed ms was c.args.readers.now c.requires.readers),
       c.requires.counted,
     )

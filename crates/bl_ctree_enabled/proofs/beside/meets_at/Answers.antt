@@ -1,9 +1,9 @@
 use Rattle.std.proofs.Common.{◌<◌, length, map, ap, sym, ◌∙◌, arith}
 use Rattle.std.specs.List.{list_any}
+use Rattle.bl_tree.proofs.Basics.{map_length}
 use Rattle.bl_ctree.specs.Store.{overlap}
 use Rattle.bl_ctree_store.specs.Seen.{location_of}
 use Rattle.bl_ctree_enabled.proofs.ListLemmas.{list_here, list_map, list_past}
-use Rattle.bl_ctree_enabled.proofs.ListingLemmas.{map_many}
 use Rattle.bl_ctree_enabled.proofs.beside.meets_at.Goals as goal
 
 pub returns-then-j-all : goal.returns-then-j-all
@@ -19,4 +19,4 @@ pub returns : goal.returns
 returns c =
     let all = c.args.all.now in
     sym (ap (list_any (overlap (location_of c.args.at.now)))
-    (list_past (map (map location_of) all) c.args.j (omega (arith, c.if-j-all.false, map_many (map location_of) all))))
+    (list_past (map (map location_of) all) c.args.j (omega (arith, c.if-j-all.false, map_length (map location_of) all))))

@@ -2,8 +2,9 @@ use Rattle.std.proofs.Common.{map, ap, sym, ◌∙◌}
 use Rattle.bl_ctree.specs.Control.{Par}
 use Rattle.bl_ctree.specs.Nodes.{branches_of, control_of, located, seen_of}
 use Rattle.bl_ctree_enabled.specs.Spots.{moved}
-use Rattle.bl_ctree_enabled.proofs.NodeLemmas.{control_of_par, each_of}
+use Rattle.bl_ctree_enabled.proofs.NodeLemmas.{each_of}
 use Rattle.bl_ctree_enabled.proofs.branch.par.Goals as goal
+use Rattle.bl_ctree.proofs.WakeLemmas.{control_of_par}
 
 pub returns : goal.returns
 returns c =

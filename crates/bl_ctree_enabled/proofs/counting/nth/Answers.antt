@@ -1,9 +1,9 @@
 use Rattle.std.proofs.Common.{◌≡◌, ◌+◌, ◌<◌, ◌≤◌, true, false, length, map, drop, suc, ap, sym, ◌∙◌, arith}
 use Rattle.std.specs.Prelude.{slice_get}
+use Rattle.bl_tree.proofs.Basics.{map_length}
 use Rattle.bl_ctree_enabled.specs.Listing.{flagged}
 use Rattle.bl_ctree_enabled.specs.Spots.{spot_of}
 use Rattle.bl_ctree_enabled.proofs.ListLemmas.{flag_here, flag_passed, flag_skipped, flagged_first, flagged_past, map_here}
-use Rattle.bl_ctree_enabled.proofs.ListingLemmas.{map_many}
 use Rattle.bl_ctree_enabled.proofs.counting.nth.Goals as goal
 use Rattle.bl_ctree_enabled.proofs.counting.nth.Goals.{then-flags-k+else-left-eq0, else-flags-k}
 
@@ -25,7 +25,7 @@ loop-k-preserved c =
     let bs = c.args.flags.now in
     let xs = c.args.points.now in
     let in_flags : k < length bs = omega (arith, c.if-k-flags.false) in
-    let in_points : k < length (map spot_of xs) = omega (arith, c.loop-k-test.true, map_many spot_of xs) in
+    let in_points : k < length (map spot_of xs) = omega (arith, c.loop-k-test.true, map_length spot_of xs) in
     let next : k + 1 ≡ suc k = omega arith in
     ap (λ j. slice_get (flagged (drop j bs) (drop j (map spot_of xs))) c.if-flags-k.left) next
     ∙ elim c.if-flags-k.branch [
@@ -44,5 +44,5 @@ returns c =
     let k = c.loop-k.k in
     let bs = c.args.flags.now in
     let xs = c.args.points.now in
-    let past : length (map spot_of xs) ≤ k = omega (arith, c.loop-k-test.false, map_many spot_of xs) in
+    let past : length (map spot_of xs) ≤ k = omega (arith, c.loop-k-test.false, map_length spot_of xs) in
     sym (sym c.loop-k.invariant ∙ ap (λ spots. slice_get spots c.loop-k.left) (flagged_past bs (map spot_of xs) k past))

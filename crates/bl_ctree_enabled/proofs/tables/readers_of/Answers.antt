@@ -1,9 +1,9 @@
 use Rattle.std.proofs.Common.{◌≡◌, ◌+◌, ◌<◌, length, map, suc, ap, ◌∙◌, arith, subst}
 use Rattle.std.specs.Prelude.{option_map}
+use Rattle.bl_tree.proofs.Basics.{map_length}
 use Rattle.bl_ctree_enabled.specs.Spots.{spot_of}
 use Rattle.bl_ctree_enabled.specs.inner.Tables.{Noted, reads_in}
 use Rattle.bl_ctree_enabled.proofs.ListLemmas.{map_get, map_here}
-use Rattle.bl_ctree_enabled.proofs.ListingLemmas.{map_many}
 use Rattle.bl_ctree_enabled.proofs.TableLemmas.{branch_noted, branches_end}
 use Rattle.bl_ctree_enabled.proofs.tables.readers_of.Goals as goal
 
@@ -23,4 +23,4 @@ pub returns : goal.returns
 returns c =
     let all = c.args.points.now in
     branches_end c.loop-k.made (map reads_in (map (map spot_of) all)) c.loop-k.k
-    (omega (arith, c.loop-k-test.false, map_many (map spot_of) all, map_many reads_in (map (map spot_of) all))) c.loop-k.invariant
+    (omega (arith, c.loop-k-test.false, map_length (map spot_of) all, map_length reads_in (map (map spot_of) all))) c.loop-k.invariant

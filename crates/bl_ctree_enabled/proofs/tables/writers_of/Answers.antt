@@ -1,8 +1,8 @@
 use Rattle.std.proofs.Common.{◌≡◌, ◌+◌, ◌<◌, length, map, suc, arith, subst}
+use Rattle.bl_tree.proofs.Basics.{map_length}
 use Rattle.bl_ctree_store.specs.Seen.{location_of}
 use Rattle.bl_ctree_enabled.specs.inner.Tables.{Noted}
 use Rattle.bl_ctree_enabled.proofs.ListLemmas.{map_here}
-use Rattle.bl_ctree_enabled.proofs.ListingLemmas.{map_many}
 use Rattle.bl_ctree_enabled.proofs.TableLemmas.{branch_noted, branches_end}
 use Rattle.bl_ctree_enabled.proofs.tables.writers_of.Goals as goal
 
@@ -20,4 +20,4 @@ loop-k-preserved c =
 pub returns : goal.returns
 returns c =
     let all = c.args.homes.now in
-    branches_end c.loop-k.made (map (map location_of) all) c.loop-k.k (omega (arith, c.loop-k-test.false, map_many (map location_of) all)) c.loop-k.invariant
+    branches_end c.loop-k.made (map (map location_of) all) c.loop-k.k (omega (arith, c.loop-k-test.false, map_length (map location_of) all)) c.loop-k.invariant

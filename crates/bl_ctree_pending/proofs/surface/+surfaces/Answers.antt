@@ -1,12 +1,13 @@
 use Rattle.std.proofs.Common.{◌||◌, not, map, ap, sym, ◌∙◌}
+use Rattle.bl_tree.proofs.Basics.{drop_next}
 use Rattle.bl_effects.specs.Surface.{block_instant, block_surface, surface_of}
 use Rattle.bl_ctree_pending.specs.inner.Surfaces.{surface_of_arm, surface_of_branch}
-use Rattle.bl_ctree_pending.proofs.SurfaceLemmas.{all_next, any_next, arm_out, branch_out, cobegin_ends, if_writes, more_next, next_of}
+use Rattle.bl_ctree_pending.proofs.SurfaceLemmas.{all_next, any_next, arm_out, branch_out, cobegin_ends, if_writes, more_next}
 use Rattle.bl_ctree_pending.proofs.surface.+surfaces.Goals as goal
 
 pub arms-loop-arm-preserved : goal.arms-loop-arm-preserved
 arms-loop-arm-preserved t c =
-    let next = next_of c.args.all.now c.loop-arm.arm-index c.arm-item.result c.loop-arm-test.true c.arm-item.is in
+    let next = drop_next c.args.all.now c.loop-arm.arm-index c.arm-item.result c.loop-arm-test.true c.arm-item.is in
     let parted = ap (map surface_of_arm) next in
     let out = arm_out c.arm-item.result in
     record {
@@ -21,7 +22,7 @@ arms-loop-arm-preserved t c =
 
 pub branches-loop-branch-preserved : goal.branches-loop-branch-preserved
 branches-loop-branch-preserved t c =
-    let next = next_of c.args.all.now c.loop-branch.branch-index c.branch-item.result c.loop-branch-test.true c.branch-item.is in
+    let next = drop_next c.args.all.now c.loop-branch.branch-index c.branch-item.result c.loop-branch-test.true c.branch-item.is in
     let parted = ap (map surface_of_branch) next in
     let ended = ap (λ all. map (λ branch. branch.ends) (map surface_of_branch all)) next in
     let out = branch_out c.branch-item.result in

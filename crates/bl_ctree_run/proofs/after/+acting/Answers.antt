@@ -5,8 +5,9 @@ use Rattle.bl_ctree.specs.Nodes.{Seen, branches_of, control_of, located, seen_of
 use Rattle.bl_ctree_store.specs.Seen.{setting_in}
 use Rattle.bl_ctree_run.specs.inner.Spots.{after_by}
 use Rattle.bl_ctree_run.proofs.AfterLemmas.{moved_at, moved_none, par_after}
-use Rattle.bl_ctree_run.proofs.NodeLemmas.{par_is, par_made}
+use Rattle.bl_ctree_run.proofs.NodeLemmas.{par_made}
 use Rattle.bl_ctree_run.proofs.after.+acting.Goals as goal
+use Rattle.bl_ctree_enabled.proofs.NodeLemmas.{par_is}
 
 pub after-returns-in_ok-at-in-Some : goal.after-returns-in_ok-at-in-Some
 after-returns-in_ok-at-in-Some t c =

@@ -7,10 +7,11 @@ use Rattle.bl_ctree_enabled.specs.Spots.{homes_seen, spot_below, spot_of}
 use Rattle.bl_ctree_run.specs.inner.Spots.{own, spot_told, told_all, told_point}
 use Rattle.bl_ctree_run.proofs.AfterLemmas.{seen_out}
 use Rattle.bl_ctree_run.proofs.BranchLemmas.{branch_here, loop_goes_on, loop_starts}
-use Rattle.bl_ctree_run.proofs.NodeLemmas.{guard_is, par_is, run_is, seq_is}
+use Rattle.bl_ctree_run.proofs.NodeLemmas.{guard_is, run_is, seq_is}
 use Rattle.bl_ctree_run.proofs.OwnLemmas.{guard_inside, listed_inside, par_inside, run_inside, seq_points, told_inside}
 use Rattle.bl_ctree_run.proofs.WriterLemmas.{all_free}
 use Rattle.bl_ctree_run.proofs.points.+points.Goals as goal
+use Rattle.bl_ctree_enabled.proofs.NodeLemmas.{par_is}
 
 pub branch_points-loop-k-init : goal.branch_points-loop-k-init
 branch_points-loop-k-init t c =

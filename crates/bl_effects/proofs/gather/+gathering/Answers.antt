@@ -5,24 +5,8 @@ use Rattle.bl_tree.specs.Reduce.{all_of, joined}
 use Rattle.bl_tree.specs.Effects.{reads, writes}
 use Rattle.bl_effects.specs.inner.Gathered.{Gathers, ends_of_branch, instant_of_arm, reads_of_arm, reads_of_branch, writes_of_arm, writes_of_branch}
 use Rattle.bl_tree.specs.Instant.{instant}
-use Rattle.bl_effects.proofs.GatherLemmas.{
-  all_step,
-  any_step,
-  arm_gathers,
-  branch_gathers,
-  branches_end,
-  ends_branch_out,
-  gathers_all,
-  gathers_step,
-  if_gathers,
-  instant_arm_out,
-  on_ok,
-  singles,
-  statement_gathers,
-  until_gathers,
-  when_gathers,
-  while_gathers,
-}
+use Rattle.bl_effects.proofs.GatherLemmas.{all_step, any_step, arm_gathers, branch_gathers, branches_end, ends_branch_out, gathers_all, gathers_step}
+use Rattle.bl_effects.proofs.GatherLemmas.{if_gathers, instant_arm_out, on_ok, singles, statement_gathers, until_gathers, when_gathers, while_gathers}
 use Rattle.bl_effects.proofs.gather.+gathering.Goals as goal
 
 pub block-loop-s-preserved : goal.block-loop-s-preserved

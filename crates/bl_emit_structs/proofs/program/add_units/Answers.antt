@@ -1,8 +1,9 @@
 use Rattle.std.proofs.Common.{◌≡◌, ap, map, ◌∙◌}
+use Rattle.bl_tree.proofs.Basics.{drop_next}
 use Rattle.bl_tree.specs.Reduce.{joined}
 use Rattle.bl_emit_structs.specs.Structs.{arrays_of, structs_for_unit}
 use Rattle.bl_emit_structs.specs.inner.Added.{all_added}
-use Rattle.bl_emit_structs.proofs.Steps.{after-next, next_of}
+use Rattle.bl_emit_structs.proofs.Steps.{after-next}
 use Rattle.bl_emit_structs.proofs.program.add_units.Goals as goal
 
 pub loop-unit-preserved : goal.loop-unit-preserved
@@ -12,4 +13,4 @@ loop-unit-preserved c =
     ∙ ap (λ vars. all_added c.loop-unit.collected (joined (map (λ var. arrays_of c.args.structs.now var.ty) vars))) c.deref.ensures in
     rw step
     (after-next (structs_for_unit c.args.structs.now) _ _ c.unit-item.result c.loop-unit.collected _
-    (next_of c.args.units.now c.loop-unit.unit-index c.unit-item.result c.loop-unit-test.true c.unit-item.is) c.loop-unit.invariant)
+    (drop_next c.args.units.now c.loop-unit.unit-index c.unit-item.result c.loop-unit-test.true c.unit-item.is) c.loop-unit.invariant)

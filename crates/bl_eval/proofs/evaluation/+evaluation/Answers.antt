@@ -1,23 +1,4 @@
-use Rattle.std.proofs.Common.{
-  ◌+◌,
-  ◌*◌,
-  ◌++◌,
-  ◌∷◌,
-  [],
-  ◌<◌,
-  ◌≤◌,
-  max,
-  arith,
-  ap,
-  sym,
-  ◌∙◌,
-  map,
-  take,
-  length,
-  Some,
-  true,
-  false,
-}
+use Rattle.std.proofs.Common.{◌+◌, ◌*◌, ◌++◌, ◌∷◌, [], ◌<◌, ◌≤◌, max, arith, ap, sym, ◌∙◌, map, take, length, Some, true, false}
 use Rattle.std.proofs.lemmas.List.{length-take-le}
 use Rattle.std.proofs.lemmas.Option.{slice_get_within}
 use Rattle.std.specs.Prelude.{option_map, option_and_then}
@@ -29,57 +10,13 @@ use Rattle.bl_tree.specs.Typing.{is_function}
 use Rattle.bl_eval.specs.Changes.{all_changed, choice_of, current_of, ended, part_of_path, scope_in, view_in}
 use Rattle.bl_eval.specs.Functions.{condition, does, in_order, truth}
 use Rattle.bl_eval.specs.Meaning.{meaning_of, path_meaning_of, positions_of}
-use Rattle.bl_eval.proofs.MeaningLemmas.{
-  activity_leaves,
-  callee_none,
-  called_is,
-  choice_out,
-  if_ok,
-  if_ok_then,
-  is_called,
-  no_current,
-  no_inputs,
-  no_targets,
-  repeat_is,
-  spot_out,
-  until_is,
-  while_is,
-}
+use Rattle.bl_eval.proofs.MeaningLemmas.{activity_leaves, callee_none, called_is, choice_out, if_ok, if_ok_then, is_called, no_current, no_inputs, no_targets}
+use Rattle.bl_eval.proofs.MeaningLemmas.{repeat_is, spot_out, until_is, while_is}
 use Rattle.bl_eval.proofs.SizeLemmas.{call_size, expr_at, index_size, part_at, read_size}
-use Rattle.bl_eval.proofs.StepLemmas.{
-  choice_false,
-  choice_trap,
-  choice_true,
-  order_on,
-  positions_step,
-  positions_stop,
-  targets_step,
-  targets_stop,
-  turns_again,
-  turns_done,
-  turns_end,
-  turns_end_trap,
-  turns_left,
-  turns_stop,
-  turns_trap,
-  values_step,
-}
-use Rattle.bl_eval.proofs.Weights.{
-  arm_depth,
-  arm_out,
-  arm_weight,
-  arms_weight,
-  block_weight,
-  exprs_depth,
-  parts_depth,
-  path_at,
-  path_depth,
-  paths_depth,
-  stmt_depth,
-  stmt_weight,
-  unit_before,
-  units_weight,
-}
+use Rattle.bl_eval.proofs.StepLemmas.{choice_false, choice_trap, choice_true, order_on, positions_step, positions_stop, targets_step, targets_stop, turns_again}
+use Rattle.bl_eval.proofs.StepLemmas.{turns_done, turns_end, turns_end_trap, turns_left, turns_stop, turns_trap, values_step}
+use Rattle.bl_eval.proofs.Weights.{arm_depth, arm_out, arm_weight, arms_weight, block_weight, exprs_depth, parts_depth, path_at, path_depth, paths_depth}
+use Rattle.bl_eval.proofs.Weights.{stmt_depth, stmt_weight, unit_before, units_weight}
 use Rattle.bl_eval.proofs.evaluation.+evaluation.Goals as goal
 
 pub arguments-evaluate-requires : goal.arguments-evaluate-requires

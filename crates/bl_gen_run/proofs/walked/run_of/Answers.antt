@@ -13,10 +13,10 @@ use Rattle.bl_tree.specs.declared.tree.Unit.{Unit as UnitDef}
 use Rattle.bl_gen_run.proofs.walked.run_of.Goals as goal
 
 -- a trace that the meaning allows is the one
-the_trace : (stages : ℕ) (program : Program) (trees : List UnitDef) (trace : Trace) → HasProgram (program_text stages) program →
-    SourceHasOneTrace program.structs program.units program.entry trees → Means program.structs program.units program.entry input_rows (shown_trace trace) →
+the_trace : (stages : ℕ) (program : Program) (peeled : List UnitDef) (trace : Trace) → HasProgram (program_text stages) program →
+    SourceHasOneTrace program.structs program.units program.entry peeled → Means program.structs program.units program.entry input_rows (shown_trace trace) →
     HasTrace stages trace
-the_trace stages program trees trace has one means =
+the_trace stages program peeled trace has one means =
     let only = (one.each input_rows).only in record {
       program = program;
       has = has;
@@ -34,8 +34,8 @@ is_run stages trace text last within has text_is last_is =
 pub returns : goal.returns
 returns c =
     is_run c.args.stages c.in_ok-trace.trace _ _ c.requires.within
-    (the_trace c.args.stages c.args.accepted.now.program c.args.accepted.now.tree.program.units c.in_ok-trace.trace c.requires.program
-    (c.accepted_trees_have_one_trace.ensures c.args.accepted.now.program c.args.accepted.now.tree.program.units
-    c.is_accepted.ensures.of_tree c.is_accepted.ensures.is_tree.units)
+    (the_trace c.args.stages c.args.accepted.now.program c.args.accepted.now.peeled.program.units c.in_ok-trace.trace c.requires.program
+    (c.accepted_trees_have_one_trace.ensures c.args.accepted.now.program c.args.accepted.now.peeled.program.units
+    c.is_accepted.ensures.of_tree c.is_accepted.ensures.is_peeled.units)
     c.in_ok-trace.ensures)
     c.in_ok-text.ensures refl

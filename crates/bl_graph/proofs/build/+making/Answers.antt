@@ -1,44 +1,10 @@
 use Rattle.std.proofs.Common.{◌+◌, ◌-◌, ◌++◌, ◌||◌, not, nat_lt, length, take, drop, ap, ◌∙◌}
 use Rattle.bl_graph.specs.inner.Parts.{branch_links, joined_branch, links_each}
 use Rattle.bl_graph_nodes.specs.Plain.{passed_one}
-use Rattle.bl_graph.proofs.Branching.{
-  assign_kind,
-  await_kind,
-  branch_added,
-  branches_all,
-  branches_next,
-  call_kind,
-  cobegin_ends,
-  cobegin_kind,
-  cobegin_made,
-  declare_kind,
-  if_kind,
-  in_order,
-  repeat_kind,
-  return_kind,
-  run_kind,
-  until_kind,
-  when_kind,
-  while_kind,
-}
-use Rattle.bl_graph.proofs.Building.{
-  block_all,
-  block_next,
-  chain_all,
-  chain_step,
-  choice_made,
-  endless_made,
-  first_of_arms,
-  guarded_made,
-  if_none,
-  if_some,
-  left_next,
-  no_arms,
-  some_arms,
-  turn_made,
-  until_made,
-  while_made,
-}
+use Rattle.bl_graph.proofs.Branching.{assign_kind, await_kind, branch_added, branches_all, branches_next, call_kind, cobegin_ends, cobegin_kind, cobegin_made}
+use Rattle.bl_graph.proofs.Branching.{declare_kind, if_kind, in_order, repeat_kind, return_kind, run_kind, until_kind, when_kind, while_kind}
+use Rattle.bl_graph.proofs.Building.{block_all, block_next, chain_all, chain_step, choice_made, endless_made, first_of_arms, guarded_made, if_none, if_some}
+use Rattle.bl_graph.proofs.Building.{left_next, no_arms, some_arms, turn_made, until_made, while_made}
 use Rattle.bl_graph.proofs.build.+making.Goals as goal
 
 pub all_branches-loop-each-preserved : goal.all_branches-loop-each-preserved

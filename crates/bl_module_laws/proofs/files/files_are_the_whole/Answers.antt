@@ -50,7 +50,7 @@ unit_laws c = record {
   units = c.failures_move.ensures.passing;
   graphs = c.failures_move-2.ensures.passing;
   nesting = c.nesting_moves.ensures.passing;
-  trees = c.units_have_one_list_of_trees.ensures.there;
+  peeled = c.units_are_peeled_in_one_way.ensures.there;
 }
 
 pub returns-clause-good : goal.returns-clause-good

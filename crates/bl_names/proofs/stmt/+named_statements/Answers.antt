@@ -2,23 +2,8 @@ use Rattle.std.proofs.Common.{◌≡◌}
 use Rattle.bl_tree.specs.declared.tree.Role.TheVariants as role
 use Rattle.bl_names.specs.Named.{block_piece, named_var, piece_of_arm, piece_of_branch, piece_of_kind, stmt_piece}
 use Rattle.bl_names.specs.inner.Past.{past, with_variable}
-use Rattle.bl_names.proofs.KindLemmas.{
-  arm_made,
-  arm_past,
-  assign_past,
-  await_past,
-  call_past,
-  if_past,
-  let_past,
-  return_past,
-  run_past,
-  until_past,
-  var_past,
-  when_made,
-  when_past,
-  while_made,
-  while_past,
-}
+use Rattle.bl_names.proofs.KindLemmas.{arm_made, arm_past, assign_past, await_past, call_past, if_past, let_past, return_past, run_past, until_past, var_past}
+use Rattle.bl_names.proofs.KindLemmas.{when_made, when_past, while_made, while_past}
 use Rattle.bl_names_scopes.proofs.WalkLemmas.{on_ok}
 use Rattle.bl_names.proofs.PastLemmas.{closed_past, loop_made, loop_past, sure}
 use Rattle.bl_names.proofs.stmt.+named_statements.Goals as goal

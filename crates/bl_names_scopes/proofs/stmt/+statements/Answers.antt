@@ -1,29 +1,17 @@
 use Rattle.std.proofs.Common.{◌≡◌, ◌++◌, ap, sym, ◌∙◌}
+use Rattle.bl_tree.proofs.Basics.{drop_next}
 use Rattle.bl_parse_tree.specs.declared.stmt.RawArm.{out-RawArm}
 use Rattle.bl_names_scopes.specs.inner.Judged.{judged_by}
 use Rattle.bl_names_scopes.specs.declared.kind.Wanted.TheVariants as wanted
 use Rattle.bl_names_scopes.specs.Marks.{expr_marks, marks_of_arm, marks_of_branch, stmt_marks, target_marks}
-use Rattle.bl_names_scopes.proofs.WalkLemmas.{
-  arm_out,
-  arms_marks,
-  assign_out,
-  body_marks,
-  branch_out,
-  if_out,
-  judged-next,
-  next_of,
-  on_ok,
-  then_is,
-  until_out,
-  when_out,
-  while_out,
-}
+use Rattle.bl_names_scopes.proofs.WalkLemmas.{arm_out, arms_marks, assign_out, body_marks, branch_out, if_out, judged-next, on_ok, then_is, until_out}
+use Rattle.bl_names_scopes.proofs.WalkLemmas.{when_out, while_out}
 use Rattle.bl_names_scopes.proofs.stmt.+statements.Goals as goal
 
 pub block-loop-s-preserved : goal.block-loop-s-preserved
 block-loop-s-preserved t c =
     rw c.in_ok-statement.ensures
-    (judged-next stmt_marks _ _ c.s-item.result c.loop-s.judge _ (next_of c.args.body.now c.loop-s.s-index c.s-item.result c.loop-s-test.true c.s-item.is)
+    (judged-next stmt_marks _ _ c.s-item.result c.loop-s.judge _ (drop_next c.args.body.now c.loop-s.s-index c.s-item.result c.loop-s-test.true c.s-item.is)
     c.loop-s.invariant)
 
 pub arms-loop-arm-preserved : goal.arms-loop-arm-preserved
@@ -33,7 +21,7 @@ arms-loop-arm-preserved t c =
     then_is c.loop-arm.judge c.expr.new.judge c.scope.new.judge (expr_marks (out-RawArm arm).test) (body_marks c.deref.result.now)
     (marks_of_arm arm) c.expr.ensures c.in_ok-scope.ensures
     (arm_out arm ∙ ap (λ body. expr_marks (out-RawArm arm).test ++ body_marks body) (sym c.deref.ensures)) in
-    rw step (judged-next marks_of_arm _ _ arm c.loop-arm.judge _ (next_of c.args.all.now c.loop-arm.arm-index arm c.loop-arm-test.true c.arm-item.is)
+    rw step (judged-next marks_of_arm _ _ arm c.loop-arm.judge _ (drop_next c.args.all.now c.loop-arm.arm-index arm c.loop-arm-test.true c.arm-item.is)
     c.loop-arm.invariant)
 
 pub branches-loop-branch-preserved : goal.branches-loop-branch-preserved
@@ -43,7 +31,7 @@ branches-loop-branch-preserved t c =
     c.in_ok-scope.ensures ∙ ap (λ body. judged_by c.loop-branch.judge (body_marks body)) c.deref.ensures
     ∙ ap (judged_by c.loop-branch.judge) (sym (branch_out branch)) in
     rw step (judged-next marks_of_branch _ _ branch c.loop-branch.judge _
-    (next_of c.args.all.now c.loop-branch.branch-index branch c.loop-branch-test.true c.branch-item.is) c.loop-branch.invariant)
+    (drop_next c.args.all.now c.loop-branch.branch-index branch c.loop-branch-test.true c.branch-item.is) c.loop-branch.invariant)
 
 pub statement-returns-in_ok-arms-in-If : goal.statement-returns-in_ok-arms-in-If
 statement-returns-in_ok-arms-in-If t c =

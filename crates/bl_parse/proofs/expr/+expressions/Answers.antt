@@ -1,50 +1,21 @@
 use Rattle.std.proofs.Common.{Some, refl, ap, sym, arith, true, ◌∙◌, ◌∷◌, [], lit≤}
-use Rattle.bl_lex.specs.declared.word.TheConstants.{AS, NOT}
+use Rattle.bl_tree.proofs.Basics.{at_most_itself}
+use Rattle.bl_tree.specs.declared.token.Keyword.TheVariants as keyword
 use Rattle.bl_lex.specs.declared.sign.TheConstants.{OPEN_BRACKET, CLOSE_BRACKET, OPEN_PAREN, CLOSE_PAREN, COMMA, DOT, MINUS, TILDE}
-use Rattle.bl_parse_syntax.specs.declared.grammar.Part.TheVariants.{
-  Scalar,
-  Accesses,
-  Inputs,
-  InputList,
-  InputRest,
-  Expr,
-  CastRest,
-  Unary,
-  Primary,
-  NameUse,
-  NoOutputs,
-}
+use Rattle.bl_parse_syntax.specs.declared.grammar.Part.TheVariants.{Scalar, Accesses, Inputs, InputList, InputRest, Expr, CastRest, Unary, Primary, NameUse}
+use Rattle.bl_parse_syntax.specs.declared.grammar.Part.TheVariants.{NoOutputs}
 use Rattle.bl_parse_syntax.specs.Grammar.{name, number, word, sign, the, class_of}
 use Rattle.bl_tree.specs.declared.token.TokenKind.TheVariants.{Word, Sign}
 use Rattle.bl_parse_tree.specs.declared.expr.RawExprKind as kind
 use Rattle.bl_parse.specs.Expressions.{SpellsExpr, SpellsTarget, SpellsPart, SpellsParts, SpellsInputs, SpellsExprs}
 use Rattle.bl_parse.specs.Operators.{left_level, IsPrefix}
 use Rattle.bl_parse.specs.inner.Reading.{IsPlaceTail}
-use Rattle.bl_parse.proofs.ExprLemmas.{placed, placed_by, placed_target, looser, le_same, minus_sign, second_next, pushed_first}
+use Rattle.bl_parse.proofs.ExprLemmas.{placed, placed_by, placed_target, looser, minus_sign, second_next, pushed_first}
 use Rattle.bl_parse.proofs.PartLemmas.{off_at, next_other, access_index, unary_primary, accessed, prefixed, minus_is, none_is}
 use Rattle.bl_parse.proofs.NameLemmas.{as_accesses}
 use Rattle.bl_parse.proofs.OperatorLemmas.{operands, next_operator, no_operator}
-use Rattle.bl_parse.proofs.ReadLemmas.{
-  next_sign,
-  next_name,
-  first,
-  first_two,
-  after,
-  then,
-  read,
-  read_two,
-  pass,
-  stay,
-  opened,
-  opened_last,
-  opened_one,
-  opened_rest,
-  never_ends,
-  omit,
-  filled,
-  no_word,
-  no_sign,
-}
+use Rattle.bl_parse.proofs.ReadLemmas.{next_sign, next_name, first, first_two, after, then, read, read_two, pass, stay, opened, opened_last, opened_one}
+use Rattle.bl_parse.proofs.ReadLemmas.{opened_rest, never_ends, omit, filled, no_word, no_sign}
 use Rattle.bl_parse.proofs.expr.+expressions.Goals as goal
 
 pub called-read_inputs-requires : goal.called-read_inputs-requires
@@ -79,14 +50,14 @@ pub cast-one_cast-requires : goal.cast-one_cast-requires
 cast-one_cast-requires t c = record {
   awaits = first
       (after c.requires.awaits (then (c.casts.invariant.follows)
-      (then (opened (word AS ∷ the Scalar ∷ the CastRest ∷ []) (λ v. refl) (c.stands.ensures.kind.0 c.casts-test.true) refl)
+      (then (opened (word keyword.As ∷ the Scalar ∷ the CastRest ∷ []) (λ v. refl) (c.stands.ensures.kind.0 c.casts-test.true) refl)
       (pass c.take.ensures.next))));
 }
 
 pub cast-casts-preserved : goal.cast-casts-preserved
 cast-casts-preserved t c = record {
   e = c.in_ok-e-2.ensures.spelled _ c.casts.invariant.e c.take.ensures.taken;
-  follows = then (c.casts.invariant.follows) (then (opened (word AS ∷ the Scalar ∷ the CastRest ∷ []) (λ v. refl)
+  follows = then (c.casts.invariant.follows) (then (opened (word keyword.As ∷ the Scalar ∷ the CastRest ∷ []) (λ v. refl)
       (c.stands.ensures.kind.0 c.casts-test.true) refl) (then (pass c.take.ensures.next) (read c.in_ok-e-2.ensures.follows)));
   ahead = omega (arith, c.casts.invariant.ahead, c.take.ensures.next, c.in_ok-e-2.ensures.next);
 }
@@ -119,7 +90,7 @@ expr_of-expr_of-requires t c = (
 
 pub expr_of-operators-preserved : goal.expr_of-operators-preserved
 expr_of-operators-preserved t c = record {
-  left = SpellsExpr.two (le_same c.in-Some.infix.level) (looser (left_level c.in-Some.infix.level) c.in-Some.ensures.left c.operators.invariant.left)
+  left = SpellsExpr.two (at_most_itself c.in-Some.infix.level) (looser (left_level c.in-Some.infix.level) c.in-Some.ensures.left c.operators.invariant.left)
       c.in-Some.ensures.spelled c.in_ok-right.ensures.spelled c.in_ok-left-2.ensures;
   follows = then (c.operators.invariant.follows) (then
       (next_operator c.in-Some.ensures.spelled c.in-Some.ensures.below c.in-Some.ensures.tight c.in-Some.ensures.left)
@@ -368,7 +339,7 @@ read_parts-parts-init t c = record {
   parts = SpellsParts.no_parts c.new-parts.ensures refl;
   keeps =
       record { keeps = λ part is. stay };
-  ahead = le_same c.args.at.now;
+  ahead = at_most_itself c.args.at.now;
 }
 
 pub read_parts-read_part-requires : goal.read_parts-read_part-requires
@@ -442,7 +413,7 @@ unary-one-requires-then-stands-3 t c = (
     c.if-stands-3.ensures.inside refl,
     (
       record {
-        kind = Word NOT;
+        kind = Word keyword.Not;
         token =
             record { stands = c.if-stands-3.ensures.kind.0 refl; next = refl };
         is = IsPrefix.denial;

@@ -1,5 +1,5 @@
 use Rattle.std.proofs.Common.{refl, ◌∷◌, []}
-use Rattle.bl_lex.specs.declared.word.TheConstants.{END}
+use Rattle.bl_tree.specs.declared.token.Keyword.TheVariants as keyword
 use Rattle.bl_parse_syntax.specs.declared.grammar.Part.TheVariants.{Params, SecondParams, Returns, Block}
 use Rattle.bl_parse_syntax.specs.Grammar.{word, the}
 use Rattle.bl_parse.proofs.ReadLemmas.{next_word, next_name, first, after, then, read, pass, opened_one}
@@ -15,7 +15,7 @@ pub params-requires : goal.params-requires
 params-requires c = record {
   awaits = first (after c.requires.awaits
       (then (c.in_ok-entry.ensures.follows) (then (c.in_ok-kind.ensures.follows)
-      (then (read c.in_ok-name.ensures.follows) (opened_one (the Params ∷ the SecondParams ∷ the Returns ∷ the Block ∷ word END ∷ [])
+      (then (read c.in_ok-name.ensures.follows) (opened_one (the Params ∷ the SecondParams ∷ the Returns ∷ the Block ∷ word keyword.End ∷ [])
       (λ v. refl) refl (λ c. (_, refl)))))));
 }
 
@@ -24,7 +24,7 @@ output_params-requires c = record {
   awaits = first
       (after c.requires.awaits (then (c.in_ok-entry.ensures.follows)
       (then (c.in_ok-kind.ensures.follows) (then (read c.in_ok-name.ensures.follows)
-      (then (opened_one (the Params ∷ the SecondParams ∷ the Returns ∷ the Block ∷ word END ∷ []) (λ v. refl) refl (λ c. (_, refl)))
+      (then (opened_one (the Params ∷ the SecondParams ∷ the Returns ∷ the Block ∷ word keyword.End ∷ []) (λ v. refl) refl (λ c. (_, refl)))
       (read c.in_ok-inputs.ensures.follows))))));
 }
 
@@ -33,7 +33,7 @@ result_type-requires c = record {
   awaits = first (after c.requires.awaits
       (then (c.in_ok-entry.ensures.follows) (then (c.in_ok-kind.ensures.follows)
       (then (read c.in_ok-name.ensures.follows) (then (opened_one
-      (the Params ∷ the SecondParams ∷ the Returns ∷ the Block ∷ word END ∷ []) (λ v. refl) refl (λ c. (_, refl)))
+      (the Params ∷ the SecondParams ∷ the Returns ∷ the Block ∷ word keyword.End ∷ []) (λ v. refl) refl (λ c. (_, refl)))
       (then (read c.in_ok-inputs.ensures.follows) (read c.in_ok-outputs.ensures.follows)))))));
 }
 
@@ -42,7 +42,7 @@ block-requires c = record {
   awaits = first (after c.requires.awaits
       (then (c.in_ok-entry.ensures.follows) (then (c.in_ok-kind.ensures.follows)
       (then (read c.in_ok-name.ensures.follows) (then (opened_one
-      (the Params ∷ the SecondParams ∷ the Returns ∷ the Block ∷ word END ∷ []) (λ v. refl) refl (λ c. (_, refl)))
+      (the Params ∷ the SecondParams ∷ the Returns ∷ the Block ∷ word keyword.End ∷ []) (λ v. refl) refl (λ c. (_, refl)))
       (then (read c.in_ok-inputs.ensures.follows) (then (read c.in_ok-outputs.ensures.follows) (read c.in_ok-result.ensures.follows))))))));
 }
 
@@ -51,7 +51,7 @@ take-requires c = record {
   stands = next_word (after c.requires.awaits
       (then (c.in_ok-entry.ensures.follows) (then (c.in_ok-kind.ensures.follows)
       (then (read c.in_ok-name.ensures.follows) (then (opened_one
-      (the Params ∷ the SecondParams ∷ the Returns ∷ the Block ∷ word END ∷ []) (λ v. refl) refl (λ c. (_, refl)))
+      (the Params ∷ the SecondParams ∷ the Returns ∷ the Block ∷ word keyword.End ∷ []) (λ v. refl) refl (λ c. (_, refl)))
       (then (read c.in_ok-inputs.ensures.follows) (then (read c.in_ok-outputs.ensures.follows)
       (then (read c.in_ok-result.ensures.follows) (read c.in_ok-body.ensures.follows)))))))));
 }
@@ -78,6 +78,6 @@ returns-clause-spelled c = record {
 pub returns-clause-follows : goal.returns-clause-follows
 returns-clause-follows c = then (c.in_ok-entry.ensures.follows)
     (then (c.in_ok-kind.ensures.follows) (then (read c.in_ok-name.ensures.follows)
-    (then (opened_one (the Params ∷ the SecondParams ∷ the Returns ∷ the Block ∷ word END ∷ []) (λ v. refl) refl (λ c. (_, refl)))
+    (then (opened_one (the Params ∷ the SecondParams ∷ the Returns ∷ the Block ∷ word keyword.End ∷ []) (λ v. refl) refl (λ c. (_, refl)))
     (then (read c.in_ok-inputs.ensures.follows) (then (read c.in_ok-outputs.ensures.follows)
     (then (read c.in_ok-result.ensures.follows) (then (read c.in_ok-body.ensures.follows) (pass c.take.ensures.next))))))))

@@ -1,5 +1,5 @@
 use Rattle.std.proofs.Common.{refl, ◌∷◌, []}
-use Rattle.bl_lex.specs.declared.word.TheConstants.{FUNCTION, ACTIVITY}
+use Rattle.bl_tree.specs.declared.token.Keyword.TheVariants as keyword
 use Rattle.bl_parse_syntax.specs.declared.grammar.Part.TheVariants.{UnitTail}
 use Rattle.bl_parse_syntax.specs.Grammar.{name, word, the, class_of}
 use Rattle.bl_tree.specs.declared.token.TokenKind.TheVariants.{Word}
@@ -14,20 +14,20 @@ take-requires c = record { stands = c.if-stands.ensures.kind.0 refl }
 pub take-requires-else-stands : goal.take-requires-else-stands
 take-requires-else-stands c = record {
   stands = next_word
-      (after c.requires.awaits (opened_rest (word ACTIVITY ∷ name ∷ the UnitTail ∷ []) (λ v. refl) refl
+      (after c.requires.awaits (opened_rest (word keyword.Activity ∷ name ∷ the UnitTail ∷ []) (λ v. refl) refl
       (λ kind is. plain_activity (class_of kind) (off_at (no_word (c.if-stands.ensures.not refl)) kind is))));
 }
 
 pub returns-then-stands-clause-spelled : goal.returns-then-stands-clause-spelled
-returns-then-stands-clause-spelled c = record { word = Word FUNCTION; token = c.take.ensures.taken; is = IsUnit.function }
+returns-then-stands-clause-spelled c = record { word = Word keyword.Function; token = c.take.ensures.taken; is = IsUnit.function }
 
 pub returns-then-stands-clause-follows : goal.returns-then-stands-clause-follows
-returns-then-stands-clause-follows c = then (opened (word FUNCTION ∷ name ∷ the UnitTail ∷ []) (λ v. refl)
+returns-then-stands-clause-follows c = then (opened (word keyword.Function ∷ name ∷ the UnitTail ∷ []) (λ v. refl)
     (c.if-stands.ensures.kind.0 refl) refl) (pass c.take.ensures.next)
 
 pub returns-else-stands-clause-spelled : goal.returns-else-stands-clause-spelled
-returns-else-stands-clause-spelled c = record { word = Word ACTIVITY; token = c.take-else-stands.ensures.taken; is = IsUnit.activity }
+returns-else-stands-clause-spelled c = record { word = Word keyword.Activity; token = c.take-else-stands.ensures.taken; is = IsUnit.activity }
 
 pub returns-else-stands-clause-follows : goal.returns-else-stands-clause-follows
-returns-else-stands-clause-follows c = then (opened_rest (word ACTIVITY ∷ name ∷ the UnitTail ∷ []) (λ v. refl) refl
+returns-else-stands-clause-follows c = then (opened_rest (word keyword.Activity ∷ name ∷ the UnitTail ∷ []) (λ v. refl) refl
     (λ kind is. plain_activity (class_of kind) (off_at (no_word (c.if-stands.ensures.not refl)) kind is))) (pass c.take-else-stands.ensures.next)

@@ -1,16 +1,8 @@
 use Rattle.std.proofs.Common.{sym, subst}
 use Rattle.bl_tree.specs.declared.scalar.Op.{Op}
 use Rattle.bl_parse.specs.Operators.{IsOperator}
-use Rattle.bl_parse.proofs.TokenLemmas.{sign_is, word_is}
+use Rattle.bl_parse.proofs.TokenLemmas.{sign_is}
 use Rattle.bl_parse.proofs.operator.infix_of.Goals as goal
-
-pub returns-in-Word-eq28-clause-is : goal.returns-in-Word-eq28-clause-is
-returns-in-Word-eq28-clause-is c = subst (λ k. IsOperator k 0 Op.Or)
-    (sym (word_is c.in-Word-eq28.is c.in-Word-eq28.field-0-is c.in-Word-eq28.field-0-test)) IsOperator.either
-
-pub returns-in-Word-eq27-clause-is : goal.returns-in-Word-eq27-clause-is
-returns-in-Word-eq27-clause-is c = subst (λ k. IsOperator k 1 Op.And)
-    (sym (word_is c.in-Word-eq27.is c.in-Word-eq27.field-0-is c.in-Word-eq27.field-0-test)) IsOperator.both
 
 pub returns-in-Sign-eq8-clause-is : goal.returns-in-Sign-eq8-clause-is
 returns-in-Sign-eq8-clause-is c = subst (λ k. IsOperator k 2 Op.Eq)

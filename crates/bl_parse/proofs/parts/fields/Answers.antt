@@ -1,12 +1,12 @@
 use Rattle.std.proofs.Common.{refl, arith}
+use Rattle.bl_tree.proofs.Basics.{at_most_itself}
 use Rattle.bl_parse.specs.Statements.{SpellsFields}
-use Rattle.bl_parse.proofs.ExprLemmas.{le_same}
 use Rattle.bl_parse.proofs.PartLemmas.{dotted}
 use Rattle.bl_parse.proofs.ReadLemmas.{next_name, after, then, read, pass, stay, no_sign}
 use Rattle.bl_parse.proofs.parts.fields.Goals as goal
 
 pub dots-init : goal.dots-init
-dots-init c = record { fields = SpellsFields.none c.new-fields.ensures refl; keeps = record { keeps = λ part is. stay }; ahead = le_same c.args.at.now }
+dots-init c = record { fields = SpellsFields.none c.new-fields.ensures refl; keeps = record { keeps = λ part is. stay }; ahead = at_most_itself c.args.at.now }
 
 pub take-requires : goal.take-requires
 take-requires c = record { stands = c.stands.ensures.kind.0 c.dots-test.true }

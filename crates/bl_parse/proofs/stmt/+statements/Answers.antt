@@ -1,35 +1,20 @@
 use Rattle.std.proofs.Common.{Some, refl, ap, sym, arith, ◌∙◌, ◌∷◌, []}
-use Rattle.bl_lex.specs.declared.word.TheConstants.{END, COBEGIN, WHEN, REPEAT, WHILE, IF, THEN, WITH, UNTIL, ELSEIF, ELSE}
+use Rattle.bl_tree.proofs.Basics.{at_most_itself}
+use Rattle.bl_tree.specs.declared.token.Keyword.TheVariants as keyword
 use Rattle.bl_parse_syntax.specs.declared.grammar.Part.TheVariants.{Block, Weak, Branches, Guard, Until, Elseifs, Else, Expr}
 use Rattle.bl_parse_syntax.specs.Grammar.{word, the}
 use Rattle.bl_parse.specs.Statements.{SpellsBlock, SpellsStmt, SpellsKind, SpellsBranches, SpellsBranch, SpellsArms, SpellsArm, SpellsElse}
-use Rattle.bl_parse.proofs.ExprLemmas.{le_same, pushed_first}
+use Rattle.bl_parse.proofs.ExprLemmas.{pushed_first}
 use Rattle.bl_parse.proofs.StmtLemmas.{placed_stmt, return_left}
 use Rattle.bl_parse.specs.At.{kind_at}
 use Rattle.bl_parse.proofs.PartLemmas.{block_opens}
 use Rattle.bl_parse.proofs.ReturnLemmas.{stmt_starts}
-use Rattle.bl_parse.proofs.ReadLemmas.{
-  front,
-  read_all,
-  next_word,
-  first,
-  first_two,
-  after,
-  then,
-  read,
-  read_two,
-  pass,
-  stay,
-  opened,
-  never_ends,
-  never,
-  omit,
-  no_word,
-}
+use Rattle.bl_parse.proofs.ReadLemmas.{front, read_all, next_word, first, first_two, after, then, read, read_two, pass, stay, opened, never_ends, never, omit}
+use Rattle.bl_parse.proofs.ReadLemmas.{no_word}
 use Rattle.bl_parse.proofs.stmt.+statements.Goals as goal
 
 pub block-statements-init : goal.block-statements-init
-block-statements-init t c = record { body = SpellsBlock.no_stmts c.new-body.ensures refl; follows = stay; ahead = le_same c.args.at.now }
+block-statements-init t c = record { body = SpellsBlock.no_stmts c.new-body.ensures refl; follows = stay; ahead = at_most_itself c.args.at.now }
 
 pub block-stmt-requires : goal.block-stmt-requires
 block-stmt-requires t c = (
@@ -83,14 +68,14 @@ pub cobegin-branches-requires : goal.cobegin-branches-requires
 cobegin-branches-requires t c = (
   omega (arith, c.decreases, c.take.ensures.next, c.take.ensures.inside),
   front (the Weak ∷ the Block ∷ the Branches ∷ []) _
-      (after c.requires.awaits (then (opened (word COBEGIN ∷ the Weak ∷ the Block ∷ the Branches ∷ word END ∷ [])
+      (after c.requires.awaits (then (opened (word keyword.Cobegin ∷ the Weak ∷ the Block ∷ the Branches ∷ word keyword.End ∷ [])
       (λ v. refl) c.requires.stands refl) (pass c.take.ensures.next))),
 )
 
 pub cobegin-take-requires-2 : goal.cobegin-take-requires-2
 cobegin-take-requires-2 t c = record {
   stands = next_word
-      (after c.requires.awaits (then (opened (word COBEGIN ∷ the Weak ∷ the Block ∷ the Branches ∷ word END ∷ [])
+      (after c.requires.awaits (then (opened (word keyword.Cobegin ∷ the Weak ∷ the Block ∷ the Branches ∷ word keyword.End ∷ [])
       (λ v. refl) c.requires.stands refl) (then (pass c.take.ensures.next) (read_all c.in_ok-branches.ensures.follows))));
 }
 
@@ -98,7 +83,7 @@ pub cobegin-returns-clause-spelled : goal.cobegin-returns-clause-spelled
 cobegin-returns-clause-spelled t c = SpellsKind.cobegin c.take.ensures.taken c.in_ok-branches.ensures.spelled c.take-2.ensures.taken refl
 
 pub cobegin-returns-clause-follows : goal.cobegin-returns-clause-follows
-cobegin-returns-clause-follows t c = then (opened (word COBEGIN ∷ the Weak ∷ the Block ∷ the Branches ∷ word END ∷ [])
+cobegin-returns-clause-follows t c = then (opened (word keyword.Cobegin ∷ the Weak ∷ the Block ∷ the Branches ∷ word keyword.End ∷ [])
     (λ v. refl) c.requires.stands refl) (then (pass c.take.ensures.next) (then (read_all c.in_ok-branches.ensures.follows) (pass c.take-2.ensures.next)))
 
 pub branches-branch-source-requires : goal.branches-branch-source-requires
@@ -124,14 +109,14 @@ branches-branch-source-requires-in-withs t c = (
   ),
   first_two
       (after c.requires.awaits (then (c.withs.invariant.follows)
-      (then (opened (word WITH ∷ the Weak ∷ the Block ∷ the Branches ∷ []) (λ v. refl)
+      (then (opened (word keyword.With ∷ the Weak ∷ the Block ∷ the Branches ∷ []) (λ v. refl)
       (c.stands.ensures.kind.0 c.withs-test.true) refl) (pass c.take.ensures.next)))),
 )
 
 pub branches-withs-preserved : goal.branches-withs-preserved
 branches-withs-preserved t c = record {
   branches = SpellsBranches.more_branches c.withs.invariant.branches c.take.ensures.taken c.in_ok-branch-2.ensures.spelled c.in_ok-push-2.ensures.ok;
-  follows = then (c.withs.invariant.follows) (then (opened (word WITH ∷ the Weak ∷ the Block ∷ the Branches ∷ []) (λ v. refl)
+  follows = then (c.withs.invariant.follows) (then (opened (word keyword.With ∷ the Weak ∷ the Block ∷ the Branches ∷ []) (λ v. refl)
       (c.stands.ensures.kind.0 c.withs-test.true) refl) (then (pass c.take.ensures.next) (read_two c.in_ok-branch-2.ensures.follows)));
   ahead = omega (arith, c.withs.invariant.ahead, c.take.ensures.next, c.in_ok-branch-2.ensures.ahead);
 }
@@ -154,14 +139,14 @@ branch-returns-clause-follows t c = then (read c.in_ok-weak.ensures.follows) (c.
 pub guarded-read_expr-requires : goal.guarded-read_expr-requires
 guarded-read_expr-requires t c = record {
   awaits =
-      first (after c.requires.awaits (then (opened (word WHEN ∷ the Expr ∷ the Guard ∷ the Block ∷ word END ∷ [])
+      first (after c.requires.awaits (then (opened (word keyword.When ∷ the Expr ∷ the Guard ∷ the Block ∷ word keyword.End ∷ [])
       (λ v. refl) c.requires.stands refl) (pass c.take.ensures.next)));
 }
 
 pub guarded-guard-requires : goal.guarded-guard-requires
 guarded-guard-requires t c = record {
   awaits = first
-      (after c.requires.awaits (then (opened (word WHEN ∷ the Expr ∷ the Guard ∷ the Block ∷ word END ∷ [])
+      (after c.requires.awaits (then (opened (word keyword.When ∷ the Expr ∷ the Guard ∷ the Block ∷ word keyword.End ∷ [])
       (λ v. refl) c.requires.stands refl) (then (pass c.take.ensures.next) (read c.in_ok-test.ensures.follows))));
 }
 
@@ -176,14 +161,14 @@ guarded-block-requires t c = (
     c.in_ok-guard.ensures.ahead,
   ),
   first (after c.requires.awaits
-      (then (opened (word WHEN ∷ the Expr ∷ the Guard ∷ the Block ∷ word END ∷ []) (λ v. refl) c.requires.stands refl)
+      (then (opened (word keyword.When ∷ the Expr ∷ the Guard ∷ the Block ∷ word keyword.End ∷ []) (λ v. refl) c.requires.stands refl)
       (then (pass c.take.ensures.next) (then (read c.in_ok-test.ensures.follows) (read c.in_ok-guard.ensures.follows))))),
 )
 
 pub guarded-take-requires-2 : goal.guarded-take-requires-2
 guarded-take-requires-2 t c = record {
   stands = next_word
-      (after c.requires.awaits (then (opened (word WHEN ∷ the Expr ∷ the Guard ∷ the Block ∷ word END ∷ [])
+      (after c.requires.awaits (then (opened (word keyword.When ∷ the Expr ∷ the Guard ∷ the Block ∷ word keyword.End ∷ [])
       (λ v. refl) c.requires.stands refl) (then (pass c.take.ensures.next)
       (then (read c.in_ok-test.ensures.follows) (then (read c.in_ok-guard.ensures.follows) (read c.in_ok-body.ensures.follows))))));
 }
@@ -193,7 +178,7 @@ guarded-returns-clause-spelled t c = SpellsKind.guarded c.take.ensures.taken c.i
     c.in_ok-guard.ensures.spelled c.in_ok-body.ensures.spelled c.take-2.ensures.taken refl
 
 pub guarded-returns-clause-follows : goal.guarded-returns-clause-follows
-guarded-returns-clause-follows t c = then (opened (word WHEN ∷ the Expr ∷ the Guard ∷ the Block ∷ word END ∷ [])
+guarded-returns-clause-follows t c = then (opened (word keyword.When ∷ the Expr ∷ the Guard ∷ the Block ∷ word keyword.End ∷ [])
     (λ v. refl) c.requires.stands refl) (then (pass c.take.ensures.next)
     (then (read c.in_ok-test.ensures.follows) (then (read c.in_ok-guard.ensures.follows)
     (then (read c.in_ok-body.ensures.follows) (pass c.take-2.ensures.next)))))
@@ -201,14 +186,14 @@ guarded-returns-clause-follows t c = then (opened (word WHEN ∷ the Expr ∷ th
 pub while_loop-read_expr-requires : goal.while_loop-read_expr-requires
 while_loop-read_expr-requires t c = record {
   awaits =
-      first (after c.requires.awaits (then (opened (word WHILE ∷ the Expr ∷ word REPEAT ∷ the Block ∷ word END ∷ [])
+      first (after c.requires.awaits (then (opened (word keyword.While ∷ the Expr ∷ word keyword.Repeat ∷ the Block ∷ word keyword.End ∷ [])
       (λ v. refl) c.requires.stands refl) (pass c.take.ensures.next)));
 }
 
 pub while_loop-take-requires-2 : goal.while_loop-take-requires-2
 while_loop-take-requires-2 t c = record {
   stands =
-      next_word (after c.requires.awaits (then (opened (word WHILE ∷ the Expr ∷ word REPEAT ∷ the Block ∷ word END ∷ [])
+      next_word (after c.requires.awaits (then (opened (word keyword.While ∷ the Expr ∷ word keyword.Repeat ∷ the Block ∷ word keyword.End ∷ [])
       (λ v. refl) c.requires.stands refl) (then (pass c.take.ensures.next) (read c.in_ok-test.ensures.follows))));
 }
 
@@ -223,14 +208,14 @@ while_loop-block-requires t c = (
     c.take-2.ensures.inside,
     c.in_ok-test.ensures.ahead,
   ),
-  first (after c.requires.awaits (then (opened (word WHILE ∷ the Expr ∷ word REPEAT ∷ the Block ∷ word END ∷ [])
+  first (after c.requires.awaits (then (opened (word keyword.While ∷ the Expr ∷ word keyword.Repeat ∷ the Block ∷ word keyword.End ∷ [])
       (λ v. refl) c.requires.stands refl) (then (pass c.take.ensures.next) (then (read c.in_ok-test.ensures.follows) (pass c.take-2.ensures.next))))),
 )
 
 pub while_loop-take-requires-3 : goal.while_loop-take-requires-3
 while_loop-take-requires-3 t c = record {
   stands =
-      next_word (after c.requires.awaits (then (opened (word WHILE ∷ the Expr ∷ word REPEAT ∷ the Block ∷ word END ∷ [])
+      next_word (after c.requires.awaits (then (opened (word keyword.While ∷ the Expr ∷ word keyword.Repeat ∷ the Block ∷ word keyword.End ∷ [])
       (λ v. refl) c.requires.stands refl) (then (pass c.take.ensures.next)
       (then (read c.in_ok-test.ensures.follows) (then (pass c.take-2.ensures.next) (read c.in_ok-body.ensures.follows))))));
 }
@@ -240,38 +225,38 @@ while_loop-returns-clause-spelled t c = SpellsKind.while c.take.ensures.taken c.
     c.in_ok-body.ensures.spelled c.take-3.ensures.taken refl
 
 pub while_loop-returns-clause-follows : goal.while_loop-returns-clause-follows
-while_loop-returns-clause-follows t c = then (opened (word WHILE ∷ the Expr ∷ word REPEAT ∷ the Block ∷ word END ∷ [])
+while_loop-returns-clause-follows t c = then (opened (word keyword.While ∷ the Expr ∷ word keyword.Repeat ∷ the Block ∷ word keyword.End ∷ [])
     (λ v. refl) c.requires.stands refl) (then (pass c.take.ensures.next)
     (then (read c.in_ok-test.ensures.follows) (then (pass c.take-2.ensures.next) (then (read c.in_ok-body.ensures.follows) (pass c.take-3.ensures.next)))))
 
 pub repeat-block-requires : goal.repeat-block-requires
 repeat-block-requires t c = (
   omega (arith, c.decreases, c.take.ensures.next, c.take.ensures.inside),
-  first (after c.requires.awaits (then (opened (word REPEAT ∷ the Block ∷ the Until ∷ word END ∷ [])
+  first (after c.requires.awaits (then (opened (word keyword.Repeat ∷ the Block ∷ the Until ∷ word keyword.End ∷ [])
       (λ v. refl) c.requires.stands refl) (pass c.take.ensures.next))),
 )
 
 pub repeat-read_expr-requires : goal.repeat-read_expr-requires
 repeat-read_expr-requires t c = record {
   awaits = first
-      (after c.requires.awaits (then (opened (word REPEAT ∷ the Block ∷ the Until ∷ word END ∷ []) (λ v. refl) c.requires.stands refl)
+      (after c.requires.awaits (then (opened (word keyword.Repeat ∷ the Block ∷ the Until ∷ word keyword.End ∷ []) (λ v. refl) c.requires.stands refl)
       (then (pass c.take.ensures.next) (then (read c.in_ok-body.ensures.follows)
-      (then (opened (word UNTIL ∷ the Expr ∷ []) (λ v. refl) (c.if-stands.ensures.kind.0 refl) refl) (pass c.take-then-stands.ensures.next))))));
+      (then (opened (word keyword.Until ∷ the Expr ∷ []) (λ v. refl) (c.if-stands.ensures.kind.0 refl) refl) (pass c.take-then-stands.ensures.next))))));
 }
 
 pub repeat-take-requires-then-stands-2 : goal.repeat-take-requires-then-stands-2
 repeat-take-requires-then-stands-2 t c = record {
   stands =
-      next_word (after c.requires.awaits (then (opened (word REPEAT ∷ the Block ∷ the Until ∷ word END ∷ [])
+      next_word (after c.requires.awaits (then (opened (word keyword.Repeat ∷ the Block ∷ the Until ∷ word keyword.End ∷ [])
       (λ v. refl) c.requires.stands refl) (then (pass c.take.ensures.next)
-      (then (read c.in_ok-body.ensures.follows) (then (opened (word UNTIL ∷ the Expr ∷ []) (λ v. refl)
+      (then (read c.in_ok-body.ensures.follows) (then (opened (word keyword.Until ∷ the Expr ∷ []) (λ v. refl)
       (c.if-stands.ensures.kind.0 refl) refl) (then (pass c.take-then-stands.ensures.next) (read c.in_ok-test.ensures.follows)))))));
 }
 
 pub repeat-take-requires-else-stands : goal.repeat-take-requires-else-stands
 repeat-take-requires-else-stands t c = record {
   stands =
-      next_word (after c.requires.awaits (then (opened (word REPEAT ∷ the Block ∷ the Until ∷ word END ∷ [])
+      next_word (after c.requires.awaits (then (opened (word keyword.Repeat ∷ the Block ∷ the Until ∷ word keyword.End ∷ [])
       (λ v. refl) c.requires.stands refl) (then (pass c.take.ensures.next)
       (then (read c.in_ok-body.ensures.follows) (omit refl (no_word (c.if-stands.ensures.not refl)))))));
 }
@@ -282,9 +267,9 @@ repeat-returns-in_ok-test-clause-spelled t c = SpellsKind.until c.take.ensures.t
 
 pub repeat-returns-in_ok-test-clause-follows : goal.repeat-returns-in_ok-test-clause-follows
 repeat-returns-in_ok-test-clause-follows t c = then
-    (opened (word REPEAT ∷ the Block ∷ the Until ∷ word END ∷ []) (λ v. refl) c.requires.stands refl)
+    (opened (word keyword.Repeat ∷ the Block ∷ the Until ∷ word keyword.End ∷ []) (λ v. refl) c.requires.stands refl)
     (then (pass c.take.ensures.next) (then (read c.in_ok-body.ensures.follows)
-    (then (opened (word UNTIL ∷ the Expr ∷ []) (λ v. refl) (c.if-stands.ensures.kind.0 refl) refl)
+    (then (opened (word keyword.Until ∷ the Expr ∷ []) (λ v. refl) (c.if-stands.ensures.kind.0 refl) refl)
     (then (pass c.take-then-stands.ensures.next) (then (read c.in_ok-test.ensures.follows) (pass c.take-then-stands-2.ensures.next))))))
 
 pub repeat-returns-else-stands-clause-spelled : goal.repeat-returns-else-stands-clause-spelled
@@ -292,29 +277,29 @@ repeat-returns-else-stands-clause-spelled t c = SpellsKind.repeat c.take.ensures
 
 pub repeat-returns-else-stands-clause-follows : goal.repeat-returns-else-stands-clause-follows
 repeat-returns-else-stands-clause-follows t c = then
-    (opened (word REPEAT ∷ the Block ∷ the Until ∷ word END ∷ []) (λ v. refl) c.requires.stands refl)
+    (opened (word keyword.Repeat ∷ the Block ∷ the Until ∷ word keyword.End ∷ []) (λ v. refl) c.requires.stands refl)
     (then (pass c.take.ensures.next) (then (read c.in_ok-body.ensures.follows)
     (then (omit refl (no_word (c.if-stands.ensures.not refl))) (pass c.take-else-stands.ensures.next))))
 
 pub branching-arms-requires : goal.branching-arms-requires
 branching-arms-requires t c = (
   omega (arith, c.decreases),
-  front (word IF ∷ the Expr ∷ word THEN ∷ the Block ∷ the Elseifs ∷ []) _
-      (after c.requires.awaits (opened (word IF ∷ the Expr ∷ word THEN ∷ the Block ∷ the Elseifs ∷ the Else ∷ word END ∷ [])
+  front (word keyword.If ∷ the Expr ∷ word keyword.Then ∷ the Block ∷ the Elseifs ∷ []) _
+      (after c.requires.awaits (opened (word keyword.If ∷ the Expr ∷ word keyword.Then ∷ the Block ∷ the Elseifs ∷ the Else ∷ word keyword.End ∷ [])
       (λ v. refl) c.requires.stands refl)),
 )
 
 pub branching-otherwise-requires : goal.branching-otherwise-requires
 branching-otherwise-requires t c = (
   omega (arith, c.decreases, c.in_ok-arms.ensures.ahead),
-  first (after c.requires.awaits (then (opened (word IF ∷ the Expr ∷ word THEN ∷ the Block ∷ the Elseifs ∷ the Else ∷ word END
+  first (after c.requires.awaits (then (opened (word keyword.If ∷ the Expr ∷ word keyword.Then ∷ the Block ∷ the Elseifs ∷ the Else ∷ word keyword.End
       ∷ []) (λ v. refl) c.requires.stands refl) (read_all c.in_ok-arms.ensures.follows))),
 )
 
 pub branching-take-requires : goal.branching-take-requires
 branching-take-requires t c = record {
   stands = next_word
-      (after c.requires.awaits (then (opened (word IF ∷ the Expr ∷ word THEN ∷ the Block ∷ the Elseifs ∷ the Else ∷ word END ∷ [])
+      (after c.requires.awaits (then (opened (word keyword.If ∷ the Expr ∷ word keyword.Then ∷ the Block ∷ the Elseifs ∷ the Else ∷ word keyword.End ∷ [])
       (λ v. refl) c.requires.stands refl) (then (read_all c.in_ok-arms.ensures.follows) (read c.in_ok-other.ensures.follows))));
 }
 
@@ -323,11 +308,11 @@ branching-returns-clause-spelled t c = SpellsKind.branching c.in_ok-arms.ensures
 
 pub branching-returns-clause-follows : goal.branching-returns-clause-follows
 branching-returns-clause-follows t c = then (opened
-    (word IF ∷ the Expr ∷ word THEN ∷ the Block ∷ the Elseifs ∷ the Else ∷ word END ∷ []) (λ v. refl) c.requires.stands refl)
+    (word keyword.If ∷ the Expr ∷ word keyword.Then ∷ the Block ∷ the Elseifs ∷ the Else ∷ word keyword.End ∷ []) (λ v. refl) c.requires.stands refl)
     (then (read_all c.in_ok-arms.ensures.follows) (then (read c.in_ok-other.ensures.follows) (pass c.take.ensures.next)))
 
 pub arms-arm-requires : goal.arms-arm-requires
-arms-arm-requires t c = (omega (arith, c.decreases), front (word IF ∷ the Expr ∷ word THEN ∷ the Block ∷ []) _ c.requires.awaits)
+arms-arm-requires t c = (omega (arith, c.decreases), front (word keyword.If ∷ the Expr ∷ word keyword.Then ∷ the Block ∷ []) _ c.requires.awaits)
 
 pub arms-elseifs-init : goal.arms-elseifs-init
 arms-elseifs-init t c = record {
@@ -345,16 +330,17 @@ arms-arm-requires-in-elseifs t c = (
     c.elseifs.invariant.ahead,
     c.stands.ensures.inside c.elseifs-test.true,
   ),
-  front (word ELSEIF ∷ the Expr ∷ word THEN ∷ the Block ∷ []) _
+  front (word keyword.Elseif ∷ the Expr ∷ word keyword.Then ∷ the Block ∷ []) _
       (after c.requires.awaits (then (c.elseifs.invariant.follows)
-      (opened (word ELSEIF ∷ the Expr ∷ word THEN ∷ the Block ∷ the Elseifs ∷ []) (λ v. refl) (c.stands.ensures.kind.0 c.elseifs-test.true) refl))),
+      (opened (word keyword.Elseif ∷ the Expr ∷ word keyword.Then ∷ the Block ∷ the Elseifs ∷ []) (λ v. refl)
+      (c.stands.ensures.kind.0 c.elseifs-test.true) refl))),
 )
 
 pub arms-elseifs-preserved : goal.arms-elseifs-preserved
 arms-elseifs-preserved t c = record {
   arms = SpellsArms.more_arms c.elseifs.invariant.arms c.in_ok-arm-2.ensures.spelled c.in_ok-push-2.ensures.ok;
   follows = then (c.elseifs.invariant.follows) (then
-      (opened (word ELSEIF ∷ the Expr ∷ word THEN ∷ the Block ∷ the Elseifs ∷ []) (λ v. refl)
+      (opened (word keyword.Elseif ∷ the Expr ∷ word keyword.Then ∷ the Block ∷ the Elseifs ∷ []) (λ v. refl)
       (c.stands.ensures.kind.0 c.elseifs-test.true) refl) (read_all c.in_ok-arm-2.ensures.follows));
   ahead = omega (arith, c.elseifs.invariant.ahead, c.in_ok-arm-2.ensures.ahead);
 }
@@ -402,7 +388,7 @@ otherwise-block-requires t c = (
     c.if-stands.ensures.inside refl,
   ),
   after c.requires.awaits
-      (then (opened (word ELSE ∷ the Block ∷ []) (λ v. refl) (c.if-stands.ensures.kind.0 refl) refl) (pass c.take.ensures.next)),
+      (then (opened (word keyword.Else ∷ the Block ∷ []) (λ v. refl) (c.if-stands.ensures.kind.0 refl) refl) (pass c.take.ensures.next)),
 )
 
 pub otherwise-returns-in_ok-body-clause-spelled : goal.otherwise-returns-in_ok-body-clause-spelled
@@ -410,7 +396,7 @@ otherwise-returns-in_ok-body-clause-spelled t c = SpellsElse.with_else c.take.en
 
 pub otherwise-returns-in_ok-body-clause-follows : goal.otherwise-returns-in_ok-body-clause-follows
 otherwise-returns-in_ok-body-clause-follows t c = then
-    (opened (word ELSE ∷ the Block ∷ []) (λ v. refl) (c.if-stands.ensures.kind.0 refl) refl)
+    (opened (word keyword.Else ∷ the Block ∷ []) (λ v. refl) (c.if-stands.ensures.kind.0 refl) refl)
     (then (pass c.take.ensures.next) (c.in_ok-body.ensures.follows))
 
 pub otherwise-returns-else-stands-clause-spelled : goal.otherwise-returns-else-stands-clause-spelled

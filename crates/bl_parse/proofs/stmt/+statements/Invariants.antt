@@ -3,7 +3,7 @@ use Rattle.bl_parse.specs.Statements.{SpellsBlock, SpellsBranches, SpellsArms}
 use Rattle.bl_parse_syntax.specs.declared.grammar.Part.TheVariants.{Block, Weak, Branches, Expr, Elseifs}
 use Rattle.bl_parse_syntax.specs.Grammar.{the, word}
 use Rattle.bl_parse.specs.inner.Reading.{Turns}
-use Rattle.bl_lex.specs.declared.word.TheConstants.{IF, THEN}
+use Rattle.bl_tree.specs.declared.token.Keyword.TheVariants as keyword
 use Rattle.bl_parse.proofs.stmt.+statements.Given as goal
 
 -- the tokens that are left, and then how far a function is from passing one
@@ -78,6 +78,6 @@ decreases-arms-elseifs l = length l.source.tokens.now - l.at
 abbrev pub invariant-arms-elseifs : goal.invariant-arms-elseifs
 invariant-arms-elseifs l = record {
   arms : SpellsArms l.source.text.now l.source.tokens.now l.arms l.fn.at l.at;
-  follows : Turns (word IF ∷ the Expr ∷ word THEN ∷ the Block ∷ the Elseifs ∷ []) l.source.tokens.now l.fn.at (the Elseifs ∷ []) l.at;
+  follows : Turns (word keyword.If ∷ the Expr ∷ word keyword.Then ∷ the Block ∷ the Elseifs ∷ []) l.source.tokens.now l.fn.at (the Elseifs ∷ []) l.at;
   ahead : l.fn.at < l.at;
 }

@@ -1,5 +1,5 @@
 use Rattle.std.proofs.Common.{refl, ◌∷◌, []}
-use Rattle.bl_lex.specs.declared.word.TheConstants.{LET}
+use Rattle.bl_tree.specs.declared.token.Keyword.TheVariants as keyword
 use Rattle.bl_lex.specs.declared.sign.TheConstants.{ASSIGN}
 use Rattle.bl_parse_syntax.specs.declared.grammar.Part.TheVariants.{TypeMark, Expr}
 use Rattle.bl_parse_syntax.specs.Grammar.{name, word, sign, the}
@@ -10,20 +10,20 @@ use Rattle.bl_parse.proofs.stmt.fixed.Goals as goal
 pub name-requires : goal.name-requires
 name-requires c = record {
   stands = next_name (after c.requires.awaits
-      (then (opened (word LET ∷ name ∷ the TypeMark ∷ sign ASSIGN ∷ the Expr ∷ []) (λ v. refl) c.requires.stands refl) (pass c.take.ensures.next)));
+      (then (opened (word keyword.Let ∷ name ∷ the TypeMark ∷ sign ASSIGN ∷ the Expr ∷ []) (λ v. refl) c.requires.stands refl) (pass c.take.ensures.next)));
 }
 
 pub maybe_typing-requires : goal.maybe_typing-requires
 maybe_typing-requires c = record {
   awaits = first (after c.requires.awaits
-      (then (opened (word LET ∷ name ∷ the TypeMark ∷ sign ASSIGN ∷ the Expr ∷ []) (λ v. refl) c.requires.stands refl)
+      (then (opened (word keyword.Let ∷ name ∷ the TypeMark ∷ sign ASSIGN ∷ the Expr ∷ []) (λ v. refl) c.requires.stands refl)
       (then (pass c.take.ensures.next) (read c.in_ok-name.ensures.follows))));
 }
 
 pub value-requires : goal.value-requires
 value-requires c = record {
   awaits = after c.requires.awaits
-      (then (opened (word LET ∷ name ∷ the TypeMark ∷ sign ASSIGN ∷ the Expr ∷ []) (λ v. refl) c.requires.stands refl)
+      (then (opened (word keyword.Let ∷ name ∷ the TypeMark ∷ sign ASSIGN ∷ the Expr ∷ []) (λ v. refl) c.requires.stands refl)
       (then (pass c.take.ensures.next) (then (read c.in_ok-name.ensures.follows) (read c.in_ok-ty.ensures.follows))));
 }
 
@@ -31,6 +31,6 @@ pub returns-clause-spelled : goal.returns-clause-spelled
 returns-clause-spelled c = SpellsKind.fixed c.take.ensures.taken c.in_ok-name.ensures.spelled c.in_ok-ty.ensures.spelled c.in_ok-value.ensures.spelled refl
 
 pub returns-clause-follows : goal.returns-clause-follows
-returns-clause-follows c = then (opened (word LET ∷ name ∷ the TypeMark ∷ sign ASSIGN ∷ the Expr ∷ [])
+returns-clause-follows c = then (opened (word keyword.Let ∷ name ∷ the TypeMark ∷ sign ASSIGN ∷ the Expr ∷ [])
     (λ v. refl) c.requires.stands refl) (then (pass c.take.ensures.next)
     (then (read c.in_ok-name.ensures.follows) (then (read c.in_ok-ty.ensures.follows) (c.in_ok-value.ensures.follows))))

@@ -1,5 +1,5 @@
 use Rattle.std.proofs.Common.{refl, ◌∷◌, []}
-use Rattle.bl_lex.specs.declared.word.TheConstants.{ABORT, RESET}
+use Rattle.bl_tree.specs.declared.token.Keyword.TheVariants as keyword
 use Rattle.bl_parse_syntax.specs.Grammar.{word, class_of}
 use Rattle.bl_tree.specs.declared.token.TokenKind.TheVariants.{Word}
 use Rattle.bl_parse.specs.Statements.{IsGuard}
@@ -10,19 +10,19 @@ use Rattle.bl_parse.proofs.stmt.guard.Goals as goal
 pub take-requires-else-stands : goal.take-requires-else-stands
 take-requires-else-stands c = record {
   stands = next_word
-      (after c.requires.awaits (opened_rest (word RESET ∷ []) (λ v. refl) refl
+      (after c.requires.awaits (opened_rest (word keyword.Reset ∷ []) (λ v. refl) refl
       (λ kind is. guard_reset (class_of kind) (off_at (no_word (c.if-stands.ensures.not refl)) kind is))));
 }
 
 pub returns-then-stands-clause-spelled : goal.returns-then-stands-clause-spelled
-returns-then-stands-clause-spelled c = record { word = Word ABORT; token = c.take.ensures.taken; is = IsGuard.abort }
+returns-then-stands-clause-spelled c = record { word = Word keyword.Abort; token = c.take.ensures.taken; is = IsGuard.abort }
 
 pub returns-then-stands-clause-follows : goal.returns-then-stands-clause-follows
-returns-then-stands-clause-follows c = then (opened (word ABORT ∷ []) (λ v. refl) (c.if-stands.ensures.kind.0 refl) refl) (pass c.take.ensures.next)
+returns-then-stands-clause-follows c = then (opened (word keyword.Abort ∷ []) (λ v. refl) (c.if-stands.ensures.kind.0 refl) refl) (pass c.take.ensures.next)
 
 pub returns-else-stands-clause-spelled : goal.returns-else-stands-clause-spelled
-returns-else-stands-clause-spelled c = record { word = Word RESET; token = c.take-else-stands.ensures.taken; is = IsGuard.reset }
+returns-else-stands-clause-spelled c = record { word = Word keyword.Reset; token = c.take-else-stands.ensures.taken; is = IsGuard.reset }
 
 pub returns-else-stands-clause-follows : goal.returns-else-stands-clause-follows
-returns-else-stands-clause-follows c = then (opened_rest (word RESET ∷ []) (λ v. refl) refl
+returns-else-stands-clause-follows c = then (opened_rest (word keyword.Reset ∷ []) (λ v. refl) refl
     (λ kind is. guard_reset (class_of kind) (off_at (no_word (c.if-stands.ensures.not refl)) kind is))) (pass c.take-else-stands.ensures.next)

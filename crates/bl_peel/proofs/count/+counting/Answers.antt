@@ -4,36 +4,10 @@ use Rattle.bl_tree.specs.declared.tree.StmtKind.{out-StmtKind}
 use Rattle.bl_tree.specs.declared.tree.StmtKind.TheVariants.{outs-Cobegin, outs-If, outs-Repeat, outs-Until, outs-When, outs-While}
 use Rattle.bl_peel.specs.declared.count.Count.{Count}
 use Rattle.bl_peel.specs.Peeled.{peeling}
-use Rattle.bl_peel.specs.inner.Parts.{
-  count_around,
-  count_beside,
-  count_cobegin,
-  count_repeated,
-  count_tested,
-  counted_arms,
-  counted_block,
-  counted_branches,
-  peeled_count,
-  peeling_of_arm,
-  peeling_of_branch,
-}
-use Rattle.bl_peel.proofs.Counting.{
-  arm_counts,
-  arms_done,
-  arms_step,
-  block_done,
-  block_step,
-  branches_done,
-  branches_step,
-  ends_step,
-  is_alone,
-  is_cobegin,
-  is_if,
-  is_repeat,
-  is_until,
-  is_when,
-  is_while,
-}
+use Rattle.bl_peel.specs.inner.Parts.{count_around, count_beside, count_cobegin, count_repeated, count_tested, counted_arms, counted_block, counted_branches}
+use Rattle.bl_peel.specs.inner.Parts.{peeled_count, peeling_of_arm, peeling_of_branch}
+use Rattle.bl_peel.proofs.Counting.{arm_counts, arms_done, arms_step, block_done, block_step, branches_done, branches_step, ends_step, is_alone, is_cobegin}
+use Rattle.bl_peel.proofs.Counting.{is_if, is_repeat, is_until, is_when, is_while}
 use Rattle.bl_peel.proofs.Equations.{peeling_out}
 use Rattle.bl_peel.proofs.count.+counting.Goals as goal
 

@@ -5,19 +5,8 @@ use Rattle.bl_peel.specs.declared.turns.FrontArm.{FrontArm}
 use Rattle.bl_peel.specs.Peeled.{ArmPeeling, BranchPeeling}
 use Rattle.bl_peel.specs.inner.Parts.{peeling_of_arm, peeling_of_branch, placed_stmt}
 use Rattle.bl_peel.proofs.Counting.{ends_step}
-use Rattle.bl_peel.proofs.Making.{
-  any_step,
-  arm_made,
-  block_ends,
-  branch_made,
-  deep_out,
-  front_arm_made,
-  fronts_end_step,
-  fronts_step,
-  if_ends,
-  if_made,
-  mapped_step,
-}
+use Rattle.bl_peel.proofs.Making.{any_step, arm_made, block_ends, branch_made, deep_out, front_arm_made, fronts_end_step, fronts_step, if_ends, if_made}
+use Rattle.bl_peel.proofs.Making.{mapped_step}
 use Rattle.bl_peel.proofs.turns.+turns.Goals as goal
 
 pub deep-returns : goal.deep-returns

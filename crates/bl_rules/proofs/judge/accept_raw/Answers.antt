@@ -15,7 +15,7 @@ accept_program-requires c =
         passes = program_passes c.args.tree.now.raw program c.in-Ok.ensures.typed c.in-Ok.ensures.names c.in-Ok.ensures.types passes;
         is = c.in-Ok.ensures.typed;
       };
-      typed = c.trees_stay_typed.ensures program.structs program.units program.entry program.well_typed c.in-Ok.ensures.shallow c.in-Ok.ensures.ordered;
+      typed = c.peeled_units_stay_typed.ensures program.structs program.units program.entry program.well_typed c.in-Ok.ensures.shallow c.in-Ok.ensures.ordered;
     }
 
 pub returns-in-Ok-accept_program-clause-passes : goal.returns-in-Ok-accept_program-clause-passes

@@ -3,5 +3,5 @@ use Rattle.bl_rules_walk.proofs.run.walk.Given as goal
 
 abbrev pub ghost-walk_bounded : goal.ghost-walk_bounded
 ghost-walk_bounded a =
-    let tree = a.accepted.now.tree.program in
-    steps tree.structs tree.units tree.entry
+    let peeled = a.accepted.now.peeled.program in
+    steps peeled.structs peeled.units peeled.entry

@@ -1,12 +1,12 @@
 -- What stands on `out` at each end.
 use Rattle.std.proofs.Common.{sym, subst, ◌∙◌}
 use Rattle.bl_top.specs.Build.{IsBuiltOfProgram}
-use Rattle.bl_top.proofs.Cuts.{kept_same}
-use Rattle.bl_top.proofs.Ends.{writes_as, wrote_nothing}
 use Rattle.bl_top.proofs.build.write_c.Goals as goal
+use Rattle.bl_rows_stream.proofs.Takings.{kept-same}
+use Rattle.bl_top_commands.proofs.Ends.{writes_as, wrote_nothing}
 
 pub returns-in-Err-clause-writes : goal.returns-in-Err-clause-writes
-returns-in-Err-clause-writes g c = wrote_nothing _ _ _ c.plain.ensures (kept_same _)
+returns-in-Err-clause-writes g c = wrote_nothing _ _ _ c.plain.ensures (kept-same _)
 
 pub returns-clause-writes : goal.returns-clause-writes
 returns-clause-writes g c =

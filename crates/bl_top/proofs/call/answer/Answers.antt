@@ -2,13 +2,13 @@
 use Rattle.std.proofs.Common.{◌≡◌, Some, arith, map, refl, rules, string_bytes}
 use Rattle.std.proofs.lemmas.List.{length-map}
 use Rattle.bl_top_args.specs.Jobs.{gen, job_of, link}
-use Rattle.bl_top.proofs.Cuts.{kept_same}
 use Rattle.bl_top.proofs.Ends.{answers_alone, answers_bound, answers_build, answers_check, answers_count, answers_exec, answers_face, answers_gen, answers_link}
 use Rattle.bl_top.proofs.Ends.{answers_none, answers_resume}
 use Rattle.bl_top.proofs.Ends.{answers_run, answers_save, answers_save_from, answers_short, answers_walk}
 use Rattle.bl_top.proofs.Driven.{answers_drive}
 use Rattle.bl_top.proofs.Ends.{sources_asked, stages_asked}
 use Rattle.bl_top.proofs.call.answer.Goals as goal
+use Rattle.bl_rows_stream.proofs.Takings.{kept-same}
 
 pub returns-in-Ok-Some-Check-clause-answers : goal.returns-in-Ok-Some-Check-clause-answers
 returns-in-Ok-Some-Check-clause-answers g c = λ notes.
@@ -102,7 +102,7 @@ returns-in-Ok-Some-Link-clause-answers g c = λ notes.
 pub returns-in-Ok-None-clause-answers : goal.returns-in-Ok-None-clause-answers
 returns-in-Ok-None-clause-answers g c = λ notes.
     answers_alone _ _ _ c.alone-in-Ok-None.result c.plain.result c.alone-in-Ok-None.ensures.outcome c.alone-in-Ok-None.ensures.lines
-    (answers_none _ _ _ _ _ (search rules) c.plain.ensures (kept_same _))
+    (answers_none _ _ _ _ _ (search rules) c.plain.ensures (kept-same _))
 
 pub returns-in-Ok-None-clause-reads : goal.returns-in-Ok-None-clause-reads
 returns-in-Ok-None-clause-reads g c = c.kept_files_are_within_limits.ensures _ _
@@ -110,7 +110,7 @@ returns-in-Ok-None-clause-reads g c = c.kept_files_are_within_limits.ensures _ _
 pub returns-in-Err-clause-answers : goal.returns-in-Err-clause-answers
 returns-in-Err-clause-answers g c = λ notes.
     answers_alone _ _ _ c.alone-in-Err.result c.plain-in-Err.result c.alone-in-Err.ensures.outcome c.alone-in-Err.ensures.lines
-    (answers_short _ _ _ _ _ c.plain-in-Err.ensures (kept_same _) refl)
+    (answers_short _ _ _ _ _ c.plain-in-Err.ensures (kept-same _) refl)
 
 pub returns-in-Err-clause-reads : goal.returns-in-Err-clause-reads
 returns-in-Err-clause-reads g c = c.kept_files_are_within_limits.ensures _ _

@@ -1,4 +1,4 @@
--- What is asked of the program of the trees, and what its file shows of the source's.
+-- What is asked of the peeled program, and what its file shows of the source's.
 use Rattle.std.proofs.Common.{subst, sym}
 use Rattle.std.proofs.lemmas.Result.{IfOk-weaker}
 use Rattle.bl_cause.specs.Accepted.{AcceptedProgram}
@@ -9,22 +9,22 @@ use Rattle.bl_rules_laws_sizes.specs.Small.{AreSmall}
 use Rattle.bl_top.proofs.Texts.{file_of_source}
 use Rattle.bl_top.proofs.emitted.c_file.Goals as goal
 
-pub file_of-requires-clause-text : goal.file_of-requires-clause-text
-file_of-requires-clause-text c =
+pub c_file-requires-clause-text : goal.c_file-requires-clause-text
+c_file-requires-clause-text c =
     let accepted = c.args.accepted.now in
-    subst (λ (a : AcceptedProgram). FromText a.program.units) (sym c.tree.ensures)
-    (c.accepted_trees_declare.ensures.trees accepted.program accepted.tree.program.units c.requires.tree c.is_accepted.ensures.is_tree.units)
+    subst (λ (a : AcceptedProgram). FromText a.program.units) (sym c.peeled.ensures)
+    (c.accepted_trees_declare.ensures.peeled accepted.program accepted.peeled.program.units c.requires.tree c.is_accepted.ensures.is_peeled.units)
 
-pub file_of-requires-clause-small : goal.file_of-requires-clause-small
-file_of-requires-clause-small c =
+pub c_file-requires-clause-small : goal.c_file-requires-clause-small
+c_file-requires-clause-small c =
     let accepted = c.args.accepted.now in
-    subst (λ (a : AcceptedProgram). AreSmall a.program.units) (sym c.tree.ensures)
-    (c.trees_of_units_stay_small.ensures accepted.program accepted.tree.program.units c.requires c.is_accepted.ensures.is_tree.units)
+    subst (λ (a : AcceptedProgram). AreSmall a.program.units) (sym c.peeled.ensures)
+    (c.peeled_units_stay_small.ensures accepted.program accepted.peeled.program.units c.requires c.is_accepted.ensures.is_peeled.units)
 
 pub returns : goal.returns
 returns c =
-    IfOk-weaker c.file_of.result _ _
+    IfOk-weaker c.c_file.result _ _
     (λ file shows. file_of_source c.args.accepted.now file c.is_accepted.ensures c.requires.tree c.accepted_trees_have_one_trace.ensures
-    c.accepted_trees_mean_the_same.ensures
-    (subst (λ (a : AcceptedProgram). ShowsProgram a.program.structs a.program.units a.program.entry (parts_of file)) c.tree.ensures shows))
-    c.file_of.ensures
+    c.peeled_programs_mean_the_same.ensures
+    (subst (λ (a : AcceptedProgram). ShowsProgram a.program.structs a.program.units a.program.entry (parts_of file)) c.peeled.ensures shows))
+    c.c_file.ensures.shows

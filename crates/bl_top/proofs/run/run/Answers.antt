@@ -2,16 +2,19 @@
 use Rattle.std.proofs.Common.{[], ◌∷◌}
 use Rattle.bl_top_commands.specs.Reads.{rows_file, source_file}
 use Rattle.bl_rows_stream.specs.Streams.{course_of}
-use Rattle.bl_top.proofs.Cuts.{kept_same, reads_both, reads_first}
-use Rattle.bl_top.proofs.Ends.{run_ran, run_stops, stops_short}
+use Rattle.bl_top.proofs.Cuts.{reads_first}
+use Rattle.bl_top.proofs.Ends.{run_ran, run_stops}
 use Rattle.bl_top.proofs.Programs.{is_of_small_tree}
 use Rattle.bl_top.proofs.run.run.Goals as goal
+use Rattle.bl_rows_stream.proofs.Takings.{kept-same}
+use Rattle.bl_top_commands.proofs.Cuts.{reads_both}
+use Rattle.bl_top_commands.proofs.Fronts.{stops_short}
 
 pub runner_of-requires : goal.runner_of-requires
 runner_of-requires g c = is_of_small_tree c.programs_of_texts_are_small.ensures.accepted _ c.in-Ok.accepted.program c.in-Ok.ensures.program
 
 pub returns-in-Err-clause-ends : goal.returns-in-Err-clause-ends
-returns-in-Err-clause-ends g c = λ notes. run_stops _ _ _ _ _ c.in-Err.ensures.stopped (kept_same _)
+returns-in-Err-clause-ends g c = λ notes. run_stops _ _ _ _ _ c.in-Err.ensures.stopped (kept-same _)
 
 pub returns-in-Err-clause-reads : goal.returns-in-Err-clause-reads
 returns-in-Err-clause-reads g c =
@@ -32,7 +35,7 @@ returns-in-Ok-runner_of-clause-reads g c =
     c.run_over.ensures.reads c.run_over.ensures.others
 
 pub returns-clause-ends : goal.returns-clause-ends
-returns-clause-ends g c = λ notes. run_stops _ _ _ _ _ (stops_short _ _ _ _ c.plain.ensures) (kept_same _)
+returns-clause-ends g c = λ notes. run_stops _ _ _ _ _ (stops_short _ _ _ _ c.plain.ensures) (kept-same _)
 
 pub returns-clause-reads : goal.returns-clause-reads
 returns-clause-reads g c =

@@ -1,8 +1,9 @@
 -- The file is loaded, unless memory is wanting, and has the program's trace.
 use Rattle.bl_ctext_semantics.specs.Parts.{parts_of}
-use Rattle.bl_top.proofs.Courses.{course_of_parts, loaded_fresh, loaded_parts, wants_memory}
+use Rattle.bl_top.proofs.Courses.{course_of_parts, wants_memory}
 use Rattle.bl_top.proofs.Driven.{one_trace_of}
 use Rattle.bl_top.proofs.run.runner_of.Goals as goal
+use Rattle.bl_top_commands.proofs.Courses.{loaded_fresh, loaded_parts}
 
 pub returns-in-Ok-clause-course : goal.returns-in-Ok-clause-course
 returns-in-Ok-clause-course c =

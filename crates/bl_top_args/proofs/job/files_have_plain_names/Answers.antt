@@ -1,25 +1,5 @@
-use Rattle.std.proofs.Common.{
-  ◌≡◌,
-  ◌&&◌,
-  ℕ,
-  Bool,
-  IfSome,
-  Some,
-  length,
-  nat_lt,
-  None,
-  false,
-  true,
-  refl,
-  List,
-  [],
-  ◌∷◌,
-  Option,
-  codes,
-  if◌then◌else◌,
-  map,
-  string_bytes,
-}
+use Rattle.std.proofs.Common.{◌≡◌, ◌&&◌, ℕ, Bool, IfSome, Some, length, nat_lt, None, false, true, refl, List, [], ◌∷◌, Option, codes, if◌then◌else◌, map}
+use Rattle.std.proofs.Common.{string_bytes}
 use Rattle.std.specs.List.{list_all}
 use Rattle.std.specs.Str.{bytes_eq}
 use Rattle.bl_top_args.specs.Jobs.{JobSpec, Word, bound, build, check, command_job, count}

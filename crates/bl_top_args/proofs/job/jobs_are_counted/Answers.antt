@@ -6,40 +6,10 @@ use Rattle.std.proofs.lemmas.Bool.Decides.{nat_tests}
 use Rattle.std.specs.List.{list_all}
 use Rattle.std.specs.Prelude.{◌&&◌, length, nat_lt}
 use Rattle.std.specs.Str.{bytes_eq}
-use Rattle.bl_top_args.specs.Jobs.{
-  IsCounted,
-  JobSpec,
-  Word,
-  bound,
-  build,
-  check,
-  command_job,
-  count,
-  driven,
-  exec,
-  faced,
-  is_plain_word,
-  job_of,
-  link,
-  linked,
-  of_one,
-}
-use Rattle.bl_top_args.specs.Jobs.{
-  of_one_if,
-  of_three,
-  of_two,
-  of_two_or_three,
-  other_job,
-  plants_of,
-  resumed,
-  run,
-  save,
-  save_from,
-  seed_of,
-  seeded,
-  staged,
-  stages_in,
-}
+use Rattle.bl_top_args.specs.Jobs.{IsCounted, JobSpec, Word, bound, build, check, command_job, count, driven, exec, faced, is_plain_word, job_of, link, linked}
+use Rattle.bl_top_args.specs.Jobs.{of_one}
+use Rattle.bl_top_args.specs.Jobs.{of_one_if, of_three, of_two, of_two_or_three, other_job, plants_of, resumed, run, save, save_from, seed_of, seeded, staged}
+use Rattle.bl_top_args.specs.Jobs.{stages_in}
 use Rattle.bl_top_args.specs.Jobs.{ticks_of}
 use Rattle.bl_top_args.proofs.job.jobs_are_counted.Goals as goal
 

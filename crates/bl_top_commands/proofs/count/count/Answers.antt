@@ -2,9 +2,10 @@
 use Rattle.std.proofs.Common.{[], ◌∷◌}
 use Rattle.bl_top_commands.specs.Reads.{rows_file, text_file}
 use Rattle.bl_rows_stream_laws.specs.Counts.{counts_by}
-use Rattle.bl_top_commands.proofs.Cuts.{kept_same, reads_both, reads_first}
+use Rattle.bl_top_commands.proofs.Cuts.{reads_both, reads_first}
 use Rattle.bl_top_commands.proofs.Execs.{text_ran, text_stopped}
 use Rattle.bl_top_commands.proofs.count.count.Goals as goal
+use Rattle.bl_rows_stream.proofs.Takings.{kept-same}
 
 pub returns-in-Ok-clause-ends : goal.returns-in-Ok-clause-ends
 returns-in-Ok-clause-ends g c = λ notes.
@@ -18,7 +19,7 @@ returns-in-Ok-clause-reads g c =
     c.count_over.ensures.reads c.count_over.ensures.others
 
 pub returns-in-Err-clause-ends : goal.returns-in-Err-clause-ends
-returns-in-Err-clause-ends g c = λ notes. text_stopped _ _ _ _ _ _ c.in-Err.ensures.stopped (kept_same _)
+returns-in-Err-clause-ends g c = λ notes. text_stopped _ _ _ _ _ _ c.in-Err.ensures.stopped (kept-same _)
 
 pub returns-in-Err-clause-reads : goal.returns-in-Err-clause-reads
 returns-in-Err-clause-reads g c =

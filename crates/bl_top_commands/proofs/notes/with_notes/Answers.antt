@@ -1,14 +1,7 @@
 -- Each end of the writes makes the end of the call.
 use Rattle.std.proofs.Common.{ap, sym, subst, ◌∙◌, [], Err, ◌≢◌}
 use Rattle.bl_io.specs.Held.{Appends, AppendsPart}
-use Rattle.bl_top_commands.proofs.Lines.{
-  is_empty_from_test,
-  is_some_from_test,
-  written_alone,
-  written_before_fault,
-  written_before_want,
-  written_behind,
-}
+use Rattle.bl_top_commands.proofs.Lines.{is_empty_from_test, is_some_from_test, written_alone, written_before_fault, written_before_want, written_behind}
 use Rattle.bl_top_commands.proofs.notes.with_notes.Goals as goal
 
 pub returns-then-is_empty-clause-written : goal.returns-then-is_empty-clause-written

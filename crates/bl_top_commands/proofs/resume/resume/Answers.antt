@@ -1,12 +1,14 @@
 -- How the command ends, and what is left of its files.
 use Rattle.std.proofs.Common.{[], ◌∷◌}
+use Rattle.bl_tree.proofs.Basics.{at_most_then}
 use Rattle.bl_top_commands.specs.Reads.{rows_file, state_file, text_file}
-use Rattle.bl_top_commands.proofs.Cuts.{kept_same, reads_first, reads_three, reads_two}
-use Rattle.bl_top_commands.proofs.Saves.{from_stopped, from_text_stopped, from_went, counts_rise, resume_goes, stands_live}
+use Rattle.bl_top_commands.proofs.Cuts.{reads_first, reads_three, reads_two}
+use Rattle.bl_top_commands.proofs.Saves.{from_stopped, from_text_stopped, from_went, resume_goes, stands_live}
 use Rattle.bl_top_commands.proofs.resume.resume.Goals as goal
+use Rattle.bl_rows_stream.proofs.Takings.{kept-same}
 
 pub returns-in-Err-clause-ends : goal.returns-in-Err-clause-ends
-returns-in-Err-clause-ends g c = λ notes. from_text_stopped _ _ _ _ _ _ c.in-Err.ensures.stopped (kept_same _)
+returns-in-Err-clause-ends g c = λ notes. from_text_stopped _ _ _ _ _ _ c.in-Err.ensures.stopped (kept-same _)
 
 pub returns-in-Err-clause-reads : goal.returns-in-Err-clause-reads
 returns-in-Err-clause-reads g c =
@@ -18,7 +20,7 @@ returns-in-Ok-restore_from-clause-ends g c = λ notes.
     from_went _ _ _ _ c.in-Ok.runner.parts c.in-Ok.ensures.loads (g.F.Files.left c.runner_of.new.files) c.in-Ok.ensures.behind _
     c.in-Ok-restore_from.ensures.stands (g.F.Files.left c.restore_from.new.files) c.in-Ok-restore_from.ensures.behind _ _
     (resume_goes _ _ _ c.in-Ok-restore_from.ensures.stands _ _ _ _ _ _ _ _
-    (counts_rise _ _ _ (c.runner_of.ensures.file_counts _) (c.restore_from.ensures.file_counts _)) c.go_over.ensures.streams c.go_over.ensures.in_step)
+    (at_most_then _ _ _ (c.runner_of.ensures.file_counts _) (c.restore_from.ensures.file_counts _)) c.go_over.ensures.streams c.go_over.ensures.in_step)
 
 pub returns-in-Ok-restore_from-clause-reads : goal.returns-in-Ok-restore_from-clause-reads
 returns-in-Ok-restore_from-clause-reads g c =
@@ -30,7 +32,7 @@ returns-in-Ok-restore_from-clause-reads g c =
 pub returns-in-Err-restore_from-clause-ends : goal.returns-in-Err-restore_from-clause-ends
 returns-in-Err-restore_from-clause-ends g c = λ notes.
     from_stopped _ _ _ _ c.in-Ok.runner.parts c.in-Ok.ensures.loads (g.F.Files.left c.runner_of.new.files) c.in-Ok.ensures.behind _
-    (c.runner_of.ensures.file_counts _) _ _ c.in-Err-restore_from.ensures.stopped (kept_same _)
+    (c.runner_of.ensures.file_counts _) _ _ c.in-Err-restore_from.ensures.stopped (kept-same _)
 
 pub returns-in-Err-restore_from-clause-reads : goal.returns-in-Err-restore_from-clause-reads
 returns-in-Err-restore_from-clause-reads g c =

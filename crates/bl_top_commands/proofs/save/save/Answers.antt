@@ -1,12 +1,13 @@
 -- How the command ends, and what is left of its files.
 use Rattle.std.proofs.Common.{[], ◌∷◌, ◌∙◌, sym}
 use Rattle.bl_top_commands.specs.Reads.{rows_file, text_file}
-use Rattle.bl_top_commands.proofs.Cuts.{kept_same, reads_both, reads_first}
+use Rattle.bl_top_commands.proofs.Cuts.{reads_both, reads_first}
 use Rattle.bl_top_commands.proofs.Saves.{loaded_cells, loaded_from, loaded_starts, save_ran, save_stopped, save_trapped}
 use Rattle.bl_top_commands.proofs.save.save.Goals as goal
+use Rattle.bl_rows_stream.proofs.Takings.{kept-same}
 
 pub returns-in-Err-clause-ends : goal.returns-in-Err-clause-ends
-returns-in-Err-clause-ends g c = λ notes. save_stopped _ _ _ _ _ c.in-Err.ensures.stopped (kept_same _)
+returns-in-Err-clause-ends g c = λ notes. save_stopped _ _ _ _ _ c.in-Err.ensures.stopped (kept-same _)
 
 pub returns-in-Err-clause-reads : goal.returns-in-Err-clause-reads
 returns-in-Err-clause-reads g c =
@@ -16,7 +17,7 @@ returns-in-Err-clause-reads g c =
 pub returns-then-not-ready-clause-ends : goal.returns-then-not-ready-clause-ends
 returns-then-not-ready-clause-ends g c = λ notes.
     save_trapped _ _ _ _ c.in-Ok.ensures.loads (loaded_starts _ _ c.in-Ok.ensures.fresh (sym c.ready.ensures.shown ∙ c.if-not-ready.true)) _ _ c.plain.ensures
-    (kept_same _)
+    (kept-same _)
 
 pub returns-then-not-ready-clause-reads : goal.returns-then-not-ready-clause-reads
 returns-then-not-ready-clause-reads g c =

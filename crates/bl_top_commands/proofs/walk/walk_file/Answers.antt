@@ -4,12 +4,12 @@ use Rattle.std.proofs.lemmas.Result.{IfOk-weaker}
 use Rattle.bl_top_commands.specs.inner.Walked.{ArePorts}
 use Rattle.bl_top_commands.specs.Reads.{most_rows}
 use Rattle.bl_tree.specs.declared.program.Program.{Program}
-use Rattle.bl_top_commands.proofs.Cuts.{lines_same}
 use Rattle.bl_top_commands.proofs.Walks.{is_walk, walk_read_failed}
 use Rattle.bl_top_commands.proofs.walk.walk_file.Goals as goal
+use Rattle.bl_rows_stream.proofs.Steps.{reads-none}
 
 pub returns-in_err-ports-clause-reads : goal.returns-in_err-ports-clause-reads
-returns-in_err-ports-clause-reads g c = lines_same most_rows (g.F.Files.left c.args.files.now c.args.rows.now)
+returns-in_err-ports-clause-reads g c = reads-none most_rows (g.F.Files.left c.args.files.now c.args.rows.now)
 
 pub returns-clause-walk : goal.returns-clause-walk
 returns-clause-walk g c =

@@ -1,12 +1,12 @@
 use Rattle.std.proofs.Common.{◌≡◌, ◌∙◌, ◌++◌, ◌+◌, Bor, ap, drop, sym}
 use Rattle.std.specs.Prelude.{option_map}
 use Rattle.std.specs.List.{cons_option}
+use Rattle.bl_tree.proofs.Basics.{drop_next}
 use Rattle.bl_tree.specs.declared.tree.Ty.{Ty}
 use Rattle.bl_types.specs.Expressions.{but_first, first_type}
 use Rattle.bl_types.specs.Failures.{noted}
 use Rattle.bl_types.specs.Statements.{all_lent, lent, paths_failures, paths_made}
 use Rattle.bl_types.proofs.GatherLemmas.{kept_one}
-use Rattle.bl_types.proofs.JudgedLemmas.{next_of}
 use Rattle.bl_types.proofs.NoteLemmas.{next_noted}
 use Rattle.bl_types.proofs.call.all_lent.Goals as goal
 
@@ -15,7 +15,7 @@ loop-path-preserved c =
     let env = c.args.env.now in
     let path = c.path-item.result in
     let rest = drop (c.loop-path.path-index + 1) c.args.all.now in
-    let step = next_of c.args.all.now c.loop-path.path-index path c.loop-path-test.true c.path-item.is in
+    let step = drop_next c.args.all.now c.loop-path.path-index path c.loop-path-test.true c.path-item.is in
     let one = lent env (first_type c.loop-path.params.now) path in
     let given = lent env (option_map {T = Bor Ty} {U = Ty} (λ ty. ty.now) c.first_type.result) path in
     let same : given ≡ one = ap (λ wanted. lent env wanted path) c.first_type.ensures in

@@ -1,30 +1,14 @@
 use Rattle.std.proofs.Common.{◌≡◌, ◌∙◌, ◌++◌, ◌+◌, ap, sym, refl, Bor, map, drop, length, Option, nat_eq}
 use Rattle.std.proofs.lemmas.List.{length-map}
 use Rattle.std.specs.Prelude.{option_and_then, option_map, slice_get}
+use Rattle.bl_tree.proofs.Basics.{drop_next}
 use Rattle.bl_tree.specs.declared.tree.Ty.{Ty}
 use Rattle.bl_names_tree.specs.declared.expr.NamedExpr.{out-NamedExpr}
-use Rattle.bl_types.specs.Expressions.{
-  all_failures,
-  all_made,
-  but_first,
-  call_form,
-  cast_formed,
-  first_type,
-  fitted,
-  fitting,
-  in_context,
-  judged,
-  misnamed,
-  one_formed,
-  params_of,
-  step_of,
-  stepped,
-  to_element,
-  two_formed,
-}
+use Rattle.bl_types.specs.Expressions.{all_failures, all_made, but_first, call_form, cast_formed, first_type, fitted, fitting, in_context, judged, misnamed}
+use Rattle.bl_types.specs.Expressions.{one_formed, params_of, step_of, stepped, to_element, two_formed}
 use Rattle.bl_types.specs.Failures.{noted}
 use Rattle.bl_types.proofs.GatherLemmas.{made_none, made_one}
-use Rattle.bl_types.proofs.JudgedLemmas.{cast_judged, fitted-length, in_context_is, index_judged, next_of, one_judged, two_judged}
+use Rattle.bl_types.proofs.JudgedLemmas.{cast_judged, fitted-length, in_context_is, index_judged, one_judged, two_judged}
 use Rattle.bl_types.proofs.NoteLemmas.{next_noted, noted-append, then_noted, then_noted_ok}
 use Rattle.bl_types.proofs.expr.+expressions.Goals as goal
 use Rattle.bl_types.proofs.expr.+expressions.Goals.{arguments-in-Some+in_ok-push, arguments-in_default, steps-in-Some+in_ok-push, steps-in_default}
@@ -108,7 +92,7 @@ arguments-loop-e-preserved t c =
     let env = c.args.env.now in
     let e = c.e-item.result in
     let rest = map (judged env) (drop (c.loop-e.e-index + 1) c.args.all.now) in
-    let step = next_of c.args.all.now c.loop-e.e-index e c.loop-e-test.true c.e-item.is in
+    let step = drop_next c.args.all.now c.loop-e.e-index e c.loop-e-test.true c.e-item.is in
     let argument = in_context (first_type c.loop-e.params.now) (judged env e) in
     let given = in_context (option_map {T = Bor Ty} {U = Ty} (λ ty. ty.now) c.first_type.result) (judged env e) in
     let same : given ≡ argument = ap (λ wanted. in_context wanted (judged env e)) c.first_type.ensures in
@@ -134,7 +118,7 @@ steps-loop-part-preserved t c =
     let env = c.args.env.now in
     let part = c.part-item.result in
     let rest = map (step_of env) (drop (c.loop-part.part-index + 1) c.args.all.now) in
-    let step = next_of c.args.all.now c.loop-part.part-index part c.loop-part-test.true c.part-item.is in
+    let step = drop_next c.args.all.now c.loop-part.part-index part c.loop-part-test.true c.part-item.is in
     let first = step_of env part c.loop-part.ty in
     let made = sym (ap (λ l. c.loop-part.parts ++ (stepped (map (step_of env) l) c.loop-part.ty).parts) step) ∙ c.loop-part.invariant.1.0 in
     let noted_all = sym (ap (λ l. noted c.loop-part.notes (stepped (map (step_of env) l) c.loop-part.ty).failures) step) ∙ c.loop-part.invariant.1.1 in (

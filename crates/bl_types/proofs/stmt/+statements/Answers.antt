@@ -1,11 +1,11 @@
 use Rattle.std.proofs.Common.{◌∙◌, ◌++◌, ap, append_assoc, map, sym}
 use Rattle.std.specs.Prelude.{option_map}
+use Rattle.bl_tree.proofs.Basics.{drop_next}
 use Rattle.bl_tree.specs.declared.tree.StmtKind.TheVariants as what
 use Rattle.bl_names_tree.specs.declared.stmt.NamedArm.{out-NamedArm}
 use Rattle.bl_names_tree.specs.declared.stmt.NamedStmt.{out-NamedStmt}
 use Rattle.bl_types.specs.inner.States.{passed}
 use Rattle.bl_types.specs.Statements.{arm_walked, branch_walked, condition, in_order, misplaced, walked_block, walked_stmt}
-use Rattle.bl_types.proofs.JudgedLemmas.{next_of}
 use Rattle.bl_types.proofs.StateLemmas.{passed_then}
 use Rattle.bl_types.proofs.WalkLemmas.{arm_is, if_is, made_part, state_part, until_is, when_is, while_is}
 use Rattle.bl_types.proofs.stmt.+statements.Goals as goal
@@ -26,7 +26,7 @@ pub block-loop-s-preserved : goal.block-loop-s-preserved
 block-loop-s-preserved t c =
     let walk = walked_stmt c.args.source.constants.now c.args.source.vars.now in
     let s = c.s-item.result in
-    let step = next_of c.args.body.now c.loop-s.s-index s c.loop-s-test.true c.s-item.is in (
+    let step = drop_next c.args.body.now c.loop-s.s-index s c.loop-s-test.true c.s-item.is in (
       made_part walk _ _ s c.loop-s.state c.statement.new.state step c.in_ok-one.ensures.state c.loop-s.made c.keep.new.list _
           c.in_ok-one.one c.in_ok-one.ensures.made c.in_ok-keep.ensures c.loop-s.invariant.0,
       state_part walk _ _ s c.loop-s.state c.statement.new.state step c.in_ok-one.ensures.state _ c.loop-s.invariant.1,
@@ -36,7 +36,7 @@ pub arms-loop-one-preserved : goal.arms-loop-one-preserved
 arms-loop-one-preserved t c =
     let walk = arm_walked c.args.source.constants.now c.args.source.vars.now in
     let arm = c.one-item.result in
-    let step = next_of c.args.all.now c.loop-one.one-index arm c.loop-one-test.true c.one-item.is in (
+    let step = drop_next c.args.all.now c.loop-one.one-index arm c.loop-one-test.true c.one-item.is in (
       made_part walk _ _ arm c.loop-one.state c.arm.new.state step c.in_ok-one.ensures.state c.loop-one.made c.keep.new.list _
           c.in_ok-one.one c.in_ok-one.ensures.made c.in_ok-keep.ensures c.loop-one.invariant.0,
       state_part walk _ _ arm c.loop-one.state c.arm.new.state step c.in_ok-one.ensures.state _ c.loop-one.invariant.1,
@@ -46,7 +46,7 @@ pub branches-loop-one-preserved : goal.branches-loop-one-preserved
 branches-loop-one-preserved t c =
     let walk = branch_walked c.args.source.constants.now c.args.source.vars.now in
     let branch = c.one-item.result in
-    let step = next_of c.args.all.now c.loop-one.one-index branch c.loop-one-test.true c.one-item.is in (
+    let step = drop_next c.args.all.now c.loop-one.one-index branch c.loop-one-test.true c.one-item.is in (
       made_part walk _ _ branch c.loop-one.state c.branch-alloc.new.state step c.in_ok-one.ensures.state c.loop-one.made
           c.keep.new.list _ c.in_ok-one.one c.in_ok-one.ensures.made c.in_ok-keep.ensures
           c.loop-one.invariant.0,

@@ -1,7 +1,8 @@
 use Rattle.std.proofs.Common.{rules, refl, sym, ◌∙◌, ◌+◌, subst, drop, arith}
 use Rattle.std.proofs.lemmas.List.{drop_all}
+use Rattle.bl_tree.proofs.Basics.{drop_next}
 use Rattle.bl_ctree_run.specs.Running.{setting, state}
-use Rattle.bl_walk.proofs.Walking.{Onward, between_first, next_row, onward_first, steady_at, walked_closed, walked_open, going_on}
+use Rattle.bl_walk.proofs.Walking.{Onward, between_first, onward_first, steady_at, walked_closed, walked_open, going_on}
 use Rattle.bl_walk.proofs.run.walk.Goals as goal
 
 pub rows-init : goal.rows-init
@@ -23,7 +24,7 @@ tick-requires g c = (
 
 pub rows-preserved : goal.rows-preserved
 rows-preserved g c =
-    let next = next_row c.args.rows.now c.rows.row-index c.row-item.result c.rows-test.true c.row-item.is in
+    let next = drop_next c.args.rows.now c.rows.row-index c.row-item.result c.rows-test.true c.row-item.is in
     let on = going_on (setting c.in_ok-tree.tree) (setting c.rows.tree) c.rows.invariant.same c.by_seed-choice.result c.args.rows.now
     (state c.in_ok-tree.tree) c.args.steps.now c.rows.choice c.tick.new.choice c.row-item.result (drop c.rows.row-index c.args.rows.now)
     (drop (c.rows.row-index + 1) c.args.rows.now) (state c.rows.tree) (state c.tick.new.tree) c.rows.outs c.tick.new.outs c.rows.steps
@@ -32,7 +33,7 @@ rows-preserved g c =
 
 pub returns-in_default-clause-walked : goal.returns-in_default-clause-walked
 returns-in_default-clause-walked g c =
-    let next = next_row c.args.rows.now c.rows.row-index c.row-item.result c.rows-test.true c.row-item.is in
+    let next = drop_next c.args.rows.now c.rows.row-index c.row-item.result c.rows-test.true c.row-item.is in
     walked_closed (setting c.in_ok-tree.tree) (setting c.rows.tree) c.rows.invariant.same c.by_seed-choice.result c.args.rows.now
     (state c.in_ok-tree.tree) c.args.steps.now c.rows.choice c.tick.new.choice c.row-item.result (drop c.rows.row-index c.args.rows.now)
     (drop (c.rows.row-index + 1) c.args.rows.now) (state c.rows.tree) (state c.tick.new.tree) c.rows.outs c.tick.new.outs c.rows.steps
@@ -42,7 +43,7 @@ returns-in_default-clause-walked g c =
 
 pub returns-in_default-clause-means : goal.returns-in_default-clause-means
 returns-in_default-clause-means g c =
-    let next = next_row c.args.rows.now c.rows.row-index c.row-item.result c.rows-test.true c.row-item.is in
+    let next = drop_next c.args.rows.now c.rows.row-index c.row-item.result c.rows-test.true c.row-item.is in
     let all = walked_closed (setting c.in_ok-tree.tree) (setting c.rows.tree) c.rows.invariant.same c.by_seed-choice.result c.args.rows.now
     (state c.in_ok-tree.tree) c.args.steps.now c.rows.choice c.tick.new.choice c.row-item.result (drop c.rows.row-index c.args.rows.now)
     (drop (c.rows.row-index + 1) c.args.rows.now) (state c.rows.tree) (state c.tick.new.tree) c.rows.outs c.tick.new.outs c.rows.steps

@@ -1,5 +1,5 @@
 use Rattle.std.proofs.Common.{[], ◌∷◌, ◌++◌, List, refl, sym, subst}
-use Rattle.bl_ctext.proofs.Bytes.{both}
+use Rattle.std.proofs.lemmas.Bool.{and_from}
 use Rattle.bl_cparse_syntax.specs.declared.grammar.Part.TheVariants.{Expr}
 use Rattle.bl_cparse_syntax.specs.Grammar.{Wanted}
 use Rattle.bl_cparse_syntax.specs.Expects.{Expects}
@@ -13,7 +13,7 @@ use Rattle.bl_cparse.proofs.parser.expr.inside.Goals as goal
 pub returns-in-Ok-clause-tokens : goal.returns-in-Ok-clause-tokens
 returns-in-Ok-clause-tokens c = (
   pushed held_tokens c.args.outer.items c.push.new.self.items c.args.held [] c.in-Ok.ensures.items refl,
-  both _ _ (all_with spells_held c.args.outer.items c.push.new.self.items c.args.held c.in-Ok.ensures.items c.requires.outer c.requires.held) refl,
+  and_from _ _ (all_with spells_held c.args.outer.items c.push.new.self.items c.args.held c.in-Ok.ensures.items c.requires.outer c.requires.held) refl,
 )
 
 pub returns-in-Ok-clause-awaits : goal.returns-in-Ok-clause-awaits

@@ -3,8 +3,9 @@ use Rattle.bl_ctext.specs.Spellable.{spells_func}
 use Rattle.std.proofs.Common.{rules}
 use Rattle.bl_cparse.proofs.ItemOpening.{funcs_more}
 use Rattle.bl_cparse.proofs.ReadLemmas.{some_left}
-use Rattle.bl_cparse.proofs.ListLemmas.{joined_more, any_more, all_more}
+use Rattle.bl_cparse.proofs.ListLemmas.{joined_more, any_more}
 use Rattle.bl_cparse.proofs.parser.item.funcs.Goals as goal
+use Rattle.bl_cparse_syntax_laws.proofs.Told.{all_more}
 
 pub loop-funcs-preserved : goal.loop-funcs-preserved
 loop-funcs-preserved c = record {

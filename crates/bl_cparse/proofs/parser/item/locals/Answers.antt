@@ -2,8 +2,9 @@ use Rattle.bl_ctext.specs.Spelling.{local_tokens}
 use Rattle.bl_ctext.specs.Spellable.{spells_local}
 use Rattle.std.proofs.Common.{rules, sym, ◌∙◌}
 use Rattle.bl_cparse.proofs.ItemOpening.{locals_more, locals_end}
-use Rattle.bl_cparse.proofs.ListLemmas.{joined_more, all_more}
+use Rattle.bl_cparse.proofs.ListLemmas.{joined_more}
 use Rattle.bl_cparse.proofs.parser.item.locals.Goals as goal
+use Rattle.bl_cparse_syntax_laws.proofs.Told.{all_more}
 
 pub loop-locals-preserved : goal.loop-locals-preserved
 loop-locals-preserved c = record {

@@ -2,10 +2,11 @@ use Rattle.bl_ctext.specs.Spelling.{member_tokens}
 use Rattle.bl_ctext.specs.Spellable.{spells_member}
 use Rattle.std.proofs.Common.{rules, sym, ◌∙◌}
 use Rattle.bl_cparse.proofs.ItemOpening.{members_more, members_end}
-use Rattle.bl_cparse.proofs.ListLemmas.{joined_more, any_more, all_more}
+use Rattle.bl_cparse.proofs.ListLemmas.{joined_more, any_more}
 use Rattle.bl_cparse.proofs.ReadLemmas.{sign_seen}
 use Rattle.std.specs.Prelude.{codes}
 use Rattle.bl_cparse.proofs.parser.item.members.Goals as goal
+use Rattle.bl_cparse_syntax_laws.proofs.Told.{all_more}
 
 pub loop-members-preserved : goal.loop-members-preserved
 loop-members-preserved c = record {

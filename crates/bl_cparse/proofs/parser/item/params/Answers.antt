@@ -2,8 +2,9 @@ use Rattle.bl_ctext.specs.Spelling.{param_tokens}
 use Rattle.bl_ctext.specs.Spellable.{spells_param}
 use Rattle.std.proofs.Common.{rules, sym, ◌∙◌}
 use Rattle.bl_cparse.proofs.ItemOpening.{params_some, params_none, param_more, params_end}
-use Rattle.bl_cparse.proofs.ListLemmas.{commas_more, any_more, all_more}
+use Rattle.bl_cparse.proofs.ListLemmas.{commas_more, any_more}
 use Rattle.bl_cparse.proofs.parser.item.params.Goals as goal
+use Rattle.bl_cparse_syntax_laws.proofs.Told.{all_more}
 
 pub loop-params-preserved : goal.loop-params-preserved
 loop-params-preserved c = record {

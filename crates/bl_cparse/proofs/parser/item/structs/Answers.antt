@@ -2,8 +2,9 @@ use Rattle.bl_ctext.specs.Spelling.{struct_tokens}
 use Rattle.bl_ctext.specs.Spellable.{spells_struct}
 use Rattle.std.proofs.Common.{rules, sym, ◌∙◌}
 use Rattle.bl_cparse.proofs.ItemOpening.{structs_more, structs_end}
-use Rattle.bl_cparse.proofs.ListLemmas.{joined_more, any_more, all_more}
+use Rattle.bl_cparse.proofs.ListLemmas.{joined_more, any_more}
 use Rattle.bl_cparse.proofs.parser.item.structs.Goals as goal
+use Rattle.bl_cparse_syntax_laws.proofs.Told.{all_more}
 
 pub loop-structs-preserved : goal.loop-structs-preserved
 loop-structs-preserved c = record {

@@ -2,8 +2,9 @@ use Rattle.bl_ctext.specs.Spelling.{arg_tokens}
 use Rattle.bl_ctext.specs.Spellable.{spells_arg}
 use Rattle.std.proofs.Common.{rules, sym, ◌∙◌}
 use Rattle.bl_cparse.proofs.ExprOpening.{args_some, args_none, arg_more, args_end}
-use Rattle.bl_cparse.proofs.ListLemmas.{commas_more, any_more, all_more}
+use Rattle.bl_cparse.proofs.ListLemmas.{commas_more, any_more}
 use Rattle.bl_cparse.proofs.parser.place.arguments.Goals as goal
+use Rattle.bl_cparse_syntax_laws.proofs.Told.{all_more}
 
 pub loop-r-preserved : goal.loop-r-preserved
 loop-r-preserved c = record {

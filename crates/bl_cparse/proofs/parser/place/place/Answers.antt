@@ -2,8 +2,9 @@ use Rattle.bl_ctext.specs.Spelling.{step_tokens}
 use Rattle.bl_ctext.specs.Spellable.{spells_step}
 use Rattle.std.proofs.Common.{rules, sym, ◌∙◌}
 use Rattle.bl_cparse.proofs.StmtOpening.{tail_more}
-use Rattle.bl_cparse.proofs.ListLemmas.{joined_more, all_more}
+use Rattle.bl_cparse.proofs.ListLemmas.{joined_more}
 use Rattle.bl_cparse.proofs.parser.place.place.Goals as goal
+use Rattle.bl_cparse_syntax_laws.proofs.Told.{all_more}
 
 pub loop-r-preserved : goal.loop-r-preserved
 loop-r-preserved c = record {

@@ -1,11 +1,11 @@
 use Rattle.std.proofs.Common.{map, refl, ◌∙◌, rules, subst, ◌++◌, ◌∷◌}
 use Rattle.bl_tree.specs.Reduce.{joined}
 use Rattle.bl_ctext.specs.Spelling.{stmt_tokens}
-use Rattle.bl_ctext.proofs.Bytes.{and-fst}
 use Rattle.bl_cparse.specs.inner.Nest.{frame_tokens, spells_frame}
 use Rattle.bl_cparse.proofs.NestLemmas.{all_but, one_more, read_close}
 use Rattle.bl_cparse_syntax.specs.Expects.{Expects}
 use Rattle.std.specs.Prelude.{List, codes}
+use Rattle.bl_tree.proofs.Basics.{and_first}
 use Rattle.bl_cparse_syntax.specs.Grammar.{Wanted}
 use Rattle.bl_cparse.specs.inner.Awaiting.{frame_wanted}
 use Rattle.bl_cparse.specs.inner.Reading.{sign}
@@ -14,11 +14,11 @@ use Rattle.bl_cparse.proofs.parser.stmt.closed.Goals as goal
 
 pub closed_frame-requires-clause-outer : goal.closed_frame-requires-clause-outer
 closed_frame-requires-clause-outer c = (all_but spells_frame c.pop.new.self.items c.args.nest.outer.items c.in-Some.frame
-    c.in-Some.ensures.items (and-fst _ _ c.requires.spells)).0
+    c.in-Some.ensures.items (and_first _ _ c.requires.spells)).0
 
 pub closed_frame-requires-clause-frame : goal.closed_frame-requires-clause-frame
 closed_frame-requires-clause-frame c = (all_but spells_frame c.pop.new.self.items c.args.nest.outer.items c.in-Some.frame
-    c.in-Some.ensures.items (and-fst _ _ c.requires.spells)).1
+    c.in-Some.ensures.items (and_first _ _ c.requires.spells)).1
 
 pub returns-clause-read : goal.returns-clause-read
 returns-clause-read c = (

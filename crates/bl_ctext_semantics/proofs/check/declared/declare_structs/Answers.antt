@@ -1,9 +1,9 @@
 use Rattle.std.proofs.Common.{◌≡◌, ℕ, ◌+◌, ◌∷◌, List, drop, map, ap, ◌∙◌}
+use Rattle.bl_tree.proofs.Basics.{drop_next}
 use Rattle.bl_ctext_semantics.specs.inner.Checked.{checked_structs}
 use Rattle.bl_ctext_semantics.specs.Faults.{depth_of_struct, member_table, struct_table}
 use Rattle.bl_ctext_semantics.specs.inner.Maps.{text_at}
 use Rattle.bl_ctext_semantics.specs.Tables.{with_entry}
-use Rattle.bl_ctext_semantics.proofs.ArgLemmas.{next_of}
 use Rattle.bl_ctext_semantics.proofs.DeclaredLemmas.{struct-next, table-next}
 use Rattle.bl_ctext_semantics.proofs.check.declared.declare_structs.Goals as goal
 
@@ -12,7 +12,7 @@ loop-of-preserved c =
     let s = c.of-item.result in
     let depths = text_at c.loop-of.depths in
     let rest = drop (c.loop-of.of-index + 1) c.args.list.now in
-    let step : drop c.loop-of.of-index c.args.list.now ≡ s ∷ rest = next_of c.args.list.now c.loop-of.of-index s c.loop-of-test.true c.of-item.is in
+    let step : drop c.loop-of.of-index c.args.list.now ≡ s ∷ rest = drop_next c.args.list.now c.loop-of.of-index s c.loop-of-test.true c.of-item.is in
     let deeper : (asked : List ℕ) → text_at c.add.new.map asked ≡ with_entry depths s.name (depth_of_struct depths s) asked =
     λ asked. c.in_ok-add.ensures asked ∙ ap (λ n. with_entry depths n c.struct_depth-depth.result asked) c.as_str.ensures
     ∙ ap (λ d. with_entry depths s.name d asked) c.struct_depth-depth.ensures in (

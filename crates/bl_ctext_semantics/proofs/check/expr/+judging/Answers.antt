@@ -1,7 +1,8 @@
 use Rattle.std.proofs.Common.{◌≡◌, ◌+◌, ◌∷◌, rules, ap, ◌∙◌, ◌&&◌, drop, map, option_map}
+use Rattle.bl_tree.proofs.Basics.{drop_next}
 use Rattle.bl_tree.specs.declared.c.CExpr.{the_lemmas}
 use Rattle.bl_ctext_semantics.proofs.FirstLemmas.{first_place-append}
-use Rattle.bl_ctext_semantics.proofs.ArgLemmas.{next_of, fit-next, handed-next, first-next, fit-done, type-next, place-next}
+use Rattle.bl_ctext_semantics.proofs.ArgLemmas.{fit-next, handed-next, first-next, fit-done, type-next, place-next}
 use Rattle.bl_ctext_semantics.specs.inner.Checked.{context_of, judged_args, signature_for, type_of, fits_nth}
 use Rattle.bl_ctext_semantics.specs.Faults.{judged_arg, judged_step}
 use Rattle.bl_ctext_semantics.proofs.check.expr.+judging.Goals as goal
@@ -31,7 +32,7 @@ judge_args-loop-k-preserved t c =
     let all = judged_args (drop c.loop-k.k c.args.args.now) (context_of c.args.context.now) c.args.at in
     let step : all ≡ a ∷ rest =
     ap (λ xs. judged_args xs (context_of c.args.context.now) c.args.at)
-    (next_of c.args.args.now c.loop-k.k c.index-args-k.result c.loop-k-test.true c.index-args-k.is) in
+    (drop_next c.args.args.now c.loop-k.k c.index-args-k.result c.loop-k-test.true c.index-args-k.is) in
     let fits : c.fits_at.result ≡ fits_nth (option_map signature_for c.args.callee.now) c.loop-k.k a.address a.ty =
     c.fits_at.ensures ∙ ap (λ b. fits_nth (option_map signature_for c.args.callee.now) c.loop-k.k b (option_map type_of c.judge_arg-arg.result.ty))
     c.judge_arg-arg.ensures.address
@@ -55,7 +56,7 @@ judge_steps-loop-step-preserved t c =
     let all = map judged_step (drop c.loop-step.step-index c.args.steps.now) in
     let rest = map judged_step (drop (c.loop-step.step-index + 1) c.args.steps.now) in
     let step : all ≡ judged_step c.step-item.result ∷ rest =
-    ap (map judged_step) (next_of c.args.steps.now c.loop-step.step-index c.step-item.result c.loop-step-test.true c.step-item.is) in (
+    ap (map judged_step) (drop_next c.args.steps.now c.loop-step.step-index c.step-item.result c.loop-step-test.true c.step-item.is) in (
       type-next all rest (judged_step c.step-item.result) (context_of c.args.context.now) c.args.at (option_map type_of c.loop-step.ty) _ _ step
           c.judge_step-next.ensures.ty c.loop-step.invariant.0,
       rw (c.earlier-first.ensures, c.judge_step-next.ensures.first)

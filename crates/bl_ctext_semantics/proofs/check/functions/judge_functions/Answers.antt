@@ -1,9 +1,9 @@
 use Rattle.std.proofs.Common.{◌≡◌, ℕ, ◌+◌, ◌∷◌, List, drop, refl, ap, ◌∙◌}
+use Rattle.bl_tree.proofs.Basics.{drop_next}
 use Rattle.bl_ctext_semantics.specs.inner.Checked.{checked_structs, functions_of}
 use Rattle.bl_ctext_semantics.specs.Faults.{depth_of_function, signature_in}
 use Rattle.bl_ctext_semantics.specs.inner.Maps.{text_at}
 use Rattle.bl_ctext_semantics.specs.Tables.{with_entry}
-use Rattle.bl_ctext_semantics.proofs.ArgLemmas.{next_of}
 use Rattle.bl_ctext_semantics.proofs.DeclaredLemmas.{behind, function-next}
 use Rattle.bl_ctext_semantics.proofs.MapLemmas.{struct_added}
 use Rattle.bl_ctext_semantics.proofs.check.functions.judge_functions.Goals as goal
@@ -13,7 +13,7 @@ loop-k-preserved c =
     let f = c.index-list-k.result in
     let depths = text_at c.loop-k.depths in
     let rest = drop (c.loop-k.k + 1) c.args.list.now in
-    let step : drop c.loop-k.k c.args.list.now ≡ f ∷ rest = next_of c.args.list.now c.loop-k.k f c.loop-k-test.true c.index-list-k.is in
+    let step : drop c.loop-k.k c.args.list.now ≡ f ∷ rest = drop_next c.args.list.now c.loop-k.k f c.loop-k-test.true c.index-list-k.is in
     let deeper : (asked : List ℕ) → text_at c.add.new.map asked ≡ with_entry depths f.name (depth_of_function depths f) asked =
     λ asked. c.in_ok-add.ensures asked ∙ ap (λ n. with_entry depths n c.function_depth-depth.result asked) c.as_str.ensures
     ∙ ap (λ d. with_entry depths f.name d asked) c.function_depth-depth.ensures in

@@ -1,15 +1,15 @@
 use Rattle.std.proofs.Common.{◌≡◌, ◌<◌, get_or, length, map, ap, sym, ◌∙◌, arith}
 use Rattle.std.specs.Prelude.{slice_get}
+use Rattle.bl_tree.proofs.Basics.{map_length}
 use Rattle.bl_ctree_enabled.specs.Listing.{flagged, list_at}
 use Rattle.bl_ctree_enabled.specs.Spots.{spot_of}
 use Rattle.bl_ctree_enabled.proofs.ListLemmas.{list_here, list_map, none_behind_flags, none_behind_lists}
-use Rattle.bl_ctree_enabled.proofs.ListingLemmas.{map_many}
 use Rattle.bl_ctree_enabled.proofs.listing.Listing.nth_of.Goals as goal
 
 pub returns-then-k-len : goal.returns-then-k-len
 returns-then-k-len c =
     none_behind_lists c.args.self.now.free (map (map spot_of) c.args.self.now.points) c.args.k c.args.n
-    (omega (arith, c.if-k-len.true, c.len.ensures, map_many (map spot_of) c.args.self.now.points))
+    (omega (arith, c.if-k-len.true, c.len.ensures, map_length (map spot_of) c.args.self.now.points))
 
 pub returns-then-k-len-2 : goal.returns-then-k-len-2
 returns-then-k-len-2 c =

@@ -1,4 +1,5 @@
 use Rattle.std.proofs.Common.{◌<◌, get_or, length, map, option_map, slice_set, ap, sym, ◌∙◌, arith, subst}
+use Rattle.bl_tree.proofs.Basics.{map_length}
 use Rattle.bl_ctree_store.specs.Seen.{location_of}
 use Rattle.bl_ctree_enabled.specs.Listing.{enabled_view, flags_from, trues}
 use Rattle.bl_ctree_enabled.specs.Spots.{spot_of}
@@ -6,7 +7,6 @@ use Rattle.bl_ctree_enabled.specs.inner.Asked.{DecidedBy, asked_from}
 use Rattle.bl_ctree_enabled.specs.inner.Tables.{AllNoted, reads_in}
 use Rattle.bl_ctree_enabled.proofs.AskLemmas.{all_settled}
 use Rattle.bl_ctree_enabled.proofs.ListLemmas.{map_get, set_here, set_map, set_read}
-use Rattle.bl_ctree_enabled.proofs.ListingLemmas.{map_many}
 use Rattle.bl_ctree_enabled.proofs.ReplaceLemmas.{counts_within, free_within, set_counts, set_flags}
 use Rattle.bl_ctree_enabled.proofs.TableLemmas.{all_grow, all_set}
 use Rattle.bl_ctree_enabled.proofs.listing.Listing.replace.Goals as goal
@@ -105,7 +105,7 @@ returns-clause-right c =
     let spots = map spot_of found.points in
     let all = slice_set (map (map location_of) old.homes) k now in
     let ms = slice_set (map (map spot_of) old.points) k spots in
-    let within : k < length old.homes = omega (arith, c.requires.within, map_many (map location_of) old.homes) in
+    let within : k < length old.homes = omega (arith, c.requires.within, map_length (map location_of) old.homes) in
     let here = map_get (map location_of) old.homes k ∙ ap (option_map (map location_of)) c.put-before.ensures.before in
     let homes_now = ap (map (map location_of)) c.put-before.ensures.now ∙ set_map (map location_of) old.homes k found.homes in
     let spots_now = ap (map (map spot_of)) c.set.ensures ∙ set_map (map spot_of) old.points k found.points in

@@ -1,7 +1,7 @@
 use Rattle.std.proofs.Common.{◌≡◌, ◌+◌, ◌<◌, length, map, suc, arith}
+use Rattle.bl_tree.proofs.Basics.{map_length}
 use Rattle.bl_ctree_store.specs.Seen.{location_of}
 use Rattle.bl_ctree_enabled.proofs.ListLemmas.{map_here}
-use Rattle.bl_ctree_enabled.proofs.ListingLemmas.{map_many}
 use Rattle.bl_ctree_enabled.proofs.TableLemmas.{noted_end, noted_more}
 use Rattle.bl_ctree_enabled.proofs.table.Table.note_all.Goals as goal
 
@@ -20,5 +20,5 @@ loop-at-preserved c =
 pub returns-clause-noted : goal.returns-clause-noted
 returns-clause-noted c =
     let homes = c.args.homes.now in
-    noted_end c.loop-at.self c.args.k (map location_of homes) c.loop-at.at-index (omega (arith, c.loop-at-test.false, map_many location_of homes))
+    noted_end c.loop-at.self c.args.k (map location_of homes) c.loop-at.at-index (omega (arith, c.loop-at-test.false, map_length location_of homes))
     c.loop-at.invariant.0

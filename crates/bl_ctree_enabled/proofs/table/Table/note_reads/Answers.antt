@@ -1,9 +1,9 @@
 use Rattle.std.proofs.Common.{◌≡◌, ◌+◌, ◌<◌, length, map, suc, arith, subst}
+use Rattle.bl_tree.proofs.Basics.{map_length}
 use Rattle.bl_ctree_store.specs.Seen.{location_of}
 use Rattle.bl_ctree_enabled.specs.Spots.{spot_of}
 use Rattle.bl_ctree_enabled.specs.inner.Tables.{Noted}
 use Rattle.bl_ctree_enabled.proofs.ListLemmas.{map_here}
-use Rattle.bl_ctree_enabled.proofs.ListingLemmas.{map_many}
 use Rattle.bl_ctree_enabled.proofs.TableLemmas.{reads_end, reads_more}
 use Rattle.bl_ctree_enabled.proofs.table.Table.note_reads.Goals as goal
 
@@ -23,5 +23,5 @@ loop-point-preserved c =
 pub returns-clause-noted : goal.returns-clause-noted
 returns-clause-noted c =
     let points = c.args.points.now in
-    reads_end c.loop-point.self c.args.k (map spot_of points) c.loop-point.point-index (omega (arith, c.loop-point-test.false, map_many spot_of points))
+    reads_end c.loop-point.self c.args.k (map spot_of points) c.loop-point.point-index (omega (arith, c.loop-point-test.false, map_length spot_of points))
     c.loop-point.invariant.0

@@ -2,20 +2,8 @@ use Rattle.std.proofs.Common.{◌≡◌, ap, sym, ◌∙◌, subst, false, is_no
 use Rattle.std.proofs.lemmas.List.{take_rest}
 use Rattle.bl_rows.specs.Lines.{has_feed}
 use Rattle.bl_rows.specs.Reading.{Reading, Front, rows_in}
-use Rattle.bl_rows.proofs.Scans.{
-  midst_next,
-  midst_same,
-  midst_front,
-  midst_stopped_rows,
-  midst_stopped_fault,
-  midst_kept_rows,
-  midst_kept_fault,
-  midst_kept_state,
-  no_stop,
-  a_stop,
-  map_ok,
-  ok_by,
-}
+use Rattle.bl_rows.proofs.Scans.{midst_next, midst_same, midst_front, midst_stopped_rows, midst_stopped_fault, midst_kept_rows, midst_kept_fault}
+use Rattle.bl_rows.proofs.Scans.{midst_kept_state, no_stop, a_stop, map_ok, ok_by}
 use Rattle.bl_rows.proofs.rows.Rows.take_lines.Goals as goal
 
 pub returns-in_err-taken-clause-front : goal.returns-in_err-taken-clause-front

@@ -1,7 +1,0 @@
-use Rattle.std.proofs.Common.{take}
-use Rattle.bl_cause.specs.Fails.{FailsTwice}
-use Rattle.bl_cause.specs.inner.Graphs.{AnyFails, Finds}
-use Rattle.bl_cause.proofs.judge.first_twice.Given as goal
-
-abbrev pub invariant-loop-graph : goal.invariant-loop-graph
-invariant-loop-graph l = Finds (AnyFails FailsTwice (take l.graph-index l.graphs)) l.first
