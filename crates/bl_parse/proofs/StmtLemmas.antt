@@ -9,7 +9,7 @@ use Rattle.bl_tree.specs.declared.token.Keyword.{Keyword}
 use Rattle.bl_tree.specs.declared.token.Keyword.TheVariants as keyword
 use Rattle.bl_tree.specs.Keywords.{same_word}
 use Rattle.bl_parse_syntax.specs.declared.grammar.Class.{Class}
-use Rattle.bl_parse_syntax.specs.declared.grammar.Class.TheVariants.{Keyword}
+use Rattle.bl_parse_syntax.specs.declared.grammar.Class.TheVariants.{Keyword as KeywordClass}
 use Rattle.bl_parse_syntax.specs.declared.grammar.Part.TheVariants.{Stmt}
 use Rattle.bl_parse_syntax.specs.Grammar.{Piece, the, productions}
 use Rattle.bl_parse_syntax.specs.Follow.{statement_starts}
