@@ -1,5 +1,6 @@
 //! The laws of the C of a program's parts, put together.
 
+ghost use Rattle.bl_tree.specs.declared.program.Program.{Program};
 ghost use Rattle.bl_emit_file.specs.Laws.{ProgramsShow};
 
 use bl_emit_laws::accepted::programs_well_formed;
@@ -12,22 +13,21 @@ use bl_emit_spec_laws_files::entry::entry_runs;
 use bl_emit_spec_laws_files::files::rows_suffice;
 use bl_emit_spec_laws_simulation::compiled::programs_compile;
 use bl_emit_spec_laws_simulation::simulation::compiled_simulate;
-use bl_tree::Program;
 
 /// What is written of a program for which no rule fails shows what the program means.
-pub fn programs_show(program: &Program)
-    ensures { ProgramsShow program.now }
+pub fn programs_show()
+    ensures { (program : Program) → ProgramsShow program }
 {
     activities_built();
-    programs_compile(program);
-    compiled_simulate(program);
+    programs_compile();
+    compiled_simulate();
     rows_suffice();
     entry_runs();
-    written_shows(program);
-    programs_well_formed(program);
-    files_count(program);
-    files_small(program);
-    files_own(program);
-    files_have_ifs(program);
-    frames_have_width(program);
+    written_shows();
+    programs_well_formed();
+    files_count();
+    files_small();
+    files_own();
+    files_have_ifs();
+    frames_have_width();
 }

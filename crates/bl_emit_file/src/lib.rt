@@ -38,8 +38,8 @@ pub fn c_file(alloc: Global, accepted: &Accepted) -> Result<CFile, NoMemory>
 {
     let program = accepted.program();
     accepted.is_accepted();
-    programs_show(program);
-    programs_spelled(program);
+    programs_show();
+    programs_spelled();
     written_is_told();
     let machine = Machine::of(alloc, accepted)?;
     let merged = merge(alloc, &machine, accepted)?;
