@@ -49,12 +49,16 @@ units_told structs earlier remember (unit ∷ units) (test ∷ needed) machine =
     parts_then (where_needed test here)
     (units_told structs (earlier ++ unit ∷ []) (remember ++ here.remember) units needed (if is_activity unit.kind then drop 1 machine else machine))
 
+-- the file of units with these parts, where the entry may be absent: it has the ports of this unit
+abbrev pub file_told : Program → List UnitDef → ProgramParts → Option UnitDef → Written
+file_told program units parts (Some unit) = file_of program.structs units program.entry parts unit
+file_told program units parts None = record { structs = []; funcs = [] }
+
 -- what is written of a program with a machine, where the entry may be absent
 abbrev pub written_told_at : Program → List InMachine → Option UnitDef → Written
-written_told_at program machine (Some unit) =
+written_told_at program machine o =
     let units = shown_units program.units program.entry in
-    file_of program.structs units program.entry (units_told program.structs [] [] units (needed_units units program.entry) machine) unit
-written_told_at program machine None = record { structs = []; funcs = [] }
+    file_told program units (units_told program.structs [] [] units (needed_units units program.entry) machine) o
 
 -- what is written of a program with a machine
 abbrev pub written_told : Program → List InMachine → Written

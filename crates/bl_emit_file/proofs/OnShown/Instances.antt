@@ -2,8 +2,8 @@
 use Rattle.std.proofs.Common.{◌≡◌, ◌⊎◌, ⊎_elim, inl, inr, ℕ, zero, suc, ◌+◌, ◌<◌, ◌≤◌, arith, Bool, true, false, ◌||◌, List, [], ◌∷◌, ◌++◌, Contains, map, take, length}
 use Rattle.std.proofs.Common.{Option, Some, None, refl, sym, ap, ap₂, ◌∙◌, subst}
 use Rattle.std.proofs.lemmas.Option.{same_Some}
-use Rattle.std.specs.Prelude.{nat_eq, option_and_then, option_map, range_with_len, slice_get, unwrap_or, if◌then◌else◌}
-use Rattle.std.specs.List.{list_any}
+use Rattle.std.specs.Prelude.{nat_eq, option_and_then, option_map, slice_get, unwrap_or, if◌then◌else◌}
+use Rattle.std.specs.List.{list_any, range_with_len}
 use Rattle.std.proofs.lemmas.List.Elements.{All-contains}
 use Rattle.bl_tree.proofs.Basics.{contains_first, contains_further, less_or_not, same_number}
 use Rattle.bl_tree.specs.declared.tree.StructDef.{StructDef}
@@ -64,58 +64,69 @@ module _ (structs : List StructDef) (units : List UnitDef) (entry : ℕ) (unit :
   abbrev opened : (ℕ → List Instance) → ℕ → Option UnitDef → List Instance
   opened alone k o = unwrap_or (option_map (λ (one : UnitDef). root k ∷ instances_below alone 1 (runs_of one)) o) []
 
-  expanded_same : (longest k : ℕ) → k ≤ entry → expanded shown longest k ≡ expanded units longest k
-  expanded_same zero k few = refl
-  expanded_same (suc longest) k few = ⊎_elim before at_entry (less_or_not k entry)
+  abbrev Deeper : ℕ → Type 0
+  Deeper longest = (k : ℕ) → k ≤ entry → expanded shown longest k ≡ expanded units longest k
+
+  inner_same : (longest k : ℕ) → k ≤ entry → Deeper longest → (one : UnitDef) → slice_get units k ≡ Some one →
+      instances_below (expanded shown longest) 1 (runs_of one) ≡ instances_below (expanded units longest) 1 (runs_of one)
+  inner_same longest k few deeper one at =
+      below_same (expanded shown longest) (expanded units longest) 1 (runs_of one)
+      (λ run has. let less = run_earlier k one at run has in deeper run.unit (omega (arith, less, few)))
+
+  opened_same : (longest k : ℕ) → k ≤ entry → Deeper longest → (o : Option UnitDef) → slice_get units k ≡ o →
+      opened (expanded shown longest) k o ≡ opened (expanded units longest) k o
+  opened_same longest k few deeper None is = refl
+  opened_same longest k few deeper (Some one) is = ap (λ rest. root k ∷ rest) (inner_same longest k few deeper one is)
+
+  step_same : (longest k : ℕ) → k ≤ entry → Deeper longest → expanded shown (suc longest) k ≡ expanded units (suc longest) k
+  step_same longest k few deeper = ⊎_elim before at_entry (less_or_not k entry)
     where
-      inner : (one : UnitDef) → slice_get units k ≡ Some one →
-          instances_below (expanded shown longest) 1 (runs_of one) ≡ instances_below (expanded units longest) 1 (runs_of one)
-      inner one at =
-          below_same (expanded shown longest) (expanded units longest) 1 (runs_of one)
-          (λ run has. let less = run_earlier k one at run has in expanded_same longest run.unit (omega (arith, less, few)))
-
-      by_option : (o : Option UnitDef) → slice_get units k ≡ o → opened (expanded shown longest) k o ≡ opened (expanded units longest) k o
-      by_option None is = refl
-      by_option (Some one) is = ap (λ rest. root k ∷ rest) (inner one is)
-
       before : k < entry → expanded shown (suc longest) k ≡ expanded units (suc longest) k
       before less =
-          ap (opened (expanded shown longest) k) (shown_before are k less) ∙ by_option (slice_get units k) refl
+          ap (opened (expanded shown longest) k) (shown_before are k less) ∙ opened_same longest k few deeper (slice_get units k) refl
 
       at_entry : entry ≤ k → expanded shown (suc longest) k ≡ expanded units (suc longest) k
       at_entry more =
           let same : k ≡ entry = omega (arith, few, more) in
           ap (λ j. opened (expanded shown longest) k (slice_get shown j)) same
           ∙ ap (opened (expanded shown longest) k) (shown_entry are unit there)
-          ∙ ap (λ rest. root k ∷ rest) (inner unit (ap (slice_get units) same ∙ there))
+          ∙ ap (λ rest. root k ∷ rest) (inner_same longest k few deeper unit (ap (slice_get units) same ∙ there))
           ∙ sym (ap (λ j. opened (expanded units longest) k (slice_get units j)) same ∙ ap (opened (expanded units longest) k) there)
+
+  expanded_same : (longest : ℕ) → Deeper longest
+  expanded_same zero k few = refl
+  expanded_same (suc longest) k few = step_same longest k few (expanded_same longest)
 
   pub instances_same : instances_of shown entry ≡ instances_of units entry
   instances_same = expanded_same (entry + 1) entry (omega arith)
 
   -- ---- which units have instances
 
-  record Low (instance : Instance) : Type 0 where
-    few : instance.unit ≤ entry
-    called : (origin : Origin) → instance.origin ≡ Some origin → instance.unit < entry
+  pub record Low (instance : Instance) : Type 0 where
+    pub few : instance.unit ≤ entry
+    pub called : (origin : Origin) → instance.origin ≡ Some origin → instance.unit < entry
 
-  low_below : (n i : ℕ) (instance : Instance) → i < n → slice_get (instances_of units entry) i ≡ Some instance → Low instance
+  abbrev LowBelow : ℕ → Type 0
+  LowBelow n = (i : ℕ) (instance : Instance) → i < n → slice_get (instances_of units entry) i ≡ Some instance → Low instance
+
+  low_called : (n i : ℕ) (instance : Instance) → i < suc n → LowBelow n → (o : Option Origin) → instance.origin ≡ o →
+      HasCaller units entry (instances_of units entry) i instance o → Low instance
+  low_called n i instance less below None is has =
+      let same : instance.unit ≡ entry = has.2 in
+      record { few = omega (arith, same); called = λ origin other. absurd (let no : None ≡ Some origin = sym is ∙ other in cc) }
+  low_called n i instance less below (Some origin) is has =
+      let first = has.earlier in
+      let caller = below origin.caller has.caller (omega (arith, less, first)) has.there in
+      let run = run_earlier has.caller.unit has.unit has.body has.run has.runs in
+      let few = caller.few in
+      let named = has.names in
+      record { few = omega (arith, run, few, named); called = λ other given. omega (arith, run, few, named) }
+
+  low_below : (n : ℕ) → LowBelow n
   low_below zero i instance less at = absurd (omega (arith, less))
-  low_below (suc n) i instance less at = by instance.origin refl (callers units entry i instance at)
-    where
-      by : (o : Option Origin) → instance.origin ≡ o → HasCaller units entry (instances_of units entry) i instance o → Low instance
-      by None is has =
-          let same : instance.unit ≡ entry = has.2 in
-          record { few = omega (arith, same); called = λ origin other. absurd (let no : None ≡ Some origin = sym is ∙ other in cc) }
-      by (Some origin) is has =
-          let first = has.earlier in
-          let caller = low_below n origin.caller has.caller (omega (arith, less, first)) has.there in
-          let run = run_earlier has.caller.unit has.unit has.body has.run has.runs in
-          let few = caller.few in
-          let named = has.names in
-          record { few = omega (arith, run, few, named); called = λ other given. omega (arith, run, few, named) }
+  low_below (suc n) i instance less at = low_called n i instance less (low_below n) instance.origin refl (callers units entry i instance at)
 
-  low : (i : ℕ) (instance : Instance) → slice_get (instances_of units entry) i ≡ Some instance → Low instance
+  pub low : (i : ℕ) (instance : Instance) → slice_get (instances_of units entry) i ≡ Some instance → Low instance
   low i instance at = low_below (suc i) i instance (omega arith) at
 
   -- the unit of an instance is shown as it is, or it is the entry
@@ -175,13 +186,14 @@ module _ (structs : List StructDef) (units : List UnitDef) (entry : ℕ) (unit :
       by None is = refl
       by (Some instance) is = by_origin instance (low at.instance instance is) instance.origin refl
 
+  within_next : (d : ℕ) (at : Location) → ((next : Location) → home_within W' d next ≡ home_within W d next) → (o : Option Location) →
+      unwrap_or (option_map (home_within W' d) o) at ≡ unwrap_or (option_map (home_within W d) o) at
+  within_next d at deeper None = refl
+  within_next d at deeper (Some next) = deeper next
+
   within_same : (d : ℕ) (at : Location) → home_within W' d at ≡ home_within W d at
   within_same zero at = refl
-  within_same (suc d) at = ap (λ o. unwrap_or (option_map (home_within W' d) o) at) (led_same at) ∙ by (led W at)
-    where
-      by : (o : Option Location) → unwrap_or (option_map (home_within W' d) o) at ≡ unwrap_or (option_map (home_within W d) o) at
-      by None = refl
-      by (Some next) = within_same d next
+  within_same (suc d) at = ap (λ o. unwrap_or (option_map (home_within W' d) o) at) (led_same at) ∙ within_next d at (within_same d) (led W at)
 
   depth_same : (i : ℕ) → depth_at W' i ≡ depth_at W i
   depth_same i = ap (λ instances. unwrap_or (option_map (λ (instance : Instance). instance.depth) (slice_get instances i)) 0) instances_same
@@ -212,16 +224,17 @@ module _ (structs : List StructDef) (units : List UnitDef) (entry : ℕ) (unit :
   origin_same : (k : ℕ) → origin_at W' k ≡ origin_at W k
   origin_same k = ap (λ instances. option_and_then (λ (instance : Instance). instance.origin) (slice_get instances k)) instances_same
 
+  under_next : (d j : ℕ) → ((k : ℕ) → is_under W' d j k ≡ is_under W d j k) → (o : Option Origin) →
+      unwrap_or (option_map (λ (origin : Origin). is_under W' d j origin.caller) o) false
+      ≡ unwrap_or (option_map (λ (origin : Origin). is_under W d j origin.caller) o) false
+  under_next d j deeper None = refl
+  under_next d j deeper (Some origin) = deeper origin.caller
+
   under_same : (d j k : ℕ) → is_under W' d j k ≡ is_under W d j k
   under_same zero j k = refl
   under_same (suc d) j k =
       ap (λ o. nat_eq k j || unwrap_or (option_map (λ (origin : Origin). is_under W' d j origin.caller) o) false) (origin_same k)
-      ∙ ap (λ b. nat_eq k j || b) (by (origin_at W k))
-    where
-      by : (o : Option Origin) → unwrap_or (option_map (λ (origin : Origin). is_under W' d j origin.caller) o) false
-          ≡ unwrap_or (option_map (λ (origin : Origin). is_under W d j origin.caller) o) false
-      by None = refl
-      by (Some origin) = under_same d j origin.caller
+      ∙ ap (λ b. nat_eq k j || b) (under_next d j (under_same d j) (origin_at W k))
 
   one_cleared : (j : ℕ) (frames : Frames) (k c : ℕ) → cleared W' j frames k c ≡ cleared W j frames k c
   one_cleared j frames k c =

@@ -68,10 +68,10 @@ parts_of_machine structs earlier remember (unit ∷ units) [] machine = refl
 parts_of_machine structs earlier remember (unit ∷ units) (test ∷ needed) machine =
     by (active unit) machine (λ remember machine. parts_of_machine structs (earlier ++ unit ∷ []) remember units needed machine)
   where
-    abbrev here : Bool → List InMachine → ProgramParts
+    here : Bool → List InMachine → ProgramParts
     here b machine = if b then parts_of_next structs earlier remember unit machine else parts_of_function structs earlier unit
 
-    abbrev whole : Bool → List InMachine → ProgramParts
+    whole : Bool → List InMachine → ProgramParts
     whole b machine =
         parts_then (where_needed test (here b machine))
         (parts_from structs (earlier ++ unit ∷ []) (remember ++ (here b machine).remember) units needed (if b then drop 1 machine else machine))
