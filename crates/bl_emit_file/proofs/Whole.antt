@@ -113,7 +113,8 @@ has_width ShownAs.lent has = record { frame = has.frame; there = has.there; name
 has_flags : {unit one : UnitDef} {part : InMachine} {function : CFunc} {ifs : List CStmt} → ShownAs unit one → HasFlagForEach one part function ifs →
     HasFlagForEach unit part function ifs
 has_flags ShownAs.as_it_is has = has
-has_flags ShownAs.lent has = has
+has_flags ShownAs.lent has =
+    record { own = has.own; each = has.each; all = has.all; many = has.many; asked = has.asked; decided = has.decided }
 
 has_ifs : {unit one : UnitDef} {part part' : Option InMachine} {file : Parts} → ShownAs unit one →
     ((found : InMachine) → part' ≡ Some found → part ≡ Some found) → FunctionHasIfs one part' file → FunctionHasIfs unit part file

@@ -125,8 +125,8 @@ module _ (w w' : Setting) (rank rank' : ℕ → Node → ℕ) (slots slots' : �
     performed : {i : ℕ} {n : Node} {frames : Frames} {store : Store} {answer : Bool} {frames' : Frames} {left : Store} →
         Performs w rank slots clear i n frames store answer frames' left → Performs w' rank' slots' clear i n frames store answer frames' left
     performed {i} {n} {frames} {store} (Performs.does point yields) = Performs.does point (same.deeds (deed_at i n) store ∙ yields)
-    performed {i = i} {frames = frames} {store = store} (Performs.enters {at} {arguments} {given} {frames'} {left} {r'} {callee} {unit = one} calls at yields more lasts) =
-        let found = same.units callee one at in
+    performed {i = i} {frames = frames} {store = store} (Performs.enters {at} {arguments} {given} {frames'} {left} {r'} {callee} {unit = one} calls is yields more lasts) =
+        let found = same.units callee one is in
         Performs.enters {callee = callee} {unit = found.0} (same.callees i at ∙ calls) found.1 (same.deeds (deed i at (Copies callee arguments.inputs)) store ∙ yields)
         (subst (λ r. Executes w' rank' slots' clear callee 0 (clear callee frames) given (view_at w' given callee).now r frames' left r')
         (sym (begun_same callee one found.0 found.2))
@@ -168,8 +168,8 @@ module _ (w w' : Setting) (rank rank' : ℕ → Node → ℕ) (slots slots' : �
         NodeTraps.inputs_stop {callee = callee} (same.callees i at ∙ calls) (same.deeds (deed i at (Copies callee arguments.inputs)) store ∙ fails)
     node_traps {i = i} {store = store} (NodeTraps.copies_stop {at} {arguments} {callee} calls fails) =
         NodeTraps.copies_stop {callee = callee} (same.callees i at ∙ calls) (same.deeds (deed i at (Copies callee arguments.inputs)) store ∙ fails)
-    node_traps {i = i} {frames = frames} {store = store} (NodeTraps.begun_stops {at} {arguments} {given} {callee} {unit = one} calls at yields more) =
-        let found = same.units callee one at in
+    node_traps {i = i} {frames = frames} {store = store} (NodeTraps.begun_stops {at} {arguments} {given} {callee} {unit = one} calls is yields more) =
+        let found = same.units callee one is in
         NodeTraps.begun_stops {callee = callee} {unit = found.0} (same.callees i at ∙ calls) found.1 (same.deeds (deed i at (Copies callee arguments.inputs)) store ∙ yields)
         (subst (λ r. PassTraps w' rank' slots' clear callee 0 (clear callee frames) given (view_at w' given callee).now r)
         (sym (begun_same callee one found.0 found.2))

@@ -1,28 +1,33 @@
 -- Runs by rules where units are shown: they show the inputs too.
-use Rattle.std.proofs.Common.{◌≡◌, ◌⊎◌, ⊎_elim, ℕ, ℤ, zero, suc, ◌+◌, ◌≤◌, arith, Bool, true, false, List, [], ◌∷◌, drop, map, take, length, Option, Some, None, refl, sym, ap, ap₂}
+use Rattle.std.proofs.Common.{◌≡◌, ⊎_elim, ℕ, ℤ, zero, suc, ◌+◌, ◌<◌, ◌≤◌, arith, true, false, List, [], ◌∷◌, drop, map, take, length, Option, Some, None, refl, sym, ap, ap₂}
 use Rattle.std.proofs.Common.{◌∙◌, subst}
 use Rattle.std.specs.Prelude.{option_and_then, option_map, slice_get, unwrap_or}
+use Rattle.bl_tree.proofs.Basics.{less_or_not}
 use Rattle.bl_tree.specs.declared.row.Last.TheVariants.{Open, Ended as HasEnded, Trap as HasTrapped}
 use Rattle.bl_tree.specs.declared.row.Trace.{Trace}
 use Rattle.bl_tree.specs.declared.tree.StructDef.{StructDef}
 use Rattle.bl_tree.specs.declared.tree.Unit.{Unit as UnitDef}
+use Rattle.bl_tree.specs.declared.tree.Var.{Var}
 use Rattle.bl_tree.specs.declared.value.Value.{Value}
 use Rattle.bl_tree.specs.Typing.{is_activity}
 use Rattle.bl_eval.specs.Values.{zero_of}
 use Rattle.bl_limits_measures.specs.Uses.{UsesEarlier}
 use Rattle.bl_graph_nodes.specs.Nodes.{Node}
+use Rattle.bl_graph_nodes.specs.Plain.{plain_body}
 use Rattle.bl_ctree.specs.declared.instance.Instance.{Instance}
 use Rattle.bl_ctree.specs.Instances.{Setting, callee_of, expanded, instances_below, instances_of, runs_of, setting_of, unit_at, unit_of}
-use Rattle.bl_ctree.specs.Store.{Frame, Store, first_frame, first_store, frame_at_first, number_or_zero, outputs_of_frame, outputs_row, view_at, woken_store}
+use Rattle.bl_ctree.specs.Store.{Frame, Store, first_frame, first_store, frame_at_first, number_or_zero, outputs_of_frame, outputs_row, view_at, woken_store, zero_result}
 use Rattle.bl_ctree_laws_confluence.specs.Deeds.Origins.{InstancesHaveCallers}
 use Rattle.bl_machine.specs.declared.machine.Activity.{Activity as InMachine}
 use Rattle.bl_machine.specs.Uses.{Slots}
 use Rattle.bl_machine_laws.specs.Traces.Runs.{no_row, row_before}
-use Rattle.bl_machine_pass.specs.Registers.{Registers, with_at}
+use Rattle.bl_machine_pass.specs.Registers.{Registers, started, with_at}
+use Rattle.bl_machine_pass_laws.specs.Turns.Laws.{entry_flag}
 use Rattle.bl_machine_pass_laws_execution.specs.Executes.{Executes, PassTraps, begun_registers}
 use Rattle.bl_machine_pass_laws_execution.specs.Frames.{Frames}
 use Rattle.bl_machine_pass_laws_execution.specs.Runs.{RuleRun, TickStarts}
-use Rattle.bl_emit_spec.proofs.LentLemmas.{lent_mapped}
+use Rattle.bl_emit_spec.proofs.LentLemmas.{drop_none, lent_mapped}
+use Rattle.bl_emit_spec.specs.Activities.{activity_view}
 use Rattle.bl_emit_spec.specs.Lent.{lent_unit}
 use Rattle.bl_emit_spec_laws.specs.Calls.Built.{Activities, cleared, rank_by, slots_by, unit_number}
 use Rattle.bl_emit_spec_laws.specs.Tables.Tables.{activities_of}
@@ -39,26 +44,23 @@ use Rattle.bl_emit_file.proofs.OnShown.Units.{Shown, ShownAs, same_body, shown_b
 
 map_at : {A B : Type 0} (f g : A → B) (xs : List A) → ((k : ℕ) (x : A) → slice_get xs k ≡ Some x → f x ≡ g x) → map f xs ≡ map g xs
 map_at f g [] each = refl
-map_at f g (x ∷ xs) each = ap₂ (λ (y : B) (ys : List B). y ∷ ys) (each 0 x refl) (map_at f g xs (λ k. each (suc k)))
+map_at {B = B} f g (x ∷ xs) each = ap₂ (λ (y : B) (ys : List B). y ∷ ys) (each 0 x refl) (map_at f g xs (λ k. each (suc k)))
 
 drop_mapped : {A B : Type 0} (f : A → B) (n : ℕ) (xs : List A) → drop n (map f xs) ≡ map f (drop n xs)
-drop_mapped f zero xs = Rattle.bl_emit_spec.proofs.LentLemmas.drop_none (map f xs) ∙ ap (map f) (sym (Rattle.bl_emit_spec.proofs.LentLemmas.drop_none xs))
+drop_mapped f zero xs = drop_none (map f xs) ∙ ap (map f) (sym (drop_none xs))
 drop_mapped f (suc n) [] = refl
 drop_mapped f (suc n) (x ∷ xs) = drop_mapped f n xs
+
+taken_none : {A : Type 0} (m : ℕ) → take {A = A} m [] ≡ []
+taken_none zero = refl
+taken_none (suc m) = refl
 
 drop_taken : {A : Type 0} (n m : ℕ) (xs : List A) → drop n (take (n + m) xs) ≡ take m (drop n xs)
 drop_taken zero m xs =
     let none : 0 + m ≡ m = omega arith in
-    Rattle.bl_emit_spec.proofs.LentLemmas.drop_none (take (0 + m) xs) ∙ ap (λ k. take k xs) none
-    ∙ ap (take m) (sym (Rattle.bl_emit_spec.proofs.LentLemmas.drop_none xs))
-drop_taken (suc n) m [] = ap (λ k. drop (suc n) (take k [])) more ∙ sym (taken_none m)
-  where
-    more : suc n + m ≡ suc (n + m)
-    more = omega arith
-
-    taken_none : (m : ℕ) → take m [] ≡ []
-    taken_none zero = refl
-    taken_none (suc m) = refl
+    drop_none (take (0 + m) xs) ∙ ap (λ k. take k xs) none ∙ ap (take m) (sym (drop_none xs))
+drop_taken (suc n) m [] =
+    let more : suc n + m ≡ suc (n + m) = omega arith in ap (λ k. drop (suc n) (take k [])) more ∙ sym (taken_none m)
 drop_taken (suc n) m (x ∷ xs) =
     let more : suc n + m ≡ suc (n + m) = omega arith in ap (λ k. drop (suc n) (take k (x ∷ xs))) more ∙ drop_taken n m xs
 
@@ -110,7 +112,7 @@ module _ (structs : List StructDef) (units : List UnitDef) (entry : ℕ) (unit :
 
   rank_is : (i : ℕ) → rank_by W' A' i ≡ rank_by W A i
   rank_is i =
-      ap (λ k. (Rattle.bl_emit_spec.specs.Activities.activity_view (A' k)).number) (number_is i)
+      ap (λ k. (activity_view (A' k)).number) (number_is i)
       ∙ (λ j n. order_same structs units shown entry are unit there active machine (unit_number W i) (number_few i) n j)
 
   slots_is : (i : ℕ) → slots_by W' A' i ≡ slots_by W A i
@@ -129,17 +131,17 @@ module _ (structs : List StructDef) (units : List UnitDef) (entry : ℕ) (unit :
   -- ---- the first store
 
   frame_same : (i : ℕ) (instance : Instance) → slice_get (instances_of units entry) i ≡ Some instance → frame_at_first W' instance ≡ frame_at_first W instance
-  frame_same i instance is = ⊎_elim before at_entry (Rattle.bl_tree.proofs.Basics.less_or_not instance.unit entry)
+  frame_same i instance is = ⊎_elim before at_entry (less_or_not instance.unit entry)
     where
       first : Option UnitDef → Frame
       first o = unwrap_or (option_map (first_frame structs) o) (record { now = []; before = []; result = None })
 
       lent_first : first_frame structs (lent_unit unit) ≡ first_frame structs unit
       lent_first =
-          λ j. let zeros = lent_mapped (λ (var : Rattle.bl_tree.specs.declared.tree.Var.Var). zero_of structs var.ty) (λ var. refl) unit.vars j in
-          record { now = zeros; before = zeros; result = Rattle.bl_ctree.specs.Store.zero_result unit.result }
+          λ j. let zeros = lent_mapped (λ (var : Var). zero_of structs var.ty) (λ var. refl) unit.vars j in
+          record { now = zeros; before = zeros; result = zero_result unit.result }
 
-      before : Rattle.std.proofs.Common.◌<◌ instance.unit entry → frame_at_first W' instance ≡ frame_at_first W instance
+      before : instance.unit < entry → frame_at_first W' instance ≡ frame_at_first W instance
       before less = ap first (shown_before are instance.unit less)
 
       at_entry : entry ≤ instance.unit → frame_at_first W' instance ≡ frame_at_first W instance
@@ -161,7 +163,7 @@ module _ (structs : List StructDef) (units : List UnitDef) (entry : ℕ) (unit :
   at_shown : unit_at W' 0 ≡ Some (lent_unit unit)
   at_shown = entry_is structs shown entry (lent_unit unit) (shown_entry are unit there)
 
-  row_of : UnitDef → Store → List ℤ
+  abbrev row_of : UnitDef → Store → List ℤ
   row_of one left = unwrap_or (option_map (outputs_of_frame one) (slice_get left 0)) []
 
   row_at : (w : Setting) (one : UnitDef) (left : Store) → unit_at w 0 ≡ Some one → outputs_row w left ≡ row_of one left
@@ -171,7 +173,7 @@ module _ (structs : List StructDef) (units : List UnitDef) (entry : ℕ) (unit :
   frame_row frame =
       drop_mapped number_or_zero unit.inputs (take (unit.inputs + unit.outputs) (drop 0 frame.now))
       ∙ ap (λ (now : List Value). map number_or_zero (drop unit.inputs (take (unit.inputs + unit.outputs) now)))
-      (Rattle.bl_emit_spec.proofs.LentLemmas.drop_none frame.now)
+      (drop_none frame.now)
       ∙ ap (map number_or_zero) (drop_taken unit.inputs unit.outputs frame.now)
 
   dropped_none : (n : ℕ) → drop {A = ℤ} n [] ≡ []
@@ -200,10 +202,10 @@ module _ (structs : List StructDef) (units : List UnitDef) (entry : ℕ) (unit :
   starts : (frames : Frames) (r : Registers) → TickStarts (rank_by W A) unit frames r → TickStarts (rank_by W' A') (lent_unit unit) frames r
   starts frames _ (TickStarts.begins is) =
       subst (λ r. TickStarts (rank_by W' A') (lent_unit unit) frames r)
-      (ap (λ number. Rattle.bl_machine_pass.specs.Registers.started (λ k. 0)
-      (Rattle.bl_machine_pass_laws.specs.Turns.Laws.entry_flag number (Rattle.bl_graph_nodes.specs.Plain.plain_body unit.body))) (rank_is 0))
+      (ap (λ number. started (λ k. 0)
+      (entry_flag number (plain_body unit.body))) (rank_is 0))
       (TickStarts.begins is)
-  starts frames _ (TickStarts.goes_on no) = TickStarts.goes_on no
+  starts frames _ (TickStarts.goes_on stands) = TickStarts.goes_on stands
 
   view_is : (store : Store) → (view_at W store 0).now ≡ (view_at W' store 0).now
   view_is store = ap (λ view. view.now) (sym (instances.view_same structs units entry unit there shown are uses callers store 0))

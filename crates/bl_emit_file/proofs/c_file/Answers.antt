@@ -17,7 +17,7 @@ invariant_of-result c =
     c.requires.text (all_countable c.args.accepted.now.program.units c.requires.small) c.in_ok-machine.ensures.program
     c.in_ok-merged.ensures.program c.in_ok-merged.ensures.merged c.is_machine.ensures c.written_is_told.ensures
     c.in_ok-made.ensures in
-    record { spellable = made_spelled tree machine.activities made (c.programs_have_spelling.ensures tree machine.activities it.known) it }
+    record { spellable = made_spelled program machine.activities made (c.programs_have_spelling.ensures program machine.activities it.known) it }
 
 pub returns-clause-shows : goal.returns-clause-shows
 returns-clause-shows c =
@@ -28,7 +28,7 @@ returns-clause-shows c =
     c.requires.text (all_countable c.args.accepted.now.program.units c.requires.small) c.in_ok-machine.ensures.program
     c.in_ok-merged.ensures.program c.in_ok-merged.ensures.merged c.is_machine.ensures c.written_is_told.ensures
     c.in_ok-made.ensures in
-    file_shows tree machine.activities made (c.programs_show.ensures tree) it.known it.is
+    file_shows program machine.activities made (c.programs_show.ensures program) it.known it.is
 
 pub returns-clause-merged : goal.returns-clause-merged
 returns-clause-merged c =
