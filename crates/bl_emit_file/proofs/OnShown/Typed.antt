@@ -23,7 +23,7 @@ use Rattle.bl_tree.specs.Within.{StandsIn, StandsInUnits}
 use Rattle.bl_tree.specs.Words.{are_distinct, is_name}
 use Rattle.bl_emit_spec.proofs.LentLemmas.{lent_all, lent_dropped, lent_many, lent_mapped, lent_names, lent_outputs, lent_parameter_names, lent_parameters_all, lent_parts}
 use Rattle.bl_emit_spec.specs.Lent.{lent_role, lent_unit, lent_var}
-use Rattle.bl_emit_laws.proofs.OnFormed.Ports.{front_differs}
+use Rattle.bl_emit_structs_laws_wellformed.proofs.OnNames.Named.{distinct_front}
 use Rattle.bl_emit_file.proofs.OnShown.Fitting.{fits_lent}
 use Rattle.bl_emit_file.proofs.OnShown.Units.{Shown, ShownAs, shown_among, shown_entry}
 
@@ -197,7 +197,7 @@ shown_typed structs units shown n unit are there keeps =
     record {
       named = and_first (list_all is_name (all_names structs shown)) (list_all is_name first.0)
           (sym (list_all-append is_name (all_names structs shown) first.0) ∙ ap (list_all is_name) (sym names) ∙ keeps.named);
-      distinct = front_differs (all_names structs shown) first.0 (ap are_distinct (sym names) ∙ keeps.distinct);
+      distinct = distinct_front (all_names structs shown) first.0 (ap are_distinct (sym names) ∙ keeps.distinct);
       structs_stand = keeps.structs_stand;
       units_stand = units_stand structs are (entry_active (slice_get units n) keeps.entry_stands) [] keeps.units_stand;
       entry_stands = ap is_entry (shown_entry are unit there) ∙ entry_lent (slice_get units n) unit there keeps.entry_stands;

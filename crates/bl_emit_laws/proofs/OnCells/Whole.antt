@@ -346,7 +346,7 @@ module _ (program : Program)
       let front : greatest (chains_after K no_entries parts.funcs) ≤ reach entry = walked.under (reach entry) needed_less in
       let first : chain_cells K chains init ≤ 1 = init_cells unit remembers K chains in
       let own : entry_or 0 chains_then (unit_name unit.name) ≤ reach entry =
-      entry_less (chains (unit_name unit.name)) (bytes_eq (codes "bl_init") (unit_name unit.name)) (chain_cells K chains init) (reach entry)
+      at_most (chains (unit_name unit.name)) (bytes_eq (codes "bl_init") (unit_name unit.name)) (chain_cells K chains init) (reach entry)
       (walked.knows.bound entry (lent_unit unit) there) (λ no. absurd (cc)) in
       let second : chain_cells K chains_then tick ≤ entry_or 0 chains_then (unit_name unit.name) + 4 = tick_cells unit remembers K chains_then in
       subst (λ all. greatest all ≤ reach entry + 4) (sym (chains_append K parts.funcs (init ∷ tick ∷ []) no_entries))

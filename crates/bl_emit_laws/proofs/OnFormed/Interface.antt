@@ -1,6 +1,6 @@
 -- Nothing fails in the two functions of the interface.
-use Rattle.std.proofs.Common.{◌≡◌, ℕ, ◌≤◌, pos, Bool, true, false, ◌&&◌, List, [], ◌∷◌, ◌++◌, map, Option}
-use Rattle.std.proofs.Common.{Some, None, refl, sym, ap, ◌∙◌, subst, append_assoc, arith, codes}
+use Rattle.std.proofs.Common.{◌≡◌, ℕ, ◌≤◌, pos, Bool, true, false, ◌&&◌, List, [], ◌∷◌, ◌++◌, map, Option, Some, None, refl, sym, ap, ◌∙◌, subst, append_assoc}
+use Rattle.std.proofs.Common.{arith, codes}
 use Rattle.std.proofs.lemmas.Bool.Decides.{nat_tests}
 use Rattle.std.proofs.lemmas.List.{map-append}
 use Rattle.std.specs.Prelude.{is_none, is_some, nat_le, option_and_then, if◌then◌else◌}
@@ -26,9 +26,8 @@ use Rattle.bl_tree.specs.Typing.{inputs_of, outputs_of}
 use Rattle.bl_tree.specs.Words.{are_distinct}
 use Rattle.bl_ctext_semantics.specs.Calls.{calls_in_arg, calls_in_block, calls_in_stmt, most}
 use Rattle.bl_ctext_semantics.specs.Faults.{Context, Signature, Variable, bool_type, context_in, declared_before, depth_of_function, distinct_names}
-use Rattle.bl_ctext_semantics.specs.Faults.{faults_in_function, last_returns, member_of, member_table, names_table}
-use Rattle.bl_ctext_semantics.specs.Faults.{repeated, returns_result, short_chain, signature_as}
-use Rattle.bl_ctext_semantics.specs.Faults.{all_distinct, is_declared, signature_of, surely_returns, variable_names}
+use Rattle.bl_ctext_semantics.specs.Faults.{faults_in_function, last_returns, member_of, member_table, names_table, repeated, returns_result, short_chain}
+use Rattle.bl_ctext_semantics.specs.Faults.{signature_as, all_distinct, is_declared, signature_of, surely_returns, variable_names}
 use Rattle.bl_ctext_semantics.specs.Loops.{turns_in, turns_in_block}
 use Rattle.bl_ctext_semantics.specs.Tables.{Table, entry_or, no_entries}
 use Rattle.bl_emit_acts.specs.Acts.{c_calling, c_clear}
@@ -42,12 +41,9 @@ use Rattle.bl_emit_acts_laws_wellformed.proofs.OnFormed.Acts.{block_cons, block_
 use Rattle.bl_emit_acts_laws_wellformed.proofs.OnFormed.Judged.{kept, literal-is, read-is}
 use Rattle.bl_emit_acts_laws_wellformed.proofs.OnFormed.Prelude.{unit_named}
 use Rattle.bl_emit_acts_laws_wellformed.proofs.OnFormed.Typed.{pointer_place, variable_place}
-use Rattle.bl_emit_functions_laws_wellformed.proofs.OnFiles.Shapes.{address-calls, call-calls, calling-calls, clear-calls, if-calls, literal-calls, place-calls}
-use Rattle.bl_emit_functions_laws_wellformed.proofs.OnFiles.Shapes.{read-calls, return-calls, step-calls}
+use Rattle.bl_emit_functions_laws_wellformed.proofs.OnFiles.Shapes.{address-calls, call-calls, calling-calls, clear-calls, if-calls, read-calls}
 use Rattle.bl_emit_functions_laws_wellformed.proofs.OnFormed.Shapes.{if-is, return-is}
-use Rattle.bl_emit_functions_laws_wellformed.proofs.OnFormed.Turns.{one-turns, return-turns}
-use Rattle.bl_emit_spec.proofs.LentLemmas.{lent_parameters, lent_parts}
-use Rattle.bl_emit_spec.specs.Lent.{lent_unit, lent_var}
+use Rattle.bl_emit_functions_laws_wellformed.proofs.OnFormed.Turns.{one-turns, return-turns, call-turns, clear-turns}
 use Rattle.bl_emit_spec.specs.Names.{frame_name}
 use Rattle.bl_emit_spec.specs.Blocks.{unit_may_end, stmt_where, arg_where}
 use Rattle.bl_emit_spec.specs.Programs.{c_returned, init_function, input_arg, output_arg, port_struct, state_struct, tick_args, tick_function, tick_locals}
@@ -56,6 +52,10 @@ use Rattle.bl_emit_spec_laws_wellformed_bodies.proofs.OnBodies.Calls.{Suit, suit
 use Rattle.bl_emit_spec_laws_wellformed_bodies.proofs.OnBodies.Variables.{member_place}
 use Rattle.bl_emit_spec_laws_wellformed_bodies.specs.Bodies.{memory_given, over_given, result_given, signature_of_activity}
 use Rattle.bl_emit_laws.proofs.OnFormed.Ports.{port-place, ports-suit}
+use Rattle.bl_emit_laws.proofs.OnCells.Interface.{returned_silent, root_calls_none, step_calls_none}
+use Rattle.bl_emit_functions_laws_wellformed.proofs.OnFormed.Head.{return-returns}
+use Rattle.bl_emit_spec.proofs.LentLemmas.{lent_parameters, lent_parts}
+use Rattle.bl_emit_spec.specs.Lent.{lent_unit, lent_var}
 
 -- what the functions of the interface need, of an entry
 pub record Entry (structs : List StructDef) (unit : UnitDef) (remembers : Bool) (table : Table (Table CMember)) (functions : Table Signature)

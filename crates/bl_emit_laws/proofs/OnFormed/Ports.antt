@@ -143,4 +143,4 @@ module _ (unit : UnitDef) where
   inputs_differ differ = distinct_front (names_of (inputs_of unit)) (names_of (outputs_of unit)) (ap are_distinct (sym names_split) ∙ differ)
 
   pub outputs_differ : are_distinct (names_of (parameters_of unit)) ≡ true → are_distinct (names_of (outputs_of unit)) ≡ true
-  outputs_differ differ = back_differs (names_of (inputs_of unit)) (names_of (outputs_of unit)) (ap are_distinct (sym names_split) ∙ differ)
+  outputs_differ differ = distinct_back (names_of (inputs_of unit)) (names_of (outputs_of unit)) (ap are_distinct (sym names_split) ∙ differ)

@@ -1,5 +1,5 @@
 -- The frame of each activity has as many counters as its width.
-use Rattle.std.proofs.Common.{◌≡◌, ℕ, ◌<◌, ◌^◌, true, List, Some, length, refl, sym, ap, subst, ◌∙◌}
+use Rattle.std.proofs.Common.{◌≡◌, ℕ, ◌<◌, ◌^◌, true, List, Some, length, sym, ap, subst, ◌∙◌}
 use Rattle.std.proofs.lemmas.Bool.{lt-ltb}
 use Rattle.std.specs.Prelude.{slice_get}
 use Rattle.bl_tree.proofs.Basics.{same_some}
@@ -18,13 +18,15 @@ use Rattle.bl_machine.specs.Layout.{counters_in}
 use Rattle.bl_machine.specs.Machines.{IsActivityOf}
 use Rattle.bl_machine_laws.specs.Numbers.Width.{TakesItsWidth}
 use Rattle.bl_emit_spec.specs.Activities.{frame_struct}
-use Rattle.bl_emit_spec.specs.Lent.{lent_unit}
 use Rattle.bl_emit_spec.specs.Names.{frame_name}
 use Rattle.bl_emit_spec_laws.specs.Calls.Built.{Activities, MadeOf, unit_number}
 use Rattle.bl_emit_spec_laws.specs.Calls.Laws.{CompilationContext}
 use Rattle.bl_emit_laws.specs.Kept.{FramesAreDeclared, activities_in, shown_file}
 use Rattle.bl_emit_laws.specs.Width.{FrameHasWidth, FramesHaveWidth}
 use Rattle.bl_emit_laws.proofs.OnWidth.Counting.{frame_counts, sizes_wide}
+use Rattle.bl_emit_spec_laws_wellformed.proofs.OnClosed.Closed.{entry_there}
+use Rattle.bl_emit_spec_laws.proofs.OnActivities.Nested.{unit_there}
+use Rattle.bl_emit_spec.specs.Lent.{lent_unit}
 
 module _ (program : Program) (orderly : AcceptedIsOrderly) (wide : (body : List Stmt) → TakesItsWidth body) (declares : FramesAreDeclared program)
     (machine : List InMachine) (ports : UnitDef) (entry_is : slice_get program.units program.entry ≡ Some (lent_unit ports)) (i : ℕ) (unit : UnitDef)

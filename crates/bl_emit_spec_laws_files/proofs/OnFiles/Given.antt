@@ -122,10 +122,6 @@ places_live : (remembers ends : Bool) (ins outs : List Var) →
 places_live true ends ins outs = ports_live ends ins outs
 places_live false ends ins outs = ports_live ends ins outs
 
-all_so : {A : Type 0} (test : A → Bool) → ((x : A) → test x ≡ true) → (xs : List A) → list_all test xs ≡ true
-all_so test each [] = refl
-all_so test each (x ∷ xs) = and_from (test x) (list_all test xs) (each x) (all_so test each xs)
-
 module _ (unit : UnitDef) (remembers : Bool) (resultless : unit.result ≡ None) (ins_differ : are_distinct (names_of (inputs_of unit)) ≡ true)
     (outs_differ : are_distinct (names_of (outputs_of unit)) ≡ true) where
   written_is : places remembers (unit_may_end unit) (inputs_of unit) (outputs_of unit) ≡ written_by (lent_unit unit) remembers (tick_gives unit)
@@ -140,7 +136,7 @@ module _ (unit : UnitDef) (remembers : Bool) (resultless : unit.result ≡ None)
     apart = subst (λ (ps : List Location). all_apart ps ≡ true) written_is
         (places_apart remembers (unit_may_end unit) (inputs_of unit) (outputs_of unit) ins_differ outs_differ);
     inputs_apart =
-        all_so (λ (place : Location). list_all (are_apart place) []) (λ place. refl) (written_by (lent_unit unit) remembers (tick_gives unit));
+        all-true (λ (place : Location). list_all (are_apart place) []) (λ place. refl) (written_by (lent_unit unit) remembers (tick_gives unit));
     live =
         subst (λ (ps : List Location). list_all (λ (place : Location). is_live 0 place.root) ps ≡ true) written_is
         (places_live remembers (unit_may_end unit) (inputs_of unit) (outputs_of unit));

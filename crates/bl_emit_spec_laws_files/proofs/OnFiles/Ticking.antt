@@ -1,12 +1,10 @@
 -- A C file run over rows, tick by tick beside a run of passes by rules.
-use Rattle.std.proofs.Common.{◌≡◌, inl, inr, ℕ, ℤ, zero, suc, ◌+◌, ◌≤◌, pos, Bool, true, false, ◌&&◌, List, []}
-use Rattle.std.proofs.Common.{◌∷◌, ◌++◌, map, length, take, drop}
-use Rattle.std.proofs.Common.{Option, Some, None, refl, sym, ap, ap₂, ◌∙◌, subst, arith}
-use Rattle.std.proofs.lemmas.Bool.{leb-true}
+use Rattle.std.proofs.Common.{◌≡◌, inl, inr, ℕ, ℤ, zero, suc, ◌+◌, ◌≤◌, pos, Bool, true, false, ◌&&◌, List, [], ◌∷◌, ◌++◌, map, length, take, drop, Option}
+use Rattle.std.proofs.Common.{Some, None, refl, sym, ap, ap₂, ◌∙◌, subst, arith}
+use Rattle.std.proofs.lemmas.Bool.{leb-true, and_from}
 use Rattle.std.proofs.lemmas.Option.{same_Some}
 use Rattle.std.specs.List.{list_all}
 use Rattle.std.specs.Prelude.{codes, filter_map, is_none, is_some, nat_le, option_and_then, option_map, slice_get, unwrap_or}
-use Rattle.std.proofs.lemmas.Bool.{and_from}
 use Rattle.bl_tree.proofs.Basics.{and_first, and_second, map_length}
 use Rattle.bl_tree.specs.declared.c.CMember.{CMember}
 use Rattle.bl_tree.specs.declared.row.Last.TheVariants.{Ended as HasEnded, Trap as HasTrapped}
@@ -19,7 +17,7 @@ use Rattle.bl_tree.specs.declared.value.Value.{Value, out-Value}
 use Rattle.bl_tree.specs.declared.value.Value.TheOpen.{Value-F}
 use Rattle.bl_tree.specs.declared.value.Value.TheVariants.{Number}
 use Rattle.bl_tree.specs.Numbers.{number_of}
-use Rattle.bl_tree.specs.Ports.{column_of as tree_column, columns_of, input_columns, output_columns, row_fits}
+use Rattle.bl_tree.specs.Ports.{input_columns, output_columns, row_fits, column_of as tree_column, columns_of}
 use Rattle.bl_tree.specs.Program.{is_entry, names_of, parameters_of}
 use Rattle.bl_tree.specs.Types.{scalar_in}
 use Rattle.bl_tree.specs.Typing.{inputs_of, is_activity, outputs_of}
@@ -30,12 +28,12 @@ use Rattle.bl_eval.proofs.PassLemmas.{pass_drop, pass_take}
 use Rattle.bl_ctext_semantics.specs.Cells as cells
 use Rattle.bl_ctext_semantics.specs.Cells.{cells_of, column_of, numbers_of, outputs_in, ports_of, with_inputs}
 use Rattle.bl_ctext_semantics.specs.Meaning.{CallResult, Meaning, applied, further}
-use Rattle.bl_ctext_semantics.specs.Memory.{cleared as cleared_memory}
-use Rattle.bl_ctext_semantics.specs.Memory.{Location, Memory, input_object, member, output_object, scalar_number, state_object, value_at, without_frame}
+use Rattle.bl_ctext_semantics.specs.Memory.{cleared as cleared_memory, Location, Memory, input_object, member, output_object, scalar_number, state_object}
+use Rattle.bl_ctext_semantics.specs.Memory.{value_at, without_frame}
 use Rattle.bl_ctext_semantics.specs.Parts.{Parts}
 use Rattle.bl_ctext_semantics.specs.Tables.{Table}
-use Rattle.bl_ctext_semantics.specs.Trace.{Reply, TickOfFile, c_trace_from, call_from_outside, cells_if, object, reply_of, start_c, started, tick_c}
-use Rattle.bl_ctext_semantics.specs.Trace.{tick_of, trace_after, traced}
+use Rattle.bl_ctext_semantics.specs.Trace.{Reply, TickOfFile, c_trace_from, call_from_outside, cells_if, object, reply_of, start_c, started, tick_c, tick_of}
+use Rattle.bl_ctext_semantics.specs.Trace.{trace_after, traced}
 use Rattle.bl_ctree.specs.Instances.{Setting, setting_of, unit_at}
 use Rattle.bl_ctree.specs.Store as store
 use Rattle.bl_ctree.specs.Store.{Frame, Store, aged, first_store, number_or_zero, outputs_of_frame, outputs_row, view_at, woken_store}
@@ -47,8 +45,6 @@ use Rattle.bl_emit_acts_laws_simulation.specs.Acts.{OutputsEncoded}
 use Rattle.bl_emit_acts_laws_simulation.specs.Encodes.{Encodes}
 use Rattle.bl_emit_spec.specs.Activities.{remembers_any}
 use Rattle.bl_emit_spec.specs.Blocks.{greatest_value, unit_may_end}
-use Rattle.bl_emit_spec.proofs.LentLemmas.{drop_none, lent_many, lent_mapped, lent_outputs, lent_parameter_names, lent_parameters_all, lent_parts, lent_taken}
-use Rattle.bl_emit_spec.specs.Lent.{lent_unit, lent_var}
 use Rattle.bl_emit_spec.specs.Names.{counter_name}
 use Rattle.bl_emit_spec.specs.Programs.{port_member}
 use Rattle.bl_machine.specs.declared.machine.Activity.{Activity as InMachine}
@@ -72,18 +68,21 @@ use Rattle.bl_emit_spec_laws_nodes.proofs.OnPoints.Endless.{pass_open}
 use Rattle.bl_emit_spec_laws_files.specs.States.Cells.{regained}
 use Rattle.bl_emit_spec_laws_files.specs.States.States.{StateKept, frame_place, memory_place, output_place}
 use Rattle.bl_emit_spec_laws_files.specs.Files.{FileShows, FileStands, FilesShow, behind_columns}
-use Rattle.bl_emit_spec_laws_files.proofs.OnFiles.Bodies.{entry_called, input_place, port_places, tick_gives, tick_replies, tick_traps, ticked}
-use Rattle.bl_emit_spec_laws_files.proofs.OnFiles.Columns.{columns, is_scalar, some_scalar}
+use Rattle.bl_emit_spec_laws_files.proofs.OnFiles.Bodies.{entry_called, tick_gives, tick_replies, tick_traps, ticked, input_place, port_places}
+use Rattle.bl_emit_spec_laws_files.proofs.OnFiles.Columns.{columns, is_scalar}
 use Rattle.bl_emit_spec_laws_files.proofs.OnFiles.Given.{may_give}
-use Rattle.bl_emit_spec_laws_files.proofs.OnFiles.Inputs.{AreSet, are_set, behind_hold, inputs_hold, inputs_set, joined_hold, lent_hold, lent_values, output_same, state_same}
-use Rattle.bl_emit_spec_laws_files.proofs.OnFiles.Inputs.{unlent_hold}
+use Rattle.bl_emit_spec_laws_files.proofs.OnFiles.Inputs.{AreSet, are_set, inputs_set, output_same, state_same, behind_hold, inputs_hold, joined_hold}
+use Rattle.bl_emit_spec_laws_files.proofs.OnFiles.Inputs.{lent_hold, lent_values, unlent_hold}
 use Rattle.bl_emit_spec_laws_files.proofs.OnFiles.Kept.{Same, memory_moved, outputs_moved}
-use Rattle.bl_emit_spec_laws_files.proofs.OnFiles.Lists.{distinct_drop, distinct_take, drop_take, fit_many, mapped_drop, mapped_take}
-use Rattle.bl_emit_spec_laws_files.proofs.OnFiles.Lists.{row_many, take_less, take_past, taken_length}
+use Rattle.bl_emit_spec_laws_files.proofs.OnFiles.Lists.{distinct_drop, distinct_take, drop_take, fit_many, mapped_drop, mapped_take, row_many, take_less}
+use Rattle.bl_emit_spec_laws_files.proofs.OnFiles.Lists.{taken_length, take_past}
 use Rattle.bl_emit_spec_laws_files.proofs.OnFiles.Starting.{AllZero, begun, begun_result, begun_zero}
 use Rattle.bl_emit_spec_laws_files.proofs.OnFiles.Views.{entry_is, entry_number, entry_sees, first_frame_now, first_held, woken_first, woken_held, roles_at}
-use Rattle.bl_emit_spec_laws_files.proofs.OnFiles.Views.{arity, distinct_at}
-use Rattle.bl_emit_spec_laws_files.proofs.OnFiles.Zeros.{zero_holds}
+use Rattle.bl_emit_spec_laws_files.proofs.OnFiles.Views.{distinct_at, arity}
+use Rattle.bl_emit_acts_laws_simulation.proofs.Zeros.{zero_holds}
+use Rattle.bl_machine_pass_laws_typing.proofs.OnStarts.{some_scalar}
+use Rattle.bl_emit_spec.proofs.LentLemmas.{drop_none, lent_many, lent_mapped, lent_outputs, lent_parameter_names, lent_parameters_all, lent_parts, lent_taken}
+use Rattle.bl_emit_spec.specs.Lent.{lent_unit, lent_var}
 
 -- ---- outputs
 

@@ -48,12 +48,6 @@ use Rattle.bl_ctree_laws_confluence.proofs.OnStores.Views.{range_at}
 
 -- ---- numbers
 
-pub range_at : (first count k j : ℕ) → slice_get (range_with_len first count) k ≡ Some j → j ≡ first + k
-range_at first zero zero j e = absurd cc
-range_at first zero (suc k) j e = absurd cc
-range_at first (suc count) zero j e = let is : first ≡ j = cc in omega arith
-range_at first (suc count) (suc k) j e = let is : j ≡ (first + 1) + k = range_at (first + 1) count k j e in omega arith
-
 -- functions that are alike at a position
 pub same_mapped : {X : Type 0} (f g : ℕ → X) (count x : ℕ) → f x ≡ g x →
     slice_get (map f (range_with_len 0 count)) x ≡ slice_get (map g (range_with_len 0 count)) x

@@ -1,17 +1,14 @@
 -- The structs of the whole file: nothing fails in them, and each is declared.
-use Rattle.std.proofs.Common.{◌≡◌, ◌⊎◌, inl, inr, ⊎_elim, ℕ, zero, suc, ◌+◌, ◌<◌, ◌≤◌, arith, Bool, true, false, not}
-use Rattle.std.proofs.Common.{◌||◌, List, [], ◌∷◌, ◌++◌, Contains, map, length, Option, Some, None}
-use Rattle.std.proofs.Common.{refl, sym, ap, ◌∙◌, subst, codes}
-use Rattle.std.proofs.lemmas.Bool.{cases_lt}
+use Rattle.std.proofs.Common.{◌≡◌, ◌⊎◌, inl, inr, ⊎_elim, ℕ, zero, suc, ◌+◌, ◌<◌, ◌≤◌, arith, Bool, true, false, not, ◌||◌, List, [], ◌∷◌, ◌++◌, Contains, map}
+use Rattle.std.proofs.Common.{length, Option, Some, None, refl, sym, ap, ◌∙◌, subst, codes}
+use Rattle.std.proofs.lemmas.Bool.{cases_lt, and_from}
 use Rattle.std.proofs.lemmas.List.{get_or_past, map-append}
 use Rattle.std.proofs.lemmas.List.Elements.{Contains-append_cases, Contains-append_left, Contains-append_right}
 use Rattle.std.proofs.lemmas.List.Folds.{list_all-append, list_any-append}
 use Rattle.std.proofs.lemmas.Option.{get_or_from_slice_get, slice_get_cases, slice_get_within}
 use Rattle.std.proofs.lemmas.Slice.Eq.{bytes_eq-Decides}
 use Rattle.std.specs.List.{list_all, list_any}
-use Rattle.std.specs.Option.{option_or}
-use Rattle.std.specs.Prelude.{bytes_eq, get_or, is_none, is_some, slice_get, slice_index, unwrap_or, if◌then◌else◌}
-use Rattle.std.proofs.lemmas.Bool.{and_from}
+use Rattle.std.specs.Prelude.{bytes_eq, get_or, is_none, slice_get, slice_index, unwrap_or, if◌then◌else◌, is_some}
 use Rattle.bl_tree.proofs.Basics.{and_first, and_second, both_empty, contains_none, first_or_further, none_from}
 use Rattle.bl_tree.specs.declared.c.CMember.{CMember}
 use Rattle.bl_tree.specs.declared.c.CStruct.{CStruct}
@@ -24,7 +21,6 @@ use Rattle.bl_tree.specs.declared.tree.Unit.{Unit as UnitDef}
 use Rattle.bl_tree.specs.declared.tree.Var.{Var}
 use Rattle.bl_tree.specs.Program.{IsWellTyped, is_entry, parameters_of}
 use Rattle.bl_tree.specs.Program as tree
-use Rattle.bl_tree.specs.Types.{scalar_in}
 use Rattle.bl_tree.specs.Typing.{inputs_of, outputs_of}
 use Rattle.bl_tree.specs.Words.{are_distinct, is_among, is_name}
 use Rattle.bl_limits.specs.Rules.{Passes}
@@ -43,8 +39,6 @@ use Rattle.bl_emit_structs_laws_wellformed.proofs.OnFormed.Types.{StructOf, all_
 use Rattle.bl_emit_functions.specs.Functions.{memory_name}
 use Rattle.bl_emit_functions_laws_wellformed.proofs.OnFiles.Growing.{distinct_behind}
 use Rattle.bl_emit_spec.specs.Names.{frame_name}
-use Rattle.bl_emit_spec.proofs.LentLemmas.{lent_names, lent_parameter_names, lent_parameters_all}
-use Rattle.bl_emit_spec.specs.Lent.{lent_unit}
 use Rattle.bl_emit_spec.specs.Programs.{ProgramParts, interface_structs, port_struct, state_struct}
 use Rattle.bl_emit_spec_laws_wellformed_bodies.specs.Structs.Laws.{FileStructs, FilesDeclare, PartsAreSound, PartsStand, program_parts}
 use Rattle.bl_emit_spec_laws_wellformed_bodies.specs.Structs.Parts.{IsPart}
@@ -58,6 +52,9 @@ use Rattle.bl_ctext_semantics.proofs.EndLemmas.{unless-nil}
 use Rattle.bl_emit_structs_laws_wellformed.proofs.OnFormed.Whole.{once_has}
 use Rattle.bl_emit_functions_laws_wellformed.proofs.OnFiles.Structs.{both_free, later_found}
 use Rattle.bl_emit_structs_laws_wellformed.proofs.OnNames.Known.{known_append}
+use Rattle.bl_tree.specs.Types.{scalar_in}
+use Rattle.bl_emit_spec.proofs.LentLemmas.{lent_names, lent_parameter_names, lent_parameters_all}
+use Rattle.bl_emit_spec.specs.Lent.{lent_unit}
 
 abbrev has : Text → List Text → Bool
 has name names = list_any (bytes_eq name) names
