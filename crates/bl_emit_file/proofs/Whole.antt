@@ -1,5 +1,5 @@
 -- The laws of the C of a program's parts together.
-use Rattle.std.proofs.Common.{◌≡◌, ◌↔◌, ◌&&◌, ◌≤◌, ℕ, ℤ, suc, ◌+◌, true, Contains, List, [], ◌∷◌, length, Option, None, Some, refl, sym, ap, subst, ◌∙◌, arith}
+use Rattle.std.proofs.Common.{◌≡◌, ◌↔◌, ◌&&◌, ◌≤◌, ℕ, ℤ, true, Contains, List, [], ◌∷◌, length, Option, None, Some, refl, sym, ap, subst, ◌∙◌}
 use Rattle.std.specs.Prelude.{codes, is_none, is_some, slice_get}
 use Rattle.std.specs.List.{list_all}
 use Rattle.bl_tree.proofs.Basics.{and_first}
@@ -21,7 +21,6 @@ use Rattle.bl_limits.specs.Rules.{Passes as KeepsLimits}
 use Rattle.bl_limits_measures.specs.Uses.{UsesEarlier}
 use Rattle.bl_limits_measures_laws.specs.Laws.{UnitsUseEarlierOnes}
 use Rattle.bl_cause.specs.Activities.{activities as list_of_activities, graph_position}
-use Rattle.bl_ctree.specs.declared.instance.Instance.{Instance}
 use Rattle.bl_ctree.specs.Instances.{Setting, setting_of, unit_at}
 use Rattle.bl_ctree.specs.Means.{Means, ShownTrace, shown_trace}
 use Rattle.bl_ctree_laws_confluence.specs.Deeds.Origins.{InstancesHaveCallers}

@@ -4,7 +4,6 @@ use Rattle.bl_emit_laws.specs.Formed.{FilesWellFormed}
 use Rattle.bl_emit_laws.specs.Forms.{UnitsMeetConditions}
 use Rattle.bl_emit_spec_laws_wellformed_bodies.specs.Structs.Laws.{FilesDeclare}
 use Rattle.bl_emit_laws.specs.Accepted.{ProgramsWellFormed}
-use Rattle.bl_emit_spec_laws_wellformed.proofs.OnClosed.Closed.{entry_there}
 
 pub formed : (program : Program) → UnitsMeetConditions program.structs program.units program.entry → FilesDeclare program → FilesWellFormed program →
     ProgramsWellFormed program

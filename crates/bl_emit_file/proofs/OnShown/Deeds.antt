@@ -1,8 +1,7 @@
 -- Deeds do the same where units are shown.
-use Rattle.std.proofs.Common.{◌≡◌, ◌⊎◌, ⊎_elim, inl, inr, ℕ, ◌+◌, ◌<◌, ◌≤◌, arith, List, [], ◌∷◌, map, take, Option, Some, None, refl, sym, ap, ap₂, ◌∙◌}
+use Rattle.std.proofs.Common.{◌≡◌, ◌⊎◌, ⊎_elim, inl, inr, ℕ, ◌<◌, ◌≤◌, arith, List, [], ◌∷◌, take, Option, Some, None, refl, sym, ap, ap₂, ◌∙◌}
 use Rattle.std.specs.Prelude.{option_and_then, option_map, slice_get, unwrap_or}
 use Rattle.bl_tree.proofs.Basics.{less_or_not}
-use Rattle.bl_tree.specs.declared.place.Place.{Place}
 use Rattle.bl_tree.specs.declared.static_path.Static.{Static}
 use Rattle.bl_tree.specs.declared.tree.Arm.{Arm}
 use Rattle.bl_tree.specs.declared.tree.Branch.{Branch}
@@ -22,7 +21,7 @@ use Rattle.bl_eval.specs.Standing.{outcome_in_unit, outcome_of, scope_of, site_a
 use Rattle.bl_eval.specs.Values.{value_at}
 use Rattle.bl_limits_measures.specs.Uses.{UsesEarlier}
 use Rattle.bl_ctree.specs.declared.instance.Instance.{Instance}
-use Rattle.bl_ctree.specs.Actions.{Acts, Asks, Copies, Effect, Gives, Performed, Silent, acted_kind, done, effect_on, given_to, is_true_value, outcome_there, result_at}
+use Rattle.bl_ctree.specs.Actions.{Acts, Asks, Copies, Effect, Gives, Silent, acted_kind, done, effect_on, given_to, is_true_value, outcome_there, result_at}
 use Rattle.bl_ctree.specs.Actions.{value_there, values_there, with_result}
 use Rattle.bl_ctree.specs.Instances.{Setting, instances_of, setting_of}
 use Rattle.bl_ctree.specs.Positions.{stmt_kind}
@@ -32,7 +31,7 @@ use Rattle.bl_ctree_laws.specs.Pending.{Deed}
 use Rattle.bl_ctree_laws_confluence.specs.Deeds.Origins.{InstancesHaveCallers}
 use Rattle.bl_emit_spec.specs.Lent.{lent_unit}
 use Rattle.bl_emit_file.proofs.OnShown.Instances as instances
-use Rattle.bl_emit_file.proofs.OnShown.Instances.{Low, low}
+use Rattle.bl_emit_file.proofs.OnShown.Instances.{low}
 use Rattle.bl_emit_file.proofs.OnShown.Meanings.{acted_same, value_same}
 use Rattle.bl_emit_file.proofs.OnShown.Units.{Shown, shown_before, shown_entry, shown_front}
 

@@ -1,8 +1,8 @@
 -- What fits a unit fits it with its inputs lent.
-use Rattle.std.proofs.Common.{◌≡◌, ℕ, zero, suc, Bool, true, false, ◌&&◌, ◌||◌, List, [], ◌∷◌, map, Option, Some, None, refl, sym, ap, ◌∙◌, subst}
+use Rattle.std.proofs.Common.{◌≡◌, ℕ, zero, suc, Bool, true, false, ◌&&◌, ◌||◌, List, [], ◌∷◌, map, Option, Some, None, refl, sym, ap, ◌∙◌}
 use Rattle.std.proofs.lemmas.Bool.{and_from}
 use Rattle.std.proofs.lemmas.List.Elements.{All-head, All-tail}
-use Rattle.std.specs.Prelude.{All, is_some, option_and_then, option_map, slice_get, if◌then◌else◌}
+use Rattle.std.specs.Prelude.{is_some, option_and_then, option_map, slice_get, if◌then◌else◌}
 use Rattle.bl_tree.proofs.Basics.{and_first, and_second}
 use Rattle.bl_tree.proofs.StmtInduction.{Cases, Each, EachArm, EachBranch, induct, stmt}
 use Rattle.bl_tree.specs.declared.place.Place.{Place}
@@ -10,8 +10,7 @@ use Rattle.bl_tree.specs.declared.scalar.Scalar.{Scalar as ScalarType}
 use Rattle.bl_tree.specs.declared.tree.Arm.{Arm, fold_out-Arm, out-Arm}
 use Rattle.bl_tree.specs.declared.tree.Branch.{Branch, fold_out-Branch, out-Branch}
 use Rattle.bl_tree.specs.declared.tree.Expr.{Expr, fold-Expr}
-use Rattle.bl_tree.specs.declared.tree.ExprKind.TheOpen.{ExprKind-F, Part-F, Path-F, Expr-F}
-use Rattle.bl_tree.specs.declared.tree.Guard.{Guard}
+use Rattle.bl_tree.specs.declared.tree.ExprKind.TheOpen.{ExprKind-F, Path-F}
 use Rattle.bl_tree.specs.declared.tree.Path.{Path, fold-Path, out-Path}
 use Rattle.bl_tree.specs.declared.tree.Role.{Role}
 use Rattle.bl_tree.specs.declared.tree.Role.TheVariants.{Input, Output, Variable, Fixed}
@@ -27,7 +26,7 @@ use Rattle.bl_tree.specs.Types.{scalar, scalar_in}
 use Rattle.bl_tree.specs.Typing.{TypingContext, after_parts, are_same, arguments_fit, call_fits, expr_type, fits, is_activity, is_assignable, is_fixed, is_inhabited, is_outlet}
 use Rattle.bl_tree.specs.Typing.{is_plain, is_procedure, is_truth, is_variable, kind_type, may_change, part_type, path_type, prev_type, run_fits, target_fits, type_of}
 use Rattle.bl_tree.specs.Typing.{arm_fits, branch_fits, kind_fits, stmt_fits}
-use Rattle.bl_tree.specs.Typing.{declaration_fits, inputs_of, outputs_of, return_fits, type_of_path, types_match, var_at, where_same}
+use Rattle.bl_tree.specs.Typing.{declaration_fits, inputs_of, outputs_of, return_fits, type_of_path, types_match, where_same}
 use Rattle.bl_ctree_laws_confluence.proofs.OnApart.Told.{arm_fitted, branch_fitted, fit_at, fit_parts}
 use Rattle.bl_emit_spec.specs.Lent.{lent_role, lent_var}
 

@@ -1,6 +1,6 @@
 -- Shown units have the instances of the program, and stores are seen alike.
-use Rattle.std.proofs.Common.{◌≡◌, ◌⊎◌, ⊎_elim, inl, inr, ℕ, zero, suc, ◌+◌, ◌<◌, ◌≤◌, arith, Bool, true, false, ◌||◌, List, [], ◌∷◌, ◌++◌, Contains, map, take, length}
-use Rattle.std.proofs.Common.{Option, Some, None, refl, sym, ap, ap₂, ◌∙◌, subst}
+use Rattle.std.proofs.Common.{◌≡◌, ◌⊎◌, ⊎_elim, inl, inr, ℕ, zero, suc, ◌+◌, ◌<◌, ◌≤◌, arith, Bool, true, false, ◌||◌, List, [], ◌∷◌, ◌++◌, Contains, map, length}
+use Rattle.std.proofs.Common.{Option, Some, None, refl, sym, ap, ◌∙◌, subst}
 use Rattle.std.proofs.lemmas.Option.{same_Some}
 use Rattle.std.specs.Prelude.{nat_eq, option_and_then, option_map, slice_get, unwrap_or, if◌then◌else◌}
 use Rattle.std.specs.List.{list_any, range_with_len}
@@ -8,7 +8,6 @@ use Rattle.std.proofs.lemmas.List.Elements.{All-contains}
 use Rattle.bl_tree.proofs.Basics.{contains_first, contains_further, less_or_not, same_number}
 use Rattle.bl_tree.specs.declared.tree.StructDef.{StructDef}
 use Rattle.bl_tree.specs.declared.tree.Unit.{Unit as UnitDef}
-use Rattle.bl_tree.specs.declared.tree.Var.{Var}
 use Rattle.bl_tree.specs.declared.value.Value.{Value}
 use Rattle.bl_tree.specs.declared.value.Value.TheVariants.{Parts}
 use Rattle.bl_limits_measures.specs.Runs.{activities_run}
@@ -17,7 +16,7 @@ use Rattle.bl_ctree.specs.declared.instance.Instance.{Instance}
 use Rattle.bl_ctree.specs.declared.instance.Origin.{Origin}
 use Rattle.bl_ctree.specs.declared.instance.Run.{Run}
 use Rattle.bl_ctree.specs.Instances.{Setting, called_from, expanded, instances_below, instances_of, runs_of, setting_of, unit_at, unit_of}
-use Rattle.bl_ctree.specs.Store.{Frame, Location, Store, depth_at, home, home_within, led, led_by, value_among, variable_among, variables_of, vars_at, view_at, whole_of}
+use Rattle.bl_ctree.specs.Store.{Frame, Location, Store, depth_at, home, home_within, led, led_by, value_among, variable_among, vars_at, view_at, whole_of}
 use Rattle.bl_ctree_laws_confluence.specs.Deeds.Origins.{HasCaller, InstancesHaveCallers}
 use Rattle.bl_emit_spec.proofs.LentLemmas.{lent_many}
 use Rattle.bl_emit_spec.specs.Lent.{lent_unit}

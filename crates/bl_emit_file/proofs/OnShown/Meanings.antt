@@ -1,14 +1,13 @@
 -- Expressions and acts mean the same with the inputs of their unit lent.
-use Rattle.std.proofs.Common.{◌≡◌, ℕ, List, [], ◌∷◌, map, Option, Some, None, refl, sym, ap, ◌∙◌}
+use Rattle.std.proofs.Common.{◌≡◌, ℕ, [], map, Option, Some, None, refl, ap, ◌∙◌}
 use Rattle.std.specs.Prelude.{option_and_then, option_map, slice_get}
-use Rattle.bl_tree.specs.declared.scalar.Scalar.{Scalar as ScalarType}
 use Rattle.bl_tree.specs.declared.tree.Expr.{Expr, fold-Expr}
 use Rattle.bl_tree.specs.declared.tree.ExprKind.TheOpen.{ExprKind-F}
-use Rattle.bl_tree.specs.declared.tree.Path.{Path, fold-Path}
+use Rattle.bl_tree.specs.declared.tree.Path.{fold-Path}
 use Rattle.bl_tree.specs.declared.tree.StmtKind.TheOpen.{StmtKind-F}
 use Rattle.bl_tree.specs.declared.tree.Var.{Var}
 use Rattle.bl_tree.specs.declared.value.Value.{Value}
-use Rattle.bl_eval.specs.Functions.{acted, assigned, call_of, declared, initial_value, outcome_of_call}
+use Rattle.bl_eval.specs.Functions.{acted, assigned, initial_value, outcome_of_call}
 use Rattle.bl_eval.specs.Meaning.{Meaning, PathMeaning, PathPosition, Scope, View, expr_means, kind_means, meaning_of, part_means, path_meaning_of, path_means, plain}
 use Rattle.bl_eval.specs.Meaning.{scalar_of, value_in}
 use Rattle.bl_eval.specs.Values.{put_at, zero_of}

@@ -1,5 +1,5 @@
 -- The numbers of nodes and of resting places are the same where units are shown.
-use Rattle.std.proofs.Common.{◌≡◌, ℕ, zero, suc, ◌+◌, ◌<◌, ◌≤◌, arith, Bool, true, false, List, [], ◌∷◌, cond, take, length, Option, Some, None, refl, sym, ap, ap₂}
+use Rattle.std.proofs.Common.{◌≡◌, ℕ, zero, suc, ◌<◌, ◌≤◌, arith, Bool, true, false, List, [], ◌∷◌, cond, take, length, Option, Some, None, refl, sym, ap, ap₂}
 use Rattle.std.proofs.Common.{◌∙◌, subst}
 use Rattle.std.specs.Prelude.{slice_get, unwrap_or}
 use Rattle.bl_tree.specs.declared.tree.Stmt.{Stmt}
@@ -11,12 +11,11 @@ use Rattle.bl_cause.specs.Activities.{activities, graph_position}
 use Rattle.bl_graph_nodes.specs.Nodes.{Node}
 use Rattle.bl_graph_nodes.specs.Plain.{plain_body}
 use Rattle.bl_machine.specs.declared.machine.Activity.{Activity as InMachine}
-use Rattle.bl_machine.specs.Uses.{Slots}
 use Rattle.bl_machine_pass.specs.Numbered.{slots_of}
 use Rattle.bl_emit_spec.specs.Activities.{node_number}
 use Rattle.bl_emit_spec_laws.specs.Tables.Tables.{activities_of, no_part, no_unit}
 use Rattle.bl_emit_file.proofs.OnShown.Machines.{machine_of, shown_position}
-use Rattle.bl_emit_file.proofs.OnShown.Units.{Shown, ShownAs, same_body, shown_there}
+use Rattle.bl_emit_file.proofs.OnShown.Units.{Shown, same_body, shown_there}
 
 -- ---- parts of the machine
 

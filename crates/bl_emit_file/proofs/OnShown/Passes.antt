@@ -1,5 +1,5 @@
 -- Passes by rules in two settings whose instances have the same bodies, see the same and do the same.
-use Rattle.std.proofs.Common.{◌≡◌, ℕ, suc, ◌<◌, Bool, List, Contains, Option, Some, None, refl, sym, ap, ap₂, ◌∙◌, subst}
+use Rattle.std.proofs.Common.{◌≡◌, ℕ, suc, ◌<◌, Bool, List, Contains, Some, refl, sym, ap, ap₂, ◌∙◌, subst}
 use Rattle.bl_tree.specs.declared.place.Place.{Place}
 use Rattle.bl_tree.specs.declared.tree.Stmt.{out-Stmt}
 use Rattle.bl_tree.specs.declared.tree.StmtKind.{out-StmtKind}

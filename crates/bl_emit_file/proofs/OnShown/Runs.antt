@@ -1,5 +1,5 @@
 -- Runs by rules where units are shown: they show the inputs too.
-use Rattle.std.proofs.Common.{◌≡◌, ⊎_elim, ℕ, ℤ, zero, suc, ◌+◌, ◌<◌, ◌≤◌, arith, true, false, List, [], ◌∷◌, drop, map, take, length, Option, Some, None, refl, sym, ap, ap₂}
+use Rattle.std.proofs.Common.{◌≡◌, ⊎_elim, ℕ, ℤ, zero, suc, ◌+◌, ◌<◌, ◌≤◌, arith, true, List, [], ◌∷◌, drop, map, take, Option, Some, None, refl, sym, ap, ap₂}
 use Rattle.std.proofs.Common.{◌∙◌, subst}
 use Rattle.std.specs.Prelude.{option_and_then, option_map, slice_get, unwrap_or}
 use Rattle.bl_tree.proofs.Basics.{less_or_not}
@@ -12,18 +12,16 @@ use Rattle.bl_tree.specs.declared.value.Value.{Value}
 use Rattle.bl_tree.specs.Typing.{is_activity}
 use Rattle.bl_eval.specs.Values.{zero_of}
 use Rattle.bl_limits_measures.specs.Uses.{UsesEarlier}
-use Rattle.bl_graph_nodes.specs.Nodes.{Node}
 use Rattle.bl_graph_nodes.specs.Plain.{plain_body}
 use Rattle.bl_ctree.specs.declared.instance.Instance.{Instance}
 use Rattle.bl_ctree.specs.Instances.{Setting, callee_of, expanded, instances_below, instances_of, runs_of, setting_of, unit_at, unit_of}
 use Rattle.bl_ctree.specs.Store.{Frame, Store, first_frame, first_store, frame_at_first, number_or_zero, outputs_of_frame, outputs_row, view_at, woken_store, zero_result}
 use Rattle.bl_ctree_laws_confluence.specs.Deeds.Origins.{InstancesHaveCallers}
 use Rattle.bl_machine.specs.declared.machine.Activity.{Activity as InMachine}
-use Rattle.bl_machine.specs.Uses.{Slots}
 use Rattle.bl_machine_laws.specs.Traces.Runs.{no_row, row_before}
-use Rattle.bl_machine_pass.specs.Registers.{Registers, started, with_at}
+use Rattle.bl_machine_pass.specs.Registers.{Registers, started}
 use Rattle.bl_machine_pass_laws.specs.Turns.Laws.{entry_flag}
-use Rattle.bl_machine_pass_laws_execution.specs.Executes.{Executes, PassTraps, begun_registers}
+use Rattle.bl_machine_pass_laws_execution.specs.Executes.{Executes, PassTraps}
 use Rattle.bl_machine_pass_laws_execution.specs.Frames.{Frames}
 use Rattle.bl_machine_pass_laws_execution.specs.Runs.{RuleRun, TickStarts}
 use Rattle.bl_emit_spec.proofs.LentLemmas.{drop_none, lent_mapped}
@@ -37,8 +35,8 @@ use Rattle.bl_emit_file.proofs.OnShown.Instances as instances
 use Rattle.bl_emit_file.proofs.OnShown.Instances.{low}
 use Rattle.bl_emit_file.proofs.OnShown.Machines.{machine_of}
 use Rattle.bl_emit_file.proofs.OnShown.Numbers.{order_same, slots_same}
-use Rattle.bl_emit_file.proofs.OnShown.Passes.{DoSame, SameRules, executed, pass_traps}
-use Rattle.bl_emit_file.proofs.OnShown.Units.{Shown, ShownAs, same_body, shown_before, shown_entry}
+use Rattle.bl_emit_file.proofs.OnShown.Passes.{DoSame, executed, pass_traps}
+use Rattle.bl_emit_file.proofs.OnShown.Units.{Shown, same_body, shown_before, shown_entry}
 
 -- ---- lists
 

@@ -1,11 +1,10 @@
 -- A program whose entry is shown with its inputs lent is typed.
-use Rattle.std.proofs.Common.{◌≡◌, ℕ, zero, suc, ◌+◌, ◌≤◌, arith, Bool, true, false, ◌&&◌, ◌||◌, List, [], ◌∷◌, ◌++◌, Contains, drop, map, take, length}
-use Rattle.std.proofs.Common.{Option, Some, None, refl, sym, ap, ap₂, ◌∙◌, subst, append_assoc}
+use Rattle.std.proofs.Common.{◌≡◌, ℕ, ◌+◌, arith, Bool, true, false, ◌&&◌, ◌||◌, List, [], ◌∷◌, ◌++◌, drop, map, length}
+use Rattle.std.proofs.Common.{Option, Some, refl, sym, ap, ap₂, ◌∙◌, append_assoc}
 use Rattle.std.proofs.lemmas.Bool.{and_from}
-use Rattle.std.proofs.lemmas.List.{map-append}
 use Rattle.std.proofs.lemmas.List.Folds.{list_all-append}
 use Rattle.std.specs.List.{list_all}
-use Rattle.std.specs.Prelude.{is_none, is_some, nat_le, option_and_then, option_map, slice_get, if◌then◌else◌}
+use Rattle.std.specs.Prelude.{is_none, is_some, nat_le, slice_get, if◌then◌else◌}
 use Rattle.bl_tree.proofs.Basics.{all_append, and_first, and_second}
 use Rattle.bl_tree.specs.declared.tree.Role.{Role}
 use Rattle.bl_tree.specs.declared.tree.Role.TheVariants.{Input, Output, Variable, Fixed}
@@ -21,7 +20,7 @@ use Rattle.bl_tree.specs.Types.{scalar_in, type_stands}
 use Rattle.bl_tree.specs.Typing.{TypingContext, fits, inputs_of, is_activity, is_fixed, is_variable, outputs_of, site_of}
 use Rattle.bl_tree.specs.Within.{StandsIn, StandsInUnits}
 use Rattle.bl_tree.specs.Words.{are_distinct, is_name}
-use Rattle.bl_emit_spec.proofs.LentLemmas.{lent_all, lent_dropped, lent_many, lent_mapped, lent_names, lent_outputs, lent_parameter_names, lent_parameters_all, lent_parts}
+use Rattle.bl_emit_spec.proofs.LentLemmas.{lent_all, lent_dropped, lent_many, lent_names, lent_outputs, lent_parameter_names, lent_parameters_all, lent_parts}
 use Rattle.bl_emit_spec.specs.Lent.{lent_role, lent_unit, lent_var}
 use Rattle.bl_emit_structs_laws_wellformed.proofs.OnNames.Named.{distinct_front}
 use Rattle.bl_emit_file.proofs.OnShown.Fitting.{fits_lent}

@@ -5,7 +5,7 @@ use Rattle.std.proofs.lemmas.Bool.{eqb-true}
 use Rattle.std.proofs.lemmas.List.Elements.{All-contains, Contains-append_cases}
 use Rattle.std.proofs.lemmas.Option.{same_Some}
 use Rattle.std.specs.List.{list_all, list_any}
-use Rattle.std.specs.Prelude.{bytes_eq, is_none, is_some, slice_get, slice_index, unwrap_or, if◌then◌else◌}
+use Rattle.std.specs.Prelude.{bytes_eq, is_none, is_some, slice_get, slice_index, unwrap_or}
 use Rattle.bl_tree.proofs.Basics.{and_first, and_second, contains_none, first_or_further, within_at}
 use Rattle.bl_tree.specs.declared.c.CFunc.{CFunc}
 use Rattle.bl_tree.specs.declared.c.CStruct.{CStruct}

@@ -24,7 +24,6 @@ use Rattle.bl_emit_spec_laws.specs.Calls.Laws.{CompilationContext}
 use Rattle.bl_emit_laws.specs.Kept.{FramesAreDeclared, activities_in, shown_file}
 use Rattle.bl_emit_laws.specs.Width.{FrameHasWidth, FramesHaveWidth}
 use Rattle.bl_emit_laws.proofs.OnWidth.Counting.{frame_counts, sizes_wide}
-use Rattle.bl_emit_spec_laws_wellformed.proofs.OnClosed.Closed.{entry_there}
 use Rattle.bl_emit_spec_laws.proofs.OnActivities.Nested.{unit_there}
 use Rattle.bl_emit_spec.specs.Lent.{lent_unit}
 

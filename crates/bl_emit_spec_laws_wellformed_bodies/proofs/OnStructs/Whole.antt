@@ -39,7 +39,7 @@ use Rattle.bl_emit_structs_laws_wellformed.proofs.OnFormed.Types.{StructOf, all_
 use Rattle.bl_emit_functions.specs.Functions.{memory_name}
 use Rattle.bl_emit_functions_laws_wellformed.proofs.OnFiles.Growing.{distinct_behind}
 use Rattle.bl_emit_spec.specs.Names.{frame_name}
-use Rattle.bl_emit_spec.specs.Programs.{ProgramParts, interface_structs, port_struct, state_struct}
+use Rattle.bl_emit_spec.specs.Programs.{ProgramParts, port_struct, state_struct}
 use Rattle.bl_emit_spec_laws_wellformed_bodies.specs.Structs.Laws.{FileStructs, FilesDeclare, PartsAreSound, PartsStand, program_parts}
 use Rattle.bl_emit_spec_laws_wellformed_bodies.specs.Structs.Parts.{IsPart}
 use Rattle.bl_emit_spec_laws_wellformed_bodies.proofs.OnStructs.Heights.{Height, as_file, class, class_file, class_frame, class_memory, fine_frame, fine_memory}
