@@ -1,5 +1,5 @@
 -- The C file of a program, from the machine that its activities make, by the lists of their rules.
-use Rattle.std.specs.Prelude.{Bool, List, [], ◌∷◌, ◌++◌, drop, slice_get, if◌then◌else◌}
+use Rattle.std.specs.Prelude.{Bool, List, [], ◌∷◌, ◌++◌, drop, Option, Some, None, slice_get, if◌then◌else◌}
 use Rattle.bl_tree.specs.declared.program.Program.{Program}
 use Rattle.bl_tree.specs.declared.tree.StructDef.{StructDef}
 use Rattle.bl_tree.specs.declared.tree.Unit.{Unit as UnitDef}
@@ -9,7 +9,8 @@ use Rattle.bl_graph_nodes.specs.Plain.{plain_body}
 use Rattle.bl_machine.specs.declared.machine.Activity.{Activity as InMachine}
 use Rattle.bl_machine_pass.specs.Numbered.{sizes_of}
 use Rattle.bl_machine_transitions.specs.Listed.{layout_of, listed}
-use Rattle.bl_emit_spec.specs.Programs.{ProgramParts, Written, file_at, needed_units, no_parts, parts_of_function, parts_then, where_needed}
+use Rattle.bl_emit_spec.specs.Lent.{shown_units}
+use Rattle.bl_emit_spec.specs.Programs.{ProgramParts, Written, file_of, needed_units, no_parts, parts_of_function, parts_then, where_needed}
 use Rattle.bl_emit.specs.Activities.{ActivityInput, frame_told, function_told, remembered_struct_told, remembers_told}
 
 -- the parts of an activity: where it rests, what it remembers, and its function
@@ -48,8 +49,17 @@ units_told structs earlier remember (unit ∷ units) (test ∷ needed) machine =
     parts_then (where_needed test here)
     (units_told structs (earlier ++ unit ∷ []) (remember ++ here.remember) units needed (if is_activity unit.kind then drop 1 machine else machine))
 
+-- the file of units with these parts, where the entry may be absent: it has the ports of this unit
+abbrev pub file_told : Program → List UnitDef → ProgramParts → Option UnitDef → Written
+file_told program units parts (Some unit) = file_of program.structs units program.entry parts unit
+file_told program units parts None = record { structs = []; funcs = [] }
+
+-- what is written of a program with a machine, where the entry may be absent
+abbrev pub written_told_at : Program → List InMachine → Option UnitDef → Written
+written_told_at program machine o =
+    let units = shown_units program.units program.entry in
+    file_told program units (units_told program.structs [] [] units (needed_units units program.entry) machine) o
+
 -- what is written of a program with a machine
 abbrev pub written_told : Program → List InMachine → Written
-written_told program machine =
-    file_at program (units_told program.structs [] [] program.units (needed_units program.units program.entry) machine)
-    (slice_get program.units program.entry)
+written_told program machine = written_told_at program machine (slice_get program.units program.entry)

@@ -15,6 +15,7 @@ mod parts;
 mod program;
 mod registers;
 mod runs;
+mod shown;
 mod ticks;
 mod units;
 

@@ -1,14 +1,15 @@
 //! The C of a program.
 
 ghost use Rattle.std.specs.Prelude.{◌≡◌, ◌++◌, ◌∷◌, [], IfOk, option_map};
-ghost use Rattle.bl_emit_spec.specs.Programs.{file_at, file_of, init_function, interface_structs, tick_function};
+ghost use Rattle.bl_emit_spec.specs.Programs.{file_of, init_function, interface_structs, tick_function};
 ghost use Rattle.bl_emit_structs.specs.Structs.{structs_of as structs_needed};
 ghost use Rattle.bl_emit.specs.Kept.{parts_in, written_in};
-ghost use Rattle.bl_emit.specs.Programs.{written_told};
+ghost use Rattle.bl_emit.specs.Programs.{file_told, written_told};
 
 use crate::activity::Parts;
 use crate::chosen::is_set;
 use crate::interface::interface;
+use crate::shown::shown_units;
 use crate::ticks::{init, tick};
 use crate::units::all_parts;
 use bl_emit_acts::parts::joined;
@@ -28,17 +29,19 @@ pub struct Written {
     pub funcs: List<CFunc>,
 }
 
-/// The structs of a program, those of its units, and those of the interface.
+/// The structs of types, those of units, and those of the interface.
 fn all_structs(
     alloc: Global,
     program: &Program,
+    units: &[Unit],
     structs: List<CStruct>,
     unit: &Unit,
     remembers: bool,
 ) -> Result<List<CStruct>, NoMemory>
-    ensures { IfOk result (λ made. made ≡ structs_needed program.now ++ (structs ++ interface_structs program.now.structs unit.now remembers)) }
+    ensures { IfOk result (λ made. made ≡ structs_needed program.now.structs units.now
+        ++ (structs ++ interface_structs program.now.structs unit.now remembers)) }
 {
-    let first = structs_of(alloc, program)?;
+    let first = structs_of(alloc, &program.structs, units)?;
     let last = interface(alloc, &program.structs, unit, remembers)?;
     joined(first, joined(structs, last)?)
 }
@@ -58,28 +61,37 @@ fn all_funcs(
     Ok(made)
 }
 
-/// The file of a program with these parts, whose entry is this unit.
-fn file(alloc: Global, program: &Program, parts: Parts, unit: &Unit) -> Result<Written, NoMemory>
-    ensures { IfOk result (λ made. written_in made ≡ file_of program.now (parts_in parts) unit.now) }
+/// The file of units with these parts, whose entry has the ports of this unit.
+fn file(
+    alloc: Global,
+    program: &Program,
+    units: &[Unit],
+    parts: Parts,
+    unit: &Unit,
+) -> Result<Written, NoMemory>
+    ensures { IfOk result (λ made. written_in made
+        ≡ file_of program.now.structs units.now program.now.entry (parts_in parts) unit.now) }
 {
     let remembers = is_set(&parts.remember, program.entry as usize);
     Ok(Written {
-        structs: all_structs(alloc, program, parts.structs, unit, remembers)?,
+        structs: all_structs(alloc, program, units, parts.structs, unit, remembers)?,
         funcs: all_funcs(alloc, parts.funcs, unit, remembers)?,
     })
 }
 
-/// The file of a program whose entry may be absent.
+/// The file of units with these parts, where the entry may be absent.
 fn file_where(
     alloc: Global,
     program: &Program,
+    units: &[Unit],
     parts: Parts,
     unit: Option<&Unit>,
 ) -> Result<Written, NoMemory>
-    ensures { IfOk result (λ made. written_in made ≡ file_at program.now (parts_in parts) (option_map (λ unit. unit.now) unit.entry)) }
+    ensures { IfOk result (λ made. written_in made
+        ≡ file_told program.now units.now (parts_in parts) (option_map (λ unit. unit.now) unit.entry)) }
 {
     match unit {
-        Some(unit) => file(alloc, program, parts, unit),
+        Some(unit) => file(alloc, program, units, parts, unit),
         None => Ok(Written {
             structs: List::new(alloc),
             funcs: List::new(alloc),
@@ -92,17 +104,19 @@ pub fn emit(alloc: Global, machine: &Machine) -> Result<Written, NoMemory>
     ensures { IfOk result (λ made. written_in made ≡ written_told machine.now.program machine.now.activities) }
 {
     let program = machine.program();
-    let needed = needed_units(alloc, &program.units, program.entry)?;
+    let units = shown_units(alloc, &program.units, program.entry)?;
+    let needed = needed_units(alloc, &units, program.entry)?;
     let parts = all_parts(
         alloc,
         &program.structs,
-        &program.units,
+        &units,
         &needed,
         machine.activities(),
     )?;
     file_where(
         alloc,
         program,
+        &units,
         parts,
         element(&program.units, program.entry as usize),
     )

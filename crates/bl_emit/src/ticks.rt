@@ -47,12 +47,12 @@ pub fn init(alloc: Global) -> Result<CFunc, NoMemory>
     })
 }
 
-/// The value of an input.
+/// The place of an input.
 fn input(alloc: Global, var: &Var) -> Result<CArg, NoMemory>
     ensures { IfOk result (λ arg. arg ≡ programs.input_arg var.now) }
 {
     let name = prefixed(alloc, "i_", var.name.as_str())?;
-    Ok(CArg::Value(read(member_at(alloc, "i", name)?)))
+    Ok(CArg::Address(member_at(alloc, "i", name)?))
 }
 
 /// The place of an output.
@@ -63,7 +63,7 @@ fn output(alloc: Global, var: &Var) -> Result<CArg, NoMemory>
     Ok(CArg::Address(member_at(alloc, "o", name)?))
 }
 
-/// Appends the values of the inputs.
+/// Appends the places of the inputs.
 fn add_inputs(alloc: Global, vars: &[Var], args: &mut List<CArg>) -> Result<(), NoMemory>
     ensures { OnOk result (args.new ≡ args.old ++ map programs.input_arg vars.now) }
 {

@@ -16,34 +16,34 @@
 //! which holds where the unit's pointers are valid (`specs/Frames.antt`, `PointersAreValid`; `FramesApart`).
 #![tactic(auto)]
 
+ghost use Rattle.bl_tree.specs.declared.program.Program.{Program};
 ghost use Rattle.bl_emit_acts_laws_simulation.specs.Arguments.{ArgumentsPass};
 ghost use Rattle.bl_emit_acts_laws_simulation.specs.Laws.{ActsSimulate, CopiesBegin, ExpressionsSimulate, FramesApart, PlacesSimulate, WritesEncode};
 
-use bl_tree::Program;
 
 /// What is made of an expression of a typed program does in C what the expression means.
-pub fn expressions_simulate(_program: &Program)
-    ensures { ExpressionsSimulate _program.now.structs _program.now.units _program.now.entry }
+pub fn expressions_simulate()
+    ensures { (program : Program) → ExpressionsSimulate program.structs program.units program.entry }
 {}
 
 /// The place that is made of a path of a typed program leads in C to the part of its variable to which the path leads.
-pub fn places_simulate(_program: &Program)
-    ensures { PlacesSimulate _program.now.structs _program.now.units _program.now.entry }
+pub fn places_simulate()
+    ensures { (program : Program) → PlacesSimulate program.structs program.units program.entry }
 {}
 
 /// Once a part of a variable is set in C's memory to what holds a value, each variable holds what the program's put leaves.
-pub fn writes_encode(_program: &Program)
-    ensures { WritesEncode _program.now.structs _program.now.units _program.now.entry }
+pub fn writes_encode()
+    ensures { (program : Program) → WritesEncode program.structs program.units program.entry }
 {}
 
 /// The C of an assignment, a declaration or a call of a typed program does in memory what the act does to the variables.
-pub fn acts_simulate(_program: &Program)
-    ensures { ActsSimulate _program.now.structs _program.now.units _program.now.entry }
+pub fn acts_simulate()
+    ensures { (program : Program) → ActsSimulate program.structs program.units program.entry }
 {}
 
 /// The arguments of a call of a typed program trap in C exactly where an input does; else they pass what a function is to be given.
-pub fn arguments_pass(_program: &Program)
-    ensures { ArgumentsPass _program.now.structs _program.now.units _program.now.entry }
+pub fn arguments_pass()
+    ensures { (program : Program) → ArgumentsPass program.structs program.units program.entry }
 {}
 
 /// The variables of a unit that may be written, and the copies, keep apart where the pointers that it was given lead to what

@@ -4,21 +4,21 @@
 //! (`PlacesTyped`). No clause fails in the C of an assignment, a declaration or a call (`ActsWellFormed`). A premise is
 //! that a unit that may change nothing through a pointer has no variable behind one (`ChangesNone`).
 
+ghost use Rattle.bl_tree.specs.declared.program.Program.{Program};
 ghost use Rattle.bl_emit_acts_laws_wellformed.specs.Formed.Laws.{ActsWellFormed, ExpressionsTyped, PlacesTyped};
 
-use bl_tree::Program;
 
 /// What is made of an expression of a typed program has the C type of its type, and nothing fails in it.
-pub fn expressions_typed(_program: &Program)
-    ensures { ExpressionsTyped _program.now.structs _program.now.units _program.now.entry }
+pub fn expressions_typed()
+    ensures { (program : Program) → ExpressionsTyped program.structs program.units program.entry }
 {}
 
 /// The place of a path of a typed program has the C type of the path's type, and nothing fails in it.
-pub fn places_typed(_program: &Program)
-    ensures { PlacesTyped _program.now.structs _program.now.units _program.now.entry }
+pub fn places_typed()
+    ensures { (program : Program) → PlacesTyped program.structs program.units program.entry }
 {}
 
 /// Nothing fails in the C of an assignment, a declaration or a call of a typed program.
-pub fn acts_well_formed(_program: &Program)
-    ensures { ActsWellFormed _program.now.structs _program.now.units _program.now.entry }
+pub fn acts_well_formed()
+    ensures { (program : Program) → ActsWellFormed program.structs program.units program.entry }
 {}

@@ -3,16 +3,16 @@
 //! operators, casts, calls and indices in the expression (`specs/Spelled.antt`, `ExpressionsFit`). The same holds for
 //! the place of a path (`PlacesFit`).
 
+ghost use Rattle.bl_tree.specs.declared.program.Program.{Program};
 ghost use Rattle.bl_emit_acts_laws_wellformed.specs.Spelled.{ExpressionsFit, PlacesFit};
 
-use bl_tree::Program;
 
 /// What is made of an expression of a typed program has a spelling, which is no deeper than the expression allows.
-pub fn expressions_fit(_program: &Program)
-    ensures { ExpressionsFit _program.now.structs _program.now.units _program.now.entry }
+pub fn expressions_fit()
+    ensures { (program : Program) → ExpressionsFit program.structs program.units program.entry }
 {}
 
 /// The place of a path of a typed program has a spelling, which is no deeper than the path allows.
-pub fn places_fit(_program: &Program)
-    ensures { PlacesFit _program.now.structs _program.now.units _program.now.entry }
+pub fn places_fit()
+    ensures { (program : Program) → PlacesFit program.structs program.units program.entry }
 {}

@@ -1,3 +1,4 @@
-mod Counted
-mod Merged
-mod Whole
+pub mod Counted
+pub mod Merged
+pub mod OnShown
+pub mod Whole

@@ -14,7 +14,6 @@ use Rattle.bl_emit.specs.Programs.{written_told}
 use Rattle.bl_emit_laws.specs.Told.{WrittenIsComputed}
 use Rattle.bl_emit_spec.specs.Programs.{Written, written}
 use Rattle.bl_emit_spec_laws_simulation.specs.Compiled.{AreCountable}
-use Rattle.bl_emit_laws.specs.Spelled.{ProgramsSpelled}
 use Rattle.bl_emit_file.specs.Laws.{Known}
 use Rattle.bl_emit_file.specs.Merged.{AreMerged, IsMerged, IsOfMerged}
 
@@ -57,11 +56,10 @@ made_known accepted plain merged made is_accepted text countable one two are_mer
     }
 
 -- what is made as is written has a spelling
-pub made_spelled : (program : Program) (machine : List Activity) (made : Written) → ProgramsSpelled program → IsMadeOf program machine made →
+pub made_spelled : (program : Program) (machine : List Activity) (made : Written) →
+    is_spellable (written program machine).structs (written program machine).funcs ≡ true → IsMadeOf program machine made →
     is_spellable made.structs made.funcs ≡ true
-made_spelled program machine made spelled it =
-    subst (λ (it : Written). is_spellable it.structs it.funcs ≡ true) (sym it.is)
-    (spelled machine it.known.well_typed it.known.passes it.known.limits it.known.agrees)
+made_spelled program machine made spelled it = subst (λ (it : Written). is_spellable it.structs it.funcs ≡ true) (sym it.is) spelled
 
 -- and it is of a machine whose blocks are merged
 pub made_of_merged : (program : Program) (machine : List Activity) (made : Written) → IsMadeOf program machine made →

@@ -1,5 +1,5 @@
 -- What is known of a program for which no rule fails, and what the C that is written of it shows.
-use Rattle.std.specs.Prelude.{List}
+use Rattle.std.specs.Prelude.{◌≡◌, true, List}
 use Rattle.bl_tree.specs.declared.program.Program.{Program}
 use Rattle.bl_tree.specs.Program.{IsWellTyped}
 use Rattle.bl_effects.specs.Rules.{Passes}
@@ -7,7 +7,9 @@ use Rattle.bl_limits.specs.Rules.{Passes as KeepsLimits}
 use Rattle.bl_machine_prevs.specs.Declared.{FromText}
 use Rattle.bl_machine.specs.declared.machine.Activity.{Activity as InMachine}
 use Rattle.bl_machine.specs.Machines.{AreActivitiesOf}
+use Rattle.bl_ctext.specs.Spellable.{is_spellable}
 use Rattle.bl_emit_laws.specs.Kept.{written_file}
+use Rattle.bl_emit_spec.specs.Programs.{written}
 use Rattle.bl_emit_spec_laws_simulation.specs.Compiled.{AreCountable}
 use Rattle.bl_emit_file.specs.Merged.{AreMerged}
 use Rattle.bl_emit_file.specs.Shows.{ShowsProgram}
@@ -28,3 +30,9 @@ abbrev pub ProgramsShow : Program → Type 0
 ProgramsShow program =
     (machine : List InMachine) → Known program machine →
     ShowsProgram program.structs program.units program.entry (written_file program machine)
+
+-- and it has a spelling
+abbrev pub ProgramsHaveSpelling : Program → Type 0
+ProgramsHaveSpelling program =
+    (machine : List InMachine) → Known program machine →
+    is_spellable (written program machine).structs (written program machine).funcs ≡ true

@@ -18,12 +18,11 @@ ghost use Rattle.bl_rules_laws_sizes.specs.Small.{AreSmall};
 ghost use Rattle.bl_emit_file.specs.Merged.{IsOfMerged};
 ghost use Rattle.bl_emit_file.specs.Shows.{ShowsProgram};
 
-use crate::laws::programs_show;
+use crate::laws::{programs_have_spelling, programs_show};
 use bl_block::merge;
 use bl_cause::Accepted;
 use bl_ctext::CFile;
 use bl_emit::emit;
-use bl_emit_laws::spelled::programs_spelled;
 use bl_emit_laws::told::written_is_told;
 use bl_machine::Machine;
 use bl_tree::NoMemory;
@@ -36,10 +35,9 @@ pub fn c_file(alloc: Global, accepted: &Accepted) -> Result<CFile, NoMemory>
     ensures shows { IfOk result (λ file. ShowsProgram accepted.now.program.structs accepted.now.program.units accepted.now.program.entry (parts_of file)) }
     ensures merged { IfOk result (λ file. IsOfMerged accepted.now.program (parts_of file)) }
 {
-    let program = accepted.program();
     accepted.is_accepted();
-    programs_show(program);
-    programs_spelled(program);
+    programs_show();
+    programs_have_spelling();
     written_is_told();
     let machine = Machine::of(alloc, accepted)?;
     let merged = merge(alloc, &machine, accepted)?;

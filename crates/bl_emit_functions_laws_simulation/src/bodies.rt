@@ -4,16 +4,16 @@
 //! (`FlowSimulates`). Premises are that earlier functions agree and that the function's pointers are valid
 //! (`FunctionIsRunning`). `units` has whole functions.
 
+ghost use Rattle.bl_tree.specs.declared.program.Program.{Program};
 ghost use Rattle.bl_emit_functions_laws_simulation.specs.Bodies.{StatementsSimulate};
 
 use bl_emit_acts_laws_simulation::{acts_simulate, expressions_simulate, frames_apart};
-use bl_tree::Program;
 
 /// The C of statements of a typed program's function comes to what the statements come to.
-pub fn statements_simulate(program: &Program)
-    ensures { StatementsSimulate program.now.structs program.now.units program.now.entry }
+pub fn statements_simulate()
+    ensures { (program : Program) → StatementsSimulate program.structs program.units program.entry }
 {
-    expressions_simulate(program);
-    acts_simulate(program);
+    expressions_simulate();
+    acts_simulate();
     frames_apart();
 }

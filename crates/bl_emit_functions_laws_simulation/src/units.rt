@@ -5,26 +5,26 @@
 //! of the source at least. A table keeps what it knows as others join it (`TablesGrow`). The C functions of a program's
 //! functions, in order, make a table that knows all of them (`TablesKnow`).
 
+ghost use Rattle.bl_tree.specs.declared.program.Program.{Program};
 ghost use Rattle.bl_emit_functions_laws_simulation.specs.Units.{FunctionsSimulate, TablesGrow, TablesKnow};
 
 use crate::calls::procedures_simulate;
 use crate::results::results_simulate;
-use bl_tree::Program;
 
 /// The C functions that a table knows do what the functions of the program do.
-pub fn functions_simulate(program: &Program)
-    ensures { FunctionsSimulate program.now.structs program.now.units program.now.entry }
+pub fn functions_simulate()
+    ensures { (program : Program) → FunctionsSimulate program.structs program.units program.entry }
 {
-    results_simulate(program);
-    procedures_simulate(program);
+    results_simulate();
+    procedures_simulate();
 }
 
 /// A table knows what it knew and what joins it.
-pub fn tables_grow(_program: &Program)
-    ensures { TablesGrow _program.now.structs _program.now.units }
+pub fn tables_grow()
+    ensures { (program : Program) → TablesGrow program.structs program.units }
 {}
 
 /// The table of the C functions of a program's functions, one behind the other, knows all of them.
-pub fn tables_know(_program: &Program)
-    ensures { TablesKnow _program.now.structs _program.now.units _program.now.entry }
+pub fn tables_know()
+    ensures { (program : Program) → TablesKnow program.structs program.units program.entry }
 {}

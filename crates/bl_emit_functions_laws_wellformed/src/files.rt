@@ -10,56 +10,56 @@
 //! these structs and functions, rules Frames and Cells must hold, and 64 bits the numbers in the functions' names
 //! (`FunctionFilesWellFormed`).
 
+ghost use Rattle.bl_tree.specs.declared.program.Program.{Program};
 ghost use Rattle.bl_emit_functions_laws_wellformed.specs.Files.Laws.{ChainsFollow, ChainsGrow, ChainsShort};
 ghost use Rattle.bl_emit_functions_laws_wellformed.specs.Files.List.{FunctionFilesWellFormed, FunctionListsWellFormed, MemoriesStand, StructsPrecede};
 
 use crate::formed::{functions_signed, functions_well_formed, memories_hold};
 use bl_emit_structs_laws_wellformed::formed::{structs_there, structs_well_formed};
-use bl_tree::Program;
 
 /// The C function of a unit heads no longer chain of calls than the unit does.
-pub fn chains_follow(_program: &Program)
-    ensures { ChainsFollow _program.now.structs _program.now.units }
+pub fn chains_follow()
+    ensures { (program : Program) → ChainsFollow program.structs program.units }
 {}
 
 /// A table that tells the chains of the earlier functions still does so once the next function joins it.
-pub fn chains_grow(_program: &Program)
-    ensures { ChainsGrow _program.now.structs _program.now.units _program.now.entry }
+pub fn chains_grow()
+    ensures { (program : Program) → ChainsGrow program.structs program.units program.entry }
 {}
 
 /// Where rule Frames doesn't fail, no C function of a unit heads a chain of more than 100 functions.
-pub fn chains_short(_program: &Program)
-    ensures { ChainsShort _program.now.structs _program.now.units _program.now.entry }
+pub fn chains_short()
+    ensures { (program : Program) → ChainsShort program.structs program.units program.entry }
 {}
 
 /// Nothing fails in the C functions of a program's functions, one behind the other.
-pub fn function_lists_well_formed(program: &Program)
-    ensures { FunctionListsWellFormed program.now.structs program.now.units program.now.entry }
+pub fn function_lists_well_formed()
+    ensures { (program : Program) → FunctionListsWellFormed program.structs program.units program.entry }
 {
-    functions_well_formed(program);
+    functions_well_formed();
     functions_signed();
 }
 
 /// No two of the structs of the variables of a program's functions have one name.
-pub fn memories_stand(program: &Program)
-    ensures { MemoriesStand program.now.structs program.now.units program.now.entry }
+pub fn memories_stand()
+    ensures { (program : Program) → MemoriesStand program.structs program.units program.entry }
 {
-    memories_hold(program);
+    memories_hold();
 }
 
 /// Nothing fails in the structs before a program's functions, and they are what the functions need.
-pub fn structs_precede(program: &Program)
-    ensures { StructsPrecede program.now.structs program.now.units program.now.entry }
+pub fn structs_precede()
+    ensures { (program : Program) → StructsPrecede program.structs program.units program.entry }
 {
-    structs_well_formed(program);
-    structs_there(program);
-    memories_hold(program);
+    structs_well_formed();
+    structs_there();
+    memories_hold();
 }
 
 /// Nothing fails in the C functions of a program's functions, in a file that begins with their structs.
-pub fn files_formed(program: &Program)
-    ensures { FunctionFilesWellFormed program.now.structs program.now.units program.now.entry }
+pub fn files_formed()
+    ensures { (program : Program) → FunctionFilesWellFormed program.structs program.units program.entry }
 {
-    structs_precede(program);
-    function_lists_well_formed(program);
+    structs_precede();
+    function_lists_well_formed();
 }

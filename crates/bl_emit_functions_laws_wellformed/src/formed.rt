@@ -6,23 +6,23 @@
 //! in which no clause fails behind the program's structs (`MemoriesHold`, and `StructsWellFormed` of
 //! `bl_emit_structs_laws_wellformed`).
 
+ghost use Rattle.bl_tree.specs.declared.program.Program.{Program};
 ghost use Rattle.bl_emit_functions_laws_wellformed.specs.Formed.{BodiesWellFormed, FunctionsSigned, FunctionsWellFormed, MemoriesHold, TurnsDiffer};
 
-use bl_tree::Program;
 
 /// Nothing fails in the statements of the C function of a function of a typed program.
-pub fn bodies_well_formed(_program: &Program)
-    ensures { BodiesWellFormed _program.now.structs _program.now.units _program.now.entry }
+pub fn bodies_well_formed()
+    ensures { (program : Program) → BodiesWellFormed program.structs program.units program.entry }
 {}
 
 /// Nothing fails in the C function of a function of a typed program.
-pub fn functions_well_formed(_program: &Program)
-    ensures { FunctionsWellFormed _program.now.structs _program.now.units _program.now.entry }
+pub fn functions_well_formed()
+    ensures { (program : Program) → FunctionsWellFormed program.structs program.units program.entry }
 {}
 
 /// Each loop of the C function of a function is counted by a variable of its own.
-pub fn turns_differ(_program: &Program)
-    ensures { TurnsDiffer _program.now.structs _program.now.units }
+pub fn turns_differ()
+    ensures { (program : Program) → TurnsDiffer program.structs program.units }
 {}
 
 /// The C function of a function has the parameters and the result that are asked of it where it is called.
@@ -31,6 +31,6 @@ pub fn functions_signed()
 {}
 
 /// The struct of a function's variables has variables of the program as its members, each once.
-pub fn memories_hold(_program: &Program)
-    ensures { MemoriesHold _program.now.structs _program.now.units }
+pub fn memories_hold()
+    ensures { (program : Program) → MemoriesHold program.structs program.units }
 {}

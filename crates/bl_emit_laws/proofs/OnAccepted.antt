@@ -1,17 +1,13 @@
 -- The law of a whole program.
-use Rattle.std.proofs.Common.{◌≡◌}
-use Rattle.std.specs.Prelude.{slice_get}
 use Rattle.bl_tree.specs.declared.program.Program.{Program}
 use Rattle.bl_emit_laws.specs.Formed.{FilesWellFormed}
 use Rattle.bl_emit_laws.specs.Forms.{UnitsMeetConditions}
 use Rattle.bl_emit_spec_laws_wellformed_bodies.specs.Structs.Laws.{FilesDeclare}
 use Rattle.bl_emit_laws.specs.Accepted.{ProgramsWellFormed}
-use Rattle.bl_emit_spec_laws_wellformed.proofs.OnClosed.Closed.{entry_there}
 
 pub formed : (program : Program) → UnitsMeetConditions program.structs program.units program.entry → FilesDeclare program → FilesWellFormed program →
     ProgramsWellFormed program
-formed program forms declares files machine keeps passes limits agrees =
-    let entry = entry_there (slice_get program.units program.entry) keeps.entry_stands in
-    let structs = declares machine entry.0 keeps limits agrees entry.1 in
-    files machine entry.0 keeps limits entry.1 (forms machine keeps passes limits agrees)
+formed program forms declares files machine unit keeps passes limits agrees there =
+    let structs = declares machine unit keeps limits agrees there in
+    files machine unit keeps limits there (forms machine keeps passes limits agrees)
     (record { formed = structs.sound; types = structs.types; parts = structs.parts; interface = structs.interface })

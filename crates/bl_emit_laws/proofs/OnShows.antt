@@ -12,7 +12,7 @@ use Rattle.bl_emit_spec_laws_wellformed.specs.Closed.{NeededClosed}
 use Rattle.bl_emit_spec_laws_files.specs.Files.{FileStands, FilesShow, FilesStand, known_after, known_at_tick}
 use Rattle.bl_emit_laws.specs.Linked.{NeededSimulate}
 use Rattle.bl_emit_spec_laws_files.specs.States.States.{StateKept, StatesAreKept}
-use Rattle.bl_emit_laws.specs.Kept.{FileEnds, FilesEnd, FramesAreDeclared, RunsAreFound, activities_in, functions_before, structs_before, written_file}
+use Rattle.bl_emit_laws.specs.Kept.{FileEnds, FilesEnd, FramesAreDeclared, RunsAreFound, activities_in, functions_before, structs_before, shown_file}
 use Rattle.bl_emit_laws.specs.Shows.{WrittenShows}
 
 pub written_shows : (program : Program) → FramesAreDeclared program → RunsAreFound → FilesEnd program →
@@ -29,7 +29,7 @@ written_shows program declared found ends closed come states stand show machine 
     activities = activities_in program machine
 
     file : Parts
-    file = written_file program machine
+    file = shown_file program unit machine
 
     functions : List CFunc
     functions = functions_before program machine
@@ -42,7 +42,7 @@ written_shows program declared found ends closed come states stand show machine 
     comes = come machine (activities_in program machine) program.entry 0 compiled apart all (closed.entry_is compiled.well_typed)
 
     stands : FileStands program.structs unit (remembers_any (activities_in program machine program.entry))
-        (known_at_tick unit (functions_before program machine)) (written_file program machine)
+        (known_at_tick unit (functions_before program machine)) (shown_file program unit machine)
     stands =
         subst
         (FileStands program.structs unit (remembers_any (activities_in program machine program.entry))
@@ -51,8 +51,8 @@ written_shows program declared found ends closed come states stand show machine 
         (stand.stands program.structs unit (remembers_any (activities_in program machine program.entry)) (structs_before program machine)
         (functions_before program machine) over.none)
 
-    kept : StateKept (setting_of program.structs program.units program.entry) (activities_in program machine) unit (written_file program machine)
+    kept : StateKept (setting_of program.structs program.units program.entry) (activities_in program machine) unit (shown_file program unit machine)
     kept =
-        states program.structs program.units program.entry machine (activities_in program machine) unit (written_file program machine) compiled
+        states program.structs program.units program.entry machine (activities_in program machine) unit (shown_file program unit machine) compiled
         (found program.structs program.units program.entry machine (activities_in program machine) compiled) there formed
         (declared machine unit compiled.well_typed compiled.passes compiled.agrees there)

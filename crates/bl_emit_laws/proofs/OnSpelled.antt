@@ -141,8 +141,8 @@ module _ (structs : List StructDef) (units : List UnitDef) (entry : ℕ) (keeps 
 pub programs_spelled : (program : Program) → ActivitiesCount → MachinesSpell program.structs program.units program.entry →
     NeededSmall program.structs program.units program.entry → NeededNumbered program.structs program.units program.entry → FilesSpelled program →
     ProgramsSpelled program
-programs_spelled program counted spell small numbered files machine keeps passes limits agrees =
+programs_spelled program counted spell small numbered files machine unit keeps passes limits agrees there =
     let needed : List Bool = needed_units program.units program.entry in
-    files machine keeps
+    files machine unit keeps there
     (all_write program.structs program.units program.entry keeps passes limits counted spell small numbered [] [] program.units needed machine refl
     (λ j is. behind_none needed (length {A = UnitDef} []) j refl is) agrees)

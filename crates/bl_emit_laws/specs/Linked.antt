@@ -15,7 +15,8 @@ use Rattle.bl_machine.specs.Machines.{AreActivitiesOf}
 use Rattle.bl_emit_acts.specs.Types.{unit_name}
 use Rattle.bl_emit_functions_laws_simulation.specs.Units.{NoneOverlaps, known_after}
 use Rattle.bl_emit_spec.specs.Activities.{remembers_any}
-use Rattle.bl_emit_spec.specs.Programs.{init_function, needed_units, tick_function, written}
+use Rattle.bl_emit_spec.specs.Lent.{lent_unit}
+use Rattle.bl_emit_spec.specs.Programs.{init_function, needed_units, tick_function, written_of}
 use Rattle.bl_emit_spec_laws.specs.Calls.Built.{Activities, AreBuilt}
 use Rattle.bl_emit_spec_laws.specs.Calls.Calls.{ActivitySimulates}
 use Rattle.bl_emit_spec_laws.specs.Calls.Laws.{ActivitiesSimulate, CompilationContext}
@@ -40,12 +41,12 @@ NeededSimulate structs units entry =
     ActivitiesSimulate structs units entry machine activities → slice_get (needed_units units entry) u ≡ Some true →
     ActivitySimulates (setting_of structs units entry) activities u (table_of_needed structs units entry activities) depth
 
--- the file has the functions that are written of the program with its machine, whose entry is this unit
+-- the file has the functions that are written of the program with its machine, whose entry has the inputs of this unit lent
 pub record IsWritten (program : Program) (machine : List InMachine) (unit : UnitDef) (file : Parts) : Type 0 where
   pub well_typed : IsWellTyped program.structs program.units program.entry
   pub agrees : AreActivitiesOf program.units machine
-  pub there : slice_get program.units program.entry ≡ Some unit
-  pub funcs : file.funcs ≡ (written program machine).funcs
+  pub there : slice_get program.units program.entry ≡ Some (lent_unit unit)
+  pub funcs : file.funcs ≡ (written_of program unit machine).funcs
 
 -- the start and the tick of the file run over this table of functions
 pub record Enters (file : Parts) (known : Table Meaning) (unit : UnitDef) (activities : Activities) (entry : ℕ) : Type 0 where

@@ -1,5 +1,5 @@
 -- The frames in the C file of an accepted program are as wide as its activities.
-use Rattle.std.specs.Prelude.{◌≡◌, ℕ, Bool, List, Contains, Some, filter, length}
+use Rattle.std.specs.Prelude.{◌≡◌, ℕ, Bool, List, Contains, Some, filter, length, slice_get}
 use Rattle.bl_tree.specs.declared.c.CMember.{CMember}
 use Rattle.bl_tree.specs.declared.c.CStruct.{CStruct}
 use Rattle.bl_tree.specs.declared.program.Program.{Program}
@@ -9,9 +9,10 @@ use Rattle.bl_effects.specs.Surface.{width}
 use Rattle.bl_ctree.specs.Instances.{setting_of, unit_at}
 use Rattle.bl_ctext_semantics.specs.Parts.{Parts}
 use Rattle.bl_machine.specs.declared.machine.Activity.{Activity as InMachine}
+use Rattle.bl_emit_spec.specs.Lent.{lent_unit}
 use Rattle.bl_emit_spec.specs.Names.{frame_name}
 use Rattle.bl_emit_spec_laws.specs.Calls.Laws.{CompilationContext}
-use Rattle.bl_emit_laws.specs.Kept.{activities_in, written_file}
+use Rattle.bl_emit_laws.specs.Kept.{activities_in, shown_file}
 use Rattle.bl_emit_laws.specs.Counters.Own.{is_counter_name}
 
 -- whether the member is a counter, by its name
@@ -33,5 +34,7 @@ EachFrameHasWidth structs units entry file =
 -- the file of a compiled program has as many counters as the unit's width, for each instance's unit
 abbrev pub FramesHaveWidth : Program → Type 0
 FramesHaveWidth program =
-    (machine : List InMachine) → CompilationContext program.structs program.units program.entry machine (activities_in program machine) →
-    EachFrameHasWidth program.structs program.units program.entry (written_file program machine)
+    (machine : List InMachine) (unit : UnitDef) →
+    CompilationContext program.structs program.units program.entry machine (activities_in program machine) →
+    slice_get program.units program.entry ≡ Some (lent_unit unit) →
+    EachFrameHasWidth program.structs program.units program.entry (shown_file program unit machine)

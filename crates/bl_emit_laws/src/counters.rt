@@ -9,6 +9,7 @@
 //! block to which the block before leaves the call of a `run` asks first for the flag of that block. Nothing in these
 //! `if`s asks for a flag.
 
+ghost use Rattle.bl_tree.specs.declared.program.Program.{Program};
 ghost use Rattle.bl_emit_laws.specs.Counters.Laws.{FilesHaveIfs, FilesOwn};
 
 use crate::kept::{files_end, frames_are_declared};
@@ -17,28 +18,27 @@ use bl_emit_spec_laws::tables::activities_built;
 use bl_emit_spec_laws_wellformed::closed::instances_needed;
 use bl_machine_pass_laws::numbers::trees_stay_placed;
 use bl_machine_transitions_laws::rules_are_listed;
-use bl_tree::Program;
 
 /// In the file that is written each activity has one function and one struct, and no other function names its counters.
-pub fn files_own(program: &Program)
-    ensures { FilesOwn program.now }
+pub fn files_own()
+    ensures { (program : Program) → FilesOwn program }
 {
     accepted_programs_are_orderly();
     activities_built();
-    instances_needed(program);
-    frames_are_declared(program);
-    files_end(program);
+    instances_needed();
+    frames_are_declared();
+    files_end();
 }
 
 /// In the body of the function of each activity stand as many `if`s as the machine has blocks for it, and they ask for
 /// its flags.
-pub fn files_have_ifs(program: &Program)
-    ensures { FilesHaveIfs program.now }
+pub fn files_have_ifs()
+    ensures { (program : Program) → FilesHaveIfs program }
 {
     accepted_programs_are_orderly();
     activities_built();
     trees_stay_placed();
     rules_are_listed();
-    instances_needed(program);
-    files_end(program);
+    instances_needed();
+    files_end();
 }

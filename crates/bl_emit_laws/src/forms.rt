@@ -1,6 +1,7 @@
 //! The conditions of the C file of an accepted program on its units. One lemma: where no rule fails, each unit that the
 //! entry needs meets them, with any machine of the program (`specs/Forms.antt`, `UnitsMeetConditions`).
 
+ghost use Rattle.bl_tree.specs.declared.program.Program.{Program};
 ghost use Rattle.bl_emit_laws.specs.Forms.{UnitsMeetConditions};
 
 use bl_emit_spec_laws_nodes::copied::{nodes_copied, runs_copied};
@@ -17,20 +18,19 @@ use bl_machine_pass_laws::numbers::trees_stay_placed;
 use bl_machine_pass_laws::spots::spots_differ;
 use bl_machine_prevs_laws::scalar::prevs_are_scalar;
 use bl_machine_transitions_laws::rules_are_listed;
-use bl_tree::Program;
 
 /// All is so that is asked of the units that the entry of an accepted program needs.
-pub fn all_form(program: &Program)
-    ensures { UnitsMeetConditions program.now.structs program.now.units program.now.entry }
+pub fn all_form()
+    ensures { (program : Program) → UnitsMeetConditions program.structs program.units program.entry }
 {
     units_use_earlier_ones();
     units_add_up();
-    nodes_counted(program);
+    nodes_counted();
     activities_count();
-    machines_spell(program);
-    machines_differ(program);
-    needed_small(program);
-    needed_numbered(program);
+    machines_spell();
+    machines_differ();
+    needed_small();
+    needed_numbered();
     spots_differ();
     trees_stay_placed();
     nodes_have_keys();

@@ -3,28 +3,28 @@
 //! `NeededAreKnown`). The function of a needed activity simulates passes of its instances (`NeededSimulate`). The two
 //! functions of the interface, which are called from outside, stand behind them (`FilesEnter`).
 
+ghost use Rattle.bl_tree.specs.declared.program.Program.{Program};
 ghost use Rattle.bl_emit_laws.specs.Linked.{FilesEnter, NeededAreKnown, NeededSimulate};
 
 use bl_ctext_semantics_laws_calls::known::calls_decide;
 use bl_emit_spec_laws::tables::{tables_know_all, written_is_kept};
 use bl_emit_spec_laws_wellformed::chains::activities_call_few;
 use bl_emit_spec_laws_wellformed::closed::needed_closed;
-use bl_tree::Program;
 
 /// The functions of needed units do in the file what they do among those of all units.
-pub fn needed_are_known(program: &Program)
-    ensures { NeededAreKnown program.now.structs program.now.units program.now.entry }
+pub fn needed_are_known()
+    ensures { (program : Program) → NeededAreKnown program.structs program.units program.entry }
 {
     calls_decide();
     activities_call_few();
-    needed_closed(program);
+    needed_closed();
 }
 
 /// The functions of needed activities do in the file what passes of their instances do.
-pub fn needed_simulate(program: &Program)
-    ensures { NeededSimulate program.now.structs program.now.units program.now.entry }
+pub fn needed_simulate()
+    ensures { (program : Program) → NeededSimulate program.structs program.units program.entry }
 {
-    needed_are_known(program);
+    needed_are_known();
     tables_know_all();
 }
 

@@ -5,7 +5,7 @@ use Rattle.std.specs.Prelude.{codes, length, nat_eq, slice_get, unwrap_or}
 use Rattle.std.specs.List.{list_any}
 use Rattle.bl_tree.specs.declared.text.Text.{Text}
 use Rattle.bl_tree.specs.declared.c.CArg.{CArg}
-use Rattle.bl_tree.specs.declared.c.CArg.TheVariants.{Address, Value}
+use Rattle.bl_tree.specs.declared.c.CArg.TheVariants.{Address}
 use Rattle.bl_tree.specs.declared.c.CFunc.{CFunc}
 use Rattle.bl_tree.specs.declared.c.CLocal.{CLocal}
 use Rattle.bl_tree.specs.declared.c.CMember.{CMember}
@@ -35,6 +35,7 @@ use Rattle.bl_machine_pass.specs.Numbered.{sizes_of, slots_of}
 use Rattle.bl_emit_spec.specs.Activities.{Activity, activity_function, frame_struct, pointer_param, remembered_struct, remembers_any, scalar_local}
 use Rattle.bl_emit_spec.specs.Activities.{struct_member}
 use Rattle.bl_emit_spec.specs.Blocks.{arg_where, stmt_where, unit_may_end}
+use Rattle.bl_emit_spec.specs.Lent.{shown_units}
 use Rattle.bl_emit_spec.specs.Names.{frame_name}
 
 -- ---- which units are needed
@@ -161,10 +162,11 @@ init_function = record {
   body = c_clear (c_place true (codes "s") []) (codes "bl_state") ∷ [];
 }
 
--- the value of an input, and the place of an output
+-- the place of an input, at which the entry reads it
 abbrev pub input_arg : Var → CArg
-input_arg var = Value (c_read (c_place true (codes "i") (c_step (codes "i_" ++ var.name) ∷ [])))
+input_arg var = Address (c_place true (codes "i") (c_step (codes "i_" ++ var.name) ∷ []))
 
+-- the place of an output
 abbrev pub output_arg : Var → CArg
 output_arg var = Address (c_place true (codes "o") (c_step (codes "o_" ++ var.name) ∷ []))
 
@@ -213,21 +215,31 @@ pub record Written : Type 0 where
   pub structs : List CStruct
   pub funcs : List CFunc
 
--- the structs and functions written of a program with these parts and this entry
-abbrev pub file_of : Program → ProgramParts → UnitDef → Written
-file_of program parts unit =
-    let remembers = unwrap_or (slice_get parts.remember program.entry) false in record {
-      structs = structs_of program ++ (parts.structs ++ interface_structs program.structs unit remembers);
-      funcs = parts.funcs ++ (init_function ∷ tick_function unit remembers ∷ []);
+-- what is written of structs and of units with these parts, whose entry at this position has the ports of a unit
+abbrev pub file_of : List StructDef → List UnitDef → ℕ → ProgramParts → UnitDef → Written
+file_of structs units entry parts ports =
+    let remembers = unwrap_or (slice_get parts.remember entry) false in record {
+      structs = structs_of structs units ++ (parts.structs ++ interface_structs structs ports remembers);
+      funcs = parts.funcs ++ (init_function ∷ tick_function ports remembers ∷ []);
     }
 
--- the structs and functions written of a program with these parts, where the entry may be absent
-abbrev pub file_at : Program → ProgramParts → Option UnitDef → Written
-file_at program parts (Some unit) = file_of program parts unit
-file_at program parts None = record { structs = []; funcs = [] }
+-- the parts of the units that the entry at the position needs, with a machine
+abbrev pub parts_needed : List StructDef → List UnitDef → ℕ → List InMachine → ProgramParts
+parts_needed structs units entry machine = parts_from structs [] [] units (needed_units units entry) machine
+
+-- what is written of units with a machine, whose entry at this position has the ports of a unit
+abbrev pub written_as : List StructDef → List UnitDef → ℕ → UnitDef → List InMachine → Written
+written_as structs units entry ports machine = file_of structs units entry (parts_needed structs units entry machine) ports
+
+-- what is written of a program's units with a machine, whose entry has the ports of a unit
+abbrev pub written_of : Program → UnitDef → List InMachine → Written
+written_of program ports machine = written_as program.structs program.units program.entry ports machine
+
+-- what is written of a program with a machine, where the entry may be absent
+abbrev pub written_at : Program → List InMachine → Option UnitDef → Written
+written_at program machine (Some unit) = written_as program.structs (shown_units program.units program.entry) program.entry unit machine
+written_at program machine None = record { structs = []; funcs = [] }
 
 -- the structs and functions written of a program with a machine
 abbrev pub written : Program → List InMachine → Written
-written program machine =
-    file_at program (parts_from program.structs [] [] program.units (needed_units program.units program.entry) machine)
-    (slice_get program.units program.entry)
+written program machine = written_at program machine (slice_get program.units program.entry)

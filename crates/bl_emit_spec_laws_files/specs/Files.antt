@@ -1,5 +1,5 @@
 -- What the C file of a program does over rows of inputs.
-use Rattle.std.specs.Prelude.{◌≡◌, ℕ, ℤ, Bool, false, List, [], ◌∷◌, ◌++◌, map, Contains, Some, bytes_eq, codes, slice_get}
+use Rattle.std.specs.Prelude.{◌≡◌, ℕ, ℤ, Bool, false, List, [], ◌∷◌, ◌++◌, drop, map, Contains, Some, bytes_eq, codes, slice_get}
 use Rattle.bl_tree.specs.declared.c.CFunc.{CFunc}
 use Rattle.bl_tree.specs.declared.c.CStruct.{CStruct}
 use Rattle.bl_tree.specs.declared.row.Trace.{Trace}
@@ -20,6 +20,7 @@ use Rattle.bl_ctree.specs.Store.{first_store}
 use Rattle.bl_emit_acts.specs.Types.{unit_name}
 pub use Rattle.bl_emit_functions_laws_simulation.specs.Units.{known_after}
 use Rattle.bl_emit_spec.specs.Activities.{remembers_any}
+use Rattle.bl_emit_spec.specs.Lent.{lent_unit}
 use Rattle.bl_emit_spec.specs.Programs.{init_function, interface_structs, port_member, tick_function}
 use Rattle.bl_machine.specs.declared.machine.Activity.{Activity as InMachine}
 use Rattle.bl_machine_pass_laws_execution.specs.Frames.{Frames}
@@ -43,19 +44,25 @@ pub record FileStands (structs : List StructDef) (unit : UnitDef) (remembers : B
 
 -- ---- traces
 
--- over rows that fit the file shows the trace of each run of passes by rules, from frames and a store that are 0; and its columns are the entry's
+-- a trace whose rows have only what is behind the first n columns
+abbrev pub behind_columns : ℕ → Trace → Trace
+behind_columns n trace = record { rows = map (drop n) trace.rows; last = trace.last }
+
+-- The file of a program whose entry has the inputs of the unit lent. Over rows that fit the unit's inputs, it shows the outputs of each run of passes by rules
+-- from frames and a store that are 0; and its columns are the unit's
 pub record FileShows (w : Setting) (activities : Activities) (unit : UnitDef) (file : Parts) : Type 0 where
   pub trace : (rows : List (List ℤ)) (frames : Frames) (trace : Trace) → RowsFit (input_columns unit) rows → ((i c : ℕ) → frames i c ≡ 0) →
-      RuleRun w (rank_by w activities) (slots_by w activities) (cleared w) unit rows frames (first_store w) trace → c_trace file rows ≡ trace
+      RuleRun w (rank_by w activities) (slots_by w activities) (cleared w) (lent_unit unit) rows frames (first_store w) trace →
+      c_trace file rows ≡ behind_columns unit.inputs trace
   pub inputs : cells.inputs_of file ≡ input_columns unit
   pub outputs : cells.outputs_of file ≡ output_columns unit
 
--- a file shows the traces of passes by rules, if the entry's function simulates them and the file keeps what it needs
+-- a file shows the outputs of passes by rules, if the entry's function simulates them and the file keeps what it needs
 abbrev pub FilesShow : Type 0
 FilesShow =
     (structs : List StructDef) (units : List UnitDef) (entry : ℕ) (machine : List InMachine) (activities : Activities) (unit : UnitDef)
     (known : Table Meaning) (file : Parts) → let w = setting_of structs units entry in
-    CompilationContext structs units entry machine activities → slice_get units entry ≡ Some unit → ActivitySimulates w activities entry known 0 →
+    CompilationContext structs units entry machine activities → slice_get units entry ≡ Some (lent_unit unit) → ActivitySimulates w activities entry known 0 →
     FileStands structs unit (remembers_any (activities entry)) known file → StateKept w activities unit file → FileShows w activities unit file
 
 -- rows that fit the entry's columns fit before the variables that its body declares

@@ -5,6 +5,7 @@
 //! (`SilentNodesSimulate`). Rules must use only registers of their activity (`RulesOwn`). Only a `return` may end a body
 //! with a result (`ReturnsEnd`), and an activity must remember what its callees remember (`Remembering`).
 
+ghost use Rattle.bl_tree.specs.declared.program.Program.{Program};
 ghost use Rattle.bl_emit_spec_laws_nodes.specs.Points.Acts.{ActNodesSimulate, ReturnNodesSimulate};
 ghost use Rattle.bl_emit_spec_laws_nodes.specs.Points.Laws.{ChangesSimulateInPass, GuardsSimulate, SilentNodesSimulate};
 ghost use Rattle.bl_emit_spec_laws_nodes.specs.Points.Nodes.{TestNodesSimulate};
@@ -12,7 +13,6 @@ ghost use Rattle.bl_emit_spec_laws_nodes.specs.Points.Points.{BodiesEnd, PointsS
 
 use bl_emit_acts_laws_simulation::{acts_simulate, expressions_simulate, frames_apart};
 use bl_emit_spec_laws::registers::{changes_simulate, guards_show, registers_apart};
-use bl_tree::Program;
 
 /// In the middle of a pass the C of changes changes the registers alone.
 pub fn changes_stand()
@@ -38,46 +38,46 @@ pub fn silent_nodes_simulate()
 }
 
 /// The blocks of nodes at which a condition is tested do what a pass by rules does there.
-pub fn test_nodes_simulate(program: &Program)
-    ensures { TestNodesSimulate program.now.structs program.now.units program.now.entry }
+pub fn test_nodes_simulate()
+    ensures { (program : Program) → TestNodesSimulate program.structs program.units program.entry }
 {
     changes_stand();
     frames_apart();
-    expressions_simulate(program);
+    expressions_simulate();
 }
 
 /// The blocks of nodes at which an act is done do what a pass by rules does there.
-pub fn act_nodes_simulate(program: &Program)
-    ensures { ActNodesSimulate program.now.structs program.now.units program.now.entry }
+pub fn act_nodes_simulate()
+    ensures { (program : Program) → ActNodesSimulate program.structs program.units program.entry }
 {
     changes_stand();
     frames_apart();
     registers_apart();
-    acts_simulate(program);
+    acts_simulate();
 }
 
 /// Nothing but a `return` ends the body of an activity with a result.
-pub fn returns_end(_program: &Program)
-    ensures { BodiesEnd _program.now.structs _program.now.units _program.now.entry }
+pub fn returns_end()
+    ensures { (program : Program) → BodiesEnd program.structs program.units program.entry }
 {}
 
 /// The blocks of nodes at which a `return` is done do what a pass by rules does there.
-pub fn return_nodes_simulate(program: &Program)
-    ensures { ReturnNodesSimulate program.now.structs program.now.units program.now.entry }
+pub fn return_nodes_simulate()
+    ensures { (program : Program) → ReturnNodesSimulate program.structs program.units program.entry }
 {
     changes_stand();
     frames_apart();
-    expressions_simulate(program);
+    expressions_simulate();
 }
 
 /// The blocks of all nodes but those of a `run` do what a pass by rules does there.
-pub fn points_simulate(program: &Program)
-    ensures { PointsSimulate program.now.structs program.now.units program.now.entry }
+pub fn points_simulate()
+    ensures { (program : Program) → PointsSimulate program.structs program.units program.entry }
 {
     silent_nodes_simulate();
     guards_choose();
-    test_nodes_simulate(program);
-    act_nodes_simulate(program);
-    return_nodes_simulate(program);
-    returns_end(program);
+    test_nodes_simulate();
+    act_nodes_simulate();
+    return_nodes_simulate();
+    returns_end();
 }

@@ -3,6 +3,7 @@
 //! bits must count the variables and statements of its units. All that the rules of an instance ask for and change are
 //! registers of its function, where rule Cells holds (`RulesAreOwn`).
 
+ghost use Rattle.bl_tree.specs.declared.program.Program.{Program};
 ghost use Rattle.bl_emit_spec_laws_simulation.specs.Compiled.{ProgramsCompile, RulesAreOwn};
 
 use bl_ctree_laws_confluence::deeds::accepted_programs_are_orderly;
@@ -13,28 +14,27 @@ use bl_emit_spec_laws_wellformed::counts::nodes_counted;
 use bl_emit_spec_laws_wellformed::needed::needed_small;
 use bl_limits_measures::laws::units_add_up;
 use bl_limits_measures_laws::laws::units_use_earlier_ones;
-use bl_tree::Program;
 
 /// A program of a source text that passes the rules, with a machine of it, is compiled as the laws of passes ask.
-pub fn programs_compile(program: &Program)
-    ensures { ProgramsCompile program.now.structs program.now.units program.now.entry }
+pub fn programs_compile()
+    ensures { (program : Program) → ProgramsCompile program.structs program.units program.entry }
 {
-    units_counted(program);
-    nodes_counted(program);
+    units_counted();
+    nodes_counted();
     nodes_are_few();
     registers_are_few();
 }
 
 /// The rules of an instance's nodes ask and change registers of its function.
-pub fn rules_are_own(program: &Program)
-    ensures { RulesAreOwn program.now.structs program.now.units program.now.entry }
+pub fn rules_are_own()
+    ensures { (program : Program) → RulesAreOwn program.structs program.units program.entry }
 {
     accepted_programs_are_orderly();
     changes_are_own();
     asked_are_own();
-    instances_needed(program);
-    needed_small(program);
-    nodes_counted(program);
+    instances_needed();
+    needed_small();
+    nodes_counted();
     units_use_earlier_ones();
     units_add_up();
 }

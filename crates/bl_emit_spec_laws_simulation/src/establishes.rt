@@ -3,6 +3,7 @@
 //! and, if the callee may end, the end flag. They are apart, and memory represents at them what a pass of the callee begins with. Where an
 //! input traps, so does the call. A premise is that what the arguments name under a `prev` is copied.
 
+ghost use Rattle.bl_tree.specs.declared.program.Program.{Program};
 ghost use Rattle.bl_emit_spec_laws_simulation.specs.Establishes.{AllRunsEstablish};
 
 use bl_ctree_laws_confluence::deeds::{instances_have_callers, instances_nest};
@@ -13,17 +14,16 @@ use bl_emit_spec_laws::remember::callees_remember;
 use bl_emit_spec_laws_nodes::prevs::prevs_agree;
 use bl_machine_pass_laws::numbers::trees_stay_placed;
 use bl_machine_pass_laws_execution::kept::{outputs_lead, rules_run};
-use bl_tree::Program;
 
 /// The call that is written for a `run` gives the callee what a pass of it begins with.
-pub fn runs_establish(program: &Program)
-    ensures { AllRunsEstablish program.now.structs program.now.units program.now.entry }
+pub fn runs_establish()
+    ensures { (program : Program) → AllRunsEstablish program.structs program.units program.entry }
 {
     instances_have_callers();
     instances_nest();
     views_are_typed();
     stores_are_local();
-    arguments_pass(program);
+    arguments_pass();
     frames_apart();
     prevs_agree();
     callees_remember();

@@ -2,6 +2,7 @@
 //! `bl_emit_spec_laws_nodes`), also where the start leaves its call to the block that goes on with it. The call must
 //! establish what a pass of the callee begins with, and leave what that pass leaves.
 
+ghost use Rattle.bl_tree.specs.declared.program.Program.{Program};
 ghost use Rattle.bl_emit_spec_laws_nodes.specs.Calling.{RunsSimulate};
 
 use bl_ctree_laws_confluence::deeds::{
@@ -15,22 +16,21 @@ use bl_emit_spec_laws_nodes::points::{changes_stand, returns_end};
 use bl_machine_pass_laws::keys::nodes_have_keys;
 use bl_machine_pass_laws::numbers::trees_stay_placed;
 use bl_machine_pass_laws_typing::fits::turns_fit;
-use bl_tree::Program;
 
 /// The blocks of `run`s do what a pass by rules does there.
-pub fn runs_simulate(program: &Program)
-    ensures { RunsSimulate program.now.structs program.now.units program.now.entry }
+pub fn runs_simulate()
+    ensures { (program : Program) → RunsSimulate program.structs program.units program.entry }
 {
     accepted_programs_are_orderly();
     instances_have_callers();
     instances_nest();
     frames_apart();
-    places_simulate(program);
-    writes_encode(program);
+    places_simulate();
+    writes_encode();
     registers_apart();
     clearing_is_inside();
     changes_stand();
-    returns_end(program);
+    returns_end();
     turns_fit();
     passes_stay_within();
     nodes_have_keys();

@@ -3,6 +3,7 @@
 //! blocks. Its premises are that the program is compiled, that rules Frames and Cells hold, and that the table knows
 //! the C functions (`CompiledSimulate`).
 
+ghost use Rattle.bl_tree.specs.declared.program.Program.{Program};
 ghost use Rattle.bl_emit_spec_laws_simulation.specs.Simulation.{CompiledSimulate};
 
 use crate::compiled::rules_are_own;
@@ -25,31 +26,30 @@ use bl_emit_spec_laws_nodes::points::points_simulate;
 use bl_emit_spec_laws_nodes::prevs::prevs_agree;
 use bl_emit_spec_laws_nodes::seen::{own_seen, targets_seen};
 use bl_emit_spec_laws_nodes::views::{acts_leave, remembering_stands};
-use bl_tree::Program;
 
 /// The C functions of a program's activities do what passes of their instances do.
-pub fn compiled_simulate(program: &Program)
-    ensures { CompiledSimulate program.now.structs program.now.units program.now.entry }
+pub fn compiled_simulate()
+    ensures { (program : Program) → CompiledSimulate program.structs program.units program.entry }
 {
     views_are_typed();
-    functions_simulate(program);
+    functions_simulate();
     activities_simulate();
-    functions_begin(program);
-    pointers_follow(program);
-    runs_simulate(program);
-    rules_are_own(program);
+    functions_begin();
+    pointers_follow();
+    runs_simulate();
+    rules_are_own();
     nodes_copied();
     runs_copied();
     counters_suffice();
     turns_fit_compiled();
-    nodes_apart(program);
-    nodes_fit(program);
-    runs_establish(program);
+    nodes_apart();
+    nodes_fit();
+    runs_establish();
     runs_leave();
     blocks_pass();
     passes_stay_within();
     blocks_are_placed();
-    points_simulate(program);
+    points_simulate();
     prevs_agree();
     callees_remember();
     own_seen();

@@ -1,5 +1,5 @@
 -- The C file of a whole program is spelled.
-use Rattle.std.specs.Prelude.{◌≡◌, ℕ, Bool, true, false, List, [], ◌∷◌, ◌++◌, drop, length, if◌then◌else◌}
+use Rattle.std.specs.Prelude.{◌≡◌, ℕ, Bool, true, false, List, [], ◌∷◌, ◌++◌, drop, length, Some, slice_get, if◌then◌else◌}
 use Rattle.bl_tree.specs.declared.program.Program.{Program}
 use Rattle.bl_tree.specs.declared.tree.StructDef.{StructDef}
 use Rattle.bl_tree.specs.declared.tree.Unit.{Unit as UnitDef}
@@ -9,7 +9,8 @@ use Rattle.bl_ctext.specs.Spellable.{has_any, is_spellable}
 use Rattle.bl_machine.specs.declared.machine.Activity.{Activity as InMachine}
 use Rattle.bl_emit_functions_laws_wellformed.specs.Formed.{IsNumbered}
 use Rattle.bl_emit_spec.specs.Activities.{Activity, frame_struct}
-use Rattle.bl_emit_spec.specs.Programs.{activity_of, needed_units, parts_of_function, parts_of_next, written}
+use Rattle.bl_emit_spec.specs.Lent.{lent_unit}
+use Rattle.bl_emit_spec.specs.Programs.{activity_of, needed_units, parts_of_function, parts_of_next, written_of}
 use Rattle.bl_emit_spec_laws_wellformed.specs.Spelled.{CanSpell}
 
 -- the C of an activity can be spelled, and the activity has a counter or runs another
@@ -44,9 +45,10 @@ AllWrite structs units earlier remember (unit ∷ rest) (test ∷ needed) machin
     ++ (if is_activity unit.kind then parts_of_next structs earlier remember unit machine else parts_of_function structs earlier unit).remember)
     rest needed (if is_activity unit.kind then drop 1 machine else machine)
 
--- the C file that is written of a typed program has a spelling, where each unit that its entry needs can be spelled
+-- the C file that is written of a typed program, whose entry has the inputs of a unit lent, has a spelling, where each unit that its entry needs can be spelled
 abbrev pub FilesSpelled : Program → Type 0
 FilesSpelled program =
-    (machine : List InMachine) → IsWellTyped program.structs program.units program.entry →
+    (machine : List InMachine) (unit : UnitDef) → IsWellTyped program.structs program.units program.entry →
+    slice_get program.units program.entry ≡ Some (lent_unit unit) →
     AllWrite program.structs program.units [] [] program.units (needed_units program.units program.entry) machine →
-    is_spellable (written program machine).structs (written program machine).funcs ≡ true
+    is_spellable (written_of program unit machine).structs (written_of program unit machine).funcs ≡ true

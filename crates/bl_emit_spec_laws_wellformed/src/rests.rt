@@ -2,14 +2,14 @@
 //! resting place has a value of its counter's type, and those that the body of a `when` may rest at are of one
 //! counter (`specs/Rests.antt`, `RulesStand`).
 
+ghost use Rattle.bl_tree.specs.declared.program.Program.{Program};
 ghost use Rattle.bl_emit_spec_laws_wellformed.specs.Rests.{RulesStand};
 
 use bl_machine_pass_laws::slots::{numbers_are_laid, typed_have_branches};
-use bl_tree::Program;
 
 /// The numbers in the rules of a typed program's activities fit their counters' types.
-pub fn rules_stand(_program: &Program)
-    ensures { RulesStand _program.now.structs _program.now.units _program.now.entry }
+pub fn rules_stand()
+    ensures { (program : Program) → RulesStand program.structs program.units program.entry }
 {
     numbers_are_laid();
     typed_have_branches();

@@ -3,6 +3,7 @@
 //! Frames and Cells hold. What fails in a list that begins with them fails behind them, where the functions of needed
 //! units are known (`PartsWellFormed`).
 
+ghost use Rattle.bl_tree.specs.declared.program.Program.{Program};
 ghost use Rattle.bl_emit_spec_laws_wellformed_bodies.specs.Lists.{PartsWellFormed};
 
 use crate::signed::{activities_signed, activities_well_formed};
@@ -15,21 +16,20 @@ use bl_emit_spec_laws_wellformed::chains::{
 use bl_emit_spec_laws_wellformed::closed::needed_closed;
 use bl_limits_measures_laws::laws::units_use_earlier_ones;
 use bl_machine_pass_laws::numbers::trees_stay_placed;
-use bl_tree::Program;
 
 /// Nothing fails in the C functions of the units that the entry needs.
-pub fn parts_well_formed(program: &Program)
-    ensures { PartsWellFormed program.now.structs program.now.units program.now.entry }
+pub fn parts_well_formed()
+    ensures { (program : Program) → PartsWellFormed program.structs program.units program.entry }
 {
     units_use_earlier_ones();
-    needed_closed(program);
+    needed_closed();
     trees_stay_placed();
     faults_follow();
-    functions_well_formed(program);
+    functions_well_formed();
     functions_signed();
-    chains_grow(program);
-    chains_short(program);
-    activities_well_formed(program);
+    chains_grow();
+    chains_short();
+    activities_well_formed();
     activities_signed();
     activities_call_few();
     activity_chains_grow();

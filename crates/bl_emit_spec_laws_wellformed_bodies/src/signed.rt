@@ -3,11 +3,11 @@
 //! (`ActivitiesWellFormed`), if what it needs stands before it, no earlier function has its name, and it heads no chain
 //! of more than 300 calls.
 
+ghost use Rattle.bl_tree.specs.declared.program.Program.{Program};
 ghost use Rattle.bl_emit_spec_laws_wellformed_bodies.specs.Signed.{ActivitiesSigned, ActivitiesWellFormed, NoneLoops};
 
 use crate::bodies::activity_bodies_well_formed;
 use bl_emit_spec_laws_wellformed::names::locals_differ;
-use bl_tree::Program;
 
 /// The C function of an activity has the parameters that are asked of it where it is called.
 pub fn activities_signed()
@@ -20,10 +20,10 @@ pub fn none_loops()
 {}
 
 /// Nothing fails in the C function of an activity of a typed program.
-pub fn activities_well_formed(program: &Program)
-    ensures { ActivitiesWellFormed program.now.structs program.now.units program.now.entry }
+pub fn activities_well_formed()
+    ensures { (program : Program) → ActivitiesWellFormed program.structs program.units program.entry }
 {
-    activity_bodies_well_formed(program);
+    activity_bodies_well_formed();
     locals_differ();
     none_loops();
 }

@@ -2,6 +2,7 @@
 //! them, and have different names (`specs/Structs/Laws.antt`, `PartsAreSound`). No clause fails in the structs of the
 //! whole file, and each is declared (`FilesDeclare`).
 
+ghost use Rattle.bl_tree.specs.declared.program.Program.{Program};
 ghost use Rattle.bl_emit_spec_laws_wellformed_bodies.specs.Structs.Laws.{FilesDeclare, PartsAreSound};
 
 use bl_emit_functions_laws_wellformed::formed::memories_hold;
@@ -14,32 +15,31 @@ use bl_emit_structs_laws_wellformed::names::{
     members_differ, names_differ, types_apart, types_declared, uses_earlier,
 };
 use bl_machine_pass_laws::numbers::trees_stay_placed;
-use bl_tree::Program;
 
 /// The structs of the units that the entry needs stand in an order in which each uses earlier ones alone.
-pub fn parts_stand(program: &Program)
-    ensures { PartsAreSound program.now.structs program.now.units program.now.entry }
+pub fn parts_stand()
+    ensures { (program : Program) → PartsAreSound program.structs program.units program.entry }
 {
     trees_stay_placed();
-    types_declared(program);
-    memories_hold(program);
+    types_declared();
+    memories_hold();
     frame_differs();
     memory_differs();
-    machines_spell(program);
-    machines_differ(program);
-    needed_small(program);
-    needed_numbered(program);
-    needed_closed(program);
+    machines_spell();
+    machines_differ();
+    needed_small();
+    needed_numbered();
+    needed_closed();
 }
 
 /// No clause fails in the structs of the whole file, and each is declared.
-pub fn files_declare(program: &Program)
-    ensures { FilesDeclare program.now }
+pub fn files_declare()
+    ensures { (program : Program) → FilesDeclare program }
 {
-    names_differ(program);
-    members_differ(program);
-    uses_earlier(program);
-    types_apart(program);
-    structs_there(program);
-    parts_stand(program);
+    names_differ();
+    members_differ();
+    uses_earlier();
+    types_apart();
+    structs_there();
+    parts_stand();
 }

@@ -3,7 +3,6 @@ use Rattle.std.specs.Prelude.{List, [], ◌∷◌, ◌++◌, map, bytes_eq, if�
 use Rattle.std.specs.List.{list_any}
 use Rattle.bl_tree.specs.declared.text.Text.{Text}
 use Rattle.bl_tree.specs.declared.c.CStruct.{CStruct}
-use Rattle.bl_tree.specs.declared.program.Program.{Program}
 use Rattle.bl_tree.specs.declared.tree.StructDef.{StructDef}
 use Rattle.bl_tree.specs.declared.tree.Ty.{Ty, fold-Ty, out-Ty}
 use Rattle.bl_tree.specs.declared.tree.Ty.TheOpen.{Ty-F}
@@ -46,6 +45,6 @@ abbrev pub each_once : List Text → List CStruct → List CStruct
 each_once taken [] = []
 each_once taken (s ∷ rest) = if list_any (bytes_eq s.name) taken then each_once taken rest else s ∷ each_once (taken ++ s.name ∷ []) rest
 
--- the C structs that a program's types need, each once and behind those that it uses
-abbrev pub structs_of : Program → List CStruct
-structs_of program = each_once [] (structs_for program.structs program.units)
+-- the C structs that the types of structs and units need, each once and behind those that it uses
+abbrev pub structs_of : List StructDef → List UnitDef → List CStruct
+structs_of structs units = each_once [] (structs_for structs units)

@@ -1,4 +1,4 @@
-//! The structs of a program.
+//! The structs that types need.
 #![tactic(auto, using(crate::proofs::Steps::steps))]
 
 ghost use Rattle.std.specs.Prelude.{◌≡◌, IfOk, OnOk, map};
@@ -10,7 +10,7 @@ use crate::collected::Collected;
 use bl_emit_acts::{array, definition};
 use bl_tree::c::CStruct;
 use bl_tree::tree::{Field, StructDef, Ty, Unit, Var};
-use bl_tree::{List, NoMemory, Program};
+use bl_tree::{List, NoMemory};
 use std::alloc::Global;
 
 /// The structs of a type's arrays, the innermost first.
@@ -98,12 +98,17 @@ fn add_units(
     Ok(())
 }
 
-/// The C structs that a program's types need, in an order in which a text may declare them. Fails only for want of memory.
-pub fn structs_of(alloc: Global, program: &Program) -> Result<List<CStruct>, NoMemory>
-    ensures { IfOk result (λ structs. structs ≡ needed program.now) }
+/// The C structs that the types of structs and units need, in an order in which a text may declare them. Fails only for want
+/// of memory.
+pub fn structs_of(
+    alloc: Global,
+    structs: &[StructDef],
+    units: &[Unit],
+) -> Result<List<CStruct>, NoMemory>
+    ensures { IfOk result (λ made. made ≡ needed structs.now units.now) }
 {
     let mut collected = Collected::new(alloc);
-    add_definitions(alloc, &program.structs, &mut collected)?;
-    add_units(alloc, &program.structs, &program.units, &mut collected)?;
+    add_definitions(alloc, structs, &mut collected)?;
+    add_units(alloc, structs, units, &mut collected)?;
     Ok(collected.into_structs())
 }

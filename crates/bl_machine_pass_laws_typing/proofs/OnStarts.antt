@@ -1,5 +1,5 @@
 -- First stores and woken ones are typed.
-use Rattle.std.proofs.Common.{◌≡◌, ℕ, zero, suc, ◌+◌, Bool, true, ◌&&◌, List, [], ◌∷◌, length, map, take}
+use Rattle.std.proofs.Common.{◌≡◌, ℕ, zero, suc, ◌+◌, ◌-◌, ◌≤◌, Bool, true, ◌&&◌, List, [], ◌∷◌, length, map, take}
 use Rattle.std.proofs.Common.{Option, Some, None, refl, sym, ap, ◌∙◌, subst, arith}
 use Rattle.std.specs.Prelude.{ℤ, pos, is_none, is_some, option_and_then, option_map, slice_get, unwrap_or}
 use Rattle.std.specs.List.{list_all}
@@ -11,12 +11,13 @@ use Rattle.bl_tree.specs.declared.scalar.Width.TheVariants.{W8, W16, W32, W64}
 use Rattle.bl_tree.specs.declared.tree.StructDef.{StructDef}
 use Rattle.bl_tree.specs.declared.tree.Unit.{Unit as UnitDef}
 use Rattle.bl_tree.specs.declared.tree.Var.{Var}
+use Rattle.bl_tree.specs.declared.value.Value.{Value}
 use Rattle.bl_tree.specs.declared.value.Value.TheVariants.{Number, outs-Number}
-use Rattle.bl_tree.specs.Ports.{column_type, columns_of, in_ranges, input_columns, row_fits, types_of}
+use Rattle.bl_tree.specs.Ports.{column_type, columns_of, in_ranges, row_fits, types_of}
 use Rattle.bl_tree.specs.Program.{IsWellTyped, is_entry, parameters_of}
 use Rattle.bl_tree.specs.Scalar.{in_range}
 use Rattle.bl_tree.specs.Types.{scalar, scalar_in, type_stands}
-use Rattle.bl_tree.specs.Typing.{inputs_of, is_activity}
+use Rattle.bl_tree.specs.Typing.{is_activity}
 use Rattle.bl_eval.specs.Values.{is_number_of, tests_after, value_fits, values_fit, zero_of}
 use Rattle.bl_eval.proofs.FitLemmas.{fits_scalar, scalar_is, zero_fits}
 use Rattle.bl_eval.proofs.PassLemmas.{pass_each}
@@ -147,23 +148,36 @@ module _ (callers : InstancesHaveCallers) (structs : List StructDef) (units : Li
       ∷ instances_below (expanded units entry) 1 (runs_of unit)) o) []) 0) there in
       ap (option_and_then (unit_of W)) first ∙ there
 
-  inputs_scalar : (unit : UnitDef) (o : Option UnitDef) → o ≡ Some unit → is_entry o ≡ true → list_all is_scalar (inputs_of unit) ≡ true
-  inputs_scalar unit None is stands = absurd cc
-  inputs_scalar unit (Some other) is stands =
+  first_scalar : (unit : UnitDef) (n : ℕ) (o : Option UnitDef) → n ≤ unit.inputs + unit.outputs → o ≡ Some unit → is_entry o ≡ true →
+      list_all is_scalar (take n unit.vars) ≡ true
+  first_scalar unit n None few is stands = absurd cc
+  first_scalar unit n (Some other) few is stands =
       let same : other ≡ unit = cc in
       let all : Bool = list_all is_scalar (parameters_of other) in
       let scalars : list_all is_scalar (take (other.inputs + other.outputs) other.vars) ≡ true =
       and_second (is_none other.result) all (and_second (is_activity other.kind) (is_none other.result && all) stands) in
-      subst (λ (unit : UnitDef). list_all is_scalar (inputs_of unit) ≡ true) same
-      (first_all is_scalar other.inputs other.outputs other.vars scalars)
+      let whole : list_all is_scalar (take (unit.inputs + unit.outputs) unit.vars) ≡ true =
+      subst (λ (unit : UnitDef). list_all is_scalar (take (unit.inputs + unit.outputs) unit.vars) ≡ true) same scalars in
+      let rest : ℕ = (unit.inputs + unit.outputs) - n in
+      let sum : n + rest ≡ unit.inputs + unit.outputs = omega (arith, few) in
+      first_all is_scalar n rest unit.vars (subst (λ m. list_all is_scalar (take m unit.vars) ≡ true) (sym sum) whole)
 
-  woken_typed : (unit : UnitDef) (row : List ℤ) (store : Store) → slice_get units entry ≡ Some unit →
-      row_fits (input_columns unit) row ≡ true → StoreFits W store → StoreFits W (woken_store row store)
-  woken_typed unit row store there fitting fits =
+  -- the first values of a frame may be replaced by values of their types
+  first_replaced : (unit : UnitDef) (n : ℕ) (values : List Value) (frame : Frame) → values_fit structs (take n unit.vars) values ≡ true →
+      FrameFits structs unit frame → FrameFits structs unit (with_inputs values frame)
+  first_replaced unit n values frame fit fits =
+      let alike : UnitDef = record unit { inputs = n } in
+      let left : FrameFits structs alike (with_inputs values frame) =
+      inputs_fit structs alike values frame fit (record { now = fits.now; before = fits.before; result = fits.result }) in
+      record { now = left.now; before = left.before; result = left.result }
+
+  woken_typed : (unit : UnitDef) (n : ℕ) (row : List ℤ) (store : Store) → slice_get units entry ≡ Some unit → n ≤ unit.inputs + unit.outputs →
+      row_fits (columns_of (take n unit.vars)) row ≡ true → StoreFits W store → StoreFits W (woken_store row store)
+  woken_typed unit n row store there few fitting fits =
       changed_fits callers structs units entry keeps (map aged store) 0 unit (with_inputs (map Number row)) (aged_typed store fits)
       (entry_first unit there)
-      (λ frame one. inputs_fit structs unit (map Number row) frame
-      (row_typed structs (inputs_of unit) row (inputs_scalar unit (slice_get units entry) there keeps.entry_stands) fitting) one)
+      (λ frame one. first_replaced unit n (map Number row) frame
+      (row_typed structs (take n unit.vars) row (first_scalar unit n (slice_get units entry) few there keeps.entry_stands) fitting) one)
 
   pub starts : StartsFit structs units entry
   starts = record { first = first_typed; woken = woken_typed }

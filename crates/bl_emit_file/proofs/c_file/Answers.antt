@@ -1,8 +1,5 @@
 -- What is known of the machine, and what the file shows then.
-use Rattle.std.proofs.Common.{subst}
 use Rattle.bl_emit.specs.Kept.{written_in}
-use Rattle.bl_emit_laws.specs.Spelled.{ProgramsSpelled}
-use Rattle.bl_emit_file.specs.Laws.{ProgramsShow}
 use Rattle.bl_emit_file.proofs.Counted.{all_countable}
 use Rattle.bl_emit_file.proofs.Merged.{made_known, made_of_merged, made_spelled}
 use Rattle.bl_emit_file.proofs.Whole.{file_shows}
@@ -20,7 +17,7 @@ invariant_of-result c =
     c.requires.text (all_countable c.args.accepted.now.program.units c.requires.small) c.in_ok-machine.ensures.program
     c.in_ok-merged.ensures.program c.in_ok-merged.ensures.merged c.is_machine.ensures c.written_is_told.ensures
     c.in_ok-made.ensures in
-    record { spellable = made_spelled program machine.activities made (subst ProgramsSpelled c.program-program.ensures c.programs_spelled.ensures) it }
+    record { spellable = made_spelled program machine.activities made (c.programs_have_spelling.ensures program machine.activities it.known) it }
 
 pub returns-clause-shows : goal.returns-clause-shows
 returns-clause-shows c =
@@ -31,7 +28,7 @@ returns-clause-shows c =
     c.requires.text (all_countable c.args.accepted.now.program.units c.requires.small) c.in_ok-machine.ensures.program
     c.in_ok-merged.ensures.program c.in_ok-merged.ensures.merged c.is_machine.ensures c.written_is_told.ensures
     c.in_ok-made.ensures in
-    file_shows program machine.activities made (subst ProgramsShow c.program-program.ensures c.programs_show.ensures) it.known it.is
+    file_shows program machine.activities made (c.programs_show.ensures program) it.known it.is
 
 pub returns-clause-merged : goal.returns-clause-merged
 returns-clause-merged c =

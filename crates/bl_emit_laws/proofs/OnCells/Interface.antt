@@ -32,7 +32,7 @@ use Rattle.bl_emit_functions.specs.Functions.{memory_name}
 use Rattle.bl_emit_functions.specs.Trees.{c_if}
 use Rattle.bl_emit_functions_laws_wellformed.specs.Cells.{SizesKnown}
 use Rattle.bl_emit_functions_laws_wellformed.proofs.OnFiles.Shapes.{address-calls, call-calls, calling-calls, clear-calls, if-calls, literal-calls, place-calls}
-use Rattle.bl_emit_functions_laws_wellformed.proofs.OnFiles.Shapes.{read-calls, return-calls, step-calls, value-calls}
+use Rattle.bl_emit_functions_laws_wellformed.proofs.OnFiles.Shapes.{read-calls, return-calls, step-calls}
 use Rattle.bl_emit_functions_laws_wellformed.proofs.OnFormed.Turns.{one-turns, return-turns}
 use Rattle.bl_emit_spec.specs.Names.{frame_name}
 use Rattle.bl_emit_spec.specs.Blocks.{unit_may_end, stmt_where, arg_where}
@@ -75,9 +75,8 @@ inputs_silent : (vars : List Var) → Silent (map input_arg vars)
 inputs_silent [] = refl
 inputs_silent (var ∷ vars) =
     silent-cons (input_arg var) (map input_arg vars)
-    (value-calls (c_read (c_place true (codes "i") (c_step (codes "i_" ++ var.name) ∷ [])))
-    ∙ read-calls (c_place true (codes "i") (c_step (codes "i_" ++ var.name) ∷ []))
-    ∙ step_calls_none true (codes "i") (codes "i_" ++ var.name)) (inputs_silent vars)
+    (address-calls (c_place true (codes "i") (c_step (codes "i_" ++ var.name) ∷ [])) ∙ step_calls_none true (codes "i") (codes "i_" ++ var.name))
+    (inputs_silent vars)
 
 outputs_silent : (vars : List Var) → Silent (map output_arg vars)
 outputs_silent [] = refl

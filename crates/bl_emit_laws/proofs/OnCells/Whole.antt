@@ -5,7 +5,7 @@ use Rattle.std.proofs.lemmas.Bool.{eqb-true}
 use Rattle.std.proofs.lemmas.List.Elements.{All-contains, Contains-append_cases}
 use Rattle.std.proofs.lemmas.Option.{same_Some}
 use Rattle.std.specs.List.{list_all, list_any}
-use Rattle.std.specs.Prelude.{bytes_eq, is_none, is_some, slice_get, slice_index, unwrap_or, if◌then◌else◌}
+use Rattle.std.specs.Prelude.{bytes_eq, is_none, is_some, slice_get, slice_index, unwrap_or}
 use Rattle.bl_tree.proofs.Basics.{and_first, and_second, contains_none, first_or_further, within_at}
 use Rattle.bl_tree.specs.declared.c.CFunc.{CFunc}
 use Rattle.bl_tree.specs.declared.c.CStruct.{CStruct}
@@ -15,8 +15,8 @@ use Rattle.bl_tree.specs.declared.tree.StructDef.{StructDef}
 use Rattle.bl_tree.specs.declared.tree.Unit.{Unit as UnitDef}
 use Rattle.bl_tree.specs.declared.tree.Var.{Var}
 use Rattle.bl_tree.specs.Program.{IsWellTyped, is_entry, parameters_of}
-use Rattle.bl_tree.specs.Reduce.{greatest}
-use Rattle.bl_tree.specs.Types.{scalar_in}
+use Rattle.bl_tree.specs.Reduce.{greatest, total}
+use Rattle.bl_tree.specs.Types.{scalar_in, type_stands}
 use Rattle.bl_tree.specs.Typing.{inputs_of, is_activity, outputs_of}
 use Rattle.bl_tree.specs.Words.{are_distinct}
 use Rattle.bl_limits.specs.Rules.{Passes as KeepsLimits}
@@ -31,6 +31,7 @@ use Rattle.bl_limits_measures.specs.Laws.{CellsAdd}
 use Rattle.bl_limits_measures.specs.Runs.{activities_by_place, activities_run}
 use Rattle.bl_limits_measures.specs.Units.{cells_at}
 use Rattle.bl_limits_measures_laws.specs.Laws.{UnitsUseEarlierOnes}
+use Rattle.bl_limits_measures.specs.Types.{size}
 use Rattle.bl_machine_pass.specs.Numbered.{sizes_of}
 use Rattle.bl_machine_pass.specs.Transitions.{Transition, rules}
 use Rattle.bl_ctext_semantics.specs.Parts.{parts_from as file_from}
@@ -46,7 +47,9 @@ use Rattle.bl_emit_functions_laws_wellformed.specs.Cells.{CellsFollow, CellsGrow
 use Rattle.bl_emit_functions_laws_wellformed.proofs.OnFiles.Growing.{distinct_behind, names}
 use Rattle.bl_emit_spec.specs.Activities.{Activity, RunAt, runs_in_body}
 use Rattle.bl_emit_spec.specs.Names.{frame_name}
-use Rattle.bl_emit_spec.specs.Programs.{ProgramParts, activity_of, file_at, init_function, interface_structs}
+use Rattle.bl_emit_spec.proofs.LentLemmas.{lent_all, lent_mapped, lent_parameters}
+use Rattle.bl_emit_spec.specs.Lent.{lent_unit}
+use Rattle.bl_emit_spec.specs.Programs.{ProgramParts, activity_of, init_function, interface_structs}
 use Rattle.bl_emit_spec.specs.Programs.{needed_units, needs_of, port_struct, state_struct, tick_function}
 use Rattle.bl_emit_spec_laws_wellformed_bodies.specs.Cells.{ActivityCells, BodiesRun, ports_of}
 use Rattle.bl_emit_spec_laws_wellformed.specs.Chains.{ActivitiesCallFew}
@@ -58,7 +61,8 @@ use Rattle.bl_emit_spec_laws_wellformed_bodies.specs.Structs.Parts.{IsPart}
 use Rattle.bl_emit_spec_laws_wellformed_bodies.proofs.OnStructs.Lists.{from_map}
 use Rattle.bl_emit_spec_laws_wellformed_bodies.proofs.OnStructs.Runs.{runs_fit}
 use Rattle.bl_emit_spec_laws_wellformed_bodies.proofs.OnStructs.Whole.{nests}
-use Rattle.bl_emit_laws.specs.Cells.{FilesCount, FilesSmall, file_of}
+use Rattle.bl_emit_laws.specs.Cells.{FilesCount, FilesSmall}
+use Rattle.bl_emit_laws.specs.Kept.{shown_file}
 use Rattle.bl_emit_laws.proofs.OnCells.Counters.{sizes_few}
 use Rattle.bl_emit_laws.proofs.OnCells.Interface.{init_cells, ports_cells, state_cells, tick_cells}
 use Rattle.bl_emit_laws.proofs.OnCells.Names.{alike, file_none, no_file, no_frame, no_memory}
@@ -96,6 +100,12 @@ two_under a b m one other = omega (arith, one, other)
 
 -- ---- the entry
 
+-- the sizes of the entry's parameters, lent or not
+lent_sizes : (structs : List StructDef) (unit : UnitDef) → ports_of structs (lent_unit unit) ≡ ports_of structs unit
+lent_sizes structs unit =
+    ap (λ vars. total (map (λ (var : Var). size structs var.ty) vars)) (lent_parameters unit)
+    ∙ ap total (lent_mapped (λ (var : Var). size structs var.ty) (λ var. refl) (parameters_of unit))
+
 entry_parts : (o : Option UnitDef) → is_entry o ≡ true → (unit : UnitDef) → o ≡ Some unit →
     (is_activity unit.kind ≡ true) × (is_some unit.result ≡ false)
 entry_parts None entry unit is = absurd (cc)
@@ -121,7 +131,7 @@ module _ (program : Program)
     (cells : ActivityCells program.structs program.units program.entry) (machine : List InMachine) (unit : UnitDef)
     (keeps : IsWellTyped program.structs program.units program.entry) (limits : KeepsLimits program.structs program.units program.entry)
     (agrees : AreActivitiesOf program.units machine)
-    (there : slice_get program.units program.entry ≡ Some unit) where
+    (there : slice_get program.units program.entry ≡ Some (lent_unit unit)) where
   abbrev structs : List StructDef
   structs = program.structs
 
@@ -337,23 +347,31 @@ module _ (program : Program)
       let first : chain_cells K chains init ≤ 1 = init_cells unit remembers K chains in
       let own : entry_or 0 chains_then (unit_name unit.name) ≤ reach entry =
       at_most (chains (unit_name unit.name)) (bytes_eq (codes "bl_init") (unit_name unit.name)) (chain_cells K chains init) (reach entry)
-      (walked.knows.bound entry unit there) (λ no. absurd (cc)) in
+      (walked.knows.bound entry (lent_unit unit) there) (λ no. absurd (cc)) in
       let second : chain_cells K chains_then tick ≤ entry_or 0 chains_then (unit_name unit.name) + 4 = tick_cells unit remembers K chains_then in
       subst (λ all. greatest all ≤ reach entry + 4) (sym (chains_append K parts.funcs (init ∷ tick ∷ []) no_entries))
       (greatest_append (chains_after K no_entries parts.funcs) (chains_after K chains (init ∷ tick ∷ [])) (reach entry + 4) (omega (arith, front))
       (two_under (chain_cells K chains init) (chain_cells K chains_then tick) (reach entry + 4) (omega (arith, first)) (omega (arith, own, second))))
 
+  -- the ports have the sizes of the entry's parameters
+  ports_few : size_of_struct K in_ports + size_of_struct K out_ports ≤ ports_of structs (lent_unit unit) + 2
+  ports_few =
+      let stands : Var → Bool = λ (var : Var). type_stands (length structs) var.ty in
+      let own = ports_cells structs units K sizes unit
+      (sym (lent_all stands (λ var. refl) unit.vars) ∙ vars_stand structs units entry keeps entry (lent_unit unit) there) in
+      subst (λ n. size_of_struct K in_ports + size_of_struct K out_ports ≤ n + 2) (sym (lent_sizes structs unit)) own
+
   pub all_cells : cells_needed (file_from file (parts.funcs ++ (init ∷ tick ∷ []))) ≤ cells_at structs units entry
   all_cells =
-      let is = entry_parts (slice_get units entry) keeps.entry_stands unit there in
-      let fits = walked.knows.fits entry unit (within_at units entry unit there) there (closed.entry_is keeps) is.0 in
+      let is = entry_parts (slice_get units entry) keeps.entry_stands (lent_unit unit) there in
+      let fits = walked.knows.fits entry (lent_unit unit) (within_at units entry (lent_unit unit) there) there (closed.entry_is keeps) is.0 in
       let kept : size_of_struct K state ≤ entry_or 0 K (frame_name unit.name) + entry_or 0 K (memory_name unit.name) = state_cells unit remembers K in
       let state_less : entry_or 0 K (codes "bl_state") ≤ entry_or 0 K (frame_name unit.name) + entry_or 0 K (memory_name unit.name) =
       (let one = state_entry in omega (arith, one, kept)) in
       sum_by (entry_or 0 K (codes "bl_state")) (entry_or 0 K (codes "bl_in")) (entry_or 0 K (codes "bl_out"))
       (deepest_chain K (parts.funcs ++ (init ∷ tick ∷ []))) (entry_or 0 K (frame_name unit.name)) (entry_or 0 K (memory_name unit.name)) (reach entry)
-      (ports_of structs unit) (size_of_struct K in_ports) (size_of_struct K out_ports) (cells_at structs units entry) state_less in_entry out_entry
-      (ports_cells structs units K sizes unit (vars_stand structs units entry keeps entry unit there)) deepest (fits.1 is.1)
+      (ports_of structs (lent_unit unit)) (size_of_struct K in_ports) (size_of_struct K out_ports) (cells_at structs units entry) state_less in_entry out_entry
+      ports_few deepest (fits.1 is.1)
 
 pub counted : (program : Program) → ((slots : Slots) (body : Block) → map (λ (rule : Transition). rule.node) (rules slots body) ≡ nodes_in body) →
     UnitsUseEarlierOnes → CellsAdd → SizesStand program.structs program.units program.entry →
@@ -362,16 +380,12 @@ pub counted : (program : Program) → ((slots : Slots) (body : Block) → map (�
     NeededClosed program.structs program.units program.entry → MachinesSpell program.structs program.units program.entry →
     PartsAreSound program.structs program.units program.entry → ActivityCells program.structs program.units program.entry → FilesCount program
 counted program nodes earlier add stand follow grow few bodies small closed spell sound cells machine unit keeps limits agrees there =
-    let parts : ProgramParts = program_parts program.structs program.units program.entry machine in
-    subst
-    (λ o. cells_needed (file_from (file_at program parts o).structs (file_at program parts o).funcs)
-    ≤ cells_at program.structs program.units program.entry) (sym there)
-    (all_cells program nodes earlier add stand follow grow few bodies small closed spell sound cells machine unit keeps limits agrees there)
+    all_cells program nodes earlier add stand follow grow few bodies small closed spell sound cells machine unit keeps limits agrees there
 
 pub small : (program : Program) → NeededSmall program.structs program.units program.entry →
     NeededClosed program.structs program.units program.entry → FilesCount program → FilesSmall program
 small program few closed count machine keeps passes limits agrees unit there =
-    let one : cells_needed (file_of program machine) ≤ cells_at program.structs program.units program.entry =
+    let one : cells_needed (shown_file program unit machine) ≤ cells_at program.structs program.units program.entry =
     count machine unit keeps limits agrees there in
     let two : cells_at program.structs program.units program.entry ≤ 1_000_000 = few program.entry keeps limits (closed.entry_is keeps) in
     omega (arith, one, two)

@@ -1,5 +1,5 @@
 -- The function of each activity of a written file has one `if` for each block that the machine has for it, and the flags that these ask for.
-use Rattle.std.proofs.Common.{◌≡◌, ⊎_elim, ℕ, ◌<◌, true, List, [], ◌∷◌, Contains, length, map, Some, sym, ap, subst, ◌∙◌, arith}
+use Rattle.std.proofs.Common.{◌≡◌, ⊎_elim, ℕ, ◌<◌, true, List, [], ◌∷◌, Contains, length, map, Some, sym, ap, subst, ◌∙◌}
 use Rattle.std.proofs.lemmas.Slice.Eq.{bytes_eq-Decides}
 use Rattle.std.specs.List.{list_all}
 use Rattle.std.specs.Prelude.{IsPermutation, bytes_eq, filter, option_and_then, slice_get}
@@ -39,7 +39,7 @@ use Rattle.bl_emit_spec_laws_wellformed.specs.Closed.{InstancesNeeded}
 use Rattle.bl_emit_spec_laws.proofs.OnPlaced.Lists.{number_below}
 use Rattle.bl_emit_spec_laws.proofs.OnRemember.Entering.{callees_in_many}
 use Rattle.bl_emit_spec_laws.specs.Tables.Laws.{ActivitiesBuilt}
-use Rattle.bl_emit_laws.specs.Kept.{FileEnds, FilesEnd, activities_in, written_file}
+use Rattle.bl_emit_laws.specs.Kept.{FileEnds, FilesEnd, activities_in, shown_file}
 use Rattle.bl_emit_spec_laws_wellformed.proofs.OnNumbers.Whole.{many-rules}
 use Rattle.bl_emit_laws.specs.Counters.Flags.{HasFlagForEach, decides, flags_asked, flags_in_turn, inside, own_many, rules_by, rules_first, rules_in_blocks}
 use Rattle.bl_emit_laws.specs.Counters.Ifs.{FunctionHasIfs, ifs_in}
@@ -140,7 +140,7 @@ module _ (program : Program) (machine : List InMachine) (unit : UnitDef) (ends :
     (built : AreBuilt program.structs program.units machine (activities_in program machine)) (placed : StaysPlaced) (listed : RulesAreListed)
     (needs : InstancesNeeded program.structs program.units program.entry) (keeps : IsWellTyped program.structs program.units program.entry)
     (orderly : Orderly program.structs program.units (setting_of program.structs program.units program.entry))
-    (agrees : AreActivitiesOf program.units machine) (formed : WellFormed (written_file program machine)) (i : ℕ) (instance : Instance) (activity : UnitDef)
+    (agrees : AreActivitiesOf program.units machine) (formed : WellFormed (shown_file program unit machine)) (i : ℕ) (instance : Instance) (activity : UnitDef)
     (at : slice_get (setting_of program.structs program.units program.entry).instances i ≡ Some instance)
     (there : slice_get program.units instance.unit ≡ Some activity)
   where
@@ -154,7 +154,7 @@ module _ (program : Program) (machine : List InMachine) (unit : UnitDef) (ends :
     activities = activities_in program machine
 
     abbrev file : Parts
-    file = written_file program machine
+    file = shown_file program unit machine
 
     active : is_activity activity.kind ≡ true
     active = (orderly.each i activity (ap (option_and_then (unit_of w)) at ∙ there)).activity

@@ -28,7 +28,7 @@ use Rattle.bl_emit_spec.specs.Programs.{c_returned, init_function, input_arg, ou
 use Rattle.bl_emit_laws.specs.Counters.Own.{is_counter_name, names_counter}
 use Rattle.bl_emit_laws.specs.Counters.Places.{CPath, places_in_arg, places_named}
 use Rattle.bl_emit_laws.proofs.OnCounters.Expressions.{ArgsFine, PlaceFine, address-fine, first-arg, hidden-fine, literal-fine, member-fine, own_fine}
-use Rattle.bl_emit_laws.proofs.OnCounters.Expressions.{place-fine, read-fine, root-fine, value-fine}
+use Rattle.bl_emit_laws.proofs.OnCounters.Expressions.{place-fine, read-fine, root-fine}
 use Rattle.bl_emit_laws.proofs.OnCounters.Fine.{Fine, both-fine}
 use Rattle.bl_emit_laws.proofs.OnCounters.Statements.{CodeFine, body_fine, calling-fine, clear-fine, first_stmt, if-fine, one_stmt, return-fine, set-fine}
 use Rattle.bl_emit_laws.proofs.OnCounters.Statements.{then_code, where_code}
@@ -115,8 +115,7 @@ module _ (P : CPath → Type 0) (plain : (place : CPath) → names_counter place
   inputs_given [] = tt
   inputs_given (var ∷ vars) =
       first-arg P plain (input_arg var) (map input_arg vars)
-      (value-fine P plain (c_read (c_place true (codes "i") (c_step (codes "i_" ++ var.name) ∷ [])))
-      (read-fine P plain (c_place true (codes "i") (c_step (codes "i_" ++ var.name) ∷ [])) (under-fine (codes "i") (codes "i_" ++ var.name) refl)))
+      (address-fine P plain (c_place true (codes "i") (c_step (codes "i_" ++ var.name) ∷ [])) (under-fine (codes "i") (codes "i_" ++ var.name) refl))
       (inputs_given vars)
 
   outputs_given : (vars : List Var) → ArgsFine P plain (map output_arg vars)

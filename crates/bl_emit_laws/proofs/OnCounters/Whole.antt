@@ -32,7 +32,7 @@ use Rattle.bl_emit_spec_laws_wellformed.specs.Closed.{InstancesNeeded}
 use Rattle.bl_emit_spec_laws_files.specs.States.States.{FramesDeclared}
 use Rattle.bl_emit_spec_laws.specs.Tables.Laws.{ActivitiesBuilt}
 use Rattle.bl_emit_spec_laws.specs.Tables.Tables.{functions_of_all, unit_function}
-use Rattle.bl_emit_laws.specs.Kept.{FileEnds, FilesEnd, FramesAreDeclared, activities_in, functions_before, written_file}
+use Rattle.bl_emit_laws.specs.Kept.{FileEnds, FilesEnd, FramesAreDeclared, activities_in, functions_before, shown_file}
 use Rattle.bl_emit_laws.specs.Counters.Laws.{FilesOwn}
 use Rattle.bl_emit_laws.specs.Counters.Own.{CountersAreOwn, CountersStandInOne, EachHasOneFunctionAndFrame, MemberOf, NamesItsOwn, is_counter_name, members_at}
 use Rattle.bl_emit_laws.specs.Counters.Own.{members_through, names_counter, type_of_member}
@@ -172,7 +172,7 @@ module _ (program : Program) (machine : List InMachine) (unit : UnitDef) (ends :
   activities = activities_in program machine
 
   abbrev file : Parts
-  file = written_file program machine
+  file = shown_file program unit machine
 
   abbrev own_functions : List CFunc
   own_functions = functions_before program machine
@@ -234,8 +234,8 @@ module _ (program : Program) (machine : List InMachine) (unit : UnitDef) (ends :
 
     module _ (needs : InstancesNeeded program.structs program.units program.entry) (keeps : IsWellTyped program.structs program.units program.entry)
         (orderly : Orderly program.structs program.units (setting_of program.structs program.units program.entry))
-        (declared : FramesDeclared program.structs program.units program.entry (activities_in program machine) unit (written_file program machine))
-        (formed : WellFormed (written_file program machine))
+        (declared : FramesDeclared program.structs program.units program.entry (activities_in program machine) unit (shown_file program unit machine))
+        (formed : WellFormed (shown_file program unit machine))
       where
         abbrev w : Setting
         w = setting_of program.structs program.units program.entry
@@ -264,10 +264,10 @@ pub files_own : (program : Program) → AcceptedIsOrderly → ActivitiesBuilt �
 files_own program orderly built needs declared ends machine unit keeps passes agrees there formed =
     let end : FileEnds program machine unit = ends machine unit keeps agrees there in
     let are_built : AreBuilt program.structs program.units machine (activities_in program machine) = built program.structs program.units machine agrees in
-    let own : CountersAreOwn program.units (written_file program machine) = counters_own program machine unit end are_built in
+    let own : CountersAreOwn program.units (shown_file program unit machine) = counters_own program machine unit end are_built in
     record {
       each = one_each program machine unit end are_built needs keeps (orderly program.structs program.units program.entry keeps passes)
           (declared machine unit keeps passes agrees there) formed;
       own = own;
-      alone = stands_alone program.units (written_file program machine) own;
+      alone = stands_alone program.units (shown_file program unit machine) own;
     }

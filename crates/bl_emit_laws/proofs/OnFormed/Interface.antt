@@ -1,6 +1,6 @@
 -- Nothing fails in the two functions of the interface.
-use Rattle.std.proofs.Common.{◌≡◌, ℕ, ◌≤◌, pos, Bool, true, false, ◌&&◌, List, [], ◌∷◌, ◌++◌, map, Option}
-use Rattle.std.proofs.Common.{Some, None, refl, sym, ap, ◌∙◌, subst, append_assoc, arith, codes, take-add}
+use Rattle.std.proofs.Common.{◌≡◌, ℕ, ◌≤◌, pos, Bool, true, false, ◌&&◌, List, [], ◌∷◌, ◌++◌, map, Option, Some, None, refl, sym, ap, ◌∙◌, subst, append_assoc}
+use Rattle.std.proofs.Common.{arith, codes}
 use Rattle.std.proofs.lemmas.Bool.Decides.{nat_tests}
 use Rattle.std.proofs.lemmas.List.{map-append}
 use Rattle.std.specs.Prelude.{is_none, is_some, nat_le, option_and_then, if◌then◌else◌}
@@ -13,23 +13,20 @@ use Rattle.bl_tree.specs.declared.c.CFunc.{CFunc}
 use Rattle.bl_tree.specs.declared.c.CMember.{CMember}
 use Rattle.bl_tree.specs.declared.c.CPlace.{CPlace}
 use Rattle.bl_tree.specs.declared.c.CStmt.{CStmt}
-use Rattle.bl_tree.specs.declared.c.CStmtKind.TheVariants as statement
 use Rattle.bl_tree.specs.declared.c.CType.TheVariants.{Struct as OfStruct}
 use Rattle.bl_tree.specs.declared.scalar.Scalar.TheVariants.{Nat}
 use Rattle.bl_tree.specs.declared.scalar.Width.TheVariants.{W32}
 use Rattle.bl_tree.specs.declared.tree.StructDef.{StructDef}
 use Rattle.bl_tree.specs.declared.tree.Unit.{Unit as UnitDef}
 use Rattle.bl_tree.specs.declared.tree.Var.{Var}
-use Rattle.bl_tree.specs.Program.{is_input, is_output, names_of, parameters_of}
+use Rattle.bl_tree.specs.Program.{is_output, names_of, parameters_of}
 use Rattle.bl_tree.specs.Reduce.{joined}
-use Rattle.bl_tree.specs.Types.{scalar_in}
 use Rattle.bl_tree.specs.Typing.{inputs_of, outputs_of}
 use Rattle.bl_tree.specs.Words.{are_distinct}
 use Rattle.bl_ctext_semantics.specs.Calls.{calls_in_arg, calls_in_block, calls_in_stmt, most}
 use Rattle.bl_ctext_semantics.specs.Faults.{Context, Signature, Variable, bool_type, context_in, declared_before, depth_of_function, distinct_names}
-use Rattle.bl_ctext_semantics.specs.Faults.{faults_in_function, last_returns, member_of, member_table, names_table}
-use Rattle.bl_ctext_semantics.specs.Faults.{repeated, returns_result, short_chain, signature_as}
-use Rattle.bl_ctext_semantics.specs.Faults.{all_distinct, is_declared, signature_of, surely_returns, variable_names}
+use Rattle.bl_ctext_semantics.specs.Faults.{faults_in_function, last_returns, member_of, member_table, names_table, repeated, returns_result, short_chain}
+use Rattle.bl_ctext_semantics.specs.Faults.{signature_as, all_distinct, is_declared, signature_of, surely_returns, variable_names}
 use Rattle.bl_ctext_semantics.specs.Loops.{turns_in, turns_in_block}
 use Rattle.bl_ctext_semantics.specs.Tables.{Table, entry_or, no_entries}
 use Rattle.bl_emit_acts.specs.Acts.{c_calling, c_clear}
@@ -43,10 +40,9 @@ use Rattle.bl_emit_acts_laws_wellformed.proofs.OnFormed.Acts.{block_cons, block_
 use Rattle.bl_emit_acts_laws_wellformed.proofs.OnFormed.Judged.{kept, literal-is, read-is}
 use Rattle.bl_emit_acts_laws_wellformed.proofs.OnFormed.Prelude.{unit_named}
 use Rattle.bl_emit_acts_laws_wellformed.proofs.OnFormed.Typed.{pointer_place, variable_place}
-use Rattle.bl_emit_functions_laws_wellformed.proofs.OnFiles.Shapes.{address-calls, call-calls, calling-calls, clear-calls, if-calls}
-use Rattle.bl_emit_functions_laws_wellformed.proofs.OnFiles.Shapes.{read-calls, value-calls}
+use Rattle.bl_emit_functions_laws_wellformed.proofs.OnFiles.Shapes.{address-calls, call-calls, calling-calls, clear-calls, if-calls, read-calls}
 use Rattle.bl_emit_functions_laws_wellformed.proofs.OnFormed.Shapes.{if-is, return-is}
-use Rattle.bl_emit_functions_laws_wellformed.proofs.OnFormed.Turns.{one-turns, return-turns}
+use Rattle.bl_emit_functions_laws_wellformed.proofs.OnFormed.Turns.{one-turns, return-turns, call-turns, clear-turns}
 use Rattle.bl_emit_spec.specs.Names.{frame_name}
 use Rattle.bl_emit_spec.specs.Blocks.{unit_may_end, stmt_where, arg_where}
 use Rattle.bl_emit_spec.specs.Programs.{c_returned, init_function, input_arg, output_arg, port_struct, state_struct, tick_args, tick_function, tick_locals}
@@ -54,24 +50,24 @@ use Rattle.bl_emit_spec_laws_wellformed_bodies.proofs.OnSigned.Turns.{if-turns}
 use Rattle.bl_emit_spec_laws_wellformed_bodies.proofs.OnBodies.Calls.{Suit, suit-address, suit-append}
 use Rattle.bl_emit_spec_laws_wellformed_bodies.proofs.OnBodies.Variables.{member_place}
 use Rattle.bl_emit_spec_laws_wellformed_bodies.specs.Bodies.{memory_given, over_given, result_given, signature_of_activity}
-use Rattle.bl_emit_laws.proofs.OnFormed.Ports.{inputs-suit, outputs-suit, port-place}
+use Rattle.bl_emit_laws.proofs.OnFormed.Ports.{port-place, ports-suit}
 use Rattle.bl_emit_laws.proofs.OnCells.Interface.{returned_silent, root_calls_none, step_calls_none}
 use Rattle.bl_emit_functions_laws_wellformed.proofs.OnFormed.Head.{return-returns}
-use Rattle.bl_emit_functions_laws_wellformed.proofs.OnFormed.Turns.{call-turns, clear-turns}
+use Rattle.bl_emit_spec.proofs.LentLemmas.{lent_parameters, lent_parts}
+use Rattle.bl_emit_spec.specs.Lent.{lent_unit, lent_var}
 
 -- what the functions of the interface need, of an entry
 pub record Entry (structs : List StructDef) (unit : UnitDef) (remembers : Bool) (table : Table (Table CMember)) (functions : Table Signature)
     (depths : Table ℕ) : Type 0 where
   pub result : unit.result ≡ None
-  pub scalars : list_all (λ (var : Var). is_some (scalar_in var.ty)) (inputs_of unit) ≡ true
-  pub inputs : list_all (λ (var : Var). is_input var.role) (inputs_of unit) ≡ true
-  pub outputs : list_all (λ (var : Var). is_output var.role) (outputs_of unit) ≡ true
+  pub inputs : list_all (λ (var : Var). is_output var.role) (map lent_var (inputs_of unit)) ≡ true
+  pub outputs : list_all (λ (var : Var). is_output var.role) (map lent_var (outputs_of unit)) ≡ true
   pub inputs_differ : are_distinct (names_of (inputs_of unit)) ≡ true
   pub outputs_differ : are_distinct (names_of (outputs_of unit)) ≡ true
   pub state : IsDeclared table (state_struct unit.name remembers)
   pub ins : IsDeclared table (port_struct structs (codes "bl_in") (codes "i_") (inputs_of unit))
   pub outs : IsDeclared table (port_struct structs (codes "bl_out") (codes "o_") (outputs_of unit))
-  pub known : functions (unit_name unit.name) ≡ Some (signature_of_activity structs unit remembers)
+  pub known : functions (unit_name unit.name) ≡ Some (signature_of_activity structs (lent_unit unit) remembers)
   pub depth : entry_or 0 depths (unit_name unit.name) ≤ 100
 
 at_most : (n : ℕ) → n ≤ 300 → nat_le n 300 ≡ true
@@ -100,9 +96,8 @@ inputs_silent : (vars : List Var) → Silent (map input_arg vars)
 inputs_silent [] = refl
 inputs_silent (var ∷ vars) =
     silent-cons (input_arg var) (map input_arg vars)
-    (value-calls (c_read (c_place true (codes "i") (c_step (codes "i_" ++ var.name) ∷ [])))
-    ∙ read-calls (c_place true (codes "i") (c_step (codes "i_" ++ var.name) ∷ []))
-    ∙ step_calls_none true (codes "i") (codes "i_" ++ var.name)) (inputs_silent vars)
+    (address-calls (c_place true (codes "i") (c_step (codes "i_" ++ var.name) ∷ [])) ∙ step_calls_none true (codes "i") (codes "i_" ++ var.name))
+    (inputs_silent vars)
 
 outputs_silent : (vars : List Var) → Silent (map output_arg vars)
 outputs_silent [] = refl
@@ -200,19 +195,26 @@ module _ (structs : List StructDef) (unit : UnitDef) (remembers : Bool) (table :
       (ap (option_and_then (λ (members : Table CMember). members (codes "m")))
       (subst (λ b. table (codes "bl_state") ≡ Some (member_table (state_struct unit.name b))) is e.state)))
 
-  parameters_are : params_for (parameters_of unit) ≡ params_for (inputs_of unit) ++ params_for (outputs_of unit)
-  parameters_are =
-      ap (map (parameter_for structs)) (take-add unit.inputs unit.outputs unit.vars)
-      ∙ map-append (parameter_for structs) (inputs_of unit) (outputs_of unit)
+  -- the inputs and outputs as the entry takes them
+  abbrev ins_taken : List Variable
+  ins_taken = params_for (map lent_var (inputs_of unit))
 
-  ports_suit : Suit in_tick (params_for (inputs_of unit)) (map input_arg (inputs_of unit))
+  abbrev outs_taken : List Variable
+  outs_taken = params_for (map lent_var (outputs_of unit))
+
+  parameters_are : params_for (parameters_of (lent_unit unit)) ≡ ins_taken ++ outs_taken
+  parameters_are =
+      ap (map (parameter_for structs)) (lent_parameters unit ∙ lent_parts unit)
+      ∙ map-append (parameter_for structs) (map lent_var (inputs_of unit)) (map lent_var (outputs_of unit))
+
+  ports_suit : Suit in_tick ins_taken (map input_arg (inputs_of unit))
   ports_suit =
-      inputs-suit in_tick structs (inputs_of unit) e.inputs e.scalars
+      ports-suit in_tick structs (codes "i") (codes "i_") (inputs_of unit) e.inputs
       (port-place structs (codes "i_") (λ x. refl) (λ x y. refl) in_tick (codes "i") (codes "bl_in") (inputs_of unit) e.inputs_differ e.ins refl)
 
-  outs_suit : Suit in_tick (params_for (outputs_of unit)) (map output_arg (outputs_of unit))
+  outs_suit : Suit in_tick outs_taken (map output_arg (outputs_of unit))
   outs_suit =
-      outputs-suit in_tick structs (outputs_of unit) e.outputs
+      ports-suit in_tick structs (codes "o") (codes "o_") (outputs_of unit) e.outputs
       (port-place structs (codes "o_") (λ x. refl) (λ x y. refl) in_tick (codes "o") (codes "bl_out") (outputs_of unit) e.outputs_differ e.outs refl)
 
   abbrev ended : CPlace
@@ -242,25 +244,24 @@ module _ (structs : List StructDef) (unit : UnitDef) (remembers : Bool) (table :
   abbrev over : List Variable
   over = over_given (unit_may_end unit)
 
-  params_are : params_for (parameters_of unit) ++ (result_given unit.result ++ over)
-      ≡ params_for (inputs_of unit) ++ (params_for (outputs_of unit) ++ over)
+  params_are : params_for (parameters_of (lent_unit unit)) ++ (result_given unit.result ++ over) ≡ ins_taken ++ (outs_taken ++ over)
   params_are =
       (λ i. parameters_are i ++ (result_given (e.result i) ++ over))
-      ∙ append_assoc (params_for (inputs_of unit)) (params_for (outputs_of unit)) over
+      ∙ append_assoc ins_taken outs_taken over
 
-  args_suit : Suit in_tick (signature_of_activity structs unit remembers).params (tick_args unit remembers)
+  args_suit : Suit in_tick (signature_of_activity structs (lent_unit unit) remembers).params (tick_args unit remembers)
   args_suit =
       suit-append in_tick (variable_of true (OfStruct (frame_name unit.name)) ∷ [])
-      (memory_given unit remembers ++ (params_for (parameters_of unit) ++ (result_given unit.result ++ over)))
+      (memory_given unit remembers ++ (params_for (parameters_of (lent_unit unit)) ++ (result_given unit.result ++ over)))
       (Address (c_place true (codes "s") (c_step (codes "f") ∷ [])) ∷ []) (memory_args remembers ++ (map input_arg (inputs_of unit) ++ outs_args))
       (suit-address in_tick true (OfStruct (frame_name unit.name)) (c_place true (codes "s") (c_step (codes "f") ∷ []))
       (member_place in_tick (codes "s") (codes "bl_state") (codes "f") (OfStruct (frame_name unit.name)) refl (frame_member in_tick refl)))
-      (suit-append in_tick (memory_given unit remembers) (params_for (parameters_of unit) ++ (result_given unit.result ++ over))
+      (suit-append in_tick (memory_given unit remembers) (params_for (parameters_of (lent_unit unit)) ++ (result_given unit.result ++ over))
       (memory_args remembers) (map input_arg (inputs_of unit) ++ outs_args) (memory_found remembers refl)
       (subst (λ ps. Suit in_tick ps (map input_arg (inputs_of unit) ++ outs_args)) (sym params_are)
-      (suit-append in_tick (params_for (inputs_of unit)) (params_for (outputs_of unit) ++ over)
+      (suit-append in_tick ins_taken (outs_taken ++ over)
       (map input_arg (inputs_of unit)) outs_args ports_suit
-      (suit-append in_tick (params_for (outputs_of unit)) over (map output_arg (outputs_of unit)) (end_arg (unit_may_end unit))
+      (suit-append in_tick outs_taken over (map output_arg (outputs_of unit)) (end_arg (unit_may_end unit))
       outs_suit (end_suits (unit_may_end unit) (λ ends. ends))))))
 
   abbrev call : CStmt
@@ -269,12 +270,12 @@ module _ (structs : List StructDef) (unit : UnitDef) (remembers : Bool) (table :
   abbrev choice : CStmt
   choice = c_if (c_read ended) (c_returned 1 ∷ []) None
 
-  signed : signature_of in_tick (unit_name unit.name) ≡ Some (signature_of_activity structs unit remembers)
+  signed : signature_of in_tick (unit_name unit.name) ≡ Some (signature_of_activity structs (lent_unit unit) remembers)
   signed = ap (λ o. signature_as o (functions (unit_name unit.name))) (unit_named unit.name) ∙ e.known
 
   call_is : StmtIs in_tick call
   call_is =
-      calling-is in_tick (unit_name unit.name) (tick_args unit remembers) (signature_of_activity structs unit remembers) signed args_suit.0 args_suit.1
+      calling-is in_tick (unit_name unit.name) (tick_args unit remembers) (signature_of_activity structs (lent_unit unit) remembers) signed args_suit.0 args_suit.1
       refl
 
   returned_is : (n : ℕ) → StmtIs in_tick (c_returned n)

@@ -1,19 +1,16 @@
 -- The inputs and outputs of the entry in the structs of the interface.
-use Rattle.std.proofs.Common.{◌≡◌, Bool, true, false, not, ◌||◌, List, [], ◌∷◌, ◌++◌, map, Option, Some, None}
+use Rattle.std.proofs.Common.{◌≡◌, Bool, true, false, not, ◌||◌, List, [], ◌∷◌, ◌++◌, map, None, Some}
 use Rattle.std.proofs.Common.{refl, sym, ap, ◌∙◌, subst, codes, take-add}
 use Rattle.std.proofs.lemmas.List.{map-append}
-use Rattle.std.proofs.lemmas.List.Folds.{list_all-append}
-use Rattle.std.specs.Prelude.{Contains, bytes_eq, is_none, is_some, option_and_then}
+use Rattle.std.specs.Prelude.{Contains, bytes_eq, is_none, option_and_then}
 use Rattle.std.specs.List.{list_all}
 use Rattle.std.proofs.lemmas.Bool.{and_from}
 use Rattle.bl_tree.proofs.Basics.{and_first, and_second, contains_first, contains_further, contains_mapped}
 use Rattle.bl_tree.specs.declared.text.Text.{Text}
-use Rattle.bl_tree.specs.declared.c.CArg.TheVariants.{Value}
-use Rattle.bl_tree.specs.declared.c.CExpr.{CExpr}
+use Rattle.bl_tree.specs.declared.c.CArg.TheVariants.{Address}
 use Rattle.bl_tree.specs.declared.c.CMember.{CMember}
-use Rattle.bl_tree.specs.declared.c.CType.{CType}
+use Rattle.bl_tree.specs.declared.c.CPlace.{CPlace}
 use Rattle.bl_tree.specs.declared.c.CType.TheVariants.{Scalar as OfScalar, Struct as OfStruct}
-use Rattle.bl_tree.specs.declared.scalar.Scalar.{Scalar as ScalarType}
 use Rattle.bl_tree.specs.declared.scalar.Scalar.TheVariants.{Nat}
 use Rattle.bl_tree.specs.declared.scalar.Width.TheVariants.{W8}
 use Rattle.bl_tree.specs.declared.tree.Role.{Role}
@@ -21,19 +18,18 @@ use Rattle.bl_tree.specs.declared.tree.Role.TheVariants.{Input, Output, Variable
 use Rattle.bl_tree.specs.declared.tree.StructDef.{StructDef}
 use Rattle.bl_tree.specs.declared.tree.Unit.{Unit as UnitDef}
 use Rattle.bl_tree.specs.declared.tree.Var.{Var}
-use Rattle.bl_tree.specs.Program.{is_input, is_output, names_of, parameters_of}
+use Rattle.bl_tree.specs.Program.{is_output, names_of, parameters_of}
 use Rattle.bl_tree.specs.Types.{scalar_in}
 use Rattle.bl_tree.specs.Typing.{inputs_of, outputs_of}
 use Rattle.bl_tree.specs.Words.{are_distinct, is_among}
-use Rattle.bl_ctext_semantics.specs.Faults.{Context, fits_arg, judged_arg, member_table}
+use Rattle.bl_ctext_semantics.specs.Faults.{Context, member_table}
 use Rattle.bl_ctext_semantics.specs.Tables.{Table, found}
-use Rattle.bl_emit_acts.specs.Trees.{c_place, c_read, c_step, nowhere}
+use Rattle.bl_emit_acts.specs.Trees.{c_place, c_step}
 use Rattle.bl_emit_acts.specs.Types.{c_type}
 use Rattle.bl_emit_acts_laws_wellformed.specs.Formed.Declared.{parameter_for, variable_of}
-use Rattle.bl_emit_acts_laws_wellformed.specs.Formed.Formed.{ExprIs, PlaceIs, sound}
-use Rattle.bl_emit_acts_laws_wellformed.proofs.OnFormed.Judged.{of_value, read-is, value_arg-is}
-use Rattle.bl_emit_acts_laws_wellformed.proofs.OnFormed.Prelude.{type_same}
-use Rattle.bl_emit_spec.specs.Programs.{input_arg, output_arg, port_member, port_struct}
+use Rattle.bl_emit_acts_laws_wellformed.specs.Formed.Formed.{PlaceIs}
+use Rattle.bl_emit_spec.specs.Lent.{lent_role, lent_var}
+use Rattle.bl_emit_spec.specs.Programs.{port_member, port_struct}
 use Rattle.bl_emit_spec_laws_wellformed_bodies.proofs.OnBodies.Calls.{Suit, suit-address, suit-append}
 use Rattle.bl_emit_spec_laws_wellformed_bodies.proofs.OnBodies.Lists.{found-one, names_of_entries}
 use Rattle.bl_emit_spec_laws_wellformed_bodies.proofs.OnBodies.Variables.{member_place}
@@ -96,62 +92,34 @@ module _ (structs : List StructDef) (prefix : Text) (padded : (x : Text) → byt
 -- ---- arguments
 
 module _ (context : Context) where
-  suit-value : (ty : CType) (e : CExpr) → ExprIs context ty e → Suit context (variable_of false ty ∷ []) (Value e ∷ [])
-  suit-value ty e is =
-      let judged : judged_arg (Value e) context nowhere ≡ of_value (sound ty) = value_arg-is context ty e nowhere is in (
-        and_from (fits_arg false (variable_of false ty) (judged_arg (Value e) context nowhere)) true
-            (subst (λ j. fits_arg false (variable_of false ty) j ≡ true) (sym judged) (type_same ty)) refl,
-        (λ i. (judged i).faults ++ []),
-      )
-
-  input_by_value : (role : Role) (s : Option ScalarType) → is_input role ≡ true → is_some s ≡ true → (is_output role || is_none s) ≡ false
-  input_by_value Input (Some s) input some = refl
-  input_by_value Input None input some = absurd (cc)
-  input_by_value Output s input some = absurd (cc)
-  input_by_value OfVariable s input some = absurd (cc)
-  input_by_value Fixed s input some = absurd (cc)
-
   output_by_pointer : (role : Role) (rest : Bool) → is_output role ≡ true → (is_output role || rest) ≡ true
   output_by_pointer Output rest output = refl
   output_by_pointer Input rest output = absurd (cc)
   output_by_pointer OfVariable rest output = absurd (cc)
   output_by_pointer Fixed rest output = absurd (cc)
 
-  module _ (structs : List StructDef) where
-    pub inputs-suit : (vars : List Var) → list_all (λ (var : Var). is_input var.role) vars ≡ true →
-        list_all (λ (var : Var). is_some (scalar_in var.ty)) vars ≡ true →
-        ((var : Var) → Contains vars var → PlaceIs context true (c_type structs var.ty)
-        (c_place true (codes "i") (c_step (codes "i_" ++ var.name) ∷ []))) →
-        Suit context (map (parameter_for structs) vars) (map input_arg vars)
-    inputs-suit [] roles scalars places = (refl, refl)
-    inputs-suit (var ∷ vars) roles scalars places =
-        let value : (is_output var.role || is_none (scalar_in var.ty)) ≡ false =
-        input_by_value var.role (scalar_in var.ty) (and_first (is_input var.role) (list_all (λ (var : Var). is_input var.role) vars) roles)
-        (and_first (is_some (scalar_in var.ty)) (list_all (λ (var : Var). is_some (scalar_in var.ty)) vars) scalars) in
-        suit-append context (parameter_for structs var ∷ []) (map (parameter_for structs) vars) (input_arg var ∷ []) (map input_arg vars)
-        (subst (λ b. Suit context (variable_of b (c_type structs var.ty) ∷ []) (input_arg var ∷ [])) (sym value)
-        (suit-value (c_type structs var.ty) (c_read (c_place true (codes "i") (c_step (codes "i_" ++ var.name) ∷ [])))
-        (read-is context true (c_type structs var.ty) (c_place true (codes "i") (c_step (codes "i_" ++ var.name) ∷ []))
-        (places var (contains_first var vars)))))
-        (inputs-suit vars (and_second (is_input var.role) (list_all (λ (var : Var). is_input var.role) vars) roles)
-        (and_second (is_some (scalar_in var.ty)) (list_all (λ (var : Var). is_some (scalar_in var.ty)) vars) scalars)
-        (λ other there. places other (contains_further var vars other there)))
+  -- the place of a port
+  abbrev port : Text → Text → Var → CPlace
+  port root prefix var = c_place true root (c_step (prefix ++ var.name) ∷ [])
 
-    pub outputs-suit : (vars : List Var) → list_all (λ (var : Var). is_output var.role) vars ≡ true →
-        ((var : Var) → Contains vars var → PlaceIs context true (c_type structs var.ty)
-        (c_place true (codes "o") (c_step (codes "o_" ++ var.name) ∷ []))) →
-        Suit context (map (parameter_for structs) vars) (map output_arg vars)
-    outputs-suit [] roles places = (refl, refl)
-    outputs-suit (var ∷ vars) roles places =
-        let pointer : (is_output var.role || is_none (scalar_in var.ty)) ≡ true =
-        output_by_pointer var.role (is_none (scalar_in var.ty))
-        (and_first (is_output var.role) (list_all (λ (var : Var). is_output var.role) vars) roles) in
-        suit-append context (parameter_for structs var ∷ []) (map (parameter_for structs) vars) (output_arg var ∷ []) (map output_arg vars)
-        (subst (λ b. Suit context (variable_of b (c_type structs var.ty) ∷ []) (output_arg var ∷ [])) (sym pointer)
-        (suit-address context true (c_type structs var.ty) (c_place true (codes "o") (c_step (codes "o_" ++ var.name) ∷ []))
-        (places var (contains_first var vars))))
-        (outputs-suit vars (and_second (is_output var.role) (list_all (λ (var : Var). is_output var.role) vars) roles)
-        (λ other there. places other (contains_further var vars other there)))
+  -- the places of ports suit what the entry takes, lent
+  pub ports-suit : (structs : List StructDef) (root prefix : Text) (vars : List Var) →
+      list_all (λ (var : Var). is_output var.role) (map lent_var vars) ≡ true →
+      ((var : Var) → Contains vars var → PlaceIs context true (c_type structs var.ty) (port root prefix var)) →
+      Suit context (map (parameter_for structs) (map lent_var vars)) (map (λ (var : Var). Address (port root prefix var)) vars)
+  ports-suit structs root prefix [] roles places = (refl, refl)
+  ports-suit structs root prefix (var ∷ vars) roles places =
+      let rest : List Var = map lent_var vars in
+      let pointer : (is_output (lent_role var.role) || is_none (scalar_in var.ty)) ≡ true =
+      output_by_pointer (lent_role var.role) (is_none (scalar_in var.ty))
+      (and_first (is_output (lent_role var.role)) (list_all (λ (var : Var). is_output var.role) rest) roles) in
+      suit-append context (parameter_for structs (lent_var var) ∷ []) (map (parameter_for structs) rest) (Address (port root prefix var) ∷ [])
+      (map (λ (var : Var). Address (port root prefix var)) vars)
+      (subst (λ b. Suit context (variable_of b (c_type structs var.ty) ∷ []) (Address (port root prefix var) ∷ [])) (sym pointer)
+      (suit-address context true (c_type structs var.ty) (port root prefix var) (places var (contains_first var vars))))
+      (ports-suit structs root prefix vars
+      (and_second (is_output (lent_role var.role)) (list_all (λ (var : Var). is_output var.role) rest) roles)
+      (λ other there. places other (contains_further var vars other there)))
 
 -- ---- what the entry has
 
@@ -167,8 +135,3 @@ module _ (unit : UnitDef) where
 
   pub outputs_differ : are_distinct (names_of (parameters_of unit)) ≡ true → are_distinct (names_of (outputs_of unit)) ≡ true
   outputs_differ differ = distinct_back (names_of (inputs_of unit)) (names_of (outputs_of unit)) (ap are_distinct (sym names_split) ∙ differ)
-
-  pub inputs_all : (test : Var → Bool) → list_all test (parameters_of unit) ≡ true → list_all test (inputs_of unit) ≡ true
-  inputs_all test all =
-      and_first (list_all test (inputs_of unit)) (list_all test (outputs_of unit))
-      (sym (list_all-append test (inputs_of unit) (outputs_of unit)) ∙ ap (list_all test) (sym parts_are) ∙ all)

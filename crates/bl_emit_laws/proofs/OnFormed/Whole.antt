@@ -1,7 +1,8 @@
 -- Nothing fails in the whole file.
 use Rattle.std.proofs.Common.{◌≡◌, ℕ, ◌+◌, ◌-◌, ◌<◌, ◌≤◌, inr, ⊎_elim, Bool, true, false, ◌&&◌, List, [], ◌∷◌, ◌++◌}
-use Rattle.std.proofs.Common.{drop, length, Option, Some, None, refl, sym, ap, ◌∙◌, subst, arith, codes}
+use Rattle.std.proofs.Common.{drop, map, length, Option, Some, None, refl, sym, ap, ◌∙◌, subst, arith, codes}
 use Rattle.std.proofs.lemmas.Bool.{cases_lt}
+use Rattle.std.proofs.lemmas.List.Folds.{list_all-append}
 use Rattle.std.proofs.lemmas.Option.{slice_get_within}
 use Rattle.std.specs.Option.{option_or}
 use Rattle.std.specs.Prelude.{is_none, is_some, slice_get, unwrap_or}
@@ -15,8 +16,7 @@ use Rattle.bl_tree.specs.declared.program.Program.{Program}
 use Rattle.bl_tree.specs.declared.rule.Rule.TheVariants as rule
 use Rattle.bl_tree.specs.declared.tree.Unit.{Unit as UnitDef}
 use Rattle.bl_tree.specs.declared.tree.Var.{Var}
-use Rattle.bl_tree.specs.Program.{IsWellTyped, is_entry, names_of, parameters_of}
-use Rattle.bl_tree.specs.Types.{scalar_in}
+use Rattle.bl_tree.specs.Program.{IsWellTyped, is_entry, is_output, names_of, parameters_of}
 use Rattle.bl_tree.specs.Typing.{inputs_of, is_activity, outputs_of}
 use Rattle.bl_tree.specs.Words.{are_distinct, is_name}
 use Rattle.bl_limits.specs.Rules.{Passes}
@@ -29,12 +29,14 @@ use Rattle.bl_ctext_semantics.specs.Tables.{Table, no_entries, with_entry}
 use Rattle.bl_machine.specs.declared.machine.Activity.{Activity as InMachine}
 use Rattle.bl_emit_acts.specs.Types.{unit_name}
 use Rattle.bl_emit_acts_laws_wellformed.proofs.OnFormed.Judged.{kept}
-use Rattle.bl_emit_acts_laws_wellformed.proofs.OnFormed.Units.{inputs_stand, outputs_stand, unit_at}
-use Rattle.bl_emit_spec.specs.Programs.{ProgramParts, file_at, init_function, needed_units, port_struct, state_struct, tick_function, written}
+use Rattle.bl_emit_acts_laws_wellformed.proofs.OnFormed.Units.{outputs_stand, unit_at}
+use Rattle.bl_emit_spec.proofs.LentLemmas.{lent_outputs, lent_parameter_names, lent_parts}
+use Rattle.bl_emit_spec.specs.Lent.{lent_unit, lent_var}
+use Rattle.bl_emit_spec.specs.Programs.{ProgramParts, init_function, needed_units, port_struct, state_struct, tick_function, written_of}
 use Rattle.bl_emit_spec_laws_wellformed.specs.Closed.{NeededClosed}
 use Rattle.bl_emit_spec_laws_wellformed_bodies.specs.Lists.{FunctionsEnd, PartsWellFormed, signature_by}
 use Rattle.bl_emit_laws.proofs.OnFormed.Interface.{Entry, init-fine, tick-fine}
-use Rattle.bl_emit_laws.proofs.OnFormed.Ports.{inputs_all, inputs_differ, outputs_differ}
+use Rattle.bl_emit_laws.proofs.OnFormed.Ports.{inputs_differ, outputs_differ}
 use Rattle.bl_emit_laws.specs.Formed.{FilesWellFormed, StructsSound, parts_for_entry, table_of}
 use Rattle.bl_ctext_semantics.proofs.MapLemmas.{nothing_after}
 
@@ -64,15 +66,15 @@ all_three true false c one two three = absurd (cc)
 all_three false b c one two three = absurd (cc)
 
 module _ (program : Program) (machine : List InMachine) (unit : UnitDef) (keeps : IsWellTyped program.structs program.units program.entry)
-    (passes : Passes program.structs program.units program.entry) (there : slice_get program.units program.entry ≡ Some unit)
+    (passes : Passes program.structs program.units program.entry) (there : slice_get program.units program.entry ≡ Some (lent_unit unit))
     (closed : NeededClosed program.structs program.units program.entry) (sound : StructsSound program machine unit)
-    (end : FunctionsEnd program.structs program.units program.entry (table_of program machine) (parts_for_entry program machine)
+    (end : FunctionsEnd program.structs program.units program.entry (table_of program unit machine) (parts_for_entry program machine)
     (init_function ∷ tick_function unit (unwrap_or (slice_get (parts_for_entry program machine).remember program.entry) false) ∷ [])) where
   abbrev parts : ProgramParts
   parts = parts_for_entry program machine
 
   abbrev table : Table (Table CMember)
-  table = table_of program machine
+  table = table_of program unit machine
 
   abbrev remembers : Bool
   remembers = unwrap_or (slice_get parts.remember program.entry) false
@@ -85,7 +87,7 @@ module _ (program : Program) (machine : List InMachine) (unit : UnitDef) (keeps 
 
   -- ---- the entry
 
-  is_it : is_entry (Some unit) ≡ true
+  is_it : is_entry (Some (lent_unit unit)) ≡ true
   is_it = ap is_entry (sym there) ∙ keeps.entry_stands
 
   active : is_activity unit.kind ≡ true
@@ -95,18 +97,30 @@ module _ (program : Program) (machine : List InMachine) (unit : UnitDef) (keeps 
   need = closed.entry_is keeps
 
   within : program.entry < length program.units
-  within = slice_get_within program.units program.entry unit there
+  within = slice_get_within program.units program.entry (lent_unit unit) there
 
   names_differ : are_distinct (names_of (parameters_of unit)) ≡ true
   names_differ =
-      and_second (list_all is_name (names_of unit.vars)) (are_distinct (names_of (parameters_of unit)))
-      (and_right _ _ (and_first _ _ (unit_at program.structs program.units program.entry keeps program.entry unit there)))
+      ap are_distinct (sym (lent_parameter_names unit))
+      ∙ and_second (list_all is_name (names_of (lent_unit unit).vars)) (are_distinct (names_of (parameters_of (lent_unit unit))))
+      (and_right _ _ (and_first _ _ (unit_at program.structs program.units program.entry keeps program.entry (lent_unit unit) there)))
+
+  -- all parameters are pointers
+  pointers : list_all (λ (var : Var). is_output var.role) (map lent_var (inputs_of unit) ++ map lent_var (outputs_of unit)) ≡ true
+  pointers =
+      ap (list_all (λ (var : Var). is_output var.role)) (sym (lent_outputs unit ∙ lent_parts unit))
+      ∙ outputs_stand program.structs program.units program.entry keeps program.entry (lent_unit unit) there
+
+  both_point : (list_all (λ (var : Var). is_output var.role) (map lent_var (inputs_of unit))
+      && list_all (λ (var : Var). is_output var.role) (map lent_var (outputs_of unit))) ≡ true
+  both_point =
+      sym (list_all-append (λ (var : Var). is_output var.role) (map lent_var (inputs_of unit)) (map lent_var (outputs_of unit))) ∙ pointers
 
   chain_low : chain_at program.units program.entry ≤ 100
   chain_low =
       ⊎_elim
       (λ (long : 100 < chain_at program.units program.entry). absurd (passes rule.Frames unit.place []
-      (inr (record { position = program.entry; unit = unit; heads = there; long = long; at_name = refl }), refl)))
+      (inr (record { position = program.entry; unit = lent_unit unit; heads = there; long = long; at_name = refl }), refl)))
       (λ few. few) (cases_lt 100 (chain_at program.units program.entry))
 
   -- the structs of the interface
@@ -122,17 +136,16 @@ module _ (program : Program) (machine : List InMachine) (unit : UnitDef) (keeps 
   before : Entry program.structs unit remembers table end.functions end.depths
   before = record {
     result = none_from unit.result (and_first (is_none unit.result) _ (and_right (is_activity unit.kind) _ is_it));
-    scalars = inputs_all unit (λ (var : Var). is_some (scalar_in var.ty)) (and_right (is_none unit.result) _ (and_right (is_activity unit.kind) _ is_it));
-    inputs = inputs_stand program.structs program.units program.entry keeps program.entry unit there;
-    outputs = outputs_stand program.structs program.units program.entry keeps program.entry unit there;
+    inputs = and_first (list_all (λ (var : Var). is_output var.role) (map lent_var (inputs_of unit))) _ both_point;
+    outputs = and_second (list_all (λ (var : Var). is_output var.role) (map lent_var (inputs_of unit))) _ both_point;
     inputs_differ = inputs_differ unit names_differ;
     outputs_differ = outputs_differ unit names_differ;
     state = sound.interface state (contains_first state (ins ∷ outs ∷ []));
     ins = sound.interface ins (contains_further state (ins ∷ outs ∷ []) ins (contains_first ins (outs ∷ [])));
     outs = sound.interface outs (contains_further state (ins ∷ outs ∷ []) outs (contains_further ins (outs ∷ []) outs (contains_first outs [])));
-    known = end.known.known program.entry unit there within need
-        ∙ ap (λ b. Some (signature_by b program.structs unit remembers)) active;
-    depth = let low = end.chains.of_units program.entry unit there in let few = chain_low in omega (arith, low, few);
+    known = end.known.known program.entry (lent_unit unit) there within need
+        ∙ ap (λ b. Some (signature_by b program.structs (lent_unit unit) remembers)) active;
+    depth = let low = end.chains.of_units program.entry (lent_unit unit) there in let few = chain_low in omega (arith, low, few);
   }
 
   -- what is known once bl_init is
@@ -145,7 +158,6 @@ module _ (program : Program) (machine : List InMachine) (unit : UnitDef) (keeps 
   behind : Entry program.structs unit remembers table functions_then depths_then
   behind = record {
     result = before.result;
-    scalars = before.scalars;
     inputs = before.inputs;
     outputs = before.outputs;
     inputs_differ = before.inputs_differ;
@@ -177,21 +189,18 @@ module _ (program : Program) (machine : List InMachine) (unit : UnitDef) (keeps 
       (all_three (is_some (table (codes "bl_state"))) (is_some (table (codes "bl_in"))) (is_some (table (codes "bl_out"))) (ap is_some before.state)
       (ap is_some before.ins) (ap is_some before.outs))
 
-  pub fine : faults_in (file_from (written program machine).structs (parts.funcs ++ (init ∷ tick ∷ []))) ≡ []
+  pub fine : faults_in (file_from (written_of program unit machine).structs (written_of program unit machine).funcs) ≡ []
   unfolding faults_in
   fine =
       (λ i. sound.formed i ++ (funcs_fine i ++ (three_fine (last_place (parts.funcs ++ (init ∷ tick ∷ []))) i ++ two_fine i)))
 
-  funcs_are : (written program machine).funcs ≡ parts.funcs ++ (init ∷ tick ∷ [])
-  funcs_are = ap (λ o. (file_at program parts o).funcs) there
-
-  pub formed : WellFormed (file_from (written program machine).structs (written program machine).funcs)
-  formed = subst (λ funcs. WellFormed (file_from (written program machine).structs funcs)) (sym funcs_are) (record { none = fine })
+  pub formed : WellFormed (file_from (written_of program unit machine).structs (written_of program unit machine).funcs)
+  formed = record { none = fine }
 
 pub files : (program : Program) → NeededClosed program.structs program.units program.entry → PartsWellFormed program.structs program.units program.entry →
     FilesWellFormed program
 files program closed parts_well_formed machine unit keeps passes there forms sound =
     formed program machine unit keeps passes there closed sound
-    (parts_well_formed machine (table_of program machine)
+    (parts_well_formed machine (table_of program unit machine)
     (init_function ∷ tick_function unit (unwrap_or (slice_get (parts_for_entry program machine).remember program.entry) false) ∷ [])
     keeps passes forms sound.types sound.parts (omega arith))

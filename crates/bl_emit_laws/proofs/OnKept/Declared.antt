@@ -19,7 +19,8 @@ use Rattle.bl_ctree_laws_confluence.specs.Deeds.Orderly.{AcceptedIsOrderly}
 use Rattle.bl_emit_acts.specs.Trees.{nowhere}
 use Rattle.bl_emit_functions.specs.Functions.{memory_name, struct_of}
 use Rattle.bl_emit_spec.specs.Activities.{frame_struct, remembered, remembered_struct, remembers_any}
-use Rattle.bl_emit_spec.specs.Programs.{ProgramParts, file_at, interface_structs, needed_units, parts_from, port_struct, state_struct, written}
+use Rattle.bl_emit_spec.specs.Lent.{lent_unit}
+use Rattle.bl_emit_spec.specs.Programs.{ProgramParts, interface_structs, needed_units, parts_from, port_struct, state_struct, written_of}
 use Rattle.bl_emit_structs.specs.Structs.{structs_of}
 use Rattle.bl_emit_structs_laws_wellformed.specs.Names.{TypesApart}
 use Rattle.bl_machine.specs.declared.machine.Activity.{Activity as InMachine}
@@ -29,7 +30,7 @@ use Rattle.bl_emit_spec_laws_wellformed.specs.Closed.{InstancesNeeded}
 use Rattle.bl_emit_spec_laws_files.specs.States.States.{FramesDeclared, memory_of_activity}
 use Rattle.bl_emit_spec_laws.specs.Tables.Laws.{ActivitiesBuilt, WrittenAs, WrittenIsKept}
 use Rattle.bl_emit_spec_laws.specs.Tables.Tables.{activities_of}
-use Rattle.bl_emit_laws.specs.Kept.{FramesAreDeclared, written_file}
+use Rattle.bl_emit_laws.specs.Kept.{FramesAreDeclared, shown_file}
 use Rattle.bl_emit_laws.proofs.OnKept.Types.{stands_once, type_declared}
 use Rattle.bl_emit_laws.proofs.OnKept.Walk.{own, walk}
 use Rattle.bl_emit_spec_laws.proofs.OnActivities.Nested.{unit_there}
@@ -48,7 +49,7 @@ struct_there name (m ∷ rest) any = contains_first (record { place = nowhere; n
 
 -- ---- the structs of the file
 
-module _ (program : Program) (machine : List InMachine) (unit : UnitDef) (there : slice_get program.units program.entry ≡ Some unit)
+module _ (program : Program) (machine : List InMachine) (unit : UnitDef) (there : slice_get program.units program.entry ≡ Some (lent_unit unit))
     (kept : WrittenAs program machine unit)
   where
     abbrev activities : Activities
@@ -70,29 +71,28 @@ module _ (program : Program) (machine : List InMachine) (unit : UnitDef) (there 
     abbrev outputs_at : CStruct
     outputs_at = port_struct program.structs (codes "bl_out") (codes "o_") (outputs_of unit)
 
-    pub structs_are : (written program machine).structs ≡ structs_of program ++ (parts.structs ++ last)
+    pub structs_are : (written_of program unit machine).structs ≡ structs_of program.structs program.units ++ (parts.structs ++ last)
     structs_are =
-        ap (λ o. (file_at program parts o).structs) there
-        ∙ ap (λ remembers. structs_of program ++ (parts.structs ++ interface_structs program.structs unit remembers)) kept.remembers
+        ap (λ remembers. structs_of program.structs program.units ++ (parts.structs ++ interface_structs program.structs unit remembers)) kept.remembers
 
     abbrev Declares : CStruct → Type 0
-    Declares s = Contains (written program machine).structs s
+    Declares s = Contains (written_of program unit machine).structs s
 
-    of_file : (s : CStruct) → Contains (structs_of program ++ (parts.structs ++ last)) s → Declares s
+    of_file : (s : CStruct) → Contains (structs_of program.structs program.units ++ (parts.structs ++ last)) s → Declares s
     of_file s at = subst (λ l. Contains l s) (sym structs_are) at
 
-    of_types : (s : CStruct) → Contains (structs_of program) s → Declares s
-    of_types s at = of_file s (Contains-append_left (structs_of program) (parts.structs ++ last) s at)
+    of_types : (s : CStruct) → Contains (structs_of program.structs program.units) s → Declares s
+    of_types s at = of_file s (Contains-append_left (structs_of program.structs program.units) (parts.structs ++ last) s at)
 
     of_parts : (s : CStruct) → Contains parts.structs s → Declares s
     of_parts s at =
         of_file s
-        (Contains-append_right (structs_of program) (parts.structs ++ last) s (Contains-append_left parts.structs last s at))
+        (Contains-append_right (structs_of program.structs program.units) (parts.structs ++ last) s (Contains-append_left parts.structs last s at))
 
     of_last : (s : CStruct) → Contains last s → Declares s
     of_last s at =
         of_file s
-        (Contains-append_right (structs_of program) (parts.structs ++ last) s (Contains-append_right parts.structs last s at))
+        (Contains-append_right (structs_of program.structs program.units) (parts.structs ++ last) s (Contains-append_right parts.structs last s at))
 
     abbrev w : Setting
     w = setting_of program.structs program.units program.entry
@@ -125,7 +125,7 @@ module _ (program : Program) (machine : List InMachine) (unit : UnitDef) (there 
             (subst (λ n. Contains (own program.structs program.units machine (built program.structs program.units machine agrees) n) s) same at))
 
         declared : TypesApart program.structs program.units program.entry →
-            FramesDeclared program.structs program.units program.entry activities unit (written_file program machine)
+            FramesDeclared program.structs program.units program.entry activities unit (shown_file program unit machine)
         declared apart = record {
           state = of_last state_at (contains_first state_at (inputs_at ∷ outputs_at ∷ []));
           outputs = of_last outputs_at
@@ -139,7 +139,7 @@ module _ (program : Program) (machine : List InMachine) (unit : UnitDef) (there 
               (contains_further (frame_struct (activities (unit_number w i))) (remembered_struct (activities (unit_number w i)))
               (memory_of_activity (activities (unit_number w i)))
               (struct_there (activities (unit_number w i)).unit.name (remembered (activities (unit_number w i))) any));
-          types = type_declared program.structs program.units (written program machine).structs
+          types = type_declared program.structs program.units (written_of program unit machine).structs
               (λ s at. of_types s (stands_once program.structs program.units program.entry keeps apart s at));
         }
 
@@ -147,5 +147,5 @@ pub frames_are_declared : (program : Program) → AcceptedIsOrderly → Activiti
     TypesApart program.structs program.units program.entry → InstancesNeeded program.structs program.units program.entry → FramesAreDeclared program
 frames_are_declared program orderly built kept apart needs machine unit keeps passes agrees there =
     declared program machine unit there
-    (kept program machine unit agrees there (entry_active program.structs program.units program.entry unit keeps there)) orderly built needs keeps
+    (kept program machine unit agrees there (entry_active program.structs program.units program.entry (lent_unit unit) keeps there)) orderly built needs keeps
     passes agrees apart

@@ -19,7 +19,8 @@ use Rattle.bl_emit_functions.specs.Functions.{function_code, members_of, memory_
 use Rattle.bl_emit_spec.specs.Activities.{Activity, activity_function, frame_struct, remembered, remembered_struct, remembers_any}
 use Rattle.bl_emit_spec.specs.Names.{frame_name}
 use Rattle.bl_emit_spec.specs.Programs.{ProgramParts, activity_of, interface_structs, needed_units, parts_from, parts_of_function, parts_of_next, where_needed}
-use Rattle.bl_emit_spec.specs.Programs.{written}
+use Rattle.bl_emit_spec.specs.Lent.{lent_unit}
+use Rattle.bl_emit_spec.specs.Programs.{written_of}
 use Rattle.bl_emit_structs.specs.Structs.{structs_of}
 use Rattle.bl_emit_spec_laws.specs.Calls.Built.{Activities}
 use Rattle.bl_emit_spec_laws.specs.Tables.Laws.{WrittenAs, WrittenIsKept}
@@ -109,21 +110,21 @@ files_end program kept_as machine unit keeps agrees there = record {
 }
   where
     as_kept : WrittenAs program machine unit
-    as_kept = kept_as program machine unit agrees there (entry_active program.structs program.units program.entry unit keeps there)
+    as_kept = kept_as program machine unit agrees there (entry_active program.structs program.units program.entry (lent_unit unit) keeps there)
 
     other : (s : CStruct) (rest : Text) → Contains (structs_before program machine) s → bytes_eq s.name (codes "bl_" ++ rest) ≡ false
     other s rest at =
         ⊎_elim (λ own. other_name program.structs program.units program.entry keeps s rest own)
         (λ part. unit_other s rest
         (parts_named program.structs [] [] program.units (needed_units program.units program.entry) machine s part))
-        (Contains-append_cases (structs_of program)
+        (Contains-append_cases (structs_of program.structs program.units)
         (parts_from program.structs [] [] program.units (needed_units program.units program.entry) machine).structs s at)
 
-    structs_so : (written program machine).structs
+    structs_so : (written_of program unit machine).structs
         ≡ structs_before program machine
         ++ interface_structs program.structs unit (remembers_any (activities_of program.structs program.units machine program.entry))
     structs_so =
         structs_are program machine unit there as_kept
-        ∙ sym (append_assoc (structs_of program)
+        ∙ sym (append_assoc (structs_of program.structs program.units)
         (parts_from program.structs [] [] program.units (needed_units program.units program.entry) machine).structs
         (interface_structs program.structs unit (remembers_any (activities_of program.structs program.units machine program.entry))))

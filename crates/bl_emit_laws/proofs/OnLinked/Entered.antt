@@ -1,6 +1,5 @@
 -- What the functions of the interface do where the file is entered.
-use Rattle.std.proofs.Common.{◌≡◌, ℕ, suc, Bool, true, false, not, ◌&&◌, List, [], ◌∷◌, ◌++◌, map, take}
-use Rattle.std.proofs.Common.{Option, Some, None, refl, sym, ap, ◌∙◌, subst, codes}
+use Rattle.std.proofs.Common.{◌≡◌, ℕ, suc, Bool, true, false, not, ◌&&◌, List, [], ◌∷◌, ◌++◌, map, take, Option, Some, None, refl, sym, ap, ◌∙◌, subst, codes}
 use Rattle.std.proofs.lemmas.List.Elements.{All-cons, All-nil}
 use Rattle.std.proofs.lemmas.Option.{same_Some}
 use Rattle.std.specs.List.{list_all}
@@ -8,7 +7,7 @@ use Rattle.std.specs.Prelude.{All, bytes_eq, is_none, is_some, slice_get, if◌t
 use Rattle.std.proofs.lemmas.Bool.{and_from}
 use Rattle.bl_tree.proofs.Basics.{and_first, and_second}
 use Rattle.bl_tree.specs.declared.c.CArg.{CArg}
-use Rattle.bl_tree.specs.declared.c.CArg.TheVariants.{Address, Value}
+use Rattle.bl_tree.specs.declared.c.CArg.TheVariants.{Address}
 use Rattle.bl_tree.specs.declared.c.CFunc.{CFunc}
 use Rattle.bl_tree.specs.declared.text.Text.{Text}
 use Rattle.bl_tree.specs.declared.tree.StructDef.{StructDef}
@@ -30,8 +29,7 @@ use Rattle.bl_emit_acts.specs.Trees.{c_call, c_place, c_read, c_step}
 use Rattle.bl_emit_acts.specs.Types.{unit_name}
 use Rattle.bl_emit_functions.specs.Functions.{function_code}
 use Rattle.bl_emit_functions.specs.Trees.{c_if}
-use Rattle.bl_emit_functions_laws_wellformed.proofs.OnFiles.Shapes.{address-calls, call-calls, calling-calls, if-calls, place-calls, read-calls}
-use Rattle.bl_emit_functions_laws_wellformed.proofs.OnFiles.Shapes.{step-calls, value-calls}
+use Rattle.bl_emit_functions_laws_wellformed.proofs.OnFiles.Shapes.{address-calls, call-calls, calling-calls, if-calls, place-calls, read-calls, step-calls}
 use Rattle.bl_emit_functions_laws_simulation.specs.Units.{known_after}
 use Rattle.bl_emit_spec.specs.Activities.{activity_function, remembers_any}
 use Rattle.bl_emit_spec.specs.Blocks.{unit_may_end, stmt_where, arg_where}
@@ -42,6 +40,7 @@ use Rattle.bl_emit_laws.proofs.OnLinked.Spared.{other_entry}
 use Rattle.bl_emit_spec_laws.specs.Tables.Laws.{WrittenAs, WrittenIsKept}
 use Rattle.bl_emit_spec_laws.specs.Tables.Tables.{activities_of, each_from, functions_of_all, kept_where, unit_function}
 use Rattle.bl_emit_laws.proofs.OnCells.Interface.{returned_silent}
+use Rattle.bl_emit_spec.specs.Lent.{lent_unit}
 
 -- ---- what a tick calls
 
@@ -67,10 +66,6 @@ member_calls name member = place-calls true name (c_step member ∷ []) ∙ (λ 
 address_quiet : (name member : Text) → calls_in_arg (Address (c_place true name (c_step member ∷ []))) ≡ []
 address_quiet name member = address-calls (c_place true name (c_step member ∷ [])) ∙ member_calls name member
 
-value_quiet : (name member : Text) → calls_in_arg (Value (c_read (c_place true name (c_step member ∷ [])))) ≡ []
-value_quiet name member =
-    value-calls (c_read (c_place true name (c_step member ∷ []))) ∙ (read-calls (c_place true name (c_step member ∷ [])) ∙ member_calls name member)
-
 over_quiet : calls_in_arg (Address (c_place false (codes "e") [])) ≡ []
 over_quiet = address-calls (c_place false (codes "e") []) ∙ place-calls false (codes "e") []
 
@@ -82,7 +77,7 @@ args_quiet : (unit : UnitDef) (remembers : Bool) → Quiet (tick_args unit remem
 args_quiet unit remembers =
     quiet_more _ _ (address_quiet (codes "s") (codes "f"))
     (quiet_where remembers _ _ (address_quiet (codes "s") (codes "m"))
-    (quiet_map input_arg (inputs_of unit) _ (λ var. value_quiet (codes "i") (codes "i_" ++ var.name))
+    (quiet_map input_arg (inputs_of unit) _ (λ var. address_quiet (codes "i") (codes "i_" ++ var.name))
     (quiet_map output_arg (outputs_of unit) _ (λ var. address_quiet (codes "o") (codes "o_" ++ var.name))
     (end_quiet (unit_may_end unit)))))
 
@@ -241,7 +236,7 @@ all_enter decide written program machine unit file is = record {
     written_so : WrittenAs program machine unit
     written_so =
         written program machine unit is.agrees is.there
-        (active_entry (slice_get program.units program.entry) unit is.there is.well_typed.entry_stands)
+        (active_entry (slice_get program.units program.entry) (lent_unit unit) is.there is.well_typed.entry_stands)
 
     funcs : file.funcs ≡ functions ++ (init_function ∷ tick_function unit remembers ∷ [])
     funcs = is.funcs ∙ written_so.funcs

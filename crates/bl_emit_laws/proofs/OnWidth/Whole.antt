@@ -21,14 +21,14 @@ use Rattle.bl_emit_spec.specs.Activities.{frame_struct}
 use Rattle.bl_emit_spec.specs.Names.{frame_name}
 use Rattle.bl_emit_spec_laws.specs.Calls.Built.{Activities, MadeOf, unit_number}
 use Rattle.bl_emit_spec_laws.specs.Calls.Laws.{CompilationContext}
-use Rattle.bl_emit_laws.specs.Kept.{FramesAreDeclared, activities_in, written_file}
+use Rattle.bl_emit_laws.specs.Kept.{FramesAreDeclared, activities_in, shown_file}
 use Rattle.bl_emit_laws.specs.Width.{FrameHasWidth, FramesHaveWidth}
 use Rattle.bl_emit_laws.proofs.OnWidth.Counting.{frame_counts, sizes_wide}
-use Rattle.bl_emit_spec_laws_wellformed.proofs.OnClosed.Closed.{entry_there}
 use Rattle.bl_emit_spec_laws.proofs.OnActivities.Nested.{unit_there}
+use Rattle.bl_emit_spec.specs.Lent.{lent_unit}
 
 module _ (program : Program) (orderly : AcceptedIsOrderly) (wide : (body : List Stmt) → TakesItsWidth body) (declares : FramesAreDeclared program)
-    (machine : List InMachine) (i : ℕ) (unit : UnitDef)
+    (machine : List InMachine) (ports : UnitDef) (entry_is : slice_get program.units program.entry ≡ Some (lent_unit ports)) (i : ℕ) (unit : UnitDef)
     (compiled : CompilationContext program.structs program.units program.entry machine (activities_in program machine))
     (is : unit_at (setting_of program.structs program.units program.entry) i ≡ Some unit)
   where
@@ -64,15 +64,15 @@ module _ (program : Program) (orderly : AcceptedIsOrderly) (wide : (body : List 
     small : (c : ℕ) → c < length (activities k).sizes → c < 2 ^ 64
     small c less = (compiled.registers k unit there active).counters c (lt-ltb c (length (activities k).sizes) less)
 
-    pub has_frame : FrameHasWidth (written_file program machine) unit
-    has_frame =
-        let entry = entry_there (slice_get program.units program.entry) compiled.well_typed.entry_stands in record {
-          frame = frame_struct (activities k);
-          there = (declares machine entry.0 compiled.well_typed compiled.passes compiled.agrees entry.1).frames i unit is;
-          named = ap (λ (u : UnitDef). frame_name u.name) (compiled.built.unit k unit there);
-          counters = frame_counts (activities k) small ∙ many;
-        }
+    pub has_frame : FrameHasWidth (shown_file program ports machine) unit
+    has_frame = record {
+      frame = frame_struct (activities k);
+      there = (declares machine ports compiled.well_typed compiled.passes compiled.agrees entry_is).frames i unit is;
+      named = ap (λ (u : UnitDef). frame_name u.name) (compiled.built.unit k unit there);
+      counters = frame_counts (activities k) small ∙ many;
+    }
 
 pub frames_wide : (program : Program) → AcceptedIsOrderly → ((body : List Stmt) → TakesItsWidth body) → FramesAreDeclared program →
     FramesHaveWidth program
-frames_wide program orderly wide declares machine compiled i unit is = has_frame program orderly wide declares machine i unit compiled is
+frames_wide program orderly wide declares machine ports compiled entry_is i unit is =
+    has_frame program orderly wide declares machine ports entry_is i unit compiled is

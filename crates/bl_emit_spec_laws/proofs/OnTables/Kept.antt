@@ -15,7 +15,8 @@ use Rattle.bl_machine.specs.Blocks.{up_to}
 use Rattle.bl_machine.specs.Machines.{AreActivitiesOf}
 use Rattle.bl_emit_functions.specs.Functions.{function_code}
 use Rattle.bl_emit_spec.specs.Activities.{activity_function, remembers_any}
-use Rattle.bl_emit_spec.specs.Programs.{ProgramParts, activity_of, file_at, init_function, needed_below, needed_units, needs_at, parts_from, parts_of_activity}
+use Rattle.bl_emit_spec.specs.Lent.{lent_unit}
+use Rattle.bl_emit_spec.specs.Programs.{ProgramParts, activity_of, init_function, needed_below, needed_units, needs_at, parts_from, parts_of_activity}
 use Rattle.bl_emit_spec.specs.Programs.{parts_of_function, parts_of_next, parts_then, set_from, tick_function, where_needed}
 use Rattle.bl_emit_spec_laws.specs.Calls.Built.{Activities}
 use Rattle.bl_emit_spec_laws.specs.Tables.Laws.{WrittenIsKept}
@@ -175,7 +176,7 @@ each_many of k (x ∷ xs) = ap suc (each_many of (suc k) xs)
 pub all_kept : WrittenIsKept
 all_kept program machine unit agrees there active = record {
   remembers = remembers;
-  funcs = ap (λ o. (file_at program parts_all o).funcs) there ∙ (λ i. whole.0 i ++ init_function ∷ tick_function unit (remembers i) ∷ []);
+  funcs = λ i. whole.0 i ++ init_function ∷ tick_function unit (remembers i) ∷ [];
 }
   where
     activities : Activities
@@ -202,5 +203,5 @@ all_kept program machine unit agrees there active = record {
     remembers =
         let same : 0 + program.entry ≡ program.entry = omega arith in
         ap (λ list. unwrap_or (slice_get list program.entry) false) (whole.1 many)
-        ∙ (ap (λ o. unwrap_or o false) (each_got flags program.units 0 program.entry unit there)
-        ∙ (ap (λ n. flags n unit) same ∙ ap (λ b. b && remembers_any (activities_of program.structs program.units machine program.entry)) active))
+        ∙ (ap (λ o. unwrap_or o false) (each_got flags program.units 0 program.entry (lent_unit unit) there)
+        ∙ (ap (λ n. flags n (lent_unit unit)) same ∙ ap (λ b. b && remembers_any (activities_of program.structs program.units machine program.entry)) active))

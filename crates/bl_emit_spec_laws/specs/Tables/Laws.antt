@@ -8,7 +8,8 @@ use Rattle.bl_tree.specs.Typing.{is_activity}
 use Rattle.bl_machine.specs.declared.machine.Activity.{Activity as InMachine}
 use Rattle.bl_machine.specs.Machines.{AreActivitiesOf}
 use Rattle.bl_emit_spec.specs.Activities.{remembers_any}
-use Rattle.bl_emit_spec.specs.Programs.{init_function, needed_units, parts_from, tick_function, written}
+use Rattle.bl_emit_spec.specs.Lent.{lent_unit}
+use Rattle.bl_emit_spec.specs.Programs.{init_function, needed_units, parts_from, tick_function, written_as}
 use Rattle.bl_emit_spec_laws.specs.Calls.Built.{Activities, AreBuilt}
 use Rattle.bl_emit_spec_laws.specs.Calls.Laws.{AllKnownUpTo}
 use Rattle.bl_emit_spec_laws.specs.Tables.Tables.{activities_of, functions_of_all, kept_where, table_of_all, table_up_to}
@@ -27,19 +28,19 @@ TablesKnowAll =
     AllKnownUpTo structs units activities k (table_up_to structs units activities k)
     × AllKnownUpTo structs units activities k (table_of_all structs units activities)
 
--- the functions of the file that is written of a program whose entry is this unit: those of the units that the entry needs, and two more; the entry
--- remembers what it does among all units
+-- the functions of the file that is written of a program whose entry has the ports of this unit: those of the units that the entry needs, and two more; the
+-- entry remembers what it does among all units
 pub record WrittenAs (program : Program) (machine : List InMachine) (unit : UnitDef) : Type 0 where
   pub remembers : unwrap_or (slice_get (parts_from program.structs [] [] program.units (needed_units program.units program.entry) machine).remember
       program.entry) false ≡ remembers_any (activities_of program.structs program.units machine program.entry)
-  pub funcs : (written program machine).funcs
+  pub funcs : (written_as program.structs program.units program.entry unit machine).funcs
       ≡ kept_where (needed_units program.units program.entry)
       (functions_of_all program.structs program.units (activities_of program.structs program.units machine))
       ++ (init_function
       ∷ tick_function unit (remembers_any (activities_of program.structs program.units machine program.entry)) ∷ [])
 
--- the file written of a program with its machine, whose entry is an activity, has those functions
+-- the file written of a program with its machine, whose entry is an activity with the inputs of a unit lent, has those functions
 abbrev pub WrittenIsKept : Type 0
 WrittenIsKept =
     (program : Program) (machine : List InMachine) (unit : UnitDef) → AreActivitiesOf program.units machine →
-    slice_get program.units program.entry ≡ Some unit → is_activity unit.kind ≡ true → WrittenAs program machine unit
+    slice_get program.units program.entry ≡ Some (lent_unit unit) → is_activity unit.kind ≡ true → WrittenAs program machine unit

@@ -2,10 +2,11 @@
 use Rattle.std.proofs.Common.{◌≡◌, ℕ, ◌+◌, ℤ, pos, Bool, true, false, List, [], ◌∷◌, ◌++◌, map, Option, Some, None, refl, sym}
 use Rattle.std.proofs.Common.{ap, ap₂, ◌∙◌, subst}
 use Rattle.std.proofs.Common.{append_assoc}
+use Rattle.std.proofs.lemmas.List.{map-append}
 use Rattle.std.specs.Prelude.{codes, is_some, if◌then◌else◌}
 use Rattle.bl_tree.specs.declared.c.CArg.{CArg, CArg-F, fold-roll-CArg, roll-CArg}
 use Rattle.bl_tree.specs.declared.c.CArg.TheVariants as argument
-use Rattle.bl_tree.specs.declared.c.CArg.TheVariants.{Address, Value}
+use Rattle.bl_tree.specs.declared.c.CArg.TheVariants.{Address}
 use Rattle.bl_tree.specs.declared.c.CCall.{CCall}
 use Rattle.bl_tree.specs.declared.c.CExpr.{CExpr}
 use Rattle.bl_tree.specs.declared.c.CPlace.{CPlace}
@@ -21,7 +22,7 @@ use Rattle.bl_tree.specs.Numbers.{is_one, number_of}
 use Rattle.bl_tree.specs.Typing.{inputs_of, outputs_of}
 use Rattle.bl_ctext_semantics.specs.Builtin.{builtin_of}
 use Rattle.bl_ctext_semantics.specs.Course.{Outcome, ending, following, result_at, returns}
-use Rattle.bl_ctext_semantics.specs.Meaning.{CallResult, Counted, Meaning, ArgumentValue, Scope, applied, block_c, by_address, by_value, call_c, call_end}
+use Rattle.bl_ctext_semantics.specs.Meaning.{CallResult, Counted, Meaning, ArgumentValue, Scope, applied, block_c, by_address, call_c, call_end}
 use Rattle.bl_ctext_semantics.specs.Meaning.{call_outcome, called_as, called_after, each_of, executed, function_c, further, given, later_call, location_c, next}
 use Rattle.bl_ctext_semantics.specs.Meaning.{runs_c, named_location, value_c, way_of}
 use Rattle.bl_ctext_semantics.specs.Memory.{CValue, Location, Memory, Projection, input_object, member, output_object, scalar_number, state_object, value_at, variable}
@@ -33,8 +34,9 @@ use Rattle.bl_emit_acts.specs.Trees.{c_call, c_literal, c_place, c_read, c_step,
 use Rattle.bl_emit_acts.specs.Types.{unit_name}
 use Rattle.bl_emit_functions.specs.Trees.{c_if, c_return}
 use Rattle.bl_emit_spec.specs.Blocks.{arg_where, stmt_where, unit_may_end}
+use Rattle.bl_emit_spec.specs.Lent.{lent_unit}
 use Rattle.bl_emit_spec.specs.Programs.{c_returned, input_arg, output_arg, tick_args, tick_function}
-use Rattle.bl_emit_spec_laws_files.proofs.OnBegins.Evaluated.{call-does, literal-value, passes, place-location, read-value, step-way, value-arg}
+use Rattle.bl_emit_spec_laws_files.proofs.OnBegins.Evaluated.{call-does, literal-value, passes, place-location, read-value, step-way}
 use Rattle.bl_emit_spec_laws_files.proofs.OnBegins.Statements.{if-runs}
 use Rattle.bl_emit_spec_laws.specs.Calls.Calls.{CallAddresses, passed_to, where_true}
 use Rattle.bl_emit_spec_laws_files.specs.States.States.{frame_place, memory_place, output_place}
@@ -72,13 +74,6 @@ module _ (scope : Scope) (here : Memory) where
   pub address_passes : (place : CPlace) (at : Location) → location_c place scope here ≡ given (Some at) → passes (Address place) scope here
       ≡ given (Some (by_address at))
   address_passes place at is = address-arg place ∙ ap (λ (c : Counted Location). next c (λ p. given (Some (by_address p)))) is
-
-  pub read_passes : (place : CPlace) (at : Location) → location_c place scope here ≡ given (Some at) → passes (Value (c_read place)) scope here
-      ≡ given (Some (by_value (value_at here at)))
-  read_passes place at is =
-      value-arg scope here (c_read place)
-      ∙ ap (λ (c : Counted CValue). next c (λ v. given (Some (by_value v)))) (read-value scope here place
-      ∙ ap (λ (c : Counted Location). next c (λ p. given (Some (value_at here p)))) is)
 
   -- what arguments hand over
   abbrev pub AllPass : List CArg → List ArgumentValue → Type 0
@@ -153,17 +148,17 @@ over_place = record { root = variable 0 (codes "e"); parts = [] }
 abbrev pub input_place : Var → Location
 input_place var = record { root = input_object; parts = member (codes "i_" ++ var.name) ∷ [] }
 
--- what it gives for an input
-abbrev pub input_passed : Memory → Var → ArgumentValue
-input_passed here var = by_value (value_at here (input_place var))
+-- the places of the inputs and of the outputs
+abbrev pub port_places : UnitDef → List Location
+port_places unit = map input_place (inputs_of unit) ++ map output_place (outputs_of unit)
 
--- what it gives
-abbrev pub tick_gives : UnitDef → Memory → CallAddresses
-tick_gives unit here = record {
+-- what it gives the entry, which has all of them as outputs
+abbrev pub tick_gives : UnitDef → CallAddresses
+tick_gives unit = record {
   frame = frame_place;
   memory = memory_place;
-  inputs = map (input_passed here) (inputs_of unit);
-  outputs = map output_place (outputs_of unit);
+  inputs = [];
+  outputs = port_places unit;
   result = over_place;
   over = over_place;
 }
@@ -190,9 +185,9 @@ module _ (known : Table Meaning) (unit : UnitDef) (remembers : Bool) (resultless
     over_args true = (address_passes S here (c_place false (codes "e") []) over_place (local_place S here (codes "e")), tt)
     over_args false = tt
 
-    input_passes : (var : Var) → passes (input_arg var) S here ≡ given (Some (input_passed here var))
+    input_passes : (var : Var) → passes (input_arg var) S here ≡ given (Some (by_address (input_place var)))
     input_passes var =
-        read_passes S here (c_place true (codes "i") (c_step (codes "i_" ++ var.name) ∷ [])) (input_place var)
+        address_passes S here (c_place true (codes "i") (c_step (codes "i_" ++ var.name) ∷ [])) (input_place var)
         (member_place S here (codes "i") (codes "i_" ++ var.name))
 
     output_passes : (var : Var) → passes (output_arg var) S here ≡ given (Some (by_address (output_place var)))
@@ -210,7 +205,7 @@ module _ (known : Table Meaning) (unit : UnitDef) (remembers : Bool) (resultless
     handed =
         by_address frame_place
         ∷ (where_true remembers (by_address memory_place)
-        ++ (map (input_passed here) (inputs_of unit)
+        ++ (map (λ var. by_address (input_place var)) (inputs_of unit)
         ++ (map (λ var. by_address (output_place var)) (outputs_of unit) ++ end_passed)))
 
     args_pass : AllPass S here (tick_args unit remembers) handed
@@ -219,33 +214,42 @@ module _ (known : Table Meaning) (unit : UnitDef) (remembers : Bool) (resultless
       pass_append S here (if remembers then Address (c_place true (codes "s") (c_step (codes "m") ∷ [])) ∷ [] else [])
           (map input_arg (inputs_of unit) ++ (map output_arg (outputs_of unit) ++ end_arg))
           (where_true remembers (by_address memory_place))
-          (map (input_passed here) (inputs_of unit) ++ (map (λ var. by_address (output_place var)) (outputs_of unit) ++ end_passed))
+          (map (λ var. by_address (input_place var)) (inputs_of unit) ++ (map (λ var. by_address (output_place var)) (outputs_of unit) ++ end_passed))
           (memory_args remembers)
           (pass_append S here (map input_arg (inputs_of unit)) (map output_arg (outputs_of unit) ++ end_arg)
-          (map (input_passed here) (inputs_of unit))
+          (map (λ var. by_address (input_place var)) (inputs_of unit))
           (map (λ var. by_address (output_place var)) (outputs_of unit) ++ end_passed)
-          (pass_mapped S here input_arg (input_passed here) input_passes (inputs_of unit))
+          (pass_mapped S here input_arg (λ var. by_address (input_place var)) input_passes (inputs_of unit))
           (pass_append S here (map output_arg (outputs_of unit)) end_arg
           (map (λ var. by_address (output_place var)) (outputs_of unit)) end_passed
           (pass_mapped S here output_arg (λ var. by_address (output_place var)) output_passes (outputs_of unit))
           (over_args (unit_may_end unit)))),
     )
 
-    handed_is : handed ≡ passed_to unit remembers (tick_gives unit here)
-    handed_is =
-        ap (λ (outs : List ArgumentValue). by_address frame_place ∷ (where_true remembers (by_address memory_place)
-        ++ (map (input_passed here) (inputs_of unit) ++ (outs ++ end_passed))))
+    -- the places that are handed over
+    abbrev ins_handed : List ArgumentValue
+    ins_handed = map (λ var. by_address (input_place var)) (inputs_of unit)
+
+    abbrev outs_handed : List ArgumentValue
+    outs_handed = map (λ var. by_address (output_place var)) (outputs_of unit)
+
+    ports_handed : ins_handed ++ outs_handed ≡ map by_address (port_places unit)
+    ports_handed =
+        ap₂ (λ (ins outs : List ArgumentValue). ins ++ outs) (sym (mapped_twice by_address input_place (inputs_of unit)))
         (sym (mapped_twice by_address output_place (outputs_of unit)))
-        ∙ ap (λ (rest : List ArgumentValue). by_address frame_place ∷ (where_true remembers (by_address memory_place) ++ rest))
-        (sym (append_assoc (map (input_passed here) (inputs_of unit)) (map by_address (map output_place (outputs_of unit))) end_passed))
-        ∙ ap (λ (b : Bool). by_address frame_place ∷ (where_true remembers (by_address memory_place)
-        ++ ((map (input_passed here) (inputs_of unit) ++ map by_address (map output_place (outputs_of unit)))
-        ++ (where_true b (by_address over_place) ++ end_passed))))
-        (sym (ap is_some resultless))
+        ∙ sym (map-append by_address (map input_place (inputs_of unit)) (map output_place (outputs_of unit)))
+
+    handed_is : handed ≡ passed_to (lent_unit unit) remembers (tick_gives unit)
+    handed_is =
+        ap (λ (rest : List ArgumentValue). by_address frame_place ∷ (where_true remembers (by_address memory_place) ++ rest))
+        (sym (append_assoc ins_handed outs_handed end_passed))
+        ∙ ap₂ (λ (ports : List ArgumentValue) (b : Bool). by_address frame_place ∷ (where_true remembers (by_address memory_place)
+        ++ (ports ++ (where_true b (by_address over_place) ++ end_passed))))
+        ports_handed (sym (ap is_some resultless))
 
     -- what the call of the entry's function comes to
     abbrev pub entry_called : CallResult
-    entry_called = applied (known (unit_name unit.name)) 1 (passed_to unit remembers (tick_gives unit here)) here
+    entry_called = applied (known (unit_name unit.name)) 1 (passed_to (lent_unit unit) remembers (tick_gives unit)) here
 
     own_name : builtin_of (unit_name unit.name) ≡ None
     unfolding builtin_of
@@ -256,9 +260,9 @@ module _ (known : Table Meaning) (unit : UnitDef) (remembers : Bool) (resultless
         calling-runs S here (c_call (unit_name unit.name) (tick_args unit remembers))
         ∙ ap call_outcome (call-does S here (unit_name unit.name) (tick_args unit remembers)
         ∙ ap (λ (c : Counted (List ArgumentValue)). called_after S here (unit_name unit.name) c.count c.answer)
-        (all_passed S here (tick_args unit remembers) (passed_to unit remembers (tick_gives unit here))
+        (all_passed S here (tick_args unit remembers) (passed_to (lent_unit unit) remembers (tick_gives unit))
         (subst (λ (ps : List ArgumentValue). AllPass S here (tick_args unit remembers) ps) handed_is args_pass))
-        ∙ ap (λ b. later_call 0 (called_as b (known (unit_name unit.name)) 1 (passed_to unit remembers (tick_gives unit here)) here)) own_name)
+        ∙ ap (λ b. later_call 0 (called_as b (known (unit_name unit.name)) 1 (passed_to (lent_unit unit) remembers (tick_gives unit)) here)) own_name)
 
     -- behind it
     abbrev asking_runs : Outcome Memory

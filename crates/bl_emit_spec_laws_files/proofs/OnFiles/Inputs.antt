@@ -1,26 +1,29 @@
 -- The inputs of a row in memory.
-use Rattle.std.proofs.Common.{◌≡◌, ℕ, ℤ, Bool, true, false, not, ◌||◌, List, [], ◌∷◌, ◌++◌, map, length}
-use Rattle.std.proofs.Common.{Option, Some, None}
+use Rattle.std.proofs.Common.{◌≡◌, ℕ, ℤ, Bool, true, false, not, ◌&&◌, List, [], ◌∷◌, ◌++◌, map, drop, length}
+use Rattle.std.proofs.Common.{Some, None}
 use Rattle.std.proofs.Common.{refl, sym, ap, ◌∙◌, arith}
 use Rattle.std.proofs.lemmas.Cmp.{nat_list_eq_equiv}
-use Rattle.std.specs.List.{list_all, list_any}
-use Rattle.std.specs.Prelude.{bytes_eq, codes, is_some, if◌then◌else◌}
+use Rattle.std.proofs.lemmas.Option.{same_Some}
+use Rattle.std.specs.List.{list_any}
+use Rattle.std.specs.Prelude.{bytes_eq, codes, option_and_then, slice_get, if◌then◌else◌}
 use Rattle.std.proofs.lemmas.Bool.{not-true}
 use Rattle.bl_tree.proofs.Basics.{and_first, and_second, neither_first, neither_second}
-use Rattle.bl_tree.specs.declared.scalar.Scalar.{Scalar as ScalarType}
 use Rattle.bl_tree.specs.declared.tree.StructDef.{StructDef}
 use Rattle.bl_tree.specs.declared.tree.Var.{Var}
+use Rattle.bl_tree.specs.declared.value.Value.{Value}
 use Rattle.bl_tree.specs.declared.value.Value.TheVariants.{Number, outs-Number}
 use Rattle.bl_tree.specs.Program.{names_of}
-use Rattle.bl_tree.specs.Types.{scalar_in}
 use Rattle.bl_tree.specs.Words.{are_distinct, is_among}
-use Rattle.bl_eval.specs.Values.{number_at, number_in}
+use Rattle.bl_eval.specs.Values.{number_at, number_in, parts_at, value_fits, values_fit}
+use Rattle.bl_eval.specs.Values as values
 use Rattle.bl_ctext_semantics.specs.Cells.{with_inputs}
-use Rattle.bl_ctext_semantics.specs.Memory.{Memory, input_object, member, output_object, scalar, set_at, state_object}
+use Rattle.bl_ctext_semantics.specs.Memory.{Location, Memory, input_object, member, output_object, scalar, set_at, state_object, value_at}
 use Rattle.bl_ctext_semantics.specs.Memory as memory
-use Rattle.bl_emit_acts_laws_simulation.specs.Simulation.{ArgumentsEncoded}
+use Rattle.bl_emit_acts_laws_simulation.specs.Acts.{OutputsEncoded}
+use Rattle.bl_emit_acts_laws_simulation.specs.Encodes.{Encodes, number_within, way_to}
+use Rattle.bl_emit_spec.specs.Lent.{lent_var}
 use Rattle.bl_emit_spec.specs.Programs.{port_member}
-use Rattle.bl_emit_spec_laws_files.proofs.OnFiles.Bodies.{input_passed, input_place}
+use Rattle.bl_emit_spec_laws_files.proofs.OnFiles.Bodies.{input_place}
 use Rattle.bl_emit_spec_laws_files.proofs.OnFiles.Kept.{Same}
 
 -- the name differs from those of the variables
@@ -95,19 +98,67 @@ module _ (structs : List StructDef) where
   number_of_value : (n : ℤ) → number_in (Number n) ≡ Some n
   number_of_value n = ap number_at (outs-Number n)
 
-  some_scalar : (o : Option ScalarType) → is_some o ≡ true → (s : ScalarType) × (o ≡ Some s)
-  some_scalar None h = absurd cc
-  some_scalar (Some s) h = (s, refl)
+  -- a number is what its place holds
+  number_holds : (var : Var) (n : ℤ) (here : Memory) → input_number here var.name ≡ n →
+      Encodes structs var.ty (Number n) (value_at here (input_place var))
+  number_holds var n here is = record { each = each }
+    where
+      each : (ks : List ℕ) (m : ℤ) → number_within ks (Number n) ≡ Some m → value_at here (input_place var) (way_to structs ks (Some var.ty)) ≡ m
+      each [] m number = is ∙ same_Some n m (sym (number_of_value n) ∙ number)
+      each (k ∷ ks) m number =
+          absurd (let none = sym (ap (λ layer. option_and_then number_in (option_and_then (values.value_at ks)
+          (option_and_then (λ all. slice_get all k) (parts_at layer)))) (outs-Number n)) ∙ number in cc)
 
-  -- so the arguments of the call have the values of the inputs
-  pub args_hold : (depth : ℕ) (vars : List Var) (row : List ℤ) (here : Memory) → list_all (λ (var : Var). is_some (scalar_in var.ty)) vars ≡ true →
-      AreSet vars row here → ArgumentsEncoded structs depth here vars (map Number row) (map (input_passed here) vars)
-  args_hold depth [] [] here scalars set = tt
-  args_hold depth [] (n ∷ row) here scalars set = absurd set
-  args_hold depth (var ∷ vars) [] here scalars set = absurd set
-  args_hold depth (var ∷ vars) (n ∷ row) here scalars set =
-      let found = some_scalar (scalar_in var.ty) (and_first (is_some (scalar_in var.ty)) (list_all (λ (var : Var). is_some (scalar_in var.ty)) vars)
-      scalars) in (
-        (found.0, found.1, number_of_value n ∙ ap Some (sym set.0)),
-        args_hold depth vars row here (and_second (is_some (scalar_in var.ty)) (list_all (λ (var : Var). is_some (scalar_in var.ty)) vars) scalars) set.1,
-      )
+  -- so each input's place has its value
+  pub inputs_hold : (vars : List Var) (row : List ℤ) (here : Memory) → AreSet vars row here →
+      OutputsEncoded structs here vars (map Number row) (map input_place vars)
+  inputs_hold [] [] here set = tt
+  inputs_hold [] (n ∷ row) here set = absurd set
+  inputs_hold (var ∷ vars) [] here set = absurd set
+  inputs_hold (var ∷ vars) (n ∷ row) here set = (number_holds var n here set.0, inputs_hold vars row here set.1)
+
+-- ---- the lent entry's variables
+
+pub lent_values : (structs : List StructDef) (vars : List Var) (values : List Value) →
+    values_fit structs (map lent_var vars) values ≡ values_fit structs vars values
+lent_values structs [] [] = refl
+lent_values structs [] (value ∷ values) = refl
+lent_values structs (var ∷ vars) [] = refl
+lent_values structs (var ∷ vars) (value ∷ values) = ap (λ b. value_fits structs var.ty value && b) (lent_values structs vars values)
+
+-- what places hold of variables they hold of them lent, and back
+pub lent_hold : (structs : List StructDef) (here : Memory) (vars : List Var) (values : List Value) (places : List Location) →
+    OutputsEncoded structs here vars values places → OutputsEncoded structs here (map lent_var vars) values places
+lent_hold structs here [] [] [] holds = tt
+lent_hold structs here [] [] (place ∷ places) holds = absurd holds
+lent_hold structs here [] (value ∷ values) places holds = absurd holds
+lent_hold structs here (var ∷ vars) [] places holds = absurd holds
+lent_hold structs here (var ∷ vars) (value ∷ values) [] holds = absurd holds
+lent_hold structs here (var ∷ vars) (value ∷ values) (place ∷ places) holds = (holds.0, lent_hold structs here vars values places holds.1)
+
+pub unlent_hold : (structs : List StructDef) (here : Memory) (vars : List Var) (values : List Value) (places : List Location) →
+    OutputsEncoded structs here (map lent_var vars) values places → OutputsEncoded structs here vars values places
+unlent_hold structs here [] [] [] holds = tt
+unlent_hold structs here [] [] (place ∷ places) holds = absurd holds
+unlent_hold structs here [] (value ∷ values) places holds = absurd holds
+unlent_hold structs here (var ∷ vars) [] places holds = absurd holds
+unlent_hold structs here (var ∷ vars) (value ∷ values) [] holds = absurd holds
+unlent_hold structs here (var ∷ vars) (value ∷ values) (place ∷ places) holds = (holds.0, unlent_hold structs here vars values places holds.1)
+
+-- ---- some places, and others behind them
+
+pub joined_hold : (structs : List StructDef) (here : Memory) (xs ys : List Var) (us vs : List Value) (ps qs : List Location) →
+    OutputsEncoded structs here xs us ps → OutputsEncoded structs here ys vs qs → OutputsEncoded structs here (xs ++ ys) (us ++ vs) (ps ++ qs)
+joined_hold structs here [] ys [] vs [] qs one two = two
+joined_hold structs here [] ys [] vs (p ∷ ps) qs one two = absurd one
+joined_hold structs here [] ys (u ∷ us) vs ps qs one two = absurd one
+joined_hold structs here (x ∷ xs) ys [] vs ps qs one two = absurd one
+joined_hold structs here (x ∷ xs) ys (u ∷ us) vs [] qs one two = absurd one
+joined_hold structs here (x ∷ xs) ys (u ∷ us) vs (p ∷ ps) qs one two = (one.0, joined_hold structs here xs ys us vs ps qs one.1 two)
+
+pub behind_hold : (structs : List StructDef) (here : Memory) (xs ys : List Var) (values : List Value) (place : Var → Location) (qs : List Location) →
+    OutputsEncoded structs here (map lent_var xs ++ ys) values (map place xs ++ qs) → OutputsEncoded structs here ys (drop (length xs) values) qs
+behind_hold structs here [] ys [] place qs holds = holds
+behind_hold structs here [] ys (v ∷ values) place qs holds = holds
+behind_hold structs here (x ∷ xs) ys [] place qs holds = absurd holds
+behind_hold structs here (x ∷ xs) ys (v ∷ values) place qs holds = behind_hold structs here xs ys values place qs holds.1

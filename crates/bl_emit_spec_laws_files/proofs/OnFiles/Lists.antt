@@ -1,5 +1,5 @@
 -- Parts of lists.
-use Rattle.std.proofs.Common.{◌≡◌, ℕ, zero, suc, ◌+◌, ◌<◌, ◌≤◌, Bool, true, false, ◌||◌, List, [], ◌∷◌}
+use Rattle.std.proofs.Common.{◌≡◌, ℕ, zero, suc, ◌+◌, ◌≤◌, Bool, true, false, ◌||◌, List, [], ◌∷◌}
 use Rattle.std.proofs.Common.{◌++◌, map, length, take, drop}
 use Rattle.std.proofs.Common.{Some, refl, sym, ap, ap₂, ◌∙◌, arith}
 use Rattle.std.specs.List.{list_any, range_with_len}
@@ -15,17 +15,14 @@ use Rattle.bl_tree.specs.Words.{are_distinct, is_among}
 use Rattle.bl_eval.specs.Values.{value_fits, values_fit}
 use Rattle.bl_emit_spec_laws_files.proofs.OnFiles.Inputs.{Differs, first_differs, rest_distinct}
 
-pub take_exact : {A : Type 0} (n : ℕ) (xs ys : List A) → length xs ≡ n → take n (xs ++ ys) ≡ xs
-take_exact zero [] ys long = refl
-take_exact zero (x ∷ xs) ys long = absurd (omega (arith, long))
-take_exact (suc n) [] ys long = absurd (omega (arith, long))
-take_exact (suc n) (x ∷ xs) ys long = ap (λ rest. x ∷ rest) (take_exact n xs ys (omega (arith, long)))
-
-pub drop_exact : {A : Type 0} (n : ℕ) (xs ys : List A) → length xs ≡ n → drop n (xs ++ ys) ≡ ys
-drop_exact zero [] ys long = refl
-drop_exact zero (x ∷ xs) ys long = absurd (omega (arith, long))
-drop_exact (suc n) [] ys long = absurd (omega (arith, long))
-drop_exact (suc n) (x ∷ xs) ys long = drop_exact n xs ys (omega (arith, long))
+-- a list, and the first of what is behind it
+pub take_past : {A : Type 0} (n m : ℕ) (xs ys : List A) → length xs ≡ n → take (n + m) (xs ++ ys) ≡ xs ++ take m ys
+take_past zero m [] ys long = let sum : 0 + m ≡ m = omega arith in ap (λ k. take k ys) sum
+take_past zero m (x ∷ xs) ys long = absurd (omega (arith, long))
+take_past (suc n) m [] ys long = absurd (omega (arith, long))
+take_past (suc n) m (x ∷ xs) ys long =
+    let sum : suc n + m ≡ suc (n + m) = omega arith in
+    ap (λ k. take k (x ∷ (xs ++ ys))) sum ∙ ap (λ rest. x ∷ rest) (take_past n m xs ys (omega (arith, long)))
 
 pub mapped_take : {A B : Type 0} (f : A → B) (n : ℕ) (xs : List A) → take n (map f xs) ≡ map f (take n xs)
 mapped_take f zero xs = refl

@@ -234,7 +234,7 @@ module _ (out : HomesLeadOut) (orderly : AcceptedIsOrderly) (structs : List Stru
             ∙ ap (λ (o : Option Value). unwrap_or (option_and_then (value_at []) o) (Parts [])) at
 
     -- as a tick begins what is remembered is what it was
-    pub woken_held : (row : List ℤ) (s : Store) (i x : ℕ) (var : Var) (value : Value) → length (map Number row) ≡ unit.inputs →
+    pub woken_held : (row : List ℤ) (s : Store) (i x : ℕ) (var : Var) (value : Value) → length (map Number row) ≤ arity unit →
         var_at (site_at W activities i) x ≡ Some var → home_at (site_at W activities i) x ≡ Held →
         slice_get (view_at W (woken_store row s) i).now x ≡ Some value → slice_get (view_at W s i).now x ≡ Some value
     woken_held row s i x var value long is_var held is = by (unit_at W i) refl
@@ -250,8 +250,8 @@ module _ (out : HomesLeadOut) (orderly : AcceptedIsOrderly) (structs : List Stru
             past first =
                 let same = same_Some other unit (sym e ∙ ap (unit_at W) first ∙ entry_is) in
                 let more = behind_parameters i x var other e is_var held in
-                let inputs = ap (λ (u : UnitDef). u.inputs) same in
-                omega (arith, long, more, inputs)
+                let many : arity other ≡ arity unit = ap arity same in
+                omega (arith, long, more, many)
 
     pub first_held : (i x : ℕ) (var : Var) (value : Value) → var_at (site_at W activities i) x ≡ Some var →
         home_at (site_at W activities i) x ≡ Held → slice_get (view_at W (first_store W) i).now x ≡ Some value → value ≡ zero_of structs var.ty

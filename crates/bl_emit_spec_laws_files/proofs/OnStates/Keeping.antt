@@ -37,6 +37,8 @@ use Rattle.bl_emit_acts.specs.Types.{c_scalar, c_type, type_name, variable_name}
 use Rattle.bl_emit_acts_laws_simulation.specs.Acts.{OutputsEncoded}
 use Rattle.bl_emit_acts_laws_simulation.specs.Encodes.{Encodes, home_at, lead_level, part_level, way_to}
 use Rattle.bl_emit_functions.specs.Functions.{held_member, is_held, member_of, members_from, members_of}
+use Rattle.bl_emit_spec.proofs.LentLemmas.{lent_parameters_all}
+use Rattle.bl_emit_spec.specs.Lent.{lent_unit}
 use Rattle.bl_emit_spec.specs.Activities.{Activity, counter_member, frame_member, frame_struct, memory_member, remembered, remembers_any}
 use Rattle.bl_emit_spec.specs.Activities.{runs_in_body}
 use Rattle.bl_emit_spec.specs.Blocks.{counter_type}
@@ -128,7 +130,7 @@ held_within site k (first ∷ rest) (suc x) var there held =
 
 module _ (orderly : AcceptedIsOrderly) (placed : StaysPlaced) (views : ViewsAreTyped) (structs : List StructDef) (units : List UnitDef) (entry : ℕ)
     (machine : List InMachine) (activities : Activities) (unit : UnitDef) (file : Parts) (compiled : CompilationContext structs units entry machine activities)
-    (runs : RunsFound structs units entry) (there : slice_get units entry ≡ Some unit) (formed : WellFormed file)
+    (runs : RunsFound structs units entry) (there : slice_get units entry ≡ Some (lent_unit unit)) (formed : WellFormed file)
     (declared : FramesDeclared structs units entry activities unit file) (kept : CellsKept file) where
   abbrev W : Setting
   W = setting_of structs units entry
@@ -146,7 +148,7 @@ module _ (orderly : AcceptedIsOrderly) (placed : StaysPlaced) (views : ViewsAreT
       ∙ ap (λ (o : Option UnitDef). slice_get (Rattle.std.specs.Prelude.unwrap_or (Rattle.std.specs.Prelude.option_map (λ (unit : UnitDef). root
       ∷ instances_below (expanded units entry) 1 (runs_of unit)) o) []) 0) there
 
-  entry_is : unit_at W 0 ≡ Some unit
+  entry_is : unit_at W 0 ≡ Some (lent_unit unit)
   entry_is = ap (Rattle.std.specs.Prelude.option_and_then (unit_of W)) root_is ∙ there
 
   entry_number : unit_number W 0 ≡ entry
@@ -270,14 +272,15 @@ module _ (orderly : AcceptedIsOrderly) (placed : StaysPlaced) (views : ViewsAreT
 
   -- ---- outputs
 
-  entry_so : (is_activity unit.kind && (is_none unit.result && list_all is_scalar (parameters_of unit))) ≡ true
+  entry_so : (is_activity unit.kind && (is_none unit.result && list_all is_scalar (parameters_of (lent_unit unit)))) ≡ true
   entry_so = ap is_entry (sym there) ∙ compiled.well_typed.entry_stands
 
   outputs_scalar : list_all is_scalar (outputs_of unit) ≡ true
   outputs_scalar =
       middle_all unit.inputs unit.outputs unit.vars
-      (and_second (is_none unit.result) (list_all is_scalar (parameters_of unit))
-      (and_second (is_activity unit.kind) (is_none unit.result && list_all is_scalar (parameters_of unit)) entry_so))
+      (sym (lent_parameters_all is_scalar (λ var. refl) unit)
+      ∙ and_second (is_none unit.result) (list_all is_scalar (parameters_of (lent_unit unit)))
+      (and_second (is_activity unit.kind) (is_none unit.result && list_all is_scalar (parameters_of (lent_unit unit))) entry_so))
 
   output_kept : (memory : Memory) (var : Var) → Contains (outputs_of unit) var → is_scalar var ≡ true → (ks : List ℕ) →
       regained file memory output_object (member (codes "o_" ++ var.name) ∷ way_to structs ks (Some var.ty))

@@ -1,5 +1,5 @@
 -- Where the structs of what is called stand in the state.
-use Rattle.std.proofs.Common.{◌≡◌, ℕ, zero, suc, ◌<◌, Bool, true, false, ◌&&◌, List, [], ◌∷◌, ◌++◌, map}
+use Rattle.std.proofs.Common.{◌≡◌, ℕ, zero, suc, Bool, true, false, ◌&&◌, List, [], ◌∷◌, ◌++◌, map}
 use Rattle.std.proofs.Common.{length, nat_lt}
 use Rattle.std.proofs.Common.{Option, Some, None, refl, sym, ap, ap₂, ◌∙◌, subst, arith}
 use Rattle.std.proofs.lemmas.Bool.{lt-ltb}
@@ -21,6 +21,7 @@ use Rattle.bl_ctext_semantics_laws.specs.Fitting.{ValueSpot, step_in, walk, whol
 use Rattle.bl_ctree.specs.Instances.{Setting, callee_of, setting_of, unit_at}
 use Rattle.bl_ctree_laws_confluence.specs.Deeds.Orderly.{AcceptedIsOrderly}
 use Rattle.bl_emit_functions.specs.Functions.{members_of, memory_name}
+use Rattle.bl_emit_spec.specs.Lent.{lent_unit}
 use Rattle.bl_emit_spec.specs.Activities.{Activity, RunAt, activity_view, counter_member, frame_member, frame_struct, memory_member, remembered, remembers_any}
 use Rattle.bl_emit_spec.specs.Activities.{runs_in_body, struct_member, word_of_run}
 use Rattle.bl_emit_spec.specs.Blocks.{name_in}
@@ -196,21 +197,21 @@ module _ (orderly : AcceptedIsOrderly) (placed : StaysPlaced) (structs : List St
       nested rest (inner_stands i j u l at arguments is within calls f m stands)
 
   -- the entry
-  pub entry_stands : (is : unit_at W 0 ≡ Some unit) → unit_number W 0 ≡ entry → StandsAt 0 frame_place memory_place
+  pub entry_stands : (is : unit_at W 0 ≡ Some (lent_unit unit)) → unit_number W 0 ≡ entry → StandsAt 0 frame_place memory_place
   entry_stands is number = record {
-    other = unit;
+    other = lent_unit unit;
     is_there = is;
     frame_root = refl;
     memory_root = refl;
     frame =
         member_step file formed (state_struct unit.name (remembers_any (activities entry))) (struct_member (codes "f") (frame_name unit.name)) declared.state
         (here (struct_member (codes "f") (frame_name unit.name)) _)
-        ∙ ap (λ (x : UnitDef). Some (whole (OfStruct (frame_name x.name)))) (sym (own_unit 0 unit is));
+        ∙ ap (λ (x : UnitDef). Some (whole (OfStruct (frame_name x.name)))) (sym (own_unit 0 (lent_unit unit) is));
     memory = λ remembers.
         member_step file formed (state_struct unit.name true) (struct_member (codes "m") (memory_name unit.name))
         (subst (λ (b : Bool). Contains file.structs (state_struct unit.name b)) (ap (λ (k : ℕ). remembers_any (activities k)) (sym number) ∙ remembers)
         declared.state)
         (contains_further (struct_member (codes "f") (frame_name unit.name)) (struct_member (codes "m") (memory_name unit.name) ∷ [])
         (struct_member (codes "m") (memory_name unit.name)) (here (struct_member (codes "m") (memory_name unit.name)) []))
-        ∙ ap (λ (x : UnitDef). Some (whole (OfStruct (memory_name x.name)))) (sym (own_unit 0 unit is));
+        ∙ ap (λ (x : UnitDef). Some (whole (OfStruct (memory_name x.name)))) (sym (own_unit 0 (lent_unit unit) is));
   }

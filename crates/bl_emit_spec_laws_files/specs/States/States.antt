@@ -23,6 +23,7 @@ use Rattle.bl_emit_acts_laws_simulation.specs.Acts.{OutputsEncoded}
 use Rattle.bl_emit_acts_laws_simulation.specs.Encodes.{type_after}
 use Rattle.bl_emit_functions.specs.Functions.{memory_name}
 use Rattle.bl_emit_spec.specs.Activities.{Activity, frame_struct, remembered, remembers_any}
+use Rattle.bl_emit_spec.specs.Lent.{lent_unit}
 use Rattle.bl_emit_spec.specs.Programs.{port_struct, state_struct}
 use Rattle.bl_machine.specs.declared.machine.Activity.{Activity as InMachine}
 use Rattle.bl_machine_pass_laws_execution.specs.Frames.{Frames}
@@ -101,5 +102,5 @@ RunsFound structs units entry =
 abbrev pub StatesAreKept : Type 0
 StatesAreKept =
     (structs : List StructDef) (units : List UnitDef) (entry : ℕ) (machine : List InMachine) (activities : Activities) (unit : UnitDef)
-    (file : Parts) → CompilationContext structs units entry machine activities → RunsFound structs units entry → slice_get units entry ≡ Some unit →
+    (file : Parts) → CompilationContext structs units entry machine activities → RunsFound structs units entry → slice_get units entry ≡ Some (lent_unit unit) →
     WellFormed file → FramesDeclared structs units entry activities unit file → StateKept (setting_of structs units entry) activities unit file

@@ -1,7 +1,7 @@
 -- The C file of a whole program has a spelling.
 use Rattle.std.proofs.Common.{◌≡◌, ℕ, zero, suc, Bool, true, false}
 use Rattle.std.proofs.Common.{◌&&◌, List, [], ◌∷◌, ◌++◌, map, take, drop}
-use Rattle.std.proofs.Common.{length, Option, Some, None, refl, sym, ap, ◌∙◌, subst}
+use Rattle.std.proofs.Common.{length, Some, refl, sym, ap, ◌∙◌, subst}
 use Rattle.std.proofs.lemmas.List.{append_assoc}
 use Rattle.std.proofs.lemmas.List.Folds.{list_all-append}
 use Rattle.std.proofs.lemmas.Option.{same_Some}
@@ -15,7 +15,7 @@ use Rattle.bl_tree.specs.declared.program.Program.{Program}
 use Rattle.bl_tree.specs.declared.tree.StructDef.{StructDef}
 use Rattle.bl_tree.specs.declared.tree.Unit.{Unit as UnitDef}
 use Rattle.bl_tree.specs.declared.tree.Var.{Var}
-use Rattle.bl_tree.specs.Program.{IsWellTyped, is_entry, names_of}
+use Rattle.bl_tree.specs.Program.{IsWellTyped, names_of}
 use Rattle.bl_tree.specs.Types.{type_stands}
 use Rattle.bl_tree.specs.Typing.{is_activity}
 use Rattle.bl_tree.specs.Words as words
@@ -30,7 +30,9 @@ use Rattle.bl_emit_functions_laws_wellformed.specs.Formed.{IsNumbered}
 use Rattle.bl_emit_functions_laws_wellformed.specs.Spelled.{FunctionsFit, MemoriesSpelled, StructsSpelled, TypesSpelled}
 use Rattle.bl_emit_structs.specs.Structs.{structs_of}
 use Rattle.bl_emit_spec.specs.Activities.{activity_function, frame_struct, remembered_struct}
-use Rattle.bl_emit_spec.specs.Programs.{ProgramParts, activity_of, file_at, init_function, interface_structs, needed_units}
+use Rattle.bl_emit_spec.proofs.LentLemmas.{lent_all, lent_names}
+use Rattle.bl_emit_spec.specs.Lent.{lent_unit}
+use Rattle.bl_emit_spec.specs.Programs.{ProgramParts, activity_of, file_of, init_function, interface_structs, needed_units}
 use Rattle.bl_emit_spec.specs.Programs.{parts_from, parts_of_function, parts_of_next, tick_function, where_needed}
 use Rattle.bl_emit_spec_laws_wellformed.specs.Spelled.{ActivitiesFit, FramesSpelled, RememberedSpelled}
 use Rattle.bl_emit_spec_laws_wellformed.specs.Texts.{AllWrite, FilesSpelled, NextWrites, UnitWrites, Where}
@@ -166,28 +168,27 @@ module _ (program : Program) (keeps : IsWellTyped program.structs program.units 
       (sym (list_all-append words.is_name (map (λ (def : StructDef). def.name) program.structs) (map (λ (unit : UnitDef). unit.name) program.units))
       ∙ keeps.named)
 
-  file_spelled : (parts : ProgramParts) → Spelled parts → (o : Option UnitDef) → slice_get program.units program.entry ≡ o →
-      is_entry o ≡ true →
-      is_spellable (file_at program parts o).structs (file_at program parts o).funcs ≡ true
-  file_spelled parts spelled None is entry = absurd (cc)
-  file_spelled parts spelled (Some unit) is entry =
+  file_spelled : (parts : ProgramParts) → Spelled parts → (unit : UnitDef) → slice_get program.units program.entry ≡ Some (lent_unit unit) →
+      let file = file_of program.structs program.units program.entry parts unit in is_spellable file.structs file.funcs ≡ true
+  file_spelled parts spelled unit is =
       let remembers : Bool = unwrap_or (slice_get parts.remember program.entry) false in
-      let stand = unit_at program.structs program.units program.entry keeps program.entry unit is in
+      let stand = unit_at program.structs program.units program.entry keeps program.entry (lent_unit unit) is in
       let types_stand : list_all (λ (var : Var). type_stands (length program.structs) var.ty) unit.vars ≡ true =
-      and_first _ _ (and_second _ _ stand) in
-      let names : list_all words.is_name (names_of unit.vars) ≡ true = and_first _ _ (and_second _ _ (and_first _ _ stand)) in
+      sym (lent_all (λ (var : Var). type_stands (length program.structs) var.ty) (λ var. refl) unit.vars) ∙ and_first _ _ (and_second _ _ stand) in
+      let names : list_all words.is_name (names_of unit.vars) ≡ true =
+      ap (list_all words.is_name) (sym (lent_names unit.vars)) ∙ and_first _ _ (and_second _ _ (and_first _ _ stand)) in
       let all = both_all program.structs unit.vars types_stand names in
       let test : Var → Bool = λ var. type_stands (length program.structs) var.ty && words.is_name var.name in
       let ins = taken_all test unit.inputs unit.vars all in
       let outs = taken_all test unit.outputs (drop unit.inputs unit.vars) (dropped_all test unit.inputs unit.vars all) in
-      let named : words.is_name unit.name ≡ true = named_at program.units program.entry unit unit_names is in
+      let named : words.is_name unit.name ≡ true = named_at program.units program.entry (lent_unit unit) unit_names is in
       let typed : (var : Var) → type_stands (length program.structs) var.ty ≡ true → spells_type (c_type program.structs var.ty) ≡ true =
       λ var h. types var.ty keeps h in
       let interface : List CStruct = interface_structs program.structs unit remembers in
       let last : List CFunc = init_function ∷ tick_function unit remembers ∷ [] in
-      file-spells (structs_of program ++ (parts.structs ++ interface)) (parts.funcs ++ last)
-      (any_behind (structs_of program) (parts.structs ++ interface) (any_behind parts.structs interface refl)) (any_behind parts.funcs last refl)
-      (all_append spells_struct (structs_of program) (parts.structs ++ interface) (structs_spelled keeps)
+      file-spells (structs_of program.structs program.units ++ (parts.structs ++ interface)) (parts.funcs ++ last)
+      (any_behind (structs_of program.structs program.units) (parts.structs ++ interface) (any_behind parts.structs interface refl)) (any_behind parts.funcs last refl)
+      (all_append spells_struct (structs_of program.structs program.units) (parts.structs ++ interface) (structs_spelled keeps)
       (all_append spells_struct parts.structs interface spelled.structs (interface-spelled program.structs typed unit remembers named ins outs)))
       (all_append (func_fits 2000) parts.funcs last spelled.funcs
       (and_from (func_fits 2000 init_function) (func_fits 2000 (tick_function unit remembers) && true)
@@ -199,9 +200,9 @@ pub files : (program : Program) → FunctionsFit program.structs program.units p
     StructsSpelled program.structs program.units program.entry → TypesSpelled program.structs program.units program.entry →
     ActivitiesFit program.structs program.units program.entry → FramesSpelled program.structs program.units program.entry →
     RememberedSpelled program.structs program.units program.entry → FilesSpelled program
-files program functions memories structs_spelled types activities frames remembered machine keeps all =
+files program functions memories structs_spelled types activities frames remembered machine unit keeps there all =
     file_spelled program keeps functions memories structs_spelled types activities frames remembered
     (parts_from program.structs [] [] program.units (needed_units program.units program.entry) machine)
     (parts_spelled program.structs program.units program.entry keeps functions memories activities frames remembered [] [] program.units
     (needed_units program.units program.entry) machine refl all)
-    (slice_get program.units program.entry) refl keeps.entry_stands
+    unit there

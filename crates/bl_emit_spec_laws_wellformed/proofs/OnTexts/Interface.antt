@@ -22,7 +22,7 @@ use Rattle.bl_ctext.specs.Names.{is_among, is_callee, is_function_name, is_name,
 use Rattle.bl_ctext.specs.Spellable.{is_literal, spells_local, spells_member, spells_struct, spells_type}
 use Rattle.bl_ctext.specs.inner.Fits.{arg_fits, func_fits, place_fits, step_fits, stmt_fits, stmts_fit}
 use Rattle.bl_ctext.proofs.Fitting.{address-fits, call-fits, call_stmt-fits, func-fits, if-fits, literal-fits, place-fits}
-use Rattle.bl_ctext.proofs.Fitting.{read-fits, return-fits, step-fits, struct-spells, value-fits}
+use Rattle.bl_ctext.proofs.Fitting.{read-fits, return-fits, step-fits, struct-spells}
 use Rattle.bl_ctext.proofs.PrefixedNames.{name-callee, name-struct, name-with_prefix}
 use Rattle.bl_emit_acts.specs.Acts.{c_calling, c_clear}
 use Rattle.bl_emit_acts.specs.Trees.{c_call, c_literal, c_place, c_read, c_step, nowhere}
@@ -162,10 +162,9 @@ module _ (structs : List StructDef) (typed : (var : Var) → type_stands (length
 
     input-is : (var : Var) → stands var ≡ true → arg_fits 2 (input_arg var) ≡ true
     input-is var own =
-        value-fits 2 (c_read (c_place true (codes "i") (c_step (codes "i_" ++ var.name) ∷ [])))
-        (read-fits 2 nowhere (c_place true (codes "i") (c_step (codes "i_" ++ var.name) ∷ []))
+        address-fits 2 (c_place true (codes "i") (c_step (codes "i_" ++ var.name) ∷ []))
         (part-fits (codes "i") (codes "i_" ++ var.name) i-named
-        (in_prefix var.name (and_second (type_stands (length structs) var.ty) (words.is_name var.name) own))))
+        (in_prefix var.name (and_second (type_stands (length structs) var.ty) (words.is_name var.name) own)))
 
     output-is : (var : Var) → stands var ≡ true → arg_fits 2 (output_arg var) ≡ true
     output-is var own =

@@ -1,16 +1,14 @@
 -- The structs of the whole file: nothing fails in them, and each is declared.
-use Rattle.std.proofs.Common.{◌≡◌, ◌⊎◌, inl, inr, ⊎_elim, ℕ, zero, suc, ◌+◌, ◌<◌, ◌≤◌, arith, Bool, true, false, not}
-use Rattle.std.proofs.Common.{◌||◌, List, [], ◌∷◌, ◌++◌, Contains, map, length, Option, Some, None}
-use Rattle.std.proofs.Common.{refl, sym, ap, ◌∙◌, subst, codes}
-use Rattle.std.proofs.lemmas.Bool.{cases_lt}
+use Rattle.std.proofs.Common.{◌≡◌, ◌⊎◌, inl, inr, ⊎_elim, ℕ, zero, suc, ◌+◌, ◌<◌, ◌≤◌, arith, Bool, true, false, not, ◌||◌, List, [], ◌∷◌, ◌++◌, Contains, map}
+use Rattle.std.proofs.Common.{length, Option, Some, None, refl, sym, ap, ◌∙◌, subst, codes}
+use Rattle.std.proofs.lemmas.Bool.{cases_lt, and_from}
 use Rattle.std.proofs.lemmas.List.{get_or_past, map-append}
 use Rattle.std.proofs.lemmas.List.Elements.{Contains-append_cases, Contains-append_left, Contains-append_right}
 use Rattle.std.proofs.lemmas.List.Folds.{list_all-append, list_any-append}
 use Rattle.std.proofs.lemmas.Option.{get_or_from_slice_get, slice_get_cases, slice_get_within}
 use Rattle.std.proofs.lemmas.Slice.Eq.{bytes_eq-Decides}
 use Rattle.std.specs.List.{list_all, list_any}
-use Rattle.std.specs.Prelude.{bytes_eq, get_or, is_none, slice_get, slice_index, unwrap_or, if◌then◌else◌}
-use Rattle.std.proofs.lemmas.Bool.{and_from}
+use Rattle.std.specs.Prelude.{bytes_eq, get_or, is_none, slice_get, slice_index, unwrap_or, if◌then◌else◌, is_some}
 use Rattle.bl_tree.proofs.Basics.{and_first, and_second, both_empty, contains_none, first_or_further, none_from}
 use Rattle.bl_tree.specs.declared.c.CMember.{CMember}
 use Rattle.bl_tree.specs.declared.c.CStruct.{CStruct}
@@ -41,7 +39,7 @@ use Rattle.bl_emit_structs_laws_wellformed.proofs.OnFormed.Types.{StructOf, all_
 use Rattle.bl_emit_functions.specs.Functions.{memory_name}
 use Rattle.bl_emit_functions_laws_wellformed.proofs.OnFiles.Growing.{distinct_behind}
 use Rattle.bl_emit_spec.specs.Names.{frame_name}
-use Rattle.bl_emit_spec.specs.Programs.{ProgramParts, file_at, interface_structs, port_struct, state_struct}
+use Rattle.bl_emit_spec.specs.Programs.{ProgramParts, port_struct, state_struct}
 use Rattle.bl_emit_spec_laws_wellformed_bodies.specs.Structs.Laws.{FileStructs, FilesDeclare, PartsAreSound, PartsStand, program_parts}
 use Rattle.bl_emit_spec_laws_wellformed_bodies.specs.Structs.Parts.{IsPart}
 use Rattle.bl_emit_spec_laws_wellformed_bodies.proofs.OnStructs.Heights.{Height, as_file, class, class_file, class_frame, class_memory, fine_frame, fine_memory}
@@ -54,6 +52,9 @@ use Rattle.bl_ctext_semantics.proofs.EndLemmas.{unless-nil}
 use Rattle.bl_emit_structs_laws_wellformed.proofs.OnFormed.Whole.{once_has}
 use Rattle.bl_emit_functions_laws_wellformed.proofs.OnFiles.Structs.{both_free, later_found}
 use Rattle.bl_emit_structs_laws_wellformed.proofs.OnNames.Known.{known_append}
+use Rattle.bl_tree.specs.Types.{scalar_in}
+use Rattle.bl_emit_spec.proofs.LentLemmas.{lent_names, lent_parameter_names, lent_parameters_all}
+use Rattle.bl_emit_spec.specs.Lent.{lent_unit}
 
 abbrev has : Text → List Text → Bool
 has name names = list_any (bytes_eq name) names
@@ -212,7 +213,7 @@ more_nests structs units nests = record {
 
 module _ (structs : List StructDef) (units : List UnitDef) (entry : ℕ) (keeps : IsWellTyped structs units entry) (apart : TypesApart structs units entry)
     (low : NestsAtMost 100 structs units) (few : (k : ℕ) (unit : UnitDef) → slice_get units k ≡ Some unit → chain_at units k ≤ 100)
-    (parts : ProgramParts) (stand : PartsStand structs units entry parts) (unit : UnitDef) (there : slice_get units entry ≡ Some unit)
+    (parts : ProgramParts) (stand : PartsStand structs units entry parts) (unit : UnitDef) (there : slice_get units entry ≡ Some (lent_unit unit))
     (ins : Ports (inputs_of unit)) (outs : Ports (outputs_of unit))
   where
     abbrev remembers : Bool
@@ -309,8 +310,8 @@ module _ (structs : List StructDef) (units : List UnitDef) (entry : ℕ) (keeps 
       where
         by : (b : Bool) → b ≡ b → (b ≡ false → remembers ≡ true) →
             is_known front (OfStruct (if b then frame_name unit.name else memory_name unit.name)) ≡ true
-        by true is tells = stand.frame unit there
-        by false is tells = stand.memory unit there (told_so (slice_get parts.remember entry) (tells refl))
+        by true is tells = stand.frame (lent_unit unit) there
+        by false is tells = stand.memory (lent_unit unit) there (told_so (slice_get parts.remember entry) (tells refl))
 
     ports_known : (names : List Text) (name prefix : Text) (vars : List Var) → Ports vars →
         list_all (λ (m : CMember). is_known names m.ty) (port_struct structs name prefix vars).members ≡ true
@@ -373,17 +374,17 @@ module _ (structs : List StructDef) (units : List UnitDef) (entry : ℕ) (keeps 
     }
       where
         short_chain : chain_at units entry ≤ 100
-        short_chain = few entry unit there
+        short_chain = few entry (lent_unit unit) there
 
         by : (n : ℕ) → n ≡ 300 → (b : Bool) → Lower H n (OfStruct (if b then frame_name unit.name else memory_name unit.name))
         by n is true = (
           100 + chain_at units entry,
-          inr (inr (inl (record { position = entry; unit = unit; is_there = there; named = refl; is = refl }))),
+          inr (inr (inl (record { position = entry; unit = lent_unit unit; is_there = there; named = refl; is = refl }))),
           (let less = short_chain in omega (arith, is, less)),
         )
         by n is false = (
           100 + chain_at units entry,
-          inr (inl (record { position = entry; unit = unit; is_there = there; named = refl; is = refl })),
+          inr (inl (record { position = entry; unit = lent_unit unit; is_there = there; named = refl; is = refl })),
           (let less = short_chain in omega (arith, is, less)),
         )
 
@@ -446,13 +447,13 @@ files_declare program names members earlier apart at sound machine unit keeps li
     let structs : List StructDef = program.structs in
     let units : List UnitDef = program.units in
     let parts : ProgramParts = program_parts structs units program.entry machine in
-    let stands = unit_at structs units program.entry keeps program.entry unit there in
-    let named : list_all is_name (tree.names_of unit.vars) ≡ true = and_first _ _ (and_second _ _ (and_first _ _ stands)) in
-    let distinct : are_distinct (tree.names_of (parameters_of unit)) ≡ true = and_second _ _ (and_second _ _ (and_first _ _ stands)) in
-    let entry_so : is_entry (Some unit) ≡ true = ap is_entry (sym there) ∙ keeps.entry_stands in
-    let scalars = and_second _ _ (and_second _ _ entry_so) in
-    let all = file_structs structs units program.entry keeps apart (nests structs units program.entry limits) (short structs units program.entry limits) parts
+    let stands = unit_at structs units program.entry keeps program.entry (lent_unit unit) there in
+    let named : list_all is_name (tree.names_of unit.vars) ≡ true =
+    ap (list_all is_name) (sym (lent_names unit.vars)) ∙ and_first _ _ (and_second _ _ (and_first _ _ stands)) in
+    let distinct : are_distinct (tree.names_of (parameters_of unit)) ≡ true =
+    ap are_distinct (sym (lent_parameter_names unit)) ∙ and_second _ _ (and_second _ _ (and_first _ _ stands)) in
+    let entry_so : is_entry (Some (lent_unit unit)) ≡ true = ap is_entry (sym there) ∙ keeps.entry_stands in
+    let scalars = sym (lent_parameters_all (λ (var : Var). is_some (scalar_in var.ty)) (λ var. refl) unit) ∙ and_second _ _ (and_second _ _ entry_so) in
+    file_structs structs units program.entry keeps apart (nests structs units program.entry limits) (short structs units program.entry limits) parts
     (sound machine keeps limits agrees) unit there (inputs_ports unit scalars named distinct) (outputs_ports unit scalars named distinct)
-    names members earlier at in
-    subst (λ o. FileStructs structs units (file_at program parts o).structs parts.structs
-    (interface_structs structs unit (unwrap_or (slice_get parts.remember program.entry) false))) (sym there) all
+    names members earlier at

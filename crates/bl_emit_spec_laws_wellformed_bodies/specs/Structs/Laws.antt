@@ -18,7 +18,8 @@ use Rattle.bl_emit_acts_laws_wellformed.specs.Formed.Declared.{AreDeclared}
 use Rattle.bl_emit_structs_laws_wellformed.specs.Names.{are_known, is_known, names_of}
 use Rattle.bl_emit_functions.specs.Functions.{memory_name}
 use Rattle.bl_emit_spec.specs.Names.{frame_name}
-use Rattle.bl_emit_spec.specs.Programs.{ProgramParts, interface_structs, needed_units, parts_from, written}
+use Rattle.bl_emit_spec.specs.Lent.{lent_unit}
+use Rattle.bl_emit_spec.specs.Programs.{ProgramParts, interface_structs, needed_units, parts_from, written_of}
 use Rattle.bl_emit_spec_laws_wellformed_bodies.specs.Structs.Parts.{IsPart}
 
 -- what is written of a program's units with a machine
@@ -60,12 +61,12 @@ pub record FileStructs (structs : List StructDef) (units : List UnitDef) (file o
   pub parts : AreDeclared (struct_table file) of_units
   pub interface : AreDeclared (struct_table file) last
 
--- the file written of a typed program with a machine of it declares its structs, where rules Frames and Cells hold
+-- the file written of a typed program with a machine of it, whose entry has the inputs of a unit lent, declares its structs, where rules Frames and Cells hold
 abbrev pub FilesDeclare : Program → Type 0
 FilesDeclare program =
     (machine : List InMachine) (unit : UnitDef) → IsWellTyped program.structs program.units program.entry →
     Passes program.structs program.units program.entry → AreActivitiesOf program.units machine →
-    slice_get program.units program.entry ≡ Some unit →
+    slice_get program.units program.entry ≡ Some (lent_unit unit) →
     let parts = program_parts program.structs program.units program.entry machine in
-    FileStructs program.structs program.units (written program machine).structs parts.structs
+    FileStructs program.structs program.units (written_of program unit machine).structs parts.structs
     (interface_structs program.structs unit (unwrap_or (slice_get parts.remember program.entry) false))

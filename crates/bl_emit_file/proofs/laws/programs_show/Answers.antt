@@ -2,8 +2,8 @@ use Rattle.bl_emit_file.proofs.Whole.{shows_program}
 use Rattle.bl_emit_file.proofs.laws.programs_show.Goals as goal
 
 pub returns : goal.returns
-returns c machine known =
-    shows_program c.args.program.now machine (record {
+returns c program machine known =
+    shows_program program machine known (record {
       built = c.activities_built.ensures;
       compile = c.programs_compile.ensures;
       come = c.compiled_simulate.ensures;
@@ -16,4 +16,6 @@ returns c machine known =
       own = c.files_own.ensures;
       ifs = c.files_have_ifs.ensures;
       wide = c.frames_have_width.ensures;
-    }) known
+      earlier = c.units_use_earlier_ones.ensures;
+      callers = c.instances_have_callers.ensures;
+    })

@@ -2,6 +2,6 @@ use Rattle.bl_emit_functions_laws_simulation.proofs.OnResults.Result.{results_co
 use Rattle.bl_emit_functions_laws_simulation.proofs.results.results_simulate.Goals as goal
 
 pub returns : goal.returns
-returns c =
-    results_come_all c.args.program.now.structs c.args.program.now.units c.args.program.now.entry c.inputs_begin.ensures c.statements_simulate.ensures
-    c.bodies_end.ensures c.calls_keep.ensures c.hands_over.ensures c.frames_begin.ensures
+returns c program =
+    results_come_all program.structs program.units program.entry (c.inputs_begin.ensures program) (c.statements_simulate.ensures program)
+    (c.bodies_end.ensures program) c.calls_keep.ensures (c.hands_over.ensures program) (c.frames_begin.ensures program)

@@ -2,5 +2,5 @@ use Rattle.bl_emit_functions_laws_simulation.proofs.OnUnits.Agreeing.{functions_
 use Rattle.bl_emit_functions_laws_simulation.proofs.units.functions_simulate.Goals as goal
 
 pub returns : goal.returns
-returns c =
-    functions_come_all c.args.program.now.structs c.args.program.now.units c.args.program.now.entry c.results_simulate.ensures c.procedures_simulate.ensures
+returns c program =
+    functions_come_all program.structs program.units program.entry (c.results_simulate.ensures program) (c.procedures_simulate.ensures program)

@@ -2,4 +2,4 @@ use Rattle.bl_emit_functions_laws_wellformed.proofs.OnCells.Growing.{grow}
 use Rattle.bl_emit_functions_laws_wellformed.proofs.cells.cells_grow.Goals as goal
 
 pub returns : goal.returns
-returns c = grow c.args._program.now.structs c.args._program.now.units c.args._program.now.entry
+returns c program = grow program.structs program.units program.entry

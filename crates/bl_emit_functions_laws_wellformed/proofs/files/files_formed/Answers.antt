@@ -2,5 +2,5 @@ use Rattle.bl_emit_functions_laws_wellformed.proofs.OnFiles.Structs.{files}
 use Rattle.bl_emit_functions_laws_wellformed.proofs.files.files_formed.Goals as goal
 
 pub returns : goal.returns
-returns c =
-    files c.args.program.now.structs c.args.program.now.units c.args.program.now.entry c.structs_precede.ensures c.function_lists_well_formed.ensures
+returns c program =
+    files program.structs program.units program.entry (c.structs_precede.ensures program) (c.function_lists_well_formed.ensures program)

@@ -2,4 +2,4 @@ use Rattle.bl_emit_functions_laws_wellformed.proofs.OnFormed.Whole.{functions}
 use Rattle.bl_emit_functions_laws_wellformed.proofs.formed.functions_well_formed.Goals as goal
 
 pub returns : goal.returns
-returns c = functions c.args._program.now.structs c.args._program.now.units c.args._program.now.entry
+returns c program = functions program.structs program.units program.entry

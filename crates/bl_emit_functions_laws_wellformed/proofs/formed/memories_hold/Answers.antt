@@ -2,4 +2,4 @@ use Rattle.bl_emit_functions_laws_wellformed.proofs.OnFormed.Memories.{memories}
 use Rattle.bl_emit_functions_laws_wellformed.proofs.formed.memories_hold.Goals as goal
 
 pub returns : goal.returns
-returns c = memories c.args._program.now.structs c.args._program.now.units
+returns c program = memories program.structs program.units

@@ -2,4 +2,4 @@ use Rattle.bl_emit_functions_laws_wellformed.proofs.OnNumbered.Whole.{types}
 use Rattle.bl_emit_functions_laws_wellformed.proofs.numbered.types_have_scalars.Goals as goal
 
 pub returns : goal.returns
-returns c = types c.args._program.now.structs c.args._program.now.units c.args._program.now.entry
+returns c program = types program.structs program.units program.entry

@@ -2,4 +2,4 @@ use Rattle.bl_emit_functions_laws_wellformed.proofs.OnSpelled.Whole.{memories}
 use Rattle.bl_emit_functions_laws_wellformed.proofs.spelled.memories_spelled.Goals as goal
 
 pub returns : goal.returns
-returns c = memories c.args._program.now.structs c.args._program.now.units c.args._program.now.entry
+returns c program = memories program.structs program.units program.entry

@@ -2,4 +2,4 @@ use Rattle.bl_emit_functions_laws_wellformed.proofs.OnSpelled.Whole.{structs_all
 use Rattle.bl_emit_functions_laws_wellformed.proofs.spelled.structs_spelled.Goals as goal
 
 pub returns : goal.returns
-returns c = structs_all c.args._program.now.structs c.args._program.now.units c.args._program.now.entry
+returns c program = structs_all program.structs program.units program.entry

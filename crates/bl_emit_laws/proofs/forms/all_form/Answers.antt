@@ -2,17 +2,17 @@ use Rattle.bl_emit_laws.proofs.OnForms.Forms.{form}
 use Rattle.bl_emit_laws.proofs.forms.all_form.Goals as goal
 
 pub returns : goal.returns
-returns c =
-    form c.args.program.now.structs c.args.program.now.units c.args.program.now.entry
+returns c program =
+    form program.structs program.units program.entry
     (record {
       uses = c.units_use_earlier_ones.ensures;
       add = c.units_add_up.ensures.cells;
-      nodes_counted = c.nodes_counted.ensures;
+      nodes_counted = (c.nodes_counted.ensures program);
       counted = c.activities_count.ensures;
-      spell = c.machines_spell.ensures;
-      differ = c.machines_differ.ensures;
-      small = c.needed_small.ensures;
-      numbered = c.needed_numbered.ensures;
+      spell = (c.machines_spell.ensures program);
+      differ = (c.machines_differ.ensures program);
+      small = (c.needed_small.ensures program);
+      numbered = (c.needed_numbered.ensures program);
       spots = c.spots_differ.ensures;
       placing = record {
         keys = c.nodes_have_keys.ensures;

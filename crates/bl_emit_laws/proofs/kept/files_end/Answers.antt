@@ -2,4 +2,4 @@ use Rattle.bl_emit_laws.proofs.OnKept.Ends.{files_end}
 use Rattle.bl_emit_laws.proofs.kept.files_end.Goals as goal
 
 pub returns : goal.returns
-returns c = files_end c.args.program.now c.written_is_kept.ensures
+returns c program = files_end program c.written_is_kept.ensures

@@ -2,6 +2,6 @@ use Rattle.bl_emit_spec_laws_files.proofs.OnBegins.Variables.{variables_begin_al
 use Rattle.bl_emit_spec_laws_files.proofs.begins.variables_begin.Goals as goal
 
 pub returns : goal.returns
-returns c =
-    variables_begin_all c.args.program.now.structs c.args.program.now.units c.args.program.now.entry c.accepted_programs_are_orderly.ensures
-    c.hands_over.ensures c.calls_keep.ensures
+returns c program =
+    variables_begin_all program.structs program.units program.entry c.accepted_programs_are_orderly.ensures
+    (c.hands_over.ensures program) c.calls_keep.ensures

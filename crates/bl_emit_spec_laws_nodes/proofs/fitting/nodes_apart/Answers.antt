@@ -2,4 +2,4 @@ use Rattle.bl_emit_spec_laws_nodes.proofs.OnFitting.Whole.{nodes_apart}
 use Rattle.bl_emit_spec_laws_nodes.proofs.fitting.nodes_apart.Goals as goal
 
 pub returns : goal.returns
-returns c = nodes_apart c.args._program.now.structs c.args._program.now.units c.args._program.now.entry
+returns c program = nodes_apart program.structs program.units program.entry

@@ -2,4 +2,4 @@ use Rattle.bl_emit_spec_laws_wellformed.proofs.OnCounts.Whole.{counted}
 use Rattle.bl_emit_spec_laws_wellformed.proofs.counts.nodes_counted.Goals as goal
 
 pub returns : goal.returns
-returns c = counted c.args._program.now.structs c.args._program.now.units c.args._program.now.entry
+returns c program = counted program.structs program.units program.entry

@@ -2,5 +2,5 @@ use Rattle.bl_emit_spec_laws_wellformed.proofs.OnSpelled.Whole.{memories}
 use Rattle.bl_emit_spec_laws_wellformed.proofs.spelled.remembered_spelled.Goals as goal
 
 pub returns : goal.returns
-returns c =
-    memories c.args.program.now.structs c.args.program.now.units c.args.program.now.entry c.members_spelled.ensures
+returns c program =
+    memories program.structs program.units program.entry (c.members_spelled.ensures program)

@@ -4,4 +4,4 @@ use Rattle.bl_emit_structs_laws_wellformed.proofs.OnNames.Once.{once_distinct}
 use Rattle.bl_emit_structs_laws_wellformed.proofs.names.names_differ.Goals as goal
 
 pub returns : goal.returns
-returns c = once_distinct [] (structs_for c.args._program.now.structs c.args._program.now.units)
+returns c program = once_distinct [] (structs_for program.structs program.units)

@@ -1,0 +1,11 @@
+pub mod Deeds
+pub mod Fitting
+pub mod Instances
+pub mod Machines
+pub mod Meanings
+pub mod Numbers
+pub mod Passes
+pub mod Rules
+pub mod Runs
+pub mod Typed
+pub mod Units
