@@ -37,7 +37,7 @@ pub fn programs_show()
     instances_have_callers();
 }
 
-/// And it has a spelling.
+/// What is written of a program for which no rule fails has a spelling.
 pub fn programs_have_spelling()
     ensures { (program : Program) → ProgramsHaveSpelling program }
 {
