@@ -20,6 +20,8 @@ sys.setrecursionlimit(20000)
 from reader import Reader
 
 TRAPPED = 6
+# how a line of tools/blechc begins that isn't one of the program
+NOTICE = "tools/blechc: "
 # which word of a command, counted from its front or its end, is the file that a line speaks of
 ROWS_AT = {"run": 2, "walk": 2, "exec": 2, "count": 2, "save": -1, "resume": 3}
 
@@ -37,12 +39,17 @@ def main(work, words):
     try:
         return work(words) or 0
     except Fault as fault:
-        print(fault, file=sys.stderr)
+        print(by_installed_names(str(fault)), file=sys.stderr)
         return fault.status
     except BrokenPipeError:
         # (whoever reads has enough; nothing more is written when the tool ends)
         os.dup2(os.open(os.devnull, os.O_WRONLY), sys.stdout.fileno())
         return 0
+
+
+def by_installed_names(text):
+    """A text for standard error, in which the tools have the names by which they are called here: where they are installed, blechc-NAME."""
+    return text if os.path.isdir(f"{TOP}/crates") else re.sub(r"\btools/(?=[a-z])", "blechc-", text)
 
 
 def read(path):
@@ -57,12 +64,26 @@ def read(path):
 # ---- calls of the program
 
 
+def own_program():
+    """Where the program of these tools is: where the gate leaves it in the repository, or where tools/install puts it."""
+    return f"{TOP}/crates/blechc/out/blechc" if os.path.isdir(f"{TOP}/crates") else os.path.normpath(f"{TOP}/../../bin/blechc")
+
+
+def found_program(but=None):
+    """The program that BLECHC_PROGRAM names, or that of these tools, or that of the path; none where there is none but the one to be left out."""
+    named = os.environ.get("BLECHC_PROGRAM")
+    if named and not shutil.which(named):
+        raise Fault(f"{named}: no program, though BLECHC_PROGRAM names it")
+    found = [it for it in map(shutil.which, (*([named] if named else []), own_program(), "blechc")) if it]
+    return next((it for it in found if but is None or os.path.realpath(it) != but), None)
+
+
 def program():
-    """The program that is called: the one that BLECHC_PROGRAM names, or that of the path, or the one that the gate left here."""
-    built, named = f"{TOP}/crates/blechc/out/blechc", os.environ.get("BLECHC_PROGRAM")
-    found = shutil.which(named) if named else shutil.which("blechc") or shutil.which(built)
+    """The program that is called. Without one a fault says what to do."""
+    found = found_program()
     if not found:
-        raise Fault(f"{named}: no program" if named else "no blechc: name it by BLECHC_PROGRAM=.., or put it on the path")
+        raise Fault("no blechc: build it by .ci/run, put a built one on the path, or name one by BLECHC_PROGRAM=.. (tools/blechc runs it without "
+                    "proofs, and slowly)")
     return found
 
 
@@ -70,7 +91,7 @@ def call(words):
     """Calls the program: its status, its standard output, and the lines of its standard error."""
     ran = subprocess.run([program(), *words], stdin=subprocess.DEVNULL, capture_output=True, check=False)
     lines = ran.stderr.decode(errors="replace").split("\n")
-    return ran.returncode, ran.stdout.decode(errors="replace"), [it for it in lines if it]
+    return ran.returncode, ran.stdout.decode(errors="replace"), [it for it in lines if it and not it.startswith(NOTICE)]
 
 
 def file_of(words, line):
@@ -108,6 +129,48 @@ def answer(words):
         line = lines[-1] if lines else f"status {status}"
         raise explained(file_of(words, line), line, status)
     return out, lines
+
+
+# ---- versions
+
+
+def told_by(*words):
+    """What a command of the path prints; nothing where it isn't there, or fails."""
+    ran = subprocess.run(words, capture_output=True, text=True, check=False) if shutil.which(words[0]) else None
+    return ran.stdout.strip() if ran and ran.returncode == 0 else ""
+
+
+def commit():
+    """The commit of this repository, with a mark where files were edited."""
+    found = told_by("git", "-C", TOP, "rev-parse", "--short=12", "HEAD")
+    edited = found and told_by("git", "-C", TOP, "status", "--porcelain", "--untracked-files=no")
+    return found + ("+changes" if edited else "")
+
+
+def found_in(path, pattern):
+    """What the first group of a pattern finds in a file of this repository; nothing where the file isn't there."""
+    found = re.search(pattern, read(f"{TOP}/{path}").decode(), re.S | re.M) if os.path.isfile(f"{TOP}/{path}") else None
+    return found[1] if found else ""
+
+
+def format_of(heading):
+    """The number of a format: that of the first row of its table in CHANGES.md."""
+    return found_in("CHANGES.md", rf"^## {heading}\n.*?^\| (\d+) \|")
+
+
+def version():
+    """What this blechc is, by the names of the things: as tools/install wrote it, or as this repository has it. README.md names a toolchain, too."""
+    kept = f"{TOP}/VERSION"
+    if os.path.isfile(kept):
+        return dict(line.split(": ", 1) for line in read(kept).decode().splitlines())
+    found = {"commit": commit(), "toolchain": told_by("rt", "version") or found_in("README.md", r"`rt version`: ([^)]*)\)"),
+             "C format": format_of("The C text"), "state format": format_of("Saved states")}
+    return {name: value or "unknown" for name, value in found.items()}
+
+
+def version_line(found):
+    """A version on one line."""
+    return f"blechc {found['commit']}, C format {found['C format']}, {found['toolchain']}"
 
 
 # ---- sources

@@ -1,4 +1,4 @@
-"""The meaning of a program: control trees and their steps, as docs/LANGUAGE.md says under "Control trees".
+"""The meaning of a program: control trees and their steps, as docs/SEMANTICS.md says under "Control trees".
 
 A tree says what of an activity is paused, has begun or is to begin. Each class is one form of a tree, and answers whether it is
 settled, whether it may end in this tick, which parts it may still write, and which points of it may act. A point is a pair: the

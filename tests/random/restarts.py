@@ -1,6 +1,6 @@
 """Random programs whose `cobegin` statements begin anew, with branches that begin with loops.
 
-Such a branch may take part in one tick twice: its old turn goes on, and its new one begins (docs/LANGUAGE.md, "First turns").
+Such a branch may take part in one tick twice: its old turn goes on, and its new one begins (docs/SEMANTICS.md, "First turns").
 """
 from programs import Writer
 

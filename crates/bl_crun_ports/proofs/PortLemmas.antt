@@ -10,7 +10,7 @@ use Rattle.std.proofs.lemmas.List.{length-append}
 use Rattle.std.proofs.lemmas.List.Elements.{All-nil, All-cons}
 use Rattle.std.proofs.lemmas.Slice.Eq.{bytes_eq-Decides}
 use Rattle.std.proofs.lemmas.Bool.{and_from}
-use Rattle.bl_tree.proofs.Basics.{and_first, and_second, first_empty, get_behind, get_in_front, same_some, second_empty}
+use Rattle.bl_tree.proofs.Basics.{and_first, and_second, get_behind, get_in_front, same_some, first_empty, second_empty}
 use Rattle.bl_tree.specs.declared.text.Text.{Text}
 use Rattle.bl_tree.specs.declared.scalar.Scalar.{Scalar}
 use Rattle.bl_tree.specs.declared.scalar.Scalar.TheVariants.{Nat}
@@ -95,6 +95,11 @@ second [] h = cc
 second (a ∷ []) h = absurd (grind (arith, common_steps))
 second (a ∷ b ∷ rest) h = grind (arith, common_steps)
 
+second-output : (name : Text) → starts_with nat_eq name (codes "o_") ≡ true → Prefixed name
+second-output [] h = cc
+second-output (a ∷ []) h = absurd (grind (arith, common_steps))
+second-output (a ∷ b ∷ rest) h = grind (arith, common_steps)
+
 module _ (prefix : Text) (begins : (name : Text) → starts_with nat_eq name prefix ≡ true → Prefixed name) where
   all-prefixed : (ms : List CMember) → list_all (is_port prefix) ms ≡ true → AllPrefixed ms
   all-prefixed [] all = All-nil (λ m. Prefixed m.name)
@@ -113,6 +118,11 @@ pub inputs-prefixed : (structs : List CStruct) → StructsOfWellFormed structs �
 inputs-prefixed structs formed =
     ports-prefixed (codes "i_") second (found (codes "bl_in") (map (λ s. (s.name, s.members)) structs))
     (ported (codes "bl_in") (codes "i_") input-fits structs (all-fit (record { structs = structs; funcs = formed.0 }) formed.1))
+
+pub outputs-prefixed : (structs : List CStruct) → StructsOfWellFormed structs → AllPrefixed (drop 1 (members_of (codes "bl_out") structs))
+outputs-prefixed structs formed =
+    ports-prefixed (codes "o_") second-output (found (codes "bl_out") (map (λ s. (s.name, s.members)) structs))
+    (ported (codes "bl_out") (codes "o_") output-fits structs (all-fit (record { structs = structs; funcs = formed.0 }) formed.1))
 
 -- ---- cells
 

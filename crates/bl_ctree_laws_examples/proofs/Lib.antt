@@ -1,2 +1,1 @@
-pub mod OnTraces
 pub mod OnTrees

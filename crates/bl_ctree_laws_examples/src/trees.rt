@@ -1,4 +1,4 @@
-//! The laws of one trace at three small programs. There is no code here: each contract is an example. Two branches that
+//! Definitions and laws of steps at three small programs. There is no code here: each contract is an example. Two branches that
 //! need each other in one tick (`specs/Trees/TwoWay.antt`, `TwoWayTrees.antt`): a read waits for what may still be written, and of
 //! the steps that could be taken one may, and no other. A reset beside a loop (`specs/Trees/Reset.antt`): two steps of different
 //! branches lead to one tree in either order. An activity that runs two others (`specs/Trees/Calls.antt`): its instances, and how

@@ -1,6 +1,7 @@
 -- What is seen of the variables that an expression or an act names is all that it needs.
 use Rattle.std.proofs.Common.{◌≡◌, ℕ, Bool, true, false, List, [], ◌∷◌, ◌++◌, ◌<◌, zero, suc, arith, get_or, length, map, Option, Some, None, refl, sym, ap, ◌∙◌, subst}
-use Rattle.std.specs.Prelude.{option_and_then, option_map, slice_get, unwrap_or, if◌then◌else◌}
+use Rattle.std.specs.Prelude.{Result, Ok, Err, IfOk, option_and_then, option_map, slice_get, unwrap_or, if◌then◌else◌}
+use Rattle.bl_tree.specs.declared.memory.NoMemory.{NoMemory}
 use Rattle.bl_tree.specs.declared.tree.Expr.{Expr}
 use Rattle.bl_tree.specs.declared.tree.Path.{Path, fold_out-Path, out-Path}
 use Rattle.bl_tree.specs.declared.tree.Arm.{Arm}
@@ -26,7 +27,8 @@ use Rattle.bl_ctree.specs.Store.{Store, home, put, put_path, put_written, variab
 use Rattle.bl_ctree_store.specs.Agree.{Agree, Covers, Same, filled, roots_in_part, roots_of_act}
 use Rattle.bl_ctree_store.specs.Deeds.{LeftBy, outcome_by, value_by}
 use Rattle.bl_ctree_store.specs.Glimpse.{Glimpses}
-use Rattle.bl_ctree_store.specs.Seen.{Sight, count_of}
+use Rattle.bl_ctree_store.specs.Seen.{Sight, count_of, values_in}
+use Rattle.bl_ctree_store.specs.declared.view.InstanceView.{InstanceView as ViewNode}
 use Rattle.bl_ctree_store.proofs.ActLemmas.{Follows, acted_same}
 use Rattle.bl_ctree_store.proofs.AgreeLemmas.{agree_first, agree_second, filled_agree}
 use Rattle.bl_ctree_store.proofs.NamedLemmas.{expr_same, same_first, same_second}
@@ -163,6 +165,14 @@ written_glimpsed w i s paths store next left covers by =
     ∙ outcome_glimpsed w i s store Store (λ values. next (put_written w i values paths store))
     (λ part same xs ys follows. ap next (written_same w i paths store xs ys
     (agree_follows (map (λ (path : Static). path.root) paths) part seen xs ys follows (covers part.now seen.now same.0)))) by.sight by.glimpses)
+
+-- what an act left, where what is seen is as it is to be
+pub left_by : (w : Setting) (store : Store) (i : ℕ) (s : Stmt) (named : List ℕ) (sight : Option Sight) (r : Result (Option ViewNode) NoMemory)
+    → named ≡ roots_of_act (stmt_kind s) → Glimpses named w store i sight → IfOk r (λ left. option_map values_in left ≡ outcome_by w sight s)
+    → IfOk r (λ left. LeftBy w store i s (option_map values_in left))
+left_by w store i s named sight (Ok left) is seen by =
+    record { sight = sight; glimpses = subst (λ (named : List ℕ). Glimpses named w store i sight) is seen; left_is = by }
+left_by w store i s named sight (Err e) is seen by = by
 
 -- ---- the paths that an act writes lead into variables that it names
 

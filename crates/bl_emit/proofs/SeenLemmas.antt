@@ -1,11 +1,10 @@
 -- The places of `run` statements that were seen, and the first `run` statement of each place.
 use Rattle.std.proofs.Common.{◌≡◌, ℕ, Bool, true, false, not, ◌&&◌, ◌||◌, cond, List, [], ◌∷◌, ◌++◌, filter, map, refl, sym, ap, ◌∙◌, append-nil}
-use Rattle.std.proofs.Common.{is_eq, Ordering, Less, Equal, Greater, eqb→eq}
+use Rattle.std.proofs.Common.{eqb→eq}
 use Rattle.std.specs.BTreeMap.{is_at}
 use Rattle.std.specs.BTreeSet.{BTreeSet}
 use Rattle.std.specs.List.{list_any}
 use Rattle.std.proofs.lemmas.List.{map-append}
-use Rattle.std.specs.Ordering.{ordering_then}
 use Rattle.bl_tree.proofs.Basics.{any_push, cond_or}
 use Rattle.bl_tree.specs.declared.place.Place.{Place}
 use Rattle.bl_tree.specs.Rules.{same_place}
@@ -16,13 +15,6 @@ use Rattle.bl_emit.specs.Kept.{run_in}
 use Rattle.bl_emit.specs.inner.Seen.{SeesRuns, has_run_place, run_stands_at}
 use Rattle.bl_tree.proofs.FirstLemmas.{same_true}
 use Rattle.bl_machine_transitions.proofs.RunLemmas.{same_place_key}
-
--- ---- keys
-
-both_equal : (r s : Ordering) → is_eq (ordering_then r s) ≡ (is_eq r && is_eq s)
-both_equal Less s = refl
-both_equal Equal s = refl
-both_equal Greater s = refl
 
 -- ---- what was seen
 

@@ -31,7 +31,7 @@ ProgramsShow program =
     (machine : List InMachine) → Known program machine →
     ShowsProgram program.structs program.units program.entry (written_file program machine)
 
--- what is written of a program that passes the rules has a spelling
+-- the written file of a machine of the program has a spelling
 abbrev pub ProgramsHaveSpelling : Program → Type 0
 ProgramsHaveSpelling program =
     (machine : List InMachine) → Known program machine →

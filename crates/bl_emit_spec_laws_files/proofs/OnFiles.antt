@@ -9,4 +9,3 @@ pub mod Standing
 pub mod Starting
 pub mod Ticking
 pub mod Views
-pub mod Zeros

@@ -1,6 +1,6 @@
 -- The trees that runs reach between ticks are left of their bodies, with all that is called.
 use Rattle.std.proofs.Common.{◌≡◌, ◌⊎◌, inl, inr, ℕ, ◌+◌, ◌<◌, Bool, true, false, List, [], ◌∷◌, ◌++◌, Option, Some, None, refl, sym}
-use Rattle.std.proofs.Common.{ap, ◌∙◌, subst, arith}
+use Rattle.std.proofs.Common.{ap, ◌∙◌, subst}
 use Rattle.std.specs.Prelude.{ℤ, option_map, slice_get, unwrap_or}
 use Rattle.bl_tree.specs.declared.tree.StructDef.{StructDef}
 use Rattle.bl_tree.specs.declared.tree.Unit.{Unit as UnitDef}
@@ -8,7 +8,6 @@ use Rattle.bl_tree.specs.Program.{IsWellTyped, is_entry}
 use Rattle.bl_effects.specs.Rules.{Passes as UnitsPass}
 use Rattle.bl_graph_nodes.specs.Nodes.{Node}
 use Rattle.bl_graph_nodes.specs.Plain.{Block, plain_body}
-use Rattle.bl_ctree.specs.declared.instance.Instance.{Instance}
 use Rattle.bl_ctree.specs.Control as control
 use Rattle.bl_ctree.specs.Control.{Control}
 use Rattle.bl_ctree.specs.Instances.{Setting, setting_of, unit_at}
@@ -38,9 +37,6 @@ use Rattle.bl_ctree_laws_traces.proofs.OnBounded.Bounding.{entry_at}
 entry_found : (found : Option UnitDef) → is_entry found ≡ true → (unit : UnitDef) × (found ≡ Some unit)
 entry_found None is = absurd cc
 entry_found (Some unit) is = (unit, refl)
-
-abbrev root : ℕ → Instance
-root entry = record { unit = entry; depth = 0; origin = None }
 
 -- an accepted program has an instance of its entry
 pub entry_there : (structs : List StructDef) (units : List UnitDef) (entry : ℕ) → IsWellTyped structs units entry →

@@ -7,12 +7,12 @@ use Rattle.bl_cause_trees.specs.Peeled.{ArePeeled, IsPeeled}
 use Rattle.bl_effects.specs.Rules.{Fails as UnitsFail, Passes as UnitsPass}
 use Rattle.bl_lex.specs.Rules.{Fails as TextFails, Passes as TextPasses}
 use Rattle.bl_lex.specs.Tokens.{Lexes}
-use Rattle.bl_limits.specs.Rules.{Fails as LimitsFail, Passes as LimitsPass}
+use Rattle.bl_limits.specs.Rules.{Fails as LimitsFail}
 use Rattle.bl_parse.specs.Programs.{Spells}
 use Rattle.bl_types_program.specs.Cause.{IsCause as IsTypingCause, names as by_names, types as by_types}
 use Rattle.bl_types_program.specs.Programs.{IsProgramOf, named_of, typed_of}
 use Rattle.bl_parse_tree.specs.declared.raw.Raw.{Raw}
-use Rattle.bl_rules.proofs.Layers.{TokensAreOne, TokensThatPass, TreesAreOne, all_pass, bytes_first, graphs_first, limits_first, names_first, program_first}
+use Rattle.bl_rules.proofs.Layers.{TokensAreOne, TokensThatPass, TreesAreOne, bytes_first, graphs_first, limits_first, names_first, program_first}
 use Rattle.bl_rules.proofs.Layers.{text_passes, tokens_first, tree_first, tree_passes, types_first, units_first}
 use Rattle.bl_rules.specs.Accepted.{HasProgram}
 use Rattle.bl_rules.specs.Rules.{Fails, Parses, ProgramFails, ProgramPasses, TreeFails, TreePasses}
@@ -86,13 +86,6 @@ module _ (structs : List StructDef) (units : List UnitDef) (entry : ℕ) where
 -- ---- the peeled program
 
 module _ (one : PeeledAreOne) (program peeled : Program) (is : IsPeeled program peeled) where
-  pub peeled_passes_limits : UnitsPass program.units → GraphsPass program.units → LimitsPass peeled.structs peeled.units peeled.entry →
-      ProgramPasses program.structs program.units program.entry
-  peeled_passes_limits pass more most =
-      all_pass program.structs program.units program.entry one peeled.units is.units pass more
-      (subst (λ structs. LimitsPass structs peeled.units program.entry) is.structs
-      (subst (λ entry. LimitsPass peeled.structs peeled.units entry) is.entry most))
-
   pub peeled_limits_cause : (told : Refusal) → UnitsPass program.units → GraphsPass program.units →
       IsCause (LimitsFail peeled.structs peeled.units peeled.entry) told → IsCause (ProgramFails program.structs program.units program.entry) told
   peeled_limits_cause told pass more first =

@@ -6,7 +6,7 @@ use Rattle.bl_cause_trees.specs.Peeled.{ArePeeled}
 use Rattle.bl_effects.specs.Rules.{Fails as UnitsFail, Passes as UnitsPass}
 use Rattle.bl_lex.specs.Rules.{Fails as TextFails, Passes as TextPasses}
 use Rattle.bl_lex.specs.Tokens.{Lexes}
-use Rattle.bl_limits.specs.Rules.{Fails as LimitsFail, Passes as LimitsPass}
+use Rattle.bl_limits.specs.Rules.{Fails as LimitsFail}
 use Rattle.bl_parse.specs.Programs.{Spells}
 use Rattle.bl_types_program.specs.Programs.{IsProgramOf, named_of, typed_of}
 use Rattle.bl_parse_tree.specs.declared.raw.Raw.{Raw}
@@ -64,11 +64,6 @@ module _ (structs : List StructDef) (units : List UnitDef) (entry : ℕ) where
         back r p a (in_units f) = absurd (pass r p a f)
         back r p a (in_graphs passes f) = absurd (more r p a f)
         back r p a (in_limits others passes graphs too f) = on_these others too r p a f
-
-    pub all_pass : UnitsPass units → GraphsPass units → LimitsPass structs peeled entry → ProgramPasses structs units entry
-    all_pass pass more most r p a (in_units f) = pass r p a f
-    all_pass pass more most r p a (in_graphs passes f) = more r p a f
-    all_pass pass more most r p a (in_limits others passes graphs too f) = most r p a (on_these others too r p a f)
 
 -- ---- trees
 

@@ -6,7 +6,7 @@ use Rattle.bl_top_commands.specs.Rows.{Ran, RanInPart, Streams, bad_rows, done, 
 use Rattle.bl_top_commands.specs.Sources.{IsRawTreeOf, RunsAs}
 use Rattle.bl_top_commands.specs.Traces.{HasCourse}
 use Rattle.bl_top_commands.specs.declared.status.Status.{Status}
-use Rattle.bl_ctree.specs.Means.{ShownTrace, shown_trace}
+use Rattle.bl_ctree.specs.Means.{shown_trace}
 use Rattle.bl_io.specs.Held.{Appends}
 use Rattle.bl_types_program.specs.Programs.{typed_of}
 use Rattle.bl_parse_tree.specs.declared.raw.Raw.{Raw}
@@ -16,7 +16,6 @@ use Rattle.bl_rules.specs.Accepted.{HasTree}
 use Rattle.bl_rows_stream.specs.Streams.{AppendsFront, Course, Unread, finish_of, last_over, last_so_far, text_over, text_so_far}
 use Rattle.bl_rows_stream.specs.declared.finish.Finish.{Finish}
 use Rattle.bl_tree.specs.Ports.{RowsFit, input_columns, output_columns}
-use Rattle.bl_tree.specs.declared.row.Last.{Last}
 use Rattle.bl_tree.specs.declared.row.Trace.{Trace}
 use Rattle.bl_tree.specs.declared.tree.StructDef.{StructDef}
 use Rattle.bl_tree.specs.declared.tree.Unit.{Unit as UnitDef}
@@ -68,15 +67,6 @@ module _ (course other : Course) (alike : Alike course other) (left rest : Optio
   streams_alike rows _ _ (no_memory ran) = no_memory (part_alike ran)
 
 -- ---- courses of one program
-
-abbrev trace_with : List (List ℤ) → Last → Trace
-trace_with rows last = record { rows = rows; last = last }
-
-same_last : (trace other : Trace) → shown_trace trace ≡ shown_trace other → trace.last ≡ other.last
-same_last trace other e = ap (λ (shows : ShownTrace). unwrap_or shows.last trace.last) e
-
-same_rows : (trace other : Trace) → shown_trace trace ≡ shown_trace other → trace.rows ≡ other.rows
-same_rows trace other e = ap (λ (shows : ShownTrace). shows.rows) e
 
 module _ (structs : List StructDef) (units : List UnitDef) (entry : ℕ) (course other : Course) (is : HasCourse structs units entry course)
     (too : HasCourse structs units entry other) where

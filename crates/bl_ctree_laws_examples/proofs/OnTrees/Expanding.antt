@@ -1,23 +1,30 @@
 -- The instances of the activity that runs two others, and the most steps of one of its ticks.
-use Rattle.std.proofs.Common.{◌≡◌, ℕ, ◌+◌, ◌*◌, List, [], ◌∷◌, ◌++◌, None, map, length, refl, ◌∙◌}
+use Rattle.std.proofs.Common.{◌≡◌, ℕ, ◌+◌, ◌*◌, List, [], ◌∷◌, ◌++◌, None, ap, map, length, refl, ◌∙◌}
 use Rattle.bl_tree.specs.declared.scalar.Op.TheVariants.{Add}
 use Rattle.bl_tree.specs.declared.tree.Branch.{Branch, fold-Branch, fold-roll-Branch}
 use Rattle.bl_tree.specs.declared.tree.Expr.{Expr}
+use Rattle.bl_tree.specs.declared.tree.Path.{fold-roll-Path}
 use Rattle.bl_tree.specs.declared.tree.Stmt.{Stmt, fold-roll-Stmt}
 use Rattle.bl_tree.specs.declared.tree.StmtKind.{fold-roll-StmtKind}
 use Rattle.bl_tree.specs.declared.tree.StmtKind.TheOpen.{StmtKind-F}
 use Rattle.bl_tree.specs.Reduce.{joined, total}
-use Rattle.bl_tree.specs.Static.{whole}
+use Rattle.bl_tree.specs.Static.{Reach, reach_of, static_of, whole}
 use Rattle.bl_ctree.specs.declared.instance.Instance.{Instance}
 use Rattle.bl_ctree.specs.declared.instance.Run.{Run}
 use Rattle.bl_ctree.specs.Instances.{called_from, expanded, instances_below, instances_of, one_a_place, runs_in, runs_in_branch, runs_of}
 use Rattle.bl_ctree.specs.Measure.{arm_step_statements, branch_step_statements, count_at, instance_steps, kind_step_statements, layer_step_statements}
 use Rattle.bl_ctree.specs.Measure.{step_statements_in, step_statements_of, steps}
-use Rattle.bl_ctree_laws_examples.specs.Trees.Made.{at, await_true, number, set, stmt, strong, two, value}
+use Rattle.bl_ctree_laws_examples.specs.Trees.Made.{at, await_true, number, set, stmt, strong, two, value, variable}
 use Rattle.bl_ctree_laws_examples.specs.Trees.Calls.{caller, first_called, instances, runs, second_called, turn_stmt, units}
-use Rattle.bl_ctree_laws_examples.proofs.OnTraces.Passing.{static_is}
 
 -- ---- `run` statements
+
+-- the static path of a whole variable
+static_is : (k : ℕ) → static_of (variable k) ≡ whole k
+static_is k = ap (λ (r : Reach). r.static) path_reached
+  where
+    path_reached : reach_of (variable k) ≡ record { static = whole k; indices = [] }
+    path_reached = rw fold-roll-Path refl
 
 set_runs : (place k : ℕ) (e : Expr) → runs_in (set place k e) ≡ []
 set_runs place k e = rw (fold-roll-Stmt, fold-roll-StmtKind) refl

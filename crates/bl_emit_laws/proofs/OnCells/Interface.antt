@@ -1,5 +1,5 @@
 -- The two functions of the interface: what they call, and how many cells they need; and the structs of the interface.
-use Rattle.std.proofs.Common.{◌≡◌, ℕ, zero, suc, ◌+◌, ◌≤◌, arith, pos, Bool, true, false, List, [], ◌∷◌, ◌++◌, map, take, drop, length}
+use Rattle.std.proofs.Common.{◌≡◌, ℕ, ◌+◌, ◌≤◌, arith, pos, Bool, true, false, List, [], ◌∷◌, ◌++◌, map, drop, length}
 use Rattle.std.proofs.Common.{Some, None, refl, ap, ◌∙◌, codes}
 use Rattle.std.proofs.lemmas.List.{map-append}
 use Rattle.std.specs.List.{list_all}
@@ -194,13 +194,6 @@ module _ (unit : UnitDef) (remembers : Bool) where
       by false = omega arith
 
 -- ---- inputs and outputs
-
-abbrev none_in : (A : Type 0) → List A
-none_in A = []
-
-take_nothing : {A : Type 0} (n : ℕ) → take n (none_in A) ≡ none_in A
-take_nothing zero = refl
-take_nothing (suc n) = refl
 
 module _ (structs : List StructDef) (units : List UnitDef) (known : Sizes) (sizes : SizesKnown structs units known) where
   abbrev Stand : List Var → Type 0

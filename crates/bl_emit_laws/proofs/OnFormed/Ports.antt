@@ -34,14 +34,7 @@ use Rattle.bl_emit_spec_laws_wellformed_bodies.proofs.OnBodies.Calls.{Suit, suit
 use Rattle.bl_emit_spec_laws_wellformed_bodies.proofs.OnBodies.Lists.{found-one, names_of_entries}
 use Rattle.bl_emit_spec_laws_wellformed_bodies.proofs.OnBodies.Variables.{member_place}
 use Rattle.bl_emit_structs_laws_wellformed.proofs.OnNames.Named.{distinct_front}
-use Rattle.bl_emit_spec_laws_wellformed_bodies.proofs.OnLists.Entries.{none_left}
 use Rattle.bl_emit_spec_laws_wellformed_bodies.proofs.OnStructs.Interface.{distinct_back}
-
--- ---- lists
-
-front_none : (x : Text) (xs ys : List Text) → is_among x (xs ++ ys) ≡ false → is_among x xs ≡ false
-front_none x [] ys none = refl
-front_none x (y ∷ xs) ys none = none_left (bytes_eq x y) (is_among x (xs ++ ys)) (is_among x xs) (front_none x xs ys) none
 
 -- ---- a struct of ports
 

@@ -137,12 +137,6 @@ same_named copied (StmtKind-F.While e body) is = refl
 
 -- ---- lists
 
-get_last : (xs : List ℕ) (y k : ℕ) → length xs ≡ k → slice_get (xs ++ y ∷ []) k ≡ Some y
-get_last [] y zero is = refl
-get_last [] y (suc k) is = absurd (omega (arith, is))
-get_last (x ∷ xs) y zero is = absurd (omega (arith, is))
-get_last (x ∷ xs) y (suc k) is = get_last xs y k (omega (arith, is))
-
 -- what is copied is named under a `prev`
 copied_named : (unit : UnitDef) (x : ℕ) → x < length unit.vars → is_copied (copies_of unit) x ≡ true → list_any (nat_eq x) (prevs_of unit) ≡ true
 copied_named unit x less on =

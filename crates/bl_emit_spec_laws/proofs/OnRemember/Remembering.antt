@@ -23,7 +23,6 @@ use Rattle.bl_ctree.specs.Instances.{Setting, begins_at, callee_of, runs_in, run
 use Rattle.bl_ctree_laws.specs.Trees.{Call}
 use Rattle.bl_ctree_laws_confluence.specs.Deeds.Orderly.{AcceptedIsOrderly}
 use Rattle.bl_ctree_laws_confluence.specs.Deeds.Origins.{CalledBy, HasCaller, InstancesHaveCallers}
-use Rattle.bl_ctree_laws_confluence.proofs.OnDeeds.Activities.{AllOf}
 use Rattle.bl_ctree_laws_traces.proofs.OnProgress.Earlier.{RunsUnit, body_runs}
 use Rattle.bl_ctree_laws_traces.proofs.OnBounded.Callees.{taken_before, typed_at}
 use Rattle.bl_ctree_laws_traces.proofs.OnBounded.Calls.{calls_in, run_of}
@@ -44,10 +43,6 @@ use Rattle.bl_emit_spec_laws.proofs.OnRunPlaces.Sharing.{run_kept}
 use Rattle.bl_ctree_laws_confluence.proofs.OnDeeds.Activities.{taken}
 use Rattle.bl_ctree_laws_traces.proofs.OnBounded.Callees.{all_among}
 use Rattle.bl_ctree_laws_traces.proofs.OnBounded.ByPlace.{once_among}
-
-all_own : {A : Type 0} (all some : List A) → ((x : A) → Among x some → Among x all) → AllOf (λ x. Among x all) some
-all_own all [] inside = tt
-all_own all (y ∷ some) inside = (inside y (inl refl), all_own all some (λ x at. inside x (inr at)))
 
 -- an image is that of an element
 record Image (runs : List Call) (run : Run) : Type 0 where

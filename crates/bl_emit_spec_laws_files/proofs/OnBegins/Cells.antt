@@ -1,37 +1,13 @@
 -- Numbers of memory: which stay as they were when a place is set, and which ways and places have nothing in common.
 use Rattle.std.proofs.Common.{◌≡◌, Bool, true, false, not, ◌&&◌, ◌||◌, List, [], ◌∷◌, ◌++◌, refl}
-use Rattle.std.proofs.Common.{sym, ap, ap₂, ◌∙◌}
-use Rattle.std.proofs.lemmas.Cmp.{nat_list_eq_equiv}
+use Rattle.std.proofs.Common.{sym, ap, ◌∙◌}
 use Rattle.std.proofs.lemmas.List.{append-nil}
 use Rattle.std.specs.Prelude.{◌==◌, if◌then◌else◌}
-use Rattle.bl_ctext_semantics.specs.Memory.{CValue, Location, Memory, Projection, Root, input_object, left_after, number_or, output_object}
-use Rattle.bl_ctext_semantics.specs.Memory.{same_root, set_at, state_object, value_at, variable, with_part}
+use Rattle.bl_ctext_semantics.specs.Memory.{CValue, Location, Memory, Projection, Root, left_after, number_or}
+use Rattle.bl_ctext_semantics.specs.Memory.{same_root, set_at, value_at, with_part}
 use Rattle.bl_emit_acts_laws_simulation.specs.Encodes.{are_apart, ways_part}
 use Rattle.bl_emit_acts_laws_simulation.proofs.Written.{left_apart}
 use Rattle.bl_emit_acts_laws_simulation.proofs.Writes.{same_root_itself}
-use Rattle.bl_emit_acts_laws_simulation.proofs.Cells.{same_number_flip}
-
--- ---- the other way round
-
-root_flip : (a b : Root) → same_root a b ≡ same_root b a
-root_flip state_object state_object = refl
-root_flip input_object input_object = refl
-root_flip output_object output_object = refl
-root_flip (variable d m) (variable e n) = ap₂ (λ a b. a && b) (same_number_flip d e) (nat_list_eq_equiv.symm m n)
-root_flip state_object input_object = refl
-root_flip state_object output_object = refl
-root_flip state_object (variable e n) = refl
-root_flip input_object state_object = refl
-root_flip input_object output_object = refl
-root_flip input_object (variable e n) = refl
-root_flip output_object state_object = refl
-root_flip output_object input_object = refl
-root_flip output_object (variable e n) = refl
-root_flip (variable d m) state_object = refl
-root_flip (variable d m) input_object = refl
-root_flip (variable d m) output_object = refl
-
--- ---- ways
 
 -- ---- what is set
 

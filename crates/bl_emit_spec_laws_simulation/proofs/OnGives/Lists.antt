@@ -27,11 +27,6 @@ get_behind xs zero k = let is : k ≡ 0 + k = omega arith in ap (slice_get xs) i
 get_behind [] (suc n) k = get_past [] k (omega arith) ∙ sym (get_past [] (suc n + k) (omega arith))
 get_behind (x ∷ xs) (suc n) k = let is : suc (n + k) ≡ suc n + k = omega arith in get_behind xs n k ∙ ap (slice_get (x ∷ xs)) is
 
-drop_nothing : {A : Type 0} (xs : List A) (n : ℕ) → xs ≡ [] → drop n xs ≡ []
-drop_nothing xs zero is = is
-drop_nothing [] (suc n) is = refl
-drop_nothing (x ∷ xs) (suc n) is = absurd (cc)
-
 -- a list that has these elements is the front of another, where its length is so
 pub taken_is : {A : Type 0} (xs ys : List A) (n : ℕ) → length ys ≡ n → ((k : ℕ) → k < n → slice_get xs k ≡ slice_get ys k) →
     take n xs ≡ ys

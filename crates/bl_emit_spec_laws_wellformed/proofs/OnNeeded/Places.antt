@@ -13,17 +13,12 @@ use Rattle.bl_tree.specs.Within.{StandsIn}
 use Rattle.bl_ctree.specs.declared.instance.Run.{Run}
 use Rattle.bl_ctree.specs.Instances.{one_a_place, runs_in}
 use Rattle.bl_ctree_laws_confluence.proofs.OnApart.Placed.{RunAs, runs_listed, same_unit}
-use Rattle.bl_ctree_laws_confluence.proofs.OnDeeds.Activities.{AllOf}
 use Rattle.bl_ctree_laws_traces.proofs.OnBounded.Lists.{Among}
 use Rattle.bl_limits_measures.specs.Runs.{activities_by_place, activities_run}
 use Rattle.bl_limits_measures_laws.proofs.InstanceLemmas.{all_named, named, units_of}
 use Rattle.bl_ctree_laws_traces.proofs.OnBounded.Callees.{all_among}
 use Rattle.bl_ctree_laws_traces.proofs.OnBounded.ByPlace.{once_among}
 use Rattle.bl_tree.proofs.FirstLemmas.{same_true}
-
-pub all_own : {A : Type 0} (all some : List A) → ((x : A) → Among x some → Among x all) → AllOf (λ x. Among x all) some
-all_own all [] inside = tt
-all_own all (y ∷ some) inside = (inside y (inl refl), all_own all some (λ x at. inside x (inr at)))
 
 -- `run`s of one place run one unit
 abbrev Share : List Run → Type 0

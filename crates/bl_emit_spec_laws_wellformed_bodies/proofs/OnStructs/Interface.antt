@@ -60,10 +60,6 @@ split_take (suc a) b (x ∷ xs) =
     let same : suc a + b ≡ suc (a + b) = omega arith in
     ap (λ n. take n (x ∷ xs)) same ∙ ap (λ rest. x ∷ rest) (split_take a b xs)
 
-either_false : (a b : Bool) → not (a || b) ≡ true → not a ≡ true
-either_false true b h = h
-either_false false b h = refl
-
 pub distinct_back : (xs ys : List Text) → are_distinct (xs ++ ys) ≡ true → are_distinct ys ≡ true
 distinct_back [] ys h = h
 distinct_back (x ∷ xs) ys h = distinct_back xs ys (and_second (not (is_among x (xs ++ ys))) (are_distinct (xs ++ ys)) h)

@@ -8,7 +8,7 @@ use Rattle.bl_tree.proofs.Basics.{and_first, and_second}
 use Rattle.bl_tree.specs.declared.tree.Stmt.{Stmt}
 use Rattle.bl_tree.specs.declared.tree.Unit.{Unit as UnitDef}
 use Rattle.bl_graph_nodes.specs.Nodes.{Node, label_of, nodes_in}
-use Rattle.bl_graph_nodes.specs.Plain.{Block, Label, Position, plain_block, plain_body}
+use Rattle.bl_graph_nodes.specs.Plain.{Block, Position, plain_block, plain_body}
 use Rattle.bl_graph.specs.Laws.{StaysWithin}
 use Rattle.bl_ctree.specs.Instances.{Setting, unit_at}
 use Rattle.bl_ctree_laws_traces.specs.Ready.Ordered.{HasRanks, OrdersGiveRanks}
@@ -45,9 +45,6 @@ node_itself n = and_from (same_list (label_of n).position (label_of n).position)
     (nat_eq (label_of n).passed (label_of n).passed && nat_eq (sort_of n) (sort_of n)) (list_itself (label_of n).position)
     (and_from (nat_eq (label_of n).passed (label_of n).passed) (nat_eq (sort_of n) (sort_of n))
     (eq-eqb (label_of n).passed (label_of n).passed refl) (eq-eqb (sort_of n) (sort_of n) refl))
-
-abbrev label_with : Position → ℕ → Label
-label_with at k = record { position = at; passed = k }
 
 nodes_same : (n m : Node) → same_node n m ≡ true → Same n m
 nodes_same n m e =

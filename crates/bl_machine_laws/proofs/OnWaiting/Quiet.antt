@@ -9,17 +9,14 @@ use Rattle.bl_graph.specs.Edges.{EdgeAll, In, InEach}
 use Rattle.bl_graph.specs.Walks.{After, Walk, on, stay}
 use Rattle.bl_ctree.specs.Control.{Body, Check}
 use Rattle.bl_ctree.specs.Instances.{Setting}
-use Rattle.bl_ctree_laws.specs.Pending.{may_end, may_join}
 use Rattle.bl_ctree_laws.specs.Trees.{Fork, Tree, Trees, Watch, Nil, Wait, Test, Idle, Do, Seq, Par, Guard, Run, are_done, are_settled, beside}
-use Rattle.bl_ctree_laws.specs.Trees.{is_nil, is_settled, no_tree, some_ended}
+use Rattle.bl_ctree_laws.specs.Trees.{is_nil, is_settled, no_tree}
 use Rattle.bl_ctree_laws_traces.specs.Progress.FitsGraph.{AllFitGraph, FitsGraph}
 use Rattle.bl_ctree_laws_traces.specs.Progress.Places.{Place, ahead_of, guarded, in_branch, later_on, whole}
 use Rattle.bl_machine_laws.specs.Numbers.Waiting.{Is, SomeWaits, Waits, check_of, first_in, test_of}
 use Rattle.bl_machine_laws.specs.Waiting.Laws.{AllPassed, RunsArePassed, SomethingWaits}
 use Rattle.bl_ctree_laws.proofs.Less.{done_join, nil_ends}
 use Rattle.bl_ctree_laws_traces.proofs.OnProgress.Leading.{one_on}
-
--- ---- tests
 
 -- ---- between ticks nothing waits
 
@@ -181,18 +178,6 @@ part_closed false body n m there edge = record { from = there.from; begins = the
 
 pub after_closed : {E : Node → Node → Type 0} {n : Node} → Closed E (After E n)
 after_closed m k there edge = record { by = there.by; edge = there.edge; rest = one_on there.rest edge }
-
-some_end_first : (c : Tree) (rest : Trees) → (is_nil c || some_ended rest) ≡ true → (some_ended rest ≡ true → may_join false rest ≡ true) →
-    (may_end c || may_join false rest) ≡ true
-some_end_first c rest e others = by_first (is_nil c) refl
-  where
-    or_last : (a b : Bool) → b ≡ true → (a || b) ≡ true
-    or_last true b f = refl
-    or_last false b f = f
-
-    by_first : (b : Bool) → is_nil c ≡ b → (may_end c || may_join false rest) ≡ true
-    by_first true is = ap (λ b. b || may_join false rest) (nil_ends c is)
-    by_first false is = or_last (may_end c) (may_join false rest) (others (ap (λ b. b || some_ended rest) (sym is) ∙ e))
 
 -- where the tree has ended, what follows it may act
 abbrev pub NextNow : Tree → Option Node → (Node → Type 0) → Type 0

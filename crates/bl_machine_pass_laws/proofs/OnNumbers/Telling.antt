@@ -1,19 +1,16 @@
 -- Counters follow the turns of a pass: the rule of the node is the one that acts.
-use Rattle.std.proofs.Common.{◌≡◌, ℕ, Bool, true, false, List, [], Some, Contains, map, option_map, slice_get}
-use Rattle.std.proofs.Common.{unwrap_or, refl, sym, ap, subst, ◌∙◌}
+use Rattle.std.proofs.Common.{◌≡◌, true, List, [], Some, Contains, map, option_map, slice_get}
+use Rattle.std.proofs.Common.{unwrap_or, sym, ap, subst, ◌∙◌}
 use Rattle.std.proofs.lemmas.Option.{slice_get-map}
 use Rattle.bl_tree.specs.declared.tree.Unit.{Unit as UnitDef}
 use Rattle.bl_graph_nodes.specs.Laws.{EachOnce, NodesDiffer}
 use Rattle.bl_graph_nodes.specs.Nodes.{Node, nodes_in}
 use Rattle.bl_graph_nodes.specs.Plain.{plain_body}
-use Rattle.bl_ctree.specs.Instances.{Setting}
-use Rattle.bl_ctree_laws.specs.Pending.{Deed}
-use Rattle.bl_ctree_laws.specs.Trees.{Tree, is_nil}
+use Rattle.bl_ctree_laws.specs.Trees.{is_nil}
 use Rattle.bl_ctree_laws_traces.specs.Progress.Places.{whole}
 use Rattle.bl_machine.specs.Uses.{Slots, uses_in}
 use Rattle.bl_machine_laws.specs.Numbers.Numbers.{Over}
 use Rattle.bl_machine_laws.specs.Numbers.Turns as turns
-use Rattle.bl_machine_laws.specs.Numbers.Turns.{InstancePoint}
 use Rattle.bl_machine_pass.specs.Registers.{all_changed}
 use Rattle.bl_machine_pass.specs.Transitions.{Finishes, Transition, rules}
 use Rattle.bl_machine_pass_laws.specs.Turns.Holds.{MayHold}
@@ -37,29 +34,6 @@ rules_once all nodes are once x y hx hy same =
     node_at z h =
         ap (λ xs. slice_get xs h.0) (sym are) ∙ slice_get-map (λ (rule : Transition). rule.node) all h.0
         ∙ ap (λ found. option_map (λ (rule : Transition). rule.node) found) (member_at all z h)
-
--- ---- what has a turn hasn't ended
-
-point_open : {w : Setting} {i : ℕ} {c : Tree} {d : Bool} {a : Deed} {n : Node} {c' : Tree} → InstancePoint w i c d a n c' → is_nil c ≡ false
-point_open turns.acts = refl
-point_open turns.takes = refl
-point_open turns.passes = refl
-point_open turns.pauses = refl
-point_open turns.repeats = refl
-point_open turns.repeats_until = refl
-point_open turns.leaves = refl
-point_open turns.turns = refl
-point_open turns.enters = refl
-point_open turns.skips = refl
-point_open turns.forks = refl
-point_open turns.guards = refl
-point_open turns.goes_on = refl
-point_open turns.waits = refl
-point_open turns.lets = refl
-point_open (turns.aborts is) = refl
-point_open (turns.resets is) = refl
-point_open turns.guard_ends = refl
-point_open (turns.joins settled done) = refl
 
 -- ---- the law
 

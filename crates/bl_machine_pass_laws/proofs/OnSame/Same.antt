@@ -14,7 +14,6 @@ use Rattle.bl_ctree_laws.specs.Steps.{call, fork, pause, watch}
 use Rattle.bl_ctree_laws.specs.Trees.{Tree, Trees, Nil, Test, Do, Par, Guard, Run, all_woken}
 use Rattle.bl_ctree_laws.specs.Trees.{are_done, are_settled, before, beside, followed, is_nil, is_settled, no_tree, woken}
 use Rattle.bl_ctree_laws_traces.specs.Progress.Places.{whole}
-use Rattle.bl_machine.specs.declared.slots.Slot.{Slot}
 use Rattle.bl_machine.specs.Uses.{Slots, uses_in}
 use Rattle.bl_machine_laws.specs.Numbers.Numbers.{Over, numbers_of}
 use Rattle.bl_machine_pass.specs.SlotLayout.{BlockRestsAt, BranchesRestAt, EndOf, SlotsAreDistinct, Spot, StatementRestsAt, slot_at, spots_in, spots_in_each, spots_of}
@@ -57,9 +56,6 @@ record Twins (l : Label) (k : ℕ) (branches branches' : Trees) : Type 0 where
   settled' : are_settled branches' ≡ true
   rests : (p : Spot) → Has (resting_each l k branches) p → Has (resting_each l k branches') p
   calls : (m : Label) (d d' : Tree) → OneCalls branches m d → OneCalls branches' m d' → woken d ≡ woken d'
-
-abbrev slot_of : ℕ → ℕ → Slot
-slot_of counter value = record { counter = counter; value = value }
 
 -- ---- branches
 

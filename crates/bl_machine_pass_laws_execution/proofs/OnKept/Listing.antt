@@ -1,6 +1,6 @@
 -- The listed `run` statements of a unit stand in its body.
-use Rattle.std.proofs.Common.{◌≡◌, ℕ, List, [], ◌∷◌, ◌++◌, map, Option, refl, sym, ap, subst}
-use Rattle.std.specs.Prelude.{IsTrue}
+use Rattle.std.proofs.Common.{◌≡◌, ℕ, List, [], ◌∷◌, ◌++◌, map, get_or, Option, refl, sym, ap, subst}
+use Rattle.std.specs.Prelude.{Contains, IsTrue}
 use Rattle.std.proofs.lemmas.List.Elements.{All-head, All-tail}
 use Rattle.bl_tree.specs.declared.place.Place.{Place}
 use Rattle.bl_tree.specs.declared.tree.Arm.{Arm, fold_out-Arm, out-Arm}
@@ -10,13 +10,15 @@ use Rattle.bl_tree.specs.declared.tree.Path.{Path}
 use Rattle.bl_tree.specs.declared.tree.Stmt.{Stmt, fold-roll-Stmt}
 use Rattle.bl_tree.specs.declared.tree.StmtKind.{StmtKind, fold-StmtKind, fold-roll-StmtKind, map-StmtKind}
 use Rattle.bl_tree.specs.declared.tree.StmtKind.TheOpen.{StmtKind-F}
+use Rattle.bl_tree.specs.declared.tree.Unit.{Unit as UnitDef}
 use Rattle.bl_tree.specs.Reduce.{joined}
 use Rattle.bl_tree.specs.Static.{static_of}
 use Rattle.bl_tree.specs.Within.{StandsIn, Within, is_run, is_run_kind, itself, kind_children, place_of}
-use Rattle.bl_tree.proofs.StmtInduction.{Each, EachArm, EachBranch, stmt}
+use Rattle.bl_tree.proofs.StmtInduction.{Cases, Each, EachArm, EachBranch, induct, stmt}
 use Rattle.bl_ctree.specs.declared.instance.Run.{Run}
-use Rattle.bl_ctree.specs.Instances.{arm_runs, branch_runs, kind_runs, runs_in, runs_in_arm, runs_in_branch, stmt_layer_runs}
-use Rattle.bl_ctree_laws_confluence.proofs.OnDeeds.Activities.{AllOf, all_both}
+use Rattle.bl_ctree.specs.Instances.{arm_runs, branch_runs, kind_runs, runs_in, runs_in_arm, runs_in_branch, runs_of, stmt_layer_runs}
+use Rattle.bl_ctree_laws_confluence.proofs.OnDeeds.Activities.{AllOf, all_both, one_a_place_so}
+use Rattle.bl_ctree_laws_confluence.proofs.OnDeeds.Aliases.{of_member}
 use Rattle.bl_ctree_laws_confluence.proofs.OnApart.Running.{layer_at, outputs_at, outputs_of, placed_at, stands_below, stands_first, stands_left}
 use Rattle.bl_ctree_laws_confluence.proofs.OnApart.Running.{stands_right}
 
@@ -113,3 +115,33 @@ run_listed place target a inputs outputs =
       },
       tt,
     )
+
+stmt_cases : Cases S
+stmt_cases = record {
+  declare = λ place k initial. by_parts place (StmtKind-F.Declare k initial) tt;
+  assign = λ place path e. by_parts place (StmtKind-F.Assign path e) tt;
+  call = λ place f inputs outputs. by_parts place (StmtKind-F.Call f inputs outputs) tt;
+  await = λ place e. by_parts place (StmtKind-F.Await e) tt;
+  run = run_listed;
+  branching = λ place arms other in_arms in_other.
+      let bodies : List Stmt = joined (map (λ arm. (out-Arm arm).body) arms) in
+      by_parts place (StmtKind-F.If arms other)
+      (all_both (RunAs (StandsIn (bodies ++ other))) (joined (map runs_in_arm arms)) (joined (map runs_in other))
+      (moved {A = StandsIn bodies} {B = StandsIn (bodies ++ other)} (λ t there. stands_left bodies other there) (joined (map runs_in_arm arms))
+      (arms_listed arms in_arms))
+      (moved {A = StandsIn other} {B = StandsIn (bodies ++ other)} (λ t there. stands_right bodies other there) (joined (map runs_in other))
+      (block_listed other in_other)));
+  cobegin = λ place branches each. by_parts place (StmtKind-F.Cobegin branches) (branches_listed branches each);
+  guarded = λ place guard e body each. by_parts place (StmtKind-F.When guard e body) (block_listed body each);
+  repeat = λ place body each. by_parts place (StmtKind-F.Repeat body) (block_listed body each);
+  until = λ place body e each. by_parts place (StmtKind-F.Until body e) (block_listed body each);
+  while = λ place e body each. by_parts place (StmtKind-F.While e body) (block_listed body each);
+  returns = λ place e. by_parts place (StmtKind-F.Return e) tt;
+}
+
+pub unit_listed : (unit : UnitDef) (run : Run) → Contains (runs_of unit) run → RunAs (StandsIn unit.body) run
+unit_listed unit run there =
+    let within = there.1 in
+    of_member (RunAs (StandsIn unit.body)) (runs_of unit) there.0 run
+    (one_a_place_so (RunAs (StandsIn unit.body)) (joined (map runs_in unit.body))
+    (block_listed unit.body (λ k d within. induct S stmt_cases (get_or unit.body k d)))) within there.2

@@ -16,9 +16,6 @@ use Rattle.bl_machine_pass_laws.proofs.OnRooted.Resuming.{slot_is}
 
 -- ---- numbers
 
-abbrev slot_of : ℕ → ℕ → Slot
-slot_of counter value = record { counter = counter; value = value }
-
 -- where something is shown at a counter it is the number
 shown_is : (slot : Slot) (j v : ℕ) → (v ≡ 0 → ⊥) → value_at_counter slot j ≡ v → (slot.counter ≡ j) × (slot.value ≡ v)
 shown_is slot j v counted e = by_test (nat_eq j slot.counter) refl

@@ -1,4 +1,0 @@
-pub mod Ordering
-pub mod Passing
-pub mod Placed
-pub mod Standing

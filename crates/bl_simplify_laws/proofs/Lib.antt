@@ -1,0 +1,14 @@
+pub mod OnConditions
+pub mod OnFiles
+pub mod OnFrames
+pub mod OnJoins
+pub mod OnKnown
+pub mod OnLive
+pub mod OnMemories
+pub mod OnOutcomes
+pub mod OnRules
+pub mod OnSplits
+pub mod OnSpots
+pub mod OnSteps
+pub mod OnTables
+pub mod OnWritten

@@ -1,0 +1,13 @@
+pub mod Conditions
+pub mod Files
+pub mod Frames
+pub mod Joins
+pub mod Known
+pub mod Live
+pub mod Observed
+pub mod Rules
+pub mod Splits
+pub mod Spots
+pub mod Steps
+pub mod Tables
+pub mod Written

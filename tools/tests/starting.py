@@ -1,0 +1,272 @@
+"""Tests of what a newcomer meets, which tools/tests/run calls: tools/blechc, an installation, the manual page, versions, and commands of README.md."""
+import hashlib
+import os
+import re
+import shutil
+import stat
+
+from results import HERE, TOP, ran, text_of, there, write
+
+LAMP, ROWS, TRACE = (f"{TOP}/examples/lamp/{it}" for it in ("lamp.blech", "rows.csv", "trace.csv"))
+PUMP = f"{TOP}/examples/pump"
+# a stand-in for the toolchain: it puts the data into a folder of its own, and calls the program there
+TOOLCHAIN = """#!/usr/bin/env python3
+import os, shutil, subprocess, sys, tempfile
+words, data = sys.argv[1:], []
+if words[0] == "version":
+    sys.exit(print("a stand-in"))
+at = words.index("--")
+for name, value in zip(words[1:at:2], words[2:at:2]):
+    data += [value.split("=", 1)] if name == "--data" else []
+with tempfile.TemporaryDirectory() as room:
+    for name, path in data:
+        shutil.copy(path, os.path.join(room, name))
+    status = subprocess.run(["{program}", *words[at + 1:]], cwd=room).returncode
+print(f"checked: ended status={status}\\nrun=ended status={status} runners=1 proved=no", file=sys.stderr)
+sys.exit(1 if status else 0)
+"""
+
+
+def runnable(path, text):
+    """Writes a program."""
+    write(path, text)
+    os.chmod(path, 0o755)
+
+
+# ---- pages
+
+
+def console_blocks(page):
+    """The blocks of a page with calls: for each call the line, and what is shown below it."""
+    for block in re.findall(r"^```console\n(.*?)^```", page, re.S | re.M):
+        yield re.findall(r"^\$ (.*)\n((?:(?!\$ ).*\n)*)", block, re.M)
+
+
+def check_block(results, name, calls, room, setting):
+    """The calls of a block one after another, each in the folder to which those before it have gone. A line `...` stands for any lines."""
+    folder = room
+    for line, shown in calls:
+        if line.startswith("cd "):
+            folder = os.path.join(folder, line[3:])
+            continue
+        told = ran(["sh", "-c", f"{line} 2>&1"], cwd=folder, env=setting).stdout
+        pattern = "".join("(?:.*\n)*" if it == "...\n" else re.escape(it) for it in shown.splitlines(True))
+        results.tell(f"{name}, {line}", shown if re.fullmatch(pattern, told) else told, shown)
+
+
+def set_out(program, room):
+    """A folder with the tools and the examples, and a setting in which the program is on the path."""
+    os.makedirs(f"{room}/bin")
+    os.symlink(f"{TOP}/tools", f"{room}/tools")
+    shutil.copytree(f"{TOP}/examples", f"{room}/examples")
+    os.symlink(program, f"{room}/bin/blechc")
+    return {**os.environ, "BLECHC_PROGRAM": program, "PATH": f"{room}/bin:{os.environ['PATH']}"}
+
+
+def check_readme(results, program, room):
+    """The calls of README.md show what stands there, and the page is short."""
+    os.makedirs(room)
+    setting, page = set_out(program, room), text_of(f"{TOP}/README.md")
+    for calls in console_blocks(page):
+        check_block(results, "README.md", calls, room, setting)
+    built = ran([program, "build", f"{PUMP}/pump.blech"]).stdout
+    results.tell("README.md, the C text of its first command", text_of(f"{room}/pump.c"), built)
+    for line in re.findall(r"^    ((?:blechc|make) .*)$", text_of(f"{TOP}/examples/README.md"), re.M):
+        told = ran(["sh", "-c", line], cwd=room, env=setting)
+        results.tell(f"examples/README.md, {line}", (told.returncode, bool(told.stdout)), (0, ">" not in line))
+    results.tell("README.md, its pictures", [it for it in re.findall(r"\]\(([^)]*)\)", page) if not os.path.isfile(f"{TOP}/{it}")], [])
+    results.tell("README.md, at most 120 lines", page.count("\n") <= 120, True)
+    commands = {it for row in re.findall(r"^\| (`.*?) \|", page, re.M) for it in re.findall(r"`([a-z]+) [A-Z]", row)}
+    named = set(re.findall(r"^\| `([a-z]+) [A-Z]", text_of(f"{TOP}/docs/FORMATS.md"), re.M))
+    results.tell("README.md, its commands", named - commands, {"gen"})
+
+
+# ---- tools/blechc
+
+
+def check_call(results, program, room):
+    """tools/blechc with a program: its words, output and status pass, from any folder and by any name."""
+    tool, setting = f"{TOP}/tools/blechc", {**os.environ, "BLECHC_PROGRAM": program}
+    told = ran([tool, "run", LAMP, ROWS], cwd=room, env=setting)
+    results.tell("tools/blechc run", (told.returncode, told.stdout, told.stderr), (0, text_of(TRACE), ""))
+    told = ran([tool, "check", ROWS], cwd=room, env=setting)
+    results.tell("tools/blechc check, refused", (told.returncode, told.stderr), (1, "rule 5 Syntax 0-4\n"))
+    for words, status in ((["--help"], 0), ([], 2)):
+        told = ran([tool, *words], cwd=room, env=setting)
+        results.tell(f"tools/blechc {words}", (told.returncode, "build P" in (told.stderr if status else told.stdout)), (status, True))
+    named = set(re.findall(r"^\| `([a-z]+) [A-Z]", text_of(f"{TOP}/docs/FORMATS.md"), re.M))
+    results.tell("tools/blechc --help, its commands", set(re.findall(r"^    ([a-z]+) [A-Z]", ran([tool, "--help"]).stdout, re.M)), named)
+    told = ran([tool, "--version"], cwd=room, env=setting)
+    results.tell("tools/blechc --version", told.stdout, ran([f"{TOP}/tools/version"]).stdout)
+    told = ran([tool, "check", LAMP], cwd=room, env={**os.environ, "BLECHC_PROGRAM": f"{room}/none"})
+    results.tell("tools/blechc, a program that isn't there", (told.returncode, told.stderr), (2, f"{room}/none: no program, though BLECHC_PROGRAM names it\n"))
+
+
+def copied_tools(room):
+    """A repository in which nothing is built, and the setting without a program."""
+    os.makedirs(f"{room}/fresh/crates/blechc")
+    shutil.copytree(f"{TOP}/tools", f"{room}/fresh/tools", ignore=shutil.ignore_patterns("tests", "__pycache__"))
+    os.makedirs(f"{room}/path")
+    for name in ("python3", "env", "sh"):
+        os.symlink(shutil.which(name), f"{room}/path/{name}")
+    return f"{room}/fresh/tools", {**{k: v for k, v in os.environ.items() if k != "BLECHC_PROGRAM"}, "PATH": f"{room}/path"}
+
+
+def check_unproved(results, program, room):
+    """tools/blechc without a program: what it says without a toolchain, and what it has the toolchain do."""
+    tools, setting = copied_tools(room)
+    told = ran([f"{tools}/blechc", "check", LAMP], env=setting)
+    results.tell("tools/blechc, no toolchain", (told.returncode, told.stdout, told.stderr.startswith("no blechc and no Rattle toolchain")), (2, "", True))
+    told = ran([f"{tools}/explain", "check", LAMP], env=setting)
+    results.tell("tools/explain, no program", (told.returncode, told.stderr.startswith("no blechc: build it by .ci/run")), (2, True))
+    shutil.copy(f"{room}/pump.c", f"{room}/fresh/pump.c")
+    told = ran([f"{tools}/unit", "pump"], cwd=f"{room}/fresh", env=setting)
+    line = "blechc unknown, C format unknown, unknown"
+    results.tell("tools/unit of tools alone", (told.returncode, told.stderr, line in text_of(f"{room}/fresh/pump_unit.h")), (0, "", True))
+    runnable(f"{room}/path/rt", TOOLCHAIN.replace("{program}", program))
+    told = ran([f"{tools}/blechc", "run", "none.blech", ROWS], cwd=room, env=setting)
+    results.tell("tools/blechc, no file", (told.returncode, told.stderr),
+                 (3, "none.blech: No such file or directory: name a file that is there and can be read\n"))
+    told = ran([f"{tools}/blechc", "make", LAMP], cwd=room, env=setting)
+    results.tell("tools/blechc, no command", (told.returncode, told.stderr), (2, "no command make: tools/blechc --help lists them\n"))
+    own = {**setting, "BLECHC_PROGRAM": f"{tools}/blechc"}
+    check_explained(results, tools, own)
+    check_unproved_calls(results, tools, own, room)
+
+
+def check_unproved_calls(results, tools, setting, room):
+    """Calls that the toolchain is to do, of files in other folders, of a pipe, and by another tool."""
+    shutil.copy(LAMP, f"{room}/my lamp.blech")
+    linked = [f"{TOP}/examples/furnace/{it}.blech" for it in ("parts", "burner", "main")]
+    for words, status, shown in ((["run", "my lamp.blech", ROWS], 0, text_of(TRACE)), (["walk", LAMP, ROWS, "7"], 0, text_of(TRACE)),
+                                 (["run", f"{PUMP}/pump.blech", f"{PUMP}/rows.csv"], 6, text_of(f"{PUMP}/trace.csv")),
+                                 (["link", *linked], 0, None), (["gen", "3"], 0, None), (["run", LAMP, LAMP], 5, "tick,on\n")):
+        told = ran([f"{tools}/blechc", *words], cwd=room, env=setting)
+        notice = told.stderr.startswith("tools/blechc: no built blechc: compiling it without proofs")
+        results.tell(f"tools/blechc {words[0]} without a program", (told.returncode, notice, told.stdout if shown is not None else bool(told.stdout)),
+                     (status, True, shown if shown is not None else True))
+    told = ran([f"{tools}/blechc", "check", ROWS], cwd=room, env=setting)
+    results.tell("tools/blechc check without a program, what the program says", told.stderr.splitlines()[1:], ["rule 5 Syntax 0-4"])
+    told = ran([f"{tools}/blechc", "run", LAMP, "/dev/stdin"], cwd=room, env=setting, input=text_of(ROWS))
+    results.tell("tools/blechc without a program, rows from a pipe", (told.returncode, told.stdout), (0, text_of(TRACE)))
+    runnable(f"{room}/path/rt", "#!/bin/sh\necho no memory >&2\nexit 1\n")
+    broken = ran([f"{tools}/blechc", "check", LAMP], cwd=room, env=setting)
+    results.tell("tools/blechc, a toolchain that fails", (broken.returncode, "no memory" in broken.stderr, "rt selftest" in broken.stderr), (2, True, True))
+
+
+def check_explained(results, tools, setting):
+    """A trap that tools/explain shows of a program that the toolchain runs."""
+    told = ran([f"{tools}/explain", "run", f"{PUMP}/pump.blech", f"{PUMP}/rows.csv"], env=setting)
+    results.tell("tools/explain by tools/blechc", (told.returncode, "pump.blech:8:9: tick 8 trapped here" in told.stderr), (6, True))
+
+
+# ---- versions
+
+
+def check_versions(results, room):
+    """tools/version, and its line in the header of a unit."""
+    lines = ran([f"{TOP}/tools/version"]).stdout.splitlines()
+    results.tell("tools/version, its lines", [it.split(": ")[0] for it in lines], ["commit", "toolchain", "C format", "state format"])
+    line = ran([f"{TOP}/tools/version", "--line"]).stdout.strip()
+    results.tell("tools/version --line", all(it.split(": ")[1] in line for it in lines[:3]), True)
+    told = ran([f"{TOP}/tools/version", "all"])
+    results.tell("tools/version, other words", (told.returncode, told.stdout), (2, ""))
+    head = "#include <stdbool.h>\nstruct bl_state {\n    uint8_t c;\n};\nstruct bl_in {\n    uint8_t pad;\n};\nstruct bl_out {\n    uint8_t pad;\n};\n"
+    write(f"{room}/pump.c", head)
+    ran([f"{TOP}/tools/unit", "pump"], cwd=room)
+    results.tell("tools/unit, the version in its header", f'#define PUMP_BLECHC "{line}"\n' in text_of(f"{room}/pump_unit.h"), True)
+
+
+def check_format(results, program):
+    """The C texts of the examples are those of the number that CHANGES.md has: other texts need another number."""
+    folders = sorted(it for it in os.listdir(f"{TOP}/examples") if os.path.isfile(f"{TOP}/examples/{it}/{it}.blech"))
+    texts = "".join(ran([program, "build", f"{TOP}/examples/{it}/{it}.blech"]).stdout for it in folders)
+    number = re.search(r"^C format: (\d+)$", ran([f"{TOP}/tools/version"]).stdout, re.M)[1]
+    results.tell("the C texts of the examples, by the number of their format: where they have changed, CHANGES.md gets a row with a new number, "
+                 "and tools/tests/c_format.txt this line", f"{number} {hashlib.sha256(texts.encode()).hexdigest()}\n", text_of(f"{HERE}/c_format.txt"))
+
+
+# ---- the installation
+
+
+def check_installed(results, program, room):
+    """An installation in an empty folder: each tool runs from any folder, and nothing is left of it once it is taken away."""
+    prefix, elsewhere = f"{room}/prefix", f"{room}/elsewhere"
+    os.makedirs(elsewhere)
+    told = ran([f"{TOP}/tools/install", prefix], cwd=elsewhere, env={**os.environ, "BLECHC_PROGRAM": program})
+    results.tell("tools/install", (told.returncode, told.stderr), (0, ""))
+    below = [os.path.join(folder, it) for folder, folders, names in os.walk(prefix) for it in (*folders, *names)]
+    files = [it for it in below if os.path.islink(it) or os.path.isfile(it)]
+    listed = text_of(f"{prefix}/lib/blechc/FILES").splitlines()
+    results.tell("tools/install, its list", sorted(os.path.relpath(it, prefix) for it in files), sorted(listed))
+    setting = {k: v for k, v in os.environ.items() if k != "BLECHC_PROGRAM"}
+    check_tools(results, f"{prefix}/bin", elsewhere, {**setting, "PATH": f"{prefix}/bin:{os.environ['PATH']}"})
+    again = ran([f"{TOP}/tools/install", prefix], env={**os.environ, "BLECHC_PROGRAM": program})
+    results.tell("tools/install once more", (again.returncode, text_of(f"{prefix}/lib/blechc/FILES").splitlines()), (0, listed))
+    write(f"{prefix}/bin/other", "mine")
+    told = ran([f"{TOP}/tools/uninstall", prefix])
+    left = [os.path.join(folder, it) for folder, folders, names in os.walk(prefix) for it in (*folders, *names)]
+    results.tell("tools/uninstall", (told.returncode, left), (0, [f"{prefix}/bin", f"{prefix}/bin/other"]))
+
+
+def check_tools(results, folder, room, setting):
+    """The installed tools, called by their names from another folder."""
+    source, rows, trace = (f"{PUMP}/{it}" for it in ("pump.blech", "rows.csv", "trace.csv"))
+    write(f"{room}/pump.c", ran(["blechc", "build", source], env=setting).stdout)
+    ran(["sh", "-c", f"head -3 {rows} > some.csv; blechc save pump.c some.csv > state"], cwd=room, env=setting)
+    calls = {"explain": (["run", source, rows], 6, "tick 8 trapped here"), "view": ([source, rows], 0, "<!doctype html>"),
+             "wave": ([trace, rows, source], 0, "$enddefinitions"), "plot": ([trace, rows], 0, "<svg"), "state": (["pump.c", "state", source], 0, "Pump rests"),
+             "cover": ([source, rows], 0, "5 of 5 acted"), "unit": (["pump", "--state"], 0, ""), "version": ([], 0, "C format: ")}
+    for name, (words, status, shown) in calls.items():
+        told = ran([f"blechc-{name}", *words], cwd=room, env=setting)
+        results.tell(f"blechc-{name}, installed", (told.returncode, shown in told.stdout + told.stderr), (status, True))
+    for name in sorted(it for it in os.listdir(folder) if it.startswith("blechc-") and it[7:] not in calls):
+        told = ran([name], cwd=room, env=setting)
+        results.tell(f"{name}, installed, without words", (told.returncode in (0, 2), "Traceback" in told.stderr), (True, False))
+    told = ran(["blechc-plot"], cwd=room, env=setting)
+    results.tell("blechc-plot, its help names it", "blechc-plot TRACE" in told.stderr, True)
+    if there("man"):
+        told = ran(["man", f"{folder}/../share/man/man1/blechc.1"], env={**setting, "MANPAGER": "cat", "MANWIDTH": "100"})
+        results.tell("man blechc", (told.returncode, "EXIT STATUS" in told.stdout), (0, True))
+
+
+def check_refused_install(results, program, room):
+    """Folders into which nothing can be installed, and nothing to install: a sentence, and nothing is written."""
+    setting, file = {**os.environ, "BLECHC_PROGRAM": program}, f"{room}/file"
+    write(file, "")
+    told = ran([f"{TOP}/tools/install", f"{file}/prefix"], env=setting)
+    results.tell("tools/install into a file", (told.returncode, "name a folder that you may write" in told.stderr, "Traceback" in told.stderr), (2, True, False))
+    os.makedirs(f"{room}/full/share")
+    write(f"{room}/full/share/man", "a file where a folder has to be")
+    told = ran([f"{TOP}/tools/install", f"{room}/full"], env=setting)
+    left = sorted(it for _, folders, names in os.walk(f"{room}/full") for it in (*folders, *names))
+    results.tell("tools/install where a file is in the way", (told.returncode, left), (2, ["man", "share"]))
+    if os.geteuid():
+        os.makedirs(f"{room}/locked")
+        os.chmod(f"{room}/locked", stat.S_IRUSR | stat.S_IXUSR)
+        told = ran([f"{TOP}/tools/install", f"{room}/locked"], env=setting)
+        results.tell("tools/install into a folder that can't be written", (told.returncode, os.listdir(f"{room}/locked")), (2, []))
+    for words in ([], ["--help"], ["a", "b"]):
+        told = ran([f"{TOP}/tools/install", *words], env=setting)
+        results.tell(f"tools/install {words}", (told.returncode, "tools/install PREFIX" in told.stderr), (2, True))
+    told = ran([f"{TOP}/tools/uninstall", f"{room}/full"])
+    results.tell("tools/uninstall of nothing", (told.returncode, "nothing is installed there" in told.stderr), (2, True))
+
+
+def check_alone(results):
+    """What needs no program."""
+    told = ran([f"{TOP}/.ci/manual"])
+    results.tell(".ci/manual", (told.returncode, told.stdout), (0, "docs/blechc.1 is what docs/FORMATS.md gives\n"))
+
+
+def check(results, program, room):
+    """All of these tests."""
+    room = f"{room}/starting"
+    os.makedirs(room)
+    check_readme(results, program, f"{room}/readme")
+    check_call(results, program, room)
+    check_versions(results, room)
+    check_unproved(results, program, room)
+    check_format(results, program)
+    check_installed(results, program, room)
+    check_refused_install(results, program, room)
